@@ -1,2 +1,5 @@
 mod FitLemmas
+pub mod NumberLemmas
+pub mod ReadBack
+pub mod ValueOrder
 mod ValueRows

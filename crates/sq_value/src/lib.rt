@@ -10,6 +10,8 @@ ghost use Rattle.sq_value.specs.Schemas.{schema_error};
 ghost use Rattle.sq_value.specs.Values.{kinds_of, names_of};
 
 mod copies;
+mod laws;
+mod numbers;
 mod order;
 mod written;
 
@@ -17,7 +19,9 @@ pub use copies::{copy_name, copy_tuple, copy_txt, copy_value};
 pub use order::{all_differ, compare, fits, same_text};
 use std::alloc::{AllocError, Global};
 use std::marker::Model;
-pub use written::ValueErr;
+pub use laws::{values_are_ordered, values_are_read_back};
+pub use numbers::{all_digits, number_of, read_short_number};
+pub use written::{ValueErr, read_value, write_value};
 
 /// A list that a public struct holds. Contracts see it as the list of its items.
 #[derive(Debug, Drop)]
