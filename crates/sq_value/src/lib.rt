@@ -16,11 +16,11 @@ mod order;
 mod written;
 
 pub use copies::{copy_name, copy_tuple, copy_txt, copy_value};
+pub use laws::{values_are_ordered, values_are_read_back};
+pub use numbers::{all_digits, number_of, read_short_number};
 pub use order::{all_differ, compare, fits, same_text};
 use std::alloc::{AllocError, Global};
 use std::marker::Model;
-pub use laws::{values_are_ordered, values_are_read_back};
-pub use numbers::{all_digits, number_of, read_short_number};
 pub use written::{ValueErr, read_value, write_value};
 
 /// A list that a public struct holds. Contracts see it as the list of its items.
