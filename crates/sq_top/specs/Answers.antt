@@ -1,0 +1,52 @@
+-- What a run has written: the whole lines of each class, or a prefix of each.
+use Rattle.std.specs.Prelude.{◌≡◌, ◌≢◌, ◌⊎◌, ℕ, Bool, true, not, ◌||◌, ⊤, IsTrue, List, [], ◌++◌, length, IsSomeAnd, slice_get}
+use Rattle.std.specs.List.{filter, flat_map, list_any, list_all}
+use Rattle.sq_value.specs.Lists.{same_bytes, IsPrefixOf}
+use Rattle.sq_value.specs.Classes.{Class, Shown, Dropped, Planned, Ended, is_of_class, of_class, whole_lines, unfinished}
+use Rattle.sq_top.specs.Due.{Due}
+
+-- the lines that belong to a class
+abbrev pub lines_of : Due → Class → List (List ℕ)
+lines_of d (Shown name) = flat_map (λ o. o.1) (filter (λ o. same_bytes o.0 name) d.shown)
+lines_of d (Dropped w) = []
+lines_of d Planned = []
+lines_of d Ended = d.ended
+
+-- the classes of a run: one for each output, one for each drop, the plans and the end
+abbrev pub IsClassIn : Due → Class → Type 0
+IsClassIn d (Shown name) = IsTrue (list_any (λ o. same_bytes o.0 name) d.shown)
+IsClassIn d (Dropped w) = ⊤
+IsClassIn d Planned = ⊤
+IsClassIn d Ended = ⊤
+
+-- whether a line belongs to a class
+abbrev pub is_classed : Due → List ℕ → Bool
+is_classed d line = list_any (λ o. is_of_class (Shown o.0) line) d.shown || is_of_class Ended line
+
+-- the end lines stand last
+abbrev pub EndsLast : Due → List ℕ → Type 0
+EndsLast d text =
+    (before : List (List ℕ)) × (whole_lines text ≡ before ++ d.ended) × (list_all (λ line. not (is_of_class Ended line)) before ≡ true)
+
+-- the text has exactly the lines of each class, and nothing else
+pub record IsWholeText (d : Due) (text : List ℕ) : Type 0 where
+  pub lines : (c : Class) → IsClassIn d c → of_class c text ≡ lines_of d c
+  pub classed : list_all (is_classed d) (whole_lines text) ≡ true
+  pub finished : unfinished text ≡ []
+  pub ends_last : EndsLast d text
+
+-- what follows the last whole line begins the next line of a class
+abbrev pub BeginsNext : Due → List ℕ → Class → Type 0
+BeginsNext d text c =
+    IsClassIn d c × IsSomeAnd (slice_get (lines_of d c) (length (of_class c text))) (λ next. IsPrefixOf (unfinished text) next)
+
+-- all classes but that of the end lines are whole
+abbrev pub AreOthersWhole : Due → List ℕ → Type 0
+AreOthersWhole d text = (c : Class) → IsClassIn d c → c ≢ Ended → of_class c text ≡ lines_of d c
+
+-- the text has a prefix of the lines of each class, and maybe a part of one line
+pub record IsPrefixText (d : Due) (text : List ℕ) : Type 0 where
+  pub lines : (c : Class) → IsClassIn d c → IsPrefixOf (of_class c text) (lines_of d c)
+  pub classed : list_all (is_classed d) (whole_lines text) ≡ true
+  pub begun : (unfinished text ≡ []) ⊎ ((c : Class) × BeginsNext d text c × (c ≡ Ended → AreOthersWhole d text))
+  pub ends_last : of_class Ended text ≢ [] → AreOthersWhole d text

@@ -1,0 +1,92 @@
+-- Which status comes of which cause.
+use Rattle.std.specs.Prelude.{◌≡◌, ◌≢◌, ◌⊎◌, ℕ, ◌+◌, ◌≤◌, Bool, true, false, ⊤, List, ◌++◌, map, Option, Some, None, IsSome, Result, Ok, Err}
+use Rattle.std.specs.List.{list_any}
+use Rattle.sq_value.specs.Lists.{contains_bytes, same_bytes, IsPrefixOf}
+use Rattle.sq_outside.specs.Faults.{Rose, RoseBy}
+use Rattle.sq_outside.specs.Folders.{Files, file}
+use Rattle.sq_top.specs.declared.Command.{Command}
+use Rattle.sq_top.specs.declared.Command.TheVariants as command
+use Rattle.sq_top.specs.declared.Status.{Status}
+use Rattle.sq_top.specs.declared.Status.TheVariants as status
+use Rattle.sq_top.specs.Commands.{command_in}
+use Rattle.sq_top.specs.Scripts.{accepted, reads_of, script_of, settings_limit, stream_limit}
+use Rattle.sq_top.specs.Due.{Replay, due_of, work_of}
+use Rattle.sq_top.specs.Messages.{message_of, source_name}
+use Rattle.sq_top.specs.Answers.{IsWholeText, IsPrefixText}
+
+-- the statuses of refusals: nothing was replayed
+abbrev pub is_refusal : Status → Bool
+is_refusal status.Ok = false
+is_refusal status.SinkFault = false
+is_refusal status.Memory = false
+is_refusal s = true
+
+-- a sink that told what it held tells it still, with a text appended of which P holds
+abbrev pub AppendsSuch : Option (List ℕ) → Option (List ℕ) → (List ℕ → Type 0) → Type 0
+AppendsSuch None now P = now ≡ None
+AppendsSuch (Some before) now P = (text : List ℕ) × (now ≡ Some (before ++ text)) × P text
+
+-- P of the content, where it is told
+abbrev pub WhereTold : {X : Type 0} → Option X → (X → Type 0) → Type 0
+WhereTold None P = ⊤
+WhereTold (Some x) P = P x
+
+-- P of what was accepted, and Q of the status of the rule that is broken
+abbrev pub MatchAccepted : Result Replay Status → (Replay → Type 0) → (Status → Type 0) → Type 0
+MatchAccepted (Ok r) P Q = P r
+MatchAccepted (Err s) P Q = Q s
+
+-- the words are no command exactly where the status is Usage, but for want of memory
+pub record UsageHasCause (words : List (List ℕ)) (result : Status) : Type 0 where
+  pub only : result ≡ status.Usage → command_in words ≡ None
+  pub when : command_in words ≡ None → (result ≡ status.Usage) ⊎ (result ≡ status.Memory)
+
+-- the folder has failed at a file
+abbrev pub HasFailedAt : ℕ → ℕ → Status → Type 0
+HasFailedAt faults_before faults_now result = (name : List ℕ) × (result ≡ status.FolderFault name) × Rose faults_before faults_now
+
+-- where files are told: a refusal is that of the first broken rule, or the folder has failed at a file that was to be read;
+-- a broken rule is refused
+pub record RefusalHasCause (files : Files) (words : List (List ℕ)) (faults_before faults_now : ℕ) (result : Status) : Type 0 where
+  pub only : is_refusal result ≡ true → MatchAccepted (accepted (file files) words)
+      (λ r. HasFailedAt faults_before faults_now result)
+      (λ s. (result ≡ s) ⊎ HasFailedAt faults_before faults_now result)
+  pub when : MatchAccepted (accepted (file files) words) (λ r. ⊤)
+      (λ s. (result ≡ s) ⊎ (result ≡ status.Memory) ⊎ Rose faults_before faults_now)
+  pub reached : (name : List ℕ) → result ≡ status.FolderFault name → contains_bytes name (reads_of (file files) (script_of words)) ≡ true
+
+-- whether this is the name of the network's file
+abbrev pub is_network : Option Command → List ℕ → Bool
+is_network None name = false
+is_network (Some (command.Run args)) name = same_bytes args.net name
+
+-- over every folder: it is at fault only where its count rose, or where it tells its files; a file is too long only where more was
+-- taken than a file of its part may have; neither comes but of a command
+pub record FolderHasCause (words : List (List ℕ)) (told : Option Files) (faults_before faults_now taken_before taken_now : ℕ) (result : Status) : Type 0 where
+  pub failed : (name : List ℕ) → result ≡ status.FolderFault name → Rose faults_before faults_now ⊎ IsSome told
+  pub too_long : (name : List ℕ) → result ≡ status.TooLong name →
+      ((is_network (command_in words) name ≡ true) × RoseBy (settings_limit + 1) taken_before taken_now)
+      ⊎ RoseBy (stream_limit + 1) taken_before taken_now
+
+-- at Ok the text is whole and the steps are the work
+abbrev pub AnswersWhole : Files → List (List ℕ) → Option (List ℕ) → Option (List ℕ) → ℕ → ℕ → Type 0
+AnswersWhole files words out_before out_now steps_before steps_now = MatchAccepted (accepted (file files) words)
+    (λ r. AppendsSuch out_before out_now (IsWholeText (due_of r)) × (steps_now ≡ steps_before + work_of r))
+    (λ s. ⊥)
+
+-- at another status it is a prefix, with no more steps than the work; nothing where a rule is broken
+abbrev pub AnswersPrefix : Files → List (List ℕ) → Option (List ℕ) → Option (List ℕ) → ℕ → ℕ → Type 0
+AnswersPrefix files words out_before out_now steps_before steps_now = MatchAccepted (accepted (file files) words)
+    (λ r. AppendsSuch out_before out_now (IsPrefixText (due_of r)) × (steps_now ≤ steps_before + work_of r))
+    (λ s. (out_now ≡ out_before) × (steps_now ≡ steps_before))
+
+-- the message: whole, or a part of it where the sink for messages has failed
+abbrev pub TellsStatus : List ℕ → ℕ → ℕ → Status → List ℕ → Type 0
+TellsStatus source faults_before faults_now result text =
+    (text ≡ message_of source result) ⊎ (Rose faults_before faults_now × IsPrefixOf text (message_of source result))
+
+-- a message of the status was written, with the source's name as the files give it, where they are told
+abbrev pub IsTold : Option Files → List (List ℕ) → Option (List ℕ) → Option (List ℕ) → ℕ → ℕ → Status → Type 0
+IsTold told words err_before err_now faults_before faults_now result =
+    (source : List ℕ) × WhereTold told (λ files. source ≡ source_name (file files) words)
+    × AppendsSuch err_before err_now (TellsStatus source faults_before faults_now result)

@@ -1,0 +1,52 @@
+-- The message of each status.
+use Rattle.std.specs.Prelude.{ℕ, List, [], ◌∷◌, ◌++◌, codes, Option, Some, None}
+use Rattle.std.specs.Fmt.{decimal}
+use Rattle.sq_top.specs.declared.Command.{Command}
+use Rattle.sq_top.specs.declared.Command.TheVariants as command
+use Rattle.sq_top.specs.declared.Status.{Status}
+use Rattle.sq_top.specs.declared.Status.TheVariants as status
+use Rattle.sq_top.specs.declared.NetErr.TheVariants as net
+use Rattle.sq_top.specs.declared.Why.{Why}
+use Rattle.sq_top.specs.declared.Why.TheVariants as why
+use Rattle.sq_top.specs.declared.form.FirstNetwork.{FirstNetwork}
+use Rattle.sq_top.specs.Commands.{command_in}
+use Rattle.sq_top.specs.FirstForm.{first_form}
+use Rattle.sq_top.specs.Scripts.{Lookup}
+
+abbrev pub why_text : Why → List ℕ
+why_text why.NotBuilt = codes "NotBuilt"
+why_text why.Falls = codes "Falls"
+
+-- what a status says after `aurora: `, where the source has this name
+abbrev pub status_text : List ℕ → Status → List ℕ
+status_text source status.Ok = []
+status_text source status.Usage = codes "usage: aurora run NET [options]"
+status_text source (status.BadNetwork net.NotBuilt) = codes "network: NotBuilt top 0 0"
+status_text source (status.BadNetwork net.Memory) = codes "network: Memory"
+status_text source (status.BadStream number line w) =
+    codes "stream " ++ (source ++ (codes ": line " ++ (decimal line ++ (codes ": " ++ why_text w))))
+status_text source (status.FolderFault name) = codes "cannot read " ++ name
+status_text source status.SinkFault = codes "output failed"
+status_text source (status.TooLong name) = codes "file too long: " ++ name
+status_text source status.Memory = codes "out of memory"
+
+-- the line of a status; Ok has none
+abbrev pub message_of : List ℕ → Status → List ℕ
+message_of source status.Ok = []
+message_of source s = codes "aurora: " ++ (status_text source s ++ codes "\n")
+
+-- the name of the source, where the network file is there and of the first form
+abbrev pub name_in : Option FirstNetwork → List ℕ
+name_in None = []
+name_in (Some n) = n.source
+
+abbrev pub name_in_file : Option (List ℕ) → List ℕ
+name_in_file None = []
+name_in_file (Some bytes) = name_in (first_form bytes)
+
+abbrev pub name_for : Lookup → Option Command → List ℕ
+name_for files None = []
+name_for files (Some (command.Run args)) = name_in_file (files args.net)
+
+abbrev pub source_name : Lookup → List (List ℕ) → List ℕ
+source_name files words = name_for files (command_in words)

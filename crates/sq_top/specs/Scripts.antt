@@ -1,0 +1,72 @@
+-- The order of work: which files are read, what each must keep, and the first rule that is broken.
+use Rattle.std.specs.Prelude.{ℕ, Bool, nat_lt, if◌then◌else◌, List, [], ◌∷◌, length, Option, Some, None, Result, Ok, Err}
+use Rattle.sq_value.specs.declared.Tuple.{Tuple}
+use Rattle.sq_top.specs.declared.Command.{Command}
+use Rattle.sq_top.specs.declared.Command.TheVariants as command
+use Rattle.sq_top.specs.declared.Status.{Status}
+use Rattle.sq_top.specs.declared.Status.TheVariants as status
+use Rattle.sq_top.specs.declared.NetErr.TheVariants as net
+use Rattle.sq_top.specs.declared.Why.{Why}
+use Rattle.sq_top.specs.declared.form.FirstNetwork.{FirstNetwork}
+use Rattle.sq_top.specs.Commands.{command_in}
+use Rattle.sq_top.specs.FirstForm.{first_form}
+use Rattle.sq_top.specs.FirstStream.{first_stream}
+use Rattle.sq_top.specs.Due.{Replay}
+
+-- a file is read and its bytes say what comes next; or all was read; or a rule is broken
+pub data Script : Type 0 where
+  Reads : (name : List ℕ) (limit : ℕ) → (List ℕ → Script) → Script
+  Done : Replay → Script
+  Stops : Status → Script
+
+-- how many bytes a network file may have, and a stream
+abbrev pub settings_limit : ℕ
+settings_limit = 1048576
+
+abbrev pub stream_limit : ℕ
+stream_limit = 67108864
+
+abbrev pub replay_with : FirstNetwork → Result (List Tuple) (ℕ × Why) → Script
+replay_with n (Ok xs) = Done (n, xs)
+replay_with n (Err e) = Stops (status.BadStream 0 e.0 e.1)
+
+abbrev pub after_network : Option FirstNetwork → Script
+after_network None = Stops (status.BadNetwork net.NotBuilt)
+after_network (Some n) = Reads n.file stream_limit (λ bytes. replay_with n (first_stream bytes))
+
+abbrev pub after_words : Option Command → Script
+after_words None = Stops status.Usage
+after_words (Some (command.Run args)) = Reads args.net settings_limit (λ bytes. after_network (first_form bytes))
+
+-- the words, then the network file, then the source
+abbrev pub script_of : List (List ℕ) → Script
+script_of words = after_words (command_in words)
+
+-- the files, each by its name
+abbrev pub Lookup : Type 0
+Lookup = List ℕ → Option (List ℕ)
+
+-- a file's bytes, or the rule that it breaks before its own: that it is there, and then its length
+abbrev pub readable : List ℕ → ℕ → Option (List ℕ) → Result (List ℕ) Status
+readable name limit None = Err (status.FolderFault name)
+readable name limit (Some bytes) = if nat_lt limit (length bytes) then Err (status.TooLong name) else Ok bytes
+
+abbrev pub go_on : {A : Type 0} → (Status → A) → (List ℕ → A) → Result (List ℕ) Status → A
+go_on stop more (Ok bytes) = more bytes
+go_on stop more (Err s) = stop s
+
+-- what a script comes to over these files: what was accepted, or the status of the first broken rule
+abbrev pub outcome_of : Lookup → Script → Result Replay Status
+outcome_of files (Reads name limit more) = go_on (λ s. Err s) (λ bytes. outcome_of files (more bytes)) (readable name limit (files name))
+outcome_of files (Done r) = Ok r
+outcome_of files (Stops s) = Err s
+
+-- the files that it reads, up to the first that is broken
+abbrev pub reads_of : Lookup → Script → List (List ℕ)
+reads_of files (Reads name limit more) = name ∷ go_on (λ s. []) (λ bytes. reads_of files (more bytes)) (readable name limit (files name))
+reads_of files (Done r) = []
+reads_of files (Stops s) = []
+
+-- what words and files come to
+abbrev pub accepted : Lookup → List (List ℕ) → Result Replay Status
+accepted files words = outcome_of files (script_of words)

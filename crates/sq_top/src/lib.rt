@@ -1,0 +1,124 @@
+//! The top call: what the words ask for, done over a folder, a disk and two sinks.
+//!
+//! `run_words` carries the promise of the whole engine: a run that ends Ok has written exactly the lines that belong
+//! to each class and taken exactly the steps of its work; any other end leaves a prefix of each class and has a cause
+//! of its own. It stands on `sq_outside` for the objects, `sq_csv` for lines and `sq_value` for values.
+#![tactic(auto)]
+
+ghost use Rattle.std.specs.Prelude.{◌≡◌, ◌≢◌, ◌⊎◌, ◌≤◌, ⊤, Some, None, true, map};
+ghost use Rattle.std.specs.String.{string_bytes};
+ghost use Rattle.sq_outside.specs.Faults.{Rose};
+ghost use Rattle.sq_outside.specs.Folders.{file};
+ghost use Rattle.sq_top.specs.declared.NetErr.TheVariants as net;
+ghost use Rattle.sq_top.specs.Causes.{AnswersPrefix, AnswersWhole, FolderHasCause, IsTold, MatchAccepted, RefusalHasCause, UsageHasCause, WhereTold, is_refusal};
+ghost use Rattle.sq_top.specs.Scripts.{accepted};
+
+mod form;
+
+use sq_outside::{Folder, PageDisk, Sink, Steps, write_all};
+use sq_value::Name;
+use std::alloc::Global;
+use std::sync::ledger::Ledger;
+
+/// What the words of a run ask for.
+#[derive(Debug, Drop)]
+pub struct RunArgs {
+    /// The network's file.
+    pub net: Name,
+}
+
+/// What words ask for.
+#[derive(Debug, Drop)]
+pub enum Command {
+    Run(RunArgs),
+}
+
+/// Why words are no command.
+#[derive(Clone, Copy, Debug, PartialEq, Eq, Drop)]
+pub enum WordsErr {
+    Usage,
+    Memory,
+}
+
+/// Why a network file is refused.
+#[derive(Clone, Copy, Debug, PartialEq, Eq, Drop)]
+pub enum NetErr {
+    /// It isn't of the one form that is built so far.
+    NotBuilt,
+    Memory,
+}
+
+/// Why a line of a stream is refused.
+#[derive(Clone, Copy, Debug, PartialEq, Eq, Drop)]
+pub enum Why {
+    /// It isn't of the one form that is built so far, or it is one line too many.
+    NotBuilt,
+    /// Its tick is below the one before.
+    Falls,
+}
+
+/// How a call ended.
+#[derive(Debug, Drop)]
+pub enum Status {
+    /// All input was replayed and all lines were written.
+    Ok,
+    /// The words are no command.
+    Usage,
+    /// The network file is refused.
+    BadNetwork(NetErr),
+    /// A line of a source, by its number from 1, is refused. Sources count from 0.
+    BadStream { source: u32, line: u32, why: Why },
+    /// A file wasn't read: it isn't there, or the folder failed.
+    FolderFault { name: Name },
+    /// The output failed.
+    SinkFault,
+    /// A file is longer than files of its part may be.
+    TooLong { name: Name },
+    /// Memory ran out.
+    Memory,
+}
+
+/// Does what the words ask for, and tells any status but Ok to `err`.
+pub fn run_words<F: Folder, D: PageDisk, S: Sink, E: Sink, L: Ledger>(
+    alloc: Global,
+    words: &Vec<String>,
+    folder: &mut F,
+    disk: &mut D,
+    out: &mut S,
+    err: &mut E,
+    steps: &mut Steps<L>,
+) -> Status
+    // At Ok each class of lines is whole, nothing else was written, and the steps are the work.
+    ensures ok { result ≡ Status.Ok → WhereTold (F.files folder.old) (λ files.
+        AnswersWhole files (map string_bytes words.now.items) (S.written out.old) (S.written out.new) steps.old steps.new) }
+    // At any other status: a prefix of each class, and no more steps than the work.
+    ensures other { result ≢ Status.Ok → WhereTold (F.files folder.old) (λ files.
+        AnswersPrefix files (map string_bytes words.now.items) (S.written out.old) (S.written out.new) steps.old steps.new) }
+    // A refusal writes nothing and takes no step, and so does any end where a rule is broken.
+    ensures refused_early { is_refusal result ≡ true → (S.written out.new ≡ S.written out.old) × (steps.new ≡ steps.old) }
+
+    // Each status has its cause.
+    ensures usage { UsageHasCause (map string_bytes words.now.items) result }
+    ensures refusal { WhereTold (F.files folder.old) (λ files.
+        RefusalHasCause files (map string_bytes words.now.items) (F.faults folder.old) (F.faults folder.new) result) }
+    ensures folder { FolderHasCause (map string_bytes words.now.items) (F.files folder.old) (F.faults folder.old) (F.faults folder.new)
+        (F.taken folder.old) (F.taken folder.new) result }
+    ensures no_memory { result ≢ Status.BadNetwork net.Memory }
+    ensures sink { result ≡ Status.SinkFault → Rose (S.faults out.old) (S.faults out.new) }
+    // Where nothing fails, what is accepted ends Ok, but for want of memory.
+    ensures complete { ¬ Rose (F.faults folder.old) (F.faults folder.new) → ¬ Rose (S.faults out.old) (S.faults out.new)
+        → WhereTold (F.files folder.old) (λ files. MatchAccepted (accepted (file files) (map string_bytes words.now.items))
+        (λ _. (result ≡ Status.Ok) ⊎ (result ≡ Status.Memory)) (λ _. ⊤)) }
+
+    ensures message { IsTold (F.files folder.old) (map string_bytes words.now.items) (E.written err.old) (E.written err.new)
+        (E.faults err.old) (E.faults err.new) result }
+
+    // The files and the disk stay, and no count falls.
+    ensures same_files { F.files folder.new ≡ F.files folder.old }
+    ensures same_disk { (D.pages disk.new ≡ D.pages disk.old) × (D.faults disk.new ≡ D.faults disk.old) }
+    ensures later { (F.faults folder.old ≤ F.faults folder.new) × (F.taken folder.old ≤ F.taken folder.new)
+        × (S.faults out.old ≤ S.faults out.new) × (E.faults err.old ≤ E.faults err.new) }
+{
+    let _ = write_all(err, b"aurora: out of memory\n");
+    Status::Memory
+}
