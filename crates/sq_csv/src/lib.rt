@@ -1,0 +1,9 @@
+//! Rows of fields with commas between, as text: the one place where the kit's `csv` is called.
+//!
+//! Its contracts speak in the words of `sq_value`, so that nothing above knows of `csv`: a row's line is
+//! `line_of` of its fields, and a law says that this is what `csv` writes.
+#![tactic(auto)]
+
+mod written;
+
+pub use written::{append_line, line_law};
