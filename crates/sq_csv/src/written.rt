@@ -1,16 +1,17 @@
 // Rows as lines.
 ghost use Rattle.std.specs.Prelude.{◌≡◌, ◌++◌, not, map, IfOk, OnOk, OnErr};
 ghost use Rattle.std.specs.List.{list_any};
+ghost use Rattle.csv.specs.Records.{fields_of};
 ghost use Rattle.csv.specs.Writing.{default_writer, row_text};
 ghost use Rattle.sq_value.specs.Lists.{IsPrefixOf};
 ghost use Rattle.sq_value.specs.LineTexts.{line_of, needs_quotes};
 ghost use Rattle.sq_csv.specs.Rows.{LinesAreCsv, any_quotes, bare_fields, bare_row, shows_nothing};
 
-use csv::WriterBuilder;
+use csv::{ByteRecord, WriterBuilder};
 use std::alloc::{AllocError, Global};
 
 /// Whether a field stands in quotes: where it has a comma, a quote, CR or LF.
-fn needs_quotes(field: &[u8]) -> bool
+pub(crate) fn needs_quotes(field: &[u8]) -> bool
     ensures { result ≡ list_any needs_quotes field.now }
 {
     field
@@ -70,6 +71,20 @@ fn line_by_csv(alloc: Global, fields: &[&[u8]]) -> Result<Vec<u8>, AllocError>
 {
     let mut writer = WriterBuilder::new().from_writer(Vec::new(alloc));
     let Ok(()) = writer.write_fields(fields) else {
+        return Err(AllocError);
+    };
+    match writer.into_inner() {
+        Ok(text) => Ok(text),
+        Err(_) => Err(AllocError),
+    }
+}
+
+/// The line of a record, by `csv`.
+pub(crate) fn record_line(alloc: Global, row: &ByteRecord) -> Result<Vec<u8>, AllocError>
+    ensures { IfOk result (λ v. v.items ≡ row_text default_writer (fields_of row.now)) }
+{
+    let mut writer = WriterBuilder::new().from_writer(Vec::new(alloc));
+    let Ok(()) = writer.write_byte_record(row) else {
         return Err(AllocError);
     };
     match writer.into_inner() {
