@@ -5,7 +5,7 @@ ghost use Rattle.csv.specs.Records.{fields_of};
 ghost use Rattle.csv.specs.Writing.{default_writer, row_text};
 ghost use Rattle.sq_value.specs.Lists.{IsPrefixOf};
 ghost use Rattle.sq_value.specs.LineTexts.{line_of, needs_quotes};
-ghost use Rattle.sq_csv.specs.Rows.{LinesAreCsv, any_quotes, bare_fields, bare_row, shows_nothing};
+ghost use Rattle.sq_csv.specs.Rows.{any_quotes, bare_fields, bare_row, shows_nothing};
 
 use csv::{ByteRecord, WriterBuilder};
 use std::alloc::{AllocError, Global};
@@ -118,8 +118,3 @@ pub fn append_line(fields: &[&[u8]], out: &mut Vec<u8>) -> Result<(), AllocError
     }
     Ok(())
 }
-
-/// The law that a line is what `csv` writes of these fields as it is set by default, for all fields.
-pub fn line_law()
-    ensures { LinesAreCsv }
-{}
