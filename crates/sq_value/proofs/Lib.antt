@@ -1,5 +1,7 @@
 mod FitLemmas
+pub mod LineLemmas
 pub mod NumberLemmas
 pub mod ReadBack
+pub mod RowLemmas
 pub mod ValueOrder
 mod ValueRows
