@@ -47,9 +47,10 @@ impl MemFolder {
 }
 
 impl Folder for MemFolder {
-    ghost use Rattle.std.specs.Prelude.{◌≡◌, ◌⊎◌, ◌+◌, ◌≤◌, ◌<◌, Err, None, Some, vec_len, IfOk, IfSome};
+    ghost use Rattle.std.specs.Prelude.{◌≡◌, ◌+◌, ◌≤◌, ◌<◌, Err, None, Some, vec_len, IfOk, IfSome};
     ghost use Rattle.sq_outside.specs.Folders.{file, IsLonger};
-    ghost use Rattle.sq_outside.specs.Calls.{IsPlanned, called, faulted, up_to_end};
+    ghost use Rattle.sq_outside.specs.Calls.{IsPlanned, called, up_to_end};
+    ghost use Rattle.sq_outside.specs.MemFolders.{FailsToRead};
 
     ghost files = { λ f. Some f.files };
 
@@ -63,16 +64,15 @@ impl Folder for MemFolder {
         ensures ok { IfOk result (λ bytes. self.new ≡
             record self.old { taken = up_to_end (self.old.taken + vec_len bytes); calls = called self.old.calls }) }
 
-        // A call that is to fail, and one for a file that isn't there.
-        ensures planned { IsPlanned self.old.calls → (result ≡ Err FolderErr.Failed)
-            × (self.new ≡ record self.old { calls = faulted self.old.calls }) }
-        ensures missing { ¬ IsPlanned self.old.calls → file self.old.files name.now ≡ None → (result ≡ Err FolderErr.Failed)
-            × (self.new ≡ record self.old { calls = called self.old.calls }) }
-        ensures failed { result ≡ Err FolderErr.Failed → IsPlanned self.old.calls ⊎ (file self.old.files name.now ≡ None) }
+        // A fault exactly where the call is to fail, and Failed exactly there and where no such file is.
+        ensures planned { IsPlanned self.old.calls → result ≡ Err FolderErr.Failed }
+        ensures missing { file self.old.files name.now ≡ None → result ≡ Err FolderErr.Failed }
+        ensures failed { result ≡ Err FolderErr.Failed → FailsToRead self.old self.new name.now }
 
         ensures too_long { result ≡ Err FolderErr.TooLong → IsLonger self.old.files name.now limit × (self.new ≡
             record self.old { taken = up_to_end (self.old.taken + (limit + 1)); calls = called self.old.calls }) }
         ensures memory { result ≡ Err FolderErr.Memory → self.new ≡ record self.old { calls = called self.old.calls } }
+        ensures files { self.new.files ≡ self.old.files }
         ensures taken { self.old.taken ≤ self.new.taken }
         ensures faults { self.old.calls.faults ≤ self.new.calls.faults }
     {
