@@ -14,10 +14,12 @@ ghost use Rattle.sq_outside.specs.Sinks.{appended, AppendsPrefix};
 
 mod calls;
 mod counter;
+mod mem_disk;
 mod mem_folder;
 mod mem_sink;
 
 pub use counter::Steps;
+pub use mem_disk::{Flip, MemDisk};
 pub use mem_folder::MemFolder;
 pub use mem_sink::MemSink;
 use std::alloc::Global;
