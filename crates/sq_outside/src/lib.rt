@@ -12,9 +12,16 @@ ghost use Rattle.sq_outside.specs.Folders.{Files, file, IsLonger};
 ghost use Rattle.sq_outside.specs.Disks.{Pages, with_page, without_page, HasPage, HoldsPage};
 ghost use Rattle.sq_outside.specs.Sinks.{appended, AppendsPrefix};
 
+mod calls;
 mod counter;
+mod mem_disk;
+mod mem_folder;
+mod mem_sink;
 
 pub use counter::Steps;
+pub use mem_disk::{Flip, MemDisk};
+pub use mem_folder::MemFolder;
+pub use mem_sink::MemSink;
 use std::alloc::Global;
 
 /// A fault of a disk or a sink, whose count of faults rose.
