@@ -1,5 +1,6 @@
 mod FitLemmas
 pub mod LineLemmas
+pub mod ListLemmas
 pub mod NumberLemmas
 pub mod ReadBack
 pub mod RowLemmas
