@@ -18,7 +18,7 @@
 use Rattle.std.specs.Prelude.{ℕ, ◌+◌, ◌-◌, Bool, true, false, not, ◌&&◌, ◌||◌, ◌==◌, nat_lt, nat_le, if◌then◌else◌, List, [], ◌∷◌, ◌++◌, length, take, drop, Option, Some, None, codes}
 use Rattle.std.specs.Bool.{nat_eq}
 use Rattle.std.specs.Option.{option_and_then}
-use Rattle.std.specs.List.{list_all, list_any, starts_with, before_first, after_first}
+use Rattle.std.specs.List.{list_all, list_any, starts_with, before_first, after_first, position_or_len}
 use Rattle.sq_value.specs.Lists.{same_bytes}
 use Rattle.sq_value.specs.Texts.{is_digit, are_digits, number_in}
 use Rattle.sq_top.specs.declared.form.Comparison.{Comparison}
@@ -66,7 +66,7 @@ is_quote b = b == 34
 
 abbrev pub quoted : List ℕ → List ℕ → Option (List ℕ × List ℕ)
 quoted end text = do
-  rest ← after end (drop (length (before_first is_quote text)) text)
+  rest ← after end (drop (position_or_len is_quote text) text)
   Some (before_first is_quote text, rest)
 
 abbrev pub between : List ℕ → List ℕ → List ℕ → Option (List ℕ × List ℕ)
@@ -86,13 +86,23 @@ comparison_named w =
 abbrev pub is_space : ℕ → Bool
 is_space b = b == 32
 
--- the field's name, a space, a comparison, a space and 1 to 18 digits
+-- a comparison, a space and 1 to 18 digits
+abbrev pub comparison_after : List ℕ → Option (Comparison × ℕ)
+comparison_after text = do
+  c ← comparison_named (before_first is_space text)
+  digits ← after (codes " ") (drop (position_or_len is_space text) text)
+  when (are_digits 18 digits) (c, number_in digits)
+
+-- the field's name, a space and then a comparison
 abbrev pub comparison_in : List ℕ → List ℕ → Option (Comparison × ℕ)
 comparison_in field text = do
-  rest ← after (field ++ codes " ") text
-  c ← comparison_named (before_first is_space rest)
-  n ← when (list_any is_space rest && are_digits 18 (after_first is_space rest)) (number_in (after_first is_space rest))
-  Some (c, n)
+  rest ← after field text
+  test ← after (codes " ") rest
+  comparison_after test
+
+-- the name of a field of whole numbers
+abbrev pub field_in : List ℕ → Option (List ℕ)
+field_in text = when (nat_le 4 (length text) && same_bytes (drop (length text - 4) text) (codes ":int")) (take (length text - 4) text)
 
 -- the source: its name, its file, its field and what follows
 abbrev pub SourcePart : Type 0
@@ -103,7 +113,7 @@ source_part text = do
   name ← between (codes "version = 1\n[[source]]\nname = \"") (codes "\"\n") text
   file ← between (codes "file = \"") (codes "\"\n") name.1
   field ← between (codes "fields = [\"") (codes "\"]\n") file.1
-  field_name ← when (nat_le 4 (length field.0) && same_bytes (drop (length field.0 - 4) field.0) (codes ":int")) (take (length field.0 - 4) field.0)
+  field_name ← field_in field.0
   Some (name.0, file.0, field_name, field.1)
 
 -- the box: its name, its comparison and what follows
@@ -113,7 +123,8 @@ BoxPart = List ℕ × (Comparison × ℕ) × List ℕ
 abbrev pub box_part : List ℕ → List ℕ → List ℕ → Option BoxPart
 box_part source field text = do
   name ← between (codes "[[box]]\nname = \"") (codes "\"\nkind = \"filter\"\nin = [\"") text
-  entry ← between (source ++ codes "\"]\nwhere = [\"") (codes "\"]\n") name.1
+  input ← after source name.1
+  entry ← between (codes "\"]\nwhere = [\"") (codes "\"]\n") input
   test ← comparison_in field entry.0
   Some (name.0, test, entry.1)
 
@@ -121,12 +132,20 @@ box_part source field text = do
 abbrev pub output_part : List ℕ → List ℕ → Option (List ℕ)
 output_part box text = do
   name ← between (codes "[[output]]\nname = \"") (codes "\"\nfrom = \"") text
-  when (same_bytes name.1 (box ++ codes ".1\"\n")) name.0
+  port ← after box name.1
+  when (same_bytes port (codes ".1\"\n")) name.0
+
+abbrev pub network_of : List ℕ → List ℕ → List ℕ → List ℕ → List ℕ → Comparison → ℕ → FirstNetwork
+network_of source file field filter output comparison number =
+    record { source = source; file = file; field = field; filter = filter; output = output; comparison = comparison; number = number }
 
 -- the names are names, the source and the box have different ones, and the file's is one
 abbrev pub has_good_names : FirstNetwork → Bool
 has_good_names n =
-    is_name n.source && is_name n.field && is_name n.filter && is_name n.output && not (same_bytes n.source n.filter) && is_file_name n.file
+    is_name n.source && is_file_name n.file && is_name n.field && is_name n.filter && is_name n.output && not (same_bytes n.source n.filter)
+
+abbrev pub when_good : FirstNetwork → Option FirstNetwork
+when_good n = when (has_good_names n) n
 
 -- the network of a file of the first form
 abbrev pub first_form : List ℕ → Option FirstNetwork
@@ -134,5 +153,4 @@ first_form bytes = do
   s ← source_part bytes
   b ← box_part s.0 s.2 s.3
   output ← output_part b.0 b.2
-  let n : FirstNetwork = record { source = s.0; file = s.1; field = s.2; filter = b.0; output = output; comparison = b.1.0; number = b.1.1 }
-      in when (has_good_names n) n
+  when_good (network_of s.0 s.1 s.2 b.0 output b.1.0 b.1.1)

@@ -18,7 +18,7 @@ mod written;
 pub use copies::{copy_name, copy_tuple, copy_txt, copy_value};
 pub use laws::{values_are_ordered, values_are_read_back};
 pub use numbers::{all_digits, number_of, read_short_number};
-pub use order::{all_differ, compare, fits, same_text};
+pub use order::{all_differ, compare, fits, same_bytes, same_text};
 use std::alloc::{AllocError, Global};
 use std::marker::Model;
 pub use written::{ValueErr, read_value, write_value};
