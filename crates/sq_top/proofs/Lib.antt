@@ -1,3 +1,4 @@
 pub mod DueLemmas
 pub mod FormLemmas
 pub mod SortedLines
+pub mod StreamLemmas

@@ -14,6 +14,7 @@ ghost use Rattle.sq_top.specs.Causes.{AnswersPrefix, AnswersWhole, FolderHasCaus
 ghost use Rattle.sq_top.specs.Scripts.{accepted};
 
 mod form;
+mod stream;
 
 use sq_outside::{Folder, PageDisk, Sink, Steps, write_all};
 use sq_value::Name;

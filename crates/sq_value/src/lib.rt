@@ -21,7 +21,7 @@ pub use numbers::{all_digits, number_of, read_short_number};
 pub use order::{all_differ, compare, fits, same_bytes, same_text};
 use std::alloc::{AllocError, Global};
 use std::marker::Model;
-pub use written::{ValueErr, read_value, write_value};
+pub use written::{ValueErr, read_int, read_value, write_value};
 
 /// A list that a public struct holds. Contracts see it as the list of its items.
 #[derive(Debug, Drop)]
