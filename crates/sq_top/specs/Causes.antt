@@ -1,15 +1,19 @@
 -- Which status comes of which cause.
-use Rattle.std.specs.Prelude.{◌≡◌, ◌≢◌, ◌⊎◌, ℕ, ◌+◌, ◌≤◌, Bool, true, false, ⊤, List, ◌++◌, map, Option, Some, None, IsSome, Result, Ok, Err}
+use Rattle.std.specs.Prelude.{◌≡◌, ◌≢◌, ◌⊎◌, ℕ, ◌+◌, ◌≤◌, Bool, true, false, ⊤, List, [], ◌++◌, map, Option, Some, None, IsSome, IsSomeAnd, Result, Ok, Err}
 use Rattle.std.specs.List.{list_any}
 use Rattle.sq_value.specs.Lists.{contains_bytes, same_bytes, IsPrefixOf}
 use Rattle.sq_outside.specs.Faults.{Rose, RoseBy}
-use Rattle.sq_outside.specs.Folders.{Files, file}
+use Rattle.sq_outside.specs.Folders.{Files, IsLonger, file}
 use Rattle.sq_top.specs.declared.Command.{Command}
 use Rattle.sq_top.specs.declared.Command.TheVariants as command
 use Rattle.sq_top.specs.declared.Status.{Status}
 use Rattle.sq_top.specs.declared.Status.TheVariants as status
+use Rattle.sq_top.specs.declared.NetErr.TheVariants as net
 use Rattle.sq_top.specs.Commands.{command_in}
-use Rattle.sq_top.specs.Scripts.{accepted, reads_of, script_of, settings_limit, stream_limit}
+use Rattle.sq_top.specs.Scripts.{Lookup, accepted, after_network, outcome_of, reads_of, script_of, settings_limit, stream_limit}
+use Rattle.sq_top.specs.declared.form.FirstNetwork.{FirstNetwork}
+use Rattle.sq_top.specs.declared.stream.StreamErr.{StreamErr}
+use Rattle.sq_top.specs.declared.stream.StreamErr.TheVariants as error
 use Rattle.sq_top.specs.Due.{Replay, due_of, work_of}
 use Rattle.sq_top.specs.Messages.{message_of, source_name}
 use Rattle.sq_top.specs.Answers.{IsWholeText, IsPrefixText}
@@ -85,8 +89,51 @@ abbrev pub TellsStatus : List ℕ → ℕ → ℕ → Status → List ℕ → Ty
 TellsStatus source faults_before faults_now result text =
     (text ≡ message_of source result) ⊎ (Rose faults_before faults_now × IsPrefixOf text (message_of source result))
 
--- a message of the status was written, with the source's name as the files give it, where they are told
+abbrev pub is_bad_stream : Status → Bool
+is_bad_stream (status.BadStream number line why) = true
+is_bad_stream s = false
+
+-- the source's name is that in the network file, where a line of the source is bad and the files are told
+abbrev pub NamesSource : Option Files → List (List ℕ) → Status → List ℕ → Type 0
+NamesSource told words result source = is_bad_stream result ≡ true → WhereTold told (λ files. source ≡ source_name (file files) words)
+
+-- a message of the status was written
 abbrev pub IsTold : Option Files → List (List ℕ) → Option (List ℕ) → Option (List ℕ) → ℕ → ℕ → Status → Type 0
 IsTold told words err_before err_now faults_before faults_now result =
-    (source : List ℕ) × WhereTold told (λ files. source ≡ source_name (file files) words)
+    (source : List ℕ) × NamesSource told words result source
     × AppendsSuch err_before err_now (TellsStatus source faults_before faults_now result)
+
+-- why a file wasn't read
+abbrev pub IsUnread : Option Files → List ℕ → ℕ → ℕ → ℕ → ℕ → ℕ → Status → Type 0
+IsUnread told name limit faults_before faults_now taken_before taken_now result =
+    (result ≡ status.Memory)
+    ⊎ ((result ≡ status.FolderFault name) × (Rose faults_before faults_now ⊎ IsSomeAnd told (λ files. file files name ≡ None)))
+    ⊎ ((result ≡ status.TooLong name) × RoseBy (limit + 1) taken_before taken_now × WhereTold told (λ files. IsLonger files name limit))
+
+-- how a run stops before anything is replayed
+pub record IsStopped (words : List (List ℕ)) (told : Option Files) (faults_before faults_now taken_before taken_now : ℕ) (result : Status) (source : List ℕ) : Type 0 where
+  pub usage : UsageHasCause words result
+  pub refusal : WhereTold told (λ files. RefusalHasCause files words faults_before faults_now result)
+  pub folder : FolderHasCause words told faults_before faults_now taken_before taken_now result
+  pub named : NamesSource told words result source
+  pub ends : (is_refusal result ≡ true) ⊎ (result ≡ status.Memory)
+  pub no_memory : result ≢ status.BadNetwork net.Memory
+
+-- the words are no command, or memory ran out
+abbrev pub IsNoCommand : List (List ℕ) → Status → Type 0
+IsNoCommand words result = ((result ≡ status.Usage) × (command_in words ≡ None)) ⊎ (result ≡ status.Memory)
+
+-- the words and the network file lead to this network
+pub record LeadsTo (files : Lookup) (words : List (List ℕ)) (n : FirstNetwork) : Type 0 where
+  pub outcome : accepted files words ≡ outcome_of files (after_network (Some n))
+  pub reads : (name : List ℕ) → contains_bytes name (reads_of files (after_network (Some n))) ≡ true → contains_bytes name (reads_of files (script_of words)) ≡ true
+  pub named : source_name files words ≡ n.source
+
+abbrev pub source_of : Option (List ℕ) → List ℕ
+source_of None = []
+source_of (Some name) = name
+
+-- how an error of the stream of a source stops a run
+abbrev pub StopsAt : List ℕ → StreamErr → Status → List ℕ → Type 0
+StopsAt name (error.Bad line why) result source = (result ≡ status.BadStream 0 line why) × (source ≡ name)
+StopsAt name error.Memory result source = result ≡ status.Memory

@@ -14,8 +14,10 @@ ghost use Rattle.sq_top.specs.Causes.{AnswersPrefix, AnswersWhole, FolderHasCaus
 ghost use Rattle.sq_top.specs.Scripts.{accepted};
 
 mod form;
+mod reading;
 mod stream;
 
+pub use reading::read_words;
 use sq_outside::{Folder, PageDisk, Sink, Steps, write_all};
 use sq_value::Name;
 use std::alloc::Global;
