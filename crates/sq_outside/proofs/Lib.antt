@@ -1,3 +1,4 @@
 pub mod SinkLemmas
 pub mod FileLemmas
 pub mod PageLemmas
+mod OutsideRows

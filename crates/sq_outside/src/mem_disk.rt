@@ -102,8 +102,10 @@ impl PageDisk for MemDisk {
     /// Gives the bytes of a page, and fails where it isn't held.
     fn get(&mut self, page: u64, into: &mut [u8]) -> Result<(), Failed>
         requires { length into.old ≡ PAGE }
-        ensures ok { OnOk result ((map.get self.old.pages page ≡ Some into.new) × (self.new ≡ record self.old { calls = called self.old.calls })) }
-        ensures err { OnErr result ((into.new ≡ into.old) × (self.new ≡ record self.old { calls = faulted self.old.calls })) }
+        ensures page { OnOk result (map.get self.old.pages page ≡ Some into.new) }
+        ensures ok { OnOk result (self.new ≡ record self.old { calls = called self.old.calls }) }
+        ensures into { OnErr result (into.new ≡ into.old) }
+        ensures err { OnErr result (self.new ≡ record self.old { calls = faulted self.old.calls }) }
         ensures fails { IsErr result ↔ (IsPlanned self.old.calls ⊎ (map.get self.old.pages page ≡ None)) }
         ensures faults { self.old.calls.faults ≤ self.new.calls.faults }
     {
@@ -121,7 +123,10 @@ impl PageDisk for MemDisk {
 
     /// Lets a page go, if it is held.
     fn give_up(&mut self, page: u64) -> Result<(), Failed>
-        ensures ok { OnOk result (self.new ≡ record self.old { pages = map.remove self.old.pages page; calls = called self.old.calls }) }
+        ensures ok { OnOk result (self.new ≡ record self.old {
+          pages = map.remove self.old.pages page;
+          calls = called self.old.calls;
+        }) }
         ensures err { OnErr result (self.new ≡ record self.old { calls = faulted self.old.calls }) }
         ensures fails { IsErr result ↔ IsPlanned self.old.calls }
         ensures faults { self.old.calls.faults ≤ self.new.calls.faults }
