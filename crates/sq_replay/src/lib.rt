@@ -5,9 +5,11 @@
 //! text) and `sq_csv` (lines as records).
 #![tactic(auto)]
 
+mod laws;
 mod line;
 mod stream;
 mod why;
 
+pub use laws::tuples_are_read_back;
 pub use stream::{StreamErr, read_stream};
 pub use why::Why;
