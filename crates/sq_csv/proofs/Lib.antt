@@ -1,3 +1,4 @@
+pub mod BackLemmas
 pub mod CutLemmas
 pub mod NumberLemmas
 pub mod RecordLemmas

@@ -1,8 +1,9 @@
 -- Rows by the kit's `csv`, and rows that show their fields as they stand.
-use Rattle.std.specs.Prelude.{◌≡◌, ◌==◌, ℕ, Bool, true, false, List, [], ◌∷◌, ◌++◌, length}
+use Rattle.std.specs.Prelude.{◌≡◌, ◌==◌, ℕ, Bool, true, false, List, [], ◌∷◌, ◌++◌, length, Some}
 use Rattle.std.specs.List.{list_any}
 use Rattle.csv.specs.Writing.{default_writer, row_text}
-use Rattle.sq_value.specs.LineTexts.{line_of, needs_quotes}
+use Rattle.sq_value.specs.LineTexts.{line_of, needs_quotes, row_of}
+use Rattle.sq_csv.specs.Records.{sole_record}
 
 -- a line is what `csv` writes by default
 abbrev pub LinesAreCsv : Type 0
@@ -27,3 +28,7 @@ bare_fields (f ∷ fs) = (44 ∷ f) ++ bare_fields fs
 abbrev pub bare_row : List (List ℕ) → List ℕ
 bare_row [] = []
 bare_row (f ∷ fs) = f ++ bare_fields fs ++ 10 ∷ []
+
+-- a row of two fields and more is one record, of these fields
+abbrev pub RowsAreReadBack : Type 0
+RowsAreReadBack = (f g : List ℕ) (fs : List (List ℕ)) → sole_record (row_of (f ∷ g ∷ fs)) ≡ Some (f ∷ g ∷ fs)

@@ -1,0 +1,4 @@
+pub mod FileLines
+pub mod Streams
+pub mod Answers
+pub mod Laws
