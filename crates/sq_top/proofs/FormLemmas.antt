@@ -1,5 +1,5 @@
 -- Names of the first form are text, and plain.
-use Rattle.std.proofs.Common.{◌≡◌, ◌≢◌, ℕ, ◌<◌, ◌≤◌, ◌&&◌, Bool, true, false, not, nat_lt, nat_le, length, List, [], ◌∷◌, refl, ap, arith, lit<, rules, zero, suc}
+use Rattle.std.proofs.Common.{◌≡◌, ℕ, ◌<◌, ◌&&◌, Bool, true, not, nat_lt, nat_le, length, List, [], ◌∷◌, arith, lit<, zero, suc}
 use Rattle.std.specs.List.{list_all, list_any}
 use Rattle.std.specs.Str.{IsAscii, IsUtf8}
 use Rattle.std.proofs.lemmas.Str.{IsUtf8-from_ascii}

@@ -3,3 +3,4 @@ pub mod FormLemmas
 pub mod SortedLines
 pub mod StoppedLemmas
 pub mod StreamLemmas
+pub mod WritingLemmas

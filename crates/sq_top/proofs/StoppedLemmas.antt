@@ -1,6 +1,6 @@
 -- How a run stops before anything is replayed.
-use Rattle.std.proofs.Common.{◌≡◌, ◌≢◌, ◌⊎◌, inl, inr, ℕ, ◌+◌, ◌<◌, ◌≤◌, Bool, true, false, ◌||◌, List, [], ◌∷◌, length, refl, ap, sym, ◌∙◌, subst, arith, Option, None, Some}
-use Rattle.std.specs.Prelude.{⊤, nat_lt, if◌then◌else◌, IsSome, IsSomeAnd, Result, Ok, Err}
+use Rattle.std.proofs.Common.{◌≡◌, ◌⊎◌, inl, inr, ℕ, ◌+◌, ◌<◌, ◌≤◌, Bool, true, false, ◌||◌, List, [], ◌∷◌, length, refl, ap, sym, ◌∙◌, subst, arith, Option, None, Some}
+use Rattle.std.specs.Prelude.{⊤, nat_lt, IsSome, IsSomeAnd, Result, Ok, Err}
 use Rattle.std.proofs.lemmas.Bool.Decides.{nat_tests}
 use Rattle.sq_value.specs.declared.Tuple.{Tuple}
 use Rattle.sq_value.specs.Lists.{contains_bytes, same_bytes}
@@ -22,8 +22,8 @@ use Rattle.sq_top.specs.declared.stream.StreamErr.TheVariants as error
 use Rattle.sq_top.specs.FirstStream.{IsBadAs, first_stream}
 use Rattle.sq_top.specs.Due.{Replay}
 use Rattle.sq_top.specs.Messages.{source_name}
-use Rattle.sq_top.specs.Scripts.{Script, Reads, Done, Stops, Lookup, accepted, after_network, after_words, go_on, outcome_of, readable, reads_of, replay_with, script_of, settings_limit, stream_limit}
-use Rattle.sq_top.specs.Causes.{FolderHasCause, HasFailedAt, IsNoCommand, IsStopped, IsUnread, LeadsTo, MatchAccepted, NamesSource, RefusalHasCause, StopsAt, UsageHasCause, WhereTold, is_bad_stream, is_network, is_refusal}
+use Rattle.sq_top.specs.Scripts.{Script, Reads, Lookup, accepted, after_network, go_on, outcome_of, readable, reads_of, replay_with, script_of, settings_limit, stream_limit}
+use Rattle.sq_top.specs.Causes.{HasFailedAt, IsNoCommand, IsStopped, IsUnread, LeadsTo, MatchAccepted, NamesSource, RefusalHasCause, StopsAt, WhereTold, is_network}
 
 match_any : (r : Result Replay Status) (P : Replay → Type 0) (Q : Status → Type 0) → ((x : Replay) → P x) → ((s : Status) → Q s) → MatchAccepted r P Q
 match_any (Ok x) P Q p q = p x

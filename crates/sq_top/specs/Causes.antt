@@ -1,6 +1,5 @@
 -- Which status comes of which cause.
-use Rattle.std.specs.Prelude.{◌≡◌, ◌≢◌, ◌⊎◌, ℕ, ◌+◌, ◌≤◌, Bool, true, false, ⊤, List, [], ◌++◌, map, Option, Some, None, IsSome, IsSomeAnd, Result, Ok, Err}
-use Rattle.std.specs.List.{list_any}
+use Rattle.std.specs.Prelude.{◌≡◌, ◌≢◌, ◌⊎◌, ℕ, ◌+◌, ◌≤◌, Bool, true, false, ⊤, List, [], ◌++◌, Option, Some, None, IsSome, IsSomeAnd, Result, Ok, Err}
 use Rattle.sq_value.specs.Lists.{contains_bytes, same_bytes, IsPrefixOf}
 use Rattle.sq_outside.specs.Faults.{Rose, RoseBy}
 use Rattle.sq_outside.specs.Folders.{Files, IsLonger, file}

@@ -15,10 +15,10 @@
 --     from = "f.1"
 --
 -- Free are the four names, the file, the comparison and the number.
-use Rattle.std.specs.Prelude.{ℕ, ◌+◌, ◌-◌, Bool, true, false, not, ◌&&◌, ◌||◌, ◌==◌, nat_lt, nat_le, if◌then◌else◌, List, [], ◌∷◌, ◌++◌, length, take, drop, Option, Some, None, codes}
+use Rattle.std.specs.Prelude.{ℕ, ◌-◌, Bool, true, false, not, ◌&&◌, ◌||◌, ◌==◌, nat_lt, nat_le, if◌then◌else◌, List, [], ◌∷◌, length, take, drop, Option, Some, None, codes}
 use Rattle.std.specs.Bool.{nat_eq}
 use Rattle.std.specs.Option.{option_and_then}
-use Rattle.std.specs.List.{list_all, list_any, starts_with, before_first, after_first, position_or_len}
+use Rattle.std.specs.List.{list_all, list_any, starts_with, before_first, position_or_len}
 use Rattle.sq_value.specs.Lists.{same_bytes}
 use Rattle.sq_value.specs.Texts.{is_digit, are_digits, number_in}
 use Rattle.sq_top.specs.declared.form.Comparison.{Comparison}

@@ -4,5 +4,6 @@ pub mod FirstStream
 pub mod Scripts
 pub mod Due
 pub mod Answers
+pub mod Writing
 pub mod Messages
 pub mod Causes

@@ -16,6 +16,7 @@ ghost use Rattle.sq_top.specs.Scripts.{accepted};
 mod form;
 mod reading;
 mod stream;
+mod writing;
 
 pub use reading::read_words;
 use sq_outside::{Folder, PageDisk, Sink, Steps, write_all};

@@ -1,5 +1,4 @@
-use Rattle.std.proofs.Common.{sym, ◌∙◌, ap}
-use Rattle.sq_top.proofs.StoppedLemmas.{accepted_replay, stopped_at_stream, stopped_source, unread_later}
+use Rattle.sq_top.proofs.StoppedLemmas.{stopped_source, unread_later}
 use Rattle.sq_top.proofs.reading.prepare.Goals as goal
 
 pub returns-in-Err-clause-stopped : goal.returns-in-Err-clause-stopped

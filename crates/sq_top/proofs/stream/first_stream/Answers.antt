@@ -1,4 +1,4 @@
-use Rattle.std.proofs.Common.{sym, ◌∙◌, ap, arith}
+use Rattle.std.proofs.Common.{sym, ◌∙◌, arith}
 use Rattle.sq_top.proofs.StreamLemmas.{falls, goes_on, no_tuple, too_many}
 use Rattle.sq_top.proofs.stream.first_stream.Goals as goal
 

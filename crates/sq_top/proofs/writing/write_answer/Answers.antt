@@ -1,0 +1,32 @@
+use Rattle.std.proofs.Common.{◌+◌, ◌≡◌, ◌≤◌, sym, ◌∙◌, ap, arith, refl}
+use Rattle.sq_top.specs.Due.{work_of}
+use Rattle.sq_top.proofs.WritingLemmas.{lost_before, lost_last, lost_waiting, on_err, on_err_any, on_ok_any, on_ok_both, sent_last, tuples_work-is}
+use Rattle.sq_top.proofs.writing.write_answer.Goals as goal
+
+pub returns-in-Err-clause-err : goal.returns-in-Err-clause-err
+returns-in-Err-clause-err g c = lost_before c.args.network.now c.args.tuples.now _ _ c.in-Err.ensures.err
+
+pub returns-in-Err-clause-fewer : goal.returns-in-Err-clause-fewer
+returns-in-Err-clause-fewer g c = omega (arith, c.in-Err.ensures.fewer, tuples_work-is c.args.network.now c.args.tuples.now)
+
+pub returns-in-Ok-append_ends-clause-ok : goal.returns-in-Ok-append_ends-clause-ok
+returns-in-Ok-append_ends-clause-ok g c =
+    on_ok_both c.send.result c.send.ensures.ok c.send.ensures.none_waits
+    (λ moves none. sent_last c.args.network.now c.args.tuples.now _ _ _ _ _ _ c.in-Ok.ensures.ok c.in-Ok-append_ends.ensures.ok moves none)
+
+pub returns-in-Ok-append_ends-clause-err : goal.returns-in-Ok-append_ends-clause-err
+returns-in-Ok-append_ends-clause-err g c =
+    on_err c.send.result c.send.ensures.err
+    (λ lost. lost_last c.args.network.now c.args.tuples.now _ _ _ _ _ c.in-Ok.ensures.ok c.in-Ok-append_ends.ensures.ok lost)
+
+pub returns-clause-err : goal.returns-clause-err
+returns-clause-err g c = lost_waiting c.args.network.now c.args.tuples.now _ _ _ c.in-Ok.ensures.ok
+
+pub returns-clause-fewer : goal.returns-clause-fewer
+returns-clause-fewer g c = omega (arith, c.in-Ok.ensures.steps, tuples_work-is c.args.network.now c.args.tuples.now)
+
+pub returns-in-Ok-append_ends-clause-steps : goal.returns-in-Ok-append_ends-clause-steps
+returns-in-Ok-append_ends-clause-steps g c = on_ok_any c.send.result (omega (arith, c.in-Ok.ensures.steps, tuples_work-is c.args.network.now c.args.tuples.now))
+
+pub returns-in-Ok-append_ends-clause-fewer : goal.returns-in-Ok-append_ends-clause-fewer
+returns-in-Ok-append_ends-clause-fewer g c = on_err_any c.send.result (omega (arith, c.in-Ok.ensures.steps, tuples_work-is c.args.network.now c.args.tuples.now))
