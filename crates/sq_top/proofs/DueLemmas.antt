@@ -35,7 +35,7 @@ not_true : (b : Bool) → (b ≡ true → ⊥) → b ≡ false
 not_true true h = absurd (h refl)
 not_true false h = refl
 
-abbrev is_end_field : List ℕ → Bool
+abbrev pub is_end_field : List ℕ → Bool
 is_end_field f = same_bytes f (codes "@box") || same_bytes f (codes "@late") || same_bytes f (codes "@end")
 
 plain_differs : (n bs : List ℕ) → IsPlainName n → n ≡ 64 ∷ bs → ⊥

@@ -23,7 +23,7 @@ ascii_all p below [] h i = lit< tt
 ascii_all p below (b ∷ bs) h zero = below b (and-true (p b) (list_all p bs) h).0
 ascii_all p below (b ∷ bs) h (suc i) = ascii_all p below bs (and-true (p b) (list_all p bs) h).1 i
 
-name_parts : (b : ℕ) (bs : List ℕ) → has_name_form (b ∷ bs) ≡ true → (is_lower b ≡ true) × (list_all may_follow bs ≡ true)
+pub name_parts : (b : ℕ) (bs : List ℕ) → has_name_form (b ∷ bs) ≡ true → (is_lower b ≡ true) × (list_all may_follow bs ≡ true)
 name_parts b bs h =
     let front = (and-true (is_lower b && list_all may_follow bs) (nat_lt (length bs) 32) h).0 in
     and-true (is_lower b) (list_all may_follow bs) front

@@ -1,4 +1,5 @@
 pub mod DueLemmas
+pub mod EndLemmas
 pub mod FormLemmas
 pub mod SortedLines
 pub mod StoppedLemmas

@@ -136,3 +136,31 @@ source_of (Some name) = name
 abbrev pub StopsAt : List ℕ → StreamErr → Status → List ℕ → Type 0
 StopsAt name (error.Bad line why) result source = (result ≡ status.BadStream 0 line why) × (source ≡ name)
 StopsAt name error.Memory result source = result ≡ status.Memory
+
+-- the folder, the output and the steps before a run and after it
+pub record World : Type 0 where
+  pub told : Option Files
+  pub folder_before : ℕ
+  pub folder_now : ℕ
+  pub taken_before : ℕ
+  pub taken_now : ℕ
+  pub out_before : Option (List ℕ)
+  pub out_now : Option (List ℕ)
+  pub sink_before : ℕ
+  pub sink_now : ℕ
+  pub steps_before : ℕ
+  pub steps_now : ℕ
+
+-- how a run ends, but for its message
+pub record Ends (words : List (List ℕ)) (w : World) (result : Status) (source : List ℕ) : Type 0 where
+  pub ok : result ≡ status.Ok → WhereTold w.told (λ files. AnswersWhole files words w.out_before w.out_now w.steps_before w.steps_now)
+  pub other : result ≢ status.Ok → WhereTold w.told (λ files. AnswersPrefix files words w.out_before w.out_now w.steps_before w.steps_now)
+  pub refused_early : is_refusal result ≡ true → (w.out_now ≡ w.out_before) × (w.steps_now ≡ w.steps_before)
+  pub usage : UsageHasCause words result
+  pub refusal : WhereTold w.told (λ files. RefusalHasCause files words w.folder_before w.folder_now result)
+  pub folder : FolderHasCause words w.told w.folder_before w.folder_now w.taken_before w.taken_now result
+  pub no_memory : result ≢ status.BadNetwork net.Memory
+  pub sink : result ≡ status.SinkFault → Rose w.sink_before w.sink_now
+  pub complete : ¬ (Rose w.folder_before w.folder_now) → ¬ (Rose w.sink_before w.sink_now)
+      → WhereTold w.told (λ files. MatchAccepted (accepted (file files) words) (λ r. (result ≡ status.Ok) ⊎ (result ≡ status.Memory)) (λ s. ⊤))
+  pub named : NamesSource w.told words result source

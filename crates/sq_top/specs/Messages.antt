@@ -17,23 +17,18 @@ abbrev pub why_text : Why → List ℕ
 why_text why.NotBuilt = codes "NotBuilt"
 why_text why.Falls = codes "Falls"
 
--- what a status says after `aurora: `, where the source has this name
-abbrev pub status_text : List ℕ → Status → List ℕ
-status_text source status.Ok = []
-status_text source status.Usage = codes "usage: aurora run NET [options]"
-status_text source (status.BadNetwork net.NotBuilt) = codes "network: NotBuilt top 0 0"
-status_text source (status.BadNetwork net.Memory) = codes "network: Memory"
-status_text source (status.BadStream number line w) =
-    codes "stream " ++ (source ++ (codes ": line " ++ (decimal line ++ (codes ": " ++ why_text w))))
-status_text source (status.FolderFault name) = codes "cannot read " ++ name
-status_text source status.SinkFault = codes "output failed"
-status_text source (status.TooLong name) = codes "file too long: " ++ name
-status_text source status.Memory = codes "out of memory"
-
--- the line of a status; Ok has none
+-- the line of a status, where the source has this name; Ok has none
 abbrev pub message_of : List ℕ → Status → List ℕ
 message_of source status.Ok = []
-message_of source s = codes "aurora: " ++ (status_text source s ++ codes "\n")
+message_of source status.Usage = codes "aurora: usage: aurora run NET [options]\n"
+message_of source (status.BadNetwork net.NotBuilt) = codes "aurora: network: NotBuilt top 0 0\n"
+message_of source (status.BadNetwork net.Memory) = codes "aurora: network: Memory\n"
+message_of source (status.BadStream number line w) =
+    codes "aurora: stream " ++ (source ++ (codes ": line " ++ (decimal line ++ (codes ": " ++ (why_text w ++ codes "\n")))))
+message_of source (status.FolderFault name) = codes "aurora: cannot read " ++ (name ++ codes "\n")
+message_of source status.SinkFault = codes "aurora: output failed\n"
+message_of source (status.TooLong name) = codes "aurora: file too long: " ++ (name ++ codes "\n")
+message_of source status.Memory = codes "aurora: out of memory\n"
 
 -- the name of the source, where the network file is there and of the first form
 abbrev pub name_in : Option FirstNetwork → List ℕ

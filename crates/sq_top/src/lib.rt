@@ -14,6 +14,7 @@ ghost use Rattle.sq_top.specs.Causes.{AnswersPrefix, AnswersWhole, FolderHasCaus
 ghost use Rattle.sq_top.specs.Scripts.{accepted};
 
 mod form;
+mod messages;
 mod reading;
 mod stream;
 mod writing;
