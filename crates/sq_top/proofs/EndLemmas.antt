@@ -304,3 +304,8 @@ memory_ends words w s source other differs h = record {
         (λ files t. match_each (accepted (file files) words) _ _ (λ x e. inr refl) (λ u e. tt));
     named = λ e. absurd (cc);
   }
+
+-- an end that is told stays, or is one for want of memory
+pub told_ends : (words : List (List ℕ)) (w : World) (s told : Status) (source : List ℕ) → s ≢ status.Ok → (told ≡ s) ⊎ (told ≡ status.Memory) → Ends words w s source → Ends words w told source
+told_ends words w s told source differs (inl same) h = subst (λ x. Ends words w x source) (sym same) h
+told_ends words w s told source differs (inr memory) h = subst (λ x. Ends words w x source) (sym memory) (memory_ends words w s source source differs h)

@@ -30,6 +30,17 @@ message_of source status.SinkFault = codes "aurora: output failed\n"
 message_of source (status.TooLong name) = codes "aurora: file too long: " ++ (name ++ codes "\n")
 message_of source status.Memory = codes "aurora: out of memory\n"
 
+-- the number with which the program ends
+abbrev pub code_of : Status → ℕ
+code_of status.Ok = 0
+code_of status.Usage = 2
+code_of (status.BadNetwork e) = 3
+code_of (status.BadStream number line w) = 6
+code_of (status.FolderFault name) = 7
+code_of status.SinkFault = 10
+code_of (status.TooLong name) = 11
+code_of status.Memory = 12
+
 -- the name of the source, where the network file is there and of the first form
 abbrev pub name_in : Option FirstNetwork → List ℕ
 name_in None = []

@@ -11,16 +11,19 @@ ghost use Rattle.sq_outside.specs.Faults.{Rose};
 ghost use Rattle.sq_outside.specs.Folders.{file};
 ghost use Rattle.sq_top.specs.declared.NetErr.TheVariants as net;
 ghost use Rattle.sq_top.specs.Causes.{AnswersPrefix, AnswersWhole, FolderHasCause, IsTold, MatchAccepted, RefusalHasCause, UsageHasCause, WhereTold, is_refusal};
+ghost use Rattle.sq_top.specs.Messages.{code_of};
 ghost use Rattle.sq_top.specs.Scripts.{accepted};
 
 mod form;
 mod messages;
 mod reading;
+mod running;
 mod stream;
 mod writing;
 
 pub use reading::read_words;
-use sq_outside::{Folder, PageDisk, Sink, Steps, write_all};
+use running::{run, tell};
+use sq_outside::{Folder, PageDisk, Sink, Steps};
 use sq_value::Name;
 use std::alloc::Global;
 use std::sync::ledger::Ledger;
@@ -83,6 +86,24 @@ pub enum Status {
     Memory,
 }
 
+impl Status {
+    /// The status with which the program ends.
+    pub fn code(&self) -> u8
+        ensures { result ≡ code_of self.now }
+    {
+        match self {
+            Status::Ok => 0,
+            Status::Usage => 2,
+            Status::BadNetwork(_) => 3,
+            Status::BadStream { .. } => 6,
+            Status::FolderFault { .. } => 7,
+            Status::SinkFault => 10,
+            Status::TooLong { .. } => 11,
+            Status::Memory => 12,
+        }
+    }
+}
+
 /// Does what the words ask for, and tells any status but Ok to `err`.
 pub fn run_words<F: Folder, D: PageDisk, S: Sink, E: Sink, L: Ledger>(
     alloc: Global,
@@ -124,6 +145,9 @@ pub fn run_words<F: Folder, D: PageDisk, S: Sink, E: Sink, L: Ledger>(
     ensures later { (F.faults folder.old ≤ F.faults folder.new) × (F.taken folder.old ≤ F.taken folder.new)
         × (S.faults out.old ≤ S.faults out.new) × (E.faults err.old ≤ E.faults err.new) }
 {
-    let _ = write_all(err, b"aurora: out of memory\n");
-    Status::Memory
+    let stopped = run(alloc, words, folder, out, steps);
+    if let Status::Ok = stopped.status {
+        return Status::Ok;
+    }
+    tell(alloc, stopped, err).status
 }

@@ -1,0 +1,23 @@
+use Rattle.std.proofs.Common.{subst, sym, refl}
+use Rattle.sq_top.specs.Causes.{source_of}
+use Rattle.sq_top.proofs.EndLemmas.{told_ends}
+use Rattle.sq_top.proofs.run_words.Goals as goal
+
+pub returns : goal.returns
+returns g c =
+    let e = told_ends _ _ c.run-stopped.result.status c.tell.result.status _ c.in_default.not-Ok c.tell.ensures.status c.run-stopped.ensures.ends in
+    record {
+      ok = e.ok;
+      other = e.other;
+      refused_early = e.refused_early;
+      usage = e.usage;
+      refusal = e.refusal;
+      folder = e.folder;
+      no_memory = e.no_memory;
+      sink = e.sink;
+      complete = e.complete;
+      message = (source_of c.run-stopped.result.source, e.named, rw c.tell.ensures.source at c.tell.ensures.told);
+      same_files = c.run-stopped.ensures.files;
+      same_disk = (refl, refl);
+      later = (c.run-stopped.ensures.later.0, c.run-stopped.ensures.later.1, c.run-stopped.ensures.later.2, c.tell.ensures.later);
+    }
