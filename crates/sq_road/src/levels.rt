@@ -88,13 +88,13 @@ impl Levels {
         ensures { result ≡ level_of self.now e w }
     {
         match self.rows.get(&e) {
-            Some(row) => level_in(row.as_slice(), w),
+            Some(row) => level_at(row.as_slice(), w),
             None => 0,
         }
     }
 }
 
-fn level_in(row: &[u32], w: u32) -> u32
+fn level_at(row: &[u32], w: u32) -> u32
     ensures { result ≡ slice_index row.now w }
 {
     row.get(w as usize).copied().unwrap_or(0)
