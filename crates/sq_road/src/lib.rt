@@ -85,8 +85,8 @@ fn offers_of(
     ensures twenty { OnOk result (All (λ l. length l ≡ 20) losses.now.items) }
 {
     let mut offers = Vec::new(alloc);
-    for w in 0..gains.len() {
-        push_offers(&mut offers, w as u32, gains[w] as u64, &losses[w])?;
+    for (w, steps) in losses.iter().enumerate() {
+        push_offers(&mut offers, w as u32, gains[w] as u64, steps)?;
     }
     Ok(offers)
 }
