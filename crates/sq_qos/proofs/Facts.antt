@@ -1,0 +1,69 @@
+-- What a graph keeps.
+use Rattle.std.proofs.Common.{◌≡◌, ℕ, ◌+◌, ◌%◌, ◌≤◌, ◌∷◌, length, Bool, true, false, ◌&&◌, nat_le, nat_lt, ◌==◌, Option, None, refl, arith}
+use Rattle.std.proofs.lemmas.Bool.Decides.{nat_tests}
+use Rattle.sq_qos.specs.declared.GraphErr.{GraphErr}
+use Rattle.sq_qos.specs.Graphs.{Points, graph_error, is_on_grid, first_x, last_x, rises, is_concave, unless}
+
+pub both : (a b : Bool) → (a && b) ≡ true → (a ≡ true) × (b ≡ true)
+both true b h = (refl, h)
+both false b h = cc
+
+pub unless_none : (b : Bool) (e : GraphErr) (more : Option GraphErr) → unless b e more ≡ None → (b ≡ true) × (more ≡ None)
+unless_none true e more h = (refl, h)
+unless_none false e more h = cc
+
+pub le_from : (a b : ℕ) → nat_le a b ≡ true → a ≤ b
+le_from a b h = grind (arith, nat_tests)
+
+pub eq_from : (a b : ℕ) → (a == b) ≡ true → a ≡ b
+eq_from a b h = grind (arith, nat_tests)
+
+two_from : (n : ℕ) → nat_lt 1 n ≡ true → 2 ≤ n
+two_from n h = grind (arith, nat_tests)
+
+pub record GraphFacts (ps : Points) : Type 0 where
+  pub grid : is_on_grid 0 ps ≡ true
+  pub first : first_x ps ≡ 0
+  pub last : last_x ps ≡ 1000
+  pub two : 2 ≤ length ps
+  pub rise : rises ps ≡ true
+  pub concave : is_concave ps ≡ true
+
+pub graph_facts : (ps : Points) → graph_error ps ≡ None → GraphFacts ps
+graph_facts ps h =
+    let a = unless_none _ _ _ h in
+    let b = unless_none _ _ _ a.1 in
+    let c = unless_none _ _ _ b.1 in
+    let d = unless_none _ _ _ c.1 in
+    let e = unless_none _ _ _ d.1 in
+    let ends = both _ _ c.0 in
+    let start = both _ _ ends.0 in
+    record {
+      grid = b.0;
+      first = eq_from _ _ start.1;
+      last = eq_from _ _ ends.1;
+      two = two_from (length ps) start.0;
+      rise = d.0;
+      concave = e.0;
+    }
+
+pub record OnGrid (least : ℕ) (p : ℕ × ℕ) (ps : Points) : Type 0 where
+  pub from : least ≤ p.0
+  pub wide : p.0 ≤ 1000
+  pub fifty : p.0 % 50 ≡ 0
+  pub high : p.1 ≤ 1000000
+  pub rest : is_on_grid (p.0 + 1) ps ≡ true
+
+pub on_grid : (least : ℕ) (p : ℕ × ℕ) (ps : Points) → is_on_grid least (p ∷ ps) ≡ true → OnGrid least p ps
+on_grid least p ps h =
+    let a = both _ _ h in
+    let b = both _ _ a.0 in
+    let c = both _ _ b.0 in
+    let d = both _ _ c.0 in
+    record {
+      from = le_from _ _ d.0;
+      wide = le_from _ _ d.1;
+      fifty = eq_from _ _ c.1;
+      high = le_from _ _ b.1;
+      rest = a.1;
+    }

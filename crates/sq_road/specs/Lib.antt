@@ -1,0 +1,4 @@
+pub mod Draws
+pub mod Levels
+pub mod Offers
+pub mod Roads
