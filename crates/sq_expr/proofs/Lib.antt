@@ -1,0 +1,2 @@
+mod ExpressionRows
+mod KindLemmas
