@@ -31,10 +31,10 @@ fn see_value<'a>(v: &'a Value) -> Seen<'a>
     }
 }
 
-fn see_field<'a>(fields: &'a [Value], i: u32) -> Seen<'a>
+fn see_field<'a>(fields: &'a [Value], i: usize) -> Seen<'a>
     ensures { value_seen result ≡ field fields.now i }
 {
-    match fields.get(i as usize) {
+    match fields.get(i) {
         Some(v) => see_value(v),
         None => Seen::Null,
     }

@@ -8,9 +8,11 @@
 ghost use Rattle.std.specs.Prelude.{◌≡◌, true};
 ghost use Rattle.sq_expr.specs.Kinds.{kinds_agree, kind_in};
 
+mod checking;
 mod copies;
 mod evaluation;
 
+pub use checking::check;
 pub use copies::copy_typed;
 pub use evaluation::{eval, holds};
 use sq_value::{Kind, Name, Schema, Value};
@@ -54,16 +56,65 @@ pub enum LogicOp {
     Or,
 }
 
+/// An expression as its text has it: fields are named.
+#[derive(Drop)]
+enum Node {
+    Literal(Value),
+    Time,
+    Named(Name),
+    Unary(UnaryOp, Box<Node>),
+    Arithmetic(ArithmeticOp, Box<Node>, Box<Node>),
+    Compare(CompareOp, Box<Node>, Box<Node>),
+    Logic(LogicOp, Box<Node>, Box<Node>),
+}
+
+/// An expression that isn't checked yet. Contracts see its tree.
+#[derive(Drop)]
+pub struct Ast {
+    root: Node,
+}
+
+impl Model for Ast {
+    ghost use Rattle.sq_expr.specs.Asts.{Ast as AstTree, ast_code};
+
+    ghost Value = { AstTree };
+
+    ghost coded = { ast_code };
+
+    ghost use Rattle.sq_expr.specs.AstView.{ast_of};
+
+    ghost view = { λ a. ast_of a.root };
+}
+
 /// A checked expression: fields are named by their place.
 #[derive(Drop)]
 enum Tree {
     Literal(Value),
     Time,
-    Field(u32),
+    Field(usize),
     Unary(UnaryOp, Box<Tree>),
     Arithmetic(ArithmeticOp, Box<Tree>, Box<Tree>),
     Compare(CompareOp, Box<Tree>, Box<Tree>),
     Logic(LogicOp, Box<Tree>, Box<Tree>),
+}
+
+impl Tree {
+    ghost use Rattle.sq_expr.specs.TreeView.{tree_of};
+
+    /// The kind of the tree in its scope.
+    fn kind(&self, scope: &Schema) -> Option<Kind>
+        ensures { result ≡ kind_in scope.now (tree_of self.now) }
+    {
+        match self {
+            Tree::Literal(Value::Null) => None,
+            Tree::Literal(Value::Int(_)) => Some(Kind::Int),
+            Tree::Literal(Value::Bool(_)) => Some(Kind::Bool),
+            Tree::Literal(Value::Text(_)) => Some(Kind::Text),
+            Tree::Time | Tree::Unary(UnaryOp::Negate, _) | Tree::Arithmetic(..) => Some(Kind::Int),
+            Tree::Field(i) => scope.kinds().get(*i).copied(),
+            Tree::Unary(..) | Tree::Compare(..) | Tree::Logic(..) => Some(Kind::Bool),
+        }
+    }
 }
 
 /// An expression that was checked in a scope. Contracts see the scope's columns and the tree, whose fields are places
@@ -103,15 +154,7 @@ impl Typed {
         ensures kind { result ≡ kind_in self.now.scope self.now.tree }
         ensures agree { kinds_agree self.now.scope self.now.tree ≡ true }
     {
-        match &self.root {
-            Tree::Literal(Value::Null) => None,
-            Tree::Literal(Value::Int(_)) => Some(Kind::Int),
-            Tree::Literal(Value::Bool(_)) => Some(Kind::Bool),
-            Tree::Literal(Value::Text(_)) => Some(Kind::Text),
-            Tree::Time | Tree::Unary(UnaryOp::Negate, _) | Tree::Arithmetic(..) => Some(Kind::Int),
-            Tree::Field(i) => self.scope.kinds().get(*i as usize).copied(),
-            Tree::Unary(..) | Tree::Compare(..) | Tree::Logic(..) => Some(Kind::Bool),
-        }
+        self.root.kind(&self.scope)
     }
 }
 
