@@ -1,2 +1,5 @@
 mod ExpressionRows
+mod GrammarRows
 mod KindLemmas
+mod TextLemmas
+mod GrammarLemmas

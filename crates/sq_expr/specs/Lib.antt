@@ -2,6 +2,8 @@ pub mod Trees
 pub mod Asts
 pub mod Kinds
 pub mod Checking
+pub mod Tokens
+pub mod Grammar
 pub mod Expressions
 pub mod TreeView
 pub mod AstView

@@ -8,13 +8,17 @@
 ghost use Rattle.std.specs.Prelude.{◌≡◌, true};
 ghost use Rattle.sq_expr.specs.Kinds.{kinds_agree, kind_in};
 
+mod asts;
 mod checking;
 mod copies;
 mod evaluation;
+mod parsing;
+mod tokens;
 
 pub use checking::check;
 pub use copies::copy_typed;
 pub use evaluation::{eval, holds};
+pub use parsing::parse;
 use sq_value::{Kind, Name, Schema, Value};
 use std::marker::Model;
 use thiserror::Error;
