@@ -43,38 +43,33 @@ fn place_of(name: &Name, names: &[Name]) -> Option<usize>
         .position(|n| same_text(name.as_str(), n.as_str()))
 }
 
-/// The tree with places for names.
-fn resolve(alloc: Global, node: &Node, scope: &Schema) -> Result<Tree, TypeErr>
-    ensures ok { IfOk result (λ tree. resolved scope.now (ast_of node.now) ≡ Some (tree_of tree)) }
+/// The tree with places for names. It is boxed, which keeps the recursion's frames small.
+fn resolve(alloc: Global, node: &Node, scope: &Schema) -> Result<Box<Tree>, TypeErr>
+    ensures ok { IfOk result (λ tree. resolved scope.now (ast_of node.now) ≡ Some (tree_of tree.value)) }
     ensures err { IfErr result (λ e. e ≢ TypeErr.Memory → (e ≡ TypeErr.NoField) × (resolved scope.now (ast_of node.now) ≡ None)) }
 {
-    match node {
-        Node::Literal(v) => Ok(Tree::Literal(copy_value(v)?)),
-        Node::Time => Ok(Tree::Time),
+    let tree = match node {
+        Node::Literal(v) => Tree::Literal(copy_value(v)?),
+        Node::Time => Tree::Time,
         Node::Named(name) => match place_of(name, scope.names()) {
-            Some(i) => Ok(Tree::Field(i)),
-            None => Err(TypeErr::NoField),
+            Some(i) => Tree::Field(i),
+            None => return Err(TypeErr::NoField),
         },
-        Node::Unary(op, a) => {
-            let a = resolve(alloc, a, scope)?;
-            Ok(Tree::Unary(*op, Box::new(alloc, a)?))
-        }
+        Node::Unary(op, a) => Tree::Unary(*op, resolve(alloc, a, scope)?),
         Node::Arithmetic(op, a, b) => {
             let a = resolve(alloc, a, scope)?;
-            let b = resolve(alloc, b, scope)?;
-            Ok(Tree::Arithmetic(*op, Box::new(alloc, a)?, Box::new(alloc, b)?))
+            Tree::Arithmetic(*op, a, resolve(alloc, b, scope)?)
         }
         Node::Compare(op, a, b) => {
             let a = resolve(alloc, a, scope)?;
-            let b = resolve(alloc, b, scope)?;
-            Ok(Tree::Compare(*op, Box::new(alloc, a)?, Box::new(alloc, b)?))
+            Tree::Compare(*op, a, resolve(alloc, b, scope)?)
         }
         Node::Logic(op, a, b) => {
             let a = resolve(alloc, a, scope)?;
-            let b = resolve(alloc, b, scope)?;
-            Ok(Tree::Logic(*op, Box::new(alloc, a)?, Box::new(alloc, b)?))
+            Tree::Logic(*op, a, resolve(alloc, b, scope)?)
         }
-    }
+    };
+    Ok(Box::new(alloc, tree)?)
 }
 
 fn fits_kind(kind: Kind, other: Option<Kind>) -> bool

@@ -6,36 +6,29 @@ use crate::{Tree, Typed};
 use sq_value::{Kind, Name, Schema, copy_name, copy_value};
 use std::alloc::{AllocError, Global};
 
-fn copy_tree(alloc: Global, tree: &Tree) -> Result<Tree, AllocError>
-    ensures { IfOk result (λ copy. tree_of copy ≡ tree_of tree.now) }
+/// The copy is boxed, which keeps the recursion's frames small.
+fn copy_tree(alloc: Global, tree: &Tree) -> Result<Box<Tree>, AllocError>
+    ensures { IfOk result (λ copy. tree_of copy.value ≡ tree_of tree.now) }
 {
-    match tree {
-        Tree::Literal(v) => {
-            let v = copy_value(v)?;
-            Ok(Tree::Literal(v))
-        }
-        Tree::Time => Ok(Tree::Time),
-        Tree::Field(i) => Ok(Tree::Field(*i)),
-        Tree::Unary(op, a) => {
-            let a = copy_tree(alloc, a)?;
-            Ok(Tree::Unary(*op, Box::new(alloc, a)?))
-        }
+    let copy = match tree {
+        Tree::Literal(v) => Tree::Literal(copy_value(v)?),
+        Tree::Time => Tree::Time,
+        Tree::Field(i) => Tree::Field(*i),
+        Tree::Unary(op, a) => Tree::Unary(*op, copy_tree(alloc, a)?),
         Tree::Arithmetic(op, a, b) => {
             let a = copy_tree(alloc, a)?;
-            let b = copy_tree(alloc, b)?;
-            Ok(Tree::Arithmetic(*op, Box::new(alloc, a)?, Box::new(alloc, b)?))
+            Tree::Arithmetic(*op, a, copy_tree(alloc, b)?)
         }
         Tree::Compare(op, a, b) => {
             let a = copy_tree(alloc, a)?;
-            let b = copy_tree(alloc, b)?;
-            Ok(Tree::Compare(*op, Box::new(alloc, a)?, Box::new(alloc, b)?))
+            Tree::Compare(*op, a, copy_tree(alloc, b)?)
         }
         Tree::Logic(op, a, b) => {
             let a = copy_tree(alloc, a)?;
-            let b = copy_tree(alloc, b)?;
-            Ok(Tree::Logic(*op, Box::new(alloc, a)?, Box::new(alloc, b)?))
+            Tree::Logic(*op, a, copy_tree(alloc, b)?)
         }
-    }
+    };
+    Ok(Box::new(alloc, copy)?)
 }
 
 fn copy_names(alloc: Global, names: &[Name]) -> Result<Vec<Name>, AllocError>

@@ -13,6 +13,8 @@ mod checking;
 mod copies;
 mod evaluation;
 mod parsing;
+#[cfg(test)]
+mod tests;
 mod tokens;
 
 pub use checking::check;
@@ -126,7 +128,7 @@ impl Tree {
 #[derive(Drop)]
 pub struct Typed {
     scope: Schema,
-    root: Tree,
+    root: Box<Tree>,
 }
 
 impl Model for Typed {
@@ -140,9 +142,9 @@ impl Model for Typed {
     ghost use Rattle.sq_expr.specs.Kinds.{kinds_agree};
     ghost use Rattle.sq_expr.specs.TreeView.{tree_of};
 
-    ghost view = { λ a. record { scope = a.scope; tree = tree_of a.root } };
+    ghost view = { λ a. record { scope = a.scope; tree = tree_of a.root.value } };
 
-    ghost invariant = { λ a. kinds_agree a.scope (tree_of a.root) ≡ true };
+    ghost invariant = { λ a. kinds_agree a.scope (tree_of a.root.value) ≡ true };
 }
 
 impl Typed {
