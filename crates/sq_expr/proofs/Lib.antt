@@ -3,3 +3,4 @@ mod GrammarRows
 mod KindLemmas
 mod TextLemmas
 mod GrammarLemmas
+mod SyntaxLemmas

@@ -20,7 +20,7 @@ mod tokens;
 pub use checking::check;
 pub use copies::copy_typed;
 pub use evaluation::{eval, holds};
-pub use parsing::parse;
+pub use parsing::{grammar_is_read, parse};
 use sq_value::{Kind, Name, Schema, Value};
 use std::marker::Model;
 use thiserror::Error;

@@ -1,6 +1,8 @@
 // Reading an expression: operator precedence over a stack of what is open.
 ghost use Rattle.std.specs.Prelude.{◌≡◌, ◌≢◌, ◌<◌, ◌≤◌, ◌∷◌, List, [], Err, IfErr, IfOk, IfNone, IfSome, MatchResult, Ok, drop, length, ℕ, ◌+◌};
 ghost use Rattle.std.specs.Str.{IsCharBoundary};
+ghost use Rattle.sq_expr.specs.Asts.{Ast as AstTree};
+ghost use Rattle.sq_expr.specs.Syntax.{IsTextOf};
 ghost use Rattle.sq_expr.specs.Tokens.{tokens_from, tokens_of};
 ghost use Rattle.sq_expr.specs.Grammar.{after_operand, after_test, applied, arithmetic_tightness, closed_to, depth_of, end_in, innermost, is_counted, logic_tightness, not_allowed, null_after_not, null_or_not, opened, parenthesis_closed, parse_in, read_from, reader, start_of, step_in, step_of, tightness, unless_compared, whole, with_operator};
 
@@ -468,4 +470,10 @@ pub fn parse(alloc: Global, text: &str) -> Result<Ast, ParseErr>
             what,
         }),
     }
+}
+
+/// A text that the grammar derives is read as what the grammar says it is, so no text is two expressions.
+pub fn grammar_is_read()
+    ensures { (text : List ℕ) (a : AstTree) → IsTextOf text a → parse_in text ≡ Ok a }
+{
 }
