@@ -1,0 +1,6 @@
+mod ExpressionRows
+mod GrammarRows
+mod KindLemmas
+mod TextLemmas
+mod GrammarLemmas
+mod SyntaxLemmas
