@@ -27,7 +27,7 @@ pub fn is_plain(line: &[u8]) -> bool
 }
 
 /// Puts the fields of a line in place of what `fields` holds, where the line is plain, has a byte and begins with no mark
-/// of byte order.
+/// of byte order. Where memory runs out `fields` holds some of them.
 pub fn cut_plain<'a>(line: &'a [u8], fields: &mut Vec<&'a [u8]>) -> Result<(), AllocError>
     requires plain { list_all is_plain line.now ≡ true }
     requires bytes { 0 < length line.now }

@@ -16,3 +16,6 @@ pub use laws::{lines_are_csv, records_are_csv, rows_are_read_back};
 pub use lines::{append_box_line, append_end_line, append_late_line, append_output_line};
 pub use read::{has_mark, read_line};
 pub use written::append_line;
+
+#[cfg(test)]
+mod tests;

@@ -1,3 +1,4 @@
 pub mod BackLemmas
+pub mod FitLemmas
 pub mod StreamLemmas
 mod Rows

@@ -10,6 +10,9 @@ mod line;
 mod stream;
 mod why;
 
-pub use laws::tuples_are_read_back;
+pub use laws::{texts_are_streams, tuples_are_read_back};
 pub use stream::{StreamErr, read_stream};
 pub use why::Why;
+
+#[cfg(test)]
+mod tests;

@@ -13,6 +13,8 @@ mod copies;
 mod laws;
 mod numbers;
 mod order;
+#[cfg(test)]
+mod tests;
 mod written;
 
 pub use copies::{copy_name, copy_tuple, copy_txt, copy_value};

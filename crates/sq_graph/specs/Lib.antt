@@ -1,0 +1,4 @@
+pub mod Wires
+pub mod Order
+pub mod Errors
+pub mod Givers

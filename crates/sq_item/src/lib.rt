@@ -1,0 +1,92 @@
+//! Items: what stands on an arc of a network, a mark, a tuple, or a mark that rides on a tuple.
+//!
+//! The contract is the spread of an item, its mark and then its tuple: two items that spread alike mean the same. It
+//! stands on the values alone. Marks are after window-aware load shedding (N. Tatbul and S. Zdonik, VLDB 2006); their
+//! rules are this project's own.
+#![tactic(auto)]
+
+ghost use Rattle.std.specs.Prelude.{◌≡◌, IfOk};
+ghost use Rattle.sq_item.specs.Sound.{IsSound};
+
+use sq_value::{Fields, ListOf, copy_value};
+use std::alloc::{AllocError, Global};
+
+/// What a window drop says of a batch of windows, at the tick at which the batch begins.
+#[derive(Clone, Copy, Debug, PartialEq, Eq, Drop)]
+pub enum Mark {
+    /// The batch is permitted: its tuples are needed at the ticks below `until`, which is below 2^47.
+    Open { until: u64 },
+    /// The batch is dropped.
+    Closed,
+}
+
+/// A mark, a tuple, or a mark that rides on a tuple of its time.
+#[derive(Debug, Drop)]
+pub struct Item {
+    /// A tick: below 2^40.
+    pub time: u64,
+    pub mark: Option<Mark>,
+    /// The values of the tuple.
+    pub body: Option<Fields>,
+}
+
+fn copy_fields(alloc: Global, fields: &Fields) -> Result<Fields, AllocError>
+    ensures { IfOk result (λ copy. copy ≡ fields.now) }
+{
+    let mut copies = Vec::new(alloc);
+    for v in fields.as_slice() {
+        copies.push(copy_value(v)?)?;
+    }
+    Ok(ListOf::new(copies))
+}
+
+fn copy_body(alloc: Global, body: &Option<Fields>) -> Result<Option<Fields>, AllocError>
+    ensures { IfOk result (λ copy. copy ≡ body.now) }
+{
+    match body {
+        None => Ok(None),
+        Some(fields) => {
+            let copy = copy_fields(alloc, fields)?;
+            Ok(Some(copy))
+        }
+    }
+}
+
+/// A copy of an item.
+pub fn copy_item(alloc: Global, item: &Item) -> Result<Item, AllocError>
+    requires { IsSound item.now }
+    ensures copy { IfOk result (λ copy. copy ≡ item.now) }
+    ensures sound { IfOk result (λ copy. IsSound copy) }
+{
+    let body = copy_body(alloc, &item.body)?;
+    Ok(Item {
+        time: item.time,
+        mark: item.mark,
+        body,
+    })
+}
+
+#[cfg(test)]
+mod tests {
+    use super::*;
+    use sq_value::Value;
+    use std::test::Fail;
+
+    #[test]
+    fn a_copy_has_time_mark_and_body(rt: HostRuntime) -> Result<(), Fail> {
+        let alloc = rt.alloc();
+        let item = Item {
+            time: 5,
+            mark: Some(Mark::Open { until: 9 }),
+            body: Some(ListOf::new(vec![in alloc; Value::Int(1)]?)),
+        };
+        let copy = copy_item(alloc, &item)?;
+        assert_eq!(rt; copy.time, 5);
+        assert_eq!(rt; copy.mark, Some(Mark::Open { until: 9 }));
+        let Some(fields) = copy.body else {
+            return Err(Fail::from("the body is there"));
+        };
+        assert!(rt; matches!(fields.as_slice(), [Value::Int(1)]));
+        Ok(())
+    }
+}

@@ -1,0 +1,4 @@
+pub mod Merge
+pub mod Boxes
+pub mod Sorting
+pub mod Sorters

@@ -1,0 +1,37 @@
+//! The merge of streams.
+
+ghost use Rattle.std.specs.Prelude.{◌≡◌, ◌^◌, ◌<◌, ◌++◌, map, length, IfOk, OnOk};
+ghost use Rattle.sq_value.specs.Lists.{sort_by, ports_from};
+ghost use Rattle.sq_lists.specs.Merge.{merge, earlier};
+
+use sq_value::{Tuple, copy_tuple};
+use std::alloc::{AllocError, Global};
+
+fn push_stream(pairs: &mut Vec<(u32, Tuple)>, port: u32, tuples: &[Tuple]) -> Result<(), AllocError>
+    ensures { OnOk result (pairs.new.items ≡ pairs.old.items ++ map (λ x. (port, x)) tuples.now) }
+{
+    for x in tuples {
+        pairs.push((port, copy_tuple(x)?))?;
+    }
+    Ok(())
+}
+
+fn sort_pairs(pairs: &mut Vec<(u32, Tuple)>) -> Result<(), AllocError>
+    ensures { OnOk result (pairs.new.items ≡ sort_by earlier pairs.old.items) }
+{
+    pairs.sort_by(|a, b| a.1.time.cmp(&b.1.time))
+}
+
+/// The tuples of several streams with the numbers of their streams, by time; those of one time by stream, and then by
+/// their place in it.
+pub fn merge(alloc: Global, ins: &[Vec<Tuple>]) -> Result<Vec<(u32, Tuple)>, AllocError>
+    requires { length ins.now < 2 ^ 32 }
+    ensures { IfOk result (λ pairs. pairs.items ≡ merge (map (λ v. v.items) ins.now)) }
+{
+    let mut pairs = Vec::new(alloc);
+    for port in 0..ins.len() {
+        push_stream(&mut pairs, port as u32, &ins[port])?;
+    }
+    sort_pairs(&mut pairs)?;
+    Ok(pairs)
+}

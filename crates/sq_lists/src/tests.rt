@@ -1,0 +1,57 @@
+use super::*;
+use sq_value::{ListOf, Tuple, Value};
+use std::alloc::{AllocError, Global};
+use std::test::Fail;
+
+// A tuple of one number.
+fn at(alloc: Global, time: u64, v: i64) -> Result<Tuple, AllocError> {
+    let fields = ListOf::new(vec![in alloc; Value::Int(v)]?);
+    Ok(Tuple { time, fields })
+}
+
+fn is_at(x: &Tuple, time: u64, v: i64) -> bool {
+    x.time == time && matches!(x.fields.as_slice(), [Value::Int(n)] if *n == v)
+}
+
+// The lines `5,3`, `6,1` and `7,last`.
+fn lines(alloc: Global, last: i64) -> Result<Vec<Tuple>, AllocError> {
+    Ok(vec![in alloc; at(alloc, 5, 3)?, at(alloc, 6, 1)?, at(alloc, 7, last)?]?)
+}
+
+#[test]
+fn a_merge_goes_by_time_then_stream_then_place(rt: HostRuntime) -> Result<(), Fail> {
+    let alloc = rt.alloc();
+    let p = vec![in alloc; at(alloc, 1, 10)?, at(alloc, 3, 11)?, at(alloc, 3, 12)?]?;
+    let q = vec![in alloc; at(alloc, 2, 20)?, at(alloc, 3, 21)?]?;
+    let pairs = merge(alloc, &vec![in alloc; p, q]?)?;
+    let [a, b, c, d, e] = pairs.as_slice() else {
+        return Err(Fail::from("five tuples"));
+    };
+    assert!(rt; a.0 == 0 && is_at(&a.1, 1, 10));
+    assert!(rt; b.0 == 1 && is_at(&b.1, 2, 20));
+    assert!(rt; c.0 == 0 && is_at(&c.1, 3, 11));
+    assert!(rt; d.0 == 0 && is_at(&d.1, 3, 12));
+    assert!(rt; e.0 == 1 && is_at(&e.1, 3, 21));
+    Ok(())
+}
+
+#[test]
+fn a_sort_holds_one_more_than_its_slack(rt: HostRuntime) -> Result<(), Fail> {
+    let alloc = rt.alloc();
+    let all = bsort_list(alloc, 0, 1, &lines(alloc, 2)?)?;
+    let [a, b, c] = all.as_slice() else {
+        return Err(Fail::from("three tuples"));
+    };
+    assert!(rt; is_at(a, 1, 1) && is_at(b, 2, 2) && is_at(c, 3, 3));
+    let first = bsort_list(alloc, 0, 0, &lines(alloc, 2)?)?;
+    let [a] = first.as_slice() else {
+        return Err(Fail::from("one tuple"));
+    };
+    assert!(rt; is_at(a, 3, 3));
+    let early = bsort_list(alloc, 0, 1, &lines(alloc, 8)?)?;
+    let [a, b] = early.as_slice() else {
+        return Err(Fail::from("two tuples"));
+    };
+    assert!(rt; is_at(a, 1, 1) && is_at(b, 3, 3));
+    Ok(())
+}

@@ -1,0 +1,103 @@
+-- What a sound network is.
+use Rattle.std.specs.Prelude.{◌≡◌, ℕ, ◌+◌, ◌^◌, Bool, true, ◌&&◌, ◌==◌, nat_le, List, [], ◌∷◌, map, length, Option, Some, None, slice_get}
+use Rattle.std.specs.List.{list_all, filter_map, All}
+use Rattle.sq_value.specs.Lists.{are_distinct}
+use Rattle.sq_value.specs.Values.{Columns, kinds_of, names_of}
+use Rattle.sq_value.specs.declared.Kind.TheVariants as kind
+use Rattle.sq_expr.specs.Trees.{Checked}
+use Rattle.sq_expr.specs.Kinds.{fits, kind_in}
+use Rattle.sq_graph.specs.declared.BoxKind.{BoxKind}
+use Rattle.sq_graph.specs.declared.BoxKind.TheVariants as boxes
+use Rattle.sq_graph.specs.declared.BoxWires.{BoxWires}
+use Rattle.sq_graph.specs.Wires.{producer_of, inputs_of}
+use Rattle.sq_graph.specs.Order.{is_there, IsWired, LiesOnCycle}
+use Rattle.sq_net.specs.declared.Network.{Network}
+use Rattle.sq_net.specs.declared.Source.{Source}
+use Rattle.sq_net.specs.declared.Node.{Node}
+use Rattle.sq_net.specs.declared.Body.{Body}
+use Rattle.sq_net.specs.declared.Body.TheVariants.{Filter, Map, Union}
+use Rattle.sq_net.specs.Names.{is_name}
+use Rattle.sq_net.specs.Streams.{columns_of_stream}
+
+-- ---- limits
+
+abbrev pub is_between : ℕ → ℕ → ℕ → Bool
+is_between low high n = nat_le low n && nat_le n high
+
+abbrev pub source_within : Source → Bool
+source_within s = is_between 1 255 (length s.file)
+
+abbrev pub body_within : Body → Bool
+body_within (Filter preds) = is_between 1 15 (length preds)
+body_within (Map exprs) = is_between 1 16 (length exprs)
+body_within Union = true
+
+abbrev pub node_within : Node → Bool
+node_within b = body_within b.body && is_between 0 1000 b.cost && list_all (is_between 0 1000000) b.selectivity
+
+-- a Union takes 1 to 8 streams, a Join two, and each other box one
+abbrev pub takes_within : BoxKind → ℕ → Bool
+takes_within boxes.Union n = is_between 1 8 n
+takes_within boxes.Join n = n == 2
+takes_within k n = n == 1
+
+abbrev pub network_within : Network → Bool
+network_within n =
+    is_between 1 8 (length n.sources) && is_between 0 128 (length n.boxes) && is_between 1 32 (length n.outputs)
+    && is_between 1 (2 ^ 34) n.epoch && is_between 1 1000000 n.batch
+    && list_all source_within n.sources && list_all node_within n.boxes && list_all (λ o. nat_le o.weight 1000) n.outputs
+    && list_all (λ b. takes_within b.kind (length b.inputs)) n.wires.boxes
+
+-- ---- the wiring and the lists
+
+abbrev pub kind_of_body : Body → BoxKind
+kind_of_body (Filter preds) = boxes.Filter
+kind_of_body (Map exprs) = boxes.Map
+kind_of_body Union = boxes.Union
+
+-- the lists and the wiring agree in number and in the kind and the ports of each box, and name only streams that exist
+pub record Agrees (n : Network) : Type 0 where
+  pub sources : n.wires.sources ≡ length n.sources
+  pub kinds : map (λ b. b.kind) n.wires.boxes ≡ map (λ b. kind_of_body b.body) n.boxes
+  pub ports : map (λ b. b.ports) n.wires.boxes ≡ map (λ b. length b.schemas) n.boxes
+  pub tolls : map (λ b. length b.selectivity) n.boxes ≡ map (λ b. length b.schemas) n.boxes
+  pub outputs : length n.wires.outputs ≡ length n.outputs
+  pub wired : IsWired n.wires
+  pub shown : All (λ s. is_there (producer_of n.wires s) ≡ true) n.wires.outputs
+
+-- ---- the boxes on the columns of what they take
+
+abbrev pub first_columns : List Columns → Columns
+first_columns [] = []
+first_columns (cs ∷ rest) = cs
+
+-- an expression over these columns
+abbrev pub IsOver : Columns → Checked → Type 0
+IsOver cs e = e.scope ≡ cs
+
+-- a predicate over these columns: a boolean, or `null`
+abbrev pub IsPredicate : Columns → Checked → Type 0
+IsPredicate cs e = IsOver cs e × (fits kind.Bool (kind_in e.scope e.tree) ≡ true)
+
+-- a Filter's ports have its input's kinds; a Map's port has the kinds of its expressions, under names that are names;
+-- a Union's inputs are alike, and its port is as they are
+abbrev pub IsTypedBody : List Columns → Body → List Columns → Type 0
+IsTypedBody ins (Filter preds) ports =
+    All (IsPredicate (first_columns ins)) preds × (length ports ≡ length preds + 1)
+    × All (λ cs. kinds_of cs ≡ kinds_of (first_columns ins)) ports
+IsTypedBody ins (Map exprs) ports =
+    (cs : Columns) × (ports ≡ cs ∷ []) × All (IsOver (first_columns ins)) exprs
+    × (map (λ e. kind_in e.scope e.tree) exprs ≡ map Some (kinds_of cs)) × All (λ w. is_name w ≡ true) (names_of cs)
+IsTypedBody ins Union ports = All (λ cs. cs ≡ first_columns ins) ins × (ports ≡ first_columns ins ∷ [])
+
+-- the columns of what a box takes
+abbrev pub input_columns : Network → ℕ → List Columns
+input_columns n at = filter_map (columns_of_stream n) (inputs_of n.wires at)
+
+pub record IsSound (n : Network) : Type 0 where
+  pub within : network_within n ≡ true
+  pub agrees : Agrees n
+  pub acyclic : (at : ℕ) → LiesOnCycle n.wires at → ⊥
+  pub named : All (λ o. is_name o.name ≡ true) n.outputs
+  pub distinct : are_distinct (map (λ o. o.name) n.outputs) ≡ true
+  pub typed : (at : ℕ) (b : Node) → slice_get n.boxes at ≡ Some b → IsTypedBody (input_columns n at) b.body b.schemas

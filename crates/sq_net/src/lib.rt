@@ -1,0 +1,198 @@
+//! The typed network: sources, boxes, outputs and their wiring, and why a network file is refused.
+//!
+//! It says what a sound network is, and its contract promises that the schema of a stream is that of the source or of
+//! the port that gives it. Below stand the values, the expressions, the quality graphs and the wiring.
+#![tactic(auto)]
+
+ghost use Rattle.std.specs.Prelude.{◌≡◌, ◌<◌, ◌^◌, IfOk, Some, length};
+ghost use Rattle.sq_net.specs.Streams.{columns_of_stream, IsTyped};
+
+use sq_expr::{ParseErr, Typed};
+use sq_graph::{Giver, Wiring, given_by};
+use sq_qos::{Graph, GraphErr};
+use sq_value::{ListOf, Name, Schema, copy_name};
+use std::alloc::{AllocError, Global};
+use thiserror::Error;
+
+/// A recorded stream: its name, the name of its file, and its schema.
+#[derive(Drop)]
+pub struct Source {
+    pub name: Name,
+    pub file: Name,
+    pub schema: Schema,
+}
+
+/// What a box does to the tuples that it takes.
+#[derive(Drop)]
+pub enum Body {
+    /// Each tuple goes to the port of the first predicate that is true of it, else to the last port.
+    Filter { preds: ListOf<Typed> },
+    /// Each tuple becomes the tuple of the expressions' values.
+    Map { exprs: ListOf<Typed> },
+    /// The tuples of all inputs, by their times.
+    Union,
+}
+
+/// A box: its name, what it does, a schema and a selectivity (in permille) for each port, and what a tuple costs.
+#[derive(Drop)]
+pub struct Node {
+    pub name: Name,
+    pub body: Body,
+    pub schemas: ListOf<Schema>,
+    pub cost: u64,
+    pub selectivity: ListOf<u64>,
+}
+
+/// An output: its name, its weight, and the quality graph that says what a part of its tuples is worth.
+#[derive(Drop)]
+pub struct Output {
+    pub name: Name,
+    pub weight: u32,
+    pub graph: Graph,
+}
+
+/// A network whose boxes are typed. Times are counted in ticks: `epoch` is how many an epoch has, and `batch` how many
+/// windows are dropped together.
+#[derive(Drop)]
+pub struct Network {
+    pub epoch: u64,
+    pub batch: u64,
+    pub wires: Wiring,
+    pub sources: ListOf<Source>,
+    pub boxes: ListOf<Node>,
+    pub outputs: ListOf<Output>,
+}
+
+impl Network {
+    /// The schema of the stream of this number.
+    pub fn stream_schema(&self, stream: u32) -> &Schema
+        requires few { length self.now.wires.boxes < 2 ^ 32 }
+        requires there { IsTyped self.now stream }
+        ensures { columns_of_stream self.now stream ≡ Some result.now }
+    {
+        match given_by(&self.wires, stream) {
+            Some(Giver::Source { source }) => &self.sources.as_slice()[source as usize].schema,
+            Some(Giver::Port { at, port }) => {
+                let node = &self.boxes.as_slice()[at as usize];
+                &node.schemas.as_slice()[port as usize]
+            }
+            None => unreachable!(),
+        }
+    }
+}
+
+fn copy_names(alloc: Global, names: &[Name]) -> Result<Vec<Name>, AllocError>
+    ensures { IfOk result (λ copies. copies.items ≡ names.now) }
+{
+    let mut copies = Vec::new(alloc);
+    for name in names {
+        copies.push(copy_name(name)?)?;
+    }
+    Ok(copies)
+}
+
+/// A copy of a schema.
+#[tactic(auto, using(crate::proofs::ColumnLemmas::columns_of_parts))]
+pub fn copy_schema(alloc: Global, schema: &Schema) -> Result<Schema, AllocError>
+    ensures { IfOk result (λ copy. copy ≡ schema.now) }
+{
+    let names = copy_names(alloc, schema.names())?;
+    let kinds = Vec::from_slice(alloc, schema.kinds())?;
+    match Schema::new(names, kinds) {
+        Ok(copy) => Ok(copy),
+        Err(_) => Err(AllocError),
+    }
+}
+
+/// A part of a network file.
+#[derive(Clone, Copy, Debug, PartialEq, Eq, Error)]
+pub enum Part {
+    /// The file as a whole.
+    #[error("top")]
+    Top,
+    #[error("source")]
+    Source,
+    #[error("box")]
+    Box,
+    #[error("output")]
+    Output,
+    /// A place where windows are dropped.
+    #[error("drop")]
+    Drop,
+}
+
+/// Where a rule is broken: the part, its number, and a place in a list of it. Both count from 0, and where a rule names
+/// no list the item is 0.
+#[derive(Clone, Copy, Debug, PartialEq, Eq, Error)]
+#[error("{part} {number} {item}")]
+pub struct Place {
+    pub part: Part,
+    pub number: u32,
+    pub item: u32,
+}
+
+/// Why a file is no network: the first broken rule, in this order but for the rules on boxes, which come box by box in
+/// the order in which the boxes are typed.
+#[derive(Clone, Copy, Debug, PartialEq, Eq, Error)]
+pub enum NetErr {
+    /// The bytes are no TOML document.
+    #[error("Toml")]
+    Toml,
+    /// The version is absent or isn't 1.
+    #[error("Version")]
+    Version,
+    /// A part that is no fault, but isn't read yet.
+    #[error("NotBuilt {0}")]
+    NotBuilt(Place),
+    /// A key is missing, unknown or of another kind.
+    #[error("Shape {0}")]
+    Shape(Place),
+    /// A number or a length is out of its limits.
+    #[error("Limit {0}")]
+    Limit(Place),
+    /// A name isn't of the form of names.
+    #[error("NoName {0}")]
+    NoName(Place),
+    /// A name stands a second time.
+    #[error("Twice {0}")]
+    Twice(Place),
+    /// There is no stream of this name.
+    #[error("Unknown {0}")]
+    Unknown(Place),
+    /// The box reaches itself.
+    #[error("Cycle {0}")]
+    Cycle(Place),
+    /// A window's size and advance don't fit.
+    #[error("Window {0}")]
+    Window(Place),
+    /// The points are no quality graph.
+    #[error("Graph {0} {1}")]
+    Graph(Place, GraphErr),
+    /// A field's name or kind isn't what its place asks for.
+    #[error("Schema {0}")]
+    Schema(Place),
+    /// The text is no expression.
+    #[error("Expr {0} {1}")]
+    Expr(Place, ParseErr),
+    /// An expression's kind isn't what its place asks for.
+    #[error("Typing {0}")]
+    Typing(Place),
+    /// A field to group by isn't there or stands twice.
+    #[error("Group {0}")]
+    Group(Place),
+    /// Memory ran out.
+    #[error("Memory")]
+    Memory,
+}
+
+impl From<AllocError> for NetErr {
+    ghost use Rattle.std.specs.Prelude.{◌≡◌};
+    ghost use Rattle.sq_net.specs.declared.NetErr.{NetErr};
+    ghost use Rattle.sq_net.specs.declared.NetErr.TheVariants as broken;
+
+    ghost from_gives = { λ _ e. e ≡ broken.Memory };
+
+    fn from(_e: AllocError) -> NetErr {
+        NetErr::Memory
+    }
+}

@@ -1,0 +1,24 @@
+-- Tuples as they stand in tagged lists.
+use Rattle.std.specs.Prelude.{ℕ, ◌==◌, if◌then◌else◌, List, [], ◌∷◌, ◌++◌, map}
+use Rattle.sq_value.specs.declared.Tuple.{Tuple}
+use Rattle.sq_item.specs.Things.{Load, Sign, Body, Thing}
+use Rattle.sq_oper.specs.Entries.{Entry}
+
+abbrev pub tuple_in : ℕ → Load → List Tuple
+tuple_in time (Sign m) = []
+tuple_in time (Body fields) = record { time = time; fields = fields } ∷ []
+
+-- the tuples of a tagged list
+abbrev pub tuples_of : List Entry → List Tuple
+tuples_of [] = []
+tuples_of (e ∷ es) = tuple_in e.thing.time e.thing.load ++ tuples_of es
+
+abbrev pub thing_of : Tuple → Thing
+thing_of x = record { time = x.time; load = Body x.fields }
+
+abbrev pub things : List Tuple → List Thing
+things xs = map thing_of xs
+
+-- what a box with one port gives there
+abbrev pub at_zero : {A : Type 0} → ℕ → List A → List A
+at_zero q xs = if 0 == q then xs else []

@@ -1,0 +1,15 @@
+//! The law of operators: what a box, a window drop or an output promises of each item that it is fed.
+//!
+//! An operator's meaning is `rest`: what it will still give at each port, for a table of levels and a list of marks and
+//! tuples that may still come. A feed gives a first part of it and leaves the rest; so what was given, then the rest,
+//! is the same before and after, and nothing that was fed has to be remembered. An engine stands on this law alone and
+//! knows no kind of box. Below stand items, levels and the counter of steps.
+#![tactic(auto)]
+
+mod operator;
+mod outs;
+mod tally;
+
+pub use operator::Operator;
+pub use outs::{Decision, Event, Outs};
+pub use tally::{Place, Tally};

@@ -1,0 +1,84 @@
+//! What each operator keeps of the items that it was fed.
+
+ghost use Rattle.std.specs.Prelude.{◌≡◌, ◌+◌, ◌-◌, ◌^◌, ◌<◌, is_some, true, if◌then◌else◌};
+ghost use Rattle.sq_oper.specs.Entries.{entries};
+ghost use Rattle.sq_oper.specs.Order.{after_all, marked_at};
+
+use sq_item::Item;
+
+/// The place of the last item that was fed, and whether a mark of its time was.
+#[derive(Clone, Copy, Debug, PartialEq, Eq, Drop)]
+pub enum Place {
+    Start,
+    At { time: u64, port: u32, marked: bool },
+}
+
+impl Place {
+    /// Whether a mark of this time was fed.
+    pub fn is_marked_at(self, time: u64) -> bool
+        ensures { result ≡ marked_at self time }
+    {
+        match self {
+            Place::Start => false,
+            Place::At {
+                time: last,
+                port: _,
+                marked,
+            } => last == time && marked,
+        }
+    }
+}
+
+/// The place of the last item, how many tuples were fed, and whether the operator isn't finished.
+#[derive(Debug, Drop)]
+pub struct Tally {
+    pub place: Place,
+    pub taken: u64,
+    pub running: bool,
+}
+
+impl Tally {
+    /// Nothing was fed.
+    pub fn new() -> Tally
+        ensures { result ≡ record { place = Place.Start; taken = 0; running = true } }
+    {
+        Tally {
+            place: Place::Start,
+            taken: 0,
+            running: true,
+        }
+    }
+
+    /// Counts an item that is fed at a port.
+    pub fn note(&mut self, port: u32, item: &Item)
+        requires { is_some item.now.body ≡ true → self.old.taken < 2 ^ 62 - 1 }
+        ensures place { self.new.place ≡ after_all self.old.place (entries port item.now) }
+        ensures taken { self.new.taken ≡ self.old.taken + (if is_some item.now.body then 1 else 0) }
+        ensures running { self.new.running ≡ self.old.running }
+    {
+        let time = item.time;
+        match (&item.mark, &item.body) {
+            (None, None) => {}
+            (None, Some(_)) => {
+                let marked = self.place.is_marked_at(time);
+                self.place = Place::At { time, port, marked };
+                self.taken += 1;
+            }
+            (Some(_), None) => {
+                self.place = Place::At {
+                    time,
+                    port,
+                    marked: true,
+                };
+            }
+            (Some(_), Some(_)) => {
+                self.place = Place::At {
+                    time,
+                    port,
+                    marked: true,
+                };
+                self.taken += 1;
+            }
+        }
+    }
+}

@@ -1,0 +1,4 @@
+mod FeedLemmas
+pub mod BoxLemmas
+pub mod MergeLemmas
+pub mod SortLemmas

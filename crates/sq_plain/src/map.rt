@@ -1,0 +1,108 @@
+//! Map.
+
+ghost use Rattle.std.specs.Prelude.{◌≡◌, ℕ, ◌++◌, ◌∷◌, false, List, [], IsTrue, OnOk, OnErr};
+ghost use Rattle.sq_value.specs.declared.Value.{Value};
+ghost use Rattle.sq_value.specs.Lists.{IsPrefixOf};
+ghost use Rattle.sq_lists.specs.Boxes.{map_list_of};
+ghost use Rattle.sq_oper.specs.declared.tally.Place.{Place};
+ghost use Rattle.sq_oper.specs.Entries.{Entry};
+ghost use Rattle.sq_oper.specs.Given.{given, ItemsSound};
+ghost use Rattle.sq_oper.specs.Streams.{things, tuples_of, at_zero};
+ghost use Rattle.sq_plain.specs.Boxes.{IsSoundTuple, trees, map_rest, makes_tuple};
+
+use crate::give::give_tuple;
+use sq_expr::Typed;
+use sq_item::Item;
+use sq_lists::map_tuple;
+use sq_oper::{Decision, Operator, Outs, Place, Tally};
+use sq_outside::Steps;
+use sq_road::Levels;
+use sq_value::{Fields, Tuple, Value};
+use std::alloc::AllocError;
+use std::sync::ledger::Ledger;
+
+/// Gives for each tuple one of the same time, whose values are those of the expressions (after SQuAl's Map, a generalised
+/// projection: Abadi and others, "Aurora", VLDB Journal 2003).
+#[derive(Drop)]
+pub struct MapBox {
+    exprs: Vec<Typed>,
+    tally: Tally,
+}
+
+impl MapBox {
+    /// A Map that nothing was fed to. It takes every tuple where it has 1 to 16 expressions, else none.
+    pub fn new(exprs: Vec<Typed>) -> MapBox
+        ensures list { (table : ℕ → ℕ → ℕ) (future : List Entry) (q : ℕ) → ⟦<MapBox as Operator>⟧.rest result table future q
+            ≡ at_zero q (things (map_list_of (trees exprs.items) (tuples_of future))) }
+        ensures fits { (port : ℕ) (fields : List Value) → ⟦<MapBox as Operator>⟧.fits result port fields ≡ makes_tuple exprs.items }
+        ensures unmarked { (port : ℕ) → ⟦<MapBox as Operator>⟧.takes_marks result port ≡ false }
+        ensures start { (⟦<MapBox as Operator>⟧.place result ≡ Place.Start) × (⟦<MapBox as Operator>⟧.taken result ≡ 0) }
+        ensures valid { ⟦<MapBox as Operator>⟧.valid result × IsTrue (⟦<MapBox as Operator>⟧.running result) }
+    {
+        MapBox {
+            exprs,
+            tally: Tally::new(),
+        }
+    }
+
+    fn send(&self, tuple: Tuple, out: &mut Outs) -> Result<(), AllocError>
+        requires few { IsTrue (makes_tuple self.now.exprs.items) }
+        requires sound { IsSoundTuple tuple }
+        ensures given { OnOk result ((q : ℕ) → given q out.new.items.items
+            ≡ given q out.old.items.items ++ at_zero q (things (map_list_of (trees self.now.exprs.items) (tuple ∷ [])))) }
+        ensures err { OnErr result (out.new.items.items ≡ out.old.items.items) }
+        ensures sound { ItemsSound out.old.items.items → ItemsSound out.new.items.items }
+        ensures extends { IsPrefixOf out.old.items.items out.new.items.items }
+        ensures drops { out.new.drops.items ≡ out.old.drops.items }
+    {
+        let made = map_tuple(*self.exprs.allocator(), &self.exprs, &tuple)?;
+        give_tuple(0, made, out)?;
+        Ok(())
+    }
+}
+
+impl Operator for MapBox {
+    ghost valid = { λ s. Unit {0} };
+
+    ghost running = { λ s. s.tally.running };
+
+    ghost taken = { λ s. s.tally.taken };
+
+    ghost place = { λ s. s.tally.place };
+
+    ghost takes_marks = { λ s port. false };
+
+    ghost fits = { λ s port fields. makes_tuple s.exprs.items };
+
+    ghost rest = { λ s table future q. map_rest s.exprs.items future q };
+
+    ghost decides = { λ s table future. [] };
+
+    ghost holds_little = { λ s time. (table : ℕ → ℕ → ℕ) (q : ℕ) → map_rest s.exprs.items [] q ≡ [] };
+
+    ghost lost = { λ s future. 0 };
+
+    #[tactic(auto, using(crate::proofs::BoxLemmas::box_lemmas))]
+    fn feed<L: Ledger>(
+        &mut self,
+        _levels: &Levels,
+        port: u32,
+        item: Item,
+        out: &mut Outs,
+        steps: &mut Steps<L>,
+    ) -> Result<(), AllocError> {
+        self.tally.note(port, &item);
+        let time = item.time;
+        if let Some(fields) = item.body {
+            self.send(Tuple { time, fields }, out)?;
+            steps.tick();
+        }
+        Ok(())
+    }
+
+    #[tactic(auto, using(crate::proofs::BoxLemmas::box_lemmas))]
+    fn finish(&mut self, _out: &mut Outs) -> Result<(), AllocError> {
+        self.tally.running = false;
+        Ok(())
+    }
+}

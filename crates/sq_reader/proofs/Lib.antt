@@ -1,0 +1,7 @@
+pub mod DocumentLemmas
+pub mod ShapedLemmas
+pub mod LimitLemmas
+pub mod NamingLemmas
+pub mod SourceLemmas
+pub mod ExpressionLemmas
+pub mod WiringLemmas

@@ -1,0 +1,77 @@
+-- Each stream that is named is there.
+use Rattle.std.proofs.Common.{◌≡◌, ◌∙◌, sym, ap, refl, subst, ℕ, ◌+◌, ◌<◌, true, List, [], ◌∷◌, ◌++◌, map, length, Option, Some, None, arith, slice_get, get_or, length-append}
+use Rattle.std.specs.List.{All, AllByRecursion, cons_option, filter_map, flat_map, enumerate_from}
+use Rattle.std.proofs.lemmas.List.Elements.{All-from_recursion}
+use Rattle.std.proofs.lemmas.List.FromFn.{length-map-range_with_len}
+use Rattle.std.proofs.lemmas.List.Quantifiers.{position-Some}
+use Rattle.std.proofs.lemmas.Option.{slice_get-get_or}
+use Rattle.sq_value.specs.Lists.{same_bytes, numbers_to}
+use Rattle.sq_graph.specs.declared.BoxWires.{BoxWires}
+use Rattle.sq_graph.specs.declared.Wiring.{Wiring}
+use Rattle.sq_graph.specs.Wires.{Source, Port, producers_of, producer_of}
+use Rattle.sq_graph.specs.Order.{is_there, IsWired}
+use Rattle.sq_reader.specs.declared.raw.RawBody.{RawBody}
+use Rattle.sq_reader.specs.declared.raw.RawBody.TheVariants.{Filter, Map, Union}
+use Rattle.sq_reader.specs.declared.raw.RawBox.{RawBox}
+use Rattle.sq_reader.specs.declared.raw.RawSource.{RawSource}
+use Rattle.sq_reader.specs.declared.raw.Raw.{Raw}
+use Rattle.sq_reader.specs.Shapes.{ports_of}
+use Rattle.sq_reader.specs.Streaming.{box_wires, port_name, port_names, stream_named, stream_names, wiring_by}
+
+named_low : (names : List (List ℕ)) (w : List ℕ) (s : ℕ) → stream_named names w ≡ Some s → s < length names
+named_low [] w s e = cc
+named_low (x ∷ xs) w s e = (position-Some (same_bytes w) (x ∷ xs) s x e).0
+
+ins_low : (names ins : List (List ℕ)) → AllByRecursion (λ s. s < length names) (filter_map (stream_named names) ins)
+ins_low names [] = tt
+ins_low names (w ∷ ws) = by_case (stream_named names w) refl (ins_low names ws)
+  where
+    by_case : (o : Option ℕ) → stream_named names w ≡ o → AllByRecursion (λ s. s < length names) (filter_map (stream_named names) ws)
+        → AllByRecursion (λ s. s < length names) (cons_option o (filter_map (stream_named names) ws))
+    by_case None e h = h
+    by_case (Some s) e h = (named_low names w s e, h)
+
+there_low : (w : Wiring) (s : ℕ) → s < length (producers_of w) → is_there (producer_of w s) ≡ true
+there_low w s low = rw (slice_get-get_or (producers_of w) s (Source 0) low) refl
+
+there_all : (w : Wiring) (n : ℕ) (xs : List ℕ) → n ≡ length (producers_of w) → AllByRecursion (λ s. s < n) xs → AllByRecursion (λ s. is_there (producer_of w s) ≡ true) xs
+there_all w n [] e h = tt
+there_all w n (s ∷ xs) e h = (there_low w s (let low = h.0 in omega (arith, low, e)), there_all w n xs e h.1)
+
+body_length : (name : List ℕ) (b : RawBody) → length (port_names name b) ≡ ports_of b
+body_length name (Filter preds) = length-map-range_with_len (λ i. port_name name (i + 1)) 0 (length preds + 1)
+body_length name (Map set) = refl
+body_length name Union = refl
+
+ports_length : (names : List (List ℕ)) (k : ℕ) (bs : List RawBox)
+    → length (flat_map (λ b. map (Port b.0) (numbers_to (b.1).ports)) (enumerate_from k (map (box_wires names) bs))) ≡ length (flat_map (λ b. port_names b.name b.body) bs)
+ports_length names k [] = refl
+ports_length names k (b ∷ bs) =
+    let more = ports_length names (k + 1) bs in
+    length-append (map (Port k) (numbers_to (ports_of b.body))) (flat_map (λ b. map (Port b.0) (numbers_to (b.1).ports)) (enumerate_from (k + 1) (map (box_wires names) bs)))
+    ∙ (rw (length-map-range_with_len (Port k) 0 (ports_of b.body), more, ← body_length b.name b.body) refl
+    ∙ sym (length-append (port_names b.name b.body) (flat_map (λ b. port_names b.name b.body) bs)))
+
+sources_length : (ss : List RawSource) → length (map (λ (s : RawSource). s.name) ss) ≡ length ss
+sources_length [] = refl
+sources_length (s ∷ ss) = let more = sources_length ss in omega arith
+
+producers_length : (names : List (List ℕ)) (r : Raw) → length (producers_of (wiring_by names r)) ≡ length (stream_names r)
+producers_length names r =
+    length-append (map Source (numbers_to (length r.sources))) (flat_map (λ b. map (Port b.0) (numbers_to (b.1).ports)) (enumerate_from 0 (map (box_wires names) r.boxes)))
+    ∙ (rw (length-map-range_with_len Source 0 (length r.sources), ports_length names 0 r.boxes, ← sources_length r.sources) refl
+    ∙ sym (length-append (map (λ (s : RawSource). s.name) r.sources) (flat_map (λ b. port_names b.name b.body) r.boxes)))
+
+wired_boxes : (w : Wiring) (names : List (List ℕ)) (bs : List RawBox) → length names ≡ length (producers_of w)
+    → AllByRecursion (λ (b : BoxWires). All (λ s. is_there (producer_of w s) ≡ true) b.inputs) (map (box_wires names) bs)
+wired_boxes w names [] e = tt
+wired_boxes w names (b ∷ bs) e = (
+  All-from_recursion (λ s. is_there (producer_of w s) ≡ true) (filter_map (stream_named names) b.ins) (there_all w (length names) (filter_map (stream_named names) b.ins) e (ins_low names b.ins)),
+  wired_boxes w names bs e,
+)
+
+pub is_wired : (names : List (List ℕ)) (r : Raw) → names ≡ stream_names r → IsWired (wiring_by names r)
+is_wired names r same =
+    let count : length names ≡ length (producers_of (wiring_by names r)) = ap length same ∙ sym (producers_length names r) in
+    All-from_recursion (λ (b : BoxWires). All (λ s. is_there (producer_of (wiring_by names r) s) ≡ true) b.inputs) (map (box_wires names) r.boxes)
+    (wired_boxes (wiring_by names r) names r.boxes count)

@@ -1,0 +1,15 @@
+pub mod Documents
+pub mod Readings
+pub mod Refusals
+pub mod Places
+pub mod Shapes
+pub mod ShapesSeen
+pub mod Unbuilt
+pub mod Rawly
+pub mod Limits
+pub mod Naming
+pub mod Streaming
+pub mod Sources
+pub mod Expressions
+pub mod Columns
+pub mod Networks

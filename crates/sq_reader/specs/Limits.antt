@@ -1,0 +1,54 @@
+-- The limits of numbers and lengths.
+use Rattle.std.specs.Prelude.{ℕ, ◌^◌, Bool, true, not, ◌&&◌, nat_le, if◌then◌else◌, List, length, position, ℤ, pos, int_le, Option, Some, option_map}
+use Rattle.std.specs.List.{list_all}
+use Rattle.sq_net.specs.declared.Part.TheVariants as part
+use Rattle.sq_net.specs.declared.Place.{Place}
+use Rattle.sq_reader.specs.declared.raw.RawSource.{RawSource}
+use Rattle.sq_reader.specs.declared.raw.RawBody.{RawBody}
+use Rattle.sq_reader.specs.declared.raw.RawBody.TheVariants.{Filter, Map, Union}
+use Rattle.sq_reader.specs.declared.raw.RawBox.{RawBox}
+use Rattle.sq_reader.specs.declared.raw.Raw.{Raw}
+use Rattle.sq_reader.specs.Places.{place_of, or_else}
+
+abbrev pub is_between : ℕ → ℕ → ℤ → Bool
+is_between low high z = int_le (pos low) z && int_le z (pos high)
+
+abbrev pub has_between : {A : Type 0} → ℕ → ℕ → List A → Bool
+has_between low high xs = nat_le low (length xs) && nat_le (length xs) high
+
+abbrev pub is_expression_long : List ℕ → Bool
+is_expression_long e = has_between 1 4096 e
+
+abbrev pub top_within : Raw → Bool
+top_within r =
+    has_between 1 8 r.sources && has_between 0 128 r.boxes && has_between 1 32 r.outputs
+    && is_between 1 (2 ^ 34) r.epoch && is_between 1 1000000 r.batch
+
+abbrev pub source_within : RawSource → Bool
+source_within s = has_between 1 255 s.file && has_between 1 16 s.fields
+
+abbrev pub body_within : RawBody → Bool
+body_within (Filter preds) = has_between 1 15 preds && list_all is_expression_long preds
+body_within (Map set) = has_between 1 16 set && list_all (λ e. is_expression_long e.text) set
+body_within Union = true
+
+abbrev pub inputs_within : RawBody → List (List ℕ) → Bool
+inputs_within (Filter preds) ins = has_between 1 1 ins
+inputs_within (Map set) ins = has_between 1 1 ins
+inputs_within Union ins = has_between 1 8 ins
+
+abbrev pub box_within : RawBox → Bool
+box_within b =
+    body_within b.body && inputs_within b.body b.ins && is_between 0 1000 b.cost && list_all (is_between 0 1000000) b.selectivity
+
+-- the number of the first item that fails a test
+abbrev pub first_failing : {A : Type 0} → (A → Bool) → List A → Option ℕ
+first_failing test xs = position (λ x. not (test x)) xs
+
+-- the file as a whole, then its sources, then its boxes
+abbrev pub limit_place : Raw → Option Place
+limit_place r =
+    if top_within r then or_else
+    (option_map (place_of part.Source) (first_failing source_within r.sources))
+    (option_map (place_of part.Box) (first_failing box_within r.boxes))
+    else Some (place_of part.Top 0)

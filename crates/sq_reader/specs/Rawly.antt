@@ -1,0 +1,35 @@
+-- The tables of a file one after another; the first that is out of shape refuses it.
+use Rattle.std.specs.Prelude.{ℕ, ◌+◌, List, [], ◌∷◌, Option, Some, None, Result, Ok, Err}
+use Rattle.toml.specs.Data.{Members}
+use Rattle.sq_net.specs.declared.Part.{Part}
+use Rattle.sq_net.specs.declared.Part.TheVariants as part
+use Rattle.sq_net.specs.declared.NetErr.{NetErr}
+use Rattle.sq_net.specs.declared.NetErr.TheVariants as broken
+use Rattle.sq_reader.specs.declared.raw.Raw.{Raw}
+use Rattle.sq_reader.specs.Places.{place_of}
+use Rattle.sq_reader.specs.Shapes.{Tables, top_in, source_in, box_in, output_in}
+
+infixl 10 ◌>>=◌
+abbrev pub ◌>>=◌ : {A B : Type 0} → Result A NetErr → (A → Result B NetErr) → Result B NetErr
+(Ok x) >>= f = f x
+(Err e) >>= f = Err e
+
+abbrev pub or_broken : {A : Type 0} → NetErr → Option A → Result A NetErr
+or_broken e None = Err e
+or_broken e (Some x) = Ok x
+
+-- each table, read by f; the first that is out of shape
+abbrev pub shaped_from : {A : Type 0} → Part → (Members → Option A) → ℕ → List Members → Result (List A) NetErr
+shaped_from p f n [] = Ok []
+shaped_from p f n (t ∷ ts) = do
+  x ← or_broken (broken.Shape (place_of p n)) (f t)
+  xs ← shaped_from p f (n + 1) ts
+  Ok (x ∷ xs)
+
+abbrev pub raw_in : Members → Result Raw NetErr
+raw_in ms = do
+  t ← or_broken (broken.Shape (place_of part.Top 0)) (top_in ms)
+  sources ← shaped_from part.Source source_in 0 t.sources
+  boxes ← shaped_from part.Box box_in 0 t.boxes
+  outputs ← shaped_from part.Output output_in 0 t.outputs
+  Ok (record { epoch = t.epoch; batch = t.batch; sources = sources; boxes = boxes; outputs = outputs })

@@ -1,0 +1,76 @@
+-- The streams by name and number, and the wiring.
+use Rattle.std.specs.Prelude.{ℕ, ◌+◌, Bool, is_some, List, [], ◌∷◌, ◌++◌, map, length, position, Option, Some, None, option_map}
+use Rattle.std.specs.List.{flat_map, filter_map, find}
+use Rattle.std.specs.Fmt.{decimal}
+use Rattle.sq_value.specs.Lists.{same_bytes, numbers_to}
+use Rattle.sq_graph.specs.declared.BoxKind.{BoxKind}
+use Rattle.sq_graph.specs.declared.BoxKind.TheVariants as boxes
+use Rattle.sq_graph.specs.declared.BoxWires.{BoxWires}
+use Rattle.sq_graph.specs.declared.Wiring.{Wiring}
+use Rattle.sq_graph.specs.Order.{is_on_cycle}
+use Rattle.sq_net.specs.declared.Part.TheVariants as part
+use Rattle.sq_net.specs.declared.Place.{Place}
+use Rattle.sq_reader.specs.declared.raw.RawBody.{RawBody}
+use Rattle.sq_reader.specs.declared.raw.RawBody.TheVariants.{Filter, Map, Union}
+use Rattle.sq_reader.specs.declared.raw.RawBox.{RawBox}
+use Rattle.sq_reader.specs.declared.raw.Raw.{Raw}
+use Rattle.sq_reader.specs.Places.{place_at, place_of, or_else}
+use Rattle.sq_reader.specs.Limits.{first_failing}
+use Rattle.sq_reader.specs.Shapes.{ports_of}
+
+-- the name of a port of a Filter; ports count from 1 in a file
+abbrev pub port_name : List ℕ → ℕ → List ℕ
+port_name name number = name ++ (46 ∷ decimal number)
+
+-- the streams of a box
+abbrev pub port_names : List ℕ → RawBody → List (List ℕ)
+port_names name (Filter preds) = map (λ i. port_name name (i + 1)) (numbers_to (length preds + 1))
+port_names name (Map set) = name ∷ []
+port_names name Union = name ∷ []
+
+-- the streams: each source, then those of each box
+abbrev pub stream_names : Raw → List (List ℕ)
+stream_names r = map (λ s. s.name) r.sources ++ flat_map (λ b. port_names b.name b.body) r.boxes
+
+-- the number of a stream, by these names
+abbrev pub stream_named : List (List ℕ) → List ℕ → Option ℕ
+stream_named names w = position (same_bytes w) names
+
+abbrev pub is_stream : List (List ℕ) → List ℕ → Bool
+is_stream names w = is_some (stream_named names w)
+
+abbrev pub unknown_in_boxes : List (List ℕ) → ℕ → List RawBox → Option Place
+unknown_in_boxes names n [] = None
+unknown_in_boxes names n (b ∷ bs) =
+    or_else (option_map (place_at part.Box n) (first_failing (is_stream names) b.ins)) (unknown_in_boxes names (n + 1) bs)
+
+-- the first name that is no stream's
+abbrev pub unknown_among : List (List ℕ) → Raw → Option Place
+unknown_among names r = or_else
+    (unknown_in_boxes names 0 r.boxes)
+    (option_map (place_of part.Output) (first_failing (λ o. is_stream names o.from) r.outputs))
+
+abbrev pub unknown_place : Raw → Option Place
+unknown_place r = unknown_among (stream_names r) r
+
+abbrev pub kind_of_body : RawBody → BoxKind
+kind_of_body (Filter preds) = boxes.Filter
+kind_of_body (Map set) = boxes.Map
+kind_of_body Union = boxes.Union
+
+abbrev pub box_wires : List (List ℕ) → RawBox → BoxWires
+box_wires names b = record { kind = kind_of_body b.body; inputs = filter_map (stream_named names) b.ins; ports = ports_of b.body }
+
+abbrev pub wiring_by : List (List ℕ) → Raw → Wiring
+wiring_by names r = record {
+  sources = length r.sources;
+  boxes = map (box_wires names) r.boxes;
+  outputs = filter_map (λ o. stream_named names o.from) r.outputs;
+}
+
+abbrev pub wiring_of : Raw → Wiring
+wiring_of r = wiring_by (stream_names r) r
+
+-- the least box on a cycle
+abbrev pub cycle_in : Wiring → Option Place
+cycle_in w = option_map (place_of part.Box) (find (is_on_cycle w) (numbers_to (length w.boxes)))

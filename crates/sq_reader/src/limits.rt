@@ -1,0 +1,136 @@
+// The limits of numbers and lengths.
+ghost use Rattle.std.specs.Prelude.{◌≡◌, ◌<◌, ◌^◌, length, option_map};
+ghost use Rattle.std.specs.List.{list_all};
+ghost use Rattle.sq_net.specs.declared.Part.TheVariants as part;
+ghost use Rattle.sq_reader.specs.Limits.{body_within, box_within, first_failing, has_between, inputs_within, is_between, is_expression_long, limit_place, source_within, top_within};
+ghost use Rattle.sq_reader.specs.Places.{place_at, place_of};
+
+use crate::raw::{Raw, RawBody, RawBox, RawSource, Setting};
+use sq_net::{Part, Place};
+use sq_value::Name;
+
+/// The place of a part as a whole.
+pub(crate) fn whole(part: Part, number: usize) -> Place
+    requires { number < 2 ^ 32 }
+    ensures { result ≡ place_of part number }
+{
+    Place {
+        part,
+        number: number as u32,
+        item: 0,
+    }
+}
+
+fn is_between(number: i64, low: u32, high: u64) -> bool
+    requires { high < 2 ^ 63 }
+    ensures { result ≡ is_between low high number }
+{
+    i64::from(low) <= number && number <= high as i64
+}
+
+fn has_between<T>(items: &[T], low: usize, high: usize) -> bool
+    ensures { result ≡ has_between low high items.now }
+{
+    low <= items.len() && items.len() <= high
+}
+
+fn is_expression_long(text: &Name) -> bool
+    ensures { result ≡ is_expression_long text.now }
+{
+    has_between(text.as_str().as_bytes(), 1, 4096)
+}
+
+fn top_within(raw: &Raw) -> bool
+    ensures { result ≡ top_within raw.now }
+{
+    has_between(raw.sources.as_slice(), 1, 8)
+        && has_between(raw.boxes.as_slice(), 0, 128)
+        && has_between(raw.outputs.as_slice(), 1, 32)
+        && is_between(raw.epoch, 1, 1 << 34)
+        && is_between(raw.batch, 1, 1_000_000)
+}
+
+fn source_within(source: &RawSource) -> bool
+    ensures { result ≡ source_within source.now }
+{
+    has_between(source.file.as_str().as_bytes(), 1, 255)
+        && has_between(source.fields.as_slice(), 1, 16)
+}
+
+fn are_long(texts: &[Name]) -> bool
+    ensures { result ≡ list_all is_expression_long texts.now }
+{
+    texts.iter().all(|text| is_expression_long(text))
+}
+
+fn are_set_long(set: &[Setting]) -> bool
+    ensures { result ≡ list_all (λ e. is_expression_long e.text) set.now }
+{
+    set.iter().all(|setting| is_expression_long(&setting.text))
+}
+
+fn body_within(body: &RawBody) -> bool
+    ensures { result ≡ body_within body.now }
+{
+    match body {
+        RawBody::Filter { preds } => {
+            has_between(preds.as_slice(), 1, 15) && are_long(preds.as_slice())
+        }
+        RawBody::Map { set } => has_between(set.as_slice(), 1, 16) && are_set_long(set.as_slice()),
+        RawBody::Union => true,
+    }
+}
+
+fn inputs_within(body: &RawBody, ins: &[Name]) -> bool
+    ensures { result ≡ inputs_within body.now ins.now }
+{
+    match body {
+        RawBody::Filter { .. } | RawBody::Map { .. } => has_between(ins, 1, 1),
+        RawBody::Union => has_between(ins, 1, 8),
+    }
+}
+
+fn are_permille(selectivity: &[i64]) -> bool
+    ensures { result ≡ list_all (is_between 0 1000000) selectivity.now }
+{
+    selectivity
+        .iter()
+        .all(|number| is_between(*number, 0, 1_000_000))
+}
+
+fn box_within(b: &RawBox) -> bool
+    ensures { result ≡ box_within b.now }
+{
+    body_within(&b.body)
+        && inputs_within(&b.body, b.ins.as_slice())
+        && is_between(b.cost, 0, 1000)
+        && are_permille(b.selectivity.as_slice())
+}
+
+fn wide_source(sources: &[RawSource]) -> Option<usize>
+    ensures { result ≡ first_failing source_within sources.now }
+{
+    sources.iter().position(|source| !source_within(source))
+}
+
+fn wide_box(boxes: &[RawBox]) -> Option<usize>
+    ensures { result ≡ first_failing box_within boxes.now }
+{
+    boxes.iter().position(|b| !box_within(b))
+}
+
+/// The first place where a number or a length is out of its limits.
+pub(crate) fn limit_place(raw: &Raw) -> Option<Place>
+    ensures { result ≡ limit_place raw.now }
+{
+    if !top_within(raw) {
+        return Some(whole(Part::Top, 0));
+    }
+    if let Some(number) = wide_source(raw.sources.as_slice()) {
+        return Some(whole(Part::Source, number));
+    }
+    if let Some(number) = wide_box(raw.boxes.as_slice()) {
+        return Some(whole(Part::Box, number));
+    }
+    None
+}

@@ -1,0 +1,166 @@
+// The rules on a whole file, one after another, and the network.
+ghost use Rattle.std.specs.Prelude.{◌≡◌, ◌<◌, ◌≤◌, ◌^◌, ◌∷◌, [], ℕ, false, Ok, Err, Some, None, IfOk, IfErr, OnOk, length, map};
+ghost use Rattle.std.specs.List.{filter_map, find};
+ghost use Rattle.sq_value.specs.Lists.{numbers_to};
+ghost use Rattle.sq_graph.specs.Order.{is_on_cycle, order_of, IsWired};
+ghost use Rattle.sq_net.specs.declared.NetErr.TheVariants as broken;
+ghost use Rattle.sq_net.specs.declared.Part.TheVariants as part;
+ghost use Rattle.sq_reader.specs.Networks.{even_graph, named_network, ordered_network, output_of, single_network, streamed_network, typed_network, wired_network};
+ghost use Rattle.sq_reader.specs.Places.{place_of};
+ghost use Rattle.sq_reader.specs.Refusals.{Answers, is_memory};
+ghost use Rattle.sq_reader.specs.Streaming.{cycle_in, stream_names, wiring_by};
+
+use crate::limits::limit_place;
+use crate::names::{name_place, twice_place};
+use crate::nodes::{natural, nodes_in};
+use crate::raw::{Raw, RawOutput};
+use crate::sources::sources_in;
+use crate::streams::{stream_names, unknown_place, wiring};
+use sq_graph::{OrderErr, Wiring, order};
+use sq_net::{NetErr, Network, Node, Output, Part, Place};
+use sq_qos::Graph;
+use sq_value::{ListOf, Name, copy_name};
+use std::alloc::{AllocError, Global};
+
+fn known(alloc: Global, nodes: Vec<Option<Node>>) -> Result<Vec<Node>, AllocError>
+    ensures { IfOk result (λ v. v.items ≡ filter_map (λ o. o) nodes.items) }
+{
+    nodes.into_iter().filter_map(|node| node).collect(alloc)
+}
+
+fn even_graph(alloc: Global) -> Result<Graph, AllocError>
+    ensures { IfOk result (λ g. g ≡ even_graph) }
+{
+    let points = Vec::from_slice(alloc, &[(0, 0), (1000, 1_000_000)])?;
+    match Graph::new(points) {
+        Ok(graph) => Ok(graph),
+        Err(_) => Err(AllocError),
+    }
+}
+
+fn output_of(alloc: Global, output: &RawOutput) -> Result<Output, AllocError>
+    ensures { IfOk result (λ o. o ≡ output_of output.now) }
+{
+    let name = copy_name(&output.name)?;
+    let graph = even_graph(alloc)?;
+    Ok(Output {
+        name,
+        weight: 1,
+        graph,
+    })
+}
+
+fn outputs_of(alloc: Global, outputs: &[RawOutput]) -> Result<Vec<Output>, AllocError>
+    ensures { IfOk result (λ v. v.items ≡ map output_of outputs.now) }
+{
+    let mut found = Vec::new(alloc);
+    for output in outputs {
+        found.push(output_of(alloc, output)?)?;
+    }
+    Ok(found)
+}
+
+// The order of the boxes, or the least one on a cycle.
+fn order_in(alloc: Global, w: &Wiring) -> Result<Vec<u32>, NetErr>
+    requires few { length w.now.boxes < 2 ^ 32 }
+    requires wired { IsWired w.now }
+    ensures ok { IfOk result (λ v. v.items ≡ order_of w.now) }
+    ensures acyclic { OnOk result (cycle_in w.now ≡ None) }
+    ensures err { IfErr result (λ e. is_memory e ≡ false → (at : ℕ) × (e ≡ broken.Cycle (place_of part.Box at)) × (cycle_in w.now ≡ Some (place_of part.Box at))) }
+{
+    match order(alloc, w) {
+        Ok(order) => Ok(order),
+        Err(OrderErr::Cycle { at }) => Err(NetErr::Cycle(Place {
+            part: Part::Box,
+            number: at,
+            item: 0,
+        })),
+        Err(OrderErr::Memory) => Err(NetErr::Memory),
+    }
+}
+
+fn ordered_network(
+    alloc: Global,
+    raw: &Raw,
+    wires: Wiring,
+    order: &[u32],
+) -> Result<Network, NetErr>
+    requires few { length wires.boxes < 2 ^ 32 }
+    requires ordered { order.now ≡ order_of wires }
+    ensures { Answers result (ordered_network raw.now wires) }
+{
+    let sources = sources_in(alloc, raw.sources.as_slice())?;
+    let nodes = nodes_in(alloc, raw, &wires, &sources, order)?;
+    let boxes = known(alloc, nodes)?;
+    let outputs = outputs_of(alloc, raw.outputs.as_slice())?;
+    let epoch = natural(raw.epoch)?;
+    let batch = natural(raw.batch)?;
+    Ok(Network {
+        epoch,
+        batch,
+        wires,
+        sources: ListOf::new(sources),
+        boxes: ListOf::new(boxes),
+        outputs: ListOf::new(outputs),
+    })
+}
+
+fn wired_network(alloc: Global, raw: &Raw, wires: Wiring) -> Result<Network, NetErr>
+    requires few { length wires.boxes < 2 ^ 32 }
+    requires wired { IsWired wires }
+    ensures { Answers result (wired_network raw.now wires) }
+{
+    let order = order_in(alloc, &wires)?;
+    ordered_network(alloc, raw, wires, &order)
+}
+
+fn streamed_network(alloc: Global, raw: &Raw, names: &[Name]) -> Result<Network, NetErr>
+    requires names { names.now ≡ stream_names raw.now }
+    requires few { length names.now < 2 ^ 32 }
+    requires sources { length raw.now.sources ≤ 8 }
+    requires boxes { length raw.now.boxes ≤ 128 }
+    requires outputs { length raw.now.outputs ≤ 32 }
+    ensures { Answers result (streamed_network raw.now names.now) }
+{
+    if let Some(place) = unknown_place(names, raw)? {
+        return Err(NetErr::Unknown(place));
+    }
+    let wires = wiring(alloc, names, raw)?;
+    wired_network(alloc, raw, wires)
+}
+
+fn single_network(alloc: Global, raw: &Raw) -> Result<Network, NetErr>
+    requires sources { length raw.now.sources ≤ 8 }
+    requires boxes { length raw.now.boxes ≤ 128 }
+    requires outputs { length raw.now.outputs ≤ 32 }
+    ensures { Answers result (single_network raw.now) }
+{
+    if let Some(place) = twice_place(alloc, raw)? {
+        return Err(NetErr::Twice(place));
+    }
+    let names = stream_names(alloc, raw)?;
+    streamed_network(alloc, raw, &names)
+}
+
+fn named_network(alloc: Global, raw: &Raw) -> Result<Network, NetErr>
+    requires sources { length raw.now.sources ≤ 8 }
+    requires boxes { length raw.now.boxes ≤ 128 }
+    requires outputs { length raw.now.outputs ≤ 32 }
+    ensures { Answers result (named_network raw.now) }
+{
+    if let Some(place) = name_place(raw) {
+        return Err(NetErr::NoName(place));
+    }
+    single_network(alloc, raw)
+}
+
+/// The network of a file's tables, or the first broken rule.
+#[tactic(auto, using(crate::proofs::LimitLemmas::counts_of))]
+pub(crate) fn typed_network(alloc: Global, raw: &Raw) -> Result<Network, NetErr>
+    ensures { Answers result (typed_network raw.now) }
+{
+    if let Some(place) = limit_place(raw) {
+        return Err(NetErr::Limit(place));
+    }
+    named_network(alloc, raw)
+}

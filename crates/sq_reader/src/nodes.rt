@@ -1,0 +1,208 @@
+// The boxes in their order, each typed on what it takes.
+ghost use Rattle.std.specs.Prelude.{◌≡◌, ◌<◌, ◌^◌, false, Ok, Err, IfOk, IfErr, Some, length, map, slice_set};
+ghost use Rattle.sq_reader.specs.Columns.{body_of, body_on, filter_of, map_of, nat_of, no_nodes, node_at, node_in, nodes_from, union_of};
+ghost use Rattle.sq_reader.specs.Refusals.{Answers, is_memory};
+
+use crate::boxes::{
+    bad_name, copies_of, kinds_set, names_set, predicates_in, schemas_taken, texts_set, unlike,
+    values_in,
+};
+use crate::raw::{Raw, RawBody, RawBox, Setting};
+use crate::reading::push;
+use crate::sources::{schema_fault, schema_of};
+use sq_graph::Wiring;
+use sq_net::{Body, NetErr, Node, Part, Source, copy_schema};
+use sq_value::{ListOf, Name, Schema, copy_name};
+use std::alloc::{AllocError, Global};
+
+fn filter_of(
+    alloc: Global,
+    number: usize,
+    preds: &[Name],
+    scope: &Schema,
+) -> Result<(Body, Vec<Schema>), NetErr>
+    ensures ok { IfOk result (λ t. filter_of number preds.now scope.now ≡ Ok (t.0, t.1.items)) }
+    ensures err { IfErr result (λ e. is_memory e ≡ false → filter_of number preds.now scope.now ≡ Err e) }
+{
+    let typed = predicates_in(alloc, number, preds, scope)?;
+    let ports = copies_of(alloc, scope, preds.len() + 1)?;
+    Ok((
+        Body::Filter {
+            preds: ListOf::new(typed),
+        },
+        ports,
+    ))
+}
+
+fn map_of(
+    alloc: Global,
+    number: usize,
+    set: &[Setting],
+    scope: &Schema,
+) -> Result<(Body, Vec<Schema>), NetErr>
+    ensures ok { IfOk result (λ t. map_of number set.now scope.now ≡ Ok (t.0, t.1.items)) }
+    ensures err { IfErr result (λ e. is_memory e ≡ false → map_of number set.now scope.now ≡ Err e) }
+{
+    let names = names_set(alloc, set)?;
+    if let Some(item) = bad_name(alloc, &names)? {
+        return Err(schema_fault(Part::Box, number, item));
+    }
+    let texts = texts_set(alloc, set)?;
+    let typed = values_in(alloc, number, &texts, scope)?;
+    let kinds = kinds_set(alloc, &typed)?;
+    let schema = schema_of(names, kinds)?;
+    let mut ports = Vec::new(alloc);
+    push(&mut ports, schema)?;
+    Ok((
+        Body::Map {
+            exprs: ListOf::new(typed),
+        },
+        ports,
+    ))
+}
+
+fn union_of(
+    alloc: Global,
+    number: usize,
+    ins: &[Schema],
+    first: &Schema,
+) -> Result<(Body, Vec<Schema>), NetErr>
+    ensures ok { IfOk result (λ t. union_of number ins.now first.now ≡ Ok (t.0, t.1.items)) }
+    ensures err { IfErr result (λ e. is_memory e ≡ false → union_of number ins.now first.now ≡ Err e) }
+{
+    if let Some(item) = unlike(ins, first) {
+        return Err(schema_fault(Part::Box, number, item));
+    }
+    let mut ports = Vec::new(alloc);
+    push(&mut ports, copy_schema(alloc, first)?)?;
+    Ok((Body::Union, ports))
+}
+
+fn body_on(
+    alloc: Global,
+    number: usize,
+    body: &RawBody,
+    ins: &[Schema],
+    first: &Schema,
+) -> Result<(Body, Vec<Schema>), NetErr>
+    ensures ok { IfOk result (λ t. body_on number body.now ins.now first.now ≡ Ok (t.0, t.1.items)) }
+    ensures err { IfErr result (λ e. is_memory e ≡ false → body_on number body.now ins.now first.now ≡ Err e) }
+{
+    match body {
+        RawBody::Filter { preds } => filter_of(alloc, number, preds.as_slice(), first),
+        RawBody::Map { set } => map_of(alloc, number, set.as_slice(), first),
+        RawBody::Union => union_of(alloc, number, ins, first),
+    }
+}
+
+fn body_of(
+    alloc: Global,
+    number: usize,
+    body: &RawBody,
+    ins: &[Schema],
+) -> Result<(Body, Vec<Schema>), NetErr>
+    ensures ok { IfOk result (λ t. body_of number body.now ins.now ≡ Ok (t.0, t.1.items)) }
+    ensures err { IfErr result (λ e. is_memory e ≡ false → body_of number body.now ins.now ≡ Err e) }
+{
+    match ins.first() {
+        Some(first) => body_on(alloc, number, body, ins, first),
+        None => Err(NetErr::Memory),
+    }
+}
+
+pub(crate) fn natural(number: i64) -> Result<u64, AllocError>
+    ensures { IfOk result (λ n. n ≡ nat_of number) }
+{
+    match u64::try_from(number) {
+        Ok(number) => Ok(number),
+        Err(_) => Err(AllocError),
+    }
+}
+
+fn naturals(alloc: Global, numbers: &[i64]) -> Result<Vec<u64>, AllocError>
+    ensures { IfOk result (λ v. v.items ≡ map nat_of numbers.now) }
+{
+    let mut found = Vec::new(alloc);
+    for number in numbers {
+        found.push(natural(*number)?)?;
+    }
+    Ok(found)
+}
+
+fn node_in(alloc: Global, number: usize, b: &RawBox, ins: &[Schema]) -> Result<Node, NetErr>
+    ensures { Answers result (node_in number b.now ins.now) }
+{
+    let (body, schemas) = body_of(alloc, number, &b.body, ins)?;
+    let name = copy_name(&b.name)?;
+    let cost = natural(b.cost)?;
+    let selectivity = naturals(alloc, b.selectivity.as_slice())?;
+    Ok(Node {
+        name,
+        body,
+        schemas: ListOf::new(schemas),
+        cost,
+        selectivity: ListOf::new(selectivity),
+    })
+}
+
+fn no_nodes(alloc: Global, count: usize) -> Result<Vec<Option<Node>>, AllocError>
+    ensures { IfOk result (λ v. v.items ≡ no_nodes count) }
+{
+    let mut nodes = Vec::new(alloc);
+    for _at in 0..count {
+        nodes.push(None)?;
+    }
+    Ok(nodes)
+}
+
+fn node_at(
+    alloc: Global,
+    raw: &Raw,
+    w: &Wiring,
+    sources: &[Source],
+    nodes: &[Option<Node>],
+    at: usize,
+) -> Result<Node, NetErr>
+    requires { length w.now.boxes < 2 ^ 32 }
+    ensures { Answers result (node_at raw.now w.now sources.now nodes.now at) }
+{
+    let Some(b) = raw.boxes.as_slice().get(at) else {
+        return Err(NetErr::Memory);
+    };
+    let Some(wires) = w.boxes.as_slice().get(at) else {
+        return Err(NetErr::Memory);
+    };
+    let ins = schemas_taken(alloc, w, sources, nodes, wires.inputs.as_slice())?;
+    node_in(alloc, at, b, &ins)
+}
+
+fn put(nodes: &mut Vec<Option<Node>>, at: usize, node: Node)
+    ensures { nodes.new.items ≡ slice_set nodes.old.items at (Some node) }
+{
+    if at < nodes.len() {
+        nodes[at] = Some(node);
+    }
+}
+
+/// The boxes, put at their places in this order, or the first that can't be typed.
+pub(crate) fn nodes_in(
+    alloc: Global,
+    raw: &Raw,
+    w: &Wiring,
+    sources: &[Source],
+    order: &[u32],
+) -> Result<Vec<Option<Node>>, NetErr>
+    requires { length w.now.boxes < 2 ^ 32 }
+    ensures ok { IfOk result (λ v. nodes_from raw.now w.now sources.now (no_nodes (length raw.now.boxes)) order.now ≡ Ok v.items) }
+    ensures err { IfErr result (λ e. is_memory e ≡ false → nodes_from raw.now w.now sources.now (no_nodes (length raw.now.boxes)) order.now ≡ Err e) }
+{
+    let mut nodes = no_nodes(alloc, raw.boxes.as_slice().len())?;
+    for at in order {
+        let node = match node_at(alloc, raw, w, sources, &nodes, *at as usize) {
+            Ok(node) => node,
+            Err(e) => return Err(e),
+        };
+        put(&mut nodes, *at as usize, node);
+    }
+    Ok(nodes)
+}
