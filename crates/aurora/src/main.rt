@@ -57,19 +57,5 @@ fn run<L: Ledger>(rt: &HostRuntime, blank: Blank) -> Status
 
 fn main(rt: HostRuntime) -> ExitCode {
     let status = run::<Brand>(&rt, Blank::new(1));
-    ExitCode::from(code(&status))
-}
-
-// until sq_top has it
-fn code(status: &Status) -> u8 {
-    match status {
-        Status::Ok => 0,
-        Status::Usage => 2,
-        Status::BadNetwork(_) => 3,
-        Status::BadStream { .. } => 6,
-        Status::FolderFault { .. } => 7,
-        Status::SinkFault => 10,
-        Status::TooLong { .. } => 11,
-        Status::Memory => 12,
-    }
+    ExitCode::from(status.code())
 }

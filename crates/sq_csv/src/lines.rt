@@ -1,12 +1,11 @@
 // The lines that a run writes.
-ghost use Rattle.std.specs.Prelude.{false, ◌≡◌, ◌++◌, ◌||◌, ◌∷◌, [], map, OnOk, OnErr, IfOk};
+ghost use Rattle.std.specs.Prelude.{◌≡◌, ◌++◌, ◌∷◌, [], false, map, OnOk, OnErr, IfOk};
 ghost use Rattle.std.specs.Fmt.{decimal, signed_decimal};
 ghost use Rattle.std.specs.List.{list_any};
 ghost use Rattle.sq_value.specs.Lists.{IsPrefixOf};
 ghost use Rattle.sq_value.specs.LineTexts.{box_line, end_line, late_line, needs_quotes, output_line};
 ghost use Rattle.sq_value.specs.Texts.{text_of};
 ghost use Rattle.csv.specs.Records.{fields_of, partial_of};
-ghost use Rattle.csv.specs.Writing.{default_writer, row_text};
 ghost use Rattle.sq_csv.specs.Rows.{any_quotes, bare_fields, bare_row};
 
 use crate::written::{append_line, needs_quotes, record_line};

@@ -1,21 +1,18 @@
 -- Values have the kinds of their expressions; a schema is its names and its kinds.
-use Rattle.std.proofs.Common.{◌≡◌, ℕ, zero, suc, Bool, true, false, ◌&&◌, ◌||◌, if◌then◌else◌, List, [], ◌∷◌, ℤ, pos, refl, ap, arith}
-use Rattle.std.specs.Prelude.{Option, Some, None, not, int_div, int_rem}
+use Rattle.std.proofs.Common.{◌≡◌, ℕ, zero, suc, Bool, true, false, if◌then◌else◌, List, [], ◌∷◌, ℤ, refl, ap, arith}
 use Rattle.std.specs.List.{zip}
-use Rattle.std.specs.Ordering.{int_eq}
 use Rattle.sq_value.specs.declared.Kind.TheVariants as kind
 use Rattle.sq_value.specs.declared.Value.{Value}
 use Rattle.sq_value.specs.declared.Value.TheVariants as value
 use Rattle.sq_value.specs.declared.Tuple.{Tuple}
-use Rattle.sq_value.specs.Values.{Columns, field, fields_fit, int_or_null, is_i64, is_null, is_of_kind, kinds_of, names_of}
+use Rattle.sq_value.specs.Values.{Columns, field, fields_fit, is_of_kind, kinds_of, names_of}
 use Rattle.sq_expr.specs.declared.UnaryOp.{UnaryOp}
 use Rattle.sq_expr.specs.declared.UnaryOp.TheVariants as unary
 use Rattle.sq_expr.specs.declared.ArithmeticOp.{ArithmeticOp}
 use Rattle.sq_expr.specs.declared.ArithmeticOp.TheVariants as arithmetic
-use Rattle.sq_expr.specs.declared.CompareOp.{CompareOp}
 use Rattle.sq_expr.specs.declared.LogicOp.{LogicOp}
 use Rattle.sq_expr.specs.Trees.{Expr, Literal, Time, Field, Unary, Arithmetic, Compare, Logic}
-use Rattle.sq_expr.specs.Expressions.{arithmetic_of, arithmetic_value, compare_of, compare_value, logic_value, quotient_or_null, unary_value, value_of}
+use Rattle.sq_expr.specs.Expressions.{arithmetic_value, logic_value, unary_value, value_of}
 use Rattle.sq_expr.specs.Kinds.{has_kind, kind_at, kind_in, unary_kind}
 
 pub columns_of_parts : (cs : Columns) → zip (names_of cs) (kinds_of cs) ≡ cs

@@ -1,9 +1,8 @@
 -- What the grammar derives is read so.
-use Rattle.std.proofs.Common.{◌≡◌, ◌≢◌, ◌⊎◌, inl, inr, ℕ, zero, suc, ◌+◌, ◌<◌, ◌≤◌, ◌==◌, Bool, true, false, if◌then◌else◌, List, [], ◌∷◌, ◌++◌, length, map, refl, sym, ◌∙◌, ap, arith, subst, rules}
+use Rattle.std.proofs.Common.{◌≡◌, ◌⊎◌, inl, inr, ℕ, suc, ◌+◌, ◌<◌, ◌≤◌, ◌==◌, Bool, true, false, if◌then◌else◌, List, [], ◌∷◌, ◌++◌, length, map, refl, sym, ◌∙◌, ap, arith}
 use Rattle.std.specs.Prelude.{Ok, Err, nat_le, nat_lt}
 use Rattle.std.proofs.lemmas.Bool.Decides.{nat_tests}
 use Rattle.sq_value.specs.declared.Value.TheVariants as value
-use Rattle.sq_expr.specs.declared.What.{What}
 use Rattle.sq_expr.specs.declared.What.TheVariants as what
 use Rattle.sq_expr.specs.declared.UnaryOp.TheVariants as unary
 use Rattle.sq_expr.specs.declared.ArithmeticOp.{ArithmeticOp}
@@ -15,8 +14,7 @@ use Rattle.sq_expr.specs.declared.tokens.Token.{Token}
 use Rattle.sq_expr.specs.declared.tokens.Token.TheVariants as token
 use Rattle.sq_expr.specs.declared.parsing.Frame.{Frame}
 use Rattle.sq_expr.specs.declared.parsing.Frame.TheVariants as frame
-use Rattle.sq_expr.specs.declared.parsing.Mode.{Mode}
-use Rattle.sq_expr.specs.declared.parsing.Mode.TheVariants.{Wanted, Read, Tested, Is, IsNot}
+use Rattle.sq_expr.specs.declared.parsing.Mode.TheVariants.{Wanted, Read, Tested, Is}
 use Rattle.sq_expr.specs.declared.parsing.Reader.{Reader}
 use Rattle.sq_expr.specs.Asts.{Ast, Literal, Time, Named, Unary, Arithmetic, Compare, Logic}
 use Rattle.sq_expr.specs.Tokens.{Placed, tokens_of}
@@ -193,12 +191,15 @@ taken m n a f fs s le tight h = record {
 }
 
 reads_looser : (n : ℕ) (ts : List Token) (a : Ast) (fs : List Frame) → Reads (suc n) ts a fs → Reads n ts a fs
-reads_looser n ts a fs (s, ran, h) =
-    (s, ran, record {
-      operand = h.operand;
-      mode = looser_mode n (suc n) s h.operand (omega arith) h.mode;
-      closed = closes_further n (suc n) h.operand a s.stack fs (omega arith) h.closed;
-    })
+reads_looser n ts a fs (s, ran, h) = (
+  s,
+  ran,
+  record {
+    operand = h.operand;
+    mode = looser_mode n (suc n) s h.operand (omega arith) h.mode;
+    closed = closes_further n (suc n) h.operand a s.stack fs (omega arith) h.closed;
+  },
+)
 
 -- ---- the grammar's rules, one by one
 
@@ -206,72 +207,80 @@ reads_logic : (o : LogicOp) (xs ys : List Token) (a b : Ast) (fs : List Frame) �
     → Reads (logic_tightness o) xs a fs → Reads (suc (logic_tightness o)) ys b (frame.Logic o a ∷ fs)
     → Reads (logic_tightness o) (xs ++ (token.Logic o ∷ ys)) (Logic o a b) fs
 reads_logic o xs ys a b fs loose (s, ran, h) (u, next, k) =
-    let closed = h.closed ∙ stops (logic_tightness o) a fs loose in
-    (u,
-     run_joined (reader fs Wanted) s (reader (frame.Logic o a ∷ fs) Wanted) u xs ys (token.Logic o) ran
-        (step_logic o a h.operand fs s (either_mode (logic_tightness o) s h.operand h.mode) closed) next,
-     taken (logic_tightness o) (suc (logic_tightness o)) b (frame.Logic o a) fs u (omega arith) (omega arith) k)
+    let closed = h.closed ∙ stops (logic_tightness o) a fs loose in (
+      u,
+      run_joined (reader fs Wanted) s (reader (frame.Logic o a ∷ fs) Wanted) u xs ys (token.Logic o) ran
+          (step_logic o a h.operand fs s (either_mode (logic_tightness o) s h.operand h.mode) closed) next,
+      taken (logic_tightness o) (suc (logic_tightness o)) b (frame.Logic o a) fs u (omega arith) (omega arith) k,
+    )
 
 reads_arithmetic : (o : ArithmeticOp) (xs ys : List Token) (a b : Ast) (fs : List Frame) → innermost fs < arithmetic_tightness o → 5 ≤ arithmetic_tightness o
     → Reads (arithmetic_tightness o) xs a fs → Reads (suc (arithmetic_tightness o)) ys b (frame.Arithmetic o a ∷ fs)
     → Reads (arithmetic_tightness o) (xs ++ (token.Arithmetic o ∷ ys)) (Arithmetic o a b) fs
 reads_arithmetic o xs ys a b fs loose high (s, ran, h) (u, next, k) =
-    let closed = h.closed ∙ stops (arithmetic_tightness o) a fs loose in
-    (u,
-     run_joined (reader fs Wanted) s (reader (frame.Arithmetic o a ∷ fs) Wanted) u xs ys (token.Arithmetic o) ran
-        (step_arithmetic o a h.operand fs s (plain_mode (arithmetic_tightness o) s h.operand high h.mode) closed) next,
-     taken (arithmetic_tightness o) (suc (arithmetic_tightness o)) b (frame.Arithmetic o a) fs u (omega arith) (omega arith) k)
+    let closed = h.closed ∙ stops (arithmetic_tightness o) a fs loose in (
+      u,
+      run_joined (reader fs Wanted) s (reader (frame.Arithmetic o a ∷ fs) Wanted) u xs ys (token.Arithmetic o) ran
+          (step_arithmetic o a h.operand fs s (plain_mode (arithmetic_tightness o) s h.operand high h.mode) closed) next,
+      taken (arithmetic_tightness o) (suc (arithmetic_tightness o)) b (frame.Arithmetic o a) fs u (omega arith) (omega arith) k,
+    )
 
 reads_compare : (o : CompareOp) (xs ys : List Token) (a b : Ast) (fs : List Frame) → innermost fs < 4
     → Reads 5 xs a fs → Reads 5 ys b (frame.Compare o a ∷ fs) → Reads 4 (xs ++ (token.Compare o ∷ ys)) (Compare o a b) fs
 reads_compare o xs ys a b fs loose (s, ran, h) (u, next, k) =
-    let closed = h.closed ∙ stops 5 a fs (omega arith) in
-    (u,
-     run_joined (reader fs Wanted) s (reader (frame.Compare o a ∷ fs) Wanted) u xs ys (token.Compare o) ran
-        (step_compare o a h.operand fs s (plain_mode 5 s h.operand (omega arith) h.mode) loose closed) next,
-     taken 4 5 b (frame.Compare o a) fs u (omega arith) (omega arith) k)
+    let closed = h.closed ∙ stops 5 a fs (omega arith) in (
+      u,
+      run_joined (reader fs Wanted) s (reader (frame.Compare o a ∷ fs) Wanted) u xs ys (token.Compare o) ran
+          (step_compare o a h.operand fs s (plain_mode 5 s h.operand (omega arith) h.mode) loose closed) next,
+      taken 4 5 b (frame.Compare o a) fs u (omega arith) (omega arith) k,
+    )
 
 reads_null_test : (xs : List Token) (a : Ast) (fs : List Frame) → innermost fs < 4 → Reads 5 xs a fs
     → Reads 4 (xs ++ (token.Is ∷ token.Literal value.Null ∷ [])) (Unary unary.IsNull a) fs
 reads_null_test xs a fs loose (s, ran, h) =
-    let closed = h.closed ∙ stops 5 a fs (omega arith) in
-    (reader fs (Tested (Unary unary.IsNull a)),
-     run_joined (reader fs Wanted) s (reader fs (Is a)) (reader fs (Tested (Unary unary.IsNull a))) xs (token.Literal value.Null ∷ []) token.Is ran
-        (step_is a h.operand fs s (plain_mode 5 s h.operand (omega arith) h.mode) loose closed) refl,
-     record { operand = Unary unary.IsNull a; mode = inr (refl, omega arith); closed = refl })
+    let closed = h.closed ∙ stops 5 a fs (omega arith) in (
+      reader fs (Tested (Unary unary.IsNull a)),
+      run_joined (reader fs Wanted) s (reader fs (Is a)) (reader fs (Tested (Unary unary.IsNull a))) xs (token.Literal value.Null ∷ []) token.Is ran
+          (step_is a h.operand fs s (plain_mode 5 s h.operand (omega arith) h.mode) loose closed) refl,
+      record { operand = Unary unary.IsNull a; mode = inr (refl, omega arith); closed = refl },
+    )
 
 reads_not_null_test : (xs : List Token) (a : Ast) (fs : List Frame) → innermost fs < 4 → Reads 5 xs a fs
     → Reads 4 (xs ++ (token.Is ∷ token.Not ∷ token.Literal value.Null ∷ [])) (Unary unary.IsNotNull a) fs
 reads_not_null_test xs a fs loose (s, ran, h) =
-    let closed = h.closed ∙ stops 5 a fs (omega arith) in
-    (reader fs (Tested (Unary unary.IsNotNull a)),
-     run_joined (reader fs Wanted) s (reader fs (Is a)) (reader fs (Tested (Unary unary.IsNotNull a))) xs (token.Not ∷ token.Literal value.Null ∷ []) token.Is ran
-        (step_is a h.operand fs s (plain_mode 5 s h.operand (omega arith) h.mode) loose closed) refl,
-     record { operand = Unary unary.IsNotNull a; mode = inr (refl, omega arith); closed = refl })
+    let closed = h.closed ∙ stops 5 a fs (omega arith) in (
+      reader fs (Tested (Unary unary.IsNotNull a)),
+      run_joined (reader fs Wanted) s (reader fs (Is a)) (reader fs (Tested (Unary unary.IsNotNull a))) xs (token.Not ∷ token.Literal value.Null ∷ []) token.Is ran
+          (step_is a h.operand fs s (plain_mode 5 s h.operand (omega arith) h.mode) loose closed) refl,
+      record { operand = Unary unary.IsNotNull a; mode = inr (refl, omega arith); closed = refl },
+    )
 
 reads_negation : (room : ℕ) (ts : List Token) (a : Ast) (fs : List Frame) → depth_of fs + suc room ≡ 64 → innermost fs ≤ 3
     → Reads 3 ts a (frame.Not ∷ fs) → Reads 3 (token.Not ∷ ts) (Unary unary.Not a) fs
 reads_negation room ts a fs deep loose (s, ran, h) =
     let low : nat_le (innermost fs) 3 ≡ true = grind (arith, nat_tests) in
     let step : step_of (reader fs Wanted) token.Not ≡ Ok (reader (frame.Not ∷ fs) Wanted) =
-        ap (λ (b : Bool). let st : Stepped = if b then opened frame.Not fs else Err what.Expected in st) low ∙ opens frame.Not fs room deep in
+    ap (λ (b : Bool). let st : Stepped = if b then opened frame.Not fs else Err what.Expected in st) low ∙ opens frame.Not fs room deep in
     (s, run_first (reader fs Wanted) (reader (frame.Not ∷ fs) Wanted) s ts token.Not step ran, taken 3 3 a frame.Not fs s (omega arith) (omega arith) h)
 
 reads_sign : (room : ℕ) (ts : List Token) (a : Ast) (fs : List Frame) → depth_of fs + suc room ≡ 64
     → Reads 7 ts a (frame.Negate ∷ fs) → Reads 7 (token.Arithmetic arithmetic_op.Minus ∷ ts) (Unary unary.Negate a) fs
-reads_sign room ts a fs deep (s, ran, h) =
-    (s, run_first (reader fs Wanted) (reader (frame.Negate ∷ fs) Wanted) s ts (token.Arithmetic arithmetic_op.Minus) (opens frame.Negate fs room deep) ran,
-     taken 7 7 a frame.Negate fs s (omega arith) (omega arith) h)
+reads_sign room ts a fs deep (s, ran, h) = (
+  s,
+  run_first (reader fs Wanted) (reader (frame.Negate ∷ fs) Wanted) s ts (token.Arithmetic arithmetic_op.Minus) (opens frame.Negate fs room deep) ran,
+  taken 7 7 a frame.Negate fs s (omega arith) (omega arith) h,
+)
 
 reads_parenthesis : (room : ℕ) (ts : List Token) (a : Ast) (fs : List Frame) → depth_of fs + suc room ≡ 64
     → Reads 1 ts a (frame.Open ∷ fs) → Reads 8 (token.Open ∷ (ts ++ (token.Close ∷ []))) a fs
 reads_parenthesis room ts a fs deep (s, ran, h) =
     let inner : run (reader (frame.Open ∷ fs) Wanted) (ts ++ (token.Close ∷ [])) ≡ Ok (reader fs (Read a)) =
-        run_joined (reader (frame.Open ∷ fs) Wanted) s (reader fs (Read a)) (reader fs (Read a)) ts [] token.Close ran
-            (step_close a h.operand fs s (either_mode 1 s h.operand h.mode) h.closed) refl in
-    (reader fs (Read a),
-     run_first (reader fs Wanted) (reader (frame.Open ∷ fs) Wanted) (reader fs (Read a)) (ts ++ (token.Close ∷ [])) token.Open (opens frame.Open fs room deep) inner,
-     record { operand = a; mode = inl refl; closed = refl })
+    run_joined (reader (frame.Open ∷ fs) Wanted) s (reader fs (Read a)) (reader fs (Read a)) ts [] token.Close ran
+    (step_close a h.operand fs s (either_mode 1 s h.operand h.mode) h.closed) refl in (
+      reader fs (Read a),
+      run_first (reader fs Wanted) (reader (frame.Open ∷ fs) Wanted) (reader fs (Read a)) (ts ++ (token.Close ∷ [])) token.Open (opens frame.Open fs room deep) inner,
+      record { operand = a; mode = inl refl; closed = refl },
+    )
 
 reads_one : (t : Token) (a : Ast) (fs : List Frame) → step_of (reader fs Wanted) t ≡ Ok (reader fs (Read a)) → Reads 8 (t ∷ []) a fs
 reads_one t a fs step =

@@ -13,22 +13,22 @@ use Rattle.sq_expr.specs.declared.LogicOp.{LogicOp}
 use Rattle.sq_expr.specs.declared.tokens.Token.{Token}
 use Rattle.sq_expr.specs.declared.tokens.Token.TheVariants as token
 use Rattle.sq_expr.specs.Asts.{Ast, Literal, Time, Named, Unary, Arithmetic, Compare, Logic}
-use Rattle.sq_expr.specs.Tokens.{Placed, tokens_of}
+use Rattle.sq_expr.specs.Tokens.{tokens_of}
 use Rattle.sq_expr.specs.Grammar.{arithmetic_tightness, logic_tightness}
 
 pub data IsExpr : ℕ → ℕ → List Token → Ast → Type 0 where
   tighter : (n room : ℕ) (ts : List Token) (a : Ast) → IsExpr (suc n) room ts a → IsExpr n room ts a
   logic : (o : LogicOp) (room : ℕ) (xs ys : List Token) (a b : Ast) → IsExpr (logic_tightness o) room xs a → IsExpr (suc (logic_tightness o)) room ys b
-    → IsExpr (logic_tightness o) room (xs ++ (token.Logic o ∷ ys)) (Logic o a b)
+      → IsExpr (logic_tightness o) room (xs ++ (token.Logic o ∷ ys)) (Logic o a b)
   negation : (room : ℕ) (ts : List Token) (a : Ast) → IsExpr 3 room ts a → IsExpr 3 (suc room) (token.Not ∷ ts) (Unary unary.Not a)
   comparison : (o : CompareOp) (room : ℕ) (xs ys : List Token) (a b : Ast) → IsExpr 5 room xs a → IsExpr 5 room ys b
-    → IsExpr 4 room (xs ++ (token.Compare o ∷ ys)) (Compare o a b)
+      → IsExpr 4 room (xs ++ (token.Compare o ∷ ys)) (Compare o a b)
   null_test : (room : ℕ) (ts : List Token) (a : Ast) → IsExpr 5 room ts a
-    → IsExpr 4 room (ts ++ (token.Is ∷ token.Literal value.Null ∷ [])) (Unary unary.IsNull a)
+      → IsExpr 4 room (ts ++ (token.Is ∷ token.Literal value.Null ∷ [])) (Unary unary.IsNull a)
   not_null_test : (room : ℕ) (ts : List Token) (a : Ast) → IsExpr 5 room ts a
-    → IsExpr 4 room (ts ++ (token.Is ∷ token.Not ∷ token.Literal value.Null ∷ [])) (Unary unary.IsNotNull a)
+      → IsExpr 4 room (ts ++ (token.Is ∷ token.Not ∷ token.Literal value.Null ∷ [])) (Unary unary.IsNotNull a)
   arithmetic : (o : ArithmeticOp) (room : ℕ) (xs ys : List Token) (a b : Ast) → IsExpr (arithmetic_tightness o) room xs a
-    → IsExpr (suc (arithmetic_tightness o)) room ys b → IsExpr (arithmetic_tightness o) room (xs ++ (token.Arithmetic o ∷ ys)) (Arithmetic o a b)
+      → IsExpr (suc (arithmetic_tightness o)) room ys b → IsExpr (arithmetic_tightness o) room (xs ++ (token.Arithmetic o ∷ ys)) (Arithmetic o a b)
   sign : (room : ℕ) (ts : List Token) (a : Ast) → IsExpr 7 room ts a → IsExpr 7 (suc room) (token.Arithmetic arithmetic_op.Minus ∷ ts) (Unary unary.Negate a)
   literal : (room : ℕ) (v : Value) → IsExpr 8 room (token.Literal v ∷ []) (Literal v)
   time : (room : ℕ) → IsExpr 8 room (token.Time ∷ []) Time

@@ -475,5 +475,4 @@ pub fn parse(alloc: Global, text: &str) -> Result<Ast, ParseErr>
 /// A text that the grammar derives is read as what the grammar says it is, so no text is two expressions.
 pub fn grammar_is_read()
     ensures { (text : List ℕ) (a : AstTree) → IsTextOf text a → parse_in text ≡ Ok a }
-{
-}
+{}

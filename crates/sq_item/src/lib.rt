@@ -8,8 +8,8 @@
 ghost use Rattle.std.specs.Prelude.{◌≡◌, IfOk};
 ghost use Rattle.sq_item.specs.Sound.{IsSound};
 
-use sq_value::{Fields, ListOf, copy_value};
-use std::alloc::{AllocError, Global};
+use sq_value::{Fields, copy_fields};
+use std::alloc::AllocError;
 
 /// What a window drop says of a batch of windows, at the tick at which the batch begins.
 #[derive(Clone, Copy, Debug, PartialEq, Eq, Drop)]
@@ -30,35 +30,25 @@ pub struct Item {
     pub body: Option<Fields>,
 }
 
-fn copy_fields(alloc: Global, fields: &Fields) -> Result<Fields, AllocError>
-    ensures { IfOk result (λ copy. copy ≡ fields.now) }
-{
-    let mut copies = Vec::new(alloc);
-    for v in fields.as_slice() {
-        copies.push(copy_value(v)?)?;
-    }
-    Ok(ListOf::new(copies))
-}
-
-fn copy_body(alloc: Global, body: &Option<Fields>) -> Result<Option<Fields>, AllocError>
+fn copy_body(body: &Option<Fields>) -> Result<Option<Fields>, AllocError>
     ensures { IfOk result (λ copy. copy ≡ body.now) }
 {
     match body {
         None => Ok(None),
         Some(fields) => {
-            let copy = copy_fields(alloc, fields)?;
+            let copy = copy_fields(fields)?;
             Ok(Some(copy))
         }
     }
 }
 
 /// A copy of an item.
-pub fn copy_item(alloc: Global, item: &Item) -> Result<Item, AllocError>
+pub fn copy_item(item: &Item) -> Result<Item, AllocError>
     requires { IsSound item.now }
     ensures copy { IfOk result (λ copy. copy ≡ item.now) }
     ensures sound { IfOk result (λ copy. IsSound copy) }
 {
-    let body = copy_body(alloc, &item.body)?;
+    let body = copy_body(&item.body)?;
     Ok(Item {
         time: item.time,
         mark: item.mark,
@@ -69,7 +59,7 @@ pub fn copy_item(alloc: Global, item: &Item) -> Result<Item, AllocError>
 #[cfg(test)]
 mod tests {
     use super::*;
-    use sq_value::Value;
+    use sq_value::{ListOf, Value};
     use std::test::Fail;
 
     #[test]
@@ -80,7 +70,7 @@ mod tests {
             mark: Some(Mark::Open { until: 9 }),
             body: Some(ListOf::new(vec![in alloc; Value::Int(1)]?)),
         };
-        let copy = copy_item(alloc, &item)?;
+        let copy = copy_item(&item)?;
         assert_eq!(rt; copy.time, 5);
         assert_eq!(rt; copy.mark, Some(Mark::Open { until: 9 }));
         let Some(fields) = copy.body else {

@@ -2,5 +2,4 @@ pub mod LeastLemmas
 pub mod SorterLemmas
 pub mod SorterFacts
 pub mod HeldLemmas
-pub mod StableSorts
 mod ListRows

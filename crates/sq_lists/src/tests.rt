@@ -1,5 +1,8 @@
+ghost use Rattle.std.specs.Prelude.{◌≤◌, length};
+
 use super::*;
-use sq_value::{ListOf, Tuple, Value};
+use sq_expr::{Typed, check, parse};
+use sq_value::{Kind, ListOf, Name, Schema, Tuple, Value};
 use std::alloc::{AllocError, Global};
 use std::test::Fail;
 
@@ -53,5 +56,47 @@ fn a_sort_holds_one_more_than_its_slack(rt: HostRuntime) -> Result<(), Fail> {
         return Err(Fail::from("two tuples"));
     };
     assert!(rt; is_at(a, 1, 1) && is_at(b, 3, 3));
+    Ok(())
+}
+
+// An expression over tuples of one number `v`.
+fn over_v(alloc: Global, text: &str) -> Result<Typed, Fail>
+    requires { length text.now ≤ 4096 }
+{
+    let names = vec![in alloc; Name::new(alloc, "v")?]?;
+    let scope = Schema::new(names, vec![in alloc; Kind::Int]?)?;
+    let ast = parse(alloc, text)?;
+    Ok(check(alloc, &ast, &scope)?)
+}
+
+#[test]
+fn a_filter_gives_null_at_the_last_port(rt: HostRuntime) -> Result<(), Fail> {
+    let alloc = rt.alloc();
+    let preds = vec![in alloc; over_v(alloc, "v >= 10")?, over_v(alloc, "v >= 5")?]?;
+    let null = Tuple {
+        time: 3,
+        fields: ListOf::new(vec![in alloc; Value::Null]?),
+    };
+    let inputs = vec![in alloc; at(alloc, 1, 7)?, at(alloc, 2, 12)?, null, at(alloc, 4, 2)?]?;
+    let first = filter_list(alloc, &preds, 0, &inputs)?;
+    let second = filter_list(alloc, &preds, 1, &inputs)?;
+    let last = filter_list(alloc, &preds, 2, &inputs)?;
+    let ([a], [b], [c, d]) = (first.as_slice(), second.as_slice(), last.as_slice()) else {
+        return Err(Fail::from("four tuples"));
+    };
+    assert!(rt; is_at(a, 2, 12) && is_at(b, 1, 7) && c.time == 3 && is_at(d, 4, 2));
+    Ok(())
+}
+
+#[test]
+fn a_map_keeps_the_times(rt: HostRuntime) -> Result<(), Fail> {
+    let alloc = rt.alloc();
+    let exprs = vec![in alloc; over_v(alloc, "v + v")?]?;
+    let inputs = vec![in alloc; at(alloc, 3, 4)?, at(alloc, 5, 6)?]?;
+    let made = map_list(alloc, &exprs, &inputs)?;
+    let [a, b] = made.as_slice() else {
+        return Err(Fail::from("two tuples"));
+    };
+    assert!(rt; is_at(a, 3, 8) && is_at(b, 5, 12));
     Ok(())
 }

@@ -13,3 +13,6 @@ mod tally;
 pub use operator::Operator;
 pub use outs::{Decision, Event, Outs};
 pub use tally::{Place, Tally};
+
+#[cfg(test)]
+mod tests;

@@ -7,4 +7,3 @@ pub mod Parts
 pub mod Plans
 pub mod Prices
 mod RoadRows
-pub mod Sorting

@@ -1,5 +1,5 @@
 -- A text that begins the text of all lines that are due has a prefix of each class; the whole text has each class whole.
-use Rattle.std.proofs.Common.{◌≡◌, ◌≢◌, ◌⊎◌, inl, inr, ℕ, Bool, true, false, not, ◌&&◌, ◌||◌, List, [], ◌∷◌, ◌++◌, length, take, drop, refl, ap, sym, ◌∙◌, subst, append-nil, append_assoc, Option, Some, rules}
+use Rattle.std.proofs.Common.{◌≡◌, ◌≢◌, inl, inr, ℕ, Bool, true, false, not, ◌&&◌, ◌||◌, List, [], ◌∷◌, ◌++◌, length, drop, refl, ap, sym, ◌∙◌, subst, append-nil, Some}
 use Rattle.std.specs.Prelude.{if◌then◌else◌, slice_get, codes, IsSomeAnd, IsTrue, ⊤}
 use Rattle.std.specs.List.{AllByRecursion, filter, flat_map, list_all, list_any}
 use Rattle.std.proofs.lemmas.List.Elements.{filter-append}
@@ -8,9 +8,9 @@ use Rattle.std.proofs.lemmas.List.Folds.{list_all-append}
 use Rattle.sq_value.specs.Lists.{same_bytes, IsPrefixOf}
 use Rattle.sq_value.specs.Classes.{Class, Shown, Dropped, Planned, Ended, first_field, is_of_class, of_class, whole_lines, unfinished}
 use Rattle.sq_value.proofs.ListLemmas.{same_bytes-true, same_bytes-refl}
-use Rattle.sq_value.proofs.LineLemmas.{AreLines, Cut, IsFront, cut_prefix, is_line, text_of_lines, unfinished-cut, whole_lines-cut, whole_lines-lines, unfinished-lines}
+use Rattle.sq_value.proofs.LineLemmas.{AreLines, Cut, IsFront, cut_prefix, is_line, unfinished-cut, whole_lines-cut, whole_lines-lines, unfinished-lines}
 use Rattle.sq_top.specs.Due.{Due, all_lines, all_text}
-use Rattle.sq_top.specs.Answers.{AreOthersWhole, BeginsNext, EndsLast, IsClassIn, IsPrefixText, IsWholeText, is_classed, lines_of}
+use Rattle.sq_top.specs.Answers.{AreOthersWhole, BeginsNext, IsClassIn, IsPrefixText, IsWholeText, is_classed, lines_of}
 use Rattle.sq_top.proofs.SortedLines.{InBack, InFront, and-true, cut_twice, filter_same, list_all-back, list_all-front, slice_get-next}
 
 -- a name that doesn't begin with `@`
@@ -161,9 +161,10 @@ or_true false b h = h
 
 own_names : (os : Outputs) → AllByRecursion (λ o. list_any (λ x. same_bytes o.0 x.0) os ≡ true) os
 own_names [] = tt
-own_names (o ∷ os) =
-    (rw (same_bytes-refl o.0) refl,
-    all_map {P = λ y. list_any (λ x. same_bytes y.0 x.0) os ≡ true} (λ y h. or_true (same_bytes y.0 o.0) (list_any (λ x. same_bytes y.0 x.0) os) h) os (own_names os))
+own_names (o ∷ os) = (
+  rw (same_bytes-refl o.0) refl,
+  all_map {P = λ y. list_any (λ x. same_bytes y.0 x.0) os ≡ true} (λ y h. or_true (same_bytes y.0 o.0) (list_any (λ x. same_bytes y.0 x.0) os) h) os (own_names os),
+)
 
 classed_line : (d : Due) (n l : List ℕ) → list_any (λ x. same_bytes n x.0) d.shown ≡ true → first_field l ≡ n → is_classed d l ≡ true
 classed_line d n l named e = let first : list_any (λ x. same_bytes (first_field l) x.0) d.shown ≡ true = rw e named in rw first refl
@@ -297,7 +298,7 @@ module _ (d : Due) (s : IsSound d) (text : List ℕ) (c : Cut (all_lines d) text
   ends_after : of_class Ended text ≢ [] → AreOthersWhole d text
   ends_after some =
       elim (cut_twice (flat_map (λ o. o.1) d.shown) d.ended c.done c.rest c.lines_are) [
-        inl b ↦ others_whole d s text c b
+        | inl b ↦ others_whole d s text c b
         | inr f ↦ absurd (some (of_class_is d s text c Ended ∙ no_end_done f))
       ]
 
@@ -320,7 +321,7 @@ module _ (d : Due) (s : IsSound d) (text : List ℕ) (c : Cut (all_lines d) text
   next_classed : is_classed d f.next ≡ true
   next_classed =
       let rest : list_all (is_classed d) c.rest ≡ true =
-          list_all-back (is_classed d) c.done c.rest (subst (λ ls. list_all (is_classed d) ls ≡ true) c.lines_are (classed d s)) in
+      list_all-back (is_classed d) c.done c.rest (subst (λ ls. list_all (is_classed d) ls ≡ true) c.lines_are (classed d s)) in
       (and-true (is_classed d f.next) (list_all (is_classed d) f.more) (subst (λ ls. list_all (is_classed d) ls ≡ true) f.rest_is rest)).0
 
   next_class : HasClass d f.next
@@ -336,9 +337,10 @@ module _ (d : Due) (s : IsSound d) (text : List ℕ) (c : Cut (all_lines d) text
       ∙ slice_get-next (filter p c.done) f.next (filter p f.more)
 
   begins : IsPrefixOf (unfinished text) f.next
-  begins =
-      (drop f.size f.next,
-      sym (take-append-drop f.size f.next) ∙ ap (λ x. x ++ drop f.size f.next) (sym f.part_is ∙ sym (unfinished-cut (all_lines d) text c (are_lines d s))))
+  begins = (
+    drop f.size f.next,
+    sym (take-append-drop f.size f.next) ∙ ap (λ x. x ++ drop f.size f.next) (sym f.part_is ∙ sym (unfinished-cut (all_lines d) text c (are_lines d s))),
+  )
 
   begins_next : (k : Class) → IsClassIn d k → is_of_class k f.next ≡ true → BeginsNext d text k
   begins_next k here of = (here, subst (λ o. IsSomeAnd o (λ next. IsPrefixOf (unfinished text) next)) (sym (next_line k here of)) begins)
@@ -348,13 +350,13 @@ module _ (d : Due) (s : IsSound d) (text : List ℕ) (c : Cut (all_lines d) text
       let p = is_of_class Ended in
       let same : g.next ≡ f.next = same_first g.next f.next (g.more ++ d.ended) f.more (sym g.rest_is ∙ f.rest_is) in
       let none = nothing_after (filter p c.done) (filter p (g.next ∷ g.more))
-          (sym (filter-append p c.done (g.next ∷ g.more)) ∙ sym (ap (filter p) g.front_is) ∙ no_shown_end d s) in
+      (sym (filter-append p c.done (g.next ∷ g.more)) ∙ sym (ap (filter p) g.front_is) ∙ no_shown_end d s) in
       subst (λ x. p x ≡ false) same (none_first p (p g.next) g.next g.more refl none)
 
   ends_next : is_of_class Ended f.next ≡ true → AreOthersWhole d text
   ends_next of =
       elim (cut_twice (flat_map (λ o. o.1) d.shown) d.ended c.done c.rest c.lines_are) [
-        inl b ↦ others_whole d s text c b
+        | inl b ↦ others_whole d s text c b
         | inr g ↦ absurd (let other = no_end_next g in cc)
       ]
 
@@ -367,9 +369,9 @@ prefix_text d text s prefix =
       lines = prefix_of_class d s text c;
       classed = rw whole_is (list_all-front (is_classed d) c.done c.rest (subst (λ ls. list_all (is_classed d) ls ≡ true) c.lines_are (classed d s)));
       begun = elim c.part_is [
-        inl none ↦ inl (unfinished-cut (all_lines d) text c (are_lines d s) ∙ none)
+        | inl none ↦ inl (unfinished-cut (all_lines d) text c (are_lines d s) ∙ none)
         | inr f ↦ let k = next_class d s text c f in
-          inr (k.class, begins_next d s text c f k.class k.here k.of, λ e. ends_next d s text c f (subst (λ x. is_of_class x f.next ≡ true) e k.of))
+            inr (k.class, begins_next d s text c f k.class k.here k.of, λ e. ends_next d s text c f (subst (λ x. is_of_class x f.next ≡ true) e k.of))
       ];
       ends_last = ends_after d s text c;
     }

@@ -1,26 +1,24 @@
 -- How a run ends.
-use Rattle.std.proofs.Common.{◌≡◌, ◌≢◌, ◌⊎◌, inl, inr, ℕ, ◌+◌, ◌<◌, ◌≤◌, Bool, true, false, not, ◌&&◌, ◌||◌, List, [], ◌∷◌, ◌++◌, length, refl, ap, sym, ◌∙◌, subst, arith, append-nil, Option, None, Some}
-use Rattle.std.specs.Prelude.{⊤, map, nat_lt, nat_le, if◌then◌else◌, IsSome, Result, Ok, Err, codes}
+use Rattle.std.proofs.Common.{◌≡◌, ◌≢◌, ◌⊎◌, inl, inr, ℕ, ◌+◌, ◌≤◌, Bool, true, false, not, ◌&&◌, List, [], ◌∷◌, length, refl, ap, sym, subst, arith, append-nil, Option, None, Some}
+use Rattle.std.specs.Prelude.{⊤, map, IsSome, Result, Ok, Err, codes}
 use Rattle.std.specs.Option.{option_and_then}
 use Rattle.std.specs.Fmt.{decimal}
 use Rattle.std.specs.List.{AllByRecursion, list_all, list_any}
 use Rattle.std.proofs.lemmas.Bool.Decides.{nat_tests}
 use Rattle.sq_value.specs.declared.Tuple.{Tuple}
-use Rattle.sq_value.specs.Lists.{IsPrefixOf, same_bytes}
+use Rattle.sq_value.specs.Lists.{same_bytes}
 use Rattle.sq_value.specs.LineTexts.{line_of, needs_quotes, output_line, box_line, end_line}
-use Rattle.sq_value.specs.Texts.{text_of, is_digit}
-use Rattle.sq_value.specs.Classes.{Ended, first_field, is_of_class}
+use Rattle.sq_value.specs.Texts.{text_of}
 use Rattle.sq_value.proofs.RowLemmas.{first_field-line_of, is_line-line_of}
-use Rattle.sq_outside.specs.Faults.{Rose, RoseBy}
+use Rattle.sq_outside.specs.Faults.{Rose}
 use Rattle.sq_outside.specs.Folders.{Files, file}
 use Rattle.sq_outside.specs.Sinks.{AppendsPrefix, appended}
 use Rattle.sq_top.specs.declared.Status.{Status}
 use Rattle.sq_top.specs.declared.Status.TheVariants as status
-use Rattle.sq_top.specs.declared.NetErr.TheVariants as net
 use Rattle.sq_top.specs.declared.form.FirstNetwork.{FirstNetwork}
 use Rattle.sq_top.specs.Commands.{command_in}
-use Rattle.sq_top.specs.FirstForm.{after, box_part, first_form, network_of, has_good_names, has_name_form, is_file_name, is_lower, is_name, may_follow, output_part, reserved, source_part, when, when_good}
-use Rattle.sq_top.specs.Due.{Due, Replay, all_text, due_of, full_answer, work_of}
+use Rattle.sq_top.specs.FirstForm.{box_part, first_form, network_of, has_good_names, has_name_form, is_file_name, is_lower, is_name, may_follow, output_part, reserved, source_part, when}
+use Rattle.sq_top.specs.Due.{Replay, all_text, due_of, full_answer, work_of}
 use Rattle.sq_top.specs.Answers.{IsPrefixText, IsWholeText}
 use Rattle.sq_top.specs.Writing.{IsLost}
 use Rattle.sq_top.specs.declared.Why.{Why}
@@ -28,10 +26,10 @@ use Rattle.sq_top.specs.declared.Command.{Command}
 use Rattle.sq_top.specs.declared.Command.TheVariants as command
 use Rattle.sq_top.specs.FirstStream.{first_stream}
 use Rattle.sq_top.specs.Scripts.{Lookup, accepted, after_network, after_words, go_on, outcome_of, readable, replay_with, settings_limit, stream_limit}
-use Rattle.sq_top.specs.Causes.{AnswersPrefix, AnswersWhole, AppendsSuch, Ends, FolderHasCause, HasFailedAt, IsStopped, MatchAccepted, NamesSource, RefusalHasCause, UsageHasCause, WhereTold, World, is_refusal}
+use Rattle.sq_top.specs.Causes.{AnswersPrefix, AnswersWhole, AppendsSuch, Ends, HasFailedAt, IsStopped, MatchAccepted, RefusalHasCause, WhereTold, World, is_refusal}
 use Rattle.sq_top.proofs.SortedLines.{and-true}
 use Rattle.sq_top.proofs.FormLemmas.{name_parts}
-use Rattle.sq_top.proofs.DueLemmas.{is_end_field, IsEndLine, IsPlainName, IsShownLine, IsSound, prefix_text, whole_text}
+use Rattle.sq_top.proofs.DueLemmas.{is_end_field, IsEndLine, IsShownLine, IsSound, prefix_text, whole_text}
 
 record Both {A B : Type 0} (o : Option A) (f : A → Option B) (b : B) : Type 0 where
   first : A
@@ -189,21 +187,21 @@ no_fault files words fb fn s r (inr memory) cause quiet e = inr memory
 pub stopped_ends : (words : List (List ℕ)) (w : World) (s : Status) (source : List ℕ) → IsStopped words w.told w.folder_before w.folder_now w.taken_before w.taken_now s source
     → w.out_now ≡ w.out_before → w.steps_now ≡ w.steps_before → Ends words w s source
 stopped_ends words w s source h out steps = record {
-    ok = λ e. absurd (not_ok s h.ends e);
-    other = λ e. where_told w.told (λ files. AnswersPrefix files words w.out_before w.out_now w.steps_before w.steps_now)
-        (λ files t. nothing_between files words w.out_before w.out_now w.steps_before w.steps_now out steps);
-    refused_early = λ e. (out, steps);
-    usage = h.usage;
-    refusal = h.refusal;
-    folder = h.folder;
-    no_memory = h.no_memory;
-    sink = λ e. absurd (not_sink s h.ends e);
-    complete = λ quiet dry. where_told w.told (λ files. MatchAccepted (accepted (file files) words) (λ r. (s ≡ status.Ok) ⊎ (s ≡ status.Memory)) (λ t. ⊤))
-        (λ files t. match_each (accepted (file files) words) _ _
-        (λ r e. no_fault files words w.folder_before w.folder_now s r h.ends (at_told w.told (λ x. RefusalHasCause x words w.folder_before w.folder_now s) files t h.refusal) quiet e)
-        (λ u e. tt));
-    named = h.named;
-  }
+  ok = λ e. absurd (not_ok s h.ends e);
+  other = λ e. where_told w.told (λ files. AnswersPrefix files words w.out_before w.out_now w.steps_before w.steps_now)
+      (λ files t. nothing_between files words w.out_before w.out_now w.steps_before w.steps_now out steps);
+  refused_early = λ e. (out, steps);
+  usage = h.usage;
+  refusal = h.refusal;
+  folder = h.folder;
+  no_memory = h.no_memory;
+  sink = λ e. absurd (not_sink s h.ends e);
+  complete = λ quiet dry. where_told w.told (λ files. MatchAccepted (accepted (file files) words) (λ r. (s ≡ status.Ok) ⊎ (s ≡ status.Memory)) (λ t. ⊤))
+      (λ files t. match_each (accepted (file files) words) _ _
+      (λ r e. no_fault files words w.folder_before w.folder_now s r h.ends (at_told w.told (λ x. RefusalHasCause x words w.folder_before w.folder_now s) files t h.refusal) quiet e)
+      (λ u e. tt));
+  named = h.named;
+}
 
 some_none : (o : Option Command) → IsSome o → o ≡ None → ⊥
 some_none None some e = absurd (cc)
@@ -220,28 +218,28 @@ module _ (words : List (List ℕ)) (w : World) (r : Replay) (source : List ℕ) 
   refusal_at : (s : Status) → is_refusal s ≡ false → ((name : List ℕ) → s ≡ status.FolderFault name → ⊥)
       → WhereTold w.told (λ files. RefusalHasCause files words w.folder_before w.folder_now s)
   refusal_at s replay no_fault' = where_told w.told (λ files. RefusalHasCause files words w.folder_before w.folder_now s) (λ files t. record {
-      only = λ refused. absurd (cc);
-      when = subst (λ o. MatchAccepted o (λ x. ⊤) (λ u. (s ≡ u) ⊎ (s ≡ status.Memory) ⊎ Rose w.folder_before w.folder_now)) (sym (accepted_at files t)) tt;
-      reached = λ name e. absurd (no_fault' name e);
-    })
+    only = λ refused. absurd (cc);
+    when = subst (λ o. MatchAccepted o (λ x. ⊤) (λ u. (s ≡ u) ⊎ (s ≡ status.Memory) ⊎ Rose w.folder_before w.folder_now)) (sym (accepted_at files t)) tt;
+    reached = λ name e. absurd (no_fault' name e);
+  })
 
   pub answered_ok : w.out_now ≡ appended w.out_before (all_text (due_of r)) → w.steps_now ≡ w.steps_before + work_of r → Ends words w status.Ok source
   answered_ok out steps = record {
-      ok = λ e. where_told w.told (λ files. AnswersWhole files words w.out_before w.out_now w.steps_before w.steps_now)
-          (λ files t. subst (λ o. MatchAccepted o (λ x. AppendsSuch w.out_before w.out_now (IsWholeText (due_of x)) × (w.steps_now ≡ w.steps_before + work_of x)) (λ u. ⊥))
-          (sym (accepted_at files t))
-          (appends_all w.out_before w.out_now (all_text (due_of r)) (IsWholeText (due_of r)) out (whole_text (due_of r) (sound_at files t)), steps));
-      other = λ e. absurd (e refl);
-      refused_early = λ e. absurd (cc);
-      usage = record { only = λ e. absurd (cc); when = λ e. absurd (some_none (command_in words) some e) };
-      refusal = refusal_at status.Ok refl (λ name e. cc);
-      folder = record { failed = λ name e. absurd (cc); too_long = λ name e. absurd (cc) };
-      no_memory = λ e. absurd (cc);
-      sink = λ e. absurd (cc);
-      complete = λ quiet dry. where_told w.told (λ files. MatchAccepted (accepted (file files) words) (λ x. (status.Ok ≡ status.Ok) ⊎ (status.Ok ≡ status.Memory)) (λ t. ⊤))
-          (λ files t. match_each (accepted (file files) words) _ _ (λ x e. inl refl) (λ u e. tt));
-      named = λ e. absurd (cc);
-    }
+    ok = λ e. where_told w.told (λ files. AnswersWhole files words w.out_before w.out_now w.steps_before w.steps_now)
+        (λ files t. subst (λ o. MatchAccepted o (λ x. AppendsSuch w.out_before w.out_now (IsWholeText (due_of x)) × (w.steps_now ≡ w.steps_before + work_of x)) (λ u. ⊥))
+        (sym (accepted_at files t))
+        (appends_all w.out_before w.out_now (all_text (due_of r)) (IsWholeText (due_of r)) out (whole_text (due_of r) (sound_at files t)), steps));
+    other = λ e. absurd (e refl);
+    refused_early = λ e. absurd (cc);
+    usage = record { only = λ e. absurd (cc); when = λ e. absurd (some_none (command_in words) some e) };
+    refusal = refusal_at status.Ok refl (λ name e. cc);
+    folder = record { failed = λ name e. absurd (cc); too_long = λ name e. absurd (cc) };
+    no_memory = λ e. absurd (cc);
+    sink = λ e. absurd (cc);
+    complete = λ quiet dry. where_told w.told (λ files. MatchAccepted (accepted (file files) words) (λ x. (status.Ok ≡ status.Ok) ⊎ (status.Ok ≡ status.Memory)) (λ t. ⊤))
+        (λ files t. match_each (accepted (file files) words) _ _ (λ x e. inl refl) (λ u e. tt));
+    named = λ e. absurd (cc);
+  }
 
   prefix_at : AppendsPrefix w.out_before w.out_now (all_text (due_of r)) → w.steps_now ≤ w.steps_before + work_of r
       → WhereTold w.told (λ files. AnswersPrefix files words w.out_before w.out_now w.steps_before w.steps_now)
@@ -252,32 +250,32 @@ module _ (words : List (List ℕ)) (w : World) (r : Replay) (source : List ℕ) 
 
   answered_memory : AppendsPrefix w.out_before w.out_now (all_text (due_of r)) → w.steps_now ≤ w.steps_before + work_of r → Ends words w status.Memory source
   answered_memory out steps = record {
-      ok = λ e. absurd (cc);
-      other = λ e. prefix_at out steps;
-      refused_early = λ e. absurd (cc);
-      usage = record { only = λ e. absurd (cc); when = λ e. inr refl };
-      refusal = refusal_at status.Memory refl (λ name e. cc);
-      folder = record { failed = λ name e. absurd (cc); too_long = λ name e. absurd (cc) };
-      no_memory = λ e. absurd (cc);
-      sink = λ e. absurd (cc);
-      complete = λ quiet dry. where_told w.told (λ files. MatchAccepted (accepted (file files) words) (λ x. (status.Memory ≡ status.Ok) ⊎ (status.Memory ≡ status.Memory)) (λ t. ⊤))
-          (λ files t. match_each (accepted (file files) words) _ _ (λ x e. inr refl) (λ u e. tt));
-      named = λ e. absurd (cc);
-    }
+    ok = λ e. absurd (cc);
+    other = λ e. prefix_at out steps;
+    refused_early = λ e. absurd (cc);
+    usage = record { only = λ e. absurd (cc); when = λ e. inr refl };
+    refusal = refusal_at status.Memory refl (λ name e. cc);
+    folder = record { failed = λ name e. absurd (cc); too_long = λ name e. absurd (cc) };
+    no_memory = λ e. absurd (cc);
+    sink = λ e. absurd (cc);
+    complete = λ quiet dry. where_told w.told (λ files. MatchAccepted (accepted (file files) words) (λ x. (status.Memory ≡ status.Ok) ⊎ (status.Memory ≡ status.Memory)) (λ t. ⊤))
+        (λ files t. match_each (accepted (file files) words) _ _ (λ x e. inr refl) (λ u e. tt));
+    named = λ e. absurd (cc);
+  }
 
   answered_sink : AppendsPrefix w.out_before w.out_now (all_text (due_of r)) → w.steps_now ≤ w.steps_before + work_of r → Rose w.sink_before w.sink_now → Ends words w status.SinkFault source
   answered_sink out steps rose = record {
-      ok = λ e. absurd (cc);
-      other = λ e. prefix_at out steps;
-      refused_early = λ e. absurd (cc);
-      usage = record { only = λ e. absurd (cc); when = λ e. absurd (some_none (command_in words) some e) };
-      refusal = refusal_at status.SinkFault refl (λ name e. cc);
-      folder = record { failed = λ name e. absurd (cc); too_long = λ name e. absurd (cc) };
-      no_memory = λ e. absurd (cc);
-      sink = λ e. rose;
-      complete = λ quiet dry. absurd (dry rose);
-      named = λ e. absurd (cc);
-    }
+    ok = λ e. absurd (cc);
+    other = λ e. prefix_at out steps;
+    refused_early = λ e. absurd (cc);
+    usage = record { only = λ e. absurd (cc); when = λ e. absurd (some_none (command_in words) some e) };
+    refusal = refusal_at status.SinkFault refl (λ name e. cc);
+    folder = record { failed = λ name e. absurd (cc); too_long = λ name e. absurd (cc) };
+    no_memory = λ e. absurd (cc);
+    sink = λ e. rose;
+    complete = λ quiet dry. absurd (dry rose);
+    named = λ e. absurd (cc);
+  }
 
   -- the answer is lost on the way
   pub answered_lost : (s : Status) → AppendsPrefix w.out_before w.out_now (all_text (due_of r)) → w.steps_now ≤ w.steps_before + work_of r → IsLost w.sink_before w.sink_now s
@@ -288,22 +286,22 @@ module _ (words : List (List ℕ)) (w : World) (r : Replay) (source : List ℕ) 
 -- any end but Ok may be one for want of memory
 pub memory_ends : (words : List (List ℕ)) (w : World) (s : Status) (source other : List ℕ) → s ≢ status.Ok → Ends words w s source → Ends words w status.Memory other
 memory_ends words w s source other differs h = record {
-    ok = λ e. absurd (cc);
-    other = λ e. h.other differs;
-    refused_early = λ e. absurd (cc);
-    usage = record { only = λ e. absurd (cc); when = λ e. inr refl };
-    refusal = where_told w.told (λ files. RefusalHasCause files words w.folder_before w.folder_now status.Memory) (λ files t. record {
-        only = λ e. absurd (cc);
-        when = match_each (accepted (file files) words) _ _ (λ x e. tt) (λ u e. inr (inl refl));
-        reached = λ name e. absurd (cc);
-      });
-    folder = record { failed = λ name e. absurd (cc); too_long = λ name e. absurd (cc) };
-    no_memory = λ e. absurd (cc);
-    sink = λ e. absurd (cc);
-    complete = λ quiet dry. where_told w.told (λ files. MatchAccepted (accepted (file files) words) (λ x. (status.Memory ≡ status.Ok) ⊎ (status.Memory ≡ status.Memory)) (λ t. ⊤))
-        (λ files t. match_each (accepted (file files) words) _ _ (λ x e. inr refl) (λ u e. tt));
-    named = λ e. absurd (cc);
-  }
+  ok = λ e. absurd (cc);
+  other = λ e. h.other differs;
+  refused_early = λ e. absurd (cc);
+  usage = record { only = λ e. absurd (cc); when = λ e. inr refl };
+  refusal = where_told w.told (λ files. RefusalHasCause files words w.folder_before w.folder_now status.Memory) (λ files t. record {
+    only = λ e. absurd (cc);
+    when = match_each (accepted (file files) words) _ _ (λ x e. tt) (λ u e. inr (inl refl));
+    reached = λ name e. absurd (cc);
+  });
+  folder = record { failed = λ name e. absurd (cc); too_long = λ name e. absurd (cc) };
+  no_memory = λ e. absurd (cc);
+  sink = λ e. absurd (cc);
+  complete = λ quiet dry. where_told w.told (λ files. MatchAccepted (accepted (file files) words) (λ x. (status.Memory ≡ status.Ok) ⊎ (status.Memory ≡ status.Memory)) (λ t. ⊤))
+      (λ files t. match_each (accepted (file files) words) _ _ (λ x e. inr refl) (λ u e. tt));
+  named = λ e. absurd (cc);
+}
 
 -- an end that is told stays, or is one for want of memory
 pub told_ends : (words : List (List ℕ)) (w : World) (s told : Status) (source : List ℕ) → s ≢ status.Ok → (told ≡ s) ⊎ (told ≡ status.Memory) → Ends words w s source → Ends words w told source

@@ -40,15 +40,15 @@ where_told (Some files) P h = h files refl
 refusal_by : (files : Files) (words : List (List ℕ)) (fb fn : ℕ) (s : Status) → (accepted (file files) words ≡ Err s) ⊎ HasFailedAt fb fn s
     → ((name : List ℕ) → s ≡ status.FolderFault name → contains_bytes name (reads_of (file files) (script_of words)) ≡ true) → RefusalHasCause files words fb fn s
 refusal_by files words fb fn s (inl e) reached = record {
-    only = λ h. match_err (accepted (file files) words) s _ _ e (inl refl);
-    when = match_err (accepted (file files) words) s _ _ e (inl refl);
-    reached = reached;
-  }
+  only = λ h. match_err (accepted (file files) words) s _ _ e (inl refl);
+  when = match_err (accepted (file files) words) s _ _ e (inl refl);
+  reached = reached;
+}
 refusal_by files words fb fn s (inr failed) reached = record {
-    only = λ h. match_any (accepted (file files) words) _ _ (λ x. failed) (λ t. inr failed);
-    when = match_any (accepted (file files) words) _ _ (λ x. tt) (λ t. inr (inr failed.2));
-    reached = reached;
-  }
+  only = λ h. match_any (accepted (file files) words) _ _ (λ x. failed) (λ t. inr failed);
+  when = match_any (accepted (file files) words) _ _ (λ x. tt) (λ t. inr (inr failed.2));
+  reached = reached;
+}
 
 some_none : (o : Option Command) → IsSome o → o ≡ None → ⊥
 some_none None some e = absurd (cc)
@@ -57,31 +57,31 @@ some_none (Some c) some e = cc
 module _ (words : List (List ℕ)) (told : Option Files) (fb fn tb tn : ℕ) (source : List ℕ) where
   pub stopped_memory : IsStopped words told fb fn tb tn status.Memory source
   stopped_memory = record {
-      usage = record { only = λ e. absurd (cc); when = λ e. inr refl };
-      refusal = where_told told (λ files. RefusalHasCause files words fb fn status.Memory) (λ files e. record {
-          only = λ h. absurd (cc);
-          when = match_any (accepted (file files) words) _ _ (λ x. tt) (λ s. inr (inl refl));
-          reached = λ name h. absurd (cc);
-        });
-      folder = record { failed = λ name e. absurd (cc); too_long = λ name e. absurd (cc) };
-      named = λ h. absurd (cc);
-      ends = inr refl;
-      no_memory = λ e. absurd (cc);
-    }
+    usage = record { only = λ e. absurd (cc); when = λ e. inr refl };
+    refusal = where_told told (λ files. RefusalHasCause files words fb fn status.Memory) (λ files e. record {
+      only = λ h. absurd (cc);
+      when = match_any (accepted (file files) words) _ _ (λ x. tt) (λ s. inr (inl refl));
+      reached = λ name h. absurd (cc);
+    });
+    folder = record { failed = λ name e. absurd (cc); too_long = λ name e. absurd (cc) };
+    named = λ h. absurd (cc);
+    ends = inr refl;
+    no_memory = λ e. absurd (cc);
+  }
 
   accepted_usage : (files : Lookup) → command_in words ≡ None → accepted files words ≡ Err status.Usage
   accepted_usage files none = rw none refl
 
   pub stopped_usage : command_in words ≡ None → IsStopped words told fb fn tb tn status.Usage source
   stopped_usage none = record {
-      usage = record { only = λ e. none; when = λ e. inl refl };
-      refusal = where_told told (λ files. RefusalHasCause files words fb fn status.Usage)
-          (λ files e. refusal_by files words fb fn status.Usage (inl (accepted_usage (file files) none)) (λ name h. absurd (cc)));
-      folder = record { failed = λ name e. absurd (cc); too_long = λ name e. absurd (cc) };
-      named = λ h. absurd (cc);
-      ends = inl refl;
-      no_memory = λ e. absurd (cc);
-    }
+    usage = record { only = λ e. none; when = λ e. inl refl };
+    refusal = where_told told (λ files. RefusalHasCause files words fb fn status.Usage)
+        (λ files e. refusal_by files words fb fn status.Usage (inl (accepted_usage (file files) none)) (λ name h. absurd (cc)));
+    folder = record { failed = λ name e. absurd (cc); too_long = λ name e. absurd (cc) };
+    named = λ h. absurd (cc);
+    ends = inl refl;
+    no_memory = λ e. absurd (cc);
+  }
 
   -- a refusal that isn't about reading a file
   abbrev IsRule : Status → Type 0
@@ -92,23 +92,23 @@ module _ (words : List (List ℕ)) (told : Option Files) (fb fn tb tn : ℕ) (so
   pub stopped_rule : (s : Status) → IsRule s → IsSome (command_in words) → WhereTold told (λ files. accepted (file files) words ≡ Err s)
       → NamesSource told words s source → IsStopped words told fb fn tb tn s source
   stopped_rule (status.BadNetwork net.NotBuilt) is some broken named = record {
-      usage = record { only = λ e. absurd (cc); when = λ e. absurd (some_none (command_in words) some e) };
-      refusal = where_told told (λ files. RefusalHasCause files words fb fn (status.BadNetwork net.NotBuilt))
-          (λ files e. refusal_by files words fb fn (status.BadNetwork net.NotBuilt) (inl (subst (λ o. WhereTold o (λ x. accepted (file x) words ≡ Err (status.BadNetwork net.NotBuilt))) e broken)) (λ name h. absurd (cc)));
-      folder = record { failed = λ name e. absurd (cc); too_long = λ name e. absurd (cc) };
-      named = named;
-      ends = inl refl;
-      no_memory = λ e. absurd (cc);
-    }
+    usage = record { only = λ e. absurd (cc); when = λ e. absurd (some_none (command_in words) some e) };
+    refusal = where_told told (λ files. RefusalHasCause files words fb fn (status.BadNetwork net.NotBuilt))
+        (λ files e. refusal_by files words fb fn (status.BadNetwork net.NotBuilt) (inl (subst (λ o. WhereTold o (λ x. accepted (file x) words ≡ Err (status.BadNetwork net.NotBuilt))) e broken)) (λ name h. absurd (cc)));
+    folder = record { failed = λ name e. absurd (cc); too_long = λ name e. absurd (cc) };
+    named = named;
+    ends = inl refl;
+    no_memory = λ e. absurd (cc);
+  }
   stopped_rule (status.BadStream number line why) is some broken named = record {
-      usage = record { only = λ e. absurd (cc); when = λ e. absurd (some_none (command_in words) some e) };
-      refusal = where_told told (λ files. RefusalHasCause files words fb fn (status.BadStream number line why))
-          (λ files e. refusal_by files words fb fn (status.BadStream number line why) (inl (subst (λ o. WhereTold o (λ x. accepted (file x) words ≡ Err (status.BadStream number line why))) e broken)) (λ name h. absurd (cc)));
-      folder = record { failed = λ name e. absurd (cc); too_long = λ name e. absurd (cc) };
-      named = named;
-      ends = inl refl;
-      no_memory = λ e. absurd (cc);
-    }
+    usage = record { only = λ e. absurd (cc); when = λ e. absurd (some_none (command_in words) some e) };
+    refusal = where_told told (λ files. RefusalHasCause files words fb fn (status.BadStream number line why))
+        (λ files e. refusal_by files words fb fn (status.BadStream number line why) (inl (subst (λ o. WhereTold o (λ x. accepted (file x) words ≡ Err (status.BadStream number line why))) e broken)) (λ name h. absurd (cc)));
+    folder = record { failed = λ name e. absurd (cc); too_long = λ name e. absurd (cc) };
+    named = named;
+    ends = inl refl;
+    no_memory = λ e. absurd (cc);
+  }
   stopped_rule s is some broken named = absurd is
 
 rose_later : (n before mid now : ℕ) → before ≤ mid → RoseBy n mid now → RoseBy n before now
@@ -169,30 +169,30 @@ module _ (words : List (List ℕ)) (told : Option Files) (fb fn tb tn : ℕ) (so
 
   stopped_fault : Rose fb fn ⊎ IsSomeAnd told (λ x. file x name ≡ None) → IsStopped words told fb fn tb tn (status.FolderFault name) source
   stopped_fault why = record {
-      usage = record { only = λ e. absurd (cc); when = λ e. absurd (some_none (command_in words) some e) };
-      refusal = where_told told (λ files. RefusalHasCause files words fb fn (status.FolderFault name))
-          (λ files e. refusal_by files words fb fn (status.FolderFault name) (fault_broken files e why)
-          (λ other h. (comes_to files e).reads other (contains_first name other (go_on (λ s. []) (λ bytes. reads_of (file files) (more bytes)) (readable name limit (file files name))) (same_name name other h))));
-      folder = record { failed = λ other e. fault_told why; too_long = λ other e. absurd (cc) };
-      named = λ h. absurd (cc);
-      ends = inl refl;
-      no_memory = λ e. absurd (cc);
-    }
+    usage = record { only = λ e. absurd (cc); when = λ e. absurd (some_none (command_in words) some e) };
+    refusal = where_told told (λ files. RefusalHasCause files words fb fn (status.FolderFault name))
+        (λ files e. refusal_by files words fb fn (status.FolderFault name) (fault_broken files e why)
+        (λ other h. (comes_to files e).reads other (contains_first name other (go_on (λ s. []) (λ bytes. reads_of (file files) (more bytes)) (readable name limit (file files name))) (same_name name other h))));
+    folder = record { failed = λ other e. fault_told why; too_long = λ other e. absurd (cc) };
+    named = λ h. absurd (cc);
+    ends = inl refl;
+    no_memory = λ e. absurd (cc);
+  }
 
   stopped_long : ((other : List ℕ) → name ≡ other → ((is_network (command_in words) other ≡ true) × RoseBy (settings_limit + 1) tb tn) ⊎ RoseBy (stream_limit + 1) tb tn)
       → WhereTold told (λ files. IsLonger files name limit) → IsStopped words told fb fn tb tn (status.TooLong name) source
   stopped_long long longer = record {
-      usage = record { only = λ e. absurd (cc); when = λ e. absurd (some_none (command_in words) some e) };
-      refusal = where_told told (λ files. RefusalHasCause files words fb fn (status.TooLong name))
-          (λ files e. refusal_by files words fb fn (status.TooLong name)
-          (inl ((comes_to files e).outcome ∙ outcome-broken (file files) name limit more (status.TooLong name)
-          (readable-long name limit (file files name) (subst (λ o. WhereTold o (λ x. IsLonger x name limit)) e longer))))
-          (λ other h. absurd (cc)));
-      folder = record { failed = λ other e. absurd (cc); too_long = λ other e. long other (same_long name other e) };
-      named = λ h. absurd (cc);
-      ends = inl refl;
-      no_memory = λ e. absurd (cc);
-    }
+    usage = record { only = λ e. absurd (cc); when = λ e. absurd (some_none (command_in words) some e) };
+    refusal = where_told told (λ files. RefusalHasCause files words fb fn (status.TooLong name))
+        (λ files e. refusal_by files words fb fn (status.TooLong name)
+        (inl ((comes_to files e).outcome ∙ outcome-broken (file files) name limit more (status.TooLong name)
+        (readable-long name limit (file files name) (subst (λ o. WhereTold o (λ x. IsLonger x name limit)) e longer))))
+        (λ other h. absurd (cc)));
+    folder = record { failed = λ other e. absurd (cc); too_long = λ other e. long other (same_long name other e) };
+    named = λ h. absurd (cc);
+    ends = inl refl;
+    no_memory = λ e. absurd (cc);
+  }
 
   stopped_unread : (s : Status) → (RoseBy (limit + 1) tb tn → (other : List ℕ) → name ≡ other → ((is_network (command_in words) other ≡ true) × RoseBy (settings_limit + 1) tb tn) ⊎ RoseBy (stream_limit + 1) tb tn)
       → IsUnread told name limit fb fn tb tn s → IsStopped words told fb fn tb tn s source
@@ -251,10 +251,10 @@ module _ (words : List (List ℕ)) (args : RunArgs) (command : command_in words 
   pub leads_to : (files : Lookup) (bytes : List ℕ) (n : FirstNetwork) → readable args.net settings_limit (files args.net) ≡ Ok bytes → first_form bytes ≡ Some n
       → LeadsTo files words n
   leads_to files bytes n whole form = record {
-      outcome = after_form files bytes (Some n) whole form;
-      reads = λ name h. (network_comes files).reads name (or_later (same_bytes name args.net) _ (rw (whole, form) h));
-      named = rw (command, readable-ok args.net settings_limit (files args.net) bytes whole, form) refl;
-    }
+    outcome = after_form files bytes (Some n) whole form;
+    reads = λ name h. (network_comes files).reads name (or_later (same_bytes name args.net) _ (rw (whole, form) h));
+    named = rw (command, readable-ok args.net settings_limit (files args.net) bytes whole, form) refl;
+  }
 
   pub told_leads_to : (told : Option Files) (bytes : List ℕ) (n : FirstNetwork) → WhereTold told (λ files. readable args.net settings_limit (file files args.net) ≡ Ok bytes)
       → first_form bytes ≡ Some n → WhereTold told (λ files. LeadsTo (file files) words n)
@@ -287,9 +287,9 @@ module _ (words : List (List ℕ)) (told : Option Files) (n : FirstNetwork) (som
       → WhereTold told (λ files. accepted (file files) words ≡ outcome_of (file files) (replay_with n r))
   after_stream bytes r whole stream = where_told told (λ files. accepted (file files) words ≡ outcome_of (file files) (replay_with n r))
       (λ files e.
-        (leads_at files e).outcome
-        ∙ outcome-read (file files) n.file stream_limit (λ x. replay_with n (first_stream x)) bytes (subst (λ o. WhereTold o (λ x. readable n.file stream_limit (file x n.file) ≡ Ok bytes)) e whole)
-        ∙ ap (λ x. outcome_of (file files) (replay_with n x)) stream)
+      (leads_at files e).outcome
+      ∙ outcome-read (file files) n.file stream_limit (λ x. replay_with n (first_stream x)) bytes (subst (λ o. WhereTold o (λ x. readable n.file stream_limit (file x n.file) ≡ Ok bytes)) e whole)
+      ∙ ap (λ x. outcome_of (file files) (replay_with n x)) stream)
 
   pub accepted_replay : (bytes : List ℕ) (xs : List Tuple) → WhereTold told (λ files. readable n.file stream_limit (file files n.file) ≡ Ok bytes) → first_stream bytes ≡ Ok xs
       → WhereTold told (λ files. accepted (file files) words ≡ Ok (n, xs))

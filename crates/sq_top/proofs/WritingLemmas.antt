@@ -1,12 +1,11 @@
 -- Text that is written piece by piece.
-use Rattle.std.proofs.Common.{◌≡◌, ◌≢◌, ◌⊎◌, inl, inr, ℕ, ◌+◌, ◌<◌, ◌≤◌, Bool, true, false, List, [], ◌∷◌, ◌++◌, length, take, drop, get_or, refl, ap, sym, ◌∙◌, subst, arith, append_assoc, append-nil, zero-add, Option, None, Some}
-use Rattle.std.specs.Prelude.{sum_by, if◌then◌else◌, map, Result, Ok, Err, OnOk, OnErr}
+use Rattle.std.proofs.Common.{◌≡◌, ℕ, ◌+◌, ◌<◌, ◌≤◌, Bool, true, false, List, [], ◌∷◌, ◌++◌, length, take, drop, get_or, refl, ap, sym, ◌∙◌, subst, arith, append_assoc, append-nil, zero-add, Option}
+use Rattle.std.specs.Prelude.{if◌then◌else◌, map, Result, Ok, Err, OnOk, OnErr}
 use Rattle.std.specs.List.{flat_map, filter}
 use Rattle.std.proofs.lemmas.List.{take-append-drop, take_more}
 use Rattle.std.proofs.lemmas.List.Sums.{sum_by_more, sum_by-append}
 use Rattle.std.proofs.lemmas.Grind.{flat_map-append}
 use Rattle.sq_value.specs.declared.Tuple.{Tuple}
-use Rattle.sq_value.specs.Lists.{IsPrefixOf}
 use Rattle.sq_outside.specs.Sinks.{AppendsPrefix, appended}
 use Rattle.sq_outside.proofs.SinkLemmas.{appended-append}
 use Rattle.sq_top.specs.declared.form.FirstNetwork.{FirstNetwork}
@@ -18,17 +17,18 @@ use Rattle.sq_top.specs.Writing.{Moves, ends_text, tuple_text, tuple_work, tuple
 pub moves-then : (before mid now : Option (List ℕ)) (waited waits later more next : List ℕ) → Moves before waited mid waits more → Moves mid waits now later next
     → Moves before waited now later (more ++ next)
 moves-then before mid now waited waits later more next a b = record {
-    part = a.part ++ b.part;
-    now_is = b.now_is ∙ ap (λ o. appended o b.part) a.now_is ∙ appended-append before a.part b.part;
-    all = append_assoc a.part b.part later ∙ ap (λ x. a.part ++ x) b.all ∙ sym (append_assoc a.part waits next) ∙ ap (λ x. x ++ next) a.all ∙ append_assoc waited more next;
-  }
+  part = a.part ++ b.part;
+  now_is = b.now_is ∙ ap (λ o. appended o b.part) a.now_is ∙ appended-append before a.part b.part;
+  all = append_assoc a.part b.part later ∙ ap (λ x. a.part ++ x) b.all ∙ sym (append_assoc a.part waits next) ∙ ap (λ x. x ++ next) a.all ∙ append_assoc waited more next;
+}
 
 pub moves-lost : (before mid now : Option (List ℕ)) (waited waits more next : List ℕ) → Moves before waited mid waits more → AppendsPrefix mid now (waits ++ next)
     → AppendsPrefix before now (waited ++ (more ++ next))
-moves-lost before mid now waited waits more next a b =
-    (a.part ++ b.0,
-    (b.1.0, sym (append_assoc waited more next) ∙ ap (λ x. x ++ next) (sym a.all) ∙ append_assoc a.part waits next ∙ ap (λ x. a.part ++ x) b.1.1 ∙ sym (append_assoc a.part b.0 b.1.0)),
-    b.2 ∙ ap (λ o. appended o b.0) a.now_is ∙ appended-append before a.part b.0)
+moves-lost before mid now waited waits more next a b = (
+  a.part ++ b.0,
+  (b.1.0, sym (append_assoc waited more next) ∙ ap (λ x. x ++ next) (sym a.all) ∙ append_assoc a.part waits next ∙ ap (λ x. a.part ++ x) b.1.1 ∙ sym (append_assoc a.part b.0 b.1.0)),
+  b.2 ∙ ap (λ o. appended o b.0) a.now_is ∙ appended-append before a.part b.0,
+)
 
 pub prefix_longer : (before now : Option (List ℕ)) (bytes more : List ℕ) → AppendsPrefix before now bytes → AppendsPrefix before now (bytes ++ more)
 prefix_longer before now bytes more a = (a.0, (a.1.0 ++ more, ap (λ x. x ++ more) a.1.1 ∙ append_assoc a.0 a.1.0 more), a.2)
@@ -118,7 +118,7 @@ pub sent_last : (n : FirstNetwork) (xs : List Tuple) (before mid now : Option (L
     → waits_more ≡ waits ++ ends_text n (length xs) → Moves mid waits_more now later [] → later ≡ [] → now ≡ appended before (all_text (due_of (n, xs)))
 sent_last n xs before mid now waits waits_more later a e b none =
     let part_is : b.part ≡ waits ++ ends_text n (length xs) =
-        sym (append-nil b.part) ∙ ap (λ y. b.part ++ y) (sym none) ∙ b.all ∙ append-nil waits_more ∙ e in
+    sym (append-nil b.part) ∙ ap (λ y. b.part ++ y) (sym none) ∙ b.all ∙ append-nil waits_more ∙ e in
     b.now_is ∙ ap (λ o. appended o b.part) a.now_is ∙ appended-append before a.part b.part
     ∙ ap (appended before) (ap (λ y. a.part ++ y) part_is ∙ sym (append_assoc a.part waits (ends_text n (length xs))) ∙ ap (λ y. y ++ ends_text n (length xs)) a.all ∙ sym (all_text-due_of n xs))
 

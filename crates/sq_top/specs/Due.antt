@@ -47,9 +47,9 @@ all_text d = flat_map (λ line. line) (all_lines d)
 
 abbrev pub due_of : Replay → Due
 due_of r = record {
-    shown = ((r.0).output, map (output_line (r.0).output) (full_answer r)) ∷ [];
-    ended = box_line (r.0).filter (length r.1) ∷ end_line ∷ [];
-  }
+  shown = ((r.0).output, map (output_line (r.0).output) (full_answer r)) ∷ [];
+  ended = box_line (r.0).filter (length r.1) ∷ end_line ∷ [];
+}
 
 -- each tuple is fed to the Filter, and each that passes to the output
 abbrev pub work_of : Replay → ℕ

@@ -155,18 +155,32 @@ fn source_part(text: &[u8]) -> Option<SourcePart<'_>>
     let (file, text) = between(b"file = \"", b"\"\n", text)?;
     let (field, rest) = between(b"fields = [\"", b"\"]\n", text)?;
     let field = field_in(field)?;
-    Some(SourcePart { name, file, field, rest })
+    Some(SourcePart {
+        name,
+        file,
+        field,
+        rest,
+    })
 }
 
 fn box_part<'a>(source: &[u8], field: &[u8], text: &'a [u8]) -> Option<BoxPart<'a>>
     ensures { MatchOption result (box_part source.now field.now text.now ≡ None)
         (λ p. box_part source.now field.now text.now ≡ Some (p.name.now, (p.comparison, p.number), p.rest.now)) }
 {
-    let (name, text) = between(b"[[box]]\nname = \"", b"\"\nkind = \"filter\"\nin = [\"", text)?;
+    let (name, text) = between(
+        b"[[box]]\nname = \"",
+        b"\"\nkind = \"filter\"\nin = [\"",
+        text,
+    )?;
     let text = after(source, text)?;
     let (entry, rest) = between(b"\"]\nwhere = [\"", b"\"]\n", text)?;
     let (comparison, number) = comparison_in(field, entry)?;
-    Some(BoxPart { name, comparison, number, rest })
+    Some(BoxPart {
+        name,
+        comparison,
+        number,
+        rest,
+    })
 }
 
 fn output_part<'a>(filter: &[u8], text: &'a [u8]) -> Option<&'a [u8]>
@@ -174,7 +188,11 @@ fn output_part<'a>(filter: &[u8], text: &'a [u8]) -> Option<&'a [u8]>
 {
     let (name, text) = between(b"[[output]]\nname = \"", b"\"\nfrom = \"", text)?;
     let port = after(filter, text)?;
-    if same_bytes(port, b".1\"\n") { Some(name) } else { None }
+    if same_bytes(port, b".1\"\n") {
+        Some(name)
+    } else {
+        None
+    }
 }
 
 fn is_lower(byte: u8) -> bool
@@ -286,7 +304,11 @@ fn pieces_in(bytes: &[u8]) -> Option<Pieces<'_>>
         comparison: filter.comparison,
         number: filter.number,
     };
-    if are_good(&pieces) { Some(pieces) } else { None }
+    if are_good(&pieces) {
+        Some(pieces)
+    } else {
+        None
+    }
 }
 
 /// A copy of a text.

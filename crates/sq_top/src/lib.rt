@@ -19,6 +19,8 @@ mod messages;
 mod reading;
 mod running;
 mod stream;
+#[cfg(test)]
+mod tests;
 mod writing;
 
 pub use reading::read_words;

@@ -50,7 +50,12 @@ pub fn read_words(alloc: Global, words: &Vec<String>) -> Result<Command, WordsEr
 }
 
 /// The bytes of a file, or the status of a run that doesn't get them.
-fn read_file<F: Folder>(alloc: Global, folder: &mut F, name: &Name, limit: u64) -> Result<Vec<u8>, Status>
+fn read_file<F: Folder>(
+    alloc: Global,
+    folder: &mut F,
+    name: &Name,
+    limit: u64,
+) -> Result<Vec<u8>, Status>
     ensures whole { IfOk result (λ bytes. WhereTold (F.files folder.old) (λ files. readable name.now limit (file files name.now) ≡ Ok bytes.items)) }
     ensures unread { IfErr result (λ s. IsUnread (F.files folder.old) name.now limit (F.faults folder.old) (F.faults folder.new) (F.taken folder.old) (F.taken folder.new) s) }
     ensures files { F.files folder.new ≡ F.files folder.old }
@@ -83,7 +88,11 @@ fn network_name(alloc: Global, words: &Vec<String>) -> Result<Name, Status>
 }
 
 /// The network that the words name, or the status of a run that has none.
-fn read_network<F: Folder>(alloc: Global, words: &Vec<String>, folder: &mut F) -> Result<FirstNetwork, Status>
+fn read_network<F: Folder>(
+    alloc: Global,
+    words: &Vec<String>,
+    folder: &mut F,
+) -> Result<FirstNetwork, Status>
     ensures command { IfOk result (λ _. IsSome (command_in (map string_bytes words.now.items))) }
     ensures network { IfOk result (λ n. WhereTold (F.files folder.old) (λ files. LeadsTo (file files) (map string_bytes words.now.items) n)) }
     ensures stopped { IfErr result (λ s. (source : List ℕ) → IsStopped (map string_bytes words.now.items) (F.files folder.old) (F.faults folder.old) (F.faults folder.new) (F.taken folder.old) (F.taken folder.new) s source) }
@@ -121,7 +130,11 @@ fn stopped_at(e: StreamErr, source: Name) -> Stopped
 {
     match e {
         StreamErr::Bad { line, why } => Stopped {
-            status: Status::BadStream { source: 0, line, why },
+            status: Status::BadStream {
+                source: 0,
+                line,
+                why,
+            },
             source: Some(source),
         },
         StreamErr::Memory => Stopped {
@@ -132,7 +145,11 @@ fn stopped_at(e: StreamErr, source: Name) -> Stopped
 }
 
 /// The network and the tuples of its source, or the status of a run that doesn't get them.
-pub fn prepare<F: Folder>(alloc: Global, words: &Vec<String>, folder: &mut F) -> Result<(FirstNetwork, Vec<Tuple>), Stopped>
+pub fn prepare<F: Folder>(
+    alloc: Global,
+    words: &Vec<String>,
+    folder: &mut F,
+) -> Result<(FirstNetwork, Vec<Tuple>), Stopped>
     ensures command { IfOk result (λ _. IsSome (command_in (map string_bytes words.now.items))) }
     ensures accepted { IfOk result (λ r. WhereTold (F.files folder.old) (λ files. accepted (file files) (map string_bytes words.now.items) ≡ Ok (r.0, r.1.items))) }
     ensures stopped { IfErr result (λ s. IsStopped (map string_bytes words.now.items) (F.files folder.old) (F.faults folder.old) (F.faults folder.new) (F.taken folder.old) (F.taken folder.new) s.status (source_of s.source)) }
@@ -141,11 +158,17 @@ pub fn prepare<F: Folder>(alloc: Global, words: &Vec<String>, folder: &mut F) ->
 {
     let network = match read_network(alloc, words, folder) {
         Ok(network) => network,
-        Err(status) => return Err(Stopped { status, source: None }),
+        Err(status) => return Err(Stopped {
+            status,
+            source: None,
+        }),
     };
     let bytes = match read_file(alloc, folder, &network.file, STREAM_LIMIT) {
         Ok(bytes) => bytes,
-        Err(status) => return Err(Stopped { status, source: None }),
+        Err(status) => return Err(Stopped {
+            status,
+            source: None,
+        }),
     };
     match first_stream(alloc, bytes.as_slice()) {
         Ok(tuples) => Ok((network, tuples)),

@@ -23,10 +23,18 @@ pub fn run<F: Folder, S: Sink, L: Ledger>(
     steps: &mut Steps<L>,
 ) -> Stopped
     ensures ends { Ends (map string_bytes words.now.items) (record {
-            told = F.files folder.old; folder_before = F.faults folder.old; folder_now = F.faults folder.new;
-            taken_before = F.taken folder.old; taken_now = F.taken folder.new;
-            out_before = S.written out.old; out_now = S.written out.new; sink_before = S.faults out.old; sink_now = S.faults out.new;
-            steps_before = steps.old; steps_now = steps.new })
+      told = F.files folder.old;
+      folder_before = F.faults folder.old;
+      folder_now = F.faults folder.new;
+      taken_before = F.taken folder.old;
+      taken_now = F.taken folder.new;
+      out_before = S.written out.old;
+      out_now = S.written out.new;
+      sink_before = S.faults out.old;
+      sink_now = S.faults out.new;
+      steps_before = steps.old;
+      steps_now = steps.new;
+    })
         result.status (source_of result.source) }
     ensures files { F.files folder.new ≡ F.files folder.old }
     ensures later { (F.faults folder.old ≤ F.faults folder.new) × (F.taken folder.old ≤ F.taken folder.new) × (S.faults out.old ≤ S.faults out.new) }
@@ -36,8 +44,14 @@ pub fn run<F: Folder, S: Sink, L: Ledger>(
         Err(stopped) => return stopped,
     };
     match write_answer(alloc, &network, tuples.as_slice(), out, steps) {
-        Ok(()) => Stopped { status: Status::Ok, source: None },
-        Err(status) => Stopped { status, source: None },
+        Ok(()) => Stopped {
+            status: Status::Ok,
+            source: None,
+        },
+        Err(status) => Stopped {
+            status,
+            source: None,
+        },
     }
 }
 
@@ -63,7 +77,10 @@ pub fn tell<E: Sink>(alloc: Global, stopped: Stopped, err: &mut E) -> Stopped
         }
         Err(_) => {
             say(err, b"aurora: out of memory\n");
-            Stopped { status: Status::Memory, source: stopped.source }
+            Stopped {
+                status: Status::Memory,
+                source: stopped.source,
+            }
         }
     }
 }

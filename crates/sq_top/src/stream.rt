@@ -48,7 +48,10 @@ fn tuple_in(alloc: Global, line: &[u8]) -> Result<Option<Tuple>, AllocError>
     };
     let mut values = Vec::new(alloc);
     values.push(value)?;
-    Ok(Some(Tuple { time, fields: ListOf::new(values) }))
+    Ok(Some(Tuple {
+        time,
+        fields: ListOf::new(values),
+    }))
 }
 
 /// The tuples of a stream of the first form, or its first bad line.
@@ -62,16 +65,25 @@ pub fn first_stream(alloc: Global, bytes: &[u8]) -> Result<Vec<Tuple>, StreamErr
     let mut latest = 0;
     'lines: while let Some((text, more)) = cut_first(rest, b'\n') {
         if line > 1_000_000 {
-            return Err(StreamErr::Bad { line, why: Why::NotBuilt });
+            return Err(StreamErr::Bad {
+                line,
+                why: Why::NotBuilt,
+            });
         }
         let Ok(read) = tuple_in(alloc, text) else {
             return Err(StreamErr::Memory);
         };
         let Some(t) = read else {
-            return Err(StreamErr::Bad { line, why: Why::NotBuilt });
+            return Err(StreamErr::Bad {
+                line,
+                why: Why::NotBuilt,
+            });
         };
         if t.time < latest {
-            return Err(StreamErr::Bad { line, why: Why::Falls });
+            return Err(StreamErr::Bad {
+                line,
+                why: Why::Falls,
+            });
         }
         latest = t.time;
         let Ok(()) = tuples.push(t) else {
@@ -83,6 +95,9 @@ pub fn first_stream(alloc: Global, bytes: &[u8]) -> Result<Vec<Tuple>, StreamErr
     if rest.is_empty() {
         Ok(tuples)
     } else {
-        Err(StreamErr::Bad { line, why: Why::NotBuilt })
+        Err(StreamErr::Bad {
+            line,
+            why: Why::NotBuilt,
+        })
     }
 }

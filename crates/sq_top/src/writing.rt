@@ -96,11 +96,11 @@ fn feed<S: Sink, L: Ledger>(
     ensures steps { OnOk result (steps.new ≡ steps.old + tuple_work network.now t.now) }
     ensures fewer { OnErr result (steps.new ≤ steps.old + tuple_work network.now t.now) }
 {
-    steps.tick();
+    steps.tick(); // at the Filter
     if !tuple_passes(network, t) {
         return Ok(());
     }
-    steps.tick();
+    steps.tick(); // at the output
     match append_output_line(&network.output, t, text) {
         Ok(()) => send_piece(text, out),
         Err(_) => Err(Status::Memory),

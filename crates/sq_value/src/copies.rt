@@ -35,7 +35,8 @@ pub fn copy_value(v: &Value) -> Result<Value, AllocError>
     }
 }
 
-fn copy_fields(fields: &Fields) -> Result<Fields, AllocError>
+/// A copy of values.
+pub fn copy_fields(fields: &Fields) -> Result<Fields, AllocError>
     ensures { IfOk result (λ copy. copy ≡ fields.now) }
 {
     let mut copies = Vec::new(*fields.items.allocator());

@@ -17,7 +17,7 @@ mod order;
 mod tests;
 mod written;
 
-pub use copies::{copy_name, copy_tuple, copy_txt, copy_value};
+pub use copies::{copy_fields, copy_name, copy_tuple, copy_txt, copy_value};
 pub use laws::{values_are_ordered, values_are_read_back};
 pub use numbers::{all_digits, number_of, read_short_number};
 pub use order::{all_differ, compare, fits, same_bytes, same_text};

@@ -1,4 +1,4 @@
-use Rattle.std.proofs.Common.{subst, sym, refl}
+use Rattle.std.proofs.Common.{refl}
 use Rattle.sq_top.specs.Causes.{source_of}
 use Rattle.sq_top.proofs.EndLemmas.{told_ends}
 use Rattle.sq_top.proofs.run_words.Goals as goal

@@ -3,7 +3,7 @@ use Rattle.std.proofs.lemmas.List.Sorted.{answers_always}
 use Rattle.std.proofs.lemmas.Bool.Decides.{nat_tests}
 use Rattle.std.specs.Cmp.{IsStrictWeakOrder}
 use Rattle.sq_lists.specs.Merge.{earlier}
-use Rattle.sq_lists.proofs.StableSorts.{sorted_is, on_ok_map}
+use Rattle.sq_value.proofs.Sorting.{sorted_is, on_ok_map}
 use Rattle.sq_lists.proofs.merges.sort_pairs.Goals as goal
 
 earlier_orders : IsStrictWeakOrder earlier

@@ -1,4 +1,4 @@
-use Rattle.std.proofs.Common.{sym, ◌∙◌, ap, arith, ◌+◌}
+use Rattle.std.proofs.Common.{arith, ◌+◌}
 use Rattle.sq_top.proofs.WritingLemmas.{lost_at, moves-then, tuples_text-more, tuples_work-more, tuples_work-rest}
 use Rattle.sq_top.proofs.writing.feed_all.Goals as goal
 
@@ -8,8 +8,13 @@ returns-in-Err-clause-err g c =
 
 pub returns-in-Err-clause-fewer : goal.returns-in-Err-clause-fewer
 returns-in-Err-clause-fewer g c =
-    omega (arith, c.in-Err.ensures.fewer, c.tuples.invariant.steps, tuples_work-more c.args.network.now c.args.tuples.now c.tuples.t-index c.t-item.result c.tuples-test.true c.t-item.is,
-    tuples_work-rest c.args.network.now c.args.tuples.now (c.tuples.t-index + 1))
+    omega (
+      arith,
+      c.in-Err.ensures.fewer,
+      c.tuples.invariant.steps,
+      tuples_work-more c.args.network.now c.args.tuples.now c.tuples.t-index c.t-item.result c.tuples-test.true c.t-item.is,
+      tuples_work-rest c.args.network.now c.args.tuples.now (c.tuples.t-index + 1),
+    )
 
 pub tuples-preserved : goal.tuples-preserved
 tuples-preserved g c =

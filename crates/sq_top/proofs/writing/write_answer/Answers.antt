@@ -1,5 +1,4 @@
-use Rattle.std.proofs.Common.{◌+◌, ◌≡◌, ◌≤◌, sym, ◌∙◌, ap, arith, refl}
-use Rattle.sq_top.specs.Due.{work_of}
+use Rattle.std.proofs.Common.{arith}
 use Rattle.sq_top.proofs.WritingLemmas.{lost_before, lost_last, lost_waiting, on_err, on_err_any, on_ok_any, on_ok_both, sent_last, tuples_work-is}
 use Rattle.sq_top.proofs.writing.write_answer.Goals as goal
 
