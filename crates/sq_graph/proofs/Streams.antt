@@ -1,11 +1,11 @@
 -- What gives the stream of a number: the streams are counted box by box.
-use Rattle.std.proofs.Common.{◌≡◌, ◌∙◌, ap, sym, ℕ, zero, suc, ◌+◌, ◌-◌, ◌<◌, ◌≤◌, List, [], ◌∷◌, ◌++◌, map, length, drop, get_or, slice_get, Option, Some, None, refl, subst, arith}
+use Rattle.std.proofs.Common.{◌≡◌, ◌∙◌, ap, sym, ℕ, zero, suc, ◌+◌, ◌-◌, ◌<◌, ◌≤◌, List, ◌∷◌, ◌++◌, map, length, drop, get_or, slice_get, Some, arith}
 use Rattle.std.specs.List.{flat_map, enumerate_from, range_with_len}
 use Rattle.std.proofs.lemmas.List.{drop_more}
 use Rattle.sq_value.specs.Lists.{numbers_to}
 use Rattle.sq_graph.specs.declared.BoxWires.{BoxWires}
 use Rattle.sq_graph.specs.declared.Wiring.{Wiring}
-use Rattle.sq_graph.specs.Wires.{Producer, Source, Port, producers_of, producer_of}
+use Rattle.sq_graph.specs.Wires.{Producer, Source, Port, producer_of}
 
 get_front_from : {X : Type 0} (f : ℕ → X) (a n s : ℕ) (rest : List X) → s < n → slice_get (map f (range_with_len a n) ++ rest) s ≡ Some (f (a + s))
 get_front_from f a zero s rest h = absurd (omega arith)

@@ -1,5 +1,5 @@
 -- What a sound network is.
-use Rattle.std.specs.Prelude.{◌≡◌, ℕ, ◌+◌, ◌^◌, Bool, true, ◌&&◌, ◌==◌, nat_le, List, [], ◌∷◌, map, length, Option, Some, None, slice_get}
+use Rattle.std.specs.Prelude.{◌≡◌, ℕ, ◌+◌, ◌^◌, Bool, true, ◌&&◌, ◌==◌, nat_le, List, [], ◌∷◌, map, length, Some, slice_get}
 use Rattle.std.specs.List.{list_all, filter_map, All}
 use Rattle.sq_value.specs.Lists.{are_distinct}
 use Rattle.sq_value.specs.Values.{Columns, kinds_of, names_of}
@@ -8,7 +8,6 @@ use Rattle.sq_expr.specs.Trees.{Checked}
 use Rattle.sq_expr.specs.Kinds.{fits, kind_in}
 use Rattle.sq_graph.specs.declared.BoxKind.{BoxKind}
 use Rattle.sq_graph.specs.declared.BoxKind.TheVariants as boxes
-use Rattle.sq_graph.specs.declared.BoxWires.{BoxWires}
 use Rattle.sq_graph.specs.Wires.{producer_of, inputs_of}
 use Rattle.sq_graph.specs.Order.{is_there, IsWired, LiesOnCycle}
 use Rattle.sq_net.specs.declared.Network.{Network}

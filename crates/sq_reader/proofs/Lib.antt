@@ -5,3 +5,4 @@ pub mod NamingLemmas
 pub mod SourceLemmas
 pub mod ExpressionLemmas
 pub mod WiringLemmas
+mod Rows

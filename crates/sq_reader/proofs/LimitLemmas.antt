@@ -1,10 +1,8 @@
 -- What the limits say of numbers.
-use Rattle.std.proofs.Common.{◌≡◌, ℕ, ◌<◌, ◌≤◌, ◌^◌, Bool, true, false, ◌&&◌, not, List, [], ◌∷◌, length, Some, None, arith, refl, sym}
-use Rattle.std.specs.Prelude.{position, nat_le}
+use Rattle.std.proofs.Common.{◌≡◌, ℕ, ◌≤◌, Bool, true, false, ◌&&◌, List, length, None, arith, refl}
 use Rattle.std.proofs.lemmas.Bool.Decides.{nat_tests}
-use Rattle.std.proofs.lemmas.List.Quantifiers.{position-Some}
 use Rattle.sq_reader.specs.declared.raw.Raw.{Raw}
-use Rattle.sq_reader.specs.Limits.{top_within, first_failing, has_between, limit_place}
+use Rattle.sq_reader.specs.Limits.{top_within, has_between, limit_place}
 
 pub and_parts : (a b : Bool) → (a && b) ≡ true → (a ≡ true) × (b ≡ true)
 and_parts true b h = (refl, h)

@@ -1,5 +1,5 @@
 -- Tables read one after another: those so far, joined with the rest, are all.
-use Rattle.std.proofs.Common.{◌≡◌, ◌∙◌, ap, refl, ℕ, ◌+◌, ◌<◌, List, [], ◌∷◌, ◌++◌, map, drop, length, get_or, Bor, Option, Some, None, append_assoc, append-nil, sym, arith}
+use Rattle.std.proofs.Common.{◌≡◌, ◌∙◌, ap, refl, ℕ, ◌+◌, ◌<◌, List, [], ◌∷◌, ◌++◌, map, drop, length, get_or, Option, Some, None, append_assoc, sym, arith}
 use Rattle.std.specs.Prelude.{Result, Ok, Err}
 use Rattle.std.specs.List.{zip}
 use Rattle.std.proofs.lemmas.List.{drop_more}
@@ -8,7 +8,7 @@ use Rattle.sq_net.specs.declared.Part.{Part}
 use Rattle.sq_net.specs.declared.NetErr.{NetErr}
 use Rattle.sq_net.specs.declared.NetErr.TheVariants as broken
 use Rattle.sq_reader.specs.Places.{place_of}
-use Rattle.sq_reader.specs.Rawly.{◌>>=◌, or_broken, shaped_from}
+use Rattle.sq_reader.specs.Rawly.{◌>>=◌, shaped_from}
 
 -- these items, and then the others, where there are others
 abbrev pub joined : {A : Type 0} → List A → Result (List A) NetErr → Result (List A) NetErr

@@ -7,7 +7,7 @@ use Rattle.sq_net.specs.declared.NetErr.{NetErr}
 use Rattle.sq_net.specs.declared.NetErr.TheVariants as broken
 use Rattle.sq_reader.specs.declared.raw.Raw.{Raw}
 use Rattle.sq_reader.specs.Places.{place_of}
-use Rattle.sq_reader.specs.Shapes.{Tables, top_in, source_in, box_in, output_in}
+use Rattle.sq_reader.specs.Shapes.{top_in, source_in, box_in, output_in}
 
 infixl 10 ◌>>=◌
 abbrev pub ◌>>=◌ : {A B : Type 0} → Result A NetErr → (A → Result B NetErr) → Result B NetErr

@@ -1,6 +1,6 @@
 -- A network file by its tables, before its names and numbers are checked. A table without a key that it needs, with
 -- one that it doesn't know, or with a value of another kind, gives nothing.
-use Rattle.std.specs.Prelude.{ℕ, ◌+◌, true, ◌==◌, if◌then◌else◌, List, [], ◌∷◌, ◌++◌, length, replicate, ℤ, pos, Option, Some, None, codes}
+use Rattle.std.specs.Prelude.{ℕ, ◌+◌, true, ◌==◌, if◌then◌else◌, List, [], ◌∷◌, length, replicate, ℤ, pos, Option, Some, None, codes}
 use Rattle.sq_value.specs.Lists.{same_bytes}
 use Rattle.toml.specs.Data.{Data, array, no_items, item, Members, get_member, as_str, as_integer, as_table}
 use Rattle.sq_reader.specs.declared.raw.RawSource.{RawSource}

@@ -1,5 +1,5 @@
 -- The schemas of the sources.
-use Rattle.std.specs.Prelude.{ℕ, ◌+◌, Bool, not, ◌&&◌, ◌==◌, if◌then◌else◌, List, [], ◌∷◌, ◌++◌, Option, Some, None, Result, Ok, Err, codes}
+use Rattle.std.specs.Prelude.{ℕ, ◌+◌, Bool, not, ◌&&◌, ◌==◌, if◌then◌else◌, List, [], ◌∷◌, ◌++◌, Option, Some, None, Result, Ok, codes}
 use Rattle.std.specs.List.{list_any, before_first, after_first}
 use Rattle.sq_value.specs.Lists.{same_bytes, contains_bytes}
 use Rattle.sq_value.specs.Values.{Columns}

@@ -1,5 +1,5 @@
 -- The streams by name and number, and the wiring.
-use Rattle.std.specs.Prelude.{ℕ, ◌+◌, Bool, is_some, List, [], ◌∷◌, ◌++◌, map, length, position, Option, Some, None, option_map}
+use Rattle.std.specs.Prelude.{ℕ, ◌+◌, Bool, is_some, List, [], ◌∷◌, ◌++◌, map, length, position, Option, None, option_map}
 use Rattle.std.specs.List.{flat_map, filter_map, find}
 use Rattle.std.specs.Fmt.{decimal}
 use Rattle.sq_value.specs.Lists.{same_bytes, numbers_to}

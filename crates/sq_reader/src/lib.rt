@@ -22,6 +22,8 @@ mod reading;
 mod shape;
 mod sources;
 mod streams;
+#[cfg(test)]
+mod tests;
 mod unbuilt;
 
 use document::{Table, value_at};

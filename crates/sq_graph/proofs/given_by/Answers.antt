@@ -1,5 +1,5 @@
-use Rattle.std.proofs.Common.{◌≡◌, ◌∙◌, sym, ap, ◌<◌, length, get_or, drop, slice_get}
-use Rattle.sq_graph.proofs.Streams.{stream_of_source, stream_of_box, port_here, port_later, ports_from}
+use Rattle.std.proofs.Common.{◌∙◌, sym}
+use Rattle.sq_graph.proofs.Streams.{stream_of_source, stream_of_box, port_here, port_later}
 use Rattle.sq_graph.proofs.given_by.Goals as goal
 
 pub returns-then-stream-w : goal.returns-then-stream-w

@@ -1,5 +1,5 @@
-use Rattle.std.proofs.Common.{◌≡◌, ◌≢◌, List, [], ◌∷◌, length, None, refl, sym, Some, arith}
-use Rattle.toml.specs.Data.{Data, Items, array, as_array}
+use Rattle.std.proofs.Common.{◌≡◌, ◌≢◌, List, [], ◌∷◌, length, None, refl, sym, arith}
+use Rattle.toml.specs.Data.{array}
 use Rattle.toml.specs.View.{view, items_view, array_view}
 use Rattle.toml.specs.declared.value.Value.{Value}
 use Rattle.sq_reader.specs.Shapes.{setting_in}

@@ -1,5 +1,4 @@
-use Rattle.std.proofs.Common.{◌∙◌, ◌+◌, ap, sym, drop, map, Bor}
-use Rattle.std.specs.BTreeMap.{BTreeMap}
+use Rattle.std.proofs.Common.{◌∙◌, ◌+◌, ap, sym, drop, map}
 use Rattle.toml.specs.View.{table_view}
 use Rattle.sq_net.specs.declared.Part.TheVariants as part
 use Rattle.sq_reader.specs.Rawly.{shaped_from}

@@ -1,6 +1,4 @@
-use Rattle.std.proofs.Common.{◌≡◌, ◌∙◌, sym, [], ◌∷◌}
-use Rattle.std.specs.Prelude.{Ok}
-use Rattle.sq_reader.specs.Sources.{columns_from}
+use Rattle.std.proofs.Common.{◌∙◌}
 use Rattle.sq_reader.proofs.SourceLemmas.{sources_more}
 use Rattle.sq_reader.proofs.sources.sources_in.Goals as goal
 

@@ -1,4 +1,4 @@
-use Rattle.std.proofs.Common.{◌≡◌, ◌++◌, ◌∷◌, [], ◌+◌, map, arith, append_assoc}
+use Rattle.std.proofs.Common.{◌∷◌, [], ◌+◌, map, arith, append_assoc}
 use Rattle.std.proofs.lemmas.List.FromFn.{map-range_with_len_more}
 use Rattle.sq_value.specs.Lists.{numbers_to}
 use Rattle.sq_reader.specs.Streaming as streaming
