@@ -4,3 +4,4 @@ mod KindLemmas
 mod TextLemmas
 mod GrammarLemmas
 mod SyntaxLemmas
+mod DerivedLemmas
