@@ -8,3 +8,4 @@ pub mod Bounded
 pub mod Following
 pub mod Streams
 pub mod FirstCycle
+pub mod Producers

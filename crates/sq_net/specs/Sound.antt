@@ -5,7 +5,7 @@ use Rattle.sq_value.specs.Lists.{are_distinct}
 use Rattle.sq_value.specs.Values.{Columns, kinds_of, names_of}
 use Rattle.sq_value.specs.declared.Kind.TheVariants as kind
 use Rattle.sq_expr.specs.Trees.{Checked}
-use Rattle.sq_expr.specs.Kinds.{fits, kind_in}
+use Rattle.sq_expr.specs.Kinds.{fits, kind_in, kinds_agree}
 use Rattle.sq_graph.specs.declared.BoxKind.{BoxKind}
 use Rattle.sq_graph.specs.declared.BoxKind.TheVariants as boxes
 use Rattle.sq_graph.specs.Wires.{producer_of, inputs_of}
@@ -13,6 +13,7 @@ use Rattle.sq_graph.specs.Order.{is_there, IsWired, LiesOnCycle}
 use Rattle.sq_net.specs.declared.Network.{Network}
 use Rattle.sq_net.specs.declared.Source.{Source}
 use Rattle.sq_net.specs.declared.Node.{Node}
+use Rattle.sq_net.specs.declared.Output.{Output}
 use Rattle.sq_net.specs.declared.Body.{Body}
 use Rattle.sq_net.specs.declared.Body.TheVariants.{Filter, Map, Union}
 use Rattle.sq_net.specs.Names.{is_name}
@@ -24,7 +25,7 @@ abbrev pub is_between : ℕ → ℕ → ℕ → Bool
 is_between low high n = nat_le low n && nat_le n high
 
 abbrev pub source_within : Source → Bool
-source_within s = is_between 1 255 (length s.file)
+source_within s = is_between 1 255 (length s.file) && is_between 1 16 (length s.schema)
 
 abbrev pub body_within : Body → Bool
 body_within (Filter preds) = is_between 1 15 (length preds)
@@ -33,6 +34,9 @@ body_within Union = true
 
 abbrev pub node_within : Node → Bool
 node_within b = body_within b.body && is_between 0 1000 b.cost && list_all (is_between 0 1000000) b.selectivity
+
+abbrev pub output_within : Output → Bool
+output_within o = nat_le o.weight 1000 && nat_le (length o.graph) 1000
 
 -- a Union takes 1 to 8 streams, a Join two, and each other box one
 abbrev pub takes_within : BoxKind → ℕ → Bool
@@ -44,7 +48,7 @@ abbrev pub network_within : Network → Bool
 network_within n =
     is_between 1 8 (length n.sources) && is_between 0 128 (length n.boxes) && is_between 1 32 (length n.outputs)
     && is_between 1 (2 ^ 34) n.epoch && is_between 1 1000000 n.batch
-    && list_all source_within n.sources && list_all node_within n.boxes && list_all (λ o. nat_le o.weight 1000) n.outputs
+    && list_all source_within n.sources && list_all node_within n.boxes && list_all output_within n.outputs
     && list_all (λ b. takes_within b.kind (length b.inputs)) n.wires.boxes
 
 -- ---- the wiring and the lists
@@ -70,16 +74,16 @@ abbrev pub first_columns : List Columns → Columns
 first_columns [] = []
 first_columns (cs ∷ rest) = cs
 
--- an expression over these columns
+-- an expression that was checked over these columns
 abbrev pub IsOver : Columns → Checked → Type 0
-IsOver cs e = e.scope ≡ cs
+IsOver cs e = (e.scope ≡ cs) × (kinds_agree e.scope e.tree ≡ true)
 
 -- a predicate over these columns: a boolean, or `null`
 abbrev pub IsPredicate : Columns → Checked → Type 0
 IsPredicate cs e = IsOver cs e × (fits kind.Bool (kind_in e.scope e.tree) ≡ true)
 
--- a Filter's ports have its input's kinds; a Map's port has the kinds of its expressions, under names that are names;
--- a Union's inputs are alike, and its port is as they are
+-- a Filter's ports have its input's kinds; a Map's port has the kinds of its expressions, under names that are names and
+-- differ; a Union's inputs are alike, and its port is as they are
 abbrev pub IsTypedBody : List Columns → Body → List Columns → Type 0
 IsTypedBody ins (Filter preds) ports =
     All (IsPredicate (first_columns ins)) preds × (length ports ≡ length preds + 1)
@@ -87,6 +91,7 @@ IsTypedBody ins (Filter preds) ports =
 IsTypedBody ins (Map exprs) ports =
     (cs : Columns) × (ports ≡ cs ∷ []) × All (IsOver (first_columns ins)) exprs
     × (map (λ e. kind_in e.scope e.tree) exprs ≡ map Some (kinds_of cs)) × All (λ w. is_name w ≡ true) (names_of cs)
+    × (are_distinct (names_of cs) ≡ true)
 IsTypedBody ins Union ports = All (λ cs. cs ≡ first_columns ins) ins × (ports ≡ first_columns ins ∷ [])
 
 -- the columns of what a box takes

@@ -4,7 +4,10 @@
 //! the port that gives it. Below stand the values, the expressions, the quality graphs and the wiring.
 #![tactic(auto)]
 
-ghost use Rattle.std.specs.Prelude.{◌≡◌, ◌<◌, ◌^◌, IfOk, Some, length};
+ghost use Rattle.std.specs.Prelude.{◌≡◌, ◌<◌, ◌^◌, true, IfOk, Some, length};
+ghost use Rattle.sq_graph.specs.Order.{is_there};
+ghost use Rattle.sq_graph.specs.Wires.{producer_of};
+ghost use Rattle.sq_net.specs.Sound.{IsSound};
 ghost use Rattle.sq_net.specs.Streams.{columns_of_stream, IsTyped};
 
 use sq_expr::{ParseErr, Typed};
@@ -64,8 +67,7 @@ pub struct Network {
 }
 
 impl Network {
-    /// The schema of the stream of this number.
-    pub fn stream_schema(&self, stream: u32) -> &Schema
+    fn schema_given(&self, stream: u32) -> &Schema
         requires few { length self.now.wires.boxes < 2 ^ 32 }
         requires there { IsTyped self.now stream }
         ensures { columns_of_stream self.now stream ≡ Some result.now }
@@ -78,6 +80,16 @@ impl Network {
             }
             None => unreachable!(),
         }
+    }
+
+    /// The schema of a stream of a sound network.
+    #[tactic(auto, using(crate::proofs::StreamLemmas::boxes_few, crate::proofs::StreamLemmas::stream_typed))]
+    pub fn stream_schema(&self, stream: u32) -> &Schema
+        requires sound { IsSound self.now }
+        requires there { is_there (producer_of self.now.wires stream) ≡ true }
+        ensures { columns_of_stream self.now stream ≡ Some result.now }
+    {
+        self.schema_given(stream)
     }
 }
 

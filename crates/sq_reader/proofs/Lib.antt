@@ -6,3 +6,9 @@ pub mod SourceLemmas
 pub mod ExpressionLemmas
 pub mod WiringLemmas
 mod Rows
+pub mod ListLemmas
+pub mod DistinctLemmas
+pub mod BodyLemmas
+pub mod NodeLemmas
+pub mod RuleLemmas
+pub mod SoundLemmas

@@ -22,14 +22,15 @@ named_low : (names : List (List ℕ)) (w : List ℕ) (s : ℕ) → stream_named 
 named_low [] w s e = cc
 named_low (x ∷ xs) w s e = (position-Some (same_bytes w) (x ∷ xs) s x e).0
 
-ins_low : (names ins : List (List ℕ)) → AllByRecursion (λ s. s < length names) (filter_map (stream_named names) ins)
-ins_low names [] = tt
-ins_low names (w ∷ ws) = by_case (stream_named names w) refl (ins_low names ws)
+-- what names say is below their number
+low_all : {A : Type 0} (names : List (List ℕ)) (name_of : A → List ℕ) (xs : List A) → AllByRecursion (λ s. s < length names) (filter_map (λ x. stream_named names (name_of x)) xs)
+low_all names name_of [] = tt
+low_all {A} names name_of (x ∷ xs) = by_case (stream_named names (name_of x)) refl (low_all names name_of xs)
   where
-    by_case : (o : Option ℕ) → stream_named names w ≡ o → AllByRecursion (λ s. s < length names) (filter_map (stream_named names) ws)
-        → AllByRecursion (λ s. s < length names) (cons_option o (filter_map (stream_named names) ws))
+    by_case : (o : Option ℕ) → stream_named names (name_of x) ≡ o → AllByRecursion (λ s. s < length names) (filter_map (λ y. stream_named names (name_of y)) xs)
+        → AllByRecursion (λ s. s < length names) (cons_option o (filter_map (λ y. stream_named names (name_of y)) xs))
     by_case None e h = h
-    by_case (Some s) e h = (named_low names w s e, h)
+    by_case (Some s) e h = (named_low names (name_of x) s e, h)
 
 there_low : (w : Wiring) (s : ℕ) → s < length (producers_of w) → is_there (producer_of w s) ≡ true
 there_low w s low = rw (slice_get-get_or (producers_of w) s (Source 0) low) refl
@@ -66,12 +67,20 @@ wired_boxes : (w : Wiring) (names : List (List ℕ)) (bs : List RawBox) → leng
     → AllByRecursion (λ (b : BoxWires). All (λ s. is_there (producer_of w s) ≡ true) b.inputs) (map (box_wires names) bs)
 wired_boxes w names [] e = tt
 wired_boxes w names (b ∷ bs) e = (
-  All-from_recursion (λ s. is_there (producer_of w s) ≡ true) (filter_map (stream_named names) b.ins) (there_all w (length names) (filter_map (stream_named names) b.ins) e (ins_low names b.ins)),
+  All-from_recursion (λ s. is_there (producer_of w s) ≡ true) (filter_map (stream_named names) b.ins) (there_all w (length names) (filter_map (stream_named names) b.ins) e (low_all names (λ w. w) b.ins)),
   wired_boxes w names bs e,
 )
 
+names_count : (names : List (List ℕ)) (r : Raw) → names ≡ stream_names r → length names ≡ length (producers_of (wiring_by names r))
+names_count names r same = ap length same ∙ sym (producers_length names r)
+
 pub is_wired : (names : List (List ℕ)) (r : Raw) → names ≡ stream_names r → IsWired (wiring_by names r)
 is_wired names r same =
-    let count : length names ≡ length (producers_of (wiring_by names r)) = ap length same ∙ sym (producers_length names r) in
     All-from_recursion (λ (b : BoxWires). All (λ s. is_there (producer_of (wiring_by names r) s) ≡ true) b.inputs) (map (box_wires names) r.boxes)
-    (wired_boxes (wiring_by names r) names r.boxes count)
+    (wired_boxes (wiring_by names r) names r.boxes (names_count names r same))
+
+pub outputs_shown : (names : List (List ℕ)) (r : Raw) → names ≡ stream_names r
+    → All (λ s. is_there (producer_of (wiring_by names r) s) ≡ true) (filter_map (λ o. stream_named names o.from) r.outputs)
+outputs_shown names r same =
+    All-from_recursion (λ s. is_there (producer_of (wiring_by names r) s) ≡ true) (filter_map (λ o. stream_named names o.from) r.outputs)
+    (there_all (wiring_by names r) (length names) (filter_map (λ o. stream_named names o.from) r.outputs) (names_count names r same) (low_all names (λ o. o.from) r.outputs))

@@ -1,0 +1,85 @@
+-- Names of which none is one of those in front of it.
+use Rattle.std.proofs.Common.{◌≡◌, ◌∙◌, sym, refl, ℕ, ◌+◌, Bool, true, false, not, ◌&&◌, List, [], ◌∷◌, ◌++◌, Some, None, cond}
+use Rattle.std.specs.List.{list_any, AllByRecursion}
+use Rattle.std.specs.Str.{bytes_eq}
+use Rattle.std.proofs.lemmas.List.Folds.{list_any-append}
+use Rattle.std.proofs.lemmas.Map.Text.{is_eq-slice_cmp}
+use Rattle.std.proofs.lemmas.Slice.Eq.{bytes_eq-Decides}
+use Rattle.sq_value.specs.Lists.{same_bytes, contains_bytes, are_distinct}
+use Rattle.sq_graph.proofs.Cycles.{or_none}
+use Rattle.sq_net.specs.Names.{is_name}
+use Rattle.sq_reader.specs.Naming.{repeat_after}
+use Rattle.sq_reader.specs.Columns.{bad_name_from}
+
+pub same_text : (a b : List ℕ) → same_bytes a b ≡ true → a ≡ b
+same_text a b h = (bytes_eq-Decides a b).0 (sym (is_eq-slice_cmp a b) ∙ h)
+
+itself : (a : List ℕ) → same_bytes a a ≡ true
+itself a = is_eq-slice_cmp a a ∙ (bytes_eq-Decides a a).1 refl
+
+turned : (a b : List ℕ) → same_bytes a b ≡ false → same_bytes b a ≡ false
+turned a b h = by_test (same_bytes b a) refl
+  where
+    by_test : (t : Bool) → same_bytes b a ≡ t → same_bytes b a ≡ false
+    by_test true e = let same : b ≡ a = same_text b a e in let all = rw same at h in let me = itself a in cc
+    by_test false e = e
+
+-- each name is none of these, and none of those in front of it
+abbrev pub IsNew : List (List ℕ) → List (List ℕ) → Type 0
+IsNew before [] = Unit {0}
+IsNew before (x ∷ xs) = (contains_bytes x before ≡ false) × IsNew (before ++ x ∷ []) xs
+
+-- none is these or x
+split_out : (before : List (List ℕ)) (x : List ℕ) (ys : List (List ℕ)) → AllByRecursion (λ y. contains_bytes y (before ++ x ∷ []) ≡ false) ys
+    → AllByRecursion (λ y. contains_bytes y before ≡ false) ys × (contains_bytes x ys ≡ false)
+split_out before x [] h = (tt, refl)
+split_out before x (y ∷ ys) h =
+    let more = split_out before x ys h.1 in
+    let parts = or_none (contains_bytes y before) (contains_bytes y (x ∷ [])) (sym (list_any-append (same_bytes y) before (x ∷ [])) ∙ h.0) in
+    let here = or_none (same_bytes y x) false parts.1 in
+    let apart = turned y x here.0 in
+    ((parts.0, more.0), rw (apart, more.1) refl)
+
+new_out : (before xs : List (List ℕ)) → IsNew before xs → AllByRecursion (λ y. contains_bytes y before ≡ false) xs
+new_out before [] h = tt
+new_out before (x ∷ xs) h = (h.0, (split_out before x xs (new_out (before ++ x ∷ []) xs h.1)).0)
+
+pub new_distinct : (before xs : List (List ℕ)) → IsNew before xs → are_distinct xs ≡ true
+new_distinct before [] h = refl
+new_distinct before (x ∷ xs) h =
+    let apart = (split_out before x xs (new_out (before ++ x ∷ []) xs h.1)).1 in
+    let more = new_distinct (before ++ x ∷ []) xs h.1 in
+    rw (apart, more) refl
+
+seen_is : (x : List ℕ) (seen : List (List ℕ)) → contains_bytes x seen ≡ list_any (bytes_eq x) seen
+seen_is x [] = refl
+seen_is x (y ∷ ys) = rw (is_eq-slice_cmp x y, seen_is x ys) refl
+
+pub none_repeated : (seen : List (List ℕ)) (n : ℕ) (xs : List (List ℕ)) → repeat_after seen n xs ≡ None → IsNew seen xs
+none_repeated seen n [] e = tt
+none_repeated seen n (x ∷ xs) e = by_test (list_any (bytes_eq x) seen) refl (none_repeated (seen ++ x ∷ []) (n + 1) xs) e
+  where
+    by_test : (b : Bool) → list_any (bytes_eq x) seen ≡ b → (repeat_after (seen ++ x ∷ []) (n + 1) xs ≡ None → IsNew (seen ++ x ∷ []) xs)
+        → cond b (Some n) (repeat_after (seen ++ x ∷ []) (n + 1) xs) ≡ None → (contains_bytes x seen ≡ false) × IsNew (seen ++ x ∷ []) xs
+    by_test true is more e = cc
+    by_test false is more e = (seen_is x seen ∙ is, more e)
+
+fresh_name : (named seen : Bool) → (named && not seen) ≡ true → (named ≡ true) × (seen ≡ false)
+fresh_name true true h = cc
+fresh_name true false h = (refl, refl)
+fresh_name false seen h = cc
+
+-- where no name is bad, each is a name and new
+pub none_bad : (before : List (List ℕ)) (i : ℕ) (ws : List (List ℕ)) → bad_name_from before i ws ≡ None → AllByRecursion (λ w. is_name w ≡ true) ws × IsNew before ws
+none_bad before i [] e = (tt, tt)
+none_bad before i (w ∷ ws) e = by_test (is_name w && not (contains_bytes w before)) refl (none_bad (before ++ w ∷ []) (i + 1) ws) e
+  where
+    by_test : (b : Bool) → (is_name w && not (contains_bytes w before)) ≡ b
+        → (bad_name_from (before ++ w ∷ []) (i + 1) ws ≡ None → AllByRecursion (λ v. is_name v ≡ true) ws × IsNew (before ++ w ∷ []) ws)
+        → cond b (bad_name_from (before ++ w ∷ []) (i + 1) ws) (Some i) ≡ None
+        → ((is_name w ≡ true) × AllByRecursion (λ v. is_name v ≡ true) ws) × ((contains_bytes w before ≡ false) × IsNew (before ++ w ∷ []) ws)
+    by_test true is more e =
+        let here = fresh_name (is_name w) (contains_bytes w before) is in
+        let rest = more e in
+        ((here.0, rest.0), (here.1, rest.1))
+    by_test false is more e = cc

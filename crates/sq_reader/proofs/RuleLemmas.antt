@@ -1,0 +1,234 @@
+-- What each rule that a file keeps says of it.
+use Rattle.std.proofs.Common.{◌≡◌, ◌∙◌, ap, subst, refl, ℕ, suc, ◌+◌, Bool, true, false, ◌&&◌, ◌==◌, List, [], ◌∷◌, ◌++◌, map, length, Option, Some, None, ℤ, pos, negsuc, cond, arith}
+use Rattle.std.specs.Prelude.{Ok, codes}
+use Rattle.std.specs.List.{filter_map, list_all, AllByRecursion}
+use Rattle.std.specs.Option.{option_map}
+use Rattle.std.proofs.lemmas.Bool.Decides.{nat_tests}
+use Rattle.toml.specs.Data.{Members, get_member, as_str, as_integer}
+use Rattle.sq_value.specs.Lists.{are_distinct}
+use Rattle.sq_value.specs.Values.{Columns}
+use Rattle.sq_graph.specs.declared.BoxWires.{BoxWires}
+use Rattle.sq_net.specs.declared.Source.{Source}
+use Rattle.sq_net.specs.declared.NetErr.{NetErr}
+use Rattle.sq_net.specs.declared.NetErr.TheVariants as broken
+use Rattle.sq_net.specs.declared.Part.TheVariants as part
+use Rattle.sq_net.specs.declared.Place.{Place}
+use Rattle.sq_net.specs.Names.{is_name}
+use Rattle.sq_net.specs.Sound.{is_between, source_within, takes_within}
+use Rattle.sq_reader.specs.declared.raw.RawSource.{RawSource}
+use Rattle.sq_reader.specs.declared.raw.RawBody.{RawBody}
+use Rattle.sq_reader.specs.declared.raw.RawBody.TheVariants.{Filter, Map, Union}
+use Rattle.sq_reader.specs.declared.raw.RawBox.{RawBox}
+use Rattle.sq_reader.specs.declared.raw.Raw.{Raw}
+use Rattle.sq_reader.specs.Documents as option
+use Rattle.sq_reader.specs.Documents.{list_in, optional, required, when}
+use Rattle.sq_reader.specs.Places.{or_else, place_at, place_of}
+use Rattle.sq_reader.specs.Shapes.{body_in, box_in, default_selectivity, output_in, ports_of, source_in, top_in}
+use Rattle.sq_reader.specs.Rawly.{◌>>=◌, or_broken, raw_in, shaped_from}
+use Rattle.sq_reader.specs.Limits as limits
+use Rattle.sq_reader.specs.Limits.{body_within, box_within, first_failing, has_between, inputs_within, limit_place, top_within}
+use Rattle.sq_reader.specs.Naming.{first_repeat, name_place, place_in_space, space_names, twice_place}
+use Rattle.sq_reader.specs.Sources.{column_in, columns_from, source_of, sources_from}
+use Rattle.sq_reader.specs.Streaming.{box_wires, is_stream, kind_of_body, stream_named, unknown_among, unknown_in_boxes}
+use Rattle.sq_reader.specs.Columns.{nat_of}
+use Rattle.sq_reader.proofs.LimitLemmas.{and_parts}
+use Rattle.sq_reader.proofs.ListLemmas.{all_given, none_failing, nothing_mapped}
+use Rattle.sq_reader.proofs.DistinctLemmas.{new_distinct, none_repeated}
+use Rattle.sq_reader.proofs.BodyLemmas.{first_step}
+
+pub and_both : (a b : Bool) → a ≡ true → b ≡ true → (a && b) ≡ true
+and_both true b h g = g
+and_both false b h g = cc
+
+neither : {A : Type 0} (a b : Option A) → or_else a b ≡ None → (a ≡ None) × (b ≡ None)
+neither None b h = (refl, h)
+neither (Some x) b h = cc
+
+-- ---- shape
+
+first_part : {A B : Type 0} (o : Option A) (f : A → Option B) (y : B) → option.◌>>=◌ o f ≡ Some y → (x : A) × ((o ≡ Some x) × (f x ≡ Some y))
+first_part None f y e = cc
+first_part (Some x) f y e = (x, (refl, e))
+
+-- a selectivity for each port
+abbrev pub IsEven : RawBox → Type 0
+IsEven b = length b.selectivity ≡ ports_of b.body
+
+when_even : (b raw : RawBox) → when (length b.selectivity == ports_of b.body) b ≡ Some raw → IsEven raw
+when_even b raw h = by_test (length b.selectivity == ports_of b.body) refl h
+  where
+    by_test : (t : Bool) → (length b.selectivity == ports_of b.body) ≡ t → when t b ≡ Some raw → IsEven raw
+    by_test true is e =
+        let same : b ≡ raw = cc in
+        let even : IsEven b = grind (arith, nat_tests) in
+        subst IsEven same even
+    by_test false is e = cc
+
+abbrev boxed : List ℕ → RawBody → List (List ℕ) → ℤ → List ℤ → RawBox
+boxed name body ins cost selectivity = record { name = name; body = body; ins = ins; cost = cost; selectivity = selectivity }
+
+abbrev weighed : Members → List ℕ → RawBody → List (List ℕ) → ℤ → Option RawBox
+weighed ms name body ins cost =
+    option.◌>>=◌ (optional (default_selectivity (ports_of body)) (list_in as_integer) (get_member (codes "selectivity") ms))
+    (λ selectivity. when (length selectivity == ports_of body) (boxed name body ins cost selectivity))
+
+abbrev priced : Members → List ℕ → RawBody → List (List ℕ) → Option RawBox
+priced ms name body ins = option.◌>>=◌ (optional (pos 1) as_integer (get_member (codes "cost") ms)) (weighed ms name body ins)
+
+abbrev fed : Members → RawBody → List ℕ → Option RawBox
+fed ms body name = option.◌>>=◌ (required (list_in as_str) (get_member (codes "in") ms)) (priced ms name body)
+
+abbrev called : Members → RawBody → Option RawBox
+called ms body = option.◌>>=◌ (required as_str (get_member (codes "name") ms)) (fed ms body)
+
+box_even : (ms : Members) (raw : RawBox) → box_in ms ≡ Some raw → IsEven raw
+box_even ms raw h =
+    let kind = first_part (required as_str (get_member (codes "kind") ms)) (λ k. option.◌>>=◌ (body_in k ms) (called ms)) raw h in
+    let body = first_part (body_in kind.0 ms) (called ms) raw kind.1.1 in
+    let name = first_part (required as_str (get_member (codes "name") ms)) (fed ms body.0) raw body.1.1 in
+    let ins = first_part (required (list_in as_str) (get_member (codes "in") ms)) (priced ms name.0 body.0) raw name.1.1 in
+    let cost = first_part (optional (pos 1) as_integer (get_member (codes "cost") ms)) (weighed ms name.0 body.0 ins.0) raw ins.1.1 in
+    let last = first_part (optional (default_selectivity (ports_of body.0)) (list_in as_integer) (get_member (codes "selectivity") ms)) (λ selectivity. when (length selectivity == ports_of body.0) (boxed name.0 body.0 ins.0 cost.0 selectivity)) raw cost.1.1 in
+    when_even (boxed name.0 body.0 ins.0 cost.0 last.0) raw last.1.1
+
+read_as : {A : Type 0} (b : NetErr) (o : Option A) (x : A) → or_broken b o ≡ Ok x → o ≡ Some x
+read_as b None x e = cc
+read_as b (Some y) x e = let same : y ≡ x = cc in ap Some same
+
+boxes_even : (n : ℕ) (ts : List Members) (boxes : List RawBox) → shaped_from part.Box box_in n ts ≡ Ok boxes → AllByRecursion IsEven boxes
+boxes_even n [] boxes h = let same : [] ≡ boxes = cc in subst (λ (bs : List RawBox). AllByRecursion IsEven bs) same tt
+boxes_even n (t ∷ ts) boxes h =
+    let fault : NetErr = broken.Shape (place_of part.Box n) in
+    let one = first_step (or_broken fault (box_in t)) (λ b. shaped_from part.Box box_in (n + 1) ts >>= λ bs. Ok (b ∷ bs)) boxes h in
+    let two = first_step (shaped_from part.Box box_in (n + 1) ts) (λ bs. Ok (one.0 ∷ bs)) boxes one.1.1 in
+    let same : one.0 ∷ two.0 ≡ boxes = (let last = two.1.1 in cc) in
+    subst (λ (bs : List RawBox). AllByRecursion IsEven bs) same (box_even t one.0 (read_as fault (box_in t) one.0 one.1.0), boxes_even (n + 1) ts two.0 two.1.0)
+
+pub raw_even : (ms : Members) (r : Raw) → raw_in ms ≡ Ok r → AllByRecursion IsEven r.boxes
+raw_even ms r h =
+    let top = first_step (or_broken (broken.Shape (place_of part.Top 0)) (top_in ms)) (λ t.
+    shaped_from part.Source source_in 0 t.sources >>= λ sources.
+    shaped_from part.Box box_in 0 t.boxes >>= λ boxes.
+    shaped_from part.Output output_in 0 t.outputs >>= λ outputs.
+    Ok (record { epoch = t.epoch; batch = t.batch; sources = sources; boxes = boxes; outputs = outputs })) r h in
+    let sources = first_step (shaped_from part.Source source_in 0 top.0.sources) (λ sources.
+    shaped_from part.Box box_in 0 top.0.boxes >>= λ boxes.
+    shaped_from part.Output output_in 0 top.0.outputs >>= λ outputs.
+    Ok (record { epoch = top.0.epoch; batch = top.0.batch; sources = sources; boxes = boxes; outputs = outputs })) r top.1.1 in
+    let boxes = first_step (shaped_from part.Box box_in 0 top.0.boxes) (λ boxes.
+    shaped_from part.Output output_in 0 top.0.outputs >>= λ outputs.
+    Ok (record { epoch = top.0.epoch; batch = top.0.batch; sources = sources.0; boxes = boxes; outputs = outputs })) r sources.1.1 in
+    let outputs = first_step (shaped_from part.Output output_in 0 top.0.outputs) (λ outputs.
+    Ok (record { epoch = top.0.epoch; batch = top.0.batch; sources = sources.0; boxes = boxes.0; outputs = outputs })) r boxes.1.1 in
+    let raw : Raw = record { epoch = top.0.epoch; batch = top.0.batch; sources = sources.0; boxes = boxes.0; outputs = outputs.0 } in
+    let same : raw ≡ r = (let last = outputs.1.1 in cc) in
+    subst (λ (x : Raw). AllByRecursion IsEven x.boxes) same (boxes_even 0 top.0.boxes boxes.0 boxes.1.0)
+
+-- ---- limits
+
+pub number_within : (low high : ℕ) (z : ℤ) → limits.is_between low high z ≡ true → is_between low high (nat_of z) ≡ true
+number_within low high (pos n) h = h
+number_within low high (negsuc n) h = cc
+
+pub numbers_within : (low high : ℕ) (zs : List ℤ) → list_all (limits.is_between low high) zs ≡ true → list_all (is_between low high) (map nat_of zs) ≡ true
+numbers_within low high [] h = refl
+numbers_within low high (z ∷ zs) h =
+    let parts = and_parts (limits.is_between low high z) (list_all (limits.is_between low high) zs) h in
+    and_both (is_between low high (nat_of z)) (list_all (is_between low high) (map nat_of zs)) (number_within low high z parts.0) (numbers_within low high zs parts.1)
+
+pub record IsWithin (r : Raw) : Type 0 where
+  pub top : top_within r ≡ true
+  pub sources : list_all limits.source_within r.sources ≡ true
+  pub boxes : list_all box_within r.boxes ≡ true
+
+pub is_within : (r : Raw) → limit_place r ≡ None → IsWithin r
+is_within r h = by_test (top_within r) refl h
+  where
+    rest : Option Place
+    rest = or_else (option_map (place_of part.Source) (first_failing limits.source_within r.sources)) (option_map (place_of part.Box) (first_failing box_within r.boxes))
+
+    by_test : (b : Bool) → top_within r ≡ b → cond b (or_else (option_map (place_of part.Source) (first_failing limits.source_within r.sources)) (option_map (place_of part.Box) (first_failing box_within r.boxes))) (Some (place_of part.Top 0)) ≡ None → IsWithin r
+    by_test true is e =
+        let parts = neither (option_map (place_of part.Source) (first_failing limits.source_within r.sources)) (option_map (place_of part.Box) (first_failing box_within r.boxes)) e in
+        record {
+          top = is;
+          sources = none_failing limits.source_within r.sources (nothing_mapped (place_of part.Source) (first_failing limits.source_within r.sources) parts.0);
+          boxes = none_failing box_within r.boxes (nothing_mapped (place_of part.Box) (first_failing box_within r.boxes) parts.1);
+        }
+    by_test false is e = cc
+
+columns_length : (n i : ℕ) (before ws : List (List ℕ)) (cs : Columns) → columns_from n i before ws ≡ Ok cs → length cs ≡ length ws
+columns_length n i before [] cs h = let same : [] ≡ cs = cc in rw (← same) refl
+columns_length n i before (w ∷ ws) cs h =
+    let fault : NetErr = broken.Schema (place_at part.Source n i) in
+    let one = first_step (or_broken fault (column_in before w)) (λ c. columns_from n (i + 1) (before ++ c.0 ∷ []) ws >>= λ rest. Ok (c ∷ rest)) cs h in
+    let two = first_step (columns_from n (i + 1) (before ++ one.0.0 ∷ []) ws) (λ rest. Ok (one.0 ∷ rest)) cs one.1.1 in
+    let same : one.0 ∷ two.0 ≡ cs = (let last = two.1.1 in cc) in
+    rw (← same) (ap suc (columns_length n (i + 1) (before ++ one.0.0 ∷ []) ws two.0 two.1.0))
+
+pub sources_within : (n : ℕ) (raws : List RawSource) (ss : List Source) → sources_from n raws ≡ Ok ss → list_all limits.source_within raws ≡ true
+    → (list_all source_within ss ≡ true) × (length ss ≡ length raws)
+sources_within n [] ss h w = let same : [] ≡ ss = cc in subst (λ (xs : List Source). (list_all source_within xs ≡ true) × (length xs ≡ 0)) same (refl, refl)
+sources_within n (raw ∷ raws) ss h w =
+    let parts = and_parts (limits.source_within raw) (list_all limits.source_within raws) w in
+    let here = and_parts (has_between 1 255 raw.file) (has_between 1 16 raw.fields) parts.0 in
+    let one = first_step (columns_from n 0 [] raw.fields) (λ cs. sources_from (n + 1) raws >>= λ rest. Ok (source_of raw cs ∷ rest)) ss h in
+    let two = first_step (sources_from (n + 1) raws) (λ rest. Ok (source_of raw one.0 ∷ rest)) ss one.1.1 in
+    let same : source_of raw one.0 ∷ two.0 ≡ ss = (let last = two.1.1 in cc) in
+    let more = sources_within (n + 1) raws two.0 two.1.0 parts.1 in
+    let long : length one.0 ≡ length raw.fields = columns_length n 0 [] raw.fields one.0 one.1.0 in
+    let fields : is_between 1 16 (length one.0) ≡ true = ap (λ (k : ℕ). is_between 1 16 k) long ∙ here.1 in
+    subst (λ (xs : List Source). (list_all source_within xs ≡ true) × (length xs ≡ suc (length raws))) same
+    (and_both (source_within (source_of raw one.0)) (list_all source_within two.0) (and_both (is_between 1 255 (length raw.file)) (is_between 1 16 (length one.0)) here.0 fields) more.0, ap suc more.1)
+
+-- ---- names
+
+pub outputs_named : (r : Raw) → name_place r ≡ None → list_all (λ o. is_name o.name) r.outputs ≡ true
+outputs_named r h =
+    let one = neither (option_map (place_of part.Source) (first_failing (λ s. is_name s.name) r.sources)) (or_else (option_map (place_of part.Box) (first_failing (λ b. is_name b.name) r.boxes)) (option_map (place_of part.Output) (first_failing (λ o. is_name o.name) r.outputs))) h in
+    let two = neither (option_map (place_of part.Box) (first_failing (λ b. is_name b.name) r.boxes)) (option_map (place_of part.Output) (first_failing (λ o. is_name o.name) r.outputs)) one.1 in
+    none_failing (λ o. is_name o.name) r.outputs (nothing_mapped (place_of part.Output) (first_failing (λ o. is_name o.name) r.outputs) two.1)
+
+pub outputs_distinct : (r : Raw) → twice_place r ≡ None → are_distinct (map (λ o. o.name) r.outputs) ≡ true
+outputs_distinct r h =
+    let parts = neither (option_map (place_in_space r) (first_repeat (space_names r))) (option_map (place_of part.Output) (first_repeat (map (λ o. o.name) r.outputs))) h in
+    let none = nothing_mapped (place_of part.Output) (first_repeat (map (λ o. o.name) r.outputs)) parts.1 in
+    new_distinct [] (map (λ o. o.name) r.outputs) (none_repeated [] 0 (map (λ o. o.name) r.outputs) none)
+
+-- ---- streams
+
+pub outputs_known : (names : List (List ℕ)) (r : Raw) → unknown_among names r ≡ None → length (filter_map (λ o. stream_named names o.from) r.outputs) ≡ length r.outputs
+outputs_known names r h =
+    let parts = neither (unknown_in_boxes names 0 r.boxes) (option_map (place_of part.Output) (first_failing (λ o. is_stream names o.from) r.outputs)) h in
+    all_given (λ o. stream_named names o.from) r.outputs (none_failing (λ o. is_stream names o.from) r.outputs (nothing_mapped (place_of part.Output) (first_failing (λ o. is_stream names o.from) r.outputs) parts.1))
+
+takes_as : (names : List (List ℕ)) (b : RawBox) → length (filter_map (stream_named names) b.ins) ≡ length b.ins → inputs_within b.body b.ins ≡ true
+    → takes_within (box_wires names b).kind (length (box_wires names b).inputs) ≡ true
+takes_as names b long h = by_body b.body h
+  where
+    one_only : (k : ℕ) → is_between 1 1 k ≡ true → (k == 1) ≡ true
+    one_only k h = grind (arith, nat_tests)
+
+    by_body : (raw : RawBody) → inputs_within raw b.ins ≡ true → takes_within (kind_of_body raw) (length (filter_map (stream_named names) b.ins)) ≡ true
+    by_body (Filter preds) h = rw long (one_only (length b.ins) h)
+    by_body (Map set) h = rw long (one_only (length b.ins) h)
+    by_body Union h = rw long h
+
+takes_from : (names : List (List ℕ)) (n : ℕ) (boxes : List RawBox) → unknown_in_boxes names n boxes ≡ None → list_all box_within boxes ≡ true
+    → list_all (λ (w : BoxWires). takes_within w.kind (length w.inputs)) (map (box_wires names) boxes) ≡ true
+takes_from names n [] h w = refl
+takes_from names n (b ∷ bs) h w =
+    let known = neither (option_map (place_at part.Box n) (first_failing (is_stream names) b.ins)) (unknown_in_boxes names (n + 1) bs) h in
+    let long = all_given (stream_named names) b.ins (none_failing (is_stream names) b.ins (nothing_mapped (place_at part.Box n) (first_failing (is_stream names) b.ins) known.0)) in
+    let parts = and_parts (box_within b) (list_all box_within bs) w in
+    let front = and_parts (body_within b.body && inputs_within b.body b.ins && limits.is_between 0 1000 b.cost) (list_all (limits.is_between 0 1000000) b.selectivity) parts.0 in
+    let middle = and_parts (body_within b.body && inputs_within b.body b.ins) (limits.is_between 0 1000 b.cost) front.0 in
+    let ins = and_parts (body_within b.body) (inputs_within b.body b.ins) middle.0 in
+    and_both (takes_within (box_wires names b).kind (length (box_wires names b).inputs)) (list_all (λ (w : BoxWires). takes_within w.kind (length w.inputs)) (map (box_wires names) bs))
+    (takes_as names b long ins.1) (takes_from names (n + 1) bs known.1 parts.1)
+
+pub takes_all : (names : List (List ℕ)) (r : Raw) → unknown_among names r ≡ None → list_all box_within r.boxes ≡ true
+    → list_all (λ (w : BoxWires). takes_within w.kind (length w.inputs)) (map (box_wires names) r.boxes) ≡ true
+takes_all names r h w =
+    let parts = neither (unknown_in_boxes names 0 r.boxes) (option_map (place_of part.Output) (first_failing (λ o. is_stream names o.from) r.outputs)) h in
+    takes_from names 0 r.boxes parts.0 w

@@ -1,0 +1,295 @@
+-- A network that is read is sound.
+use Rattle.std.proofs.Common.{◌≡◌, ◌∙◌, sym, ap, subst, refl, ℕ, ◌<◌, ◌^◌, Bool, true, false, ◌&&◌, List, [], ◌∷◌, map, length, Option, Some, None, slice_get, cond, arith, inl, inr}
+use Rattle.std.specs.Prelude.{Result, Ok, Err, IfOk}
+use Rattle.std.specs.List.{cons_option, filter_map, find, list_all, AllByRecursion}
+use Rattle.std.specs.Option.{option_map}
+use Rattle.std.proofs.lemmas.Bool.{cases_lt}
+use Rattle.std.proofs.lemmas.List.{length-map, length-replicate}
+use Rattle.std.proofs.lemmas.List.Elements.{All-map, All-from_recursion}
+use Rattle.std.proofs.lemmas.Option.{slice_get-map, slice_get_within}
+use Rattle.toml.specs.Data.{Members}
+use Rattle.sq_value.specs.Lists.{are_distinct, numbers_to}
+use Rattle.sq_value.specs.Values.{Columns}
+use Rattle.sq_graph.specs.declared.BoxWires.{BoxWires}
+use Rattle.sq_graph.specs.declared.Wiring.{Wiring}
+use Rattle.sq_graph.specs.Wires.{Producer, Source, Port, producer_of, inputs_of}
+use Rattle.sq_graph.specs.Order.{contains_number, is_on_cycle, order_of, IsWired, LiesOnCycle}
+use Rattle.sq_graph.proofs.Bounded.{on_cycle}
+use Rattle.sq_graph.proofs.Cycles.{has_is, none_missing}
+use Rattle.sq_graph.proofs.Finding.{unfound}
+use Rattle.sq_graph.proofs.FirstCycle.{cycle_is_of_box}
+use Rattle.sq_graph.proofs.Placing.{order_placed, short_on_cycle}
+use Rattle.sq_net.specs.declared.Source as declared
+use Rattle.sq_net.specs.declared.Node.{Node}
+use Rattle.sq_net.specs.declared.Output.{Output}
+use Rattle.sq_net.specs.declared.Network.{Network}
+use Rattle.sq_net.specs.declared.NetErr.{NetErr}
+use Rattle.sq_net.specs.declared.NetErr.TheVariants as broken
+use Rattle.sq_net.specs.declared.Part.TheVariants as part
+use Rattle.sq_net.specs.declared.Place.{Place}
+use Rattle.sq_net.specs.Names.{is_name}
+use Rattle.sq_net.specs.Streams.{columns_given, columns_of_port, columns_of_stream}
+use Rattle.sq_net.specs.Sound.{Agrees, IsSound, body_within, input_columns, is_between, kind_of_body, network_within, node_within, output_within}
+use Rattle.sq_reader.specs.declared.raw.RawBox.{RawBox}
+use Rattle.sq_reader.specs.declared.raw.RawOutput.{RawOutput}
+use Rattle.sq_reader.specs.declared.raw.Raw.{Raw}
+use Rattle.sq_reader.specs.Places.{place_of}
+use Rattle.sq_reader.specs.Refusals.{Answers}
+use Rattle.sq_reader.specs.Rawly.{◌>>=◌, raw_in}
+use Rattle.sq_reader.specs.Unbuilt.{unbuilt_place}
+use Rattle.sq_reader.specs.Limits as limits
+use Rattle.sq_reader.specs.Limits.{box_within, has_between, limit_place}
+use Rattle.sq_reader.specs.Naming.{name_place, twice_place}
+use Rattle.sq_reader.specs.Shapes.{ports_of}
+use Rattle.sq_reader.specs.Streaming as wires
+use Rattle.sq_reader.specs.Streaming.{box_wires, cycle_in, stream_named, stream_names, unknown_among, wiring_by, wiring_of}
+use Rattle.sq_reader.specs.Sources.{sources_from}
+use Rattle.sq_reader.specs.Columns.{columns_known, columns_taken, nat_of, no_nodes, node_known, node_of_box, nodes_from}
+use Rattle.sq_reader.specs.Networks.{is_version_one, named_network, network_from, network_of, ordered_network, output_of, single_network, streamed_network, typed_network, unless_at, wired_network}
+use Rattle.sq_reader.proofs.LimitLemmas.{and_parts}
+use Rattle.sq_reader.proofs.ListLemmas.{all_by_place, each_passes, maps_same, nothing_mapped, passes_at}
+use Rattle.sq_reader.proofs.WiringLemmas.{is_wired, outputs_shown}
+use Rattle.sq_reader.proofs.BodyLemmas.{IsNodeOf, first_step, node_is}
+use Rattle.sq_reader.proofs.NodeLemmas.{AreSettled, IsSettled, all_known, follow_all, settled}
+use Rattle.sq_reader.proofs.RuleLemmas.{IsEven, and_both, is_within, number_within, numbers_within, outputs_distinct, outputs_known, outputs_named, raw_even, sources_within, takes_all}
+
+-- ---- the rules that the file keeps
+
+-- a file's tables that keep every rule, and what they are as sources and boxes
+pub record IsRead (r : Raw) (ss : List declared.Source) (nodes : List (Option Node)) : Type 0 where
+  pub even : AllByRecursion IsEven r.boxes
+  pub limit : limit_place r ≡ None
+  pub named : name_place r ≡ None
+  pub single : twice_place r ≡ None
+  pub known : unknown_among (stream_names r) r ≡ None
+  pub acyclic : cycle_in (wiring_of r) ≡ None
+  pub given : sources_from 0 r.sources ≡ Ok ss
+  pub typed : nodes_from r (wiring_of r) ss (no_nodes (length r.boxes)) (order_of (wiring_of r)) ≡ Ok nodes
+
+none_broken : {A : Type 0} (e : Place → NetErr) (o : Option Place) (more : Result A NetErr) (x : A) → unless_at e o more ≡ Ok x → (o ≡ None) × (more ≡ Ok x)
+none_broken e None more x h = (refl, h)
+none_broken e (Some p) more x h = cc
+
+if_so : {A : Type 0} (b : Bool) (e : NetErr) (more : Result A NetErr) (x : A) → cond b more (Err e) ≡ Ok x → more ≡ Ok x
+if_so true e more x h = h
+if_so false e more x h = cc
+
+-- what a network is read from
+pub record IsReadAs (n : Network) : Type 0 where
+  pub raw : Raw
+  pub sources : List declared.Source
+  pub nodes : List (Option Node)
+  pub read : IsRead raw sources nodes
+  pub same : network_of raw (wiring_of raw) sources nodes ≡ n
+
+pub read_as : (ms : Members) (n : Network) → network_from ms ≡ Ok n → IsReadAs n
+read_as ms n h =
+    let versioned = if_so (is_version_one ms) broken.Version (unless_at broken.NotBuilt (unbuilt_place ms) (raw_in ms >>= typed_network)) n h in
+    let built = none_broken broken.NotBuilt (unbuilt_place ms) (raw_in ms >>= typed_network) n versioned in
+    let shaped = first_step (raw_in ms) typed_network n built.1 in
+    let limited = none_broken broken.Limit (limit_place shaped.0) (named_network shaped.0) n shaped.1.1 in
+    let named = none_broken broken.NoName (name_place shaped.0) (single_network shaped.0) n limited.1 in
+    let single = none_broken broken.Twice (twice_place shaped.0) (streamed_network shaped.0 (stream_names shaped.0)) n named.1 in
+    let known = none_broken broken.Unknown (unknown_among (stream_names shaped.0) shaped.0) (wired_network shaped.0 (wiring_of shaped.0)) n single.1 in
+    let acyclic = none_broken broken.Cycle (cycle_in (wiring_of shaped.0)) (ordered_network shaped.0 (wiring_of shaped.0)) n known.1 in
+    let sources = first_step (sources_from 0 shaped.0.sources) (λ ss.
+    nodes_from shaped.0 (wiring_of shaped.0) ss (no_nodes (length shaped.0.boxes)) (order_of (wiring_of shaped.0)) >>= λ nodes.
+    Ok (network_of shaped.0 (wiring_of shaped.0) ss nodes)) n acyclic.1 in
+    let nodes = first_step (nodes_from shaped.0 (wiring_of shaped.0) sources.0 (no_nodes (length shaped.0.boxes)) (order_of (wiring_of shaped.0))) (λ nodes.
+    Ok (network_of shaped.0 (wiring_of shaped.0) sources.0 nodes)) n sources.1.1 in
+    record {
+      raw = shaped.0;
+      sources = sources.0;
+      nodes = nodes.0;
+      read = record {
+        even = raw_even ms shaped.0 shaped.1.0;
+        limit = limited.0;
+        named = named.0;
+        single = single.0;
+        known = known.0;
+        acyclic = acyclic.0;
+        given = sources.1.0;
+        typed = nodes.1.0;
+      };
+      same = (let last = nodes.1.1 in cc);
+    }
+
+-- ---- no box lies on a cycle, so each is typed
+
+pub none_on_cycle : (w : Wiring) → cycle_in w ≡ None → (at : ℕ) → LiesOnCycle w at → ⊥
+none_on_cycle w h at on =
+    let none : find (is_on_cycle w) (numbers_to (length w.boxes)) ≡ None = nothing_mapped (place_of part.Box) (find (is_on_cycle w) (numbers_to (length w.boxes))) h in
+    let off : is_on_cycle w at ≡ false = unfound (is_on_cycle w) (length w.boxes) none at (cycle_is_of_box w at on) in
+    let lies : is_on_cycle w at ≡ true = on_cycle w at on in
+    cc
+
+all_ordered : (w : Wiring) → IsWired w → ((at : ℕ) → LiesOnCycle w at → ⊥) → (at : ℕ) → at < length w.boxes → contains_number (order_of w) at ≡ true
+all_ordered w wired none at low =
+    elim (cases_lt (length (order_of w)) (length w.boxes)) [
+      | inl short ↦ (let one = short_on_cycle w wired short in absurd (none one.0 one.1.1))
+      | inr full ↦ (let p = order_placed w in has_is (order_of w) at ∙ none_missing (order_of w) (length w.boxes) p.distinct p.below full at low)
+    ]
+
+-- the nodes are those of the network
+pub record AreBoxes (r : Raw) (ss : List declared.Source) (nodes : List (Option Node)) (bs : List Node) : Type 0 where
+  pub count : length bs ≡ length r.boxes
+  pub known : nodes ≡ map Some bs
+  pub settled : (at : ℕ) → at < length bs → IsSettled r (wiring_of r) ss nodes at
+
+pub are_boxes : (r : Raw) (ss : List declared.Source) (nodes : List (Option Node)) → IsRead r ss nodes → AreBoxes r ss nodes (filter_map (λ o. o) nodes)
+are_boxes r ss nodes read =
+    let w : Wiring = wiring_of r in
+    let boxes : length w.boxes ≡ length r.boxes = length-map r.boxes (box_wires (stream_names r)) in
+    let start : length (no_nodes (length r.boxes)) ≡ length w.boxes = length-replicate (length r.boxes) (none_yet r) ∙ sym boxes in
+    let all : AreSettled r w ss [] (no_nodes (length r.boxes)) (order_of w) nodes = settled r w ss [] (no_nodes (length r.boxes)) (order_of w) nodes (follow_all w) start read.typed in
+    let long : length nodes ≡ length w.boxes = all.count ∙ start in
+    let each : (at : ℕ) → at < length nodes → IsSettled r w ss nodes at = (λ at low. all.each at (all_ordered w (is_wired (stream_names r) r refl) (none_on_cycle w read.acyclic) at (omega (arith, low, long)))) in
+    let known : nodes ≡ map Some (filter_map (λ o. o) nodes) = all_known nodes (λ at low. (let s = each at low in (s.node, s.there))) in
+    let same : length nodes ≡ length (filter_map (λ o. o) nodes) = ap (λ (os : List (Option Node)). length os) known ∙ length-map (filter_map (λ (o : Option Node). o) nodes) (λ (b : Node). Some b) in
+    record {
+      count = sym same ∙ (long ∙ boxes);
+      known = known;
+      settled = λ at low. each at (omega (arith, low, same));
+    }
+  where
+    none_yet : Raw → Option Node
+    none_yet r = None
+
+known_again : (o : Option Node) → node_known (option_map (λ b. Some b) o) ≡ o
+known_again None = refl
+known_again (Some b) = refl
+
+-- what gives a stream has the columns that it has in the network
+known_given : (r : Raw) (w : Wiring) (ss : List declared.Source) (nodes : List (Option Node)) → nodes ≡ map Some (filter_map (λ o. o) nodes)
+    → (p : Option Producer) → columns_known ss nodes p ≡ columns_given (network_of r w ss nodes) p
+known_given r w ss nodes known None = refl
+known_given r w ss nodes known (Some (Source s)) = refl
+known_given r w ss nodes known (Some (Port at port)) =
+    let there : slice_get nodes at ≡ option_map (λ b. Some b) (slice_get (filter_map (λ (o : Option Node). o) nodes) at) =
+    ap (λ (os : List (Option Node)). slice_get os at) known ∙ slice_get-map (λ (b : Node). Some b) (filter_map (λ (o : Option Node). o) nodes) at in
+    ap (λ (o : Option Node). columns_of_port o port) (ap node_known there ∙ known_again (slice_get (filter_map (λ (o : Option Node). o) nodes) at))
+
+taken_given : (r : Raw) (w : Wiring) (ss : List declared.Source) (nodes : List (Option Node)) → nodes ≡ map Some (filter_map (λ o. o) nodes)
+    → (ins : List ℕ) → columns_taken w ss nodes ins ≡ filter_map (columns_of_stream (network_of r w ss nodes)) ins
+taken_given r w ss nodes known [] = refl
+taken_given r w ss nodes known (s ∷ ins) =
+    ap (λ (o : Option Columns). cons_option o (columns_taken w ss nodes ins)) (known_given r w ss nodes known (producer_of w s))
+    ∙ ap (λ (cs : List Columns). cons_option (columns_of_stream (network_of r w ss nodes) s) cs) (taken_given r w ss nodes known ins)
+
+-- a node of the network is that of the box of its number, on the columns that the network gives it
+pub record IsBoxAt (r : Raw) (n : Network) (at : ℕ) (b : Node) : Type 0 where
+  pub raw : RawBox
+  pub there : slice_get r.boxes at ≡ Some raw
+  pub is : IsNodeOf raw (input_columns n at) b
+
+pub box_at : (r : Raw) (ss : List declared.Source) (nodes : List (Option Node)) → AreBoxes r ss nodes (filter_map (λ o. o) nodes)
+    → (at : ℕ) (b : Node) → slice_get (filter_map (λ o. o) nodes) at ≡ Some b → IsBoxAt r (network_of r (wiring_of r) ss nodes) at b
+box_at r ss nodes boxes at b e =
+    let low = slice_get_within (filter_map (λ o. o) nodes) at b e in
+    let one : IsSettled r (wiring_of r) ss nodes at = boxes.settled at low in
+    let here : slice_get nodes at ≡ Some (Some b) =
+    ap (λ (os : List (Option Node)). slice_get os at) boxes.known ∙ (slice_get-map (λ (x : Node). Some x) (filter_map (λ (o : Option Node). o) nodes) at ∙ ap (λ (o : Option Node). option_map (λ (x : Node). Some x) o) e) in
+    let node : one.node ≡ b = (let there = one.there in cc) in
+    let typed : node_of_box at (slice_get r.boxes at) (input_columns (network_of r (wiring_of r) ss nodes) at) ≡ Ok b =
+    ap (λ (cs : List Columns). node_of_box at (slice_get r.boxes at) cs) (sym (taken_given r (wiring_of r) ss nodes boxes.known (inputs_of (wiring_of r) at)))
+    ∙ (one.typed ∙ ap (λ (x : Node). Ok x) node) in
+    by_box (slice_get r.boxes at) refl typed
+  where
+    by_box : (o : Option RawBox) → slice_get r.boxes at ≡ o → node_of_box at o (input_columns (network_of r (wiring_of r) ss nodes) at) ≡ Ok b → IsBoxAt r (network_of r (wiring_of r) ss nodes) at b
+    by_box None there typed = cc
+    by_box (Some raw) there typed = record { raw = raw; there = there; is = node_is at raw (input_columns (network_of r (wiring_of r) ss nodes) at) b typed }
+
+-- ---- the network
+
+map_twice : {A B C : Type 0} (f : B → C) (g : A → B) (xs : List A) → map f (map g xs) ≡ map (λ x. f (g x)) xs
+map_twice f g [] = refl
+map_twice {A} {B} {C} f g (x ∷ xs) = ap (λ (ys : List C). f (g x) ∷ ys) (map_twice f g xs)
+
+-- what boxes and nodes have alike
+alike : {A : Type 0} (f : RawBox → A) (g : Node → A) (r : Raw) (ss : List declared.Source) (nodes : List (Option Node)) → AreBoxes r ss nodes (filter_map (λ o. o) nodes)
+    → ((raw : RawBox) (ins : List Columns) (b : Node) → IsNodeOf raw ins b → f raw ≡ g b) → map f r.boxes ≡ map g (filter_map (λ o. o) nodes)
+alike f g r ss nodes boxes same =
+    maps_same f g r.boxes (filter_map (λ o. o) nodes) (sym boxes.count) (λ at raw b here there.
+    (let box = box_at r ss nodes boxes at b there in
+    let found : box.raw ≡ raw = (let is = box.there in cc) in
+    ap f (sym found) ∙ same box.raw (input_columns (network_of r (wiring_of r) ss nodes) at) b box.is))
+
+node_fits : (raw : RawBox) (ins : List Columns) (b : Node) → IsNodeOf raw ins b → box_within raw ≡ true → node_within b ≡ true
+node_fits raw ins b is h =
+    let front = and_parts (limits.body_within raw.body && limits.inputs_within raw.body raw.ins && limits.is_between 0 1000 raw.cost) (list_all (limits.is_between 0 1000000) raw.selectivity) h in
+    let middle = and_parts (limits.body_within raw.body && limits.inputs_within raw.body raw.ins) (limits.is_between 0 1000 raw.cost) front.0 in
+    let body = and_parts (limits.body_within raw.body) (limits.inputs_within raw.body raw.ins) middle.0 in
+    let cost : is_between 0 1000 b.cost ≡ true = ap (λ (k : ℕ). is_between 0 1000 k) is.cost ∙ number_within 0 1000 raw.cost middle.1 in
+    let selectivity : list_all (is_between 0 1000000) b.selectivity ≡ true = ap (λ (ks : List ℕ). list_all (is_between 0 1000000) ks) is.selectivity ∙ numbers_within 0 1000000 raw.selectivity front.1 in
+    and_both (body_within b.body && is_between 0 1000 b.cost) (list_all (is_between 0 1000000) b.selectivity)
+    (and_both (body_within b.body) (is_between 0 1000 b.cost) (is.body.within body.0) cost) selectivity
+
+outputs_fit : (os : List RawOutput) → list_all output_within (map output_of os) ≡ true
+outputs_fit [] = refl
+outputs_fit (o ∷ os) = outputs_fit os
+
+all_within : (r : Raw) (ss : List declared.Source) (nodes : List (Option Node)) → IsRead r ss nodes → network_within (network_of r (wiring_of r) ss nodes) ≡ true
+all_within r ss nodes read =
+    let w = is_within r read.limit in
+    let boxes = are_boxes r ss nodes read in
+    let given = sources_within 0 r.sources ss read.given w.sources in
+    let a = and_parts (has_between 1 8 r.sources && has_between 0 128 r.boxes && has_between 1 32 r.outputs && limits.is_between 1 (2 ^ 34) r.epoch) (limits.is_between 1 1000000 r.batch) w.top in
+    let b = and_parts (has_between 1 8 r.sources && has_between 0 128 r.boxes && has_between 1 32 r.outputs) (limits.is_between 1 (2 ^ 34) r.epoch) a.0 in
+    let c = and_parts (has_between 1 8 r.sources && has_between 0 128 r.boxes) (has_between 1 32 r.outputs) b.0 in
+    let d = and_parts (has_between 1 8 r.sources) (has_between 0 128 r.boxes) c.0 in
+    let sources : is_between 1 8 (length ss) ≡ true = ap (λ (k : ℕ). is_between 1 8 k) given.1 ∙ d.0 in
+    let count : is_between 0 128 (length (filter_map (λ o. o) nodes)) ≡ true = ap (λ (k : ℕ). is_between 0 128 k) boxes.count ∙ d.1 in
+    let outputs : is_between 1 32 (length (map output_of r.outputs)) ≡ true = ap (λ (k : ℕ). is_between 1 32 k) (length-map r.outputs output_of) ∙ c.1 in
+    let epoch = number_within 1 (2 ^ 34) r.epoch b.1 in
+    let batch = number_within 1 1000000 r.batch a.1 in
+    let fit : list_all node_within (filter_map (λ o. o) nodes) ≡ true = all_by_place node_within (filter_map (λ o. o) nodes) (λ at node e.
+    (let box = box_at r ss nodes boxes at node e in
+    node_fits box.raw (input_columns (network_of r (wiring_of r) ss nodes) at) node box.is (passes_at box_within r.boxes at box.raw w.boxes box.there))) in
+    let takes = takes_all (stream_names r) r read.known w.boxes in
+    and_both _ _ (and_both _ _ (and_both _ _ (and_both _ _ (and_both _ _ (and_both _ _ (and_both _ _ (and_both _ _ sources count) outputs) epoch) batch) given.0) fit) (outputs_fit r.outputs)) takes
+
+evens : (bs : List RawBox) → AllByRecursion IsEven bs → map (λ b. length b.selectivity) bs ≡ map (λ b. ports_of b.body) bs
+evens [] h = refl
+evens (b ∷ bs) h =
+    let here : length b.selectivity ≡ ports_of b.body = h.0 in
+    let more : map (λ (b : RawBox). length b.selectivity) bs ≡ map (λ (b : RawBox). ports_of b.body) bs = evens bs h.1 in
+    cc
+
+all_agree : (r : Raw) (ss : List declared.Source) (nodes : List (Option Node)) → IsRead r ss nodes → Agrees (network_of r (wiring_of r) ss nodes)
+all_agree r ss nodes read =
+    let boxes = are_boxes r ss nodes read in
+    let names : List (List ℕ) = stream_names r in
+    let bs : List Node = filter_map (λ o. o) nodes in
+    let given = sources_within 0 r.sources ss read.given (is_within r read.limit).sources in
+    let ports : map (λ (b : RawBox). ports_of b.body) r.boxes ≡ map (λ (b : Node). length b.schemas) bs =
+    alike (λ b. ports_of b.body) (λ b. length b.schemas) r ss nodes boxes (λ raw ins b is. is.body.ports) in
+    let tolls : map (λ (b : RawBox). length b.selectivity) r.boxes ≡ map (λ (b : Node). length b.selectivity) bs =
+    alike (λ b. length b.selectivity) (λ b. length b.selectivity) r ss nodes boxes (λ raw ins b is. sym (ap (λ (ks : List ℕ). length ks) is.selectivity ∙ length-map raw.selectivity nat_of)) in
+    record {
+      sources = sym given.1;
+      kinds = map_twice (λ (b : BoxWires). b.kind) (box_wires names) r.boxes ∙ alike (λ b. wires.kind_of_body b.body) (λ b. kind_of_body b.body) r ss nodes boxes (λ raw ins b is. is.body.kind);
+      ports = map_twice (λ (b : BoxWires). b.ports) (box_wires names) r.boxes ∙ ports;
+      tolls = sym tolls ∙ (evens r.boxes read.even ∙ ports);
+      outputs = outputs_known names r read.known ∙ sym (length-map r.outputs output_of);
+      wired = is_wired names r refl;
+      shown = outputs_shown names r refl;
+    }
+
+sound_of : (r : Raw) (ss : List declared.Source) (nodes : List (Option Node)) → IsRead r ss nodes → IsSound (network_of r (wiring_of r) ss nodes)
+sound_of r ss nodes read = record {
+  within = all_within r ss nodes read;
+  agrees = all_agree r ss nodes read;
+  acyclic = none_on_cycle (wiring_of r) read.acyclic;
+  named = All-map (λ (o : Output). is_name o.name ≡ true) output_of r.outputs
+      (All-from_recursion (λ (o : RawOutput). is_name o.name ≡ true) r.outputs (each_passes (λ o. is_name o.name) r.outputs (outputs_named r read.named)));
+  distinct = ap are_distinct (map_twice (λ (o : Output). o.name) output_of r.outputs) ∙ outputs_distinct r read.single;
+  typed = λ at b e. (box_at r ss nodes (are_boxes r ss nodes read) at b e).is.body.typed;
+}
+
+-- a network that is read is sound
+pub read_sound : (ms : Members) (n : Network) → network_from ms ≡ Ok n → IsSound n
+read_sound ms n h = let from = read_as ms n h in subst IsSound from.same (sound_of from.raw from.sources from.nodes from.read)
+
+pub answer_sound : (ms : Members) (answer : Result Network NetErr) → Answers answer (network_from ms) → IfOk answer IsSound
+answer_sound ms (Ok n) h = read_sound ms n h
+answer_sound ms (Err e) h = tt
