@@ -1,62 +1,53 @@
 -- How a run ends.
-use Rattle.std.proofs.Common.{◌≡◌, ◌≢◌, ◌⊎◌, inl, inr, ℕ, ◌+◌, ◌≤◌, Bool, true, false, not, ◌&&◌, List, [], ◌∷◌, length, refl, ap, sym, subst, arith, append-nil, Option, None, Some}
-use Rattle.std.specs.Prelude.{⊤, map, IsSome, Result, Ok, Err, codes}
-use Rattle.std.specs.Option.{option_and_then}
+use Rattle.std.proofs.Common.{◌≡◌, ◌≢◌, ◌⊎◌, inl, inr, ℕ, ◌+◌, ◌≤◌, Bool, true, false, not, ◌&&◌, List, [], ◌∷◌, ◌++◌, length, refl, ap, sym, ◌∙◌, subst, arith, append-nil, Option, None, Some}
+use Rattle.std.specs.Prelude.{⊤, map, nat_lt, IsSome, Result, Ok, Err, codes}
 use Rattle.std.specs.Fmt.{decimal}
-use Rattle.std.specs.List.{AllByRecursion, list_all, list_any}
+use Rattle.std.specs.List.{AllByRecursion, list_all, list_any, zip}
 use Rattle.std.proofs.lemmas.Bool.Decides.{nat_tests}
+use Rattle.std.proofs.lemmas.List.Elements.{recursion_from_All}
 use Rattle.sq_value.specs.declared.Tuple.{Tuple}
-use Rattle.sq_value.specs.Lists.{same_bytes}
-use Rattle.sq_value.specs.LineTexts.{line_of, needs_quotes, output_line, box_line, end_line}
+use Rattle.sq_value.specs.Lists.{contains_bytes}
+use Rattle.sq_value.specs.LineTexts.{line_of, needs_quotes, output_line, end_line}
 use Rattle.sq_value.specs.Texts.{text_of}
 use Rattle.sq_value.proofs.RowLemmas.{first_field-line_of, is_line-line_of}
 use Rattle.sq_outside.specs.Faults.{Rose}
 use Rattle.sq_outside.specs.Folders.{Files, file}
 use Rattle.sq_outside.specs.Sinks.{AppendsPrefix, appended}
-use Rattle.sq_top.specs.declared.Status.{Status}
-use Rattle.sq_top.specs.declared.Status.TheVariants as status
-use Rattle.sq_top.specs.declared.form.FirstNetwork.{FirstNetwork}
-use Rattle.sq_top.specs.Commands.{command_in}
-use Rattle.sq_top.specs.FirstForm.{box_part, first_form, network_of, has_good_names, has_name_form, is_file_name, is_lower, is_name, may_follow, output_part, reserved, source_part, when}
-use Rattle.sq_top.specs.Due.{Replay, all_text, due_of, full_answer, work_of}
-use Rattle.sq_top.specs.Answers.{IsPrefixText, IsWholeText}
-use Rattle.sq_top.specs.Writing.{IsLost}
-use Rattle.sq_top.specs.declared.Why.{Why}
+use Rattle.sq_net.specs.declared.NetErr.{NetErr}
+use Rattle.sq_net.specs.declared.NetErr.TheVariants as net
+use Rattle.sq_net.specs.declared.Network.{Network}
+use Rattle.sq_net.specs.declared.Source.{Source}
+use Rattle.sq_net.specs.declared.Node.{Node}
+use Rattle.sq_net.specs.declared.Output.{Output}
+use Rattle.sq_net.specs.Names.{has_name_form, is_lower, is_name, may_follow, reserved}
+use Rattle.sq_net.specs.Sound as sound
+use Rattle.sq_reader.specs.Documents.{document_in}
+use Rattle.sq_reader.specs.Networks.{network_from, network_in}
+use Rattle.sq_reader.specs.Rawly.{or_broken, ◌>>=◌}
+use Rattle.sq_reader.proofs.SoundLemmas.{read_sound}
+use Rattle.sq_replay.specs.declared.why.Why.{Why}
+use Rattle.sq_replay.specs.Streams.{stream_in}
+use Rattle.sq_model.specs.Full.{nth, full_streams}
+use Rattle.sq_model.specs.Fed.{work_of}
 use Rattle.sq_top.specs.declared.Command.{Command}
 use Rattle.sq_top.specs.declared.Command.TheVariants as command
-use Rattle.sq_top.specs.FirstStream.{first_stream}
-use Rattle.sq_top.specs.Scripts.{Lookup, accepted, after_network, after_words, go_on, outcome_of, readable, replay_with, settings_limit, stream_limit}
+use Rattle.sq_top.specs.declared.Status.{Status}
+use Rattle.sq_top.specs.declared.Status.TheVariants as status
+use Rattle.sq_top.specs.Commands.{command_in}
+use Rattle.sq_top.specs.Due.{all_text, due_from, due_of, fed_line, feds_from, shown_from}
+use Rattle.sq_top.specs.Answers.{IsPrefixText, IsWholeText}
+use Rattle.sq_top.specs.Writing.{IsLost}
+use Rattle.sq_top.specs.Scripts.{Lookup, Replay, Script, Done, accepted, after_network, after_stream, after_streams, after_words, go_on, outcome_of, readable, settings_limit, stream_limit}
 use Rattle.sq_top.specs.Causes.{AnswersPrefix, AnswersWhole, AppendsSuch, Ends, HasFailedAt, IsStopped, MatchAccepted, RefusalHasCause, WhereTold, World, is_refusal}
 use Rattle.sq_top.proofs.SortedLines.{and-true}
-use Rattle.sq_top.proofs.FormLemmas.{name_parts}
-use Rattle.sq_top.proofs.DueLemmas.{is_end_field, IsEndLine, IsShownLine, IsSound, prefix_text, whole_text}
+use Rattle.sq_top.proofs.StoppedLemmas.{at_told, some_none, where_told}
+use Rattle.sq_top.proofs.DueLemmas.{is_end_field, IsEndLine, IsPlainName, IsShownLine, IsSound, prefix_text, whole_text}
 
-record Both {A B : Type 0} (o : Option A) (f : A → Option B) (b : B) : Type 0 where
-  first : A
-  first_is : o ≡ Some first
-  then_is : f first ≡ Some b
-
-then-some : {A B : Type 0} (o : Option A) (f : A → Option B) (b : B) → option_and_then f o ≡ Some b → Both o f b
-then-some None f b e = absurd (cc)
-then-some (Some a) f b e = record { first = a; first_is = refl; then_is = e }
-
-some_same : {A : Type 0} (a b : A) → Some a ≡ Some b → a ≡ b
-some_same a b e = cc
-
-when_by : (t : Bool) (m n : FirstNetwork) → has_good_names m ≡ t → when t m ≡ Some n → is_name n.output ≡ true
-when_by true m n good e =
-    let front = (and-true (is_name m.source && is_file_name m.file && is_name m.field && is_name m.filter && is_name m.output) (not (same_bytes m.source m.filter)) good).0 in
-    let named = (and-true (is_name m.source && is_file_name m.file && is_name m.field && is_name m.filter) (is_name m.output) front).1 in
-    subst (λ (x : FirstNetwork). is_name x.output ≡ true) (some_same m n e) named
-when_by false m n good e = absurd (cc)
-
--- the network of a file of the first form has a name for its output
-pub name_of_output : (bytes : List ℕ) (n : FirstNetwork) → first_form bytes ≡ Some n → is_name n.output ≡ true
-name_of_output bytes n e =
-    let s = then-some (source_part bytes) _ n e in
-    let b = then-some (box_part (s.first).0 (s.first).2 (s.first).3) _ n s.then_is in
-    let o = then-some (output_part (b.first).0 (b.first).2) _ n b.then_is in
-    when_by (has_good_names (network_of (s.first).0 (s.first).1 (s.first).2 (b.first).0 o.first (b.first).1.0 (b.first).1.1)) _ n refl o.then_is
+-- a name begins with a lower-case letter, and lower-case letters, digits and `_` follow
+name_parts : (b : ℕ) (bs : List ℕ) → is_name (b ∷ bs) ≡ true → (is_lower b ≡ true) × (list_all may_follow bs ≡ true)
+name_parts b bs h =
+    let form = (and-true (has_name_form (b ∷ bs)) (not (contains_bytes (b ∷ bs) reserved)) h).0 in
+    and-true (is_lower b) (list_all may_follow bs) (and-true (is_lower b && list_all may_follow bs) (nat_lt (length bs) 32) form).0
 
 lower_above : (b : ℕ) → is_lower b ≡ true → 97 ≤ b
 lower_above b h = grind (arith, nat_tests)
@@ -75,9 +66,7 @@ none_quoted [] h = refl
 none_quoted (b ∷ bs) h = let both = and-true (may_follow b) (list_all may_follow bs) h in rw (quoteless_follow b both.0, none_quoted bs both.1) refl
 
 name_quoteless : (b : ℕ) (bs : List ℕ) → is_name (b ∷ bs) ≡ true → list_any needs_quotes (b ∷ bs) ≡ false
-name_quoteless b bs h =
-    let parts = name_parts b bs (and-true (has_name_form (b ∷ bs)) (not (list_any (same_bytes (b ∷ bs)) reserved)) h).0 in
-    rw (quoteless_lower b parts.0, none_quoted bs parts.1) refl
+name_quoteless b bs h = let parts = name_parts b bs h in rw (quoteless_lower b parts.0, none_quoted bs parts.1) refl
 
 shown_lines : (b : ℕ) (bs : List ℕ) (ys : List Tuple) → list_any needs_quotes (b ∷ bs) ≡ false → AllByRecursion (IsShownLine (b ∷ bs)) (map (output_line (b ∷ bs)) ys)
 shown_lines b bs [] h = tt
@@ -89,51 +78,90 @@ end_line_of : (bs : List ℕ) (fields : List (List ℕ)) → list_any needs_quot
 end_line_of bs fields plain ends =
     (is_line-line_of ((64 ∷ bs) ∷ fields), subst (λ f. is_end_field f ≡ true) (sym (first_field-line_of 64 bs fields plain)) ends)
 
-sound_of : (name : List ℕ) (ys : List Tuple) (box : List ℕ) (fed : ℕ) → is_name name ≡ true
-    → IsSound (record { shown = (name, map (output_line name) ys) ∷ []; ended = box_line box fed ∷ end_line ∷ [] })
-sound_of [] ys box fed h = absurd (cc)
-sound_of (b ∷ bs) ys box fed h =
-    let parts = name_parts b bs (and-true (has_name_form (b ∷ bs)) (not (list_any (same_bytes (b ∷ bs)) reserved)) h).0 in
+plain_name : (w : List ℕ) → is_name w ≡ true → IsPlainName w
+plain_name [] h = absurd (cc)
+plain_name (b ∷ bs) h = plain_lower b (name_parts b bs h).0
+
+lines_shown : (w : List ℕ) (xs : List Tuple) → is_name w ≡ true → AllByRecursion (IsShownLine w) (map (output_line w) xs)
+lines_shown [] xs h = absurd (cc)
+lines_shown (b ∷ bs) xs h = shown_lines b bs xs (name_quoteless b bs h)
+
+module _ (streams : List (List Tuple)) where
+  names_plain : (os : List Output) (ss : List ℕ) → AllByRecursion (λ o. is_name o.name ≡ true) os → AllByRecursion (λ o. IsPlainName o.0) (map (shown_from streams) (zip os ss))
+  names_plain [] ss named = tt
+  names_plain (o ∷ os) [] named = tt
+  names_plain (o ∷ os) (s ∷ ss) named = (plain_name o.name named.0, names_plain os ss named.1)
+
+  outputs_shown : (os : List Output) (ss : List ℕ) → AllByRecursion (λ o. is_name o.name ≡ true) os
+      → AllByRecursion (λ o. AllByRecursion (IsShownLine o.0) o.1) (map (shown_from streams) (zip os ss))
+  outputs_shown [] ss named = tt
+  outputs_shown (o ∷ os) [] named = tt
+  outputs_shown (o ∷ os) (s ∷ ss) named = (lines_shown o.name (nth streams s) named.0, outputs_shown os ss named.1)
+
+boxes_ended : (bs : List Node) (fed : List ℕ) → AllByRecursion IsEndLine (map fed_line (zip bs fed) ++ end_line ∷ [])
+boxes_ended [] fed = (end_line_of (codes "end") [] refl refl, tt)
+boxes_ended (b ∷ bs) [] = (end_line_of (codes "end") [] refl refl, tt)
+boxes_ended (b ∷ bs) (k ∷ fed) = (end_line_of (codes "box") (b.name ∷ decimal k ∷ []) refl refl, boxes_ended bs fed)
+
+-- what is due of a sound network can be told apart by its classes
+pub due_is_sound : (n : Network) (streams : List (List Tuple)) → sound.IsSound n → IsSound (due_from n streams)
+due_is_sound n streams is =
+    let named = recursion_from_All (λ (o : Output). is_name o.name ≡ true) n.outputs is.named in
     record {
-      names = (plain_lower b parts.0, tt);
-      shown = (shown_lines b bs ys (name_quoteless b bs h), tt);
-      ended = (end_line_of (codes "box") (box ∷ decimal fed ∷ []) refl refl, (end_line_of (codes "end") [] refl refl, tt));
+      names = names_plain streams n.outputs n.wires.outputs named;
+      shown = outputs_shown streams n.outputs n.wires.outputs named;
+      ended = boxes_ended n.boxes (feds_from n streams);
     }
 
--- what is due of an accepted network can be told apart by its classes
-pub due_is_sound : (n : FirstNetwork) (xs : List Tuple) → is_name n.output ≡ true → IsSound (due_of (n, xs))
-due_is_sound n xs h = sound_of n.output (full_answer (n, xs)) n.filter (length xs) h
+-- what is accepted is the network of the file
+abbrev IsFileOf : Network → Type 0
+IsFileOf n = (bytes : List ℕ) × (network_in bytes ≡ Ok n)
 
-replay_ok : (files : Lookup) (n : FirstNetwork) (o : Result (List Tuple) (ℕ × Why)) (r : Replay) → outcome_of files (replay_with n o) ≡ Ok r → n ≡ r.0
-replay_ok files n (Ok xs) r e = let same : (n, xs) ≡ r = cc in ap (λ (p : Replay). p.0) same
-replay_ok files n (Err x) r e = cc
+module _ (files : Lookup) (n : Network) where
+  stream_ok : (number : ℕ) (more : List Tuple → Script) (r : Replay) (o : Result (List Tuple) (ℕ × Why)) → ((xs : List Tuple) → outcome_of files (more xs) ≡ Ok r → n ≡ r.0)
+      → outcome_of files (after_stream number more o) ≡ Ok r → n ≡ r.0
+  stream_ok number more r (Ok xs) rest e = rest xs e
+  stream_ok number more r (Err w) rest e = absurd (cc)
 
-source_ok : (files : Lookup) (n : FirstNetwork) (read : Result (List ℕ) Status) (r : Replay)
-    → go_on (λ s. Err s) (λ bytes. outcome_of files (replay_with n (first_stream bytes))) read ≡ Ok r → n ≡ r.0
-source_ok files n (Ok bytes) r e = replay_ok files n (first_stream bytes) r e
-source_ok files n (Err s) r e = cc
+  file_ok : (read : Result (List ℕ) Status) (more : List ℕ → Script) (r : Replay) → ((bytes : List ℕ) → outcome_of files (more bytes) ≡ Ok r → n ≡ r.0)
+      → go_on (λ s. Err s) (λ bytes. outcome_of files (more bytes)) read ≡ Ok r → n ≡ r.0
+  file_ok (Ok bytes) more r rest e = rest bytes e
+  file_ok (Err s) more r rest e = absurd (cc)
 
-form_ok : (files : Lookup) (o : Option FirstNetwork) (r : Replay) → outcome_of files (after_network o) ≡ Ok r → o ≡ Some r.0
-form_ok files None r e = cc
-form_ok files (Some n) r e = ap Some (source_ok files n (readable n.file stream_limit (files n.file)) r e)
+  first_same : (read : List (List Tuple)) (r : Replay) → outcome_of files (Done (n, read)) ≡ Ok r → n ≡ r.0
+  first_same read r e = let same : (n, read) ≡ r = cc in ap (λ (p : Replay). p.0) same
 
-record IsFormed (n : FirstNetwork) : Type 0 where
-  bytes : List ℕ
-  form : first_form bytes ≡ Some n
+  streams_ok : (read : List (List Tuple)) (left : List Source) (r : Replay) → outcome_of files (after_streams n read left) ≡ Ok r → n ≡ r.0
+  streams_ok read [] r e = first_same read r e
+  streams_ok read (s ∷ left) r e =
+      file_ok (readable s.file stream_limit (files s.file)) (λ bytes. after_stream (length read) (λ xs. after_streams n (read ++ xs ∷ []) left) (stream_in s.schema bytes)) r
+      (λ bytes. stream_ok (length read) (λ xs. after_streams n (read ++ xs ∷ []) left) r (stream_in s.schema bytes) (λ xs. streams_ok (read ++ xs ∷ []) left r)) e
 
-network_ok : (files : Lookup) (read : Result (List ℕ) Status) (r : Replay)
-    → go_on (λ s. Err s) (λ bytes. outcome_of files (after_network (first_form bytes))) read ≡ Ok r → IsFormed r.0
-network_ok files (Ok bytes) r e = record { bytes = bytes; form = form_ok files (first_form bytes) r e }
-network_ok files (Err s) r e = absurd (cc)
+network_ok : (files : Lookup) (bytes : List ℕ) (o : Result Network NetErr) (r : Replay) → network_in bytes ≡ o → outcome_of files (after_network o) ≡ Ok r → IsFileOf r.0
+network_ok files bytes (Ok n) r said e = (bytes, said ∙ ap (λ (x : Network). Ok x) (streams_ok files n [] n.sources r e))
+network_ok files bytes (Err s) r said e = absurd (cc)
 
-command_ok : (files : Lookup) (o : Option Command) (r : Replay) → outcome_of files (after_words o) ≡ Ok r → IsFormed r.0
+network_file_ok : (files : Lookup) (read : Result (List ℕ) Status) (r : Replay)
+    → go_on (λ s. Err s) (λ bytes. outcome_of files (after_network (network_in bytes))) read ≡ Ok r → IsFileOf r.0
+network_file_ok files (Ok bytes) r e = network_ok files bytes (network_in bytes) r refl e
+network_file_ok files (Err s) r e = absurd (cc)
+
+command_ok : (files : Lookup) (o : Option Command) (r : Replay) → outcome_of files (after_words o) ≡ Ok r → IsFileOf r.0
 command_ok files None r e = absurd (cc)
-command_ok files (Some (command.Run args)) r e = network_ok files (readable args.net settings_limit (files args.net)) r e
+command_ok files (Some (command.Run args)) r e = network_file_ok files (readable args.net settings_limit (files args.net)) r e
+
+said_by : {A : Type 0} (o : Option A) (f : A → Result Network NetErr) (n : Network) → ((x : A) → f x ≡ Ok n → sound.IsSound n)
+    → (or_broken net.Toml o >>= f) ≡ Ok n → sound.IsSound n
+said_by None f n then_sound e = absurd (cc)
+said_by (Some x) f n then_sound e = then_sound x e
+
+said_sound : (bytes : List ℕ) (n : Network) → network_in bytes ≡ Ok n → sound.IsSound n
+said_sound bytes n e = said_by (document_in bytes) network_from n (λ ms h. read_sound ms n h) e
 
 pub accepted_is_sound : (files : Lookup) (words : List (List ℕ)) (r : Replay) → accepted files words ≡ Ok r → IsSound (due_of r)
 accepted_is_sound files words r e =
     let f = command_ok files (command_in words) r e in
-    due_is_sound r.0 r.1 (name_of_output f.bytes r.0 f.form)
+    due_is_sound r.0 (full_streams r.0 r.1) (said_sound f.0 r.0 f.1)
 
 -- nothing was written
 appends_none : (o : Option (List ℕ)) (P : List ℕ → Type 0) → P [] → AppendsSuch o o P
@@ -148,13 +176,6 @@ appends_all (Some before) now text P e p = (text, e, p)
 match_each : (o : Result Replay Status) (P : Replay → Type 0) (Q : Status → Type 0) → ((r : Replay) → o ≡ Ok r → P r) → ((s : Status) → o ≡ Err s → Q s) → MatchAccepted o P Q
 match_each (Ok r) P Q p q = p r refl
 match_each (Err s) P Q p q = q s refl
-
-where_told : (told : Option Files) (P : Files → Type 0) → ((files : Files) → told ≡ Some files → P files) → WhereTold told P
-where_told None P h = tt
-where_told (Some files) P h = h files refl
-
-at_told : (told : Option Files) (P : Files → Type 0) (files : Files) → told ≡ Some files → WhereTold told P → P files
-at_told told P files e h = subst (λ o. WhereTold o P) e h
 
 nothing_written : (files : Files) (words : List (List ℕ)) (out : Option (List ℕ)) (steps : ℕ) → AnswersPrefix files words out out steps steps
 nothing_written files words out steps =
@@ -203,10 +224,6 @@ stopped_ends words w s source h out steps = record {
   named = h.named;
 }
 
-some_none : (o : Option Command) → IsSome o → o ≡ None → ⊥
-some_none None some e = absurd (cc)
-some_none (Some c) some e = cc
-
 module _ (words : List (List ℕ)) (w : World) (r : Replay) (source : List ℕ) (some : IsSome (command_in words))
     (replayed : WhereTold w.told (λ files. accepted (file files) words ≡ Ok r)) where
   accepted_at : (files : Files) → w.told ≡ Some files → accepted (file files) words ≡ Ok r
@@ -223,10 +240,10 @@ module _ (words : List (List ℕ)) (w : World) (r : Replay) (source : List ℕ) 
     reached = λ name e. absurd (no_fault' name e);
   })
 
-  pub answered_ok : w.out_now ≡ appended w.out_before (all_text (due_of r)) → w.steps_now ≡ w.steps_before + work_of r → Ends words w status.Ok source
+  pub answered_ok : w.out_now ≡ appended w.out_before (all_text (due_of r)) → w.steps_now ≡ w.steps_before + work_of r.0 r.1 → Ends words w status.Ok source
   answered_ok out steps = record {
     ok = λ e. where_told w.told (λ files. AnswersWhole files words w.out_before w.out_now w.steps_before w.steps_now)
-        (λ files t. subst (λ o. MatchAccepted o (λ x. AppendsSuch w.out_before w.out_now (IsWholeText (due_of x)) × (w.steps_now ≡ w.steps_before + work_of x)) (λ u. ⊥))
+        (λ files t. subst (λ o. MatchAccepted o (λ x. AppendsSuch w.out_before w.out_now (IsWholeText (due_of x)) × (w.steps_now ≡ w.steps_before + work_of x.0 x.1)) (λ u. ⊥))
         (sym (accepted_at files t))
         (appends_all w.out_before w.out_now (all_text (due_of r)) (IsWholeText (due_of r)) out (whole_text (due_of r) (sound_at files t)), steps));
     other = λ e. absurd (e refl);
@@ -238,17 +255,17 @@ module _ (words : List (List ℕ)) (w : World) (r : Replay) (source : List ℕ) 
     sink = λ e. absurd (cc);
     complete = λ quiet dry. where_told w.told (λ files. MatchAccepted (accepted (file files) words) (λ x. (status.Ok ≡ status.Ok) ⊎ (status.Ok ≡ status.Memory)) (λ t. ⊤))
         (λ files t. match_each (accepted (file files) words) _ _ (λ x e. inl refl) (λ u e. tt));
-    named = λ e. absurd (cc);
+    named = tt;
   }
 
-  prefix_at : AppendsPrefix w.out_before w.out_now (all_text (due_of r)) → w.steps_now ≤ w.steps_before + work_of r
+  prefix_at : AppendsPrefix w.out_before w.out_now (all_text (due_of r)) → w.steps_now ≤ w.steps_before + work_of r.0 r.1
       → WhereTold w.told (λ files. AnswersPrefix files words w.out_before w.out_now w.steps_before w.steps_now)
   prefix_at out steps = where_told w.told (λ files. AnswersPrefix files words w.out_before w.out_now w.steps_before w.steps_now)
-      (λ files t. subst (λ o. MatchAccepted o (λ x. AppendsSuch w.out_before w.out_now (IsPrefixText (due_of x)) × (w.steps_now ≤ w.steps_before + work_of x)) (λ u. (w.out_now ≡ w.out_before) × (w.steps_now ≡ w.steps_before)))
+      (λ files t. subst (λ o. MatchAccepted o (λ x. AppendsSuch w.out_before w.out_now (IsPrefixText (due_of x)) × (w.steps_now ≤ w.steps_before + work_of x.0 x.1)) (λ u. (w.out_now ≡ w.out_before) × (w.steps_now ≡ w.steps_before)))
       (sym (accepted_at files t))
       (appends_all w.out_before w.out_now out.0 (IsPrefixText (due_of r)) out.2 (prefix_text (due_of r) out.0 (sound_at files t) out.1), steps))
 
-  answered_memory : AppendsPrefix w.out_before w.out_now (all_text (due_of r)) → w.steps_now ≤ w.steps_before + work_of r → Ends words w status.Memory source
+  answered_memory : AppendsPrefix w.out_before w.out_now (all_text (due_of r)) → w.steps_now ≤ w.steps_before + work_of r.0 r.1 → Ends words w status.Memory source
   answered_memory out steps = record {
     ok = λ e. absurd (cc);
     other = λ e. prefix_at out steps;
@@ -260,10 +277,10 @@ module _ (words : List (List ℕ)) (w : World) (r : Replay) (source : List ℕ) 
     sink = λ e. absurd (cc);
     complete = λ quiet dry. where_told w.told (λ files. MatchAccepted (accepted (file files) words) (λ x. (status.Memory ≡ status.Ok) ⊎ (status.Memory ≡ status.Memory)) (λ t. ⊤))
         (λ files t. match_each (accepted (file files) words) _ _ (λ x e. inr refl) (λ u e. tt));
-    named = λ e. absurd (cc);
+    named = tt;
   }
 
-  answered_sink : AppendsPrefix w.out_before w.out_now (all_text (due_of r)) → w.steps_now ≤ w.steps_before + work_of r → Rose w.sink_before w.sink_now → Ends words w status.SinkFault source
+  answered_sink : AppendsPrefix w.out_before w.out_now (all_text (due_of r)) → w.steps_now ≤ w.steps_before + work_of r.0 r.1 → Rose w.sink_before w.sink_now → Ends words w status.SinkFault source
   answered_sink out steps rose = record {
     ok = λ e. absurd (cc);
     other = λ e. prefix_at out steps;
@@ -274,11 +291,11 @@ module _ (words : List (List ℕ)) (w : World) (r : Replay) (source : List ℕ) 
     no_memory = λ e. absurd (cc);
     sink = λ e. rose;
     complete = λ quiet dry. absurd (dry rose);
-    named = λ e. absurd (cc);
+    named = tt;
   }
 
   -- the answer is lost on the way
-  pub answered_lost : (s : Status) → AppendsPrefix w.out_before w.out_now (all_text (due_of r)) → w.steps_now ≤ w.steps_before + work_of r → IsLost w.sink_before w.sink_now s
+  pub answered_lost : (s : Status) → AppendsPrefix w.out_before w.out_now (all_text (due_of r)) → w.steps_now ≤ w.steps_before + work_of r.0 r.1 → IsLost w.sink_before w.sink_now s
       → Ends words w s source
   answered_lost s out steps (inl memory) = subst (λ x. Ends words w x source) (sym memory) (answered_memory out steps)
   answered_lost s out steps (inr sink) = subst (λ x. Ends words w x source) (sym sink.0) (answered_sink out steps sink.1)
@@ -300,7 +317,7 @@ memory_ends words w s source other differs h = record {
   sink = λ e. absurd (cc);
   complete = λ quiet dry. where_told w.told (λ files. MatchAccepted (accepted (file files) words) (λ x. (status.Memory ≡ status.Ok) ⊎ (status.Memory ≡ status.Memory)) (λ t. ⊤))
       (λ files t. match_each (accepted (file files) words) _ _ (λ x e. inr refl) (λ u e. tt));
-  named = λ e. absurd (cc);
+  named = tt;
 }
 
 -- an end that is told stays, or is one for want of memory

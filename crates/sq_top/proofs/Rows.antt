@@ -1,36 +1,32 @@
 -- Worked rows, by evaluation.
-use Rattle.std.proofs.Common.{◌≡◌, ℕ, List, [], ◌∷◌, ◌++◌, refl, pos}
+use Rattle.std.proofs.Common.{◌≡◌, ℕ, List, [], ◌∷◌, refl, pos}
 use Rattle.std.specs.Prelude.{Some, None, Ok, Err, codes}
 use Rattle.std.specs.Fmt.{digits}
-use Rattle.std.specs.List.{flat_map}
+use Rattle.std.specs.Str.{is_utf8, chars}
+use Rattle.std.specs.Char.{encode_utf8}
 use Rattle.sq_value.specs.declared.Tuple.{Tuple}
+use Rattle.sq_value.specs.declared.Kind.TheVariants as kind
 use Rattle.sq_value.specs.declared.Value.TheVariants as value
 use Rattle.sq_value.specs.Classes.{Ended, Shown, of_class}
+use Rattle.sq_expr.specs.declared.What.TheVariants as what
+use Rattle.sq_graph.specs.declared.BoxKind.TheVariants as boxes
+use Rattle.sq_net.specs.declared.Body.TheVariants.{Union}
+use Rattle.sq_net.specs.declared.Network.{Network}
+use Rattle.sq_net.specs.declared.NetErr.TheVariants as net
+use Rattle.sq_net.specs.declared.Node.{Node}
+use Rattle.sq_net.specs.declared.Output.{Output}
+use Rattle.sq_net.specs.declared.Part.TheVariants as part
+use Rattle.sq_net.specs.declared.Place.{Place}
+use Rattle.sq_net.specs.declared.Source.{Source}
+use Rattle.sq_replay.specs.declared.why.Why.TheVariants as why
+use Rattle.sq_model.specs.Fed.{work_of}
 use Rattle.sq_top.specs.declared.Command.TheVariants as command
 use Rattle.sq_top.specs.declared.Status.TheVariants as status
-use Rattle.sq_top.specs.declared.Why.TheVariants as why
-use Rattle.sq_top.specs.declared.form.Comparison.TheVariants.{AtLeast}
-use Rattle.sq_top.specs.declared.form.FirstNetwork.{FirstNetwork}
 use Rattle.sq_top.specs.Commands.{command_in}
-use Rattle.sq_top.specs.FirstForm.{first_form, network_of}
-use Rattle.sq_top.specs.FirstStream.{first_stream}
-use Rattle.sq_top.specs.Due.{all_text, due_of, work_of}
+use Rattle.sq_top.specs.Due.{all_text, due_of}
 use Rattle.sq_top.specs.Answers.{lines_of}
 use Rattle.sq_top.specs.Messages.{message_of}
-use Rattle.sq_top.specs.Scripts.{accepted}
-
-text_a : List ℕ
-text_a = flat_map (λ line. line ++ 10 ∷ []) (codes "version = 1" ∷ codes "[[source]]" ∷ codes "name = \"s\"" ∷ codes "file = \"s.csv\"" ∷ codes "fields = [\"v:int\"]" ∷ codes "[[box]]" ∷ codes "name = \"f\"" ∷ codes "kind = \"filter\"" ∷ codes "in = [\"s\"]" ∷ codes "where = [\"v >= 10\"]" ∷ codes "[[output]]" ∷ codes "name = \"hi\"" ∷ codes "from = \"f.1\"" ∷ [])
-
-abbrev network_a : FirstNetwork
-network_a = network_of (codes "s") (codes "s.csv") (codes "v") (codes "f") (codes "hi") AtLeast 10
-
-form_a : first_form text_a ≡ Some network_a
-unfolding text_a
-form_a = refl
-
-no_form : first_form (codes "version = 1") ≡ None
-no_form = refl
+use Rattle.sq_top.specs.Scripts.{Replay, accepted, after_network, outcome_of}
 
 words_run : command_in (codes "run" ∷ codes "a.toml" ∷ []) ≡ Some (command.Run (record { net = codes "a.toml" }))
 words_run = refl
@@ -38,46 +34,72 @@ words_run = refl
 words_alone : command_in (codes "run" ∷ []) ≡ None
 words_alone = refl
 
-falls_at : first_stream (codes "5,1\n4,2\n") ≡ Err (2, why.Falls)
-falls_at = refl
+-- two sources and their Union
+abbrev source : List ℕ → List ℕ → Source
+source name file = record { name = name; file = file; schema = (codes "v", kind.Int) ∷ [] }
 
-null_field : first_stream (codes "7,\n") ≡ Ok (record { time = 7; fields = value.Null ∷ [] } ∷ [])
-null_field = refl
+abbrev union_box : Node
+union_box = record { name = codes "u"; body = Union; schemas = ((codes "v", kind.Int) ∷ []) ∷ []; cost = 1; selectivity = 1000 ∷ [] }
 
-not_ended : first_stream (codes "7,1") ≡ Err (1, why.NotBuilt)
-not_ended = refl
+abbrev output : Output
+output = record { name = codes "o"; weight = 1; graph = (0, 0) ∷ (1000, 1000000) ∷ [] }
+
+abbrev network : Network
+network = record {
+  epoch = 1000;
+  batch = 1;
+  wires = record { sources = 2; boxes = record { kind = boxes.Union; inputs = 0 ∷ 1 ∷ []; ports = 1 } ∷ []; outputs = 2 ∷ [] };
+  sources = source (codes "p") (codes "p.csv") ∷ source (codes "q") (codes "q.csv") ∷ [];
+  boxes = union_box ∷ [];
+  outputs = output ∷ [];
+}
 
 abbrev at : ℕ → ℕ → Tuple
 at t v = record { time = t; fields = value.Int (pos v) ∷ [] }
 
-abbrev tuples : List Tuple
-tuples = at 1 5 ∷ at 2 10 ∷ at 3 12 ∷ []
+abbrev replay : Replay
+replay = (network, (at 1 10 ∷ at 3 11 ∷ at 3 12 ∷ []) ∷ (at 2 20 ∷ at 3 21 ∷ []) ∷ [])
 
-text_is : all_text (due_of (network_a, tuples)) ≡ codes "hi,2,10\nhi,3,12\n@box,f,3\n@end\n"
+text_is : all_text (due_of replay) ≡ codes "o,1,10\no,2,20\no,3,11\no,3,12\no,3,21\n@box,u,5\n@end\n"
 unfolding digits
 text_is = refl
 
-shown_is : of_class (Shown (codes "hi")) (codes "hi,2,10\nhi,3,12\n@box,f,3\n@end\n") ≡ lines_of (due_of (network_a, tuples)) (Shown (codes "hi"))
+shown_is : of_class (Shown (codes "o")) (all_text (due_of replay)) ≡ lines_of (due_of replay) (Shown (codes "o"))
 unfolding digits
 shown_is = refl
 
-ended_is : of_class Ended (codes "hi,2,10\nhi,3,12\n@box,f,3\n@end\n") ≡ lines_of (due_of (network_a, tuples)) Ended
+ended_is : of_class Ended (all_text (due_of replay)) ≡ lines_of (due_of replay) Ended
 unfolding digits
 ended_is = refl
 
-work_is : work_of (network_a, tuples) ≡ 5
+-- five at the box and five at the output
+work_is : work_of network replay.1 ≡ 10
 work_is = refl
 
-work_of_null : work_of (network_a, record { time = 7; fields = value.Null ∷ [] } ∷ []) ≡ 1
-work_of_null = refl
+cycle_is : message_of [] (status.BadNetwork (net.Cycle (record { part = part.Box; number = 0; item = 0 }))) ≡ codes "aurora: network: Cycle box 0 0\n"
+unfolding digits
+cycle_is = refl
 
-message_is : message_of (codes "s") (status.BadStream 0 2 why.Falls) ≡ codes "aurora: stream s: line 2: Falls\n"
+expression_is : message_of [] (status.BadNetwork (net.Expr (record { part = part.Box; number = 0; item = 1 }) (record { at = 4; what = what.Expected })))
+    ≡ codes "aurora: network: Expr box 0 1 4 Expected\n"
+unfolding digits
+expression_is = refl
+
+version_is : message_of [] (status.BadNetwork net.Version) ≡ codes "aurora: network: Version\n"
+version_is = refl
+
+message_is : message_of (codes "s") (status.BadStream 0 3 why.Falls) ≡ codes "aurora: stream s: line 3: Falls\n"
 unfolding digits
 message_is = refl
 
 absent : accepted (λ name. None) (codes "run" ∷ codes "a.toml" ∷ []) ≡ Err (status.FolderFault (codes "a.toml"))
 absent = refl
 
-whole : accepted (λ name. Some text_a) (codes "run" ∷ codes "a.toml" ∷ []) ≡ Err (status.BadStream 0 1 why.NotBuilt)
-unfolding text_a
-whole = refl
+-- the second source isn't looked for where the first has a bad line
+first_bad : outcome_of (λ name. Some (codes "2,x\n")) (after_network (Ok network)) ≡ Err (status.BadStream 0 1 why.NotInt)
+unfolding is_utf8 chars encode_utf8
+first_bad = refl
+
+all_read : outcome_of (λ name. Some (codes "2,7\n")) (after_network (Ok network)) ≡ Ok (network, (at 2 7 ∷ []) ∷ (at 2 7 ∷ []) ∷ [])
+unfolding is_utf8 chars encode_utf8
+all_read = refl

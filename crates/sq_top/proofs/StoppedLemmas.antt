@@ -1,7 +1,9 @@
 -- How a run stops before anything is replayed.
-use Rattle.std.proofs.Common.{◌≡◌, ◌⊎◌, inl, inr, ℕ, ◌+◌, ◌<◌, ◌≤◌, Bool, true, false, ◌||◌, List, [], ◌∷◌, length, refl, ap, sym, ◌∙◌, subst, arith, Option, None, Some}
-use Rattle.std.specs.Prelude.{⊤, nat_lt, IsSome, IsSomeAnd, Result, Ok, Err}
+use Rattle.std.proofs.Common.{◌≡◌, ◌≢◌, ◌⊎◌, inl, inr, ℕ, ◌+◌, ◌<◌, ◌≤◌, Bool, true, false, ◌&&◌, ◌||◌, List, [], ◌∷◌, ◌++◌, length, drop, get_or, refl, ap, sym, ◌∙◌, subst, arith, Option, None, Some}
+use Rattle.std.specs.Prelude.{⊤, nat_lt, IsSome, IsSomeAnd, slice_get, Result, Ok, Err}
 use Rattle.std.proofs.lemmas.Bool.Decides.{nat_tests}
+use Rattle.std.proofs.lemmas.List.{drop_more}
+use Rattle.std.proofs.lemmas.Option.{slice_get-get_or}
 use Rattle.sq_value.specs.declared.Tuple.{Tuple}
 use Rattle.sq_value.specs.Lists.{contains_bytes, same_bytes}
 use Rattle.sq_value.proofs.ListLemmas.{same_bytes-refl}
@@ -12,18 +14,20 @@ use Rattle.sq_top.specs.declared.Command.TheVariants as command
 use Rattle.sq_top.specs.declared.RunArgs.{RunArgs}
 use Rattle.sq_top.specs.declared.Status.{Status}
 use Rattle.sq_top.specs.declared.Status.TheVariants as status
-use Rattle.sq_top.specs.declared.NetErr.TheVariants as net
-use Rattle.sq_top.specs.declared.Why.{Why}
-use Rattle.sq_top.specs.declared.form.FirstNetwork.{FirstNetwork}
+use Rattle.sq_net.specs.declared.NetErr.{NetErr}
+use Rattle.sq_net.specs.declared.NetErr.TheVariants as net
+use Rattle.sq_net.specs.declared.Network.{Network}
+use Rattle.sq_net.specs.declared.Source.{Source}
+use Rattle.sq_net.specs.Sound.{IsSound, is_between}
+use Rattle.sq_reader.specs.Networks.{network_in}
+use Rattle.sq_reader.specs.Refusals.{is_memory}
+use Rattle.sq_replay.specs.declared.why.Why.{Why}
+use Rattle.sq_replay.specs.Streams.{stream_in}
 use Rattle.sq_top.specs.Commands.{command_in}
-use Rattle.sq_top.specs.FirstForm.{first_form}
-use Rattle.sq_top.specs.declared.stream.StreamErr.{StreamErr}
-use Rattle.sq_top.specs.declared.stream.StreamErr.TheVariants as error
-use Rattle.sq_top.specs.FirstStream.{IsBadAs, first_stream}
-use Rattle.sq_top.specs.Due.{Replay}
-use Rattle.sq_top.specs.Messages.{source_name}
-use Rattle.sq_top.specs.Scripts.{Script, Reads, Lookup, accepted, after_network, go_on, outcome_of, readable, reads_of, replay_with, script_of, settings_limit, stream_limit}
-use Rattle.sq_top.specs.Causes.{HasFailedAt, IsNoCommand, IsStopped, IsUnread, LeadsTo, MatchAccepted, NamesSource, RefusalHasCause, StopsAt, WhereTold, is_network}
+use Rattle.sq_top.specs.Messages.{name_at, name_in, network_named, source_name}
+use Rattle.sq_top.specs.Scripts.{Script, Reads, Done, Stops, Lookup, Replay, accepted, after_network, after_stream, after_streams, after_words, go_on, outcome_of, readable, reads_of, script_of, settings_limit, stream_limit}
+use Rattle.sq_top.specs.Causes.{AreBytesOf, HasFailedAt, HasNoStream, HasNoStreams, IsBadLine, IsNoCommand, IsRefusedBy, IsStopped, IsStreamOf, IsUnread, Leads, LeadsWhereTold, MatchAccepted, NamesSource, RefusalHasCause, WhereTold, is_network}
+use Rattle.sq_top.proofs.SortedLines.{and-true}
 
 match_any : (r : Result Replay Status) (P : Replay → Type 0) (Q : Status → Type 0) → ((x : Replay) → P x) → ((s : Status) → Q s) → MatchAccepted r P Q
 match_any (Ok x) P Q p q = p x
@@ -32,9 +36,12 @@ match_any (Err s) P Q p q = q s
 match_err : (r : Result Replay Status) (s : Status) (P : Replay → Type 0) (Q : Status → Type 0) → r ≡ Err s → Q s → MatchAccepted r P Q
 match_err r s P Q e q = rw e q
 
-where_told : (told : Option Files) (P : Files → Type 0) → ((files : Files) → told ≡ Some files → P files) → WhereTold told P
+pub where_told : (told : Option Files) (P : Files → Type 0) → ((files : Files) → told ≡ Some files → P files) → WhereTold told P
 where_told None P h = tt
 where_told (Some files) P h = h files refl
+
+pub at_told : (told : Option Files) (P : Files → Type 0) (files : Files) → told ≡ Some files → WhereTold told P → P files
+at_told told P files e h = subst (λ o. WhereTold o P) e h
 
 -- the status of the first broken rule, or a failing folder, is a refusal with a cause
 refusal_by : (files : Files) (words : List (List ℕ)) (fb fn : ℕ) (s : Status) → (accepted (file files) words ≡ Err s) ⊎ HasFailedAt fb fn s
@@ -50,7 +57,7 @@ refusal_by files words fb fn s (inr failed) reached = record {
   reached = reached;
 }
 
-some_none : (o : Option Command) → IsSome o → o ≡ None → ⊥
+pub some_none : (o : Option Command) → IsSome o → o ≡ None → ⊥
 some_none None some e = absurd (cc)
 some_none (Some c) some e = cc
 
@@ -64,7 +71,7 @@ module _ (words : List (List ℕ)) (told : Option Files) (fb fn tb tn : ℕ) (so
       reached = λ name h. absurd (cc);
     });
     folder = record { failed = λ name e. absurd (cc); too_long = λ name e. absurd (cc) };
-    named = λ h. absurd (cc);
+    named = tt;
     ends = inr refl;
     no_memory = λ e. absurd (cc);
   }
@@ -78,38 +85,41 @@ module _ (words : List (List ℕ)) (told : Option Files) (fb fn tb tn : ℕ) (so
     refusal = where_told told (λ files. RefusalHasCause files words fb fn status.Usage)
         (λ files e. refusal_by files words fb fn status.Usage (inl (accepted_usage (file files) none)) (λ name h. absurd (cc)));
     folder = record { failed = λ name e. absurd (cc); too_long = λ name e. absurd (cc) };
-    named = λ h. absurd (cc);
+    named = tt;
     ends = inl refl;
     no_memory = λ e. absurd (cc);
   }
 
-  -- a refusal that isn't about reading a file
+  -- a rule of a file, but want of memory
   abbrev IsRule : Status → Type 0
-  IsRule (status.BadNetwork net.NotBuilt) = ⊤
+  IsRule (status.BadNetwork e) = e ≢ net.Memory
   IsRule (status.BadStream number line why) = ⊤
   IsRule s = ⊥
 
-  pub stopped_rule : (s : Status) → IsRule s → IsSome (command_in words) → WhereTold told (λ files. accepted (file files) words ≡ Err s)
+  same_error : (e : NetErr) → status.BadNetwork e ≡ status.BadNetwork net.Memory → e ≡ net.Memory
+  same_error e h = cc
+
+  pub stopped_rule : (s : Status) → IsRule s → IsSome (command_in words) → LeadsWhereTold told (script_of words) (Stops s)
       → NamesSource told words s source → IsStopped words told fb fn tb tn s source
-  stopped_rule (status.BadNetwork net.NotBuilt) is some broken named = record {
+  stopped_rule (status.BadNetwork rule) is some leads named = record {
     usage = record { only = λ e. absurd (cc); when = λ e. absurd (some_none (command_in words) some e) };
-    refusal = where_told told (λ files. RefusalHasCause files words fb fn (status.BadNetwork net.NotBuilt))
-        (λ files e. refusal_by files words fb fn (status.BadNetwork net.NotBuilt) (inl (subst (λ o. WhereTold o (λ x. accepted (file x) words ≡ Err (status.BadNetwork net.NotBuilt))) e broken)) (λ name h. absurd (cc)));
+    refusal = where_told told (λ files. RefusalHasCause files words fb fn (status.BadNetwork rule))
+        (λ files e. refusal_by files words fb fn (status.BadNetwork rule) (inl (at_told told _ files e leads).outcome) (λ name h. absurd (cc)));
     folder = record { failed = λ name e. absurd (cc); too_long = λ name e. absurd (cc) };
     named = named;
     ends = inl refl;
-    no_memory = λ e. absurd (cc);
+    no_memory = λ h. is (same_error rule h);
   }
-  stopped_rule (status.BadStream number line why) is some broken named = record {
+  stopped_rule (status.BadStream number line why) is some leads named = record {
     usage = record { only = λ e. absurd (cc); when = λ e. absurd (some_none (command_in words) some e) };
     refusal = where_told told (λ files. RefusalHasCause files words fb fn (status.BadStream number line why))
-        (λ files e. refusal_by files words fb fn (status.BadStream number line why) (inl (subst (λ o. WhereTold o (λ x. accepted (file x) words ≡ Err (status.BadStream number line why))) e broken)) (λ name h. absurd (cc)));
+        (λ files e. refusal_by files words fb fn (status.BadStream number line why) (inl (at_told told _ files e leads).outcome) (λ name h. absurd (cc)));
     folder = record { failed = λ name e. absurd (cc); too_long = λ name e. absurd (cc) };
     named = named;
     ends = inl refl;
     no_memory = λ e. absurd (cc);
   }
-  stopped_rule s is some broken named = absurd is
+  stopped_rule s is some leads named = absurd is
 
 rose_later : (n before mid now : ℕ) → before ≤ mid → RoseBy n mid now → RoseBy n before now
 rose_later n before mid now le (inl up) = inl (omega arith)
@@ -134,23 +144,14 @@ same_long a b e = cc
 contains_first : (a b : List ℕ) (more : List (List ℕ)) → a ≡ b → contains_bytes b (a ∷ more) ≡ true
 contains_first a b more e = let same : same_bytes b a ≡ true = subst (λ x. same_bytes b x ≡ true) (sym e) (same_bytes-refl b) in rw same refl
 
--- the files that were read come to this file, whose reading was to go on so
-record Comes (files : Lookup) (words : List (List ℕ)) (name : List ℕ) (limit : ℕ) (more : List ℕ → Script) : Type 0 where
-  outcome : accepted files words ≡ outcome_of files (Reads name limit more)
-  reads : (other : List ℕ) → contains_bytes other (reads_of files (Reads name limit more)) ≡ true → contains_bytes other (reads_of files (script_of words)) ≡ true
-
 outcome-broken : (files : Lookup) (name : List ℕ) (limit : ℕ) (more : List ℕ → Script) (s : Status) → readable name limit (files name) ≡ Err s
     → outcome_of files (Reads name limit more) ≡ Err s
 outcome-broken files name limit more s e = rw e refl
 
-outcome-read : (files : Lookup) (name : List ℕ) (limit : ℕ) (more : List ℕ → Script) (bytes : List ℕ) → readable name limit (files name) ≡ Ok bytes
-    → outcome_of files (Reads name limit more) ≡ outcome_of files (more bytes)
-outcome-read files name limit more bytes e = rw e refl
-
 module _ (words : List (List ℕ)) (told : Option Files) (fb fn tb tn : ℕ) (source name : List ℕ) (limit : ℕ) (more : List ℕ → Script)
-    (some : IsSome (command_in words)) (comes : WhereTold told (λ files. Comes (file files) words name limit more)) where
-  comes_to : (files : Files) → told ≡ Some files → Comes (file files) words name limit more
-  comes_to files e = subst (λ o. WhereTold o (λ x. Comes (file x) words name limit more)) e comes
+    (some : IsSome (command_in words)) (leads : LeadsWhereTold told (script_of words) (Reads name limit more)) where
+  comes_to : (files : Files) → told ≡ Some files → Leads (file files) (script_of words) (Reads name limit more)
+  comes_to files e = at_told told _ files e leads
 
   fault_broken : (files : Files) → told ≡ Some files → Rose fb fn ⊎ IsSomeAnd told (λ x. file x name ≡ None)
       → (accepted (file files) words ≡ Err (status.FolderFault name)) ⊎ HasFailedAt fb fn (status.FolderFault name)
@@ -174,7 +175,7 @@ module _ (words : List (List ℕ)) (told : Option Files) (fb fn tb tn : ℕ) (so
         (λ files e. refusal_by files words fb fn (status.FolderFault name) (fault_broken files e why)
         (λ other h. (comes_to files e).reads other (contains_first name other (go_on (λ s. []) (λ bytes. reads_of (file files) (more bytes)) (readable name limit (file files name))) (same_name name other h))));
     folder = record { failed = λ other e. fault_told why; too_long = λ other e. absurd (cc) };
-    named = λ h. absurd (cc);
+    named = tt;
     ends = inl refl;
     no_memory = λ e. absurd (cc);
   }
@@ -189,12 +190,12 @@ module _ (words : List (List ℕ)) (told : Option Files) (fb fn tb tn : ℕ) (so
         (readable-long name limit (file files name) (subst (λ o. WhereTold o (λ x. IsLonger x name limit)) e longer))))
         (λ other h. absurd (cc)));
     folder = record { failed = λ other e. absurd (cc); too_long = λ other e. long other (same_long name other e) };
-    named = λ h. absurd (cc);
+    named = tt;
     ends = inl refl;
     no_memory = λ e. absurd (cc);
   }
 
-  stopped_unread : (s : Status) → (RoseBy (limit + 1) tb tn → (other : List ℕ) → name ≡ other → ((is_network (command_in words) other ≡ true) × RoseBy (settings_limit + 1) tb tn) ⊎ RoseBy (stream_limit + 1) tb tn)
+  pub stopped_unread : (s : Status) → (RoseBy (limit + 1) tb tn → (other : List ℕ) → name ≡ other → ((is_network (command_in words) other ≡ true) × RoseBy (settings_limit + 1) tb tn) ⊎ RoseBy (stream_limit + 1) tb tn)
       → IsUnread told name limit fb fn tb tn s → IsStopped words told fb fn tb tn s source
   stopped_unread s long (inl e) = subst (λ x. IsStopped words told fb fn tb tn x source) (sym e) (stopped_memory words told fb fn tb tn source)
   stopped_unread s long (inr (inl fault)) = subst (λ x. IsStopped words told fb fn tb tn x source) (sym fault.0) (stopped_fault fault.1)
@@ -211,6 +212,33 @@ or_later : (a b : Bool) → b ≡ true → (a || b) ≡ true
 or_later true b h = refl
 or_later false b h = h
 
+pub stopped_words : (words : List (List ℕ)) (told : Option Files) (fb fn tb tn : ℕ) (s : Status) (source : List ℕ) → IsNoCommand words s → IsStopped words told fb fn tb tn s source
+stopped_words words told fb fn tb tn s source (inl usage) = subst (λ x. IsStopped words told fb fn tb tn x source) (sym usage.0) (stopped_usage words told fb fn tb tn source usage.1)
+stopped_words words told fb fn tb tn s source (inr memory) = subst (λ x. IsStopped words told fb fn tb tn x source) (sym memory) (stopped_memory words told fb fn tb tn source)
+
+leads_self : (files : Lookup) (s : Script) → Leads files s s
+leads_self files s = record { outcome = refl; reads = λ name h. h }
+
+leads_then : (files : Lookup) (a b c : Script) → Leads files a b → Leads files b c → Leads files a c
+leads_then files a b c ab bc = record { outcome = ab.outcome ∙ bc.outcome; reads = λ name h. ab.reads name (bc.reads name h) }
+
+leads_read : (files : Lookup) (name : List ℕ) (limit : ℕ) (more : List ℕ → Script) (bytes : List ℕ) → readable name limit (files name) ≡ Ok bytes
+    → Leads files (Reads name limit more) (more bytes)
+leads_read files name limit more bytes e = record { outcome = rw e refl; reads = λ other h. or_later (same_bytes other name) _ (rw e h) }
+
+pub told_self : (told : Option Files) (s : Script) → LeadsWhereTold told s s
+told_self None s = tt
+told_self (Some files) s = leads_self (file files) s
+
+pub told_then : (told : Option Files) (a b c : Script) → LeadsWhereTold told a b → LeadsWhereTold told b c → LeadsWhereTold told a c
+told_then None a b c ab bc = tt
+told_then (Some files) a b c ab bc = leads_then (file files) a b c ab bc
+
+pub told_read : (told : Option Files) (name : List ℕ) (limit : ℕ) (more : List ℕ → Script) (bytes : List ℕ)
+    → WhereTold told (λ files. readable name limit (file files name) ≡ Ok bytes) → LeadsWhereTold told (Reads name limit more) (more bytes)
+told_read None name limit more bytes e = tt
+told_read (Some files) name limit more bytes e = leads_read (file files) name limit more bytes e
+
 readable-ok : (name : List ℕ) (limit : ℕ) (o : Option (List ℕ)) (bytes : List ℕ) → readable name limit o ≡ Ok bytes → o ≡ Some bytes
 readable-ok name limit None bytes e = cc
 readable-ok name limit (Some found) bytes e = within (nat_lt limit (length found)) refl e
@@ -219,93 +247,129 @@ readable-ok name limit (Some found) bytes e = within (nat_lt limit (length found
     within true long h = let h' = rw long at h in cc
     within false short h = let h' = rw short at h in cc
 
-pub stopped_words : (words : List (List ℕ)) (told : Option Files) (fb fn tb tn : ℕ) (s : Status) (source : List ℕ) → IsNoCommand words s → IsStopped words told fb fn tb tn s source
-stopped_words words told fb fn tb tn s source (inl usage) = subst (λ x. IsStopped words told fb fn tb tn x source) (sym usage.0) (stopped_usage words told fb fn tb tn source usage.1)
-stopped_words words told fb fn tb tn s source (inr memory) = subst (λ x. IsStopped words told fb fn tb tn x source) (sym memory) (stopped_memory words told fb fn tb tn source)
-
 -- the network file
-module _ (words : List (List ℕ)) (args : RunArgs) (command : command_in words ≡ Some (command.Run args)) where
-  is_command : IsSome (command_in words)
+module _ (words : List (List ℕ)) (args : RunArgs) (command : command_in words ≡ Some (command.Run args)) (told : Option Files) where
+  pub is_command : IsSome (command_in words)
   is_command = rw command refl
 
-  network_comes : (files : Lookup) → Comes files words args.net settings_limit (λ bytes. after_network (first_form bytes))
-  network_comes files = record { outcome = rw command refl; reads = λ other h. rw command h }
-
-  told_comes : (told : Option Files) → WhereTold told (λ files. Comes (file files) words args.net settings_limit (λ bytes. after_network (first_form bytes)))
-  told_comes told = where_told told (λ files. Comes (file files) words args.net settings_limit (λ bytes. after_network (first_form bytes))) (λ files e. network_comes (file files))
+  network_comes : LeadsWhereTold told (script_of words) (Reads args.net settings_limit (λ bytes. after_network (network_in bytes)))
+  network_comes = subst (λ o. LeadsWhereTold told (script_of words) (after_words o)) command (told_self told (script_of words))
 
   net_is_network : (other : List ℕ) → args.net ≡ other → is_network (command_in words) other ≡ true
   net_is_network other e = rw command (subst (λ x. same_bytes args.net x ≡ true) e (same_bytes-refl args.net))
 
-  pub stopped_network : (told : Option Files) (fb fn tb tn : ℕ) (s : Status) (source : List ℕ) → IsUnread told args.net settings_limit fb fn tb tn s
-      → IsStopped words told fb fn tb tn s source
-  stopped_network told fb fn tb tn s source unread =
-      stopped_unread words told fb fn tb tn source args.net settings_limit (λ bytes. after_network (first_form bytes)) is_command (told_comes told) s
+  pub stopped_network : (fb fn tb tn : ℕ) (s : Status) (source : List ℕ) → IsUnread told args.net settings_limit fb fn tb tn s → IsStopped words told fb fn tb tn s source
+  stopped_network fb fn tb tn s source unread =
+      stopped_unread words told fb fn tb tn source args.net settings_limit (λ bytes. after_network (network_in bytes)) is_command network_comes s
       (λ rose other e. inl (net_is_network other e, rose)) unread
 
-  after_form : (files : Lookup) (bytes : List ℕ) (o : Option FirstNetwork) → readable args.net settings_limit (files args.net) ≡ Ok bytes → first_form bytes ≡ o
-      → accepted files words ≡ outcome_of files (after_network o)
-  after_form files bytes o whole form =
-      (network_comes files).outcome ∙ outcome-read files args.net settings_limit (λ x. after_network (first_form x)) bytes whole ∙ ap (λ x. outcome_of files (after_network x)) form
+  module _ (bytes : List ℕ) (whole : WhereTold told (λ files. readable args.net settings_limit (file files args.net) ≡ Ok bytes)) where
+    -- what the file's bytes say comes next
+    after_bytes : (r : Result Network NetErr) → network_in bytes ≡ r → LeadsWhereTold told (script_of words) (after_network r)
+    after_bytes r e =
+        subst (λ x. LeadsWhereTold told (script_of words) (after_network x)) e
+        (told_then told _ _ _ network_comes (told_read told args.net settings_limit (λ x. after_network (network_in x)) bytes whole))
 
-  pub leads_to : (files : Lookup) (bytes : List ℕ) (n : FirstNetwork) → readable args.net settings_limit (files args.net) ≡ Ok bytes → first_form bytes ≡ Some n
-      → LeadsTo files words n
-  leads_to files bytes n whole form = record {
-    outcome = after_form files bytes (Some n) whole form;
-    reads = λ name h. (network_comes files).reads name (or_later (same_bytes name args.net) _ (rw (whole, form) h));
-    named = rw (command, readable-ok args.net settings_limit (files args.net) bytes whole, form) refl;
-  }
+    pub network_leads : (n : Network) → network_in bytes ≡ Ok n → LeadsWhereTold told (script_of words) (after_streams n [] n.sources)
+    network_leads n e = after_bytes (Ok n) e
 
-  pub told_leads_to : (told : Option Files) (bytes : List ℕ) (n : FirstNetwork) → WhereTold told (λ files. readable args.net settings_limit (file files args.net) ≡ Ok bytes)
-      → first_form bytes ≡ Some n → WhereTold told (λ files. LeadsTo (file files) words n)
-  told_leads_to told bytes n whole form = where_told told (λ files. LeadsTo (file files) words n)
-      (λ files e. leads_to (file files) bytes n (subst (λ o. WhereTold o (λ x. readable args.net settings_limit (file x args.net) ≡ Ok bytes)) e whole) form)
+    named_in : (files : Files) (n : Network) → readable args.net settings_limit (file files args.net) ≡ Ok bytes → network_in bytes ≡ Ok n
+        → network_named (file files) (command_in words) ≡ Some n
+    named_in files n e said = rw (command, readable-ok args.net settings_limit (file files args.net) bytes e, said) refl
 
-  pub stopped_form : (told : Option Files) (fb fn tb tn : ℕ) (source bytes : List ℕ) → WhereTold told (λ files. readable args.net settings_limit (file files args.net) ≡ Ok bytes)
-      → first_form bytes ≡ None → IsStopped words told fb fn tb tn (status.BadNetwork net.NotBuilt) source
-  stopped_form told fb fn tb tn source bytes whole form =
-      stopped_rule words told fb fn tb tn source (status.BadNetwork net.NotBuilt) tt is_command
-      (where_told told (λ files. accepted (file files) words ≡ Err (status.BadNetwork net.NotBuilt))
-      (λ files e. after_form (file files) bytes None (subst (λ o. WhereTold o (λ x. readable args.net settings_limit (file x args.net) ≡ Ok bytes)) e whole) form))
-      (λ h. absurd (cc))
+    pub network_is_named : (n : Network) → network_in bytes ≡ Ok n → WhereTold told (λ files. network_named (file files) (command_in words) ≡ Some n)
+    network_is_named n said = where_told told (λ files. network_named (file files) (command_in words) ≡ Some n) (λ files e. named_in files n (at_told told _ files e whole) said)
 
--- the source
-module _ (words : List (List ℕ)) (told : Option Files) (n : FirstNetwork) (some : IsSome (command_in words))
-    (leads : WhereTold told (λ files. LeadsTo (file files) words n)) where
-  leads_at : (files : Files) → told ≡ Some files → LeadsTo (file files) words n
-  leads_at files e = subst (λ o. WhereTold o (λ x. LeadsTo (file x) words n)) e leads
+    not_memory : (e : NetErr) → e ≢ net.Memory → is_memory e ≡ false
+    not_memory net.Memory h = absurd (h refl)
+    not_memory e h = refl
 
-  source_comes : WhereTold told (λ files. Comes (file files) words n.file stream_limit (λ bytes. replay_with n (first_stream bytes)))
-  source_comes = where_told told (λ files. Comes (file files) words n.file stream_limit (λ bytes. replay_with n (first_stream bytes)))
-      (λ files e. record { outcome = (leads_at files e).outcome; reads = (leads_at files e).reads })
+    pub stopped_refused : (fb fn tb tn : ℕ) (e : NetErr) (result : Status) (source : List ℕ) → IsRefusedBy e result → (is_memory e ≡ false → network_in bytes ≡ Err e)
+        → IsStopped words told fb fn tb tn result source
+    stopped_refused fb fn tb tn e result source (inl memory) said =
+        subst (λ x. IsStopped words told fb fn tb tn x source) (sym memory.1) (stopped_memory words told fb fn tb tn source)
+    stopped_refused fb fn tb tn e result source (inr rule) said =
+        subst (λ x. IsStopped words told fb fn tb tn x source) (sym rule.1)
+        (stopped_rule words told fb fn tb tn source (status.BadNetwork e) rule.0 is_command (after_bytes (Err e) (said (not_memory e rule.0))) tt)
 
-  pub stopped_source : (fb fn tb tn : ℕ) (s : Status) (source : List ℕ) → IsUnread told n.file stream_limit fb fn tb tn s → IsStopped words told fb fn tb tn s source
-  stopped_source fb fn tb tn s source unread =
-      stopped_unread words told fb fn tb tn source n.file stream_limit (λ bytes. replay_with n (first_stream bytes)) some source_comes s (λ rose other e. inr rose) unread
+-- the sources of a sound network are few
+pub few_sources : (n : Network) → IsSound n → length n.sources ≤ 8
+few_sources n sound =
+    at_most (length n.sources) (and-true _ _ (and-true _ _ (and-true _ _ (and-true _ _ (and-true _ _ (and-true _ _ (and-true _ _ (and-true _ _ sound.within).0).0).0).0).0).0).0).0
+  where
+    at_most : (k : ℕ) → is_between 1 8 k ≡ true → k ≤ 8
+    at_most k h = grind (arith, nat_tests)
 
-  after_stream : (bytes : List ℕ) (r : Result (List Tuple) (ℕ × Why)) → WhereTold told (λ files. readable n.file stream_limit (file files n.file) ≡ Ok bytes) → first_stream bytes ≡ r
-      → WhereTold told (λ files. accepted (file files) words ≡ outcome_of (file files) (replay_with n r))
-  after_stream bytes r whole stream = where_told told (λ files. accepted (file files) words ≡ outcome_of (file files) (replay_with n r))
-      (λ files e.
-      (leads_at files e).outcome
-      ∙ outcome-read (file files) n.file stream_limit (λ x. replay_with n (first_stream x)) bytes (subst (λ o. WhereTold o (λ x. readable n.file stream_limit (file x n.file) ≡ Ok bytes)) e whole)
-      ∙ ap (λ x. outcome_of (file files) (replay_with n x)) stream)
+-- the next source
+module _ (told : Option Files) (n : Network) (read : List (List Tuple)) (s : Source) (left : List Source) where
+  abbrev after_source : List Tuple → Script
+  after_source xs = after_streams n (read ++ xs ∷ []) left
 
-  pub accepted_replay : (bytes : List ℕ) (xs : List Tuple) → WhereTold told (λ files. readable n.file stream_limit (file files n.file) ≡ Ok bytes) → first_stream bytes ≡ Ok xs
-      → WhereTold told (λ files. accepted (file files) words ≡ Ok (n, xs))
-  accepted_replay bytes xs whole stream = after_stream bytes (Ok xs) whole stream
+  after_file : (bytes : List ℕ) (r : Result (List Tuple) (ℕ × Why)) → stream_in s.schema bytes ≡ r → AreBytesOf told s bytes
+      → LeadsWhereTold told (after_streams n read (s ∷ left)) (after_stream (length read) after_source r)
+  after_file bytes r e whole =
+      subst (λ x. LeadsWhereTold told (after_streams n read (s ∷ left)) (after_stream (length read) after_source x)) e
+      (told_read told s.file stream_limit (λ x. after_stream (length read) after_source (stream_in s.schema x)) bytes whole)
 
-  pub stopped_stream : (fb fn tb tn : ℕ) (bytes : List ℕ) (line : ℕ) (why : Why) → WhereTold told (λ files. readable n.file stream_limit (file files n.file) ≡ Ok bytes)
-      → first_stream bytes ≡ Err (line, why) → IsStopped words told fb fn tb tn (status.BadStream 0 line why) n.source
-  stopped_stream fb fn tb tn bytes line why whole stream =
-      stopped_rule words told fb fn tb tn n.source (status.BadStream 0 line why) tt some (after_stream bytes (Err (line, why)) whole stream)
-      (λ h. where_told told (λ files. n.source ≡ source_name (file files) words) (λ files e. sym (leads_at files e).named))
+  pub source_leads : (xs : List Tuple) → IsStreamOf told s xs → LeadsWhereTold told (after_streams n read (s ∷ left)) (after_streams n (read ++ xs ∷ []) left)
+  source_leads xs is = after_file is.0 (Ok xs) is.1 is.2
 
-  pub stopped_at_stream : (fb fn tb tn : ℕ) (bytes : List ℕ) (e : StreamErr) (s : Status) (source : List ℕ)
-      → WhereTold told (λ files. readable n.file stream_limit (file files n.file) ≡ Ok bytes) → IsBadAs e (first_stream bytes) → StopsAt n.source e s source
-      → IsStopped words told fb fn tb tn s source
-  stopped_at_stream fb fn tb tn bytes (error.Bad line why) s source whole bad stops =
-      subst (λ x. IsStopped words told fb fn tb tn x source) (sym stops.0)
-      (subst (λ x. IsStopped words told fb fn tb tn (status.BadStream 0 line why) x) (sym stops.1) (stopped_stream fb fn tb tn bytes line why whole bad))
-  stopped_at_stream fb fn tb tn bytes error.Memory s source whole bad stops =
-      subst (λ x. IsStopped words told fb fn tb tn x source) (sym stops) (stopped_memory words told fb fn tb tn source)
+  -- a source whose tuples aren't there stops the reading
+  pub no_streams : (fb fn tb tn : ℕ) (result : Status) (source : List ℕ) → LeadsWhereTold told (after_streams n [] n.sources) (after_streams n read (s ∷ left))
+      → slice_get n.sources (length read) ≡ Some s → HasNoStream told (length read) s fb fn tb tn result source → HasNoStreams told n fb fn tb tn result source
+  no_streams fb fn tb tn result source leads at (inl unread) =
+      inl (s, (λ bytes. after_stream (length read) after_source (stream_in s.schema bytes)), leads, unread)
+  no_streams fb fn tb tn result source leads at (inr (bytes, line, why, said, whole, bad)) =
+      inr (length read, s, line, why, at, told_then told _ _ _ leads (after_file bytes (Err (line, why)) said whole), bad)
+
+pub no_streams_later : (told : Option Files) (n : Network) (fb mid fn tb between tn : ℕ) (result : Status) (source : List ℕ) → fb ≤ mid → tb ≤ between
+    → HasNoStreams told n mid fn between tn result source → HasNoStreams told n fb fn tb tn result source
+no_streams_later told n fb mid fn tb between tn result source f t (inl (s, more, leads, unread)) =
+    inl (s, more, leads, unread_later told s.file stream_limit fb mid fn tb between tn result f t unread)
+no_streams_later told n fb mid fn tb between tn result source f t (inr bad) = inr bad
+
+-- the source with this number, where those before it were read
+module _ (told : Option Files) (n : Network) (vs : List (List Tuple)) (i : ℕ) (s : Source) (inside : i < length n.sources) (at : s ≡ get_or n.sources i s) (counted : length vs ≡ i)
+    (leads : LeadsWhereTold told (after_streams n [] n.sources) (after_streams n vs (drop i n.sources))) where
+  left_is : drop i n.sources ≡ s ∷ drop (i + 1) n.sources
+  left_is = drop_more n.sources i s inside ∙ ap (λ (x : Source). x ∷ drop (i + 1) n.sources) (sym at)
+
+  leads_here : LeadsWhereTold told (after_streams n [] n.sources) (after_streams n vs (s ∷ drop (i + 1) n.sources))
+  leads_here = subst (λ xs. LeadsWhereTold told (after_streams n [] n.sources) (after_streams n vs xs)) left_is leads
+
+  pub leads_on : (xs : List Tuple) → IsStreamOf told s xs → LeadsWhereTold told (after_streams n [] n.sources) (after_streams n (vs ++ xs ∷ []) (drop (i + 1) n.sources))
+  leads_on xs is = told_then told _ _ _ leads_here (source_leads told n vs s (drop (i + 1) n.sources) xs is)
+
+  source_at : slice_get n.sources (length vs) ≡ Some s
+  source_at = ap (slice_get n.sources) counted ∙ slice_get-get_or n.sources i s inside ∙ ap (λ (x : Source). Some x) (sym at)
+
+  pub no_streams_at : (number fb mid fn tb between tn : ℕ) (result : Status) (source : List ℕ) → number ≡ i → fb ≤ mid → tb ≤ between
+      → HasNoStream told number s mid fn between tn result source → HasNoStreams told n fb fn tb tn result source
+  no_streams_at number fb mid fn tb between tn result source same f t none =
+      no_streams_later told n fb mid fn tb between tn result source f t
+      (no_streams told n vs s (drop (i + 1) n.sources) mid fn between tn result source leads_here source_at
+      (subst (λ k. HasNoStream told k s mid fn between tn result source) (same ∙ sym counted) none))
+
+-- the sources
+module _ (words : List (List ℕ)) (told : Option Files) (n : Network) (some : IsSome (command_in words))
+    (leads : LeadsWhereTold told (script_of words) (after_streams n [] n.sources))
+    (named : WhereTold told (λ files. network_named (file files) (command_in words) ≡ Some n)) where
+  name_is : (files : Files) (number : ℕ) (s : Source) → network_named (file files) (command_in words) ≡ Some n → slice_get n.sources number ≡ Some s
+      → s.name ≡ source_name (file files) words number
+  name_is files number s e at = sym (ap (name_at number) e ∙ ap name_in at)
+
+  names_source : (number : ℕ) (s : Source) (source : List ℕ) → slice_get n.sources number ≡ Some s → source ≡ s.name
+      → WhereTold told (λ files. source ≡ source_name (file files) words number)
+  names_source number s source at e = where_told told (λ files. source ≡ source_name (file files) words number)
+      (λ files t. e ∙ name_is files number s (at_told told _ files t named) at)
+
+  pub stopped_streams : (fb fn tb tn : ℕ) (result : Status) (source : List ℕ) → HasNoStreams told n fb fn tb tn result source → IsStopped words told fb fn tb tn result source
+  stopped_streams fb fn tb tn result source (inl (s, more, to, unread)) =
+      stopped_unread words told fb fn tb tn source s.file stream_limit more some (told_then told _ _ _ leads to) result (λ rose other e. inr rose) unread
+  stopped_streams fb fn tb tn result source (inr (number, s, line, why, at, to, bad)) =
+      subst (λ x. IsStopped words told fb fn tb tn x source) (sym bad.0)
+      (stopped_rule words told fb fn tb tn source (status.BadStream number line why) tt some (told_then told _ _ _ leads to) (names_source number s source at bad.1))
+
+  pub accepted_streams : (ss : List (List Tuple)) → LeadsWhereTold told (after_streams n [] n.sources) (Done (n, ss))
+      → WhereTold told (λ files. accepted (file files) words ≡ Ok (n, ss))
+  accepted_streams ss to = where_told told (λ files. accepted (file files) words ≡ Ok (n, ss)) (λ files e. (at_told told _ files e (told_then told _ _ _ leads to)).outcome)

@@ -1,18 +1,23 @@
 -- Text that is written piece by piece.
-use Rattle.std.proofs.Common.{◌≡◌, ℕ, ◌+◌, ◌<◌, ◌≤◌, Bool, true, false, List, [], ◌∷◌, ◌++◌, length, take, drop, get_or, refl, ap, sym, ◌∙◌, subst, arith, append_assoc, append-nil, zero-add, Option}
-use Rattle.std.specs.Prelude.{if◌then◌else◌, map, Result, Ok, Err, OnOk, OnErr}
-use Rattle.std.specs.List.{flat_map, filter}
-use Rattle.std.proofs.lemmas.List.{take-append-drop, take_more}
-use Rattle.std.proofs.lemmas.List.Sums.{sum_by_more, sum_by-append}
+use Rattle.std.proofs.Common.{◌≡◌, ℕ, ◌+◌, ◌<◌, ◌≤◌, List, [], ◌∷◌, ◌++◌, length, take, drop, get_or, refl, ap, sym, ◌∙◌, subst, arith, append_assoc, append-nil, Option, None, Some}
+use Rattle.std.specs.Prelude.{map, Result, Ok, Err, OnOk, OnErr}
+use Rattle.std.specs.List.{flat_map, sum_by, zip}
+use Rattle.std.proofs.lemmas.List.{get_or_default, length-map, take_all, take-append-drop, take_more}
+use Rattle.std.proofs.lemmas.List.Sums.{sum_by_more, sum_by-append, sum_by-cons}
+use Rattle.std.proofs.lemmas.List.FromFn.{length-map-range_with_len}
+use Rattle.std.proofs.lemmas.Slice.Zip.{firsts-zip, get_or-zip, seconds-zip}
+use Rattle.sq_value.specs.Lists.{numbers_to}
 use Rattle.std.proofs.lemmas.Grind.{flat_map-append}
 use Rattle.sq_value.specs.declared.Tuple.{Tuple}
+use Rattle.sq_value.specs.LineTexts.{output_line, end_line}
+use Rattle.sq_net.specs.declared.Network.{Network}
+use Rattle.sq_net.specs.declared.Output.{Output}
 use Rattle.sq_outside.specs.Sinks.{AppendsPrefix, appended}
 use Rattle.sq_outside.proofs.SinkLemmas.{appended-append}
-use Rattle.sq_top.specs.declared.form.FirstNetwork.{FirstNetwork}
-use Rattle.sq_value.specs.Values.{field}
-use Rattle.sq_value.specs.LineTexts.{output_line, box_line, end_line}
-use Rattle.sq_top.specs.Due.{all_text, due_of, full_answer, passes, work_of}
-use Rattle.sq_top.specs.Writing.{Moves, ends_text, tuple_text, tuple_work, tuples_text, tuples_work}
+use Rattle.sq_model.specs.Full.{nth}
+use Rattle.sq_model.specs.Fed.{fed_from, work_from}
+use Rattle.sq_top.specs.Due.{all_text, due_from, fed_line, feds_from, outputs_of, shown_from}
+use Rattle.sq_top.specs.Writing.{Moves, ends_text, output_text, output_work, tuples_text}
 
 pub moves-then : (before mid now : Option (List ℕ)) (waited waits later more next : List ℕ) → Moves before waited mid waits more → Moves mid waits now later next
     → Moves before waited now later (more ++ next)
@@ -33,64 +38,33 @@ moves-lost before mid now waited waits more next a b = (
 pub prefix_longer : (before now : Option (List ℕ)) (bytes more : List ℕ) → AppendsPrefix before now bytes → AppendsPrefix before now (bytes ++ more)
 prefix_longer before now bytes more a = (a.0, (a.1.0 ++ more, ap (λ x. x ++ more) a.1.1 ∙ append_assoc a.0 a.1.0 more), a.2)
 
--- one tuple more
-pub tuples_text-more : (n : FirstNetwork) (xs : List Tuple) (i : ℕ) (x : Tuple) → i < length xs → x ≡ get_or xs i x
-    → tuples_text n (take (i + 1) xs) ≡ tuples_text n (take i xs) ++ tuple_text n x
-tuples_text-more n xs i x inside at =
-    ap (tuples_text n) (take_more xs i x inside)
-    ∙ flat_map-append (tuple_text n) (take i xs) (get_or xs i x ∷ [])
-    ∙ ap (λ y. tuples_text n (take i xs) ++ (tuple_text n y ++ [])) (sym at)
-    ∙ ap (λ y. tuples_text n (take i xs) ++ y) (append-nil (tuple_text n x))
+-- a list's text, and its work, up to an element and from there on
+module _ {X : Type 0} where
+  pub text-more : (f : X → List ℕ) (xs : List X) (i : ℕ) (x : X) → i < length xs → x ≡ get_or xs i x → flat_map f (take (i + 1) xs) ≡ flat_map f (take i xs) ++ f x
+  text-more f xs i x inside at =
+      ap (flat_map f) (take_more xs i x inside)
+      ∙ flat_map-append f (take i xs) (get_or xs i x ∷ [])
+      ∙ ap (λ y. flat_map f (take i xs) ++ (f y ++ [])) (sym at)
+      ∙ ap (λ y. flat_map f (take i xs) ++ y) (append-nil (f x))
 
-pub tuples_work-more : (n : FirstNetwork) (xs : List Tuple) (i : ℕ) (x : Tuple) → i < length xs → x ≡ get_or xs i x
-    → tuples_work n (take (i + 1) xs) ≡ tuples_work n (take i xs) + tuple_work n x
-tuples_work-more n xs i x inside at = sum_by_more (tuple_work n) xs i x inside ∙ ap (λ y. tuples_work n (take i xs) + tuple_work n y) (sym at)
+  text-rest : (f : X → List ℕ) (xs : List X) (i : ℕ) → flat_map f xs ≡ flat_map f (take i xs) ++ flat_map f (drop i xs)
+  text-rest f xs i = ap (flat_map f) (sym (take-append-drop i xs)) ∙ flat_map-append f (take i xs) (drop i xs)
 
-pub tuples_text-rest : (n : FirstNetwork) (xs : List Tuple) (i : ℕ) → tuples_text n xs ≡ tuples_text n (take i xs) ++ tuples_text n (drop i xs)
-tuples_text-rest n xs i = ap (tuples_text n) (sym (take-append-drop i xs)) ∙ flat_map-append (tuple_text n) (take i xs) (drop i xs)
+  pub work-more : (f : X → ℕ) (xs : List X) (i : ℕ) (x : X) → i < length xs → x ≡ get_or xs i x → sum_by f (take (i + 1) xs) ≡ sum_by f (take i xs) + f x
+  work-more f xs i x inside at = sum_by_more f xs i x inside ∙ ap (λ y. sum_by f (take i xs) + f y) (sym at)
 
-pub tuples_work-rest : (n : FirstNetwork) (xs : List Tuple) (i : ℕ) → tuples_work n (take i xs) ≤ tuples_work n xs
-tuples_work-rest n xs i = omega (arith, ap (tuples_work n) (take-append-drop i xs), sum_by-append (tuple_work n) (take i xs) (drop i xs))
+  pub work-rest : (f : X → ℕ) (xs : List X) (i : ℕ) → sum_by f (take i xs) ≤ sum_by f xs
+  work-rest f xs i = omega (arith, ap (sum_by f) (take-append-drop i xs), sum_by-append f (take i xs) (drop i xs))
 
--- a tuple that is lost on the way
-pub lost_at : (n : FirstNetwork) (xs : List Tuple) (i : ℕ) (x : Tuple) (before mid now : Option (List ℕ)) (waits : List ℕ) → i < length xs → x ≡ get_or xs i x
-    → Moves before [] mid waits (tuples_text n (take i xs)) → AppendsPrefix mid now (waits ++ tuple_text n x) → AppendsPrefix before now (tuples_text n xs)
-lost_at n xs i x before mid now waits inside at a b =
-    let e = ap (λ y. y ++ tuples_text n (drop (i + 1) xs)) (tuples_text-more n xs i x inside at) in
-    subst (λ y. AppendsPrefix before now y) (sym (tuples_text-rest n xs (i + 1) ∙ e))
-    (prefix_longer before now (tuples_text n (take i xs) ++ tuple_text n x) (tuples_text n (drop (i + 1) xs)) (moves-lost before mid now [] waits (tuples_text n (take i xs)) (tuple_text n x) a b))
-
-shown_first : (p : Tuple → Bool) (line : Tuple → List ℕ) (t : Bool) (x : Tuple) (xs : List Tuple) → p x ≡ t
-    → flat_map (λ l. l) (map line (filter p xs)) ≡ flat_map (λ y. if p y then line y else []) xs
-    → flat_map (λ l. l) (map line (filter p (x ∷ xs))) ≡ flat_map (λ y. if p y then line y else []) (x ∷ xs)
-shown_first p line true x xs e h = rw e (ap (λ y. line x ++ y) h)
-shown_first p line false x xs e h = rw e h
-
-shown_text : (p : Tuple → Bool) (line : Tuple → List ℕ) (xs : List Tuple) → flat_map (λ l. l) (map line (filter p xs)) ≡ flat_map (λ x. if p x then line x else []) xs
-shown_text p line [] = refl
-shown_text p line (x ∷ xs) = shown_first p line (p x) x xs refl (shown_text p line xs)
-
--- the text of all lines that are due: what the tuples bring, and the end lines
-pub all_text-due_of : (n : FirstNetwork) (xs : List Tuple) → all_text (due_of (n, xs)) ≡ tuples_text n xs ++ ends_text n (length xs)
-all_text-due_of n xs =
-    let shown = map (output_line n.output) (full_answer (n, xs)) in
-    let ends = box_line n.filter (length xs) ∷ end_line ∷ [] in
-    ap (λ y. flat_map (λ l. l) (y ++ ends)) (append-nil shown)
-    ∙ flat_map-append (λ l. l) shown ends
-    ∙ ap (λ y. y ++ (box_line n.filter (length xs) ++ (end_line ++ []))) (shown_text (λ x. passes n.comparison n.number (field x.fields 0)) (output_line n.output) xs)
-
-work_first : (t : Bool) (n : FirstNetwork) (x : Tuple) (xs : List Tuple) → passes n.comparison n.number (field x.fields 0) ≡ t → tuples_work n xs ≡ work_of (n, xs)
-    → tuple_work n x + tuples_work n xs ≡ work_of (n, x ∷ xs)
-work_first true n x xs e h = rw (e, h) (omega arith)
-work_first false n x xs e h = rw (e, h) (omega arith)
-
-tuples_work-first : (n : FirstNetwork) (x : Tuple) (xs : List Tuple) → tuples_work n (x ∷ xs) ≡ tuple_work n x + tuples_work n xs
-tuples_work-first n x xs = sum_by-append (tuple_work n) (x ∷ []) xs ∙ ap (λ k. k + tuples_work n xs) (zero-add (tuple_work n x))
-
--- a step for each tuple at the Filter, and one for each at the output
-pub tuples_work-is : (n : FirstNetwork) (xs : List Tuple) → tuples_work n xs ≡ work_of (n, xs)
-tuples_work-is n [] = refl
-tuples_work-is n (x ∷ xs) = tuples_work-first n x xs ∙ work_first (passes n.comparison n.number (field x.fields 0)) n x xs refl (tuples_work-is n xs)
+  -- an element that is lost on the way
+  pub lost_at : (f : X → List ℕ) (xs : List X) (i : ℕ) (x : X) (before mid now : Option (List ℕ)) (waited waits : List ℕ) → i < length xs → x ≡ get_or xs i x
+      → Moves before waited mid waits (flat_map f (take i xs)) → AppendsPrefix mid now (waits ++ f x) → AppendsPrefix before now (waited ++ flat_map f xs)
+  lost_at f xs i x before mid now waited waits inside at a b =
+      let e = ap (λ y. y ++ flat_map f (drop (i + 1) xs)) (text-more f xs i x inside at) in
+      subst (λ y. AppendsPrefix before now (waited ++ y)) (sym (text-rest f xs (i + 1) ∙ e))
+      (subst (λ y. AppendsPrefix before now y) (append_assoc waited (flat_map f (take i xs) ++ f x) (flat_map f (drop (i + 1) xs)))
+      (prefix_longer before now (waited ++ (flat_map f (take i xs) ++ f x)) (flat_map f (drop (i + 1) xs))
+      (moves-lost before mid now waited waits (flat_map f (take i xs)) (f x) a b)))
 
 pub on_ok : {T E P Q : Type 0} (r : Result T E) → OnOk r P → (P → Q) → OnOk r Q
 on_ok (Ok x) p f = f p
@@ -113,27 +87,114 @@ pub on_ok_both : {T E P Q R : Type 0} (r : Result T E) → OnOk r P → OnOk r Q
 on_ok_both (Ok x) p q f = f p q
 on_ok_both (Err e) p q f = tt
 
+text_of_map : {X : Type 0} (f : X → List ℕ) (xs : List X) → flat_map (λ l. l) (map f xs) ≡ flat_map f xs
+text_of_map f [] = refl
+text_of_map f (x ∷ xs) = ap (λ y. f x ++ y) (text_of_map f xs)
+
+text_of_outputs : (streams : List (List Tuple)) (os : List (Output × ℕ)) → flat_map (λ l. l) (flat_map (λ o. o.1) (map (shown_from streams) os)) ≡ flat_map (output_text streams) os
+text_of_outputs streams [] = refl
+text_of_outputs streams (o ∷ os) =
+    let lines = map (output_line (o.0).name) (nth streams o.1) in
+    flat_map-append (λ l. l) lines (flat_map (λ p. p.1) (map (shown_from streams) os))
+    ∙ ap (λ y. y ++ flat_map (λ l. l) (flat_map (λ p. p.1) (map (shown_from streams) os))) (text_of_map (output_line (o.0).name) (nth streams o.1))
+    ∙ ap (λ y. tuples_text (o.0).name (nth streams o.1) ++ y) (text_of_outputs streams os)
+
+-- the text of all lines that are due: that of the outputs, and the end lines
+pub all_text-from : (n : Network) (streams : List (List Tuple)) → all_text (due_from n streams) ≡ flat_map (output_text streams) (outputs_of n) ++ ends_text n (feds_from n streams)
+all_text-from n streams =
+    let zs = zip n.boxes (feds_from n streams) in
+    let front = flat_map (output_text streams) (outputs_of n) in
+    flat_map-append (λ l. l) (flat_map (λ o. o.1) (map (shown_from streams) (outputs_of n))) (map fed_line zs ++ end_line ∷ [])
+    ∙ ap (λ y. y ++ flat_map (λ l. l) (map fed_line zs ++ end_line ∷ [])) (text_of_outputs streams (outputs_of n))
+    ∙ ap (λ y. front ++ y) (flat_map-append (λ l. l) (map fed_line zs) (end_line ∷ []) ∙ ap (λ y. y ++ (end_line ++ [])) (text_of_map fed_line zs))
+    ∙ ap (λ y. front ++ (flat_map fed_line zs ++ y)) (append-nil end_line)
+
+sum_by-map : {X : Type 0} (g : ℕ → ℕ) (f : X → ℕ) (xs : List X) → sum_by g (map f xs) ≡ sum_by (λ x. g (f x)) xs
+sum_by-map g f [] = refl
+sum_by-map g f (x ∷ xs) = sum_by-cons g (f x) (map f xs) ∙ ap (λ k. g (f x) + k) (sum_by-map g f xs) ∙ sym (sum_by-cons (λ y. g (f y)) x xs)
+
+sum_by-second : (f : ℕ → ℕ) (os : List (Output × ℕ)) → sum_by f (map (λ o. o.1) os) ≡ sum_by (λ o. f o.1) os
+sum_by-second f [] = refl
+sum_by-second f (o ∷ os) = sum_by-cons f o.1 (map (λ p. p.1) os) ∙ ap (λ k. f o.1 + k) (sum_by-second f os) ∙ sym (sum_by-cons (λ p. f p.1) o os)
+
+-- a step for each tuple at each box, and one for each at each output
+pub work_from-is : (n : Network) (streams : List (List Tuple)) → length n.wires.outputs ≡ length n.outputs
+    → work_from n streams ≡ sum_by (λ k. k) (feds_from n streams) + sum_by (output_work streams) (outputs_of n)
+work_from-is n streams even =
+    let boxes = sum_by-map (λ k. k) (fed_from n streams) (numbers_to (length n.boxes)) in
+    let outputs = ap (sum_by (λ s. length (nth streams s))) (sym (seconds-zip n.outputs n.wires.outputs even)) ∙ sum_by-second (λ s. length (nth streams s)) (outputs_of n) in
+    ap (λ k. k + sum_by (λ s. length (nth streams s)) n.wires.outputs) (sym boxes)
+    ∙ ap (λ k. sum_by (λ x. x) (feds_from n streams) + k) outputs
+
 -- the last piece
-pub sent_last : (n : FirstNetwork) (xs : List Tuple) (before mid now : Option (List ℕ)) (waits waits_more later : List ℕ) → Moves before [] mid waits (tuples_text n xs)
-    → waits_more ≡ waits ++ ends_text n (length xs) → Moves mid waits_more now later [] → later ≡ [] → now ≡ appended before (all_text (due_of (n, xs)))
-sent_last n xs before mid now waits waits_more later a e b none =
-    let part_is : b.part ≡ waits ++ ends_text n (length xs) =
-    sym (append-nil b.part) ∙ ap (λ y. b.part ++ y) (sym none) ∙ b.all ∙ append-nil waits_more ∙ e in
+pub sent_last : (n : Network) (streams : List (List Tuple)) (before mid now : Option (List ℕ)) (waits waits_more later : List ℕ)
+    → Moves before [] mid waits (flat_map (output_text streams) (outputs_of n)) → waits_more ≡ waits ++ ends_text n (feds_from n streams)
+    → Moves mid waits_more now later [] → later ≡ [] → now ≡ appended before (all_text (due_from n streams))
+sent_last n streams before mid now waits waits_more later a e b none =
+    let ends = ends_text n (feds_from n streams) in
+    let part_is : b.part ≡ waits ++ ends = sym (append-nil b.part) ∙ ap (λ y. b.part ++ y) (sym none) ∙ b.all ∙ append-nil waits_more ∙ e in
     b.now_is ∙ ap (λ o. appended o b.part) a.now_is ∙ appended-append before a.part b.part
-    ∙ ap (appended before) (ap (λ y. a.part ++ y) part_is ∙ sym (append_assoc a.part waits (ends_text n (length xs))) ∙ ap (λ y. y ++ ends_text n (length xs)) a.all ∙ sym (all_text-due_of n xs))
+    ∙ ap (appended before) (ap (λ y. a.part ++ y) part_is ∙ sym (append_assoc a.part waits ends) ∙ ap (λ y. y ++ ends) a.all ∙ sym (all_text-from n streams))
 
 -- the last piece is lost
-pub lost_last : (n : FirstNetwork) (xs : List Tuple) (before mid now : Option (List ℕ)) (waits waits_more : List ℕ) → Moves before [] mid waits (tuples_text n xs)
-    → waits_more ≡ waits ++ ends_text n (length xs) → AppendsPrefix mid now waits_more → AppendsPrefix before now (all_text (due_of (n, xs)))
-lost_last n xs before mid now waits waits_more a e b =
-    subst (λ y. AppendsPrefix before now y) (sym (all_text-due_of n xs))
-    (moves-lost before mid now [] waits (tuples_text n xs) (ends_text n (length xs)) a (subst (λ y. AppendsPrefix mid now y) e b))
+pub lost_last : (n : Network) (streams : List (List Tuple)) (before mid now : Option (List ℕ)) (waits waits_more : List ℕ)
+    → Moves before [] mid waits (flat_map (output_text streams) (outputs_of n)) → waits_more ≡ waits ++ ends_text n (feds_from n streams)
+    → AppendsPrefix mid now waits_more → AppendsPrefix before now (all_text (due_from n streams))
+lost_last n streams before mid now waits waits_more a e b =
+    subst (λ y. AppendsPrefix before now y) (sym (all_text-from n streams))
+    (moves-lost before mid now [] waits (flat_map (output_text streams) (outputs_of n)) (ends_text n (feds_from n streams)) a (subst (λ y. AppendsPrefix mid now y) e b))
 
 -- the end lines never came
-pub lost_before : (n : FirstNetwork) (xs : List Tuple) (before now : Option (List ℕ)) → AppendsPrefix before now (tuples_text n xs) → AppendsPrefix before now (all_text (due_of (n, xs)))
-lost_before n xs before now a =
-    subst (λ y. AppendsPrefix before now y) (sym (all_text-due_of n xs)) (prefix_longer before now (tuples_text n xs) (ends_text n (length xs)) a)
+pub lost_before : (n : Network) (streams : List (List Tuple)) (before now : Option (List ℕ)) → AppendsPrefix before now (flat_map (output_text streams) (outputs_of n))
+    → AppendsPrefix before now (all_text (due_from n streams))
+lost_before n streams before now a =
+    subst (λ y. AppendsPrefix before now y) (sym (all_text-from n streams)) (prefix_longer before now (flat_map (output_text streams) (outputs_of n)) (ends_text n (feds_from n streams)) a)
 
-pub lost_waiting : (n : FirstNetwork) (xs : List Tuple) (before now : Option (List ℕ)) (waits : List ℕ) → Moves before [] now waits (tuples_text n xs)
-    → AppendsPrefix before now (all_text (due_of (n, xs)))
-lost_waiting n xs before now waits a = lost_before n xs before now (a.part, (waits, sym a.all), a.now_is)
+pub lost_waiting : (n : Network) (streams : List (List Tuple)) (before now : Option (List ℕ)) (waits : List ℕ)
+    → Moves before [] now waits (flat_map (output_text streams) (outputs_of n)) → AppendsPrefix before now (all_text (due_from n streams))
+lost_waiting n streams before now waits a = lost_before n streams before now (a.part, (waits, sym a.all), a.now_is)
+
+appended-nil : (before : Option (List ℕ)) → appended before [] ≡ before
+appended-nil None = refl
+appended-nil (Some ws) = ap Some (append-nil ws)
+
+-- nothing was written yet
+pub lost_at_once : (before : Option (List ℕ)) (text : List ℕ) → AppendsPrefix before before text
+lost_at_once before text = ([], (text, refl), sym (appended-nil before))
+
+-- a list and one of numbers beside it
+module _ {A : Type 0} (xs : List A) (ks : List ℕ) (even : length ks ≡ length xs) (i : ℕ) where
+  zip_length : length (zip xs ks) ≡ length xs
+  zip_length = sym (length-map (zip xs ks) (λ p. p.0)) ∙ ap (λ (zs : List A). length zs) (firsts-zip xs ks even)
+
+  pub pairs_all : length xs ≤ i → take i (zip xs ks) ≡ zip xs ks
+  pairs_all past = take_all i (zip xs ks) (omega (arith, zip_length, past))
+
+  -- one pair more
+  module _ (x : A) (inside : i < length xs) (at : x ≡ get_or xs i x) where
+    abbrev pair : A × ℕ
+    pair = (x, get_or ks i 0)
+
+    pair_at : pair ≡ get_or (zip xs ks) i pair
+    pair_at =
+        let second : i < length ks = omega (arith, even, inside) in
+        ap (λ (a : A). (a, get_or ks i 0)) at
+        ∙ ap (λ (k : ℕ). (get_or xs i x, k)) (get_or_default ks i 0 (get_or ks i 0) second)
+        ∙ sym (get_or-zip xs ks i pair inside second)
+
+    pair_inside : i < length (zip xs ks)
+    pair_inside = omega (arith, zip_length, inside)
+
+    pub pairs_text-more : (f : A × ℕ → List ℕ) → flat_map f (take (i + 1) (zip xs ks)) ≡ flat_map f (take i (zip xs ks)) ++ f pair
+    pairs_text-more f = text-more f (zip xs ks) i pair pair_inside pair_at
+
+    pub pairs_work-more : (f : A × ℕ → ℕ) → sum_by f (take (i + 1) (zip xs ks)) ≡ sum_by f (take i (zip xs ks)) + f pair
+    pairs_work-more f = work-more f (zip xs ks) i pair pair_inside pair_at
+
+    pub pair_lost : (f : A × ℕ → List ℕ) (before mid now : Option (List ℕ)) (waited waits : List ℕ) → Moves before waited mid waits (flat_map f (take i (zip xs ks)))
+        → AppendsPrefix mid now (waits ++ f pair) → AppendsPrefix before now (waited ++ flat_map f (zip xs ks))
+    pair_lost f before mid now waited waits a b = lost_at f (zip xs ks) i pair before mid now waited waits pair_inside pair_at a b
+
+-- a number for each box
+pub feds_length : (n : Network) (streams : List (List Tuple)) → length (feds_from n streams) ≡ length n.boxes
+feds_length n streams = length-map-range_with_len (fed_from n streams) 0 (length n.boxes)

@@ -1,5 +1,5 @@
 -- Which status comes of which cause.
-use Rattle.std.specs.Prelude.{◌≡◌, ◌≢◌, ◌⊎◌, ℕ, ◌+◌, ◌≤◌, Bool, true, false, ⊤, List, [], ◌++◌, Option, Some, None, IsSome, IsSomeAnd, Result, Ok, Err}
+use Rattle.std.specs.Prelude.{◌≡◌, ◌≢◌, ◌⊎◌, ℕ, ◌+◌, ◌≤◌, Bool, true, false, ⊤, List, [], ◌∷◌, ◌++◌, Option, Some, None, IsSome, IsSomeAnd, slice_get, Result, Ok, Err}
 use Rattle.sq_value.specs.Lists.{contains_bytes, same_bytes, IsPrefixOf}
 use Rattle.sq_outside.specs.Faults.{Rose, RoseBy}
 use Rattle.sq_outside.specs.Folders.{Files, IsLonger, file}
@@ -7,13 +7,17 @@ use Rattle.sq_top.specs.declared.Command.{Command}
 use Rattle.sq_top.specs.declared.Command.TheVariants as command
 use Rattle.sq_top.specs.declared.Status.{Status}
 use Rattle.sq_top.specs.declared.Status.TheVariants as status
-use Rattle.sq_top.specs.declared.NetErr.TheVariants as net
+use Rattle.sq_value.specs.declared.Tuple.{Tuple}
+use Rattle.sq_net.specs.declared.NetErr.{NetErr}
+use Rattle.sq_net.specs.declared.NetErr.TheVariants as net
+use Rattle.sq_net.specs.declared.Network.{Network}
+use Rattle.sq_net.specs.declared.Source.{Source}
+use Rattle.sq_replay.specs.Streams.{stream_in}
+use Rattle.sq_replay.specs.declared.why.Why.{Why}
 use Rattle.sq_top.specs.Commands.{command_in}
-use Rattle.sq_top.specs.Scripts.{Lookup, accepted, after_network, outcome_of, reads_of, script_of, settings_limit, stream_limit}
-use Rattle.sq_top.specs.declared.form.FirstNetwork.{FirstNetwork}
-use Rattle.sq_top.specs.declared.stream.StreamErr.{StreamErr}
-use Rattle.sq_top.specs.declared.stream.StreamErr.TheVariants as error
-use Rattle.sq_top.specs.Due.{Replay, due_of, work_of}
+use Rattle.sq_top.specs.Scripts.{Lookup, Replay, Script, Reads, Stops, accepted, after_streams, outcome_of, readable, reads_of, script_of, settings_limit, stream_limit}
+use Rattle.sq_model.specs.Fed.{work_of}
+use Rattle.sq_top.specs.Due.{due_of}
 use Rattle.sq_top.specs.Messages.{message_of, source_name}
 use Rattle.sq_top.specs.Answers.{IsWholeText, IsPrefixText}
 
@@ -74,13 +78,13 @@ pub record FolderHasCause (words : List (List ℕ)) (told : Option Files) (fault
 -- at Ok the text is whole and the steps are the work
 abbrev pub AnswersWhole : Files → List (List ℕ) → Option (List ℕ) → Option (List ℕ) → ℕ → ℕ → Type 0
 AnswersWhole files words out_before out_now steps_before steps_now = MatchAccepted (accepted (file files) words)
-    (λ r. AppendsSuch out_before out_now (IsWholeText (due_of r)) × (steps_now ≡ steps_before + work_of r))
+    (λ r. AppendsSuch out_before out_now (IsWholeText (due_of r)) × (steps_now ≡ steps_before + work_of r.0 r.1))
     (λ s. ⊥)
 
 -- at another status it is a prefix, with no more steps than the work; nothing where a rule is broken
 abbrev pub AnswersPrefix : Files → List (List ℕ) → Option (List ℕ) → Option (List ℕ) → ℕ → ℕ → Type 0
 AnswersPrefix files words out_before out_now steps_before steps_now = MatchAccepted (accepted (file files) words)
-    (λ r. AppendsSuch out_before out_now (IsPrefixText (due_of r)) × (steps_now ≤ steps_before + work_of r))
+    (λ r. AppendsSuch out_before out_now (IsPrefixText (due_of r)) × (steps_now ≤ steps_before + work_of r.0 r.1))
     (λ s. (out_now ≡ out_before) × (steps_now ≡ steps_before))
 
 -- the message: whole, or a part of it where the sink for messages has failed
@@ -88,13 +92,10 @@ abbrev pub TellsStatus : List ℕ → ℕ → ℕ → Status → List ℕ → Ty
 TellsStatus source faults_before faults_now result text =
     (text ≡ message_of source result) ⊎ (Rose faults_before faults_now × IsPrefixOf text (message_of source result))
 
-abbrev pub is_bad_stream : Status → Bool
-is_bad_stream (status.BadStream number line why) = true
-is_bad_stream s = false
-
 -- the source's name is that in the network file, where a line of the source is bad and the files are told
 abbrev pub NamesSource : Option Files → List (List ℕ) → Status → List ℕ → Type 0
-NamesSource told words result source = is_bad_stream result ≡ true → WhereTold told (λ files. source ≡ source_name (file files) words)
+NamesSource told words (status.BadStream number line why) source = WhereTold told (λ files. source ≡ source_name (file files) words number)
+NamesSource told words result source = ⊤
 
 -- a message of the status was written
 abbrev pub IsTold : Option Files → List (List ℕ) → Option (List ℕ) → Option (List ℕ) → ℕ → ℕ → Status → Type 0
@@ -122,20 +123,48 @@ pub record IsStopped (words : List (List ℕ)) (told : Option Files) (faults_bef
 abbrev pub IsNoCommand : List (List ℕ) → Status → Type 0
 IsNoCommand words result = ((result ≡ status.Usage) × (command_in words ≡ None)) ⊎ (result ≡ status.Memory)
 
--- the words and the network file lead to this network
-pub record LeadsTo (files : Lookup) (words : List (List ℕ)) (n : FirstNetwork) : Type 0 where
-  pub outcome : accepted files words ≡ outcome_of files (after_network (Some n))
-  pub reads : (name : List ℕ) → contains_bytes name (reads_of files (after_network (Some n))) ≡ true → contains_bytes name (reads_of files (script_of words)) ≡ true
-  pub named : source_name files words ≡ n.source
+-- over these files a script goes on as another: it comes to the same, and reads each file that the other reads
+pub record Leads (files : Lookup) (from to : Script) : Type 0 where
+  pub outcome : outcome_of files from ≡ outcome_of files to
+  pub reads : (name : List ℕ) → contains_bytes name (reads_of files to) ≡ true → contains_bytes name (reads_of files from) ≡ true
+
+-- the same where the files are told
+abbrev pub LeadsWhereTold : Option Files → Script → Script → Type 0
+LeadsWhereTold told from to = WhereTold told (λ files. Leads (file files) from to)
+
+-- an error of the network file is the status, and want of memory is its own
+abbrev pub IsRefusedBy : NetErr → Status → Type 0
+IsRefusedBy e result = ((e ≡ net.Memory) × (result ≡ status.Memory)) ⊎ ((e ≢ net.Memory) × (result ≡ status.BadNetwork e))
 
 abbrev pub source_of : Option (List ℕ) → List ℕ
 source_of None = []
 source_of (Some name) = name
 
--- how an error of the stream of a source stops a run
-abbrev pub StopsAt : List ℕ → StreamErr → Status → List ℕ → Type 0
-StopsAt name (error.Bad line why) result source = (result ≡ status.BadStream 0 line why) × (source ≡ name)
-StopsAt name error.Memory result source = result ≡ status.Memory
+-- the bytes are those of the source's file, where the files are told
+abbrev pub AreBytesOf : Option Files → Source → List ℕ → Type 0
+AreBytesOf told s bytes = WhereTold told (λ files. readable s.file stream_limit (file files s.file) ≡ Ok bytes)
+
+-- these are the tuples of the source's file
+abbrev pub IsStreamOf : Option Files → Source → List Tuple → Type 0
+IsStreamOf told s xs = (bytes : List ℕ) × (stream_in s.schema bytes ≡ Ok xs) × AreBytesOf told s bytes
+
+-- a line of the source with this number is bad, and its name is told
+abbrev pub IsBadLine : ℕ → Source → ℕ → Why → Status → List ℕ → Type 0
+IsBadLine number s line why result source = (result ≡ status.BadStream number line why) × (source ≡ s.name)
+
+-- why the tuples of the source with this number aren't there
+abbrev pub HasNoStream : Option Files → ℕ → Source → ℕ → ℕ → ℕ → ℕ → Status → List ℕ → Type 0
+HasNoStream told number s faults_before faults_now taken_before taken_now result source =
+    IsUnread told s.file stream_limit faults_before faults_now taken_before taken_now result
+    ⊎ ((bytes : List ℕ) × (line : ℕ) × (why : Why) × (stream_in s.schema bytes ≡ Err (line, why)) × AreBytesOf told s bytes × IsBadLine number s line why result source)
+
+-- how reading a network's sources stops: at a file that was to be read, or at a bad line
+abbrev pub HasNoStreams : Option Files → Network → ℕ → ℕ → ℕ → ℕ → Status → List ℕ → Type 0
+HasNoStreams told n faults_before faults_now taken_before taken_now result source =
+    ((s : Source) × (more : List ℕ → Script) × LeadsWhereTold told (after_streams n [] n.sources) (Reads s.file stream_limit more)
+    × IsUnread told s.file stream_limit faults_before faults_now taken_before taken_now result)
+    ⊎ ((number : ℕ) × (s : Source) × (line : ℕ) × (why : Why) × (slice_get n.sources number ≡ Some s)
+    × LeadsWhereTold told (after_streams n [] n.sources) (Stops (status.BadStream number line why)) × IsBadLine number s line why result source)
 
 -- the folder, the output and the steps before a run and after it
 pub record World : Type 0 where

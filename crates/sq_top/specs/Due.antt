@@ -1,37 +1,15 @@
 -- What a run is to write and the steps that it is to take.
-use Rattle.std.specs.Prelude.{ℕ, ◌+◌, Bool, false, List, [], ◌∷◌, ◌++◌, map, length, pos}
-use Rattle.std.specs.List.{filter, flat_map}
-use Rattle.std.specs.Ordering.{is_eq, is_ne, is_lt, is_le, is_gt, is_ge}
-use Rattle.std.specs.declared.cmp.Ordering.{Ordering}
-use Rattle.sq_value.specs.declared.Value.{Value}
-use Rattle.sq_value.specs.declared.Value.TheVariants as value
+use Rattle.std.specs.Prelude.{ℕ, List, [], ◌∷◌, ◌++◌, map, length}
+use Rattle.std.specs.List.{flat_map, zip}
 use Rattle.sq_value.specs.declared.Tuple.{Tuple}
-use Rattle.sq_value.specs.Values.{value_cmp, field}
+use Rattle.sq_value.specs.Lists.{numbers_to}
 use Rattle.sq_value.specs.LineTexts.{output_line, box_line, end_line}
-use Rattle.sq_top.specs.declared.form.Comparison.{Comparison}
-use Rattle.sq_top.specs.declared.form.Comparison.TheVariants.{Equal, NotEqual, Less, AtMost, Greater, AtLeast}
-use Rattle.sq_top.specs.declared.form.FirstNetwork.{FirstNetwork}
-
-abbrev pub compare_of : Comparison → Ordering → Bool
-compare_of Equal = is_eq
-compare_of NotEqual = is_ne
-compare_of Less = is_lt
-compare_of AtMost = is_le
-compare_of Greater = is_gt
-compare_of AtLeast = is_ge
-
--- a comparison with Null is Null, which counts as false
-abbrev pub passes : Comparison → ℕ → Value → Bool
-passes c n value.Null = false
-passes c n v = compare_of c (value_cmp v (value.Int (pos n)))
-
--- what was accepted: the network and the tuples of its source
-abbrev pub Replay : Type 0
-Replay = FirstNetwork × List Tuple
-
--- the full answer of the output: the tuples that pass the Filter
-abbrev pub full_answer : Replay → List Tuple
-full_answer r = filter (λ x. passes (r.0).comparison (r.0).number (field x.fields 0)) r.1
+use Rattle.sq_net.specs.declared.Network.{Network}
+use Rattle.sq_net.specs.declared.Node.{Node}
+use Rattle.sq_net.specs.declared.Output.{Output}
+use Rattle.sq_model.specs.Full.{nth, full_streams}
+use Rattle.sq_model.specs.Fed.{fed_from}
+use Rattle.sq_top.specs.Scripts.{Replay}
 
 -- the lines of each output, by its name, and the end lines
 pub record Due : Type 0 where
@@ -45,12 +23,27 @@ all_lines d = flat_map (λ o. o.1) d.shown ++ d.ended
 abbrev pub all_text : Due → List ℕ
 all_text d = flat_map (λ line. line) (all_lines d)
 
-abbrev pub due_of : Replay → Due
-due_of r = record {
-  shown = ((r.0).output, map (output_line (r.0).output) (full_answer r)) ∷ [];
-  ended = box_line (r.0).filter (length r.1) ∷ end_line ∷ [];
+-- the outputs in file order, each with its stream
+abbrev pub outputs_of : Network → List (Output × ℕ)
+outputs_of n = zip n.outputs n.wires.outputs
+
+-- an output's name, and the lines of its tuples, where these are the streams by number
+abbrev pub shown_from : List (List Tuple) → Output × ℕ → List ℕ × List (List ℕ)
+shown_from streams o = ((o.0).name, map (output_line (o.0).name) (nth streams o.1))
+
+-- how many tuples each box is fed, where these are the streams by number
+abbrev pub feds_from : Network → List (List Tuple) → List ℕ
+feds_from n streams = map (fed_from n streams) (numbers_to (length n.boxes))
+
+abbrev pub fed_line : Node × ℕ → List ℕ
+fed_line b = box_line (b.0).name b.1
+
+abbrev pub due_from : Network → List (List Tuple) → Due
+due_from n streams = record {
+  shown = map (shown_from streams) (outputs_of n);
+  ended = map fed_line (zip n.boxes (feds_from n streams)) ++ end_line ∷ [];
 }
 
--- each tuple is fed to the Filter, and each that passes to the output
-abbrev pub work_of : Replay → ℕ
-work_of r = length r.1 + length (full_answer r)
+-- each output shows its full answer, and each box is fed all that it takes
+abbrev pub due_of : Replay → Due
+due_of r = due_from r.0 (full_streams r.0 r.1)

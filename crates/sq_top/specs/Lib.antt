@@ -1,6 +1,4 @@
 pub mod Commands
-pub mod FirstForm
-pub mod FirstStream
 pub mod Scripts
 pub mod Due
 pub mod Answers

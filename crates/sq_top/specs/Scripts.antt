@@ -1,17 +1,21 @@
 -- The order of work: which files are read, what each must keep, and the first rule that is broken.
-use Rattle.std.specs.Prelude.{ℕ, nat_lt, if◌then◌else◌, List, [], ◌∷◌, length, Option, Some, None, Result, Ok, Err}
+use Rattle.std.specs.Prelude.{ℕ, nat_lt, if◌then◌else◌, List, [], ◌∷◌, ◌++◌, length, Option, Some, None, Result, Ok, Err}
 use Rattle.sq_value.specs.declared.Tuple.{Tuple}
+use Rattle.sq_net.specs.declared.NetErr.{NetErr}
+use Rattle.sq_net.specs.declared.Network.{Network}
+use Rattle.sq_net.specs.declared.Source.{Source}
+use Rattle.sq_reader.specs.Networks.{network_in}
+use Rattle.sq_replay.specs.declared.why.Why.{Why}
+use Rattle.sq_replay.specs.Streams.{stream_in}
 use Rattle.sq_top.specs.declared.Command.{Command}
 use Rattle.sq_top.specs.declared.Command.TheVariants as command
 use Rattle.sq_top.specs.declared.Status.{Status}
 use Rattle.sq_top.specs.declared.Status.TheVariants as status
-use Rattle.sq_top.specs.declared.NetErr.TheVariants as net
-use Rattle.sq_top.specs.declared.Why.{Why}
-use Rattle.sq_top.specs.declared.form.FirstNetwork.{FirstNetwork}
 use Rattle.sq_top.specs.Commands.{command_in}
-use Rattle.sq_top.specs.FirstForm.{first_form}
-use Rattle.sq_top.specs.FirstStream.{first_stream}
-use Rattle.sq_top.specs.Due.{Replay}
+
+-- what was accepted: a network, and the tuples of each of its sources
+abbrev pub Replay : Type 0
+Replay = Network × List (List Tuple)
 
 -- a file is read and its bytes say what comes next; or all was read; or a rule is broken
 pub data Script : Type 0 where
@@ -26,19 +30,26 @@ settings_limit = 1048576
 abbrev pub stream_limit : ℕ
 stream_limit = 67108864
 
-abbrev pub replay_with : FirstNetwork → Result (List Tuple) (ℕ × Why) → Script
-replay_with n (Ok xs) = Done (n, xs)
-replay_with n (Err e) = Stops (status.BadStream 0 e.0 e.1)
+-- what comes of a source's stream, the source with this number: the rest, or its first bad line
+abbrev pub after_stream : ℕ → (List Tuple → Script) → Result (List Tuple) (ℕ × Why) → Script
+after_stream number more (Ok xs) = more xs
+after_stream number more (Err e) = Stops (status.BadStream number e.0 e.1)
 
-abbrev pub after_network : Option FirstNetwork → Script
-after_network None = Stops (status.BadNetwork net.NotBuilt)
-after_network (Some n) = Reads n.file stream_limit (λ bytes. replay_with n (first_stream bytes))
+-- the sources that are left, where these streams were read: each source's file is read and kept before the next is read
+abbrev pub after_streams : Network → List (List Tuple) → List Source → Script
+after_streams n read [] = Done (n, read)
+after_streams n read (s ∷ left) =
+    Reads s.file stream_limit (λ bytes. after_stream (length read) (λ xs. after_streams n (read ++ xs ∷ []) left) (stream_in s.schema bytes))
+
+abbrev pub after_network : Result Network NetErr → Script
+after_network (Err e) = Stops (status.BadNetwork e)
+after_network (Ok n) = after_streams n [] n.sources
 
 abbrev pub after_words : Option Command → Script
 after_words None = Stops status.Usage
-after_words (Some (command.Run args)) = Reads args.net settings_limit (λ bytes. after_network (first_form bytes))
+after_words (Some (command.Run args)) = Reads args.net settings_limit (λ bytes. after_network (network_in bytes))
 
--- the words, then the network file, then the source
+-- the words, then the network file, then the sources in their order
 abbrev pub script_of : List (List ℕ) → Script
 script_of words = after_words (command_in words)
 

@@ -1,33 +1,32 @@
 -- What is written of a run, piece by piece, and why writing ends early.
-use Rattle.std.specs.Prelude.{◌≡◌, ◌⊎◌, ℕ, if◌then◌else◌, sum_by, List, [], ◌++◌, Option}
-use Rattle.std.specs.List.{flat_map}
+use Rattle.std.specs.Prelude.{◌≡◌, ◌⊎◌, ℕ, List, ◌++◌, length, Option}
+use Rattle.std.specs.List.{flat_map, zip}
 use Rattle.sq_value.specs.declared.Tuple.{Tuple}
-use Rattle.sq_value.specs.Values.{field}
-use Rattle.sq_value.specs.LineTexts.{output_line, box_line, end_line}
+use Rattle.sq_value.specs.LineTexts.{output_line, end_line}
+use Rattle.sq_net.specs.declared.Network.{Network}
+use Rattle.sq_net.specs.declared.Output.{Output}
+use Rattle.sq_model.specs.Full.{nth}
 use Rattle.sq_outside.specs.Faults.{Rose}
 use Rattle.sq_outside.specs.Sinks.{appended}
-use Rattle.sq_top.specs.declared.form.FirstNetwork.{FirstNetwork}
+use Rattle.sq_top.specs.Due.{fed_line}
 use Rattle.sq_top.specs.declared.Status.{Status}
 use Rattle.sq_top.specs.declared.Status.TheVariants as status
-use Rattle.sq_top.specs.Due.{passes}
 
--- the text that a tuple brings, and the steps that it takes
-abbrev pub tuple_text : FirstNetwork → Tuple → List ℕ
-tuple_text n x = if passes n.comparison n.number (field x.fields 0) then output_line n.output x else []
+-- the text of an output's tuples
+abbrev pub tuples_text : List ℕ → List Tuple → List ℕ
+tuples_text name xs = flat_map (output_line name) xs
 
-abbrev pub tuple_work : FirstNetwork → Tuple → ℕ
-tuple_work n x = if passes n.comparison n.number (field x.fields 0) then 2 else 1
+-- the text of an output, where these are the streams by number
+abbrev pub output_text : List (List Tuple) → Output × ℕ → List ℕ
+output_text streams o = tuples_text (o.0).name (nth streams o.1)
 
--- those of several tuples
-abbrev pub tuples_text : FirstNetwork → List Tuple → List ℕ
-tuples_text n xs = flat_map (tuple_text n) xs
+-- how many tuples an output is fed
+abbrev pub output_work : List (List Tuple) → Output × ℕ → ℕ
+output_work streams o = length (nth streams o.1)
 
-abbrev pub tuples_work : FirstNetwork → List Tuple → ℕ
-tuples_work n xs = sum_by (tuple_work n) xs
-
--- the end lines
-abbrev pub ends_text : FirstNetwork → ℕ → List ℕ
-ends_text n fed = box_line n.filter fed ++ end_line
+-- the end lines, where each box was fed so many tuples
+abbrev pub ends_text : Network → List ℕ → List ℕ
+ends_text n fed = flat_map fed_line (zip n.boxes fed) ++ end_line
 
 -- a part of what waited, and of what more came, was written, and the rest waits
 pub record Moves (before : Option (List ℕ)) (waited : List ℕ) (now : Option (List ℕ)) (waits more : List ℕ) : Type 0 where

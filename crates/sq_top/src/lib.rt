@@ -2,30 +2,31 @@
 //!
 //! `run_words` carries the promise of the whole engine: a run that ends Ok has written exactly the lines that belong
 //! to each class and taken exactly the steps of its work; any other end leaves a prefix of each class and has a cause
-//! of its own. It stands on `sq_outside` for the objects, `sq_csv` for lines and `sq_value` for values.
+//! of its own. Below stand `sq_reader` and `sq_replay` for the files' texts, `sq_model` for the full answers, `sq_csv`
+//! for lines and `sq_outside` for the objects.
 #![tactic(auto)]
 
 ghost use Rattle.std.specs.Prelude.{◌≡◌, ◌≢◌, ◌⊎◌, ◌≤◌, ⊤, Some, None, true, map};
 ghost use Rattle.std.specs.String.{string_bytes};
 ghost use Rattle.sq_outside.specs.Faults.{Rose};
 ghost use Rattle.sq_outside.specs.Folders.{file};
-ghost use Rattle.sq_top.specs.declared.NetErr.TheVariants as net;
+ghost use Rattle.sq_net.specs.declared.NetErr.TheVariants as net;
 ghost use Rattle.sq_top.specs.Causes.{AnswersPrefix, AnswersWhole, FolderHasCause, IsTold, MatchAccepted, RefusalHasCause, UsageHasCause, WhereTold, is_refusal};
 ghost use Rattle.sq_top.specs.Messages.{code_of};
 ghost use Rattle.sq_top.specs.Scripts.{accepted};
 
-mod form;
 mod messages;
 mod reading;
 mod running;
-mod stream;
 #[cfg(test)]
 mod tests;
 mod writing;
 
 pub use reading::read_words;
 use running::{run, tell};
+use sq_net::NetErr;
 use sq_outside::{Folder, PageDisk, Sink, Steps};
+use sq_replay::Why;
 use sq_value::Name;
 use std::alloc::Global;
 use std::sync::ledger::Ledger;
@@ -50,23 +51,6 @@ pub enum WordsErr {
     Memory,
 }
 
-/// Why a network file is refused.
-#[derive(Clone, Copy, Debug, PartialEq, Eq, Drop)]
-pub enum NetErr {
-    /// It isn't of the one form that is built so far.
-    NotBuilt,
-    Memory,
-}
-
-/// Why a line of a stream is refused.
-#[derive(Clone, Copy, Debug, PartialEq, Eq, Drop)]
-pub enum Why {
-    /// It isn't of the one form that is built so far, or it is one line too many.
-    NotBuilt,
-    /// Its tick is below the one before.
-    Falls,
-}
-
 /// How a call ended.
 #[derive(Debug, Drop)]
 pub enum Status {
@@ -74,9 +58,10 @@ pub enum Status {
     Ok,
     /// The words are no command.
     Usage,
-    /// The network file is refused.
+    /// The network file breaks this rule, the first in their order.
     BadNetwork(NetErr),
-    /// A line of a source, by its number from 1, is refused. Sources count from 0.
+    /// A line of a source, by its number from 1, is refused: the first bad line of the first bad source. Sources count
+    /// from 0, in the order of the network file.
     BadStream { source: u32, line: u32, why: Why },
     /// A file wasn't read: it isn't there, or the folder failed.
     FolderFault { name: Name },

@@ -1,15 +1,18 @@
 // The words and the files of a run, read in the order of work.
-ghost use Rattle.std.specs.Prelude.{◌≡◌, ◌≤◌, Err, IfOk, IfErr, IsSome, None, Ok, Some, map, List, ℕ};
+ghost use Rattle.std.specs.Prelude.{◌≡◌, ◌⊎◌, ◌≤◌, Err, IfOk, IfErr, IsSome, None, Ok, Some, [], length, map, List, ℕ};
 ghost use Rattle.std.specs.String.{string_bytes};
+ghost use Rattle.sq_net.specs.Sound.{IsSound};
 ghost use Rattle.sq_outside.specs.Folders.{file};
 ghost use Rattle.sq_top.specs.Commands.{command_in, is_positional};
-ghost use Rattle.sq_top.specs.Scripts.{accepted, readable};
-ghost use Rattle.sq_top.specs.Causes.{IsNoCommand, IsStopped, IsUnread, LeadsTo, StopsAt, WhereTold, source_of};
+ghost use Rattle.sq_top.specs.Scripts.{Done, accepted, after_streams, readable, script_of};
+ghost use Rattle.sq_top.specs.Causes.{HasNoStream, HasNoStreams, IsBadLine, IsNoCommand, IsRefusedBy, IsStopped, IsStreamOf, IsUnread, LeadsWhereTold, WhereTold, source_of};
+ghost use Rattle.sq_top.specs.Messages.{network_named};
 
-use crate::form::{FirstNetwork, first_network};
-use crate::stream::{StreamErr, first_stream};
-use crate::{Command, NetErr, RunArgs, Status, WordsErr};
+use crate::{Command, RunArgs, Status, WordsErr};
+use sq_net::{NetErr, Network, Source};
 use sq_outside::{Folder, FolderErr};
+use sq_reader::read_network;
+use sq_replay::{StreamErr, Why, read_stream};
 use sq_value::{Name, Tuple, copy_name, same_text};
 use std::alloc::Global;
 
@@ -57,6 +60,7 @@ fn read_file<F: Folder>(
     limit: u64,
 ) -> Result<Vec<u8>, Status>
     ensures whole { IfOk result (λ bytes. WhereTold (F.files folder.old) (λ files. readable name.now limit (file files name.now) ≡ Ok bytes.items)) }
+    ensures within { IfOk result (λ bytes. length bytes.items ≤ limit) }
     ensures unread { IfErr result (λ s. IsUnread (F.files folder.old) name.now limit (F.faults folder.old) (F.faults folder.new) (F.taken folder.old) (F.taken folder.new) s) }
     ensures files { F.files folder.new ≡ F.files folder.old }
     ensures later { (F.faults folder.old ≤ F.faults folder.new) × (F.taken folder.old ≤ F.taken folder.new) }
@@ -87,15 +91,27 @@ fn network_name(alloc: Global, words: &Vec<String>) -> Result<Name, Status>
     }
 }
 
+/// How an error of the network file ends a run.
+fn refused_by(e: NetErr) -> Status
+    ensures { IsRefusedBy e result }
+{
+    match e {
+        NetErr::Memory => Status::Memory,
+        _ => Status::BadNetwork(e),
+    }
+}
+
 /// The network that the words name, or the status of a run that has none.
-fn read_network<F: Folder>(
+fn network_for<F: Folder>(
     alloc: Global,
     words: &Vec<String>,
     folder: &mut F,
-) -> Result<FirstNetwork, Status>
+) -> Result<Network, Status>
     ensures command { IfOk result (λ _. IsSome (command_in (map string_bytes words.now.items))) }
-    ensures network { IfOk result (λ n. WhereTold (F.files folder.old) (λ files. LeadsTo (file files) (map string_bytes words.now.items) n)) }
-    ensures stopped { IfErr result (λ s. (source : List ℕ) → IsStopped (map string_bytes words.now.items) (F.files folder.old) (F.faults folder.old) (F.faults folder.new) (F.taken folder.old) (F.taken folder.new) s source) }
+    ensures sound { IfOk result IsSound }
+    ensures leads { IfOk result (λ n. LeadsWhereTold (F.files folder.old) (script_of (map string_bytes words.now.items)) (after_streams n [] n.sources)) }
+    ensures named { IfOk result (λ n. WhereTold (F.files folder.old) (λ files. network_named (file files) (command_in (map string_bytes words.now.items)) ≡ Some n)) }
+    ensures stopped { IfErr result (λ s. IsStopped (map string_bytes words.now.items) (F.files folder.old) (F.faults folder.old) (F.faults folder.new) (F.taken folder.old) (F.taken folder.new) s []) }
     ensures files { F.files folder.new ≡ F.files folder.old }
     ensures later { (F.faults folder.old ≤ F.faults folder.new) × (F.taken folder.old ≤ F.taken folder.new) }
 {
@@ -107,13 +123,9 @@ fn read_network<F: Folder>(
         Ok(bytes) => bytes,
         Err(status) => return Err(status),
     };
-    let read = match first_network(alloc, bytes.as_slice()) {
-        Ok(read) => read,
-        Err(_) => return Err(Status::Memory),
-    };
-    match read {
-        Some(network) => Ok(network),
-        None => Err(Status::BadNetwork(NetErr::NotBuilt)),
+    match read_network(alloc, bytes.as_slice()) {
+        Ok(network) => Ok(network),
+        Err(e) => Err(refused_by(e)),
     }
 }
 
@@ -124,54 +136,103 @@ pub struct Stopped {
     pub source: Option<Name>,
 }
 
-/// How an error of the stream of this source stops a run.
-fn stopped_at(e: StreamErr, source: Name) -> Stopped
-    ensures { StopsAt source e result.status (source_of result.source) }
+/// A run that stops of no line.
+fn stopped_by(status: Status) -> Stopped
+    ensures { (result.status ≡ status) × (result.source ≡ None) }
 {
-    match e {
-        StreamErr::Bad { line, why } => Stopped {
-            status: Status::BadStream {
-                source: 0,
-                line,
-                why,
-            },
-            source: Some(source),
-        },
-        StreamErr::Memory => Stopped {
-            status: Status::Memory,
-            source: None,
-        },
+    Stopped {
+        status,
+        source: None,
     }
 }
 
-/// The network and the tuples of its source, or the status of a run that doesn't get them.
+/// A run that stops at a line of a source.
+fn stopped_at(number: u32, source: &Source, line: u32, why: Why) -> Stopped
+    ensures { IsBadLine number source.now line why result.status (source_of result.source) ⊎ (result.status ≡ Status.Memory) }
+{
+    match copy_name(&source.name) {
+        Ok(name) => Stopped {
+            status: Status::BadStream {
+                source: number,
+                line,
+                why,
+            },
+            source: Some(name),
+        },
+        Err(_) => stopped_by(Status::Memory),
+    }
+}
+
+/// The tuples of the source with this number.
+fn stream_of<F: Folder>(
+    alloc: Global,
+    number: u32,
+    source: &Source,
+    folder: &mut F,
+) -> Result<Vec<Tuple>, Stopped>
+    ensures stream { IfOk result (λ xs. IsStreamOf (F.files folder.old) source.now xs.items) }
+    ensures stopped { IfErr result (λ s. HasNoStream (F.files folder.old) number source.now (F.faults folder.old) (F.faults folder.new) (F.taken folder.old) (F.taken folder.new) s.status (source_of s.source)) }
+    ensures files { F.files folder.new ≡ F.files folder.old }
+    ensures later { (F.faults folder.old ≤ F.faults folder.new) × (F.taken folder.old ≤ F.taken folder.new) }
+{
+    let bytes = match read_file(alloc, folder, &source.file, STREAM_LIMIT) {
+        Ok(bytes) => bytes,
+        Err(status) => return Err(stopped_by(status)),
+    };
+    match read_stream(alloc, bytes.as_slice(), &source.schema) {
+        Ok(tuples) => Ok(tuples),
+        Err(StreamErr::Bad { line, why }) => Err(stopped_at(number, source, line, why)),
+        Err(StreamErr::Memory) => Err(stopped_by(Status::Memory)),
+    }
+}
+
+/// The tuples of each source, in the order of the network file.
+fn streams_of<F: Folder>(
+    alloc: Global,
+    network: &Network,
+    folder: &mut F,
+) -> Result<Vec<Vec<Tuple>>, Stopped>
+    requires { IsSound network.now }
+    ensures leads { IfOk result (λ v. LeadsWhereTold (F.files folder.old) (after_streams network.now [] network.now.sources) (Done (network.now, map (λ xs. xs.items) v.items))) }
+    ensures even { IfOk result (λ v. length v.items ≡ length network.now.sources) }
+    ensures stopped { IfErr result (λ s. HasNoStreams (F.files folder.old) network.now (F.faults folder.old) (F.faults folder.new) (F.taken folder.old) (F.taken folder.new) s.status (source_of s.source)) }
+    ensures files { F.files folder.new ≡ F.files folder.old }
+    ensures later { (F.faults folder.old ≤ F.faults folder.new) × (F.taken folder.old ≤ F.taken folder.new) }
+{
+    let mut streams = Vec::new(alloc);
+    'sources: for source in network.sources.as_slice() {
+        let number = streams.len() as u32;
+        match stream_of(alloc, number, source, folder) {
+            Ok(stream) => match streams.push(stream) {
+                Ok(()) => {}
+                Err(_) => return Err(stopped_by(Status::Memory)),
+            },
+            Err(stopped) => return Err(stopped),
+        }
+    }
+    Ok(streams)
+}
+
+/// The network and the tuples of its sources, or the status of a run that doesn't get them.
 pub fn prepare<F: Folder>(
     alloc: Global,
     words: &Vec<String>,
     folder: &mut F,
-) -> Result<(FirstNetwork, Vec<Tuple>), Stopped>
+) -> Result<(Network, Vec<Vec<Tuple>>), Stopped>
     ensures command { IfOk result (λ _. IsSome (command_in (map string_bytes words.now.items))) }
-    ensures accepted { IfOk result (λ r. WhereTold (F.files folder.old) (λ files. accepted (file files) (map string_bytes words.now.items) ≡ Ok (r.0, r.1.items))) }
+    ensures sound { IfOk result (λ r. IsSound r.0) }
+    ensures even { IfOk result (λ r. length r.1.items ≡ length (r.0).sources) }
+    ensures accepted { IfOk result (λ r. WhereTold (F.files folder.old) (λ files. accepted (file files) (map string_bytes words.now.items) ≡ Ok (r.0, map (λ xs. xs.items) r.1.items))) }
     ensures stopped { IfErr result (λ s. IsStopped (map string_bytes words.now.items) (F.files folder.old) (F.faults folder.old) (F.faults folder.new) (F.taken folder.old) (F.taken folder.new) s.status (source_of s.source)) }
     ensures files { F.files folder.new ≡ F.files folder.old }
     ensures later { (F.faults folder.old ≤ F.faults folder.new) × (F.taken folder.old ≤ F.taken folder.new) }
 {
-    let network = match read_network(alloc, words, folder) {
+    let network = match network_for(alloc, words, folder) {
         Ok(network) => network,
-        Err(status) => return Err(Stopped {
-            status,
-            source: None,
-        }),
+        Err(status) => return Err(stopped_by(status)),
     };
-    let bytes = match read_file(alloc, folder, &network.file, STREAM_LIMIT) {
-        Ok(bytes) => bytes,
-        Err(status) => return Err(Stopped {
-            status,
-            source: None,
-        }),
-    };
-    match first_stream(alloc, bytes.as_slice()) {
-        Ok(tuples) => Ok((network, tuples)),
-        Err(e) => Err(stopped_at(e, network.source)),
+    match streams_of(alloc, &network, folder) {
+        Ok(streams) => Ok((network, streams)),
+        Err(stopped) => Err(stopped),
     }
 }

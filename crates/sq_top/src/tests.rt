@@ -10,12 +10,13 @@ use std::test::Fail;
 const NETWORK: &str =
     "version = 1\n[[source]]\nname = \"s\"\nfile = \"s.csv\"\nfields = [\"v:int\"]\n[[box]]\nname = \"f\"\nkind = \"filter\"\nin = [\"s\"]\nwhere = [\"v >= 10\"]\n[[output]]\nname = \"hi\"\nfrom = \"f.1\"\n";
 
-const BELOW: &str =
-    "version = 1\n[[source]]\nname = \"s\"\nfile = \"s.csv\"\nfields = [\"v:int\"]\n[[box]]\nname = \"f\"\nkind = \"filter\"\nin = [\"s\"]\nwhere = [\"v < 10\"]\n[[output]]\nname = \"hi\"\nfrom = \"f.1\"\n";
-
 const STREAM: &str = "1,5\n2,10\n3,12\n";
 
 const ANSWER: &str = "hi,2,10\nhi,3,12\n@box,f,3\n@end\n";
+
+/// Two sources and their Union.
+const UNION: &str =
+    "version = 1\n[[source]]\nname = \"p\"\nfile = \"p.csv\"\nfields = [\"v:int\"]\n[[source]]\nname = \"q\"\nfile = \"q.csv\"\nfields = [\"v:int\"]\n[[box]]\nname = \"u\"\nkind = \"union\"\nin = [\"p\", \"q\"]\n[[output]]\nname = \"o\"\nfrom = \"u\"\n";
 
 fn run_over<L: Ledger>(
     alloc: Global,
@@ -52,19 +53,18 @@ fn words_of(alloc: Global, words: &[&str]) -> Result<Vec<String>, AllocError> {
     Ok(copies)
 }
 
-/// A folder with a network `a.toml` and a stream `s.csv`.
+/// A folder of these files, of which these calls fail.
 fn folder_of(
     alloc: Global,
-    network: &[u8],
-    stream: &[u8],
+    files: &[(&str, &str)],
     fails: &[u64],
 ) -> Result<MemFolder, AllocError> {
-    let mut files = Vec::new(alloc);
-    let name = String::from_str(alloc, "a.toml")?;
-    files.push((name, Vec::from_slice(alloc, network)?))?;
-    let name = String::from_str(alloc, "s.csv")?;
-    files.push((name, Vec::from_slice(alloc, stream)?))?;
-    Ok(MemFolder::new(files, Vec::from_slice(alloc, fails)?))
+    let mut named = Vec::new(alloc);
+    for (name, text) in files {
+        let name = String::from_str(alloc, name)?;
+        named.push((name, Vec::from_slice(alloc, text.as_bytes())?))?;
+    }
+    Ok(MemFolder::new(named, Vec::from_slice(alloc, fails)?))
 }
 
 /// What a run writes, and the number that it ends with.
@@ -75,32 +75,47 @@ struct Ran {
     err: MemSink,
 }
 
-/// A run of `run a.toml` over this network and stream, where these calls of the folder and of the output fail.
+/// A run of `run a.toml` over these files, where these calls of the folder and of the output fail.
 fn run_with(
     alloc: Global,
-    network: &str,
-    stream: &str,
+    files: &[(&str, &str)],
     folder_fails: &[u64],
     out_fails: &[u64],
 ) -> Result<Ran, AllocError> {
     let words = words_of(alloc, &["run", "a.toml"])?;
-    let mut folder = folder_of(alloc, network.as_bytes(), stream.as_bytes(), folder_fails)?;
+    let mut folder = folder_of(alloc, files, folder_fails)?;
     let mut out = MemSink::new(alloc, Vec::from_slice(alloc, out_fails)?, 4096);
     let mut err = MemSink::new(alloc, Vec::new(alloc), 4096);
     let code = run_free(alloc, &words, &mut folder, &mut out, &mut err).code();
     Ok(Ran { code, out, err })
 }
 
+/// A run over the network of one Filter and this stream.
+fn run_stream(alloc: Global, stream: &str) -> Result<Ran, AllocError> {
+    run_with(alloc, &[("a.toml", NETWORK), ("s.csv", stream)], &[], &[])
+}
+
+/// A run over one source of a field `v:int` and these boxes and outputs.
+fn run_boxes(alloc: Global, boxes: &str, stream: &str) -> Result<Ran, AllocError> {
+    let network = format!(in alloc;
+        "version = 1\n[[source]]\nname = \"s\"\nfile = \"s.csv\"\nfields = [\"v:int\"]\n{boxes}"
+    )?;
+    run_with(
+        alloc,
+        &[("a.toml", network.as_str()), ("s.csv", stream)],
+        &[],
+        &[],
+    )
+}
+
 #[test]
 fn the_lines_of_the_output_then_the_end_lines(rt: HostRuntime) -> Result<(), Fail> {
-    let table = [
-        (NETWORK, STREAM, ANSWER),
-        (NETWORK, "", "@box,f,0\n@end\n"),
-        (NETWORK, "7,\n", "@box,f,1\n@end\n"),
-        (BELOW, "7,\n7,9\n7,10\n", "hi,7,9\n@box,f,3\n@end\n"),
-    ];
-    for (network, stream, answer) in table {
-        let ran = run_with(rt.alloc(), network, stream, &[], &[])?;
+    for (stream, answer) in [
+        (STREAM, ANSWER),
+        ("", "@box,f,0\n@end\n"),
+        ("7,\n", "@box,f,1\n@end\n"),
+    ] {
+        let ran = run_stream(rt.alloc(), stream)?;
         assert_eq!(rt; ran.code, 0);
         assert_eq!(rt; ran.out.bytes(), answer.as_bytes());
         assert_eq!(rt; ran.err.bytes(), b"".as_slice());
@@ -109,20 +124,127 @@ fn the_lines_of_the_output_then_the_end_lines(rt: HostRuntime) -> Result<(), Fai
 }
 
 #[test]
+fn a_union_shows_its_inputs_by_time(rt: HostRuntime) -> Result<(), Fail> {
+    let files = [
+        ("a.toml", UNION),
+        ("p.csv", "1,10\n3,11\n3,12\n"),
+        ("q.csv", "2,20\n3,21\n"),
+    ];
+    let ran = run_with(rt.alloc(), &files, &[], &[])?;
+    assert_eq!(rt; ran.code, 0);
+    assert_eq!(rt;
+        ran.out.bytes(),
+        b"o,1,10\no,2,20\no,3,11\no,3,12\no,3,21\n@box,u,5\n@end\n".as_slice()
+    );
+    Ok(())
+}
+
+#[test]
+fn each_port_of_a_filter_is_shown_in_file_order(rt: HostRuntime) -> Result<(), Fail> {
+    let boxes =
+        "[[box]]\nname = \"f\"\nkind = \"filter\"\nin = [\"s\"]\nwhere = [\"v > 5\", \"v > 3\"]\n[[output]]\nname = \"x\"\nfrom = \"f.1\"\n[[output]]\nname = \"y\"\nfrom = \"f.2\"\n[[output]]\nname = \"z\"\nfrom = \"f.3\"\n";
+    let ran = run_boxes(rt.alloc(), boxes, "1,6\n2,4\n3,\n4,1\n")?;
+    assert_eq!(rt; ran.code, 0);
+    assert_eq!(rt;
+        ran.out.bytes(),
+        b"x,1,6\ny,2,4\nz,3,\nz,4,1\n@box,f,4\n@end\n".as_slice()
+    );
+    Ok(())
+}
+
+#[test]
+fn a_text_with_a_comma_is_shown_in_quotes(rt: HostRuntime) -> Result<(), Fail> {
+    let network =
+        "version = 1\n[[source]]\nname = \"s\"\nfile = \"s.csv\"\nfields = [\"v:text\"]\n[[box]]\nname = \"f\"\nkind = \"filter\"\nin = [\"s\"]\nwhere = [\"v = 'a,b'\"]\n[[output]]\nname = \"hi\"\nfrom = \"f.1\"\n";
+    let files = [("a.toml", network), ("s.csv", "1,\"a,b\"\n")];
+    let ran = run_with(rt.alloc(), &files, &[], &[])?;
+    assert_eq!(rt; ran.code, 0);
+    assert_eq!(rt;
+        ran.out.bytes(),
+        b"hi,1,\"a,b\"\n@box,f,1\n@end\n".as_slice()
+    );
+    Ok(())
+}
+
+fn lines_to(alloc: Global, start: &str, tuples: u64) -> Result<String, AllocError> {
+    let mut text = String::new(alloc);
+    for i in 0..tuples {
+        let line = format!(in alloc; "{start}{i},{i}\n")?;
+        text.push_str(line.as_str())?;
+    }
+    Ok(text)
+}
+
+#[test]
+fn three_thousand_tuples_pass_a_filter_and_a_union(rt: HostRuntime) -> Result<(), Fail> {
+    let alloc = rt.alloc();
+    let boxes =
+        "[[box]]\nname = \"f\"\nkind = \"filter\"\nin = [\"s\"]\nwhere = [\"v < 0\"]\n[[box]]\nname = \"u\"\nkind = \"union\"\nin = [\"s\", \"f.1\"]\n[[output]]\nname = \"o\"\nfrom = \"u\"\n";
+    let ran = run_boxes(alloc, boxes, lines_to(alloc, "", 3000)?.as_str())?;
+    let mut answer = lines_to(alloc, "o,", 3000)?;
+    answer.push_str("@box,f,3000\n@box,u,3000\n@end\n")?;
+    assert_eq!(rt; ran.code, 0);
+    assert_eq!(rt; ran.out.bytes(), answer.as_str().as_bytes());
+    Ok(())
+}
+
+#[test]
+fn a_broken_rule_of_the_network_is_named(rt: HostRuntime) -> Result<(), Fail> {
+    for (boxes, message) in [
+        (
+            "[[box]]\nname = \"m\"\nkind = \"map\"\nin = [\"m\"]\nset = [[\"w\", \"v\"]]\n[[output]]\nname = \"o\"\nfrom = \"m\"\n",
+            "aurora: network: Cycle box 0 0\n",
+        ),
+        (
+            "[[box]]\nname = \"f\"\nkind = \"filter\"\nin = [\"s\"]\nwhere = [\"w >= 1\"]\n[[output]]\nname = \"o\"\nfrom = \"f.1\"\n",
+            "aurora: network: Typing box 0 0\n",
+        ),
+        (
+            "[[box]]\nname = \"f\"\nkind = \"filter\"\nin = [\"s\"]\nwhere = [\"v >=\"]\n[[output]]\nname = \"o\"\nfrom = \"f.1\"\n",
+            "aurora: network: Expr box 0 0 4 Expected\n",
+        ),
+        (
+            "[[box]]\nname = \"m\"\nkind = \"map\"\nin = [\"s\"]\nset = [[\"w\", \"v\"]]\n[[box]]\nname = \"u\"\nkind = \"union\"\nin = [\"s\", \"m\"]\n[[output]]\nname = \"o\"\nfrom = \"u\"\n",
+            "aurora: network: Schema box 1 1\n",
+        ),
+        (
+            "[[box]]\nname = \"f\"\nkind = \"filter\"\nin = [\"g.1\"]\nwhere = [\"v > 0\"]\n[[box]]\nname = \"g\"\nkind = \"filter\"\nin = [\"f.1\"]\nwhere = [\"v > 0\"]\n[[output]]\nname = \"o\"\nfrom = \"g.1\"\n",
+            "aurora: network: Cycle box 0 0\n",
+        ),
+    ] {
+        let ran = run_boxes(rt.alloc(), boxes, STREAM)?;
+        assert_eq!(rt; ran.code, 3);
+        assert_eq!(rt; ran.out.bytes(), b"".as_slice());
+        assert_eq!(rt; ran.err.bytes(), message.as_bytes());
+    }
+    Ok(())
+}
+
+#[test]
+fn a_file_of_another_version_or_of_no_toml_is_refused(rt: HostRuntime) -> Result<(), Fail> {
+    for (network, message) in [
+        ("version = 2\n", "aurora: network: Version\n"),
+        ("version = ", "aurora: network: Toml\n"),
+    ] {
+        let ran = run_with(rt.alloc(), &[("a.toml", network)], &[], &[])?;
+        assert_eq!(rt; ran.code, 3);
+        assert_eq!(rt; ran.err.bytes(), message.as_bytes());
+    }
+    Ok(())
+}
+
+#[test]
 fn a_bad_line_is_named_and_nothing_is_written(rt: HostRuntime) -> Result<(), Fail> {
-    let table = [
-        ("5,1\n4,2\n", "aurora: stream s: line 2: Falls\n"),
-        ("5,1\n6,2", "aurora: stream s: line 2: NotBuilt\n"),
-        ("5,1,1\n", "aurora: stream s: line 1: NotBuilt\n"),
-        ("1099511627776,1\n", "aurora: stream s: line 1: NotBuilt\n"),
-        ("1,2\n\n", "aurora: stream s: line 2: NotBuilt\n"),
+    for (stream, message) in [
+        ("5,1\n7,2\n6,3\n", "aurora: stream s: line 3: Falls\n"),
         (
             "1,9223372036854775808\n",
-            "aurora: stream s: line 1: NotBuilt\n",
+            "aurora: stream s: line 1: NotInt\n",
         ),
-    ];
-    for (stream, message) in table {
-        let ran = run_with(rt.alloc(), BELOW, stream, &[], &[])?;
+        ("2,10\n\n1,1\n", "aurora: stream s: line 3: Falls\n"),
+        ("1\n", "aurora: stream s: line 1: Fields\n"),
+    ] {
+        let ran = run_stream(rt.alloc(), stream)?;
         assert_eq!(rt; ran.code, 6);
         assert_eq!(rt; ran.out.bytes(), b"".as_slice());
         assert_eq!(rt; ran.err.bytes(), message.as_bytes());
@@ -131,29 +253,45 @@ fn a_bad_line_is_named_and_nothing_is_written(rt: HostRuntime) -> Result<(), Fai
 }
 
 #[test]
-fn a_file_of_another_form_is_not_built(rt: HostRuntime) -> Result<(), Fail> {
-    for network in ["", "version = 2\n", &NETWORK[..NETWORK.len() - 1]] {
-        let ran = run_with(rt.alloc(), network, STREAM, &[], &[])?;
-        assert_eq!(rt; ran.code, 3);
-        assert_eq!(rt;
-            ran.err.bytes(),
-            b"aurora: network: NotBuilt top 0 0\n".as_slice()
-        );
+fn a_last_line_a_return_and_an_empty_line_are_lines_of_a_stream(
+    rt: HostRuntime,
+) -> Result<(), Fail> {
+    for (stream, answer) in [
+        ("2,10", "hi,2,10\n@box,f,1\n@end\n"),
+        ("2,10\r\n", "hi,2,10\n@box,f,1\n@end\n"),
+        ("2,10\n\n3,11\n", "hi,2,10\nhi,3,11\n@box,f,2\n@end\n"),
+    ] {
+        let ran = run_stream(rt.alloc(), stream)?;
+        assert_eq!(rt; ran.code, 0);
+        assert_eq!(rt; ran.out.bytes(), answer.as_bytes());
     }
+    Ok(())
+}
+
+#[test]
+fn a_bad_line_of_the_second_source_bears_its_name(rt: HostRuntime) -> Result<(), Fail> {
+    let files = [("a.toml", UNION), ("p.csv", "1,10\n"), ("q.csv", "2,x\n")];
+    let ran = run_with(rt.alloc(), &files, &[], &[])?;
+    assert_eq!(rt; ran.code, 6);
+    assert_eq!(rt;
+        ran.err.bytes(),
+        b"aurora: stream q: line 1: NotInt\n".as_slice()
+    );
     Ok(())
 }
 
 #[test]
 fn a_network_file_of_one_byte_too_many_is_too_long(rt: HostRuntime) -> Result<(), Fail> {
     let alloc = rt.alloc();
-    let words = words_of(alloc, &["run", "a.toml"])?;
-    for (size, code) in [(1_048_576usize, 3), (1_048_577, 11)] {
-        let network = vec![in alloc; b' '; size]?;
-        let mut folder = folder_of(alloc, network.as_slice(), b"", &[])?;
-        let mut out = MemSink::new(alloc, Vec::new(alloc), 1);
-        let mut err = MemSink::new(alloc, Vec::new(alloc), 1);
-        let status = run_free(alloc, &words, &mut folder, &mut out, &mut err);
-        assert_eq!(rt; status.code(), code);
+    for (size, code) in [(1_048_576usize, 0), (1_048_577, 11)] {
+        let mut network = vec![in alloc; b'#'; size]?;
+        let start = size - NETWORK.len();
+        network[start - 1] = b'\n';
+        network[start..].copy_from_slice(NETWORK.as_bytes());
+        let text = String::from_utf8(network).ok().ok_or("no text")?;
+        let files = [("a.toml", text.as_str()), ("s.csv", STREAM)];
+        let ran = run_with(alloc, &files, &[], &[])?;
+        assert_eq!(rt; ran.code, code);
     }
     Ok(())
 }
@@ -161,18 +299,15 @@ fn a_network_file_of_one_byte_too_many_is_too_long(rt: HostRuntime) -> Result<()
 #[test]
 fn a_missing_file_and_a_failing_folder_are_told_by_name(rt: HostRuntime) -> Result<(), Fail> {
     let alloc = rt.alloc();
-    let words = words_of(alloc, &["run", "b.toml"])?;
-    let mut folder = folder_of(alloc, NETWORK.as_bytes(), b"", &[])?;
-    let mut out = MemSink::new(alloc, Vec::new(alloc), 9);
-    let mut err = MemSink::new(alloc, Vec::new(alloc), 9);
-    let status = run_free(alloc, &words, &mut folder, &mut out, &mut err);
-    assert_eq!(rt; status.code(), 7);
-    assert_eq!(rt; err.bytes(), b"aurora: cannot read b.toml\n".as_slice());
+    let ran = run_with(alloc, &[("a.toml", NETWORK)], &[], &[])?;
+    assert_eq!(rt; ran.code, 7);
+    assert_eq!(rt; ran.err.bytes(), b"aurora: cannot read s.csv\n".as_slice());
+    let files = [("a.toml", NETWORK), ("s.csv", STREAM)];
     for (call, message) in [
         (0, "aurora: cannot read a.toml\n"),
         (1, "aurora: cannot read s.csv\n"),
     ] {
-        let ran = run_with(alloc, NETWORK, STREAM, &[call], &[])?;
+        let ran = run_with(alloc, &files, &[call], &[])?;
         assert_eq!(rt; ran.code, 7);
         assert_eq!(rt; ran.out.bytes(), b"".as_slice());
         assert_eq!(rt; ran.err.bytes(), message.as_bytes());
@@ -184,8 +319,9 @@ fn a_missing_file_and_a_failing_folder_are_told_by_name(rt: HostRuntime) -> Resu
 fn an_output_that_fails_at_a_byte_keeps_what_came_before(rt: HostRuntime) -> Result<(), Fail> {
     let alloc = rt.alloc();
     let words = words_of(alloc, &["run", "a.toml"])?;
+    let files = [("a.toml", NETWORK), ("s.csv", STREAM)];
     for call in 0..ANSWER.len() {
-        let mut folder = folder_of(alloc, NETWORK.as_bytes(), STREAM.as_bytes(), &[])?;
+        let mut folder = folder_of(alloc, &files, &[])?;
         let mut out = MemSink::new(alloc, Vec::from_slice(alloc, &[call as u64])?, 1);
         let mut err = MemSink::new(alloc, Vec::new(alloc), 4096);
         let status = run_free(alloc, &words, &mut folder, &mut out, &mut err);
@@ -199,18 +335,20 @@ fn an_output_that_fails_at_a_byte_keeps_what_came_before(rt: HostRuntime) -> Res
 #[test]
 fn other_words_are_usage_whatever_the_messages_do(rt: HostRuntime) -> Result<(), Fail> {
     let alloc = rt.alloc();
-    let table: [&[&str]; 7] = [
+    let table: [&[&str]; 9] = [
         &[],
         &["run"],
         &["run", ""],
-        &["run", "-"],
         &["walk", "a.toml"],
-        &["run", "a.toml", "b"],
+        &["run", "a", "b"],
+        &["run", "a", "--seed"],
+        &["run", "a", "--train", "0"],
+        &["run", "a", "--seed", "1", "--seed", "1"],
         &["run", "--seed=7", "a.toml"],
     ];
     for words in table {
         let words = words_of(alloc, words)?;
-        let mut folder = folder_of(alloc, NETWORK.as_bytes(), STREAM.as_bytes(), &[])?;
+        let mut folder = folder_of(alloc, &[("a.toml", NETWORK), ("s.csv", STREAM)], &[])?;
         let mut out = MemSink::new(alloc, Vec::new(alloc), 1);
         let mut err = MemSink::new(alloc, Vec::from_slice(alloc, &[0])?, 1);
         let status = run_free(alloc, &words, &mut folder, &mut out, &mut err);

@@ -1,55 +1,25 @@
 // The answer of a run, written to the output in pieces.
-ghost use Rattle.std.specs.Prelude.{◌≡◌, ◌≤◌, ◌+◌, ◌++◌, [], IfErr, OnErr, OnOk};
+ghost use Rattle.std.specs.Prelude.{◌≡◌, ◌≤◌, ◌+◌, ◌++◌, [], IfErr, OnErr, OnOk, length, map};
+ghost use Rattle.std.specs.List.{flat_map, sum_by, zip};
+ghost use Rattle.sq_net.specs.Sound.{IsSound};
+ghost use Rattle.sq_model.specs.Placed.{IsPlaced};
+ghost use Rattle.sq_model.specs.Fed.{work_from, work_of};
+ghost use Rattle.sq_value.specs.LineTexts.{output_line};
 ghost use Rattle.sq_outside.specs.Sinks.{AppendsPrefix, appended};
-ghost use Rattle.sq_value.specs.Values.{field};
-ghost use Rattle.sq_top.specs.Due.{all_text, compare_of, due_of, passes, work_of};
-ghost use Rattle.sq_top.specs.Writing.{IsLost, Moves, ends_text, tuple_text, tuple_work, tuples_text, tuples_work};
+ghost use Rattle.sq_top.specs.Due.{all_text, due_from, due_of, fed_line, feds_from, outputs_of};
+ghost use Rattle.sq_top.specs.Writing.{IsLost, Moves, ends_text, output_text, output_work, tuples_text};
 
 use crate::Status;
-use crate::form::{Comparison, FirstNetwork};
 use sq_csv::{append_box_line, append_end_line, append_output_line};
+use sq_model::{fed, full_streams, sound_is_placed, stream_in};
+use sq_net::{Network, Node};
 use sq_outside::{Failed, Sink, Steps, write_all};
-use sq_value::{Tuple, Value};
+use sq_value::{Name, Tuple};
 use std::alloc::{AllocError, Global};
-use std::cmp::Ordering;
 use std::sync::ledger::Ledger;
 
 /// How many bytes are gathered before they are written.
 const PIECE: usize = 65_536;
-
-fn compares(comparison: Comparison, order: Ordering) -> bool
-    ensures { result ≡ compare_of comparison order }
-{
-    match comparison {
-        Comparison::Equal => order.is_eq(),
-        Comparison::NotEqual => order.is_ne(),
-        Comparison::Less => order.is_lt(),
-        Comparison::AtMost => order.is_le(),
-        Comparison::Greater => order.is_gt(),
-        Comparison::AtLeast => order.is_ge(),
-    }
-}
-
-/// Whether a value passes a comparison with a number. Null passes none.
-fn passes(comparison: Comparison, number: u64, v: &Value) -> bool
-    ensures { result ≡ passes comparison number v.now }
-{
-    match v {
-        Value::Null => false,
-        Value::Int(x) => compares(comparison, i128::from(*x).cmp(&i128::from(number))),
-        Value::Bool(_) => compares(comparison, Ordering::Greater),
-        Value::Text(_) => compares(comparison, Ordering::Greater),
-    }
-}
-
-fn tuple_passes(network: &FirstNetwork, t: &Tuple) -> bool
-    ensures { result ≡ passes network.now.comparison network.now.number (field t.now.fields 0) }
-{
-    match t.fields.as_slice() {
-        [] => false,
-        [v, ..] => passes(network.comparison, network.number, v),
-    }
-}
 
 /// Writes what waits.
 fn send<S: Sink>(text: &mut Vec<u8>, out: &mut S) -> Result<(), Status>
@@ -81,50 +51,44 @@ fn send_piece<S: Sink>(text: &mut Vec<u8>, out: &mut S) -> Result<(), Status>
     send(text, out)
 }
 
-/// Feeds a tuple to the Filter, and if it passes to the output.
-fn feed<S: Sink, L: Ledger>(
-    network: &FirstNetwork,
+/// Feeds a tuple to an output.
+fn show_tuple<S: Sink, L: Ledger>(
+    name: &Name,
     t: &Tuple,
     text: &mut Vec<u8>,
     out: &mut S,
     steps: &mut Steps<L>,
 ) -> Result<(), Status>
-    ensures ok { OnOk result (Moves (S.written out.old) text.old.items (S.written out.new) text.new.items (tuple_text network.now t.now)) }
-    ensures err { OnErr result (AppendsPrefix (S.written out.old) (S.written out.new) (text.old.items ++ tuple_text network.now t.now)) }
+    ensures ok { OnOk result (Moves (S.written out.old) text.old.items (S.written out.new) text.new.items (output_line name.now t.now)) }
+    ensures err { OnErr result (AppendsPrefix (S.written out.old) (S.written out.new) (text.old.items ++ output_line name.now t.now)) }
     ensures lost { IfErr result (λ s. IsLost (S.faults out.old) (S.faults out.new) s) }
     ensures later { S.faults out.old ≤ S.faults out.new }
-    ensures steps { OnOk result (steps.new ≡ steps.old + tuple_work network.now t.now) }
-    ensures fewer { OnErr result (steps.new ≤ steps.old + tuple_work network.now t.now) }
+    ensures steps { steps.new ≡ steps.old + 1 }
 {
-    steps.tick(); // at the Filter
-    if !tuple_passes(network, t) {
-        return Ok(());
-    }
     steps.tick(); // at the output
-    match append_output_line(&network.output, t, text) {
+    match append_output_line(name, t, text) {
         Ok(()) => send_piece(text, out),
         Err(_) => Err(Status::Memory),
     }
 }
 
-/// Feeds all tuples, in order.
-fn feed_all<S: Sink, L: Ledger>(
-    network: &FirstNetwork,
+/// Feeds tuples to an output, in order.
+fn show_stream<S: Sink, L: Ledger>(
+    name: &Name,
     tuples: &[Tuple],
     text: &mut Vec<u8>,
     out: &mut S,
     steps: &mut Steps<L>,
 ) -> Result<(), Status>
-    requires { text.old.items ≡ [] }
-    ensures ok { OnOk result (Moves (S.written out.old) [] (S.written out.new) text.new.items (tuples_text network.now tuples.now)) }
-    ensures err { OnErr result (AppendsPrefix (S.written out.old) (S.written out.new) (tuples_text network.now tuples.now)) }
+    ensures ok { OnOk result (Moves (S.written out.old) text.old.items (S.written out.new) text.new.items (tuples_text name.now tuples.now)) }
+    ensures err { OnErr result (AppendsPrefix (S.written out.old) (S.written out.new) (text.old.items ++ tuples_text name.now tuples.now)) }
     ensures lost { IfErr result (λ s. IsLost (S.faults out.old) (S.faults out.new) s) }
     ensures later { S.faults out.old ≤ S.faults out.new }
-    ensures steps { OnOk result (steps.new ≡ steps.old + tuples_work network.now tuples.now) }
-    ensures fewer { OnErr result (steps.new ≤ steps.old + tuples_work network.now tuples.now) }
+    ensures steps { OnOk result (steps.new ≡ steps.old + length tuples.now) }
+    ensures fewer { OnErr result (steps.new ≤ steps.old + length tuples.now) }
 {
     'tuples: for t in tuples {
-        match feed(network, t, text, out, steps) {
+        match show_tuple(name, t, text, out, steps) {
             Ok(()) => {}
             Err(status) => return Err(status),
         }
@@ -132,36 +96,125 @@ fn feed_all<S: Sink, L: Ledger>(
     Ok(())
 }
 
-/// Appends the end lines, where this many tuples were fed to the Filter.
-fn append_ends(network: &FirstNetwork, fed: u64, text: &mut Vec<u8>) -> Result<(), AllocError>
-    ensures ok { OnOk result (text.new.items ≡ text.old.items ++ ends_text network.now fed) }
-{
-    append_box_line(&network.filter, fed, text)?;
-    append_end_line(text)
-}
-
-/// Writes all lines of a run: those of the output, and the end lines.
-pub fn write_answer<S: Sink, L: Ledger>(
-    alloc: Global,
-    network: &FirstNetwork,
-    tuples: &[Tuple],
+/// Feeds each output its stream, in file order, where these are the streams by number.
+fn show_outputs<S: Sink, L: Ledger>(
+    network: &Network,
+    streams: &[Vec<Tuple>],
+    text: &mut Vec<u8>,
     out: &mut S,
     steps: &mut Steps<L>,
 ) -> Result<(), Status>
-    ensures ok { OnOk result (S.written out.new ≡ appended (S.written out.old) (all_text (due_of (network.now, tuples.now)))) }
-    ensures err { OnErr result (AppendsPrefix (S.written out.old) (S.written out.new) (all_text (due_of (network.now, tuples.now)))) }
+    requires even { length network.now.wires.outputs ≡ length network.now.outputs }
+    ensures ok { OnOk result (Moves (S.written out.old) text.old.items (S.written out.new) text.new.items (flat_map (output_text (map (λ xs. xs.items) streams.now)) (outputs_of network.now))) }
+    ensures err { OnErr result (AppendsPrefix (S.written out.old) (S.written out.new) (text.old.items ++ flat_map (output_text (map (λ xs. xs.items) streams.now)) (outputs_of network.now))) }
     ensures lost { IfErr result (λ s. IsLost (S.faults out.old) (S.faults out.new) s) }
     ensures later { S.faults out.old ≤ S.faults out.new }
-    ensures steps { OnOk result (steps.new ≡ steps.old + work_of (network.now, tuples.now)) }
-    ensures fewer { OnErr result (steps.new ≤ steps.old + work_of (network.now, tuples.now)) }
+    ensures steps { OnOk result (steps.new ≡ steps.old + sum_by (output_work (map (λ xs. xs.items) streams.now)) (outputs_of network.now)) }
+    ensures fewer { OnErr result (steps.new ≤ steps.old + sum_by (output_work (map (λ xs. xs.items) streams.now)) (outputs_of network.now)) }
 {
+    let outputs = network.outputs.as_slice();
+    let shown = network.wires.outputs.as_slice();
+    'outputs: for (i, output) in outputs.iter().enumerate() {
+        let stream = shown[i];
+        let tuples = stream_in(streams, stream);
+        match show_stream(&output.name, tuples, text, out, steps) {
+            Ok(()) => {}
+            Err(status) => return Err(status),
+        }
+    }
+    Ok(())
+}
+
+/// So many steps.
+fn tick_times<L: Ledger>(times: u64, steps: &mut Steps<L>)
+    ensures { steps.new ≡ steps.old + times }
+{
+    'times: for _ in 0..times {
+        steps.tick();
+    }
+}
+
+/// A step for each tuple that a box is fed.
+fn tick_boxes<L: Ledger>(fed: &[u64], steps: &mut Steps<L>)
+    ensures { steps.new ≡ steps.old + sum_by (λ k. k) fed.now }
+{
+    'boxes: for times in fed {
+        tick_times(*times, steps);
+    }
+}
+
+/// Appends the lines of the boxes, where each was fed so many tuples.
+fn append_boxes(boxes: &[Node], fed: &[u64], text: &mut Vec<u8>) -> Result<(), AllocError>
+    requires even { length fed.now ≡ length boxes.now }
+    ensures ok { OnOk result (text.new.items ≡ text.old.items ++ flat_map fed_line (zip boxes.now fed.now)) }
+{
+    'boxes: for (i, node) in boxes.iter().enumerate() {
+        append_box_line(&node.name, fed[i], text)?;
+    }
+    Ok(())
+}
+
+/// Appends the end lines.
+fn append_ends(network: &Network, fed: &[u64], text: &mut Vec<u8>) -> Result<(), AllocError>
+    requires even { length fed.now ≡ length network.now.boxes }
+    ensures ok { OnOk result (text.new.items ≡ text.old.items ++ ends_text network.now fed.now) }
+{
+    append_boxes(network.boxes.as_slice(), fed, text)?;
+    append_end_line(text)
+}
+
+/// Writes all lines of a run, where these are the streams by number: those of the outputs, and the end lines.
+fn write_lines<S: Sink, L: Ledger>(
+    alloc: Global,
+    network: &Network,
+    streams: &[Vec<Tuple>],
+    out: &mut S,
+    steps: &mut Steps<L>,
+) -> Result<(), Status>
+    requires placed { IsPlaced network.now }
+    requires shown { length network.now.wires.outputs ≡ length network.now.outputs }
+    ensures ok { OnOk result (S.written out.new ≡ appended (S.written out.old) (all_text (due_from network.now (map (λ xs. xs.items) streams.now)))) }
+    ensures err { OnErr result (AppendsPrefix (S.written out.old) (S.written out.new) (all_text (due_from network.now (map (λ xs. xs.items) streams.now)))) }
+    ensures lost { IfErr result (λ s. IsLost (S.faults out.old) (S.faults out.new) s) }
+    ensures later { S.faults out.old ≤ S.faults out.new }
+    ensures steps { OnOk result (steps.new ≡ steps.old + work_from network.now (map (λ xs. xs.items) streams.now)) }
+    ensures fewer { OnErr result (steps.new ≤ steps.old + work_from network.now (map (λ xs. xs.items) streams.now)) }
+{
+    let Ok(fed) = fed(alloc, network, streams) else {
+        return Err(Status::Memory);
+    };
     let mut text = Vec::new(alloc);
-    match feed_all(network, tuples, &mut text, out, steps) {
+    tick_boxes(fed.as_slice(), steps);
+    match show_outputs(network, streams, &mut text, out, steps) {
         Ok(()) => {}
         Err(status) => return Err(status),
     }
-    match append_ends(network, tuples.len() as u64, &mut text) {
+    match append_ends(network, fed.as_slice(), &mut text) {
         Ok(()) => send(&mut text, out),
+        Err(_) => Err(Status::Memory),
+    }
+}
+
+/// Writes all lines of a run, where these are the tuples of the sources.
+pub fn write_answer<S: Sink, L: Ledger>(
+    alloc: Global,
+    network: &Network,
+    sources: Vec<Vec<Tuple>>,
+    out: &mut S,
+    steps: &mut Steps<L>,
+) -> Result<(), Status>
+    requires sound { IsSound network.now }
+    requires sources { length sources.items ≡ length network.now.sources }
+    ensures ok { OnOk result (S.written out.new ≡ appended (S.written out.old) (all_text (due_of (network.now, map (λ xs. xs.items) sources.items)))) }
+    ensures err { OnErr result (AppendsPrefix (S.written out.old) (S.written out.new) (all_text (due_of (network.now, map (λ xs. xs.items) sources.items)))) }
+    ensures lost { IfErr result (λ s. IsLost (S.faults out.old) (S.faults out.new) s) }
+    ensures later { S.faults out.old ≤ S.faults out.new }
+    ensures steps { OnOk result (steps.new ≡ steps.old + work_of network.now (map (λ xs. xs.items) sources.items)) }
+    ensures fewer { OnErr result (steps.new ≤ steps.old + work_of network.now (map (λ xs. xs.items) sources.items)) }
+{
+    sound_is_placed(network);
+    match full_streams(alloc, network, sources) {
+        Ok(streams) => write_lines(alloc, network, streams.as_slice(), out, steps),
         Err(_) => Err(Status::Memory),
     }
 }

@@ -1,31 +1,14 @@
-use Rattle.std.proofs.Common.{arith}
-use Rattle.sq_top.proofs.WritingLemmas.{lost_before, lost_last, lost_waiting, on_err, on_err_any, on_ok_any, on_ok_both, sent_last, tuples_work-is}
+use Rattle.std.proofs.Common.{ap, map, ◌∙◌}
 use Rattle.sq_top.proofs.writing.write_answer.Goals as goal
 
-pub returns-in-Err-clause-err : goal.returns-in-Err-clause-err
-returns-in-Err-clause-err g c = lost_before c.args.network.now c.args.tuples.now _ _ c.in-Err.ensures.err
+pub returns-in-Ok-clause-ok : goal.returns-in-Ok-clause-ok
+returns-in-Ok-clause-ok g c = rw (ap (map (λ xs. xs.items)) c.as_slice.ensures.value ∙ c.in-Ok.ensures) at c.write_lines.ensures.ok
 
-pub returns-in-Err-clause-fewer : goal.returns-in-Err-clause-fewer
-returns-in-Err-clause-fewer g c = omega (arith, c.in-Err.ensures.fewer, tuples_work-is c.args.network.now c.args.tuples.now)
+pub returns-in-Ok-clause-err : goal.returns-in-Ok-clause-err
+returns-in-Ok-clause-err g c = rw (ap (map (λ xs. xs.items)) c.as_slice.ensures.value ∙ c.in-Ok.ensures) at c.write_lines.ensures.err
 
-pub returns-in-Ok-append_ends-clause-ok : goal.returns-in-Ok-append_ends-clause-ok
-returns-in-Ok-append_ends-clause-ok g c =
-    on_ok_both c.send.result c.send.ensures.ok c.send.ensures.none_waits
-    (λ moves none. sent_last c.args.network.now c.args.tuples.now _ _ _ _ _ _ c.in-Ok.ensures.ok c.in-Ok-append_ends.ensures.ok moves none)
+pub returns-in-Ok-clause-steps : goal.returns-in-Ok-clause-steps
+returns-in-Ok-clause-steps g c = rw (ap (map (λ xs. xs.items)) c.as_slice.ensures.value ∙ c.in-Ok.ensures) at c.write_lines.ensures.steps
 
-pub returns-in-Ok-append_ends-clause-err : goal.returns-in-Ok-append_ends-clause-err
-returns-in-Ok-append_ends-clause-err g c =
-    on_err c.send.result c.send.ensures.err
-    (λ lost. lost_last c.args.network.now c.args.tuples.now _ _ _ _ _ c.in-Ok.ensures.ok c.in-Ok-append_ends.ensures.ok lost)
-
-pub returns-clause-err : goal.returns-clause-err
-returns-clause-err g c = lost_waiting c.args.network.now c.args.tuples.now _ _ _ c.in-Ok.ensures.ok
-
-pub returns-clause-fewer : goal.returns-clause-fewer
-returns-clause-fewer g c = omega (arith, c.in-Ok.ensures.steps, tuples_work-is c.args.network.now c.args.tuples.now)
-
-pub returns-in-Ok-append_ends-clause-steps : goal.returns-in-Ok-append_ends-clause-steps
-returns-in-Ok-append_ends-clause-steps g c = on_ok_any c.send.result (omega (arith, c.in-Ok.ensures.steps, tuples_work-is c.args.network.now c.args.tuples.now))
-
-pub returns-in-Ok-append_ends-clause-fewer : goal.returns-in-Ok-append_ends-clause-fewer
-returns-in-Ok-append_ends-clause-fewer g c = on_err_any c.send.result (omega (arith, c.in-Ok.ensures.steps, tuples_work-is c.args.network.now c.args.tuples.now))
+pub returns-in-Ok-clause-fewer : goal.returns-in-Ok-clause-fewer
+returns-in-Ok-clause-fewer g c = rw (ap (map (λ xs. xs.items)) c.as_slice.ensures.value ∙ c.in-Ok.ensures) at c.write_lines.ensures.fewer

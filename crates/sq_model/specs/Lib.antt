@@ -1,0 +1,6 @@
+pub mod Full
+pub mod Fed
+pub mod Placed
+pub mod Laws
+pub mod Unions
+pub mod Standing

@@ -1,0 +1,54 @@
+// The full stream of an arc.
+ghost use Rattle.std.specs.Prelude.{◌≡◌, ◌<◌, map, length, IfOk};
+ghost use Rattle.sq_graph.specs.Wires.{arcs_of};
+ghost use Rattle.sq_model.specs.Full.{full_arc};
+ghost use Rattle.sq_model.specs.Placed.{IsPlaced};
+
+use crate::boxes::push_copies;
+use crate::streams::full_streams;
+use sq_graph::Wiring;
+use sq_net::Network;
+use sq_value::Tuple;
+use std::alloc::{AllocError, Global};
+
+// The streams of all arcs: those that the boxes take, then those that the outputs show.
+fn streams_on_arcs(alloc: Global, w: &Wiring) -> Result<Vec<u32>, AllocError>
+    ensures { IfOk result (λ v. v.items ≡ map (λ a. a.stream) (arcs_of w.now)) }
+{
+    let mut streams = Vec::new(alloc);
+    for b in w.boxes.as_slice() {
+        streams.extend_from_slice(b.inputs.as_slice())?;
+    }
+    streams.extend_from_slice(w.outputs.as_slice())?;
+    Ok(streams)
+}
+
+fn copies(alloc: Global, streams: &[Vec<Tuple>]) -> Result<Vec<Vec<Tuple>>, AllocError>
+    ensures { IfOk result (λ v. map (λ t. t.items) v.items ≡ map (λ t. t.items) streams.now) }
+{
+    let mut all = Vec::new(alloc);
+    for stream in streams {
+        let mut copy = Vec::new(alloc);
+        push_copies(stream, &mut copy)?;
+        all.push(copy)?;
+    }
+    Ok(all)
+}
+
+/// The full stream of an arc, by its number. It works out the streams of all boxes: for many arcs take `full_streams`.
+pub fn full(
+    alloc: Global,
+    n: &Network,
+    sources: &[Vec<Tuple>],
+    arc: u32,
+) -> Result<Vec<Tuple>, AllocError>
+    requires placed { IsPlaced n.now }
+    requires sources { length sources.now ≡ n.now.wires.sources }
+    requires arc { arc < length (arcs_of n.now.wires) }
+    ensures { IfOk result (λ v. v.items ≡ full_arc n.now (map (λ t. t.items) sources.now) arc) }
+{
+    let streams = streams_on_arcs(alloc, &n.wires)?;
+    let stream = streams[arc as usize];
+    let mut full = full_streams(alloc, n, copies(alloc, sources)?)?;
+    Ok(full.swap_remove(stream as usize))
+}

@@ -1,0 +1,91 @@
+// What a box gives for whole streams.
+ghost use Rattle.std.specs.Prelude.{◌≡◌, ◌++◌, map, IfOk, OnOk};
+ghost use Rattle.std.specs.List.{flat_map};
+ghost use Rattle.sq_value.specs.Lists.{sort_by};
+ghost use Rattle.sq_lists.specs.Merge.{union};
+ghost use Rattle.sq_model.specs.Full.{nth, box_list};
+ghost use Rattle.sq_model.specs.Unions.{sooner};
+
+use sq_lists::{filter_list, map_list};
+use sq_net::Body;
+use sq_value::{Tuple, copy_tuple};
+use std::alloc::{AllocError, Global};
+
+/// The stream of this number among some, or no tuples where there is none.
+pub fn stream_in(streams: &[Vec<Tuple>], stream: u32) -> &[Tuple]
+    ensures { result.now ≡ nth (map (λ v. v.items) streams.now) stream }
+{
+    match streams.get(stream as usize) {
+        Some(tuples) => tuples.as_slice(),
+        None => &[],
+    }
+}
+
+fn first_in<'a>(streams: &'a [Vec<Tuple>], inputs: &[u32]) -> &'a [Tuple]
+    ensures { result.now ≡ nth (map (nth (map (λ v. v.items) streams.now)) inputs.now) 0 }
+{
+    match inputs.first() {
+        Some(stream) => stream_in(streams, *stream),
+        None => &[],
+    }
+}
+
+// Copies of tuples behind those that are there.
+pub(crate) fn push_copies(tuples: &[Tuple], out: &mut Vec<Tuple>) -> Result<(), AllocError>
+    ensures { OnOk result (out.new.items ≡ out.old.items ++ tuples.now) }
+{
+    for t in tuples {
+        out.push(copy_tuple(t)?)?;
+    }
+    Ok(())
+}
+
+// The tuples of all inputs, one input after another.
+fn joined(alloc: Global, streams: &[Vec<Tuple>], inputs: &[u32]) -> Result<Vec<Tuple>, AllocError>
+    ensures { IfOk result (λ v. v.items ≡ flat_map (nth (map (λ v. v.items) streams.now)) inputs.now) }
+{
+    let mut all = Vec::new(alloc);
+    for stream in inputs {
+        push_copies(stream_in(streams, *stream), &mut all)?;
+    }
+    Ok(all)
+}
+
+fn sort_by_time(tuples: &mut Vec<Tuple>) -> Result<(), AllocError>
+    ensures { OnOk result (tuples.new.items ≡ sort_by sooner tuples.old.items) }
+{
+    tuples.sort_by(|a, b| a.time.cmp(&b.time))
+}
+
+// What a Union gives: of one time, the tuples of its first input come first.
+#[tactic(auto, using(crate::proofs::UnionLemmas::union_is_sorted))]
+fn union_list(
+    alloc: Global,
+    streams: &[Vec<Tuple>],
+    inputs: &[u32],
+) -> Result<Vec<Tuple>, AllocError>
+    ensures { IfOk result (λ v. v.items ≡ union (map (nth (map (λ v. v.items) streams.now)) inputs.now)) }
+{
+    let mut all = joined(alloc, streams, inputs)?;
+    sort_by_time(&mut all)?;
+    Ok(all)
+}
+
+// What a box gives at a port, from 0, for these inputs among the streams.
+pub(crate) fn box_list(
+    alloc: Global,
+    body: &Body,
+    port: u32,
+    streams: &[Vec<Tuple>],
+    inputs: &[u32],
+) -> Result<Vec<Tuple>, AllocError>
+    ensures { IfOk result (λ v. v.items ≡ box_list body.now port (map (nth (map (λ v. v.items) streams.now)) inputs.now)) }
+{
+    match body {
+        Body::Filter { preds } => {
+            filter_list(alloc, preds.as_slice(), port, first_in(streams, inputs))
+        }
+        Body::Map { exprs } => map_list(alloc, exprs.as_slice(), first_in(streams, inputs)),
+        Body::Union => union_list(alloc, streams, inputs),
+    }
+}

@@ -1,0 +1,22 @@
+//! The full answer of a network: what its boxes give on whole streams. It is plain and slow, for runs that need no
+//! engine, for audits and for tests.
+//!
+//! The full stream of a source is its recorded tuples, and that of a port is what its box gives for the full streams
+//! that it takes. The contracts promise exactly these lists and their numbers of tuples, want of memory aside; that they
+//! are determined by one another alone is the law of `full_streams_follow`. Below stand the boxes as functions of whole
+//! lists, the order of boxes, and the typed network.
+#![tactic(auto)]
+
+mod arcs;
+mod boxes;
+mod laws;
+mod streams;
+#[cfg(test)]
+mod tests;
+mod work;
+
+pub use arcs::full;
+pub use boxes::stream_in;
+pub use laws::{full_streams_follow, sound_is_placed};
+pub use streams::full_streams;
+pub use work::fed;

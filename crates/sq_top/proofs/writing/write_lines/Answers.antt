@@ -1,0 +1,64 @@
+use Rattle.std.proofs.Common.{arith, ap, ◌∙◌, length, map}
+use Rattle.sq_top.proofs.WritingLemmas.{feds_length, lost_before, lost_last, lost_waiting, on_err, on_err_any, on_ok_any, on_ok_both, sent_last, work_from-is}
+use Rattle.sq_top.proofs.writing.write_lines.Goals as goal
+
+pub returns-in-Err-clause-err : goal.returns-in-Err-clause-err
+returns-in-Err-clause-err g c = lost_before c.args.network.now (map (λ xs. xs.items) c.args.streams.now) _ _ (rw c.new-text.ensures.items at c.in-Err.ensures.err)
+
+pub returns-in-Err-clause-fewer : goal.returns-in-Err-clause-fewer
+returns-in-Err-clause-fewer g c =
+    omega (
+      arith,
+      c.in-Err.ensures.fewer,
+      rw (c.as_slice.ensures.value ∙ c.in-Ok.ensures) at c.tick_boxes.ensures,
+      work_from-is c.args.network.now (map (λ xs. xs.items) c.args.streams.now) c.requires.shown,
+    )
+
+pub append_ends-requires : goal.append_ends-requires
+append_ends-requires g c = record {
+  even = ap (λ ks. length ks) (c.as_slice-2.ensures.value ∙ c.in-Ok.ensures) ∙ feds_length c.args.network.now (map (λ xs. xs.items) c.args.streams.now);
+}
+
+pub returns-in-Ok-append_ends-clause-ok : goal.returns-in-Ok-append_ends-clause-ok
+returns-in-Ok-append_ends-clause-ok g c =
+    on_ok_both c.send.result c.send.ensures.ok c.send.ensures.none_waits
+    (λ moves none. sent_last c.args.network.now (map (λ xs. xs.items) c.args.streams.now) _ _ _ _ _ _ (rw c.new-text.ensures.items at c.in-Ok-show_outputs.ensures.ok)
+    (rw (c.as_slice-2.ensures.value ∙ c.in-Ok.ensures) at c.in-Ok-append_ends.ensures.ok) moves none)
+
+pub returns-in-Ok-append_ends-clause-err : goal.returns-in-Ok-append_ends-clause-err
+returns-in-Ok-append_ends-clause-err g c =
+    on_err c.send.result c.send.ensures.err
+    (λ lost. lost_last c.args.network.now (map (λ xs. xs.items) c.args.streams.now) _ _ _ _ _ (rw c.new-text.ensures.items at c.in-Ok-show_outputs.ensures.ok)
+    (rw (c.as_slice-2.ensures.value ∙ c.in-Ok.ensures) at c.in-Ok-append_ends.ensures.ok) lost)
+
+pub returns-in-Ok-append_ends-clause-steps : goal.returns-in-Ok-append_ends-clause-steps
+returns-in-Ok-append_ends-clause-steps g c =
+    on_ok_any c.send.result
+    (omega (
+      arith,
+      c.in-Ok-show_outputs.ensures.steps,
+      rw (c.as_slice.ensures.value ∙ c.in-Ok.ensures) at c.tick_boxes.ensures,
+      work_from-is c.args.network.now (map (λ xs. xs.items) c.args.streams.now) c.requires.shown,
+    ))
+
+pub returns-in-Ok-append_ends-clause-fewer : goal.returns-in-Ok-append_ends-clause-fewer
+returns-in-Ok-append_ends-clause-fewer g c =
+    on_err_any c.send.result
+    (omega (
+      arith,
+      c.in-Ok-show_outputs.ensures.steps,
+      rw (c.as_slice.ensures.value ∙ c.in-Ok.ensures) at c.tick_boxes.ensures,
+      work_from-is c.args.network.now (map (λ xs. xs.items) c.args.streams.now) c.requires.shown,
+    ))
+
+pub returns-clause-err : goal.returns-clause-err
+returns-clause-err g c = lost_waiting c.args.network.now (map (λ xs. xs.items) c.args.streams.now) _ _ _ (rw c.new-text.ensures.items at c.in-Ok-show_outputs.ensures.ok)
+
+pub returns-clause-fewer : goal.returns-clause-fewer
+returns-clause-fewer g c =
+    omega (
+      arith,
+      c.in-Ok-show_outputs.ensures.steps,
+      rw (c.as_slice.ensures.value ∙ c.in-Ok.ensures) at c.tick_boxes.ensures,
+      work_from-is c.args.network.now (map (λ xs. xs.items) c.args.streams.now) c.requires.shown,
+    )
