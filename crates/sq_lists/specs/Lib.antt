@@ -2,3 +2,5 @@ pub mod Merge
 pub mod Boxes
 pub mod Sorting
 pub mod Sorters
+pub mod Windows
+pub mod WindowParts

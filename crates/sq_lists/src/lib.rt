@@ -8,11 +8,13 @@ mod merges;
 mod sorter;
 mod sorts;
 mod tuples;
+mod windows;
 
 pub use merges::merge;
 pub use sorter::Sorter;
 pub use sorts::{bsort_list, time_in_field};
 pub use tuples::{filter_list, map_list, map_tuple, port_of_tuple};
+pub use windows::{aggregate_list, first_covering, result_of};
 
 #[cfg(test)]
 mod tests;

@@ -1,13 +1,16 @@
-ghost use Rattle.std.specs.Prelude.{◌≤◌, length};
+ghost use Rattle.std.specs.Prelude.{◌≡◌, ◌≤◌, [], ◌∷◌, length, IfOk};
 
 use super::*;
+use sq_aggfn::{Func, WindowSpec};
 use sq_expr::{Typed, check, parse};
 use sq_value::{Kind, ListOf, Name, Schema, Tuple, Value};
 use std::alloc::{AllocError, Global};
 use std::test::Fail;
 
 // A tuple of one number.
-fn at(alloc: Global, time: u64, v: i64) -> Result<Tuple, AllocError> {
+fn at(alloc: Global, time: u64, v: i64) -> Result<Tuple, AllocError>
+    ensures { IfOk result (λ x. x ≡ record { time = time; fields = Value.Int v ∷ [] }) }
+{
     let fields = ListOf::new(vec![in alloc; Value::Int(v)]?);
     Ok(Tuple { time, fields })
 }
@@ -99,5 +102,40 @@ fn a_map_keeps_the_times(rt: HostRuntime) -> Result<(), Fail> {
         return Err(Fail::from("two tuples"));
     };
     assert!(rt; is_at(a, 3, 8) && is_at(b, 5, 12));
+    Ok(())
+}
+
+#[test]
+fn windows_that_are_open_at_the_end_give_results(rt: HostRuntime) -> Result<(), Fail> {
+    let alloc = rt.alloc();
+    let w = WindowSpec {
+        size: 10,
+        advance: 5,
+    };
+    let inputs = vec![in alloc; at(alloc, 0, 1)?, at(alloc, 3, 2)?, at(alloc, 12, 4)?]?;
+    let sums = aggregate_list(alloc, &[Func::Sum(0)], &[], w, &inputs)?;
+    let [a, b, c] = sums.as_slice() else {
+        return Err(Fail::from("three results"));
+    };
+    assert!(rt; is_at(a, 0, 3) && is_at(b, 5, 4) && is_at(c, 10, 4));
+    Ok(())
+}
+
+#[test]
+fn a_jump_of_half_of_all_ticks_costs_no_walk(rt: HostRuntime) -> Result<(), Fail> {
+    let alloc = rt.alloc();
+    let w = WindowSpec {
+        size: 1,
+        advance: 1,
+    };
+    let inputs = vec![in alloc; at(alloc, 0, 1)?, at(alloc, 549755813888, 2)?]?;
+    let counts = aggregate_list(alloc, &[Func::Count], &[0], w, &inputs)?;
+    let [a, b] = counts.as_slice() else {
+        return Err(Fail::from("two results"));
+    };
+    assert!(rt; a.time == 0 && matches!(a.fields.as_slice(), [Value::Int(1), Value::Int(1)]));
+    assert!(rt;
+        b.time == 549755813888 && matches!(b.fields.as_slice(), [Value::Int(2), Value::Int(1)])
+    );
     Ok(())
 }

@@ -1,0 +1,89 @@
+use Rattle.std.proofs.Common.{ℕ, ◌≡◌, ◌+◌, ◌*◌, ◌/◌, ◌^◌, ◌<◌, ◌≤◌, ◌++◌, [], ◌∷◌, List, max, drop, get_or, sym, ap, ◌∙◌, append-nil, append_assoc, zero-le, arith}
+use Rattle.std.specs.List.{AllByRecursion}
+use Rattle.std.proofs.lemmas.List.{drop_more, drop_all}
+use Rattle.sq_value.specs.declared.Tuple.{Tuple}
+use Rattle.sq_aggfn.specs.declared.WindowSpec.{WindowSpec}
+use Rattle.sq_lists.specs.WindowParts.{numbered_results, NotFalling}
+use Rattle.sq_lists.proofs.WindowLemmas.{left_results, left_first, left_last, left_step, begun_step, stream_rises, stream_ticks, lower, next_small, last_start, before_end, rest_is}
+use Rattle.sq_lists.proofs.windows.aggregate.Goals as goal
+
+begun-first : (w : WindowSpec) (xs : List Tuple) → AllByRecursion (λ x. 0 ≤ x.time / w.advance + 1) xs
+begun-first w [] = tt
+begun-first w (x ∷ xs) = (zero-le, begun-first w xs)
+
+pub loop-i-init : goal.loop-i-init
+loop-i-init g c =
+    let t = c.args.t.now in
+    let table = g.F.Fold.table c.args.fold.now in
+    record {
+      results = ap (λ l. l ++ left_results table c.args.group.now c.args.w t 0) c.new-out.ensures.items ∙ left_first table c.args.group.now c.args.w t;
+      rises = stream_rises t c.requires.stream;
+      begun = begun-first c.args.w t;
+      ticks = stream_ticks t c.requires.stream;
+    }
+
+pub returns : goal.returns
+returns g c =
+    let table = g.F.Fold.table c.args.fold.now in
+    let last = ap (λ l. left_results table c.args.group.now c.args.w l c.loop-i.next) (drop_all c.loop-i.i c.args.t.now c.loop-i-test.false) ∙ left_last table c.args.group.now c.args.w c.loop-i.next in
+    sym (append-nil c.loop-i.out.items) ∙ ap (λ l. c.loop-i.out.items ++ l) (sym last) ∙ c.loop-i.invariant.results
+
+pub overflow_add-end : goal.overflow_add-end
+overflow_add-end g c =
+    let i = c.loop-i.i in
+    let t = c.args.t.now in
+    let x = get_or t i c.index-t-i.result in
+    let ticks = rw (drop_more t i c.index-t-i.result c.loop-i-test.true) at c.loop-i.invariant.ticks in
+    let small = next_small c.args.w c.requires.window x.time ticks.0 in
+    let moves = c.requires.window.moves in
+    record { fits = wide (x.time / c.args.w.advance + 1) c.args.w.advance small moves }
+  where
+    wide : (n m : ℕ) → n * m < 2 ^ 41 → 1 ≤ m → n < 2 ^ 64
+    wide n m h k = grind arith
+
+pub push_windows-requires-clause-rises : goal.push_windows-requires-clause-rises
+push_windows-requires-clause-rises g c =
+    let i = c.loop-i.i in
+    let t = c.args.t.now in
+    let x = get_or t i c.index-t-i.result in
+    let whole = drop_more t i c.index-t-i.result c.loop-i-test.true in
+    let rises = rw whole at c.loop-i.invariant.rises in
+    let up : NotFalling x.time (x ∷ drop (i + 1) t) = (omega arith, rises.1) in
+    rw (rest_is t i, whole) (last_start c.args.w c.requires.window x.time (x ∷ drop (i + 1) t) up)
+
+pub push_windows-requires-clause-small : goal.push_windows-requires-clause-small
+push_windows-requires-clause-small g c =
+    let i = c.loop-i.i in
+    let t = c.args.t.now in
+    let x = get_or t i c.index-t-i.result in
+    let ticks = rw (drop_more t i c.index-t-i.result c.loop-i-test.true) at c.loop-i.invariant.ticks in
+    next_small c.args.w c.requires.window x.time ticks.0
+
+pub loop-i-preserved : goal.loop-i-preserved
+loop-i-preserved g c =
+    let i = c.loop-i.i in
+    let t = c.args.t.now in
+    let w = c.args.w in
+    let table = g.F.Fold.table c.args.fold.now in
+    let by = c.args.group.now in
+    let x = get_or t i c.index-t-i.result in
+    let more = drop (i + 1) t in
+    let whole = drop_more t i c.index-t-i.result c.loop-i-test.true in
+    let rises = rw whole at c.loop-i.invariant.rises in
+    let begun = rw whole at c.loop-i.invariant.begun in
+    let ticks = rw whole at c.loop-i.invariant.ticks in
+    let first = c.first_covering.ensures in
+    let end : ℕ = x.time / w.advance + 1 in
+    let step = left_step w c.requires.window.moves table by x more c.first_covering.result c.loop-i.next rises.1 begun.0 first.before (before_end w c.requires.window x.time c.first_covering.result first.low) in
+    let pushed : c.push_windows.new.out.items ≡ c.loop-i.out.items ++ numbered_results table by w (x ∷ more) (max c.first_covering.result c.loop-i.next) end =
+    c.in_ok-push_windows.ensures ∙ (λ j. c.loop-i.out.items ++ numbered_results table by w ((rest_is t i ∙ whole) j) (c.max-from.ensures j) end) in
+    record {
+      results =
+          ap (λ l. l ++ left_results table by w more end) pushed
+          ∙ append_assoc c.loop-i.out.items (numbered_results table by w (x ∷ more) (max c.first_covering.result c.loop-i.next) end) (left_results table by w more end)
+          ∙ ap (λ l. c.loop-i.out.items ++ l) (sym step ∙ ap (λ l. left_results table by w l c.loop-i.next) (sym whole))
+          ∙ c.loop-i.invariant.results;
+      rises = lower 0 x.time more zero-le rises.1;
+      begun = begun_step w c.requires.window.moves table by x more rises.1;
+      ticks = ticks.1;
+    }

@@ -1,0 +1,14 @@
+use Rattle.std.proofs.Common.{◌≡◌, ◌++◌, ◌+◌, ◌/◌, ◌^◌, ◌<◌, ◌≤◌, drop}
+use Rattle.std.specs.List.{AllByRecursion}
+use Rattle.sq_lists.specs.Windows.{aggregate_of}
+use Rattle.sq_lists.specs.WindowParts.{NotFalling}
+use Rattle.sq_lists.proofs.WindowLemmas.{left_results}
+use Rattle.sq_lists.proofs.windows.aggregate.Given as goal
+
+abbrev pub invariant-loop-i : goal.invariant-loop-i
+invariant-loop-i g l = record {
+  results : l.out.items ++ left_results (g.F.Fold.table l.fold) l.group l.w (drop l.i l.t) l.next ≡ aggregate_of (g.F.Fold.table l.fold) l.group l.w l.t;
+  rises : NotFalling 0 (drop l.i l.t);
+  begun : AllByRecursion (λ x. l.next ≤ x.time / l.w.advance + 1) (drop l.i l.t);
+  ticks : AllByRecursion (λ x. x.time < 2 ^ 40) (drop l.i l.t);
+}

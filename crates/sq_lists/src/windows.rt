@@ -1,0 +1,154 @@
+//! Aggregate.
+
+ghost use Rattle.std.specs.Prelude.{◌≡◌, ℕ, ◌+◌, ◌-◌, ◌*◌, ◌/◌, ◌^◌, ◌<◌, ◌≤◌, ◌++◌, [], length, map, IfOk, OnOk};
+ghost use Rattle.sq_value.specs.Values.{IsStream, fields_cmp};
+ghost use Rattle.sq_aggfn.specs.Groups.{group_of};
+ghost use Rattle.sq_aggfn.specs.Keyed.{keyed_from, AllMade};
+ghost use Rattle.sq_aggfn.specs.Windows.{IsWindow};
+ghost use Rattle.sq_lists.specs.Windows.{window_results, aggregate_of, aggregate_list_of};
+ghost use Rattle.sq_lists.specs.WindowParts.{leading, told_results, numbered_results, NotFalling};
+
+use sq_aggfn::{Bundle, Fold, Func, Group, WindowSpec, add_at, group_of};
+use sq_value::{Fields, Tuple};
+use std::alloc::{AllocError, Global};
+use std::collections::BTreeMap;
+
+/// The result of a group's answers in the window that begins at `start`.
+pub fn result_of(start: u64, group: Group, answers: Fields) -> Result<Tuple, AllocError>
+    ensures { IfOk result (λ x. x ≡ record { time = start; fields = group ++ answers }) }
+{
+    let fields = group.followed_by(answers)?;
+    Ok(Tuple {
+        time: start,
+        fields,
+    })
+}
+
+/// The number of the first window that ends after a tick, so the first that covers it. Windows are numbered from 0.
+pub fn first_covering(w: WindowSpec, time: u64) -> u64
+    requires { IsWindow w }
+    ensures before { (k : ℕ) → k < result → k * w.advance + w.size ≤ time }
+    ensures after { time < result * w.advance + w.size }
+    ensures low { result * w.advance ≤ time }
+{
+    if time < w.size {
+        0
+    } else {
+        (time - w.size) / w.advance + 1
+    }
+}
+
+/// How many tuples stand before the first that has the time `end` or a later one.
+fn leading(t: &[Tuple], end: u64) -> usize
+    ensures leading { result ≡ leading end t.now }
+    ensures most { result ≤ length t.now }
+{
+    for (i, x) in t.iter().enumerate() {
+        if x.time >= end {
+            return i;
+        }
+    }
+    t.len()
+}
+
+/// The groups of some tuples, each with the state of its tuples.
+fn groups_of<F: Fold>(
+    alloc: Global,
+    fold: &F,
+    by: &[u32],
+    inside: &[Tuple],
+) -> Result<BTreeMap<Group, F::State>, AllocError>
+    ensures groups { IfOk result (λ held. held.entries ≡ keyed_from fields_cmp (F.none fold.now) (F.joined fold.now) (group_of by.now) (F.unit fold.now) [] inside.now) }
+    ensures made { IfOk result (λ held. AllMade (F.made fold.now) (F.number fold.now) (λ k. 2 ^ 62 - 1) held.entries) }
+{
+    let mut held = BTreeMap::new(alloc);
+    for x in inside {
+        add_at(fold, &mut held, group_of(alloc, by, x)?, x)?;
+    }
+    Ok(held)
+}
+
+/// A result for each group, in order.
+fn push_results<F: Fold>(
+    fold: &F,
+    start: u64,
+    mut held: BTreeMap<Group, F::State>,
+    out: &mut Vec<Tuple>,
+) -> Result<(), AllocError>
+    requires { AllMade (F.made fold.now) (F.number fold.now) (λ k. 2 ^ 62 - 1) held.entries }
+    ensures { OnOk result (out.new.items ≡ out.old.items ++ told_results (F.told fold.now) start held.entries) }
+{
+    while let Some((group, state)) = held.pop_first() {
+        let answers = fold.answer(&state)?;
+        out.push(result_of(start, group, answers)?)?;
+    }
+    Ok(())
+}
+
+/// The results of the windows with the numbers from `from` on, below `to`.
+fn push_windows<F: Fold>(
+    alloc: Global,
+    fold: &F,
+    by: &[u32],
+    w: WindowSpec,
+    rest: &[Tuple],
+    from: u64,
+    to: u64,
+    out: &mut Vec<Tuple>,
+) -> Result<(), AllocError>
+    requires window { IsWindow w }
+    requires rises { NotFalling ((to - 1) * w.advance) rest.now }
+    requires small { to * w.advance < 2 ^ 41 }
+    ensures { OnOk result (out.new.items ≡ out.old.items ++ numbered_results (F.table fold.now) by.now w rest.now from to) }
+{
+    for k in from..to {
+        let start = k * w.advance;
+        let inside = &rest[..leading(rest, start + w.size)];
+        let held = groups_of(alloc, fold, by, inside)?;
+        push_results(fold, start, held, out)?;
+    }
+    Ok(())
+}
+
+/// The results of all windows that cover a tuple.
+fn aggregate<F: Fold>(
+    alloc: Global,
+    fold: &F,
+    group: &[u32],
+    w: WindowSpec,
+    t: &[Tuple],
+) -> Result<Vec<Tuple>, AllocError>
+    requires window { IsWindow w }
+    requires stream { IsStream t.now }
+    ensures { IfOk result (λ out. out.items ≡ aggregate_of (F.table fold.now) group.now w t.now) }
+{
+    let mut out = Vec::new(alloc);
+    let mut next = 0;
+    for i in 0..t.len() {
+        let time = t[i].time;
+        let end = time / w.advance + 1;
+        let from = first_covering(w, time).max(next);
+        push_windows(alloc, fold, group, w, &t[i..], from, end, &mut out)?;
+        next = end;
+    }
+    Ok(out)
+}
+
+/// What an Aggregate gives (after SQuAl's Aggregate: Abadi and others, VLDB Journal 2003; that windows begin at the
+/// multiples of the advance is this project's own): for each window, in the order of starts, and for each group with a
+/// tuple in it, in the order of values, the group's values and then the functions' answers, at the window's start. Only
+/// windows that cover a tuple are visited.
+pub fn aggregate_list(
+    alloc: Global,
+    funcs: &[Func],
+    group: &[u32],
+    w: WindowSpec,
+    t: &[Tuple],
+) -> Result<Vec<Tuple>, AllocError>
+    requires window { IsWindow w }
+    requires stream { IsStream t.now }
+    ensures { IfOk result (λ out. out.items ≡ aggregate_list_of funcs.now group.now w t.now) }
+{
+    let bundle = Bundle::new(alloc, funcs.to_vec(alloc)?);
+    aggregate(alloc, &bundle, group, w, t)
+}
