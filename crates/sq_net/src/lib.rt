@@ -10,6 +10,9 @@ ghost use Rattle.sq_graph.specs.Wires.{producer_of};
 ghost use Rattle.sq_net.specs.Sound.{IsSound};
 ghost use Rattle.sq_net.specs.Streams.{columns_of_stream, IsTyped};
 
+#[cfg(test)]
+mod tests;
+
 use sq_expr::{ParseErr, Typed};
 use sq_graph::{Giver, Wiring, given_by};
 use sq_qos::{Graph, GraphErr};

@@ -8,6 +8,7 @@ use Rattle.sq_value.specs.Lists.{same_bytes, are_distinct}
 use Rattle.sq_value.specs.Values.{Columns, kinds_of, names_of}
 use Rattle.sq_value.specs.declared.Kind.{Kind}
 use Rattle.sq_value.specs.declared.Kind.TheVariants as kind
+use Rattle.sq_value.specs.Schemas.{schema_error}
 use Rattle.sq_expr.specs.Trees.{Expr, Checked}
 use Rattle.sq_expr.specs.Asts.{Ast}
 use Rattle.sq_expr.specs.Kinds.{kind_in, kinds_agree, same_kind}
@@ -20,7 +21,8 @@ use Rattle.sq_net.specs.declared.NetErr.{NetErr}
 use Rattle.sq_net.specs.declared.NetErr.TheVariants as broken
 use Rattle.sq_net.specs.declared.Part.TheVariants as part
 use Rattle.sq_net.specs.Names.{is_name}
-use Rattle.sq_net.specs.Sound.{IsOver, IsPredicate, IsTypedBody, body_within, kind_of_body}
+use Rattle.sq_net.specs.Sound.{IsOver, IsPredicate, IsTypedBody, kind_of_body}
+use Rattle.sq_net.specs.Sound as sound
 use Rattle.sq_net.proofs.ColumnLemmas.{columns_of_parts}
 use Rattle.sq_reader.specs.declared.raw.Setting.{Setting}
 use Rattle.sq_reader.specs.declared.raw.RawBody.{RawBody}
@@ -28,15 +30,15 @@ use Rattle.sq_reader.specs.declared.raw.RawBody.TheVariants.{Filter, Map, Union}
 use Rattle.sq_reader.specs.declared.raw.RawBox.{RawBox}
 use Rattle.sq_reader.specs.Places.{place_at}
 use Rattle.sq_reader.specs.Rawly.{◌>>=◌}
-use Rattle.sq_reader.specs.Limits as limits
-use Rattle.sq_reader.specs.Limits.{first_failing, has_between, is_expression_long}
+use Rattle.sq_reader.specs.Limits.{body_within, first_failing, has_between, is_expression_long}
 use Rattle.sq_reader.specs.Shapes.{ports_of}
 use Rattle.sq_reader.specs.Streaming as wires
 use Rattle.sq_reader.specs.Expressions.{allowed, may_be_predicate, may_be_set, or_no_expression, parsed_from, typed_from, typed_in}
 use Rattle.sq_reader.specs.Columns.{TypedBody, bad_name, body_of, filter_of, kinds_set, map_of, nat_of, node_in, node_of, same_columns, same_kinds, same_names, set_names, set_texts, union_of, unless_schema}
-use Rattle.sq_reader.proofs.LimitLemmas.{and_parts}
-use Rattle.sq_reader.proofs.ListLemmas.{each_passes, none_failing}
+use Rattle.sq_reader.proofs.ListLemmas.{and_parts, each_passes, none_failing}
+use Rattle.sq_reader.proofs.LimitLemmas.{settings_of}
 use Rattle.sq_reader.proofs.DistinctLemmas.{new_distinct, none_bad, same_text}
+use Rattle.sq_reader.proofs.SchemaLemmas.{schema_none}
 
 -- where two steps succeed, each does
 pub first_step : {A B : Type 0} (r : Result A NetErr) (f : A → Result B NetErr) (y : B) → (r >>= f) ≡ Ok y → (x : A) × ((r ≡ Ok x) × (f x ≡ Ok y))
@@ -113,7 +115,7 @@ kinds_are_set cs (e ∷ es) h = by_case (kind_in e.scope e.tree) h.0.1 (kinds_ar
 
 -- ---- columns
 
-names_of_zip : (ws : List (List ℕ)) (ks : List Kind) → length ws ≡ length ks → names_of (zip ws ks) ≡ ws
+pub names_of_zip : (ws : List (List ℕ)) (ks : List Kind) → length ws ≡ length ks → names_of (zip ws ks) ≡ ws
 names_of_zip [] ks e = refl
 names_of_zip (w ∷ ws) [] e = absurd (omega arith)
 names_of_zip (w ∷ ws) (k ∷ ks) e = ap (λ (vs : List (List ℕ)). w ∷ vs) (names_of_zip ws ks (omega arith))
@@ -173,7 +175,7 @@ pub record IsBodyOf (raw : RawBody) (ins : List Columns) (t : TypedBody) : Type 
   pub typed : IsTypedBody ins t.0 t.1
   pub kind : wires.kind_of_body raw ≡ kind_of_body t.0
   pub ports : ports_of raw ≡ length t.1
-  pub within : limits.body_within raw ≡ true → body_within t.0 ≡ true
+  pub within : body_within raw ≡ true → sound.body_within t.0 ≡ true
 
 filter_is : (n : ℕ) (preds : List (List ℕ)) (cs : Columns) (rest : List Columns) (t : TypedBody) → filter_of n preds cs ≡ Ok t → IsBodyOf (Filter preds) (cs ∷ rest) t
 filter_is n preds cs rest t h =
@@ -198,6 +200,25 @@ filter_is n preds cs rest t h =
 set_lengths : (set : List Setting) → (length (set_names set) ≡ length set) × (length (set_texts set) ≡ length set)
 set_lengths set = (length-map set (λ e. e.name), length-map set (λ e. e.text))
 
+-- as many kinds as expressions that are set
+kinds_count : (cs : Columns) (set : List Setting) (es : List Checked) → AllByRecursion (IsAllowed may_be_set cs) es → length es ≡ length (set_texts set) → length (kinds_set es) ≡ length set
+kinds_count cs set es each count =
+    sym (length-map (kinds_set es) (λ (k : Kind). Some k))
+    ∙ (ap (λ (os : List (Option Kind)). length os) (sym (kinds_are_set cs es each)) ∙ (length-map es (λ (e : Checked). kind_in e.scope e.tree) ∙ (count ∙ length-map set (λ e. e.text))))
+
+-- names that are good, and the kinds of the expressions, are a schema
+pub map_schema : (n : ℕ) (cs : Columns) (set : List Setting) (es : List Checked) → body_within (Map set) ≡ true → bad_name (set_names set) ≡ None
+    → typed_in n may_be_set cs (set_texts set) ≡ Ok es → schema_error (set_names set) (kinds_set es) ≡ None
+map_schema n cs set es within good typed =
+    let limits = settings_of set within in
+    let each = typed_all n may_be_set cs (set_texts set) es typed in
+    let kinds = kinds_count cs set es each.0 each.1 in
+    let names = limits.names in
+    let some = limits.some in
+    let few = limits.few in
+    schema_none (set_names set) (kinds_set es) (omega (arith, names, kinds)) (omega (arith, names, some)) (omega (arith, names, few))
+    (new_distinct [] (set_names set) (none_bad [] 0 (set_names set) good).1)
+
 unless_none : {A : Type 0} (n : ℕ) (o : Option ℕ) (more : Result A NetErr) (x : A) → unless_schema n o more ≡ Ok x → (o ≡ None) × (more ≡ Ok x)
 unless_none n None more x h = (refl, h)
 unless_none n (Some i) more x h = cc
@@ -210,8 +231,7 @@ map_is n set cs rest t h =
     let good = none_bad [] 0 (set_names set) zero_step.0 in
     let kinds = kinds_are_set cs one.0 each.0 in
     let lengths = set_lengths set in
-    let long : length (set_names set) ≡ length (kinds_set one.0) =
-    lengths.0 ∙ (sym lengths.1 ∙ (sym each.1 ∙ (sym (length-map one.0 (λ (e : Checked). kind_in e.scope e.tree)) ∙ (ap (λ (os : List (Option Kind)). length os) kinds ∙ length-map (kinds_set one.0) (λ (k : Kind). Some k))))) in
+    let long : length (set_names set) ≡ length (kinds_set one.0) = lengths.0 ∙ sym (kinds_count cs set one.0 each.0 each.1) in
     let count : length one.0 ≡ length set = each.1 ∙ lengths.1 in
     let ports : Columns = zip (set_names set) (kinds_set one.0) in
     let names : names_of ports ≡ set_names set = names_of_zip (set_names set) (kinds_set one.0) long in

@@ -64,7 +64,7 @@ none_repeated seen n (x ∷ xs) e = by_test (list_any (bytes_eq x) seen) refl (n
     by_test true is more e = cc
     by_test false is more e = (seen_is x seen ∙ is, more e)
 
-fresh_name : (named seen : Bool) → (named && not seen) ≡ true → (named ≡ true) × (seen ≡ false)
+pub fresh_name : (named seen : Bool) → (named && not seen) ≡ true → (named ≡ true) × (seen ≡ false)
 fresh_name true true h = cc
 fresh_name true false h = (refl, refl)
 fresh_name false seen h = cc

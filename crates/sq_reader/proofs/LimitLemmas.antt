@@ -1,34 +1,141 @@
--- What the limits say of numbers.
-use Rattle.std.proofs.Common.{◌≡◌, ℕ, ◌≤◌, Bool, true, false, ◌&&◌, List, length, None, arith, refl}
+-- What the limits say of a file that keeps them.
+use Rattle.std.proofs.Common.{◌≡◌, ◌∙◌, ap, refl, ℕ, ◌+◌, ◌≤◌, Bool, true, false, ◌&&◌, List, [], ◌∷◌, length, Option, Some, None, cond, arith}
+use Rattle.std.specs.List.{list_all}
+use Rattle.std.specs.Option.{option_map}
 use Rattle.std.proofs.lemmas.Bool.Decides.{nat_tests}
+use Rattle.std.proofs.lemmas.List.{length-map}
+use Rattle.sq_net.specs.declared.Part.TheVariants as part
+use Rattle.sq_net.specs.declared.Place.{Place}
+use Rattle.sq_reader.specs.declared.raw.RawSource.{RawSource}
+use Rattle.sq_reader.specs.declared.raw.Setting.{Setting}
+use Rattle.sq_reader.specs.declared.raw.RawBody.{RawBody}
+use Rattle.sq_reader.specs.declared.raw.RawBody.TheVariants.{Filter, Map, Union}
+use Rattle.sq_reader.specs.declared.raw.RawBox.{RawBox}
 use Rattle.sq_reader.specs.declared.raw.Raw.{Raw}
-use Rattle.sq_reader.specs.Limits.{top_within, has_between, limit_place}
+use Rattle.sq_reader.specs.Places.{or_else, place_of}
+use Rattle.sq_reader.specs.Limits as limits
+use Rattle.sq_reader.specs.Limits.{body_within, box_within, first_failing, has_between, inputs_within, is_between, is_expression_long, limit_place, source_within, top_within}
+use Rattle.sq_reader.specs.Shapes.{ports_of}
+use Rattle.sq_reader.specs.Columns.{set_names, set_texts}
+use Rattle.sq_reader.proofs.ListLemmas.{and_parts, none_failing, nothing_mapped}
 
-pub and_parts : (a b : Bool) → (a && b) ≡ true → (a ≡ true) × (b ≡ true)
-and_parts true b h = (refl, h)
-and_parts false b h = cc
+pub neither : {A : Type 0} (a b : Option A) → or_else a b ≡ None → (a ≡ None) × (b ≡ None)
+neither None b h = (refl, h)
+neither (Some x) b h = cc
 
-pub few : {A : Type 0} (low high : ℕ) (xs : List A) → has_between low high xs ≡ true → length xs ≤ high
+few : {A : Type 0} (low high : ℕ) (xs : List A) → has_between low high xs ≡ true → length xs ≤ high
 few low high xs h = grind (arith, nat_tests)
 
--- the counts of a file within its limits
+some : {A : Type 0} (low high : ℕ) (xs : List A) → has_between low high xs ≡ true → low ≤ length xs
+some low high xs h = grind (arith, nat_tests)
+
+pub record IsWithin (r : Raw) : Type 0 where
+  pub top : top_within r ≡ true
+  pub sources : list_all limits.source_within r.sources ≡ true
+  pub boxes : list_all box_within r.boxes ≡ true
+
+pub is_within : (r : Raw) → limit_place r ≡ None → IsWithin r
+is_within r h = by_test (top_within r) refl h
+  where
+    rest : Option Place
+    rest = or_else (option_map (place_of part.Source) (first_failing limits.source_within r.sources)) (option_map (place_of part.Box) (first_failing box_within r.boxes))
+
+    by_test : (b : Bool) → top_within r ≡ b → cond b (or_else (option_map (place_of part.Source) (first_failing limits.source_within r.sources)) (option_map (place_of part.Box) (first_failing box_within r.boxes))) (Some (place_of part.Top 0)) ≡ None → IsWithin r
+    by_test true is e =
+        let parts = neither (option_map (place_of part.Source) (first_failing limits.source_within r.sources)) (option_map (place_of part.Box) (first_failing box_within r.boxes)) e in
+        record {
+          top = is;
+          sources = none_failing limits.source_within r.sources (nothing_mapped (place_of part.Source) (first_failing limits.source_within r.sources) parts.0);
+          boxes = none_failing box_within r.boxes (nothing_mapped (place_of part.Box) (first_failing box_within r.boxes) parts.1);
+        }
+    by_test false is e = cc
+
+-- the counts of a file within its limits, and that its parts are within theirs
 pub record Counts (r : Raw) : Type 0 where
   pub sources : length r.sources ≤ 8
   pub boxes : length r.boxes ≤ 128
   pub outputs : length r.outputs ≤ 32
+  pub each_source : list_all source_within r.sources ≡ true
+  pub each_box : list_all box_within r.boxes ≡ true
 
-pub counts_within : (r : Raw) → top_within r ≡ true → Counts r
-counts_within r h =
-    let a = and_parts _ _ h in
+pub counts_of : (r : Raw) → limit_place r ≡ None → Counts r
+counts_of r h =
+    let w = is_within r h in
+    let a = and_parts _ _ w.top in
     let b = and_parts _ _ a.0 in
     let d = and_parts _ _ b.0 in
     let e = and_parts _ _ d.0 in
-    record { sources = few 1 8 r.sources e.0; boxes = few 0 128 r.boxes e.1; outputs = few 1 32 r.outputs d.1 }
+    record {
+      sources = few 1 8 r.sources e.0;
+      boxes = few 0 128 r.boxes e.1;
+      outputs = few 1 32 r.outputs d.1;
+      each_source = w.sources;
+      each_box = w.boxes;
+    }
 
--- a file within its limits has few of each
-pub counts_of : (r : Raw) → limit_place r ≡ None → Counts r
-counts_of r h = by_test (top_within r) refl h
+-- ---- the parts
+
+pub expression_few : (text : List ℕ) → is_expression_long text ≡ true → length text ≤ 4096
+expression_few text h = few 1 4096 text h
+
+pub record FieldsWithin (s : RawSource) : Type 0 where
+  pub some : 1 ≤ length s.fields
+  pub few : length s.fields ≤ 16
+
+pub fields_of : (s : RawSource) → source_within s ≡ true → FieldsWithin s
+fields_of s h =
+    let parts = and_parts (has_between 1 255 s.file) (has_between 1 16 s.fields) h in
+    record { some = some 1 16 s.fields parts.1; few = few 1 16 s.fields parts.1 }
+
+pub record PredicatesWithin (preds : List (List ℕ)) : Type 0 where
+  pub few : length preds ≤ 15
+  pub long : list_all is_expression_long preds ≡ true
+
+pub predicates_of : (preds : List (List ℕ)) → body_within (Filter preds) ≡ true → PredicatesWithin preds
+predicates_of preds h =
+    let parts = and_parts (has_between 1 15 preds) (list_all is_expression_long preds) h in
+    record { few = few 1 15 preds parts.0; long = parts.1 }
+
+texts_long : (set : List Setting) → list_all is_expression_long (set_texts set) ≡ list_all (λ e. is_expression_long e.text) set
+texts_long [] = refl
+texts_long (e ∷ es) = ap (λ (b : Bool). is_expression_long e.text && b) (texts_long es)
+
+pub record SettingsWithin (set : List Setting) : Type 0 where
+  pub some : 1 ≤ length set
+  pub few : length set ≤ 16
+  pub long : list_all is_expression_long (set_texts set) ≡ true
+  pub names : length (set_names set) ≡ length set
+  pub texts : length (set_texts set) ≡ length set
+
+pub settings_of : (set : List Setting) → body_within (Map set) ≡ true → SettingsWithin set
+settings_of set h =
+    let parts = and_parts (has_between 1 16 set) (list_all (λ e. is_expression_long e.text) set) h in
+    record {
+      some = some 1 16 set parts.0;
+      few = few 1 16 set parts.0;
+      long = texts_long set ∙ parts.1;
+      names = length-map set (λ e. e.name);
+      texts = length-map set (λ e. e.text);
+    }
+
+pub ports_few : (b : RawBody) → body_within b ≡ true → ports_of b ≤ 16
+ports_few (Filter preds) h = let low = (predicates_of preds h).few in omega (arith, low)
+ports_few (Map set) h = omega arith
+ports_few Union h = omega arith
+
+pub record BoxWithin (b : RawBox) : Type 0 where
+  pub body : body_within b.body ≡ true
+  pub some : 1 ≤ length b.ins
+  pub few : length b.ins ≤ 8
+
+pub box_of : (b : RawBox) → box_within b ≡ true → BoxWithin b
+box_of b h =
+    let front = and_parts (body_within b.body && inputs_within b.body b.ins && is_between 0 1000 b.cost) (list_all (is_between 0 1000000) b.selectivity) h in
+    let middle = and_parts (body_within b.body && inputs_within b.body b.ins) (is_between 0 1000 b.cost) front.0 in
+    let parts = and_parts (body_within b.body) (inputs_within b.body b.ins) middle.0 in
+    record { body = parts.0; some = (inputs b.body parts.1).0; few = (inputs b.body parts.1).1 }
   where
-    by_test : (b : Bool) → top_within r ≡ b → limit_place r ≡ None → Counts r
-    by_test true e g = counts_within r e
-    by_test false e g = let faulty = rw e at g in cc
+    inputs : (raw : RawBody) → inputs_within raw b.ins ≡ true → (1 ≤ length b.ins) × (length b.ins ≤ 8)
+    inputs (Filter preds) g = (some 1 1 b.ins g, (let low = few 1 1 b.ins g in omega (arith, low)))
+    inputs (Map set) g = (some 1 1 b.ins g, (let low = few 1 1 b.ins g in omega (arith, low)))
+    inputs Union g = (some 1 8 b.ins g, few 1 8 b.ins g)

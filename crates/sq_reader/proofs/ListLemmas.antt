@@ -1,11 +1,15 @@
 -- Lists by the places of their items.
-use Rattle.std.proofs.Common.{◌≡◌, ◌∙◌, sym, ap, refl, ℕ, zero, suc, ◌+◌, ◌<◌, Bool, true, false, not, ◌&&◌, List, [], ◌∷◌, map, length, Option, Some, None, slice_get, set, cond, arith}
+use Rattle.std.proofs.Common.{◌≡◌, ◌∙◌, sym, ap, refl, ℕ, zero, suc, ◌+◌, ◌<◌, ◌≤◌, Bool, true, false, not, ◌&&◌, List, [], ◌∷◌, map, length, Option, Some, None, slice_get, get_or, set, cond, arith}
 use Rattle.std.specs.Prelude.{is_some}
 use Rattle.std.specs.List.{cons_option, filter_map, list_all, position_from, AllByRecursion}
 use Rattle.std.specs.Option.{option_map}
 use Rattle.std.proofs.lemmas.Iterator.Adapters.{position_from-zero}
+use Rattle.std.proofs.lemmas.Option.{slice_get-get_or}
 use Rattle.sq_reader.specs.Limits.{first_failing}
-use Rattle.sq_reader.proofs.LimitLemmas.{and_parts}
+
+pub and_parts : (a b : Bool) → (a && b) ≡ true → (a ≡ true) × (b ≡ true)
+and_parts true b h = (refl, h)
+and_parts false b h = cc
 
 none_failing_from : {A : Type 0} (test : A → Bool) (n : ℕ) (xs : List A) → position_from (λ x. not (test x)) n xs ≡ None → list_all test xs ≡ true
 none_failing_from test n [] e = refl
@@ -32,6 +36,13 @@ pub passes_at : {A : Type 0} (test : A → Bool) (xs : List A) (i : ℕ) (x : A)
 passes_at test [] i x h e = cc
 passes_at test (y ∷ ys) zero x h e = let same : y ≡ x = cc in rw (← same) (and_parts (test y) (list_all test ys) h).0
 passes_at test (y ∷ ys) (suc i) x h e = passes_at test ys i x (and_parts (test y) (list_all test ys) h).1 e
+
+pub item_there : {A : Type 0} (xs : List A) (i : ℕ) (x : A) → i < length xs → x ≡ get_or xs i x → slice_get xs i ≡ Some x
+item_there xs i x low is = slice_get-get_or xs i x low ∙ ap Some (sym is)
+
+-- an item of a list in which all pass
+pub item_passes : {A : Type 0} (test : A → Bool) (xs : List A) (i : ℕ) (x : A) → list_all test xs ≡ true → i < length xs → x ≡ get_or xs i x → test x ≡ true
+item_passes test xs i x h low is = passes_at test xs i x h (item_there xs i x low is)
 
 pub all_by_place : {A : Type 0} (test : A → Bool) (xs : List A) → ((i : ℕ) (x : A) → slice_get xs i ≡ Some x → test x ≡ true) → list_all test xs ≡ true
 all_by_place test [] h = refl
@@ -62,6 +73,14 @@ get_set_other (y ∷ ys) zero zero x apart = absurd (apart refl)
 get_set_other (y ∷ ys) zero (suc j) x apart = refl
 get_set_other (y ∷ ys) (suc i) zero x apart = refl
 get_set_other (y ∷ ys) (suc i) (suc j) x apart = get_set_other ys i j x (λ e. apart (ap suc e))
+
+pub given_few : {A B : Type 0} (f : A → Option B) (xs : List A) → length (filter_map f xs) ≤ length xs
+given_few f [] = omega arith
+given_few {A} {B} f (x ∷ xs) = by_case (f x) (given_few f xs)
+  where
+    by_case : (o : Option B) → length (filter_map f xs) ≤ length xs → length (cons_option o (filter_map f xs)) ≤ suc (length xs)
+    by_case None few = omega arith
+    by_case (Some y) few = omega arith
 
 -- where each item gives something, nothing is left out
 pub all_given : {A B : Type 0} (f : A → Option B) (xs : List A) → list_all (λ x. is_some (f x)) xs ≡ true → length (filter_map f xs) ≡ length xs

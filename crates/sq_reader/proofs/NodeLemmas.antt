@@ -1,25 +1,44 @@
 -- The boxes typed in their order: each stays as it was typed, on columns that stay as they were.
-use Rattle.std.proofs.Common.{◌≡◌, ◌∙◌, sym, ap, subst, refl, ℕ, zero, suc, ◌<◌, true, false, not, ◌==◌, List, [], ◌∷◌, ◌++◌, map, length, set, Option, Some, None, slice_get, arith, length-set, inl, inr}
-use Rattle.std.specs.Prelude.{Ok}
+use Rattle.std.proofs.Common.{◌≡◌, ◌∙◌, sym, ap, subst, refl, ℕ, zero, suc, ◌<◌, ◌≤◌, true, false, not, ◌==◌, List, [], ◌∷◌, ◌++◌, map, length, set, Option, Some, None, slice_get, arith, length-set, inl, inr}
+use Rattle.std.specs.Prelude.{Result, Ok}
 use Rattle.std.specs.List.{cons_option, filter_map, find, list_all}
 use Rattle.std.proofs.lemmas.Bool.Decides.{nat_tests}
 use Rattle.std.proofs.lemmas.List.Folds.{list_any-append}
 use Rattle.sq_value.specs.Lists.{numbers_to}
 use Rattle.sq_value.specs.Values.{Columns}
 use Rattle.sq_graph.specs.declared.Wiring.{Wiring}
-use Rattle.sq_graph.specs.Wires.{Producer, Source, Port, producer_of, inputs_of}
+use Rattle.sq_graph.specs.declared.BoxWires.{BoxWires}
+use Rattle.sq_graph.specs.Wires.{Producer, Source, Port, producer_of, inputs_at, inputs_of}
 use Rattle.sq_graph.specs.Order.{can_be_next, contains_number, is_given, order_after, order_of, then_place}
 use Rattle.sq_graph.proofs.Cycles.{or_cases, or_left, or_right}
 use Rattle.sq_graph.proofs.Finding.{found}
 use Rattle.sq_graph.proofs.Reach.{not_true}
 use Rattle.sq_net.specs.declared.Source as declared
 use Rattle.sq_net.specs.declared.Node.{Node}
+use Rattle.sq_net.specs.declared.NetErr.{NetErr}
 use Rattle.sq_net.specs.Streams.{columns_of_port}
+use Rattle.sq_reader.specs.declared.raw.RawBox.{RawBox}
 use Rattle.sq_reader.specs.declared.raw.Raw.{Raw}
-use Rattle.sq_reader.specs.Columns.{columns_known, columns_taken, node_at, node_known, node_of_box, nodes_from}
-use Rattle.sq_reader.proofs.LimitLemmas.{and_parts}
-use Rattle.sq_reader.proofs.ListLemmas.{get_set, get_set_other}
+use Rattle.sq_reader.specs.Refusals.{Answers}
+use Rattle.sq_reader.specs.Columns.{columns_known, columns_taken, node_at, node_in, node_known, node_of_box, nodes_from}
+use Rattle.sq_reader.proofs.ListLemmas.{and_parts, get_set, get_set_other, given_few}
 use Rattle.sq_reader.proofs.BodyLemmas.{first_step}
+
+-- a box by its number, on what it takes
+pub node_from : (r : Raw) (w : Wiring) (ss : List declared.Source) (nodes : List (Option Node)) (at : ℕ) (b : RawBox) (x : BoxWires) (ins : List Columns) (answer : Result Node NetErr)
+    → slice_get r.boxes at ≡ Some b → slice_get w.boxes at ≡ Some x → ins ≡ columns_taken w ss nodes x.inputs → Answers answer (node_in at b ins) → Answers answer (node_at r w ss nodes at)
+node_from r w ss nodes at b x ins answer here wired same h =
+    let is : node_at r w ss nodes at ≡ node_in at b ins =
+    ap (λ (o : Option RawBox). node_of_box at o (columns_taken w ss nodes (inputs_of w at))) here
+    ∙ (ap (λ (o : Option BoxWires). node_in at b (columns_taken w ss nodes (inputs_at o))) wired ∙ ap (λ (cs : List Columns). node_in at b cs) (sym same)) in
+    subst (λ (said : Result Node NetErr). Answers answer said) (sym is) h
+
+pub nodes_more : (r : Raw) (w : Wiring) (ss : List declared.Source) (nodes : List (Option Node)) (at : ℕ) (ats rest : List ℕ) (node : Node)
+    → node_at r w ss nodes at ≡ Ok node → ats ≡ at ∷ rest → nodes_from r w ss (set nodes at (Some node)) rest ≡ nodes_from r w ss nodes ats
+nodes_more r w ss nodes at ats rest node typed is = rw (is, typed) refl
+
+pub taken_few : (w : Wiring) (ss : List declared.Source) (nodes : List (Option Node)) (inputs : List ℕ) → length (columns_taken w ss nodes inputs) ≤ length inputs
+taken_few w ss nodes inputs = given_few (λ s. columns_known ss nodes (producer_of w s)) inputs
 
 -- each of these boxes can be next after those in front of it
 abbrev pub Follow : Wiring → List ℕ → List ℕ → Type 0

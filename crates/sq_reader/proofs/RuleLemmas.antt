@@ -1,12 +1,15 @@
 -- What each rule that a file keeps says of it.
-use Rattle.std.proofs.Common.{◌≡◌, ◌∙◌, ap, subst, refl, ℕ, suc, ◌+◌, Bool, true, false, ◌&&◌, ◌==◌, List, [], ◌∷◌, ◌++◌, map, length, Option, Some, None, ℤ, pos, negsuc, cond, arith}
+use Rattle.std.proofs.Common.{◌≡◌, ◌∙◌, sym, ap, subst, refl, ℕ, suc, ◌+◌, ◌≤◌, Bool, true, false, not, ◌&&◌, ◌==◌, List, [], ◌∷◌, ◌++◌, map, length, Option, Some, None, ℤ, pos, negsuc, cond, arith}
 use Rattle.std.specs.Prelude.{Ok, codes}
-use Rattle.std.specs.List.{filter_map, list_all, AllByRecursion}
+use Rattle.std.specs.List.{after_first, before_first, filter_map, list_all, list_any, zip, AllByRecursion}
 use Rattle.std.specs.Option.{option_map}
 use Rattle.std.proofs.lemmas.Bool.Decides.{nat_tests}
+use Rattle.std.proofs.lemmas.List.{length-map}
 use Rattle.toml.specs.Data.{Members, get_member, as_str, as_integer}
-use Rattle.sq_value.specs.Lists.{are_distinct}
-use Rattle.sq_value.specs.Values.{Columns}
+use Rattle.sq_value.specs.Lists.{are_distinct, contains_bytes}
+use Rattle.sq_value.specs.Schemas.{schema_error}
+use Rattle.sq_value.specs.Values.{Columns, names_of}
+use Rattle.sq_value.specs.declared.Kind.{Kind}
 use Rattle.sq_graph.specs.declared.BoxWires.{BoxWires}
 use Rattle.sq_net.specs.declared.Source.{Source}
 use Rattle.sq_net.specs.declared.NetErr.{NetErr}
@@ -28,21 +31,18 @@ use Rattle.sq_reader.specs.Rawly.{◌>>=◌, or_broken, raw_in, shaped_from}
 use Rattle.sq_reader.specs.Limits as limits
 use Rattle.sq_reader.specs.Limits.{body_within, box_within, first_failing, has_between, inputs_within, limit_place, top_within}
 use Rattle.sq_reader.specs.Naming.{first_repeat, name_place, place_in_space, space_names, twice_place}
-use Rattle.sq_reader.specs.Sources.{column_in, columns_from, source_of, sources_from}
-use Rattle.sq_reader.specs.Streaming.{box_wires, is_stream, kind_of_body, stream_named, unknown_among, unknown_in_boxes}
+use Rattle.sq_reader.specs.Sources.{column_in, column_with, columns_from, is_colon, kind_named, source_of, sources_from}
+use Rattle.sq_reader.specs.Streaming.{Numbers, box_wires, is_stream, kind_of_body, unknown_among, unknown_in_boxes}
 use Rattle.sq_reader.specs.Columns.{nat_of}
-use Rattle.sq_reader.proofs.LimitLemmas.{and_parts}
-use Rattle.sq_reader.proofs.ListLemmas.{all_given, none_failing, nothing_mapped}
-use Rattle.sq_reader.proofs.DistinctLemmas.{new_distinct, none_repeated}
-use Rattle.sq_reader.proofs.BodyLemmas.{first_step}
+use Rattle.sq_reader.proofs.LimitLemmas.{neither}
+use Rattle.sq_reader.proofs.ListLemmas.{all_given, and_parts, none_failing, nothing_mapped}
+use Rattle.sq_reader.proofs.DistinctLemmas.{IsNew, fresh_name, new_distinct, none_repeated}
+use Rattle.sq_reader.proofs.SchemaLemmas.{schema_none}
+use Rattle.sq_reader.proofs.BodyLemmas.{first_step, names_of_zip}
 
 pub and_both : (a b : Bool) → a ≡ true → b ≡ true → (a && b) ≡ true
 and_both true b h g = g
 and_both false b h g = cc
-
-neither : {A : Type 0} (a b : Option A) → or_else a b ≡ None → (a ≡ None) × (b ≡ None)
-neither None b h = (refl, h)
-neither (Some x) b h = cc
 
 -- ---- shape
 
@@ -136,27 +136,6 @@ numbers_within low high (z ∷ zs) h =
     let parts = and_parts (limits.is_between low high z) (list_all (limits.is_between low high) zs) h in
     and_both (is_between low high (nat_of z)) (list_all (is_between low high) (map nat_of zs)) (number_within low high z parts.0) (numbers_within low high zs parts.1)
 
-pub record IsWithin (r : Raw) : Type 0 where
-  pub top : top_within r ≡ true
-  pub sources : list_all limits.source_within r.sources ≡ true
-  pub boxes : list_all box_within r.boxes ≡ true
-
-pub is_within : (r : Raw) → limit_place r ≡ None → IsWithin r
-is_within r h = by_test (top_within r) refl h
-  where
-    rest : Option Place
-    rest = or_else (option_map (place_of part.Source) (first_failing limits.source_within r.sources)) (option_map (place_of part.Box) (first_failing box_within r.boxes))
-
-    by_test : (b : Bool) → top_within r ≡ b → cond b (or_else (option_map (place_of part.Source) (first_failing limits.source_within r.sources)) (option_map (place_of part.Box) (first_failing box_within r.boxes))) (Some (place_of part.Top 0)) ≡ None → IsWithin r
-    by_test true is e =
-        let parts = neither (option_map (place_of part.Source) (first_failing limits.source_within r.sources)) (option_map (place_of part.Box) (first_failing box_within r.boxes)) e in
-        record {
-          top = is;
-          sources = none_failing limits.source_within r.sources (nothing_mapped (place_of part.Source) (first_failing limits.source_within r.sources) parts.0);
-          boxes = none_failing box_within r.boxes (nothing_mapped (place_of part.Box) (first_failing box_within r.boxes) parts.1);
-        }
-    by_test false is e = cc
-
 columns_length : (n i : ℕ) (before ws : List (List ℕ)) (cs : Columns) → columns_from n i before ws ≡ Ok cs → length cs ≡ length ws
 columns_length n i before [] cs h = let same : [] ≡ cs = cc in rw (← same) refl
 columns_length n i before (w ∷ ws) cs h =
@@ -165,6 +144,42 @@ columns_length n i before (w ∷ ws) cs h =
     let two = first_step (columns_from n (i + 1) (before ++ one.0.0 ∷ []) ws) (λ rest. Ok (one.0 ∷ rest)) cs one.1.1 in
     let same : one.0 ∷ two.0 ≡ cs = (let last = two.1.1 in cc) in
     rw (← same) (ap suc (columns_length n (i + 1) (before ++ one.0.0 ∷ []) ws two.0 two.1.0))
+
+-- the names of columns are none of those in front, and differ
+columns_new : (n i : ℕ) (before ws : List (List ℕ)) (cs : Columns) → columns_from n i before ws ≡ Ok cs → IsNew before (names_of cs)
+columns_new n i before [] cs h = let same : [] ≡ cs = cc in subst (λ (ds : Columns). IsNew before (names_of ds)) same tt
+columns_new n i before (w ∷ ws) cs h =
+    let fault : NetErr = broken.Schema (place_at part.Source n i) in
+    let one = first_step (or_broken fault (column_in before w)) (λ c. columns_from n (i + 1) (before ++ c.0 ∷ []) ws >>= λ rest. Ok (c ∷ rest)) cs h in
+    let two = first_step (columns_from n (i + 1) (before ++ one.0.0 ∷ []) ws) (λ rest. Ok (one.0 ∷ rest)) cs one.1.1 in
+    let same : one.0 ∷ two.0 ≡ cs = (let last = two.1.1 in cc) in
+    let here : contains_bytes one.0.0 before ≡ false = column_new before w one.0 (read_as fault (column_in before w) one.0 one.1.0) in
+    subst (λ (ds : Columns). IsNew before (names_of ds)) same (here, columns_new n (i + 1) (before ++ one.0.0 ∷ []) ws two.0 two.1.0)
+  where
+    by_name : (name : List ℕ) (before : List (List ℕ)) (k : Kind) (b : Bool) (c : List ℕ × Kind) → (is_name name && not (contains_bytes name before)) ≡ b → cond b (Some (name, k)) None ≡ Some c → contains_bytes c.0 before ≡ false
+    by_name name before k true c is e = let same : name ≡ c.0 = cc in subst (λ (v : List ℕ). contains_bytes v before ≡ false) same (fresh_name (is_name name) (contains_bytes name before) is).1
+    by_name name before k false c is e = cc
+
+    by_kind : (name : List ℕ) (before : List (List ℕ)) (o : Option Kind) (c : List ℕ × Kind) → column_with name before o ≡ Some c → contains_bytes c.0 before ≡ false
+    by_kind name before None c e = cc
+    by_kind name before (Some k) c e = by_name name before k (is_name name && not (contains_bytes name before)) c refl e
+
+    by_colon : (before : List (List ℕ)) (w : List ℕ) (b : Bool) (c : List ℕ × Kind) → cond b (column_with (before_first is_colon w) before (kind_named (after_first is_colon w))) None ≡ Some c → contains_bytes c.0 before ≡ false
+    by_colon before w true c e = by_kind (before_first is_colon w) before (kind_named (after_first is_colon w)) c e
+    by_colon before w false c e = cc
+
+    column_new : (before : List (List ℕ)) (w : List ℕ) (c : List ℕ × Kind) → column_in before w ≡ Some c → contains_bytes c.0 before ≡ false
+    column_new before w c e = by_colon before w (list_any is_colon w) c e
+
+-- so the columns that fields are have a schema
+pub fields_schema : (n : ℕ) (fields names : List (List ℕ)) (kinds : List Kind) → 1 ≤ length fields → length fields ≤ 16 → length names ≡ length kinds
+    → columns_from n 0 [] fields ≡ Ok (zip names kinds) → schema_error names kinds ≡ None
+fields_schema n fields names kinds some few even h =
+    let named : names_of (zip names kinds) ≡ names = names_of_zip names kinds even in
+    let count : length (zip names kinds) ≡ length fields = columns_length n 0 [] fields (zip names kinds) h in
+    let long : length names ≡ length fields = ap (λ (ws : List (List ℕ)). length ws) (sym named) ∙ (length-map (zip names kinds) (λ (c : List ℕ × Kind). c.0) ∙ count) in
+    let distinct : are_distinct names ≡ true = ap are_distinct (sym named) ∙ new_distinct [] (names_of (zip names kinds)) (columns_new n 0 [] fields (zip names kinds) h) in
+    schema_none names kinds even (omega (arith, long, some)) (omega (arith, long, few)) distinct
 
 pub sources_within : (n : ℕ) (raws : List RawSource) (ss : List Source) → sources_from n raws ≡ Ok ss → list_all limits.source_within raws ≡ true
     → (list_all source_within ss ≡ true) × (length ss ≡ length raws)
@@ -197,38 +212,38 @@ outputs_distinct r h =
 
 -- ---- streams
 
-pub outputs_known : (names : List (List ℕ)) (r : Raw) → unknown_among names r ≡ None → length (filter_map (λ o. stream_named names o.from) r.outputs) ≡ length r.outputs
-outputs_known names r h =
-    let parts = neither (unknown_in_boxes names 0 r.boxes) (option_map (place_of part.Output) (first_failing (λ o. is_stream names o.from) r.outputs)) h in
-    all_given (λ o. stream_named names o.from) r.outputs (none_failing (λ o. is_stream names o.from) r.outputs (nothing_mapped (place_of part.Output) (first_failing (λ o. is_stream names o.from) r.outputs) parts.1))
+pub outputs_known : (number_of : Numbers) (r : Raw) → unknown_among number_of r ≡ None → length (filter_map (λ o. number_of o.from) r.outputs) ≡ length r.outputs
+outputs_known number_of r h =
+    let parts = neither (unknown_in_boxes number_of 0 r.boxes) (option_map (place_of part.Output) (first_failing (λ o. is_stream number_of o.from) r.outputs)) h in
+    all_given (λ o. number_of o.from) r.outputs (none_failing (λ o. is_stream number_of o.from) r.outputs (nothing_mapped (place_of part.Output) (first_failing (λ o. is_stream number_of o.from) r.outputs) parts.1))
 
-takes_as : (names : List (List ℕ)) (b : RawBox) → length (filter_map (stream_named names) b.ins) ≡ length b.ins → inputs_within b.body b.ins ≡ true
-    → takes_within (box_wires names b).kind (length (box_wires names b).inputs) ≡ true
-takes_as names b long h = by_body b.body h
+takes_as : (number_of : Numbers) (b : RawBox) → length (filter_map (number_of) b.ins) ≡ length b.ins → inputs_within b.body b.ins ≡ true
+    → takes_within (box_wires number_of b).kind (length (box_wires number_of b).inputs) ≡ true
+takes_as number_of b long h = by_body b.body h
   where
     one_only : (k : ℕ) → is_between 1 1 k ≡ true → (k == 1) ≡ true
     one_only k h = grind (arith, nat_tests)
 
-    by_body : (raw : RawBody) → inputs_within raw b.ins ≡ true → takes_within (kind_of_body raw) (length (filter_map (stream_named names) b.ins)) ≡ true
+    by_body : (raw : RawBody) → inputs_within raw b.ins ≡ true → takes_within (kind_of_body raw) (length (filter_map (number_of) b.ins)) ≡ true
     by_body (Filter preds) h = rw long (one_only (length b.ins) h)
     by_body (Map set) h = rw long (one_only (length b.ins) h)
     by_body Union h = rw long h
 
-takes_from : (names : List (List ℕ)) (n : ℕ) (boxes : List RawBox) → unknown_in_boxes names n boxes ≡ None → list_all box_within boxes ≡ true
-    → list_all (λ (w : BoxWires). takes_within w.kind (length w.inputs)) (map (box_wires names) boxes) ≡ true
-takes_from names n [] h w = refl
-takes_from names n (b ∷ bs) h w =
-    let known = neither (option_map (place_at part.Box n) (first_failing (is_stream names) b.ins)) (unknown_in_boxes names (n + 1) bs) h in
-    let long = all_given (stream_named names) b.ins (none_failing (is_stream names) b.ins (nothing_mapped (place_at part.Box n) (first_failing (is_stream names) b.ins) known.0)) in
+takes_from : (number_of : Numbers) (n : ℕ) (boxes : List RawBox) → unknown_in_boxes number_of n boxes ≡ None → list_all box_within boxes ≡ true
+    → list_all (λ (w : BoxWires). takes_within w.kind (length w.inputs)) (map (box_wires number_of) boxes) ≡ true
+takes_from number_of n [] h w = refl
+takes_from number_of n (b ∷ bs) h w =
+    let known = neither (option_map (place_at part.Box n) (first_failing (is_stream number_of) b.ins)) (unknown_in_boxes number_of (n + 1) bs) h in
+    let long = all_given (number_of) b.ins (none_failing (is_stream number_of) b.ins (nothing_mapped (place_at part.Box n) (first_failing (is_stream number_of) b.ins) known.0)) in
     let parts = and_parts (box_within b) (list_all box_within bs) w in
     let front = and_parts (body_within b.body && inputs_within b.body b.ins && limits.is_between 0 1000 b.cost) (list_all (limits.is_between 0 1000000) b.selectivity) parts.0 in
     let middle = and_parts (body_within b.body && inputs_within b.body b.ins) (limits.is_between 0 1000 b.cost) front.0 in
     let ins = and_parts (body_within b.body) (inputs_within b.body b.ins) middle.0 in
-    and_both (takes_within (box_wires names b).kind (length (box_wires names b).inputs)) (list_all (λ (w : BoxWires). takes_within w.kind (length w.inputs)) (map (box_wires names) bs))
-    (takes_as names b long ins.1) (takes_from names (n + 1) bs known.1 parts.1)
+    and_both (takes_within (box_wires number_of b).kind (length (box_wires number_of b).inputs)) (list_all (λ (w : BoxWires). takes_within w.kind (length w.inputs)) (map (box_wires number_of) bs))
+    (takes_as number_of b long ins.1) (takes_from number_of (n + 1) bs known.1 parts.1)
 
-pub takes_all : (names : List (List ℕ)) (r : Raw) → unknown_among names r ≡ None → list_all box_within r.boxes ≡ true
-    → list_all (λ (w : BoxWires). takes_within w.kind (length w.inputs)) (map (box_wires names) r.boxes) ≡ true
-takes_all names r h w =
-    let parts = neither (unknown_in_boxes names 0 r.boxes) (option_map (place_of part.Output) (first_failing (λ o. is_stream names o.from) r.outputs)) h in
-    takes_from names 0 r.boxes parts.0 w
+pub takes_all : (number_of : Numbers) (r : Raw) → unknown_among number_of r ≡ None → list_all box_within r.boxes ≡ true
+    → list_all (λ (w : BoxWires). takes_within w.kind (length w.inputs)) (map (box_wires number_of) r.boxes) ≡ true
+takes_all number_of r h w =
+    let parts = neither (unknown_in_boxes number_of 0 r.boxes) (option_map (place_of part.Output) (first_failing (λ o. is_stream number_of o.from) r.outputs)) h in
+    takes_from number_of 0 r.boxes parts.0 w

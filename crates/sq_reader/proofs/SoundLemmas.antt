@@ -42,16 +42,16 @@ use Rattle.sq_reader.specs.Limits.{box_within, has_between, limit_place}
 use Rattle.sq_reader.specs.Naming.{name_place, twice_place}
 use Rattle.sq_reader.specs.Shapes.{ports_of}
 use Rattle.sq_reader.specs.Streaming as wires
-use Rattle.sq_reader.specs.Streaming.{box_wires, cycle_in, stream_named, stream_names, unknown_among, wiring_by, wiring_of}
+use Rattle.sq_reader.specs.Streaming.{box_wires, cycle_in, stream_named, stream_names, unknown_place, wiring_by, wiring_of}
 use Rattle.sq_reader.specs.Sources.{sources_from}
 use Rattle.sq_reader.specs.Columns.{columns_known, columns_taken, nat_of, no_nodes, node_known, node_of_box, nodes_from}
 use Rattle.sq_reader.specs.Networks.{is_version_one, named_network, network_from, network_of, ordered_network, output_of, single_network, streamed_network, typed_network, unless_at, wired_network}
-use Rattle.sq_reader.proofs.LimitLemmas.{and_parts}
-use Rattle.sq_reader.proofs.ListLemmas.{all_by_place, each_passes, maps_same, nothing_mapped, passes_at}
+use Rattle.sq_reader.proofs.LimitLemmas.{is_within}
+use Rattle.sq_reader.proofs.ListLemmas.{all_by_place, and_parts, each_passes, maps_same, nothing_mapped, passes_at}
 use Rattle.sq_reader.proofs.WiringLemmas.{is_wired, outputs_shown}
 use Rattle.sq_reader.proofs.BodyLemmas.{IsNodeOf, first_step, node_is}
 use Rattle.sq_reader.proofs.NodeLemmas.{AreSettled, IsSettled, all_known, follow_all, settled}
-use Rattle.sq_reader.proofs.RuleLemmas.{IsEven, and_both, is_within, number_within, numbers_within, outputs_distinct, outputs_known, outputs_named, raw_even, sources_within, takes_all}
+use Rattle.sq_reader.proofs.RuleLemmas.{IsEven, and_both, number_within, numbers_within, outputs_distinct, outputs_known, outputs_named, raw_even, sources_within, takes_all}
 
 -- ---- the rules that the file keeps
 
@@ -61,7 +61,7 @@ pub record IsRead (r : Raw) (ss : List declared.Source) (nodes : List (Option No
   pub limit : limit_place r ≡ None
   pub named : name_place r ≡ None
   pub single : twice_place r ≡ None
-  pub known : unknown_among (stream_names r) r ≡ None
+  pub known : unknown_place r ≡ None
   pub acyclic : cycle_in (wiring_of r) ≡ None
   pub given : sources_from 0 r.sources ≡ Ok ss
   pub typed : nodes_from r (wiring_of r) ss (no_nodes (length r.boxes)) (order_of (wiring_of r)) ≡ Ok nodes
@@ -89,8 +89,8 @@ read_as ms n h =
     let shaped = first_step (raw_in ms) typed_network n built.1 in
     let limited = none_broken broken.Limit (limit_place shaped.0) (named_network shaped.0) n shaped.1.1 in
     let named = none_broken broken.NoName (name_place shaped.0) (single_network shaped.0) n limited.1 in
-    let single = none_broken broken.Twice (twice_place shaped.0) (streamed_network shaped.0 (stream_names shaped.0)) n named.1 in
-    let known = none_broken broken.Unknown (unknown_among (stream_names shaped.0) shaped.0) (wired_network shaped.0 (wiring_of shaped.0)) n single.1 in
+    let single = none_broken broken.Twice (twice_place shaped.0) (streamed_network shaped.0 (stream_named (stream_names shaped.0))) n named.1 in
+    let known = none_broken broken.Unknown (unknown_place shaped.0) (wired_network shaped.0 (wiring_of shaped.0)) n single.1 in
     let acyclic = none_broken broken.Cycle (cycle_in (wiring_of shaped.0)) (ordered_network shaped.0 (wiring_of shaped.0)) n known.1 in
     let sources = first_step (sources_from 0 shaped.0.sources) (λ ss.
     nodes_from shaped.0 (wiring_of shaped.0) ss (no_nodes (length shaped.0.boxes)) (order_of (wiring_of shaped.0)) >>= λ nodes.
@@ -139,7 +139,7 @@ pub record AreBoxes (r : Raw) (ss : List declared.Source) (nodes : List (Option 
 pub are_boxes : (r : Raw) (ss : List declared.Source) (nodes : List (Option Node)) → IsRead r ss nodes → AreBoxes r ss nodes (filter_map (λ o. o) nodes)
 are_boxes r ss nodes read =
     let w : Wiring = wiring_of r in
-    let boxes : length w.boxes ≡ length r.boxes = length-map r.boxes (box_wires (stream_names r)) in
+    let boxes : length w.boxes ≡ length r.boxes = length-map r.boxes (box_wires (stream_named (stream_names r))) in
     let start : length (no_nodes (length r.boxes)) ≡ length w.boxes = length-replicate (length r.boxes) (none_yet r) ∙ sym boxes in
     let all : AreSettled r w ss [] (no_nodes (length r.boxes)) (order_of w) nodes = settled r w ss [] (no_nodes (length r.boxes)) (order_of w) nodes (follow_all w) start read.typed in
     let long : length nodes ≡ length w.boxes = all.count ∙ start in
@@ -245,7 +245,7 @@ all_within r ss nodes read =
     let fit : list_all node_within (filter_map (λ o. o) nodes) ≡ true = all_by_place node_within (filter_map (λ o. o) nodes) (λ at node e.
     (let box = box_at r ss nodes boxes at node e in
     node_fits box.raw (input_columns (network_of r (wiring_of r) ss nodes) at) node box.is (passes_at box_within r.boxes at box.raw w.boxes box.there))) in
-    let takes = takes_all (stream_names r) r read.known w.boxes in
+    let takes = takes_all (stream_named (stream_names r)) r read.known w.boxes in
     and_both _ _ (and_both _ _ (and_both _ _ (and_both _ _ (and_both _ _ (and_both _ _ (and_both _ _ (and_both _ _ sources count) outputs) epoch) batch) given.0) fit) (outputs_fit r.outputs)) takes
 
 evens : (bs : List RawBox) → AllByRecursion IsEven bs → map (λ b. length b.selectivity) bs ≡ map (λ b. ports_of b.body) bs
@@ -267,10 +267,10 @@ all_agree r ss nodes read =
     alike (λ b. length b.selectivity) (λ b. length b.selectivity) r ss nodes boxes (λ raw ins b is. sym (ap (λ (ks : List ℕ). length ks) is.selectivity ∙ length-map raw.selectivity nat_of)) in
     record {
       sources = sym given.1;
-      kinds = map_twice (λ (b : BoxWires). b.kind) (box_wires names) r.boxes ∙ alike (λ b. wires.kind_of_body b.body) (λ b. kind_of_body b.body) r ss nodes boxes (λ raw ins b is. is.body.kind);
-      ports = map_twice (λ (b : BoxWires). b.ports) (box_wires names) r.boxes ∙ ports;
+      kinds = map_twice (λ (b : BoxWires). b.kind) (box_wires (stream_named names)) r.boxes ∙ alike (λ b. wires.kind_of_body b.body) (λ b. kind_of_body b.body) r ss nodes boxes (λ raw ins b is. is.body.kind);
+      ports = map_twice (λ (b : BoxWires). b.ports) (box_wires (stream_named names)) r.boxes ∙ ports;
       tolls = sym tolls ∙ (evens r.boxes read.even ∙ ports);
-      outputs = outputs_known names r read.known ∙ sym (length-map r.outputs output_of);
+      outputs = outputs_known (stream_named names) r read.known ∙ sym (length-map r.outputs output_of);
       wired = is_wired names r refl;
       shown = outputs_shown names r refl;
     }

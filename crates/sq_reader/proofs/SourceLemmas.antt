@@ -1,7 +1,8 @@
 -- One field, and one source, more.
-use Rattle.std.proofs.Common.{◌≡◌, ◌∙◌, ap, sym, refl, ℕ, ◌+◌, ◌<◌, List, [], ◌∷◌, ◌++◌, length, drop, get_or, Some}
+use Rattle.std.proofs.Common.{◌≡◌, ◌∙◌, ap, sym, refl, ℕ, ◌+◌, ◌<◌, ◌≤◌, List, [], ◌∷◌, ◌++◌, length, drop, get_or, Some, append-nil}
 use Rattle.std.specs.Prelude.{Ok}
 use Rattle.std.specs.List.{zip}
+use Rattle.std.proofs.lemmas.List.{drop_all}
 use Rattle.sq_value.specs.Values.{Columns}
 use Rattle.sq_value.specs.declared.Kind.{Kind}
 use Rattle.sq_net.specs.declared.Source.{Source}
@@ -16,6 +17,10 @@ columns_more n i before kinds fields w name k low is even e =
     ap (λ cs. joined cs (columns_from n (i + 1) (before ++ name ∷ []) (drop (i + 1) fields))) (zip-push before kinds name k even)
     ∙ (sym (joined-cons (zip before kinds) (name, k) (columns_from n (i + 1) (before ++ name ∷ []) (drop (i + 1) fields)))
     ∙ rw (drop-at fields i w low is, e) refl)
+
+pub columns_done : (n i : ℕ) (names : List (List ℕ)) (kinds : List Kind) (fields : List (List ℕ)) → length fields ≤ i
+    → joined (zip names kinds) (columns_from n i names (drop i fields)) ≡ columns_from n 0 [] fields → columns_from n 0 [] fields ≡ Ok (zip names kinds)
+columns_done n i names kinds fields all h = sym h ∙ rw (drop_all i fields all) (ap (λ (cs : Columns). Ok cs) (append-nil (zip names kinds)))
 
 pub sources_more : (i : ℕ) (front : List Source) (ss : List RawSource) (s : RawSource) (cs : Columns)
     → i < length ss → s ≡ get_or ss i s → columns_from i 0 [] s.fields ≡ Ok cs

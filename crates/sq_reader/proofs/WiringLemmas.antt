@@ -1,10 +1,12 @@
 -- Each stream that is named is there.
-use Rattle.std.proofs.Common.{◌≡◌, ◌∙◌, sym, ap, refl, ℕ, ◌+◌, ◌<◌, true, List, [], ◌∷◌, map, length, Option, Some, None, arith, length-append}
-use Rattle.std.specs.List.{All, AllByRecursion, cons_option, filter_map, flat_map, enumerate_from}
+use Rattle.std.proofs.Common.{◌≡◌, ◌∙◌, sym, ap, subst, refl, ℕ, ◌+◌, ◌*◌, ◌<◌, ◌≤◌, ◌^◌, true, List, [], ◌∷◌, map, length, Option, Some, None, slice_get, get_or, arith, length-append}
+use Rattle.std.specs.List.{All, AllByRecursion, cons_option, filter_map, flat_map, list_all, enumerate_from}
+use Rattle.std.proofs.lemmas.List.{length-map}
 use Rattle.std.proofs.lemmas.List.Elements.{All-from_recursion}
 use Rattle.std.proofs.lemmas.List.FromFn.{length-map-range_with_len}
 use Rattle.std.proofs.lemmas.List.Quantifiers.{position-Some}
-use Rattle.std.proofs.lemmas.Option.{slice_get-get_or}
+use Rattle.std.specs.Option.{option_map}
+use Rattle.std.proofs.lemmas.Option.{slice_get-get_or, slice_get-map}
 use Rattle.sq_value.specs.Lists.{same_bytes, numbers_to}
 use Rattle.sq_graph.specs.declared.BoxWires.{BoxWires}
 use Rattle.sq_graph.specs.declared.Wiring.{Wiring}
@@ -16,7 +18,10 @@ use Rattle.sq_reader.specs.declared.raw.RawBox.{RawBox}
 use Rattle.sq_reader.specs.declared.raw.RawSource.{RawSource}
 use Rattle.sq_reader.specs.declared.raw.Raw.{Raw}
 use Rattle.sq_reader.specs.Shapes.{ports_of}
-use Rattle.sq_reader.specs.Streaming.{box_wires, port_name, port_names, stream_named, stream_names, wiring_by}
+use Rattle.sq_reader.specs.Limits.{box_within, limit_place}
+use Rattle.sq_reader.specs.Streaming.{box_wires, port_name, port_names, stream_named, stream_names, wiring_by, wiring_of}
+use Rattle.sq_reader.proofs.LimitLemmas.{box_of, counts_of, ports_few}
+use Rattle.sq_reader.proofs.ListLemmas.{and_parts, given_few, item_there, passes_at}
 
 named_low : (names : List (List ℕ)) (w : List ℕ) (s : ℕ) → stream_named names w ≡ Some s → s < length names
 named_low [] w s e = cc
@@ -45,11 +50,11 @@ body_length name (Map set) = refl
 body_length name Union = refl
 
 ports_length : (names : List (List ℕ)) (k : ℕ) (bs : List RawBox)
-    → length (flat_map (λ b. map (Port b.0) (numbers_to (b.1).ports)) (enumerate_from k (map (box_wires names) bs))) ≡ length (flat_map (λ b. port_names b.name b.body) bs)
+    → length (flat_map (λ b. map (Port b.0) (numbers_to (b.1).ports)) (enumerate_from k (map (box_wires (stream_named names)) bs))) ≡ length (flat_map (λ b. port_names b.name b.body) bs)
 ports_length names k [] = refl
 ports_length names k (b ∷ bs) =
     let more = ports_length names (k + 1) bs in
-    length-append (map (Port k) (numbers_to (ports_of b.body))) (flat_map (λ b. map (Port b.0) (numbers_to (b.1).ports)) (enumerate_from (k + 1) (map (box_wires names) bs)))
+    length-append (map (Port k) (numbers_to (ports_of b.body))) (flat_map (λ b. map (Port b.0) (numbers_to (b.1).ports)) (enumerate_from (k + 1) (map (box_wires (stream_named names)) bs)))
     ∙ (rw (length-map-range_with_len (Port k) 0 (ports_of b.body), more, ← body_length b.name b.body) refl
     ∙ sym (length-append (port_names b.name b.body) (flat_map (λ b. port_names b.name b.body) bs)))
 
@@ -57,30 +62,75 @@ sources_length : (ss : List RawSource) → length (map (λ (s : RawSource). s.na
 sources_length [] = refl
 sources_length (s ∷ ss) = let more = sources_length ss in omega arith
 
-producers_length : (names : List (List ℕ)) (r : Raw) → length (producers_of (wiring_by names r)) ≡ length (stream_names r)
+producers_length : (names : List (List ℕ)) (r : Raw) → length (producers_of (wiring_by (stream_named names) r)) ≡ length (stream_names r)
 producers_length names r =
-    length-append (map Source (numbers_to (length r.sources))) (flat_map (λ b. map (Port b.0) (numbers_to (b.1).ports)) (enumerate_from 0 (map (box_wires names) r.boxes)))
+    length-append (map Source (numbers_to (length r.sources))) (flat_map (λ b. map (Port b.0) (numbers_to (b.1).ports)) (enumerate_from 0 (map (box_wires (stream_named names)) r.boxes)))
     ∙ (rw (length-map-range_with_len Source 0 (length r.sources), ports_length names 0 r.boxes, ← sources_length r.sources) refl
     ∙ sym (length-append (map (λ (s : RawSource). s.name) r.sources) (flat_map (λ b. port_names b.name b.body) r.boxes)))
 
 wired_boxes : (w : Wiring) (names : List (List ℕ)) (bs : List RawBox) → length names ≡ length (producers_of w)
-    → AllByRecursion (λ (b : BoxWires). All (λ s. is_there (producer_of w s) ≡ true) b.inputs) (map (box_wires names) bs)
+    → AllByRecursion (λ (b : BoxWires). All (λ s. is_there (producer_of w s) ≡ true) b.inputs) (map (box_wires (stream_named names)) bs)
 wired_boxes w names [] e = tt
 wired_boxes w names (b ∷ bs) e = (
   All-from_recursion (λ s. is_there (producer_of w s) ≡ true) (filter_map (stream_named names) b.ins) (there_all w (length names) (filter_map (stream_named names) b.ins) e (low_all names (λ w. w) b.ins)),
   wired_boxes w names bs e,
 )
 
-names_count : (names : List (List ℕ)) (r : Raw) → names ≡ stream_names r → length names ≡ length (producers_of (wiring_by names r))
+names_count : (names : List (List ℕ)) (r : Raw) → names ≡ stream_names r → length names ≡ length (producers_of (wiring_by (stream_named names) r))
 names_count names r same = ap length same ∙ sym (producers_length names r)
 
-pub is_wired : (names : List (List ℕ)) (r : Raw) → names ≡ stream_names r → IsWired (wiring_by names r)
+pub is_wired : (names : List (List ℕ)) (r : Raw) → names ≡ stream_names r → IsWired (wiring_by (stream_named names) r)
 is_wired names r same =
-    All-from_recursion (λ (b : BoxWires). All (λ s. is_there (producer_of (wiring_by names r) s) ≡ true) b.inputs) (map (box_wires names) r.boxes)
-    (wired_boxes (wiring_by names r) names r.boxes (names_count names r same))
+    All-from_recursion (λ (b : BoxWires). All (λ s. is_there (producer_of (wiring_by (stream_named names) r) s) ≡ true) b.inputs) (map (box_wires (stream_named names)) r.boxes)
+    (wired_boxes (wiring_by (stream_named names) r) names r.boxes (names_count names r same))
 
 pub outputs_shown : (names : List (List ℕ)) (r : Raw) → names ≡ stream_names r
-    → All (λ s. is_there (producer_of (wiring_by names r) s) ≡ true) (filter_map (λ o. stream_named names o.from) r.outputs)
+    → All (λ s. is_there (producer_of (wiring_by (stream_named names) r) s) ≡ true) (filter_map (λ o. stream_named names o.from) r.outputs)
 outputs_shown names r same =
-    All-from_recursion (λ s. is_there (producer_of (wiring_by names r) s) ≡ true) (filter_map (λ o. stream_named names o.from) r.outputs)
-    (there_all (wiring_by names r) (length names) (filter_map (λ o. stream_named names o.from) r.outputs) (names_count names r same) (low_all names (λ o. o.from) r.outputs))
+    All-from_recursion (λ s. is_there (producer_of (wiring_by (stream_named names) r) s) ≡ true) (filter_map (λ o. stream_named names o.from) r.outputs)
+    (there_all (wiring_by (stream_named names) r) (length names) (filter_map (λ o. stream_named names o.from) r.outputs) (names_count names r same) (low_all names (λ o. o.from) r.outputs))
+
+-- ---- the streams and the boxes are few
+
+ports_each : (bs : List RawBox) → list_all box_within bs ≡ true → length (flat_map (λ b. port_names b.name b.body) bs) ≤ 16 * length bs
+ports_each [] h = omega arith
+ports_each (b ∷ bs) h =
+    let parts = and_parts (box_within b) (list_all box_within bs) h in
+    let here = ports_few b.body (box_of b parts.0).body in
+    let more = ports_each bs parts.1 in
+    let own = body_length b.name b.body in
+    let both = length-append (port_names b.name b.body) (flat_map (λ b. port_names b.name b.body) bs) in
+    omega (arith, here, more, own, both)
+
+pub streams_few : (r : Raw) → limit_place r ≡ None → length (stream_names r) < 2 ^ 32
+streams_few r h =
+    let counts = counts_of r h in
+    let ports = ports_each r.boxes counts.each_box in
+    let sources = sources_length r.sources in
+    let both = length-append (map (λ (s : RawSource). s.name) r.sources) (flat_map (λ b. port_names b.name b.body) r.boxes) in
+    let few = counts.sources in
+    let low = counts.boxes in
+    omega (arith, ports, sources, both, few, low)
+
+-- as many wired boxes as boxes
+pub wired_length : (r : Raw) → length (wiring_of r).boxes ≡ length r.boxes
+wired_length r = length-map r.boxes (box_wires (stream_named (stream_names r)))
+
+pub wired_few : (r : Raw) → limit_place r ≡ None → length (wiring_of r).boxes < 2 ^ 32
+wired_few r h = let low = (counts_of r h).boxes in let same = wired_length r in omega (arith, low, same)
+
+-- what is wired as a box
+pub wired_at : (r : Raw) (at : ℕ) (b : RawBox) → slice_get r.boxes at ≡ Some b → slice_get (wiring_of r).boxes at ≡ Some (box_wires (stream_named (stream_names r)) b)
+wired_at r at b there = slice_get-map (box_wires (stream_named (stream_names r))) r.boxes at ∙ ap (λ (o : Option RawBox). option_map (box_wires (stream_named (stream_names r))) o) there
+
+pub inputs_few : (r : Raw) (at : ℕ) (b : RawBox) (x : BoxWires) → limit_place r ≡ None → slice_get r.boxes at ≡ Some b → slice_get (wiring_of r).boxes at ≡ Some x → length x.inputs ≤ 8
+inputs_few r at b x h there wired =
+    let few = (box_of b (passes_at box_within r.boxes at b (counts_of r h).each_box there)).few in
+    let given = given_few (stream_named (stream_names r)) b.ins in
+    let same : box_wires (stream_named (stream_names r)) b ≡ x = (let is = wired_at r at b there in cc) in
+    subst (λ (y : BoxWires). length y.inputs ≤ 8) same (omega (arith, few, given))
+
+pub wired_there : (r : Raw) (w : Wiring) (at : ℕ) (x : BoxWires) → w ≡ wiring_of r → at < length r.boxes → x ≡ get_or w.boxes at x → slice_get w.boxes at ≡ Some x
+wired_there r w at x same low is =
+    let count : length w.boxes ≡ length r.boxes = ap (λ (v : Wiring). length v.boxes) same ∙ wired_length r in
+    item_there w.boxes at x (omega (arith, count, low)) is

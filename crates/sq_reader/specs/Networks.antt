@@ -21,7 +21,7 @@ use Rattle.sq_reader.specs.Rawly.{◌>>=◌, or_broken, raw_in}
 use Rattle.sq_reader.specs.Unbuilt.{unbuilt_place}
 use Rattle.sq_reader.specs.Limits.{limit_place}
 use Rattle.sq_reader.specs.Naming.{name_place, twice_place}
-use Rattle.sq_reader.specs.Streaming.{cycle_in, stream_names, unknown_among, wiring_by}
+use Rattle.sq_reader.specs.Streaming.{Numbers, cycle_in, stream_named, stream_names, unknown_among, wiring_by}
 use Rattle.sq_reader.specs.Sources.{sources_from}
 use Rattle.sq_reader.specs.Columns.{nat_of, no_nodes, nodes_from}
 
@@ -65,11 +65,11 @@ ordered_network r w =
 abbrev pub wired_network : Raw → Wiring → Result Network NetErr
 wired_network r w = unless_at broken.Cycle (cycle_in w) (ordered_network r w)
 
-abbrev pub streamed_network : Raw → List (List ℕ) → Result Network NetErr
-streamed_network r names = unless_at broken.Unknown (unknown_among names r) (wired_network r (wiring_by names r))
+abbrev pub streamed_network : Raw → Numbers → Result Network NetErr
+streamed_network r number_of = unless_at broken.Unknown (unknown_among number_of r) (wired_network r (wiring_by number_of r))
 
 abbrev pub single_network : Raw → Result Network NetErr
-single_network r = unless_at broken.Twice (twice_place r) (streamed_network r (stream_names r))
+single_network r = unless_at broken.Twice (twice_place r) (streamed_network r (stream_named (stream_names r)))
 
 abbrev pub named_network : Raw → Result Network NetErr
 named_network r = unless_at broken.NoName (name_place r) (single_network r)

@@ -1,7 +1,10 @@
 -- The streams by name and number, and the wiring.
-use Rattle.std.specs.Prelude.{ℕ, ◌+◌, Bool, is_some, List, [], ◌∷◌, ◌++◌, map, length, position, Option, None, option_map}
+use Rattle.std.specs.Prelude.{ℕ, ◌+◌, Bool, is_some, if◌then◌else◌, List, [], ◌∷◌, ◌++◌, map, length, position, Option, Some, None, option_map}
 use Rattle.std.specs.List.{flat_map, filter_map, find}
+use Rattle.std.specs.Borrow.{Bor}
 use Rattle.std.specs.Fmt.{decimal}
+use Rattle.std.specs.Map.{lookup}
+use Rattle.std.specs.Str.{bytes_eq}
 use Rattle.sq_value.specs.Lists.{same_bytes, numbers_to}
 use Rattle.sq_graph.specs.declared.BoxKind.{BoxKind}
 use Rattle.sq_graph.specs.declared.BoxKind.TheVariants as boxes
@@ -36,40 +39,52 @@ stream_names r = map (λ s. s.name) r.sources ++ flat_map (λ b. port_names b.na
 abbrev pub stream_named : List (List ℕ) → List ℕ → Option ℕ
 stream_named names w = position (same_bytes w) names
 
-abbrev pub is_stream : List (List ℕ) → List ℕ → Bool
-is_stream names w = is_some (stream_named names w)
+-- a way to number texts; what follows goes by any
+abbrev pub Numbers : Type 0
+Numbers = List ℕ → Option ℕ
 
-abbrev pub unknown_in_boxes : List (List ℕ) → ℕ → List RawBox → Option Place
-unknown_in_boxes names n [] = None
-unknown_in_boxes names n (b ∷ bs) =
-    or_else (option_map (place_at part.Box n) (first_failing (is_stream names) b.ins)) (unknown_in_boxes names (n + 1) bs)
+-- the number that a table has at a text
+abbrev pub number_in : List (Bor (List ℕ) × ℕ) → Numbers
+number_in es w = lookup (λ k. bytes_eq w k.now) es
+
+-- the numbers once a text has this one, where it had none
+abbrev pub also_numbered : Numbers → List ℕ → ℕ → Numbers
+also_numbered number_of x n w = or_else (number_of w) (if same_bytes w x then Some n else None)
+
+abbrev pub is_stream : Numbers → List ℕ → Bool
+is_stream number_of w = is_some (number_of w)
+
+abbrev pub unknown_in_boxes : Numbers → ℕ → List RawBox → Option Place
+unknown_in_boxes number_of n [] = None
+unknown_in_boxes number_of n (b ∷ bs) =
+    or_else (option_map (place_at part.Box n) (first_failing (is_stream number_of) b.ins)) (unknown_in_boxes number_of (n + 1) bs)
 
 -- the first name that is no stream's
-abbrev pub unknown_among : List (List ℕ) → Raw → Option Place
-unknown_among names r = or_else
-    (unknown_in_boxes names 0 r.boxes)
-    (option_map (place_of part.Output) (first_failing (λ o. is_stream names o.from) r.outputs))
+abbrev pub unknown_among : Numbers → Raw → Option Place
+unknown_among number_of r = or_else
+    (unknown_in_boxes number_of 0 r.boxes)
+    (option_map (place_of part.Output) (first_failing (λ o. is_stream number_of o.from) r.outputs))
 
 abbrev pub unknown_place : Raw → Option Place
-unknown_place r = unknown_among (stream_names r) r
+unknown_place r = unknown_among (stream_named (stream_names r)) r
 
 abbrev pub kind_of_body : RawBody → BoxKind
 kind_of_body (Filter preds) = boxes.Filter
 kind_of_body (Map set) = boxes.Map
 kind_of_body Union = boxes.Union
 
-abbrev pub box_wires : List (List ℕ) → RawBox → BoxWires
-box_wires names b = record { kind = kind_of_body b.body; inputs = filter_map (stream_named names) b.ins; ports = ports_of b.body }
+abbrev pub box_wires : Numbers → RawBox → BoxWires
+box_wires number_of b = record { kind = kind_of_body b.body; inputs = filter_map number_of b.ins; ports = ports_of b.body }
 
-abbrev pub wiring_by : List (List ℕ) → Raw → Wiring
-wiring_by names r = record {
+abbrev pub wiring_by : Numbers → Raw → Wiring
+wiring_by number_of r = record {
   sources = length r.sources;
-  boxes = map (box_wires names) r.boxes;
-  outputs = filter_map (λ o. stream_named names o.from) r.outputs;
+  boxes = map (box_wires number_of) r.boxes;
+  outputs = filter_map (λ o. number_of o.from) r.outputs;
 }
 
 abbrev pub wiring_of : Raw → Wiring
-wiring_of r = wiring_by (stream_names r) r
+wiring_of r = wiring_by (stream_named (stream_names r)) r
 
 -- the least box on a cycle
 abbrev pub cycle_in : Wiring → Option Place

@@ -1,13 +1,13 @@
 // The boxes by the columns of what they take.
-ghost use Rattle.std.specs.Prelude.{◌≡◌, ◌+◌, ◌<◌, ◌^◌, ◌++◌, [], ◌∷◌, false, Some, Ok, Err, IfOk, IfErr, length, map, option_map, replicate};
-ghost use Rattle.std.specs.List.{filter_map, zip};
+ghost use Rattle.std.specs.Prelude.{◌≡◌, ◌<◌, ◌^◌, true, false, Ok, Err, IfOk, IfErr, IfSome, length, option_map, replicate};
+ghost use Rattle.std.specs.List.{list_all};
 ghost use Rattle.sq_expr.specs.Kinds.{same_kind};
 ghost use Rattle.sq_graph.specs.Wires.{producer_of};
 ghost use Rattle.sq_net.specs.declared.NetErr.TheVariants as broken;
 ghost use Rattle.sq_net.specs.declared.Part.TheVariants as part;
 ghost use Rattle.sq_reader.specs.Columns.{bad_name, columns_known, columns_taken, kinds_set, nat_of, same_columns, same_kinds, same_names, set_names, set_texts};
 ghost use Rattle.sq_reader.specs.Expressions.{may_be_predicate, may_be_set, typed_from, typed_in};
-ghost use Rattle.sq_reader.specs.Limits.{first_failing};
+ghost use Rattle.sq_reader.specs.Limits.{first_failing, is_expression_long};
 ghost use Rattle.sq_reader.specs.Places.{place_at};
 ghost use Rattle.sq_reader.specs.Refusals.{Answers, is_memory};
 
@@ -68,13 +68,15 @@ fn same_columns(a: &Schema, b: &Schema) -> bool
 }
 
 pub(crate) fn unlike(ins: &[Schema], first: &Schema) -> Option<usize>
-    ensures { result ≡ first_failing (λ ds. same_columns ds first.now) ins.now }
+    ensures first { result ≡ first_failing (λ ds. same_columns ds first.now) ins.now }
+    ensures within { IfSome result (λ i. i < length ins.now) }
 {
     ins.iter().position(|schema| !same_columns(schema, first))
 }
 
 pub(crate) fn bad_name(alloc: Global, names: &[Name]) -> Result<Option<usize>, AllocError>
-    ensures { IfOk result (λ o. o ≡ bad_name names.now) }
+    ensures first { IfOk result (λ o. o ≡ bad_name names.now) }
+    ensures within { IfOk result (λ o. IfSome o (λ i. i < length names.now)) }
 {
     let mut before = Vec::new(alloc);
     for (item, name) in names.iter().enumerate() {
@@ -118,6 +120,8 @@ fn predicates(
     asts: &[Ast],
     scope: &Schema,
 ) -> Result<Vec<Typed>, NetErr>
+    requires number { number < 2 ^ 32 }
+    requires few { length asts.now < 2 ^ 32 }
     ensures ok { IfOk result (λ v. typed_from number 0 may_be_predicate scope.now asts.now ≡ Ok v.items) }
     ensures err { IfErr result (λ e. is_memory e ≡ false → typed_from number 0 may_be_predicate scope.now asts.now ≡ Err e) }
 {
@@ -132,6 +136,8 @@ fn predicates(
 }
 
 fn values(alloc: Global, number: usize, asts: &[Ast], scope: &Schema) -> Result<Vec<Typed>, NetErr>
+    requires number { number < 2 ^ 32 }
+    requires few { length asts.now < 2 ^ 32 }
     ensures ok { IfOk result (λ v. typed_from number 0 may_be_set scope.now asts.now ≡ Ok v.items) }
     ensures err { IfErr result (λ e. is_memory e ≡ false → typed_from number 0 may_be_set scope.now asts.now ≡ Err e) }
 {
@@ -145,12 +151,16 @@ fn values(alloc: Global, number: usize, asts: &[Ast], scope: &Schema) -> Result<
     Ok(typed)
 }
 
+#[tactic(auto, using(crate::proofs::BodyLemmas::parsed_length))]
 pub(crate) fn predicates_in(
     alloc: Global,
     number: usize,
     texts: &[Name],
     scope: &Schema,
 ) -> Result<Vec<Typed>, NetErr>
+    requires number { number < 2 ^ 32 }
+    requires few { length texts.now < 2 ^ 32 }
+    requires long { list_all is_expression_long texts.now ≡ true }
     ensures ok { IfOk result (λ v. typed_in number may_be_predicate scope.now texts.now ≡ Ok v.items) }
     ensures err { IfErr result (λ e. is_memory e ≡ false → typed_in number may_be_predicate scope.now texts.now ≡ Err e) }
 {
@@ -158,12 +168,16 @@ pub(crate) fn predicates_in(
     predicates(alloc, number, &asts, scope)
 }
 
+#[tactic(auto, using(crate::proofs::BodyLemmas::parsed_length))]
 pub(crate) fn values_in(
     alloc: Global,
     number: usize,
     texts: &[Name],
     scope: &Schema,
 ) -> Result<Vec<Typed>, NetErr>
+    requires number { number < 2 ^ 32 }
+    requires few { length texts.now < 2 ^ 32 }
+    requires long { list_all is_expression_long texts.now ≡ true }
     ensures ok { IfOk result (λ v. typed_in number may_be_set scope.now texts.now ≡ Ok v.items) }
     ensures err { IfErr result (λ e. is_memory e ≡ false → typed_in number may_be_set scope.now texts.now ≡ Err e) }
 {

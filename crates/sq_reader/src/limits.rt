@@ -9,16 +9,25 @@ use crate::raw::{Raw, RawBody, RawBox, RawSource, Setting};
 use sq_net::{Part, Place};
 use sq_value::Name;
 
+/// An item of a list of a part.
+pub(crate) fn place_at(part: Part, number: usize, item: usize) -> Place
+    requires number { number < 2 ^ 32 }
+    requires item { item < 2 ^ 32 }
+    ensures { result ≡ place_at part number item }
+{
+    Place {
+        part,
+        number: number as u32,
+        item: item as u32,
+    }
+}
+
 /// The place of a part as a whole.
 pub(crate) fn whole(part: Part, number: usize) -> Place
     requires { number < 2 ^ 32 }
     ensures { result ≡ place_of part number }
 {
-    Place {
-        part,
-        number: number as u32,
-        item: 0,
-    }
+    place_at(part, number, 0)
 }
 
 fn is_between(number: i64, low: u32, high: u64) -> bool

@@ -1,25 +1,26 @@
 // The rules on a whole file, one after another, and the network.
-ghost use Rattle.std.specs.Prelude.{◌≡◌, ◌<◌, ◌≤◌, ◌^◌, ◌∷◌, [], ℕ, false, Ok, Err, Some, None, IfOk, IfErr, OnOk, length, map};
-ghost use Rattle.std.specs.List.{filter_map, find};
-ghost use Rattle.sq_value.specs.Lists.{numbers_to};
-ghost use Rattle.sq_graph.specs.Order.{is_on_cycle, order_of, IsWired};
+ghost use Rattle.std.specs.Prelude.{◌≡◌, ◌<◌, ◌^◌, ℕ, false, Some, None, IfOk, IfErr, OnOk, length, map};
+ghost use Rattle.std.specs.List.{filter_map};
+ghost use Rattle.sq_graph.specs.Order.{order_of, IsWired};
 ghost use Rattle.sq_net.specs.declared.NetErr.TheVariants as broken;
 ghost use Rattle.sq_net.specs.declared.Part.TheVariants as part;
+ghost use Rattle.sq_reader.specs.Limits.{limit_place};
 ghost use Rattle.sq_reader.specs.Networks.{even_graph, named_network, ordered_network, output_of, single_network, streamed_network, typed_network, wired_network};
 ghost use Rattle.sq_reader.specs.Places.{place_of};
 ghost use Rattle.sq_reader.specs.Refusals.{Answers, is_memory};
-ghost use Rattle.sq_reader.specs.Streaming.{cycle_in, stream_names, wiring_by};
+ghost use Rattle.sq_reader.specs.Streaming.{cycle_in, number_in, stream_named, stream_names, unknown_place, wiring_of};
 
 use crate::limits::limit_place;
 use crate::names::{name_place, twice_place};
 use crate::nodes::{natural, nodes_in};
 use crate::raw::{Raw, RawOutput};
 use crate::sources::sources_in;
-use crate::streams::{stream_names, unknown_place, wiring};
+use crate::streams::{numbers_of, stream_names, unknown_place, wiring};
+use indexmap::IndexMap;
 use sq_graph::{OrderErr, Wiring, order};
 use sq_net::{NetErr, Network, Node, Output, Part, Place};
 use sq_qos::Graph;
-use sq_value::{ListOf, Name, copy_name};
+use sq_value::{ListOf, copy_name};
 use std::alloc::{AllocError, Global};
 
 fn known(alloc: Global, nodes: Vec<Option<Node>>) -> Result<Vec<Node>, AllocError>
@@ -34,7 +35,7 @@ fn even_graph(alloc: Global) -> Result<Graph, AllocError>
     let points = Vec::from_slice(alloc, &[(0, 0), (1000, 1_000_000)])?;
     match Graph::new(points) {
         Ok(graph) => Ok(graph),
-        Err(_) => Err(AllocError),
+        Err(_) => unreachable!(),
     }
 }
 
@@ -79,13 +80,16 @@ fn order_in(alloc: Global, w: &Wiring) -> Result<Vec<u32>, NetErr>
     }
 }
 
+#[tactic(auto, using(crate::proofs::LimitLemmas::counts_of))]
 fn ordered_network(
     alloc: Global,
     raw: &Raw,
     wires: Wiring,
     order: &[u32],
 ) -> Result<Network, NetErr>
-    requires few { length wires.boxes < 2 ^ 32 }
+    requires within { limit_place raw.now ≡ None }
+    requires known { unknown_place raw.now ≡ None }
+    requires wires { wires ≡ wiring_of raw.now }
     requires ordered { order.now ≡ order_of wires }
     ensures { Answers result (ordered_network raw.now wires) }
 {
@@ -93,11 +97,9 @@ fn ordered_network(
     let nodes = nodes_in(alloc, raw, &wires, &sources, order)?;
     let boxes = known(alloc, nodes)?;
     let outputs = outputs_of(alloc, raw.outputs.as_slice())?;
-    let epoch = natural(raw.epoch)?;
-    let batch = natural(raw.batch)?;
     Ok(Network {
-        epoch,
-        batch,
+        epoch: natural(raw.epoch),
+        batch: natural(raw.batch),
         wires,
         sources: ListOf::new(sources),
         boxes: ListOf::new(boxes),
@@ -106,46 +108,47 @@ fn ordered_network(
 }
 
 fn wired_network(alloc: Global, raw: &Raw, wires: Wiring) -> Result<Network, NetErr>
-    requires few { length wires.boxes < 2 ^ 32 }
-    requires wired { IsWired wires }
+    requires within { limit_place raw.now ≡ None }
+    requires known { unknown_place raw.now ≡ None }
+    requires wires { wires ≡ wiring_of raw.now }
     ensures { Answers result (wired_network raw.now wires) }
 {
     let order = order_in(alloc, &wires)?;
     ordered_network(alloc, raw, wires, &order)
 }
 
-fn streamed_network(alloc: Global, raw: &Raw, names: &[Name]) -> Result<Network, NetErr>
-    requires names { names.now ≡ stream_names raw.now }
-    requires few { length names.now < 2 ^ 32 }
-    requires sources { length raw.now.sources ≤ 8 }
-    requires boxes { length raw.now.boxes ≤ 128 }
-    requires outputs { length raw.now.outputs ≤ 32 }
-    ensures { Answers result (streamed_network raw.now names.now) }
+fn streamed_network(
+    alloc: Global,
+    raw: &Raw,
+    numbers: &IndexMap<&str, u32>,
+) -> Result<Network, NetErr>
+    requires within { limit_place raw.now ≡ None }
+    requires numbers { number_in numbers.now.entries ≡ stream_named (stream_names raw.now) }
+    ensures { Answers result (streamed_network raw.now (number_in numbers.now.entries)) }
 {
-    if let Some(place) = unknown_place(names, raw)? {
+    if let Some(place) = unknown_place(numbers, raw) {
         return Err(NetErr::Unknown(place));
     }
-    let wires = wiring(alloc, names, raw)?;
+    let wires = wiring(alloc, numbers, raw)?;
     wired_network(alloc, raw, wires)
 }
 
+#[tactic(auto, using(crate::proofs::LimitLemmas::counts_of))]
 fn single_network(alloc: Global, raw: &Raw) -> Result<Network, NetErr>
-    requires sources { length raw.now.sources ≤ 8 }
-    requires boxes { length raw.now.boxes ≤ 128 }
-    requires outputs { length raw.now.outputs ≤ 32 }
+    requires within { limit_place raw.now ≡ None }
     ensures { Answers result (single_network raw.now) }
 {
     if let Some(place) = twice_place(alloc, raw)? {
         return Err(NetErr::Twice(place));
     }
     let names = stream_names(alloc, raw)?;
-    streamed_network(alloc, raw, &names)
+    let numbers = numbers_of(alloc, &names)?;
+    streamed_network(alloc, raw, &numbers)
 }
 
+#[tactic(auto, using(crate::proofs::LimitLemmas::counts_of))]
 fn named_network(alloc: Global, raw: &Raw) -> Result<Network, NetErr>
-    requires sources { length raw.now.sources ≤ 8 }
-    requires boxes { length raw.now.boxes ≤ 128 }
-    requires outputs { length raw.now.outputs ≤ 32 }
+    requires within { limit_place raw.now ≡ None }
     ensures { Answers result (named_network raw.now) }
 {
     if let Some(place) = name_place(raw) {
@@ -155,7 +158,6 @@ fn named_network(alloc: Global, raw: &Raw) -> Result<Network, NetErr>
 }
 
 /// The network of a file's tables, or the first broken rule.
-#[tactic(auto, using(crate::proofs::LimitLemmas::counts_of))]
 pub(crate) fn typed_network(alloc: Global, raw: &Raw) -> Result<Network, NetErr>
     ensures { Answers result (typed_network raw.now) }
 {

@@ -1,16 +1,17 @@
 // The schemas of the sources.
-ghost use Rattle.std.specs.Prelude.{◌≡◌, ◌<◌, ◌^◌, [], false, Ok, Err, IfOk, IfErr, length};
-ghost use Rattle.std.specs.List.{zip};
+ghost use Rattle.std.specs.Prelude.{◌≡◌, ◌<◌, ◌≤◌, ◌^◌, [], true, false, None, Ok, Err, IfOk, IfErr, length};
+ghost use Rattle.std.specs.List.{list_all, zip};
 ghost use Rattle.sq_value.specs.Lists.{contains_bytes};
-ghost use Rattle.sq_net.specs.declared.NetErr.TheVariants as broken;
-ghost use Rattle.sq_reader.specs.Places.{place_at};
+ghost use Rattle.sq_value.specs.Schemas.{schema_error};
+ghost use Rattle.sq_reader.specs.Limits.{source_within};
 ghost use Rattle.sq_reader.specs.Refusals.{Answers, is_memory};
 ghost use Rattle.sq_reader.specs.Sources.{column_in, columns_from, kind_named, sources_from};
 
+use crate::limits::place_at;
 use crate::names::is_name;
 use crate::raw::RawSource;
 use crate::reading::push;
-use sq_net::{NetErr, Part, Place, Source};
+use sq_net::{NetErr, Part, Source};
 use sq_value::{Kind, Name, Schema, copy_name, same_text};
 use std::alloc::{AllocError, Global};
 
@@ -55,15 +56,21 @@ fn column_in(
     Ok(Some((Name::new(alloc, name)?, kind)))
 }
 
-// There are 1 to 16 fields, and the loop sees to it that no name stands twice, so that these are a schema.
-pub(crate) fn schema_of(names: Vec<Name>, kinds: Vec<Kind>) -> Result<Schema, NetErr>
-    ensures ok { IfOk result (λ s. s ≡ zip names.items kinds.items) }
-    ensures err { IfErr result (λ e. e ≡ broken.Memory) }
+/// The schema of names and kinds that are one.
+pub(crate) fn schema_of(names: Vec<Name>, kinds: Vec<Kind>) -> Schema
+    requires { schema_error names.items kinds.items ≡ None }
+    ensures { result ≡ zip names.items kinds.items }
 {
-    Schema::new(names, kinds).map_err(|_| NetErr::Memory)
+    match Schema::new(names, kinds) {
+        Ok(schema) => schema,
+        Err(_) => unreachable!(),
+    }
 }
 
 fn schema_in(alloc: Global, number: usize, fields: &[Name]) -> Result<Schema, NetErr>
+    requires number { number < 2 ^ 32 }
+    requires some { 1 ≤ length fields.now }
+    requires few { length fields.now ≤ 16 }
     ensures { Answers result (columns_from number 0 [] fields.now) }
 {
     let mut names = Vec::new(alloc);
@@ -74,25 +81,16 @@ fn schema_in(alloc: Global, number: usize, fields: &[Name]) -> Result<Schema, Ne
                 push(&mut names, name)?;
                 push(&mut kinds, kind)?;
             }
-            None => return Err(schema_fault(Part::Source, number, item)),
+            None => return Err(NetErr::Schema(place_at(Part::Source, number, item))),
         }
     }
-    schema_of(names, kinds)
-}
-
-/// The fault of a schema at a place; a place past 32 bits, which no file that fits in memory has, counts as want of
-/// memory.
-pub(crate) fn schema_fault(part: Part, number: usize, item: usize) -> NetErr
-    ensures { is_memory result ≡ false → result ≡ broken.Schema (place_at part number item) }
-{
-    match (u32::try_from(number), u32::try_from(item)) {
-        (Ok(number), Ok(item)) => NetErr::Schema(Place { part, number, item }),
-        _ => NetErr::Memory,
-    }
+    Ok(schema_of(names, kinds))
 }
 
 /// The sources with their schemas, or the first field that is no column.
 pub(crate) fn sources_in(alloc: Global, sources: &[RawSource]) -> Result<Vec<Source>, NetErr>
+    requires few { length sources.now ≤ 8 }
+    requires within { list_all source_within sources.now ≡ true }
     ensures ok { IfOk result (λ v. sources_from 0 sources.now ≡ Ok v.items) }
     ensures err { IfErr result (λ e. is_memory e ≡ false → sources_from 0 sources.now ≡ Err e) }
 {

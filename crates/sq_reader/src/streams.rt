@@ -1,20 +1,21 @@
 // The streams by name and number, and the wiring.
-ghost use Rattle.std.specs.Prelude.{◌≡◌, ◌+◌, ◌<◌, ◌≤◌, ◌^◌, ◌++◌, IfOk, OnOk, length, map, option_map, position};
-ghost use Rattle.std.specs.List.{flat_map, filter_map};
-ghost use Rattle.sq_value.specs.Lists.{numbers_to, same_bytes};
+ghost use Rattle.std.specs.Prelude.{◌≡◌, ◌+◌, ◌<◌, ◌≤◌, ◌^◌, ◌++◌, ℕ, List, true, None, IfOk, OnOk, IfSome, length, map};
+ghost use Rattle.std.specs.List.{flat_map, filter_map, list_all};
+ghost use Rattle.sq_value.specs.Lists.{numbers_to};
 ghost use Rattle.sq_net.specs.declared.Part.TheVariants as part;
-ghost use Rattle.sq_reader.specs.Limits.{first_failing};
+ghost use Rattle.sq_reader.specs.Limits.{body_within, box_within, first_failing, limit_place};
 ghost use Rattle.sq_reader.specs.Places.{place_at, place_of};
 ghost use Rattle.sq_reader.specs.Shapes.{ports_of};
-ghost use Rattle.sq_reader.specs.Streaming.{box_wires, is_stream, kind_of_body, port_name, port_names, stream_named, stream_names, unknown_among, unknown_in_boxes, wiring_by};
+ghost use Rattle.sq_reader.specs.Streaming.{also_numbered, box_wires, is_stream, kind_of_body, number_in, port_name, port_names, stream_named, stream_names, unknown_among, unknown_in_boxes, wiring_by};
 
-use crate::limits::whole;
+use crate::limits::{place_at, whole};
 use crate::names::source_names;
 use crate::raw::{Raw, RawBody, RawBox, RawOutput};
 use crate::shape::ports_of;
+use indexmap::IndexMap;
 use sq_graph::{BoxKind, BoxWires, Wiring};
 use sq_net::{Part, Place};
-use sq_value::{ListOf, Name, copy_name, same_text};
+use sq_value::{ListOf, Name, copy_name};
 use std::alloc::{AllocError, Global};
 
 fn port_name(alloc: Global, name: &Name, number: usize) -> Result<Name, AllocError>
@@ -40,22 +41,21 @@ fn push_filter_ports(
     Ok(())
 }
 
+#[tactic(auto, using(crate::proofs::LimitLemmas::ports_few))]
 fn push_ports(alloc: Global, names: &mut Vec<Name>, b: &RawBox) -> Result<(), AllocError>
+    requires { body_within b.now.body ≡ true }
     ensures { OnOk result (names.new.items ≡ names.old.items ++ port_names b.now.name b.now.body) }
 {
     match &b.body {
         RawBody::Filter { preds } => {
-            let ports = preds.as_slice().len();
-            if ports > 1_000_000_000 {
-                return Err(AllocError);
-            }
-            push_filter_ports(alloc, names, &b.name, ports + 1)
+            push_filter_ports(alloc, names, &b.name, preds.as_slice().len() + 1)
         }
         RawBody::Map { .. } | RawBody::Union => Ok(names.push(copy_name(&b.name)?)?),
     }
 }
 
 fn push_all_ports(alloc: Global, names: &mut Vec<Name>, boxes: &[RawBox]) -> Result<(), AllocError>
+    requires { list_all box_within boxes.now ≡ true }
     ensures { OnOk result (names.new.items ≡ names.old.items ++ flat_map (λ b. port_names b.name b.body) boxes.now) }
 {
     for b in boxes {
@@ -65,108 +65,124 @@ fn push_all_ports(alloc: Global, names: &mut Vec<Name>, boxes: &[RawBox]) -> Res
 }
 
 /// The names of the streams, by number.
+#[tactic(auto, using(crate::proofs::LimitLemmas::counts_of, crate::proofs::WiringLemmas::streams_few))]
 pub(crate) fn stream_names(alloc: Global, raw: &Raw) -> Result<Vec<Name>, AllocError>
+    requires within { limit_place raw.now ≡ None }
     ensures names { IfOk result (λ v. v.items ≡ stream_names raw.now) }
     ensures few { IfOk result (λ v. length v.items < 2 ^ 32) }
 {
     let mut names = source_names(alloc, raw.sources.as_slice())?;
     push_all_ports(alloc, &mut names, raw.boxes.as_slice())?;
-    if names.len() > 4_000_000_000 {
-        return Err(AllocError);
-    }
     Ok(names)
 }
 
-fn place_in(names: &[Name], name: &str) -> Option<usize>
-    ensures { result ≡ stream_named names.now name.now }
+fn add_number<'a>(
+    numbers: &mut IndexMap<&'a str, u32>,
+    name: &'a str,
+    number: u32,
+) -> Result<(), AllocError>
+    ensures { OnOk result ((w : List ℕ) → number_in numbers.new.entries w ≡ also_numbered (number_in numbers.old.entries) name.now number w) }
 {
-    names.iter().position(|n| same_text(name, n.as_str()))
+    if numbers.contains_key(name) {
+        return Ok(());
+    }
+    numbers.insert(name, number)?;
+    Ok(())
 }
 
-/// The number of the stream of this name.
-pub(crate) fn stream_named(names: &[Name], name: &str) -> Option<u32>
+/// The number of each name: the place where it stands first.
+pub(crate) fn numbers_of<'a>(
+    alloc: Global,
+    names: &'a [Name],
+) -> Result<IndexMap<&'a str, u32>, AllocError>
     requires { length names.now < 2 ^ 32 }
-    ensures { result ≡ stream_named names.now name.now }
+    ensures { IfOk result (λ m. number_in m.entries ≡ stream_named names.now) }
 {
-    match place_in(names, name) {
-        Some(number) => Some(number as u32),
+    let mut numbers = IndexMap::new(alloc);
+    for (number, name) in names.iter().enumerate() {
+        add_number(&mut numbers, name.as_str(), number as u32)?;
+    }
+    Ok(numbers)
+}
+
+fn number_of(numbers: &IndexMap<&str, u32>, name: &str) -> Option<u32>
+    ensures { result ≡ number_in numbers.now.entries name.now }
+{
+    numbers.get(name).copied()
+}
+
+fn is_stream(numbers: &IndexMap<&str, u32>, name: &str) -> bool
+    ensures { result ≡ is_stream (number_in numbers.now.entries) name.now }
+{
+    number_of(numbers, name).is_some()
+}
+
+fn unknown_input(numbers: &IndexMap<&str, u32>, ins: &[Name]) -> Option<usize>
+    ensures first { result ≡ first_failing (is_stream (number_in numbers.now.entries)) ins.now }
+    ensures within { IfSome result (λ i. i < length ins.now) }
+{
+    ins.iter()
+        .position(|name| !is_stream(numbers, name.as_str()))
+}
+
+fn unknown_output(numbers: &IndexMap<&str, u32>, outputs: &[RawOutput]) -> Option<usize>
+    ensures { result ≡ first_failing (λ o. is_stream (number_in numbers.now.entries) o.from) outputs.now }
+{
+    outputs
+        .iter()
+        .position(|output| !is_stream(numbers, output.from.as_str()))
+}
+
+fn unknown_in_boxes(numbers: &IndexMap<&str, u32>, boxes: &[RawBox]) -> Option<Place>
+    requires boxes { length boxes.now ≤ 128 }
+    requires within { list_all box_within boxes.now ≡ true }
+    ensures { result ≡ unknown_in_boxes (number_in numbers.now.entries) 0 boxes.now }
+{
+    for (number, b) in boxes.iter().enumerate() {
+        if let Some(item) = unknown_input(numbers, b.ins.as_slice()) {
+            return Some(place_at(Part::Box, number, item));
+        }
+    }
+    None
+}
+
+/// The first place that names no stream.
+#[tactic(auto, using(crate::proofs::LimitLemmas::counts_of))]
+pub(crate) fn unknown_place(numbers: &IndexMap<&str, u32>, raw: &Raw) -> Option<Place>
+    requires within { limit_place raw.now ≡ None }
+    ensures { result ≡ unknown_among (number_in numbers.now.entries) raw.now }
+{
+    if let Some(place) = unknown_in_boxes(numbers, raw.boxes.as_slice()) {
+        return Some(place);
+    }
+    match unknown_output(numbers, raw.outputs.as_slice()) {
+        Some(number) => Some(whole(Part::Output, number)),
         None => None,
     }
 }
 
-fn is_stream(names: &[Name], name: &str) -> bool
-    requires { length names.now < 2 ^ 32 }
-    ensures { result ≡ is_stream names.now name.now }
-{
-    stream_named(names, name).is_some()
-}
-
-fn unknown_input(names: &[Name], ins: &[Name]) -> Option<usize>
-    requires { length names.now < 2 ^ 32 }
-    ensures { result ≡ first_failing (is_stream names.now) ins.now }
-{
-    ins.iter().position(|name| !is_stream(names, name.as_str()))
-}
-
-fn unknown_output(names: &[Name], outputs: &[RawOutput]) -> Option<usize>
-    requires { length names.now < 2 ^ 32 }
-    ensures { result ≡ first_failing (λ o. is_stream names.now o.from) outputs.now }
-{
-    outputs
-        .iter()
-        .position(|output| !is_stream(names, output.from.as_str()))
-}
-
-fn unknown_in_boxes(names: &[Name], boxes: &[RawBox]) -> Result<Option<Place>, AllocError>
-    requires { length names.now < 2 ^ 32 }
-    ensures { IfOk result (λ o. o ≡ unknown_in_boxes names.now 0 boxes.now) }
-{
-    for (number, b) in boxes.iter().enumerate() {
-        if let Some(item) = unknown_input(names, b.ins.as_slice()) {
-            let (Ok(number), Ok(item)) = (u32::try_from(number), u32::try_from(item)) else {
-                return Err(AllocError);
-            };
-            return Ok(Some(Place {
-                part: Part::Box,
-                number,
-                item,
-            }));
-        }
-    }
-    Ok(None)
-}
-
-/// The first place that names no stream.
-pub(crate) fn unknown_place(names: &[Name], raw: &Raw) -> Result<Option<Place>, AllocError>
-    requires few { length names.now < 2 ^ 32 }
-    requires outputs { length raw.now.outputs ≤ 32 }
-    ensures { IfOk result (λ o. o ≡ unknown_among names.now raw.now) }
-{
-    if let Some(place) = unknown_in_boxes(names, raw.boxes.as_slice())? {
-        return Ok(Some(place));
-    }
-    match unknown_output(names, raw.outputs.as_slice()) {
-        Some(number) => Ok(Some(whole(Part::Output, number))),
-        None => Ok(None),
-    }
-}
-
-fn inputs_of(alloc: Global, names: &[Name], ins: &[Name]) -> Result<Vec<u32>, AllocError>
-    requires { length names.now < 2 ^ 32 }
-    ensures { IfOk result (λ v. v.items ≡ filter_map (stream_named names.now) ins.now) }
+fn inputs_of(
+    alloc: Global,
+    numbers: &IndexMap<&str, u32>,
+    ins: &[Name],
+) -> Result<Vec<u32>, AllocError>
+    ensures { IfOk result (λ v. v.items ≡ filter_map (number_in numbers.now.entries) ins.now) }
 {
     ins.iter()
-        .filter_map(|name| stream_named(names, name.as_str()))
+        .filter_map(|name| number_of(numbers, name.as_str()))
         .collect(alloc)
 }
 
-fn outputs_of(alloc: Global, names: &[Name], outputs: &[RawOutput]) -> Result<Vec<u32>, AllocError>
-    requires { length names.now < 2 ^ 32 }
-    ensures { IfOk result (λ v. v.items ≡ filter_map (λ o. stream_named names.now o.from) outputs.now) }
+fn outputs_of(
+    alloc: Global,
+    numbers: &IndexMap<&str, u32>,
+    outputs: &[RawOutput],
+) -> Result<Vec<u32>, AllocError>
+    ensures { IfOk result (λ v. v.items ≡ filter_map (λ o. number_in numbers.now.entries o.from) outputs.now) }
 {
     outputs
         .iter()
-        .filter_map(|output| stream_named(names, output.from.as_str()))
+        .filter_map(|output| number_of(numbers, output.from.as_str()))
         .collect(alloc)
 }
 
@@ -180,40 +196,50 @@ fn kind_of(body: &RawBody) -> BoxKind
     }
 }
 
-fn box_wires(alloc: Global, names: &[Name], b: &RawBox) -> Result<BoxWires, AllocError>
-    requires { length names.now < 2 ^ 32 }
-    ensures { IfOk result (λ w. w ≡ box_wires names.now b.now) }
+#[tactic(auto, using(crate::proofs::LimitLemmas::ports_few))]
+fn box_wires(
+    alloc: Global,
+    numbers: &IndexMap<&str, u32>,
+    b: &RawBox,
+) -> Result<BoxWires, AllocError>
+    requires { body_within b.now.body ≡ true }
+    ensures { IfOk result (λ w. w ≡ box_wires (number_in numbers.now.entries) b.now) }
 {
-    let inputs = inputs_of(alloc, names, b.ins.as_slice())?;
-    match u32::try_from(ports_of(&b.body)) {
-        Ok(ports) => Ok(BoxWires {
-            kind: kind_of(&b.body),
-            inputs: ListOf::new(inputs),
-            ports,
-        }),
-        Err(_) => Err(AllocError),
-    }
+    let inputs = inputs_of(alloc, numbers, b.ins.as_slice())?;
+    Ok(BoxWires {
+        kind: kind_of(&b.body),
+        inputs: ListOf::new(inputs),
+        ports: ports_of(&b.body) as u32,
+    })
 }
 
-fn boxes_wired(alloc: Global, names: &[Name], boxes: &[RawBox]) -> Result<Vec<BoxWires>, AllocError>
-    requires { length names.now < 2 ^ 32 }
-    ensures { IfOk result (λ v. v.items ≡ map (box_wires names.now) boxes.now) }
+fn boxes_wired(
+    alloc: Global,
+    numbers: &IndexMap<&str, u32>,
+    boxes: &[RawBox],
+) -> Result<Vec<BoxWires>, AllocError>
+    requires { list_all box_within boxes.now ≡ true }
+    ensures { IfOk result (λ v. v.items ≡ map (box_wires (number_in numbers.now.entries)) boxes.now) }
 {
     let mut wired = Vec::new(alloc);
     for b in boxes {
-        wired.push(box_wires(alloc, names, b)?)?;
+        wired.push(box_wires(alloc, numbers, b)?)?;
     }
     Ok(wired)
 }
 
-/// The wiring, by the names of the streams.
-pub(crate) fn wiring(alloc: Global, names: &[Name], raw: &Raw) -> Result<Wiring, AllocError>
-    requires few { length names.now < 2 ^ 32 }
-    requires sources { length raw.now.sources ≤ 8 }
-    ensures { IfOk result (λ w. w ≡ wiring_by names.now raw.now) }
+/// The wiring, by the numbers of the streams.
+#[tactic(auto, using(crate::proofs::LimitLemmas::counts_of))]
+pub(crate) fn wiring(
+    alloc: Global,
+    numbers: &IndexMap<&str, u32>,
+    raw: &Raw,
+) -> Result<Wiring, AllocError>
+    requires within { limit_place raw.now ≡ None }
+    ensures { IfOk result (λ w. w ≡ wiring_by (number_in numbers.now.entries) raw.now) }
 {
-    let boxes = boxes_wired(alloc, names, raw.boxes.as_slice())?;
-    let outputs = outputs_of(alloc, names, raw.outputs.as_slice())?;
+    let boxes = boxes_wired(alloc, numbers, raw.boxes.as_slice())?;
+    let outputs = outputs_of(alloc, numbers, raw.outputs.as_slice())?;
     Ok(Wiring {
         sources: raw.sources.as_slice().len() as u32,
         boxes: ListOf::new(boxes),

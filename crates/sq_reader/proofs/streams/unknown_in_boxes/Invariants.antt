@@ -3,4 +3,6 @@ use Rattle.sq_reader.specs.Streaming as streaming
 use Rattle.sq_reader.proofs.streams.unknown_in_boxes.Given as goal
 
 abbrev pub invariant-loop-number : goal.invariant-loop-number
-invariant-loop-number l = streaming.unknown_in_boxes l.names l.number (drop l.number l.boxes) ≡ streaming.unknown_in_boxes l.names 0 l.boxes
+invariant-loop-number l =
+    streaming.unknown_in_boxes (streaming.number_in l.numbers.entries) l.number (drop l.number l.boxes)
+    ≡ streaming.unknown_in_boxes (streaming.number_in l.numbers.entries) 0 l.boxes
