@@ -12,7 +12,7 @@ use Rattle.sq_graph.specs.declared.BoxKind.{BoxKind}
 use Rattle.sq_graph.specs.declared.BoxKind.TheVariants as boxes
 use Rattle.sq_graph.specs.declared.BoxWires.{BoxWires}
 use Rattle.sq_graph.specs.declared.Wiring.{Wiring}
-use Rattle.sq_graph.specs.Wires.{Producer, Source, Port, producer_of, inputs_at, inputs_of}
+use Rattle.sq_graph.specs.Wires.{Producer, Source, Port, producer_of, inputs_of}
 use Rattle.sq_graph.specs.Order.{contains_number, is_given, order_of}
 use Rattle.sq_graph.proofs.Producers.{IsProducer, producer_is}
 use Rattle.sq_net.specs.declared.Source as declared

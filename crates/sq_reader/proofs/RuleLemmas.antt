@@ -15,7 +15,6 @@ use Rattle.sq_net.specs.declared.Source.{Source}
 use Rattle.sq_net.specs.declared.NetErr.{NetErr}
 use Rattle.sq_net.specs.declared.NetErr.TheVariants as broken
 use Rattle.sq_net.specs.declared.Part.TheVariants as part
-use Rattle.sq_net.specs.declared.Place.{Place}
 use Rattle.sq_net.specs.Names.{is_name}
 use Rattle.sq_net.specs.Sound.{is_between, source_within, takes_within}
 use Rattle.sq_reader.specs.declared.raw.RawSource.{RawSource}

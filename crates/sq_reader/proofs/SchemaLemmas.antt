@@ -1,5 +1,5 @@
 -- Names and kinds that are a schema.
-use Rattle.std.proofs.Common.{◌≡◌, refl, ℕ, ◌≤◌, Bool, true, ◌&&◌, ◌==◌, List, length, None, arith}
+use Rattle.std.proofs.Common.{◌≡◌, refl, ℕ, ◌≤◌, true, ◌&&◌, ◌==◌, List, length, None, arith}
 use Rattle.std.specs.Prelude.{nat_le}
 use Rattle.std.proofs.lemmas.Bool.Decides.{nat_tests}
 use Rattle.sq_value.specs.declared.Kind.{Kind}

@@ -1,6 +1,4 @@
-use Rattle.std.proofs.Common.{◌≡◌, ◌∙◌, ◌<◌, ◌≤◌, ℕ, ap, subst, arith, length, List, Some, slice_get}
-use Rattle.sq_graph.specs.declared.Wiring.{Wiring}
-use Rattle.sq_value.specs.Values.{Columns}
+use Rattle.std.proofs.Common.{◌∙◌, ℕ, ap, arith, List}
 use Rattle.sq_reader.specs.Limits.{box_within}
 use Rattle.sq_reader.specs.Columns.{columns_taken}
 use Rattle.sq_reader.proofs.LimitLemmas.{counts_of}
