@@ -2,7 +2,9 @@ pub mod LeastLemmas
 pub mod SorterLemmas
 pub mod SorterFacts
 pub mod HeldLemmas
+pub mod KeepLemmas
 mod ListRows
 pub mod GroupLemmas
 pub mod WindowLemmas
 mod AggregateRows
+mod PairRows

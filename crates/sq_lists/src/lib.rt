@@ -1,16 +1,20 @@
 //! The boxes as functions of whole lists: plain and slow, for tests, audits and definitions.
 //!
 //! Each call gives exactly the list of its definition in `specs/`; only want of memory stands beside it. The boxes that
-//! are fed one item at a time promise the same lists. Below stand values and expressions.
+//! are fed one item at a time promise the same lists. Below stand values, expressions and aggregate functions.
 #![tactic(auto)]
 
+mod laws;
 mod merges;
+mod pairs;
 mod sorter;
 mod sorts;
 mod tuples;
 mod windows;
 
+pub use laws::boxes_keep_streams;
 pub use merges::merge;
+pub use pairs::{join_list, pair};
 pub use sorter::Sorter;
 pub use sorts::{bsort_list, time_in_field};
 pub use tuples::{filter_list, map_list, map_tuple, port_of_tuple};
