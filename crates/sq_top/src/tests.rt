@@ -335,13 +335,15 @@ fn an_output_that_fails_at_a_byte_keeps_what_came_before(rt: HostRuntime) -> Res
 #[test]
 fn other_words_are_usage_whatever_the_messages_do(rt: HostRuntime) -> Result<(), Fail> {
     let alloc = rt.alloc();
-    let table: [&[&str]; 9] = [
+    let table: [&[&str]; 11] = [
         &[],
         &["run"],
         &["run", ""],
         &["walk", "a.toml"],
         &["run", "a", "b"],
         &["run", "a", "--seed"],
+        &["run", "a", "--seed", "-1"],
+        &["run", "a", "--picks", "p", "--policy", "rr"],
         &["run", "a", "--train", "0"],
         &["run", "a", "--seed", "1", "--seed", "1"],
         &["run", "--seed=7", "a.toml"],
