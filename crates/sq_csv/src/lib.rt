@@ -1,7 +1,8 @@
 //! Rows of fields with commas between, as text: the one place where the kit's `csv` is called.
 //!
 //! Its contracts speak in words of our own, so that nothing above knows of `csv`: a row's line is `line_of` of its
-//! fields, and a line's fields are `record_in` of it. Two laws say that these words are `csv`'s, at its defaults.
+//! fields, and a line's fields are `record_in` of it. Two laws say that these words are `csv`'s, at its defaults, but for
+//! a mark of byte order at a line's start, which `csv` would strip.
 //! Rows and lines that need no quotes go by loops of ours, which take no reader, writer or record of their own.
 #![tactic(auto)]
 

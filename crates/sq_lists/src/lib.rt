@@ -1,4 +1,5 @@
-//! The boxes as functions of whole lists: plain and slow, for tests, audits and definitions.
+//! The boxes as functions of whole lists, plain and slow, for definitions, runs, audits and tests; and the parts of them
+//! that boxes which are fed one item at a time share.
 //!
 //! Each call gives exactly the list of its definition in `specs/`; only want of memory stands beside it. The boxes that
 //! are fed one item at a time promise the same lists. Below stand values, expressions and aggregate functions.
