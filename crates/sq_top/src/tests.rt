@@ -61,8 +61,7 @@ fn folder_of(
 ) -> Result<MemFolder, AllocError> {
     let mut named = Vec::new(alloc);
     for (name, text) in files {
-        let name = String::from_str(alloc, name)?;
-        named.push((name, Vec::from_slice(alloc, text.as_bytes())?))?;
+        named.push(file(alloc, name, text)?)?;
     }
     Ok(MemFolder::new(named, Vec::from_slice(alloc, fails)?))
 }
@@ -75,37 +74,45 @@ struct Ran {
     err: MemSink,
 }
 
-/// A run of `run a.toml` over these files, where these calls of the folder and of the output fail.
-fn run_with(
-    alloc: Global,
-    files: &[(&str, &str)],
-    folder_fails: &[u64],
-    out_fails: &[u64],
-) -> Result<Ran, AllocError> {
+/// A run of `run a.toml` over this folder.
+fn run_in(alloc: Global, mut folder: MemFolder) -> Result<Ran, AllocError> {
     let words = words_of(alloc, &["run", "a.toml"])?;
-    let mut folder = folder_of(alloc, files, folder_fails)?;
-    let mut out = MemSink::new(alloc, Vec::from_slice(alloc, out_fails)?, 4096);
+    let mut out = MemSink::new(alloc, Vec::new(alloc), 4096);
     let mut err = MemSink::new(alloc, Vec::new(alloc), 4096);
     let code = run_free(alloc, &words, &mut folder, &mut out, &mut err).code();
     Ok(Ran { code, out, err })
 }
 
-/// A run over the network of one Filter and this stream.
-fn run_stream(alloc: Global, stream: &str) -> Result<Ran, AllocError> {
-    run_with(alloc, &[("a.toml", NETWORK), ("s.csv", stream)], &[], &[])
+/// The same over these files, where these calls of the folder fail.
+fn run_with(
+    alloc: Global,
+    files: &[(&str, &str)],
+    folder_fails: &[u64],
+) -> Result<Ran, AllocError> {
+    run_in(alloc, folder_of(alloc, files, folder_fails)?)
 }
 
-/// A run over one source of a field `v:int` and these boxes and outputs.
+/// The same over the network of one Filter and this stream.
+fn run_stream(alloc: Global, stream: &str) -> Result<Ran, AllocError> {
+    run_with(alloc, &[("a.toml", NETWORK), ("s.csv", stream)], &[])
+}
+
+fn file(alloc: Global, name: &str, text: &str) -> Result<(String, Vec<u8>), AllocError> {
+    Ok((
+        String::from_str(alloc, name)?,
+        Vec::from_slice(alloc, text.as_bytes())?,
+    ))
+}
+
+/// The same over one source of a field `v:int` and these boxes and outputs.
 fn run_boxes(alloc: Global, boxes: &str, stream: &str) -> Result<Ran, AllocError> {
     let network = format!(in alloc;
         "version = 1\n[[source]]\nname = \"s\"\nfile = \"s.csv\"\nfields = [\"v:int\"]\n{boxes}"
     )?;
-    run_with(
-        alloc,
-        &[("a.toml", network.as_str()), ("s.csv", stream)],
-        &[],
-        &[],
-    )
+    let mut named = Vec::new(alloc);
+    named.push(file(alloc, "a.toml", network.as_str())?)?;
+    named.push(file(alloc, "s.csv", stream)?)?;
+    run_in(alloc, MemFolder::new(named, Vec::new(alloc)))
 }
 
 #[test]
@@ -130,7 +137,7 @@ fn a_union_shows_its_inputs_by_time(rt: HostRuntime) -> Result<(), Fail> {
         ("p.csv", "1,10\n3,11\n3,12\n"),
         ("q.csv", "2,20\n3,21\n"),
     ];
-    let ran = run_with(rt.alloc(), &files, &[], &[])?;
+    let ran = run_with(rt.alloc(), &files, &[])?;
     assert_eq!(rt; ran.code, 0);
     assert_eq!(rt;
         ran.out.bytes(),
@@ -157,7 +164,7 @@ fn a_text_with_a_comma_is_shown_in_quotes(rt: HostRuntime) -> Result<(), Fail> {
     let network =
         "version = 1\n[[source]]\nname = \"s\"\nfile = \"s.csv\"\nfields = [\"v:text\"]\n[[box]]\nname = \"f\"\nkind = \"filter\"\nin = [\"s\"]\nwhere = [\"v = 'a,b'\"]\n[[output]]\nname = \"hi\"\nfrom = \"f.1\"\n";
     let files = [("a.toml", network), ("s.csv", "1,\"a,b\"\n")];
-    let ran = run_with(rt.alloc(), &files, &[], &[])?;
+    let ran = run_with(rt.alloc(), &files, &[])?;
     assert_eq!(rt; ran.code, 0);
     assert_eq!(rt;
         ran.out.bytes(),
@@ -226,7 +233,7 @@ fn a_file_of_another_version_or_of_no_toml_is_refused(rt: HostRuntime) -> Result
         ("version = 2\n", "aurora: network: Version\n"),
         ("version = ", "aurora: network: Toml\n"),
     ] {
-        let ran = run_with(rt.alloc(), &[("a.toml", network)], &[], &[])?;
+        let ran = run_with(rt.alloc(), &[("a.toml", network)], &[])?;
         assert_eq!(rt; ran.code, 3);
         assert_eq!(rt; ran.err.bytes(), message.as_bytes());
     }
@@ -271,7 +278,7 @@ fn a_last_line_a_return_and_an_empty_line_are_lines_of_a_stream(
 #[test]
 fn a_bad_line_of_the_second_source_bears_its_name(rt: HostRuntime) -> Result<(), Fail> {
     let files = [("a.toml", UNION), ("p.csv", "1,10\n"), ("q.csv", "2,x\n")];
-    let ran = run_with(rt.alloc(), &files, &[], &[])?;
+    let ran = run_with(rt.alloc(), &files, &[])?;
     assert_eq!(rt; ran.code, 6);
     assert_eq!(rt;
         ran.err.bytes(),
@@ -290,7 +297,7 @@ fn a_network_file_of_one_byte_too_many_is_too_long(rt: HostRuntime) -> Result<()
         network[start..].copy_from_slice(NETWORK.as_bytes());
         let text = String::from_utf8(network).ok().ok_or("no text")?;
         let files = [("a.toml", text.as_str()), ("s.csv", STREAM)];
-        let ran = run_with(alloc, &files, &[], &[])?;
+        let ran = run_with(alloc, &files, &[])?;
         assert_eq!(rt; ran.code, code);
     }
     Ok(())
@@ -299,7 +306,7 @@ fn a_network_file_of_one_byte_too_many_is_too_long(rt: HostRuntime) -> Result<()
 #[test]
 fn a_missing_file_and_a_failing_folder_are_told_by_name(rt: HostRuntime) -> Result<(), Fail> {
     let alloc = rt.alloc();
-    let ran = run_with(alloc, &[("a.toml", NETWORK)], &[], &[])?;
+    let ran = run_with(alloc, &[("a.toml", NETWORK)], &[])?;
     assert_eq!(rt; ran.code, 7);
     assert_eq!(rt; ran.err.bytes(), b"aurora: cannot read s.csv\n".as_slice());
     let files = [("a.toml", NETWORK), ("s.csv", STREAM)];
@@ -307,7 +314,7 @@ fn a_missing_file_and_a_failing_folder_are_told_by_name(rt: HostRuntime) -> Resu
         (0, "aurora: cannot read a.toml\n"),
         (1, "aurora: cannot read s.csv\n"),
     ] {
-        let ran = run_with(alloc, &files, &[call], &[])?;
+        let ran = run_with(alloc, &files, &[call])?;
         assert_eq!(rt; ran.code, 7);
         assert_eq!(rt; ran.out.bytes(), b"".as_slice());
         assert_eq!(rt; ran.err.bytes(), message.as_bytes());
