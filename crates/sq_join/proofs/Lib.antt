@@ -1,0 +1,3 @@
+pub mod PairLemmas
+pub mod TurnLemmas
+pub mod JoinLemmas

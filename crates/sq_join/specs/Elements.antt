@@ -1,0 +1,39 @@
+-- The elements of a tagged list: its tuples, each with the side that it comes at.
+use Rattle.std.specs.Prelude.{◌≡◌, ℕ, ◌⊎◌, ◌==◌, ◌≤◌, List, [], ◌∷◌, ◌++◌, map}
+use Rattle.std.specs.List.{AllByRecursion, filter}
+use Rattle.sq_value.specs.declared.Tuple.{Tuple}
+use Rattle.sq_lists.specs.Merge as whole
+use Rattle.sq_oper.specs.declared.tally.Place.{Place}
+use Rattle.sq_oper.specs.declared.tally.Place.TheVariants.{Start, At}
+use Rattle.sq_oper.specs.Entries.{Entry}
+use Rattle.sq_oper.specs.Streams.{tuple_in}
+
+-- a side and a tuple; side 0 is the left one
+abbrev pub Element : Type 0
+Element = whole.Entry
+
+-- tuples that come at one side
+abbrev pub on_side : ℕ → List Tuple → List Element
+on_side side xs = map (λ x. (side, x)) xs
+
+abbrev pub elements_of : List Entry → List Element
+elements_of [] = []
+elements_of (e ∷ es) = on_side e.port (tuple_in e.thing.time e.thing.load) ++ elements_of es
+
+-- the tuples of one side
+abbrev pub side_of : ℕ → List Element → List Tuple
+side_of side es = map (λ e. e.1) (filter (λ e. e.0 == side) es)
+
+-- each is of one of two sides
+abbrev pub TwoSides : List Element → Type 0
+TwoSides es = AllByRecursion (λ e. (e.0 ≡ 0) ⊎ (e.0 ≡ 1)) es
+
+-- each comes no earlier than the one before it, and at the same time at no lower side
+abbrev pub InTurn : ℕ → ℕ → List Element → Type 0
+InTurn time side [] = Unit {0}
+InTurn time side (e ∷ es) = ((time ≤ (e.1).time) × (time ≡ (e.1).time → side ≤ e.0)) × InTurn (e.1).time e.0 es
+
+-- the port of the last item, 0 before the first
+abbrev pub port_of : Place → ℕ
+port_of Start = 0
+port_of (At time port marked) = port
