@@ -1,7 +1,7 @@
 -- The law of a Join: what it gives for a tuple, what it holds then, and that no more is needed.
-use Rattle.std.proofs.Common.{◌≡◌, ℕ, zero, suc, ◌+◌, ◌-◌, ◌<◌, ◌≤◌, ◌^◌, max, Bool, true, false, cond, ◌&&◌, ◌||◌, ◌⊎◌, inl, inr, IsTrue, List, [], ◌∷◌, ◌++◌, map, length, Option, Some, None, Result, Ok, Err, OnErr, is_some, refl, ap, ap₂, sym, ◌∙◌, append-nil, append_assoc, length-append, zero-le, arith, tests}
+use Rattle.std.proofs.Common.{◌≡◌, ℕ, zero, suc, ◌+◌, ◌-◌, ◌<◌, ◌≤◌, ◌^◌, max, Bool, true, false, cond, ◌&&◌, ◌||◌, ◌⊎◌, inl, inr, IsTrue, List, [], ◌∷◌, ◌++◌, length, Option, Some, None, Result, Ok, Err, OnErr, is_some, refl, ap, ap₂, sym, ◌∙◌, append-nil, append_assoc, length-append, zero-le, arith, tests}
 use Rattle.std.specs.Prelude.{if◌then◌else◌, nat_lt, nat_le, ◌==◌}
-use Rattle.std.specs.List.{AllByRecursion, filter}
+use Rattle.std.specs.List.{AllByRecursion}
 use Rattle.sq_value.specs.declared.Value.{Value}
 use Rattle.sq_value.specs.declared.Tuple.{Tuple}
 use Rattle.sq_value.specs.Lists.{IsPrefixOf}
@@ -12,7 +12,7 @@ use Rattle.sq_item.specs.declared.Mark.{Mark}
 use Rattle.sq_item.specs.declared.Item.{Item}
 use Rattle.sq_item.specs.Sound.{IsSound}
 use Rattle.sq_item.specs.Things.{Thing, mark_part, body_part}
-use Rattle.sq_lists.specs.Pairs.{pair_of, pairs_of, pairs_from, join_list_of}
+use Rattle.sq_lists.specs.Pairs.{pair_of, pairs_from, join_list_of}
 use Rattle.sq_lists.specs.WindowParts.{NotFalling}
 use Rattle.sq_oper.specs.declared.tally.Place.{Place}
 use Rattle.sq_oper.specs.declared.tally.Place.TheVariants.{Start}
@@ -22,7 +22,7 @@ use Rattle.sq_oper.specs.Order.{time_of, after_all, IsFuture}
 use Rattle.sq_oper.specs.Streams.{things, at_zero}
 use Rattle.sq_oper.proofs.GivenLemmas.{IsPrefixOf-append, IsPrefixOf-trans}
 use Rattle.sq_oper.proofs.StreamLemmas.{things-append, at_zero-append, UpTo-things, UpTo-at_zero, time-after}
-use Rattle.sq_join.specs.Elements.{Element, elements_of, side_of, TwoSides, InTurn}
+use Rattle.sq_join.specs.Elements.{elements_of, side_of}
 use Rattle.sq_join.specs.Sides.{held_of, join_rest, most_at, join_fits, recent, pair_at, pairs_with, against, left_with, right_with, IsSoundTuple, IsSide, AllNear}
 use Rattle.sq_join.proofs.PairLemmas.{gives-now, gives-later}
 use Rattle.sq_join.proofs.TurnLemmas.{no_marks, merged, future-turn, future-sides, fit-side}

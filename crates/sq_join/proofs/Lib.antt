@@ -1,3 +1,4 @@
 pub mod PairLemmas
 pub mod TurnLemmas
 pub mod JoinLemmas
+mod FedLemmas

@@ -1,5 +1,5 @@
 -- Elements that come in turn are the merge of their two sides.
-use Rattle.std.proofs.Common.{◌≡◌, ℕ, zero, suc, ◌+◌, ◌<◌, ◌≤◌, Bool, true, false, cond, ◌&&◌, ◌||◌, ◌⊎◌, inl, inr, IsTrue, List, [], ◌∷◌, ◌++◌, map, length, subst, refl, ap, ap₂, sym, ◌∙◌, append-nil, zero-le, arith, tests}
+use Rattle.std.proofs.Common.{◌≡◌, ℕ, zero, suc, ◌<◌, ◌≤◌, Bool, true, false, cond, ◌&&◌, ◌||◌, ◌⊎◌, inl, inr, IsTrue, List, [], ◌∷◌, ◌++◌, map, length, subst, refl, ap, sym, ◌∙◌, zero-le, arith, tests}
 use Rattle.std.specs.Prelude.{if◌then◌else◌, nat_lt, nat_le, ◌==◌}
 use Rattle.std.specs.List.{AllByRecursion, filter}
 use Rattle.sq_value.specs.declared.Value.{Value}

@@ -1,8 +1,8 @@
-use Rattle.std.proofs.Common.{ℕ, ◌≡◌, ◌++◌, List, ap, ap₂, sym, subst, ◌∙◌}
+use Rattle.std.proofs.Common.{◌≡◌, ◌++◌, List, ap, ap₂, sym, subst, ◌∙◌}
 use Rattle.sq_value.specs.declared.Tuple.{Tuple}
 use Rattle.sq_oper.specs.Given.{given}
 use Rattle.sq_oper.specs.Order.{time_of}
-use Rattle.sq_join.specs.Sides.{join_rest, most_at, IsSide, AllNear}
+use Rattle.sq_join.specs.Sides.{join_rest, AllNear}
 use Rattle.sq_join.proofs.JoinLemmas.{on_err, join_nil, place_after, fed_sound, fed_prefix, fed_law, fed_times, fed_left, fed_right, near_left, near_right}
 use Rattle.sq_join.proofs.join.JoinBoxOperator.feed.Goals as goal
 
