@@ -1,2 +1,1 @@
-pub mod ColumnLemmas
 pub mod StreamLemmas

@@ -1,3 +1,4 @@
+pub mod Columns
 pub mod Streams
 pub mod Names
 pub mod Sound

@@ -1,11 +1,12 @@
 -- What a sound network is.
-use Rattle.std.specs.Prelude.{◌≡◌, ℕ, ◌+◌, ◌^◌, Bool, true, ◌&&◌, ◌==◌, nat_le, List, [], ◌∷◌, map, length, Some, slice_get}
+use Rattle.std.specs.Prelude.{⊤, ◌≡◌, ℕ, ◌+◌, ◌<◌, ◌^◌, Bool, true, ◌&&◌, ◌==◌, nat_le, List, [], ◌∷◌, ◌++◌, map, length, Some, slice_get}
 use Rattle.std.specs.List.{list_all, filter_map, All}
 use Rattle.sq_value.specs.Lists.{are_distinct}
 use Rattle.sq_value.specs.Values.{Columns, kinds_of, names_of}
 use Rattle.sq_value.specs.declared.Kind.TheVariants as kind
 use Rattle.sq_expr.specs.Trees.{Checked}
-use Rattle.sq_expr.specs.Kinds.{fits, kind_in, kinds_agree}
+use Rattle.sq_expr.specs.Kinds.{fits, kind_at, kind_in, kinds_agree}
+use Rattle.sq_aggfn.specs.Windows.{IsWindow}
 use Rattle.sq_graph.specs.declared.BoxKind.{BoxKind}
 use Rattle.sq_graph.specs.declared.BoxKind.TheVariants as boxes
 use Rattle.sq_graph.specs.Wires.{producer_of, inputs_of}
@@ -15,7 +16,8 @@ use Rattle.sq_net.specs.declared.Source.{Source}
 use Rattle.sq_net.specs.declared.Node.{Node}
 use Rattle.sq_net.specs.declared.Output.{Output}
 use Rattle.sq_net.specs.declared.Body.{Body}
-use Rattle.sq_net.specs.declared.Body.TheVariants.{Filter, Map, Union}
+use Rattle.sq_net.specs.declared.Body.TheVariants.{Filter, Map, Union, BSort, Aggregate, Join}
+use Rattle.sq_net.specs.Columns.{columns_at, first_columns, kind_of_func, pair_columns}
 use Rattle.sq_net.specs.Names.{is_name}
 use Rattle.sq_net.specs.Streams.{columns_of_stream}
 
@@ -31,6 +33,9 @@ abbrev pub body_within : Body → Bool
 body_within (Filter preds) = is_between 1 15 (length preds)
 body_within (Map exprs) = is_between 1 16 (length exprs)
 body_within Union = true
+body_within (BSort by slack) = nat_le slack 10000
+body_within (Aggregate funcs group window) = is_between 1 16 (length funcs) && nat_le (length group) 16
+body_within (Join size on) = nat_le size (2 ^ 32)
 
 abbrev pub node_within : Node → Bool
 node_within b = body_within b.body && is_between 0 1000 b.cost && list_all (is_between 0 1000000) b.selectivity
@@ -57,6 +62,9 @@ abbrev pub kind_of_body : Body → BoxKind
 kind_of_body (Filter preds) = boxes.Filter
 kind_of_body (Map exprs) = boxes.Map
 kind_of_body Union = boxes.Union
+kind_of_body (BSort by slack) = boxes.BSort
+kind_of_body (Aggregate funcs group window) = boxes.Aggregate
+kind_of_body (Join size on) = boxes.Join
 
 -- the lists and the wiring agree in number and in the kind and the ports of each box, and name only streams that exist
 pub record Agrees (n : Network) : Type 0 where
@@ -70,10 +78,6 @@ pub record Agrees (n : Network) : Type 0 where
 
 -- ---- the boxes on the columns of what they take
 
-abbrev pub first_columns : List Columns → Columns
-first_columns [] = []
-first_columns (cs ∷ rest) = cs
-
 -- an expression that was checked over these columns
 abbrev pub IsOver : Columns → Checked → Type 0
 IsOver cs e = (e.scope ≡ cs) × (kinds_agree e.scope e.tree ≡ true)
@@ -83,7 +87,9 @@ abbrev pub IsPredicate : Columns → Checked → Type 0
 IsPredicate cs e = IsOver cs e × (fits kind.Bool (kind_in e.scope e.tree) ≡ true)
 
 -- a Filter's ports have its input's kinds; a Map's port has the kinds of its expressions, under names that are names and
--- differ; a Union's inputs are alike, and its port is as they are
+-- differ; a Union's inputs are alike, and its port is as they are; a BSort sorts by a number; an Aggregate's port has the
+-- columns to group by, then one for each function, 16 at most with names that differ; a Join's port has the columns of a
+-- pair, 16 at most
 abbrev pub IsTypedBody : List Columns → Body → List Columns → Type 0
 IsTypedBody ins (Filter preds) ports =
     All (IsPredicate (first_columns ins)) preds × (length ports ≡ length preds + 1)
@@ -93,6 +99,21 @@ IsTypedBody ins (Map exprs) ports =
     × (map (λ e. kind_in e.scope e.tree) exprs ≡ map Some (kinds_of cs)) × All (λ w. is_name w ≡ true) (names_of cs)
     × (are_distinct (names_of cs) ≡ true)
 IsTypedBody ins Union ports = All (λ cs. cs ≡ first_columns ins) ins × (ports ≡ first_columns ins ∷ [])
+IsTypedBody ins (BSort by slack) ports =
+    (kind_at (first_columns ins) by ≡ Some kind.Int) × (ports ≡ first_columns ins ∷ [])
+IsTypedBody ins (Aggregate funcs group window) ports =
+    (given : Columns) × (ports ≡ (columns_at (first_columns ins) group ++ given) ∷ [])
+    × (map (kind_of_func (first_columns ins)) funcs ≡ map Some (kinds_of given)) × All (λ w. is_name w ≡ true) (names_of given)
+    × All (λ i. i < length (first_columns ins)) group
+    × (are_distinct (names_of (columns_at (first_columns ins) group ++ given)) ≡ true)
+    × (nat_le (length group + length funcs) 16 ≡ true)
+IsTypedBody ins (Join size on) ports =
+    IsPredicate (pair_columns ins) on × (ports ≡ pair_columns ins ∷ []) × (nat_le (length (pair_columns ins)) 16 ≡ true)
+
+-- an Aggregate's window moves on, covers what it moves by, and is at most 2^32 ticks and 4096 advances long
+abbrev pub HasWindow : Body → Type 0
+HasWindow (Aggregate funcs group window) = IsWindow window
+HasWindow b = ⊤
 
 -- the columns of what a box takes
 abbrev pub input_columns : Network → ℕ → List Columns
@@ -104,4 +125,5 @@ pub record IsSound (n : Network) : Type 0 where
   pub acyclic : (at : ℕ) → LiesOnCycle n.wires at → ⊥
   pub named : All (λ o. is_name o.name ≡ true) n.outputs
   pub distinct : are_distinct (map (λ o. o.name) n.outputs) ≡ true
+  pub windows : All (λ b. HasWindow b.body) n.boxes
   pub typed : (at : ℕ) (b : Node) → slice_get n.boxes at ≡ Some b → IsTypedBody (input_columns n at) b.body b.schemas

@@ -4,20 +4,18 @@
 //! the port that gives it. Below stand the values, the expressions, the quality graphs and the wiring.
 #![tactic(auto)]
 
-ghost use Rattle.std.specs.Prelude.{◌≡◌, ◌<◌, ◌^◌, true, IfOk, Some, length};
+ghost use Rattle.std.specs.Prelude.{◌≡◌, ◌<◌, ◌^◌, true, Some, length};
 ghost use Rattle.sq_graph.specs.Order.{is_there};
 ghost use Rattle.sq_graph.specs.Wires.{producer_of};
 ghost use Rattle.sq_net.specs.Sound.{IsSound};
 ghost use Rattle.sq_net.specs.Streams.{columns_of_stream, IsTyped};
 
-#[cfg(test)]
-mod tests;
-
+use sq_aggfn::{Func, WindowSpec};
 use sq_expr::{ParseErr, Typed};
 use sq_graph::{Giver, Wiring, given_by};
 use sq_qos::{Graph, GraphErr};
-use sq_value::{ListOf, Name, Schema, copy_name};
-use std::alloc::{AllocError, Global};
+use sq_value::{ListOf, Name, Schema};
+use std::alloc::AllocError;
 use thiserror::Error;
 
 /// A recorded stream: its name, the name of its file, and its schema.
@@ -32,11 +30,31 @@ pub struct Source {
 #[derive(Drop)]
 pub enum Body {
     /// Each tuple goes to the port of the first predicate that is true of it, else to the last port.
-    Filter { preds: ListOf<Typed> },
+    Filter {
+        preds: ListOf<Typed>,
+    },
     /// Each tuple becomes the tuple of the expressions' values.
-    Map { exprs: ListOf<Typed> },
+    Map {
+        exprs: ListOf<Typed>,
+    },
     /// The tuples of all inputs, by their times.
     Union,
+    /// The tuples by the number in the field `by`, as far as a buffer of `slack` tuples can bring them in order.
+    BSort {
+        by: u32,
+        slack: u32,
+    },
+    /// For each window and each group of tuples with equal fields `group`, these fields and the functions' answers.
+    Aggregate {
+        funcs: ListOf<Func>,
+        group: ListOf<u32>,
+        window: WindowSpec,
+    },
+    /// The pairs of a left and a right tuple, at most `size` ticks apart, of which the predicate is true.
+    Join {
+        size: u64,
+        on: Typed,
+    },
 }
 
 /// A box: its name, what it does, a schema and a selectivity (in permille) for each port, and what a tuple costs.
@@ -93,29 +111,6 @@ impl Network {
         ensures { columns_of_stream self.now stream ≡ Some result.now }
     {
         self.schema_given(stream)
-    }
-}
-
-fn copy_names(alloc: Global, names: &[Name]) -> Result<Vec<Name>, AllocError>
-    ensures { IfOk result (λ copies. copies.items ≡ names.now) }
-{
-    let mut copies = Vec::new(alloc);
-    for name in names {
-        copies.push(copy_name(name)?)?;
-    }
-    Ok(copies)
-}
-
-/// A copy of a schema.
-#[tactic(auto, using(crate::proofs::ColumnLemmas::columns_of_parts))]
-pub fn copy_schema(alloc: Global, schema: &Schema) -> Result<Schema, AllocError>
-    ensures { IfOk result (λ copy. copy ≡ schema.now) }
-{
-    let names = copy_names(alloc, schema.names())?;
-    let kinds = Vec::from_slice(alloc, schema.kinds())?;
-    match Schema::new(names, kinds) {
-        Ok(copy) => Ok(copy),
-        Err(_) => Err(AllocError),
     }
 }
 

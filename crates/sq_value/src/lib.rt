@@ -6,7 +6,7 @@
 
 ghost use Rattle.std.specs.Prelude.{◌≡◌, ◌↔◌, ◌<◌, [], Err, None, Some, IfOk, MatchResult, length};
 ghost use Rattle.std.specs.List.{zip};
-ghost use Rattle.sq_value.specs.Schemas.{schema_error};
+ghost use Rattle.sq_value.specs.Schemas.{schema_error, AreColumns};
 ghost use Rattle.sq_value.specs.Values.{kinds_of, names_of};
 
 mod copies;
@@ -17,7 +17,7 @@ mod order;
 mod tests;
 mod written;
 
-pub use copies::{copy_fields, copy_name, copy_tuple, copy_txt, copy_value};
+pub use copies::{copy_fields, copy_name, copy_schema, copy_tuple, copy_txt, copy_value};
 pub use laws::{values_are_ordered, values_are_read_back};
 pub use numbers::{all_digits, number_of, read_short_number};
 pub use order::{all_differ, compare, fits, same_bytes, same_text};
@@ -226,9 +226,10 @@ impl Schema {
         Ok(Schema { names, kinds })
     }
 
-    /// The names, in order.
+    /// The names, in order: 1 to 16, all different.
     pub fn names(&self) -> &[Name]
-        ensures { result.now ≡ names_of self.now }
+        ensures value { result.now ≡ names_of self.now }
+        ensures columns { AreColumns self.now }
     {
         &self.names
     }
