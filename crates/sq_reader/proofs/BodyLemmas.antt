@@ -24,14 +24,14 @@ use Rattle.sq_net.specs.Names.{is_name}
 use Rattle.sq_net.specs.Sound.{IsOver, IsPredicate, IsTypedBody, kind_of_body}
 use Rattle.sq_net.specs.Sound as sound
 use Rattle.sq_net.proofs.ColumnLemmas.{columns_of_parts}
-use Rattle.sq_reader.specs.declared.raw.Setting.{Setting}
-use Rattle.sq_reader.specs.declared.raw.RawBody.{RawBody}
-use Rattle.sq_reader.specs.declared.raw.RawBody.TheVariants.{Filter, Map, Union}
-use Rattle.sq_reader.specs.declared.raw.RawBox.{RawBox}
-use Rattle.sq_reader.specs.Places.{place_at}
-use Rattle.sq_reader.specs.Rawly.{◌>>=◌}
+use Rattle.sq_tables.specs.declared.raw.Setting.{Setting}
+use Rattle.sq_tables.specs.declared.raw.RawBody.{RawBody}
+use Rattle.sq_tables.specs.declared.raw.RawBody.TheVariants.{Filter, Map, Union}
+use Rattle.sq_tables.specs.declared.raw.RawBox.{RawBox}
+use Rattle.sq_tables.specs.Places.{place_at}
+use Rattle.sq_tables.specs.Rawly.{◌>>=◌}
 use Rattle.sq_reader.specs.Limits.{body_within, first_failing, has_between, is_expression_long}
-use Rattle.sq_reader.specs.Shapes.{ports_of}
+use Rattle.sq_tables.specs.Shapes.{ports_of}
 use Rattle.sq_reader.specs.Streaming as wires
 use Rattle.sq_reader.specs.Expressions.{allowed, may_be_predicate, may_be_set, or_no_expression, parsed_from, typed_from, typed_in}
 use Rattle.sq_reader.specs.Columns.{TypedBody, bad_name, body_of, filter_of, kinds_set, map_of, nat_of, node_in, node_of, same_columns, same_kinds, same_names, set_names, set_texts, union_of, unless_schema}

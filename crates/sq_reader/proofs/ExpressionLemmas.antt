@@ -9,10 +9,10 @@ use Rattle.sq_expr.specs.Asts.{Ast}
 use Rattle.sq_net.specs.declared.NetErr.{NetErr}
 use Rattle.sq_net.specs.declared.NetErr.TheVariants as broken
 use Rattle.sq_net.specs.declared.Part.TheVariants as part
-use Rattle.sq_reader.specs.Places.{place_at}
+use Rattle.sq_tables.specs.Places.{place_at}
 use Rattle.sq_expr.specs.Grammar.{parse_in}
 use Rattle.sq_reader.specs.Expressions.{allowed, or_no_expression, parsed_from, typed_from}
-use Rattle.sq_reader.proofs.ShapedLemmas.{joined, joined-cons, drop-at}
+use Rattle.sq_tables.proofs.ShapedLemmas.{joined, joined-cons, drop-at}
 
 pub parsed_more : (n i : ℕ) (front : List Ast) (ws : List (List ℕ)) (w : List ℕ) (a : Ast) → i < length ws → w ≡ get_or ws i w → or_no_expression n i (parse_in w) ≡ Ok a
     → joined (front ++ a ∷ []) (parsed_from n (i + 1) (drop (i + 1) ws)) ≡ joined front (parsed_from n i (drop i ws))

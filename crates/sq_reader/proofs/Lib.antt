@@ -1,5 +1,3 @@
-pub mod DocumentLemmas
-pub mod ShapedLemmas
 pub mod ListLemmas
 pub mod LimitLemmas
 pub mod NamingLemmas

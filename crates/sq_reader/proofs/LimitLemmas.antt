@@ -6,16 +6,16 @@ use Rattle.std.proofs.lemmas.Bool.Decides.{nat_tests}
 use Rattle.std.proofs.lemmas.List.{length-map}
 use Rattle.sq_net.specs.declared.Part.TheVariants as part
 use Rattle.sq_net.specs.declared.Place.{Place}
-use Rattle.sq_reader.specs.declared.raw.RawSource.{RawSource}
-use Rattle.sq_reader.specs.declared.raw.Setting.{Setting}
-use Rattle.sq_reader.specs.declared.raw.RawBody.{RawBody}
-use Rattle.sq_reader.specs.declared.raw.RawBody.TheVariants.{Filter, Map, Union}
-use Rattle.sq_reader.specs.declared.raw.RawBox.{RawBox}
-use Rattle.sq_reader.specs.declared.raw.Raw.{Raw}
-use Rattle.sq_reader.specs.Places.{or_else, place_of}
+use Rattle.sq_tables.specs.declared.raw.RawSource.{RawSource}
+use Rattle.sq_tables.specs.declared.raw.Setting.{Setting}
+use Rattle.sq_tables.specs.declared.raw.RawBody.{RawBody}
+use Rattle.sq_tables.specs.declared.raw.RawBody.TheVariants.{Filter, Map, Union}
+use Rattle.sq_tables.specs.declared.raw.RawBox.{RawBox}
+use Rattle.sq_tables.specs.declared.raw.Raw.{Raw}
+use Rattle.sq_tables.specs.Places.{or_else, place_of}
 use Rattle.sq_reader.specs.Limits as limits
 use Rattle.sq_reader.specs.Limits.{body_within, box_within, first_failing, has_between, inputs_within, is_between, is_expression_long, limit_place, source_within, top_within}
-use Rattle.sq_reader.specs.Shapes.{ports_of}
+use Rattle.sq_tables.specs.Shapes.{ports_of}
 use Rattle.sq_reader.specs.Columns.{set_names, set_texts}
 use Rattle.sq_reader.proofs.ListLemmas.{and_parts, none_failing, nothing_mapped}
 

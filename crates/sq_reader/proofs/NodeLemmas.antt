@@ -17,9 +17,9 @@ use Rattle.sq_net.specs.declared.Source as declared
 use Rattle.sq_net.specs.declared.Node.{Node}
 use Rattle.sq_net.specs.declared.NetErr.{NetErr}
 use Rattle.sq_net.specs.Streams.{columns_of_port}
-use Rattle.sq_reader.specs.declared.raw.RawBox.{RawBox}
-use Rattle.sq_reader.specs.declared.raw.Raw.{Raw}
-use Rattle.sq_reader.specs.Refusals.{Answers}
+use Rattle.sq_tables.specs.declared.raw.RawBox.{RawBox}
+use Rattle.sq_tables.specs.declared.raw.Raw.{Raw}
+use Rattle.sq_tables.specs.Refusals.{Answers}
 use Rattle.sq_reader.specs.Columns.{columns_known, columns_taken, node_at, node_in, node_known, node_of_box, nodes_from}
 use Rattle.sq_reader.proofs.ListLemmas.{and_parts, get_set, get_set_other, given_few}
 use Rattle.sq_reader.proofs.BodyLemmas.{first_step}

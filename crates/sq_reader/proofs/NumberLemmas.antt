@@ -7,10 +7,10 @@ use Rattle.std.specs.Str.{bytes_eq}
 use Rattle.std.proofs.lemmas.List.{drop_all}
 use Rattle.std.proofs.lemmas.Map.Text.{is_eq-slice_cmp}
 use Rattle.sq_value.specs.Lists.{same_bytes}
-use Rattle.sq_reader.specs.Places.{or_else}
+use Rattle.sq_tables.specs.Places.{or_else}
 use Rattle.sq_reader.specs.Streaming.{Numbers, also_numbered, number_in, stream_named}
 use Rattle.sq_reader.proofs.DistinctLemmas.{same_text}
-use Rattle.sq_reader.proofs.ShapedLemmas.{drop-at}
+use Rattle.sq_tables.proofs.ShapedLemmas.{drop-at}
 
 alone : (o : Option ℕ) → o ≡ or_else o None
 alone None = refl

@@ -30,17 +30,17 @@ use Rattle.sq_net.specs.declared.Place.{Place}
 use Rattle.sq_net.specs.Names.{is_name}
 use Rattle.sq_net.specs.Streams.{columns_given, columns_of_port, columns_of_stream}
 use Rattle.sq_net.specs.Sound.{Agrees, IsSound, body_within, input_columns, is_between, kind_of_body, network_within, node_within, output_within}
-use Rattle.sq_reader.specs.declared.raw.RawBox.{RawBox}
-use Rattle.sq_reader.specs.declared.raw.RawOutput.{RawOutput}
-use Rattle.sq_reader.specs.declared.raw.Raw.{Raw}
-use Rattle.sq_reader.specs.Places.{place_of}
-use Rattle.sq_reader.specs.Refusals.{Answers}
-use Rattle.sq_reader.specs.Rawly.{◌>>=◌, raw_in}
-use Rattle.sq_reader.specs.Unbuilt.{unbuilt_place}
+use Rattle.sq_tables.specs.declared.raw.RawBox.{RawBox}
+use Rattle.sq_tables.specs.declared.raw.RawOutput.{RawOutput}
+use Rattle.sq_tables.specs.declared.raw.Raw.{Raw}
+use Rattle.sq_tables.specs.Places.{place_of}
+use Rattle.sq_tables.specs.Refusals.{Answers}
+use Rattle.sq_tables.specs.Rawly.{◌>>=◌, raw_in}
+use Rattle.sq_tables.specs.Unbuilt.{unbuilt_place}
 use Rattle.sq_reader.specs.Limits as limits
 use Rattle.sq_reader.specs.Limits.{box_within, has_between, limit_place}
 use Rattle.sq_reader.specs.Naming.{name_place, twice_place}
-use Rattle.sq_reader.specs.Shapes.{ports_of}
+use Rattle.sq_tables.specs.Shapes.{ports_of}
 use Rattle.sq_reader.specs.Streaming as wires
 use Rattle.sq_reader.specs.Streaming.{box_wires, cycle_in, stream_named, stream_names, unknown_place, wiring_by, wiring_of}
 use Rattle.sq_reader.specs.Sources.{sources_from}

@@ -6,9 +6,9 @@ use Rattle.std.proofs.lemmas.List.{drop_all}
 use Rattle.sq_value.specs.Values.{Columns}
 use Rattle.sq_value.specs.declared.Kind.{Kind}
 use Rattle.sq_net.specs.declared.Source.{Source}
-use Rattle.sq_reader.specs.declared.raw.RawSource.{RawSource}
+use Rattle.sq_tables.specs.declared.raw.RawSource.{RawSource}
 use Rattle.sq_reader.specs.Sources.{column_in, columns_from, source_of, sources_from}
-use Rattle.sq_reader.proofs.ShapedLemmas.{joined, joined-cons, zip-push, drop-at}
+use Rattle.sq_tables.proofs.ShapedLemmas.{joined, joined-cons, zip-push, drop-at}
 
 pub columns_more : (n i : ℕ) (before : List (List ℕ)) (kinds : List Kind) (fields : List (List ℕ)) (w name : List ℕ) (k : Kind)
     → i < length fields → w ≡ get_or fields i w → length before ≡ length kinds → column_in before w ≡ Some (name, k)

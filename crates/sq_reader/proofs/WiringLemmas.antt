@@ -12,12 +12,12 @@ use Rattle.sq_graph.specs.declared.BoxWires.{BoxWires}
 use Rattle.sq_graph.specs.declared.Wiring.{Wiring}
 use Rattle.sq_graph.specs.Wires.{Source, Port, producers_of, producer_of}
 use Rattle.sq_graph.specs.Order.{is_there, IsWired}
-use Rattle.sq_reader.specs.declared.raw.RawBody.{RawBody}
-use Rattle.sq_reader.specs.declared.raw.RawBody.TheVariants.{Filter, Map, Union}
-use Rattle.sq_reader.specs.declared.raw.RawBox.{RawBox}
-use Rattle.sq_reader.specs.declared.raw.RawSource.{RawSource}
-use Rattle.sq_reader.specs.declared.raw.Raw.{Raw}
-use Rattle.sq_reader.specs.Shapes.{ports_of}
+use Rattle.sq_tables.specs.declared.raw.RawBody.{RawBody}
+use Rattle.sq_tables.specs.declared.raw.RawBody.TheVariants.{Filter, Map, Union}
+use Rattle.sq_tables.specs.declared.raw.RawBox.{RawBox}
+use Rattle.sq_tables.specs.declared.raw.RawSource.{RawSource}
+use Rattle.sq_tables.specs.declared.raw.Raw.{Raw}
+use Rattle.sq_tables.specs.Shapes.{ports_of}
 use Rattle.sq_reader.specs.Limits.{box_within, limit_place}
 use Rattle.sq_reader.specs.Streaming.{box_wires, port_name, port_names, stream_named, stream_names, wiring_by, wiring_of}
 use Rattle.sq_reader.proofs.LimitLemmas.{box_of, counts_of, ports_few}

@@ -17,14 +17,14 @@ use Rattle.sq_net.specs.declared.NetErr.TheVariants as broken
 use Rattle.sq_net.specs.declared.Part.TheVariants as part
 use Rattle.sq_net.specs.Names.{is_name}
 use Rattle.sq_net.specs.Streams.{columns_of_port}
-use Rattle.sq_reader.specs.declared.raw.Setting.{Setting}
-use Rattle.sq_reader.specs.declared.raw.RawBody.{RawBody}
-use Rattle.sq_reader.specs.declared.raw.RawBody.TheVariants.{Filter, Map, Union}
-use Rattle.sq_reader.specs.declared.raw.RawBox.{RawBox}
-use Rattle.sq_reader.specs.declared.raw.Raw.{Raw}
-use Rattle.sq_reader.specs.Places.{place_at}
+use Rattle.sq_tables.specs.declared.raw.Setting.{Setting}
+use Rattle.sq_tables.specs.declared.raw.RawBody.{RawBody}
+use Rattle.sq_tables.specs.declared.raw.RawBody.TheVariants.{Filter, Map, Union}
+use Rattle.sq_tables.specs.declared.raw.RawBox.{RawBox}
+use Rattle.sq_tables.specs.declared.raw.Raw.{Raw}
+use Rattle.sq_tables.specs.Places.{place_at}
 use Rattle.sq_reader.specs.Limits.{first_failing}
-use Rattle.sq_reader.specs.Rawly.{◌>>=◌}
+use Rattle.sq_tables.specs.Rawly.{◌>>=◌}
 use Rattle.sq_reader.specs.Expressions.{may_be_predicate, may_be_set, typed_in}
 
 abbrev pub same_names : List (List ℕ) → List (List ℕ) → Bool

@@ -13,8 +13,8 @@ use Rattle.sq_expr.specs.Checking.{Kinded, check_in}
 use Rattle.sq_net.specs.declared.NetErr.{NetErr}
 use Rattle.sq_net.specs.declared.NetErr.TheVariants as broken
 use Rattle.sq_net.specs.declared.Part.TheVariants as part
-use Rattle.sq_reader.specs.Places.{place_at}
-use Rattle.sq_reader.specs.Rawly.{◌>>=◌}
+use Rattle.sq_tables.specs.Places.{place_at}
+use Rattle.sq_tables.specs.Rawly.{◌>>=◌}
 
 abbrev pub or_no_expression : ℕ → ℕ → Result Ast ParseErr → Result Ast NetErr
 or_no_expression n i (Ok a) = Ok a

@@ -1,11 +1,3 @@
-pub mod Documents
-pub mod Readings
-pub mod Refusals
-pub mod Places
-pub mod Shapes
-pub mod ShapesSeen
-pub mod Unbuilt
-pub mod Rawly
 pub mod Limits
 pub mod Naming
 pub mod Streaming

@@ -3,12 +3,12 @@ use Rattle.std.specs.Prelude.{ℕ, ◌^◌, Bool, true, not, ◌&&◌, nat_le, i
 use Rattle.std.specs.List.{list_all}
 use Rattle.sq_net.specs.declared.Part.TheVariants as part
 use Rattle.sq_net.specs.declared.Place.{Place}
-use Rattle.sq_reader.specs.declared.raw.RawSource.{RawSource}
-use Rattle.sq_reader.specs.declared.raw.RawBody.{RawBody}
-use Rattle.sq_reader.specs.declared.raw.RawBody.TheVariants.{Filter, Map, Union}
-use Rattle.sq_reader.specs.declared.raw.RawBox.{RawBox}
-use Rattle.sq_reader.specs.declared.raw.Raw.{Raw}
-use Rattle.sq_reader.specs.Places.{place_of, or_else}
+use Rattle.sq_tables.specs.declared.raw.RawSource.{RawSource}
+use Rattle.sq_tables.specs.declared.raw.RawBody.{RawBody}
+use Rattle.sq_tables.specs.declared.raw.RawBody.TheVariants.{Filter, Map, Union}
+use Rattle.sq_tables.specs.declared.raw.RawBox.{RawBox}
+use Rattle.sq_tables.specs.declared.raw.Raw.{Raw}
+use Rattle.sq_tables.specs.Places.{place_of, or_else}
 
 abbrev pub is_between : ℕ → ℕ → ℤ → Bool
 is_between low high z = int_le (pos low) z && int_le z (pos high)

@@ -10,9 +10,9 @@ use Rattle.sq_net.specs.declared.NetErr.TheVariants as broken
 use Rattle.sq_net.specs.declared.Part.TheVariants as part
 use Rattle.sq_net.specs.declared.Source.{Source}
 use Rattle.sq_net.specs.Names.{is_name}
-use Rattle.sq_reader.specs.declared.raw.RawSource.{RawSource}
-use Rattle.sq_reader.specs.Places.{place_at}
-use Rattle.sq_reader.specs.Rawly.{◌>>=◌, or_broken}
+use Rattle.sq_tables.specs.declared.raw.RawSource.{RawSource}
+use Rattle.sq_tables.specs.Places.{place_at}
+use Rattle.sq_tables.specs.Rawly.{◌>>=◌, or_broken}
 
 abbrev pub is_colon : ℕ → Bool
 is_colon b = b == 58

@@ -8,12 +8,12 @@ ghost use Rattle.sq_net.specs.declared.Part.TheVariants as part;
 ghost use Rattle.sq_reader.specs.Columns.{bad_name, columns_known, columns_taken, kinds_set, nat_of, same_columns, same_kinds, same_names, set_names, set_texts};
 ghost use Rattle.sq_reader.specs.Expressions.{may_be_predicate, may_be_set, typed_from, typed_in};
 ghost use Rattle.sq_reader.specs.Limits.{first_failing, is_expression_long};
-ghost use Rattle.sq_reader.specs.Places.{place_at};
-ghost use Rattle.sq_reader.specs.Refusals.{Answers, is_memory};
+ghost use Rattle.sq_tables.specs.Places.{place_at};
+ghost use Rattle.sq_tables.specs.Refusals.{Answers, is_memory};
 
 use crate::expressions::{parsed, predicate_in, set_in};
 use crate::names::is_name;
-use crate::raw::Setting;
+use sq_tables::Setting;
 use crate::reading::push;
 use crate::sources::is_among;
 use sq_expr::{Ast, Typed};

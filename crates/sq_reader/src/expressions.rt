@@ -7,8 +7,8 @@ ghost use Rattle.sq_net.specs.declared.NetErr.TheVariants as broken;
 ghost use Rattle.sq_net.specs.declared.Part.TheVariants as part;
 ghost use Rattle.sq_reader.specs.Expressions.{allowed, may_be_predicate, may_be_set, or_no_expression, parsed_from, typed_from, typed_in};
 ghost use Rattle.sq_reader.specs.Limits.{is_expression_long};
-ghost use Rattle.sq_reader.specs.Places.{place_at};
-ghost use Rattle.sq_reader.specs.Refusals.{Answers, is_memory};
+ghost use Rattle.sq_tables.specs.Places.{place_at};
+ghost use Rattle.sq_tables.specs.Refusals.{Answers, is_memory};
 
 use crate::limits::place_at;
 use crate::reading::push;

@@ -9,23 +9,18 @@ ghost use Rattle.std.specs.Prelude.{◌≡◌, IfOk};
 ghost use Rattle.toml.specs.View.{table_view};
 ghost use Rattle.sq_net.specs.Sound.{IsSound};
 ghost use Rattle.sq_reader.specs.Networks.{is_version_one, network_from, network_in};
-ghost use Rattle.sq_reader.specs.Refusals.{Answers};
+ghost use Rattle.sq_tables.specs.Refusals.{Answers};
 
 mod boxes;
-mod document;
 mod expressions;
 mod limits;
 mod names;
 mod network;
 mod nodes;
-mod raw;
-mod reading;
-mod shape;
 mod sources;
 mod streams;
 #[cfg(test)]
 mod tests;
-mod unbuilt;
 
 use document::{Table, value_at};
 use sq_net::{NetErr, Network};

@@ -3,9 +3,9 @@ ghost use Rattle.std.specs.Prelude.{◌≡◌, ◌<◌, ◌^◌, length, option_
 ghost use Rattle.std.specs.List.{list_all};
 ghost use Rattle.sq_net.specs.declared.Part.TheVariants as part;
 ghost use Rattle.sq_reader.specs.Limits.{body_within, box_within, first_failing, has_between, inputs_within, is_between, is_expression_long, limit_place, source_within, top_within};
-ghost use Rattle.sq_reader.specs.Places.{place_at, place_of};
+ghost use Rattle.sq_tables.specs.Places.{place_at, place_of};
 
-use crate::raw::{Raw, RawBody, RawBox, RawSource, Setting};
+use sq_tables::{Raw, RawBody, RawBox, RawSource, Setting};
 use sq_net::{Part, Place};
 use sq_value::Name;
 

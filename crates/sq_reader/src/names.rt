@@ -9,7 +9,7 @@ ghost use Rattle.sq_reader.specs.Naming.{first_repeat, name_place, place_in_spac
 
 use crate::document::is_known;
 use crate::limits::whole;
-use crate::raw::{Raw, RawBox, RawOutput, RawSource};
+use sq_tables::{Raw, RawBox, RawOutput, RawSource};
 use indexmap::IndexSet;
 use sq_net::{Part, Place};
 use sq_value::{Name, copy_name};

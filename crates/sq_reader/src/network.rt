@@ -6,14 +6,14 @@ ghost use Rattle.sq_net.specs.declared.NetErr.TheVariants as broken;
 ghost use Rattle.sq_net.specs.declared.Part.TheVariants as part;
 ghost use Rattle.sq_reader.specs.Limits.{limit_place};
 ghost use Rattle.sq_reader.specs.Networks.{even_graph, named_network, ordered_network, output_of, single_network, streamed_network, typed_network, wired_network};
-ghost use Rattle.sq_reader.specs.Places.{place_of};
-ghost use Rattle.sq_reader.specs.Refusals.{Answers, is_memory};
+ghost use Rattle.sq_tables.specs.Places.{place_of};
+ghost use Rattle.sq_tables.specs.Refusals.{Answers, is_memory};
 ghost use Rattle.sq_reader.specs.Streaming.{cycle_in, number_in, stream_named, stream_names, unknown_place, wiring_of};
 
 use crate::limits::limit_place;
 use crate::names::{name_place, twice_place};
 use crate::nodes::{natural, nodes_in};
-use crate::raw::{Raw, RawOutput};
+use sq_tables::{Raw, RawOutput};
 use crate::sources::sources_in;
 use crate::streams::{numbers_of, stream_names, unknown_place, wiring};
 use indexmap::IndexMap;

@@ -2,10 +2,10 @@
 ghost use Rattle.std.specs.Prelude.{◌≡◌, ◌<◌, ◌^◌, true, false, Ok, Err, IfOk, IfErr, Some, None, length, map, slice_set};
 ghost use Rattle.sq_graph.specs.Order.{order_of};
 ghost use Rattle.sq_graph.specs.Wires.{inputs_of};
-ghost use Rattle.sq_reader.specs.declared.raw.RawBody.TheVariants as raw;
+ghost use Rattle.sq_tables.specs.declared.raw.RawBody.TheVariants as raw;
 ghost use Rattle.sq_reader.specs.Columns.{body_of, body_on, columns_taken, filter_of, map_of, nat_of, no_nodes, node_at, node_in, nodes_from, union_of};
 ghost use Rattle.sq_reader.specs.Limits.{body_within, box_within, limit_place};
-ghost use Rattle.sq_reader.specs.Refusals.{Answers, is_memory};
+ghost use Rattle.sq_tables.specs.Refusals.{Answers, is_memory};
 ghost use Rattle.sq_reader.specs.Streaming.{unknown_place, wiring_of};
 
 use crate::boxes::{
@@ -13,7 +13,7 @@ use crate::boxes::{
     values_in,
 };
 use crate::limits::place_at;
-use crate::raw::{Raw, RawBody, RawBox, Setting};
+use sq_tables::{Raw, RawBody, RawBox, Setting};
 use crate::reading::push;
 use crate::sources::schema_of;
 use sq_graph::Wiring;

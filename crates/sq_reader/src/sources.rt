@@ -4,12 +4,12 @@ ghost use Rattle.std.specs.List.{list_all, zip};
 ghost use Rattle.sq_value.specs.Lists.{contains_bytes};
 ghost use Rattle.sq_value.specs.Schemas.{schema_error};
 ghost use Rattle.sq_reader.specs.Limits.{source_within};
-ghost use Rattle.sq_reader.specs.Refusals.{Answers, is_memory};
+ghost use Rattle.sq_tables.specs.Refusals.{Answers, is_memory};
 ghost use Rattle.sq_reader.specs.Sources.{column_in, columns_from, kind_named, sources_from};
 
 use crate::limits::place_at;
 use crate::names::is_name;
-use crate::raw::RawSource;
+use sq_tables::RawSource;
 use crate::reading::push;
 use sq_net::{NetErr, Part, Source};
 use sq_value::{Kind, Name, Schema, copy_name, same_text};

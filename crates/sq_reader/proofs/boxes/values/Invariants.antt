@@ -1,6 +1,6 @@
 use Rattle.std.proofs.Common.{◌≡◌, drop}
 use Rattle.sq_reader.specs.Expressions.{may_be_set, typed_from}
-use Rattle.sq_reader.proofs.ShapedLemmas.{joined}
+use Rattle.sq_tables.proofs.ShapedLemmas.{joined}
 use Rattle.sq_reader.proofs.boxes.values.Given as goal
 
 abbrev pub invariant-loop-item : goal.invariant-loop-item

@@ -1,7 +1,7 @@
 use Rattle.std.proofs.Common.{◌≡◌, [], length, drop}
 use Rattle.std.specs.List.{zip}
 use Rattle.sq_reader.specs.Sources.{columns_from}
-use Rattle.sq_reader.proofs.ShapedLemmas.{joined}
+use Rattle.sq_tables.proofs.ShapedLemmas.{joined}
 use Rattle.sq_reader.proofs.sources.schema_in.Given as goal
 
 abbrev pub invariant-loop-item : goal.invariant-loop-item

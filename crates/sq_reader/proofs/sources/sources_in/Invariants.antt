@@ -1,6 +1,6 @@
 use Rattle.std.proofs.Common.{◌≡◌, drop}
 use Rattle.sq_reader.specs.Sources.{sources_from}
-use Rattle.sq_reader.proofs.ShapedLemmas.{joined}
+use Rattle.sq_tables.proofs.ShapedLemmas.{joined}
 use Rattle.sq_reader.proofs.sources.sources_in.Given as goal
 
 abbrev pub invariant-loop-number : goal.invariant-loop-number

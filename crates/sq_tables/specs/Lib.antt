@@ -1,0 +1,8 @@
+pub mod Documents
+pub mod Readings
+pub mod Refusals
+pub mod Places
+pub mod Shapes
+pub mod ShapesSeen
+pub mod Unbuilt
+pub mod Rawly

@@ -1,0 +1,60 @@
+-- The tables of a file one after another; the first that is out of shape refuses it.
+use Rattle.std.specs.Prelude.{ℕ, ◌+◌, Bool, false, if◌then◌else◌, List, [], ◌∷◌, ℤ, pos, Option, Some, None, Result, Ok, Err, codes}
+use Rattle.std.specs.Option.{option_and_then}
+use Rattle.std.specs.Ordering.{int_eq}
+use Rattle.toml.specs.Data.{Members, get_member, as_integer}
+use Rattle.sq_net.specs.declared.Place.{Place}
+use Rattle.sq_net.specs.declared.Part.{Part}
+use Rattle.sq_net.specs.declared.Part.TheVariants as part
+use Rattle.sq_net.specs.declared.NetErr.{NetErr}
+use Rattle.sq_net.specs.declared.NetErr.TheVariants as broken
+use Rattle.sq_tables.specs.declared.raw.Raw.{Raw}
+use Rattle.sq_tables.specs.Documents.{document_in}
+use Rattle.sq_tables.specs.Places.{place_of}
+use Rattle.sq_tables.specs.Unbuilt.{unbuilt_place}
+use Rattle.sq_tables.specs.Shapes.{top_in, source_in, box_in, output_in}
+
+infixl 10 ◌>>=◌
+abbrev pub ◌>>=◌ : {A B : Type 0} → Result A NetErr → (A → Result B NetErr) → Result B NetErr
+(Ok x) >>= f = f x
+(Err e) >>= f = Err e
+
+abbrev pub or_broken : {A : Type 0} → NetErr → Option A → Result A NetErr
+or_broken e None = Err e
+or_broken e (Some x) = Ok x
+
+-- each table, read by f; the first that is out of shape
+abbrev pub shaped_from : {A : Type 0} → Part → (Members → Option A) → ℕ → List Members → Result (List A) NetErr
+shaped_from p f n [] = Ok []
+shaped_from p f n (t ∷ ts) = do
+  x ← or_broken (broken.Shape (place_of p n)) (f t)
+  xs ← shaped_from p f (n + 1) ts
+  Ok (x ∷ xs)
+
+abbrev pub raw_in : Members → Result Raw NetErr
+raw_in ms = do
+  t ← or_broken (broken.Shape (place_of part.Top 0)) (top_in ms)
+  sources ← shaped_from part.Source source_in 0 t.sources
+  boxes ← shaped_from part.Box box_in 0 t.boxes
+  outputs ← shaped_from part.Output output_in 0 t.outputs
+  Ok (record { epoch = t.epoch; batch = t.batch; sources = sources; boxes = boxes; outputs = outputs })
+
+-- go on where no place breaks a rule
+abbrev pub unless_at : {A : Type 0} → (Place → NetErr) → Option Place → Result A NetErr → Result A NetErr
+unless_at e None more = more
+unless_at e (Some p) more = Err (e p)
+
+-- whether the version is there and is 1
+abbrev pub is_one : Option ℤ → Bool
+is_one None = false
+is_one (Some z) = int_eq z (pos 1)
+
+abbrev pub is_version_one : Members → Bool
+is_version_one ms = is_one (option_and_then as_integer (get_member (codes "version") ms))
+
+abbrev pub raw_from : Members → Result Raw NetErr
+raw_from ms = if is_version_one ms then unless_at broken.NotBuilt (unbuilt_place ms) (raw_in ms) else Err broken.Version
+
+-- the tables of a file's bytes, or the first rule that they break
+abbrev pub raw_of : List ℕ → Result Raw NetErr
+raw_of bytes = or_broken broken.Toml (document_in bytes) >>= raw_from

@@ -1,0 +1,108 @@
+-- A network file by its tables, before its names and numbers are checked. A table without a key that it needs, with
+-- one that it doesn't know, or with a value of another kind, gives nothing.
+use Rattle.std.specs.Prelude.{◌≡◌, ℕ, ◌+◌, true, ◌==◌, if◌then◌else◌, List, [], ◌∷◌, length, replicate, ℤ, pos, Option, Some, None, codes}
+use Rattle.sq_value.specs.Lists.{same_bytes}
+use Rattle.std.specs.List.{All}
+use Rattle.toml.specs.Data.{Data, array, no_items, item, Members, get_member, as_str, as_integer, as_table}
+use Rattle.sq_tables.specs.declared.raw.RawSource.{RawSource}
+use Rattle.sq_tables.specs.declared.raw.Setting.{Setting}
+use Rattle.sq_tables.specs.declared.raw.RawBody.{RawBody}
+use Rattle.sq_tables.specs.declared.raw.RawBody.TheVariants.{Filter, Map, Union}
+use Rattle.sq_tables.specs.declared.raw.RawBox.{RawBox}
+use Rattle.sq_tables.specs.declared.raw.RawOutput.{RawOutput}
+use Rattle.sq_tables.specs.declared.raw.Raw.{Raw}
+use Rattle.sq_tables.specs.Documents.{◌>>=◌, when, list_in, has_only, required, optional}
+
+-- the top of a file: its numbers, and its tables
+pub record Tables : Type 0 where
+  pub epoch : ℤ
+  pub batch : ℤ
+  pub sources : List Members
+  pub boxes : List Members
+  pub outputs : List Members
+
+abbrev pub top_keys : List (List ℕ)
+top_keys = codes "version" ∷ codes "epoch" ∷ codes "batch" ∷ codes "source" ∷ codes "box" ∷ codes "output" ∷ []
+
+abbrev pub top_in : Members → Option Tables
+top_in ms = do
+  _keys ← when (has_only top_keys ms) true
+  epoch ← optional (pos 1000) as_integer (get_member (codes "epoch") ms)
+  batch ← optional (pos 1) as_integer (get_member (codes "batch") ms)
+  sources ← required (list_in as_table) (get_member (codes "source") ms)
+  boxes ← optional [] (list_in as_table) (get_member (codes "box") ms)
+  outputs ← required (list_in as_table) (get_member (codes "output") ms)
+  Some (record { epoch = epoch; batch = batch; sources = sources; boxes = boxes; outputs = outputs })
+
+abbrev pub source_in : Members → Option RawSource
+source_in ms = do
+  _keys ← when (has_only (codes "name" ∷ codes "file" ∷ codes "fields" ∷ []) ms) true
+  name ← required as_str (get_member (codes "name") ms)
+  file ← required as_str (get_member (codes "file") ms)
+  fields ← required (list_in as_str) (get_member (codes "fields") ms)
+  Some (record { name = name; file = file; fields = fields })
+
+abbrev pub output_in : Members → Option RawOutput
+output_in ms = do
+  _keys ← when (has_only (codes "name" ∷ codes "from" ∷ []) ms) true
+  name ← required as_str (get_member (codes "name") ms)
+  from ← required as_str (get_member (codes "from") ms)
+  Some (record { name = name; from = from })
+
+-- an entry of `set`: a list of a name and an expression
+abbrev pub setting_in : Data → Option Setting
+setting_in (array (item a (item b no_items))) = as_str a >>= λ name. as_str b >>= λ text. Some (record { name = name; text = text })
+setting_in d = None
+
+-- the keys of each box, whatever it does
+abbrev pub box_keys : List (List ℕ)
+box_keys = codes "name" ∷ codes "kind" ∷ codes "in" ∷ codes "cost" ∷ codes "selectivity" ∷ []
+
+abbrev pub filter_in : Members → Option RawBody
+filter_in ms = do
+  _keys ← when (has_only (codes "where" ∷ box_keys) ms) true
+  preds ← required (list_in as_str) (get_member (codes "where") ms)
+  Some (Filter preds)
+
+abbrev pub map_in : Members → Option RawBody
+map_in ms = do
+  _keys ← when (has_only (codes "set" ∷ box_keys) ms) true
+  set ← required (list_in setting_in) (get_member (codes "set") ms)
+  Some (Map set)
+
+abbrev pub union_in : Members → Option RawBody
+union_in ms = do
+  _keys ← when (has_only box_keys ms) true
+  Some Union
+
+-- what a box of a kind does
+abbrev pub body_in : List ℕ → Members → Option RawBody
+body_in kind ms =
+    if same_bytes kind (codes "filter") then filter_in ms
+    else (if same_bytes kind (codes "map") then map_in ms
+    else (if same_bytes kind (codes "union") then union_in ms else None))
+
+abbrev pub ports_of : RawBody → ℕ
+ports_of (Filter preds) = length preds + 1
+ports_of b = 1
+
+-- each port lets all tuples through
+abbrev pub default_selectivity : ℕ → List ℤ
+default_selectivity ports = replicate ports (pos 1000)
+
+abbrev pub box_in : Members → Option RawBox
+box_in ms = do
+  kind ← required as_str (get_member (codes "kind") ms)
+  body ← body_in kind ms
+  name ← required as_str (get_member (codes "name") ms)
+  ins ← required (list_in as_str) (get_member (codes "in") ms)
+  cost ← optional (pos 1) as_integer (get_member (codes "cost") ms)
+  selectivity ← optional (default_selectivity (ports_of body)) (list_in as_integer) (get_member (codes "selectivity") ms)
+  when (length selectivity == ports_of body) (record { name = name; body = body; ins = ins; cost = cost; selectivity = selectivity })
+
+-- a selectivity for each port
+abbrev pub IsEven : RawBox → Type 0
+IsEven b = length b.selectivity ≡ ports_of b.body
+
+abbrev pub AreEven : Raw → Type 0
+AreEven r = All IsEven r.boxes

@@ -1,0 +1,58 @@
+//! A network file by its tables: a TOML document of sources, boxes and outputs, before its names and numbers are checked.
+//!
+//! The contract of `raw_of` promises the tables that the file says, with a selectivity for each port of each box, where the
+//! file is a document of version 1 whose tables have their shape, and else the first broken rule with its first place; want of
+//! memory aside. Below stand the refusals of the typed network, and `toml`, whose values one module alone reads.
+#![tactic(auto)]
+
+ghost use Rattle.std.specs.Prelude.{◌≡◌, IfOk};
+ghost use Rattle.toml.specs.View.{table_view};
+ghost use Rattle.sq_tables.specs.Rawly.{is_version_one, raw_from, raw_of};
+ghost use Rattle.sq_tables.specs.Refusals.{Answers};
+ghost use Rattle.sq_tables.specs.Shapes.{AreEven};
+
+mod document;
+mod raw;
+mod reading;
+mod shape;
+mod unbuilt;
+
+use document::{Table, value_at};
+pub use raw::{Giving, Over, Raw, RawBody, RawBox, RawOutput, RawSource, Setting, Told};
+pub use shape::ports_of;
+use sq_net::NetErr;
+use std::alloc::Global;
+
+fn is_version_one(table: &Table) -> bool
+    ensures { result ≡ is_version_one (table_view table.now) }
+{
+    let Some(version) = value_at(table, "version") else {
+        return false;
+    };
+    match version.as_integer() {
+        Some(number) => number == 1,
+        None => false,
+    }
+}
+
+fn raw_from(alloc: Global, table: &Table) -> Result<Raw, NetErr>
+    ensures { Answers result (raw_from (table_view table.now)) }
+{
+    if !is_version_one(table) {
+        return Err(NetErr::Version);
+    }
+    if let Some(place) = unbuilt::unbuilt_place(table)? {
+        return Err(NetErr::NotBuilt(place));
+    }
+    reading::raw_in(alloc, table)
+}
+
+/// The tables that a file's bytes say, or the first rule that they break, with its first place.
+#[tactic(auto, using(crate::proofs::EvenLemmas::raw_even))]
+pub fn raw_of(alloc: Global, bytes: &[u8]) -> Result<Raw, NetErr>
+    ensures answer { Answers result (raw_of bytes.now) }
+    ensures even { IfOk result AreEven }
+{
+    let table = document::document_in(alloc, bytes)?;
+    raw_from(alloc, &table)
+}

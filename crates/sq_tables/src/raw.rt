@@ -1,0 +1,95 @@
+// A network file by its tables, before its names and numbers are checked.
+use sq_value::{ListOf, Name};
+
+/// A source: its name, the name of its file, and its fields, each `name:kind`.
+#[derive(Drop)]
+pub struct RawSource {
+    pub name: Name,
+    pub file: Name,
+    pub fields: ListOf<Name>,
+}
+
+/// A field that a Map sets: its name, and the text of its expression.
+#[derive(Drop)]
+pub struct Setting {
+    pub name: Name,
+    pub text: Name,
+}
+
+/// A function over the values of a field.
+#[derive(Clone, Copy, Debug, PartialEq, Eq, Drop)]
+pub enum Over {
+    Sum,
+    Avg,
+    Min,
+    Max,
+    First,
+    Last,
+}
+
+/// What an Aggregate tells of the tuples of a group: their number, or a function of a field, by the field's name.
+#[derive(Drop)]
+pub enum Told {
+    Count,
+    Field { over: Over, field: Name },
+}
+
+/// A field that an Aggregate gives: its name, and what it tells.
+#[derive(Drop)]
+pub struct Giving {
+    pub name: Name,
+    pub told: Told,
+}
+
+/// What a box does, by the texts of its expressions and the names of the fields that it takes.
+#[derive(Drop)]
+pub enum RawBody {
+    Filter {
+        preds: ListOf<Name>,
+    },
+    Map {
+        set: ListOf<Setting>,
+    },
+    Union,
+    BSort {
+        by: Name,
+        slack: i64,
+    },
+    Aggregate {
+        size: i64,
+        advance: i64,
+        group: ListOf<Name>,
+        give: ListOf<Giving>,
+    },
+    Join {
+        size: i64,
+        on: Name,
+    },
+}
+
+/// A box: its name, what it does, and the names of the streams that it takes.
+#[derive(Drop)]
+pub struct RawBox {
+    pub name: Name,
+    pub body: RawBody,
+    pub ins: ListOf<Name>,
+    pub cost: i64,
+    pub selectivity: ListOf<i64>,
+}
+
+/// An output: its name, and the name of the stream that it shows.
+#[derive(Drop)]
+pub struct RawOutput {
+    pub name: Name,
+    pub from: Name,
+}
+
+/// A network file, in the order of its tables.
+#[derive(Drop)]
+pub struct Raw {
+    pub epoch: i64,
+    pub batch: i64,
+    pub sources: ListOf<RawSource>,
+    pub boxes: ListOf<RawBox>,
+    pub outputs: ListOf<RawOutput>,
+}

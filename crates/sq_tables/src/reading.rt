@@ -1,0 +1,99 @@
+// The whole of a document by its tables; the first table that is out of shape refuses it.
+ghost use Rattle.std.specs.Prelude.{◌≡◌, ◌++◌, ◌∷◌, [], false, Ok, Err, IfOk, IfErr, OnOk, map};
+ghost use Rattle.sq_net.specs.declared.NetErr.TheVariants as broken;
+ghost use Rattle.sq_net.specs.declared.Part.TheVariants as part;
+ghost use Rattle.toml.specs.View.{table_view};
+ghost use Rattle.sq_tables.specs.declared.document.Unread.TheVariants as unread;
+ghost use Rattle.sq_tables.specs.Places.{place_of};
+ghost use Rattle.sq_tables.specs.Rawly.{raw_in, shaped_from};
+ghost use Rattle.sq_tables.specs.Refusals.{Answers, is_memory};
+ghost use Rattle.sq_tables.specs.Shapes.{box_in, output_in, source_in};
+
+use crate::document::{Table, Unread};
+use crate::raw::{Raw, RawBox, RawOutput, RawSource};
+use crate::shape::{box_in, output_in, source_in, top_in};
+use crate::unbuilt::place_of;
+use sq_net::{NetErr, Part};
+use sq_value::ListOf;
+use std::alloc::{AllocError, Global};
+
+pub(crate) fn push<T: Drop>(list: &mut Vec<T>, item: T) -> Result<(), AllocError>
+    ensures { OnOk result (list.new.items ≡ list.old.items ++ item ∷ []) }
+{
+    list.push(item)?;
+    Ok(())
+}
+
+fn unshaped(e: Unread, part: Part, number: usize) -> NetErr
+    ensures { is_memory result ≡ false → (e ≡ unread.Shape) × (result ≡ broken.Shape (place_of part number)) }
+{
+    match e {
+        Unread::Memory => NetErr::Memory,
+        Unread::Shape => match place_of(part, number) {
+            Ok(place) => NetErr::Shape(place),
+            Err(e) => e,
+        },
+    }
+}
+
+fn sources_in(alloc: Global, tables: &[&Table]) -> Result<Vec<RawSource>, NetErr>
+    ensures ok { IfOk result (λ v. shaped_from part.Source source_in 0 (map (λ t. table_view t.now) tables.now) ≡ Ok v.items) }
+    ensures err { IfErr result (λ e. is_memory e ≡ false → shaped_from part.Source source_in 0 (map (λ t. table_view t.now) tables.now) ≡ Err e) }
+{
+    let mut found = Vec::new(alloc);
+    for (number, table) in tables.iter().enumerate() {
+        match source_in(alloc, table) {
+            Ok(item) => push(&mut found, item)?,
+            Err(e) => return Err(unshaped(e, Part::Source, number)),
+        }
+    }
+    Ok(found)
+}
+
+fn boxes_in(alloc: Global, tables: &[&Table]) -> Result<Vec<RawBox>, NetErr>
+    ensures ok { IfOk result (λ v. shaped_from part.Box box_in 0 (map (λ t. table_view t.now) tables.now) ≡ Ok v.items) }
+    ensures err { IfErr result (λ e. is_memory e ≡ false → shaped_from part.Box box_in 0 (map (λ t. table_view t.now) tables.now) ≡ Err e) }
+{
+    let mut found = Vec::new(alloc);
+    for (number, table) in tables.iter().enumerate() {
+        match box_in(alloc, table) {
+            Ok(item) => push(&mut found, item)?,
+            Err(e) => return Err(unshaped(e, Part::Box, number)),
+        }
+    }
+    Ok(found)
+}
+
+fn outputs_in(alloc: Global, tables: &[&Table]) -> Result<Vec<RawOutput>, NetErr>
+    ensures ok { IfOk result (λ v. shaped_from part.Output output_in 0 (map (λ t. table_view t.now) tables.now) ≡ Ok v.items) }
+    ensures err { IfErr result (λ e. is_memory e ≡ false → shaped_from part.Output output_in 0 (map (λ t. table_view t.now) tables.now) ≡ Err e) }
+{
+    let mut found = Vec::new(alloc);
+    for (number, table) in tables.iter().enumerate() {
+        match output_in(alloc, table) {
+            Ok(item) => push(&mut found, item)?,
+            Err(e) => return Err(unshaped(e, Part::Output, number)),
+        }
+    }
+    Ok(found)
+}
+
+/// A document by its tables, or the first table that is out of shape.
+pub(crate) fn raw_in(alloc: Global, table: &Table) -> Result<Raw, NetErr>
+    ensures { Answers result (raw_in (table_view table.now)) }
+{
+    let top = match top_in(alloc, table) {
+        Ok(top) => top,
+        Err(e) => return Err(unshaped(e, Part::Top, 0)),
+    };
+    let sources = sources_in(alloc, &top.sources)?;
+    let boxes = boxes_in(alloc, &top.boxes)?;
+    let outputs = outputs_in(alloc, &top.outputs)?;
+    Ok(Raw {
+        epoch: top.epoch,
+        batch: top.batch,
+        sources: ListOf::new(sources),
+        boxes: ListOf::new(boxes),
+        outputs: ListOf::new(outputs),
+    })
+}

@@ -1,0 +1,150 @@
+// The tables of a network file, by the keys that each kind of table has.
+ghost use Rattle.std.specs.Prelude.{◌≡◌, IfOk, IfErr, map};
+ghost use Rattle.toml.specs.View.{table_view};
+ghost use Rattle.sq_tables.specs.Readings.{IsUnread, Reads};
+ghost use Rattle.sq_tables.specs.Shapes.{Tables, body_in, box_in, filter_in, map_in, output_in, ports_of, source_in, top_in, union_in};
+ghost use Rattle.sq_tables.specs.ShapesSeen.{tables_seen};
+
+use crate::document::{
+    Table, Unread, any_tables_at, has_only, number_at, selectivity_at, settings_at, tables_at,
+    text_at, texts_at,
+};
+use crate::raw::{RawBody, RawBox, RawOutput, RawSource};
+use sq_value::same_text;
+use std::alloc::Global;
+
+/// The top of a file: its numbers, and its tables.
+#[derive(Drop)]
+pub(crate) struct TopTables<'a> {
+    pub(crate) epoch: i64,
+    pub(crate) batch: i64,
+    pub(crate) sources: Vec<&'a Table>,
+    pub(crate) boxes: Vec<&'a Table>,
+    pub(crate) outputs: Vec<&'a Table>,
+}
+
+pub(crate) fn top_in<'a>(alloc: Global, table: &'a Table) -> Result<TopTables<'a>, Unread>
+    ensures ok { IfOk result (λ t. top_in (table_view table.now) ≡ Some (tables_seen t)) }
+    ensures err { IfErr result (λ e. IsUnread e (top_in (table_view table.now))) }
+{
+    if !has_only(
+        table,
+        &["version", "epoch", "batch", "source", "box", "output"],
+    ) {
+        return Err(Unread::Shape);
+    }
+    let epoch = number_at(table, "epoch", 1000)?;
+    let batch = number_at(table, "batch", 1)?;
+    let sources = tables_at(alloc, table, "source")?;
+    let boxes = any_tables_at(alloc, table, "box")?;
+    let outputs = tables_at(alloc, table, "output")?;
+    Ok(TopTables {
+        epoch,
+        batch,
+        sources,
+        boxes,
+        outputs,
+    })
+}
+
+pub(crate) fn source_in(alloc: Global, table: &Table) -> Result<RawSource, Unread>
+    ensures { Reads result (source_in (table_view table.now)) }
+{
+    if !has_only(table, &["name", "file", "fields"]) {
+        return Err(Unread::Shape);
+    }
+    let name = text_at(alloc, table, "name")?;
+    let file = text_at(alloc, table, "file")?;
+    let fields = texts_at(alloc, table, "fields")?;
+    Ok(RawSource { name, file, fields })
+}
+
+pub(crate) fn output_in(alloc: Global, table: &Table) -> Result<RawOutput, Unread>
+    ensures { Reads result (output_in (table_view table.now)) }
+{
+    if !has_only(table, &["name", "from"]) {
+        return Err(Unread::Shape);
+    }
+    let name = text_at(alloc, table, "name")?;
+    let from = text_at(alloc, table, "from")?;
+    Ok(RawOutput { name, from })
+}
+
+fn filter_in(alloc: Global, table: &Table) -> Result<RawBody, Unread>
+    ensures { Reads result (filter_in (table_view table.now)) }
+{
+    if !has_only(
+        table,
+        &["where", "name", "kind", "in", "cost", "selectivity"],
+    ) {
+        return Err(Unread::Shape);
+    }
+    let preds = texts_at(alloc, table, "where")?;
+    Ok(RawBody::Filter { preds })
+}
+
+fn map_in(alloc: Global, table: &Table) -> Result<RawBody, Unread>
+    ensures { Reads result (map_in (table_view table.now)) }
+{
+    if !has_only(table, &["set", "name", "kind", "in", "cost", "selectivity"]) {
+        return Err(Unread::Shape);
+    }
+    let set = settings_at(alloc, table, "set")?;
+    Ok(RawBody::Map { set })
+}
+
+fn union_in(table: &Table) -> Result<RawBody, Unread>
+    ensures { Reads result (union_in (table_view table.now)) }
+{
+    if !has_only(table, &["name", "kind", "in", "cost", "selectivity"]) {
+        return Err(Unread::Shape);
+    }
+    Ok(RawBody::Union)
+}
+
+fn body_in(alloc: Global, table: &Table, kind: &str) -> Result<RawBody, Unread>
+    ensures { Reads result (body_in kind.now (table_view table.now)) }
+{
+    if same_text(kind, "filter") {
+        return filter_in(alloc, table);
+    }
+    if same_text(kind, "map") {
+        return map_in(alloc, table);
+    }
+    if same_text(kind, "union") {
+        return union_in(table);
+    }
+    Err(Unread::Shape)
+}
+
+/// How many ports a box has.
+pub fn ports_of(body: &RawBody) -> usize
+    ensures { result ≡ ports_of body.now }
+{
+    match body {
+        RawBody::Filter { preds } => preds.as_slice().len() + 1,
+        RawBody::Map { .. } | RawBody::Union => 1,
+    }
+}
+
+pub(crate) fn box_in(alloc: Global, table: &Table) -> Result<RawBox, Unread>
+    ensures { Reads result (box_in (table_view table.now)) }
+{
+    let kind = text_at(alloc, table, "kind")?;
+    let body = body_in(alloc, table, kind.as_str())?;
+    let name = text_at(alloc, table, "name")?;
+    let ins = texts_at(alloc, table, "in")?;
+    let cost = number_at(table, "cost", 1)?;
+    let ports = ports_of(&body);
+    let selectivity = selectivity_at(alloc, table, ports)?;
+    if selectivity.as_slice().len() != ports {
+        return Err(Unread::Shape);
+    }
+    Ok(RawBox {
+        name,
+        body,
+        ins,
+        cost,
+        selectivity,
+    })
+}
