@@ -1,28 +1,31 @@
 -- What a box gives for streams is a stream: its times are ticks, and don't fall.
-use Rattle.std.proofs.Common.{◌≡◌, ℕ, zero, suc, ◌+◌, ◌*◌, ◌/◌, ◌^◌, ◌<◌, ◌≤◌, max, Bool, true, false, cond, List, [], ◌∷◌, ◌++◌, length, map, Option, Some, None, pos, negsuc, refl, arith, tests}
+use Rattle.std.proofs.Common.{◌≡◌, ℕ, zero, suc, ◌+◌, ◌*◌, ◌/◌, ◌^◌, ◌<◌, ◌≤◌, max, Bool, true, false, cond, List, [], ◌∷◌, ◌++◌, length, map, Option, Some, None, refl, arith, tests}
 use Rattle.std.specs.Prelude.{if◌then◌else◌, ◌==◌, nat_lt, nat_le}
 use Rattle.std.specs.List.{AllByRecursion, filter, cons_option, enumerate_from, flat_map, range_with_len}
-use Rattle.std.proofs.lemmas.List.Elements.{All-filter, All-from_recursion, recursion_from_All}
+use Rattle.std.specs.Option.{IfSome}
+use Rattle.std.proofs.lemmas.Option.{IfSome_then}
 use Rattle.std.proofs.lemmas.List.MinMax.{IsStrictWeakOrder-by_number}
 use Rattle.std.proofs.Math.Nat.{div-mul-le_self}
 use Rattle.sq_value.specs.declared.Value.{Value}
-use Rattle.sq_value.specs.declared.Value.TheVariants as value
 use Rattle.sq_value.specs.declared.Tuple.{Tuple}
-use Rattle.sq_value.specs.Values.{IsStream, field}
-use Rattle.sq_value.specs.Lists.{Rising, sort_by, ports_from, ports_of, least_by, max_by}
-use Rattle.sq_value.proofs.Sorting.{insert_all, sort_rising}
+use Rattle.sq_value.specs.Values.{IsStream}
+use Rattle.sq_value.specs.Lists.{Rising, ports_from, ports_of, least_by, max_by}
+use Rattle.sq_value.proofs.Sorting.{sort_rising}
 use Rattle.sq_expr.specs.Trees.{Expr}
+use Rattle.sq_expr.specs.Expressions.{holds_of}
 use Rattle.sq_aggfn.specs.Functions.{answers_of}
 use Rattle.sq_aggfn.specs.declared.WindowSpec.{WindowSpec}
 use Rattle.sq_lists.specs.Boxes.{port_of, map_list_of}
-use Rattle.sq_lists.specs.Merge.{Entry, earlier, union}
-use Rattle.sq_lists.specs.Sorting.{Numbered, sooner, time_in, at_time, retimed, without, tuple_of, chosen, without_late, bsort_list_of}
+use Rattle.sq_lists.specs.Merge.{Entry, earlier, merge, union}
+use Rattle.sq_lists.specs.Pairs.{pair_of, meets, paired, pairs_of, pairs_from, join_list_of}
+use Rattle.sq_lists.specs.Sorting.{Numbered, sooner, retimed, without, tuple_of, chosen, without_late, bsort_list_of}
 use Rattle.sq_lists.specs.Sorters.{timed}
 use Rattle.sq_lists.specs.Windows.{groups_of, in_group, in_window, window_results, aggregate_of}
 use Rattle.sq_lists.specs.WindowParts.{NotFalling}
 use Rattle.sq_lists.specs.Keeps.{KeepStreams}
-use Rattle.sq_lists.proofs.LeastLemmas.{HoldsOf, holds-least}
-use Rattle.sq_lists.proofs.SorterFacts.{All-map}
+use Rattle.sq_lists.proofs.LeastLemmas.{holds-least}
+use Rattle.sq_lists.proofs.SorterFacts.{timed-is}
+use Rattle.sq_lists.proofs.AllLemmas.{All-weaker, All-filter, All-push, All-sort}
 use Rattle.sq_lists.proofs.WindowLemmas.{stream_rises, stream_ticks}
 
 abbrev IsTick : Tuple → Type 0
@@ -65,10 +68,6 @@ map_keeps es (x ∷ []) h = h
 map_keeps es (x ∷ y ∷ rest) h = (h.0, map_keeps es (y ∷ rest) h.1)
 
 -- Union
-All-sort : {X : Type 0} (P : X → Type 0) (before : X → X → Bool) (xs : List X) → AllByRecursion P xs → AllByRecursion P (sort_by before xs)
-All-sort P before [] all = tt
-All-sort P before (x ∷ xs) all = insert_all P before x (sort_by before xs) all.0 (All-sort P before xs all.1)
-
 ports-ticks : (port : ℕ) (ins : List (List Tuple)) → AllByRecursion IsStream ins → AllByRecursion (λ e. IsTick e.1) (ports_from port ins)
 ports-ticks port [] all = tt
 ports-ticks port (xs ∷ rest) all = onto xs (stream_ticks xs all.0) (ports-ticks (port + 1) rest all.1)
@@ -82,43 +81,29 @@ entries-from : (least : ℕ) (es : List Entry) → AllByRecursion (λ e. least �
     → StreamFrom least (map (λ e. e.1) es)
 entries-from least [] low ticks up = tt
 entries-from least (e ∷ es) low ticks up =
-    let later = All-map (λ f. earlier f e ≡ false) (λ f. (e.1).time ≤ (f.1).time) (λ f h. not-before (f.1).time (e.1).time h) es up.0 in
+    let later = All-weaker (λ f. earlier f e ≡ false) (λ f. (e.1).time ≤ (f.1).time) (λ f h. not-before (f.1).time (e.1).time h) es up.0 in
     (low.0, ticks.0, entries-from (e.1).time es later ticks.1 up.1)
   where
     not-before : (a b : ℕ) → nat_lt a b ≡ false → b ≤ a
     not-before a b h = grind (arith, tests)
 
-union_keeps : (ins : List (List Tuple)) → AllByRecursion IsStream ins → IsStream (union ins)
-union_keeps ins all =
-    let sorted = sort_by earlier (ports_of ins) in
-    let any = All-map (λ e. IsTick e.1) (λ e. 0 ≤ (e.1).time) (λ e h. omega arith) in
+merge-from : (ins : List (List Tuple)) → AllByRecursion IsStream ins → StreamFrom 0 (union ins)
+merge-from ins all =
+    let sorted = merge ins in
+    let any = All-weaker (λ e. IsTick e.1) (λ e. 0 ≤ (e.1).time) (λ e h. omega arith) in
     let ticks = All-sort (λ e. IsTick e.1) earlier (ports_of ins) (ports-ticks 0 ins all) in
-    stream-is 0 (union ins) (entries-from 0 sorted (any sorted ticks) ticks (sort_rising earlier (IsStrictWeakOrder-by_number (λ e. (e.1).time)) (ports_of ins)))
+    entries-from 0 sorted (any sorted ticks) ticks (sort_rising earlier (IsStrictWeakOrder-by_number (λ e. (e.1).time)) (ports_of ins))
+
+union_keeps : (ins : List (List Tuple)) → AllByRecursion IsStream ins → IsStream (union ins)
+union_keeps ins all = stream-is 0 (union ins) (merge-from ins all)
 
 -- BSort
-AllByRecursion-filter : {X : Type 0} (P : X → Type 0) (p : X → Bool) (xs : List X) → AllByRecursion P xs → AllByRecursion P (filter p xs)
-AllByRecursion-filter P p xs all = recursion_from_All P (filter p xs) (All-filter p P xs (All-from_recursion P xs all))
-
--- the time of the field is at most the tuple's
-timed-tick : (by : ℕ) (x : Tuple) → IsTick x → HoldsOf IsTick (timed by x)
-timed-tick by x tick = of_value (field x.fields by)
-  where
-    of_number : (t : ℕ) (b : Bool) → nat_le t x.time ≡ b → HoldsOf IsTick (at_time x (if b then Some t else None))
-    of_number t true e = let le : t ≤ x.time = grind (arith, tests) in omega (arith, le, tick)
-    of_number t false e = tt
-
-    of_value : (v : Value) → HoldsOf IsTick (at_time x (time_in x.time v))
-    of_value value.Null = tt
-    of_value (value.Int (pos t)) = of_number t (nat_le t x.time) refl
-    of_value (value.Int (negsuc t)) = tt
-    of_value (value.Bool b) = tt
-    of_value (value.Text t) = tt
-
 retimed-ticks : (by : ℕ) (xs : List Tuple) → AllByRecursion IsTick xs → AllByRecursion IsTick (retimed by xs)
 retimed-ticks by [] all = tt
-retimed-ticks by (x ∷ xs) all = onto (timed by x) (timed-tick by x all.0) (retimed-ticks by xs all.1)
+retimed-ticks by (x ∷ xs) all = let tick = all.0 in
+    onto (timed by x) (IfSome_then (timed by x) (timed-is by x) (λ y h. omega (arith, h.0, tick))) (retimed-ticks by xs all.1)
   where
-    onto : (o : Option Tuple) → HoldsOf IsTick o → AllByRecursion IsTick (retimed by xs) → AllByRecursion IsTick (cons_option o (retimed by xs))
+    onto : (o : Option Tuple) → IfSome o IsTick → AllByRecursion IsTick (retimed by xs) → AllByRecursion IsTick (cons_option o (retimed by xs))
     onto None h more = more
     onto (Some y) h more = (h, more)
 
@@ -128,17 +113,17 @@ enumerate-ticks n (x ∷ xs) all = (all.0, enumerate-ticks (n + 1) xs all.1)
 
 All-without : (P : Numbered → Type 0) (o : Option Numbered) (rest : List Numbered) → AllByRecursion P rest → AllByRecursion P (without o rest)
 All-without P None rest all = all
-All-without P (Some a) rest all = AllByRecursion-filter P _ rest all
+All-without P (Some a) rest all = All-filter P _ rest all
 
 chosen-ticks : (slack j count : ℕ) (rest : List Numbered) → AllByRecursion (λ a. IsTick a.1) rest → AllByRecursion IsTick (chosen slack j count rest)
 chosen-ticks slack j zero rest all = tt
 chosen-ticks slack j (suc count) rest all =
     let near = filter (λ a. nat_le a.0 (j + slack)) rest in
     let next = least_by sooner near in
-    let least = holds-least sooner (λ a. IsTick a.1) near (AllByRecursion-filter (λ a. IsTick a.1) (λ a. nat_le a.0 (j + slack)) rest all) in
+    let least = holds-least sooner (λ a. IsTick a.1) near (All-filter (λ a. IsTick a.1) (λ a. nat_le a.0 (j + slack)) rest all) in
     onto next (chosen slack (j + 1) count (without next rest)) least (chosen-ticks slack (j + 1) count (without next rest) (All-without (λ a. IsTick a.1) next rest all))
   where
-    onto : (o : Option Numbered) (more : List Tuple) → HoldsOf (λ a. IsTick a.1) o → AllByRecursion IsTick more → AllByRecursion IsTick (tuple_of o ++ more)
+    onto : (o : Option Numbered) (more : List Tuple) → IfSome o (λ a. IsTick a.1) → AllByRecursion IsTick more → AllByRecursion IsTick (tuple_of o ++ more)
     onto None more h all = all
     onto (Some a) more h all = (h, all)
 
@@ -192,6 +177,54 @@ module _ (answers : List Tuple → List Value) (by : List ℕ) (w : WindowSpec) 
           let start : k * w.advance ≤ last / w.advance * w.advance = grind arith in
           omega (arith, start, whole, tick)
 
+-- Join
+abbrev NoneAfter : ℕ → List Entry → Type 0
+NoneAfter time before = AllByRecursion (λ b. (b.1).time ≤ time) before
+
+none-after : (time : ℕ) (before : List Entry) (now : Entry) → time ≤ (now.1).time → NoneAfter time before → NoneAfter (now.1).time (before ++ now ∷ [])
+none-after time before now le all =
+    All-push (λ b. (b.1).time ≤ (now.1).time) before now (All-weaker (λ b. (b.1).time ≤ time) (λ b. (b.1).time ≤ (now.1).time) (λ b h. omega (arith, h, le)) before all) (omega arith)
+
+-- a pair with an earlier one has the time of the later one
+paired-time : (now b : Entry) → (b.1).time ≤ (now.1).time → (paired now b).time ≡ (now.1).time
+paired-time now b le =
+    elim (now.0 == 0) as (λ c. (if c then pair_of now.1 b.1 else pair_of b.1 now.1).time ≡ (now.1).time) [
+      | true ↦ omega (arith, le)
+      | false ↦ omega (arith, le)
+    ]
+
+module _ (size : ℕ) (on : Expr) where
+  paired-times : (time : ℕ) (now : Entry) (bs : List Entry) → time ≤ (now.1).time → NoneAfter time bs → AllByRecursion (λ p. p.time ≡ (now.1).time) (map (paired now) bs)
+  paired-times time now [] le all = tt
+  paired-times time now (b ∷ bs) le all = (let early = all.0 in paired-time now b (omega (arith, early, le)), paired-times time now bs le all.1)
+
+  pairs-times : (time : ℕ) (now : Entry) (before : List Entry) → time ≤ (now.1).time → NoneAfter time before → AllByRecursion (λ p. p.time ≡ (now.1).time) (pairs_of size on before now)
+  pairs-times time now before le all =
+      let met = filter (meets size now) before in
+      All-filter (λ p. p.time ≡ (now.1).time) (holds_of on) (map (paired now) met)
+      (paired-times time now met le (All-filter (λ b. (b.1).time ≤ time) (meets size now) before all))
+
+  -- tuples of one time, and then later ones
+  same-time : (time : ℕ) (ps more : List Tuple) → time < 2 ^ 40 → AllByRecursion (λ p. p.time ≡ time) ps → StreamFrom time more → StreamFrom time (ps ++ more)
+  same-time time [] more tick same h = h
+  same-time time (p ∷ ps) more tick same h =
+      let is = same.0 in
+      (omega (arith, is), omega (arith, is, tick), from-lower p.time time (ps ++ more) (omega (arith, is)) (same-time time ps more tick same.1 h))
+
+  pairs_from-from : (time : ℕ) (before es : List Entry) → NoneAfter time before → StreamFrom time (map (λ e. e.1) es) → StreamFrom time (pairs_from size on before es)
+  pairs_from-from time before [] early h = tt
+  pairs_from-from time before (now ∷ later) early h =
+      let le = h.0 in
+      let rest = pairs_from size on (before ++ now ∷ []) later in
+      from-lower time (now.1).time (pairs_of size on before now ++ rest) le
+      (same-time (now.1).time (pairs_of size on before now) rest h.1 (pairs-times time now before le early)
+      (pairs_from-from (now.1).time (before ++ now ∷ []) later (none-after time before now le early) h.2))
+
+  join_keeps : (left right : List Tuple) → IsStream left → IsStream right → IsStream (join_list_of size on left right)
+  join_keeps left right l r =
+      let both = left ∷ right ∷ [] in
+      stream-is 0 (join_list_of size on left right) (pairs_from-from 0 [] (merge both) tt (merge-from both (l, (r, tt))))
+
 pub keep_streams : KeepStreams
 keep_streams = record {
   filter = λ ps port xs h. filter_keeps (λ x. port_of ps x == port) xs h;
@@ -199,4 +232,5 @@ keep_streams = record {
   union = union_keeps;
   bsort = bsort_keeps;
   aggregate = λ fs by w xs h. aggregate_keeps (answers_of fs) by w xs h;
+  join = join_keeps;
 }

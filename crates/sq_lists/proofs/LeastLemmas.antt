@@ -2,6 +2,7 @@
 use Rattle.std.proofs.Common.{◌≡◌, Bool, true, false, List, [], ◌∷◌, Option, Some, None, refl, ap, ◌∙◌}
 use Rattle.std.specs.Prelude.{if◌then◌else◌}
 use Rattle.std.specs.List.{AllByRecursion}
+use Rattle.std.specs.Option.{IfSome}
 use Rattle.sq_value.specs.Lists.{insert_by, sort_by, least_by, lesser}
 
 abbrev pub first_option : {X : Type 0} → List X → Option X
@@ -11,10 +12,6 @@ first_option (x ∷ xs) = Some x
 abbrev pub rest_of : {X : Type 0} → List X → List X
 rest_of [] = []
 rest_of (x ∷ xs) = xs
-
-abbrev pub HoldsOf : {X : Type 0} → (X → Type 0) → Option X → Type 0
-HoldsOf P None = Unit {0}
-HoldsOf P (Some x) = P x
 
 abbrev pub rem_with : {X : Type 0} → (X → X → Bool) → X → Option X → List X → List X → List X
 rem_with before x None xs less = xs
@@ -50,11 +47,11 @@ module _ {X : Type 0} (before : X → X → Bool) where
       ap (λ l. sort_by before (rem_with before x l xs (rem_least before xs))) (least-sort xs)
       ∙ rem-insert x xs (rem_least before xs) (sort_by before xs) (rem-sort xs) refl
 
-  holds-lesser : (P : X → Type 0) (x : X) (l : Option X) → P x → HoldsOf P l → P (lesser before x l)
+  holds-lesser : (P : X → Type 0) (x : X) (l : Option X) → P x → IfSome l P → P (lesser before x l)
   holds-lesser P x None p h = p
   holds-lesser P x (Some y) p h = elim (before y x) as (λ b. P (if b then y else x)) [ true ↦ h | false ↦ p ]
 
-  pub holds-least : (P : X → Type 0) (xs : List X) → AllByRecursion P xs → HoldsOf P (least_by before xs)
+  pub holds-least : (P : X → Type 0) (xs : List X) → AllByRecursion P xs → IfSome (least_by before xs) P
   holds-least P [] all = tt
   holds-least P (x ∷ xs) all = holds-lesser P x (least_by before xs) all.0 (holds-least P xs all.1)
 

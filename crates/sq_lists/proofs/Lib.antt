@@ -1,3 +1,4 @@
+pub mod AllLemmas
 pub mod LeastLemmas
 pub mod SorterLemmas
 pub mod SorterFacts

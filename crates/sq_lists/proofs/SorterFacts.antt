@@ -1,15 +1,30 @@
 -- The facts that a sorter keeps, and what it gives when it is emptied.
-use Rattle.std.proofs.Common.{◌≡◌, ℕ, suc, ◌+◌, ◌<◌, ◌≤◌, max, Bool, true, false, List, [], ◌∷◌, ◌++◌, map, length, Option, Some, None, refl, ap, sym, ◌∙◌, append-nil, add-zero, arith, tests}
-use Rattle.std.specs.Prelude.{if◌then◌else◌, nat_lt}
+use Rattle.std.proofs.Common.{◌≡◌, ℕ, suc, ◌+◌, ◌<◌, ◌≤◌, max, Bool, true, false, List, [], ◌∷◌, ◌++◌, map, length, Option, Some, None, pos, negsuc, refl, ap, sym, ◌∙◌, append-nil, add-zero, arith, tests}
+use Rattle.std.specs.Prelude.{if◌then◌else◌, nat_lt, nat_le}
 use Rattle.std.specs.List.{AllByRecursion, cons_option}
-use Rattle.std.specs.Option.{option_to_list}
+use Rattle.std.specs.Option.{IfSome, option_to_list}
+use Rattle.sq_value.specs.declared.Value.{Value}
+use Rattle.sq_value.specs.declared.Value.TheVariants as value
 use Rattle.sq_value.specs.declared.Tuple.{Tuple}
-use Rattle.sq_lists.specs.Sorting.{Numbered, sooner, without_late}
-use Rattle.sq_lists.specs.Sorters.{put_in, first_of_all, after_first, latest_of, chosen_of, kept_of, SorterState, IsSorter, sort_next, sort_gives, sort_flush, sort_run, sort_first, sort_after, next_with, gives_with}
+use Rattle.sq_value.specs.Values.{field}
+use Rattle.sq_lists.specs.Sorting.{Numbered, sooner, time_in, at_time, without_late}
+use Rattle.sq_lists.specs.Sorters.{put_in, first_of_all, after_first, latest_of, chosen_of, kept_of, SorterState, IsSorter, sort_next, sort_gives, sort_flush, sort_run, sort_first, sort_after, timed, next_with, gives_with}
+use Rattle.sq_lists.proofs.AllLemmas.{All-weaker}
 
-pub All-map : {X : Type 0} (P Q : X → Type 0) → ((x : X) → P x → Q x) → (xs : List X) → AllByRecursion P xs → AllByRecursion Q xs
-All-map P Q f [] all = tt
-All-map P Q f (x ∷ xs) all = (f x all.0, All-map P Q f xs all.1)
+-- a tuple that is given the time of its field has at most the time that it had, and the same values
+pub timed-is : (by : ℕ) (x : Tuple) → IfSome (timed by x) (λ y. (y.time ≤ x.time) × (y.fields ≡ x.fields))
+timed-is by x = of_value (field x.fields by)
+  where
+    of_number : (t : ℕ) (b : Bool) → nat_le t x.time ≡ b → IfSome (at_time x (if b then Some t else None)) (λ y. (y.time ≤ x.time) × (y.fields ≡ x.fields))
+    of_number t true e = (grind (arith, tests), refl)
+    of_number t false e = tt
+
+    of_value : (v : Value) → IfSome (at_time x (time_in x.time v)) (λ y. (y.time ≤ x.time) × (y.fields ≡ x.fields))
+    of_value value.Null = tt
+    of_value (value.Int (pos t)) = of_number t (nat_le t x.time) refl
+    of_value (value.Int (negsuc t)) = tt
+    of_value (value.Bool b) = tt
+    of_value (value.Text t) = tt
 
 pub All-put : (P : Numbered → Type 0) (x : Numbered) (ys : List Numbered) → P x → AllByRecursion P ys → AllByRecursion P (put_in x ys)
 All-put P x [] p all = (p, tt)
@@ -58,7 +73,7 @@ next-keeps s x h =
     let full = put_in (s.number, x) s.held in
     record {
       below = All-kept (λ a. a.0 < s.number + 1) s.slack full
-          (All-put (λ a. a.0 < s.number + 1) (s.number, x) s.held (omega arith) (All-map (λ a. a.0 < s.number) (λ a. a.0 < s.number + 1) (λ a k. omega (arith, k)) s.held h.below));
+          (All-put (λ a. a.0 < s.number + 1) (s.number, x) s.held (omega arith) (All-weaker (λ a. a.0 < s.number) (λ a. a.0 < s.number + 1) (λ a k. omega (arith, k)) s.held h.below));
       few = length-kept-by s.slack full (rw (length-put (s.number, x) s.held) (omega (arith, h.few))) (nat_lt s.slack (length full)) refl;
       counted = omega (arith, chosen-length s.latest s.slack full, length-put (s.number, x) s.held, h.counted);
     }

@@ -2,11 +2,14 @@
 use Rattle.std.proofs.Common.{◌≡◌, ℕ, zero, suc, ◌+◌, ◌<◌, ◌≤◌, max, Bool, true, false, cond, not, List, [], ◌∷◌, ◌++◌, map, length, Option, Some, None, refl, ap, sym, ◌∙◌, append_assoc, append-nil, length-append, arith, tests}
 use Rattle.std.specs.Prelude.{if◌then◌else◌, nat_lt, nat_le, ◌==◌}
 use Rattle.std.specs.List.{AllByRecursion, filter, enumerate_from}
+use Rattle.std.specs.Option.{IfSome}
+use Rattle.std.proofs.lemmas.List.Elements.{filter-append}
 use Rattle.sq_value.specs.declared.Tuple.{Tuple}
 use Rattle.sq_value.specs.Lists.{insert_by, sort_by, least_by, lesser}
 use Rattle.sq_lists.specs.Sorting.{Numbered, sooner, without, tuple_of, chosen, without_late}
 use Rattle.sq_lists.specs.Sorters.{put_in, first_of_all, after_first, SorterState, new_sorter, latest_of, chosen_of, kept_of, sort_next, sort_gives, sort_run}
-use Rattle.sq_lists.proofs.LeastLemmas.{first_option, rest_of, HoldsOf, rem_with, rem_least, least-sort, rem-sort, holds-least, All-rem}
+use Rattle.sq_lists.proofs.AllLemmas.{All-weaker, All-push}
+use Rattle.sq_lists.proofs.LeastLemmas.{first_option, rest_of, rem_with, rem_least, least-sort, rem-sort, holds-least, All-rem}
 
 -- the numbers ascend
 abbrev Ascend : List Numbered → Type 0
@@ -21,22 +24,6 @@ filter-none : {X : Type 0} (p : X → Bool) (xs : List X) → AllByRecursion (λ
 filter-none p [] all = refl
 filter-none p (x ∷ xs) all = ap (λ b. cond b (x ∷ filter p xs) (filter p xs)) all.0 ∙ filter-none p xs all.1
 
-filter-append : {X : Type 0} (p : X → Bool) (xs ys : List X) → filter p (xs ++ ys) ≡ filter p xs ++ filter p ys
-filter-append p [] ys = refl
-filter-append p (x ∷ xs) ys =
-    elim (p x) as (λ b. cond b (x ∷ filter p (xs ++ ys)) (filter p (xs ++ ys)) ≡ cond b (x ∷ filter p xs) (filter p xs) ++ filter p ys) [
-      | true ↦ ap (λ l. x ∷ l) (filter-append p xs ys)
-      | false ↦ filter-append p xs ys
-    ]
-
-All-map : {X : Type 0} (P Q : X → Type 0) → ((x : X) → P x → Q x) → (xs : List X) → AllByRecursion P xs → AllByRecursion Q xs
-All-map P Q f [] all = tt
-All-map P Q f (x ∷ xs) all = (f x all.0, All-map P Q f xs all.1)
-
-All-append : {X : Type 0} (P : X → Type 0) (xs ys : List X) → AllByRecursion P xs → AllByRecursion P ys → AllByRecursion P (xs ++ ys)
-All-append P [] ys h k = k
-All-append P (x ∷ xs) ys h k = (h.0, All-append P xs ys h.1 k)
-
 apart : (a b : ℕ) → a < b → not (b == a) ≡ true
 apart a b h = grind arith
 
@@ -47,16 +34,16 @@ same : (a : ℕ) → not (a == a) ≡ false
 same a = grind arith
 
 -- taking out the least by its number
-without-with : (x : Numbered) (l : Option Numbered) (xs less : List Numbered) → AllByRecursion (λ b. x.0 < b.0) xs → HoldsOf (λ y. x.0 < y.0) l → without l xs ≡ less
+without-with : (x : Numbered) (l : Option Numbered) (xs less : List Numbered) → AllByRecursion (λ b. x.0 < b.0) xs → IfSome l (λ y. x.0 < y.0) → without l xs ≡ less
     → without (Some (lesser sooner x l)) (x ∷ xs) ≡ rem_with sooner x l xs less
 without-with x None xs less later h eq =
     ap (λ b. cond b (x ∷ filter (λ b. not (b.0 == x.0)) xs) (filter (λ b. not (b.0 == x.0)) xs)) (same x.0)
-    ∙ filter-all (λ b. not (b.0 == x.0)) xs (All-map (λ b. x.0 < b.0) (λ b. not (b.0 == x.0) ≡ true) (λ b k. apart x.0 b.0 k) xs later)
+    ∙ filter-all (λ b. not (b.0 == x.0)) xs (All-weaker (λ b. x.0 < b.0) (λ b. not (b.0 == x.0) ≡ true) (λ b k. apart x.0 b.0 k) xs later)
 without-with x (Some y) xs less later h eq =
     elim (sooner y x) as (λ b. without (Some (if b then y else x)) (x ∷ xs) ≡ (if b then x ∷ less else xs)) [
       | true ↦ ap (λ b. cond b (x ∷ filter (λ b. not (b.0 == y.0)) xs) (filter (λ b. not (b.0 == y.0)) xs)) (apart' x.0 y.0 h) ∙ ap (λ l. x ∷ l) eq
       | false ↦ ap (λ b. cond b (x ∷ filter (λ b. not (b.0 == x.0)) xs) (filter (λ b. not (b.0 == x.0)) xs)) (same x.0)
-          ∙ filter-all (λ b. not (b.0 == x.0)) xs (All-map (λ b. x.0 < b.0) (λ b. not (b.0 == x.0) ≡ true) (λ b k. apart x.0 b.0 k) xs later)
+          ∙ filter-all (λ b. not (b.0 == x.0)) xs (All-weaker (λ b. x.0 < b.0) (λ b. not (b.0 == x.0) ≡ true) (λ b k. apart x.0 b.0 k) xs later)
     ]
 
 without-least : (xs : List Numbered) → Ascend xs → without (least_by sooner xs) xs ≡ rem_least sooner xs
@@ -76,7 +63,7 @@ Ascend-rem (x ∷ xs) up =
 
 Ascend-push : (k : ℕ) (x : Tuple) (xs : List Numbered) → AllByRecursion (λ b. b.0 < k) xs → Ascend xs → Ascend (xs ++ (k, x) ∷ [])
 Ascend-push k x [] below up = (tt, tt)
-Ascend-push k x (y ∷ ys) below up = (All-append (λ b. y.0 < b.0) ys ((k, x) ∷ []) up.0 (below.0, tt), Ascend-push k x ys below.1 up.1)
+Ascend-push k x (y ∷ ys) below up = (All-push (λ b. y.0 < b.0) ys (k, x) up.0 below.0, Ascend-push k x ys below.1 up.1)
 
 length-rem : (x : Numbered) (xs : List Numbered) → length (rem_least sooner (x ∷ xs)) ≡ length xs
 length-rem x [] = refl
@@ -145,9 +132,9 @@ drain slack j (suc n) [] len up low = absurd (grind arith)
 drain slack j (suc n) (x ∷ xs) len up low =
     let all = x ∷ xs in
     let later = drain slack (j + 1) n (rem_least sooner all) (length-rem x xs ∙ grind arith) (Ascend-rem all up)
-    (All-map (λ b. b.0 ≤ j + slack) (λ b. b.0 ≤ j + 1 + slack) (λ b k. omega arith) (rem_least sooner all) (All-rem sooner (λ b. b.0 ≤ j + slack) all low)) in
+    (All-weaker (λ b. b.0 ≤ j + slack) (λ b. b.0 ≤ j + 1 + slack) (λ b k. omega arith) (rem_least sooner all) (All-rem sooner (λ b. b.0 ≤ j + slack) all low)) in
     let kept : filter (λ a. nat_le a.0 (j + slack)) all ≡ all =
-    filter-all (λ a. nat_le a.0 (j + slack)) all (All-map (λ b. b.0 ≤ j + slack) (λ b. nat_le b.0 (j + slack) ≡ true) (λ b k. le-true b.0 (j + slack) k) all low) in
+    filter-all (λ a. nat_le a.0 (j + slack)) all (All-weaker (λ b. b.0 ≤ j + slack) (λ b. nat_le b.0 (j + slack) ≡ true) (λ b k. le-true b.0 (j + slack) k) all low) in
     ap (λ l. tuple_of (least_by sooner l) ++ chosen slack (j + 1) n (without (least_by sooner l) all)) kept
     ∙ ap (λ l. tuple_of (least_by sooner all) ++ chosen slack (j + 1) n l) (without-least all up)
     ∙ ap (λ o. tuple_of o ++ chosen slack (j + 1) n (rem_least sooner all)) (least-sort sooner all)
@@ -176,17 +163,17 @@ within-front : (m : ℕ) (within more : List Numbered) → AllByRecursion (λ b.
     → filter (λ a. nat_le a.0 m) (within ++ more) ≡ within
 within-front m within more low high =
     filter-append (λ a. nat_le a.0 m) within more
-    ∙ ap (λ l. l ++ filter (λ a. nat_le a.0 m) more) (filter-all (λ a. nat_le a.0 m) within (All-map (λ b. b.0 ≤ m) (λ b. nat_le b.0 m ≡ true) (λ b k. le-true b.0 m k) within low))
-    ∙ ap (λ l. within ++ l) (filter-none (λ a. nat_le a.0 m) more (All-map (λ b. m < b.0) (λ b. nat_le b.0 m ≡ false) (λ b k. le-false b.0 m k) more high))
+    ∙ ap (λ l. l ++ filter (λ a. nat_le a.0 m) more) (filter-all (λ a. nat_le a.0 m) within (All-weaker (λ b. b.0 ≤ m) (λ b. nat_le b.0 m ≡ true) (λ b k. le-true b.0 m k) within low))
+    ∙ ap (λ l. within ++ l) (filter-none (λ a. nat_le a.0 m) more (All-weaker (λ b. m < b.0) (λ b. nat_le b.0 m ≡ false) (λ b k. le-false b.0 m k) more high))
     ∙ append-nil within
 
-without-append : (m : ℕ) (o : Option Numbered) (within more : List Numbered) → HoldsOf (λ b. b.0 ≤ m) o → AllByRecursion (λ b. m < b.0) more
+without-append : (m : ℕ) (o : Option Numbered) (within more : List Numbered) → IfSome o (λ b. b.0 ≤ m) → AllByRecursion (λ b. m < b.0) more
     → without o (within ++ more) ≡ without o within ++ more
 without-append m None within more low high = refl
 without-append m (Some a) within more low high =
     filter-append (λ b. not (b.0 == a.0)) within more
     ∙ ap (λ l. filter (λ b. not (b.0 == a.0)) within ++ l)
-    (filter-all (λ b. not (b.0 == a.0)) more (All-map (λ b. m < b.0) (λ b. not (b.0 == a.0) ≡ true) (λ b k. apart a.0 b.0 (omega arith)) more high))
+    (filter-all (λ b. not (b.0 == a.0)) more (All-weaker (λ b. m < b.0) (λ b. not (b.0 == a.0) ≡ true) (λ b k. apart a.0 b.0 (omega arith)) more high))
 
 module _ (slack : ℕ) where
   -- one step, where the sorter is full
@@ -201,7 +188,7 @@ module _ (slack : ℕ) where
 
   below-push : (k : ℕ) (x : Tuple) (xs : List Numbered) → AllByRecursion (λ b. b.0 < k) xs → AllByRecursion (λ b. b.0 < k + 1) (xs ++ (k, x) ∷ [])
   below-push k x xs below =
-      All-append (λ b. b.0 < k + 1) xs ((k, x) ∷ []) (All-map (λ b. b.0 < k) (λ b. b.0 < k + 1) (λ b h. omega arith) xs below) (omega arith, tt)
+      All-push (λ b. b.0 < k + 1) xs (k, x) (All-weaker (λ b. b.0 < k) (λ b. b.0 < k + 1) (λ b h. omega arith) xs below) (omega arith)
 
   length-push : (k : ℕ) (x : Tuple) (xs : List Numbered) → length (xs ++ (k, x) ∷ []) ≡ length xs + 1
   length-push k x xs = length-append xs ((k, x) ∷ [])
@@ -225,7 +212,7 @@ module _ (slack : ℕ) where
       ap (λ l. first_of_all (sort_by sooner grown) ++ raw slack l (k + 1) xs) (after-of (sort_by sooner grown) ∙ sym (rem-sort sooner grown))
       ∙ ap (λ l. first_of_all (sort_by sooner grown) ++ l) (later ∙ ap (λ n. chosen slack (j + 1) (n + length xs) (rem_least sooner grown ++ enumerate_from (k + 1) xs)) (length-rem-push k x held))
       ∙ sym (step-full j k grown (enumerate_from (k + 1) xs) (length held + length xs) (Ascend-push k x held below up) (omega arith)
-      (All-map (λ b. b.0 < k + 1) (λ b. b.0 ≤ k) (λ b h. omega arith) grown (below-push k x held below)) (enumerate-above k (k + 1) xs (omega arith)))
+      (All-weaker (λ b. b.0 < k + 1) (λ b. b.0 ≤ k) (λ b h. omega arith) grown (below-push k x held below)) (enumerate-above k (k + 1) xs (omega arith)))
       ∙ ap (λ n. chosen slack j n (grown ++ enumerate_from (k + 1) xs)) (let e : suc (length held + length xs) ≡ length held + suc (length xs) = omega arith in e)
   raw-step x xs j k held up below at room ih false e =
       let grown = held ++ (k, x) ∷ [] in
@@ -237,7 +224,7 @@ module _ (slack : ℕ) where
       → raw slack (sort_by sooner held) k xs ≡ chosen slack j (length held + length xs) (held ++ enumerate_from k xs)
   raw-chosen [] j k held up below at room =
       sym (ap (λ l. chosen slack j (length held + 0) l) (append-nil held)
-      ∙ drain slack j (length held + 0) held (omega arith) up (All-map (λ b. b.0 < k) (λ b. b.0 ≤ j + slack) (λ b h. omega arith) held below))
+      ∙ drain slack j (length held + 0) held (omega arith) up (All-weaker (λ b. b.0 < k) (λ b. b.0 ≤ j + slack) (λ b h. omega arith) held below))
   raw-chosen (x ∷ xs) j k held up below at room =
       ap (λ full. chosen_of slack full ++ raw slack (kept_of slack full) (k + 1) xs) (sym (sort-push (k, x) held))
       ∙ raw-step x xs j k held up below at room (raw-chosen xs) (nat_lt slack (length (sort_by sooner (held ++ (k, x) ∷ [])))) refl

@@ -1,7 +1,9 @@
 -- The windows that cover a tuple, one tuple after another, are all windows with a result.
-use Rattle.std.proofs.Common.{◌≡◌, ℕ, zero, suc, ◌+◌, ◌-◌, ◌*◌, ◌/◌, ◌^◌, ◌<◌, ◌≤◌, max, Bool, true, false, cond, ◌&&◌, List, [], ◌∷◌, ◌++◌, map, length, take, drop, length-drop, refl, ap, sym, ◌∙◌, append_assoc, div-lt_iff_lt-mul, arith, tests}
+use Rattle.std.proofs.Common.{◌≡◌, ℕ, zero, suc, ◌+◌, ◌-◌, ◌*◌, ◌/◌, ◌^◌, ◌<◌, ◌≤◌, max, Bool, true, false, cond, ◌&&◌, List, [], ◌∷◌, ◌++◌, map, length, take, drop, length-drop, refl, ap, sym, ◌∙◌, div-lt_iff_lt-mul, arith, tests}
 use Rattle.std.proofs.Math.Nat.{lt-div-mul-add, div-mul-le_self}
 use Rattle.std.proofs.lemmas.List.{take_all}
+use Rattle.std.proofs.lemmas.List.Folds.{flat_map-map}
+use Rattle.std.proofs.lemmas.Grind.{flat_map-append}
 use Rattle.std.specs.Prelude.{if◌then◌else◌, nat_lt, nat_le}
 use Rattle.std.specs.List.{AllByRecursion, flat_map, range_with_len}
 use Rattle.sq_value.specs.declared.Value.{Value}
@@ -16,7 +18,7 @@ use Rattle.sq_aggfn.specs.Keyed.{keyed_from}
 use Rattle.sq_aggfn.specs.declared.WindowSpec.{WindowSpec}
 use Rattle.sq_lists.specs.Windows.{in_group, groups_of, in_window, window_results, aggregate_of}
 use Rattle.sq_lists.proofs.GroupLemmas.{keyed-list}
-use Rattle.sq_lists.proofs.SorterFacts.{All-map}
+use Rattle.sq_lists.proofs.AllLemmas.{All-weaker}
 use Rattle.sq_lists.specs.WindowParts.{leading, told_results, numbered_results, NotFalling}
 
 pub range-split : (a n m : ℕ) → range_with_len a (n + m) ≡ range_with_len a n ++ range_with_len (a + n) m
@@ -24,10 +26,6 @@ range-split a zero m = ap (range_with_len a) (let e : 0 + m ≡ m = omega arith 
 range-split a (suc n) m =
     ap (λ k. range_with_len a k) (let e : suc n + m ≡ suc (n + m) = omega arith in e)
     ∙ ap (λ l. a ∷ l) (range-split (a + 1) n m ∙ ap (λ k. range_with_len (a + 1) n ++ range_with_len k m) (let e : a + 1 + n ≡ a + suc n = omega arith in e))
-
-pub flat_map-append : {X A : Type 0} (f : X → List A) (xs ys : List X) → flat_map f (xs ++ ys) ≡ flat_map f xs ++ flat_map f ys
-flat_map-append f [] ys = refl
-flat_map-append f (x ∷ xs) ys = ap (λ l. f x ++ l) (flat_map-append f xs ys) ∙ sym (append_assoc (f x) (flat_map f xs) (flat_map f ys))
 
 -- two functions that agree on the numbers of a range
 pub flat_map-range : {A : Type 0} (f g : ℕ → List A) (a n : ℕ) → ((p : ℕ) → a ≤ p → p < a + n → f p ≡ g p) → flat_map f (range_with_len a n) ≡ flat_map g (range_with_len a n)
@@ -40,10 +38,6 @@ flat_map-range f g a (suc n) h =
 pub flat_map-nothing : {A : Type 0} (f : ℕ → List A) (a n : ℕ) → ((p : ℕ) → a ≤ p → p < a + n → f p ≡ []) → flat_map f (range_with_len a n) ≡ []
 flat_map-nothing f a zero h = refl
 flat_map-nothing f a (suc n) h = ap (λ l. l ++ flat_map f (range_with_len (a + 1) n)) (h a (omega arith) (omega arith)) ∙ flat_map-nothing f (a + 1) n (λ p lo hi. h p (omega arith) (omega arith))
-
-flat_map-map : {X Y A : Type 0} (f : Y → List A) (g : X → Y) (xs : List X) → flat_map f (map g xs) ≡ flat_map (λ x. f (g x)) xs
-flat_map-map f g [] = refl
-flat_map-map f g (x ∷ xs) = ap (λ l. f (g x) ++ l) (flat_map-map f g xs)
 
 -- a stream
 stream-rises : (xs : List Tuple) (least : ℕ) → AllByRecursion (λ x. least ≤ x.time) (take 1 xs) → IsStream xs → NotFalling least xs
@@ -187,7 +181,7 @@ module _ (w : WindowSpec) (moves : 0 < w.advance) where
 
     -- the later tuples are in no window that is gone over
     pub begun_step : (x : Tuple) (xs : List Tuple) → NotFalling x.time xs → AllByRecursion (λ y. x.time / w.advance + 1 ≤ y.time / w.advance + 1) xs
-    begun_step x xs up = All-map (λ y. x.time ≤ y.time) (λ y. x.time / w.advance + 1 ≤ y.time / w.advance + 1) (λ y le. let d = before-division x.time y.time le in omega (arith, d)) xs (all-later x.time xs up)
+    begun_step x xs up = All-weaker (λ y. x.time ≤ y.time) (λ y. x.time / w.advance + 1 ≤ y.time / w.advance + 1) (λ y le. let d = before-division x.time y.time le in omega (arith, d)) xs (all-later x.time xs up)
 
 -- what is told of the groups is the results
 module _ {M : Type 0} (none : M) (join : M → M → M) (one : Tuple → M) (told : M → List Value) (table : List Tuple → List Value) (tells : (xs : List Tuple) → told (joined_from join one none xs) ≡ table xs) where

@@ -10,6 +10,7 @@ use Rattle.sq_lists.specs.Boxes.{filter_list_of, map_list_of}
 use Rattle.sq_lists.specs.Merge as merges
 use Rattle.sq_lists.specs.Sorting.{bsort_list_of}
 use Rattle.sq_lists.specs.Windows.{aggregate_list_of}
+use Rattle.sq_lists.specs.Pairs.{join_list_of}
 
 -- box by box, at each port and for all parameters
 pub record KeepStreams : Type 0 where
@@ -18,3 +19,4 @@ pub record KeepStreams : Type 0 where
   pub union : (ins : List (List Tuple)) → AllByRecursion IsStream ins → IsStream (merges.union ins)
   pub bsort : (by slack : ℕ) (xs : List Tuple) → IsStream xs → IsStream (bsort_list_of by slack xs)
   pub aggregate : (fs : List Func) (by : List ℕ) (w : WindowSpec) (xs : List Tuple) → IsStream xs → IsStream (aggregate_list_of fs by w xs)
+  pub join : (size : ℕ) (on : Expr) (left right : List Tuple) → IsStream left → IsStream right → IsStream (join_list_of size on left right)

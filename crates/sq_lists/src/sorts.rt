@@ -57,12 +57,17 @@ fn take_all(sorter: &mut Sorter, out: &mut Vec<Tuple>) -> Result<(), AllocError>
 /// What a BSort gives (named after SQuAl's BSort; its rules are this project's own): the tuples whose field `by` is a
 /// number from 0 to their time, each at that time, in order as far as a buffer of `slack` tuples can put them, and none
 /// that is smaller in time than one before it.
-pub fn bsort_list(alloc: Global, by: u32, slack: u32, t: &[Tuple]) -> Result<Vec<Tuple>, AllocError>
-    ensures { IfOk result (λ out. out.items ≡ bsort_list_of by slack t.now) }
+pub fn bsort_list(
+    alloc: Global,
+    by: u32,
+    slack: u32,
+    tuples: &[Tuple],
+) -> Result<Vec<Tuple>, AllocError>
+    ensures { IfOk result (λ out. out.items ≡ bsort_list_of by slack tuples.now) }
 {
     let mut sorter = Sorter::new(alloc, slack);
     let mut out = Vec::new(alloc);
-    for x in t {
+    for x in tuples {
         put_copy(&mut sorter, by, x, &mut out)?;
     }
     take_all(&mut sorter, &mut out)?;

@@ -8,12 +8,12 @@ use sq_value::{ListOf, Tuple, copy_tuple};
 use std::alloc::{AllocError, Global};
 
 /// The port of a tuple: the number of the first predicate that is true, else their number. Null is not true.
-pub fn port_of_tuple(preds: &[Typed], t: &Tuple) -> usize
-    ensures port { result ≡ port_of (map (λ e. e.tree) preds.now) t.now }
+pub fn port_of_tuple(preds: &[Typed], tuple: &Tuple) -> usize
+    ensures port { result ≡ port_of (map (λ e. e.tree) preds.now) tuple.now }
     ensures most { result ≤ length preds.now }
 {
     for (i, p) in preds.iter().enumerate() {
-        if holds(p, t) {
+        if holds(p, tuple) {
             return i;
         }
     }
@@ -25,12 +25,12 @@ pub fn filter_list(
     alloc: Global,
     preds: &[Typed],
     port: u32,
-    t: &[Tuple],
+    tuples: &[Tuple],
 ) -> Result<Vec<Tuple>, AllocError>
-    ensures { IfOk result (λ kept. kept.items ≡ filter_list_of (map (λ e. e.tree) preds.now) port t.now) }
+    ensures { IfOk result (λ kept. kept.items ≡ filter_list_of (map (λ e. e.tree) preds.now) port tuples.now) }
 {
     let mut kept = Vec::new(alloc);
-    for x in t {
+    for x in tuples {
         if port_of_tuple(preds, x) == port as usize {
             kept.push(copy_tuple(x)?)?;
         }
@@ -39,25 +39,25 @@ pub fn filter_list(
 }
 
 /// What a Map gives for a tuple: a tuple of the same time, with the values of the expressions.
-pub fn map_tuple(alloc: Global, exprs: &[Typed], t: &Tuple) -> Result<Tuple, AllocError>
-    ensures { IfOk result (λ m. m ≡ mapped (map (λ e. e.tree) exprs.now) t.now) }
+pub fn map_tuple(alloc: Global, exprs: &[Typed], tuple: &Tuple) -> Result<Tuple, AllocError>
+    ensures { IfOk result (λ m. m ≡ mapped (map (λ e. e.tree) exprs.now) tuple.now) }
 {
     let mut fields = Vec::new(alloc);
     for e in exprs {
-        fields.push(eval(e, t)?)?;
+        fields.push(eval(e, tuple)?)?;
     }
     Ok(Tuple {
-        time: t.time,
+        time: tuple.time,
         fields: ListOf::new(fields),
     })
 }
 
 /// The tuples that a Map gives (after SQuAl's Map, a generalised projection).
-pub fn map_list(alloc: Global, exprs: &[Typed], t: &[Tuple]) -> Result<Vec<Tuple>, AllocError>
-    ensures { IfOk result (λ made. made.items ≡ map_list_of (map (λ e. e.tree) exprs.now) t.now) }
+pub fn map_list(alloc: Global, exprs: &[Typed], tuples: &[Tuple]) -> Result<Vec<Tuple>, AllocError>
+    ensures { IfOk result (λ made. made.items ≡ map_list_of (map (λ e. e.tree) exprs.now) tuples.now) }
 {
     let mut made = Vec::new(alloc);
-    for x in t {
+    for x in tuples {
         made.push(map_tuple(alloc, exprs, x)?)?;
     }
     Ok(made)

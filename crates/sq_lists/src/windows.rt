@@ -25,30 +25,30 @@ pub fn result_of(start: u64, group: Group, answers: Fields) -> Result<Tuple, All
 }
 
 /// The number of the first window that ends after a tick, so the first that covers it. Windows are numbered from 0.
-pub fn first_covering(w: WindowSpec, time: u64) -> u64
-    requires { IsWindow w }
-    ensures before { (k : ℕ) → k < result → k * w.advance + w.size ≤ time }
-    ensures after { time < result * w.advance + w.size }
-    ensures low { result * w.advance ≤ time }
+pub fn first_covering(window: WindowSpec, time: u64) -> u64
+    requires { IsWindow window }
+    ensures before { (k : ℕ) → k < result → k * window.advance + window.size ≤ time }
+    ensures after { time < result * window.advance + window.size }
+    ensures low { result * window.advance ≤ time }
 {
-    if time < w.size {
+    if time < window.size {
         0
     } else {
-        (time - w.size) / w.advance + 1
+        (time - window.size) / window.advance + 1
     }
 }
 
 /// How many tuples stand before the first that has the time `end` or a later one.
-fn leading(t: &[Tuple], end: u64) -> usize
-    ensures leading { result ≡ leading end t.now }
-    ensures most { result ≤ length t.now }
+fn leading(tuples: &[Tuple], end: u64) -> usize
+    ensures leading { result ≡ leading end tuples.now }
+    ensures most { result ≤ length tuples.now }
 {
-    for (i, x) in t.iter().enumerate() {
+    for (i, x) in tuples.iter().enumerate() {
         if x.time >= end {
             return i;
         }
     }
-    t.len()
+    tuples.len()
 }
 
 /// The groups of some tuples, each with the state of its tuples.
@@ -90,20 +90,20 @@ fn push_windows<F: Fold>(
     alloc: Global,
     fold: &F,
     by: &[u32],
-    w: WindowSpec,
+    window: WindowSpec,
     rest: &[Tuple],
     from: u64,
     to: u64,
     out: &mut Vec<Tuple>,
 ) -> Result<(), AllocError>
-    requires window { IsWindow w }
-    requires rises { NotFalling ((to - 1) * w.advance) rest.now }
-    requires small { to * w.advance < 2 ^ 41 }
-    ensures { OnOk result (out.new.items ≡ out.old.items ++ numbered_results (F.table fold.now) by.now w rest.now from to) }
+    requires window { IsWindow window }
+    requires rises { NotFalling ((to - 1) * window.advance) rest.now }
+    requires small { to * window.advance < 2 ^ 41 }
+    ensures { OnOk result (out.new.items ≡ out.old.items ++ numbered_results (F.table fold.now) by.now window rest.now from to) }
 {
     for k in from..to {
-        let start = k * w.advance;
-        let inside = &rest[..leading(rest, start + w.size)];
+        let start = k * window.advance;
+        let inside = &rest[..leading(rest, start + window.size)];
         let held = groups_of(alloc, fold, by, inside)?;
         push_results(fold, start, held, out)?;
     }
@@ -115,20 +115,29 @@ fn aggregate<F: Fold>(
     alloc: Global,
     fold: &F,
     group: &[u32],
-    w: WindowSpec,
-    t: &[Tuple],
+    window: WindowSpec,
+    tuples: &[Tuple],
 ) -> Result<Vec<Tuple>, AllocError>
-    requires window { IsWindow w }
-    requires stream { IsStream t.now }
-    ensures { IfOk result (λ out. out.items ≡ aggregate_of (F.table fold.now) group.now w t.now) }
+    requires window { IsWindow window }
+    requires stream { IsStream tuples.now }
+    ensures { IfOk result (λ out. out.items ≡ aggregate_of (F.table fold.now) group.now window tuples.now) }
 {
     let mut out = Vec::new(alloc);
     let mut next = 0;
-    for i in 0..t.len() {
-        let time = t[i].time;
-        let end = time / w.advance + 1;
-        let from = first_covering(w, time).max(next);
-        push_windows(alloc, fold, group, w, &t[i..], from, end, &mut out)?;
+    for i in 0..tuples.len() {
+        let time = tuples[i].time;
+        let end = time / window.advance + 1;
+        let from = first_covering(window, time).max(next);
+        push_windows(
+            alloc,
+            fold,
+            group,
+            window,
+            &tuples[i..],
+            from,
+            end,
+            &mut out,
+        )?;
         next = end;
     }
     Ok(out)
@@ -142,13 +151,13 @@ pub fn aggregate_list(
     alloc: Global,
     funcs: &[Func],
     group: &[u32],
-    w: WindowSpec,
-    t: &[Tuple],
+    window: WindowSpec,
+    tuples: &[Tuple],
 ) -> Result<Vec<Tuple>, AllocError>
-    requires window { IsWindow w }
-    requires stream { IsStream t.now }
-    ensures { IfOk result (λ out. out.items ≡ aggregate_list_of funcs.now group.now w t.now) }
+    requires window { IsWindow window }
+    requires stream { IsStream tuples.now }
+    ensures { IfOk result (λ out. out.items ≡ aggregate_list_of funcs.now group.now window tuples.now) }
 {
     let bundle = Bundle::new(alloc, funcs.to_vec(alloc)?);
-    aggregate(alloc, &bundle, group, w, t)
+    aggregate(alloc, &bundle, group, window, tuples)
 }

@@ -1,8 +1,10 @@
 pub mod Rows
 pub mod OrderLemmas
+pub mod StreamLemmas
 pub mod NumberLemmas
 pub mod FullLemmas
 pub mod UnionLemmas
 pub mod ArcLemmas
 pub mod PlacedLemmas
+pub mod LateLemmas
 pub mod StandingLemmas

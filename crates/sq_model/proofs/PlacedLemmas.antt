@@ -11,7 +11,7 @@ use Rattle.sq_graph.specs.declared.BoxWires.{BoxWires}
 use Rattle.sq_graph.specs.Wires.{producers_of}
 use Rattle.sq_graph.proofs.Reach.{and_parts}
 use Rattle.sq_net.specs.declared.Body.{Body}
-use Rattle.sq_net.specs.declared.Body.TheVariants.{Filter, Map, Union}
+use Rattle.sq_net.specs.declared.Body.TheVariants.{Filter, Map, Union, BSort, Aggregate, Join}
 use Rattle.sq_net.specs.declared.Node.{Node}
 use Rattle.sq_net.specs.declared.Network.{Network}
 use Rattle.sq_net.specs.Sound.{IsSound, IsTypedBody, body_within, input_columns, is_between, network_within, node_within, takes_within}
@@ -44,6 +44,9 @@ body_gives_few : (ins : List Columns) (body : Body) (ports : List Columns) → b
 body_gives_few ins (Filter preds) ports h typed = (let few = at_most 1 15 (length preds) h in let count = typed.1 in omega (arith, few, count))
 body_gives_few ins (Map exprs) ports h typed = (let one = ap (λ (cs : List Columns). length cs) typed.1 in omega (arith, one))
 body_gives_few ins Union ports h typed = (let one = ap (λ (cs : List Columns). length cs) typed.1 in omega (arith, one))
+body_gives_few ins (BSort by slack) ports h typed = (let one = ap (λ (cs : List Columns). length cs) typed.1 in omega (arith, one))
+body_gives_few ins (Aggregate funcs group window) ports h typed = (let one = ap (λ (cs : List Columns). length cs) typed.1 in omega (arith, one))
+body_gives_few ins (Join size on) ports h typed = (let one = ap (λ (cs : List Columns). length cs) typed.1 in omega (arith, one))
 
 passes_at : {X : Type 0} (test : X → Bool) (xs : List X) (i : ℕ) (x : X) → list_all test xs ≡ true → slice_get xs i ≡ Some x → test x ≡ true
 passes_at test [] i x h there = cc
@@ -98,4 +101,5 @@ placed_of n sound = record {
   few_boxes = boxes_few n sound;
   few_streams = few_streams n sound;
   few_inputs = All-from_recursion (λ (b : BoxWires). length b.inputs ≤ 8) n.wires.boxes (all_take_few n.wires.boxes (takes_all n sound.within));
+  windows = sound.windows;
 }

@@ -22,6 +22,7 @@ use Rattle.sq_net.specs.declared.Node.{Node}
 use Rattle.sq_net.specs.declared.Source.{Source}
 use Rattle.sq_net.specs.declared.Output.{Output}
 use Rattle.sq_net.specs.declared.Network.{Network}
+use Rattle.sq_net.specs.Sound.{HasWindow}
 use Rattle.sq_model.specs.Full.{full_arc, full_streams}
 use Rattle.sq_model.specs.Fed.{fed_of, work_of}
 use Rattle.sq_model.specs.Placed.{IsPlaced}
@@ -108,9 +109,9 @@ else_fed = refl
 else_work : work_of network_else readings ≡ 18
 else_work = refl
 
--- each network of these wires is placed
-pub placed_d : (n : Network) → n.wires ≡ wires_d → length n.boxes ≡ 1 → IsPlaced n
-placed_d n wires count = record {
+-- each network of these wires is placed, as far as its windows are
+pub placed_d : (n : Network) → n.wires ≡ wires_d → length n.boxes ≡ 1 → All (λ b. HasWindow b.body) n.boxes → IsPlaced n
+placed_d n wires count windows = record {
   boxes = ap (λ (w : Wiring). length w.boxes) wires ∙ sym count;
   wired = subst (λ w. IsWired w) (sym wires) wired;
   shown = subst (λ w. All (λ s. is_there (producer_of w s) ≡ true) w.outputs) (sym wires) (All-from_recursion (λ s. is_there (producer_of wires_d s) ≡ true) (2 ∷ []) (refl, tt));
@@ -118,6 +119,7 @@ placed_d n wires count = record {
   few_boxes = subst (λ w. length w.boxes < 2 ^ 32) (sym wires) (lit< tt);
   few_streams = subst (λ w. length (producers_of w) < 2 ^ 32) (sym wires) (lit< tt);
   few_inputs = subst (λ w. All (λ (b : BoxWires). length b.inputs ≤ 8) w.boxes) (sym wires) (All-from_recursion (λ (b : BoxWires). length b.inputs ≤ 8) wires_d.boxes (lit≤ tt, tt));
+  windows = windows;
 }
   where
     wired : IsWired wires_d

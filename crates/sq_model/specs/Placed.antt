@@ -4,8 +4,10 @@ use Rattle.std.specs.List.{All}
 use Rattle.sq_graph.specs.Wires.{producers_of, producer_of}
 use Rattle.sq_graph.specs.Order.{is_there, IsWired, LiesOnCycle}
 use Rattle.sq_net.specs.declared.Network.{Network}
+use Rattle.sq_net.specs.Sound.{HasWindow}
 
--- each box is wired, each stream that is taken or shown is there, no box lies on a cycle, and a box takes at most 8 streams
+-- each box is wired, each stream that is taken or shown is there, no box lies on a cycle, a box takes at most 8 streams, and an
+-- Aggregate's window is one
 pub record IsPlaced (n : Network) : Type 0 where
   pub boxes : length n.wires.boxes ≡ length n.boxes
   pub wired : IsWired n.wires
@@ -14,3 +16,4 @@ pub record IsPlaced (n : Network) : Type 0 where
   pub few_boxes : length n.wires.boxes < 2 ^ 32
   pub few_streams : length (producers_of n.wires) < 2 ^ 32
   pub few_inputs : All (λ b. length b.inputs ≤ 8) n.wires.boxes
+  pub windows : All (λ b. HasWindow b.body) n.boxes

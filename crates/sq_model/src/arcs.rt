@@ -1,5 +1,7 @@
 // The full stream of an arc.
 ghost use Rattle.std.specs.Prelude.{◌≡◌, ◌<◌, map, length, IfOk};
+ghost use Rattle.std.specs.List.{All};
+ghost use Rattle.sq_value.specs.Values.{IsStream};
 ghost use Rattle.sq_graph.specs.Wires.{arcs_of};
 ghost use Rattle.sq_model.specs.Full.{full_arc};
 ghost use Rattle.sq_model.specs.Placed.{IsPlaced};
@@ -44,6 +46,7 @@ pub fn full(
 ) -> Result<Vec<Tuple>, AllocError>
     requires placed { IsPlaced n.now }
     requires sources { length sources.now ≡ n.now.wires.sources }
+    requires streams { All IsStream (map (λ t. t.items) sources.now) }
     requires arc { arc < length (arcs_of n.now.wires) }
     ensures { IfOk result (λ v. v.items ≡ full_arc n.now (map (λ t. t.items) sources.now) arc) }
 {

@@ -1,12 +1,14 @@
 // What a box gives for whole streams.
 ghost use Rattle.std.specs.Prelude.{◌≡◌, ◌++◌, map, IfOk, OnOk};
-ghost use Rattle.std.specs.List.{flat_map};
+ghost use Rattle.std.specs.List.{All, flat_map};
 ghost use Rattle.sq_value.specs.Lists.{sort_by};
+ghost use Rattle.sq_value.specs.Values.{IsStream};
 ghost use Rattle.sq_lists.specs.Merge.{union};
+ghost use Rattle.sq_net.specs.Sound.{HasWindow};
 ghost use Rattle.sq_model.specs.Full.{nth, box_list};
 ghost use Rattle.sq_model.specs.Unions.{sooner};
 
-use sq_lists::{filter_list, map_list};
+use sq_lists::{aggregate_list, bsort_list, filter_list, join_list, map_list};
 use sq_net::Body;
 use sq_value::{Tuple, copy_tuple};
 use std::alloc::{AllocError, Global};
@@ -21,10 +23,11 @@ pub fn stream_in(streams: &[Vec<Tuple>], stream: u32) -> &[Tuple]
     }
 }
 
-fn first_in<'a>(streams: &'a [Vec<Tuple>], inputs: &[u32]) -> &'a [Tuple]
-    ensures { result.now ≡ nth (map (nth (map (λ v. v.items) streams.now)) inputs.now) 0 }
+// The stream at an input of a box, or no tuples where it has no such input.
+fn taken<'a>(streams: &'a [Vec<Tuple>], inputs: &[u32], input: usize) -> &'a [Tuple]
+    ensures { result.now ≡ nth (map (nth (map (λ v. v.items) streams.now)) inputs.now) input }
 {
-    match inputs.first() {
+    match inputs.get(input) {
         Some(stream) => stream_in(streams, *stream),
         None => &[],
     }
@@ -79,13 +82,21 @@ pub(crate) fn box_list(
     streams: &[Vec<Tuple>],
     inputs: &[u32],
 ) -> Result<Vec<Tuple>, AllocError>
+    requires window { HasWindow body.now }
+    requires streams { All IsStream (map (λ v. v.items) streams.now) }
     ensures { IfOk result (λ v. v.items ≡ box_list body.now port (map (nth (map (λ v. v.items) streams.now)) inputs.now)) }
 {
+    let first = taken(streams, inputs, 0);
     match body {
-        Body::Filter { preds } => {
-            filter_list(alloc, preds.as_slice(), port, first_in(streams, inputs))
-        }
-        Body::Map { exprs } => map_list(alloc, exprs.as_slice(), first_in(streams, inputs)),
+        Body::Filter { preds } => filter_list(alloc, preds.as_slice(), port, first),
+        Body::Map { exprs } => map_list(alloc, exprs.as_slice(), first),
         Body::Union => union_list(alloc, streams, inputs),
+        Body::BSort { by, slack } => bsort_list(alloc, *by, *slack, first),
+        Body::Aggregate {
+            funcs,
+            group,
+            window,
+        } => aggregate_list(alloc, funcs.as_slice(), group.as_slice(), *window, first),
+        Body::Join { size, on } => { join_list(alloc, *size, on, first, taken(streams, inputs, 1)) }
     }
 }

@@ -1,8 +1,11 @@
 // Laws, each the contract of a function that does nothing.
 ghost use Rattle.std.specs.Prelude.{List};
+ghost use Rattle.std.specs.List.{All};
+ghost use Rattle.sq_value.specs.Values.{IsStream};
 ghost use Rattle.sq_net.specs.Sound.{IsSound};
+ghost use Rattle.sq_model.specs.Full.{full_streams};
 ghost use Rattle.sq_model.specs.Placed.{IsPlaced};
-ghost use Rattle.sq_model.specs.Laws.{AreFull};
+ghost use Rattle.sq_model.specs.Laws.{AreFull, LateAreTheRest};
 
 use sq_net::Network;
 use sq_value::Tuple;
@@ -20,6 +23,22 @@ pub fn sound_is_placed(n: &Network)
 pub fn full_streams_follow(n: &Network)
     requires { IsPlaced n.now }
     ensures { (sources : List (List Tuple)) → AreFull n.now sources }
+{
+    let _n = n;
+}
+
+/// Where what the sources recorded are streams, so are all full streams: their times are ticks (below 2^40) that don't
+/// fall.
+pub fn full_streams_are_streams(n: &Network)
+    ensures { (sources : List (List Tuple)) → All IsStream sources → All IsStream (full_streams n.now sources) }
+{
+    let _n = n;
+}
+
+/// What a BSort is fed is what it gives and its late tuples: it never gives more than it is fed.
+pub fn late_tuples_are_the_rest(n: &Network)
+    requires { IsSound n.now }
+    ensures { (sources : List (List Tuple)) → LateAreTheRest n.now sources }
 {
     let _n = n;
 }

@@ -17,6 +17,8 @@ mod work;
 
 pub use arcs::full;
 pub use boxes::stream_in;
-pub use laws::{full_streams_follow, sound_is_placed};
+pub use laws::{
+    full_streams_are_streams, full_streams_follow, late_tuples_are_the_rest, sound_is_placed,
+};
 pub use streams::full_streams;
-pub use work::fed;
+pub use work::{fed, late};

@@ -1,5 +1,7 @@
 // The full streams, one box after another.
 ghost use Rattle.std.specs.Prelude.{◌≡◌, ◌<◌, ◌-◌, ◌++◌, ℕ, [], ◌∷◌, List, map, replicate, length, IfOk, OnOk, true};
+ghost use Rattle.std.specs.List.{All};
+ghost use Rattle.sq_value.specs.Values.{IsStream};
 ghost use Rattle.sq_graph.specs.Wires.{producers_of};
 ghost use Rattle.sq_graph.specs.Order.{can_be_next, order_of};
 ghost use Rattle.sq_model.specs.Full.{full_streams};
@@ -42,7 +44,9 @@ fn give_ports(
     requires placed { IsPlaced n.now }
     requires there { at < length n.now.boxes }
     requires room { length streams.old ≡ length (producers_of n.now.wires) }
-    ensures { OnOk result ((sources : List (List Tuple)) (front : List ℕ) → can_be_next n.now.wires front at ≡ true
+    requires streams { All IsStream (map (λ t. t.items) streams.old) }
+    ensures streams { OnOk result (All IsStream (map (λ t. t.items) streams.new)) }
+    ensures given { OnOk result ((sources : List (List Tuple)) (front : List ℕ) → can_be_next n.now.wires front at ≡ true
         → Stands n.now sources front (map (λ t. t.items) streams.old)
         → Stands n.now sources (front ++ at ∷ []) (map (λ t. t.items) streams.new)) }
 {
@@ -65,6 +69,7 @@ pub fn full_streams(
 ) -> Result<Vec<Vec<Tuple>>, AllocError>
     requires placed { IsPlaced n.now }
     requires sources { length sources.items ≡ n.now.wires.sources }
+    requires streams { All IsStream (map (λ t. t.items) sources.items) }
     ensures { IfOk result (λ v. map (λ t. t.items) v.items ≡ full_streams n.now (map (λ t. t.items) sources.items)) }
 {
     let order = box_order(alloc, n)?;

@@ -1,13 +1,14 @@
-// How many tuples boxes are fed.
+// How many tuples boxes are fed, and how many of them are late.
 ghost use Rattle.std.specs.Prelude.{◌≡◌, ◌<◌, ◌≤◌, ◌*◌, ◌^◌, map, length, IfOk};
 ghost use Rattle.std.specs.List.{sum_by};
 ghost use Rattle.sq_value.specs.Lists.{numbers_to};
 ghost use Rattle.sq_model.specs.Full.{nth};
-ghost use Rattle.sq_model.specs.Fed.{fed_from};
+ghost use Rattle.sq_model.specs.Fed.{fed_from, late_from};
 ghost use Rattle.sq_model.specs.Placed.{IsPlaced};
 
 use crate::boxes::stream_in;
-use sq_net::Network;
+use sq_graph::stream_of;
+use sq_net::{Body, Network};
 use sq_value::Tuple;
 use std::alloc::{AllocError, Global};
 use std::mem::size_of_val;
@@ -41,6 +42,36 @@ pub fn fed(alloc: Global, n: &Network, streams: &[Vec<Tuple>]) -> Result<Vec<u64
     let mut all = Vec::new(alloc);
     for wires in n.wires.boxes.as_slice() {
         all.push(number_in(streams, wires.inputs.as_slice()))?;
+    }
+    Ok(all)
+}
+
+fn late_at(n: &Network, at: u32, streams: &[Vec<Tuple>]) -> u64
+    requires placed { IsPlaced n.now }
+    requires there { at < length n.now.boxes }
+    ensures { result ≡ late_from n.now (map (λ t. t.items) streams.now) at }
+{
+    let node = &n.boxes.as_slice()[at as usize];
+    let wires = &n.wires.boxes.as_slice()[at as usize];
+    match &node.body {
+        Body::BSort { .. } => {
+            let taken = number_in(streams, wires.inputs.as_slice());
+            let given = number_of(stream_in(streams, stream_of(&n.wires, at, 0)));
+            taken.saturating_sub(given)
+        }
+        _ => 0,
+    }
+}
+
+/// How many late tuples each box has, in the order of the boxes, where these are the streams by number: those that a
+/// BSort is fed less those that it gives, and 0 for a box that is no BSort.
+pub fn late(alloc: Global, n: &Network, streams: &[Vec<Tuple>]) -> Result<Vec<u64>, AllocError>
+    requires { IsPlaced n.now }
+    ensures { IfOk result (λ v. v.items ≡ map (late_from n.now (map (λ t. t.items) streams.now)) (numbers_to (length n.now.boxes))) }
+{
+    let mut all = Vec::new(alloc);
+    for at in 0..n.boxes.as_slice().len() as u32 {
+        all.push(late_at(n, at, streams))?;
     }
     Ok(all)
 }

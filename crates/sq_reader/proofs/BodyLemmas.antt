@@ -1,174 +1,52 @@
 -- What is known of a box that is typed.
-use Rattle.std.proofs.Common.{◌≡◌, ◌∙◌, sym, ap, subst, refl, ℕ, suc, ◌+◌, Bool, true, false, List, [], ◌∷◌, map, length, replicate, Option, Some, None, cond, arith}
-use Rattle.std.proofs.lemmas.List.{length-map, length-replicate}
-use Rattle.std.specs.Prelude.{Result, Ok, Err, is_some}
-use Rattle.std.specs.List.{All, AllByRecursion, cons_option, list_all, zip}
+use Rattle.std.proofs.Common.{◌≡◌, ◌∙◌, sym, ap, subst, refl, ℕ, ◌+◌, ◌<◌, ◌≤◌, ◌^◌, Bool, true, ◌&&◌, List, [], ◌∷◌, ◌++◌, map, length, replicate, Option, Some, None, ℤ, arith}
+use Rattle.std.proofs.lemmas.Bool.Decides.{nat_tests}
+use Rattle.std.proofs.lemmas.List.{length-map, length-replicate, map-append}
+use Rattle.std.specs.Prelude.{Result, Ok, Err, nat_le}
+use Rattle.std.specs.List.{All, AllByRecursion, list_all, zip}
+use Rattle.std.specs.Option.{option_and_then}
 use Rattle.std.proofs.lemmas.List.Elements.{All-from_recursion, All-replicate}
-use Rattle.sq_value.specs.Lists.{same_bytes, are_distinct}
+use Rattle.sq_value.specs.Lists.{are_distinct}
 use Rattle.sq_value.specs.Values.{Columns, kinds_of, names_of}
 use Rattle.sq_value.specs.declared.Kind.{Kind}
 use Rattle.sq_value.specs.declared.Kind.TheVariants as kind
 use Rattle.sq_value.specs.Schemas.{schema_error}
-use Rattle.sq_expr.specs.Trees.{Expr, Checked}
-use Rattle.sq_expr.specs.Asts.{Ast}
-use Rattle.sq_expr.specs.Kinds.{kind_in, kinds_agree, same_kind}
-use Rattle.sq_expr.specs.Grammar.{parse_in}
-use Rattle.sq_expr.specs.Checking.{check_in, kinded, resolved}
-use Rattle.sq_expr.specs.declared.TypeErr.TheVariants as error
+use Rattle.sq_expr.specs.Trees.{Checked}
+use Rattle.sq_expr.specs.Kinds.{kind_at, kind_in}
+use Rattle.sq_expr.specs.Checking.{column_of}
+use Rattle.sq_aggfn.specs.declared.WindowSpec.{WindowSpec}
+use Rattle.sq_net.specs.Columns.{columns_at, first_columns, if_int, pair_columns}
 use Rattle.sq_net.specs.declared.Body.TheVariants as body
 use Rattle.sq_net.specs.declared.Node.{Node}
 use Rattle.sq_net.specs.declared.NetErr.{NetErr}
 use Rattle.sq_net.specs.declared.NetErr.TheVariants as broken
 use Rattle.sq_net.specs.declared.Part.TheVariants as part
 use Rattle.sq_net.specs.Names.{is_name}
-use Rattle.sq_net.specs.Sound.{IsOver, IsPredicate, IsTypedBody, kind_of_body}
+use Rattle.sq_net.specs.Sound.{HasWindow, IsOver, IsPredicate, IsTypedBody, kind_of_body}
 use Rattle.sq_net.specs.Sound as sound
-use Rattle.sq_net.proofs.ColumnLemmas.{columns_of_parts}
+use Rattle.sq_tables.specs.declared.raw.Giving.{Giving}
 use Rattle.sq_tables.specs.declared.raw.Setting.{Setting}
 use Rattle.sq_tables.specs.declared.raw.RawBody.{RawBody}
-use Rattle.sq_tables.specs.declared.raw.RawBody.TheVariants.{Filter, Map, Union}
+use Rattle.sq_tables.specs.declared.raw.RawBody.TheVariants.{Filter, Map, Union, BSort, Aggregate, Join}
 use Rattle.sq_tables.specs.declared.raw.RawBox.{RawBox}
 use Rattle.sq_tables.specs.Places.{place_at}
-use Rattle.sq_tables.specs.Rawly.{◌>>=◌}
-use Rattle.sq_reader.specs.Limits.{body_within, first_failing, has_between, is_expression_long}
+use Rattle.sq_tables.specs.Rawly.{◌>>=◌, or_broken}
 use Rattle.sq_tables.specs.Shapes.{ports_of}
+use Rattle.sq_reader.specs.Limits.{body_within, first_failing, has_between, is_between, is_expression_long}
+use Rattle.sq_reader.specs.Windows.{has_window}
 use Rattle.sq_reader.specs.Streaming as wires
-use Rattle.sq_reader.specs.Expressions.{allowed, may_be_predicate, may_be_set, or_no_expression, parsed_from, typed_from, typed_in}
-use Rattle.sq_reader.specs.Columns.{TypedBody, bad_name, body_of, filter_of, kinds_set, map_of, nat_of, node_in, node_of, same_columns, same_kinds, same_names, set_names, set_texts, union_of, unless_schema}
-use Rattle.sq_reader.proofs.ListLemmas.{and_parts, each_passes, none_failing}
-use Rattle.sq_reader.proofs.LimitLemmas.{settings_of}
-use Rattle.sq_reader.proofs.DistinctLemmas.{new_distinct, none_bad, same_text}
+use Rattle.sq_reader.specs.Expressions.{may_be_predicate, may_be_set, predicate_of, typed_in}
+use Rattle.sq_reader.specs.Functions.{funcs_from, group_from, kinds_told}
+use Rattle.sq_reader.specs.Columns.{TypedBody, aggregate_of, bad_given, bad_name, body_of, bsort_of, filter_of, give_names, int_place, join_of, kinds_set, map_of, nat_of, node_in, node_of, place_if, same_columns, set_names, set_texts, too_many, union_of, unless_schema, window_of}
+use Rattle.sq_reader.proofs.StepLemmas.{first_step, found_as}
+use Rattle.sq_reader.proofs.ListLemmas.{and_both, and_parts, each_passes, is_at_most, none_failing}
+use Rattle.sq_reader.proofs.LimitLemmas.{given_length, givings_of, number_within, settings_of, slack_of}
+use Rattle.sq_reader.proofs.DistinctLemmas.{new_both, new_distinct, none_bad}
 use Rattle.sq_reader.proofs.SchemaLemmas.{schema_none}
-
--- where two steps succeed, each does
-pub first_step : {A B : Type 0} (r : Result A NetErr) (f : A → Result B NetErr) (y : B) → (r >>= f) ≡ Ok y → (x : A) × ((r ≡ Ok x) × (f x ≡ Ok y))
-first_step (Ok x) f y e = (x, (refl, e))
-first_step (Err b) f y e = cc
-
--- ---- expressions
-
--- an expression that was checked over these columns, of an allowed kind
-abbrev pub IsAllowed : (Option Kind → Bool) → Columns → Checked → Type 0
-IsAllowed may cs x = IsOver cs x × (may (kind_in x.scope x.tree) ≡ true)
-
-allowed_is : (b : NetErr) (may : Option Kind → Bool) (cs : Columns) (o : Option Expr) (x : Checked) → allowed b may cs (kinded cs o) ≡ Ok x → IsAllowed may cs x
-allowed_is b may cs None x h = cc
-allowed_is b may cs (Some e) x h = by_kinds (kinds_agree cs e) refl h
-  where
-    built : Checked
-    built = record { scope = cs; tree = e }
-
-    by_kind : (t : Bool) → may (kind_in cs e) ≡ t → kinds_agree cs e ≡ true → cond t (Ok (record { scope = cs; tree = e })) (Err b) ≡ Ok x → IsAllowed may cs x
-    by_kind true is agree h =
-        let same : record { scope = cs; tree = e } ≡ x = cc in
-        let P : Checked → Type 0 = IsAllowed may cs in
-        subst P same ((refl, agree), is)
-    by_kind false is agree h = cc
-
-    by_kinds : (t : Bool) → kinds_agree cs e ≡ t → allowed b may cs (cond t (Ok (e, kind_in cs e)) (Err error.Mismatch)) ≡ Ok x → IsAllowed may cs x
-    by_kinds true agree h = by_kind (may (kind_in cs e)) refl agree h
-    by_kinds false agree h = cc
-
-pub parsed_length : (n i : ℕ) (ws : List (List ℕ)) (asts : List Ast) → parsed_from n i ws ≡ Ok asts → length asts ≡ length ws
-parsed_length n i [] asts h = let same : [] ≡ asts = cc in rw (← same) refl
-parsed_length n i (w ∷ ws) asts h =
-    let one = first_step (or_no_expression n i (parse_in w)) (λ a. parsed_from n (i + 1) ws >>= λ rest. Ok (a ∷ rest)) asts h in
-    let two = first_step (parsed_from n (i + 1) ws) (λ rest. Ok (one.0 ∷ rest)) asts one.1.1 in
-    let same : one.0 ∷ two.0 ≡ asts = (let last = two.1.1 in cc) in
-    rw (← same) (ap suc (parsed_length n (i + 1) ws two.0 two.1.0))
-
-pub typed_each : (n i : ℕ) (may : Option Kind → Bool) (cs : Columns) (asts : List Ast) (es : List Checked) → typed_from n i may cs asts ≡ Ok es
-    → AllByRecursion (IsAllowed may cs) es × (length es ≡ length asts)
-typed_each n i may cs [] es h =
-    let same : [] ≡ es = cc in
-    let P : List Checked → Type 0 = λ xs. AllByRecursion (IsAllowed may cs) xs × (length xs ≡ 0) in
-    subst P same (tt, refl)
-typed_each n i may cs (a ∷ as') es h =
-    let fault : NetErr = broken.Typing (place_at part.Box n i) in
-    let one = first_step (allowed fault may cs (check_in cs a)) (λ e. typed_from n (i + 1) may cs as' >>= λ rest. Ok (e ∷ rest)) es h in
-    let two = first_step (typed_from n (i + 1) may cs as') (λ rest. Ok (one.0 ∷ rest)) es one.1.1 in
-    let same : one.0 ∷ two.0 ≡ es = (let last = two.1.1 in cc) in
-    let more = typed_each n (i + 1) may cs as' two.0 two.1.0 in
-    let P : List Checked → Type 0 = λ xs. AllByRecursion (IsAllowed may cs) xs × (length xs ≡ suc (length as')) in
-    subst P same ((allowed_is fault may cs (resolved cs a) one.0 one.1.0, more.0), ap suc more.1)
-
-pub typed_all : (n : ℕ) (may : Option Kind → Bool) (cs : Columns) (texts : List (List ℕ)) (es : List Checked) → typed_in n may cs texts ≡ Ok es
-    → AllByRecursion (IsAllowed may cs) es × (length es ≡ length texts)
-typed_all n may cs texts es h =
-    let one = first_step (parsed_from n 0 texts) (λ asts. typed_from n 0 may cs asts) es h in
-    let each = typed_each n 0 may cs one.0 es one.1.1 in
-    (each.0, each.1 ∙ parsed_length n 0 texts one.0 one.1.0)
-
-over_each : (may : Option Kind → Bool) (cs : Columns) (es : List Checked) → AllByRecursion (IsAllowed may cs) es → AllByRecursion (IsOver cs) es
-over_each may cs [] h = tt
-over_each may cs (e ∷ es) h = (h.0.0, over_each may cs es h.1)
-
--- each expression of a Map has a kind
-kinds_are_set : (cs : Columns) (es : List Checked) → AllByRecursion (IsAllowed may_be_set cs) es → map (λ e. kind_in e.scope e.tree) es ≡ map Some (kinds_set es)
-kinds_are_set cs [] h = refl
-kinds_are_set cs (e ∷ es) h = by_case (kind_in e.scope e.tree) h.0.1 (kinds_are_set cs es h.1)
-  where
-    by_case : (o : Option Kind) → is_some o ≡ true → map (λ (x : Checked). kind_in x.scope x.tree) es ≡ map Some (kinds_set es)
-        → (o ∷ map (λ (x : Checked). kind_in x.scope x.tree) es) ≡ map Some (cons_option o (kinds_set es))
-    by_case None is more = cc
-    by_case (Some k) is more = ap (λ (os : List (Option Kind)). Some k ∷ os) more
-
--- ---- columns
-
-pub names_of_zip : (ws : List (List ℕ)) (ks : List Kind) → length ws ≡ length ks → names_of (zip ws ks) ≡ ws
-names_of_zip [] ks e = refl
-names_of_zip (w ∷ ws) [] e = absurd (omega arith)
-names_of_zip (w ∷ ws) (k ∷ ks) e = ap (λ (vs : List (List ℕ)). w ∷ vs) (names_of_zip ws ks (omega arith))
-
-kinds_of_zip : (ws : List (List ℕ)) (ks : List Kind) → length ws ≡ length ks → kinds_of (zip ws ks) ≡ ks
-kinds_of_zip [] [] e = refl
-kinds_of_zip [] (k ∷ ks) e = absurd (omega arith)
-kinds_of_zip (w ∷ ws) [] e = absurd (omega arith)
-kinds_of_zip (w ∷ ws) (k ∷ ks) e = ap (λ (ls : List Kind). k ∷ ls) (kinds_of_zip ws ks (omega arith))
-
-same_names_is : (xs ys : List (List ℕ)) → same_names xs ys ≡ true → xs ≡ ys
-same_names_is [] [] h = refl
-same_names_is [] (y ∷ ys) h = cc
-same_names_is (x ∷ xs) [] h = cc
-same_names_is (x ∷ xs) (y ∷ ys) h =
-    let parts = and_parts (same_bytes x y) (same_names xs ys) h in
-    let here : x ≡ y = same_text x y parts.0 in
-    let more : xs ≡ ys = same_names_is xs ys parts.1 in
-    cc
-
-same_kind_is : (k l : Kind) → same_kind k l ≡ true → k ≡ l
-same_kind_is kind.Int kind.Int h = refl
-same_kind_is kind.Bool kind.Bool h = refl
-same_kind_is kind.Text kind.Text h = refl
-same_kind_is kind.Int kind.Bool h = cc
-same_kind_is kind.Int kind.Text h = cc
-same_kind_is kind.Bool kind.Int h = cc
-same_kind_is kind.Bool kind.Text h = cc
-same_kind_is kind.Text kind.Int h = cc
-same_kind_is kind.Text kind.Bool h = cc
-
-same_kinds_is : (ks ls : List Kind) → same_kinds ks ls ≡ true → ks ≡ ls
-same_kinds_is [] [] h = refl
-same_kinds_is [] (l ∷ ls) h = cc
-same_kinds_is (k ∷ ks) [] h = cc
-same_kinds_is (k ∷ ks) (l ∷ ls) h =
-    let parts = and_parts (same_kind k l) (same_kinds ks ls) h in
-    let here : k ≡ l = same_kind_is k l parts.0 in
-    let more : ks ≡ ls = same_kinds_is ks ls parts.1 in
-    cc
-
-same_columns_are : (cs ds : Columns) → same_columns cs ds ≡ true → cs ≡ ds
-same_columns_are cs ds h =
-    let parts = and_parts (same_names (names_of cs) (names_of ds)) (same_kinds (kinds_of cs) (kinds_of ds)) h in
-    let names : names_of cs ≡ names_of ds = same_names_is (names_of cs) (names_of ds) parts.0 in
-    let kinds : kinds_of cs ≡ kinds_of ds = same_kinds_is (kinds_of cs) (kinds_of ds) parts.1 in
-    sym (columns_of_parts cs) ∙ (ap (λ (ws : List (List ℕ)). zip ws (kinds_of cs)) names ∙ (ap (λ (ks : List Kind). zip (names_of ds) ks) kinds ∙ columns_of_parts ds))
-
-alike_each : (cs : Columns) (ins : List Columns) → AllByRecursion (λ ds. same_columns ds cs ≡ true) ins → AllByRecursion (λ ds. ds ≡ cs) ins
-alike_each cs [] h = tt
-alike_each cs (ds ∷ ins) h = (same_columns_are ds cs h.0, alike_each cs ins h.1)
-
--- ---- bodies
+use Rattle.sq_reader.proofs.ColumnLemmas.{alike_each, kinds_of_zip, names_of_zip}
+use Rattle.sq_reader.proofs.TypedLemmas.{IsAllowed, kinds_are_set, over_each, predicate_is, typed_all}
+use Rattle.sq_reader.proofs.FunctionLemmas.{few_enough, funcs_kinded, good_given, group_fields, told_count}
+use Rattle.sq_reader.proofs.WindowLemmas.{window_is}
 
 -- a box of the file, and what it was typed as on these columns
 pub record IsBodyOf (raw : RawBody) (ins : List Columns) (t : TypedBody) : Type 0 where
@@ -176,14 +54,16 @@ pub record IsBodyOf (raw : RawBody) (ins : List Columns) (t : TypedBody) : Type 
   pub kind : wires.kind_of_body raw ≡ kind_of_body t.0
   pub ports : ports_of raw ≡ length t.1
   pub within : body_within raw ≡ true → sound.body_within t.0 ≡ true
+  pub window : has_window raw ≡ true → HasWindow t.0
 
-filter_is : (n : ℕ) (preds : List (List ℕ)) (cs : Columns) (rest : List Columns) (t : TypedBody) → filter_of n preds cs ≡ Ok t → IsBodyOf (Filter preds) (cs ∷ rest) t
-filter_is n preds cs rest t h =
+filter_is : (n : ℕ) (preds : List (List ℕ)) (ins : List Columns) (t : TypedBody) → filter_of n preds (first_columns ins) ≡ Ok t → IsBodyOf (Filter preds) ins t
+filter_is n preds ins t h =
+    let cs : Columns = first_columns ins in
     let one = first_step (typed_in n may_be_predicate cs preds) (λ es. Ok (body.Filter es, replicate (length preds + 1) cs)) t h in
     let each = typed_all n may_be_predicate cs preds one.0 one.1.0 in
     let long = length-replicate (length preds + 1) cs in
     let count = each.1 in
-    let built : IsBodyOf (Filter preds) (cs ∷ rest) (body.Filter one.0, replicate (length preds + 1) cs) = record {
+    let built : IsBodyOf (Filter preds) ins (body.Filter one.0, replicate (length preds + 1) cs) = record {
       typed = (
         All-from_recursion (IsPredicate cs) one.0 each.0,
         omega (arith, long, count),
@@ -192,9 +72,10 @@ filter_is n preds cs rest t h =
       kind = refl;
       ports = omega (arith, long);
       within = λ w. (let parts = and_parts (has_between 1 15 preds) (list_all is_expression_long preds) w in rw count parts.0);
+      window = λ w. tt;
     } in
     let same : (body.Filter one.0, replicate (length preds + 1) cs) ≡ t = (let last = one.1.1 in cc) in
-    let P : TypedBody → Type 0 = IsBodyOf (Filter preds) (cs ∷ rest) in
+    let P : TypedBody → Type 0 = IsBodyOf (Filter preds) ins in
     subst P same built
 
 set_lengths : (set : List Setting) → (length (set_names set) ≡ length set) × (length (set_texts set) ≡ length set)
@@ -207,7 +88,7 @@ kinds_count cs set es each count =
     ∙ (ap (λ (os : List (Option Kind)). length os) (sym (kinds_are_set cs es each)) ∙ (length-map es (λ (e : Checked). kind_in e.scope e.tree) ∙ (count ∙ length-map set (λ e. e.text))))
 
 -- names that are good, and the kinds of the expressions, are a schema
-pub map_schema : (n : ℕ) (cs : Columns) (set : List Setting) (es : List Checked) → body_within (Map set) ≡ true → bad_name (set_names set) ≡ None
+pub map_schema : (n : ℕ) (cs : Columns) (set : List Setting) (es : List Checked) → body_within (Map set) ≡ true → bad_name [] (set_names set) ≡ None
     → typed_in n may_be_set cs (set_texts set) ≡ Ok es → schema_error (set_names set) (kinds_set es) ≡ None
 map_schema n cs set es within good typed =
     let limits = settings_of set within in
@@ -223,9 +104,10 @@ unless_none : {A : Type 0} (n : ℕ) (o : Option ℕ) (more : Result A NetErr) (
 unless_none n None more x h = (refl, h)
 unless_none n (Some i) more x h = cc
 
-map_is : (n : ℕ) (set : List Setting) (cs : Columns) (rest : List Columns) (t : TypedBody) → map_of n set cs ≡ Ok t → IsBodyOf (Map set) (cs ∷ rest) t
-map_is n set cs rest t h =
-    let zero_step = unless_none n (bad_name (set_names set)) (typed_in n may_be_set cs (set_texts set) >>= λ es. Ok (body.Map es, zip (set_names set) (kinds_set es) ∷ [])) t h in
+map_is : (n : ℕ) (set : List Setting) (ins : List Columns) (t : TypedBody) → map_of n set (first_columns ins) ≡ Ok t → IsBodyOf (Map set) ins t
+map_is n set ins t h =
+    let cs : Columns = first_columns ins in
+    let zero_step = unless_none n (bad_name [] (set_names set)) (typed_in n may_be_set cs (set_texts set) >>= λ es. Ok (body.Map es, zip (set_names set) (kinds_set es) ∷ [])) t h in
     let one = first_step (typed_in n may_be_set cs (set_texts set)) (λ es. Ok (body.Map es, zip (set_names set) (kinds_set es) ∷ [])) t zero_step.1 in
     let each = typed_all n may_be_set cs (set_texts set) one.0 one.1.0 in
     let good = none_bad [] 0 (set_names set) zero_step.0 in
@@ -235,7 +117,7 @@ map_is n set cs rest t h =
     let count : length one.0 ≡ length set = each.1 ∙ lengths.1 in
     let ports : Columns = zip (set_names set) (kinds_set one.0) in
     let names : names_of ports ≡ set_names set = names_of_zip (set_names set) (kinds_set one.0) long in
-    let built : IsBodyOf (Map set) (cs ∷ rest) (body.Map one.0, ports ∷ []) = record {
+    let built : IsBodyOf (Map set) ins (body.Map one.0, ports ∷ []) = record {
       typed = (
         ports,
         refl,
@@ -247,30 +129,127 @@ map_is n set cs rest t h =
       kind = refl;
       ports = refl;
       within = λ w. (let parts = and_parts (has_between 1 16 set) (list_all (λ e. is_expression_long e.text) set) w in rw count parts.0);
+      window = λ w. tt;
     } in
     let same : (body.Map one.0, ports ∷ []) ≡ t = (let last = one.1.1 in cc) in
-    let P : TypedBody → Type 0 = IsBodyOf (Map set) (cs ∷ rest) in
+    let P : TypedBody → Type 0 = IsBodyOf (Map set) ins in
     subst P same built
 
-union_is : (n : ℕ) (cs : Columns) (rest : List Columns) (t : TypedBody) → union_of n (cs ∷ rest) cs ≡ Ok t → IsBodyOf Union (cs ∷ rest) t
-union_is n cs rest t h =
-    let one = unless_none n (first_failing (λ ds. same_columns ds cs) (cs ∷ rest)) (Ok (body.Union, cs ∷ [])) t h in
-    let alike = alike_each cs (cs ∷ rest) (each_passes (λ ds. same_columns ds cs) (cs ∷ rest) (none_failing (λ ds. same_columns ds cs) (cs ∷ rest) one.0)) in
-    let built : IsBodyOf Union (cs ∷ rest) (body.Union, cs ∷ []) = record {
-      typed = (All-from_recursion (λ ds. ds ≡ cs) (cs ∷ rest) alike, refl);
+union_is : (n : ℕ) (ins : List Columns) (t : TypedBody) → union_of n ins ≡ Ok t → IsBodyOf Union ins t
+union_is n ins t h =
+    let cs : Columns = first_columns ins in
+    let one = unless_none n (first_failing (λ ds. same_columns ds cs) ins) (Ok (body.Union, cs ∷ [])) t h in
+    let alike = alike_each cs ins (each_passes (λ ds. same_columns ds cs) ins (none_failing (λ ds. same_columns ds cs) ins one.0)) in
+    let built : IsBodyOf Union ins (body.Union, cs ∷ []) = record {
+      typed = (All-from_recursion (λ ds. ds ≡ cs) ins alike, refl);
       kind = refl;
       ports = refl;
       within = λ w. refl;
+      window = λ w. tt;
     } in
     let same : (body.Union, cs ∷ []) ≡ t = (let last = one.1 in cc) in
-    let P : TypedBody → Type 0 = IsBodyOf Union (cs ∷ rest) in
+    let P : TypedBody → Type 0 = IsBodyOf Union ins in
+    subst P same built
+
+-- a place of numbers
+int_there : (cs : Columns) (by : List ℕ) (i : ℕ) → int_place cs by ≡ Some i → kind_at cs i ≡ Some kind.Int
+int_there cs by i h = by_column (column_of by cs) h
+  where
+    by_kind : (j : ℕ) (o : Option Kind) → kind_at cs j ≡ o → place_if j (if_int o) ≡ Some i → kind_at cs i ≡ Some kind.Int
+    by_kind j None is e = cc
+    by_kind j (Some kind.Int) is e = let same : j ≡ i = cc in ap (kind_at cs) (sym same) ∙ is
+    by_kind j (Some kind.Bool) is e = cc
+    by_kind j (Some kind.Text) is e = cc
+
+    by_column : (o : Option ℕ) → option_and_then (λ j. place_if j (if_int (kind_at cs j))) o ≡ Some i → kind_at cs i ≡ Some kind.Int
+    by_column None e = cc
+    by_column (Some j) e = by_kind j (kind_at cs j) refl e
+
+bsort_is : (n : ℕ) (by : List ℕ) (slack : ℤ) (ins : List Columns) (t : TypedBody) → bsort_of n by slack (first_columns ins) ≡ Ok t → IsBodyOf (BSort by slack) ins t
+bsort_is n by slack ins t h =
+    let cs : Columns = first_columns ins in
+    let fault : NetErr = broken.Typing (place_at part.Box n 0) in
+    let one = first_step (or_broken fault (int_place cs by)) (λ i. Ok (body.BSort i (nat_of slack), cs ∷ [])) t h in
+    let built : IsBodyOf (BSort by slack) ins (body.BSort one.0 (nat_of slack), cs ∷ []) = record {
+      typed = (int_there cs by one.0 (found_as fault (int_place cs by) one.0 one.1.0), refl);
+      kind = refl;
+      ports = refl;
+      within = λ w. (let low = slack_of by slack w in is_at_most (nat_of slack) 10000 low);
+      window = λ w. tt;
+    } in
+    let same : (body.BSort one.0 (nat_of slack), cs ∷ []) ≡ t = (let last = one.1.1 in cc) in
+    let P : TypedBody → Type 0 = IsBodyOf (BSort by slack) ins in
+    subst P same built
+
+aggregate_is : (n : ℕ) (size advance : ℤ) (group : List (List ℕ)) (give : List Giving) (ins : List Columns) (t : TypedBody)
+    → aggregate_of n (window_of size advance) group give (first_columns ins) ≡ Ok t → IsBodyOf (Aggregate size advance group give) ins t
+aggregate_is n size advance group give ins t h =
+    let cs : Columns = first_columns ins in
+    let window : WindowSpec = window_of size advance in
+    let zero_step = unless_none n (bad_given group (give_names give)) (funcs_from n 0 cs give >>= λ fs. group_from n 0 cs [] group >>= λ ps.
+    Ok (body.Aggregate fs ps window, (columns_at cs ps ++ zip (give_names give) (kinds_told cs fs)) ∷ [])) t h in
+    let one = first_step (funcs_from n 0 cs give) (λ fs. group_from n 0 cs [] group >>= λ ps.
+    Ok (body.Aggregate fs ps window, (columns_at cs ps ++ zip (give_names give) (kinds_told cs fs)) ∷ [])) t zero_step.1 in
+    let two = first_step (group_from n 0 cs [] group) (λ ps. Ok (body.Aggregate one.0 ps window, (columns_at cs ps ++ zip (give_names give) (kinds_told cs one.0)) ∷ [])) t one.1.1 in
+    let good = good_given group (give_names give) zero_step.0 in
+    let funcs = funcs_kinded n 0 cs give one.0 one.1.0 in
+    let fields = group_fields n 0 cs [] group two.0 two.1.0 in
+    let kinds : length (kinds_told cs one.0) ≡ length (give_names give) = told_count cs give one.0 funcs in
+    let given : Columns = zip (give_names give) (kinds_told cs one.0) in
+    let names : names_of given ≡ give_names give = names_of_zip (give_names give) (kinds_told cs one.0) (sym kinds) in
+    let shown : names_of (columns_at cs two.0 ++ given) ≡ group ++ give_names give =
+    map-append (λ (c : List ℕ × Kind). c.0) (columns_at cs two.0) given
+    ∙ (ap (λ (ws : List (List ℕ)). ws ++ names_of given) fields.names ∙ ap (λ (ws : List (List ℕ)). group ++ ws) names) in
+    let places = fields.count in
+    let count = funcs.count in
+    let few = good.few in
+    let long = given_length give in
+    let built : IsBodyOf (Aggregate size advance group give) ins (body.Aggregate one.0 two.0 window, (columns_at cs two.0 ++ given) ∷ []) = record {
+      typed = (
+        given,
+        refl,
+        funcs.kinds ∙ ap (λ (ks : List Kind). map Some ks) (sym (kinds_of_zip (give_names give) (kinds_told cs one.0) (sym kinds))),
+        (let P : List (List ℕ) → Type 0 = λ ws. All (λ w. is_name w ≡ true) ws in subst P (sym names) (All-from_recursion (λ w. is_name w ≡ true) (give_names give) good.names)),
+        All-from_recursion (λ i. i < length cs) two.0 fields.below,
+        ap are_distinct shown ∙ new_distinct [] (group ++ give_names give) (new_both [] group (give_names give) fields.new good.new),
+        is_at_most (length two.0 + length one.0) 16 (omega (arith, places, count, few, long)),
+      );
+      kind = refl;
+      ports = refl;
+      within = λ w. (let parts = and_parts (has_between 0 16 group) (has_between 1 16 give) w in
+          let low = givings_of size advance group give w in
+          let most = low.few_groups in
+          and_both (sound.is_between 1 16 (length one.0)) (nat_le (length two.0) 16) (rw count parts.1) (is_at_most (length two.0) 16 (omega (arith, places, most))));
+      window = λ w. window_is size advance w;
+    } in
+    let same : (body.Aggregate one.0 two.0 window, (columns_at cs two.0 ++ given) ∷ []) ≡ t = (let last = two.1.1 in cc) in
+    let P : TypedBody → Type 0 = IsBodyOf (Aggregate size advance group give) ins in
+    subst P same built
+
+join_is : (n : ℕ) (size : ℤ) (on : List ℕ) (ins : List Columns) (t : TypedBody) → join_of n size on ins ≡ Ok t → IsBodyOf (Join size on) ins t
+join_is n size on ins t h =
+    let cs : Columns = pair_columns ins in
+    let zero_step = unless_none n (too_many (length cs)) (predicate_of n cs on >>= λ e. Ok (body.Join (nat_of size) e, cs ∷ [])) t h in
+    let one = first_step (predicate_of n cs on) (λ e. Ok (body.Join (nat_of size) e, cs ∷ [])) t zero_step.1 in
+    let built : IsBodyOf (Join size on) ins (body.Join (nat_of size) one.0, cs ∷ []) = record {
+      typed = (predicate_is n cs on one.0 one.1.0, refl, is_at_most (length cs) 16 (few_enough (length cs) zero_step.0));
+      kind = refl;
+      ports = refl;
+      within = λ w. (let parts = and_parts (is_between 0 (2 ^ 32) size) (is_expression_long on) w in
+          let low = and_parts (nat_le 0 (nat_of size)) (nat_le (nat_of size) (2 ^ 32)) (number_within 0 (2 ^ 32) size parts.0) in low.1);
+      window = λ w. tt;
+    } in
+    let same : (body.Join (nat_of size) one.0, cs ∷ []) ≡ t = (let last = one.1.1 in cc) in
+    let P : TypedBody → Type 0 = IsBodyOf (Join size on) ins in
     subst P same built
 
 pub body_is : (n : ℕ) (raw : RawBody) (ins : List Columns) (t : TypedBody) → body_of n raw ins ≡ Ok t → IsBodyOf raw ins t
-body_is n raw [] t h = cc
-body_is n (Filter preds) (cs ∷ rest) t h = filter_is n preds cs rest t h
-body_is n (Map set) (cs ∷ rest) t h = map_is n set cs rest t h
-body_is n Union (cs ∷ rest) t h = union_is n cs rest t h
+body_is n (Filter preds) ins t h = filter_is n preds ins t h
+body_is n (Map set) ins t h = map_is n set ins t h
+body_is n Union ins t h = union_is n ins t h
+body_is n (BSort by slack) ins t h = bsort_is n by slack ins t h
+body_is n (Aggregate size advance group give) ins t h = aggregate_is n size advance group give ins t h
+body_is n (Join size on) ins t h = join_is n size on ins t h
 
 -- a box of the file, and the node that it was typed as on these columns
 pub record IsNodeOf (raw : RawBox) (ins : List Columns) (b : Node) : Type 0 where

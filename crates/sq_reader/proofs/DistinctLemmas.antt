@@ -1,5 +1,5 @@
 -- Names of which none is one of those in front of it.
-use Rattle.std.proofs.Common.{◌≡◌, ◌∙◌, sym, refl, ℕ, ◌+◌, Bool, true, false, not, ◌&&◌, List, [], ◌∷◌, ◌++◌, Some, None, cond}
+use Rattle.std.proofs.Common.{◌≡◌, ◌∙◌, sym, subst, append-nil, append_assoc, refl, ℕ, ◌+◌, Bool, true, false, not, ◌&&◌, List, [], ◌∷◌, ◌++◌, Some, None, cond}
 use Rattle.std.specs.List.{list_any, AllByRecursion}
 use Rattle.std.specs.Str.{bytes_eq}
 use Rattle.std.proofs.lemmas.List.Folds.{list_any-append}
@@ -50,6 +50,13 @@ new_distinct before (x ∷ xs) h =
     let apart = (split_out before x xs (new_out (before ++ x ∷ []) xs h.1)).1 in
     let more = new_distinct (before ++ x ∷ []) xs h.1 in
     rw (apart, more) refl
+
+-- these, and then those that are new after them
+pub new_both : (before xs ys : List (List ℕ)) → IsNew before xs → IsNew (before ++ xs) ys → IsNew before (xs ++ ys)
+new_both before [] ys h g = subst (λ (ws : List (List ℕ)). IsNew ws ys) (append-nil before) g
+new_both before (x ∷ xs) ys h g =
+    let there : IsNew ((before ++ x ∷ []) ++ xs) ys = subst (λ (ws : List (List ℕ)). IsNew ws ys) (sym (append_assoc before (x ∷ []) xs)) g in
+    (h.0, new_both (before ++ x ∷ []) xs ys h.1 there)
 
 seen_is : (x : List ℕ) (seen : List (List ℕ)) → contains_bytes x seen ≡ list_any (bytes_eq x) seen
 seen_is x [] = refl

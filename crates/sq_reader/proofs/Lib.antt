@@ -1,13 +1,18 @@
+pub mod StepLemmas
 pub mod ListLemmas
 pub mod LimitLemmas
 pub mod NamingLemmas
 pub mod SourceLemmas
 pub mod ExpressionLemmas
 pub mod WiringLemmas
-mod Rows
 pub mod DistinctLemmas
 pub mod SchemaLemmas
 pub mod NumberLemmas
+pub mod ColumnLemmas
+pub mod TypedLemmas
+pub mod FunctionLemmas
+pub mod PairLemmas
+pub mod WindowLemmas
 pub mod BodyLemmas
 pub mod NodeLemmas
 pub mod RuleLemmas

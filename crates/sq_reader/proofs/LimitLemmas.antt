@@ -1,5 +1,5 @@
 -- What the limits say of a file that keeps them.
-use Rattle.std.proofs.Common.{◌≡◌, ◌∙◌, ap, refl, ℕ, ◌≤◌, Bool, true, false, ◌&&◌, List, [], ◌∷◌, length, Option, Some, None, cond, arith}
+use Rattle.std.proofs.Common.{◌≡◌, ◌∙◌, ap, refl, ℕ, ◌≤◌, ◌^◌, Bool, true, false, ◌&&◌, List, [], ◌∷◌, length, Option, Some, None, ℤ, pos, negsuc, cond, arith}
 use Rattle.std.specs.List.{list_all}
 use Rattle.std.specs.Option.{option_map}
 use Rattle.std.proofs.lemmas.Bool.Decides.{nat_tests}
@@ -7,16 +7,22 @@ use Rattle.std.proofs.lemmas.List.{length-map}
 use Rattle.sq_net.specs.declared.Part.TheVariants as part
 use Rattle.sq_net.specs.declared.Place.{Place}
 use Rattle.sq_tables.specs.declared.raw.RawSource.{RawSource}
+use Rattle.sq_tables.specs.declared.raw.Giving.{Giving}
 use Rattle.sq_tables.specs.declared.raw.Setting.{Setting}
 use Rattle.sq_tables.specs.declared.raw.RawBody.{RawBody}
-use Rattle.sq_tables.specs.declared.raw.RawBody.TheVariants.{Filter, Map, Union}
+use Rattle.sq_tables.specs.declared.raw.RawBody.TheVariants.{Filter, Map, Union, BSort, Aggregate, Join}
 use Rattle.sq_tables.specs.declared.raw.RawBox.{RawBox}
 use Rattle.sq_tables.specs.declared.raw.Raw.{Raw}
 use Rattle.sq_tables.specs.Places.{or_else, place_of}
 use Rattle.sq_reader.specs.Limits as limits
 use Rattle.sq_reader.specs.Limits.{body_within, box_within, first_failing, has_between, inputs_within, is_between, is_expression_long, limit_place, source_within, top_within}
 use Rattle.sq_tables.specs.Shapes.{ports_of}
-use Rattle.sq_reader.specs.Columns.{set_names, set_texts}
+use Rattle.sq_graph.specs.declared.BoxKind.{BoxKind}
+use Rattle.sq_graph.specs.declared.BoxKind.TheVariants as boxes
+use Rattle.sq_net.specs.Sound as sound
+use Rattle.sq_net.specs.Sound.{takes_within}
+use Rattle.sq_reader.specs.Columns.{give_names, nat_of, set_names, set_texts}
+use Rattle.sq_reader.specs.Streaming.{kind_of_body}
 use Rattle.sq_reader.proofs.ListLemmas.{and_parts, none_failing, nothing_mapped}
 
 pub neither : {A : Type 0} (a b : Option A) → or_else a b ≡ None → (a ≡ None) × (b ≡ None)
@@ -73,6 +79,10 @@ counts_of r h =
       each_box = w.boxes;
     }
 
+pub number_within : (low high : ℕ) (z : ℤ) → is_between low high z ≡ true → sound.is_between low high (nat_of z) ≡ true
+number_within low high (pos n) h = h
+number_within low high (negsuc n) h = cc
+
 -- ---- the parts
 
 pub expression_few : (text : List ℕ) → is_expression_long text ≡ true → length text ≤ 4096
@@ -118,10 +128,52 @@ settings_of set h =
       texts = length-map set (λ e. e.text);
     }
 
+pub slack_of : (by : List ℕ) (slack : ℤ) → body_within (BSort by slack) ≡ true → nat_of slack ≤ 10000
+slack_of by (pos n) h = grind (arith, nat_tests)
+slack_of by (negsuc n) h = omega arith
+
+pub on_of : (size : ℤ) (on : List ℕ) → body_within (Join size on) ≡ true → is_expression_long on ≡ true
+on_of size on h = (and_parts (is_between 0 (2 ^ 32) size) (is_expression_long on) h).1
+
+pub record GivingsWithin (group : List (List ℕ)) (give : List Giving) : Type 0 where
+  pub few_groups : length group ≤ 16
+  pub some : 1 ≤ length give
+  pub few : length give ≤ 16
+
+pub givings_of : (size advance : ℤ) (group : List (List ℕ)) (give : List Giving) → body_within (Aggregate size advance group give) ≡ true → GivingsWithin group give
+givings_of size advance group give h =
+    let parts = and_parts (has_between 0 16 group) (has_between 1 16 give) h in
+    record { few_groups = few 0 16 group parts.0; some = some 1 16 give parts.1; few = few 1 16 give parts.1 }
+
+pub given_length : (give : List Giving) → length (give_names give) ≡ length give
+given_length give = length-map give (λ g. g.name)
+
+-- how many streams a box takes
+pub record TakesWithin (n : ℕ) : Type 0 where
+  pub some : 1 ≤ n
+  pub few : n ≤ 8
+
+pub takes_few : (k : BoxKind) (n : ℕ) → takes_within k n ≡ true → TakesWithin n
+takes_few boxes.Filter n h = grind (arith, nat_tests)
+takes_few boxes.Map n h = grind (arith, nat_tests)
+takes_few boxes.Union n h = grind (arith, nat_tests)
+takes_few boxes.BSort n h = grind (arith, nat_tests)
+takes_few boxes.Aggregate n h = grind (arith, nat_tests)
+takes_few boxes.Join n h = grind (arith, nat_tests)
+
+pub takes_of : (b : RawBody) (n : ℕ) → takes_within (kind_of_body b) n ≡ true → TakesWithin n
+takes_of b n h = takes_few (kind_of_body b) n h
+
+pub takes_two : (size : ℤ) (on : List ℕ) (n : ℕ) → takes_within (kind_of_body (Join size on)) n ≡ true → n ≡ 2
+takes_two size on n h = grind (arith, nat_tests)
+
 pub ports_few : (b : RawBody) → body_within b ≡ true → ports_of b ≤ 16
 ports_few (Filter preds) h = let low = (predicates_of preds h).few in omega (arith, low)
 ports_few (Map set) h = omega arith
 ports_few Union h = omega arith
+ports_few (BSort by slack) h = omega arith
+ports_few (Aggregate size advance group give) h = omega arith
+ports_few (Join size on) h = omega arith
 
 pub record BoxWithin (b : RawBox) : Type 0 where
   pub body : body_within b.body ≡ true
@@ -139,3 +191,6 @@ box_of b h =
     inputs (Filter preds) g = (some 1 1 b.ins g, (let low = few 1 1 b.ins g in omega (arith, low)))
     inputs (Map set) g = (some 1 1 b.ins g, (let low = few 1 1 b.ins g in omega (arith, low)))
     inputs Union g = (some 1 8 b.ins g, few 1 8 b.ins g)
+    inputs (BSort by slack) g = (some 1 1 b.ins g, (let low = few 1 1 b.ins g in omega (arith, low)))
+    inputs (Aggregate size advance group give) g = (some 1 1 b.ins g, (let low = few 1 1 b.ins g in omega (arith, low)))
+    inputs (Join size on) g = ((let least = some 2 2 b.ins g in omega (arith, least)), (let low = few 2 2 b.ins g in omega (arith, low)))

@@ -1,6 +1,7 @@
 -- Lists by the places of their items.
 use Rattle.std.proofs.Common.{◌≡◌, ◌∙◌, sym, ap, refl, ℕ, zero, suc, ◌+◌, ◌<◌, ◌≤◌, Bool, true, false, not, ◌&&◌, List, [], ◌∷◌, map, length, Option, Some, None, slice_get, get_or, set, cond, arith}
-use Rattle.std.specs.Prelude.{is_some}
+use Rattle.std.specs.Prelude.{is_some, nat_le}
+use Rattle.std.proofs.lemmas.Bool.Decides.{nat_tests}
 use Rattle.std.specs.List.{cons_option, filter_map, list_all, position_from, AllByRecursion}
 use Rattle.std.specs.Option.{option_map}
 use Rattle.std.proofs.lemmas.Iterator.Adapters.{position_from-zero}
@@ -10,6 +11,13 @@ use Rattle.sq_reader.specs.Limits.{first_failing}
 pub and_parts : (a b : Bool) → (a && b) ≡ true → (a ≡ true) × (b ≡ true)
 and_parts true b h = (refl, h)
 and_parts false b h = cc
+
+pub and_both : (a b : Bool) → a ≡ true → b ≡ true → (a && b) ≡ true
+and_both true b h g = g
+and_both false b h g = cc
+
+pub is_at_most : (a b : ℕ) → a ≤ b → nat_le a b ≡ true
+is_at_most a b h = grind (arith, nat_tests)
 
 none_failing_from : {A : Type 0} (test : A → Bool) (n : ℕ) (xs : List A) → position_from (λ x. not (test x)) n xs ≡ None → list_all test xs ≡ true
 none_failing_from test n [] e = refl

@@ -22,7 +22,7 @@ use Rattle.sq_tables.specs.declared.raw.Raw.{Raw}
 use Rattle.sq_tables.specs.Refusals.{Answers}
 use Rattle.sq_reader.specs.Columns.{columns_known, columns_taken, node_at, node_in, node_known, node_of_box, nodes_from}
 use Rattle.sq_reader.proofs.ListLemmas.{and_parts, get_set, get_set_other, given_few}
-use Rattle.sq_reader.proofs.BodyLemmas.{first_step}
+use Rattle.sq_reader.proofs.StepLemmas.{first_step}
 
 -- a box by its number, on what it takes
 pub node_from : (r : Raw) (w : Wiring) (ss : List declared.Source) (nodes : List (Option Node)) (at : ℕ) (b : RawBox) (x : BoxWires) (ins : List Columns) (answer : Result Node NetErr)

@@ -1,18 +1,16 @@
 -- A box that can be next takes streams of which all columns are known.
-use Rattle.std.proofs.Common.{◌≡◌, ◌∙◌, sym, ap, subst, refl, ℕ, ◌<◌, ◌≤◌, Bool, true, false, not, ◌||◌, ◌==◌, List, [], ◌∷◌, ◌++◌, length, set, Option, Some, None, slice_get, get_or, arith, length-set}
+use Rattle.std.proofs.Common.{◌≡◌, ◌∙◌, sym, ap, subst, refl, ℕ, suc, ◌<◌, ◌≤◌, Bool, true, false, not, ◌||◌, ◌==◌, List, [], ◌∷◌, ◌++◌, length, set, Option, Some, None, slice_get, get_or, arith, length-set}
 use Rattle.std.specs.Prelude.{Ok}
-use Rattle.std.specs.List.{list_all}
+use Rattle.std.specs.List.{cons_option, list_all}
 use Rattle.std.specs.Option.{option_map}
 use Rattle.std.proofs.lemmas.Bool.Decides.{nat_tests}
 use Rattle.std.proofs.lemmas.List.{length-replicate}
 use Rattle.std.proofs.lemmas.List.Folds.{list_any-append}
 use Rattle.std.proofs.lemmas.Option.{slice_get-get_or}
 use Rattle.sq_value.specs.Values.{Columns}
-use Rattle.sq_graph.specs.declared.BoxKind.{BoxKind}
-use Rattle.sq_graph.specs.declared.BoxKind.TheVariants as boxes
 use Rattle.sq_graph.specs.declared.BoxWires.{BoxWires}
 use Rattle.sq_graph.specs.declared.Wiring.{Wiring}
-use Rattle.sq_graph.specs.Wires.{Producer, Source, Port, producer_of, inputs_of}
+use Rattle.sq_graph.specs.Wires.{Producer, Source, Port, producer_of, inputs_at, inputs_of}
 use Rattle.sq_graph.specs.Order.{contains_number, is_given, order_of}
 use Rattle.sq_graph.proofs.Producers.{IsProducer, producer_is}
 use Rattle.sq_net.specs.declared.Source as declared
@@ -22,7 +20,7 @@ use Rattle.sq_net.specs.Streams.{columns_of_port}
 use Rattle.sq_tables.specs.declared.raw.RawBox.{RawBox}
 use Rattle.sq_tables.specs.declared.raw.Raw.{Raw}
 use Rattle.sq_reader.specs.Limits.{limit_place}
-use Rattle.sq_reader.specs.Streaming.{box_wires, stream_named, stream_names, unknown_place, wiring_of}
+use Rattle.sq_reader.specs.Streaming.{box_wires, kind_of_body, stream_named, stream_names, unknown_place, wiring_of}
 use Rattle.sq_reader.specs.Columns.{columns_known, columns_taken, no_nodes, node_at, node_known, node_of_box}
 use Rattle.sq_reader.proofs.ListLemmas.{and_parts, get_set, get_set_other, passes_at}
 use Rattle.sq_reader.proofs.LimitLemmas.{counts_of}
@@ -74,39 +72,28 @@ known_given w ss front nodes count typed s given = by_case (producer_of w s) ref
         let one = has_item (node.0).schemas port (omega (arith, low, same)) in
         (one.0, ap (λ (o : Option (Option Node)). columns_of_port (node_known o) port) node.1.0 ∙ one.1)
 
-taken_some : (w : Wiring) (ss : List declared.Source) (front : List ℕ) (nodes : List (Option Node)) → length ss ≡ w.sources → ((b : ℕ) → contains_number front b ≡ true → IsTypedAt w nodes b)
-    → (ins : List ℕ) → 1 ≤ length ins → list_all (λ s. is_given front (producer_of w s)) ins ≡ true → 0 < length (columns_taken w ss nodes ins)
-taken_some w ss front nodes count typed [] some given = absurd (omega arith)
-taken_some w ss front nodes count typed (s ∷ ins) some given =
+taken_all : (w : Wiring) (ss : List declared.Source) (front : List ℕ) (nodes : List (Option Node)) → length ss ≡ w.sources → ((b : ℕ) → contains_number front b ≡ true → IsTypedAt w nodes b)
+    → (ins : List ℕ) → list_all (λ s. is_given front (producer_of w s)) ins ≡ true → length (columns_taken w ss nodes ins) ≡ length ins
+taken_all w ss front nodes count typed [] given = refl
+taken_all w ss front nodes count typed (s ∷ ins) given =
     let parts = and_parts (is_given front (producer_of w s)) (list_all (λ s. is_given front (producer_of w s)) ins) given in
     let one = known_given w ss front nodes count typed s parts.0 in
-    rw one.1 (omega arith)
+    ap (λ (o : Option Columns). length (cons_option o (columns_taken w ss nodes ins))) one.1 ∙ ap suc (taken_all w ss front nodes count typed ins parts.1)
 
-takes_some : (k : BoxKind) (n : ℕ) → takes_within k n ≡ true → 1 ≤ n
-takes_some boxes.Filter n h = grind (arith, nat_tests)
-takes_some boxes.Map n h = grind (arith, nat_tests)
-takes_some boxes.Union n h = grind (arith, nat_tests)
-takes_some boxes.BSort n h = grind (arith, nat_tests)
-takes_some boxes.Aggregate n h = grind (arith, nat_tests)
-takes_some boxes.Join n h = grind (arith, nat_tests)
-
-inputs_some : (r : Raw) (at : ℕ) → limit_place r ≡ None → unknown_place r ≡ None → at < length r.boxes → 1 ≤ length (inputs_of (wiring_of r) at)
-inputs_some r at h known low =
-    let one = has_item r.boxes at low in
-    let wired = wired_at r at one.0 one.1 in
-    let x : BoxWires = box_wires (stream_named (stream_names r)) one.0 in
+-- a box that can be next takes as many streams as its kind does
+pub ready_takes : (r : Raw) (w : Wiring) (ss : List declared.Source) (nodes : List (Option Node)) (at : ℕ) (ats : List ℕ) → limit_place r ≡ None → unknown_place r ≡ None
+    → w ≡ wiring_of r → length ss ≡ length r.sources → AreReady w nodes (at ∷ ats)
+    → (b : RawBox) → slice_get r.boxes at ≡ Some b → takes_within (kind_of_body b.body) (length (columns_taken w ss nodes (inputs_of w at))) ≡ true
+ready_takes r w ss nodes at ats h known same count ready b there =
+    let x : BoxWires = box_wires (stream_named (stream_names r)) b in
+    let wired : slice_get w.boxes at ≡ Some x = ap (λ (v : Wiring). slice_get v.boxes at) same ∙ wired_at r at b there in
     let takes = takes_all (stream_named (stream_names r)) r known (counts_of r h).each_box in
-    let some : 1 ≤ length x.inputs = takes_some x.kind (length x.inputs) (passes_at (λ (b : BoxWires). takes_within b.kind (length b.inputs)) (wiring_of r).boxes at x takes wired) in
-    rw wired some
-
-pub ready_some : (r : Raw) (w : Wiring) (ss : List declared.Source) (nodes : List (Option Node)) (at : ℕ) (ats : List ℕ) → limit_place r ≡ None → unknown_place r ≡ None
-    → w ≡ wiring_of r → length ss ≡ length r.sources → AreReady w nodes (at ∷ ats) → 0 < length (columns_taken w ss nodes (inputs_of w at))
-ready_some r w ss nodes at ats h known same count ready =
-    let inside : at < length w.boxes = ready.follow.0 in
-    let boxes : length w.boxes ≡ length r.boxes = ap (λ (v : Wiring). length v.boxes) same ∙ wired_length r in
+    let fits : takes_within x.kind (length x.inputs) ≡ true = passes_at (λ (b : BoxWires). takes_within b.kind (length b.inputs)) (wiring_of r).boxes at x takes (wired_at r at b there) in
+    let ins : inputs_of w at ≡ x.inputs = ap inputs_at wired in
     let tests = and_parts (not (contains_number ready.front at)) (list_all (λ s. is_given ready.front (producer_of w s)) (inputs_of w at)) ready.follow.1.0 in
-    let some : 1 ≤ length (inputs_of w at) = subst (λ (v : Wiring). 1 ≤ length (inputs_of v at)) (sym same) (inputs_some r at h known (omega (arith, inside, boxes))) in
-    taken_some w ss ready.front nodes (count ∙ sym (ap (λ (v : Wiring). v.sources) same)) ready.typed (inputs_of w at) some tests.1
+    let all : length (columns_taken w ss nodes (inputs_of w at)) ≡ length (inputs_of w at) =
+    taken_all w ss ready.front nodes (count ∙ sym (ap (λ (v : Wiring). v.sources) same)) ready.typed (inputs_of w at) tests.1 in
+    ap (λ (k : ℕ). takes_within x.kind k) (all ∙ ap (λ (xs : List ℕ). length xs) ins) ∙ fits
 
 -- ---- once it is typed
 

@@ -5,7 +5,6 @@ use Rattle.std.specs.List.{after_first, before_first, filter_map, list_all, list
 use Rattle.std.specs.Option.{option_map}
 use Rattle.std.proofs.lemmas.Bool.Decides.{nat_tests}
 use Rattle.std.proofs.lemmas.List.{length-map}
-use Rattle.toml.specs.Data.{Members, get_member, as_str, as_integer}
 use Rattle.sq_value.specs.Lists.{are_distinct, contains_bytes}
 use Rattle.sq_value.specs.Schemas.{schema_error}
 use Rattle.sq_value.specs.Values.{Columns, names_of}
@@ -19,7 +18,7 @@ use Rattle.sq_net.specs.Names.{is_name}
 use Rattle.sq_net.specs.Sound.{is_between, source_within, takes_within}
 use Rattle.sq_tables.specs.declared.raw.RawSource.{RawSource}
 use Rattle.sq_tables.specs.declared.raw.RawBody.{RawBody}
-use Rattle.sq_tables.specs.declared.raw.RawBody.TheVariants.{Filter, Map, Union}
+use Rattle.sq_tables.specs.declared.raw.RawBody.TheVariants.{Filter, Map, Union, BSort, Aggregate, Join}
 use Rattle.sq_tables.specs.declared.raw.RawBox.{RawBox}
 use Rattle.sq_tables.specs.declared.raw.Raw.{Raw}
 use Rattle.sq_tables.specs.Documents as option
@@ -33,21 +32,14 @@ use Rattle.sq_reader.specs.Naming.{first_repeat, name_place, place_in_space, spa
 use Rattle.sq_reader.specs.Sources.{column_in, column_with, columns_from, is_colon, kind_named, source_of, sources_from}
 use Rattle.sq_reader.specs.Streaming.{Numbers, box_wires, is_stream, kind_of_body, unknown_among, unknown_in_boxes}
 use Rattle.sq_reader.specs.Columns.{nat_of}
-use Rattle.sq_reader.proofs.LimitLemmas.{neither}
-use Rattle.sq_reader.proofs.ListLemmas.{all_given, and_parts, none_failing, nothing_mapped}
+use Rattle.sq_reader.proofs.LimitLemmas.{neither, number_within}
+use Rattle.sq_reader.proofs.ListLemmas.{all_given, and_both, and_parts, none_failing, nothing_mapped}
 use Rattle.sq_reader.proofs.DistinctLemmas.{IsNew, fresh_name, new_distinct, none_repeated}
 use Rattle.sq_reader.proofs.SchemaLemmas.{schema_none}
-use Rattle.sq_reader.proofs.BodyLemmas.{first_step, names_of_zip}
-
-pub and_both : (a b : Bool) → a ≡ true → b ≡ true → (a && b) ≡ true
-and_both true b h g = g
-and_both false b h g = cc
+use Rattle.sq_reader.proofs.StepLemmas.{first_step, found_as}
+use Rattle.sq_reader.proofs.ColumnLemmas.{names_of_zip}
 
 -- ---- limits
-
-pub number_within : (low high : ℕ) (z : ℤ) → limits.is_between low high z ≡ true → is_between low high (nat_of z) ≡ true
-number_within low high (pos n) h = h
-number_within low high (negsuc n) h = cc
 
 pub numbers_within : (low high : ℕ) (zs : List ℤ) → list_all (limits.is_between low high) zs ≡ true → list_all (is_between low high) (map nat_of zs) ≡ true
 numbers_within low high [] h = refl
@@ -72,7 +64,7 @@ columns_new n i before (w ∷ ws) cs h =
     let one = first_step (or_broken fault (column_in before w)) (λ c. columns_from n (i + 1) (before ++ c.0 ∷ []) ws >>= λ rest. Ok (c ∷ rest)) cs h in
     let two = first_step (columns_from n (i + 1) (before ++ one.0.0 ∷ []) ws) (λ rest. Ok (one.0 ∷ rest)) cs one.1.1 in
     let same : one.0 ∷ two.0 ≡ cs = (let last = two.1.1 in cc) in
-    let here : contains_bytes one.0.0 before ≡ false = column_new before w one.0 (read_as fault (column_in before w) one.0 one.1.0) in
+    let here : contains_bytes one.0.0 before ≡ false = column_new before w one.0 (found_as fault (column_in before w) one.0 one.1.0) in
     subst (λ (ds : Columns). IsNew before (names_of ds)) same (here, columns_new n (i + 1) (before ++ one.0.0 ∷ []) ws two.0 two.1.0)
   where
     by_name : (name : List ℕ) (before : List (List ℕ)) (k : Kind) (b : Bool) (c : List ℕ × Kind) → (is_name name && not (contains_bytes name before)) ≡ b → cond b (Some (name, k)) None ≡ Some c → contains_bytes c.0 before ≡ false
@@ -143,10 +135,16 @@ takes_as number_of b long h = by_body b.body h
     one_only : (k : ℕ) → is_between 1 1 k ≡ true → (k == 1) ≡ true
     one_only k h = grind (arith, nat_tests)
 
+    two_only : (k : ℕ) → is_between 2 2 k ≡ true → (k == 2) ≡ true
+    two_only k h = grind (arith, nat_tests)
+
     by_body : (raw : RawBody) → inputs_within raw b.ins ≡ true → takes_within (kind_of_body raw) (length (filter_map (number_of) b.ins)) ≡ true
     by_body (Filter preds) h = rw long (one_only (length b.ins) h)
     by_body (Map set) h = rw long (one_only (length b.ins) h)
     by_body Union h = rw long h
+    by_body (BSort by slack) h = rw long (one_only (length b.ins) h)
+    by_body (Aggregate size advance group give) h = rw long (one_only (length b.ins) h)
+    by_body (Join size on) h = rw long (two_only (length b.ins) h)
 
 takes_from : (number_of : Numbers) (n : ℕ) (boxes : List RawBox) → unknown_in_boxes number_of n boxes ≡ None → list_all box_within boxes ≡ true
     → list_all (λ (w : BoxWires). takes_within w.kind (length w.inputs)) (map (box_wires number_of) boxes) ≡ true

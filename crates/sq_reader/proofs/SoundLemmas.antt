@@ -1,13 +1,12 @@
 -- A network that is read is sound.
-use Rattle.std.proofs.Common.{◌≡◌, ◌∙◌, sym, ap, subst, refl, ℕ, ◌<◌, ◌^◌, Bool, true, false, ◌&&◌, List, [], ◌∷◌, map, length, Option, Some, None, slice_get, cond, arith, inl, inr}
+use Rattle.std.proofs.Common.{◌≡◌, ◌∙◌, sym, ap, subst, refl, ℕ, ◌<◌, ◌^◌, Bool, true, false, ◌&&◌, List, [], ◌∷◌, map, length, Option, Some, None, slice_get, get_or, arith, inl, inr}
 use Rattle.std.specs.Prelude.{Result, Ok, Err, IfOk}
-use Rattle.std.specs.List.{cons_option, filter_map, find, list_all, AllByRecursion}
+use Rattle.std.specs.List.{All, cons_option, filter_map, find, list_all, AllByRecursion}
 use Rattle.std.specs.Option.{option_map}
 use Rattle.std.proofs.lemmas.Bool.{cases_lt}
 use Rattle.std.proofs.lemmas.List.{length-map, length-replicate}
-use Rattle.std.proofs.lemmas.List.Elements.{All-map, All-from_recursion}
-use Rattle.std.proofs.lemmas.Option.{slice_get-map, slice_get_within}
-use Rattle.toml.specs.Data.{Members}
+use Rattle.std.proofs.lemmas.List.Elements.{All-map, All-from_recursion, recursion_from_All}
+use Rattle.std.proofs.lemmas.Option.{slice_get-get_or, slice_get-map, slice_get_within}
 use Rattle.sq_value.specs.Lists.{are_distinct, numbers_to}
 use Rattle.sq_value.specs.Values.{Columns}
 use Rattle.sq_graph.specs.declared.BoxWires.{BoxWires}
@@ -29,50 +28,49 @@ use Rattle.sq_net.specs.declared.Part.TheVariants as part
 use Rattle.sq_net.specs.declared.Place.{Place}
 use Rattle.sq_net.specs.Names.{is_name}
 use Rattle.sq_net.specs.Streams.{columns_given, columns_of_port, columns_of_stream}
-use Rattle.sq_net.specs.Sound.{Agrees, IsSound, body_within, input_columns, is_between, kind_of_body, network_within, node_within, output_within}
+use Rattle.sq_net.specs.Sound.{Agrees, HasWindow, IsSound, body_within, input_columns, is_between, kind_of_body, network_within, node_within, output_within}
 use Rattle.sq_tables.specs.declared.raw.RawBox.{RawBox}
 use Rattle.sq_tables.specs.declared.raw.RawOutput.{RawOutput}
 use Rattle.sq_tables.specs.declared.raw.Raw.{Raw}
 use Rattle.sq_tables.specs.Places.{place_of}
 use Rattle.sq_tables.specs.Refusals.{Answers}
-use Rattle.sq_tables.specs.Rawly.{◌>>=◌, raw_in}
-use Rattle.sq_tables.specs.Unbuilt.{unbuilt_place}
+use Rattle.sq_tables.specs.Rawly.{◌>>=◌, unless_at}
+use Rattle.sq_tables.specs.Shapes.{AreEven, IsEven}
 use Rattle.sq_reader.specs.Limits as limits
-use Rattle.sq_reader.specs.Limits.{box_within, has_between, limit_place}
+use Rattle.sq_reader.specs.Limits.{box_within, first_failing, has_between, limit_place}
 use Rattle.sq_reader.specs.Naming.{name_place, twice_place}
 use Rattle.sq_tables.specs.Shapes.{ports_of}
 use Rattle.sq_reader.specs.Streaming as wires
 use Rattle.sq_reader.specs.Streaming.{box_wires, cycle_in, stream_named, stream_names, unknown_place, wiring_by, wiring_of}
 use Rattle.sq_reader.specs.Sources.{sources_from}
 use Rattle.sq_reader.specs.Columns.{columns_known, columns_taken, nat_of, no_nodes, node_known, node_of_box, nodes_from}
-use Rattle.sq_reader.specs.Networks.{is_version_one, named_network, network_from, network_of, ordered_network, output_of, single_network, streamed_network, typed_network, unless_at, wired_network}
-use Rattle.sq_reader.proofs.LimitLemmas.{is_within}
-use Rattle.sq_reader.proofs.ListLemmas.{all_by_place, and_parts, each_passes, maps_same, nothing_mapped, passes_at}
+use Rattle.sq_reader.specs.Windows.{has_window, window_place}
+use Rattle.sq_reader.specs.Networks.{named_network, network_of, ordered_network, output_of, single_network, streamed_network, typed_network, windowed_network, wired_network}
+use Rattle.sq_reader.proofs.LimitLemmas.{is_within, number_within}
+use Rattle.sq_reader.proofs.ListLemmas.{all_by_place, and_both, and_parts, each_passes, maps_same, none_failing, nothing_mapped, passes_at}
 use Rattle.sq_reader.proofs.WiringLemmas.{is_wired, outputs_shown}
-use Rattle.sq_reader.proofs.BodyLemmas.{IsNodeOf, first_step, node_is}
+use Rattle.sq_reader.proofs.StepLemmas.{first_step}
+use Rattle.sq_reader.proofs.BodyLemmas.{IsNodeOf, node_is}
 use Rattle.sq_reader.proofs.NodeLemmas.{AreSettled, IsSettled, all_known, follow_all, settled}
-use Rattle.sq_reader.proofs.RuleLemmas.{IsEven, and_both, number_within, numbers_within, outputs_distinct, outputs_known, outputs_named, raw_even, sources_within, takes_all}
+use Rattle.sq_reader.proofs.RuleLemmas.{numbers_within, outputs_distinct, outputs_known, outputs_named, sources_within, takes_all}
 
 -- ---- the rules that the file keeps
 
 -- a file's tables that keep every rule, and what they are as sources and boxes
 pub record IsRead (r : Raw) (ss : List declared.Source) (nodes : List (Option Node)) : Type 0 where
-  pub even : AllByRecursion IsEven r.boxes
+  pub even : AreEven r
   pub limit : limit_place r ≡ None
   pub named : name_place r ≡ None
   pub single : twice_place r ≡ None
   pub known : unknown_place r ≡ None
   pub acyclic : cycle_in (wiring_of r) ≡ None
+  pub windows : window_place r ≡ None
   pub given : sources_from 0 r.sources ≡ Ok ss
   pub typed : nodes_from r (wiring_of r) ss (no_nodes (length r.boxes)) (order_of (wiring_of r)) ≡ Ok nodes
 
 none_broken : {A : Type 0} (e : Place → NetErr) (o : Option Place) (more : Result A NetErr) (x : A) → unless_at e o more ≡ Ok x → (o ≡ None) × (more ≡ Ok x)
 none_broken e None more x h = (refl, h)
 none_broken e (Some p) more x h = cc
-
-if_so : {A : Type 0} (b : Bool) (e : NetErr) (more : Result A NetErr) (x : A) → cond b more (Err e) ≡ Ok x → more ≡ Ok x
-if_so true e more x h = h
-if_so false e more x h = cc
 
 -- what a network is read from
 pub record IsReadAs (n : Network) : Type 0 where
@@ -82,32 +80,31 @@ pub record IsReadAs (n : Network) : Type 0 where
   pub read : IsRead raw sources nodes
   pub same : network_of raw (wiring_of raw) sources nodes ≡ n
 
-pub read_as : (ms : Members) (n : Network) → network_from ms ≡ Ok n → IsReadAs n
-read_as ms n h =
-    let versioned = if_so (is_version_one ms) broken.Version (unless_at broken.NotBuilt (unbuilt_place ms) (raw_in ms >>= typed_network)) n h in
-    let built = none_broken broken.NotBuilt (unbuilt_place ms) (raw_in ms >>= typed_network) n versioned in
-    let shaped = first_step (raw_in ms) typed_network n built.1 in
-    let limited = none_broken broken.Limit (limit_place shaped.0) (named_network shaped.0) n shaped.1.1 in
-    let named = none_broken broken.NoName (name_place shaped.0) (single_network shaped.0) n limited.1 in
-    let single = none_broken broken.Twice (twice_place shaped.0) (streamed_network shaped.0 (stream_named (stream_names shaped.0))) n named.1 in
-    let known = none_broken broken.Unknown (unknown_place shaped.0) (wired_network shaped.0 (wiring_of shaped.0)) n single.1 in
-    let acyclic = none_broken broken.Cycle (cycle_in (wiring_of shaped.0)) (ordered_network shaped.0 (wiring_of shaped.0)) n known.1 in
-    let sources = first_step (sources_from 0 shaped.0.sources) (λ ss.
-    nodes_from shaped.0 (wiring_of shaped.0) ss (no_nodes (length shaped.0.boxes)) (order_of (wiring_of shaped.0)) >>= λ nodes.
-    Ok (network_of shaped.0 (wiring_of shaped.0) ss nodes)) n acyclic.1 in
-    let nodes = first_step (nodes_from shaped.0 (wiring_of shaped.0) sources.0 (no_nodes (length shaped.0.boxes)) (order_of (wiring_of shaped.0))) (λ nodes.
-    Ok (network_of shaped.0 (wiring_of shaped.0) sources.0 nodes)) n sources.1.1 in
+pub read_as : (r : Raw) (n : Network) → AreEven r → typed_network r ≡ Ok n → IsReadAs n
+read_as r n even h =
+    let limited = none_broken broken.Limit (limit_place r) (named_network r) n h in
+    let named = none_broken broken.NoName (name_place r) (single_network r) n limited.1 in
+    let single = none_broken broken.Twice (twice_place r) (streamed_network r (stream_named (stream_names r))) n named.1 in
+    let known = none_broken broken.Unknown (unknown_place r) (wired_network r (wiring_of r)) n single.1 in
+    let acyclic = none_broken broken.Cycle (cycle_in (wiring_of r)) (windowed_network r (wiring_of r)) n known.1 in
+    let windows = none_broken broken.Window (window_place r) (ordered_network r (wiring_of r)) n acyclic.1 in
+    let sources = first_step (sources_from 0 r.sources) (λ ss.
+    nodes_from r (wiring_of r) ss (no_nodes (length r.boxes)) (order_of (wiring_of r)) >>= λ nodes.
+    Ok (network_of r (wiring_of r) ss nodes)) n windows.1 in
+    let nodes = first_step (nodes_from r (wiring_of r) sources.0 (no_nodes (length r.boxes)) (order_of (wiring_of r))) (λ nodes.
+    Ok (network_of r (wiring_of r) sources.0 nodes)) n sources.1.1 in
     record {
-      raw = shaped.0;
+      raw = r;
       sources = sources.0;
       nodes = nodes.0;
       read = record {
-        even = raw_even ms shaped.0 shaped.1.0;
+        even = even;
         limit = limited.0;
         named = named.0;
         single = single.0;
         known = known.0;
         acyclic = acyclic.0;
+        windows = windows.0;
         given = sources.1.0;
         typed = nodes.1.0;
       };
@@ -269,11 +266,18 @@ all_agree r ss nodes read =
       sources = sym given.1;
       kinds = map_twice (λ (b : BoxWires). b.kind) (box_wires (stream_named names)) r.boxes ∙ alike (λ b. wires.kind_of_body b.body) (λ b. kind_of_body b.body) r ss nodes boxes (λ raw ins b is. is.body.kind);
       ports = map_twice (λ (b : BoxWires). b.ports) (box_wires (stream_named names)) r.boxes ∙ ports;
-      tolls = sym tolls ∙ (evens r.boxes read.even ∙ ports);
+      tolls = sym tolls ∙ (evens r.boxes (recursion_from_All IsEven r.boxes read.even) ∙ ports);
       outputs = outputs_known (stream_named names) r read.known ∙ sym (length-map r.outputs output_of);
       wired = is_wired names r refl;
       shown = outputs_shown names r refl;
     }
+
+-- each Aggregate has a window
+all_windows : (r : Raw) (ss : List declared.Source) (nodes : List (Option Node)) → IsRead r ss nodes → All (λ (b : Node). HasWindow b.body) (network_of r (wiring_of r) ss nodes).boxes
+all_windows r ss nodes read =
+    let rule : list_all (λ (b : RawBox). has_window b.body) r.boxes ≡ true = none_failing (λ (b : RawBox). has_window b.body) r.boxes (nothing_mapped (place_of part.Box) (first_failing (λ (b : RawBox). has_window b.body) r.boxes) read.windows) in
+    let bs : List Node = filter_map (λ o. o) nodes in
+    λ at d low. (let box = box_at r ss nodes (are_boxes r ss nodes read) at (get_or bs at d) (slice_get-get_or bs at d low) in box.is.body.window (passes_at (λ (b : RawBox). has_window b.body) r.boxes at box.raw rule box.there))
 
 sound_of : (r : Raw) (ss : List declared.Source) (nodes : List (Option Node)) → IsRead r ss nodes → IsSound (network_of r (wiring_of r) ss nodes)
 sound_of r ss nodes read = record {
@@ -282,14 +286,15 @@ sound_of r ss nodes read = record {
   acyclic = none_on_cycle (wiring_of r) read.acyclic;
   named = All-map (λ (o : Output). is_name o.name ≡ true) output_of r.outputs
       (All-from_recursion (λ (o : RawOutput). is_name o.name ≡ true) r.outputs (each_passes (λ o. is_name o.name) r.outputs (outputs_named r read.named)));
+  windows = all_windows r ss nodes read;
   distinct = ap are_distinct (map_twice (λ (o : Output). o.name) output_of r.outputs) ∙ outputs_distinct r read.single;
   typed = λ at b e. (box_at r ss nodes (are_boxes r ss nodes read) at b e).is.body.typed;
 }
 
 -- a network that is read is sound
-pub read_sound : (ms : Members) (n : Network) → network_from ms ≡ Ok n → IsSound n
-read_sound ms n h = let from = read_as ms n h in subst IsSound from.same (sound_of from.raw from.sources from.nodes from.read)
+pub read_sound : (r : Raw) (n : Network) → AreEven r → typed_network r ≡ Ok n → IsSound n
+read_sound r n even h = let from = read_as r n even h in subst IsSound from.same (sound_of from.raw from.sources from.nodes from.read)
 
-pub answer_sound : (ms : Members) (answer : Result Network NetErr) → Answers answer (network_from ms) → IfOk answer IsSound
-answer_sound ms (Ok n) h = read_sound ms n h
-answer_sound ms (Err e) h = tt
+pub answer_sound : (r : Raw) (answer : Result Network NetErr) → AreEven r → Answers answer (typed_network r) → IfOk answer IsSound
+answer_sound r (Ok n) even h = read_sound r n even h
+answer_sound r (Err e) even h = tt

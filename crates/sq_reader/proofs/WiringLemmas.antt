@@ -13,7 +13,7 @@ use Rattle.sq_graph.specs.declared.Wiring.{Wiring}
 use Rattle.sq_graph.specs.Wires.{Source, Port, producers_of, producer_of}
 use Rattle.sq_graph.specs.Order.{is_there, IsWired}
 use Rattle.sq_tables.specs.declared.raw.RawBody.{RawBody}
-use Rattle.sq_tables.specs.declared.raw.RawBody.TheVariants.{Filter, Map, Union}
+use Rattle.sq_tables.specs.declared.raw.RawBody.TheVariants.{Filter, Map, Union, BSort, Aggregate, Join}
 use Rattle.sq_tables.specs.declared.raw.RawBox.{RawBox}
 use Rattle.sq_tables.specs.declared.raw.RawSource.{RawSource}
 use Rattle.sq_tables.specs.declared.raw.Raw.{Raw}
@@ -48,6 +48,9 @@ body_length : (name : List ℕ) (b : RawBody) → length (port_names name b) ≡
 body_length name (Filter preds) = length-map-range_with_len (λ i. port_name name (i + 1)) 0 (length preds + 1)
 body_length name (Map set) = refl
 body_length name Union = refl
+body_length name (BSort by slack) = refl
+body_length name (Aggregate size advance group give) = refl
+body_length name (Join size on) = refl
 
 ports_length : (names : List (List ℕ)) (k : ℕ) (bs : List RawBox)
     → length (flat_map (λ b. map (Port b.0) (numbers_to (b.1).ports)) (enumerate_from k (map (box_wires (stream_named names)) bs))) ≡ length (flat_map (λ b. port_names b.name b.body) bs)

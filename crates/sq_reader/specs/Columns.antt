@@ -1,11 +1,14 @@
 -- The boxes by the columns of what they take.
-use Rattle.std.specs.Prelude.{ℕ, ◌+◌, Bool, true, false, not, ◌&&◌, if◌then◌else◌, List, [], ◌∷◌, ◌++◌, map, length, replicate, ℤ, pos, negsuc, Option, Some, None, Result, Ok, Err, option_map, slice_get, slice_set}
+use Rattle.std.specs.Prelude.{ℕ, ◌+◌, Bool, true, false, not, nat_le, ◌&&◌, if◌then◌else◌, List, [], ◌∷◌, ◌++◌, map, length, replicate, ℤ, pos, negsuc, Option, Some, None, Result, Ok, Err, option_map, slice_get, slice_set}
 use Rattle.std.specs.List.{filter_map, zip}
+use Rattle.std.specs.Option.{option_and_then}
 use Rattle.sq_value.specs.Lists.{same_bytes, contains_bytes}
 use Rattle.sq_value.specs.Values.{Columns, kinds_of, names_of}
 use Rattle.sq_value.specs.declared.Kind.{Kind}
 use Rattle.sq_expr.specs.Trees.{Checked}
-use Rattle.sq_expr.specs.Kinds.{kind_in, same_kind}
+use Rattle.sq_expr.specs.Checking.{column_of}
+use Rattle.sq_expr.specs.Kinds.{kind_at, kind_in, same_kind}
+use Rattle.sq_aggfn.specs.declared.WindowSpec.{WindowSpec}
 use Rattle.sq_graph.specs.declared.Wiring.{Wiring}
 use Rattle.sq_graph.specs.Wires.{Producer, Source, Port, producer_of, inputs_of}
 use Rattle.sq_net.specs.declared.Source as declared
@@ -15,17 +18,20 @@ use Rattle.sq_net.specs.declared.Body.TheVariants as body
 use Rattle.sq_net.specs.declared.NetErr.{NetErr}
 use Rattle.sq_net.specs.declared.NetErr.TheVariants as broken
 use Rattle.sq_net.specs.declared.Part.TheVariants as part
+use Rattle.sq_net.specs.Columns.{columns_at, first_columns, if_int, pair_columns}
 use Rattle.sq_net.specs.Names.{is_name}
 use Rattle.sq_net.specs.Streams.{columns_of_port}
 use Rattle.sq_tables.specs.declared.raw.Setting.{Setting}
+use Rattle.sq_tables.specs.declared.raw.Giving.{Giving}
 use Rattle.sq_tables.specs.declared.raw.RawBody.{RawBody}
-use Rattle.sq_tables.specs.declared.raw.RawBody.TheVariants.{Filter, Map, Union}
+use Rattle.sq_tables.specs.declared.raw.RawBody.TheVariants.{Filter, Map, Union, BSort, Aggregate, Join}
 use Rattle.sq_tables.specs.declared.raw.RawBox.{RawBox}
 use Rattle.sq_tables.specs.declared.raw.Raw.{Raw}
-use Rattle.sq_tables.specs.Places.{place_at}
+use Rattle.sq_tables.specs.Places.{place_at, place_of, or_else}
 use Rattle.sq_reader.specs.Limits.{first_failing}
-use Rattle.sq_tables.specs.Rawly.{◌>>=◌}
-use Rattle.sq_reader.specs.Expressions.{may_be_predicate, may_be_set, typed_in}
+use Rattle.sq_tables.specs.Rawly.{◌>>=◌, or_broken}
+use Rattle.sq_reader.specs.Expressions.{may_be_predicate, may_be_set, predicate_of, typed_in}
+use Rattle.sq_reader.specs.Functions.{funcs_from, group_from, kinds_told}
 
 abbrev pub same_names : List (List ℕ) → List (List ℕ) → Bool
 same_names [] [] = true
@@ -48,8 +54,8 @@ abbrev pub bad_name_from : List (List ℕ) → ℕ → List (List ℕ) → Optio
 bad_name_from before i [] = None
 bad_name_from before i (w ∷ ws) = if is_name w && not (contains_bytes w before) then bad_name_from (before ++ w ∷ []) (i + 1) ws else Some i
 
-abbrev pub bad_name : List (List ℕ) → Option ℕ
-bad_name names = bad_name_from [] 0 names
+abbrev pub bad_name : List (List ℕ) → List (List ℕ) → Option ℕ
+bad_name before names = bad_name_from before 0 names
 
 -- go on where no item of a box is at fault
 abbrev pub unless_schema : {A : Type 0} → ℕ → Option ℕ → Result A NetErr → Result A NetErr
@@ -70,34 +76,68 @@ kinds_set es = filter_map (λ e. kind_in e.scope e.tree) es
 abbrev pub TypedBody : Type 0
 TypedBody = Body × List Columns
 
+abbrev pub nat_of : ℤ → ℕ
+nat_of (pos n) = n
+nat_of (negsuc n) = 0
+
 abbrev pub filter_of : ℕ → List (List ℕ) → Columns → Result TypedBody NetErr
 filter_of n preds cs = typed_in n may_be_predicate cs preds >>= λ es. Ok (body.Filter es, replicate (length preds + 1) cs)
 
 abbrev pub map_of : ℕ → List Setting → Columns → Result TypedBody NetErr
 map_of n set cs =
-    unless_schema n (bad_name (set_names set))
+    unless_schema n (bad_name [] (set_names set))
     (typed_in n may_be_set cs (set_texts set) >>= λ es. Ok (body.Map es, zip (set_names set) (kinds_set es) ∷ []))
 
-abbrev pub union_of : ℕ → List Columns → Columns → Result TypedBody NetErr
-union_of n ins cs = unless_schema n (first_failing (λ ds. same_columns ds cs) ins) (Ok (body.Union, cs ∷ []))
+abbrev pub union_of : ℕ → List Columns → Result TypedBody NetErr
+union_of n ins = unless_schema n (first_failing (λ cs. same_columns cs (first_columns ins)) ins) (Ok (body.Union, first_columns ins ∷ []))
 
--- a box on what it takes, where these are the columns of its first input
-abbrev pub body_on : ℕ → RawBody → List Columns → Columns → Result TypedBody NetErr
-body_on n (Filter preds) ins cs = filter_of n preds cs
-body_on n (Map set) ins cs = map_of n set cs
-body_on n Union ins cs = union_of n ins cs
+-- the place, where numbers stand there
+abbrev pub place_if : ℕ → Option Kind → Option ℕ
+place_if i None = None
+place_if i (Some k) = Some i
 
--- a box that takes nothing, which the limits rule out, can't be typed
-abbrev pub body_with : ℕ → RawBody → List Columns → Option Columns → Result TypedBody NetErr
-body_with n b ins None = Err broken.Memory
-body_with n b ins (Some cs) = body_on n b ins cs
+-- the place of a column of numbers
+abbrev pub int_place : Columns → List ℕ → Option ℕ
+int_place cs name = option_and_then (λ i. place_if i (if_int (kind_at cs i))) (column_of name cs)
 
+abbrev pub bsort_of : ℕ → List ℕ → ℤ → Columns → Result TypedBody NetErr
+bsort_of n by slack cs =
+    or_broken (broken.Typing (place_at part.Box n 0)) (int_place cs by) >>= λ i. Ok (body.BSort i (nat_of slack), cs ∷ [])
+
+-- item 0 where there are more than 16
+abbrev pub too_many : ℕ → Option ℕ
+too_many n = if nat_le n 16 then None else Some 0
+
+abbrev pub give_names : List Giving → List (List ℕ)
+give_names give = map (λ g. g.name) give
+
+-- the item at fault: item 0 where there are too many, else the first name that is none or stands before
+abbrev pub bad_given : List (List ℕ) → List (List ℕ) → Option ℕ
+bad_given group given = or_else (too_many (length group + length given)) (bad_name group given)
+
+-- a window by its size and its advance
+abbrev pub window_of : ℤ → ℤ → WindowSpec
+window_of size advance = record { size = nat_of size; advance = nat_of advance }
+
+abbrev pub aggregate_of : ℕ → WindowSpec → List (List ℕ) → List Giving → Columns → Result TypedBody NetErr
+aggregate_of n window group give cs =
+    unless_schema n (bad_given group (give_names give))
+    (funcs_from n 0 cs give >>= λ fs. group_from n 0 cs [] group >>= λ ps.
+    Ok (body.Aggregate fs ps window, (columns_at cs ps ++ zip (give_names give) (kinds_told cs fs)) ∷ []))
+
+abbrev pub join_of : ℕ → ℤ → List ℕ → List Columns → Result TypedBody NetErr
+join_of n size on ins =
+    unless_schema n (too_many (length (pair_columns ins)))
+    (predicate_of n (pair_columns ins) on >>= λ e. Ok (body.Join (nat_of size) e, pair_columns ins ∷ []))
+
+-- a box on what it takes
 abbrev pub body_of : ℕ → RawBody → List Columns → Result TypedBody NetErr
-body_of n b ins = body_with n b ins (slice_get ins 0)
-
-abbrev pub nat_of : ℤ → ℕ
-nat_of (pos n) = n
-nat_of (negsuc n) = 0
+body_of n (Filter preds) ins = filter_of n preds (first_columns ins)
+body_of n (Map set) ins = map_of n set (first_columns ins)
+body_of n Union ins = union_of n ins
+body_of n (BSort by slack) ins = bsort_of n by slack (first_columns ins)
+body_of n (Aggregate size advance group give) ins = aggregate_of n (window_of size advance) group give (first_columns ins)
+body_of n (Join size on) ins = join_of n size on ins
 
 abbrev pub node_of : RawBox → TypedBody → Node
 node_of b t = record { name = b.name; body = t.0; schemas = t.1; cost = nat_of b.cost; selectivity = map nat_of b.selectivity }
@@ -120,8 +160,9 @@ columns_known ss nodes (Some (Port at port)) = columns_of_port (node_known (slic
 abbrev pub columns_taken : Wiring → List declared.Source → List (Option Node) → List ℕ → List Columns
 columns_taken w ss nodes inputs = filter_map (λ s. columns_known ss nodes (producer_of w s)) inputs
 
+-- a number with no box, which the order of the boxes doesn't have, is out of its limits
 abbrev pub node_of_box : ℕ → Option RawBox → List Columns → Result Node NetErr
-node_of_box at None ins = Err broken.Memory
+node_of_box at None ins = Err (broken.Limit (place_of part.Box at))
 node_of_box at (Some b) ins = node_in at b ins
 
 -- the box of this number, on what is known so far

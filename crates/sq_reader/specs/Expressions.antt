@@ -49,3 +49,8 @@ typed_from n i may cs (a ∷ as') = do
 
 abbrev pub typed_in : ℕ → (Option Kind → Bool) → Columns → List (List ℕ) → Result (List Checked) NetErr
 typed_in n may cs texts = parsed_from n 0 texts >>= λ asts. typed_from n 0 may cs asts
+
+-- one predicate
+abbrev pub predicate_of : ℕ → Columns → List ℕ → Result Checked NetErr
+predicate_of n cs text =
+    or_no_expression n 0 (parse_in text) >>= λ a. allowed (broken.Typing (place_at part.Box n 0)) may_be_predicate cs (check_in cs a)

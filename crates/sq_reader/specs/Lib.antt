@@ -1,7 +1,9 @@
 pub mod Limits
+pub mod Windows
 pub mod Naming
 pub mod Streaming
 pub mod Sources
 pub mod Expressions
+pub mod Functions
 pub mod Columns
 pub mod Networks

@@ -18,6 +18,7 @@ use Rattle.sq_reader.specs.Limits.{limit_place}
 use Rattle.sq_reader.specs.Naming.{name_place, twice_place}
 use Rattle.sq_reader.specs.Streaming.{Numbers, cycle_in, stream_named, stream_names, unknown_among, wiring_by}
 use Rattle.sq_reader.specs.Sources.{sources_from}
+use Rattle.sq_reader.specs.Windows.{window_place}
 use Rattle.sq_reader.specs.Columns.{nat_of, no_nodes, nodes_from}
 
 -- a graph that loses as much as isn't shown
@@ -44,8 +45,11 @@ ordered_network r w =
     nodes_from r w ss (no_nodes (length r.boxes)) (order_of w) >>= λ nodes.
     Ok (network_of r w ss nodes)
 
+abbrev pub windowed_network : Raw → Wiring → Result Network NetErr
+windowed_network r w = unless_at broken.Window (window_place r) (ordered_network r w)
+
 abbrev pub wired_network : Raw → Wiring → Result Network NetErr
-wired_network r w = unless_at broken.Cycle (cycle_in w) (ordered_network r w)
+wired_network r w = unless_at broken.Cycle (cycle_in w) (windowed_network r w)
 
 abbrev pub streamed_network : Raw → Numbers → Result Network NetErr
 streamed_network r number_of = unless_at broken.Unknown (unknown_among number_of r) (wired_network r (wiring_by number_of r))

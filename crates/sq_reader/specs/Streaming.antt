@@ -14,7 +14,7 @@ use Rattle.sq_graph.specs.Order.{is_on_cycle}
 use Rattle.sq_net.specs.declared.Part.TheVariants as part
 use Rattle.sq_net.specs.declared.Place.{Place}
 use Rattle.sq_tables.specs.declared.raw.RawBody.{RawBody}
-use Rattle.sq_tables.specs.declared.raw.RawBody.TheVariants.{Filter, Map, Union}
+use Rattle.sq_tables.specs.declared.raw.RawBody.TheVariants.{Filter, Map, Union, BSort, Aggregate, Join}
 use Rattle.sq_tables.specs.declared.raw.RawBox.{RawBox}
 use Rattle.sq_tables.specs.declared.raw.Raw.{Raw}
 use Rattle.sq_tables.specs.Places.{place_at, place_of, or_else}
@@ -28,8 +28,7 @@ port_name name number = name ++ (46 ∷ decimal number)
 -- the streams of a box
 abbrev pub port_names : List ℕ → RawBody → List (List ℕ)
 port_names name (Filter preds) = map (λ i. port_name name (i + 1)) (numbers_to (length preds + 1))
-port_names name (Map set) = name ∷ []
-port_names name Union = name ∷ []
+port_names name b = name ∷ []
 
 -- the streams: each source, then those of each box
 abbrev pub stream_names : Raw → List (List ℕ)
@@ -72,6 +71,9 @@ abbrev pub kind_of_body : RawBody → BoxKind
 kind_of_body (Filter preds) = boxes.Filter
 kind_of_body (Map set) = boxes.Map
 kind_of_body Union = boxes.Union
+kind_of_body (BSort by slack) = boxes.BSort
+kind_of_body (Aggregate size advance group give) = boxes.Aggregate
+kind_of_body (Join size on) = boxes.Join
 
 abbrev pub box_wires : Numbers → RawBox → BoxWires
 box_wires number_of b = record { kind = kind_of_body b.body; inputs = filter_map number_of b.ins; ports = ports_of b.body }

@@ -1,10 +1,12 @@
 // The boxes by the columns of what they take.
-ghost use Rattle.std.specs.Prelude.{◌≡◌, ◌<◌, ◌^◌, true, false, Ok, Err, IfOk, IfErr, IfSome, length, option_map, replicate};
+ghost use Rattle.std.specs.Prelude.{◌≡◌, ◌<◌, ◌^◌, ◌++◌, ◌&&◌, not, true, false, Ok, Err, IfOk, IfErr, IfSome, length, option_map, replicate};
 ghost use Rattle.std.specs.List.{list_all};
+ghost use Rattle.sq_value.specs.Lists.{contains_bytes};
 ghost use Rattle.sq_expr.specs.Kinds.{same_kind};
 ghost use Rattle.sq_graph.specs.Wires.{producer_of};
 ghost use Rattle.sq_net.specs.declared.NetErr.TheVariants as broken;
 ghost use Rattle.sq_net.specs.declared.Part.TheVariants as part;
+ghost use Rattle.sq_net.specs.Names.{is_name};
 ghost use Rattle.sq_reader.specs.Columns.{bad_name, columns_known, columns_taken, kinds_set, nat_of, same_columns, same_kinds, same_names, set_names, set_texts};
 ghost use Rattle.sq_reader.specs.Expressions.{may_be_predicate, may_be_set, typed_from, typed_in};
 ghost use Rattle.sq_reader.specs.Limits.{first_failing, is_expression_long};
@@ -13,13 +15,13 @@ ghost use Rattle.sq_tables.specs.Refusals.{Answers, is_memory};
 
 use crate::expressions::{parsed, predicate_in, set_in};
 use crate::names::is_name;
-use sq_tables::Setting;
-use crate::reading::push;
+use crate::push;
 use crate::sources::is_among;
 use sq_expr::{Ast, Typed};
 use sq_graph::{Giver, Wiring, given_by};
-use sq_net::{NetErr, Node, Source, copy_schema};
-use sq_value::{Kind, Name, Schema, copy_name, same_text};
+use sq_net::{NetErr, Node, Source};
+use sq_tables::Setting;
+use sq_value::{Kind, Name, Schema, copy_name, copy_schema, same_text};
 use std::alloc::{AllocError, Global};
 
 fn same_names(a: &[Name], b: &[Name]) -> bool
@@ -74,18 +76,23 @@ pub(crate) fn unlike(ins: &[Schema], first: &Schema) -> Option<usize>
     ins.iter().position(|schema| !same_columns(schema, first))
 }
 
-pub(crate) fn bad_name(alloc: Global, names: &[Name]) -> Result<Option<usize>, AllocError>
-    ensures first { IfOk result (λ o. o ≡ bad_name names.now) }
-    ensures within { IfOk result (λ o. IfSome o (λ i. i < length names.now)) }
+fn is_new_name(name: &str, before: &[Name], earlier: &[Name]) -> bool
+    ensures { result ≡ is_name name.now && not (contains_bytes name.now (before.now ++ earlier.now)) }
 {
-    let mut before = Vec::new(alloc);
+    is_name(name) && !is_among(name, before) && !is_among(name, earlier)
+}
+
+/// The first of these names that is none, is one of those before, or repeats an earlier one.
+pub(crate) fn bad_name(before: &[Name], names: &[Name]) -> Option<usize>
+    ensures first { result ≡ bad_name before.now names.now }
+    ensures within { IfSome result (λ i. i < length names.now) }
+{
     for (item, name) in names.iter().enumerate() {
-        if !is_name(name.as_str()) || is_among(name.as_str(), &before) {
-            return Ok(Some(item));
+        if !is_new_name(name.as_str(), before, &names[..item]) {
+            return Some(item);
         }
-        before.push(copy_name(name)?)?;
     }
-    Ok(None)
+    None
 }
 
 pub(crate) fn names_set(alloc: Global, set: &[Setting]) -> Result<Vec<Name>, AllocError>
@@ -151,7 +158,7 @@ fn values(alloc: Global, number: usize, asts: &[Ast], scope: &Schema) -> Result<
     Ok(typed)
 }
 
-#[tactic(auto, using(crate::proofs::BodyLemmas::parsed_length))]
+#[tactic(auto, using(crate::proofs::TypedLemmas::parsed_length))]
 pub(crate) fn predicates_in(
     alloc: Global,
     number: usize,
@@ -168,7 +175,7 @@ pub(crate) fn predicates_in(
     predicates(alloc, number, &asts, scope)
 }
 
-#[tactic(auto, using(crate::proofs::BodyLemmas::parsed_length))]
+#[tactic(auto, using(crate::proofs::TypedLemmas::parsed_length))]
 pub(crate) fn values_in(
     alloc: Global,
     number: usize,

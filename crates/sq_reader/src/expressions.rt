@@ -5,13 +5,13 @@ ghost use Rattle.sq_expr.specs.Checking.{check_in};
 ghost use Rattle.sq_expr.specs.Grammar.{parse_in};
 ghost use Rattle.sq_net.specs.declared.NetErr.TheVariants as broken;
 ghost use Rattle.sq_net.specs.declared.Part.TheVariants as part;
-ghost use Rattle.sq_reader.specs.Expressions.{allowed, may_be_predicate, may_be_set, or_no_expression, parsed_from, typed_from, typed_in};
+ghost use Rattle.sq_reader.specs.Expressions.{allowed, may_be_predicate, may_be_set, or_no_expression, parsed_from, predicate_of, typed_from, typed_in};
 ghost use Rattle.sq_reader.specs.Limits.{is_expression_long};
 ghost use Rattle.sq_tables.specs.Places.{place_at};
 ghost use Rattle.sq_tables.specs.Refusals.{Answers, is_memory};
 
 use crate::limits::place_at;
-use crate::reading::push;
+use crate::push;
 use sq_expr::{Ast, TypeErr, Typed, What, check, parse};
 use sq_net::{NetErr, Part};
 use sq_value::{Kind, Name, Schema};
@@ -110,4 +110,19 @@ pub(crate) fn set_in(
         Err(TypeErr::Memory) => Err(NetErr::Memory),
         Err(_) => Err(typing_fault(number, item)),
     }
+}
+
+/// The predicate that a text is, in this scope.
+pub(crate) fn predicate_of(
+    alloc: Global,
+    number: usize,
+    text: &Name,
+    scope: &Schema,
+) -> Result<Typed, NetErr>
+    requires number { number < 2 ^ 32 }
+    requires long { is_expression_long text.now ≡ true }
+    ensures { Answers result (predicate_of number scope.now text.now) }
+{
+    let ast = expression_in(alloc, number, 0, text.as_str())?;
+    predicate_in(alloc, number, 0, &ast, scope)
 }

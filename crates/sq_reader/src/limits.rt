@@ -5,8 +5,8 @@ ghost use Rattle.sq_net.specs.declared.Part.TheVariants as part;
 ghost use Rattle.sq_reader.specs.Limits.{body_within, box_within, first_failing, has_between, inputs_within, is_between, is_expression_long, limit_place, source_within, top_within};
 ghost use Rattle.sq_tables.specs.Places.{place_at, place_of};
 
-use sq_tables::{Raw, RawBody, RawBox, RawSource, Setting};
 use sq_net::{Part, Place};
+use sq_tables::{Raw, RawBody, RawBox, RawSource, Setting};
 use sq_value::Name;
 
 /// An item of a list of a part.
@@ -87,6 +87,11 @@ fn body_within(body: &RawBody) -> bool
         }
         RawBody::Map { set } => has_between(set.as_slice(), 1, 16) && are_set_long(set.as_slice()),
         RawBody::Union => true,
+        RawBody::BSort { slack, .. } => is_between(*slack, 0, 10_000),
+        RawBody::Aggregate { group, give, .. } => {
+            has_between(group.as_slice(), 0, 16) && has_between(give.as_slice(), 1, 16)
+        }
+        RawBody::Join { size, on } => is_between(*size, 0, 1 << 32) && is_expression_long(on),
     }
 }
 
@@ -94,8 +99,12 @@ fn inputs_within(body: &RawBody, ins: &[Name]) -> bool
     ensures { result ≡ inputs_within body.now ins.now }
 {
     match body {
-        RawBody::Filter { .. } | RawBody::Map { .. } => has_between(ins, 1, 1),
         RawBody::Union => has_between(ins, 1, 8),
+        RawBody::Join { .. } => has_between(ins, 2, 2),
+        RawBody::Filter { .. }
+        | RawBody::Map { .. }
+        | RawBody::BSort { .. }
+        | RawBody::Aggregate { .. } => has_between(ins, 1, 1),
     }
 }
 

@@ -1,18 +1,17 @@
 // The rules on names.
 ghost use Rattle.std.specs.Prelude.{◌≡◌, ◌+◌, ◌<◌, ◌≤◌, ◌^◌, ◌++◌, IfOk, OnOk, IfSome, length, map, option_map};
-ghost use Rattle.std.specs.List.{list_all};
-ghost use Rattle.sq_value.specs.Lists.{contains_bytes};
+ghost use Rattle.std.specs.List.{list_all, list_any};
+ghost use Rattle.sq_value.specs.Lists.{contains_bytes, same_bytes};
 ghost use Rattle.sq_net.specs.declared.Part.TheVariants as part;
 ghost use Rattle.sq_net.specs.Names.{has_name_form, is_lower, is_name, may_follow, reserved};
 ghost use Rattle.sq_reader.specs.Limits.{first_failing};
 ghost use Rattle.sq_reader.specs.Naming.{first_repeat, name_place, place_in_space, space_names, twice_place};
 
-use crate::document::is_known;
 use crate::limits::whole;
-use sq_tables::{Raw, RawBox, RawOutput, RawSource};
 use indexmap::IndexSet;
 use sq_net::{Part, Place};
-use sq_value::{Name, copy_name};
+use sq_tables::{Raw, RawBox, RawOutput, RawSource};
+use sq_value::{Name, copy_name, same_text};
 use std::alloc::{AllocError, Global};
 
 fn may_follow(byte: u8) -> bool
@@ -36,10 +35,16 @@ fn has_name_form(text: &[u8]) -> bool
     }
 }
 
+fn is_one_of(text: &str, words: &[&str]) -> bool
+    ensures { result ≡ list_any (λ word. same_bytes text.now word.now) words.now }
+{
+    words.iter().any(|word| same_text(text, word))
+}
+
 fn is_reserved(text: &str) -> bool
     ensures { result ≡ contains_bytes text.now reserved }
 {
-    is_known(
+    is_one_of(
         text,
         &["and", "or", "not", "is", "null", "true", "false", "time"],
     )

@@ -5,21 +5,23 @@ ghost use Rattle.sq_graph.specs.Order.{order_of, IsWired};
 ghost use Rattle.sq_net.specs.declared.NetErr.TheVariants as broken;
 ghost use Rattle.sq_net.specs.declared.Part.TheVariants as part;
 ghost use Rattle.sq_reader.specs.Limits.{limit_place};
-ghost use Rattle.sq_reader.specs.Networks.{even_graph, named_network, ordered_network, output_of, single_network, streamed_network, typed_network, wired_network};
+ghost use Rattle.sq_reader.specs.Networks.{even_graph, named_network, ordered_network, output_of, single_network, streamed_network, typed_network, windowed_network, wired_network};
 ghost use Rattle.sq_tables.specs.Places.{place_of};
 ghost use Rattle.sq_tables.specs.Refusals.{Answers, is_memory};
 ghost use Rattle.sq_reader.specs.Streaming.{cycle_in, number_in, stream_named, stream_names, unknown_place, wiring_of};
 
+use crate::bodies::natural;
 use crate::limits::limit_place;
 use crate::names::{name_place, twice_place};
-use crate::nodes::{natural, nodes_in};
-use sq_tables::{Raw, RawOutput};
+use crate::nodes::nodes_in;
 use crate::sources::sources_in;
 use crate::streams::{numbers_of, stream_names, unknown_place, wiring};
+use crate::windows::window_place;
 use indexmap::IndexMap;
 use sq_graph::{OrderErr, Wiring, order};
 use sq_net::{NetErr, Network, Node, Output, Part, Place};
 use sq_qos::Graph;
+use sq_tables::{Raw, RawOutput};
 use sq_value::{ListOf, copy_name};
 use std::alloc::{AllocError, Global};
 
@@ -107,6 +109,25 @@ fn ordered_network(
     })
 }
 
+#[tactic(auto, using(crate::proofs::LimitLemmas::counts_of))]
+fn windowed_network(
+    alloc: Global,
+    raw: &Raw,
+    wires: Wiring,
+    order: &[u32],
+) -> Result<Network, NetErr>
+    requires within { limit_place raw.now ≡ None }
+    requires known { unknown_place raw.now ≡ None }
+    requires wires { wires ≡ wiring_of raw.now }
+    requires ordered { order.now ≡ order_of wires }
+    ensures { Answers result (windowed_network raw.now wires) }
+{
+    if let Some(place) = window_place(raw) {
+        return Err(NetErr::Window(place));
+    }
+    ordered_network(alloc, raw, wires, order)
+}
+
 fn wired_network(alloc: Global, raw: &Raw, wires: Wiring) -> Result<Network, NetErr>
     requires within { limit_place raw.now ≡ None }
     requires known { unknown_place raw.now ≡ None }
@@ -114,7 +135,7 @@ fn wired_network(alloc: Global, raw: &Raw, wires: Wiring) -> Result<Network, Net
     ensures { Answers result (wired_network raw.now wires) }
 {
     let order = order_in(alloc, &wires)?;
-    ordered_network(alloc, raw, wires, &order)
+    windowed_network(alloc, raw, wires, &order)
 }
 
 fn streamed_network(

@@ -9,9 +9,9 @@ ghost use Rattle.sq_reader.specs.Sources.{column_in, columns_from, kind_named, s
 
 use crate::limits::place_at;
 use crate::names::is_name;
-use sq_tables::RawSource;
-use crate::reading::push;
+use crate::push;
 use sq_net::{NetErr, Part, Source};
+use sq_tables::RawSource;
 use sq_value::{Kind, Name, Schema, copy_name, same_text};
 use std::alloc::{AllocError, Global};
 

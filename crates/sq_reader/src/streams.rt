@@ -10,11 +10,10 @@ ghost use Rattle.sq_reader.specs.Streaming.{also_numbered, box_wires, is_stream,
 
 use crate::limits::{place_at, whole};
 use crate::names::source_names;
-use sq_tables::{Raw, RawBody, RawBox, RawOutput};
-use sq_tables::ports_of;
 use indexmap::IndexMap;
 use sq_graph::{BoxKind, BoxWires, Wiring};
 use sq_net::{Part, Place};
+use sq_tables::{Raw, RawBody, RawBox, RawOutput, ports_of};
 use sq_value::{ListOf, Name, copy_name};
 use std::alloc::{AllocError, Global};
 
@@ -50,7 +49,11 @@ fn push_ports(alloc: Global, names: &mut Vec<Name>, b: &RawBox) -> Result<(), Al
         RawBody::Filter { preds } => {
             push_filter_ports(alloc, names, &b.name, preds.as_slice().len() + 1)
         }
-        RawBody::Map { .. } | RawBody::Union => Ok(names.push(copy_name(&b.name)?)?),
+        RawBody::Map { .. }
+        | RawBody::Union
+        | RawBody::BSort { .. }
+        | RawBody::Aggregate { .. }
+        | RawBody::Join { .. } => Ok(names.push(copy_name(&b.name)?)?),
     }
 }
 
@@ -193,6 +196,9 @@ fn kind_of(body: &RawBody) -> BoxKind
         RawBody::Filter { .. } => BoxKind::Filter,
         RawBody::Map { .. } => BoxKind::Map,
         RawBody::Union => BoxKind::Union,
+        RawBody::BSort { .. } => BoxKind::BSort,
+        RawBody::Aggregate { .. } => BoxKind::Aggregate,
+        RawBody::Join { .. } => BoxKind::Join,
     }
 }
 

@@ -109,10 +109,7 @@ fn second_sources_are_answered(rt: HostRuntime) -> Result<(), Fail> {
     Ok(())
 }
 
-const BOXES: &str = "{kind='join'} | NotBuilt box 0 0
-{kind='aggregate'} | NotBuilt box 0 0
-{kind='sort'}, {kind='bsort'} | NotBuilt box 1 0
-{name='f', kind='sort', in=['s']} | Shape box 0 0
+const BOXES: &str = "{name='f', kind='sort', in=['s']} | Shape box 0 0
 {name='f', kind='filter', in=['s']} | Shape box 0 0
 {name='f', kind='filter', in=['s'], where='true'} | Shape box 0 0
 {name='f', kind='filter', in=['s'], where=['true'], set=[]} | Shape box 0 0
@@ -202,7 +199,10 @@ const TWO_FAULTS: &str =
 {name='f', kind='filter', in=['s'], where=['w']}, {name='u', kind='union', in=['u']} | Cycle box 1 0
 {name='m', kind='map', in=['s'], set=[['w', 'v >'], ['w', 'v']]} | Schema box 0 1
 {name='f', kind='filter', in=['s'], where=['w', 'v >']} | Expr box 0 1 3 Expected
-{name='f', kind='filter', in=['m'], where=['x']}, {name='m', kind='map', in=['s'], set=[['w', 'x']]} | Typing box 1 0";
+{name='f', kind='filter', in=['m'], where=['x']}, {name='m', kind='map', in=['s'], set=[['w', 'x']]} | Typing box 1 0
+{name='a', kind='aggregate', in=['s'], size=0, advance=0, give=[['n', 'count']]}, {name='u', kind='union', in=['u']} | Cycle box 1 0
+{name='m', kind='map', in=['s'], set=[['is', 'v']]}, {name='a', kind='aggregate', in=['s'], size=0, advance=0, give=[['n', 'count']]} | Window box 1 0
+{name='a', kind='aggregate', in=['s'], size=1, advance=1, group=['x'], give=[['n', 'sum', 'w'], ['N', 'count']]} | Schema box 0 1";
 
 #[test]
 fn rules_come_in_their_order(rt: HostRuntime) -> Result<(), Fail> {
@@ -304,5 +304,185 @@ fn texts_have_limits(rt: HostRuntime) -> Result<(), Fail> {
         )?;
         assert_eq!(rt; told(rt.alloc(), text.as_str())?.as_str(), expected);
     }
+    Ok(())
+}
+
+const SORTS_AND_JOINS: &str = "{name='b', kind='bsort', in=['s'], by='v', slack=-1} | Limit box 0 0
+{name='b', kind='bsort', in=['s'], by='v', slack=0} | Ok
+{name='b', kind='bsort', in=['s'], by='v', slack=10000} | Ok
+{name='b', kind='bsort', in=['s'], by='v', slack=10001} | Limit box 0 0
+{name='b', kind='bsort', in=['s', 's'], by='v', slack=1} | Limit box 0 0
+{name='b', kind='bsort', in=['s'], by='w', slack=1} | Typing box 0 0
+{name='m', kind='map', in=['s'], set=[['v', 'true']]}, {name='b', kind='bsort', in=['m'], by='v', slack=1} | Typing box 1 0
+{name='j', kind='join', in=['s', 's'], size=-1, on='true'} | Limit box 0 0
+{name='j', kind='join', in=['s', 's'], size=0, on='true'} | Ok
+{name='j', kind='join', in=['s', 's'], size=4294967296, on='true'} | Ok
+{name='j', kind='join', in=['s', 's'], size=4294967297, on='true'} | Limit box 0 0
+{name='j', kind='join', in=['s', 's'], size=1, on=''} | Limit box 0 0
+{name='j', kind='join', in=['s'], size=1, on='true'} | Limit box 0 0
+{name='j', kind='join', in=['s', 's', 's'], size=1, on='true'} | Limit box 0 0
+{name='j', kind='join', in=['s', 's'], size=1, on='l_v ='} | Expr box 0 0 5 Expected
+{name='j', kind='join', in=['s', 's'], size=1, on='l_v = v'} | Typing box 0 0
+{name='j', kind='join', in=['s', 's'], size=1, on='l_v + r_v'} | Typing box 0 0
+{name='j', kind='join', in=['s', 's'], size=1, on='null'} | Ok
+{name='j', kind='join', in=['s', 's'], size=1, on='l_v < r_v and r_v < time'} | Ok";
+
+#[test]
+fn sorts_and_joins_are_answered(rt: HostRuntime) -> Result<(), Fail> {
+    for line in SORTS_AND_JOINS.lines() {
+        if let Some((boxes, expected)) = line.split_once(" | ") {
+            let answer = answer_of_boxes(rt.alloc(), boxes)?;
+            assert_eq!(rt; answer.as_str(), expected, "{line}");
+        }
+    }
+    Ok(())
+}
+
+const AGGREGATES: &str = "size=0, advance=0, give=[['n', 'count']] | Window box 0 0
+size=5, advance=0, give=[['n', 'count']] | Window box 0 0
+size=-5, advance=1, give=[['n', 'count']] | Window box 0 0
+size=5, advance=-1, give=[['n', 'count']] | Window box 0 0
+size=5, advance=6, give=[['n', 'count']] | Window box 0 0
+size=1, advance=1, give=[['n', 'count']] | Ok
+size=4096, advance=1, give=[['n', 'count']] | Ok
+size=4097, advance=1, give=[['n', 'count']] | Window box 0 0
+size=4294967296, advance=4294967296, give=[['n', 'count']] | Ok
+size=4294967297, advance=4294967297, give=[['n', 'count']] | Window box 0 0
+size=9, advance=9, give=[] | Limit box 0 0
+size=9, advance=9, give=[['n', 'count'], ['n', 'count']] | Schema box 0 1
+size=9, advance=9, give=[['n', 'count'], ['N', 'count']] | Schema box 0 1
+size=9, advance=9, group=['v'], give=[['v', 'count']] | Schema box 0 0
+size=9, advance=9, give=[['n', 'count'], ['m', 'max', 'w']] | Typing box 0 1
+size=9, advance=9, give=[['n', 'min', 'b'], ['m', 'sum', 'b']] | Typing box 0 1
+size=9, advance=9, give=[['n', 'last', 't'], ['m', 'avg', 't']] | Typing box 0 1
+size=9, advance=9, give=[['n', 'avg', 'v'], ['m', 'sum', 'v'], ['f', 'first', 't'], ['x', 'max', 'b']] | Ok
+size=9, advance=9, group=['w'], give=[['n', 'count']] | Group box 0 0
+size=9, advance=9, group=['v', 't', 'v'], give=[['n', 'count']] | Group box 0 2
+size=9, advance=9, group=['w'], give=[['n', 'sum', 't']] | Typing box 0 0
+size=9, advance=9, group=['t', 'b', 'v'], give=[['n', 'count']] | Ok";
+
+const THREE_FIELDS: &str =
+    "source = [{name='s', file='s.csv', fields=['v:int', 'b:bool', 't:text']}]";
+
+#[test]
+fn aggregates_are_answered(rt: HostRuntime) -> Result<(), Fail> {
+    for line in AGGREGATES.lines() {
+        if let Some((aggregate, expected)) = line.split_once(" | ") {
+            let text = format!(in rt.alloc();
+                "version = 1\n{THREE_FIELDS}\n{OUTPUT}\nbox = [{{name='a', kind='aggregate', in=['s'], {aggregate}}}]"
+            )?;
+            let answer = told(rt.alloc(), text.as_str())?;
+            assert_eq!(rt; answer.as_str(), expected, "{line}");
+        }
+    }
+    Ok(())
+}
+
+#[test]
+fn what_an_aggregate_shows_has_limits(rt: HostRuntime) -> Result<(), Fail> {
+    let table = [
+        ((0, 16), "Ok"),
+        ((0, 17), "Limit box 0 0"),
+        ((17, 1), "Limit box 0 0"),
+        ((16, 1), "Schema box 0 0"),
+        ((8, 8), "Group box 0 0"),
+    ];
+    for ((group, give), expected) in table {
+        let group = listed(rt.alloc(), group, "'g", "'")?;
+        let give = listed(rt.alloc(), give, "['n", "', 'count']")?;
+        let boxes = format!(in rt.alloc();
+            "{{name='a', kind='aggregate', in=['s'], size=9, advance=9, group=[{group}], give=[{give}]}}"
+        )?;
+        let answer = answer_of_boxes(rt.alloc(), boxes.as_str())?;
+        assert_eq!(rt; answer.as_str(), expected);
+    }
+    Ok(())
+}
+
+#[test]
+fn pairs_have_sixteen_fields_at_most(rt: HostRuntime) -> Result<(), Fail> {
+    let table = [
+        ((8, 8, 4092), "Ok"),
+        ((9, 8, 4092), "Schema box 0 0"),
+        ((8, 8, 4093), "Limit box 0 0"),
+    ];
+    for ((left, right, spaces), expected) in table {
+        let left = listed(rt.alloc(), left, "'v", ":int'")?;
+        let right = listed(rt.alloc(), right, "'v", ":int'")?;
+        let spaces = " ".repeat(rt.alloc(), spaces)?;
+        let text = format!(in rt.alloc();
+            "version = 1\nsource = [{{name='l', file='l.csv', fields=[{left}]}}, {{name='r', file='r.csv', fields=[{right}]}}]\nbox = [{{name='j', kind='join', in=['l', 'r'], size=9, on='{spaces}true'}}]\noutput = [{{name='o', from='j'}}]"
+        )?;
+        assert_eq!(rt; told(rt.alloc(), text.as_str())?.as_str(), expected);
+    }
+    Ok(())
+}
+
+/// The columns of a stream of a file.
+#[tactic(auto, using(sq_net::proofs::StreamLemmas::boxes_few))]
+fn columns_shown(alloc: Global, text: &str, stream: u32) -> Result<String, Fail> {
+    let n = read_network(alloc, text.as_bytes())?;
+    let mut shown = String::new(alloc);
+    if given_by(&n.wires, stream).is_none() {
+        return Ok(shown);
+    }
+    let schema = n.stream_schema(stream);
+    for (name, kind) in schema.names().iter().zip(schema.kinds()) {
+        let name = name.as_str();
+        let column = format!(in alloc; "{name} {kind:?}, ")?;
+        shown.push_str(column.as_str())?;
+    }
+    Ok(shown)
+}
+
+#[test]
+fn groups_come_before_what_is_given(rt: HostRuntime) -> Result<(), Fail> {
+    let text = format!(in rt.alloc();
+        "version = 1\n{THREE_FIELDS}\n{OUTPUT}\nbox = [{{name='a', kind='aggregate', in=['s'], size=9, advance=3, group=['t', 'v'], give=[['n', 'count'], ['m', 'max', 'b'], ['f', 'first', 't']]}}]"
+    )?;
+    assert_eq!(rt;
+        columns_shown(rt.alloc(), text.as_str(), 1)?.as_str(),
+        "t Text, v Int, n Int, m Bool, f Text, "
+    );
+    Ok(())
+}
+
+#[test]
+fn sorted_columns_stay(rt: HostRuntime) -> Result<(), Fail> {
+    let text = format!(in rt.alloc();
+        "version = 1\n{THREE_FIELDS}\n{OUTPUT}\nbox = [{{name='b', kind='bsort', in=['s'], by='v', slack=2}}]"
+    )?;
+    assert_eq!(rt;
+        columns_shown(rt.alloc(), text.as_str(), 1)?.as_str(),
+        "v Int, b Bool, t Text, "
+    );
+    Ok(())
+}
+
+/// A Join of two sources, and an Aggregate of its pairs by a field of 31 letters, which has 33 in a pair.
+fn grouped_pairs(alloc: Global) -> Result<String, Fail> {
+    let field = "n".repeat(alloc, 31)?;
+    Ok(format!(in alloc;
+        "version = 1\nsource = [{{name='l', file='l.csv', fields=['{field}:int']}}, {{name='r', file='r.csv', fields=['x:text']}}]\nbox = [{{name='a', kind='aggregate', in=['j'], size=9, advance=3, group=['l_{field}'], give=[['f', 'first', 'r_x']]}}, {{name='j', kind='join', in=['l', 'r'], size=2, on='r_x is null'}}]\noutput = [{{name='o', from='a'}}]"
+    )?)
+}
+
+#[test]
+fn left_columns_come_before_right_ones(rt: HostRuntime) -> Result<(), Fail> {
+    let text = grouped_pairs(rt.alloc())?;
+    assert_eq!(rt;
+        columns_shown(rt.alloc(), text.as_str(), 3)?.as_str(),
+        "l_nnnnnnnnnnnnnnnnnnnnnnnnnnnnnnn Int, r_x Text, "
+    );
+    Ok(())
+}
+
+#[test]
+fn long_names_of_pairs_can_be_grouped_by(rt: HostRuntime) -> Result<(), Fail> {
+    let text = grouped_pairs(rt.alloc())?;
+    assert_eq!(rt;
+        columns_shown(rt.alloc(), text.as_str(), 2)?.as_str(),
+        "l_nnnnnnnnnnnnnnnnnnnnnnnnnnnnnnn Int, f Text, "
+    );
     Ok(())
 }

@@ -1,12 +1,14 @@
 -- A selectivity for each port: the shape of a box asks for it.
-use Rattle.std.proofs.Common.{◌≡◌, ap, subst, refl, ℕ, ◌+◌, Bool, true, false, ◌==◌, List, [], ◌∷◌, length, Option, Some, None, ℤ, pos, arith}
+use Rattle.std.proofs.Common.{◌≡◌, ap, subst, refl, ℕ, ◌+◌, Bool, true, false, ◌==◌, List, [], ◌∷◌, length, Option, Some, None, ℤ, pos, cond, arith}
 use Rattle.std.specs.Prelude.{Result, Ok, Err, IfOk, codes}
 use Rattle.std.specs.List.{AllByRecursion}
+use Rattle.std.proofs.lemmas.List.Elements.{All-from_recursion}
 use Rattle.std.proofs.lemmas.Bool.Decides.{nat_tests}
 use Rattle.toml.specs.Data.{Members, get_member, as_str, as_integer}
 use Rattle.sq_net.specs.declared.NetErr.{NetErr}
 use Rattle.sq_net.specs.declared.NetErr.TheVariants as broken
 use Rattle.sq_net.specs.declared.Part.TheVariants as part
+use Rattle.sq_net.specs.declared.Place.{Place}
 use Rattle.sq_tables.specs.declared.raw.RawBody.{RawBody}
 use Rattle.sq_tables.specs.declared.raw.RawBox.{RawBox}
 use Rattle.sq_tables.specs.declared.raw.Raw.{Raw}
@@ -14,7 +16,10 @@ use Rattle.sq_tables.specs.Documents as option
 use Rattle.sq_tables.specs.Documents.{list_in, optional, required, when}
 use Rattle.sq_tables.specs.Places.{place_of}
 use Rattle.sq_tables.specs.Shapes.{IsEven, AreEven, body_in, box_in, default_selectivity, output_in, ports_of, source_in, top_in}
-use Rattle.sq_tables.specs.Rawly.{◌>>=◌, or_broken, raw_in, shaped_from}
+use Rattle.sq_tables.specs.Refusals.{Answers}
+use Rattle.sq_tables.specs.Unbuilt.{unbuilt_place}
+use Rattle.sq_tables.specs.Rawly.{◌>>=◌, is_version_one, or_broken, raw_from, raw_in, shaped_from, unless_at}
+use Rattle.sq_tables.proofs.ShapedLemmas.{first_step}
 
 first_part : {A B : Type 0} (o : Option A) (f : A → Option B) (y : B) → option.◌>>=◌ o f ≡ Some y → (x : A) × ((o ≡ Some x) × (f x ≡ Some y))
 first_part None f y e = cc
@@ -70,8 +75,14 @@ boxes_even n (t ∷ ts) boxes h =
     let same : one.0 ∷ two.0 ≡ boxes = (let last = two.1.1 in cc) in
     subst (λ (bs : List RawBox). AllByRecursion IsEven bs) same (box_even t one.0 (read_as fault (box_in t) one.0 one.1.0), boxes_even (n + 1) ts two.0 two.1.0)
 
-pub raw_even : (ms : Members) (r : Raw) → raw_in ms ≡ Ok r → AllByRecursion IsEven r.boxes
-raw_even ms r h =
+abbrev read : Raw → Result Raw NetErr
+read r = Ok r
+
+same_even : (raw r : Raw) → read raw ≡ read r → AllByRecursion IsEven raw.boxes → AllByRecursion IsEven r.boxes
+same_even raw r e even = let same : raw ≡ r = cc in subst (λ (x : Raw). AllByRecursion IsEven x.boxes) same even
+
+in_even : (ms : Members) (r : Raw) → raw_in ms ≡ Ok r → AllByRecursion IsEven r.boxes
+in_even ms r h =
     let top = first_step (or_broken (broken.Shape (place_of part.Top 0)) (top_in ms)) (λ t.
     shaped_from part.Source source_in 0 t.sources >>= λ sources.
     shaped_from part.Box box_in 0 t.boxes >>= λ boxes.
@@ -87,5 +98,19 @@ raw_even ms r h =
     let outputs = first_step (shaped_from part.Output output_in 0 top.0.outputs) (λ outputs.
     Ok (record { epoch = top.0.epoch; batch = top.0.batch; sources = sources.0; boxes = boxes.0; outputs = outputs })) r boxes.1.1 in
     let raw : Raw = record { epoch = top.0.epoch; batch = top.0.batch; sources = sources.0; boxes = boxes.0; outputs = outputs.0 } in
-    let same : raw ≡ r = (let last = outputs.1.1 in cc) in
-    subst (λ (x : Raw). AllByRecursion IsEven x.boxes) same (boxes_even 0 top.0.boxes boxes.0 boxes.1.0)
+    same_even raw r outputs.1.1 (boxes_even 0 top.0.boxes boxes.0 boxes.1.0)
+
+from_even : (ms : Members) (r : Raw) → raw_from ms ≡ Ok r → AllByRecursion IsEven r.boxes
+from_even ms r h = by_version (is_version_one ms) h
+  where
+    by_place : (o : Option Place) → unless_at broken.NotBuilt o (raw_in ms) ≡ Ok r → AllByRecursion IsEven r.boxes
+    by_place None h = in_even ms r h
+    by_place (Some p) h = cc
+
+    by_version : (t : Bool) → cond t (unless_at broken.NotBuilt (unbuilt_place ms) (raw_in ms)) (Err broken.Version) ≡ Ok r → AllByRecursion IsEven r.boxes
+    by_version true h = by_place (unbuilt_place ms) h
+    by_version false h = cc
+
+pub answer_even : (ms : Members) (answer : Result Raw NetErr) → Answers answer (raw_from ms) → IfOk answer AreEven
+answer_even ms (Ok r) h = All-from_recursion IsEven r.boxes (from_even ms r h)
+answer_even ms (Err e) h = tt

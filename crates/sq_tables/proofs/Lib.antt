@@ -1,3 +1,4 @@
 pub mod DocumentLemmas
 pub mod ShapedLemmas
 pub mod EvenLemmas
+pub mod Rows

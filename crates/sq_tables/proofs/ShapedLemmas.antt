@@ -10,6 +10,11 @@ use Rattle.sq_net.specs.declared.NetErr.TheVariants as broken
 use Rattle.sq_tables.specs.Places.{place_of}
 use Rattle.sq_tables.specs.Rawly.{◌>>=◌, shaped_from}
 
+-- where two steps succeed, each does
+pub first_step : {A B : Type 0} (r : Result A NetErr) (f : A → Result B NetErr) (y : B) → (r >>= f) ≡ Ok y → (x : A) × ((r ≡ Ok x) × (f x ≡ Ok y))
+first_step (Ok x) f y e = (x, (refl, e))
+first_step (Err b) f y e = cc
+
 -- these items, and then the others, where there are others
 abbrev pub joined : {A : Type 0} → List A → Result (List A) NetErr → Result (List A) NetErr
 joined front (Ok xs) = Ok (front ++ xs)

@@ -6,8 +6,12 @@ use Rattle.std.specs.List.{All}
 use Rattle.toml.specs.Data.{Data, array, no_items, item, Members, get_member, as_str, as_integer, as_table}
 use Rattle.sq_tables.specs.declared.raw.RawSource.{RawSource}
 use Rattle.sq_tables.specs.declared.raw.Setting.{Setting}
+use Rattle.sq_tables.specs.declared.raw.Over.{Over}
+use Rattle.sq_tables.specs.declared.raw.Over.TheVariants.{Sum, Avg, Min, Max, First, Last}
+use Rattle.sq_tables.specs.declared.raw.Told.TheVariants.{Count, Field}
+use Rattle.sq_tables.specs.declared.raw.Giving.{Giving}
 use Rattle.sq_tables.specs.declared.raw.RawBody.{RawBody}
-use Rattle.sq_tables.specs.declared.raw.RawBody.TheVariants.{Filter, Map, Union}
+use Rattle.sq_tables.specs.declared.raw.RawBody.TheVariants.{Filter, Map, Union, BSort, Aggregate, Join}
 use Rattle.sq_tables.specs.declared.raw.RawBox.{RawBox}
 use Rattle.sq_tables.specs.declared.raw.RawOutput.{RawOutput}
 use Rattle.sq_tables.specs.declared.raw.Raw.{Raw}
@@ -54,6 +58,36 @@ abbrev pub setting_in : Data → Option Setting
 setting_in (array (item a (item b no_items))) = as_str a >>= λ name. as_str b >>= λ text. Some (record { name = name; text = text })
 setting_in d = None
 
+-- a function, by its name
+abbrev pub over_named : List ℕ → Option Over
+over_named word =
+    if same_bytes word (codes "sum") then Some Sum
+    else (if same_bytes word (codes "avg") then Some Avg
+    else (if same_bytes word (codes "min") then Some Min
+    else (if same_bytes word (codes "max") then Some Max
+    else (if same_bytes word (codes "first") then Some First
+    else (if same_bytes word (codes "last") then Some Last else None)))))
+
+abbrev pub counting_in : Data → Data → Option Giving
+counting_in a b = do
+  name ← as_str a
+  word ← as_str b
+  when (same_bytes word (codes "count")) (record { name = name; told = Count })
+
+abbrev pub function_in : Data → Data → Data → Option Giving
+function_in a b c = do
+  name ← as_str a
+  word ← as_str b
+  field ← as_str c
+  over ← over_named word
+  Some (record { name = name; told = Field over field })
+
+-- an entry of `give`: a list of a name and `count`, or of a name, a function and a field
+abbrev pub giving_in : Data → Option Giving
+giving_in (array (item a (item b no_items))) = counting_in a b
+giving_in (array (item a (item b (item c no_items)))) = function_in a b c
+giving_in d = None
+
 -- the keys of each box, whatever it does
 abbrev pub box_keys : List (List ℕ)
 box_keys = codes "name" ∷ codes "kind" ∷ codes "in" ∷ codes "cost" ∷ codes "selectivity" ∷ []
@@ -75,12 +109,38 @@ union_in ms = do
   _keys ← when (has_only box_keys ms) true
   Some Union
 
+abbrev pub bsort_in : Members → Option RawBody
+bsort_in ms = do
+  _keys ← when (has_only (codes "by" ∷ codes "slack" ∷ box_keys) ms) true
+  by ← required as_str (get_member (codes "by") ms)
+  slack ← required as_integer (get_member (codes "slack") ms)
+  Some (BSort by slack)
+
+abbrev pub aggregate_in : Members → Option RawBody
+aggregate_in ms = do
+  _keys ← when (has_only (codes "size" ∷ codes "advance" ∷ codes "group" ∷ codes "give" ∷ box_keys) ms) true
+  size ← required as_integer (get_member (codes "size") ms)
+  advance ← required as_integer (get_member (codes "advance") ms)
+  group ← optional [] (list_in as_str) (get_member (codes "group") ms)
+  give ← required (list_in giving_in) (get_member (codes "give") ms)
+  Some (Aggregate size advance group give)
+
+abbrev pub join_in : Members → Option RawBody
+join_in ms = do
+  _keys ← when (has_only (codes "size" ∷ codes "on" ∷ box_keys) ms) true
+  size ← required as_integer (get_member (codes "size") ms)
+  on ← required as_str (get_member (codes "on") ms)
+  Some (Join size on)
+
 -- what a box of a kind does
 abbrev pub body_in : List ℕ → Members → Option RawBody
 body_in kind ms =
     if same_bytes kind (codes "filter") then filter_in ms
     else (if same_bytes kind (codes "map") then map_in ms
-    else (if same_bytes kind (codes "union") then union_in ms else None))
+    else (if same_bytes kind (codes "union") then union_in ms
+    else (if same_bytes kind (codes "bsort") then bsort_in ms
+    else (if same_bytes kind (codes "aggregate") then aggregate_in ms
+    else (if same_bytes kind (codes "join") then join_in ms else None)))))
 
 abbrev pub ports_of : RawBody → ℕ
 ports_of (Filter preds) = length preds + 1

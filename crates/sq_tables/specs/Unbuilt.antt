@@ -1,22 +1,15 @@
--- The parts of a file that are no fault, but aren't read yet: boxes of three kinds, and outputs with a weight or a graph.
+-- The parts of a file that are no fault, but aren't read yet: outputs with a weight or a graph.
 use Rattle.std.specs.Prelude.{ℕ, ◌+◌, Bool, false, ◌||◌, is_some, if◌then◌else◌, List, Option, Some, None, option_map, codes}
-use Rattle.sq_value.specs.Lists.{same_bytes}
-use Rattle.toml.specs.Data.{Data, Items, no_items, item, Members, get_member, as_str, as_array, as_table}
+use Rattle.toml.specs.Data.{Data, Items, no_items, item, Members, get_member, as_array, as_table}
 use Rattle.sq_net.specs.declared.Part.TheVariants as part
 use Rattle.sq_net.specs.declared.Place.{Place}
 use Rattle.sq_tables.specs.Documents.{◌>>=◌}
-use Rattle.sq_tables.specs.Places.{place_of, or_else}
+use Rattle.sq_tables.specs.Places.{place_of}
 
 -- whether something is there and passes a test
 abbrev pub passes : {A : Type 0} → (A → Bool) → Option A → Bool
 passes p None = false
 passes p (Some x) = p x
-
-abbrev pub is_unbuilt_kind : List ℕ → Bool
-is_unbuilt_kind w = same_bytes w (codes "bsort") || same_bytes w (codes "aggregate") || same_bytes w (codes "join")
-
-abbrev pub is_unbuilt_box : Data → Bool
-is_unbuilt_box d = passes is_unbuilt_kind (as_table d >>= λ ms. get_member (codes "kind") ms >>= as_str)
 
 abbrev pub has_key : List ℕ → Members → Bool
 has_key key ms = is_some (get_member key ms)
@@ -37,8 +30,6 @@ items_or_none (Some ds) = ds
 abbrev pub items_at : List ℕ → Members → Items
 items_at key ms = items_or_none (get_member key ms >>= as_array)
 
--- the first such box, else the first such output
+-- the first such output
 abbrev pub unbuilt_place : Members → Option Place
-unbuilt_place ms = or_else
-    (option_map (place_of part.Box) (first_item is_unbuilt_box 0 (items_at (codes "box") ms)))
-    (option_map (place_of part.Output) (first_item is_unbuilt_output 0 (items_at (codes "output") ms)))
+unbuilt_place ms = option_map (place_of part.Output) (first_item is_unbuilt_output 0 (items_at (codes "output") ms))

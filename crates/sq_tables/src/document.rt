@@ -1,4 +1,4 @@
-// What the tables of a TOML document hold, by the kinds that are wanted. Nothing else speaks of TOML's own values.
+// What the tables of a TOML document hold, by the kinds that are wanted.
 ghost use Rattle.std.specs.Prelude.{◌≡◌, [], false, Some, None, IfOk, IfErr, codes, map, option_map, replicate, string_bytes};
 ghost use Rattle.std.specs.List.{list_all, list_any};
 ghost use Rattle.std.specs.BTreeMap.{keys};
@@ -86,7 +86,7 @@ pub(crate) fn has_only(table: &Table, known: &[&str]) -> bool
     all_known(table, known)
 }
 
-fn text_in(alloc: Global, value: &Value) -> Result<Name, Unread>
+pub(crate) fn text_in(alloc: Global, value: &Value) -> Result<Name, Unread>
     ensures { Reads result (as_str (view value.now)) }
 {
     match value.as_str() {
@@ -105,8 +105,18 @@ pub(crate) fn text_at(alloc: Global, table: &Table, key: &str) -> Result<Name, U
     }
 }
 
+/// The number at a key.
+pub(crate) fn number_at(table: &Table, key: &str) -> Result<i64, Unread>
+    ensures { Reads result (required as_integer (get_member key.now (table_view table.now))) }
+{
+    match value_at(table, key) {
+        Some(value) => value.as_integer().ok_or(Unread::Shape),
+        None => Err(Unread::Shape),
+    }
+}
+
 /// The number at a key, or this one where the key isn't there.
-pub(crate) fn number_at(table: &Table, key: &str, default: i64) -> Result<i64, Unread>
+pub(crate) fn number_or(table: &Table, key: &str, default: i64) -> Result<i64, Unread>
     ensures { Reads result (optional default as_integer (get_member key.now (table_view table.now))) }
 {
     match value_at(table, key) {
@@ -128,19 +138,35 @@ fn texts_among(alloc: Global, items: &Array) -> Result<Option<Vec<Name>>, AllocE
     Ok(Some(found))
 }
 
-/// The list of texts at a key.
-pub(crate) fn texts_at(alloc: Global, table: &Table, key: &str) -> Result<ListOf<Name>, Unread>
-    ensures { Reads result (required (list_in as_str) (get_member key.now (table_view table.now))) }
+fn texts_in(alloc: Global, value: &Value) -> Result<ListOf<Name>, Unread>
+    ensures { Reads result (list_in as_str (view value.now)) }
 {
-    let Some(value) = value_at(table, key) else {
-        return Err(Unread::Shape);
-    };
     let Some(items) = value.as_array() else {
         return Err(Unread::Shape);
     };
     match texts_among(alloc, items)? {
         Some(texts) => Ok(ListOf::new(texts)),
         None => Err(Unread::Shape),
+    }
+}
+
+/// The list of texts at a key.
+pub(crate) fn texts_at(alloc: Global, table: &Table, key: &str) -> Result<ListOf<Name>, Unread>
+    ensures { Reads result (required (list_in as_str) (get_member key.now (table_view table.now))) }
+{
+    match value_at(table, key) {
+        Some(value) => texts_in(alloc, value),
+        None => Err(Unread::Shape),
+    }
+}
+
+/// The list of texts at a key, or none where the key isn't there.
+pub(crate) fn any_texts_at(alloc: Global, table: &Table, key: &str) -> Result<ListOf<Name>, Unread>
+    ensures { Reads result (optional [] (list_in as_str) (get_member key.now (table_view table.now))) }
+{
+    match value_at(table, key) {
+        Some(value) => texts_in(alloc, value),
+        None => Ok(ListOf::new(Vec::new(alloc))),
     }
 }
 

@@ -2,7 +2,8 @@
 //!
 //! The contract of `raw_of` promises the tables that the file says, with a selectivity for each port of each box, where the
 //! file is a document of version 1 whose tables have their shape, and else the first broken rule with its first place; want of
-//! memory aside. Below stand the refusals of the typed network, and `toml`, whose values one module alone reads.
+//! memory aside. A document that asks for what isn't built yet, a weight or a graph of an output, is refused before its shape
+//! is looked at. Below stand the refusals of the typed network, and `toml`.
 #![tactic(auto)]
 
 ghost use Rattle.std.specs.Prelude.{◌≡◌, IfOk};
@@ -12,9 +13,12 @@ ghost use Rattle.sq_tables.specs.Refusals.{Answers};
 ghost use Rattle.sq_tables.specs.Shapes.{AreEven};
 
 mod document;
+mod giving;
 mod raw;
 mod reading;
 mod shape;
+#[cfg(test)]
+mod tests;
 mod unbuilt;
 
 use document::{Table, value_at};
@@ -48,7 +52,6 @@ fn raw_from(alloc: Global, table: &Table) -> Result<Raw, NetErr>
 }
 
 /// The tables that a file's bytes say, or the first rule that they break, with its first place.
-#[tactic(auto, using(crate::proofs::EvenLemmas::raw_even))]
 pub fn raw_of(alloc: Global, bytes: &[u8]) -> Result<Raw, NetErr>
     ensures answer { Answers result (raw_of bytes.now) }
     ensures even { IfOk result AreEven }

@@ -2,13 +2,14 @@
 ghost use Rattle.std.specs.Prelude.{◌≡◌, IfOk, IfErr, map};
 ghost use Rattle.toml.specs.View.{table_view};
 ghost use Rattle.sq_tables.specs.Readings.{IsUnread, Reads};
-ghost use Rattle.sq_tables.specs.Shapes.{Tables, body_in, box_in, filter_in, map_in, output_in, ports_of, source_in, top_in, union_in};
+ghost use Rattle.sq_tables.specs.Shapes.{Tables, aggregate_in, body_in, box_in, bsort_in, filter_in, join_in, map_in, output_in, ports_of, source_in, top_in, union_in};
 ghost use Rattle.sq_tables.specs.ShapesSeen.{tables_seen};
 
 use crate::document::{
-    Table, Unread, any_tables_at, has_only, number_at, selectivity_at, settings_at, tables_at,
-    text_at, texts_at,
+    Table, Unread, any_tables_at, any_texts_at, has_only, number_at, number_or, selectivity_at,
+    settings_at, tables_at, text_at, texts_at,
 };
+use crate::giving::givings_at;
 use crate::raw::{RawBody, RawBox, RawOutput, RawSource};
 use sq_value::same_text;
 use std::alloc::Global;
@@ -33,8 +34,8 @@ pub(crate) fn top_in<'a>(alloc: Global, table: &'a Table) -> Result<TopTables<'a
     ) {
         return Err(Unread::Shape);
     }
-    let epoch = number_at(table, "epoch", 1000)?;
-    let batch = number_at(table, "batch", 1)?;
+    let epoch = number_or(table, "epoch", 1000)?;
+    let batch = number_or(table, "batch", 1)?;
     let sources = tables_at(alloc, table, "source")?;
     let boxes = any_tables_at(alloc, table, "box")?;
     let outputs = tables_at(alloc, table, "output")?;
@@ -102,6 +103,65 @@ fn union_in(table: &Table) -> Result<RawBody, Unread>
     Ok(RawBody::Union)
 }
 
+fn bsort_in(alloc: Global, table: &Table) -> Result<RawBody, Unread>
+    ensures { Reads result (bsort_in (table_view table.now)) }
+{
+    if !has_only(
+        table,
+        &["by", "slack", "name", "kind", "in", "cost", "selectivity"],
+    ) {
+        return Err(Unread::Shape);
+    }
+    let by = text_at(alloc, table, "by")?;
+    let slack = number_at(table, "slack")?;
+    Ok(RawBody::BSort { by, slack })
+}
+
+fn aggregate_in(alloc: Global, table: &Table) -> Result<RawBody, Unread>
+    ensures { Reads result (aggregate_in (table_view table.now)) }
+{
+    if !has_only(
+        table,
+        &[
+            "size",
+            "advance",
+            "group",
+            "give",
+            "name",
+            "kind",
+            "in",
+            "cost",
+            "selectivity",
+        ],
+    ) {
+        return Err(Unread::Shape);
+    }
+    let size = number_at(table, "size")?;
+    let advance = number_at(table, "advance")?;
+    let group = any_texts_at(alloc, table, "group")?;
+    let give = givings_at(alloc, table)?;
+    Ok(RawBody::Aggregate {
+        size,
+        advance,
+        group,
+        give,
+    })
+}
+
+fn join_in(alloc: Global, table: &Table) -> Result<RawBody, Unread>
+    ensures { Reads result (join_in (table_view table.now)) }
+{
+    if !has_only(
+        table,
+        &["size", "on", "name", "kind", "in", "cost", "selectivity"],
+    ) {
+        return Err(Unread::Shape);
+    }
+    let size = number_at(table, "size")?;
+    let on = text_at(alloc, table, "on")?;
+    Ok(RawBody::Join { size, on })
+}
+
 fn body_in(alloc: Global, table: &Table, kind: &str) -> Result<RawBody, Unread>
     ensures { Reads result (body_in kind.now (table_view table.now)) }
 {
@@ -114,6 +174,15 @@ fn body_in(alloc: Global, table: &Table, kind: &str) -> Result<RawBody, Unread>
     if same_text(kind, "union") {
         return union_in(table);
     }
+    if same_text(kind, "bsort") {
+        return bsort_in(alloc, table);
+    }
+    if same_text(kind, "aggregate") {
+        return aggregate_in(alloc, table);
+    }
+    if same_text(kind, "join") {
+        return join_in(alloc, table);
+    }
     Err(Unread::Shape)
 }
 
@@ -123,7 +192,11 @@ pub fn ports_of(body: &RawBody) -> usize
 {
     match body {
         RawBody::Filter { preds } => preds.as_slice().len() + 1,
-        RawBody::Map { .. } | RawBody::Union => 1,
+        RawBody::Map { .. }
+        | RawBody::Union
+        | RawBody::BSort { .. }
+        | RawBody::Aggregate { .. }
+        | RawBody::Join { .. } => 1,
     }
 }
 
@@ -134,7 +207,7 @@ pub(crate) fn box_in(alloc: Global, table: &Table) -> Result<RawBox, Unread>
     let body = body_in(alloc, table, kind.as_str())?;
     let name = text_at(alloc, table, "name")?;
     let ins = texts_at(alloc, table, "in")?;
-    let cost = number_at(table, "cost", 1)?;
+    let cost = number_or(table, "cost", 1)?;
     let ports = ports_of(&body);
     let selectivity = selectivity_at(alloc, table, ports)?;
     if selectivity.as_slice().len() != ports {

@@ -4,11 +4,10 @@ ghost use Rattle.sq_net.specs.declared.NetErr.TheVariants as broken;
 ghost use Rattle.sq_net.specs.declared.Part.TheVariants as part;
 ghost use Rattle.toml.specs.View.{view, table_view, array_view};
 ghost use Rattle.sq_tables.specs.Places.{place_of};
-ghost use Rattle.sq_tables.specs.Unbuilt.{first_item, is_unbuilt_box, is_unbuilt_kind, is_unbuilt_output, items_at, unbuilt_place};
+ghost use Rattle.sq_tables.specs.Unbuilt.{first_item, is_unbuilt_output, items_at, unbuilt_place};
 
 use crate::document::{Array, Table, Value, value_at};
 use sq_net::{NetErr, Part, Place};
-use sq_value::same_text;
 
 /// The place of a part, by its number; a number past 32 bits, which no file that fits in memory has, counts as want of
 /// memory.
@@ -26,27 +25,6 @@ pub(crate) fn place_of(part: Part, number: usize) -> Result<Place, NetErr>
     }
 }
 
-fn is_unbuilt_kind(kind: &str) -> bool
-    ensures { result ≡ is_unbuilt_kind kind.now }
-{
-    same_text(kind, "bsort") || same_text(kind, "aggregate") || same_text(kind, "join")
-}
-
-fn is_unbuilt_box(value: &Value) -> bool
-    ensures { result ≡ is_unbuilt_box (view value.now) }
-{
-    let Some(table) = value.as_table() else {
-        return false;
-    };
-    let Some(kind) = value_at(table, "kind") else {
-        return false;
-    };
-    match kind.as_str() {
-        Some(kind) => is_unbuilt_kind(kind),
-        None => false,
-    }
-}
-
 fn is_unbuilt_output(value: &Value) -> bool
     ensures { result ≡ is_unbuilt_output (view value.now) }
 {
@@ -54,17 +32,6 @@ fn is_unbuilt_output(value: &Value) -> bool
         Some(table) => value_at(table, "weight").is_some() || value_at(table, "graph").is_some(),
         None => false,
     }
-}
-
-fn first_unbuilt_box(items: &Array) -> Option<usize>
-    ensures { result ≡ first_item is_unbuilt_box 0 (array_view items.now) }
-{
-    for (number, item) in items.iter().enumerate() {
-        if is_unbuilt_box(item) {
-            return Some(number);
-        }
-    }
-    None
 }
 
 fn first_unbuilt_output(items: &Array) -> Option<usize>
@@ -76,18 +43,6 @@ fn first_unbuilt_output(items: &Array) -> Option<usize>
         }
     }
     None
-}
-
-fn unbuilt_box(table: &Table) -> Option<usize>
-    ensures { result ≡ first_item is_unbuilt_box 0 (items_at (codes "box") (table_view table.now)) }
-{
-    let Some(boxes) = value_at(table, "box") else {
-        return None;
-    };
-    match boxes.as_array() {
-        Some(boxes) => first_unbuilt_box(boxes),
-        None => None,
-    }
 }
 
 fn unbuilt_output(table: &Table) -> Option<usize>
@@ -102,16 +57,13 @@ fn unbuilt_output(table: &Table) -> Option<usize>
     }
 }
 
-/// The first box of a kind that isn't built yet, else the first output with a weight or a graph.
+/// The first output with a weight or a graph.
 pub(crate) fn unbuilt_place(table: &Table) -> Result<Option<Place>, NetErr>
     ensures ok { IfOk result (λ o. o ≡ unbuilt_place (table_view table.now)) }
     ensures err { IfErr result (λ e. e ≡ broken.Memory) }
 {
-    if let Some(number) = unbuilt_box(table) {
-        return Ok(Some(place_of(Part::Box, number)?));
+    match unbuilt_output(table) {
+        Some(number) => Ok(Some(place_of(Part::Output, number)?)),
+        None => Ok(None),
     }
-    if let Some(number) = unbuilt_output(table) {
-        return Ok(Some(place_of(Part::Output, number)?));
-    }
-    Ok(None)
 }

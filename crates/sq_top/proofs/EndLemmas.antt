@@ -1,13 +1,13 @@
 -- How a run ends.
-use Rattle.std.proofs.Common.{◌≡◌, ◌≢◌, ◌⊎◌, inl, inr, ℕ, ◌+◌, ◌≤◌, Bool, true, false, not, ◌&&◌, List, [], ◌∷◌, ◌++◌, length, refl, ap, sym, ◌∙◌, subst, arith, append-nil, Option, None, Some}
-use Rattle.std.specs.Prelude.{⊤, map, nat_lt, IsSome, Result, Ok, Err, codes}
+use Rattle.std.proofs.Common.{◌≡◌, ◌≢◌, ◌⊎◌, inl, inr, ℕ, ◌+◌, ◌≤◌, Bool, true, false, not, ◌&&◌, List, [], ◌∷◌, ◌++◌, length, refl, ap, sym, ◌∙◌, subst, arith, append_assoc, append-nil, Option, None, Some}
+use Rattle.std.specs.Prelude.{⊤, map, nat_lt, if◌then◌else◌, IsSome, Result, Ok, Err, codes}
 use Rattle.std.specs.Fmt.{decimal}
-use Rattle.std.specs.List.{AllByRecursion, list_all, list_any, zip}
+use Rattle.std.specs.List.{AllByRecursion, flat_map, list_all, list_any, zip}
 use Rattle.std.proofs.lemmas.Bool.Decides.{nat_tests}
 use Rattle.std.proofs.lemmas.List.Elements.{recursion_from_All}
 use Rattle.sq_value.specs.declared.Tuple.{Tuple}
 use Rattle.sq_value.specs.Lists.{contains_bytes}
-use Rattle.sq_value.specs.LineTexts.{line_of, needs_quotes, output_line, end_line}
+use Rattle.sq_value.specs.LineTexts.{line_of, needs_quotes, output_line, late_line, end_line}
 use Rattle.sq_value.specs.Texts.{text_of}
 use Rattle.sq_value.proofs.RowLemmas.{first_field-line_of, is_line-line_of}
 use Rattle.sq_outside.specs.Faults.{Rose}
@@ -21,9 +21,11 @@ use Rattle.sq_net.specs.declared.Node.{Node}
 use Rattle.sq_net.specs.declared.Output.{Output}
 use Rattle.sq_net.specs.Names.{has_name_form, is_lower, is_name, may_follow, reserved}
 use Rattle.sq_net.specs.Sound as sound
-use Rattle.sq_reader.specs.Documents.{document_in}
-use Rattle.sq_reader.specs.Networks.{network_from, network_in}
-use Rattle.sq_reader.specs.Rawly.{or_broken, ◌>>=◌}
+use Rattle.sq_tables.specs.Documents.{document_in}
+use Rattle.sq_tables.specs.Rawly.{or_broken, raw_from, raw_of}
+use Rattle.sq_tables.proofs.ShapedLemmas.{first_step}
+use Rattle.sq_tables.proofs.EvenLemmas.{answer_even}
+use Rattle.sq_reader.specs.Networks.{network_in, typed_network}
 use Rattle.sq_reader.proofs.SoundLemmas.{read_sound}
 use Rattle.sq_replay.specs.declared.why.Why.{Why}
 use Rattle.sq_replay.specs.Streams.{stream_in}
@@ -34,7 +36,7 @@ use Rattle.sq_top.specs.declared.Command.TheVariants as command
 use Rattle.sq_top.specs.declared.Status.{Status}
 use Rattle.sq_top.specs.declared.Status.TheVariants as status
 use Rattle.sq_top.specs.Commands.{command_in}
-use Rattle.sq_top.specs.Due.{all_text, due_from, due_of, fed_line, feds_from, shown_from}
+use Rattle.sq_top.specs.Due.{all_text, due_from, due_of, ended_from, fed_line, feds_from, is_sorter, late_lines, lates_from, shown_from}
 use Rattle.sq_top.specs.Answers.{IsPrefixText, IsWholeText}
 use Rattle.sq_top.specs.Writing.{IsLost}
 use Rattle.sq_top.specs.Scripts.{Lookup, Replay, Script, Done, accepted, after_network, after_stream, after_streams, after_words, go_on, outcome_of, readable, settings_limit, stream_limit}
@@ -98,10 +100,29 @@ module _ (streams : List (List Tuple)) where
   outputs_shown (o ∷ os) [] named = tt
   outputs_shown (o ∷ os) (s ∷ ss) named = (lines_shown o.name (nth streams s) named.0, outputs_shown os ss named.1)
 
-boxes_ended : (bs : List Node) (fed : List ℕ) → AllByRecursion IsEndLine (map fed_line (zip bs fed) ++ end_line ∷ [])
-boxes_ended [] fed = (end_line_of (codes "end") [] refl refl, tt)
-boxes_ended (b ∷ bs) [] = (end_line_of (codes "end") [] refl refl, tt)
-boxes_ended (b ∷ bs) (k ∷ fed) = (end_line_of (codes "box") (b.name ∷ decimal k ∷ []) refl refl, boxes_ended bs fed)
+-- the box lines, the late lines and the last one
+module _ (rest : List (List ℕ)) (rest_ends : AllByRecursion IsEndLine rest) where
+  boxes_ended : (bs : List Node) (fed : List ℕ) → AllByRecursion IsEndLine (map fed_line (zip bs fed) ++ rest)
+  boxes_ended [] fed = rest_ends
+  boxes_ended (b ∷ bs) [] = rest_ends
+  boxes_ended (b ∷ bs) (k ∷ fed) = (end_line_of (codes "box") (b.name ∷ decimal k ∷ []) refl refl, boxes_ended bs fed)
+
+  late_ended : (sorter : Bool) (name : List ℕ) (k : ℕ) (more : List (List ℕ)) → AllByRecursion IsEndLine more
+      → AllByRecursion IsEndLine ((if sorter then late_line name k ∷ [] else []) ++ more)
+  late_ended true name k more ends = (end_line_of (codes "late") (name ∷ decimal k ∷ []) refl refl, ends)
+  late_ended false name k more ends = ends
+
+  lates_ended : (bs : List Node) (late : List ℕ) → AllByRecursion IsEndLine (flat_map late_lines (zip bs late) ++ rest)
+  lates_ended [] late = rest_ends
+  lates_ended (b ∷ bs) [] = rest_ends
+  lates_ended (b ∷ bs) (k ∷ late) =
+      rw (append_assoc (late_lines (b, k)) (flat_map late_lines (zip bs late)) rest)
+      (late_ended (is_sorter b.body) b.name k (flat_map late_lines (zip bs late) ++ rest) (lates_ended bs late))
+
+all_ended : (n : Network) (streams : List (List Tuple)) → AllByRecursion IsEndLine (ended_from n streams)
+all_ended n streams =
+    boxes_ended (flat_map late_lines (zip n.boxes (lates_from n streams)) ++ end_line ∷ [])
+    (lates_ended (end_line ∷ []) (end_line_of (codes "end") [] refl refl, tt) n.boxes (lates_from n streams)) n.boxes (feds_from n streams)
 
 -- what is due of a sound network can be told apart by its classes
 pub due_is_sound : (n : Network) (streams : List (List Tuple)) → sound.IsSound n → IsSound (due_from n streams)
@@ -110,7 +131,7 @@ due_is_sound n streams is =
     record {
       names = names_plain streams n.outputs n.wires.outputs named;
       shown = outputs_shown streams n.outputs n.wires.outputs named;
-      ended = boxes_ended n.boxes (feds_from n streams);
+      ended = all_ended n streams;
     }
 
 -- what is accepted is the network of the file
@@ -150,13 +171,11 @@ command_ok : (files : Lookup) (o : Option Command) (r : Replay) → outcome_of f
 command_ok files None r e = absurd (cc)
 command_ok files (Some (command.Run args)) r e = network_file_ok files (readable args.net settings_limit (files args.net)) r e
 
-said_by : {A : Type 0} (o : Option A) (f : A → Result Network NetErr) (n : Network) → ((x : A) → f x ≡ Ok n → sound.IsSound n)
-    → (or_broken net.Toml o >>= f) ≡ Ok n → sound.IsSound n
-said_by None f n then_sound e = absurd (cc)
-said_by (Some x) f n then_sound e = then_sound x e
-
 said_sound : (bytes : List ℕ) (n : Network) → network_in bytes ≡ Ok n → sound.IsSound n
-said_sound bytes n e = said_by (document_in bytes) network_from n (λ ms h. read_sound ms n h) e
+said_sound bytes n e =
+    let tables = first_step (raw_of bytes) typed_network n e in
+    let document = first_step (or_broken net.Toml (document_in bytes)) raw_from tables.0 tables.1.0 in
+    read_sound tables.0 n (answer_even document.0 (Ok tables.0) document.1.1) tables.1.1
 
 pub accepted_is_sound : (files : Lookup) (words : List (List ℕ)) (r : Replay) → accepted files words ≡ Ok r → IsSound (due_of r)
 accepted_is_sound files words r e =

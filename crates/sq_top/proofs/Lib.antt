@@ -4,3 +4,4 @@ mod Rows
 pub mod SortedLines
 pub mod StoppedLemmas
 pub mod WritingLemmas
+pub mod SourceLemmas

@@ -1,5 +1,5 @@
 -- Worked rows, by evaluation.
-use Rattle.std.proofs.Common.{◌≡◌, ℕ, List, [], ◌∷◌, refl, pos}
+use Rattle.std.proofs.Common.{◌≡◌, ℕ, List, [], ◌∷◌, map, refl, pos}
 use Rattle.std.specs.Prelude.{Some, None, Ok, Err, codes}
 use Rattle.std.specs.Fmt.{digits}
 use Rattle.std.specs.Str.{is_utf8, chars}
@@ -7,16 +7,18 @@ use Rattle.std.specs.Char.{encode_utf8}
 use Rattle.sq_value.specs.declared.Tuple.{Tuple}
 use Rattle.sq_value.specs.declared.Kind.TheVariants as kind
 use Rattle.sq_value.specs.declared.Value.TheVariants as value
+use Rattle.sq_value.specs.Lists.{numbers_to}
 use Rattle.sq_value.specs.Classes.{Ended, Shown, of_class}
 use Rattle.sq_expr.specs.declared.What.TheVariants as what
 use Rattle.sq_graph.specs.declared.BoxKind.TheVariants as boxes
-use Rattle.sq_net.specs.declared.Body.TheVariants.{Union}
+use Rattle.sq_aggfn.specs.declared.Func.{Func}
+use Rattle.sq_aggfn.specs.declared.Func.TheVariants as func
+use Rattle.sq_net.specs.declared.Body.TheVariants.{Union, BSort, Aggregate}
 use Rattle.sq_net.specs.declared.Network.{Network}
 use Rattle.sq_net.specs.declared.NetErr.TheVariants as net
 use Rattle.sq_net.specs.declared.Node.{Node}
 use Rattle.sq_net.specs.declared.Output.{Output}
 use Rattle.sq_net.specs.declared.Part.TheVariants as part
-use Rattle.sq_net.specs.declared.Place.{Place}
 use Rattle.sq_net.specs.declared.Source.{Source}
 use Rattle.sq_replay.specs.declared.why.Why.TheVariants as why
 use Rattle.sq_model.specs.Fed.{work_of}
@@ -75,6 +77,54 @@ ended_is = refl
 -- five at the box and five at the output
 work_is : work_of network replay.1 ≡ 10
 work_is = refl
+
+-- a BSort that has no room: what comes too late has a line of its own
+abbrev sort_box : Node
+sort_box = record { name = codes "bs"; body = BSort 0 0; schemas = ((codes "at", kind.Int) ∷ []) ∷ []; cost = 1; selectivity = 1000 ∷ [] }
+
+abbrev sorted : Replay
+sorted = (
+  record {
+    epoch = 1000;
+    batch = 1;
+    wires = record { sources = 1; boxes = record { kind = boxes.BSort; inputs = 0 ∷ []; ports = 1 } ∷ []; outputs = 1 ∷ [] };
+    sources = record { name = codes "s"; file = codes "s.csv"; schema = (codes "at", kind.Int) ∷ [] } ∷ [];
+    boxes = sort_box ∷ [];
+    outputs = output ∷ [];
+  },
+  (at 5 3 ∷ at 6 1 ∷ at 7 2 ∷ []) ∷ [],
+)
+
+late_is : all_text (due_of sorted) ≡ codes "o,3,3\n@box,bs,3\n@late,bs,2\n@end\n"
+unfolding digits
+late_is = refl
+
+-- an Aggregate of an Aggregate: 16 and 8 steps at the boxes, and 4 at the output
+abbrev window_box : List ℕ → Func → ℕ → Node
+window_box name f advance = record {
+  name = name;
+  body = Aggregate (f ∷ []) [] (record { size = 4; advance = advance });
+  schemas = ((codes "t", kind.Int) ∷ []) ∷ [];
+  cost = 1;
+  selectivity = 1000 ∷ [];
+}
+
+abbrev nested : Network
+nested = record {
+  epoch = 4;
+  batch = 1;
+  wires = record {
+    sources = 1;
+    boxes = record { kind = boxes.Aggregate; inputs = 0 ∷ []; ports = 1 } ∷ record { kind = boxes.Aggregate; inputs = 1 ∷ []; ports = 1 } ∷ [];
+    outputs = 2 ∷ [];
+  };
+  sources = source (codes "s") (codes "s.csv") ∷ [];
+  boxes = window_box (codes "a1") (func.Sum 0) 2 ∷ window_box (codes "a2") (func.Max 0) 4 ∷ [];
+  outputs = output ∷ [];
+}
+
+nested_work : work_of nested (map (λ t. at t t) (numbers_to 16) ∷ []) ≡ 28
+nested_work = refl
 
 cycle_is : message_of [] (status.BadNetwork (net.Cycle (record { part = part.Box; number = 0; item = 0 }))) ≡ codes "aurora: network: Cycle box 0 0\n"
 unfolding digits

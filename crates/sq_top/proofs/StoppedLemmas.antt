@@ -1,5 +1,5 @@
 -- How a run stops before anything is replayed.
-use Rattle.std.proofs.Common.{◌≡◌, ◌≢◌, ◌⊎◌, inl, inr, ℕ, ◌+◌, ◌<◌, ◌≤◌, Bool, true, false, ◌&&◌, ◌||◌, List, [], ◌∷◌, ◌++◌, length, drop, get_or, refl, ap, sym, ◌∙◌, subst, arith, Option, None, Some}
+use Rattle.std.proofs.Common.{◌≡◌, ◌≢◌, ◌⊎◌, inl, inr, ℕ, ◌+◌, ◌<◌, ◌≤◌, Bool, true, false, ◌||◌, List, [], ◌∷◌, ◌++◌, length, drop, get_or, refl, ap, sym, ◌∙◌, subst, arith, Option, None, Some}
 use Rattle.std.specs.Prelude.{⊤, nat_lt, IsSome, IsSomeAnd, slice_get, Result, Ok, Err}
 use Rattle.std.proofs.lemmas.Bool.Decides.{nat_tests}
 use Rattle.std.proofs.lemmas.List.{drop_more}
@@ -20,13 +20,13 @@ use Rattle.sq_net.specs.declared.Network.{Network}
 use Rattle.sq_net.specs.declared.Source.{Source}
 use Rattle.sq_net.specs.Sound.{IsSound, is_between}
 use Rattle.sq_reader.specs.Networks.{network_in}
-use Rattle.sq_reader.specs.Refusals.{is_memory}
+use Rattle.sq_tables.specs.Refusals.{is_memory}
 use Rattle.sq_replay.specs.declared.why.Why.{Why}
 use Rattle.sq_replay.specs.Streams.{stream_in}
 use Rattle.sq_top.specs.Commands.{command_in}
 use Rattle.sq_top.specs.Messages.{name_at, name_in, network_named, source_name}
 use Rattle.sq_top.specs.Scripts.{Script, Reads, Done, Stops, Lookup, Replay, accepted, after_network, after_stream, after_streams, after_words, go_on, outcome_of, readable, reads_of, script_of, settings_limit, stream_limit}
-use Rattle.sq_top.specs.Causes.{AreBytesOf, HasFailedAt, HasNoStream, HasNoStreams, IsBadLine, IsNoCommand, IsRefusedBy, IsStopped, IsStreamOf, IsUnread, Leads, LeadsWhereTold, MatchAccepted, NamesSource, RefusalHasCause, WhereTold, is_network}
+use Rattle.sq_top.specs.Causes.{AreBytesOf, HasFailedAt, HasNoStream, HasNoStreams, IsNoCommand, IsRefusedBy, IsStopped, IsStreamOf, IsUnread, Leads, LeadsWhereTold, MatchAccepted, NamesSource, RefusalHasCause, WhereTold, is_network}
 use Rattle.sq_top.proofs.SortedLines.{and-true}
 
 match_any : (r : Result Replay Status) (P : Replay → Type 0) (Q : Status → Type 0) → ((x : Replay) → P x) → ((s : Status) → Q s) → MatchAccepted r P Q

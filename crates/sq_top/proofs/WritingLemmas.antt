@@ -1,5 +1,5 @@
 -- Text that is written piece by piece.
-use Rattle.std.proofs.Common.{◌≡◌, ℕ, ◌+◌, ◌<◌, ◌≤◌, List, [], ◌∷◌, ◌++◌, length, take, drop, get_or, refl, ap, sym, ◌∙◌, subst, arith, append_assoc, append-nil, Option, None, Some}
+use Rattle.std.proofs.Common.{◌≡◌, ℕ, ◌+◌, ◌<◌, ◌≤◌, List, [], ◌∷◌, ◌++◌, length, take, drop, get_or, refl, ap, ap₂, sym, ◌∙◌, subst, arith, append_assoc, append-nil, Option, None, Some}
 use Rattle.std.specs.Prelude.{map, Result, Ok, Err, OnOk, OnErr}
 use Rattle.std.specs.List.{flat_map, sum_by, zip}
 use Rattle.std.proofs.lemmas.List.{get_or_default, length-map, take_all, take-append-drop, take_more}
@@ -15,8 +15,8 @@ use Rattle.sq_net.specs.declared.Output.{Output}
 use Rattle.sq_outside.specs.Sinks.{AppendsPrefix, appended}
 use Rattle.sq_outside.proofs.SinkLemmas.{appended-append}
 use Rattle.sq_model.specs.Full.{nth}
-use Rattle.sq_model.specs.Fed.{fed_from, work_from}
-use Rattle.sq_top.specs.Due.{all_text, due_from, fed_line, feds_from, outputs_of, shown_from}
+use Rattle.sq_model.specs.Fed.{fed_from, late_from, work_from}
+use Rattle.sq_top.specs.Due.{all_text, due_from, ended_from, fed_line, feds_from, late_lines, lates_from, outputs_of, shown_from}
 use Rattle.sq_top.specs.Writing.{Moves, ends_text, output_text, output_work, tuples_text}
 
 pub moves-then : (before mid now : Option (List ℕ)) (waited waits later more next : List ℕ) → Moves before waited mid waits more → Moves mid waits now later next
@@ -99,15 +99,27 @@ text_of_outputs streams (o ∷ os) =
     ∙ ap (λ y. y ++ flat_map (λ l. l) (flat_map (λ p. p.1) (map (shown_from streams) os))) (text_of_map (output_line (o.0).name) (nth streams o.1))
     ∙ ap (λ y. tuples_text (o.0).name (nth streams o.1) ++ y) (text_of_outputs streams os)
 
+text_of_lines : {X : Type 0} (f : X → List (List ℕ)) (xs : List X) → flat_map (λ l. l) (flat_map f xs) ≡ flat_map (λ x. flat_map (λ l. l) (f x)) xs
+text_of_lines f [] = refl
+text_of_lines f (x ∷ xs) = flat_map-append (λ l. l) (f x) (flat_map f xs) ∙ ap (λ y. flat_map (λ l. l) (f x) ++ y) (text_of_lines f xs)
+
+-- the end lines of a run, where these are the streams by number
+abbrev pub ends_from : Network → List (List Tuple) → List ℕ
+ends_from n streams = ends_text n (feds_from n streams) (lates_from n streams)
+
+text_of_ends : (n : Network) (streams : List (List Tuple)) → flat_map (λ l. l) (ended_from n streams) ≡ ends_from n streams
+text_of_ends n streams =
+    let fed = zip n.boxes (feds_from n streams) in
+    let late = zip n.boxes (lates_from n streams) in
+    flat_map-append (λ l. l) (map fed_line fed) (flat_map late_lines late ++ end_line ∷ [])
+    ∙ ap₂ (λ y z. y ++ z) (text_of_map fed_line fed)
+    (flat_map-append (λ l. l) (flat_map late_lines late) (end_line ∷ []) ∙ ap₂ (λ y z. y ++ z) (text_of_lines late_lines late) (append-nil end_line))
+
 -- the text of all lines that are due: that of the outputs, and the end lines
-pub all_text-from : (n : Network) (streams : List (List Tuple)) → all_text (due_from n streams) ≡ flat_map (output_text streams) (outputs_of n) ++ ends_text n (feds_from n streams)
+pub all_text-from : (n : Network) (streams : List (List Tuple)) → all_text (due_from n streams) ≡ flat_map (output_text streams) (outputs_of n) ++ ends_from n streams
 all_text-from n streams =
-    let zs = zip n.boxes (feds_from n streams) in
-    let front = flat_map (output_text streams) (outputs_of n) in
-    flat_map-append (λ l. l) (flat_map (λ o. o.1) (map (shown_from streams) (outputs_of n))) (map fed_line zs ++ end_line ∷ [])
-    ∙ ap (λ y. y ++ flat_map (λ l. l) (map fed_line zs ++ end_line ∷ [])) (text_of_outputs streams (outputs_of n))
-    ∙ ap (λ y. front ++ y) (flat_map-append (λ l. l) (map fed_line zs) (end_line ∷ []) ∙ ap (λ y. y ++ (end_line ++ [])) (text_of_map fed_line zs))
-    ∙ ap (λ y. front ++ (flat_map fed_line zs ++ y)) (append-nil end_line)
+    flat_map-append (λ l. l) (flat_map (λ o. o.1) (map (shown_from streams) (outputs_of n))) (ended_from n streams)
+    ∙ ap₂ (λ y z. y ++ z) (text_of_outputs streams (outputs_of n)) (text_of_ends n streams)
 
 sum_by-map : {X : Type 0} (g : ℕ → ℕ) (f : X → ℕ) (xs : List X) → sum_by g (map f xs) ≡ sum_by (λ x. g (f x)) xs
 sum_by-map g f [] = refl
@@ -128,27 +140,27 @@ work_from-is n streams even =
 
 -- the last piece
 pub sent_last : (n : Network) (streams : List (List Tuple)) (before mid now : Option (List ℕ)) (waits waits_more later : List ℕ)
-    → Moves before [] mid waits (flat_map (output_text streams) (outputs_of n)) → waits_more ≡ waits ++ ends_text n (feds_from n streams)
+    → Moves before [] mid waits (flat_map (output_text streams) (outputs_of n)) → waits_more ≡ waits ++ ends_from n streams
     → Moves mid waits_more now later [] → later ≡ [] → now ≡ appended before (all_text (due_from n streams))
 sent_last n streams before mid now waits waits_more later a e b none =
-    let ends = ends_text n (feds_from n streams) in
+    let ends = ends_from n streams in
     let part_is : b.part ≡ waits ++ ends = sym (append-nil b.part) ∙ ap (λ y. b.part ++ y) (sym none) ∙ b.all ∙ append-nil waits_more ∙ e in
     b.now_is ∙ ap (λ o. appended o b.part) a.now_is ∙ appended-append before a.part b.part
     ∙ ap (appended before) (ap (λ y. a.part ++ y) part_is ∙ sym (append_assoc a.part waits ends) ∙ ap (λ y. y ++ ends) a.all ∙ sym (all_text-from n streams))
 
 -- the last piece is lost
 pub lost_last : (n : Network) (streams : List (List Tuple)) (before mid now : Option (List ℕ)) (waits waits_more : List ℕ)
-    → Moves before [] mid waits (flat_map (output_text streams) (outputs_of n)) → waits_more ≡ waits ++ ends_text n (feds_from n streams)
+    → Moves before [] mid waits (flat_map (output_text streams) (outputs_of n)) → waits_more ≡ waits ++ ends_from n streams
     → AppendsPrefix mid now waits_more → AppendsPrefix before now (all_text (due_from n streams))
 lost_last n streams before mid now waits waits_more a e b =
     subst (λ y. AppendsPrefix before now y) (sym (all_text-from n streams))
-    (moves-lost before mid now [] waits (flat_map (output_text streams) (outputs_of n)) (ends_text n (feds_from n streams)) a (subst (λ y. AppendsPrefix mid now y) e b))
+    (moves-lost before mid now [] waits (flat_map (output_text streams) (outputs_of n)) (ends_from n streams) a (subst (λ y. AppendsPrefix mid now y) e b))
 
 -- the end lines never came
 pub lost_before : (n : Network) (streams : List (List Tuple)) (before now : Option (List ℕ)) → AppendsPrefix before now (flat_map (output_text streams) (outputs_of n))
     → AppendsPrefix before now (all_text (due_from n streams))
 lost_before n streams before now a =
-    subst (λ y. AppendsPrefix before now y) (sym (all_text-from n streams)) (prefix_longer before now (flat_map (output_text streams) (outputs_of n)) (ends_text n (feds_from n streams)) a)
+    subst (λ y. AppendsPrefix before now y) (sym (all_text-from n streams)) (prefix_longer before now (flat_map (output_text streams) (outputs_of n)) (ends_from n streams) a)
 
 pub lost_waiting : (n : Network) (streams : List (List Tuple)) (before now : Option (List ℕ)) (waits : List ℕ)
     → Moves before [] now waits (flat_map (output_text streams) (outputs_of n)) → AppendsPrefix before now (all_text (due_from n streams))
@@ -198,3 +210,6 @@ module _ {A : Type 0} (xs : List A) (ks : List ℕ) (even : length ks ≡ length
 -- a number for each box
 pub feds_length : (n : Network) (streams : List (List Tuple)) → length (feds_from n streams) ≡ length n.boxes
 feds_length n streams = length-map-range_with_len (fed_from n streams) 0 (length n.boxes)
+
+pub lates_length : (n : Network) (streams : List (List Tuple)) → length (lates_from n streams) ≡ length n.boxes
+lates_length n streams = length-map-range_with_len (late_from n streams) 0 (length n.boxes)

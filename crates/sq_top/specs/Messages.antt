@@ -4,7 +4,6 @@ use Rattle.std.specs.Option.{option_and_then}
 use Rattle.std.specs.Fmt.{decimal}
 use Rattle.sq_expr.specs.declared.What.{What}
 use Rattle.sq_expr.specs.declared.What.TheVariants as what
-use Rattle.sq_expr.specs.declared.ParseErr.{ParseErr}
 use Rattle.sq_qos.specs.declared.GraphErr.{GraphErr}
 use Rattle.sq_qos.specs.declared.GraphErr.TheVariants as graph
 use Rattle.sq_net.specs.declared.Network.{Network}

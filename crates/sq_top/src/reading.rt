@@ -1,7 +1,9 @@
 // The words and the files of a run, read in the order of work.
-ghost use Rattle.std.specs.Prelude.{◌≡◌, ◌⊎◌, ◌≤◌, Err, IfOk, IfErr, IsSome, None, Ok, Some, [], length, map, List, ℕ};
+ghost use Rattle.std.specs.Prelude.{◌≡◌, ◌⊎◌, ◌≤◌, true, Err, IfOk, IfErr, IsSome, None, Ok, Some, [], length, map, List, ℕ};
+ghost use Rattle.std.specs.List.{All};
 ghost use Rattle.std.specs.String.{string_bytes};
-ghost use Rattle.sq_net.specs.Sound.{IsSound};
+ghost use Rattle.sq_value.specs.Values.{IsStream};
+ghost use Rattle.sq_net.specs.Sound.{IsSound, source_within};
 ghost use Rattle.sq_outside.specs.Folders.{file};
 ghost use Rattle.sq_top.specs.Commands.{command_in, is_positional};
 ghost use Rattle.sq_top.specs.Scripts.{Done, accepted, after_streams, readable, script_of};
@@ -164,13 +166,16 @@ fn stopped_at(number: u32, source: &Source, line: u32, why: Why) -> Stopped
 }
 
 /// The tuples of the source with this number.
+#[tactic(auto, using(crate::proofs::SourceLemmas::text_is_stream))]
 fn stream_of<F: Folder>(
     alloc: Global,
     number: u32,
     source: &Source,
     folder: &mut F,
 ) -> Result<Vec<Tuple>, Stopped>
+    requires within { source_within source.now ≡ true }
     ensures stream { IfOk result (λ xs. IsStreamOf (F.files folder.old) source.now xs.items) }
+    ensures ticks { IfOk result (λ xs. IsStream xs.items) }
     ensures stopped { IfErr result (λ s. HasNoStream (F.files folder.old) number source.now (F.faults folder.old) (F.faults folder.new) (F.taken folder.old) (F.taken folder.new) s.status (source_of s.source)) }
     ensures files { F.files folder.new ≡ F.files folder.old }
     ensures later { (F.faults folder.old ≤ F.faults folder.new) × (F.taken folder.old ≤ F.taken folder.new) }
@@ -195,6 +200,7 @@ fn streams_of<F: Folder>(
     requires { IsSound network.now }
     ensures leads { IfOk result (λ v. LeadsWhereTold (F.files folder.old) (after_streams network.now [] network.now.sources) (Done (network.now, map (λ xs. xs.items) v.items))) }
     ensures even { IfOk result (λ v. length v.items ≡ length network.now.sources) }
+    ensures streams { IfOk result (λ v. All IsStream (map (λ xs. xs.items) v.items)) }
     ensures stopped { IfErr result (λ s. HasNoStreams (F.files folder.old) network.now (F.faults folder.old) (F.faults folder.new) (F.taken folder.old) (F.taken folder.new) s.status (source_of s.source)) }
     ensures files { F.files folder.new ≡ F.files folder.old }
     ensures later { (F.faults folder.old ≤ F.faults folder.new) × (F.taken folder.old ≤ F.taken folder.new) }
@@ -222,6 +228,7 @@ pub fn prepare<F: Folder>(
     ensures command { IfOk result (λ _. IsSome (command_in (map string_bytes words.now.items))) }
     ensures sound { IfOk result (λ r. IsSound r.0) }
     ensures even { IfOk result (λ r. length r.1.items ≡ length (r.0).sources) }
+    ensures streams { IfOk result (λ r. All IsStream (map (λ xs. xs.items) r.1.items)) }
     ensures accepted { IfOk result (λ r. WhereTold (F.files folder.old) (λ files. accepted (file files) (map string_bytes words.now.items) ≡ Ok (r.0, map (λ xs. xs.items) r.1.items))) }
     ensures stopped { IfErr result (λ s. IsStopped (map string_bytes words.now.items) (F.files folder.old) (F.faults folder.old) (F.faults folder.new) (F.taken folder.old) (F.taken folder.new) s.status (source_of s.source)) }
     ensures files { F.files folder.new ≡ F.files folder.old }

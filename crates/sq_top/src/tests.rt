@@ -68,7 +68,7 @@ fn folder_of(
 
 /// What a run writes, and the number that it ends with.
 #[derive(Drop)]
-struct Ran {
+pub(crate) struct Ran {
     code: u8,
     out: MemSink,
     err: MemSink,
@@ -84,7 +84,7 @@ fn run_in(alloc: Global, mut folder: MemFolder) -> Result<Ran, AllocError> {
 }
 
 /// The same over these files, where these calls of the folder fail.
-fn run_with(
+pub(crate) fn run_with(
     alloc: Global,
     files: &[(&str, &str)],
     folder_fails: &[u64],
@@ -97,6 +97,15 @@ fn run_stream(alloc: Global, stream: &str) -> Result<Ran, AllocError> {
     run_with(alloc, &[("a.toml", NETWORK), ("s.csv", stream)], &[])
 }
 
+impl Ran {
+    /// The number, then what was written, then what was told, in one text.
+    pub(crate) fn text(&self, alloc: Global) -> Result<String, AllocError> {
+        let out = str::from_utf8(self.out.bytes()).unwrap_or("?");
+        let err = str::from_utf8(self.err.bytes()).unwrap_or("?");
+        format!(in alloc; "{}\n{out}{err}", self.code)
+    }
+}
+
 fn file(alloc: Global, name: &str, text: &str) -> Result<(String, Vec<u8>), AllocError> {
     Ok((
         String::from_str(alloc, name)?,
@@ -104,15 +113,25 @@ fn file(alloc: Global, name: &str, text: &str) -> Result<(String, Vec<u8>), Allo
     ))
 }
 
-/// The same over one source of a field `v:int` and these boxes and outputs.
-fn run_boxes(alloc: Global, boxes: &str, stream: &str) -> Result<Ran, AllocError> {
+/// The same over one source of these fields, and these boxes and outputs.
+pub(crate) fn run_fields(
+    alloc: Global,
+    fields: &str,
+    boxes: &str,
+    stream: &str,
+) -> Result<Ran, AllocError> {
     let network = format!(in alloc;
-        "version = 1\n[[source]]\nname = \"s\"\nfile = \"s.csv\"\nfields = [\"v:int\"]\n{boxes}"
+        "version = 1\n[[source]]\nname = \"s\"\nfile = \"s.csv\"\nfields = [{fields}]\n{boxes}"
     )?;
     let mut named = Vec::new(alloc);
     named.push(file(alloc, "a.toml", network.as_str())?)?;
     named.push(file(alloc, "s.csv", stream)?)?;
     run_in(alloc, MemFolder::new(named, Vec::new(alloc)))
+}
+
+/// The same over one source of a field `v:int`.
+pub(crate) fn run_boxes(alloc: Global, boxes: &str, stream: &str) -> Result<Ran, AllocError> {
+    run_fields(alloc, "\"v:int\"", boxes, stream)
 }
 
 #[test]

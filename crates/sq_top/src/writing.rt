@@ -1,18 +1,19 @@
 // The answer of a run, written to the output in pieces.
 ghost use Rattle.std.specs.Prelude.{◌≡◌, ◌≤◌, ◌+◌, ◌++◌, [], IfErr, OnErr, OnOk, length, map};
-ghost use Rattle.std.specs.List.{flat_map, sum_by, zip};
+ghost use Rattle.std.specs.List.{All, flat_map, sum_by, zip};
 ghost use Rattle.sq_net.specs.Sound.{IsSound};
 ghost use Rattle.sq_model.specs.Placed.{IsPlaced};
 ghost use Rattle.sq_model.specs.Fed.{work_from, work_of};
 ghost use Rattle.sq_value.specs.LineTexts.{output_line};
+ghost use Rattle.sq_value.specs.Values.{IsStream};
 ghost use Rattle.sq_outside.specs.Sinks.{AppendsPrefix, appended};
 ghost use Rattle.sq_top.specs.Due.{all_text, due_from, due_of, fed_line, feds_from, outputs_of};
-ghost use Rattle.sq_top.specs.Writing.{IsLost, Moves, ends_text, output_text, output_work, tuples_text};
+ghost use Rattle.sq_top.specs.Writing.{IsLost, Moves, ends_text, late_text, output_text, output_work, tuples_text};
 
 use crate::Status;
-use sq_csv::{append_box_line, append_end_line, append_output_line};
-use sq_model::{fed, full_streams, sound_is_placed, stream_in};
-use sq_net::{Network, Node};
+use sq_csv::{append_box_line, append_end_line, append_late_line, append_output_line};
+use sq_model::{fed, full_streams, late, sound_is_placed, stream_in};
+use sq_net::{Body, Network, Node};
 use sq_outside::{Failed, Sink, Steps, write_all};
 use sq_value::{Name, Tuple};
 use std::alloc::{AllocError, Global};
@@ -154,12 +155,40 @@ fn append_boxes(boxes: &[Node], fed: &[u64], text: &mut Vec<u8>) -> Result<(), A
     Ok(())
 }
 
+/// Appends the line of a box's late tuples, which a BSort alone has.
+fn append_late(node: &Node, late: u64, text: &mut Vec<u8>) -> Result<(), AllocError>
+    ensures ok { OnOk result (text.new.items ≡ text.old.items ++ late_text (node.now, late)) }
+{
+    match node.body {
+        Body::BSort { .. } => append_late_line(&node.name, late, text),
+        _ => Ok(()),
+    }
+}
+
+/// Appends the lines of late tuples, where each box has so many.
+fn append_lates(boxes: &[Node], late: &[u64], text: &mut Vec<u8>) -> Result<(), AllocError>
+    requires even { length late.now ≡ length boxes.now }
+    ensures ok { OnOk result (text.new.items ≡ text.old.items ++ flat_map late_text (zip boxes.now late.now)) }
+{
+    'boxes: for (i, node) in boxes.iter().enumerate() {
+        append_late(node, late[i], text)?;
+    }
+    Ok(())
+}
+
 /// Appends the end lines.
-fn append_ends(network: &Network, fed: &[u64], text: &mut Vec<u8>) -> Result<(), AllocError>
-    requires even { length fed.now ≡ length network.now.boxes }
-    ensures ok { OnOk result (text.new.items ≡ text.old.items ++ ends_text network.now fed.now) }
+fn append_ends(
+    network: &Network,
+    fed: &[u64],
+    late: &[u64],
+    text: &mut Vec<u8>,
+) -> Result<(), AllocError>
+    requires fed { length fed.now ≡ length network.now.boxes }
+    requires late { length late.now ≡ length network.now.boxes }
+    ensures ok { OnOk result (text.new.items ≡ text.old.items ++ ends_text network.now fed.now late.now) }
 {
     append_boxes(network.boxes.as_slice(), fed, text)?;
+    append_lates(network.boxes.as_slice(), late, text)?;
     append_end_line(text)
 }
 
@@ -183,13 +212,16 @@ fn write_lines<S: Sink, L: Ledger>(
     let Ok(fed) = fed(alloc, network, streams) else {
         return Err(Status::Memory);
     };
+    let Ok(late) = late(alloc, network, streams) else {
+        return Err(Status::Memory);
+    };
     let mut text = Vec::new(alloc);
     tick_boxes(fed.as_slice(), steps);
     match show_outputs(network, streams, &mut text, out, steps) {
         Ok(()) => {}
         Err(status) => return Err(status),
     }
-    match append_ends(network, fed.as_slice(), &mut text) {
+    match append_ends(network, fed.as_slice(), late.as_slice(), &mut text) {
         Ok(()) => send(&mut text, out),
         Err(_) => Err(Status::Memory),
     }
@@ -205,6 +237,7 @@ pub fn write_answer<S: Sink, L: Ledger>(
 ) -> Result<(), Status>
     requires sound { IsSound network.now }
     requires sources { length sources.items ≡ length network.now.sources }
+    requires streams { All IsStream (map (λ xs. xs.items) sources.items) }
     ensures ok { OnOk result (S.written out.new ≡ appended (S.written out.old) (all_text (due_of (network.now, map (λ xs. xs.items) sources.items)))) }
     ensures err { OnErr result (AppendsPrefix (S.written out.old) (S.written out.new) (all_text (due_of (network.now, map (λ xs. xs.items) sources.items)))) }
     ensures lost { IfErr result (λ s. IsLost (S.faults out.old) (S.faults out.new) s) }

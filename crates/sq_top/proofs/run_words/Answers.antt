@@ -3,6 +3,9 @@ use Rattle.sq_top.specs.Causes.{source_of}
 use Rattle.sq_top.proofs.EndLemmas.{told_ends}
 use Rattle.sq_top.proofs.run_words.Goals as goal
 
+pub returns-in-Ok-clause-complete : goal.returns-in-Ok-clause-complete
+returns-in-Ok-clause-complete g c = rw c.in-Ok.is at c.run-stopped.ensures.ends.complete
+
 pub returns : goal.returns
 returns g c =
     let e = told_ends _ _ c.run-stopped.result.status c.tell.result.status _ c.in_default.not-Ok c.tell.ensures.status c.run-stopped.ensures.ends in

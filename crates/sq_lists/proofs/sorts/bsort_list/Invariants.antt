@@ -5,6 +5,6 @@ use Rattle.sq_lists.proofs.sorts.bsort_list.Given as goal
 
 abbrev pub invariant-loop-x : goal.invariant-loop-x
 invariant-loop-x l = record {
-  given : sort_run (new_sorter l.slack) (retimed l.by l.t) ≡ l.out.items ++ sort_run l.sorter (retimed l.by (drop l.x-index l.t));
+  given : sort_run (new_sorter l.slack) (retimed l.by l.tuples) ≡ l.out.items ++ sort_run l.sorter (retimed l.by (drop l.x-index l.tuples));
   number : l.sorter.number ≤ l.x-index;
 }

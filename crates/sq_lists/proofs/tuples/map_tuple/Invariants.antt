@@ -4,4 +4,4 @@ use Rattle.sq_lists.proofs.tuples.map_tuple.Given as goal
 
 abbrev pub invariant-loop-e : goal.invariant-loop-e
 invariant-loop-e l =
-    map (λ e. value_of e l.t) (map (λ e. e.tree) l.exprs) ≡ l.fields.items ++ map (λ e. value_of e l.t) (map (λ e. e.tree) (drop l.e-index l.exprs))
+    map (λ e. value_of e l.tuple) (map (λ e. e.tree) l.exprs) ≡ l.fields.items ++ map (λ e. value_of e l.tuple) (map (λ e. e.tree) (drop l.e-index l.exprs))

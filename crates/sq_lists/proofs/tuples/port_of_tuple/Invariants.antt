@@ -3,4 +3,4 @@ use Rattle.sq_lists.specs.Boxes.{port_of}
 use Rattle.sq_lists.proofs.tuples.port_of_tuple.Given as goal
 
 abbrev pub invariant-loop-i : goal.invariant-loop-i
-invariant-loop-i l = port_of (map (λ e. e.tree) l.preds) l.t ≡ l.i + port_of (map (λ e. e.tree) (drop l.i l.preds)) l.t
+invariant-loop-i l = port_of (map (λ e. e.tree) l.preds) l.tuple ≡ l.i + port_of (map (λ e. e.tree) (drop l.i l.preds)) l.tuple

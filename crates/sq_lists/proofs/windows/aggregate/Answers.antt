@@ -13,30 +13,30 @@ begun-first w (x ∷ xs) = (zero-le, begun-first w xs)
 
 pub loop-i-init : goal.loop-i-init
 loop-i-init g c =
-    let t = c.args.t.now in
+    let t = c.args.tuples.now in
     let table = g.F.Fold.table c.args.fold.now in
     record {
-      results = ap (λ l. l ++ left_results table c.args.group.now c.args.w t 0) c.new-out.ensures.items ∙ left_first table c.args.group.now c.args.w t;
+      results = ap (λ l. l ++ left_results table c.args.group.now c.args.window t 0) c.new-out.ensures.items ∙ left_first table c.args.group.now c.args.window t;
       rises = stream_rises t c.requires.stream;
-      begun = begun-first c.args.w t;
+      begun = begun-first c.args.window t;
       ticks = stream_ticks t c.requires.stream;
     }
 
 pub returns : goal.returns
 returns g c =
     let table = g.F.Fold.table c.args.fold.now in
-    let last = ap (λ l. left_results table c.args.group.now c.args.w l c.loop-i.next) (drop_all c.loop-i.i c.args.t.now c.loop-i-test.false) ∙ left_last table c.args.group.now c.args.w c.loop-i.next in
+    let last = ap (λ l. left_results table c.args.group.now c.args.window l c.loop-i.next) (drop_all c.loop-i.i c.args.tuples.now c.loop-i-test.false) ∙ left_last table c.args.group.now c.args.window c.loop-i.next in
     sym (append-nil c.loop-i.out.items) ∙ ap (λ l. c.loop-i.out.items ++ l) (sym last) ∙ c.loop-i.invariant.results
 
 pub overflow_add-end : goal.overflow_add-end
 overflow_add-end g c =
     let i = c.loop-i.i in
-    let t = c.args.t.now in
-    let x = get_or t i c.index-t-i.result in
-    let ticks = rw (drop_more t i c.index-t-i.result c.loop-i-test.true) at c.loop-i.invariant.ticks in
-    let small = next_small c.args.w c.requires.window x.time ticks.0 in
+    let t = c.args.tuples.now in
+    let x = get_or t i c.index-tuples-i.result in
+    let ticks = rw (drop_more t i c.index-tuples-i.result c.loop-i-test.true) at c.loop-i.invariant.ticks in
+    let small = next_small c.args.window c.requires.window x.time ticks.0 in
     let moves = c.requires.window.moves in
-    record { fits = wide (x.time / c.args.w.advance + 1) c.args.w.advance small moves }
+    record { fits = wide (x.time / c.args.window.advance + 1) c.args.window.advance small moves }
   where
     wide : (n m : ℕ) → n * m < 2 ^ 41 → 1 ≤ m → n < 2 ^ 64
     wide n m h k = grind arith
@@ -44,31 +44,31 @@ overflow_add-end g c =
 pub push_windows-requires-clause-rises : goal.push_windows-requires-clause-rises
 push_windows-requires-clause-rises g c =
     let i = c.loop-i.i in
-    let t = c.args.t.now in
-    let x = get_or t i c.index-t-i.result in
-    let whole = drop_more t i c.index-t-i.result c.loop-i-test.true in
+    let t = c.args.tuples.now in
+    let x = get_or t i c.index-tuples-i.result in
+    let whole = drop_more t i c.index-tuples-i.result c.loop-i-test.true in
     let rises = rw whole at c.loop-i.invariant.rises in
     let up : NotFalling x.time (x ∷ drop (i + 1) t) = (omega arith, rises.1) in
-    rw (rest_is t i, whole) (last_start c.args.w c.requires.window x.time (x ∷ drop (i + 1) t) up)
+    rw (rest_is t i, whole) (last_start c.args.window c.requires.window x.time (x ∷ drop (i + 1) t) up)
 
 pub push_windows-requires-clause-small : goal.push_windows-requires-clause-small
 push_windows-requires-clause-small g c =
     let i = c.loop-i.i in
-    let t = c.args.t.now in
-    let x = get_or t i c.index-t-i.result in
-    let ticks = rw (drop_more t i c.index-t-i.result c.loop-i-test.true) at c.loop-i.invariant.ticks in
-    next_small c.args.w c.requires.window x.time ticks.0
+    let t = c.args.tuples.now in
+    let x = get_or t i c.index-tuples-i.result in
+    let ticks = rw (drop_more t i c.index-tuples-i.result c.loop-i-test.true) at c.loop-i.invariant.ticks in
+    next_small c.args.window c.requires.window x.time ticks.0
 
 pub loop-i-preserved : goal.loop-i-preserved
 loop-i-preserved g c =
     let i = c.loop-i.i in
-    let t = c.args.t.now in
-    let w = c.args.w in
+    let t = c.args.tuples.now in
+    let w = c.args.window in
     let table = g.F.Fold.table c.args.fold.now in
     let by = c.args.group.now in
-    let x = get_or t i c.index-t-i.result in
+    let x = get_or t i c.index-tuples-i.result in
     let more = drop (i + 1) t in
-    let whole = drop_more t i c.index-t-i.result c.loop-i-test.true in
+    let whole = drop_more t i c.index-tuples-i.result c.loop-i-test.true in
     let rises = rw whole at c.loop-i.invariant.rises in
     let begun = rw whole at c.loop-i.invariant.begun in
     let ticks = rw whole at c.loop-i.invariant.ticks in

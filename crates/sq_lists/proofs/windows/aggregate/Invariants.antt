@@ -7,8 +7,8 @@ use Rattle.sq_lists.proofs.windows.aggregate.Given as goal
 
 abbrev pub invariant-loop-i : goal.invariant-loop-i
 invariant-loop-i g l = record {
-  results : l.out.items ++ left_results (g.F.Fold.table l.fold) l.group l.w (drop l.i l.t) l.next ≡ aggregate_of (g.F.Fold.table l.fold) l.group l.w l.t;
-  rises : NotFalling 0 (drop l.i l.t);
-  begun : AllByRecursion (λ x. l.next ≤ x.time / l.w.advance + 1) (drop l.i l.t);
-  ticks : AllByRecursion (λ x. x.time < 2 ^ 40) (drop l.i l.t);
+  results : l.out.items ++ left_results (g.F.Fold.table l.fold) l.group l.window (drop l.i l.tuples) l.next ≡ aggregate_of (g.F.Fold.table l.fold) l.group l.window l.tuples;
+  rises : NotFalling 0 (drop l.i l.tuples);
+  begun : AllByRecursion (λ x. l.next ≤ x.time / l.window.advance + 1) (drop l.i l.tuples);
+  ticks : AllByRecursion (λ x. x.time < 2 ^ 40) (drop l.i l.tuples);
 }

@@ -6,4 +6,4 @@ use Rattle.sq_lists.proofs.windows.aggregate_list.Goals as goal
 pub returns : goal.returns
 returns c =
     let same : c.in_ok-to_vec.field-0.items ≡ c.args.funcs.now = c.in_ok-to_vec.ensures.items_if_clones_equal (λ x y h. h) in
-    subst (λ (fs : List Func). IfOk c.aggregate.result (λ out. out.items ≡ aggregate_list_of fs c.args.group.now c.args.w c.args.t.now)) (c.new-bundle.ensures ∙ same) c.aggregate.ensures
+    subst (λ (fs : List Func). IfOk c.aggregate.result (λ out. out.items ≡ aggregate_list_of fs c.args.group.now c.args.window c.args.tuples.now)) (c.new-bundle.ensures ∙ same) c.aggregate.ensures

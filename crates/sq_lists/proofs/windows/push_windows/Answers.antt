@@ -6,7 +6,7 @@ use Rattle.sq_lists.proofs.windows.push_windows.Goals as goal
 
 pub returns : goal.returns
 returns g c =
-    let none = none_from (g.F.Fold.table c.args.fold.now) c.args.by.now c.args.w c.args.rest.now c.loop-k.k c.args.to c.loop-k-test.false in
+    let none = none_from (g.F.Fold.table c.args.fold.now) c.args.by.now c.args.window c.args.rest.now c.loop-k.k c.args.to c.loop-k-test.false in
     sym (append-nil c.loop-k.out.items) ∙ ap (λ l. c.loop-k.out.items ++ l) (sym none) ∙ c.loop-k.invariant
 
 pub loop-k-preserved : goal.loop-k-preserved
@@ -14,7 +14,7 @@ loop-k-preserved g c =
     let fold = c.args.fold.now in
     let table = g.F.Fold.table fold in
     let by = c.args.by.now in
-    let w = c.args.w in
+    let w = c.args.window in
     let xs = c.args.rest.now in
     let k = c.loop-k.k in
     let to = c.args.to in

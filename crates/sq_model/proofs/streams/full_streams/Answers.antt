@@ -1,6 +1,8 @@
 use Rattle.std.proofs.Common.{◌≡◌, ◌∙◌, ◌+◌, ◌-◌, List, [], ap, arith, drop, length, length-append, map, replicate, subst, take}
 use Rattle.std.proofs.lemmas.List.{length-map, length-replicate, take_all, take_at, take_more}
+use Rattle.std.proofs.lemmas.List.Elements.{All-append, All-replicate}
 use Rattle.sq_value.specs.declared.Tuple.{Tuple}
+use Rattle.sq_value.specs.Values.{IsStream}
 use Rattle.sq_graph.specs.Order.{order_of}
 use Rattle.sq_model.specs.Standing.{Stands}
 use Rattle.sq_model.proofs.NumberLemmas.{stream_at_last, stream_at_within}
@@ -29,6 +31,7 @@ loop-at-init c =
       order = c.deref-at-items.ensures.value ∙ c.in_ok-order.ensures;
       room = omega (arith, long, parts, few, last, count, empty);
       stands = rw is (sources_stand c.args.n.now sources ports c.requires.placed few);
+      streams = rw is (All-append IsStream sources (replicate ports none) c.requires.streams (All-replicate IsStream ports none tt));
     }
 
 pub give_ports-requires-clause-there : goal.give_ports-requires-clause-there
@@ -48,11 +51,12 @@ loop-at-preserved c =
     let low = rw c.loop-at.invariant.order at c.loop-at-test.true in
     let next = order_next w c.loop-at.at-index 0 low in
     let stood = rw (← c.deref_mut.ensures.value) at c.loop-at.invariant.stands in
-    let stands = (rw c.loop-at.invariant.order at c.in_ok-give_ports.ensures) sources (take c.loop-at.at-index (order_of w)) next stood in
+    let stands = (rw c.loop-at.invariant.order at c.in_ok-give_ports.ensures.given) sources (take c.loop-at.at-index (order_of w)) next stood in
     record {
       order = c.loop-at.invariant.order;
       room = rw whole (c.give_ports.auto.streams ∙ rw c.deref_mut.ensures.value c.loop-at.invariant.room);
       stands = rw (whole, take_more (order_of w) c.loop-at.at-index 0 low) stands;
+      streams = rw whole c.in_ok-give_ports.ensures.streams;
     }
 
 pub returns : goal.returns

@@ -1,28 +1,25 @@
-use Rattle.std.proofs.Common.{◌∙◌, ℕ, ap, arith, List}
+use Rattle.std.proofs.Common.{◌∙◌, ℕ, ap, subst, sym, List, length}
+use Rattle.sq_net.specs.Sound.{takes_within}
+use Rattle.sq_value.specs.Values.{Columns}
+use Rattle.sq_graph.specs.Wires.{inputs_at}
 use Rattle.sq_reader.specs.Limits.{box_within}
 use Rattle.sq_reader.specs.Columns.{columns_taken}
+use Rattle.sq_reader.specs.Streaming.{kind_of_body}
 use Rattle.sq_reader.proofs.LimitLemmas.{counts_of}
 use Rattle.sq_reader.proofs.ListLemmas.{item_passes, item_there}
-use Rattle.sq_reader.proofs.WiringLemmas.{inputs_few, wired_there}
-use Rattle.sq_reader.proofs.NodeLemmas.{node_from, taken_few}
+use Rattle.sq_reader.proofs.WiringLemmas.{wired_there}
+use Rattle.sq_reader.proofs.NodeLemmas.{node_from}
 use Rattle.sq_reader.proofs.nodes.node_at.Goals as goal
 
 pub node_in-requires-clause-within : goal.node_in-requires-clause-within
 node_in-requires-clause-within c =
     item_passes box_within c.args.raw.now.boxes c.args.at c.index-as_slice-at.result (counts_of c.args.raw.now c.requires.within).each_box c.requires.there (rw c.as_slice.ensures at c.index-as_slice-at.is)
 
-pub node_in-requires-clause-few : goal.node_in-requires-clause-few
-node_in-requires-clause-few c =
+pub node_in-requires-clause-takes : goal.node_in-requires-clause-takes
+node_in-requires-clause-takes c =
     let here = item_there c.args.raw.now.boxes c.args.at c.index-as_slice-at.result c.requires.there (rw c.as_slice.ensures at c.index-as_slice-at.is) in
     let wired = wired_there c.args.raw.now c.args.w.now c.args.at c.index-as_slice-at-2.result c.requires.wires c.requires.there (rw c.as_slice-2.ensures at c.index-as_slice-at-2.is) in
-    let inputs = inputs_few c.args.raw.now c.args.at c.index-as_slice-at.result c.index-as_slice-at-2.result c.requires.within here (rw c.requires.wires at wired) in
-    let few = taken_few c.args.w.now c.args.sources.now c.args.nodes.now c.index-as_slice-at-2.result.inputs in
-    rw (c.deref.ensures.value, c.in_ok-ins.ensures, c.as_slice-3.ensures) (omega (arith, inputs, few))
-
-pub node_in-requires-clause-some : goal.node_in-requires-clause-some
-node_in-requires-clause-some c =
-    let wired = wired_there c.args.raw.now c.args.w.now c.args.at c.index-as_slice-at-2.result c.requires.wires c.requires.there (rw c.as_slice-2.ensures at c.index-as_slice-at-2.is) in
-    rw (c.deref.ensures.value, c.in_ok-ins.ensures, c.as_slice-3.ensures) (rw wired at c.requires.given)
+    rw (c.deref.ensures.value, c.in_ok-ins.ensures, c.as_slice-3.ensures) (rw wired at c.requires.takes c.index-as_slice-at.result here)
 
 pub returns : goal.returns
 returns c =

@@ -5,7 +5,7 @@ use Rattle.sq_graph.specs.declared.Wiring.{Wiring}
 use Rattle.sq_reader.specs.Columns.{node_at}
 use Rattle.sq_reader.proofs.WiringLemmas.{wired_length}
 use Rattle.sq_reader.proofs.NodeLemmas.{nodes_more}
-use Rattle.sq_reader.proofs.ReadyLemmas.{AreReady, ready_first, ready_next, ready_some}
+use Rattle.sq_reader.proofs.ReadyLemmas.{AreReady, ready_first, ready_next, ready_takes}
 use Rattle.sq_reader.proofs.nodes.nodes_in.Goals as goal
 
 pub loop-at-init : goal.loop-at-init
@@ -16,14 +16,14 @@ loop-at-init c =
       ready = rw c.requires.ordered (ready_first c.args.w.now (length c.args.raw.now.boxes) (sym (ap (λ (w : Wiring). length w.boxes) c.requires.wires ∙ wired_length c.args.raw.now)));
     })
 
-pub node_at-requires-clause-given : goal.node_at-requires-clause-given
-node_at-requires-clause-given c =
+pub node_at-requires-clause-takes : goal.node_at-requires-clause-takes
+node_at-requires-clause-takes c =
     let at : ℕ = get_or c.args.order.now c.loop-at.at-index 0 in
     let rest : List ℕ = drop (c.loop-at.at-index + 1) c.args.order.now in
     let front : AreReady c.args.w.now c.loop-at.nodes.items (at ∷ rest) =
     subst (λ (ats : List ℕ). AreReady c.args.w.now c.loop-at.nodes.items ats) (drop_more c.args.order.now c.loop-at.at-index 0 c.loop-at-test.true) c.loop-at.invariant.ready in
     rw c.deref.ensures.value
-    (ready_some c.args.raw.now c.args.w.now c.args.sources.now c.loop-at.nodes.items at rest c.requires.within c.requires.known c.requires.wires c.requires.given front)
+    (ready_takes c.args.raw.now c.args.w.now c.args.sources.now c.loop-at.nodes.items at rest c.requires.within c.requires.known c.requires.wires c.requires.given front)
 
 pub loop-at-preserved : goal.loop-at-preserved
 loop-at-preserved c =

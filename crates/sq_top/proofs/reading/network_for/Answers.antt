@@ -1,8 +1,11 @@
 use Rattle.std.proofs.Common.{sym, ◌∙◌, ap, map}
 use Rattle.std.specs.String.{string_bytes}
 use Rattle.sq_reader.specs.Networks.{network_in}
-use Rattle.sq_top.proofs.StoppedLemmas.{network_is_named, network_leads, stopped_network, stopped_refused}
+use Rattle.sq_top.proofs.StoppedLemmas.{network_is_named, network_leads, stopped_network, stopped_refused, stopped_words}
 use Rattle.sq_top.proofs.reading.network_for.Goals as goal
+
+pub returns-in-Err-clause-stopped : goal.returns-in-Err-clause-stopped
+returns-in-Err-clause-stopped g c = stopped_words (map string_bytes c.args.words.now.items) _ _ _ _ _ c.in-Err.status _ c.in-Err.ensures.status
 
 pub returns-in-Err-read_file-clause-stopped : goal.returns-in-Err-read_file-clause-stopped
 returns-in-Err-read_file-clause-stopped g c = stopped_network _ (record { net = c.in-Ok.net }) c.in-Ok.ensures.command _ _ _ _ _ c.in-Err-read_file.status _ c.in-Err-read_file.ensures.unread

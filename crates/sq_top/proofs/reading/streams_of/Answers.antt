@@ -1,5 +1,6 @@
-use Rattle.std.proofs.Common.{arith, rules, inl, map, length, [], ◌∷◌, ◌++◌, sym, ◌∙◌, ap, refl}
+use Rattle.std.proofs.Common.{arith, rules, inl, map, [], ◌∷◌, ◌∙◌, ap, refl}
 use Rattle.std.proofs.lemmas.List.{length-map, map-append}
+use Rattle.sq_top.proofs.SourceLemmas.{streams_more}
 use Rattle.sq_top.proofs.StoppedLemmas.{leads_on, no_streams_at}
 use Rattle.sq_top.proofs.reading.streams_of.Goals as goal
 
@@ -25,6 +26,8 @@ sources-preserved g c = record {
       (rw c.as_slice-source-items.ensures at c.sources-test.true) (rw c.as_slice-source-items.ensures at c.source-item.is)
       (length-map c.sources.streams.items (λ xs. xs.items) ∙ c.sources.invariant.counted) c.sources.invariant.leads c.in-Ok.stream.items
       (rw c.sources.invariant.files at c.in-Ok.ensures.stream));
+  streams = rw (ap (map (λ xs. xs.items)) c.in-Ok-push.ensures.items ∙ map-append (λ xs. xs.items) c.sources.streams.items (c.in-Ok.stream ∷ []))
+      (streams_more (map (λ xs. xs.items) c.sources.streams.items) c.in-Ok.stream.items c.sources.invariant.streams c.in-Ok.ensures.ticks);
   counted = search rules;
   files = c.in-Ok.ensures.files ∙ c.sources.invariant.files;
   faults = omega (arith, c.sources.invariant.faults, c.in-Ok.ensures.later.0);

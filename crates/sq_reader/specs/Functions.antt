@@ -1,0 +1,63 @@
+-- What an Aggregate gives, and what it groups by, over the columns that it takes.
+use Rattle.std.specs.Prelude.{ℕ, ◌+◌, is_some, nat_le, if◌then◌else◌, List, [], ◌∷◌, ◌++◌, map, length, ℤ, Option, Some, None, Result, Ok, option_map}
+use Rattle.std.specs.List.{filter_map}
+use Rattle.std.specs.Option.{option_and_then}
+use Rattle.sq_value.specs.Lists.{contains_bytes}
+use Rattle.sq_value.specs.Values.{Columns}
+use Rattle.sq_value.specs.declared.Kind.{Kind}
+use Rattle.sq_expr.specs.Checking.{column_of}
+use Rattle.sq_aggfn.specs.declared.Func.{Func}
+use Rattle.sq_aggfn.specs.declared.Func.TheVariants as func
+use Rattle.sq_net.specs.Columns.{kind_of_func}
+use Rattle.sq_net.specs.declared.NetErr.{NetErr}
+use Rattle.sq_net.specs.declared.NetErr.TheVariants as broken
+use Rattle.sq_net.specs.declared.Part.TheVariants as part
+use Rattle.sq_tables.specs.declared.raw.Over.{Over}
+use Rattle.sq_tables.specs.declared.raw.Over.TheVariants as over
+use Rattle.sq_tables.specs.declared.raw.Told.{Told}
+use Rattle.sq_tables.specs.declared.raw.Told.TheVariants as told
+use Rattle.sq_tables.specs.declared.raw.Giving.{Giving}
+use Rattle.sq_tables.specs.Places.{place_at}
+use Rattle.sq_tables.specs.Rawly.{◌>>=◌, or_broken}
+
+-- a function over the field at a place
+abbrev pub func_over : Over → ℕ → Func
+func_over over.Sum i = func.Sum i
+func_over over.Avg i = func.Avg i
+func_over over.Min i = func.Min i
+func_over over.Max i = func.Max i
+func_over over.First i = func.First i
+func_over over.Last i = func.Last i
+
+-- what is told, by the place of its field
+abbrev pub func_told : Columns → Told → Option Func
+func_told cs told.Count = Some func.Count
+func_told cs (told.Field o field) = option_map (func_over o) (column_of field cs)
+
+-- a function that has a kind over these columns
+abbrev pub if_kinded : Columns → Func → Option Func
+if_kinded cs f = if is_some (kind_of_func cs f) then Some f else None
+
+abbrev pub func_in : Columns → Told → Option Func
+func_in cs t = option_and_then (if_kinded cs) (func_told cs t)
+
+abbrev pub funcs_from : ℕ → ℕ → Columns → List Giving → Result (List Func) NetErr
+funcs_from n i cs [] = Ok []
+funcs_from n i cs (g ∷ gs) = do
+  f ← or_broken (broken.Typing (place_at part.Box n i)) (func_in cs g.told)
+  fs ← funcs_from n (i + 1) cs gs
+  Ok (f ∷ fs)
+
+abbrev pub kinds_told : Columns → List Func → List Kind
+kinds_told cs fs = filter_map (kind_of_func cs) fs
+
+-- the place of a field, unless it is one of those before
+abbrev pub group_place : Columns → List (List ℕ) → List ℕ → Option ℕ
+group_place cs before w = if contains_bytes w before then None else column_of w cs
+
+abbrev pub group_from : ℕ → ℕ → Columns → List (List ℕ) → List (List ℕ) → Result (List ℕ) NetErr
+group_from n i cs before [] = Ok []
+group_from n i cs before (w ∷ ws) = do
+  p ← or_broken (broken.Group (place_at part.Box n i)) (group_place cs before w)
+  ps ← group_from n (i + 1) cs (before ++ w ∷ []) ws
+  Ok (p ∷ ps)

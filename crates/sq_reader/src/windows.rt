@@ -1,0 +1,46 @@
+// The rule on the windows of Aggregates.
+ghost use Rattle.std.specs.Prelude.{◌≡◌, ◌≤◌, length, option_map};
+ghost use Rattle.sq_net.specs.declared.Part.TheVariants as part;
+ghost use Rattle.sq_reader.specs.Limits.{first_failing};
+ghost use Rattle.sq_reader.specs.Windows.{has_window, is_window, window_place};
+ghost use Rattle.sq_tables.specs.Places.{place_of};
+
+use crate::limits::whole;
+use sq_net::{Part, Place};
+use sq_tables::{Raw, RawBody, RawBox};
+
+fn is_window(size: i64, advance: i64) -> bool
+    ensures { result ≡ is_window size advance }
+{
+    1 <= advance && advance <= size && size <= 1 << 32 && size <= 4096 * advance
+}
+
+fn has_window(body: &RawBody) -> bool
+    ensures { result ≡ has_window body.now }
+{
+    match body {
+        RawBody::Aggregate { size, advance, .. } => is_window(*size, *advance),
+        RawBody::Filter { .. }
+        | RawBody::Map { .. }
+        | RawBody::Union
+        | RawBody::BSort { .. }
+        | RawBody::Join { .. } => true,
+    }
+}
+
+fn box_without_window(boxes: &[RawBox]) -> Option<usize>
+    ensures { result ≡ first_failing (λ b. has_window b.body) boxes.now }
+{
+    boxes.iter().position(|b| !has_window(&b.body))
+}
+
+/// The first Aggregate whose size and advance are no window.
+pub(crate) fn window_place(raw: &Raw) -> Option<Place>
+    requires { length raw.now.boxes ≤ 128 }
+    ensures { result ≡ window_place raw.now }
+{
+    match box_without_window(raw.boxes.as_slice()) {
+        Some(number) => Some(whole(Part::Box, number)),
+        None => None,
+    }
+}
