@@ -17,11 +17,11 @@ use Rattle.sq_lists.proofs.GroupLemmas.{keyed-list}
 use Rattle.sq_lists.proofs.WindowLemmas.{flat_map-range}
 use Rattle.sq_oper.specs.declared.tally.Place.TheVariants.{Start}
 use Rattle.sq_oper.specs.Entries.{Entry}
-use Rattle.sq_oper.specs.Order.{AllFit, IsFuture}
+use Rattle.sq_oper.specs.Order.{AllFit, unmarked, IsFuture}
 use Rattle.sq_oper.specs.Streams.{tuple_in, tuples_of, things, at_zero}
 use Rattle.sq_oper.proofs.StreamLemmas.{things-append, at_zero-append}
 use Rattle.sq_agg.specs.Positions.{View, open_at, told_between, view_gives, view_run, kept_at, last_time, NotFalling}
-use Rattle.sq_agg.specs.Slots.{Slot, Folding, with_tuple, with_mark, lessened, covers, change_load, change_slot, slot_content, entry_time, agg_next, agg_gives, agg_rest, first_view, unmarked}
+use Rattle.sq_agg.specs.Slots.{Slot, Folding, with_tuple, with_mark, lessened, covers, change_load, change_slot, slot_content, entry_time, agg_next, agg_gives, agg_rest, first_view}
 use Rattle.sq_agg.proofs.EntryLemmas.{not-falling}
 use Rattle.sq_agg.proofs.PositionLemmas.{view-list}
 use Rattle.sq_agg.proofs.TickLemmas.{starts-among}

@@ -8,7 +8,7 @@ use Rattle.sq_value.specs.Values.{fields_cmp}
 use Rattle.sq_item.specs.Things.{Thing, Body}
 use Rattle.sq_aggfn.specs.declared.WindowSpec.{WindowSpec}
 use Rattle.sq_aggfn.proofs.KeyedLemmas.{Ascends}
-use Rattle.sq_lists.proofs.SorterFacts.{All-map}
+use Rattle.sq_lists.proofs.AllLemmas.{All-weaker}
 use Rattle.sq_lists.proofs.WindowLemmas.{flat_map-range, flat_map-nothing}
 use Rattle.sq_oper.specs.Streams.{things}
 use Rattle.sq_agg.specs.Positions.{told_between, open_at}
@@ -30,7 +30,7 @@ module _ {M : Type 0} where
   pub starts_rise : (least : ℕ) (es : List (Key × M)) → AllByRecursion (λ e. least ≤ start_of e) es → Ascends key_cmp key_order es → Rises start_of least es
   starts_rise least [] low up = tt
   starts_rise least (e ∷ es) low up =
-      (low.0, starts_rise e.0.0 es (All-map (λ h. key_cmp e.0 h.0 ≡ Less) (λ h. e.0.0 ≤ start_of h) (λ h k. start-rises-by e.0 h.0 (nat_cmp e.0.0 h.0.0) refl k) es up.0) up.1)
+      (low.0, starts_rise e.0.0 es (All-weaker (λ h. key_cmp e.0 h.0 ≡ Less) (λ h. e.0.0 ≤ start_of h) (λ h k. start-rises-by e.0 h.0 (nat_cmp e.0.0 h.0.0) refl k) es up.0) up.1)
 
   -- the entries of the windows that begin before a tick
   front-below : (mid : ℕ) (es : List (Key × M)) → AllByRecursion (λ e. start_of e < mid) (front_of mid es)
@@ -70,7 +70,7 @@ module _ {M : Type 0} (f : Folding M) where
   as-things (e ∷ es) = ap (λ l. told_as e ∷ l) (as-things es)
 
   below-range : (from mid : ℕ) → from ≤ mid → (es : List (Key × M)) → AllByRecursion (λ e. start_of e < mid) es → AllByRecursion (λ e. start_of e < from + (mid - from)) es
-  below-range from mid le es all = All-map (λ e. start_of e < mid) (λ e. start_of e < from + (mid - from)) (λ e h. omega (arith, h, le)) es all
+  below-range from mid le es all = All-weaker (λ e. start_of e < mid) (λ e. start_of e < from + (mid - from)) (λ e h. omega (arith, h, le)) es all
 
   -- what the machine gives from one tick on, below another, is the results of the entries that begin there, in their order
   pub closing : (from mid : ℕ) (es : List (Key × M)) → from ≤ mid → Rises start_of from es → told_between (slot_content f) (shown es) from mid ≡ things (results_of f.told (front_of mid es))
@@ -86,4 +86,4 @@ told-nothing f a n = flat_map-nothing (λ p. slot_content f p (shown [] p)) a n 
 
 -- open windows begin at the first tick that is open, or later
 pub open-low : {M : Type 0} (w : WindowSpec) (width now : ℕ) (es : List (Key × M)) → AllOpen w width now es → AllByRecursion (λ e. open_at w.size now ≤ e.0.0) es
-open-low w width now es all = All-map (λ e. IsOpenKey w width now e.0) (λ e. open_at w.size now ≤ e.0.0) (λ e h. (let ends = h.ends in omega (arith, ends))) es all
+open-low w width now es all = All-weaker (λ e. IsOpenKey w width now e.0) (λ e. open_at w.size now ≤ e.0.0) (λ e h. (let ends = h.ends in omega (arith, ends))) es all

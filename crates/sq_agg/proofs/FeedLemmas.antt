@@ -1,5 +1,5 @@
 -- A feed gives what the machine gives, and leaves what the machine leaves.
-use Rattle.std.proofs.Common.{◌≡◌, ℕ, zero, suc, ◌+◌, ◌-◌, ◌^◌, ◌<◌, ◌≤◌, Bool, true, false, cond, ◌&&◌, true≢false, List, [], ◌∷◌, ◌++◌, map, Option, Some, None, refl, ap, ap₂, sym, ◌∙◌, subst, append_assoc, append-nil, arith, tests}
+use Rattle.std.proofs.Common.{◌≡◌, ℕ, zero, suc, ◌+◌, ◌-◌, ◌^◌, ◌<◌, ◌≤◌, Bool, true, false, cond, ◌&&◌, List, [], ◌∷◌, ◌++◌, map, Option, Some, None, refl, ap, ap₂, sym, ◌∙◌, subst, append_assoc, append-nil, arith, tests}
 use Rattle.std.specs.Prelude.{if◌then◌else◌, nat_lt, ◌==◌}
 use Rattle.std.specs.List.{AllByRecursion, flat_map, range_with_len, filter}
 use Rattle.sq_value.specs.declared.Value.{Value}
@@ -13,36 +13,26 @@ use Rattle.sq_aggfn.specs.declared.WindowSpec.{WindowSpec}
 use Rattle.sq_aggfn.specs.Groups.{group_of}
 use Rattle.sq_aggfn.specs.Keyed.{added}
 use Rattle.sq_aggfn.proofs.KeyedLemmas.{Ascends}
-use Rattle.sq_lists.proofs.SorterFacts.{All-map}
+use Rattle.sq_lists.proofs.AllLemmas.{All-weaker, All-append}
 use Rattle.sq_lists.proofs.WindowLemmas.{flat_map-range}
 use Rattle.sq_oper.specs.declared.tally.Place.{Place}
 use Rattle.sq_oper.specs.Entries.{Entry, at_port, entries}
 use Rattle.sq_oper.specs.Given.{ThingsUpTo}
-use Rattle.sq_oper.specs.Order.{IsFuture, InOrder, time_of, after}
+use Rattle.sq_oper.specs.Order.{IsFuture, InOrder, unmarked, time_of, after}
 use Rattle.sq_oper.specs.Streams.{things, at_zero}
 use Rattle.sq_oper.proofs.GivenLemmas.{IsPrefixOf-longer}
-use Rattle.sq_oper.proofs.StreamLemmas.{UpTo-at_zero}
+use Rattle.sq_oper.proofs.StreamLemmas.{at_zero-nil, All-at_zero, UpTo-at_zero, may-come-time}
+use Rattle.sq_oper.proofs.FedLemmas.{tuple_at, tuple_entry, unmarked-item}
 use Rattle.sq_agg.specs.Positions.{open_at, told_between, kept_at, last_time, NotFalling}
-use Rattle.sq_agg.specs.Slots.{Slot, Folding, covers, with_tuple, change_slot, slot_content, entry_time, agg_rest, agg_next, agg_gives, unmarked}
+use Rattle.sq_agg.specs.Slots.{Slot, Folding, covers, with_tuple, change_slot, slot_content, entry_time, agg_rest, agg_next, agg_gives}
 use Rattle.sq_agg.specs.Held.{Key, key_cmp, groups_at, shown, view_of, front_of, back_of, results_of, IsOpenKey, IsSoundKey, AllOpen, grown, aggregate_rest, OnlyOpen}
-use Rattle.sq_agg.proofs.EntryLemmas.{may-come-time, not-falling}
+use Rattle.sq_agg.proofs.EntryLemmas.{not-falling}
 use Rattle.sq_agg.proofs.AggregateLemmas.{agg-ticks}
 use Rattle.sq_agg.proofs.HeldLemmas.{key_order}
 use Rattle.sq_agg.proofs.CloseLemmas.{start_of, closing, starts_rise, open-low, told-nothing}
 use Rattle.sq_agg.proofs.StartLemmas.{Rises}
 
--- an item without a mark
-pub unmarked_item : (fits : ℕ → List Value → Bool) (place : Place) (port : ℕ) (item : Item) (future : List Entry) → IsFuture unmarked fits place (entries port item ++ future) → item.mark ≡ None
-unmarked_item fits place port item future h = by item.mark refl h
-  where
-    by : (m : Option Mark) → item.mark ≡ m → IsFuture unmarked fits place (at_port port (mark_part item.time m ++ body_part item.time item.body) ++ future) → item.mark ≡ None
-    by None e h = e
-    by (Some m) e h = absurd (true≢false (sym h.fitting.0))
-
-abbrev pub entry_of : ℕ → ℕ → List Value → Entry
-entry_of port time fields = record { port = port; thing = record { time = time; load = Body fields } }
-
-pub entries-are : (port : ℕ) (item : Item) (fields : List Value) → item.mark ≡ None → item.body ≡ Some fields → entries port item ≡ entry_of port item.time fields ∷ []
+pub entries-are : (port : ℕ) (item : Item) (fields : List Value) → item.mark ≡ None → item.body ≡ Some fields → entries port item ≡ tuple_entry port item.time fields ∷ []
 entries-are port item fields unmarked is = ap₂ (λ m b. at_port port (mark_part item.time m ++ body_part item.time b)) unmarked is
 
 -- what begins before a tick doesn't show at it
@@ -78,13 +68,13 @@ module _ {M : Type 0} (f : Folding M) (w : WindowSpec) (some : 0 < w.size) where
   module _ (width port : ℕ) (item : Item) (fields : List Value) (is : item.body ≡ Some fields) (fits : ℕ → List Value → Bool) (place : Place) (future : List Entry)
       (may : IsFuture unmarked fits place (entries port item ++ future)) (es : List (Key × M)) (all : AllOpen w width (time_of place) es) (up : Ascends key_cmp key_order es) where
     abbrev tuple : Tuple
-    tuple = record { time = item.time; fields = fields }
+    tuple = tuple_at item.time fields
 
     abbrev entry : Entry
-    entry = entry_of port item.time fields
+    entry = tuple_entry port item.time fields
 
     whole : entries port item ++ future ≡ entry ∷ future
-    whole = ap (λ l. l ++ future) (entries-are port item fields (unmarked_item fits place port item future may) is)
+    whole = ap (λ l. l ++ future) (entries-are port item fields (unmarked-item fits place port item future may) is)
 
     order : InOrder place (entry ∷ future)
     order = subst (InOrder place) whole may.in_order
@@ -132,12 +122,8 @@ module _ {M : Type 0} (f : Folding M) (w : WindowSpec) (some : 0 < w.size) where
 
   -- each thing that is told has the time of its tick
   content-times : (p : ℕ) (s : Slot M) → AllByRecursion (λ (thing : Thing). thing.time ≡ p) (slot_content f p s)
-  content-times p s = All-both (map (λ m. record { time = p; load = Sign m }) s.marks) (map (λ (g : List Value × M). record { time = p; load = Body (g.0 ++ f.told g.1) }) s.groups) (marks s.marks) (groups s.groups)
+  content-times p s = All-append (λ (thing : Thing). thing.time ≡ p) (map (λ m. record { time = p; load = Sign m }) s.marks) (map (λ (g : List Value × M). record { time = p; load = Body (g.0 ++ f.told g.1) }) s.groups) (marks s.marks) (groups s.groups)
     where
-      All-both : (xs ys : List Thing) → AllByRecursion (λ (thing : Thing). thing.time ≡ p) xs → AllByRecursion (λ (thing : Thing). thing.time ≡ p) ys → AllByRecursion (λ (thing : Thing). thing.time ≡ p) (xs ++ ys)
-      All-both [] ys h k = k
-      All-both (x ∷ xs) ys h k = (h.0, All-both xs ys h.1 k)
-
       marks : (ms : List Mark) → AllByRecursion (λ (thing : Thing). thing.time ≡ p) (map (λ m. record { time = p; load = Sign m }) ms)
       marks [] = tt
       marks (m ∷ ms) = (refl, marks ms)
@@ -150,32 +136,25 @@ module _ {M : Type 0} (f : Folding M) (w : WindowSpec) (some : 0 < w.size) where
   told-all : (P : Thing → Type 0) (at : ℕ → Slot M) (a n : ℕ) → ((p : ℕ) (thing : Thing) → a ≤ p → p < a + n → thing.time ≡ p → P thing) → AllByRecursion P (flat_map (λ p. slot_content f p (at p)) (range_with_len a n))
   told-all P at a n h = go a n h
     where
-      All-both : (xs ys : List Thing) → AllByRecursion P xs → AllByRecursion P ys → AllByRecursion P (xs ++ ys)
-      All-both [] ys h k = k
-      All-both (x ∷ xs) ys h k = (h.0, All-both xs ys h.1 k)
-
       go : (a n : ℕ) → ((p : ℕ) (thing : Thing) → a ≤ p → p < a + n → thing.time ≡ p → P thing) → AllByRecursion P (flat_map (λ p. slot_content f p (at p)) (range_with_len a n))
       go a zero h = tt
       go a (suc n) h =
-          All-both (slot_content f a (at a)) (flat_map (λ p. slot_content f p (at p)) (range_with_len (a + 1) n))
-          (All-map (λ thing. thing.time ≡ a) P (λ thing e. h a thing (omega arith) (omega arith) e) (slot_content f a (at a)) (content-times a (at a)))
+          All-append P (slot_content f a (at a)) (flat_map (λ p. slot_content f p (at p)) (range_with_len (a + 1) n))
+          (All-weaker (λ thing. thing.time ≡ a) P (λ thing e. h a thing (omega arith) (omega arith) e) (slot_content f a (at a)) (content-times a (at a)))
           (go (a + 1) n (λ p thing lo hi e. h p thing (omega (arith, lo)) (omega (arith, hi)) e))
-
-  All-at_zero : (P : Thing → Type 0) (q : ℕ) (xs : List Thing) → AllByRecursion P xs → AllByRecursion P (at_zero q xs)
-  All-at_zero P q xs h = elim (0 == q) as (λ b. AllByRecursion P (if b then xs else [])) [ true ↦ h | false ↦ tt ]
 
   -- what is given now or is still held has no later time
   pub aggregate_times : (width port : ℕ) (item : Item) (fields : List Value) → item.body ≡ Some fields → (fits : ℕ → List Value → Bool) (place : Place) → IsFuture unmarked fits place (entries port item)
       → (es : List (Key × M)) (q : ℕ) → ThingsUpTo item.time (aggregate_rest f w (time_of place) es (entries port item) q)
   aggregate_times width port item fields is fits place may es q =
       let may' = subst (IsFuture unmarked fits place) (sym (append-nil (entries port item))) may in
-      let one = entries-are port item fields (unmarked_item fits place port item [] may') is in
+      let one = entries-are port item fields (unmarked-item fits place port item [] may') is in
       let order = subst (InOrder place) one may.in_order in
       let first = open_at w.size (time_of place) in
       subst (λ l. ThingsUpTo item.time (aggregate_rest f w (time_of place) es l q)) (sym one)
-      (subst (ThingsUpTo item.time) (sym (agg-ticks f w some (entry_of port item.time fields ∷ []) (view_of (time_of place) es) q (not-falling place (entry_of port item.time fields ∷ []) order)))
-      (UpTo-at_zero item.time q (told_between (slot_content f) (λ p. kept_at (change_slot f w) p (entry_of port item.time fields ∷ []) (shown es p)) first (item.time + 1))
-      (told-all (λ (thing : Thing). thing.time ≤ item.time) (λ p. kept_at (change_slot f w) p (entry_of port item.time fields ∷ []) (shown es p)) first (item.time + 1 - first) (λ p thing lo hi e. omega (arith, lo, hi, e)))))
+      (subst (ThingsUpTo item.time) (sym (agg-ticks f w some (tuple_entry port item.time fields ∷ []) (view_of (time_of place) es) q (not-falling place (tuple_entry port item.time fields ∷ []) order)))
+      (UpTo-at_zero item.time q (told_between (slot_content f) (λ p. kept_at (change_slot f w) p (tuple_entry port item.time fields ∷ []) (shown es p)) first (item.time + 1))
+      (told-all (λ (thing : Thing). thing.time ≤ item.time) (λ p. kept_at (change_slot f w) p (tuple_entry port item.time fields ∷ []) (shown es p)) first (item.time + 1 - first) (λ p thing lo hi e. omega (arith, lo, hi, e)))))
 
   -- only open windows are held
   pub aggregate_little : (now : ℕ) (es : List (Key × M)) (q : ℕ) → OnlyOpen w.size now (aggregate_rest f w now es [] q)
@@ -195,25 +174,18 @@ module _ {M : Type 0} (f : Folding M) (w : WindowSpec) (some : 0 < w.size) where
   pub aggregate_end : (width now : ℕ) (es : List (Key × M)) (q mid : ℕ) → AllOpen w width now es → Ascends key_cmp key_order es → AllByRecursion (λ e. e.0.0 < mid) es
       → aggregate_rest f w now es [] q ≡ at_zero q (things (results_of f.told (front_of mid es)))
   aggregate_end width now es q mid all up below =
-      let begun = All-map (λ (e : Key × M). IsOpenKey w width now e.0) (λ e. e.0.0 < now + 1) (λ e h. (let b = h.begun in omega (arith, b))) es all in
+      let begun = All-weaker (λ (e : Key × M). IsOpenKey w width now e.0) (λ e. e.0.0 < now + 1) (λ e h. (let b = h.begun in omega (arith, b))) es all in
       ap (at_zero q)
       (closing f (open_at w.size now) (now + 1) es (omega arith) (starts_rise (open_at w.size now) es (open-low w width now es all) up)
       ∙ ap (λ l. things (results_of f.told l)) (front-all (now + 1) es begun ∙ sym (front-all mid es below)))
 
-  nothing-at : (q : ℕ) → at_zero {A = Thing} q [] ≡ []
-  nothing-at q = by (0 == q)
-    where
-      by : (b : Bool) → cond {A = List Thing} b [] [] ≡ []
-      by true = refl
-      by false = refl
-
   pub aggregate_empty : (now q : ℕ) → aggregate_rest f w now [] [] q ≡ []
-  aggregate_empty now q = ap (at_zero q) (told-nothing f (open_at w.size now) (now + 1 - open_at w.size now)) ∙ nothing-at q
+  aggregate_empty now q = ap (at_zero q) (told-nothing f (open_at w.size now) (now + 1 - open_at w.size now)) ∙ at_zero-nil q
 
 -- open windows may give their results
 pub sound_keys : {M : Type 0} (w : WindowSpec) (width now : ℕ) → now < 2 ^ 40 → (es : List (Key × M)) → AllOpen w width now es → AllByRecursion (λ e. IsSoundKey width e.0) es
 sound_keys {M} w width now tick es all =
-    All-map (λ (e : Key × M). IsOpenKey w width now e.0) (λ e. IsSoundKey width e.0) (λ e h. record { tick = (let b = h.begun in omega (arith, b, tick)); least = h.least; most = h.most }) es all
+    All-weaker (λ (e : Key × M). IsOpenKey w width now e.0) (λ e. IsSoundKey width e.0) (λ e h. record { tick = (let b = h.begun in omega (arith, b, tick)); least = h.least; most = h.most }) es all
 
 pub All_back : {M : Type 0} (P : Key × M → Type 0) (mid : ℕ) (es : List (Key × M)) → AllByRecursion P es → AllByRecursion P (back_of mid es)
 All_back P mid [] all = tt
@@ -221,7 +193,7 @@ All_back P mid (e ∷ es) all = elim (nat_lt e.0.0 mid) as (λ b. AllByRecursion
 
 rises-all : {M : Type 0} (least : ℕ) (es : List (Key × M)) → Rises start_of least es → AllByRecursion (λ e. least ≤ e.0.0) es
 rises-all least [] up = tt
-rises-all least (e ∷ es) up = (up.0, (let le = up.0 in All-map (λ h. e.0.0 ≤ h.0.0) (λ h. least ≤ h.0.0) (λ h k. omega (arith, le, k)) es (rises-all e.0.0 es up.1)))
+rises-all least (e ∷ es) up = (up.0, (let le = up.0 in All-weaker (λ h. e.0.0 ≤ h.0.0) (λ h. least ≤ h.0.0) (λ h k. omega (arith, le, k)) es (rises-all e.0.0 es up.1)))
 
 -- what is left begins at the tick, or later
 back-high : {M : Type 0} (mid least : ℕ) (es : List (Key × M)) → Rises start_of least es → AllByRecursion (λ e. mid ≤ e.0.0) (back_of mid es)
@@ -232,7 +204,7 @@ back-high {M} mid least (e ∷ es) up = by (nat_lt e.0.0 mid) refl (back-high mi
     by true k ih = ih
     by false k ih =
         let le : mid ≤ e.0.0 = grind (arith, tests) in
-        (le, All-map (λ h. e.0.0 ≤ h.0.0) (λ h. mid ≤ h.0.0) (λ h low. omega (arith, le, low)) es (rises-all e.0.0 es up.1))
+        (le, All-weaker (λ h. e.0.0 ≤ h.0.0) (λ h. mid ≤ h.0.0) (λ h low. omega (arith, le, low)) es (rises-all e.0.0 es up.1))
 
 still-open : {M : Type 0} (w : WindowSpec) (width now time : ℕ) → now ≤ time → (es : List (Key × M)) → AllOpen w width now es → AllByRecursion (λ e. open_at w.size time ≤ e.0.0) es → AllOpen w width time es
 still-open w width now time le [] all low = tt
@@ -252,4 +224,4 @@ back_open {M} w width now time le es all up =
 -- open windows begin before a tick that is far off
 pub below_ticks : {M : Type 0} (w : WindowSpec) (width now : ℕ) → now < 2 ^ 40 → (es : List (Key × M)) → AllOpen w width now es → AllByRecursion (λ e. e.0.0 < 2 ^ 64 - 1) es
 below_ticks {M} w width now tick es all =
-    All-map (λ (e : Key × M). IsOpenKey w width now e.0) (λ e. e.0.0 < 2 ^ 64 - 1) (λ e h. (let b = h.begun in omega (arith, b, tick))) es all
+    All-weaker (λ (e : Key × M). IsOpenKey w width now e.0) (λ e. e.0.0 < 2 ^ 64 - 1) (λ e h. (let b = h.begun in omega (arith, b, tick))) es all

@@ -7,4 +7,3 @@ pub mod StartLemmas
 pub mod CloseLemmas
 pub mod GrowLemmas
 pub mod FeedLemmas
-mod FedLemmas

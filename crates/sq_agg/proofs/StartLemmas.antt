@@ -2,15 +2,9 @@
 use Rattle.std.proofs.Common.{◌≡◌, ℕ, zero, suc, ◌+◌, ◌<◌, ◌≤◌, Bool, true, false, cond, not, List, [], ◌∷◌, ◌++◌, map, subst, refl, ap, sym, ◌∙◌, arith, tests}
 use Rattle.std.specs.Prelude.{◌==◌}
 use Rattle.std.specs.List.{AllByRecursion, filter, flat_map, range_with_len}
+use Rattle.std.proofs.lemmas.List.{map-append}
+use Rattle.sq_lists.proofs.AllLemmas.{All-weaker}
 use Rattle.sq_lists.proofs.WindowLemmas.{flat_map-range}
-
-all-map : {X : Type 0} (P Q : X → Type 0) → ((x : X) → P x → Q x) → (xs : List X) → AllByRecursion P xs → AllByRecursion Q xs
-all-map P Q f [] all = tt
-all-map P Q f (x ∷ xs) all = (f x all.0, all-map P Q f xs all.1)
-
-map-append : {X Y : Type 0} (f : X → Y) (xs ys : List X) → map f (xs ++ ys) ≡ map f xs ++ map f ys
-map-append f [] ys = refl
-map-append f (x ∷ xs) ys = ap (λ l. f x ∷ l) (map-append f xs ys)
 
 module _ {E : Type 0} (key : E → ℕ) where
   -- what is kept at a position
@@ -101,12 +95,12 @@ module _ {E : Type 0} (key : E → ℕ) where
   pub walk-finds : {A : Type 0} (give : ℕ → List E → List A) → ((p : ℕ) → give p [] ≡ []) → (tell : E → A) → ((p : ℕ) (es : List E) → AllByRecursion (λ e. key e ≡ p) es → give p es ≡ map tell es)
       → (n a : ℕ) (es : List E) → Rises a es → AllByRecursion (λ e. key e < a + n) es → flat_map (λ p. give p (kept_for p es)) (range_with_len a n) ≡ map tell es
   walk-finds give empty tell told zero a es up all =
-      ap (map tell) (nothing-left a es up (all-map (λ e. key e < a + 0) (λ e. key e < a) (λ e h. omega (arith, h)) es all))
+      ap (map tell) (nothing-left a es up (All-weaker (λ e. key e < a + 0) (λ e. key e < a) (λ e h. omega (arith, h)) es all))
   walk-finds give empty tell told (suc n) a es up all =
       let rest = others_than a es in
       ap (λ l. give a (kept_for a es) ++ l)
       (flat_map-range (λ p. give p (kept_for p es)) (λ p. give p (kept_for p rest)) (a + 1) n (λ p lo hi. ap (give p) (sym (kept-of-others a p (omega (arith, lo)) es)))
-      ∙ walk-finds give empty tell told n (a + 1) rest (others-rise a es up) (all-map (λ e. key e < a + suc n) (λ e. key e < a + 1 + n) (λ e h. omega (arith, h)) rest (below-others a (a + suc n) es all)))
+      ∙ walk-finds give empty tell told n (a + 1) rest (others-rise a es up) (All-weaker (λ e. key e < a + suc n) (λ e. key e < a + 1 + n) (λ e h. omega (arith, h)) rest (below-others a (a + suc n) es all)))
       ∙ ap (λ l. l ++ map tell rest) (told a (kept_for a es) (kept-at a es))
       ∙ sym (map-append tell (kept_for a es) rest)
       ∙ ap (map tell) (first-part a es up)

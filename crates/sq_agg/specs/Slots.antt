@@ -85,7 +85,3 @@ first_bound false p = p + 1
 
 abbrev pub first_view : {M : Type 0} → Bool → View (Slot M)
 first_view marked = record { now = 0; at = λ p. record { bound = first_bound marked p; marks = []; groups = [] } }
-
--- no port takes marks
-abbrev pub unmarked : ℕ → Bool
-unmarked port = false

@@ -7,10 +7,9 @@ ghost use Rattle.sq_aggfn.specs.Windows.{IsWindow};
 ghost use Rattle.sq_lists.specs.Windows.{aggregate_of};
 ghost use Rattle.sq_oper.specs.declared.tally.Place.{Place};
 ghost use Rattle.sq_oper.specs.Entries.{Entry};
-ghost use Rattle.sq_oper.specs.Order.{IsFuture, time_of};
+ghost use Rattle.sq_oper.specs.Order.{IsFuture, time_of, unmarked};
 ghost use Rattle.sq_oper.specs.Streams.{things, tuples_of, at_zero};
 ghost use Rattle.sq_agg.specs.Positions.{open_at};
-ghost use Rattle.sq_agg.specs.Slots.{unmarked};
 ghost use Rattle.sq_agg.specs.Held.{AllOpen, OnlyOpen, aggregate_rest, folding_of, makes_result};
 
 use crate::grow::add_tuple;
@@ -34,7 +33,7 @@ use std::sync::ledger::Ledger;
 pub struct AggregateBox<F: Fold + Drop> {
     fold: F,
     group: Vec<u32>,
-    w: WindowSpec,
+    window: WindowSpec,
     held: Held<F::State>,
     tally: Tally,
 }
@@ -46,14 +45,14 @@ impl<F: Fold + Drop> AggregateBox<F> {
         alloc: Global,
         fold: F,
         group: Vec<u32>,
-        w: WindowSpec,
+        window: WindowSpec,
         marked: bool,
     ) -> AggregateBox<F>
         requires unmarked { marked ≡ false }
-        requires window { IsWindow w }
+        requires window { IsWindow window }
         ensures list { (table : ℕ → ℕ → ℕ) (future : List Entry) (q : ℕ)
             → IsFuture (⟦<AggregateBox<F> as Operator>⟧.takes_marks result) (⟦<AggregateBox<F> as Operator>⟧.fits result) Place.Start future
-            → ⟦<AggregateBox<F> as Operator>⟧.rest result table future q ≡ at_zero q (things (aggregate_of (F.table fold) group.items w (tuples_of future))) }
+            → ⟦<AggregateBox<F> as Operator>⟧.rest result table future q ≡ at_zero q (things (aggregate_of (F.table fold) group.items window (tuples_of future))) }
         ensures none_lost { (future : List Entry) → ⟦<AggregateBox<F> as Operator>⟧.lost result future ≡ 0 }
         ensures fits { (port : ℕ) (fields : List Value) → ⟦<AggregateBox<F> as Operator>⟧.fits result port fields ≡ ((port == 0) && makes_result (length group.items) (F.width fold)) }
         ensures unmarked { (port : ℕ) → ⟦<AggregateBox<F> as Operator>⟧.takes_marks result port ≡ false }
@@ -64,7 +63,7 @@ impl<F: Fold + Drop> AggregateBox<F> {
         AggregateBox {
             fold,
             group,
-            w,
+            window,
             held: BTreeMap::new(alloc),
             tally: Tally::new(),
         }
@@ -80,7 +79,7 @@ fn first_open(size: u64, time: u64) -> u64
 }
 
 impl<F: Fold + Drop> Operator for AggregateBox<F> {
-    ghost valid = { λ s. IsWindow s.w × (time_of s.tally.place < 2 ^ 40) × AllOpen s.w (F.width s.fold) (time_of s.tally.place) s.held.entries
+    ghost valid = { λ s. IsWindow s.window × (time_of s.tally.place < 2 ^ 40) × AllOpen s.window (F.width s.fold) (time_of s.tally.place) s.held.entries
         × AllMade (F.made s.fold) (F.number s.fold) (λ k. s.tally.taken) s.held.entries × (s.tally.taken < 2 ^ 62) × (s.tally.running ≡ false → s.held.entries ≡ []) };
 
     ghost running = { λ s. s.tally.running };
@@ -93,12 +92,12 @@ impl<F: Fold + Drop> Operator for AggregateBox<F> {
 
     ghost fits = { λ s port fields. (port == 0) && makes_result (length s.group.items) (F.width s.fold) };
 
-    ghost rest = { λ s table future q. aggregate_rest (folding_of s.group.items (F.none s.fold) (F.joined s.fold) (F.unit s.fold) (F.told s.fold)) s.w (time_of s.tally.place) s.held.entries future q };
+    ghost rest = { λ s table future q. aggregate_rest (folding_of s.group.items (F.none s.fold) (F.joined s.fold) (F.unit s.fold) (F.told s.fold)) s.window (time_of s.tally.place) s.held.entries future q };
 
     ghost decides = { λ s table future. [] };
 
     ghost holds_little = { λ s time. (table : ℕ → ℕ → ℕ) (q : ℕ)
-        → OnlyOpen s.w.size time (aggregate_rest (folding_of s.group.items (F.none s.fold) (F.joined s.fold) (F.unit s.fold) (F.told s.fold)) s.w (time_of s.tally.place) s.held.entries [] q) };
+        → OnlyOpen s.window.size time (aggregate_rest (folding_of s.group.items (F.none s.fold) (F.joined s.fold) (F.unit s.fold) (F.told s.fold)) s.window (time_of s.tally.place) s.held.entries [] q) };
 
     ghost lost = { λ s future. 0 };
 
@@ -117,7 +116,7 @@ impl<F: Fold + Drop> Operator for AggregateBox<F> {
             give_before(
                 &self.fold,
                 &mut self.held,
-                first_open(self.w.size, time),
+                first_open(self.window.size, time),
                 out,
             )?;
             let tuple = Tuple { time, fields };
@@ -126,7 +125,7 @@ impl<F: Fold + Drop> Operator for AggregateBox<F> {
                 alloc,
                 &self.fold,
                 &self.group,
-                self.w,
+                self.window,
                 &mut self.held,
                 &tuple,
             )?;

@@ -16,24 +16,29 @@ pub fn add_tuple<F: Fold>(
     alloc: Global,
     fold: &F,
     by: &[u32],
-    w: WindowSpec,
+    window: WindowSpec,
     held: &mut Held<F::State>,
-    t: &Tuple,
+    tuple: &Tuple,
 ) -> Result<(), AllocError>
-    requires window { IsWindow w }
-    requires tick { t.now.time < 2 ^ 40 }
+    requires window { IsWindow window }
+    requires tick { tuple.now.time < 2 ^ 40 }
     requires width { (1 ≤ length by.now + F.width fold.now) × (length by.now + F.width fold.now ≤ 16) }
-    requires open { AllOpen w (F.width fold.now) t.now.time held.old.entries }
+    requires open { AllOpen window (F.width fold.now) tuple.now.time held.old.entries }
     requires made { AllMade (F.made fold.now) (F.number fold.now) (λ k. 2 ^ 62 - 2) held.old.entries }
     ensures groups { OnOk result ((p : ℕ) → groups_at p held.new.entries
-        ≡ grown (folding_of by.now (F.none fold.now) (F.joined fold.now) (F.unit fold.now) (F.told fold.now)) w t.now p (groups_at p held.old.entries)) }
-    ensures open { OnOk result (AllOpen w (F.width fold.now) t.now.time held.new.entries) }
+        ≡ grown (folding_of by.now (F.none fold.now) (F.joined fold.now) (F.unit fold.now) (F.told fold.now)) window tuple.now p (groups_at p held.old.entries)) }
+    ensures open { OnOk result (AllOpen window (F.width fold.now) tuple.now.time held.new.entries) }
     ensures made { OnOk result ((most : ℕ) → AllMade (F.made fold.now) (F.number fold.now) (λ k. most) held.old.entries
         → AllMade (F.made fold.now) (F.number fold.now) (λ k. most + 1) held.new.entries) }
 {
-    for k in first_covering(w, t.time)..t.time / w.advance + 1 {
+    for k in first_covering(window, tuple.time)..tuple.time / window.advance + 1 {
         let _count = held.len();
-        add_at(fold, held, (k * w.advance, group_of(alloc, by, t)?), t)?;
+        add_at(
+            fold,
+            held,
+            (k * window.advance, group_of(alloc, by, tuple)?),
+            tuple,
+        )?;
     }
     Ok(())
 }

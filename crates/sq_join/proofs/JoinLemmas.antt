@@ -1,7 +1,8 @@
 -- The law of a Join: what it gives for a tuple, what it holds then, and that no more is needed.
-use Rattle.std.proofs.Common.{◌≡◌, ℕ, zero, suc, ◌+◌, ◌-◌, ◌<◌, ◌≤◌, ◌^◌, max, Bool, true, false, cond, ◌&&◌, ◌||◌, ◌⊎◌, inl, inr, IsTrue, List, [], ◌∷◌, ◌++◌, length, Option, Some, None, Result, Ok, Err, OnErr, is_some, refl, ap, ap₂, sym, ◌∙◌, append-nil, append_assoc, length-append, zero-le, arith, tests}
+use Rattle.std.proofs.Common.{◌≡◌, ℕ, zero, suc, ◌+◌, ◌-◌, ◌<◌, ◌≤◌, ◌^◌, max, Bool, true, false, cond, ◌||◌, ◌⊎◌, inl, inr, IsTrue, List, [], ◌∷◌, ◌++◌, length, Option, Some, None, is_some, refl, ap, ap₂, sym, ◌∙◌, append-nil, append_assoc, length-append, zero-le, arith, tests}
 use Rattle.std.specs.Prelude.{if◌then◌else◌, nat_lt, nat_le, ◌==◌}
 use Rattle.std.specs.List.{AllByRecursion}
+use Rattle.std.proofs.lemmas.Bool.{and_parts}
 use Rattle.sq_value.specs.declared.Value.{Value}
 use Rattle.sq_value.specs.declared.Tuple.{Tuple}
 use Rattle.sq_value.specs.Lists.{IsPrefixOf}
@@ -14,22 +15,21 @@ use Rattle.sq_item.specs.Sound.{IsSound}
 use Rattle.sq_item.specs.Things.{Thing, mark_part, body_part}
 use Rattle.sq_lists.specs.Pairs.{pair_of, pairs_from, join_list_of}
 use Rattle.sq_lists.specs.WindowParts.{NotFalling}
+use Rattle.sq_lists.proofs.AllLemmas.{All-weaker, All-push}
+use Rattle.sq_lists.proofs.WindowLemmas.{lower}
 use Rattle.sq_oper.specs.declared.tally.Place.{Place}
 use Rattle.sq_oper.specs.declared.tally.Place.TheVariants.{Start}
 use Rattle.sq_oper.specs.Entries.{Entry, at_port, entries}
 use Rattle.sq_oper.specs.Given.{ThingsUpTo}
-use Rattle.sq_oper.specs.Order.{time_of, after_all, IsFuture}
-use Rattle.sq_oper.specs.Streams.{things, at_zero}
+use Rattle.sq_oper.specs.Order.{time_of, unmarked, IsFuture}
+use Rattle.sq_oper.specs.Streams.{IsSoundTuple, things, at_zero}
 use Rattle.sq_oper.proofs.GivenLemmas.{IsPrefixOf-append, IsPrefixOf-trans}
-use Rattle.sq_oper.proofs.StreamLemmas.{things-append, at_zero-append, UpTo-things, UpTo-at_zero, time-after}
+use Rattle.sq_oper.proofs.StreamLemmas.{things-append, at_zero-append, at_zero-nil, UpTo-things, UpTo-at_zero}
+use Rattle.sq_oper.proofs.FedLemmas.{tuple_at, read-fed, time-before-item, unmarked-item}
 use Rattle.sq_join.specs.Elements.{elements_of, side_of}
-use Rattle.sq_join.specs.Sides.{held_of, join_rest, most_at, join_fits, recent, pair_at, pairs_with, against, left_with, right_with, IsSoundTuple, IsSide, AllNear}
+use Rattle.sq_join.specs.Sides.{held_of, join_rest, most_at, join_fits, recent, pair_at, pairs_with, against, left_with, right_with, IsSide, AllNear}
 use Rattle.sq_join.proofs.PairLemmas.{gives-now, gives-later}
-use Rattle.sq_join.proofs.TurnLemmas.{no_marks, merged, future-turn, future-sides, fit-side}
-
-pub on_err : {T E A : Type 0} (r : Result T E) → A → OnErr r A
-on_err (Ok x) a = tt
-on_err (Err e) a = a
+use Rattle.sq_join.proofs.TurnLemmas.{merged, future-turn, future-sides, fit-side}
 
 pub against_left : (side : ℕ) (left right : List Tuple) → side ≡ 0 → against side left right ≡ right
 against_left side left right is = rw is refl
@@ -39,68 +39,41 @@ against_right zero left right apart = absurd (apart refl)
 against_right (suc n) left right apart = let e : (suc n == 0) ≡ false = grind (arith, tests) in ap (λ b. if b then right else left) e
 
 pub join_nil : (size : ℕ) (on : Expr) (left right : List Tuple) (q : ℕ) → join_rest size on left right [] q ≡ []
-join_nil size on left right q = elim (0 == q) as (λ b. cond {A = List Thing} b [] [] ≡ []) [ true ↦ refl | false ↦ refl ]
+join_nil size on left right q = at_zero-nil q
 
 -- a new box
-pub join_new : (size : ℕ) (on : Expr) (columns : Columns) (future : List Entry) (q : ℕ) → IsFuture no_marks (join_fits columns) Start future
+pub join_new : (size : ℕ) (on : Expr) (columns : Columns) (future : List Entry) (q : ℕ) → IsFuture unmarked (join_fits columns) Start future
     → join_rest size on [] [] future q ≡ at_zero q (things (join_list_of size on (side_of 0 (elements_of future)) (side_of 1 (elements_of future))))
 join_new size on columns future q may =
     ap (λ es. at_zero q (things (pairs_from size on [] es)))
     (sym (merged 0 0 (elements_of future) (future-turn (join_fits columns) Start future may) (future-sides columns Start future may)))
 
 -- no item without a tuple may come
-pub no_body : (columns : Columns) (place : Place) (port : ℕ) (item : Item) → item.body ≡ None → IsSound item → IsFuture no_marks (join_fits columns) place (entries port item) → ⊥
-no_body columns place port item is sound may = by item.mark item.body is sound.some may
+pub no_body : (columns : Columns) (place : Place) (port : ℕ) (item : Item) → item.body ≡ None → IsSound item → IsFuture unmarked (join_fits columns) place (entries port item) → ⊥
+no_body columns place port item is sound may =
+    let no_mark = unmarked-item (join_fits columns) place port item [] (rw (append-nil (entries port item)) may) in
+    neither item.mark item.body no_mark is sound.some
   where
-    by : (m : Option Mark) (b : Option (List Value)) → b ≡ None → (is_some m || is_some b) ≡ true
-        → IsFuture no_marks (join_fits columns) place (at_port port (mark_part item.time m ++ body_part item.time b)) → ⊥
-    by m (Some f) e some h = cc
-    by None None e some h = cc
-    by (Some k) None e some h = let f = h.fitting.0 in cc
-
-abbrev pub at_time_of : ℕ → List Value → Tuple
-at_time_of time fields = record { time = time; fields = fields }
+    neither : (m : Option Mark) (b : Option (List Value)) → m ≡ None → b ≡ None → (is_some m || is_some b) ≡ true → ⊥
+    neither None None e f h = cc
+    neither None (Some v) e f h = cc
+    neither (Some k) b e f h = cc
 
 elements-fed : (port : ℕ) (item : Item) (fields : List Value) (future : List Entry) → item.body ≡ Some fields
-    → elements_of (entries port item ++ future) ≡ (port, at_time_of item.time fields) ∷ elements_of future
-elements-fed port item fields future is = by item.mark item.body is
-  where
-    by : (m : Option Mark) (b : Option (List Value)) → b ≡ Some fields
-        → elements_of (at_port port (mark_part item.time m ++ body_part item.time b) ++ future) ≡ (port, at_time_of item.time fields) ∷ elements_of future
-    by m None e = cc
-    by None (Some f) e = let same : f ≡ fields = cc in rw same refl
-    by (Some k) (Some f) e = let same : f ≡ fields = cc in rw same refl
-
-pub place_after : (place : Place) (port : ℕ) (item : Item) (fields : List Value) → item.body ≡ Some fields → time_of (after_all place (entries port item)) ≡ item.time
-place_after place port item fields is = by item.mark item.body is
-  where
-    by : (m : Option Mark) (b : Option (List Value)) → b ≡ Some fields → time_of (after_all place (at_port port (mark_part item.time m ++ body_part item.time b))) ≡ item.time
-    by m None e = cc
-    by m (Some f) e = time-after place port item.time m f
+    → elements_of (entries port item ++ future) ≡ (port, tuple_at item.time fields) ∷ elements_of future
+elements-fed port item fields future is = read-fed elements_of (λ port time m es. refl) port item future fields is
 
 -- ---- a side
-
-All-map : (P Q : Tuple → Type 0) → ((x : Tuple) → P x → Q x) → (xs : List Tuple) → AllByRecursion P xs → AllByRecursion Q xs
-All-map P Q f [] all = tt
-All-map P Q f (x ∷ xs) all = (f x all.0, All-map P Q f xs all.1)
-
-All-push : (P : Tuple → Type 0) (xs : List Tuple) (x : Tuple) → AllByRecursion P xs → P x → AllByRecursion P (xs ++ x ∷ [])
-All-push P [] x all p = (p, tt)
-All-push P (y ∷ ys) x all p = (all.0, All-push P ys x all.1 p)
 
 All-recent : (P : Tuple → Type 0) (size t : ℕ) (xs : List Tuple) → AllByRecursion P xs → AllByRecursion P (recent size t xs)
 All-recent P size t [] all = tt
 All-recent P size t (x ∷ xs) all =
     elim (nat_lt size (t - x.time)) as (λ b. AllByRecursion P (if b then recent size t xs else x ∷ xs)) [ true ↦ All-recent P size t xs all.1 | false ↦ all ]
 
-lower : (a : ℕ) (xs : List Tuple) → NotFalling a xs → NotFalling 0 xs
-lower a [] h = tt
-lower a (x ∷ xs) h = (zero-le, h.1)
-
 rises-recent : (size t : ℕ) (xs : List Tuple) → NotFalling 0 xs → NotFalling 0 (recent size t xs)
 rises-recent size t [] h = tt
 rises-recent size t (x ∷ xs) h =
-    elim (nat_lt size (t - x.time)) as (λ b. NotFalling 0 (if b then recent size t xs else x ∷ xs)) [ true ↦ rises-recent size t xs (lower x.time xs h.1) | false ↦ h ]
+    elim (nat_lt size (t - x.time)) as (λ b. NotFalling 0 (if b then recent size t xs else x ∷ xs)) [ true ↦ rises-recent size t xs (lower 0 x.time xs zero-le h.1) | false ↦ h ]
 
 rises-push : (a : ℕ) (xs : List Tuple) (x : Tuple) → NotFalling a xs → AllByRecursion (λ y. y.time ≤ x.time) xs → a ≤ x.time → NotFalling a (xs ++ x ∷ [])
 rises-push a [] x h all le = (le, tt)
@@ -118,12 +91,12 @@ near-by size t x xs h ih false e = let le : t ≤ x.time + size = grind (arith, 
 -- what isn't let go of can still meet a tuple of that time
 near-recent : (size t : ℕ) (xs : List Tuple) → NotFalling 0 xs → AllNear size t (recent size t xs)
 near-recent size t [] h = tt
-near-recent size t (x ∷ xs) h = near-by size t x xs h.1 (near-recent size t xs (lower x.time xs h.1)) (nat_lt size (t - x.time)) refl
+near-recent size t (x ∷ xs) h = near-by size t x xs h.1 (near-recent size t xs (lower 0 x.time xs zero-le h.1)) (nat_lt size (t - x.time)) refl
 
 side-recent : (size most now t : ℕ) (xs : List Tuple) → IsSide most now xs → now ≤ t → IsSide most t (recent size t xs)
 side-recent size most now t xs h le = record {
   rises = rises-recent size t xs h.rises;
-  early = All-recent (λ x. x.time ≤ t) size t xs (All-map (λ x. x.time ≤ now) (λ x. x.time ≤ t) (λ x k. omega (arith, le, k)) xs h.early);
+  early = All-recent (λ x. x.time ≤ t) size t xs (All-weaker (λ x. x.time ≤ now) (λ x. x.time ≤ t) (λ x k. omega (arith, le, k)) xs h.early);
   some = All-recent (λ x. 1 ≤ length x.fields) size t xs h.some;
   few = All-recent (λ x. length x.fields ≤ most) size t xs h.few;
 }
@@ -161,10 +134,10 @@ times-with on side x (y ∷ ys) early =
 -- ---- a tuple is fed
 
 module _ (size : ℕ) (on : Expr) (columns : Columns) (left right : List Tuple) (place : Place) (port : ℕ) (item : Item) (fields : List Value) (is : item.body ≡ Some fields)
-    (sound : IsSound item) (may : IsFuture no_marks (join_fits columns) place (entries port item))
+    (sound : IsSound item) (may : IsFuture unmarked (join_fits columns) place (entries port item))
     (held-left : IsSide (most_at columns 0) (time_of place) left) (held-right : IsSide (most_at columns 1) (time_of place) right) where
   abbrev fed : Tuple
-  fed = at_time_of item.time fields
+  fed = tuple_at item.time fields
 
   abbrev kept-left : List Tuple
   kept-left = recent size item.time left
@@ -175,19 +148,16 @@ module _ (size : ℕ) (on : Expr) (columns : Columns) (left right : List Tuple) 
   abbrev given-now : List Tuple
   given-now = pairs_with on port fed (against port kept-left kept-right)
 
-  whole : IsFuture no_marks (join_fits columns) place (entries port item ++ [])
+  whole : IsFuture unmarked (join_fits columns) place (entries port item ++ [])
   whole = rw (append-nil (entries port item)) may
 
   pub fed_later : time_of place ≤ item.time
-  fed_later =
-      let turn = future-turn (join_fits columns) place (entries port item ++ []) whole in
-      let fed-turn = rw (elements-fed port item fields [] is) at turn in
-      fed-turn.0.0
+  fed_later = time-before-item unmarked (join_fits columns) place port item fields is may
 
   fed_fits : IsTrue (join_fits columns port fields)
   fed_fits = by item.mark item.body is may
     where
-      by : (m : Option Mark) (b : Option (List Value)) → b ≡ Some fields → IsFuture no_marks (join_fits columns) place (at_port port (mark_part item.time m ++ body_part item.time b))
+      by : (m : Option Mark) (b : Option (List Value)) → b ≡ Some fields → IsFuture unmarked (join_fits columns) place (at_port port (mark_part item.time m ++ body_part item.time b))
           → IsTrue (join_fits columns port fields)
       by m None e h = cc
       by None (Some f) e h = let same : f ≡ fields = cc in rw same at h.fitting.0
@@ -197,12 +167,9 @@ module _ (size : ℕ) (on : Expr) (columns : Columns) (left right : List Tuple) 
   fed_side = fit-side columns port fields fed_fits
 
   fed_few : length fields ≤ most_at columns port
-  fed_few = few (nat_le port 1) (nat_le (length fields) (most_at columns port)) refl fed_fits
-    where
-      few : (b c : Bool) → nat_le (length fields) (most_at columns port) ≡ c → IsTrue (b && c) → length fields ≤ most_at columns port
-      few true true e h = grind (arith, tests)
-      few true false e h = cc
-      few false c e h = cc
+  fed_few =
+      let both = and_parts (nat_le port 1) (nat_le (length fields) (most_at columns port)) fed_fits in
+      grind (arith, tests, both.1)
 
   fed_some : (1 ≤ length fields) × (length fields ≤ 16)
   fed_some = rw is at sound.body
@@ -256,21 +223,21 @@ module _ (size : ℕ) (on : Expr) (columns : Columns) (left right : List Tuple) 
       behind [] h few = tt
       behind (y ∷ ys) h few = (
         sound-pair fed y item.time (most_at columns 0) (omega arith) h.early.0 sound.tick fed_some.0 few h.some.0 h.few.0,
-        behind ys (record { rises = lower y.time ys h.rises.1; early = h.early.1; some = h.some.1; few = h.few.1 }) few,
+        behind ys (record { rises = lower 0 y.time ys zero-le h.rises.1; early = h.early.1; some = h.some.1; few = h.few.1 }) few,
       )
 
       before : (ys : List Tuple) → IsSide (most_at columns 0) item.time ys → length fields ≤ most_at columns 1 → AllByRecursion (λ y. IsSoundTuple (pair_at 1 fed y)) ys
       before [] h few = tt
       before (y ∷ ys) h few = (
         sound-pair y fed item.time (most_at columns 0) h.early.0 (omega arith) sound.tick h.some.0 h.few.0 fed_some.0 few,
-        before ys (record { rises = lower y.time ys h.rises.1; early = h.early.1; some = h.some.1; few = h.few.1 }) few,
+        before ys (record { rises = lower 0 y.time ys zero-le h.rises.1; early = h.early.1; some = h.some.1; few = h.few.1 }) few,
       )
 
       by-side : (port : ℕ) → (port ≡ 0) ⊎ (port ≡ 1) → length fields ≤ most_at columns port → AllByRecursion (λ y. IsSoundTuple (pair_at port fed y)) (against port kept-left kept-right)
       by-side port (inl at) few = rw at (behind kept-right right-side (rw at at few))
       by-side port (inr at) few = rw at (before kept-left left-side (rw at at few))
 
-  module _ (future : List Entry) (all : IsFuture no_marks (join_fits columns) place (entries port item ++ future)) where
+  module _ (future : List Entry) (all : IsFuture unmarked (join_fits columns) place (entries port item ++ future)) where
     rest-fed : (q : ℕ) → join_rest size on left right (entries port item ++ future) q
         ≡ at_zero q (things given-now) ++ join_rest size on (left_with port fed kept-left) (right_with port fed kept-right) future q
     rest-fed q =

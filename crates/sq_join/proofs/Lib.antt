@@ -1,4 +1,3 @@
 pub mod PairLemmas
 pub mod TurnLemmas
 pub mod JoinLemmas
-mod FedLemmas

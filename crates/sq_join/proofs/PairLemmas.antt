@@ -3,6 +3,7 @@ use Rattle.std.proofs.Common.{◌≡◌, ℕ, ◌+◌, ◌-◌, ◌≤◌, Bool,
 use Rattle.std.specs.Prelude.{if◌then◌else◌, nat_lt, nat_le, ◌==◌}
 use Rattle.std.specs.Int.{abs_diff}
 use Rattle.std.specs.List.{AllByRecursion, filter}
+use Rattle.std.proofs.Math.Bool.{and-false}
 use Rattle.std.proofs.lemmas.List.{map-append}
 use Rattle.std.proofs.lemmas.List.Elements.{filter-append}
 use Rattle.sq_value.specs.declared.Tuple.{Tuple}
@@ -11,10 +12,6 @@ use Rattle.sq_expr.specs.Expressions.{holds_of}
 use Rattle.sq_lists.specs.Pairs.{meets, paired, pairs_of, pairs_from}
 use Rattle.sq_join.specs.Elements.{Element, on_side, TwoSides, InTurn}
 use Rattle.sq_join.specs.Sides.{held_of, recent, pair_at, pairs_with, against, left_with, right_with, AllNear}
-
-and-false : (c : Bool) → (c && false) ≡ false
-and-false true = refl
-and-false false = refl
 
 itself : (n : ℕ) → (n == n) ≡ true
 itself n = grind (arith, tests)

@@ -8,11 +8,14 @@ use Rattle.sq_value.specs.Lists.{insert_by, sort_by}
 use Rattle.sq_value.specs.Values.{Columns}
 use Rattle.sq_item.specs.Things.{Load, Sign, Body}
 use Rattle.sq_lists.specs.Merge.{earlier, merge}
+use Rattle.sq_lists.proofs.AllLemmas.{All-weaker}
 use Rattle.sq_oper.specs.declared.tally.Place.{Place}
 use Rattle.sq_oper.specs.declared.tally.Place.TheVariants.{Start, At}
 use Rattle.sq_oper.specs.Entries.{Entry}
-use Rattle.sq_oper.specs.Order.{may_come, time_of, after, load_fits, InOrder, AllFit, IsFuture}
+use Rattle.sq_oper.specs.Order.{may_come, time_of, after, load_fits, InOrder, AllFit, unmarked, IsFuture}
 use Rattle.sq_oper.specs.Streams.{tuple_in}
+use Rattle.sq_oper.proofs.StreamLemmas.{may-come-time}
+use Rattle.sq_oper.proofs.FedLemmas.{tuple_entry}
 use Rattle.sq_join.specs.Elements.{Element, on_side, elements_of, side_of, TwoSides, InTurn, port_of}
 use Rattle.sq_join.specs.Sides.{most_at, join_fits}
 
@@ -52,10 +55,6 @@ insert-first side x (e ∷ es) turn =
     let e' : earlier e (side, x) ≡ false = grind (arith, tests) in
     ap (λ b. if b then e ∷ insert_by earlier (side, x) es else (side, x) ∷ e ∷ es) e'
 
-all-weaker : (P Q : Tuple → Type 0) → ((x : Tuple) → P x → Q x) → (xs : List Tuple) → AllByRecursion P xs → AllByRecursion Q xs
-all-weaker P Q f [] all = tt
-all-weaker P Q f (x ∷ xs) all = (f x all.0, all-weaker P Q f xs all.1)
-
 all-if : (P : Tuple → Type 0) (b : Bool) (e : Element) (es : List Element) → P e.1 → AllByRecursion P (map (λ (e : Element). e.1) es)
     → AllByRecursion P (map (λ (e : Element). e.1) (cond b (e ∷ es) es))
 all-if P true e es p all = (p, all)
@@ -66,7 +65,7 @@ not-earlier t p side [] turn = tt
 not-earlier t p side (e ∷ es) turn =
     let le = turn.0.0 in
     all-if (λ a. t ≤ a.time) (e.0 == side) e (filter (λ e. e.0 == side) es) le
-    (all-weaker (λ a. (e.1).time ≤ a.time) (λ a. t ≤ a.time) (λ a h. omega (arith, le, h)) (side_of side es) (not-earlier (e.1).time e.0 side es turn.1))
+    (All-weaker (λ a. (e.1).time ≤ a.time) (λ a. t ≤ a.time) (λ a h. omega (arith, le, h)) (side_of side es) (not-earlier (e.1).time e.0 side es turn.1))
 
 strictly : (a b : ℕ) → a ≤ b → (a ≡ b → 1 ≤ 0) → (c d : Bool) → nat_lt a b ≡ c → (a == b) ≡ d → a < b
 strictly a b le at true d e e' = grind (arith, tests)
@@ -79,13 +78,13 @@ left-by t e es (inl is) first more ih two =
     let at : t ≡ (e.1).time → 1 ≤ 0 = λ h. let k = first.1 h in omega (arith, is, k) in
     let lt : t < (e.1).time = strictly t (e.1).time first.0 at (nat_lt t (e.1).time) (t == (e.1).time) refl refl in
     all-if (λ a. t < a.time) (e.0 == 0) e (filter (λ e. e.0 == 0) es) lt
-    (all-weaker (λ a. (e.1).time ≤ a.time) (λ a. t < a.time) (λ a h. omega (arith, lt, h)) (side_of 0 es) (not-earlier (e.1).time e.0 0 es more))
+    (All-weaker (λ a. (e.1).time ≤ a.time) (λ a. t < a.time) (λ a h. omega (arith, lt, h)) (side_of 0 es) (not-earlier (e.1).time e.0 0 es more))
 left-by t e es (inr is) first more ih two =
     let le = first.0 in
     let skip : (e.0 == 0) ≡ false = grind (arith, tests) in
     let rest = ih (subst (λ (p : ℕ). InTurn (e.1).time p es) is more) two in
     subst (λ (b : Bool). AllByRecursion (λ a. t < a.time) (map (λ (e : Element). e.1) (cond b (e ∷ filter (λ e. e.0 == 0) es) (filter (λ e. e.0 == 0) es)))) (sym skip)
-    (all-weaker (λ a. (e.1).time < a.time) (λ a. t < a.time) (λ a h. omega (arith, le, h)) (side_of 0 es) rest)
+    (All-weaker (λ a. (e.1).time < a.time) (λ a. t < a.time) (λ a h. omega (arith, le, h)) (side_of 0 es) rest)
 
 -- after one on the right each on the left is later
 left-later : (t : ℕ) (es : List Element) → InTurn t 1 es → TwoSides es → AllByRecursion (λ a. t < a.time) (side_of 0 es)
@@ -111,39 +110,31 @@ merged t p (e ∷ es) turn two = merged-by e.0 e.1 es two.0 turn.1 two.1 (merged
 
 -- ---- futures
 
-abbrev pub no_marks : ℕ → Bool
-no_marks port = false
-
-before : (t u : ℕ) (b c : Bool) → nat_lt t u ≡ b → (t == u) ≡ c → (rest : Bool) → IsTrue (b || (c && rest)) → t ≤ u
-before t u true c e e' rest h = grind (arith, tests)
-before t u false true e e' rest h = grind (arith, tests)
-before t u false false e e' rest h = cc
-
 at-once : (t u p q : ℕ) (b c d : Bool) → nat_lt t u ≡ b → (t == u) ≡ c → nat_le p q ≡ d → IsTrue (b || (c && (d || false))) → t ≡ u → p ≤ q
 at-once t u p q true c d e e' e'' h same = absurd (grind (arith, tests))
 at-once t u p q false true true e e' e'' h same = grind (arith, tests)
 at-once t u p q false true false e e' e'' h same = cc
 at-once t u p q false false d e e' e'' h same = cc
 
-turn-of : (place : Place) (port time : ℕ) (fields : List Value) → IsTrue (may_come place (record { port = port; thing = record { time = time; load = Body fields } }))
+turn-of : (place : Place) (port time : ℕ) (fields : List Value) → IsTrue (may_come place (tuple_entry port time fields))
     → (time_of place ≤ time) × (time_of place ≡ time → port_of place ≤ port)
 turn-of Start port time fields h = (zero-le, (λ same. zero-le))
 turn-of (At t p m) port time fields h =
-    (before t time (nat_lt t time) (t == time) refl refl _ h, (λ same. at-once t time p port (nat_lt t time) (t == time) (nat_le p port) refl refl refl h same))
+    (may-come-time (At t p m) (tuple_entry port time fields) h, (λ same. at-once t time p port (nat_lt t time) (t == time) (nat_le p port) refl refl refl h same))
 
 load-turn : (fits : ℕ → List Value → Bool) (place : Place) (port time : ℕ) (load : Load) (es : List Element)
-    → IsTrue (may_come place (record { port = port; thing = record { time = time; load = load } })) → IsTrue (load_fits no_marks fits port load) → InTurn time port es
+    → IsTrue (may_come place (record { port = port; thing = record { time = time; load = load } })) → IsTrue (load_fits unmarked fits port load) → InTurn time port es
     → InTurn (time_of place) (port_of place) (on_side port (tuple_in time load) ++ es)
 load-turn fits place port time (Sign m) es may fit turn = absurd (let e : ⊥ = cc in e)
 load-turn fits place port time (Body fields) es may fit turn = (turn-of place port time fields may, turn)
 
-elements-turn : (fits : ℕ → List Value → Bool) (place : Place) (future : List Entry) → InOrder place future → AllFit no_marks fits future → InTurn (time_of place) (port_of place) (elements_of future)
+elements-turn : (fits : ℕ → List Value → Bool) (place : Place) (future : List Entry) → InOrder place future → AllFit unmarked fits future → InTurn (time_of place) (port_of place) (elements_of future)
 elements-turn fits place [] order fit = tt
 elements-turn fits place (e ∷ es) order fit =
     load-turn fits place e.port e.thing.time e.thing.load (elements_of es) order.0 fit.0 (elements-turn fits (after place e) es order.1 fit.1)
 
 -- the elements of a future come in turn
-pub future-turn : (fits : ℕ → List Value → Bool) (place : Place) (future : List Entry) → IsFuture no_marks fits place future → InTurn (time_of place) (port_of place) (elements_of future)
+pub future-turn : (fits : ℕ → List Value → Bool) (place : Place) (future : List Entry) → IsFuture unmarked fits place future → InTurn (time_of place) (port_of place) (elements_of future)
 future-turn fits place future h = elements-turn fits place future h.in_order h.fitting
 
 which-side : (port : ℕ) (b c : Bool) → nat_le port 1 ≡ b → IsTrue (b && c) → (port ≡ 0) ⊎ (port ≡ 1)
@@ -155,14 +146,14 @@ which-side (suc (suc n)) false c e h = cc
 pub fit-side : (columns : Columns) (port : ℕ) (fields : List Value) → IsTrue (join_fits columns port fields) → (port ≡ 0) ⊎ (port ≡ 1)
 fit-side columns port fields h = which-side port (nat_le port 1) (nat_le (length fields) (most_at columns port)) refl h
 
-two-load : (columns : Columns) (port time : ℕ) (load : Load) (es : List Element) → IsTrue (load_fits no_marks (join_fits columns) port load) → TwoSides es
+two-load : (columns : Columns) (port time : ℕ) (load : Load) (es : List Element) → IsTrue (load_fits unmarked (join_fits columns) port load) → TwoSides es
     → TwoSides (on_side port (tuple_in time load) ++ es)
 two-load columns port time (Sign m) es fit two = two
 two-load columns port time (Body fields) es fit two = (fit-side columns port fields fit, two)
 
-two-sides : (columns : Columns) (future : List Entry) → AllFit no_marks (join_fits columns) future → TwoSides (elements_of future)
+two-sides : (columns : Columns) (future : List Entry) → AllFit unmarked (join_fits columns) future → TwoSides (elements_of future)
 two-sides columns [] fit = tt
 two-sides columns (e ∷ es) fit = two-load columns e.port e.thing.time e.thing.load (elements_of es) fit.0 (two-sides columns es fit.1)
 
-pub future-sides : (columns : Columns) (place : Place) (future : List Entry) → IsFuture no_marks (join_fits columns) place future → TwoSides (elements_of future)
+pub future-sides : (columns : Columns) (place : Place) (future : List Entry) → IsFuture unmarked (join_fits columns) place future → TwoSides (elements_of future)
 future-sides columns place future h = two-sides columns future h.fitting

@@ -1,5 +1,5 @@
 -- Join: what it still gives, and the facts that it keeps.
-use Rattle.std.specs.Prelude.{ℕ, ◌+◌, ◌-◌, ◌<◌, ◌^◌, ◌≤◌, ◌==◌, ◌&&◌, nat_lt, nat_le, Bool, false, if◌then◌else◌, List, [], ◌∷◌, ◌++◌, map, length, take, Some}
+use Rattle.std.specs.Prelude.{ℕ, ◌+◌, ◌-◌, ◌≤◌, ◌==◌, ◌&&◌, nat_lt, nat_le, Bool, false, if◌then◌else◌, List, [], ◌∷◌, ◌++◌, map, length, take}
 use Rattle.std.specs.List.{AllByRecursion, filter}
 use Rattle.sq_value.specs.declared.Value.{Value}
 use Rattle.sq_value.specs.declared.Tuple.{Tuple}
@@ -7,7 +7,6 @@ use Rattle.sq_value.specs.Lists.{same_bytes}
 use Rattle.sq_value.specs.Values.{Columns}
 use Rattle.sq_expr.specs.Trees.{Expr}
 use Rattle.sq_expr.specs.Expressions.{holds_of}
-use Rattle.sq_item.specs.Sound.{IsBody}
 use Rattle.sq_item.specs.Things.{Thing}
 use Rattle.sq_lists.specs.Pairs.{pair_of, pairs_from}
 use Rattle.sq_lists.specs.WindowParts.{NotFalling}
@@ -61,10 +60,6 @@ left_with side x left = if side == 0 then left ++ x ∷ [] else left
 
 abbrev pub right_with : ℕ → Tuple → List Tuple → List Tuple
 right_with side x right = if side == 0 then right else right ++ x ∷ []
-
--- a tuple that an item may carry: its time is a tick, and it has 1 to 16 values
-abbrev pub IsSoundTuple : Tuple → Type 0
-IsSoundTuple x = (x.time < 2 ^ 40) × IsBody (Some x.fields)
 
 -- what is held of a side: in order of time, none later than a time, each with at least one value and not too many
 pub record IsSide (most now : ℕ) (xs : List Tuple) : Type 0 where

@@ -4,8 +4,8 @@ ghost use Rattle.std.specs.Prelude.{◌≡◌, ℕ, ◌++◌, ◌∷◌, [], OnO
 ghost use Rattle.std.specs.List.{AllByRecursion};
 ghost use Rattle.sq_value.specs.Lists.{IsPrefixOf};
 ghost use Rattle.sq_oper.specs.Given.{given, ItemsSound};
-ghost use Rattle.sq_oper.specs.Streams.{things, at_zero};
-ghost use Rattle.sq_join.specs.Sides.{IsSoundTuple, recent, begins_past, pair_at, pairs_with, against, left_with, right_with};
+ghost use Rattle.sq_oper.specs.Streams.{IsSoundTuple, things, at_zero};
+ghost use Rattle.sq_join.specs.Sides.{recent, begins_past, pair_at, pairs_with, against, left_with, right_with};
 
 use sq_expr::{Typed, holds};
 use sq_item::Item;

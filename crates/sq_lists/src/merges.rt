@@ -1,6 +1,6 @@
 //! The merge of streams.
 
-ghost use Rattle.std.specs.Prelude.{◌≡◌, ◌^◌, ◌<◌, ◌++◌, map, length, IfOk, OnOk};
+ghost use Rattle.std.specs.Prelude.{◌≡◌, ◌^◌, ◌<◌, ◌++◌, [], ◌∷◌, map, length, IfOk, OnOk};
 ghost use Rattle.sq_value.specs.Lists.{sort_by, ports_from};
 ghost use Rattle.sq_lists.specs.Merge.{merge, earlier};
 
@@ -32,6 +32,21 @@ pub fn merge(alloc: Global, ins: &[Vec<Tuple>]) -> Result<Vec<(u32, Tuple)>, All
     for port in 0..ins.len() {
         push_stream(&mut pairs, port as u32, &ins[port])?;
     }
+    sort_pairs(&mut pairs)?;
+    Ok(pairs)
+}
+
+/// The merge of a left and a right stream, numbered 0 and 1.
+pub fn merge_two(
+    alloc: Global,
+    left: &[Tuple],
+    right: &[Tuple],
+) -> Result<Vec<(u32, Tuple)>, AllocError>
+    ensures { IfOk result (λ pairs. pairs.items ≡ merge (left.now ∷ right.now ∷ [])) }
+{
+    let mut pairs = Vec::new(alloc);
+    push_stream(&mut pairs, 0, left)?;
+    push_stream(&mut pairs, 1, right)?;
     sort_pairs(&mut pairs)?;
     Ok(pairs)
 }

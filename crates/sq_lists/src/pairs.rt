@@ -1,11 +1,12 @@
 //! Join.
 
-ghost use Rattle.std.specs.Prelude.{◌≡◌, ◌++◌, IfOk, OnOk};
+ghost use Rattle.std.specs.Prelude.{◌≡◌, ◌+◌, ◌<◌, ◌≤◌, ◌++◌, length, take, drop, IfOk, OnOk};
+ghost use Rattle.std.specs.List.{AllByRecursion};
 ghost use Rattle.sq_lists.specs.Pairs.{pair_of, paired, pairs_of, join_list_of};
 
-use crate::merge;
+use crate::merges::merge_two;
 use sq_expr::{Typed, holds};
-use sq_value::{ListOf, Tuple, copy_fields, copy_tuple, copy_value};
+use sq_value::{ListOf, Tuple, copy_fields, copy_value};
 use std::alloc::{AllocError, Global};
 
 /// A left and a right tuple in one, at the later of their times: the left one's fields stand first.
@@ -53,14 +54,19 @@ fn push_pairs(
     Ok(())
 }
 
-fn copy_tuples(alloc: Global, tuples: &[Tuple]) -> Result<Vec<Tuple>, AllocError>
-    ensures { IfOk result (λ copies. copies.items ≡ tuples.now) }
+/// How many entries stand before the first that isn't more than `size` ticks older than `now`. No later entry of a merge
+/// meets these either.
+fn too_early(size: u64, now: u64, before: &[(u32, Tuple)]) -> usize
+    ensures each { AllByRecursion (λ b. (b.1).time + size < now) (take result before.now) }
+    ensures next { AllByRecursion (λ b. now ≤ (b.1).time + size) (take 1 (drop result before.now)) }
+    ensures most { result ≤ length before.now }
 {
-    let mut copies = Vec::new(alloc);
-    for x in tuples {
-        copies.push(copy_tuple(x)?)?;
+    for (i, x) in before.iter().enumerate() {
+        if now.saturating_sub(x.1.time) <= size {
+            return i;
+        }
     }
-    Ok(copies)
+    before.len()
 }
 
 /// What a Join gives (after SQuAl's Join: Abadi and others, VLDB Journal 2003; the bound and the order of the pairs are
@@ -76,11 +82,12 @@ pub fn join_list(
 ) -> Result<Vec<Tuple>, AllocError>
     ensures { IfOk result (λ out. out.items ≡ join_list_of size on.now.tree left.now right.now) }
 {
-    let sides = vec![in alloc; copy_tuples(alloc, left)?, copy_tuples(alloc, right)?]?;
-    let all = merge(alloc, &sides)?;
+    let all = merge_two(alloc, left, right)?;
     let mut out = Vec::new(alloc);
+    let mut from = 0;
     for (i, x) in all.iter().enumerate() {
-        push_pairs(size, on, &all[..i], x, &mut out)?;
+        from += too_early(size, x.1.time, &all[from..i]);
+        push_pairs(size, on, &all[from..i], x, &mut out)?;
     }
     Ok(out)
 }

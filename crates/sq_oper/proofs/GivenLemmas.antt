@@ -1,5 +1,5 @@
 -- What was given, and prefixes of it.
-use Rattle.std.proofs.Common.{◌≡◌, ℕ, ◌≤◌, eqb, cond, List, [], ◌∷◌, ◌++◌, refl, ap, sym, ◌∙◌, append_assoc, append-nil, arith}
+use Rattle.std.proofs.Common.{◌≡◌, ℕ, ◌≤◌, eqb, cond, List, [], ◌∷◌, ◌++◌, Result, Ok, Err, OnErr, refl, ap, sym, ◌∙◌, append_assoc, append-nil, arith}
 use Rattle.sq_value.specs.Lists.{IsPrefixOf}
 use Rattle.sq_item.specs.declared.Item.{Item}
 use Rattle.sq_item.specs.Things.{Thing, spread}
@@ -25,6 +25,11 @@ IsPrefixOf-trans xs ys zs (m, e) (n, f) = (m ++ n, f ∙ ap (λ l. l ++ n) e ∙
 
 pub IsPrefixOf-longer : {A : Type 0} (xs ys zs ws : List A) → IsPrefixOf xs (ys ++ zs) → IsPrefixOf xs (ys ++ (zs ++ ws))
 IsPrefixOf-longer xs ys zs ws (more, same) = (more ++ ws, sym (append_assoc ys zs ws) ∙ ap (λ l. l ++ ws) same ∙ append_assoc xs more ws)
+
+-- what holds in any case holds where a call failed
+pub OnErr-from : {T E A : Type 0} (r : Result T E) → A → OnErr r A
+OnErr-from (Ok x) a = tt
+OnErr-from (Err e) a = a
 
 pub ItemsSound-push : (p : ℕ) (xs : List (ℕ × Item)) (i : Item) → IsSound i → ItemsSound xs → ItemsSound (xs ++ (p, i) ∷ [])
 ItemsSound-push p [] i h k = (h, tt)

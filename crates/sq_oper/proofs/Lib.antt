@@ -1,3 +1,4 @@
 pub mod GivenLemmas
 pub mod MachineLemmas
 pub mod StreamLemmas
+pub mod FedLemmas

@@ -1,15 +1,15 @@
 -- Tuples in tagged lists, and places.
-use Rattle.std.proofs.Common.{◌≡◌, ℕ, ◌≤◌, Bool, true, false, ◌&&◌, ◌||◌, IsTrue, List, [], ◌∷◌, ◌++◌, Option, Some, None, refl, ap, zero-le, arith, tests}
+use Rattle.std.proofs.Common.{◌≡◌, ℕ, ◌≤◌, Bool, true, false, cond, ◌&&◌, ◌||◌, IsTrue, List, [], ◌∷◌, ◌++◌, Option, Some, None, refl, ap, zero-le, arith, tests}
 use Rattle.std.specs.Prelude.{if◌then◌else◌, nat_lt, ◌==◌}
 use Rattle.std.specs.List.{AllByRecursion}
 use Rattle.sq_value.specs.declared.Value.{Value}
 use Rattle.sq_value.specs.declared.Tuple.{Tuple}
 use Rattle.sq_item.specs.declared.Mark.{Mark}
-use Rattle.sq_item.specs.Things.{Thing, mark_part, body_part}
+use Rattle.sq_item.specs.Things.{Thing, Sign, Body, mark_part, body_part}
 use Rattle.sq_oper.specs.declared.tally.Place.{Place}
 use Rattle.sq_oper.specs.declared.tally.Place.TheVariants.{Start, At}
-use Rattle.sq_oper.specs.Entries.{at_port}
-use Rattle.sq_oper.specs.Order.{time_of, after_all, InOrder}
+use Rattle.sq_oper.specs.Entries.{Entry, at_port}
+use Rattle.sq_oper.specs.Order.{may_come, time_of, after_all, InOrder}
 use Rattle.sq_oper.specs.Given.{ThingsUpTo}
 use Rattle.sq_oper.specs.Streams.{thing_of, things, at_zero}
 
@@ -24,8 +24,14 @@ pub UpTo-things : (t : ℕ) (xs : List Tuple) → AllByRecursion (λ x. x.time �
 UpTo-things t [] all = tt
 UpTo-things t (x ∷ xs) all = (all.0, UpTo-things t xs all.1)
 
+pub at_zero-nil : {A : Type 0} (q : ℕ) → at_zero {A = A} q [] ≡ []
+at_zero-nil {A} q = elim (0 == q) as (λ b. cond {A = List A} b [] [] ≡ []) [ true ↦ refl | false ↦ refl ]
+
+pub All-at_zero : {A : Type 0} (P : A → Type 0) (q : ℕ) (xs : List A) → AllByRecursion P xs → AllByRecursion P (at_zero q xs)
+All-at_zero P q xs all = elim (0 == q) as (λ b. AllByRecursion P (if b then xs else [])) [ true ↦ all | false ↦ tt ]
+
 pub UpTo-at_zero : (t q : ℕ) (xs : List Thing) → ThingsUpTo t xs → ThingsUpTo t (at_zero q xs)
-UpTo-at_zero t q xs h = elim (0 == q) as (λ b. ThingsUpTo t (if b then xs else [])) [ true ↦ h | false ↦ tt ]
+UpTo-at_zero t q xs h = All-at_zero (λ thing. thing.time ≤ t) q xs h
 
 -- an operator that was fed a tuple stands at its time
 pub time-after : (place : Place) (port time : ℕ) (mark : Option Mark) (fields : List Value)
@@ -38,8 +44,12 @@ not-before t u true c e e' rest h = grind (arith, tests)
 not-before t u false true e e' rest h = grind (arith, tests)
 not-before t u false false e e' rest h = cc
 
+-- an entry that may come has no earlier time than the last one
+pub may-come-time : (place : Place) (e : Entry) → IsTrue (may_come place e) → time_of place ≤ e.thing.time
+may-come-time Start e h = zero-le
+may-come-time (At t p m) e h = not-before t e.thing.time (nat_lt t e.thing.time) (t == e.thing.time) refl refl _ h
+
 pub time-before : (place : Place) (port time : ℕ) (mark : Option Mark) (fields : List Value)
     → InOrder place (at_port port (mark_part time mark ++ body_part time (Some fields))) → time_of place ≤ time
-time-before Start port time mark fields h = zero-le
-time-before (At t p m) port time None fields h = not-before t time (nat_lt t time) (t == time) refl refl _ h.0
-time-before (At t p m) port time (Some mark) fields h = not-before t time (nat_lt t time) (t == time) refl refl _ h.0
+time-before place port time None fields h = may-come-time place (record { port = port; thing = record { time = time; load = Body fields } }) h.0
+time-before place port time (Some mark) fields h = may-come-time place (record { port = port; thing = record { time = time; load = Sign mark } }) h.0

@@ -68,6 +68,10 @@ abbrev pub AllFit : (ℕ → Bool) → (ℕ → List Value → Bool) → List En
 AllFit marks fits [] = Unit {0}
 AllFit marks fits (entry ∷ entries) = IsTrue (load_fits marks fits entry.port entry.thing.load) × AllFit marks fits entries
 
+-- no port takes marks
+abbrev pub unmarked : ℕ → Bool
+unmarked port = false
+
 -- a tagged list that may still come to a state which stands at this place
 pub record IsFuture (marks : ℕ → Bool) (fits : ℕ → List Value → Bool) (place : Place) (future : List Entry) : Type 0 where
   pub in_order : InOrder place future

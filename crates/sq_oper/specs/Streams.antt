@@ -1,8 +1,13 @@
 -- Tuples as they stand in tagged lists.
-use Rattle.std.specs.Prelude.{ℕ, ◌==◌, if◌then◌else◌, List, [], ◌∷◌, ◌++◌, map}
+use Rattle.std.specs.Prelude.{ℕ, ◌^◌, ◌<◌, ◌==◌, if◌then◌else◌, List, [], ◌∷◌, ◌++◌, map, Some}
 use Rattle.sq_value.specs.declared.Tuple.{Tuple}
+use Rattle.sq_item.specs.Sound.{IsBody}
 use Rattle.sq_item.specs.Things.{Load, Sign, Body, Thing}
 use Rattle.sq_oper.specs.Entries.{Entry}
+
+-- a tuple that an item may carry: its time is a tick, and it has 1 to 16 values
+abbrev pub IsSoundTuple : Tuple → Type 0
+IsSoundTuple x = (x.time < 2 ^ 40) × IsBody (Some x.fields)
 
 abbrev pub tuple_in : ℕ → Load → List Tuple
 tuple_in time (Sign m) = []

@@ -1,6 +1,7 @@
 -- The law of boxes that hold nothing.
 use Rattle.std.proofs.Common.{◌≡◌, ℕ, ◌^◌, ◌<◌, ◌≤◌, eqb, cond, Bool, true, false, List, [], ◌∷◌, ◌++◌, map, length, Option, Some, None, IsTrue, refl, ap, sym, ◌∙◌, append_assoc, arith, tests}
 use Rattle.std.specs.Prelude.{if◌then◌else◌, nat_le, ◌==◌, ◌&&◌}
+use Rattle.std.proofs.lemmas.Bool.{and_parts}
 use Rattle.std.proofs.lemmas.List.{length-map}
 use Rattle.sq_value.specs.declared.Value.{Value}
 use Rattle.sq_value.specs.declared.Tuple.{Tuple}
@@ -12,43 +13,19 @@ use Rattle.sq_expr.specs.Expressions.{value_of}
 use Rattle.sq_lists.specs.Boxes.{port_of, filter_list_of, map_list_of, mapped}
 use Rattle.sq_oper.specs.Entries.{Entry, at_port, entries}
 use Rattle.sq_oper.specs.Given.{ThingsUpTo}
-use Rattle.sq_oper.specs.Streams.{tuples_of, things, at_zero}
+use Rattle.sq_oper.specs.Streams.{IsSoundTuple, tuples_of, things, at_zero}
 use Rattle.sq_oper.proofs.GivenLemmas.{IsPrefixOf-append}
-use Rattle.sq_oper.proofs.StreamLemmas.{at_zero-append, UpTo-at_zero}
-use Rattle.sq_plain.specs.Boxes.{IsSoundTuple, at_port_only, trees, filter_rest, map_rest, union_rest, makes_tuple}
-
--- the tuples of an item, and then those of what follows
-pub tuples-fed : (port : ℕ) (item : Item) (fields : List Value) (future : List Entry) → item.body ≡ Some fields
-    → tuples_of (entries port item ++ future) ≡ record { time = item.time; fields = fields } ∷ tuples_of future
-tuples-fed port item fields future is = by item.mark item.body is
-  where
-    by : (m : Option Mark) (b : Option (List Value)) → b ≡ Some fields
-        → tuples_of (at_port port (mark_part item.time m ++ body_part item.time b) ++ future) ≡ record { time = item.time; fields = fields } ∷ tuples_of future
-    by m None e = cc
-    by None (Some f) e = let same : f ≡ fields = cc in rw same refl
-    by (Some k) (Some f) e = let same : f ≡ fields = cc in rw same refl
-
-pub tuples-unfed : (port : ℕ) (item : Item) (future : List Entry) → item.body ≡ None → tuples_of (entries port item ++ future) ≡ tuples_of future
-tuples-unfed port item future is = by item.mark item.body is
-  where
-    by : (m : Option Mark) (b : Option (List Value)) → b ≡ None → tuples_of (at_port port (mark_part item.time m ++ body_part item.time b) ++ future) ≡ tuples_of future
-    by m (Some f) e = cc
-    by None None e = refl
-    by (Some k) None e = refl
-
-pub at_zero-nil : {A : Type 0} (q : ℕ) → at_zero {A = A} q [] ≡ []
-at_zero-nil {A} q = elim (eqb 0 q) as (λ b. cond {A = List A} b [] [] ≡ []) [ true ↦ refl | false ↦ refl ]
-
-abbrev pub at_time_of : ℕ → List Value → Tuple
-at_time_of time fields = record { time = time; fields = fields }
+use Rattle.sq_oper.proofs.StreamLemmas.{at_zero-append, at_zero-nil, UpTo-at_zero}
+use Rattle.sq_oper.proofs.FedLemmas.{tuple_at, tuples-fed, tuples-unfed}
+use Rattle.sq_plain.specs.Boxes.{at_port_only, trees, filter_rest, map_rest, union_rest, makes_tuple}
 
 -- a box whose list function goes tuple by tuple
 module _ (f : ℕ → List Tuple → List Thing) (splits : (q : ℕ) (x : Tuple) (xs : List Tuple) → f q (x ∷ xs) ≡ f q (x ∷ []) ++ f q xs) where
   fed-law : (port : ℕ) (item : Item) (fields : List Value) (future : List Entry) (q : ℕ) (before after : List Thing) → item.body ≡ Some fields
-      → after ≡ before ++ f q (at_time_of item.time fields ∷ [])
+      → after ≡ before ++ f q (tuple_at item.time fields ∷ [])
       → before ++ f q (tuples_of (entries port item ++ future)) ≡ after ++ f q (tuples_of future)
   fed-law port item fields future q before after is gave =
-      let x = at_time_of item.time fields in
+      let x = tuple_at item.time fields in
       ap (λ l. before ++ f q l) (tuples-fed port item fields future is)
       ∙ ap (λ l. before ++ l) (splits q x (tuples_of future))
       ∙ sym (append_assoc before (f q (x ∷ [])) (f q (tuples_of future)))
@@ -63,8 +40,8 @@ module _ (f : ℕ → List Tuple → List Thing) (splits : (q : ℕ) (x : Tuple)
       by : (m : Option Mark) (b : Option (List Value)) → ThingsUpTo item.time (f q (tuples_of (at_port port (mark_part item.time m ++ body_part item.time b))))
       by None None = nothing
       by (Some k) None = nothing
-      by None (Some fields) = one (at_time_of item.time fields)
-      by (Some k) (Some fields) = one (at_time_of item.time fields)
+      by None (Some fields) = one (tuple_at item.time fields)
+      by (Some k) (Some fields) = one (tuple_at item.time fields)
 
 -- Filter
 filter-splits : (ps : List Expr) (q : ℕ) (x : Tuple) (xs : List Tuple) → things (filter_list_of ps q (x ∷ xs)) ≡ things (filter_list_of ps q (x ∷ [])) ++ things (filter_list_of ps q xs)
@@ -78,7 +55,7 @@ pub filter-one : (ps : List Expr) (q : ℕ) (x : Tuple) → at_port_only (port_o
 filter-one ps q x = elim (port_of ps x == q) as (λ b. (if b then things (x ∷ []) else []) ≡ things (if b then x ∷ [] else [])) [ true ↦ refl | false ↦ refl ]
 
 pub filter_law : (preds : List Checked) (port : ℕ) (item : Item) (fields : List Value) (future : List Entry) (q : ℕ) (before after : List Thing) → item.body ≡ Some fields
-    → after ≡ before ++ things (filter_list_of (trees preds) q (at_time_of item.time fields ∷ []))
+    → after ≡ before ++ things (filter_list_of (trees preds) q (tuple_at item.time fields ∷ []))
     → before ++ filter_rest preds (entries port item ++ future) q ≡ after ++ filter_rest preds future q
 filter_law preds port item fields future q before after is gave =
     fed-law (λ q xs. things (filter_list_of (trees preds) q xs)) (filter-splits (trees preds)) port item fields future q before after is gave
@@ -98,7 +75,7 @@ map-splits : (es : List Expr) (q : ℕ) (x : Tuple) (xs : List Tuple)
 map-splits es q x xs = at_zero-append q (things (map_list_of es (x ∷ []))) (things (map_list_of es xs))
 
 pub map_law : (exprs : List Checked) (port : ℕ) (item : Item) (fields : List Value) (future : List Entry) (q : ℕ) (before after : List Thing) → item.body ≡ Some fields
-    → after ≡ before ++ at_zero q (things (map_list_of (trees exprs) (at_time_of item.time fields ∷ [])))
+    → after ≡ before ++ at_zero q (things (map_list_of (trees exprs) (tuple_at item.time fields ∷ [])))
     → before ++ map_rest exprs (entries port item ++ future) q ≡ after ++ map_rest exprs future q
 map_law exprs port item fields future q before after is gave =
     fed-law (λ q xs. at_zero q (things (map_list_of (trees exprs) xs))) (map-splits (trees exprs)) port item fields future q before after is gave
@@ -118,20 +95,17 @@ map_nil exprs q = at_zero-nil q
 pub mapped-sound : (exprs : List Checked) (x : Tuple) → IsTrue (makes_tuple exprs) → x.time < 2 ^ 40 → IsSoundTuple (mapped (trees exprs) x)
 mapped-sound exprs x few tick =
     let n : length (map (λ e. value_of e x) (trees exprs)) ≡ length exprs = length-map (trees exprs) (λ e. value_of e x) ∙ length-map exprs (λ e. e.tree) in
-    let both = bounds (nat_le 1 (length exprs)) (nat_le (length exprs) 16) few refl refl in
-    (tick, (rw n both.0, rw n both.1))
-  where
-    bounds : (a b : Bool) → IsTrue (a && b) → nat_le 1 (length exprs) ≡ a → nat_le (length exprs) 16 ≡ b → (1 ≤ length exprs) × (length exprs ≤ 16)
-    bounds true true h ea eb = (grind (arith, tests), grind (arith, tests))
-    bounds true false h ea eb = absurd (let e : ⊥ = cc in e)
-    bounds false b h ea eb = absurd (let e : ⊥ = cc in e)
+    let both = and_parts (nat_le 1 (length exprs)) (nat_le (length exprs) 16) few in
+    let least : 1 ≤ length exprs = grind (arith, tests, both.0) in
+    let most : length exprs ≤ 16 = grind (arith, tests, both.1) in
+    (tick, (rw n least, rw n most))
 
 -- Union
 union-splits : (q : ℕ) (x : Tuple) (xs : List Tuple) → at_zero q (things (x ∷ xs)) ≡ at_zero q (things (x ∷ [])) ++ at_zero q (things xs)
 union-splits q x xs = at_zero-append q (things (x ∷ [])) (things xs)
 
 pub union_law : (port : ℕ) (item : Item) (fields : List Value) (future : List Entry) (q : ℕ) (before after : List Thing) → item.body ≡ Some fields
-    → after ≡ before ++ at_zero q (things (at_time_of item.time fields ∷ []))
+    → after ≡ before ++ at_zero q (things (tuple_at item.time fields ∷ []))
     → before ++ union_rest (entries port item ++ future) q ≡ after ++ union_rest future q
 union_law port item fields future q before after is gave = fed-law (λ q xs. at_zero q (things xs)) union-splits port item fields future q before after is gave
 

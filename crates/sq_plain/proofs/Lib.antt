@@ -1,4 +1,3 @@
-mod FeedLemmas
 pub mod BoxLemmas
 pub mod MergeLemmas
 pub mod SortLemmas

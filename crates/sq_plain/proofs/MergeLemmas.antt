@@ -6,8 +6,10 @@ use Rattle.std.proofs.lemmas.List.{map-append}
 use Rattle.sq_value.specs.declared.Tuple.{Tuple}
 use Rattle.sq_value.specs.Values.{IsStream}
 use Rattle.sq_value.specs.Lists.{insert_by, sort_by, ports_from, ports_of}
+use Rattle.sq_value.proofs.Sorting.{sort_map}
 use Rattle.sq_lists.specs.Merge.{union}
 use Rattle.sq_lists.specs.Merge as whole
+use Rattle.sq_lists.proofs.AllLemmas.{All-sort}
 use Rattle.sq_oper.specs.Entries.{Entry, at_port}
 use Rattle.sq_oper.specs.Order.{earlier, merge_under, merge_two, merge_from, merge}
 use Rattle.sq_oper.specs.Streams.{tuples_of, thing_of, things, at_zero}
@@ -18,26 +20,6 @@ entry_of e = record { port = e.0; thing = thing_of e.1 }
 
 abbrev sooner : Entry → Entry → Bool
 sooner a b = nat_lt a.thing.time b.thing.time
-
-insert-map : (x : ℕ × Tuple) (ys : List (ℕ × Tuple)) → insert_by sooner (entry_of x) (map entry_of ys) ≡ map entry_of (insert_by whole.earlier x ys)
-insert-map x [] = refl
-insert-map x (y ∷ ys) =
-    ap (λ l. if whole.earlier y x then entry_of y ∷ l else entry_of x ∷ entry_of y ∷ map entry_of ys) (insert-map x ys)
-    ∙ (elim (whole.earlier y x) as (λ b. (if b then entry_of y ∷ map entry_of (insert_by whole.earlier x ys) else entry_of x ∷ entry_of y ∷ map entry_of ys)
-    ≡ map entry_of (if b then y ∷ insert_by whole.earlier x ys else x ∷ y ∷ ys)) [ true ↦ refl | false ↦ refl ])
-
-sort-map : (xs : List (ℕ × Tuple)) → sort_by sooner (map entry_of xs) ≡ map entry_of (sort_by whole.earlier xs)
-sort-map [] = refl
-sort-map (x ∷ xs) = ap (insert_by sooner (entry_of x)) (sort-map xs) ∙ insert-map x (sort_by whole.earlier xs)
-
-All-insert : (P : Entry → Type 0) (x : Entry) (ys : List Entry) → P x → AllByRecursion P ys → AllByRecursion P (insert_by sooner x ys)
-All-insert P x [] p all = (p, tt)
-All-insert P x (y ∷ ys) p all =
-    elim (sooner y x) as (λ b. AllByRecursion P (if b then y ∷ insert_by sooner x ys else x ∷ y ∷ ys)) [ true ↦ (all.0, All-insert P x ys p all.1) | false ↦ (p, all) ]
-
-All-sort : (P : Entry → Type 0) (xs : List Entry) → AllByRecursion P xs → AllByRecursion P (sort_by sooner xs)
-All-sort P [] all = tt
-All-sort P (x ∷ xs) all = All-insert P x (sort_by sooner xs) all.0 (All-sort P xs all.1)
 
 -- the first time is at least t
 abbrev FirstFrom : ℕ → List Tuple → Type 0
@@ -130,12 +112,12 @@ merge-sorted k [] all = refl
 merge-sorted k (xs ∷ ins) all =
     let more = map entry_of (ports_from (k + 1) ins) in
     ap (sort_by sooner) (map-append entry_of (map (λ x. (k, x)) xs) (ports_from (k + 1) ins))
-    ∙ sort-stream k xs more all.0 (All-sort (λ y. k < y.port) more (ports-later k (k + 1) ins (omega arith)))
+    ∙ sort-stream k xs more all.0 (All-sort (λ y. k < y.port) sooner more (ports-later k (k + 1) ins (omega arith)))
     ∙ ap (merge_two (at_port k (things xs))) (merge-sorted (k + 1) ins all.1)
 
 -- for streams the two merges are one
 pub merge-is : (ins : List (List Tuple)) → AllByRecursion IsStream ins → merge (map things ins) ≡ map entry_of (whole.merge ins)
-merge-is ins all = sym (merge-sorted 0 ins all) ∙ sort-map (ports_of ins)
+merge-is ins all = sym (merge-sorted 0 ins all) ∙ sort_map entry_of whole.earlier sooner (λ a b. refl) (ports_of ins)
 
 tuples-of-pairs : (es : List (ℕ × Tuple)) → tuples_of (map entry_of es) ≡ map (λ e. e.1) es
 tuples-of-pairs [] = refl

@@ -1,16 +1,10 @@
 -- Filter, Map and Union: what they still give is their list function of the tuples that still come.
-use Rattle.std.specs.Prelude.{ℕ, ◌^◌, ◌<◌, ◌==◌, nat_le, Bool, ◌&&◌, if◌then◌else◌, List, [], map, length, Some}
-use Rattle.sq_value.specs.declared.Tuple.{Tuple}
-use Rattle.sq_item.specs.Sound.{IsBody}
+use Rattle.std.specs.Prelude.{ℕ, ◌==◌, nat_le, Bool, ◌&&◌, if◌then◌else◌, List, [], map, length}
 use Rattle.sq_item.specs.Things.{Thing}
 use Rattle.sq_expr.specs.Trees.{Expr, Checked}
 use Rattle.sq_lists.specs.Boxes.{filter_list_of, map_list_of}
 use Rattle.sq_oper.specs.Entries.{Entry}
 use Rattle.sq_oper.specs.Streams.{tuples_of, things, at_zero}
-
--- a tuple that an item may carry: its time is a tick, and it has 1 to 16 values
-abbrev pub IsSoundTuple : Tuple → Type 0
-IsSoundTuple x = (x.time < 2 ^ 40) × IsBody (Some x.fields)
 
 -- what stands at one port, and nothing at the others
 abbrev pub at_port_only : {A : Type 0} → ℕ → ℕ → List A → List A

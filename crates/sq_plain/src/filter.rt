@@ -7,8 +7,8 @@ ghost use Rattle.sq_lists.specs.Boxes.{filter_list_of};
 ghost use Rattle.sq_oper.specs.declared.tally.Place.{Place};
 ghost use Rattle.sq_oper.specs.Entries.{Entry};
 ghost use Rattle.sq_oper.specs.Given.{given, ItemsSound};
-ghost use Rattle.sq_oper.specs.Streams.{things, tuples_of};
-ghost use Rattle.sq_plain.specs.Boxes.{IsSoundTuple, trees, filter_rest};
+ghost use Rattle.sq_oper.specs.Streams.{IsSoundTuple, things, tuples_of};
+ghost use Rattle.sq_plain.specs.Boxes.{trees, filter_rest};
 
 use crate::give::give_tuple;
 use sq_expr::Typed;

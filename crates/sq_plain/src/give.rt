@@ -3,8 +3,8 @@
 ghost use Rattle.std.specs.Prelude.{◌≡◌, ℕ, ◌∷◌, ◌++◌, [], OnOk, OnErr};
 ghost use Rattle.sq_value.specs.Lists.{IsPrefixOf};
 ghost use Rattle.sq_oper.specs.Given.{given, ItemsSound};
-ghost use Rattle.sq_oper.specs.Streams.{things};
-ghost use Rattle.sq_plain.specs.Boxes.{IsSoundTuple, at_port_only};
+ghost use Rattle.sq_oper.specs.Streams.{IsSoundTuple, things};
+ghost use Rattle.sq_plain.specs.Boxes.{at_port_only};
 
 use sq_item::Item;
 use sq_oper::Outs;

@@ -14,8 +14,8 @@ use Rattle.sq_agg.proofs.grow.add_tuple.Goals as goal
 pub loop-k-init : goal.loop-k-init
 loop-k-init g c =
     let fold = c.args.fold.now in
-    let x = c.args.t.now in
-    let w = c.args.w in
+    let x = c.args.tuple.now in
+    let w = c.args.window in
     let es = c.args.held.now.entries in
     record {
       groups = λ p.
@@ -28,7 +28,7 @@ loop-k-init g c =
 pub add_at-requires : goal.add_at-requires
 add_at-requires g c =
     let fold = c.args.fold.now in
-    let start : ℕ = c.loop-k.k * c.args.w.advance in
+    let start : ℕ = c.loop-k.k * c.args.window.advance in
     let group = c.in_ok-group_of.field-0 in
     made_weaker (g.F.Fold.made fold) (g.F.Fold.number fold) (grown_most (2 ^ 62 - 2) start) (room_for key_cmp (start, group)) (grown-room start group)
     c.loop-k.held.entries (c.loop-k.invariant.made (2 ^ 62 - 2) c.requires.made)
@@ -36,8 +36,8 @@ add_at-requires g c =
 pub loop-k-preserved : goal.loop-k-preserved
 loop-k-preserved g c =
     let fold = c.args.fold.now in
-    let x = c.args.t.now in
-    let w = c.args.w in
+    let x = c.args.tuple.now in
+    let w = c.args.window in
     let by = c.args.by.now in
     let k = c.loop-k.k in
     let start : ℕ = k * w.advance in
@@ -76,4 +76,4 @@ pub returns-clause-made : goal.returns-clause-made
 returns-clause-made g c =
     let fold = c.args.fold.now in
     λ most all.
-    made_weaker (g.F.Fold.made fold) (g.F.Fold.number fold) (grown_most most (c.loop-k.k * c.args.w.advance)) (λ k. most + 1) (grown-least most (c.loop-k.k * c.args.w.advance)) c.loop-k.held.entries (c.loop-k.invariant.made most all)
+    made_weaker (g.F.Fold.made fold) (g.F.Fold.number fold) (grown_most most (c.loop-k.k * c.args.window.advance)) (λ k. most + 1) (grown-least most (c.loop-k.k * c.args.window.advance)) c.loop-k.held.entries (c.loop-k.invariant.made most all)

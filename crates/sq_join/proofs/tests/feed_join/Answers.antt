@@ -5,7 +5,7 @@ use Rattle.sq_value.specs.declared.Value.TheVariants as value
 use Rattle.sq_value.specs.Values.{Columns}
 use Rattle.sq_oper.specs.declared.tally.Place.TheVariants.{Start, At}
 use Rattle.sq_join.specs.Sides.{left_fields, join_fits}
-use Rattle.sq_join.proofs.FedLemmas.{may-be-fed, place-after-tuple}
+use Rattle.sq_oper.proofs.FedLemmas.{may-be-fed, place-after-tuple}
 use Rattle.sq_join.proofs.tests.feed_join.Goals as goal
 
 left-fits : (columns : Columns) (v : Value) → left_fields columns ≡ 1 → join_fits columns 0 (v ∷ []) ≡ true

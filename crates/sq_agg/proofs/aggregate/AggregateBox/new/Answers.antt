@@ -7,7 +7,7 @@ use Rattle.sq_agg.proofs.aggregate.AggregateBox.new.Goals as goal
 pub returns-clause-list : goal.returns-clause-list
 returns-clause-list g c =
     let fold = c.args.fold in
-    let w = c.args.w in
+    let w = c.args.window in
     let f = folding_of c.args.group.items (g.F.Fold.none fold) (g.F.Fold.joined fold) (g.F.Fold.unit fold) (g.F.Fold.told fold) in
     let moves = c.requires.window.moves in
     let covers = c.requires.window.covers in

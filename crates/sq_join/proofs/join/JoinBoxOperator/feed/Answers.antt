@@ -2,8 +2,10 @@ use Rattle.std.proofs.Common.{◌≡◌, ◌++◌, List, ap, ap₂, sym, subst, 
 use Rattle.sq_value.specs.declared.Tuple.{Tuple}
 use Rattle.sq_oper.specs.Given.{given}
 use Rattle.sq_oper.specs.Order.{time_of}
+use Rattle.sq_oper.proofs.GivenLemmas.{OnErr-from}
+use Rattle.sq_oper.proofs.FedLemmas.{time-after-item}
 use Rattle.sq_join.specs.Sides.{join_rest, AllNear}
-use Rattle.sq_join.proofs.JoinLemmas.{on_err, join_nil, place_after, fed_sound, fed_prefix, fed_law, fed_times, fed_left, fed_right, near_left, near_right}
+use Rattle.sq_join.proofs.JoinLemmas.{join_nil, fed_sound, fed_prefix, fed_law, fed_times, fed_left, fed_right, near_left, near_right}
 use Rattle.sq_join.proofs.join.JoinBoxOperator.feed.Goals as goal
 
 pub take-requires : goal.take-requires
@@ -18,7 +20,7 @@ returns-in_err-take-clause-prefix g c =
     let b = c.args.self.now in
     let v = c.requires.is_valid in
     let began = rw (c.in-Some.fields-is, c.let_go.ensures.left, c.let_go.ensures.right) at c.in_err-take.ensures.prefix in
-    on_err c.from_residual.result (λ table future agrees may q.
+    OnErr-from c.from_residual.result (λ table future agrees may q.
     fed_prefix b.size b.on.tree b.on.scope b.sides.left.items b.sides.right.items b.tally.place c.args.port c.args.item c.in-Some.fields c.in-Some.is c.requires.is_sound c.requires.may_come v.0 v.1
     future may q (given q c.args.out.now.items.items) (given q c.take.new.out.items.items) (began q))
 
@@ -60,7 +62,7 @@ returns-in_ok-take-clause-stays_valid g c =
     let v = c.requires.is_valid in
     let left = rw (c.in-Some.fields-is, c.let_go.ensures.left) at c.in_ok-take.ensures.left in
     let right = rw (c.in-Some.fields-is, c.let_go.ensures.right) at c.in_ok-take.ensures.right in
-    let place : time_of c.note.new.self.place ≡ c.args.item.time = ap time_of c.note.ensures.place ∙ place_after b.tally.place c.args.port c.args.item c.in-Some.fields c.in-Some.is in (
+    let place : time_of c.note.new.self.place ≡ c.args.item.time = ap time_of c.note.ensures.place ∙ time-after-item b.tally.place c.args.port c.args.item c.in-Some.fields c.in-Some.is in (
       (
         rw (left, place) (fed_left b.size b.on.tree b.on.scope b.sides.left.items b.sides.right.items b.tally.place c.args.port c.args.item c.in-Some.fields c.in-Some.is c.requires.is_sound c.requires.may_come v.0 v.1),
         rw (right, place) (fed_right b.size b.on.tree b.on.scope b.sides.left.items b.sides.right.items b.tally.place c.args.port c.args.item c.in-Some.fields c.in-Some.is c.requires.is_sound c.requires.may_come v.0 v.1),
