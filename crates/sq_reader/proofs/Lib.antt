@@ -18,3 +18,4 @@ pub mod NodeLemmas
 pub mod RuleLemmas
 pub mod ReadyLemmas
 pub mod SoundLemmas
+mod Rows
