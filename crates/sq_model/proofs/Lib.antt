@@ -1,4 +1,5 @@
 pub mod Rows
+pub mod BoxRows
 pub mod OrderLemmas
 pub mod StreamLemmas
 pub mod NumberLemmas

@@ -1,10 +1,10 @@
 -- Streams by number: the sources', then those of the boxes' ports.
-use Rattle.std.proofs.Common.{◌≡◌, ◌∙◌, ap, sym, refl, subst, ℕ, zero, suc, ◌+◌, ◌-◌, ◌<◌, ◌≤◌, List, [], ◌∷◌, map, length, take, Some, slice_get, arith, inl, inr, length-append}
+use Rattle.std.proofs.Common.{◌≡◌, ◌∙◌, ap, sym, refl, subst, ℕ, zero, suc, ◌+◌, ◌-◌, ◌<◌, ◌≤◌, List, [], ◌∷◌, ◌++◌, map, length, take, Some, slice_get, arith, inl, inr, length-append}
 use Rattle.std.specs.List.{sum_by}
 use Rattle.std.proofs.lemmas.Bool.{cases_lt}
 use Rattle.std.proofs.lemmas.List.{take_all}
 use Rattle.std.proofs.lemmas.List.Sums.{sum_by-cons, sum_by-take-le}
-use Rattle.std.proofs.lemmas.List.FromFn.{length-map-range_with_len}
+use Rattle.std.proofs.lemmas.List.FromFn.{length-map-range_with_len, map-range_with_len_more}
 use Rattle.std.proofs.lemmas.Option.{slice_get_within}
 use Rattle.sq_value.specs.Lists.{numbers_to}
 use Rattle.sq_graph.specs.declared.BoxWires.{BoxWires}
@@ -112,3 +112,8 @@ pub port_within : (w : Wiring) (at port : ℕ) (b : BoxWires) → slice_get w.bo
 port_within w at port b there low =
     let here = slice_get_within (producers_of w) (stream_at w at port) (Port at port) (producer_at w at port b there low) in
     omega (arith, here)
+
+-- one more of what is worked out number by number
+pub numbered_more : (f : ℕ → ℕ) (k x : ℕ) (old new : List ℕ) → new ≡ old ++ x ∷ [] → old ≡ map f (numbers_to k) → x ≡ f k → new ≡ map f (numbers_to (k + 1))
+numbered_more f k x old new more so_far is =
+    more ∙ ap (λ xs. xs ++ x ∷ []) so_far ∙ ap (λ y. map f (numbers_to k) ++ y ∷ []) is ∙ sym (map-range_with_len_more f 0 k k (omega arith))

@@ -1,8 +1,6 @@
 -- Networks, worked out.
-use Rattle.std.proofs.Common.{◌≡◌, ◌∙◌, ap, sym, subst, ℕ, ◌<◌, ◌≤◌, ◌^◌, true, List, [], ◌∷◌, length, lit<, lit≤, map, refl, pos}
+use Rattle.std.proofs.Common.{◌≡◌, ℕ, List, [], ◌∷◌, map, refl, pos}
 use Rattle.std.specs.Prelude.{codes}
-use Rattle.std.specs.List.{All}
-use Rattle.std.proofs.lemmas.List.Elements.{All-from_recursion}
 use Rattle.sq_value.specs.declared.Value.TheVariants as value
 use Rattle.sq_value.specs.declared.Kind.TheVariants as kind
 use Rattle.sq_value.specs.declared.Tuple.{Tuple}
@@ -11,21 +9,15 @@ use Rattle.sq_value.specs.Values.{Columns}
 use Rattle.sq_expr.specs.declared.CompareOp.TheVariants as compare
 use Rattle.sq_expr.specs.Trees.{Checked, Field, Literal, Compare}
 use Rattle.sq_graph.specs.declared.BoxKind.TheVariants as boxes
-use Rattle.sq_graph.specs.declared.BoxWires.{BoxWires}
 use Rattle.sq_graph.specs.declared.Wiring.{Wiring}
-use Rattle.sq_graph.specs.Wires.{producers_of, producer_of}
-use Rattle.sq_graph.specs.Order.{is_there, IsWired, LiesOnCycle}
-use Rattle.sq_graph.proofs.Placing.{order_acyclic}
 use Rattle.sq_net.specs.declared.Body.{Body}
 use Rattle.sq_net.specs.declared.Body.TheVariants as body
 use Rattle.sq_net.specs.declared.Node.{Node}
 use Rattle.sq_net.specs.declared.Source.{Source}
 use Rattle.sq_net.specs.declared.Output.{Output}
 use Rattle.sq_net.specs.declared.Network.{Network}
-use Rattle.sq_net.specs.Sound.{HasWindow}
 use Rattle.sq_model.specs.Full.{full_arc, full_streams}
 use Rattle.sq_model.specs.Fed.{fed_of, work_of}
-use Rattle.sq_model.specs.Placed.{IsPlaced}
 
 abbrev at : ℕ → ℕ → Tuple
 at t v = record { time = t; fields = value.Int (pos v) ∷ [] }
@@ -108,21 +100,3 @@ else_fed = refl
 
 else_work : work_of network_else readings ≡ 18
 else_work = refl
-
--- each network of these wires is placed, as far as its windows are
-pub placed_d : (n : Network) → n.wires ≡ wires_d → length n.boxes ≡ 1 → All (λ b. HasWindow b.body) n.boxes → IsPlaced n
-placed_d n wires count windows = record {
-  boxes = ap (λ (w : Wiring). length w.boxes) wires ∙ sym count;
-  wired = subst (λ w. IsWired w) (sym wires) wired;
-  shown = subst (λ w. All (λ s. is_there (producer_of w s) ≡ true) w.outputs) (sym wires) (All-from_recursion (λ s. is_there (producer_of wires_d s) ≡ true) (2 ∷ []) (refl, tt));
-  acyclic = subst (λ w. (at : ℕ) → LiesOnCycle w at → ⊥) (sym wires) (order_acyclic wires_d (lit≤ tt));
-  few_boxes = subst (λ w. length w.boxes < 2 ^ 32) (sym wires) (lit< tt);
-  few_streams = subst (λ w. length (producers_of w) < 2 ^ 32) (sym wires) (lit< tt);
-  few_inputs = subst (λ w. All (λ (b : BoxWires). length b.inputs ≤ 8) w.boxes) (sym wires) (All-from_recursion (λ (b : BoxWires). length b.inputs ≤ 8) wires_d.boxes (lit≤ tt, tt));
-  windows = windows;
-}
-  where
-    wired : IsWired wires_d
-    wired =
-        All-from_recursion (λ (b : BoxWires). All (λ s. is_there (producer_of wires_d s) ≡ true) b.inputs) wires_d.boxes
-        (All-from_recursion (λ s. is_there (producer_of wires_d s) ≡ true) (0 ∷ 1 ∷ []) (refl, (refl, tt)), tt)

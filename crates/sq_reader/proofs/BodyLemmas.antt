@@ -1,8 +1,7 @@
 -- What is known of a box that is typed.
-use Rattle.std.proofs.Common.{◌≡◌, ◌∙◌, sym, ap, subst, refl, ℕ, ◌+◌, ◌<◌, ◌≤◌, ◌^◌, Bool, true, ◌&&◌, List, [], ◌∷◌, ◌++◌, map, length, replicate, Option, Some, None, ℤ, arith}
-use Rattle.std.proofs.lemmas.Bool.Decides.{nat_tests}
+use Rattle.std.proofs.Common.{◌≡◌, ◌∙◌, sym, ap, subst, refl, ℕ, ◌+◌, ◌<◌, ◌^◌, true, List, [], ◌∷◌, ◌++◌, map, length, replicate, Option, Some, None, ℤ, arith}
 use Rattle.std.proofs.lemmas.List.{length-map, length-replicate, map-append}
-use Rattle.std.specs.Prelude.{Result, Ok, Err, nat_le}
+use Rattle.std.specs.Prelude.{Result, Ok, nat_le}
 use Rattle.std.specs.List.{All, AllByRecursion, list_all, zip}
 use Rattle.std.specs.Option.{option_and_then}
 use Rattle.std.proofs.lemmas.List.Elements.{All-from_recursion, All-replicate}
@@ -38,7 +37,8 @@ use Rattle.sq_reader.specs.Streaming as wires
 use Rattle.sq_reader.specs.Expressions.{may_be_predicate, may_be_set, predicate_of, typed_in}
 use Rattle.sq_reader.specs.Functions.{funcs_from, group_from, kinds_told}
 use Rattle.sq_reader.specs.Columns.{TypedBody, aggregate_of, bad_given, bad_name, body_of, bsort_of, filter_of, give_names, int_place, join_of, kinds_set, map_of, nat_of, node_in, node_of, place_if, same_columns, set_names, set_texts, too_many, union_of, unless_schema, window_of}
-use Rattle.sq_reader.proofs.StepLemmas.{first_step, found_as}
+use Rattle.sq_tables.proofs.ShapedLemmas.{first_step}
+use Rattle.sq_reader.proofs.StepLemmas.{found_as}
 use Rattle.sq_reader.proofs.ListLemmas.{and_both, and_parts, each_passes, is_at_most, none_failing}
 use Rattle.sq_reader.proofs.LimitLemmas.{given_length, givings_of, number_within, settings_of, slack_of}
 use Rattle.sq_reader.proofs.DistinctLemmas.{new_both, new_distinct, none_bad}

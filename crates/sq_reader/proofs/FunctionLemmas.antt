@@ -1,13 +1,13 @@
 -- What is known of the functions of an Aggregate, and of the places that it groups by.
-use Rattle.std.proofs.Common.{◌≡◌, ◌∙◌, sym, ap, subst, refl, ℕ, suc, ◌+◌, ◌<◌, ◌≤◌, Bool, true, false, List, [], ◌∷◌, ◌++◌, map, length, drop, take, get_or, Option, Some, None, slice_get, cond, arith, append_assoc, length-append}
-use Rattle.std.specs.Prelude.{Result, Ok, Err, is_some, nat_le}
+use Rattle.std.proofs.Common.{◌≡◌, ◌∙◌, sym, ap, subst, refl, ℕ, suc, ◌+◌, ◌<◌, ◌≤◌, Bool, true, false, List, [], ◌∷◌, ◌++◌, map, length, get_or, Option, Some, None, slice_get, cond, arith, length-append}
+use Rattle.std.specs.Prelude.{Ok, is_some, nat_le}
 use Rattle.std.specs.List.{AllByRecursion, cons_option, filter_map, zip}
 use Rattle.std.specs.Option.{option_and_then, option_map}
 use Rattle.std.proofs.lemmas.Bool.Decides.{nat_tests}
-use Rattle.std.proofs.lemmas.List.{drop_more, length-map, take_more}
+use Rattle.std.proofs.lemmas.List.{length-map}
 use Rattle.std.proofs.lemmas.List.Quantifiers.{position-Some}
 use Rattle.std.proofs.lemmas.Option.{slice_get-get_or, slice_get-map, slice_get_within}
-use Rattle.sq_value.specs.Lists.{same_bytes, are_distinct, contains_bytes}
+use Rattle.sq_value.specs.Lists.{same_bytes, contains_bytes}
 use Rattle.sq_value.specs.Schemas.{schema_error}
 use Rattle.sq_value.specs.Values.{Columns, kinds_of, names_of}
 use Rattle.sq_value.specs.declared.Kind.{Kind}
@@ -21,39 +21,16 @@ use Rattle.sq_net.specs.declared.NetErr.TheVariants as broken
 use Rattle.sq_net.specs.declared.Part.TheVariants as part
 use Rattle.sq_tables.specs.declared.raw.Told.{Told}
 use Rattle.sq_tables.specs.declared.raw.Giving.{Giving}
-use Rattle.sq_tables.specs.Places.{or_else, place_at}
+use Rattle.sq_tables.specs.Places.{place_at}
 use Rattle.sq_tables.specs.Rawly.{◌>>=◌, or_broken}
-use Rattle.sq_tables.proofs.ShapedLemmas.{drop-at, joined, joined-cons}
 use Rattle.sq_reader.specs.Columns.{bad_given, bad_name, give_names, too_many}
 use Rattle.sq_reader.specs.Functions.{func_in, func_told, funcs_from, group_from, group_place, if_kinded, kinds_told}
-use Rattle.sq_reader.proofs.StepLemmas.{first_step, found_as}
+use Rattle.sq_tables.proofs.ShapedLemmas.{first_step}
+use Rattle.sq_reader.proofs.StepLemmas.{found_as}
 use Rattle.sq_reader.proofs.LimitLemmas.{neither}
 use Rattle.sq_reader.proofs.DistinctLemmas.{IsNew, new_both, new_distinct, none_bad, same_text}
 use Rattle.sq_reader.proofs.SchemaLemmas.{schema_none}
 use Rattle.sq_reader.proofs.ColumnLemmas.{columns_of_parts, kinds_at_places, zip_both}
-
--- ---- one more
-
-pub funcs_more : (n i : ℕ) (cs : Columns) (front : List Func) (gs : List Giving) (g : Giving) (f : Func) → i < length gs → g ≡ get_or gs i g → func_in cs g.told ≡ Some f
-    → joined (front ++ f ∷ []) (funcs_from n (i + 1) cs (drop (i + 1) gs)) ≡ joined front (funcs_from n i cs (drop i gs))
-funcs_more n i cs front gs g f low is e = sym (joined-cons front f (funcs_from n (i + 1) cs (drop (i + 1) gs))) ∙ rw (drop-at gs i g low is, e) refl
-
-pub funcs_stop : (n i : ℕ) (cs : Columns) (front : List Func) (gs : List Giving) (g : Giving) → i < length gs → g ≡ get_or gs i g → func_in cs g.told ≡ None
-    → joined front (funcs_from n i cs (drop i gs)) ≡ Err (broken.Typing (place_at part.Box n i))
-funcs_stop n i cs front gs g low is e = rw (drop-at gs i g low is, e) refl
-
--- the names in front, and one more
-pub take-at : {A : Type 0} (xs : List A) (i : ℕ) (x : A) → i < length xs → x ≡ get_or xs i x → take (i + 1) xs ≡ take i xs ++ x ∷ []
-take-at {A} xs i x low is = take_more xs i x low ∙ ap (λ (y : A). take i xs ++ y ∷ []) (sym is)
-
-pub group_more : (n i : ℕ) (cs : Columns) (front : List ℕ) (ws : List (List ℕ)) (w : List ℕ) (p : ℕ) → i < length ws → w ≡ get_or ws i w → group_place cs (take i ws) w ≡ Some p
-    → joined (front ++ p ∷ []) (group_from n (i + 1) cs (take (i + 1) ws) (drop (i + 1) ws)) ≡ joined front (group_from n i cs (take i ws) (drop i ws))
-group_more n i cs front ws w p low is e =
-    sym (joined-cons front p (group_from n (i + 1) cs (take (i + 1) ws) (drop (i + 1) ws))) ∙ rw (drop-at ws i w low is, e, take-at ws i w low is) refl
-
-pub group_stop : (n i : ℕ) (cs : Columns) (front : List ℕ) (ws : List (List ℕ)) (w : List ℕ) → i < length ws → w ≡ get_or ws i w → group_place cs (take i ws) w ≡ None
-    → joined front (group_from n i cs (take i ws) (drop i ws)) ≡ Err (broken.Group (place_at part.Box n i))
-group_stop n i cs front ws w low is e = rw (drop-at ws i w low is, e) refl
 
 -- ---- the functions
 

@@ -1,5 +1,5 @@
 -- What the limits say of a file that keeps them.
-use Rattle.std.proofs.Common.{◌≡◌, ◌∙◌, ap, refl, ℕ, ◌≤◌, ◌^◌, Bool, true, false, ◌&&◌, List, [], ◌∷◌, length, Option, Some, None, ℤ, pos, negsuc, cond, arith}
+use Rattle.std.proofs.Common.{◌≡◌, ◌∙◌, ap, refl, ℕ, ◌≤◌, Bool, true, false, ◌&&◌, List, [], ◌∷◌, length, Option, Some, None, ℤ, pos, negsuc, cond, arith}
 use Rattle.std.specs.List.{list_all}
 use Rattle.std.specs.Option.{option_map}
 use Rattle.std.proofs.lemmas.Bool.Decides.{nat_tests}
@@ -132,9 +132,6 @@ pub slack_of : (by : List ℕ) (slack : ℤ) → body_within (BSort by slack) �
 slack_of by (pos n) h = grind (arith, nat_tests)
 slack_of by (negsuc n) h = omega arith
 
-pub on_of : (size : ℤ) (on : List ℕ) → body_within (Join size on) ≡ true → is_expression_long on ≡ true
-on_of size on h = (and_parts (is_between 0 (2 ^ 32) size) (is_expression_long on) h).1
-
 pub record GivingsWithin (group : List (List ℕ)) (give : List Giving) : Type 0 where
   pub few_groups : length group ≤ 16
   pub some : 1 ≤ length give
@@ -163,9 +160,6 @@ takes_few boxes.Join n h = grind (arith, nat_tests)
 
 pub takes_of : (b : RawBody) (n : ℕ) → takes_within (kind_of_body b) n ≡ true → TakesWithin n
 takes_of b n h = takes_few (kind_of_body b) n h
-
-pub takes_two : (size : ℤ) (on : List ℕ) (n : ℕ) → takes_within (kind_of_body (Join size on)) n ≡ true → n ≡ 2
-takes_two size on n h = grind (arith, nat_tests)
 
 pub ports_few : (b : RawBody) → body_within b ≡ true → ports_of b ≤ 16
 ports_few (Filter preds) h = let low = (predicates_of preds h).few in omega (arith, low)

@@ -1,5 +1,5 @@
 -- The boxes typed in their order: each stays as it was typed, on columns that stay as they were.
-use Rattle.std.proofs.Common.{◌≡◌, ◌∙◌, sym, ap, subst, refl, ℕ, zero, suc, ◌<◌, ◌≤◌, true, false, not, ◌==◌, List, [], ◌∷◌, ◌++◌, map, length, set, Option, Some, None, slice_get, arith, length-set, inl, inr}
+use Rattle.std.proofs.Common.{◌≡◌, ◌∙◌, sym, ap, subst, refl, ℕ, zero, suc, ◌<◌, true, false, not, ◌==◌, List, [], ◌∷◌, ◌++◌, map, length, set, Option, Some, None, slice_get, arith, length-set, inl, inr}
 use Rattle.std.specs.Prelude.{Result, Ok}
 use Rattle.std.specs.List.{cons_option, filter_map, find, list_all}
 use Rattle.std.proofs.lemmas.Bool.Decides.{nat_tests}
@@ -21,8 +21,8 @@ use Rattle.sq_tables.specs.declared.raw.RawBox.{RawBox}
 use Rattle.sq_tables.specs.declared.raw.Raw.{Raw}
 use Rattle.sq_tables.specs.Refusals.{Answers}
 use Rattle.sq_reader.specs.Columns.{columns_known, columns_taken, node_at, node_in, node_known, node_of_box, nodes_from}
-use Rattle.sq_reader.proofs.ListLemmas.{and_parts, get_set, get_set_other, given_few}
-use Rattle.sq_reader.proofs.StepLemmas.{first_step}
+use Rattle.sq_reader.proofs.ListLemmas.{and_parts, get_set, get_set_other}
+use Rattle.sq_tables.proofs.ShapedLemmas.{first_step}
 
 -- a box by its number, on what it takes
 pub node_from : (r : Raw) (w : Wiring) (ss : List declared.Source) (nodes : List (Option Node)) (at : ℕ) (b : RawBox) (x : BoxWires) (ins : List Columns) (answer : Result Node NetErr)
@@ -36,9 +36,6 @@ node_from r w ss nodes at b x ins answer here wired same h =
 pub nodes_more : (r : Raw) (w : Wiring) (ss : List declared.Source) (nodes : List (Option Node)) (at : ℕ) (ats rest : List ℕ) (node : Node)
     → node_at r w ss nodes at ≡ Ok node → ats ≡ at ∷ rest → nodes_from r w ss (set nodes at (Some node)) rest ≡ nodes_from r w ss nodes ats
 nodes_more r w ss nodes at ats rest node typed is = rw (is, typed) refl
-
-pub taken_few : (w : Wiring) (ss : List declared.Source) (nodes : List (Option Node)) (inputs : List ℕ) → length (columns_taken w ss nodes inputs) ≤ length inputs
-taken_few w ss nodes inputs = given_few (λ s. columns_known ss nodes (producer_of w s)) inputs
 
 -- each of these boxes can be next after those in front of it
 abbrev pub Follow : Wiring → List ℕ → List ℕ → Type 0

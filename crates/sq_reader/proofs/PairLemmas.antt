@@ -1,7 +1,7 @@
 -- The columns of pairs: their names differ where those of each side do.
-use Rattle.std.proofs.Common.{◌≡◌, ◌∙◌, sym, ap, refl, ℕ, suc, ◌+◌, ◌≤◌, Bool, true, false, not, ◌&&◌, ◌||◌, List, [], ◌∷◌, ◌++◌, map, length, None, arith, length-append}
+use Rattle.std.proofs.Common.{◌≡◌, ◌∙◌, sym, ap, refl, ℕ, ◌+◌, ◌≤◌, Bool, true, false, not, ◌&&◌, ◌||◌, List, [], ◌∷◌, ◌++◌, map, length, None, arith, length-append}
 use Rattle.std.specs.Prelude.{codes}
-use Rattle.std.specs.List.{AllByRecursion, zip}
+use Rattle.std.specs.List.{zip}
 use Rattle.std.proofs.lemmas.List.{length-map}
 use Rattle.std.proofs.lemmas.List.Folds.{list_any-append}
 use Rattle.sq_value.specs.Lists.{same_bytes, are_distinct, contains_bytes}
@@ -10,7 +10,7 @@ use Rattle.sq_value.specs.Values.{Columns, kinds_of, names_of}
 use Rattle.sq_value.specs.declared.Kind.{Kind}
 use Rattle.sq_net.specs.Columns.{pair_columns, prefixed}
 use Rattle.sq_reader.proofs.SchemaLemmas.{schema_none}
-use Rattle.sq_reader.proofs.ColumnLemmas.{columns_of_parts, zip_both}
+use Rattle.sq_reader.proofs.ColumnLemmas.{zip_both}
 
 abbrev pub left_names : List (List ℕ) → List (List ℕ)
 left_names ws = map (λ w. codes "l_" ++ w) ws
@@ -53,14 +53,6 @@ pair_distinct (w ∷ ws) vs h g = by_test (contains_bytes w ws) refl (λ e. pair
 
 -- ---- the columns
 
-prefixed_names : (letters : List ℕ) (cs : Columns) → names_of (prefixed letters cs) ≡ map (λ w. letters ++ w) (names_of cs)
-prefixed_names letters [] = refl
-prefixed_names letters (c ∷ cs) = ap (λ (ws : List (List ℕ)). (letters ++ c.0) ∷ ws) (prefixed_names letters cs)
-
-prefixed_kinds : (letters : List ℕ) (cs : Columns) → kinds_of (prefixed letters cs) ≡ kinds_of cs
-prefixed_kinds letters [] = refl
-prefixed_kinds letters (c ∷ cs) = ap (λ (ks : List Kind). c.1 ∷ ks) (prefixed_kinds letters cs)
-
 prefixed_zip : (letters : List ℕ) (cs : Columns) → zip (map (λ w. letters ++ w) (names_of cs)) (kinds_of cs) ≡ prefixed letters cs
 prefixed_zip letters [] = refl
 prefixed_zip letters (c ∷ cs) = ap (λ (ds : Columns). (letters ++ c.0, c.1) ∷ ds) (prefixed_zip letters cs)
@@ -79,16 +71,6 @@ pair_zip left right =
     let even : length (left_names (names_of left)) ≡ length (kinds_of left) = left_length left ∙ sym (kinds_length left) in
     zip_both (left_names (names_of left)) (kinds_of left) (right_names (names_of right)) (kinds_of right) even
     ∙ (ap (λ (ds : Columns). ds ++ zip (right_names (names_of right)) (kinds_of right)) (prefixed_zip (codes "l_") left) ∙ ap (λ (ds : Columns). prefixed (codes "l_") left ++ ds) (prefixed_zip (codes "r_") right))
-
-prefixed_length : (letters : List ℕ) (cs : Columns) → length (prefixed letters cs) ≡ length cs
-prefixed_length letters [] = refl
-prefixed_length letters (c ∷ cs) = ap suc (prefixed_length letters cs)
-
-pub pair_length : (ins : List Columns) (left right : Columns) → pair_columns ins ≡ pair_columns (left ∷ right ∷ []) → length (pair_columns ins) ≡ length left + length right
-pair_length ins left right same =
-    let one : length (prefixed (codes "l_") left) ≡ length left = prefixed_length (codes "l_") left in
-    let two : length (prefixed (codes "r_") right) ≡ length right = prefixed_length (codes "r_") right in
-    ap (λ (cs : Columns). length cs) same ∙ (length-append (prefixed (codes "l_") left) (prefixed (codes "r_") right) ∙ rw (one, two) refl)
 
 -- 16 columns at most are a schema
 pub pair_schema : (left right : Columns) → AreColumns left → AreColumns right → length left + length right ≤ 16

@@ -1,5 +1,5 @@
 -- A box that can be next takes streams of which all columns are known.
-use Rattle.std.proofs.Common.{◌≡◌, ◌∙◌, sym, ap, subst, refl, ℕ, suc, ◌<◌, ◌≤◌, Bool, true, false, not, ◌||◌, ◌==◌, List, [], ◌∷◌, ◌++◌, length, set, Option, Some, None, slice_get, get_or, arith, length-set}
+use Rattle.std.proofs.Common.{◌≡◌, ◌∙◌, sym, ap, refl, ℕ, suc, ◌<◌, Bool, true, false, not, ◌||◌, ◌==◌, List, [], ◌∷◌, ◌++◌, length, set, Option, Some, None, slice_get, get_or, arith, length-set}
 use Rattle.std.specs.Prelude.{Ok}
 use Rattle.std.specs.List.{cons_option, list_all}
 use Rattle.std.specs.Option.{option_map}
@@ -24,7 +24,7 @@ use Rattle.sq_reader.specs.Streaming.{box_wires, kind_of_body, stream_named, str
 use Rattle.sq_reader.specs.Columns.{columns_known, columns_taken, no_nodes, node_at, node_known, node_of_box}
 use Rattle.sq_reader.proofs.ListLemmas.{and_parts, get_set, get_set_other, passes_at}
 use Rattle.sq_reader.proofs.LimitLemmas.{counts_of}
-use Rattle.sq_reader.proofs.WiringLemmas.{wired_at, wired_length}
+use Rattle.sq_reader.proofs.WiringLemmas.{wired_at}
 use Rattle.sq_reader.proofs.BodyLemmas.{node_is}
 use Rattle.sq_reader.proofs.NodeLemmas.{Follow, follow_all}
 use Rattle.sq_reader.proofs.RuleLemmas.{takes_all}

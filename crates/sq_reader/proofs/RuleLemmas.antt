@@ -1,7 +1,7 @@
 -- What each rule that a file keeps says of it.
-use Rattle.std.proofs.Common.{◌≡◌, ◌∙◌, sym, ap, subst, refl, ℕ, suc, ◌+◌, ◌≤◌, Bool, true, false, not, ◌&&◌, ◌==◌, List, [], ◌∷◌, ◌++◌, map, length, Option, Some, None, ℤ, pos, negsuc, cond, arith}
-use Rattle.std.specs.Prelude.{Ok, codes}
-use Rattle.std.specs.List.{after_first, before_first, filter_map, list_all, list_any, zip, AllByRecursion}
+use Rattle.std.proofs.Common.{◌≡◌, ◌∙◌, sym, ap, subst, refl, ℕ, suc, ◌+◌, ◌≤◌, Bool, true, false, not, ◌&&◌, ◌==◌, List, [], ◌∷◌, ◌++◌, map, length, Option, Some, None, ℤ, cond, arith}
+use Rattle.std.specs.Prelude.{Ok}
+use Rattle.std.specs.List.{after_first, before_first, filter_map, list_all, list_any, zip}
 use Rattle.std.specs.Option.{option_map}
 use Rattle.std.proofs.lemmas.Bool.Decides.{nat_tests}
 use Rattle.std.proofs.lemmas.List.{length-map}
@@ -21,11 +21,8 @@ use Rattle.sq_tables.specs.declared.raw.RawBody.{RawBody}
 use Rattle.sq_tables.specs.declared.raw.RawBody.TheVariants.{Filter, Map, Union, BSort, Aggregate, Join}
 use Rattle.sq_tables.specs.declared.raw.RawBox.{RawBox}
 use Rattle.sq_tables.specs.declared.raw.Raw.{Raw}
-use Rattle.sq_tables.specs.Documents as option
-use Rattle.sq_tables.specs.Documents.{list_in, optional, required, when}
 use Rattle.sq_tables.specs.Places.{or_else, place_at, place_of}
-use Rattle.sq_tables.specs.Shapes.{body_in, box_in, default_selectivity, output_in, ports_of, source_in, top_in}
-use Rattle.sq_tables.specs.Rawly.{◌>>=◌, or_broken, raw_in, shaped_from}
+use Rattle.sq_tables.specs.Rawly.{◌>>=◌, or_broken}
 use Rattle.sq_reader.specs.Limits as limits
 use Rattle.sq_reader.specs.Limits.{body_within, box_within, first_failing, has_between, inputs_within, limit_place, top_within}
 use Rattle.sq_reader.specs.Naming.{first_repeat, name_place, place_in_space, space_names, twice_place}
@@ -36,7 +33,8 @@ use Rattle.sq_reader.proofs.LimitLemmas.{neither, number_within}
 use Rattle.sq_reader.proofs.ListLemmas.{all_given, and_both, and_parts, none_failing, nothing_mapped}
 use Rattle.sq_reader.proofs.DistinctLemmas.{IsNew, fresh_name, new_distinct, none_repeated}
 use Rattle.sq_reader.proofs.SchemaLemmas.{schema_none}
-use Rattle.sq_reader.proofs.StepLemmas.{first_step, found_as}
+use Rattle.sq_tables.proofs.ShapedLemmas.{first_step}
+use Rattle.sq_reader.proofs.StepLemmas.{found_as}
 use Rattle.sq_reader.proofs.ColumnLemmas.{names_of_zip}
 
 -- ---- limits

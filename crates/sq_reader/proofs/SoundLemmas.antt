@@ -1,5 +1,5 @@
 -- A network that is read is sound.
-use Rattle.std.proofs.Common.{◌≡◌, ◌∙◌, sym, ap, subst, refl, ℕ, ◌<◌, ◌^◌, Bool, true, false, ◌&&◌, List, [], ◌∷◌, map, length, Option, Some, None, slice_get, get_or, arith, inl, inr}
+use Rattle.std.proofs.Common.{◌≡◌, ◌∙◌, sym, ap, subst, refl, ℕ, ◌<◌, ◌^◌, true, false, ◌&&◌, List, [], ◌∷◌, map, length, Option, Some, None, slice_get, get_or, arith, inl, inr}
 use Rattle.std.specs.Prelude.{Result, Ok, Err, IfOk}
 use Rattle.std.specs.List.{All, cons_option, filter_map, find, list_all, AllByRecursion}
 use Rattle.std.specs.Option.{option_map}
@@ -34,7 +34,9 @@ use Rattle.sq_tables.specs.declared.raw.RawOutput.{RawOutput}
 use Rattle.sq_tables.specs.declared.raw.Raw.{Raw}
 use Rattle.sq_tables.specs.Places.{place_of}
 use Rattle.sq_tables.specs.Refusals.{Answers}
-use Rattle.sq_tables.specs.Rawly.{◌>>=◌, unless_at}
+use Rattle.sq_tables.specs.Documents.{document_in}
+use Rattle.sq_tables.specs.Rawly.{◌>>=◌, or_broken, raw_from, raw_of, unless_at}
+use Rattle.sq_tables.proofs.EvenLemmas.{answer_even}
 use Rattle.sq_tables.specs.Shapes.{AreEven, IsEven}
 use Rattle.sq_reader.specs.Limits as limits
 use Rattle.sq_reader.specs.Limits.{box_within, first_failing, has_between, limit_place}
@@ -45,11 +47,11 @@ use Rattle.sq_reader.specs.Streaming.{box_wires, cycle_in, stream_named, stream_
 use Rattle.sq_reader.specs.Sources.{sources_from}
 use Rattle.sq_reader.specs.Columns.{columns_known, columns_taken, nat_of, no_nodes, node_known, node_of_box, nodes_from}
 use Rattle.sq_reader.specs.Windows.{has_window, window_place}
-use Rattle.sq_reader.specs.Networks.{named_network, network_of, ordered_network, output_of, single_network, streamed_network, typed_network, windowed_network, wired_network}
+use Rattle.sq_reader.specs.Networks.{named_network, network_in, network_of, ordered_network, output_of, single_network, streamed_network, typed_network, windowed_network, wired_network}
 use Rattle.sq_reader.proofs.LimitLemmas.{is_within, number_within}
 use Rattle.sq_reader.proofs.ListLemmas.{all_by_place, and_both, and_parts, each_passes, maps_same, none_failing, nothing_mapped, passes_at}
 use Rattle.sq_reader.proofs.WiringLemmas.{is_wired, outputs_shown}
-use Rattle.sq_reader.proofs.StepLemmas.{first_step}
+use Rattle.sq_tables.proofs.ShapedLemmas.{first_step}
 use Rattle.sq_reader.proofs.BodyLemmas.{IsNodeOf, node_is}
 use Rattle.sq_reader.proofs.NodeLemmas.{AreSettled, IsSettled, all_known, follow_all, settled}
 use Rattle.sq_reader.proofs.RuleLemmas.{numbers_within, outputs_distinct, outputs_known, outputs_named, sources_within, takes_all}
@@ -298,3 +300,10 @@ read_sound r n even h = let from = read_as r n even h in subst IsSound from.same
 pub answer_sound : (r : Raw) (answer : Result Network NetErr) → AreEven r → Answers answer (typed_network r) → IfOk answer IsSound
 answer_sound r (Ok n) even h = read_sound r n even h
 answer_sound r (Err e) even h = tt
+
+-- so is the network of a file's bytes
+pub network_sound : (bytes : List ℕ) (n : Network) → network_in bytes ≡ Ok n → IsSound n
+network_sound bytes n h =
+    let tables = first_step (raw_of bytes) typed_network n h in
+    let document = first_step (or_broken broken.Toml (document_in bytes)) raw_from tables.0 tables.1.0 in
+    read_sound tables.0 n (answer_even document.0 (Ok tables.0) document.1.1) tables.1.1

@@ -1,5 +1,5 @@
 -- A window of a file is one of a network.
-use Rattle.std.proofs.Common.{◌≡◌, refl, ℕ, ◌*◌, ◌≤◌, ◌^◌, Bool, true, false, ◌&&◌, List, ℤ, pos, negsuc, arith}
+use Rattle.std.proofs.Common.{◌≡◌, ℕ, ◌*◌, ◌≤◌, ◌^◌, Bool, true, false, ◌&&◌, ℤ, pos, negsuc, arith}
 use Rattle.std.specs.Prelude.{nat_le, int_le, ◌*ℤ◌}
 use Rattle.std.proofs.lemmas.Bool.Decides.{nat_tests}
 use Rattle.sq_aggfn.specs.Windows.{IsWindow}

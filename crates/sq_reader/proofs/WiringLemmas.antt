@@ -1,5 +1,5 @@
 -- Each stream that is named is there.
-use Rattle.std.proofs.Common.{◌≡◌, ◌∙◌, sym, ap, subst, refl, ℕ, ◌+◌, ◌*◌, ◌<◌, ◌≤◌, ◌^◌, true, List, [], ◌∷◌, map, length, Option, Some, None, slice_get, get_or, arith, length-append}
+use Rattle.std.proofs.Common.{◌≡◌, ◌∙◌, sym, ap, refl, ℕ, ◌+◌, ◌*◌, ◌<◌, ◌≤◌, ◌^◌, true, List, [], ◌∷◌, map, length, Option, Some, None, slice_get, get_or, arith, length-append}
 use Rattle.std.specs.List.{All, AllByRecursion, cons_option, filter_map, flat_map, list_all, enumerate_from}
 use Rattle.std.proofs.lemmas.List.{length-map}
 use Rattle.std.proofs.lemmas.List.Elements.{All-from_recursion}
@@ -21,7 +21,7 @@ use Rattle.sq_tables.specs.Shapes.{ports_of}
 use Rattle.sq_reader.specs.Limits.{box_within, limit_place}
 use Rattle.sq_reader.specs.Streaming.{box_wires, port_name, port_names, stream_named, stream_names, wiring_by, wiring_of}
 use Rattle.sq_reader.proofs.LimitLemmas.{box_of, counts_of, ports_few}
-use Rattle.sq_reader.proofs.ListLemmas.{and_parts, given_few, item_there, passes_at}
+use Rattle.sq_reader.proofs.ListLemmas.{and_parts, item_there}
 
 named_low : (names : List (List ℕ)) (w : List ℕ) (s : ℕ) → stream_named names w ≡ Some s → s < length names
 named_low [] w s e = cc
@@ -125,13 +125,6 @@ wired_few r h = let low = (counts_of r h).boxes in let same = wired_length r in 
 -- what is wired as a box
 pub wired_at : (r : Raw) (at : ℕ) (b : RawBox) → slice_get r.boxes at ≡ Some b → slice_get (wiring_of r).boxes at ≡ Some (box_wires (stream_named (stream_names r)) b)
 wired_at r at b there = slice_get-map (box_wires (stream_named (stream_names r))) r.boxes at ∙ ap (λ (o : Option RawBox). option_map (box_wires (stream_named (stream_names r))) o) there
-
-pub inputs_few : (r : Raw) (at : ℕ) (b : RawBox) (x : BoxWires) → limit_place r ≡ None → slice_get r.boxes at ≡ Some b → slice_get (wiring_of r).boxes at ≡ Some x → length x.inputs ≤ 8
-inputs_few r at b x h there wired =
-    let few = (box_of b (passes_at box_within r.boxes at b (counts_of r h).each_box there)).few in
-    let given = given_few (stream_named (stream_names r)) b.ins in
-    let same : box_wires (stream_named (stream_names r)) b ≡ x = (let is = wired_at r at b there in cc) in
-    subst (λ (y : BoxWires). length y.inputs ≤ 8) same (omega (arith, few, given))
 
 pub wired_there : (r : Raw) (w : Wiring) (at : ℕ) (x : BoxWires) → w ≡ wiring_of r → at < length r.boxes → x ≡ get_or w.boxes at x → slice_get w.boxes at ≡ Some x
 wired_there r w at x same low is =

@@ -1,5 +1,5 @@
 -- What an Aggregate gives, and what it groups by, over the columns that it takes.
-use Rattle.std.specs.Prelude.{ℕ, ◌+◌, is_some, nat_le, if◌then◌else◌, List, [], ◌∷◌, ◌++◌, map, length, ℤ, Option, Some, None, Result, Ok, option_map}
+use Rattle.std.specs.Prelude.{ℕ, ◌+◌, is_some, if◌then◌else◌, List, [], ◌∷◌, ◌++◌, Option, Some, None, Result, Ok, option_map}
 use Rattle.std.specs.List.{filter_map}
 use Rattle.std.specs.Option.{option_and_then}
 use Rattle.sq_value.specs.Lists.{contains_bytes}

@@ -1,5 +1,5 @@
 -- The network that a file is, or the first rule that it breaks. Each rule is over the whole file before the next.
-use Rattle.std.specs.Prelude.{ℕ, List, [], ◌∷◌, map, length, Option, Some, None, Result, Ok, Err}
+use Rattle.std.specs.Prelude.{ℕ, List, [], ◌∷◌, map, length, Option, Result, Ok}
 use Rattle.std.specs.List.{filter_map}
 use Rattle.sq_qos.specs.Graphs.{Points}
 use Rattle.sq_graph.specs.declared.Wiring.{Wiring}
@@ -8,7 +8,6 @@ use Rattle.sq_net.specs.declared.Network.{Network}
 use Rattle.sq_net.specs.declared.Node.{Node}
 use Rattle.sq_net.specs.declared.Source.{Source}
 use Rattle.sq_net.specs.declared.Output.{Output}
-use Rattle.sq_net.specs.declared.Place.{Place}
 use Rattle.sq_net.specs.declared.NetErr.{NetErr}
 use Rattle.sq_net.specs.declared.NetErr.TheVariants as broken
 use Rattle.sq_tables.specs.declared.raw.RawOutput.{RawOutput}

@@ -166,7 +166,6 @@ fn bad_given(group: &[Name], given: &[Name]) -> Option<usize>
     }
 }
 
-#[tactic(auto, using(crate::proofs::LimitLemmas::givings_of))]
 fn aggregate_of(
     alloc: Global,
     number: usize,

@@ -14,19 +14,14 @@ use Rattle.sq_outside.specs.Faults.{Rose}
 use Rattle.sq_outside.specs.Folders.{Files, file}
 use Rattle.sq_outside.specs.Sinks.{AppendsPrefix, appended}
 use Rattle.sq_net.specs.declared.NetErr.{NetErr}
-use Rattle.sq_net.specs.declared.NetErr.TheVariants as net
 use Rattle.sq_net.specs.declared.Network.{Network}
 use Rattle.sq_net.specs.declared.Source.{Source}
 use Rattle.sq_net.specs.declared.Node.{Node}
 use Rattle.sq_net.specs.declared.Output.{Output}
 use Rattle.sq_net.specs.Names.{has_name_form, is_lower, is_name, may_follow, reserved}
 use Rattle.sq_net.specs.Sound as sound
-use Rattle.sq_tables.specs.Documents.{document_in}
-use Rattle.sq_tables.specs.Rawly.{or_broken, raw_from, raw_of}
-use Rattle.sq_tables.proofs.ShapedLemmas.{first_step}
-use Rattle.sq_tables.proofs.EvenLemmas.{answer_even}
-use Rattle.sq_reader.specs.Networks.{network_in, typed_network}
-use Rattle.sq_reader.proofs.SoundLemmas.{read_sound}
+use Rattle.sq_reader.specs.Networks.{network_in}
+use Rattle.sq_reader.proofs.SoundLemmas.{network_sound}
 use Rattle.sq_replay.specs.declared.why.Why.{Why}
 use Rattle.sq_replay.specs.Streams.{stream_in}
 use Rattle.sq_model.specs.Full.{nth, full_streams}
@@ -171,16 +166,10 @@ command_ok : (files : Lookup) (o : Option Command) (r : Replay) → outcome_of f
 command_ok files None r e = absurd (cc)
 command_ok files (Some (command.Run args)) r e = network_file_ok files (readable args.net settings_limit (files args.net)) r e
 
-said_sound : (bytes : List ℕ) (n : Network) → network_in bytes ≡ Ok n → sound.IsSound n
-said_sound bytes n e =
-    let tables = first_step (raw_of bytes) typed_network n e in
-    let document = first_step (or_broken net.Toml (document_in bytes)) raw_from tables.0 tables.1.0 in
-    read_sound tables.0 n (answer_even document.0 (Ok tables.0) document.1.1) tables.1.1
-
 pub accepted_is_sound : (files : Lookup) (words : List (List ℕ)) (r : Replay) → accepted files words ≡ Ok r → IsSound (due_of r)
 accepted_is_sound files words r e =
     let f = command_ok files (command_in words) r e in
-    due_is_sound r.0 (full_streams r.0 r.1) (said_sound f.0 r.0 f.1)
+    due_is_sound r.0 (full_streams r.0 r.1) (network_sound f.0 r.0 f.1)
 
 -- nothing was written
 appends_none : (o : Option (List ℕ)) (P : List ℕ → Type 0) → P [] → AppendsSuch o o P

@@ -1,4 +1,3 @@
-use Rattle.std.proofs.Common.{◌≡◌}
 use Rattle.sq_reader.proofs.bodies.body_of.Goals as goal
 
 pub returns-in-Map-clause-err : goal.returns-in-Map-clause-err

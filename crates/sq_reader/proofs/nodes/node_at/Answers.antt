@@ -1,10 +1,6 @@
-use Rattle.std.proofs.Common.{◌∙◌, ℕ, ap, subst, sym, List, length}
-use Rattle.sq_net.specs.Sound.{takes_within}
-use Rattle.sq_value.specs.Values.{Columns}
-use Rattle.sq_graph.specs.Wires.{inputs_at}
+use Rattle.std.proofs.Common.{◌∙◌, ℕ, ap, List}
 use Rattle.sq_reader.specs.Limits.{box_within}
 use Rattle.sq_reader.specs.Columns.{columns_taken}
-use Rattle.sq_reader.specs.Streaming.{kind_of_body}
 use Rattle.sq_reader.proofs.LimitLemmas.{counts_of}
 use Rattle.sq_reader.proofs.ListLemmas.{item_passes, item_there}
 use Rattle.sq_reader.proofs.WiringLemmas.{wired_there}

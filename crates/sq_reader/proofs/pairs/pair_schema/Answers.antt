@@ -1,4 +1,3 @@
-use Rattle.std.proofs.Common.{◌≡◌, ◌∙◌}
 use Rattle.sq_reader.proofs.PairLemmas.{pair_schema, pair_zip}
 use Rattle.sq_reader.proofs.pairs.pair_schema.Goals as goal
 
