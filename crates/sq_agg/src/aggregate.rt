@@ -2,45 +2,50 @@
 
 ghost use Rattle.std.specs.Prelude.{◌≡◌, ℕ, ◌+◌, ◌-◌, ◌^◌, ◌<◌, ◌≤◌, ◌==◌, ◌&&◌, nat_le, true, false, List, [], length, IsTrue};
 ghost use Rattle.sq_value.specs.declared.Value.{Value};
-ghost use Rattle.sq_aggfn.specs.Keyed.{AllMade};
+ghost use Rattle.std.specs.Int.{IsGcd};
 ghost use Rattle.sq_aggfn.specs.Windows.{IsWindow};
 ghost use Rattle.sq_lists.specs.Windows.{aggregate_of};
 ghost use Rattle.sq_oper.specs.declared.tally.Place.{Place};
 ghost use Rattle.sq_oper.specs.Entries.{Entry};
-ghost use Rattle.sq_oper.specs.Order.{IsFuture, time_of, unmarked};
+ghost use Rattle.sq_oper.specs.Order.{IsFuture, time_of};
 ghost use Rattle.sq_oper.specs.Streams.{things, tuples_of, at_zero};
+ghost use Rattle.sq_tagged.specs.Tagged.{spread_of, tagged_of};
+ghost use Rattle.sq_tagged.specs.Boxes.{aggregate_tagged};
 ghost use Rattle.sq_agg.specs.Positions.{open_at};
-ghost use Rattle.sq_agg.specs.Held.{AllOpen, OnlyOpen, aggregate_rest, folding_of, makes_result};
+ghost use Rattle.sq_agg.specs.Held.{HoldsPanes, MarksWait, OnlyOpen, aggregate_rest, bounds_of, folding_of, makes_result, takes_marks_at};
 
-use crate::grow::add_tuple;
-use crate::held::{Held, give_before};
+use crate::grow::add_body;
+use crate::held::give_before;
+use crate::waiting::Waiting;
+use crate::windows::windows_before;
 use sq_aggfn::{Fold, WindowSpec};
 use sq_item::Item;
 use sq_oper::{Decision, Operator, Outs, Place, Tally};
 use sq_outside::Steps;
+use sq_pane::Panes;
 use sq_road::Levels;
-use sq_value::Tuple;
 use std::alloc::{AllocError, Global};
-use std::collections::BTreeMap;
 use std::sync::ledger::Ledger;
 
 /// Gives for each window, in the order of starts, and for each group with a tuple in it, in the order of values, the
 /// group's values and then the fold's answers, at the window's start (after SQuAl's Aggregate: Abadi and others, "Aurora",
 /// VLDB Journal 2003; that windows begin at the multiples of the advance is this project's own).
 ///
-/// It keeps one state for each open window and group.
+/// It keeps one state for each pane and group, and joins a window that ends from its panes. Below a window drop it gives
+/// a window only where the marks allow it, and hands each mark on before the results of its time and behind all earlier
+/// ones.
 #[derive(Drop)]
 pub struct AggregateBox<F: Fold + Drop> {
-    fold: F,
+    panes: Panes<F>,
     group: Vec<u32>,
-    window: WindowSpec,
-    held: Held<F::State>,
+    time: u64,
+    waiting: Waiting,
     tally: Tally,
 }
 
 impl<F: Fold + Drop> AggregateBox<F> {
     /// An Aggregate by the fields at the places of `group` that nothing was fed to. It takes every tuple at port 0, if
-    /// its results have 1 to 16 values. It isn't `marked` yet: that it lies below a window drop.
+    /// its results have 1 to 16 values. `marked` says that it lies below a window drop: then it takes marks at port 0.
     pub fn new(
         alloc: Global,
         fold: F,
@@ -48,23 +53,24 @@ impl<F: Fold + Drop> AggregateBox<F> {
         window: WindowSpec,
         marked: bool,
     ) -> AggregateBox<F>
-        requires unmarked { marked ≡ false }
-        requires window { IsWindow window }
-        ensures list { (table : ℕ → ℕ → ℕ) (future : List Entry) (q : ℕ)
+        requires { IsWindow window }
+        ensures list { (table : ℕ → ℕ → ℕ) (future : List Entry) (q : ℕ) → marked ≡ false
             → IsFuture (⟦<AggregateBox<F> as Operator>⟧.takes_marks result) (⟦<AggregateBox<F> as Operator>⟧.fits result) Place.Start future
             → ⟦<AggregateBox<F> as Operator>⟧.rest result table future q ≡ at_zero q (things (aggregate_of (F.table fold) group.items window (tuples_of future))) }
+        ensures marked { (table : ℕ → ℕ → ℕ) (future : List Entry) (q : ℕ) → marked ≡ true
+            → IsFuture (⟦<AggregateBox<F> as Operator>⟧.takes_marks result) (⟦<AggregateBox<F> as Operator>⟧.fits result) Place.Start future
+            → ⟦<AggregateBox<F> as Operator>⟧.rest result table future q ≡ at_zero q (spread_of (aggregate_tagged (F.table fold) group.items window (tagged_of future))) }
         ensures none_lost { (future : List Entry) → ⟦<AggregateBox<F> as Operator>⟧.lost result future ≡ 0 }
         ensures fits { (port : ℕ) (fields : List Value) → ⟦<AggregateBox<F> as Operator>⟧.fits result port fields ≡ ((port == 0) && makes_result (length group.items) (F.width fold)) }
-        ensures unmarked { (port : ℕ) → ⟦<AggregateBox<F> as Operator>⟧.takes_marks result port ≡ false }
+        ensures takes_marks { (port : ℕ) → ⟦<AggregateBox<F> as Operator>⟧.takes_marks result port ≡ takes_marks_at marked port }
         ensures start { (⟦<AggregateBox<F> as Operator>⟧.place result ≡ Place.Start) × (⟦<AggregateBox<F> as Operator>⟧.taken result ≡ 0) }
         ensures valid { ⟦<AggregateBox<F> as Operator>⟧.valid result × IsTrue (⟦<AggregateBox<F> as Operator>⟧.running result) }
     {
-        let _below_a_drop = marked;
         AggregateBox {
-            fold,
+            panes: Panes::new(alloc, fold, window),
             group,
-            window,
-            held: BTreeMap::new(alloc),
+            time: 0,
+            waiting: Waiting::new(alloc, marked),
             tally: Tally::new(),
         }
     }
@@ -79,8 +85,10 @@ fn first_open(size: u64, time: u64) -> u64
 }
 
 impl<F: Fold + Drop> Operator for AggregateBox<F> {
-    ghost valid = { λ s. IsWindow s.window × (time_of s.tally.place < 2 ^ 40) × AllOpen s.window (F.width s.fold) (time_of s.tally.place) s.held.entries
-        × AllMade (F.made s.fold) (F.number s.fold) (λ k. s.tally.taken) s.held.entries × (s.tally.taken < 2 ^ 62) × (s.tally.running ≡ false → s.held.entries ≡ []) };
+    ghost valid = { λ s. IsWindow s.panes.window × (time_of s.tally.place < 2 ^ 40) × (IsGcd s.panes.window.size s.panes.window.advance s.panes.width × (1 ≤ s.panes.width))
+        × HoldsPanes (F.made s.panes.fold) (F.number s.panes.fold) s.panes.width (F.width s.panes.fold) s.tally.taken s.tally.place s.panes.held.entries
+        × (s.tally.taken < 2 ^ 62) × (s.tally.running ≡ false → s.panes.held.entries ≡ []) × MarksWait s.panes.window.size (time_of s.tally.place) (bounds_of s.waiting).waiting
+        × (s.time ≡ time_of s.tally.place) };
 
     ghost running = { λ s. s.tally.running };
 
@@ -88,16 +96,18 @@ impl<F: Fold + Drop> Operator for AggregateBox<F> {
 
     ghost place = { λ s. s.tally.place };
 
-    ghost takes_marks = { λ s. unmarked };
+    ghost takes_marks = { λ s. takes_marks_at s.waiting.marked };
 
-    ghost fits = { λ s port fields. (port == 0) && makes_result (length s.group.items) (F.width s.fold) };
+    ghost fits = { λ s port fields. (port == 0) && makes_result (length s.group.items) (F.width s.panes.fold) };
 
-    ghost rest = { λ s table future q. aggregate_rest (folding_of s.group.items (F.none s.fold) (F.joined s.fold) (F.unit s.fold) (F.told s.fold)) s.window (time_of s.tally.place) s.held.entries future q };
+    ghost reads = { λ s epoch. true };
+
+    ghost rest = { λ s table future q. aggregate_rest (folding_of s.group.items (F.none s.panes.fold) (F.joined s.panes.fold) (F.unit s.panes.fold) (F.told s.panes.fold)) s.panes.window s.panes.width (time_of s.tally.place) (bounds_of s.waiting) s.panes.held.entries future q };
 
     ghost decides = { λ s table future. [] };
 
     ghost holds_little = { λ s time. (table : ℕ → ℕ → ℕ) (q : ℕ)
-        → OnlyOpen s.window.size time (aggregate_rest (folding_of s.group.items (F.none s.fold) (F.joined s.fold) (F.unit s.fold) (F.told s.fold)) s.window (time_of s.tally.place) s.held.entries [] q) };
+        → OnlyOpen s.panes.window.size time (aggregate_rest (folding_of s.group.items (F.none s.panes.fold) (F.joined s.panes.fold) (F.unit s.panes.fold) (F.told s.panes.fold)) s.panes.window s.panes.width (time_of s.tally.place) (bounds_of s.waiting) s.panes.held.entries [] q) };
 
     ghost lost = { λ s future. 0 };
 
@@ -110,33 +120,29 @@ impl<F: Fold + Drop> Operator for AggregateBox<F> {
         steps: &mut Steps<L>,
     ) -> Result<(), AllocError> {
         self.tally.note(port, &item);
-        let _count = self.held.len();
+        let _count = self.panes.held.len();
         let time = item.time;
-        if let Some(fields) = item.body {
-            give_before(
-                &self.fold,
-                &mut self.held,
-                first_open(self.window.size, time),
-                out,
-            )?;
-            let tuple = Tuple { time, fields };
-            let alloc = *self.group.allocator();
-            add_tuple(
-                alloc,
-                &self.fold,
-                &self.group,
-                self.window,
-                &mut self.held,
-                &tuple,
-            )?;
+        let fed = item.body.is_some();
+        let open = first_open(self.panes.window.size, time);
+        let mut due = windows_before(&self.panes, &self.waiting, self.time, open)?;
+        give_before(&self.panes.fold, &mut due, &mut self.waiting, open, out)?;
+        self.panes.forget(open);
+        self.time = time;
+        self.waiting
+            .push(self.panes.window.size - 1, time, item.mark)?;
+        let alloc = *self.group.allocator();
+        add_body(alloc, &self.group, &mut self.panes, time, item.body)?;
+        if fed {
             steps.tick();
         }
         Ok(())
     }
 
     fn finish(&mut self, out: &mut Outs) -> Result<(), AllocError> {
-        let _count = self.held.len();
-        give_before(&self.fold, &mut self.held, u64::MAX, out)?;
+        let _count = self.panes.held.len();
+        let mut due = windows_before(&self.panes, &self.waiting, self.time, u64::MAX)?;
+        give_before(&self.panes.fold, &mut due, &mut self.waiting, u64::MAX, out)?;
+        self.panes.held.clear();
         self.tally.running = false;
         Ok(())
     }

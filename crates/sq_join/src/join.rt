@@ -1,6 +1,6 @@
 //! Join.
 
-ghost use Rattle.std.specs.Prelude.{◌≡◌, ℕ, ◌+◌, ◌≤◌, false, List, [], IsTrue};
+ghost use Rattle.std.specs.Prelude.{◌≡◌, ℕ, ◌+◌, ◌≤◌, true, false, List, [], IsTrue};
 ghost use Rattle.sq_value.specs.declared.Value.{Value};
 ghost use Rattle.sq_lists.specs.Pairs.{join_list_of};
 ghost use Rattle.sq_oper.specs.declared.tally.Place.{Place};
@@ -67,6 +67,8 @@ impl Operator for JoinBox {
     ghost takes_marks = { λ s port. false };
 
     ghost fits = { λ s port fields. join_fits s.on.scope port fields };
+
+    ghost reads = { λ s epoch. true };
 
     ghost rest = { λ s table future q. join_rest s.size s.on.tree s.sides.left.items s.sides.right.items future q };
 

@@ -43,6 +43,9 @@ pub trait Operator {
     /// A tuple of these values may come at this port.
     ghost fits: { Self → ℕ → List Value → Bool };
 
+    /// Levels of epochs of so many ticks may be read.
+    ghost reads: { Self → ℕ → Bool };
+
     /// What it will still give at a port, for a table of levels and a future.
     ghost rest: { Self → (ℕ → ℕ → ℕ) → List Entry → ℕ → List Thing };
 
@@ -68,6 +71,7 @@ pub trait Operator {
         requires is_running { IsTrue (running self.old) }
         requires may_come { IsFuture (takes_marks self.old) (fits self.old) (place self.old) (entries port item) }
         requires is_sound { IsSound item }
+        requires has_epoch { IsTrue (reads self.old levels.now.epoch) }
         requires has_level { item.time / levels.now.epoch < levels.now.closed }
         requires has_room { is_some item.body ≡ true → taken self.old < 2 ^ 62 - 1 }
 
@@ -98,6 +102,7 @@ pub trait Operator {
         ensures stays_valid { OnOk result (valid self.new × IsTrue (running self.new)) }
         ensures moves { OnOk result (place self.new ≡ after_all (place self.old) (entries port item)) }
         ensures same { OnOk result ((takes_marks self.new ≡ takes_marks self.old) × (fits self.new ≡ fits self.old)) }
+        ensures same_epoch { OnOk result (reads self.new ≡ reads self.old) }
         ensures counted { OnOk result (taken self.new ≡ taken self.old + (if is_some item.body then 1 else 0)) }
         ensures cost { OnOk result (steps.new ≡ steps.old + (if is_some item.body then 1 else 0)) }
         ensures no_cost { OnErr result (steps.new ≡ steps.old) };

@@ -1,18 +1,23 @@
 //! Filter.
 
-ghost use Rattle.std.specs.Prelude.{◌≡◌, ℕ, ◌^◌, ◌<◌, ◌++◌, ◌∷◌, true, false, List, [], length, IsTrue, OnOk, OnErr};
+ghost use Rattle.std.specs.Prelude.{◌≡◌, ℕ, ◌^◌, ◌+◌, ◌<◌, ◌++◌, ◌∷◌, nat_lt, true, false, List, [], length, IsTrue, OnOk, OnErr};
 ghost use Rattle.sq_value.specs.declared.Value.{Value};
 ghost use Rattle.sq_value.specs.Lists.{IsPrefixOf};
+ghost use Rattle.sq_item.specs.Sound.{IsMark, IsBody};
 ghost use Rattle.sq_lists.specs.Boxes.{filter_list_of};
 ghost use Rattle.sq_oper.specs.declared.tally.Place.{Place};
 ghost use Rattle.sq_oper.specs.Entries.{Entry};
 ghost use Rattle.sq_oper.specs.Given.{given, ItemsSound};
+ghost use Rattle.sq_oper.specs.Order.{IsFuture};
 ghost use Rattle.sq_oper.specs.Streams.{IsSoundTuple, things, tuples_of};
-ghost use Rattle.sq_plain.specs.Boxes.{trees, filter_rest};
+ghost use Rattle.sq_tagged.specs.Tagged.{HasNoMarks, spread_of, tagged_of};
+ghost use Rattle.sq_tagged.specs.Boxes.{filter_tagged};
+ghost use Rattle.sq_tagged.specs.Entrywise.{for_mark, for_body};
+ghost use Rattle.sq_plain.specs.Boxes.{trees, filter_gives, filter_rest, at_ports_below, first_port};
 
-use crate::give::give_tuple;
+use crate::give::{give_to_ports, give_tuple};
 use sq_expr::Typed;
-use sq_item::Item;
+use sq_item::{Item, Mark};
 use sq_lists::port_of_tuple;
 use sq_oper::{Decision, Operator, Outs, Place, Tally};
 use sq_outside::Steps;
@@ -22,7 +27,7 @@ use std::alloc::AllocError;
 use std::sync::ledger::Ledger;
 
 /// A tuple goes to the port of the first predicate that is true of it, else to the port after all (after SQuAl's Filter:
-/// Abadi and others, "Aurora", VLDB Journal 2003). Null is not true.
+/// Abadi and others, "Aurora", VLDB Journal 2003). Null is not true. A mark goes to every port.
 #[derive(Drop)]
 pub struct FilterBox {
     preds: Vec<Typed>,
@@ -30,13 +35,16 @@ pub struct FilterBox {
 }
 
 impl FilterBox {
-    /// A Filter that nothing was fed to. It takes every tuple.
+    /// A Filter that nothing was fed to. It takes every tuple, and marks at port 0.
     pub fn new(preds: Vec<Typed>) -> FilterBox
         requires { length preds.items < 2 ^ 32 }
-        ensures list { (table : ℕ → ℕ → ℕ) (future : List Entry) (q : ℕ) → ⟦<FilterBox as Operator>⟧.rest result table future q
-            ≡ things (filter_list_of (trees preds.items) q (tuples_of future)) }
+        ensures list { (table : ℕ → ℕ → ℕ) (future : List Entry) (q : ℕ) → HasNoMarks future
+            → ⟦<FilterBox as Operator>⟧.rest result table future q ≡ things (filter_list_of (trees preds.items) q (tuples_of future)) }
+        ensures marked { (table : ℕ → ℕ → ℕ) (future : List Entry) (q : ℕ)
+            → IsFuture (⟦<FilterBox as Operator>⟧.takes_marks result) (⟦<FilterBox as Operator>⟧.fits result) Place.Start future
+            → ⟦<FilterBox as Operator>⟧.rest result table future q ≡ at_ports_below (length preds.items + 1) q (spread_of (filter_tagged (trees preds.items) q (tagged_of future))) }
         ensures fits { (port : ℕ) (fields : List Value) → ⟦<FilterBox as Operator>⟧.fits result port fields ≡ true }
-        ensures unmarked { (port : ℕ) → ⟦<FilterBox as Operator>⟧.takes_marks result port ≡ false }
+        ensures takes_marks { (port : ℕ) → ⟦<FilterBox as Operator>⟧.takes_marks result port ≡ first_port port }
         ensures start { (⟦<FilterBox as Operator>⟧.place result ≡ Place.Start) × (⟦<FilterBox as Operator>⟧.taken result ≡ 0) }
         ensures valid { ⟦<FilterBox as Operator>⟧.valid result × IsTrue (⟦<FilterBox as Operator>⟧.running result) }
     {
@@ -60,6 +68,40 @@ impl FilterBox {
         give_tuple(port, tuple, out)?;
         Ok(())
     }
+
+    // Hands an item's mark on to every port.
+    fn pass_on(&self, time: u64, mark: Option<Mark>, out: &mut Outs) -> Result<(), AllocError>
+        requires few { length self.now.preds.items < 2 ^ 32 }
+        requires tick { time < 2 ^ 40 }
+        requires mark { IsMark mark }
+        ensures given { OnOk result ((q : ℕ) → given q out.new.items.items ≡ given q out.old.items.items ++ for_mark (filter_gives self.now.preds.items q) time mark) }
+        ensures prefix { OnErr result ((q : ℕ) → IsPrefixOf (given q out.new.items.items) (given q out.old.items.items ++ for_mark (filter_gives self.now.preds.items q) time mark)) }
+        ensures sound { ItemsSound out.old.items.items → ItemsSound out.new.items.items }
+        ensures extends { IsPrefixOf out.old.items.items out.new.items.items }
+        ensures drops { out.new.drops.items ≡ out.old.drops.items }
+    {
+        match mark {
+            None => Ok(()),
+            Some(mark) => give_to_ports(self.preds.len() + 1, time, mark, out),
+        }
+    }
+
+    // Sends an item's tuple to its port.
+    fn send_body(&self, time: u64, body: Option<Fields>, out: &mut Outs) -> Result<(), AllocError>
+        requires few { length self.now.preds.items < 2 ^ 32 }
+        requires tick { time < 2 ^ 40 }
+        requires body { IsBody body }
+        ensures given { OnOk result ((q : ℕ) → given q out.new.items.items ≡ given q out.old.items.items ++ for_body (filter_gives self.now.preds.items q) time body) }
+        ensures err { OnErr result (out.new.items.items ≡ out.old.items.items) }
+        ensures sound { ItemsSound out.old.items.items → ItemsSound out.new.items.items }
+        ensures extends { IsPrefixOf out.old.items.items out.new.items.items }
+        ensures drops { out.new.drops.items ≡ out.old.drops.items }
+    {
+        match body {
+            None => Ok(()),
+            Some(fields) => self.send(Tuple { time, fields }, out),
+        }
+    }
 }
 
 impl Operator for FilterBox {
@@ -71,9 +113,11 @@ impl Operator for FilterBox {
 
     ghost place = { λ s. s.tally.place };
 
-    ghost takes_marks = { λ s port. false };
+    ghost takes_marks = { λ s. first_port };
 
     ghost fits = { λ s port fields. true };
+
+    ghost reads = { λ s epoch. true };
 
     ghost rest = { λ s table future q. filter_rest s.preds.items future q };
 
@@ -83,7 +127,6 @@ impl Operator for FilterBox {
 
     ghost lost = { λ s future. 0 };
 
-    #[tactic(auto, using(crate::proofs::BoxLemmas::box_lemmas))]
     fn feed<L: Ledger>(
         &mut self,
         _levels: &Levels,
@@ -93,15 +136,15 @@ impl Operator for FilterBox {
         steps: &mut Steps<L>,
     ) -> Result<(), AllocError> {
         self.tally.note(port, &item);
-        let time = item.time;
-        if let Some(fields) = item.body {
-            self.send(Tuple { time, fields }, out)?;
+        let fed = item.body.is_some();
+        self.pass_on(item.time, item.mark, out)?;
+        self.send_body(item.time, item.body, out)?;
+        if fed {
             steps.tick();
         }
         Ok(())
     }
 
-    #[tactic(auto, using(crate::proofs::BoxLemmas::box_lemmas))]
     fn finish(&mut self, _out: &mut Outs) -> Result<(), AllocError> {
         self.tally.running = false;
         Ok(())

@@ -1,18 +1,23 @@
 //! Map.
 
-ghost use Rattle.std.specs.Prelude.{◌≡◌, ℕ, ◌++◌, ◌∷◌, false, List, [], IsTrue, OnOk, OnErr};
+ghost use Rattle.std.specs.Prelude.{◌≡◌, ℕ, ◌^◌, ◌<◌, ◌++◌, ◌∷◌, List, [], IsTrue, is_some, true, OnOk, OnErr};
 ghost use Rattle.sq_value.specs.declared.Value.{Value};
 ghost use Rattle.sq_value.specs.Lists.{IsPrefixOf};
+ghost use Rattle.sq_item.specs.Sound.{IsMark, IsBody};
 ghost use Rattle.sq_lists.specs.Boxes.{map_list_of};
 ghost use Rattle.sq_oper.specs.declared.tally.Place.{Place};
 ghost use Rattle.sq_oper.specs.Entries.{Entry};
 ghost use Rattle.sq_oper.specs.Given.{given, ItemsSound};
 ghost use Rattle.sq_oper.specs.Streams.{IsSoundTuple, things, tuples_of, at_zero};
-ghost use Rattle.sq_plain.specs.Boxes.{trees, map_rest, makes_tuple};
+ghost use Rattle.sq_oper.specs.Order.{IsFuture};
+ghost use Rattle.sq_tagged.specs.Tagged.{HasNoMarks, spread_of, tagged_of};
+ghost use Rattle.sq_tagged.specs.Boxes.{map_tagged};
+ghost use Rattle.sq_tagged.specs.Entrywise.{for_mark, for_body};
+ghost use Rattle.sq_plain.specs.Boxes.{trees, map_gives, map_rest, makes_tuple, first_port};
 
-use crate::give::give_tuple;
+use crate::give::{give_mark, give_tuple};
 use sq_expr::Typed;
-use sq_item::Item;
+use sq_item::{Item, Mark};
 use sq_lists::map_tuple;
 use sq_oper::{Decision, Operator, Outs, Place, Tally};
 use sq_outside::Steps;
@@ -30,12 +35,15 @@ pub struct MapBox {
 }
 
 impl MapBox {
-    /// A Map that nothing was fed to. It takes every tuple where it has 1 to 16 expressions, else none.
+    /// A Map that nothing was fed to. It takes every tuple where it has 1 to 16 expressions, else none, and marks at port 0.
     pub fn new(exprs: Vec<Typed>) -> MapBox
-        ensures list { (table : ℕ → ℕ → ℕ) (future : List Entry) (q : ℕ) → ⟦<MapBox as Operator>⟧.rest result table future q
-            ≡ at_zero q (things (map_list_of (trees exprs.items) (tuples_of future))) }
+        ensures list { (table : ℕ → ℕ → ℕ) (future : List Entry) (q : ℕ) → HasNoMarks future
+            → ⟦<MapBox as Operator>⟧.rest result table future q ≡ at_zero q (things (map_list_of (trees exprs.items) (tuples_of future))) }
+        ensures marked { (table : ℕ → ℕ → ℕ) (future : List Entry) (q : ℕ)
+            → IsFuture (⟦<MapBox as Operator>⟧.takes_marks result) (⟦<MapBox as Operator>⟧.fits result) Place.Start future
+            → ⟦<MapBox as Operator>⟧.rest result table future q ≡ at_zero q (spread_of (map_tagged (trees exprs.items) (tagged_of future))) }
         ensures fits { (port : ℕ) (fields : List Value) → ⟦<MapBox as Operator>⟧.fits result port fields ≡ makes_tuple exprs.items }
-        ensures unmarked { (port : ℕ) → ⟦<MapBox as Operator>⟧.takes_marks result port ≡ false }
+        ensures takes_marks { (port : ℕ) → ⟦<MapBox as Operator>⟧.takes_marks result port ≡ first_port port }
         ensures start { (⟦<MapBox as Operator>⟧.place result ≡ Place.Start) × (⟦<MapBox as Operator>⟧.taken result ≡ 0) }
         ensures valid { ⟦<MapBox as Operator>⟧.valid result × IsTrue (⟦<MapBox as Operator>⟧.running result) }
     {
@@ -59,6 +67,39 @@ impl MapBox {
         give_tuple(0, made, out)?;
         Ok(())
     }
+
+    // Hands an item's mark on.
+    fn pass_on(&self, time: u64, mark: Option<Mark>, out: &mut Outs) -> Result<(), AllocError>
+        requires tick { time < 2 ^ 40 }
+        requires mark { IsMark mark }
+        ensures given { OnOk result ((q : ℕ) → given q out.new.items.items ≡ given q out.old.items.items ++ for_mark (map_gives self.now.exprs.items q) time mark) }
+        ensures err { OnErr result (out.new.items.items ≡ out.old.items.items) }
+        ensures sound { ItemsSound out.old.items.items → ItemsSound out.new.items.items }
+        ensures extends { IsPrefixOf out.old.items.items out.new.items.items }
+        ensures drops { out.new.drops.items ≡ out.old.drops.items }
+    {
+        match mark {
+            None => Ok(()),
+            Some(mark) => give_mark(0, time, mark, out),
+        }
+    }
+
+    // Maps an item's tuple.
+    fn send_body(&self, time: u64, body: Option<Fields>, out: &mut Outs) -> Result<(), AllocError>
+        requires few { is_some body ≡ true → IsTrue (makes_tuple self.now.exprs.items) }
+        requires tick { time < 2 ^ 40 }
+        requires body { IsBody body }
+        ensures given { OnOk result ((q : ℕ) → given q out.new.items.items ≡ given q out.old.items.items ++ for_body (map_gives self.now.exprs.items q) time body) }
+        ensures err { OnErr result (out.new.items.items ≡ out.old.items.items) }
+        ensures sound { ItemsSound out.old.items.items → ItemsSound out.new.items.items }
+        ensures extends { IsPrefixOf out.old.items.items out.new.items.items }
+        ensures drops { out.new.drops.items ≡ out.old.drops.items }
+    {
+        match body {
+            None => Ok(()),
+            Some(fields) => self.send(Tuple { time, fields }, out),
+        }
+    }
 }
 
 impl Operator for MapBox {
@@ -70,9 +111,11 @@ impl Operator for MapBox {
 
     ghost place = { λ s. s.tally.place };
 
-    ghost takes_marks = { λ s port. false };
+    ghost takes_marks = { λ s. first_port };
 
     ghost fits = { λ s port fields. makes_tuple s.exprs.items };
+
+    ghost reads = { λ s epoch. true };
 
     ghost rest = { λ s table future q. map_rest s.exprs.items future q };
 
@@ -82,7 +125,6 @@ impl Operator for MapBox {
 
     ghost lost = { λ s future. 0 };
 
-    #[tactic(auto, using(crate::proofs::BoxLemmas::box_lemmas))]
     fn feed<L: Ledger>(
         &mut self,
         _levels: &Levels,
@@ -92,15 +134,15 @@ impl Operator for MapBox {
         steps: &mut Steps<L>,
     ) -> Result<(), AllocError> {
         self.tally.note(port, &item);
-        let time = item.time;
-        if let Some(fields) = item.body {
-            self.send(Tuple { time, fields }, out)?;
+        let fed = item.body.is_some();
+        self.pass_on(item.time, item.mark, out)?;
+        self.send_body(item.time, item.body, out)?;
+        if fed {
             steps.tick();
         }
         Ok(())
     }
 
-    #[tactic(auto, using(crate::proofs::BoxLemmas::box_lemmas))]
     fn finish(&mut self, _out: &mut Outs) -> Result<(), AllocError> {
         self.tally.running = false;
         Ok(())

@@ -1,53 +1,179 @@
 //! Union.
 
-ghost use Rattle.std.specs.Prelude.{◌≡◌, ℕ, false, List, [], map, length, nat_lt, IsTrue};
+ghost use Rattle.std.specs.Prelude.{◌≡◌, ℕ, ◌^◌, ◌<◌, ◌≤◌, ◌==◌, ◌++◌, true, false, List, [], None, Some, map, length, nat_lt, is_some, slice_index, IsTrue, OnOk, OnErr};
 ghost use Rattle.std.specs.List.{AllByRecursion};
 ghost use Rattle.sq_value.specs.declared.Tuple.{Tuple};
 ghost use Rattle.sq_value.specs.declared.Value.{Value};
+ghost use Rattle.sq_value.specs.Lists.{IsPrefixOf};
 ghost use Rattle.sq_value.specs.Values.{IsStream};
+ghost use Rattle.sq_item.specs.Sound.{IsMark, IsBody};
+ghost use Rattle.sq_item.specs.Things.{mark_part, body_part};
 ghost use Rattle.sq_lists.specs.Merge.{union};
 ghost use Rattle.sq_oper.specs.declared.tally.Place.{Place};
-ghost use Rattle.sq_oper.specs.Entries.{Entry};
-ghost use Rattle.sq_oper.specs.Order.{merge};
+ghost use Rattle.sq_oper.specs.Entries.{Entry, at_port};
+ghost use Rattle.sq_oper.specs.Given.{given, ItemsSound};
+ghost use Rattle.sq_oper.specs.Machine.{next_all, gives_all};
+ghost use Rattle.sq_oper.specs.Order.{merge, IsFuture};
 ghost use Rattle.sq_oper.specs.Streams.{things, tuples_of, at_zero};
-ghost use Rattle.sq_plain.specs.Boxes.{union_rest};
+ghost use Rattle.sq_tagged.specs.Tagged.{HasNoMarks, spread_of};
+ghost use Rattle.sq_tagged.specs.Boxes.{united_tagged};
+ghost use Rattle.sq_plain.specs.Unions.{seen, union_next, union_gives, union_rest, union_marks};
 
-use crate::give::give_tuple;
-use sq_item::Item;
+use crate::give::{give_mark, give_tuple};
+use sq_item::{Item, Mark};
 use sq_oper::{Decision, Operator, Outs, Place, Tally};
 use sq_outside::Steps;
 use sq_road::Levels;
+use sq_tagged::{bound_of, lessen};
 use sq_value::{Fields, Tuple, Value};
 use std::alloc::AllocError;
 use std::sync::ledger::Ledger;
 
+/// The greatest bound of the marks that were handed on, and the time of the last of them.
+#[derive(Clone, Copy, Debug, Drop)]
+pub struct Bounds {
+    pub bound: u64,
+    pub last: Option<u64>,
+}
+
 /// Joins streams of one schema: it gives the tuples of their merge (after SQuAl's Union: Abadi and others, "Aurora", VLDB
 /// Journal 2003; the order by time is this project's own).
+///
+/// Below a window drop it hands on the first mark of each time, and the tuples that are below its bound.
 #[derive(Drop)]
 pub struct UnionBox {
     /// One lag per input: by how many ticks the bounds of its marks are lessened.
     lags: Vec<u64>,
+    marked: bool,
+    bounds: Bounds,
     tally: Tally,
 }
 
 impl UnionBox {
     /// A Union that nothing was fed to, with a lag for each of its ports. `marked` says that it lies below a window drop.
     pub fn new(lags: Vec<u64>, marked: bool) -> UnionBox
-        requires { marked ≡ false }
-        ensures merge { (table : ℕ → ℕ → ℕ) (ins : List (List Tuple)) (q : ℕ) → AllByRecursion IsStream ins
+        ensures merge { (table : ℕ → ℕ → ℕ) (ins : List (List Tuple)) (q : ℕ) → marked ≡ false → AllByRecursion IsStream ins
             → ⟦<UnionBox as Operator>⟧.rest result table (merge (map things ins)) q ≡ at_zero q (things (union ins)) }
-        ensures list { (table : ℕ → ℕ → ℕ) (future : List Entry) (q : ℕ) → ⟦<UnionBox as Operator>⟧.rest result table future q
-            ≡ at_zero q (things (tuples_of future)) }
+        ensures list { (table : ℕ → ℕ → ℕ) (future : List Entry) (q : ℕ) → marked ≡ false → HasNoMarks future
+            → ⟦<UnionBox as Operator>⟧.rest result table future q ≡ at_zero q (things (tuples_of future)) }
+        ensures marked { (table : ℕ → ℕ → ℕ) (future : List Entry) (q : ℕ) → marked ≡ true
+            → IsFuture (⟦<UnionBox as Operator>⟧.takes_marks result) (⟦<UnionBox as Operator>⟧.fits result) Place.Start future
+            → ⟦<UnionBox as Operator>⟧.rest result table future q ≡ at_zero q (spread_of (united_tagged lags.items future)) }
         ensures fits { (port : ℕ) (fields : List Value) → ⟦<UnionBox as Operator>⟧.fits result port fields ≡ nat_lt port (length lags.items) }
-        ensures unmarked { (port : ℕ) → ⟦<UnionBox as Operator>⟧.takes_marks result port ≡ false }
+        ensures takes_marks { (port : ℕ) → ⟦<UnionBox as Operator>⟧.takes_marks result port ≡ union_marks marked lags.items port }
         ensures start { (⟦<UnionBox as Operator>⟧.place result ≡ Place.Start) × (⟦<UnionBox as Operator>⟧.taken result ≡ 0) }
         ensures valid { ⟦<UnionBox as Operator>⟧.valid result × IsTrue (⟦<UnionBox as Operator>⟧.running result) }
     {
-        let _ = marked;
         UnionBox {
             lags,
+            marked,
+            bounds: Bounds {
+                bound: 0,
+                last: None,
+            },
             tally: Tally::new(),
         }
+    }
+
+    // Hands a mark on, if it is the first of its time.
+    fn hand_on(
+        &mut self,
+        port: u32,
+        time: u64,
+        mark: Mark,
+        out: &mut Outs,
+    ) -> Result<(), AllocError>
+        requires tick { time < 2 ^ 40 }
+        requires mark { IsMark (Some mark) }
+        ensures bounds { OnOk result (self.new.bounds ≡ next_all (union_next self.old.lags.items) self.old.bounds (at_port port (mark_part time (Some mark)))) }
+        ensures given { OnOk result ((q : ℕ) → given q out.new.items.items
+            ≡ given q out.old.items.items ++ gives_all (union_next self.old.lags.items) (union_gives self.old.marked self.old.lags.items) self.old.bounds (at_port port (mark_part time (Some mark))) q) }
+        ensures err { OnErr result (out.new.items.items ≡ out.old.items.items) }
+        ensures same { self.new ≡ record self.old { bounds = self.new.bounds } }
+        ensures sound { ItemsSound out.old.items.items → ItemsSound out.new.items.items }
+        ensures extends { IsPrefixOf out.old.items.items out.new.items.items }
+        ensures drops { out.new.drops.items ≡ out.old.drops.items }
+    {
+        if is_seen(self.bounds.last, time) {
+            return Ok(());
+        }
+        let mark = lessen(mark, self.lag(port));
+        give_mark(0, time, mark, out)?;
+        self.bounds = Bounds {
+            bound: self.bounds.bound.max(bound_of(mark)),
+            last: Some(time),
+        };
+        Ok(())
+    }
+
+    fn lag(&self, port: u32) -> u64
+        ensures { result ≡ slice_index self.now.lags.items port }
+    {
+        self.lags.get(port as usize).copied().unwrap_or(0)
+    }
+
+    // Hands an item's mark on.
+    fn pass_on(
+        &mut self,
+        port: u32,
+        time: u64,
+        mark: Option<Mark>,
+        out: &mut Outs,
+    ) -> Result<(), AllocError>
+        requires tick { time < 2 ^ 40 }
+        requires mark { IsMark mark }
+        ensures bounds { OnOk result (self.new.bounds ≡ next_all (union_next self.old.lags.items) self.old.bounds (at_port port (mark_part time mark))) }
+        ensures given { OnOk result ((q : ℕ) → given q out.new.items.items
+            ≡ given q out.old.items.items ++ gives_all (union_next self.old.lags.items) (union_gives self.old.marked self.old.lags.items) self.old.bounds (at_port port (mark_part time mark)) q) }
+        ensures err { OnErr result (out.new.items.items ≡ out.old.items.items) }
+        ensures same { self.new ≡ record self.old { bounds = self.new.bounds } }
+        ensures sound { ItemsSound out.old.items.items → ItemsSound out.new.items.items }
+        ensures extends { IsPrefixOf out.old.items.items out.new.items.items }
+        ensures drops { out.new.drops.items ≡ out.old.drops.items }
+    {
+        match mark {
+            None => Ok(()),
+            Some(mark) => self.hand_on(port, time, mark, out),
+        }
+    }
+
+    // Gives an item's tuple, if it is below the bound.
+    fn send_body(
+        &self,
+        port: u32,
+        time: u64,
+        body: Option<Fields>,
+        out: &mut Outs,
+    ) -> Result<(), AllocError>
+        requires tick { time < 2 ^ 40 }
+        requires body { IsBody body }
+        ensures given { OnOk result ((q : ℕ) → given q out.new.items.items
+            ≡ given q out.old.items.items ++ gives_all (union_next self.now.lags.items) (union_gives self.now.marked self.now.lags.items) self.now.bounds (at_port port (body_part time body)) q) }
+        ensures err { OnErr result (out.new.items.items ≡ out.old.items.items) }
+        ensures sound { ItemsSound out.old.items.items → ItemsSound out.new.items.items }
+        ensures extends { IsPrefixOf out.old.items.items out.new.items.items }
+        ensures drops { out.new.drops.items ≡ out.old.drops.items }
+    {
+        let _port = port;
+        match body {
+            None => Ok(()),
+            Some(fields) => {
+                if !self.marked || time < self.bounds.bound {
+                    give_tuple(0, Tuple { time, fields }, out)?;
+                }
+                Ok(())
+            }
+        }
+    }
+}
+
+/// Whether a mark of this time was handed on.
+fn is_seen(last: Option<u64>, time: u64) -> bool
+    ensures { result ≡ seen last time }
+{
+    match last {
+        None => false,
+        Some(last) => last == time,
     }
 }
 
@@ -60,19 +186,20 @@ impl Operator for UnionBox {
 
     ghost place = { λ s. s.tally.place };
 
-    ghost takes_marks = { λ s port. false };
+    ghost takes_marks = { λ s. union_marks s.marked s.lags.items };
 
     ghost fits = { λ s port fields. nat_lt port (length s.lags.items) };
 
-    ghost rest = { λ s table future q. union_rest future q };
+    ghost reads = { λ s epoch. true };
+
+    ghost rest = { λ s table future q. union_rest s.marked s.lags.items s.bounds future q };
 
     ghost decides = { λ s table future. [] };
 
-    ghost holds_little = { λ s time. (table : ℕ → ℕ → ℕ) (q : ℕ) → union_rest [] q ≡ [] };
+    ghost holds_little = { λ s time. (table : ℕ → ℕ → ℕ) (q : ℕ) → union_rest s.marked s.lags.items s.bounds [] q ≡ [] };
 
     ghost lost = { λ s future. 0 };
 
-    #[tactic(auto, using(crate::proofs::BoxLemmas::box_lemmas))]
     fn feed<L: Ledger>(
         &mut self,
         _levels: &Levels,
@@ -82,15 +209,15 @@ impl Operator for UnionBox {
         steps: &mut Steps<L>,
     ) -> Result<(), AllocError> {
         self.tally.note(port, &item);
-        let time = item.time;
-        if let Some(fields) = item.body {
-            give_tuple(0, Tuple { time, fields }, out)?;
+        let fed = item.body.is_some();
+        self.pass_on(port, item.time, item.mark, out)?;
+        self.send_body(port, item.time, item.body, out)?;
+        if fed {
             steps.tick();
         }
         Ok(())
     }
 
-    #[tactic(auto, using(crate::proofs::BoxLemmas::box_lemmas))]
     fn finish(&mut self, _out: &mut Outs) -> Result<(), AllocError> {
         self.tally.running = false;
         Ok(())

@@ -4,26 +4,29 @@
 //! and writing are one rule of text, and that a copy is equal to what it was made of.
 #![tactic(auto)]
 
-ghost use Rattle.std.specs.Prelude.{◌≡◌, ◌↔◌, ◌<◌, [], Err, None, Some, IfOk, MatchResult, length};
+ghost use Rattle.std.specs.Prelude.{◌≡◌, ◌↔◌, ◌<◌, ◌≤◌, [], Err, None, Some, IfOk, MatchResult, length, IsUtf8};
 ghost use Rattle.std.specs.List.{zip};
 ghost use Rattle.sq_value.specs.Schemas.{schema_error, AreColumns};
+ghost use Rattle.sq_value.specs.TextBytes.{bytes_of};
 ghost use Rattle.sq_value.specs.Values.{kinds_of, names_of};
 
 mod copies;
 mod laws;
 mod numbers;
 mod order;
+mod short;
 #[cfg(test)]
 mod tests;
 mod written;
 
 pub use copies::{copy_fields, copy_name, copy_schema, copy_tuple, copy_txt, copy_value};
 pub use laws::{values_are_ordered, values_are_read_back};
-pub use numbers::{all_digits, number_of, read_short_number};
-pub use order::{all_differ, compare, fits, same_bytes, same_text};
+pub use numbers::{read_digits, read_short_number};
+pub use order::{all_differ, compare, compare_bytes, fits, same_bytes, same_text};
+use short::{Few, ROOM};
 use std::alloc::{AllocError, Global};
 use std::marker::Model;
-pub use written::{ValueErr, read_int, read_value, write_value};
+pub use written::{ValueErr, negative, positive, read_int, read_value, write_value};
 
 /// A list that a public struct holds. Contracts see it as the list of its items.
 #[derive(Debug, Drop)]
@@ -94,21 +97,72 @@ impl Name {
     }
 }
 
-/// A text value: 1 to 255 bytes of UTF-8. Contracts see its bytes.
+/// Where the bytes of a text lie: short ones in the value itself.
 #[derive(Debug, Drop)]
+enum Bytes {
+    Few(Few),
+    Many(Box<String>),
+}
+
+impl Bytes {
+    /// A copy of a text.
+    #[inline]
+    fn new(alloc: Global, text: &str) -> Result<Bytes, AllocError>
+        ensures { IfOk result (λ b. bytes_of b ≡ text.now) }
+    {
+        if text.len() <= ROOM {
+            return Ok(Bytes::Few(Few::new(text)));
+        }
+        let text = String::from_str(alloc, text)?;
+        Ok(Bytes::Many(Box::new(alloc, text)?))
+    }
+
+    #[inline]
+    fn as_str(&self) -> &str
+        ensures { result.now ≡ bytes_of self.now }
+    {
+        match self {
+            Bytes::Few(few) => few.as_str(),
+            Bytes::Many(text) => text.as_str(),
+        }
+    }
+
+    #[inline]
+    fn copy(&self) -> Result<Bytes, AllocError>
+        ensures { IfOk result (λ b. bytes_of b ≡ bytes_of self.now) }
+    {
+        match self {
+            Bytes::Few(few) => Ok(Bytes::Few(few.copy())),
+            Bytes::Many(text) => {
+                let text = text.clone()?;
+                Ok(Bytes::Many(text))
+            }
+        }
+    }
+}
+
+/// A text value: 1 to 255 bytes of UTF-8. Contracts see its bytes.
+#[derive(Debug)]
 pub struct Txt {
-    text: String,
+    bytes: Bytes,
+}
+
+/// By hand, so that a proof above meets one call where a text is let go, and not a case for each place where it may lie.
+impl Drop for Txt {
+    fn drop(self) {
+        let Txt { bytes: _bytes } = self;
+    }
 }
 
 impl Model for Txt {
     ghost use Rattle.std.specs.Prelude.{List, ℕ, length, ◌≤◌};
-    ghost use Rattle.std.specs.String.{string_bytes};
+    ghost use Rattle.sq_value.specs.TextBytes.{bytes_of};
 
     ghost Value = { List ℕ };
 
-    ghost view = { λ a. string_bytes a.text };
+    ghost view = { λ a. bytes_of a.bytes };
 
-    ghost invariant = { λ a. (1 ≤ length (string_bytes a.text)) × (length (string_bytes a.text) ≤ 255) };
+    ghost invariant = { λ a. (1 ≤ length (bytes_of a.bytes)) × (length (bytes_of a.bytes) ≤ 255) };
 }
 
 /// Why a text is no text value.
@@ -123,6 +177,7 @@ pub enum TxtErr {
 
 impl Txt {
     /// A copy of the text, of which there must be 1 to 255 bytes.
+    #[inline]
     pub fn new(alloc: Global, text: &str) -> Result<Txt, TxtErr>
         ensures value { IfOk result (λ t. t ≡ text.now) }
         ensures empty { (result ≡ Err TxtErr.Empty) ↔ (text.now ≡ []) }
@@ -134,17 +189,38 @@ impl Txt {
         if text.len() > 255 {
             return Err(TxtErr::Long);
         }
-        match String::from_str(alloc, text) {
-            Ok(text) => Ok(Txt { text }),
+        match Bytes::new(alloc, text) {
+            Ok(bytes) => Ok(Txt { bytes }),
             Err(_) => Err(TxtErr::Memory),
         }
     }
 
     /// The text.
+    #[inline]
     pub fn as_str(&self) -> &str
         ensures { result.now ≡ self.now }
     {
-        self.text.as_str()
+        self.bytes.as_str()
+    }
+
+    /// The bytes of the text: 1 to 255, of UTF-8.
+    #[inline]
+    pub fn as_bytes(&self) -> &[u8]
+        ensures value { result.now ≡ self.now }
+        ensures some { 1 ≤ length self.now }
+        ensures few { length self.now ≤ 255 }
+        ensures utf8 { IsUtf8 self.now }
+    {
+        self.bytes.as_str().as_bytes()
+    }
+
+    /// A copy, which takes no memory where the text is short.
+    #[inline]
+    pub(crate) fn copy(&self) -> Result<Txt, AllocError>
+        ensures { IfOk result (λ copy. copy ≡ self.now) }
+    {
+        let bytes = self.bytes.copy()?;
+        Ok(Txt { bytes })
     }
 }
 
