@@ -1,34 +1,5 @@
-use crate::{Frac, Graph, GraphErr};
+use crate::{Frac, Graph};
 use std::test::Fail;
-
-#[test]
-fn fractions_compare_and_add_as_fractions(rt: HostRuntime) {
-    let half = Frac::new(1, 2);
-    assert_eq!(rt; half, Frac::new(2, 4));
-    assert!(rt; Frac::new(1, 3) < half);
-    assert_eq!(rt; half.plus(Frac::new(1, 3)), Frac::new(5, 6));
-}
-
-#[test]
-fn points_are_a_graph_or_say_why_not(rt: HostRuntime) -> Result<(), Fail> {
-    let refused = [
-        (vec![in rt.alloc(); (0, 0); 22]?, GraphErr::TooMany),
-        (
-            vec![in rt.alloc(); (0, 0), (30, 1), (1000, 2)]?,
-            GraphErr::Grid,
-        ),
-        (vec![in rt.alloc(); (50, 0), (1000, 1)]?, GraphErr::Ends),
-        (vec![in rt.alloc(); (0, 5), (1000, 4)]?, GraphErr::Falls),
-        (
-            vec![in rt.alloc(); (0, 0), (500, 100), (1000, 900)]?,
-            GraphErr::NotConcave,
-        ),
-    ];
-    for (points, why) in refused {
-        assert_eq!(rt; Graph::new(points).err(), Some(why));
-    }
-    Ok(())
-}
 
 #[test]
 fn values_and_losses_stand_on_the_lines(rt: HostRuntime) -> Result<(), Fail> {
