@@ -21,6 +21,10 @@ use std::sync::ledger::Ledger;
 
 /// A box, a window drop or an output: what is fed items and gives items.
 ///
+/// Each ghost member is a function of the state that an operator defines for itself, so what it means for a kind of
+/// operator is said where one is made: the clauses of its `new` name each member of the new state, and those of `feed`
+/// carry them on.
+///
 /// A table gives every epoch and drop a level; it agrees with the closed epochs. A future is a list of marks and tuples
 /// at ports that may still come: by time, then by port, a mark before the tuples of its port and time, and the first
 /// entry of a time that has marks a mark. After want of memory an operator has failed, and no call may follow.
@@ -52,8 +56,8 @@ pub trait Operator {
     /// The batches that it will still drop.
     ghost decides: { Self → (ℕ → ℕ → ℕ) → List Entry → List Decision };
 
-    /// No more is held after an item of this time than has to be.
-    ghost holds_little: { Self → ℕ → Type 0 };
+    /// After an item of this time it may hold these things back at a port.
+    ghost may_hold: { Self → ℕ → List Thing → Type 0 };
 
     /// How many of the tuples that were fed, and of a future, it will have thrown away as late at the end.
     ghost lost: { Self → List Entry → ℕ };
@@ -98,7 +102,12 @@ pub trait Operator {
         // What is given now, and what is held, has no later time than the item.
         ensures times { OnOk result ((table : ℕ → ℕ → ℕ) → Agrees levels.now table → (q : ℕ) → ThingsUpTo item.time (rest self.old table (entries port item) q)) }
         ensures sound { ItemsSound out.old.items.items → ItemsSound out.new.items.items }
-        ensures little { OnOk result (holds_little self.new item.time) }
+
+        // No more is held back than may be, and no decision is.
+        ensures held { OnOk result ((table : ℕ → ℕ → ℕ) (q : ℕ) → may_hold self.new item.time (rest self.new table [] q)) }
+        ensures same_hold { OnOk result ((time : ℕ) (things : List Thing) → may_hold self.new time things → may_hold self.old time things) }
+        ensures settled { OnOk result ((table : ℕ → ℕ → ℕ) → decides self.new table [] ≡ []) }
+
         ensures stays_valid { OnOk result (valid self.new × IsTrue (running self.new)) }
         ensures moves { OnOk result (place self.new ≡ after_all (place self.old) (entries port item)) }
         ensures same { OnOk result ((takes_marks self.new ≡ takes_marks self.old) × (fits self.new ≡ fits self.old)) }
