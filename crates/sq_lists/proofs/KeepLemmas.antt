@@ -12,12 +12,12 @@ use Rattle.sq_value.specs.Values.{IsStream}
 use Rattle.sq_value.specs.Lists.{Rising, ports_from, ports_of, least_by, max_by}
 use Rattle.sq_value.proofs.Sorting.{sort_rising}
 use Rattle.sq_expr.specs.Trees.{Expr}
-use Rattle.sq_expr.specs.Expressions.{holds_of}
+use Rattle.sq_expr.specs.Expressions.{holds_of, pair_of}
 use Rattle.sq_aggfn.specs.Functions.{answers_of}
 use Rattle.sq_aggfn.specs.declared.WindowSpec.{WindowSpec}
 use Rattle.sq_lists.specs.Boxes.{port_of, map_list_of}
 use Rattle.sq_lists.specs.Merge.{Entry, earlier, merge, union}
-use Rattle.sq_lists.specs.Pairs.{pair_of, meets, paired, pairs_of, pairs_from, join_list_of}
+use Rattle.sq_lists.specs.Pairs.{meets, paired, pairs_of, pairs_from, join_list_of}
 use Rattle.sq_lists.specs.Sorting.{Numbered, sooner, retimed, without, tuple_of, chosen, without_late, bsort_list_of}
 use Rattle.sq_lists.specs.Sorters.{timed}
 use Rattle.sq_lists.specs.Windows.{groups_of, in_group, in_window, window_results, aggregate_of}

@@ -8,5 +8,5 @@ mod ListRows
 pub mod GroupLemmas
 pub mod WindowLemmas
 mod AggregateRows
-pub mod PairLemmas
+pub mod SideLemmas
 mod PairRows

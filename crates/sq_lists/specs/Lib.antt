@@ -6,3 +6,4 @@ pub mod Sorters
 pub mod Windows
 pub mod WindowParts
 pub mod Pairs
+pub mod Sides

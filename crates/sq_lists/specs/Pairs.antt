@@ -1,15 +1,11 @@
 -- Join.
-use Rattle.std.specs.Prelude.{ℕ, max, Bool, not, ◌&&◌, ◌==◌, if◌then◌else◌, nat_le, List, [], ◌∷◌, ◌++◌, map}
+use Rattle.std.specs.Prelude.{ℕ, Bool, not, ◌&&◌, ◌==◌, if◌then◌else◌, nat_le, List, [], ◌∷◌, ◌++◌, map}
 use Rattle.std.specs.Int.{abs_diff}
 use Rattle.std.specs.List.{filter}
 use Rattle.sq_value.specs.declared.Tuple.{Tuple}
 use Rattle.sq_expr.specs.Trees.{Expr}
-use Rattle.sq_expr.specs.Expressions.{holds_of}
+use Rattle.sq_expr.specs.Expressions.{holds_of, pair_of}
 use Rattle.sq_lists.specs.Merge.{Entry, merge}
-
--- a left and a right tuple in one, at the later of their times: the left one's fields stand first
-abbrev pub pair_of : Tuple → Tuple → Tuple
-pair_of l r = record { time = max l.time r.time; fields = l.fields ++ r.fields }
 
 -- whether an entry and an earlier one are of two sides, and their times differ by at most the size
 abbrev pub meets : ℕ → Entry → Entry → Bool

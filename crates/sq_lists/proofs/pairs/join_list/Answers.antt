@@ -1,48 +1,53 @@
-use Rattle.std.proofs.Common.{◌≡◌, ◌+◌, ◌<◌, ◌≤◌, ◌++◌, [], ◌∷◌, drop, take, length, sym, ap, ◌∙◌, append_assoc, arith}
-use Rattle.std.specs.List.{between}
-use Rattle.std.proofs.lemmas.List.{drop_more}
-use Rattle.std.proofs.lemmas.List.Edits.{length-between}
+use Rattle.std.proofs.Common.{◌≡◌, ◌++◌, [], ◌∷◌, refl, sym, ap, ap₂, ◌∙◌, append_assoc}
 use Rattle.sq_lists.specs.Merge.{merge}
-use Rattle.sq_lists.specs.Pairs.{pairs_of, pairs_from}
-use Rattle.sq_lists.proofs.PairLemmas.{merge_rises, next_pairs}
+use Rattle.sq_lists.specs.Pairs.{pairs_from}
+use Rattle.sq_lists.specs.Sides.{held_of, pairs_with, against, recent, left_with, right_with}
+use Rattle.sq_lists.proofs.SideLemmas.{merge_rises, merge_sides, next_entry, held_left, held_right}
 use Rattle.sq_lists.proofs.pairs.join_list.Goals as goal
 
-pub loop-i-init : goal.loop-i-init
-loop-i-init c =
+pub loop-side-init : goal.loop-side-init
+loop-side-init c =
     let both = c.args.left.now ∷ c.args.right.now ∷ [] in
-    let xs = c.deref-x-items.result.now in
-    let on = c.args.on.now.tree in
-    let whole : xs ≡ merge both = c.deref-x-items.ensures.value ∙ c.in_ok-all.ensures in
+    let whole : c.from-coming.result.items ≡ merge both = c.from-coming.ensures.0 ∙ c.in_ok-merge_two.ensures in
     record {
-      pairs = ap (pairs_from c.args.size on []) (sym whole) ∙ ap (λ l. l ++ pairs_from c.args.size on [] xs) (sym c.new-out.ensures.items);
-      behind = omega arith;
+      pairs = rw (whole, c.new-out.ensures.items, c.new-sides.ensures.0, c.new-sides.ensures.1) refl;
       rises = rw whole (merge_rises both);
+      sides = rw whole (merge_sides c.args.left.now c.args.right.now);
+      left = rw c.new-sides.ensures.0 (record { rises = tt; early = tt });
+      right = rw c.new-sides.ensures.1 (record { rises = tt; early = tt });
     }
 
-pub loop-i-preserved : goal.loop-i-preserved
-loop-i-preserved c =
-    let xs = c.deref-x-items.result.now in
+pub loop-side-preserved : goal.loop-side-preserved
+loop-side-preserved c =
     let size = c.args.size in
     let on = c.args.on.now.tree in
-    let x = c.x-item.result in
-    let i = c.loop-i.i in
-    let from = c.loop-i.from in
-    let n = c.too_early-from.result in
-    let lt : i < length xs = c.loop-i-test.true in
-    let seen = c.deref.ensures.value ∙ sym c.deref-x-items.ensures.value in
-    let early = rw seen at c.too_early-from.ensures.each in
-    let most = rw seen at c.too_early-from.ensures.most in
-    let count = length-between xs from i (omega (arith, lt)) in
-    let behind : from + n ≤ i = let old = c.loop-i.invariant.behind in omega (arith, most, count, old) in
-    let pushed : c.push_pairs.new.out.items ≡ c.loop-i.out.items ++ pairs_of size on (between (from + n) i xs) x =
-    rw (sym (c.deref-in-loop-i.ensures.value ∙ sym c.deref-x-items.ensures.value)) c.in_ok-push_pairs.ensures in
-    let left = pairs_from size on (drop (from + n) (take (i + 1) xs)) (drop (i + 1) xs) in
+    let side = c.in-Some.side in
+    let x = c.in-Some.x in
+    let rest = c.pop_front.new.self.items in
+    let left = c.loop-side.sides.left.items in
+    let right = c.loop-side.sides.right.items in
+    let out = c.loop-side.out.items in
+    let kept_left = recent size x.time left in
+    let kept_right = recent size x.time right in
+    let same : c.loop-side.coming.items ≡ (side, x) ∷ rest = rw c.in-Some.is at c.pop_front.ensures.items in
+    let rises = rw same at c.loop-side.invariant.rises in
+    let sides = rw same at c.loop-side.invariant.sides in
+    let held_l = rw same at c.loop-side.invariant.left in
+    let held_r = rw same at c.loop-side.invariant.right in
+    let new_left : c.hold.new.self.left.items ≡ left_with side x kept_left = c.in_ok-hold.ensures.left ∙ ap (left_with side x) c.let_go.ensures.left in
+    let new_right : c.hold.new.self.right.items ≡ right_with side x kept_right = c.in_ok-hold.ensures.right ∙ ap (right_with side x) c.let_go.ensures.right in
+    let others : c.against.result.now.items ≡ against side kept_left kept_right = c.against.ensures ∙ ap₂ (against side) c.let_go.ensures.left c.let_go.ensures.right in
+    let given = pairs_with on side x (against side kept_left kept_right) in
+    let later = pairs_from size on (held_of (left_with side x kept_left) (right_with side x kept_right)) rest in
+    let pushed : c.push_pairs.new.out.items ≡ out ++ given = c.in_ok-push_pairs.ensures ∙ ap (λ l. out ++ pairs_with on side x l) others in
     record {
       pairs =
-          c.loop-i.invariant.pairs
-          ∙ ap (λ l. c.loop-i.out.items ++ l) (next_pairs size on xs from n i x lt c.x-item.is behind early c.loop-i.invariant.rises)
-          ∙ sym (append_assoc c.loop-i.out.items (pairs_of size on (between (from + n) i xs) x) left)
-          ∙ ap (λ l. l ++ left) (sym pushed);
-      behind = omega (arith, behind);
-      rises = (rw (drop_more xs i x lt) at c.loop-i.invariant.rises).1;
+          c.loop-side.invariant.pairs
+          ∙ ap (λ l. out ++ l) (ap (pairs_from size on (held_of left right)) same ∙ next_entry size on side x rest sides.0 rises left right sides.1 held_l held_r)
+          ∙ sym (append_assoc out given later)
+          ∙ ap₂ (λ a b. a ++ b) (sym pushed) (ap₂ (λ l r. pairs_from size on (held_of l r) rest) (sym new_left) (sym new_right));
+      rises = rises.1;
+      sides = sides.1;
+      left = rw new_left (held_left size on side x rest sides.0 rises left held_l);
+      right = rw new_right (held_right size on side x rest sides.0 rises right held_r);
     }

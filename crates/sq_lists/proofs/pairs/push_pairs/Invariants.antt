@@ -1,6 +1,7 @@
 use Rattle.std.proofs.Common.{◌≡◌, ◌++◌, drop}
-use Rattle.sq_lists.specs.Pairs.{pairs_of}
+use Rattle.sq_lists.specs.Sides.{pairs_with}
 use Rattle.sq_lists.proofs.pairs.push_pairs.Given as goal
 
-abbrev pub invariant-loop-x : goal.invariant-loop-x
-invariant-loop-x l = l.fn.out.items ++ pairs_of l.size l.on.tree l.before l.now ≡ l.out.items ++ pairs_of l.size l.on.tree (drop l.x-index l.before) l.now
+abbrev pub invariant-loop-i : goal.invariant-loop-i
+invariant-loop-i l =
+    l.fn.out.items ++ pairs_with l.on.tree l.side l.x l.others.items ≡ l.out.items ++ pairs_with l.on.tree l.side l.x (drop l.i l.others.items)
