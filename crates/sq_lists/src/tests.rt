@@ -156,22 +156,6 @@ fn is_pair(x: &Tuple, time: u64, left: i64, right: i64) -> bool {
 }
 
 #[test]
-fn a_join_pairs_each_tuple_with_earlier_ones_of_the_other_side(
-    rt: HostRuntime,
-) -> Result<(), Fail> {
-    let alloc = rt.alloc();
-    let on = over_pairs(alloc, "true")?;
-    let left = vec![in alloc; at(alloc, 1, 10)?, at(alloc, 4, 40)?]?;
-    let right = vec![in alloc; at(alloc, 3, 30)?, at(alloc, 6, 60)?]?;
-    let pairs = join_list(alloc, 2, &on, &left, &right)?;
-    let [a, b, c] = pairs.as_slice() else {
-        return Err(Fail::from("three pairs"));
-    };
-    assert!(rt; is_pair(a, 3, 10, 30) && is_pair(b, 4, 40, 30) && is_pair(c, 6, 40, 60));
-    Ok(())
-}
-
-#[test]
 fn a_join_gives_pairs_that_are_near_and_pass(rt: HostRuntime) -> Result<(), Fail> {
     let alloc = rt.alloc();
     let on = over_pairs(alloc, "l_v < r_v")?;
