@@ -1,8 +1,9 @@
 //! Items: what stands on an arc of a network, a mark, a tuple, or a mark that rides on a tuple.
 //!
-//! The contract is the spread of an item, its mark and then its tuple: two items that spread alike mean the same. It
-//! stands on the values alone. Marks are after window-aware load shedding (N. Tatbul and S. Zdonik, VLDB 2006); their
-//! rules are this project's own.
+//! The contract promises that a copy is the item again, and what a program may make: a tick with a mark, a tuple of 1 to
+//! 16 values or both, and a bound that stays small (`specs/Sound`). What items stand for, the mark and then the tuple, is
+//! defined in `specs/Things` for the layers above. Below stand the values alone. Marks are after window-aware load
+//! shedding (N. Tatbul and S. Zdonik, VLDB 2006); their rules are this project's own.
 #![tactic(auto)]
 
 ghost use Rattle.std.specs.Prelude.{◌≡◌, IfOk};

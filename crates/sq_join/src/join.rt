@@ -2,6 +2,7 @@
 
 ghost use Rattle.std.specs.Prelude.{◌≡◌, ℕ, ◌+◌, ◌≤◌, true, false, List, [], IsTrue};
 ghost use Rattle.sq_value.specs.declared.Value.{Value};
+ghost use Rattle.sq_item.specs.Things.{Thing};
 ghost use Rattle.sq_lists.specs.Pairs.{join_list_of};
 ghost use Rattle.sq_oper.specs.declared.tally.Place.{Place};
 ghost use Rattle.sq_oper.specs.Entries.{Entry};
@@ -42,6 +43,9 @@ impl JoinBox {
         ensures none_lost { (future : List Entry) → ⟦<JoinBox as Operator>⟧.lost result future ≡ 0 }
         ensures fits { (port : ℕ) (fields : List Value) → ⟦<JoinBox as Operator>⟧.fits result port fields ≡ join_fits on.scope port fields }
         ensures unmarked { (port : ℕ) → ⟦<JoinBox as Operator>⟧.takes_marks result port ≡ false }
+        ensures reads { (epoch : ℕ) → ⟦<JoinBox as Operator>⟧.reads result epoch ≡ true }
+        ensures holds { (time : ℕ) (things : List Thing) → ⟦<JoinBox as Operator>⟧.may_hold result time things → things ≡ [] }
+        ensures decides { (table : ℕ → ℕ → ℕ) (future : List Entry) → ⟦<JoinBox as Operator>⟧.decides result table future ≡ [] }
         ensures start { (⟦<JoinBox as Operator>⟧.place result ≡ Place.Start) × (⟦<JoinBox as Operator>⟧.taken result ≡ 0) }
         ensures valid { ⟦<JoinBox as Operator>⟧.valid result × IsTrue (⟦<JoinBox as Operator>⟧.running result) }
     {
@@ -56,7 +60,8 @@ impl JoinBox {
 
 impl Operator for JoinBox {
     ghost valid = { λ s. IsSide (most_at s.on.scope 0) (time_of s.tally.place) s.sides.left.items
-        × IsSide (most_at s.on.scope 1) (time_of s.tally.place) s.sides.right.items };
+        × IsSide (most_at s.on.scope 1) (time_of s.tally.place) s.sides.right.items
+        × AllNear s.size (time_of s.tally.place) s.sides.left.items × AllNear s.size (time_of s.tally.place) s.sides.right.items };
 
     ghost running = { λ s. s.tally.running };
 
@@ -74,8 +79,7 @@ impl Operator for JoinBox {
 
     ghost decides = { λ s table future. [] };
 
-    ghost holds_little = { λ s time. ((table : ℕ → ℕ → ℕ) (q : ℕ) → join_rest s.size s.on.tree s.sides.left.items s.sides.right.items [] q ≡ [])
-        × AllNear s.size time s.sides.left.items × AllNear s.size time s.sides.right.items };
+    ghost may_hold = { λ s time things. things ≡ [] };
 
     ghost lost = { λ s future. 0 };
 

@@ -1,8 +1,8 @@
 //! Join, fed one item at a time.
 //!
 //! A Join keeps the law of operators, and what a new one gives is exactly the list function of a Join on whole lists. It
-//! gives a pair as soon as its later tuple comes, so it holds nothing back; and it holds only tuples that a later one can
-//! still meet. Below stand the law, the list functions and expressions.
+//! gives a pair as soon as its later tuple comes, so it holds nothing back, decides nothing and throws nothing away. Its
+//! state keeps only tuples that a later one can still meet. Below stand the law, the list functions and expressions.
 #![tactic(auto)]
 
 mod join;

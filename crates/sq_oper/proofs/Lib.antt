@@ -2,3 +2,4 @@ pub mod GivenLemmas
 pub mod MachineLemmas
 pub mod StreamLemmas
 pub mod FedLemmas
+pub mod PartLemmas

@@ -4,6 +4,7 @@ ghost use Rattle.std.specs.Prelude.{◌≡◌, ℕ, ◌^◌, ◌+◌, ◌<◌, �
 ghost use Rattle.sq_value.specs.declared.Value.{Value};
 ghost use Rattle.sq_value.specs.Lists.{IsPrefixOf};
 ghost use Rattle.sq_item.specs.Sound.{IsMark, IsBody};
+ghost use Rattle.sq_item.specs.Things.{Thing};
 ghost use Rattle.sq_lists.specs.Boxes.{filter_list_of};
 ghost use Rattle.sq_oper.specs.declared.tally.Place.{Place};
 ghost use Rattle.sq_oper.specs.Entries.{Entry};
@@ -45,6 +46,10 @@ impl FilterBox {
             → ⟦<FilterBox as Operator>⟧.rest result table future q ≡ at_ports_below (length preds.items + 1) q (spread_of (filter_tagged (trees preds.items) q (tagged_of future))) }
         ensures fits { (port : ℕ) (fields : List Value) → ⟦<FilterBox as Operator>⟧.fits result port fields ≡ true }
         ensures takes_marks { (port : ℕ) → ⟦<FilterBox as Operator>⟧.takes_marks result port ≡ first_port port }
+        ensures reads { (epoch : ℕ) → ⟦<FilterBox as Operator>⟧.reads result epoch ≡ true }
+        ensures holds { (time : ℕ) (things : List Thing) → ⟦<FilterBox as Operator>⟧.may_hold result time things → things ≡ [] }
+        ensures decides { (table : ℕ → ℕ → ℕ) (future : List Entry) → ⟦<FilterBox as Operator>⟧.decides result table future ≡ [] }
+        ensures none_lost { (future : List Entry) → ⟦<FilterBox as Operator>⟧.lost result future ≡ 0 }
         ensures start { (⟦<FilterBox as Operator>⟧.place result ≡ Place.Start) × (⟦<FilterBox as Operator>⟧.taken result ≡ 0) }
         ensures valid { ⟦<FilterBox as Operator>⟧.valid result × IsTrue (⟦<FilterBox as Operator>⟧.running result) }
     {
@@ -123,7 +128,7 @@ impl Operator for FilterBox {
 
     ghost decides = { λ s table future. [] };
 
-    ghost holds_little = { λ s time. (table : ℕ → ℕ → ℕ) (q : ℕ) → filter_rest s.preds.items [] q ≡ [] };
+    ghost may_hold = { λ s time things. things ≡ [] };
 
     ghost lost = { λ s future. 0 };
 

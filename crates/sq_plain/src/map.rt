@@ -4,6 +4,7 @@ ghost use Rattle.std.specs.Prelude.{◌≡◌, ℕ, ◌^◌, ◌<◌, ◌++◌, 
 ghost use Rattle.sq_value.specs.declared.Value.{Value};
 ghost use Rattle.sq_value.specs.Lists.{IsPrefixOf};
 ghost use Rattle.sq_item.specs.Sound.{IsMark, IsBody};
+ghost use Rattle.sq_item.specs.Things.{Thing};
 ghost use Rattle.sq_lists.specs.Boxes.{map_list_of};
 ghost use Rattle.sq_oper.specs.declared.tally.Place.{Place};
 ghost use Rattle.sq_oper.specs.Entries.{Entry};
@@ -44,6 +45,10 @@ impl MapBox {
             → ⟦<MapBox as Operator>⟧.rest result table future q ≡ at_zero q (spread_of (map_tagged (trees exprs.items) (tagged_of future))) }
         ensures fits { (port : ℕ) (fields : List Value) → ⟦<MapBox as Operator>⟧.fits result port fields ≡ makes_tuple exprs.items }
         ensures takes_marks { (port : ℕ) → ⟦<MapBox as Operator>⟧.takes_marks result port ≡ first_port port }
+        ensures reads { (epoch : ℕ) → ⟦<MapBox as Operator>⟧.reads result epoch ≡ true }
+        ensures holds { (time : ℕ) (things : List Thing) → ⟦<MapBox as Operator>⟧.may_hold result time things → things ≡ [] }
+        ensures decides { (table : ℕ → ℕ → ℕ) (future : List Entry) → ⟦<MapBox as Operator>⟧.decides result table future ≡ [] }
+        ensures none_lost { (future : List Entry) → ⟦<MapBox as Operator>⟧.lost result future ≡ 0 }
         ensures start { (⟦<MapBox as Operator>⟧.place result ≡ Place.Start) × (⟦<MapBox as Operator>⟧.taken result ≡ 0) }
         ensures valid { ⟦<MapBox as Operator>⟧.valid result × IsTrue (⟦<MapBox as Operator>⟧.running result) }
     {
@@ -121,7 +126,7 @@ impl Operator for MapBox {
 
     ghost decides = { λ s table future. [] };
 
-    ghost holds_little = { λ s time. (table : ℕ → ℕ → ℕ) (q : ℕ) → map_rest s.exprs.items [] q ≡ [] };
+    ghost may_hold = { λ s time things. things ≡ [] };
 
     ghost lost = { λ s future. 0 };
 

@@ -7,7 +7,7 @@ ghost use Rattle.sq_value.specs.declared.Value.{Value};
 ghost use Rattle.sq_value.specs.Lists.{IsPrefixOf};
 ghost use Rattle.sq_value.specs.Values.{IsStream};
 ghost use Rattle.sq_item.specs.Sound.{IsMark, IsBody};
-ghost use Rattle.sq_item.specs.Things.{mark_part, body_part};
+ghost use Rattle.sq_item.specs.Things.{Thing, mark_part, body_part};
 ghost use Rattle.sq_lists.specs.Merge.{union};
 ghost use Rattle.sq_oper.specs.declared.tally.Place.{Place};
 ghost use Rattle.sq_oper.specs.Entries.{Entry, at_port};
@@ -61,6 +61,10 @@ impl UnionBox {
             → ⟦<UnionBox as Operator>⟧.rest result table future q ≡ at_zero q (spread_of (united_tagged lags.items future)) }
         ensures fits { (port : ℕ) (fields : List Value) → ⟦<UnionBox as Operator>⟧.fits result port fields ≡ nat_lt port (length lags.items) }
         ensures takes_marks { (port : ℕ) → ⟦<UnionBox as Operator>⟧.takes_marks result port ≡ union_marks marked lags.items port }
+        ensures reads { (epoch : ℕ) → ⟦<UnionBox as Operator>⟧.reads result epoch ≡ true }
+        ensures holds { (time : ℕ) (things : List Thing) → ⟦<UnionBox as Operator>⟧.may_hold result time things → things ≡ [] }
+        ensures decides { (table : ℕ → ℕ → ℕ) (future : List Entry) → ⟦<UnionBox as Operator>⟧.decides result table future ≡ [] }
+        ensures none_lost { (future : List Entry) → ⟦<UnionBox as Operator>⟧.lost result future ≡ 0 }
         ensures start { (⟦<UnionBox as Operator>⟧.place result ≡ Place.Start) × (⟦<UnionBox as Operator>⟧.taken result ≡ 0) }
         ensures valid { ⟦<UnionBox as Operator>⟧.valid result × IsTrue (⟦<UnionBox as Operator>⟧.running result) }
     {
@@ -196,7 +200,7 @@ impl Operator for UnionBox {
 
     ghost decides = { λ s table future. [] };
 
-    ghost holds_little = { λ s time. (table : ℕ → ℕ → ℕ) (q : ℕ) → union_rest s.marked s.lags.items s.bounds [] q ≡ [] };
+    ghost may_hold = { λ s time things. things ≡ [] };
 
     ghost lost = { λ s future. 0 };
 

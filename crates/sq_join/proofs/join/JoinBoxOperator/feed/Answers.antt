@@ -43,19 +43,6 @@ returns-in_ok-take-clause-times g c =
     λ table agrees q.
     fed_times b.size b.on.tree b.on.scope b.sides.left.items b.sides.right.items b.tally.place c.args.port c.args.item c.in-Some.fields c.in-Some.is c.requires.is_sound c.requires.may_come v.0 v.1 q
 
-pub returns-in_ok-take-clause-little : goal.returns-in_ok-take-clause-little
-returns-in_ok-take-clause-little g c =
-    let b = c.args.self.now in
-    let v = c.requires.is_valid in
-    let left = rw (c.in-Some.fields-is, c.let_go.ensures.left) at c.in_ok-take.ensures.left in
-    let right = rw (c.in-Some.fields-is, c.let_go.ensures.right) at c.in_ok-take.ensures.right in (
-      (λ table q. join_nil b.size b.on.tree c.take.new.self.left.items c.take.new.self.right.items q),
-      subst (λ (l : List Tuple). AllNear b.size c.args.item.time l) (sym left)
-          (near_left b.size b.on.tree b.on.scope b.sides.left.items b.sides.right.items b.tally.place c.args.port c.args.item c.in-Some.fields c.in-Some.is c.requires.is_sound c.requires.may_come v.0 v.1),
-      subst (λ (l : List Tuple). AllNear b.size c.args.item.time l) (sym right)
-          (near_right b.size b.on.tree b.on.scope b.sides.left.items b.sides.right.items b.tally.place c.args.port c.args.item c.in-Some.fields c.in-Some.is c.requires.is_sound c.requires.may_come v.0 v.1),
-    )
-
 pub returns-in_ok-take-clause-stays_valid : goal.returns-in_ok-take-clause-stays_valid
 returns-in_ok-take-clause-stays_valid g c =
     let b = c.args.self.now in
@@ -66,6 +53,10 @@ returns-in_ok-take-clause-stays_valid g c =
       (
         rw (left, place) (fed_left b.size b.on.tree b.on.scope b.sides.left.items b.sides.right.items b.tally.place c.args.port c.args.item c.in-Some.fields c.in-Some.is c.requires.is_sound c.requires.may_come v.0 v.1),
         rw (right, place) (fed_right b.size b.on.tree b.on.scope b.sides.left.items b.sides.right.items b.tally.place c.args.port c.args.item c.in-Some.fields c.in-Some.is c.requires.is_sound c.requires.may_come v.0 v.1),
+        subst (λ (l : List Tuple). AllNear b.size (time_of c.note.new.self.place) l) (sym left) (rw place
+            (near_left b.size b.on.tree b.on.scope b.sides.left.items b.sides.right.items b.tally.place c.args.port c.args.item c.in-Some.fields c.in-Some.is c.requires.is_sound c.requires.may_come v.0 v.1)),
+        subst (λ (l : List Tuple). AllNear b.size (time_of c.note.new.self.place) l) (sym right) (rw place
+            (near_right b.size b.on.tree b.on.scope b.sides.left.items b.sides.right.items b.tally.place c.args.port c.args.item c.in-Some.fields c.in-Some.is c.requires.is_sound c.requires.may_come v.0 v.1)),
       ),
       c.note.ensures.running ∙ c.requires.is_running,
     )
