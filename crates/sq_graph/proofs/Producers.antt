@@ -1,5 +1,5 @@
 -- What gives a stream is there: a source, or a port of a box.
-use Rattle.std.proofs.Common.{◌≡◌, ◌∙◌, sym, ap, refl, ℕ, zero, suc, ◌+◌, ◌<◌, ◌≤◌, List, [], ◌∷◌, ◌++◌, map, Option, Some, None, slice_get, arith}
+use Rattle.std.proofs.Common.{◌≡◌, ◌∙◌, sym, ap, refl, ℕ, zero, suc, ◌+◌, ◌<◌, ◌≤◌, List, [], ◌∷◌, map, Some, slice_get, arith}
 use Rattle.std.specs.List.{AllByRecursion, enumerate_from, flat_map, range_with_len}
 use Rattle.sq_value.specs.Lists.{numbers_to}
 use Rattle.sq_graph.specs.declared.BoxWires.{BoxWires}

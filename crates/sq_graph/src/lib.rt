@@ -321,82 +321,17 @@ mod tests {
         })
     }
 
-    // Three maps of one port that take these streams: 0 is the source's, 1, 2 and 3 are theirs.
-    fn three_maps(alloc: Global, inputs: [u32; 3]) -> Result<Wiring, AllocError>
-        requires first { slice_index_or inputs 0 0 < 4 }
-        requires second { slice_index_or inputs 1 0 < 4 }
-        requires third { slice_index_or inputs 2 0 < 4 }
-        ensures count { IfOk result (λ w. length w.boxes ≡ 3) }
-        ensures wired { IfOk result (λ w. IsWired w) }
-    {
-        let [a, b, c] = inputs;
-        let mut boxes = Vec::new(alloc);
-        boxes.push(map_of(alloc, a)?)?;
-        boxes.push(map_of(alloc, b)?)?;
-        boxes.push(map_of(alloc, c)?)?;
-        Ok(Wiring {
-            sources: 1,
-            boxes: ListOf::new(boxes),
-            outputs: ListOf::new(Vec::new(alloc)),
-        })
-    }
-
+    // The first of two maps takes what the second gives.
     #[test]
-    fn puts_each_box_behind_its_inputs(rt: HostRuntime) -> Result<(), Fail> {
-        let w = three_maps(rt.alloc(), [2, 3, 0])?;
-        let found = order(rt.alloc(), &w)?;
-        assert_eq!(rt; found.as_slice(), [2, 1, 0].as_slice());
-        Ok(())
-    }
-
-    #[test]
-    fn names_the_least_box_on_a_cycle(rt: HostRuntime) -> Result<(), Fail> {
-        // box 0 takes what box 1 gives, and boxes 1 and 2 each other's
-        let w = three_maps(rt.alloc(), [2, 3, 2])?;
-        assert_eq!(rt;
-            order(rt.alloc(), &w).err(),
-            Some(OrderErr::Cycle { at: 1 })
-        );
-        let own = three_maps(rt.alloc(), [0, 1, 3])?;
-        assert_eq!(rt;
-            order(rt.alloc(), &own).err(),
-            Some(OrderErr::Cycle { at: 2 })
-        );
-        Ok(())
-    }
-
-    // A filter of two ports and a union of both.
-    #[test]
-    fn numbers_streams_and_arcs(rt: HostRuntime) -> Result<(), Fail> {
-        let mut boxes = Vec::new(rt.alloc());
-        boxes.push(BoxWires {
-            kind: BoxKind::Filter,
-            inputs: ListOf::new(Vec::from_slice(rt.alloc(), &[0])?),
-            ports: 2,
-        })?;
-        boxes.push(BoxWires {
-            kind: BoxKind::Union,
-            inputs: ListOf::new(Vec::from_slice(rt.alloc(), &[1, 2])?),
-            ports: 1,
-        })?;
+    fn puts_each_box_behind_its_input(rt: HostRuntime) -> Result<(), Fail> {
+        let boxes = vec![in rt.alloc(); map_of(rt.alloc(), 2)?, map_of(rt.alloc(), 0)?]?;
         let w = Wiring {
             sources: 1,
             boxes: ListOf::new(boxes),
-            outputs: ListOf::new(Vec::from_slice(rt.alloc(), &[3])?),
+            outputs: ListOf::new(Vec::new(rt.alloc())),
         };
-        assert_eq!(rt;
-            (
-                stream_of(&w, 0, 0),
-                stream_of(&w, 0, 1),
-                stream_of(&w, 1, 0)
-            ),
-            (1, 2, 3)
-        );
-        assert_eq!(rt;
-            (arc_of(&w, 0, 0), arc_of(&w, 1, 0), arc_of(&w, 1, 1)),
-            (0, 1, 2)
-        );
-        assert_eq!(rt; output_arc(&w, 0), 3);
+        let found = order(rt.alloc(), &w)?;
+        assert_eq!(rt; found.as_slice(), [1, 0].as_slice());
         Ok(())
     }
 }

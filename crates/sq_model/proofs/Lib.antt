@@ -9,3 +9,7 @@ pub mod ArcLemmas
 pub mod PlacedLemmas
 pub mod LateLemmas
 pub mod StandingLemmas
+pub mod Alls
+pub mod PortLow
+pub mod BoxTypes
+pub mod StreamTypes

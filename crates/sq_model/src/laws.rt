@@ -3,6 +3,7 @@ ghost use Rattle.std.specs.Prelude.{List};
 ghost use Rattle.std.specs.List.{All};
 ghost use Rattle.sq_value.specs.Values.{IsStream};
 ghost use Rattle.sq_net.specs.Sound.{IsSound};
+ghost use Rattle.sq_model.specs.Fit.{SourcesFit, StreamsFit};
 ghost use Rattle.sq_model.specs.Full.{full_streams};
 ghost use Rattle.sq_model.specs.Placed.{IsPlaced};
 ghost use Rattle.sq_model.specs.Laws.{AreFull, LateAreTheRest};
@@ -31,6 +32,15 @@ pub fn full_streams_follow(n: &Network)
 /// fall.
 pub fn full_streams_are_streams(n: &Network)
     ensures { (sources : List (List Tuple)) → All IsStream sources → All IsStream (full_streams n.now sources) }
+{
+    let _n = n;
+}
+
+/// Where what the sources of a sound network recorded fits their columns, each tuple of a full stream fits the columns of
+/// that stream.
+pub fn full_streams_fit(n: &Network)
+    requires { IsSound n.now }
+    ensures { (sources : List (List Tuple)) → SourcesFit n.now sources → StreamsFit n.now sources }
 {
     let _n = n;
 }

@@ -2,9 +2,10 @@
 //! engine, for audits and for tests.
 //!
 //! The full stream of a source is its recorded tuples, and that of a port is what its box gives for the full streams
-//! that it takes. The contracts promise exactly these lists and their numbers of tuples, want of memory aside; that they
-//! are determined by one another alone is the law of `full_streams_follow`. Below stand the boxes as functions of whole
-//! lists, the order of boxes, and the typed network.
+//! that it takes. The contracts promise exactly these lists, how many tuples each box is fed and how many of them come too
+//! late for a BSort, want of memory aside; that the streams are determined by one another alone is the law of
+//! `full_streams_follow`, and that their tuples fit their columns that of `full_streams_fit`. Below stand the boxes as
+//! functions of whole lists, the order of boxes, and the typed network.
 #![tactic(auto)]
 
 mod arcs;
@@ -18,7 +19,8 @@ mod work;
 pub use arcs::full;
 pub use boxes::stream_in;
 pub use laws::{
-    full_streams_are_streams, full_streams_follow, late_tuples_are_the_rest, sound_is_placed,
+    full_streams_are_streams, full_streams_fit, full_streams_follow, late_tuples_are_the_rest,
+    sound_is_placed,
 };
 pub use streams::full_streams;
 pub use work::{fed, late};

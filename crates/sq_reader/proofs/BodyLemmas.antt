@@ -23,7 +23,7 @@ use Rattle.sq_net.specs.declared.Part.TheVariants as part
 use Rattle.sq_net.specs.Names.{is_name}
 use Rattle.sq_net.specs.Sound.{HasWindow, IsOver, IsPredicate, IsTypedBody, kind_of_body}
 use Rattle.sq_net.specs.Sound as sound
-use Rattle.sq_tables.specs.declared.raw.Giving.{Giving}
+use Rattle.sq_tables.specs.declared.raw.AnswerColumn.{AnswerColumn}
 use Rattle.sq_tables.specs.declared.raw.Setting.{Setting}
 use Rattle.sq_tables.specs.declared.raw.RawBody.{RawBody}
 use Rattle.sq_tables.specs.declared.raw.RawBody.TheVariants.{Filter, Map, Union, BSort, Aggregate, Join}
@@ -35,12 +35,12 @@ use Rattle.sq_reader.specs.Limits.{body_within, first_failing, has_between, is_b
 use Rattle.sq_reader.specs.Windows.{has_window}
 use Rattle.sq_reader.specs.Streaming as wires
 use Rattle.sq_reader.specs.Expressions.{may_be_predicate, may_be_set, predicate_of, typed_in}
-use Rattle.sq_reader.specs.Functions.{funcs_from, group_from, kinds_told}
+use Rattle.sq_reader.specs.Functions.{funcs_from, group_from, kinds_answered}
 use Rattle.sq_reader.specs.Columns.{TypedBody, aggregate_of, bad_given, bad_name, body_of, bsort_of, filter_of, give_names, int_place, join_of, kinds_set, map_of, nat_of, node_in, node_of, place_if, same_columns, set_names, set_texts, too_many, union_of, unless_schema, window_of}
 use Rattle.sq_tables.proofs.ShapedLemmas.{first_step}
 use Rattle.sq_reader.proofs.StepLemmas.{found_as}
 use Rattle.sq_reader.proofs.ListLemmas.{and_both, and_parts, each_passes, is_at_most, none_failing}
-use Rattle.sq_reader.proofs.LimitLemmas.{given_length, givings_of, number_within, settings_of, slack_of}
+use Rattle.sq_reader.proofs.LimitLemmas.{given_length, answer_columns_of, number_within, settings_of, slack_of}
 use Rattle.sq_reader.proofs.DistinctLemmas.{new_both, new_distinct, none_bad}
 use Rattle.sq_reader.proofs.SchemaLemmas.{schema_none}
 use Rattle.sq_reader.proofs.ColumnLemmas.{alike_each, kinds_of_zip, names_of_zip}
@@ -181,22 +181,22 @@ bsort_is n by slack ins t h =
     let P : TypedBody → Type 0 = IsBodyOf (BSort by slack) ins in
     subst P same built
 
-aggregate_is : (n : ℕ) (size advance : ℤ) (group : List (List ℕ)) (give : List Giving) (ins : List Columns) (t : TypedBody)
+aggregate_is : (n : ℕ) (size advance : ℤ) (group : List (List ℕ)) (give : List AnswerColumn) (ins : List Columns) (t : TypedBody)
     → aggregate_of n (window_of size advance) group give (first_columns ins) ≡ Ok t → IsBodyOf (Aggregate size advance group give) ins t
 aggregate_is n size advance group give ins t h =
     let cs : Columns = first_columns ins in
     let window : WindowSpec = window_of size advance in
     let zero_step = unless_none n (bad_given group (give_names give)) (funcs_from n 0 cs give >>= λ fs. group_from n 0 cs [] group >>= λ ps.
-    Ok (body.Aggregate fs ps window, (columns_at cs ps ++ zip (give_names give) (kinds_told cs fs)) ∷ [])) t h in
+    Ok (body.Aggregate fs ps window, (columns_at cs ps ++ zip (give_names give) (kinds_answered cs fs)) ∷ [])) t h in
     let one = first_step (funcs_from n 0 cs give) (λ fs. group_from n 0 cs [] group >>= λ ps.
-    Ok (body.Aggregate fs ps window, (columns_at cs ps ++ zip (give_names give) (kinds_told cs fs)) ∷ [])) t zero_step.1 in
-    let two = first_step (group_from n 0 cs [] group) (λ ps. Ok (body.Aggregate one.0 ps window, (columns_at cs ps ++ zip (give_names give) (kinds_told cs one.0)) ∷ [])) t one.1.1 in
+    Ok (body.Aggregate fs ps window, (columns_at cs ps ++ zip (give_names give) (kinds_answered cs fs)) ∷ [])) t zero_step.1 in
+    let two = first_step (group_from n 0 cs [] group) (λ ps. Ok (body.Aggregate one.0 ps window, (columns_at cs ps ++ zip (give_names give) (kinds_answered cs one.0)) ∷ [])) t one.1.1 in
     let good = good_given group (give_names give) zero_step.0 in
     let funcs = funcs_kinded n 0 cs give one.0 one.1.0 in
     let fields = group_fields n 0 cs [] group two.0 two.1.0 in
-    let kinds : length (kinds_told cs one.0) ≡ length (give_names give) = told_count cs give one.0 funcs in
-    let given : Columns = zip (give_names give) (kinds_told cs one.0) in
-    let names : names_of given ≡ give_names give = names_of_zip (give_names give) (kinds_told cs one.0) (sym kinds) in
+    let kinds : length (kinds_answered cs one.0) ≡ length (give_names give) = told_count cs give one.0 funcs in
+    let given : Columns = zip (give_names give) (kinds_answered cs one.0) in
+    let names : names_of given ≡ give_names give = names_of_zip (give_names give) (kinds_answered cs one.0) (sym kinds) in
     let shown : names_of (columns_at cs two.0 ++ given) ≡ group ++ give_names give =
     map-append (λ (c : List ℕ × Kind). c.0) (columns_at cs two.0) given
     ∙ (ap (λ (ws : List (List ℕ)). ws ++ names_of given) fields.names ∙ ap (λ (ws : List (List ℕ)). group ++ ws) names) in
@@ -208,7 +208,7 @@ aggregate_is n size advance group give ins t h =
       typed = (
         given,
         refl,
-        funcs.kinds ∙ ap (λ (ks : List Kind). map Some ks) (sym (kinds_of_zip (give_names give) (kinds_told cs one.0) (sym kinds))),
+        funcs.kinds ∙ ap (λ (ks : List Kind). map Some ks) (sym (kinds_of_zip (give_names give) (kinds_answered cs one.0) (sym kinds))),
         (let P : List (List ℕ) → Type 0 = λ ws. All (λ w. is_name w ≡ true) ws in subst P (sym names) (All-from_recursion (λ w. is_name w ≡ true) (give_names give) good.names)),
         All-from_recursion (λ i. i < length cs) two.0 fields.below,
         ap are_distinct shown ∙ new_distinct [] (group ++ give_names give) (new_both [] group (give_names give) fields.new good.new),
@@ -217,7 +217,7 @@ aggregate_is n size advance group give ins t h =
       kind = refl;
       ports = refl;
       within = λ w. (let parts = and_parts (has_between 0 16 group) (has_between 1 16 give) w in
-          let low = givings_of size advance group give w in
+          let low = answer_columns_of size advance group give w in
           let most = low.few_groups in
           and_both (sound.is_between 1 16 (length one.0)) (nat_le (length two.0) 16) (rw count parts.1) (is_at_most (length two.0) 16 (omega (arith, places, most))));
       window = λ w. window_is size advance w;

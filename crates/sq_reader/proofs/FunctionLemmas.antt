@@ -19,12 +19,12 @@ use Rattle.sq_net.specs.Names.{is_name}
 use Rattle.sq_net.specs.declared.NetErr.{NetErr}
 use Rattle.sq_net.specs.declared.NetErr.TheVariants as broken
 use Rattle.sq_net.specs.declared.Part.TheVariants as part
-use Rattle.sq_tables.specs.declared.raw.Told.{Told}
-use Rattle.sq_tables.specs.declared.raw.Giving.{Giving}
+use Rattle.sq_tables.specs.declared.raw.Answer.{Answer}
+use Rattle.sq_tables.specs.declared.raw.AnswerColumn.{AnswerColumn}
 use Rattle.sq_tables.specs.Places.{place_at}
 use Rattle.sq_tables.specs.Rawly.{◌>>=◌, or_broken}
 use Rattle.sq_reader.specs.Columns.{bad_given, bad_name, give_names, too_many}
-use Rattle.sq_reader.specs.Functions.{func_in, func_told, funcs_from, group_from, group_place, if_kinded, kinds_told}
+use Rattle.sq_reader.specs.Functions.{func_in, func_for, funcs_from, group_from, group_place, if_kinded, kinds_answered}
 use Rattle.sq_tables.proofs.ShapedLemmas.{first_step}
 use Rattle.sq_reader.proofs.StepLemmas.{found_as}
 use Rattle.sq_reader.proofs.LimitLemmas.{neither}
@@ -34,8 +34,8 @@ use Rattle.sq_reader.proofs.ColumnLemmas.{columns_of_parts, kinds_at_places, zip
 
 -- ---- the functions
 
-func_kinded : (cs : Columns) (t : Told) (f : Func) → func_in cs t ≡ Some f → is_some (kind_of_func cs f) ≡ true
-func_kinded cs t f h = by_told (func_told cs t) h
+func_kinded : (cs : Columns) (t : Answer) (f : Func) → func_in cs t ≡ Some f → is_some (kind_of_func cs f) ≡ true
+func_kinded cs t f h = by_told (func_for cs t) h
   where
     by_test : (g : Func) (b : Bool) → is_some (kind_of_func cs g) ≡ b → cond b (Some g) None ≡ Some f → is_some (kind_of_func cs f) ≡ true
     by_test g true is e = let same : g ≡ f = cc in subst (λ (x : Func). is_some (kind_of_func cs x) ≡ true) same is
@@ -46,34 +46,34 @@ func_kinded cs t f h = by_told (func_told cs t) h
     by_told (Some g) e = by_test g (is_some (kind_of_func cs g)) refl e
 
 -- each function has a kind
-pub record AreKinded (cs : Columns) (gs : List Giving) (fs : List Func) : Type 0 where
-  pub kinds : map (kind_of_func cs) fs ≡ map Some (kinds_told cs fs)
+pub record AreKinded (cs : Columns) (gs : List AnswerColumn) (fs : List Func) : Type 0 where
+  pub kinds : map (kind_of_func cs) fs ≡ map Some (kinds_answered cs fs)
   pub count : length fs ≡ length gs
 
-pub funcs_kinded : (n i : ℕ) (cs : Columns) (gs : List Giving) (fs : List Func) → funcs_from n i cs gs ≡ Ok fs → AreKinded cs gs fs
+pub funcs_kinded : (n i : ℕ) (cs : Columns) (gs : List AnswerColumn) (fs : List Func) → funcs_from n i cs gs ≡ Ok fs → AreKinded cs gs fs
 funcs_kinded n i cs [] fs h =
     let same : [] ≡ fs = cc in
     let P : List Func → Type 0 = AreKinded cs [] in
     subst P same (record { kinds = refl; count = refl })
 funcs_kinded n i cs (g ∷ gs) fs h =
     let fault : NetErr = broken.Typing (place_at part.Box n i) in
-    let one = first_step (or_broken fault (func_in cs g.told)) (λ f. funcs_from n (i + 1) cs gs >>= λ rest. Ok (f ∷ rest)) fs h in
+    let one = first_step (or_broken fault (func_in cs g.answer)) (λ f. funcs_from n (i + 1) cs gs >>= λ rest. Ok (f ∷ rest)) fs h in
     let two = first_step (funcs_from n (i + 1) cs gs) (λ rest. Ok (one.0 ∷ rest)) fs one.1.1 in
     let same : one.0 ∷ two.0 ≡ fs = (let last = two.1.1 in cc) in
     let more = funcs_kinded n (i + 1) cs gs two.0 two.1.0 in
-    let kinded = func_kinded cs g.told one.0 (found_as fault (func_in cs g.told) one.0 one.1.0) in
+    let kinded = func_kinded cs g.answer one.0 (found_as fault (func_in cs g.answer) one.0 one.1.0) in
     let P : List Func → Type 0 = AreKinded cs (g ∷ gs) in
     subst P same (record { kinds = by_kind (kind_of_func cs one.0) two.0 kinded more.kinds; count = ap suc more.count })
   where
-    by_kind : (o : Option Kind) (rest : List Func) → is_some o ≡ true → map (kind_of_func cs) rest ≡ map Some (kinds_told cs rest)
-        → (o ∷ map (kind_of_func cs) rest) ≡ map Some (cons_option o (kinds_told cs rest))
+    by_kind : (o : Option Kind) (rest : List Func) → is_some o ≡ true → map (kind_of_func cs) rest ≡ map Some (kinds_answered cs rest)
+        → (o ∷ map (kind_of_func cs) rest) ≡ map Some (cons_option o (kinds_answered cs rest))
     by_kind None rest is more = cc
     by_kind (Some k) rest is more = ap (λ (os : List (Option Kind)). Some k ∷ os) more
 
-pub told_count : (cs : Columns) (gs : List Giving) (fs : List Func) → AreKinded cs gs fs → length (kinds_told cs fs) ≡ length (give_names gs)
+pub told_count : (cs : Columns) (gs : List AnswerColumn) (fs : List Func) → AreKinded cs gs fs → length (kinds_answered cs fs) ≡ length (give_names gs)
 told_count cs gs fs are =
-    sym (length-map (kinds_told cs fs) (λ (k : Kind). Some k))
-    ∙ (ap (λ (os : List (Option Kind)). length os) (sym are.kinds) ∙ (length-map fs (kind_of_func cs) ∙ (are.count ∙ sym (length-map gs (λ (g : Giving). g.name)))))
+    sym (length-map (kinds_answered cs fs) (λ (k : Kind). Some k))
+    ∙ (ap (λ (os : List (Option Kind)). length os) (sym are.kinds) ∙ (length-map fs (kind_of_func cs) ∙ (are.count ∙ sym (length-map gs (λ (g : AnswerColumn). g.name)))))
 
 -- ---- the places
 
@@ -161,21 +161,21 @@ good_given group given h =
     record { few = few_enough (length group + length given) parts.0; names = good.0; new = good.1 }
 
 -- what an Aggregate shows is a schema
-pub shown_schema : (n : ℕ) (cs : Columns) (group : List (List ℕ)) (give : List Giving) (fs : List Func) (ps : List ℕ) → 1 ≤ length give → bad_given group (give_names give) ≡ None
+pub shown_schema : (n : ℕ) (cs : Columns) (group : List (List ℕ)) (give : List AnswerColumn) (fs : List Func) (ps : List ℕ) → 1 ≤ length give → bad_given group (give_names give) ≡ None
     → funcs_from n 0 cs give ≡ Ok fs → group_from n 0 cs [] group ≡ Ok ps
-    → schema_error (group ++ give_names give) (filter_map (kind_at cs) ps ++ kinds_told cs fs) ≡ None
+    → schema_error (group ++ give_names give) (filter_map (kind_at cs) ps ++ kinds_answered cs fs) ≡ None
 shown_schema n cs group give fs ps some good funcs places =
     let given = good_given group (give_names give) good in
     let fields = group_fields n 0 cs [] group ps places in
     let kinds = told_count cs give fs (funcs_kinded n 0 cs give fs funcs) in
-    let names : length (give_names give) ≡ length give = length-map give (λ (g : Giving). g.name) in
+    let names : length (give_names give) ≡ length give = length-map give (λ (g : AnswerColumn). g.name) in
     let front : length (filter_map (kind_at cs) ps) ≡ length group =
     ap (λ (ks : List Kind). length ks) (kinds_at_places cs ps) ∙ (length-map (columns_at cs ps) (λ (c : List ℕ × Kind). c.1)
     ∙ (sym (length-map (columns_at cs ps) (λ (c : List ℕ × Kind). c.0)) ∙ ap (λ (ws : List (List ℕ)). length ws) fields.names)) in
     let left = length-append group (give_names give) in
-    let right = length-append (filter_map (kind_at cs) ps) (kinds_told cs fs) in
+    let right = length-append (filter_map (kind_at cs) ps) (kinds_answered cs fs) in
     let few = given.few in
-    schema_none (group ++ give_names give) (filter_map (kind_at cs) ps ++ kinds_told cs fs)
+    schema_none (group ++ give_names give) (filter_map (kind_at cs) ps ++ kinds_answered cs fs)
     (omega (arith, left, right, front, kinds)) (omega (arith, left, names, some)) (omega (arith, left, few))
     (new_distinct [] (group ++ give_names give) (new_both [] group (give_names give) fields.new given.new))
 

@@ -7,7 +7,7 @@ use Rattle.std.proofs.lemmas.List.{length-map}
 use Rattle.sq_net.specs.declared.Part.TheVariants as part
 use Rattle.sq_net.specs.declared.Place.{Place}
 use Rattle.sq_tables.specs.declared.raw.RawSource.{RawSource}
-use Rattle.sq_tables.specs.declared.raw.Giving.{Giving}
+use Rattle.sq_tables.specs.declared.raw.AnswerColumn.{AnswerColumn}
 use Rattle.sq_tables.specs.declared.raw.Setting.{Setting}
 use Rattle.sq_tables.specs.declared.raw.RawBody.{RawBody}
 use Rattle.sq_tables.specs.declared.raw.RawBody.TheVariants.{Filter, Map, Union, BSort, Aggregate, Join}
@@ -132,17 +132,17 @@ pub slack_of : (by : List ℕ) (slack : ℤ) → body_within (BSort by slack) �
 slack_of by (pos n) h = grind (arith, nat_tests)
 slack_of by (negsuc n) h = omega arith
 
-pub record GivingsWithin (group : List (List ℕ)) (give : List Giving) : Type 0 where
+pub record AnswerColumnsWithin (group : List (List ℕ)) (give : List AnswerColumn) : Type 0 where
   pub few_groups : length group ≤ 16
   pub some : 1 ≤ length give
   pub few : length give ≤ 16
 
-pub givings_of : (size advance : ℤ) (group : List (List ℕ)) (give : List Giving) → body_within (Aggregate size advance group give) ≡ true → GivingsWithin group give
-givings_of size advance group give h =
+pub answer_columns_of : (size advance : ℤ) (group : List (List ℕ)) (give : List AnswerColumn) → body_within (Aggregate size advance group give) ≡ true → AnswerColumnsWithin group give
+answer_columns_of size advance group give h =
     let parts = and_parts (has_between 0 16 group) (has_between 1 16 give) h in
     record { few_groups = few 0 16 group parts.0; some = some 1 16 give parts.1; few = few 1 16 give parts.1 }
 
-pub given_length : (give : List Giving) → length (give_names give) ≡ length give
+pub given_length : (give : List AnswerColumn) → length (give_names give) ≡ length give
 given_length give = length-map give (λ g. g.name)
 
 -- how many streams a box takes

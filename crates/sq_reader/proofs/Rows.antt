@@ -16,9 +16,9 @@ use Rattle.sq_net.specs.declared.Part.TheVariants as part
 use Rattle.sq_net.specs.declared.NetErr.TheVariants as broken
 use Rattle.sq_net.specs.declared.Body.TheVariants as body
 use Rattle.sq_tables.specs.declared.raw.RawSource.{RawSource}
-use Rattle.sq_tables.specs.declared.raw.Giving.{Giving}
+use Rattle.sq_tables.specs.declared.raw.AnswerColumn.{AnswerColumn}
 use Rattle.sq_tables.specs.declared.raw.Over.TheVariants.{Sum, First}
-use Rattle.sq_tables.specs.declared.raw.Told.TheVariants.{Count, Field as OfField}
+use Rattle.sq_tables.specs.declared.raw.Answer.TheVariants.{Count, Field as OfField}
 use Rattle.sq_tables.specs.declared.raw.RawBody.{RawBody}
 use Rattle.sq_tables.specs.declared.raw.RawBody.TheVariants.{Filter, BSort, Aggregate, Join}
 use Rattle.sq_tables.specs.declared.raw.Raw.{Raw}
@@ -84,10 +84,10 @@ one_sort = refl
 sort_by_nothing : typed_network (sort_file (codes "w")) ≡ Err (broken.Typing (place_at part.Box 0 0))
 sort_by_nothing = refl
 
-abbrev counted : Giving
-counted = record { name = codes "n"; told = Count }
+abbrev counted : AnswerColumn
+counted = record { name = codes "n"; answer = Count }
 
-abbrev aggregate_file : ℕ → ℕ → List (List ℕ) → List Giving → Raw
+abbrev aggregate_file : ℕ → ℕ → List (List ℕ) → List AnswerColumn → Raw
 aggregate_file size advance group give = record {
   epoch = pos 1000;
   batch = pos 1;
@@ -96,7 +96,7 @@ aggregate_file size advance group give = record {
   outputs = record { name = codes "o"; from = codes "a" } ∷ [];
 }
 
-one_aggregate : boxes_in (typed_network (aggregate_file 10 5 (codes "k" ∷ []) (record { name = codes "t"; told = OfField Sum (codes "v") } ∷ counted ∷ []))) ≡ Ok (record {
+one_aggregate : boxes_in (typed_network (aggregate_file 10 5 (codes "k" ∷ []) (record { name = codes "t"; answer = OfField Sum (codes "v") } ∷ counted ∷ []))) ≡ Ok (record {
   name = codes "a";
   body = body.Aggregate (func.Sum 1 ∷ func.Count ∷ []) (0 ∷ []) (record { size = 10; advance = 5 });
   schemas = ((codes "k", kind.Text) ∷ (codes "t", kind.Int) ∷ (codes "n", kind.Int) ∷ []) ∷ [];
@@ -114,10 +114,10 @@ advance_past_size = refl
 group_twice : typed_network (aggregate_file 5 5 (codes "v" ∷ codes "v" ∷ []) (counted ∷ [])) ≡ Err (broken.Group (place_at part.Box 0 1))
 group_twice = refl
 
-group_given_again : typed_network (aggregate_file 5 5 (codes "v" ∷ codes "w" ∷ []) (counted ∷ record { name = codes "v"; told = Count } ∷ [])) ≡ Err (broken.Schema (place_at part.Box 0 1))
+group_given_again : typed_network (aggregate_file 5 5 (codes "v" ∷ codes "w" ∷ []) (counted ∷ record { name = codes "v"; answer = Count } ∷ [])) ≡ Err (broken.Schema (place_at part.Box 0 1))
 group_given_again = refl
 
-sum_of_text : typed_network (aggregate_file 5 5 (codes "w" ∷ []) (record { name = codes "f"; told = OfField First (codes "k") } ∷ record { name = codes "t"; told = OfField Sum (codes "k") } ∷ [])) ≡ Err (broken.Typing (place_at part.Box 0 1))
+sum_of_text : typed_network (aggregate_file 5 5 (codes "w" ∷ []) (record { name = codes "f"; answer = OfField First (codes "k") } ∷ record { name = codes "t"; answer = OfField Sum (codes "k") } ∷ [])) ≡ Err (broken.Typing (place_at part.Box 0 1))
 sum_of_text = refl
 
 abbrev join_file : List ℕ → Raw

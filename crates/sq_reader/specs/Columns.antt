@@ -22,7 +22,7 @@ use Rattle.sq_net.specs.Columns.{columns_at, first_columns, if_int, pair_columns
 use Rattle.sq_net.specs.Names.{is_name}
 use Rattle.sq_net.specs.Streams.{columns_of_port}
 use Rattle.sq_tables.specs.declared.raw.Setting.{Setting}
-use Rattle.sq_tables.specs.declared.raw.Giving.{Giving}
+use Rattle.sq_tables.specs.declared.raw.AnswerColumn.{AnswerColumn}
 use Rattle.sq_tables.specs.declared.raw.RawBody.{RawBody}
 use Rattle.sq_tables.specs.declared.raw.RawBody.TheVariants.{Filter, Map, Union, BSort, Aggregate, Join}
 use Rattle.sq_tables.specs.declared.raw.RawBox.{RawBox}
@@ -31,7 +31,7 @@ use Rattle.sq_tables.specs.Places.{place_at, place_of, or_else}
 use Rattle.sq_reader.specs.Limits.{first_failing}
 use Rattle.sq_tables.specs.Rawly.{◌>>=◌, or_broken}
 use Rattle.sq_reader.specs.Expressions.{may_be_predicate, may_be_set, predicate_of, typed_in}
-use Rattle.sq_reader.specs.Functions.{funcs_from, group_from, kinds_told}
+use Rattle.sq_reader.specs.Functions.{funcs_from, group_from, kinds_answered}
 
 abbrev pub same_names : List (List ℕ) → List (List ℕ) → Bool
 same_names [] [] = true
@@ -108,7 +108,7 @@ bsort_of n by slack cs =
 abbrev pub too_many : ℕ → Option ℕ
 too_many n = if nat_le n 16 then None else Some 0
 
-abbrev pub give_names : List Giving → List (List ℕ)
+abbrev pub give_names : List AnswerColumn → List (List ℕ)
 give_names give = map (λ g. g.name) give
 
 -- the item at fault: item 0 where there are too many, else the first name that is none or stands before
@@ -119,11 +119,11 @@ bad_given group given = or_else (too_many (length group + length given)) (bad_na
 abbrev pub window_of : ℤ → ℤ → WindowSpec
 window_of size advance = record { size = nat_of size; advance = nat_of advance }
 
-abbrev pub aggregate_of : ℕ → WindowSpec → List (List ℕ) → List Giving → Columns → Result TypedBody NetErr
+abbrev pub aggregate_of : ℕ → WindowSpec → List (List ℕ) → List AnswerColumn → Columns → Result TypedBody NetErr
 aggregate_of n window group give cs =
     unless_schema n (bad_given group (give_names give))
     (funcs_from n 0 cs give >>= λ fs. group_from n 0 cs [] group >>= λ ps.
-    Ok (body.Aggregate fs ps window, (columns_at cs ps ++ zip (give_names give) (kinds_told cs fs)) ∷ []))
+    Ok (body.Aggregate fs ps window, (columns_at cs ps ++ zip (give_names give) (kinds_answered cs fs)) ∷ []))
 
 abbrev pub join_of : ℕ → ℤ → List ℕ → List Columns → Result TypedBody NetErr
 join_of n size on ins =

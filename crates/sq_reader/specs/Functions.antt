@@ -14,9 +14,9 @@ use Rattle.sq_net.specs.declared.NetErr.TheVariants as broken
 use Rattle.sq_net.specs.declared.Part.TheVariants as part
 use Rattle.sq_tables.specs.declared.raw.Over.{Over}
 use Rattle.sq_tables.specs.declared.raw.Over.TheVariants as over
-use Rattle.sq_tables.specs.declared.raw.Told.{Told}
-use Rattle.sq_tables.specs.declared.raw.Told.TheVariants as told
-use Rattle.sq_tables.specs.declared.raw.Giving.{Giving}
+use Rattle.sq_tables.specs.declared.raw.Answer.{Answer}
+use Rattle.sq_tables.specs.declared.raw.Answer.TheVariants as answer
+use Rattle.sq_tables.specs.declared.raw.AnswerColumn.{AnswerColumn}
 use Rattle.sq_tables.specs.Places.{place_at}
 use Rattle.sq_tables.specs.Rawly.{◌>>=◌, or_broken}
 
@@ -29,27 +29,27 @@ func_over over.Max i = func.Max i
 func_over over.First i = func.First i
 func_over over.Last i = func.Last i
 
--- what is told, by the place of its field
-abbrev pub func_told : Columns → Told → Option Func
-func_told cs told.Count = Some func.Count
-func_told cs (told.Field o field) = option_map (func_over o) (column_of field cs)
+-- the function of an answer, by the place of its field
+abbrev pub func_for : Columns → Answer → Option Func
+func_for cs answer.Count = Some func.Count
+func_for cs (answer.Field o field) = option_map (func_over o) (column_of field cs)
 
 -- a function that has a kind over these columns
 abbrev pub if_kinded : Columns → Func → Option Func
 if_kinded cs f = if is_some (kind_of_func cs f) then Some f else None
 
-abbrev pub func_in : Columns → Told → Option Func
-func_in cs t = option_and_then (if_kinded cs) (func_told cs t)
+abbrev pub func_in : Columns → Answer → Option Func
+func_in cs t = option_and_then (if_kinded cs) (func_for cs t)
 
-abbrev pub funcs_from : ℕ → ℕ → Columns → List Giving → Result (List Func) NetErr
+abbrev pub funcs_from : ℕ → ℕ → Columns → List AnswerColumn → Result (List Func) NetErr
 funcs_from n i cs [] = Ok []
 funcs_from n i cs (g ∷ gs) = do
-  f ← or_broken (broken.Typing (place_at part.Box n i)) (func_in cs g.told)
+  f ← or_broken (broken.Typing (place_at part.Box n i)) (func_in cs g.answer)
   fs ← funcs_from n (i + 1) cs gs
   Ok (f ∷ fs)
 
-abbrev pub kinds_told : Columns → List Func → List Kind
-kinds_told cs fs = filter_map (kind_of_func cs) fs
+abbrev pub kinds_answered : Columns → List Func → List Kind
+kinds_answered cs fs = filter_map (kind_of_func cs) fs
 
 -- the place of a field, unless it is one of those before
 abbrev pub group_place : Columns → List (List ℕ) → List ℕ → Option ℕ

@@ -18,7 +18,7 @@ use crate::pairs::pair_schema;
 use crate::sources::schema_of;
 use sq_aggfn::WindowSpec;
 use sq_net::{Body, NetErr, Part};
-use sq_tables::{Giving, RawBody, Setting};
+use sq_tables::{AnswerColumn, RawBody, Setting};
 use sq_value::{ListOf, Name, Schema, copy_schema};
 use std::alloc::{AllocError, Global};
 
@@ -171,7 +171,7 @@ fn aggregate_of(
     number: usize,
     window: WindowSpec,
     group: &[Name],
-    give: &[Giving],
+    give: &[AnswerColumn],
     scope: &Schema,
 ) -> Result<(Body, Vec<Schema>), NetErr>
     requires number { number < 2 ^ 32 }

@@ -7,7 +7,7 @@ ghost use Rattle.sq_expr.specs.Checking.{column_of};
 ghost use Rattle.sq_expr.specs.Kinds.{kind_at};
 ghost use Rattle.sq_net.specs.Columns.{if_int, kind_of_func};
 ghost use Rattle.sq_reader.specs.Columns.{give_names, int_place};
-ghost use Rattle.sq_reader.specs.Functions.{func_in, func_over, func_told, funcs_from, group_from, group_place, kinds_told};
+ghost use Rattle.sq_reader.specs.Functions.{func_in, func_over, func_for, funcs_from, group_from, group_place, kinds_answered};
 ghost use Rattle.sq_tables.specs.Refusals.{is_memory};
 
 use crate::limits::place_at;
@@ -15,7 +15,7 @@ use crate::push;
 use crate::sources::is_among;
 use sq_aggfn::Func;
 use sq_net::{NetErr, Part};
-use sq_tables::{Giving, Over, Told};
+use sq_tables::{AnswerColumn, Over, Answer};
 use sq_value::{Kind, Name, Schema, copy_name, same_text};
 use std::alloc::{AllocError, Global};
 
@@ -76,12 +76,12 @@ fn func_over(over: Over, place: u32) -> Func
     }
 }
 
-fn func_told(scope: &Schema, told: &Told) -> Option<Func>
-    ensures { result ≡ func_told scope.now told.now }
+fn func_for(scope: &Schema, answer: &Answer) -> Option<Func>
+    ensures { result ≡ func_for scope.now answer.now }
 {
-    match told {
-        Told::Count => Some(Func::Count),
-        Told::Field { over, field } => {
+    match answer {
+        Answer::Count => Some(Func::Count),
+        Answer::Field { over, field } => {
             let place = column_of(field.as_str(), scope)?;
             Some(func_over(*over, place))
         }
@@ -100,10 +100,10 @@ fn kind_of_func(scope: &Schema, func: Func) -> Option<Kind>
     }
 }
 
-fn func_in(scope: &Schema, told: &Told) -> Option<Func>
-    ensures { result ≡ func_in scope.now told.now }
+fn func_in(scope: &Schema, answer: &Answer) -> Option<Func>
+    ensures { result ≡ func_in scope.now answer.now }
 {
-    let func = func_told(scope, told)?;
+    let func = func_for(scope, answer)?;
     if kind_of_func(scope, func).is_none() {
         return None;
     }
@@ -114,7 +114,7 @@ fn func_in(scope: &Schema, told: &Told) -> Option<Func>
 pub(crate) fn funcs_in(
     alloc: Global,
     number: usize,
-    give: &[Giving],
+    give: &[AnswerColumn],
     scope: &Schema,
 ) -> Result<Vec<Func>, NetErr>
     requires number { number < 2 ^ 32 }
@@ -123,8 +123,8 @@ pub(crate) fn funcs_in(
     ensures err { IfErr result (λ e. is_memory e ≡ false → funcs_from number 0 scope.now give.now ≡ Err e) }
 {
     let mut funcs = Vec::new(alloc);
-    for (item, giving) in give.iter().enumerate() {
-        match func_in(scope, &giving.told) {
+    for (item, column) in give.iter().enumerate() {
+        match func_in(scope, &column.answer) {
             Some(func) => push(&mut funcs, func)?,
             None => return Err(NetErr::Typing(place_at(Part::Box, number, item))),
         }
@@ -164,12 +164,12 @@ pub(crate) fn group_in(
 }
 
 /// The names of what is given.
-pub(crate) fn give_names(alloc: Global, give: &[Giving]) -> Result<Vec<Name>, AllocError>
+pub(crate) fn give_names(alloc: Global, give: &[AnswerColumn]) -> Result<Vec<Name>, AllocError>
     ensures { IfOk result (λ v. v.items ≡ give_names give.now) }
 {
     let mut names = Vec::new(alloc);
-    for giving in give {
-        names.push(copy_name(&giving.name)?)?;
+    for column in give {
+        names.push(copy_name(&column.name)?)?;
     }
     Ok(names)
 }
@@ -206,8 +206,8 @@ fn kinds_at(alloc: Global, scope: &Schema, places: &[u32]) -> Result<Vec<Kind>, 
         .collect(alloc)
 }
 
-fn kinds_told(alloc: Global, scope: &Schema, funcs: &[Func]) -> Result<Vec<Kind>, AllocError>
-    ensures { IfOk result (λ v. v.items ≡ kinds_told scope.now funcs.now) }
+fn kinds_answered(alloc: Global, scope: &Schema, funcs: &[Func]) -> Result<Vec<Kind>, AllocError>
+    ensures { IfOk result (λ v. v.items ≡ kinds_answered scope.now funcs.now) }
 {
     funcs
         .iter()
@@ -222,10 +222,10 @@ pub(crate) fn kinds_shown(
     places: &[u32],
     funcs: &[Func],
 ) -> Result<Vec<Kind>, AllocError>
-    ensures { IfOk result (λ v. v.items ≡ filter_map (kind_at scope.now) places.now ++ kinds_told scope.now funcs.now) }
+    ensures { IfOk result (λ v. v.items ≡ filter_map (kind_at scope.now) places.now ++ kinds_answered scope.now funcs.now) }
 {
     let mut kinds = kinds_at(alloc, scope, places)?;
-    let told = kinds_told(alloc, scope, funcs)?;
-    kinds.extend_from_slice(&told)?;
+    let answered = kinds_answered(alloc, scope, funcs)?;
+    kinds.extend_from_slice(&answered)?;
     Ok(kinds)
 }

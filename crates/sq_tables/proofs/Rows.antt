@@ -3,9 +3,9 @@ use Rattle.std.proofs.Common.{◌≡◌, ℕ, List, [], ◌∷◌, Some, None, r
 use Rattle.std.specs.Prelude.{codes}
 use Rattle.toml.specs.Data.{Data, string, integer, array, Items, no_items, item, Members, no_members, member}
 use Rattle.sq_tables.specs.declared.raw.Over.TheVariants.{Avg, First}
-use Rattle.sq_tables.specs.declared.raw.Told.TheVariants.{Count, Field}
+use Rattle.sq_tables.specs.declared.raw.Answer.TheVariants.{Count, Field}
 use Rattle.sq_tables.specs.declared.raw.RawBody.TheVariants.{Filter, Map, Union, BSort, Aggregate, Join}
-use Rattle.sq_tables.specs.Shapes.{body_in, box_in, giving_in}
+use Rattle.sq_tables.specs.Shapes.{body_in, box_in, answer_column_in}
 
 abbrev texts : List (List ℕ) → Data
 texts ws = array (items ws)
@@ -46,11 +46,11 @@ abbrev windowed : List (List (List ℕ)) → Members
 windowed give = boxed (codes "aggregate") (member (codes "size") (integer (pos 10)) (member (codes "advance") (integer (pos 4)) (member (codes "give") (lists give) no_members)))
 
 aggregate_row : body_in (codes "aggregate") (windowed ((codes "n" ∷ codes "count" ∷ []) ∷ (codes "mean" ∷ codes "avg" ∷ codes "v" ∷ []) ∷ []))
-    ≡ Some (Aggregate (pos 10) (pos 4) [] (record { name = codes "n"; told = Count } ∷ record { name = codes "mean"; told = Field Avg (codes "v") } ∷ []))
+    ≡ Some (Aggregate (pos 10) (pos 4) [] (record { name = codes "n"; answer = Count } ∷ record { name = codes "mean"; answer = Field Avg (codes "v") } ∷ []))
 aggregate_row = refl
 
 grouped_row : body_in (codes "aggregate") (member (codes "group") (texts (codes "k" ∷ [])) (windowed ((codes "f" ∷ codes "first" ∷ codes "v" ∷ []) ∷ [])))
-    ≡ Some (Aggregate (pos 10) (pos 4) (codes "k" ∷ []) (record { name = codes "f"; told = Field First (codes "v") } ∷ []))
+    ≡ Some (Aggregate (pos 10) (pos 4) (codes "k" ∷ []) (record { name = codes "f"; answer = Field First (codes "v") } ∷ []))
 grouped_row = refl
 
 abbrev joining : Members
@@ -74,10 +74,10 @@ slack_of_text = refl
 unknown_function : body_in (codes "aggregate") (windowed ((codes "n" ∷ codes "median" ∷ codes "v" ∷ []) ∷ [])) ≡ None
 unknown_function = refl
 
-count_of_a_field : giving_in (texts (codes "n" ∷ codes "count" ∷ codes "v" ∷ [])) ≡ None
+count_of_a_field : answer_column_in (texts (codes "n" ∷ codes "count" ∷ codes "v" ∷ [])) ≡ None
 count_of_a_field = refl
 
-sum_of_nothing : giving_in (texts (codes "n" ∷ codes "sum" ∷ [])) ≡ None
+sum_of_nothing : answer_column_in (texts (codes "n" ∷ codes "sum" ∷ [])) ≡ None
 sum_of_nothing = refl
 
 unknown_key : body_in (codes "join") (member (codes "advance") (integer (pos 1)) joining) ≡ None

@@ -8,8 +8,8 @@ use Rattle.sq_tables.specs.declared.raw.RawSource.{RawSource}
 use Rattle.sq_tables.specs.declared.raw.Setting.{Setting}
 use Rattle.sq_tables.specs.declared.raw.Over.{Over}
 use Rattle.sq_tables.specs.declared.raw.Over.TheVariants.{Sum, Avg, Min, Max, First, Last}
-use Rattle.sq_tables.specs.declared.raw.Told.TheVariants.{Count, Field}
-use Rattle.sq_tables.specs.declared.raw.Giving.{Giving}
+use Rattle.sq_tables.specs.declared.raw.Answer.TheVariants.{Count, Field}
+use Rattle.sq_tables.specs.declared.raw.AnswerColumn.{AnswerColumn}
 use Rattle.sq_tables.specs.declared.raw.RawBody.{RawBody}
 use Rattle.sq_tables.specs.declared.raw.RawBody.TheVariants.{Filter, Map, Union, BSort, Aggregate, Join}
 use Rattle.sq_tables.specs.declared.raw.RawBox.{RawBox}
@@ -68,25 +68,25 @@ over_named word =
     else (if same_bytes word (codes "first") then Some First
     else (if same_bytes word (codes "last") then Some Last else None)))))
 
-abbrev pub counting_in : Data → Data → Option Giving
+abbrev pub counting_in : Data → Data → Option AnswerColumn
 counting_in a b = do
   name ← as_str a
   word ← as_str b
-  when (same_bytes word (codes "count")) (record { name = name; told = Count })
+  when (same_bytes word (codes "count")) (record { name = name; answer = Count })
 
-abbrev pub function_in : Data → Data → Data → Option Giving
+abbrev pub function_in : Data → Data → Data → Option AnswerColumn
 function_in a b c = do
   name ← as_str a
   word ← as_str b
   field ← as_str c
   over ← over_named word
-  Some (record { name = name; told = Field over field })
+  Some (record { name = name; answer = Field over field })
 
 -- an entry of `give`: a list of a name and `count`, or of a name, a function and a field
-abbrev pub giving_in : Data → Option Giving
-giving_in (array (item a (item b no_items))) = counting_in a b
-giving_in (array (item a (item b (item c no_items)))) = function_in a b c
-giving_in d = None
+abbrev pub answer_column_in : Data → Option AnswerColumn
+answer_column_in (array (item a (item b no_items))) = counting_in a b
+answer_column_in (array (item a (item b (item c no_items)))) = function_in a b c
+answer_column_in d = None
 
 -- the keys of each box, whatever it does
 abbrev pub box_keys : List (List ℕ)
@@ -122,7 +122,7 @@ aggregate_in ms = do
   size ← required as_integer (get_member (codes "size") ms)
   advance ← required as_integer (get_member (codes "advance") ms)
   group ← optional [] (list_in as_str) (get_member (codes "group") ms)
-  give ← required (list_in giving_in) (get_member (codes "give") ms)
+  give ← required (list_in answer_column_in) (get_member (codes "give") ms)
   Some (Aggregate size advance group give)
 
 abbrev pub join_in : Members → Option RawBody

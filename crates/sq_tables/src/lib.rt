@@ -13,7 +13,7 @@ ghost use Rattle.sq_tables.specs.Refusals.{Answers};
 ghost use Rattle.sq_tables.specs.Shapes.{AreEven};
 
 mod document;
-mod giving;
+mod answer_columns;
 mod raw;
 mod reading;
 mod shape;
@@ -22,7 +22,7 @@ mod tests;
 mod unbuilt;
 
 use document::{Table, value_at};
-pub use raw::{Giving, Over, Raw, RawBody, RawBox, RawOutput, RawSource, Setting, Told};
+pub use raw::{AnswerColumn, Over, Raw, RawBody, RawBox, RawOutput, RawSource, Setting, Answer};
 pub use shape::ports_of;
 use sq_net::NetErr;
 use std::alloc::Global;

@@ -27,18 +27,18 @@ pub enum Over {
     Last,
 }
 
-/// What an Aggregate tells of the tuples of a group: their number, or a function of a field, by the field's name.
+/// What an Aggregate answers of the tuples of a group: their number, or a function of a field, by the field's name.
 #[derive(Drop)]
-pub enum Told {
+pub enum Answer {
     Count,
     Field { over: Over, field: Name },
 }
 
-/// A field that an Aggregate gives: its name, and what it tells.
+/// A field that an Aggregate gives: its name, and its answer.
 #[derive(Drop)]
-pub struct Giving {
+pub struct AnswerColumn {
     pub name: Name,
-    pub told: Told,
+    pub answer: Answer,
 }
 
 /// What a box does, by the texts of its expressions and the names of the fields that it takes.
@@ -59,7 +59,7 @@ pub enum RawBody {
         size: i64,
         advance: i64,
         group: ListOf<Name>,
-        give: ListOf<Giving>,
+        give: ListOf<AnswerColumn>,
     },
     Join {
         size: i64,

@@ -9,7 +9,7 @@ use crate::document::{
     Table, Unread, any_tables_at, any_texts_at, has_only, number_at, number_or, selectivity_at,
     settings_at, tables_at, text_at, texts_at,
 };
-use crate::giving::givings_at;
+use crate::answer_columns::answer_columns_at;
 use crate::raw::{RawBody, RawBox, RawOutput, RawSource};
 use sq_value::same_text;
 use std::alloc::Global;
@@ -139,7 +139,7 @@ fn aggregate_in(alloc: Global, table: &Table) -> Result<RawBody, Unread>
     let size = number_at(table, "size")?;
     let advance = number_at(table, "advance")?;
     let group = any_texts_at(alloc, table, "group")?;
-    let give = givings_at(alloc, table)?;
+    let give = answer_columns_at(alloc, table)?;
     Ok(RawBody::Aggregate {
         size,
         advance,

@@ -1,196 +1,27 @@
--- A text that begins the text of all lines that are due has a prefix of each class; the whole text has each class whole.
-use Rattle.std.proofs.Common.{◌≡◌, ◌≢◌, inl, inr, ℕ, Bool, true, false, not, ◌&&◌, ◌||◌, List, [], ◌∷◌, ◌++◌, length, drop, refl, ap, sym, ◌∙◌, subst, append-nil, Some}
-use Rattle.std.specs.Prelude.{if◌then◌else◌, slice_get, codes, IsSomeAnd, IsTrue, ⊤}
+-- Lists of all lines: one that has each class whole, nothing else, and the end lines last, is an order of writing. So is that of
+-- the outputs one after another, and so are the lines of two outputs in any order.
+use Rattle.std.proofs.Common.{◌≡◌, ◌≢◌, inl, inr, ℕ, Bool, true, false, not, ◌&&◌, ◌||◌, List, [], ◌∷◌, ◌++◌, refl, ap, ap₂, sym, ◌∙◌, subst, append_assoc, append-nil}
+use Rattle.std.specs.Prelude.{if◌then◌else◌, codes, IsTrue, ⊤}
+use Rattle.std.specs.Fmt.{decimal}
 use Rattle.std.specs.List.{AllByRecursion, filter, flat_map, list_all, list_any}
 use Rattle.std.proofs.lemmas.List.Elements.{filter-append}
-use Rattle.std.proofs.lemmas.List.{take-append-drop}
 use Rattle.std.proofs.lemmas.List.Folds.{list_all-append}
 use Rattle.sq_value.specs.Lists.{same_bytes, IsPrefixOf}
-use Rattle.sq_value.specs.Classes.{Class, Shown, Dropped, Planned, Ended, first_field, is_of_class, of_class, whole_lines, unfinished}
+use Rattle.sq_value.specs.Classes.{Class, Shown, Dropped, Planned, Ended, first_field, second_field, is_of_class}
 use Rattle.sq_value.proofs.ListLemmas.{same_bytes-true, same_bytes-refl}
-use Rattle.sq_value.proofs.LineLemmas.{AreLines, Cut, IsFront, cut_prefix, is_line, unfinished-cut, whole_lines-cut, whole_lines-lines, unfinished-lines}
-use Rattle.sq_top.specs.Due.{Due, all_lines, all_text}
-use Rattle.sq_top.specs.Answers.{AreOthersWhole, BeginsNext, IsClassIn, IsPrefixText, IsWholeText, is_classed, lines_of}
-use Rattle.sq_top.proofs.SortedLines.{InBack, InFront, and-true, cut_twice, filter_same, list_all-back, list_all-front, slice_get-next}
+use Rattle.sq_top.specs.Due.{Due, all_lines}
+use Rattle.sq_top.specs.Answers.{AreOthersAll, IsClassIn, is_classed, lines_of}
+use Rattle.sq_top.specs.Orders.{AreAll, EachIsNext, IsNextOf, IsOrder}
+use Rattle.sq_top.proofs.ClassLemmas.{AreAlike, Drops, IsDueLine, IsLineOf, IsPlainClass, IsPlainName, Outputs, TellsClasses, alike, all_map, and_true, classed_dropped, classed_ended, classed_planned, classed_shown, end_field-plain, is_end_field, is_ended, not_ended, not_true, or_true, own_names, own_numbers, plain_class, plain_differs, same_bytes-plain}
+use Rattle.sq_top.proofs.SortedLines.{InBack, InFront, cut_twice, filter_same, list_all-back}
 
--- a name that doesn't begin with `@`
-abbrev pub IsPlainName : List ℕ → Type 0
-IsPlainName [] = ⊥
-IsPlainName (b ∷ bs) = b ≢ 64
-
--- a line of an output, and an end line
-abbrev pub IsShownLine : List ℕ → List ℕ → Type 0
-IsShownLine name l = (is_line false l ≡ true) × (first_field l ≡ name)
-
-abbrev pub IsEndLine : List ℕ → Type 0
-IsEndLine l = (is_line false l ≡ true) × (is_of_class Ended l ≡ true)
-
--- each line is one line, and its class can be told
-pub record IsSound (d : Due) : Type 0 where
-  pub names : AllByRecursion (λ o. IsPlainName o.0) d.shown
-  pub shown : AllByRecursion (λ o. AllByRecursion (IsShownLine o.0) o.1) d.shown
-  pub ended : AllByRecursion IsEndLine d.ended
-
-not_true : (b : Bool) → (b ≡ true → ⊥) → b ≡ false
-not_true true h = absurd (h refl)
-not_true false h = refl
-
-abbrev pub is_end_field : List ℕ → Bool
-is_end_field f = same_bytes f (codes "@box") || same_bytes f (codes "@late") || same_bytes f (codes "@end")
-
-plain_differs : (n bs : List ℕ) → IsPlainName n → n ≡ 64 ∷ bs → ⊥
-plain_differs [] bs plain e = plain
-plain_differs (b ∷ n) bs plain e = plain cc
-
-same_bytes-plain : (n bs : List ℕ) → IsPlainName n → same_bytes n (64 ∷ bs) ≡ false
-same_bytes-plain n bs plain = not_true (same_bytes n (64 ∷ bs)) (λ h. plain_differs n bs plain (same_bytes-true n (64 ∷ bs) h))
-
-end_field-plain : (n : List ℕ) → IsPlainName n → is_end_field n ≡ false
-end_field-plain n plain = rw (same_bytes-plain n (codes "box") plain, same_bytes-plain n (codes "late") plain, same_bytes-plain n (codes "end") plain) refl
-
--- a text with an end line's first field is none of these
-end_field-other : (f other : List ℕ) → is_end_field f ≡ true → is_end_field other ≡ false → same_bytes f other ≡ false
-end_field-other f other ends differs =
-    not_true (same_bytes f other) (λ h. let e : is_end_field other ≡ true = subst (λ x. is_end_field x ≡ true) (same_bytes-true f other h) ends in cc)
-
--- the test of a class answers the same for all lines of an output
-class_test : Class → List ℕ → Bool
-class_test (Shown name) n = same_bytes n name
-class_test (Dropped w) n = false
-class_test Planned n = false
-class_test Ended n = false
-
-shown_test : (c : Class) (n l : List ℕ) → IsPlainName n → first_field l ≡ n → is_of_class c l ≡ class_test c n
-unfolding class_test
-shown_test (Shown name) n l plain e = rw e refl
-shown_test (Dropped w) n l plain e = rw (e, same_bytes-plain n (codes "drop") plain) refl
-shown_test Planned n l plain e = rw (e, same_bytes-plain n (codes "plan") plain) refl
-shown_test Ended n l plain e = rw e (end_field-plain n plain)
-
--- the classes that a run has, with plain names
-abbrev IsPlainClass : Class → Type 0
-IsPlainClass (Shown name) = IsPlainName name
-IsPlainClass c = ⊤
-
-abbrev is_ended : Class → Bool
-is_ended Ended = true
-is_ended c = false
-
-end_test : (c : Class) (l : List ℕ) → IsPlainClass c → is_of_class Ended l ≡ true → is_of_class c l ≡ is_ended c
-end_test (Shown name) l plain ends = end_field-other (first_field l) name ends (end_field-plain name plain)
-end_test (Dropped w) l plain ends = rw (end_field-other (first_field l) (codes "@drop") ends refl) refl
-end_test Planned l plain ends = end_field-other (first_field l) (codes "@plan") ends refl
-end_test Ended l plain ends = ends
-
-all_map : {X : Type 0} {P Q : X → Type 0} (f : (x : X) → P x → Q x) (xs : List X) → AllByRecursion P xs → AllByRecursion Q xs
-all_map f [] all = tt
-all_map f (x ∷ xs) all = (f x all.0, all_map f xs all.1)
-
-abbrev Outputs : Type 0
-Outputs = List (List ℕ × List (List ℕ))
-
--- the lines of the outputs whose name a test picks
-abbrev picked : (List ℕ → Bool) → Outputs → List (List ℕ)
-picked p os = flat_map (λ o. o.1) (filter (λ o. p o.0) os)
-
-picked_one : (p : List ℕ → Bool) (t : Bool) (o : List ℕ × List (List ℕ)) (os : Outputs) → p o.0 ≡ t → picked p (o ∷ os) ≡ (if t then o.1 else []) ++ picked p os
-picked_one p true o os e = rw e refl
-picked_one p false o os e = rw e refl
-
-picked_none : (os : Outputs) → picked (λ n. false) os ≡ []
-picked_none [] = refl
-picked_none (o ∷ os) = picked_none os
-
-filter_output : (c : Class) (n : List ℕ) (ls : List (List ℕ)) → IsPlainName n → AllByRecursion (IsShownLine n) ls
-    → filter (is_of_class c) ls ≡ (if class_test c n then ls else [])
-filter_output c n ls plain all = filter_same (is_of_class c) (class_test c n) ls (all_map {P = IsShownLine n} (λ l h. shown_test c n l plain h.1) ls all)
-
-filter_outputs : (c : Class) (os : Outputs) → AllByRecursion (λ o. IsPlainName o.0) os → AllByRecursion (λ o. AllByRecursion (IsShownLine o.0) o.1) os
-    → filter (is_of_class c) (flat_map (λ o. o.1) os) ≡ picked (class_test c) os
-filter_outputs c [] names shown = refl
-filter_outputs c (o ∷ os) names shown =
-    filter-append (is_of_class c) o.1 (flat_map (λ x. x.1) os)
-    ∙ ap (λ ls. ls ++ filter (is_of_class c) (flat_map (λ x. x.1) os)) (filter_output c o.0 o.1 names.0 shown.0)
-    ∙ ap (λ ls. (if class_test c o.0 then o.1 else []) ++ ls) (filter_outputs c os names.1 shown.1)
-    ∙ sym (picked_one (class_test c) (class_test c o.0) o os refl)
-
-filter_ended : (c : Class) (ls : List (List ℕ)) → IsPlainClass c → AllByRecursion IsEndLine ls → filter (is_of_class c) ls ≡ (if is_ended c then ls else [])
-filter_ended c ls plain all = filter_same (is_of_class c) (is_ended c) ls (all_map {P = IsEndLine} (λ l h. end_test c l plain h.1) ls all)
-
--- the lines of a class that an output has, and those at the end
-front_of : Due → Class → List (List ℕ)
-front_of d c = picked (class_test c) d.shown
-
-back_of : Due → Class → List (List ℕ)
-back_of d c = if is_ended c then d.ended else []
-
-lines_split : (d : Due) (c : Class) → lines_of d c ≡ front_of d c ++ back_of d c
-unfolding front_of back_of class_test
-lines_split d (Shown name) = sym (append-nil (picked (λ n. same_bytes n name) d.shown))
-lines_split d (Dropped w) = rw (picked_none d.shown) refl
-lines_split d Planned = rw (picked_none d.shown) refl
-lines_split d Ended = rw (picked_none d.shown) refl
-
--- the lines of a class are those of all lines that are of it
-lines_are : (d : Due) (c : Class) → IsSound d → IsPlainClass c → filter (is_of_class c) (all_lines d) ≡ lines_of d c
-unfolding front_of back_of
-lines_are d c s plain =
-    filter-append (is_of_class c) (flat_map (λ o. o.1) d.shown) d.ended
-    ∙ ap (λ ls. ls ++ filter (is_of_class c) d.ended) (filter_outputs c d.shown s.names s.shown)
-    ∙ ap (λ ls. picked (class_test c) d.shown ++ ls) (filter_ended c d.ended plain s.ended)
-    ∙ sym (lines_split d c)
-
-plain_named : (t : Bool) (o : List ℕ × List (List ℕ)) (os : Outputs) (name : List ℕ) → same_bytes o.0 name ≡ t → IsPlainName o.0
-    → (IsTrue (list_any (λ x. same_bytes x.0 name) os) → IsPlainName name) → IsTrue (list_any (λ x. same_bytes x.0 name) (o ∷ os)) → IsPlainName name
-plain_named true o os name e plain more h = subst IsPlainName (same_bytes-true o.0 name e) plain
-plain_named false o os name e plain more h = more (rw e at h)
-
-plain_name : (os : Outputs) (name : List ℕ) → AllByRecursion (λ o. IsPlainName o.0) os → IsTrue (list_any (λ o. same_bytes o.0 name) os) → IsPlainName name
-plain_name [] name names h = absurd (cc)
-plain_name (o ∷ os) name names h = plain_named (same_bytes o.0 name) o os name refl names.0 (plain_name os name names.1) h
-
-plain_class : (d : Due) (c : Class) → IsSound d → IsClassIn d c → IsPlainClass c
-plain_class d (Shown name) s here = plain_name d.shown name s.names here
-plain_class d (Dropped w) s here = tt
-plain_class d Planned s here = tt
-plain_class d Ended s here = tt
-
-or_true : (a b : Bool) → b ≡ true → (a || b) ≡ true
-or_true true b h = refl
-or_true false b h = h
-
-own_names : (os : Outputs) → AllByRecursion (λ o. list_any (λ x. same_bytes o.0 x.0) os ≡ true) os
-own_names [] = tt
-own_names (o ∷ os) = (
-  rw (same_bytes-refl o.0) refl,
-  all_map {P = λ y. list_any (λ x. same_bytes y.0 x.0) os ≡ true} (λ y h. or_true (same_bytes y.0 o.0) (list_any (λ x. same_bytes y.0 x.0) os) h) os (own_names os),
-)
-
-classed_line : (d : Due) (n l : List ℕ) → list_any (λ x. same_bytes n x.0) d.shown ≡ true → first_field l ≡ n → is_classed d l ≡ true
-classed_line d n l named e = let first : list_any (λ x. same_bytes (first_field l) x.0) d.shown ≡ true = rw e named in rw first refl
-
-classed_output : (d : Due) (n : List ℕ) (ls : List (List ℕ)) → list_any (λ x. same_bytes n x.0) d.shown ≡ true → AllByRecursion (IsShownLine n) ls
-    → list_all (is_classed d) ls ≡ true
-classed_output d n [] named all = refl
-classed_output d n (l ∷ ls) named all = rw (classed_line d n l named all.0.1, classed_output d n ls named all.1) refl
-
-classed_ended : (d : Due) (ls : List (List ℕ)) → AllByRecursion IsEndLine ls → list_all (is_classed d) ls ≡ true
-classed_ended d [] all = refl
-classed_ended d (l ∷ ls) all =
-    rw (or_true (list_any (λ x. same_bytes (first_field l) x.0) d.shown) (is_of_class Ended l) all.0.1, classed_ended d ls all.1) refl
-
-list_all-both : (p : List ℕ → Bool) (xs ys : List (List ℕ)) → list_all p xs ≡ true → list_all p ys ≡ true → list_all p (xs ++ ys) ≡ true
-list_all-both p xs ys a b = list_all-append p xs ys ∙ ap (λ t. t && list_all p ys) a ∙ b
-
-classed_outputs : (d : Due) (os : Outputs) → AllByRecursion (λ o. list_any (λ x. same_bytes o.0 x.0) d.shown ≡ true) os
-    → AllByRecursion (λ o. AllByRecursion (IsShownLine o.0) o.1) os → list_all (is_classed d) (flat_map (λ o. o.1) os) ≡ true
-classed_outputs d [] named all = refl
-classed_outputs d (o ∷ os) named all =
-    list_all-both (is_classed d) o.1 (flat_map (λ x. x.1) os) (classed_output d o.0 o.1 named.0 all.0) (classed_outputs d os named.1 all.1)
-
--- each line is of a class of the run
-classed : (d : Due) → IsSound d → list_all (is_classed d) (all_lines d) ≡ true
-classed d s = list_all-both (is_classed d) (flat_map (λ o. o.1) d.shown) d.ended (classed_outputs d d.shown (own_names d.shown) s.shown) (classed_ended d d.ended s.ended)
+-- a list that has each class whole, nothing else, and the end lines last
+pub record IsWholeList (d : Due) (ls : List (List ℕ)) : Type 0 where
+  pub all : AreAll d ls
+  pub classed : list_all (is_classed d) ls ≡ true
+  pub front : List (List ℕ)
+  pub lines_are : ls ≡ front ++ d.ended
+  pub others : list_all (λ l. not (is_of_class Ended l)) front ≡ true
 
 -- the class of a line
 record HasClass (d : Due) (line : List ℕ) : Type 0 where
@@ -214,187 +45,274 @@ name_of : (os : Outputs) (f : List ℕ) → list_any (λ x. same_bytes f x.0) os
 name_of [] f h = absurd (cc)
 name_of (o ∷ os) f h = name_first (same_bytes f o.0) o os f refl (name_of os f) h
 
-or_left : (a b : Bool) → b ≡ false → (a || b) ≡ true → a ≡ true
-or_left true b none h = refl
-or_left false b none h = cc
+drop_of : (ws : Drops) (l : List ℕ) → list_any (λ x. is_of_class (Dropped x.0) l) ws ≡ true → (w : ℕ) × (is_of_class (Dropped w) l ≡ true)
+drop_of [] l h = absurd (cc)
+drop_of (w ∷ ws) l h = by (is_of_class (Dropped w.0) l) refl
+  where
+    by : (t : Bool) → is_of_class (Dropped w.0) l ≡ t → (v : ℕ) × (is_of_class (Dropped v) l ≡ true)
+    by true e = (w.0, e)
+    by false e = drop_of_rest (rw e at h)
+      where
+        drop_of_rest : list_any (λ x. is_of_class (Dropped x.0) l) ws ≡ true → (v : ℕ) × (is_of_class (Dropped v) l ≡ true)
+        drop_of_rest g = drop_of ws l g
 
-class_by : (t : Bool) (d : Due) (line : List ℕ) → is_of_class Ended line ≡ t → is_classed d line ≡ true → HasClass d line
-class_by true d line e h = record { class = Ended; here = tt; of = e }
-class_by false d line e h =
-    let named : list_any (λ x. same_bytes (first_field line) x.0) d.shown ≡ true = or_left (list_any (λ x. same_bytes (first_field line) x.0) d.shown) (is_of_class Ended line) e h in
-    let n = name_of d.shown (first_field line) named in
-    record { class = Shown n.name; here = n.named; of = n.same }
+class_by : (d : Due) (l : List ℕ) (a b c e : Bool) → list_any (λ o. is_of_class (Shown o.0) l) d.shown ≡ a → list_any (λ x. is_of_class (Dropped x.0) l) d.dropped ≡ b
+    → is_of_class Planned l ≡ c → is_of_class Ended l ≡ e → (a || b || c || e) ≡ true → HasClass d l
+class_by d l true b c e shown dropped planned ended h =
+    let n = name_of d.shown (first_field l) shown in record { class = Shown n.name; here = n.named; of = n.same }
+class_by d l false true c e shown dropped planned ended h = let w = drop_of d.dropped l dropped in record { class = Dropped w.0; here = tt; of = w.1 }
+class_by d l false false true e shown dropped planned ended h = record { class = Planned; here = tt; of = planned }
+class_by d l false false false true shown dropped planned ended h = record { class = Ended; here = tt; of = ended }
+class_by d l false false false false shown dropped planned ended h = absurd (cc)
 
-class_of : (d : Due) (line : List ℕ) → is_classed d line ≡ true → HasClass d line
-class_of d line h = class_by (is_of_class Ended line) d line refl h
+class_of : (d : Due) (l : List ℕ) → is_classed d l ≡ true → HasClass d l
+class_of d l h =
+    class_by d l (list_any (λ o. is_of_class (Shown o.0) l) d.shown) (list_any (λ x. is_of_class (Dropped x.0) l) d.dropped) (is_of_class Planned l) (is_of_class Ended l)
+    refl refl refl refl h
 
-are_lines_append : (xs ys : List (List ℕ)) → AreLines xs → AreLines ys → AreLines (xs ++ ys)
-are_lines_append [] ys a b = b
-are_lines_append (x ∷ xs) ys a b = (a.0, are_lines_append xs ys a.1 b)
-
-are_lines_outputs : (os : Outputs) → AllByRecursion (λ o. AllByRecursion (IsShownLine o.0) o.1) os → AreLines (flat_map (λ o. o.1) os)
-are_lines_outputs [] all = tt
-are_lines_outputs (o ∷ os) all = are_lines_append o.1 (flat_map (λ x. x.1) os) (all_map {P = IsShownLine o.0} (λ l h. h.0) o.1 all.0) (are_lines_outputs os all.1)
-
-are_lines : (d : Due) → IsSound d → AreLines (all_lines d)
-are_lines d s = are_lines_append (flat_map (λ o. o.1) d.shown) d.ended (are_lines_outputs d.shown s.shown) (all_map {P = IsEndLine} (λ l h. h.0) d.ended s.ended)
-
--- what was cut off from the text of all lines
-module _ (d : Due) (s : IsSound d) (text : List ℕ) (c : Cut (all_lines d) text) where
-  of_class_is : (k : Class) → of_class k text ≡ filter (is_of_class k) c.done
-  of_class_is k = ap (filter (is_of_class k)) (whole_lines-cut (all_lines d) text c (are_lines d s))
-
-  lines_cut : (k : Class) → IsPlainClass k → lines_of d k ≡ filter (is_of_class k) c.done ++ filter (is_of_class k) c.rest
-  lines_cut k plain = sym (lines_are d k s plain) ∙ ap (filter (is_of_class k)) c.lines_are ∙ filter-append (is_of_class k) c.done c.rest
-
-  prefix_of_class : (k : Class) → IsClassIn d k → IsPrefixOf (of_class k text) (lines_of d k)
-  prefix_of_class k here =
-      (filter (is_of_class k) c.rest, lines_cut k (plain_class d k s here) ∙ ap (λ ls. ls ++ filter (is_of_class k) c.rest) (sym (of_class_is k)))
-
-not_ended : (k : Class) → k ≢ Ended → is_ended k ≡ false
-not_ended (Shown name) h = refl
-not_ended (Dropped w) h = refl
-not_ended Planned h = refl
-not_ended Ended h = absurd (h refl)
+filter_kept : (p : List ℕ → Bool) (x : List ℕ) (xs : List (List ℕ)) → p x ≡ true → filter p (x ∷ xs) ≡ x ∷ filter p xs
+filter_kept p x xs h = rw h refl
 
 nothing_left : {X : Type 0} (xs ys : List X) → xs ++ ys ≡ [] → xs ≡ []
 nothing_left [] ys h = refl
 nothing_left (x ∷ xs) ys h = cc
 
--- a class without end lines is whole once the lines of the outputs are
-module _ (d : Due) (s : IsSound d) (text : List ℕ) (c : Cut (all_lines d) text) (b : InBack (flat_map (λ o. o.1) d.shown) d.ended c.done c.rest) where
-  no_end_lines : (k : Class) → IsPlainClass k → is_ended k ≡ false → filter (is_of_class k) d.ended ≡ []
-  no_end_lines k plain other = filter_ended k d.ended plain s.ended ∙ ap (λ t. if t then d.ended else []) other
+first_of : {X : Type 0} (x y : X) (xs ys : List X) → x ∷ xs ≡ y ∷ ys → x ≡ y
+first_of x y xs ys e = cc
 
-  none_of_more : (k : Class) → IsPlainClass k → is_ended k ≡ false → filter (is_of_class k) b.more ≡ []
-  none_of_more k plain other =
-      nothing_left (filter (is_of_class k) b.more) (filter (is_of_class k) c.rest)
-      (sym (filter-append (is_of_class k) b.more c.rest) ∙ sym (ap (filter (is_of_class k)) b.back_is) ∙ no_end_lines k plain other)
+all_first : (p : List ℕ → Bool) (x : List ℕ) (xs : List (List ℕ)) → list_all p (x ∷ xs) ≡ true → p x ≡ true
+all_first p x xs h = (and_true (p x) (list_all p xs) h).0
 
-  whole_class : (k : Class) → IsPlainClass k → is_ended k ≡ false → of_class k text ≡ lines_of d k
-  whole_class k plain other =
-      let front = filter (is_of_class k) (flat_map (λ o. o.1) d.shown) in
-      of_class_is d s text c k
-      ∙ ap (filter (is_of_class k)) b.done_is
-      ∙ filter-append (is_of_class k) (flat_map (λ o. o.1) d.shown) b.more
-      ∙ ap (λ ls. front ++ ls) (none_of_more k plain other ∙ sym (no_end_lines k plain other))
-      ∙ sym (filter-append (is_of_class k) (flat_map (λ o. o.1) d.shown) d.ended)
-      ∙ lines_are d k s plain
+module _ (d : Due) (s : TellsClasses d) (ls : List (List ℕ)) (whole : IsWholeList d ls) where
+  -- no end line is of another class
+  not_other : (k : Class) (l : List ℕ) → IsClassIn d k → k ≢ Ended → is_of_class Ended l ≡ true → is_of_class k l ≡ false
+  not_other k l here other ends =
+      not_true (is_of_class k l) (λ of. let a = alike d Ended k l tt (plain_class d k s here) ends of in let e = a.ended ∙ not_ended k other in cc)
 
-  others_whole : AreOthersWhole d text
-  others_whole k here other = whole_class k (plain_class d k s here) (not_ended k other)
+  no_ended : (k : Class) → IsClassIn d k → k ≢ Ended → filter (is_of_class k) d.ended ≡ []
+  no_ended k here other = filter_same (is_of_class k) false d.ended (all_map {P = IsLineOf Ended} (λ l h. not_other k l here other h.1) d.ended s.ended)
 
-no_shown_end : (d : Due) → IsSound d → filter (is_of_class Ended) (flat_map (λ o. o.1) d.shown) ≡ []
-unfolding class_test
-no_shown_end d s = filter_outputs Ended d.shown s.names s.shown ∙ picked_none d.shown
+  module _ (before : List (List ℕ)) (l : List ℕ) (rest : List (List ℕ)) (at : ls ≡ before ++ (l ∷ rest)) where
+    class_here : HasClass d l
+    class_here = class_of d l (all_first (is_classed d) l rest (list_all-back (is_classed d) before (l ∷ rest) (subst (λ xs. list_all (is_classed d) xs ≡ true) at whole.classed)))
 
--- among the end lines: one is done, or the next line is one
-module _ (d : Due) (s : IsSound d) (text : List ℕ) (c : Cut (all_lines d) text) where
-  no_end_done : InFront (flat_map (λ o. o.1) d.shown) d.ended c.done c.rest → filter (is_of_class Ended) c.done ≡ []
-  no_end_done f =
-      nothing_left (filter (is_of_class Ended) c.done) (filter (is_of_class Ended) (f.next ∷ f.more))
-      (sym (filter-append (is_of_class Ended) c.done (f.next ∷ f.more)) ∙ sym (ap (filter (is_of_class Ended)) f.front_is) ∙ no_shown_end d s)
+    prefix_here : IsPrefixOf (filter (is_of_class class_here.class) before ++ l ∷ []) (lines_of d class_here.class)
+    prefix_here =
+        let p = is_of_class class_here.class in
+        (filter p rest,
+          sym (whole.all class_here.class class_here.here) ∙ ap (filter p) at ∙ filter-append p before (l ∷ rest)
+          ∙ ap (λ xs. filter p before ++ xs) (filter_kept p l rest class_here.of) ∙ sym (append_assoc (filter p before) (l ∷ []) (filter p rest)))
 
-  ends_after : of_class Ended text ≢ [] → AreOthersWhole d text
-  ends_after some =
-      elim (cut_twice (flat_map (λ o. o.1) d.shown) d.ended c.done c.rest c.lines_are) [
-        | inl b ↦ others_whole d s text c b
-        | inr f ↦ absurd (some (of_class_is d s text c Ended ∙ no_end_done f))
-      ]
+    others_before : InBack whole.front d.ended before (l ∷ rest) → AreOthersAll d before
+    others_before b k here other =
+        let p = is_of_class k in
+        let none : filter p b.more ≡ [] = nothing_left (filter p b.more) (filter p (l ∷ rest)) (sym (filter-append p b.more (l ∷ rest)) ∙ sym (ap (filter p) b.back_is) ∙ no_ended k here other) in
+        ap (filter p) b.done_is ∙ filter-append p whole.front b.more
+        ∙ ap (λ xs. filter p whole.front ++ xs) (none ∙ sym (no_ended k here other))
+        ∙ sym (filter-append p whole.front d.ended) ∙ sym (ap (filter p) whole.lines_are) ∙ whole.all k here
 
-filter_kept : (p : List ℕ → Bool) (x : List ℕ) (xs : List (List ℕ)) → p x ≡ true → filter p (x ∷ xs) ≡ x ∷ filter p xs
-filter_kept p x xs h = rw h refl
+    not_in_front : InFront whole.front d.ended before (l ∷ rest) → is_of_class Ended l ≡ true → ⊥
+    not_in_front f ends =
+        let same : l ≡ f.next = first_of l f.next rest (f.more ++ d.ended) f.rest_is in
+        let other = all_first (λ x. not (is_of_class Ended x)) f.next f.more
+        (list_all-back (λ x. not (is_of_class Ended x)) before (f.next ∷ f.more) (subst (λ xs. list_all (λ x. not (is_of_class Ended x)) xs ≡ true) f.front_is whole.others)) in
+        let ends' : is_of_class Ended f.next ≡ true = subst (λ x. is_of_class Ended x ≡ true) same ends in
+        let both : not true ≡ true = subst (λ t. not t ≡ true) ends' other in cc
 
-none_first : (p : List ℕ → Bool) (t : Bool) (x : List ℕ) (xs : List (List ℕ)) → p x ≡ t → filter p (x ∷ xs) ≡ [] → t ≡ false
-none_first p true x xs e h = let kept = filter_kept p x xs e in cc
-none_first p false x xs e h = refl
+    ends_here : class_here.class ≡ Ended → AreOthersAll d before
+    ends_here e = elim (cut_twice whole.front d.ended before (l ∷ rest) (sym whole.lines_are ∙ at)) [
+      | inl b ↦ others_before b
+      | inr f ↦ absurd (not_in_front f (subst (λ k. is_of_class k l ≡ true) e class_here.of))
+    ]
 
-same_first : {X : Type 0} (x y : X) (xs ys : List X) → x ∷ xs ≡ y ∷ ys → x ≡ y
-same_first x y xs ys e = cc
+    next_here : (c : Class) × IsNextOf d before l c
+    next_here = (class_here.class, (class_here.here, prefix_here, ends_here))
 
-nothing_after : {X : Type 0} (xs ys : List X) → xs ++ ys ≡ [] → ys ≡ []
-nothing_after [] ys h = h
-nothing_after (x ∷ xs) ys h = cc
+  walk : (before rest : List (List ℕ)) → ls ≡ before ++ rest → EachIsNext d before rest
+  walk before [] at = tt
+  walk before (l ∷ rest) at = (next_here before l rest at, walk (before ++ l ∷ []) rest (at ∙ sym (append_assoc before (l ∷ []) rest)))
 
--- a part of a line behind the whole ones
-module _ (d : Due) (s : IsSound d) (text : List ℕ) (c : Cut (all_lines d) text) (f : IsFront c.rest c.part) where
-  next_classed : is_classed d f.next ≡ true
-  next_classed =
-      let rest : list_all (is_classed d) c.rest ≡ true =
-      list_all-back (is_classed d) c.done c.rest (subst (λ ls. list_all (is_classed d) ls ≡ true) c.lines_are (classed d s)) in
-      (and-true (is_classed d f.next) (list_all (is_classed d) f.more) (subst (λ ls. list_all (is_classed d) ls ≡ true) f.rest_is rest)).0
+  -- such a list is an order of writing
+  pub whole_order : IsOrder d ls
+  whole_order = walk [] ls refl
 
-  next_class : HasClass d f.next
-  next_class = class_of d f.next next_classed
+-- how the test of a class answers for the lines of another
+abbrev tells : Class → Class → Bool
+tells (Shown n) (Shown name) = same_bytes n name
+tells (Dropped w) (Dropped v) = same_bytes (decimal w) (decimal v)
+tells Planned Planned = true
+tells Ended Ended = true
+tells k c = false
 
-  next_line : (k : Class) → IsClassIn d k → is_of_class k f.next ≡ true → slice_get (lines_of d k) (length (of_class k text)) ≡ Some f.next
-  next_line k here of =
-      let p = is_of_class k in
-      let rest_is = ap (filter p) f.rest_is ∙ filter_kept p f.next f.more of in
-      let lines_is = lines_cut d s text c k (plain_class d k s here) ∙ ap (λ ls. filter p c.done ++ ls) rest_is in
-      ap (λ ls. slice_get ls (length (of_class k text))) lines_is
-      ∙ ap (λ ls. slice_get (filter p c.done ++ (f.next ∷ filter p f.more)) (length ls)) (of_class_is d s text c k)
-      ∙ slice_get-next (filter p c.done) f.next (filter p f.more)
+not_plain : (name bs : List ℕ) → IsPlainName name → same_bytes (64 ∷ bs) name ≡ false
+not_plain name bs plain = not_true (same_bytes (64 ∷ bs) name) (λ h. plain_differs name bs plain (sym (same_bytes-true (64 ∷ bs) name h)))
 
-  begins : IsPrefixOf (unfinished text) f.next
-  begins = (
-    drop f.size f.next,
-    sym (take-append-drop f.size f.next) ∙ ap (λ x. x ++ drop f.size f.next) (sym f.part_is ∙ sym (unfinished-cut (all_lines d) text c (are_lines d s))),
-  )
+-- an end line's first field is no other text
+end_field-other : (f other : List ℕ) → is_end_field f ≡ true → is_end_field other ≡ false → same_bytes f other ≡ false
+end_field-other f other ends differs =
+    not_true (same_bytes f other) (λ h. let e : is_end_field other ≡ true = subst (λ x. is_end_field x ≡ true) (same_bytes-true f other h) ends in cc)
 
-  begins_next : (k : Class) → IsClassIn d k → is_of_class k f.next ≡ true → BeginsNext d text k
-  begins_next k here of = (here, subst (λ o. IsSomeAnd o (λ next. IsPrefixOf (unfinished text) next)) (sym (next_line k here of)) begins)
+shown_test : (c : Class) (n l : List ℕ) → IsPlainName n → is_of_class (Shown n) l ≡ true → is_of_class c l ≡ tells (Shown n) c
+shown_test (Shown name) n l plain is = rw (same_bytes-true (first_field l) n is) refl
+shown_test (Dropped w) n l plain is = rw (same_bytes-true (first_field l) n is, same_bytes-plain n (codes "drop") plain) refl
+shown_test Planned n l plain is = rw (same_bytes-true (first_field l) n is, same_bytes-plain n (codes "plan") plain) refl
+shown_test Ended n l plain is = rw (same_bytes-true (first_field l) n is) (end_field-plain n plain)
 
-  no_end_next : InFront (flat_map (λ o. o.1) d.shown) d.ended c.done c.rest → is_of_class Ended f.next ≡ false
-  no_end_next g =
-      let p = is_of_class Ended in
-      let same : g.next ≡ f.next = same_first g.next f.next (g.more ++ d.ended) f.more (sym g.rest_is ∙ f.rest_is) in
-      let none = nothing_after (filter p c.done) (filter p (g.next ∷ g.more))
-      (sym (filter-append p c.done (g.next ∷ g.more)) ∙ sym (ap (filter p) g.front_is) ∙ no_shown_end d s) in
-      subst (λ x. p x ≡ false) same (none_first p (p g.next) g.next g.more refl none)
+dropped_test : (c : Class) (w : ℕ) (l : List ℕ) → IsPlainClass c → is_of_class (Dropped w) l ≡ true → is_of_class c l ≡ tells (Dropped w) c
+dropped_test (Shown name) w l plain is = rw (same_bytes-true (first_field l) (codes "@drop") (and_true _ _ is).0) (not_plain name (codes "drop") plain)
+dropped_test (Dropped v) w l plain is = rw (same_bytes-true (first_field l) (codes "@drop") (and_true _ _ is).0, same_bytes-true (second_field l) (decimal w) (and_true _ _ is).1) refl
+dropped_test Planned w l plain is = rw (same_bytes-true (first_field l) (codes "@drop") (and_true _ _ is).0) refl
+dropped_test Ended w l plain is = rw (same_bytes-true (first_field l) (codes "@drop") (and_true _ _ is).0) refl
 
-  ends_next : is_of_class Ended f.next ≡ true → AreOthersWhole d text
-  ends_next of =
-      elim (cut_twice (flat_map (λ o. o.1) d.shown) d.ended c.done c.rest c.lines_are) [
-        | inl b ↦ others_whole d s text c b
-        | inr g ↦ absurd (let other = no_end_next g in cc)
-      ]
+planned_test : (c : Class) (l : List ℕ) → IsPlainClass c → is_of_class Planned l ≡ true → is_of_class c l ≡ tells Planned c
+planned_test (Shown name) l plain is = rw (same_bytes-true (first_field l) (codes "@plan") is) (not_plain name (codes "plan") plain)
+planned_test (Dropped v) l plain is = rw (same_bytes-true (first_field l) (codes "@plan") is) refl
+planned_test Planned l plain is = is
+planned_test Ended l plain is = rw (same_bytes-true (first_field l) (codes "@plan") is) refl
 
--- a text that begins the text of all lines has a prefix of each class
-pub prefix_text : (d : Due) (text : List ℕ) → IsSound d → IsPrefixOf text (all_text d) → IsPrefixText d text
-prefix_text d text s prefix =
-    let c = cut_prefix (all_lines d) text prefix in
-    let whole_is = whole_lines-cut (all_lines d) text c (are_lines d s) in
-    record {
-      lines = prefix_of_class d s text c;
-      classed = rw whole_is (list_all-front (is_classed d) c.done c.rest (subst (λ ls. list_all (is_classed d) ls ≡ true) c.lines_are (classed d s)));
-      begun = elim c.part_is [
-        | inl none ↦ inl (unfinished-cut (all_lines d) text c (are_lines d s) ∙ none)
-        | inr f ↦ let k = next_class d s text c f in
-            inr (k.class, begins_next d s text c f k.class k.here k.of, λ e. ends_next d s text c f (subst (λ x. is_of_class x f.next ≡ true) e k.of))
-      ];
-      ends_last = ends_after d s text c;
-    }
+ended_test : (c : Class) (l : List ℕ) → IsPlainClass c → is_of_class Ended l ≡ true → is_of_class c l ≡ tells Ended c
+ended_test (Shown name) l plain ends = end_field-other (first_field l) name ends (end_field-plain name plain)
+ended_test (Dropped w) l plain ends = rw (end_field-other (first_field l) (codes "@drop") ends refl) refl
+ended_test Planned l plain ends = end_field-other (first_field l) (codes "@plan") ends refl
+ended_test Ended l plain ends = ends
 
-none_step : (p : List ℕ → Bool) (t : Bool) (x : List ℕ) (xs : List (List ℕ)) → p x ≡ t → (filter p xs ≡ [] → list_all (λ y. not (p y)) xs ≡ true)
-    → filter p (x ∷ xs) ≡ [] → list_all (λ y. not (p y)) (x ∷ xs) ≡ true
-none_step p true x xs e more h = let kept = filter_kept p x xs e in absurd (cc)
-none_step p false x xs e more h = rw e (more (rw e at h))
+-- the lines of the outputs, and of the drops, that a test picks
+abbrev picked : (List ℕ → Bool) → Outputs → List (List ℕ)
+picked p os = flat_map (λ o. o.1) (filter (λ o. p o.0) os)
 
-none_pass : (p : List ℕ → Bool) (xs : List (List ℕ)) → filter p xs ≡ [] → list_all (λ x. not (p x)) xs ≡ true
-none_pass p [] h = refl
-none_pass p (x ∷ xs) h = none_step p (p x) x xs refl (none_pass p xs) h
+abbrev picked_drops : (ℕ → Bool) → Drops → List (List ℕ)
+picked_drops p ws = flat_map (λ x. x.1) (filter (λ x. p x.0) ws)
 
-no_end_classes : (d : Due) → IsSound d → list_all (λ line. not (is_of_class Ended line)) (flat_map (λ o. o.1) d.shown) ≡ true
-no_end_classes d s = none_pass (is_of_class Ended) (flat_map (λ o. o.1) d.shown) (no_shown_end d s)
+module _ {A : Type 0} where
+  abbrev Parts : Type 0
+  Parts = List (A × List (List ℕ))
 
--- the text of all lines has each class whole
-pub whole_text : (d : Due) → IsSound d → IsWholeText d (all_text d)
-whole_text d s =
-    let lines_is : whole_lines (all_text d) ≡ all_lines d = sym (ap whole_lines (append-nil (all_text d))) ∙ whole_lines-lines (all_lines d) [] (are_lines d s) refl in
-    record {
-      lines = λ k here. ap (filter (is_of_class k)) lines_is ∙ lines_are d k s (plain_class d k s here);
-      classed = rw lines_is (classed d s);
-      finished = sym (ap unfinished (append-nil (all_text d))) ∙ unfinished-lines (all_lines d) [] (are_lines d s) refl;
-      ends_last = (flat_map (λ o. o.1) d.shown, lines_is, no_end_classes d s);
-    }
+  picked_one : (p : A → Bool) (t : Bool) (o : A × List (List ℕ)) (os : Parts) → p o.0 ≡ t
+      → flat_map (λ x. x.1) (filter (λ x. p x.0) (o ∷ os)) ≡ (if t then o.1 else []) ++ flat_map (λ x. x.1) (filter (λ x. p x.0) os)
+  picked_one p true o os e = rw e refl
+  picked_one p false o os e = rw e refl
+
+  picked_none : (p : A → Bool) (os : Parts) → ((a : A) → p a ≡ false) → flat_map (λ x. x.1) (filter (λ x. p x.0) os) ≡ []
+  picked_none p [] none = refl
+  picked_none p (o ∷ os) none = picked_one p false o os (none o.0) ∙ picked_none p os none
+
+  -- a test of lines that answers the same for all lines of a part
+  filter_parts : (q : List ℕ → Bool) (p : A → Bool) (os : Parts) → AllByRecursion (λ o. AllByRecursion (λ l. q l ≡ p o.0) o.1) os
+      → filter q (flat_map (λ o. o.1) os) ≡ flat_map (λ x. x.1) (filter (λ x. p x.0) os)
+  filter_parts q p [] all = refl
+  filter_parts q p (o ∷ os) all =
+      filter-append q o.1 (flat_map (λ x. x.1) os)
+      ∙ ap₂ (λ xs ys. xs ++ ys) (filter_same q (p o.0) o.1 all.0) (filter_parts q p os all.1)
+      ∙ sym (picked_one p (p o.0) o os refl)
+
+  all_parts : (q : List ℕ → Bool) (os : Parts) → AllByRecursion (λ o. AllByRecursion (λ l. q l ≡ true) o.1) os → list_all q (flat_map (λ o. o.1) os) ≡ true
+  all_parts q [] all = refl
+  all_parts q (o ∷ os) all = both_all q o.1 (flat_map (λ x. x.1) os) (each_passes q o.1 all.0) (all_parts q os all.1)
+    where
+      each_passes : (q : List ℕ → Bool) (xs : List (List ℕ)) → AllByRecursion (λ l. q l ≡ true) xs → list_all q xs ≡ true
+      each_passes q [] all = refl
+      each_passes q (x ∷ xs) all = rw (all.0, each_passes q xs all.1) refl
+
+      both_all : (q : List ℕ → Bool) (xs ys : List (List ℕ)) → list_all q xs ≡ true → list_all q ys ≡ true → list_all q (xs ++ ys) ≡ true
+      both_all q xs ys a b = list_all-append q xs ys ∙ ap (λ t. t && list_all q ys) a ∙ b
+
+all_pass : (q : List ℕ → Bool) (xs : List (List ℕ)) → AllByRecursion (λ l. q l ≡ true) xs → list_all q xs ≡ true
+all_pass q [] all = refl
+all_pass q (x ∷ xs) all = rw (all.0, all_pass q xs all.1) refl
+
+both_pass : (q : List ℕ → Bool) (xs ys : List (List ℕ)) → list_all q xs ≡ true → list_all q ys ≡ true → list_all q (xs ++ ys) ≡ true
+both_pass q xs ys a b = list_all-append q xs ys ∙ ap (λ t. t && list_all q ys) a ∙ b
+
+all_named : {A : Type 0} {N P Q : A × List (List ℕ) → Type 0} (f : (o : A × List (List ℕ)) → N o → P o → Q o) (os : List (A × List (List ℕ)))
+    → AllByRecursion N os → AllByRecursion P os → AllByRecursion Q os
+all_named f [] named all = tt
+all_named f (o ∷ os) named all = (f o named.0 all.0, all_named f os named.1 all.1)
+
+-- all lines, those of the outputs first
+module _ (d : Due) (s : TellsClasses d) where
+  abbrev shown_lines : List (List ℕ)
+  shown_lines = flat_map (λ o. o.1) d.shown
+
+  abbrev dropped_lines : List (List ℕ)
+  dropped_lines = flat_map (λ x. x.1) d.dropped
+
+  -- what a test has of the lines of the outputs, the drops, the plans and the end
+  module _ (c : Class) (plain : IsPlainClass c) where
+    filter_shown : filter (is_of_class c) shown_lines ≡ picked (λ n. tells (Shown n) c) d.shown
+    filter_shown = filter_parts (is_of_class c) (λ n. tells (Shown n) c) d.shown
+        (all_named {N = λ o. IsPlainName o.0} {P = λ o. AllByRecursion (IsLineOf (Shown o.0)) o.1}
+        (λ o n ls. all_map {P = IsLineOf (Shown o.0)} (λ l h. shown_test c o.0 l n h.1) o.1 ls) d.shown s.names s.shown)
+
+    filter_dropped : filter (is_of_class c) dropped_lines ≡ picked_drops (λ w. tells (Dropped w) c) d.dropped
+    filter_dropped = filter_parts (is_of_class c) (λ w. tells (Dropped w) c) d.dropped
+        (all_map {P = λ x. AllByRecursion (IsLineOf (Dropped x.0)) x.1} (λ x ls. all_map {P = IsLineOf (Dropped x.0)} (λ l h. dropped_test c x.0 l plain h.1) x.1 ls) d.dropped s.dropped)
+
+    filter_planned : filter (is_of_class c) d.planned ≡ (if tells Planned c then d.planned else [])
+    filter_planned = filter_same (is_of_class c) (tells Planned c) d.planned (all_map {P = IsLineOf Planned} (λ l h. planned_test c l plain h.1) d.planned s.planned)
+
+    filter_ended : filter (is_of_class c) d.ended ≡ (if tells Ended c then d.ended else [])
+    filter_ended = filter_same (is_of_class c) (tells Ended c) d.ended (all_map {P = IsLineOf Ended} (λ l h. ended_test c l plain h.1) d.ended s.ended)
+
+    filter_all : filter (is_of_class c) (all_lines d)
+        ≡ picked (λ n. tells (Shown n) c) d.shown ++ (picked_drops (λ w. tells (Dropped w) c) d.dropped ++ ((if tells Planned c then d.planned else []) ++ (if tells Ended c then d.ended else [])))
+    filter_all =
+        let p = is_of_class c in
+        filter-append p shown_lines (dropped_lines ++ (d.planned ++ d.ended))
+        ∙ ap₂ (λ xs ys. xs ++ ys) filter_shown
+        (filter-append p dropped_lines (d.planned ++ d.ended)
+        ∙ ap₂ (λ xs ys. xs ++ ys) filter_dropped (filter-append p d.planned d.ended ∙ ap₂ (λ xs ys. xs ++ ys) filter_planned filter_ended))
+
+  lines_are : (c : Class) → IsPlainClass c → filter (is_of_class c) (all_lines d) ≡ lines_of d c
+  lines_are (Shown name) plain =
+      filter_all (Shown name) plain ∙ rw (picked_none (λ w. false) d.dropped (λ w. refl)) (append-nil (picked (λ n. same_bytes n name) d.shown))
+  lines_are (Dropped w) plain =
+      filter_all (Dropped w) plain ∙ rw (picked_none (λ n. false) d.shown (λ n. refl)) (append-nil (picked_drops (λ v. same_bytes (decimal v) (decimal w)) d.dropped))
+  lines_are Planned plain =
+      filter_all Planned plain ∙ rw (picked_none (λ n. false) d.shown (λ n. refl), picked_none (λ w. false) d.dropped (λ w. refl)) (append-nil d.planned)
+  lines_are Ended plain =
+      filter_all Ended plain ∙ rw (picked_none (λ n. false) d.shown (λ n. refl), picked_none (λ w. false) d.dropped (λ w. refl)) refl
+
+  shown_classed : list_all (is_classed d) shown_lines ≡ true
+  shown_classed = all_parts (is_classed d) d.shown
+      (all_named {N = λ o. list_any (λ x. same_bytes o.0 x.0) d.shown ≡ true} {P = λ o. AllByRecursion (IsLineOf (Shown o.0)) o.1}
+      (λ o n ls. all_map {P = IsLineOf (Shown o.0)} (λ l h. classed_shown d s o.0 l n h.1) o.1 ls) d.shown (own_names d.shown) s.shown)
+
+  dropped_classed : list_all (is_classed d) dropped_lines ≡ true
+  dropped_classed = all_parts (is_classed d) d.dropped
+      (all_named {N = λ w. list_any (λ x. same_bytes (decimal w.0) (decimal x.0)) d.dropped ≡ true} {P = λ x. AllByRecursion (IsLineOf (Dropped x.0)) x.1}
+      (λ w n ls. all_map {P = IsLineOf (Dropped w.0)} (λ l h. classed_dropped d s w.0 l n h.1) w.1 ls) d.dropped (own_numbers d.dropped) s.dropped)
+
+  all_classed : list_all (is_classed d) (all_lines d) ≡ true
+  all_classed =
+      let p = is_classed d in
+      both_pass p shown_lines (dropped_lines ++ (d.planned ++ d.ended)) shown_classed
+      (both_pass p dropped_lines (d.planned ++ d.ended) dropped_classed
+      (both_pass p d.planned d.ended (all_pass p d.planned (all_map {P = IsLineOf Planned} (λ l h. classed_planned d s l h.1) d.planned s.planned))
+      (all_pass p d.ended (all_map {P = IsLineOf Ended} (λ l h. classed_ended d s l h.1) d.ended s.ended))))
+
+  abbrev is_other : List ℕ → Bool
+  is_other l = not (is_of_class Ended l)
+
+  -- no line in front of the end lines is one
+  all_other : list_all is_other (shown_lines ++ (dropped_lines ++ d.planned)) ≡ true
+  all_other =
+      both_pass is_other shown_lines (dropped_lines ++ d.planned)
+      (all_parts is_other d.shown (all_named {N = λ o. IsPlainName o.0} {P = λ o. AllByRecursion (IsLineOf (Shown o.0)) o.1}
+      (λ o n ls. all_map {P = IsLineOf (Shown o.0)} (λ l h. ap not (shown_test Ended o.0 l n h.1)) o.1 ls) d.shown s.names s.shown))
+      (both_pass is_other dropped_lines d.planned
+      (all_parts is_other d.dropped (all_map {P = λ x. AllByRecursion (IsLineOf (Dropped x.0)) x.1}
+      (λ x ls. all_map {P = IsLineOf (Dropped x.0)} (λ l h. ap not (dropped_test Ended x.0 l tt h.1)) x.1 ls) d.dropped s.dropped))
+      (all_pass is_other d.planned (all_map {P = IsLineOf Planned} (λ l h. ap not (planned_test Ended l tt h.1)) d.planned s.planned)))
+
+  pub all_whole : IsWholeList d (all_lines d)
+  all_whole = record {
+    all = λ c here. lines_are c (plain_class d c s here);
+    classed = all_classed;
+    front = shown_lines ++ (dropped_lines ++ d.planned);
+    lines_are = sym (append_assoc shown_lines (dropped_lines ++ d.planned) d.ended ∙ ap (λ xs. shown_lines ++ xs) (append_assoc dropped_lines d.planned d.ended));
+    others = all_other;
+  }
+
+  -- the outputs one after another, then the drops, the plans and the end
+  pub all_order : IsOrder d (all_lines d)
+  all_order = whole_order d s (all_lines d) all_whole

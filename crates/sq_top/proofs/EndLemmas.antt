@@ -6,7 +6,9 @@ use Rattle.std.specs.List.{AllByRecursion, flat_map, list_all, list_any, zip}
 use Rattle.std.proofs.lemmas.Bool.Decides.{nat_tests}
 use Rattle.std.proofs.lemmas.List.Elements.{recursion_from_All}
 use Rattle.sq_value.specs.declared.Tuple.{Tuple}
-use Rattle.sq_value.specs.Lists.{contains_bytes}
+use Rattle.sq_value.specs.Lists.{contains_bytes, same_bytes, IsPrefixOf}
+use Rattle.sq_value.specs.Classes.{Shown, Ended}
+use Rattle.sq_value.proofs.ListLemmas.{same_bytes-refl}
 use Rattle.sq_value.specs.LineTexts.{line_of, needs_quotes, output_line, late_line, end_line}
 use Rattle.sq_value.specs.Texts.{text_of}
 use Rattle.sq_value.proofs.RowLemmas.{first_field-line_of, is_line-line_of}
@@ -19,7 +21,7 @@ use Rattle.sq_net.specs.declared.Source.{Source}
 use Rattle.sq_net.specs.declared.Node.{Node}
 use Rattle.sq_net.specs.declared.Output.{Output}
 use Rattle.sq_net.specs.Names.{has_name_form, is_lower, is_name, may_follow, reserved}
-use Rattle.sq_net.specs.Sound as sound
+use Rattle.sq_net.specs.Sound.{IsSound}
 use Rattle.sq_reader.specs.Networks.{network_in}
 use Rattle.sq_reader.proofs.SoundLemmas.{network_sound}
 use Rattle.sq_replay.specs.declared.why.Why.{Why}
@@ -31,14 +33,16 @@ use Rattle.sq_top.specs.declared.Command.TheVariants as command
 use Rattle.sq_top.specs.declared.Status.{Status}
 use Rattle.sq_top.specs.declared.Status.TheVariants as status
 use Rattle.sq_top.specs.Commands.{command_in}
-use Rattle.sq_top.specs.Due.{all_text, due_from, due_of, ended_from, fed_line, feds_from, is_sorter, late_lines, lates_from, shown_from}
+use Rattle.sq_top.specs.Due.{Due, all_lines, all_text, due_from, due_of, ended_from, fed_line, feds_from, is_sorter, late_lines, lates_from, shown_from}
 use Rattle.sq_top.specs.Answers.{IsPrefixText, IsWholeText}
 use Rattle.sq_top.specs.Writing.{IsLost}
 use Rattle.sq_top.specs.Scripts.{Lookup, Replay, Script, Done, accepted, after_network, after_stream, after_streams, after_words, go_on, outcome_of, readable, settings_limit, stream_limit}
 use Rattle.sq_top.specs.Causes.{AnswersPrefix, AnswersWhole, AppendsSuch, Ends, HasFailedAt, IsStopped, MatchAccepted, RefusalHasCause, WhereTold, World, is_refusal}
 use Rattle.sq_top.proofs.SortedLines.{and-true}
 use Rattle.sq_top.proofs.StoppedLemmas.{at_told, some_none, where_told}
-use Rattle.sq_top.proofs.DueLemmas.{is_end_field, IsEndLine, IsPlainName, IsShownLine, IsSound, prefix_text, whole_text}
+use Rattle.sq_top.proofs.ClassLemmas.{IsLineOf, IsPlainName, TellsClasses, is_end_field}
+use Rattle.sq_top.proofs.DueLemmas.{all_order, all_whole}
+use Rattle.sq_top.proofs.OrderLemmas.{prefix_text, whole_text}
 
 -- a name begins with a lower-case letter, and lower-case letters, digits and `_` follow
 name_parts : (b : ℕ) (bs : List ℕ) → is_name (b ∷ bs) ≡ true → (is_lower b ≡ true) × (list_all may_follow bs ≡ true)
@@ -65,13 +69,13 @@ none_quoted (b ∷ bs) h = let both = and-true (may_follow b) (list_all may_foll
 name_quoteless : (b : ℕ) (bs : List ℕ) → is_name (b ∷ bs) ≡ true → list_any needs_quotes (b ∷ bs) ≡ false
 name_quoteless b bs h = let parts = name_parts b bs h in rw (quoteless_lower b parts.0, none_quoted bs parts.1) refl
 
-shown_lines : (b : ℕ) (bs : List ℕ) (ys : List Tuple) → list_any needs_quotes (b ∷ bs) ≡ false → AllByRecursion (IsShownLine (b ∷ bs)) (map (output_line (b ∷ bs)) ys)
+shown_lines : (b : ℕ) (bs : List ℕ) (ys : List Tuple) → list_any needs_quotes (b ∷ bs) ≡ false → AllByRecursion (IsLineOf (Shown (b ∷ bs))) (map (output_line (b ∷ bs)) ys)
 shown_lines b bs [] h = tt
 shown_lines b bs (y ∷ ys) h =
     let fields = decimal y.time ∷ map text_of y.fields in
-    ((is_line-line_of ((b ∷ bs) ∷ fields), first_field-line_of b bs fields h), shown_lines b bs ys h)
+    ((is_line-line_of ((b ∷ bs) ∷ fields), subst (λ f. same_bytes f (b ∷ bs) ≡ true) (sym (first_field-line_of b bs fields h)) (same_bytes-refl (b ∷ bs))), shown_lines b bs ys h)
 
-end_line_of : (bs : List ℕ) (fields : List (List ℕ)) → list_any needs_quotes (64 ∷ bs) ≡ false → is_end_field (64 ∷ bs) ≡ true → IsEndLine (line_of ((64 ∷ bs) ∷ fields))
+end_line_of : (bs : List ℕ) (fields : List (List ℕ)) → list_any needs_quotes (64 ∷ bs) ≡ false → is_end_field (64 ∷ bs) ≡ true → IsLineOf Ended (line_of ((64 ∷ bs) ∷ fields))
 end_line_of bs fields plain ends =
     (is_line-line_of ((64 ∷ bs) ∷ fields), subst (λ f. is_end_field f ≡ true) (sym (first_field-line_of 64 bs fields plain)) ends)
 
@@ -79,7 +83,7 @@ plain_name : (w : List ℕ) → is_name w ≡ true → IsPlainName w
 plain_name [] h = absurd (cc)
 plain_name (b ∷ bs) h = plain_lower b (name_parts b bs h).0
 
-lines_shown : (w : List ℕ) (xs : List Tuple) → is_name w ≡ true → AllByRecursion (IsShownLine w) (map (output_line w) xs)
+lines_shown : (w : List ℕ) (xs : List Tuple) → is_name w ≡ true → AllByRecursion (IsLineOf (Shown w)) (map (output_line w) xs)
 lines_shown [] xs h = absurd (cc)
 lines_shown (b ∷ bs) xs h = shown_lines b bs xs (name_quoteless b bs h)
 
@@ -90,42 +94,44 @@ module _ (streams : List (List Tuple)) where
   names_plain (o ∷ os) (s ∷ ss) named = (plain_name o.name named.0, names_plain os ss named.1)
 
   outputs_shown : (os : List Output) (ss : List ℕ) → AllByRecursion (λ o. is_name o.name ≡ true) os
-      → AllByRecursion (λ o. AllByRecursion (IsShownLine o.0) o.1) (map (shown_from streams) (zip os ss))
+      → AllByRecursion (λ o. AllByRecursion (IsLineOf (Shown o.0)) o.1) (map (shown_from streams) (zip os ss))
   outputs_shown [] ss named = tt
   outputs_shown (o ∷ os) [] named = tt
   outputs_shown (o ∷ os) (s ∷ ss) named = (lines_shown o.name (nth streams s) named.0, outputs_shown os ss named.1)
 
 -- the box lines, the late lines and the last one
-module _ (rest : List (List ℕ)) (rest_ends : AllByRecursion IsEndLine rest) where
-  boxes_ended : (bs : List Node) (fed : List ℕ) → AllByRecursion IsEndLine (map fed_line (zip bs fed) ++ rest)
+module _ (rest : List (List ℕ)) (rest_ends : AllByRecursion (IsLineOf Ended) rest) where
+  boxes_ended : (bs : List Node) (fed : List ℕ) → AllByRecursion (IsLineOf Ended) (map fed_line (zip bs fed) ++ rest)
   boxes_ended [] fed = rest_ends
   boxes_ended (b ∷ bs) [] = rest_ends
   boxes_ended (b ∷ bs) (k ∷ fed) = (end_line_of (codes "box") (b.name ∷ decimal k ∷ []) refl refl, boxes_ended bs fed)
 
-  late_ended : (sorter : Bool) (name : List ℕ) (k : ℕ) (more : List (List ℕ)) → AllByRecursion IsEndLine more
-      → AllByRecursion IsEndLine ((if sorter then late_line name k ∷ [] else []) ++ more)
+  late_ended : (sorter : Bool) (name : List ℕ) (k : ℕ) (more : List (List ℕ)) → AllByRecursion (IsLineOf Ended) more
+      → AllByRecursion (IsLineOf Ended) ((if sorter then late_line name k ∷ [] else []) ++ more)
   late_ended true name k more ends = (end_line_of (codes "late") (name ∷ decimal k ∷ []) refl refl, ends)
   late_ended false name k more ends = ends
 
-  lates_ended : (bs : List Node) (late : List ℕ) → AllByRecursion IsEndLine (flat_map late_lines (zip bs late) ++ rest)
+  lates_ended : (bs : List Node) (late : List ℕ) → AllByRecursion (IsLineOf Ended) (flat_map late_lines (zip bs late) ++ rest)
   lates_ended [] late = rest_ends
   lates_ended (b ∷ bs) [] = rest_ends
   lates_ended (b ∷ bs) (k ∷ late) =
       rw (append_assoc (late_lines (b, k)) (flat_map late_lines (zip bs late)) rest)
       (late_ended (is_sorter b.body) b.name k (flat_map late_lines (zip bs late) ++ rest) (lates_ended bs late))
 
-all_ended : (n : Network) (streams : List (List Tuple)) → AllByRecursion IsEndLine (ended_from n streams)
+all_ended : (n : Network) (streams : List (List Tuple)) → AllByRecursion (IsLineOf Ended) (ended_from n streams)
 all_ended n streams =
     boxes_ended (flat_map late_lines (zip n.boxes (lates_from n streams)) ++ end_line ∷ [])
     (lates_ended (end_line ∷ []) (end_line_of (codes "end") [] refl refl, tt) n.boxes (lates_from n streams)) n.boxes (feds_from n streams)
 
 -- what is due of a sound network can be told apart by its classes
-pub due_is_sound : (n : Network) (streams : List (List Tuple)) → sound.IsSound n → IsSound (due_from n streams)
-due_is_sound n streams is =
+pub due_tells_classes : (n : Network) (streams : List (List Tuple)) → IsSound n → TellsClasses (due_from n streams)
+due_tells_classes n streams is =
     let named = recursion_from_All (λ (o : Output). is_name o.name ≡ true) n.outputs is.named in
     record {
       names = names_plain streams n.outputs n.wires.outputs named;
       shown = outputs_shown streams n.outputs n.wires.outputs named;
+      dropped = tt;
+      planned = tt;
       ended = all_ended n streams;
     }
 
@@ -134,42 +140,49 @@ abbrev IsFileOf : Network → Type 0
 IsFileOf n = (bytes : List ℕ) × (network_in bytes ≡ Ok n)
 
 module _ (files : Lookup) (n : Network) where
-  stream_ok : (number : ℕ) (more : List Tuple → Script) (r : Replay) (o : Result (List Tuple) (ℕ × Why)) → ((xs : List Tuple) → outcome_of files (more xs) ≡ Ok r → n ≡ r.0)
-      → outcome_of files (after_stream number more o) ≡ Ok r → n ≡ r.0
+  stream_ok : (number : ℕ) (more : List Tuple → Script) (r : Replay) (o : Result (List Tuple) (ℕ × Why)) → ((xs : List Tuple) → outcome_of files (more xs) ≡ Ok r → n ≡ r.network)
+      → outcome_of files (after_stream number more o) ≡ Ok r → n ≡ r.network
   stream_ok number more r (Ok xs) rest e = rest xs e
   stream_ok number more r (Err w) rest e = absurd (cc)
 
-  file_ok : (read : Result (List ℕ) Status) (more : List ℕ → Script) (r : Replay) → ((bytes : List ℕ) → outcome_of files (more bytes) ≡ Ok r → n ≡ r.0)
-      → go_on (λ s. Err s) (λ bytes. outcome_of files (more bytes)) read ≡ Ok r → n ≡ r.0
+  file_ok : (read : Result (List ℕ) Status) (more : List ℕ → Script) (r : Replay) → ((bytes : List ℕ) → outcome_of files (more bytes) ≡ Ok r → n ≡ r.network)
+      → go_on (λ s. Err s) (λ bytes. outcome_of files (more bytes)) read ≡ Ok r → n ≡ r.network
   file_ok (Ok bytes) more r rest e = rest bytes e
   file_ok (Err s) more r rest e = absurd (cc)
 
-  first_same : (read : List (List Tuple)) (r : Replay) → outcome_of files (Done (n, read)) ≡ Ok r → n ≡ r.0
-  first_same read r e = let same : (n, read) ≡ r = cc in ap (λ (p : Replay). p.0) same
+  first_same : (read : List (List Tuple)) (r : Replay) → outcome_of files (Done (record { network = n; sources = read })) ≡ Ok r → n ≡ r.network
+  first_same read r e = let same : record { network = n; sources = read } ≡ r = cc in ap (λ (p : Replay). p.network) same
 
-  streams_ok : (read : List (List Tuple)) (left : List Source) (r : Replay) → outcome_of files (after_streams n read left) ≡ Ok r → n ≡ r.0
+  streams_ok : (read : List (List Tuple)) (left : List Source) (r : Replay) → outcome_of files (after_streams n read left) ≡ Ok r → n ≡ r.network
   streams_ok read [] r e = first_same read r e
   streams_ok read (s ∷ left) r e =
       file_ok (readable s.file stream_limit (files s.file)) (λ bytes. after_stream (length read) (λ xs. after_streams n (read ++ xs ∷ []) left) (stream_in s.schema bytes)) r
       (λ bytes. stream_ok (length read) (λ xs. after_streams n (read ++ xs ∷ []) left) r (stream_in s.schema bytes) (λ xs. streams_ok (read ++ xs ∷ []) left r)) e
 
-network_ok : (files : Lookup) (bytes : List ℕ) (o : Result Network NetErr) (r : Replay) → network_in bytes ≡ o → outcome_of files (after_network o) ≡ Ok r → IsFileOf r.0
+network_ok : (files : Lookup) (bytes : List ℕ) (o : Result Network NetErr) (r : Replay) → network_in bytes ≡ o → outcome_of files (after_network o) ≡ Ok r → IsFileOf r.network
 network_ok files bytes (Ok n) r said e = (bytes, said ∙ ap (λ (x : Network). Ok x) (streams_ok files n [] n.sources r e))
 network_ok files bytes (Err s) r said e = absurd (cc)
 
 network_file_ok : (files : Lookup) (read : Result (List ℕ) Status) (r : Replay)
-    → go_on (λ s. Err s) (λ bytes. outcome_of files (after_network (network_in bytes))) read ≡ Ok r → IsFileOf r.0
+    → go_on (λ s. Err s) (λ bytes. outcome_of files (after_network (network_in bytes))) read ≡ Ok r → IsFileOf r.network
 network_file_ok files (Ok bytes) r e = network_ok files bytes (network_in bytes) r refl e
 network_file_ok files (Err s) r e = absurd (cc)
 
-command_ok : (files : Lookup) (o : Option Command) (r : Replay) → outcome_of files (after_words o) ≡ Ok r → IsFileOf r.0
+command_ok : (files : Lookup) (o : Option Command) (r : Replay) → outcome_of files (after_words o) ≡ Ok r → IsFileOf r.network
 command_ok files None r e = absurd (cc)
 command_ok files (Some (command.Run args)) r e = network_file_ok files (readable args.net settings_limit (files args.net)) r e
 
-pub accepted_is_sound : (files : Lookup) (words : List (List ℕ)) (r : Replay) → accepted files words ≡ Ok r → IsSound (due_of r)
-accepted_is_sound files words r e =
+pub accepted_tells_classes : (files : Lookup) (words : List (List ℕ)) (r : Replay) → accepted files words ≡ Ok r → TellsClasses (due_of r)
+accepted_tells_classes files words r e =
     let f = command_ok files (command_in words) r e in
-    due_is_sound r.0 (full_streams r.0 r.1) (network_sound f.0 r.0 f.1)
+    due_tells_classes r.network (full_streams r.network r.sources) (network_sound f.0 r.network f.1)
+
+-- the outputs one after another, and then the end lines, are one order of writing
+prefix_of_all : (d : Due) (text : List ℕ) → TellsClasses d → IsPrefixOf text (all_text d) → IsPrefixText d text
+prefix_of_all d text s prefix = prefix_text d (all_lines d) text s (all_order d s) prefix
+
+whole_of_all : (d : Due) → TellsClasses d → IsWholeText d (all_text d)
+whole_of_all d s = whole_text d (all_lines d) s (all_order d s) (all_whole d s).all
 
 -- nothing was written
 appends_none : (o : Option (List ℕ)) (P : List ℕ → Type 0) → P [] → AppendsSuch o o P
@@ -188,7 +201,7 @@ match_each (Err s) P Q p q = q s refl
 nothing_written : (files : Files) (words : List (List ℕ)) (out : Option (List ℕ)) (steps : ℕ) → AnswersPrefix files words out out steps steps
 nothing_written files words out steps =
     match_each (accepted (file files) words) _ _
-    (λ r e. (appends_none out (IsPrefixText (due_of r)) (prefix_text (due_of r) [] (accepted_is_sound (file files) words r e) (all_text (due_of r), refl)), omega arith))
+    (λ r e. (appends_none out (IsPrefixText (due_of r)) (prefix_of_all (due_of r) [] (accepted_tells_classes (file files) words r e) (all_text (due_of r), refl)), omega arith))
     (λ s e. (refl, refl))
 
 nothing_between : (files : Files) (words : List (List ℕ)) (out_before out_now : Option (List ℕ)) (steps_before steps_now : ℕ) → out_now ≡ out_before → steps_now ≡ steps_before
@@ -237,8 +250,8 @@ module _ (words : List (List ℕ)) (w : World) (r : Replay) (source : List ℕ) 
   accepted_at : (files : Files) → w.told ≡ Some files → accepted (file files) words ≡ Ok r
   accepted_at files t = at_told w.told (λ x. accepted (file x) words ≡ Ok r) files t replayed
 
-  sound_at : (files : Files) → w.told ≡ Some files → IsSound (due_of r)
-  sound_at files t = accepted_is_sound (file files) words r (accepted_at files t)
+  told_at : (files : Files) → w.told ≡ Some files → TellsClasses (due_of r)
+  told_at files t = accepted_tells_classes (file files) words r (accepted_at files t)
 
   refusal_at : (s : Status) → is_refusal s ≡ false → ((name : List ℕ) → s ≡ status.FolderFault name → ⊥)
       → WhereTold w.told (λ files. RefusalHasCause files words w.folder_before w.folder_now s)
@@ -248,12 +261,12 @@ module _ (words : List (List ℕ)) (w : World) (r : Replay) (source : List ℕ) 
     reached = λ name e. absurd (no_fault' name e);
   })
 
-  pub answered_ok : w.out_now ≡ appended w.out_before (all_text (due_of r)) → w.steps_now ≡ w.steps_before + work_of r.0 r.1 → Ends words w status.Ok source
+  pub answered_ok : w.out_now ≡ appended w.out_before (all_text (due_of r)) → w.steps_now ≡ w.steps_before + work_of r.network r.sources → Ends words w status.Ok source
   answered_ok out steps = record {
     ok = λ e. where_told w.told (λ files. AnswersWhole files words w.out_before w.out_now w.steps_before w.steps_now)
-        (λ files t. subst (λ o. MatchAccepted o (λ x. AppendsSuch w.out_before w.out_now (IsWholeText (due_of x)) × (w.steps_now ≡ w.steps_before + work_of x.0 x.1)) (λ u. ⊥))
+        (λ files t. subst (λ o. MatchAccepted o (λ x. AppendsSuch w.out_before w.out_now (IsWholeText (due_of x)) × (w.steps_now ≡ w.steps_before + work_of x.network x.sources)) (λ u. ⊥))
         (sym (accepted_at files t))
-        (appends_all w.out_before w.out_now (all_text (due_of r)) (IsWholeText (due_of r)) out (whole_text (due_of r) (sound_at files t)), steps));
+        (appends_all w.out_before w.out_now (all_text (due_of r)) (IsWholeText (due_of r)) out (whole_of_all (due_of r) (told_at files t)), steps));
     other = λ e. absurd (e refl);
     refused_early = λ e. absurd (cc);
     usage = record { only = λ e. absurd (cc); when = λ e. absurd (some_none (command_in words) some e) };
@@ -266,14 +279,14 @@ module _ (words : List (List ℕ)) (w : World) (r : Replay) (source : List ℕ) 
     named = tt;
   }
 
-  prefix_at : AppendsPrefix w.out_before w.out_now (all_text (due_of r)) → w.steps_now ≤ w.steps_before + work_of r.0 r.1
+  prefix_at : AppendsPrefix w.out_before w.out_now (all_text (due_of r)) → w.steps_now ≤ w.steps_before + work_of r.network r.sources
       → WhereTold w.told (λ files. AnswersPrefix files words w.out_before w.out_now w.steps_before w.steps_now)
   prefix_at out steps = where_told w.told (λ files. AnswersPrefix files words w.out_before w.out_now w.steps_before w.steps_now)
-      (λ files t. subst (λ o. MatchAccepted o (λ x. AppendsSuch w.out_before w.out_now (IsPrefixText (due_of x)) × (w.steps_now ≤ w.steps_before + work_of x.0 x.1)) (λ u. (w.out_now ≡ w.out_before) × (w.steps_now ≡ w.steps_before)))
+      (λ files t. subst (λ o. MatchAccepted o (λ x. AppendsSuch w.out_before w.out_now (IsPrefixText (due_of x)) × (w.steps_now ≤ w.steps_before + work_of x.network x.sources)) (λ u. (w.out_now ≡ w.out_before) × (w.steps_now ≡ w.steps_before)))
       (sym (accepted_at files t))
-      (appends_all w.out_before w.out_now out.0 (IsPrefixText (due_of r)) out.2 (prefix_text (due_of r) out.0 (sound_at files t) out.1), steps))
+      (appends_all w.out_before w.out_now out.0 (IsPrefixText (due_of r)) out.2 (prefix_of_all (due_of r) out.0 (told_at files t) out.1), steps))
 
-  answered_memory : AppendsPrefix w.out_before w.out_now (all_text (due_of r)) → w.steps_now ≤ w.steps_before + work_of r.0 r.1 → Ends words w status.Memory source
+  answered_memory : AppendsPrefix w.out_before w.out_now (all_text (due_of r)) → w.steps_now ≤ w.steps_before + work_of r.network r.sources → Ends words w status.Memory source
   answered_memory out steps = record {
     ok = λ e. absurd (cc);
     other = λ e. prefix_at out steps;
@@ -288,7 +301,7 @@ module _ (words : List (List ℕ)) (w : World) (r : Replay) (source : List ℕ) 
     named = tt;
   }
 
-  answered_sink : AppendsPrefix w.out_before w.out_now (all_text (due_of r)) → w.steps_now ≤ w.steps_before + work_of r.0 r.1 → Rose w.sink_before w.sink_now → Ends words w status.SinkFault source
+  answered_sink : AppendsPrefix w.out_before w.out_now (all_text (due_of r)) → w.steps_now ≤ w.steps_before + work_of r.network r.sources → Rose w.sink_before w.sink_now → Ends words w status.SinkFault source
   answered_sink out steps rose = record {
     ok = λ e. absurd (cc);
     other = λ e. prefix_at out steps;
@@ -303,7 +316,7 @@ module _ (words : List (List ℕ)) (w : World) (r : Replay) (source : List ℕ) 
   }
 
   -- the answer is lost on the way
-  pub answered_lost : (s : Status) → AppendsPrefix w.out_before w.out_now (all_text (due_of r)) → w.steps_now ≤ w.steps_before + work_of r.0 r.1 → IsLost w.sink_before w.sink_now s
+  pub answered_lost : (s : Status) → AppendsPrefix w.out_before w.out_now (all_text (due_of r)) → w.steps_now ≤ w.steps_before + work_of r.network r.sources → IsLost w.sink_before w.sink_now s
       → Ends words w s source
   answered_lost s out steps (inl memory) = subst (λ x. Ends words w x source) (sym memory) (answered_memory out steps)
   answered_lost s out steps (inr sink) = subst (λ x. Ends words w x source) (sym sink.0) (answered_sink out steps sink.1)

@@ -1,3 +1,5 @@
+pub mod ClassLemmas
+pub mod OrderLemmas
 pub mod DueLemmas
 pub mod EndLemmas
 mod Rows

@@ -60,7 +60,7 @@ abbrev at : ℕ → ℕ → Tuple
 at t v = record { time = t; fields = value.Int (pos v) ∷ [] }
 
 abbrev replay : Replay
-replay = (network, (at 1 10 ∷ at 3 11 ∷ at 3 12 ∷ []) ∷ (at 2 20 ∷ at 3 21 ∷ []) ∷ [])
+replay = record { network = network; sources = (at 1 10 ∷ at 3 11 ∷ at 3 12 ∷ []) ∷ (at 2 20 ∷ at 3 21 ∷ []) ∷ [] }
 
 text_is : all_text (due_of replay) ≡ codes "o,1,10\no,2,20\no,3,11\no,3,12\no,3,21\n@box,u,5\n@end\n"
 unfolding digits
@@ -75,7 +75,7 @@ unfolding digits
 ended_is = refl
 
 -- five at the box and five at the output
-work_is : work_of network replay.1 ≡ 10
+work_is : work_of network replay.sources ≡ 10
 work_is = refl
 
 -- a BSort that has no room: what comes too late has a line of its own
@@ -83,17 +83,17 @@ abbrev sort_box : Node
 sort_box = record { name = codes "bs"; body = BSort 0 0; schemas = ((codes "at", kind.Int) ∷ []) ∷ []; cost = 1; selectivity = 1000 ∷ [] }
 
 abbrev sorted : Replay
-sorted = (
-  record {
+sorted = record {
+  network = record {
     epoch = 1000;
     batch = 1;
     wires = record { sources = 1; boxes = record { kind = boxes.BSort; inputs = 0 ∷ []; ports = 1 } ∷ []; outputs = 1 ∷ [] };
     sources = record { name = codes "s"; file = codes "s.csv"; schema = (codes "at", kind.Int) ∷ [] } ∷ [];
     boxes = sort_box ∷ [];
     outputs = output ∷ [];
-  },
-  (at 5 3 ∷ at 6 1 ∷ at 7 2 ∷ []) ∷ [],
-)
+  };
+  sources = (at 5 3 ∷ at 6 1 ∷ at 7 2 ∷ []) ∷ [];
+}
 
 late_is : all_text (due_of sorted) ≡ codes "o,3,3\n@box,bs,3\n@late,bs,2\n@end\n"
 unfolding digits
@@ -150,6 +150,6 @@ first_bad : outcome_of (λ name. Some (codes "2,x\n")) (after_network (Ok networ
 unfolding is_utf8 chars encode_utf8
 first_bad = refl
 
-all_read : outcome_of (λ name. Some (codes "2,7\n")) (after_network (Ok network)) ≡ Ok (network, (at 2 7 ∷ []) ∷ (at 2 7 ∷ []) ∷ [])
+all_read : outcome_of (λ name. Some (codes "2,7\n")) (after_network (Ok network)) ≡ Ok (record { network = network; sources = (at 2 7 ∷ []) ∷ (at 2 7 ∷ []) ∷ [] })
 unfolding is_utf8 chars encode_utf8
 all_read = refl

@@ -26,7 +26,7 @@ use Rattle.sq_replay.specs.Streams.{stream_in}
 use Rattle.sq_top.specs.Commands.{command_in}
 use Rattle.sq_top.specs.Messages.{name_at, name_in, network_named, source_name}
 use Rattle.sq_top.specs.Scripts.{Script, Reads, Done, Stops, Lookup, Replay, accepted, after_network, after_stream, after_streams, after_words, go_on, outcome_of, readable, reads_of, script_of, settings_limit, stream_limit}
-use Rattle.sq_top.specs.Causes.{AreBytesOf, HasFailedAt, HasNoStream, HasNoStreams, IsNoCommand, IsRefusedBy, IsStopped, IsStreamOf, IsUnread, Leads, LeadsWhereTold, MatchAccepted, NamesSource, RefusalHasCause, WhereTold, is_network}
+use Rattle.sq_top.specs.Causes.{AreBytesOf, HasFailedAt, HasNoStream, HasNoStreams, IsNoCommand, IsRefusedBy, IsStopped, IsStreamOf, IsUnread, Leads, LeadsWhereTold, MatchAccepted, NamesSource, RefusalHasCause, WhereTold, FilePart, NetworkFile, StreamFile, is_network, limit_of, may_be}
 use Rattle.sq_top.proofs.SortedLines.{and-true}
 
 match_any : (r : Result Replay Status) (P : Replay → Type 0) (Q : Status → Type 0) → ((x : Replay) → P x) → ((s : Status) → Q s) → MatchAccepted r P Q
@@ -180,7 +180,7 @@ module _ (words : List (List ℕ)) (told : Option Files) (fb fn tb tn : ℕ) (so
     no_memory = λ e. absurd (cc);
   }
 
-  stopped_long : ((other : List ℕ) → name ≡ other → ((is_network (command_in words) other ≡ true) × RoseBy (settings_limit + 1) tb tn) ⊎ RoseBy (stream_limit + 1) tb tn)
+  stopped_long : ((other : List ℕ) → name ≡ other → (p : FilePart) × (may_be (command_in words) p other ≡ true) × RoseBy (limit_of p + 1) tb tn)
       → WhereTold told (λ files. IsLonger files name limit) → IsStopped words told fb fn tb tn (status.TooLong name) source
   stopped_long long longer = record {
     usage = record { only = λ e. absurd (cc); when = λ e. absurd (some_none (command_in words) some e) };
@@ -195,7 +195,7 @@ module _ (words : List (List ℕ)) (told : Option Files) (fb fn tb tn : ℕ) (so
     no_memory = λ e. absurd (cc);
   }
 
-  pub stopped_unread : (s : Status) → (RoseBy (limit + 1) tb tn → (other : List ℕ) → name ≡ other → ((is_network (command_in words) other ≡ true) × RoseBy (settings_limit + 1) tb tn) ⊎ RoseBy (stream_limit + 1) tb tn)
+  pub stopped_unread : (s : Status) → (RoseBy (limit + 1) tb tn → (other : List ℕ) → name ≡ other → (p : FilePart) × (may_be (command_in words) p other ≡ true) × RoseBy (limit_of p + 1) tb tn)
       → IsUnread told name limit fb fn tb tn s → IsStopped words told fb fn tb tn s source
   stopped_unread s long (inl e) = subst (λ x. IsStopped words told fb fn tb tn x source) (sym e) (stopped_memory words told fb fn tb tn source)
   stopped_unread s long (inr (inl fault)) = subst (λ x. IsStopped words told fb fn tb tn x source) (sym fault.0) (stopped_fault fault.1)
@@ -261,7 +261,7 @@ module _ (words : List (List ℕ)) (args : RunArgs) (command : command_in words 
   pub stopped_network : (fb fn tb tn : ℕ) (s : Status) (source : List ℕ) → IsUnread told args.net settings_limit fb fn tb tn s → IsStopped words told fb fn tb tn s source
   stopped_network fb fn tb tn s source unread =
       stopped_unread words told fb fn tb tn source args.net settings_limit (λ bytes. after_network (network_in bytes)) is_command network_comes s
-      (λ rose other e. inl (net_is_network other e, rose)) unread
+      (λ rose other e. (NetworkFile, net_is_network other e, rose)) unread
 
   module _ (bytes : List ℕ) (whole : WhereTold told (λ files. readable args.net settings_limit (file files args.net) ≡ Ok bytes)) where
     -- what the file's bytes say comes next
@@ -365,11 +365,11 @@ module _ (words : List (List ℕ)) (told : Option Files) (n : Network) (some : I
 
   pub stopped_streams : (fb fn tb tn : ℕ) (result : Status) (source : List ℕ) → HasNoStreams told n fb fn tb tn result source → IsStopped words told fb fn tb tn result source
   stopped_streams fb fn tb tn result source (inl (s, more, to, unread)) =
-      stopped_unread words told fb fn tb tn source s.file stream_limit more some (told_then told _ _ _ leads to) result (λ rose other e. inr rose) unread
+      stopped_unread words told fb fn tb tn source s.file stream_limit more some (told_then told _ _ _ leads to) result (λ rose other e. (StreamFile, some, rose)) unread
   stopped_streams fb fn tb tn result source (inr (number, s, line, why, at, to, bad)) =
       subst (λ x. IsStopped words told fb fn tb tn x source) (sym bad.0)
       (stopped_rule words told fb fn tb tn source (status.BadStream number line why) tt some (told_then told _ _ _ leads to) (names_source number s source at bad.1))
 
-  pub accepted_streams : (ss : List (List Tuple)) → LeadsWhereTold told (after_streams n [] n.sources) (Done (n, ss))
-      → WhereTold told (λ files. accepted (file files) words ≡ Ok (n, ss))
-  accepted_streams ss to = where_told told (λ files. accepted (file files) words ≡ Ok (n, ss)) (λ files e. (at_told told _ files e (told_then told _ _ _ leads to)).outcome)
+  pub accepted_streams : (ss : List (List Tuple)) → LeadsWhereTold told (after_streams n [] n.sources) (Done (record { network = n; sources = ss }))
+      → WhereTold told (λ files. accepted (file files) words ≡ Ok (record { network = n; sources = ss }))
+  accepted_streams ss to = where_told told (λ files. accepted (file files) words ≡ Ok (record { network = n; sources = ss })) (λ files e. (at_told told _ files e (told_then told _ _ _ leads to)).outcome)

@@ -1,6 +1,7 @@
 -- What a run has written: the whole lines of each class, or a prefix of each.
 use Rattle.std.specs.Prelude.{◌≡◌, ◌≢◌, ◌⊎◌, ℕ, Bool, true, not, ◌||◌, ⊤, IsTrue, List, [], ◌++◌, length, IsSomeAnd, slice_get}
 use Rattle.std.specs.List.{filter, flat_map, list_any, list_all}
+use Rattle.std.specs.Fmt.{decimal}
 use Rattle.sq_value.specs.Lists.{same_bytes, IsPrefixOf}
 use Rattle.sq_value.specs.Classes.{Class, Shown, Dropped, Planned, Ended, is_of_class, of_class, whole_lines, unfinished}
 use Rattle.sq_top.specs.Due.{Due}
@@ -8,8 +9,8 @@ use Rattle.sq_top.specs.Due.{Due}
 -- the lines that belong to a class
 abbrev pub lines_of : Due → Class → List (List ℕ)
 lines_of d (Shown name) = flat_map (λ o. o.1) (filter (λ o. same_bytes o.0 name) d.shown)
-lines_of d (Dropped w) = []
-lines_of d Planned = []
+lines_of d (Dropped w) = flat_map (λ x. x.1) (filter (λ x. same_bytes (decimal x.0) (decimal w)) d.dropped)
+lines_of d Planned = d.planned
 lines_of d Ended = d.ended
 
 -- the classes of a run: one for each output, one for each drop, the plans and the end
@@ -21,12 +22,18 @@ IsClassIn d Ended = ⊤
 
 -- whether a line belongs to a class
 abbrev pub is_classed : Due → List ℕ → Bool
-is_classed d line = list_any (λ o. is_of_class (Shown o.0) line) d.shown || is_of_class Ended line
+is_classed d line =
+    list_any (λ o. is_of_class (Shown o.0) line) d.shown || list_any (λ x. is_of_class (Dropped x.0) line) d.dropped
+    || is_of_class Planned line || is_of_class Ended line
 
 -- the end lines stand last
 abbrev pub EndsLast : Due → List ℕ → Type 0
 EndsLast d text =
     (before : List (List ℕ)) × (whole_lines text ≡ before ++ d.ended) × (list_all (λ line. not (is_of_class Ended line)) before ≡ true)
+
+-- of each class but that of the end lines these lines are all
+abbrev pub AreOthersAll : Due → List (List ℕ) → Type 0
+AreOthersAll d lines = (c : Class) → IsClassIn d c → c ≢ Ended → filter (is_of_class c) lines ≡ lines_of d c
 
 -- the text has exactly the lines of each class, and nothing else
 pub record IsWholeText (d : Due) (text : List ℕ) : Type 0 where
@@ -42,7 +49,7 @@ BeginsNext d text c =
 
 -- all classes but that of the end lines are whole
 abbrev pub AreOthersWhole : Due → List ℕ → Type 0
-AreOthersWhole d text = (c : Class) → IsClassIn d c → c ≢ Ended → of_class c text ≡ lines_of d c
+AreOthersWhole d text = AreOthersAll d (whole_lines text)
 
 -- the text has a prefix of the lines of each class, and maybe a part of one line
 pub record IsPrefixText (d : Due) (text : List ℕ) : Type 0 where

@@ -1,5 +1,5 @@
 -- Which status comes of which cause.
-use Rattle.std.specs.Prelude.{◌≡◌, ◌≢◌, ◌⊎◌, ℕ, ◌+◌, ◌≤◌, Bool, true, false, ⊤, List, [], ◌++◌, Option, Some, None, IsSome, IsSomeAnd, slice_get, Result, Ok, Err}
+use Rattle.std.specs.Prelude.{◌≡◌, ◌≢◌, ◌⊎◌, ℕ, ◌+◌, ◌≤◌, Bool, true, false, ⊤, List, [], ◌++◌, Option, Some, None, is_some, IsSome, IsSomeAnd, slice_get, Result, Ok, Err}
 use Rattle.sq_value.specs.Lists.{contains_bytes, same_bytes, IsPrefixOf}
 use Rattle.sq_outside.specs.Faults.{Rose, RoseBy}
 use Rattle.sq_outside.specs.Folders.{Files, IsLonger, file}
@@ -24,9 +24,13 @@ use Rattle.sq_top.specs.Answers.{IsWholeText, IsPrefixText}
 -- the statuses of refusals: nothing was replayed
 abbrev pub is_refusal : Status → Bool
 is_refusal status.Ok = false
+is_refusal status.Usage = true
+is_refusal (status.BadNetwork e) = true
+is_refusal (status.BadStream number line why) = true
+is_refusal (status.FolderFault name) = true
 is_refusal status.SinkFault = false
+is_refusal (status.TooLong name) = true
 is_refusal status.Memory = false
-is_refusal s = true
 
 -- a sink that told what it held tells it still, with a text appended of which P holds
 abbrev pub AppendsSuch : Option (List ℕ) → Option (List ℕ) → (List ℕ → Type 0) → Type 0
@@ -67,24 +71,38 @@ abbrev pub is_network : Option Command → List ℕ → Bool
 is_network None name = false
 is_network (Some (command.Run args)) name = same_bytes args.net name
 
+-- what a file is to a run: its network, or a source's stream
+pub data FilePart : Type 0 where
+  NetworkFile : FilePart
+  StreamFile : FilePart
+
+-- how many bytes a file of this part may have
+abbrev pub limit_of : FilePart → ℕ
+limit_of NetworkFile = settings_limit
+limit_of StreamFile = stream_limit
+
+-- whether a file of this name may have this part: which files are streams the network's file alone says
+abbrev pub may_be : Option Command → FilePart → List ℕ → Bool
+may_be c NetworkFile name = is_network c name
+may_be c StreamFile name = is_some c
+
 -- over every folder: it is at fault only where its count rose, or where it tells its files; a file is too long only where more was
--- taken than a file of its part may have; neither comes but of a command
+-- taken than a file of its part may have
 pub record FolderHasCause (words : List (List ℕ)) (told : Option Files) (faults_before faults_now taken_before taken_now : ℕ) (result : Status) : Type 0 where
   pub failed : (name : List ℕ) → result ≡ status.FolderFault name → Rose faults_before faults_now ⊎ IsSome told
   pub too_long : (name : List ℕ) → result ≡ status.TooLong name →
-      ((is_network (command_in words) name ≡ true) × RoseBy (settings_limit + 1) taken_before taken_now)
-      ⊎ RoseBy (stream_limit + 1) taken_before taken_now
+      (p : FilePart) × (may_be (command_in words) p name ≡ true) × RoseBy (limit_of p + 1) taken_before taken_now
 
 -- at Ok the text is whole and the steps are the work
 abbrev pub AnswersWhole : Files → List (List ℕ) → Option (List ℕ) → Option (List ℕ) → ℕ → ℕ → Type 0
 AnswersWhole files words out_before out_now steps_before steps_now = MatchAccepted (accepted (file files) words)
-    (λ r. AppendsSuch out_before out_now (IsWholeText (due_of r)) × (steps_now ≡ steps_before + work_of r.0 r.1))
+    (λ r. AppendsSuch out_before out_now (IsWholeText (due_of r)) × (steps_now ≡ steps_before + work_of r.network r.sources))
     (λ s. ⊥)
 
 -- at another status it is a prefix, with no more steps than the work; nothing where a rule is broken
 abbrev pub AnswersPrefix : Files → List (List ℕ) → Option (List ℕ) → Option (List ℕ) → ℕ → ℕ → Type 0
 AnswersPrefix files words out_before out_now steps_before steps_now = MatchAccepted (accepted (file files) words)
-    (λ r. AppendsSuch out_before out_now (IsPrefixText (due_of r)) × (steps_now ≤ steps_before + work_of r.0 r.1))
+    (λ r. AppendsSuch out_before out_now (IsPrefixText (due_of r)) × (steps_now ≤ steps_before + work_of r.network r.sources))
     (λ s. (out_now ≡ out_before) × (steps_now ≡ steps_before))
 
 -- the message: whole, or a part of it where the sink for messages has failed

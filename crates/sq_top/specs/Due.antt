@@ -13,14 +13,16 @@ use Rattle.sq_model.specs.Full.{nth, full_streams}
 use Rattle.sq_model.specs.Fed.{fed_from, late_from}
 use Rattle.sq_top.specs.Scripts.{Replay}
 
--- the lines of each output, by its name, and the end lines
+-- the lines of each output, by its name, those of each drop, by its number, those of the plans, and the end lines
 pub record Due : Type 0 where
   pub shown : List (List ℕ × List (List ℕ))
+  pub dropped : List (ℕ × List (List ℕ))
+  pub planned : List (List ℕ)
   pub ended : List (List ℕ)
 
 -- all lines, in the order in which a run writes them, and their text
 abbrev pub all_lines : Due → List (List ℕ)
-all_lines d = flat_map (λ o. o.1) d.shown ++ d.ended
+all_lines d = flat_map (λ o. o.1) d.shown ++ (flat_map (λ w. w.1) d.dropped ++ (d.planned ++ d.ended))
 
 abbrev pub all_text : Due → List ℕ
 all_text d = flat_map (λ line. line) (all_lines d)
@@ -57,9 +59,10 @@ abbrev pub ended_from : Network → List (List Tuple) → List (List ℕ)
 ended_from n streams =
     map fed_line (zip n.boxes (feds_from n streams)) ++ (flat_map late_lines (zip n.boxes (lates_from n streams)) ++ end_line ∷ [])
 
+-- nothing is dropped and nothing is planned
 abbrev pub due_from : Network → List (List Tuple) → Due
-due_from n streams = record { shown = map (shown_from streams) (outputs_of n); ended = ended_from n streams }
+due_from n streams = record { shown = map (shown_from streams) (outputs_of n); dropped = []; planned = []; ended = ended_from n streams }
 
 -- each output shows its full answer, and each box is fed all that it takes
 abbrev pub due_of : Replay → Due
-due_of r = due_from r.0 (full_streams r.0 r.1)
+due_of r = due_from r.network (full_streams r.network r.sources)

@@ -4,4 +4,5 @@ pub mod Due
 pub mod Answers
 pub mod Writing
 pub mod Messages
+pub mod Orders
 pub mod Causes

@@ -14,8 +14,9 @@ use Rattle.sq_top.specs.declared.Status.TheVariants as status
 use Rattle.sq_top.specs.Commands.{command_in}
 
 -- what was accepted: a network, and the tuples of each of its sources
-abbrev pub Replay : Type 0
-Replay = Network × List (List Tuple)
+pub record Replay : Type 0 where
+  pub network : Network
+  pub sources : List (List Tuple)
 
 -- a file is read and its bytes say what comes next; or all was read; or a rule is broken
 pub data Script : Type 0 where
@@ -37,7 +38,7 @@ after_stream number more (Err e) = Stops (status.BadStream number e.0 e.1)
 
 -- the sources that are left, where these streams were read: each source's file is read and kept before the next is read
 abbrev pub after_streams : Network → List (List Tuple) → List Source → Script
-after_streams n read [] = Done (n, read)
+after_streams n read [] = Done (record { network = n; sources = read })
 after_streams n read (s ∷ left) =
     Reads s.file stream_limit (λ bytes. after_stream (length read) (λ xs. after_streams n (read ++ xs ∷ []) left) (stream_in s.schema bytes))
 

@@ -15,8 +15,6 @@ ghost use Rattle.sq_top.specs.Causes.{AnswersPrefix, AnswersWhole, FolderHasCaus
 ghost use Rattle.sq_top.specs.Messages.{code_of};
 ghost use Rattle.sq_top.specs.Scripts.{accepted};
 
-#[cfg(test)]
-mod box_tests;
 mod messages;
 mod reading;
 mod running;

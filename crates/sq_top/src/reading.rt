@@ -198,7 +198,7 @@ fn streams_of<F: Folder>(
     folder: &mut F,
 ) -> Result<Vec<Vec<Tuple>>, Stopped>
     requires { IsSound network.now }
-    ensures leads { IfOk result (λ v. LeadsWhereTold (F.files folder.old) (after_streams network.now [] network.now.sources) (Done (network.now, map (λ xs. xs.items) v.items))) }
+    ensures leads { IfOk result (λ v. LeadsWhereTold (F.files folder.old) (after_streams network.now [] network.now.sources) (Done (record { network = network.now; sources = map (λ xs. xs.items) v.items }))) }
     ensures even { IfOk result (λ v. length v.items ≡ length network.now.sources) }
     ensures streams { IfOk result (λ v. All IsStream (map (λ xs. xs.items) v.items)) }
     ensures stopped { IfErr result (λ s. HasNoStreams (F.files folder.old) network.now (F.faults folder.old) (F.faults folder.new) (F.taken folder.old) (F.taken folder.new) s.status (source_of s.source)) }
@@ -229,7 +229,7 @@ pub fn prepare<F: Folder>(
     ensures sound { IfOk result (λ r. IsSound r.0) }
     ensures even { IfOk result (λ r. length r.1.items ≡ length (r.0).sources) }
     ensures streams { IfOk result (λ r. All IsStream (map (λ xs. xs.items) r.1.items)) }
-    ensures accepted { IfOk result (λ r. WhereTold (F.files folder.old) (λ files. accepted (file files) (map string_bytes words.now.items) ≡ Ok (r.0, map (λ xs. xs.items) r.1.items))) }
+    ensures accepted { IfOk result (λ r. WhereTold (F.files folder.old) (λ files. accepted (file files) (map string_bytes words.now.items) ≡ Ok (record { network = r.0; sources = map (λ xs. xs.items) r.1.items }))) }
     ensures stopped { IfErr result (λ s. IsStopped (map string_bytes words.now.items) (F.files folder.old) (F.faults folder.old) (F.faults folder.new) (F.taken folder.old) (F.taken folder.new) s.status (source_of s.source)) }
     ensures files { F.files folder.new ≡ F.files folder.old }
     ensures later { (F.faults folder.old ≤ F.faults folder.new) × (F.taken folder.old ≤ F.taken folder.new) }

@@ -238,8 +238,8 @@ pub fn write_answer<S: Sink, L: Ledger>(
     requires sound { IsSound network.now }
     requires sources { length sources.items ≡ length network.now.sources }
     requires streams { All IsStream (map (λ xs. xs.items) sources.items) }
-    ensures ok { OnOk result (S.written out.new ≡ appended (S.written out.old) (all_text (due_of (network.now, map (λ xs. xs.items) sources.items)))) }
-    ensures err { OnErr result (AppendsPrefix (S.written out.old) (S.written out.new) (all_text (due_of (network.now, map (λ xs. xs.items) sources.items)))) }
+    ensures ok { OnOk result (S.written out.new ≡ appended (S.written out.old) (all_text (due_of (record { network = network.now; sources = map (λ xs. xs.items) sources.items })))) }
+    ensures err { OnErr result (AppendsPrefix (S.written out.old) (S.written out.new) (all_text (due_of (record { network = network.now; sources = map (λ xs. xs.items) sources.items })))) }
     ensures lost { IfErr result (λ s. IsLost (S.faults out.old) (S.faults out.new) s) }
     ensures later { S.faults out.old ≤ S.faults out.new }
     ensures steps { OnOk result (steps.new ≡ steps.old + work_of network.now (map (λ xs. xs.items) sources.items)) }

@@ -4,10 +4,10 @@ ghost use Rattle.toml.specs.Data.{get_member};
 ghost use Rattle.toml.specs.View.{view, table_view, array_view};
 ghost use Rattle.sq_tables.specs.Documents.{each_item, list_in, required};
 ghost use Rattle.sq_tables.specs.Readings.{Reads};
-ghost use Rattle.sq_tables.specs.Shapes.{counting_in, function_in, giving_in, over_named};
+ghost use Rattle.sq_tables.specs.Shapes.{counting_in, function_in, answer_column_in, over_named};
 
 use crate::document::{Array, Table, Unread, Value, text_in, value_at};
-use crate::raw::{Giving, Over, Told};
+use crate::raw::{AnswerColumn, Over, Answer};
 use sq_value::{ListOf, same_text};
 use std::alloc::{AllocError, Global};
 
@@ -35,7 +35,7 @@ fn over_named(word: &str) -> Option<Over>
     None
 }
 
-fn counting_in(alloc: Global, name: &Value, word: &Value) -> Result<Giving, Unread>
+fn counting_in(alloc: Global, name: &Value, word: &Value) -> Result<AnswerColumn, Unread>
     ensures { Reads result (counting_in (view name.now) (view word.now)) }
 {
     let name = text_in(alloc, name)?;
@@ -45,13 +45,13 @@ fn counting_in(alloc: Global, name: &Value, word: &Value) -> Result<Giving, Unre
     if !same_text(word, "count") {
         return Err(Unread::Shape);
     }
-    Ok(Giving {
+    Ok(AnswerColumn {
         name,
-        told: Told::Count,
+        answer: Answer::Count,
     })
 }
 
-fn function_in(alloc: Global, name: &Value, word: &Value, field: &Value) -> Result<Giving, Unread>
+fn function_in(alloc: Global, name: &Value, word: &Value, field: &Value) -> Result<AnswerColumn, Unread>
     ensures { Reads result (function_in (view name.now) (view word.now) (view field.now)) }
 {
     let name = text_in(alloc, name)?;
@@ -62,14 +62,14 @@ fn function_in(alloc: Global, name: &Value, word: &Value, field: &Value) -> Resu
     let Some(over) = over_named(word) else {
         return Err(Unread::Shape);
     };
-    Ok(Giving {
+    Ok(AnswerColumn {
         name,
-        told: Told::Field { over, field },
+        answer: Answer::Field { over, field },
     })
 }
 
-fn giving_in(alloc: Global, value: &Value) -> Result<Giving, Unread>
-    ensures { Reads result (giving_in (view value.now)) }
+fn answer_column_in(alloc: Global, value: &Value) -> Result<AnswerColumn, Unread>
+    ensures { Reads result (answer_column_in (view value.now)) }
 {
     let Some(items) = value.as_array() else {
         return Err(Unread::Shape);
@@ -83,13 +83,13 @@ fn giving_in(alloc: Global, value: &Value) -> Result<Giving, Unread>
     Err(Unread::Shape)
 }
 
-fn givings_among(alloc: Global, items: &Array) -> Result<Option<Vec<Giving>>, AllocError>
-    ensures { IfOk result (λ o. option_map (λ v. v.items) o ≡ each_item giving_in (array_view items.now)) }
+fn answer_columns_among(alloc: Global, items: &Array) -> Result<Option<Vec<AnswerColumn>>, AllocError>
+    ensures { IfOk result (λ o. option_map (λ v. v.items) o ≡ each_item answer_column_in (array_view items.now)) }
 {
     let mut found = Vec::new(alloc);
     for item in items {
-        match giving_in(alloc, item) {
-            Ok(giving) => found.push(giving)?,
+        match answer_column_in(alloc, item) {
+            Ok(column) => found.push(column)?,
             Err(Unread::Shape) => return Ok(None),
             Err(Unread::Memory) => return Err(AllocError),
         }
@@ -98,8 +98,8 @@ fn givings_among(alloc: Global, items: &Array) -> Result<Option<Vec<Giving>>, Al
 }
 
 /// The list at the key `give`.
-pub(crate) fn givings_at(alloc: Global, table: &Table) -> Result<ListOf<Giving>, Unread>
-    ensures { Reads result (required (list_in giving_in) (get_member (codes "give") (table_view table.now))) }
+pub(crate) fn answer_columns_at(alloc: Global, table: &Table) -> Result<ListOf<AnswerColumn>, Unread>
+    ensures { Reads result (required (list_in answer_column_in) (get_member (codes "give") (table_view table.now))) }
 {
     let Some(value) = value_at(table, "give") else {
         return Err(Unread::Shape);
@@ -107,8 +107,8 @@ pub(crate) fn givings_at(alloc: Global, table: &Table) -> Result<ListOf<Giving>,
     let Some(items) = value.as_array() else {
         return Err(Unread::Shape);
     };
-    match givings_among(alloc, items)? {
-        Some(givings) => Ok(ListOf::new(givings)),
+    match answer_columns_among(alloc, items)? {
+        Some(columns) => Ok(ListOf::new(columns)),
         None => Err(Unread::Shape),
     }
 }

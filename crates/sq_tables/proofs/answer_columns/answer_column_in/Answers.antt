@@ -2,11 +2,11 @@ use Rattle.std.proofs.Common.{◌≡◌, ◌≢◌, List, [], ◌∷◌, length,
 use Rattle.toml.specs.Data.{array}
 use Rattle.toml.specs.View.{view, items_view, array_view}
 use Rattle.toml.specs.declared.value.Value.{Value}
-use Rattle.sq_tables.specs.Shapes.{giving_in}
+use Rattle.sq_tables.specs.Shapes.{answer_column_in}
 use Rattle.sq_tables.proofs.DocumentLemmas.{is_array}
-use Rattle.sq_tables.proofs.giving.giving_in.Goals as goal
+use Rattle.sq_tables.proofs.answer_columns.answer_column_in.Goals as goal
 
-not_two_or_three : (vs : List Value) → length vs ≢ 2 → length vs ≢ 3 → giving_in (array (items_view vs)) ≡ None
+not_two_or_three : (vs : List Value) → length vs ≢ 2 → length vs ≢ 3 → answer_column_in (array (items_view vs)) ≡ None
 not_two_or_three [] two three = refl
 not_two_or_three (a ∷ []) two three = refl
 not_two_or_three (a ∷ b ∷ []) two three = absurd (two (omega arith))

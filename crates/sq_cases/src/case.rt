@@ -1,0 +1,77 @@
+// A case: what a run is over.
+use crate::texts::{items_of, numbers_of, written_out};
+use std::alloc::{AllocError, Global};
+
+/// The words, the files and the calls that are to fail of a run.
+#[derive(Drop)]
+pub struct Case {
+    pub words: Vec<String>,
+    pub files: Vec<(String, Vec<u8>)>,
+    pub folder_fails: Vec<u64>,
+    pub out_fails: Vec<u64>,
+    pub err_fails: Vec<u64>,
+    /// How many bytes a call of a sink takes.
+    pub takes: usize,
+}
+
+impl Case {
+    /// `run a.toml` over an empty folder, where nothing fails.
+    fn new(alloc: Global) -> Result<Case, AllocError> {
+        Ok(Case {
+            words: items_of(alloc, "run,a.toml")?,
+            files: Vec::new(alloc),
+            folder_fails: Vec::new(alloc),
+            out_fails: Vec::new(alloc),
+            err_fails: Vec::new(alloc),
+            takes: 4096,
+        })
+    }
+
+    /// Takes a setting, which stands before the files.
+    fn set(&mut self, alloc: Global, key: &str, value: &str) -> Result<(), AllocError> {
+        match key {
+            "words" => self.words = items_of(alloc, value)?,
+            "folder fails" => self.folder_fails = numbers_of(alloc, value)?,
+            "out fails" => self.out_fails = numbers_of(alloc, value)?,
+            "err fails" => self.err_fails = numbers_of(alloc, value)?,
+            "takes" => self.takes = value.parse::<usize>().unwrap_or(1).max(1),
+            _ => {}
+        }
+        Ok(())
+    }
+
+    /// Takes a file: its name, and then its lines.
+    fn take_file(&mut self, alloc: Global, file: &str) -> Result<(), AllocError> {
+        let mut lines = file.lines();
+        let name = written_out(alloc, lines.next().unwrap_or(""))?;
+        let mut text = String::new(alloc);
+        for line in lines {
+            match line.strip_suffix('\\') {
+                Some(line) => text.push_str(line)?,
+                None => {
+                    text.push_str(line)?;
+                    text.push('\n')?;
+                }
+            }
+        }
+        let text = written_out(alloc, text.as_str())?;
+        let bytes = Vec::from_slice(alloc, text.as_bytes())?;
+        self.files.push((name, bytes))?;
+        Ok(())
+    }
+
+    /// The case of a text: settings, and then files.
+    pub fn read(alloc: Global, text: &str) -> Result<Case, AllocError> {
+        let mut case = Case::new(alloc)?;
+        let mut parts = text.split("\n- ");
+        for setting in parts.next().unwrap_or("").lines() {
+            if let Some((key, value)) = setting.split_once(':') {
+                case.set(alloc, key, value.trim())?;
+            }
+        }
+        for file in parts {
+            case.take_file(alloc, file)?;
+        }
+        Ok(case)
+    }
+}

@@ -1,0 +1,28 @@
+//! Cases of the top call, kept as data: files, words and calls that are to fail, and what a run over them gives.
+//!
+//! The program promises nothing of its own. For each case of the files that its words name it runs `run_words` of
+//! `sq_top` over objects in memory, and prints the number of the status, what was written and what was told. The stored
+//! run compares that with what was worked out by hand.
+//!
+//! A case begins with a line `= TITLE`. Settings follow, if any, as `words: run,a.toml`, `folder fails: 0,2`,
+//! `out fails: 9`, `err fails: 0` and `takes: 1` (how many bytes a call of a sink takes); then files, each `- NAME` and
+//! its lines; then rows, each `| ROW`, and each a run with the row in place of `$`. A line that ends in `\` has no end of
+//! line, `\n` and `\r` are ends of lines, and `~COUNT TEXT~` is so many copies, with the number of each in place of `#`.
+#![tactic(auto)]
+
+mod case;
+mod running;
+mod texts;
+
+use anyhow::Error;
+use running::show_cases;
+use std::alloc::Global;
+use std::{env, fs};
+
+fn main(rt: HostRuntime) -> Result<(), Error> {
+    for name in env::args(&rt)?.skip(1) {
+        let text = fs::read_to_string(&rt, name.as_str())?;
+        show_cases(&rt, text.as_str())?;
+    }
+    Ok(())
+}

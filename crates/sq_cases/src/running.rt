@@ -1,0 +1,102 @@
+// The runs of cases, and what is shown of them.
+ghost use Rattle.std.specs.Prelude.{◌≡◌, ◌<◌};
+
+use crate::case::Case;
+use anyhow::Error;
+use sq_outside::{MemDisk, MemFolder, MemSink, Steps};
+use sq_top::run_words;
+use std::alloc::{AllocError, Global};
+use std::io;
+use std::marker::Brand;
+use std::sync::ledger::{Blank, Ledger};
+
+/// What a run gave.
+#[derive(Drop)]
+struct Ran {
+    code: u8,
+    out: MemSink,
+    err: MemSink,
+}
+
+fn run_over<L: Ledger>(alloc: Global, case: Case, blank: Blank) -> Ran
+    requires name { blank.name ≡ L.name }
+    requires parts { blank.parts ≡ L.parts }
+    requires some { 0 < blank.parts }
+{
+    let mut folder = MemFolder::new(case.files, case.folder_fails);
+    let mut disk = MemDisk::new(alloc, Vec::new(alloc), Vec::new(alloc));
+    let mut out = MemSink::new(alloc, case.out_fails, case.takes.max(1));
+    let mut err = MemSink::new(alloc, case.err_fails, case.takes.max(1));
+    let mut steps = Steps::<L>::open(blank);
+    let status = run_words(
+        alloc,
+        &case.words,
+        &mut folder,
+        &mut disk,
+        &mut out,
+        &mut err,
+        &mut steps,
+    );
+    Ran {
+        code: status.code(),
+        out,
+        err,
+    }
+}
+
+/// Shows a text; where its last line has no end, a `\` stands for the missing end.
+fn show_text(rt: &HostRuntime, text: &[u8]) -> io::Result<()> {
+    let text = str::from_utf8(text).unwrap_or("?");
+    if text.is_empty() || text.ends_with('\n') {
+        print!(rt; "{text}")
+    } else {
+        println!(rt; "{text}\\")
+    }
+}
+
+fn show_run(rt: &HostRuntime, text: &str) -> Result<(), Error> {
+    let case = Case::read(rt.alloc(), text)?;
+    let ran = run_over::<Brand>(rt.alloc(), case, Blank::new(1));
+    println!(rt; "{}", ran.code)?;
+    show_text(rt, ran.out.bytes())?;
+    show_text(rt, ran.err.bytes())?;
+    Ok(())
+}
+
+/// The lines of a case: those of its rows, and all others in one text.
+fn parts_of(alloc: Global, case: &str) -> Result<(String, Vec<String>), AllocError> {
+    let mut text = String::new(alloc);
+    let mut rows = Vec::new(alloc);
+    for line in case.lines() {
+        match line.strip_prefix("| ") {
+            Some(row) => rows.push(String::from_str(alloc, row)?)?,
+            None => {
+                text.push_str(line)?;
+                text.push('\n')?;
+            }
+        }
+    }
+    Ok((text, rows))
+}
+
+/// Shows a case: its title, and a run for each row, which stands for `$`. Without rows it is one run.
+fn show_case(rt: &HostRuntime, case: &str) -> Result<(), Error> {
+    let (text, rows) = parts_of(rt.alloc(), case)?;
+    println!(rt; "= {}", text.lines().next().unwrap_or(""))?;
+    if rows.is_empty() {
+        return show_run(rt, text.as_str());
+    }
+    for row in rows.iter() {
+        println!(rt; "| {row}")?;
+        show_run(rt, text.replace(rt.alloc(), '$', row.as_str())?.as_str())?;
+    }
+    Ok(())
+}
+
+/// Shows each case of a file: what follows each line that begins with `= `.
+pub fn show_cases(rt: &HostRuntime, text: &str) -> Result<(), Error> {
+    for case in text.split("\n= ").skip(1) {
+        show_case(rt, case)?;
+    }
+    Ok(())
+}

@@ -1,4 +1,0 @@
-use Rattle.sq_top.proofs.tests.run_free.Given as goal
-
-abbrev pub ghosts-run_over : goal.ghosts-run_over
-ghosts-run_over a = record { name = a.blank.name; parts = a.blank.parts }

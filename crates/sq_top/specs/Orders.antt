@@ -1,0 +1,29 @@
+-- Orders in which the lines of a run may be written: line by line, each the next of its class.
+use Rattle.std.specs.Prelude.{◌≡◌, ℕ, ⊤, List, [], ◌∷◌, ◌++◌}
+use Rattle.std.specs.List.{filter, flat_map}
+use Rattle.sq_value.specs.Lists.{IsPrefixOf}
+use Rattle.sq_value.specs.Classes.{Class, Ended, is_of_class}
+use Rattle.sq_top.specs.Due.{Due}
+use Rattle.sq_top.specs.Answers.{AreOthersAll, IsClassIn, lines_of}
+
+-- after these lines comes the next one of a class; of the end lines only where the other classes are whole
+abbrev pub IsNextOf : Due → List (List ℕ) → List ℕ → Class → Type 0
+IsNextOf d before line c =
+    IsClassIn d c × IsPrefixOf (filter (is_of_class c) before ++ line ∷ []) (lines_of d c) × (c ≡ Ended → AreOthersAll d before)
+
+-- each of these lines, after those before, is the next of its class
+abbrev pub EachIsNext : Due → List (List ℕ) → List (List ℕ) → Type 0
+EachIsNext d before [] = ⊤
+EachIsNext d before (line ∷ lines) = ((c : Class) × IsNextOf d before line c) × EachIsNext d (before ++ line ∷ []) lines
+
+-- lines that may be written in this order
+abbrev pub IsOrder : Due → List (List ℕ) → Type 0
+IsOrder d lines = EachIsNext d [] lines
+
+-- of each class these lines are all
+abbrev pub AreAll : Due → List (List ℕ) → Type 0
+AreAll d lines = (c : Class) → IsClassIn d c → filter (is_of_class c) lines ≡ lines_of d c
+
+-- the text of lines
+abbrev pub text_of : List (List ℕ) → List ℕ
+text_of lines = flat_map (λ line. line) lines
