@@ -25,7 +25,7 @@ use Rattle.sq_oper.specs.Order.{time_of, unmarked, IsFuture}
 use Rattle.sq_oper.specs.Streams.{IsSoundTuple, things, at_zero}
 use Rattle.sq_oper.proofs.GivenLemmas.{IsPrefixOf-append, IsPrefixOf-trans}
 use Rattle.sq_oper.proofs.StreamLemmas.{things-append, at_zero-append, at_zero-nil, UpTo-things, UpTo-at_zero}
-use Rattle.sq_oper.proofs.FedLemmas.{tuple_at, read-fed, time-before-item, unmarked-item}
+use Rattle.sq_oper.proofs.FedLemmas.{tuple_at, read-fed, time-before-item, no_body}
 use Rattle.sq_join.specs.Elements.{elements_of, side_of}
 use Rattle.sq_join.specs.Sides.{held_of, join_rest, most_at, join_fits, recent, pair_at, pairs_with, against, left_with, right_with, IsSide, AllNear}
 use Rattle.sq_join.proofs.PairLemmas.{gives-now, gives-later}
@@ -47,17 +47,6 @@ pub join_new : (size : ℕ) (on : Expr) (columns : Columns) (future : List Entry
 join_new size on columns future q may =
     ap (λ es. at_zero q (things (pairs_from size on [] es)))
     (sym (merged 0 0 (elements_of future) (future-turn (join_fits columns) Start future may) (future-sides columns Start future may)))
-
--- no item without a tuple may come
-pub no_body : (columns : Columns) (place : Place) (port : ℕ) (item : Item) → item.body ≡ None → IsSound item → IsFuture unmarked (join_fits columns) place (entries port item) → ⊥
-no_body columns place port item is sound may =
-    let no_mark = unmarked-item (join_fits columns) place port item [] (rw (append-nil (entries port item)) may) in
-    neither item.mark item.body no_mark is sound.some
-  where
-    neither : (m : Option Mark) (b : Option (List Value)) → m ≡ None → b ≡ None → (is_some m || is_some b) ≡ true → ⊥
-    neither None None e f h = cc
-    neither None (Some v) e f h = cc
-    neither (Some k) b e f h = cc
 
 elements-fed : (port : ℕ) (item : Item) (fields : List Value) (future : List Entry) → item.body ≡ Some fields
     → elements_of (entries port item ++ future) ≡ (port, tuple_at item.time fields) ∷ elements_of future

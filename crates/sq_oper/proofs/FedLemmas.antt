@@ -1,9 +1,10 @@
 -- What an operator reads of an item that it is fed.
-use Rattle.std.proofs.Common.{◌≡◌, ℕ, ◌≤◌, Bool, true, true≢false, List, [], ◌∷◌, ◌++◌, Option, None, Some, refl, sym}
+use Rattle.std.proofs.Common.{◌≡◌, ℕ, ◌≤◌, Bool, true, true≢false, List, [], ◌∷◌, ◌++◌, Option, None, Some, ◌||◌, is_some, refl, sym, append-nil}
 use Rattle.sq_value.specs.declared.Value.{Value}
 use Rattle.sq_value.specs.declared.Tuple.{Tuple}
 use Rattle.sq_item.specs.declared.Mark.{Mark}
 use Rattle.sq_item.specs.declared.Item.{Item}
+use Rattle.sq_item.specs.Sound.{IsSound}
 use Rattle.sq_item.specs.Things.{Sign, Body, mark_part, body_part}
 use Rattle.sq_oper.specs.declared.tally.Place.{Place}
 use Rattle.sq_oper.specs.Entries.{Entry, at_port, entries}
@@ -72,6 +73,17 @@ unmarked-item fits place port item future may = by item.mark refl may
     by : (m : Option Mark) → item.mark ≡ m → IsFuture unmarked fits place (at_port port (mark_part item.time m ++ body_part item.time item.body) ++ future) → item.mark ≡ None
     by None e h = e
     by (Some m) e h = absurd (true≢false (sym h.fitting.0))
+
+-- nor an item without a tuple
+pub no_body : (fits : ℕ → List Value → Bool) (place : Place) (port : ℕ) (item : Item) → item.body ≡ None → IsSound item → IsFuture unmarked fits place (entries port item) → ⊥
+no_body fits place port item is sound may =
+    let no_mark = unmarked-item fits place port item [] (rw (append-nil (entries port item)) may) in
+    neither item.mark item.body no_mark is sound.some
+  where
+    neither : (m : Option Mark) (b : Option (List Value)) → m ≡ None → b ≡ None → (is_some m || is_some b) ≡ true → ⊥
+    neither None None e f h = cc
+    neither None (Some v) e f h = cc
+    neither (Some k) b e f h = cc
 
 -- an item of one value, and no mark
 abbrev pub item_of : ℕ → Value → Item
