@@ -6,8 +6,8 @@
 //! a box back to itself, of any length. It stands on the lists of sq_value.
 #![tactic(auto)]
 
-ghost use Rattle.std.specs.Prelude.{◌≡◌, ℕ, ◌+◌, ◌<◌, ◌≤◌, ◌^◌, ◌++◌, List, Some, None, Option, length, map, replicate, slice_get, slice_index_or, IfOk, IfErr, OnOk, option_map, true, false, [], ◌∷◌};
-ghost use Rattle.std.specs.List.{list_all, list_any, find, sum_by, All};
+ghost use Rattle.std.specs.Prelude.{◌≡◌, ℕ, ◌+◌, ◌<◌, ◌≤◌, ◌^◌, ◌++◌, Some, None, Option, length, map, replicate, slice_get, IfOk, IfErr, OnOk, option_map, true, false, [], ◌∷◌};
+ghost use Rattle.std.specs.List.{list_all, list_any, find, sum_by};
 ghost use Rattle.sq_value.specs.Lists.{numbers_to};
 ghost use Rattle.sq_graph.specs.Wires.{producer_of, producers_of, stream_at, arc_at, output_arc_at};
 ghost use Rattle.sq_graph.specs.Givers.{producer_seen};

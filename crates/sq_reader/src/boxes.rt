@@ -7,11 +7,10 @@ ghost use Rattle.sq_graph.specs.Wires.{producer_of};
 ghost use Rattle.sq_net.specs.declared.NetErr.TheVariants as broken;
 ghost use Rattle.sq_net.specs.declared.Part.TheVariants as part;
 ghost use Rattle.sq_net.specs.Names.{is_name};
-ghost use Rattle.sq_reader.specs.Columns.{bad_name, columns_known, columns_taken, kinds_set, nat_of, same_columns, same_kinds, same_names, set_names, set_texts};
+ghost use Rattle.sq_reader.specs.Columns.{bad_name, columns_known, columns_taken, kinds_set, same_columns, same_kinds, same_names, set_names, set_texts};
 ghost use Rattle.sq_reader.specs.Expressions.{may_be_predicate, may_be_set, typed_from, typed_in};
 ghost use Rattle.sq_reader.specs.Limits.{first_failing, is_expression_long};
-ghost use Rattle.sq_tables.specs.Places.{place_at};
-ghost use Rattle.sq_tables.specs.Refusals.{Answers, is_memory};
+ghost use Rattle.sq_tables.specs.Refusals.{is_memory};
 
 use crate::expressions::{parsed, predicate_in, set_in};
 use crate::names::is_name;

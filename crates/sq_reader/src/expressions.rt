@@ -5,7 +5,7 @@ ghost use Rattle.sq_expr.specs.Checking.{check_in};
 ghost use Rattle.sq_expr.specs.Grammar.{parse_in};
 ghost use Rattle.sq_net.specs.declared.NetErr.TheVariants as broken;
 ghost use Rattle.sq_net.specs.declared.Part.TheVariants as part;
-ghost use Rattle.sq_reader.specs.Expressions.{allowed, may_be_predicate, may_be_set, or_no_expression, parsed_from, predicate_of, typed_from, typed_in};
+ghost use Rattle.sq_reader.specs.Expressions.{allowed, may_be_predicate, may_be_set, or_no_expression, parsed_from, predicate_of};
 ghost use Rattle.sq_reader.specs.Limits.{is_expression_long};
 ghost use Rattle.sq_tables.specs.Places.{place_at};
 ghost use Rattle.sq_tables.specs.Refusals.{Answers, is_memory};

@@ -1,9 +1,9 @@
 // The rules on names.
-ghost use Rattle.std.specs.Prelude.{◌≡◌, ◌+◌, ◌<◌, ◌≤◌, ◌^◌, ◌++◌, IfOk, OnOk, IfSome, length, map, option_map};
+ghost use Rattle.std.specs.Prelude.{◌≡◌, ◌+◌, ◌<◌, ◌≤◌, ◌^◌, ◌++◌, IfOk, OnOk, IfSome, length, map};
 ghost use Rattle.std.specs.List.{list_all, list_any};
 ghost use Rattle.sq_value.specs.Lists.{contains_bytes, same_bytes};
 ghost use Rattle.sq_net.specs.declared.Part.TheVariants as part;
-ghost use Rattle.sq_net.specs.Names.{has_name_form, is_lower, is_name, may_follow, reserved};
+ghost use Rattle.sq_net.specs.Names.{has_name_form, is_name, may_follow, reserved};
 ghost use Rattle.sq_reader.specs.Limits.{first_failing};
 ghost use Rattle.sq_reader.specs.Naming.{first_repeat, name_place, place_in_space, space_names, twice_place};
 

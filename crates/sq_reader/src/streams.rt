@@ -4,7 +4,7 @@ ghost use Rattle.std.specs.List.{flat_map, filter_map, list_all};
 ghost use Rattle.sq_value.specs.Lists.{numbers_to};
 ghost use Rattle.sq_net.specs.declared.Part.TheVariants as part;
 ghost use Rattle.sq_reader.specs.Limits.{body_within, box_within, first_failing, limit_place};
-ghost use Rattle.sq_tables.specs.Places.{place_at, place_of};
+ghost use Rattle.sq_tables.specs.Places.{place_at};
 ghost use Rattle.sq_tables.specs.Shapes.{ports_of};
 ghost use Rattle.sq_reader.specs.Streaming.{also_numbered, box_wires, is_stream, kind_of_body, number_in, port_name, port_names, stream_named, stream_names, unknown_among, unknown_in_boxes, wiring_by};
 

@@ -1,9 +1,8 @@
 // The rule on the windows of Aggregates.
-ghost use Rattle.std.specs.Prelude.{◌≡◌, ◌≤◌, length, option_map};
+ghost use Rattle.std.specs.Prelude.{◌≡◌, ◌≤◌, length};
 ghost use Rattle.sq_net.specs.declared.Part.TheVariants as part;
 ghost use Rattle.sq_reader.specs.Limits.{first_failing};
 ghost use Rattle.sq_reader.specs.Windows.{has_window, is_window, window_place};
-ghost use Rattle.sq_tables.specs.Places.{place_of};
 
 use crate::limits::whole;
 use sq_net::{Part, Place};

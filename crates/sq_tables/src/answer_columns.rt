@@ -7,7 +7,7 @@ ghost use Rattle.sq_tables.specs.Readings.{Reads};
 ghost use Rattle.sq_tables.specs.Shapes.{counting_in, function_in, answer_column_in, over_named};
 
 use crate::document::{Array, Table, Unread, Value, text_in, value_at};
-use crate::raw::{AnswerColumn, Over, Answer};
+use crate::raw::{Answer, AnswerColumn, Over};
 use sq_value::{ListOf, same_text};
 use std::alloc::{AllocError, Global};
 
@@ -51,7 +51,12 @@ fn counting_in(alloc: Global, name: &Value, word: &Value) -> Result<AnswerColumn
     })
 }
 
-fn function_in(alloc: Global, name: &Value, word: &Value, field: &Value) -> Result<AnswerColumn, Unread>
+fn function_in(
+    alloc: Global,
+    name: &Value,
+    word: &Value,
+    field: &Value,
+) -> Result<AnswerColumn, Unread>
     ensures { Reads result (function_in (view name.now) (view word.now) (view field.now)) }
 {
     let name = text_in(alloc, name)?;
@@ -83,7 +88,10 @@ fn answer_column_in(alloc: Global, value: &Value) -> Result<AnswerColumn, Unread
     Err(Unread::Shape)
 }
 
-fn answer_columns_among(alloc: Global, items: &Array) -> Result<Option<Vec<AnswerColumn>>, AllocError>
+fn answer_columns_among(
+    alloc: Global,
+    items: &Array,
+) -> Result<Option<Vec<AnswerColumn>>, AllocError>
     ensures { IfOk result (λ o. option_map (λ v. v.items) o ≡ each_item answer_column_in (array_view items.now)) }
 {
     let mut found = Vec::new(alloc);
@@ -98,7 +106,10 @@ fn answer_columns_among(alloc: Global, items: &Array) -> Result<Option<Vec<Answe
 }
 
 /// The list at the key `give`.
-pub(crate) fn answer_columns_at(alloc: Global, table: &Table) -> Result<ListOf<AnswerColumn>, Unread>
+pub(crate) fn answer_columns_at(
+    alloc: Global,
+    table: &Table,
+) -> Result<ListOf<AnswerColumn>, Unread>
     ensures { Reads result (required (list_in answer_column_in) (get_member (codes "give") (table_view table.now))) }
 {
     let Some(value) = value_at(table, "give") else {

@@ -1,5 +1,5 @@
 // What the tables of a TOML document hold, by the kinds that are wanted.
-ghost use Rattle.std.specs.Prelude.{◌≡◌, [], false, Some, None, IfOk, IfErr, codes, map, option_map, replicate, string_bytes};
+ghost use Rattle.std.specs.Prelude.{◌≡◌, [], false, Some, None, IfOk, IfErr, codes, map, option_map, string_bytes};
 ghost use Rattle.std.specs.List.{list_all, list_any};
 ghost use Rattle.std.specs.BTreeMap.{keys};
 ghost use Rattle.sq_value.specs.Lists.{same_bytes};

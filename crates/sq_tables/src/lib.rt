@@ -12,8 +12,8 @@ ghost use Rattle.sq_tables.specs.Rawly.{is_version_one, raw_from, raw_of};
 ghost use Rattle.sq_tables.specs.Refusals.{Answers};
 ghost use Rattle.sq_tables.specs.Shapes.{AreEven};
 
-mod document;
 mod answer_columns;
+mod document;
 mod raw;
 mod reading;
 mod shape;
@@ -22,7 +22,7 @@ mod tests;
 mod unbuilt;
 
 use document::{Table, value_at};
-pub use raw::{AnswerColumn, Over, Raw, RawBody, RawBox, RawOutput, RawSource, Setting, Answer};
+pub use raw::{Answer, AnswerColumn, Over, Raw, RawBody, RawBox, RawOutput, RawSource, Setting};
 pub use shape::ports_of;
 use sq_net::NetErr;
 use std::alloc::Global;

@@ -2,14 +2,14 @@
 ghost use Rattle.std.specs.Prelude.{◌≡◌, IfOk, IfErr, map};
 ghost use Rattle.toml.specs.View.{table_view};
 ghost use Rattle.sq_tables.specs.Readings.{IsUnread, Reads};
-ghost use Rattle.sq_tables.specs.Shapes.{Tables, aggregate_in, body_in, box_in, bsort_in, filter_in, join_in, map_in, output_in, ports_of, source_in, top_in, union_in};
+ghost use Rattle.sq_tables.specs.Shapes.{aggregate_in, body_in, box_in, bsort_in, filter_in, join_in, map_in, output_in, ports_of, source_in, top_in, union_in};
 ghost use Rattle.sq_tables.specs.ShapesSeen.{tables_seen};
 
+use crate::answer_columns::answer_columns_at;
 use crate::document::{
     Table, Unread, any_tables_at, any_texts_at, has_only, number_at, number_or, selectivity_at,
     settings_at, tables_at, text_at, texts_at,
 };
-use crate::answer_columns::answer_columns_at;
 use crate::raw::{RawBody, RawBox, RawOutput, RawSource};
 use sq_value::same_text;
 use std::alloc::Global;
