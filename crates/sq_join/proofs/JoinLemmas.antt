@@ -8,12 +8,13 @@ use Rattle.sq_value.specs.declared.Tuple.{Tuple}
 use Rattle.sq_value.specs.Lists.{IsPrefixOf}
 use Rattle.sq_value.specs.Values.{Columns}
 use Rattle.sq_expr.specs.Trees.{Expr}
-use Rattle.sq_expr.specs.Expressions.{holds_of}
+use Rattle.sq_expr.specs.Expressions.{holds_of, pair_of}
 use Rattle.sq_item.specs.declared.Mark.{Mark}
 use Rattle.sq_item.specs.declared.Item.{Item}
 use Rattle.sq_item.specs.Sound.{IsSound}
 use Rattle.sq_item.specs.Things.{Thing, mark_part, body_part}
-use Rattle.sq_lists.specs.Pairs.{pair_of, pairs_from, join_list_of}
+use Rattle.sq_lists.specs.Pairs.{pairs_from, join_list_of}
+use Rattle.sq_lists.specs.Sides.{held_of, recent, pair_at, pairs_with, against, left_with, right_with, AllNear}
 use Rattle.sq_lists.specs.WindowParts.{NotFalling}
 use Rattle.sq_lists.proofs.AllLemmas.{All-weaker, All-push}
 use Rattle.sq_lists.proofs.WindowLemmas.{lower}
@@ -27,16 +28,9 @@ use Rattle.sq_oper.proofs.GivenLemmas.{IsPrefixOf-append, IsPrefixOf-trans}
 use Rattle.sq_oper.proofs.StreamLemmas.{things-append, at_zero-append, at_zero-nil, UpTo-things, UpTo-at_zero}
 use Rattle.sq_oper.proofs.FedLemmas.{tuple_at, read-fed, time-before-item, no_body}
 use Rattle.sq_join.specs.Elements.{elements_of, side_of}
-use Rattle.sq_join.specs.Sides.{held_of, join_rest, most_at, join_fits, recent, pair_at, pairs_with, against, left_with, right_with, IsSide, AllNear}
-use Rattle.sq_join.proofs.PairLemmas.{gives-now, gives-later}
-use Rattle.sq_join.proofs.TurnLemmas.{merged, future-turn, future-sides, fit-side}
-
-pub against_left : (side : ℕ) (left right : List Tuple) → side ≡ 0 → against side left right ≡ right
-against_left side left right is = rw is refl
-
-pub against_right : (side : ℕ) (left right : List Tuple) → (side ≡ 0 → ⊥) → against side left right ≡ left
-against_right zero left right apart = absurd (apart refl)
-against_right (suc n) left right apart = let e : (suc n == 0) ≡ false = grind (arith, tests) in ap (λ b. if b then right else left) e
+use Rattle.sq_join.specs.Sides.{join_rest, most_at, join_fits, IsSide}
+use Rattle.sq_lists.proofs.SideLemmas.{All-recent, rises-recent, rises-push, near-recent, gives-now, gives-later}
+use Rattle.sq_join.proofs.TurnLemmas.{merged, turn-since, future-turn, future-sides, fit-side}
 
 pub join_nil : (size : ℕ) (on : Expr) (left right : List Tuple) (q : ℕ) → join_rest size on left right [] q ≡ []
 join_nil size on left right q = at_zero-nil q
@@ -53,34 +47,6 @@ elements-fed : (port : ℕ) (item : Item) (fields : List Value) (future : List E
 elements-fed port item fields future is = read-fed elements_of (λ port time m es. refl) port item future fields is
 
 -- ---- a side
-
-All-recent : (P : Tuple → Type 0) (size t : ℕ) (xs : List Tuple) → AllByRecursion P xs → AllByRecursion P (recent size t xs)
-All-recent P size t [] all = tt
-All-recent P size t (x ∷ xs) all =
-    elim (nat_lt size (t - x.time)) as (λ b. AllByRecursion P (if b then recent size t xs else x ∷ xs)) [ true ↦ All-recent P size t xs all.1 | false ↦ all ]
-
-rises-recent : (size t : ℕ) (xs : List Tuple) → NotFalling 0 xs → NotFalling 0 (recent size t xs)
-rises-recent size t [] h = tt
-rises-recent size t (x ∷ xs) h =
-    elim (nat_lt size (t - x.time)) as (λ b. NotFalling 0 (if b then recent size t xs else x ∷ xs)) [ true ↦ rises-recent size t xs (lower 0 x.time xs zero-le h.1) | false ↦ h ]
-
-rises-push : (a : ℕ) (xs : List Tuple) (x : Tuple) → NotFalling a xs → AllByRecursion (λ y. y.time ≤ x.time) xs → a ≤ x.time → NotFalling a (xs ++ x ∷ [])
-rises-push a [] x h all le = (le, tt)
-rises-push a (y ∷ ys) x h all le = (h.0, rises-push y.time ys x h.1 all.1 all.0)
-
-near-from : (size t a : ℕ) (xs : List Tuple) → t ≤ a + size → NotFalling a xs → AllNear size t xs
-near-from size t a [] le h = tt
-near-from size t a (x ∷ xs) le h = let up = h.0 in (omega (arith, le, up), near-from size t x.time xs (omega (arith, le, up)) h.1)
-
-near-by : (size t : ℕ) (x : Tuple) (xs : List Tuple) → NotFalling x.time xs → AllNear size t (recent size t xs) → (b : Bool) → nat_lt size (t - x.time) ≡ b
-    → AllNear size t (if b then recent size t xs else x ∷ xs)
-near-by size t x xs h ih true e = ih
-near-by size t x xs h ih false e = let le : t ≤ x.time + size = grind (arith, tests) in (le, near-from size t x.time xs le h)
-
--- what isn't let go of can still meet a tuple of that time
-near-recent : (size t : ℕ) (xs : List Tuple) → NotFalling 0 xs → AllNear size t (recent size t xs)
-near-recent size t [] h = tt
-near-recent size t (x ∷ xs) h = near-by size t x xs h.1 (near-recent size t xs (lower 0 x.time xs zero-le h.1)) (nat_lt size (t - x.time)) refl
 
 side-recent : (size most now t : ℕ) (xs : List Tuple) → IsSide most now xs → now ≤ t → IsSide most t (recent size t xs)
 side-recent size most now t xs h le = record {
@@ -235,7 +201,7 @@ module _ (size : ℕ) (on : Expr) (columns : Columns) (left right : List Tuple) 
         let turn = rw (elements-fed port item fields future is) at whole-turn in
         let sides = rw (elements-fed port item fields future is) at whole-sides in
         let now = gives-now size on fed left right port fed_side left-side.early left-near right-side.early right-near in
-        let later = gives-later size on fed left right port fed_side (elements_of future) turn.1 sides.1 in
+        let later = gives-later size on fed left right port fed_side (elements_of future) (turn-since item.time port (elements_of future) turn.1) sides.1 in
         let rest = pairs_from size on (held_of (left_with port fed kept-left) (right_with port fed kept-right)) (elements_of future) in
         ap (λ es. at_zero q (things (pairs_from size on (held_of left right) es))) (elements-fed port item fields future is)
         ∙ ap₂ (λ a b. at_zero q (things (a ++ b))) now later

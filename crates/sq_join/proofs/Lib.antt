@@ -1,3 +1,2 @@
-pub mod PairLemmas
 pub mod TurnLemmas
 pub mod JoinLemmas

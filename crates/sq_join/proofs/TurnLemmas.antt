@@ -8,6 +8,7 @@ use Rattle.sq_value.specs.Lists.{insert_by, sort_by}
 use Rattle.sq_value.specs.Values.{Columns}
 use Rattle.sq_item.specs.Things.{Load, Sign, Body}
 use Rattle.sq_lists.specs.Merge.{earlier, merge}
+use Rattle.sq_lists.specs.Sides.{on_side}
 use Rattle.sq_lists.proofs.AllLemmas.{All-weaker}
 use Rattle.sq_oper.specs.declared.tally.Place.{Place}
 use Rattle.sq_oper.specs.declared.tally.Place.TheVariants.{Start, At}
@@ -16,7 +17,7 @@ use Rattle.sq_oper.specs.Order.{may_come, time_of, after, load_fits, InOrder, Al
 use Rattle.sq_oper.specs.Streams.{tuple_in}
 use Rattle.sq_oper.proofs.StreamLemmas.{may-come-time}
 use Rattle.sq_oper.proofs.FedLemmas.{tuple_entry}
-use Rattle.sq_join.specs.Elements.{Element, on_side, elements_of, side_of, TwoSides, InTurn, port_of}
+use Rattle.sq_join.specs.Elements.{Element, elements_of, side_of, TwoSides, InTurn, port_of}
 use Rattle.sq_join.specs.Sides.{most_at, join_fits}
 
 -- ---- the merge
@@ -54,6 +55,13 @@ insert-first side x (e ∷ es) turn =
     let le = turn.0.0 in
     let e' : earlier e (side, x) ≡ false = grind (arith, tests) in
     ap (λ b. if b then e ∷ insert_by earlier (side, x) es else (side, x) ∷ e ∷ es) e'
+
+-- elements in turn come at a time or later
+pub turn-since : (t side : ℕ) (es : List Element) → InTurn t side es → AllByRecursion (λ (e : Element). t ≤ (e.1).time) es
+turn-since t side [] turn = tt
+turn-since t side (e ∷ es) turn =
+    let le = turn.0.0 in
+    (le, All-weaker (λ (a : Element). (e.1).time ≤ (a.1).time) (λ (a : Element). t ≤ (a.1).time) (λ a h. omega (arith, le, h)) es (turn-since (e.1).time e.0 es turn.1))
 
 all-if : (P : Tuple → Type 0) (b : Bool) (e : Element) (es : List Element) → P e.1 → AllByRecursion P (map (λ (e : Element). e.1) es)
     → AllByRecursion P (map (λ (e : Element). e.1) (cond b (e ∷ es) es))

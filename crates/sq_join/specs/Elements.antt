@@ -3,6 +3,7 @@ use Rattle.std.specs.Prelude.{◌≡◌, ℕ, ◌⊎◌, ◌==◌, ◌≤◌, Li
 use Rattle.std.specs.List.{AllByRecursion, filter}
 use Rattle.sq_value.specs.declared.Tuple.{Tuple}
 use Rattle.sq_lists.specs.Merge as whole
+use Rattle.sq_lists.specs.Sides.{on_side}
 use Rattle.sq_oper.specs.declared.tally.Place.{Place}
 use Rattle.sq_oper.specs.declared.tally.Place.TheVariants.{Start, At}
 use Rattle.sq_oper.specs.Entries.{Entry}
@@ -11,10 +12,6 @@ use Rattle.sq_oper.specs.Streams.{tuple_in}
 -- a side and a tuple; side 0 is the left one
 abbrev pub Element : Type 0
 Element = whole.Entry
-
--- tuples that come at one side
-abbrev pub on_side : ℕ → List Tuple → List Element
-on_side side xs = map (λ x. (side, x)) xs
 
 abbrev pub elements_of : List Entry → List Element
 elements_of [] = []

@@ -4,16 +4,18 @@ ghost use Rattle.std.specs.Prelude.{◌≡◌, ℕ, ◌+◌, ◌≤◌, true, fa
 ghost use Rattle.sq_value.specs.declared.Value.{Value};
 ghost use Rattle.sq_item.specs.Things.{Thing};
 ghost use Rattle.sq_lists.specs.Pairs.{join_list_of};
+ghost use Rattle.sq_lists.specs.Sides.{AllNear};
 ghost use Rattle.sq_oper.specs.declared.tally.Place.{Place};
 ghost use Rattle.sq_oper.specs.Entries.{Entry};
 ghost use Rattle.sq_oper.specs.Order.{IsFuture, time_of};
 ghost use Rattle.sq_oper.specs.Streams.{things, at_zero};
 ghost use Rattle.sq_join.specs.Elements.{side_of, elements_of};
-ghost use Rattle.sq_join.specs.Sides.{join_rest, join_fits, most_at, IsSide, AllNear};
+ghost use Rattle.sq_join.specs.Sides.{join_rest, join_fits, most_at, IsSide};
 
-use crate::sides::Sides;
+use crate::sides::take;
 use sq_expr::Typed;
 use sq_item::Item;
+use sq_lists::Sides;
 use sq_oper::{Decision, Operator, Outs, Place, Tally};
 use sq_outside::Steps;
 use sq_road::Levels;
@@ -96,8 +98,8 @@ impl Operator for JoinBox {
         let time = item.time;
         if let Some(fields) = item.body {
             self.sides.let_go(self.size, time);
-            self.sides
-                .take(&self.on, port, Tuple { time, fields }, out)?;
+            let x = Tuple { time, fields };
+            take(&mut self.sides, &self.on, port, x, out)?;
             steps.tick();
         }
         Ok(())

@@ -17,7 +17,7 @@ mod windows;
 pub use laws::boxes_keep_streams;
 pub use merges::merge;
 pub use pairs::join_list;
-pub use sides::{Sides, pair, passing_pair};
+pub use sides::{Sides, passing_pair};
 pub use sorter::Sorter;
 pub use sorts::{bsort_list, time_in_field};
 pub use tuples::{filter_list, map_list, map_tuple, port_of_tuple};

@@ -21,7 +21,7 @@ fn push_copies(values: &[Value], copies: &mut Vec<Value>) -> Result<(), AllocErr
 }
 
 /// A left and a right tuple in one, at the later of their times: the left one's fields stand first.
-pub fn pair(alloc: Global, left: &Tuple, right: &Tuple) -> Result<Tuple, AllocError>
+fn pair(alloc: Global, left: &Tuple, right: &Tuple) -> Result<Tuple, AllocError>
     ensures { IfOk result (λ p. p ≡ pair_of left.now right.now) }
 {
     let (first, second) = (left.fields.as_slice(), right.fields.as_slice());

@@ -2,7 +2,7 @@ use Rattle.std.proofs.Common.{◌++◌, drop, sym, ap, ◌∙◌}
 use Rattle.sq_oper.specs.Given.{given}
 use Rattle.sq_oper.specs.Streams.{things, at_zero}
 use Rattle.sq_oper.proofs.GivenLemmas.{OnErr-from}
-use Rattle.sq_join.specs.Sides.{pairs_with}
+use Rattle.sq_lists.specs.Sides.{pairs_with}
 use Rattle.sq_join.proofs.sides.give_pairs.Goals as goal
 
 pub returns-in_err-give_pair-clause-prefix : goal.returns-in_err-give_pair-clause-prefix

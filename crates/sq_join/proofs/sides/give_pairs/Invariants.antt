@@ -3,7 +3,7 @@ use Rattle.std.specs.List.{AllByRecursion}
 use Rattle.sq_value.specs.Lists.{IsPrefixOf}
 use Rattle.sq_oper.specs.Given.{given, ItemsSound}
 use Rattle.sq_oper.specs.Streams.{IsSoundTuple, things, at_zero}
-use Rattle.sq_join.specs.Sides.{pair_at, pairs_with}
+use Rattle.sq_lists.specs.Sides.{pair_at, pairs_with}
 use Rattle.sq_join.proofs.sides.give_pairs.Given as goal
 
 abbrev pub invariant-loop-i : goal.invariant-loop-i

@@ -4,7 +4,8 @@ use Rattle.sq_oper.specs.Given.{given}
 use Rattle.sq_oper.specs.Order.{time_of}
 use Rattle.sq_oper.proofs.GivenLemmas.{OnErr-from}
 use Rattle.sq_oper.proofs.FedLemmas.{time-after-item}
-use Rattle.sq_join.specs.Sides.{join_rest, AllNear}
+use Rattle.sq_lists.specs.Sides.{AllNear}
+use Rattle.sq_join.specs.Sides.{join_rest}
 use Rattle.sq_join.proofs.JoinLemmas.{join_nil, fed_sound, fed_prefix, fed_law, fed_times, fed_left, fed_right, near_left, near_right}
 use Rattle.sq_join.proofs.join.JoinBoxOperator.feed.Goals as goal
 
