@@ -26,13 +26,25 @@ fn rows_take_the_steps_that_lose_least_for_their_gain(rt: HostRuntime) -> Result
     let flat = losses_of(alloc, 500000)?;
     let losses = vec![in alloc; flat, losses_of(alloc, 800000)?, flat]?;
     let road = road(alloc, &gains, &losses)?;
-    let starts = [(0, 1, 1), (9, 1, 10), (10, 0, 1), (29, 0, 20), (30, 1, 11), (39, 1, 20)];
+    let starts = [
+        (0, 1, 1),
+        (9, 1, 10),
+        (10, 0, 1),
+        (29, 0, 20),
+        (30, 1, 11),
+        (39, 1, 20),
+    ];
     for (i, drop, k) in starts {
         assert!(rt; i < road.steps());
         let step = road.step(i);
         assert_eq!(rt; (step.drop, step.k), (drop, k), "step {i}");
     }
-    let rows = [(2000, 15, 1000), (2500, 10, 500), (3000, 0, 0), (0, 40, 3000)];
+    let rows = [
+        (2000, 15, 1000),
+        (2500, 10, 500),
+        (3000, 0, 0),
+        (0, 40, 3000),
+    ];
     for (capacity, taken, saved) in rows {
         let row = road.row_for(3000, capacity);
         assert_eq!(rt; (row.taken, row.saved, row.fits), (taken, saved, true));
@@ -41,7 +53,10 @@ fn rows_take_the_steps_that_lose_least_for_their_gain(rt: HostRuntime) -> Result
     assert_eq!(rt; row.loss, 104_756_652_000_000);
     assert!(rt; row.ratio == Frac::new(11_639_628_000_000, 100));
     assert!(rt; row.taken <= road.steps());
-    assert_eq!(rt; (road.level(row.taken, 0), road.level(row.taken, 1)), (250, 500));
+    assert_eq!(rt;
+        (road.level(row.taken, 0), road.level(row.taken, 1)),
+        (250, 500)
+    );
     Ok(())
 }
 
