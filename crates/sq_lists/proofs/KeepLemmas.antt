@@ -20,6 +20,7 @@ use Rattle.sq_lists.specs.Merge.{Entry, earlier, merge, union}
 use Rattle.sq_lists.specs.Pairs.{pair_of, meets, paired, pairs_of, pairs_from, join_list_of}
 use Rattle.sq_lists.specs.Sorting.{Numbered, sooner, retimed, without, tuple_of, chosen, without_late, bsort_list_of}
 use Rattle.sq_lists.specs.Sorters.{timed}
+use Rattle.sq_aggfn.specs.Windows.{start_of, started}
 use Rattle.sq_lists.specs.Windows.{groups_of, in_group, in_window, window_results, aggregate_of}
 use Rattle.sq_lists.specs.WindowParts.{NotFalling}
 use Rattle.sq_lists.specs.Keeps.{KeepStreams}
@@ -159,22 +160,22 @@ module _ (answers : List Tuple → List Value) (by : List ℕ) (w : WindowSpec) 
       onto [] = h
       onto (g ∷ gs) = (omega arith, tick, onto gs)
 
-  windows-from : (a n : ℕ) → ((k : ℕ) → k < a + n → k * w.advance < 2 ^ 40)
-      → StreamFrom (a * w.advance) (flat_map (λ s. window_results answers by s (in_window w s xs)) (map (λ k. k * w.advance) (range_with_len a n)))
+  windows-from : (a n : ℕ) → ((k : ℕ) → k < a + n → start_of w k < 2 ^ 40)
+      → StreamFrom (start_of w a) (flat_map (λ s. window_results answers by s (in_window w s xs)) (map (start_of w) (range_with_len a n)))
   windows-from a zero ticks = tt
   windows-from a (suc n) ticks =
       let later = windows-from (a + 1) n (λ k h. ticks k (omega (arith, h))) in
-      window-from (a * w.advance) _ (ticks a (omega arith)) (from-lower (a * w.advance) ((a + 1) * w.advance) _ (grind arith) later)
+      window-from (start_of w a) _ (ticks a (omega arith)) (from-lower (start_of w a) (start_of w (a + 1)) _ (grind arith) later)
 
   aggregate_keeps : IsStream xs → IsStream (aggregate_of answers by w xs)
   aggregate_keeps h =
       let last = max_by (λ x. x.time) xs in
-      stream-is (0 * w.advance) (aggregate_of answers by w xs) (windows-from 0 (last / w.advance + 1) (λ k few. start-tick k last few (max-tick xs (stream_ticks xs h))))
+      stream-is (start_of w 0) (aggregate_of answers by w xs) (windows-from 0 (started w last) (λ k few. start-tick k last few (max-tick xs (stream_ticks xs h))))
     where
-      start-tick : (k last : ℕ) → k < 0 + (last / w.advance + 1) → last < 2 ^ 40 → k * w.advance < 2 ^ 40
+      start-tick : (k last : ℕ) → k < 0 + started w last → last < 2 ^ 40 → start_of w k < 2 ^ 40
       start-tick k last few tick =
           let whole : last / w.advance * w.advance ≤ last = div-mul-le_self last w.advance in
-          let start : k * w.advance ≤ last / w.advance * w.advance = grind arith in
+          let start : start_of w k ≤ last / w.advance * w.advance = grind arith in
           omega (arith, start, whole, tick)
 
 -- Join

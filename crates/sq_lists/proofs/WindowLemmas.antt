@@ -1,6 +1,6 @@
 -- The windows that cover a tuple, one tuple after another, are all windows with a result.
-use Rattle.std.proofs.Common.{◌≡◌, ℕ, zero, suc, ◌+◌, ◌-◌, ◌*◌, ◌/◌, ◌^◌, ◌<◌, ◌≤◌, max, Bool, true, false, cond, ◌&&◌, List, [], ◌∷◌, ◌++◌, map, length, take, drop, length-drop, refl, ap, sym, ◌∙◌, div-lt_iff_lt-mul, arith, tests}
-use Rattle.std.proofs.Math.Nat.{lt-div-mul-add, div-mul-le_self}
+use Rattle.std.proofs.Common.{◌≡◌, ℕ, zero, suc, ◌+◌, ◌-◌, ◌^◌, ◌<◌, ◌≤◌, max, Bool, true, false, cond, ◌&&◌, List, [], ◌∷◌, ◌++◌, map, length, take, drop, length-drop, refl, ap, sym, ◌∙◌, arith, tests}
+use Rattle.std.proofs.Math.Nat.{div-mul-le_self}
 use Rattle.std.proofs.lemmas.List.{take_all}
 use Rattle.std.proofs.lemmas.List.Folds.{flat_map-map}
 use Rattle.std.proofs.lemmas.Grind.{flat_map-append}
@@ -11,7 +11,8 @@ use Rattle.sq_value.specs.declared.Tuple.{Tuple}
 use Rattle.sq_value.specs.Values.{IsStream, fields_cmp}
 use Rattle.sq_value.specs.Lists.{max_by, numbers_to}
 use Rattle.sq_value.proofs.ValueOrder.{fields_order, fields_same}
-use Rattle.sq_aggfn.specs.Windows.{IsWindow}
+use Rattle.sq_aggfn.specs.Windows.{IsWindow, start_of, started}
+use Rattle.sq_aggfn.proofs.StartLemmas.{starts_before, starts_after, started_more}
 use Rattle.sq_aggfn.specs.Folds.{joined_from}
 use Rattle.sq_aggfn.specs.Groups.{group_of}
 use Rattle.sq_aggfn.specs.Keyed.{keyed_from}
@@ -93,7 +94,7 @@ module _ (w : WindowSpec) where
 
 -- one more than the number of the last window
 abbrev pub window_count : WindowSpec → List Tuple → ℕ
-window_count w xs = max_by (λ x. x.time) xs / w.advance + 1
+window_count w xs = started w (max_by (λ x. x.time) xs)
 
 -- the results of the windows that aren't gone over, of the tuples that aren't
 abbrev pub left_results : (List Tuple → List Value) → List ℕ → WindowSpec → List Tuple → ℕ → List Tuple
@@ -101,7 +102,7 @@ left_results answers by w xs next = numbered_results answers by w xs next (windo
 
 module _ (answers : List Tuple → List Value) (by : List ℕ) (w : WindowSpec) where
   abbrev numbered : List Tuple → ℕ → List Tuple
-  numbered xs k = window_results answers by (k * w.advance) (in_window w (k * w.advance) xs)
+  numbered xs k = window_results answers by (start_of w k) (in_window w (start_of w k) xs)
 
   pub none_from : (xs : List Tuple) (a b : ℕ) → b ≤ a → numbered_results answers by w xs a b ≡ []
   none_from xs a b h = ap (λ n. flat_map (numbered xs) (range_with_len a n)) (let e : b - a ≡ 0 = omega arith in e)
@@ -110,8 +111,8 @@ module _ (answers : List Tuple → List Value) (by : List ℕ) (w : WindowSpec) 
   first_window xs a b h =
       ap (λ n. flat_map (numbered xs) (range_with_len a n)) (let e : b - a ≡ suc (b - (a + 1)) = omega arith in e)
 
-  empty-window : (xs : List Tuple) (k : ℕ) → in_window w (k * w.advance) xs ≡ [] → numbered xs k ≡ []
-  empty-window xs k e = ap (window_results answers by (k * w.advance)) e
+  empty-window : (xs : List Tuple) (k : ℕ) → in_window w (start_of w k) xs ≡ [] → numbered xs k ≡ []
+  empty-window xs k e = ap (window_results answers by (start_of w k)) e
 
   parts : (xs : List Tuple) (a b c : ℕ) → a ≤ b → b ≤ c → numbered_results answers by w xs a c ≡ numbered_results answers by w xs a b ++ numbered_results answers by w xs b c
   parts xs a b c ab bc =
@@ -124,64 +125,54 @@ module _ (answers : List Tuple → List Value) (by : List ℕ) (w : WindowSpec) 
   pub left_first : (xs : List Tuple) → left_results answers by w xs 0 ≡ aggregate_of answers by w xs
   left_first xs =
       ap (λ n. flat_map (numbered xs) (range_with_len 0 n)) (let e : window_count w xs - 0 ≡ window_count w xs = omega arith in e)
-      ∙ sym (flat_map-map (λ s. window_results answers by s (in_window w s xs)) (λ k. k * w.advance) (numbers_to (window_count w xs)))
+      ∙ sym (flat_map-map (λ s. window_results answers by s (in_window w s xs)) (start_of w) (numbers_to (window_count w xs)))
 
   -- no tuple is left
   pub left_last : (next : ℕ) → left_results answers by w [] next ≡ []
   left_last next = flat_map-nothing (numbered []) next (window_count w [] - next) (λ k lo hi. refl)
 
 module _ (w : WindowSpec) (moves : 0 < w.advance) where
-  before-division : (a b : ℕ) → a ≤ b → a / w.advance ≤ b / w.advance
-  before-division a b h =
-      let m : b < b / w.advance * w.advance + w.advance = lt-div-mul-add moves in
-      let q : a / w.advance < b / w.advance + 1 = (div-lt_iff_lt-mul moves).1 (let e : a < (b / w.advance + 1) * w.advance = omega (arith, m, h) in e) in
-      omega (arith, q)
-
-  -- the time is before the start of each window after the last one that it may lie in
-  pub before-next : (time k : ℕ) → time / w.advance + 1 ≤ k → time < k * w.advance
-  before-next time k h = (div-lt_iff_lt-mul moves).0 (let e : time / w.advance < k = omega (arith, h) in e)
-
   module _ (answers : List Tuple → List Value) (by : List ℕ) where
-    later-windows : (x : Tuple) (xs : List Tuple) (end : ℕ) → numbered_results answers by w (x ∷ xs) (x.time / w.advance + 1) end ≡ numbered_results answers by w xs (x.time / w.advance + 1) end
+    later-windows : (x : Tuple) (xs : List Tuple) (end : ℕ) → numbered_results answers by w (x ∷ xs) (started w x.time) end ≡ numbered_results answers by w xs (started w x.time) end
     later-windows x xs end =
-        flat_map-range (numbered answers by w (x ∷ xs)) (numbered answers by w xs) (x.time / w.advance + 1) (end - (x.time / w.advance + 1))
-        (λ k lo hi. ap (window_results answers by (k * w.advance)) (not-yet w (k * w.advance) x xs (before-next x.time k lo)))
+        flat_map-range (numbered answers by w (x ∷ xs)) (numbered answers by w xs) (started w x.time) (end - (started w x.time))
+        (λ k lo hi. ap (window_results answers by (start_of w k)) (not-yet w (start_of w k) x xs (starts_after w moves x.time k lo)))
 
     -- after the last window of a tuple
     after-by : (x : Tuple) (xs : List Tuple) (most : ℕ) (b : Bool) → nat_lt most x.time ≡ b
-        → numbered_results answers by w xs (x.time / w.advance + 1) (max x.time most / w.advance + 1) ≡ numbered_results answers by w xs (x.time / w.advance + 1) (most / w.advance + 1)
+        → numbered_results answers by w xs (started w x.time) (started w (max x.time most)) ≡ numbered_results answers by w xs (started w x.time) (started w most)
     after-by x xs most true e =
         let less : most < x.time = grind (arith, tests) in
         let same : max x.time most ≡ x.time = omega (arith, less) in
-        let same' = ap (λ n. n / w.advance) same in
-        let first = none_from answers by w xs (x.time / w.advance + 1) (max x.time most / w.advance + 1) (omega (arith, same')) in
-        let second = none_from answers by w xs (x.time / w.advance + 1) (most / w.advance + 1) (let d = before-division most x.time (omega (arith, less)) in omega (arith, d)) in
+        let same' = ap (started w) same in
+        let first = none_from answers by w xs (started w x.time) (started w (max x.time most)) (omega (arith, same')) in
+        let second = none_from answers by w xs (started w x.time) (started w most) (started_more w moves most x.time (omega (arith, less))) in
         first ∙ sym second
     after-by x xs most false e =
         let le : x.time ≤ most = grind (arith, tests) in
-        ap (λ n. numbered_results answers by w xs (x.time / w.advance + 1) (n / w.advance + 1)) (let m : max x.time most ≡ most = omega (arith, le) in m)
+        ap (λ n. numbered_results answers by w xs (started w x.time) (started w n)) (let m : max x.time most ≡ most = omega (arith, le) in m)
 
-    rest-after : (x : Tuple) (xs : List Tuple) → numbered_results answers by w (x ∷ xs) (x.time / w.advance + 1) (window_count w (x ∷ xs)) ≡ left_results answers by w xs (x.time / w.advance + 1)
+    rest-after : (x : Tuple) (xs : List Tuple) → numbered_results answers by w (x ∷ xs) (started w x.time) (window_count w (x ∷ xs)) ≡ left_results answers by w xs (started w x.time)
     rest-after x xs = later-windows x xs (window_count w (x ∷ xs)) ∙ after-by x xs (max_by (λ x. x.time) xs) (nat_lt (max_by (λ x. x.time) xs) x.time) refl
 
     -- one tuple more
-    pub left_step : (x : Tuple) (xs : List Tuple) (from next : ℕ) → NotFalling x.time xs → next ≤ x.time / w.advance + 1
-        → ((k : ℕ) → k < from → k * w.advance + w.size ≤ x.time) → from ≤ x.time / w.advance + 1
-        → left_results answers by w (x ∷ xs) next ≡ numbered_results answers by w (x ∷ xs) (max from next) (x.time / w.advance + 1) ++ left_results answers by w xs (x.time / w.advance + 1)
+    pub left_step : (x : Tuple) (xs : List Tuple) (from next : ℕ) → NotFalling x.time xs → next ≤ started w x.time
+        → ((k : ℕ) → k < from → start_of w k + w.size ≤ x.time) → from ≤ started w x.time
+        → left_results answers by w (x ∷ xs) next ≡ numbered_results answers by w (x ∷ xs) (max from next) (started w x.time) ++ left_results answers by w xs (started w x.time)
     left_step x xs from next up few ended le =
         let mid : ℕ = max from next in
-        let end : ℕ = x.time / w.advance + 1 in
-        let last = before-division x.time (max x.time (max_by (λ x. x.time) xs)) (omega arith) in
+        let end : ℕ = started w x.time in
+        let last : end ≤ window_count w (x ∷ xs) = started_more w moves x.time (max x.time (max_by (λ x. x.time) xs)) (omega arith) in
         parts answers by w (x ∷ xs) next mid (window_count w (x ∷ xs)) (omega arith) (omega (arith, le, few, last))
         ∙ ap (λ l. l ++ numbered_results answers by w (x ∷ xs) mid (window_count w (x ∷ xs)))
         (flat_map-nothing (numbered answers by w (x ∷ xs)) next (mid - next)
-        (λ k lo hi. empty-window answers by w (x ∷ xs) k (none-inside w (k * w.advance) x.time (x ∷ xs) (ended k (omega (arith, lo, hi))) (omega arith, up))))
+        (λ k lo hi. empty-window answers by w (x ∷ xs) k (none-inside w (start_of w k) x.time (x ∷ xs) (ended k (omega (arith, lo, hi))) (omega arith, up))))
         ∙ parts answers by w (x ∷ xs) mid end (window_count w (x ∷ xs)) (omega (arith, le, few)) (omega (arith, last))
         ∙ ap (λ l. numbered_results answers by w (x ∷ xs) mid end ++ l) (rest-after x xs)
 
     -- the later tuples are in no window that is gone over
-    pub begun_step : (x : Tuple) (xs : List Tuple) → NotFalling x.time xs → AllByRecursion (λ y. x.time / w.advance + 1 ≤ y.time / w.advance + 1) xs
-    begun_step x xs up = All-weaker (λ y. x.time ≤ y.time) (λ y. x.time / w.advance + 1 ≤ y.time / w.advance + 1) (λ y le. let d = before-division x.time y.time le in omega (arith, d)) xs (all-later x.time xs up)
+    pub begun_step : (x : Tuple) (xs : List Tuple) → NotFalling x.time xs → AllByRecursion (λ y. started w x.time ≤ started w y.time) xs
+    begun_step x xs up = All-weaker (λ y. x.time ≤ y.time) (λ y. started w x.time ≤ started w y.time) (λ y le. started_more w moves x.time y.time le) xs (all-later x.time xs up)
 
 -- what is told of the groups is the results
 module _ {M : Type 0} (none : M) (join : M → M → M) (one : Tuple → M) (told : M → List Value) (table : List Tuple → List Value) (tells : (xs : List Tuple) → told (joined_from join one none xs) ≡ table xs) where
@@ -204,23 +195,15 @@ stream_ticks (x ∷ y ∷ rest) h = let later = stream_ticks (y ∷ rest) h.1 in
 -- one tuple more of a stream
 module _ (w : WindowSpec) (window : IsWindow w) where
   -- the start after the last window of a tick
-  pub next_small : (time : ℕ) → time < 2 ^ 40 → (time / w.advance + 1) * w.advance < 2 ^ 41
+  pub next_small : (time : ℕ) → time < 2 ^ 40 → start_of w (started w time) < 2 ^ 41
   next_small time tick =
       let whole = div-mul-le_self time w.advance in
       let bounded = window.bounded in
       let covers = window.covers in
       omega (arith, whole, bounded, covers, tick)
 
-  pub last_start : (time : ℕ) (xs : List Tuple) → NotFalling time xs → NotFalling ((time / w.advance + 1 - 1) * w.advance) xs
-  last_start time xs up = lower ((time / w.advance + 1 - 1) * w.advance) time xs (let whole = div-mul-le_self time w.advance in let e : time / w.advance + 1 - 1 ≡ time / w.advance = omega arith in rw e whole) up
-
-  pub before_end : (time from : ℕ) → from * w.advance ≤ time → from ≤ time / w.advance + 1
-  before_end time from low =
-      let over : time < time / w.advance * w.advance + w.advance = lt-div-mul-add window.moves in
-      fewer from (time / w.advance) w.advance (omega (arith, low, over))
-    where
-      fewer : (a b c : ℕ) → a * c < b * c + c → a ≤ b + 1
-      fewer a b c h = grind arith
+  pub last_start : (time : ℕ) (xs : List Tuple) → NotFalling time xs → NotFalling (start_of w (started w time - 1)) xs
+  last_start time xs up = lower (start_of w (started w time - 1)) time xs (starts_before w window.moves time (started w time - 1) (omega arith)) up
 
 -- all that is left of a list
 pub rest_is : (xs : List Tuple) (i : ℕ) → take (length xs - i) (drop i xs) ≡ drop i xs

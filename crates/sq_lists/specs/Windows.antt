@@ -1,5 +1,5 @@
 -- Aggregate.
-use Rattle.std.specs.Prelude.{ℕ, ◌+◌, ◌*◌, ◌/◌, ◌&&◌, nat_lt, nat_le, List, ◌++◌, map}
+use Rattle.std.specs.Prelude.{ℕ, List, ◌++◌, map}
 use Rattle.std.specs.List.{filter, flat_map}
 use Rattle.std.specs.Ordering.{is_eq}
 use Rattle.sq_value.specs.declared.Value.{Value}
@@ -8,12 +8,13 @@ use Rattle.sq_value.specs.Values.{fields_cmp}
 use Rattle.sq_value.specs.Lists.{ascending, numbers_to, max_by}
 use Rattle.sq_aggfn.specs.declared.Func.{Func}
 use Rattle.sq_aggfn.specs.declared.WindowSpec.{WindowSpec}
+use Rattle.sq_aggfn.specs.Windows.{start_of, started, covers}
 use Rattle.sq_aggfn.specs.Functions.{answers_of}
 use Rattle.sq_aggfn.specs.Groups.{group_of}
 
 -- the tuples of the window that begins at a tick
 abbrev pub in_window : WindowSpec → ℕ → List Tuple → List Tuple
-in_window w start xs = filter (λ x. nat_le start x.time && nat_lt x.time (start + w.size)) xs
+in_window w start xs = filter (λ x. covers w start x.time) xs
 
 -- the groups of some tuples, ascending
 abbrev pub groups_of : List ℕ → List Tuple → List (List Value)
@@ -28,7 +29,7 @@ window_results answers by start inside = map (λ g. record { time = start; field
 
 -- the starts of windows, ascending, up to the last time
 abbrev pub starts_of : WindowSpec → List Tuple → List ℕ
-starts_of w xs = map (λ k. k * w.advance) (numbers_to (max_by (λ x. x.time) xs / w.advance + 1))
+starts_of w xs = map (start_of w) (numbers_to (started w (max_by (λ x. x.time) xs)))
 
 -- the results of all windows, for answers of any kind
 abbrev pub aggregate_of : (List Tuple → List Value) → List ℕ → WindowSpec → List Tuple → List Tuple

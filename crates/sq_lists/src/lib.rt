@@ -19,7 +19,7 @@ pub use pairs::{join_list, pair};
 pub use sorter::Sorter;
 pub use sorts::{bsort_list, time_in_field};
 pub use tuples::{filter_list, map_list, map_tuple, port_of_tuple};
-pub use windows::{aggregate_list, first_covering, result_of};
+pub use windows::{aggregate_list, result_of};
 
 #[cfg(test)]
 mod tests;

@@ -1,10 +1,10 @@
 //! Aggregate.
 
-ghost use Rattle.std.specs.Prelude.{◌≡◌, ℕ, ◌+◌, ◌-◌, ◌*◌, ◌/◌, ◌^◌, ◌<◌, ◌≤◌, ◌++◌, [], length, map, IfOk, OnOk};
+ghost use Rattle.std.specs.Prelude.{◌≡◌, ◌+◌, ◌-◌, ◌^◌, ◌<◌, ◌≤◌, ◌++◌, [], length, map, IfOk, OnOk};
 ghost use Rattle.sq_value.specs.Values.{IsStream, fields_cmp};
 ghost use Rattle.sq_aggfn.specs.Groups.{group_of};
 ghost use Rattle.sq_aggfn.specs.Keyed.{keyed_from, AllMade};
-ghost use Rattle.sq_aggfn.specs.Windows.{IsWindow};
+ghost use Rattle.sq_aggfn.specs.Windows.{IsWindow, start_of};
 ghost use Rattle.sq_lists.specs.Windows.{window_results, aggregate_of, aggregate_list_of};
 ghost use Rattle.sq_lists.specs.WindowParts.{leading, told_results, numbered_results, NotFalling};
 
@@ -22,20 +22,6 @@ pub fn result_of(start: u64, group: Group, answers: Fields) -> Result<Tuple, All
         time: start,
         fields,
     })
-}
-
-/// The number of the first window that ends after a tick, so the first that covers it. Windows are numbered from 0.
-pub fn first_covering(window: WindowSpec, time: u64) -> u64
-    requires { IsWindow window }
-    ensures before { (k : ℕ) → k < result → k * window.advance + window.size ≤ time }
-    ensures after { time < result * window.advance + window.size }
-    ensures low { result * window.advance ≤ time }
-{
-    if time < window.size {
-        0
-    } else {
-        (time - window.size) / window.advance + 1
-    }
 }
 
 /// How many tuples stand before the first that has the time `end` or a later one.
@@ -97,12 +83,12 @@ fn push_windows<F: Fold>(
     out: &mut Vec<Tuple>,
 ) -> Result<(), AllocError>
     requires window { IsWindow window }
-    requires rises { NotFalling ((to - 1) * window.advance) rest.now }
-    requires small { to * window.advance < 2 ^ 41 }
+    requires rises { NotFalling (start_of window (to - 1)) rest.now }
+    requires small { start_of window to < 2 ^ 41 }
     ensures { OnOk result (out.new.items ≡ out.old.items ++ numbered_results (F.table fold.now) by.now window rest.now from to) }
 {
     for k in from..to {
-        let start = k * window.advance;
+        let start = window.start_of(k);
         let inside = &rest[..leading(rest, start + window.size)];
         let held = groups_of(alloc, fold, by, inside)?;
         push_results(fold, start, held, out)?;
@@ -126,8 +112,8 @@ fn aggregate<F: Fold>(
     let mut next = 0;
     for i in 0..tuples.len() {
         let time = tuples[i].time;
-        let end = time / window.advance + 1;
-        let from = first_covering(window, time).max(next);
+        let end = window.started(time);
+        let from = window.first_covering(time).max(next);
         push_windows(
             alloc,
             fold,
