@@ -3,6 +3,7 @@
 ghost use Rattle.std.specs.Prelude.{◌≡◌, ℕ, ◌+◌, ◌-◌, ◌^◌, ◌<◌, ◌≤◌, ◌==◌, ◌&&◌, nat_le, true, false, List, [], length, IsTrue};
 ghost use Rattle.sq_value.specs.declared.Value.{Value};
 ghost use Rattle.std.specs.Int.{IsGcd};
+ghost use Rattle.sq_item.specs.Things.{Thing};
 ghost use Rattle.sq_aggfn.specs.Windows.{IsWindow};
 ghost use Rattle.sq_lists.specs.Windows.{aggregate_of};
 ghost use Rattle.sq_oper.specs.declared.tally.Place.{Place};
@@ -62,6 +63,9 @@ impl<F: Fold + Drop> AggregateBox<F> {
             → ⟦<AggregateBox<F> as Operator>⟧.rest result table future q ≡ at_zero q (spread_of (aggregate_tagged (F.table fold) group.items window (tagged_of future))) }
         ensures none_lost { (future : List Entry) → ⟦<AggregateBox<F> as Operator>⟧.lost result future ≡ 0 }
         ensures fits { (port : ℕ) (fields : List Value) → ⟦<AggregateBox<F> as Operator>⟧.fits result port fields ≡ ((port == 0) && makes_result (length group.items) (F.width fold)) }
+        ensures reads { (epoch : ℕ) → ⟦<AggregateBox<F> as Operator>⟧.reads result epoch ≡ true }
+        ensures holds { (time : ℕ) (things : List Thing) → ⟦<AggregateBox<F> as Operator>⟧.may_hold result time things → OnlyOpen window.size time things }
+        ensures decides { (table : ℕ → ℕ → ℕ) (future : List Entry) → ⟦<AggregateBox<F> as Operator>⟧.decides result table future ≡ [] }
         ensures takes_marks { (port : ℕ) → ⟦<AggregateBox<F> as Operator>⟧.takes_marks result port ≡ takes_marks_at marked port }
         ensures start { (⟦<AggregateBox<F> as Operator>⟧.place result ≡ Place.Start) × (⟦<AggregateBox<F> as Operator>⟧.taken result ≡ 0) }
         ensures valid { ⟦<AggregateBox<F> as Operator>⟧.valid result × IsTrue (⟦<AggregateBox<F> as Operator>⟧.running result) }
@@ -106,8 +110,7 @@ impl<F: Fold + Drop> Operator for AggregateBox<F> {
 
     ghost decides = { λ s table future. [] };
 
-    ghost holds_little = { λ s time. (table : ℕ → ℕ → ℕ) (q : ℕ)
-        → OnlyOpen s.panes.window.size time (aggregate_rest (folding_of s.group.items (F.none s.panes.fold) (F.joined s.panes.fold) (F.unit s.panes.fold) (F.told s.panes.fold)) s.panes.window s.panes.width (time_of s.tally.place) (bounds_of s.waiting) s.panes.held.entries [] q) };
+    ghost may_hold = { λ s time things. OnlyOpen s.panes.window.size time things };
 
     ghost lost = { λ s future. 0 };
 
