@@ -11,4 +11,4 @@ both-fit columns v (suc zero) one low = ap (λ (w : ℕ). nat_le 1 (16 - w)) one
 both-fit columns v (suc (suc n)) one low = absurd (omega (arith, low))
 
 pub outs_of-requires-clause-fits : goal.outs_of-requires-clause-fits
-outs_of-requires-clause-fits g c = λ port v low. c.new-join.ensures.fits port (v ∷ []) ∙ both-fit c.args.on.scope v port c.requires low
+outs_of-requires-clause-fits c = λ port v low. c.new-join.ensures.fits port (v ∷ []) ∙ both-fit c.args.on.scope v port c.requires low
