@@ -1,6 +1,6 @@
 -- The law of a Join: what it gives for a tuple, what it holds then, and that no more is needed.
-use Rattle.std.proofs.Common.{◌≡◌, ℕ, zero, suc, ◌+◌, ◌-◌, ◌<◌, ◌≤◌, ◌^◌, max, Bool, true, false, cond, ◌||◌, ◌⊎◌, inl, inr, IsTrue, List, [], ◌∷◌, ◌++◌, length, Option, Some, None, is_some, refl, ap, ap₂, sym, ◌∙◌, append-nil, append_assoc, length-append, zero-le, arith, tests}
-use Rattle.std.specs.Prelude.{if◌then◌else◌, nat_lt, nat_le, ◌==◌}
+use Rattle.std.proofs.Common.{◌≡◌, ℕ, ◌+◌, ◌-◌, ◌<◌, ◌≤◌, ◌^◌, max, true, false, cond, ◌⊎◌, inl, inr, IsTrue, List, [], ◌∷◌, ◌++◌, length, Option, Some, None, refl, ap, ap₂, sym, ◌∙◌, append-nil, append_assoc, length-append, zero-le, arith, tests}
+use Rattle.std.specs.Prelude.{if◌then◌else◌, nat_le, ◌==◌}
 use Rattle.std.specs.List.{AllByRecursion}
 use Rattle.std.proofs.lemmas.Bool.{and_parts}
 use Rattle.sq_value.specs.declared.Value.{Value}
@@ -15,7 +15,6 @@ use Rattle.sq_item.specs.Sound.{IsSound}
 use Rattle.sq_item.specs.Things.{Thing, mark_part, body_part}
 use Rattle.sq_lists.specs.Pairs.{pairs_from, join_list_of}
 use Rattle.sq_lists.specs.Sides.{held_of, recent, pair_at, pairs_with, against, left_with, right_with, AllNear}
-use Rattle.sq_lists.specs.WindowParts.{NotFalling}
 use Rattle.sq_lists.proofs.AllLemmas.{All-weaker, All-push}
 use Rattle.sq_lists.proofs.WindowLemmas.{lower}
 use Rattle.sq_oper.specs.declared.tally.Place.{Place}

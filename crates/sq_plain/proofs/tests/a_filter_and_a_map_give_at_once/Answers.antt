@@ -1,4 +1,4 @@
-use Rattle.std.proofs.Common.{◌≡◌, [], ◌∷◌, ap, ◌∙◌}
+use Rattle.std.proofs.Common.{[], ◌∷◌, ap, ◌∙◌}
 use Rattle.sq_plain.specs.Boxes.{makes_tuple}
 use Rattle.sq_plain.proofs.tests.a_filter_and_a_map_give_at_once.Goals as goal
 

@@ -6,7 +6,7 @@ use Rattle.sq_oper.proofs.GivenLemmas.{OnErr-from}
 use Rattle.sq_oper.proofs.FedLemmas.{time-after-item}
 use Rattle.sq_lists.specs.Sides.{AllNear}
 use Rattle.sq_join.specs.Sides.{join_rest}
-use Rattle.sq_join.proofs.JoinLemmas.{join_nil, fed_sound, fed_prefix, fed_law, fed_times, fed_left, fed_right, near_left, near_right}
+use Rattle.sq_join.proofs.JoinLemmas.{fed_sound, fed_prefix, fed_law, fed_times, fed_left, fed_right, near_left, near_right}
 use Rattle.sq_join.proofs.join.JoinBoxOperator.feed.Goals as goal
 
 pub take-requires : goal.take-requires
