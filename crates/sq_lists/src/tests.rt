@@ -1,4 +1,5 @@
 ghost use Rattle.std.specs.Prelude.{◌≡◌, ◌≤◌, [], ◌∷◌, length, IfOk};
+ghost use Rattle.sq_value.specs.Values.{IsStream};
 
 use super::*;
 use sq_aggfn::{Func, WindowSpec};
@@ -42,32 +43,73 @@ fn typed(alloc: Global, text: &str) -> Result<Typed, Fail>
     Ok(check(alloc, &parse(alloc, text)?, &scope)?)
 }
 
-const WINDOW: WindowSpec = WindowSpec {
-    size: 10,
-    advance: 5,
-};
+// The tuples 5:3, 6:1 and 7:2.
+fn stream(alloc: Global) -> Result<Vec<Tuple>, AllocError>
+    ensures { IfOk result (λ xs. IsStream xs.items) }
+{
+    Ok(vec![in alloc; at(alloc, 5, 3)?, at(alloc, 6, 1)?, at(alloc, 7, 2)?]?)
+}
+
+fn other_stream(alloc: Global) -> Result<Vec<Tuple>, AllocError> {
+    Ok(vec![in alloc; at(alloc, 4, 9)?, at(alloc, 6, 8)?]?)
+}
+
+fn filtered(alloc: Global, xs: &[Tuple]) -> Result<Vec<Tuple>, Fail> {
+    let preds = vec![in alloc; typed(alloc, "l_v > 1")?]?;
+    Ok(filter_list(alloc, &preds, 1, xs)?)
+}
+
+fn mapped(alloc: Global, xs: &[Tuple]) -> Result<Vec<Tuple>, Fail> {
+    let exprs = vec![in alloc; typed(alloc, "l_v + time")?]?;
+    Ok(map_list(alloc, &exprs, xs)?)
+}
+
+fn summed(alloc: Global, xs: &[Tuple]) -> Result<Vec<Tuple>, AllocError>
+    requires { IsStream xs.now }
+{
+    let window = WindowSpec {
+        size: 10,
+        advance: 5,
+    };
+    aggregate_list(alloc, &[Func::Sum(0), Func::Count], &[], window, xs)
+}
+
+fn joined(alloc: Global, xs: &[Tuple]) -> Result<Vec<Tuple>, Fail> {
+    let on = typed(alloc, "l_v < r_v")?;
+    Ok(join_list(alloc, 1, &on, xs, &other_stream(alloc)?)?)
+}
+
+fn merged(alloc: Global) -> Result<Vec<Tuple>, AllocError> {
+    let mut tuples = Vec::new(alloc);
+    for (_, x) in merge(
+        alloc,
+        &vec![in alloc; stream(alloc)?, other_stream(alloc)?]?,
+    )? {
+        tuples.push(x)?;
+    }
+    Ok(tuples)
+}
 
 #[test]
 fn boxes_give_their_lists(rt: HostRuntime) -> Result<(), Fail> {
     let alloc = rt.alloc();
-    let xs = vec![in alloc; at(alloc, 5, 3)?, at(alloc, 6, 1)?, at(alloc, 7, 2)?]?;
-    let ys = vec![in alloc; at(alloc, 4, 9)?, at(alloc, 6, 8)?]?;
-    let preds = vec![in alloc; typed(alloc, "l_v > 1")?]?;
-    assert!(rt; are(&filter_list(alloc, &preds, 1, &xs)?, &[(6, 1, -1)]));
-    let exprs = vec![in alloc; typed(alloc, "l_v + time")?, typed(alloc, "-l_v")?]?;
-    let mapped = [(5, 8, -3), (6, 7, -1), (7, 9, -2)];
-    assert!(rt; are(&map_list(alloc, &exprs, &xs)?, &mapped));
-    let sorted = [(1, 1, -1), (2, 2, -1), (3, 3, -1)];
-    assert!(rt; are(&bsort_list(alloc, 0, 1, &xs)?, &sorted));
-    let sums = aggregate_list(alloc, &[Func::Sum(0), Func::Count], &[], WINDOW, &xs)?;
-    assert!(rt; are(&sums, &[(0, 6, 3), (5, 6, 3)]));
-    let on = typed(alloc, "l_v < r_v")?;
-    let pairs = [(5, 3, 9), (6, 3, 8), (6, 1, 8), (7, 2, 8)];
-    assert!(rt; are(&join_list(alloc, 1, &on, &xs, &ys)?, &pairs));
-    let merged = merge(alloc, &vec![in alloc; xs, ys]?)?;
-    for (entry, (port, time)) in merged.iter().zip([(1, 4), (0, 5), (0, 6), (1, 6), (0, 7)]) {
-        assert!(rt; entry.0 == port && entry.1.time == time);
-    }
-    assert_eq!(rt; merged.len(), 5);
+    let xs = stream(alloc)?;
+    assert!(rt; are(&filtered(alloc, &xs)?, &[(6, 1, -1)]));
+    assert!(rt; are(&mapped(alloc, &xs)?, &[(5, 8, -1), (6, 7, -1), (7, 9, -1)]));
+    assert!(rt;
+        are(
+            &bsort_list(alloc, 0, 1, &xs)?,
+            &[(1, 1, -1), (2, 2, -1), (3, 3, -1)]
+        )
+    );
+    assert!(rt; are(&summed(alloc, &xs)?, &[(0, 6, 3), (5, 6, 3)]));
+    assert!(rt;
+        are(
+            &joined(alloc, &xs)?,
+            &[(5, 3, 9), (6, 3, 8), (6, 1, 8), (7, 2, 8)]
+        )
+    );
+    let all = [(4, 9, -1), (5, 3, -1), (6, 1, -1), (6, 8, -1), (7, 2, -1)];
+    assert!(rt; are(&merged(alloc)?, &all));
     Ok(())
 }
