@@ -1,10 +1,12 @@
-ghost use Rattle.std.specs.Prelude.{◌≡◌, ◌+◌, ◌<◌, ◌≤◌, ◌∷◌, [], length, None, Some, IfOk, OnOk};
+ghost use Rattle.std.specs.Prelude.{◌≡◌, ℕ, ◌<◌, ◌≤◌, ◌∷◌, [], true, length, None, Some, IsTrue, IfOk, OnOk};
+ghost use Rattle.sq_item.specs.Things.{Body};
+ghost use Rattle.sq_oper.specs.Order.{may_come};
 ghost use Rattle.sq_join.specs.Sides.{left_fields};
 
 use super::*;
 use sq_expr::{Typed, check, parse};
 use sq_item::Item;
-use sq_oper::{Operator, Outs};
+use sq_oper::{Operator, Outs, Place, Tally};
 use sq_outside::Steps;
 use sq_road::Levels;
 use sq_value::{Kind, ListOf, Name, Schema, Value};
@@ -25,8 +27,81 @@ fn at(alloc: Global, time: u64, v: i64) -> Result<Item, AllocError>
     })
 }
 
-// Whether an item is a pair of two numbers at port 0, with no mark.
-fn is_pair(out: &(u32, Item), time: u64, left: i64, right: i64) -> bool {
+// Whether a tuple may come next.
+fn comes(place: Place, port: u32, time: u64) -> bool
+    ensures { result ≡ may_come place (record { port = port; thing = record { time = time; load = Body [] } }) }
+{
+    match place {
+        Place::Start => true,
+        Place::At {
+            time: last,
+            port: from,
+            marked: _,
+        } => last < time || (last == time && from <= port),
+    }
+}
+
+// Feeds tuples of one number, by port, time and number, and says that no more come.
+fn feed_all<O: Operator, L: Ledger>(
+    alloc: Global,
+    op: &mut O,
+    ports: u32,
+    rows: &[(u32, u64, i64)],
+    blank: Blank,
+) -> Result<Outs, Fail>
+    requires name { blank.name ≡ L.name }
+    requires parts { blank.parts ≡ L.parts }
+    requires some { 0 < blank.parts }
+    requires valid { O.valid op.old × IsTrue (O.running op.old) }
+    requires start { (O.place op.old ≡ Place.Start) × (O.taken op.old ≡ 0) }
+    requires fits { (port : ℕ) (v : Value) → port < ports → O.fits op.old port (v ∷ []) ≡ true }
+    requires reads { (epoch : ℕ) → O.reads op.old epoch ≡ true }
+    ensures valid { OnOk result (O.valid op.new) }
+{
+    let mut steps = Steps::<L>::open(blank);
+    let mut out = Outs::new(alloc);
+    let levels = Levels::new(alloc, 100);
+    let mut tally = Tally::new();
+    for row in rows {
+        let (port, time, v) = *row;
+        if port >= ports || time >= 100 || tally.taken >= 100 || !comes(tally.place, port, time) {
+            return Err(Fail::from("the row may not come"));
+        }
+        let item = at(alloc, time, v)?;
+        tally.note(port, &item);
+        op.feed(&levels, port, item, &mut out, &mut steps)?;
+    }
+    op.finish(&mut out)?;
+    Ok(out)
+}
+
+fn outs_of<O: Operator>(
+    alloc: Global,
+    op: &mut O,
+    ports: u32,
+    rows: &[(u32, u64, i64)],
+) -> Result<Outs, Fail>
+    requires valid { O.valid op.old × IsTrue (O.running op.old) }
+    requires start { (O.place op.old ≡ Place.Start) × (O.taken op.old ≡ 0) }
+    requires fits { (port : ℕ) (v : Value) → port < ports → O.fits op.old port (v ∷ []) ≡ true }
+    requires reads { (epoch : ℕ) → O.reads op.old epoch ≡ true }
+    ensures valid { OnOk result (O.valid op.new) }
+{
+    feed_all::<O, Brand>(alloc, op, ports, rows, Blank::new(1))
+}
+
+// Whether these pairs of numbers went out at port 0, by time, left and right number.
+fn are(outs: &Outs, rows: &[(u64, i64, i64)]) -> bool {
+    outs.items.len() == rows.len()
+        && outs
+            .items
+            .iter()
+            .zip(rows)
+            .all(|(out, row)| is_pair(out, *row))
+}
+
+fn is_pair(out: &(u32, Item), row: (u64, i64, i64)) -> bool {
+    let (time, left, right) = row;
     let (to, item) = out;
     match &item.body {
         Some(fields) => *to == 0
@@ -49,61 +124,26 @@ fn over_pairs(alloc: Global, text: &str) -> Result<Typed, Fail>
 }
 
 // Left 1:10 and 4:40, right 3:30 and 6:60.
-fn feed_join<L: Ledger>(
-    alloc: Global,
-    on: Typed,
-    out: &mut Outs,
-    steps: &mut Steps<L>,
-) -> Result<(), AllocError>
+fn pairs_on(alloc: Global, on: Typed) -> Result<Outs, Fail>
     requires { left_fields on.scope ≡ 1 }
-    ensures { OnOk result (steps.new ≡ steps.old + 4) }
 {
-    let levels = Levels::new(alloc, 10);
     let mut join = JoinBox::new(alloc, 2, on);
-    join.feed(&levels, 0, at(alloc, 1, 10)?, out, steps)?;
-    join.feed(&levels, 1, at(alloc, 3, 30)?, out, steps)?;
-    join.feed(&levels, 0, at(alloc, 4, 40)?, out, steps)?;
-    join.feed(&levels, 1, at(alloc, 6, 60)?, out, steps)?;
-    join.finish(out)?;
-    Ok(())
-}
-
-fn join_outs_under<L: Ledger>(alloc: Global, on: Typed, blank: Blank) -> Result<Outs, AllocError>
-    requires left { left_fields on.scope ≡ 1 }
-    requires name { blank.name ≡ L.name }
-    requires parts { blank.parts ≡ L.parts }
-    requires some { 0 < blank.parts }
-{
-    let mut steps = Steps::<L>::open(blank);
-    let mut out = Outs::new(alloc);
-    feed_join(alloc, on, &mut out, &mut steps)?;
-    Ok(out)
-}
-
-fn join_outs(alloc: Global, on: Typed) -> Result<Outs, AllocError>
-    requires { left_fields on.scope ≡ 1 }
-{
-    join_outs_under::<Brand>(alloc, on, Blank::new(1))
+    outs_of(
+        alloc,
+        &mut join,
+        2,
+        &[(0, 1, 10), (1, 3, 30), (0, 4, 40), (1, 6, 60)],
+    )
 }
 
 #[test]
-fn a_join_gives_each_pair_when_its_later_tuple_comes(rt: HostRuntime) -> Result<(), Fail> {
+fn a_join_gives_each_pair_that_passes_when_its_later_tuple_comes(
+    rt: HostRuntime,
+) -> Result<(), Fail> {
     let alloc = rt.alloc();
-    let out = join_outs(alloc, over_pairs(alloc, "true")?)?;
-    let [a, b, c] = out.items.as_slice() else {
-        return Err(Fail::from("three pairs"));
-    };
-    assert!(rt; is_pair(a, 3, 10, 30) && is_pair(b, 4, 40, 30) && is_pair(c, 6, 40, 60));
-    Ok(())
-}
-
-#[test]
-fn a_join_gives_only_pairs_that_pass(rt: HostRuntime) -> Result<(), Fail> {
-    let alloc = rt.alloc();
-    let out = join_outs(alloc, over_pairs(alloc, "l_v < r_v")?)?;
-    let [a, b] = out.items.as_slice() else {
-        return Err(Fail::from("two pairs"));
-    };
-    assert!(rt; is_pair(a, 3, 10, 30) && is_pair(b, 6, 40, 60));
+    let all = pairs_on(alloc, over_pairs(alloc, "true")?)?;
+    assert!(rt; are(&all, &[(3, 10, 30), (4, 40, 30), (6, 40, 60)]));
+    let rising = pairs_on(alloc, over_pairs(alloc, "l_v < r_v")?)?;
+    assert!(rt; are(&rising, &[(3, 10, 30), (6, 40, 60)]));
     Ok(())
 }
