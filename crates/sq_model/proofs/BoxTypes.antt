@@ -14,7 +14,7 @@ use Rattle.sq_value.specs.declared.Tuple.{Tuple}
 use Rattle.sq_value.specs.Values.{Columns, field, fields_cmp, fields_fit, kinds_fit, kinds_of, is_of_kind, is_null, int_or_null, is_i64}
 use Rattle.sq_value.specs.Lists.{add_to, ascending, lesser, least_by, ports_from}
 use Rattle.sq_expr.specs.Trees.{Checked, Expr}
-use Rattle.sq_expr.specs.Expressions.{holds_of, value_of}
+use Rattle.sq_expr.specs.Expressions.{holds_of, pair_of, value_of}
 use Rattle.sq_expr.specs.Kinds.{has_kind, kind_at, kind_in}
 use Rattle.sq_aggfn.specs.declared.Func.{Func}
 use Rattle.sq_aggfn.specs.declared.Func.TheVariants as func
@@ -24,7 +24,7 @@ use Rattle.sq_aggfn.specs.Groups.{group_of}
 use Rattle.sq_lists.specs.Boxes.{mapped}
 use Rattle.sq_lists.specs.Sorting.{Numbered, sooner, time_in, at_time, retimed, without, tuple_of, chosen, without_late, bsort_list_of}
 use Rattle.sq_lists.specs.Windows.{in_window, in_group, groups_of, window_results, aggregate_list_of, starts_of}
-use Rattle.sq_lists.specs.Pairs.{pair_of, meets, paired, pairs_of, pairs_from}
+use Rattle.sq_lists.specs.Pairs.{meets, paired, pairs_of, pairs_from}
 use Rattle.sq_net.specs.Columns.{if_int, kind_of_func, prefixed, columns_at}
 use Rattle.sq_model.proofs.Alls.{All-append, All-kept, All-mapped, All-weaker, All-flat_map}
 use Rattle.sq_expr.proofs.KindLemmas.{field_has_kind, value_has_kind}

@@ -103,6 +103,9 @@ fn a_sort_without_slack_leaves_out_late_tuples(rt: HostRuntime) -> Result<(), Fa
         late(rt.alloc(), &n, &streams)?,
     );
     assert_eq!(rt; (shown.len(), stream_in(&streams, 1).len()), (1, 1));
-    assert_eq!(rt; (fed.as_slice(), late.as_slice()), ([3].as_slice(), [2].as_slice()));
+    assert_eq!(rt;
+        (fed.as_slice(), late.as_slice()),
+        ([3].as_slice(), [2].as_slice())
+    );
     Ok(())
 }
