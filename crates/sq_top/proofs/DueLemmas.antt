@@ -1,7 +1,7 @@
 -- Lists of all lines: one that has each class whole, nothing else, and the end lines last, is an order of writing. So is that of
 -- the outputs one after another.
 use Rattle.std.proofs.Common.{◌≡◌, ◌≢◌, inl, inr, ℕ, Bool, true, false, not, ◌&&◌, ◌||◌, List, [], ◌∷◌, ◌++◌, refl, ap, ap₂, sym, ◌∙◌, subst, append_assoc, append-nil}
-use Rattle.std.specs.Prelude.{if◌then◌else◌, codes, IsTrue, ⊤}
+use Rattle.std.specs.Prelude.{if◌then◌else◌, codes}
 use Rattle.std.specs.Fmt.{decimal}
 use Rattle.std.specs.List.{AllByRecursion, filter, flat_map, list_all, list_any}
 use Rattle.std.proofs.lemmas.List.Elements.{filter-append}
@@ -12,7 +12,7 @@ use Rattle.sq_value.proofs.ListLemmas.{same_bytes-true, same_bytes-refl}
 use Rattle.sq_top.specs.Due.{Due, all_lines}
 use Rattle.sq_top.specs.Answers.{AreOthersAll, IsClassIn, is_classed, lines_of}
 use Rattle.sq_top.specs.Orders.{AreAll, EachIsNext, IsNextOf, IsOrder}
-use Rattle.sq_top.proofs.ClassLemmas.{AreAlike, Drops, IsDueLine, IsLineOf, IsPlainClass, IsPlainName, Outputs, TellsClasses, alike, all_map, and_true, classed_dropped, classed_ended, classed_planned, classed_shown, end_field-plain, is_end_field, is_ended, not_ended, not_true, or_true, own_names, own_numbers, plain_class, plain_differs, same_bytes-plain}
+use Rattle.sq_top.proofs.ClassLemmas.{Drops, IsLineOf, IsPlainClass, IsPlainName, Outputs, TellsClasses, alike, all_map, and_true, classed_dropped, classed_ended, classed_planned, classed_shown, end_field-plain, is_end_field, not_ended, not_true, or_true, own_names, own_numbers, plain_class, plain_differs, same_bytes-plain}
 use Rattle.sq_top.proofs.SortedLines.{InBack, InFront, cut_twice, filter_same, list_all-back}
 
 -- a list that has each class whole, nothing else, and the end lines last

@@ -1,5 +1,5 @@
 -- The lines of two outputs may be written in any order that keeps each output's own.
-use Rattle.std.proofs.Common.{◌≡◌, ◌≢◌, ℕ, Bool, true, false, not, ◌&&◌, List, [], ◌∷◌, ◌++◌, refl, ap, ap₂, sym, ◌∙◌, subst, append-nil}
+use Rattle.std.proofs.Common.{◌≡◌, ℕ, Bool, true, false, not, ◌&&◌, List, [], ◌∷◌, ◌++◌, refl, ap, ap₂, sym, ◌∙◌, subst, append-nil}
 use Rattle.std.specs.Prelude.{if◌then◌else◌}
 use Rattle.std.specs.List.{AllByRecursion, filter, list_all}
 use Rattle.std.proofs.lemmas.List.Elements.{filter-append}
@@ -7,8 +7,8 @@ use Rattle.std.proofs.lemmas.List.Folds.{list_all-append}
 use Rattle.sq_value.specs.Lists.{same_bytes}
 use Rattle.sq_value.specs.Classes.{Class, Shown, Dropped, Planned, Ended, is_of_class}
 use Rattle.sq_value.proofs.ListLemmas.{same_bytes-refl, same_bytes-true}
-use Rattle.sq_top.specs.Due.{Due, all_lines}
-use Rattle.sq_top.specs.Answers.{is_classed, lines_of}
+use Rattle.sq_top.specs.Due.{Due}
+use Rattle.sq_top.specs.Answers.{is_classed}
 use Rattle.sq_top.specs.Orders.{IsOrder}
 use Rattle.sq_top.proofs.ClassLemmas.{IsLineOf, TellsClasses, all_map, and_true}
 use Rattle.sq_top.proofs.DueLemmas.{IsWholeList, all_other, all_whole, shown_test, tells, whole_order}

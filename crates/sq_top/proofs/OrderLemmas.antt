@@ -1,12 +1,12 @@
 -- Lines that are written in an order in which each is the next of its class: what their text has of each class.
-use Rattle.std.proofs.Common.{◌≡◌, ◌≢◌, ◌⊎◌, inl, inr, ℕ, ◌+◌, ◌<◌, ◌≤◌, Bool, true, false, not, ◌&&◌, ◌||◌, List, [], ◌∷◌, ◌++◌, length, drop, refl, ap, sym, ◌∙◌, subst, arith, append_assoc, append-nil, Some}
-use Rattle.std.specs.Prelude.{if◌then◌else◌, slice_get, IsSomeAnd, ⊤}
-use Rattle.std.specs.List.{AllByRecursion, filter, flat_map, list_all}
+use Rattle.std.proofs.Common.{◌≡◌, ◌≢◌, ◌⊎◌, inl, inr, ℕ, Bool, true, false, not, ◌&&◌, List, [], ◌∷◌, ◌++◌, length, drop, refl, ap, sym, ◌∙◌, subst, arith, append_assoc, append-nil, Some}
+use Rattle.std.specs.Prelude.{if◌then◌else◌, slice_get, IsSomeAnd}
+use Rattle.std.specs.List.{AllByRecursion, filter, list_all}
 use Rattle.std.proofs.lemmas.List.{length-append, take-append-drop}
 use Rattle.std.proofs.lemmas.List.Elements.{filter-append}
 use Rattle.std.proofs.lemmas.List.Folds.{list_all-append}
 use Rattle.sq_value.specs.Lists.{IsPrefixOf}
-use Rattle.sq_value.specs.Classes.{Class, Shown, Dropped, Planned, Ended, is_of_class, of_class, whole_lines, unfinished}
+use Rattle.sq_value.specs.Classes.{Class, Ended, is_of_class, of_class, whole_lines, unfinished}
 use Rattle.sq_value.proofs.LineLemmas.{AreLines, Cut, IsFront, cut_prefix, is_line, unfinished-cut, whole_lines-cut, whole_lines-lines, unfinished-lines}
 use Rattle.sq_top.specs.Due.{Due}
 use Rattle.sq_top.specs.Answers.{AreOthersAll, AreOthersWhole, BeginsNext, IsClassIn, IsPrefixText, IsWholeText, is_classed, lines_of}
