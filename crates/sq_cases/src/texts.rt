@@ -34,7 +34,8 @@ pub fn written_out(alloc: Global, short: &str) -> Result<String, AllocError> {
         }
         repeats = !repeats;
     }
-    text.replace(alloc, "\\r", "\r")?.replace(alloc, "\\n", "\n")
+    text.replace(alloc, "\\r", "\r")?
+        .replace(alloc, "\\n", "\n")
 }
 
 /// The items between commas; none in an empty text.

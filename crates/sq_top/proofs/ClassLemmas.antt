@@ -1,8 +1,8 @@
 -- The lines that are due of each class: each is one line, of that class alone.
-use Rattle.std.proofs.Common.{◌≡◌, ◌≢◌, ℕ, Bool, true, false, ◌&&◌, ◌||◌, List, [], ◌∷◌, ◌++◌, refl, ap, ap₂, sym, ◌∙◌, subst}
-use Rattle.std.specs.Prelude.{if◌then◌else◌, codes, IsTrue, ⊤}
+use Rattle.std.proofs.Common.{◌≡◌, ◌≢◌, ℕ, Bool, true, false, ◌&&◌, ◌||◌, List, [], ◌∷◌, ◌++◌, refl, ap, sym, ◌∙◌, subst}
+use Rattle.std.specs.Prelude.{codes, IsTrue, ⊤}
 use Rattle.std.specs.Fmt.{decimal}
-use Rattle.std.specs.List.{AllByRecursion, filter, flat_map, list_all, list_any}
+use Rattle.std.specs.List.{AllByRecursion, filter, flat_map, list_any}
 use Rattle.sq_value.specs.Lists.{same_bytes}
 use Rattle.sq_value.specs.Classes.{Class, Shown, Dropped, Planned, Ended, first_field, second_field, is_of_class}
 use Rattle.sq_value.proofs.ListLemmas.{same_bytes-true, same_bytes-refl}
@@ -169,24 +169,26 @@ all_middle P (y ∷ xs) x ys all = all_middle P xs x ys all.1
 abbrev pub IsDueLine : Due → Class → List ℕ → Type 0
 IsDueLine d c l = (is_line false l ≡ true) × (is_of_class c l ≡ true) × (is_classed d l ≡ true)
 
--- the lines of the outputs that a test picks
-module _ (P : List ℕ → Type 0) (p : List ℕ → Bool) where
-  picked_outputs : (os : Outputs) → AllByRecursion (λ o. p o.0 ≡ true → AllByRecursion P o.1) os → AllByRecursion P (flat_map (λ o. o.1) (filter (λ o. p o.0) os))
-  picked_outputs [] all = tt
-  picked_outputs (o ∷ os) all = by_test (p o.0) refl
-    where
-      by_test : (t : Bool) → p o.0 ≡ t → AllByRecursion P (flat_map (λ x. x.1) (filter (λ x. p x.0) (o ∷ os)))
-      by_test true e = rw e (all_append P o.1 (flat_map (λ x. x.1) (filter (λ x. p x.0) os)) (all.0 e) (picked_outputs os all.1))
-      by_test false e = rw e (picked_outputs os all.1)
+-- the lines of the outputs, and of the drops, that a test picks
+picked_output : (P : List ℕ → Type 0) (p : List ℕ → Bool) (t : Bool) (o : List ℕ × List (List ℕ)) (os : Outputs) → p o.0 ≡ t → (p o.0 ≡ true → AllByRecursion P o.1)
+    → AllByRecursion P (flat_map (λ x. x.1) (filter (λ x. p x.0) os)) → AllByRecursion P (flat_map (λ x. x.1) (filter (λ x. p x.0) (o ∷ os)))
+picked_output P p true o os e one more = rw e (all_append P o.1 (flat_map (λ x. x.1) (filter (λ x. p x.0) os)) (one e) more)
+picked_output P p false o os e one more = rw e more
 
-module _ (P : List ℕ → Type 0) (p : ℕ → Bool) where
-  picked_drops : (ws : Drops) → AllByRecursion (λ x. p x.0 ≡ true → AllByRecursion P x.1) ws → AllByRecursion P (flat_map (λ x. x.1) (filter (λ x. p x.0) ws))
-  picked_drops [] all = tt
-  picked_drops (w ∷ ws) all = by_test (p w.0) refl
-    where
-      by_test : (t : Bool) → p w.0 ≡ t → AllByRecursion P (flat_map (λ x. x.1) (filter (λ x. p x.0) (w ∷ ws)))
-      by_test true e = rw e (all_append P w.1 (flat_map (λ x. x.1) (filter (λ x. p x.0) ws)) (all.0 e) (picked_drops ws all.1))
-      by_test false e = rw e (picked_drops ws all.1)
+picked_outputs : (P : List ℕ → Type 0) (p : List ℕ → Bool) (os : Outputs) → AllByRecursion (λ o. p o.0 ≡ true → AllByRecursion P o.1) os
+    → AllByRecursion P (flat_map (λ o. o.1) (filter (λ o. p o.0) os))
+picked_outputs P p [] all = tt
+picked_outputs P p (o ∷ os) all = picked_output P p (p o.0) o os refl all.0 (picked_outputs P p os all.1)
+
+picked_drop : (P : List ℕ → Type 0) (p : ℕ → Bool) (t : Bool) (w : ℕ × List (List ℕ)) (ws : Drops) → p w.0 ≡ t → (p w.0 ≡ true → AllByRecursion P w.1)
+    → AllByRecursion P (flat_map (λ x. x.1) (filter (λ x. p x.0) ws)) → AllByRecursion P (flat_map (λ x. x.1) (filter (λ x. p x.0) (w ∷ ws)))
+picked_drop P p true w ws e one more = rw e (all_append P w.1 (flat_map (λ x. x.1) (filter (λ x. p x.0) ws)) (one e) more)
+picked_drop P p false w ws e one more = rw e more
+
+picked_drops : (P : List ℕ → Type 0) (p : ℕ → Bool) (ws : Drops) → AllByRecursion (λ x. p x.0 ≡ true → AllByRecursion P x.1) ws
+    → AllByRecursion P (flat_map (λ x. x.1) (filter (λ x. p x.0) ws))
+picked_drops P p [] all = tt
+picked_drops P p (w ∷ ws) all = picked_drop P p (p w.0) w ws refl all.0 (picked_drops P p ws all.1)
 
 -- each output's name is one of them, and each drop's number
 pub own_names : (os : Outputs) → AllByRecursion (λ o. list_any (λ x. same_bytes o.0 x.0) os ≡ true) os
@@ -201,17 +203,19 @@ own_numbers [] = tt
 own_numbers (w ∷ ws) = (
   rw (same_bytes-refl (decimal w.0)) refl,
   all_map {P = λ y. list_any (λ x. same_bytes (decimal y.0) (decimal x.0)) ws ≡ true}
-  (λ y h. or_true (same_bytes (decimal y.0) (decimal w.0)) (list_any (λ x. same_bytes (decimal y.0) (decimal x.0)) ws) h) ws (own_numbers ws),
+      (λ y h. or_true (same_bytes (decimal y.0) (decimal w.0)) (list_any (λ x. same_bytes (decimal y.0) (decimal x.0)) ws) h) ws (own_numbers ws),
 )
+
+dropped_first : (t : Bool) (x : ℕ × List (List ℕ)) (ws : Drops) (l w : List ℕ) → same_bytes (first_field l) (codes "@drop") ≡ true → second_field l ≡ w → same_bytes w (decimal x.0) ≡ t
+    → (list_any (λ y. same_bytes w (decimal y.0)) ws ≡ true → list_any (λ y. is_of_class (Dropped y.0) l) ws ≡ true)
+    → list_any (λ y. same_bytes w (decimal y.0)) (x ∷ ws) ≡ true → list_any (λ y. is_of_class (Dropped y.0) l) (x ∷ ws) ≡ true
+dropped_first true x ws l w first second e more h = or_first (is_of_class (Dropped x.0) l) (list_any (λ y. is_of_class (Dropped y.0) l) ws) (rw (first, second, e) refl)
+dropped_first false x ws l w first second e more h = or_true (is_of_class (Dropped x.0) l) (list_any (λ y. is_of_class (Dropped y.0) l) ws) (more (rw e at h))
 
 any_dropped : (ws : Drops) (l w : List ℕ) → same_bytes (first_field l) (codes "@drop") ≡ true → second_field l ≡ w
     → list_any (λ x. same_bytes w (decimal x.0)) ws ≡ true → list_any (λ x. is_of_class (Dropped x.0) l) ws ≡ true
 any_dropped [] l w first second h = cc
-any_dropped (x ∷ ws) l w first second h = by_test (same_bytes w (decimal x.0)) refl
-  where
-    by_test : (t : Bool) → same_bytes w (decimal x.0) ≡ t → list_any (λ y. is_of_class (Dropped y.0) l) (x ∷ ws) ≡ true
-    by_test true e = rw (first, second, e) refl
-    by_test false e = let more = any_dropped ws l w first second (rw e at h) in rw (first, second, e) more
+any_dropped (x ∷ ws) l w first second h = dropped_first (same_bytes w (decimal x.0)) x ws l w first second refl (any_dropped ws l w first second) h
 
 -- one of the four tests holds
 any_of_four : (a b c d : Bool) → b ≡ true → (a || b || c || d) ≡ true
@@ -265,8 +269,11 @@ module _ (d : Due) (s : TellsClasses d) where
   dropped_due w [] named all = tt
   dropped_due w (v ∷ ws) named all = (
     λ e. all_map {P = IsLineOf (Dropped v.0)}
-        (λ l h. (h.0, subst (λ t. (same_bytes (first_field l) (codes "@drop") && same_bytes (second_field l) t) ≡ true) (same_bytes-true (decimal v.0) (decimal w) e) h.1,
-        classed_dropped v.0 l named.0 h.1)) v.1 all.0,
+        (λ l h. (
+          h.0,
+          subst (λ t. (same_bytes (first_field l) (codes "@drop") && same_bytes (second_field l) t) ≡ true) (same_bytes-true (decimal v.0) (decimal w) e) h.1,
+          classed_dropped v.0 l named.0 h.1,
+        )) v.1 all.0,
     dropped_due w ws named.1 all.1,
   )
 

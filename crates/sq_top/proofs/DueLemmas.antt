@@ -1,7 +1,7 @@
 -- Lists of all lines: one that has each class whole, nothing else, and the end lines last, is an order of writing. So is that of
--- the outputs one after another, and so are the lines of two outputs in any order.
+-- the outputs one after another.
 use Rattle.std.proofs.Common.{◌≡◌, ◌≢◌, inl, inr, ℕ, Bool, true, false, not, ◌&&◌, ◌||◌, List, [], ◌∷◌, ◌++◌, refl, ap, ap₂, sym, ◌∙◌, subst, append_assoc, append-nil}
-use Rattle.std.specs.Prelude.{if◌then◌else◌, codes, IsTrue, ⊤}
+use Rattle.std.specs.Prelude.{if◌then◌else◌, codes}
 use Rattle.std.specs.Fmt.{decimal}
 use Rattle.std.specs.List.{AllByRecursion, filter, flat_map, list_all, list_any}
 use Rattle.std.proofs.lemmas.List.Elements.{filter-append}
@@ -12,7 +12,7 @@ use Rattle.sq_value.proofs.ListLemmas.{same_bytes-true, same_bytes-refl}
 use Rattle.sq_top.specs.Due.{Due, all_lines}
 use Rattle.sq_top.specs.Answers.{AreOthersAll, IsClassIn, is_classed, lines_of}
 use Rattle.sq_top.specs.Orders.{AreAll, EachIsNext, IsNextOf, IsOrder}
-use Rattle.sq_top.proofs.ClassLemmas.{AreAlike, Drops, IsDueLine, IsLineOf, IsPlainClass, IsPlainName, Outputs, TellsClasses, alike, all_map, and_true, classed_dropped, classed_ended, classed_planned, classed_shown, end_field-plain, is_end_field, is_ended, not_ended, not_true, or_true, own_names, own_numbers, plain_class, plain_differs, same_bytes-plain}
+use Rattle.sq_top.proofs.ClassLemmas.{Drops, IsLineOf, IsPlainClass, IsPlainName, Outputs, TellsClasses, alike, all_map, and_true, classed_dropped, classed_ended, classed_planned, classed_shown, end_field-plain, is_end_field, not_ended, not_true, or_true, own_names, own_numbers, plain_class, plain_differs, same_bytes-plain}
 use Rattle.sq_top.proofs.SortedLines.{InBack, InFront, cut_twice, filter_same, list_all-back}
 
 -- a list that has each class whole, nothing else, and the end lines last
@@ -45,16 +45,15 @@ name_of : (os : Outputs) (f : List ℕ) → list_any (λ x. same_bytes f x.0) os
 name_of [] f h = absurd (cc)
 name_of (o ∷ os) f h = name_first (same_bytes f o.0) o os f refl (name_of os f) h
 
+drop_first : (t : Bool) (w : ℕ × List (List ℕ)) (ws : Drops) (l : List ℕ) → is_of_class (Dropped w.0) l ≡ t
+    → (list_any (λ x. is_of_class (Dropped x.0) l) ws ≡ true → (v : ℕ) × (is_of_class (Dropped v) l ≡ true))
+    → list_any (λ x. is_of_class (Dropped x.0) l) (w ∷ ws) ≡ true → (v : ℕ) × (is_of_class (Dropped v) l ≡ true)
+drop_first true w ws l e more h = (w.0, e)
+drop_first false w ws l e more h = more (rw e at h)
+
 drop_of : (ws : Drops) (l : List ℕ) → list_any (λ x. is_of_class (Dropped x.0) l) ws ≡ true → (w : ℕ) × (is_of_class (Dropped w) l ≡ true)
 drop_of [] l h = absurd (cc)
-drop_of (w ∷ ws) l h = by (is_of_class (Dropped w.0) l) refl
-  where
-    by : (t : Bool) → is_of_class (Dropped w.0) l ≡ t → (v : ℕ) × (is_of_class (Dropped v) l ≡ true)
-    by true e = (w.0, e)
-    by false e = drop_of_rest (rw e at h)
-      where
-        drop_of_rest : list_any (λ x. is_of_class (Dropped x.0) l) ws ≡ true → (v : ℕ) × (is_of_class (Dropped v) l ≡ true)
-        drop_of_rest g = drop_of ws l g
+drop_of (w ∷ ws) l h = drop_first (is_of_class (Dropped w.0) l) w ws l refl (drop_of ws l) h
 
 class_by : (d : Due) (l : List ℕ) (a b c e : Bool) → list_any (λ o. is_of_class (Shown o.0) l) d.shown ≡ a → list_any (λ x. is_of_class (Dropped x.0) l) d.dropped ≡ b
     → is_of_class Planned l ≡ c → is_of_class Ended l ≡ e → (a || b || c || e) ≡ true → HasClass d l
@@ -98,10 +97,11 @@ module _ (d : Due) (s : TellsClasses d) (ls : List (List ℕ)) (whole : IsWholeL
 
     prefix_here : IsPrefixOf (filter (is_of_class class_here.class) before ++ l ∷ []) (lines_of d class_here.class)
     prefix_here =
-        let p = is_of_class class_here.class in
-        (filter p rest,
+        let p = is_of_class class_here.class in (
+          filter p rest,
           sym (whole.all class_here.class class_here.here) ∙ ap (filter p) at ∙ filter-append p before (l ∷ rest)
-          ∙ ap (λ xs. filter p before ++ xs) (filter_kept p l rest class_here.of) ∙ sym (append_assoc (filter p before) (l ∷ []) (filter p rest)))
+              ∙ ap (λ xs. filter p before ++ xs) (filter_kept p l rest class_here.of) ∙ sym (append_assoc (filter p before) (l ∷ []) (filter p rest)),
+        )
 
     others_before : InBack whole.front d.ended before (l ∷ rest) → AreOthersAll d before
     others_before b k here other =
@@ -137,7 +137,7 @@ module _ (d : Due) (s : TellsClasses d) (ls : List (List ℕ)) (whole : IsWholeL
   whole_order = walk [] ls refl
 
 -- how the test of a class answers for the lines of another
-abbrev tells : Class → Class → Bool
+abbrev pub tells : Class → Class → Bool
 tells (Shown n) (Shown name) = same_bytes n name
 tells (Dropped w) (Dropped v) = same_bytes (decimal w) (decimal v)
 tells Planned Planned = true
@@ -152,17 +152,24 @@ end_field-other : (f other : List ℕ) → is_end_field f ≡ true → is_end_fi
 end_field-other f other ends differs =
     not_true (same_bytes f other) (λ h. let e : is_end_field other ≡ true = subst (λ x. is_end_field x ≡ true) (same_bytes-true f other h) ends in cc)
 
-shown_test : (c : Class) (n l : List ℕ) → IsPlainName n → is_of_class (Shown n) l ≡ true → is_of_class c l ≡ tells (Shown n) c
+pub shown_test : (c : Class) (n l : List ℕ) → IsPlainName n → is_of_class (Shown n) l ≡ true → is_of_class c l ≡ tells (Shown n) c
 shown_test (Shown name) n l plain is = rw (same_bytes-true (first_field l) n is) refl
 shown_test (Dropped w) n l plain is = rw (same_bytes-true (first_field l) n is, same_bytes-plain n (codes "drop") plain) refl
 shown_test Planned n l plain is = rw (same_bytes-true (first_field l) n is, same_bytes-plain n (codes "plan") plain) refl
 shown_test Ended n l plain is = rw (same_bytes-true (first_field l) n is) (end_field-plain n plain)
 
-dropped_test : (c : Class) (w : ℕ) (l : List ℕ) → IsPlainClass c → is_of_class (Dropped w) l ≡ true → is_of_class c l ≡ tells (Dropped w) c
-dropped_test (Shown name) w l plain is = rw (same_bytes-true (first_field l) (codes "@drop") (and_true _ _ is).0) (not_plain name (codes "drop") plain)
-dropped_test (Dropped v) w l plain is = rw (same_bytes-true (first_field l) (codes "@drop") (and_true _ _ is).0, same_bytes-true (second_field l) (decimal w) (and_true _ _ is).1) refl
-dropped_test Planned w l plain is = rw (same_bytes-true (first_field l) (codes "@drop") (and_true _ _ is).0) refl
-dropped_test Ended w l plain is = rw (same_bytes-true (first_field l) (codes "@drop") (and_true _ _ is).0) refl
+module _ (w : ℕ) (l : List ℕ) (is : is_of_class (Dropped w) l ≡ true) where
+  drop_field : first_field l ≡ codes "@drop"
+  drop_field = same_bytes-true (first_field l) (codes "@drop") (and_true (same_bytes (first_field l) (codes "@drop")) (same_bytes (second_field l) (decimal w)) is).0
+
+  drop_number : second_field l ≡ decimal w
+  drop_number = same_bytes-true (second_field l) (decimal w) (and_true (same_bytes (first_field l) (codes "@drop")) (same_bytes (second_field l) (decimal w)) is).1
+
+  dropped_test : (c : Class) → IsPlainClass c → is_of_class c l ≡ tells (Dropped w) c
+  dropped_test (Shown name) plain = rw drop_field (not_plain name (codes "drop") plain)
+  dropped_test (Dropped v) plain = rw (drop_field, drop_number) refl
+  dropped_test Planned plain = rw drop_field refl
+  dropped_test Ended plain = rw drop_field refl
 
 planned_test : (c : Class) (l : List ℕ) → IsPlainClass c → is_of_class Planned l ≡ true → is_of_class c l ≡ tells Planned c
 planned_test (Shown name) l plain is = rw (same_bytes-true (first_field l) (codes "@plan") is) (not_plain name (codes "plan") plain)
@@ -183,21 +190,28 @@ picked p os = flat_map (λ o. o.1) (filter (λ o. p o.0) os)
 abbrev picked_drops : (ℕ → Bool) → Drops → List (List ℕ)
 picked_drops p ws = flat_map (λ x. x.1) (filter (λ x. p x.0) ws)
 
-module _ {A : Type 0} where
-  abbrev Parts : Type 0
-  Parts = List (A × List (List ℕ))
+all_pass : (q : List ℕ → Bool) (xs : List (List ℕ)) → AllByRecursion (λ l. q l ≡ true) xs → list_all q xs ≡ true
+all_pass q [] all = refl
+all_pass q (x ∷ xs) all = rw (all.0, all_pass q xs all.1) refl
 
-  picked_one : (p : A → Bool) (t : Bool) (o : A × List (List ℕ)) (os : Parts) → p o.0 ≡ t
+both_pass : (q : List ℕ → Bool) (xs ys : List (List ℕ)) → list_all q xs ≡ true → list_all q ys ≡ true → list_all q (xs ++ ys) ≡ true
+both_pass q xs ys a b = list_all-append q xs ys ∙ ap (λ t. t && list_all q ys) a ∙ b
+
+abbrev Parts : Type 0 → Type 0
+Parts A = List (A × List (List ℕ))
+
+module _ {A : Type 0} where
+  picked_one : (p : A → Bool) (t : Bool) (o : A × List (List ℕ)) (os : Parts A) → p o.0 ≡ t
       → flat_map (λ x. x.1) (filter (λ x. p x.0) (o ∷ os)) ≡ (if t then o.1 else []) ++ flat_map (λ x. x.1) (filter (λ x. p x.0) os)
   picked_one p true o os e = rw e refl
   picked_one p false o os e = rw e refl
 
-  picked_none : (p : A → Bool) (os : Parts) → ((a : A) → p a ≡ false) → flat_map (λ x. x.1) (filter (λ x. p x.0) os) ≡ []
+  picked_none : (p : A → Bool) (os : Parts A) → ((a : A) → p a ≡ false) → flat_map (λ x. x.1) (filter (λ x. p x.0) os) ≡ []
   picked_none p [] none = refl
   picked_none p (o ∷ os) none = picked_one p false o os (none o.0) ∙ picked_none p os none
 
   -- a test of lines that answers the same for all lines of a part
-  filter_parts : (q : List ℕ → Bool) (p : A → Bool) (os : Parts) → AllByRecursion (λ o. AllByRecursion (λ l. q l ≡ p o.0) o.1) os
+  filter_parts : (q : List ℕ → Bool) (p : A → Bool) (os : Parts A) → AllByRecursion (λ o. AllByRecursion (λ l. q l ≡ p o.0) o.1) os
       → filter q (flat_map (λ o. o.1) os) ≡ flat_map (λ x. x.1) (filter (λ x. p x.0) os)
   filter_parts q p [] all = refl
   filter_parts q p (o ∷ os) all =
@@ -205,23 +219,9 @@ module _ {A : Type 0} where
       ∙ ap₂ (λ xs ys. xs ++ ys) (filter_same q (p o.0) o.1 all.0) (filter_parts q p os all.1)
       ∙ sym (picked_one p (p o.0) o os refl)
 
-  all_parts : (q : List ℕ → Bool) (os : Parts) → AllByRecursion (λ o. AllByRecursion (λ l. q l ≡ true) o.1) os → list_all q (flat_map (λ o. o.1) os) ≡ true
+  all_parts : (q : List ℕ → Bool) (os : Parts A) → AllByRecursion (λ o. AllByRecursion (λ l. q l ≡ true) o.1) os → list_all q (flat_map (λ o. o.1) os) ≡ true
   all_parts q [] all = refl
-  all_parts q (o ∷ os) all = both_all q o.1 (flat_map (λ x. x.1) os) (each_passes q o.1 all.0) (all_parts q os all.1)
-    where
-      each_passes : (q : List ℕ → Bool) (xs : List (List ℕ)) → AllByRecursion (λ l. q l ≡ true) xs → list_all q xs ≡ true
-      each_passes q [] all = refl
-      each_passes q (x ∷ xs) all = rw (all.0, each_passes q xs all.1) refl
-
-      both_all : (q : List ℕ → Bool) (xs ys : List (List ℕ)) → list_all q xs ≡ true → list_all q ys ≡ true → list_all q (xs ++ ys) ≡ true
-      both_all q xs ys a b = list_all-append q xs ys ∙ ap (λ t. t && list_all q ys) a ∙ b
-
-all_pass : (q : List ℕ → Bool) (xs : List (List ℕ)) → AllByRecursion (λ l. q l ≡ true) xs → list_all q xs ≡ true
-all_pass q [] all = refl
-all_pass q (x ∷ xs) all = rw (all.0, all_pass q xs all.1) refl
-
-both_pass : (q : List ℕ → Bool) (xs ys : List (List ℕ)) → list_all q xs ≡ true → list_all q ys ≡ true → list_all q (xs ++ ys) ≡ true
-both_pass q xs ys a b = list_all-append q xs ys ∙ ap (λ t. t && list_all q ys) a ∙ b
+  all_parts q (o ∷ os) all = both_pass q o.1 (flat_map (λ x. x.1) os) (all_pass q o.1 all.0) (all_parts q os all.1)
 
 all_named : {A : Type 0} {N P Q : A × List (List ℕ) → Type 0} (f : (o : A × List (List ℕ)) → N o → P o → Q o) (os : List (A × List (List ℕ)))
     → AllByRecursion N os → AllByRecursion P os → AllByRecursion Q os
@@ -230,10 +230,10 @@ all_named f (o ∷ os) named all = (f o named.0 all.0, all_named f os named.1 al
 
 -- all lines, those of the outputs first
 module _ (d : Due) (s : TellsClasses d) where
-  abbrev shown_lines : List (List ℕ)
+  abbrev pub shown_lines : List (List ℕ)
   shown_lines = flat_map (λ o. o.1) d.shown
 
-  abbrev dropped_lines : List (List ℕ)
+  abbrev pub dropped_lines : List (List ℕ)
   dropped_lines = flat_map (λ x. x.1) d.dropped
 
   -- what a test has of the lines of the outputs, the drops, the plans and the end
@@ -245,7 +245,7 @@ module _ (d : Due) (s : TellsClasses d) where
 
     filter_dropped : filter (is_of_class c) dropped_lines ≡ picked_drops (λ w. tells (Dropped w) c) d.dropped
     filter_dropped = filter_parts (is_of_class c) (λ w. tells (Dropped w) c) d.dropped
-        (all_map {P = λ x. AllByRecursion (IsLineOf (Dropped x.0)) x.1} (λ x ls. all_map {P = IsLineOf (Dropped x.0)} (λ l h. dropped_test c x.0 l plain h.1) x.1 ls) d.dropped s.dropped)
+        (all_map {P = λ x. AllByRecursion (IsLineOf (Dropped x.0)) x.1} (λ x ls. all_map {P = IsLineOf (Dropped x.0)} (λ l h. dropped_test x.0 l h.1 c plain) x.1 ls) d.dropped s.dropped)
 
     filter_planned : filter (is_of_class c) d.planned ≡ (if tells Planned c then d.planned else [])
     filter_planned = filter_same (is_of_class c) (tells Planned c) d.planned (all_map {P = IsLineOf Planned} (λ l h. planned_test c l plain h.1) d.planned s.planned)
@@ -290,18 +290,18 @@ module _ (d : Due) (s : TellsClasses d) where
       (both_pass p d.planned d.ended (all_pass p d.planned (all_map {P = IsLineOf Planned} (λ l h. classed_planned d s l h.1) d.planned s.planned))
       (all_pass p d.ended (all_map {P = IsLineOf Ended} (λ l h. classed_ended d s l h.1) d.ended s.ended))))
 
-  abbrev is_other : List ℕ → Bool
+  abbrev pub is_other : List ℕ → Bool
   is_other l = not (is_of_class Ended l)
 
   -- no line in front of the end lines is one
-  all_other : list_all is_other (shown_lines ++ (dropped_lines ++ d.planned)) ≡ true
+  pub all_other : list_all is_other (shown_lines ++ (dropped_lines ++ d.planned)) ≡ true
   all_other =
       both_pass is_other shown_lines (dropped_lines ++ d.planned)
       (all_parts is_other d.shown (all_named {N = λ o. IsPlainName o.0} {P = λ o. AllByRecursion (IsLineOf (Shown o.0)) o.1}
       (λ o n ls. all_map {P = IsLineOf (Shown o.0)} (λ l h. ap not (shown_test Ended o.0 l n h.1)) o.1 ls) d.shown s.names s.shown))
       (both_pass is_other dropped_lines d.planned
       (all_parts is_other d.dropped (all_map {P = λ x. AllByRecursion (IsLineOf (Dropped x.0)) x.1}
-      (λ x ls. all_map {P = IsLineOf (Dropped x.0)} (λ l h. ap not (dropped_test Ended x.0 l tt h.1)) x.1 ls) d.dropped s.dropped))
+      (λ x ls. all_map {P = IsLineOf (Dropped x.0)} (λ l h. ap not (dropped_test x.0 l h.1 Ended tt)) x.1 ls) d.dropped s.dropped))
       (all_pass is_other d.planned (all_map {P = IsLineOf Planned} (λ l h. ap not (planned_test Ended l tt h.1)) d.planned s.planned)))
 
   pub all_whole : IsWholeList d (all_lines d)

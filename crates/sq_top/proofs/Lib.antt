@@ -1,6 +1,7 @@
 pub mod ClassLemmas
 pub mod OrderLemmas
 pub mod DueLemmas
+pub mod MixedLemmas
 pub mod EndLemmas
 mod Rows
 pub mod SortedLines

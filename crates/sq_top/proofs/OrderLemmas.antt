@@ -1,12 +1,12 @@
 -- Lines that are written in an order in which each is the next of its class: what their text has of each class.
-use Rattle.std.proofs.Common.{◌≡◌, ◌≢◌, ◌⊎◌, inl, inr, ℕ, ◌+◌, ◌<◌, ◌≤◌, Bool, true, false, not, ◌&&◌, ◌||◌, List, [], ◌∷◌, ◌++◌, length, drop, refl, ap, sym, ◌∙◌, subst, arith, append_assoc, append-nil, Some}
-use Rattle.std.specs.Prelude.{if◌then◌else◌, slice_get, IsSomeAnd, ⊤}
-use Rattle.std.specs.List.{AllByRecursion, filter, flat_map, list_all}
+use Rattle.std.proofs.Common.{◌≡◌, ◌≢◌, ◌⊎◌, inl, inr, ℕ, Bool, true, false, not, ◌&&◌, List, [], ◌∷◌, ◌++◌, length, drop, refl, ap, sym, ◌∙◌, subst, arith, append_assoc, append-nil, Some}
+use Rattle.std.specs.Prelude.{if◌then◌else◌, slice_get, IsSomeAnd}
+use Rattle.std.specs.List.{AllByRecursion, filter, list_all}
 use Rattle.std.proofs.lemmas.List.{length-append, take-append-drop}
 use Rattle.std.proofs.lemmas.List.Elements.{filter-append}
 use Rattle.std.proofs.lemmas.List.Folds.{list_all-append}
 use Rattle.sq_value.specs.Lists.{IsPrefixOf}
-use Rattle.sq_value.specs.Classes.{Class, Shown, Dropped, Planned, Ended, is_of_class, of_class, whole_lines, unfinished}
+use Rattle.sq_value.specs.Classes.{Class, Ended, is_of_class, of_class, whole_lines, unfinished}
 use Rattle.sq_value.proofs.LineLemmas.{AreLines, Cut, IsFront, cut_prefix, is_line, unfinished-cut, whole_lines-cut, whole_lines-lines, unfinished-lines}
 use Rattle.sq_top.specs.Due.{Due}
 use Rattle.sq_top.specs.Answers.{AreOthersAll, AreOthersWhole, BeginsNext, IsClassIn, IsPrefixText, IsWholeText, is_classed, lines_of}
@@ -32,18 +32,18 @@ no_more xs l rest e =
     absurd (omega (arith, n, m, k))
 
 -- end lines stand behind all others
-record EndsBehind (d : Due) (ls : List (List ℕ)) : Type 0 where
-  front : List (List ℕ)
-  lines_are : ls ≡ front ++ filter (is_of_class Ended) ls
-  others : list_all (λ l. not (is_of_class Ended l)) front ≡ true
+pub record EndsBehind (d : Due) (ls : List (List ℕ)) : Type 0 where
+  pub front : List (List ℕ)
+  pub lines_are : ls ≡ front ++ filter (is_of_class Ended) ls
+  pub others : list_all (λ l. not (is_of_class Ended l)) front ≡ true
 
 -- what lines that were written have of each class
-record HaveSoFar (d : Due) (ls : List (List ℕ)) : Type 0 where
-  each : (k : Class) → IsClassIn d k → IsPrefixOf (filter (is_of_class k) ls) (lines_of d k)
-  classed : list_all (is_classed d) ls ≡ true
-  lines : AreLines ls
-  ends : (filter (is_of_class Ended) ls ≡ []) ⊎ AreOthersAll d ls
-  behind : EndsBehind d ls
+pub record HaveSoFar (d : Due) (ls : List (List ℕ)) : Type 0 where
+  pub each : (k : Class) → IsClassIn d k → IsPrefixOf (filter (is_of_class k) ls) (lines_of d k)
+  pub classed : list_all (is_classed d) ls ≡ true
+  pub lines : AreLines ls
+  pub ends : (filter (is_of_class Ended) ls ≡ []) ⊎ AreOthersAll d ls
+  pub behind : EndsBehind d ls
 
 none_so_far : (d : Due) → HaveSoFar d []
 none_so_far d = record {
@@ -66,9 +66,10 @@ module _ (d : Due) (s : TellsClasses d) (ls : List (List ℕ)) (has : HaveSoFar 
 
   each_by : (t : Bool) (k : Class) → IsClassIn d k → is_of_class k l ≡ t → IsPrefixOf (filter (is_of_class k) (ls ++ l ∷ [])) (lines_of d k)
   each_by true k here of =
-      let a = same_class k here of in
-      (next.1.0,
-        sym a.lines ∙ next.1.1 ∙ ap (λ xs. (xs ++ l ∷ []) ++ next.1.0) (filter_alike (is_of_class c) (is_of_class k) a.test ls) ∙ ap (λ xs. xs ++ next.1.0) (sym (filter_one (is_of_class k) true ls l of)))
+      let a = same_class k here of in (
+        next.1.0,
+        sym a.lines ∙ next.1.1 ∙ ap (λ xs. (xs ++ l ∷ []) ++ next.1.0) (filter_alike (is_of_class c) (is_of_class k) a.test ls) ∙ ap (λ xs. xs ++ next.1.0) (sym (filter_one (is_of_class k) true ls l of)),
+      )
     where
       filter_alike : (p q : List ℕ → Bool) → ((x : List ℕ) → p x ≡ q x) → (xs : List (List ℕ)) → filter p xs ≡ filter q xs
       filter_alike p q same [] = refl

@@ -1,5 +1,5 @@
 // The words and the files of a run, read in the order of work.
-ghost use Rattle.std.specs.Prelude.{◌≡◌, ◌⊎◌, ◌≤◌, true, Err, IfOk, IfErr, IsSome, None, Ok, Some, [], length, map, List, ℕ};
+ghost use Rattle.std.specs.Prelude.{◌≡◌, ◌⊎◌, ◌≤◌, true, Err, IfOk, IfErr, IsSome, None, Ok, Some, [], length, map};
 ghost use Rattle.std.specs.List.{All};
 ghost use Rattle.std.specs.String.{string_bytes};
 ghost use Rattle.sq_value.specs.Values.{IsStream};

@@ -7,7 +7,7 @@ ghost use Rattle.sq_model.specs.Fed.{work_from, work_of};
 ghost use Rattle.sq_value.specs.LineTexts.{output_line};
 ghost use Rattle.sq_value.specs.Values.{IsStream};
 ghost use Rattle.sq_outside.specs.Sinks.{AppendsPrefix, appended};
-ghost use Rattle.sq_top.specs.Due.{all_text, due_from, due_of, fed_line, feds_from, outputs_of};
+ghost use Rattle.sq_top.specs.Due.{all_text, due_from, due_of, fed_line, outputs_of};
 ghost use Rattle.sq_top.specs.Writing.{IsLost, Moves, ends_text, late_text, output_text, output_work, tuples_text};
 
 use crate::Status;
