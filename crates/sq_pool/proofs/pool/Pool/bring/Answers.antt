@@ -1,10 +1,9 @@
-use Rattle.std.proofs.Common.{◌≡◌, ℕ, ◌+◌, ◌<◌, ◌∷◌, ◌++◌, [], true, false, List, Option, Some, None, length, refl, sym, ap, subst, ◌∙◌, arith}
-use Rattle.std.specs.Prelude.{is_some, IsSome, option_map, replicate}
+use Rattle.std.proofs.Common.{sym, ap, ◌∙◌, arith}
 use Rattle.sq_pool.specs.Slots.{without_page}
-use Rattle.sq_pool.specs.Pools.{Pooled, frame_at, filled, pooled, bytes_in, with_bytes, loaded, zeros, CameBack}
-use Rattle.sq_pool.proofs.PoolLemmas.{is-some, held-inside, touched, out-of-frames, not-held, length-touched, length-without_page, new-page}
-use Rattle.sq_pool.proofs.MapLemmas.{keeps-fetched, room-out, loaded-bytes}
-use Rattle.sq_pool.proofs.CallLemmas.{keeps-touch, drops-release, drops-given, touches, made-makes, made-last, opened-bytes, fetched-last}
+use Rattle.sq_pool.specs.Pools.{Pooled, frame_at, filled, CameBack}
+use Rattle.sq_pool.proofs.PoolLemmas.{held-inside, touched, out-of-frames, not-held, length-touched}
+use Rattle.sq_pool.proofs.MapLemmas.{keeps-fetched}
+use Rattle.sq_pool.proofs.CallLemmas.{keeps-touch, touches}
 use Rattle.sq_pool.proofs.pool.Pool.bring.Goals as goal
 
 pub place-requires : goal.place-requires

@@ -1,10 +1,6 @@
-use Rattle.std.proofs.Common.{◌≡◌, ℕ, ◌+◌, ◌<◌, ◌∷◌, ◌++◌, [], true, false, List, Option, Some, None, length, refl, sym, ap, subst, ◌∙◌, arith}
-use Rattle.std.specs.Prelude.{is_some, IsSome, option_map, replicate}
-use Rattle.sq_pool.specs.Slots.{without_page}
-use Rattle.sq_pool.specs.Pools.{Pooled, frame_at, filled, pooled, bytes_in, with_bytes, loaded, zeros}
-use Rattle.sq_pool.proofs.PoolLemmas.{is-some, held-inside, touched, out-of-frames, not-held, length-touched, length-without_page, new-page}
-use Rattle.sq_pool.proofs.MapLemmas.{keeps-fetched, room-out, loaded-bytes}
-use Rattle.sq_pool.proofs.CallLemmas.{keeps-touch, drops-release, drops-given, release-goes, given-goes, made-makes, made-last, opened-bytes, fetched-last}
+use Rattle.std.proofs.Common.{arith}
+use Rattle.sq_pool.proofs.PoolLemmas.{held-inside, not-held, length-without_page}
+use Rattle.sq_pool.proofs.CallLemmas.{drops-release, drops-given, release-goes, given-goes}
 use Rattle.sq_pool.proofs.pool.Pool.drop_page.Goals as goal
 
 pub place-requires : goal.place-requires

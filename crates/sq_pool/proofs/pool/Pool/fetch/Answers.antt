@@ -1,9 +1,8 @@
-use Rattle.std.proofs.Common.{true, false, ◌≡◌, ℕ, ◌∷◌, ◌++◌, List, Option, Some, None, length, refl, sym, ap, subst, ◌∙◌, arith}
-use Rattle.std.specs.Prelude.{is_some, IsSome}
+use Rattle.std.proofs.Common.{true, false, ◌≡◌, ℕ, List, Option, Some, refl, sym, ap, ◌∙◌}
 use Rattle.sha2.specs.Sha256.{sha256}
-use Rattle.sq_pool.specs.Pools.{Pooled, bytes_in, with_bytes, loaded}
+use Rattle.sq_pool.specs.Pools.{Pooled, bytes_in, with_bytes}
 use Rattle.sq_pool.proofs.PoolLemmas.{is-some}
-use Rattle.sq_pool.proofs.MapLemmas.{room-out, room-kept, room-told, holds_page, same_digest, room-tells, is-told, written, loaded-bytes}
+use Rattle.sq_pool.proofs.MapLemmas.{room-out, room-told, holds_page, same_digest, room-tells, is-told, written, loaded-bytes}
 use Rattle.sq_pool.proofs.pool.Pool.fetch.Goals as goal
 
 pub open_frame-requires-clause-out : goal.open_frame-requires-clause-out

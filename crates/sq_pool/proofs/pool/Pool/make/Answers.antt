@@ -1,10 +1,8 @@
-use Rattle.std.proofs.Common.{◌≡◌, ℕ, ◌+◌, ◌<◌, ◌∷◌, ◌++◌, [], true, false, List, Option, Some, None, length, refl, sym, ap, subst, ◌∙◌, arith}
-use Rattle.std.specs.Prelude.{is_some, IsSome, option_map, replicate}
-use Rattle.sq_pool.specs.Slots.{without_page}
-use Rattle.sq_pool.specs.Pools.{Pooled, frame_at, filled, pooled, bytes_in, with_bytes, loaded, zeros, HasRoom, IsMade}
-use Rattle.sq_pool.proofs.PoolLemmas.{is-some, held-inside, touched, out-of-frames, not-held, length-touched, length-without_page, new-page}
-use Rattle.sq_pool.proofs.MapLemmas.{keeps-fetched, started, numbered-frames, room-out, room-length, loaded-bytes}
-use Rattle.sq_pool.proofs.CallLemmas.{keeps-touch, drops-release, drops-given, touches, made-by, made-makes, made-last, opened-bytes, fetched-last}
+use Rattle.std.proofs.Common.{ap, ◌∙◌, arith}
+use Rattle.sq_pool.specs.Pools.{Pooled, bytes_in}
+use Rattle.sq_pool.proofs.PoolLemmas.{is-some}
+use Rattle.sq_pool.proofs.MapLemmas.{started, numbered-frames, room-out, room-length, loaded-bytes}
+use Rattle.sq_pool.proofs.CallLemmas.{made-by, made-makes, made-last}
 use Rattle.sq_pool.proofs.pool.Pool.make.Goals as goal
 
 pub open_frame-requires-clause-out : goal.open_frame-requires-clause-out

@@ -1,6 +1,6 @@
-use Rattle.std.proofs.Common.{◌≡◌, ℕ, ◌+◌, ◌<◌, List, Option, Some, None, length, refl, sym, ap, subst, ◌∙◌, arith}
-use Rattle.sq_pool.specs.Pools.{frame_at, filled}
-use Rattle.sq_pool.proofs.PoolLemmas.{page-frame, is-some, bytes-frame, bytes-filled, no-frame, lent, opened, held-inside, frame-there, length-filled}
+use Rattle.std.proofs.Common.{arith}
+use Rattle.sq_pool.specs.Pools.{frame_at}
+use Rattle.sq_pool.proofs.PoolLemmas.{no-frame, opened, length-filled}
 use Rattle.sq_pool.proofs.pool.Pool.open_frame.Goals as goal
 
 pub occupy-requires-clause-out : goal.occupy-requires-clause-out

@@ -1,5 +1,4 @@
-use Rattle.std.proofs.Common.{◌≡◌, ℕ, ◌+◌, ◌<◌, List, length, refl, sym, ap, subst, ◌∙◌, arith}
-use Rattle.std.proofs.lemmas.List.{length-map}
+use Rattle.std.proofs.Common.{sym, ap, ◌∙◌, arith}
 use Rattle.sq_outside.specs.Disks.{with_page}
 use Rattle.sq_pool.specs.Slots.{without_page}
 use Rattle.sq_pool.specs.Pools.{frame_at}
