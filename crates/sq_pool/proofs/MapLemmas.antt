@@ -1,0 +1,424 @@
+-- The map that a pool and a disk stand for, after each change.
+use Rattle.std.proofs.Common.{◌≡◌, ℕ, zero, suc, ◌<◌, ◌≢◌, Bool, true, false, not, cond, eqb, List, [], ◌∷◌, ◌++◌, Option, Some, None, length, refl, sym, ap, subst, ◌∙◌, inl, inr, arith, get_or-set_other, get_or-set_same}
+use Rattle.std.specs.Prelude.{slice_get, IfSome, IsSome, is_some, ◌||◌, ◌&&◌}
+use Rattle.std.proofs.Math.ListN.{set, length-set}
+use Rattle.std.proofs.lemmas.List.{get_or_past}
+use Rattle.std.proofs.lemmas.Bool.{cases_eq, cases_lt}
+use Rattle.std.specs.FinMap as finite
+use Rattle.std.specs.Ordering.{nat_cmp, is_eq}
+use Rattle.std.specs.declared.cmp.Ordering.{Ordering}
+use Rattle.std.specs.declared.cmp.Ordering.TheVariants.{Less, Equal, Greater}
+use Rattle.std.specs.Cmp.{nat_cmp_total, eq_by_cmp_equiv}
+use Rattle.sha2.specs.Sha256.{sha256}
+use Rattle.sq_link.proofs.ListLemmas.{eqb-same, eqb-other}
+use Rattle.sq_outside.specs.Disks.{Pages, with_page, without_page as without_number, HasPage, HoldsPage}
+use Rattle.sq_pool.specs.Slots.{without_page, kept_at}
+use Rattle.sq_pool.specs.Pools.{Pooled, bytes_in, is_held, page_of, if_none, if_kept, HasDigest, Agree, SameMap, Spills, HasRoom, with_bytes, loaded, Fetches, Keeps, Makes, Drops, zeros, numbered, IsNumbered, LetsGo}
+
+-- ---- lists of pages
+
+bytes-step : (x : ℕ × List ℕ) (q : ℕ) (t : Bool) (xs ys : List (ℕ × List ℕ)) → eqb x.0 q ≡ false → bytes_in q ys ≡ bytes_in q xs → bytes_in q (cond t (x ∷ ys) ys) ≡ bytes_in q xs
+bytes-step x q true xs ys other h = rw other h
+bytes-step x q false xs ys other h = h
+
+bytes-same : (x : ℕ × List ℕ) (q : ℕ) (ys xs : List (ℕ × List ℕ)) → bytes_in q ys ≡ bytes_in q xs → bytes_in q (x ∷ ys) ≡ bytes_in q (x ∷ xs)
+bytes-same x q ys xs h = ap (λ (o : Option (List ℕ)). cond (eqb x.0 q) (Some x.1) o) h
+
+pub bytes-other : (p q : ℕ) (xs : List (ℕ × List ℕ)) → q ≢ p → bytes_in q (without_page p xs) ≡ bytes_in q xs
+bytes-other p q [] other = refl
+bytes-other p q (x ∷ xs) other =
+    elim (cases_eq x.0 p) [
+      | inl e ↦
+          let gone : eqb x.0 p ≡ true = rw (e) (eqb-same p) in
+          let apart : eqb x.0 q ≡ false = eqb-other x.0 q (λ s. other (sym s ∙ e)) in
+          rw (gone, apart) (bytes-other p q xs other)
+      | inr differ ↦ rw (eqb-other x.0 p differ) (bytes-same x q (without_page p xs) xs (bytes-other p q xs other))
+    ]
+
+pub bytes-gone : (p : ℕ) (xs : List (ℕ × List ℕ)) → bytes_in p (without_page p xs) ≡ None
+bytes-gone p [] = refl
+bytes-gone p (x ∷ xs) =
+    elim (cases_eq x.0 p) [
+      | inl e ↦ let gone : eqb x.0 p ≡ true = rw (e) (eqb-same p) in rw (gone) (bytes-gone p xs)
+      | inr differ ↦ let apart = eqb-other x.0 p differ in rw (apart, apart) (bytes-gone p xs)
+    ]
+
+last-step : (t : Bool) (v : List ℕ) (o r : Option (List ℕ)) (b : List ℕ) → (o ≡ None → r ≡ Some b) → cond t (Some v) o ≡ None → cond t (Some v) r ≡ Some b
+last-step true v o r b rest h = absurd cc
+last-step false v o r b rest h = rest h
+
+pub bytes-last : (p : ℕ) (b : List ℕ) (xs : List (ℕ × List ℕ)) → bytes_in p xs ≡ None → bytes_in p (xs ++ (p, b) ∷ []) ≡ Some b
+bytes-last p b [] h = rw (eqb-same p) refl
+bytes-last p b (x ∷ xs) h = last-step (eqb x.0 p) x.1 (bytes_in p xs) (bytes_in p (xs ++ (p, b) ∷ [])) b (bytes-last p b xs) h
+
+pub bytes-before : (p q : ℕ) (b : List ℕ) (xs : List (ℕ × List ℕ)) → q ≢ p → bytes_in q (xs ++ (p, b) ∷ []) ≡ bytes_in q xs
+bytes-before p q b [] other = rw (eqb-other p q (λ e. other (sym e))) refl
+bytes-before p q b (x ∷ xs) other = bytes-same x q (xs ++ (p, b) ∷ []) xs (bytes-before p q b xs other)
+
+with-step : (x : ℕ × List ℕ) (w : List ℕ) (t : Bool) (o : Option (List ℕ)) (ys zs : List (ℕ × List ℕ)) → (o ≡ None → ys ≡ zs) → cond t (Some x.1) o ≡ None
+    → ◌≡◌ {A = List (ℕ × List ℕ)} (cond t (x.0, w) x ∷ ys) (x ∷ zs)
+with-step x w true o ys zs h e = absurd cc
+with-step x w false o ys zs h e = ap (λ rest. x ∷ rest) (h e)
+
+with-last : (p : ℕ) (w b : List ℕ) (xs : List (ℕ × List ℕ)) → bytes_in p xs ≡ None → with_bytes p w (xs ++ (p, b) ∷ []) ≡ xs ++ (p, w) ∷ []
+with-last p w b [] h = rw (eqb-same p) refl
+with-last p w b (x ∷ xs) h = with-step x w (eqb x.0 p) (bytes_in p xs) (with_bytes p w (xs ++ (p, b) ∷ [])) (xs ++ (p, w) ∷ []) (with-last p w b xs) h
+
+first-bytes : (xs : List (ℕ × List ℕ)) (p : ℕ) (b : List ℕ) → slice_get xs 0 ≡ Some (p, b) → bytes_in p xs ≡ Some b
+first-bytes [] p b e = absurd cc
+first-bytes (x ∷ xs) p b e =
+    let same : x ≡ (p, b) = cc in
+    subst (λ (y : ℕ × List ℕ). bytes_in p (y ∷ xs) ≡ Some b) (sym same) (rw (eqb-same p) refl)
+
+-- written bytes of a page that was just put into a frame
+pub written : (mid : Pooled) (p : ℕ) (b w : List ℕ) → bytes_in p mid.resident ≡ None
+    → ◌≡◌ {A = Pooled} (record (loaded mid p b) { resident = with_bytes p w (loaded mid p b).resident }) (loaded mid p w)
+written mid p b w none = λ i. record { resident = with-last p w b mid.resident none i; kept = set mid.kept p None; frames = mid.frames }
+
+pub loaded-bytes : (mid : Pooled) (p : ℕ) (b : List ℕ) → bytes_in p mid.resident ≡ None → bytes_in p (loaded mid p b).resident ≡ Some b
+loaded-bytes mid p b none = bytes-last p b mid.resident none
+
+-- ---- room
+
+pub room-out : (c : Pooled) (told : Option Pages) (d : Pooled) (now : Option Pages) (p : ℕ) → HasRoom c told d now → bytes_in p c.resident ≡ None → bytes_in p d.resident ≡ None
+room-out c told d now p room none =
+    elim room.how [
+      | inl same ↦ ap (λ (x : Pooled). bytes_in p x.resident) same.0 ∙ none
+      | inr s ↦ ap (λ (x : Pooled). bytes_in p x.resident) s.pool ∙
+          elim (cases_eq p s.page) [
+            | inl e ↦ subst (λ (q : ℕ). bytes_in q (without_page s.page c.resident) ≡ None) (sym e) (bytes-gone s.page c.resident)
+            | inr other ↦ bytes-other s.page p c.resident other ∙ none
+          ]
+    ]
+
+-- a page that isn't resident isn't the one that is spilled
+not-spilled : (c : Pooled) (told : Option Pages) (d : Pooled) (now : Option Pages) (p : ℕ) (s : Spills c told d now) → bytes_in p c.resident ≡ None → p ≢ s.page
+not-spilled c told d now p s none e =
+    let b : Some s.bytes ≡ None = sym (first-bytes c.resident s.page s.bytes s.oldest) ∙ ap (λ (q : ℕ). bytes_in q c.resident) (sym e) ∙ none in cc
+
+pub room-kept : (c : Pooled) (told : Option Pages) (d : Pooled) (now : Option Pages) (p : ℕ) → HasRoom c told d now → bytes_in p c.resident ≡ None → kept_at d.kept p ≡ kept_at c.kept p
+room-kept c told d now p room none =
+    elim room.how [
+      | inl same ↦ ap (λ (x : Pooled). kept_at x.kept p) same.0
+      | inr s ↦ ap (λ (x : Pooled). kept_at x.kept p) s.pool ∙ get_or-set_other c.kept s.page p (Some (sha256 s.bytes)) None (not-spilled c told d now p s none)
+    ]
+
+unequal : (o : Ordering) → ¬ (o ≡ Equal) → is_eq o ≡ false
+unequal Less h = refl
+unequal Equal h = absurd (h refl)
+unequal Greater h = refl
+
+get-other : (t : Pages) (p q : ℕ) (b : List ℕ) → q ≢ p → finite.get (finite.insert t p b) q ≡ finite.get t q
+get-other t p q b other =
+    finite.get-insert nat_cmp_total t p b q
+    ∙ ap (λ (x : Bool). cond x (Some b) (finite.get t q)) (unequal (nat_cmp q p) (λ e. other (finite.nat_cmp-IsAntisymmetric q p e)))
+
+get-same : (t : Pages) (p : ℕ) (b : List ℕ) → finite.get (finite.insert t p b) p ≡ Some b
+get-same t p b = finite.get-insert nat_cmp_total t p b p ∙ ap (λ (x : Bool). cond x (Some b) (finite.get t p)) ((eq_by_cmp_equiv nat_cmp_total).refl p)
+
+-- where the disk tells its pages, it does so after it took one
+pub room-told : (c : Pooled) (told : Option Pages) (d : Pooled) (now : Option Pages) (p : ℕ) (digest : List ℕ) → HasRoom c told d now → Agree c told → bytes_in p c.resident ≡ None → kept_at c.kept p ≡ Some digest
+    → IfSome now (λ n. HasDigest (finite.get n p) digest)
+room-told c told d now p digest room agree none kept =
+    elim room.how [
+      | inl same ↦ subst (λ (o : Option Pages). IfSome o (λ n. HasDigest (finite.get n p) digest)) (sym same.1) (told_at told agree)
+      | inr s ↦ subst (λ (o : Option Pages). IfSome o (λ n. HasDigest (finite.get n p) digest)) (sym s.disk) (put_at told agree s.page s.bytes (not-spilled c told d now p s none))
+    ]
+  where
+    told_at : (o : Option Pages) → Agree c o → IfSome o (λ n. HasDigest (finite.get n p) digest)
+    told_at None a = tt
+    told_at (Some t) a = subst (λ (k : Option (List ℕ)). IfSome k (HasDigest (finite.get t p))) kept (a p)
+
+    put_at : (o : Option Pages) → Agree c o → (v : ℕ) (b : List ℕ) → p ≢ v → IfSome (with_page o v b) (λ n. HasDigest (finite.get n p) digest)
+    put_at None a v b other = tt
+    put_at (Some t) a v b other = subst (λ (k : Option (List ℕ)). HasDigest k digest) (sym (get-other t v p b other)) (subst (λ (k : Option (List ℕ)). IfSome k (HasDigest (finite.get t p))) kept (a p))
+
+has_page : (o : Option (List ℕ)) (digest : List ℕ) → HasDigest o digest → IsSome o
+has_page None digest h = absurd h
+has_page (Some b) digest h = refl
+
+pub holds_page : (now : Option Pages) (p : ℕ) (digest : List ℕ) → IfSome now (λ n. HasDigest (finite.get n p) digest) → HoldsPage now p
+holds_page None p digest h = tt
+holds_page (Some n) p digest h = has_page (finite.get n p) digest h
+
+-- a disk that tells its pages garbles none
+pub same_digest : (now : Option Pages) (p : ℕ) (digest bytes : List ℕ) → IfSome now (λ n. HasDigest (finite.get n p) digest) → HasPage now p bytes → is_some now ≡ true → sha256 bytes ≡ digest
+same_digest None p digest bytes h k t = absurd cc
+same_digest (Some n) p digest bytes h k t = subst (λ (o : Option (List ℕ)). HasDigest o digest) k h
+
+pub room-tells : (c : Pooled) (told : Option Pages) (d : Pooled) (now : Option Pages) → HasRoom c told d now → is_some now ≡ is_some told
+room-tells c told d now room = elim room.how [ inl same ↦ ap (λ (o : Option Pages). is_some o) same.1 | inr s ↦ ap (λ (o : Option Pages). is_some o) s.disk ∙ tells told s.page s.bytes ]
+  where
+    tells : (o : Option Pages) (v : ℕ) (b : List ℕ) → is_some (with_page o v b) ≡ is_some o
+    tells None v b = refl
+    tells (Some t) v b = refl
+
+pub is-told : {P : Type 0} (o : Option Pages) → (is_some o ≡ true → P) → IfSome o (λ _. P)
+is-told None h = tt
+is-told (Some t) h = h refl
+
+-- ---- the map stays
+
+at-page : {A : Type 0} (f g : ℕ → A) (p : ℕ) → f p ≡ g p → ((q : ℕ) → q ≢ p → f q ≡ g q) → (q : ℕ) → f q ≡ g q
+at-page f g p here other q = elim (cases_eq q p) [ inl e ↦ ap f e ∙ here ∙ ap g (sym e) | inr differ ↦ other q differ ]
+
+kept-cleared : (kept : List (Option (List ℕ))) (p : ℕ) → kept_at (set kept p None) p ≡ None
+kept-cleared kept p =
+    elim (cases_lt p (length kept)) [
+      | inl inside ↦ get_or-set_same kept p None None inside
+      | inr past ↦ get_or_past (set kept p None) p None (omega (arith, length-set kept p None))
+    ]
+
+page-is : (c d : Pooled) (t n : Pages) (q : ℕ) → bytes_in q d.resident ≡ bytes_in q c.resident → kept_at d.kept q ≡ kept_at c.kept q → finite.get n q ≡ finite.get t q → page_of d n q ≡ page_of c t q
+page-is c d t n q a b e = ap (λ (o : Option (List ℕ)). if_none o (if_kept (kept_at d.kept q) (finite.get n q))) a ∙ ap (λ (o : Option (List ℕ)). if_none (bytes_in q c.resident) (if_kept o (finite.get n q))) b
+    ∙ ap (λ (o : Option (List ℕ)). if_none (bytes_in q c.resident) (if_kept (kept_at c.kept q) o)) e
+
+held-is : (c d : Pooled) (q : ℕ) → bytes_in q d.resident ≡ bytes_in q c.resident → kept_at d.kept q ≡ kept_at c.kept q → is_held d q ≡ is_held c q
+held-is c d q a b = ap (λ (o : Option (List ℕ)). is_some o || is_some (kept_at d.kept q)) a ∙ ap (λ (o : Option (List ℕ)). is_some (bytes_in q c.resident) || is_some o) b
+
+abbrev spilled_of : Pooled → ℕ → List ℕ → Pooled
+spilled_of c v b = record c { resident = without_page v c.resident; kept = set c.kept v (Some (sha256 b)) }
+
+spilled-map : (c : Pooled) (t : Pages) (v : ℕ) (b : List ℕ) → bytes_in v c.resident ≡ Some b → v < length c.kept → (q : ℕ) → page_of (spilled_of c v b) (finite.insert t v b) q ≡ page_of c t q
+spilled-map c t v b is inside =
+    at-page (page_of (spilled_of c v b) (finite.insert t v b)) (page_of c t) v
+    (rw (bytes-gone v c.resident, get_or-set_same c.kept v (Some (sha256 b)) None inside, is) (get-same t v b))
+    (λ q other. page-is c (spilled_of c v b) t (finite.insert t v b) q (bytes-other v q c.resident other) (get_or-set_other c.kept v q (Some (sha256 b)) None other) (get-other t v q b other))
+
+spilled-held : (c : Pooled) (v : ℕ) (b : List ℕ) → bytes_in v c.resident ≡ Some b → v < length c.kept → (q : ℕ) → is_held (spilled_of c v b) q ≡ is_held c q
+spilled-held c v b is inside =
+    at-page (is_held (spilled_of c v b)) (is_held c) v
+    (rw (bytes-gone v c.resident, get_or-set_same c.kept v (Some (sha256 b)) None inside, is) refl)
+    (λ q other. held-is c (spilled_of c v b) q (bytes-other v q c.resident other) (get_or-set_other c.kept v q (Some (sha256 b)) None other))
+
+keeps-spilled : (c : Pooled) (told : Option Pages) (v : ℕ) (b : List ℕ) → bytes_in v c.resident ≡ Some b → v < length c.kept → Keeps c told (spilled_of c v b) (with_page told v b)
+keeps-spilled c None v b is inside = record { pages = tt; numbers = spilled-held c v b is inside; agree = λ a. tt }
+keeps-spilled c (Some t) v b is inside = record {
+  pages = spilled-map c t v b is inside;
+  numbers = spilled-held c v b is inside;
+  agree = λ a q.
+      elim (cases_eq q v) [
+        | inl e ↦ subst (λ (k : ℕ). IfSome (kept_at (spilled_of c v b).kept k) (HasDigest (finite.get (finite.insert t v b) k))) (sym e)
+            (subst (λ (o : Option (List ℕ)). IfSome o (HasDigest (finite.get (finite.insert t v b) v))) (sym (get_or-set_same c.kept v (Some (sha256 b)) None inside))
+            (subst (λ (o : Option (List ℕ)). HasDigest o (sha256 b)) (sym (get-same t v b)) refl))
+        | inr other ↦ subst (λ (o : Option (List ℕ)). IfSome o (HasDigest (finite.get (finite.insert t v b) q))) (sym (get_or-set_other c.kept v q (Some (sha256 b)) None other))
+            (subst (λ (o : Option (List ℕ)). IfSome (kept_at c.kept q) (HasDigest o)) (sym (get-other t v q b other)) (a q))
+      ];
+}
+
+keeps-same : (c : Pooled) (told : Option Pages) → Keeps c told c told
+keeps-same c None = record { pages = tt; numbers = λ q. refl; agree = λ a. a }
+keeps-same c (Some t) = record { pages = λ q. refl; numbers = λ q. refl; agree = λ a. a }
+
+pub keeps-room : (c : Pooled) (told : Option Pages) (d : Pooled) (now : Option Pages) → HasRoom c told d now → Keeps c told d now
+keeps-room c told d now room =
+    elim room.how [
+      | inl same ↦ subst (λ (x : Pooled). Keeps c told x now) (sym same.0) (subst (λ (o : Option Pages). Keeps c told c o) (sym same.1) (keeps-same c told))
+      | inr s ↦ subst (λ (x : Pooled). Keeps c told x now) (sym s.pool) (subst (λ (o : Option Pages). Keeps c told (spilled_of c s.page s.bytes) o) (sym s.disk)
+          (keeps-spilled c told s.page s.bytes (first-bytes c.resident s.page s.bytes s.oldest) s.inside))
+    ]
+
+loaded-map : (mid : Pooled) (n : Pages) (p : ℕ) (bytes digest : List ℕ) → bytes_in p mid.resident ≡ None → kept_at mid.kept p ≡ Some digest → finite.get n p ≡ Some bytes → (q : ℕ) → page_of (loaded mid p bytes) n q ≡ page_of mid n q
+loaded-map mid n p bytes digest none kept there =
+    at-page (page_of (loaded mid p bytes) n) (page_of mid n) p
+    (rw (bytes-last p bytes mid.resident none, none, kept) (sym there))
+    (λ q other. page-is mid (loaded mid p bytes) n n q (bytes-before p q bytes mid.resident other) (get_or-set_other mid.kept p q None None other) refl)
+
+loaded-held : (mid : Pooled) (p : ℕ) (bytes digest : List ℕ) → bytes_in p mid.resident ≡ None → kept_at mid.kept p ≡ Some digest → (q : ℕ) → is_held (loaded mid p bytes) q ≡ is_held mid q
+loaded-held mid p bytes digest none kept =
+    at-page (is_held (loaded mid p bytes)) (is_held mid) p
+    (rw (bytes-last p bytes mid.resident none, none, kept) refl)
+    (λ q other. held-is mid (loaded mid p bytes) q (bytes-before p q bytes mid.resident other) (get_or-set_other mid.kept p q None None other))
+
+pub agree-loaded : (mid : Pooled) (now : Option Pages) (p : ℕ) (bytes : List ℕ) → Agree mid now → Agree (loaded mid p bytes) now
+agree-loaded mid None p bytes a = tt
+agree-loaded mid (Some n) p bytes a = λ q.
+    elim (cases_eq q p) [
+      | inl e ↦ subst (λ (o : Option (List ℕ)). IfSome o (HasDigest (finite.get n q))) (sym (ap (λ (k : ℕ). kept_at (set mid.kept p None) k) e ∙ kept-cleared mid.kept p)) tt
+      | inr other ↦ subst (λ (o : Option (List ℕ)). IfSome o (HasDigest (finite.get n q))) (sym (get_or-set_other mid.kept p q None None other)) (a q)
+    ]
+
+keeps-loaded : (mid : Pooled) (now : Option Pages) (p : ℕ) (bytes digest : List ℕ) → bytes_in p mid.resident ≡ None → kept_at mid.kept p ≡ Some digest → HasPage now p bytes → Keeps mid now (loaded mid p bytes) now
+keeps-loaded mid None p bytes digest none kept there = record { pages = tt; numbers = loaded-held mid p bytes digest none kept; agree = λ a. a }
+keeps-loaded mid (Some n) p bytes digest none kept there = record {
+  pages = loaded-map mid n p bytes digest none kept there;
+  numbers = loaded-held mid p bytes digest none kept;
+  agree = agree-loaded mid (Some n) p bytes;
+}
+
+pub keeps-then : (c : Pooled) (told : Option Pages) (d : Pooled) (now : Option Pages) (e : Pooled) (end : Option Pages) → is_some now ≡ is_some told → Keeps c told d now → Keeps d now e end → Keeps c told e end
+keeps-then c told d now e end tells k l = record {
+  pages = joined told now end tells k.pages l.pages;
+  numbers = λ q. l.numbers q ∙ k.numbers q;
+  agree = λ a. l.agree (k.agree a);
+}
+  where
+    joined : (a b x : Option Pages) → is_some b ≡ is_some a → SameMap c a d b → SameMap d b e x → SameMap c a e x
+    joined None b x s h m = tt
+    joined (Some t) None x s h m = absurd (cc)
+    joined (Some t) (Some n) None s h m = tt
+    joined (Some t) (Some n) (Some z) s h m = λ q. m q ∙ h q
+
+pub keeps-fetched : (c : Pooled) (told : Option Pages) (d : Pooled) (now : Option Pages) (p : ℕ) (digest : List ℕ) → Fetches c told d now p digest → bytes_in p c.resident ≡ None → kept_at c.kept p ≡ Some digest → Keeps c told d now
+keeps-fetched c told d now p digest f none kept =
+    let out = room-out c told f.mid now p f.room none in
+    let mid-kept = room-kept c told f.mid now p f.room none ∙ kept in
+    subst (λ (x : Pooled). Keeps c told x now) (sym f.pool)
+    (keeps-then c told f.mid now (loaded f.mid p f.bytes) now (room-tells c told f.mid now f.room) (keeps-room c told f.mid now f.room) (keeps-loaded f.mid now p f.bytes digest out mid-kept f.disk))
+
+pub keeps-touched : (c : Pooled) (told : Option Pages) (p : ℕ) (b : List ℕ) → bytes_in p c.resident ≡ Some b → Keeps c told (record c { resident = without_page p c.resident ++ (p, b) ∷ [] }) told
+keeps-touched c told p b is =
+    let d : Pooled = record c { resident = without_page p c.resident ++ (p, b) ∷ [] } in
+    let bytes : (q : ℕ) → bytes_in q d.resident ≡ bytes_in q c.resident = at-page (λ q. bytes_in q d.resident) (λ q. bytes_in q c.resident) p (bytes-last p b (without_page p c.resident) (bytes-gone p c.resident) ∙ sym is)
+    (λ q other. bytes-before p q b (without_page p c.resident) other ∙ bytes-other p q c.resident other) in
+    record { pages = mapped told bytes; numbers = λ q. held-is c d q (bytes q) refl; agree = λ a. a }
+  where
+    mapped : (o : Option Pages) → ((q : ℕ) → bytes_in q (without_page p c.resident ++ (p, b) ∷ []) ≡ bytes_in q c.resident) → SameMap c o (record c { resident = without_page p c.resident ++ (p, b) ∷ [] }) o
+    mapped None h = tt
+    mapped (Some t) h = λ q. page-is c (record c { resident = without_page p c.resident ++ (p, b) ∷ [] }) t t q (h q) refl refl
+
+kept-more : (kept : List (Option (List ℕ))) (q : ℕ) → kept_at (kept ++ None ∷ []) q ≡ kept_at kept q
+kept-more [] zero = refl
+kept-more [] (suc q) = refl
+kept-more (k ∷ kept) zero = refl
+kept-more (k ∷ kept) (suc q) = kept-more kept q
+
+keeps-numbered : (c : Pooled) (told : Option Pages) → Keeps c told (numbered c) told
+keeps-numbered c None = record { pages = tt; numbers = λ q. held-is c (numbered c) q refl (kept-more c.kept q); agree = λ a. a }
+keeps-numbered c (Some t) = record {
+  pages = λ q. page-is c (numbered c) t t q refl (kept-more c.kept q) refl;
+  numbers = λ q. held-is c (numbered c) q refl (kept-more c.kept q);
+  agree = λ a q. subst (λ (o : Option (List ℕ)). IfSome o (HasDigest (finite.get t q))) (sym (kept-more c.kept q)) (a q);
+}
+
+-- a page that was in no place is in a frame
+makes-loaded : (mid : Pooled) (now : Option Pages) (p : ℕ) → bytes_in p mid.resident ≡ None → kept_at mid.kept p ≡ None → Makes mid now (loaded mid p zeros) now p
+makes-loaded mid now p none gone = record {
+  fresh = rw (none, gone) refl;
+  pages = mapped now;
+  numbers = at-page (is_held (loaded mid p zeros)) (λ q. eqb q p || is_held mid q) p
+      (rw (bytes-last p zeros mid.resident none, eqb-same p) refl)
+      (λ q other. held-is mid (loaded mid p zeros) q (bytes-before p q zeros mid.resident other) (get_or-set_other mid.kept p q None None other) ∙ sym (rw (eqb-other q p other) refl));
+  agree = agree-loaded mid now p zeros;
+}
+  where
+    mapped : (o : Option Pages) → IfSome o (λ t. IfSome o (λ n. (q : ℕ) → page_of (loaded mid p zeros) n q ≡ cond (eqb q p) (Some zeros) (page_of mid t q)))
+    mapped None = tt
+    mapped (Some t) =
+        at-page (page_of (loaded mid p zeros) t) (λ q. cond (eqb q p) (Some zeros) (page_of mid t q)) p
+        (rw (bytes-last p zeros mid.resident none, eqb-same p) refl)
+        (λ q other. page-is mid (loaded mid p zeros) t t q (bytes-before p q zeros mid.resident other) (get_or-set_other mid.kept p q None None other) refl ∙ sym (rw (eqb-other q p other) refl))
+
+makes-after : (c : Pooled) (told : Option Pages) (d : Pooled) (now : Option Pages) (e : Pooled) (p : ℕ) → is_some now ≡ is_some told → Keeps c told d now → Makes d now e now p → Makes c told e now p
+makes-after c told d now e p tells k m = record {
+  fresh = sym (k.numbers p) ∙ m.fresh;
+  pages = joined told now tells k.pages m.pages;
+  numbers = λ q. m.numbers q ∙ ap (λ (b : Bool). eqb q p || b) (k.numbers q);
+  agree = λ a. m.agree (k.agree a);
+}
+  where
+    joined : (a b : Option Pages) → is_some b ≡ is_some a → SameMap c a d b → IfSome b (λ t. IfSome b (λ n. (q : ℕ) → page_of e n q ≡ cond (eqb q p) (Some zeros) (page_of d t q)))
+        → IfSome a (λ t. IfSome b (λ n. (q : ℕ) → page_of e n q ≡ cond (eqb q p) (Some zeros) (page_of c t q)))
+    joined None b s h x = tt
+    joined (Some t) None s h x = absurd (cc)
+    joined (Some t) (Some n) s h x = λ q. x q ∙ ap (λ (o : Option (List ℕ)). cond (eqb q p) (Some zeros) o) (h q)
+
+-- what one more number leaves
+pub record IsStart (c : Pooled) (told : Option Pages) (start : Pooled) (p : ℕ) : Type 0 where
+  pub keeps : Keeps c told start told
+  pub out : bytes_in p start.resident ≡ None
+  pub gone : kept_at start.kept p ≡ None
+
+pub started : (c : Pooled) (told : Option Pages) (start : Pooled) (p : ℕ) → IsNumbered c start → bytes_in p c.resident ≡ None → kept_at c.kept p ≡ None → IsStart c told start p
+started c told start p numbers none gone =
+    elim numbers [
+      | inl same ↦ subst (λ (x : Pooled). IsStart c told x p) (sym same) (record { keeps = keeps-same c told; out = none; gone = gone })
+      | inr more ↦ subst (λ (x : Pooled). IsStart c told x p) (sym more) (record { keeps = keeps-numbered c told; out = none; gone = kept-more c.kept p ∙ gone })
+    ]
+
+pub numbered-frames : (c start : Pooled) → IsNumbered c start → 0 < c.frames → 0 < start.frames
+numbered-frames c start numbers some =
+    elim numbers [
+      | inl same ↦ subst (λ (x : Pooled). 0 < x.frames) (sym same) some
+      | inr more ↦ subst (λ (x : Pooled). 0 < x.frames) (sym more) some
+    ]
+
+pub makes : (c : Pooled) (told : Option Pages) (start mid : Pooled) (now : Option Pages) (p : ℕ) → IsStart c told start p → HasRoom start told mid now → Makes c told (loaded mid p zeros) now p
+makes c told start mid now p s room =
+    let out = room-out start told mid now p room s.out in
+    let gone : kept_at mid.kept p ≡ None = room-kept start told mid now p room s.out ∙ s.gone in
+    makes-after c told mid now (loaded mid p zeros) p (room-tells start told mid now room)
+    (keeps-then c told start told mid now refl s.keeps (keeps-room start told mid now room)) (makes-loaded mid now p out gone)
+
+pub room-length : (c : Pooled) (told : Option Pages) (d : Pooled) (now : Option Pages) → HasRoom c told d now → length d.kept ≡ length c.kept
+room-length c told d now room =
+    elim room.how [
+      | inl same ↦ ap (λ (x : Pooled). length x.kept) same.0
+      | inr s ↦ ap (λ (x : Pooled). length x.kept) s.pool ∙ length-set c.kept s.page (Some (sha256 s.bytes))
+    ]
+
+-- a page is let go
+
+drops-at : (c d : Pooled) (told now : Option Pages) (p : ℕ) → bytes_in p d.resident ≡ None → kept_at d.kept p ≡ None → ((q : ℕ) → q ≢ p → (bytes_in q d.resident ≡ bytes_in q c.resident) × (kept_at d.kept q ≡ kept_at c.kept q))
+    → IfSome told (λ t. IfSome now (λ n. (q : ℕ) → q ≢ p → finite.get n q ≡ finite.get t q)) → is_some now ≡ is_some told → Drops c told d now p
+drops-at c d told now p none gone rest got tells = record {
+  pages = mapped told now got;
+  numbers = at-page (is_held d) (λ q. not (eqb q p) && is_held c q) p
+      (rw (none, gone, eqb-same p) refl)
+      (λ q other. held-is c d q (rest q other).0 (rest q other).1 ∙ sym (rw (eqb-other q p other) refl));
+  agree = λ a. agrees told now got tells a;
+}
+  where
+    mapped : (a b : Option Pages) → IfSome a (λ t. IfSome b (λ n. (q : ℕ) → q ≢ p → finite.get n q ≡ finite.get t q)) → IfSome a (λ t. IfSome b (λ n. (q : ℕ) → page_of d n q ≡ cond (eqb q p) None (page_of c t q)))
+    mapped None b h = tt
+    mapped (Some t) None h = tt
+    mapped (Some t) (Some n) h =
+        at-page (page_of d n) (λ q. cond (eqb q p) None (page_of c t q)) p
+        (rw (none, gone, eqb-same p) refl)
+        (λ q other. page-is c d t n q (rest q other).0 (rest q other).1 (h q other) ∙ sym (rw (eqb-other q p other) refl))
+
+    agrees : (a b : Option Pages) → IfSome a (λ t. IfSome b (λ n. (q : ℕ) → q ≢ p → finite.get n q ≡ finite.get t q)) → is_some b ≡ is_some a → Agree c a → Agree d b
+    agrees a None h s g = tt
+    agrees None (Some n) h s g = absurd (cc)
+    agrees (Some t) (Some n) h s g = λ q.
+        elim (cases_eq q p) [
+          | inl e ↦ subst (λ (o : Option (List ℕ)). IfSome o (HasDigest (finite.get n q))) (sym (ap (kept_at d.kept) e ∙ gone)) tt
+          | inr other ↦ subst (λ (o : Option (List ℕ)). IfSome o (HasDigest (finite.get n q))) (sym (rest q other).1)
+              (subst (λ (o : Option (List ℕ)). IfSome (kept_at c.kept q) (HasDigest o)) (sym (h q other)) (g q))
+        ]
+
+same-gets : (told : Option Pages) (p : ℕ) → IfSome told (λ t. IfSome told (λ n. (q : ℕ) → q ≢ p → finite.get n q ≡ finite.get t q))
+same-gets None p = tt
+same-gets (Some t) p = λ q other. refl
+
+less-gets : (told : Option Pages) (p : ℕ) → IfSome told (λ t. IfSome (without_number told p) (λ n. (q : ℕ) → q ≢ p → finite.get n q ≡ finite.get t q))
+less-gets None p = tt
+less-gets (Some t) p = λ q other. finite.get-remove nat_cmp_total t p q ∙ ap (λ (x : Bool). cond x None (finite.get t q)) (unequal (nat_cmp q p) (λ e. other (finite.nat_cmp-IsAntisymmetric q p e)))
+
+less-tells : (told : Option Pages) (p : ℕ) → is_some (without_number told p) ≡ is_some told
+less-tells None p = refl
+less-tells (Some t) p = refl
+
+pub drops-resident : (c : Pooled) (told : Option Pages) (p : ℕ) → Drops c told (record c { resident = without_page p c.resident; kept = set c.kept p None }) told p
+drops-resident c told p =
+    drops-at c (record c { resident = without_page p c.resident; kept = set c.kept p None }) told told p (bytes-gone p c.resident) (kept-cleared c.kept p)
+    (λ q other. (bytes-other p q c.resident other, get_or-set_other c.kept p q None None other)) (same-gets told p) refl
+
+pub drops-spilled : (c : Pooled) (told now : Option Pages) (p : ℕ) → bytes_in p c.resident ≡ None → now ≡ without_number told p → Drops c told (record c { kept = set c.kept p None }) now p
+drops-spilled c told now p none is =
+    subst (λ (o : Option Pages). Drops c told (record c { kept = set c.kept p None }) o p) (sym is)
+    (drops-at c (record c { kept = set c.kept p None }) told (without_number told p) p none (kept-cleared c.kept p) (λ q other. (refl, get_or-set_other c.kept p q None None other)) (less-gets told p) (less-tells told p))
+
+lets-go : (c d : Pooled) (p : ℕ) → bytes_in p d.resident ≡ None → kept_at d.kept p ≡ None → ((q : ℕ) → q ≢ p → (bytes_in q d.resident ≡ bytes_in q c.resident) × (kept_at d.kept q ≡ kept_at c.kept q)) → LetsGo c d p
+lets-go c d p none gone rest = record {
+  bytes = at-page (λ q. bytes_in q d.resident) (λ q. cond (eqb q p) None (bytes_in q c.resident)) p (rw (none, eqb-same p) refl) (λ q other. (rest q other).0 ∙ sym (rw (eqb-other q p other) refl));
+  kept = at-page (λ q. kept_at d.kept q) (λ q. cond (eqb q p) None (kept_at c.kept q)) p (rw (gone, eqb-same p) refl) (λ q other. (rest q other).1 ∙ sym (rw (eqb-other q p other) refl));
+}
+
+pub lets-resident-go : (c : Pooled) (p : ℕ) → LetsGo c (record c { resident = without_page p c.resident; kept = set c.kept p None }) p
+lets-resident-go c p =
+    lets-go c (record c { resident = without_page p c.resident; kept = set c.kept p None }) p (bytes-gone p c.resident) (kept-cleared c.kept p)
+    (λ q other. (bytes-other p q c.resident other, get_or-set_other c.kept p q None None other))
+
+pub lets-spilled-go : (c : Pooled) (p : ℕ) → bytes_in p c.resident ≡ None → LetsGo c (record c { kept = set c.kept p None }) p
+lets-spilled-go c p none = lets-go c (record c { kept = set c.kept p None }) p none (kept-cleared c.kept p) (λ q other. (refl, get_or-set_other c.kept p q None None other))

@@ -1,0 +1,113 @@
+ghost use Rattle.std.specs.Prelude.{◌<◌, ◌≡◌, OnOk};
+ghost use Rattle.sq_pool.specs.Pools.{Agree};
+
+use super::*;
+use sq_outside::{Flip, MemDisk, PageDisk};
+use std::test::Fail;
+
+// A page whose first byte is this.
+fn marked<D: PageDisk>(pool: &mut Pool, disk: &mut D, byte: u8) -> Result<u64, PoolErr>
+    requires { Agree pool.old (D.pages disk.old) }
+    ensures { OnOk result (Agree pool.new (D.pages disk.new)) }
+{
+    let page = pool.make(disk)?;
+    pool.page_mut(page)[0] = byte;
+    Ok(page)
+}
+
+// Three pages, in two frames.
+fn three<D: PageDisk>(pool: &mut Pool, disk: &mut D) -> Result<[u64; 3], PoolErr>
+    requires { Agree pool.old (D.pages disk.old) }
+    ensures { OnOk result (Agree pool.new (D.pages disk.new)) }
+{
+    let p = marked(pool, disk, 1)?;
+    let q = marked(pool, disk, 2)?;
+    let r = marked(pool, disk, 3)?;
+    Ok([p, q, r])
+}
+
+// The first byte of a page that is in a frame.
+fn first_byte(pool: &Pool, page: u64) -> Option<u8> {
+    if pool.holds(page) && pool.is_resident(page) {
+        Some(pool.page(page)[0])
+    } else {
+        None
+    }
+}
+
+fn brought<D: PageDisk>(pool: &mut Pool, disk: &mut D, page: u64) -> Result<(), PoolErr>
+    requires { Agree pool.old (D.pages disk.old) }
+    ensures { OnOk result (Agree pool.new (D.pages disk.new)) }
+{
+    if pool.holds(page) {
+        pool.bring(disk, page)
+    } else {
+        Ok(())
+    }
+}
+
+// Gives a page up, and makes another.
+fn replaced<D: PageDisk>(pool: &mut Pool, disk: &mut D, page: u64) -> Result<u64, PoolErr>
+    requires { Agree pool.old (D.pages disk.old) }
+{
+    if pool.holds(page) {
+        pool.drop_page(disk, page)?;
+    }
+    pool.make(disk)
+}
+
+fn used<D: PageDisk>(pool: &mut Pool, disk: &mut D) -> Result<(), PoolErr>
+    requires { Agree pool.old (D.pages disk.old) }
+{
+    let [p, q, _] = three(pool, disk)?;
+    brought(pool, disk, p)?;
+    replaced(pool, disk, q)?;
+    Ok(())
+}
+
+#[test]
+fn the_page_of_longest_disuse_is_spilled(rt: HostRuntime) -> Result<(), Fail> {
+    let alloc = rt.alloc();
+    let mut disk = MemDisk::new(alloc, Vec::new(alloc), Vec::new(alloc));
+    let mut pool = Pool::new(alloc, 2)?;
+    let [p, q, r] = three(&mut pool, &mut disk)?;
+    assert!(rt; p != q && q != r && p != r);
+    brought(&mut pool, &mut disk, p)?;
+    assert_eq!(rt; first_byte(&pool, p), Some(1));
+    assert_eq!(rt; pool.resident(), 2);
+    assert_eq!(rt; disk.puts().first().copied(), Some(p));
+    let s = replaced(&mut pool, &mut disk, q)?;
+    assert_eq!(rt; first_byte(&pool, s), Some(0));
+    Ok(())
+}
+
+#[test]
+fn each_byte_that_changes_is_found(rt: HostRuntime) -> Result<(), Fail> {
+    let alloc = rt.alloc();
+    for at in 0..8192 {
+        let flips = vec![in alloc; Flip { get: 0, at }]?;
+        let mut disk = MemDisk::new(alloc, Vec::new(alloc), flips);
+        let mut pool = Pool::new(alloc, 2)?;
+        let [p, _, _] = three(&mut pool, &mut disk)?;
+        match brought(&mut pool, &mut disk, p) {
+            Err(PoolErr::Garbled { page, kept, got }) => {
+                assert_eq!(rt; page, p);
+                assert!(rt; kept.0 != got.0, "at {at}");
+            }
+            _ => return Err(Fail::from("the page is garbled")),
+        }
+    }
+    Ok(())
+}
+
+#[test]
+fn each_call_of_the_disk_may_fail(rt: HostRuntime) -> Result<(), Fail> {
+    let alloc = rt.alloc();
+    for call in 0..6 {
+        let mut disk = MemDisk::new(alloc, Vec::from_slice(alloc, &[call])?, Vec::new(alloc));
+        let mut pool = Pool::new(alloc, 2)?;
+        let end = used(&mut pool, &mut disk);
+        assert_eq!(rt; matches!(end, Err(PoolErr::Disk)), call < 5, "at {call}");
+    }
+    Ok(())
+}
