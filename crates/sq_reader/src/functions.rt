@@ -14,7 +14,7 @@ use crate::push;
 use crate::sources::is_among;
 use sq_aggfn::Func;
 use sq_net::{NetErr, Part};
-use sq_tables::{AnswerColumn, Over, Answer};
+use sq_tables::{Answer, AnswerColumn, Over};
 use sq_value::{Kind, Name, Schema, copy_name, same_text};
 use std::alloc::{AllocError, Global};
 
