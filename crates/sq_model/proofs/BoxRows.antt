@@ -144,15 +144,6 @@ placed_one kind b n =
     (All-from_recursion Is (1 ∷ []) (refl, tt)) (lit≤ tt) refl (lit< tt)
     (All-from_recursion (λ (x : BoxWires). length x.inputs ≤ 8) w.boxes (lit≤ tt, tt))
 
-pub placed_two : (kind : BoxKind) (b : Node) (n : Network) → n.wires ≡ lone_wires kind 2 → n.boxes ≡ b ∷ [] → HasWindow b.body → IsPlaced n
-placed_two kind b n =
-    let w = lone_wires kind 2 in
-    let Is : ℕ → Type 0 = λ s. is_there (producer_of w s) ≡ true in
-    placed_by w b n
-    (All-from_recursion (λ (x : BoxWires). All Is x.inputs) w.boxes (All-from_recursion Is (0 ∷ 1 ∷ []) (refl, (refl, tt)), tt))
-    (All-from_recursion Is (2 ∷ []) (refl, tt)) (lit≤ tt) refl (lit< tt)
-    (All-from_recursion (λ (x : BoxWires). length x.inputs ≤ 8) w.boxes (lit≤ tt, tt))
-
 -- what holds by two facts of a value, where there is one
 pub both_ok : {T E : Type 0} (r : Result T E) (P Q R : T → Type 0) → ((x : T) → P x → Q x → R x) → IfOk r P → IfOk r Q → IfOk r R
 both_ok (Ok x) P Q R from p q = from x p q

@@ -3,6 +3,7 @@ ghost use Rattle.std.specs.Prelude.{◌≡◌, [], ◌∷◌, map, length, IfOk}
 ghost use Rattle.std.specs.List.{All};
 ghost use Rattle.sq_value.specs.Values.{IsStream};
 ghost use Rattle.sq_graph.specs.Wires.{arcs_of};
+ghost use Rattle.sq_net.specs.Sound.{HasWindow};
 ghost use Rattle.sq_model.specs.Placed.{IsPlaced};
 
 use super::*;
@@ -13,27 +14,35 @@ use sq_value::{Kind, ListOf, Name, Schema, Tuple, Value};
 use std::alloc::{AllocError, Global};
 use std::test::Fail;
 
+// A tuple of one number.
+fn at(alloc: Global, time: u64, v: i64) -> Result<Tuple, AllocError>
+    ensures { IfOk result (λ x. x ≡ record { time = time; fields = Value.Int v ∷ [] }) }
+{
+    let fields = ListOf::new(vec![in alloc; Value::Int(v)]?);
+    Ok(Tuple { time, fields })
+}
+
 // One column `v` of numbers.
 fn numbers(alloc: Global) -> Result<Schema, Fail> {
     let names = vec![in alloc; Name::new(alloc, "v")?]?;
     Ok(Schema::new(names, vec![in alloc; Kind::Int]?)?)
 }
 
-fn source(alloc: Global) -> Result<Source, Fail> {
+fn source(alloc: Global, name: &str) -> Result<Source, Fail> {
     Ok(Source {
-        name: Name::new(alloc, "s")?,
+        name: Name::new(alloc, name)?,
         file: Name::new(alloc, "readings.csv")?,
         schema: numbers(alloc)?,
     })
 }
 
-fn node(alloc: Global) -> Result<Node, Fail>
-    ensures { IfOk result (λ b. b.body ≡ Body.BSort 0 0) }
+fn node(alloc: Global, body: Body, schema: Schema) -> Result<Node, Fail>
+    ensures { IfOk result (λ b. b.body ≡ body) }
 {
     Ok(Node {
         name: Name::new(alloc, "b")?,
-        body: Body::BSort { by: 0, slack: 0 },
-        schemas: ListOf::new(vec![in alloc; numbers(alloc)?]?),
+        body,
+        schemas: ListOf::new(vec![in alloc; schema]?),
         cost: 1,
         selectivity: ListOf::new(vec![in alloc; 1000]?),
     })
@@ -47,42 +56,53 @@ fn output(alloc: Global) -> Result<Output, Fail> {
     })
 }
 
-fn wires(alloc: Global) -> Result<Wiring, AllocError>
-    ensures { IfOk result (λ w. w ≡ record { sources = 1; boxes = record { kind = BoxKind.BSort; inputs = 0 ∷ []; ports = 1 } ∷ []; outputs = 1 ∷ [] }) }
+fn wires(alloc: Global, kind: BoxKind, sources: u32, inputs: &[u32]) -> Result<Wiring, AllocError>
+    ensures { IfOk result (λ w. w ≡ record { sources = sources; boxes = record { kind = kind; inputs = inputs.now; ports = 1 } ∷ []; outputs = sources ∷ [] }) }
 {
     let wires = BoxWires {
-        kind: BoxKind::BSort,
-        inputs: ListOf::new(Vec::from_slice(alloc, &[0])?),
+        kind,
+        inputs: ListOf::new(Vec::from_slice(alloc, inputs)?),
         ports: 1,
     };
     Ok(Wiring {
-        sources: 1,
+        sources,
         boxes: ListOf::new(vec![in alloc; wires]?),
-        outputs: ListOf::new(Vec::from_slice(alloc, &[1])?),
+        outputs: ListOf::new(Vec::from_slice(alloc, &[sources])?),
     })
 }
 
-fn sort(alloc: Global) -> Result<Network, Fail>
-    ensures placed { IfOk result (λ n. IsPlaced n) }
-    ensures sources { IfOk result (λ n. n.wires.sources ≡ 1) }
-    ensures arcs { IfOk result (λ n. length (arcs_of n.wires) ≡ 2) }
+fn network(alloc: Global, wires: Wiring, sources: Vec<Source>, node: Node) -> Result<Network, Fail>
+    ensures wires { IfOk result (λ n. n.wires ≡ wires) }
+    ensures boxes { IfOk result (λ n. n.boxes ≡ node ∷ []) }
 {
     Ok(Network {
         epoch: 1000,
         batch: 1,
-        wires: wires(alloc)?,
-        sources: ListOf::new(vec![in alloc; source(alloc)?]?),
-        boxes: ListOf::new(vec![in alloc; node(alloc)?]?),
+        wires,
+        sources: ListOf::new(sources),
+        boxes: ListOf::new(vec![in alloc; node]?),
         outputs: ListOf::new(vec![in alloc; output(alloc)?]?),
     })
 }
 
-// A tuple of one number.
-fn at(alloc: Global, time: u64, v: i64) -> Result<Tuple, AllocError>
-    ensures { IfOk result (λ x. x ≡ record { time = time; fields = Value.Int v ∷ [] }) }
+fn on_one(alloc: Global, kind: BoxKind, node: Node) -> Result<Network, Fail>
+    requires { HasWindow node.body }
+    ensures placed { IfOk result (λ n. IsPlaced n) }
+    ensures sources { IfOk result (λ n. n.wires.sources ≡ 1) }
+    ensures arcs { IfOk result (λ n. length (arcs_of n.wires) ≡ 2) }
 {
-    let fields = ListOf::new(vec![in alloc; Value::Int(v)]?);
-    Ok(Tuple { time, fields })
+    let wires = wires(alloc, kind, 1, &[0])?;
+    let sources = vec![in alloc; source(alloc, "s")?]?;
+    network(alloc, wires, sources, node)
+}
+
+fn sort(alloc: Global, slack: u32) -> Result<Network, Fail>
+    ensures placed { IfOk result (λ n. IsPlaced n) }
+    ensures sources { IfOk result (λ n. n.wires.sources ≡ 1) }
+    ensures arcs { IfOk result (λ n. length (arcs_of n.wires) ≡ 2) }
+{
+    let node = node(alloc, Body::BSort { by: 0, slack }, numbers(alloc)?)?;
+    on_one(alloc, BoxKind::BSort, node)
 }
 
 fn lines(alloc: Global) -> Result<Vec<Vec<Tuple>>, AllocError>
@@ -95,7 +115,7 @@ fn lines(alloc: Global) -> Result<Vec<Vec<Tuple>>, AllocError>
 
 #[test]
 fn a_sort_without_slack_leaves_out_late_tuples(rt: HostRuntime) -> Result<(), Fail> {
-    let n = sort(rt.alloc())?;
+    let n = sort(rt.alloc(), 0)?;
     let shown = full(rt.alloc(), &n, &lines(rt.alloc())?, 1)?;
     let streams = full_streams(rt.alloc(), &n, lines(rt.alloc())?)?;
     let (fed, late) = (
