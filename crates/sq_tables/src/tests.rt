@@ -7,7 +7,7 @@ epoch = 4
 source = [{name='s', file='s.csv', fields=['v:int', 'w:text']}]
 output = [{name='o', from='j'}]
 box = [
-  {name='f', kind='filter', in=['s'], where=['v > 1', 'w'], selectivity=[1, 2]},
+  {name='f', kind='filter', in=['s'], where=['v > 1', 'w'], selectivity=[1, 2, 3]},
   {name='m', kind='map', in=['s'], set=[['a', 'v + 1']]},
   {name='u', kind='union', in=['s', 's'], cost=7},
   {name='b', kind='bsort', in=['s'], by='v', slack=5},
