@@ -1,0 +1,143 @@
+-- Wires that were joined arc by arc are shaped.
+use Rattle.std.proofs.Common.{◌≡◌, ◌≢◌, ℕ, zero, suc, ◌+◌, ◌*◌, ◌<◌, ◌≤◌, ◌^◌, eqb, cond, Bool, true, false, ◌||◌, List, [], ◌∷◌, ◌++◌, length, Option, Some, None, Vec, slice_get, refl, ap, sym, ◌∙◌, subst, arith, inl, inr, ◌⊎◌}
+use Rattle.std.specs.Prelude.{IsTrue}
+use Rattle.std.specs.declared.alloc.Global.{Global}
+use Rattle.std.proofs.lemmas.Bool.{cases_lt, cases_eq}
+use Rattle.sq_left.specs.Left.{Net, known, Each, IsWired}
+use Rattle.sq_flow.specs.declared.wires.Arc.{Arc}
+use Rattle.sq_flow.specs.declared.wires.Wires.{Wires}
+use Rattle.sq_flow.specs.Wiring.{net_of, arcs_read, arcs_from, from_of, port_of, numbers_in, rows_in, times_in, IsShaped}
+use Rattle.sq_core.specs.declared.join.Feed.{Feed}
+use Rattle.sq_core.specs.Joining.{feeds_of, AreFeeds, IsOf, IsJoining, IsJoined, IsOrder, ReadsEarlier, AllKnown, known_by, Fixed}
+
+-- a table has nothing past its end
+pub no-feeds : (feeds : List (Vec Feed Global)) (actor : ℕ) → length feeds ≤ actor → feeds_of feeds actor ≡ []
+no-feeds [] actor h = refl
+no-feeds (x ∷ xs) zero h = absurd (omega (arith, h))
+no-feeds (x ∷ xs) (suc actor) h = no-feeds xs actor (omega (arith, h))
+
+known-same : (net : Net) (order : List ℕ) (actor : ℕ) → known net order actor ≡ known_by net.replay order actor
+known-same net [] actor = refl
+known-same net (last ∷ earlier) actor = ap (λ b. eqb actor last || b) (known-same net earlier actor)
+
+each-by : (P : ℕ → Type 0) (xs : List ℕ) → ((port x : ℕ) → slice_get xs port ≡ Some x → P x) → Each P xs
+each-by P [] h = _
+each-by P (x ∷ xs) h = (h 0 x refl, each-by P xs (λ port y is. h (suc port) y is))
+
+of-known : (replay : ℕ) (order : List ℕ) (fs : List Feed) (port : ℕ) (o : Option Arc) → AllKnown replay order fs → IsOf o (slice_get fs port) → known_by replay order (from_of o) ≡ true
+of-known replay order fs port None all is = absurd is
+of-known replay order [] port (Some arc) all is = absurd is
+of-known replay order (f ∷ fs) zero (Some arc) all is = ap (known_by replay order) is.0 ∙ all.0
+of-known replay order (f ∷ fs) (suc port) (Some arc) all is = of-known replay order fs port (Some arc) all.1 is
+
+module _ (feeds : List (Vec Feed Global)) (w : Wires) (are : AreFeeds feeds) (i : IsJoining feeds (length feeds) 0 w) (replay : w.replay ≡ length feeds) where
+  wired : (order : List ℕ) → ReadsEarlier (length feeds) feeds order → IsWired (net_of w) order
+  wired [] h = _
+  wired (last ∷ earlier) h = (
+    λ e. h.0 (e ∙ replay),
+    each-by _ (arcs_read w last) (λ port arc is. (
+      i.arcs_in last port arc is,
+      known-same (net_of w) earlier (from_of (slice_get w.arcs.items arc))
+          ∙ ap (λ r. known_by r earlier (from_of (slice_get w.arcs.items arc))) replay
+          ∙ of-known (length feeds) earlier (feeds_of feeds last) port (slice_get w.arcs.items arc) h.1 (i.fed last port arc is),
+    )),
+    wired earlier h.2,
+  )
+
+  many : (actor : ℕ) → length (arcs_read w actor) ≡ length (feeds_of feeds actor)
+  many actor =
+      elim (cases_lt actor (length feeds)) [
+        | inl low ↦ i.before actor low
+        | inr past ↦ elim (cases_eq actor (length feeds)) [
+          | inl same ↦ ap (λ x. length (arcs_read w x)) same ∙ i.now ∙ sym (ap length (no-feeds feeds actor past))
+          | inr other ↦ i.later actor (omega (arith, past, other)) ∙ sym (ap length (no-feeds feeds actor past))
+        ]
+      ]
+
+  pub joined-all : IsJoined feeds w
+  joined-all = record { many = many; fed = i.fed }
+
+  pub shaped-all : w.shown ≤ length feeds → IsOrder (length feeds) feeds w.order.items → IsShaped w (length feeds)
+  shaped-all shown order =
+      record {
+        replay_is = replay;
+        few = (let f = are.few in omega (arith, f));
+        few_arcs = (let f = are.few in let c = i.count in omega (arith, f, c));
+        shown_in = shown;
+        inputs_len = i.inputs_len;
+        readers_len = i.readers_len;
+        arcs_in = i.arcs_in;
+        ports = λ actor. (let m = many actor in let p = are.ports actor in omega (arith, m, p));
+        from_in = i.from_in;
+        joined = i.joined;
+        read = i.read;
+        readers_in = i.readers_in;
+        wired = wired w.order.items order.earlier;
+        listed = λ actor k. order.listed actor (sym (known-same (net_of w) w.order.items actor ∙ ap (λ r. known_by r w.order.items actor) replay) ∙ k);
+        ordered = λ actor low. known-same (net_of w) w.order.items actor ∙ ap (λ r. known_by r w.order.items actor) replay ∙ order.ordered actor low;
+      }
+
+abbrev no-numbers : List ℕ
+no-numbers = []
+
+-- wires with no arc
+pub joining-none : (feeds : List (Vec Feed Global)) (w : Wires) → length w.inputs.items ≡ length feeds → length w.readers.items ≡ length feeds + 1 → w.arcs.items ≡ []
+    → ((r : ℕ) → numbers_in (slice_get w.inputs.items r) ≡ []) → ((r : ℕ) → rows_in (slice_get w.readers.items r) ≡ []) → IsJoining feeds 0 0 w
+joining-none feeds w inputs readers none rows bare =
+    record {
+      inputs_len = inputs;
+      readers_len = readers;
+      count = (let z = ap length none in omega (arith, z));
+      before = λ actor low. absurd (omega (arith, low));
+      now = ap length (rows 0);
+      later = λ actor high. ap length (rows actor);
+      arcs_in = λ actor port arc is. no-read actor port arc is;
+      from_in = λ arc low. absurd (no-arc arc low);
+      joined = λ actor port arc is. no-read actor port arc is;
+      fed = λ actor port arc is. no-read actor port arc is;
+      read = λ actor port arc low. absurd (no-arc arc low);
+      readers_in = λ actor port place arc is. no-from actor port place arc is;
+    }
+  where
+    no-arc : (arc : ℕ) → arc < length w.arcs.items → ⊥
+    no-arc arc low = (let z = ap length none in omega (arith, low, z))
+
+    no-read : {P : Type 0} (actor port arc : ℕ) → slice_get (arcs_read w actor) port ≡ Some arc → P
+    no-read actor port arc is = (let h : slice_get (no-numbers) port ≡ Some arc = ap (λ xs. slice_get xs port) (sym (rows actor)) ∙ is in cc h)
+
+    no-from : {P : Type 0} (actor port place arc : ℕ) → slice_get (arcs_from w actor port) place ≡ Some arc → P
+    no-from actor port place arc is = (let h : slice_get (no-numbers) place ≡ Some arc = ap (λ vs. slice_get (numbers_in (slice_get vs port)) place) (sym (bare actor)) ∙ is in cc h)
+
+-- all ports of an operator are joined
+pub joining-next : (feeds : List (Vec Feed Global)) (at : ℕ) (w : Wires) → AreFeeds feeds → IsJoining feeds at (length (feeds_of feeds at)) w → IsJoining feeds (at + 1) 0 w
+joining-next feeds at w are i =
+    record {
+      inputs_len = i.inputs_len;
+      readers_len = i.readers_len;
+      count = (let c = i.count in let p = are.ports at in omega (arith, c, p));
+      before = λ actor low. elim (cases_lt actor at) [
+        | inl less ↦ i.before actor less
+        | inr past ↦ (let e : actor ≡ at = omega (arith, low, past) in subst (λ x. length (arcs_read w x) ≡ length (feeds_of feeds x)) (sym e) i.now)
+      ];
+      now = i.later (at + 1) (omega arith);
+      later = λ actor high. i.later actor (omega (arith, high));
+      arcs_in = i.arcs_in;
+      from_in = i.from_in;
+      joined = i.joined;
+      fed = i.fed;
+      read = i.read;
+      readers_in = i.readers_in;
+    }
+
+pub joining-past : (feeds : List (Vec Feed Global)) (at place : ℕ) (w : Wires) → AreFeeds feeds → IsJoining feeds at place w → place ≡ length (feeds_of feeds at) → IsJoining feeds (at + 1) 0 w
+joining-past feeds at place w are i is = joining-next feeds at w are (subst (λ p. IsJoining feeds at p w) is i)
+
+pub joined-done : (feeds : List (Vec Feed Global)) (at : ℕ) (w : Wires) → AreFeeds feeds → IsJoining feeds at 0 w → at ≡ length feeds → w.replay ≡ length feeds → IsJoined feeds w
+joined-done feeds at w are i is replay = joined-all feeds w are (subst (λ p. IsJoining feeds p 0 w) is i) replay
+
+pub shaped-done : (feeds : List (Vec Feed Global)) (at : ℕ) (first w : Wires) → AreFeeds feeds → IsJoining feeds at 0 w → Fixed first w → at ≡ length feeds
+    → first.replay ≡ length feeds → first.shown ≤ length feeds → IsOrder (length feeds) feeds first.order.items → IsShaped w (length feeds)
+shaped-done feeds at first w are i fixed is replay shown order =
+    let low : w.shown ≤ length feeds = (let s = fixed.shown in omega (arith, s, shown)) in
+    shaped-all feeds w are (subst (λ p. IsJoining feeds p 0 w) is i) (fixed.replay ∙ replay) low
+    (subst (λ o. IsOrder (length feeds) feeds o.items) (sym fixed.order) order)

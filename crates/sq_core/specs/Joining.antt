@@ -1,0 +1,92 @@
+-- Wires that join operators as a table of feeds says.
+use Rattle.std.specs.Prelude.{◌≡◌, ◌≢◌, ℕ, ◌+◌, ◌*◌, ◌==◌, ◌||◌, ◌≤◌, ◌<◌, ◌^◌, Bool, true, false, List, [], ◌∷◌, ◌++◌, length, Option, Some, None, Vec, slice_get, if◌then◌else◌}
+use Rattle.std.specs.declared.alloc.Global.{Global}
+use Rattle.sq_flow.specs.declared.wires.Arc.{Arc}
+use Rattle.sq_flow.specs.declared.wires.Wires.{Wires}
+use Rattle.sq_flow.specs.Wiring.{numbers_in, rows_in, arcs_read, arcs_from, arc_at, from_of, port_of, to_of, place_of, times_in}
+use Rattle.sq_core.specs.declared.join.Feed.{Feed}
+
+abbrev pub items_in : Option (Vec Feed Global) → List Feed
+items_in None = []
+items_in (Some v) = v.items
+
+-- what an operator reads, by port
+abbrev pub feeds_of : List (Vec Feed Global) → ℕ → List Feed
+feeds_of feeds actor = items_in (slice_get feeds actor)
+
+-- a table that can be joined: few operators, few ports of each, and each feed comes from an operator or the replay
+pub record AreFeeds (feeds : List (Vec Feed Global)) : Type 0 where
+  pub few : length feeds < 2 ^ 20
+  pub ports : (actor : ℕ) → length (feeds_of feeds actor) ≤ 8
+  pub from_in : (actor port : ℕ) (f : Feed) → slice_get (feeds_of feeds actor) port ≡ Some f → f.from < length feeds + 1
+
+-- the number is that of the replay or one of these
+abbrev pub known_by : ℕ → List ℕ → ℕ → Bool
+known_by replay [] actor = actor == replay
+known_by replay (last ∷ earlier) actor = (actor == last) || known_by replay earlier actor
+
+abbrev pub AllKnown : ℕ → List ℕ → List Feed → Type 0
+AllKnown replay order [] = Unit {0}
+AllKnown replay order (f ∷ fs) = (known_by replay order f.from ≡ true) × AllKnown replay order fs
+
+-- each operator reads the replay and earlier operators alone
+abbrev pub ReadsEarlier : ℕ → List (Vec Feed Global) → List ℕ → Type 0
+ReadsEarlier replay feeds [] = Unit {0}
+ReadsEarlier replay feeds (last ∷ earlier) = (last ≢ replay) × AllKnown replay earlier (feeds_of feeds last) × ReadsEarlier replay feeds earlier
+
+-- an order of all operators, the last first
+pub record IsOrder (ops : ℕ) (feeds : List (Vec Feed Global)) (order : List ℕ) : Type 0 where
+  pub earlier : ReadsEarlier ops feeds order
+  pub listed : (actor : ℕ) → known_by ops order actor ≡ true → actor < ops + 1
+  pub ordered : (actor : ℕ) → actor < ops → known_by ops order actor ≡ true
+
+-- an arc is of a feed
+abbrev pub IsOf : Option Arc → Option Feed → Type 0
+IsOf None f = ⊥
+IsOf (Some arc) None = ⊥
+IsOf (Some arc) (Some f) = (arc.from ≡ f.from) × (arc.port ≡ f.port) × (arc.width ≡ f.width) × (arc.marked ≡ f.marked)
+
+-- each operator reads as many arcs as the table says, and each is as it says
+pub record IsJoined (feeds : List (Vec Feed Global)) (wires : Wires) : Type 0 where
+  pub many : (actor : ℕ) → length (arcs_read wires actor) ≡ length (feeds_of feeds actor)
+  pub fed : (actor port arc : ℕ) → slice_get (arcs_read wires actor) port ≡ Some arc → IsOf (slice_get wires.arcs.items arc) (slice_get (feeds_of feeds actor) port)
+
+-- a number is added at a port of an actor
+abbrev pub AddsIn : ℕ → ℕ → ℕ → List (Vec (Vec ℕ Global) Global) → List (Vec (Vec ℕ Global) Global) → Type 0
+AddsIn to place at was is = (actor port : ℕ)
+    → numbers_in (slice_get (rows_in (slice_get is actor)) port)
+    ≡ (if actor == to then (if port == place then numbers_in (slice_get (rows_in (slice_get was actor)) port) ++ at ∷ [] else numbers_in (slice_get (rows_in (slice_get was actor)) port))
+    else numbers_in (slice_get (rows_in (slice_get was actor)) port))
+
+-- what no arc changes
+pub record Fixed (was is : Wires) : Type 0 where
+  pub replay : is.replay ≡ was.replay
+  pub shown : is.shown ≡ was.shown
+  pub order : is.order ≡ was.order
+
+-- an arc is added
+pub record Adds (arc : Arc) (was is : Wires) : Type 0 where
+  pub arcs : is.arcs.items ≡ was.arcs.items ++ arc ∷ []
+  pub inputs_len : length is.inputs.items ≡ length was.inputs.items
+  pub readers_len : length is.readers.items ≡ length was.readers.items
+  pub fixed : Fixed was is
+  pub inputs : (actor : ℕ) → arcs_read is actor ≡ (if actor == arc.to then arcs_read was actor ++ length was.arcs.items ∷ [] else arcs_read was actor)
+  pub readers : AddsIn arc.from arc.port (length was.arcs.items) was.readers.items is.readers.items
+
+-- the operators before this one are joined, and of this one so many ports
+pub record IsJoining (feeds : List (Vec Feed Global)) (at place : ℕ) (wires : Wires) : Type 0 where
+  pub inputs_len : length wires.inputs.items ≡ length feeds
+  pub readers_len : length wires.readers.items ≡ length feeds + 1
+  pub count : length wires.arcs.items ≤ 8 * at + place
+  pub before : (actor : ℕ) → actor < at → length (arcs_read wires actor) ≡ length (feeds_of feeds actor)
+  pub now : length (arcs_read wires at) ≡ place
+  pub later : (actor : ℕ) → at < actor → length (arcs_read wires actor) ≡ 0
+  pub arcs_in : (actor port arc : ℕ) → slice_get (arcs_read wires actor) port ≡ Some arc → arc < length wires.arcs.items
+  pub from_in : (arc : ℕ) → arc < length wires.arcs.items → from_of (slice_get wires.arcs.items arc) < length feeds + 1
+  pub joined : (actor port arc : ℕ) → slice_get (arcs_read wires actor) port ≡ Some arc
+      → (to_of (slice_get wires.arcs.items arc) ≡ actor) × (place_of (slice_get wires.arcs.items arc) ≡ port)
+  pub fed : (actor port arc : ℕ) → slice_get (arcs_read wires actor) port ≡ Some arc → IsOf (slice_get wires.arcs.items arc) (slice_get (feeds_of feeds actor) port)
+  pub read : (actor port arc : ℕ) → arc < length wires.arcs.items
+      → times_in arc (arcs_from wires actor port)
+      ≡ (if actor == from_of (slice_get wires.arcs.items arc) then (if port == port_of (slice_get wires.arcs.items arc) then 1 else 0) else 0)
+  pub readers_in : (actor port place arc : ℕ) → slice_get (arcs_from wires actor port) place ≡ Some arc → arc < length wires.arcs.items

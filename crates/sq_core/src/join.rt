@@ -1,0 +1,154 @@
+//! Wires from a table of what each operator reads.
+
+ghost use Rattle.std.specs.Prelude.{◌≡◌, ◌<◌, ◌≤◌, ◌^◌, ◌-◌, ◌+◌, ◌==◌, ℕ, [], ◌∷◌, ◌++◌, length, slice_get, IfOk, OnOk, if◌then◌else◌};
+ghost use Rattle.sq_flow.specs.Wiring.{numbers_in, rows_in, IsShaped};
+ghost use Rattle.sq_core.specs.Joining.{Adds, AreFeeds, IsOrder, IsJoining, IsJoined, AddsIn, Fixed};
+
+use sq_flow::{Arc, Wires};
+use std::alloc::{AllocError, Global};
+
+/// What an operator reads at a port: which actor gives it at which port, how many values its tuples have, and whether marks
+/// come on it. The actors are the operators, and behind them the replay.
+#[derive(Clone, Copy, Drop)]
+pub struct Feed {
+    pub from: u32,
+    pub port: u32,
+    pub width: u32,
+    pub marked: bool,
+}
+
+fn add_at(rows: &mut Vec<Vec<u32>>, row: u32, at: u32) -> Result<(), AllocError>
+    requires { row < length rows.old.items }
+    ensures len { OnOk result (length rows.new.items ≡ length rows.old.items) }
+    ensures added { OnOk result ((r : ℕ) → numbers_in (slice_get rows.new.items r) ≡ (if r == row then numbers_in (slice_get rows.old.items r) ++ at ∷ [] else numbers_in (slice_get rows.old.items r))) }
+{
+    rows[row as usize].push(at)?;
+    Ok(())
+}
+
+#[tactic(auto, using(crate::proofs::JoinLemmas::numbers_bare, crate::proofs::JoinLemmas::length_more))]
+fn grow(alloc: Global, rows: &mut Vec<Vec<u32>>, row: u32) -> Result<(), AllocError>
+    ensures len { OnOk result (row < length rows.new.items) }
+    ensures same { OnOk result ((r : ℕ) → numbers_in (slice_get rows.new.items r) ≡ numbers_in (slice_get rows.old.items r)) }
+{
+    while rows.len() <= row as usize {
+        rows.push(Vec::new(alloc))?;
+    }
+    Ok(())
+}
+
+fn add_row(alloc: Global, rows: &mut Vec<Vec<u32>>, row: u32, at: u32) -> Result<(), AllocError>
+    ensures added { OnOk result ((r : ℕ) → numbers_in (slice_get rows.new.items r) ≡ (if r == row then numbers_in (slice_get rows.old.items r) ++ at ∷ [] else numbers_in (slice_get rows.old.items r))) }
+{
+    grow(alloc, rows, row)?;
+    add_at(rows, row, at)
+}
+
+fn add_in(
+    alloc: Global,
+    readers: &mut Vec<Vec<Vec<u32>>>,
+    actor: u32,
+    port: u32,
+    at: u32,
+) -> Result<(), AllocError>
+    requires { actor < length readers.old.items }
+    ensures len { OnOk result (length readers.new.items ≡ length readers.old.items) }
+    ensures added { OnOk result (AddsIn actor port at readers.old.items readers.new.items) }
+{
+    add_row(alloc, &mut readers[actor as usize], port, at)
+}
+
+fn add_arc(alloc: Global, wires: &mut Wires, arc: Arc) -> Result<(), AllocError>
+    requires to { arc.to < length wires.old.inputs.items }
+    requires from { arc.from < length wires.old.readers.items }
+    requires few { length wires.old.arcs.items < 2 ^ 32 }
+    ensures { OnOk result (Adds arc wires.old wires.new) }
+{
+    let at = wires.arcs.len() as u32;
+    wires.arcs.push(arc)?;
+    add_at(&mut wires.inputs, arc.to, at)?;
+    add_in(alloc, &mut wires.readers, arc.from, arc.port, at)?;
+    Ok(())
+}
+
+fn join_all(
+    alloc: Global,
+    wires: &mut Wires,
+    feeds: &[Vec<Feed>],
+    actor: u32,
+) -> Result<(), AllocError>
+    requires feeds { AreFeeds feeds.now }
+    requires there { actor < length feeds.now }
+    requires joining { IsJoining feeds.now actor 0 wires.old }
+    ensures joining { OnOk result (IsJoining feeds.now (actor + 1) 0 wires.new) }
+    ensures fixed { OnOk result (Fixed wires.old wires.new) }
+{
+    let row = &feeds[actor as usize];
+    for place in 0..row.len() {
+        let feed = row[place];
+        let arc = Arc {
+            from: feed.from,
+            port: feed.port,
+            to: actor,
+            place: place as u32,
+            width: feed.width,
+            marked: feed.marked,
+        };
+        add_arc(alloc, wires, arc)?;
+    }
+    Ok(())
+}
+
+#[tactic(auto, using(crate::proofs::JoinLemmas::numbers_bare, crate::proofs::JoinLemmas::length_more))]
+fn bare_rows(alloc: Global, many: u32) -> Result<Vec<Vec<u32>>, AllocError>
+    ensures len { IfOk result (λ v. length v.items ≡ many) }
+    ensures empty { IfOk result (λ v. (r : ℕ) → numbers_in (slice_get v.items r) ≡ []) }
+{
+    let mut rows = Vec::new(alloc);
+    for _row in 0..many {
+        rows.push(Vec::new(alloc))?;
+    }
+    Ok(rows)
+}
+
+#[tactic(auto, using(crate::proofs::JoinLemmas::rows_bare, crate::proofs::JoinLemmas::length_more))]
+fn bare_readers(alloc: Global, many: u32) -> Result<Vec<Vec<Vec<u32>>>, AllocError>
+    ensures len { IfOk result (λ v. length v.items ≡ many) }
+    ensures empty { IfOk result (λ v. (r : ℕ) → rows_in (slice_get v.items r) ≡ []) }
+{
+    let mut rows = Vec::new(alloc);
+    for _row in 0..many {
+        rows.push(Vec::new(alloc))?;
+    }
+    Ok(rows)
+}
+
+/// Wires in which each operator reads what the table says, by port.
+pub fn wires_of(
+    alloc: Global,
+    shown: u32,
+    feeds: &[Vec<Feed>],
+    order: Vec<u32>,
+) -> Result<Wires, AllocError>
+    requires feeds { AreFeeds feeds.now }
+    requires shown { shown ≤ length feeds.now }
+    requires order { IsOrder (length feeds.now) feeds.now order.items }
+    ensures shaped { IfOk result (λ w. IsShaped w (length feeds.now)) }
+    ensures joined { IfOk result (λ w. IsJoined feeds.now w) }
+    ensures shown { IfOk result (λ w. w.shown ≡ shown) }
+    ensures order { IfOk result (λ w. w.order ≡ order) }
+{
+    let ops = feeds.len() as u32;
+    let mut wires = Wires {
+        replay: ops,
+        shown,
+        arcs: Vec::new(alloc),
+        inputs: bare_rows(alloc, ops)?,
+        readers: bare_readers(alloc, ops + 1)?,
+        order,
+    };
+    for actor in 0..ops {
+        join_all(alloc, &mut wires, feeds, actor)?;
+    }
+    Ok(wires)
+}

@@ -1,0 +1,140 @@
+-- Where all are finished nothing is left; where some actor isn't, one is ready.
+use Rattle.std.proofs.Common.{◌≡◌, ◌≢◌, ℕ, zero, suc, ◌+◌, ◌-◌, ◌<◌, ◌≤◌, eqb, cond, Bool, true, false, not, ◌||◌, ◌⊎◌, inl, inr, IsTrue, List, [], ◌∷◌, ◌++◌, length, Option, Some, None, refl, ap, sym, ◌∙◌, subst, arith}
+use Rattle.std.specs.Prelude.{slice_get, is_some}
+use Rattle.std.proofs.lemmas.Option.{slice_get_past}
+use Rattle.sq_item.specs.declared.Item.{Item}
+use Rattle.sq_road.specs.Levels.{Agrees}
+use Rattle.sq_oper.specs.Streams.{tuples_of}
+use Rattle.sq_left.specs.Left.{Net, World, known, Each, IsWired, inputs, coming}
+use Rattle.sq_left.proofs.MergeLemmas.{eqb-yes, eqb-no, eqb-same, eqb-not}
+use Rattle.sq_left.proofs.Conserve.{ended-none, ended-settled}
+use Rattle.sq_queue.specs.Faces.{face}
+use Rattle.sq_flow.specs.declared.seats.Seat.{Seat}
+use Rattle.sq_flow.specs.declared.flow.Flow.{Flow}
+use Rattle.sq_flow.specs.Wiring.{net_of, arcs_read, numbers_in, from_of}
+use Rattle.sq_flow.specs.Seats.{Meaning, done_at, taken_at}
+use Rattle.sq_flow.specs.Events.{bodies}
+use Rattle.sq_flow.specs.Flows.{world_of, IsFlow, HoldsItems, lines_left, fed_at_last, lost_at_last}
+use Rattle.sq_flow.specs.Readiness.{IsReady, stands}
+use Rattle.sq_flow.specs.Engines.{AllDone, ExactFor, place_in}
+use Rattle.sq_sched.specs.Ready.{contains}
+
+Each-at : (P : ℕ → Type 0) (xs : List ℕ) (i x : ℕ) → Each P xs → slice_get xs i ≡ Some x → P x
+Each-at P [] i x h is = absurd (cc is)
+Each-at P (y ∷ xs) zero x h is = let same : y ≡ x = cc is in subst P same h.0
+Each-at P (y ∷ xs) (suc i) x h is = Each-at P xs i x h.1 is
+
+module _ {O : Type 0} (m : Meaning O) (valid : O → Type 0) (e : Flow O) (flow : IsFlow m valid e) where
+  abbrev net : Net
+  net = net_of e.wires
+
+  abbrev done : ℕ → Bool
+  done actor = done_at e.over (slice_get e.seats.items actor)
+
+  -- of the actors of an order all are finished, or one is ready
+  some-ready : (order : List ℕ) → IsWired net order
+      → ((actor : ℕ) → known net order actor ≡ true → done actor ≡ true) ⊎ ((actor : ℕ) × ((known net order actor ≡ true) × IsReady e actor))
+  some-ready [] wired = by (done net.replay) refl
+    where
+      by : (b : Bool) → done net.replay ≡ b → ((actor : ℕ) → known net [] actor ≡ true → done actor ≡ true) ⊎ ((actor : ℕ) × ((known net [] actor ≡ true) × IsReady e actor))
+      by true d = inl (λ actor k. ap done (eqb-yes actor net.replay k) ∙ d)
+      by false d = inr (net.replay, (eqb-same net.replay net.replay refl, record { running = d; standing = λ port arc is. absurd (none port arc is) }))
+        where
+          none : (port arc : ℕ) → slice_get (arcs_read e.wires e.wires.replay) port ≡ Some arc → ⊥
+          none port arc is =
+              let r = flow.shaped.replay_is in
+              let l = flow.shaped.inputs_len in
+              let past : slice_get e.wires.inputs.items e.wires.replay ≡ None = slice_get_past e.wires.inputs.items e.wires.replay (omega (arith, r, l)) in
+              cc (sym (ap (λ o. slice_get (numbers_in o) port) past) ∙ is)
+  some-ready (last ∷ earlier) wired = before (some-ready earlier wired.2)
+    where
+      or-right : (a b : Bool) → b ≡ true → (a || b) ≡ true
+      or-right true b h = refl
+      or-right false b h = h
+
+      standing-of : ((actor : ℕ) → known net earlier actor ≡ true → done actor ≡ true) → (port arc : ℕ) → slice_get (arcs_read e.wires last) port ≡ Some arc → stands (face e.queues arc) ≡ true
+      standing-of all port arc is =
+          let k = Each-at (λ a. (a < net.size) × IsTrue (known net earlier (net.from a))) (net.arcs last) port arc wired.1 is in
+          or-right (is_some (face e.queues arc).first) (face e.queues arc).ended (flow.ended arc k.0 ∙ all (net.from arc) k.1)
+
+      here : ((actor : ℕ) → known net earlier actor ≡ true → done actor ≡ true) → (b : Bool) → done last ≡ b
+          → ((actor : ℕ) → known net (last ∷ earlier) actor ≡ true → done actor ≡ true) ⊎ ((actor : ℕ) × ((known net (last ∷ earlier) actor ≡ true) × IsReady e actor))
+      here all true d = inl (λ actor k. by actor (eqb actor last) refl k)
+        where
+          by : (actor : ℕ) (b : Bool) → eqb actor last ≡ b → (b || known net earlier actor) ≡ true → done actor ≡ true
+          by actor true t k = ap done (eqb-yes actor last t) ∙ d
+          by actor false t k = all actor k
+      here all false d =
+          inr (last, (ap (λ b. b || known net earlier last) (eqb-same last last refl), record { running = d; standing = standing-of all }))
+
+      before : ((actor : ℕ) → known net earlier actor ≡ true → done actor ≡ true) ⊎ ((actor : ℕ) × ((known net earlier actor ≡ true) × IsReady e actor))
+          → ((actor : ℕ) → known net (last ∷ earlier) actor ≡ true → done actor ≡ true) ⊎ ((actor : ℕ) × ((known net (last ∷ earlier) actor ≡ true) × IsReady e actor))
+      before (inl all) = here all (done last) refl
+      before (inr r) = inr (r.0, (or-right (eqb r.0 last) (known net earlier r.0) r.1.0, r.1.1))
+
+  -- as long as some actor isn't finished, one is ready
+  pub one-ready : (other : ℕ) → other ≤ length e.seats.items → done other ≡ false → (actor : ℕ) × ((actor ≤ length e.seats.items) × IsReady e actor)
+  one-ready other low open_now = by (some-ready e.wires.order.items flow.shaped.wired)
+    where
+      replay-known : (order : List ℕ) → known net order net.replay ≡ true
+      replay-known [] = eqb-same net.replay net.replay refl
+      replay-known (last ∷ earlier) = or (eqb net.replay last) (known net earlier net.replay) (replay-known earlier)
+        where
+          or : (a b : Bool) → b ≡ true → (a || b) ≡ true
+          or true b h = refl
+          or false b h = h
+
+      listed : known net e.wires.order.items other ≡ true
+      listed = at (eqb other net.replay) refl
+        where
+          at : (b : Bool) → eqb other net.replay ≡ b → known net e.wires.order.items other ≡ true
+          at true t = subst (λ k. known net e.wires.order.items k ≡ true) (sym (eqb-yes other net.replay t)) (replay-known e.wires.order.items)
+          at false t =
+              let r = flow.shaped.replay_is in
+              let ne : other ≢ net.replay = eqb-no other net.replay t in
+              flow.shaped.ordered other (omega (arith, r, ne, low))
+
+      by : ((actor : ℕ) → known net e.wires.order.items actor ≡ true → done actor ≡ true) ⊎ ((actor : ℕ) × ((known net e.wires.order.items actor ≡ true) × IsReady e actor))
+          → (actor : ℕ) × ((actor ≤ length e.seats.items) × IsReady e actor)
+      by (inl all) = absurd (cc (sym open_now ∙ all other listed))
+      by (inr r) = let low = flow.shaped.listed r.0 r.1.0 in (r.0, (omega (arith, low), r.1.1))
+
+  -- at the end nothing is left
+  module _ (all : AllDone e) (items : ℕ → List Item) (holds : HoldsItems m items e) (table : ℕ → ℕ → ℕ) (agrees : Agrees e.levels table) where
+    pub none-left : (output : ℕ) → e.wires.shown + output < length e.seats.items → lines_left m table items e output ≡ []
+    none-left output low =
+        ap bodies (ended-none net (world_of m table items e) e.wires.order.items (holds.facts table agrees) (e.wires.shown + output) 0 (flow.shaped.ordered (e.wires.shown + output) low)
+        (all (e.wires.shown + output) (omega (arith, low))))
+
+    pub all-fed : (actor : ℕ) → actor < length e.seats.items → fed_at_last m table items e actor ≡ taken_at m (slice_get e.seats.items actor)
+    all-fed actor low =
+        let r = flow.shaped.replay_is in
+        let away : actor ≢ net.replay = omega (arith, r, low) in
+        let settled = ended-settled net (world_of m table items e) e.wires.order.items (holds.facts table agrees) actor (flow.shaped.ordered actor low) away (all actor (omega (arith, low))) in
+        ap (λ fed. taken_at m (slice_get e.seats.items actor) + length (tuples_of fed)) settled.none ∙ zero-more (taken_at m (slice_get e.seats.items actor))
+      where
+        zero-more : (k : ℕ) → k + 0 ≡ k
+        zero-more k = omega arith
+
+-- each place in the flow is that of an actor
+pub actor-at : (ops k : ℕ) → k ≤ ops → (actor : ℕ) × ((actor ≤ ops) × (place_in ops actor ≡ k))
+actor-at ops k low = by (eqb k ops) refl
+  where
+    by : (b : Bool) → eqb k ops ≡ b → (actor : ℕ) × ((actor ≤ ops) × (place_in ops actor ≡ k))
+    by true t = let same : k ≡ ops = eqb-yes k ops t in (0, (omega arith, sym same))
+    by false t =
+        let ne : k ≢ ops = eqb-no k ops t in
+        let later : eqb (k + 1) 0 ≡ false = eqb-not (k + 1) 0 (omega arith) in
+        (k + 1, (omega (arith, low, ne), ap (λ b. cond b ops (k + 1 - 1)) later ∙ less))
+      where
+        less : k + 1 - 1 ≡ k
+        less = omega arith
+
+-- as long as some actor isn't finished the ready list isn't empty
+pub one-listed : {O : Type 0} (m : Meaning O) (valid : O → Type 0) (e : Flow O) (flow : IsFlow m valid e) (list : List ℕ)
+    → ((actor : ℕ) → actor ≤ length e.seats.items → ExactFor e list actor)
+    → (some : (other : ℕ) × ((other ≤ length e.seats.items) × (done_at e.over (slice_get e.seats.items other) ≡ false))) → (actor : ℕ) × (contains list actor ≡ true)
+one-listed m valid e flow list exact some =
+    let r = one-ready m valid e flow some.0 some.1.0 some.1.1 in
+    let a = actor-at (length e.seats.items) r.0 r.1.0 in
+    (a.0, (exact a.0 a.1.0).ready (subst (IsReady e) (sym a.1.1) r.1.1))

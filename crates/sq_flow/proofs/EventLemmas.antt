@@ -1,0 +1,90 @@
+-- What was shown.
+use Rattle.std.proofs.lemmas.Bool.Decides.{nat_tests}
+use Rattle.std.proofs.Common.{◌≡◌, ℕ, ◌+◌, ◌-◌, ◌<◌, ◌≤◌, arith, eqb, cond, Bool, true, false, List, [], ◌∷◌, ◌++◌, length, get_or, take, drop, Option, Some, None, refl, ap, sym, ◌∙◌, append_assoc, append-nil, add-one}
+use Rattle.std.proofs.Math.Seq.{take-suc}
+use Rattle.std.proofs.lemmas.List.{take-append-drop}
+use Rattle.sq_value.specs.Lists.{IsPrefixOf}
+use Rattle.sq_oper.specs.Given.{given}
+use Rattle.sq_oper.proofs.GivenLemmas.{given-append}
+use Rattle.sq_value.specs.declared.Value.{Value}
+use Rattle.sq_value.specs.declared.Tuple.{Tuple}
+use Rattle.sq_item.specs.declared.Item.{Item}
+use Rattle.sq_item.specs.declared.Mark.{Mark}
+use Rattle.sq_item.specs.Things.{Thing, Sign, Body, spread, mark_part, body_part}
+use Rattle.sq_oper.specs.declared.outs.Event.{Event}
+use Rattle.sq_oper.specs.declared.outs.Event.TheVariants.{Line}
+use Rattle.sq_oper.specs.Streams.{tuple_in}
+use Rattle.sq_flow.specs.Events.{bodies, line_of, lines_of}
+
+pub bodies-append : (xs ys : List Thing) → bodies (xs ++ ys) ≡ bodies xs ++ bodies ys
+bodies-append [] ys = refl
+bodies-append (x ∷ xs) ys = ap (λ z. tuple_in x.time x.load ++ z) (bodies-append xs ys) ∙ sym (append_assoc (tuple_in x.time x.load) (bodies xs) (bodies ys))
+
+pub lines-append : (o : ℕ) (xs ys : List Event) → lines_of o (xs ++ ys) ≡ lines_of o xs ++ lines_of o ys
+lines-append o [] ys = refl
+lines-append o (x ∷ xs) ys = ap (λ z. line_of o x ++ z) (lines-append o xs ys) ∙ sym (append_assoc (line_of o x) (lines_of o xs) (lines_of o ys))
+
+-- the tuple of an item
+pub bodies-some : (item : Item) (f : List Value) → item.body ≡ Some f → bodies (spread item) ≡ record { time = item.time; fields = f } ∷ []
+bodies-some item f is = by item.mark item.body is
+  where
+    by : (m : Option Mark) (b : Option (List Value)) → b ≡ Some f → bodies (mark_part item.time m ++ body_part item.time b) ≡ record { time = item.time; fields = f } ∷ []
+    by m None e = cc
+    by None (Some g) e = let same : g ≡ f = cc in rw same refl
+    by (Some k) (Some g) e = let same : g ≡ f = cc in rw same refl
+
+pub bodies-none : (item : Item) → item.body ≡ None → bodies (spread item) ≡ []
+bodies-none item is = by item.mark item.body is
+  where
+    by : (m : Option Mark) (b : Option (List Value)) → b ≡ None → bodies (mark_part item.time m ++ body_part item.time b) ≡ []
+    by m (Some g) e = cc
+    by None None e = refl
+    by (Some k) None e = refl
+
+pub lines-push : (o output : ℕ) (events : List Event) (tuple : Tuple) → lines_of o (events ++ Line output tuple ∷ []) ≡ lines_of o events ++ cond (eqb output o) (tuple ∷ []) []
+lines-push o output events tuple = lines-append o events (Line output tuple ∷ []) ∙ ap (λ z. lines_of o events ++ z) (append-nil (cond (eqb output o) (tuple ∷ []) []))
+
+pub nothing-more : {A : Type 0} (b : Bool) (xs ys : List A) → ys ≡ [] → xs ≡ xs ++ cond b ys []
+nothing-more true xs ys e = rw e (sym (append-nil xs))
+nothing-more false xs ys e = sym (append-nil xs)
+
+pub ruleset event_lemmas = (lines-push, bodies-some, bodies-none, nothing-more)
+
+cond-both : {A : Type 0} (b : Bool) (xs ys : List A) → cond b (xs ++ ys) [] ≡ cond b xs [] ++ cond b ys []
+cond-both true xs ys = refl
+cond-both false xs ys = refl
+
+-- one more of what an output gives
+pub shown-next : (o output : ℕ) (outs : List (ℕ × Item)) (index : ℕ) (out : ℕ × Item) → index < length outs → out ≡ get_or outs index out
+    → (was mid is : List Tuple) → mid ≡ was ++ cond (eqb output o) (bodies (given 0 (take index outs))) [] → is ≡ mid ++ cond (eqb output o) (bodies (given 0 (out ∷ []))) []
+    → is ≡ was ++ cond (eqb output o) (bodies (given 0 (take (index + 1) outs))) []
+shown-next o output outs index out low here was mid is e f =
+    let cut : take (index + 1) outs ≡ take index outs ++ out ∷ [] = ap (λ n. take n outs) (add-one index) ∙ take-suc outs index out low ∙ ap (λ z. take index outs ++ z ∷ []) (sym here) in
+    let both : bodies (given 0 (take (index + 1) outs)) ≡ bodies (given 0 (take index outs)) ++ bodies (given 0 (out ∷ [])) =
+    ap (λ l. bodies (given 0 l)) cut ∙ ap bodies (given-append 0 (take index outs) (out ∷ [])) ∙ bodies-append (given 0 (take index outs)) (given 0 (out ∷ [])) in
+    f ∙ ap (λ z. z ++ cond (eqb output o) (bodies (given 0 (out ∷ []))) []) e
+    ∙ append_assoc was (cond (eqb output o) (bodies (given 0 (take index outs))) []) (cond (eqb output o) (bodies (given 0 (out ∷ []))) [])
+    ∙ ap (λ z. was ++ z) (sym (ap (λ l. cond (eqb output o) l []) both ∙ cond-both (eqb output o) (bodies (given 0 (take index outs))) (bodies (given 0 (out ∷ [])))))
+
+-- what was shown of it so far is a prefix
+pub shown-front : (o output : ℕ) (outs : List (ℕ × Item)) (index : ℕ) (was is : List Tuple) → is ≡ was ++ cond (eqb output o) (bodies (given 0 (take index outs))) []
+    → IsPrefixOf is (was ++ cond (eqb output o) (bodies (given 0 outs)) [])
+shown-front o output outs index was is e =
+    let both : bodies (given 0 outs) ≡ bodies (given 0 (take index outs)) ++ bodies (given 0 (drop index outs)) =
+    ap (λ l. bodies (given 0 l)) (sym (take-append-drop index outs)) ∙ ap bodies (given-append 0 (take index outs) (drop index outs)) ∙ bodies-append (given 0 (take index outs)) (given 0 (drop index outs)) in (
+      cond (eqb output o) (bodies (given 0 (drop index outs))) [],
+      ap (λ l. was ++ cond (eqb output o) l []) both
+          ∙ ap (λ z. was ++ z) (cond-both (eqb output o) (bodies (given 0 (take index outs))) (bodies (given 0 (drop index outs))))
+          ∙ sym (append_assoc was (cond (eqb output o) (bodies (given 0 (take index outs))) []) (cond (eqb output o) (bodies (given 0 (drop index outs))) []))
+          ∙ ap (λ z. z ++ cond (eqb output o) (bodies (given 0 (drop index outs))) []) (sym e),
+    )
+
+-- an output by its number among the outputs
+pub output-is : (shown actor o : ℕ) (xs : List Thing) → shown ≤ actor → cond (eqb (actor - shown) o) (bodies xs) [] ≡ bodies (cond (eqb actor (shown + o)) xs [])
+output-is shown actor o xs le = by (eqb (actor - shown) o) (eqb actor (shown + o)) refl refl
+  where
+    by : (a b : Bool) → eqb (actor - shown) o ≡ a → eqb actor (shown + o) ≡ b → cond a (bodies xs) [] ≡ bodies (cond b xs [])
+    by true true e f = refl
+    by false false e f = refl
+    by true false e f = absurd (grind (arith, nat_tests, le, e, f))
+    by false true e f = absurd (grind (arith, nat_tests, le, e, f))

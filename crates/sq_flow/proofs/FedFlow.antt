@@ -1,0 +1,401 @@
+-- What a feed keeps.
+use Rattle.std.proofs.Common.{◌≡◌, ◌≢◌, ℕ, zero, suc, ◌+◌, ◌<◌, ◌≤◌, ◌^◌, eqb, cond, Bool, true, false, not, ◌||◌, List, [], ◌∷◌, ◌++◌, length, Option, Some, None, refl, ap, sym, ◌∙◌, append_assoc, append-nil, arith, subst}
+use Rattle.std.specs.Prelude.{is_some, slice_get, Vec}
+use Rattle.std.specs.declared.alloc.Global.{Global}
+use Rattle.std.proofs.lemmas.Option.{same_Some, slice_get_within}
+use Rattle.sq_value.specs.declared.Value.{Value}
+use Rattle.sq_value.specs.declared.Tuple.{Tuple}
+use Rattle.sq_value.specs.Lists.{IsPrefixOf}
+use Rattle.sq_item.specs.declared.Item.{Item}
+use Rattle.sq_item.specs.Sound.{IsSound}
+use Rattle.sq_item.specs.declared.Mark.{Mark}
+use Rattle.sq_item.specs.Things.{Thing, spread, spread_all, mark_part, body_part}
+use Rattle.sq_road.specs.Levels.{LevelTable, Agrees, level_of}
+use Rattle.sq_oper.specs.declared.outs.Decision.{Decision}
+use Rattle.sq_oper.specs.declared.outs.Event.{Event}
+use Rattle.sq_oper.specs.Entries.{Entry, at_port, entries}
+use Rattle.sq_oper.specs.Order.{IsFuture, after_all}
+use Rattle.sq_oper.specs.Given.{given, ItemsSound, ThingsUpTo}
+use Rattle.sq_oper.specs.Streams.{tuples_of}
+use Rattle.sq_oper.proofs.GivenLemmas.{ThingsUpTo-split, ThingsUpTo-later, IsPrefixOf-append}
+use Rattle.sq_left.specs.Left.{Net, World, Each, Facts, coming, inputs, known}
+use Rattle.sq_left.specs.Heads.{AllFine}
+use Rattle.sq_left.proofs.MergeLemmas.{AllOfTime, eqb-yes, eqb-same, eqb-not}
+use Rattle.sq_left.proofs.Conserve.{Told, Kept}
+use Rattle.sq_left.proofs.ActorSteps.{EachPort, PortFacts, taken_at, Moves, FedActor, SameActor}
+use Rattle.sq_left.proofs.WorldSteps.{At, facts-at, next-is-future, next-is-first, spread-of-time, world-fed, replay-end}
+use Rattle.sq_queue.specs.declared.Queues.{Queues}
+use Rattle.sq_outside.specs.Disks.{Pages}
+use Rattle.sq_queue.specs.Faces.{face, size, items_on, first_time, IsFaceOf, Tells, Together}
+use Rattle.sq_flow.specs.Sends.{sent_to, Pushes}
+use Rattle.sq_flow.proofs.WireLemmas.{sent-is}
+use Rattle.sq_flow.specs.declared.wires.Arc.{Arc}
+use Rattle.sq_flow.specs.declared.seats.Seat.{Seat}
+use Rattle.sq_flow.specs.declared.flow.Flow.{Flow}
+use Rattle.sq_flow.specs.declared.heads.Next.TheVariants.{Waits, Ended, Feed}
+use Rattle.sq_flow.specs.Wiring.{net_of, arcs_read, arc_at, marked_of, wide_of, from_of, to_of, place_of, pushed_by, AllOutsFine}
+use Rattle.sq_flow.specs.Heads.{NextUpTo}
+use Rattle.sq_flow.specs.Seats as seat
+use Rattle.sq_flow.specs.Seats.{Meaning, rest_at, decides_at, lost_at, place_at, done_at, holds_at, IsSeat, FedSeat}
+use Rattle.sq_flow.specs.Takes.{takes_of, fits_of, MayBeFed}
+use Rattle.sq_flow.specs.Events.{bodies, lines_of}
+use Rattle.sq_flow.specs.Flows.{world_of, IsFlow, HoldsItems, Goes, Stepped, ShowsPrefix, lines_left}
+use Rattle.sq_flow.proofs.FutureLemmas.{future-weaker, future-port, ports-from-head, moves-fed, outs-fine, own-pushed, not-pushed, apart-from, fine-after, goes-on, prefix-chain}
+use Rattle.sq_flow.proofs.SendLemmas.{at_or_other}
+use Rattle.sq_flow.proofs.EventLemmas.{bodies-append}
+
+one-body : (item : Item) (port : ℕ) → length (tuples_of (entries port item)) ≡ cond (is_some item.body) 1 0
+one-body item port = by item.mark item.body
+  where
+    by : (k : Option Mark) (b : Option (List Value)) → length (tuples_of (at_port port (mark_part item.time k ++ body_part item.time b))) ≡ cond (is_some b) 1 0
+    by None None = refl
+    by None (Some f) = refl
+    by (Some k) None = refl
+    by (Some k) (Some f) = refl
+
+module _ {O : Type 0} (m : Meaning O) (valid : O → Type 0) (e : Flow O) (flow : IsFlow m valid e) (actor tick p at : ℕ) (a : Arc) (item : Item)
+    (actor_in : actor < length e.seats.items)
+    (head : NextUpTo (arcs_read e.wires actor) (λ k. (face e.queues k).first) (λ k. (face e.queues k).ended) (length (arcs_read e.wires actor)) (Feed tick p at))
+    (s : Seat O) (is_seat : slice_get e.seats.items actor ≡ Some s) (is_arc : slice_get e.wires.arcs.items at ≡ Some a) where
+  abbrev net : Net
+  net = net_of e.wires
+
+  pub seat-fine : IsSeat m valid (net.takes actor) (net.fits actor) e.taken s
+  seat-fine = subst (holds_at (IsSeat m valid (net.takes actor) (net.fits actor) e.taken)) is_seat (flow.seats actor)
+
+  takes-is : net.takes actor p ≡ a.marked
+  takes-is = ap (λ o. marked_of (arc_at e.wires o)) head.1 ∙ ap marked_of is_arc
+
+  fits-is : (fields : List Value) → net.fits actor p fields ≡ fits_of a p fields
+  fits-is fields = ap (λ o. wide_of (arc_at e.wires o) fields) head.1 ∙ ap (λ o. wide_of o fields) is_arc
+
+  -- what the tests say, in the words of the operator
+  pub may-come : MayBeFed a p s.tally.place e.clock item → IsFuture (m.takes_marks s.op) (m.fits s.op) (m.place s.op) (entries p item)
+  may-come may =
+      rw seat-fine.place
+      (future-port (takes_of a) (m.takes_marks s.op) (fits_of a) (m.fits s.op) s.tally.place p (spread item)
+      (λ h. seat-fine.marks p (takes-is ∙ h)) (λ fields h. seat-fine.tuples p fields (fits-is fields ∙ h)) may.future)
+
+  -- what a feed gives and leaves, over every disk
+  module _ (s' : Seat O) (outs : List (ℕ × Item)) (drops : List Decision) (fed : FedSeat m valid e.levels p item outs drops s s') (may : MayBeFed a p s.tally.place e.clock item) where
+    pub given-and-held : (table : ℕ → ℕ → ℕ) → Agrees e.levels table → (q : ℕ) → ThingsUpTo e.clock (given q outs) × ThingsUpTo e.clock (m.rest s'.op table [] q)
+    given-and-held table agrees q =
+        let alone : entries p item ++ [] ≡ entries p item = append-nil (entries p item) in
+        let future : IsFuture (m.takes_marks s.op) (m.fits s.op) (m.place s.op) (entries p item ++ []) = rw alone (may-come may) in
+        let both : m.rest s.op table (entries p item) q ≡ given q outs ++ m.rest s'.op table [] q =
+        ap (λ z. m.rest s.op table z q) (sym alone) ∙ fed.law table [] agrees future q in
+        ThingsUpTo-split e.clock (given q outs) (m.rest s'.op table [] q)
+        (subst (ThingsUpTo e.clock) both (ThingsUpTo-later item.time e.clock _ may.in_time (fed.times table agrees q)))
+
+    pub outs-in-time : AllOutsFine e.clock outs
+    outs-in-time = outs-fine e.clock outs fed.sound (λ q. (given-and-held (level_of e.levels) (λ epoch drop h. refl) q).0)
+
+    -- the facts over every disk stay
+    module _ (seats' : Vec (Seat O) Global) (queues' : Queues) (taken' : ℕ)
+        (is_after : slice_get seats'.items actor ≡ Some s') (apart : (other : ℕ) → other ≢ actor → slice_get seats'.items other ≡ slice_get e.seats.items other)
+        (seats_len : length seats'.items ≡ length e.seats.items) (lanes : size queues' ≡ length e.wires.arcs.items)
+        (ended : (k : ℕ) → (face queues' k).ended ≡ (face e.queues k).ended)
+        (more : taken' ≡ e.taken + length (spread item)) (few : taken' < 2 ^ 62)
+        (unfinished : done_at e.over (slice_get e.seats.items actor) ≡ false) where
+      done-same : (other : ℕ) → done_at e.over (slice_get seats'.items other) ≡ done_at e.over (slice_get e.seats.items other)
+      done-same = at_or_other (λ k. done_at e.over (slice_get seats'.items k) ≡ done_at e.over (slice_get e.seats.items k)) actor
+          (ap (done_at e.over) is_after ∙ ap not fed.open_still ∙ sym (ap (done_at e.over) is_seat))
+          (λ k ne. ap (done_at e.over) (apart k ne))
+
+      le-more : (n : ℕ) → n ≤ e.taken → n ≤ taken'
+      le-more n h = omega (arith, h, more)
+
+      weight : cond (is_some item.body) 1 0 ≤ length (spread item)
+      weight = by item.mark item.body
+        where
+          by : (k : Option Mark) (b : Option (List Value)) → cond (is_some b) 1 0 ≤ length (mark_part item.time k ++ body_part item.time b)
+          by None None = omega arith
+          by None (Some f) = omega arith
+          by (Some k) None = omega arith
+          by (Some k) (Some f) = omega arith
+
+      seat-after : IsSeat m valid (net.takes actor) (net.fits actor) taken' s'
+      seat-after =
+          record {
+            is_valid = fed.is_valid;
+            running = fed.running ∙ sym (fed.open_still ∙ open-now (s.tally.running) (sym (ap (done_at e.over) is_seat) ∙ unfinished));
+            place = fed.moves ∙ ap (λ z. after_all z (entries p item)) seat-fine.place ∙ sym fed.place;
+            counted = fed.counted ∙ ap (λ n. n + cond (is_some item.body) 1 0) seat-fine.counted ∙ sym fed.taken;
+            few = (let t = fed.taken in let f = seat-fine.few in let w = weight in omega (arith, t, f, w, more));
+            marks = λ port h. ap (λ f. f port) fed.marks ∙ seat-fine.marks port h;
+            tuples = λ port fields h. ap (λ f. f port fields) fed.fits ∙ seat-fine.tuples port fields h;
+          }
+        where
+          open-now : (b : Bool) → not b ≡ false → b ≡ true
+          open-now true h = refl
+          open-now false h = cc
+
+      pub flow-after : IsFlow m valid (record e { seats = seats'; queues = queues'; taken = taken' })
+      flow-after =
+          record {
+            shaped = rw seats_len flow.shaped;
+            lanes = lanes;
+            ended = λ arc low. ended arc ∙ flow.ended arc low ∙ sym (done-same (from_of (slice_get e.wires.arcs.items arc)));
+            seats = at_or_other (λ k. holds_at (IsSeat m valid (net.takes k) (net.fits k) taken') (slice_get seats'.items k)) actor
+                (subst (holds_at (IsSeat m valid (net.takes actor) (net.fits actor) taken')) (sym is_after) seat-after)
+                (λ k ne. subst (holds_at (IsSeat m valid (net.takes k) (net.fits k) taken')) (sym (apart k ne))
+                (seat-later (net.takes k) (net.fits k) (slice_get e.seats.items k) (flow.seats k)));
+            few = few;
+            held = λ table agrees. at_or_other (λ k. (port : ℕ) → ThingsUpTo e.clock (rest_at m table (slice_get seats'.items k) [] port)) actor
+                (λ port. subst (λ o. ThingsUpTo e.clock (rest_at m table o [] port)) (sym is_after) (given-and-held table agrees port).1)
+                (λ k ne port. subst (λ o. ThingsUpTo e.clock (rest_at m table o [] port)) (sym (apart k ne)) (flow.held table agrees k port));
+            coming = flow.coming;
+            levels = flow.levels;
+            over = flow.over;
+          }
+        where
+          seat-later : (takes : ℕ → Bool) (fits : ℕ → List Value → Bool) (o : Option (Seat O)) → holds_at (IsSeat m valid takes fits e.taken) o → holds_at (IsSeat m valid takes fits taken') o
+          seat-later takes fits None h = tt
+          seat-later takes fits (Some k) h =
+              record {
+                is_valid = h.is_valid;
+                running = h.running;
+                place = h.place;
+                counted = h.counted;
+                few = le-more k.tally.taken h.few;
+                marks = h.marks;
+                tuples = h.tuples;
+              }
+
+  -- where these items stand on the arcs
+  module _ (items mid : ℕ → List Item) (holds : HoldsItems m items e) (faces : (k : ℕ) → IsFaceOf (face e.queues k) (items k))
+      (whole : items at ≡ item ∷ mid at) (others : (k : ℕ) → k ≢ at → mid k ≡ items k) where
+    abbrev was : (ℕ → ℕ → ℕ) → World
+    was table = world_of m table items e
+
+    not-replay : actor ≢ net.replay
+    not-replay = let is = flow.shaped.replay_is in omega arith
+
+    in-order : known net e.wires.order.items actor ≡ true
+    in-order = flow.shaped.ordered actor actor_in
+
+    time-is : item.time ≡ tick
+    time-is = same_Some item.time tick (sym (ap first_time whole) ∙ sym (faces at).first ∙ head.2)
+
+    of-time : AllOfTime tick (spread item)
+    of-time = subst (λ u. AllOfTime u (spread item)) time-is (spread-of-time item)
+
+    ports : (table : ℕ → ℕ → ℕ) → EachPort (PortFacts net (was table) tick p at) 0 (net.arcs actor)
+    ports table =
+        ports-from-head net (was table) items (λ k. place_of (slice_get e.wires.arcs.items k)) (λ k. (face e.queues k).first) (λ k. (face e.queues k).ended) e.clock actor tick p at
+        (λ k. refl) holds.queued (λ k. (faces k).first)
+        (λ port arc is. flow.ended arc (flow.shaped.arcs_in actor port arc is))
+        (λ port arc is. (flow.shaped.joined actor port arc is).1) head
+
+    -- the world between the taking and the giving
+    abbrev between : (ℕ → ℕ → ℕ) → World
+    between table = record (was table) { queue = λ k. spread_all (mid k) }
+
+    moves-between : (table : ℕ → ℕ → ℕ) → Moves net (was table) (between table) (taken_at at (spread item)) (λ _ _. [])
+    moves-between table k within = moves-fed items mid (λ _. []) (λ j. spread_all (mid j)) at item whole others k (sym (append-nil (spread_all (mid k))))
+
+    pub next-may-come : (table : ℕ → ℕ → ℕ) → Agrees e.levels table → IsFuture (net.takes actor) (net.fits actor) (place_at m (slice_get e.seats.items actor)) (entries p item)
+    next-may-come table agrees =
+        next-is-future net (was table) (between table) actor tick p at (spread item) (coming net (was table) e.wires.order.items actor)
+        (facts-at net (was table) e.wires.order.items flow.shaped.wired (holds.facts table agrees) actor in-order not-replay)
+        (moves-between table) of-time head.0 (ports table)
+
+    -- the tests pass
+    pub passes : MayBeFed a p s.tally.place e.clock item
+    passes =
+        let in_time : item.time ≤ e.clock = (subst (AllFine e.clock) whole (holds.queued at)).0 in
+        let here : IsFuture (net.takes actor) (net.fits actor) (place_at m (slice_get e.seats.items actor)) (entries p item) = next-may-come (level_of e.levels) (λ epoch drop h. refl) in
+        let place : place_at m (slice_get e.seats.items actor) ≡ s.tally.place = ap (place_at m) is_seat ∙ seat-fine.place in
+        record {
+          in_time = in_time;
+          future = future-port (net.takes actor) (takes_of a) (net.fits actor) (fits_of a) s.tally.place p (spread item)
+              (λ h. sym takes-is ∙ h) (λ fields h. sym (fits-is fields) ∙ h) (subst (λ z. IsFuture (net.takes actor) (net.fits actor) z (entries p item)) place here);
+        }
+
+    -- a future of what comes, in the words of the operator
+    op-future : (future : List Entry) → IsFuture (net.takes actor) (net.fits actor) (place_at m (slice_get e.seats.items actor)) (entries p item ++ future)
+        → IsFuture (m.takes_marks s.op) (m.fits s.op) (m.place s.op) (entries p item ++ future)
+    op-future future f =
+        let place : place_at m (slice_get e.seats.items actor) ≡ m.place s.op = ap (place_at m) is_seat in
+        future-weaker (net.takes actor) (m.takes_marks s.op) (net.fits actor) (m.fits s.op) (m.place s.op) (entries p item ++ future)
+        seat-fine.marks seat-fine.tuples (subst (λ z. IsFuture (net.takes actor) (net.fits actor) z (entries p item ++ future)) place f)
+
+    -- what a feed gives, or has given where it fails, is the beginning of what is left
+    pub prefix-of-left : (table : ℕ → ℕ → ℕ) → Agrees e.levels table → (outs : List (ℕ × Item))
+        → ((future : List Entry) → IsFuture (m.takes_marks s.op) (m.fits s.op) (m.place s.op) (entries p item ++ future)
+        → (q : ℕ) → IsPrefixOf (given q outs) (m.rest s.op table (entries p item ++ future) q))
+        → (output : ℕ) → IsPrefixOf (bodies (pushed_by actor outs output 0)) (bodies (coming net (was table) e.wires.order.items output 0))
+    prefix-of-left table agrees outs law output = by (eqb actor output) refl
+      where
+        cut : (xs ys : List Thing) → IsPrefixOf xs ys → IsPrefixOf (bodies xs) (bodies ys)
+        cut xs ys (more, e) = (bodies more, ap bodies e ∙ bodies-append xs more)
+
+        by : (b : Bool) → eqb actor output ≡ b → IsPrefixOf (bodies (cond b (given 0 outs) [])) (bodies (coming net (was table) e.wires.order.items output 0))
+        by true t =
+            let same : actor ≡ output = eqb-yes actor output t in
+            let first = next-is-first net (was table) (between table) actor tick p at (spread item) (coming net (was table) e.wires.order.items actor)
+            (facts-at net (was table) e.wires.order.items flow.shaped.wired (holds.facts table agrees) actor in-order not-replay) (moves-between table) of-time head.0 (ports table) in
+            let is : coming net (was table) e.wires.order.items actor 0 ≡ m.rest s.op table (entries p item ++ first.0) 0 =
+            first.2 0 ∙ ap (λ o. rest_at m table o (entries p item ++ first.0) 0) is_seat in
+            let here : IsPrefixOf (given 0 outs) (coming net (was table) e.wires.order.items actor 0) = rw is (law first.0 (op-future first.0 first.1) 0) in
+            subst (λ k. IsPrefixOf (bodies (given 0 outs)) (bodies (coming net (was table) e.wires.order.items k 0))) same (cut (given 0 outs) (coming net (was table) e.wires.order.items actor 0) here)
+        by false t = (bodies (coming net (was table) e.wires.order.items output 0), refl)
+
+    -- after the feed
+    module _ (seats' : Vec (Seat O) Global) (queues' : Queues) (taken' : ℕ) (s' : Seat O) (outs : List (ℕ × Item)) (drops : List Decision) (items' : ℕ → List Item)
+        (fed : FedSeat m valid e.levels p item outs drops s s')
+        (is_after : slice_get seats'.items actor ≡ Some s') (apart : (other : ℕ) → other ≢ actor → slice_get seats'.items other ≡ slice_get e.seats.items other)
+        (unfinished : done_at e.over (slice_get e.seats.items actor) ≡ false)
+        (given_on : (k : ℕ) → k < length e.wires.arcs.items → spread_all (items' k) ≡ spread_all (mid k) ++ pushed_by actor outs (net.from k) (net.port k))
+        (fine : (time : ℕ) → AllOutsFine time outs → ((k : ℕ) → AllFine time (mid k)) → (k : ℕ) → AllFine time (items' k))
+        (may : MayBeFed a p s.tally.place e.clock item) where
+      abbrev e' : Flow O
+      e' = record e { seats = seats'; queues = queues'; taken = taken' }
+
+      abbrev is : (ℕ → ℕ → ℕ) → World
+      is table = world_of m table items' e'
+
+      abbrev decided : ℕ → List Decision
+      decided k = cond (eqb k actor) drops []
+
+      done-after : done_at e.over (slice_get seats'.items actor) ≡ false
+      done-after =
+          ap (done_at e.over) is_after ∙ ap not fed.open_still ∙ sym (ap (done_at e.over) is_seat) ∙ unfinished
+
+      moves-all : (table : ℕ → ℕ → ℕ) → Moves net (was table) (is table) (taken_at at (spread item)) (pushed_by actor outs)
+      moves-all table k within =
+          moves-fed items mid (λ j. pushed_by actor outs (net.from j) (net.port j)) (λ j. spread_all (items' j)) at item whole others k (given_on k within)
+
+      law-here : (table : ℕ → ℕ → ℕ) → Agrees e.levels table → FedActor net (was table) (is table) (pushed_by actor outs) decided actor p (spread item)
+      law-here table agrees =
+          record {
+            law = λ future f port.
+                ap (λ o. rest_at m table o (entries p item ++ future) port) is_seat
+                ∙ fed.law table future agrees (op-future future f) port
+                ∙ ap (λ z. z ++ m.rest s'.op table future port) (sym (own-pushed actor outs port))
+                ∙ ap (λ o. pushed_by actor outs actor port ++ rest_at m table o future port) (sym is_after);
+            decisions = λ future f.
+                ap (λ o. decides_at m table o (entries p item ++ future)) is_seat
+                ∙ fed.decided table future agrees (op-future future f)
+                ∙ ap (λ b. cond b drops [] ++ m.decides s'.op table future) (sym (eqb-same actor actor refl))
+                ∙ ap (λ o. decided actor ++ decides_at m table o future) (sym is_after);
+            lost = λ future.
+                ap (λ o. lost_at m o (entries p item ++ future)) is_seat ∙ fed.loses future ∙ ap (λ o. lost_at m o future) (sym is_after);
+            counted =
+                ap (seat.taken_at m) is_after ∙ fed.counted ∙ ap (λ n. m.taken s.op + n) (sym (one-body item p)) ∙ ap (λ o. seat.taken_at m o + length (tuples_of (entries p item))) (sym is_seat);
+            place = ap (place_at m) is_after ∙ fed.moves ∙ ap (λ o. after_all (place_at m o) (entries p item)) (sym is_seat);
+            running = done-after;
+          }
+
+      same-actor : (table : ℕ → ℕ → ℕ) (other : ℕ) → other ≢ actor → SameActor (was table) (is table) other
+      same-actor table other ne =
+          let o = apart other ne in
+          record {
+            rest = ap (rest_at m table) o;
+            decide = ap (decides_at m table) o;
+            lost = ap (lost_at m) o;
+            taken = ap (seat.taken_at m) o;
+            place = ap (place_at m) o;
+            done = ap (done_at e.over) o;
+          }
+
+      pub kept : (table : ℕ → ℕ → ℕ) → Agrees e.levels table → Kept net (was table) (is table) (pushed_by actor outs) decided e.wires.order.items
+      kept table agrees =
+          let facts = holds.facts table agrees in
+          world-fed net (was table) (is table) (pushed_by actor outs) decided actor tick p at (spread item) e.wires.order.items flow.shaped.wired facts
+          (moves-all table) of-time head.0 (ports table) (law-here table agrees) (same-actor table) (λ other ne port. not-pushed actor other outs ne port)
+          (λ other ne. ap (λ b. cond b drops []) (eqb-not other actor ne))
+          (apart-from net (λ k. to_of (slice_get e.wires.arcs.items k)) actor at p (spread item) (λ other port arc k. (flow.shaped.joined other port arc k).0) head.1)
+          not-replay (λ port. refl) (ap (done_at e.over) (apart net.replay (λ k. not-replay (sym k))))
+          (replay-end net (was table) e.wires.order.items facts)
+
+      pub holds-after : HoldsItems m items' e'
+      holds-after =
+          record {
+            facts = λ table agrees. (kept table agrees).facts;
+            queued = fine e.clock (outs-in-time s' outs drops fed may) (fine-after e.clock at items mid item whole others holds.queued);
+          }
+
+      pub goes-after : (events events' : List Event)
+          → ((output : ℕ) → lines_of output events' ≡ lines_of output events ++ bodies (pushed_by actor outs (e.wires.shown + output) 0))
+          → (table : ℕ → ℕ → ℕ) → Agrees e.levels table → Goes m table items items' e e' events events'
+      goes-after events events' shown table agrees =
+          let k = kept table agrees in
+          record {
+            lines = λ output low.
+                goes-on (lines_of output events) (bodies (pushed_by actor outs (e.wires.shown + output) 0)) (lines_left m table items e output) (lines_left m table items' e' output) (lines_of output events')
+                (ap bodies (k.streams (e.wires.shown + output) 0 (flow.shaped.ordered (e.wires.shown + output) low))
+                ∙ bodies-append (pushed_by actor outs (e.wires.shown + output) 0) (coming net (is table) e.wires.order.items (e.wires.shown + output) 0))
+                (shown output);
+            fed = λ other low.
+                let is = flow.shaped.replay_is in
+                let away : other ≢ net.replay = omega arith in
+                (k.told other (flow.shaped.ordered other low) away).fed;
+            lost = λ other low.
+                let is = flow.shaped.replay_is in
+                let away : other ≢ net.replay = omega arith in
+                (k.told other (flow.shaped.ordered other low) away).lost;
+          }
+
+  -- where the disk tells its pages the tests pass, whatever stands behind the item
+  pub passes-front : (items : ℕ → List Item) → HoldsItems m items e → ((k : ℕ) → IsFaceOf (face e.queues k) (items k)) → (more : List Item) → items at ≡ item ∷ more
+      → MayBeFed a p s.tally.place e.clock item
+  passes-front items holds faces more whole =
+      passes items (λ k. cond (eqb k at) more (items k)) holds faces
+      (whole ∙ ap (λ b. item ∷ cond b more (items at)) (sym (eqb-same at at refl)))
+      (λ k ne. ap (λ b. cond b more (items k)) (eqb-not k at ne))
+
+  -- the operator runs
+  pub runs : done_at e.over (slice_get e.seats.items actor) ≡ false → m.running s.op ≡ true
+  runs open_now = seat-fine.running ∙ by s.tally.running (sym (ap (done_at e.over) is_seat) ∙ open_now)
+    where
+      by : (b : Bool) → not b ≡ false → b ≡ true
+      by true h = refl
+      by false h = cc
+
+  -- what a feed has shown where giving failed
+  pub fed-prefix : (was mid_pages : Option Pages) (mid : Queues) (s' : Seat O) (outs : List (ℕ × Item)) (drops : List Decision) (events events' : List Event)
+      → Together e.queues was
+      → (Tells was → items_on e.queues was at ≡ item ∷ items_on mid mid_pages at)
+      → (Tells was → (other : ℕ) → other ≢ at → items_on mid mid_pages other ≡ items_on e.queues was other)
+      → FedSeat m valid e.levels p item outs drops s s'
+      → ((o : ℕ) → IsPrefixOf (lines_of o events') (lines_of o events ++ bodies (pushed_by actor outs (e.wires.shown + o) 0)))
+      → ShowsPrefix m was e e.levels events events'
+  fed-prefix was mid_pages mid s' outs drops events events' together front others fed pre = λ told holds table agrees output low.
+      prefix-chain (lines_of output events') (lines_of output events) (bodies (pushed_by actor outs (e.wires.shown + output) 0)) (lines_left m table (items_on e.queues was) e output) (pre output)
+      (prefix-of-left (items_on e.queues was) (items_on mid mid_pages) holds (together.faces told) (front told) (others told) table agrees outs
+      (λ future f q. (m.rest s'.op table future q, fed.law table future agrees f q)) (e.wires.shown + output))
+
+  -- the whole of a feed, from what its parts say
+  pub fed-stepped : (was is mid_pages : Option Pages) (mid q' : Queues) (seats' : Vec (Seat O) Global) (taken' : ℕ) (s' : Seat O) (outs : List (ℕ × Item)) (drops : List Decision) (events events' : List Event)
+      → Together e.queues was → MayBeFed a p s.tally.place e.clock item
+      → ((other : ℕ) → (face mid other).ended ≡ (face e.queues other).ended) → size mid ≡ size e.queues
+      → (Tells was → items_on e.queues was at ≡ item ∷ items_on mid mid_pages at)
+      → (Tells was → (other : ℕ) → other ≢ at → items_on mid mid_pages other ≡ items_on e.queues was other)
+      → is_some mid_pages ≡ is_some was → taken' ≡ e.taken + length (spread item) → taken' < 2 ^ 62
+      → FedSeat m valid e.levels p item outs drops s s'
+      → slice_get seats'.items actor ≡ Some s' → ((other : ℕ) → other ≢ actor → slice_get seats'.items other ≡ slice_get e.seats.items other)
+      → length seats'.items ≡ length e.seats.items → done_at e.over (slice_get e.seats.items actor) ≡ false
+      → Pushes mid q' mid_pages is (sent_to e.wires actor outs) (λ time. AllOutsFine time outs)
+      → ((o : ℕ) → lines_of o events' ≡ lines_of o events ++ bodies (pushed_by actor outs (e.wires.shown + o) 0))
+      → Stepped m valid was is e (record e { seats = seats'; queues = q'; taken = taken' }) events events'
+  fed-stepped was is mid_pages mid q' seats' taken' s' outs drops events events' together may ended lanes front others tells more few fed is_after apart seats_len unfinished sent shown =
+      record {
+        flow_after = flow-after s' outs drops fed may seats' q' taken' is_after apart seats_len (sent.lanes ∙ lanes ∙ flow.lanes) (λ k. sent.ended k ∙ ended k) more few unfinished;
+        together = sent.together;
+        tells = sent.tells ∙ tells;
+        wires = refl;
+        seats = seats_len;
+        closes = λ table h. h;
+        holds = λ told holds.
+            holds-after (items_on e.queues was) (items_on mid mid_pages) holds (together.faces told) (front told) (others told) seats' q' taken' s' outs drops (items_on q' is)
+            fed is_after apart unfinished (on told) (sent.fine (tells ∙ told)) may;
+        goes = λ told holds table agrees.
+            goes-after (items_on e.queues was) (items_on mid mid_pages) holds (together.faces told) (front told) (others told) seats' q' taken' s' outs drops (items_on q' is)
+            fed is_after apart unfinished (on told) (sent.fine (tells ∙ told)) may events events' shown table agrees;
+      }
+    where
+      on : Tells was → (k : ℕ) → k < length e.wires.arcs.items → spread_all (items_on q' is k) ≡ spread_all (items_on mid mid_pages k) ++ pushed_by actor outs (net.from k) (net.port k)
+      on told k low =
+          sent.items (tells ∙ told) k
+          ∙ ap (λ z. spread_all (items_on mid mid_pages k) ++ z) (sent-is e.wires (length e.seats.items) flow.shaped actor outs k low)

@@ -1,0 +1,278 @@
+-- What the end of an operator keeps.
+use Rattle.std.proofs.Common.{◌≡◌, ◌≢◌, ℕ, zero, suc, ◌+◌, ◌<◌, ◌≤◌, ◌^◌, eqb, cond, Bool, true, false, not, ◌||◌, List, [], ◌∷◌, ◌++◌, length, Option, Some, None, refl, ap, sym, ◌∙◌, append_assoc, append-nil, arith, subst}
+use Rattle.std.specs.Prelude.{is_some, slice_get, Vec}
+use Rattle.std.specs.declared.alloc.Global.{Global}
+use Rattle.std.proofs.lemmas.Option.{same_Some, slice_get_within}
+use Rattle.sq_value.specs.declared.Value.{Value}
+use Rattle.sq_value.specs.Lists.{IsPrefixOf}
+use Rattle.sq_item.specs.declared.Item.{Item}
+use Rattle.sq_item.specs.Things.{Thing, spread_all}
+use Rattle.sq_road.specs.Levels.{LevelTable, Agrees, level_of}
+use Rattle.sq_oper.specs.declared.outs.Decision.{Decision}
+use Rattle.sq_oper.specs.declared.outs.Event.{Event}
+use Rattle.sq_oper.specs.Given.{given, ThingsUpTo}
+use Rattle.sq_left.specs.Left.{Net, World, left_by, inputs_by, Each, coming, known}
+use Rattle.sq_left.specs.Heads.{AllFine}
+use Rattle.sq_left.proofs.MergeLemmas.{eqb-yes, eqb-same, eqb-not}
+use Rattle.sq_left.proofs.Conserve.{Reads, Told, Kept}
+use Rattle.sq_left.proofs.ActorSteps.{Moves, FinishedActor, SameActor, Each-both, merge-none}
+use Rattle.sq_left.proofs.WorldSteps.{At, facts-at, world-finished, replay-end, Each-from}
+use Rattle.sq_queue.specs.declared.Queues.{Queues}
+use Rattle.sq_outside.specs.Disks.{Pages}
+use Rattle.sq_queue.specs.Faces.{face, size, items_on, first_time, IsFaceOf, Tells, Together}
+use Rattle.sq_flow.specs.Sends.{sent_to, Pushes}
+use Rattle.sq_flow.proofs.WireLemmas.{sent-is}
+use Rattle.sq_flow.specs.declared.seats.Seat.{Seat}
+use Rattle.sq_flow.specs.declared.flow.Flow.{Flow}
+use Rattle.sq_flow.specs.declared.heads.Next.TheVariants.{Waits, Ended, Feed}
+use Rattle.sq_flow.specs.Wiring.{net_of, arcs_read, from_of, pushed_by, AllOutsFine}
+use Rattle.sq_flow.specs.Heads.{NextUpTo}
+use Rattle.sq_flow.specs.Seats as seat
+use Rattle.sq_flow.specs.Seats.{Meaning, rest_at, decides_at, lost_at, place_at, done_at, holds_at, IsSeat, FinishedSeat}
+use Rattle.sq_flow.specs.Events.{bodies, lines_of}
+use Rattle.sq_flow.specs.Flows.{world_of, IsFlow, HoldsItems, Goes, Stepped, ShowsPrefix, lines_left}
+use Rattle.sq_flow.proofs.FutureLemmas.{outs-fine, own-pushed, not-pushed, goes-on, prefix-chain}
+use Rattle.sq_flow.proofs.SendLemmas.{at_or_other}
+use Rattle.sq_flow.proofs.EventLemmas.{bodies-append}
+
+module _ {O : Type 0} (m : Meaning O) (valid : O → Type 0) (e : Flow O) (flow : IsFlow m valid e) (actor : ℕ) (actor_in : actor < length e.seats.items)
+    (head : NextUpTo (arcs_read e.wires actor) (λ k. (face e.queues k).first) (λ k. (face e.queues k).ended) (length (arcs_read e.wires actor)) Ended)
+    (s : Seat O) (is_seat : slice_get e.seats.items actor ≡ Some s) where
+  abbrev net : Net
+  net = net_of e.wires
+
+  pub seat-fine : IsSeat m valid (net.takes actor) (net.fits actor) e.taken s
+  seat-fine = subst (holds_at (IsSeat m valid (net.takes actor) (net.fits actor) e.taken)) is_seat (flow.seats actor)
+
+  -- what an end gives, over every disk
+  module _ (s' : Seat O) (outs : List (ℕ × Item)) (drops : List Decision) (fin : FinishedSeat m valid outs drops s s') where
+    pub outs-in-time : AllOutsFine e.clock outs
+    outs-in-time =
+        outs-fine e.clock outs fin.sound (λ q.
+        subst (ThingsUpTo e.clock) (ap (λ o. rest_at m (level_of e.levels) o [] q) is_seat ∙ fin.law (level_of e.levels) q) (flow.held (level_of e.levels) (λ epoch drop h. refl) actor q))
+
+    module _ (seats' : Vec (Seat O) Global) (queues' : Queues)
+        (is_after : slice_get seats'.items actor ≡ Some s') (apart : (other : ℕ) → other ≢ actor → slice_get seats'.items other ≡ slice_get e.seats.items other)
+        (seats_len : length seats'.items ≡ length e.seats.items) (lanes : size queues' ≡ length e.wires.arcs.items)
+        (ended : (k : ℕ) → k < length e.wires.arcs.items → (face queues' k).ended ≡ ((face e.queues k).ended || eqb (from_of (slice_get e.wires.arcs.items k)) actor)) where
+      done-here : done_at e.over (slice_get seats'.items actor) ≡ true
+      done-here = ap (done_at e.over) is_after ∙ ap not fin.closed
+
+      done-is : (other : ℕ) → (done_at e.over (slice_get e.seats.items other) || eqb other actor) ≡ done_at e.over (slice_get seats'.items other)
+      done-is = at_or_other (λ k. (done_at e.over (slice_get e.seats.items k) || eqb k actor) ≡ done_at e.over (slice_get seats'.items k)) actor
+          (ap (λ b. done_at e.over (slice_get e.seats.items actor) || b) (eqb-same actor actor refl) ∙ or-true (done_at e.over (slice_get e.seats.items actor)) ∙ sym done-here)
+          (λ k ne. ap (λ b. done_at e.over (slice_get e.seats.items k) || b) (eqb-not k actor ne) ∙ or-false (done_at e.over (slice_get e.seats.items k)) ∙ sym (ap (done_at e.over) (apart k ne)))
+        where
+          or-true : (b : Bool) → (b || true) ≡ true
+          or-true true = refl
+          or-true false = refl
+
+          or-false : (b : Bool) → (b || false) ≡ b
+          or-false true = refl
+          or-false false = refl
+
+      seat-after : IsSeat m valid (net.takes actor) (net.fits actor) e.taken s'
+      seat-after =
+          record {
+            is_valid = fin.is_valid;
+            running = fin.running ∙ sym fin.closed;
+            place = fin.place ∙ seat-fine.place ∙ sym fin.same_place;
+            counted = fin.counted ∙ seat-fine.counted ∙ sym fin.same_taken;
+            few = (let t = fin.same_taken in let f = seat-fine.few in omega (arith, t, f));
+            marks = λ port h. ap (λ f. f port) fin.marks ∙ seat-fine.marks port h;
+            tuples = λ port fields h. ap (λ f. f port fields) fin.fits ∙ seat-fine.tuples port fields h;
+          }
+
+      pub flow-after : IsFlow m valid (record e { seats = seats'; queues = queues' })
+      flow-after =
+          record {
+            shaped = rw seats_len flow.shaped;
+            lanes = lanes;
+            ended = λ arc low.
+                ended arc low
+                ∙ ap (λ b. b || eqb (from_of (slice_get e.wires.arcs.items arc)) actor) (flow.ended arc low)
+                ∙ done-is (from_of (slice_get e.wires.arcs.items arc));
+            seats = at_or_other (λ k. holds_at (IsSeat m valid (net.takes k) (net.fits k) e.taken) (slice_get seats'.items k)) actor
+                (subst (holds_at (IsSeat m valid (net.takes actor) (net.fits actor) e.taken)) (sym is_after) seat-after)
+                (λ k ne. subst (holds_at (IsSeat m valid (net.takes k) (net.fits k) e.taken)) (sym (apart k ne)) (flow.seats k));
+            few = flow.few;
+            held = λ table agrees. at_or_other (λ k. (port : ℕ) → ThingsUpTo e.clock (rest_at m table (slice_get seats'.items k) [] port)) actor
+                (λ port. rw is_after (nothing e.clock (m.rest s'.op table [] port) (fin.empty table port)))
+                (λ k ne port. subst (λ o. ThingsUpTo e.clock (rest_at m table o [] port)) (sym (apart k ne)) (flow.held table agrees k port));
+            coming = flow.coming;
+            levels = flow.levels;
+            over = flow.over;
+          }
+        where
+          nothing : (c : ℕ) (xs : List Thing) → xs ≡ [] → ThingsUpTo c xs
+          nothing c xs h = rw h tt
+
+  -- where these items stand on the arcs
+  module _ (items : ℕ → List Item) (holds : HoldsItems m items e) (faces : (k : ℕ) → IsFaceOf (face e.queues k) (items k)) where
+    abbrev was : (ℕ → ℕ → ℕ) → World
+    was table = world_of m table items e
+
+    not-replay : actor ≢ net.replay
+    not-replay = let is = flow.shaped.replay_is in omega arith
+
+    empty-of : (its : List Item) → None ≡ first_time its → its ≡ []
+    empty-of [] h = refl
+    empty-of (i ∷ its) h = cc
+
+    all-ended : (table : ℕ → ℕ → ℕ) → Each (λ k. ((was table).queue k ≡ []) × ((was table).done (net.from k) ≡ true)) (net.arcs actor)
+    all-ended table = Each-from (λ k. ((was table).queue k ≡ []) × ((was table).done (net.from k) ≡ true)) (net.arcs actor)
+        (λ port arc k.
+        let h = head port arc (slice_get_within (net.arcs actor) port arc k) k in
+        let none : items arc ≡ [] = empty-of (items arc) (sym h.0 ∙ (faces arc).first) in
+        (ap spread_all none, sym (flow.ended arc (flow.shaped.arcs_in actor port arc k)) ∙ h.1))
+
+    -- what is left of an actor whose arcs have ended is what it holds
+    ended-left : (table : ℕ → ℕ → ℕ) → Agrees e.levels table → (port : ℕ) → coming net (was table) e.wires.order.items actor port ≡ rest_at m table (slice_get e.seats.items actor) [] port
+    ended-left table agrees port =
+        let at = facts-at net (was table) e.wires.order.items flow.shaped.wired (holds.facts table agrees) actor (flow.shaped.ordered actor actor_in) not-replay in
+        let none : inputs_by net (was table) at.coming_in actor ≡ [] =
+        merge-none (net.arcs actor) (left_by net (was table) at.coming_in) 0
+        (Each-both (λ k. ((was table).queue k ≡ []) × ((was table).done (net.from k) ≡ true)) (Reads net (was table) (λ _ _. []) at.coming_in at.coming_in) (λ k. left_by net (was table) at.coming_in k ≡ []) (net.arcs actor)
+        (λ (k : ℕ) (h : ((was table).queue k ≡ []) × ((was table).done (net.from k) ≡ true)) (r : Reads net (was table) (λ _ _. []) at.coming_in at.coming_in k).
+        ap (λ z. z ++ at.coming_in (net.from k) (net.port k)) h.0 ∙ r.ended h.1)
+        (all-ended table) at.reads) in
+        at.is port ∙ ap (λ z. rest_at m table (slice_get e.seats.items actor) z port) none
+
+    pub prefix-of-end : (table : ℕ → ℕ → ℕ) → Agrees e.levels table → (outs : List (ℕ × Item)) → ((q : ℕ) → IsPrefixOf (given q outs) (m.rest s.op table [] q))
+        → (output : ℕ) → IsPrefixOf (bodies (pushed_by actor outs output 0)) (bodies (coming net (was table) e.wires.order.items output 0))
+    prefix-of-end table agrees outs law output = by (eqb actor output) refl
+      where
+        cut : (xs ys : List Thing) → IsPrefixOf xs ys → IsPrefixOf (bodies xs) (bodies ys)
+        cut xs ys (more, e) = (bodies more, ap bodies e ∙ bodies-append xs more)
+
+        by : (b : Bool) → eqb actor output ≡ b → IsPrefixOf (bodies (cond b (given 0 outs) [])) (bodies (coming net (was table) e.wires.order.items output 0))
+        by true t =
+            let same : actor ≡ output = eqb-yes actor output t in
+            let is : coming net (was table) e.wires.order.items actor 0 ≡ m.rest s.op table [] 0 = ended-left table agrees 0 ∙ ap (λ o. rest_at m table o [] 0) is_seat in
+            let here : IsPrefixOf (given 0 outs) (coming net (was table) e.wires.order.items actor 0) = rw is (law 0) in
+            subst (λ k. IsPrefixOf (bodies (given 0 outs)) (bodies (coming net (was table) e.wires.order.items k 0))) same (cut (given 0 outs) (coming net (was table) e.wires.order.items actor 0) here)
+        by false t = (bodies (coming net (was table) e.wires.order.items output 0), refl)
+
+    module _ (seats' : Vec (Seat O) Global) (queues' : Queues) (s' : Seat O) (outs : List (ℕ × Item)) (drops : List Decision) (items' : ℕ → List Item)
+        (fin : FinishedSeat m valid outs drops s s')
+        (is_after : slice_get seats'.items actor ≡ Some s') (apart : (other : ℕ) → other ≢ actor → slice_get seats'.items other ≡ slice_get e.seats.items other)
+        (given_on : (k : ℕ) → k < length e.wires.arcs.items → spread_all (items' k) ≡ spread_all (items k) ++ pushed_by actor outs (net.from k) (net.port k))
+        (fine : (time : ℕ) → AllOutsFine time outs → ((k : ℕ) → AllFine time (items k)) → (k : ℕ) → AllFine time (items' k)) where
+      abbrev e' : Flow O
+      e' = record e { seats = seats'; queues = queues' }
+
+      abbrev is : (ℕ → ℕ → ℕ) → World
+      is table = world_of m table items' e'
+
+      abbrev decided : ℕ → List Decision
+      decided k = cond (eqb k actor) drops []
+
+      same-actor : (table : ℕ → ℕ → ℕ) (other : ℕ) → other ≢ actor → SameActor (was table) (is table) other
+      same-actor table other ne =
+          let o = apart other ne in
+          record {
+            rest = ap (rest_at m table) o;
+            decide = ap (decides_at m table) o;
+            lost = ap (lost_at m) o;
+            taken = ap (seat.taken_at m) o;
+            place = ap (place_at m) o;
+            done = ap (done_at e.over) o;
+          }
+
+      pub kept : (table : ℕ → ℕ → ℕ) → Agrees e.levels table → Kept net (was table) (is table) (pushed_by actor outs) decided e.wires.order.items
+      kept table agrees =
+          let facts = holds.facts table agrees in
+          world-finished net (was table) (is table) (pushed_by actor outs) decided actor e.wires.order.items flow.shaped.wired facts
+          (λ k within. sym (given_on k within)) (all-ended table)
+          (record {
+            law = λ port. ap (λ o. rest_at m table o [] port) is_seat ∙ fin.law table port ∙ sym (own-pushed actor outs port);
+            empty = λ port. ap (λ o. rest_at m table o [] port) is_after ∙ fin.empty table port;
+            decisions = ap (λ o. decides_at m table o []) is_seat ∙ fin.decided table ∙ ap (λ b. cond b drops []) (sym (eqb-same actor actor refl));
+            settled = ap (λ o. decides_at m table o []) is_after ∙ fin.settled table;
+            lost = ap (λ o. lost_at m o []) is_seat ∙ fin.loses ∙ ap (λ o. lost_at m o []) (sym is_after);
+            counted = ap (seat.taken_at m) is_after ∙ fin.counted ∙ ap (seat.taken_at m) (sym is_seat);
+          })
+          (same-actor table) (λ other ne port. not-pushed actor other outs ne port)
+          (λ other ne. ap (λ b. cond b drops []) (eqb-not other actor ne))
+          not-replay (λ port. refl) (ap (done_at e.over) (apart net.replay (λ k. not-replay (sym k))))
+          (replay-end net (was table) e.wires.order.items facts)
+
+      pub holds-after : HoldsItems m items' e'
+      holds-after =
+          record {
+            facts = λ table agrees. (kept table agrees).facts;
+            queued = fine e.clock (outs-in-time s' outs drops fin) holds.queued;
+          }
+
+      pub goes-after : (events events' : List Event)
+          → ((output : ℕ) → lines_of output events' ≡ lines_of output events ++ bodies (pushed_by actor outs (e.wires.shown + output) 0))
+          → (table : ℕ → ℕ → ℕ) → Agrees e.levels table → Goes m table items items' e e' events events'
+      goes-after events events' shown table agrees =
+          let k = kept table agrees in
+          record {
+            lines = λ output low.
+                goes-on (lines_of output events) (bodies (pushed_by actor outs (e.wires.shown + output) 0)) (lines_left m table items e output) (lines_left m table items' e' output) (lines_of output events')
+                (ap bodies (k.streams (e.wires.shown + output) 0 (flow.shaped.ordered (e.wires.shown + output) low))
+                ∙ bodies-append (pushed_by actor outs (e.wires.shown + output) 0) (coming net (is table) e.wires.order.items (e.wires.shown + output) 0))
+                (shown output);
+            fed = λ other low.
+                let is = flow.shaped.replay_is in
+                let away : other ≢ net.replay = omega arith in
+                (k.told other (flow.shaped.ordered other low) away).fed;
+            lost = λ other low.
+                let is = flow.shaped.replay_is in
+                let away : other ≢ net.replay = omega arith in
+                (k.told other (flow.shaped.ordered other low) away).lost;
+          }
+
+  -- the operator runs
+  pub runs : done_at e.over (slice_get e.seats.items actor) ≡ false → m.running s.op ≡ true
+  runs open_now = seat-fine.running ∙ by s.tally.running (sym (ap (done_at e.over) is_seat) ∙ open_now)
+    where
+      by : (b : Bool) → not b ≡ false → b ≡ true
+      by true h = refl
+      by false h = cc
+
+  -- what an end has shown where giving failed
+  pub finished-prefix : (was : Option Pages) (s' : Seat O) (outs : List (ℕ × Item)) (drops : List Decision) (events events' : List Event)
+      → Together e.queues was → FinishedSeat m valid outs drops s s'
+      → ((o : ℕ) → IsPrefixOf (lines_of o events') (lines_of o events ++ bodies (pushed_by actor outs (e.wires.shown + o) 0)))
+      → ShowsPrefix m was e e.levels events events'
+  finished-prefix was s' outs drops events events' together fin pre = λ told holds table agrees output low.
+      prefix-chain (lines_of output events') (lines_of output events) (bodies (pushed_by actor outs (e.wires.shown + output) 0)) (lines_left m table (items_on e.queues was) e output) (pre output)
+      (prefix-of-end (items_on e.queues was) holds (together.faces told) table agrees outs
+      (λ q. ([], fin.law table q ∙ sym (append-nil (given q outs)))) (e.wires.shown + output))
+
+  -- the whole of an end, from what its parts say
+  pub finished-stepped : (was is : Option Pages) (mid q' : Queues) (seats' : Vec (Seat O) Global) (s' : Seat O) (outs : List (ℕ × Item)) (drops : List Decision) (events events' : List Event)
+      → Together e.queues was → FinishedSeat m valid outs drops s s'
+      → slice_get seats'.items actor ≡ Some s' → ((other : ℕ) → other ≢ actor → slice_get seats'.items other ≡ slice_get e.seats.items other)
+      → length seats'.items ≡ length e.seats.items
+      → Pushes e.queues mid was is (sent_to e.wires actor outs) (λ time. AllOutsFine time outs)
+      → size q' ≡ size mid
+      → ((k : ℕ) → k < length e.wires.arcs.items → (face q' k).ended ≡ ((face mid k).ended || eqb (from_of (slice_get e.wires.arcs.items k)) actor))
+      → ((pages : Option Pages) (k : ℕ) → items_on q' pages k ≡ items_on mid pages k)
+      → ((pages : Option Pages) → Together mid pages → Together q' pages)
+      → ((o : ℕ) → lines_of o events' ≡ lines_of o events ++ bodies (pushed_by actor outs (e.wires.shown + o) 0))
+      → Stepped m valid was is e (record e { seats = seats'; queues = q' }) events events'
+  finished-stepped was is mid q' seats' s' outs drops events events' together fin is_after apart seats_len sent lanes ended same stays shown =
+      record {
+        flow_after = flow-after s' outs drops fin seats' q' is_after apart seats_len (lanes ∙ sent.lanes ∙ flow.lanes)
+            (λ k low. ended k low ∙ ap (λ b. b || eqb (from_of (slice_get e.wires.arcs.items k)) actor) (sent.ended k));
+        together = stays is sent.together;
+        tells = sent.tells;
+        wires = refl;
+        seats = seats_len;
+        closes = λ table h. h;
+        holds = λ told holds. holds-after (items_on e.queues was) holds (together.faces told) seats' q' s' outs drops (items_on q' is) fin is_after apart (on told) (fine told);
+        goes = λ told holds table agrees.
+            goes-after (items_on e.queues was) holds (together.faces told) seats' q' s' outs drops (items_on q' is) fin is_after apart (on told) (fine told) events events' shown table agrees;
+      }
+    where
+      on : Tells was → (k : ℕ) → k < length e.wires.arcs.items → spread_all (items_on q' is k) ≡ spread_all (items_on e.queues was k) ++ pushed_by actor outs (net.from k) (net.port k)
+      on told k low =
+          ap spread_all (same is k) ∙ sent.items told k
+          ∙ ap (λ z. spread_all (items_on e.queues was k) ++ z) (sent-is e.wires (length e.seats.items) flow.shaped actor outs k low)
+
+      fine : Tells was → (time : ℕ) → AllOutsFine time outs → ((k : ℕ) → AllFine time (items_on e.queues was k)) → (k : ℕ) → AllFine time (items_on q' is k)
+      fine told time u f k = subst (AllFine time) (sym (same is k)) (sent.fine told time u f k)

@@ -1,0 +1,260 @@
+-- What the replay keeps.
+use Rattle.std.proofs.Common.{◌≡◌, ◌≢◌, ℕ, zero, suc, ◌+◌, ◌/◌, ◌<◌, ◌≤◌, ◌^◌, eqb, cond, Bool, true, false, not, ◌||◌, List, [], ◌∷◌, ◌++◌, length, Option, Some, None, refl, ap, sym, ◌∙◌, append_assoc, append-nil, arith, subst}
+use Rattle.std.specs.Prelude.{slice_get}
+use Rattle.std.specs.declared.alloc.Global.{Global}
+use Rattle.std.specs.declared.collections.VecDeque.{VecDeque}
+use Rattle.std.proofs.lemmas.Option.{slice_get_past}
+use Rattle.sq_item.specs.declared.Item.{Item}
+use Rattle.sq_item.specs.Things.{Thing, spread, spread_all}
+use Rattle.sq_item.specs.Sound.{IsSound}
+use Rattle.sq_road.specs.Levels.{LevelTable, Agrees, level_of}
+use Rattle.sq_oper.specs.declared.outs.Event.{Event}
+use Rattle.sq_oper.specs.Given.{given, ThingsUpTo}
+use Rattle.sq_oper.proofs.GivenLemmas.{ThingsUpTo-later}
+use Rattle.sq_left.specs.Left.{Net, World, Facts, coming, known}
+use Rattle.sq_left.specs.Heads.{AllFine}
+use Rattle.sq_left.proofs.MergeLemmas.{eqb-yes, eqb-no, eqb-same, eqb-not}
+use Rattle.sq_left.proofs.Conserve.{Told, Kept}
+use Rattle.sq_left.proofs.ActorSteps.{Moves, SameActor}
+use Rattle.sq_left.proofs.WorldSteps.{world-released}
+use Rattle.sq_queue.specs.declared.Queues.{Queues}
+use Rattle.sq_outside.specs.Disks.{Pages}
+use Rattle.sq_queue.specs.Faces.{face, size, items_on, Tells, Together}
+use Rattle.sq_flow.specs.Sends.{many, Pushes}
+use Rattle.sq_flow.proofs.WireLemmas.{one-sent}
+use Rattle.sq_flow.specs.declared.seats.Seat.{Seat}
+use Rattle.sq_flow.specs.declared.flow.Flow.{Flow}
+use Rattle.sq_flow.specs.Wiring.{net_of, arcs_from, times_in, from_of, sent}
+use Rattle.sq_flow.specs.Seats as seat
+use Rattle.sq_flow.specs.Seats.{Meaning, rest_at, done_at}
+use Rattle.sq_flow.specs.Events.{bodies, lines_of}
+use Rattle.sq_flow.specs.Flows.{world_of, IsFlow, HoldsItems, Goes, Stepped, lines_left, Rises}
+use Rattle.sq_flow.proofs.SendLemmas.{at_or_other}
+
+pub fine-later : (t u : ℕ) (its : List Item) → t ≤ u → AllFine t its → AllFine u its
+fine-later t u [] le h = tt
+fine-later t u (i ∷ its) le h = (omega (arith, le, h.0), h.1, fine-later t u its le h.2)
+
+slice_get-not_none : {X : Type 0} (xs : List X) (i : ℕ) → i < length xs → slice_get xs i ≢ None
+slice_get-not_none [] i h = absurd (omega (arith, h))
+slice_get-not_none (x ∷ xs) zero h = λ e. cc e
+slice_get-not_none (x ∷ xs) (suc i) h = slice_get-not_none xs i (omega (arith, h))
+
+-- a table that agrees with more closed levels agrees with fewer
+pub agrees-before : (l l' : LevelTable) → l'.rows ≡ l.rows → l.closed ≤ l'.closed → (table : ℕ → ℕ → ℕ) → Agrees l' table → Agrees l table
+agrees-before l l' rows grows table h epoch drop low =
+    h epoch drop (omega (arith, low, grows)) ∙ ap (λ r. level_of (record { epoch = 1; closed = 1; rows = r }) epoch drop) rows
+
+-- the replay stands behind the operators
+pub replay-open : {O : Type 0} (m : Meaning O) (valid : O → Type 0) (e : Flow O) → IsFlow m valid e → e.over ≡ false → done_at e.over (slice_get e.seats.items e.wires.replay) ≡ false
+replay-open m valid e flow open_now =
+    let is = flow.shaped.replay_is in
+    ap (done_at e.over) (slice_get_past e.seats.items e.wires.replay (omega (arith, is))) ∙ open_now
+
+-- a step of the replay that pushes what the source loses
+module _ {O : Type 0} (m : Meaning O) (valid : O → Type 0) (e : Flow O) (flow : IsFlow m valid e) (items items' : ℕ → List Item) (holds : HoldsItems m items e)
+    (over' : Bool) (queues' : Queues) (to_come' : VecDeque (ℕ × Item) Global) (clock' : ℕ) (levels' : LevelTable) (pushed : ℕ → ℕ → List Thing)
+    (source : (q : ℕ) → given q e.to_come.items ≡ pushed e.wires.replay q ++ given q to_come'.items)
+    (quiet : (other : ℕ) → other ≢ e.wires.replay → (q : ℕ) → pushed other q ≡ [])
+    (ends : over' ≡ true → to_come'.items ≡ [])
+    (given_on : (k : ℕ) → k < length e.wires.arcs.items → spread_all (items' k) ≡ spread_all (items k) ++ pushed ((net_of e.wires).from k) ((net_of e.wires).port k))
+    (rows : levels'.rows ≡ e.levels.rows) (grows : e.levels.closed ≤ levels'.closed) where
+  abbrev net : Net
+  net = net_of e.wires
+
+  abbrev e' : Flow O
+  e' = record e { over = over'; queues = queues'; to_come = to_come'; clock = clock'; levels = levels' }
+
+  abbrev was : (ℕ → ℕ → ℕ) → World
+  was table = world_of m table items e
+
+  abbrev is : (ℕ → ℕ → ℕ) → World
+  is table = world_of m table items' e'
+
+  some-seat : (other : ℕ) → other < length e.seats.items → done_at over' (slice_get e.seats.items other) ≡ done_at e.over (slice_get e.seats.items other)
+  some-seat other low = by (slice_get e.seats.items other) (slice_get-not_none e.seats.items other low)
+    where
+      by : (o : Option (Seat O)) → o ≢ None → done_at over' o ≡ done_at e.over o
+      by None n = absurd (n refl)
+      by (Some s) n = refl
+
+  pub kept : (table : ℕ → ℕ → ℕ) → Agrees e.levels table → Kept net (was table) (is table) pushed (λ _. []) e.wires.order.items
+  kept table agrees =
+      world-released net (was table) (is table) pushed (λ _. []) e.wires.order.items flow.shaped.wired (holds.facts table agrees)
+      (λ k within. sym (given_on k within))
+      source
+      (λ other ne k. record { rest = refl; decide = refl; lost = refl; taken = refl; place = refl; done = done-same other ne k })
+      quiet (λ other ne. refl)
+      (λ d q. ap (given q) (ends (sym (ap (done_at over') (slice_get_past e.seats.items e.wires.replay behind)) ∙ d)))
+    where
+      behind : length e.seats.items ≤ e.wires.replay
+      behind = let r = flow.shaped.replay_is in omega (arith, r)
+
+      done-same : (other : ℕ) → other ≢ net.replay → known net e.wires.order.items other ≡ true → done_at over' (slice_get e.seats.items other) ≡ done_at e.over (slice_get e.seats.items other)
+      done-same other ne k = let r = flow.shaped.replay_is in let low = flow.shaped.listed other k in some-seat other (omega (arith, r, low, ne))
+
+  pub holds-after : ((k : ℕ) → AllFine clock' (items' k)) → HoldsItems m items' e'
+  holds-after fine =
+      record {
+        facts = λ table agrees. (kept table (agrees-before e.levels levels' rows grows table agrees)).facts;
+        queued = fine;
+      }
+
+  pub goes-after : (events : List Event) → ((output : ℕ) → output < length e.seats.items → (q : ℕ) → pushed output q ≡ []) → (table : ℕ → ℕ → ℕ) → Agrees levels' table
+      → Goes m table items items' e e' events events
+  goes-after events none table agrees =
+      let k = kept table (agrees-before e.levels levels' rows grows table agrees) in
+      record {
+        lines = λ output low.
+            ap (λ z. lines_of output events ++ bodies z)
+            (k.streams (e.wires.shown + output) 0 (flow.shaped.ordered (e.wires.shown + output) low)
+            ∙ ap (λ z. z ++ coming net (is table) e.wires.order.items (e.wires.shown + output) 0) (none (e.wires.shown + output) low 0));
+        fed = λ other low.
+            let r = flow.shaped.replay_is in
+            let away : other ≢ net.replay = omega (arith, r, low) in
+            (k.told other (flow.shaped.ordered other low) away).fed;
+        lost = λ other low.
+            let r = flow.shaped.replay_is in
+            let away : other ≢ net.replay = omega (arith, r, low) in
+            (k.told other (flow.shaped.ordered other low) away).lost;
+      }
+
+own-sent : (replay port : ℕ) (xs : List Thing) (q : ℕ) → sent replay port xs replay q ≡ cond (eqb port q) xs []
+own-sent replay port xs q = ap (λ b. cond b (cond (eqb port q) xs []) []) (eqb-same replay replay refl)
+
+not-sent : (replay port : ℕ) (xs : List Thing) (other : ℕ) → other ≢ replay → (q : ℕ) → sent replay port xs other q ≡ []
+not-sent replay port xs other ne q = ap (λ b. cond b (cond (eqb port q) xs []) []) (eqb-not replay other (λ k. ne (sym k)))
+
+module _ {O : Type 0} (m : Meaning O) (valid : O → Type 0) (e : Flow O) (flow : IsFlow m valid e) where
+  not-replay : (other : ℕ) → other < length e.seats.items → other ≢ e.wires.replay
+  not-replay other low = let r = flow.shaped.replay_is in omega (arith, r, low)
+
+  -- the whole of a release, from what its parts say
+  pub released-stepped : (was is : Option Pages) (q' : Queues) (to_come' : VecDeque (ℕ × Item) Global) (levels' : LevelTable) (port : ℕ) (item : Item) (events : List Event)
+      → Together e.queues was → e.to_come.items ≡ (port, item) ∷ to_come'.items
+      → (levels'.rows ≡ e.levels.rows) × (levels'.epoch ≡ e.levels.epoch) → e.levels.closed ≤ levels'.closed → item.time / levels'.epoch < levels'.closed
+      → Pushes e.queues q' was is (λ k. many (times_in k (arcs_from e.wires e.wires.replay port)) (spread item)) (λ time. item.time ≤ time)
+      → Stepped m valid was is e (record e { queues = q'; to_come = to_come'; clock = item.time; levels = levels' }) events events
+  released-stepped was is q' to_come' levels' port item events together source rows grows closed pushes =
+      record {
+        flow_after =
+            record {
+              shaped = flow.shaped;
+              lanes = pushes.lanes ∙ flow.lanes;
+              ended = λ arc low. pushes.ended arc ∙ flow.ended arc low;
+              seats = flow.seats;
+              few = flow.few;
+              held = λ table agrees actor q. ThingsUpTo-later e.clock item.time _ first.0 (flow.held table (agrees-before e.levels levels' rows.0 grows table agrees) actor q);
+              coming = first.2;
+              levels = (closed, first.1.tick);
+              over = λ o. absurd (cc (sym source ∙ flow.over o));
+            };
+        together = pushes.together;
+        tells = pushes.tells;
+        wires = refl;
+        seats = refl;
+        closes = agrees-before e.levels levels' rows.0 grows;
+        holds = λ told holds.
+            holds-after m valid e flow (items_on e.queues was) (items_on q' is) holds e.over q' to_come' item.time levels' (sent-by) given-there quiet ends (on told) rows.0 grows
+            (pushes.fine told item.time le-refl (λ k. fine-later e.clock item.time (items_on e.queues was k) first.0 (holds.queued k)));
+        goes = λ told holds table agrees.
+            goes-after m valid e flow (items_on e.queues was) (items_on q' is) holds e.over q' to_come' item.time levels' (sent-by) given-there quiet ends (on told) rows.0 grows
+            events (λ output low q. quiet output (not-replay output low) q) table agrees;
+      }
+    where
+      first : (e.clock ≤ item.time) × IsSound item × Rises item.time to_come'.items
+      first = subst (Rises e.clock) source flow.coming
+
+      le-refl : item.time ≤ item.time
+      le-refl = omega arith
+
+      sent-by : ℕ → ℕ → List Thing
+      sent-by = sent e.wires.replay port (spread item)
+
+      given-there : (q : ℕ) → given q e.to_come.items ≡ sent e.wires.replay port (spread item) e.wires.replay q ++ given q to_come'.items
+      given-there q = ap (given q) source ∙ ap (λ z. z ++ given q to_come'.items) (sym (own-sent e.wires.replay port (spread item) q))
+
+      quiet : (other : ℕ) → other ≢ e.wires.replay → (q : ℕ) → sent e.wires.replay port (spread item) other q ≡ []
+      quiet = not-sent e.wires.replay port (spread item)
+
+      ends : e.over ≡ true → to_come'.items ≡ []
+      ends o = absurd (cc (sym source ∙ flow.over o))
+
+      on : Tells was → (k : ℕ) → k < length e.wires.arcs.items
+          → spread_all (items_on q' is k) ≡ spread_all (items_on e.queues was k) ++ sent e.wires.replay port (spread item) ((net_of e.wires).from k) ((net_of e.wires).port k)
+      on told k low = pushes.items told k ∙ ap (λ z. spread_all (items_on e.queues was k) ++ z) (one-sent e.wires (length e.seats.items) flow.shaped e.wires.replay port k (spread item) low)
+
+  -- the whole of the end of the replay
+  pub ended-stepped : (pages : Option Pages) (q' : Queues) (events : List Event)
+      → Together e.queues pages → e.to_come.items ≡ [] → size q' ≡ size e.queues
+      → ((k : ℕ) → k < length e.wires.arcs.items → (face q' k).ended ≡ ((face e.queues k).ended || eqb (from_of (slice_get e.wires.arcs.items k)) e.wires.replay))
+      → ((pages : Option Pages) (k : ℕ) → items_on q' pages k ≡ items_on e.queues pages k)
+      → ((pages : Option Pages) → Together e.queues pages → Together q' pages)
+      → Stepped m valid pages pages e (record e { over = true; queues = q' }) events events
+  ended-stepped pages q' events together none lanes ended same stays =
+      record {
+        flow_after =
+            record {
+              shaped = flow.shaped;
+              lanes = lanes ∙ flow.lanes;
+              ended = λ arc low. ended arc low ∙ ap (λ b. b || eqb (from_of (slice_get e.wires.arcs.items arc)) e.wires.replay) (flow.ended arc low)
+                  ∙ done-is (from_of (slice_get e.wires.arcs.items arc)) (flow.shaped.from_in arc low);
+              seats = flow.seats;
+              few = flow.few;
+              held = flow.held;
+              coming = flow.coming;
+              levels = flow.levels;
+              over = λ o. none;
+            };
+        together = stays pages together;
+        tells = refl;
+        wires = refl;
+        seats = refl;
+        closes = λ table h. h;
+        holds = λ told holds.
+            holds-after m valid e flow (items_on e.queues pages) (items_on q' pages) holds true q' e.to_come e.clock e.levels (λ _ _. []) (λ q. refl) (λ other ne q. refl) (λ o. none) (on)
+            refl le-refl (λ k. subst (AllFine e.clock) (sym (same pages k)) (holds.queued k));
+        goes = λ told holds table agrees.
+            goes-after m valid e flow (items_on e.queues pages) (items_on q' pages) holds true q' e.to_come e.clock e.levels (λ _ _. []) (λ q. refl) (λ other ne q. refl) (λ o. none) (on)
+            refl le-refl events (λ output low q. refl) table agrees;
+      }
+    where
+      le-refl : e.levels.closed ≤ e.levels.closed
+      le-refl = omega arith
+
+      on : (k : ℕ) → k < length e.wires.arcs.items → spread_all (items_on q' pages k) ≡ spread_all (items_on e.queues pages k) ++ []
+      on k low = ap spread_all (same pages k) ∙ sym (append-nil (spread_all (items_on e.queues pages k)))
+
+      done-is : (actor : ℕ) → actor < length e.seats.items + 1 → (done_at e.over (slice_get e.seats.items actor) || eqb actor e.wires.replay) ≡ done_at true (slice_get e.seats.items actor)
+      done-is actor low = by (eqb actor e.wires.replay) refl
+        where
+          or-true : (b : Bool) → (b || true) ≡ true
+          or-true true = refl
+          or-true false = refl
+
+          or-false : (b : Bool) → (b || false) ≡ b
+          or-false true = refl
+          or-false false = refl
+
+          some : (o : Option (Seat O)) → o ≢ None → (done_at e.over o || false) ≡ done_at true o
+          some None n = absurd (n refl)
+          some (Some s) n = or-false (not s.tally.running)
+
+          by : (b : Bool) → eqb actor e.wires.replay ≡ b → (done_at e.over (slice_get e.seats.items actor) || b) ≡ done_at true (slice_get e.seats.items actor)
+          by true k =
+              let r = flow.shaped.replay_is in
+              let here : actor ≡ e.wires.replay = eqb-yes actor e.wires.replay k in
+              let past : slice_get e.seats.items actor ≡ None = slice_get_past e.seats.items actor (omega (arith, r, here)) in
+              rw past (or-true e.over)
+          by false k =
+              let r = flow.shaped.replay_is in
+              let away : actor ≢ e.wires.replay = eqb-no actor e.wires.replay k in
+              some (slice_get e.seats.items actor) (slice_get-not_none e.seats.items actor (omega (arith, r, away, low)))
+
+-- as long as something is to be released the replay isn't over
+pub replay-runs : {O : Type 0} (m : Meaning O) (valid : O → Type 0) (e : Flow O) → IsFlow m valid e → (next : ℕ × Item) (more : VecDeque (ℕ × Item) Global) → e.to_come.items ≡ next ∷ more.items → e.over ≡ false
+replay-runs m valid e flow next more some = by e.over refl
+  where
+    by : (b : Bool) → e.over ≡ b → b ≡ false
+    by false h = refl
+    by true h = absurd (cc (sym some ∙ flow.over h))

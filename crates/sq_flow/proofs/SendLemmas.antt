@@ -1,0 +1,136 @@
+-- Pushes, one after another.
+use Rattle.std.proofs.Common.{◌≡◌, ◌≢◌, ℕ, zero, suc, ◌+◌, ◌<◌, ◌≤◌, eqb, cond, Bool, true, false, List, [], ◌∷◌, ◌++◌, length, get_or, take, Option, Some, None, refl, ap, sym, ◌∙◌, subst, append_assoc, append-nil, arith}
+use Rattle.std.specs.Prelude.{is_some, slice_get}
+use Rattle.std.proofs.Math.Seq.{take-suc}
+use Rattle.sq_item.specs.declared.Item.{Item}
+use Rattle.sq_item.specs.Sound.{IsSound}
+use Rattle.sq_item.specs.Things.{Thing, spread, spread_all}
+use Rattle.sq_outside.specs.Disks.{Pages}
+use Rattle.sq_oper.specs.Given.{given, ItemsSound}
+use Rattle.sq_left.specs.Heads.{AllFine}
+use Rattle.sq_left.proofs.MergeLemmas.{eqb-yes, eqb-no, eqb-same, eqb-not}
+use Rattle.sq_queue.specs.declared.Queues.{Queues}
+use Rattle.sq_queue.specs.Faces.{Face, face, size, items_on, Tells, Together, pushed, first_or}
+use Rattle.sq_flow.specs.declared.wires.Wires.{Wires}
+use Rattle.sq_flow.specs.Wiring.{arcs_from, times_in, AllOutsFine, pushed_by}
+use Rattle.sq_flow.specs.Sends.{many, sent_to, Pushes}
+
+pub spread_all-push : (xs : List Item) (i : Item) → spread_all (xs ++ i ∷ []) ≡ spread_all xs ++ spread i
+spread_all-push [] i = append-nil (spread i)
+spread_all-push (x ∷ xs) i = ap (λ z. spread x ++ z) (spread_all-push xs i) ∙ sym (append_assoc (spread x) (spread_all xs) (spread i))
+
+pub fine-push : (t : ℕ) (xs : List Item) (i : Item) → i.time ≤ t → IsSound i → AllFine t xs → AllFine t (xs ++ i ∷ [])
+fine-push t [] i le s h = (le, s, tt)
+fine-push t (x ∷ xs) i le s h = (h.0, h.1, fine-push t xs i le s h.2)
+
+pub at_or_other : (P : ℕ → Type 0) (i : ℕ) → P i → ((j : ℕ) → j ≢ i → P j) → (j : ℕ) → P j
+at_or_other P i here others j = by (eqb j i) refl
+  where
+    by : (b : Bool) → eqb j i ≡ b → P j
+    by true e = subst P (sym (eqb-yes j i e)) here
+    by false e = others j (eqb-no j i e)
+
+pub pushes-none : (q : Queues) (was : Option Pages) (more : ℕ → List Thing) (upto : ℕ → Type 0) → Together q was → ((arc : ℕ) → more arc ≡ []) → Pushes q q was was more upto
+pushes-none q was more upto together none =
+    record {
+      lanes = refl;
+      tells = refl;
+      together = together;
+      ended = λ arc. refl;
+      grows = λ arc h. h;
+      items = λ told arc. sym (append-nil (spread_all (items_on q was arc))) ∙ ap (λ z. spread_all (items_on q was arc) ++ z) (sym (none arc));
+      fine = λ told time u f. f;
+    }
+
+pub pushes-both : (q q1 q2 : Queues) (p p1 p2 : Option Pages) (m m1 m2 : ℕ → List Thing) (u u1 u2 : ℕ → Type 0) → Pushes q q1 p p1 m1 u1 → Pushes q1 q2 p1 p2 m2 u2
+    → ((time : ℕ) → u time → u1 time × u2 time) → ((arc : ℕ) → m arc ≡ m1 arc ++ m2 arc) → Pushes q q2 p p2 m u
+pushes-both q q1 q2 p p1 p2 m m1 m2 u u1 u2 a b both joins =
+    record {
+      lanes = b.lanes ∙ a.lanes;
+      tells = b.tells ∙ a.tells;
+      together = b.together;
+      ended = λ arc. b.ended arc ∙ a.ended arc;
+      grows = λ arc h. b.grows arc (a.grows arc h);
+      items = λ told arc.
+          b.items (a.tells ∙ told) arc
+          ∙ ap (λ z. z ++ m2 arc) (a.items told arc)
+          ∙ append_assoc (spread_all (items_on q p arc)) (m1 arc) (m2 arc)
+          ∙ ap (λ z. spread_all (items_on q p arc) ++ z) (sym (joins arc));
+      fine = λ told time v f. let w = both time v in b.fine (a.tells ∙ told) time w.1 (a.fine told time w.0 f);
+    }
+
+first-grows : (o : Option ℕ) (time : ℕ) → is_some (first_or o time) ≡ true
+first-grows None time = refl
+first-grows (Some t) time = refl
+
+-- one item to one arc
+pub pushes-one : (q q' : Queues) (p p' : Option Pages) (at : ℕ) (item : Item) → IsSound item
+    → face q' at ≡ pushed (face q at) item.time → ((other : ℕ) → other ≢ at → face q' other ≡ face q other) → size q' ≡ size q
+    → (Tells p → items_on q' p' at ≡ items_on q p at ++ item ∷ []) → (Tells p → (other : ℕ) → other ≢ at → items_on q' p' other ≡ items_on q p other)
+    → Together q' p' → is_some p' ≡ is_some p
+    → Pushes q q' p p' (λ arc. cond (eqb at arc) (spread item) []) (λ time. item.time ≤ time)
+pushes-one q q' p p' at item sound here others lanes items apart together tells =
+    record {
+      lanes = lanes;
+      tells = tells;
+      together = together;
+      ended = at_or_other (λ arc. (face q' arc).ended ≡ (face q arc).ended) at (ap (λ f. f.ended) here) (λ arc ne. ap (λ f. f.ended) (others arc ne));
+      grows = at_or_other (λ arc. is_some (face q arc).first ≡ true → is_some (face q' arc).first ≡ true) at
+          (λ h. ap (λ f. is_some f.first) here ∙ first-grows (face q at).first item.time)
+          (λ arc ne h. ap (λ f. is_some f.first) (others arc ne) ∙ h);
+      items = λ told. at_or_other (λ arc. spread_all (items_on q' p' arc) ≡ spread_all (items_on q p arc) ++ cond (eqb at arc) (spread item) []) at
+          (ap spread_all (items told) ∙ spread_all-push (items_on q p at) item ∙ ap (λ b. spread_all (items_on q p at) ++ cond b (spread item) []) (sym (eqb-same at at refl)))
+          (λ arc ne. ap spread_all (apart told arc ne) ∙ sym (append-nil (spread_all (items_on q p arc)))
+          ∙ ap (λ b. spread_all (items_on q p arc) ++ cond b (spread item) []) (sym (eqb-not at arc (λ e. ne (sym e)))));
+      fine = λ told time le f. at_or_other (λ arc. AllFine time (items_on q' p' arc)) at
+          (subst (AllFine time) (sym (items told)) (fine-push time (items_on q p at) item le sound (f at)))
+          (λ arc ne. subst (AllFine time) (sym (apart told arc ne)) (f arc));
+    }
+
+pub many-more : (n : ℕ) (b : Bool) (xs : List Thing) → many (n + cond b 1 0) xs ≡ many n xs ++ cond b xs []
+many-more zero true xs = refl-append xs
+  where
+    refl-append : (ys : List Thing) → ys ++ [] ≡ ys
+    refl-append ys = append-nil ys
+many-more zero false xs = refl
+many-more (suc n) true xs =
+    let e : suc n + 1 ≡ suc (n + 1) = omega arith in
+    rw e (ap (λ z. xs ++ z) (many-more n true xs) ∙ sym (append_assoc xs (many n xs) xs))
+many-more (suc n) false xs =
+    let e : suc n + 0 ≡ suc (n + 0) = omega arith in
+    rw e (ap (λ z. xs ++ z) (many-more n false xs) ∙ sym (append_assoc xs (many n xs) []))
+
+pub times-append : (n : ℕ) (xs : List ℕ) (x : ℕ) → times_in n (xs ++ x ∷ []) ≡ times_in n xs + cond (eqb x n) 1 0
+times-append n [] x = omega arith
+times-append n (y ∷ xs) x = let r = times-append n xs x in omega (arith, r)
+
+-- one more arc of a list
+pub many-next : (arcs : List ℕ) (place at : ℕ) (xs : List Thing) → place < length arcs → at ≡ get_or arcs place at
+    → (arc : ℕ) → many (times_in arc (take (suc place) arcs)) xs ≡ many (times_in arc (take place arcs)) xs ++ cond (eqb at arc) xs []
+many-next arcs place at xs low is arc =
+    ap (λ l. many (times_in arc l) xs) (take-suc arcs place at low ∙ ap (λ z. take place arcs ++ z ∷ []) (sym is))
+    ∙ ap (λ n. many n xs) (times-append arc (take place arcs) at)
+    ∙ many-more (times_in arc (take place arcs)) (eqb at arc) xs
+
+pub sent-append : (wires : Wires) (actor : ℕ) (outs : List (ℕ × Item)) (out : ℕ × Item) (arc : ℕ)
+    → sent_to wires actor (outs ++ out ∷ []) arc ≡ sent_to wires actor outs arc ++ many (times_in arc (arcs_from wires actor out.0)) (spread out.1)
+sent-append wires actor [] out arc = append-nil (many (times_in arc (arcs_from wires actor out.0)) (spread out.1))
+sent-append wires actor (o ∷ outs) out arc =
+    ap (λ z. many (times_in arc (arcs_from wires actor o.0)) (spread o.1) ++ z) (sent-append wires actor outs out arc)
+    ∙ sym (append_assoc (many (times_in arc (arcs_from wires actor o.0)) (spread o.1)) (sent_to wires actor outs arc) (many (times_in arc (arcs_from wires actor out.0)) (spread out.1)))
+
+pub sent-next : (wires : Wires) (actor : ℕ) (outs : List (ℕ × Item)) (index : ℕ) (out : ℕ × Item) → index < length outs → out ≡ get_or outs index out
+    → (arc : ℕ) → sent_to wires actor (take (suc index) outs) arc ≡ sent_to wires actor (take index outs) arc ++ many (times_in arc (arcs_from wires actor out.0)) (spread out.1)
+sent-next wires actor outs index out low is arc =
+    ap (λ l. sent_to wires actor l arc) (take-suc outs index out low ∙ ap (λ z. take index outs ++ z ∷ []) (sym is))
+    ∙ sent-append wires actor (take index outs) out arc
+
+pub outs-at : (time : ℕ) (outs : List (ℕ × Item)) (index : ℕ) (out : ℕ × Item) → index < length outs → out ≡ get_or outs index out → AllOutsFine time outs → out.1.time ≤ time
+outs-at time [] index out low is h = absurd (omega arith)
+outs-at time (o ∷ outs) zero out low is h = let e : o ≡ out = sym is in subst (λ z. z.1.time ≤ time) e h.0
+outs-at time (o ∷ outs) (suc index) out low is h = outs-at time outs index out (omega arith) is h.2
+
+pub sound-at : (outs : List (ℕ × Item)) (index : ℕ) (out : ℕ × Item) → index < length outs → out ≡ get_or outs index out → ItemsSound outs → IsSound out.1
+sound-at [] index out low is h = absurd (omega arith)
+sound-at (o ∷ outs) zero out low is h = let e : o ≡ out = sym is in subst (λ z. IsSound z.1) e h.0
+sound-at (o ∷ outs) (suc index) out low is h = sound-at outs index out (omega arith) is h.1

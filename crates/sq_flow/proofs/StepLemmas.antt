@@ -1,0 +1,79 @@
+-- Steps, one after another.
+use Rattle.std.proofs.Common.{◌≡◌, ◌≢◌, ℕ, ◌+◌, ◌<◌, ◌≤◌, Bool, true, false, ◌||◌, List, [], ◌∷◌, ◌++◌, length, Option, Some, None, refl, ap, sym, ◌∙◌, subst, arith}
+use Rattle.std.specs.Prelude.{slice_get, is_some}
+use Rattle.std.proofs.lemmas.Option.{slice_get_within}
+use Rattle.sq_value.specs.Lists.{IsPrefixOf}
+use Rattle.sq_outside.specs.Disks.{Pages}
+use Rattle.sq_road.specs.Levels.{LevelTable, Agrees}
+use Rattle.sq_oper.specs.declared.outs.Event.{Event}
+use Rattle.sq_queue.specs.Faces.{face, Tells, Together}
+use Rattle.sq_flow.specs.declared.wires.Wires.{Wires}
+use Rattle.sq_flow.specs.declared.flow.Flow.{Flow}
+use Rattle.sq_flow.specs.declared.errors.RunErr.{RunErr}
+use Rattle.sq_flow.specs.declared.heads.Next.TheVariants.{Waits, Ended, Feed}
+use Rattle.sq_flow.specs.Wiring.{arcs_read}
+use Rattle.sq_flow.specs.Heads.{NextUpTo}
+use Rattle.sq_flow.specs.Seats.{Meaning}
+use Rattle.sq_flow.specs.Events.{lines_of}
+use Rattle.sq_flow.specs.Flows.{IsFlow, HoldsItems, Goes, Stepped, ShowsPrefix, NoneStrange, items_in, lines_left}
+use Rattle.sq_flow.specs.Readiness.{IsReady}
+
+module _ {O : Type 0} (m : Meaning O) (valid : O → Type 0) where
+  -- nothing happened
+  pub stepped-none : (p : Option Pages) (f : Flow O) (events : List Event) → IsFlow m valid f → Together f.queues p → Stepped m valid p p f f events events
+  stepped-none p f events flow together =
+      record {
+        flow_after = flow;
+        together = together;
+        tells = refl;
+        wires = refl;
+        seats = refl;
+        closes = λ table h. h;
+        holds = λ told h. h;
+        goes = λ told h table agrees. record { lines = λ output low. refl; fed = λ actor low. refl; lost = λ actor low. refl };
+      }
+
+  module _ (p p1 : Option Pages) (f f1 : Flow O) (e e1 : List Event) (first : Stepped m valid p p1 f f1 e e1) where
+    low-after : (output : ℕ) → f.wires.shown + output < length f.seats.items → f1.wires.shown + output < length f1.seats.items
+    low-after output low = rw (first.seats, ap (λ (w : Wires). w.shown) first.wires) low
+
+    pub stepped-both : (p2 : Option Pages) (f2 : Flow O) (e2 : List Event) → Stepped m valid p1 p2 f1 f2 e1 e2 → Stepped m valid p p2 f f2 e e2
+    stepped-both p2 f2 e2 second =
+        record {
+          flow_after = second.flow_after;
+          together = second.together;
+          tells = second.tells ∙ first.tells;
+          wires = second.wires ∙ first.wires;
+          seats = second.seats ∙ first.seats;
+          closes = λ table h. first.closes table (second.closes table h);
+          holds = λ told h. second.holds (first.tells ∙ told) (first.holds told h);
+          goes = λ told h table agrees.
+              let a = first.goes told h table (second.closes table agrees) in
+              let b = second.goes (first.tells ∙ told) (first.holds told h) table agrees in
+              record {
+                lines = λ output low. a.lines output low ∙ b.lines output (low-after output low);
+                fed = λ actor low. a.fed actor low ∙ b.fed actor (rw first.seats low);
+                lost = λ actor low. a.lost actor low ∙ b.lost actor (rw first.seats low);
+              };
+        }
+
+    pub prefix-after : (levels : LevelTable) (e2 : List Event) → ((table : ℕ → ℕ → ℕ) → Agrees levels table → Agrees f1.levels table)
+        → ShowsPrefix m p1 f1 levels e1 e2 → ShowsPrefix m p f levels e e2
+    prefix-after levels e2 closes pre = λ told h table agrees output low.
+        let a = first.goes told h table (closes table agrees) in
+        rw (a.lines output low) (pre (first.tells ∙ told) (first.holds told h) table agrees output (low-after output low))
+
+    pub none-strange-after : (e2 : RunErr) → NoneStrange m p1 f1 e2 → NoneStrange m p f e2
+    none-strange-after e2 none = λ told h. none (first.tells ∙ told) (first.holds told h)
+
+-- an operator that waits for an arc isn't ready
+pub waits-not-ready : {O : Type 0} (f : Flow O) (actor : ℕ)
+    → NextUpTo (arcs_read f.wires actor) (λ a. (face f.queues a).first) (λ a. (face f.queues a).ended) (length (arcs_read f.wires actor)) Waits → IsReady f actor → ⊥
+waits-not-ready f actor h ready =
+    let s = ready.standing h.0 h.1 h.3 in
+    by (face f.queues h.1).first (face f.queues h.1).ended h.4 h.5 s
+  where
+    by : (o : Option ℕ) (b : Bool) → o ≡ None → b ≡ false → (is_some o || b) ≡ true → ⊥
+    by None true n b s = cc b
+    by None false n b s = cc s
+    by (Some t) b n k s = cc n

@@ -1,0 +1,17 @@
+use Rattle.std.proofs.Common.{◌≡◌, refl}
+use Rattle.sq_flow.proofs.StepLemmas.{stepped-both, prefix-after, none-strange-after}
+use Rattle.sq_flow.proofs.engine.Engine.run.Goals as goal
+
+pub returns-in-Err-clause-prefix : goal.returns-in-Err-clause-prefix
+returns-in-Err-clause-prefix g c =
+    prefix-after _ _ _ _ _ _ _ _ c.loop-pick.invariant.stepped c.pick.new.self.flow.levels c.pick.new.events.items c.in-Err.ensures.closes c.in-Err.ensures.prefix
+
+pub returns-in-Err-clause-strange : goal.returns-in-Err-clause-strange
+returns-in-Err-clause-strange g c = none-strange-after _ _ _ _ _ _ _ _ c.loop-pick.invariant.stepped c.in-Err.e c.in-Err.ensures.strange
+
+pub loop-pick-preserved : goal.loop-pick-preserved
+loop-pick-preserved g c =
+    record {
+      engine = c.in-Ok.ensures.engine;
+      stepped = stepped-both _ _ _ _ _ _ _ _ c.loop-pick.invariant.stepped _ _ _ c.in-Ok.ensures.ok;
+    }

@@ -1,0 +1,41 @@
+use Rattle.std.proofs.Common.{◌≡◌, ◌≢◌, ℕ, ◌<◌, ◌≤◌, ◌+◌, ◌-◌, ◌^◌, ◌++◌, ◌∷◌, List, [], length, length-set, refl, ap, sym, ◌∙◌, Some, Option, true, false, not, arith, subst}
+use Rattle.std.specs.Prelude.{slice_get, is_some}
+use Rattle.std.proofs.lemmas.Option.{slice_get_read}
+use Rattle.std.proofs.lemmas.Result.{err_from_is_err_and}
+use Rattle.sq_flow.proofs.WireLemmas.{arcs-open}
+use Rattle.sq_flow.proofs.FutureLemmas.{slice_get-set_same, slice_get-set_other}
+use Rattle.sq_flow.proofs.Measures.{open-less}
+use Rattle.sq_flow.proofs.FinishedFlow.{seat-fine, runs, finished-prefix, finished-stepped}
+use Rattle.sq_flow.proofs.flow.Flow.finish_step.Goals as goal
+
+pub give-requires-clause-there : goal.give-requires-clause-there
+give-requires-clause-there g c = arcs-open _ _ c.args.self.now c.requires.flow c.args.actor c.requires.running
+
+pub returns-in_err-give-clause-prefix : goal.returns-in_err-give-clause-prefix
+returns-in_err-give-clause-prefix g c =
+    let p = err_from_is_err_and c.from_residual-in_err-give.result c.from_residual-in_err-give.ensures.1 in
+    let is = slice_get_read c.args.self.now.seats.items _ c.args.actor c.index_mut.result.now refl c.requires.actor_in c.index_mut.ensures.value in
+    rw p.1
+    (finished-prefix _ _ c.args.self.now c.requires.flow c.args.actor c.requires.actor_in c.requires.head c.index_mut.result.now is
+    (g.D.PageDisk.pages c.args.disk.now) c.finish_seat.new.seat c.finish_seat.new.out.items.items c.finish_seat.new.out.drops.items c.args.events.now.items c.give.new.events.items
+    c.requires.together c.in_ok-finish_seat.ensures.finished c.in_err-give.ensures.prefix)
+
+pub returns-clause-ok : goal.returns-clause-ok
+returns-clause-ok g c =
+    let is = slice_get_read c.args.self.now.seats.items _ c.args.actor c.index_mut.result.now refl c.requires.actor_in c.index_mut.ensures.value in
+    finished-stepped _ _ c.args.self.now c.requires.flow c.args.actor c.requires.actor_in c.requires.head c.index_mut.result.now is
+    (g.D.PageDisk.pages c.args.disk.now) (g.D.PageDisk.pages c.give.new.disk) c.give.new.queues c.end_arcs.new.queues _
+    c.finish_seat.new.seat c.finish_seat.new.out.items.items c.finish_seat.new.out.drops.items c.args.events.now.items c.give.new.events.items
+    c.requires.together c.in_ok-finish_seat.ensures.finished
+    (slice_get-set_same c.args.self.now.seats.items c.args.actor c.finish_seat.new.seat c.requires.actor_in)
+    (λ other ne. slice_get-set_other c.args.self.now.seats.items c.args.actor other c.finish_seat.new.seat ne)
+    (length-set c.args.self.now.seats.items c.args.actor c.finish_seat.new.seat)
+    c.in_ok-give.ensures.sent c.end_arcs.ensures.size c.end_arcs.ensures.ended c.end_arcs.ensures.items c.end_arcs.ensures.together c.in_ok-give.ensures.shown
+
+pub returns-clause-measure : goal.returns-clause-measure
+returns-clause-measure g c =
+    let is = slice_get_read c.args.self.now.seats.items _ c.args.actor c.index_mut.result.now refl c.requires.actor_in c.index_mut.ensures.value in
+    let fine = seat-fine _ _ c.args.self.now c.requires.flow c.args.actor c.requires.actor_in c.requires.head c.index_mut.result.now is in
+    let ran = sym fine.running ∙ runs _ _ c.args.self.now c.requires.flow c.args.actor c.requires.actor_in c.requires.head c.index_mut.result.now is c.requires.running in
+    let less = open-less c.args.self.now.seats.items c.args.actor c.index_mut.result.now c.finish_seat.new.seat is ran c.in_ok-finish_seat.ensures.finished.closed in
+    omega (arith, less)

@@ -1,0 +1,18 @@
+use Rattle.std.proofs.Common.{◌≡◌, ℕ, ◌≤◌, ◌+◌, ◌-◌, true, length, []}
+use Rattle.sq_flow.specs.Flows.{Stepped, measure_of}
+use Rattle.sq_flow.proofs.flow.Flow.train.Given as goal
+
+abbrev pub invariant-steps : goal.invariant-steps
+invariant-steps g l =
+    let op = g.O.Operator in
+    record {
+      stepped : Stepped (record { rest = op.rest; decides = op.decides; lost = op.lost; place = op.place; taken = op.taken; running = op.running; takes_marks = op.takes_marks; fits = op.fits }) op.valid
+          (g.D.PageDisk.pages l.fn.disk) (g.D.PageDisk.pages l.disk) l.fn.self l.self l.fn.events.items l.events.items;
+      falls : measure_of l.self + l.fed ≤ measure_of l.fn.self;
+      begun : l.fed ≡ 0 → l.self ≡ l.fn.self;
+      none : (l.outs.items.items ≡ []) × (l.outs.drops.items ≡ []);
+      few : l.fed ≤ l.train;
+    }
+
+abbrev pub decreases-steps : goal.decreases-steps
+decreases-steps g l = l.train - l.fed

@@ -1,0 +1,167 @@
+-- What an engine holds, and what each step keeps.
+use Rattle.std.specs.Prelude.{◌≡◌, ℕ, zero, suc, ◌+◌, ◌-◌, ◌^◌, ◌/◌, ◌≤◌, ◌<◌, Bool, true, false, List, [], ◌∷◌, ◌++◌, length, Option, Some, None, is_some, slice_get, if◌then◌else◌}
+use Rattle.sq_value.specs.declared.Tuple.{Tuple}
+use Rattle.sq_item.specs.declared.Item.{Item}
+use Rattle.sq_item.specs.Things.{Thing, spread_all}
+use Rattle.sq_item.specs.Sound.{IsSound}
+use Rattle.sq_outside.specs.Disks.{Pages}
+use Rattle.sq_road.specs.Levels.{LevelTable, Agrees}
+use Rattle.sq_value.specs.Lists.{IsPrefixOf}
+use Rattle.sq_oper.specs.declared.outs.Event.{Event}
+use Rattle.sq_oper.specs.Given.{ThingsUpTo}
+use Rattle.sq_oper.specs.Streams.{things, IsSoundTuple}
+use Rattle.std.specs.declared.alloc.Global.{Global}
+use Rattle.std.specs.declared.collections.VecDeque.{VecDeque}
+use Rattle.sq_left.specs.Left.{World, Facts, coming, inputs, lost_in_all, fed_in_all, still_dropped}
+use Rattle.sq_left.specs.Heads.{AllFine}
+use Rattle.sq_queue.specs.Faces.{face, size, items_on, Tells, Together}
+use Rattle.sq_flow.specs.declared.seats.Seat.{Seat}
+use Rattle.sq_flow.specs.declared.flow.Flow.{Flow}
+use Rattle.sq_flow.specs.declared.errors.RunErr.{RunErr}
+use Rattle.sq_flow.specs.declared.errors.RunErr.TheVariants.{TooMuch}
+use Rattle.sq_flow.specs.declared.flow.Did.{Did}
+use Rattle.sq_flow.specs.declared.flow.Did.TheVariants.{Waits, Fed, Finished}
+use Rattle.sq_flow.specs.Takes.{NotStrange}
+use Rattle.sq_flow.specs.Wiring.{net_of, from_of, IsShaped}
+use Rattle.sq_flow.specs.Seats.{Meaning, rest_at, decides_at, lost_at, taken_at, place_at, done_at, holds_at, IsSeat}
+use Rattle.sq_flow.specs.Events.{bodies, lines_of}
+
+abbrev pub tuples_at : Option (VecDeque Tuple Global) → List Tuple
+tuples_at None = []
+tuples_at (Some tuples) = tuples.items
+
+-- what is still to be released of a source
+abbrev pub to_release : {O : Type 0} → Flow O → ℕ → List Tuple
+to_release flow source = tuples_at (slice_get flow.sources.items source)
+
+-- what a run holds, in the words of the law of operators, where these items stand on the arcs
+abbrev pub world_of : {O : Type 0} → Meaning O → (ℕ → ℕ → ℕ) → (ℕ → List Item) → Flow O → World
+world_of m table items flow =
+    record {
+      rest = λ actor. rest_at m table (slice_get flow.seats.items actor);
+      decide = λ actor. decides_at m table (slice_get flow.seats.items actor);
+      lost = λ actor. lost_at m (slice_get flow.seats.items actor);
+      taken = λ actor. taken_at m (slice_get flow.seats.items actor);
+      place = λ actor. place_at m (slice_get flow.seats.items actor);
+      done = λ actor. done_at flow.over (slice_get flow.seats.items actor);
+      queue = λ arc. spread_all (items arc);
+      source = λ port. things (to_release flow port);
+    }
+
+abbrev pub items_in : {O : Type 0} → Flow O → Option Pages → ℕ → List Item
+items_in flow pages = items_on flow.queues pages
+
+-- tuples that may be items, at times that don't fall, from this time on
+abbrev pub RiseFrom : ℕ → List Tuple → Type 0
+RiseFrom time [] = Unit {0}
+RiseFrom time (x ∷ xs) = (time ≤ x.time) × IsSoundTuple x × RiseFrom x.time xs
+
+-- what each step keeps, over every disk
+pub record IsFlow {O : Type 0} (m : Meaning O) (valid : O → Type 0) (flow : Flow O) : Type 0 where
+  pub shaped : IsShaped flow.wires (length flow.seats.items)
+  pub lanes : size flow.queues ≡ length flow.wires.arcs.items
+  pub ended : (arc : ℕ) → arc < length flow.wires.arcs.items
+      → (face flow.queues arc).ended ≡ done_at flow.over (slice_get flow.seats.items (from_of (slice_get flow.wires.arcs.items arc)))
+  pub seats : (actor : ℕ) → holds_at (IsSeat m valid ((net_of flow.wires).takes actor) ((net_of flow.wires).fits actor) flow.taken) (slice_get flow.seats.items actor)
+  pub few : flow.taken < 2 ^ 62
+  pub held : (table : ℕ → ℕ → ℕ) → Agrees flow.levels table → (actor port : ℕ) → ThingsUpTo flow.clock (rest_at m table (slice_get flow.seats.items actor) [] port)
+  pub coming : (source : ℕ) → RiseFrom flow.clock (to_release flow source)
+  pub few_sources : length flow.sources.items < 2 ^ 32
+  pub levels : (flow.clock / flow.levels.epoch < flow.levels.closed) × (flow.clock < 2 ^ 40)
+  pub over : flow.over ≡ true → (source : ℕ) → to_release flow source ≡ []
+
+-- and where these items stand on the arcs
+pub record HoldsItems {O : Type 0} (m : Meaning O) (items : ℕ → List Item) (flow : Flow O) : Type 0 where
+  pub facts : (table : ℕ → ℕ → ℕ) → Agrees flow.levels table → Facts (net_of flow.wires) (world_of m table items flow) flow.wires.order.items
+  pub queued : (arc : ℕ) → AllFine flow.clock (items arc)
+
+-- the tuples that an output will still show
+abbrev pub lines_left : {O : Type 0} → Meaning O → (ℕ → ℕ → ℕ) → (ℕ → List Item) → Flow O → ℕ → List Tuple
+lines_left m table items flow output = bodies (coming (net_of flow.wires) (world_of m table items flow) flow.wires.order.items (flow.wires.shown + output) 0)
+
+-- how many tuples an operator will have been fed at the end, and how many of them it will have lost
+abbrev pub fed_at_last : {O : Type 0} → Meaning O → (ℕ → ℕ → ℕ) → (ℕ → List Item) → Flow O → ℕ → ℕ
+fed_at_last m table items flow actor = fed_in_all (net_of flow.wires) (world_of m table items flow) flow.wires.order.items actor
+
+abbrev pub lost_at_last : {O : Type 0} → Meaning O → (ℕ → ℕ → ℕ) → (ℕ → List Item) → Flow O → ℕ → ℕ
+lost_at_last m table items flow actor = lost_in_all (net_of flow.wires) (world_of m table items flow) flow.wires.order.items actor
+
+abbrev pub sum_below : (ℕ → ℕ) → ℕ → ℕ
+sum_below f zero = 0
+sum_below f (suc n) = sum_below f n + f n
+
+-- how many tuples all operators were fed, and how many they will have been fed at the end
+abbrev pub taken_in_all : {O : Type 0} → Meaning O → Flow O → ℕ
+taken_in_all m flow = sum_below (λ actor. taken_at m (slice_get flow.seats.items actor)) (length flow.seats.items)
+
+abbrev pub work_at_last : {O : Type 0} → Meaning O → (ℕ → ℕ → ℕ) → (ℕ → List Item) → Flow O → ℕ
+work_at_last m table items flow = sum_below (fed_at_last m table items flow) (length flow.seats.items)
+
+-- how many marks and tuples all operators will have taken at the end
+abbrev pub turns_at_last : {O : Type 0} → Meaning O → (ℕ → ℕ → ℕ) → (ℕ → List Item) → Flow O → ℕ
+turns_at_last m table items flow =
+    flow.taken + sum_below (λ actor. length (inputs (net_of flow.wires) (world_of m table items flow) flow.wires.order.items actor)) (length flow.seats.items)
+
+-- what was shown, and then what is left, stays the same, and so do the numbers of what is fed, lost and taken in all
+pub record Goes {O : Type 0} (m : Meaning O) (table : ℕ → ℕ → ℕ) (items items' : ℕ → List Item) (flow flow' : Flow O) (events events' : List Event) : Type 0 where
+  pub lines : (output : ℕ) → flow.wires.shown + output < length flow.seats.items
+      → lines_of output events ++ lines_left m table items flow output ≡ lines_of output events' ++ lines_left m table items' flow' output
+  pub fed : (actor : ℕ) → actor < length flow.seats.items → fed_at_last m table items flow actor ≡ fed_at_last m table items' flow' actor
+  pub lost : (actor : ℕ) → actor < length flow.seats.items → lost_at_last m table items flow actor ≡ lost_at_last m table items' flow' actor
+  pub turns : turns_at_last m table items flow ≡ turns_at_last m table items' flow'
+
+-- what falls with each step: what is to be released, what may still be taken, and the actors that aren't finished
+abbrev pub open_seats : {O : Type 0} → List (Seat O) → ℕ
+open_seats [] = 0
+open_seats (seat ∷ seats) = (if seat.tally.running then 1 else 0) + open_seats seats
+
+abbrev pub count_all : List (VecDeque Tuple Global) → ℕ
+count_all [] = 0
+count_all (tuples ∷ sources) = length tuples.items + count_all sources
+
+abbrev pub measure_of : {O : Type 0} → Flow O → ℕ
+measure_of flow = count_all flow.sources.items + (2 ^ 62 - 1 - flow.taken) + (open_seats flow.seats.items + (if flow.over then 0 else 1))
+
+-- what a call that ended Ok did
+pub record Stepped {O : Type 0} (m : Meaning O) (valid : O → Type 0) (was is : Option Pages) (flow flow' : Flow O) (events events' : List Event) : Type 0 where
+  pub flow_after : IsFlow m valid flow'
+  pub together : Together flow'.queues is
+  pub tells : is_some is ≡ is_some was
+  pub wires : flow'.wires ≡ flow.wires
+  pub seats : length flow'.seats.items ≡ length flow.seats.items
+  pub closes : (table : ℕ → ℕ → ℕ) → Agrees flow'.levels table → Agrees flow.levels table
+  pub holds : Tells was → HoldsItems m (items_in flow was) flow → HoldsItems m (items_in flow' is) flow'
+  pub goes : Tells was → HoldsItems m (items_in flow was) flow → (table : ℕ → ℕ → ℕ) → Agrees flow'.levels table
+      → Goes m table (items_in flow was) (items_in flow' is) flow flow' events events'
+
+-- what a call that failed has shown is a beginning
+abbrev pub ShowsPrefix : {O : Type 0} → Meaning O → Option Pages → Flow O → LevelTable → List Event → List Event → Type 0
+ShowsPrefix m was flow levels events events' =
+    Tells was → HoldsItems m (items_in flow was) flow → (table : ℕ → ℕ → ℕ) → Agrees levels table → (output : ℕ) → flow.wires.shown + output < length flow.seats.items
+    → IsPrefixOf (lines_of output events') (lines_of output events ++ lines_left m table (items_in flow was) flow output)
+
+-- and it names no item, where the disk tells its pages
+abbrev pub NoneStrange : {O : Type 0} → Meaning O → Option Pages → Flow O → RunErr → Type 0
+NoneStrange m was flow e = Tells was → HoldsItems m (items_in flow was) flow → NotStrange e
+
+-- a step that does something lowers the measure
+abbrev pub Lowers : Did → ℕ → ℕ → Type 0
+Lowers Waits before after = after ≡ before
+Lowers Fed before after = after + 1 ≤ before
+Lowers Finished before after = after + 1 ≤ before
+
+-- a step raises the steps by the tuples that it feeds
+abbrev pub CostsFed : {O : Type 0} → Meaning O → Flow O → Flow O → ℕ → ℕ → Type 0
+CostsFed m flow flow' before after = after + taken_in_all m flow ≡ before + taken_in_all m flow'
+
+-- a call that failed raises them by no more than is still to be fed
+abbrev pub CostsAtMost : {O : Type 0} → Meaning O → Option Pages → Flow O → LevelTable → ℕ → ℕ → Type 0
+CostsAtMost m was flow levels before after =
+    Tells was → HoldsItems m (items_in flow was) flow → (table : ℕ → ℕ → ℕ) → Agrees levels table
+    → after + taken_in_all m flow ≤ before + work_at_last m table (items_in flow was) flow
+
+-- too much is taken only where as much is to be taken in all, and where the next item would bring the count past its end
+pub record TooMuchOnly {O : Type 0} (m : Meaning O) (was : Option Pages) (flow flow' : Flow O) (e : RunErr) : Type 0 where
+  pub counted : e ≡ TooMuch → 2 ^ 62 ≤ flow'.taken + 2
+  pub turns : e ≡ TooMuch → Tells was → HoldsItems m (items_in flow was) flow → (table : ℕ → ℕ → ℕ) → Agrees flow'.levels table
+      → 2 ^ 62 ≤ turns_at_last m table (items_in flow was) flow

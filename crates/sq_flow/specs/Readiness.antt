@@ -1,0 +1,45 @@
+-- Which actors are ready.
+use Rattle.std.specs.Prelude.{◌≡◌, ℕ, ◌+◌, ◌≤◌, ◌||◌, Bool, true, false, Some, is_some, slice_get, if◌then◌else◌}
+use Rattle.sq_queue.specs.Faces.{Face, face}
+use Rattle.sq_flow.specs.declared.flow.Flow.{Flow}
+use Rattle.sq_flow.specs.declared.flow.Did.{Did}
+use Rattle.sq_flow.specs.declared.flow.Did.TheVariants.{Waits, Fed, Finished}
+use Rattle.sq_flow.specs.Wiring.{arcs_read}
+use Rattle.sq_flow.specs.Seats.{done_at}
+
+-- an item stands first on the arc, or the arc has ended
+abbrev pub stands : Face → Bool
+stands f = is_some f.first || f.ended
+
+-- an actor that isn't finished and waits for no arc
+pub record IsReady {O : Type 0} (flow : Flow O) (actor : ℕ) : Type 0 where
+  pub running : done_at flow.over (slice_get flow.seats.items actor) ≡ false
+  pub standing : (port arc : ℕ) → slice_get (arcs_read flow.wires actor) port ≡ Some arc → stands (face flow.queues arc) ≡ true
+
+-- the same as a test
+abbrev pub is_ready : {O : Type 0} → Flow O → ℕ → Bool
+is_ready flow actor = not (done_at flow.over (slice_get flow.seats.items actor)) && list_all (λ arc. stands (face flow.queues arc)) (arcs_read flow.wires actor)
+
+-- what a call of one actor leaves alone: arcs that it neither reads nor writes keep their faces, those that it doesn't read only
+-- grow, and no other actor begins or ends
+pub record TouchesOnly {O : Type 0} (actor : ℕ) (flow flow' : Flow O) : Type 0 where
+  pub apart : (arc : ℕ) → arc < length flow.wires.arcs.items → to_of (slice_get flow.wires.arcs.items arc) ≢ actor
+      → from_of (slice_get flow.wires.arcs.items arc) ≢ actor → face flow'.queues arc ≡ face flow.queues arc
+  pub grows : (arc : ℕ) → arc < length flow.wires.arcs.items → to_of (slice_get flow.wires.arcs.items arc) ≢ actor
+      → stands (face flow.queues arc) ≡ true → stands (face flow'.queues arc) ≡ true
+  pub others : (other : ℕ) → other ≢ actor
+      → done_at flow'.over (slice_get flow'.seats.items other) ≡ done_at flow.over (slice_get flow.seats.items other)
+
+-- how many items wait for an actor, as far as a u64 counts
+abbrev pub waiting : {O : Type 0} → Flow O → ℕ → ℕ
+waiting flow actor = min (2 ^ 64 - 1) (sum (map (λ arc. (face flow.queues arc).count) (arcs_read flow.wires actor)))
+
+-- a fact of a step that waits
+abbrev pub WaitsOnly : Did → Type 0 → Type 0
+WaitsOnly Waits P = P
+WaitsOnly Fed P = Unit {0}
+WaitsOnly Finished P = Unit {0}
+
+-- the measure fell by so many feeds, and by one more at the end of an actor
+abbrev pub FallsBy : ℕ → Bool → ℕ → ℕ → Type 0
+FallsBy fed finished before after = after + fed + (if finished then 1 else 0) ≤ before

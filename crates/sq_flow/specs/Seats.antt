@@ -1,0 +1,104 @@
+-- Operators in their seats: an operator with what the run keeps of what it was fed.
+use Rattle.std.specs.Prelude.{◌≡◌, ℕ, ◌+◌, ◌≤◌, Bool, true, false, not, List, [], ◌++◌, Option, Some, None, is_some, if◌then◌else◌}
+use Rattle.sq_value.specs.declared.Value.{Value}
+use Rattle.sq_item.specs.Things.{Thing}
+use Rattle.sq_oper.specs.declared.tally.Place.{Place}
+use Rattle.sq_oper.specs.declared.tally.Place.TheVariants.{Start}
+use Rattle.sq_oper.specs.declared.outs.Decision.{Decision}
+use Rattle.sq_oper.specs.Entries.{Entry, entries}
+use Rattle.sq_item.specs.declared.Item.{Item}
+use Rattle.sq_road.specs.Levels.{LevelTable, Agrees}
+use Rattle.sq_oper.specs.Given.{given, ItemsSound, ThingsUpTo}
+use Rattle.sq_oper.specs.Order.{IsFuture, after_all}
+use Rattle.sq_flow.specs.declared.seats.Seat.{Seat}
+
+-- what the states of a kind of operator mean
+pub record Meaning (O : Type 0) : Type 0 where
+  pub rest : O → (ℕ → ℕ → ℕ) → List Entry → ℕ → List Thing
+  pub decides : O → (ℕ → ℕ → ℕ) → List Entry → List Decision
+  pub lost : O → List Entry → ℕ
+  pub place : O → Place
+  pub taken : O → ℕ
+  pub running : O → Bool
+  pub takes_marks : O → ℕ → Bool
+  pub fits : O → ℕ → List Value → Bool
+
+-- what the operator in a seat says, and a default where there is none
+abbrev pub rest_at : {O : Type 0} → Meaning O → (ℕ → ℕ → ℕ) → Option (Seat O) → List Entry → ℕ → List Thing
+rest_at m table None future q = []
+rest_at m table (Some seat) future q = m.rest seat.op table future q
+
+abbrev pub decides_at : {O : Type 0} → Meaning O → (ℕ → ℕ → ℕ) → Option (Seat O) → List Entry → List Decision
+decides_at m table None future = []
+decides_at m table (Some seat) future = m.decides seat.op table future
+
+abbrev pub lost_at : {O : Type 0} → Meaning O → Option (Seat O) → List Entry → ℕ
+lost_at m None future = 0
+lost_at m (Some seat) future = m.lost seat.op future
+
+abbrev pub taken_at : {O : Type 0} → Meaning O → Option (Seat O) → ℕ
+taken_at m None = 0
+taken_at m (Some seat) = m.taken seat.op
+
+abbrev pub place_at : {O : Type 0} → Meaning O → Option (Seat O) → Place
+place_at m None = Start
+place_at m (Some seat) = m.place seat.op
+
+-- an operator is finished; behind the operators stands the replay
+abbrev pub done_at : {O : Type 0} → Bool → Option (Seat O) → Bool
+done_at over None = over
+done_at over (Some seat) = not seat.tally.running
+
+abbrev pub holds_at : {O : Type 0} → (Seat O → Type 0) → Option (Seat O) → Type 0
+holds_at P None = Unit {0}
+holds_at P (Some seat) = P seat
+
+-- the operator is in a valid state, the tally is its own, and what comes on its arcs may come to it
+pub record IsSeat {O : Type 0} (m : Meaning O) (valid : O → Type 0) (takes : ℕ → Bool) (fits : ℕ → List Value → Bool) (taken : ℕ) (seat : Seat O) : Type 0 where
+  pub is_valid : valid seat.op
+  pub running : m.running seat.op ≡ seat.tally.running
+  pub place : m.place seat.op ≡ seat.tally.place
+  pub counted : m.taken seat.op ≡ seat.tally.taken
+  pub few : seat.tally.taken ≤ taken
+  pub marks : (port : ℕ) → takes port ≡ true → m.takes_marks seat.op port ≡ true
+  pub tuples : (port : ℕ) (fields : List Value) → fits port fields ≡ true → m.fits seat.op port fields ≡ true
+
+-- what a feed does to a seat: it gives these items and drops these batches
+pub record FedSeat {O : Type 0} (m : Meaning O) (valid : O → Type 0) (levels : LevelTable) (port : ℕ) (item : Item) (outs : List (ℕ × Item)) (drops : List Decision)
+    (seat seat' : Seat O) : Type 0 where
+  pub law : (table : ℕ → ℕ → ℕ) (future : List Entry) → Agrees levels table
+      → IsFuture (m.takes_marks seat.op) (m.fits seat.op) (m.place seat.op) (entries port item ++ future)
+      → (q : ℕ) → m.rest seat.op table (entries port item ++ future) q ≡ given q outs ++ m.rest seat'.op table future q
+  pub decided : (table : ℕ → ℕ → ℕ) (future : List Entry) → Agrees levels table
+      → IsFuture (m.takes_marks seat.op) (m.fits seat.op) (m.place seat.op) (entries port item ++ future)
+      → m.decides seat.op table (entries port item ++ future) ≡ drops ++ m.decides seat'.op table future
+  pub loses : (future : List Entry) → m.lost seat.op (entries port item ++ future) ≡ m.lost seat'.op future
+  pub times : (table : ℕ → ℕ → ℕ) → Agrees levels table → (q : ℕ) → ThingsUpTo item.time (m.rest seat.op table (entries port item) q)
+  pub sound : ItemsSound outs
+  pub moves : m.place seat'.op ≡ after_all (m.place seat.op) (entries port item)
+  pub counted : m.taken seat'.op ≡ m.taken seat.op + (if is_some item.body then 1 else 0)
+  pub is_valid : valid seat'.op
+  pub running : m.running seat'.op ≡ true
+  pub marks : m.takes_marks seat'.op ≡ m.takes_marks seat.op
+  pub fits : m.fits seat'.op ≡ m.fits seat.op
+  pub place : seat'.tally.place ≡ after_all seat.tally.place (entries port item)
+  pub taken : seat'.tally.taken ≡ seat.tally.taken + (if is_some item.body then 1 else 0)
+  pub open_still : seat'.tally.running ≡ seat.tally.running
+
+-- what an end does to a seat
+pub record FinishedSeat {O : Type 0} (m : Meaning O) (valid : O → Type 0) (outs : List (ℕ × Item)) (drops : List Decision) (seat seat' : Seat O) : Type 0 where
+  pub law : (table : ℕ → ℕ → ℕ) (q : ℕ) → m.rest seat.op table [] q ≡ given q outs
+  pub decided : (table : ℕ → ℕ → ℕ) → m.decides seat.op table [] ≡ drops
+  pub loses : m.lost seat.op [] ≡ m.lost seat'.op []
+  pub empty : (table : ℕ → ℕ → ℕ) (q : ℕ) → m.rest seat'.op table [] q ≡ []
+  pub settled : (table : ℕ → ℕ → ℕ) → m.decides seat'.op table [] ≡ []
+  pub sound : ItemsSound outs
+  pub is_valid : valid seat'.op
+  pub running : m.running seat'.op ≡ false
+  pub place : m.place seat'.op ≡ m.place seat.op
+  pub counted : m.taken seat'.op ≡ m.taken seat.op
+  pub marks : m.takes_marks seat'.op ≡ m.takes_marks seat.op
+  pub fits : m.fits seat'.op ≡ m.fits seat.op
+  pub same_place : seat'.tally.place ≡ seat.tally.place
+  pub same_taken : seat'.tally.taken ≡ seat.tally.taken
+  pub closed : seat'.tally.running ≡ false

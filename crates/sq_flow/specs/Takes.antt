@@ -1,0 +1,42 @@
+-- Which items may be fed.
+use Rattle.std.specs.Prelude.{◌≡◌, ℕ, ◌==◌, ◌≤◌, ◌&&◌, ◌||◌, nat_lt, nat_le, Bool, true, List, length, Option, Some, None, if◌then◌else◌}
+use Rattle.sq_value.specs.declared.Value.{Value}
+use Rattle.sq_item.specs.declared.Item.{Item}
+use Rattle.sq_item.specs.declared.Mark.{Mark}
+use Rattle.sq_oper.specs.declared.tally.Place.{Place}
+use Rattle.sq_oper.specs.declared.tally.Place.TheVariants.{Start, At}
+use Rattle.sq_oper.specs.Entries.{entries}
+use Rattle.sq_oper.specs.Order.{IsFuture}
+use Rattle.sq_flow.specs.declared.wires.Arc.{Arc}
+use Rattle.sq_flow.specs.declared.errors.RunErr.{RunErr}
+use Rattle.sq_flow.specs.declared.errors.RunErr.TheVariants as error
+
+abbrev pub takes_of : Arc → ℕ → Bool
+takes_of at port = at.marked
+
+abbrev pub fits_of : Arc → ℕ → List Value → Bool
+fits_of at port fields = length fields == at.width
+
+-- an item may come from an arc to a port of an operator that stands at this place
+pub record MayBeFed (at : Arc) (port : ℕ) (place : Place) (clock : ℕ) (item : Item) : Type 0 where
+  pub in_time : item.time ≤ clock
+  pub future : IsFuture (takes_of at) (fits_of at) place (entries port item)
+
+-- what begins with a mark, or with a tuple, may stand here
+abbrev pub may_stand : Place → ℕ → ℕ → Bool → Bool
+may_stand Start port time mark = true
+may_stand (At last before marked) port time mark =
+    nat_lt last time || (last == time && (if mark then marked && nat_lt before port else nat_le before port))
+
+abbrev pub mark_fits : Bool → Option Mark → Bool
+mark_fits marked None = true
+mark_fits marked (Some m) = marked
+
+abbrev pub body_fits : ℕ → Option (List Value) → Bool
+body_fits width None = true
+body_fits width (Some fields) = length fields == width
+
+abbrev pub NotStrange : RunErr → Type 0
+NotStrange (error.Strange arc item) = ⊥
+NotStrange error.TooMuch = Unit {0}
+NotStrange error.Memory = Unit {0}

@@ -1,0 +1,122 @@
+-- How wires join the actors, and what actors put on arcs.
+use Rattle.std.specs.Prelude.{◌≡◌, ℕ, ◌+◌, ◌==◌, ◌≤◌, ◌<◌, ◌^◌, Bool, true, false, List, [], ◌∷◌, ◌++◌, length, Option, Some, None, Vec, slice_get, if◌then◌else◌}
+use Rattle.std.specs.declared.alloc.Global.{Global}
+use Rattle.sq_value.specs.declared.Value.{Value}
+use Rattle.sq_item.specs.declared.Item.{Item}
+use Rattle.sq_item.specs.Things.{Thing, spread}
+use Rattle.sq_item.specs.Sound.{IsSound}
+use Rattle.sq_oper.specs.Given.{given}
+use Rattle.sq_left.specs.Left.{Net, known, IsWired}
+use Rattle.sq_sched.specs.Ready.{contains}
+use Rattle.sq_flow.specs.declared.wires.Arc.{Arc}
+use Rattle.sq_flow.specs.declared.wires.Wires.{Wires}
+
+abbrev pub numbers_in : Option (Vec ℕ Global) → List ℕ
+numbers_in None = []
+numbers_in (Some v) = v.items
+
+abbrev pub rows_in : Option (Vec (Vec ℕ Global) Global) → List (Vec ℕ Global)
+rows_in None = []
+rows_in (Some v) = v.items
+
+abbrev pub from_of : Option Arc → ℕ
+from_of None = 0
+from_of (Some arc) = arc.from
+
+abbrev pub port_of : Option Arc → ℕ
+port_of None = 0
+port_of (Some arc) = arc.port
+
+abbrev pub to_of : Option Arc → ℕ
+to_of None = 0
+to_of (Some arc) = arc.to
+
+abbrev pub place_of : Option Arc → ℕ
+place_of None = 0
+place_of (Some arc) = arc.place
+
+abbrev pub marked_of : Option Arc → Bool
+marked_of None = false
+marked_of (Some arc) = arc.marked
+
+abbrev pub wide_of : Option Arc → List Value → Bool
+wide_of None fields = false
+wide_of (Some arc) fields = length fields == arc.width
+
+-- the arcs that an operator reads, by port
+abbrev pub arcs_read : Wires → ℕ → List ℕ
+arcs_read wires actor = numbers_in (slice_get wires.inputs.items actor)
+
+-- the arc at a port
+abbrev pub arc_at : Wires → Option ℕ → Option Arc
+arc_at wires None = None
+arc_at wires (Some at) = slice_get wires.arcs.items at
+
+-- the arcs that come from a port of an actor
+abbrev pub arcs_from : Wires → ℕ → ℕ → List ℕ
+arcs_from wires actor port = numbers_in (slice_get (rows_in (slice_get wires.readers.items actor)) port)
+
+-- the operators that read from an actor
+abbrev pub followers_of : Wires → ℕ → List ℕ
+followers_of wires actor = numbers_in (slice_get wires.followers.items actor)
+
+-- each number is greater than the one before
+abbrev pub Climbs : List ℕ → Type 0
+Climbs [] = Unit {0}
+Climbs (x ∷ xs) = ((y : ℕ) → contains xs y ≡ true → x < y) × Climbs xs
+
+-- how these wires join the actors
+abbrev pub net_of : Wires → Net
+net_of wires =
+    record {
+      replay = wires.replay;
+      size = length wires.arcs.items;
+      arcs = arcs_read wires;
+      from = λ arc. from_of (slice_get wires.arcs.items arc);
+      port = λ arc. port_of (slice_get wires.arcs.items arc);
+      takes = λ actor port. marked_of (arc_at wires (slice_get (arcs_read wires actor) port));
+      fits = λ actor port fields. wide_of (arc_at wires (slice_get (arcs_read wires actor) port)) fields;
+    }
+
+-- what an item that an actor gives at a port is on a stream
+abbrev pub sent : ℕ → ℕ → List Thing → ℕ → ℕ → List Thing
+sent actor port things from to = if actor == from then (if port == to then things else []) else []
+
+-- what items that an actor gives are on a stream
+abbrev pub pushed_by : ℕ → List (ℕ × Item) → ℕ → ℕ → List Thing
+pushed_by actor outs from to = if actor == from then given to outs else []
+
+abbrev pub AllOutsFine : ℕ → List (ℕ × Item) → Type 0
+AllOutsFine time [] = Unit {0}
+AllOutsFine time (out ∷ outs) = (out.1.time ≤ time) × IsSound out.1 × AllOutsFine time outs
+
+-- how often a number stands in a list
+abbrev pub times_in : ℕ → List ℕ → ℕ
+times_in n [] = 0
+times_in n (x ∷ xs) = (if x == n then 1 else 0) + times_in n xs
+
+-- how many actors there are, and how the arcs lead: each arc stands once among those that come from where it comes from
+pub record IsShaped (wires : Wires) (ops : ℕ) : Type 0 where
+  pub replay_is : wires.replay ≡ ops
+  pub few : ops < 2 ^ 31
+  pub few_arcs : length wires.arcs.items < 2 ^ 32
+  pub shown_in : wires.shown ≤ ops
+  pub inputs_len : length wires.inputs.items ≡ ops
+  pub readers_len : length wires.readers.items ≡ ops + 1
+  pub arcs_in : (actor port arc : ℕ) → slice_get (arcs_read wires actor) port ≡ Some arc → arc < length wires.arcs.items
+  pub ports : (actor : ℕ) → length (arcs_read wires actor) < 2 ^ 32
+  pub from_in : (arc : ℕ) → arc < length wires.arcs.items → from_of (slice_get wires.arcs.items arc) < ops + 1
+  pub joined : (actor port arc : ℕ) → slice_get (arcs_read wires actor) port ≡ Some arc
+      → (to_of (slice_get wires.arcs.items arc) ≡ actor) × (place_of (slice_get wires.arcs.items arc) ≡ port)
+  pub read : (actor port arc : ℕ) → arc < length wires.arcs.items
+      → times_in arc (arcs_from wires actor port)
+      ≡ (if actor == from_of (slice_get wires.arcs.items arc) then (if port == port_of (slice_get wires.arcs.items arc) then 1 else 0) else 0)
+  pub readers_in : (actor port place arc : ℕ) → slice_get (arcs_from wires actor port) place ≡ Some arc → arc < length wires.arcs.items
+  pub followers_len : length wires.followers.items ≡ ops + 1
+  pub followed : (arc : ℕ) → arc < length wires.arcs.items
+      → contains (followers_of wires (from_of (slice_get wires.arcs.items arc))) (to_of (slice_get wires.arcs.items arc)) ≡ true
+  pub followers_in : (actor follower : ℕ) → contains (followers_of wires actor) follower ≡ true → follower < ops
+  pub followers_climb : (actor : ℕ) → Climbs (followers_of wires actor)
+  pub wired : IsWired (net_of wires) wires.order.items
+  pub listed : (actor : ℕ) → known (net_of wires) wires.order.items actor ≡ true → actor < ops + 1
+  pub ordered : (actor : ℕ) → actor < ops → known (net_of wires) wires.order.items actor ≡ true

@@ -1,0 +1,70 @@
+//! An engine under any list of picks.
+
+ghost use Rattle.std.specs.Prelude.{◌≡◌, ℕ, ◌+◌, ◌≤◌, true, false, OnOk, OnErr, IfOk, IfErr, length, slice_get};
+ghost use Rattle.sq_road.specs.Levels.{Agrees};
+ghost use Rattle.sq_queue.specs.Faces.{Together};
+
+use crate::engine::Engine;
+use crate::errors::RunErr;
+use sq_oper::{Event, Operator};
+use sq_outside::{PageDisk, Steps};
+use sq_sched::Pick;
+use std::alloc::Global;
+use std::sync::ledger::Ledger;
+
+impl<O: Operator + Drop> Engine<O> {
+    ghost use Rattle.sq_flow.specs.Flows.{Stepped, ShowsPrefix, NoneStrange};
+    ghost use Rattle.sq_flow.specs.Engines.{IsEngine};
+
+    /// A step of the actor that is picked, where it is ready.
+    fn pick<D: PageDisk, L: Ledger>(
+        &mut self,
+        alloc: Global,
+        pick: Pick,
+        disk: &mut D,
+        events: &mut Vec<Event>,
+        steps: &mut Steps<L>,
+    ) -> Result<(), RunErr>
+        requires engine { IsEngine (record { rest = O.rest; decides = O.decides; lost = O.lost; place = O.place; taken = O.taken; running = O.running; takes_marks = O.takes_marks; fits = O.fits }) O.valid self.old }
+        requires together { Together self.old.flow.queues (D.pages disk.old) }
+        ensures ok { OnOk result (Stepped (record { rest = O.rest; decides = O.decides; lost = O.lost; place = O.place; taken = O.taken; running = O.running; takes_marks = O.takes_marks; fits = O.fits }) O.valid (D.pages disk.old) (D.pages disk.new) self.old.flow self.new.flow events.old.items events.new.items) }
+        ensures engine { OnOk result (IsEngine (record { rest = O.rest; decides = O.decides; lost = O.lost; place = O.place; taken = O.taken; running = O.running; takes_marks = O.takes_marks; fits = O.fits }) O.valid self.new) }
+        ensures prefix { OnErr result (ShowsPrefix (record { rest = O.rest; decides = O.decides; lost = O.lost; place = O.place; taken = O.taken; running = O.running; takes_marks = O.takes_marks; fits = O.fits }) (D.pages disk.old) self.old.flow self.new.flow.levels events.old.items events.new.items) }
+        ensures strange { IfErr result (λ e. NoneStrange (record { rest = O.rest; decides = O.decides; lost = O.lost; place = O.place; taken = O.taken; running = O.running; takes_marks = O.takes_marks; fits = O.fits }) (D.pages disk.old) self.old.flow e) }
+        ensures closes { (table : ℕ → ℕ → ℕ) → Agrees self.new.flow.levels table → Agrees self.old.flow.levels table }
+    {
+        if pick.train == 0 || !self.ready.has(pick.actor) {
+            return Ok(());
+        }
+        match self.step(alloc, pick, disk, events, steps) {
+            Ok(_) => Ok(()),
+            Err(e) => Err(e),
+        }
+    }
+
+    /// Steps of the actors that are picked, one after another, where they are ready: whatever the picks are, what was shown,
+    /// and then what is left, stays the same.
+    pub fn run<D: PageDisk, L: Ledger>(
+        &mut self,
+        alloc: Global,
+        picks: &[Pick],
+        disk: &mut D,
+        events: &mut Vec<Event>,
+        steps: &mut Steps<L>,
+    ) -> Result<(), RunErr>
+        requires engine { IsEngine (record { rest = O.rest; decides = O.decides; lost = O.lost; place = O.place; taken = O.taken; running = O.running; takes_marks = O.takes_marks; fits = O.fits }) O.valid self.old }
+        requires together { Together self.old.flow.queues (D.pages disk.old) }
+        ensures ok { OnOk result (Stepped (record { rest = O.rest; decides = O.decides; lost = O.lost; place = O.place; taken = O.taken; running = O.running; takes_marks = O.takes_marks; fits = O.fits }) O.valid (D.pages disk.old) (D.pages disk.new) self.old.flow self.new.flow events.old.items events.new.items) }
+        ensures engine { OnOk result (IsEngine (record { rest = O.rest; decides = O.decides; lost = O.lost; place = O.place; taken = O.taken; running = O.running; takes_marks = O.takes_marks; fits = O.fits }) O.valid self.new) }
+        ensures prefix { OnErr result (ShowsPrefix (record { rest = O.rest; decides = O.decides; lost = O.lost; place = O.place; taken = O.taken; running = O.running; takes_marks = O.takes_marks; fits = O.fits }) (D.pages disk.old) self.old.flow self.new.flow.levels events.old.items events.new.items) }
+        ensures strange { IfErr result (λ e. NoneStrange (record { rest = O.rest; decides = O.decides; lost = O.lost; place = O.place; taken = O.taken; running = O.running; takes_marks = O.takes_marks; fits = O.fits }) (D.pages disk.old) self.old.flow e) }
+    {
+        for pick in picks {
+            match self.pick(alloc, *pick, disk, events, steps) {
+                Ok(()) => {}
+                Err(e) => return Err(e),
+            }
+        }
+        Ok(())
+    }
+}

@@ -1,0 +1,185 @@
+//! Steps of any actor, and trains of them.
+
+ghost use Rattle.std.specs.Prelude.{◌≡◌, ℕ, ◌+◌, ◌≤◌, ◌<◌, true, false, [], OnOk, OnErr, IfOk, IfErr, length, slice_get};
+ghost use Rattle.sq_road.specs.Levels.{Agrees};
+ghost use Rattle.sq_queue.specs.Faces.{Together};
+
+use crate::errors::RunErr;
+use crate::flow::{Did, Flow};
+use crate::heads::{Next, next_of};
+use sq_oper::{Event, Operator, Outs};
+use sq_outside::{PageDisk, Steps};
+use sq_queue::Head;
+use std::alloc::Global;
+use std::sync::ledger::Ledger;
+
+/// How many items an actor was fed, or the replay released, and whether it is finished.
+#[derive(Clone, Copy, Debug, PartialEq, Eq, Drop)]
+pub struct Progress {
+    pub fed: u32,
+    pub finished: bool,
+}
+
+impl<O: Operator + Drop> Flow<O> {
+    ghost use Rattle.sq_flow.specs.Flows.{IsFlow, Stepped, ShowsPrefix, NoneStrange, Lowers, measure_of};
+    ghost use Rattle.sq_flow.specs.Readiness.{IsReady, WaitsOnly, FallsBy};
+    ghost use Rattle.sq_flow.specs.Seats.{done_at};
+
+    /// An actor is finished.
+    pub(crate) fn is_done(&self, actor: u32) -> bool
+        requires flow { IsFlow (record { rest = O.rest; decides = O.decides; lost = O.lost; place = O.place; taken = O.taken; running = O.running; takes_marks = O.takes_marks; fits = O.fits }) O.valid self.now }
+        requires actor_in { actor ≤ length self.now.seats.items }
+        ensures { result ≡ done_at self.now.over (slice_get self.now.seats.items actor) }
+    {
+        match self.seats.get(actor as usize) {
+            Some(seat) => !seat.tally.running,
+            None => self.over,
+        }
+    }
+
+    /// One step of the replay.
+    fn replay_step<D: PageDisk>(
+        &mut self,
+        disk: &mut D,
+        events: &mut Vec<Event>,
+    ) -> Result<Did, RunErr>
+        requires flow { IsFlow (record { rest = O.rest; decides = O.decides; lost = O.lost; place = O.place; taken = O.taken; running = O.running; takes_marks = O.takes_marks; fits = O.fits }) O.valid self.old }
+        requires together { Together self.old.queues (D.pages disk.old) }
+        requires running { self.old.over ≡ false }
+        ensures ok { OnOk result (Stepped (record { rest = O.rest; decides = O.decides; lost = O.lost; place = O.place; taken = O.taken; running = O.running; takes_marks = O.takes_marks; fits = O.fits }) O.valid (D.pages disk.old) (D.pages disk.new) self.old self.new events.old.items events.new.items) }
+        ensures prefix { OnErr result (ShowsPrefix (record { rest = O.rest; decides = O.decides; lost = O.lost; place = O.place; taken = O.taken; running = O.running; takes_marks = O.takes_marks; fits = O.fits }) (D.pages disk.old) self.old self.new.levels events.old.items events.new.items) }
+        ensures strange { IfErr result (λ e. NoneStrange (record { rest = O.rest; decides = O.decides; lost = O.lost; place = O.place; taken = O.taken; running = O.running; takes_marks = O.takes_marks; fits = O.fits }) (D.pages disk.old) self.old e) }
+        ensures closes { (table : ℕ → ℕ → ℕ) → Agrees self.new.levels table → Agrees self.old.levels table }
+        ensures measure { IfOk result (λ did. Lowers did (measure_of self.old) (measure_of self.new)) }
+        ensures works { IfOk result (λ did. WaitsOnly did ⊥) }
+    {
+        if self.to_come.is_empty() {
+            self.end_step();
+            Ok(Did::Finished)
+        } else {
+            self.release_step(disk, events)?;
+            Ok(Did::Fed)
+        }
+    }
+
+    /// One step of an operator.
+    fn operator_step<D: PageDisk, L: Ledger>(
+        &mut self,
+        alloc: Global,
+        disk: &mut D,
+        actor: u32,
+        outs: &mut Outs,
+        events: &mut Vec<Event>,
+        steps: &mut Steps<L>,
+    ) -> Result<Did, RunErr>
+        requires flow { IsFlow (record { rest = O.rest; decides = O.decides; lost = O.lost; place = O.place; taken = O.taken; running = O.running; takes_marks = O.takes_marks; fits = O.fits }) O.valid self.old }
+        requires together { Together self.old.queues (D.pages disk.old) }
+        requires actor_in { actor < length self.old.seats.items }
+        requires running { done_at self.old.over (slice_get self.old.seats.items actor) ≡ false }
+        requires none { (outs.old.items.items ≡ []) × (outs.old.drops.items ≡ []) }
+        ensures ok { OnOk result (Stepped (record { rest = O.rest; decides = O.decides; lost = O.lost; place = O.place; taken = O.taken; running = O.running; takes_marks = O.takes_marks; fits = O.fits }) O.valid (D.pages disk.old) (D.pages disk.new) self.old self.new events.old.items events.new.items) }
+        ensures prefix { OnErr result (ShowsPrefix (record { rest = O.rest; decides = O.decides; lost = O.lost; place = O.place; taken = O.taken; running = O.running; takes_marks = O.takes_marks; fits = O.fits }) (D.pages disk.old) self.old self.new.levels events.old.items events.new.items) }
+        ensures strange { IfErr result (λ e. NoneStrange (record { rest = O.rest; decides = O.decides; lost = O.lost; place = O.place; taken = O.taken; running = O.running; takes_marks = O.takes_marks; fits = O.fits }) (D.pages disk.old) self.old e) }
+        ensures none { OnOk result ((outs.new.items.items ≡ []) × (outs.new.drops.items ≡ [])) }
+        ensures closes { (table : ℕ → ℕ → ℕ) → Agrees self.new.levels table → Agrees self.old.levels table }
+        ensures measure { IfOk result (λ did. Lowers did (measure_of self.old) (measure_of self.new)) }
+        ensures works { IfOk result (λ did. WaitsOnly did (IsReady self.old actor → ⊥)) }
+    {
+        match next_of(&self.wires, &self.queues, actor) {
+            Next::Waits => Ok(Did::Waits),
+            Next::Ended => {
+                self.finish_step(alloc, disk, actor, events)?;
+                Ok(Did::Finished)
+            }
+            Next::Feed { time, port, arc } => {
+                self.feed_step(disk, actor, time, port, arc, outs, events, steps)?;
+                Ok(Did::Fed)
+            }
+        }
+    }
+
+    /// One step of an actor; none where it isn't ready.
+    pub fn one_step<D: PageDisk, L: Ledger>(
+        &mut self,
+        alloc: Global,
+        disk: &mut D,
+        actor: u32,
+        outs: &mut Outs,
+        events: &mut Vec<Event>,
+        steps: &mut Steps<L>,
+    ) -> Result<Did, RunErr>
+        requires flow { IsFlow (record { rest = O.rest; decides = O.decides; lost = O.lost; place = O.place; taken = O.taken; running = O.running; takes_marks = O.takes_marks; fits = O.fits }) O.valid self.old }
+        requires together { Together self.old.queues (D.pages disk.old) }
+        requires actor_in { actor ≤ length self.old.seats.items }
+        requires none { (outs.old.items.items ≡ []) × (outs.old.drops.items ≡ []) }
+        ensures ok { OnOk result (Stepped (record { rest = O.rest; decides = O.decides; lost = O.lost; place = O.place; taken = O.taken; running = O.running; takes_marks = O.takes_marks; fits = O.fits }) O.valid (D.pages disk.old) (D.pages disk.new) self.old self.new events.old.items events.new.items) }
+        ensures prefix { OnErr result (ShowsPrefix (record { rest = O.rest; decides = O.decides; lost = O.lost; place = O.place; taken = O.taken; running = O.running; takes_marks = O.takes_marks; fits = O.fits }) (D.pages disk.old) self.old self.new.levels events.old.items events.new.items) }
+        ensures strange { IfErr result (λ e. NoneStrange (record { rest = O.rest; decides = O.decides; lost = O.lost; place = O.place; taken = O.taken; running = O.running; takes_marks = O.takes_marks; fits = O.fits }) (D.pages disk.old) self.old e) }
+        ensures none { OnOk result ((outs.new.items.items ≡ []) × (outs.new.drops.items ≡ [])) }
+        ensures closes { (table : ℕ → ℕ → ℕ) → Agrees self.new.levels table → Agrees self.old.levels table }
+        ensures measure { IfOk result (λ did. Lowers did (measure_of self.old) (measure_of self.new)) }
+        ensures works { IfOk result (λ did. WaitsOnly did (IsReady self.old actor → ⊥)) }
+    {
+        if self.is_done(actor) {
+            return Ok(Did::Waits);
+        }
+        if actor == self.wires.replay {
+            self.replay_step(disk, events)
+        } else {
+            self.operator_step(alloc, disk, actor, outs, events, steps)
+        }
+    }
+
+    /// Up to `train` steps of an actor, as long as it is ready.
+    pub fn train<D: PageDisk, L: Ledger>(
+        &mut self,
+        alloc: Global,
+        disk: &mut D,
+        actor: u32,
+        train: u32,
+        events: &mut Vec<Event>,
+        steps: &mut Steps<L>,
+    ) -> Result<Progress, RunErr>
+        requires flow { IsFlow (record { rest = O.rest; decides = O.decides; lost = O.lost; place = O.place; taken = O.taken; running = O.running; takes_marks = O.takes_marks; fits = O.fits }) O.valid self.old }
+        requires together { Together self.old.queues (D.pages disk.old) }
+        requires actor_in { actor ≤ length self.old.seats.items }
+        requires some { 1 ≤ train }
+        ensures ok { OnOk result (Stepped (record { rest = O.rest; decides = O.decides; lost = O.lost; place = O.place; taken = O.taken; running = O.running; takes_marks = O.takes_marks; fits = O.fits }) O.valid (D.pages disk.old) (D.pages disk.new) self.old self.new events.old.items events.new.items) }
+        ensures prefix { OnErr result (ShowsPrefix (record { rest = O.rest; decides = O.decides; lost = O.lost; place = O.place; taken = O.taken; running = O.running; takes_marks = O.takes_marks; fits = O.fits }) (D.pages disk.old) self.old self.new.levels events.old.items events.new.items) }
+        ensures strange { IfErr result (λ e. NoneStrange (record { rest = O.rest; decides = O.decides; lost = O.lost; place = O.place; taken = O.taken; running = O.running; takes_marks = O.takes_marks; fits = O.fits }) (D.pages disk.old) self.old e) }
+        ensures closes { (table : ℕ → ℕ → ℕ) → Agrees self.new.levels table → Agrees self.old.levels table }
+        ensures measure { IfOk result (λ p. FallsBy p.fed p.finished (measure_of self.old) (measure_of self.new)) }
+        ensures works { IfOk result (λ p. IsReady self.old actor → (p.fed ≡ 0) → p.finished ≡ true) }
+        ensures most { IfOk result (λ p. p.fed ≤ train) }
+    {
+        let mut outs = Outs::new(alloc);
+        let mut fed = 0;
+        'steps: while fed < train {
+            let did = match self.one_step(alloc, disk, actor, &mut outs, events, steps) {
+                Ok(did) => did,
+                Err(e) => return Err(e),
+            };
+            match did {
+                Did::Waits => {
+                    return Ok(Progress {
+                        fed,
+                        finished: false,
+                    });
+                }
+                Did::Finished => {
+                    return Ok(Progress {
+                        fed,
+                        finished: true,
+                    });
+                }
+                Did::Fed => {
+                    fed += 1;
+                }
+            }
+        }
+        Ok(Progress {
+            fed,
+            finished: false,
+        })
+    }
+}

@@ -1,0 +1,127 @@
+//! Taking an item from an arc, and the tests that it passes.
+
+ghost use Rattle.std.specs.Prelude.{◌≡◌, ◌≢◌, ℕ, ◌+◌, ◌-◌, ◌^◌, ◌<◌, ◌≤◌, ◌∷◌, true, is_some, length, List, Option, IfOk, IfErr, OnOk};
+ghost use Rattle.sq_item.specs.Sound.{IsSound};
+ghost use Rattle.sq_item.specs.Things.{spread};
+ghost use Rattle.sq_outside.specs.Disks.{Pages};
+ghost use Rattle.sq_queue.specs.Faces.{face, size, items_on, Tells, Together, IsPopped};
+ghost use Rattle.sq_flow.specs.Takes.{MayBeFed, may_stand, mark_fits, body_fits, NotStrange};
+
+use crate::errors::RunErr;
+use crate::wires::Arc;
+use sq_item::{Item, Mark};
+use sq_oper::Place;
+use sq_outside::PageDisk;
+use sq_queue::Queues;
+use sq_value::Fields;
+
+fn mark_fits(marked: bool, mark: &Option<Mark>) -> bool
+    ensures { result ≡ mark_fits marked mark.now }
+{
+    match mark {
+        None => true,
+        Some(_) => marked,
+    }
+}
+
+fn body_fits(width: u32, body: &Option<Fields>) -> bool
+    ensures { result ≡ body_fits width body.now }
+{
+    match body {
+        None => true,
+        Some(fields) => fields.as_slice().len() == width as usize,
+    }
+}
+
+/// What begins with a mark, or with a tuple, may stand behind this place.
+fn may_stand(place: Place, port: u32, time: u64, mark: bool) -> bool
+    ensures { result ≡ may_stand place port time mark }
+{
+    match place {
+        Place::Start => true,
+        Place::At {
+            time: last,
+            port: before,
+            marked,
+        } => last < time
+            || (last == time
+                && if mark {
+                    marked && before < port
+                } else {
+                    before <= port
+                }),
+    }
+}
+
+/// An item may come from an arc to a port of an operator that stands at this place.
+#[tactic(auto, using(crate::proofs::TakeLemmas::take_lemmas))]
+fn may_be_fed(at: Arc, port: u32, place: Place, clock: u64, item: &Item) -> bool
+    requires { IsSound item.now }
+    ensures yes { result ≡ true → MayBeFed at port place clock item.now }
+    ensures no { MayBeFed at port place clock item.now → result ≡ true }
+{
+    let stands = may_stand(place, port, item.time, item.mark.is_some());
+    let fits = mark_fits(at.marked, &item.mark) && body_fits(at.width, &item.body);
+    item.time <= clock && fits && stands
+}
+
+/// How many marks and tuples an item has.
+fn weight_of(item: &Item) -> u64
+    ensures weight { result ≡ length (spread item.now) }
+    ensures few { result ≤ 2 }
+{
+    match (&item.mark, &item.body) {
+        (None, None) => 0,
+        (None, Some(_)) => 1,
+        (Some(_), None) => 1,
+        (Some(_), Some(_)) => 2,
+    }
+}
+
+/// How many marks and tuples may be taken.
+pub(crate) const LIMIT: u64 = 0x3FFF_FFFF_FFFF_FFFF;
+
+/// Takes the first item of an arc, if it may be fed.
+pub(crate) fn take_item<D: PageDisk>(
+    queues: &mut Queues,
+    disk: &mut D,
+    at: Arc,
+    arc: u32,
+    port: u32,
+    place: Place,
+    clock: u64,
+) -> Result<Item, RunErr>
+    requires there { arc < size queues.old }
+    requires some { is_some (face queues.old arc).first ≡ true }
+    requires together { Together queues.old (D.pages disk.old) }
+    ensures sound { IfOk result IsSound }
+    ensures may_be_fed { IfOk result (λ item. MayBeFed at port place clock item) }
+    ensures ended { OnOk result ((other : ℕ) → (face queues.new other).ended ≡ (face queues.old other).ended) }
+    ensures faces { (other : ℕ) → other ≢ arc → face queues.new other ≡ face queues.old other }
+    ensures size { size queues.new ≡ size queues.old }
+    ensures items { IfOk result (λ item. Tells (D.pages disk.old) → items_on queues.old (D.pages disk.old) arc ≡ item ∷ items_on queues.new (D.pages disk.new) arc) }
+    ensures others { OnOk result (Tells (D.pages disk.old) → (other : ℕ) → other ≢ arc → items_on queues.new (D.pages disk.new) other ≡ items_on queues.old (D.pages disk.old) other) }
+    ensures together { OnOk result (Together queues.new (D.pages disk.new)) }
+    ensures tells { is_some (D.pages disk.new) ≡ is_some (D.pages disk.old) }
+    ensures strange { IfErr result (λ e. Tells (D.pages disk.old)
+        → ((item : Item) (more : List Item) → items_on queues.old (D.pages disk.old) arc ≡ item ∷ more → MayBeFed at port place clock item) → NotStrange e) }
+{
+    let item = queues.pop(disk, arc)?;
+    if !may_be_fed(at, port, place, clock, &item) {
+        return Err(RunErr::Strange { arc, item });
+    }
+    Ok(item)
+}
+
+/// Counts what an item has, if it can be counted.
+pub(crate) fn count_item(taken: u64, item: &Item) -> Result<u64, RunErr>
+    requires { taken < 2 ^ 62 }
+    ensures ok { IfOk result (λ n. (n ≡ taken + length (spread item.now)) × (n < 2 ^ 62)) }
+    ensures err { IfErr result NotStrange }
+{
+    let weight = weight_of(item);
+    if taken + weight > LIMIT {
+        return Err(RunErr::TooMuch);
+    }
+    Ok(taken + weight)
+}
