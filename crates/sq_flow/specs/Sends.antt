@@ -1,5 +1,5 @@
 -- What pushes do to queues.
-use Rattle.std.specs.Prelude.{◌≡◌, ℕ, zero, suc, ◌≤◌, true, List, [], ◌∷◌, ◌++◌, Option, is_some}
+use Rattle.std.specs.Prelude.{◌≡◌, ℕ, zero, suc, ◌≤◌, ◌==◌, Bool, true, false, List, [], ◌∷◌, ◌++◌, Option, is_some, slice_get}
 use Rattle.sq_item.specs.declared.Item.{Item}
 use Rattle.sq_item.specs.Things.{Thing, spread, spread_all}
 use Rattle.sq_outside.specs.Disks.{Pages}
@@ -7,7 +7,7 @@ use Rattle.sq_left.specs.Heads.{AllFine}
 use Rattle.sq_queue.specs.declared.Queues.{Queues}
 use Rattle.sq_queue.specs.Faces.{face, size, items_on, Tells, Together}
 use Rattle.sq_flow.specs.declared.wires.Wires.{Wires}
-use Rattle.sq_flow.specs.Wiring.{arcs_from, times_in}
+use Rattle.sq_flow.specs.Wiring.{arcs_from, from_of, times_in}
 
 abbrev pub many : ℕ → List Thing → List Thing
 many zero xs = []
@@ -18,12 +18,17 @@ abbrev pub sent_to : Wires → ℕ → List (ℕ × Item) → ℕ → List Thing
 sent_to wires actor [] arc = []
 sent_to wires actor (out ∷ outs) arc = many (times_in arc (arcs_from wires actor out.0)) (spread out.1) ++ sent_to wires actor outs arc
 
--- each arc gets more behind what stands there, no arc ends, and none loses its first item
-pub record Pushes (before after : Queues) (was is : Option Pages) (more : ℕ → List Thing) (upto : ℕ → Type 0) : Type 0 where
+-- the arc comes from an actor
+abbrev pub comes_from : Wires → ℕ → ℕ → Bool
+comes_from wires actor arc = from_of (slice_get wires.arcs.items arc) == actor
+
+-- each arc gets more behind what stands there, no arc ends, none loses its first item, and those that aren't near stay as they are
+pub record Pushes (before after : Queues) (was is : Option Pages) (more : ℕ → List Thing) (upto : ℕ → Type 0) (near : ℕ → Bool) : Type 0 where
   pub lanes : size after ≡ size before
   pub tells : is_some is ≡ is_some was
   pub together : Together after is
   pub ended : (arc : ℕ) → (face after arc).ended ≡ (face before arc).ended
   pub grows : (arc : ℕ) → is_some (face before arc).first ≡ true → is_some (face after arc).first ≡ true
+  pub apart : (arc : ℕ) → near arc ≡ false → face after arc ≡ face before arc
   pub items : Tells was → (arc : ℕ) → spread_all (items_on after is arc) ≡ spread_all (items_on before was arc) ++ more arc
   pub fine : Tells was → (time : ℕ) → upto time → ((arc : ℕ) → AllFine time (items_on before was arc)) → (arc : ℕ) → AllFine time (items_on after is arc)

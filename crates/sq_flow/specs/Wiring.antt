@@ -112,6 +112,7 @@ pub record IsShaped (wires : Wires) (ops : ℕ) : Type 0 where
       → times_in arc (arcs_from wires actor port)
       ≡ (if actor == from_of (slice_get wires.arcs.items arc) then (if port == port_of (slice_get wires.arcs.items arc) then 1 else 0) else 0)
   pub readers_in : (actor port place arc : ℕ) → slice_get (arcs_from wires actor port) place ≡ Some arc → arc < length wires.arcs.items
+  pub outputs_end : (actor port : ℕ) → wires.shown ≤ actor → actor < ops → arcs_from wires actor port ≡ []
   pub followers_len : length wires.followers.items ≡ ops + 1
   pub followed : (arc : ℕ) → arc < length wires.arcs.items
       → contains (followers_of wires (from_of (slice_get wires.arcs.items arc))) (to_of (slice_get wires.arcs.items arc)) ≡ true

@@ -1,6 +1,6 @@
 //! The engine: a flow with its ready list.
 
-ghost use Rattle.std.specs.Prelude.{◌≡◌, ◌↔◌, ◌≢◌, ℕ, ◌+◌, ◌≤◌, ◌<◌, true, false, [], ◌∷◌, Option, Some, OnOk, OnErr, IfOk, IfErr, length, slice_get, slice_index};
+ghost use Rattle.std.specs.Prelude.{◌≡◌, ◌≢◌, ◌⊎◌, ◌-◌, ◌^◌, map, min, sum, ℕ, ◌+◌, ◌≤◌, ◌<◌, true, false, [], ◌∷◌, Option, Some, OnOk, OnErr, IfOk, IfErr, length, slice_get, slice_index};
 ghost use Rattle.sq_road.specs.Levels.{Agrees};
 ghost use Rattle.sq_outside.specs.Disks.{Pages};
 ghost use Rattle.sq_queue.specs.Faces.{face, size, Together};
@@ -14,12 +14,12 @@ use crate::flow::Flow;
 use crate::seats::Seat;
 use crate::steps::Progress;
 use crate::wires::Wires;
-use sq_item::Item;
-use sq_oper::{Event, Operator};
+use sq_oper::{Event, Operator, Outs};
 use sq_outside::{PageDisk, Steps};
 use sq_queue::{Head, Queues};
 use sq_road::Levels;
 use sq_sched::{Pick, Ready};
+use sq_value::Tuple;
 use std::alloc::{AllocError, Global};
 use std::collections::VecDeque;
 use std::sync::ledger::Ledger;
@@ -27,10 +27,13 @@ use std::sync::ledger::Ledger;
 /// A flow, which actors are ready, and how many items wait for each. Actor 0 is the replay; operator k is actor k + 1.
 #[derive(Drop)]
 pub struct Engine<O> {
-    pub(crate) flow: Flow<O>,
-    pub(crate) ready: Ready,
-    pub(crate) waits: Vec<u64>,
-    pub(crate) failed: bool,
+    pub flow: Flow<O>,
+    pub ready: Ready,
+    /// Of each actor how many items wait for it; 0 for the replay.
+    pub waits: Vec<u64>,
+    /// What operators give within a step: its memory is used again.
+    pub outs: Outs,
+    pub failed: bool,
 }
 
 /// What an engine may still do.
@@ -75,9 +78,21 @@ fn place_in(ops: u32, actor: u32) -> u32
     if actor == 0 { ops } else { actor - 1 }
 }
 
+/// How many items stand on these arcs, as far as a u64 counts.
+fn count_waiting(arcs: &Vec<u32>, queues: &Queues) -> u64
+    requires { (port arc : ℕ) → slice_get arcs.now.items port ≡ Some arc → arc < size queues.now }
+    ensures { result ≡ min (2 ^ 64 - 1) (sum (map (λ arc. (face queues.now arc).count) arcs.now.items)) }
+{
+    let mut count: u64 = 0;
+    for port in 0..arcs.len() {
+        count = count.saturating_add(queues.len(arcs[port]));
+    }
+    count
+}
+
 impl<O: Operator + Drop> Flow<O> {
-    ghost use Rattle.sq_flow.specs.Flows.{IsFlow, Rises};
-    ghost use Rattle.sq_flow.specs.Readiness.{IsReady};
+    ghost use Rattle.sq_flow.specs.Flows.{IsFlow, RiseFrom, tuples_at};
+    ghost use Rattle.sq_flow.specs.Readiness.{IsReady, waiting};
     ghost use Rattle.sq_flow.specs.Starts.{IsNewSeat, IsNewFlow};
     ghost use Rattle.sq_flow.specs.Seats.{holds_at};
     ghost use Rattle.sq_flow.specs.Wiring.{net_of, IsShaped};
@@ -87,17 +102,18 @@ impl<O: Operator + Drop> Flow<O> {
         alloc: Global,
         wires: Wires,
         seats: Vec<Seat<O>>,
-        to_come: VecDeque<(u32, Item)>,
+        sources: Vec<VecDeque<Tuple>>,
         levels: Levels,
         frames: u32,
     ) -> Result<Flow<O>, AllocError>
         requires shaped { IsShaped wires (length seats.items) }
         requires seats { (actor : ℕ) → holds_at (IsNewSeat (record { rest = O.rest; decides = O.decides; lost = O.lost; place = O.place; taken = O.taken; running = O.running; takes_marks = O.takes_marks; fits = O.fits }) O.valid ((net_of wires).takes actor) ((net_of wires).fits actor)) (slice_get seats.items actor) }
-        requires coming { Rises 0 to_come.items }
+        requires coming { (source : ℕ) → RiseFrom 0 (tuples_at (slice_get sources.items source)) }
+        requires few { length sources.items < 2 ^ 32 }
         requires levels { 0 < levels.closed }
         requires frames { 2 ≤ frames }
         ensures flow { IfOk result (λ e. IsFlow (record { rest = O.rest; decides = O.decides; lost = O.lost; place = O.place; taken = O.taken; running = O.running; takes_marks = O.takes_marks; fits = O.fits }) O.valid e) }
-        ensures parts { IfOk result (λ e. IsNewFlow wires seats to_come levels e) }
+        ensures parts { IfOk result (λ e. IsNewFlow wires seats sources levels e) }
     {
         let arcs = wires.arcs.len() as u32;
         let queues = Queues::new(alloc, arcs, frames)?;
@@ -106,7 +122,7 @@ impl<O: Operator + Drop> Flow<O> {
             seats,
             over: false,
             queues,
-            to_come,
+            sources,
             clock: 0,
             levels,
             taken: 0,
@@ -128,15 +144,28 @@ impl<O: Operator + Drop> Flow<O> {
         }
         all_stand(self.wires.arcs_of(actor), &self.queues)
     }
+
+    /// How many items wait for an actor.
+    pub(crate) fn waiting(&self, actor: u32) -> u64
+        requires flow { IsFlow (record { rest = O.rest; decides = O.decides; lost = O.lost; place = O.place; taken = O.taken; running = O.running; takes_marks = O.takes_marks; fits = O.fits }) O.valid self.now }
+        requires actor_in { actor ≤ length self.now.seats.items }
+        ensures { result ≡ waiting self.now actor }
+    {
+        if actor == self.wires.replay {
+            return 0;
+        }
+        count_waiting(self.wires.arcs_of(actor), &self.queues)
+    }
 }
 
 impl<O: Operator + Drop> Engine<O> {
     ghost use Rattle.sq_flow.specs.Flows.{IsFlow, Stepped, ShowsPrefix, NoneStrange, measure_of};
-    ghost use Rattle.sq_flow.specs.Readiness.{IsReady, FallsBy};
-    ghost use Rattle.sq_flow.specs.Engines.{IsEngine, ExactFor, AllDone};
+    ghost use Rattle.sq_flow.specs.Readiness.{IsReady, FallsBy, waiting};
+    ghost use Rattle.sq_flow.specs.Engines.{IsEngine, ExactFor, AllDone, listed_after, newly_from};
+    ghost use Rattle.sq_sched.specs.Ready.{OnlyOnce};
     ghost use Rattle.sq_flow.specs.Flows.{HoldsItems, items_in, lines_left, fed_at_last};
-    ghost use Rattle.sq_flow.specs.Seats.{done_at, taken_at, holds_at};
-    ghost use Rattle.sq_flow.specs.Flows.{Rises};
+    ghost use Rattle.sq_flow.specs.Seats.{done_at, taken_at, lost_at, holds_at};
+    ghost use Rattle.sq_flow.specs.Flows.{RiseFrom, tuples_at, CostsFed, CostsAtMost, TooMuchOnly, lost_at_last, work_at_last, taken_in_all};
     ghost use Rattle.sq_flow.specs.Starts.{IsNewSeat, IsNewFlow};
     ghost use Rattle.sq_flow.specs.Wiring.{net_of, IsShaped};
 
@@ -146,68 +175,87 @@ impl<O: Operator + Drop> Engine<O> {
         alloc: Global,
         wires: Wires,
         seats: Vec<Seat<O>>,
-        to_come: VecDeque<(u32, Item)>,
+        sources: Vec<VecDeque<Tuple>>,
         levels: Levels,
         frames: u32,
     ) -> Result<Engine<O>, AllocError>
         requires shaped { IsShaped wires (length seats.items) }
         requires seats { (actor : ℕ) → holds_at (IsNewSeat (record { rest = O.rest; decides = O.decides; lost = O.lost; place = O.place; taken = O.taken; running = O.running; takes_marks = O.takes_marks; fits = O.fits }) O.valid ((net_of wires).takes actor) ((net_of wires).fits actor)) (slice_get seats.items actor) }
-        requires coming { Rises 0 to_come.items }
+        requires coming { (source : ℕ) → RiseFrom 0 (tuples_at (slice_get sources.items source)) }
+        requires few { length sources.items < 2 ^ 32 }
         requires levels { 0 < levels.closed }
         requires frames { 2 ≤ frames }
         ensures engine { IfOk result (λ e. IsEngine (record { rest = O.rest; decides = O.decides; lost = O.lost; place = O.place; taken = O.taken; running = O.running; takes_marks = O.takes_marks; fits = O.fits }) O.valid e) }
-        ensures flow { IfOk result (λ e. IsNewFlow wires seats to_come levels e.flow) }
+        ensures flow { IfOk result (λ e. IsNewFlow wires seats sources levels e.flow) }
     {
-        let actors = wires.replay + 1;
-        let flow = Flow::new(alloc, wires, seats, to_come, levels, frames)?;
-        let ready = Ready::new(alloc, actors)?;
+        let flow = Flow::new(alloc, wires, seats, sources, levels, frames)?;
+        let ready = Ready::new(alloc, flow.wires.replay + 1)?;
+        let waits = vec![in alloc; 0; flow.wires.replay as usize + 1]?;
         let mut engine = Engine {
             flow,
             ready,
-            waits: Vec::new(alloc),
+            waits,
+            outs: Outs::new(alloc),
             failed: false,
         };
-        engine.list_all();
+        engine.list_first();
         Ok(engine)
     }
 
-    /// One more actor is listed where it is ready, and no longer where it isn't.
-    fn list_one(&mut self, actor: u32)
+    /// At the start the replay alone is ready, and each operator that reads no arc.
+    fn list_first(&mut self)
         requires flow { IsFlow (record { rest = O.rest; decides = O.decides; lost = O.lost; place = O.place; taken = O.taken; running = O.running; takes_marks = O.takes_marks; fits = O.fits }) O.valid self.old.flow }
-        requires actors { self.old.ready.actors ≡ length self.old.flow.seats.items + 1 }
-        requires actor_in { actor ≤ length self.old.flow.seats.items }
+        requires actors { self.old.ready ≡ record { actors = length self.old.flow.seats.items + 1; list = [] } }
         ensures flow { self.new.flow ≡ self.old.flow }
-        ensures rest { (self.new.waits ≡ self.old.waits) × (self.new.failed ≡ self.old.failed) × (self.new.ready.actors ≡ self.old.ready.actors) }
-        ensures exact { ExactFor self.new.flow self.new.ready.list actor }
-        ensures others { (x : ℕ) → x ≢ actor → contains self.new.ready.list x ≡ contains self.old.ready.list x }
+        ensures rest { (self.new.outs ≡ self.old.outs) × (self.new.failed ≡ self.old.failed) × (self.new.ready.actors ≡ self.old.ready.actors) × (self.new.waits ≡ self.old.waits) }
+        ensures list { self.new.ready.list ≡ newly_from self.new.flow [] 0 (length self.new.flow.seats.items + 1) }
+        ensures exact { (actor : ℕ) → actor ≤ length self.new.flow.seats.items → ExactFor self.new.flow self.new.ready.list actor }
+        ensures once { OnlyOnce self.new.ready.list }
     {
-        let ops = self.flow.wires.replay;
-        let is = self.flow.is_ready(place_in(ops, actor));
-        let has = self.ready.has(actor);
-        if is && !has {
-            self.ready.push(actor);
-        } else if !is && has {
-            self.ready.remove(actor);
+        for actor in 0..self.flow.wires.replay + 1 {
+            if self.flow.is_ready(place_in(self.flow.wires.replay, actor)) {
+                self.ready.push(actor);
+            }
         }
     }
 
-    /// Exactly the ready actors are listed.
-    fn list_all(&mut self)
-        requires flow { IsFlow (record { rest = O.rest; decides = O.decides; lost = O.lost; place = O.place; taken = O.taken; running = O.running; takes_marks = O.takes_marks; fits = O.fits }) O.valid self.old.flow }
-        requires actors { self.old.ready.actors ≡ length self.old.flow.seats.items + 1 }
-        ensures flow { self.new.flow ≡ self.old.flow }
-        ensures rest { (self.new.waits ≡ self.old.waits) × (self.new.failed ≡ self.old.failed) × (self.new.ready.actors ≡ self.old.ready.actors) }
-        ensures exact { (actor : ℕ) → actor ≤ length self.new.flow.seats.items → ExactFor self.new.flow self.new.ready.list actor }
+    /// Counts anew what waits for an actor.
+    fn count_waits(&mut self, actor: u32)
     {
-        for actor in 0..self.flow.wires.replay + 1 {
-            self.list_one(actor);
+        let place = place_in(self.flow.wires.replay, actor);
+        self.waits[actor as usize] = self.flow.waiting(place);
+    }
+
+    /// After a step the actor goes to the end of the ready list where it is still ready.
+    fn list_again(&mut self, actor: u32)
+    {
+        self.count_waits(actor);
+        if self.flow.is_ready(place_in(self.flow.wires.replay, actor)) {
+            self.ready.push(actor);
+        }
+    }
+
+    /// An operator that reads from the actor of a step is listed where it became ready.
+    fn list_follower(&mut self, follower: u32)
+    {
+        self.count_waits(follower + 1);
+        if !self.ready.has(follower + 1) && self.flow.is_ready(follower) {
+            self.ready.push(follower + 1);
+        }
+    }
+
+    /// The operators that read from the actor of a step are listed, in ascending number, where they became ready.
+    fn list_followers(&mut self, place: u32)
+    {
+        for index in 0..self.flow.wires.followers[place as usize].len() {
+            let follower = self.flow.wires.followers[place as usize][index];
+            self.list_follower(follower);
         }
     }
 
     /// Up to `train` steps of a ready actor.
     pub fn step<D: PageDisk, L: Ledger>(
         &mut self,
-        alloc: Global,
         pick: Pick,
         disk: &mut D,
         events: &mut Vec<Event>,
@@ -219,55 +267,71 @@ impl<O: Operator + Drop> Engine<O> {
         requires some { 1 ≤ pick.train }
         ensures ok { OnOk result (Stepped (record { rest = O.rest; decides = O.decides; lost = O.lost; place = O.place; taken = O.taken; running = O.running; takes_marks = O.takes_marks; fits = O.fits }) O.valid (D.pages disk.old) (D.pages disk.new) self.old.flow self.new.flow events.old.items events.new.items) }
         ensures engine { OnOk result (IsEngine (record { rest = O.rest; decides = O.decides; lost = O.lost; place = O.place; taken = O.taken; running = O.running; takes_marks = O.takes_marks; fits = O.fits }) O.valid self.new) }
+        ensures order { OnOk result (self.new.ready.list ≡ listed_after self.new.flow self.old.ready.list pick.actor) }
         ensures prefix { OnErr result (ShowsPrefix (record { rest = O.rest; decides = O.decides; lost = O.lost; place = O.place; taken = O.taken; running = O.running; takes_marks = O.takes_marks; fits = O.fits }) (D.pages disk.old) self.old.flow self.new.flow.levels events.old.items events.new.items) }
         ensures strange { IfErr result (λ e. NoneStrange (record { rest = O.rest; decides = O.decides; lost = O.lost; place = O.place; taken = O.taken; running = O.running; takes_marks = O.takes_marks; fits = O.fits }) (D.pages disk.old) self.old.flow e) }
         ensures failed { OnErr result (self.new.failed ≡ true) }
         ensures closes { (table : ℕ → ℕ → ℕ) → Agrees self.new.flow.levels table → Agrees self.old.flow.levels table }
+        ensures cost { OnOk result (CostsFed (record { rest = O.rest; decides = O.decides; lost = O.lost; place = O.place; taken = O.taken; running = O.running; takes_marks = O.takes_marks; fits = O.fits }) self.old.flow self.new.flow steps.old steps.new) }
+        ensures cost_err { OnErr result (CostsAtMost (record { rest = O.rest; decides = O.decides; lost = O.lost; place = O.place; taken = O.taken; running = O.running; takes_marks = O.takes_marks; fits = O.fits }) (D.pages disk.old) self.old.flow self.new.flow.levels steps.old steps.new) }
+        ensures too_much { IfErr result (λ e. TooMuchOnly (record { rest = O.rest; decides = O.decides; lost = O.lost; place = O.place; taken = O.taken; running = O.running; takes_marks = O.takes_marks; fits = O.fits }) (D.pages disk.old) self.old.flow self.new.flow e) }
         ensures measure { IfOk result (λ p. FallsBy p.fed p.finished (measure_of self.old.flow) (measure_of self.new.flow)) }
         ensures works { IfOk result (λ p. (p.fed ≡ 0) → p.finished ≡ true) }
         ensures most { IfOk result (λ p. p.fed ≤ pick.train) }
+        ensures stops { IfOk result (λ p. (p.fed ≡ pick.train) ⊎ ((p.finished ≡ true) ⊎ (IsReady self.new.flow (place_in (length self.new.flow.seats.items) pick.actor) → ⊥))) }
     {
         let _listed = self.ready.len();
-        let actor = place_in(self.flow.wires.replay, pick.actor);
+        let place = place_in(self.flow.wires.replay, pick.actor);
         self.ready.remove(pick.actor);
-        match self
-            .flow
-            .train(alloc, disk, actor, pick.train, events, steps)
-        {
+        match self.flow.train(disk, place, pick.train, &mut self.outs, events, steps) {
             Err(e) => {
                 self.failed = true;
                 Err(e)
             }
             Ok(progress) => {
-                self.list_one(pick.actor);
-                self.list_all();
+                self.list_again(pick.actor);
+                self.list_followers(place);
                 Ok(progress)
             }
         }
     }
 
-    /// All actors are finished.
-    fn all_done(&self) -> bool
-        requires { IsFlow (record { rest = O.rest; decides = O.decides; lost = O.lost; place = O.place; taken = O.taken; running = O.running; takes_marks = O.takes_marks; fits = O.fits }) O.valid self.now.flow }
-        ensures yes { result ≡ true → AllDone self.now.flow }
-        ensures no { result ≡ false → (actor : ℕ) × ((actor ≤ length self.now.flow.seats.items) × (done_at self.now.flow.over (slice_get self.now.flow.seats.items actor) ≡ false)) }
+    /// The ready actors, in the order in which they became so.
+    pub fn ready(&self) -> &Ready
+        ensures { result.now ≡ self.now.ready }
     {
-        for actor in 0..self.flow.wires.replay + 1 {
-            if !self.flow.is_done(actor) {
-                return false;
-            }
-        }
-        true
+        &self.ready
     }
 
-    /// The engine runs as long as an actor isn't finished, and then the ready list isn't empty; it is done where all are.
-    pub fn state(&self) -> State
-        requires engine { IsEngine (record { rest = O.rest; decides = O.decides; lost = O.lost; place = O.place; taken = O.taken; running = O.running; takes_marks = O.takes_marks; fits = O.fits }) O.valid self.now }
-        ensures done { result ≡ State.Done → AllDone self.now.flow }
-        ensures runs { result ≡ State.Running → (actor : ℕ) × (contains self.now.ready.list actor ≡ true) }
-        ensures failed { result ≢ State.Failed }
+    /// How many items wait for each actor; 0 for the replay.
+    pub fn waits(&self) -> &Vec<u64>
+        ensures { result.now ≡ self.now.waits }
     {
-        if self.all_done() {
+        &self.waits
+    }
+
+    /// How many tuples an operator was fed.
+    pub fn fed(&self, actor: u32) -> u64
+        requires engine { IsEngine (record { rest = O.rest; decides = O.decides; lost = O.lost; place = O.place; taken = O.taken; running = O.running; takes_marks = O.takes_marks; fits = O.fits }) O.valid self.now }
+        requires there { actor < length self.now.flow.seats.items }
+        ensures { result ≡ taken_at (record { rest = O.rest; decides = O.decides; lost = O.lost; place = O.place; taken = O.taken; running = O.running; takes_marks = O.takes_marks; fits = O.fits }) (slice_get self.now.flow.seats.items actor) }
+    {
+        self.flow.seats[actor as usize].tally.taken
+    }
+
+    /// The engine runs as long as an actor isn't finished, and then the ready list isn't empty; it is done where all are. It has
+    /// failed where a step failed.
+    pub fn state(&self) -> State
+        requires engine { self.now.failed ≡ false → IsEngine (record { rest = O.rest; decides = O.decides; lost = O.lost; place = O.place; taken = O.taken; running = O.running; takes_marks = O.takes_marks; fits = O.fits }) O.valid self.now }
+        ensures done { result ≡ State.Done → AllDone self.now.flow × (self.now.failed ≡ false) }
+        ensures when_done { self.now.failed ≡ false → AllDone self.now.flow → result ≡ State.Done }
+        ensures runs { result ≡ State.Running → (0 < length self.now.ready.list) × (self.now.failed ≡ false) }
+        ensures failed { result ≡ State.Failed → self.now.failed ≡ true }
+        ensures when_failed { self.now.failed ≡ true → result ≡ State.Failed }
+    {
+        if self.failed {
+            State::Failed
+        } else if self.ready.len() == 0 {
             State::Done
         } else {
             State::Running
@@ -282,6 +346,10 @@ impl<O: Operator + Drop> Engine<O> {
             → (output : ℕ) → self.now.flow.wires.shown + output < length self.now.flow.seats.items → lines_left (record { rest = O.rest; decides = O.decides; lost = O.lost; place = O.place; taken = O.taken; running = O.running; takes_marks = O.takes_marks; fits = O.fits }) table (items_in self.now.flow pages) self.now.flow output ≡ [] }
         ensures fed { (pages : Option Pages) (table : ℕ → ℕ → ℕ) → HoldsItems (record { rest = O.rest; decides = O.decides; lost = O.lost; place = O.place; taken = O.taken; running = O.running; takes_marks = O.takes_marks; fits = O.fits }) (items_in self.now.flow pages) self.now.flow → Agrees self.now.flow.levels table
             → (actor : ℕ) → actor < length self.now.flow.seats.items → fed_at_last (record { rest = O.rest; decides = O.decides; lost = O.lost; place = O.place; taken = O.taken; running = O.running; takes_marks = O.takes_marks; fits = O.fits }) table (items_in self.now.flow pages) self.now.flow actor ≡ taken_at (record { rest = O.rest; decides = O.decides; lost = O.lost; place = O.place; taken = O.taken; running = O.running; takes_marks = O.takes_marks; fits = O.fits }) (slice_get self.now.flow.seats.items actor) }
+        ensures lost { (pages : Option Pages) (table : ℕ → ℕ → ℕ) → HoldsItems (record { rest = O.rest; decides = O.decides; lost = O.lost; place = O.place; taken = O.taken; running = O.running; takes_marks = O.takes_marks; fits = O.fits }) (items_in self.now.flow pages) self.now.flow → Agrees self.now.flow.levels table
+            → (actor : ℕ) → actor < length self.now.flow.seats.items → lost_at_last (record { rest = O.rest; decides = O.decides; lost = O.lost; place = O.place; taken = O.taken; running = O.running; takes_marks = O.takes_marks; fits = O.fits }) table (items_in self.now.flow pages) self.now.flow actor ≡ lost_at (record { rest = O.rest; decides = O.decides; lost = O.lost; place = O.place; taken = O.taken; running = O.running; takes_marks = O.takes_marks; fits = O.fits }) (slice_get self.now.flow.seats.items actor) [] }
+        ensures work { (pages : Option Pages) (table : ℕ → ℕ → ℕ) → HoldsItems (record { rest = O.rest; decides = O.decides; lost = O.lost; place = O.place; taken = O.taken; running = O.running; takes_marks = O.takes_marks; fits = O.fits }) (items_in self.now.flow pages) self.now.flow → Agrees self.now.flow.levels table
+            → work_at_last (record { rest = O.rest; decides = O.decides; lost = O.lost; place = O.place; taken = O.taken; running = O.running; takes_marks = O.takes_marks; fits = O.fits }) table (items_in self.now.flow pages) self.now.flow ≡ taken_in_all (record { rest = O.rest; decides = O.decides; lost = O.lost; place = O.place; taken = O.taken; running = O.running; takes_marks = O.takes_marks; fits = O.fits }) self.now.flow }
     {
         let _engine = self;
     }

@@ -1,6 +1,6 @@
 //! The run of operators, one atomic step at a time.
 
-ghost use Rattle.std.specs.Prelude.{◌≡◌, ◌≢◌, ℕ, ◌+◌, ◌-◌, ◌^◌, ◌/◌, ◌<◌, ◌≤◌, ◌∷◌, ◌++◌, ◌==◌, ◌||◌, Bool, true, false, List, [], Option, Some, OnOk, OnErr, IfOk, IfErr, length, slice_get, if◌then◌else◌};
+ghost use Rattle.std.specs.Prelude.{◌≡◌, ◌≢◌, ℕ, ◌+◌, ◌-◌, ◌^◌, ◌/◌, ◌<◌, ◌≤◌, ◌∷◌, ◌++◌, ◌==◌, ◌||◌, Bool, true, false, List, [], Option, Some, None, OnOk, OnErr, IfOk, IfErr, IfSome, length, slice_get, if◌then◌else◌};
 ghost use Rattle.sq_item.specs.Sound.{IsSound};
 ghost use Rattle.sq_oper.specs.Given.{given, ItemsSound};
 ghost use Rattle.sq_oper.specs.declared.outs.Event.{Event};
@@ -11,6 +11,8 @@ ghost use Rattle.sq_queue.specs.Faces.{face, size, items_on, Tells, Together};
 ghost use Rattle.sq_flow.specs.Wiring.{arcs_from, from_of, pushed_by, AllOutsFine};
 ghost use Rattle.sq_flow.specs.Sends.{sent_to, Pushes};
 ghost use Rattle.sq_flow.specs.Events.{lines_of, bodies};
+ghost use Rattle.sq_flow.specs.Flows.{tuples_at};
+ghost use Rattle.sq_flow.specs.Sources.{IsNextSource};
 
 use crate::errors::RunErr;
 use crate::heads::{Next, next_of};
@@ -23,18 +25,18 @@ use sq_oper::{Event, Operator, Outs};
 use sq_outside::{PageDisk, Steps};
 use sq_queue::Queues;
 use sq_road::Levels;
-use std::alloc::Global;
+use sq_value::Tuple;
 use std::collections::VecDeque;
 use std::sync::ledger::Ledger;
 
-/// Operators joined by queues, and a replay of what is still to be released, each item with its source.
+/// Operators joined by queues, and a replay of what each source has still to release.
 #[derive(Drop)]
 pub struct Flow<O> {
     pub wires: Wires,
     pub seats: Vec<Seat<O>>,
     pub over: bool,
     pub queues: Queues,
-    pub to_come: VecDeque<(u32, Item)>,
+    pub sources: Vec<VecDeque<Tuple>>,
     pub clock: u64,
     pub levels: Levels,
     pub taken: u64,
@@ -61,23 +63,34 @@ fn reach(levels: &mut Levels, time: u64)
     }
 }
 
-/// Takes the first of what is still to be released.
-fn first_of(items: &mut VecDeque<(u32, Item)>) -> (u32, Item)
-    requires { 0 < length items.old.items }
-    ensures { items.old.items ≡ result ∷ items.new.items }
+/// The source that releases next: that of the least time, and of these the first; none where nothing is left.
+pub(crate) fn next_source(sources: &Vec<VecDeque<Tuple>>) -> Option<u32>
+    requires { length sources.now.items < 2 ^ 32 }
+    ensures none { result ≡ None → (source : ℕ) → tuples_at (slice_get sources.now.items source) ≡ [] }
+    ensures some { IfSome result (λ source. IsNextSource sources.now.items source) }
 {
-    match items.pop_front() {
-        Some(item) => item,
-        None => unreachable!(),
+    let mut best = None;
+    let mut least = 0;
+    for source in 0..sources.len() {
+        if let Some(tuple) = sources[source].front() {
+            if best.is_none() || tuple.time < least {
+                best = Some(source as u32);
+                least = tuple.time;
+            }
+        }
     }
+    best
 }
 
-/// Nothing is left in what an operator gave; the memory is kept.
-fn clear(outs: &mut Outs)
-    ensures { (outs.new.items.items ≡ []) × (outs.new.drops.items ≡ []) }
+/// Takes the first tuple of a source.
+fn first_of(tuples: &mut VecDeque<Tuple>) -> Tuple
+    requires { 0 < length tuples.old.items }
+    ensures { tuples.old.items ≡ result ∷ tuples.new.items }
 {
-    outs.items.clear();
-    outs.drops.clear();
+    match tuples.pop_front() {
+        Some(tuple) => tuple,
+        None => unreachable!(),
+    }
 }
 
 /// An arc ends if this is so.
@@ -111,7 +124,8 @@ fn end_arcs(wires: &Wires, queues: &mut Queues, actor: u32)
 }
 
 impl<O: Operator + Drop> Flow<O> {
-    ghost use Rattle.sq_flow.specs.Flows.{IsFlow, Stepped, ShowsPrefix, NoneStrange, Lowers, measure_of};
+    ghost use Rattle.sq_flow.specs.Flows.{IsFlow, Stepped, ShowsPrefix, NoneStrange, CostsFed, CostsAtMost, TooMuchOnly, taken_in_all, to_release, measure_of};
+    ghost use Rattle.sq_flow.specs.Readiness.{TouchesOnly};
     ghost use Rattle.sq_flow.specs.Wiring.{arcs_read};
     ghost use Rattle.sq_flow.specs.Heads.{NextUpTo};
     ghost use Rattle.sq_flow.specs.Seats.{done_at};
@@ -138,6 +152,10 @@ impl<O: Operator + Drop> Flow<O> {
         ensures prefix { OnErr result (ShowsPrefix (record { rest = O.rest; decides = O.decides; lost = O.lost; place = O.place; taken = O.taken; running = O.running; takes_marks = O.takes_marks; fits = O.fits }) (D.pages disk.old) self.old self.new.levels events.old.items events.new.items) }
         ensures strange { IfErr result (λ e. NoneStrange (record { rest = O.rest; decides = O.decides; lost = O.lost; place = O.place; taken = O.taken; running = O.running; takes_marks = O.takes_marks; fits = O.fits }) (D.pages disk.old) self.old e) }
         ensures none { OnOk result ((outs.new.items.items ≡ []) × (outs.new.drops.items ≡ [])) }
+        ensures touches { OnOk result (TouchesOnly actor self.old self.new) }
+        ensures cost { OnOk result (CostsFed (record { rest = O.rest; decides = O.decides; lost = O.lost; place = O.place; taken = O.taken; running = O.running; takes_marks = O.takes_marks; fits = O.fits }) self.old self.new steps.old steps.new) }
+        ensures cost_err { OnErr result (CostsAtMost (record { rest = O.rest; decides = O.decides; lost = O.lost; place = O.place; taken = O.taken; running = O.running; takes_marks = O.takes_marks; fits = O.fits }) (D.pages disk.old) self.old self.new.levels steps.old steps.new) }
+        ensures too_much { IfErr result (λ e. TooMuchOnly (record { rest = O.rest; decides = O.decides; lost = O.lost; place = O.place; taken = O.taken; running = O.running; takes_marks = O.takes_marks; fits = O.fits }) (D.pages disk.old) self.old self.new e) }
         ensures closes { (table : ℕ → ℕ → ℕ) → Agrees self.new.levels table → Agrees self.old.levels table }
         ensures measure { OnOk result (measure_of self.new + 1 ≤ measure_of self.old) }
     {
@@ -162,16 +180,15 @@ impl<O: Operator + Drop> Flow<O> {
             steps,
         )?;
         give(&self.wires, &mut self.queues, disk, actor, outs, events)?;
-        clear(outs);
         Ok(())
     }
 
     /// Finishes an operator whose arcs have ended.
     pub(crate) fn finish_step<D: PageDisk>(
         &mut self,
-        alloc: Global,
         disk: &mut D,
         actor: u32,
+        outs: &mut Outs,
         events: &mut Vec<Event>,
     ) -> Result<(), RunErr>
         requires flow { IsFlow (record { rest = O.rest; decides = O.decides; lost = O.lost; place = O.place; taken = O.taken; running = O.running; takes_marks = O.takes_marks; fits = O.fits }) O.valid self.old }
@@ -179,51 +196,64 @@ impl<O: Operator + Drop> Flow<O> {
         requires actor_in { actor < length self.old.seats.items }
         requires head { NextUpTo (arcs_read self.old.wires actor) (λ a. (face self.old.queues a).first) (λ a. (face self.old.queues a).ended) (length (arcs_read self.old.wires actor)) Next.Ended }
         requires running { done_at self.old.over (slice_get self.old.seats.items actor) ≡ false }
+        requires none { (outs.old.items.items ≡ []) × (outs.old.drops.items ≡ []) }
         ensures ok { OnOk result (Stepped (record { rest = O.rest; decides = O.decides; lost = O.lost; place = O.place; taken = O.taken; running = O.running; takes_marks = O.takes_marks; fits = O.fits }) O.valid (D.pages disk.old) (D.pages disk.new) self.old self.new events.old.items events.new.items) }
         ensures prefix { OnErr result (ShowsPrefix (record { rest = O.rest; decides = O.decides; lost = O.lost; place = O.place; taken = O.taken; running = O.running; takes_marks = O.takes_marks; fits = O.fits }) (D.pages disk.old) self.old self.new.levels events.old.items events.new.items) }
         ensures strange { IfErr result (λ e. NoneStrange (record { rest = O.rest; decides = O.decides; lost = O.lost; place = O.place; taken = O.taken; running = O.running; takes_marks = O.takes_marks; fits = O.fits }) (D.pages disk.old) self.old e) }
+        ensures memory { IfErr result (λ e. e ≢ RunErr.TooMuch) }
+        ensures none { OnOk result ((outs.new.items.items ≡ []) × (outs.new.drops.items ≡ [])) }
+        ensures touches { OnOk result (TouchesOnly actor self.old self.new) }
+        ensures taken { OnOk result (taken_in_all (record { rest = O.rest; decides = O.decides; lost = O.lost; place = O.place; taken = O.taken; running = O.running; takes_marks = O.takes_marks; fits = O.fits }) self.new ≡ taken_in_all (record { rest = O.rest; decides = O.decides; lost = O.lost; place = O.place; taken = O.taken; running = O.running; takes_marks = O.takes_marks; fits = O.fits }) self.old) }
         ensures closes { (table : ℕ → ℕ → ℕ) → Agrees self.new.levels table → Agrees self.old.levels table }
         ensures measure { OnOk result (measure_of self.new + 1 ≤ measure_of self.old) }
     {
-        let mut outs = Outs::new(alloc);
-        finish_seat(&mut self.seats[actor as usize], &mut outs)?;
-        give(&self.wires, &mut self.queues, disk, actor, &outs, events)?;
+        finish_seat(&mut self.seats[actor as usize], outs)?;
+        give(&self.wires, &mut self.queues, disk, actor, outs, events)?;
         end_arcs(&self.wires, &mut self.queues, actor);
         Ok(())
     }
 
-    /// Releases the next item of the sources.
+    /// Releases the next tuple of a source, the one of the least time.
     pub(crate) fn release_step<D: PageDisk>(
         &mut self,
         disk: &mut D,
+        source: u32,
         events: &Vec<Event>,
     ) -> Result<(), RunErr>
         requires flow { IsFlow (record { rest = O.rest; decides = O.decides; lost = O.lost; place = O.place; taken = O.taken; running = O.running; takes_marks = O.takes_marks; fits = O.fits }) O.valid self.old }
         requires together { Together self.old.queues (D.pages disk.old) }
-        requires some { 0 < length self.old.to_come.items }
+        requires next { IsNextSource self.old.sources.items source }
         ensures ok { OnOk result (Stepped (record { rest = O.rest; decides = O.decides; lost = O.lost; place = O.place; taken = O.taken; running = O.running; takes_marks = O.takes_marks; fits = O.fits }) O.valid (D.pages disk.old) (D.pages disk.new) self.old self.new events.now.items events.now.items) }
         ensures prefix { OnErr result (ShowsPrefix (record { rest = O.rest; decides = O.decides; lost = O.lost; place = O.place; taken = O.taken; running = O.running; takes_marks = O.takes_marks; fits = O.fits }) (D.pages disk.old) self.old self.new.levels events.now.items events.now.items) }
         ensures strange { IfErr result (λ e. NoneStrange (record { rest = O.rest; decides = O.decides; lost = O.lost; place = O.place; taken = O.taken; running = O.running; takes_marks = O.takes_marks; fits = O.fits }) (D.pages disk.old) self.old e) }
+        ensures memory { IfErr result (λ e. e ≢ RunErr.TooMuch) }
+        ensures touches { OnOk result (TouchesOnly (length self.old.seats.items) self.old self.new) }
+        ensures taken { OnOk result (taken_in_all (record { rest = O.rest; decides = O.decides; lost = O.lost; place = O.place; taken = O.taken; running = O.running; takes_marks = O.takes_marks; fits = O.fits }) self.new ≡ taken_in_all (record { rest = O.rest; decides = O.decides; lost = O.lost; place = O.place; taken = O.taken; running = O.running; takes_marks = O.takes_marks; fits = O.fits }) self.old) }
         ensures closes { (table : ℕ → ℕ → ℕ) → Agrees self.new.levels table → Agrees self.old.levels table }
         ensures measure { OnOk result (measure_of self.new + 1 ≤ measure_of self.old) }
     {
         let _events = events;
-        let (port, item) = first_of(&mut self.to_come);
-        let time = item.time;
-        self.clock = time;
-        reach(&mut self.levels, time);
+        let tuple = first_of(&mut self.sources[source as usize]);
+        self.clock = tuple.time;
+        reach(&mut self.levels, tuple.time);
+        let item = Item {
+            time: tuple.time,
+            mark: None,
+            body: Some(tuple.fields),
+        };
         let replay = self.wires.replay;
-        send_one(&self.wires, &mut self.queues, disk, replay, port, &item)?;
-        drop(item);
+        send_one(&self.wires, &mut self.queues, disk, replay, source, item)?;
         Ok(())
     }
 
     /// Ends the replay.
     pub(crate) fn end_step(&mut self)
         requires flow { IsFlow (record { rest = O.rest; decides = O.decides; lost = O.lost; place = O.place; taken = O.taken; running = O.running; takes_marks = O.takes_marks; fits = O.fits }) O.valid self.old }
-        requires none { self.old.to_come.items ≡ [] }
+        requires none { (source : ℕ) → to_release self.old source ≡ [] }
         requires running { self.old.over ≡ false }
         ensures ok { (pages : Option Pages) (events : List Event) → Together self.old.queues pages → Stepped (record { rest = O.rest; decides = O.decides; lost = O.lost; place = O.place; taken = O.taken; running = O.running; takes_marks = O.takes_marks; fits = O.fits }) O.valid pages pages self.old self.new events events }
+        ensures touches { TouchesOnly (length self.old.seats.items) self.old self.new }
+        ensures taken { taken_in_all (record { rest = O.rest; decides = O.decides; lost = O.lost; place = O.place; taken = O.taken; running = O.running; takes_marks = O.takes_marks; fits = O.fits }) self.new ≡ taken_in_all (record { rest = O.rest; decides = O.decides; lost = O.lost; place = O.place; taken = O.taken; running = O.running; takes_marks = O.takes_marks; fits = O.fits }) self.old }
         ensures closes { (table : ℕ → ℕ → ℕ) → Agrees self.new.levels table → Agrees self.old.levels table }
         ensures measure { measure_of self.new + 1 ≤ measure_of self.old }
     {

@@ -9,7 +9,6 @@ use crate::errors::RunErr;
 use sq_oper::{Event, Operator};
 use sq_outside::{PageDisk, Steps};
 use sq_sched::Pick;
-use std::alloc::Global;
 use std::sync::ledger::Ledger;
 
 impl<O: Operator + Drop> Engine<O> {
@@ -19,7 +18,6 @@ impl<O: Operator + Drop> Engine<O> {
     /// A step of the actor that is picked, where it is ready.
     fn pick<D: PageDisk, L: Ledger>(
         &mut self,
-        alloc: Global,
         pick: Pick,
         disk: &mut D,
         events: &mut Vec<Event>,
@@ -36,7 +34,7 @@ impl<O: Operator + Drop> Engine<O> {
         if pick.train == 0 || !self.ready.has(pick.actor) {
             return Ok(());
         }
-        match self.step(alloc, pick, disk, events, steps) {
+        match self.step(pick, disk, events, steps) {
             Ok(_) => Ok(()),
             Err(e) => Err(e),
         }
@@ -46,7 +44,6 @@ impl<O: Operator + Drop> Engine<O> {
     /// and then what is left, stays the same.
     pub fn run<D: PageDisk, L: Ledger>(
         &mut self,
-        alloc: Global,
         picks: &[Pick],
         disk: &mut D,
         events: &mut Vec<Event>,
@@ -60,7 +57,7 @@ impl<O: Operator + Drop> Engine<O> {
         ensures strange { IfErr result (λ e. NoneStrange (record { rest = O.rest; decides = O.decides; lost = O.lost; place = O.place; taken = O.taken; running = O.running; takes_marks = O.takes_marks; fits = O.fits }) (D.pages disk.old) self.old.flow e) }
     {
         for pick in picks {
-            match self.pick(alloc, *pick, disk, events, steps) {
+            match self.pick(*pick, disk, events, steps) {
                 Ok(()) => {}
                 Err(e) => return Err(e),
             }

@@ -16,26 +16,29 @@ use sq_item::Item;
 use sq_oper::{Event, Outs};
 use sq_outside::PageDisk;
 use sq_queue::{QueueErr, Queues};
-use sq_value::{Tuple, copy_fields};
+use sq_value::Tuple;
 use std::alloc::AllocError;
 
-/// An item goes to each of these arcs.
+/// An item goes to each of these arcs: a copy to each but the last, and to the last the item itself.
 fn send_item<D: PageDisk>(
     arcs: &Vec<u32>,
     queues: &mut Queues,
     disk: &mut D,
-    item: &Item,
+    item: Item,
 ) -> Result<(), QueueErr>
     requires there { (place arc : ℕ) → slice_get arcs.now.items place ≡ Some arc → (arc < size queues.old) × ((face queues.old arc).ended ≡ false) }
-    requires sound { IsSound item.now }
+    requires sound { IsSound item }
     requires together { Together queues.old (D.pages disk.old) }
-    ensures { OnOk result (Pushes queues.old queues.new (D.pages disk.old) (D.pages disk.new) (λ arc. many (times_in arc arcs.now.items) (spread item.now)) (λ time. item.now.time ≤ time)) }
+    ensures { OnOk result (Pushes queues.old queues.new (D.pages disk.old) (D.pages disk.new) (λ arc. many (times_in arc arcs.now.items) (spread item)) (λ time. item.time ≤ time) (λ arc. contains arcs.now.items arc)) }
 {
-    for place in 0..arcs.len() {
-        let arc = arcs[place];
-        queues.push(disk, arc, item)?;
+    let count = arcs.len();
+    if count == 0 {
+        return Ok(());
     }
-    Ok(())
+    for place in 0..count - 1 {
+        queues.push(disk, arcs[place], &item)?;
+    }
+    queues.send(disk, arcs[count - 1], item)
 }
 
 /// An item that an actor gives at a port goes to each arc that comes from there.
@@ -45,18 +48,17 @@ pub(crate) fn send_one<D: PageDisk>(
     disk: &mut D,
     actor: u32,
     port: u32,
-    item: &Item,
+    item: Item,
 ) -> Result<(), QueueErr>
     requires within { actor < length wires.now.readers.items }
     requires there { (place arc : ℕ) → slice_get (arcs_from wires.now actor port) place ≡ Some arc → (arc < size queues.old) × ((face queues.old arc).ended ≡ false) }
-    requires sound { IsSound item.now }
+    requires sound { IsSound item }
     requires together { Together queues.old (D.pages disk.old) }
-    ensures { OnOk result (Pushes queues.old queues.new (D.pages disk.old) (D.pages disk.new) (λ arc. many (times_in arc (arcs_from wires.now actor port)) (spread item.now)) (λ time. item.now.time ≤ time)) }
+    ensures { OnOk result (Pushes queues.old queues.new (D.pages disk.old) (D.pages disk.new) (λ arc. many (times_in arc (arcs_from wires.now actor port)) (spread item)) (λ time. item.time ≤ time) (λ arc. contains (arcs_from wires.now actor port) arc)) }
 {
     let rows = &wires.readers[actor as usize];
     if (port as usize) < rows.len() {
-        let arcs = &rows[port as usize];
-        send_item(arcs, queues, disk, item)?;
+        send_item(&rows[port as usize], queues, disk, item)?;
     }
     Ok(())
 }
@@ -67,30 +69,29 @@ pub(crate) fn send_all<D: PageDisk>(
     queues: &mut Queues,
     disk: &mut D,
     actor: u32,
-    outs: &Outs,
+    items: &mut Vec<(u32, Item)>,
 ) -> Result<(), QueueErr>
     requires within { actor < length wires.now.readers.items }
     requires there { (port place arc : ℕ) → slice_get (arcs_from wires.now actor port) place ≡ Some arc → (arc < size queues.old) × ((face queues.old arc).ended ≡ false) }
-    requires sound { ItemsSound outs.now.items.items }
+    requires sound { ItemsSound items.old.items }
     requires together { Together queues.old (D.pages disk.old) }
-    ensures { OnOk result (Pushes queues.old queues.new (D.pages disk.old) (D.pages disk.new) (sent_to wires.now actor outs.now.items.items) (λ time. AllOutsFine time outs.now.items.items)) }
+    ensures sent { OnOk result (Pushes queues.old queues.new (D.pages disk.old) (D.pages disk.new) (sent_to wires.now actor items.old.items) (λ time. AllOutsFine time items.old.items) (comes_from wires.now actor)) }
+    ensures none { OnOk result (items.new.items ≡ []) }
 {
-    for index in 0..outs.items.len() {
-        let out = &outs.items[index];
-        send_one(wires, queues, disk, actor, out.0, &out.1)?;
+    for (port, item) in items.drain(..) {
+        send_one(wires, queues, disk, actor, port, item)?;
     }
     Ok(())
 }
 
 /// Shows the tuple of an item at an output.
 #[tactic(auto, using(crate::proofs::EventLemmas::event_lemmas))]
-fn show_item(output: u32, item: &Item, events: &mut Vec<Event>) -> Result<(), AllocError>
-    ensures shown { OnOk result ((o : ℕ) → lines_of o events.new.items ≡ lines_of o events.old.items ++ (if output == o then bodies (spread item.now) else [])) }
+fn show_item(output: u32, item: Item, events: &mut Vec<Event>) -> Result<(), AllocError>
+    ensures shown { OnOk result ((o : ℕ) → lines_of o events.new.items ≡ lines_of o events.old.items ++ (if output == o then bodies (spread item) else [])) }
     ensures err { OnErr result (events.new.items ≡ events.old.items) }
 {
-    match &item.body {
-        Some(body) => {
-            let fields = copy_fields(body)?;
+    match item.body {
+        Some(fields) => {
             let tuple = Tuple {
                 time: item.time,
                 fields,
@@ -103,62 +104,53 @@ fn show_item(output: u32, item: &Item, events: &mut Vec<Event>) -> Result<(), Al
 }
 
 /// Shows what an output gives at its port 0.
-fn show_one(output: u32, out: &(u32, Item), events: &mut Vec<Event>) -> Result<(), AllocError>
-    ensures shown { OnOk result ((o : ℕ) → lines_of o events.new.items ≡ lines_of o events.old.items ++ (if output == o then bodies (given 0 (out.now ∷ [])) else [])) }
+fn show_one(output: u32, port: u32, item: Item, events: &mut Vec<Event>) -> Result<(), AllocError>
+    ensures shown { OnOk result ((o : ℕ) → lines_of o events.new.items ≡ lines_of o events.old.items ++ (if output == o then bodies (given 0 (record { 0 = port; 1 = item } ∷ [])) else [])) }
     ensures err { OnErr result (events.new.items ≡ events.old.items) }
 {
-    if out.0 == 0 {
-        show_item(output, &out.1, events)?;
+    if port == 0 {
+        show_item(output, item, events)?;
     }
     Ok(())
 }
 
 /// Shows what an output gives.
-pub(crate) fn show_all(output: u32, outs: &Outs, events: &mut Vec<Event>) -> Result<(), AllocError>
-    ensures shown { OnOk result ((o : ℕ) → lines_of o events.new.items ≡ lines_of o events.old.items ++ (if output == o then bodies (given 0 outs.now.items.items) else [])) }
-    ensures prefix { OnErr result ((o : ℕ) → IsPrefixOf (lines_of o events.new.items) (lines_of o events.old.items ++ (if output == o then bodies (given 0 outs.now.items.items) else []))) }
+pub(crate) fn show_all(output: u32, items: &mut Vec<(u32, Item)>, events: &mut Vec<Event>) -> Result<(), AllocError>
+    ensures shown { OnOk result ((o : ℕ) → lines_of o events.new.items ≡ lines_of o events.old.items ++ (if output == o then bodies (given 0 items.old.items) else [])) }
+    ensures prefix { OnErr result ((o : ℕ) → IsPrefixOf (lines_of o events.new.items) (lines_of o events.old.items ++ (if output == o then bodies (given 0 items.old.items) else []))) }
+    ensures none { OnOk result (items.new.items ≡ []) }
 {
-    for index in 0..outs.items.len() {
-        show_one(output, &outs.items[index], events)?;
+    for (port, item) in items.drain(..) {
+        show_one(output, port, item, events)?;
     }
     Ok(())
 }
 
-/// Shows what an actor gives, if it is an output.
-fn show_outs(
-    wires: &Wires,
-    actor: u32,
-    outs: &Outs,
-    events: &mut Vec<Event>,
-) -> Result<(), AllocError>
-    ensures shown { OnOk result ((o : ℕ) → lines_of o events.new.items ≡ lines_of o events.old.items ++ bodies (pushed_by actor outs.now.items.items (wires.now.shown + o) 0)) }
-    ensures prefix { OnErr result ((o : ℕ) → IsPrefixOf (lines_of o events.new.items) (lines_of o events.old.items ++ bodies (pushed_by actor outs.now.items.items (wires.now.shown + o) 0))) }
-{
-    if wires.shown <= actor {
-        show_all(actor - wires.shown, outs, events)?;
-    }
-    Ok(())
-}
-
-/// What an actor gives is shown, and goes to the arcs that come from it.
+/// What an output gives is shown; what another actor gives goes to the arcs that come from it. Nothing stays in `outs` but its memory.
 pub(crate) fn give<D: PageDisk>(
     wires: &Wires,
     queues: &mut Queues,
     disk: &mut D,
     actor: u32,
-    outs: &Outs,
+    outs: &mut Outs,
     events: &mut Vec<Event>,
 ) -> Result<(), RunErr>
     requires within { actor < length wires.now.readers.items }
+    requires shown { wires.now.shown ≤ actor → (port : ℕ) → arcs_from wires.now actor port ≡ [] }
     requires there { (port place arc : ℕ) → slice_get (arcs_from wires.now actor port) place ≡ Some arc → (arc < size queues.old) × ((face queues.old arc).ended ≡ false) }
-    requires sound { ItemsSound outs.now.items.items }
+    requires sound { ItemsSound outs.old.items.items }
     requires together { Together queues.old (D.pages disk.old) }
-    ensures sent { OnOk result (Pushes queues.old queues.new (D.pages disk.old) (D.pages disk.new) (sent_to wires.now actor outs.now.items.items) (λ time. AllOutsFine time outs.now.items.items)) }
-    ensures shown { OnOk result ((o : ℕ) → lines_of o events.new.items ≡ lines_of o events.old.items ++ bodies (pushed_by actor outs.now.items.items (wires.now.shown + o) 0)) }
-    ensures prefix { OnErr result ((o : ℕ) → IsPrefixOf (lines_of o events.new.items) (lines_of o events.old.items ++ bodies (pushed_by actor outs.now.items.items (wires.now.shown + o) 0))) }
+    ensures sent { OnOk result (Pushes queues.old queues.new (D.pages disk.old) (D.pages disk.new) (sent_to wires.now actor outs.old.items.items) (λ time. AllOutsFine time outs.old.items.items) (comes_from wires.now actor)) }
+    ensures shown { OnOk result ((o : ℕ) → lines_of o events.new.items ≡ lines_of o events.old.items ++ bodies (pushed_by actor outs.old.items.items (wires.now.shown + o) 0)) }
+    ensures none { OnOk result ((outs.new.items.items ≡ []) × (outs.new.drops.items ≡ [])) }
+    ensures prefix { OnErr result ((o : ℕ) → IsPrefixOf (lines_of o events.new.items) (lines_of o events.old.items ++ bodies (pushed_by actor outs.old.items.items (wires.now.shown + o) 0))) }
     ensures memory { IfErr result (λ e. e ≡ RunErr.Memory) }
 {
-    show_outs(wires, actor, outs, events)?;
-    send_all(wires, queues, disk, actor, outs)?;
+    outs.drops.clear();
+    if wires.shown <= actor {
+        show_all(actor - wires.shown, &mut outs.items, events)?;
+    } else {
+        send_all(wires, queues, disk, actor, &mut outs.items)?;
+    }
     Ok(())
 }

@@ -1,16 +1,15 @@
 //! Steps of any actor, and trains of them.
 
-ghost use Rattle.std.specs.Prelude.{◌≡◌, ℕ, ◌+◌, ◌≤◌, ◌<◌, true, false, [], OnOk, OnErr, IfOk, IfErr, length, slice_get};
+ghost use Rattle.std.specs.Prelude.{◌≡◌, ◌≢◌, ◌⊎◌, ℕ, ◌+◌, ◌≤◌, ◌<◌, true, false, [], OnOk, OnErr, IfOk, IfErr, length, slice_get};
 ghost use Rattle.sq_road.specs.Levels.{Agrees};
 ghost use Rattle.sq_queue.specs.Faces.{Together};
 
 use crate::errors::RunErr;
-use crate::flow::{Did, Flow};
+use crate::flow::{Did, Flow, next_source};
 use crate::heads::{Next, next_of};
 use sq_oper::{Event, Operator, Outs};
 use sq_outside::{PageDisk, Steps};
 use sq_queue::Head;
-use std::alloc::Global;
 use std::sync::ledger::Ledger;
 
 /// How many items an actor was fed, or the replay released, and whether it is finished.
@@ -21,8 +20,8 @@ pub struct Progress {
 }
 
 impl<O: Operator + Drop> Flow<O> {
-    ghost use Rattle.sq_flow.specs.Flows.{IsFlow, Stepped, ShowsPrefix, NoneStrange, Lowers, measure_of};
-    ghost use Rattle.sq_flow.specs.Readiness.{IsReady, WaitsOnly, FallsBy};
+    ghost use Rattle.sq_flow.specs.Flows.{IsFlow, Stepped, ShowsPrefix, NoneStrange, CostsFed, CostsAtMost, TooMuchOnly, taken_in_all, Lowers, measure_of};
+    ghost use Rattle.sq_flow.specs.Readiness.{IsReady, TouchesOnly, WaitsOnly, FallsBy};
     ghost use Rattle.sq_flow.specs.Seats.{done_at};
 
     /// An actor is finished.
@@ -49,23 +48,28 @@ impl<O: Operator + Drop> Flow<O> {
         ensures ok { OnOk result (Stepped (record { rest = O.rest; decides = O.decides; lost = O.lost; place = O.place; taken = O.taken; running = O.running; takes_marks = O.takes_marks; fits = O.fits }) O.valid (D.pages disk.old) (D.pages disk.new) self.old self.new events.old.items events.new.items) }
         ensures prefix { OnErr result (ShowsPrefix (record { rest = O.rest; decides = O.decides; lost = O.lost; place = O.place; taken = O.taken; running = O.running; takes_marks = O.takes_marks; fits = O.fits }) (D.pages disk.old) self.old self.new.levels events.old.items events.new.items) }
         ensures strange { IfErr result (λ e. NoneStrange (record { rest = O.rest; decides = O.decides; lost = O.lost; place = O.place; taken = O.taken; running = O.running; takes_marks = O.takes_marks; fits = O.fits }) (D.pages disk.old) self.old e) }
+        ensures touches { OnOk result (TouchesOnly (length self.old.seats.items) self.old self.new) }
+        ensures memory { IfErr result (λ e. e ≢ RunErr.TooMuch) }
+        ensures taken { OnOk result (taken_in_all (record { rest = O.rest; decides = O.decides; lost = O.lost; place = O.place; taken = O.taken; running = O.running; takes_marks = O.takes_marks; fits = O.fits }) self.new ≡ taken_in_all (record { rest = O.rest; decides = O.decides; lost = O.lost; place = O.place; taken = O.taken; running = O.running; takes_marks = O.takes_marks; fits = O.fits }) self.old) }
         ensures closes { (table : ℕ → ℕ → ℕ) → Agrees self.new.levels table → Agrees self.old.levels table }
         ensures measure { IfOk result (λ did. Lowers did (measure_of self.old) (measure_of self.new)) }
         ensures works { IfOk result (λ did. WaitsOnly did ⊥) }
     {
-        if self.to_come.is_empty() {
-            self.end_step();
-            Ok(Did::Finished)
-        } else {
-            self.release_step(disk, events)?;
-            Ok(Did::Fed)
+        match next_source(&self.sources) {
+            None => {
+                self.end_step();
+                Ok(Did::Finished)
+            }
+            Some(source) => {
+                self.release_step(disk, source, events)?;
+                Ok(Did::Fed)
+            }
         }
     }
 
     /// One step of an operator.
     fn operator_step<D: PageDisk, L: Ledger>(
         &mut self,
-        alloc: Global,
         disk: &mut D,
         actor: u32,
         outs: &mut Outs,
@@ -81,6 +85,10 @@ impl<O: Operator + Drop> Flow<O> {
         ensures prefix { OnErr result (ShowsPrefix (record { rest = O.rest; decides = O.decides; lost = O.lost; place = O.place; taken = O.taken; running = O.running; takes_marks = O.takes_marks; fits = O.fits }) (D.pages disk.old) self.old self.new.levels events.old.items events.new.items) }
         ensures strange { IfErr result (λ e. NoneStrange (record { rest = O.rest; decides = O.decides; lost = O.lost; place = O.place; taken = O.taken; running = O.running; takes_marks = O.takes_marks; fits = O.fits }) (D.pages disk.old) self.old e) }
         ensures none { OnOk result ((outs.new.items.items ≡ []) × (outs.new.drops.items ≡ [])) }
+        ensures touches { OnOk result (TouchesOnly actor self.old self.new) }
+        ensures cost { OnOk result (CostsFed (record { rest = O.rest; decides = O.decides; lost = O.lost; place = O.place; taken = O.taken; running = O.running; takes_marks = O.takes_marks; fits = O.fits }) self.old self.new steps.old steps.new) }
+        ensures cost_err { OnErr result (CostsAtMost (record { rest = O.rest; decides = O.decides; lost = O.lost; place = O.place; taken = O.taken; running = O.running; takes_marks = O.takes_marks; fits = O.fits }) (D.pages disk.old) self.old self.new.levels steps.old steps.new) }
+        ensures too_much { IfErr result (λ e. TooMuchOnly (record { rest = O.rest; decides = O.decides; lost = O.lost; place = O.place; taken = O.taken; running = O.running; takes_marks = O.takes_marks; fits = O.fits }) (D.pages disk.old) self.old self.new e) }
         ensures closes { (table : ℕ → ℕ → ℕ) → Agrees self.new.levels table → Agrees self.old.levels table }
         ensures measure { IfOk result (λ did. Lowers did (measure_of self.old) (measure_of self.new)) }
         ensures works { IfOk result (λ did. WaitsOnly did (IsReady self.old actor → ⊥)) }
@@ -88,7 +96,7 @@ impl<O: Operator + Drop> Flow<O> {
         match next_of(&self.wires, &self.queues, actor) {
             Next::Waits => Ok(Did::Waits),
             Next::Ended => {
-                self.finish_step(alloc, disk, actor, events)?;
+                self.finish_step(disk, actor, outs, events)?;
                 Ok(Did::Finished)
             }
             Next::Feed { time, port, arc } => {
@@ -101,7 +109,6 @@ impl<O: Operator + Drop> Flow<O> {
     /// One step of an actor; none where it isn't ready.
     pub fn one_step<D: PageDisk, L: Ledger>(
         &mut self,
-        alloc: Global,
         disk: &mut D,
         actor: u32,
         outs: &mut Outs,
@@ -116,6 +123,10 @@ impl<O: Operator + Drop> Flow<O> {
         ensures prefix { OnErr result (ShowsPrefix (record { rest = O.rest; decides = O.decides; lost = O.lost; place = O.place; taken = O.taken; running = O.running; takes_marks = O.takes_marks; fits = O.fits }) (D.pages disk.old) self.old self.new.levels events.old.items events.new.items) }
         ensures strange { IfErr result (λ e. NoneStrange (record { rest = O.rest; decides = O.decides; lost = O.lost; place = O.place; taken = O.taken; running = O.running; takes_marks = O.takes_marks; fits = O.fits }) (D.pages disk.old) self.old e) }
         ensures none { OnOk result ((outs.new.items.items ≡ []) × (outs.new.drops.items ≡ [])) }
+        ensures touches { OnOk result (TouchesOnly actor self.old self.new) }
+        ensures cost { OnOk result (CostsFed (record { rest = O.rest; decides = O.decides; lost = O.lost; place = O.place; taken = O.taken; running = O.running; takes_marks = O.takes_marks; fits = O.fits }) self.old self.new steps.old steps.new) }
+        ensures cost_err { OnErr result (CostsAtMost (record { rest = O.rest; decides = O.decides; lost = O.lost; place = O.place; taken = O.taken; running = O.running; takes_marks = O.takes_marks; fits = O.fits }) (D.pages disk.old) self.old self.new.levels steps.old steps.new) }
+        ensures too_much { IfErr result (λ e. TooMuchOnly (record { rest = O.rest; decides = O.decides; lost = O.lost; place = O.place; taken = O.taken; running = O.running; takes_marks = O.takes_marks; fits = O.fits }) (D.pages disk.old) self.old self.new e) }
         ensures closes { (table : ℕ → ℕ → ℕ) → Agrees self.new.levels table → Agrees self.old.levels table }
         ensures measure { IfOk result (λ did. Lowers did (measure_of self.old) (measure_of self.new)) }
         ensures works { IfOk result (λ did. WaitsOnly did (IsReady self.old actor → ⊥)) }
@@ -126,17 +137,17 @@ impl<O: Operator + Drop> Flow<O> {
         if actor == self.wires.replay {
             self.replay_step(disk, events)
         } else {
-            self.operator_step(alloc, disk, actor, outs, events, steps)
+            self.operator_step(disk, actor, outs, events, steps)
         }
     }
 
     /// Up to `train` steps of an actor, as long as it is ready.
     pub fn train<D: PageDisk, L: Ledger>(
         &mut self,
-        alloc: Global,
         disk: &mut D,
         actor: u32,
         train: u32,
+        outs: &mut Outs,
         events: &mut Vec<Event>,
         steps: &mut Steps<L>,
     ) -> Result<Progress, RunErr>
@@ -144,18 +155,24 @@ impl<O: Operator + Drop> Flow<O> {
         requires together { Together self.old.queues (D.pages disk.old) }
         requires actor_in { actor ≤ length self.old.seats.items }
         requires some { 1 ≤ train }
+        requires none { (outs.old.items.items ≡ []) × (outs.old.drops.items ≡ []) }
         ensures ok { OnOk result (Stepped (record { rest = O.rest; decides = O.decides; lost = O.lost; place = O.place; taken = O.taken; running = O.running; takes_marks = O.takes_marks; fits = O.fits }) O.valid (D.pages disk.old) (D.pages disk.new) self.old self.new events.old.items events.new.items) }
         ensures prefix { OnErr result (ShowsPrefix (record { rest = O.rest; decides = O.decides; lost = O.lost; place = O.place; taken = O.taken; running = O.running; takes_marks = O.takes_marks; fits = O.fits }) (D.pages disk.old) self.old self.new.levels events.old.items events.new.items) }
         ensures strange { IfErr result (λ e. NoneStrange (record { rest = O.rest; decides = O.decides; lost = O.lost; place = O.place; taken = O.taken; running = O.running; takes_marks = O.takes_marks; fits = O.fits }) (D.pages disk.old) self.old e) }
+        ensures touches { OnOk result (TouchesOnly actor self.old self.new) }
+        ensures cost { OnOk result (CostsFed (record { rest = O.rest; decides = O.decides; lost = O.lost; place = O.place; taken = O.taken; running = O.running; takes_marks = O.takes_marks; fits = O.fits }) self.old self.new steps.old steps.new) }
+        ensures cost_err { OnErr result (CostsAtMost (record { rest = O.rest; decides = O.decides; lost = O.lost; place = O.place; taken = O.taken; running = O.running; takes_marks = O.takes_marks; fits = O.fits }) (D.pages disk.old) self.old self.new.levels steps.old steps.new) }
+        ensures too_much { IfErr result (λ e. TooMuchOnly (record { rest = O.rest; decides = O.decides; lost = O.lost; place = O.place; taken = O.taken; running = O.running; takes_marks = O.takes_marks; fits = O.fits }) (D.pages disk.old) self.old self.new e) }
+        ensures none { OnOk result ((outs.new.items.items ≡ []) × (outs.new.drops.items ≡ [])) }
+        ensures stops { IfOk result (λ p. (p.fed ≡ train) ⊎ ((p.finished ≡ true) ⊎ (IsReady self.new actor → ⊥))) }
         ensures closes { (table : ℕ → ℕ → ℕ) → Agrees self.new.levels table → Agrees self.old.levels table }
         ensures measure { IfOk result (λ p. FallsBy p.fed p.finished (measure_of self.old) (measure_of self.new)) }
         ensures works { IfOk result (λ p. IsReady self.old actor → (p.fed ≡ 0) → p.finished ≡ true) }
         ensures most { IfOk result (λ p. p.fed ≤ train) }
     {
-        let mut outs = Outs::new(alloc);
         let mut fed = 0;
         'steps: while fed < train {
-            let did = match self.one_step(alloc, disk, actor, &mut outs, events, steps) {
+            let did = match self.one_step(disk, actor, outs, events, steps) {
                 Ok(did) => did,
                 Err(e) => return Err(e),
             };
