@@ -151,9 +151,6 @@ pub enum NetErr {
     /// The version is absent or isn't 1.
     #[error("Version")]
     Version,
-    /// A part that is no fault, but isn't read yet.
-    #[error("NotBuilt {0}")]
-    NotBuilt(Place),
     /// A key is missing, unknown or of another kind.
     #[error("Shape {0}")]
     Shape(Place),

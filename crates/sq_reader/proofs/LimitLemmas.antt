@@ -12,10 +12,11 @@ use Rattle.sq_tables.specs.declared.raw.Setting.{Setting}
 use Rattle.sq_tables.specs.declared.raw.RawBody.{RawBody}
 use Rattle.sq_tables.specs.declared.raw.RawBody.TheVariants.{Filter, Map, Union, BSort, Aggregate, Join}
 use Rattle.sq_tables.specs.declared.raw.RawBox.{RawBox}
+use Rattle.sq_tables.specs.declared.raw.RawOutput.{RawOutput}
 use Rattle.sq_tables.specs.declared.raw.Raw.{Raw}
 use Rattle.sq_tables.specs.Places.{or_else, place_of}
 use Rattle.sq_reader.specs.Limits as limits
-use Rattle.sq_reader.specs.Limits.{body_within, box_within, first_failing, has_between, inputs_within, is_between, is_expression_long, limit_place, source_within, top_within}
+use Rattle.sq_reader.specs.Limits.{body_within, box_within, first_failing, has_between, inputs_within, is_between, is_expression_long, limit_place, output_within, source_within, top_within}
 use Rattle.sq_tables.specs.Shapes.{ports_of}
 use Rattle.sq_graph.specs.declared.BoxKind.{BoxKind}
 use Rattle.sq_graph.specs.declared.BoxKind.TheVariants as boxes
@@ -39,20 +40,29 @@ pub record IsWithin (r : Raw) : Type 0 where
   pub top : top_within r ≡ true
   pub sources : list_all limits.source_within r.sources ≡ true
   pub boxes : list_all box_within r.boxes ≡ true
+  pub outputs : list_all output_within r.outputs ≡ true
 
 pub is_within : (r : Raw) → limit_place r ≡ None → IsWithin r
 is_within r h = by_test (top_within r) refl h
   where
-    rest : Option Place
-    rest = or_else (option_map (place_of part.Source) (first_failing limits.source_within r.sources)) (option_map (place_of part.Box) (first_failing box_within r.boxes))
+    wide_source : Option Place
+    wide_source = option_map (place_of part.Source) (first_failing limits.source_within r.sources)
 
-    by_test : (b : Bool) → top_within r ≡ b → cond b (or_else (option_map (place_of part.Source) (first_failing limits.source_within r.sources)) (option_map (place_of part.Box) (first_failing box_within r.boxes))) (Some (place_of part.Top 0)) ≡ None → IsWithin r
+    wide_box : Option Place
+    wide_box = option_map (place_of part.Box) (first_failing box_within r.boxes)
+
+    wide_output : Option Place
+    wide_output = option_map (place_of part.Output) (first_failing output_within r.outputs)
+
+    by_test : (b : Bool) → top_within r ≡ b → cond b (or_else wide_source (or_else wide_box wide_output)) (Some (place_of part.Top 0)) ≡ None → IsWithin r
     by_test true is e =
-        let parts = neither (option_map (place_of part.Source) (first_failing limits.source_within r.sources)) (option_map (place_of part.Box) (first_failing box_within r.boxes)) e in
+        let parts = neither wide_source (or_else wide_box wide_output) e in
+        let more = neither wide_box wide_output parts.1 in
         record {
           top = is;
           sources = none_failing limits.source_within r.sources (nothing_mapped (place_of part.Source) (first_failing limits.source_within r.sources) parts.0);
-          boxes = none_failing box_within r.boxes (nothing_mapped (place_of part.Box) (first_failing box_within r.boxes) parts.1);
+          boxes = none_failing box_within r.boxes (nothing_mapped (place_of part.Box) (first_failing box_within r.boxes) more.0);
+          outputs = none_failing output_within r.outputs (nothing_mapped (place_of part.Output) (first_failing output_within r.outputs) more.1);
         }
     by_test false is e = cc
 
@@ -63,6 +73,7 @@ pub record Counts (r : Raw) : Type 0 where
   pub outputs : length r.outputs ≤ 32
   pub each_source : list_all source_within r.sources ≡ true
   pub each_box : list_all box_within r.boxes ≡ true
+  pub each_output : list_all output_within r.outputs ≡ true
 
 pub counts_of : (r : Raw) → limit_place r ≡ None → Counts r
 counts_of r h =
@@ -77,6 +88,7 @@ counts_of r h =
       outputs = few 1 32 r.outputs d.1;
       each_source = w.sources;
       each_box = w.boxes;
+      each_output = w.outputs;
     }
 
 pub number_within : (low high : ℕ) (z : ℤ) → is_between low high z ≡ true → sound.is_between low high (nat_of z) ≡ true
@@ -84,6 +96,19 @@ number_within low high (pos n) h = h
 number_within low high (negsuc n) h = cc
 
 -- ---- the parts
+
+pub record OutputWithin (o : RawOutput) : Type 0 where
+  pub light : nat_of o.weight ≤ 1000
+  pub few : length o.graph ≤ 1000
+
+pub output_of : (o : RawOutput) → output_within o ≡ true → OutputWithin o
+output_of o h =
+    let parts = and_parts (is_between 0 1000 o.weight) (has_between 0 1000 o.graph) h in
+    record { light = number_few o.weight parts.0; few = few 0 1000 o.graph parts.1 }
+  where
+    number_few : (z : ℤ) → is_between 0 1000 z ≡ true → nat_of z ≤ 1000
+    number_few (pos n) h = grind (arith, nat_tests)
+    number_few (negsuc n) h = omega arith
 
 pub expression_few : (text : List ℕ) → is_expression_long text ≡ true → length text ≤ 4096
 expression_few text h = few 1 4096 text h

@@ -1,6 +1,6 @@
--- Worked files, by their tables: a box of each kind that has more than inputs, and refusals.
-use Rattle.std.proofs.Common.{◌≡◌, ℕ, List, [], ◌∷◌, refl, ℤ, pos}
-use Rattle.std.specs.Prelude.{Result, Ok, Err, codes}
+-- Worked files, by their tables: a box of each kind that has more than inputs, outputs with weights and graphs, and refusals.
+use Rattle.std.proofs.Common.{◌≡◌, ℕ, List, [], ◌∷◌, refl, ℤ, pos, negsuc}
+use Rattle.std.specs.Prelude.{Result, Ok, Err, codes, replicate}
 use Rattle.std.specs.Fmt.{digits}
 use Rattle.sq_value.specs.Values.{Columns}
 use Rattle.sq_value.specs.declared.Kind.TheVariants as kind
@@ -8,9 +8,11 @@ use Rattle.sq_value.specs.declared.Value.TheVariants as value
 use Rattle.sq_expr.specs.declared.CompareOp.TheVariants as compare
 use Rattle.sq_expr.specs.Trees.{Literal, Field, Compare}
 use Rattle.sq_aggfn.specs.declared.Func.TheVariants as func
+use Rattle.sq_qos.specs.declared.GraphErr.TheVariants as graph
 use Rattle.sq_graph.specs.declared.BoxKind.TheVariants as boxes
 use Rattle.sq_net.specs.declared.Network.{Network}
 use Rattle.sq_net.specs.declared.Node.{Node}
+use Rattle.sq_net.specs.declared.Output.{Output}
 use Rattle.sq_net.specs.declared.NetErr.{NetErr}
 use Rattle.sq_net.specs.declared.Part.TheVariants as part
 use Rattle.sq_net.specs.declared.NetErr.TheVariants as broken
@@ -21,9 +23,15 @@ use Rattle.sq_tables.specs.declared.raw.Over.TheVariants.{Sum, First}
 use Rattle.sq_tables.specs.declared.raw.Answer.TheVariants.{Count, Field as OfField}
 use Rattle.sq_tables.specs.declared.raw.RawBody.{RawBody}
 use Rattle.sq_tables.specs.declared.raw.RawBody.TheVariants.{Filter, BSort, Aggregate, Join}
+use Rattle.sq_tables.specs.declared.raw.RawOutput.{RawOutput}
 use Rattle.sq_tables.specs.declared.raw.Raw.{Raw}
 use Rattle.sq_tables.specs.Places.{place_at}
+use Rattle.sq_tables.specs.Shapes.{even_points}
 use Rattle.sq_reader.specs.Networks.{typed_network}
+
+-- an output with the default weight and graph
+abbrev shown_of : List ℕ → RawOutput
+shown_of stream = record { name = codes "o"; from = stream; weight = pos 1; graph = even_points }
 
 abbrev source_of : List ℕ → List (List ℕ) → RawSource
 source_of name fields = record { name = name; file = codes "s.csv"; fields = fields }
@@ -35,7 +43,7 @@ file_of b tolls from shown = record {
   batch = pos 1;
   sources = source_of (codes "s") (codes "v:int" ∷ []) ∷ [];
   boxes = record { name = codes "b"; body = b; ins = from ∷ []; cost = pos 1; selectivity = tolls } ∷ [];
-  outputs = record { name = codes "o"; from = shown } ∷ [];
+  outputs = shown_of shown ∷ [];
 }
 
 abbrev filter_file : List ℕ → List ℕ → Raw
@@ -93,7 +101,7 @@ aggregate_file size advance group give = record {
   batch = pos 1;
   sources = source_of (codes "s") (codes "k:text" ∷ codes "v:int" ∷ []) ∷ [];
   boxes = record { name = codes "a"; body = Aggregate (pos size) (pos advance) group give; ins = codes "s" ∷ []; cost = pos 1; selectivity = pos 1000 ∷ [] } ∷ [];
-  outputs = record { name = codes "o"; from = codes "a" } ∷ [];
+  outputs = shown_of (codes "a") ∷ [];
 }
 
 one_aggregate : boxes_in (typed_network (aggregate_file 10 5 (codes "k" ∷ []) (record { name = codes "t"; answer = OfField Sum (codes "v") } ∷ counted ∷ []))) ≡ Ok (record {
@@ -126,7 +134,7 @@ join_file on = record {
   batch = pos 1;
   sources = source_of (codes "l") (codes "v:int" ∷ []) ∷ source_of (codes "r") (codes "v:int" ∷ codes "w:bool" ∷ []) ∷ [];
   boxes = record { name = codes "j"; body = Join (pos 2) on; ins = codes "l" ∷ codes "r" ∷ []; cost = pos 1; selectivity = pos 1000 ∷ [] } ∷ [];
-  outputs = record { name = codes "o"; from = codes "j" } ∷ [];
+  outputs = shown_of (codes "j") ∷ [];
 }
 
 abbrev pairs : Columns
@@ -143,3 +151,68 @@ one_join = refl
 
 join_on_number : typed_network (join_file (codes "l_v")) ≡ Err (broken.Typing (place_at part.Box 0 0))
 join_on_number = refl
+
+-- ---- weights and graphs
+
+abbrev output_of : List ℕ → ℤ → List (ℤ × ℤ) → RawOutput
+output_of name weight points = record { name = name; from = codes "s"; weight = weight; graph = points }
+
+-- the source s with this field, and these outputs
+abbrev output_file : List ℕ → List RawOutput → Raw
+output_file field outputs = record {
+  epoch = pos 1000;
+  batch = pos 1;
+  sources = source_of (codes "s") (field ∷ []) ∷ [];
+  boxes = [];
+  outputs = outputs;
+}
+
+abbrev outputs_read : Result Network NetErr → Result (List Output) NetErr
+outputs_read (Ok n) = Ok n.outputs
+outputs_read (Err e) = Err e
+
+abbrev graphed : List (ℤ × ℤ) → Result (List Output) NetErr
+graphed points = outputs_read (typed_network (output_file (codes "v:int") (output_of (codes "o") (pos 1) points ∷ [])))
+
+abbrev weighed : ℤ → Result (List Output) NetErr
+weighed weight = outputs_read (typed_network (output_file (codes "v:int") (output_of (codes "o") weight even_points ∷ [])))
+
+bent : graphed ((pos 0, pos 0) ∷ (pos 500, pos 800000) ∷ (pos 1000, pos 1000000) ∷ [])
+    ≡ Ok (record { name = codes "o"; weight = 1; graph = (0, 0) ∷ (500, 800000) ∷ (1000, 1000000) ∷ [] } ∷ [])
+bent = refl
+
+steep : graphed ((pos 0, pos 0) ∷ (pos 500, pos 100) ∷ (pos 1000, pos 900) ∷ []) ≡ Err (broken.Graph (place_at part.Output 0 0) graph.NotConcave)
+steep = refl
+
+falls_and_steep : graphed ((pos 0, pos 0) ∷ (pos 100, pos 1) ∷ (pos 200, pos 9) ∷ (pos 1000, pos 8) ∷ []) ≡ Err (broken.Graph (place_at part.Output 0 0) graph.Falls)
+falls_and_steep = refl
+
+ends_and_falls : graphed ((pos 50, pos 5) ∷ (pos 1000, pos 4) ∷ []) ≡ Err (broken.Graph (place_at part.Output 0 0) graph.Ends)
+ends_and_falls = refl
+
+grid_and_ends : graphed ((pos 30, pos 0) ∷ []) ≡ Err (broken.Graph (place_at part.Output 0 0) graph.Grid)
+grid_and_ends = refl
+
+many_and_off_the_grid : graphed (replicate 22 (negsuc 0, pos 4294967296)) ≡ Err (broken.Graph (place_at part.Output 0 0) graph.TooMany)
+many_and_off_the_grid = refl
+
+negative : graphed ((pos 0, negsuc 0) ∷ (pos 1000, pos 1) ∷ []) ≡ Err (broken.Graph (place_at part.Output 0 0) graph.Grid)
+negative = refl
+
+-- 2^32 + 1000 isn't taken for 1000
+far : graphed ((pos 0, pos 0) ∷ (pos 4294968296, pos 1) ∷ []) ≡ Err (broken.Graph (place_at part.Output 0 0) graph.Grid)
+far = refl
+
+no_weight : weighed (pos 0) ≡ Ok (record { name = codes "o"; weight = 0; graph = (0, 0) ∷ (1000, 1000000) ∷ [] } ∷ [])
+no_weight = refl
+
+most_weight : weighed (pos 1000) ≡ Ok (record { name = codes "o"; weight = 1000; graph = (0, 0) ∷ (1000, 1000000) ∷ [] } ∷ [])
+most_weight = refl
+
+too_heavy : weighed (pos 1001) ≡ Err (broken.Limit (place_at part.Output 0 0))
+too_heavy = refl
+
+-- the graph comes before the fields of the source, and the second output is the one at fault
+second_graph : typed_network (output_file (codes "v:real") (output_of (codes "o") (pos 7) even_points ∷ output_of (codes "p") (pos 1) [] ∷ []))
+    ≡ Err (broken.Graph (place_at part.Output 1 0) graph.Ends)
+second_graph = refl

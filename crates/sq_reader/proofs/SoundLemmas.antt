@@ -1,6 +1,6 @@
 -- A network that is read is sound.
-use Rattle.std.proofs.Common.{◌≡◌, ◌∙◌, sym, ap, subst, refl, ℕ, ◌<◌, ◌^◌, true, false, ◌&&◌, List, [], ◌∷◌, map, length, Option, Some, None, slice_get, get_or, arith, inl, inr}
-use Rattle.std.specs.Prelude.{Result, Ok, Err, IfOk}
+use Rattle.std.proofs.Common.{◌≡◌, ◌∙◌, sym, ap, subst, refl, ℕ, suc, ◌<◌, ◌^◌, true, false, ◌&&◌, List, [], ◌∷◌, map, length, Option, Some, None, slice_get, get_or, arith, inl, inr}
+use Rattle.std.specs.Prelude.{nat_le, ℤ, Result, Ok, Err, IfOk}
 use Rattle.std.specs.List.{All, cons_option, filter_map, find, list_all, AllByRecursion}
 use Rattle.std.specs.Option.{option_map}
 use Rattle.std.proofs.lemmas.Bool.{cases_lt}
@@ -35,7 +35,7 @@ use Rattle.sq_tables.specs.declared.raw.Raw.{Raw}
 use Rattle.sq_tables.specs.Places.{place_of}
 use Rattle.sq_tables.specs.Refusals.{Answers}
 use Rattle.sq_tables.specs.Documents.{document_in}
-use Rattle.sq_tables.specs.Rawly.{◌>>=◌, or_broken, raw_from, raw_of, unless_at}
+use Rattle.sq_tables.specs.Rawly.{◌>>=◌, or_broken, raw_from, raw_of}
 use Rattle.sq_tables.proofs.EvenLemmas.{answer_even}
 use Rattle.sq_tables.specs.Shapes.{AreEven, IsEven}
 use Rattle.sq_reader.specs.Limits as limits
@@ -47,9 +47,10 @@ use Rattle.sq_reader.specs.Streaming.{box_wires, cycle_in, stream_named, stream_
 use Rattle.sq_reader.specs.Sources.{sources_from}
 use Rattle.sq_reader.specs.Columns.{columns_known, columns_taken, nat_of, no_nodes, node_known, node_of_box, nodes_from}
 use Rattle.sq_reader.specs.Windows.{has_window, window_place}
-use Rattle.sq_reader.specs.Networks.{named_network, network_in, network_of, ordered_network, output_of, single_network, streamed_network, typed_network, windowed_network, wired_network}
-use Rattle.sq_reader.proofs.LimitLemmas.{is_within, number_within}
-use Rattle.sq_reader.proofs.ListLemmas.{all_by_place, and_both, and_parts, each_passes, maps_same, none_failing, nothing_mapped, passes_at}
+use Rattle.sq_reader.specs.Networks.{graphed_network, named_network, network_in, network_of, ordered_network, single_network, streamed_network, typed_network, unless_at, unless_fault, windowed_network, wired_network}
+use Rattle.sq_reader.specs.Outputs.{graph_fault, output_of, points_of}
+use Rattle.sq_reader.proofs.LimitLemmas.{is_within, number_within, output_of as output_limits}
+use Rattle.sq_reader.proofs.ListLemmas.{all_by_place, and_both, and_parts, each_passes, is_at_most, maps_same, none_failing, nothing_mapped, passes_at}
 use Rattle.sq_reader.proofs.WiringLemmas.{is_wired, outputs_shown}
 use Rattle.sq_tables.proofs.ShapedLemmas.{first_step}
 use Rattle.sq_reader.proofs.BodyLemmas.{IsNodeOf, node_is}
@@ -67,12 +68,17 @@ pub record IsRead (r : Raw) (ss : List declared.Source) (nodes : List (Option No
   pub known : unknown_place r ≡ None
   pub acyclic : cycle_in (wiring_of r) ≡ None
   pub windows : window_place r ≡ None
+  pub graphs : graph_fault r ≡ None
   pub given : sources_from 0 r.sources ≡ Ok ss
   pub typed : nodes_from r (wiring_of r) ss (no_nodes (length r.boxes)) (order_of (wiring_of r)) ≡ Ok nodes
 
 none_broken : {A : Type 0} (e : Place → NetErr) (o : Option Place) (more : Result A NetErr) (x : A) → unless_at e o more ≡ Ok x → (o ≡ None) × (more ≡ Ok x)
 none_broken e None more x h = (refl, h)
 none_broken e (Some p) more x h = cc
+
+none_at_fault : {A : Type 0} (o : Option NetErr) (more : Result A NetErr) (x : A) → unless_fault o more ≡ Ok x → (o ≡ None) × (more ≡ Ok x)
+none_at_fault None more x h = (refl, h)
+none_at_fault (Some e) more x h = cc
 
 -- what a network is read from
 pub record IsReadAs (n : Network) : Type 0 where
@@ -89,10 +95,11 @@ read_as r n even h =
     let single = none_broken broken.Twice (twice_place r) (streamed_network r (stream_named (stream_names r))) n named.1 in
     let known = none_broken broken.Unknown (unknown_place r) (wired_network r (wiring_of r)) n single.1 in
     let acyclic = none_broken broken.Cycle (cycle_in (wiring_of r)) (windowed_network r (wiring_of r)) n known.1 in
-    let windows = none_broken broken.Window (window_place r) (ordered_network r (wiring_of r)) n acyclic.1 in
+    let windows = none_broken broken.Window (window_place r) (graphed_network r (wiring_of r)) n acyclic.1 in
+    let graphs = none_at_fault (graph_fault r) (ordered_network r (wiring_of r)) n windows.1 in
     let sources = first_step (sources_from 0 r.sources) (λ ss.
     nodes_from r (wiring_of r) ss (no_nodes (length r.boxes)) (order_of (wiring_of r)) >>= λ nodes.
-    Ok (network_of r (wiring_of r) ss nodes)) n windows.1 in
+    Ok (network_of r (wiring_of r) ss nodes)) n graphs.1 in
     let nodes = first_step (nodes_from r (wiring_of r) sources.0 (no_nodes (length r.boxes)) (order_of (wiring_of r))) (λ nodes.
     Ok (network_of r (wiring_of r) sources.0 nodes)) n sources.1.1 in
     record {
@@ -107,6 +114,7 @@ read_as r n even h =
         known = known.0;
         acyclic = acyclic.0;
         windows = windows.0;
+        graphs = graphs.0;
         given = sources.1.0;
         typed = nodes.1.0;
       };
@@ -223,9 +231,19 @@ node_fits raw ins b is h =
     and_both (body_within b.body && is_between 0 1000 b.cost) (list_all (is_between 0 1000000) b.selectivity)
     (and_both (body_within b.body) (is_between 0 1000 b.cost) (is.body.within body.0) cost) selectivity
 
-outputs_fit : (os : List RawOutput) → list_all output_within (map output_of os) ≡ true
-outputs_fit [] = refl
-outputs_fit (o ∷ os) = outputs_fit os
+outputs_fit : (os : List RawOutput) → list_all limits.output_within os ≡ true → list_all output_within (map output_of os) ≡ true
+outputs_fit [] h = refl
+outputs_fit (o ∷ os) h =
+    let parts = and_parts (limits.output_within o) (list_all limits.output_within os) h in
+    let within = output_limits o parts.0 in
+    let light : nat_le (nat_of o.weight) 1000 ≡ true = is_at_most (nat_of o.weight) 1000 within.light in
+    let few : nat_le (length (points_of o.graph)) 1000 ≡ true = ap (λ (k : ℕ). nat_le k 1000) (points_length o.graph) ∙ is_at_most (length o.graph) 1000 within.few in
+    and_both (output_within (output_of o)) (list_all output_within (map output_of os))
+    (and_both (nat_le (nat_of o.weight) 1000) (nat_le (length (points_of o.graph)) 1000) light few) (outputs_fit os parts.1)
+  where
+    points_length : (ps : List (ℤ × ℤ)) → length (points_of ps) ≡ length ps
+    points_length [] = refl
+    points_length (p ∷ ps) = ap suc (points_length ps)
 
 all_within : (r : Raw) (ss : List declared.Source) (nodes : List (Option Node)) → IsRead r ss nodes → network_within (network_of r (wiring_of r) ss nodes) ≡ true
 all_within r ss nodes read =
@@ -245,7 +263,7 @@ all_within r ss nodes read =
     (let box = box_at r ss nodes boxes at node e in
     node_fits box.raw (input_columns (network_of r (wiring_of r) ss nodes) at) node box.is (passes_at box_within r.boxes at box.raw w.boxes box.there))) in
     let takes = takes_all (stream_named (stream_names r)) r read.known w.boxes in
-    and_both _ _ (and_both _ _ (and_both _ _ (and_both _ _ (and_both _ _ (and_both _ _ (and_both _ _ (and_both _ _ sources count) outputs) epoch) batch) given.0) fit) (outputs_fit r.outputs)) takes
+    and_both _ _ (and_both _ _ (and_both _ _ (and_both _ _ (and_both _ _ (and_both _ _ (and_both _ _ (and_both _ _ sources count) outputs) epoch) batch) given.0) fit) (outputs_fit r.outputs w.outputs)) takes
 
 evens : (bs : List RawBox) → AllByRecursion IsEven bs → map (λ b. length b.selectivity) bs ≡ map (λ b. ports_of b.body) bs
 evens [] h = refl

@@ -6,4 +6,5 @@ pub mod Sources
 pub mod Expressions
 pub mod Functions
 pub mod Columns
+pub mod Outputs
 pub mod Networks

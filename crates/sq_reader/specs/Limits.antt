@@ -7,6 +7,7 @@ use Rattle.sq_tables.specs.declared.raw.RawSource.{RawSource}
 use Rattle.sq_tables.specs.declared.raw.RawBody.{RawBody}
 use Rattle.sq_tables.specs.declared.raw.RawBody.TheVariants.{Filter, Map, Union, BSort, Aggregate, Join}
 use Rattle.sq_tables.specs.declared.raw.RawBox.{RawBox}
+use Rattle.sq_tables.specs.declared.raw.RawOutput.{RawOutput}
 use Rattle.sq_tables.specs.declared.raw.Raw.{Raw}
 use Rattle.sq_tables.specs.Places.{place_of, or_else}
 
@@ -45,14 +46,19 @@ abbrev pub box_within : RawBox → Bool
 box_within b =
     body_within b.body && inputs_within b.body b.ins && is_between 0 1000 b.cost && list_all (is_between 0 1000000) b.selectivity
 
+abbrev pub output_within : RawOutput → Bool
+output_within o = is_between 0 1000 o.weight && has_between 0 1000 o.graph
+
 -- the number of the first item that fails a test
 abbrev pub first_failing : {A : Type 0} → (A → Bool) → List A → Option ℕ
 first_failing test xs = position (λ x. not (test x)) xs
 
--- the file as a whole, then its sources, then its boxes
+-- the file as a whole, then its sources, then its boxes, then its outputs
 abbrev pub limit_place : Raw → Option Place
 limit_place r =
     if top_within r then or_else
     (option_map (place_of part.Source) (first_failing source_within r.sources))
+    (or_else
     (option_map (place_of part.Box) (first_failing box_within r.boxes))
+    (option_map (place_of part.Output) (first_failing output_within r.outputs)))
     else Some (place_of part.Top 0)

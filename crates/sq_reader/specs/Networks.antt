@@ -1,31 +1,33 @@
 -- The network that a file is, or the first rule that it breaks. Each rule is over the whole file before the next.
-use Rattle.std.specs.Prelude.{ℕ, List, [], ◌∷◌, map, length, Option, Result, Ok}
+use Rattle.std.specs.Prelude.{ℕ, List, map, length, Option, Some, None, Result, Ok, Err}
 use Rattle.std.specs.List.{filter_map}
-use Rattle.sq_qos.specs.Graphs.{Points}
 use Rattle.sq_graph.specs.declared.Wiring.{Wiring}
 use Rattle.sq_graph.specs.Order.{order_of}
 use Rattle.sq_net.specs.declared.Network.{Network}
 use Rattle.sq_net.specs.declared.Node.{Node}
 use Rattle.sq_net.specs.declared.Source.{Source}
-use Rattle.sq_net.specs.declared.Output.{Output}
+use Rattle.sq_net.specs.declared.Place.{Place}
 use Rattle.sq_net.specs.declared.NetErr.{NetErr}
 use Rattle.sq_net.specs.declared.NetErr.TheVariants as broken
-use Rattle.sq_tables.specs.declared.raw.RawOutput.{RawOutput}
 use Rattle.sq_tables.specs.declared.raw.Raw.{Raw}
-use Rattle.sq_tables.specs.Rawly.{◌>>=◌, raw_of, unless_at}
+use Rattle.sq_tables.specs.Rawly.{◌>>=◌, raw_of}
 use Rattle.sq_reader.specs.Limits.{limit_place}
 use Rattle.sq_reader.specs.Naming.{name_place, twice_place}
 use Rattle.sq_reader.specs.Streaming.{Numbers, cycle_in, stream_named, stream_names, unknown_among, wiring_by}
 use Rattle.sq_reader.specs.Sources.{sources_from}
 use Rattle.sq_reader.specs.Windows.{window_place}
+use Rattle.sq_reader.specs.Outputs.{graph_fault, output_of}
 use Rattle.sq_reader.specs.Columns.{nat_of, no_nodes, nodes_from}
 
--- a graph that loses as much as isn't shown
-abbrev pub even_graph : Points
-even_graph = (0, 0) ∷ (1000, 1000000) ∷ []
+-- go on where no place breaks a rule
+abbrev pub unless_at : {A : Type 0} → (Place → NetErr) → Option Place → Result A NetErr → Result A NetErr
+unless_at e None more = more
+unless_at e (Some p) more = Err (e p)
 
-abbrev pub output_of : RawOutput → Output
-output_of o = record { name = o.name; weight = 1; graph = even_graph }
+-- go on where there is no fault
+abbrev pub unless_fault : {A : Type 0} → Option NetErr → Result A NetErr → Result A NetErr
+unless_fault None more = more
+unless_fault (Some e) more = Err e
 
 abbrev pub network_of : Raw → Wiring → List Source → List (Option Node) → Network
 network_of r w ss nodes = record {
@@ -44,8 +46,11 @@ ordered_network r w =
     nodes_from r w ss (no_nodes (length r.boxes)) (order_of w) >>= λ nodes.
     Ok (network_of r w ss nodes)
 
+abbrev pub graphed_network : Raw → Wiring → Result Network NetErr
+graphed_network r w = unless_fault (graph_fault r) (ordered_network r w)
+
 abbrev pub windowed_network : Raw → Wiring → Result Network NetErr
-windowed_network r w = unless_at broken.Window (window_place r) (ordered_network r w)
+windowed_network r w = unless_at broken.Window (window_place r) (graphed_network r w)
 
 abbrev pub wired_network : Raw → Wiring → Result Network NetErr
 wired_network r w = unless_at broken.Cycle (cycle_in w) (windowed_network r w)

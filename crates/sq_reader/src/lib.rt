@@ -2,7 +2,7 @@
 //!
 //! The contract of `read_network` promises the network that the file says, a sound one, where the file keeps every rule,
 //! and else the first broken rule with its first place; want of memory aside. Below stand the file's tables, the typed
-//! network, the wiring, the expressions and the values.
+//! network, the wiring, the expressions, the quality graphs and the values.
 #![tactic(auto)]
 
 ghost use Rattle.std.specs.Prelude.{◌≡◌, ◌++◌, ◌∷◌, [], IfOk, OnOk};
@@ -18,6 +18,7 @@ mod limits;
 mod names;
 mod network;
 mod nodes;
+mod outputs;
 mod pairs;
 mod sources;
 mod streams;

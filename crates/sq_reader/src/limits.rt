@@ -2,11 +2,11 @@
 ghost use Rattle.std.specs.Prelude.{◌≡◌, ◌<◌, ◌^◌, length};
 ghost use Rattle.std.specs.List.{list_all};
 ghost use Rattle.sq_net.specs.declared.Part.TheVariants as part;
-ghost use Rattle.sq_reader.specs.Limits.{body_within, box_within, first_failing, has_between, inputs_within, is_between, is_expression_long, limit_place, source_within, top_within};
+ghost use Rattle.sq_reader.specs.Limits.{body_within, box_within, first_failing, has_between, inputs_within, is_between, is_expression_long, limit_place, output_within, source_within, top_within};
 ghost use Rattle.sq_tables.specs.Places.{place_at, place_of};
 
 use sq_net::{Part, Place};
-use sq_tables::{Raw, RawBody, RawBox, RawSource, Setting};
+use sq_tables::{Raw, RawBody, RawBox, RawOutput, RawSource, Setting};
 use sq_value::Name;
 
 /// An item of a list of a part.
@@ -125,6 +125,12 @@ fn box_within(b: &RawBox) -> bool
         && are_permille(b.selectivity.as_slice())
 }
 
+fn output_within(output: &RawOutput) -> bool
+    ensures { result ≡ output_within output.now }
+{
+    is_between(output.weight, 0, 1000) && has_between(output.graph.as_slice(), 0, 1000)
+}
+
 fn wide_source(sources: &[RawSource]) -> Option<usize>
     ensures { result ≡ first_failing source_within sources.now }
 {
@@ -135,6 +141,12 @@ fn wide_box(boxes: &[RawBox]) -> Option<usize>
     ensures { result ≡ first_failing box_within boxes.now }
 {
     boxes.iter().position(|b| !box_within(b))
+}
+
+fn wide_output(outputs: &[RawOutput]) -> Option<usize>
+    ensures { result ≡ first_failing output_within outputs.now }
+{
+    outputs.iter().position(|output| !output_within(output))
 }
 
 /// The first place where a number or a length is out of its limits.
@@ -149,6 +161,9 @@ pub(crate) fn limit_place(raw: &Raw) -> Option<Place>
     }
     if let Some(number) = wide_box(raw.boxes.as_slice()) {
         return Some(whole(Part::Box, number));
+    }
+    if let Some(number) = wide_output(raw.outputs.as_slice()) {
+        return Some(whole(Part::Output, number));
     }
     None
 }

@@ -1,11 +1,11 @@
 // The rules on a whole file, one after another, and the network.
-ghost use Rattle.std.specs.Prelude.{◌≡◌, ◌<◌, ◌^◌, ℕ, false, Some, None, IfOk, IfErr, OnOk, length, map};
+ghost use Rattle.std.specs.Prelude.{◌≡◌, ◌<◌, ◌^◌, ℕ, false, Some, None, IfOk, IfErr, OnOk, length};
 ghost use Rattle.std.specs.List.{filter_map};
 ghost use Rattle.sq_graph.specs.Order.{order_of, IsWired};
 ghost use Rattle.sq_net.specs.declared.NetErr.TheVariants as broken;
 ghost use Rattle.sq_net.specs.declared.Part.TheVariants as part;
 ghost use Rattle.sq_reader.specs.Limits.{limit_place};
-ghost use Rattle.sq_reader.specs.Networks.{even_graph, named_network, ordered_network, output_of, single_network, streamed_network, typed_network, windowed_network, wired_network};
+ghost use Rattle.sq_reader.specs.Networks.{graphed_network, named_network, single_network, streamed_network, typed_network, windowed_network, wired_network};
 ghost use Rattle.sq_tables.specs.Places.{place_of};
 ghost use Rattle.sq_tables.specs.Refusals.{Answers, is_memory};
 ghost use Rattle.sq_reader.specs.Streaming.{cycle_in, number_in, stream_named, stream_names, unknown_place, wiring_of};
@@ -14,53 +14,21 @@ use crate::bodies::natural;
 use crate::limits::limit_place;
 use crate::names::{name_place, twice_place};
 use crate::nodes::nodes_in;
+use crate::outputs::outputs_in;
 use crate::sources::sources_in;
 use crate::streams::{numbers_of, stream_names, unknown_place, wiring};
 use crate::windows::window_place;
 use indexmap::IndexMap;
 use sq_graph::{OrderErr, Wiring, order};
-use sq_net::{NetErr, Network, Node, Output, Part, Place};
-use sq_qos::Graph;
-use sq_tables::{Raw, RawOutput};
-use sq_value::{ListOf, copy_name};
+use sq_net::{NetErr, Network, Node, Part, Place};
+use sq_tables::Raw;
+use sq_value::ListOf;
 use std::alloc::{AllocError, Global};
 
 fn known(alloc: Global, nodes: Vec<Option<Node>>) -> Result<Vec<Node>, AllocError>
     ensures { IfOk result (λ v. v.items ≡ filter_map (λ o. o) nodes.items) }
 {
     nodes.into_iter().filter_map(|node| node).collect(alloc)
-}
-
-fn even_graph(alloc: Global) -> Result<Graph, AllocError>
-    ensures { IfOk result (λ g. g ≡ even_graph) }
-{
-    let points = Vec::from_slice(alloc, &[(0, 0), (1000, 1_000_000)])?;
-    match Graph::new(points) {
-        Ok(graph) => Ok(graph),
-        Err(_) => unreachable!(),
-    }
-}
-
-fn output_of(alloc: Global, output: &RawOutput) -> Result<Output, AllocError>
-    ensures { IfOk result (λ o. o ≡ output_of output.now) }
-{
-    let name = copy_name(&output.name)?;
-    let graph = even_graph(alloc)?;
-    Ok(Output {
-        name,
-        weight: 1,
-        graph,
-    })
-}
-
-fn outputs_of(alloc: Global, outputs: &[RawOutput]) -> Result<Vec<Output>, AllocError>
-    ensures { IfOk result (λ v. v.items ≡ map output_of outputs.now) }
-{
-    let mut found = Vec::new(alloc);
-    for output in outputs {
-        found.push(output_of(alloc, output)?)?;
-    }
-    Ok(found)
 }
 
 // The order of the boxes, or the least one on a cycle.
@@ -83,7 +51,7 @@ fn order_in(alloc: Global, w: &Wiring) -> Result<Vec<u32>, NetErr>
 }
 
 #[tactic(auto, using(crate::proofs::LimitLemmas::counts_of))]
-fn ordered_network(
+fn graphed_network(
     alloc: Global,
     raw: &Raw,
     wires: Wiring,
@@ -93,12 +61,12 @@ fn ordered_network(
     requires known { unknown_place raw.now ≡ None }
     requires wires { wires ≡ wiring_of raw.now }
     requires ordered { order.now ≡ order_of wires }
-    ensures { Answers result (ordered_network raw.now wires) }
+    ensures { Answers result (graphed_network raw.now wires) }
 {
+    let outputs = outputs_in(alloc, raw.outputs.as_slice())?;
     let sources = sources_in(alloc, raw.sources.as_slice())?;
     let nodes = nodes_in(alloc, raw, &wires, &sources, order)?;
     let boxes = known(alloc, nodes)?;
-    let outputs = outputs_of(alloc, raw.outputs.as_slice())?;
     Ok(Network {
         epoch: natural(raw.epoch),
         batch: natural(raw.batch),
@@ -125,7 +93,7 @@ fn windowed_network(
     if let Some(place) = window_place(raw) {
         return Err(NetErr::Window(place));
     }
-    ordered_network(alloc, raw, wires, order)
+    graphed_network(alloc, raw, wires, order)
 }
 
 fn wired_network(alloc: Global, raw: &Raw, wires: Wiring) -> Result<Network, NetErr>

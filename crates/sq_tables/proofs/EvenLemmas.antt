@@ -8,7 +8,6 @@ use Rattle.toml.specs.Data.{Members, get_member, as_str, as_integer}
 use Rattle.sq_net.specs.declared.NetErr.{NetErr}
 use Rattle.sq_net.specs.declared.NetErr.TheVariants as broken
 use Rattle.sq_net.specs.declared.Part.TheVariants as part
-use Rattle.sq_net.specs.declared.Place.{Place}
 use Rattle.sq_tables.specs.declared.raw.RawBody.{RawBody}
 use Rattle.sq_tables.specs.declared.raw.RawBox.{RawBox}
 use Rattle.sq_tables.specs.declared.raw.Raw.{Raw}
@@ -17,8 +16,7 @@ use Rattle.sq_tables.specs.Documents.{list_in, optional, required, when}
 use Rattle.sq_tables.specs.Places.{place_of}
 use Rattle.sq_tables.specs.Shapes.{IsEven, AreEven, body_in, box_in, default_selectivity, output_in, ports_of, source_in, top_in}
 use Rattle.sq_tables.specs.Refusals.{Answers}
-use Rattle.sq_tables.specs.Unbuilt.{unbuilt_place}
-use Rattle.sq_tables.specs.Rawly.{◌>>=◌, is_version_one, or_broken, raw_from, raw_in, shaped_from, unless_at}
+use Rattle.sq_tables.specs.Rawly.{◌>>=◌, is_version_one, or_broken, raw_from, raw_in, shaped_from}
 use Rattle.sq_tables.proofs.ShapedLemmas.{first_step}
 
 first_part : {A B : Type 0} (o : Option A) (f : A → Option B) (y : B) → option.◌>>=◌ o f ≡ Some y → (x : A) × ((o ≡ Some x) × (f x ≡ Some y))
@@ -103,12 +101,8 @@ in_even ms r h =
 from_even : (ms : Members) (r : Raw) → raw_from ms ≡ Ok r → AllByRecursion IsEven r.boxes
 from_even ms r h = by_version (is_version_one ms) h
   where
-    by_place : (o : Option Place) → unless_at broken.NotBuilt o (raw_in ms) ≡ Ok r → AllByRecursion IsEven r.boxes
-    by_place None h = in_even ms r h
-    by_place (Some p) h = cc
-
-    by_version : (t : Bool) → cond t (unless_at broken.NotBuilt (unbuilt_place ms) (raw_in ms)) (Err broken.Version) ≡ Ok r → AllByRecursion IsEven r.boxes
-    by_version true h = by_place (unbuilt_place ms) h
+    by_version : (t : Bool) → cond t (raw_in ms) (Err broken.Version) ≡ Ok r → AllByRecursion IsEven r.boxes
+    by_version true h = in_even ms r h
     by_version false h = cc
 
 pub answer_even : (ms : Members) (answer : Result Raw NetErr) → Answers answer (raw_from ms) → IfOk answer AreEven

@@ -1,11 +1,12 @@
--- Worked tables: a box of each kind, and tables out of shape.
-use Rattle.std.proofs.Common.{◌≡◌, ℕ, List, [], ◌∷◌, Some, None, refl, pos}
+-- Worked tables: a box of each kind, outputs, and tables out of shape.
+use Rattle.std.proofs.Common.{◌≡◌, ℕ, List, [], ◌∷◌, Option, Some, None, refl, ℤ, pos, negsuc}
 use Rattle.std.specs.Prelude.{codes}
 use Rattle.toml.specs.Data.{Data, string, integer, array, Items, no_items, item, Members, no_members, member}
 use Rattle.sq_tables.specs.declared.raw.Over.TheVariants.{Avg, First}
 use Rattle.sq_tables.specs.declared.raw.Answer.TheVariants.{Count, Field}
 use Rattle.sq_tables.specs.declared.raw.RawBody.TheVariants.{Filter, Map, Union, BSort, Aggregate, Join}
-use Rattle.sq_tables.specs.Shapes.{body_in, box_in, answer_column_in}
+use Rattle.sq_tables.specs.declared.raw.RawOutput.{RawOutput}
+use Rattle.sq_tables.specs.Shapes.{body_in, box_in, answer_column_in, output_in}
 
 abbrev texts : List (List ℕ) → Data
 texts ws = array (items ws)
@@ -85,3 +86,46 @@ unknown_key = refl
 
 two_selectivities : box_in (member (codes "selectivity") (array (item (integer (pos 1)) (item (integer (pos 1)) no_items))) joining) ≡ None
 two_selectivities = refl
+
+-- ---- outputs
+
+abbrev shown : Members → Members
+shown others = member (codes "name") (string (codes "o")) (member (codes "from") (string (codes "b")) others)
+
+abbrev numbers : List ℤ → Items
+numbers [] = no_items
+numbers (z ∷ zs) = item (integer z) (numbers zs)
+
+abbrev points : List (List ℤ) → Items
+points [] = no_items
+points (zs ∷ rest) = item (array (numbers zs)) (points rest)
+
+abbrev graphed : Items → Option RawOutput
+graphed entries = output_in (shown (member (codes "graph") (array entries) no_members))
+
+bare_row : output_in (shown no_members) ≡ Some (record { name = codes "o"; from = codes "b"; weight = pos 1; graph = (pos 0, pos 0) ∷ (pos 1000, pos 1000000) ∷ [] })
+bare_row = refl
+
+weighed_row : output_in (shown (member (codes "weight") (integer (pos 7)) no_members))
+    ≡ Some (record { name = codes "o"; from = codes "b"; weight = pos 7; graph = (pos 0, pos 0) ∷ (pos 1000, pos 1000000) ∷ [] })
+weighed_row = refl
+
+-- whether they are a graph isn't a matter of shape
+graphed_row : graphed (points ((pos 5 ∷ negsuc 0 ∷ []) ∷ (pos 5 ∷ pos 4294967296 ∷ []) ∷ []))
+    ≡ Some (record { name = codes "o"; from = codes "b"; weight = pos 1; graph = (pos 5, negsuc 0) ∷ (pos 5, pos 4294967296) ∷ [] })
+graphed_row = refl
+
+point_of_three : graphed (points ((pos 0 ∷ pos 0 ∷ []) ∷ (pos 1000 ∷ pos 1 ∷ pos 1 ∷ []) ∷ [])) ≡ None
+point_of_three = refl
+
+point_of_one : graphed (points ((pos 0 ∷ []) ∷ [])) ≡ None
+point_of_one = refl
+
+point_of_texts : graphed (item (array (item (integer (pos 0)) (item (string (codes "0")) no_items))) no_items) ≡ None
+point_of_texts = refl
+
+point_that_is_no_list : graphed (item (integer (pos 0)) no_items) ≡ None
+point_that_is_no_list = refl
+
+weight_of_text : output_in (shown (member (codes "weight") (string (codes "7")) no_members)) ≡ None
+weight_of_text = refl

@@ -4,5 +4,4 @@ pub mod Refusals
 pub mod Places
 pub mod Shapes
 pub mod ShapesSeen
-pub mod Unbuilt
 pub mod Rawly

@@ -3,7 +3,6 @@ use Rattle.std.specs.Prelude.{ℕ, ◌+◌, Bool, false, if◌then◌else◌, Li
 use Rattle.std.specs.Option.{option_and_then}
 use Rattle.std.specs.Ordering.{int_eq}
 use Rattle.toml.specs.Data.{Members, get_member, as_integer}
-use Rattle.sq_net.specs.declared.Place.{Place}
 use Rattle.sq_net.specs.declared.Part.{Part}
 use Rattle.sq_net.specs.declared.Part.TheVariants as part
 use Rattle.sq_net.specs.declared.NetErr.{NetErr}
@@ -11,7 +10,6 @@ use Rattle.sq_net.specs.declared.NetErr.TheVariants as broken
 use Rattle.sq_tables.specs.declared.raw.Raw.{Raw}
 use Rattle.sq_tables.specs.Documents.{document_in}
 use Rattle.sq_tables.specs.Places.{place_of}
-use Rattle.sq_tables.specs.Unbuilt.{unbuilt_place}
 use Rattle.sq_tables.specs.Shapes.{top_in, source_in, box_in, output_in}
 
 infixl 10 ◌>>=◌
@@ -39,11 +37,6 @@ raw_in ms = do
   outputs ← shaped_from part.Output output_in 0 t.outputs
   Ok (record { epoch = t.epoch; batch = t.batch; sources = sources; boxes = boxes; outputs = outputs })
 
--- go on where no place breaks a rule
-abbrev pub unless_at : {A : Type 0} → (Place → NetErr) → Option Place → Result A NetErr → Result A NetErr
-unless_at e None more = more
-unless_at e (Some p) more = Err (e p)
-
 -- whether the version is there and is 1
 abbrev pub is_one : Option ℤ → Bool
 is_one None = false
@@ -53,7 +46,7 @@ abbrev pub is_version_one : Members → Bool
 is_version_one ms = is_one (option_and_then as_integer (get_member (codes "version") ms))
 
 abbrev pub raw_from : Members → Result Raw NetErr
-raw_from ms = if is_version_one ms then unless_at broken.NotBuilt (unbuilt_place ms) (raw_in ms) else Err broken.Version
+raw_from ms = if is_version_one ms then raw_in ms else Err broken.Version
 
 -- the tables of a file's bytes, or the first rule that they break
 abbrev pub raw_of : List ℕ → Result Raw NetErr

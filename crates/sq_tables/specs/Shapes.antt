@@ -46,12 +46,23 @@ source_in ms = do
   fields ← required (list_in as_str) (get_member (codes "fields") ms)
   Some (record { name = name; file = file; fields = fields })
 
+-- an entry of `graph`: a list of two numbers
+abbrev pub point_in : Data → Option (ℤ × ℤ)
+point_in (array (item a (item b no_items))) = as_integer a >>= λ x. as_integer b >>= λ y. Some (x, y)
+point_in d = None
+
+-- the line from nothing to all: each part of the tuples is worth as much as it is large
+abbrev pub even_points : List (ℤ × ℤ)
+even_points = (pos 0, pos 0) ∷ (pos 1000, pos 1000000) ∷ []
+
 abbrev pub output_in : Members → Option RawOutput
 output_in ms = do
-  _keys ← when (has_only (codes "name" ∷ codes "from" ∷ []) ms) true
+  _keys ← when (has_only (codes "name" ∷ codes "from" ∷ codes "weight" ∷ codes "graph" ∷ []) ms) true
   name ← required as_str (get_member (codes "name") ms)
   from ← required as_str (get_member (codes "from") ms)
-  Some (record { name = name; from = from })
+  weight ← optional (pos 1) as_integer (get_member (codes "weight") ms)
+  graph ← optional even_points (list_in point_in) (get_member (codes "graph") ms)
+  Some (record { name = name; from = from; weight = weight; graph = graph })
 
 -- an entry of `set`: a list of a name and an expression
 abbrev pub setting_in : Data → Option Setting

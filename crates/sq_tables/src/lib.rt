@@ -2,8 +2,7 @@
 //!
 //! The contract of `raw_of` promises the tables that the file says, with a selectivity for each port of each box, where the
 //! file is a document of version 1 whose tables have their shape, and else the first broken rule with its first place; want of
-//! memory aside. A document that asks for what isn't built yet, a weight or a graph of an output, is refused before its shape
-//! is looked at. Below stand the refusals of the typed network, and `toml`.
+//! memory aside. Below stand the refusals of the typed network, and `toml`.
 #![tactic(auto)]
 
 ghost use Rattle.std.specs.Prelude.{◌≡◌, IfOk};
@@ -14,12 +13,12 @@ ghost use Rattle.sq_tables.specs.Shapes.{AreEven};
 
 mod answer_columns;
 mod document;
+mod graphs;
 mod raw;
 mod reading;
 mod shape;
 #[cfg(test)]
 mod tests;
-mod unbuilt;
 
 use document::{Table, value_at};
 pub use raw::{Answer, AnswerColumn, Over, Raw, RawBody, RawBox, RawOutput, RawSource, Setting};
@@ -44,9 +43,6 @@ fn raw_from(alloc: Global, table: &Table) -> Result<Raw, NetErr>
 {
     if !is_version_one(table) {
         return Err(NetErr::Version);
-    }
-    if let Some(place) = unbuilt::unbuilt_place(table)? {
-        return Err(NetErr::NotBuilt(place));
     }
     reading::raw_in(alloc, table)
 }

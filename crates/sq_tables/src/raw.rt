@@ -77,11 +77,13 @@ pub struct RawBox {
     pub selectivity: ListOf<i64>,
 }
 
-/// An output: its name, and the name of the stream that it shows.
+/// An output: its name, the name of the stream that it shows, its weight, and the points of its quality graph.
 #[derive(Drop)]
 pub struct RawOutput {
     pub name: Name,
     pub from: Name,
+    pub weight: i64,
+    pub graph: ListOf<(i64, i64)>,
 }
 
 /// A network file, in the order of its tables.

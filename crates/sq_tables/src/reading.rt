@@ -12,8 +12,7 @@ ghost use Rattle.sq_tables.specs.Shapes.{box_in, output_in, source_in};
 use crate::document::{Table, Unread};
 use crate::raw::{Raw, RawBox, RawOutput, RawSource};
 use crate::shape::{box_in, output_in, source_in, top_in};
-use crate::unbuilt::place_of;
-use sq_net::{NetErr, Part};
+use sq_net::{NetErr, Part, Place};
 use sq_value::ListOf;
 use std::alloc::{AllocError, Global};
 
@@ -22,6 +21,22 @@ pub(crate) fn push<T: Drop>(list: &mut Vec<T>, item: T) -> Result<(), AllocError
 {
     list.push(item)?;
     Ok(())
+}
+
+/// The place of a part, by its number; a number past 32 bits, which no file that fits in memory has, counts as want of
+/// memory.
+fn place_of(part: Part, number: usize) -> Result<Place, NetErr>
+    ensures ok { IfOk result (λ p. p ≡ place_of part number) }
+    ensures err { IfErr result (λ e. e ≡ broken.Memory) }
+{
+    match u32::try_from(number) {
+        Ok(number) => Ok(Place {
+            part,
+            number,
+            item: 0,
+        }),
+        Err(_) => Err(NetErr::Memory),
+    }
 }
 
 fn unshaped(e: Unread, part: Part, number: usize) -> NetErr

@@ -10,6 +10,7 @@ use crate::document::{
     Table, Unread, any_tables_at, any_texts_at, has_only, number_at, number_or, selectivity_at,
     settings_at, tables_at, text_at, texts_at,
 };
+use crate::graphs::graph_at;
 use crate::raw::{RawBody, RawBox, RawOutput, RawSource};
 use sq_value::same_text;
 use std::alloc::Global;
@@ -63,12 +64,19 @@ pub(crate) fn source_in(alloc: Global, table: &Table) -> Result<RawSource, Unrea
 pub(crate) fn output_in(alloc: Global, table: &Table) -> Result<RawOutput, Unread>
     ensures { Reads result (output_in (table_view table.now)) }
 {
-    if !has_only(table, &["name", "from"]) {
+    if !has_only(table, &["name", "from", "weight", "graph"]) {
         return Err(Unread::Shape);
     }
     let name = text_at(alloc, table, "name")?;
     let from = text_at(alloc, table, "from")?;
-    Ok(RawOutput { name, from })
+    let weight = number_or(table, "weight", 1)?;
+    let graph = graph_at(alloc, table)?;
+    Ok(RawOutput {
+        name,
+        from,
+        weight,
+        graph,
+    })
 }
 
 fn filter_in(alloc: Global, table: &Table) -> Result<RawBody, Unread>

@@ -65,7 +65,6 @@ place_text p = part_text p.part ++ (codes " " ++ (decimal p.number ++ (codes " "
 abbrev pub rule_text : NetErr → List ℕ
 rule_text net.Toml = codes "Toml"
 rule_text net.Version = codes "Version"
-rule_text (net.NotBuilt p) = codes "NotBuilt"
 rule_text (net.Shape p) = codes "Shape"
 rule_text (net.Limit p) = codes "Limit"
 rule_text (net.NoName p) = codes "NoName"
@@ -84,7 +83,6 @@ rule_text net.Memory = codes "Memory"
 abbrev pub place_of : NetErr → Option Place
 place_of net.Toml = None
 place_of net.Version = None
-place_of (net.NotBuilt p) = Some p
 place_of (net.Shape p) = Some p
 place_of (net.Limit p) = Some p
 place_of (net.NoName p) = Some p

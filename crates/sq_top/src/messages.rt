@@ -72,7 +72,6 @@ fn rule_text(e: NetErr) -> &'static str
     match e {
         NetErr::Toml => "Toml",
         NetErr::Version => "Version",
-        NetErr::NotBuilt(_) => "NotBuilt",
         NetErr::Shape(_) => "Shape",
         NetErr::Limit(_) => "Limit",
         NetErr::NoName(_) => "NoName",
@@ -95,8 +94,7 @@ fn place_of(e: NetErr) -> Option<Place>
 {
     match e {
         NetErr::Toml | NetErr::Version | NetErr::Memory => None,
-        NetErr::NotBuilt(place)
-        | NetErr::Shape(place)
+        NetErr::Shape(place)
         | NetErr::Limit(place)
         | NetErr::NoName(place)
         | NetErr::Twice(place)

@@ -5,8 +5,7 @@ use Rattle.sq_net.specs.declared.NetErr.{NetErr}
 use Rattle.sq_net.specs.declared.NetErr.TheVariants as broken
 use Rattle.sq_tables.specs.declared.raw.Raw.{Raw}
 use Rattle.sq_reader.specs.Naming.{twice_place}
-use Rattle.sq_reader.specs.Networks.{single_network, streamed_network}
-use Rattle.sq_tables.specs.Rawly.{unless_at}
+use Rattle.sq_reader.specs.Networks.{single_network, streamed_network, unless_at}
 use Rattle.sq_tables.specs.Refusals.{Answers}
 use Rattle.sq_reader.specs.Streaming.{Numbers, number_in, stream_named, stream_names}
 use Rattle.sq_reader.proofs.network.single_network.Goals as goal
