@@ -8,3 +8,4 @@ pub mod SortedLines
 pub mod StoppedLemmas
 pub mod WritingLemmas
 pub mod SourceLemmas
+pub mod WordLemmas
