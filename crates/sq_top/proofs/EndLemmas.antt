@@ -79,11 +79,11 @@ end_line_of : (bs : List ℕ) (fields : List (List ℕ)) → list_any needs_quot
 end_line_of bs fields plain ends =
     (is_line-line_of ((64 ∷ bs) ∷ fields), subst (λ f. is_end_field f ≡ true) (sym (first_field-line_of 64 bs fields plain)) ends)
 
-plain_name : (w : List ℕ) → is_name w ≡ true → IsPlainName w
+pub plain_name : (w : List ℕ) → is_name w ≡ true → IsPlainName w
 plain_name [] h = absurd (cc)
 plain_name (b ∷ bs) h = plain_lower b (name_parts b bs h).0
 
-lines_shown : (w : List ℕ) (xs : List Tuple) → is_name w ≡ true → AllByRecursion (IsLineOf (Shown w)) (map (output_line w) xs)
+pub lines_shown : (w : List ℕ) (xs : List Tuple) → is_name w ≡ true → AllByRecursion (IsLineOf (Shown w)) (map (output_line w) xs)
 lines_shown [] xs h = absurd (cc)
 lines_shown (b ∷ bs) xs h = shown_lines b bs xs (name_quoteless b bs h)
 

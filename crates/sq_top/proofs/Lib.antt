@@ -3,6 +3,7 @@ pub mod OrderLemmas
 pub mod DueLemmas
 pub mod MixedLemmas
 pub mod EndLemmas
+pub mod HistoryLemmas
 mod Rows
 pub mod SortedLines
 pub mod StoppedLemmas

@@ -3,6 +3,7 @@ pub mod Scripts
 pub mod Due
 pub mod Answers
 pub mod Writing
+pub mod Driving
 pub mod Messages
 pub mod Orders
 pub mod Causes
