@@ -33,7 +33,8 @@ use Rattle.sq_top.specs.declared.Command.TheVariants as command
 use Rattle.sq_top.specs.declared.Status.{Status}
 use Rattle.sq_top.specs.declared.Status.TheVariants as status
 use Rattle.sq_top.specs.Commands.{command_in}
-use Rattle.sq_top.specs.Due.{Due, all_lines, all_text, due_from, due_of, ended_from, fed_line, feds_from, is_sorter, late_lines, lates_from, shown_from}
+use Rattle.sq_replay.specs.Shown.{fed_line, is_sorter, late_lines}
+use Rattle.sq_top.specs.Due.{Due, all_lines, all_text, due_from, due_of, ended_from, feds_from, lates_from, shown_from}
 use Rattle.sq_top.specs.Answers.{IsPrefixText, IsWholeText}
 use Rattle.sq_top.specs.Writing.{IsLost}
 use Rattle.sq_top.specs.Scripts.{Lookup, Replay, Script, Done, accepted, after_network, after_stream, after_streams, after_words, go_on, outcome_of, readable, settings_limit, stream_limit}

@@ -10,7 +10,8 @@ use Rattle.sq_value.specs.Classes.{Class, Ended, is_of_class, of_class, whole_li
 use Rattle.sq_value.proofs.LineLemmas.{AreLines, Cut, IsFront, cut_prefix, is_line, unfinished-cut, whole_lines-cut, whole_lines-lines, unfinished-lines}
 use Rattle.sq_top.specs.Due.{Due}
 use Rattle.sq_top.specs.Answers.{AreOthersAll, AreOthersWhole, BeginsNext, IsClassIn, IsPrefixText, IsWholeText, is_classed, lines_of}
-use Rattle.sq_top.specs.Orders.{AreAll, EachIsNext, IsNextOf, IsOrder, text_of}
+use Rattle.sq_replay.specs.Shown.{text_of}
+use Rattle.sq_top.specs.Orders.{AreAll, EachIsNext, IsNextOf, IsOrder}
 use Rattle.sq_top.proofs.ClassLemmas.{AreAlike, IsDueLine, TellsClasses, alike, all_append, all_middle, is_end, is_ended, lines_due, not_ended, plain_class}
 use Rattle.sq_top.proofs.SortedLines.{slice_get-next}
 

@@ -1,23 +1,26 @@
 -- Text that is written piece by piece.
-use Rattle.std.proofs.Common.{◌≡◌, ℕ, ◌+◌, ◌<◌, ◌≤◌, List, [], ◌∷◌, ◌++◌, length, take, drop, get_or, refl, ap, ap₂, sym, ◌∙◌, subst, arith, append_assoc, append-nil, Option, None, Some}
+use Rattle.std.proofs.Common.{◌≡◌, ℕ, ◌+◌, ◌<◌, ◌≤◌, List, [], ◌∷◌, ◌++◌, length, take, drop, get_or, refl, ap, sym, ◌∙◌, subst, arith, append_assoc, append-nil, Option, None, Some}
 use Rattle.std.specs.Prelude.{map, Result, Ok, Err, OnOk, OnErr}
 use Rattle.std.specs.List.{flat_map, sum_by, zip}
-use Rattle.std.proofs.lemmas.List.{get_or_default, length-map, take_all, take-append-drop, take_more}
+use Rattle.std.proofs.lemmas.List.{take-append-drop}
 use Rattle.std.proofs.lemmas.List.Sums.{sum_by_more, sum_by-append, sum_by-cons}
 use Rattle.std.proofs.lemmas.List.FromFn.{length-map-range_with_len}
-use Rattle.std.proofs.lemmas.Slice.Zip.{firsts-zip, get_or-zip, seconds-zip}
+use Rattle.std.proofs.lemmas.Slice.Zip.{seconds-zip}
 use Rattle.sq_value.specs.Lists.{numbers_to}
 use Rattle.std.proofs.lemmas.Grind.{flat_map-append}
 use Rattle.sq_value.specs.declared.Tuple.{Tuple}
-use Rattle.sq_value.specs.LineTexts.{output_line, end_line}
+use Rattle.sq_value.specs.LineTexts.{output_line}
 use Rattle.sq_net.specs.declared.Network.{Network}
 use Rattle.sq_net.specs.declared.Output.{Output}
 use Rattle.sq_outside.specs.Sinks.{AppendsPrefix, appended}
 use Rattle.sq_outside.proofs.SinkLemmas.{appended-append}
 use Rattle.sq_model.specs.Full.{nth}
 use Rattle.sq_model.specs.Fed.{fed_from, late_from, work_from}
-use Rattle.sq_top.specs.Due.{all_text, due_from, ended_from, fed_line, feds_from, late_lines, lates_from, outputs_of, shown_from}
-use Rattle.sq_top.specs.Writing.{Moves, ends_text, output_text, output_work, tuples_text}
+use Rattle.sq_replay.specs.Shown.{text_of}
+use Rattle.sq_replay.proofs.PairLemmas.{pair, pair_at, pair_inside, text-more, text-rest}
+use Rattle.sq_replay.proofs.ShownLemmas.{text_of_map}
+use Rattle.sq_top.specs.Due.{all_text, due_from, ended_from, feds_from, lates_from, outputs_of, shown_from}
+use Rattle.sq_top.specs.Writing.{Moves, output_text, output_work, tuples_text}
 
 pub moves-then : (before mid now : Option (List ℕ)) (waited waits later more next : List ℕ) → Moves before waited mid waits more → Moves mid waits now later next
     → Moves before waited now later (more ++ next)
@@ -40,16 +43,6 @@ prefix_longer before now bytes more a = (a.0, (a.1.0 ++ more, ap (λ x. x ++ mor
 
 -- a list's text, and its work, up to an element and from there on
 module _ {X : Type 0} where
-  pub text-more : (f : X → List ℕ) (xs : List X) (i : ℕ) (x : X) → i < length xs → x ≡ get_or xs i x → flat_map f (take (i + 1) xs) ≡ flat_map f (take i xs) ++ f x
-  text-more f xs i x inside at =
-      ap (flat_map f) (take_more xs i x inside)
-      ∙ flat_map-append f (take i xs) (get_or xs i x ∷ [])
-      ∙ ap (λ y. flat_map f (take i xs) ++ (f y ++ [])) (sym at)
-      ∙ ap (λ y. flat_map f (take i xs) ++ y) (append-nil (f x))
-
-  text-rest : (f : X → List ℕ) (xs : List X) (i : ℕ) → flat_map f xs ≡ flat_map f (take i xs) ++ flat_map f (drop i xs)
-  text-rest f xs i = ap (flat_map f) (sym (take-append-drop i xs)) ∙ flat_map-append f (take i xs) (drop i xs)
-
   pub work-more : (f : X → ℕ) (xs : List X) (i : ℕ) (x : X) → i < length xs → x ≡ get_or xs i x → sum_by f (take (i + 1) xs) ≡ sum_by f (take i xs) + f x
   work-more f xs i x inside at = sum_by_more f xs i x inside ∙ ap (λ y. sum_by f (take i xs) + f y) (sym at)
 
@@ -78,18 +71,10 @@ pub on_ok_any : {T E P : Type 0} (r : Result T E) → P → OnOk r P
 on_ok_any (Ok x) p = p
 on_ok_any (Err e) p = tt
 
-pub on_err_any : {T E P : Type 0} (r : Result T E) → P → OnErr r P
-on_err_any (Ok x) p = tt
-on_err_any (Err e) p = p
-
 -- both facts of a call that ended well
 pub on_ok_both : {T E P Q R : Type 0} (r : Result T E) → OnOk r P → OnOk r Q → (P → Q → R) → OnOk r R
 on_ok_both (Ok x) p q f = f p q
 on_ok_both (Err e) p q f = tt
-
-text_of_map : {X : Type 0} (f : X → List ℕ) (xs : List X) → flat_map (λ l. l) (map f xs) ≡ flat_map f xs
-text_of_map f [] = refl
-text_of_map f (x ∷ xs) = ap (λ y. f x ++ y) (text_of_map f xs)
 
 text_of_outputs : (streams : List (List Tuple)) (os : List (Output × ℕ)) → flat_map (λ l. l) (flat_map (λ o. o.1) (map (shown_from streams) os)) ≡ flat_map (output_text streams) os
 text_of_outputs streams [] = refl
@@ -99,27 +84,15 @@ text_of_outputs streams (o ∷ os) =
     ∙ ap (λ y. y ++ flat_map (λ l. l) (flat_map (λ p. p.1) (map (shown_from streams) os))) (text_of_map (output_line (o.0).name) (nth streams o.1))
     ∙ ap (λ y. tuples_text (o.0).name (nth streams o.1) ++ y) (text_of_outputs streams os)
 
-text_of_lines : {X : Type 0} (f : X → List (List ℕ)) (xs : List X) → flat_map (λ l. l) (flat_map f xs) ≡ flat_map (λ x. flat_map (λ l. l) (f x)) xs
-text_of_lines f [] = refl
-text_of_lines f (x ∷ xs) = flat_map-append (λ l. l) (f x) (flat_map f xs) ∙ ap (λ y. flat_map (λ l. l) (f x) ++ y) (text_of_lines f xs)
-
--- the end lines of a run, where these are the streams by number
+-- the text of the end lines of a run, where these are the streams by number
 abbrev pub ends_from : Network → List (List Tuple) → List ℕ
-ends_from n streams = ends_text n (feds_from n streams) (lates_from n streams)
-
-text_of_ends : (n : Network) (streams : List (List Tuple)) → flat_map (λ l. l) (ended_from n streams) ≡ ends_from n streams
-text_of_ends n streams =
-    let fed = zip n.boxes (feds_from n streams) in
-    let late = zip n.boxes (lates_from n streams) in
-    flat_map-append (λ l. l) (map fed_line fed) (flat_map late_lines late ++ end_line ∷ [])
-    ∙ ap₂ (λ y z. y ++ z) (text_of_map fed_line fed)
-    (flat_map-append (λ l. l) (flat_map late_lines late) (end_line ∷ []) ∙ ap₂ (λ y z. y ++ z) (text_of_lines late_lines late) (append-nil end_line))
+ends_from n streams = text_of (ended_from n streams)
 
 -- the text of all lines that are due: that of the outputs, and the end lines
 pub all_text-from : (n : Network) (streams : List (List Tuple)) → all_text (due_from n streams) ≡ flat_map (output_text streams) (outputs_of n) ++ ends_from n streams
 all_text-from n streams =
     flat_map-append (λ l. l) (flat_map (λ o. o.1) (map (shown_from streams) (outputs_of n))) (ended_from n streams)
-    ∙ ap₂ (λ y z. y ++ z) (text_of_outputs streams (outputs_of n)) (text_of_ends n streams)
+    ∙ ap (λ y. y ++ ends_from n streams) (text_of_outputs streams (outputs_of n))
 
 sum_by-map : {X : Type 0} (g : ℕ → ℕ) (f : X → ℕ) (xs : List X) → sum_by g (map f xs) ≡ sum_by (λ x. g (f x)) xs
 sum_by-map g f [] = refl
@@ -174,38 +147,17 @@ appended-nil (Some ws) = ap Some (append-nil ws)
 pub lost_at_once : (before : Option (List ℕ)) (text : List ℕ) → AppendsPrefix before before text
 lost_at_once before text = ([], (text, refl), sym (appended-nil before))
 
--- a list and one of numbers beside it
-module _ {A : Type 0} (xs : List A) (ks : List ℕ) (even : length ks ≡ length xs) (i : ℕ) where
-  zip_length : length (zip xs ks) ≡ length xs
-  zip_length = sym (length-map (zip xs ks) (λ p. p.0)) ∙ ap (λ (zs : List A). length zs) (firsts-zip xs ks even)
+-- a list and one of numbers beside it, and a pair of them
+module _ {A : Type 0} (xs : List A) (ks : List ℕ) (even : length ks ≡ length xs) (i : ℕ) (x : A) (inside : i < length xs) (at : x ≡ get_or xs i x) where
+  abbrev here : A × ℕ
+  here = pair xs ks even i x inside at
 
-  pub pairs_all : length xs ≤ i → take i (zip xs ks) ≡ zip xs ks
-  pairs_all past = take_all i (zip xs ks) (omega (arith, zip_length, past))
+  pub pairs_work-more : (f : A × ℕ → ℕ) → sum_by f (take (i + 1) (zip xs ks)) ≡ sum_by f (take i (zip xs ks)) + f here
+  pairs_work-more f = work-more f (zip xs ks) i here (pair_inside xs ks even i x inside at) (pair_at xs ks even i x inside at)
 
-  -- one pair more
-  module _ (x : A) (inside : i < length xs) (at : x ≡ get_or xs i x) where
-    abbrev pair : A × ℕ
-    pair = (x, get_or ks i 0)
-
-    pair_at : pair ≡ get_or (zip xs ks) i pair
-    pair_at =
-        let second : i < length ks = omega (arith, even, inside) in
-        ap (λ (a : A). (a, get_or ks i 0)) at
-        ∙ ap (λ (k : ℕ). (get_or xs i x, k)) (get_or_default ks i 0 (get_or ks i 0) second)
-        ∙ sym (get_or-zip xs ks i pair inside second)
-
-    pair_inside : i < length (zip xs ks)
-    pair_inside = omega (arith, zip_length, inside)
-
-    pub pairs_text-more : (f : A × ℕ → List ℕ) → flat_map f (take (i + 1) (zip xs ks)) ≡ flat_map f (take i (zip xs ks)) ++ f pair
-    pairs_text-more f = text-more f (zip xs ks) i pair pair_inside pair_at
-
-    pub pairs_work-more : (f : A × ℕ → ℕ) → sum_by f (take (i + 1) (zip xs ks)) ≡ sum_by f (take i (zip xs ks)) + f pair
-    pairs_work-more f = work-more f (zip xs ks) i pair pair_inside pair_at
-
-    pub pair_lost : (f : A × ℕ → List ℕ) (before mid now : Option (List ℕ)) (waited waits : List ℕ) → Moves before waited mid waits (flat_map f (take i (zip xs ks)))
-        → AppendsPrefix mid now (waits ++ f pair) → AppendsPrefix before now (waited ++ flat_map f (zip xs ks))
-    pair_lost f before mid now waited waits a b = lost_at f (zip xs ks) i pair before mid now waited waits pair_inside pair_at a b
+  pub pair_lost : (f : A × ℕ → List ℕ) (before mid now : Option (List ℕ)) (waited waits : List ℕ) → Moves before waited mid waits (flat_map f (take i (zip xs ks)))
+      → AppendsPrefix mid now (waits ++ f here) → AppendsPrefix before now (waited ++ flat_map f (zip xs ks))
+  pair_lost f before mid now waited waits a b = lost_at f (zip xs ks) i here before mid now waited waits (pair_inside xs ks even i x inside at) (pair_at xs ks even i x inside at) a b
 
 -- a number for each box
 pub feds_length : (n : Network) (streams : List (List Tuple)) → length (feds_from n streams) ≡ length n.boxes

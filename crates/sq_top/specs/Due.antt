@@ -1,14 +1,12 @@
 -- What a run is to write and the steps that it is to take.
-use Rattle.std.specs.Prelude.{ℕ, Bool, true, false, if◌then◌else◌, List, [], ◌∷◌, ◌++◌, map, length}
+use Rattle.std.specs.Prelude.{ℕ, List, [], ◌++◌, map, length}
 use Rattle.std.specs.List.{flat_map, zip}
 use Rattle.sq_value.specs.declared.Tuple.{Tuple}
 use Rattle.sq_value.specs.Lists.{numbers_to}
-use Rattle.sq_value.specs.LineTexts.{output_line, box_line, late_line, end_line}
+use Rattle.sq_value.specs.LineTexts.{output_line}
 use Rattle.sq_net.specs.declared.Network.{Network}
-use Rattle.sq_net.specs.declared.Node.{Node}
 use Rattle.sq_net.specs.declared.Output.{Output}
-use Rattle.sq_net.specs.declared.Body.{Body}
-use Rattle.sq_net.specs.declared.Body.TheVariants.{BSort}
+use Rattle.sq_replay.specs.Shown.{end_lines, text_of}
 use Rattle.sq_model.specs.Full.{nth, full_streams}
 use Rattle.sq_model.specs.Fed.{fed_from, late_from}
 use Rattle.sq_top.specs.Scripts.{Replay}
@@ -25,7 +23,7 @@ abbrev pub all_lines : Due → List (List ℕ)
 all_lines d = flat_map (λ o. o.1) d.shown ++ (flat_map (λ w. w.1) d.dropped ++ (d.planned ++ d.ended))
 
 abbrev pub all_text : Due → List ℕ
-all_text d = flat_map (λ line. line) (all_lines d)
+all_text d = text_of (all_lines d)
 
 -- the outputs in file order, each with its stream
 abbrev pub outputs_of : Network → List (Output × ℕ)
@@ -39,25 +37,13 @@ shown_from streams o = ((o.0).name, map (output_line (o.0).name) (nth streams o.
 abbrev pub feds_from : Network → List (List Tuple) → List ℕ
 feds_from n streams = map (fed_from n streams) (numbers_to (length n.boxes))
 
-abbrev pub fed_line : Node × ℕ → List ℕ
-fed_line b = box_line (b.0).name b.1
-
 -- how many tuples of each box are late
 abbrev pub lates_from : Network → List (List Tuple) → List ℕ
 lates_from n streams = map (late_from n streams) (numbers_to (length n.boxes))
 
-abbrev pub is_sorter : Body → Bool
-is_sorter (BSort by slack) = true
-is_sorter body = false
-
--- the line of a box's late tuples, which a BSort alone has
-abbrev pub late_lines : Node × ℕ → List (List ℕ)
-late_lines b = if is_sorter (b.0).body then late_line (b.0).name b.1 ∷ [] else []
-
--- the lines of all boxes, then those of the BSorts, then the last one
+-- the end lines, where these are the streams by number
 abbrev pub ended_from : Network → List (List Tuple) → List (List ℕ)
-ended_from n streams =
-    map fed_line (zip n.boxes (feds_from n streams)) ++ (flat_map late_lines (zip n.boxes (lates_from n streams)) ++ end_line ∷ [])
+ended_from n streams = end_lines n (feds_from n streams) (lates_from n streams)
 
 -- nothing is dropped and nothing is planned
 abbrev pub due_from : Network → List (List Tuple) → Due

@@ -1,6 +1,6 @@
 -- Orders in which the lines of a run may be written: line by line, each the next of its class.
 use Rattle.std.specs.Prelude.{◌≡◌, ℕ, ⊤, List, [], ◌∷◌, ◌++◌}
-use Rattle.std.specs.List.{filter, flat_map}
+use Rattle.std.specs.List.{filter}
 use Rattle.sq_value.specs.Lists.{IsPrefixOf}
 use Rattle.sq_value.specs.Classes.{Class, Ended, is_of_class}
 use Rattle.sq_top.specs.Due.{Due}
@@ -23,7 +23,3 @@ IsOrder d lines = EachIsNext d [] lines
 -- of each class these lines are all
 abbrev pub AreAll : Due → List (List ℕ) → Type 0
 AreAll d lines = (c : Class) → IsClassIn d c → filter (is_of_class c) lines ≡ lines_of d c
-
--- the text of lines
-abbrev pub text_of : List (List ℕ) → List ℕ
-text_of lines = flat_map (λ line. line) lines

@@ -1,15 +1,12 @@
 -- What is written of a run, piece by piece, and why writing ends early.
 use Rattle.std.specs.Prelude.{◌≡◌, ◌⊎◌, ℕ, List, ◌++◌, length, Option}
-use Rattle.std.specs.List.{flat_map, zip}
+use Rattle.std.specs.List.{flat_map}
 use Rattle.sq_value.specs.declared.Tuple.{Tuple}
-use Rattle.sq_value.specs.LineTexts.{output_line, end_line}
-use Rattle.sq_net.specs.declared.Network.{Network}
-use Rattle.sq_net.specs.declared.Node.{Node}
+use Rattle.sq_value.specs.LineTexts.{output_line}
 use Rattle.sq_net.specs.declared.Output.{Output}
 use Rattle.sq_model.specs.Full.{nth}
 use Rattle.sq_outside.specs.Faults.{Rose}
 use Rattle.sq_outside.specs.Sinks.{appended}
-use Rattle.sq_top.specs.Due.{fed_line, late_lines}
 use Rattle.sq_top.specs.declared.Status.{Status}
 use Rattle.sq_top.specs.declared.Status.TheVariants as status
 
@@ -24,13 +21,6 @@ output_text streams o = tuples_text (o.0).name (nth streams o.1)
 -- how many tuples an output is fed
 abbrev pub output_work : List (List Tuple) → Output × ℕ → ℕ
 output_work streams o = length (nth streams o.1)
-
-abbrev pub late_text : Node × ℕ → List ℕ
-late_text b = flat_map (λ line. line) (late_lines b)
-
--- the end lines, where each box was fed so many tuples, of which so many are late
-abbrev pub ends_text : Network → List ℕ → List ℕ → List ℕ
-ends_text n fed late = flat_map fed_line (zip n.boxes fed) ++ (flat_map late_text (zip n.boxes late) ++ end_line)
 
 -- a part of what waited, and of what more came, was written, and the rest waits
 pub record Moves (before : Option (List ℕ)) (waited : List ℕ) (now : Option (List ℕ)) (waits more : List ℕ) : Type 0 where

@@ -1,22 +1,23 @@
 // The answer of a run, written to the output in pieces.
 ghost use Rattle.std.specs.Prelude.{◌≡◌, ◌≤◌, ◌+◌, ◌++◌, [], IfErr, OnErr, OnOk, length, map};
-ghost use Rattle.std.specs.List.{All, flat_map, sum_by, zip};
+ghost use Rattle.std.specs.List.{All, flat_map, sum_by};
 ghost use Rattle.sq_net.specs.Sound.{IsSound};
 ghost use Rattle.sq_model.specs.Placed.{IsPlaced};
 ghost use Rattle.sq_model.specs.Fed.{work_from, work_of};
 ghost use Rattle.sq_value.specs.LineTexts.{output_line};
 ghost use Rattle.sq_value.specs.Values.{IsStream};
 ghost use Rattle.sq_outside.specs.Sinks.{AppendsPrefix, appended};
-ghost use Rattle.sq_top.specs.Due.{all_text, due_from, due_of, fed_line, outputs_of};
-ghost use Rattle.sq_top.specs.Writing.{IsLost, Moves, ends_text, late_text, output_text, output_work, tuples_text};
+ghost use Rattle.sq_top.specs.Due.{all_text, due_from, due_of, outputs_of};
+ghost use Rattle.sq_top.specs.Writing.{IsLost, Moves, output_text, output_work, tuples_text};
 
 use crate::Status;
-use sq_csv::{append_box_line, append_end_line, append_late_line, append_output_line};
+use sq_csv::append_output_line;
 use sq_model::{fed, full_streams, late, sound_is_placed, stream_in};
-use sq_net::{Body, Network, Node};
+use sq_net::Network;
 use sq_outside::{Failed, Sink, Steps, write_all};
+use sq_replay::end_lines;
 use sq_value::{Name, Tuple};
-use std::alloc::{AllocError, Global};
+use std::alloc::Global;
 use std::sync::ledger::Ledger;
 
 /// How many bytes are gathered before they are written.
@@ -144,54 +145,6 @@ fn tick_boxes<L: Ledger>(fed: &[u64], steps: &mut Steps<L>)
     }
 }
 
-/// Appends the lines of the boxes, where each was fed so many tuples.
-fn append_boxes(boxes: &[Node], fed: &[u64], text: &mut Vec<u8>) -> Result<(), AllocError>
-    requires even { length fed.now ≡ length boxes.now }
-    ensures ok { OnOk result (text.new.items ≡ text.old.items ++ flat_map fed_line (zip boxes.now fed.now)) }
-{
-    'boxes: for (i, node) in boxes.iter().enumerate() {
-        append_box_line(&node.name, fed[i], text)?;
-    }
-    Ok(())
-}
-
-/// Appends the line of a box's late tuples, which a BSort alone has.
-fn append_late(node: &Node, late: u64, text: &mut Vec<u8>) -> Result<(), AllocError>
-    ensures ok { OnOk result (text.new.items ≡ text.old.items ++ late_text (node.now, late)) }
-{
-    match node.body {
-        Body::BSort { .. } => append_late_line(&node.name, late, text),
-        _ => Ok(()),
-    }
-}
-
-/// Appends the lines of late tuples, where each box has so many.
-fn append_lates(boxes: &[Node], late: &[u64], text: &mut Vec<u8>) -> Result<(), AllocError>
-    requires even { length late.now ≡ length boxes.now }
-    ensures ok { OnOk result (text.new.items ≡ text.old.items ++ flat_map late_text (zip boxes.now late.now)) }
-{
-    'boxes: for (i, node) in boxes.iter().enumerate() {
-        append_late(node, late[i], text)?;
-    }
-    Ok(())
-}
-
-/// Appends the end lines.
-fn append_ends(
-    network: &Network,
-    fed: &[u64],
-    late: &[u64],
-    text: &mut Vec<u8>,
-) -> Result<(), AllocError>
-    requires fed { length fed.now ≡ length network.now.boxes }
-    requires late { length late.now ≡ length network.now.boxes }
-    ensures ok { OnOk result (text.new.items ≡ text.old.items ++ ends_text network.now fed.now late.now) }
-{
-    append_boxes(network.boxes.as_slice(), fed, text)?;
-    append_lates(network.boxes.as_slice(), late, text)?;
-    append_end_line(text)
-}
-
 /// Writes all lines of a run, where these are the streams by number: those of the outputs, and the end lines.
 fn write_lines<S: Sink, L: Ledger>(
     alloc: Global,
@@ -221,7 +174,7 @@ fn write_lines<S: Sink, L: Ledger>(
         Ok(()) => {}
         Err(status) => return Err(status),
     }
-    match append_ends(network, fed.as_slice(), late.as_slice(), &mut text) {
+    match end_lines(network, &fed, &late, &mut text) {
         Ok(()) => send(&mut text, out),
         Err(_) => Err(Status::Memory),
     }

@@ -1,7 +1,8 @@
 use Rattle.std.proofs.Common.{arith, ◌+◌, map}
 use Rattle.sq_top.specs.Due.{outputs_of}
 use Rattle.sq_top.specs.Writing.{output_text, output_work}
-use Rattle.sq_top.proofs.WritingLemmas.{moves-then, pair_lost, pairs_all, pairs_text-more, pairs_work-more, work-rest}
+use Rattle.sq_replay.proofs.PairLemmas.{pairs_all, pairs_text-more}
+use Rattle.sq_top.proofs.WritingLemmas.{moves-then, pair_lost, pairs_work-more, work-rest}
 use Rattle.sq_top.proofs.writing.show_outputs.Goals as goal
 
 pub returns-in-Err-clause-err : goal.returns-in-Err-clause-err

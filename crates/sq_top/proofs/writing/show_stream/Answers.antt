@@ -1,6 +1,7 @@
 use Rattle.std.proofs.Common.{arith}
 use Rattle.sq_value.specs.LineTexts.{output_line}
-use Rattle.sq_top.proofs.WritingLemmas.{lost_at, moves-then, text-more}
+use Rattle.sq_replay.proofs.PairLemmas.{text-more}
+use Rattle.sq_top.proofs.WritingLemmas.{lost_at, moves-then}
 use Rattle.sq_top.proofs.writing.show_stream.Goals as goal
 
 pub returns-in-Err-clause-err : goal.returns-in-Err-clause-err

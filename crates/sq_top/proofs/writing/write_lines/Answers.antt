@@ -1,5 +1,6 @@
 use Rattle.std.proofs.Common.{arith, ap, ◌∙◌, length, map}
-use Rattle.sq_top.proofs.WritingLemmas.{feds_length, lates_length, lost_before, lost_last, lost_waiting, on_err, on_err_any, on_ok_any, on_ok_both, sent_last, work_from-is}
+use Rattle.sq_replay.proofs.ShownLemmas.{on_err_any}
+use Rattle.sq_top.proofs.WritingLemmas.{feds_length, lates_length, lost_before, lost_last, lost_waiting, on_err, on_ok_any, on_ok_both, sent_last, work_from-is}
 use Rattle.sq_top.proofs.writing.write_lines.Goals as goal
 
 pub returns-in-Err-clause-err : goal.returns-in-Err-clause-err
@@ -14,26 +15,26 @@ returns-in-Err-clause-fewer g c =
       work_from-is c.args.network.now (map (λ xs. xs.items) c.args.streams.now) c.requires.shown,
     )
 
-pub append_ends-requires : goal.append_ends-requires
-append_ends-requires g c = record {
-  fed = ap (λ ks. length ks) (c.as_slice-2.ensures.value ∙ c.in-Ok.ensures) ∙ feds_length c.args.network.now (map (λ xs. xs.items) c.args.streams.now);
-  late = ap (λ ks. length ks) (c.as_slice-3.ensures.value ∙ c.in-Ok-late.ensures) ∙ lates_length c.args.network.now (map (λ xs. xs.items) c.args.streams.now);
+pub end_lines-requires : goal.end_lines-requires
+end_lines-requires g c = record {
+  fed = ap (λ ks. length ks) c.in-Ok.ensures ∙ feds_length c.args.network.now (map (λ xs. xs.items) c.args.streams.now);
+  late = ap (λ ks. length ks) c.in-Ok-late.ensures ∙ lates_length c.args.network.now (map (λ xs. xs.items) c.args.streams.now);
 }
 
-pub returns-in-Ok-append_ends-clause-ok : goal.returns-in-Ok-append_ends-clause-ok
-returns-in-Ok-append_ends-clause-ok g c =
+pub returns-in-Ok-end_lines-clause-ok : goal.returns-in-Ok-end_lines-clause-ok
+returns-in-Ok-end_lines-clause-ok g c =
     on_ok_both c.send.result c.send.ensures.ok c.send.ensures.none_waits
     (λ moves none. sent_last c.args.network.now (map (λ xs. xs.items) c.args.streams.now) _ _ _ _ _ _ (rw c.new-text.ensures.items at c.in-Ok-show_outputs.ensures.ok)
-    (rw (c.as_slice-3.ensures.value ∙ c.in-Ok-late.ensures) at (rw (c.as_slice-2.ensures.value ∙ c.in-Ok.ensures) at c.in-Ok-append_ends.ensures.ok)) moves none)
+    (rw (c.in-Ok.ensures, c.in-Ok-late.ensures) at c.in-Ok-end_lines.ensures.ok) moves none)
 
-pub returns-in-Ok-append_ends-clause-err : goal.returns-in-Ok-append_ends-clause-err
-returns-in-Ok-append_ends-clause-err g c =
+pub returns-in-Ok-end_lines-clause-err : goal.returns-in-Ok-end_lines-clause-err
+returns-in-Ok-end_lines-clause-err g c =
     on_err c.send.result c.send.ensures.err
     (λ lost. lost_last c.args.network.now (map (λ xs. xs.items) c.args.streams.now) _ _ _ _ _ (rw c.new-text.ensures.items at c.in-Ok-show_outputs.ensures.ok)
-    (rw (c.as_slice-3.ensures.value ∙ c.in-Ok-late.ensures) at (rw (c.as_slice-2.ensures.value ∙ c.in-Ok.ensures) at c.in-Ok-append_ends.ensures.ok)) lost)
+    (rw (c.in-Ok.ensures, c.in-Ok-late.ensures) at c.in-Ok-end_lines.ensures.ok) lost)
 
-pub returns-in-Ok-append_ends-clause-steps : goal.returns-in-Ok-append_ends-clause-steps
-returns-in-Ok-append_ends-clause-steps g c =
+pub returns-in-Ok-end_lines-clause-steps : goal.returns-in-Ok-end_lines-clause-steps
+returns-in-Ok-end_lines-clause-steps g c =
     on_ok_any c.send.result
     (omega (
       arith,
@@ -42,8 +43,8 @@ returns-in-Ok-append_ends-clause-steps g c =
       work_from-is c.args.network.now (map (λ xs. xs.items) c.args.streams.now) c.requires.shown,
     ))
 
-pub returns-in-Ok-append_ends-clause-fewer : goal.returns-in-Ok-append_ends-clause-fewer
-returns-in-Ok-append_ends-clause-fewer g c =
+pub returns-in-Ok-end_lines-clause-fewer : goal.returns-in-Ok-end_lines-clause-fewer
+returns-in-Ok-end_lines-clause-fewer g c =
     on_err_any c.send.result
     (omega (
       arith,
