@@ -4,6 +4,7 @@ pub mod DueLemmas
 pub mod MixedLemmas
 pub mod EndLemmas
 pub mod HistoryLemmas
+pub mod DrivingLemmas
 mod Rows
 pub mod SortedLines
 pub mod StoppedLemmas

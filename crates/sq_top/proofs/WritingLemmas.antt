@@ -139,7 +139,7 @@ pub lost_waiting : (n : Network) (streams : List (List Tuple)) (before now : Opt
     → Moves before [] now waits (flat_map (output_text streams) (outputs_of n)) → AppendsPrefix before now (all_text (due_from n streams))
 lost_waiting n streams before now waits a = lost_before n streams before now (a.part, (waits, sym a.all), a.now_is)
 
-appended-nil : (before : Option (List ℕ)) → appended before [] ≡ before
+pub appended-nil : (before : Option (List ℕ)) → appended before [] ≡ before
 appended-nil None = refl
 appended-nil (Some ws) = ap Some (append-nil ws)
 

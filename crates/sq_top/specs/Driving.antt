@@ -1,43 +1,25 @@
--- What a run shows on its way: a history of events, of which each has a line.
-use Rattle.std.specs.Prelude.{◌≡◌, ℕ, ◌<◌, ◌==◌, List, [], ◌∷◌, ◌++◌, length, Option, Some, None, slice_get, if◌then◌else◌}
+-- What a run shows on its way: a history of events, whose lines are written one after another.
+use Rattle.std.specs.Prelude.{◌≡◌, ◌⊎◌, ℕ, ◌+◌, ◌^◌, ◌<◌, ◌≤◌, List, ◌++◌, length, Option, slice_get, Some}
 use Rattle.std.specs.List.{AllByRecursion, flat_map}
 use Rattle.sq_value.specs.declared.Tuple.{Tuple}
 use Rattle.sq_value.specs.Lists.{IsPrefixOf}
-use Rattle.sq_value.specs.LineTexts.{output_line, drop_line, plan_line}
+use Rattle.sq_outside.specs.Disks.{Pages}
+use Rattle.sq_outside.specs.Sinks.{AppendsPrefix, appended}
 use Rattle.sq_net.specs.declared.Network.{Network}
-use Rattle.sq_net.specs.declared.Output.{Output}
 use Rattle.sq_oper.specs.declared.outs.Event.{Event}
-use Rattle.sq_oper.specs.declared.outs.Event.TheVariants.{Line, Dropped, Plan}
-
--- the name of the output with this number
-abbrev pub name_in : Option Output → List ℕ
-name_in None = []
-name_in (Some o) = o.name
-
-abbrev pub output_name : Network → ℕ → List ℕ
-output_name n output = name_in (slice_get n.outputs output)
-
--- the line of an event
-abbrev pub event_line : Network → Event → List ℕ
-event_line n (Line output tuple) = output_line (output_name n output) tuple
-event_line n (Dropped d) = []
-event_line n (Plan epoch load capacity saved fits) = []
-
--- the tuples that were shown at an output
-abbrev pub line_of : ℕ → Event → List Tuple
-line_of o (Line output tuple) = if output == o then tuple ∷ [] else []
-line_of o (Dropped d) = []
-line_of o (Plan epoch load capacity saved fits) = []
-
-abbrev pub lines_of : ℕ → List Event → List Tuple
-lines_of o [] = []
-lines_of o (e ∷ es) = line_of o e ++ lines_of o es
+use Rattle.sq_replay.specs.Shown.{event_line}
+use Rattle.sq_model.specs.Full.{full_stream}
+use Rattle.sq_model.specs.Fed.{fed_of, late_of, work_of}
+use Rattle.sq_queue.specs.Faces.{Tells}
+use Rattle.sq_core.specs.declared.Engine.{Engine}
+use Rattle.sq_core.specs.Runs.{IsLineBelow, IsRun, fed_at, late_at, lines_of}
+use Rattle.sq_top.specs.declared.Status.{Status}
+use Rattle.sq_top.specs.declared.Status.TheVariants as status
+use Rattle.sq_top.specs.Writing.{IsLost, Moves}
 
 -- a tuple at an output that is there
 abbrev pub IsLineIn : Network → Event → Type 0
-IsLineIn n (Line output tuple) = output < length n.outputs
-IsLineIn n (Dropped d) = ⊥
-IsLineIn n (Plan epoch load capacity saved fits) = ⊥
+IsLineIn n e = IsLineBelow (length n.outputs) e
 
 -- the text of a history
 abbrev pub history_text : Network → List Event → List ℕ
@@ -52,3 +34,48 @@ pub record ShowsAll (n : Network) (stream : ℕ → List Tuple) (history : List 
 pub record ShowsFirst (n : Network) (stream : ℕ → List Tuple) (history : List Event) : Type 0 where
   pub shown : AllByRecursion (IsLineIn n) history
   pub lines : (output s : ℕ) → slice_get n.wires.outputs output ≡ Some s → IsPrefixOf (lines_of output history) (stream s)
+
+-- a run came to its end: what was written is the text of a history in which each output shows its full stream, each box was fed
+-- what it takes, and the steps are the work
+pub record IsDriven (n : Network) (sources : List (List Tuple)) (engine : Engine) (before now : Option (List ℕ)) (begun steps : ℕ) : Type 0 where
+  pub history : List Event
+  pub shows : ShowsAll n (full_stream n sources) history
+  pub written : now ≡ appended before (history_text n history)
+  pub fed : (at : ℕ) → at < length n.boxes → fed_at engine at ≡ fed_of n sources at
+  pub late : (at : ℕ) → at < length n.boxes → late_at engine at ≡ late_of n sources at
+  pub work : steps ≡ begun + work_of n sources
+
+-- a run stopped on its way: what was written begins the text of a history in which each output shows the first tuples of its full
+-- stream, the steps are no more than the work, and too much was to be fed only where the work is too much
+pub record IsHalted (n : Network) (sources : List (List Tuple)) (result : Status) (before now : Option (List ℕ)) (begun steps : ℕ) : Type 0 where
+  pub history : List Event
+  pub shows : ShowsFirst n (full_stream n sources) history
+  pub written : AppendsPrefix before now (history_text n history)
+  pub work : steps ≤ begun + work_of n sources
+  pub too_much : result ≡ status.TooMuch → 2 ^ 62 ≤ work_of n sources
+
+-- memory ran out, the sink failed, or too much was to be fed
+abbrev pub IsCutShort : ℕ → ℕ → Status → Type 0
+IsCutShort faults_before faults_now result = IsLost faults_before faults_now result ⊎ (result ≡ status.TooMuch)
+
+-- an engine went on: it showed these events more, and their lines were written or wait
+pub record GoesOn (was is : Option Pages) (from to : Engine) (begun now : ℕ) (before : Option (List ℕ)) (waited : List ℕ) (after : Option (List ℕ)) (waits : List ℕ) : Type 0 where
+  pub events : List Event
+  pub shown : AllByRecursion (IsLineIn from.network) events
+  pub moves : Moves before waited after waits (history_text from.network events)
+  pub goes : (n : Network) (sources : List (List Tuple)) (history : List Event) (start : ℕ) → IsRun n sources was from history start begun
+      → IsRun n sources is to (history ++ events) start now
+
+-- it stopped behind a history: of the events more that it showed a part of the lines was written
+pub record StopsBehind (n : Network) (sources : List (List Tuple)) (history : List Event) (start now : ℕ) (before : Option (List ℕ)) (waited : List ℕ) (after : Option (List ℕ)) (result : Status) : Type 0 where
+  pub events : List Event
+  pub shown : AllByRecursion (IsLineIn n) events
+  pub lines : (output s : ℕ) → slice_get n.wires.outputs output ≡ Some s → IsPrefixOf (lines_of output (history ++ events)) (full_stream n sources s)
+  pub written : AppendsPrefix before after (waited ++ history_text n events)
+  pub work : now ≤ start + work_of n sources
+  pub too_much : result ≡ status.TooMuch → 2 ^ 62 ≤ work_of n sources
+
+abbrev pub Stops : Option Pages → Engine → ℕ → ℕ → Option (List ℕ) → List ℕ → Option (List ℕ) → Status → Type 0
+Stops was from begun now before waited after result =
+    (n : Network) (sources : List (List Tuple)) (history : List Event) (start : ℕ) → Tells was → IsRun n sources was from history start begun
+    → StopsBehind n sources history start now before waited after result

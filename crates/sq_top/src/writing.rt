@@ -24,7 +24,7 @@ use std::sync::ledger::Ledger;
 const PIECE: usize = 65_536;
 
 /// Writes what waits.
-fn send<S: Sink>(text: &mut Vec<u8>, out: &mut S) -> Result<(), Status>
+pub(crate) fn send<S: Sink>(text: &mut Vec<u8>, out: &mut S) -> Result<(), Status>
     ensures ok { OnOk result (Moves (S.written out.old) text.old.items (S.written out.new) text.new.items []) }
     ensures none_waits { OnOk result (text.new.items ≡ []) }
     ensures err { OnErr result (AppendsPrefix (S.written out.old) (S.written out.new) text.old.items) }
@@ -41,7 +41,7 @@ fn send<S: Sink>(text: &mut Vec<u8>, out: &mut S) -> Result<(), Status>
 }
 
 /// Writes what waits, where it is enough for a piece.
-fn send_piece<S: Sink>(text: &mut Vec<u8>, out: &mut S) -> Result<(), Status>
+pub(crate) fn send_piece<S: Sink>(text: &mut Vec<u8>, out: &mut S) -> Result<(), Status>
     ensures ok { OnOk result (Moves (S.written out.old) text.old.items (S.written out.new) text.new.items []) }
     ensures err { OnErr result (AppendsPrefix (S.written out.old) (S.written out.new) text.old.items) }
     ensures lost { IfErr result (λ s. IsLost (S.faults out.old) (S.faults out.new) s) }
