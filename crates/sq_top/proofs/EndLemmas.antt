@@ -37,7 +37,9 @@ use Rattle.sq_replay.specs.Shown.{fed_line, is_sorter, late_lines}
 use Rattle.sq_top.specs.Due.{Due, all_lines, all_text, due_from, due_of, ended_from, feds_from, lates_from, shown_from}
 use Rattle.sq_top.specs.Answers.{IsPrefixText, IsWholeText}
 use Rattle.sq_top.specs.Writing.{IsLost}
-use Rattle.sq_top.specs.Scripts.{Lookup, Replay, Script, Done, accepted, after_network, after_stream, after_streams, after_words, go_on, outcome_of, readable, settings_limit, stream_limit}
+use Rattle.sq_top.specs.declared.RunArgs.{RunArgs}
+use Rattle.sq_replay.specs.Entries.{picks_in}
+use Rattle.sq_top.specs.Scripts.{Lookup, Done, Replay, accepted, after_network, after_picks, after_stream, after_streams, after_words, go_on, outcome_of, picks_script, readable, settings_limit, stream_limit, unread, with_sources, Script}
 use Rattle.sq_top.specs.Causes.{AnswersPrefix, AnswersWhole, AppendsSuch, Ends, HasFailedAt, IsStopped, MatchAccepted, RefusalHasCause, WhereTold, World, is_refusal}
 use Rattle.sq_top.proofs.SortedLines.{and-true}
 use Rattle.sq_top.proofs.StoppedLemmas.{at_told, some_none, where_told}
@@ -151,27 +153,35 @@ module _ (files : Lookup) (n : Network) where
   file_ok (Ok bytes) more r rest e = rest bytes e
   file_ok (Err s) more r rest e = absurd (cc)
 
-  first_same : (read : List (List Tuple)) (r : Replay) → outcome_of files (Done (record { network = n; sources = read })) ≡ Ok r → n ≡ r.network
-  first_same read r e = let same : record { network = n; sources = read } ≡ r = cc in ap (λ (p : Replay). p.network) same
+streams_ok : (files : Lookup) (p : Replay) (left : List Source) (r : Replay) → outcome_of files (after_streams p left) ≡ Ok r → p.network ≡ r.network
+streams_ok files p [] r e = let same : p ≡ r = cc in ap (λ (x : Replay). x.network) same
+streams_ok files p (s ∷ left) r e =
+    let more = λ (xs : List Tuple). after_streams (with_sources p (p.sources ++ xs ∷ [])) left in
+    file_ok files p.network (readable s.file stream_limit (files s.file)) (λ bytes. after_stream (length p.sources) more (stream_in s.schema bytes)) r
+    (λ bytes. stream_ok files p.network (length p.sources) more r (stream_in s.schema bytes) (λ xs. streams_ok files (with_sources p (p.sources ++ xs ∷ [])) left r)) e
 
-  streams_ok : (read : List (List Tuple)) (left : List Source) (r : Replay) → outcome_of files (after_streams n read left) ≡ Ok r → n ≡ r.network
-  streams_ok read [] r e = first_same read r e
-  streams_ok read (s ∷ left) r e =
-      file_ok (readable s.file stream_limit (files s.file)) (λ bytes. after_stream (length read) (λ xs. after_streams n (read ++ xs ∷ []) left) (stream_in s.schema bytes)) r
-      (λ bytes. stream_ok (length read) (λ xs. after_streams n (read ++ xs ∷ []) left) r (stream_in s.schema bytes) (λ xs. streams_ok (read ++ xs ∷ []) left r)) e
+picks_ok : (files : Lookup) (args : RunArgs) (n : Network) (o : Result (List ℕ) ℕ) (r : Replay) → outcome_of files (after_picks args n o) ≡ Ok r → n ≡ r.network
+picks_ok files args n (Ok picks) r e = streams_ok files (unread args n picks) n.sources r e
+picks_ok files args n (Err line) r e = absurd (cc)
 
-network_ok : (files : Lookup) (bytes : List ℕ) (o : Result Network NetErr) (r : Replay) → network_in bytes ≡ o → outcome_of files (after_network o) ≡ Ok r → IsFileOf r.network
-network_ok files bytes (Ok n) r said e = (bytes, said ∙ ap (λ (x : Network). Ok x) (streams_ok files n [] n.sources r e))
-network_ok files bytes (Err s) r said e = absurd (cc)
+named_ok : (files : Lookup) (args : RunArgs) (n : Network) (o : Option (List ℕ)) (r : Replay) → outcome_of files (picks_script args n o) ≡ Ok r → n ≡ r.network
+named_ok files args n None r e = picks_ok files args n (Ok []) r e
+named_ok files args n (Some name) r e =
+    file_ok files n (readable name settings_limit (files name)) (λ bytes. after_picks args n (picks_in bytes)) r (λ bytes. picks_ok files args n (picks_in bytes) r) e
 
-network_file_ok : (files : Lookup) (read : Result (List ℕ) Status) (r : Replay)
-    → go_on (λ s. Err s) (λ bytes. outcome_of files (after_network (network_in bytes))) read ≡ Ok r → IsFileOf r.network
-network_file_ok files (Ok bytes) r e = network_ok files bytes (network_in bytes) r refl e
-network_file_ok files (Err s) r e = absurd (cc)
+network_ok : (files : Lookup) (args : RunArgs) (bytes : List ℕ) (o : Result Network NetErr) (r : Replay) → network_in bytes ≡ o → outcome_of files (after_network args o) ≡ Ok r
+    → IsFileOf r.network
+network_ok files args bytes (Ok n) r said e = (bytes, said ∙ ap (λ (x : Network). Ok x) (named_ok files args n args.picks r e))
+network_ok files args bytes (Err s) r said e = absurd (cc)
+
+network_file_ok : (files : Lookup) (args : RunArgs) (read : Result (List ℕ) Status) (r : Replay)
+    → go_on (λ s. Err s) (λ bytes. outcome_of files (after_network args (network_in bytes))) read ≡ Ok r → IsFileOf r.network
+network_file_ok files args (Ok bytes) r e = network_ok files args bytes (network_in bytes) r refl e
+network_file_ok files args (Err s) r e = absurd (cc)
 
 command_ok : (files : Lookup) (o : Option Command) (r : Replay) → outcome_of files (after_words o) ≡ Ok r → IsFileOf r.network
 command_ok files None r e = absurd (cc)
-command_ok files (Some (command.Run args)) r e = network_file_ok files (readable args.net settings_limit (files args.net)) r e
+command_ok files (Some (command.Run args)) r e = network_file_ok files args (readable args.net settings_limit (files args.net)) r e
 
 pub accepted_tells_classes : (files : Lookup) (words : List (List ℕ)) (r : Replay) → accepted files words ≡ Ok r → TellsClasses (due_of r)
 accepted_tells_classes files words r e =

@@ -10,3 +10,4 @@ pub mod SortedLines
 pub mod StoppedLemmas
 pub mod WritingLemmas
 pub mod SourceLemmas
+pub mod WordLemmas

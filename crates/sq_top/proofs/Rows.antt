@@ -1,13 +1,13 @@
 -- Worked rows, by evaluation.
 use Rattle.std.proofs.Common.{◌≡◌, ℕ, List, [], ◌∷◌, map, refl, pos}
-use Rattle.std.specs.Prelude.{Some, None, Ok, Err, codes}
+use Rattle.std.specs.Prelude.{Some, None, Ok, Err, codes, if◌then◌else◌}
 use Rattle.std.specs.Fmt.{digits}
 use Rattle.std.specs.Str.{is_utf8, chars}
 use Rattle.std.specs.Char.{encode_utf8}
 use Rattle.sq_value.specs.declared.Tuple.{Tuple}
 use Rattle.sq_value.specs.declared.Kind.TheVariants as kind
 use Rattle.sq_value.specs.declared.Value.TheVariants as value
-use Rattle.sq_value.specs.Lists.{numbers_to}
+use Rattle.sq_value.specs.Lists.{numbers_to, same_bytes}
 use Rattle.sq_value.specs.Classes.{Ended, Shown, of_class}
 use Rattle.sq_expr.specs.declared.What.TheVariants as what
 use Rattle.sq_graph.specs.declared.BoxKind.TheVariants as boxes
@@ -22,19 +22,74 @@ use Rattle.sq_net.specs.declared.Part.TheVariants as part
 use Rattle.sq_net.specs.declared.Source.{Source}
 use Rattle.sq_replay.specs.declared.why.Why.TheVariants as why
 use Rattle.sq_model.specs.Fed.{work_of}
+use Rattle.sq_sched.specs.declared.policy.Rule.TheVariants as rule
+use Rattle.sq_top.specs.declared.RunArgs.{RunArgs}
 use Rattle.sq_top.specs.declared.Command.TheVariants as command
 use Rattle.sq_top.specs.declared.Status.TheVariants as status
 use Rattle.sq_top.specs.Commands.{command_in}
 use Rattle.sq_top.specs.Due.{all_text, due_of}
 use Rattle.sq_top.specs.Answers.{lines_of}
 use Rattle.sq_top.specs.Messages.{message_of}
-use Rattle.sq_top.specs.Scripts.{Replay, accepted, after_network, outcome_of}
+use Rattle.sq_top.specs.Scripts.{Replay, accepted, after_network, outcome_of, unread, with_sources}
 
-words_run : command_in (codes "run" ∷ codes "a.toml" ∷ []) ≡ Some (command.Run (record { net = codes "a.toml" }))
+abbrev defaults : List ℕ → RunArgs
+defaults net = record { net = net; seed = 0; rule = rule.RoundRobin; picks = None; train = 16 }
+
+words_run : command_in (codes "run" ∷ codes "a.toml" ∷ []) ≡ Some (command.Run (defaults (codes "a.toml")))
 words_run = refl
+
+words_none : command_in [] ≡ None
+words_none = refl
 
 words_alone : command_in (codes "run" ∷ []) ≡ None
 words_alone = refl
+
+words_two_networks : command_in (codes "run" ∷ codes "a" ∷ codes "b" ∷ []) ≡ None
+words_two_networks = refl
+
+words_no_value : command_in (codes "run" ∷ codes "a" ∷ codes "--seed" ∷ []) ≡ None
+words_no_value = refl
+
+words_empty_value : command_in (codes "run" ∷ codes "a" ∷ codes "--seed=" ∷ []) ≡ None
+words_empty_value = refl
+
+words_sign : command_in (codes "run" ∷ codes "a" ∷ codes "--seed" ∷ codes "-1" ∷ []) ≡ None
+words_sign = refl
+
+words_train : command_in (codes "run" ∷ codes "a" ∷ codes "--train" ∷ codes "0" ∷ []) ≡ None
+words_train = refl
+
+words_long_train : command_in (codes "run" ∷ codes "a" ∷ codes "--train=4097" ∷ []) ≡ None
+words_long_train = refl
+
+words_picks_and_policy : command_in (codes "run" ∷ codes "a" ∷ codes "--picks" ∷ codes "p" ∷ codes "--policy" ∷ codes "rr" ∷ []) ≡ None
+words_picks_and_policy = refl
+
+words_twice : command_in (codes "run" ∷ codes "a" ∷ codes "--seed" ∷ codes "1" ∷ codes "--seed" ∷ codes "1" ∷ []) ≡ None
+words_twice = refl
+
+words_dashes : command_in (codes "run" ∷ codes "--" ∷ codes "a" ∷ []) ≡ None
+words_dashes = refl
+
+words_unknown : command_in (codes "run" ∷ codes "a" ∷ codes "--frames" ∷ codes "2" ∷ []) ≡ None
+words_unknown = refl
+
+words_seed : command_in (codes "run" ∷ codes "--seed=7" ∷ codes "a.toml" ∷ []) ≡ Some (command.Run (record (defaults (codes "a.toml")) { seed = 7 }))
+words_seed = refl
+
+words_great_seed : command_in (codes "run" ∷ codes "--seed" ∷ codes "18446744073709551615" ∷ codes "a" ∷ [])
+    ≡ Some (command.Run (record (defaults (codes "a")) { seed = 18446744073709551615 }))
+words_great_seed = refl
+
+words_seed_too_great : command_in (codes "run" ∷ codes "--seed" ∷ codes "18446744073709551616" ∷ codes "a" ∷ []) ≡ None
+words_seed_too_great = refl
+
+words_all : command_in (codes "run" ∷ codes "--picks=-p" ∷ codes "--train" ∷ codes "00000000000000000001" ∷ codes "a" ∷ [])
+    ≡ Some (command.Run (record (defaults (codes "a")) { rule = rule.Picks; picks = Some (codes "-p"); train = 1 }))
+words_all = refl
+
+words_policy : command_in (codes "run" ∷ codes "a" ∷ codes "--policy" ∷ codes "seeded" ∷ []) ≡ Some (command.Run (record (defaults (codes "a")) { rule = rule.Seeded }))
+words_policy = refl
 
 -- two sources and their Union
 abbrev source : List ℕ → List ℕ → Source
@@ -59,8 +114,12 @@ network = record {
 abbrev at : ℕ → ℕ → Tuple
 at t v = record { time = t; fields = value.Int (pos v) ∷ [] }
 
+-- a network and the tuples of its sources, under what words say by default
+abbrev of_tuples : Network → List (List Tuple) → Replay
+of_tuples n sources = with_sources (unread (defaults (codes "a.toml")) n []) sources
+
 abbrev replay : Replay
-replay = record { network = network; sources = (at 1 10 ∷ at 3 11 ∷ at 3 12 ∷ []) ∷ (at 2 20 ∷ at 3 21 ∷ []) ∷ [] }
+replay = of_tuples network ((at 1 10 ∷ at 3 11 ∷ at 3 12 ∷ []) ∷ (at 2 20 ∷ at 3 21 ∷ []) ∷ [])
 
 text_is : all_text (due_of replay) ≡ codes "o,1,10\no,2,20\no,3,11\no,3,12\no,3,21\n@box,u,5\n@end\n"
 unfolding digits
@@ -83,17 +142,15 @@ abbrev sort_box : Node
 sort_box = record { name = codes "bs"; body = BSort 0 0; schemas = ((codes "at", kind.Int) ∷ []) ∷ []; cost = 1; selectivity = 1000 ∷ [] }
 
 abbrev sorted : Replay
-sorted = record {
-  network = record {
-    epoch = 1000;
-    batch = 1;
-    wires = record { sources = 1; boxes = record { kind = boxes.BSort; inputs = 0 ∷ []; ports = 1 } ∷ []; outputs = 1 ∷ [] };
-    sources = record { name = codes "s"; file = codes "s.csv"; schema = (codes "at", kind.Int) ∷ [] } ∷ [];
-    boxes = sort_box ∷ [];
-    outputs = output ∷ [];
-  };
-  sources = (at 5 3 ∷ at 6 1 ∷ at 7 2 ∷ []) ∷ [];
-}
+sorted =
+    of_tuples (record {
+      epoch = 1000;
+      batch = 1;
+      wires = record { sources = 1; boxes = record { kind = boxes.BSort; inputs = 0 ∷ []; ports = 1 } ∷ []; outputs = 1 ∷ [] };
+      sources = record { name = codes "s"; file = codes "s.csv"; schema = (codes "at", kind.Int) ∷ [] } ∷ [];
+      boxes = sort_box ∷ [];
+      outputs = output ∷ [];
+    }) ((at 5 3 ∷ at 6 1 ∷ at 7 2 ∷ []) ∷ [])
 
 late_is : all_text (due_of sorted) ≡ codes "o,3,3\n@box,bs,3\n@late,bs,2\n@end\n"
 unfolding digits
@@ -146,10 +203,28 @@ absent : accepted (λ name. None) (codes "run" ∷ codes "a.toml" ∷ []) ≡ Er
 absent = refl
 
 -- the second source isn't looked for where the first has a bad line
-first_bad : outcome_of (λ name. Some (codes "2,x\n")) (after_network (Ok network)) ≡ Err (status.BadStream 0 1 why.NotInt)
+first_bad : outcome_of (λ name. Some (codes "2,x\n")) (after_network (defaults (codes "a.toml")) (Ok network)) ≡ Err (status.BadStream 0 1 why.NotInt)
 unfolding is_utf8 chars encode_utf8
 first_bad = refl
 
-all_read : outcome_of (λ name. Some (codes "2,7\n")) (after_network (Ok network)) ≡ Ok (record { network = network; sources = (at 2 7 ∷ []) ∷ (at 2 7 ∷ []) ∷ [] })
+all_read : outcome_of (λ name. Some (codes "2,7\n")) (after_network (defaults (codes "a.toml")) (Ok network)) ≡ Ok (of_tuples network ((at 2 7 ∷ []) ∷ (at 2 7 ∷ []) ∷ []))
 unfolding is_utf8 chars encode_utf8
 all_read = refl
+
+-- the picks stand before the sources
+abbrev picked : RunArgs
+picked = record (defaults (codes "a.toml")) { rule = rule.Picks; picks = Some (codes "picks") }
+
+bad_picks : outcome_of (λ name. if same_bytes name (codes "picks") then Some (codes "3\n\n4294967296\n") else None) (after_network picked (Ok network)) ≡ Err (status.BadPicks 3)
+bad_picks = refl
+
+no_picks_file : outcome_of (λ name. None) (after_network picked (Ok network)) ≡ Err (status.FolderFault (codes "picks"))
+no_picks_file = refl
+
+picks_read : outcome_of (λ name. if same_bytes name (codes "picks") then Some (codes "0\n4294967295\n") else Some []) (after_network picked (Ok network))
+    ≡ Ok (with_sources (unread picked network (0 ∷ 4294967295 ∷ [])) ([] ∷ [] ∷ []))
+picks_read = refl
+
+picks_message : message_of [] (status.BadPicks 3) ≡ codes "aurora: picks: line 3\n"
+unfolding digits
+picks_message = refl

@@ -22,11 +22,12 @@ use Rattle.sq_net.specs.Sound.{IsSound, is_between}
 use Rattle.sq_reader.specs.Networks.{network_in}
 use Rattle.sq_tables.specs.Refusals.{is_memory}
 use Rattle.sq_replay.specs.declared.why.Why.{Why}
+use Rattle.sq_replay.specs.Entries.{picks_in}
 use Rattle.sq_replay.specs.Streams.{stream_in}
 use Rattle.sq_top.specs.Commands.{command_in}
 use Rattle.sq_top.specs.Messages.{name_at, name_in, network_named, source_name}
-use Rattle.sq_top.specs.Scripts.{Script, Reads, Done, Stops, Lookup, Replay, accepted, after_network, after_stream, after_streams, after_words, go_on, outcome_of, readable, reads_of, script_of, settings_limit, stream_limit}
-use Rattle.sq_top.specs.Causes.{AreBytesOf, HasFailedAt, HasNoStream, HasNoStreams, IsNoCommand, IsRefusedBy, IsStopped, IsStreamOf, IsUnread, Leads, LeadsWhereTold, MatchAccepted, NamesSource, RefusalHasCause, WhereTold, FilePart, NetworkFile, StreamFile, is_network, limit_of, may_be}
+use Rattle.sq_top.specs.Scripts.{Script, Reads, Done, Stops, Lookup, Replay, accepted, after_network, after_picks, after_stream, after_streams, after_words, go_on, outcome_of, picks_script, readable, reads_of, script_of, settings_limit, stream_limit, unread, with_sources}
+use Rattle.sq_top.specs.Causes.{AreBytesOf, ArePicksOf, HasFailedAt, HasNoPicks, HasNoStream, HasNoStreams, IsNoCommand, IsRefusedBy, IsStopped, IsStreamOf, IsUnread, Leads, LeadsWhereTold, MatchAccepted, NamesSource, RefusalHasCause, WhereTold, FilePart, NetworkFile, PicksFile, StreamFile, is_named, is_network, is_picks, limit_of, may_be}
 use Rattle.sq_top.proofs.SortedLines.{and-true}
 
 match_any : (r : Result Replay Status) (P : Replay → Type 0) (Q : Status → Type 0) → ((x : Replay) → P x) → ((s : Status) → Q s) → MatchAccepted r P Q
@@ -93,6 +94,7 @@ module _ (words : List (List ℕ)) (told : Option Files) (fb fn tb tn : ℕ) (so
   -- a rule of a file, but want of memory
   abbrev IsRule : Status → Type 0
   IsRule (status.BadNetwork e) = e ≢ net.Memory
+  IsRule (status.BadPicks line) = ⊤
   IsRule (status.BadStream number line why) = ⊤
   IsRule s = ⊥
 
@@ -109,6 +111,15 @@ module _ (words : List (List ℕ)) (told : Option Files) (fb fn tb tn : ℕ) (so
     named = named;
     ends = inl refl;
     no_memory = λ h. is (same_error rule h);
+  }
+  stopped_rule (status.BadPicks line) is some leads named = record {
+    usage = record { only = λ e. absurd (cc); when = λ e. absurd (some_none (command_in words) some e) };
+    refusal = where_told told (λ files. RefusalHasCause files words fb fn (status.BadPicks line))
+        (λ files e. refusal_by files words fb fn (status.BadPicks line) (inl (at_told told _ files e leads).outcome) (λ name h. absurd (cc)));
+    folder = record { failed = λ name e. absurd (cc); too_long = λ name e. absurd (cc) };
+    named = named;
+    ends = inl refl;
+    no_memory = λ e. absurd (cc);
   }
   stopped_rule (status.BadStream number line why) is some leads named = record {
     usage = record { only = λ e. absurd (cc); when = λ e. absurd (some_none (command_in words) some e) };
@@ -252,7 +263,7 @@ module _ (words : List (List ℕ)) (args : RunArgs) (command : command_in words 
   pub is_command : IsSome (command_in words)
   is_command = rw command refl
 
-  network_comes : LeadsWhereTold told (script_of words) (Reads args.net settings_limit (λ bytes. after_network (network_in bytes)))
+  network_comes : LeadsWhereTold told (script_of words) (Reads args.net settings_limit (λ bytes. after_network args (network_in bytes)))
   network_comes = subst (λ o. LeadsWhereTold told (script_of words) (after_words o)) command (told_self told (script_of words))
 
   net_is_network : (other : List ℕ) → args.net ≡ other → is_network (command_in words) other ≡ true
@@ -260,17 +271,17 @@ module _ (words : List (List ℕ)) (args : RunArgs) (command : command_in words 
 
   pub stopped_network : (fb fn tb tn : ℕ) (s : Status) (source : List ℕ) → IsUnread told args.net settings_limit fb fn tb tn s → IsStopped words told fb fn tb tn s source
   stopped_network fb fn tb tn s source unread =
-      stopped_unread words told fb fn tb tn source args.net settings_limit (λ bytes. after_network (network_in bytes)) is_command network_comes s
+      stopped_unread words told fb fn tb tn source args.net settings_limit (λ bytes. after_network args (network_in bytes)) is_command network_comes s
       (λ rose other e. (NetworkFile, net_is_network other e, rose)) unread
 
   module _ (bytes : List ℕ) (whole : WhereTold told (λ files. readable args.net settings_limit (file files args.net) ≡ Ok bytes)) where
     -- what the file's bytes say comes next
-    after_bytes : (r : Result Network NetErr) → network_in bytes ≡ r → LeadsWhereTold told (script_of words) (after_network r)
+    after_bytes : (r : Result Network NetErr) → network_in bytes ≡ r → LeadsWhereTold told (script_of words) (after_network args r)
     after_bytes r e =
-        subst (λ x. LeadsWhereTold told (script_of words) (after_network x)) e
-        (told_then told _ _ _ network_comes (told_read told args.net settings_limit (λ x. after_network (network_in x)) bytes whole))
+        subst (λ x. LeadsWhereTold told (script_of words) (after_network args x)) e
+        (told_then told _ _ _ network_comes (told_read told args.net settings_limit (λ x. after_network args (network_in x)) bytes whole))
 
-    pub network_leads : (n : Network) → network_in bytes ≡ Ok n → LeadsWhereTold told (script_of words) (after_streams n [] n.sources)
+    pub network_leads : (n : Network) → network_in bytes ≡ Ok n → LeadsWhereTold told (script_of words) (picks_script args n args.picks)
     network_leads n e = after_bytes (Ok n) e
 
     named_in : (files : Files) (n : Network) → readable args.net settings_limit (file files args.net) ≡ Ok bytes → network_in bytes ≡ Ok n
@@ -292,6 +303,40 @@ module _ (words : List (List ℕ)) (args : RunArgs) (command : command_in words 
         subst (λ x. IsStopped words told fb fn tb tn x source) (sym rule.1)
         (stopped_rule words told fb fn tb tn source (status.BadNetwork e) rule.0 is_command (after_bytes (Err e) (said (not_memory e rule.0))) tt)
 
+  -- the picks file
+  module _ (n : Network) (leads : LeadsWhereTold told (script_of words) (picks_script args n args.picks)) where
+    -- what the file's bytes say comes next
+    after_picks_file : (name bytes : List ℕ) (r : Result (List ℕ) ℕ) → picks_in bytes ≡ r → AreBytesOf told name settings_limit bytes
+        → LeadsWhereTold told (picks_script args n (Some name)) (after_picks args n r)
+    after_picks_file name bytes r said whole =
+        subst (λ x. LeadsWhereTold told (picks_script args n (Some name)) (after_picks args n x)) said
+        (told_read told name settings_limit (λ x. after_picks args n (picks_in x)) bytes whole)
+
+    picks_lead : (o : Option (List ℕ)) (picks : List ℕ) → LeadsWhereTold told (script_of words) (picks_script args n o) → ArePicksOf told o picks
+        → LeadsWhereTold told (script_of words) (after_streams (unread args n picks) n.sources)
+    picks_lead None picks to none = subst (λ x. LeadsWhereTold told (script_of words) (after_streams (unread args n x) n.sources)) (sym none) to
+    picks_lead (Some name) picks to (bytes, said, whole) = told_then told _ _ _ to (after_picks_file name bytes (Ok picks) said whole)
+
+    pub picks_leads : (picks : List ℕ) → ArePicksOf told args.picks picks → LeadsWhereTold told (script_of words) (after_streams (unread args n picks) n.sources)
+    picks_leads picks are = picks_lead args.picks picks leads are
+
+    file_is_picks : (name other : List ℕ) → args.picks ≡ Some name → name ≡ other → is_picks (command_in words) other ≡ true
+    file_is_picks name other is e =
+        rw command (subst (λ o. is_named o other ≡ true) (sym is) (subst (λ x. same_bytes name x ≡ true) e (same_bytes-refl name)))
+
+    pub stopped_picks : (fb fn tb tn : ℕ) (s : Status) (source : List ℕ) → HasNoPicks told args.picks fb fn tb tn s → IsStopped words told fb fn tb tn s source
+    stopped_picks fb fn tb tn s source missing = by args.picks refl leads missing
+      where
+        by : (o : Option (List ℕ)) → args.picks ≡ o → LeadsWhereTold told (script_of words) (picks_script args n o) → HasNoPicks told o fb fn tb tn s
+            → IsStopped words told fb fn tb tn s source
+        by None is to none = absurd none
+        by (Some name) is to (inl missed) =
+            stopped_unread words told fb fn tb tn source name settings_limit (λ bytes. after_picks args n (picks_in bytes)) is_command to s
+            (λ rose other e. (PicksFile, file_is_picks name other is e, rose)) missed
+        by (Some name) is to (inr (bytes, line, said, whole, bad)) =
+            subst (λ x. IsStopped words told fb fn tb tn x source) (sym bad)
+            (stopped_rule words told fb fn tb tn source (status.BadPicks line) tt is_command (told_then told _ _ _ to (after_picks_file name bytes (Err line) said whole)) tt)
+
 -- the sources of a sound network are few
 pub few_sources : (n : Network) → IsSound n → length n.sources ≤ 8
 few_sources n sound =
@@ -300,76 +345,84 @@ few_sources n sound =
     at_most : (k : ℕ) → is_between 1 8 k ≡ true → k ≤ 8
     at_most k h = grind (arith, nat_tests)
 
--- the next source
-module _ (told : Option Files) (n : Network) (read : List (List Tuple)) (s : Source) (left : List Source) where
+-- the next source, behind those that were read
+module _ (told : Option Files) (r : Replay) (s : Source) (left : List Source) where
   abbrev after_source : List Tuple → Script
-  after_source xs = after_streams n (read ++ xs ∷ []) left
+  after_source xs = after_streams (with_sources r (r.sources ++ xs ∷ [])) left
 
-  after_file : (bytes : List ℕ) (r : Result (List Tuple) (ℕ × Why)) → stream_in s.schema bytes ≡ r → AreBytesOf told s bytes
-      → LeadsWhereTold told (after_streams n read (s ∷ left)) (after_stream (length read) after_source r)
-  after_file bytes r e whole =
-      subst (λ x. LeadsWhereTold told (after_streams n read (s ∷ left)) (after_stream (length read) after_source x)) e
-      (told_read told s.file stream_limit (λ x. after_stream (length read) after_source (stream_in s.schema x)) bytes whole)
+  after_file : (bytes : List ℕ) (e : Result (List Tuple) (ℕ × Why)) → stream_in s.schema bytes ≡ e → AreBytesOf told s.file stream_limit bytes
+      → LeadsWhereTold told (after_streams r (s ∷ left)) (after_stream (length r.sources) after_source e)
+  after_file bytes e said whole =
+      subst (λ x. LeadsWhereTold told (after_streams r (s ∷ left)) (after_stream (length r.sources) after_source x)) said
+      (told_read told s.file stream_limit (λ x. after_stream (length r.sources) after_source (stream_in s.schema x)) bytes whole)
 
-  pub source_leads : (xs : List Tuple) → IsStreamOf told s xs → LeadsWhereTold told (after_streams n read (s ∷ left)) (after_streams n (read ++ xs ∷ []) left)
+  pub source_leads : (xs : List Tuple) → IsStreamOf told s xs → LeadsWhereTold told (after_streams r (s ∷ left)) (after_streams (with_sources r (r.sources ++ xs ∷ [])) left)
   source_leads xs is = after_file is.0 (Ok xs) is.1 is.2
 
   -- a source whose tuples aren't there stops the reading
-  pub no_streams : (fb fn tb tn : ℕ) (result : Status) (source : List ℕ) → LeadsWhereTold told (after_streams n [] n.sources) (after_streams n read (s ∷ left))
-      → slice_get n.sources (length read) ≡ Some s → HasNoStream told (length read) s fb fn tb tn result source → HasNoStreams told n fb fn tb tn result source
-  no_streams fb fn tb tn result source leads at (inl unread) =
-      inl (s, (λ bytes. after_stream (length read) after_source (stream_in s.schema bytes)), leads, unread)
-  no_streams fb fn tb tn result source leads at (inr (bytes, line, why, said, whole, bad)) =
-      inr (length read, s, line, why, at, told_then told _ _ _ leads (after_file bytes (Err (line, why)) said whole), bad)
+  pub no_streams : (start : Replay) (all : List Source) (fb fn tb tn : ℕ) (result : Status) (source : List ℕ)
+      → LeadsWhereTold told (after_streams start all) (after_streams r (s ∷ left)) → slice_get all (length r.sources) ≡ Some s
+      → HasNoStream told (length r.sources) s fb fn tb tn result source → HasNoStreams told start all fb fn tb tn result source
+  no_streams start all fb fn tb tn result source leads at (inl missed) =
+      inl (s, (λ bytes. after_stream (length r.sources) after_source (stream_in s.schema bytes)), leads, missed)
+  no_streams start all fb fn tb tn result source leads at (inr (bytes, line, why, said, whole, bad)) =
+      inr (length r.sources, s, line, why, at, told_then told _ _ _ leads (after_file bytes (Err (line, why)) said whole), bad)
 
-pub no_streams_later : (told : Option Files) (n : Network) (fb mid fn tb between tn : ℕ) (result : Status) (source : List ℕ) → fb ≤ mid → tb ≤ between
-    → HasNoStreams told n mid fn between tn result source → HasNoStreams told n fb fn tb tn result source
-no_streams_later told n fb mid fn tb between tn result source f t (inl (s, more, leads, unread)) =
-    inl (s, more, leads, unread_later told s.file stream_limit fb mid fn tb between tn result f t unread)
-no_streams_later told n fb mid fn tb between tn result source f t (inr bad) = inr bad
+pub no_streams_later : (told : Option Files) (r : Replay) (all : List Source) (fb mid fn tb between tn : ℕ) (result : Status) (source : List ℕ) → fb ≤ mid → tb ≤ between
+    → HasNoStreams told r all mid fn between tn result source → HasNoStreams told r all fb fn tb tn result source
+no_streams_later told r all fb mid fn tb between tn result source f t (inl (s, more, leads, missed)) =
+    inl (s, more, leads, unread_later told s.file stream_limit fb mid fn tb between tn result f t missed)
+no_streams_later told r all fb mid fn tb between tn result source f t (inr bad) = inr bad
 
--- the source with this number, where those before it were read
-module _ (told : Option Files) (n : Network) (vs : List (List Tuple)) (i : ℕ) (s : Source) (inside : i < length n.sources) (at : s ≡ get_or n.sources i s) (counted : length vs ≡ i)
-    (leads : LeadsWhereTold told (after_streams n [] n.sources) (after_streams n vs (drop i n.sources))) where
-  left_is : drop i n.sources ≡ s ∷ drop (i + 1) n.sources
-  left_is = drop_more n.sources i s inside ∙ ap (λ (x : Source). x ∷ drop (i + 1) n.sources) (sym at)
+-- the source at a place, where those before it were read
+module _ (told : Option Files) (r : Replay) (all : List Source) (vs : List (List Tuple)) (i : ℕ) (s : Source) (inside : i < length all) (at : s ≡ get_or all i s) (counted : length vs ≡ i)
+    (leads : LeadsWhereTold told (after_streams (with_sources r []) all) (after_streams (with_sources r vs) (drop i all))) where
+  left_is : drop i all ≡ s ∷ drop (i + 1) all
+  left_is = drop_more all i s inside ∙ ap (λ (x : Source). x ∷ drop (i + 1) all) (sym at)
 
-  leads_here : LeadsWhereTold told (after_streams n [] n.sources) (after_streams n vs (s ∷ drop (i + 1) n.sources))
-  leads_here = subst (λ xs. LeadsWhereTold told (after_streams n [] n.sources) (after_streams n vs xs)) left_is leads
+  leads_here : LeadsWhereTold told (after_streams (with_sources r []) all) (after_streams (with_sources r vs) (s ∷ drop (i + 1) all))
+  leads_here = subst (λ xs. LeadsWhereTold told (after_streams (with_sources r []) all) (after_streams (with_sources r vs) xs)) left_is leads
 
-  pub leads_on : (xs : List Tuple) → IsStreamOf told s xs → LeadsWhereTold told (after_streams n [] n.sources) (after_streams n (vs ++ xs ∷ []) (drop (i + 1) n.sources))
-  leads_on xs is = told_then told _ _ _ leads_here (source_leads told n vs s (drop (i + 1) n.sources) xs is)
+  pub leads_on : (xs : List Tuple) → IsStreamOf told s xs
+      → LeadsWhereTold told (after_streams (with_sources r []) all) (after_streams (with_sources r (vs ++ xs ∷ [])) (drop (i + 1) all))
+  leads_on xs is = told_then told _ _ _ leads_here (source_leads told (with_sources r vs) s (drop (i + 1) all) xs is)
 
-  source_at : slice_get n.sources (length vs) ≡ Some s
-  source_at = ap (slice_get n.sources) counted ∙ slice_get-get_or n.sources i s inside ∙ ap (λ (x : Source). Some x) (sym at)
+  source_at : slice_get all (length vs) ≡ Some s
+  source_at = ap (slice_get all) counted ∙ slice_get-get_or all i s inside ∙ ap (λ (x : Source). Some x) (sym at)
 
   pub no_streams_at : (number fb mid fn tb between tn : ℕ) (result : Status) (source : List ℕ) → number ≡ i → fb ≤ mid → tb ≤ between
-      → HasNoStream told number s mid fn between tn result source → HasNoStreams told n fb fn tb tn result source
+      → HasNoStream told number s mid fn between tn result source → HasNoStreams told (with_sources r []) all fb fn tb tn result source
   no_streams_at number fb mid fn tb between tn result source same f t none =
-      no_streams_later told n fb mid fn tb between tn result source f t
-      (no_streams told n vs s (drop (i + 1) n.sources) mid fn between tn result source leads_here source_at
+      no_streams_later told (with_sources r []) all fb mid fn tb between tn result source f t
+      (no_streams told (with_sources r vs) s (drop (i + 1) all) (with_sources r []) all mid fn between tn result source leads_here source_at
       (subst (λ k. HasNoStream told k s mid fn between tn result source) (same ∙ sym counted) none))
 
--- the sources
-module _ (words : List (List ℕ)) (told : Option Files) (n : Network) (some : IsSome (command_in words))
-    (leads : LeadsWhereTold told (script_of words) (after_streams n [] n.sources))
-    (named : WhereTold told (λ files. network_named (file files) (command_in words) ≡ Some n)) where
-  name_is : (files : Files) (number : ℕ) (s : Source) → network_named (file files) (command_in words) ≡ Some n → slice_get n.sources number ≡ Some s
+-- the sources of a network
+module _ (words : List (List ℕ)) (told : Option Files) (r : Replay) (some : IsSome (command_in words))
+    (leads : LeadsWhereTold told (script_of words) (after_streams (with_sources r []) r.network.sources))
+    (named : WhereTold told (λ files. network_named (file files) (command_in words) ≡ Some r.network)) where
+  name_is : (files : Files) (number : ℕ) (s : Source) → network_named (file files) (command_in words) ≡ Some r.network → slice_get r.network.sources number ≡ Some s
       → s.name ≡ source_name (file files) words number
   name_is files number s e at = sym (ap (name_at number) e ∙ ap name_in at)
 
-  names_source : (number : ℕ) (s : Source) (source : List ℕ) → slice_get n.sources number ≡ Some s → source ≡ s.name
+  names_source : (number : ℕ) (s : Source) (source : List ℕ) → slice_get r.network.sources number ≡ Some s → source ≡ s.name
       → WhereTold told (λ files. source ≡ source_name (file files) words number)
   names_source number s source at e = where_told told (λ files. source ≡ source_name (file files) words number)
       (λ files t. e ∙ name_is files number s (at_told told _ files t named) at)
 
-  pub stopped_streams : (fb fn tb tn : ℕ) (result : Status) (source : List ℕ) → HasNoStreams told n fb fn tb tn result source → IsStopped words told fb fn tb tn result source
-  stopped_streams fb fn tb tn result source (inl (s, more, to, unread)) =
-      stopped_unread words told fb fn tb tn source s.file stream_limit more some (told_then told _ _ _ leads to) result (λ rose other e. (StreamFile, some, rose)) unread
+  pub stopped_streams : (fb fn tb tn : ℕ) (result : Status) (source : List ℕ) → HasNoStreams told (with_sources r []) r.network.sources fb fn tb tn result source
+      → IsStopped words told fb fn tb tn result source
+  stopped_streams fb fn tb tn result source (inl (s, more, to, missed)) =
+      stopped_unread words told fb fn tb tn source s.file stream_limit more some (told_then told _ _ _ leads to) result (λ rose other e. (StreamFile, some, rose)) missed
   stopped_streams fb fn tb tn result source (inr (number, s, line, why, at, to, bad)) =
       subst (λ x. IsStopped words told fb fn tb tn x source) (sym bad.0)
       (stopped_rule words told fb fn tb tn source (status.BadStream number line why) tt some (told_then told _ _ _ leads to) (names_source number s source at bad.1))
 
-  pub accepted_streams : (ss : List (List Tuple)) → LeadsWhereTold told (after_streams n [] n.sources) (Done (record { network = n; sources = ss }))
-      → WhereTold told (λ files. accepted (file files) words ≡ Ok (record { network = n; sources = ss }))
-  accepted_streams ss to = where_told told (λ files. accepted (file files) words ≡ Ok (record { network = n; sources = ss })) (λ files e. (at_told told _ files e (told_then told _ _ _ leads to)).outcome)
+  pub accepted_streams : LeadsWhereTold told (after_streams (with_sources r []) r.network.sources) (Done r) → WhereTold told (λ files. accepted (file files) words ≡ Ok r)
+  accepted_streams to = where_told told (λ files. accepted (file files) words ≡ Ok r) (λ files e. (at_told told _ files e (told_then told _ _ _ leads to)).outcome)
+
+pub no_picks_later : (told : Option Files) (fb mid fn tb between tn : ℕ) (s : Status) (o : Option (List ℕ)) → fb ≤ mid → tb ≤ between
+    → HasNoPicks told o mid fn between tn s → HasNoPicks told o fb fn tb tn s
+no_picks_later told fb mid fn tb between tn s None f t none = none
+no_picks_later told fb mid fn tb between tn s (Some name) f t (inl missed) = inl (unread_later told name settings_limit fb mid fn tb between tn s f t missed)
+no_picks_later told fb mid fn tb between tn s (Some name) f t (inr bad) = inr bad

@@ -10,8 +10,8 @@ use Rattle.sq_top.specs.declared.Status.TheVariants as status
 use Rattle.sq_value.specs.declared.Tuple.{Tuple}
 use Rattle.sq_net.specs.declared.NetErr.{NetErr}
 use Rattle.sq_net.specs.declared.NetErr.TheVariants as net
-use Rattle.sq_net.specs.declared.Network.{Network}
 use Rattle.sq_net.specs.declared.Source.{Source}
+use Rattle.sq_replay.specs.Entries.{picks_in}
 use Rattle.sq_replay.specs.Streams.{stream_in}
 use Rattle.sq_replay.specs.declared.why.Why.{Why}
 use Rattle.sq_top.specs.Commands.{command_in}
@@ -26,11 +26,13 @@ abbrev pub is_refusal : Status → Bool
 is_refusal status.Ok = false
 is_refusal status.Usage = true
 is_refusal (status.BadNetwork e) = true
+is_refusal (status.BadPicks line) = true
 is_refusal (status.BadStream number line why) = true
 is_refusal (status.FolderFault name) = true
 is_refusal status.SinkFault = false
 is_refusal (status.TooLong name) = true
 is_refusal status.Memory = false
+is_refusal status.TooMuch = false
 
 -- a sink that told what it held tells it still, with a text appended of which P holds
 abbrev pub AppendsSuch : Option (List ℕ) → Option (List ℕ) → (List ℕ → Type 0) → Type 0
@@ -71,19 +73,31 @@ abbrev pub is_network : Option Command → List ℕ → Bool
 is_network None name = false
 is_network (Some (command.Run args)) name = same_bytes args.net name
 
--- what a file is to a run: its network, or a source's stream
+-- whether this is the name of the picks' file
+abbrev pub is_named : Option (List ℕ) → List ℕ → Bool
+is_named None name = false
+is_named (Some file) name = same_bytes file name
+
+abbrev pub is_picks : Option Command → List ℕ → Bool
+is_picks None name = false
+is_picks (Some (command.Run args)) name = is_named args.picks name
+
+-- what a file is to a run: its network, its picks, or a source's stream
 pub data FilePart : Type 0 where
   NetworkFile : FilePart
+  PicksFile : FilePart
   StreamFile : FilePart
 
 -- how many bytes a file of this part may have
 abbrev pub limit_of : FilePart → ℕ
 limit_of NetworkFile = settings_limit
+limit_of PicksFile = settings_limit
 limit_of StreamFile = stream_limit
 
 -- whether a file of this name may have this part: which files are streams the network's file alone says
 abbrev pub may_be : Option Command → FilePart → List ℕ → Bool
 may_be c NetworkFile name = is_network c name
+may_be c PicksFile name = is_picks c name
 may_be c StreamFile name = is_some c
 
 -- over every folder: it is at fault only where its count rose, or where it tells its files; a file is too long only where more was
@@ -158,13 +172,25 @@ abbrev pub source_of : Option (List ℕ) → List ℕ
 source_of None = []
 source_of (Some name) = name
 
--- the bytes are those of the source's file, where the files are told
-abbrev pub AreBytesOf : Option Files → Source → List ℕ → Type 0
-AreBytesOf told s bytes = WhereTold told (λ files. readable s.file stream_limit (file files s.file) ≡ Ok bytes)
+-- the bytes are those of the file with this name, where the files are told
+abbrev pub AreBytesOf : Option Files → List ℕ → ℕ → List ℕ → Type 0
+AreBytesOf told name limit bytes = WhereTold told (λ files. readable name limit (file files name) ≡ Ok bytes)
+
+-- these are the picks of the file that is named, or none where none is
+abbrev pub ArePicksOf : Option Files → Option (List ℕ) → List ℕ → Type 0
+ArePicksOf told None picks = picks ≡ []
+ArePicksOf told (Some name) picks = (bytes : List ℕ) × (picks_in bytes ≡ Ok picks) × AreBytesOf told name settings_limit bytes
+
+-- why the picks aren't there: the file that is named isn't read, or one of its lines is bad
+abbrev pub HasNoPicks : Option Files → Option (List ℕ) → ℕ → ℕ → ℕ → ℕ → Status → Type 0
+HasNoPicks told None faults_before faults_now taken_before taken_now result = ⊥
+HasNoPicks told (Some name) faults_before faults_now taken_before taken_now result =
+    IsUnread told name settings_limit faults_before faults_now taken_before taken_now result
+    ⊎ ((bytes : List ℕ) × (line : ℕ) × (picks_in bytes ≡ Err line) × AreBytesOf told name settings_limit bytes × (result ≡ status.BadPicks line))
 
 -- these are the tuples of the source's file
 abbrev pub IsStreamOf : Option Files → Source → List Tuple → Type 0
-IsStreamOf told s xs = (bytes : List ℕ) × (stream_in s.schema bytes ≡ Ok xs) × AreBytesOf told s bytes
+IsStreamOf told s xs = (bytes : List ℕ) × (stream_in s.schema bytes ≡ Ok xs) × AreBytesOf told s.file stream_limit bytes
 
 -- a line of the source with this number is bad, and its name is told
 abbrev pub IsBadLine : ℕ → Source → ℕ → Why → Status → List ℕ → Type 0
@@ -174,15 +200,16 @@ IsBadLine number s line why result source = (result ≡ status.BadStream number 
 abbrev pub HasNoStream : Option Files → ℕ → Source → ℕ → ℕ → ℕ → ℕ → Status → List ℕ → Type 0
 HasNoStream told number s faults_before faults_now taken_before taken_now result source =
     IsUnread told s.file stream_limit faults_before faults_now taken_before taken_now result
-    ⊎ ((bytes : List ℕ) × (line : ℕ) × (why : Why) × (stream_in s.schema bytes ≡ Err (line, why)) × AreBytesOf told s bytes × IsBadLine number s line why result source)
+    ⊎ ((bytes : List ℕ) × (line : ℕ) × (why : Why) × (stream_in s.schema bytes ≡ Err (line, why)) × AreBytesOf told s.file stream_limit bytes
+    × IsBadLine number s line why result source)
 
--- how reading a network's sources stops: at a file that was to be read, or at a bad line
-abbrev pub HasNoStreams : Option Files → Network → ℕ → ℕ → ℕ → ℕ → Status → List ℕ → Type 0
-HasNoStreams told n faults_before faults_now taken_before taken_now result source =
-    ((s : Source) × (more : List ℕ → Script) × LeadsWhereTold told (after_streams n [] n.sources) (Reads s.file stream_limit more)
+-- how reading these sources, behind those that were read, stops: at a file that was to be read, or at a bad line
+abbrev pub HasNoStreams : Option Files → Replay → List Source → ℕ → ℕ → ℕ → ℕ → Status → List ℕ → Type 0
+HasNoStreams told r sources faults_before faults_now taken_before taken_now result source =
+    ((s : Source) × (more : List ℕ → Script) × LeadsWhereTold told (after_streams r sources) (Reads s.file stream_limit more)
     × IsUnread told s.file stream_limit faults_before faults_now taken_before taken_now result)
-    ⊎ ((number : ℕ) × (s : Source) × (line : ℕ) × (why : Why) × (slice_get n.sources number ≡ Some s)
-    × LeadsWhereTold told (after_streams n [] n.sources) (Stops (status.BadStream number line why)) × IsBadLine number s line why result source)
+    ⊎ ((number : ℕ) × (s : Source) × (line : ℕ) × (why : Why) × (slice_get sources number ≡ Some s)
+    × LeadsWhereTold told (after_streams r sources) (Stops (status.BadStream number line why)) × IsBadLine number s line why result source)
 
 -- the folder, the output and the steps before a run and after it
 pub record World : Type 0 where

@@ -1,5 +1,6 @@
 pub mod Commands
 pub mod Scripts
+pub mod Views
 pub mod Due
 pub mod Answers
 pub mod Writing

@@ -114,23 +114,27 @@ abbrev pub message_of : List ℕ → Status → List ℕ
 message_of source status.Ok = []
 message_of source status.Usage = codes "aurora: usage: aurora run NET [options]\n"
 message_of source (status.BadNetwork e) = codes "aurora: network: " ++ (rule_text e ++ (at_place (place_of e) ++ (detail_text e ++ codes "\n")))
+message_of source (status.BadPicks line) = codes "aurora: picks: line " ++ (decimal line ++ codes "\n")
 message_of source (status.BadStream number line w) =
     codes "aurora: stream " ++ (source ++ (codes ": line " ++ (decimal line ++ (codes ": " ++ (why_text w ++ codes "\n")))))
 message_of source (status.FolderFault name) = codes "aurora: cannot read " ++ (name ++ codes "\n")
 message_of source status.SinkFault = codes "aurora: output failed\n"
 message_of source (status.TooLong name) = codes "aurora: file too long: " ++ (name ++ codes "\n")
 message_of source status.Memory = codes "aurora: out of memory\n"
+message_of source status.TooMuch = codes "aurora: too many tuples\n"
 
 -- the number with which the program ends
 abbrev pub code_of : Status → ℕ
 code_of status.Ok = 0
 code_of status.Usage = 2
 code_of (status.BadNetwork e) = 3
+code_of (status.BadPicks line) = 5
 code_of (status.BadStream number line w) = 6
 code_of (status.FolderFault name) = 7
 code_of status.SinkFault = 10
 code_of (status.TooLong name) = 11
 code_of status.Memory = 12
+code_of status.TooMuch = 15
 
 -- the network that the words and the files lead to, where there is one
 abbrev pub network_of : Result Network NetErr → Option Network

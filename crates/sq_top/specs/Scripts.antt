@@ -6,17 +6,25 @@ use Rattle.sq_net.specs.declared.Network.{Network}
 use Rattle.sq_net.specs.declared.Source.{Source}
 use Rattle.sq_reader.specs.Networks.{network_in}
 use Rattle.sq_replay.specs.declared.why.Why.{Why}
+use Rattle.sq_replay.specs.Entries.{picks_in}
 use Rattle.sq_replay.specs.Streams.{stream_in}
+use Rattle.sq_sched.specs.declared.policy.Rule.{Rule}
+use Rattle.sq_top.specs.declared.RunArgs.{RunArgs}
 use Rattle.sq_top.specs.declared.Command.{Command}
 use Rattle.sq_top.specs.declared.Command.TheVariants as command
 use Rattle.sq_top.specs.declared.Status.{Status}
 use Rattle.sq_top.specs.declared.Status.TheVariants as status
 use Rattle.sq_top.specs.Commands.{command_in}
 
--- what was accepted: a network, and the tuples of each of its sources
+-- what was accepted: a network, the tuples of each of its sources, and how the next actor is chosen: by which rule, seed and
+-- picks, for how many steps
 pub record Replay : Type 0 where
   pub network : Network
   pub sources : List (List Tuple)
+  pub seed : ℕ
+  pub rule : Rule
+  pub picks : List ℕ
+  pub train : ℕ
 
 -- a file is read and its bytes say what comes next; or all was read; or a rule is broken
 pub data Script : Type 0 where
@@ -24,33 +32,51 @@ pub data Script : Type 0 where
   Done : Replay → Script
   Stops : Status → Script
 
--- how many bytes a network file may have, and a stream
+-- how many bytes a network or picks file may have, and a stream
 abbrev pub settings_limit : ℕ
 settings_limit = 1048576
 
 abbrev pub stream_limit : ℕ
 stream_limit = 67108864
 
+-- what was accepted, with these sources
+abbrev pub with_sources : Replay → List (List Tuple) → Replay
+with_sources r sources = record r { sources = sources }
+
 -- what comes of a source's stream, the source with this number: the rest, or its first bad line
 abbrev pub after_stream : ℕ → (List Tuple → Script) → Result (List Tuple) (ℕ × Why) → Script
 after_stream number more (Ok xs) = more xs
 after_stream number more (Err e) = Stops (status.BadStream number e.0 e.1)
 
--- the sources that are left, where these streams were read: each source's file is read and kept before the next is read
-abbrev pub after_streams : Network → List (List Tuple) → List Source → Script
-after_streams n read [] = Done (record { network = n; sources = read })
-after_streams n read (s ∷ left) =
-    Reads s.file stream_limit (λ bytes. after_stream (length read) (λ xs. after_streams n (read ++ xs ∷ []) left) (stream_in s.schema bytes))
+-- the sources that are left, behind those that were read: each source's file is read and kept before the next is read
+abbrev pub after_streams : Replay → List Source → Script
+after_streams r [] = Done r
+after_streams r (s ∷ left) =
+    Reads s.file stream_limit
+    (λ bytes. after_stream (length r.sources) (λ xs. after_streams (with_sources r (r.sources ++ xs ∷ [])) left) (stream_in s.schema bytes))
 
-abbrev pub after_network : Result Network NetErr → Script
-after_network (Err e) = Stops (status.BadNetwork e)
-after_network (Ok n) = after_streams n [] n.sources
+-- what the words, the network file and the picks say; no source is read yet
+abbrev pub unread : RunArgs → Network → List ℕ → Replay
+unread args n picks = record { network = n; sources = []; seed = args.seed; rule = args.rule; picks = picks; train = args.train }
+
+abbrev pub after_picks : RunArgs → Network → Result (List ℕ) ℕ → Script
+after_picks args n (Ok picks) = after_streams (unread args n picks) n.sources
+after_picks args n (Err line) = Stops (status.BadPicks line)
+
+-- the picks file, where one is named; else there are no picks
+abbrev pub picks_script : RunArgs → Network → Option (List ℕ) → Script
+picks_script args n None = after_picks args n (Ok [])
+picks_script args n (Some name) = Reads name settings_limit (λ bytes. after_picks args n (picks_in bytes))
+
+abbrev pub after_network : RunArgs → Result Network NetErr → Script
+after_network args (Err e) = Stops (status.BadNetwork e)
+after_network args (Ok n) = picks_script args n args.picks
 
 abbrev pub after_words : Option Command → Script
 after_words None = Stops status.Usage
-after_words (Some (command.Run args)) = Reads args.net settings_limit (λ bytes. after_network (network_in bytes))
+after_words (Some (command.Run args)) = Reads args.net settings_limit (λ bytes. after_network args (network_in bytes))
 
--- the words, then the network file, then the sources in their order
+-- the words, then the network file, the picks file, and the sources in their order
 abbrev pub script_of : List (List ℕ) → Script
 script_of words = after_words (command_in words)
 

@@ -15,27 +15,39 @@ ghost use Rattle.sq_top.specs.Causes.{AnswersPrefix, AnswersWhole, FolderHasCaus
 ghost use Rattle.sq_top.specs.Messages.{code_of};
 ghost use Rattle.sq_top.specs.Scripts.{accepted};
 
+mod driving;
 mod messages;
 mod reading;
 mod running;
 #[cfg(test)]
 mod tests;
+mod words;
 mod writing;
 
-pub use reading::read_words;
+pub use driving::drive;
 use running::{run, tell};
 use sq_net::NetErr;
 use sq_outside::{Folder, PageDisk, Sink, Steps};
 use sq_replay::Why;
+use sq_sched::Rule;
 use sq_value::Name;
 use std::alloc::Global;
 use std::sync::ledger::Ledger;
+pub use words::read_words;
 
 /// What the words of a run ask for.
 #[derive(Debug, Drop)]
 pub struct RunArgs {
     /// The network's file.
     pub net: Name,
+    /// What the generator starts from that chooses under the rule Seeded.
+    pub seed: u64,
+    /// How the next actor is chosen: RoundRobin where the words don't say.
+    pub rule: Rule,
+    /// The file of picks, exactly where the rule is Picks.
+    pub picks: Option<Name>,
+    /// How many atomic steps an actor may do in a row: 1 to 4096.
+    pub train: u32,
 }
 
 /// What words ask for.
@@ -60,6 +72,8 @@ pub enum Status {
     Usage,
     /// The network file breaks this rule, the first in their order.
     BadNetwork(NetErr),
+    /// A line of the picks file, by its number from 1, is refused: the first bad one.
+    BadPicks { line: u32 },
     /// A line of a source, by its number from 1, is refused: the first bad line of the first bad source. Sources count
     /// from 0, in the order of the network file.
     BadStream { source: u32, line: u32, why: Why },
@@ -71,6 +85,8 @@ pub enum Status {
     TooLong { name: Name },
     /// Memory ran out.
     Memory,
+    /// More tuples would be fed than are counted.
+    TooMuch,
 }
 
 impl Status {
@@ -82,11 +98,13 @@ impl Status {
             Status::Ok => 0,
             Status::Usage => 2,
             Status::BadNetwork(_) => 3,
+            Status::BadPicks { .. } => 5,
             Status::BadStream { .. } => 6,
             Status::FolderFault { .. } => 7,
             Status::SinkFault => 10,
             Status::TooLong { .. } => 11,
             Status::Memory => 12,
+            Status::TooMuch => 15,
         }
     }
 }

@@ -168,6 +168,7 @@ pub fn message(alloc: Global, source: &Option<Name>, status: &Status) -> Result<
         Status::Ok => String::from_str(alloc, ""),
         Status::Usage => String::from_str(alloc, "aurora: usage: aurora run NET [options]\n"),
         Status::BadNetwork(e) => network_message(alloc, *e),
+        Status::BadPicks { line } => format!(in alloc; "aurora: picks: line {line}\n"),
         Status::BadStream { line, why, .. } => {
             let source = name_text(source);
             let why = why_text(*why);
@@ -183,5 +184,6 @@ pub fn message(alloc: Global, source: &Option<Name>, status: &Status) -> Result<
             format!(in alloc; "aurora: file too long: {name}\n")
         }
         Status::Memory => String::from_str(alloc, "aurora: out of memory\n"),
+        Status::TooMuch => String::from_str(alloc, "aurora: too many tuples\n"),
     }
 }

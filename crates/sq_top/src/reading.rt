@@ -1,58 +1,31 @@
 // The words and the files of a run, read in the order of work.
-ghost use Rattle.std.specs.Prelude.{◌≡◌, ◌⊎◌, ◌≤◌, true, Err, IfOk, IfErr, IsSome, None, Ok, Some, [], length, map};
+ghost use Rattle.std.specs.Prelude.{true, ◌≡◌, ◌⊎◌, ◌≤◌, IfOk, IfErr, IsSome, None, Ok, Some, [], length, map};
 ghost use Rattle.std.specs.List.{All};
 ghost use Rattle.std.specs.String.{string_bytes};
 ghost use Rattle.sq_value.specs.Values.{IsStream};
 ghost use Rattle.sq_net.specs.Sound.{IsSound, source_within};
 ghost use Rattle.sq_outside.specs.Folders.{file};
-ghost use Rattle.sq_top.specs.Commands.{command_in, is_positional};
-ghost use Rattle.sq_top.specs.Scripts.{Done, accepted, after_streams, readable, script_of};
-ghost use Rattle.sq_top.specs.Causes.{HasNoStream, HasNoStreams, IsBadLine, IsNoCommand, IsRefusedBy, IsStopped, IsStreamOf, IsUnread, LeadsWhereTold, WhereTold, source_of};
+ghost use Rattle.sq_top.specs.Commands.{command_in};
+ghost use Rattle.sq_top.specs.Scripts.{Done, Replay, accepted, after_streams, picks_script, readable, script_of, with_sources};
+ghost use Rattle.sq_top.specs.Causes.{ArePicksOf, HasNoPicks, HasNoStream, HasNoStreams, IsBadLine, IsNoCommand, IsRefusedBy, IsStopped, IsStreamOf, IsUnread, LeadsWhereTold, WhereTold, source_of};
 ghost use Rattle.sq_top.specs.Messages.{network_named};
+ghost use Rattle.sq_top.specs.Views.{replay_of};
 
+use crate::words::read_words;
 use crate::{Command, RunArgs, Status, WordsErr};
 use sq_net::{NetErr, Network, Source};
 use sq_outside::{Folder, FolderErr};
 use sq_reader::read_network;
-use sq_replay::{StreamErr, Why, read_stream};
-use sq_value::{Name, Tuple, copy_name, same_text};
+use sq_replay::{LineErr, StreamErr, Why, read_picks, read_stream};
+use sq_sched::Rule;
+use sq_value::{Name, Tuple, copy_name};
 use std::alloc::Global;
 
-/// How many bytes a network file may have.
+/// How many bytes a network or picks file may have.
 const SETTINGS_LIMIT: u64 = 1_048_576;
 
 /// How many bytes a stream may have.
 const STREAM_LIMIT: u64 = 67_108_864;
-
-fn is_positional(word: &str) -> bool
-    ensures { result ≡ is_positional word.now }
-{
-    match word.as_bytes() {
-        [] => false,
-        [first, ..] => *first != b'-',
-    }
-}
-
-/// What words ask for: `run NET` alone is a command.
-pub fn read_words(alloc: Global, words: &Vec<String>) -> Result<Command, WordsErr>
-    ensures command { IfOk result (λ c. command_in (map string_bytes words.now.items) ≡ Some c) }
-    ensures usage { result ≡ Err WordsErr.Usage → command_in (map string_bytes words.now.items) ≡ None }
-{
-    match words.as_slice() {
-        [] => Err(WordsErr::Usage),
-        [_] => Err(WordsErr::Usage),
-        [word, net] => {
-            if !(same_text(word.as_str(), "run") && is_positional(net.as_str())) {
-                return Err(WordsErr::Usage);
-            }
-            match Name::new(alloc, net.as_str()) {
-                Ok(net) => Ok(Command::Run(RunArgs { net })),
-                Err(_) => Err(WordsErr::Memory),
-            }
-        }
-        [_, _, _, ..] => Err(WordsErr::Usage),
-    }
-}
 
 /// The bytes of a file, or the status of a run that doesn't get them.
 fn read_file<F: Folder>(
@@ -81,13 +54,13 @@ fn read_file<F: Folder>(
     }
 }
 
-/// The name of the network's file, or the status of a run that has none.
-fn network_name(alloc: Global, words: &Vec<String>) -> Result<Name, Status>
-    ensures command { IfOk result (λ net. command_in (map string_bytes words.now.items) ≡ Some (Command.Run (record { net = net }))) }
+/// What the words ask for, or the status of a run of other words.
+fn args_for(alloc: Global, words: &Vec<String>) -> Result<RunArgs, Status>
+    ensures command { IfOk result (λ args. command_in (map string_bytes words.now.items) ≡ Some (Command.Run args)) }
     ensures status { IfErr result (λ s. IsNoCommand (map string_bytes words.now.items) s) }
 {
     match read_words(alloc, words) {
-        Ok(Command::Run(args)) => Ok(args.net),
+        Ok(Command::Run(args)) => Ok(args),
         Err(WordsErr::Usage) => Err(Status::Usage),
         Err(WordsErr::Memory) => Err(Status::Memory),
     }
@@ -103,31 +76,66 @@ fn refused_by(e: NetErr) -> Status
     }
 }
 
-/// The network that the words name, or the status of a run that has none.
+/// What the words ask for and the network that they name, or the status of a run that has none.
 fn network_for<F: Folder>(
     alloc: Global,
     words: &Vec<String>,
     folder: &mut F,
-) -> Result<Network, Status>
-    ensures command { IfOk result (λ _. IsSome (command_in (map string_bytes words.now.items))) }
-    ensures sound { IfOk result IsSound }
-    ensures leads { IfOk result (λ n. LeadsWhereTold (F.files folder.old) (script_of (map string_bytes words.now.items)) (after_streams n [] n.sources)) }
-    ensures named { IfOk result (λ n. WhereTold (F.files folder.old) (λ files. network_named (file files) (command_in (map string_bytes words.now.items)) ≡ Some n)) }
+) -> Result<(RunArgs, Network), Status>
+    ensures command { IfOk result (λ r. command_in (map string_bytes words.now.items) ≡ Some (Command.Run r.0)) }
+    ensures sound { IfOk result (λ r. IsSound r.1) }
+    ensures leads { IfOk result (λ r. LeadsWhereTold (F.files folder.old) (script_of (map string_bytes words.now.items)) (picks_script r.0 r.1 (r.0).picks)) }
+    ensures named { IfOk result (λ r. WhereTold (F.files folder.old) (λ files. network_named (file files) (command_in (map string_bytes words.now.items)) ≡ Some r.1)) }
     ensures stopped { IfErr result (λ s. IsStopped (map string_bytes words.now.items) (F.files folder.old) (F.faults folder.old) (F.faults folder.new) (F.taken folder.old) (F.taken folder.new) s []) }
     ensures files { F.files folder.new ≡ F.files folder.old }
     ensures later { (F.faults folder.old ≤ F.faults folder.new) × (F.taken folder.old ≤ F.taken folder.new) }
 {
-    let net = match network_name(alloc, words) {
-        Ok(net) => net,
+    let args = match args_for(alloc, words) {
+        Ok(args) => args,
         Err(status) => return Err(status),
     };
-    let bytes = match read_file(alloc, folder, &net, SETTINGS_LIMIT) {
+    let bytes = match read_file(alloc, folder, &args.net, SETTINGS_LIMIT) {
         Ok(bytes) => bytes,
         Err(status) => return Err(status),
     };
     match read_network(alloc, bytes.as_slice()) {
-        Ok(network) => Ok(network),
+        Ok(network) => Ok((args, network)),
         Err(e) => Err(refused_by(e)),
+    }
+}
+
+/// The picks of the file with this name, or the status of a run that doesn't get them.
+fn picks_in<F: Folder>(alloc: Global, name: &Name, folder: &mut F) -> Result<Vec<u32>, Status>
+    ensures picks { IfOk result (λ v. ArePicksOf (F.files folder.old) (Some name.now) v.items) }
+    ensures missing { IfErr result (λ s. HasNoPicks (F.files folder.old) (Some name.now) (F.faults folder.old) (F.faults folder.new) (F.taken folder.old) (F.taken folder.new) s) }
+    ensures files { F.files folder.new ≡ F.files folder.old }
+    ensures later { (F.faults folder.old ≤ F.faults folder.new) × (F.taken folder.old ≤ F.taken folder.new) }
+{
+    let bytes = match read_file(alloc, folder, name, SETTINGS_LIMIT) {
+        Ok(bytes) => bytes,
+        Err(status) => return Err(status),
+    };
+    match read_picks(alloc, bytes.as_slice()) {
+        Ok(picks) => Ok(picks),
+        Err(LineErr::Bad { line }) => Err(Status::BadPicks { line }),
+        Err(LineErr::Memory) => Err(Status::Memory),
+    }
+}
+
+/// The picks, where a file of them is named; else there are none.
+fn picks_for<F: Folder>(
+    alloc: Global,
+    name: &Option<Name>,
+    folder: &mut F,
+) -> Result<Vec<u32>, Status>
+    ensures picks { IfOk result (λ v. ArePicksOf (F.files folder.old) name.now v.items) }
+    ensures missing { IfErr result (λ s. HasNoPicks (F.files folder.old) name.now (F.faults folder.old) (F.faults folder.new) (F.taken folder.old) (F.taken folder.new) s) }
+    ensures files { F.files folder.new ≡ F.files folder.old }
+    ensures later { (F.faults folder.old ≤ F.faults folder.new) × (F.taken folder.old ≤ F.taken folder.new) }
+{
+    match name {
+        Some(name) => picks_in(alloc, name, folder),
+        None => Ok(Vec::new(alloc)),
     }
 }
 
@@ -198,10 +206,10 @@ fn streams_of<F: Folder>(
     folder: &mut F,
 ) -> Result<Vec<Vec<Tuple>>, Stopped>
     requires { IsSound network.now }
-    ensures leads { IfOk result (λ v. LeadsWhereTold (F.files folder.old) (after_streams network.now [] network.now.sources) (Done (record { network = network.now; sources = map (λ xs. xs.items) v.items }))) }
+    ensures leads { IfOk result (λ v. (r : Replay) → LeadsWhereTold (F.files folder.old) (after_streams (with_sources r []) network.now.sources) (Done (with_sources r (map (λ xs. xs.items) v.items)))) }
     ensures even { IfOk result (λ v. length v.items ≡ length network.now.sources) }
     ensures streams { IfOk result (λ v. All IsStream (map (λ xs. xs.items) v.items)) }
-    ensures stopped { IfErr result (λ s. HasNoStreams (F.files folder.old) network.now (F.faults folder.old) (F.faults folder.new) (F.taken folder.old) (F.taken folder.new) s.status (source_of s.source)) }
+    ensures stopped { IfErr result (λ s. (r : Replay) → HasNoStreams (F.files folder.old) (with_sources r []) network.now.sources (F.faults folder.old) (F.faults folder.new) (F.taken folder.old) (F.taken folder.new) s.status (source_of s.source)) }
     ensures files { F.files folder.new ≡ F.files folder.old }
     ensures later { (F.faults folder.old ≤ F.faults folder.new) × (F.taken folder.old ≤ F.taken folder.new) }
 {
@@ -219,27 +227,50 @@ fn streams_of<F: Folder>(
     Ok(streams)
 }
 
-/// The network and the tuples of its sources, or the status of a run that doesn't get them.
+/// What was accepted of words and files.
+#[derive(Drop)]
+pub struct Accepted {
+    pub network: Network,
+    /// The tuples of each source.
+    pub sources: Vec<Vec<Tuple>>,
+    pub seed: u64,
+    pub rule: Rule,
+    pub picks: Vec<u32>,
+    pub train: u32,
+}
+
+/// What the words and files come to, or the status of a run that stops at them.
 pub fn prepare<F: Folder>(
     alloc: Global,
     words: &Vec<String>,
     folder: &mut F,
-) -> Result<(Network, Vec<Vec<Tuple>>), Stopped>
+) -> Result<Accepted, Stopped>
     ensures command { IfOk result (λ _. IsSome (command_in (map string_bytes words.now.items))) }
-    ensures sound { IfOk result (λ r. IsSound r.0) }
-    ensures even { IfOk result (λ r. length r.1.items ≡ length (r.0).sources) }
-    ensures streams { IfOk result (λ r. All IsStream (map (λ xs. xs.items) r.1.items)) }
-    ensures accepted { IfOk result (λ r. WhereTold (F.files folder.old) (λ files. accepted (file files) (map string_bytes words.now.items) ≡ Ok (record { network = r.0; sources = map (λ xs. xs.items) r.1.items }))) }
+    ensures sound { IfOk result (λ a. IsSound a.network) }
+    ensures even { IfOk result (λ a. length a.sources.items ≡ length a.network.sources) }
+    ensures streams { IfOk result (λ a. All IsStream (map (λ xs. xs.items) a.sources.items)) }
+    ensures accepted { IfOk result (λ a. WhereTold (F.files folder.old) (λ files. accepted (file files) (map string_bytes words.now.items) ≡ Ok (replay_of a))) }
     ensures stopped { IfErr result (λ s. IsStopped (map string_bytes words.now.items) (F.files folder.old) (F.faults folder.old) (F.faults folder.new) (F.taken folder.old) (F.taken folder.new) s.status (source_of s.source)) }
     ensures files { F.files folder.new ≡ F.files folder.old }
     ensures later { (F.faults folder.old ≤ F.faults folder.new) × (F.taken folder.old ≤ F.taken folder.new) }
 {
-    let network = match network_for(alloc, words, folder) {
-        Ok(network) => network,
+    let (args, network) = match network_for(alloc, words, folder) {
+        Ok(named) => named,
+        Err(status) => return Err(stopped_by(status)),
+    };
+    let picks = match picks_for(alloc, &args.picks, folder) {
+        Ok(picks) => picks,
         Err(status) => return Err(stopped_by(status)),
     };
     match streams_of(alloc, &network, folder) {
-        Ok(streams) => Ok((network, streams)),
+        Ok(sources) => Ok(Accepted {
+            network,
+            sources,
+            seed: args.seed,
+            rule: args.rule,
+            picks,
+            train: args.train,
+        }),
         Err(stopped) => Err(stopped),
     }
 }

@@ -39,11 +39,11 @@ pub fn run<F: Folder, S: Sink, L: Ledger>(
     ensures files { F.files folder.new ≡ F.files folder.old }
     ensures later { (F.faults folder.old ≤ F.faults folder.new) × (F.taken folder.old ≤ F.taken folder.new) × (S.faults out.old ≤ S.faults out.new) }
 {
-    let (network, streams) = match prepare(alloc, words, folder) {
+    let accepted = match prepare(alloc, words, folder) {
         Ok(accepted) => accepted,
         Err(stopped) => return stopped,
     };
-    match write_answer(alloc, &network, streams, out, steps) {
+    match write_answer(alloc, &accepted.network, accepted.sources, out, steps) {
         Ok(()) => Stopped {
             status: Status::Ok,
             source: None,

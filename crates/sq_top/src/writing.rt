@@ -3,11 +3,12 @@ ghost use Rattle.std.specs.Prelude.{◌≡◌, ◌≤◌, ◌+◌, ◌++◌, [],
 ghost use Rattle.std.specs.List.{All, flat_map, sum_by};
 ghost use Rattle.sq_net.specs.Sound.{IsSound};
 ghost use Rattle.sq_model.specs.Placed.{IsPlaced};
+ghost use Rattle.sq_model.specs.Full.{full_streams};
 ghost use Rattle.sq_model.specs.Fed.{work_from, work_of};
 ghost use Rattle.sq_value.specs.LineTexts.{output_line};
 ghost use Rattle.sq_value.specs.Values.{IsStream};
 ghost use Rattle.sq_outside.specs.Sinks.{AppendsPrefix, appended};
-ghost use Rattle.sq_top.specs.Due.{all_text, due_from, due_of, outputs_of};
+ghost use Rattle.sq_top.specs.Due.{all_text, due_from, outputs_of};
 ghost use Rattle.sq_top.specs.Writing.{IsLost, Moves, output_text, output_work, tuples_text};
 
 use crate::Status;
@@ -191,8 +192,8 @@ pub fn write_answer<S: Sink, L: Ledger>(
     requires sound { IsSound network.now }
     requires sources { length sources.items ≡ length network.now.sources }
     requires streams { All IsStream (map (λ xs. xs.items) sources.items) }
-    ensures ok { OnOk result (S.written out.new ≡ appended (S.written out.old) (all_text (due_of (record { network = network.now; sources = map (λ xs. xs.items) sources.items })))) }
-    ensures err { OnErr result (AppendsPrefix (S.written out.old) (S.written out.new) (all_text (due_of (record { network = network.now; sources = map (λ xs. xs.items) sources.items })))) }
+    ensures ok { OnOk result (S.written out.new ≡ appended (S.written out.old) (all_text (due_from network.now (full_streams network.now (map (λ xs. xs.items) sources.items))))) }
+    ensures err { OnErr result (AppendsPrefix (S.written out.old) (S.written out.new) (all_text (due_from network.now (full_streams network.now (map (λ xs. xs.items) sources.items))))) }
     ensures lost { IfErr result (λ s. IsLost (S.faults out.old) (S.faults out.new) s) }
     ensures later { S.faults out.old ≤ S.faults out.new }
     ensures steps { OnOk result (steps.new ≡ steps.old + work_of network.now (map (λ xs. xs.items) sources.items)) }

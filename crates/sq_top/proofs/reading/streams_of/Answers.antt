@@ -1,30 +1,30 @@
 use Rattle.std.proofs.Common.{arith, rules, inl, map, [], ◌∷◌, ◌∙◌, ap, refl}
-use Rattle.std.proofs.lemmas.List.{length-map, map-append}
+use Rattle.std.proofs.lemmas.List.{drop_all, length-map, map-append}
 use Rattle.sq_top.proofs.SourceLemmas.{streams_more}
 use Rattle.sq_top.proofs.StoppedLemmas.{leads_on, no_streams_at}
 use Rattle.sq_top.proofs.reading.streams_of.Goals as goal
 
 pub returns-in-Err-push-clause-stopped : goal.returns-in-Err-push-clause-stopped
-returns-in-Err-push-clause-stopped g c =
-    no_streams_at (g.F.Folder.files c.args.folder.now) c.args.network.now (map (λ xs. xs.items) c.sources.streams.items) c.sources.source-index c.source-item.result
+returns-in-Err-push-clause-stopped g c r =
+    no_streams_at (g.F.Folder.files c.args.folder.now) r c.args.network.now.sources (map (λ xs. xs.items) c.sources.streams.items) c.sources.source-index c.source-item.result
     (rw c.as_slice-source-items.ensures at c.sources-test.true) (rw c.as_slice-source-items.ensures at c.source-item.is)
-    (length-map c.sources.streams.items (λ xs. xs.items) ∙ c.sources.invariant.counted) c.sources.invariant.leads c.sources.source-index
+    (length-map c.sources.streams.items (λ xs. xs.items) ∙ c.sources.invariant.counted) (c.sources.invariant.leads r) c.sources.source-index
     _ (g.F.Folder.faults c.sources.folder) _ _ (g.F.Folder.taken c.sources.folder) _ c.stopped_by.result.status _ refl c.sources.invariant.faults c.sources.invariant.taken (inl (inl c.stopped_by.ensures.0))
 
 pub returns-in-Err-clause-stopped : goal.returns-in-Err-clause-stopped
-returns-in-Err-clause-stopped g c =
-    no_streams_at (g.F.Folder.files c.args.folder.now) c.args.network.now (map (λ xs. xs.items) c.sources.streams.items) c.sources.source-index c.source-item.result
+returns-in-Err-clause-stopped g c r =
+    no_streams_at (g.F.Folder.files c.args.folder.now) r c.args.network.now.sources (map (λ xs. xs.items) c.sources.streams.items) c.sources.source-index c.source-item.result
     (rw c.as_slice-source-items.ensures at c.sources-test.true) (rw c.as_slice-source-items.ensures at c.source-item.is)
-    (length-map c.sources.streams.items (λ xs. xs.items) ∙ c.sources.invariant.counted) c.sources.invariant.leads c.len-number.result
+    (length-map c.sources.streams.items (λ xs. xs.items) ∙ c.sources.invariant.counted) (c.sources.invariant.leads r) c.len-number.result
     _ (g.F.Folder.faults c.sources.folder) _ _ (g.F.Folder.taken c.sources.folder) _ c.in-Err.stopped.status _ (search rules) c.sources.invariant.faults c.sources.invariant.taken
     (rw c.sources.invariant.files at c.in-Err.ensures.stopped)
 
 pub sources-preserved : goal.sources-preserved
 sources-preserved g c = record {
-  leads = rw (ap (map (λ xs. xs.items)) c.in-Ok-push.ensures.items ∙ map-append (λ xs. xs.items) c.sources.streams.items (c.in-Ok.stream ∷ []))
-      (leads_on (g.F.Folder.files c.args.folder.now) c.args.network.now (map (λ xs. xs.items) c.sources.streams.items) c.sources.source-index c.source-item.result
+  leads = λ r. rw (ap (map (λ xs. xs.items)) c.in-Ok-push.ensures.items ∙ map-append (λ xs. xs.items) c.sources.streams.items (c.in-Ok.stream ∷ []))
+      (leads_on (g.F.Folder.files c.args.folder.now) r c.args.network.now.sources (map (λ xs. xs.items) c.sources.streams.items) c.sources.source-index c.source-item.result
       (rw c.as_slice-source-items.ensures at c.sources-test.true) (rw c.as_slice-source-items.ensures at c.source-item.is)
-      (length-map c.sources.streams.items (λ xs. xs.items) ∙ c.sources.invariant.counted) c.sources.invariant.leads c.in-Ok.stream.items
+      (length-map c.sources.streams.items (λ xs. xs.items) ∙ c.sources.invariant.counted) (c.sources.invariant.leads r) c.in-Ok.stream.items
       (rw c.sources.invariant.files at c.in-Ok.ensures.stream));
   streams = rw (ap (map (λ xs. xs.items)) c.in-Ok-push.ensures.items ∙ map-append (λ xs. xs.items) c.sources.streams.items (c.in-Ok.stream ∷ []))
       (streams_more (map (λ xs. xs.items) c.sources.streams.items) c.in-Ok.stream.items c.sources.invariant.streams c.in-Ok.ensures.ticks);
@@ -33,3 +33,6 @@ sources-preserved g c = record {
   faults = omega (arith, c.sources.invariant.faults, c.in-Ok.ensures.later.0);
   taken = omega (arith, c.sources.invariant.taken, c.in-Ok.ensures.later.1);
 }
+
+pub returns-clause-leads : goal.returns-clause-leads
+returns-clause-leads g c r = rw (drop_all c.sources.source-index c.args.network.now.sources (rw c.as_slice-source-items.ensures at c.sources-test.false)) at (c.sources.invariant.leads r)

@@ -1,4 +1,5 @@
-use Rattle.std.proofs.Common.{map, refl}
+use Rattle.std.proofs.Common.{refl}
+use Rattle.sq_top.specs.Views.{replay_of}
 use Rattle.sq_top.proofs.EndLemmas.{answered_lost, answered_ok, stopped_ends}
 use Rattle.sq_top.proofs.running.run.Goals as goal
 
@@ -7,9 +8,9 @@ returns-in-Err-clause-ends g c = stopped_ends _ _ c.in-Err.stopped.status _ c.in
 
 pub returns-in-Ok-write_answer-clause-ends : goal.returns-in-Ok-write_answer-clause-ends
 returns-in-Ok-write_answer-clause-ends g c =
-    answered_ok _ _ (record { network = c.in-Ok.accepted.0; sources = map (λ xs. xs.items) c.in-Ok.accepted.1.items }) _ c.in-Ok.ensures.command c.in-Ok.ensures.accepted c.in-Ok-write_answer.ensures.ok c.in-Ok-write_answer.ensures.steps
+    answered_ok _ _ (replay_of c.in-Ok.accepted) _ c.in-Ok.ensures.command c.in-Ok.ensures.accepted c.in-Ok-write_answer.ensures.ok c.in-Ok-write_answer.ensures.steps
 
 pub returns-clause-ends : goal.returns-clause-ends
 returns-clause-ends g c =
-    answered_lost _ _ (record { network = c.in-Ok.accepted.0; sources = map (λ xs. xs.items) c.in-Ok.accepted.1.items }) _ c.in-Ok.ensures.command c.in-Ok.ensures.accepted c.in-Err-write_answer.status
+    answered_lost _ _ (replay_of c.in-Ok.accepted) _ c.in-Ok.ensures.command c.in-Ok.ensures.accepted c.in-Err-write_answer.status
     c.in-Err-write_answer.ensures.err c.in-Err-write_answer.ensures.fewer c.in-Err-write_answer.ensures.lost
