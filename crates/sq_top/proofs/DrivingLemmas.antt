@@ -16,10 +16,11 @@ use Rattle.sq_replay.specs.Shown.{IsEventOf, event_line}
 use Rattle.sq_model.specs.Fed.{work_of}
 use Rattle.sq_model.specs.Full.{full_stream}
 use Rattle.sq_queue.specs.Faces.{Tells}
-use Rattle.sq_core.specs.declared.Engine.{Engine}
-use Rattle.sq_core.specs.declared.RunErr.{RunErr}
-use Rattle.sq_core.specs.declared.RunErr.TheVariants as run_err
-use Rattle.sq_core.specs.Runs.{IsRun, SoFar, Stopped, Whole, lines_of}
+use Rattle.sq_flow.specs.declared.errors.RunErr.{RunErr}
+use Rattle.sq_flow.specs.declared.errors.RunErr.TheVariants as run_err
+use Rattle.sq_flow.specs.Events.{lines_of}
+use Rattle.sq_core.specs.declared.engine.Engine.{Engine}
+use Rattle.sq_core.specs.Runs.{IsRun, ShownAll, ShownSoFar, Stopped}
 use Rattle.sq_top.specs.declared.Status.{Status}
 use Rattle.sq_top.specs.declared.Status.TheVariants as status
 use Rattle.sq_top.specs.Writing.{IsLost, Moves}
@@ -43,8 +44,8 @@ not_too_much P faults faults' s (inl memory) e = let both : status.Memory ≡ st
 not_too_much P faults faults' s (inr sink) e = let both : status.SinkFault ≡ status.TooMuch = sym sink.0 ∙ e in cc
 
 so_far : (n : Network) (sources : List (List Tuple)) (pages : Option Pages) (engine : Engine) (history : List Event) (begun steps : ℕ) → IsRun n sources pages engine history begun steps → Tells pages
-    → SoFar n sources history begun steps
-so_far n sources pages engine history begun steps run tells = run.goes tells
+    → ShownSoFar n sources history begun steps
+so_far n sources pages engine history begun steps run tells = run.so_far tells
 
 -- one step, of an engine that showed nothing before it
 module _ (was : Option Pages) (from : Engine) (begun now : ℕ) (cleared shown : List Event) (none : cleared ≡ []) where
@@ -89,19 +90,19 @@ module _ (was : Option Pages) (from : Engine) (begun now : ℕ) (cleared shown :
 
   -- it failed
   pub step_stops : (before : Option (List ℕ)) (waited : List ℕ) (e : RunErr) (s : Status) → (s ≡ status.Memory) ⊎ ((s ≡ status.TooMuch) × (e ≡ run_err.TooMuch))
-      → ((n : Network) (sources : List (List Tuple)) (history : List Event) (start : ℕ) → Tells was → IsRun n sources was from (history ++ cleared) start begun
+      → (Tells was → (n : Network) (sources : List (List Tuple)) (history : List Event) (start : ℕ) → IsRun n sources was from (history ++ cleared) start begun
           → Stopped n sources (history ++ shown) start now e)
       → Stops was from begun now before waited before s
   step_stops before waited e s cause stopped n sources history start told run =
       let far = so_far n sources was from history start begun run told in
-      let halt = stopped n sources history start told (run_here n sources history start run) in
+      let halt = stopped told n sources history start (run_here n sources history start run) in
       record {
         events = [];
         shown = tt;
         lines = λ o k at. subst (λ xs. IsPrefixOf (lines_of o xs) (full_stream n sources k)) (sym (append-nil history)) (far.lines o k at);
         written = lost_at_once before (waited ++ []);
-        work = halt.so_far.work;
-        too_much = by cause (2 ^ 62 ≤ work_of n sources) halt.too_much;
+        work = halt.work;
+        too_much = by cause (2 ^ 62 ≤ work_of n sources) halt.turns;
       }
     where
       by : (s ≡ status.Memory) ⊎ ((s ≡ status.TooMuch) × (e ≡ run_err.TooMuch)) → (P : Type 0) → (e ≡ run_err.TooMuch → P) → s ≡ status.TooMuch → P
@@ -177,7 +178,7 @@ module _ (was mid : Option Pages) (from via : Engine) (begun now : ℕ) (before 
 
   -- nothing is left
   pub drive_ends : (after : Option (List ℕ)) (rest : List ℕ) → Moves between waits after rest [] → rest ≡ []
-      → ((history : List Event) → IsRun n sources mid via history start now → Whole n sources via history start now)
+      → ((history : List Event) → IsRun n sources mid via history start now → ShownAll n sources via history start now)
       → IsDriven n sources via before after start now
   drive_ends after rest last none all =
       let whole = all first.events run_now in

@@ -28,7 +28,7 @@ use Rattle.sq_top.specs.Due.{Due, due_from, ended_from, shown_from}
 use Rattle.sq_top.specs.Answers.{IsClassIn, IsPrefixText, IsWholeText, is_classed, lines_of as due_lines}
 use Rattle.sq_top.specs.Orders.{AreAll, IsOrder}
 use Rattle.sq_replay.specs.Shown.{event_line, name_in, text_of}
-use Rattle.sq_core.specs.Runs.{line_of, lines_of}
+use Rattle.sq_flow.specs.Events.{line_of, lines_of}
 use Rattle.sq_top.specs.Driving.{IsLineIn, ShowsAll, ShowsFirst, history_text}
 use Rattle.sq_top.proofs.SortedLines.{and-true, filter_same}
 use Rattle.sq_top.proofs.ClassLemmas.{IsLineOf, TellsClasses, all_append, all_map, classed_ended, classed_shown, not_true, or_first, or_true, plain_class}

@@ -11,8 +11,9 @@ use Rattle.sq_replay.specs.Shown.{event_line}
 use Rattle.sq_model.specs.Full.{full_stream}
 use Rattle.sq_model.specs.Fed.{fed_of, late_of, work_of}
 use Rattle.sq_queue.specs.Faces.{Tells}
-use Rattle.sq_core.specs.declared.Engine.{Engine}
-use Rattle.sq_core.specs.Runs.{IsLineBelow, IsRun, fed_at, late_at, lines_of}
+use Rattle.sq_flow.specs.Events.{IsLineBelow, lines_of}
+use Rattle.sq_core.specs.declared.engine.Engine.{Engine}
+use Rattle.sq_core.specs.Runs.{IsRun, fed_at, lost_by}
 use Rattle.sq_top.specs.declared.Status.{Status}
 use Rattle.sq_top.specs.declared.Status.TheVariants as status
 use Rattle.sq_top.specs.Writing.{IsLost, Moves}
@@ -42,7 +43,7 @@ pub record IsDriven (n : Network) (sources : List (List Tuple)) (engine : Engine
   pub shows : ShowsAll n (full_stream n sources) history
   pub written : now ≡ appended before (history_text n history)
   pub fed : (at : ℕ) → at < length n.boxes → fed_at engine at ≡ fed_of n sources at
-  pub late : (at : ℕ) → at < length n.boxes → late_at engine at ≡ late_of n sources at
+  pub late : (at : ℕ) → at < length n.boxes → lost_by engine at ≡ late_of n sources at
   pub work : steps ≡ begun + work_of n sources
 
 -- a run stopped on its way: what was written begins the text of a history in which each output shows the first tuples of its full

@@ -7,13 +7,16 @@ ghost use Rattle.sq_oper.specs.declared.outs.Event.{Event};
 ghost use Rattle.sq_replay.specs.Shown.{event_line};
 ghost use Rattle.sq_outside.specs.Sinks.{AppendsPrefix, appended};
 ghost use Rattle.sq_queue.specs.Faces.{Tells, Together};
-ghost use Rattle.sq_core.specs.Runs.{AllDone, IsRun, IsSoundEngine, measure_of};
+ghost use Rattle.sq_flow.specs.Flows.{measure_of};
+ghost use Rattle.sq_flow.specs.Engines.{AllDone};
+ghost use Rattle.sq_core.specs.Runs.{IsRun, IsSoundEngine};
 ghost use Rattle.sq_top.specs.Writing.{IsLost, Moves};
 ghost use Rattle.sq_top.specs.Driving.{GoesOn, IsCutShort, IsDriven, IsHalted, IsLineIn, Stops, history_text};
 
 use crate::Status;
 use crate::writing::{send, send_piece};
-use sq_core::{Engine, RunErr};
+use sq_core::Engine;
+use sq_flow::RunErr;
 use sq_net::Network;
 use sq_oper::Event;
 use sq_outside::{PageDisk, Sink, Steps};
@@ -78,7 +81,7 @@ fn status_of(e: RunErr) -> Status
 {
     match e {
         RunErr::TooMuch => Status::TooMuch,
-        RunErr::Strange => Status::Memory,
+        RunErr::Strange { .. } => Status::Memory,
         RunErr::Memory => Status::Memory,
     }
 }
@@ -98,7 +101,7 @@ fn step_once<D: PageDisk, S: Sink, L: Ledger>(
     ensures sound { OnOk result (IsSoundEngine engine.new) }
     ensures together { OnOk result (Together engine.new.engine.flow.queues (D.pages disk.new)) }
     ensures network { engine.new.network ≡ engine.old.network }
-    ensures tells { is_some (D.pages disk.new) ≡ is_some (D.pages disk.old) }
+    ensures tells { OnOk result (is_some (D.pages disk.new) ≡ is_some (D.pages disk.old)) }
     ensures falls { OnOk result (measure_of engine.new.engine.flow < measure_of engine.old.engine.flow) }
     ensures ok { OnOk result (GoesOn (D.pages disk.old) (D.pages disk.new) engine.old engine.new steps.old steps.new (S.written out.old) held.old.text.items (S.written out.new) held.new.text.items) }
     ensures err { IfErr result (λ s. Stops (D.pages disk.old) engine.old steps.old steps.new (S.written out.old) held.old.text.items (S.written out.new) s) }
@@ -137,7 +140,7 @@ pub fn drive<D: PageDisk, S: Sink, L: Ledger>(
         → IsHalted n sources s (S.written out.old) (S.written out.new) begun steps.new) }
     ensures lost { IfErr result (λ s. IsCutShort (S.faults out.old) (S.faults out.new) s) }
     ensures later { S.faults out.old ≤ S.faults out.new }
-    ensures tells { is_some (D.pages disk.new) ≡ is_some (D.pages disk.old) }
+    ensures tells { OnOk result (is_some (D.pages disk.new) ≡ is_some (D.pages disk.old)) }
 {
     let mut held = Held {
         events: Vec::new(alloc),

@@ -19,7 +19,7 @@ steps-preserved g c =
       sound = c.in-Ok.ensures.sound;
       together = c.in-Ok.ensures.together;
       network = c.step_once.ensures.network ∙ before.network;
-      tells = c.step_once.ensures.tells ∙ before.tells;
+      tells = c.in-Ok.ensures.tells ∙ before.tells;
       goes = goes_then _ _ _ _ _ _ _ _ _ _ before.goes before.network _ _ _ _ _ c.in-Ok.ensures.ok;
       later = omega (arith, before.later, c.step_once.ensures.later);
     }

@@ -1,7 +1,8 @@
 use Rattle.std.proofs.Common.{◌≡◌, ◌≤◌, []}
 use Rattle.std.specs.Prelude.{is_some}
 use Rattle.sq_queue.specs.Faces.{Together}
-use Rattle.sq_core.specs.Runs.{IsSoundEngine, measure_of}
+use Rattle.sq_flow.specs.Flows.{measure_of}
+use Rattle.sq_core.specs.Runs.{IsSoundEngine}
 use Rattle.sq_top.specs.Driving.{GoesOn}
 use Rattle.sq_top.proofs.driving.drive.Given as goal
 
