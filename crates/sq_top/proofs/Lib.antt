@@ -10,4 +10,5 @@ pub mod SortedLines
 pub mod StoppedLemmas
 pub mod WritingLemmas
 pub mod SourceLemmas
+pub mod TrainLemmas
 pub mod WordLemmas

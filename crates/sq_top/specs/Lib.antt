@@ -5,6 +5,7 @@ pub mod Due
 pub mod Answers
 pub mod Writing
 pub mod Driving
+pub mod Recorded
 pub mod Messages
 pub mod Orders
 pub mod Causes
