@@ -39,7 +39,7 @@ use Rattle.sq_top.specs.Answers.{IsPrefixText, IsWholeText}
 use Rattle.sq_top.specs.Writing.{IsLost}
 use Rattle.sq_top.specs.declared.RunArgs.{RunArgs}
 use Rattle.sq_replay.specs.Entries.{picks_in}
-use Rattle.sq_top.specs.Scripts.{Lookup, Done, Replay, accepted, after_network, after_picks, after_stream, after_streams, after_words, go_on, outcome_of, picks_script, readable, settings_limit, stream_limit, unread, with_sources, Script}
+use Rattle.sq_top.specs.Scripts.{Lookup, Replay, accepted, after_network, after_picks, after_stream, after_streams, after_words, go_on, outcome_of, picks_script, readable, settings_limit, stream_limit, unread, with_sources, Script}
 use Rattle.sq_top.specs.Causes.{AnswersPrefix, AnswersWhole, AppendsSuch, Ends, HasFailedAt, IsStopped, MatchAccepted, RefusalHasCause, WhereTold, World, is_refusal}
 use Rattle.sq_top.proofs.SortedLines.{and-true}
 use Rattle.sq_top.proofs.StoppedLemmas.{at_told, some_none, where_told}

@@ -1,5 +1,5 @@
 -- Words as they are read.
-use Rattle.std.proofs.Common.{◌≡◌, ◌≢◌, ℕ, ◌+◌, ◌^◌, ◌<◌, ◌≤◌, ◌==◌, suc, Bool, true, false, ◌&&◌, List, [], ◌∷◌, ◌++◌, length, append_assoc, refl, ap, sym, ◌∙◌, subst, arith, inl, inr, Option, None, Some, Ok, Err}
+use Rattle.std.proofs.Common.{◌≡◌, ◌≢◌, ℕ, ◌+◌, ◌^◌, ◌<◌, ◌≤◌, ◌==◌, Bool, true, false, ◌&&◌, List, [], ◌∷◌, ◌++◌, length, append_assoc, refl, ap, sym, ◌∙◌, subst, arith, inl, inr, Option, None, Some, Ok, Err}
 use Rattle.std.specs.Prelude.{nat_lt, OkIff, Result, if◌then◌else◌}
 use Rattle.std.specs.List.{list_all, list_any, position_or_len}
 use Rattle.std.specs.Borrow.{Bor}
@@ -10,7 +10,7 @@ use Rattle.std.proofs.lemmas.Bool.Decides.{nat_tests}
 use Rattle.std.proofs.lemmas.Str.Parse.{parse_digits}
 use Rattle.sq_value.specs.Texts.{are_digits, is_digit, number_in, read_number}
 use Rattle.sq_value.proofs.ReadBack.{own}
-use Rattle.sq_top.specs.Commands.{Bad, Plain, Whole, Opens, Piece, Word, Given, dashed_piece, given_from, is_equals, lone, named_piece, number_or, piece_of, same_option, values_of, with_piece}
+use Rattle.sq_top.specs.Commands.{Bad, Plain, Whole, Opens, Word, Given, dashed_piece, given_from, is_equals, named_piece, piece_of}
 
 -- a byte that begins no word with a dash
 no_dash : (b : ℕ) (bs : Word) → ((rest : Word) → b ∷ bs ≢ 45 ∷ rest) → (b == 45) ≡ false

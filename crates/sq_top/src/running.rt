@@ -43,7 +43,8 @@ pub fn run<F: Folder, S: Sink, L: Ledger>(
         Ok(accepted) => accepted,
         Err(stopped) => return stopped,
     };
-    match write_answer(alloc, &accepted.network, accepted.sources, out, steps) {
+    let sources = accepted.sources;
+    match write_answer(alloc, &accepted.network, sources, out, steps) {
         Ok(()) => Stopped {
             status: Status::Ok,
             source: None,

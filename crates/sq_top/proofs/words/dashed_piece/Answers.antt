@@ -1,4 +1,4 @@
-use Rattle.std.proofs.Common.{None, lit<, sym}
+use Rattle.std.proofs.Common.{None, lit<}
 use Rattle.std.proofs.lemmas.Str.Pattern.{strip_prefix_char}
 use Rattle.sq_top.proofs.WordLemmas.{bad_piece}
 use Rattle.sq_top.proofs.words.dashed_piece.Goals as goal
