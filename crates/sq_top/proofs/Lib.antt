@@ -5,6 +5,7 @@ pub mod MixedLemmas
 pub mod EndLemmas
 pub mod HistoryLemmas
 pub mod DrivingLemmas
+pub mod ReplayLemmas
 mod Rows
 pub mod SortedLines
 pub mod StoppedLemmas

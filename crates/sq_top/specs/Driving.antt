@@ -1,13 +1,13 @@
 -- What a run shows on its way: a history of events, whose lines are written one after another.
-use Rattle.std.specs.Prelude.{◌≡◌, ◌⊎◌, ℕ, ◌+◌, ◌^◌, ◌<◌, ◌≤◌, List, ◌++◌, length, Option, slice_get, Some}
+use Rattle.std.specs.Prelude.{◌≡◌, ◌⊎◌, ℕ, ◌+◌, ◌^◌, ◌<◌, ◌≤◌, List, ◌++◌, length, map, Option, slice_get, Some}
 use Rattle.std.specs.List.{AllByRecursion, flat_map}
 use Rattle.sq_value.specs.declared.Tuple.{Tuple}
-use Rattle.sq_value.specs.Lists.{IsPrefixOf}
+use Rattle.sq_value.specs.Lists.{IsPrefixOf, numbers_to}
 use Rattle.sq_outside.specs.Disks.{Pages}
 use Rattle.sq_outside.specs.Sinks.{AppendsPrefix, appended}
 use Rattle.sq_net.specs.declared.Network.{Network}
 use Rattle.sq_oper.specs.declared.outs.Event.{Event}
-use Rattle.sq_replay.specs.Shown.{event_line}
+use Rattle.sq_replay.specs.Shown.{end_lines, event_line, text_of}
 use Rattle.sq_model.specs.Full.{full_stream}
 use Rattle.sq_model.specs.Fed.{fed_of, late_of, work_of}
 use Rattle.sq_queue.specs.Faces.{Tells}
@@ -54,6 +54,10 @@ pub record IsHalted (n : Network) (sources : List (List Tuple)) (result : Status
   pub written : AppendsPrefix before now (history_text n history)
   pub work : steps ≤ begun + work_of n sources
   pub too_much : result ≡ status.TooMuch → 2 ^ 62 ≤ work_of n sources
+
+-- the end lines of an engine in which nothing is left
+abbrev pub ends_text : Engine → List ℕ
+ends_text e = text_of (end_lines e.network (map (fed_at e) (numbers_to (length e.network.boxes))) (map (lost_by e) (numbers_to (length e.network.boxes))))
 
 -- memory ran out, the sink failed, or too much was to be fed
 abbrev pub IsCutShort : ℕ → ℕ → Status → Type 0
