@@ -37,7 +37,7 @@ impl Engine {
     ghost use Rattle.sq_flow.specs.Flows.{measure_of};
     ghost use Rattle.sq_flow.specs.Readiness.{IsReady, FallsBy};
     ghost use Rattle.sq_flow.specs.Engines.{place_in, listed_after, AllDone};
-    ghost use Rattle.sq_core.specs.Runs.{IsSoundEngine, IsRun, Stopped, ShownAll, fed_at, late_at, lost_by};
+    ghost use Rattle.sq_core.specs.Runs.{IsSoundEngine, IsRun, ShownSoFar, Stopped, ShownAll, fed_at, late_at};
 
     /// An engine that has released nothing yet of what the sources recorded, one list for each source. `seed` is for draws, of
     /// which there are none yet; `frames` is how many pages the queues may keep in memory.
@@ -117,8 +117,8 @@ impl Engine {
     /// Whether no step may follow: all actors are finished, or a step failed.
     pub fn ended(&self) -> bool
         requires { self.now.engine.failed ≡ false → IsSoundEngine self.now }
-        ensures yes { result ≡ true → AllDone self.now.engine.flow ⊎ (self.now.engine.failed ≡ true) }
-        ensures no { result ≡ false → (0 < length self.now.engine.ready.list) × (self.now.engine.failed ≡ false) }
+        ensures runs { result ≡ false → (0 < length self.now.engine.ready.list) × (self.now.engine.failed ≡ false) }
+        ensures done { self.now.engine.failed ≡ false → result ≡ true → AllDone self.now.engine.flow }
         ensures when_done { AllDone self.now.engine.flow → result ≡ true }
         ensures when_failed { self.now.engine.failed ≡ true → result ≡ true }
     {
@@ -158,8 +158,7 @@ impl Engine {
     pub fn late(&self, at: u32) -> u64
         requires sound { IsSoundEngine self.now }
         requires there { at < length self.now.network.boxes }
-        ensures count { result ≡ late_at self.now at }
-        ensures last { AllDone self.now.engine.flow → result ≡ lost_by self.now at }
+        ensures { result ≡ late_at self.now at }
     {
         self.engine.flow.seats[at as usize].op.late()
     }
@@ -169,6 +168,14 @@ impl Engine {
         ensures { result.now ≡ self.now.network }
     {
         &self.network
+    }
+
+    /// At any time what was shown is a beginning of the answers, and no more was fed than they take.
+    pub fn shown_so_far(&self)
+        ensures { (n : Network) (sources : List (List Tuple)) (pages : Option Pages) (history : List Event) (begun steps : ℕ) → Tells pages
+            → IsRun n sources pages self.now history begun steps → ShownSoFar n sources history begun steps }
+    {
+        let _engine = self;
     }
 
     /// Where all actors are finished all answers were shown, and every tuple of the full streams was fed.
