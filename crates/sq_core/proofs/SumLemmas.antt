@@ -69,9 +69,9 @@ module _ (n : Network) (sources : List (List Tuple)) where
       let size : ℕ → ℕ = λ s. length (nth (full_streams n sources) s) in
       let split = sum-split (fed_by_streams n sources) (length n.boxes) (length n.wires.outputs) in
       let boxes = sum-same (fed_by_streams n sources) (λ i. fed_of n sources (0 + i)) (length n.boxes)
-          (λ i low. box-fed i low ∙ (let e : i ≡ 0 + i = omega arith in ap (fed_of n sources) e)) in
+      (λ i low. box-fed i low ∙ (let e : i ≡ 0 + i = omega arith in ap (fed_of n sources) e)) in
       let range = sum-range (fed_of n sources) 0 (length n.boxes) in
       let outputs = sum-same (λ o. fed_by_streams n sources (length n.boxes + o)) (λ o. sum_by size (shown_by (slice_get n.wires.outputs o))) (length n.wires.outputs)
-          (λ o low. ap (sum_by size) (output-streams n o)) in
+      (λ o low. ap (sum_by size) (output-streams n o)) in
       let shown = sum-shown size n.wires.outputs in
       omega (arith, split, boxes, range, outputs, shown)
