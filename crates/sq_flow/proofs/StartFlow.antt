@@ -14,14 +14,14 @@ use Rattle.sq_flow.specs.declared.seats.Seat.{Seat}
 use Rattle.sq_flow.specs.declared.flow.Flow.{Flow}
 use Rattle.sq_flow.specs.Wiring.{net_of, from_of, IsShaped}
 use Rattle.sq_flow.specs.Seats.{Meaning, rest_at, done_at, place_at, holds_at, IsSeat}
-use Rattle.sq_flow.specs.Flows.{world_of, IsFlow, HoldsItems, Rises}
+use Rattle.sq_flow.specs.Flows.{world_of, IsFlow, HoldsItems, RiseFrom, to_release}
 use Rattle.sq_flow.specs.Starts.{IsNewSeat}
 
 module _ {O : Type 0} (m : Meaning O) (valid : O → Type 0) (e : Flow O)
     (shaped : IsShaped e.wires (length e.seats.items)) (lanes : size e.queues ≡ length e.wires.arcs.items)
     (open_all : (arc : ℕ) → (face e.queues arc).ended ≡ false) (runs : e.over ≡ false)
     (seats : (actor : ℕ) → holds_at (IsNewSeat m valid ((net_of e.wires).takes actor) ((net_of e.wires).fits actor)) (slice_get e.seats.items actor))
-    (rises : Rises 0 e.to_come.items) (clock : e.clock ≡ 0) (none_taken : e.taken ≡ 0) (closed : 0 < e.levels.closed) where
+    (rises : (source : ℕ) → RiseFrom 0 (to_release e source)) (few : length e.sources.items < 2 ^ 32) (clock : e.clock ≡ 0) (none_taken : e.taken ≡ 0) (closed : 0 < e.levels.closed) where
   done-none : (actor : ℕ) → done_at e.over (slice_get e.seats.items actor) ≡ false
   done-none actor = by (slice_get e.seats.items actor) (seats actor)
     where
@@ -45,7 +45,8 @@ module _ {O : Type 0} (m : Meaning O) (valid : O → Type 0) (e : Flow O)
         seats = λ actor. seat-of actor (slice_get e.seats.items actor) (seats actor);
         few = rw none_taken (omega arith);
         held = λ table agrees actor port. held-none table ((net_of e.wires).takes actor) ((net_of e.wires).fits actor) (slice_get e.seats.items actor) port (seats actor);
-        coming = rw clock rises;
+        coming = λ source. rw clock (rises source);
+        few_sources = few;
         levels = rw clock (first e.levels.epoch e.levels.closed closed, omega arith);
         over = λ o. absurd (cc (sym runs ∙ o));
       }

@@ -1,10 +1,11 @@
 -- Which actors are ready.
-use Rattle.std.specs.Prelude.{◌≡◌, ℕ, ◌+◌, ◌≤◌, ◌||◌, Bool, true, false, Some, is_some, slice_get, if◌then◌else◌}
+use Rattle.std.specs.Prelude.{◌≡◌, ◌≢◌, ℕ, ◌+◌, ◌-◌, ◌^◌, ◌≤◌, ◌<◌, ◌||◌, ◌&&◌, Bool, true, false, not, Some, is_some, map, min, sum, length, slice_get, if◌then◌else◌}
+use Rattle.std.specs.List.{list_all}
 use Rattle.sq_queue.specs.Faces.{Face, face}
 use Rattle.sq_flow.specs.declared.flow.Flow.{Flow}
 use Rattle.sq_flow.specs.declared.flow.Did.{Did}
 use Rattle.sq_flow.specs.declared.flow.Did.TheVariants.{Waits, Fed, Finished}
-use Rattle.sq_flow.specs.Wiring.{arcs_read}
+use Rattle.sq_flow.specs.Wiring.{arcs_read, from_of, to_of}
 use Rattle.sq_flow.specs.Seats.{done_at}
 
 -- an item stands first on the arc, or the arc has ended
