@@ -1,11 +1,11 @@
 -- An engine: a flow whose ready actors are listed.
-use Rattle.std.specs.Prelude.{◌≡◌, ℕ, ◌+◌, ◌-◌, ◌≤◌, ◌==◌, Bool, true, false, List, length, slice_get, if◌then◌else◌}
-use Rattle.sq_sched.specs.Ready.{contains, AreActors}
+use Rattle.std.specs.Prelude.{◌≡◌, ℕ, zero, suc, ◌+◌, ◌-◌, ◌≤◌, ◌==◌, ◌&&◌, Bool, true, false, not, List, [], ◌∷◌, ◌++◌, length, Some, slice_get, if◌then◌else◌}
+use Rattle.sq_sched.specs.Ready.{contains, without, OnlyOnce}
 use Rattle.sq_flow.specs.declared.flow.Flow.{Flow}
 use Rattle.sq_flow.specs.declared.engine.Engine.{Engine}
 use Rattle.sq_flow.specs.Seats.{Meaning, done_at}
 use Rattle.sq_flow.specs.Flows.{IsFlow}
-use Rattle.sq_flow.specs.Readiness.{IsReady}
+use Rattle.sq_flow.specs.Readiness.{IsReady, is_ready, waiting}
 
 -- an actor's place in the flow: the replay, which is actor 0, stands behind the operators
 abbrev pub place_in : ℕ → ℕ → ℕ
