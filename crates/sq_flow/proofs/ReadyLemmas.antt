@@ -113,9 +113,9 @@ module _ {O : Type 0} (e e' : Flow O) (shaped : IsShaped e.wires (length e.seats
           → contains (followers_of e.wires step) other ≡ true
       followed low t f = subst (λ a. contains (followers_of e.wires step) a ≡ true) t (subst (λ a. contains (followers_of e.wires a) (to_of (slice_get e.wires.arcs.items arc)) ≡ true) f (shaped.followed arc low))
 
-  pub ready-same : (other : ℕ) → other ≢ step → contains (followers_of e.wires step) other ≡ false → is_ready e' other ≡ is_ready e other
-  ready-same other ne none =
-      ap (λ b. not b && list_all (λ arc. stands (face e'.queues arc)) (arcs_read e'.wires other)) (touches.others other ne)
+  pub ready-same : (other : ℕ) → other ≤ length e.seats.items → other ≢ step → contains (followers_of e.wires step) other ≡ false → is_ready e' other ≡ is_ready e other
+  ready-same other low ne none =
+      ap (λ b. not b && list_all (λ arc. stands (face e'.queues arc)) (arcs_read e'.wires other)) (touches.others other low ne)
       ∙ ap (λ arcs. not (done_at e.over (slice_get e.seats.items other)) && list_all (λ arc. stands (face e'.queues arc)) arcs) (arcs-same other)
       ∙ ap (λ b. not (done_at e.over (slice_get e.seats.items other)) && b)
       (all-agree (λ arc. stands (face e'.queues arc)) (λ arc. stands (face e.queues arc)) (arcs_read e.wires other) (λ port arc is. ap stands (face-same other ne none port arc is)))
@@ -126,11 +126,11 @@ module _ {O : Type 0} (e e' : Flow O) (shaped : IsShaped e.wires (length e.seats
       ∙ ap (λ counts. min (2 ^ 64 - 1) (sum counts))
       (map-agree (λ arc. (face e'.queues arc).count) (λ arc. (face e.queues arc).count) (arcs_read e.wires other) (λ port arc is. ap (λ (f : Face). f.count) (face-same other ne none port arc is)))
 
-  pub ready-grows : (other : ℕ) → other ≢ step → is_ready e other ≡ true → is_ready e' other ≡ true
-  ready-grows other ne h =
+  pub ready-grows : (other : ℕ) → other ≤ length e.seats.items → other ≢ step → is_ready e other ≡ true → is_ready e' other ≡ true
+  ready-grows other low ne h =
       let r = ready-of e other h in
       test-of e' other (record {
-        running = touches.others other ne ∙ r.running;
+        running = touches.others other low ne ∙ r.running;
         standing = λ port arc is. grows r port arc (subst (λ arcs. slice_get arcs port ≡ Some arc) (arcs-same other) is);
       })
     where

@@ -20,19 +20,19 @@ use Rattle.sq_flow.specs.Starts.{IsNewSeat}
 module _ {O : Type 0} (m : Meaning O) (valid : O → Type 0) (e : Flow O)
     (shaped : IsShaped e.wires (length e.seats.items)) (lanes : size e.queues ≡ length e.wires.arcs.items)
     (open_all : (arc : ℕ) → (face e.queues arc).ended ≡ false) (runs : e.over ≡ false)
-    (seats : (actor : ℕ) → holds_at (IsNewSeat m valid ((net_of e.wires).takes actor) ((net_of e.wires).fits actor)) (slice_get e.seats.items actor))
+    (seats : (actor : ℕ) → holds_at (IsNewSeat m valid ((net_of e.wires).takes actor) ((net_of e.wires).fits actor) e.levels.epoch) (slice_get e.seats.items actor))
     (rises : (source : ℕ) → RiseFrom 0 (to_release e source)) (few : length e.sources.items < 2 ^ 32) (clock : e.clock ≡ 0) (none_taken : e.taken ≡ 0) (closed : 0 < e.levels.closed) where
   done-none : (actor : ℕ) → done_at e.over (slice_get e.seats.items actor) ≡ false
   done-none actor = by (slice_get e.seats.items actor) (seats actor)
     where
-      by : (o : Option (Seat O)) → holds_at (IsNewSeat m valid ((net_of e.wires).takes actor) ((net_of e.wires).fits actor)) o → done_at e.over o ≡ false
+      by : (o : Option (Seat O)) → holds_at (IsNewSeat m valid ((net_of e.wires).takes actor) ((net_of e.wires).fits actor) e.levels.epoch) o → done_at e.over o ≡ false
       by None h = runs
       by (Some s) h = ap not h.open_now
 
   pub place-start : (actor : ℕ) → place_at m (slice_get e.seats.items actor) ≡ Start
   place-start actor = by (slice_get e.seats.items actor) (seats actor)
     where
-      by : (o : Option (Seat O)) → holds_at (IsNewSeat m valid ((net_of e.wires).takes actor) ((net_of e.wires).fits actor)) o → place_at m o ≡ Start
+      by : (o : Option (Seat O)) → holds_at (IsNewSeat m valid ((net_of e.wires).takes actor) ((net_of e.wires).fits actor) e.levels.epoch) o → place_at m o ≡ Start
       by None h = refl
       by (Some s) h = h.place
 
@@ -54,8 +54,8 @@ module _ {O : Type 0} (m : Meaning O) (valid : O → Type 0) (e : Flow O)
       first : (epoch closed : ℕ) → 0 < closed → 0 / epoch < closed
       first epoch closed h = grind arith
 
-      seat-of : (actor : ℕ) (o : Option (Seat O)) → holds_at (IsNewSeat m valid ((net_of e.wires).takes actor) ((net_of e.wires).fits actor)) o
-          → holds_at (IsSeat m valid ((net_of e.wires).takes actor) ((net_of e.wires).fits actor) e.taken) o
+      seat-of : (actor : ℕ) (o : Option (Seat O)) → holds_at (IsNewSeat m valid ((net_of e.wires).takes actor) ((net_of e.wires).fits actor) e.levels.epoch) o
+          → holds_at (IsSeat m valid ((net_of e.wires).takes actor) ((net_of e.wires).fits actor) e.levels.epoch e.taken) o
       seat-of actor None h = tt
       seat-of actor (Some s) h =
           record {
@@ -66,9 +66,10 @@ module _ {O : Type 0} (m : Meaning O) (valid : O → Type 0) (e : Flow O)
             few = (let z = h.none_counted in omega (arith, z));
             marks = h.marks;
             tuples = h.tuples;
+            reads = λ _. h.reads;
           }
 
-      held-none : (table : ℕ → ℕ → ℕ) (takes : ℕ → Bool) (fits : ℕ → List Value → Bool) (o : Option (Seat O)) (port : ℕ) → holds_at (IsNewSeat m valid takes fits) o → ThingsUpTo e.clock (rest_at m table o [] port)
+      held-none : (table : ℕ → ℕ → ℕ) (takes : ℕ → Bool) (fits : ℕ → List Value → Bool) (o : Option (Seat O)) (port : ℕ) → holds_at (IsNewSeat m valid takes fits e.levels.epoch) o → ThingsUpTo e.clock (rest_at m table o [] port)
       held-none table takes fits None port h = tt
       held-none table takes fits (Some s) port h = rw (h.holds_none table port) tt
 

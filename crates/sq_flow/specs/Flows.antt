@@ -62,7 +62,7 @@ pub record IsFlow {O : Type 0} (m : Meaning O) (valid : O → Type 0) (flow : Fl
   pub lanes : size flow.queues ≡ length flow.wires.arcs.items
   pub ended : (arc : ℕ) → arc < length flow.wires.arcs.items
       → (face flow.queues arc).ended ≡ done_at flow.over (slice_get flow.seats.items (from_of (slice_get flow.wires.arcs.items arc)))
-  pub seats : (actor : ℕ) → holds_at (IsSeat m valid ((net_of flow.wires).takes actor) ((net_of flow.wires).fits actor) flow.taken) (slice_get flow.seats.items actor)
+  pub seats : (actor : ℕ) → holds_at (IsSeat m valid ((net_of flow.wires).takes actor) ((net_of flow.wires).fits actor) flow.levels.epoch flow.taken) (slice_get flow.seats.items actor)
   pub few : flow.taken < 2 ^ 62
   pub held : (table : ℕ → ℕ → ℕ) → Agrees flow.levels table → (actor port : ℕ) → ThingsUpTo flow.clock (rest_at m table (slice_get flow.seats.items actor) [] port)
   pub coming : (source : ℕ) → RiseFrom flow.clock (to_release flow source)

@@ -13,8 +13,8 @@ use Rattle.sq_flow.specs.declared.flow.Flow.{Flow}
 use Rattle.sq_flow.specs.declared.seats.Seat.{Seat}
 use Rattle.sq_flow.specs.Seats.{Meaning}
 
--- the operator is new, and what comes on its arcs may come to it
-pub record IsNewSeat {O : Type 0} (m : Meaning O) (valid : O → Type 0) (takes : ℕ → Bool) (fits : ℕ → List Value → Bool) (seat : Seat O) : Type 0 where
+-- the operator is new, what comes on its arcs may come to it, and levels of epochs of so many ticks may be read
+pub record IsNewSeat {O : Type 0} (m : Meaning O) (valid : O → Type 0) (takes : ℕ → Bool) (fits : ℕ → List Value → Bool) (epoch : ℕ) (seat : Seat O) : Type 0 where
   pub is_valid : valid seat.op
   pub running : m.running seat.op ≡ true
   pub place : m.place seat.op ≡ Start
@@ -25,6 +25,7 @@ pub record IsNewSeat {O : Type 0} (m : Meaning O) (valid : O → Type 0) (takes 
   pub open_now : seat.tally.running ≡ true
   pub marks : (port : ℕ) → takes port ≡ true → m.takes_marks seat.op port ≡ true
   pub tuples : (port : ℕ) (fields : List Value) → fits port fields ≡ true → m.fits seat.op port fields ≡ true
+  pub reads : m.reads seat.op epoch ≡ true
 
 -- a flow of these parts that has released nothing
 pub record IsNewFlow {O : Type 0} (wires : Wires) (seats : Vec (Seat O) Global) (sources : Vec (VecDeque Tuple Global) Global) (levels : LevelTable) (flow : Flow O) : Type 0 where

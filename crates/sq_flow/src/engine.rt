@@ -106,12 +106,12 @@ impl<O: Operator + Drop> Flow<O> {
         frames: u32,
     ) -> Result<Flow<O>, AllocError>
         requires shaped { IsShaped wires (length seats.items) }
-        requires seats { (actor : ℕ) → holds_at (IsNewSeat (record { rest = O.rest; decides = O.decides; lost = O.lost; place = O.place; taken = O.taken; running = O.running; takes_marks = O.takes_marks; fits = O.fits }) O.valid ((net_of wires).takes actor) ((net_of wires).fits actor)) (slice_get seats.items actor) }
+        requires seats { (actor : ℕ) → holds_at (IsNewSeat (record { rest = O.rest; decides = O.decides; lost = O.lost; place = O.place; taken = O.taken; running = O.running; takes_marks = O.takes_marks; fits = O.fits; reads = O.reads }) O.valid ((net_of wires).takes actor) ((net_of wires).fits actor) levels.epoch) (slice_get seats.items actor) }
         requires coming { (source : ℕ) → RiseFrom 0 (tuples_at (slice_get sources.items source)) }
         requires few { length sources.items < 2 ^ 32 }
         requires levels { 0 < levels.closed }
         requires frames { 2 ≤ frames }
-        ensures flow { IfOk result (λ e. IsFlow (record { rest = O.rest; decides = O.decides; lost = O.lost; place = O.place; taken = O.taken; running = O.running; takes_marks = O.takes_marks; fits = O.fits }) O.valid e) }
+        ensures flow { IfOk result (λ e. IsFlow (record { rest = O.rest; decides = O.decides; lost = O.lost; place = O.place; taken = O.taken; running = O.running; takes_marks = O.takes_marks; fits = O.fits; reads = O.reads }) O.valid e) }
         ensures parts { IfOk result (λ e. IsNewFlow wires seats sources levels e) }
     {
         let arcs = wires.arcs.len() as u32;
@@ -130,7 +130,7 @@ impl<O: Operator + Drop> Flow<O> {
 
     /// An actor is ready.
     pub(crate) fn is_ready(&self, actor: u32) -> bool
-        requires flow { IsFlow (record { rest = O.rest; decides = O.decides; lost = O.lost; place = O.place; taken = O.taken; running = O.running; takes_marks = O.takes_marks; fits = O.fits }) O.valid self.now }
+        requires flow { IsFlow (record { rest = O.rest; decides = O.decides; lost = O.lost; place = O.place; taken = O.taken; running = O.running; takes_marks = O.takes_marks; fits = O.fits; reads = O.reads }) O.valid self.now }
         requires actor_in { actor ≤ length self.now.seats.items }
         ensures { result ≡ is_ready self.now actor }
     {
@@ -145,7 +145,7 @@ impl<O: Operator + Drop> Flow<O> {
 
     /// How many items wait for an actor.
     pub(crate) fn waiting(&self, actor: u32) -> u64
-        requires flow { IsFlow (record { rest = O.rest; decides = O.decides; lost = O.lost; place = O.place; taken = O.taken; running = O.running; takes_marks = O.takes_marks; fits = O.fits }) O.valid self.now }
+        requires flow { IsFlow (record { rest = O.rest; decides = O.decides; lost = O.lost; place = O.place; taken = O.taken; running = O.running; takes_marks = O.takes_marks; fits = O.fits; reads = O.reads }) O.valid self.now }
         requires actor_in { actor ≤ length self.now.seats.items }
         ensures { result ≡ waiting self.now actor }
     {
@@ -177,12 +177,12 @@ impl<O: Operator + Drop> Engine<O> {
         frames: u32,
     ) -> Result<Engine<O>, AllocError>
         requires shaped { IsShaped wires (length seats.items) }
-        requires seats { (actor : ℕ) → holds_at (IsNewSeat (record { rest = O.rest; decides = O.decides; lost = O.lost; place = O.place; taken = O.taken; running = O.running; takes_marks = O.takes_marks; fits = O.fits }) O.valid ((net_of wires).takes actor) ((net_of wires).fits actor)) (slice_get seats.items actor) }
+        requires seats { (actor : ℕ) → holds_at (IsNewSeat (record { rest = O.rest; decides = O.decides; lost = O.lost; place = O.place; taken = O.taken; running = O.running; takes_marks = O.takes_marks; fits = O.fits; reads = O.reads }) O.valid ((net_of wires).takes actor) ((net_of wires).fits actor) levels.epoch) (slice_get seats.items actor) }
         requires coming { (source : ℕ) → RiseFrom 0 (tuples_at (slice_get sources.items source)) }
         requires few { length sources.items < 2 ^ 32 }
         requires levels { 0 < levels.closed }
         requires frames { 2 ≤ frames }
-        ensures engine { IfOk result (λ e. IsEngine (record { rest = O.rest; decides = O.decides; lost = O.lost; place = O.place; taken = O.taken; running = O.running; takes_marks = O.takes_marks; fits = O.fits }) O.valid e) }
+        ensures engine { IfOk result (λ e. IsEngine (record { rest = O.rest; decides = O.decides; lost = O.lost; place = O.place; taken = O.taken; running = O.running; takes_marks = O.takes_marks; fits = O.fits; reads = O.reads }) O.valid e) }
         ensures flow { IfOk result (λ e. IsNewFlow wires seats sources levels e.flow) }
     {
         let flow = Flow::new(alloc, wires, seats, sources, levels, frames)?;
@@ -201,7 +201,7 @@ impl<O: Operator + Drop> Engine<O> {
 
     /// Looks at an actor: counts what waits for it, and lists it last where it is ready and isn't listed.
     fn look_at(&mut self, actor: u32)
-        requires flow { IsFlow (record { rest = O.rest; decides = O.decides; lost = O.lost; place = O.place; taken = O.taken; running = O.running; takes_marks = O.takes_marks; fits = O.fits }) O.valid self.old.flow }
+        requires flow { IsFlow (record { rest = O.rest; decides = O.decides; lost = O.lost; place = O.place; taken = O.taken; running = O.running; takes_marks = O.takes_marks; fits = O.fits; reads = O.reads }) O.valid self.old.flow }
         requires room { HasRoom self.old }
         requires there { actor ≤ length self.old.flow.seats.items }
         ensures { Looked (actor ∷ []) self.old self.new }
@@ -215,7 +215,7 @@ impl<O: Operator + Drop> Engine<O> {
 
     /// Looks at each actor, in ascending number.
     fn look_at_all(&mut self)
-        requires flow { IsFlow (record { rest = O.rest; decides = O.decides; lost = O.lost; place = O.place; taken = O.taken; running = O.running; takes_marks = O.takes_marks; fits = O.fits }) O.valid self.old.flow }
+        requires flow { IsFlow (record { rest = O.rest; decides = O.decides; lost = O.lost; place = O.place; taken = O.taken; running = O.running; takes_marks = O.takes_marks; fits = O.fits; reads = O.reads }) O.valid self.old.flow }
         requires room { HasRoom self.old }
         ensures { Looked (range_with_len 0 (length self.old.flow.seats.items + 1)) self.old self.new }
     {
@@ -226,7 +226,7 @@ impl<O: Operator + Drop> Engine<O> {
 
     /// Looks at the operators that read from the actor at a place, in ascending number.
     fn look_at_readers(&mut self, place: u32)
-        requires flow { IsFlow (record { rest = O.rest; decides = O.decides; lost = O.lost; place = O.place; taken = O.taken; running = O.running; takes_marks = O.takes_marks; fits = O.fits }) O.valid self.old.flow }
+        requires flow { IsFlow (record { rest = O.rest; decides = O.decides; lost = O.lost; place = O.place; taken = O.taken; running = O.running; takes_marks = O.takes_marks; fits = O.fits; reads = O.reads }) O.valid self.old.flow }
         requires room { HasRoom self.old }
         requires there { place ≤ length self.old.flow.seats.items }
         ensures { Looked (readers_of self.old.flow place) self.old self.new }
@@ -245,20 +245,20 @@ impl<O: Operator + Drop> Engine<O> {
         events: &mut Vec<Event>,
         steps: &mut Steps<L>,
     ) -> Result<Progress, RunErr>
-        requires engine { IsEngine (record { rest = O.rest; decides = O.decides; lost = O.lost; place = O.place; taken = O.taken; running = O.running; takes_marks = O.takes_marks; fits = O.fits }) O.valid self.old }
+        requires engine { IsEngine (record { rest = O.rest; decides = O.decides; lost = O.lost; place = O.place; taken = O.taken; running = O.running; takes_marks = O.takes_marks; fits = O.fits; reads = O.reads }) O.valid self.old }
         requires together { Together self.old.flow.queues (D.pages disk.old) }
         requires ready { contains self.old.ready.list pick.actor ≡ true }
         requires some { 1 ≤ pick.train }
-        ensures ok { OnOk result (Stepped (record { rest = O.rest; decides = O.decides; lost = O.lost; place = O.place; taken = O.taken; running = O.running; takes_marks = O.takes_marks; fits = O.fits }) O.valid (D.pages disk.old) (D.pages disk.new) self.old.flow self.new.flow events.old.items events.new.items) }
-        ensures engine { OnOk result (IsEngine (record { rest = O.rest; decides = O.decides; lost = O.lost; place = O.place; taken = O.taken; running = O.running; takes_marks = O.takes_marks; fits = O.fits }) O.valid self.new) }
+        ensures ok { OnOk result (Stepped (record { rest = O.rest; decides = O.decides; lost = O.lost; place = O.place; taken = O.taken; running = O.running; takes_marks = O.takes_marks; fits = O.fits; reads = O.reads }) O.valid (D.pages disk.old) (D.pages disk.new) self.old.flow self.new.flow events.old.items events.new.items) }
+        ensures engine { OnOk result (IsEngine (record { rest = O.rest; decides = O.decides; lost = O.lost; place = O.place; taken = O.taken; running = O.running; takes_marks = O.takes_marks; fits = O.fits; reads = O.reads }) O.valid self.new) }
         ensures order { OnOk result (self.new.ready.list ≡ listed_after self.new.flow self.old.ready.list pick.actor) }
-        ensures prefix { OnErr result (ShowsPrefix (record { rest = O.rest; decides = O.decides; lost = O.lost; place = O.place; taken = O.taken; running = O.running; takes_marks = O.takes_marks; fits = O.fits }) (D.pages disk.old) self.old.flow self.new.flow.levels events.old.items events.new.items) }
-        ensures strange { IfErr result (λ e. NoneStrange (record { rest = O.rest; decides = O.decides; lost = O.lost; place = O.place; taken = O.taken; running = O.running; takes_marks = O.takes_marks; fits = O.fits }) (D.pages disk.old) self.old.flow e) }
+        ensures prefix { OnErr result (ShowsPrefix (record { rest = O.rest; decides = O.decides; lost = O.lost; place = O.place; taken = O.taken; running = O.running; takes_marks = O.takes_marks; fits = O.fits; reads = O.reads }) (D.pages disk.old) self.old.flow self.new.flow.levels events.old.items events.new.items) }
+        ensures strange { IfErr result (λ e. NoneStrange (record { rest = O.rest; decides = O.decides; lost = O.lost; place = O.place; taken = O.taken; running = O.running; takes_marks = O.takes_marks; fits = O.fits; reads = O.reads }) (D.pages disk.old) self.old.flow e) }
         ensures failed { OnErr result (self.new.failed ≡ true) }
         ensures closes { (table : ℕ → ℕ → ℕ) → Agrees self.new.flow.levels table → Agrees self.old.flow.levels table }
-        ensures cost { OnOk result (CostsFed (record { rest = O.rest; decides = O.decides; lost = O.lost; place = O.place; taken = O.taken; running = O.running; takes_marks = O.takes_marks; fits = O.fits }) self.old.flow self.new.flow steps.old steps.new) }
-        ensures cost_err { OnErr result (CostsAtMost (record { rest = O.rest; decides = O.decides; lost = O.lost; place = O.place; taken = O.taken; running = O.running; takes_marks = O.takes_marks; fits = O.fits }) (D.pages disk.old) self.old.flow self.new.flow.levels steps.old steps.new) }
-        ensures too_much { IfErr result (λ e. TooMuchOnly (record { rest = O.rest; decides = O.decides; lost = O.lost; place = O.place; taken = O.taken; running = O.running; takes_marks = O.takes_marks; fits = O.fits }) (D.pages disk.old) self.old.flow self.new.flow e) }
+        ensures cost { OnOk result (CostsFed (record { rest = O.rest; decides = O.decides; lost = O.lost; place = O.place; taken = O.taken; running = O.running; takes_marks = O.takes_marks; fits = O.fits; reads = O.reads }) self.old.flow self.new.flow steps.old steps.new) }
+        ensures cost_err { OnErr result (CostsAtMost (record { rest = O.rest; decides = O.decides; lost = O.lost; place = O.place; taken = O.taken; running = O.running; takes_marks = O.takes_marks; fits = O.fits; reads = O.reads }) (D.pages disk.old) self.old.flow self.new.flow.levels steps.old steps.new) }
+        ensures too_much { IfErr result (λ e. TooMuchOnly (record { rest = O.rest; decides = O.decides; lost = O.lost; place = O.place; taken = O.taken; running = O.running; takes_marks = O.takes_marks; fits = O.fits; reads = O.reads }) (D.pages disk.old) self.old.flow self.new.flow e) }
         ensures measure { IfOk result (λ p. FallsBy p.fed p.finished (measure_of self.old.flow) (measure_of self.new.flow)) }
         ensures works { IfOk result (λ p. (p.fed ≡ 0) → p.finished ≡ true) }
         ensures most { IfOk result (λ p. p.fed ≤ pick.train) }
@@ -295,9 +295,9 @@ impl<O: Operator + Drop> Engine<O> {
 
     /// How many tuples an operator was fed.
     pub fn fed(&self, actor: u32) -> u64
-        requires engine { IsEngine (record { rest = O.rest; decides = O.decides; lost = O.lost; place = O.place; taken = O.taken; running = O.running; takes_marks = O.takes_marks; fits = O.fits }) O.valid self.now }
+        requires engine { IsEngine (record { rest = O.rest; decides = O.decides; lost = O.lost; place = O.place; taken = O.taken; running = O.running; takes_marks = O.takes_marks; fits = O.fits; reads = O.reads }) O.valid self.now }
         requires there { actor < length self.now.flow.seats.items }
-        ensures { result ≡ taken_at (record { rest = O.rest; decides = O.decides; lost = O.lost; place = O.place; taken = O.taken; running = O.running; takes_marks = O.takes_marks; fits = O.fits }) (slice_get self.now.flow.seats.items actor) }
+        ensures { result ≡ taken_at (record { rest = O.rest; decides = O.decides; lost = O.lost; place = O.place; taken = O.taken; running = O.running; takes_marks = O.takes_marks; fits = O.fits; reads = O.reads }) (slice_get self.now.flow.seats.items actor) }
     {
         self.flow.seats[actor as usize].tally.taken
     }
@@ -305,7 +305,7 @@ impl<O: Operator + Drop> Engine<O> {
     /// The engine runs as long as an actor isn't finished, and then the ready list isn't empty; it is done where all are. It has
     /// failed where a step failed.
     pub fn state(&self) -> State
-        requires engine { self.now.failed ≡ false → IsEngine (record { rest = O.rest; decides = O.decides; lost = O.lost; place = O.place; taken = O.taken; running = O.running; takes_marks = O.takes_marks; fits = O.fits }) O.valid self.now }
+        requires engine { self.now.failed ≡ false → IsEngine (record { rest = O.rest; decides = O.decides; lost = O.lost; place = O.place; taken = O.taken; running = O.running; takes_marks = O.takes_marks; fits = O.fits; reads = O.reads }) O.valid self.now }
         ensures done { result ≡ State.Done → AllDone self.now.flow × (self.now.failed ≡ false) }
         ensures when_done { self.now.failed ≡ false → AllDone self.now.flow → result ≡ State.Done }
         ensures runs { result ≡ State.Running → (0 < length self.now.ready.list) × (self.now.failed ≡ false) }
@@ -323,16 +323,16 @@ impl<O: Operator + Drop> Engine<O> {
 
     /// Where all actors are finished nothing is left of any output, and each operator was fed all that it is fed in all.
     pub fn nothing_left(&self)
-        requires engine { IsFlow (record { rest = O.rest; decides = O.decides; lost = O.lost; place = O.place; taken = O.taken; running = O.running; takes_marks = O.takes_marks; fits = O.fits }) O.valid self.now.flow }
+        requires engine { IsFlow (record { rest = O.rest; decides = O.decides; lost = O.lost; place = O.place; taken = O.taken; running = O.running; takes_marks = O.takes_marks; fits = O.fits; reads = O.reads }) O.valid self.now.flow }
         requires done { AllDone self.now.flow }
-        ensures lines { (pages : Option Pages) (table : ℕ → ℕ → ℕ) → HoldsItems (record { rest = O.rest; decides = O.decides; lost = O.lost; place = O.place; taken = O.taken; running = O.running; takes_marks = O.takes_marks; fits = O.fits }) (items_in self.now.flow pages) self.now.flow → Agrees self.now.flow.levels table
-            → (output : ℕ) → self.now.flow.wires.shown + output < length self.now.flow.seats.items → lines_left (record { rest = O.rest; decides = O.decides; lost = O.lost; place = O.place; taken = O.taken; running = O.running; takes_marks = O.takes_marks; fits = O.fits }) table (items_in self.now.flow pages) self.now.flow output ≡ [] }
-        ensures fed { (pages : Option Pages) (table : ℕ → ℕ → ℕ) → HoldsItems (record { rest = O.rest; decides = O.decides; lost = O.lost; place = O.place; taken = O.taken; running = O.running; takes_marks = O.takes_marks; fits = O.fits }) (items_in self.now.flow pages) self.now.flow → Agrees self.now.flow.levels table
-            → (actor : ℕ) → actor < length self.now.flow.seats.items → fed_at_last (record { rest = O.rest; decides = O.decides; lost = O.lost; place = O.place; taken = O.taken; running = O.running; takes_marks = O.takes_marks; fits = O.fits }) table (items_in self.now.flow pages) self.now.flow actor ≡ taken_at (record { rest = O.rest; decides = O.decides; lost = O.lost; place = O.place; taken = O.taken; running = O.running; takes_marks = O.takes_marks; fits = O.fits }) (slice_get self.now.flow.seats.items actor) }
-        ensures lost { (pages : Option Pages) (table : ℕ → ℕ → ℕ) → HoldsItems (record { rest = O.rest; decides = O.decides; lost = O.lost; place = O.place; taken = O.taken; running = O.running; takes_marks = O.takes_marks; fits = O.fits }) (items_in self.now.flow pages) self.now.flow → Agrees self.now.flow.levels table
-            → (actor : ℕ) → actor < length self.now.flow.seats.items → lost_at_last (record { rest = O.rest; decides = O.decides; lost = O.lost; place = O.place; taken = O.taken; running = O.running; takes_marks = O.takes_marks; fits = O.fits }) table (items_in self.now.flow pages) self.now.flow actor ≡ lost_at (record { rest = O.rest; decides = O.decides; lost = O.lost; place = O.place; taken = O.taken; running = O.running; takes_marks = O.takes_marks; fits = O.fits }) (slice_get self.now.flow.seats.items actor) [] }
-        ensures work { (pages : Option Pages) (table : ℕ → ℕ → ℕ) → HoldsItems (record { rest = O.rest; decides = O.decides; lost = O.lost; place = O.place; taken = O.taken; running = O.running; takes_marks = O.takes_marks; fits = O.fits }) (items_in self.now.flow pages) self.now.flow → Agrees self.now.flow.levels table
-            → work_at_last (record { rest = O.rest; decides = O.decides; lost = O.lost; place = O.place; taken = O.taken; running = O.running; takes_marks = O.takes_marks; fits = O.fits }) table (items_in self.now.flow pages) self.now.flow ≡ taken_in_all (record { rest = O.rest; decides = O.decides; lost = O.lost; place = O.place; taken = O.taken; running = O.running; takes_marks = O.takes_marks; fits = O.fits }) self.now.flow }
+        ensures lines { (pages : Option Pages) (table : ℕ → ℕ → ℕ) → HoldsItems (record { rest = O.rest; decides = O.decides; lost = O.lost; place = O.place; taken = O.taken; running = O.running; takes_marks = O.takes_marks; fits = O.fits; reads = O.reads }) (items_in self.now.flow pages) self.now.flow → Agrees self.now.flow.levels table
+            → (output : ℕ) → self.now.flow.wires.shown + output < length self.now.flow.seats.items → lines_left (record { rest = O.rest; decides = O.decides; lost = O.lost; place = O.place; taken = O.taken; running = O.running; takes_marks = O.takes_marks; fits = O.fits; reads = O.reads }) table (items_in self.now.flow pages) self.now.flow output ≡ [] }
+        ensures fed { (pages : Option Pages) (table : ℕ → ℕ → ℕ) → HoldsItems (record { rest = O.rest; decides = O.decides; lost = O.lost; place = O.place; taken = O.taken; running = O.running; takes_marks = O.takes_marks; fits = O.fits; reads = O.reads }) (items_in self.now.flow pages) self.now.flow → Agrees self.now.flow.levels table
+            → (actor : ℕ) → actor < length self.now.flow.seats.items → fed_at_last (record { rest = O.rest; decides = O.decides; lost = O.lost; place = O.place; taken = O.taken; running = O.running; takes_marks = O.takes_marks; fits = O.fits; reads = O.reads }) table (items_in self.now.flow pages) self.now.flow actor ≡ taken_at (record { rest = O.rest; decides = O.decides; lost = O.lost; place = O.place; taken = O.taken; running = O.running; takes_marks = O.takes_marks; fits = O.fits; reads = O.reads }) (slice_get self.now.flow.seats.items actor) }
+        ensures lost { (pages : Option Pages) (table : ℕ → ℕ → ℕ) → HoldsItems (record { rest = O.rest; decides = O.decides; lost = O.lost; place = O.place; taken = O.taken; running = O.running; takes_marks = O.takes_marks; fits = O.fits; reads = O.reads }) (items_in self.now.flow pages) self.now.flow → Agrees self.now.flow.levels table
+            → (actor : ℕ) → actor < length self.now.flow.seats.items → lost_at_last (record { rest = O.rest; decides = O.decides; lost = O.lost; place = O.place; taken = O.taken; running = O.running; takes_marks = O.takes_marks; fits = O.fits; reads = O.reads }) table (items_in self.now.flow pages) self.now.flow actor ≡ lost_at (record { rest = O.rest; decides = O.decides; lost = O.lost; place = O.place; taken = O.taken; running = O.running; takes_marks = O.takes_marks; fits = O.fits; reads = O.reads }) (slice_get self.now.flow.seats.items actor) [] }
+        ensures work { (pages : Option Pages) (table : ℕ → ℕ → ℕ) → HoldsItems (record { rest = O.rest; decides = O.decides; lost = O.lost; place = O.place; taken = O.taken; running = O.running; takes_marks = O.takes_marks; fits = O.fits; reads = O.reads }) (items_in self.now.flow pages) self.now.flow → Agrees self.now.flow.levels table
+            → work_at_last (record { rest = O.rest; decides = O.decides; lost = O.lost; place = O.place; taken = O.taken; running = O.running; takes_marks = O.takes_marks; fits = O.fits; reads = O.reads }) table (items_in self.now.flow pages) self.now.flow ≡ taken_in_all (record { rest = O.rest; decides = O.decides; lost = O.lost; place = O.place; taken = O.taken; running = O.running; takes_marks = O.takes_marks; fits = O.fits; reads = O.reads }) self.now.flow }
     {
         let _engine = self;
     }

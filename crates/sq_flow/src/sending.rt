@@ -1,13 +1,14 @@
 //! What an actor gives goes to the arcs that come from it, or is shown.
 
 ghost use Rattle.std.specs.Prelude.{◌≡◌, ◌==◌, if◌then◌else◌, ◌≢◌, ℕ, ◌+◌, ◌-◌, ◌^◌, ◌<◌, ◌≤◌, ◌++◌, ◌∷◌, List, [], false, Some, OnOk, OnErr, IfErr, length, slice_get};
+ghost use Rattle.sq_sched.specs.Ready.{contains};
 ghost use Rattle.sq_value.specs.Lists.{IsPrefixOf};
 ghost use Rattle.sq_item.specs.Sound.{IsSound};
 ghost use Rattle.sq_item.specs.Things.{spread};
 ghost use Rattle.sq_oper.specs.Given.{given, ItemsSound};
 ghost use Rattle.sq_queue.specs.Faces.{face, size, Together};
 ghost use Rattle.sq_flow.specs.Wiring.{arcs_from, times_in, AllOutsFine, pushed_by};
-ghost use Rattle.sq_flow.specs.Sends.{many, sent_to, Pushes};
+ghost use Rattle.sq_flow.specs.Sends.{many, sent_to, comes_from, Pushes};
 ghost use Rattle.sq_flow.specs.Events.{bodies, lines_of, line_of};
 
 use crate::errors::RunErr;
