@@ -30,22 +30,27 @@ pub contains-range : (from many n : ℕ) → contains (range_with_len from many)
 contains-range from zero n = grind (arith, nat_tests)
 contains-range from (suc many) n = ap (λ b. eqb from n || b) (contains-range (from + 1) many n) ∙ grind (arith, nat_tests)
 
-pub range-more : (from many : ℕ) → range_with_len from (many + 1) ≡ range_with_len from many ++ (from + many) ∷ []
+pub range-more : (from many : ℕ) → range_with_len from (suc many) ≡ range_with_len from many ++ (from + many) ∷ []
 range-more from zero = let e : from ≡ from + 0 = omega arith in ap (λ x. x ∷ []) e
 range-more from (suc many) =
     let e : from + 1 + many ≡ from + suc many = omega arith in
     ap (λ xs. from ∷ xs) (range-more (from + 1) many ∙ ap (λ x. range_with_len (from + 1) many ++ x ∷ []) e)
 
-next-eqb : (a b : ℕ) → eqb (a + 1) (b + 1) ≡ eqb a b
+next-eqb : (a b : ℕ) → eqb (a + 1) (suc b) ≡ eqb a b
 next-eqb a b = grind (arith, nat_tests)
 
-pub contains-next : (xs : List ℕ) (n : ℕ) → contains (map (λ x. x + 1) xs) (n + 1) ≡ contains xs n
+pub contains-next : (xs : List ℕ) (n : ℕ) → contains (map (λ x. x + 1) xs) (suc n) ≡ contains xs n
 contains-next [] n = refl
-contains-next (x ∷ xs) n = ap (λ b. b || contains (map (λ x. x + 1) xs) (n + 1)) (next-eqb x n) ∙ ap (λ b. eqb x n || b) (contains-next xs n)
+contains-next (x ∷ xs) n = ap (λ b. b || contains (map (λ x. x + 1) xs) (suc n)) (next-eqb x n) ∙ ap (λ b. eqb x n || b) (contains-next xs n)
 
 pub zero-next : (xs : List ℕ) → contains (map (λ x. x + 1) xs) 0 ≡ false
 zero-next [] = refl
 zero-next (x ∷ xs) = ap (λ b. b || contains (map (λ x. x + 1) xs) 0) (eqb-not (x + 1) 0 (omega arith)) ∙ zero-next xs
+
+pub at-next : (xs : List ℕ) (i x : ℕ) → i < length xs → x ≡ get_or xs i x → x + 1 ≡ get_or (map (λ x. x + 1) xs) i 0
+at-next [] i x low is = absurd (omega arith)
+at-next (y ∷ xs) zero x low is = ap (λ z. z + 1) is
+at-next (y ∷ xs) (suc i) x low is = at-next xs i x (omega arith) is
 
 pub climbs-filter : (p : ℕ → Bool) (xs : List ℕ) → Climbs xs → Climbs (filter p xs)
 climbs-filter p [] h = tt
@@ -76,23 +81,23 @@ climbs-next (x ∷ xs) h = (later, climbs-next xs h.1)
         let below : x < y = h.0 y (sym (contains-next xs y) ∙ is) in
         omega (arith, below)
 
+pub contains-at : (xs : List ℕ) (i x d : ℕ) → i < length xs → x ≡ get_or xs i d → contains xs x ≡ true
+contains-at [] i x d low is = absurd (omega arith)
+contains-at (y ∷ xs) zero x d low is = ap (λ b. b || contains xs x) (eqb-same y x (sym is))
+contains-at (y ∷ xs) (suc i) x d low is = right (eqb y x) (contains xs x) (contains-at xs i x d (omega arith) is)
+  where
+    right : (b c : Bool) → c ≡ true → (b || c) ≡ true
+    right true c h = refl
+    right false c h = h
+
 -- what stands in a climbing list stands nowhere before its place
-pub climbs-front : (xs : List ℕ) (i x : ℕ) → Climbs xs → i < length xs → x ≡ get_or xs i x → contains (take i xs) x ≡ false
+pub climbs-front : (xs : List ℕ) (i x : ℕ) → Climbs xs → i < length xs → x ≡ get_or xs i 0 → contains (take i xs) x ≡ false
 climbs-front xs zero x h low is = refl
 climbs-front [] (suc i) x h low is = refl
 climbs-front (y ∷ xs) (suc i) x h low is =
     let within : i < length xs = omega arith in
-    let below : y < x = h.0 x (stands xs i within is) in
+    let below : y < x = h.0 x (contains-at xs i x 0 within is) in
     ap (λ b. b || contains (take i xs) x) (eqb-not y x (omega (arith, below))) ∙ climbs-front xs i x h.1 within is
-  where
-    stands : (ys : List ℕ) (j : ℕ) → j < length ys → x ≡ get_or ys j x → contains ys x ≡ true
-    stands [] j low is = absurd (omega arith)
-    stands (z ∷ ys) zero low is = ap (λ b. b || contains ys x) (eqb-same z x (sym is))
-    stands (z ∷ ys) (suc j) low is = right (eqb z x) (contains ys x) (stands ys j (omega arith) is)
-      where
-        right : (b c : Bool) → c ≡ true → (b || c) ≡ true
-        right true c h = refl
-        right false c h = h
 
 pub climbs-same : (xs ys : List ℕ) → Climbs xs → Climbs ys → ((n : ℕ) → contains xs n ≡ contains ys n) → xs ≡ ys
 climbs-same [] [] h k same = refl
@@ -102,20 +107,20 @@ climbs-same (x ∷ xs) (y ∷ ys) h k same =
     let one : x ≡ y = omega (arith, no-less x y xs ys k (same x), no-less y x ys xs h (sym (same y))) in
     ap (λ z. z ∷ xs) one ∙ ap (λ zs. y ∷ zs) (climbs-same xs ys h.1 k.1 (tails one))
   where
-    no-less : (a b : ℕ) (as bs : List ℕ) → Climbs (b ∷ bs) → contains (a ∷ as) a ≡ contains (b ∷ bs) a → b ≤ a
-    no-less a b as bs up e = by (eqb b a) refl (sym e ∙ ap (λ t. t || contains as a) (eqb-same a a refl))
+    no-less : (a b : ℕ) (us vs : List ℕ) → Climbs (b ∷ vs) → contains (a ∷ us) a ≡ contains (b ∷ vs) a → b ≤ a
+    no-less a b us vs up e = by (eqb b a) refl (sym e ∙ ap (λ t. t || contains us a) (eqb-same a a refl))
       where
-        by : (t : Bool) → eqb b a ≡ t → (t || contains bs a) ≡ true → b ≤ a
+        by : (t : Bool) → eqb b a ≡ t → (t || contains vs a) ≡ true → b ≤ a
         by true t is = let s : b ≡ a = eqb-yes b a t in omega (arith, s)
         by false t is = let l : b < a = up.0 a is in omega (arith, l)
 
     tails : x ≡ y → (n : ℕ) → contains xs n ≡ contains ys n
     tails one n = by (eqb x n) (eqb y n) refl refl (same n)
       where
-        not-in : (a : ℕ) (as : List ℕ) → Climbs (a ∷ as) → a ≡ n → contains as n ≡ false
-        not-in a as up e = at (contains as n) refl
+        not-in : (a : ℕ) (us : List ℕ) → Climbs (a ∷ us) → a ≡ n → contains us n ≡ false
+        not-in a us up e = at (contains us n) refl
           where
-            at : (t : Bool) → contains as n ≡ t → t ≡ false
+            at : (t : Bool) → contains us n ≡ t → t ≡ false
             at false t = refl
             at true t = let l : a < n = up.0 n t in absurd (omega (arith, l, e))
 
@@ -157,6 +162,10 @@ actors-append n xs ys h k x is = by (contains xs x) refl (sym (contains-append x
     by true e f = h x e
     by false e f = k x f
 
+pub both-true : (a b : Bool) → (a && b) ≡ true → (a ≡ true) × (b ≡ true)
+both-true true b h = (refl, h)
+both-true false b h = absurd (cc h)
+
 pub all-agree : (p q : ℕ → Bool) (xs : List ℕ) → ((i x : ℕ) → slice_get xs i ≡ Some x → p x ≡ q x) → list_all p xs ≡ list_all q xs
 all-agree p q [] h = refl
 all-agree p q (x ∷ xs) h = ap (λ b. b && list_all p xs) (h 0 x refl) ∙ ap (λ b. q x && b) (all-agree p q xs (λ i y is. h (suc i) y is))
@@ -176,12 +185,10 @@ all-weaker p q (x ∷ xs) h all = by (p x) (q x) all (h 0 x refl) (λ more. all-
 
 pub all-at : (p : ℕ → Bool) (xs : List ℕ) → list_all p xs ≡ true → (i x : ℕ) → slice_get xs i ≡ Some x → p x ≡ true
 all-at p [] all i x is = absurd (cc is)
-all-at p (y ∷ xs) all i x is = by (p y) refl all i is
-  where
-    by : (b : Bool) → p y ≡ b → (b && list_all p xs) ≡ true → (i : ℕ) → slice_get (y ∷ xs) i ≡ Some x → p x ≡ true
-    by true e all zero is = let same : y ≡ x = cc is in ap p (sym same) ∙ e
-    by true e all (suc i) is = all-at p xs all i x is
-    by false e all i is = absurd (cc all)
+all-at p (y ∷ xs) all zero x is =
+    let same : y ≡ x = cc is in
+    ap p (sym same) ∙ (both-true (p y) (list_all p xs) all).0
+all-at p (y ∷ xs) all (suc i) x is = all-at p xs (both-true (p y) (list_all p xs) all).1 i x is
 
 pub all-from : (p : ℕ → Bool) (xs : List ℕ) → ((i x : ℕ) → slice_get xs i ≡ Some x → p x ≡ true) → list_all p xs ≡ true
 all-from p [] h = refl

@@ -14,11 +14,7 @@ use Rattle.sq_flow.specs.Wiring.{arcs_read, from_of, to_of, followers_of, Climbs
 use Rattle.sq_flow.specs.Seats.{done_at}
 use Rattle.sq_flow.specs.Readiness.{stands, IsReady, is_ready, waiting, TouchesOnly}
 use Rattle.sq_flow.specs.Engines.{place_in, ExactFor, is_new, newly_ready, listed_after, readers_of}
-use Rattle.sq_flow.proofs.ListLemmas.{contains-append, contains-filter, contains-range, contains-next, zero-next, climbs-filter, climbs-range, climbs-next, climbs-same, once-climbs, once-append, actors-append, all-agree, all-weaker, all-at, all-from, map-agree}
-
-and-both : (a b : Bool) → (a && b) ≡ true → (a ≡ true) × (b ≡ true)
-and-both true b h = (refl, h)
-and-both false b h = absurd (cc h)
+use Rattle.sq_flow.proofs.ListLemmas.{contains-append, contains-filter, contains-range, contains-next, zero-next, climbs-filter, climbs-range, climbs-next, climbs-same, once-climbs, once-append, actors-append, both-true, all-agree, all-weaker, all-at, all-from, map-agree}
 
 not-true : (a : Bool) → not a ≡ true → a ≡ false
 not-true true h = absurd (cc h)
@@ -27,7 +23,7 @@ not-true false h = refl
 -- an actor is ready where the test says so
 pub ready-of : {O : Type 0} (e : Flow O) (place : ℕ) → is_ready e place ≡ true → IsReady e place
 ready-of e place h =
-    let both = and-both (not (done_at e.over (slice_get e.seats.items place))) (list_all (λ arc. stands (face e.queues arc)) (arcs_read e.wires place)) h in
+    let both = both-true (not (done_at e.over (slice_get e.seats.items place))) (list_all (λ arc. stands (face e.queues arc)) (arcs_read e.wires place)) h in
     record {
       running = not-true (done_at e.over (slice_get e.seats.items place)) both.0;
       standing = all-at (λ arc. stands (face e.queues arc)) (arcs_read e.wires place) both.1;
@@ -61,10 +57,10 @@ exact-test e list actor exact =
 pub place-0 : (ops : ℕ) → place_in ops 0 ≡ ops
 place-0 ops = refl
 
-pub place-next : (ops k : ℕ) → place_in ops (k + 1) ≡ k
-place-next ops k = ap (λ b. cond b ops (k + 1 - 1)) (eqb-not (k + 1) 0 (omega arith)) ∙ less
+pub place-next : (ops k : ℕ) → place_in ops (suc k) ≡ k
+place-next ops k = ap (λ b. cond b ops (suc k - 1)) (eqb-not (suc k) 0 (omega arith)) ∙ less
   where
-    less : k + 1 - 1 ≡ k
+    less : suc k - 1 ≡ k
     less = omega arith
 
 pub place-within : (ops actor : ℕ) → actor ≤ ops → place_in ops actor ≤ ops
@@ -149,7 +145,7 @@ looked-once e list seen once climbs =
     (λ n is. apart n (contains seen n) (sym (contains-filter (is_new e list) seen n) ∙ is))
   where
     apart : (n : ℕ) (b : Bool) → (b && is_new e list n) ≡ true → contains list n ≡ false
-    apart n true h = not-true (contains list n) ((and-both (is_ready e (place_in (length e.seats.items) n)) (not (contains list n)) h).1)
+    apart n true h = not-true (contains list n) ((both-true (is_ready e (place_in (length e.seats.items) n)) (not (contains list n)) h).1)
     apart n false h = absurd (cc h)
 
 pub looked-below : {O : Type 0} (e : Flow O) (list seen : List ℕ) (actors : ℕ) → AreActors actors list → AreActors actors seen → AreActors actors (list ++ filter (is_new e list) seen)

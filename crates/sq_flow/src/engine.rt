@@ -92,6 +92,7 @@ fn count_waiting(arcs: &Vec<u32>, queues: &Queues) -> u64
 impl<O: Operator + Drop> Flow<O> {
     ghost use Rattle.sq_flow.specs.Flows.{IsFlow, RiseFrom, tuples_at};
     ghost use Rattle.sq_flow.specs.Readiness.{is_ready, waiting};
+    ghost use Rattle.sq_flow.specs.Engines.{readers_of};
     ghost use Rattle.sq_flow.specs.Starts.{IsNewSeat, IsNewFlow};
     ghost use Rattle.sq_flow.specs.Seats.{holds_at};
     ghost use Rattle.sq_flow.specs.Wiring.{net_of, IsShaped};
@@ -153,6 +154,26 @@ impl<O: Operator + Drop> Flow<O> {
             return 0;
         }
         count_waiting(self.wires.arcs_of(actor), &self.queues)
+    }
+
+    /// How many operators read from the actor at a place.
+    fn count_readers(&self, place: u32) -> usize
+        requires flow { IsFlow (record { rest = O.rest; decides = O.decides; lost = O.lost; place = O.place; taken = O.taken; running = O.running; takes_marks = O.takes_marks; fits = O.fits; reads = O.reads }) O.valid self.now }
+        requires there { place ≤ length self.now.seats.items }
+        ensures { result ≡ length (readers_of self.now place) }
+    {
+        self.wires.followers[place as usize].len()
+    }
+
+    /// One of the operators that read from the actor at a place, as an actor.
+    fn reader(&self, place: u32, index: usize) -> u32
+        requires flow { IsFlow (record { rest = O.rest; decides = O.decides; lost = O.lost; place = O.place; taken = O.taken; running = O.running; takes_marks = O.takes_marks; fits = O.fits; reads = O.reads }) O.valid self.now }
+        requires there { place ≤ length self.now.seats.items }
+        requires within { index < length (readers_of self.now place) }
+        ensures reader { result ≡ slice_index (readers_of self.now place) index }
+        ensures low { result ≤ length self.now.seats.items }
+    {
+        self.wires.followers[place as usize][index] + 1
     }
 }
 
@@ -231,9 +252,9 @@ impl<O: Operator + Drop> Engine<O> {
         requires there { place ≤ length self.old.flow.seats.items }
         ensures { Looked (readers_of self.old.flow place) self.old self.new }
     {
-        for index in 0..self.flow.wires.followers[place as usize].len() {
-            let reader = self.flow.wires.followers[place as usize][index];
-            self.look_at(reader + 1);
+        for index in 0..self.flow.count_readers(place) {
+            let reader = self.flow.reader(place, index);
+            self.look_at(reader);
         }
     }
 
