@@ -13,7 +13,7 @@ use Rattle.sq_flow.specs.Seats.{Meaning}
 use Rattle.sq_flow.specs.Flows.{IsFlow}
 use Rattle.sq_flow.specs.Readiness.{is_ready, waiting, TouchesOnly}
 use Rattle.sq_flow.specs.Engines.{place_in, ExactFor, is_new, newly_ready, listed_after, readers_of, Looked, HasRoom, IsEngine}
-use Rattle.sq_flow.proofs.ListLemmas.{contains-filter, contains-range, climbs-filter, climbs-range, climbs-next, climbs-same}
+use Rattle.sq_flow.proofs.ListLemmas.{contains-filter, contains-range, climbs-filter, climbs-range, climbs-next, climbs-same, once-climbs}
 use Rattle.sq_flow.proofs.ReadyLemmas.{exact-of, exact-test, place-within, place-apart, readers-at, readers-within, ready-same, waiting-same, ready-grows, looked-at, looked-once, looked-below}
 
 -- the list after looks at the actor of a step and at its readers
@@ -192,17 +192,23 @@ module _ {O : Type 0} (e e' : Flow O) (shaped : IsShaped e.wires (length e.seats
       one x false e h = absurd (cc h)
 
 -- the engine after looks at the actor of a step and at its readers
-module _ {O : Type 0} (m : Meaning O) (valid : O → Type 0) (a b c d : Engine O) (actor : ℕ) (engine : IsEngine m valid a) (listed : contains a.ready.list actor ≡ true)
-    (flow : IsFlow m valid b.flow) (wires : b.flow.wires ≡ a.flow.wires) (seats : length b.flow.seats.items ≡ length a.flow.seats.items)
-    (touches : TouchesOnly (place_in (length a.flow.seats.items) actor) a.flow b.flow)
-    (list : b.ready.list ≡ without actor a.ready.list) (actors : b.ready.actors ≡ a.ready.actors) (waits : b.waits.items ≡ a.waits.items)
+module _ {O : Type 0} (m : Meaning O) (valid : O → Type 0) (a b c d : Engine O) (actor place : ℕ) (engine : IsEngine m valid a) (listed : contains a.ready.list actor ≡ true)
+    (here : place ≡ place_in a.flow.wires.replay actor) (flow : IsFlow m valid b.flow) (wires : b.flow.wires ≡ a.flow.wires)
+    (seats : length b.flow.seats.items ≡ length a.flow.seats.items) (touched : TouchesOnly place a.flow b.flow)
+    (removed : b.ready ≡ record a.ready { list = without actor a.ready.list }) (waits : b.waits.items ≡ a.waits.items)
     (none : (b.outs.items.items ≡ []) × (b.outs.drops.items ≡ [])) (running : b.failed ≡ false)
-    (first : Looked (actor ∷ []) b c) (second : Looked (readers_of c.flow (place_in (length a.flow.seats.items) actor)) c d) where
+    (first : Looked (actor ∷ []) b c) (looked : Looked (readers_of c.flow place) c d) where
   pub actor-low : actor ≤ length a.flow.seats.items
   actor-low = let l = engine.below actor listed in let r = engine.room.actors in omega (arith, l, r)
 
-  abbrev place : ℕ
-  place = place_in (length a.flow.seats.items) actor
+  place-is : place ≡ place_in (length a.flow.seats.items) actor
+  place-is = here ∙ ap (λ n. place_in n actor) engine.flow.shaped.replay_is
+
+  touches : TouchesOnly (place_in (length a.flow.seats.items) actor) a.flow b.flow
+  touches = subst (λ p. TouchesOnly p a.flow b.flow) place-is touched
+
+  second : Looked (readers_of c.flow (place_in (length a.flow.seats.items) actor)) c d
+  second = subst (λ p. Looked (readers_of c.flow p) c d) place-is looked
 
   flow-is : d.flow ≡ b.flow
   flow-is = second.flow ∙ first.flow
@@ -215,8 +221,8 @@ module _ {O : Type 0} (m : Meaning O) (valid : O → Type 0) (a b c d : Engine O
 
   list-is : d.ready.list ≡ listed-now
   list-is =
-      second.list ∙ ap (λ f. c.ready.list ++ filter (is_new f c.ready.list) (readers_of f place)) first.flow
-      ∙ ap (λ xs. xs ++ filter (is_new b.flow xs) (readers_of b.flow place)) (first.list ∙ ap (λ xs. xs ++ filter (is_new b.flow xs) (actor ∷ [])) list)
+      second.list ∙ ap (λ f. c.ready.list ++ filter (is_new f c.ready.list) (readers_of f (place_in (length a.flow.seats.items) actor))) first.flow
+      ∙ ap (λ xs. xs ++ filter (is_new b.flow xs) (readers_of b.flow (place_in (length a.flow.seats.items) actor))) (first.list ∙ ap (λ xs. xs ++ filter (is_new b.flow xs) (actor ∷ [])) (ap (λ r. r.list) removed))
 
   pub engine-order : d.ready.list ≡ listed_after d.flow a.ready.list actor
   engine-order =
@@ -226,10 +232,10 @@ module _ {O : Type 0} (m : Meaning O) (valid : O → Type 0) (a b c d : Engine O
   waits-are : (x : ℕ) → x ≤ length a.flow.seats.items → get_or d.waits.items x 0 ≡ waiting b.flow (place_in (length b.flow.seats.items) x)
   waits-are x low =
       second.waits x
-      ∙ ap (λ (f : Flow O). cond (contains (readers_of f place) x) (waiting f (place_in (length f.seats.items) x)) (get_or c.waits.items x 0)) first.flow
-      ∙ by (contains (readers_of b.flow place) x) refl
+      ∙ ap (λ (f : Flow O). cond (contains (readers_of f (place_in (length a.flow.seats.items) actor)) x) (waiting f (place_in (length f.seats.items) x)) (get_or c.waits.items x 0)) first.flow
+      ∙ by (contains (readers_of b.flow (place_in (length a.flow.seats.items) actor)) x) refl
     where
-      at : contains (readers_of b.flow place) x ≡ false → (t : Bool) → eqb actor x ≡ t
+      at : contains (readers_of b.flow (place_in (length a.flow.seats.items) actor)) x ≡ false → (t : Bool) → eqb actor x ≡ t
           → cond (t || false) (waiting b.flow (place_in (length b.flow.seats.items) x)) (get_or b.waits.items x 0) ≡ waiting b.flow (place_in (length b.flow.seats.items) x)
       at apart true e = refl
       at apart false e =
@@ -237,7 +243,7 @@ module _ {O : Type 0} (m : Meaning O) (valid : O → Type 0) (a b c d : Engine O
           ap (λ xs. get_or xs x 0) waits ∙ engine.waits x low
           ∙ sym (waits-on a.flow b.flow engine.flow.shaped wires seats actor actor-low touches a.ready.list listed engine.once engine.exact x low ne apart)
 
-      by : (t : Bool) → contains (readers_of b.flow place) x ≡ t
+      by : (t : Bool) → contains (readers_of b.flow (place_in (length a.flow.seats.items) actor)) x ≡ t
           → cond t (waiting b.flow (place_in (length b.flow.seats.items) x)) (get_or c.waits.items x 0) ≡ waiting b.flow (place_in (length b.flow.seats.items) x)
       by true t = refl
       by false t = first.waits x ∙ at t (eqb actor x) refl
@@ -261,10 +267,66 @@ module _ {O : Type 0} (m : Meaning O) (valid : O → Type 0) (a b c d : Engine O
       }
     where
       actors-same : d.ready.actors ≡ a.ready.actors
-      actors-same = second.actors ∙ first.actors ∙ actors
+      actors-same = second.actors ∙ first.actors ∙ ap (λ r. r.actors) removed
 
       actors-are : d.ready.actors ≡ length d.flow.seats.items + 1
       actors-are = actors-same ∙ engine.room.actors ∙ ap (λ n. n + 1) (sym seats-are)
 
       more : length a.flow.seats.items < d.ready.actors
       more = let s = actors-same in let r = engine.room.actors in omega (arith, s, r)
+
+-- the list after looks at all actors, of which none was listed
+list-first : {O : Type 0} (a b : Engine O) → a.ready.list ≡ [] → Looked (range_with_len 0 (length a.flow.seats.items + 1)) a b → b.ready.list ≡ newly_ready a.flow []
+list-first a b empty looked = looked.list ∙ ap (λ xs. xs ++ filter (is_new a.flow xs) (range_with_len 0 (length a.flow.seats.items + 1))) empty
+
+pub order-first : {O : Type 0} (a b : Engine O) → a.ready.list ≡ [] → Looked (range_with_len 0 (length a.flow.seats.items + 1)) a b → b.ready.list ≡ newly_ready b.flow []
+order-first a b empty looked = list-first a b empty looked ∙ ap (λ f. newly_ready f []) (sym looked.flow)
+
+-- the engine after them
+module _ {O : Type 0} (m : Meaning O) (valid : O → Type 0) (a b : Engine O) (flow : IsFlow m valid a.flow) (room : HasRoom a) (empty : a.ready.list ≡ [])
+    (none : (a.outs.items.items ≡ []) × (a.outs.drops.items ≡ [])) (running : a.failed ≡ false)
+    (looked : Looked (range_with_len 0 (length a.flow.seats.items + 1)) a b) where
+  in-range : (x : ℕ) → x ≤ length a.flow.seats.items → contains (range_with_len 0 (length a.flow.seats.items + 1)) x ≡ true
+  in-range x low = contains-range 0 (length a.flow.seats.items + 1) x ∙ grind (arith, nat_tests, low)
+
+  first-exact : (x : ℕ) → x ≤ length a.flow.seats.items → contains (newly_ready a.flow []) x ≡ is_ready a.flow (place_in (length a.flow.seats.items) x)
+  first-exact x low =
+      contains-filter (is_new a.flow []) (range_with_len 0 (length a.flow.seats.items + 1)) x ∙ ap (λ b. b && is_new a.flow [] x) (in-range x low)
+      ∙ and-true (is_ready a.flow (place_in (length a.flow.seats.items) x))
+    where
+      and-true : (b : Bool) → (b && true) ≡ b
+      and-true true = refl
+      and-true false = refl
+
+  pub engine-first : IsEngine m valid b
+  engine-first =
+      record {
+        flow = subst (IsFlow m valid) (sym looked.flow) flow;
+        room = record { actors = actors-are; waits = looked.waits_len ∙ room.waits ∙ ap (λ n. n + 1) (sym seats-are) };
+        exact = λ x low.
+            subst (λ f. ExactFor f b.ready.list x) (sym looked.flow) (subst (λ xs. ExactFor a.flow xs x) (sym (list-first a b empty looked))
+            (exact-of a.flow (newly_ready a.flow []) x (first-exact x (rw (← seats-are) low))));
+        below = subst (AreActors b.ready.actors) (sym (list-first a b empty looked)) (λ x is. within x (contains (range_with_len 0 (length a.flow.seats.items + 1)) x) refl (sym (contains-filter (is_new a.flow []) (range_with_len 0 (length a.flow.seats.items + 1)) x) ∙ is));
+        once = subst OnlyOnce (sym (list-first a b empty looked)) (once-climbs (newly_ready a.flow []) (climbs-filter (is_new a.flow []) (range_with_len 0 (length a.flow.seats.items + 1)) (climbs-range 0 (length a.flow.seats.items + 1))));
+        waits = λ x low.
+            looked.waits x
+            ∙ ap (λ b. cond b (waiting a.flow (place_in (length a.flow.seats.items) x)) (get_or a.waits.items x 0)) (in-range x (rw (← seats-are) low))
+            ∙ ap (λ (f : Flow O). waiting f (place_in (length f.seats.items) x)) (sym looked.flow);
+        none = rw looked.outs none;
+        running = looked.failed ∙ running;
+      }
+    where
+      seats-are : length b.flow.seats.items ≡ length a.flow.seats.items
+      seats-are = ap (λ (f : Flow O). length f.seats.items) looked.flow
+
+      actors-are : b.ready.actors ≡ length b.flow.seats.items + 1
+      actors-are = looked.actors ∙ room.actors ∙ ap (λ n. n + 1) (sym seats-are)
+
+      within : (x : ℕ) (t : Bool) → contains (range_with_len 0 (length a.flow.seats.items + 1)) x ≡ t → (t && is_new a.flow [] x) ≡ true → x < b.ready.actors
+      within x true e h =
+          let tests : (leb 0 x && ltb x (0 + (length a.flow.seats.items + 1))) ≡ true = sym (contains-range 0 (length a.flow.seats.items + 1) x) ∙ e in
+          let low : x < length a.flow.seats.items + 1 = grind (arith, nat_tests, tests) in
+          let same = seats-are in
+          let are = actors-are in
+          omega (arith, low, same, are)
+      within x false e h = absurd (cc h)

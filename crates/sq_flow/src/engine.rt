@@ -180,7 +180,7 @@ impl<O: Operator + Drop> Flow<O> {
 impl<O: Operator + Drop> Engine<O> {
     ghost use Rattle.sq_flow.specs.Flows.{IsFlow, Stepped, ShowsPrefix, NoneStrange, measure_of};
     ghost use Rattle.sq_flow.specs.Readiness.{IsReady, FallsBy};
-    ghost use Rattle.sq_flow.specs.Engines.{IsEngine, HasRoom, Looked, AllDone, listed_after, readers_of};
+    ghost use Rattle.sq_flow.specs.Engines.{IsEngine, HasRoom, Looked, AllDone, newly_ready, listed_after, readers_of};
     ghost use Rattle.sq_flow.specs.Flows.{HoldsItems, items_in, lines_left, fed_at_last};
     ghost use Rattle.sq_flow.specs.Seats.{done_at, taken_at, lost_at, holds_at};
     ghost use Rattle.sq_flow.specs.Flows.{RiseFrom, tuples_at, CostsFed, CostsAtMost, TooMuchOnly, lost_at_last, work_at_last, taken_in_all};
@@ -205,6 +205,7 @@ impl<O: Operator + Drop> Engine<O> {
         requires frames { 2 ≤ frames }
         ensures engine { IfOk result (λ e. IsEngine (record { rest = O.rest; decides = O.decides; lost = O.lost; place = O.place; taken = O.taken; running = O.running; takes_marks = O.takes_marks; fits = O.fits; reads = O.reads }) O.valid e) }
         ensures flow { IfOk result (λ e. IsNewFlow wires seats sources levels e.flow) }
+        ensures order { IfOk result (λ e. e.ready.list ≡ newly_ready e.flow []) }
     {
         let flow = Flow::new(alloc, wires, seats, sources, levels, frames)?;
         let ready = Ready::new(alloc, flow.wires.replay + 1)?;

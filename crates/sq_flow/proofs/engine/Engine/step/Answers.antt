@@ -1,37 +1,26 @@
 use Rattle.std.proofs.Common.{◌≡◌, ◌≢◌, ℕ, ◌<◌, ◌≤◌, ◌+◌, length, refl, ap, sym, ◌∙◌, true, subst, arith}
-use Rattle.sq_flow.specs.Readiness.{IsReady, TouchesOnly}
+use Rattle.sq_flow.specs.Readiness.{IsReady}
 use Rattle.sq_road.specs.Levels.{Agrees}
 use Rattle.sq_flow.specs.declared.flow.Flow.{Flow}
-use Rattle.sq_flow.specs.declared.engine.Engine.{Engine}
-use Rattle.sq_flow.specs.Engines.{place_in, Looked, readers_of}
+use Rattle.sq_flow.specs.Engines.{place_in}
 use Rattle.sq_flow.proofs.EngineLemmas.{engine-after, engine-order}
 use Rattle.sq_flow.proofs.engine.Engine.step.Goals as goal
 
 pub returns-in-Ok-clause-engine : goal.returns-in-Ok-clause-engine
 returns-in-Ok-clause-engine g c =
     let a = c.args.self.now in
-    let place_is : place_in (length a.flow.seats.items) c.args.pick.actor ≡ c.place_in-place.result =
-        ap (λ n. place_in n c.args.pick.actor) (sym c.requires.engine.flow.shaped.replay_is) ∙ sym c.place_in-place.ensures.place
-    in
     let did = c.in-Ok.ensures in
-    let list = c.remove.ensures.list in
     engine-after _ _ a (record { flow = c.train.new.self; ready = c.remove.new.self; waits = a.waits; outs = c.train.new.outs; failed = a.failed })
-    c.look_at.new.self c.look_at_readers.new.self c.args.pick.actor c.requires.engine c.requires.ready did.ok.flow_after did.ok.wires did.ok.seats
-    (subst (λ p. TouchesOnly p a.flow c.train.new.self) (sym place_is) did.touches) (ap (λ r. r.list) list) (ap (λ r. r.actors) list) refl did.none c.requires.engine.running
-    c.look_at.ensures (subst (λ p. Looked (readers_of c.look_at.new.self.flow p) c.look_at.new.self c.look_at_readers.new.self) (sym place_is) c.look_at_readers.ensures)
+    c.look_at.new.self c.look_at_readers.new.self c.args.pick.actor c.place_in-place.result c.requires.engine c.requires.ready c.place_in-place.ensures.place
+    did.ok.flow_after did.ok.wires did.ok.seats did.touches c.remove.ensures.list refl did.none c.requires.engine.running c.look_at.ensures c.look_at_readers.ensures
 
 pub returns-in-Ok-clause-order : goal.returns-in-Ok-clause-order
 returns-in-Ok-clause-order g c =
     let a = c.args.self.now in
-    let place_is : place_in (length a.flow.seats.items) c.args.pick.actor ≡ c.place_in-place.result =
-        ap (λ n. place_in n c.args.pick.actor) (sym c.requires.engine.flow.shaped.replay_is) ∙ sym c.place_in-place.ensures.place
-    in
     let did = c.in-Ok.ensures in
-    let list = c.remove.ensures.list in
     engine-order _ _ a (record { flow = c.train.new.self; ready = c.remove.new.self; waits = a.waits; outs = c.train.new.outs; failed = a.failed })
-    c.look_at.new.self c.look_at_readers.new.self c.args.pick.actor c.requires.engine c.requires.ready did.ok.flow_after did.ok.wires did.ok.seats
-    (subst (λ p. TouchesOnly p a.flow c.train.new.self) (sym place_is) did.touches) (ap (λ r. r.list) list) (ap (λ r. r.actors) list) refl did.none c.requires.engine.running
-    c.look_at.ensures (subst (λ p. Looked (readers_of c.look_at.new.self.flow p) c.look_at.new.self c.look_at_readers.new.self) (sym place_is) c.look_at_readers.ensures)
+    c.look_at.new.self c.look_at_readers.new.self c.args.pick.actor c.place_in-place.result c.requires.engine c.requires.ready c.place_in-place.ensures.place
+    did.ok.flow_after did.ok.wires did.ok.seats did.touches c.remove.ensures.list refl did.none c.requires.engine.running c.look_at.ensures c.look_at_readers.ensures
 
 pub returns-in-Ok-clause-closes : goal.returns-in-Ok-clause-closes
 returns-in-Ok-clause-closes g c = λ table agrees.
@@ -43,6 +32,6 @@ returns-in-Ok-clause-works g c =
     let many = c.requires.engine.room.actors in
     let listed = (c.requires.engine.exact c.args.pick.actor (omega (arith, low, many))).listed c.requires.ready in
     let place_is : place_in (length c.args.self.now.flow.seats.items) c.args.pick.actor ≡ c.place_in-place.result =
-        ap (λ n. place_in n c.args.pick.actor) (sym c.requires.engine.flow.shaped.replay_is) ∙ sym c.place_in-place.ensures.place
+        subst (λ n. place_in n c.args.pick.actor ≡ c.place_in-place.result) c.requires.engine.flow.shaped.replay_is (sym c.place_in-place.ensures.place)
     in
     c.in-Ok.ensures.works (subst (IsReady c.args.self.now.flow) place_is listed)
