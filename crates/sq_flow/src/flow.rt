@@ -9,7 +9,7 @@ ghost use Rattle.sq_outside.specs.Disks.{Pages};
 ghost use Rattle.sq_road.specs.Levels.{Agrees};
 ghost use Rattle.sq_queue.specs.Faces.{face, size, items_on, Tells, Together};
 ghost use Rattle.sq_flow.specs.Wiring.{arcs_from, from_of, pushed_by, AllOutsFine};
-ghost use Rattle.sq_flow.specs.Sends.{sent_to, Pushes};
+ghost use Rattle.sq_flow.specs.Sends.{sent_to, comes_from, Pushes};
 ghost use Rattle.sq_flow.specs.Events.{lines_of, bodies};
 ghost use Rattle.sq_flow.specs.Flows.{tuples_at};
 ghost use Rattle.sq_flow.specs.Sources.{IsNextSource};
@@ -57,9 +57,8 @@ fn reach(levels: &mut Levels, time: u64)
     ensures grows { levels.old.closed ≤ levels.new.closed }
     ensures closed { time / levels.new.epoch < levels.new.closed }
 {
-    let epoch = time / levels.epoch();
-    if levels.closed() <= epoch {
-        levels.skip_to(epoch + 1);
+    if levels.closed().saturating_mul(levels.epoch()) <= time {
+        levels.skip_to(time / levels.epoch() + 1);
     }
 }
 
@@ -98,7 +97,8 @@ fn end_if(queues: &mut Queues, arc: u32, ends: bool)
     requires { arc < size queues.old }
     ensures size { size queues.new ≡ size queues.old }
     ensures ended { (face queues.new arc).ended ≡ ((face queues.old arc).ended || ends) }
-    ensures others { (other : ℕ) → other ≢ arc → (face queues.new other).ended ≡ (face queues.old other).ended }
+    ensures none { ends ≡ false → face queues.new arc ≡ face queues.old arc }
+    ensures others { (other : ℕ) → other ≢ arc → face queues.new other ≡ face queues.old other }
     ensures first { (other : ℕ) → (face queues.new other).first ≡ (face queues.old other).first }
     ensures items { (pages : Option Pages) (other : ℕ) → items_on queues.new pages other ≡ items_on queues.old pages other }
     ensures together { (pages : Option Pages) → Together queues.old pages → Together queues.new pages }
@@ -114,6 +114,7 @@ fn end_arcs(wires: &Wires, queues: &mut Queues, actor: u32)
     requires few { length wires.now.arcs.items < 2 ^ 32 }
     ensures size { size queues.new ≡ size queues.old }
     ensures ended { (arc : ℕ) → arc < length wires.now.arcs.items → (face queues.new arc).ended ≡ ((face queues.old arc).ended || (from_of (slice_get wires.now.arcs.items arc) == actor)) }
+    ensures apart { (arc : ℕ) → comes_from wires.now actor arc ≡ false → face queues.new arc ≡ face queues.old arc }
     ensures first { (arc : ℕ) → (face queues.new arc).first ≡ (face queues.old arc).first }
     ensures items { (pages : Option Pages) (arc : ℕ) → items_on queues.new pages arc ≡ items_on queues.old pages arc }
     ensures together { (pages : Option Pages) → Together queues.old pages → Together queues.new pages }

@@ -35,6 +35,7 @@ pub(crate) fn feed_seat<O: Operator, L: Ledger>(
     requires is_valid { O.valid seat.old.op × (O.running seat.old.op ≡ true) }
     requires may_come { IsFuture (O.takes_marks seat.old.op) (O.fits seat.old.op) (O.place seat.old.op) (entries port item) }
     requires is_sound { IsSound item }
+    requires has_epoch { O.reads seat.old.op levels.now.epoch ≡ true }
     requires has_level { item.time / levels.now.epoch < levels.now.closed }
     requires has_room { (O.taken seat.old.op < 2 ^ 62 - 1) × (seat.old.tally.taken < 2 ^ 62 - 1) }
     requires none { (out.old.items.items ≡ []) × (out.old.drops.items ≡ []) }
