@@ -187,8 +187,8 @@ impl<O: Operator + Drop> Engine<O> {
     ghost use Rattle.sq_flow.specs.Starts.{IsNewSeat, IsNewFlow};
     ghost use Rattle.sq_flow.specs.Wiring.{net_of, IsShaped};
 
-    /// An engine over operators that nothing was fed to, with what is to be released in the order of times. It has released
-    /// nothing yet.
+    /// An engine over operators that nothing was fed to, with what each source is to release, in the order of times. It has
+    /// released nothing yet; the ready actors are listed in ascending number. An error says that memory ran out.
     pub fn new(
         alloc: Global,
         wires: Wires,
@@ -259,7 +259,9 @@ impl<O: Operator + Drop> Engine<O> {
         }
     }
 
-    /// Up to `train` steps of a ready actor.
+    /// Up to `train` steps of a ready actor. If it is still ready it goes to the end of the ready list; then those follow that
+    /// became ready, in ascending number. Only the actor and the operators that read from it are looked at. After an error the
+    /// engine has failed.
     pub fn step<D: PageDisk, L: Ledger>(
         &mut self,
         pick: Pick,
@@ -301,7 +303,7 @@ impl<O: Operator + Drop> Engine<O> {
         }
     }
 
-    /// The ready actors, in the order in which they became so.
+    /// The ready list: each actor that is ready, once, in order.
     pub fn ready(&self) -> &Ready
         ensures { result.now ≡ self.now.ready }
     {
@@ -316,12 +318,12 @@ impl<O: Operator + Drop> Engine<O> {
     }
 
     /// How many tuples an operator was fed.
-    pub fn fed(&self, actor: u32) -> u64
+    pub fn fed(&self, operator: u32) -> u64
         requires engine { IsEngine (record { rest = O.rest; decides = O.decides; lost = O.lost; place = O.place; taken = O.taken; running = O.running; takes_marks = O.takes_marks; fits = O.fits; reads = O.reads }) O.valid self.now }
-        requires there { actor < length self.now.flow.seats.items }
-        ensures { result ≡ taken_at (record { rest = O.rest; decides = O.decides; lost = O.lost; place = O.place; taken = O.taken; running = O.running; takes_marks = O.takes_marks; fits = O.fits; reads = O.reads }) (slice_get self.now.flow.seats.items actor) }
+        requires there { operator < length self.now.flow.seats.items }
+        ensures { result ≡ taken_at (record { rest = O.rest; decides = O.decides; lost = O.lost; place = O.place; taken = O.taken; running = O.running; takes_marks = O.takes_marks; fits = O.fits; reads = O.reads }) (slice_get self.now.flow.seats.items operator) }
     {
-        self.flow.seats[actor as usize].tally.taken
+        self.flow.seats[operator as usize].tally.taken
     }
 
     /// The engine runs as long as an actor isn't finished, and then the ready list isn't empty; it is done where all are. It has
