@@ -1,13 +1,11 @@
 //! The engine: a flow with its ready list.
 
-ghost use Rattle.std.specs.Prelude.{◌≡◌, ◌≢◌, ◌⊎◌, ◌-◌, ◌^◌, map, min, sum, ℕ, ◌+◌, ◌≤◌, ◌<◌, true, false, [], ◌∷◌, Option, Some, OnOk, OnErr, IfOk, IfErr, length, slice_get, slice_index};
+ghost use Rattle.std.specs.Prelude.{◌≡◌, ◌⊎◌, ◌-◌, ◌^◌, ℕ, ◌+◌, ◌≤◌, ◌<◌, true, false, [], ◌∷◌, Option, OnOk, OnErr, IfOk, IfErr, length, slice_get};
 ghost use Rattle.sq_road.specs.Levels.{Agrees};
 ghost use Rattle.sq_outside.specs.Disks.{Pages};
-ghost use Rattle.sq_queue.specs.Faces.{face, size, Together};
+ghost use Rattle.sq_queue.specs.Faces.{Together};
 ghost use Rattle.sq_sched.specs.Ready.{contains};
-ghost use Rattle.std.specs.List.{list_all, range_with_len};
-ghost use Rattle.sq_flow.specs.Wiring.{arcs_read};
-ghost use Rattle.sq_flow.specs.Readiness.{stands};
+ghost use Rattle.std.specs.List.{range_with_len};
 ghost use Rattle.sq_flow.specs.Engines.{place_in};
 
 use crate::errors::RunErr;
@@ -17,7 +15,7 @@ use crate::steps::Progress;
 use crate::wires::Wires;
 use sq_oper::{Event, Operator, Outs};
 use sq_outside::{PageDisk, Steps};
-use sq_queue::{Head, Queues};
+use sq_queue::Queues;
 use sq_road::Levels;
 use sq_sched::{Pick, Ready};
 use sq_value::Tuple;
@@ -45,29 +43,6 @@ pub enum State {
     Failed,
 }
 
-fn stands_at(queues: &Queues, arc: u32) -> bool
-    requires { arc < size queues.now }
-    ensures { result ≡ stands (face queues.now arc) }
-{
-    match queues.head(arc) {
-        Head::Empty => false,
-        Head::Time(_) => true,
-        Head::Ended => true,
-    }
-}
-
-fn all_stand(arcs: &Vec<u32>, queues: &Queues) -> bool
-    requires { (port arc : ℕ) → slice_get arcs.now.items port ≡ Some arc → arc < size queues.now }
-    ensures { result ≡ list_all (λ arc. stands (face queues.now arc)) arcs.now.items }
-{
-    for port in 0..arcs.len() {
-        if !stands_at(queues, arcs[port]) {
-            return false;
-        }
-    }
-    true
-}
-
 /// An actor's place in the flow: actor 0 is the replay, which stands behind the operators.
 fn place_in(ops: u32, actor: u32) -> u32
     requires { actor ≤ ops }
@@ -77,22 +52,8 @@ fn place_in(ops: u32, actor: u32) -> u32
     if actor == 0 { ops } else { actor - 1 }
 }
 
-/// How many items stand on these arcs, as far as a u64 counts.
-fn count_waiting(arcs: &Vec<u32>, queues: &Queues) -> u64
-    requires { (port arc : ℕ) → slice_get arcs.now.items port ≡ Some arc → arc < size queues.now }
-    ensures { result ≡ min (2 ^ 64 - 1) (sum (map (λ arc. (face queues.now arc).count) arcs.now.items)) }
-{
-    let mut count: u64 = 0;
-    for port in 0..arcs.len() {
-        count = count.saturating_add(queues.len(arcs[port]));
-    }
-    count
-}
-
 impl<O: Operator + Drop> Flow<O> {
     ghost use Rattle.sq_flow.specs.Flows.{IsFlow, RiseFrom, tuples_at};
-    ghost use Rattle.sq_flow.specs.Readiness.{is_ready, waiting};
-    ghost use Rattle.sq_flow.specs.Engines.{readers_of};
     ghost use Rattle.sq_flow.specs.Starts.{IsNewSeat, IsNewFlow};
     ghost use Rattle.sq_flow.specs.Seats.{holds_at};
     ghost use Rattle.sq_flow.specs.Wiring.{net_of, IsShaped};
@@ -128,62 +89,13 @@ impl<O: Operator + Drop> Flow<O> {
             taken: 0,
         })
     }
-
-    /// An actor is ready.
-    pub(crate) fn is_ready(&self, actor: u32) -> bool
-        requires flow { IsFlow (record { rest = O.rest; decides = O.decides; lost = O.lost; place = O.place; taken = O.taken; running = O.running; takes_marks = O.takes_marks; fits = O.fits; reads = O.reads }) O.valid self.now }
-        requires actor_in { actor ≤ length self.now.seats.items }
-        ensures { result ≡ is_ready self.now actor }
-    {
-        if self.is_done(actor) {
-            return false;
-        }
-        if actor == self.wires.replay {
-            return true;
-        }
-        all_stand(self.wires.arcs_of(actor), &self.queues)
-    }
-
-    /// How many items wait for an actor.
-    pub(crate) fn waiting(&self, actor: u32) -> u64
-        requires flow { IsFlow (record { rest = O.rest; decides = O.decides; lost = O.lost; place = O.place; taken = O.taken; running = O.running; takes_marks = O.takes_marks; fits = O.fits; reads = O.reads }) O.valid self.now }
-        requires actor_in { actor ≤ length self.now.seats.items }
-        ensures { result ≡ waiting self.now actor }
-    {
-        if actor == self.wires.replay {
-            return 0;
-        }
-        count_waiting(self.wires.arcs_of(actor), &self.queues)
-    }
-
-    /// How many operators read from the actor at a place.
-    fn count_readers(&self, place: u32) -> usize
-        requires flow { IsFlow (record { rest = O.rest; decides = O.decides; lost = O.lost; place = O.place; taken = O.taken; running = O.running; takes_marks = O.takes_marks; fits = O.fits; reads = O.reads }) O.valid self.now }
-        requires there { place ≤ length self.now.seats.items }
-        ensures { result ≡ length (readers_of self.now place) }
-    {
-        self.wires.followers[place as usize].len()
-    }
-
-    /// One of the operators that read from the actor at a place, as an actor.
-    fn reader(&self, place: u32, index: usize) -> u32
-        requires flow { IsFlow (record { rest = O.rest; decides = O.decides; lost = O.lost; place = O.place; taken = O.taken; running = O.running; takes_marks = O.takes_marks; fits = O.fits; reads = O.reads }) O.valid self.now }
-        requires there { place ≤ length self.now.seats.items }
-        requires within { index < length (readers_of self.now place) }
-        ensures reader { result ≡ slice_index (readers_of self.now place) index }
-        ensures low { result ≤ length self.now.seats.items }
-    {
-        self.wires.followers[place as usize][index] + 1
-    }
 }
 
 impl<O: Operator + Drop> Engine<O> {
-    ghost use Rattle.sq_flow.specs.Flows.{IsFlow, Stepped, ShowsPrefix, NoneStrange, measure_of};
+    ghost use Rattle.sq_flow.specs.Flows.{IsFlow, Stepped, ShowsPrefix, NoneStrange, measure_of, HoldsItems, items_in, lines_left, fed_at_last, RiseFrom, tuples_at, CostsFed, CostsAtMost, TooMuchOnly, lost_at_last, work_at_last, taken_in_all};
     ghost use Rattle.sq_flow.specs.Readiness.{IsReady, FallsBy};
     ghost use Rattle.sq_flow.specs.Engines.{IsEngine, HasRoom, Looked, AllDone, newly_ready, listed_after, readers_of};
-    ghost use Rattle.sq_flow.specs.Flows.{HoldsItems, items_in, lines_left, fed_at_last};
-    ghost use Rattle.sq_flow.specs.Seats.{done_at, taken_at, lost_at, holds_at};
-    ghost use Rattle.sq_flow.specs.Flows.{RiseFrom, tuples_at, CostsFed, CostsAtMost, TooMuchOnly, lost_at_last, work_at_last, taken_in_all};
+    ghost use Rattle.sq_flow.specs.Seats.{taken_at, lost_at, holds_at};
     ghost use Rattle.sq_flow.specs.Starts.{IsNewSeat, IsNewFlow};
     ghost use Rattle.sq_flow.specs.Wiring.{net_of, IsShaped};
 
