@@ -4,7 +4,8 @@ ghost use Rattle.std.specs.Prelude.{◌≡◌, ◌≢◌, ◌⊎◌, ◌-◌, �
 ghost use Rattle.sq_road.specs.Levels.{Agrees};
 ghost use Rattle.sq_outside.specs.Disks.{Pages};
 ghost use Rattle.sq_queue.specs.Faces.{face, size, Together};
-ghost use Rattle.sq_sched.specs.Ready.{ReadyTable, contains, AreActors};
+ghost use Rattle.sq_sched.specs.Ready.{contains};
+ghost use Rattle.std.specs.List.{list_all, range_with_len};
 ghost use Rattle.sq_flow.specs.Wiring.{arcs_read};
 ghost use Rattle.sq_flow.specs.Readiness.{stands};
 ghost use Rattle.sq_flow.specs.Engines.{place_in};
@@ -57,12 +58,10 @@ fn stands_at(queues: &Queues, arc: u32) -> bool
 
 fn all_stand(arcs: &Vec<u32>, queues: &Queues) -> bool
     requires { (port arc : ℕ) → slice_get arcs.now.items port ≡ Some arc → arc < size queues.now }
-    ensures yes { result ≡ true → (port arc : ℕ) → slice_get arcs.now.items port ≡ Some arc → stands (face queues.now arc) ≡ true }
-    ensures no { ((port arc : ℕ) → slice_get arcs.now.items port ≡ Some arc → stands (face queues.now arc) ≡ true) → result ≡ true }
+    ensures { result ≡ list_all (λ arc. stands (face queues.now arc)) arcs.now.items }
 {
     for port in 0..arcs.len() {
-        let arc = arcs[port];
-        if !stands_at(queues, arc) {
+        if !stands_at(queues, arcs[port]) {
             return false;
         }
     }
@@ -92,7 +91,8 @@ fn count_waiting(arcs: &Vec<u32>, queues: &Queues) -> u64
 
 impl<O: Operator + Drop> Flow<O> {
     ghost use Rattle.sq_flow.specs.Flows.{IsFlow, RiseFrom, tuples_at};
-    ghost use Rattle.sq_flow.specs.Readiness.{IsReady, waiting};
+    ghost use Rattle.sq_flow.specs.Readiness.{is_ready, waiting};
+    ghost use Rattle.sq_flow.specs.Engines.{readers_of};
     ghost use Rattle.sq_flow.specs.Starts.{IsNewSeat, IsNewFlow};
     ghost use Rattle.sq_flow.specs.Seats.{holds_at};
     ghost use Rattle.sq_flow.specs.Wiring.{net_of, IsShaped};
@@ -133,8 +133,7 @@ impl<O: Operator + Drop> Flow<O> {
     pub(crate) fn is_ready(&self, actor: u32) -> bool
         requires flow { IsFlow (record { rest = O.rest; decides = O.decides; lost = O.lost; place = O.place; taken = O.taken; running = O.running; takes_marks = O.takes_marks; fits = O.fits; reads = O.reads }) O.valid self.now }
         requires actor_in { actor ≤ length self.now.seats.items }
-        ensures yes { result ≡ true → IsReady self.now actor }
-        ensures no { IsReady self.now actor → result ≡ true }
+        ensures { result ≡ is_ready self.now actor }
     {
         if self.is_done(actor) {
             return false;
@@ -156,21 +155,40 @@ impl<O: Operator + Drop> Flow<O> {
         }
         count_waiting(self.wires.arcs_of(actor), &self.queues)
     }
+
+    /// How many operators read from the actor at a place.
+    fn count_readers(&self, place: u32) -> usize
+        requires flow { IsFlow (record { rest = O.rest; decides = O.decides; lost = O.lost; place = O.place; taken = O.taken; running = O.running; takes_marks = O.takes_marks; fits = O.fits; reads = O.reads }) O.valid self.now }
+        requires there { place ≤ length self.now.seats.items }
+        ensures { result ≡ length (readers_of self.now place) }
+    {
+        self.wires.followers[place as usize].len()
+    }
+
+    /// One of the operators that read from the actor at a place, as an actor.
+    fn reader(&self, place: u32, index: usize) -> u32
+        requires flow { IsFlow (record { rest = O.rest; decides = O.decides; lost = O.lost; place = O.place; taken = O.taken; running = O.running; takes_marks = O.takes_marks; fits = O.fits; reads = O.reads }) O.valid self.now }
+        requires there { place ≤ length self.now.seats.items }
+        requires within { index < length (readers_of self.now place) }
+        ensures reader { result ≡ slice_index (readers_of self.now place) index }
+        ensures low { result ≤ length self.now.seats.items }
+    {
+        self.wires.followers[place as usize][index] + 1
+    }
 }
 
 impl<O: Operator + Drop> Engine<O> {
     ghost use Rattle.sq_flow.specs.Flows.{IsFlow, Stepped, ShowsPrefix, NoneStrange, measure_of};
-    ghost use Rattle.sq_flow.specs.Readiness.{IsReady, FallsBy, waiting};
-    ghost use Rattle.sq_flow.specs.Engines.{IsEngine, ExactFor, AllDone, listed_after, newly_from};
-    ghost use Rattle.sq_sched.specs.Ready.{OnlyOnce};
+    ghost use Rattle.sq_flow.specs.Readiness.{IsReady, FallsBy};
+    ghost use Rattle.sq_flow.specs.Engines.{IsEngine, HasRoom, Looked, AllDone, newly_ready, listed_after, readers_of};
     ghost use Rattle.sq_flow.specs.Flows.{HoldsItems, items_in, lines_left, fed_at_last};
     ghost use Rattle.sq_flow.specs.Seats.{done_at, taken_at, lost_at, holds_at};
     ghost use Rattle.sq_flow.specs.Flows.{RiseFrom, tuples_at, CostsFed, CostsAtMost, TooMuchOnly, lost_at_last, work_at_last, taken_in_all};
     ghost use Rattle.sq_flow.specs.Starts.{IsNewSeat, IsNewFlow};
     ghost use Rattle.sq_flow.specs.Wiring.{net_of, IsShaped};
 
-    /// An engine over operators that nothing was fed to, with what is to be released in the order of times. It has released
-    /// nothing yet.
+    /// An engine over operators that nothing was fed to, with what each source is to release, in the order of times. It has
+    /// released nothing yet; the ready actors are listed in ascending number. An error says that memory ran out.
     pub fn new(
         alloc: Global,
         wires: Wires,
@@ -187,6 +205,7 @@ impl<O: Operator + Drop> Engine<O> {
         requires frames { 2 ≤ frames }
         ensures engine { IfOk result (λ e. IsEngine (record { rest = O.rest; decides = O.decides; lost = O.lost; place = O.place; taken = O.taken; running = O.running; takes_marks = O.takes_marks; fits = O.fits; reads = O.reads }) O.valid e) }
         ensures flow { IfOk result (λ e. IsNewFlow wires seats sources levels e.flow) }
+        ensures order { IfOk result (λ e. e.ready.list ≡ newly_ready e.flow []) }
     {
         let flow = Flow::new(alloc, wires, seats, sources, levels, frames)?;
         let ready = Ready::new(alloc, flow.wires.replay + 1)?;
@@ -198,62 +217,51 @@ impl<O: Operator + Drop> Engine<O> {
             outs: Outs::new(alloc),
             failed: false,
         };
-        engine.list_first();
+        engine.look_at_all();
         Ok(engine)
     }
 
-    /// At the start the replay alone is ready, and each operator that reads no arc.
-    fn list_first(&mut self)
+    /// Looks at an actor: counts what waits for it, and lists it last where it is ready and isn't listed.
+    fn look_at(&mut self, actor: u32)
         requires flow { IsFlow (record { rest = O.rest; decides = O.decides; lost = O.lost; place = O.place; taken = O.taken; running = O.running; takes_marks = O.takes_marks; fits = O.fits; reads = O.reads }) O.valid self.old.flow }
-        requires actors { self.old.ready ≡ record { actors = length self.old.flow.seats.items + 1; list = [] } }
-        ensures flow { self.new.flow ≡ self.old.flow }
-        ensures rest { (self.new.outs ≡ self.old.outs) × (self.new.failed ≡ self.old.failed) × (self.new.ready.actors ≡ self.old.ready.actors) × (self.new.waits ≡ self.old.waits) }
-        ensures list { self.new.ready.list ≡ newly_from self.new.flow [] 0 (length self.new.flow.seats.items + 1) }
-        ensures exact { (actor : ℕ) → actor ≤ length self.new.flow.seats.items → ExactFor self.new.flow self.new.ready.list actor }
-        ensures once { OnlyOnce self.new.ready.list }
-    {
-        for actor in 0..self.flow.wires.replay + 1 {
-            if self.flow.is_ready(place_in(self.flow.wires.replay, actor)) {
-                self.ready.push(actor);
-            }
-        }
-    }
-
-    /// Counts anew what waits for an actor.
-    fn count_waits(&mut self, actor: u32)
+        requires room { HasRoom self.old }
+        requires there { actor ≤ length self.old.flow.seats.items }
+        ensures { Looked (actor ∷ []) self.old self.new }
     {
         let place = place_in(self.flow.wires.replay, actor);
         self.waits[actor as usize] = self.flow.waiting(place);
-    }
-
-    /// After a step the actor goes to the end of the ready list where it is still ready.
-    fn list_again(&mut self, actor: u32)
-    {
-        self.count_waits(actor);
-        if self.flow.is_ready(place_in(self.flow.wires.replay, actor)) {
+        if !self.ready.has(actor) && self.flow.is_ready(place) {
             self.ready.push(actor);
         }
     }
 
-    /// An operator that reads from the actor of a step is listed where it became ready.
-    fn list_follower(&mut self, follower: u32)
+    /// Looks at each actor, in ascending number.
+    fn look_at_all(&mut self)
+        requires flow { IsFlow (record { rest = O.rest; decides = O.decides; lost = O.lost; place = O.place; taken = O.taken; running = O.running; takes_marks = O.takes_marks; fits = O.fits; reads = O.reads }) O.valid self.old.flow }
+        requires room { HasRoom self.old }
+        ensures { Looked (range_with_len 0 (length self.old.flow.seats.items + 1)) self.old self.new }
     {
-        self.count_waits(follower + 1);
-        if !self.ready.has(follower + 1) && self.flow.is_ready(follower) {
-            self.ready.push(follower + 1);
+        for actor in 0..self.flow.wires.replay + 1 {
+            self.look_at(actor);
         }
     }
 
-    /// The operators that read from the actor of a step are listed, in ascending number, where they became ready.
-    fn list_followers(&mut self, place: u32)
+    /// Looks at the operators that read from the actor at a place, in ascending number.
+    fn look_at_readers(&mut self, place: u32)
+        requires flow { IsFlow (record { rest = O.rest; decides = O.decides; lost = O.lost; place = O.place; taken = O.taken; running = O.running; takes_marks = O.takes_marks; fits = O.fits; reads = O.reads }) O.valid self.old.flow }
+        requires room { HasRoom self.old }
+        requires there { place ≤ length self.old.flow.seats.items }
+        ensures { Looked (readers_of self.old.flow place) self.old self.new }
     {
-        for index in 0..self.flow.wires.followers[place as usize].len() {
-            let follower = self.flow.wires.followers[place as usize][index];
-            self.list_follower(follower);
+        for index in 0..self.flow.count_readers(place) {
+            let reader = self.flow.reader(place, index);
+            self.look_at(reader);
         }
     }
 
-    /// Up to `train` steps of a ready actor.
+    /// Up to `train` steps of a ready actor. If it is still ready it goes to the end of the ready list; then those follow that
+    /// became ready, in ascending number. Only the actor and the operators that read from it are looked at. After an error the
+    /// engine has failed.
     pub fn step<D: PageDisk, L: Ledger>(
         &mut self,
         pick: Pick,
@@ -280,7 +288,6 @@ impl<O: Operator + Drop> Engine<O> {
         ensures most { IfOk result (λ p. p.fed ≤ pick.train) }
         ensures stops { IfOk result (λ p. (p.fed ≡ pick.train) ⊎ ((p.finished ≡ true) ⊎ (IsReady self.new.flow (place_in (length self.new.flow.seats.items) pick.actor) → ⊥))) }
     {
-        let _listed = self.ready.len();
         let place = place_in(self.flow.wires.replay, pick.actor);
         self.ready.remove(pick.actor);
         match self.flow.train(disk, place, pick.train, &mut self.outs, events, steps) {
@@ -289,14 +296,14 @@ impl<O: Operator + Drop> Engine<O> {
                 Err(e)
             }
             Ok(progress) => {
-                self.list_again(pick.actor);
-                self.list_followers(place);
+                self.look_at(pick.actor);
+                self.look_at_readers(place);
                 Ok(progress)
             }
         }
     }
 
-    /// The ready actors, in the order in which they became so.
+    /// The ready list: each actor that is ready, once, in order.
     pub fn ready(&self) -> &Ready
         ensures { result.now ≡ self.now.ready }
     {
@@ -311,12 +318,12 @@ impl<O: Operator + Drop> Engine<O> {
     }
 
     /// How many tuples an operator was fed.
-    pub fn fed(&self, actor: u32) -> u64
+    pub fn fed(&self, operator: u32) -> u64
         requires engine { IsEngine (record { rest = O.rest; decides = O.decides; lost = O.lost; place = O.place; taken = O.taken; running = O.running; takes_marks = O.takes_marks; fits = O.fits; reads = O.reads }) O.valid self.now }
-        requires there { actor < length self.now.flow.seats.items }
-        ensures { result ≡ taken_at (record { rest = O.rest; decides = O.decides; lost = O.lost; place = O.place; taken = O.taken; running = O.running; takes_marks = O.takes_marks; fits = O.fits; reads = O.reads }) (slice_get self.now.flow.seats.items actor) }
+        requires there { operator < length self.now.flow.seats.items }
+        ensures { result ≡ taken_at (record { rest = O.rest; decides = O.decides; lost = O.lost; place = O.place; taken = O.taken; running = O.running; takes_marks = O.takes_marks; fits = O.fits; reads = O.reads }) (slice_get self.now.flow.seats.items operator) }
     {
-        self.flow.seats[actor as usize].tally.taken
+        self.flow.seats[operator as usize].tally.taken
     }
 
     /// The engine runs as long as an actor isn't finished, and then the ready list isn't empty; it is done where all are. It has
@@ -331,7 +338,7 @@ impl<O: Operator + Drop> Engine<O> {
     {
         if self.failed {
             State::Failed
-        } else if self.ready.len() == 0 {
+        } else if self.ready.is_empty() {
             State::Done
         } else {
             State::Running
