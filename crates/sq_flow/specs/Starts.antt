@@ -1,5 +1,5 @@
 -- Seats to which nothing was fed.
-use Rattle.std.specs.Prelude.{◌≡◌, ℕ, Bool, true, false, List, [], Option, Vec}
+use Rattle.std.specs.Prelude.{◌≡◌, ℕ, Bool, true, false, List, [], Option, None, Vec}
 use Rattle.sq_value.specs.declared.Value.{Value}
 use Rattle.sq_oper.specs.declared.tally.Place.TheVariants.{Start}
 use Rattle.std.specs.declared.alloc.Global.{Global}
@@ -7,7 +7,7 @@ use Rattle.std.specs.declared.collections.VecDeque.{VecDeque}
 use Rattle.sq_value.specs.declared.Tuple.{Tuple}
 use Rattle.sq_outside.specs.Disks.{Pages}
 use Rattle.sq_road.specs.Levels.{LevelTable}
-use Rattle.sq_queue.specs.Faces.{items_on, Together}
+use Rattle.sq_queue.specs.Faces.{face, items_on, Together}
 use Rattle.sq_flow.specs.declared.wires.Wires.{Wires}
 use Rattle.sq_flow.specs.declared.flow.Flow.{Flow}
 use Rattle.sq_flow.specs.declared.seats.Seat.{Seat}
@@ -35,5 +35,6 @@ pub record IsNewFlow {O : Type 0} (wires : Wires) (seats : Vec (Seat O) Global) 
   pub levels_are : flow.levels ≡ levels
   pub runs : flow.over ≡ false
   pub none_taken : flow.taken ≡ 0
+  pub bare : (arc : ℕ) → face flow.queues arc ≡ record { count = 0; first = None; ended = false }
   pub empty : (pages : Option Pages) (arc : ℕ) → items_on flow.queues pages arc ≡ []
   pub together : (pages : Option Pages) → Together flow.queues pages
