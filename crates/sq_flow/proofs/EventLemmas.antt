@@ -14,7 +14,7 @@ use Rattle.sq_item.specs.Things.{Thing, Sign, Body, spread, mark_part, body_part
 use Rattle.sq_oper.specs.declared.outs.Event.{Event}
 use Rattle.sq_oper.specs.declared.outs.Event.TheVariants.{Line}
 use Rattle.sq_oper.specs.Streams.{tuple_in}
-use Rattle.sq_flow.specs.Events.{bodies, line_of, lines_of}
+use Rattle.sq_flow.specs.Events.{bodies, line_of, lines_of, ShowsBelow}
 
 pub bodies-append : (xs ys : List Thing) → bodies (xs ++ ys) ≡ bodies xs ++ bodies ys
 bodies-append [] ys = refl
@@ -91,3 +91,15 @@ output-is shown actor o xs le = by (eqb (actor - shown) o) (eqb actor (shown + o
     by false false e f = refl
     by true false e f = absurd (grind (arith, nat_tests, le, e, f))
     by false true e f = absurd (grind (arith, nat_tests, le, e, f))
+
+-- an operator's number from where the outputs begin
+pub below-outputs : (actor operators shown : ℕ) → actor < operators → actor < shown + (operators - shown)
+below-outputs actor operators shown low = omega (arith, low)
+
+pub output-below : (actor shown outputs : ℕ) → shown ≤ actor → actor < shown + outputs → actor - shown < outputs
+output-below actor shown outputs shows low = omega (arith, shows, low)
+
+-- one line more
+pub line-more : (outputs output : ℕ) (tuple : Tuple) (events : List Event) → output < outputs → ShowsBelow outputs events (events ++ Line output tuple ∷ [])
+line-more outputs output tuple [] low all = (low, tt)
+line-more outputs output tuple (e ∷ es) low all = (all.0, line-more outputs output tuple es low all.1)

@@ -204,6 +204,7 @@ module _ {O : Type 0} (m : Meaning O) (valid : O → Type 0) (e : Flow O) (flow 
           wires = refl;
           seats = refl;
           closes = agrees-before e.levels levels' rows.0 grows;
+          shows = λ h. h;
           holds = λ told holds.
               holds-after m valid e flow (items_on e.queues was) (items_on q' is) holds e.over q' sources' x.time levels' (sent-by) given-there quiet ends (on told) rows.0 grows
               (pushes.fine told x.time le-refl (λ k. fine-later e.clock x.time (items_on e.queues was k) first.0 (holds.queued k)));
@@ -278,6 +279,7 @@ module _ {O : Type 0} (m : Meaning O) (valid : O → Type 0) (e : Flow O) (flow 
         wires = refl;
         seats = refl;
         closes = λ table h. h;
+        shows = λ h. h;
         holds = λ told holds.
             holds-after m valid e flow (items_on e.queues pages) (items_on q' pages) holds true q' e.sources e.clock e.levels (λ _ _. []) (λ q. refl) (λ other ne q. refl) (λ o. none) (on)
             refl le-refl (λ k. subst (AllFine e.clock) (sym (same pages k)) (holds.queued k));

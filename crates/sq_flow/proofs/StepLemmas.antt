@@ -1,5 +1,5 @@
 -- Steps, one after another.
-use Rattle.std.proofs.Common.{◌≡◌, ◌≢◌, ℕ, ◌+◌, ◌<◌, ◌≤◌, Bool, true, false, ◌||◌, List, [], ◌∷◌, ◌++◌, length, Option, Some, None, refl, ap, sym, ◌∙◌, subst, arith}
+use Rattle.std.proofs.Common.{◌≡◌, ◌≢◌, ℕ, ◌+◌, ◌-◌, ◌<◌, ◌≤◌, Bool, true, false, ◌||◌, List, [], ◌∷◌, ◌++◌, length, Option, Some, None, refl, ap, sym, ◌∙◌, subst, arith}
 use Rattle.std.specs.Prelude.{slice_get, is_some}
 use Rattle.std.proofs.lemmas.Option.{slice_get_within}
 use Rattle.sq_value.specs.Lists.{IsPrefixOf}
@@ -14,7 +14,7 @@ use Rattle.sq_flow.specs.declared.heads.Next.TheVariants.{Waits, Ended, Feed}
 use Rattle.sq_flow.specs.Wiring.{arcs_read}
 use Rattle.sq_flow.specs.Heads.{NextUpTo}
 use Rattle.sq_flow.specs.Seats.{Meaning}
-use Rattle.sq_flow.specs.Events.{lines_of}
+use Rattle.sq_flow.specs.Events.{lines_of, ShowsBelow}
 use Rattle.sq_flow.specs.Flows.{IsFlow, HoldsItems, Goes, Stepped, ShowsPrefix, NoneStrange, CostsFed, CostsAtMost, TooMuchOnly, items_in, lines_left, fed_at_last, sum_below, taken_in_all, work_at_last}
 use Rattle.sq_flow.specs.declared.errors.RunErr.TheVariants.{TooMuch}
 use Rattle.sq_flow.proofs.SumLemmas.{sum-same}
@@ -31,11 +31,15 @@ module _ {O : Type 0} (m : Meaning O) (valid : O → Type 0) where
         wires = refl;
         seats = refl;
         closes = λ table h. h;
+        shows = λ h. h;
         holds = λ told h. h;
         goes = λ told h table agrees. record { lines = λ output low. refl; fed = λ actor low. refl; lost = λ actor low. refl; turns = refl };
       }
 
   module _ (p p1 : Option Pages) (f f1 : Flow O) (e e1 : List Event) (first : Stepped m valid p p1 f f1 e e1) where
+    outputs-same : length f1.seats.items - f1.wires.shown ≡ length f.seats.items - f.wires.shown
+    outputs-same = rw (first.seats, ap (λ (w : Wires). w.shown) first.wires) refl
+
     low-after : (output : ℕ) → f.wires.shown + output < length f.seats.items → f1.wires.shown + output < length f1.seats.items
     low-after output low = rw (first.seats, ap (λ (w : Wires). w.shown) first.wires) low
 
@@ -48,6 +52,7 @@ module _ {O : Type 0} (m : Meaning O) (valid : O → Type 0) where
           wires = second.wires ∙ first.wires;
           seats = second.seats ∙ first.seats;
           closes = λ table h. first.closes table (second.closes table h);
+          shows = λ h. subst (λ n. ShowsBelow n e1 e2) outputs-same second.shows (first.shows h);
           holds = λ told h. second.holds (first.tells ∙ told) (first.holds told h);
           goes = λ told h table agrees.
               let a = first.goes told h table (second.closes table agrees) in

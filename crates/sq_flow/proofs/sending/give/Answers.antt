@@ -5,7 +5,7 @@ use Rattle.sq_oper.specs.Given.{given}
 use Rattle.sq_flow.specs.Wiring.{AllOutsFine}
 use Rattle.sq_flow.specs.Sends.{sent_to, comes_from, Pushes}
 use Rattle.sq_flow.specs.Events.{lines_of}
-use Rattle.sq_flow.proofs.EventLemmas.{output-is}
+use Rattle.sq_flow.proofs.EventLemmas.{output-is, output-below}
 use Rattle.sq_flow.proofs.SendLemmas.{pushes-none, sent-none}
 use Rattle.sq_flow.proofs.sending.give.Goals as goal
 use Rattle.sq_flow.proofs.sending.give.Goals.{then-wires-actor+in_ok-show_all, else-wires-actor+in_ok-send_all}
@@ -26,4 +26,15 @@ returns-clause-sent g c =
           (pushes-none c.args.queues.now (g.D.PageDisk.pages c.args.disk.now) _ _ _ c.requires.together
           (sent-none c.args.wires.now c.args.actor c.args.outs.now.items.items (c.requires.shown w.if-wires-actor.true)))
     | else-wires-actor+in_ok-send_all w ↦ rw (w.queues-is, w.disk-is) w.in_ok-send_all.ensures.sent
+    ]
+
+pub returns-in_err-show_all-clause-below : goal.returns-in_err-show_all-clause-below
+returns-in_err-show_all-clause-below g c = λ outputs low h. c.in_err-show_all.ensures.below outputs (output-below c.args.actor c.args.wires.now.shown outputs c.if-wires-actor.true low) h
+
+pub returns-clause-below : goal.returns-clause-below
+returns-clause-below g c =
+    elim c.if-wires-actor.branch [
+      then-wires-actor+in_ok-show_all w ↦
+          rw w.events-is (λ outputs low h. w.in_ok-show_all.ensures.below outputs (output-below c.args.actor c.args.wires.now.shown outputs w.if-wires-actor.true low) h)
+    | else-wires-actor+in_ok-send_all w ↦ rw w.events-is (λ outputs low h. h)
     ]

@@ -11,6 +11,7 @@ use Rattle.sq_flow.proofs.WireLemmas.{arcs-open, comes-from}
 use Rattle.sq_flow.proofs.FutureLemmas.{slice_get-set_same, slice_get-set_other}
 use Rattle.sq_flow.proofs.Measures.{weighs, open-same}
 use Rattle.sq_flow.proofs.FedFlow.{seat-fine, may-come, runs, passes-front, fed-prefix, fed-stepped, fed-touches, costs-none, costs-front, costs-fed, too-much-front}
+use Rattle.sq_flow.proofs.EventLemmas.{below-outputs}
 use Rattle.sq_flow.proofs.flow.Flow.feed_step.Goals as goal
 
 pub returns-in-Err-clause-strange : goal.returns-in-Err-clause-strange
@@ -78,6 +79,7 @@ returns-clause-ok g c =
     (slice_get-set_same c.args.self.now.seats.items c.args.actor c.feed_seat.new.seat c.requires.actor_in)
     (λ other ne. slice_get-set_other c.args.self.now.seats.items c.args.actor other c.feed_seat.new.seat ne)
     (length-set c.args.self.now.seats.items c.args.actor c.feed_seat.new.seat) c.requires.running c.in_ok-give.ensures.sent c.in_ok-give.ensures.shown
+    (c.in_ok-give.ensures.below (length c.args.self.now.seats.items - c.args.self.now.wires.shown) (below-outputs c.args.actor (length c.args.self.now.seats.items) c.args.self.now.wires.shown c.requires.actor_in))
 
 pub returns-clause-measure : goal.returns-clause-measure
 returns-clause-measure g c =

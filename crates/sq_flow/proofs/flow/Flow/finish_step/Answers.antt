@@ -7,6 +7,7 @@ use Rattle.sq_flow.proofs.WireLemmas.{arcs-open, comes-from}
 use Rattle.sq_flow.proofs.FutureLemmas.{slice_get-set_same, slice_get-set_other}
 use Rattle.sq_flow.proofs.Measures.{open-less}
 use Rattle.sq_flow.proofs.FinishedFlow.{seat-fine, runs, finished-prefix, finished-stepped, finished-taken, finished-touches}
+use Rattle.sq_flow.proofs.EventLemmas.{below-outputs}
 use Rattle.sq_flow.proofs.flow.Flow.finish_step.Goals as goal
 
 pub give-requires-clause-there : goal.give-requires-clause-there
@@ -32,6 +33,7 @@ returns-clause-ok g c =
     (λ other ne. slice_get-set_other c.args.self.now.seats.items c.args.actor other c.finish_seat.new.seat ne)
     (length-set c.args.self.now.seats.items c.args.actor c.finish_seat.new.seat)
     c.in_ok-give.ensures.sent c.end_arcs.ensures.size c.end_arcs.ensures.ended c.end_arcs.ensures.items c.end_arcs.ensures.together c.in_ok-give.ensures.shown
+    (c.in_ok-give.ensures.below (length c.args.self.now.seats.items - c.args.self.now.wires.shown) (below-outputs c.args.actor (length c.args.self.now.seats.items) c.args.self.now.wires.shown c.requires.actor_in))
 
 pub returns-clause-measure : goal.returns-clause-measure
 returns-clause-measure g c =
