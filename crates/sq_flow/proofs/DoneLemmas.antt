@@ -1,17 +1,16 @@
 -- Where all are finished nothing is left; where some actor isn't, one is ready.
-use Rattle.std.proofs.Common.{◌≡◌, ◌≢◌, ℕ, zero, suc, ◌+◌, ◌-◌, ◌<◌, ◌≤◌, eqb, cond, Bool, true, false, not, ◌||◌, ◌⊎◌, inl, inr, IsTrue, List, [], ◌∷◌, ◌++◌, length, Option, Some, None, refl, ap, sym, ◌∙◌, subst, arith}
+use Rattle.std.proofs.Common.{◌≡◌, ◌≢◌, ℕ, zero, suc, ◌+◌, ◌<◌, ◌≤◌, eqb, Bool, true, false, ◌||◌, ◌⊎◌, inl, inr, IsTrue, List, [], ◌∷◌, length, Some, None, refl, ap, sym, ◌∙◌, subst, arith}
 use Rattle.std.specs.Prelude.{slice_get, is_some}
 use Rattle.std.proofs.lemmas.Option.{slice_get_past}
 use Rattle.sq_item.specs.declared.Item.{Item}
 use Rattle.sq_road.specs.Levels.{Agrees}
 use Rattle.sq_oper.specs.Streams.{tuples_of}
-use Rattle.sq_left.specs.Left.{Net, World, known, Each, IsWired, inputs, coming}
-use Rattle.sq_left.proofs.MergeLemmas.{eqb-yes, eqb-no, eqb-same, eqb-not}
+use Rattle.sq_left.specs.Left.{Net, known, Each, IsWired}
+use Rattle.sq_left.proofs.MergeLemmas.{eqb-yes, eqb-no, eqb-same}
 use Rattle.sq_left.proofs.Conserve.{ended-none, ended-settled}
 use Rattle.sq_queue.specs.Faces.{face}
-use Rattle.sq_flow.specs.declared.seats.Seat.{Seat}
 use Rattle.sq_flow.specs.declared.flow.Flow.{Flow}
-use Rattle.sq_flow.specs.Wiring.{net_of, arcs_read, numbers_in, from_of}
+use Rattle.sq_flow.specs.Wiring.{net_of, arcs_read, numbers_in}
 use Rattle.sq_flow.specs.Seats.{Meaning, done_at, taken_at, lost_at}
 use Rattle.sq_flow.specs.Events.{bodies}
 use Rattle.sq_flow.specs.Flows.{world_of, IsFlow, HoldsItems, lines_left, fed_at_last, lost_at_last, sum_below, work_at_last, taken_in_all}

@@ -1,20 +1,17 @@
 -- Which actors are ready after a step of one: only itself, and the operators that read from it, are to be looked at.
-use Rattle.std.proofs.Common.{◌≡◌, ◌≢◌, ℕ, zero, suc, ◌+◌, ◌-◌, ◌^◌, ◌<◌, ◌≤◌, eqb, cond, Bool, true, false, not, ◌||◌, ◌&&◌, List, [], ◌∷◌, ◌++◌, length, get_or, map, Option, Some, None, refl, ap, sym, ◌∙◌, subst, arith}
+use Rattle.std.proofs.Common.{◌≡◌, ◌≢◌, ℕ, zero, suc, ◌-◌, ◌^◌, ◌<◌, ◌≤◌, cond, Bool, true, false, not, ◌||◌, ◌&&◌, List, ◌++◌, length, map, Some, refl, ap, sym, ◌∙◌, subst, arith}
 use Rattle.std.specs.Prelude.{slice_get, min, sum}
-use Rattle.std.specs.List.{filter, range_with_len, list_all}
-use Rattle.std.proofs.lemmas.Bool.Decides.{nat_tests}
-use Rattle.std.proofs.lemmas.Option.{slice_get_past}
-use Rattle.sq_sched.specs.Ready.{contains, without, AreActors, OnlyOnce}
-use Rattle.sq_sched.proofs.ReadyLemmas.{once-without, without-gone, without-others, actors-without}
-use Rattle.sq_left.proofs.MergeLemmas.{eqb-yes, eqb-no, eqb-same, eqb-not}
+use Rattle.std.specs.List.{filter, list_all}
+use Rattle.sq_sched.specs.Ready.{contains, AreActors, OnlyOnce}
+use Rattle.sq_left.proofs.MergeLemmas.{eqb-not}
 use Rattle.sq_queue.specs.Faces.{Face, face}
 use Rattle.sq_flow.specs.declared.flow.Flow.{Flow}
 use Rattle.sq_flow.specs.declared.wires.Wires.{Wires}
 use Rattle.sq_flow.specs.Wiring.{arcs_read, from_of, to_of, followers_of, Climbs, IsShaped}
 use Rattle.sq_flow.specs.Seats.{done_at}
 use Rattle.sq_flow.specs.Readiness.{stands, IsReady, is_ready, waiting, TouchesOnly}
-use Rattle.sq_flow.specs.Engines.{place_in, ExactFor, is_new, newly_ready, listed_after, readers_of}
-use Rattle.sq_flow.proofs.ListLemmas.{contains-append, contains-filter, contains-range, contains-next, zero-next, climbs-filter, climbs-range, climbs-next, climbs-same, once-climbs, once-append, actors-append, both-true, all-agree, all-weaker, all-at, all-from, map-agree}
+use Rattle.sq_flow.specs.Engines.{place_in, ExactFor, is_new, readers_of}
+use Rattle.sq_flow.proofs.ListLemmas.{contains-append, contains-filter, contains-next, zero-next, climbs-filter, once-climbs, once-append, actors-append, both-true, all-agree, all-at, all-from, map-agree}
 
 not-true : (a : Bool) → not a ≡ true → a ≡ false
 not-true true h = absurd (cc h)

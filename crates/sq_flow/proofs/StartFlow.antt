@@ -1,14 +1,11 @@
 -- A flow that has released nothing yet.
-use Rattle.std.proofs.Common.{◌≡◌, ◌≢◌, ℕ, ◌+◌, ◌/◌, ◌<◌, ◌≤◌, ◌^◌, Bool, true, false, not, List, [], ◌∷◌, ◌++◌, length, Option, Some, None, refl, ap, sym, ◌∙◌, subst, arith}
+use Rattle.std.proofs.Common.{◌≡◌, ℕ, ◌/◌, ◌<◌, ◌^◌, Bool, false, not, List, [], length, Option, Some, None, refl, ap, sym, ◌∙◌, arith}
 use Rattle.std.specs.Prelude.{slice_get}
 use Rattle.sq_value.specs.declared.Value.{Value}
 use Rattle.sq_item.specs.declared.Item.{Item}
-use Rattle.sq_item.specs.Things.{Thing, spread_all}
-use Rattle.sq_road.specs.Levels.{Agrees}
 use Rattle.sq_oper.specs.declared.tally.Place.TheVariants.{Start}
 use Rattle.sq_oper.specs.Given.{ThingsUpTo}
-use Rattle.sq_left.specs.Left.{Net, World, Facts}
-use Rattle.sq_left.specs.Heads.{AllFine}
+use Rattle.sq_left.specs.Left.{Facts}
 use Rattle.sq_queue.specs.Faces.{face, size}
 use Rattle.sq_flow.specs.declared.seats.Seat.{Seat}
 use Rattle.sq_flow.specs.declared.flow.Flow.{Flow}

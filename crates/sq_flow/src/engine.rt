@@ -202,7 +202,10 @@ impl<O: Operator + Drop> Engine<O> {
     {
         let place = place_in(self.flow.wires.replay, pick.actor);
         self.ready.remove(pick.actor);
-        match self.flow.train(disk, place, pick.train, &mut self.outs, events, steps) {
+        match self
+            .flow
+            .train(disk, place, pick.train, &mut self.outs, events, steps)
+        {
             Err(e) => {
                 self.failed = true;
                 Err(e)

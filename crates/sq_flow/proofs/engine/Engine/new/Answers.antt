@@ -1,5 +1,4 @@
-use Rattle.std.proofs.Common.{◌≡◌, ◌+◌, ◌^◌, ◌<◌, false, length, refl, ap, sym, ◌∙◌, arith}
-use Rattle.sq_flow.specs.Engines.{HasRoom}
+use Rattle.std.proofs.Common.{◌≡◌, ◌+◌, false, length, refl, ap, arith}
 use Rattle.sq_flow.proofs.EngineLemmas.{engine-first, order-first}
 use Rattle.sq_flow.proofs.engine.Engine.new.Goals as goal
 

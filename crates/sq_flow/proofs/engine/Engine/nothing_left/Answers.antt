@@ -1,4 +1,3 @@
-use Rattle.std.proofs.Common.{◌≡◌, refl}
 use Rattle.sq_flow.specs.Flows.{items_in}
 use Rattle.sq_flow.proofs.DoneLemmas.{none-left, all-fed, all-lost, all-work}
 use Rattle.sq_flow.proofs.engine.Engine.nothing_left.Goals as goal

@@ -1,4 +1,3 @@
-use Rattle.std.proofs.Common.{◌≡◌}
 use Rattle.sq_flow.specs.Flows.{Stepped}
 use Rattle.sq_flow.specs.Engines.{IsEngine}
 use Rattle.sq_flow.proofs.engine.Engine.run.Given as goal

@@ -1,4 +1,4 @@
-use Rattle.std.proofs.Common.{◌≡◌, refl, ◌∙◌}
+use Rattle.std.proofs.Common.{refl}
 use Rattle.sq_flow.proofs.DoneLemmas.{none-listed, none-ready}
 use Rattle.sq_flow.proofs.engine.Engine.state.Goals as goal
 

@@ -1,4 +1,4 @@
-use Rattle.std.proofs.Common.{◌≡◌, ◌≢◌, ℕ, ◌<◌, ◌≤◌, ◌+◌, length, refl, ap, sym, ◌∙◌, true, subst, arith}
+use Rattle.std.proofs.Common.{◌≡◌, ◌<◌, length, refl, sym, ◌∙◌, subst, arith}
 use Rattle.sq_flow.specs.Readiness.{IsReady}
 use Rattle.sq_road.specs.Levels.{Agrees}
 use Rattle.sq_flow.specs.declared.flow.Flow.{Flow}
@@ -32,6 +32,6 @@ returns-in-Ok-clause-works g c =
     let many = c.requires.engine.room.actors in
     let listed = (c.requires.engine.exact c.args.pick.actor (omega (arith, low, many))).listed c.requires.ready in
     let place_is : place_in (length c.args.self.now.flow.seats.items) c.args.pick.actor ≡ c.place_in-place.result =
-        subst (λ n. place_in n c.args.pick.actor ≡ c.place_in-place.result) c.requires.engine.flow.shaped.replay_is (sym c.place_in-place.ensures.place)
+    subst (λ n. place_in n c.args.pick.actor ≡ c.place_in-place.result) c.requires.engine.flow.shaped.replay_is (sym c.place_in-place.ensures.place)
     in
     c.in-Ok.ensures.works (subst (IsReady c.args.self.now.flow) place_is listed)

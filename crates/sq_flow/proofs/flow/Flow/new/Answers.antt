@@ -1,4 +1,4 @@
-use Rattle.std.proofs.Common.{◌≡◌, ◌<◌, length, refl, ap, sym, ◌∙◌, arith}
+use Rattle.std.proofs.Common.{◌≡◌, length, refl, ap, arith}
 use Rattle.sq_queue.specs.Faces.{size}
 use Rattle.sq_flow.proofs.StartFlow.{start-flow}
 use Rattle.sq_flow.proofs.flow.Flow.new.Goals as goal

@@ -1,4 +1,4 @@
-use Rattle.std.proofs.Common.{◌≡◌, ◌+◌, ◌^◌, ◌<◌, ◌≤◌, length, arith}
+use Rattle.std.proofs.Common.{◌<◌, length, arith}
 use Rattle.sq_flow.proofs.LookLemmas.{reader-read}
 use Rattle.sq_flow.proofs.flow.Flow.reader.Goals as goal
 
