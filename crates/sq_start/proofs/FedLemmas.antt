@@ -1,10 +1,8 @@
 -- A merge of whole streams has as many entries, and as many tuples, as the streams together.
-use Rattle.std.proofs.Common.{◌≡◌, ◌≢◌, ℕ, zero, suc, ◌+◌, cond, Bool, true, false, List, [], ◌∷◌, ◌++◌, map, length, refl, ap, sym, ◌∙◌, arith, length-append}
-use Rattle.std.specs.List.{sum_by, All}
+use Rattle.std.proofs.Common.{◌≡◌, ℕ, ◌+◌, cond, Bool, true, false, List, [], ◌∷◌, map, length, refl, ap, sym, ◌∙◌, arith, length-append}
+use Rattle.std.specs.List.{sum_by}
 use Rattle.std.proofs.lemmas.List.Sums.{sum_by-cons}
 use Rattle.sq_value.specs.declared.Tuple.{Tuple}
-use Rattle.sq_value.specs.Values.{IsStream}
-use Rattle.sq_item.specs.Things.{Thing}
 use Rattle.sq_oper.specs.Entries.{Entry, at_port}
 use Rattle.sq_oper.specs.Order.{earlier, merge, merge_under, merge_two, merge_from}
 use Rattle.sq_oper.specs.Streams.{tuple_in, tuples_of, thing_of, things}
@@ -13,9 +11,9 @@ use Rattle.sq_net.specs.Sound.{IsSound}
 use Rattle.sq_model.specs.Full.{nth, full_stream, full_streams}
 use Rattle.sq_model.proofs.FullLemmas.{full_listed}
 use Rattle.sq_model.proofs.PlacedLemmas.{placed_of}
-use Rattle.sq_left.specs.Left.{Net, World, inputs, known, IsWired}
+use Rattle.sq_left.specs.Left.{inputs}
 use Rattle.sq_start.specs.Nets.{streams_of}
-use Rattle.sq_start.specs.Laws.{IsNew, fed_by_streams, CountsAt, CountsStart}
+use Rattle.sq_start.specs.Laws.{fed_by_streams, CountsStart}
 use Rattle.sq_start.proofs.LawLemmas.{starts-fed}
 
 abbrev total : (Entry → ℕ) → List Entry → ℕ

@@ -1,22 +1,21 @@
 -- The law of the start.
-use Rattle.std.proofs.Common.{◌≡◌, ◌≢◌, ℕ, zero, suc, ◌+◌, ◌<◌, ◌≤◌, Bool, true, false, IsTrue, List, [], ◌∷◌, map, length, slice_get, refl, ap, sym, ◌∙◌, subst, arith, zero-le}
-use Rattle.std.specs.List.{All, AllByRecursion}
+use Rattle.std.proofs.Common.{◌≡◌, ◌≢◌, ℕ, ◌≤◌, true, false, List, [], ◌∷◌, map, slice_get, refl, subst, zero-le}
+use Rattle.std.specs.List.{All}
 use Rattle.sq_value.specs.declared.Tuple.{Tuple}
 use Rattle.sq_value.specs.Values.{IsStream}
-use Rattle.sq_item.specs.Things.{Thing}
 use Rattle.sq_oper.specs.declared.tally.Place.TheVariants.{Start}
-use Rattle.sq_oper.specs.Order.{merge, InOrder, IsFuture}
+use Rattle.sq_oper.specs.Order.{merge}
 use Rattle.sq_oper.specs.Streams.{things}
 use Rattle.sq_net.specs.declared.Network.{Network}
 use Rattle.sq_net.specs.Sound.{IsSound}
-use Rattle.sq_model.specs.Full.{nth, full_stream, full_streams}
+use Rattle.sq_model.specs.Full.{full_stream, full_streams}
 use Rattle.sq_model.proofs.FullLemmas.{are_full}
 use Rattle.sq_model.proofs.PlacedLemmas.{placed_of}
 use Rattle.sq_model.proofs.StreamLemmas.{stream_at_number, full_are_streams}
 use Rattle.sq_left.specs.Left.{Net, World, coming, inputs, known, IsWired}
 use Rattle.sq_left.proofs.MergeOrder.{TimesRise, NoMarks, AllRise, merge-in-order}
 use Rattle.sq_start.specs.Nets.{streams_of, full_at}
-use Rattle.sq_start.specs.Laws.{IsNew, StartsFull}
+use Rattle.sq_start.specs.Laws.{IsNew}
 use Rattle.sq_item.specs.declared.Item.{Item}
 use Rattle.sq_flow.specs.declared.flow.Flow.{Flow}
 use Rattle.sq_flow.specs.Wiring.{net_of}

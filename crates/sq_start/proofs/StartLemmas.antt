@@ -1,10 +1,10 @@
 -- New boxes on the merge of whole streams.
-use Rattle.std.proofs.Common.{◌≡◌, ℕ, zero, suc, ◌+◌, ◌-◌, ◌≤◌, eqb, cond, Bool, true, false, ◌&&◌, List, [], ◌∷◌, ◌++◌, map, length, refl, ap, sym, ◌∙◌, subst, arith}
+use Rattle.std.proofs.Common.{◌≡◌, ℕ, ◌-◌, eqb, cond, Bool, true, false, List, [], ◌∷◌, ◌++◌, map, length, refl, ap, sym, ◌∙◌, subst, arith}
 use Rattle.std.specs.List.{flat_map, sum_by}
 use Rattle.std.proofs.lemmas.List.Sums.{sum_by-cons}
 use Rattle.sq_aggfn.specs.Functions.{answers_of}
 use Rattle.sq_lists.specs.Windows.{aggregate_of, window_results, in_window, starts_of}
-use Rattle.std.specs.Prelude.{if◌then◌else◌, ◌==◌}
+use Rattle.std.specs.Prelude.{◌==◌}
 use Rattle.std.specs.List.{AllByRecursion}
 use Rattle.sq_value.specs.declared.Value.{Value}
 use Rattle.sq_value.specs.declared.Tuple.{Tuple}
@@ -28,11 +28,10 @@ use Rattle.sq_tagged.proofs.MergeLemmas.{entry_of, merge-is}
 use Rattle.sq_join.specs.Elements.{elements_of, side_of}
 use Rattle.sq_join.specs.Sides.{join_fits}
 use Rattle.sq_join.proofs.TurnLemmas.{merged, future-turn, future-sides}
-use Rattle.sq_net.specs.declared.Body.{Body}
 use Rattle.sq_net.specs.declared.Body.TheVariants.{Filter, Map, Union, BSort, Aggregate, Join}
-use Rattle.sq_model.specs.Full.{nth, box_list}
+use Rattle.sq_model.specs.Full.{nth}
 use Rattle.sq_flow.proofs.FutureLemmas.{future-weaker}
-use Rattle.sq_start.specs.Starts.{box_stream, Takes, GivesBox, LosesBox}
+use Rattle.sq_start.specs.Starts.{GivesBox, LosesBox}
 
 -- one stream is merged to itself
 alone : (p : ℕ) (xs : List Tuple) → merge_two (at_port p (things xs)) [] ≡ at_port p (things xs)
