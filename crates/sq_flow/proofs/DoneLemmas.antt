@@ -1,28 +1,34 @@
 -- Where all are finished nothing is left; where some actor isn't, one is ready.
-use Rattle.std.proofs.Common.{◌≡◌, ◌≢◌, ℕ, zero, suc, ◌+◌, ◌-◌, ◌<◌, ◌≤◌, eqb, cond, Bool, true, false, not, ◌||◌, ◌⊎◌, inl, inr, IsTrue, List, [], ◌∷◌, ◌++◌, length, Option, Some, None, refl, ap, sym, ◌∙◌, subst, arith}
+use Rattle.std.proofs.Common.{◌≡◌, ◌≢◌, ℕ, zero, suc, ◌+◌, ◌<◌, ◌≤◌, eqb, Bool, true, false, ◌||◌, ◌⊎◌, inl, inr, IsTrue, List, [], ◌∷◌, length, Some, None, refl, ap, sym, ◌∙◌, subst, arith}
 use Rattle.std.specs.Prelude.{slice_get, is_some}
 use Rattle.std.proofs.lemmas.Option.{slice_get_past}
 use Rattle.sq_item.specs.declared.Item.{Item}
 use Rattle.sq_road.specs.Levels.{Agrees}
 use Rattle.sq_oper.specs.Streams.{tuples_of}
-use Rattle.sq_left.specs.Left.{Net, World, known, Each, IsWired, inputs, coming}
-use Rattle.sq_left.proofs.MergeLemmas.{eqb-yes, eqb-no, eqb-same, eqb-not}
+use Rattle.sq_left.specs.Left.{Net, known, Each, IsWired}
+use Rattle.sq_left.proofs.MergeLemmas.{eqb-yes, eqb-no, eqb-same}
 use Rattle.sq_left.proofs.Conserve.{ended-none, ended-settled}
 use Rattle.sq_queue.specs.Faces.{face}
-use Rattle.sq_flow.specs.declared.seats.Seat.{Seat}
 use Rattle.sq_flow.specs.declared.flow.Flow.{Flow}
-use Rattle.sq_flow.specs.Wiring.{net_of, arcs_read, numbers_in, from_of}
-use Rattle.sq_flow.specs.Seats.{Meaning, done_at, taken_at}
+use Rattle.sq_flow.specs.Wiring.{net_of, arcs_read, numbers_in}
+use Rattle.sq_flow.specs.Seats.{Meaning, done_at, taken_at, lost_at}
 use Rattle.sq_flow.specs.Events.{bodies}
-use Rattle.sq_flow.specs.Flows.{world_of, IsFlow, HoldsItems, lines_left, fed_at_last, lost_at_last}
+use Rattle.sq_flow.specs.Flows.{world_of, IsFlow, HoldsItems, lines_left, fed_at_last, lost_at_last, sum_below, work_at_last, taken_in_all}
 use Rattle.sq_flow.specs.Readiness.{IsReady, stands}
-use Rattle.sq_flow.specs.Engines.{AllDone, ExactFor, place_in}
+use Rattle.sq_flow.specs.declared.engine.Engine.{Engine}
+use Rattle.sq_flow.specs.Engines.{AllDone, IsEngine, place_in}
+use Rattle.sq_flow.proofs.ReadyLemmas.{place-next, place-within}
 use Rattle.sq_sched.specs.Ready.{contains}
 
 Each-at : (P : ℕ → Type 0) (xs : List ℕ) (i x : ℕ) → Each P xs → slice_get xs i ≡ Some x → P x
 Each-at P [] i x h is = absurd (cc is)
 Each-at P (y ∷ xs) zero x h is = let same : y ≡ x = cc is in subst P same h.0
 Each-at P (y ∷ xs) (suc i) x h is = Each-at P xs i x h.1 is
+
+sums-agree : (f g : ℕ → ℕ) (n : ℕ) → ((k : ℕ) → k < n → f k ≡ g k) → sum_below f n ≡ sum_below g n
+sums-agree f g zero h = refl
+sums-agree f g (suc n) h =
+    ap (λ k. k + f n) (sums-agree f g n (λ k low. h k (omega (arith, low)))) ∙ ap (λ k. sum_below g n + k) (h n (omega arith))
 
 module _ {O : Type 0} (m : Meaning O) (valid : O → Type 0) (e : Flow O) (flow : IsFlow m valid e) where
   abbrev net : Net
@@ -116,25 +122,46 @@ module _ {O : Type 0} (m : Meaning O) (valid : O → Type 0) (e : Flow O) (flow 
         zero-more : (k : ℕ) → k + 0 ≡ k
         zero-more k = omega arith
 
+    pub all-lost : (actor : ℕ) → actor < length e.seats.items → lost_at_last m table items e actor ≡ lost_at m (slice_get e.seats.items actor) []
+    all-lost actor low =
+        let r = flow.shaped.replay_is in
+        let away : actor ≢ net.replay = omega (arith, r, low) in
+        let settled = ended-settled net (world_of m table items e) e.wires.order.items (holds.facts table agrees) actor (flow.shaped.ordered actor low) away (all actor (omega (arith, low))) in
+        ap (lost_at m (slice_get e.seats.items actor)) settled.none
+
+    pub all-work : work_at_last m table items e ≡ taken_in_all m e
+    all-work = sums-agree (fed_at_last m table items e) (λ actor. taken_at m (slice_get e.seats.items actor)) (length e.seats.items) all-fed
+
 -- each place in the flow is that of an actor
-pub actor-at : (ops k : ℕ) → k ≤ ops → (actor : ℕ) × ((actor ≤ ops) × (place_in ops actor ≡ k))
+actor-at : (ops k : ℕ) → k ≤ ops → (actor : ℕ) × ((actor ≤ ops) × (place_in ops actor ≡ k))
 actor-at ops k low = by (eqb k ops) refl
   where
     by : (b : Bool) → eqb k ops ≡ b → (actor : ℕ) × ((actor ≤ ops) × (place_in ops actor ≡ k))
     by true t = let same : k ≡ ops = eqb-yes k ops t in (0, (omega arith, sym same))
-    by false t =
-        let ne : k ≢ ops = eqb-no k ops t in
-        let later : eqb (k + 1) 0 ≡ false = eqb-not (k + 1) 0 (omega arith) in
-        (k + 1, (omega (arith, low, ne), ap (λ b. cond b ops (k + 1 - 1)) later ∙ less))
-      where
-        less : k + 1 - 1 ≡ k
-        less = omega arith
+    by false t = let ne : k ≢ ops = eqb-no k ops t in (suc k, (omega (arith, low, ne), place-next ops k))
 
--- as long as some actor isn't finished the ready list isn't empty
-pub one-listed : {O : Type 0} (m : Meaning O) (valid : O → Type 0) (e : Flow O) (flow : IsFlow m valid e) (list : List ℕ)
-    → ((actor : ℕ) → actor ≤ length e.seats.items → ExactFor e list actor)
-    → (some : (other : ℕ) × ((other ≤ length e.seats.items) × (done_at e.over (slice_get e.seats.items other) ≡ false))) → (actor : ℕ) × (contains list actor ≡ true)
-one-listed m valid e flow list exact some =
-    let r = one-ready m valid e flow some.0 some.1.0 some.1.1 in
-    let a = actor-at (length e.seats.items) r.0 r.1.0 in
-    (a.0, (exact a.0 a.1.0).ready (subst (IsReady e) (sym a.1.1) r.1.1))
+-- where no actor is listed all are finished
+pub none-listed : {O : Type 0} (m : Meaning O) (valid : O → Type 0) (engine : Engine O) → IsEngine m valid engine → engine.ready.list ≡ [] → AllDone engine.flow
+none-listed m valid engine is none actor low = by (done_at engine.flow.over (slice_get engine.flow.seats.items actor)) refl
+  where
+    by : (b : Bool) → done_at engine.flow.over (slice_get engine.flow.seats.items actor) ≡ b → done_at engine.flow.over (slice_get engine.flow.seats.items actor) ≡ true
+    by true d = d
+    by false d =
+        let r = one-ready m valid engine.flow is.flow actor low d in
+        let a = actor-at (length engine.flow.seats.items) r.0 r.1.0 in
+        let listed : contains engine.ready.list a.0 ≡ true = (is.exact a.0 a.1.0).ready (subst (IsReady engine.flow) (sym a.1.1) r.1.1) in
+        absurd (cc (sym (ap (λ xs. contains xs a.0) none) ∙ listed))
+
+-- where all are finished no actor is listed
+pub none-ready : {O : Type 0} (m : Meaning O) (valid : O → Type 0) (engine : Engine O) → IsEngine m valid engine → AllDone engine.flow → engine.ready.list ≡ []
+none-ready m valid engine is all = by engine.ready.list refl
+  where
+    by : (xs : List ℕ) → engine.ready.list ≡ xs → xs ≡ []
+    by [] e = refl
+    by (x ∷ xs) e =
+        let listed : contains engine.ready.list x ≡ true = ap (λ ys. contains ys x) e ∙ ap (λ b. b || contains xs x) (eqb-same x x refl) in
+        let below = is.below x listed in
+        let room = is.room.actors in
+        let low : x ≤ length engine.flow.seats.items = omega (arith, below, room) in
+        let done = all (place_in (length engine.flow.seats.items) x) (place-within (length engine.flow.seats.items) x low) in
+        absurd (cc (sym done ∙ ((is.exact x low).listed listed).running))

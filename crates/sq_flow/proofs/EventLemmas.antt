@@ -14,7 +14,7 @@ use Rattle.sq_item.specs.Things.{Thing, Sign, Body, spread, mark_part, body_part
 use Rattle.sq_oper.specs.declared.outs.Event.{Event}
 use Rattle.sq_oper.specs.declared.outs.Event.TheVariants.{Line}
 use Rattle.sq_oper.specs.Streams.{tuple_in}
-use Rattle.sq_flow.specs.Events.{bodies, line_of, lines_of}
+use Rattle.sq_flow.specs.Events.{bodies, line_of, lines_of, ShowsBelow}
 
 pub bodies-append : (xs ys : List Thing) → bodies (xs ++ ys) ≡ bodies xs ++ bodies ys
 bodies-append [] ys = refl
@@ -55,29 +55,32 @@ cond-both true xs ys = refl
 cond-both false xs ys = refl
 
 -- one more of what an output gives
-pub shown-next : (o output : ℕ) (outs : List (ℕ × Item)) (index : ℕ) (out : ℕ × Item) → index < length outs → out ≡ get_or outs index out
-    → (was mid is : List Tuple) → mid ≡ was ++ cond (eqb output o) (bodies (given 0 (take index outs))) [] → is ≡ mid ++ cond (eqb output o) (bodies (given 0 (out ∷ []))) []
-    → is ≡ was ++ cond (eqb output o) (bodies (given 0 (take (index + 1) outs))) []
-shown-next o output outs index out low here was mid is e f =
-    let cut : take (index + 1) outs ≡ take index outs ++ out ∷ [] = ap (λ n. take n outs) (add-one index) ∙ take-suc outs index out low ∙ ap (λ z. take index outs ++ z ∷ []) (sym here) in
-    let both : bodies (given 0 (take (index + 1) outs)) ≡ bodies (given 0 (take index outs)) ++ bodies (given 0 (out ∷ [])) =
-    ap (λ l. bodies (given 0 l)) cut ∙ ap bodies (given-append 0 (take index outs) (out ∷ [])) ∙ bodies-append (given 0 (take index outs)) (given 0 (out ∷ [])) in
+pub shown-next : (o output : ℕ) (outs : List (ℕ × Item)) (out : ℕ × Item) (was mid is : List Tuple)
+    → mid ≡ was ++ cond (eqb output o) (bodies (given 0 outs)) [] → is ≡ mid ++ cond (eqb output o) (bodies (given 0 (out ∷ []))) []
+    → is ≡ was ++ cond (eqb output o) (bodies (given 0 (outs ++ out ∷ []))) []
+shown-next o output outs out was mid is e f =
+    let both : bodies (given 0 (outs ++ out ∷ [])) ≡ bodies (given 0 outs) ++ bodies (given 0 (out ∷ [])) =
+    ap bodies (given-append 0 outs (out ∷ [])) ∙ bodies-append (given 0 outs) (given 0 (out ∷ [])) in
     f ∙ ap (λ z. z ++ cond (eqb output o) (bodies (given 0 (out ∷ []))) []) e
-    ∙ append_assoc was (cond (eqb output o) (bodies (given 0 (take index outs))) []) (cond (eqb output o) (bodies (given 0 (out ∷ []))) [])
-    ∙ ap (λ z. was ++ z) (sym (ap (λ l. cond (eqb output o) l []) both ∙ cond-both (eqb output o) (bodies (given 0 (take index outs))) (bodies (given 0 (out ∷ [])))))
+    ∙ append_assoc was (cond (eqb output o) (bodies (given 0 outs)) []) (cond (eqb output o) (bodies (given 0 (out ∷ []))) [])
+    ∙ ap (λ z. was ++ z) (sym (ap (λ l. cond (eqb output o) l []) both ∙ cond-both (eqb output o) (bodies (given 0 outs)) (bodies (given 0 (out ∷ [])))))
 
--- what was shown of it so far is a prefix
-pub shown-front : (o output : ℕ) (outs : List (ℕ × Item)) (index : ℕ) (was is : List Tuple) → is ≡ was ++ cond (eqb output o) (bodies (given 0 (take index outs))) []
-    → IsPrefixOf is (was ++ cond (eqb output o) (bodies (given 0 outs)) [])
-shown-front o output outs index was is e =
-    let both : bodies (given 0 outs) ≡ bodies (given 0 (take index outs)) ++ bodies (given 0 (drop index outs)) =
-    ap (λ l. bodies (given 0 l)) (sym (take-append-drop index outs)) ∙ ap bodies (given-append 0 (take index outs) (drop index outs)) ∙ bodies-append (given 0 (take index outs)) (given 0 (drop index outs)) in (
-      cond (eqb output o) (bodies (given 0 (drop index outs))) [],
+-- what was shown of the first is a prefix
+pub shown-front : (o output : ℕ) (outs first more : List (ℕ × Item)) (was is : List Tuple) → first ++ more ≡ outs
+    → is ≡ was ++ cond (eqb output o) (bodies (given 0 first)) [] → IsPrefixOf is (was ++ cond (eqb output o) (bodies (given 0 outs)) [])
+shown-front o output outs first more was is whole e =
+    let both : bodies (given 0 outs) ≡ bodies (given 0 first) ++ bodies (given 0 more) =
+    ap (λ l. bodies (given 0 l)) (sym whole) ∙ ap bodies (given-append 0 first more) ∙ bodies-append (given 0 first) (given 0 more) in (
+      cond (eqb output o) (bodies (given 0 more)) [],
       ap (λ l. was ++ cond (eqb output o) l []) both
-          ∙ ap (λ z. was ++ z) (cond-both (eqb output o) (bodies (given 0 (take index outs))) (bodies (given 0 (drop index outs))))
-          ∙ sym (append_assoc was (cond (eqb output o) (bodies (given 0 (take index outs))) []) (cond (eqb output o) (bodies (given 0 (drop index outs))) []))
-          ∙ ap (λ z. z ++ cond (eqb output o) (bodies (given 0 (drop index outs))) []) (sym e),
+          ∙ ap (λ z. was ++ z) (cond-both (eqb output o) (bodies (given 0 first)) (bodies (given 0 more)))
+          ∙ sym (append_assoc was (cond (eqb output o) (bodies (given 0 first)) []) (cond (eqb output o) (bodies (given 0 more)) []))
+          ∙ ap (λ z. z ++ cond (eqb output o) (bodies (given 0 more)) []) (sym e),
     )
+
+-- one more of what stood first
+pub moved-on : {A : Type 0} (first more rest all : List A) (x : A) → first ++ more ≡ all → more ≡ x ∷ rest → (first ++ x ∷ []) ++ rest ≡ all
+moved-on first more rest all x e f = append_assoc first (x ∷ []) rest ∙ ap (λ z. first ++ z) (sym f) ∙ e
 
 -- an output by its number among the outputs
 pub output-is : (shown actor o : ℕ) (xs : List Thing) → shown ≤ actor → cond (eqb (actor - shown) o) (bodies xs) [] ≡ bodies (cond (eqb actor (shown + o)) xs [])
@@ -88,3 +91,15 @@ output-is shown actor o xs le = by (eqb (actor - shown) o) (eqb actor (shown + o
     by false false e f = refl
     by true false e f = absurd (grind (arith, nat_tests, le, e, f))
     by false true e f = absurd (grind (arith, nat_tests, le, e, f))
+
+-- an operator's number from where the outputs begin
+pub below-outputs : (actor operators shown : ℕ) → actor < operators → actor < shown + (operators - shown)
+below-outputs actor operators shown low = omega (arith, low)
+
+pub output-below : (actor shown outputs : ℕ) → shown ≤ actor → actor < shown + outputs → actor - shown < outputs
+output-below actor shown outputs shows low = omega (arith, shows, low)
+
+-- one line more
+pub line-more : (outputs output : ℕ) (tuple : Tuple) (events : List Event) → output < outputs → ShowsBelow outputs events (events ++ Line output tuple ∷ [])
+line-more outputs output tuple [] low all = (low, tt)
+line-more outputs output tuple (e ∷ es) low all = (all.0, line-more outputs output tuple es low all.1)

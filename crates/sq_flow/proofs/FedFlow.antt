@@ -1,5 +1,5 @@
 -- What a feed keeps.
-use Rattle.std.proofs.Common.{◌≡◌, ◌≢◌, ℕ, zero, suc, ◌+◌, ◌<◌, ◌≤◌, ◌^◌, eqb, cond, Bool, true, false, not, ◌||◌, List, [], ◌∷◌, ◌++◌, length, Option, Some, None, refl, ap, sym, ◌∙◌, append_assoc, append-nil, arith, subst}
+use Rattle.std.proofs.Common.{◌≡◌, ◌≢◌, ℕ, zero, suc, ◌+◌, ◌<◌, ◌≤◌, ◌^◌, eqb, cond, Bool, true, false, not, ◌||◌, List, [], ◌∷◌, ◌++◌, length, Option, Some, None, refl, ap, sym, ◌∙◌, append_assoc, append-nil, length-append, arith, subst, ◌-◌}
 use Rattle.std.specs.Prelude.{is_some, slice_get, Vec}
 use Rattle.std.specs.declared.alloc.Global.{Global}
 use Rattle.std.proofs.lemmas.Option.{same_Some, slice_get_within}
@@ -22,12 +22,15 @@ use Rattle.sq_left.specs.Left.{Net, World, Each, Facts, coming, inputs, known}
 use Rattle.sq_left.specs.Heads.{AllFine}
 use Rattle.sq_left.proofs.MergeLemmas.{AllOfTime, eqb-yes, eqb-same, eqb-not}
 use Rattle.sq_left.proofs.Conserve.{Told, Kept}
-use Rattle.sq_left.proofs.ActorSteps.{EachPort, PortFacts, taken_at, Moves, FedActor, SameActor}
+use Rattle.sq_left.proofs.ActorSteps.{tuples-both, EachPort, PortFacts, taken_at, Moves, FedActor, SameActor}
 use Rattle.sq_left.proofs.WorldSteps.{At, facts-at, next-is-future, next-is-first, spread-of-time, world-fed, replay-end}
 use Rattle.sq_queue.specs.declared.Queues.{Queues}
 use Rattle.sq_outside.specs.Disks.{Pages}
 use Rattle.sq_queue.specs.Faces.{face, size, items_on, first_time, IsFaceOf, Tells, Together}
-use Rattle.sq_flow.specs.Sends.{sent_to, Pushes}
+use Rattle.sq_flow.specs.Sends.{sent_to, comes_from, Pushes}
+use Rattle.sq_flow.specs.Readiness.{stands, TouchesOnly}
+use Rattle.sq_flow.proofs.TouchLemmas.{away-from, stands-pushed}
+use Rattle.sq_flow.proofs.SumLemmas.{sum-least, sum-most, sum-over, sum-more}
 use Rattle.sq_flow.proofs.WireLemmas.{sent-is}
 use Rattle.sq_flow.specs.declared.wires.Arc.{Arc}
 use Rattle.sq_flow.specs.declared.seats.Seat.{Seat}
@@ -38,8 +41,9 @@ use Rattle.sq_flow.specs.Heads.{NextUpTo}
 use Rattle.sq_flow.specs.Seats as seat
 use Rattle.sq_flow.specs.Seats.{Meaning, rest_at, decides_at, lost_at, place_at, done_at, holds_at, IsSeat, FedSeat}
 use Rattle.sq_flow.specs.Takes.{takes_of, fits_of, MayBeFed}
-use Rattle.sq_flow.specs.Events.{bodies, lines_of}
-use Rattle.sq_flow.specs.Flows.{world_of, IsFlow, HoldsItems, Goes, Stepped, ShowsPrefix, lines_left}
+use Rattle.sq_flow.specs.Events.{bodies, lines_of, ShowsBelow}
+use Rattle.sq_flow.specs.Flows.{world_of, IsFlow, HoldsItems, Goes, Stepped, ShowsPrefix, CostsFed, CostsAtMost, TooMuchOnly, lines_left, fed_at_last, sum_below, taken_in_all, work_at_last, turns_at_last}
+use Rattle.sq_flow.specs.declared.errors.RunErr.{RunErr}
 use Rattle.sq_flow.proofs.FutureLemmas.{future-weaker, future-port, ports-from-head, moves-fed, outs-fine, own-pushed, not-pushed, apart-from, fine-after, goes-on, prefix-chain}
 use Rattle.sq_flow.proofs.SendLemmas.{at_or_other}
 use Rattle.sq_flow.proofs.EventLemmas.{bodies-append}
@@ -53,6 +57,19 @@ one-body item port = by item.mark item.body
     by (Some k) None = refl
     by (Some k) (Some f) = refl
 
+entries-length : (port : ℕ) (xs : List Thing) → length (at_port port xs) ≡ length xs
+entries-length port [] = refl
+entries-length port (x ∷ xs) = ap suc (entries-length port xs)
+
+-- no less is fed in all than was fed
+pub work-least : {O : Type 0} (m : Meaning O) (table : ℕ → ℕ → ℕ) (items : ℕ → List Item) (e : Flow O) → taken_in_all m e ≤ work_at_last m table items e
+work-least m table items e = sum-most (λ k. seat.taken_at m (slice_get e.seats.items k)) (fed_at_last m table items e) (length e.seats.items) (λ k low. omega arith)
+
+-- where nothing was fed
+pub costs-none : {O : Type 0} (m : Meaning O) (valid : O → Type 0) (e : Flow O) → IsFlow m valid e → (was : Option Pages) (levels : LevelTable) (before after : ℕ) → after ≡ before
+    → CostsAtMost m was e levels before after
+costs-none m valid e flow was levels before after same = λ told holds table agrees. let least = work-least m table (items_on e.queues was) e in omega (arith, least, same)
+
 module _ {O : Type 0} (m : Meaning O) (valid : O → Type 0) (e : Flow O) (flow : IsFlow m valid e) (actor tick p at : ℕ) (a : Arc) (item : Item)
     (actor_in : actor < length e.seats.items)
     (head : NextUpTo (arcs_read e.wires actor) (λ k. (face e.queues k).first) (λ k. (face e.queues k).ended) (length (arcs_read e.wires actor)) (Feed tick p at))
@@ -60,8 +77,8 @@ module _ {O : Type 0} (m : Meaning O) (valid : O → Type 0) (e : Flow O) (flow 
   abbrev net : Net
   net = net_of e.wires
 
-  pub seat-fine : IsSeat m valid (net.takes actor) (net.fits actor) e.taken s
-  seat-fine = subst (holds_at (IsSeat m valid (net.takes actor) (net.fits actor) e.taken)) is_seat (flow.seats actor)
+  pub seat-fine : IsSeat m valid (net.takes actor) (net.fits actor) e.levels.epoch e.taken s
+  seat-fine = subst (holds_at (IsSeat m valid (net.takes actor) (net.fits actor) e.levels.epoch e.taken)) is_seat (flow.seats actor)
 
   takes-is : net.takes actor p ≡ a.marked
   takes-is = ap (λ o. marked_of (arc_at e.wires o)) head.1 ∙ ap marked_of is_arc
@@ -114,7 +131,7 @@ module _ {O : Type 0} (m : Meaning O) (valid : O → Type 0) (e : Flow O) (flow 
           by (Some k) None = omega arith
           by (Some k) (Some f) = omega arith
 
-      seat-after : IsSeat m valid (net.takes actor) (net.fits actor) taken' s'
+      seat-after : IsSeat m valid (net.takes actor) (net.fits actor) e.levels.epoch taken' s'
       seat-after =
           record {
             is_valid = fed.is_valid;
@@ -124,6 +141,7 @@ module _ {O : Type 0} (m : Meaning O) (valid : O → Type 0) (e : Flow O) (flow 
             few = (let t = fed.taken in let f = seat-fine.few in let w = weight in omega (arith, t, f, w, more));
             marks = λ port h. ap (λ f. f port) fed.marks ∙ seat-fine.marks port h;
             tuples = λ port fields h. ap (λ f. f port fields) fed.fits ∙ seat-fine.tuples port fields h;
+            reads = λ opened. ap (λ (f : ℕ → Bool). f e.levels.epoch) fed.reads ∙ seat-fine.reads (sym fed.open_still ∙ opened);
           }
         where
           open-now : (b : Bool) → not b ≡ false → b ≡ true
@@ -136,20 +154,21 @@ module _ {O : Type 0} (m : Meaning O) (valid : O → Type 0) (e : Flow O) (flow 
             shaped = rw seats_len flow.shaped;
             lanes = lanes;
             ended = λ arc low. ended arc ∙ flow.ended arc low ∙ sym (done-same (from_of (slice_get e.wires.arcs.items arc)));
-            seats = at_or_other (λ k. holds_at (IsSeat m valid (net.takes k) (net.fits k) taken') (slice_get seats'.items k)) actor
-                (subst (holds_at (IsSeat m valid (net.takes actor) (net.fits actor) taken')) (sym is_after) seat-after)
-                (λ k ne. subst (holds_at (IsSeat m valid (net.takes k) (net.fits k) taken')) (sym (apart k ne))
+            seats = at_or_other (λ k. holds_at (IsSeat m valid (net.takes k) (net.fits k) e.levels.epoch taken') (slice_get seats'.items k)) actor
+                (subst (holds_at (IsSeat m valid (net.takes actor) (net.fits actor) e.levels.epoch taken')) (sym is_after) seat-after)
+                (λ k ne. subst (holds_at (IsSeat m valid (net.takes k) (net.fits k) e.levels.epoch taken')) (sym (apart k ne))
                 (seat-later (net.takes k) (net.fits k) (slice_get e.seats.items k) (flow.seats k)));
             few = few;
             held = λ table agrees. at_or_other (λ k. (port : ℕ) → ThingsUpTo e.clock (rest_at m table (slice_get seats'.items k) [] port)) actor
                 (λ port. subst (λ o. ThingsUpTo e.clock (rest_at m table o [] port)) (sym is_after) (given-and-held table agrees port).1)
                 (λ k ne port. subst (λ o. ThingsUpTo e.clock (rest_at m table o [] port)) (sym (apart k ne)) (flow.held table agrees k port));
             coming = flow.coming;
+            few_sources = flow.few_sources;
             levels = flow.levels;
             over = flow.over;
           }
         where
-          seat-later : (takes : ℕ → Bool) (fits : ℕ → List Value → Bool) (o : Option (Seat O)) → holds_at (IsSeat m valid takes fits e.taken) o → holds_at (IsSeat m valid takes fits taken') o
+          seat-later : (takes : ℕ → Bool) (fits : ℕ → List Value → Bool) (o : Option (Seat O)) → holds_at (IsSeat m valid takes fits e.levels.epoch e.taken) o → holds_at (IsSeat m valid takes fits e.levels.epoch taken') o
           seat-later takes fits None h = tt
           seat-later takes fits (Some k) h =
               record {
@@ -160,6 +179,7 @@ module _ {O : Type 0} (m : Meaning O) (valid : O → Type 0) (e : Flow O) (flow 
                 few = le-more k.tally.taken h.few;
                 marks = h.marks;
                 tuples = h.tuples;
+                reads = h.reads;
               }
 
   -- where these items stand on the arcs
@@ -196,7 +216,7 @@ module _ {O : Type 0} (m : Meaning O) (valid : O → Type 0) (e : Flow O) (flow 
 
     pub next-may-come : (table : ℕ → ℕ → ℕ) → Agrees e.levels table → IsFuture (net.takes actor) (net.fits actor) (place_at m (slice_get e.seats.items actor)) (entries p item)
     next-may-come table agrees =
-        next-is-future net (was table) (between table) actor tick p at (spread item) (coming net (was table) e.wires.order.items actor)
+        next-is-future net (was table) (between table) actor tick p at (spread item) (coming net (was table) e.wires.order.items actor) (inputs net (was table) e.wires.order.items actor)
         (facts-at net (was table) e.wires.order.items flow.shaped.wired (holds.facts table agrees) actor in-order not-replay)
         (moves-between table) of-time head.0 (ports table)
 
@@ -220,6 +240,32 @@ module _ {O : Type 0} (m : Meaning O) (valid : O → Type 0) (e : Flow O) (flow 
         future-weaker (net.takes actor) (m.takes_marks s.op) (net.fits actor) (m.fits s.op) (m.place s.op) (entries p item ++ future)
         seat-fine.marks seat-fine.tuples (subst (λ z. IsFuture (net.takes actor) (net.fits actor) z (entries p item ++ future)) place f)
 
+    -- what is still to be fed to the actor begins with the item
+    abbrev comes-first : (table : ℕ → ℕ → ℕ) → Agrees e.levels table
+        → (future : List Entry) × IsFuture (net.takes actor) (net.fits actor) (place_at m (slice_get e.seats.items actor)) (entries p item ++ future)
+        × ((port : ℕ) → coming net (was table) e.wires.order.items actor port ≡ rest_at m table (slice_get e.seats.items actor) (entries p item ++ future) port)
+        × (inputs net (was table) e.wires.order.items actor ≡ entries p item ++ future)
+    comes-first table agrees =
+        next-is-first net (was table) (between table) actor tick p at (spread item) (coming net (was table) e.wires.order.items actor) (inputs net (was table) e.wires.order.items actor)
+        (facts-at net (was table) e.wires.order.items flow.shaped.wired (holds.facts table agrees) actor in-order not-replay) (moves-between table) of-time head.0 (ports table)
+
+    -- so as much more is to be taken and to be fed
+    pub turns-over : (table : ℕ → ℕ → ℕ) → Agrees e.levels table → e.taken + length (spread item) ≤ turns_at_last m table items e
+    turns-over table agrees =
+        let first = comes-first table agrees in
+        let ins = λ (k : ℕ). length (inputs net (was table) e.wires.order.items k) in
+        let least = sum-least ins (length e.seats.items) actor actor_in in
+        let own = ap (λ (l : List Entry). length l) first.3 ∙ length-append (entries p item) first.0 in
+        let one = entries-length p (spread item) in omega (arith, least, own, one)
+
+    pub work-over : (table : ℕ → ℕ → ℕ) → Agrees e.levels table → taken_in_all m e + cond (is_some item.body) 1 0 ≤ work_at_last m table items e
+    work-over table agrees =
+        let first = comes-first table agrees in
+        let own = ap (λ l. length (tuples_of l)) first.3 ∙ tuples-both (entries p item) first.0 in
+        let one = one-body item p in
+        sum-over (λ k. seat.taken_at m (slice_get e.seats.items k)) (fed_at_last m table items e) (length e.seats.items) actor (cond (is_some item.body) 1 0) actor_in
+        (λ k low. omega arith) (omega (arith, own, one))
+
     -- what a feed gives, or has given where it fails, is the beginning of what is left
     pub prefix-of-left : (table : ℕ → ℕ → ℕ) → Agrees e.levels table → (outs : List (ℕ × Item))
         → ((future : List Entry) → IsFuture (m.takes_marks s.op) (m.fits s.op) (m.place s.op) (entries p item ++ future)
@@ -233,8 +279,7 @@ module _ {O : Type 0} (m : Meaning O) (valid : O → Type 0) (e : Flow O) (flow 
         by : (b : Bool) → eqb actor output ≡ b → IsPrefixOf (bodies (cond b (given 0 outs) [])) (bodies (coming net (was table) e.wires.order.items output 0))
         by true t =
             let same : actor ≡ output = eqb-yes actor output t in
-            let first = next-is-first net (was table) (between table) actor tick p at (spread item) (coming net (was table) e.wires.order.items actor)
-            (facts-at net (was table) e.wires.order.items flow.shaped.wired (holds.facts table agrees) actor in-order not-replay) (moves-between table) of-time head.0 (ports table) in
+            let first = comes-first table agrees in
             let is : coming net (was table) e.wires.order.items actor 0 ≡ m.rest s.op table (entries p item ++ first.0) 0 =
             first.2 0 ∙ ap (λ o. rest_at m table o (entries p item ++ first.0) 0) is_seat in
             let here : IsPrefixOf (given 0 outs) (coming net (was table) e.wires.order.items actor 0) = rw is (law first.0 (op-future first.0 first.1) 0) in
@@ -257,6 +302,9 @@ module _ {O : Type 0} (m : Meaning O) (valid : O → Type 0) (e : Flow O) (flow 
 
       abbrev decided : ℕ → List Decision
       decided k = cond (eqb k actor) drops []
+
+      abbrev took : ℕ → List Entry
+      took k = cond (eqb k actor) (entries p item) []
 
       done-after : done_at e.over (slice_get seats'.items actor) ≡ false
       done-after =
@@ -299,12 +347,12 @@ module _ {O : Type 0} (m : Meaning O) (valid : O → Type 0) (e : Flow O) (flow 
             done = ap (done_at e.over) o;
           }
 
-      pub kept : (table : ℕ → ℕ → ℕ) → Agrees e.levels table → Kept net (was table) (is table) (pushed_by actor outs) decided e.wires.order.items
+      pub kept : (table : ℕ → ℕ → ℕ) → Agrees e.levels table → Kept net (was table) (is table) (pushed_by actor outs) decided took e.wires.order.items
       kept table agrees =
           let facts = holds.facts table agrees in
-          world-fed net (was table) (is table) (pushed_by actor outs) decided actor tick p at (spread item) e.wires.order.items flow.shaped.wired facts
-          (moves-all table) of-time head.0 (ports table) (law-here table agrees) (same-actor table) (λ other ne port. not-pushed actor other outs ne port)
-          (λ other ne. ap (λ b. cond b drops []) (eqb-not other actor ne))
+          world-fed net (was table) (is table) (pushed_by actor outs) decided took actor tick p at (spread item) e.wires.order.items flow.shaped.wired facts
+          (moves-all table) of-time head.0 (ports table) (law-here table agrees) (ap (λ b. cond b (entries p item) []) (eqb-same actor actor refl)) (same-actor table) (λ other ne port. not-pushed actor other outs ne port)
+          (λ other ne. ap (λ b. cond b drops []) (eqb-not other actor ne)) (λ other ne. ap (λ b. cond b (entries p item) []) (eqb-not other actor ne))
           (apart-from net (λ k. to_of (slice_get e.wires.arcs.items k)) actor at p (spread item) (λ other port arc k. (flow.shaped.joined other port arc k).0) head.1)
           not-replay (λ port. refl) (ap (done_at e.over) (apart net.replay (λ k. not-replay (sym k))))
           (replay-end net (was table) e.wires.order.items facts)
@@ -316,10 +364,25 @@ module _ {O : Type 0} (m : Meaning O) (valid : O → Type 0) (e : Flow O) (flow 
             queued = fine e.clock (outs-in-time s' outs drops fed may) (fine-after e.clock at items mid item whole others holds.queued);
           }
 
-      pub goes-after : (events events' : List Event)
+      pub turns-same : (table : ℕ → ℕ → ℕ) → Agrees e.levels table → taken' ≡ e.taken + length (spread item) 
+          → turns_at_last m table items e ≡ taken' + sum_below (λ other. length (inputs net (is table) e.wires.order.items other)) (length e.seats.items)
+      turns-same table agrees more =
+          let k = kept table agrees in
+          let is_replay = flow.shaped.replay_is in
+          let comes = λ (other : ℕ) (low : other < length e.seats.items). (let away : other ≢ net.replay = omega (arith, is_replay, low) in (k.told other (flow.shaped.ordered other low) away).comes) in
+          let own : length (inputs net (was table) e.wires.order.items actor) ≡ length (inputs net (is table) e.wires.order.items actor) + length (spread item) = (
+            let c = ap (λ (l : List Entry). length l) (comes actor actor_in ∙ ap (λ b. cond b (entries p item) [] ++ inputs net (is table) e.wires.order.items actor) (eqb-same actor actor refl)) in
+            let both = length-append (entries p item) (inputs net (is table) e.wires.order.items actor) in
+            let one = entries-length p (spread item) in omega (arith, c, both, one)
+          ) in
+          let sums = sum-more (λ other. length (inputs net (is table) e.wires.order.items other)) (λ other. length (inputs net (was table) e.wires.order.items other)) (length e.seats.items) actor (length (spread item)) actor_in
+          (λ other low ne. ap (λ (l : List Entry). length l) (comes other low ∙ ap (λ b. cond b (entries p item) [] ++ inputs net (is table) e.wires.order.items other) (eqb-not other actor ne))) own in
+          omega (arith, sums, more)
+
+      pub goes-after : (events events' : List Event) → length seats'.items ≡ length e.seats.items → taken' ≡ e.taken + length (spread item)
           → ((output : ℕ) → lines_of output events' ≡ lines_of output events ++ bodies (pushed_by actor outs (e.wires.shown + output) 0))
           → (table : ℕ → ℕ → ℕ) → Agrees e.levels table → Goes m table items items' e e' events events'
-      goes-after events events' shown table agrees =
+      goes-after events events' seats_len more shown table agrees =
           let k = kept table agrees in
           record {
             lines = λ output low.
@@ -335,6 +398,7 @@ module _ {O : Type 0} (m : Meaning O) (valid : O → Type 0) (e : Flow O) (flow 
                 let is = flow.shaped.replay_is in
                 let away : other ≢ net.replay = omega arith in
                 (k.told other (flow.shaped.ordered other low) away).lost;
+            turns = turns-same table agrees more ∙ ap (λ n. taken' + sum_below (λ other. length (inputs net (is table) e.wires.order.items other)) n) (sym seats_len);
           }
 
   -- where the disk tells its pages the tests pass, whatever stands behind the item
@@ -344,6 +408,52 @@ module _ {O : Type 0} (m : Meaning O) (valid : O → Type 0) (e : Flow O) (flow 
       passes items (λ k. cond (eqb k at) more (items k)) holds faces
       (whole ∙ ap (λ b. item ∷ cond b more (items at)) (sym (eqb-same at at refl)))
       (λ k ne. ap (λ b. cond b more (items k)) (eqb-not k at ne))
+
+  -- where the item can't be counted
+  pub too-much-front : (was mid_pages : Option Pages) (mid : Queues) (e' : Flow O) (err : RunErr) → Together e.queues was
+      → (Tells was → items_on e.queues was at ≡ item ∷ items_on mid mid_pages at)
+      → (Tells was → (other : ℕ) → other ≢ at → items_on mid mid_pages other ≡ items_on e.queues was other)
+      → 2 ^ 62 ≤ e.taken + length (spread item) → length (spread item) ≤ 2 → e'.taken ≡ e.taken → e'.levels ≡ e.levels → TooMuchOnly m was e e' err
+  too-much-front was mid_pages mid e' err together front others over few taken levels =
+      record {
+        counted = λ is. omega (arith, over, few, taken);
+        turns = λ is told holds table agrees.
+            let most = turns-over (items_on e.queues was) (items_on mid mid_pages) holds (together.faces told) (front told) (others told) table (rw levels at agrees) in
+            omega (arith, over, most);
+      }
+
+  -- where the item was fed
+  pub costs-front : (was mid_pages : Option Pages) (mid : Queues) (before after : ℕ) → Together e.queues was
+      → (Tells was → items_on e.queues was at ≡ item ∷ items_on mid mid_pages at)
+      → (Tells was → (other : ℕ) → other ≢ at → items_on mid mid_pages other ≡ items_on e.queues was other)
+      → after ≡ before + cond (is_some item.body) 1 0 → CostsAtMost m was e e.levels before after
+  costs-front was mid_pages mid before after together front others more = λ told holds table agrees.
+      let most = work-over (items_on e.queues was) (items_on mid mid_pages) holds (together.faces told) (front told) (others told) table agrees in
+      omega (arith, most, more)
+
+  pub costs-fed : (seats' : Vec (Seat O) Global) (queues' : Queues) (taken' : ℕ) (s' : Seat O) (before after : ℕ) → slice_get seats'.items actor ≡ Some s' → ((other : ℕ) → other ≢ actor → slice_get seats'.items other ≡ slice_get e.seats.items other)
+      → length seats'.items ≡ length e.seats.items → m.taken s'.op ≡ m.taken s.op + cond (is_some item.body) 1 0 → after ≡ before + cond (is_some item.body) 1 0
+      → CostsFed m e (record e { seats = seats'; queues = queues'; taken = taken' }) before after
+  costs-fed seats' queues' taken' s' before after is_after apart seats_len counted more =
+      let sums = sum-more (λ k. seat.taken_at m (slice_get e.seats.items k)) (λ k. seat.taken_at m (slice_get seats'.items k)) (length e.seats.items) actor (cond (is_some item.body) 1 0) actor_in
+      (λ k low ne. ap (seat.taken_at m) (apart k ne)) (ap (seat.taken_at m) is_after ∙ counted ∙ ap (λ o. seat.taken_at m o + cond (is_some item.body) 1 0) (sym is_seat)) in
+      let whole : taken_in_all m (record e { seats = seats'; queues = queues'; taken = taken' }) ≡ taken_in_all m e + cond (is_some item.body) 1 0 = rw seats_len sums in
+      omega (arith, whole, more)
+
+  pub fed-touches : (is mid_pages : Option Pages) (mid q' : Queues) (seats' : Vec (Seat O) Global) (taken' : ℕ) (s' : Seat O) (outs : List (ℕ × Item))
+      → ((other : ℕ) → other ≢ at → face mid other ≡ face e.queues other) → s'.tally.running ≡ s.tally.running
+      → slice_get seats'.items actor ≡ Some s' → ((other : ℕ) → other ≢ actor → slice_get seats'.items other ≡ slice_get e.seats.items other)
+      → Pushes mid q' mid_pages is (sent_to e.wires actor outs) (λ time. AllOutsFine time outs) (comes_from e.wires actor)
+      → TouchesOnly actor e (record e { seats = seats'; queues = q'; taken = taken' })
+  fed-touches is mid_pages mid q' seats' taken' s' outs faces open_still is_after apart sent =
+      record {
+        apart = λ arc low to from. sent.apart arc (away-from e.wires actor arc from) ∙ faces arc (not-fed arc to);
+        grows = λ arc low to h. stands-pushed mid q' mid_pages is _ _ _ sent arc (ap stands (faces arc (not-fed arc to)) ∙ h);
+        others = λ other low ne. ap (done_at e.over) (apart other ne);
+      }
+    where
+      not-fed : (arc : ℕ) → to_of (slice_get e.wires.arcs.items arc) ≢ actor → arc ≢ at
+      not-fed arc to same = to (ap (λ k. to_of (slice_get e.wires.arcs.items k)) same ∙ (flow.shaped.joined actor p at head.1).0)
 
   -- the operator runs
   pub runs : done_at e.over (slice_get e.seats.items actor) ≡ false → m.running s.op ≡ true
@@ -376,10 +486,11 @@ module _ {O : Type 0} (m : Meaning O) (valid : O → Type 0) (e : Flow O) (flow 
       → FedSeat m valid e.levels p item outs drops s s'
       → slice_get seats'.items actor ≡ Some s' → ((other : ℕ) → other ≢ actor → slice_get seats'.items other ≡ slice_get e.seats.items other)
       → length seats'.items ≡ length e.seats.items → done_at e.over (slice_get e.seats.items actor) ≡ false
-      → Pushes mid q' mid_pages is (sent_to e.wires actor outs) (λ time. AllOutsFine time outs)
+      → Pushes mid q' mid_pages is (sent_to e.wires actor outs) (λ time. AllOutsFine time outs) (comes_from e.wires actor)
       → ((o : ℕ) → lines_of o events' ≡ lines_of o events ++ bodies (pushed_by actor outs (e.wires.shown + o) 0))
+      → ShowsBelow (length e.seats.items - e.wires.shown) events events'
       → Stepped m valid was is e (record e { seats = seats'; queues = q'; taken = taken' }) events events'
-  fed-stepped was is mid_pages mid q' seats' taken' s' outs drops events events' together may ended lanes front others tells more few fed is_after apart seats_len unfinished sent shown =
+  fed-stepped was is mid_pages mid q' seats' taken' s' outs drops events events' together may ended lanes front others tells more few fed is_after apart seats_len unfinished sent shown below =
       record {
         flow_after = flow-after s' outs drops fed may seats' q' taken' is_after apart seats_len (sent.lanes ∙ lanes ∙ flow.lanes) (λ k. sent.ended k ∙ ended k) more few unfinished;
         together = sent.together;
@@ -387,12 +498,13 @@ module _ {O : Type 0} (m : Meaning O) (valid : O → Type 0) (e : Flow O) (flow 
         wires = refl;
         seats = seats_len;
         closes = λ table h. h;
+        shows = below;
         holds = λ told holds.
             holds-after (items_on e.queues was) (items_on mid mid_pages) holds (together.faces told) (front told) (others told) seats' q' taken' s' outs drops (items_on q' is)
             fed is_after apart unfinished (on told) (sent.fine (tells ∙ told)) may;
         goes = λ told holds table agrees.
             goes-after (items_on e.queues was) (items_on mid mid_pages) holds (together.faces told) (front told) (others told) seats' q' taken' s' outs drops (items_on q' is)
-            fed is_after apart unfinished (on told) (sent.fine (tells ∙ told)) may events events' shown table agrees;
+            fed is_after apart unfinished (on told) (sent.fine (tells ∙ told)) may events events' seats_len more shown table agrees;
       }
     where
       on : Tells was → (k : ℕ) → k < length e.wires.arcs.items → spread_all (items_on q' is k) ≡ spread_all (items_on mid mid_pages k) ++ pushed_by actor outs (net.from k) (net.port k)

@@ -1,5 +1,5 @@
 -- What the end of an operator keeps.
-use Rattle.std.proofs.Common.{◌≡◌, ◌≢◌, ℕ, zero, suc, ◌+◌, ◌<◌, ◌≤◌, ◌^◌, eqb, cond, Bool, true, false, not, ◌||◌, List, [], ◌∷◌, ◌++◌, length, Option, Some, None, refl, ap, sym, ◌∙◌, append_assoc, append-nil, arith, subst}
+use Rattle.std.proofs.Common.{◌≡◌, ◌≢◌, ℕ, zero, suc, ◌+◌, ◌<◌, ◌≤◌, ◌^◌, eqb, cond, Bool, true, false, not, ◌||◌, List, [], ◌∷◌, ◌++◌, length, Option, Some, None, refl, ap, sym, ◌∙◌, append_assoc, append-nil, arith, subst, ◌-◌}
 use Rattle.std.specs.Prelude.{is_some, slice_get, Vec}
 use Rattle.std.specs.declared.alloc.Global.{Global}
 use Rattle.std.proofs.lemmas.Option.{same_Some, slice_get_within}
@@ -11,7 +11,7 @@ use Rattle.sq_road.specs.Levels.{LevelTable, Agrees, level_of}
 use Rattle.sq_oper.specs.declared.outs.Decision.{Decision}
 use Rattle.sq_oper.specs.declared.outs.Event.{Event}
 use Rattle.sq_oper.specs.Given.{given, ThingsUpTo}
-use Rattle.sq_left.specs.Left.{Net, World, left_by, inputs_by, Each, coming, known}
+use Rattle.sq_left.specs.Left.{Net, World, left_by, inputs_by, Each, coming, inputs, known}
 use Rattle.sq_left.specs.Heads.{AllFine}
 use Rattle.sq_left.proofs.MergeLemmas.{eqb-yes, eqb-same, eqb-not}
 use Rattle.sq_left.proofs.Conserve.{Reads, Told, Kept}
@@ -20,17 +20,21 @@ use Rattle.sq_left.proofs.WorldSteps.{At, facts-at, world-finished, replay-end, 
 use Rattle.sq_queue.specs.declared.Queues.{Queues}
 use Rattle.sq_outside.specs.Disks.{Pages}
 use Rattle.sq_queue.specs.Faces.{face, size, items_on, first_time, IsFaceOf, Tells, Together}
-use Rattle.sq_flow.specs.Sends.{sent_to, Pushes}
+use Rattle.sq_flow.specs.Sends.{sent_to, comes_from, Pushes}
+use Rattle.sq_flow.specs.Readiness.{stands, TouchesOnly}
+use Rattle.sq_flow.proofs.TouchLemmas.{away-from, stands-pushed, stands-grows}
+use Rattle.sq_flow.proofs.SumLemmas.{sum-same}
+use Rattle.sq_oper.specs.Entries.{Entry}
 use Rattle.sq_flow.proofs.WireLemmas.{sent-is}
 use Rattle.sq_flow.specs.declared.seats.Seat.{Seat}
 use Rattle.sq_flow.specs.declared.flow.Flow.{Flow}
 use Rattle.sq_flow.specs.declared.heads.Next.TheVariants.{Waits, Ended, Feed}
-use Rattle.sq_flow.specs.Wiring.{net_of, arcs_read, from_of, pushed_by, AllOutsFine}
+use Rattle.sq_flow.specs.Wiring.{net_of, arcs_read, from_of, to_of, pushed_by, AllOutsFine}
 use Rattle.sq_flow.specs.Heads.{NextUpTo}
 use Rattle.sq_flow.specs.Seats as seat
 use Rattle.sq_flow.specs.Seats.{Meaning, rest_at, decides_at, lost_at, place_at, done_at, holds_at, IsSeat, FinishedSeat}
-use Rattle.sq_flow.specs.Events.{bodies, lines_of}
-use Rattle.sq_flow.specs.Flows.{world_of, IsFlow, HoldsItems, Goes, Stepped, ShowsPrefix, lines_left}
+use Rattle.sq_flow.specs.Events.{bodies, lines_of, ShowsBelow}
+use Rattle.sq_flow.specs.Flows.{world_of, IsFlow, HoldsItems, Goes, Stepped, ShowsPrefix, lines_left, sum_below, taken_in_all, turns_at_last}
 use Rattle.sq_flow.proofs.FutureLemmas.{outs-fine, own-pushed, not-pushed, goes-on, prefix-chain}
 use Rattle.sq_flow.proofs.SendLemmas.{at_or_other}
 use Rattle.sq_flow.proofs.EventLemmas.{bodies-append}
@@ -41,8 +45,8 @@ module _ {O : Type 0} (m : Meaning O) (valid : O → Type 0) (e : Flow O) (flow 
   abbrev net : Net
   net = net_of e.wires
 
-  pub seat-fine : IsSeat m valid (net.takes actor) (net.fits actor) e.taken s
-  seat-fine = subst (holds_at (IsSeat m valid (net.takes actor) (net.fits actor) e.taken)) is_seat (flow.seats actor)
+  pub seat-fine : IsSeat m valid (net.takes actor) (net.fits actor) e.levels.epoch e.taken s
+  seat-fine = subst (holds_at (IsSeat m valid (net.takes actor) (net.fits actor) e.levels.epoch e.taken)) is_seat (flow.seats actor)
 
   -- what an end gives, over every disk
   module _ (s' : Seat O) (outs : List (ℕ × Item)) (drops : List Decision) (fin : FinishedSeat m valid outs drops s s') where
@@ -71,7 +75,7 @@ module _ {O : Type 0} (m : Meaning O) (valid : O → Type 0) (e : Flow O) (flow 
           or-false true = refl
           or-false false = refl
 
-      seat-after : IsSeat m valid (net.takes actor) (net.fits actor) e.taken s'
+      seat-after : IsSeat m valid (net.takes actor) (net.fits actor) e.levels.epoch e.taken s'
       seat-after =
           record {
             is_valid = fin.is_valid;
@@ -81,6 +85,7 @@ module _ {O : Type 0} (m : Meaning O) (valid : O → Type 0) (e : Flow O) (flow 
             few = (let t = fin.same_taken in let f = seat-fine.few in omega (arith, t, f));
             marks = λ port h. ap (λ f. f port) fin.marks ∙ seat-fine.marks port h;
             tuples = λ port fields h. ap (λ f. f port fields) fin.fits ∙ seat-fine.tuples port fields h;
+            reads = λ opened. absurd (cc (fin.closed, opened));
           }
 
       pub flow-after : IsFlow m valid (record e { seats = seats'; queues = queues' })
@@ -92,14 +97,15 @@ module _ {O : Type 0} (m : Meaning O) (valid : O → Type 0) (e : Flow O) (flow 
                 ended arc low
                 ∙ ap (λ b. b || eqb (from_of (slice_get e.wires.arcs.items arc)) actor) (flow.ended arc low)
                 ∙ done-is (from_of (slice_get e.wires.arcs.items arc));
-            seats = at_or_other (λ k. holds_at (IsSeat m valid (net.takes k) (net.fits k) e.taken) (slice_get seats'.items k)) actor
-                (subst (holds_at (IsSeat m valid (net.takes actor) (net.fits actor) e.taken)) (sym is_after) seat-after)
-                (λ k ne. subst (holds_at (IsSeat m valid (net.takes k) (net.fits k) e.taken)) (sym (apart k ne)) (flow.seats k));
+            seats = at_or_other (λ k. holds_at (IsSeat m valid (net.takes k) (net.fits k) e.levels.epoch e.taken) (slice_get seats'.items k)) actor
+                (subst (holds_at (IsSeat m valid (net.takes actor) (net.fits actor) e.levels.epoch e.taken)) (sym is_after) seat-after)
+                (λ k ne. subst (holds_at (IsSeat m valid (net.takes k) (net.fits k) e.levels.epoch e.taken)) (sym (apart k ne)) (flow.seats k));
             few = flow.few;
             held = λ table agrees. at_or_other (λ k. (port : ℕ) → ThingsUpTo e.clock (rest_at m table (slice_get seats'.items k) [] port)) actor
                 (λ port. rw is_after (nothing e.clock (m.rest s'.op table [] port) (fin.empty table port)))
                 (λ k ne port. subst (λ o. ThingsUpTo e.clock (rest_at m table o [] port)) (sym (apart k ne)) (flow.held table agrees k port));
             coming = flow.coming;
+            few_sources = flow.few_sources;
             levels = flow.levels;
             over = flow.over;
           }
@@ -179,7 +185,7 @@ module _ {O : Type 0} (m : Meaning O) (valid : O → Type 0) (e : Flow O) (flow 
             done = ap (done_at e.over) o;
           }
 
-      pub kept : (table : ℕ → ℕ → ℕ) → Agrees e.levels table → Kept net (was table) (is table) (pushed_by actor outs) decided e.wires.order.items
+      pub kept : (table : ℕ → ℕ → ℕ) → Agrees e.levels table → Kept net (was table) (is table) (pushed_by actor outs) decided (λ _. []) e.wires.order.items
       kept table agrees =
           let facts = holds.facts table agrees in
           world-finished net (was table) (is table) (pushed_by actor outs) decided actor e.wires.order.items flow.shaped.wired facts
@@ -204,10 +210,18 @@ module _ {O : Type 0} (m : Meaning O) (valid : O → Type 0) (e : Flow O) (flow 
             queued = fine e.clock (outs-in-time s' outs drops fin) holds.queued;
           }
 
-      pub goes-after : (events events' : List Event)
+      turns-same : (table : ℕ → ℕ → ℕ) → Agrees e.levels table → turns_at_last m table items e ≡ e.taken + sum_below (λ other. length (inputs net (is table) e.wires.order.items other)) (length e.seats.items)
+      turns-same table agrees =
+          let k = kept table agrees in
+          let is_replay = flow.shaped.replay_is in
+          let sums = sum-same (λ other. length (inputs net (was table) e.wires.order.items other)) (λ other. length (inputs net (is table) e.wires.order.items other)) (length e.seats.items)
+          (λ other low. let away : other ≢ net.replay = omega (arith, is_replay, low) in ap (λ (l : List Entry). length l) (k.told other (flow.shaped.ordered other low) away).comes) in
+          ap (λ n. e.taken + n) sums
+
+      pub goes-after : (events events' : List Event) → length seats'.items ≡ length e.seats.items
           → ((output : ℕ) → lines_of output events' ≡ lines_of output events ++ bodies (pushed_by actor outs (e.wires.shown + output) 0))
           → (table : ℕ → ℕ → ℕ) → Agrees e.levels table → Goes m table items items' e e' events events'
-      goes-after events events' shown table agrees =
+      goes-after events events' seats_len shown table agrees =
           let k = kept table agrees in
           record {
             lines = λ output low.
@@ -223,6 +237,7 @@ module _ {O : Type 0} (m : Meaning O) (valid : O → Type 0) (e : Flow O) (flow 
                 let is = flow.shaped.replay_is in
                 let away : other ≢ net.replay = omega arith in
                 (k.told other (flow.shaped.ordered other low) away).lost;
+            turns = turns-same table agrees ∙ ap (λ n. e.taken + sum_below (λ other. length (inputs net (is table) e.wires.order.items other)) n) (sym seats_len);
           }
 
   -- the operator runs
@@ -232,6 +247,33 @@ module _ {O : Type 0} (m : Meaning O) (valid : O → Type 0) (e : Flow O) (flow 
       by : (b : Bool) → not b ≡ false → b ≡ true
       by true h = refl
       by false h = cc
+
+  -- as much was fed as before
+  pub finished-taken : (seats' : Vec (Seat O) Global) (queues' : Queues) (s' : Seat O) → m.taken s'.op ≡ m.taken s.op
+      → slice_get seats'.items actor ≡ Some s' → ((other : ℕ) → other ≢ actor → slice_get seats'.items other ≡ slice_get e.seats.items other)
+      → length seats'.items ≡ length e.seats.items → taken_in_all m (record e { seats = seats'; queues = queues' }) ≡ taken_in_all m e
+  finished-taken seats' queues' s' counted is_after apart seats_len =
+      ap (sum_below (λ k. seat.taken_at m (slice_get seats'.items k))) seats_len
+      ∙ sum-same (λ k. seat.taken_at m (slice_get seats'.items k)) (λ k. seat.taken_at m (slice_get e.seats.items k)) (length e.seats.items)
+      (λ k low. at_or_other (λ other. seat.taken_at m (slice_get seats'.items other) ≡ seat.taken_at m (slice_get e.seats.items other)) actor
+      (ap (seat.taken_at m) is_after ∙ counted ∙ ap (seat.taken_at m) (sym is_seat)) (λ other ne. ap (seat.taken_at m) (apart other ne)) k)
+
+  pub finished-touches : (was is : Option Pages) (mid q' : Queues) (seats' : Vec (Seat O) Global) (outs : List (ℕ × Item))
+      → ((other : ℕ) → other ≢ actor → slice_get seats'.items other ≡ slice_get e.seats.items other)
+      → Pushes e.queues mid was is (sent_to e.wires actor outs) (λ time. AllOutsFine time outs) (comes_from e.wires actor)
+      → ((k : ℕ) → k < length e.wires.arcs.items → (face q' k).ended ≡ ((face mid k).ended || eqb (from_of (slice_get e.wires.arcs.items k)) actor))
+      → ((k : ℕ) → (face q' k).first ≡ (face mid k).first)
+      → ((k : ℕ) → comes_from e.wires actor k ≡ false → face q' k ≡ face mid k)
+      → TouchesOnly actor e (record e { seats = seats'; queues = q' })
+  finished-touches was is mid q' seats' outs apart sent ended first same =
+      record {
+        apart = λ arc low to from. same arc (away-from e.wires actor arc from) ∙ sent.apart arc (away-from e.wires actor arc from);
+        grows = λ arc low to h.
+            stands-grows (face mid arc) (face q' arc) (λ some. ap (λ (o : Option ℕ). is_some o) (first arc) ∙ some)
+            (λ over. ended arc low ∙ ap (λ b. b || eqb (from_of (slice_get e.wires.arcs.items arc)) actor) over)
+            (stands-pushed e.queues mid was is _ _ _ sent arc h);
+        others = λ other low ne. ap (done_at e.over) (apart other ne);
+      }
 
   -- what an end has shown where giving failed
   pub finished-prefix : (was : Option Pages) (s' : Seat O) (outs : List (ℕ × Item)) (drops : List Decision) (events events' : List Event)
@@ -248,14 +290,15 @@ module _ {O : Type 0} (m : Meaning O) (valid : O → Type 0) (e : Flow O) (flow 
       → Together e.queues was → FinishedSeat m valid outs drops s s'
       → slice_get seats'.items actor ≡ Some s' → ((other : ℕ) → other ≢ actor → slice_get seats'.items other ≡ slice_get e.seats.items other)
       → length seats'.items ≡ length e.seats.items
-      → Pushes e.queues mid was is (sent_to e.wires actor outs) (λ time. AllOutsFine time outs)
+      → Pushes e.queues mid was is (sent_to e.wires actor outs) (λ time. AllOutsFine time outs) (comes_from e.wires actor)
       → size q' ≡ size mid
       → ((k : ℕ) → k < length e.wires.arcs.items → (face q' k).ended ≡ ((face mid k).ended || eqb (from_of (slice_get e.wires.arcs.items k)) actor))
       → ((pages : Option Pages) (k : ℕ) → items_on q' pages k ≡ items_on mid pages k)
       → ((pages : Option Pages) → Together mid pages → Together q' pages)
       → ((o : ℕ) → lines_of o events' ≡ lines_of o events ++ bodies (pushed_by actor outs (e.wires.shown + o) 0))
+      → ShowsBelow (length e.seats.items - e.wires.shown) events events'
       → Stepped m valid was is e (record e { seats = seats'; queues = q' }) events events'
-  finished-stepped was is mid q' seats' s' outs drops events events' together fin is_after apart seats_len sent lanes ended same stays shown =
+  finished-stepped was is mid q' seats' s' outs drops events events' together fin is_after apart seats_len sent lanes ended same stays shown below =
       record {
         flow_after = flow-after s' outs drops fin seats' q' is_after apart seats_len (lanes ∙ sent.lanes ∙ flow.lanes)
             (λ k low. ended k low ∙ ap (λ b. b || eqb (from_of (slice_get e.wires.arcs.items k)) actor) (sent.ended k));
@@ -264,9 +307,10 @@ module _ {O : Type 0} (m : Meaning O) (valid : O → Type 0) (e : Flow O) (flow 
         wires = refl;
         seats = seats_len;
         closes = λ table h. h;
+        shows = below;
         holds = λ told holds. holds-after (items_on e.queues was) holds (together.faces told) seats' q' s' outs drops (items_on q' is) fin is_after apart (on told) (fine told);
         goes = λ told holds table agrees.
-            goes-after (items_on e.queues was) holds (together.faces told) seats' q' s' outs drops (items_on q' is) fin is_after apart (on told) (fine told) events events' shown table agrees;
+            goes-after (items_on e.queues was) holds (together.faces told) seats' q' s' outs drops (items_on q' is) fin is_after apart (on told) (fine told) events events' seats_len shown table agrees;
       }
     where
       on : Tells was → (k : ℕ) → k < length e.wires.arcs.items → spread_all (items_on q' is k) ≡ spread_all (items_on e.queues was k) ++ pushed_by actor outs (net.from k) (net.port k)

@@ -1,17 +1,21 @@
 -- What the replay keeps.
-use Rattle.std.proofs.Common.{◌≡◌, ◌≢◌, ℕ, zero, suc, ◌+◌, ◌/◌, ◌<◌, ◌≤◌, ◌^◌, eqb, cond, Bool, true, false, not, ◌||◌, List, [], ◌∷◌, ◌++◌, length, Option, Some, None, refl, ap, sym, ◌∙◌, append_assoc, append-nil, arith, subst}
-use Rattle.std.specs.Prelude.{slice_get}
+use Rattle.std.proofs.Common.{◌≡◌, ◌≢◌, ℕ, zero, suc, ◌+◌, ◌/◌, ◌<◌, ◌≤◌, ◌^◌, eqb, cond, Bool, true, false, not, ◌||◌, List, [], ◌∷◌, ◌++◌, length, set, Option, Some, None, refl, ap, sym, ◌∙◌, append_assoc, append-nil, arith, subst}
+use Rattle.std.specs.Prelude.{slice_get, is_some, Vec}
 use Rattle.std.specs.declared.alloc.Global.{Global}
 use Rattle.std.specs.declared.collections.VecDeque.{VecDeque}
-use Rattle.std.proofs.lemmas.Option.{slice_get_past}
+use Rattle.std.proofs.lemmas.Option.{slice_get_past, same_Some}
+use Rattle.sq_value.specs.declared.Tuple.{Tuple}
 use Rattle.sq_item.specs.declared.Item.{Item}
 use Rattle.sq_item.specs.Things.{Thing, spread, spread_all}
 use Rattle.sq_item.specs.Sound.{IsSound}
 use Rattle.sq_road.specs.Levels.{LevelTable, Agrees, level_of}
 use Rattle.sq_oper.specs.declared.outs.Event.{Event}
 use Rattle.sq_oper.specs.Given.{given, ThingsUpTo}
+use Rattle.sq_oper.specs.Entries.{Entry}
+use Rattle.sq_oper.specs.Streams.{things, IsSoundTuple}
+use Rattle.sq_sched.specs.Ready.{contains}
 use Rattle.sq_oper.proofs.GivenLemmas.{ThingsUpTo-later}
-use Rattle.sq_left.specs.Left.{Net, World, Facts, coming, known}
+use Rattle.sq_left.specs.Left.{Net, World, Facts, coming, inputs, known}
 use Rattle.sq_left.specs.Heads.{AllFine}
 use Rattle.sq_left.proofs.MergeLemmas.{eqb-yes, eqb-no, eqb-same, eqb-not}
 use Rattle.sq_left.proofs.Conserve.{Told, Kept}
@@ -20,16 +24,20 @@ use Rattle.sq_left.proofs.WorldSteps.{world-released}
 use Rattle.sq_queue.specs.declared.Queues.{Queues}
 use Rattle.sq_outside.specs.Disks.{Pages}
 use Rattle.sq_queue.specs.Faces.{face, size, items_on, Tells, Together}
-use Rattle.sq_flow.specs.Sends.{many, Pushes}
-use Rattle.sq_flow.proofs.WireLemmas.{one-sent}
+use Rattle.sq_flow.specs.Sends.{many, comes_from, Pushes}
+use Rattle.sq_flow.specs.Sources.{BeginsNotBefore, BeginsLeast, IsNextSource}
+use Rattle.sq_flow.specs.Readiness.{stands, TouchesOnly}
+use Rattle.sq_flow.proofs.TouchLemmas.{away-from, stands-pushed, stands-grows}
+use Rattle.sq_flow.proofs.SumLemmas.{sum-same}
+use Rattle.sq_flow.proofs.WireLemmas.{one-sent, comes-from}
 use Rattle.sq_flow.specs.declared.seats.Seat.{Seat}
 use Rattle.sq_flow.specs.declared.flow.Flow.{Flow}
 use Rattle.sq_flow.specs.Wiring.{net_of, arcs_from, times_in, from_of, sent}
 use Rattle.sq_flow.specs.Seats as seat
-use Rattle.sq_flow.specs.Seats.{Meaning, rest_at, done_at}
+use Rattle.sq_flow.specs.Seats.{Meaning, rest_at, done_at, holds_at, IsSeat}
 use Rattle.sq_flow.specs.Events.{bodies, lines_of}
-use Rattle.sq_flow.specs.Flows.{world_of, IsFlow, HoldsItems, Goes, Stepped, lines_left, Rises}
-use Rattle.sq_flow.proofs.SendLemmas.{at_or_other}
+use Rattle.sq_flow.specs.Flows.{world_of, IsFlow, HoldsItems, Goes, Stepped, lines_left, RiseFrom, to_release, tuples_at, sum_below, turns_at_last, count_all}
+use Rattle.sq_flow.proofs.SendLemmas.{at_or_other, apart-arcs}
 
 pub fine-later : (t u : ℕ) (its : List Item) → t ≤ u → AllFine t its → AllFine u its
 fine-later t u [] le h = tt
@@ -46,6 +54,11 @@ agrees-before l l' rows grows table h epoch drop low =
     h epoch drop (omega (arith, low, grows)) ∙ ap (λ r. level_of (record { epoch = 1; closed = 1; rows = r }) epoch drop) rows
 
 -- the replay stands behind the operators
+-- tuples that rise, from the first of them on
+pub rise-later : (from time : ℕ) (ts : List Tuple) → RiseFrom from ts → BeginsNotBefore time ts → RiseFrom time ts
+rise-later from time [] h le = tt
+rise-later from time (x ∷ ts) h le = (le, h.1, h.2)
+
 pub replay-open : {O : Type 0} (m : Meaning O) (valid : O → Type 0) (e : Flow O) → IsFlow m valid e → e.over ≡ false → done_at e.over (slice_get e.seats.items e.wires.replay) ≡ false
 replay-open m valid e flow open_now =
     let is = flow.shaped.replay_is in
@@ -53,17 +66,17 @@ replay-open m valid e flow open_now =
 
 -- a step of the replay that pushes what the source loses
 module _ {O : Type 0} (m : Meaning O) (valid : O → Type 0) (e : Flow O) (flow : IsFlow m valid e) (items items' : ℕ → List Item) (holds : HoldsItems m items e)
-    (over' : Bool) (queues' : Queues) (to_come' : VecDeque (ℕ × Item) Global) (clock' : ℕ) (levels' : LevelTable) (pushed : ℕ → ℕ → List Thing)
-    (source : (q : ℕ) → given q e.to_come.items ≡ pushed e.wires.replay q ++ given q to_come'.items)
+    (over' : Bool) (queues' : Queues) (sources' : Vec (VecDeque Tuple Global) Global) (clock' : ℕ) (levels' : LevelTable) (pushed : ℕ → ℕ → List Thing)
+    (source : (q : ℕ) → things (to_release e q) ≡ pushed e.wires.replay q ++ things (tuples_at (slice_get sources'.items q)))
     (quiet : (other : ℕ) → other ≢ e.wires.replay → (q : ℕ) → pushed other q ≡ [])
-    (ends : over' ≡ true → to_come'.items ≡ [])
+    (ends : over' ≡ true → (q : ℕ) → tuples_at (slice_get sources'.items q) ≡ [])
     (given_on : (k : ℕ) → k < length e.wires.arcs.items → spread_all (items' k) ≡ spread_all (items k) ++ pushed ((net_of e.wires).from k) ((net_of e.wires).port k))
     (rows : levels'.rows ≡ e.levels.rows) (grows : e.levels.closed ≤ levels'.closed) where
   abbrev net : Net
   net = net_of e.wires
 
   abbrev e' : Flow O
-  e' = record e { over = over'; queues = queues'; to_come = to_come'; clock = clock'; levels = levels' }
+  e' = record e { over = over'; queues = queues'; sources = sources'; clock = clock'; levels = levels' }
 
   abbrev was : (ℕ → ℕ → ℕ) → World
   was table = world_of m table items e
@@ -78,14 +91,14 @@ module _ {O : Type 0} (m : Meaning O) (valid : O → Type 0) (e : Flow O) (flow 
       by None n = absurd (n refl)
       by (Some s) n = refl
 
-  pub kept : (table : ℕ → ℕ → ℕ) → Agrees e.levels table → Kept net (was table) (is table) pushed (λ _. []) e.wires.order.items
+  pub kept : (table : ℕ → ℕ → ℕ) → Agrees e.levels table → Kept net (was table) (is table) pushed (λ _. []) (λ _. []) e.wires.order.items
   kept table agrees =
       world-released net (was table) (is table) pushed (λ _. []) e.wires.order.items flow.shaped.wired (holds.facts table agrees)
       (λ k within. sym (given_on k within))
       source
       (λ other ne k. record { rest = refl; decide = refl; lost = refl; taken = refl; place = refl; done = done-same other ne k })
       quiet (λ other ne. refl)
-      (λ d q. ap (given q) (ends (sym (ap (done_at over') (slice_get_past e.seats.items e.wires.replay behind)) ∙ d)))
+      (λ d q. ap things (ends (sym (ap (done_at over') (slice_get_past e.seats.items e.wires.replay behind)) ∙ d) q))
     where
       behind : length e.seats.items ≤ e.wires.replay
       behind = let r = flow.shaped.replay_is in omega (arith, r)
@@ -99,6 +112,14 @@ module _ {O : Type 0} (m : Meaning O) (valid : O → Type 0) (e : Flow O) (flow 
         facts = λ table agrees. (kept table (agrees-before e.levels levels' rows grows table agrees)).facts;
         queued = fine;
       }
+
+  turns-same : (table : ℕ → ℕ → ℕ) → Agrees e.levels table → turns_at_last m table items e ≡ turns_at_last m table items' e'
+  turns-same table agrees =
+      let k = kept table agrees in
+      let is_replay = flow.shaped.replay_is in
+      let sums = sum-same (λ other. length (inputs net (was table) e.wires.order.items other)) (λ other. length (inputs net (is table) e.wires.order.items other)) (length e.seats.items)
+      (λ other low. let away : other ≢ net.replay = omega (arith, is_replay, low) in ap (λ (l : List Entry). length l) (k.told other (flow.shaped.ordered other low) away).comes) in
+      ap (λ n. e.taken + n) sums
 
   pub goes-after : (events : List Event) → ((output : ℕ) → output < length e.seats.items → (q : ℕ) → pushed output q ≡ []) → (table : ℕ → ℕ → ℕ) → Agrees levels' table
       → Goes m table items items' e e' events events
@@ -117,6 +138,7 @@ module _ {O : Type 0} (m : Meaning O) (valid : O → Type 0) (e : Flow O) (flow 
             let r = flow.shaped.replay_is in
             let away : other ≢ net.replay = omega (arith, r, low) in
             (k.told other (flow.shaped.ordered other low) away).lost;
+        turns = turns-same table (agrees-before e.levels levels' rows grows table agrees);
       }
 
 own-sent : (replay port : ℕ) (xs : List Thing) (q : ℕ) → sent replay port xs replay q ≡ cond (eqb port q) xs []
@@ -130,63 +152,108 @@ module _ {O : Type 0} (m : Meaning O) (valid : O → Type 0) (e : Flow O) (flow 
   not-replay other low = let r = flow.shaped.replay_is in omega (arith, r, low)
 
   -- the whole of a release, from what its parts say
-  pub released-stepped : (was is : Option Pages) (q' : Queues) (to_come' : VecDeque (ℕ × Item) Global) (levels' : LevelTable) (port : ℕ) (item : Item) (events : List Event)
-      → Together e.queues was → e.to_come.items ≡ (port, item) ∷ to_come'.items
-      → (levels'.rows ≡ e.levels.rows) × (levels'.epoch ≡ e.levels.epoch) → e.levels.closed ≤ levels'.closed → item.time / levels'.epoch < levels'.closed
-      → Pushes e.queues q' was is (λ k. many (times_in k (arcs_from e.wires e.wires.replay port)) (spread item)) (λ time. item.time ≤ time)
-      → Stepped m valid was is e (record e { queues = q'; to_come = to_come'; clock = item.time; levels = levels' }) events events
-  released-stepped was is q' to_come' levels' port item events together source rows grows closed pushes =
-      record {
-        flow_after =
-            record {
-              shaped = flow.shaped;
-              lanes = pushes.lanes ∙ flow.lanes;
-              ended = λ arc low. pushes.ended arc ∙ flow.ended arc low;
-              seats = flow.seats;
-              few = flow.few;
-              held = λ table agrees actor q. ThingsUpTo-later e.clock item.time _ first.0 (flow.held table (agrees-before e.levels levels' rows.0 grows table agrees) actor q);
-              coming = first.2;
-              levels = (closed, first.1.tick);
-              over = λ o. absurd (cc (sym source ∙ flow.over o));
-            };
-        together = pushes.together;
-        tells = pushes.tells;
-        wires = refl;
-        seats = refl;
-        closes = agrees-before e.levels levels' rows.0 grows;
-        holds = λ told holds.
-            holds-after m valid e flow (items_on e.queues was) (items_on q' is) holds e.over q' to_come' item.time levels' (sent-by) given-there quiet ends (on told) rows.0 grows
-            (pushes.fine told item.time le-refl (λ k. fine-later e.clock item.time (items_on e.queues was k) first.0 (holds.queued k)));
-        goes = λ told holds table agrees.
-            goes-after m valid e flow (items_on e.queues was) (items_on q' is) holds e.over q' to_come' item.time levels' (sent-by) given-there quiet ends (on told) rows.0 grows
-            events (λ output low q. quiet output (not-replay output low) q) table agrees;
-      }
-    where
-      first : (e.clock ≤ item.time) × IsSound item × Rises item.time to_come'.items
-      first = subst (Rises e.clock) source flow.coming
+  module _ (sources' : Vec (VecDeque Tuple Global) Global) (port : ℕ) (x : Tuple) (more : VecDeque Tuple Global) (next : IsNextSource e.sources.items port)
+      (front : to_release e port ≡ x ∷ more.items) (is_after : slice_get sources'.items port ≡ Some more)
+      (apart : (other : ℕ) → other ≢ port → slice_get sources'.items other ≡ slice_get e.sources.items other) where
+    abbrev item : Item
+    item = record { time = x.time; mark = None; body = Some x.fields }
 
-      le-refl : item.time ≤ item.time
-      le-refl = omega arith
+    first : (e.clock ≤ x.time) × IsSoundTuple x × RiseFrom x.time more.items
+    first = subst (RiseFrom e.clock) front (flow.coming port)
 
-      sent-by : ℕ → ℕ → List Thing
-      sent-by = sent e.wires.replay port (spread item)
+    pub item-sound : IsSound item
+    item-sound = record { tick = first.1.0; some = refl; mark = tt; body = first.1.1 }
 
-      given-there : (q : ℕ) → given q e.to_come.items ≡ sent e.wires.replay port (spread item) e.wires.replay q ++ given q to_come'.items
-      given-there q = ap (given q) source ∙ ap (λ z. z ++ given q to_come'.items) (sym (own-sent e.wires.replay port (spread item) q))
+    coming-after : (source : ℕ) → RiseFrom x.time (tuples_at (slice_get sources'.items source))
+    coming-after = at_or_other (λ k. RiseFrom x.time (tuples_at (slice_get sources'.items k))) port (rw is_after first.2)
+        (λ k ne. subst (λ o. RiseFrom x.time (tuples_at o)) (sym (apart k ne)) (rise-later e.clock x.time (to_release e k) (flow.coming k) (least.0 k)))
+      where
+        least : BeginsLeast e.sources.items port (x ∷ more.items)
+        least = subst (BeginsLeast e.sources.items port) front next.least
 
-      quiet : (other : ℕ) → other ≢ e.wires.replay → (q : ℕ) → sent e.wires.replay port (spread item) other q ≡ []
-      quiet = not-sent e.wires.replay port (spread item)
+    -- as long as something is to be released the replay isn't over
+    pub replay-runs : e.over ≡ false
+    replay-runs = by e.over refl
+      where
+        by : (b : Bool) → e.over ≡ b → b ≡ false
+        by false h = refl
+        by true h = cc (sym front ∙ flow.over h port)
 
-      ends : e.over ≡ true → to_come'.items ≡ []
-      ends o = absurd (cc (sym source ∙ flow.over o))
+    pub released-stepped : (was is : Option Pages) (q' : Queues) (levels' : LevelTable) (events : List Event)
+        → Together e.queues was → length sources'.items ≡ length e.sources.items
+        → (levels'.rows ≡ e.levels.rows) × (levels'.epoch ≡ e.levels.epoch) → e.levels.closed ≤ levels'.closed → x.time / levels'.epoch < levels'.closed
+        → Pushes e.queues q' was is (λ k. many (times_in k (arcs_from e.wires e.wires.replay port)) (spread item)) (λ time. x.time ≤ time) (contains (arcs_from e.wires e.wires.replay port))
+        → Stepped m valid was is e (record e { queues = q'; sources = sources'; clock = x.time; levels = levels' }) events events
+    released-stepped was is q' levels' events together sources_len rows grows closed pushes =
+        record {
+          flow_after =
+              record {
+                shaped = flow.shaped;
+                lanes = pushes.lanes ∙ flow.lanes;
+                ended = λ arc low. pushes.ended arc ∙ flow.ended arc low;
+                seats = λ actor. subst (λ n. holds_at (IsSeat m valid ((net_of e.wires).takes actor) ((net_of e.wires).fits actor) n e.taken) (slice_get e.seats.items actor)) (sym rows.1) (flow.seats actor);
+                few = flow.few;
+                held = λ table agrees actor q. ThingsUpTo-later e.clock x.time _ first.0 (flow.held table (agrees-before e.levels levels' rows.0 grows table agrees) actor q);
+                coming = coming-after;
+                few_sources = rw sources_len flow.few_sources;
+                levels = (closed, first.1.0);
+                over = λ o. absurd (cc (replay-runs, o));
+              };
+          together = pushes.together;
+          tells = pushes.tells;
+          wires = refl;
+          seats = refl;
+          closes = agrees-before e.levels levels' rows.0 grows;
+          shows = λ h. h;
+          holds = λ told holds.
+              holds-after m valid e flow (items_on e.queues was) (items_on q' is) holds e.over q' sources' x.time levels' (sent-by) given-there quiet ends (on told) rows.0 grows
+              (pushes.fine told x.time le-refl (λ k. fine-later e.clock x.time (items_on e.queues was k) first.0 (holds.queued k)));
+          goes = λ told holds table agrees.
+              goes-after m valid e flow (items_on e.queues was) (items_on q' is) holds e.over q' sources' x.time levels' (sent-by) given-there quiet ends (on told) rows.0 grows
+              events (λ output low q. quiet output (not-replay output low) q) table agrees;
+        }
+      where
+        le-refl : x.time ≤ x.time
+        le-refl = omega arith
 
-      on : Tells was → (k : ℕ) → k < length e.wires.arcs.items
-          → spread_all (items_on q' is k) ≡ spread_all (items_on e.queues was k) ++ sent e.wires.replay port (spread item) ((net_of e.wires).from k) ((net_of e.wires).port k)
-      on told k low = pushes.items told k ∙ ap (λ z. spread_all (items_on e.queues was k) ++ z) (one-sent e.wires (length e.seats.items) flow.shaped e.wires.replay port k (spread item) low)
+        sent-by : ℕ → ℕ → List Thing
+        sent-by = sent e.wires.replay port (spread item)
+
+        given-there : (q : ℕ) → things (to_release e q) ≡ sent e.wires.replay port (spread item) e.wires.replay q ++ things (tuples_at (slice_get sources'.items q))
+        given-there q =
+            at_or_other (λ k. things (to_release e k) ≡ cond (eqb port k) (spread item) [] ++ things (tuples_at (slice_get sources'.items k))) port
+            (ap things front ∙ ap (λ o. spread item ++ things (tuples_at o)) (sym is_after)
+            ∙ ap (λ b. cond b (spread item) [] ++ things (tuples_at (slice_get sources'.items port))) (sym (eqb-same port port refl)))
+            (λ k ne. ap (λ o. things (tuples_at o)) (sym (apart k ne))
+            ∙ ap (λ b. cond b (spread item) [] ++ things (tuples_at (slice_get sources'.items k))) (sym (eqb-not port k (λ same. ne (sym same))))) q
+            ∙ ap (λ z. z ++ things (tuples_at (slice_get sources'.items q))) (sym (own-sent e.wires.replay port (spread item) q))
+
+        quiet : (other : ℕ) → other ≢ e.wires.replay → (q : ℕ) → sent e.wires.replay port (spread item) other q ≡ []
+        quiet = not-sent e.wires.replay port (spread item)
+
+        ends : e.over ≡ true → (q : ℕ) → tuples_at (slice_get sources'.items q) ≡ []
+        ends o = absurd (cc (replay-runs, o))
+
+        on : Tells was → (k : ℕ) → k < length e.wires.arcs.items
+            → spread_all (items_on q' is k) ≡ spread_all (items_on e.queues was k) ++ sent e.wires.replay port (spread item) ((net_of e.wires).from k) ((net_of e.wires).port k)
+        on told k low = pushes.items told k ∙ ap (λ z. spread_all (items_on e.queues was k) ++ z) (one-sent e.wires (length e.seats.items) flow.shaped e.wires.replay port k (spread item) low)
+
+    pub released-touches : (was is : Option Pages) (q' : Queues) (levels' : LevelTable) (sent_there : ℕ → List Thing) (upto : ℕ → Type 0)
+        → Pushes e.queues q' was is sent_there upto (contains (arcs_from e.wires e.wires.replay port))
+        → TouchesOnly (length e.seats.items) e (record e { queues = q'; sources = sources'; clock = x.time; levels = levels' })
+    released-touches was is q' levels' sent_there upto pushes =
+        record {
+          apart = λ arc low to from.
+              let r = flow.shaped.replay_is in
+              pushes.apart arc (apart-arcs e.wires e.wires.replay port arc (comes-from e.wires (length e.seats.items) flow.shaped e.wires.replay port arc)
+              (away-from e.wires e.wires.replay arc (λ same. from (same ∙ r))));
+          grows = λ arc low to h. stands-pushed e.queues q' was is sent_there upto (contains (arcs_from e.wires e.wires.replay port)) pushes arc h;
+          others = λ other low ne. refl;
+        }
 
   -- the whole of the end of the replay
   pub ended-stepped : (pages : Option Pages) (q' : Queues) (events : List Event)
-      → Together e.queues pages → e.to_come.items ≡ [] → size q' ≡ size e.queues
+      → Together e.queues pages → ((source : ℕ) → to_release e source ≡ []) → size q' ≡ size e.queues
       → ((k : ℕ) → k < length e.wires.arcs.items → (face q' k).ended ≡ ((face e.queues k).ended || eqb (from_of (slice_get e.wires.arcs.items k)) e.wires.replay))
       → ((pages : Option Pages) (k : ℕ) → items_on q' pages k ≡ items_on e.queues pages k)
       → ((pages : Option Pages) → Together e.queues pages → Together q' pages)
@@ -203,6 +270,7 @@ module _ {O : Type 0} (m : Meaning O) (valid : O → Type 0) (e : Flow O) (flow 
               few = flow.few;
               held = flow.held;
               coming = flow.coming;
+              few_sources = flow.few_sources;
               levels = flow.levels;
               over = λ o. none;
             };
@@ -211,11 +279,12 @@ module _ {O : Type 0} (m : Meaning O) (valid : O → Type 0) (e : Flow O) (flow 
         wires = refl;
         seats = refl;
         closes = λ table h. h;
+        shows = λ h. h;
         holds = λ told holds.
-            holds-after m valid e flow (items_on e.queues pages) (items_on q' pages) holds true q' e.to_come e.clock e.levels (λ _ _. []) (λ q. refl) (λ other ne q. refl) (λ o. none) (on)
+            holds-after m valid e flow (items_on e.queues pages) (items_on q' pages) holds true q' e.sources e.clock e.levels (λ _ _. []) (λ q. refl) (λ other ne q. refl) (λ o. none) (on)
             refl le-refl (λ k. subst (AllFine e.clock) (sym (same pages k)) (holds.queued k));
         goes = λ told holds table agrees.
-            goes-after m valid e flow (items_on e.queues pages) (items_on q' pages) holds true q' e.to_come e.clock e.levels (λ _ _. []) (λ q. refl) (λ other ne q. refl) (λ o. none) (on)
+            goes-after m valid e flow (items_on e.queues pages) (items_on q' pages) holds true q' e.sources e.clock e.levels (λ _ _. []) (λ q. refl) (λ other ne q. refl) (λ o. none) (on)
             refl le-refl events (λ output low q. refl) table agrees;
       }
     where
@@ -251,10 +320,32 @@ module _ {O : Type 0} (m : Meaning O) (valid : O → Type 0) (e : Flow O) (flow 
               let away : actor ≢ e.wires.replay = eqb-no actor e.wires.replay k in
               some (slice_get e.seats.items actor) (slice_get-not_none e.seats.items actor (omega (arith, r, away, low)))
 
--- as long as something is to be released the replay isn't over
-pub replay-runs : {O : Type 0} (m : Meaning O) (valid : O → Type 0) (e : Flow O) → IsFlow m valid e → (next : ℕ × Item) (more : VecDeque (ℕ × Item) Global) → e.to_come.items ≡ next ∷ more.items → e.over ≡ false
-replay-runs m valid e flow next more some = by e.over refl
+  pub ended-touches : (q' : Queues)
+      → ((k : ℕ) → k < length e.wires.arcs.items → (face q' k).ended ≡ ((face e.queues k).ended || eqb (from_of (slice_get e.wires.arcs.items k)) e.wires.replay))
+      → ((k : ℕ) → (face q' k).first ≡ (face e.queues k).first)
+      → ((k : ℕ) → comes_from e.wires e.wires.replay k ≡ false → face q' k ≡ face e.queues k)
+      → TouchesOnly (length e.seats.items) e (record e { over = true; queues = q' })
+  ended-touches q' ended first same =
+      record {
+        apart = λ arc low to from. let r = flow.shaped.replay_is in same arc (away-from e.wires e.wires.replay arc (λ is. from (is ∙ r)));
+        grows = λ arc low to h.
+            stands-grows (face e.queues arc) (face q' arc) (λ some. ap (λ (o : Option ℕ). is_some o) (first arc) ∙ some)
+            (λ over. ended arc low ∙ ap (λ b. b || eqb (from_of (slice_get e.wires.arcs.items arc)) e.wires.replay) over) h;
+        others = λ other low ne. by (slice_get e.seats.items other) (slice_get-not_none e.seats.items other (omega (arith, low, ne)));
+      }
+    where
+      by : (o : Option (Seat O)) → o ≢ None → done_at true o ≡ done_at e.over o
+      by None n = absurd (n refl)
+      by (Some s) n = refl
+
+-- a source of which one tuple was taken
+pub count-less : (sources : List (VecDeque Tuple Global)) (i : ℕ) (v v' : VecDeque Tuple Global) (x : Tuple) → slice_get sources i ≡ Some v → v.items ≡ x ∷ v'.items
+    → count_all (set sources i v') + 1 ≡ count_all sources
+count-less [] i v v' x is front = cc is
+count-less (s ∷ sources) zero v v' x is front =
+    let same : s ≡ v = same_Some s v is in
+    let one : length s.items ≡ length v'.items + 1 = ap (λ (d : VecDeque Tuple Global). length d.items) same ∙ ap (λ (l : List Tuple). length l) front ∙ add-one-of (length v'.items) in omega (arith, one)
   where
-    by : (b : Bool) → e.over ≡ b → b ≡ false
-    by false h = refl
-    by true h = absurd (cc (sym some ∙ flow.over h))
+    add-one-of : (n : ℕ) → suc n ≡ n + 1
+    add-one-of n = omega arith
+count-less (s ∷ sources) (suc i) v v' x is front = let r = count-less sources i v v' x is front in omega (arith, r)

@@ -1,7 +1,8 @@
 -- Pushes, one after another.
 use Rattle.std.proofs.Common.{◌≡◌, ◌≢◌, ℕ, zero, suc, ◌+◌, ◌<◌, ◌≤◌, eqb, cond, Bool, true, false, List, [], ◌∷◌, ◌++◌, length, get_or, take, Option, Some, None, refl, ap, sym, ◌∙◌, subst, append_assoc, append-nil, arith}
 use Rattle.std.specs.Prelude.{is_some, slice_get}
-use Rattle.std.proofs.Math.Seq.{take-suc}
+use Rattle.std.proofs.lemmas.Option.{slice_get_within, get_or_from_slice_get}
+use Rattle.std.proofs.lemmas.List.Folds.{list_any_at}
 use Rattle.sq_item.specs.declared.Item.{Item}
 use Rattle.sq_item.specs.Sound.{IsSound}
 use Rattle.sq_item.specs.Things.{Thing, spread, spread_all}
@@ -9,11 +10,12 @@ use Rattle.sq_outside.specs.Disks.{Pages}
 use Rattle.sq_oper.specs.Given.{given, ItemsSound}
 use Rattle.sq_left.specs.Heads.{AllFine}
 use Rattle.sq_left.proofs.MergeLemmas.{eqb-yes, eqb-no, eqb-same, eqb-not}
+use Rattle.sq_sched.specs.Ready.{contains}
 use Rattle.sq_queue.specs.declared.Queues.{Queues}
 use Rattle.sq_queue.specs.Faces.{Face, face, size, items_on, Tells, Together, pushed, first_or}
 use Rattle.sq_flow.specs.declared.wires.Wires.{Wires}
 use Rattle.sq_flow.specs.Wiring.{arcs_from, times_in, AllOutsFine, pushed_by}
-use Rattle.sq_flow.specs.Sends.{many, sent_to, Pushes}
+use Rattle.sq_flow.specs.Sends.{many, sent_to, comes_from, Pushes}
 
 pub spread_all-push : (xs : List Item) (i : Item) → spread_all (xs ++ i ∷ []) ≡ spread_all xs ++ spread i
 spread_all-push [] i = append-nil (spread i)
@@ -30,27 +32,30 @@ at_or_other P i here others j = by (eqb j i) refl
     by true e = subst P (sym (eqb-yes j i e)) here
     by false e = others j (eqb-no j i e)
 
-pub pushes-none : (q : Queues) (was : Option Pages) (more : ℕ → List Thing) (upto : ℕ → Type 0) → Together q was → ((arc : ℕ) → more arc ≡ []) → Pushes q q was was more upto
-pushes-none q was more upto together none =
+pub pushes-none : (q : Queues) (was : Option Pages) (more : ℕ → List Thing) (upto : ℕ → Type 0) (near : ℕ → Bool) → Together q was → ((arc : ℕ) → more arc ≡ []) → Pushes q q was was more upto near
+pushes-none q was more upto near together none =
     record {
       lanes = refl;
       tells = refl;
       together = together;
       ended = λ arc. refl;
       grows = λ arc h. h;
+      apart = λ arc h. refl;
       items = λ told arc. sym (append-nil (spread_all (items_on q was arc))) ∙ ap (λ z. spread_all (items_on q was arc) ++ z) (sym (none arc));
       fine = λ told time u f. f;
     }
 
-pub pushes-both : (q q1 q2 : Queues) (p p1 p2 : Option Pages) (m m1 m2 : ℕ → List Thing) (u u1 u2 : ℕ → Type 0) → Pushes q q1 p p1 m1 u1 → Pushes q1 q2 p1 p2 m2 u2
-    → ((time : ℕ) → u time → u1 time × u2 time) → ((arc : ℕ) → m arc ≡ m1 arc ++ m2 arc) → Pushes q q2 p p2 m u
-pushes-both q q1 q2 p p1 p2 m m1 m2 u u1 u2 a b both joins =
+pub pushes-both : (q q1 q2 : Queues) (p p1 p2 : Option Pages) (m m1 m2 : ℕ → List Thing) (u u1 u2 : ℕ → Type 0) (n n1 n2 : ℕ → Bool) → Pushes q q1 p p1 m1 u1 n1 → Pushes q1 q2 p1 p2 m2 u2 n2
+    → ((time : ℕ) → u time → u1 time × u2 time) → ((arc : ℕ) → m arc ≡ m1 arc ++ m2 arc)
+    → ((arc : ℕ) → n arc ≡ false → (n1 arc ≡ false) × (n2 arc ≡ false)) → Pushes q q2 p p2 m u n
+pushes-both q q1 q2 p p1 p2 m m1 m2 u u1 u2 n n1 n2 a b both joins far =
     record {
       lanes = b.lanes ∙ a.lanes;
       tells = b.tells ∙ a.tells;
       together = b.together;
       ended = λ arc. b.ended arc ∙ a.ended arc;
       grows = λ arc h. b.grows arc (a.grows arc h);
+      apart = λ arc h. b.apart arc (far arc h).1 ∙ a.apart arc (far arc h).0;
       items = λ told arc.
           b.items (a.tells ∙ told) arc
           ∙ ap (λ z. z ++ m2 arc) (a.items told arc)
@@ -68,7 +73,7 @@ pub pushes-one : (q q' : Queues) (p p' : Option Pages) (at : ℕ) (item : Item) 
     → face q' at ≡ pushed (face q at) item.time → ((other : ℕ) → other ≢ at → face q' other ≡ face q other) → size q' ≡ size q
     → (Tells p → items_on q' p' at ≡ items_on q p at ++ item ∷ []) → (Tells p → (other : ℕ) → other ≢ at → items_on q' p' other ≡ items_on q p other)
     → Together q' p' → is_some p' ≡ is_some p
-    → Pushes q q' p p' (λ arc. cond (eqb at arc) (spread item) []) (λ time. item.time ≤ time)
+    → Pushes q q' p p' (λ arc. cond (eqb at arc) (spread item) []) (λ time. item.time ≤ time) (λ arc. eqb at arc)
 pushes-one q q' p p' at item sound here others lanes items apart together tells =
     record {
       lanes = lanes;
@@ -78,6 +83,7 @@ pushes-one q q' p p' at item sound here others lanes items apart together tells 
       grows = at_or_other (λ arc. is_some (face q arc).first ≡ true → is_some (face q' arc).first ≡ true) at
           (λ h. ap (λ f. is_some f.first) here ∙ first-grows (face q at).first item.time)
           (λ arc ne h. ap (λ f. is_some f.first) (others arc ne) ∙ h);
+      apart = λ arc h. others arc (λ e. eqb-no at arc h (sym e));
       items = λ told. at_or_other (λ arc. spread_all (items_on q' p' arc) ≡ spread_all (items_on q p arc) ++ cond (eqb at arc) (spread item) []) at
           (ap spread_all (items told) ∙ spread_all-push (items_on q p at) item ∙ ap (λ b. spread_all (items_on q p at) ++ cond b (spread item) []) (sym (eqb-same at at refl)))
           (λ arc ne. ap spread_all (apart told arc ne) ∙ sym (append-nil (spread_all (items_on q p arc)))
@@ -105,12 +111,8 @@ times-append n [] x = omega arith
 times-append n (y ∷ xs) x = let r = times-append n xs x in omega (arith, r)
 
 -- one more arc of a list
-pub many-next : (arcs : List ℕ) (place at : ℕ) (xs : List Thing) → place < length arcs → at ≡ get_or arcs place at
-    → (arc : ℕ) → many (times_in arc (take (suc place) arcs)) xs ≡ many (times_in arc (take place arcs)) xs ++ cond (eqb at arc) xs []
-many-next arcs place at xs low is arc =
-    ap (λ l. many (times_in arc l) xs) (take-suc arcs place at low ∙ ap (λ z. take place arcs ++ z ∷ []) (sym is))
-    ∙ ap (λ n. many n xs) (times-append arc (take place arcs) at)
-    ∙ many-more (times_in arc (take place arcs)) (eqb at arc) xs
+pub many-next : (arcs : List ℕ) (at : ℕ) (xs : List Thing) (arc : ℕ) → many (times_in arc (arcs ++ at ∷ [])) xs ≡ many (times_in arc arcs) xs ++ cond (eqb at arc) xs []
+many-next arcs at xs arc = ap (λ n. many n xs) (times-append arc arcs at) ∙ many-more (times_in arc arcs) (eqb at arc) xs
 
 pub sent-append : (wires : Wires) (actor : ℕ) (outs : List (ℕ × Item)) (out : ℕ × Item) (arc : ℕ)
     → sent_to wires actor (outs ++ out ∷ []) arc ≡ sent_to wires actor outs arc ++ many (times_in arc (arcs_from wires actor out.0)) (spread out.1)
@@ -119,18 +121,56 @@ sent-append wires actor (o ∷ outs) out arc =
     ap (λ z. many (times_in arc (arcs_from wires actor o.0)) (spread o.1) ++ z) (sent-append wires actor outs out arc)
     ∙ sym (append_assoc (many (times_in arc (arcs_from wires actor o.0)) (spread o.1)) (sent_to wires actor outs arc) (many (times_in arc (arcs_from wires actor out.0)) (spread out.1)))
 
-pub sent-next : (wires : Wires) (actor : ℕ) (outs : List (ℕ × Item)) (index : ℕ) (out : ℕ × Item) → index < length outs → out ≡ get_or outs index out
-    → (arc : ℕ) → sent_to wires actor (take (suc index) outs) arc ≡ sent_to wires actor (take index outs) arc ++ many (times_in arc (arcs_from wires actor out.0)) (spread out.1)
-sent-next wires actor outs index out low is arc =
-    ap (λ l. sent_to wires actor l arc) (take-suc outs index out low ∙ ap (λ z. take index outs ++ z ∷ []) (sym is))
-    ∙ sent-append wires actor (take index outs) out arc
+pub outs-in : (time : ℕ) (first rest outs : List (ℕ × Item)) (out : ℕ × Item) → first ++ out ∷ rest ≡ outs → AllOutsFine time outs → out.1.time ≤ time
+outs-in time first rest outs out e h = by first (subst (AllOutsFine time) (sym e) h)
+  where
+    by : (xs : List (ℕ × Item)) → AllOutsFine time (xs ++ out ∷ rest) → out.1.time ≤ time
+    by [] h = h.0
+    by (x ∷ xs) h = by xs h.2
 
-pub outs-at : (time : ℕ) (outs : List (ℕ × Item)) (index : ℕ) (out : ℕ × Item) → index < length outs → out ≡ get_or outs index out → AllOutsFine time outs → out.1.time ≤ time
-outs-at time [] index out low is h = absurd (omega arith)
-outs-at time (o ∷ outs) zero out low is h = let e : o ≡ out = sym is in subst (λ z. z.1.time ≤ time) e h.0
-outs-at time (o ∷ outs) (suc index) out low is h = outs-at time outs index out (omega arith) is h.2
+pub sound-in : (first rest outs : List (ℕ × Item)) (out : ℕ × Item) → first ++ out ∷ rest ≡ outs → ItemsSound outs → IsSound out.1
+sound-in first rest outs out e h = by first (subst ItemsSound (sym e) h)
+  where
+    by : (xs : List (ℕ × Item)) → ItemsSound (xs ++ out ∷ rest) → IsSound out.1
+    by [] h = h.0
+    by (x ∷ xs) h = by xs h.1
 
-pub sound-at : (outs : List (ℕ × Item)) (index : ℕ) (out : ℕ × Item) → index < length outs → out ≡ get_or outs index out → ItemsSound outs → IsSound out.1
-sound-at [] index out low is h = absurd (omega arith)
-sound-at (o ∷ outs) zero out low is h = let e : o ≡ out = sym is in subst (λ z. IsSound z.1) e h.0
-sound-at (o ∷ outs) (suc index) out low is h = sound-at outs index out (omega arith) is h.1
+-- an arc that isn't among these isn't one of them
+pub not-in : (arcs : List ℕ) (at arc : ℕ) → contains arcs at ≡ true → contains arcs arc ≡ false → eqb at arc ≡ false
+not-in arcs at arc there away = eqb-not at arc (λ e. cc (ap (contains arcs) e))
+
+pub contains-get : (xs : List ℕ) (i x : ℕ) → slice_get xs i ≡ Some x → contains xs x ≡ true
+contains-get xs i x e =
+    let low = slice_get_within xs i x e in
+    list_any_at (λ y. eqb y x) xs i 0 low (ap (λ y. eqb y x) (get_or_from_slice_get xs i x 0 e) ∙ eqb-same x x refl)
+
+-- the arcs but the last, and the last
+pub at-front : (arcs front : List ℕ) (last i : ℕ) → arcs ≡ front ++ last ∷ [] → i < length front → slice_get arcs i ≡ Some (get_or front i 0)
+at-front arcs front last i e low = ap (λ l. slice_get l i) e ∙ by front i low
+  where
+    by : (xs : List ℕ) (i : ℕ) → i < length xs → slice_get (xs ++ last ∷ []) i ≡ Some (get_or xs i 0)
+    by [] i low = absurd (omega arith)
+    by (x ∷ xs) zero low = refl
+    by (x ∷ xs) (suc i) low = by xs i (omega arith)
+
+pub at-last : (arcs front : List ℕ) (last : ℕ) → arcs ≡ front ++ last ∷ [] → slice_get arcs (length front) ≡ Some last
+at-last arcs front last e = ap (λ l. slice_get l (length front)) e ∙ by front
+  where
+    by : (xs : List ℕ) → slice_get (xs ++ last ∷ []) (length xs) ≡ Some last
+    by [] = refl
+    by (x ∷ xs) = by xs
+
+-- an arc that comes from another actor isn't among those that come from a port of this one
+pub apart-arcs : (wires : Wires) (actor port arc : ℕ) → (contains (arcs_from wires actor port) arc ≡ true → comes_from wires actor arc ≡ true)
+    → comes_from wires actor arc ≡ false → contains (arcs_from wires actor port) arc ≡ false
+apart-arcs wires actor port arc joined away = by (contains (arcs_from wires actor port) arc) refl
+  where
+    by : (b : Bool) → contains (arcs_from wires actor port) arc ≡ b → b ≡ false
+    by true e = cc (joined e, away)
+    by false e = refl
+
+-- nothing goes anywhere from an actor that no arc comes from
+pub sent-none : (wires : Wires) (actor : ℕ) (outs : List (ℕ × Item)) → ((port : ℕ) → arcs_from wires actor port ≡ []) → (arc : ℕ) → sent_to wires actor outs arc ≡ []
+sent-none wires actor [] none arc = refl
+sent-none wires actor (out ∷ outs) none arc =
+    ap (λ l. many (times_in arc l) (spread out.1) ++ sent_to wires actor outs arc) (none out.0) ∙ sent-none wires actor outs none arc

@@ -1,38 +1,35 @@
 -- A flow that has released nothing yet.
-use Rattle.std.proofs.Common.{◌≡◌, ◌≢◌, ℕ, ◌+◌, ◌/◌, ◌<◌, ◌≤◌, ◌^◌, Bool, true, false, not, List, [], ◌∷◌, ◌++◌, length, Option, Some, None, refl, ap, sym, ◌∙◌, subst, arith}
+use Rattle.std.proofs.Common.{◌≡◌, ℕ, ◌/◌, ◌<◌, ◌^◌, Bool, false, not, List, [], length, Option, Some, None, refl, ap, sym, ◌∙◌, arith}
 use Rattle.std.specs.Prelude.{slice_get}
 use Rattle.sq_value.specs.declared.Value.{Value}
 use Rattle.sq_item.specs.declared.Item.{Item}
-use Rattle.sq_item.specs.Things.{Thing, spread_all}
-use Rattle.sq_road.specs.Levels.{Agrees}
 use Rattle.sq_oper.specs.declared.tally.Place.TheVariants.{Start}
 use Rattle.sq_oper.specs.Given.{ThingsUpTo}
-use Rattle.sq_left.specs.Left.{Net, World, Facts}
-use Rattle.sq_left.specs.Heads.{AllFine}
+use Rattle.sq_left.specs.Left.{Facts}
 use Rattle.sq_queue.specs.Faces.{face, size}
 use Rattle.sq_flow.specs.declared.seats.Seat.{Seat}
 use Rattle.sq_flow.specs.declared.flow.Flow.{Flow}
 use Rattle.sq_flow.specs.Wiring.{net_of, from_of, IsShaped}
 use Rattle.sq_flow.specs.Seats.{Meaning, rest_at, done_at, place_at, holds_at, IsSeat}
-use Rattle.sq_flow.specs.Flows.{world_of, IsFlow, HoldsItems, Rises}
+use Rattle.sq_flow.specs.Flows.{world_of, IsFlow, HoldsItems, RiseFrom, to_release}
 use Rattle.sq_flow.specs.Starts.{IsNewSeat}
 
 module _ {O : Type 0} (m : Meaning O) (valid : O → Type 0) (e : Flow O)
     (shaped : IsShaped e.wires (length e.seats.items)) (lanes : size e.queues ≡ length e.wires.arcs.items)
     (open_all : (arc : ℕ) → (face e.queues arc).ended ≡ false) (runs : e.over ≡ false)
-    (seats : (actor : ℕ) → holds_at (IsNewSeat m valid ((net_of e.wires).takes actor) ((net_of e.wires).fits actor)) (slice_get e.seats.items actor))
-    (rises : Rises 0 e.to_come.items) (clock : e.clock ≡ 0) (none_taken : e.taken ≡ 0) (closed : 0 < e.levels.closed) where
+    (seats : (actor : ℕ) → holds_at (IsNewSeat m valid ((net_of e.wires).takes actor) ((net_of e.wires).fits actor) e.levels.epoch) (slice_get e.seats.items actor))
+    (rises : (source : ℕ) → RiseFrom 0 (to_release e source)) (few : length e.sources.items < 2 ^ 32) (clock : e.clock ≡ 0) (none_taken : e.taken ≡ 0) (closed : 0 < e.levels.closed) where
   done-none : (actor : ℕ) → done_at e.over (slice_get e.seats.items actor) ≡ false
   done-none actor = by (slice_get e.seats.items actor) (seats actor)
     where
-      by : (o : Option (Seat O)) → holds_at (IsNewSeat m valid ((net_of e.wires).takes actor) ((net_of e.wires).fits actor)) o → done_at e.over o ≡ false
+      by : (o : Option (Seat O)) → holds_at (IsNewSeat m valid ((net_of e.wires).takes actor) ((net_of e.wires).fits actor) e.levels.epoch) o → done_at e.over o ≡ false
       by None h = runs
       by (Some s) h = ap not h.open_now
 
   pub place-start : (actor : ℕ) → place_at m (slice_get e.seats.items actor) ≡ Start
   place-start actor = by (slice_get e.seats.items actor) (seats actor)
     where
-      by : (o : Option (Seat O)) → holds_at (IsNewSeat m valid ((net_of e.wires).takes actor) ((net_of e.wires).fits actor)) o → place_at m o ≡ Start
+      by : (o : Option (Seat O)) → holds_at (IsNewSeat m valid ((net_of e.wires).takes actor) ((net_of e.wires).fits actor) e.levels.epoch) o → place_at m o ≡ Start
       by None h = refl
       by (Some s) h = h.place
 
@@ -45,7 +42,8 @@ module _ {O : Type 0} (m : Meaning O) (valid : O → Type 0) (e : Flow O)
         seats = λ actor. seat-of actor (slice_get e.seats.items actor) (seats actor);
         few = rw none_taken (omega arith);
         held = λ table agrees actor port. held-none table ((net_of e.wires).takes actor) ((net_of e.wires).fits actor) (slice_get e.seats.items actor) port (seats actor);
-        coming = rw clock rises;
+        coming = λ source. rw clock (rises source);
+        few_sources = few;
         levels = rw clock (first e.levels.epoch e.levels.closed closed, omega arith);
         over = λ o. absurd (cc (sym runs ∙ o));
       }
@@ -53,8 +51,8 @@ module _ {O : Type 0} (m : Meaning O) (valid : O → Type 0) (e : Flow O)
       first : (epoch closed : ℕ) → 0 < closed → 0 / epoch < closed
       first epoch closed h = grind arith
 
-      seat-of : (actor : ℕ) (o : Option (Seat O)) → holds_at (IsNewSeat m valid ((net_of e.wires).takes actor) ((net_of e.wires).fits actor)) o
-          → holds_at (IsSeat m valid ((net_of e.wires).takes actor) ((net_of e.wires).fits actor) e.taken) o
+      seat-of : (actor : ℕ) (o : Option (Seat O)) → holds_at (IsNewSeat m valid ((net_of e.wires).takes actor) ((net_of e.wires).fits actor) e.levels.epoch) o
+          → holds_at (IsSeat m valid ((net_of e.wires).takes actor) ((net_of e.wires).fits actor) e.levels.epoch e.taken) o
       seat-of actor None h = tt
       seat-of actor (Some s) h =
           record {
@@ -65,9 +63,10 @@ module _ {O : Type 0} (m : Meaning O) (valid : O → Type 0) (e : Flow O)
             few = (let z = h.none_counted in omega (arith, z));
             marks = h.marks;
             tuples = h.tuples;
+            reads = λ _. h.reads;
           }
 
-      held-none : (table : ℕ → ℕ → ℕ) (takes : ℕ → Bool) (fits : ℕ → List Value → Bool) (o : Option (Seat O)) (port : ℕ) → holds_at (IsNewSeat m valid takes fits) o → ThingsUpTo e.clock (rest_at m table o [] port)
+      held-none : (table : ℕ → ℕ → ℕ) (takes : ℕ → Bool) (fits : ℕ → List Value → Bool) (o : Option (Seat O)) (port : ℕ) → holds_at (IsNewSeat m valid takes fits e.levels.epoch) o → ThingsUpTo e.clock (rest_at m table o [] port)
       held-none table takes fits None port h = tt
       held-none table takes fits (Some s) port h = rw (h.holds_none table port) tt
 

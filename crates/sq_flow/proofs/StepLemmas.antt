@@ -1,5 +1,5 @@
 -- Steps, one after another.
-use Rattle.std.proofs.Common.{◌≡◌, ◌≢◌, ℕ, ◌+◌, ◌<◌, ◌≤◌, Bool, true, false, ◌||◌, List, [], ◌∷◌, ◌++◌, length, Option, Some, None, refl, ap, sym, ◌∙◌, subst, arith}
+use Rattle.std.proofs.Common.{◌≡◌, ◌≢◌, ℕ, ◌+◌, ◌-◌, ◌<◌, ◌≤◌, Bool, true, false, ◌||◌, List, [], ◌∷◌, ◌++◌, length, Option, Some, None, refl, ap, sym, ◌∙◌, subst, arith}
 use Rattle.std.specs.Prelude.{slice_get, is_some}
 use Rattle.std.proofs.lemmas.Option.{slice_get_within}
 use Rattle.sq_value.specs.Lists.{IsPrefixOf}
@@ -14,8 +14,10 @@ use Rattle.sq_flow.specs.declared.heads.Next.TheVariants.{Waits, Ended, Feed}
 use Rattle.sq_flow.specs.Wiring.{arcs_read}
 use Rattle.sq_flow.specs.Heads.{NextUpTo}
 use Rattle.sq_flow.specs.Seats.{Meaning}
-use Rattle.sq_flow.specs.Events.{lines_of}
-use Rattle.sq_flow.specs.Flows.{IsFlow, HoldsItems, Goes, Stepped, ShowsPrefix, NoneStrange, items_in, lines_left}
+use Rattle.sq_flow.specs.Events.{lines_of, ShowsBelow}
+use Rattle.sq_flow.specs.Flows.{IsFlow, HoldsItems, Goes, Stepped, ShowsPrefix, NoneStrange, CostsFed, CostsAtMost, TooMuchOnly, items_in, lines_left, fed_at_last, sum_below, taken_in_all, work_at_last}
+use Rattle.sq_flow.specs.declared.errors.RunErr.TheVariants.{TooMuch}
+use Rattle.sq_flow.proofs.SumLemmas.{sum-same}
 use Rattle.sq_flow.specs.Readiness.{IsReady}
 
 module _ {O : Type 0} (m : Meaning O) (valid : O → Type 0) where
@@ -29,11 +31,15 @@ module _ {O : Type 0} (m : Meaning O) (valid : O → Type 0) where
         wires = refl;
         seats = refl;
         closes = λ table h. h;
+        shows = λ h. h;
         holds = λ told h. h;
-        goes = λ told h table agrees. record { lines = λ output low. refl; fed = λ actor low. refl; lost = λ actor low. refl };
+        goes = λ told h table agrees. record { lines = λ output low. refl; fed = λ actor low. refl; lost = λ actor low. refl; turns = refl };
       }
 
   module _ (p p1 : Option Pages) (f f1 : Flow O) (e e1 : List Event) (first : Stepped m valid p p1 f f1 e e1) where
+    outputs-same : length f1.seats.items - f1.wires.shown ≡ length f.seats.items - f.wires.shown
+    outputs-same = rw (first.seats, ap (λ (w : Wires). w.shown) first.wires) refl
+
     low-after : (output : ℕ) → f.wires.shown + output < length f.seats.items → f1.wires.shown + output < length f1.seats.items
     low-after output low = rw (first.seats, ap (λ (w : Wires). w.shown) first.wires) low
 
@@ -46,6 +52,7 @@ module _ {O : Type 0} (m : Meaning O) (valid : O → Type 0) where
           wires = second.wires ∙ first.wires;
           seats = second.seats ∙ first.seats;
           closes = λ table h. first.closes table (second.closes table h);
+          shows = λ h. subst (λ n. ShowsBelow n e1 e2) outputs-same second.shows (first.shows h);
           holds = λ told h. second.holds (first.tells ∙ told) (first.holds told h);
           goes = λ told h table agrees.
               let a = first.goes told h table (second.closes table agrees) in
@@ -54,6 +61,7 @@ module _ {O : Type 0} (m : Meaning O) (valid : O → Type 0) where
                 lines = λ output low. a.lines output low ∙ b.lines output (low-after output low);
                 fed = λ actor low. a.fed actor low ∙ b.fed actor (rw first.seats low);
                 lost = λ actor low. a.lost actor low ∙ b.lost actor (rw first.seats low);
+                turns = a.turns ∙ b.turns;
               };
         }
 
@@ -63,8 +71,40 @@ module _ {O : Type 0} (m : Meaning O) (valid : O → Type 0) where
         let a = first.goes told h table (closes table agrees) in
         rw (a.lines output low) (pre (first.tells ∙ told) (first.holds told h) table agrees output (low-after output low))
 
+    -- as much work is left in all as before
+    work-same : Tells p → HoldsItems m (items_in f p) f → (table : ℕ → ℕ → ℕ) → Agrees f1.levels table
+        → work_at_last m table (items_in f p) f ≡ work_at_last m table (items_in f1 p1) f1
+    work-same told h table agrees =
+        sum-same (fed_at_last m table (items_in f p) f) (fed_at_last m table (items_in f1 p1) f1) (length f.seats.items) ((first.goes told h table agrees).fed)
+        ∙ ap (sum_below (fed_at_last m table (items_in f1 p1) f1)) (sym first.seats)
+
+    pub costs-after : (f2 : Flow O) (before mid after : ℕ) → CostsFed m f f1 before mid → CostsFed m f1 f2 mid after → CostsFed m f f2 before after
+    costs-after f2 before mid after a b = omega (arith, a, b)
+
+    pub costs-most-after : (levels : LevelTable) (before mid after : ℕ) → ((table : ℕ → ℕ → ℕ) → Agrees levels table → Agrees f1.levels table)
+        → CostsFed m f f1 before mid → CostsAtMost m p1 f1 levels mid after → CostsAtMost m p f levels before after
+    costs-most-after levels before mid after closes a b = λ told h table agrees.
+        let same = work-same told h table (closes table agrees) in
+        let most = b (first.tells ∙ told) (first.holds told h) table agrees in
+        omega (arith, a, same, most)
+
+    pub too-much-after : (f2 : Flow O) (e2 : RunErr) → ((table : ℕ → ℕ → ℕ) → Agrees f2.levels table → Agrees f1.levels table) → TooMuchOnly m p1 f1 f2 e2 → TooMuchOnly m p f f2 e2
+    too-much-after f2 e2 closes only =
+        record {
+          counted = only.counted;
+          turns = λ is told h table agrees. rw ((first.goes told h table (closes table agrees)).turns) (only.turns is (first.tells ∙ told) (first.holds told h) table agrees);
+        }
+
     pub none-strange-after : (e2 : RunErr) → NoneStrange m p1 f1 e2 → NoneStrange m p f e2
     none-strange-after e2 none = λ told h. none (first.tells ∙ told) (first.holds told h)
+
+-- nothing was too much
+pub too-much-not : {O : Type 0} (m : Meaning O) (was : Option Pages) (f f' : Flow O) (e : RunErr) → e ≢ TooMuch → TooMuchOnly m was f f' e
+too-much-not m was f f' e ne = record { counted = λ is. absurd (ne is); turns = λ is told h table agrees. absurd (ne is) }
+
+-- where nothing was fed
+pub costs-same : {O : Type 0} (m : Meaning O) (f f' : Flow O) (before after : ℕ) → taken_in_all m f' ≡ taken_in_all m f → after ≡ before → CostsFed m f f' before after
+costs-same m f f' before after taken same = omega (arith, taken, same)
 
 -- an operator that waits for an arc isn't ready
 pub waits-not-ready : {O : Type 0} (f : Flow O) (actor : ℕ)

@@ -1,5 +1,5 @@
 -- What goes to arcs, by the streams that they come from.
-use Rattle.std.proofs.Common.{◌≡◌, ◌≢◌, ℕ, zero, suc, ◌+◌, ◌<◌, ◌≤◌, eqb, cond, Bool, true, false, List, [], ◌∷◌, ◌++◌, length, Option, Some, None, refl, ap, sym, ◌∙◌, append_assoc, append-nil, arith, subst}
+use Rattle.std.proofs.Common.{◌≡◌, ◌≢◌, ℕ, zero, suc, ◌+◌, ◌<◌, ◌≤◌, eqb, cond, Bool, true, false, ◌||◌, List, [], ◌∷◌, ◌++◌, length, Option, Some, None, refl, ap, sym, ◌∙◌, append_assoc, append-nil, arith, subst}
 use Rattle.std.specs.Prelude.{slice_get}
 use Rattle.std.proofs.lemmas.Option.{same_Some}
 use Rattle.sq_item.specs.declared.Item.{Item}
@@ -11,7 +11,8 @@ use Rattle.sq_flow.specs.declared.wires.Wires.{Wires}
 use Rattle.sq_flow.specs.declared.flow.Flow.{Flow}
 use Rattle.sq_flow.specs.Wiring.{arcs_from, times_in, from_of, port_of, sent, pushed_by, IsShaped}
 use Rattle.sq_flow.specs.Seats.{Meaning, done_at}
-use Rattle.sq_flow.specs.Sends.{many, sent_to}
+use Rattle.sq_flow.specs.Sends.{many, sent_to, comes_from}
+use Rattle.sq_sched.specs.Ready.{contains}
 use Rattle.sq_flow.specs.Flows.{IsFlow}
 
 times-some : (xs : List ℕ) (place x : ℕ) → slice_get xs place ≡ Some x → times_in x xs ≢ 0
@@ -21,6 +22,14 @@ times-some (y ∷ xs) zero x is = λ h.
     let one : ◌≡◌ {A = ℕ} (cond (eqb y x) 1 0) 1 = ap (λ b. cond b 1 0) (eqb-same y x same) in
     omega (arith, one, h)
 times-some (y ∷ xs) (suc place) x is = λ h. let r = times-some xs place x is in r (omega (arith, h))
+
+contains-place : (xs : List ℕ) (x : ℕ) → contains xs x ≡ true → (place : ℕ) × (slice_get xs place ≡ Some x)
+contains-place [] x h = cc h
+contains-place (y ∷ xs) x h = by (contains-place xs x) (eqb y x) refl h
+  where
+    by : (contains xs x ≡ true → (place : ℕ) × (slice_get xs place ≡ Some x)) → (b : Bool) → eqb y x ≡ b → (b || contains xs x) ≡ true → (place : ℕ) × (slice_get (y ∷ xs) place ≡ Some x)
+    by later true e k = (0, ap Some (eqb-yes y x e))
+    by later false e k = let r = later k in (suc r.0, r.1)
 
 many-sent : (n : ℕ) (b c : Bool) (xs : List Thing) → n ≡ cond b (cond c 1 0) 0 → many n xs ≡ cond b (cond c xs []) []
 many-sent n true true xs e = rw e (append-nil xs)
@@ -41,6 +50,11 @@ module _ (wires : Wires) (ops : ℕ) (shaped : IsShaped wires ops) where
           → actor ≡ from_of (slice_get wires.arcs.items arc)
       by true e h = eqb-yes actor (from_of (slice_get wires.arcs.items arc)) e
       by false e h = absurd (times-some (arcs_from wires actor port) place arc is h)
+
+  pub comes-from : (actor port arc : ℕ) → contains (arcs_from wires actor port) arc ≡ true → comes_from wires actor arc ≡ true
+  comes-from actor port arc there =
+      let at = contains-place (arcs_from wires actor port) arc there in
+      eqb-same (from_of (slice_get wires.arcs.items arc)) actor (sym (reads-from actor port at.0 arc at.1).1)
 
   pub one-sent : (actor port arc : ℕ) (xs : List Thing) → arc < length wires.arcs.items
       → many (times_in arc (arcs_from wires actor port)) xs ≡ sent actor port xs (from_of (slice_get wires.arcs.items arc)) (port_of (slice_get wires.arcs.items arc))

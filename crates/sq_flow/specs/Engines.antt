@@ -1,11 +1,13 @@
 -- An engine: a flow whose ready actors are listed.
-use Rattle.std.specs.Prelude.{◌≡◌, ℕ, ◌+◌, ◌-◌, ◌≤◌, ◌==◌, Bool, true, false, List, length, slice_get, if◌then◌else◌}
-use Rattle.sq_sched.specs.Ready.{contains, AreActors}
+use Rattle.std.specs.Prelude.{◌≡◌, ℕ, ◌+◌, ◌-◌, ◌≤◌, ◌==◌, ◌&&◌, Bool, true, false, not, List, [], ◌∷◌, ◌++◌, map, length, slice_get, slice_index, if◌then◌else◌}
+use Rattle.std.specs.List.{filter, range_with_len}
+use Rattle.sq_sched.specs.Ready.{contains, without, AreActors, OnlyOnce}
 use Rattle.sq_flow.specs.declared.flow.Flow.{Flow}
 use Rattle.sq_flow.specs.declared.engine.Engine.{Engine}
+use Rattle.sq_flow.specs.Wiring.{followers_of}
 use Rattle.sq_flow.specs.Seats.{Meaning, done_at}
 use Rattle.sq_flow.specs.Flows.{IsFlow}
-use Rattle.sq_flow.specs.Readiness.{IsReady}
+use Rattle.sq_flow.specs.Readiness.{IsReady, is_ready, waiting}
 
 -- an actor's place in the flow: the replay, which is actor 0, stands behind the operators
 abbrev pub place_in : ℕ → ℕ → ℕ
@@ -16,27 +18,48 @@ pub record ExactFor {O : Type 0} (flow : Flow O) (list : List ℕ) (actor : ℕ)
   pub listed : contains list actor ≡ true → IsReady flow (place_in (length flow.seats.items) actor)
   pub ready : IsReady flow (place_in (length flow.seats.items) actor) → contains list actor ≡ true
 
--- which actors are ready now and weren't listed before, so many of them in all
-abbrev pub newly_from : {O : Type 0} → Flow O → List ℕ → ℕ → ℕ → List ℕ
-newly_from flow before actor zero = []
-newly_from flow before actor (suc more) =
-    if is_ready flow (place_in (length flow.seats.items) actor) && not (contains before actor)
-    then actor ∷ newly_from flow before (suc actor) more
-    else newly_from flow before (suc actor) more
+-- an actor is ready and isn't listed
+abbrev pub is_new : {O : Type 0} → Flow O → List ℕ → ℕ → Bool
+is_new flow list actor = is_ready flow (place_in (length flow.seats.items) actor) && not (contains list actor)
+
+-- of all actors those that are ready and weren't listed before, ascending
+abbrev pub newly_ready : {O : Type 0} → Flow O → List ℕ → List ℕ
+newly_ready flow before = filter (is_new flow before) (range_with_len 0 (length flow.seats.items + 1))
 
 -- the list after a step of an actor: without it, then the actor if it is still ready, then those that became ready, ascending
 abbrev pub listed_after : {O : Type 0} → Flow O → List ℕ → ℕ → List ℕ
 listed_after flow before actor =
-    without actor before ++ (if is_ready flow (place_in (length flow.seats.items) actor) then actor ∷ [] else []) ++ newly_from flow before 0 (length flow.seats.items + 1)
+    without actor before ++ (if is_ready flow (place_in (length flow.seats.items) actor) then actor ∷ [] else []) ++ newly_ready flow before
+
+-- the actors that read from the one at a place
+abbrev pub readers_of : {O : Type 0} → Flow O → ℕ → List ℕ
+readers_of flow place = map (λ operator. operator + 1) (followers_of flow.wires place)
+
+-- what a look at some actors does: those that are ready and weren't listed are listed last, in their order, and how many items
+-- wait for each is counted; nothing else changes
+pub record Looked {O : Type 0} (seen : List ℕ) (engine engine' : Engine O) : Type 0 where
+  pub flow : engine'.flow ≡ engine.flow
+  pub outs : engine'.outs ≡ engine.outs
+  pub failed : engine'.failed ≡ engine.failed
+  pub actors : engine'.ready.actors ≡ engine.ready.actors
+  pub list : engine'.ready.list ≡ engine.ready.list ++ filter (is_new engine.flow engine.ready.list) seen
+  pub waits : (actor : ℕ) → slice_index engine'.waits.items actor
+      ≡ (if contains seen actor then waiting engine.flow (place_in (length engine.flow.seats.items) actor) else slice_index engine.waits.items actor)
+  pub waits_len : length engine'.waits.items ≡ length engine.waits.items
+
+-- there is room for each actor of the flow
+pub record HasRoom {O : Type 0} (engine : Engine O) : Type 0 where
+  pub actors : engine.ready.actors ≡ length engine.flow.seats.items + 1
+  pub waits : length engine.waits.items ≡ length engine.flow.seats.items + 1
 
 pub record IsEngine {O : Type 0} (m : Meaning O) (valid : O → Type 0) (engine : Engine O) : Type 0 where
   pub flow : IsFlow m valid engine.flow
-  pub actors : engine.ready.actors ≡ length engine.flow.seats.items + 1
+  pub room : HasRoom engine
   pub exact : (actor : ℕ) → actor ≤ length engine.flow.seats.items → ExactFor engine.flow engine.ready.list actor
+  pub below : AreActors engine.ready.actors engine.ready.list
   pub once : OnlyOnce engine.ready.list
   pub waits : (actor : ℕ) → actor ≤ length engine.flow.seats.items
-      → slice_get engine.waits.items actor ≡ Some (waiting engine.flow (place_in (length engine.flow.seats.items) actor))
-  pub waits_len : length engine.waits.items ≡ length engine.flow.seats.items + 1
+      → slice_index engine.waits.items actor ≡ waiting engine.flow (place_in (length engine.flow.seats.items) actor)
   pub none : (engine.outs.items.items ≡ []) × (engine.outs.drops.items ≡ [])
   pub running : engine.failed ≡ false
 

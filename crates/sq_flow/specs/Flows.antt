@@ -24,7 +24,7 @@ use Rattle.sq_flow.specs.declared.flow.Did.TheVariants.{Waits, Fed, Finished}
 use Rattle.sq_flow.specs.Takes.{NotStrange}
 use Rattle.sq_flow.specs.Wiring.{net_of, from_of, IsShaped}
 use Rattle.sq_flow.specs.Seats.{Meaning, rest_at, decides_at, lost_at, taken_at, place_at, done_at, holds_at, IsSeat}
-use Rattle.sq_flow.specs.Events.{bodies, lines_of}
+use Rattle.sq_flow.specs.Events.{bodies, lines_of, ShowsBelow}
 
 abbrev pub tuples_at : Option (VecDeque Tuple Global) → List Tuple
 tuples_at None = []
@@ -62,7 +62,7 @@ pub record IsFlow {O : Type 0} (m : Meaning O) (valid : O → Type 0) (flow : Fl
   pub lanes : size flow.queues ≡ length flow.wires.arcs.items
   pub ended : (arc : ℕ) → arc < length flow.wires.arcs.items
       → (face flow.queues arc).ended ≡ done_at flow.over (slice_get flow.seats.items (from_of (slice_get flow.wires.arcs.items arc)))
-  pub seats : (actor : ℕ) → holds_at (IsSeat m valid ((net_of flow.wires).takes actor) ((net_of flow.wires).fits actor) flow.taken) (slice_get flow.seats.items actor)
+  pub seats : (actor : ℕ) → holds_at (IsSeat m valid ((net_of flow.wires).takes actor) ((net_of flow.wires).fits actor) flow.levels.epoch flow.taken) (slice_get flow.seats.items actor)
   pub few : flow.taken < 2 ^ 62
   pub held : (table : ℕ → ℕ → ℕ) → Agrees flow.levels table → (actor port : ℕ) → ThingsUpTo flow.clock (rest_at m table (slice_get flow.seats.items actor) [] port)
   pub coming : (source : ℕ) → RiseFrom flow.clock (to_release flow source)
@@ -130,6 +130,7 @@ pub record Stepped {O : Type 0} (m : Meaning O) (valid : O → Type 0) (was is :
   pub wires : flow'.wires ≡ flow.wires
   pub seats : length flow'.seats.items ≡ length flow.seats.items
   pub closes : (table : ℕ → ℕ → ℕ) → Agrees flow'.levels table → Agrees flow.levels table
+  pub shows : ShowsBelow (length flow.seats.items - flow.wires.shown) events events'
   pub holds : Tells was → HoldsItems m (items_in flow was) flow → HoldsItems m (items_in flow' is) flow'
   pub goes : Tells was → HoldsItems m (items_in flow was) flow → (table : ℕ → ℕ → ℕ) → Agrees flow'.levels table
       → Goes m table (items_in flow was) (items_in flow' is) flow flow' events events'

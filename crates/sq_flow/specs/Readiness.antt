@@ -1,10 +1,11 @@
 -- Which actors are ready.
-use Rattle.std.specs.Prelude.{◌≡◌, ℕ, ◌+◌, ◌≤◌, ◌||◌, Bool, true, false, Some, is_some, slice_get, if◌then◌else◌}
+use Rattle.std.specs.Prelude.{◌≡◌, ◌≢◌, ℕ, ◌+◌, ◌-◌, ◌^◌, ◌<◌, ◌≤◌, ◌&&◌, ◌||◌, Bool, true, false, not, List, length, map, min, sum, Some, is_some, slice_get, if◌then◌else◌}
+use Rattle.std.specs.List.{list_all}
 use Rattle.sq_queue.specs.Faces.{Face, face}
 use Rattle.sq_flow.specs.declared.flow.Flow.{Flow}
 use Rattle.sq_flow.specs.declared.flow.Did.{Did}
 use Rattle.sq_flow.specs.declared.flow.Did.TheVariants.{Waits, Fed, Finished}
-use Rattle.sq_flow.specs.Wiring.{arcs_read}
+use Rattle.sq_flow.specs.Wiring.{arcs_read, from_of, to_of}
 use Rattle.sq_flow.specs.Seats.{done_at}
 
 -- an item stands first on the arc, or the arc has ended
@@ -27,7 +28,7 @@ pub record TouchesOnly {O : Type 0} (actor : ℕ) (flow flow' : Flow O) : Type 0
       → from_of (slice_get flow.wires.arcs.items arc) ≢ actor → face flow'.queues arc ≡ face flow.queues arc
   pub grows : (arc : ℕ) → arc < length flow.wires.arcs.items → to_of (slice_get flow.wires.arcs.items arc) ≢ actor
       → stands (face flow.queues arc) ≡ true → stands (face flow'.queues arc) ≡ true
-  pub others : (other : ℕ) → other ≢ actor
+  pub others : (other : ℕ) → other ≤ length flow.seats.items → other ≢ actor
       → done_at flow'.over (slice_get flow'.seats.items other) ≡ done_at flow.over (slice_get flow.seats.items other)
 
 -- how many items wait for an actor, as far as a u64 counts

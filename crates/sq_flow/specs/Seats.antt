@@ -22,6 +22,7 @@ pub record Meaning (O : Type 0) : Type 0 where
   pub running : O → Bool
   pub takes_marks : O → ℕ → Bool
   pub fits : O → ℕ → List Value → Bool
+  pub reads : O → ℕ → Bool
 
 -- what the operator in a seat says, and a default where there is none
 abbrev pub rest_at : {O : Type 0} → Meaning O → (ℕ → ℕ → ℕ) → Option (Seat O) → List Entry → ℕ → List Thing
@@ -53,8 +54,9 @@ abbrev pub holds_at : {O : Type 0} → (Seat O → Type 0) → Option (Seat O) �
 holds_at P None = Unit {0}
 holds_at P (Some seat) = P seat
 
--- the operator is in a valid state, the tally is its own, and what comes on its arcs may come to it
-pub record IsSeat {O : Type 0} (m : Meaning O) (valid : O → Type 0) (takes : ℕ → Bool) (fits : ℕ → List Value → Bool) (taken : ℕ) (seat : Seat O) : Type 0 where
+-- the operator is in a valid state, the tally is its own, what comes on its arcs may come to it, and as long as it isn't finished
+-- levels of epochs of so many ticks may be read
+pub record IsSeat {O : Type 0} (m : Meaning O) (valid : O → Type 0) (takes : ℕ → Bool) (fits : ℕ → List Value → Bool) (epoch taken : ℕ) (seat : Seat O) : Type 0 where
   pub is_valid : valid seat.op
   pub running : m.running seat.op ≡ seat.tally.running
   pub place : m.place seat.op ≡ seat.tally.place
@@ -62,6 +64,7 @@ pub record IsSeat {O : Type 0} (m : Meaning O) (valid : O → Type 0) (takes : �
   pub few : seat.tally.taken ≤ taken
   pub marks : (port : ℕ) → takes port ≡ true → m.takes_marks seat.op port ≡ true
   pub tuples : (port : ℕ) (fields : List Value) → fits port fields ≡ true → m.fits seat.op port fields ≡ true
+  pub reads : seat.tally.running ≡ true → m.reads seat.op epoch ≡ true
 
 -- what a feed does to a seat: it gives these items and drops these batches
 pub record FedSeat {O : Type 0} (m : Meaning O) (valid : O → Type 0) (levels : LevelTable) (port : ℕ) (item : Item) (outs : List (ℕ × Item)) (drops : List Decision)
@@ -81,6 +84,7 @@ pub record FedSeat {O : Type 0} (m : Meaning O) (valid : O → Type 0) (levels :
   pub running : m.running seat'.op ≡ true
   pub marks : m.takes_marks seat'.op ≡ m.takes_marks seat.op
   pub fits : m.fits seat'.op ≡ m.fits seat.op
+  pub reads : m.reads seat'.op ≡ m.reads seat.op
   pub place : seat'.tally.place ≡ after_all seat.tally.place (entries port item)
   pub taken : seat'.tally.taken ≡ seat.tally.taken + (if is_some item.body then 1 else 0)
   pub open_still : seat'.tally.running ≡ seat.tally.running

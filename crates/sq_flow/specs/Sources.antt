@@ -10,11 +10,17 @@ abbrev pub BeginsNotBefore : ℕ → List Tuple → Type 0
 BeginsNotBefore time [] = Unit {0}
 BeginsNotBefore time (x ∷ xs) = time ≤ x.time
 
-abbrev pub BeginsLeast : List (VecDeque Tuple Global) → List Tuple → Type 0
-BeginsLeast sources [] = ⊥
-BeginsLeast sources (x ∷ xs) = (other : ℕ) → BeginsNotBefore x.time (tuples_at (slice_get sources other))
+abbrev pub BeginsAfter : ℕ → List Tuple → Type 0
+BeginsAfter time [] = Unit {0}
+BeginsAfter time (x ∷ xs) = time < x.time
 
--- a source that has a tuple left, of which none has a lesser time
+-- the list begins, and no source of these begins before it; those of a lesser number begin after it
+abbrev pub BeginsLeast : List (VecDeque Tuple Global) → ℕ → List Tuple → Type 0
+BeginsLeast sources source [] = ⊥
+BeginsLeast sources source (x ∷ xs) =
+    ((other : ℕ) → BeginsNotBefore x.time (tuples_at (slice_get sources other))) × ((other : ℕ) → other < source → BeginsAfter x.time (tuples_at (slice_get sources other)))
+
+-- the source that has the tuple of the least time left, and of these the one of the least number
 pub record IsNextSource (sources : List (VecDeque Tuple Global)) (source : ℕ) : Type 0 where
   pub there : source < length sources
-  pub least : BeginsLeast sources (tuples_at (slice_get sources source))
+  pub least : BeginsLeast sources source (tuples_at (slice_get sources source))

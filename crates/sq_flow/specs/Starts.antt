@@ -1,5 +1,5 @@
 -- Seats to which nothing was fed.
-use Rattle.std.specs.Prelude.{◌≡◌, ℕ, Bool, true, false, List, [], Option, Vec}
+use Rattle.std.specs.Prelude.{◌≡◌, ℕ, Bool, true, false, List, [], Option, None, Vec}
 use Rattle.sq_value.specs.declared.Value.{Value}
 use Rattle.sq_oper.specs.declared.tally.Place.TheVariants.{Start}
 use Rattle.std.specs.declared.alloc.Global.{Global}
@@ -7,14 +7,14 @@ use Rattle.std.specs.declared.collections.VecDeque.{VecDeque}
 use Rattle.sq_value.specs.declared.Tuple.{Tuple}
 use Rattle.sq_outside.specs.Disks.{Pages}
 use Rattle.sq_road.specs.Levels.{LevelTable}
-use Rattle.sq_queue.specs.Faces.{items_on, Together}
+use Rattle.sq_queue.specs.Faces.{face, items_on, Together}
 use Rattle.sq_flow.specs.declared.wires.Wires.{Wires}
 use Rattle.sq_flow.specs.declared.flow.Flow.{Flow}
 use Rattle.sq_flow.specs.declared.seats.Seat.{Seat}
 use Rattle.sq_flow.specs.Seats.{Meaning}
 
--- the operator is new, and what comes on its arcs may come to it
-pub record IsNewSeat {O : Type 0} (m : Meaning O) (valid : O → Type 0) (takes : ℕ → Bool) (fits : ℕ → List Value → Bool) (seat : Seat O) : Type 0 where
+-- the operator is new, what comes on its arcs may come to it, and levels of epochs of so many ticks may be read
+pub record IsNewSeat {O : Type 0} (m : Meaning O) (valid : O → Type 0) (takes : ℕ → Bool) (fits : ℕ → List Value → Bool) (epoch : ℕ) (seat : Seat O) : Type 0 where
   pub is_valid : valid seat.op
   pub running : m.running seat.op ≡ true
   pub place : m.place seat.op ≡ Start
@@ -25,6 +25,7 @@ pub record IsNewSeat {O : Type 0} (m : Meaning O) (valid : O → Type 0) (takes 
   pub open_now : seat.tally.running ≡ true
   pub marks : (port : ℕ) → takes port ≡ true → m.takes_marks seat.op port ≡ true
   pub tuples : (port : ℕ) (fields : List Value) → fits port fields ≡ true → m.fits seat.op port fields ≡ true
+  pub reads : m.reads seat.op epoch ≡ true
 
 -- a flow of these parts that has released nothing
 pub record IsNewFlow {O : Type 0} (wires : Wires) (seats : Vec (Seat O) Global) (sources : Vec (VecDeque Tuple Global) Global) (levels : LevelTable) (flow : Flow O) : Type 0 where
@@ -34,5 +35,6 @@ pub record IsNewFlow {O : Type 0} (wires : Wires) (seats : Vec (Seat O) Global) 
   pub levels_are : flow.levels ≡ levels
   pub runs : flow.over ≡ false
   pub none_taken : flow.taken ≡ 0
+  pub bare : (arc : ℕ) → face flow.queues arc ≡ record { count = 0; first = None; ended = false }
   pub empty : (pages : Option Pages) (arc : ℕ) → items_on flow.queues pages arc ≡ []
   pub together : (pages : Option Pages) → Together flow.queues pages

@@ -1,12 +1,11 @@
 //! The engine: a flow with its ready list.
 
-ghost use Rattle.std.specs.Prelude.{◌≡◌, ◌≢◌, ◌⊎◌, ◌-◌, ◌^◌, map, min, sum, ℕ, ◌+◌, ◌≤◌, ◌<◌, true, false, [], ◌∷◌, Option, Some, OnOk, OnErr, IfOk, IfErr, length, slice_get, slice_index};
+ghost use Rattle.std.specs.Prelude.{◌≡◌, ◌⊎◌, ◌-◌, ◌^◌, ℕ, ◌+◌, ◌≤◌, ◌<◌, true, false, [], ◌∷◌, Option, OnOk, OnErr, IfOk, IfErr, length, slice_get};
 ghost use Rattle.sq_road.specs.Levels.{Agrees};
 ghost use Rattle.sq_outside.specs.Disks.{Pages};
-ghost use Rattle.sq_queue.specs.Faces.{face, size, Together};
-ghost use Rattle.sq_sched.specs.Ready.{ReadyTable, contains, AreActors};
-ghost use Rattle.sq_flow.specs.Wiring.{arcs_read};
-ghost use Rattle.sq_flow.specs.Readiness.{stands};
+ghost use Rattle.sq_queue.specs.Faces.{Together};
+ghost use Rattle.sq_sched.specs.Ready.{contains};
+ghost use Rattle.std.specs.List.{range_with_len};
 ghost use Rattle.sq_flow.specs.Engines.{place_in};
 
 use crate::errors::RunErr;
@@ -16,7 +15,7 @@ use crate::steps::Progress;
 use crate::wires::Wires;
 use sq_oper::{Event, Operator, Outs};
 use sq_outside::{PageDisk, Steps};
-use sq_queue::{Head, Queues};
+use sq_queue::Queues;
 use sq_road::Levels;
 use sq_sched::{Pick, Ready};
 use sq_value::Tuple;
@@ -44,31 +43,6 @@ pub enum State {
     Failed,
 }
 
-fn stands_at(queues: &Queues, arc: u32) -> bool
-    requires { arc < size queues.now }
-    ensures { result ≡ stands (face queues.now arc) }
-{
-    match queues.head(arc) {
-        Head::Empty => false,
-        Head::Time(_) => true,
-        Head::Ended => true,
-    }
-}
-
-fn all_stand(arcs: &Vec<u32>, queues: &Queues) -> bool
-    requires { (port arc : ℕ) → slice_get arcs.now.items port ≡ Some arc → arc < size queues.now }
-    ensures yes { result ≡ true → (port arc : ℕ) → slice_get arcs.now.items port ≡ Some arc → stands (face queues.now arc) ≡ true }
-    ensures no { ((port arc : ℕ) → slice_get arcs.now.items port ≡ Some arc → stands (face queues.now arc) ≡ true) → result ≡ true }
-{
-    for port in 0..arcs.len() {
-        let arc = arcs[port];
-        if !stands_at(queues, arc) {
-            return false;
-        }
-    }
-    true
-}
-
 /// An actor's place in the flow: actor 0 is the replay, which stands behind the operators.
 fn place_in(ops: u32, actor: u32) -> u32
     requires { actor ≤ ops }
@@ -78,21 +52,8 @@ fn place_in(ops: u32, actor: u32) -> u32
     if actor == 0 { ops } else { actor - 1 }
 }
 
-/// How many items stand on these arcs, as far as a u64 counts.
-fn count_waiting(arcs: &Vec<u32>, queues: &Queues) -> u64
-    requires { (port arc : ℕ) → slice_get arcs.now.items port ≡ Some arc → arc < size queues.now }
-    ensures { result ≡ min (2 ^ 64 - 1) (sum (map (λ arc. (face queues.now arc).count) arcs.now.items)) }
-{
-    let mut count: u64 = 0;
-    for port in 0..arcs.len() {
-        count = count.saturating_add(queues.len(arcs[port]));
-    }
-    count
-}
-
 impl<O: Operator + Drop> Flow<O> {
     ghost use Rattle.sq_flow.specs.Flows.{IsFlow, RiseFrom, tuples_at};
-    ghost use Rattle.sq_flow.specs.Readiness.{IsReady, waiting};
     ghost use Rattle.sq_flow.specs.Starts.{IsNewSeat, IsNewFlow};
     ghost use Rattle.sq_flow.specs.Seats.{holds_at};
     ghost use Rattle.sq_flow.specs.Wiring.{net_of, IsShaped};
@@ -107,12 +68,12 @@ impl<O: Operator + Drop> Flow<O> {
         frames: u32,
     ) -> Result<Flow<O>, AllocError>
         requires shaped { IsShaped wires (length seats.items) }
-        requires seats { (actor : ℕ) → holds_at (IsNewSeat (record { rest = O.rest; decides = O.decides; lost = O.lost; place = O.place; taken = O.taken; running = O.running; takes_marks = O.takes_marks; fits = O.fits }) O.valid ((net_of wires).takes actor) ((net_of wires).fits actor)) (slice_get seats.items actor) }
+        requires seats { (actor : ℕ) → holds_at (IsNewSeat (record { rest = O.rest; decides = O.decides; lost = O.lost; place = O.place; taken = O.taken; running = O.running; takes_marks = O.takes_marks; fits = O.fits; reads = O.reads }) O.valid ((net_of wires).takes actor) ((net_of wires).fits actor) levels.epoch) (slice_get seats.items actor) }
         requires coming { (source : ℕ) → RiseFrom 0 (tuples_at (slice_get sources.items source)) }
         requires few { length sources.items < 2 ^ 32 }
         requires levels { 0 < levels.closed }
         requires frames { 2 ≤ frames }
-        ensures flow { IfOk result (λ e. IsFlow (record { rest = O.rest; decides = O.decides; lost = O.lost; place = O.place; taken = O.taken; running = O.running; takes_marks = O.takes_marks; fits = O.fits }) O.valid e) }
+        ensures flow { IfOk result (λ e. IsFlow (record { rest = O.rest; decides = O.decides; lost = O.lost; place = O.place; taken = O.taken; running = O.running; takes_marks = O.takes_marks; fits = O.fits; reads = O.reads }) O.valid e) }
         ensures parts { IfOk result (λ e. IsNewFlow wires seats sources levels e) }
     {
         let arcs = wires.arcs.len() as u32;
@@ -128,49 +89,18 @@ impl<O: Operator + Drop> Flow<O> {
             taken: 0,
         })
     }
-
-    /// An actor is ready.
-    pub(crate) fn is_ready(&self, actor: u32) -> bool
-        requires flow { IsFlow (record { rest = O.rest; decides = O.decides; lost = O.lost; place = O.place; taken = O.taken; running = O.running; takes_marks = O.takes_marks; fits = O.fits }) O.valid self.now }
-        requires actor_in { actor ≤ length self.now.seats.items }
-        ensures yes { result ≡ true → IsReady self.now actor }
-        ensures no { IsReady self.now actor → result ≡ true }
-    {
-        if self.is_done(actor) {
-            return false;
-        }
-        if actor == self.wires.replay {
-            return true;
-        }
-        all_stand(self.wires.arcs_of(actor), &self.queues)
-    }
-
-    /// How many items wait for an actor.
-    pub(crate) fn waiting(&self, actor: u32) -> u64
-        requires flow { IsFlow (record { rest = O.rest; decides = O.decides; lost = O.lost; place = O.place; taken = O.taken; running = O.running; takes_marks = O.takes_marks; fits = O.fits }) O.valid self.now }
-        requires actor_in { actor ≤ length self.now.seats.items }
-        ensures { result ≡ waiting self.now actor }
-    {
-        if actor == self.wires.replay {
-            return 0;
-        }
-        count_waiting(self.wires.arcs_of(actor), &self.queues)
-    }
 }
 
 impl<O: Operator + Drop> Engine<O> {
-    ghost use Rattle.sq_flow.specs.Flows.{IsFlow, Stepped, ShowsPrefix, NoneStrange, measure_of};
-    ghost use Rattle.sq_flow.specs.Readiness.{IsReady, FallsBy, waiting};
-    ghost use Rattle.sq_flow.specs.Engines.{IsEngine, ExactFor, AllDone, listed_after, newly_from};
-    ghost use Rattle.sq_sched.specs.Ready.{OnlyOnce};
-    ghost use Rattle.sq_flow.specs.Flows.{HoldsItems, items_in, lines_left, fed_at_last};
-    ghost use Rattle.sq_flow.specs.Seats.{done_at, taken_at, lost_at, holds_at};
-    ghost use Rattle.sq_flow.specs.Flows.{RiseFrom, tuples_at, CostsFed, CostsAtMost, TooMuchOnly, lost_at_last, work_at_last, taken_in_all};
+    ghost use Rattle.sq_flow.specs.Flows.{IsFlow, Stepped, ShowsPrefix, NoneStrange, measure_of, HoldsItems, items_in, lines_left, fed_at_last, RiseFrom, tuples_at, CostsFed, CostsAtMost, TooMuchOnly, lost_at_last, work_at_last, taken_in_all};
+    ghost use Rattle.sq_flow.specs.Readiness.{IsReady, FallsBy};
+    ghost use Rattle.sq_flow.specs.Engines.{IsEngine, HasRoom, Looked, AllDone, newly_ready, listed_after, readers_of};
+    ghost use Rattle.sq_flow.specs.Seats.{taken_at, lost_at, holds_at};
     ghost use Rattle.sq_flow.specs.Starts.{IsNewSeat, IsNewFlow};
     ghost use Rattle.sq_flow.specs.Wiring.{net_of, IsShaped};
 
-    /// An engine over operators that nothing was fed to, with what is to be released in the order of times. It has released
-    /// nothing yet.
+    /// An engine over operators that nothing was fed to, with what each source is to release, in the order of times. It has
+    /// released nothing yet; the ready actors are listed in ascending number. An error says that memory ran out.
     pub fn new(
         alloc: Global,
         wires: Wires,
@@ -180,13 +110,14 @@ impl<O: Operator + Drop> Engine<O> {
         frames: u32,
     ) -> Result<Engine<O>, AllocError>
         requires shaped { IsShaped wires (length seats.items) }
-        requires seats { (actor : ℕ) → holds_at (IsNewSeat (record { rest = O.rest; decides = O.decides; lost = O.lost; place = O.place; taken = O.taken; running = O.running; takes_marks = O.takes_marks; fits = O.fits }) O.valid ((net_of wires).takes actor) ((net_of wires).fits actor)) (slice_get seats.items actor) }
+        requires seats { (actor : ℕ) → holds_at (IsNewSeat (record { rest = O.rest; decides = O.decides; lost = O.lost; place = O.place; taken = O.taken; running = O.running; takes_marks = O.takes_marks; fits = O.fits; reads = O.reads }) O.valid ((net_of wires).takes actor) ((net_of wires).fits actor) levels.epoch) (slice_get seats.items actor) }
         requires coming { (source : ℕ) → RiseFrom 0 (tuples_at (slice_get sources.items source)) }
         requires few { length sources.items < 2 ^ 32 }
         requires levels { 0 < levels.closed }
         requires frames { 2 ≤ frames }
-        ensures engine { IfOk result (λ e. IsEngine (record { rest = O.rest; decides = O.decides; lost = O.lost; place = O.place; taken = O.taken; running = O.running; takes_marks = O.takes_marks; fits = O.fits }) O.valid e) }
+        ensures engine { IfOk result (λ e. IsEngine (record { rest = O.rest; decides = O.decides; lost = O.lost; place = O.place; taken = O.taken; running = O.running; takes_marks = O.takes_marks; fits = O.fits; reads = O.reads }) O.valid e) }
         ensures flow { IfOk result (λ e. IsNewFlow wires seats sources levels e.flow) }
+        ensures order { IfOk result (λ e. e.ready.list ≡ newly_ready e.flow []) }
     {
         let flow = Flow::new(alloc, wires, seats, sources, levels, frames)?;
         let ready = Ready::new(alloc, flow.wires.replay + 1)?;
@@ -198,62 +129,51 @@ impl<O: Operator + Drop> Engine<O> {
             outs: Outs::new(alloc),
             failed: false,
         };
-        engine.list_first();
+        engine.look_at_all();
         Ok(engine)
     }
 
-    /// At the start the replay alone is ready, and each operator that reads no arc.
-    fn list_first(&mut self)
-        requires flow { IsFlow (record { rest = O.rest; decides = O.decides; lost = O.lost; place = O.place; taken = O.taken; running = O.running; takes_marks = O.takes_marks; fits = O.fits }) O.valid self.old.flow }
-        requires actors { self.old.ready ≡ record { actors = length self.old.flow.seats.items + 1; list = [] } }
-        ensures flow { self.new.flow ≡ self.old.flow }
-        ensures rest { (self.new.outs ≡ self.old.outs) × (self.new.failed ≡ self.old.failed) × (self.new.ready.actors ≡ self.old.ready.actors) × (self.new.waits ≡ self.old.waits) }
-        ensures list { self.new.ready.list ≡ newly_from self.new.flow [] 0 (length self.new.flow.seats.items + 1) }
-        ensures exact { (actor : ℕ) → actor ≤ length self.new.flow.seats.items → ExactFor self.new.flow self.new.ready.list actor }
-        ensures once { OnlyOnce self.new.ready.list }
-    {
-        for actor in 0..self.flow.wires.replay + 1 {
-            if self.flow.is_ready(place_in(self.flow.wires.replay, actor)) {
-                self.ready.push(actor);
-            }
-        }
-    }
-
-    /// Counts anew what waits for an actor.
-    fn count_waits(&mut self, actor: u32)
+    /// Looks at an actor: counts what waits for it, and lists it last where it is ready and isn't listed.
+    fn look_at(&mut self, actor: u32)
+        requires flow { IsFlow (record { rest = O.rest; decides = O.decides; lost = O.lost; place = O.place; taken = O.taken; running = O.running; takes_marks = O.takes_marks; fits = O.fits; reads = O.reads }) O.valid self.old.flow }
+        requires room { HasRoom self.old }
+        requires there { actor ≤ length self.old.flow.seats.items }
+        ensures { Looked (actor ∷ []) self.old self.new }
     {
         let place = place_in(self.flow.wires.replay, actor);
         self.waits[actor as usize] = self.flow.waiting(place);
-    }
-
-    /// After a step the actor goes to the end of the ready list where it is still ready.
-    fn list_again(&mut self, actor: u32)
-    {
-        self.count_waits(actor);
-        if self.flow.is_ready(place_in(self.flow.wires.replay, actor)) {
+        if !self.ready.has(actor) && self.flow.is_ready(place) {
             self.ready.push(actor);
         }
     }
 
-    /// An operator that reads from the actor of a step is listed where it became ready.
-    fn list_follower(&mut self, follower: u32)
+    /// Looks at each actor, in ascending number.
+    fn look_at_all(&mut self)
+        requires flow { IsFlow (record { rest = O.rest; decides = O.decides; lost = O.lost; place = O.place; taken = O.taken; running = O.running; takes_marks = O.takes_marks; fits = O.fits; reads = O.reads }) O.valid self.old.flow }
+        requires room { HasRoom self.old }
+        ensures { Looked (range_with_len 0 (length self.old.flow.seats.items + 1)) self.old self.new }
     {
-        self.count_waits(follower + 1);
-        if !self.ready.has(follower + 1) && self.flow.is_ready(follower) {
-            self.ready.push(follower + 1);
+        for actor in 0..self.flow.wires.replay + 1 {
+            self.look_at(actor);
         }
     }
 
-    /// The operators that read from the actor of a step are listed, in ascending number, where they became ready.
-    fn list_followers(&mut self, place: u32)
+    /// Looks at the operators that read from the actor at a place, in ascending number.
+    fn look_at_readers(&mut self, place: u32)
+        requires flow { IsFlow (record { rest = O.rest; decides = O.decides; lost = O.lost; place = O.place; taken = O.taken; running = O.running; takes_marks = O.takes_marks; fits = O.fits; reads = O.reads }) O.valid self.old.flow }
+        requires room { HasRoom self.old }
+        requires there { place ≤ length self.old.flow.seats.items }
+        ensures { Looked (readers_of self.old.flow place) self.old self.new }
     {
-        for index in 0..self.flow.wires.followers[place as usize].len() {
-            let follower = self.flow.wires.followers[place as usize][index];
-            self.list_follower(follower);
+        for index in 0..self.flow.count_readers(place) {
+            let reader = self.flow.reader(place, index);
+            self.look_at(reader);
         }
     }
 
-    /// Up to `train` steps of a ready actor.
+    /// Up to `train` steps of a ready actor. If it is still ready it goes to the end of the ready list; then those follow that
+    /// became ready, in ascending number. Only the actor and the operators that read from it are looked at. After an error the
+    /// engine has failed.
     pub fn step<D: PageDisk, L: Ledger>(
         &mut self,
         pick: Pick,
@@ -261,42 +181,44 @@ impl<O: Operator + Drop> Engine<O> {
         events: &mut Vec<Event>,
         steps: &mut Steps<L>,
     ) -> Result<Progress, RunErr>
-        requires engine { IsEngine (record { rest = O.rest; decides = O.decides; lost = O.lost; place = O.place; taken = O.taken; running = O.running; takes_marks = O.takes_marks; fits = O.fits }) O.valid self.old }
+        requires engine { IsEngine (record { rest = O.rest; decides = O.decides; lost = O.lost; place = O.place; taken = O.taken; running = O.running; takes_marks = O.takes_marks; fits = O.fits; reads = O.reads }) O.valid self.old }
         requires together { Together self.old.flow.queues (D.pages disk.old) }
         requires ready { contains self.old.ready.list pick.actor ≡ true }
         requires some { 1 ≤ pick.train }
-        ensures ok { OnOk result (Stepped (record { rest = O.rest; decides = O.decides; lost = O.lost; place = O.place; taken = O.taken; running = O.running; takes_marks = O.takes_marks; fits = O.fits }) O.valid (D.pages disk.old) (D.pages disk.new) self.old.flow self.new.flow events.old.items events.new.items) }
-        ensures engine { OnOk result (IsEngine (record { rest = O.rest; decides = O.decides; lost = O.lost; place = O.place; taken = O.taken; running = O.running; takes_marks = O.takes_marks; fits = O.fits }) O.valid self.new) }
+        ensures ok { OnOk result (Stepped (record { rest = O.rest; decides = O.decides; lost = O.lost; place = O.place; taken = O.taken; running = O.running; takes_marks = O.takes_marks; fits = O.fits; reads = O.reads }) O.valid (D.pages disk.old) (D.pages disk.new) self.old.flow self.new.flow events.old.items events.new.items) }
+        ensures engine { OnOk result (IsEngine (record { rest = O.rest; decides = O.decides; lost = O.lost; place = O.place; taken = O.taken; running = O.running; takes_marks = O.takes_marks; fits = O.fits; reads = O.reads }) O.valid self.new) }
         ensures order { OnOk result (self.new.ready.list ≡ listed_after self.new.flow self.old.ready.list pick.actor) }
-        ensures prefix { OnErr result (ShowsPrefix (record { rest = O.rest; decides = O.decides; lost = O.lost; place = O.place; taken = O.taken; running = O.running; takes_marks = O.takes_marks; fits = O.fits }) (D.pages disk.old) self.old.flow self.new.flow.levels events.old.items events.new.items) }
-        ensures strange { IfErr result (λ e. NoneStrange (record { rest = O.rest; decides = O.decides; lost = O.lost; place = O.place; taken = O.taken; running = O.running; takes_marks = O.takes_marks; fits = O.fits }) (D.pages disk.old) self.old.flow e) }
+        ensures prefix { OnErr result (ShowsPrefix (record { rest = O.rest; decides = O.decides; lost = O.lost; place = O.place; taken = O.taken; running = O.running; takes_marks = O.takes_marks; fits = O.fits; reads = O.reads }) (D.pages disk.old) self.old.flow self.new.flow.levels events.old.items events.new.items) }
+        ensures strange { IfErr result (λ e. NoneStrange (record { rest = O.rest; decides = O.decides; lost = O.lost; place = O.place; taken = O.taken; running = O.running; takes_marks = O.takes_marks; fits = O.fits; reads = O.reads }) (D.pages disk.old) self.old.flow e) }
         ensures failed { OnErr result (self.new.failed ≡ true) }
         ensures closes { (table : ℕ → ℕ → ℕ) → Agrees self.new.flow.levels table → Agrees self.old.flow.levels table }
-        ensures cost { OnOk result (CostsFed (record { rest = O.rest; decides = O.decides; lost = O.lost; place = O.place; taken = O.taken; running = O.running; takes_marks = O.takes_marks; fits = O.fits }) self.old.flow self.new.flow steps.old steps.new) }
-        ensures cost_err { OnErr result (CostsAtMost (record { rest = O.rest; decides = O.decides; lost = O.lost; place = O.place; taken = O.taken; running = O.running; takes_marks = O.takes_marks; fits = O.fits }) (D.pages disk.old) self.old.flow self.new.flow.levels steps.old steps.new) }
-        ensures too_much { IfErr result (λ e. TooMuchOnly (record { rest = O.rest; decides = O.decides; lost = O.lost; place = O.place; taken = O.taken; running = O.running; takes_marks = O.takes_marks; fits = O.fits }) (D.pages disk.old) self.old.flow self.new.flow e) }
+        ensures cost { OnOk result (CostsFed (record { rest = O.rest; decides = O.decides; lost = O.lost; place = O.place; taken = O.taken; running = O.running; takes_marks = O.takes_marks; fits = O.fits; reads = O.reads }) self.old.flow self.new.flow steps.old steps.new) }
+        ensures cost_err { OnErr result (CostsAtMost (record { rest = O.rest; decides = O.decides; lost = O.lost; place = O.place; taken = O.taken; running = O.running; takes_marks = O.takes_marks; fits = O.fits; reads = O.reads }) (D.pages disk.old) self.old.flow self.new.flow.levels steps.old steps.new) }
+        ensures too_much { IfErr result (λ e. TooMuchOnly (record { rest = O.rest; decides = O.decides; lost = O.lost; place = O.place; taken = O.taken; running = O.running; takes_marks = O.takes_marks; fits = O.fits; reads = O.reads }) (D.pages disk.old) self.old.flow self.new.flow e) }
         ensures measure { IfOk result (λ p. FallsBy p.fed p.finished (measure_of self.old.flow) (measure_of self.new.flow)) }
         ensures works { IfOk result (λ p. (p.fed ≡ 0) → p.finished ≡ true) }
         ensures most { IfOk result (λ p. p.fed ≤ pick.train) }
         ensures stops { IfOk result (λ p. (p.fed ≡ pick.train) ⊎ ((p.finished ≡ true) ⊎ (IsReady self.new.flow (place_in (length self.new.flow.seats.items) pick.actor) → ⊥))) }
     {
-        let _listed = self.ready.len();
         let place = place_in(self.flow.wires.replay, pick.actor);
         self.ready.remove(pick.actor);
-        match self.flow.train(disk, place, pick.train, &mut self.outs, events, steps) {
+        match self
+            .flow
+            .train(disk, place, pick.train, &mut self.outs, events, steps)
+        {
             Err(e) => {
                 self.failed = true;
                 Err(e)
             }
             Ok(progress) => {
-                self.list_again(pick.actor);
-                self.list_followers(place);
+                self.look_at(pick.actor);
+                self.look_at_readers(place);
                 Ok(progress)
             }
         }
     }
 
-    /// The ready actors, in the order in which they became so.
+    /// The ready list: each actor that is ready, once, in order.
     pub fn ready(&self) -> &Ready
         ensures { result.now ≡ self.now.ready }
     {
@@ -311,18 +233,18 @@ impl<O: Operator + Drop> Engine<O> {
     }
 
     /// How many tuples an operator was fed.
-    pub fn fed(&self, actor: u32) -> u64
-        requires engine { IsEngine (record { rest = O.rest; decides = O.decides; lost = O.lost; place = O.place; taken = O.taken; running = O.running; takes_marks = O.takes_marks; fits = O.fits }) O.valid self.now }
-        requires there { actor < length self.now.flow.seats.items }
-        ensures { result ≡ taken_at (record { rest = O.rest; decides = O.decides; lost = O.lost; place = O.place; taken = O.taken; running = O.running; takes_marks = O.takes_marks; fits = O.fits }) (slice_get self.now.flow.seats.items actor) }
+    pub fn fed(&self, operator: u32) -> u64
+        requires engine { IsEngine (record { rest = O.rest; decides = O.decides; lost = O.lost; place = O.place; taken = O.taken; running = O.running; takes_marks = O.takes_marks; fits = O.fits; reads = O.reads }) O.valid self.now }
+        requires there { operator < length self.now.flow.seats.items }
+        ensures { result ≡ taken_at (record { rest = O.rest; decides = O.decides; lost = O.lost; place = O.place; taken = O.taken; running = O.running; takes_marks = O.takes_marks; fits = O.fits; reads = O.reads }) (slice_get self.now.flow.seats.items operator) }
     {
-        self.flow.seats[actor as usize].tally.taken
+        self.flow.seats[operator as usize].tally.taken
     }
 
     /// The engine runs as long as an actor isn't finished, and then the ready list isn't empty; it is done where all are. It has
     /// failed where a step failed.
     pub fn state(&self) -> State
-        requires engine { self.now.failed ≡ false → IsEngine (record { rest = O.rest; decides = O.decides; lost = O.lost; place = O.place; taken = O.taken; running = O.running; takes_marks = O.takes_marks; fits = O.fits }) O.valid self.now }
+        requires engine { self.now.failed ≡ false → IsEngine (record { rest = O.rest; decides = O.decides; lost = O.lost; place = O.place; taken = O.taken; running = O.running; takes_marks = O.takes_marks; fits = O.fits; reads = O.reads }) O.valid self.now }
         ensures done { result ≡ State.Done → AllDone self.now.flow × (self.now.failed ≡ false) }
         ensures when_done { self.now.failed ≡ false → AllDone self.now.flow → result ≡ State.Done }
         ensures runs { result ≡ State.Running → (0 < length self.now.ready.list) × (self.now.failed ≡ false) }
@@ -331,7 +253,7 @@ impl<O: Operator + Drop> Engine<O> {
     {
         if self.failed {
             State::Failed
-        } else if self.ready.len() == 0 {
+        } else if self.ready.is_empty() {
             State::Done
         } else {
             State::Running
@@ -340,16 +262,16 @@ impl<O: Operator + Drop> Engine<O> {
 
     /// Where all actors are finished nothing is left of any output, and each operator was fed all that it is fed in all.
     pub fn nothing_left(&self)
-        requires engine { IsFlow (record { rest = O.rest; decides = O.decides; lost = O.lost; place = O.place; taken = O.taken; running = O.running; takes_marks = O.takes_marks; fits = O.fits }) O.valid self.now.flow }
+        requires engine { IsFlow (record { rest = O.rest; decides = O.decides; lost = O.lost; place = O.place; taken = O.taken; running = O.running; takes_marks = O.takes_marks; fits = O.fits; reads = O.reads }) O.valid self.now.flow }
         requires done { AllDone self.now.flow }
-        ensures lines { (pages : Option Pages) (table : ℕ → ℕ → ℕ) → HoldsItems (record { rest = O.rest; decides = O.decides; lost = O.lost; place = O.place; taken = O.taken; running = O.running; takes_marks = O.takes_marks; fits = O.fits }) (items_in self.now.flow pages) self.now.flow → Agrees self.now.flow.levels table
-            → (output : ℕ) → self.now.flow.wires.shown + output < length self.now.flow.seats.items → lines_left (record { rest = O.rest; decides = O.decides; lost = O.lost; place = O.place; taken = O.taken; running = O.running; takes_marks = O.takes_marks; fits = O.fits }) table (items_in self.now.flow pages) self.now.flow output ≡ [] }
-        ensures fed { (pages : Option Pages) (table : ℕ → ℕ → ℕ) → HoldsItems (record { rest = O.rest; decides = O.decides; lost = O.lost; place = O.place; taken = O.taken; running = O.running; takes_marks = O.takes_marks; fits = O.fits }) (items_in self.now.flow pages) self.now.flow → Agrees self.now.flow.levels table
-            → (actor : ℕ) → actor < length self.now.flow.seats.items → fed_at_last (record { rest = O.rest; decides = O.decides; lost = O.lost; place = O.place; taken = O.taken; running = O.running; takes_marks = O.takes_marks; fits = O.fits }) table (items_in self.now.flow pages) self.now.flow actor ≡ taken_at (record { rest = O.rest; decides = O.decides; lost = O.lost; place = O.place; taken = O.taken; running = O.running; takes_marks = O.takes_marks; fits = O.fits }) (slice_get self.now.flow.seats.items actor) }
-        ensures lost { (pages : Option Pages) (table : ℕ → ℕ → ℕ) → HoldsItems (record { rest = O.rest; decides = O.decides; lost = O.lost; place = O.place; taken = O.taken; running = O.running; takes_marks = O.takes_marks; fits = O.fits }) (items_in self.now.flow pages) self.now.flow → Agrees self.now.flow.levels table
-            → (actor : ℕ) → actor < length self.now.flow.seats.items → lost_at_last (record { rest = O.rest; decides = O.decides; lost = O.lost; place = O.place; taken = O.taken; running = O.running; takes_marks = O.takes_marks; fits = O.fits }) table (items_in self.now.flow pages) self.now.flow actor ≡ lost_at (record { rest = O.rest; decides = O.decides; lost = O.lost; place = O.place; taken = O.taken; running = O.running; takes_marks = O.takes_marks; fits = O.fits }) (slice_get self.now.flow.seats.items actor) [] }
-        ensures work { (pages : Option Pages) (table : ℕ → ℕ → ℕ) → HoldsItems (record { rest = O.rest; decides = O.decides; lost = O.lost; place = O.place; taken = O.taken; running = O.running; takes_marks = O.takes_marks; fits = O.fits }) (items_in self.now.flow pages) self.now.flow → Agrees self.now.flow.levels table
-            → work_at_last (record { rest = O.rest; decides = O.decides; lost = O.lost; place = O.place; taken = O.taken; running = O.running; takes_marks = O.takes_marks; fits = O.fits }) table (items_in self.now.flow pages) self.now.flow ≡ taken_in_all (record { rest = O.rest; decides = O.decides; lost = O.lost; place = O.place; taken = O.taken; running = O.running; takes_marks = O.takes_marks; fits = O.fits }) self.now.flow }
+        ensures lines { (pages : Option Pages) (table : ℕ → ℕ → ℕ) → HoldsItems (record { rest = O.rest; decides = O.decides; lost = O.lost; place = O.place; taken = O.taken; running = O.running; takes_marks = O.takes_marks; fits = O.fits; reads = O.reads }) (items_in self.now.flow pages) self.now.flow → Agrees self.now.flow.levels table
+            → (output : ℕ) → self.now.flow.wires.shown + output < length self.now.flow.seats.items → lines_left (record { rest = O.rest; decides = O.decides; lost = O.lost; place = O.place; taken = O.taken; running = O.running; takes_marks = O.takes_marks; fits = O.fits; reads = O.reads }) table (items_in self.now.flow pages) self.now.flow output ≡ [] }
+        ensures fed { (pages : Option Pages) (table : ℕ → ℕ → ℕ) → HoldsItems (record { rest = O.rest; decides = O.decides; lost = O.lost; place = O.place; taken = O.taken; running = O.running; takes_marks = O.takes_marks; fits = O.fits; reads = O.reads }) (items_in self.now.flow pages) self.now.flow → Agrees self.now.flow.levels table
+            → (actor : ℕ) → actor < length self.now.flow.seats.items → fed_at_last (record { rest = O.rest; decides = O.decides; lost = O.lost; place = O.place; taken = O.taken; running = O.running; takes_marks = O.takes_marks; fits = O.fits; reads = O.reads }) table (items_in self.now.flow pages) self.now.flow actor ≡ taken_at (record { rest = O.rest; decides = O.decides; lost = O.lost; place = O.place; taken = O.taken; running = O.running; takes_marks = O.takes_marks; fits = O.fits; reads = O.reads }) (slice_get self.now.flow.seats.items actor) }
+        ensures lost { (pages : Option Pages) (table : ℕ → ℕ → ℕ) → HoldsItems (record { rest = O.rest; decides = O.decides; lost = O.lost; place = O.place; taken = O.taken; running = O.running; takes_marks = O.takes_marks; fits = O.fits; reads = O.reads }) (items_in self.now.flow pages) self.now.flow → Agrees self.now.flow.levels table
+            → (actor : ℕ) → actor < length self.now.flow.seats.items → lost_at_last (record { rest = O.rest; decides = O.decides; lost = O.lost; place = O.place; taken = O.taken; running = O.running; takes_marks = O.takes_marks; fits = O.fits; reads = O.reads }) table (items_in self.now.flow pages) self.now.flow actor ≡ lost_at (record { rest = O.rest; decides = O.decides; lost = O.lost; place = O.place; taken = O.taken; running = O.running; takes_marks = O.takes_marks; fits = O.fits; reads = O.reads }) (slice_get self.now.flow.seats.items actor) [] }
+        ensures work { (pages : Option Pages) (table : ℕ → ℕ → ℕ) → HoldsItems (record { rest = O.rest; decides = O.decides; lost = O.lost; place = O.place; taken = O.taken; running = O.running; takes_marks = O.takes_marks; fits = O.fits; reads = O.reads }) (items_in self.now.flow pages) self.now.flow → Agrees self.now.flow.levels table
+            → work_at_last (record { rest = O.rest; decides = O.decides; lost = O.lost; place = O.place; taken = O.taken; running = O.running; takes_marks = O.takes_marks; fits = O.fits; reads = O.reads }) table (items_in self.now.flow pages) self.now.flow ≡ taken_in_all (record { rest = O.rest; decides = O.decides; lost = O.lost; place = O.place; taken = O.taken; running = O.running; takes_marks = O.takes_marks; fits = O.fits; reads = O.reads }) self.now.flow }
     {
         let _engine = self;
     }

@@ -9,7 +9,7 @@ ghost use Rattle.sq_outside.specs.Disks.{Pages};
 ghost use Rattle.sq_road.specs.Levels.{Agrees};
 ghost use Rattle.sq_queue.specs.Faces.{face, size, items_on, Tells, Together};
 ghost use Rattle.sq_flow.specs.Wiring.{arcs_from, from_of, pushed_by, AllOutsFine};
-ghost use Rattle.sq_flow.specs.Sends.{sent_to, Pushes};
+ghost use Rattle.sq_flow.specs.Sends.{sent_to, comes_from, Pushes};
 ghost use Rattle.sq_flow.specs.Events.{lines_of, bodies};
 ghost use Rattle.sq_flow.specs.Flows.{tuples_at};
 ghost use Rattle.sq_flow.specs.Sources.{IsNextSource};
@@ -57,9 +57,8 @@ fn reach(levels: &mut Levels, time: u64)
     ensures grows { levels.old.closed ≤ levels.new.closed }
     ensures closed { time / levels.new.epoch < levels.new.closed }
 {
-    let epoch = time / levels.epoch();
-    if levels.closed() <= epoch {
-        levels.skip_to(epoch + 1);
+    if levels.closed().saturating_mul(levels.epoch()) <= time {
+        levels.skip_to(time / levels.epoch() + 1);
     }
 }
 
@@ -98,7 +97,8 @@ fn end_if(queues: &mut Queues, arc: u32, ends: bool)
     requires { arc < size queues.old }
     ensures size { size queues.new ≡ size queues.old }
     ensures ended { (face queues.new arc).ended ≡ ((face queues.old arc).ended || ends) }
-    ensures others { (other : ℕ) → other ≢ arc → (face queues.new other).ended ≡ (face queues.old other).ended }
+    ensures none { ends ≡ false → face queues.new arc ≡ face queues.old arc }
+    ensures others { (other : ℕ) → other ≢ arc → face queues.new other ≡ face queues.old other }
     ensures first { (other : ℕ) → (face queues.new other).first ≡ (face queues.old other).first }
     ensures items { (pages : Option Pages) (other : ℕ) → items_on queues.new pages other ≡ items_on queues.old pages other }
     ensures together { (pages : Option Pages) → Together queues.old pages → Together queues.new pages }
@@ -114,6 +114,7 @@ fn end_arcs(wires: &Wires, queues: &mut Queues, actor: u32)
     requires few { length wires.now.arcs.items < 2 ^ 32 }
     ensures size { size queues.new ≡ size queues.old }
     ensures ended { (arc : ℕ) → arc < length wires.now.arcs.items → (face queues.new arc).ended ≡ ((face queues.old arc).ended || (from_of (slice_get wires.now.arcs.items arc) == actor)) }
+    ensures apart { (arc : ℕ) → comes_from wires.now actor arc ≡ false → face queues.new arc ≡ face queues.old arc }
     ensures first { (arc : ℕ) → (face queues.new arc).first ≡ (face queues.old arc).first }
     ensures items { (pages : Option Pages) (arc : ℕ) → items_on queues.new pages arc ≡ items_on queues.old pages arc }
     ensures together { (pages : Option Pages) → Together queues.old pages → Together queues.new pages }
@@ -142,20 +143,20 @@ impl<O: Operator + Drop> Flow<O> {
         events: &mut Vec<Event>,
         steps: &mut Steps<L>,
     ) -> Result<(), RunErr>
-        requires flow { IsFlow (record { rest = O.rest; decides = O.decides; lost = O.lost; place = O.place; taken = O.taken; running = O.running; takes_marks = O.takes_marks; fits = O.fits }) O.valid self.old }
+        requires flow { IsFlow (record { rest = O.rest; decides = O.decides; lost = O.lost; place = O.place; taken = O.taken; running = O.running; takes_marks = O.takes_marks; fits = O.fits; reads = O.reads }) O.valid self.old }
         requires together { Together self.old.queues (D.pages disk.old) }
         requires actor_in { actor < length self.old.seats.items }
         requires head { NextUpTo (arcs_read self.old.wires actor) (λ a. (face self.old.queues a).first) (λ a. (face self.old.queues a).ended) (length (arcs_read self.old.wires actor)) (Next.Feed time port arc) }
         requires running { done_at self.old.over (slice_get self.old.seats.items actor) ≡ false }
         requires none { (outs.old.items.items ≡ []) × (outs.old.drops.items ≡ []) }
-        ensures ok { OnOk result (Stepped (record { rest = O.rest; decides = O.decides; lost = O.lost; place = O.place; taken = O.taken; running = O.running; takes_marks = O.takes_marks; fits = O.fits }) O.valid (D.pages disk.old) (D.pages disk.new) self.old self.new events.old.items events.new.items) }
-        ensures prefix { OnErr result (ShowsPrefix (record { rest = O.rest; decides = O.decides; lost = O.lost; place = O.place; taken = O.taken; running = O.running; takes_marks = O.takes_marks; fits = O.fits }) (D.pages disk.old) self.old self.new.levels events.old.items events.new.items) }
-        ensures strange { IfErr result (λ e. NoneStrange (record { rest = O.rest; decides = O.decides; lost = O.lost; place = O.place; taken = O.taken; running = O.running; takes_marks = O.takes_marks; fits = O.fits }) (D.pages disk.old) self.old e) }
+        ensures ok { OnOk result (Stepped (record { rest = O.rest; decides = O.decides; lost = O.lost; place = O.place; taken = O.taken; running = O.running; takes_marks = O.takes_marks; fits = O.fits; reads = O.reads }) O.valid (D.pages disk.old) (D.pages disk.new) self.old self.new events.old.items events.new.items) }
+        ensures prefix { OnErr result (ShowsPrefix (record { rest = O.rest; decides = O.decides; lost = O.lost; place = O.place; taken = O.taken; running = O.running; takes_marks = O.takes_marks; fits = O.fits; reads = O.reads }) (D.pages disk.old) self.old self.new.levels events.old.items events.new.items) }
+        ensures strange { IfErr result (λ e. NoneStrange (record { rest = O.rest; decides = O.decides; lost = O.lost; place = O.place; taken = O.taken; running = O.running; takes_marks = O.takes_marks; fits = O.fits; reads = O.reads }) (D.pages disk.old) self.old e) }
         ensures none { OnOk result ((outs.new.items.items ≡ []) × (outs.new.drops.items ≡ [])) }
         ensures touches { OnOk result (TouchesOnly actor self.old self.new) }
-        ensures cost { OnOk result (CostsFed (record { rest = O.rest; decides = O.decides; lost = O.lost; place = O.place; taken = O.taken; running = O.running; takes_marks = O.takes_marks; fits = O.fits }) self.old self.new steps.old steps.new) }
-        ensures cost_err { OnErr result (CostsAtMost (record { rest = O.rest; decides = O.decides; lost = O.lost; place = O.place; taken = O.taken; running = O.running; takes_marks = O.takes_marks; fits = O.fits }) (D.pages disk.old) self.old self.new.levels steps.old steps.new) }
-        ensures too_much { IfErr result (λ e. TooMuchOnly (record { rest = O.rest; decides = O.decides; lost = O.lost; place = O.place; taken = O.taken; running = O.running; takes_marks = O.takes_marks; fits = O.fits }) (D.pages disk.old) self.old self.new e) }
+        ensures cost { OnOk result (CostsFed (record { rest = O.rest; decides = O.decides; lost = O.lost; place = O.place; taken = O.taken; running = O.running; takes_marks = O.takes_marks; fits = O.fits; reads = O.reads }) self.old self.new steps.old steps.new) }
+        ensures cost_err { OnErr result (CostsAtMost (record { rest = O.rest; decides = O.decides; lost = O.lost; place = O.place; taken = O.taken; running = O.running; takes_marks = O.takes_marks; fits = O.fits; reads = O.reads }) (D.pages disk.old) self.old self.new.levels steps.old steps.new) }
+        ensures too_much { IfErr result (λ e. TooMuchOnly (record { rest = O.rest; decides = O.decides; lost = O.lost; place = O.place; taken = O.taken; running = O.running; takes_marks = O.takes_marks; fits = O.fits; reads = O.reads }) (D.pages disk.old) self.old self.new e) }
         ensures closes { (table : ℕ → ℕ → ℕ) → Agrees self.new.levels table → Agrees self.old.levels table }
         ensures measure { OnOk result (measure_of self.new + 1 ≤ measure_of self.old) }
     {
@@ -191,19 +192,19 @@ impl<O: Operator + Drop> Flow<O> {
         outs: &mut Outs,
         events: &mut Vec<Event>,
     ) -> Result<(), RunErr>
-        requires flow { IsFlow (record { rest = O.rest; decides = O.decides; lost = O.lost; place = O.place; taken = O.taken; running = O.running; takes_marks = O.takes_marks; fits = O.fits }) O.valid self.old }
+        requires flow { IsFlow (record { rest = O.rest; decides = O.decides; lost = O.lost; place = O.place; taken = O.taken; running = O.running; takes_marks = O.takes_marks; fits = O.fits; reads = O.reads }) O.valid self.old }
         requires together { Together self.old.queues (D.pages disk.old) }
         requires actor_in { actor < length self.old.seats.items }
         requires head { NextUpTo (arcs_read self.old.wires actor) (λ a. (face self.old.queues a).first) (λ a. (face self.old.queues a).ended) (length (arcs_read self.old.wires actor)) Next.Ended }
         requires running { done_at self.old.over (slice_get self.old.seats.items actor) ≡ false }
         requires none { (outs.old.items.items ≡ []) × (outs.old.drops.items ≡ []) }
-        ensures ok { OnOk result (Stepped (record { rest = O.rest; decides = O.decides; lost = O.lost; place = O.place; taken = O.taken; running = O.running; takes_marks = O.takes_marks; fits = O.fits }) O.valid (D.pages disk.old) (D.pages disk.new) self.old self.new events.old.items events.new.items) }
-        ensures prefix { OnErr result (ShowsPrefix (record { rest = O.rest; decides = O.decides; lost = O.lost; place = O.place; taken = O.taken; running = O.running; takes_marks = O.takes_marks; fits = O.fits }) (D.pages disk.old) self.old self.new.levels events.old.items events.new.items) }
-        ensures strange { IfErr result (λ e. NoneStrange (record { rest = O.rest; decides = O.decides; lost = O.lost; place = O.place; taken = O.taken; running = O.running; takes_marks = O.takes_marks; fits = O.fits }) (D.pages disk.old) self.old e) }
+        ensures ok { OnOk result (Stepped (record { rest = O.rest; decides = O.decides; lost = O.lost; place = O.place; taken = O.taken; running = O.running; takes_marks = O.takes_marks; fits = O.fits; reads = O.reads }) O.valid (D.pages disk.old) (D.pages disk.new) self.old self.new events.old.items events.new.items) }
+        ensures prefix { OnErr result (ShowsPrefix (record { rest = O.rest; decides = O.decides; lost = O.lost; place = O.place; taken = O.taken; running = O.running; takes_marks = O.takes_marks; fits = O.fits; reads = O.reads }) (D.pages disk.old) self.old self.new.levels events.old.items events.new.items) }
+        ensures strange { IfErr result (λ e. NoneStrange (record { rest = O.rest; decides = O.decides; lost = O.lost; place = O.place; taken = O.taken; running = O.running; takes_marks = O.takes_marks; fits = O.fits; reads = O.reads }) (D.pages disk.old) self.old e) }
         ensures memory { IfErr result (λ e. e ≢ RunErr.TooMuch) }
         ensures none { OnOk result ((outs.new.items.items ≡ []) × (outs.new.drops.items ≡ [])) }
         ensures touches { OnOk result (TouchesOnly actor self.old self.new) }
-        ensures taken { OnOk result (taken_in_all (record { rest = O.rest; decides = O.decides; lost = O.lost; place = O.place; taken = O.taken; running = O.running; takes_marks = O.takes_marks; fits = O.fits }) self.new ≡ taken_in_all (record { rest = O.rest; decides = O.decides; lost = O.lost; place = O.place; taken = O.taken; running = O.running; takes_marks = O.takes_marks; fits = O.fits }) self.old) }
+        ensures taken { OnOk result (taken_in_all (record { rest = O.rest; decides = O.decides; lost = O.lost; place = O.place; taken = O.taken; running = O.running; takes_marks = O.takes_marks; fits = O.fits; reads = O.reads }) self.new ≡ taken_in_all (record { rest = O.rest; decides = O.decides; lost = O.lost; place = O.place; taken = O.taken; running = O.running; takes_marks = O.takes_marks; fits = O.fits; reads = O.reads }) self.old) }
         ensures closes { (table : ℕ → ℕ → ℕ) → Agrees self.new.levels table → Agrees self.old.levels table }
         ensures measure { OnOk result (measure_of self.new + 1 ≤ measure_of self.old) }
     {
@@ -218,21 +219,19 @@ impl<O: Operator + Drop> Flow<O> {
         &mut self,
         disk: &mut D,
         source: u32,
-        events: &Vec<Event>,
     ) -> Result<(), RunErr>
-        requires flow { IsFlow (record { rest = O.rest; decides = O.decides; lost = O.lost; place = O.place; taken = O.taken; running = O.running; takes_marks = O.takes_marks; fits = O.fits }) O.valid self.old }
+        requires flow { IsFlow (record { rest = O.rest; decides = O.decides; lost = O.lost; place = O.place; taken = O.taken; running = O.running; takes_marks = O.takes_marks; fits = O.fits; reads = O.reads }) O.valid self.old }
         requires together { Together self.old.queues (D.pages disk.old) }
         requires next { IsNextSource self.old.sources.items source }
-        ensures ok { OnOk result (Stepped (record { rest = O.rest; decides = O.decides; lost = O.lost; place = O.place; taken = O.taken; running = O.running; takes_marks = O.takes_marks; fits = O.fits }) O.valid (D.pages disk.old) (D.pages disk.new) self.old self.new events.now.items events.now.items) }
-        ensures prefix { OnErr result (ShowsPrefix (record { rest = O.rest; decides = O.decides; lost = O.lost; place = O.place; taken = O.taken; running = O.running; takes_marks = O.takes_marks; fits = O.fits }) (D.pages disk.old) self.old self.new.levels events.now.items events.now.items) }
-        ensures strange { IfErr result (λ e. NoneStrange (record { rest = O.rest; decides = O.decides; lost = O.lost; place = O.place; taken = O.taken; running = O.running; takes_marks = O.takes_marks; fits = O.fits }) (D.pages disk.old) self.old e) }
+        ensures ok { OnOk result ((events : List Event) → Stepped (record { rest = O.rest; decides = O.decides; lost = O.lost; place = O.place; taken = O.taken; running = O.running; takes_marks = O.takes_marks; fits = O.fits; reads = O.reads }) O.valid (D.pages disk.old) (D.pages disk.new) self.old self.new events events) }
+        ensures prefix { OnErr result ((events : List Event) → ShowsPrefix (record { rest = O.rest; decides = O.decides; lost = O.lost; place = O.place; taken = O.taken; running = O.running; takes_marks = O.takes_marks; fits = O.fits; reads = O.reads }) (D.pages disk.old) self.old self.new.levels events events) }
+        ensures strange { IfErr result (λ e. NoneStrange (record { rest = O.rest; decides = O.decides; lost = O.lost; place = O.place; taken = O.taken; running = O.running; takes_marks = O.takes_marks; fits = O.fits; reads = O.reads }) (D.pages disk.old) self.old e) }
         ensures memory { IfErr result (λ e. e ≢ RunErr.TooMuch) }
         ensures touches { OnOk result (TouchesOnly (length self.old.seats.items) self.old self.new) }
-        ensures taken { OnOk result (taken_in_all (record { rest = O.rest; decides = O.decides; lost = O.lost; place = O.place; taken = O.taken; running = O.running; takes_marks = O.takes_marks; fits = O.fits }) self.new ≡ taken_in_all (record { rest = O.rest; decides = O.decides; lost = O.lost; place = O.place; taken = O.taken; running = O.running; takes_marks = O.takes_marks; fits = O.fits }) self.old) }
+        ensures taken { OnOk result (taken_in_all (record { rest = O.rest; decides = O.decides; lost = O.lost; place = O.place; taken = O.taken; running = O.running; takes_marks = O.takes_marks; fits = O.fits; reads = O.reads }) self.new ≡ taken_in_all (record { rest = O.rest; decides = O.decides; lost = O.lost; place = O.place; taken = O.taken; running = O.running; takes_marks = O.takes_marks; fits = O.fits; reads = O.reads }) self.old) }
         ensures closes { (table : ℕ → ℕ → ℕ) → Agrees self.new.levels table → Agrees self.old.levels table }
         ensures measure { OnOk result (measure_of self.new + 1 ≤ measure_of self.old) }
     {
-        let _events = events;
         let tuple = first_of(&mut self.sources[source as usize]);
         self.clock = tuple.time;
         reach(&mut self.levels, tuple.time);
@@ -248,12 +247,12 @@ impl<O: Operator + Drop> Flow<O> {
 
     /// Ends the replay.
     pub(crate) fn end_step(&mut self)
-        requires flow { IsFlow (record { rest = O.rest; decides = O.decides; lost = O.lost; place = O.place; taken = O.taken; running = O.running; takes_marks = O.takes_marks; fits = O.fits }) O.valid self.old }
+        requires flow { IsFlow (record { rest = O.rest; decides = O.decides; lost = O.lost; place = O.place; taken = O.taken; running = O.running; takes_marks = O.takes_marks; fits = O.fits; reads = O.reads }) O.valid self.old }
         requires none { (source : ℕ) → to_release self.old source ≡ [] }
         requires running { self.old.over ≡ false }
-        ensures ok { (pages : Option Pages) (events : List Event) → Together self.old.queues pages → Stepped (record { rest = O.rest; decides = O.decides; lost = O.lost; place = O.place; taken = O.taken; running = O.running; takes_marks = O.takes_marks; fits = O.fits }) O.valid pages pages self.old self.new events events }
+        ensures ok { (pages : Option Pages) (events : List Event) → Together self.old.queues pages → Stepped (record { rest = O.rest; decides = O.decides; lost = O.lost; place = O.place; taken = O.taken; running = O.running; takes_marks = O.takes_marks; fits = O.fits; reads = O.reads }) O.valid pages pages self.old self.new events events }
         ensures touches { TouchesOnly (length self.old.seats.items) self.old self.new }
-        ensures taken { taken_in_all (record { rest = O.rest; decides = O.decides; lost = O.lost; place = O.place; taken = O.taken; running = O.running; takes_marks = O.takes_marks; fits = O.fits }) self.new ≡ taken_in_all (record { rest = O.rest; decides = O.decides; lost = O.lost; place = O.place; taken = O.taken; running = O.running; takes_marks = O.takes_marks; fits = O.fits }) self.old }
+        ensures taken { taken_in_all (record { rest = O.rest; decides = O.decides; lost = O.lost; place = O.place; taken = O.taken; running = O.running; takes_marks = O.takes_marks; fits = O.fits; reads = O.reads }) self.new ≡ taken_in_all (record { rest = O.rest; decides = O.decides; lost = O.lost; place = O.place; taken = O.taken; running = O.running; takes_marks = O.takes_marks; fits = O.fits; reads = O.reads }) self.old }
         ensures closes { (table : ℕ → ℕ → ℕ) → Agrees self.new.levels table → Agrees self.old.levels table }
         ensures measure { measure_of self.new + 1 ≤ measure_of self.old }
     {

@@ -35,10 +35,11 @@ pub(crate) fn feed_seat<O: Operator, L: Ledger>(
     requires is_valid { O.valid seat.old.op × (O.running seat.old.op ≡ true) }
     requires may_come { IsFuture (O.takes_marks seat.old.op) (O.fits seat.old.op) (O.place seat.old.op) (entries port item) }
     requires is_sound { IsSound item }
+    requires has_epoch { O.reads seat.old.op levels.now.epoch ≡ true }
     requires has_level { item.time / levels.now.epoch < levels.now.closed }
     requires has_room { (O.taken seat.old.op < 2 ^ 62 - 1) × (seat.old.tally.taken < 2 ^ 62 - 1) }
     requires none { (out.old.items.items ≡ []) × (out.old.drops.items ≡ []) }
-    ensures fed { OnOk result (FedSeat (record { rest = O.rest; decides = O.decides; lost = O.lost; place = O.place; taken = O.taken; running = O.running; takes_marks = O.takes_marks; fits = O.fits }) O.valid levels.now port item out.new.items.items out.new.drops.items seat.old seat.new) }
+    ensures fed { OnOk result (FedSeat (record { rest = O.rest; decides = O.decides; lost = O.lost; place = O.place; taken = O.taken; running = O.running; takes_marks = O.takes_marks; fits = O.fits; reads = O.reads }) O.valid levels.now port item out.new.items.items out.new.drops.items seat.old seat.new) }
     ensures prefix { OnErr result ((table : ℕ → ℕ → ℕ) (future : List Entry) → Agrees levels.now table
         → IsFuture (O.takes_marks seat.old.op) (O.fits seat.old.op) (O.place seat.old.op) (entries port item ++ future)
         → (q : ℕ) → IsPrefixOf (given q out.new.items.items) (O.rest seat.old.op table (entries port item ++ future) q)) }
@@ -54,7 +55,7 @@ pub(crate) fn feed_seat<O: Operator, L: Ledger>(
 pub(crate) fn finish_seat<O: Operator>(seat: &mut Seat<O>, out: &mut Outs) -> Result<(), AllocError>
     requires is_valid { O.valid seat.old.op × (O.running seat.old.op ≡ true) }
     requires none { (out.old.items.items ≡ []) × (out.old.drops.items ≡ []) }
-    ensures finished { OnOk result (FinishedSeat (record { rest = O.rest; decides = O.decides; lost = O.lost; place = O.place; taken = O.taken; running = O.running; takes_marks = O.takes_marks; fits = O.fits }) O.valid out.new.items.items out.new.drops.items seat.old seat.new) }
+    ensures finished { OnOk result (FinishedSeat (record { rest = O.rest; decides = O.decides; lost = O.lost; place = O.place; taken = O.taken; running = O.running; takes_marks = O.takes_marks; fits = O.fits; reads = O.reads }) O.valid out.new.items.items out.new.drops.items seat.old seat.new) }
     ensures prefix { OnErr result ((table : ℕ → ℕ → ℕ) (q : ℕ) → IsPrefixOf (given q out.new.items.items) (O.rest seat.old.op table [] q)) }
 {
     seat.op.finish(out)?;

@@ -1,14 +1,15 @@
 //! What an actor gives goes to the arcs that come from it, or is shown.
 
-ghost use Rattle.std.specs.Prelude.{◌≡◌, ◌==◌, if◌then◌else◌, ◌≢◌, ℕ, ◌+◌, ◌-◌, ◌^◌, ◌<◌, ◌≤◌, ◌++◌, ◌∷◌, List, [], false, Some, OnOk, OnErr, IfErr, length, slice_get};
+ghost use Rattle.std.specs.Prelude.{◌≡◌, ◌==◌, if◌then◌else◌, ◌≢◌, ℕ, ◌+◌, ◌-◌, ◌^◌, ◌<◌, ◌≤◌, ◌++◌, ◌∷◌, List, [], true, false, Some, OnOk, OnErr, IfErr, length, slice_get};
+ghost use Rattle.sq_sched.specs.Ready.{contains};
 ghost use Rattle.sq_value.specs.Lists.{IsPrefixOf};
 ghost use Rattle.sq_item.specs.Sound.{IsSound};
 ghost use Rattle.sq_item.specs.Things.{spread};
 ghost use Rattle.sq_oper.specs.Given.{given, ItemsSound};
 ghost use Rattle.sq_queue.specs.Faces.{face, size, Together};
 ghost use Rattle.sq_flow.specs.Wiring.{arcs_from, times_in, AllOutsFine, pushed_by};
-ghost use Rattle.sq_flow.specs.Sends.{many, sent_to, Pushes};
-ghost use Rattle.sq_flow.specs.Events.{bodies, lines_of, line_of};
+ghost use Rattle.sq_flow.specs.Sends.{many, sent_to, comes_from, Pushes};
+ghost use Rattle.sq_flow.specs.Events.{bodies, lines_of, line_of, ShowsBelow};
 
 use crate::errors::RunErr;
 use crate::wires::Wires;
@@ -21,24 +22,24 @@ use std::alloc::AllocError;
 
 /// An item goes to each of these arcs: a copy to each but the last, and to the last the item itself.
 fn send_item<D: PageDisk>(
-    arcs: &Vec<u32>,
+    arcs: &[u32],
     queues: &mut Queues,
     disk: &mut D,
     item: Item,
 ) -> Result<(), QueueErr>
-    requires there { (place arc : ℕ) → slice_get arcs.now.items place ≡ Some arc → (arc < size queues.old) × ((face queues.old arc).ended ≡ false) }
+    requires there { (place arc : ℕ) → slice_get arcs.now place ≡ Some arc → (arc < size queues.old) × ((face queues.old arc).ended ≡ false) }
     requires sound { IsSound item }
     requires together { Together queues.old (D.pages disk.old) }
-    ensures { OnOk result (Pushes queues.old queues.new (D.pages disk.old) (D.pages disk.new) (λ arc. many (times_in arc arcs.now.items) (spread item)) (λ time. item.time ≤ time) (λ arc. contains arcs.now.items arc)) }
+    ensures { OnOk result (Pushes queues.old queues.new (D.pages disk.old) (D.pages disk.new) (λ arc. many (times_in arc arcs.now) (spread item)) (λ time. item.time ≤ time) (λ arc. contains arcs.now arc)) }
 {
-    let count = arcs.len();
-    if count == 0 {
+    let Some((last, others)) = arcs.split_last() else {
         return Ok(());
+    };
+    for arc in others {
+        queues.push(disk, *arc, &item)?;
     }
-    for place in 0..count - 1 {
-        queues.push(disk, arcs[place], &item)?;
-    }
-    queues.send(disk, arcs[count - 1], item)
+    queues.send(disk, *last, item)?;
+    Ok(())
 }
 
 /// An item that an actor gives at a port goes to each arc that comes from there.
@@ -73,6 +74,7 @@ pub(crate) fn send_all<D: PageDisk>(
 ) -> Result<(), QueueErr>
     requires within { actor < length wires.now.readers.items }
     requires there { (port place arc : ℕ) → slice_get (arcs_from wires.now actor port) place ≡ Some arc → (arc < size queues.old) × ((face queues.old arc).ended ≡ false) }
+    requires joined { (port arc : ℕ) → contains (arcs_from wires.now actor port) arc ≡ true → comes_from wires.now actor arc ≡ true }
     requires sound { ItemsSound items.old.items }
     requires together { Together queues.old (D.pages disk.old) }
     ensures sent { OnOk result (Pushes queues.old queues.new (D.pages disk.old) (D.pages disk.new) (sent_to wires.now actor items.old.items) (λ time. AllOutsFine time items.old.items) (comes_from wires.now actor)) }
@@ -89,16 +91,13 @@ pub(crate) fn send_all<D: PageDisk>(
 fn show_item(output: u32, item: Item, events: &mut Vec<Event>) -> Result<(), AllocError>
     ensures shown { OnOk result ((o : ℕ) → lines_of o events.new.items ≡ lines_of o events.old.items ++ (if output == o then bodies (spread item) else [])) }
     ensures err { OnErr result (events.new.items ≡ events.old.items) }
+    ensures below { (outputs : ℕ) → output < outputs → ShowsBelow outputs events.old.items events.new.items }
 {
-    match item.body {
-        Some(fields) => {
-            let tuple = Tuple {
-                time: item.time,
-                fields,
-            };
-            events.push(Event::Line { output, tuple })?;
-        }
-        None => {}
+    let time = item.time;
+    let body = item.body;
+    if let Some(fields) = body {
+        let tuple = Tuple { time, fields };
+        events.push(Event::Line { output, tuple })?;
     }
     Ok(())
 }
@@ -107,6 +106,7 @@ fn show_item(output: u32, item: Item, events: &mut Vec<Event>) -> Result<(), All
 fn show_one(output: u32, port: u32, item: Item, events: &mut Vec<Event>) -> Result<(), AllocError>
     ensures shown { OnOk result ((o : ℕ) → lines_of o events.new.items ≡ lines_of o events.old.items ++ (if output == o then bodies (given 0 (record { 0 = port; 1 = item } ∷ [])) else [])) }
     ensures err { OnErr result (events.new.items ≡ events.old.items) }
+    ensures below { (outputs : ℕ) → output < outputs → ShowsBelow outputs events.old.items events.new.items }
 {
     if port == 0 {
         show_item(output, item, events)?;
@@ -119,6 +119,7 @@ pub(crate) fn show_all(output: u32, items: &mut Vec<(u32, Item)>, events: &mut V
     ensures shown { OnOk result ((o : ℕ) → lines_of o events.new.items ≡ lines_of o events.old.items ++ (if output == o then bodies (given 0 items.old.items) else [])) }
     ensures prefix { OnErr result ((o : ℕ) → IsPrefixOf (lines_of o events.new.items) (lines_of o events.old.items ++ (if output == o then bodies (given 0 items.old.items) else []))) }
     ensures none { OnOk result (items.new.items ≡ []) }
+    ensures below { (outputs : ℕ) → output < outputs → ShowsBelow outputs events.old.items events.new.items }
 {
     for (port, item) in items.drain(..) {
         show_one(output, port, item, events)?;
@@ -138,12 +139,14 @@ pub(crate) fn give<D: PageDisk>(
     requires within { actor < length wires.now.readers.items }
     requires shown { wires.now.shown ≤ actor → (port : ℕ) → arcs_from wires.now actor port ≡ [] }
     requires there { (port place arc : ℕ) → slice_get (arcs_from wires.now actor port) place ≡ Some arc → (arc < size queues.old) × ((face queues.old arc).ended ≡ false) }
+    requires joined { (port arc : ℕ) → contains (arcs_from wires.now actor port) arc ≡ true → comes_from wires.now actor arc ≡ true }
     requires sound { ItemsSound outs.old.items.items }
     requires together { Together queues.old (D.pages disk.old) }
     ensures sent { OnOk result (Pushes queues.old queues.new (D.pages disk.old) (D.pages disk.new) (sent_to wires.now actor outs.old.items.items) (λ time. AllOutsFine time outs.old.items.items) (comes_from wires.now actor)) }
     ensures shown { OnOk result ((o : ℕ) → lines_of o events.new.items ≡ lines_of o events.old.items ++ bodies (pushed_by actor outs.old.items.items (wires.now.shown + o) 0)) }
     ensures none { OnOk result ((outs.new.items.items ≡ []) × (outs.new.drops.items ≡ [])) }
     ensures prefix { OnErr result ((o : ℕ) → IsPrefixOf (lines_of o events.new.items) (lines_of o events.old.items ++ bodies (pushed_by actor outs.old.items.items (wires.now.shown + o) 0))) }
+    ensures below { (outputs : ℕ) → actor < wires.now.shown + outputs → ShowsBelow outputs events.old.items events.new.items }
     ensures memory { IfErr result (λ e. e ≡ RunErr.Memory) }
 {
     outs.drops.clear();

@@ -1,6 +1,6 @@
 //! Taking an item from an arc, and the tests that it passes.
 
-ghost use Rattle.std.specs.Prelude.{◌≡◌, ◌≢◌, ℕ, ◌+◌, ◌-◌, ◌^◌, ◌<◌, ◌≤◌, ◌∷◌, true, is_some, length, List, Option, IfOk, IfErr, OnOk};
+ghost use Rattle.std.specs.Prelude.{◌≡◌, ◌≢◌, ℕ, ◌+◌, ◌-◌, ◌^◌, ◌<◌, ◌≤◌, ◌∷◌, true, is_some, length, List, Option, IfOk, IfErr, OnOk, OnErr};
 ghost use Rattle.sq_item.specs.Sound.{IsSound};
 ghost use Rattle.sq_item.specs.Things.{spread};
 ghost use Rattle.sq_outside.specs.Disks.{Pages};
@@ -105,6 +105,7 @@ pub(crate) fn take_item<D: PageDisk>(
     ensures tells { is_some (D.pages disk.new) ≡ is_some (D.pages disk.old) }
     ensures strange { IfErr result (λ e. Tells (D.pages disk.old)
         → ((item : Item) (more : List Item) → items_on queues.old (D.pages disk.old) arc ≡ item ∷ more → MayBeFed at port place clock item) → NotStrange e) }
+    ensures memory { IfErr result (λ e. e ≢ RunErr.TooMuch) }
 {
     let item = queues.pop(disk, arc)?;
     if !may_be_fed(at, port, place, clock, &item) {
@@ -117,7 +118,9 @@ pub(crate) fn take_item<D: PageDisk>(
 pub(crate) fn count_item(taken: u64, item: &Item) -> Result<u64, RunErr>
     requires { taken < 2 ^ 62 }
     ensures ok { IfOk result (λ n. (n ≡ taken + length (spread item.now)) × (n < 2 ^ 62)) }
-    ensures err { IfErr result NotStrange }
+    ensures err { IfErr result (λ e. e ≡ RunErr.TooMuch) }
+    ensures too_much { OnErr result (2 ^ 62 ≤ taken + length (spread item.now)) }
+    ensures few { length (spread item.now) ≤ 2 }
 {
     let weight = weight_of(item);
     if taken + weight > LIMIT {

@@ -1,8 +1,9 @@
-use Rattle.std.proofs.Common.{◌≡◌, ◌≢◌, ℕ, ◌<◌, ◌≤◌, ◌+◌, ◌||◌, length, refl, ap, sym, ◌∙◌, Some, arith, eqb}
+use Rattle.std.proofs.Common.{◌≡◌, ◌≢◌, ℕ, ◌<◌, ◌≤◌, ◌+◌, ◌||◌, false, length, refl, ap, sym, ◌∙◌, Some, arith, eqb}
 use Rattle.std.specs.Prelude.{slice_get, ◌==◌}
 use borrow.Author.Count.{below_more}
-use Rattle.sq_queue.specs.Faces.{face}
+use Rattle.sq_queue.specs.Faces.{Face, face}
 use Rattle.sq_flow.specs.Wiring.{from_of}
+use Rattle.sq_flow.specs.Sends.{comes_from}
 use Rattle.sq_flow.proofs.SendLemmas.{at_or_other}
 use Rattle.sq_flow.proofs.flow.end_arcs.Goals as goal
 
@@ -11,13 +12,16 @@ loop-arc-preserved c =
     let i = c.loop-arc.arc in
     let inv = c.loop-arc.invariant in
     let told = c.end_if.ensures in
-    let from = ap from_of c.arc.ensures in
+    let from = sym (ap from_of c.arc.ensures) in
     record {
       size = told.size ∙ inv.size;
       ended = below_more _ i
-          (λ arc h. let ne : arc ≢ i = omega (arith, h) in told.others arc ne ∙ inv.ended arc h)
-          (told.ended ∙ ap (λ b. b || (c.arc.result.from == c.args.actor)) (inv.later i (omega arith)) ∙ ap (λ n. (face c.args.queues.now i).ended || (n == c.args.actor)) (sym from));
-      later = λ arc h. let ne : arc ≢ i = omega (arith, h) in told.others arc ne ∙ inv.later arc (omega (arith, h));
+          (λ arc h. let ne : arc ≢ i = omega (arith, h) in ap (λ (f : Face). f.ended) (told.others arc ne) ∙ inv.ended arc h)
+          (told.ended ∙ ap (λ b. b || (c.arc.result.from == c.args.actor)) (inv.later i (omega arith)) ∙ ap (λ n. (face c.args.queues.now i).ended || (n == c.args.actor)) from);
+      later = λ arc h. let ne : arc ≢ i = omega (arith, h) in ap (λ (f : Face). f.ended) (told.others arc ne) ∙ inv.later arc (omega (arith, h));
+      apart = at_or_other (λ arc. comes_from c.args.wires.now c.args.actor arc ≡ false → face c.end_if.new.queues arc ≡ face c.args.queues.now arc) i
+          (λ away. told.none (ap (λ n. n == c.args.actor) from ∙ away) ∙ inv.apart i away)
+          (λ arc ne away. told.others arc ne ∙ inv.apart arc away);
       first = λ arc. told.first arc ∙ inv.first arc;
       items = λ pages arc. told.items pages arc ∙ inv.items pages arc;
       together = λ pages h. told.together pages (inv.together pages h);

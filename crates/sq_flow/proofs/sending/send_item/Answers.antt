@@ -1,32 +1,54 @@
-use Rattle.std.proofs.Common.{◌≡◌, ℕ, ◌<◌, ◌≤◌, ◌+◌, length, refl, ap, sym, ◌∙◌, Some, take, suc, add-one, arith}
-use Rattle.std.specs.Prelude.{slice_get}
-use Rattle.std.proofs.lemmas.Option.{slice_get_read}
+use Rattle.std.proofs.Common.{◌≡◌, ℕ, suc, ◌+◌, ◌<◌, ◌≤◌, ◌++◌, ◌∷◌, [], Some, length, get_or, take, ap, refl, sym, ◌∙◌, add-one}
+use Rattle.std.proofs.Math.Seq.{take-suc}
+use Rattle.std.proofs.lemmas.List.{take_all}
 use Rattle.sq_item.specs.Things.{spread}
-use Rattle.sq_queue.specs.Faces.{face, size}
 use Rattle.sq_flow.specs.Wiring.{times_in}
 use Rattle.sq_flow.specs.Sends.{many}
-use Rattle.sq_flow.proofs.SendLemmas.{pushes-one, pushes-both, many-next}
+use Rattle.sq_flow.proofs.SendLemmas.{pushes-none, pushes-one, pushes-both, many-next, not-in, contains-get, at-front, at-last}
 use Rattle.sq_flow.proofs.sending.send_item.Goals as goal
 
 pub push-requires-clause-there : goal.push-requires-clause-there
 push-requires-clause-there g c =
-    let within : c.loop-place.place < length c.args.arcs.now.items = omega (arith, c.loop-place-test.true, c.len-place-end.ensures, c.args.arcs.now.ok.0) in
-    let at_is = slice_get_read c.args.arcs.now.items _ c.loop-place.place c.index-arc.result.now refl within c.index-arc.ensures in
-    let low = (c.requires.there c.loop-place.place c.index-arc.result.now at_is).0 in
-    rw c.loop-place.invariant.lanes low
+    let here = at-front c.args.arcs.now c.in-Some.others.now c.in-Some.last.now c.loop-arc.arc-index c.in-Some.ensures.cases.0 c.loop-arc-test.true in
+    let low = (c.requires.there c.loop-arc.arc-index _ here).0 in rw c.loop-arc.invariant.lanes low
 
 pub push-requires-clause-open : goal.push-requires-clause-open
 push-requires-clause-open g c =
-    let within : c.loop-place.place < length c.args.arcs.now.items = omega (arith, c.loop-place-test.true, c.len-place-end.ensures, c.args.arcs.now.ok.0) in
-    let at_is = slice_get_read c.args.arcs.now.items _ c.loop-place.place c.index-arc.result.now refl within c.index-arc.ensures in
-    c.loop-place.invariant.ended c.index-arc.result.now ∙ (c.requires.there c.loop-place.place c.index-arc.result.now at_is).1
+    let here = at-front c.args.arcs.now c.in-Some.others.now c.in-Some.last.now c.loop-arc.arc-index c.in-Some.ensures.cases.0 c.loop-arc-test.true in
+    c.loop-arc.invariant.ended _ ∙ (c.requires.there c.loop-arc.arc-index _ here).1
 
-pub loop-place-preserved : goal.loop-place-preserved
-loop-place-preserved g c =
-    let within : c.loop-place.place < length c.args.arcs.now.items = omega (arith, c.loop-place-test.true, c.len-place-end.ensures, c.args.arcs.now.ok.0) in
+pub loop-arc-preserved : goal.loop-arc-preserved
+loop-arc-preserved g c =
+    let at = get_or c.in-Some.others.now c.loop-arc.arc-index 0 in
+    let here = at-front c.args.arcs.now c.in-Some.others.now c.in-Some.last.now c.loop-arc.arc-index c.in-Some.ensures.cases.0 c.loop-arc-test.true in
     let told = c.in_ok-push.ensures in
-    pushes-both _ _ _ _ _ _ _ _ _ _ _ _ c.loop-place.invariant
-    (pushes-one _ _ _ _ c.index-arc.result.now c.args.item.now c.requires.sound told.face told.faces told.size told.items told.others told.together told.tells)
+    pushes-both _ _ _ _ _ _ _ _ _ _ _ _ _ _ _ c.loop-arc.invariant
+    (pushes-one _ _ _ _ at c.args.item c.requires.sound told.face told.faces told.size told.items told.others told.together told.tells)
     (λ time le. (le, le))
-    (λ arc. ap (λ n. many (times_in arc (take n c.args.arcs.now.items)) (spread c.args.item.now)) (add-one c.loop-place.place)
-    ∙ many-next c.args.arcs.now.items c.loop-place.place c.index-arc.result.now (spread c.args.item.now) within c.index-arc.ensures arc)
+    (λ arc. ap (λ l. many (times_in arc l) (spread c.args.item))
+    (ap (λ n. take n c.in-Some.others.now) (add-one c.loop-arc.arc-index) ∙ take-suc c.in-Some.others.now c.loop-arc.arc-index 0 c.loop-arc-test.true)
+    ∙ many-next (take c.loop-arc.arc-index c.in-Some.others.now) at (spread c.args.item) arc)
+    (λ arc away. (away, not-in c.args.arcs.now at arc (contains-get c.args.arcs.now c.loop-arc.arc-index at here) away))
+
+pub send-requires-clause-there : goal.send-requires-clause-there
+send-requires-clause-there g c =
+    let here = at-last c.args.arcs.now c.in-Some.others.now c.in-Some.last.now c.in-Some.ensures.cases.0 in
+    let low = (c.requires.there _ _ here).0 in rw c.loop-arc.invariant.lanes low
+
+pub send-requires-clause-open : goal.send-requires-clause-open
+send-requires-clause-open g c =
+    let here = at-last c.args.arcs.now c.in-Some.others.now c.in-Some.last.now c.in-Some.ensures.cases.0 in
+    c.loop-arc.invariant.ended _ ∙ (c.requires.there _ _ here).1
+
+pub returns : goal.returns
+returns g c =
+    let arcs = c.args.arcs.now in
+    let told = c.in_ok-send.ensures in
+    let here = at-last arcs c.in-Some.others.now c.in-Some.last.now c.in-Some.ensures.cases.0 in
+    pushes-both _ _ _ _ _ _ _ _ _ _ _ _ _ _ _ c.loop-arc.invariant
+    (pushes-one _ _ _ _ c.in-Some.last.now c.args.item c.requires.sound told.face told.faces told.size told.items told.others told.together told.tells)
+    (λ time le. (le, le))
+    (λ arc. ap (λ l. many (times_in arc l) (spread c.args.item))
+    (c.in-Some.ensures.cases.0 ∙ ap (λ l. l ++ c.in-Some.last.now ∷ []) (sym (take_all c.loop-arc.arc-index c.in-Some.others.now c.loop-arc-test.false)))
+    ∙ many-next (take c.loop-arc.arc-index c.in-Some.others.now) c.in-Some.last.now (spread c.args.item) arc)
+    (λ arc away. (away, not-in arcs c.in-Some.last.now arc (contains-get arcs _ c.in-Some.last.now here) away))

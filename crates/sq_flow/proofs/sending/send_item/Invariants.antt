@@ -1,9 +1,10 @@
 use Rattle.std.proofs.Common.{◌≡◌, ℕ, ◌≤◌, take}
 use Rattle.sq_item.specs.Things.{spread}
+use Rattle.sq_sched.specs.Ready.{contains}
 use Rattle.sq_flow.specs.Wiring.{times_in}
 use Rattle.sq_flow.specs.Sends.{many, Pushes}
 use Rattle.sq_flow.proofs.sending.send_item.Given as goal
 
-abbrev pub invariant-loop-place : goal.invariant-loop-place
-invariant-loop-place g l =
-    Pushes l.initial.queues l.queues (g.D.PageDisk.pages l.initial.disk) (g.D.PageDisk.pages l.disk) (λ arc. many (times_in arc (take l.place l.arcs.items)) (spread l.item)) (λ time. l.item.time ≤ time)
+abbrev pub invariant-loop-arc : goal.invariant-loop-arc
+invariant-loop-arc g l =
+    Pushes l.initial.queues l.queues (g.D.PageDisk.pages l.initial.disk) (g.D.PageDisk.pages l.disk) (λ arc. many (times_in arc (take l.arc-index l.others)) (spread l.item)) (λ time. l.item.time ≤ time) (λ arc. contains l.fn.arcs arc)

@@ -1,4 +1,3 @@
-use Rattle.std.proofs.Common.{◌≡◌, refl}
 use Rattle.sq_flow.proofs.StepLemmas.{stepped-both, prefix-after, none-strange-after}
 use Rattle.sq_flow.proofs.engine.Engine.run.Goals as goal
 

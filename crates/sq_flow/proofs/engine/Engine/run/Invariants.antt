@@ -1,4 +1,3 @@
-use Rattle.std.proofs.Common.{◌≡◌}
 use Rattle.sq_flow.specs.Flows.{Stepped}
 use Rattle.sq_flow.specs.Engines.{IsEngine}
 use Rattle.sq_flow.proofs.engine.Engine.run.Given as goal
@@ -7,7 +6,7 @@ abbrev pub invariant-loop-pick : goal.invariant-loop-pick
 invariant-loop-pick g l =
     let op = g.O.Operator in
     record {
-      engine : IsEngine (record { rest = op.rest; decides = op.decides; lost = op.lost; place = op.place; taken = op.taken; running = op.running; takes_marks = op.takes_marks; fits = op.fits }) op.valid l.self;
-      stepped : Stepped (record { rest = op.rest; decides = op.decides; lost = op.lost; place = op.place; taken = op.taken; running = op.running; takes_marks = op.takes_marks; fits = op.fits }) op.valid
+      engine : IsEngine (record { rest = op.rest; decides = op.decides; lost = op.lost; place = op.place; taken = op.taken; running = op.running; takes_marks = op.takes_marks; fits = op.fits; reads = op.reads }) op.valid l.self;
+      stepped : Stepped (record { rest = op.rest; decides = op.decides; lost = op.lost; place = op.place; taken = op.taken; running = op.running; takes_marks = op.takes_marks; fits = op.fits; reads = op.reads }) op.valid
           (g.D.PageDisk.pages l.fn.disk) (g.D.PageDisk.pages l.disk) l.fn.self.flow l.self.flow l.fn.events.items l.events.items;
     }

@@ -1,15 +1,17 @@
 use Rattle.std.proofs.Common.{◌≡◌, ◌≢◌, ℕ, ◌<◌, ◌≤◌, ◌+◌, ◌-◌, ◌^◌, ◌++◌, ◌∷◌, List, [], length, length-set, refl, ap, sym, ◌∙◌, Some, Option, true, false, not, arith, subst}
 use Rattle.std.specs.Prelude.{slice_get, is_some}
+use Rattle.std.specs.Vec.{with_item}
 use Rattle.std.proofs.lemmas.Option.{slice_get_read, same_Some}
 use Rattle.std.proofs.lemmas.Result.{err_from_is_err_and}
 use Rattle.sq_item.specs.Things.{spread}
 use Rattle.sq_flow.specs.Takes.{MayBeFed}
 use Rattle.sq_flow.specs.Flows.{open_seats}
 use Rattle.sq_queue.specs.Faces.{face, size, items_on}
-use Rattle.sq_flow.proofs.WireLemmas.{arcs-open}
+use Rattle.sq_flow.proofs.WireLemmas.{arcs-open, comes-from}
 use Rattle.sq_flow.proofs.FutureLemmas.{slice_get-set_same, slice_get-set_other}
 use Rattle.sq_flow.proofs.Measures.{weighs, open-same}
-use Rattle.sq_flow.proofs.FedFlow.{seat-fine, may-come, runs, passes-front, fed-prefix, fed-stepped}
+use Rattle.sq_flow.proofs.FedFlow.{seat-fine, may-come, runs, passes-front, fed-prefix, fed-stepped, fed-touches, costs-none, costs-front, costs-fed, too-much-front}
+use Rattle.sq_flow.proofs.EventLemmas.{below-outputs}
 use Rattle.sq_flow.proofs.flow.Flow.feed_step.Goals as goal
 
 pub returns-in-Err-clause-strange : goal.returns-in-Err-clause-strange
@@ -77,6 +79,7 @@ returns-clause-ok g c =
     (slice_get-set_same c.args.self.now.seats.items c.args.actor c.feed_seat.new.seat c.requires.actor_in)
     (λ other ne. slice_get-set_other c.args.self.now.seats.items c.args.actor other c.feed_seat.new.seat ne)
     (length-set c.args.self.now.seats.items c.args.actor c.feed_seat.new.seat) c.requires.running c.in_ok-give.ensures.sent c.in_ok-give.ensures.shown
+    (c.in_ok-give.ensures.below (length c.args.self.now.seats.items - c.args.self.now.wires.shown) (below-outputs c.args.actor (length c.args.self.now.seats.items) c.args.self.now.wires.shown c.requires.actor_in))
 
 pub returns-clause-measure : goal.returns-clause-measure
 returns-clause-measure g c =
@@ -86,3 +89,57 @@ returns-clause-measure g c =
     let more = c.in-Ok-count_item.ensures.ok.0 in
     let low = c.in-Ok-count_item.ensures.ok.1 in
     omega (arith, same, weight, more, low)
+
+pub returns-in-Err-clause-cost_err : goal.returns-in-Err-clause-cost_err
+returns-in-Err-clause-cost_err g c = costs-none _ _ c.args.self.now c.requires.flow (g.D.PageDisk.pages c.args.disk.now) c.args.self.now.levels c.args.steps.now c.args.steps.now refl
+
+pub returns-in-Err-count_item-clause-cost_err : goal.returns-in-Err-count_item-clause-cost_err
+returns-in-Err-count_item-clause-cost_err g c = costs-none _ _ c.args.self.now c.requires.flow (g.D.PageDisk.pages c.args.disk.now) c.args.self.now.levels c.args.steps.now c.args.steps.now refl
+
+pub returns-in-Err-count_item-clause-too_much : goal.returns-in-Err-count_item-clause-too_much
+returns-in-Err-count_item-clause-too_much g c =
+    let is = slice_get_read c.args.self.now.seats.items _ c.args.actor c.index.result.now refl c.requires.actor_in c.index.ensures in
+    too-much-front _ _ c.args.self.now c.requires.flow c.args.actor c.args.time c.args.port c.args.arc c.arc-at.result c.in-Ok.item c.requires.actor_in c.requires.head c.index.result.now is c.arc-at.ensures
+    (g.D.PageDisk.pages c.args.disk.now) (g.D.PageDisk.pages c.take_item.new.disk) c.take_item.new.queues _ c.in-Err-count_item.e c.requires.together c.in-Ok.ensures.items c.in-Ok.ensures.others
+    c.in-Err-count_item.ensures.too_much c.in-Err-count_item.ensures.few refl refl
+
+pub feed_seat-requires-clause-has_epoch : goal.feed_seat-requires-clause-has_epoch
+feed_seat-requires-clause-has_epoch g c =
+    let is = slice_get_read c.args.self.now.seats.items _ c.args.actor c.index_mut.result.now refl c.requires.actor_in c.index_mut.ensures.value in
+    let fine = seat-fine _ _ c.args.self.now c.requires.flow c.args.actor c.args.time c.args.port c.args.arc c.arc-at.result c.in-Ok.item c.requires.actor_in c.requires.head c.index_mut.result.now is c.arc-at.ensures in
+    fine.reads (sym fine.running ∙ runs _ _ c.args.self.now c.requires.flow c.args.actor c.args.time c.args.port c.args.arc c.arc-at.result c.in-Ok.item c.requires.actor_in c.requires.head c.index_mut.result.now is c.arc-at.ensures c.requires.running)
+
+pub returns-in_err-feed_seat-clause-cost_err : goal.returns-in_err-feed_seat-clause-cost_err
+returns-in_err-feed_seat-clause-cost_err g c =
+    let p = err_from_is_err_and c.from_residual.result c.from_residual.ensures.1 in
+    rw p.1 (costs-none _ _ c.args.self.now c.requires.flow (g.D.PageDisk.pages c.args.disk.now) c.args.self.now.levels c.args.steps.now c.feed_seat.new.steps c.in_err-feed_seat.ensures.no_cost)
+
+pub give-requires-clause-joined : goal.give-requires-clause-joined
+give-requires-clause-joined g c = comes-from c.args.self.now.wires (length c.args.self.now.seats.items) c.requires.flow.shaped c.args.actor
+
+pub returns-in_err-give-clause-cost_err : goal.returns-in_err-give-clause-cost_err
+returns-in_err-give-clause-cost_err g c =
+    let p = err_from_is_err_and c.from_residual-in_err-give.result c.from_residual-in_err-give.ensures.1 in
+    let is = slice_get_read c.args.self.now.seats.items _ c.args.actor c.index_mut.result.now refl c.requires.actor_in c.index_mut.ensures.value in
+    rw p.1
+    (costs-front _ _ c.args.self.now c.requires.flow c.args.actor c.args.time c.args.port c.args.arc c.arc-at.result c.in-Ok.item c.requires.actor_in c.requires.head c.index_mut.result.now is c.arc-at.ensures
+    (g.D.PageDisk.pages c.args.disk.now) (g.D.PageDisk.pages c.take_item.new.disk) c.take_item.new.queues c.args.steps.now c.feed_seat.new.steps
+    c.requires.together c.in-Ok.ensures.items c.in-Ok.ensures.others c.in_ok-feed_seat.ensures.cost)
+
+pub returns-clause-touches : goal.returns-clause-touches
+returns-clause-touches g c =
+    let is = slice_get_read c.args.self.now.seats.items _ c.args.actor c.index_mut.result.now refl c.requires.actor_in c.index_mut.ensures.value in
+    fed-touches _ _ c.args.self.now c.requires.flow c.args.actor c.args.time c.args.port c.args.arc c.arc-at.result c.in-Ok.item c.requires.actor_in c.requires.head c.index_mut.result.now is c.arc-at.ensures
+    (g.D.PageDisk.pages c.give.new.disk) (g.D.PageDisk.pages c.take_item.new.disk) c.take_item.new.queues c.give.new.queues _ c.in-Ok-count_item.taken c.feed_seat.new.seat c.feed_seat.new.out.items.items
+    c.in-Ok.ensures.faces c.in_ok-feed_seat.ensures.fed.open_still
+    (slice_get-set_same c.args.self.now.seats.items c.args.actor c.feed_seat.new.seat c.requires.actor_in)
+    (λ other ne. slice_get-set_other c.args.self.now.seats.items c.args.actor other c.feed_seat.new.seat ne) c.in_ok-give.ensures.sent
+
+pub returns-clause-cost : goal.returns-clause-cost
+returns-clause-cost g c =
+    let is = slice_get_read c.args.self.now.seats.items _ c.args.actor c.index_mut.result.now refl c.requires.actor_in c.index_mut.ensures.value in
+    costs-fed _ _ c.args.self.now c.requires.flow c.args.actor c.args.time c.args.port c.args.arc c.arc-at.result c.in-Ok.item c.requires.actor_in c.requires.head c.index_mut.result.now is c.arc-at.ensures
+    (with_item c.args.self.now.seats c.args.actor c.feed_seat.new.seat) c.give.new.queues c.in-Ok-count_item.taken c.feed_seat.new.seat c.args.steps.now c.feed_seat.new.steps
+    (slice_get-set_same c.args.self.now.seats.items c.args.actor c.feed_seat.new.seat c.requires.actor_in)
+    (λ other ne. slice_get-set_other c.args.self.now.seats.items c.args.actor other c.feed_seat.new.seat ne)
+    (length-set c.args.self.now.seats.items c.args.actor c.feed_seat.new.seat) c.in_ok-feed_seat.ensures.fed.counted c.in_ok-feed_seat.ensures.cost

@@ -1,11 +1,13 @@
 use Rattle.std.proofs.Common.{◌≡◌, ◌≢◌, ℕ, ◌<◌, ◌≤◌, ◌+◌, ◌-◌, ◌^◌, ◌++◌, ◌∷◌, List, [], length, length-set, refl, ap, sym, ◌∙◌, Some, Option, true, false, not, arith, subst}
 use Rattle.std.specs.Prelude.{slice_get, is_some}
+use Rattle.std.specs.Vec.{with_item}
 use Rattle.std.proofs.lemmas.Option.{slice_get_read}
 use Rattle.std.proofs.lemmas.Result.{err_from_is_err_and}
-use Rattle.sq_flow.proofs.WireLemmas.{arcs-open}
+use Rattle.sq_flow.proofs.WireLemmas.{arcs-open, comes-from}
 use Rattle.sq_flow.proofs.FutureLemmas.{slice_get-set_same, slice_get-set_other}
 use Rattle.sq_flow.proofs.Measures.{open-less}
-use Rattle.sq_flow.proofs.FinishedFlow.{seat-fine, runs, finished-prefix, finished-stepped}
+use Rattle.sq_flow.proofs.FinishedFlow.{seat-fine, runs, finished-prefix, finished-stepped, finished-taken, finished-touches}
+use Rattle.sq_flow.proofs.EventLemmas.{below-outputs}
 use Rattle.sq_flow.proofs.flow.Flow.finish_step.Goals as goal
 
 pub give-requires-clause-there : goal.give-requires-clause-there
@@ -31,6 +33,7 @@ returns-clause-ok g c =
     (λ other ne. slice_get-set_other c.args.self.now.seats.items c.args.actor other c.finish_seat.new.seat ne)
     (length-set c.args.self.now.seats.items c.args.actor c.finish_seat.new.seat)
     c.in_ok-give.ensures.sent c.end_arcs.ensures.size c.end_arcs.ensures.ended c.end_arcs.ensures.items c.end_arcs.ensures.together c.in_ok-give.ensures.shown
+    (c.in_ok-give.ensures.below (length c.args.self.now.seats.items - c.args.self.now.wires.shown) (below-outputs c.args.actor (length c.args.self.now.seats.items) c.args.self.now.wires.shown c.requires.actor_in))
 
 pub returns-clause-measure : goal.returns-clause-measure
 returns-clause-measure g c =
@@ -39,3 +42,23 @@ returns-clause-measure g c =
     let ran = sym fine.running ∙ runs _ _ c.args.self.now c.requires.flow c.args.actor c.requires.actor_in c.requires.head c.index_mut.result.now is c.requires.running in
     let less = open-less c.args.self.now.seats.items c.args.actor c.index_mut.result.now c.finish_seat.new.seat is ran c.in_ok-finish_seat.ensures.finished.closed in
     omega (arith, less)
+
+pub give-requires-clause-joined : goal.give-requires-clause-joined
+give-requires-clause-joined g c = comes-from c.args.self.now.wires (length c.args.self.now.seats.items) c.requires.flow.shaped c.args.actor
+
+pub returns-clause-taken : goal.returns-clause-taken
+returns-clause-taken g c =
+    let is = slice_get_read c.args.self.now.seats.items _ c.args.actor c.index_mut.result.now refl c.requires.actor_in c.index_mut.ensures.value in
+    finished-taken _ _ c.args.self.now c.requires.flow c.args.actor c.requires.actor_in c.requires.head c.index_mut.result.now is
+    (with_item c.args.self.now.seats c.args.actor c.finish_seat.new.seat) c.end_arcs.new.queues c.finish_seat.new.seat c.in_ok-finish_seat.ensures.finished.counted
+    (slice_get-set_same c.args.self.now.seats.items c.args.actor c.finish_seat.new.seat c.requires.actor_in)
+    (λ other ne. slice_get-set_other c.args.self.now.seats.items c.args.actor other c.finish_seat.new.seat ne)
+    (length-set c.args.self.now.seats.items c.args.actor c.finish_seat.new.seat)
+
+pub returns-clause-touches : goal.returns-clause-touches
+returns-clause-touches g c =
+    let is = slice_get_read c.args.self.now.seats.items _ c.args.actor c.index_mut.result.now refl c.requires.actor_in c.index_mut.ensures.value in
+    finished-touches _ _ c.args.self.now c.requires.flow c.args.actor c.requires.actor_in c.requires.head c.index_mut.result.now is
+    (g.D.PageDisk.pages c.args.disk.now) (g.D.PageDisk.pages c.give.new.disk) c.give.new.queues c.end_arcs.new.queues _ c.finish_seat.new.out.items.items
+    (λ other ne. slice_get-set_other c.args.self.now.seats.items c.args.actor other c.finish_seat.new.seat ne)
+    c.in_ok-give.ensures.sent c.end_arcs.ensures.ended c.end_arcs.ensures.first c.end_arcs.ensures.apart

@@ -1,8 +1,8 @@
-use Rattle.std.proofs.Common.{◌≡◌, ℕ, ◌≤◌, ◌+◌, ◌-◌, refl, ap, sym, ◌∙◌, subst, arith}
-use Rattle.sq_road.specs.Levels.{Agrees}
-use Rattle.sq_flow.specs.declared.flow.Did.{Did}
+use Rattle.std.proofs.Common.{◌≡◌, ℕ, ◌≤◌, ◌+◌, ◌-◌, refl, ap, sym, ◌∙◌, subst, arith, inl, inr}
 use Rattle.sq_flow.specs.Flows.{Lowers, measure_of}
-use Rattle.sq_flow.proofs.StepLemmas.{stepped-both, prefix-after, none-strange-after}
+use Rattle.sq_flow.specs.Readiness.{IsReady, WaitsOnly}
+use Rattle.sq_flow.proofs.StepLemmas.{stepped-both, prefix-after, none-strange-after, costs-after, costs-most-after, too-much-after}
+use Rattle.sq_flow.proofs.TouchLemmas.{touches-both}
 use Rattle.sq_flow.proofs.flow.Flow.train.Goals as goal
 
 pub returns-in-Err-clause-prefix : goal.returns-in-Err-clause-prefix
@@ -15,11 +15,30 @@ returns-in-Err-clause-closes g c = λ table agrees. c.steps.invariant.stepped.cl
 pub returns-in-Err-clause-strange : goal.returns-in-Err-clause-strange
 returns-in-Err-clause-strange g c = none-strange-after _ _ _ _ _ _ _ _ c.steps.invariant.stepped c.in-Err.e c.in-Err.ensures.strange
 
+pub returns-in-Err-clause-cost_err : goal.returns-in-Err-clause-cost_err
+returns-in-Err-clause-cost_err g c =
+    costs-most-after _ _ _ _ _ _ _ _ c.steps.invariant.stepped c.one_step.new.self.levels c.args.steps.now c.steps.steps c.one_step.new.steps c.in-Err.ensures.closes c.steps.invariant.cost c.in-Err.ensures.cost_err
+
+pub returns-in-Err-clause-too_much : goal.returns-in-Err-clause-too_much
+returns-in-Err-clause-too_much g c = too-much-after _ _ _ _ _ _ _ _ c.steps.invariant.stepped c.one_step.new.self c.in-Err.e c.in-Err.ensures.closes c.in-Err.ensures.too_much
+
 pub returns-in-Waits-clause-ok : goal.returns-in-Waits-clause-ok
 returns-in-Waits-clause-ok g c = stepped-both _ _ _ _ _ _ _ _ c.steps.invariant.stepped _ _ _ c.in-Ok.ensures.ok
 
 pub returns-in-Waits-clause-closes : goal.returns-in-Waits-clause-closes
 returns-in-Waits-clause-closes g c = λ table agrees. c.steps.invariant.stepped.closes table (c.in-Ok.ensures.closes table agrees)
+
+pub returns-in-Waits-clause-touches : goal.returns-in-Waits-clause-touches
+returns-in-Waits-clause-touches g c = touches-both c.args.actor c.args.self.now c.steps.self c.one_step.new.self c.steps.invariant.stepped.wires c.steps.invariant.stepped.seats c.steps.invariant.touches c.in-Ok.ensures.touches
+
+pub returns-in-Waits-clause-cost : goal.returns-in-Waits-clause-cost
+returns-in-Waits-clause-cost g c = costs-after _ _ _ _ _ _ _ _ c.steps.invariant.stepped c.one_step.new.self c.args.steps.now c.steps.steps c.one_step.new.steps c.steps.invariant.cost c.in-Ok.ensures.cost
+
+pub returns-in-Waits-clause-stops : goal.returns-in-Waits-clause-stops
+returns-in-Waits-clause-stops g c =
+    let waits = subst (λ d. WaitsOnly d (IsReady c.steps.self c.args.actor → ⊥)) c.in-Waits.is c.in-Ok.ensures.works in
+    let stays = subst (λ d. WaitsOnly d (c.one_step.new.self ≡ c.steps.self)) c.in-Waits.is c.in-Ok.ensures.stays in
+    inr (inr (λ ready. waits (subst (λ f. IsReady f c.args.actor) stays ready)))
 
 pub returns-in-Finished-clause-ok : goal.returns-in-Finished-clause-ok
 returns-in-Finished-clause-ok g c = stepped-both _ _ _ _ _ _ _ _ c.steps.invariant.stepped _ _ _ c.in-Ok.ensures.ok
@@ -27,12 +46,20 @@ returns-in-Finished-clause-ok g c = stepped-both _ _ _ _ _ _ _ _ c.steps.invaria
 pub returns-in-Finished-clause-closes : goal.returns-in-Finished-clause-closes
 returns-in-Finished-clause-closes g c = λ table agrees. c.steps.invariant.stepped.closes table (c.in-Ok.ensures.closes table agrees)
 
+pub returns-in-Finished-clause-touches : goal.returns-in-Finished-clause-touches
+returns-in-Finished-clause-touches g c = touches-both c.args.actor c.args.self.now c.steps.self c.one_step.new.self c.steps.invariant.stepped.wires c.steps.invariant.stepped.seats c.steps.invariant.touches c.in-Ok.ensures.touches
+
+pub returns-in-Finished-clause-cost : goal.returns-in-Finished-clause-cost
+returns-in-Finished-clause-cost g c = costs-after _ _ _ _ _ _ _ _ c.steps.invariant.stepped c.one_step.new.self c.args.steps.now c.steps.steps c.one_step.new.steps c.steps.invariant.cost c.in-Ok.ensures.cost
+
 pub steps-preserved : goal.steps-preserved
 steps-preserved g c =
     let falls = c.steps.invariant.falls in
     let less = subst (λ d. Lowers d (measure_of c.steps.self) (measure_of c.one_step.new.self)) c.in-Fed.is c.in-Ok.ensures.measure in
     record {
       stepped = stepped-both _ _ _ _ _ _ _ _ c.steps.invariant.stepped _ _ _ c.in-Ok.ensures.ok;
+      touches = touches-both c.args.actor c.args.self.now c.steps.self c.one_step.new.self c.steps.invariant.stepped.wires c.steps.invariant.stepped.seats c.steps.invariant.touches c.in-Ok.ensures.touches;
+      cost = costs-after _ _ _ _ _ _ _ _ c.steps.invariant.stepped c.one_step.new.self c.args.steps.now c.steps.steps c.one_step.new.steps c.steps.invariant.cost c.in-Ok.ensures.cost;
       falls = omega (arith, falls, less);
       begun = λ none. absurd (omega (arith, none));
       none = c.in-Ok.ensures.none;
