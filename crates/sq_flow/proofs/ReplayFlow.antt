@@ -320,24 +320,6 @@ module _ {O : Type 0} (m : Meaning O) (valid : O → Type 0) (e : Flow O) (flow 
               let away : actor ≢ e.wires.replay = eqb-no actor e.wires.replay k in
               some (slice_get e.seats.items actor) (slice_get-not_none e.seats.items actor (omega (arith, r, away, low)))
 
-  pub ended-touches : (q' : Queues)
-      → ((k : ℕ) → k < length e.wires.arcs.items → (face q' k).ended ≡ ((face e.queues k).ended || eqb (from_of (slice_get e.wires.arcs.items k)) e.wires.replay))
-      → ((k : ℕ) → (face q' k).first ≡ (face e.queues k).first)
-      → ((k : ℕ) → comes_from e.wires e.wires.replay k ≡ false → face q' k ≡ face e.queues k)
-      → TouchesOnly (length e.seats.items) e (record e { over = true; queues = q' })
-  ended-touches q' ended first same =
-      record {
-        apart = λ arc low to from. let r = flow.shaped.replay_is in same arc (away-from e.wires e.wires.replay arc (λ is. from (is ∙ r)));
-        grows = λ arc low to h.
-            stands-grows (face e.queues arc) (face q' arc) (λ some. ap (λ (o : Option ℕ). is_some o) (first arc) ∙ some)
-            (λ over. ended arc low ∙ ap (λ b. b || eqb (from_of (slice_get e.wires.arcs.items arc)) e.wires.replay) over) h;
-        others = λ other low ne. by (slice_get e.seats.items other) (slice_get-not_none e.seats.items other (omega (arith, low, ne)));
-      }
-    where
-      by : (o : Option (Seat O)) → o ≢ None → done_at true o ≡ done_at e.over o
-      by None n = absurd (n refl)
-      by (Some s) n = refl
-
 -- a source of which one tuple was taken
 pub count-less : (sources : List (VecDeque Tuple Global)) (i : ℕ) (v v' : VecDeque Tuple Global) (x : Tuple) → slice_get sources i ≡ Some v → v.items ≡ x ∷ v'.items
     → count_all (set sources i v') + 1 ≡ count_all sources

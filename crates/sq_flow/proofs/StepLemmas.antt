@@ -21,21 +21,6 @@ use Rattle.sq_flow.proofs.SumLemmas.{sum-same}
 use Rattle.sq_flow.specs.Readiness.{IsReady}
 
 module _ {O : Type 0} (m : Meaning O) (valid : O → Type 0) where
-  -- nothing happened
-  pub stepped-none : (p : Option Pages) (f : Flow O) (events : List Event) → IsFlow m valid f → Together f.queues p → Stepped m valid p p f f events events
-  stepped-none p f events flow together =
-      record {
-        flow_after = flow;
-        together = together;
-        tells = refl;
-        wires = refl;
-        seats = refl;
-        closes = λ table h. h;
-        shows = λ h. h;
-        holds = λ told h. h;
-        goes = λ told h table agrees. record { lines = λ output low. refl; fed = λ actor low. refl; lost = λ actor low. refl; turns = refl };
-      }
-
   module _ (p p1 : Option Pages) (f f1 : Flow O) (e e1 : List Event) (first : Stepped m valid p p1 f f1 e e1) where
     outputs-same : length f1.seats.items - f1.wires.shown ≡ length f.seats.items - f.wires.shown
     outputs-same = rw (first.seats, ap (λ (w : Wires). w.shown) first.wires) refl
@@ -97,14 +82,6 @@ module _ {O : Type 0} (m : Meaning O) (valid : O → Type 0) where
 
     pub none-strange-after : (e2 : RunErr) → NoneStrange m p1 f1 e2 → NoneStrange m p f e2
     none-strange-after e2 none = λ told h. none (first.tells ∙ told) (first.holds told h)
-
--- nothing was too much
-pub too-much-not : {O : Type 0} (m : Meaning O) (was : Option Pages) (f f' : Flow O) (e : RunErr) → e ≢ TooMuch → TooMuchOnly m was f f' e
-too-much-not m was f f' e ne = record { counted = λ is. absurd (ne is); turns = λ is told h table agrees. absurd (ne is) }
-
--- where nothing was fed
-pub costs-same : {O : Type 0} (m : Meaning O) (f f' : Flow O) (before after : ℕ) → taken_in_all m f' ≡ taken_in_all m f → after ≡ before → CostsFed m f f' before after
-costs-same m f f' before after taken same = omega (arith, taken, same)
 
 -- an operator that waits for an arc isn't ready
 pub waits-not-ready : {O : Type 0} (f : Flow O) (actor : ℕ)
