@@ -1,14 +1,12 @@
 -- What one more port says of what an operator may do.
-use Rattle.std.proofs.Common.{◌≡◌, ◌≢◌, ℕ, zero, suc, ◌+◌, ◌<◌, ◌≤◌, eqb, ltb, Bool, true, false, List, [], ◌∷◌, Option, Some, None, length, refl, ap, sym, ◌∙◌, subst, arith}
-use Rattle.std.proofs.lemmas.Bool.Decides.{nat_tests}
+use Rattle.std.proofs.Common.{◌≡◌, ◌≢◌, ℕ, ◌+◌, ◌<◌, eqb, Bool, true, false, List, Option, Some, None, refl, ap, sym, ◌∙◌, subst, arith}
 use Rattle.std.proofs.lemmas.Option.{same_Some}
 use Rattle.std.specs.Prelude.{slice_get}
-use Rattle.sq_queue.specs.declared.Head.{Head}
 use Rattle.sq_queue.specs.declared.Head.TheVariants as head
 use Rattle.sq_queue.specs.Faces.{head_by}
 use Rattle.sq_flow.specs.declared.heads.Next.{Next}
 use Rattle.sq_flow.specs.declared.heads.Next.TheVariants.{Waits, Ended, Feed}
-use Rattle.sq_left.specs.Heads.{key_before, UpTo}
+use Rattle.sq_left.specs.Heads.{UpTo}
 use Rattle.sq_flow.specs.Heads.{FirstNotBefore, NextUpTo}
 use Rattle.sq_left.proofs.MergeLemmas.{eqb-yes, eqb-no}
 

@@ -1,22 +1,19 @@
 -- Steps, one after another.
-use Rattle.std.proofs.Common.{◌≡◌, ◌≢◌, ℕ, ◌+◌, ◌-◌, ◌<◌, ◌≤◌, Bool, true, false, ◌||◌, List, [], ◌∷◌, ◌++◌, length, Option, Some, None, refl, ap, sym, ◌∙◌, subst, arith}
-use Rattle.std.specs.Prelude.{slice_get, is_some}
-use Rattle.std.proofs.lemmas.Option.{slice_get_within}
-use Rattle.sq_value.specs.Lists.{IsPrefixOf}
+use Rattle.std.proofs.Common.{◌≡◌, ℕ, ◌+◌, ◌-◌, ◌<◌, Bool, true, false, ◌||◌, List, length, Option, Some, None, refl, ap, sym, ◌∙◌, subst, arith}
+use Rattle.std.specs.Prelude.{is_some}
 use Rattle.sq_outside.specs.Disks.{Pages}
 use Rattle.sq_road.specs.Levels.{LevelTable, Agrees}
 use Rattle.sq_oper.specs.declared.outs.Event.{Event}
-use Rattle.sq_queue.specs.Faces.{face, Tells, Together}
+use Rattle.sq_queue.specs.Faces.{face, Tells}
 use Rattle.sq_flow.specs.declared.wires.Wires.{Wires}
 use Rattle.sq_flow.specs.declared.flow.Flow.{Flow}
 use Rattle.sq_flow.specs.declared.errors.RunErr.{RunErr}
-use Rattle.sq_flow.specs.declared.heads.Next.TheVariants.{Waits, Ended, Feed}
+use Rattle.sq_flow.specs.declared.heads.Next.TheVariants.{Waits}
 use Rattle.sq_flow.specs.Wiring.{arcs_read}
 use Rattle.sq_flow.specs.Heads.{NextUpTo}
 use Rattle.sq_flow.specs.Seats.{Meaning}
-use Rattle.sq_flow.specs.Events.{lines_of, ShowsBelow}
-use Rattle.sq_flow.specs.Flows.{IsFlow, HoldsItems, Goes, Stepped, ShowsPrefix, NoneStrange, CostsFed, CostsAtMost, TooMuchOnly, items_in, lines_left, fed_at_last, sum_below, taken_in_all, work_at_last}
-use Rattle.sq_flow.specs.declared.errors.RunErr.TheVariants.{TooMuch}
+use Rattle.sq_flow.specs.Events.{ShowsBelow}
+use Rattle.sq_flow.specs.Flows.{HoldsItems, Stepped, ShowsPrefix, NoneStrange, CostsFed, CostsAtMost, TooMuchOnly, items_in, fed_at_last, sum_below, work_at_last}
 use Rattle.sq_flow.proofs.SumLemmas.{sum-same}
 use Rattle.sq_flow.specs.Readiness.{IsReady}
 

@@ -1,5 +1,5 @@
 -- What a call of one actor leaves alone.
-use Rattle.std.proofs.Common.{◌≡◌, ◌≢◌, ℕ, ◌+◌, ◌<◌, ◌≤◌, Bool, true, false, ◌||◌, Option, Some, None, List, length, refl, ap, sym, ◌∙◌, eqb}
+use Rattle.std.proofs.Common.{◌≡◌, ◌≢◌, ℕ, Bool, true, false, ◌||◌, Option, List, length, refl, ap, ◌∙◌}
 use Rattle.std.specs.Prelude.{slice_get, is_some}
 use Rattle.sq_outside.specs.Disks.{Pages}
 use Rattle.sq_item.specs.Things.{Thing}
@@ -8,8 +8,7 @@ use Rattle.sq_queue.specs.Faces.{Face, face}
 use Rattle.sq_left.proofs.MergeLemmas.{eqb-not}
 use Rattle.sq_flow.specs.declared.wires.Wires.{Wires}
 use Rattle.sq_flow.specs.declared.flow.Flow.{Flow}
-use Rattle.sq_flow.specs.Wiring.{from_of, to_of}
-use Rattle.sq_flow.specs.Seats.{done_at}
+use Rattle.sq_flow.specs.Wiring.{from_of}
 use Rattle.sq_flow.specs.Sends.{comes_from, Pushes}
 use Rattle.sq_flow.specs.Readiness.{stands, TouchesOnly}
 

@@ -1,12 +1,9 @@
-use Rattle.std.proofs.Common.{◌≡◌, ◌≢◌, ℕ, ◌<◌, ◌≤◌, ◌+◌, ◌-◌, ◌^◌, ◌++◌, ◌∷◌, List, [], length, length-set, refl, ap, sym, ◌∙◌, Some, Option, true, false, not, arith, subst}
-use Rattle.std.specs.Prelude.{slice_get, is_some}
+use Rattle.std.proofs.Common.{◌-◌, length, length-set, refl, sym, ◌∙◌, arith, subst}
 use Rattle.std.specs.Vec.{with_item}
 use Rattle.std.proofs.lemmas.Option.{slice_get_read, same_Some}
 use Rattle.std.proofs.lemmas.Result.{err_from_is_err_and}
-use Rattle.sq_item.specs.Things.{spread}
 use Rattle.sq_flow.specs.Takes.{MayBeFed}
-use Rattle.sq_flow.specs.Flows.{open_seats}
-use Rattle.sq_queue.specs.Faces.{face, size, items_on}
+use Rattle.sq_queue.specs.Faces.{items_on}
 use Rattle.sq_flow.proofs.WireLemmas.{arcs-open, comes-from}
 use Rattle.sq_flow.proofs.FutureLemmas.{slice_get-set_same, slice_get-set_other}
 use Rattle.sq_flow.proofs.Measures.{weighs, open-same}
