@@ -1,13 +1,11 @@
 -- What a feed keeps.
-use Rattle.std.proofs.Common.{◌≡◌, ◌≢◌, ℕ, zero, suc, ◌+◌, ◌<◌, ◌≤◌, ◌^◌, eqb, cond, Bool, true, false, not, ◌||◌, List, [], ◌∷◌, ◌++◌, length, Option, Some, None, refl, ap, sym, ◌∙◌, append_assoc, append-nil, length-append, arith, subst, ◌-◌}
+use Rattle.std.proofs.Common.{◌≡◌, ◌≢◌, ℕ, suc, ◌+◌, ◌<◌, ◌≤◌, ◌^◌, eqb, cond, Bool, true, false, not, List, [], ◌∷◌, ◌++◌, length, Option, Some, None, refl, ap, sym, ◌∙◌, append-nil, length-append, arith, subst, ◌-◌}
 use Rattle.std.specs.Prelude.{is_some, slice_get, Vec}
 use Rattle.std.specs.declared.alloc.Global.{Global}
-use Rattle.std.proofs.lemmas.Option.{same_Some, slice_get_within}
+use Rattle.std.proofs.lemmas.Option.{same_Some}
 use Rattle.sq_value.specs.declared.Value.{Value}
-use Rattle.sq_value.specs.declared.Tuple.{Tuple}
 use Rattle.sq_value.specs.Lists.{IsPrefixOf}
 use Rattle.sq_item.specs.declared.Item.{Item}
-use Rattle.sq_item.specs.Sound.{IsSound}
 use Rattle.sq_item.specs.declared.Mark.{Mark}
 use Rattle.sq_item.specs.Things.{Thing, spread, spread_all, mark_part, body_part}
 use Rattle.sq_road.specs.Levels.{LevelTable, Agrees, level_of}
@@ -15,15 +13,15 @@ use Rattle.sq_oper.specs.declared.outs.Decision.{Decision}
 use Rattle.sq_oper.specs.declared.outs.Event.{Event}
 use Rattle.sq_oper.specs.Entries.{Entry, at_port, entries}
 use Rattle.sq_oper.specs.Order.{IsFuture, after_all}
-use Rattle.sq_oper.specs.Given.{given, ItemsSound, ThingsUpTo}
+use Rattle.sq_oper.specs.Given.{given, ThingsUpTo}
 use Rattle.sq_oper.specs.Streams.{tuples_of}
-use Rattle.sq_oper.proofs.GivenLemmas.{ThingsUpTo-split, ThingsUpTo-later, IsPrefixOf-append}
-use Rattle.sq_left.specs.Left.{Net, World, Each, Facts, coming, inputs, known}
+use Rattle.sq_oper.proofs.GivenLemmas.{ThingsUpTo-split, ThingsUpTo-later}
+use Rattle.sq_left.specs.Left.{Net, World, coming, inputs, known}
 use Rattle.sq_left.specs.Heads.{AllFine}
 use Rattle.sq_left.proofs.MergeLemmas.{AllOfTime, eqb-yes, eqb-same, eqb-not}
-use Rattle.sq_left.proofs.Conserve.{Told, Kept}
+use Rattle.sq_left.proofs.Conserve.{Kept}
 use Rattle.sq_left.proofs.ActorSteps.{tuples-both, EachPort, PortFacts, taken_at, Moves, FedActor, SameActor}
-use Rattle.sq_left.proofs.WorldSteps.{At, facts-at, next-is-future, next-is-first, spread-of-time, world-fed, replay-end}
+use Rattle.sq_left.proofs.WorldSteps.{facts-at, next-is-future, next-is-first, spread-of-time, world-fed, replay-end}
 use Rattle.sq_queue.specs.declared.Queues.{Queues}
 use Rattle.sq_outside.specs.Disks.{Pages}
 use Rattle.sq_queue.specs.Faces.{face, size, items_on, first_time, IsFaceOf, Tells, Together}
@@ -35,7 +33,7 @@ use Rattle.sq_flow.proofs.WireLemmas.{sent-is}
 use Rattle.sq_flow.specs.declared.wires.Arc.{Arc}
 use Rattle.sq_flow.specs.declared.seats.Seat.{Seat}
 use Rattle.sq_flow.specs.declared.flow.Flow.{Flow}
-use Rattle.sq_flow.specs.declared.heads.Next.TheVariants.{Waits, Ended, Feed}
+use Rattle.sq_flow.specs.declared.heads.Next.TheVariants.{Feed}
 use Rattle.sq_flow.specs.Wiring.{net_of, arcs_read, arc_at, marked_of, wide_of, from_of, to_of, place_of, pushed_by, AllOutsFine}
 use Rattle.sq_flow.specs.Heads.{NextUpTo}
 use Rattle.sq_flow.specs.Seats as seat
@@ -364,16 +362,16 @@ module _ {O : Type 0} (m : Meaning O) (valid : O → Type 0) (e : Flow O) (flow 
             queued = fine e.clock (outs-in-time s' outs drops fed may) (fine-after e.clock at items mid item whole others holds.queued);
           }
 
-      pub turns-same : (table : ℕ → ℕ → ℕ) → Agrees e.levels table → taken' ≡ e.taken + length (spread item) 
+      pub turns-same : (table : ℕ → ℕ → ℕ) → Agrees e.levels table → taken' ≡ e.taken + length (spread item)
           → turns_at_last m table items e ≡ taken' + sum_below (λ other. length (inputs net (is table) e.wires.order.items other)) (length e.seats.items)
       turns-same table agrees more =
           let k = kept table agrees in
           let is_replay = flow.shaped.replay_is in
           let comes = λ (other : ℕ) (low : other < length e.seats.items). (let away : other ≢ net.replay = omega (arith, is_replay, low) in (k.told other (flow.shaped.ordered other low) away).comes) in
           let own : length (inputs net (was table) e.wires.order.items actor) ≡ length (inputs net (is table) e.wires.order.items actor) + length (spread item) = (
-            let c = ap (λ (l : List Entry). length l) (comes actor actor_in ∙ ap (λ b. cond b (entries p item) [] ++ inputs net (is table) e.wires.order.items actor) (eqb-same actor actor refl)) in
-            let both = length-append (entries p item) (inputs net (is table) e.wires.order.items actor) in
-            let one = entries-length p (spread item) in omega (arith, c, both, one)
+          let c = ap (λ (l : List Entry). length l) (comes actor actor_in ∙ ap (λ b. cond b (entries p item) [] ++ inputs net (is table) e.wires.order.items actor) (eqb-same actor actor refl)) in
+          let both = length-append (entries p item) (inputs net (is table) e.wires.order.items actor) in
+          let one = entries-length p (spread item) in omega (arith, c, both, one)
           ) in
           let sums = sum-more (λ other. length (inputs net (is table) e.wires.order.items other)) (λ other. length (inputs net (was table) e.wires.order.items other)) (length e.seats.items) actor (length (spread item)) actor_in
           (λ other low ne. ap (λ (l : List Entry). length l) (comes other low ∙ ap (λ b. cond b (entries p item) [] ++ inputs net (is table) e.wires.order.items other) (eqb-not other actor ne))) own in

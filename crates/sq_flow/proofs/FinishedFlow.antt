@@ -1,35 +1,34 @@
 -- What the end of an operator keeps.
-use Rattle.std.proofs.Common.{◌≡◌, ◌≢◌, ℕ, zero, suc, ◌+◌, ◌<◌, ◌≤◌, ◌^◌, eqb, cond, Bool, true, false, not, ◌||◌, List, [], ◌∷◌, ◌++◌, length, Option, Some, None, refl, ap, sym, ◌∙◌, append_assoc, append-nil, arith, subst, ◌-◌}
+use Rattle.std.proofs.Common.{◌≡◌, ◌≢◌, ℕ, ◌+◌, ◌<◌, eqb, cond, Bool, true, false, not, ◌||◌, List, [], ◌∷◌, ◌++◌, length, Option, Some, None, refl, ap, sym, ◌∙◌, append-nil, arith, subst, ◌-◌}
 use Rattle.std.specs.Prelude.{is_some, slice_get, Vec}
 use Rattle.std.specs.declared.alloc.Global.{Global}
-use Rattle.std.proofs.lemmas.Option.{same_Some, slice_get_within}
-use Rattle.sq_value.specs.declared.Value.{Value}
+use Rattle.std.proofs.lemmas.Option.{slice_get_within}
 use Rattle.sq_value.specs.Lists.{IsPrefixOf}
 use Rattle.sq_item.specs.declared.Item.{Item}
 use Rattle.sq_item.specs.Things.{Thing, spread_all}
-use Rattle.sq_road.specs.Levels.{LevelTable, Agrees, level_of}
+use Rattle.sq_road.specs.Levels.{Agrees, level_of}
 use Rattle.sq_oper.specs.declared.outs.Decision.{Decision}
 use Rattle.sq_oper.specs.declared.outs.Event.{Event}
 use Rattle.sq_oper.specs.Given.{given, ThingsUpTo}
-use Rattle.sq_left.specs.Left.{Net, World, left_by, inputs_by, Each, coming, inputs, known}
+use Rattle.sq_left.specs.Left.{Net, World, left_by, inputs_by, Each, coming, inputs}
 use Rattle.sq_left.specs.Heads.{AllFine}
 use Rattle.sq_left.proofs.MergeLemmas.{eqb-yes, eqb-same, eqb-not}
-use Rattle.sq_left.proofs.Conserve.{Reads, Told, Kept}
-use Rattle.sq_left.proofs.ActorSteps.{Moves, FinishedActor, SameActor, Each-both, merge-none}
-use Rattle.sq_left.proofs.WorldSteps.{At, facts-at, world-finished, replay-end, Each-from}
+use Rattle.sq_left.proofs.Conserve.{Reads, Kept}
+use Rattle.sq_left.proofs.ActorSteps.{SameActor, Each-both, merge-none}
+use Rattle.sq_left.proofs.WorldSteps.{facts-at, world-finished, replay-end, Each-from}
 use Rattle.sq_queue.specs.declared.Queues.{Queues}
 use Rattle.sq_outside.specs.Disks.{Pages}
 use Rattle.sq_queue.specs.Faces.{face, size, items_on, first_time, IsFaceOf, Tells, Together}
 use Rattle.sq_flow.specs.Sends.{sent_to, comes_from, Pushes}
-use Rattle.sq_flow.specs.Readiness.{stands, TouchesOnly}
+use Rattle.sq_flow.specs.Readiness.{TouchesOnly}
 use Rattle.sq_flow.proofs.TouchLemmas.{away-from, stands-pushed, stands-grows}
 use Rattle.sq_flow.proofs.SumLemmas.{sum-same}
 use Rattle.sq_oper.specs.Entries.{Entry}
 use Rattle.sq_flow.proofs.WireLemmas.{sent-is}
 use Rattle.sq_flow.specs.declared.seats.Seat.{Seat}
 use Rattle.sq_flow.specs.declared.flow.Flow.{Flow}
-use Rattle.sq_flow.specs.declared.heads.Next.TheVariants.{Waits, Ended, Feed}
-use Rattle.sq_flow.specs.Wiring.{net_of, arcs_read, from_of, to_of, pushed_by, AllOutsFine}
+use Rattle.sq_flow.specs.declared.heads.Next.TheVariants.{Ended}
+use Rattle.sq_flow.specs.Wiring.{net_of, arcs_read, from_of, pushed_by, AllOutsFine}
 use Rattle.sq_flow.specs.Heads.{NextUpTo}
 use Rattle.sq_flow.specs.Seats as seat
 use Rattle.sq_flow.specs.Seats.{Meaning, rest_at, decides_at, lost_at, place_at, done_at, holds_at, IsSeat, FinishedSeat}

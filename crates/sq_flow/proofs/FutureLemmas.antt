@@ -1,5 +1,5 @@
 -- Futures under weaker tests, and small facts of numbers and lists.
-use Rattle.std.proofs.Common.{◌≡◌, ◌≢◌, ℕ, zero, suc, ◌+◌, ◌<◌, ◌≤◌, eqb, cond, Bool, true, false, IsTrue, ◌||◌, List, [], ◌∷◌, ◌++◌, length, set, Option, Some, None, refl, ap, sym, ◌∙◌, subst, append_assoc, append-nil, arith}
+use Rattle.std.proofs.Common.{◌≡◌, ◌≢◌, ℕ, zero, suc, ◌+◌, ◌<◌, ◌≤◌, eqb, cond, Bool, true, false, ◌||◌, List, [], ◌∷◌, ◌++◌, length, set, Option, Some, None, refl, ap, sym, ◌∙◌, subst, append_assoc, arith}
 use Rattle.std.specs.Prelude.{slice_get, is_some}
 use Rattle.std.proofs.lemmas.Option.{same_Some, slice_get_within}
 use Rattle.sq_value.specs.declared.Value.{Value}
@@ -9,7 +9,7 @@ use Rattle.sq_item.specs.declared.Mark.{Mark}
 use Rattle.sq_item.specs.Sound.{IsSound}
 use Rattle.sq_item.specs.Things.{Thing, Load, Sign, Body, spread, spread_all, mark_part, body_part}
 use Rattle.sq_oper.specs.declared.tally.Place.{Place}
-use Rattle.sq_oper.specs.Entries.{Entry, at_port, entries}
+use Rattle.sq_oper.specs.Entries.{Entry, at_port}
 use Rattle.sq_oper.specs.Order.{load_fits, AllFit, IsFuture}
 use Rattle.sq_oper.specs.Given.{given, ItemsSound, ThingsUpTo}
 use Rattle.sq_oper.proofs.GivenLemmas.{ThingsUpTo-split}
@@ -21,7 +21,7 @@ use Rattle.sq_left.proofs.WorldSteps.{EachPort-from, Each-from, spread-not-befor
 use Rattle.sq_queue.specs.Faces.{first_time}
 use Rattle.sq_flow.specs.Wiring.{pushed_by, AllOutsFine}
 use Rattle.sq_flow.specs.Heads.{FirstNotBefore, NextUpTo}
-use Rattle.sq_flow.specs.declared.heads.Next.TheVariants.{Waits, Ended, Feed}
+use Rattle.sq_flow.specs.declared.heads.Next.TheVariants.{Feed}
 
 load-weaker : (marks marks' : ℕ → Bool) (fits fits' : ℕ → List Value → Bool) (port : ℕ) (load : Load)
     → (marks port ≡ true → marks' port ≡ true) → ((fields : List Value) → fits port fields ≡ true → fits' port fields ≡ true)

@@ -1,6 +1,6 @@
 -- What the replay keeps.
-use Rattle.std.proofs.Common.{◌≡◌, ◌≢◌, ℕ, zero, suc, ◌+◌, ◌/◌, ◌<◌, ◌≤◌, ◌^◌, eqb, cond, Bool, true, false, not, ◌||◌, List, [], ◌∷◌, ◌++◌, length, set, Option, Some, None, refl, ap, sym, ◌∙◌, append_assoc, append-nil, arith, subst}
-use Rattle.std.specs.Prelude.{slice_get, is_some, Vec}
+use Rattle.std.proofs.Common.{◌≡◌, ◌≢◌, ℕ, zero, suc, ◌+◌, ◌/◌, ◌<◌, ◌≤◌, eqb, cond, Bool, true, false, not, ◌||◌, List, [], ◌∷◌, ◌++◌, length, set, Option, Some, None, refl, ap, sym, ◌∙◌, append-nil, arith, subst}
+use Rattle.std.specs.Prelude.{slice_get, Vec}
 use Rattle.std.specs.declared.alloc.Global.{Global}
 use Rattle.std.specs.declared.collections.VecDeque.{VecDeque}
 use Rattle.std.proofs.lemmas.Option.{slice_get_past, same_Some}
@@ -10,33 +10,30 @@ use Rattle.sq_item.specs.Things.{Thing, spread, spread_all}
 use Rattle.sq_item.specs.Sound.{IsSound}
 use Rattle.sq_road.specs.Levels.{LevelTable, Agrees, level_of}
 use Rattle.sq_oper.specs.declared.outs.Event.{Event}
-use Rattle.sq_oper.specs.Given.{given, ThingsUpTo}
 use Rattle.sq_oper.specs.Entries.{Entry}
 use Rattle.sq_oper.specs.Streams.{things, IsSoundTuple}
 use Rattle.sq_sched.specs.Ready.{contains}
 use Rattle.sq_oper.proofs.GivenLemmas.{ThingsUpTo-later}
-use Rattle.sq_left.specs.Left.{Net, World, Facts, coming, inputs, known}
+use Rattle.sq_left.specs.Left.{Net, World, coming, inputs, known}
 use Rattle.sq_left.specs.Heads.{AllFine}
 use Rattle.sq_left.proofs.MergeLemmas.{eqb-yes, eqb-no, eqb-same, eqb-not}
-use Rattle.sq_left.proofs.Conserve.{Told, Kept}
-use Rattle.sq_left.proofs.ActorSteps.{Moves, SameActor}
+use Rattle.sq_left.proofs.Conserve.{Kept}
 use Rattle.sq_left.proofs.WorldSteps.{world-released}
 use Rattle.sq_queue.specs.declared.Queues.{Queues}
 use Rattle.sq_outside.specs.Disks.{Pages}
 use Rattle.sq_queue.specs.Faces.{face, size, items_on, Tells, Together}
-use Rattle.sq_flow.specs.Sends.{many, comes_from, Pushes}
+use Rattle.sq_flow.specs.Sends.{many, Pushes}
 use Rattle.sq_flow.specs.Sources.{BeginsNotBefore, BeginsLeast, IsNextSource}
-use Rattle.sq_flow.specs.Readiness.{stands, TouchesOnly}
-use Rattle.sq_flow.proofs.TouchLemmas.{away-from, stands-pushed, stands-grows}
+use Rattle.sq_flow.specs.Readiness.{TouchesOnly}
+use Rattle.sq_flow.proofs.TouchLemmas.{away-from, stands-pushed}
 use Rattle.sq_flow.proofs.SumLemmas.{sum-same}
 use Rattle.sq_flow.proofs.WireLemmas.{one-sent, comes-from}
 use Rattle.sq_flow.specs.declared.seats.Seat.{Seat}
 use Rattle.sq_flow.specs.declared.flow.Flow.{Flow}
 use Rattle.sq_flow.specs.Wiring.{net_of, arcs_from, times_in, from_of, sent}
-use Rattle.sq_flow.specs.Seats as seat
-use Rattle.sq_flow.specs.Seats.{Meaning, rest_at, done_at, holds_at, IsSeat}
+use Rattle.sq_flow.specs.Seats.{Meaning, done_at, holds_at, IsSeat}
 use Rattle.sq_flow.specs.Events.{bodies, lines_of}
-use Rattle.sq_flow.specs.Flows.{world_of, IsFlow, HoldsItems, Goes, Stepped, lines_left, RiseFrom, to_release, tuples_at, sum_below, turns_at_last, count_all}
+use Rattle.sq_flow.specs.Flows.{world_of, IsFlow, HoldsItems, Goes, Stepped, RiseFrom, to_release, tuples_at, turns_at_last, count_all}
 use Rattle.sq_flow.proofs.SendLemmas.{at_or_other, apart-arcs}
 
 pub fine-later : (t u : ℕ) (its : List Item) → t ≤ u → AllFine t its → AllFine u its
@@ -319,24 +316,6 @@ module _ {O : Type 0} (m : Meaning O) (valid : O → Type 0) (e : Flow O) (flow 
               let r = flow.shaped.replay_is in
               let away : actor ≢ e.wires.replay = eqb-no actor e.wires.replay k in
               some (slice_get e.seats.items actor) (slice_get-not_none e.seats.items actor (omega (arith, r, away, low)))
-
-  pub ended-touches : (q' : Queues)
-      → ((k : ℕ) → k < length e.wires.arcs.items → (face q' k).ended ≡ ((face e.queues k).ended || eqb (from_of (slice_get e.wires.arcs.items k)) e.wires.replay))
-      → ((k : ℕ) → (face q' k).first ≡ (face e.queues k).first)
-      → ((k : ℕ) → comes_from e.wires e.wires.replay k ≡ false → face q' k ≡ face e.queues k)
-      → TouchesOnly (length e.seats.items) e (record e { over = true; queues = q' })
-  ended-touches q' ended first same =
-      record {
-        apart = λ arc low to from. let r = flow.shaped.replay_is in same arc (away-from e.wires e.wires.replay arc (λ is. from (is ∙ r)));
-        grows = λ arc low to h.
-            stands-grows (face e.queues arc) (face q' arc) (λ some. ap (λ (o : Option ℕ). is_some o) (first arc) ∙ some)
-            (λ over. ended arc low ∙ ap (λ b. b || eqb (from_of (slice_get e.wires.arcs.items arc)) e.wires.replay) over) h;
-        others = λ other low ne. by (slice_get e.seats.items other) (slice_get-not_none e.seats.items other (omega (arith, low, ne)));
-      }
-    where
-      by : (o : Option (Seat O)) → o ≢ None → done_at true o ≡ done_at e.over o
-      by None n = absurd (n refl)
-      by (Some s) n = refl
 
 -- a source of which one tuple was taken
 pub count-less : (sources : List (VecDeque Tuple Global)) (i : ℕ) (v v' : VecDeque Tuple Global) (x : Tuple) → slice_get sources i ≡ Some v → v.items ≡ x ∷ v'.items

@@ -1,5 +1,5 @@
 -- Pushes, one after another.
-use Rattle.std.proofs.Common.{◌≡◌, ◌≢◌, ℕ, zero, suc, ◌+◌, ◌<◌, ◌≤◌, eqb, cond, Bool, true, false, List, [], ◌∷◌, ◌++◌, length, get_or, take, Option, Some, None, refl, ap, sym, ◌∙◌, subst, append_assoc, append-nil, arith}
+use Rattle.std.proofs.Common.{◌≡◌, ◌≢◌, ℕ, zero, suc, ◌+◌, ◌<◌, ◌≤◌, eqb, cond, Bool, true, false, List, [], ◌∷◌, ◌++◌, length, get_or, Option, Some, None, refl, ap, sym, ◌∙◌, subst, append_assoc, append-nil, arith}
 use Rattle.std.specs.Prelude.{is_some, slice_get}
 use Rattle.std.proofs.lemmas.Option.{slice_get_within, get_or_from_slice_get}
 use Rattle.std.proofs.lemmas.List.Folds.{list_any_at}
@@ -7,14 +7,14 @@ use Rattle.sq_item.specs.declared.Item.{Item}
 use Rattle.sq_item.specs.Sound.{IsSound}
 use Rattle.sq_item.specs.Things.{Thing, spread, spread_all}
 use Rattle.sq_outside.specs.Disks.{Pages}
-use Rattle.sq_oper.specs.Given.{given, ItemsSound}
+use Rattle.sq_oper.specs.Given.{ItemsSound}
 use Rattle.sq_left.specs.Heads.{AllFine}
 use Rattle.sq_left.proofs.MergeLemmas.{eqb-yes, eqb-no, eqb-same, eqb-not}
 use Rattle.sq_sched.specs.Ready.{contains}
 use Rattle.sq_queue.specs.declared.Queues.{Queues}
-use Rattle.sq_queue.specs.Faces.{Face, face, size, items_on, Tells, Together, pushed, first_or}
+use Rattle.sq_queue.specs.Faces.{face, size, items_on, Tells, Together, pushed, first_or}
 use Rattle.sq_flow.specs.declared.wires.Wires.{Wires}
-use Rattle.sq_flow.specs.Wiring.{arcs_from, times_in, AllOutsFine, pushed_by}
+use Rattle.sq_flow.specs.Wiring.{arcs_from, times_in, AllOutsFine}
 use Rattle.sq_flow.specs.Sends.{many, sent_to, comes_from, Pushes}
 
 pub spread_all-push : (xs : List Item) (i : Item) → spread_all (xs ++ i ∷ []) ≡ spread_all xs ++ spread i

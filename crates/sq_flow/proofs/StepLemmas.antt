@@ -1,41 +1,23 @@
 -- Steps, one after another.
-use Rattle.std.proofs.Common.{◌≡◌, ◌≢◌, ℕ, ◌+◌, ◌-◌, ◌<◌, ◌≤◌, Bool, true, false, ◌||◌, List, [], ◌∷◌, ◌++◌, length, Option, Some, None, refl, ap, sym, ◌∙◌, subst, arith}
-use Rattle.std.specs.Prelude.{slice_get, is_some}
-use Rattle.std.proofs.lemmas.Option.{slice_get_within}
-use Rattle.sq_value.specs.Lists.{IsPrefixOf}
+use Rattle.std.proofs.Common.{◌≡◌, ℕ, ◌+◌, ◌-◌, ◌<◌, Bool, true, false, ◌||◌, List, length, Option, Some, None, refl, ap, sym, ◌∙◌, subst, arith}
+use Rattle.std.specs.Prelude.{is_some}
 use Rattle.sq_outside.specs.Disks.{Pages}
 use Rattle.sq_road.specs.Levels.{LevelTable, Agrees}
 use Rattle.sq_oper.specs.declared.outs.Event.{Event}
-use Rattle.sq_queue.specs.Faces.{face, Tells, Together}
+use Rattle.sq_queue.specs.Faces.{face, Tells}
 use Rattle.sq_flow.specs.declared.wires.Wires.{Wires}
 use Rattle.sq_flow.specs.declared.flow.Flow.{Flow}
 use Rattle.sq_flow.specs.declared.errors.RunErr.{RunErr}
-use Rattle.sq_flow.specs.declared.heads.Next.TheVariants.{Waits, Ended, Feed}
+use Rattle.sq_flow.specs.declared.heads.Next.TheVariants.{Waits}
 use Rattle.sq_flow.specs.Wiring.{arcs_read}
 use Rattle.sq_flow.specs.Heads.{NextUpTo}
 use Rattle.sq_flow.specs.Seats.{Meaning}
-use Rattle.sq_flow.specs.Events.{lines_of, ShowsBelow}
-use Rattle.sq_flow.specs.Flows.{IsFlow, HoldsItems, Goes, Stepped, ShowsPrefix, NoneStrange, CostsFed, CostsAtMost, TooMuchOnly, items_in, lines_left, fed_at_last, sum_below, taken_in_all, work_at_last}
-use Rattle.sq_flow.specs.declared.errors.RunErr.TheVariants.{TooMuch}
+use Rattle.sq_flow.specs.Events.{ShowsBelow}
+use Rattle.sq_flow.specs.Flows.{HoldsItems, Stepped, ShowsPrefix, NoneStrange, CostsFed, CostsAtMost, TooMuchOnly, items_in, fed_at_last, sum_below, work_at_last}
 use Rattle.sq_flow.proofs.SumLemmas.{sum-same}
 use Rattle.sq_flow.specs.Readiness.{IsReady}
 
 module _ {O : Type 0} (m : Meaning O) (valid : O → Type 0) where
-  -- nothing happened
-  pub stepped-none : (p : Option Pages) (f : Flow O) (events : List Event) → IsFlow m valid f → Together f.queues p → Stepped m valid p p f f events events
-  stepped-none p f events flow together =
-      record {
-        flow_after = flow;
-        together = together;
-        tells = refl;
-        wires = refl;
-        seats = refl;
-        closes = λ table h. h;
-        shows = λ h. h;
-        holds = λ told h. h;
-        goes = λ told h table agrees. record { lines = λ output low. refl; fed = λ actor low. refl; lost = λ actor low. refl; turns = refl };
-      }
-
   module _ (p p1 : Option Pages) (f f1 : Flow O) (e e1 : List Event) (first : Stepped m valid p p1 f f1 e e1) where
     outputs-same : length f1.seats.items - f1.wires.shown ≡ length f.seats.items - f.wires.shown
     outputs-same = rw (first.seats, ap (λ (w : Wires). w.shown) first.wires) refl
@@ -97,14 +79,6 @@ module _ {O : Type 0} (m : Meaning O) (valid : O → Type 0) where
 
     pub none-strange-after : (e2 : RunErr) → NoneStrange m p1 f1 e2 → NoneStrange m p f e2
     none-strange-after e2 none = λ told h. none (first.tells ∙ told) (first.holds told h)
-
--- nothing was too much
-pub too-much-not : {O : Type 0} (m : Meaning O) (was : Option Pages) (f f' : Flow O) (e : RunErr) → e ≢ TooMuch → TooMuchOnly m was f f' e
-too-much-not m was f f' e ne = record { counted = λ is. absurd (ne is); turns = λ is told h table agrees. absurd (ne is) }
-
--- where nothing was fed
-pub costs-same : {O : Type 0} (m : Meaning O) (f f' : Flow O) (before after : ℕ) → taken_in_all m f' ≡ taken_in_all m f → after ≡ before → CostsFed m f f' before after
-costs-same m f f' before after taken same = omega (arith, taken, same)
 
 -- an operator that waits for an arc isn't ready
 pub waits-not-ready : {O : Type 0} (f : Flow O) (actor : ℕ)

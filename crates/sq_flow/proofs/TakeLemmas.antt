@@ -1,5 +1,5 @@
 -- Whether an item may be fed, by the tests that are run.
-use Rattle.std.proofs.Common.{◌≡◌, ℕ, ◌≤◌, Bool, true, false, cond, ◌&&◌, ◌||◌, IsTrue, List, [], ◌∷◌, ◌++◌, length, Option, Some, None, refl, ap, sym, ◌∙◌, arith, tests}
+use Rattle.std.proofs.Common.{◌≡◌, ℕ, ◌≤◌, Bool, true, false, ◌&&◌, ◌||◌, List, ◌++◌, Option, Some, None, refl, sym, ◌∙◌, arith, tests}
 use Rattle.std.specs.Prelude.{nat_lt, nat_le, ◌==◌, is_some}
 use Rattle.sq_value.specs.declared.Value.{Value}
 use Rattle.sq_item.specs.declared.Item.{Item}
@@ -8,8 +8,8 @@ use Rattle.sq_item.specs.Sound.{IsSound}
 use Rattle.sq_item.specs.Things.{Sign, Body, mark_part, body_part}
 use Rattle.sq_oper.specs.declared.tally.Place.{Place}
 use Rattle.sq_oper.specs.declared.tally.Place.TheVariants.{Start, At}
-use Rattle.sq_oper.specs.Entries.{Entry, at_port, entries}
-use Rattle.sq_oper.specs.Order.{may_come, after, InOrder, AllFit, IsFuture}
+use Rattle.sq_oper.specs.Entries.{Entry, at_port}
+use Rattle.sq_oper.specs.Order.{may_come, after, IsFuture}
 use Rattle.sq_flow.specs.declared.wires.Arc.{Arc}
 use Rattle.sq_flow.specs.Takes.{takes_of, fits_of, MayBeFed, may_stand, mark_fits, body_fits}
 

@@ -1,5 +1,5 @@
 -- What a call of one actor leaves alone.
-use Rattle.std.proofs.Common.{◌≡◌, ◌≢◌, ℕ, ◌+◌, ◌<◌, ◌≤◌, Bool, true, false, ◌||◌, Option, Some, None, List, length, refl, ap, sym, ◌∙◌, eqb}
+use Rattle.std.proofs.Common.{◌≡◌, ◌≢◌, ℕ, Bool, true, false, ◌||◌, Option, List, length, refl, ap, ◌∙◌}
 use Rattle.std.specs.Prelude.{slice_get, is_some}
 use Rattle.sq_outside.specs.Disks.{Pages}
 use Rattle.sq_item.specs.Things.{Thing}
@@ -8,8 +8,7 @@ use Rattle.sq_queue.specs.Faces.{Face, face}
 use Rattle.sq_left.proofs.MergeLemmas.{eqb-not}
 use Rattle.sq_flow.specs.declared.wires.Wires.{Wires}
 use Rattle.sq_flow.specs.declared.flow.Flow.{Flow}
-use Rattle.sq_flow.specs.Wiring.{from_of, to_of}
-use Rattle.sq_flow.specs.Seats.{done_at}
+use Rattle.sq_flow.specs.Wiring.{from_of}
 use Rattle.sq_flow.specs.Sends.{comes_from, Pushes}
 use Rattle.sq_flow.specs.Readiness.{stands, TouchesOnly}
 
@@ -33,9 +32,6 @@ pub stands-pushed : (q q' : Queues) (p p' : Option Pages) (more : ℕ → List T
 stands-pushed q q' p p' more upto near sent arc h = stands-grows (face q arc) (face q' arc) (sent.grows arc) (λ e. sent.ended arc ∙ e) h
 
 module _ {O : Type 0} (actor : ℕ) where
-  pub touches-none : (f : Flow O) → TouchesOnly actor f f
-  touches-none f = record { apart = λ arc low to from. refl; grows = λ arc low to h. h; others = λ other low ne. refl }
-
   pub touches-both : (f f1 f2 : Flow O) → f1.wires ≡ f.wires → length f1.seats.items ≡ length f.seats.items → TouchesOnly actor f f1 → TouchesOnly actor f1 f2 → TouchesOnly actor f f2
   touches-both f f1 f2 wires seats a b =
       record {

@@ -1,9 +1,8 @@
 -- What an engine holds, and what each step keeps.
-use Rattle.std.specs.Prelude.{◌≡◌, ℕ, zero, suc, ◌+◌, ◌-◌, ◌^◌, ◌/◌, ◌≤◌, ◌<◌, Bool, true, false, List, [], ◌∷◌, ◌++◌, length, Option, Some, None, is_some, slice_get, if◌then◌else◌}
+use Rattle.std.specs.Prelude.{◌≡◌, ℕ, zero, suc, ◌+◌, ◌-◌, ◌^◌, ◌/◌, ◌≤◌, ◌<◌, true, List, [], ◌∷◌, ◌++◌, length, Option, Some, None, is_some, slice_get, if◌then◌else◌}
 use Rattle.sq_value.specs.declared.Tuple.{Tuple}
 use Rattle.sq_item.specs.declared.Item.{Item}
-use Rattle.sq_item.specs.Things.{Thing, spread_all}
-use Rattle.sq_item.specs.Sound.{IsSound}
+use Rattle.sq_item.specs.Things.{spread_all}
 use Rattle.sq_outside.specs.Disks.{Pages}
 use Rattle.sq_road.specs.Levels.{LevelTable, Agrees}
 use Rattle.sq_value.specs.Lists.{IsPrefixOf}
@@ -12,7 +11,7 @@ use Rattle.sq_oper.specs.Given.{ThingsUpTo}
 use Rattle.sq_oper.specs.Streams.{things, IsSoundTuple}
 use Rattle.std.specs.declared.alloc.Global.{Global}
 use Rattle.std.specs.declared.collections.VecDeque.{VecDeque}
-use Rattle.sq_left.specs.Left.{World, Facts, coming, inputs, lost_in_all, fed_in_all, still_dropped}
+use Rattle.sq_left.specs.Left.{World, Facts, coming, inputs, lost_in_all, fed_in_all}
 use Rattle.sq_left.specs.Heads.{AllFine}
 use Rattle.sq_queue.specs.Faces.{face, size, items_on, Tells, Together}
 use Rattle.sq_flow.specs.declared.seats.Seat.{Seat}

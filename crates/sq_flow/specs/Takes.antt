@@ -1,5 +1,5 @@
 -- Which items may be fed.
-use Rattle.std.specs.Prelude.{◌≡◌, ℕ, ◌==◌, ◌≤◌, ◌&&◌, ◌||◌, nat_lt, nat_le, Bool, true, List, length, Option, Some, None, if◌then◌else◌}
+use Rattle.std.specs.Prelude.{ℕ, ◌==◌, ◌≤◌, ◌&&◌, ◌||◌, nat_lt, nat_le, Bool, true, List, length, Option, Some, None, if◌then◌else◌}
 use Rattle.sq_value.specs.declared.Value.{Value}
 use Rattle.sq_item.specs.declared.Item.{Item}
 use Rattle.sq_item.specs.declared.Mark.{Mark}

@@ -1,9 +1,9 @@
 -- How wires join the actors, and what actors put on arcs.
-use Rattle.std.specs.Prelude.{◌≡◌, ℕ, ◌+◌, ◌==◌, ◌≤◌, ◌<◌, ◌^◌, Bool, true, false, List, [], ◌∷◌, ◌++◌, length, Option, Some, None, Vec, slice_get, if◌then◌else◌}
+use Rattle.std.specs.Prelude.{◌≡◌, ℕ, ◌+◌, ◌==◌, ◌≤◌, ◌<◌, ◌^◌, Bool, true, false, List, [], ◌∷◌, length, Option, Some, None, Vec, slice_get, if◌then◌else◌}
 use Rattle.std.specs.declared.alloc.Global.{Global}
 use Rattle.sq_value.specs.declared.Value.{Value}
 use Rattle.sq_item.specs.declared.Item.{Item}
-use Rattle.sq_item.specs.Things.{Thing, spread}
+use Rattle.sq_item.specs.Things.{Thing}
 use Rattle.sq_item.specs.Sound.{IsSound}
 use Rattle.sq_oper.specs.Given.{given}
 use Rattle.sq_left.specs.Left.{Net, known, IsWired}

@@ -136,7 +136,6 @@ impl<O: Operator + Drop> Flow<O> {
         &mut self,
         disk: &mut D,
         actor: u32,
-        time: u64,
         port: u32,
         arc: u32,
         outs: &mut Outs,
@@ -146,7 +145,7 @@ impl<O: Operator + Drop> Flow<O> {
         requires flow { IsFlow (record { rest = O.rest; decides = O.decides; lost = O.lost; place = O.place; taken = O.taken; running = O.running; takes_marks = O.takes_marks; fits = O.fits; reads = O.reads }) O.valid self.old }
         requires together { Together self.old.queues (D.pages disk.old) }
         requires actor_in { actor < length self.old.seats.items }
-        requires head { NextUpTo (arcs_read self.old.wires actor) (λ a. (face self.old.queues a).first) (λ a. (face self.old.queues a).ended) (length (arcs_read self.old.wires actor)) (Next.Feed time port arc) }
+        requires head { (time : ℕ) × NextUpTo (arcs_read self.old.wires actor) (λ a. (face self.old.queues a).first) (λ a. (face self.old.queues a).ended) (length (arcs_read self.old.wires actor)) (Next.Feed time port arc) }
         requires running { done_at self.old.over (slice_get self.old.seats.items actor) ≡ false }
         requires none { (outs.old.items.items ≡ []) × (outs.old.drops.items ≡ []) }
         ensures ok { OnOk result (Stepped (record { rest = O.rest; decides = O.decides; lost = O.lost; place = O.place; taken = O.taken; running = O.running; takes_marks = O.takes_marks; fits = O.fits; reads = O.reads }) O.valid (D.pages disk.old) (D.pages disk.new) self.old self.new events.old.items events.new.items) }
@@ -160,7 +159,6 @@ impl<O: Operator + Drop> Flow<O> {
         ensures closes { (table : ℕ → ℕ → ℕ) → Agrees self.new.levels table → Agrees self.old.levels table }
         ensures measure { OnOk result (measure_of self.new + 1 ≤ measure_of self.old) }
     {
-        let _time = time;
         let at = self.wires.arc(arc);
         let place = self.seats[actor as usize].tally.place;
         let clock = self.clock;

@@ -115,7 +115,11 @@ fn show_one(output: u32, port: u32, item: Item, events: &mut Vec<Event>) -> Resu
 }
 
 /// Shows what an output gives.
-pub(crate) fn show_all(output: u32, items: &mut Vec<(u32, Item)>, events: &mut Vec<Event>) -> Result<(), AllocError>
+pub(crate) fn show_all(
+    output: u32,
+    items: &mut Vec<(u32, Item)>,
+    events: &mut Vec<Event>,
+) -> Result<(), AllocError>
     ensures shown { OnOk result ((o : ℕ) → lines_of o events.new.items ≡ lines_of o events.old.items ++ (if output == o then bodies (given 0 items.old.items) else [])) }
     ensures prefix { OnErr result ((o : ℕ) → IsPrefixOf (lines_of o events.new.items) (lines_of o events.old.items ++ (if output == o then bodies (given 0 items.old.items) else []))) }
     ensures none { OnOk result (items.new.items ≡ []) }

@@ -96,8 +96,8 @@ impl<O: Operator + Drop> Flow<O> {
                 self.finish_step(disk, actor, outs, events)?;
                 Ok(Did::Finished)
             }
-            Next::Feed { time, port, arc } => {
-                self.feed_step(disk, actor, time, port, arc, outs, events, steps)?;
+            Next::Feed { time: _, port, arc } => {
+                self.feed_step(disk, actor, port, arc, outs, events, steps)?;
                 Ok(Did::Fed)
             }
         }

@@ -1,5 +1,5 @@
-use Rattle.std.proofs.Common.{◌≡◌, ◌≢◌, ℕ, ◌<◌, ◌≤◌, ◌+◌, ◌||◌, false, length, refl, ap, sym, ◌∙◌, Some, arith, eqb}
-use Rattle.std.specs.Prelude.{slice_get, ◌==◌}
+use Rattle.std.proofs.Common.{◌≡◌, ◌≢◌, ◌||◌, false, ap, sym, ◌∙◌, arith}
+use Rattle.std.specs.Prelude.{◌==◌}
 use borrow.Author.Count.{below_more}
 use Rattle.sq_queue.specs.Faces.{Face, face}
 use Rattle.sq_flow.specs.Wiring.{from_of}

@@ -1,6 +1,3 @@
-use Rattle.std.proofs.Common.{◌≡◌, ℕ, ◌<◌, Option, Some, None, []}
-use Rattle.std.specs.Prelude.{slice_get}
-use Rattle.sq_flow.specs.Flows.{tuples_at}
 use Rattle.sq_flow.proofs.SourceLemmas.{IsBest}
 use Rattle.sq_flow.proofs.flow.next_source.Given as goal
 

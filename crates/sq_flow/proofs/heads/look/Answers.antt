@@ -1,4 +1,4 @@
-use Rattle.std.proofs.Common.{◌≡◌, ◌+◌, ◌<◌, ◌∙◌, sym, arith}
+use Rattle.std.proofs.Common.{◌∙◌, sym}
 use Rattle.sq_flow.proofs.HeadLemmas.{ended-more, head-ended}
 use Rattle.sq_flow.proofs.heads.look.Goals as goal
 

@@ -1,4 +1,4 @@
-use Rattle.std.proofs.Common.{◌≡◌, ℕ, ◌++◌, [], refl, subst}
+use Rattle.std.proofs.Common.{◌++◌, [], subst}
 use Rattle.std.proofs.lemmas.Result.{err_from_is_err_and}
 use Rattle.sq_oper.specs.Given.{given}
 use Rattle.sq_value.specs.Lists.{IsPrefixOf}

@@ -1,9 +1,7 @@
-use Rattle.std.proofs.Common.{◌≡◌, ℕ, ◌+◌, ◌++◌, refl, ap, sym, subst}
+use Rattle.std.proofs.Common.{◌++◌, subst}
 use Rattle.std.proofs.lemmas.Result.{err_from_is_err_and}
 use Rattle.sq_value.specs.Lists.{IsPrefixOf}
 use Rattle.sq_oper.specs.Given.{given}
-use Rattle.sq_flow.specs.Wiring.{AllOutsFine}
-use Rattle.sq_flow.specs.Sends.{sent_to, comes_from, Pushes}
 use Rattle.sq_flow.specs.Events.{lines_of}
 use Rattle.sq_flow.proofs.EventLemmas.{output-is, output-below}
 use Rattle.sq_flow.proofs.SendLemmas.{pushes-none, sent-none}
@@ -21,11 +19,11 @@ returns-in_err-show_all-clause-prefix g c =
 pub returns-clause-sent : goal.returns-clause-sent
 returns-clause-sent g c =
     elim c.if-wires-actor.branch [
-      then-wires-actor+in_ok-show_all w ↦
+      | then-wires-actor+in_ok-show_all w ↦
           rw (w.queues-is, w.disk-is)
           (pushes-none c.args.queues.now (g.D.PageDisk.pages c.args.disk.now) _ _ _ c.requires.together
           (sent-none c.args.wires.now c.args.actor c.args.outs.now.items.items (c.requires.shown w.if-wires-actor.true)))
-    | else-wires-actor+in_ok-send_all w ↦ rw (w.queues-is, w.disk-is) w.in_ok-send_all.ensures.sent
+      | else-wires-actor+in_ok-send_all w ↦ rw (w.queues-is, w.disk-is) w.in_ok-send_all.ensures.sent
     ]
 
 pub returns-in_err-show_all-clause-below : goal.returns-in_err-show_all-clause-below
@@ -34,7 +32,7 @@ returns-in_err-show_all-clause-below g c = λ outputs low h. c.in_err-show_all.e
 pub returns-clause-below : goal.returns-clause-below
 returns-clause-below g c =
     elim c.if-wires-actor.branch [
-      then-wires-actor+in_ok-show_all w ↦
+      | then-wires-actor+in_ok-show_all w ↦
           rw w.events-is (λ outputs low h. w.in_ok-show_all.ensures.below outputs (output-below c.args.actor c.args.wires.now.shown outputs w.if-wires-actor.true low) h)
-    | else-wires-actor+in_ok-send_all w ↦ rw w.events-is (λ outputs low h. h)
+      | else-wires-actor+in_ok-send_all w ↦ rw w.events-is (λ outputs low h. h)
     ]

@@ -1,6 +1,4 @@
-use Rattle.std.proofs.Common.{◌≡◌, ℕ, ◌<◌, ◌≤◌, ◌+◌, ◌++◌, ◌∷◌, length, refl, ap, sym, ◌∙◌, Some, arith}
-use Rattle.std.specs.Vec.Iter.{drain_items}
-use Rattle.sq_flow.specs.Sends.{sent_to}
+use Rattle.std.proofs.Common.{◌++◌, ap, sym, ◌∙◌}
 use Rattle.sq_flow.proofs.EventLemmas.{moved-on}
 use Rattle.sq_flow.proofs.SendLemmas.{pushes-both, sent-append, outs-in, sound-in, apart-arcs}
 use Rattle.sq_flow.proofs.sending.send_all.Goals as goal

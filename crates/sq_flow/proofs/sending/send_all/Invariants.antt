@@ -1,4 +1,4 @@
-use Rattle.std.proofs.Common.{◌≡◌, ℕ, ◌≤◌, ◌++◌}
+use Rattle.std.proofs.Common.{◌≡◌, ◌++◌}
 use Rattle.std.specs.Vec.Iter.{drain_items}
 use Rattle.sq_flow.specs.Wiring.{AllOutsFine}
 use Rattle.sq_flow.specs.Sends.{sent_to, comes_from, Pushes}

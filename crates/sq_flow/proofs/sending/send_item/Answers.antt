@@ -1,10 +1,10 @@
-use Rattle.std.proofs.Common.{◌≡◌, ℕ, suc, ◌+◌, ◌<◌, ◌≤◌, ◌++◌, ◌∷◌, [], Some, length, get_or, take, ap, refl, sym, ◌∙◌, add-one}
+use Rattle.std.proofs.Common.{◌++◌, ◌∷◌, [], get_or, take, ap, sym, ◌∙◌, add-one}
 use Rattle.std.proofs.Math.Seq.{take-suc}
 use Rattle.std.proofs.lemmas.List.{take_all}
 use Rattle.sq_item.specs.Things.{spread}
 use Rattle.sq_flow.specs.Wiring.{times_in}
 use Rattle.sq_flow.specs.Sends.{many}
-use Rattle.sq_flow.proofs.SendLemmas.{pushes-none, pushes-one, pushes-both, many-next, not-in, contains-get, at-front, at-last}
+use Rattle.sq_flow.proofs.SendLemmas.{pushes-one, pushes-both, many-next, not-in, contains-get, at-front, at-last}
 use Rattle.sq_flow.proofs.sending.send_item.Goals as goal
 
 pub push-requires-clause-there : goal.push-requires-clause-there

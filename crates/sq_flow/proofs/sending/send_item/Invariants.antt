@@ -1,4 +1,4 @@
-use Rattle.std.proofs.Common.{◌≡◌, ℕ, ◌≤◌, take}
+use Rattle.std.proofs.Common.{◌≤◌, take}
 use Rattle.sq_item.specs.Things.{spread}
 use Rattle.sq_sched.specs.Ready.{contains}
 use Rattle.sq_flow.specs.Wiring.{times_in}

@@ -1,9 +1,9 @@
-use Rattle.std.proofs.Common.{◌≡◌, ℕ, ◌<◌, ◌≤◌, length, refl, ap, sym, ◌∙◌, List, subst, arith}
+use Rattle.std.proofs.Common.{ℕ, ◌<◌, ◌≤◌, length, refl, ap, sym, ◌∙◌, List, subst, arith}
 use Rattle.std.specs.Prelude.{slice_get}
 use Rattle.std.proofs.lemmas.Option.{slice_get_read, slice_get_past}
 use Rattle.sq_item.specs.Things.{spread}
 use Rattle.sq_sched.specs.Ready.{contains}
-use Rattle.sq_flow.specs.Wiring.{times_in, arcs_from, numbers_in, rows_in}
+use Rattle.sq_flow.specs.Wiring.{times_in, numbers_in, rows_in}
 use Rattle.sq_flow.specs.Sends.{many, Pushes}
 use Rattle.sq_flow.proofs.SendLemmas.{pushes-none}
 use Rattle.sq_flow.proofs.sending.send_one.Goals as goal

@@ -1,8 +1,7 @@
-use Rattle.std.proofs.Common.{◌≡◌, ℕ, ◌++◌, ap, sym, ◌∙◌, cond, eqb, []}
+use Rattle.std.proofs.Common.{ap, ◌∙◌}
 use Rattle.std.proofs.lemmas.Result.{err_from_is_err_and}
 use Rattle.std.specs.Vec.Iter.{drain_items}
-use Rattle.sq_oper.specs.Given.{given}
-use Rattle.sq_flow.specs.Events.{bodies, lines_of}
+use Rattle.sq_flow.specs.Events.{lines_of}
 use Rattle.sq_flow.proofs.EventLemmas.{shown-next, shown-front, moved-on}
 use Rattle.sq_flow.proofs.sending.show_all.Goals as goal
 

@@ -1,4 +1,3 @@
-use Rattle.std.proofs.Common.{◌≡◌, refl}
 use Rattle.sq_flow.proofs.ReplayFlow.{ended-stepped}
 use Rattle.sq_flow.proofs.flow.Flow.end_step.Goals as goal
 

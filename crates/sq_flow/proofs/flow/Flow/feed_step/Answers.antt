@@ -1,12 +1,9 @@
-use Rattle.std.proofs.Common.{◌≡◌, ◌≢◌, ℕ, ◌<◌, ◌≤◌, ◌+◌, ◌-◌, ◌^◌, ◌++◌, ◌∷◌, List, [], length, length-set, refl, ap, sym, ◌∙◌, Some, Option, true, false, not, arith, subst}
-use Rattle.std.specs.Prelude.{slice_get, is_some}
+use Rattle.std.proofs.Common.{◌-◌, length, length-set, refl, sym, ◌∙◌, arith, subst}
 use Rattle.std.specs.Vec.{with_item}
 use Rattle.std.proofs.lemmas.Option.{slice_get_read, same_Some}
 use Rattle.std.proofs.lemmas.Result.{err_from_is_err_and}
-use Rattle.sq_item.specs.Things.{spread}
 use Rattle.sq_flow.specs.Takes.{MayBeFed}
-use Rattle.sq_flow.specs.Flows.{open_seats}
-use Rattle.sq_queue.specs.Faces.{face, size, items_on}
+use Rattle.sq_queue.specs.Faces.{items_on}
 use Rattle.sq_flow.proofs.WireLemmas.{arcs-open, comes-from}
 use Rattle.sq_flow.proofs.FutureLemmas.{slice_get-set_same, slice_get-set_other}
 use Rattle.sq_flow.proofs.Measures.{weighs, open-same}
@@ -20,15 +17,15 @@ returns-in-Err-clause-strange g c =
     λ told holds.
     c.in-Err.ensures.strange told
     (λ item more front.
-    passes-front _ _ c.args.self.now c.requires.flow c.args.actor c.args.time c.args.port c.args.arc c.arc-at.result item c.requires.actor_in c.requires.head
+    passes-front _ _ c.args.self.now c.requires.flow c.args.actor c.requires.head.0 c.args.port c.args.arc c.arc-at.result item c.requires.actor_in c.requires.head.1
     c.index.result.now is c.arc-at.ensures (items_on c.args.self.now.queues (g.D.PageDisk.pages c.args.disk.now)) holds (c.requires.together.faces told) more front)
 
 pub feed_seat-requires-clause-is_valid : goal.feed_seat-requires-clause-is_valid
 feed_seat-requires-clause-is_valid g c =
     let is = slice_get_read c.args.self.now.seats.items _ c.args.actor c.index_mut.result.now refl c.requires.actor_in c.index_mut.ensures.value in
-    let fine = seat-fine _ _ c.args.self.now c.requires.flow c.args.actor c.args.time c.args.port c.args.arc c.arc-at.result c.in-Ok.item c.requires.actor_in c.requires.head c.index_mut.result.now is c.arc-at.ensures in (
+    let fine = seat-fine _ _ c.args.self.now c.requires.flow c.args.actor c.requires.head.0 c.args.port c.args.arc c.arc-at.result c.in-Ok.item c.requires.actor_in c.requires.head.1 c.index_mut.result.now is c.arc-at.ensures in (
       fine.is_valid,
-      runs _ _ c.args.self.now c.requires.flow c.args.actor c.args.time c.args.port c.args.arc c.arc-at.result c.in-Ok.item c.requires.actor_in c.requires.head c.index_mut.result.now is c.arc-at.ensures c.requires.running,
+      runs _ _ c.args.self.now c.requires.flow c.args.actor c.requires.head.0 c.args.port c.args.arc c.arc-at.result c.in-Ok.item c.requires.actor_in c.requires.head.1 c.index_mut.result.now is c.arc-at.ensures c.requires.running,
     )
 
 pub feed_seat-requires-clause-may_come : goal.feed_seat-requires-clause-may_come
@@ -36,13 +33,13 @@ feed_seat-requires-clause-may_come g c =
     let was = slice_get_read c.args.self.now.seats.items _ c.args.actor c.index.result.now refl c.requires.actor_in c.index.ensures in
     let is = slice_get_read c.args.self.now.seats.items _ c.args.actor c.index_mut.result.now refl c.requires.actor_in c.index_mut.ensures.value in
     let same = same_Some c.index.result.now c.index_mut.result.now (sym was ∙ is) in
-    may-come _ _ c.args.self.now c.requires.flow c.args.actor c.args.time c.args.port c.args.arc c.arc-at.result c.in-Ok.item c.requires.actor_in c.requires.head c.index_mut.result.now is c.arc-at.ensures
+    may-come _ _ c.args.self.now c.requires.flow c.args.actor c.requires.head.0 c.args.port c.args.arc c.arc-at.result c.in-Ok.item c.requires.actor_in c.requires.head.1 c.index_mut.result.now is c.arc-at.ensures
     (subst (λ z. MayBeFed c.arc-at.result c.args.port z.tally.place c.args.self.now.clock c.in-Ok.item) same c.in-Ok.ensures.may_be_fed)
 
 pub feed_seat-requires-clause-has_room : goal.feed_seat-requires-clause-has_room
 feed_seat-requires-clause-has_room g c =
     let is = slice_get_read c.args.self.now.seats.items _ c.args.actor c.index_mut.result.now refl c.requires.actor_in c.index_mut.ensures.value in
-    let fine = seat-fine _ _ c.args.self.now c.requires.flow c.args.actor c.args.time c.args.port c.args.arc c.arc-at.result c.in-Ok.item c.requires.actor_in c.requires.head c.index_mut.result.now is c.arc-at.ensures in
+    let fine = seat-fine _ _ c.args.self.now c.requires.flow c.args.actor c.requires.head.0 c.args.port c.args.arc c.arc-at.result c.in-Ok.item c.requires.actor_in c.requires.head.1 c.index_mut.result.now is c.arc-at.ensures in
     let counted = fine.counted in
     let few = fine.few in
     let weight = weighs c.in-Ok.item c.in-Ok.ensures.sound in
@@ -60,7 +57,7 @@ returns-in_err-give-clause-prefix g c =
     let p = err_from_is_err_and c.from_residual-in_err-give.result c.from_residual-in_err-give.ensures.1 in
     let is = slice_get_read c.args.self.now.seats.items _ c.args.actor c.index_mut.result.now refl c.requires.actor_in c.index_mut.ensures.value in
     rw p.1
-    (fed-prefix _ _ c.args.self.now c.requires.flow c.args.actor c.args.time c.args.port c.args.arc c.arc-at.result c.in-Ok.item c.requires.actor_in c.requires.head c.index_mut.result.now is c.arc-at.ensures
+    (fed-prefix _ _ c.args.self.now c.requires.flow c.args.actor c.requires.head.0 c.args.port c.args.arc c.arc-at.result c.in-Ok.item c.requires.actor_in c.requires.head.1 c.index_mut.result.now is c.arc-at.ensures
     (g.D.PageDisk.pages c.args.disk.now) (g.D.PageDisk.pages c.take_item.new.disk) c.take_item.new.queues c.feed_seat.new.seat c.feed_seat.new.out.items.items c.feed_seat.new.out.drops.items c.args.events.now.items c.give.new.events.items
     c.requires.together c.in-Ok.ensures.items c.in-Ok.ensures.others c.in_ok-feed_seat.ensures.fed c.in_err-give.ensures.prefix)
 
@@ -69,7 +66,7 @@ returns-clause-ok g c =
     let was = slice_get_read c.args.self.now.seats.items _ c.args.actor c.index.result.now refl c.requires.actor_in c.index.ensures in
     let is = slice_get_read c.args.self.now.seats.items _ c.args.actor c.index_mut.result.now refl c.requires.actor_in c.index_mut.ensures.value in
     let same = same_Some c.index.result.now c.index_mut.result.now (sym was ∙ is) in
-    fed-stepped _ _ c.args.self.now c.requires.flow c.args.actor c.args.time c.args.port c.args.arc c.arc-at.result c.in-Ok.item c.requires.actor_in c.requires.head c.index_mut.result.now is c.arc-at.ensures
+    fed-stepped _ _ c.args.self.now c.requires.flow c.args.actor c.requires.head.0 c.args.port c.args.arc c.arc-at.result c.in-Ok.item c.requires.actor_in c.requires.head.1 c.index_mut.result.now is c.arc-at.ensures
     (g.D.PageDisk.pages c.args.disk.now) (g.D.PageDisk.pages c.give.new.disk) (g.D.PageDisk.pages c.take_item.new.disk) c.take_item.new.queues c.give.new.queues _ c.in-Ok-count_item.taken
     c.feed_seat.new.seat c.feed_seat.new.out.items.items c.feed_seat.new.out.drops.items c.args.events.now.items c.give.new.events.items
     c.requires.together
@@ -99,15 +96,15 @@ returns-in-Err-count_item-clause-cost_err g c = costs-none _ _ c.args.self.now c
 pub returns-in-Err-count_item-clause-too_much : goal.returns-in-Err-count_item-clause-too_much
 returns-in-Err-count_item-clause-too_much g c =
     let is = slice_get_read c.args.self.now.seats.items _ c.args.actor c.index.result.now refl c.requires.actor_in c.index.ensures in
-    too-much-front _ _ c.args.self.now c.requires.flow c.args.actor c.args.time c.args.port c.args.arc c.arc-at.result c.in-Ok.item c.requires.actor_in c.requires.head c.index.result.now is c.arc-at.ensures
+    too-much-front _ _ c.args.self.now c.requires.flow c.args.actor c.requires.head.0 c.args.port c.args.arc c.arc-at.result c.in-Ok.item c.requires.actor_in c.requires.head.1 c.index.result.now is c.arc-at.ensures
     (g.D.PageDisk.pages c.args.disk.now) (g.D.PageDisk.pages c.take_item.new.disk) c.take_item.new.queues _ c.in-Err-count_item.e c.requires.together c.in-Ok.ensures.items c.in-Ok.ensures.others
     c.in-Err-count_item.ensures.too_much c.in-Err-count_item.ensures.few refl refl
 
 pub feed_seat-requires-clause-has_epoch : goal.feed_seat-requires-clause-has_epoch
 feed_seat-requires-clause-has_epoch g c =
     let is = slice_get_read c.args.self.now.seats.items _ c.args.actor c.index_mut.result.now refl c.requires.actor_in c.index_mut.ensures.value in
-    let fine = seat-fine _ _ c.args.self.now c.requires.flow c.args.actor c.args.time c.args.port c.args.arc c.arc-at.result c.in-Ok.item c.requires.actor_in c.requires.head c.index_mut.result.now is c.arc-at.ensures in
-    fine.reads (sym fine.running ∙ runs _ _ c.args.self.now c.requires.flow c.args.actor c.args.time c.args.port c.args.arc c.arc-at.result c.in-Ok.item c.requires.actor_in c.requires.head c.index_mut.result.now is c.arc-at.ensures c.requires.running)
+    let fine = seat-fine _ _ c.args.self.now c.requires.flow c.args.actor c.requires.head.0 c.args.port c.args.arc c.arc-at.result c.in-Ok.item c.requires.actor_in c.requires.head.1 c.index_mut.result.now is c.arc-at.ensures in
+    fine.reads (sym fine.running ∙ runs _ _ c.args.self.now c.requires.flow c.args.actor c.requires.head.0 c.args.port c.args.arc c.arc-at.result c.in-Ok.item c.requires.actor_in c.requires.head.1 c.index_mut.result.now is c.arc-at.ensures c.requires.running)
 
 pub returns-in_err-feed_seat-clause-cost_err : goal.returns-in_err-feed_seat-clause-cost_err
 returns-in_err-feed_seat-clause-cost_err g c =
@@ -122,14 +119,14 @@ returns-in_err-give-clause-cost_err g c =
     let p = err_from_is_err_and c.from_residual-in_err-give.result c.from_residual-in_err-give.ensures.1 in
     let is = slice_get_read c.args.self.now.seats.items _ c.args.actor c.index_mut.result.now refl c.requires.actor_in c.index_mut.ensures.value in
     rw p.1
-    (costs-front _ _ c.args.self.now c.requires.flow c.args.actor c.args.time c.args.port c.args.arc c.arc-at.result c.in-Ok.item c.requires.actor_in c.requires.head c.index_mut.result.now is c.arc-at.ensures
+    (costs-front _ _ c.args.self.now c.requires.flow c.args.actor c.requires.head.0 c.args.port c.args.arc c.arc-at.result c.in-Ok.item c.requires.actor_in c.requires.head.1 c.index_mut.result.now is c.arc-at.ensures
     (g.D.PageDisk.pages c.args.disk.now) (g.D.PageDisk.pages c.take_item.new.disk) c.take_item.new.queues c.args.steps.now c.feed_seat.new.steps
     c.requires.together c.in-Ok.ensures.items c.in-Ok.ensures.others c.in_ok-feed_seat.ensures.cost)
 
 pub returns-clause-touches : goal.returns-clause-touches
 returns-clause-touches g c =
     let is = slice_get_read c.args.self.now.seats.items _ c.args.actor c.index_mut.result.now refl c.requires.actor_in c.index_mut.ensures.value in
-    fed-touches _ _ c.args.self.now c.requires.flow c.args.actor c.args.time c.args.port c.args.arc c.arc-at.result c.in-Ok.item c.requires.actor_in c.requires.head c.index_mut.result.now is c.arc-at.ensures
+    fed-touches _ _ c.args.self.now c.requires.flow c.args.actor c.requires.head.0 c.args.port c.args.arc c.arc-at.result c.in-Ok.item c.requires.actor_in c.requires.head.1 c.index_mut.result.now is c.arc-at.ensures
     (g.D.PageDisk.pages c.give.new.disk) (g.D.PageDisk.pages c.take_item.new.disk) c.take_item.new.queues c.give.new.queues _ c.in-Ok-count_item.taken c.feed_seat.new.seat c.feed_seat.new.out.items.items
     c.in-Ok.ensures.faces c.in_ok-feed_seat.ensures.fed.open_still
     (slice_get-set_same c.args.self.now.seats.items c.args.actor c.feed_seat.new.seat c.requires.actor_in)
@@ -138,7 +135,7 @@ returns-clause-touches g c =
 pub returns-clause-cost : goal.returns-clause-cost
 returns-clause-cost g c =
     let is = slice_get_read c.args.self.now.seats.items _ c.args.actor c.index_mut.result.now refl c.requires.actor_in c.index_mut.ensures.value in
-    costs-fed _ _ c.args.self.now c.requires.flow c.args.actor c.args.time c.args.port c.args.arc c.arc-at.result c.in-Ok.item c.requires.actor_in c.requires.head c.index_mut.result.now is c.arc-at.ensures
+    costs-fed _ _ c.args.self.now c.requires.flow c.args.actor c.requires.head.0 c.args.port c.args.arc c.arc-at.result c.in-Ok.item c.requires.actor_in c.requires.head.1 c.index_mut.result.now is c.arc-at.ensures
     (with_item c.args.self.now.seats c.args.actor c.feed_seat.new.seat) c.give.new.queues c.in-Ok-count_item.taken c.feed_seat.new.seat c.args.steps.now c.feed_seat.new.steps
     (slice_get-set_same c.args.self.now.seats.items c.args.actor c.feed_seat.new.seat c.requires.actor_in)
     (λ other ne. slice_get-set_other c.args.self.now.seats.items c.args.actor other c.feed_seat.new.seat ne)

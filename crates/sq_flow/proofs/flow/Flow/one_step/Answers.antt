@@ -1,4 +1,4 @@
-use Rattle.std.proofs.Common.{◌≡◌, refl}
+use Rattle.std.proofs.Common.{refl}
 use Rattle.sq_flow.proofs.FedFlow.{costs-none}
 use Rattle.std.proofs.lemmas.Result.{on_ok_weaker}
 use Rattle.sq_oper.proofs.GivenLemmas.{OnErr-from}

@@ -1,4 +1,4 @@
-use Rattle.std.proofs.Common.{◌≡◌, refl}
+use Rattle.std.proofs.Common.{refl}
 use Rattle.std.proofs.lemmas.Result.{err_from_is_err_and}
 use Rattle.sq_flow.proofs.FedFlow.{costs-none}
 use Rattle.sq_flow.proofs.StepLemmas.{waits-not-ready}

@@ -1,4 +1,4 @@
-use Rattle.std.proofs.Common.{◌≡◌, ◌≢◌, ℕ, ◌+◌, ◌<◌, ◌≤◌, length, length-set, refl, ap, sym, ◌∙◌, arith}
+use Rattle.std.proofs.Common.{length-set, refl, ap, ◌∙◌, arith}
 use Rattle.std.specs.Vec.{with_item}
 use Rattle.std.proofs.lemmas.Option.{slice_get_read}
 use Rattle.sq_flow.specs.Flows.{tuples_at}

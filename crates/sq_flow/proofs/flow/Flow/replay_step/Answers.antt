@@ -1,4 +1,3 @@
-use Rattle.std.proofs.Common.{◌≡◌, refl}
 use Rattle.sq_flow.proofs.flow.Flow.replay_step.Goals as goal
 
 pub returns-in-None-clause-ok : goal.returns-in-None-clause-ok

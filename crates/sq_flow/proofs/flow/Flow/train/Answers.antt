@@ -1,4 +1,4 @@
-use Rattle.std.proofs.Common.{◌≡◌, ℕ, ◌≤◌, ◌+◌, ◌-◌, refl, ap, sym, ◌∙◌, subst, arith, inl, inr}
+use Rattle.std.proofs.Common.{◌≡◌, subst, arith, inr}
 use Rattle.sq_flow.specs.Flows.{Lowers, measure_of}
 use Rattle.sq_flow.specs.Readiness.{IsReady, WaitsOnly}
 use Rattle.sq_flow.proofs.StepLemmas.{stepped-both, prefix-after, none-strange-after, costs-after, costs-most-after, too-much-after}

@@ -1,4 +1,4 @@
-use Rattle.std.proofs.Common.{◌≡◌, ℕ, ◌≤◌, ◌+◌, ◌-◌, true, length, []}
+use Rattle.std.proofs.Common.{◌≡◌, ◌≤◌, ◌+◌, ◌-◌, []}
 use Rattle.sq_flow.specs.Flows.{Stepped, CostsFed, measure_of}
 use Rattle.sq_flow.specs.Readiness.{TouchesOnly}
 use Rattle.sq_flow.proofs.flow.Flow.train.Given as goal
