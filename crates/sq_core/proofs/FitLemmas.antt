@@ -12,7 +12,7 @@ use Rattle.sq_oper.specs.Streams.{things}
 use Rattle.sq_net.specs.declared.Network.{Network}
 use Rattle.sq_net.specs.Streams.{columns_of_stream}
 use Rattle.sq_model.specs.Full.{full_stream}
-use Rattle.sq_fit.specs.Fit.{FitsOption, StreamsFit}
+use Rattle.sq_model.specs.Fit.{FitsOption, StreamsFit}
 use Rattle.sq_flow.specs.declared.wires.Arc.{Arc}
 use Rattle.sq_flow.specs.declared.wires.Wires.{Wires}
 use Rattle.sq_flow.specs.Wiring.{net_of, arcs_read, arc_at, wide_of}

@@ -1,14 +1,15 @@
 -- One more arc keeps what holds of the arcs that stand.
-use Rattle.std.proofs.Common.{◌≡◌, ◌≢◌, ℕ, zero, suc, ◌+◌, ◌-◌, ◌*◌, ◌<◌, ◌≤◌, ◌^◌, eqb, cond, Bool, true, false, List, [], ◌∷◌, ◌++◌, length, Option, Some, None, Vec, slice_get, refl, ap, sym, ◌∙◌, subst, arith, inl, inr, ◌⊎◌}
+use Rattle.std.proofs.Common.{◌≡◌, ◌≢◌, ℕ, zero, suc, ◌+◌, ◌-◌, ◌*◌, ◌<◌, ◌≤◌, ◌^◌, eqb, cond, Bool, true, false, ◌||◌, List, [], ◌∷◌, ◌++◌, length, Option, Some, None, Vec, slice_get, refl, ap, sym, ◌∙◌, subst, arith, inl, inr, ◌⊎◌}
 use Rattle.std.specs.declared.alloc.Global.{Global}
 use Rattle.std.proofs.lemmas.Bool.{cases_lt, cases_eq}
 use Rattle.std.proofs.lemmas.Bool.Decides.{nat_tests}
 use Rattle.sq_left.proofs.MergeLemmas.{eqb-same, eqb-not}
+use Rattle.sq_sched.specs.Ready.{contains}
 use Rattle.sq_flow.specs.declared.wires.Arc.{Arc}
 use Rattle.sq_flow.specs.declared.wires.Wires.{Wires}
-use Rattle.sq_flow.specs.Wiring.{numbers_in, rows_in, arcs_read, arcs_from, from_of, port_of, to_of, place_of, times_in}
+use Rattle.sq_flow.specs.Wiring.{numbers_in, rows_in, arcs_read, arcs_from, followers_of, Climbs, from_of, port_of, to_of, place_of, times_in}
 use Rattle.sq_core.specs.declared.join.Feed.{Feed}
-use Rattle.sq_core.specs.Joining.{feeds_of, AreFeeds, IsOf, Adds, IsJoining, Fixed}
+use Rattle.sq_core.specs.Joining.{feeds_of, IsGiver, AreFeeds, IsOf, Adds, IsJoining, Fixed, once_more}
 
 -- the item at a place of a list with one more
 pub get-last : {A : Type 0} (xs : List A) (x : A) → slice_get (xs ++ x ∷ []) (length xs) ≡ Some x
@@ -59,9 +60,86 @@ rows_bare [] v is (suc r) = refl
 rows_bare (x ∷ xs) v is zero = refl
 rows_bare (x ∷ xs) v is (suc r) = rows_bare xs v is r
 
-module _ (feeds : List (Vec Feed Global)) (at place : ℕ) (f : Feed) (arc : Arc) (w w' : Wires)
-    (are : AreFeeds feeds) (there : slice_get (feeds_of feeds at) place ≡ Some f) (of : IsOf (Some arc) (Some f)) (to : arc.to ≡ at) (stands : arc.place ≡ place)
-    (i : IsJoining feeds at place w) (adds : Adds arc w w') where
+-- ---- a list with one more number, once
+
+is-there : (xs : List ℕ) (x : ℕ) → contains (xs ++ x ∷ []) x ≡ true
+is-there [] x = ap (λ b. b || false) (eqb-same x x refl)
+is-there (y ∷ xs) x = ap (λ b. eqb y x || b) (is-there xs x) ∙ or-true (eqb y x)
+  where
+    or-true : (b : Bool) → (b || true) ≡ true
+    or-true true = refl
+    or-true false = refl
+
+stays-there : (xs : List ℕ) (x y : ℕ) → contains xs y ≡ true → contains (xs ++ x ∷ []) y ≡ true
+stays-there [] x y h = cc h
+stays-there (z ∷ xs) x y h = by (λ k. stays-there xs x y k) (eqb z y) h
+  where
+    by : (contains xs y ≡ true → contains (xs ++ x ∷ []) y ≡ true) → (b : Bool) → (b || contains xs y) ≡ true → (b || contains (xs ++ x ∷ []) y) ≡ true
+    by later true k = refl
+    by later false k = later k
+
+there-cases : (xs : List ℕ) (x y : ℕ) → contains (xs ++ x ∷ []) y ≡ true → (contains xs y ≡ true) ⊎ (x ≡ y)
+there-cases [] x y h =
+    elim (cases_eq x y) [
+      | inl same ↦ inr same
+      | inr other ↦ (let no : contains (x ∷ []) y ≡ false = ap (λ b. b || false) (eqb-not x y other) in cc (no, h))
+    ]
+there-cases (z ∷ xs) x y h = by (λ k. there-cases xs x y k) (eqb z y) h
+  where
+    by : (contains (xs ++ x ∷ []) y ≡ true → (contains xs y ≡ true) ⊎ (x ≡ y)) → (b : Bool) → (b || contains (xs ++ x ∷ []) y) ≡ true → ((b || contains xs y) ≡ true) ⊎ (x ≡ y)
+    by later true k = inl refl
+    by later false k = later k
+
+climbs-more : (xs : List ℕ) (x : ℕ) → Climbs xs → ((y : ℕ) → contains xs y ≡ true → y < x) → Climbs (xs ++ x ∷ [])
+climbs-more [] x h low = (λ y is. cc is, _)
+climbs-more (z ∷ xs) x h low = (
+  λ y is. elim (there-cases xs x y is) [
+    | inl old ↦ h.0 y old
+    | inr new ↦ (let l = low z (ap (λ b. b || contains xs z) (eqb-same z z refl)) in omega (arith, l, new))
+  ],
+  climbs-more xs x h.1 (λ y is. low y (or-right (eqb z y) is)),
+)
+  where
+    or-right : (b : Bool) {c : Bool} → c ≡ true → (b || c) ≡ true
+    or-right true h = refl
+    or-right false h = h
+
+once-there : (xs : List ℕ) (x : ℕ) → contains (once_more x xs) x ≡ true
+once-there xs x = by (contains xs x) refl
+  where
+    by : (b : Bool) → contains xs x ≡ b → contains (cond b xs (xs ++ x ∷ [])) x ≡ true
+    by true is = is
+    by false is = is-there xs x
+
+once-stays : (xs : List ℕ) (x y : ℕ) → contains xs y ≡ true → contains (once_more x xs) y ≡ true
+once-stays xs x y h = by (contains xs x)
+  where
+    by : (b : Bool) → contains (cond b xs (xs ++ x ∷ [])) y ≡ true
+    by true = h
+    by false = stays-there xs x y h
+
+once-cases : (xs : List ℕ) (x y : ℕ) → contains (once_more x xs) y ≡ true → (contains xs y ≡ true) ⊎ (x ≡ y)
+once-cases xs x y = by (contains xs x)
+  where
+    by : (b : Bool) → contains (cond b xs (xs ++ x ∷ [])) y ≡ true → (contains xs y ≡ true) ⊎ (x ≡ y)
+    by true h = inl h
+    by false h = there-cases xs x y h
+
+once-climbs : (xs : List ℕ) (x : ℕ) → Climbs xs → ((y : ℕ) → contains xs y ≡ true → y ≤ x) → Climbs (once_more x xs)
+once-climbs xs x h low = by (contains xs x) refl
+  where
+    by : (b : Bool) → contains xs x ≡ b → Climbs (cond b xs (xs ++ x ∷ []))
+    by true is = h
+    by false is = climbs-more xs x h (λ y there.
+        let l = low y there in
+        elim (cases_eq y x) [
+          | inl same ↦ (let no : true ≡ false = sym there ∙ ap (contains xs) same ∙ is in cc no)
+          | inr other ↦ omega (arith, l, other)
+        ])
+
+module _ (shown : ℕ) (feeds : List (Vec Feed Global)) (at place : ℕ) (f : Feed) (arc : Arc) (w w' : Wires)
+    (are : AreFeeds shown feeds) (there : slice_get (feeds_of feeds at) place ≡ Some f) (of : IsOf (Some arc) (Some f)) (to : arc.to ≡ at) (stands : arc.place ≡ place)
+    (i : IsJoining shown feeds at place w) (adds : Adds arc w w') where
   abbrev k : ℕ
   k = length w.arcs.items
 
@@ -108,8 +186,8 @@ module _ (feeds : List (Vec Feed Global)) (at place : ℕ) (f : Feed) (arc : Arc
         | inr past ↦ (let e : k ≡ a = omega (arith, past, low, many) in subst (λ b. P b (slice_get w'.arcs.items b)) e (subst (P k) (sym arc-new) new))
       ]
 
-  from-in : (a : ℕ) → a < length w'.arcs.items → from_of (slice_get w'.arcs.items a) < length feeds + 1
-  from-in a low = by-arc (λ b o. from_of o < length feeds + 1) a low (i.from_in a) (let h = are.from_in at place f there in let e = of.0 in omega (arith, h, e))
+  from-in : (a : ℕ) → a < length w'.arcs.items → IsGiver shown (length feeds) (from_of (slice_get w'.arcs.items a))
+  from-in a low = by-arc (λ b o. IsGiver shown (length feeds) (from_of o)) a low (i.from_in a) (subst (IsGiver shown (length feeds)) (sym of.0) (are.from_in at place f there))
 
   joined : (actor port a : ℕ) → slice_get (arcs_read w' actor) port ≡ Some a → (to_of (slice_get w'.arcs.items a) ≡ actor) × (place_of (slice_get w'.arcs.items a) ≡ port)
   joined actor port a is =
@@ -204,8 +282,43 @@ module _ (feeds : List (Vec Feed Global)) (at place : ℕ) (f : Feed) (arc : Arc
   length-other : (actor : ℕ) → actor ≢ at → length (arcs_read w' actor) ≡ length (arcs_read w actor)
   length-other actor ne = ap length (row-other actor ne)
 
+  -- the followers of an actor are as before, or they are those of where the new arc comes from
+  by-follower : (P : List ℕ → Type 0) (actor : ℕ) → P (followers_of w actor) → (actor ≡ arc.from → P (once_more arc.to (followers_of w actor))) → P (followers_of w' actor)
+  by-follower P actor old new =
+      elim (cases_eq actor arc.from) [
+        | inl same ↦ subst P (sym (adds.followers actor ∙ ap (λ b. cond b (once_more arc.to (followers_of w actor)) (followers_of w actor)) (eqb-same actor arc.from same))) (new same)
+        | inr other ↦ subst P (sym (adds.followers actor ∙ ap (λ b. cond b (once_more arc.to (followers_of w actor)) (followers_of w actor)) (eqb-not actor arc.from other))) old
+      ]
+
+  followed : (a : ℕ) → a < length w'.arcs.items → contains (followers_of w' (from_of (slice_get w'.arcs.items a))) (to_of (slice_get w'.arcs.items a)) ≡ true
+  followed a low = by-arc (λ b o. contains (followers_of w' (from_of o)) (to_of o) ≡ true) a low
+      (λ less. by-follower (λ l. contains l (to_of (slice_get w.arcs.items a)) ≡ true) (from_of (slice_get w.arcs.items a)) (i.followed a less)
+      (λ same. once-stays (followers_of w (from_of (slice_get w.arcs.items a))) arc.to (to_of (slice_get w.arcs.items a)) (i.followed a less)))
+      (ap (λ l. contains l arc.to) (adds.followers arc.from ∙ ap (λ b. cond b (once_more arc.to (followers_of w arc.from)) (followers_of w arc.from)) (eqb-same arc.from arc.from refl))
+      ∙ once-there (followers_of w arc.from) arc.to)
+
+  followers-low : (actor follower : ℕ) → contains (followers_of w' actor) follower ≡ true → 8 * follower < 8 * at + (place + 1)
+  followers-low actor follower = by-follower (λ l. contains l follower ≡ true → 8 * follower < 8 * at + (place + 1)) actor
+      (λ h. let low = i.followers_low actor follower h in omega (arith, low))
+      (λ same h. elim (once-cases (followers_of w actor) arc.to follower h) [
+        | inl old ↦ (let low = i.followers_low actor follower old in omega (arith, low))
+        | inr new ↦ omega (arith, new, to)
+      ])
+
+  -- a follower that stands already isn't behind this operator
+  upto-here : (actor follower : ℕ) → contains (followers_of w actor) follower ≡ true → follower ≤ arc.to
+  upto-here actor follower h = (let low = i.followers_low actor follower h in let few = place-few in omega (arith, low, few, to))
+    where
+      within : (fs : List Feed) (p : ℕ) → slice_get fs p ≡ Some f → p < length fs
+      within [] p is = cc is
+      within (g ∷ fs) zero is = omega arith
+      within (g ∷ fs) (suc p) is = (let h = within fs p is in omega (arith, h))
+
+      place-few : place < 8
+      place-few = (let low = within (feeds_of feeds at) place there in let few = are.ports at in omega (arith, low, few))
+
   -- one more arc of this operator
-  pub joining-more : IsJoining feeds at (place + 1) w'
+  pub joining-more : IsJoining shown feeds at (place + 1) w'
   joining-more =
       record {
         inputs_len = adds.inputs_len ∙ i.inputs_len;
@@ -220,6 +333,10 @@ module _ (feeds : List (Vec Feed Global)) (at place : ℕ) (f : Feed) (arc : Arc
         fed = fed;
         read = read;
         readers_in = readers-in;
+        followers_len = adds.followers_len ∙ i.followers_len;
+        followed = followed;
+        followers_low = followers-low;
+        climbs = λ actor. by-follower Climbs actor (i.climbs actor) (λ same. once-climbs (followers_of w actor) arc.to (i.climbs actor) (upto-here actor));
       }
 
 pub fixed-more : (a b c : Wires) → Fixed a b → Fixed b c → Fixed a c

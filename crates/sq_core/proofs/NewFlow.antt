@@ -12,21 +12,21 @@ use Rattle.sq_item.specs.Things.{Thing, spread_all}
 use Rattle.sq_outside.specs.Disks.{Pages}
 use Rattle.sq_road.specs.Levels.{LevelTable}
 use Rattle.sq_oper.specs.declared.tally.Place.TheVariants.{Start}
-use Rattle.sq_oper.specs.Given.{given}
 use Rattle.sq_oper.specs.Order.{merge, IsFuture}
 use Rattle.sq_oper.specs.Streams.{things, at_zero}
-use Rattle.sq_graph.specs.Wires.{inputs_of}
+use Rattle.sq_graph.specs.Wires.{inputs_of, stream_at}
 use Rattle.sq_net.specs.declared.Network.{Network}
 use Rattle.sq_net.specs.declared.Node.{Node}
 use Rattle.sq_net.specs.Sound.{IsSound}
-use Rattle.sq_model.specs.Full.{nth, full_stream}
+use Rattle.sq_model.specs.Full.{nth, full_stream, full_streams}
+use Rattle.sq_model.specs.Fed.{fed_of, late_at, late_of}
 use Rattle.sq_left.proofs.MergeOrder.{merge-in-order}
 use Rattle.sq_flow.specs.declared.wires.Wires.{Wires}
 use Rattle.sq_flow.specs.declared.flow.Flow.{Flow}
 use Rattle.sq_flow.specs.declared.seats.Seat.{Seat}
-use Rattle.sq_flow.specs.Seats.{Meaning, rest_at, place_at, done_at}
+use Rattle.sq_flow.specs.Seats.{Meaning, rest_at, lost_at, taken_at, place_at, done_at}
 use Rattle.sq_flow.specs.Starts.{IsNewFlow}
-use Rattle.sq_flow.specs.Flows.{world_of, items_in, lines_left, HoldsItems}
+use Rattle.sq_flow.specs.Flows.{tuples_at, world_of, items_in, lines_left, taken_in_all, HoldsItems}
 use Rattle.sq_flow.specs.Wiring.{net_of, IsShaped}
 use Rattle.sq_flow.proofs.FutureLemmas.{future-weaker}
 use Rattle.sq_start.specs.Nets.{shown_by, streams_of, given_by, Joins}
@@ -36,14 +36,22 @@ use Rattle.sq_flow.specs.Events.{bodies}
 use Rattle.sq_start.specs.Starts.{Takes}
 use Rattle.sq_start.proofs.LawLemmas.{all-rise, full-is-stream, new-holds}
 use Rattle.sq_start.proofs.StartLemmas.{zero-none}
-use Rattle.sq_fit.specs.Fit.{StreamsFit}
+use Rattle.sq_model.specs.Fit.{StreamsFit}
 use Rattle.sq_core.specs.Table.{ops_of, IsMeasured}
-use Rattle.sq_core.specs.Seated.{IsSeated, AllSeated, NodeGives}
+use Rattle.sq_core.specs.Seated.{IsSeated, AllSeated, NodeGives, NodeLoses}
 use Rattle.sq_core.proofs.TableLemmas.{box-streams, output-streams}
 use Rattle.sq_core.proofs.FitLemmas.{streams-come}
 use Rattle.sq_core.proofs.PortFits.{box-takes}
 use Rattle.sq_core.proofs.SeatLemmas.{one-shown}
+use Rattle.sq_core.proofs.SumLemmas.{sum-none}
+use Rattle.sq_core.proofs.LateStart.{late-start}
 use Rattle.sq_core.proofs.StartEngine.{node-low, none-high, node-takes, unmarked-port}
+
+-- what is to be released of a source is its stream
+released : (queues : List (VecDeque Tuple Global)) (source : ℕ) → tuples_at (slice_get queues source) ≡ nth (map (λ q. q.items) queues) source
+released [] source = refl
+released (q ∷ queues) zero = refl
+released (q ∷ queues) (suc source) = released queues source
 
 past : {A : Type 0} (xs : List A) (i : ℕ) → length xs ≤ i → slice_get xs i ≡ None
 past [] i h = refl
@@ -105,18 +113,48 @@ module _ (n : Network) (sound : IsSound n) (sources : List (List Tuple)) (record
             let rest : streams_of n actor ≡ [] = at-output actor (omega (arith, high, count)) ∙ ap shown_by (past n.wires.outputs (actor - length n.boxes) (omega (arith, high, count))) in
             sym (ap (λ o. things (given_by o port (fed actor))) none ∙ ap (λ ss. things (at_zero port (nth (map (full_stream n sources) ss) 0))) rest ∙ ap things (zero-none port))
 
-    pub is-new : (seats-vec : Vec (Seat O) Global) → seats-vec.items ≡ seats → (to_come : VecDeque (ℕ × Item) Global) → ((source : ℕ) → given source to_come.items ≡ things (nth sources source))
-        → (levels : LevelTable) (flow : Flow O) → IsNewFlow w seats-vec to_come levels flow → (pages : Option Pages) (table : ℕ → ℕ → ℕ)
+    taken-none : (actor : ℕ) → taken_at m (slice_get seats actor) ≡ 0
+    taken-none actor = by (slice_get seats actor) refl
+      where
+        by : (o : Option (Seat O)) → slice_get seats actor ≡ o → taken_at m o ≡ 0
+        by None is = refl
+        by (Some seat) is = (seated actor seat is).taken
+
+    loses-node : (actor : ℕ) (seat : Seat O) → slice_get seats actor ≡ Some seat → (node : Option Node) → slice_get n.boxes actor ≡ node
+        → NodeLoses node (m.lost seat.op) → m.lost seat.op (merge (map things (fed actor))) ≡ late_of n sources actor
+    loses-node actor seat here None is loses = loses (merge (map things (fed actor)))
+        ∙ ap (λ o. late_at o (fed_of n sources actor) (length (nth (full_streams n sources) (stream_at n.wires actor 0)))) (sym is)
+    loses-node actor seat here (Some b) is loses =
+        let low = node-low n.boxes actor b is in
+        let k : length (inputs_of n.wires actor) ≡ length (fed actor) = sym (length-map (streams_of n actor) (full_stream n sources) ∙ ap length (box-streams n actor low)) in
+        late-start n sound sources actor b is (m.lost seat.op) loses (subst (Takes b.body) k (box-takes n sound actor b is))
+
+    loses-at : (actor : ℕ) → lost_at m (slice_get seats actor) (merge (map things (fed actor))) ≡ late_of n sources actor
+    loses-at actor = by (slice_get seats actor) refl
+      where
+        by : (o : Option (Seat O)) → slice_get seats actor ≡ o → lost_at m o (merge (map things (fed actor))) ≡ late_of n sources actor
+        by (Some seat) is = loses-node actor seat is (slice_get n.boxes actor) refl (seated actor seat is).loses
+        by None is =
+            let high = seat-high seats actor is in
+            ap (λ o. late_at o (fed_of n sources actor) (length (nth (full_streams n sources) (stream_at n.wires actor 0)))) (sym (past n.boxes actor (omega (arith, high, count))))
+
+    pub is-new : (seats-vec : Vec (Seat O) Global) → seats-vec.items ≡ seats → (queues : Vec (VecDeque Tuple Global) Global) → map (λ q. q.items) queues.items ≡ sources
+        → (levels : LevelTable) (flow : Flow O) → IsNewFlow w seats-vec queues levels flow → (pages : Option Pages) (table : ℕ → ℕ → ℕ)
         → IsNew n sources (net_of flow.wires) (world_of m table (items_in flow pages) flow)
-    is-new seats-vec same to_come streams levels flow new pages table =
+    is-new seats-vec same queues streams levels flow new pages table =
+        let here : flow.seats.items ≡ seats = ap (λ v. v.items) new.seats_are ∙ same in
         record {
           joins = subst (λ v. Joins n (net_of v)) (sym new.wires_are) joins;
-          recorded = λ port. ap (λ q. given port q.items) new.source ∙ streams port;
+          recorded = λ port. ap (λ q. things (tuples_at (slice_get q.items port))) new.sources_are ∙ ap things (released queues.items port) ∙ ap (λ ss. things (nth ss port)) streams;
           empty = λ arc. ap spread_all (new.empty pages arc);
           fit = λ actor ne. streams-come n sources flow.wires fit (subst (IsMeasured n) (sym new.wires_are) measured) actor;
-          gives = λ actor ne port. ap (λ v. rest_at m table (slice_get v.items actor) (merge (map things (fed actor))) port) new.seats_are
-              ∙ ap (λ l. rest_at m table (slice_get l actor) (merge (map things (fed actor))) port) same ∙ gives-at actor port table;
+          gives = λ actor ne port. ap (λ l. rest_at m table (slice_get l actor) (merge (map things (fed actor))) port) here ∙ gives-at actor port table;
+          none_fed = λ actor. ap (λ l. taken_at m (slice_get l actor)) here ∙ taken-none actor;
+          loses = λ actor ne. ap (λ l. lost_at m (slice_get l actor) (merge (map things (fed actor)))) here ∙ loses-at actor;
         }
+
+    pub none-fed : (flow : Flow O) → flow.seats.items ≡ seats → taken_in_all m flow ≡ 0
+    none-fed flow here = sum-none (λ actor. taken_at m (slice_get flow.seats.items actor)) (length flow.seats.items) (λ actor. ap (λ l. taken_at m (slice_get l actor)) here ∙ taken-none actor)
 
 -- what is left of an output is the full stream that it shows
 pub left-is : {O : Type 0} (m : Meaning O) (n : Network) (sources : List (List Tuple)) → All IsStream sources → (w : Wires) → IsShaped w (ops_of n) → w.shown ≡ length n.boxes → OutputsStartFull n

@@ -22,7 +22,7 @@ use Rattle.sq_net.specs.Sound.{IsSound, IsTypedBody, body_within, node_within, i
 use Rattle.sq_net.specs.Streams.{columns_of_stream}
 use Rattle.sq_join.specs.Sides.{left_fields}
 use Rattle.sq_start.specs.Starts.{Takes, body_fits}
-use Rattle.sq_fit.proofs.BoxTypes.{and-both, and-first}
+use Rattle.sq_model.proofs.BoxTypes.{and-both, and-first}
 use Rattle.sq_core.specs.Table.{width_of}
 use Rattle.sq_core.proofs.TableLemmas.{inputs-there}
 
@@ -63,6 +63,9 @@ zero-test a h = grind (arith, nat_tests)
 
 at-most : (a b : ℕ) → leb a b ≡ true → a ≤ b
 at-most a b h = grind (arith, nat_tests)
+
+at-least : (low high k : ℕ) → is_between low high k ≡ true → low ≤ k
+at-least low high k h = grind (arith, nat_tests)
 
 within : (a b : ℕ) → a ≤ b → leb a b ≡ true
 within a b h = grind (arith, nat_tests)
@@ -124,9 +127,6 @@ body-takes n ss (body.Aggregate fs group window) ports port fields f inner t typ
     let few = at-least 1 16 (length fs) (and-first (is_between 1 16 (length fs)) (nat_le (length group) 16) inner) in
     and-both (eqb port 0) (nat_le 1 (length group + length fs) && nat_le (length group + length fs) 16) (zero-test port (omega (arith, f, low)))
     (and-both (nat_le 1 (length group + length fs)) (nat_le (length group + length fs) 16) (within 1 (length group + length fs) (omega (arith, few))) t.6)
-  where
-    at-least : (low high k : ℕ) → is_between low high k ≡ true → low ≤ k
-    at-least low high k h = grind (arith, nat_tests)
 body-takes n ss (body.Join size on) ports port fields f inner t typed h = join-takes n ss on.scope port fields f t.0.0.0 t.2 typed h
 
 -- ---- from a sound network
@@ -140,7 +140,7 @@ two-of k h = grind (arith, nat_tests)
 takes-body : (b : Body) (kind : BoxKind) (k : ℕ) → kind ≡ kind_of_body b → takes_within kind k ≡ true → Takes b k
 takes-body (body.Filter ps) kind k is h = one-of k (subst (λ z. takes_within z k ≡ true) is h)
 takes-body (body.Map es) kind k is h = one-of k (subst (λ z. takes_within z k ≡ true) is h)
-takes-body body.Union kind k is h = _
+takes-body body.Union kind k is h = (let within : is_between 1 8 k ≡ true = subst (λ z. takes_within z k ≡ true) is h in at-least 1 8 k within)
 takes-body (body.BSort by slack) kind k is h = one-of k (subst (λ z. takes_within z k ≡ true) is h)
 takes-body (body.Aggregate fs group window) kind k is h = one-of k (subst (λ z. takes_within z k ≡ true) is h)
 takes-body (body.Join size on) kind k is h = two-of k (subst (λ z. takes_within z k ≡ true) is h)
@@ -158,6 +158,18 @@ takes-at (w ∷ ws) (y ∷ bs) (suc at) b same h there =
 
 pub box-takes : (n : Network) → IsSound n → (at : ℕ) (b : Node) → slice_get n.boxes at ≡ Some b → Takes b.body (length (inputs_of n.wires at))
 box-takes n sound at b there = takes-at n.wires.boxes n.boxes at b sound.agrees.kinds (and_parts _ _ sound.within).1 there
+
+-- each box takes a stream
+takes-some : (b : Body) (k : ℕ) → Takes b k → 1 ≤ k
+takes-some (body.Filter ps) k h = omega (arith, h)
+takes-some (body.Map es) k h = omega (arith, h)
+takes-some body.Union k h = h
+takes-some (body.BSort by slack) k h = omega (arith, h)
+takes-some (body.Aggregate fs group window) k h = omega (arith, h)
+takes-some (body.Join size on) k h = omega (arith, h)
+
+pub box-reads : (n : Network) → IsSound n → (at : ℕ) (b : Node) → slice_get n.boxes at ≡ Some b → 1 ≤ length (inputs_of n.wires at)
+box-reads n sound at b there = takes-some b.body (length (inputs_of n.wires at)) (box-takes n sound at b there)
 
 body-within-at : (bs : List Node) (at : ℕ) (b : Node) → list_all node_within bs ≡ true → slice_get bs at ≡ Some b → body_within b.body ≡ true
 body-within-at [] at b h there = cc there

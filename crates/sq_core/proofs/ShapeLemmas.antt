@@ -3,12 +3,14 @@ use Rattle.std.proofs.Common.{◌≡◌, ◌≢◌, ℕ, zero, suc, ◌+◌, ◌
 use Rattle.std.specs.Prelude.{IsTrue}
 use Rattle.std.specs.declared.alloc.Global.{Global}
 use Rattle.std.proofs.lemmas.Bool.{cases_lt, cases_eq}
+use Rattle.sq_sched.specs.Ready.{contains}
 use Rattle.sq_left.specs.Left.{Net, known, Each, IsWired}
+use Rattle.sq_left.proofs.MergeLemmas.{eqb-same, eqb-not}
 use Rattle.sq_flow.specs.declared.wires.Arc.{Arc}
 use Rattle.sq_flow.specs.declared.wires.Wires.{Wires}
-use Rattle.sq_flow.specs.Wiring.{net_of, arcs_read, arcs_from, from_of, port_of, numbers_in, rows_in, times_in, IsShaped}
+use Rattle.sq_flow.specs.Wiring.{net_of, arcs_read, arcs_from, followers_of, Climbs, from_of, port_of, numbers_in, rows_in, times_in, IsShaped}
 use Rattle.sq_core.specs.declared.join.Feed.{Feed}
-use Rattle.sq_core.specs.Joining.{feeds_of, AreFeeds, IsOf, IsJoining, IsJoined, IsOrder, ReadsEarlier, AllKnown, known_by, Fixed}
+use Rattle.sq_core.specs.Joining.{feeds_of, IsGiver, AreFeeds, IsOf, IsJoining, IsJoined, IsOrder, ReadsEarlier, AllKnown, known_by, Fixed}
 
 -- a table has nothing past its end
 pub no-feeds : (feeds : List (Vec Feed Global)) (actor : ℕ) → length feeds ≤ actor → feeds_of feeds actor ≡ []
@@ -30,7 +32,24 @@ of-known replay order [] port (Some arc) all is = absurd is
 of-known replay order (f ∷ fs) zero (Some arc) all is = ap (known_by replay order) is.0 ∙ all.0
 of-known replay order (f ∷ fs) (suc port) (Some arc) all is = of-known replay order fs port (Some arc) all.1 is
 
-module _ (feeds : List (Vec Feed Global)) (w : Wires) (are : AreFeeds feeds) (i : IsJoining feeds (length feeds) 0 w) (replay : w.replay ≡ length feeds) where
+-- arcs of which each comes from another actor are none
+none-from : (arcs : List ℕ) → ((arc : ℕ) → slice_get arcs 0 ≡ Some arc → times_in arc arcs ≡ 0) → arcs ≡ []
+none-from [] h = refl
+none-from (arc ∷ arcs) h =
+    let one : ◌≡◌ {A = ℕ} (cond (eqb arc arc) 1 0) 1 = ap (λ b. cond b 1 0) (eqb-same arc arc refl) in
+    let none = h arc refl in
+    absurd (omega (arith, one, none))
+
+giver-low : (shown ops actor : ℕ) → shown ≤ ops → IsGiver shown ops actor → actor < ops + 1
+giver-low shown ops actor low (inl h) = omega (arith, low, h)
+giver-low shown ops actor low (inr h) = omega (arith, h)
+
+-- an output is no giver
+no-giver : (shown ops actor : ℕ) → shown ≤ actor → actor < ops → IsGiver shown ops actor → ⊥
+no-giver shown ops actor high low (inl h) = omega (arith, high, h)
+no-giver shown ops actor high low (inr h) = omega (arith, low, h)
+
+module _ (shown : ℕ) (feeds : List (Vec Feed Global)) (w : Wires) (are : AreFeeds shown feeds) (i : IsJoining shown feeds (length feeds) 0 w) (replay : w.replay ≡ length feeds) where
   wired : (order : List ℕ) → ReadsEarlier (length feeds) feeds order → IsWired (net_of w) order
   wired [] h = _
   wired (last ∷ earlier) h = (
@@ -57,21 +76,32 @@ module _ (feeds : List (Vec Feed Global)) (w : Wires) (are : AreFeeds feeds) (i 
   pub joined-all : IsJoined feeds w
   joined-all = record { many = many; fed = i.fed }
 
-  pub shaped-all : w.shown ≤ length feeds → IsOrder (length feeds) feeds w.order.items → IsShaped w (length feeds)
-  shaped-all shown order =
+  outputs-end : (actor port : ℕ) → shown ≤ actor → actor < length feeds → arcs_from w actor port ≡ []
+  outputs-end actor port high low = none-from (arcs_from w actor port) (λ arc is.
+      let there = i.readers_in actor port 0 arc is in
+      let other : actor ≢ from_of (slice_get w.arcs.items arc) = λ e. no-giver shown (length feeds) actor high low (subst (IsGiver shown (length feeds)) (sym e) (i.from_in arc there)) in
+      i.read actor port arc there ∙ ap (λ b. cond b (cond (eqb port (port_of (slice_get w.arcs.items arc))) 1 0) 0) (eqb-not actor (from_of (slice_get w.arcs.items arc)) other))
+
+  pub shaped-all : w.shown ≡ shown → shown ≤ length feeds → IsOrder (length feeds) feeds w.order.items → IsShaped w (length feeds)
+  shaped-all same low order =
       record {
         replay_is = replay;
         few = (let f = are.few in omega (arith, f));
         few_arcs = (let f = are.few in let c = i.count in omega (arith, f, c));
-        shown_in = shown;
+        shown_in = (omega (arith, same, low));
         inputs_len = i.inputs_len;
         readers_len = i.readers_len;
         arcs_in = i.arcs_in;
         ports = λ actor. (let m = many actor in let p = are.ports actor in omega (arith, m, p));
-        from_in = i.from_in;
+        from_in = λ arc there. giver-low shown (length feeds) (from_of (slice_get w.arcs.items arc)) low (i.from_in arc there);
         joined = i.joined;
         read = i.read;
         readers_in = i.readers_in;
+        outputs_end = λ actor port high below. outputs-end actor port (omega (arith, same, high)) below;
+        followers_len = i.followers_len;
+        followed = i.followed;
+        followers_in = λ actor follower h. (let f = i.followers_low actor follower h in omega (arith, f));
+        followers_climb = i.climbs;
         wired = wired w.order.items order.earlier;
         listed = λ actor k. order.listed actor (sym (known-same (net_of w) w.order.items actor ∙ ap (λ r. known_by r w.order.items actor) replay) ∙ k);
         ordered = λ actor low. known-same (net_of w) w.order.items actor ∙ ap (λ r. known_by r w.order.items actor) replay ∙ order.ordered actor low;
@@ -81,9 +111,10 @@ abbrev no-numbers : List ℕ
 no-numbers = []
 
 -- wires with no arc
-pub joining-none : (feeds : List (Vec Feed Global)) (w : Wires) → length w.inputs.items ≡ length feeds → length w.readers.items ≡ length feeds + 1 → w.arcs.items ≡ []
-    → ((r : ℕ) → numbers_in (slice_get w.inputs.items r) ≡ []) → ((r : ℕ) → rows_in (slice_get w.readers.items r) ≡ []) → IsJoining feeds 0 0 w
-joining-none feeds w inputs readers none rows bare =
+pub joining-none : (shown : ℕ) (feeds : List (Vec Feed Global)) (w : Wires) → length w.inputs.items ≡ length feeds → length w.readers.items ≡ length feeds + 1 → w.arcs.items ≡ []
+    → ((r : ℕ) → numbers_in (slice_get w.inputs.items r) ≡ []) → ((r : ℕ) → rows_in (slice_get w.readers.items r) ≡ [])
+    → length w.followers.items ≡ length feeds + 1 → ((r : ℕ) → numbers_in (slice_get w.followers.items r) ≡ []) → IsJoining shown feeds 0 0 w
+joining-none shown feeds w inputs readers none rows bare followers unfollowed =
     record {
       inputs_len = inputs;
       readers_len = readers;
@@ -97,6 +128,10 @@ joining-none feeds w inputs readers none rows bare =
       fed = λ actor port arc is. no-read actor port arc is;
       read = λ actor port arc low. absurd (no-arc arc low);
       readers_in = λ actor port place arc is. no-from actor port place arc is;
+      followers_len = followers;
+      followed = λ arc low. absurd (no-arc arc low);
+      followers_low = λ actor follower h. no-follower actor follower h;
+      climbs = λ actor. subst Climbs (sym (unfollowed actor)) _;
     }
   where
     no-arc : (arc : ℕ) → arc < length w.arcs.items → ⊥
@@ -105,12 +140,15 @@ joining-none feeds w inputs readers none rows bare =
     no-read : {P : Type 0} (actor port arc : ℕ) → slice_get (arcs_read w actor) port ≡ Some arc → P
     no-read actor port arc is = (let h : slice_get (no-numbers) port ≡ Some arc = ap (λ xs. slice_get xs port) (sym (rows actor)) ∙ is in cc h)
 
+    no-follower : {P : Type 0} (actor follower : ℕ) → contains (followers_of w actor) follower ≡ true → P
+    no-follower actor follower h = (let no : false ≡ true = ap (λ xs. contains xs follower) (sym (unfollowed actor)) ∙ h in cc no)
+
     no-from : {P : Type 0} (actor port place arc : ℕ) → slice_get (arcs_from w actor port) place ≡ Some arc → P
     no-from actor port place arc is = (let h : slice_get (no-numbers) place ≡ Some arc = ap (λ vs. slice_get (numbers_in (slice_get vs port)) place) (sym (bare actor)) ∙ is in cc h)
 
 -- all ports of an operator are joined
-pub joining-next : (feeds : List (Vec Feed Global)) (at : ℕ) (w : Wires) → AreFeeds feeds → IsJoining feeds at (length (feeds_of feeds at)) w → IsJoining feeds (at + 1) 0 w
-joining-next feeds at w are i =
+pub joining-next : (shown : ℕ) (feeds : List (Vec Feed Global)) (at : ℕ) (w : Wires) → AreFeeds shown feeds → IsJoining shown feeds at (length (feeds_of feeds at)) w → IsJoining shown feeds (at + 1) 0 w
+joining-next shown feeds at w are i =
     record {
       inputs_len = i.inputs_len;
       readers_len = i.readers_len;
@@ -127,17 +165,20 @@ joining-next feeds at w are i =
       fed = i.fed;
       read = i.read;
       readers_in = i.readers_in;
+      followers_len = i.followers_len;
+      followed = i.followed;
+      followers_low = λ actor follower h. (let low = i.followers_low actor follower h in let p = are.ports at in omega (arith, low, p));
+      climbs = i.climbs;
     }
 
-pub joining-past : (feeds : List (Vec Feed Global)) (at place : ℕ) (w : Wires) → AreFeeds feeds → IsJoining feeds at place w → place ≡ length (feeds_of feeds at) → IsJoining feeds (at + 1) 0 w
-joining-past feeds at place w are i is = joining-next feeds at w are (subst (λ p. IsJoining feeds at p w) is i)
+pub joining-past : (shown : ℕ) (feeds : List (Vec Feed Global)) (at place : ℕ) (w : Wires) → AreFeeds shown feeds → IsJoining shown feeds at place w → place ≡ length (feeds_of feeds at) → IsJoining shown feeds (at + 1) 0 w
+joining-past shown feeds at place w are i is = joining-next shown feeds at w are (subst (λ p. IsJoining shown feeds at p w) is i)
 
-pub joined-done : (feeds : List (Vec Feed Global)) (at : ℕ) (w : Wires) → AreFeeds feeds → IsJoining feeds at 0 w → at ≡ length feeds → w.replay ≡ length feeds → IsJoined feeds w
-joined-done feeds at w are i is replay = joined-all feeds w are (subst (λ p. IsJoining feeds p 0 w) is i) replay
+pub joined-done : (shown : ℕ) (feeds : List (Vec Feed Global)) (at : ℕ) (w : Wires) → AreFeeds shown feeds → IsJoining shown feeds at 0 w → at ≡ length feeds → w.replay ≡ length feeds → IsJoined feeds w
+joined-done shown feeds at w are i is replay = joined-all shown feeds w are (subst (λ p. IsJoining shown feeds p 0 w) is i) replay
 
-pub shaped-done : (feeds : List (Vec Feed Global)) (at : ℕ) (first w : Wires) → AreFeeds feeds → IsJoining feeds at 0 w → Fixed first w → at ≡ length feeds
+pub shaped-done : (feeds : List (Vec Feed Global)) (at : ℕ) (first w : Wires) → AreFeeds first.shown feeds → IsJoining first.shown feeds at 0 w → Fixed first w → at ≡ length feeds
     → first.replay ≡ length feeds → first.shown ≤ length feeds → IsOrder (length feeds) feeds first.order.items → IsShaped w (length feeds)
-shaped-done feeds at first w are i fixed is replay shown order =
-    let low : w.shown ≤ length feeds = (let s = fixed.shown in omega (arith, s, shown)) in
-    shaped-all feeds w are (subst (λ p. IsJoining feeds p 0 w) is i) (fixed.replay ∙ replay) low
+shaped-done feeds at first w are i fixed is replay low order =
+    shaped-all first.shown feeds w are (subst (λ p. IsJoining first.shown feeds p 0 w) is i) (fixed.replay ∙ replay) fixed.shown low
     (subst (λ o. IsOrder (length feeds) feeds o.items) (sym fixed.order) order)

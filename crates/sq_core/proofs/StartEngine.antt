@@ -102,8 +102,8 @@ module _ (n : Network) (sound : IsSound n) (w : Wires) (measured : IsMeasured n 
           ap (λ l. node_fits (Some b) (length l) port fields) ss
           ∙ box-takes-wide n sound actor port f.0 b fields is (ap (λ l. slice_get l port) (sym ss) ∙ f.1.0) f.1.1
 
-  module _ {O : Type 0} (m : Meaning O) (valid : O → Type 0) (seats : List (Seat O)) (seated : AllSeated m valid n seats) where
-    new-seat : (actor : ℕ) (seat : Seat O) → IsSeated m valid (slice_get n.boxes actor) (length (streams_of n actor)) seat → IsNewSeat m valid ((net_of w).takes actor) ((net_of w).fits actor) seat
+  module _ {O : Type 0} (m : Meaning O) (valid : O → Type 0) (seats : List (Seat O)) (seated : AllSeated m valid n seats) (epoch : ℕ) where
+    new-seat : (actor : ℕ) (seat : Seat O) → IsSeated m valid (slice_get n.boxes actor) (length (streams_of n actor)) seat → IsNewSeat m valid ((net_of w).takes actor) ((net_of w).fits actor) epoch seat
     new-seat actor seat s =
         record {
           is_valid = s.is_valid;
@@ -116,11 +116,12 @@ module _ (n : Network) (sound : IsSound n) (w : Wires) (measured : IsMeasured n 
           open_now = s.open_now;
           marks = λ port h. (let no : false ≡ true = sym (unmarked-port actor port) ∙ h in cc no);
           tuples = λ port fields h. s.fits port fields ∙ node-takes actor port fields h;
+          reads = s.reads epoch;
         }
 
-    pub new-seats : (actor : ℕ) → holds_at (IsNewSeat m valid ((net_of w).takes actor) ((net_of w).fits actor)) (slice_get seats actor)
+    pub new-seats : (actor : ℕ) → holds_at (IsNewSeat m valid ((net_of w).takes actor) ((net_of w).fits actor) epoch) (slice_get seats actor)
     new-seats actor = by (slice_get seats actor) refl
       where
-        by : (o : Option (Seat O)) → slice_get seats actor ≡ o → holds_at (IsNewSeat m valid ((net_of w).takes actor) ((net_of w).fits actor)) o
+        by : (o : Option (Seat O)) → slice_get seats actor ≡ o → holds_at (IsNewSeat m valid ((net_of w).takes actor) ((net_of w).fits actor) epoch) o
         by None is = _
         by (Some seat) is = new-seat actor seat (seated actor seat is)

@@ -25,7 +25,7 @@ use Rattle.sq_flow.specs.declared.wires.Wires.{Wires}
 use Rattle.sq_flow.specs.Wiring.{net_of, arcs_read, arc_at, from_of, port_of}
 use Rattle.sq_start.specs.Nets.{shown_by, streams_of, ComesFrom, AllCome, Joins}
 use Rattle.sq_core.specs.declared.join.Feed.{Feed}
-use Rattle.sq_core.specs.Joining.{items_in, feeds_of, AreFeeds, IsOf, IsJoined}
+use Rattle.sq_core.specs.Joining.{items_in, feeds_of, IsGiver, AreFeeds, IsOf, IsJoined}
 use Rattle.sq_core.specs.Table.{width_of, feed_from, ops_of, feed_of, table_of, IsWide, IsMeasured}
 
 -- ---- how many
@@ -151,17 +151,17 @@ module _ (n : Network) (sound : IsSound n) where
       (λ low. few-at n.wires.boxes actor (recursion_from_All (λ b. length b.inputs ≤ 8) n.wires.boxes (placed_of n sound).few_inputs))
       (λ high. few-shown n.wires.outputs (actor - length n.boxes))
 
-  from-low : (s : ℕ) → (feed_of n s).from < ops_of n + 1
-  from-low s = by (producer_of n.wires s) refl
+  from-giver : (s : ℕ) → IsGiver (length n.boxes) (ops_of n) (feed_of n s).from
+  from-giver s = by (producer_of n.wires s) refl
     where
-      by : (p : Option Producer) → producer_of n.wires s ≡ p → (feed_from (ops_of n) (width_of (columns_of_stream n s)) p).from < ops_of n + 1
-      by None is = omega arith
-      by (Some (Source k)) is = omega arith
+      by : (p : Option Producer) → producer_of n.wires s ≡ p → IsGiver (length n.boxes) (ops_of n) (feed_from (ops_of n) (width_of (columns_of_stream n s)) p).from
+      by None is = inr refl
+      by (Some (Source k)) is = inr refl
       by (Some (Port at port)) is =
           let there = producer_is n.wires s (Port at port) is in
           let low = slice_get_within n.wires.boxes at there.0 there.1.0 in
           let e = boxes-are in
-          omega (arith, low, e)
+          inl (omega (arith, low, e))
 
   module _ (feeds : List (Vec Feed Global)) (table : map (λ f. f.items) feeds ≡ table_of n) where
     pub row-is : (actor : ℕ) → feeds_of feeds actor ≡ map (feed_of n) (streams_of n actor)
@@ -180,12 +180,13 @@ module _ (n : Network) (sound : IsSound n) where
         let e = boxes-are in
         omega (arith, a, t, b, c, d, e)
 
-    pub are-feeds : AreFeeds feeds
+    pub are-feeds : AreFeeds (length n.boxes) feeds
     are-feeds =
         record {
           few = (let c = count-is in let b = boxes_low n sound in let o = outputs_low n sound in omega (arith, c, b, o));
           ports = λ actor. (let r = ap length (row-is actor) in let m = length-map (streams_of n actor) (feed_of n) in let f = streams-few actor in omega (arith, r, m, f));
-          from_in = λ actor port f is. (let low = map-at (feed_of n) (λ g. g.from < ops_of n + 1) from-low (streams_of n actor) port f (ap (λ l. slice_get l port) (sym (row-is actor)) ∙ is) in let c = count-is in omega (arith, low, c));
+          from_in = λ actor port f is. subst (λ k. IsGiver (length n.boxes) k f.from) (sym count-is)
+              (map-at (feed_of n) (λ g. IsGiver (length n.boxes) (ops_of n) g.from) from-giver (streams_of n actor) port f (ap (λ l. slice_get l port) (sym (row-is actor)) ∙ is));
         }
 
     module _ (w : Wires) (joined : IsJoined feeds w) (replay : w.replay ≡ ops_of n) where

@@ -1,9 +1,10 @@
 -- Wires that join operators as a table of feeds says.
-use Rattle.std.specs.Prelude.{◌≡◌, ◌≢◌, ℕ, ◌+◌, ◌*◌, ◌==◌, ◌||◌, ◌≤◌, ◌<◌, ◌^◌, Bool, true, false, List, [], ◌∷◌, ◌++◌, length, Option, Some, None, Vec, slice_get, if◌then◌else◌}
+use Rattle.std.specs.Prelude.{◌≡◌, ◌≢◌, ◌⊎◌, ℕ, ◌+◌, ◌*◌, ◌==◌, ◌||◌, ◌≤◌, ◌<◌, ◌^◌, Bool, true, false, List, [], ◌∷◌, ◌++◌, length, Option, Some, None, Vec, slice_get, if◌then◌else◌}
 use Rattle.std.specs.declared.alloc.Global.{Global}
 use Rattle.sq_flow.specs.declared.wires.Arc.{Arc}
 use Rattle.sq_flow.specs.declared.wires.Wires.{Wires}
-use Rattle.sq_flow.specs.Wiring.{numbers_in, rows_in, arcs_read, arcs_from, arc_at, from_of, port_of, to_of, place_of, times_in}
+use Rattle.sq_sched.specs.Ready.{contains}
+use Rattle.sq_flow.specs.Wiring.{numbers_in, rows_in, arcs_read, arcs_from, followers_of, Climbs, arc_at, from_of, port_of, to_of, place_of, times_in}
 use Rattle.sq_core.specs.declared.join.Feed.{Feed}
 
 abbrev pub items_in : Option (Vec Feed Global) → List Feed
@@ -14,11 +15,16 @@ items_in (Some v) = v.items
 abbrev pub feeds_of : List (Vec Feed Global) → ℕ → List Feed
 feeds_of feeds actor = items_in (slice_get feeds actor)
 
--- a table that can be joined: few operators, few ports of each, and each feed comes from an operator or the replay
-pub record AreFeeds (feeds : List (Vec Feed Global)) : Type 0 where
+-- an operator that isn't an output, or the replay
+abbrev pub IsGiver : ℕ → ℕ → ℕ → Type 0
+IsGiver shown ops actor = (actor < shown) ⊎ (actor ≡ ops)
+
+-- a table that can be joined, the operators from `shown` on being outputs: few operators, few ports of each, and no feed comes
+-- from an output
+pub record AreFeeds (shown : ℕ) (feeds : List (Vec Feed Global)) : Type 0 where
   pub few : length feeds < 2 ^ 20
   pub ports : (actor : ℕ) → length (feeds_of feeds actor) ≤ 8
-  pub from_in : (actor port : ℕ) (f : Feed) → slice_get (feeds_of feeds actor) port ≡ Some f → f.from < length feeds + 1
+  pub from_in : (actor port : ℕ) (f : Feed) → slice_get (feeds_of feeds actor) port ≡ Some f → IsGiver shown (length feeds) f.from
 
 -- the number is that of the replay or one of these
 abbrev pub known_by : ℕ → List ℕ → ℕ → Bool
@@ -58,6 +64,10 @@ AddsIn to place at was is = (actor port : ℕ)
     ≡ (if actor == to then (if port == place then numbers_in (slice_get (rows_in (slice_get was actor)) port) ++ at ∷ [] else numbers_in (slice_get (rows_in (slice_get was actor)) port))
     else numbers_in (slice_get (rows_in (slice_get was actor)) port))
 
+-- a number behind these, where it isn't among them
+abbrev pub once_more : ℕ → List ℕ → List ℕ
+once_more x xs = if contains xs x then xs else xs ++ x ∷ []
+
 -- what no arc changes
 pub record Fixed (was is : Wires) : Type 0 where
   pub replay : is.replay ≡ was.replay
@@ -72,9 +82,11 @@ pub record Adds (arc : Arc) (was is : Wires) : Type 0 where
   pub fixed : Fixed was is
   pub inputs : (actor : ℕ) → arcs_read is actor ≡ (if actor == arc.to then arcs_read was actor ++ length was.arcs.items ∷ [] else arcs_read was actor)
   pub readers : AddsIn arc.from arc.port (length was.arcs.items) was.readers.items is.readers.items
+  pub followers_len : length is.followers.items ≡ length was.followers.items
+  pub followers : (actor : ℕ) → followers_of is actor ≡ (if actor == arc.from then once_more arc.to (followers_of was actor) else followers_of was actor)
 
 -- the operators before this one are joined, and of this one so many ports
-pub record IsJoining (feeds : List (Vec Feed Global)) (at place : ℕ) (wires : Wires) : Type 0 where
+pub record IsJoining (shown : ℕ) (feeds : List (Vec Feed Global)) (at place : ℕ) (wires : Wires) : Type 0 where
   pub inputs_len : length wires.inputs.items ≡ length feeds
   pub readers_len : length wires.readers.items ≡ length feeds + 1
   pub count : length wires.arcs.items ≤ 8 * at + place
@@ -82,7 +94,7 @@ pub record IsJoining (feeds : List (Vec Feed Global)) (at place : ℕ) (wires : 
   pub now : length (arcs_read wires at) ≡ place
   pub later : (actor : ℕ) → at < actor → length (arcs_read wires actor) ≡ 0
   pub arcs_in : (actor port arc : ℕ) → slice_get (arcs_read wires actor) port ≡ Some arc → arc < length wires.arcs.items
-  pub from_in : (arc : ℕ) → arc < length wires.arcs.items → from_of (slice_get wires.arcs.items arc) < length feeds + 1
+  pub from_in : (arc : ℕ) → arc < length wires.arcs.items → IsGiver shown (length feeds) (from_of (slice_get wires.arcs.items arc))
   pub joined : (actor port arc : ℕ) → slice_get (arcs_read wires actor) port ≡ Some arc
       → (to_of (slice_get wires.arcs.items arc) ≡ actor) × (place_of (slice_get wires.arcs.items arc) ≡ port)
   pub fed : (actor port arc : ℕ) → slice_get (arcs_read wires actor) port ≡ Some arc → IsOf (slice_get wires.arcs.items arc) (slice_get (feeds_of feeds actor) port)
@@ -90,3 +102,8 @@ pub record IsJoining (feeds : List (Vec Feed Global)) (at place : ℕ) (wires : 
       → times_in arc (arcs_from wires actor port)
       ≡ (if actor == from_of (slice_get wires.arcs.items arc) then (if port == port_of (slice_get wires.arcs.items arc) then 1 else 0) else 0)
   pub readers_in : (actor port place arc : ℕ) → slice_get (arcs_from wires actor port) place ≡ Some arc → arc < length wires.arcs.items
+  pub followers_len : length wires.followers.items ≡ length feeds + 1
+  pub followed : (arc : ℕ) → arc < length wires.arcs.items
+      → contains (followers_of wires (from_of (slice_get wires.arcs.items arc))) (to_of (slice_get wires.arcs.items arc)) ≡ true
+  pub followers_low : (actor follower : ℕ) → contains (followers_of wires actor) follower ≡ true → 8 * follower < 8 * at + place
+  pub climbs : (actor : ℕ) → Climbs (followers_of wires actor)

@@ -12,7 +12,7 @@ use Rattle.sq_net.specs.declared.Node.{Node}
 use Rattle.sq_flow.specs.declared.seats.Seat.{Seat}
 use Rattle.sq_flow.specs.Seats.{Meaning}
 use Rattle.sq_start.specs.Nets.{given_by, streams_of}
-use Rattle.sq_start.specs.Starts.{GivesBox, body_fits}
+use Rattle.sq_start.specs.Starts.{GivesBox, LosesBox, body_fits}
 
 -- whether a box, or an output, takes these values at a port
 abbrev pub node_fits : Option Node → ℕ → ℕ → List Value → Bool
@@ -25,6 +25,11 @@ NodeGives None marks fits rest =
     (table : ℕ → ℕ → ℕ) (ins : List (List Tuple)) (q : ℕ) → length ins ≡ 1 → rest table (merge (map things ins)) q ≡ things (given_by None q ins)
 NodeGives (Some b) marks fits rest = GivesBox b.body marks fits rest
 
+-- and how many tuples of them it loses
+abbrev pub NodeLoses : Option Node → (List Entry → ℕ) → Type 0
+NodeLoses None lost = (future : List Entry) → lost future ≡ 0
+NodeLoses (Some b) lost = LosesBox b.body lost
+
 pub record IsSeated {O : Type 0} (m : Meaning O) (valid : O → Type 0) (node : Option Node) (inputs : ℕ) (seat : Seat O) : Type 0 where
   pub is_valid : valid seat.op
   pub running : m.running seat.op ≡ true
@@ -33,6 +38,8 @@ pub record IsSeated {O : Type 0} (m : Meaning O) (valid : O → Type 0) (node : 
   pub none : (table : ℕ → ℕ → ℕ) (port : ℕ) → m.rest seat.op table [] port ≡ []
   pub fits : (port : ℕ) (fields : List Value) → m.fits seat.op port fields ≡ node_fits node inputs port fields
   pub gives : NodeGives node (m.takes_marks seat.op) (m.fits seat.op) (m.rest seat.op)
+  pub loses : NodeLoses node (m.lost seat.op)
+  pub reads : (epoch : ℕ) → m.reads seat.op epoch ≡ true
   pub at_start : seat.tally.place ≡ Start
   pub none_counted : seat.tally.taken ≡ 0
   pub open_now : seat.tally.running ≡ true

@@ -2,7 +2,7 @@
 
 ghost use Rattle.std.specs.Prelude.{◌≡◌, ◌<◌, ◌≤◌, ◌^◌, ◌-◌, ◌+◌, ◌==◌, ℕ, [], ◌∷◌, ◌++◌, length, slice_get, IfOk, OnOk, if◌then◌else◌};
 ghost use Rattle.sq_flow.specs.Wiring.{numbers_in, rows_in, IsShaped};
-ghost use Rattle.sq_core.specs.Joining.{Adds, AreFeeds, IsOrder, IsJoining, IsJoined, AddsIn, Fixed};
+ghost use Rattle.sq_core.specs.Joining.{Adds, AreFeeds, IsOrder, IsJoining, IsJoined, AddsIn, Fixed, once_more};
 
 use sq_flow::{Arc, Wires};
 use std::alloc::{AllocError, Global};
@@ -10,13 +10,14 @@ use std::alloc::{AllocError, Global};
 /// What an operator reads at a port: which actor gives it at which port, how many values its tuples have, and whether marks
 /// come on it. The actors are the operators, and behind them the replay.
 #[derive(Clone, Copy, Drop)]
-pub struct Feed {
+pub(crate) struct Feed {
     pub from: u32,
     pub port: u32,
     pub width: u32,
     pub marked: bool,
 }
 
+/// Adds a number to a row.
 fn add_at(rows: &mut Vec<Vec<u32>>, row: u32, at: u32) -> Result<(), AllocError>
     requires { row < length rows.old.items }
     ensures len { OnOk result (length rows.new.items ≡ length rows.old.items) }
@@ -26,6 +27,7 @@ fn add_at(rows: &mut Vec<Vec<u32>>, row: u32, at: u32) -> Result<(), AllocError>
     Ok(())
 }
 
+/// Adds bare rows until there is this one.
 #[tactic(auto, using(crate::proofs::JoinLemmas::numbers_bare, crate::proofs::JoinLemmas::length_more))]
 fn grow(alloc: Global, rows: &mut Vec<Vec<u32>>, row: u32) -> Result<(), AllocError>
     ensures len { OnOk result (row < length rows.new.items) }
@@ -37,6 +39,7 @@ fn grow(alloc: Global, rows: &mut Vec<Vec<u32>>, row: u32) -> Result<(), AllocEr
     Ok(())
 }
 
+/// Adds a number to a row, which needn't be there yet.
 fn add_row(alloc: Global, rows: &mut Vec<Vec<u32>>, row: u32, at: u32) -> Result<(), AllocError>
     ensures added { OnOk result ((r : ℕ) → numbers_in (slice_get rows.new.items r) ≡ (if r == row then numbers_in (slice_get rows.old.items r) ++ at ∷ [] else numbers_in (slice_get rows.old.items r))) }
 {
@@ -44,6 +47,7 @@ fn add_row(alloc: Global, rows: &mut Vec<Vec<u32>>, row: u32, at: u32) -> Result
     add_at(rows, row, at)
 }
 
+/// Adds an arc to those that come from a port of an actor.
 fn add_in(
     alloc: Global,
     readers: &mut Vec<Vec<Vec<u32>>>,
@@ -58,9 +62,23 @@ fn add_in(
     add_row(alloc, &mut readers[actor as usize], port, at)
 }
 
+/// Notes that an operator reads from an actor.
+fn add_follower(followers: &mut Vec<Vec<u32>>, actor: u32, follower: u32) -> Result<(), AllocError>
+    requires { actor < length followers.old.items }
+    ensures len { OnOk result (length followers.new.items ≡ length followers.old.items) }
+    ensures added { OnOk result ((r : ℕ) → numbers_in (slice_get followers.new.items r) ≡ (if r == actor then once_more follower (numbers_in (slice_get followers.old.items r)) else numbers_in (slice_get followers.old.items r))) }
+{
+    if followers[actor as usize].contains(&follower) {
+        return Ok(());
+    }
+    add_at(followers, actor, follower)
+}
+
+/// An arc is added to wires.
 fn add_arc(alloc: Global, wires: &mut Wires, arc: Arc) -> Result<(), AllocError>
     requires to { arc.to < length wires.old.inputs.items }
     requires from { arc.from < length wires.old.readers.items }
+    requires followed { arc.from < length wires.old.followers.items }
     requires few { length wires.old.arcs.items < 2 ^ 32 }
     ensures { OnOk result (Adds arc wires.old wires.new) }
 {
@@ -68,19 +86,21 @@ fn add_arc(alloc: Global, wires: &mut Wires, arc: Arc) -> Result<(), AllocError>
     wires.arcs.push(arc)?;
     add_at(&mut wires.inputs, arc.to, at)?;
     add_in(alloc, &mut wires.readers, arc.from, arc.port, at)?;
-    Ok(())
+    add_follower(&mut wires.followers, arc.from, arc.to)
 }
 
+/// The arcs that an operator reads are added to wires.
 fn join_all(
     alloc: Global,
     wires: &mut Wires,
     feeds: &[Vec<Feed>],
     actor: u32,
 ) -> Result<(), AllocError>
-    requires feeds { AreFeeds feeds.now }
+    requires feeds { AreFeeds wires.old.shown feeds.now }
+    requires shown { wires.old.shown ≤ length feeds.now }
     requires there { actor < length feeds.now }
-    requires joining { IsJoining feeds.now actor 0 wires.old }
-    ensures joining { OnOk result (IsJoining feeds.now (actor + 1) 0 wires.new) }
+    requires joining { IsJoining wires.old.shown feeds.now actor 0 wires.old }
+    ensures joining { OnOk result (IsJoining wires.old.shown feeds.now (actor + 1) 0 wires.new) }
     ensures fixed { OnOk result (Fixed wires.old wires.new) }
 {
     let row = &feeds[actor as usize];
@@ -99,6 +119,7 @@ fn join_all(
     Ok(())
 }
 
+/// So many rows with nothing in them.
 #[tactic(auto, using(crate::proofs::JoinLemmas::numbers_bare, crate::proofs::JoinLemmas::length_more))]
 fn bare_rows(alloc: Global, many: u32) -> Result<Vec<Vec<u32>>, AllocError>
     ensures len { IfOk result (λ v. length v.items ≡ many) }
@@ -111,6 +132,7 @@ fn bare_rows(alloc: Global, many: u32) -> Result<Vec<Vec<u32>>, AllocError>
     Ok(rows)
 }
 
+/// So many actors of which no port is read yet.
 #[tactic(auto, using(crate::proofs::JoinLemmas::rows_bare, crate::proofs::JoinLemmas::length_more))]
 fn bare_readers(alloc: Global, many: u32) -> Result<Vec<Vec<Vec<u32>>>, AllocError>
     ensures len { IfOk result (λ v. length v.items ≡ many) }
@@ -124,13 +146,13 @@ fn bare_readers(alloc: Global, many: u32) -> Result<Vec<Vec<Vec<u32>>>, AllocErr
 }
 
 /// Wires in which each operator reads what the table says, by port.
-pub fn wires_of(
+pub(crate) fn wires_of(
     alloc: Global,
     shown: u32,
     feeds: &[Vec<Feed>],
     order: Vec<u32>,
 ) -> Result<Wires, AllocError>
-    requires feeds { AreFeeds feeds.now }
+    requires feeds { AreFeeds shown feeds.now }
     requires shown { shown ≤ length feeds.now }
     requires order { IsOrder (length feeds.now) feeds.now order.items }
     ensures shaped { IfOk result (λ w. IsShaped w (length feeds.now)) }
@@ -145,6 +167,7 @@ pub fn wires_of(
         arcs: Vec::new(alloc),
         inputs: bare_rows(alloc, ops)?,
         readers: bare_readers(alloc, ops + 1)?,
+        followers: bare_rows(alloc, ops + 1)?,
         order,
     };
     for actor in 0..ops {

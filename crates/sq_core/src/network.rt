@@ -108,7 +108,7 @@ fn actors_of(alloc: Global, n: &Network) -> Result<Vec<u32>, AllocError>
 }
 
 /// The wires of a sound network: its boxes, and behind them its outputs, read what the network says.
-pub fn network_wires(alloc: Global, n: &Network) -> Result<Wires, AllocError>
+pub(crate) fn network_wires(alloc: Global, n: &Network) -> Result<Wires, AllocError>
     requires { IsSound n.now }
     ensures shaped { IfOk result (λ w. IsShaped w (ops_of n.now)) }
     ensures joins { IfOk result (λ w. Joins n.now (net_of w)) }

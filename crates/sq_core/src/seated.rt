@@ -3,6 +3,7 @@
 ghost use Rattle.std.specs.Prelude.{◌≡◌, ◌<◌, ◌≤◌, true, ℕ, IfOk, Some, None, length, slice_get};
 ghost use Rattle.sq_net.specs.Sound.{IsSound, HasWindow, body_within};
 ghost use Rattle.sq_start.specs.Nets.{streams_of};
+ghost use Rattle.sq_core.specs.Meanings.{actors, IsValid};
 ghost use Rattle.sq_core.specs.Table.{ops_of};
 ghost use Rattle.sq_core.specs.Seated.{IsSeated, AllSeated};
 
@@ -13,10 +14,11 @@ use sq_oper::{Operator, Tally};
 use sq_start::{box_actor, output_actor};
 use std::alloc::{AllocError, Global};
 
+/// A box in its seat.
 fn box_seat(alloc: Global, node: &Node, inputs: usize) -> Result<Seat<Actor>, AllocError>
     requires window { HasWindow node.now.body }
     requires within { body_within node.now.body ≡ true }
-    ensures { IfOk result (IsSeated (record { rest = ⟦<Actor as Operator>⟧.rest; decides = ⟦<Actor as Operator>⟧.decides; lost = ⟦<Actor as Operator>⟧.lost; place = ⟦<Actor as Operator>⟧.place; taken = ⟦<Actor as Operator>⟧.taken; running = ⟦<Actor as Operator>⟧.running; takes_marks = ⟦<Actor as Operator>⟧.takes_marks; fits = ⟦<Actor as Operator>⟧.fits }) ⟦<Actor as Operator>⟧.valid (Some node.now) inputs) }
+    ensures { IfOk result (IsSeated actors IsValid (Some node.now) inputs) }
 {
     let op = box_actor(alloc, &node.body, inputs)?;
     Ok(Seat {
@@ -25,8 +27,9 @@ fn box_seat(alloc: Global, node: &Node, inputs: usize) -> Result<Seat<Actor>, Al
     })
 }
 
+/// An output in its seat.
 fn output_seat(alloc: Global) -> Result<Seat<Actor>, AllocError>
-    ensures { IfOk result (IsSeated (record { rest = ⟦<Actor as Operator>⟧.rest; decides = ⟦<Actor as Operator>⟧.decides; lost = ⟦<Actor as Operator>⟧.lost; place = ⟦<Actor as Operator>⟧.place; taken = ⟦<Actor as Operator>⟧.taken; running = ⟦<Actor as Operator>⟧.running; takes_marks = ⟦<Actor as Operator>⟧.takes_marks; fits = ⟦<Actor as Operator>⟧.fits }) ⟦<Actor as Operator>⟧.valid None 1) }
+    ensures { IfOk result (IsSeated actors IsValid None 1) }
 {
     let op = output_actor(alloc)?;
     Ok(Seat {
@@ -36,10 +39,10 @@ fn output_seat(alloc: Global) -> Result<Seat<Actor>, AllocError>
 }
 
 /// A seat for each box, and then for each output, in which nothing was fed.
-pub fn network_seats(alloc: Global, n: &Network) -> Result<Vec<Seat<Actor>>, AllocError>
+pub(crate) fn network_seats(alloc: Global, n: &Network) -> Result<Vec<Seat<Actor>>, AllocError>
     requires { IsSound n.now }
     ensures count { IfOk result (λ v. length v.items ≡ ops_of n.now) }
-    ensures seated { IfOk result (λ v. AllSeated (record { rest = ⟦<Actor as Operator>⟧.rest; decides = ⟦<Actor as Operator>⟧.decides; lost = ⟦<Actor as Operator>⟧.lost; place = ⟦<Actor as Operator>⟧.place; taken = ⟦<Actor as Operator>⟧.taken; running = ⟦<Actor as Operator>⟧.running; takes_marks = ⟦<Actor as Operator>⟧.takes_marks; fits = ⟦<Actor as Operator>⟧.fits }) ⟦<Actor as Operator>⟧.valid n.now v.items) }
+    ensures seated { IfOk result (λ v. AllSeated actors IsValid n.now v.items) }
 {
     let mut seats = Vec::new(alloc);
     let nodes = n.boxes.as_slice();

@@ -1,21 +1,18 @@
 -- What an output shows.
-use Rattle.std.proofs.Common.{◌≡◌, ◌≢◌, ℕ, zero, suc, ◌+◌, ◌-◌, ◌<◌, ◌≤◌, cond, eqb, Bool, true, false, List, [], ◌∷◌, ◌++◌, map, length, Option, Some, None, slice_get, refl, ap, sym, ◌∙◌, subst, arith}
+use Rattle.std.proofs.Common.{◌≡◌, ℕ, ◌+◌, ◌-◌, cond, false, List, [], ◌∷◌, map, length, None, slice_get, refl, ap, ◌∙◌, arith}
 use Rattle.std.specs.Prelude.{nat_lt}
-use Rattle.std.specs.List.{All}
 use Rattle.std.proofs.lemmas.Bool.Decides.{nat_tests}
 use Rattle.std.proofs.lemmas.Option.{slice_get_past}
 use Rattle.sq_value.specs.declared.Tuple.{Tuple}
-use Rattle.sq_value.specs.Values.{IsStream}
 use Rattle.sq_oper.specs.Streams.{things}
 use Rattle.sq_graph.specs.Wires.{inputs_of}
 use Rattle.sq_net.specs.declared.Network.{Network}
 use Rattle.sq_net.specs.Sound.{IsSound}
 use Rattle.sq_model.specs.Full.{nth, full_stream}
-use Rattle.sq_left.specs.Left.{Net, World, coming, known, IsWired}
 use Rattle.sq_left.proofs.MergeLemmas.{eqb-not}
 use Rattle.sq_flow.specs.Events.{bodies}
-use Rattle.sq_start.specs.Nets.{shown_by, streams_of, given_by, full_at}
-use Rattle.sq_start.specs.Laws.{IsNew, OutputsStartFull}
+use Rattle.sq_start.specs.Nets.{shown_by, streams_of, given_by}
+use Rattle.sq_start.specs.Laws.{OutputsStartFull}
 use Rattle.sq_start.proofs.LawLemmas.{starts-full}
 
 bodies-there : (xs : List Tuple) → bodies (things xs) ≡ xs

@@ -1,9 +1,10 @@
 -- New boxes on the merge of whole streams.
-use Rattle.std.proofs.Common.{◌≡◌, ℕ, zero, suc, ◌≤◌, eqb, cond, Bool, true, false, ◌&&◌, List, [], ◌∷◌, ◌++◌, map, length, refl, ap, sym, ◌∙◌, subst, arith}
-use Rattle.std.specs.List.{flat_map}
+use Rattle.std.proofs.Common.{◌≡◌, ℕ, ◌-◌, eqb, cond, Bool, true, false, List, [], ◌∷◌, ◌++◌, map, length, refl, ap, sym, ◌∙◌, subst, arith}
+use Rattle.std.specs.List.{flat_map, sum_by}
+use Rattle.std.proofs.lemmas.List.Sums.{sum_by-cons}
 use Rattle.sq_aggfn.specs.Functions.{answers_of}
 use Rattle.sq_lists.specs.Windows.{aggregate_of, window_results, in_window, starts_of}
-use Rattle.std.specs.Prelude.{if◌then◌else◌, ◌==◌}
+use Rattle.std.specs.Prelude.{◌==◌}
 use Rattle.std.specs.List.{AllByRecursion}
 use Rattle.sq_value.specs.declared.Value.{Value}
 use Rattle.sq_value.specs.declared.Tuple.{Tuple}
@@ -22,15 +23,15 @@ use Rattle.sq_oper.specs.Entries.{Entry, at_port}
 use Rattle.sq_oper.specs.Order.{merge, merge_two, IsFuture, unmarked}
 use Rattle.sq_oper.specs.Streams.{tuples_of, thing_of, things, at_zero}
 use Rattle.sq_plain.specs.Boxes.{trees}
-use Rattle.sq_plain.proofs.MergeLemmas.{entry_of, merge-is}
+use Rattle.sq_tagged.specs.Tagged.{HasNoMarks}
+use Rattle.sq_tagged.proofs.MergeLemmas.{entry_of, merge-is}
 use Rattle.sq_join.specs.Elements.{elements_of, side_of}
 use Rattle.sq_join.specs.Sides.{join_fits}
 use Rattle.sq_join.proofs.TurnLemmas.{merged, future-turn, future-sides}
-use Rattle.sq_net.specs.declared.Body.{Body}
 use Rattle.sq_net.specs.declared.Body.TheVariants.{Filter, Map, Union, BSort, Aggregate, Join}
-use Rattle.sq_model.specs.Full.{nth, box_list}
+use Rattle.sq_model.specs.Full.{nth}
 use Rattle.sq_flow.proofs.FutureLemmas.{future-weaker}
-use Rattle.sq_start.specs.Starts.{box_stream, Takes, GivesBox}
+use Rattle.sq_start.specs.Starts.{GivesBox, LosesBox}
 
 -- one stream is merged to itself
 alone : (p : ℕ) (xs : List Tuple) → merge_two (at_port p (things xs)) [] ≡ at_port p (things xs)
@@ -45,6 +46,15 @@ pub one-stream : (ins : List (List Tuple)) → length ins ≡ 1 → tuples_of (m
 one-stream [] h = absurd (omega (arith, h))
 one-stream (xs ∷ []) h = ap tuples_of (alone 0 xs) ∙ tuples-there 0 xs
 one-stream (xs ∷ ys ∷ ins) h = absurd (omega (arith, h))
+
+pub one-unmarked : (ins : List (List Tuple)) → length ins ≡ 1 → HasNoMarks (merge (map things ins))
+one-unmarked [] h = absurd (omega (arith, h))
+one-unmarked (xs ∷ []) h = subst HasNoMarks (sym (alone 0 xs)) (all-tuples xs)
+  where
+    all-tuples : (ys : List Tuple) → HasNoMarks (at_port 0 (things ys))
+    all-tuples [] = _
+    all-tuples (y ∷ ys) = (refl, all-tuples ys)
+one-unmarked (xs ∷ ys ∷ ins) h = absurd (omega (arith, h))
 
 elements-there : (es : List (ℕ × Tuple)) → elements_of (map entry_of es) ≡ es
 elements-there [] = refl
@@ -62,10 +72,10 @@ two-streams size on columns (l ∷ r ∷ []) h all may =
     ap (pairs_from size on []) (merged 0 0 (elements_of future) (future-turn (join_fits columns) Start future may) (future-sides columns Start future may) ∙ es)
 
 pub filter-gives : (preds : List Checked) (marks : ℕ → Bool) (fits : ℕ → List Value → Bool) (rest : (ℕ → ℕ → ℕ) → List Entry → ℕ → List Thing)
-    → ((table : ℕ → ℕ → ℕ) (future : List Entry) (q : ℕ) → rest table future q ≡ things (filter_list_of (trees preds) q (tuples_of future)))
+    → ((table : ℕ → ℕ → ℕ) (future : List Entry) (q : ℕ) → HasNoMarks future → rest table future q ≡ things (filter_list_of (trees preds) q (tuples_of future)))
     → GivesBox (Filter preds) marks fits rest
 filter-gives preds marks fits rest h =
-    record { list = λ table ins one all may q. h table (merge (map things ins)) q ∙ ap (λ xs. things (filter_list_of (trees preds) q xs)) (one-stream ins one) }
+    record { list = λ table ins one all may q. h table (merge (map things ins)) q (one-unmarked ins one) ∙ ap (λ xs. things (filter_list_of (trees preds) q xs)) (one-stream ins one) }
 
 zero-things : (q : ℕ) (xs : List Tuple) → at_zero q (things xs) ≡ things (at_zero q xs)
 zero-things q xs = by (0 == q)
@@ -75,12 +85,12 @@ zero-things q xs = by (0 == q)
     by false = refl
 
 pub map-gives : (exprs : List Checked) (marks : ℕ → Bool) (fits : ℕ → List Value → Bool) (rest : (ℕ → ℕ → ℕ) → List Entry → ℕ → List Thing)
-    → ((table : ℕ → ℕ → ℕ) (future : List Entry) (q : ℕ) → rest table future q ≡ at_zero q (things (map_list_of (trees exprs) (tuples_of future))))
+    → ((table : ℕ → ℕ → ℕ) (future : List Entry) (q : ℕ) → HasNoMarks future → rest table future q ≡ at_zero q (things (map_list_of (trees exprs) (tuples_of future))))
     → GivesBox (Map exprs) marks fits rest
 map-gives exprs marks fits rest h =
     record {
       list = λ table ins one all may q.
-          h table (merge (map things ins)) q ∙ ap (λ xs. at_zero q (things (map_list_of (trees exprs) xs))) (one-stream ins one) ∙ zero-things q (map_list_of (trees exprs) (nth ins 0));
+          h table (merge (map things ins)) q (one-unmarked ins one) ∙ ap (λ xs. at_zero q (things (map_list_of (trees exprs) xs))) (one-stream ins one) ∙ zero-things q (map_list_of (trees exprs) (nth ins 0));
     }
 
 pub union-gives : (marks : ℕ → Bool) (fits : ℕ → List Value → Bool) (rest : (ℕ → ℕ → ℕ) → List Entry → ℕ → List Thing)
@@ -121,11 +131,27 @@ join-gives size on marks fits rest h same none =
           ∙ zero-things q (join_list_of size on.tree (nth ins 0) (nth ins 1));
     }
 
--- an output on one whole stream
-pub output_gives : (ins : List (List Tuple)) (q : ℕ) → length ins ≡ 1 → at_zero q (things (tuples_of (merge (map things ins)))) ≡ things (at_zero q (nth ins 0))
-output_gives ins q one = ap (λ xs. at_zero q (things xs)) (one-stream ins one) ∙ zero-things q (nth ins 0)
+-- ---- how many tuples a new box loses of whole streams
 
-pub ruleset start_lemmas = (filter-gives, map-gives, union-gives, bsort-gives, aggregate-gives, join-gives)
+one-length : (ins : List (List Tuple)) → length ins ≡ 1 → sum_by (λ xs. length xs) ins ≡ length (nth ins 0)
+one-length [] h = absurd (omega (arith, h))
+one-length (xs ∷ []) h = (let more = sum_by-cons (λ ys. length ys) xs [] in omega (arith, more))
+one-length (xs ∷ ys ∷ ins) h = absurd (omega (arith, h))
+
+pub bsort-loses : (by slack : ℕ) (lost : List Entry → ℕ) → ((future : List Entry) → lost future ≡ length (tuples_of future) - length (bsort_list_of by slack (tuples_of future)))
+    → LosesBox (BSort by slack) lost
+bsort-loses by slack lost h =
+    record {
+      late = λ ins one.
+          h (merge (map things ins)) ∙ ap (λ xs. length xs - length (bsort_list_of by slack xs)) (one-stream ins one)
+          ∙ ap (λ k. k - length (bsort_list_of by slack (nth ins 0))) (sym (one-length ins one));
+    }
+
+-- an output on one whole stream
+pub output-gives : (ins : List (List Tuple)) (q : ℕ) → length ins ≡ 1 → at_zero q (things (tuples_of (merge (map things ins)))) ≡ things (at_zero q (nth ins 0))
+output-gives ins q one = ap (λ xs. at_zero q (things xs)) (one-stream ins one) ∙ zero-things q (nth ins 0)
+
+pub ruleset start_lemmas = (union-gives, bsort-gives, bsort-loses)
 
 -- a port of a box that gives nothing gives nothing
 pub zero-none : {A : Type 0} (q : ℕ) → at_zero {A = A} q [] ≡ []

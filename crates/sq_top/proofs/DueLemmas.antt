@@ -250,7 +250,7 @@ module _ (d : Due) (s : TellsClasses d) where
     filter_planned : filter (is_of_class c) d.planned ≡ (if tells Planned c then d.planned else [])
     filter_planned = filter_same (is_of_class c) (tells Planned c) d.planned (all_map {P = IsLineOf Planned} (λ l h. planned_test c l plain h.1) d.planned s.planned)
 
-    filter_ended : filter (is_of_class c) d.ended ≡ (if tells Ended c then d.ended else [])
+    pub filter_ended : filter (is_of_class c) d.ended ≡ (if tells Ended c then d.ended else [])
     filter_ended = filter_same (is_of_class c) (tells Ended c) d.ended (all_map {P = IsLineOf Ended} (λ l h. ended_test c l plain h.1) d.ended s.ended)
 
     filter_all : filter (is_of_class c) (all_lines d)

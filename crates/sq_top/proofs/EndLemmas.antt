@@ -1,5 +1,5 @@
 -- How a run ends.
-use Rattle.std.proofs.Common.{◌≡◌, ◌≢◌, ◌⊎◌, inl, inr, ℕ, ◌+◌, ◌≤◌, Bool, true, false, not, ◌&&◌, List, [], ◌∷◌, ◌++◌, length, refl, ap, sym, ◌∙◌, subst, arith, append_assoc, append-nil, Option, None, Some}
+use Rattle.std.proofs.Common.{◌≡◌, ◌≢◌, ◌⊎◌, inl, inr, ℕ, ◌+◌, ◌^◌, ◌<◌, ◌≤◌, Bool, true, false, not, ◌&&◌, List, [], ◌∷◌, ◌++◌, length, refl, ap, sym, ◌∙◌, subst, arith, append_assoc, append-nil, Option, None, Some}
 use Rattle.std.specs.Prelude.{⊤, map, nat_lt, if◌then◌else◌, IsSome, Result, Ok, Err, codes}
 use Rattle.std.specs.Fmt.{decimal}
 use Rattle.std.specs.List.{AllByRecursion, flat_map, list_all, list_any, zip}
@@ -16,6 +16,7 @@ use Rattle.sq_outside.specs.Faults.{Rose}
 use Rattle.sq_outside.specs.Folders.{Files, file}
 use Rattle.sq_outside.specs.Sinks.{AppendsPrefix, appended}
 use Rattle.sq_net.specs.declared.NetErr.{NetErr}
+use Rattle.sq_net.specs.declared.NetErr.TheVariants as net
 use Rattle.sq_net.specs.declared.Network.{Network}
 use Rattle.sq_net.specs.declared.Source.{Source}
 use Rattle.sq_net.specs.declared.Node.{Node}
@@ -34,18 +35,17 @@ use Rattle.sq_top.specs.declared.Status.{Status}
 use Rattle.sq_top.specs.declared.Status.TheVariants as status
 use Rattle.sq_top.specs.Commands.{command_in}
 use Rattle.sq_replay.specs.Shown.{fed_line, is_sorter, late_lines}
-use Rattle.sq_top.specs.Due.{Due, all_lines, all_text, due_from, due_of, ended_from, feds_from, lates_from, shown_from}
+use Rattle.sq_top.specs.Due.{Due, due_from, due_of, ended_from, feds_from, lates_from, shown_from}
 use Rattle.sq_top.specs.Answers.{IsPrefixText, IsWholeText}
-use Rattle.sq_top.specs.Writing.{IsLost}
+use Rattle.sq_top.specs.Driving.{IsCutShort}
 use Rattle.sq_top.specs.declared.RunArgs.{RunArgs}
 use Rattle.sq_replay.specs.Entries.{picks_in}
 use Rattle.sq_top.specs.Scripts.{Lookup, Replay, accepted, after_network, after_picks, after_stream, after_streams, after_words, go_on, outcome_of, picks_script, readable, settings_limit, stream_limit, unread, with_sources, Script}
-use Rattle.sq_top.specs.Causes.{AnswersPrefix, AnswersWhole, AppendsSuch, Ends, HasFailedAt, IsStopped, MatchAccepted, RefusalHasCause, WhereTold, World, is_refusal}
+use Rattle.sq_top.specs.Causes.{AnswersPrefix, AppendsSuch, Ends, EndsOk, HasFailedAt, IsStopped, MatchAccepted, NamesSource, RefusalHasCause, TooMuchHasCause, WhereTold, World, is_refusal}
 use Rattle.sq_top.proofs.SortedLines.{and-true}
 use Rattle.sq_top.proofs.StoppedLemmas.{at_told, some_none, where_told}
 use Rattle.sq_top.proofs.ClassLemmas.{IsLineOf, IsPlainName, TellsClasses, is_end_field}
-use Rattle.sq_top.proofs.DueLemmas.{all_order, all_whole}
-use Rattle.sq_top.proofs.OrderLemmas.{prefix_text, whole_text}
+use Rattle.sq_top.proofs.OrderLemmas.{prefix_text}
 
 -- a name begins with a lower-case letter, and lower-case letters, digits and `_` follow
 name_parts : (b : ℕ) (bs : List ℕ) → is_name (b ∷ bs) ≡ true → (is_lower b ≡ true) × (list_all may_follow bs ≡ true)
@@ -82,11 +82,11 @@ end_line_of : (bs : List ℕ) (fields : List (List ℕ)) → list_any needs_quot
 end_line_of bs fields plain ends =
     (is_line-line_of ((64 ∷ bs) ∷ fields), subst (λ f. is_end_field f ≡ true) (sym (first_field-line_of 64 bs fields plain)) ends)
 
-plain_name : (w : List ℕ) → is_name w ≡ true → IsPlainName w
+pub plain_name : (w : List ℕ) → is_name w ≡ true → IsPlainName w
 plain_name [] h = absurd (cc)
 plain_name (b ∷ bs) h = plain_lower b (name_parts b bs h).0
 
-lines_shown : (w : List ℕ) (xs : List Tuple) → is_name w ≡ true → AllByRecursion (IsLineOf (Shown w)) (map (output_line w) xs)
+pub lines_shown : (w : List ℕ) (xs : List Tuple) → is_name w ≡ true → AllByRecursion (IsLineOf (Shown w)) (map (output_line w) xs)
 lines_shown [] xs h = absurd (cc)
 lines_shown (b ∷ bs) xs h = shown_lines b bs xs (name_quoteless b bs h)
 
@@ -188,19 +188,15 @@ accepted_tells_classes files words r e =
     let f = command_ok files (command_in words) r e in
     due_tells_classes r.network (full_streams r.network r.sources) (network_sound f.0 r.network f.1)
 
--- the outputs one after another, and then the end lines, are one order of writing
-prefix_of_all : (d : Due) (text : List ℕ) → TellsClasses d → IsPrefixOf text (all_text d) → IsPrefixText d text
-prefix_of_all d text s prefix = prefix_text d (all_lines d) text s (all_order d s) prefix
-
-whole_of_all : (d : Due) → TellsClasses d → IsWholeText d (all_text d)
-whole_of_all d s = whole_text d (all_lines d) s (all_order d s) (all_whole d s).all
+no_text : (d : Due) → TellsClasses d → IsPrefixText d []
+no_text d s = prefix_text d [] [] s tt ([], refl)
 
 -- nothing was written
 appends_none : (o : Option (List ℕ)) (P : List ℕ → Type 0) → P [] → AppendsSuch o o P
 appends_none None P p = refl
 appends_none (Some before) P p = ([], ap Some (sym (append-nil before)), p)
 
-appends_all : (before now : Option (List ℕ)) (text : List ℕ) (P : List ℕ → Type 0) → now ≡ appended before text → P text → AppendsSuch before now P
+pub appends_all : (before now : Option (List ℕ)) (text : List ℕ) (P : List ℕ → Type 0) → now ≡ appended before text → P text → AppendsSuch before now P
 appends_all None now text P e p = e
 appends_all (Some before) now text P e p = (text, e, p)
 
@@ -212,7 +208,7 @@ match_each (Err s) P Q p q = q s refl
 nothing_written : (files : Files) (words : List (List ℕ)) (out : Option (List ℕ)) (steps : ℕ) → AnswersPrefix files words out out steps steps
 nothing_written files words out steps =
     match_each (accepted (file files) words) _ _
-    (λ r e. (appends_none out (IsPrefixText (due_of r)) (prefix_of_all (due_of r) [] (accepted_tells_classes (file files) words r e) (all_text (due_of r), refl)), omega arith))
+    (λ r e. (appends_none out (IsPrefixText (due_of r)) (no_text (due_of r) (accepted_tells_classes (file files) words r e)), omega arith))
     (λ s e. (refl, refl))
 
 nothing_between : (files : Files) (words : List (List ℕ)) (out_before out_now : Option (List ℕ)) (steps_before steps_now : ℕ) → out_now ≡ out_before → steps_now ≡ steps_before
@@ -228,6 +224,10 @@ not_ok s (inr memory) e = cc
 not_sink : (s : Status) → (is_refusal s ≡ true) ⊎ (s ≡ status.Memory) → s ≡ status.SinkFault → ⊥
 not_sink s (inl refused) e = let r : is_refusal status.SinkFault ≡ true = subst (λ x. is_refusal x ≡ true) e refused in cc
 not_sink s (inr memory) e = cc
+
+not_much : (s : Status) → (is_refusal s ≡ true) ⊎ (s ≡ status.Memory) → s ≡ status.TooMuch → ⊥
+not_much s (inl refused) e = let r : is_refusal status.TooMuch ≡ true = subst (λ x. is_refusal x ≡ true) e refused in cc
+not_much s (inr memory) e = cc
 
 no_fault : (files : Files) (words : List (List ℕ)) (fb fn : ℕ) (s : Status) (r : Replay) → (is_refusal s ≡ true) ⊎ (s ≡ status.Memory) → RefusalHasCause files words fb fn s
     → ¬ (Rose fb fn) → accepted (file files) words ≡ Ok r → (s ≡ status.Ok) ⊎ (s ≡ status.Memory)
@@ -249,9 +249,10 @@ stopped_ends words w s source h out steps = record {
   folder = h.folder;
   no_memory = h.no_memory;
   sink = λ e. absurd (not_sink s h.ends e);
-  complete = λ quiet dry. where_told w.told (λ files. MatchAccepted (accepted (file files) words) (λ r. (s ≡ status.Ok) ⊎ (s ≡ status.Memory)) (λ t. ⊤))
+  too_much = where_told w.told (λ files. TooMuchHasCause files words s) (λ files t e. absurd (not_much s h.ends e));
+  complete = λ quiet dry. where_told w.told (λ files. EndsOk files words s)
       (λ files t. match_each (accepted (file files) words) _ _
-      (λ r e. no_fault files words w.folder_before w.folder_now s r h.ends (at_told w.told (λ x. RefusalHasCause x words w.folder_before w.folder_now s) files t h.refusal) quiet e)
+      (λ r e few. no_fault files words w.folder_before w.folder_now s r h.ends (at_told w.told (λ x. RefusalHasCause x words w.folder_before w.folder_now s) files t h.refusal) quiet e)
       (λ u e. tt));
   named = h.named;
 }
@@ -272,12 +273,16 @@ module _ (words : List (List ℕ)) (w : World) (r : Replay) (source : List ℕ) 
     reached = λ name e. absurd (no_fault' name e);
   })
 
-  pub answered_ok : w.out_now ≡ appended w.out_before (all_text (due_of r)) → w.steps_now ≡ w.steps_before + work_of r.network r.sources → Ends words w status.Ok source
+  abbrev work : ℕ
+  work = work_of r.network r.sources
+
+  -- what holds of what was accepted
+  at_replay : (P : Replay → Type 0) (Q : Status → Type 0) → P r → WhereTold w.told (λ files. MatchAccepted (accepted (file files) words) P Q)
+  at_replay P Q p = where_told w.told (λ files. MatchAccepted (accepted (file files) words) P Q) (λ files t. subst (λ o. MatchAccepted o P Q) (sym (accepted_at files t)) p)
+
+  pub answered_ok : AppendsSuch w.out_before w.out_now (IsWholeText (due_of r)) → w.steps_now ≡ w.steps_before + work → Ends words w status.Ok source
   answered_ok out steps = record {
-    ok = λ e. where_told w.told (λ files. AnswersWhole files words w.out_before w.out_now w.steps_before w.steps_now)
-        (λ files t. subst (λ o. MatchAccepted o (λ x. AppendsSuch w.out_before w.out_now (IsWholeText (due_of x)) × (w.steps_now ≡ w.steps_before + work_of x.network x.sources)) (λ u. ⊥))
-        (sym (accepted_at files t))
-        (appends_all w.out_before w.out_now (all_text (due_of r)) (IsWholeText (due_of r)) out (whole_of_all (due_of r) (told_at files t)), steps));
+    ok = λ e. at_replay (λ x. AppendsSuch w.out_before w.out_now (IsWholeText (due_of x)) × (w.steps_now ≡ w.steps_before + work_of x.network x.sources)) (λ u. ⊥) (out, steps);
     other = λ e. absurd (e refl);
     refused_early = λ e. absurd (cc);
     usage = record { only = λ e. absurd (cc); when = λ e. absurd (some_none (command_in words) some e) };
@@ -285,52 +290,101 @@ module _ (words : List (List ℕ)) (w : World) (r : Replay) (source : List ℕ) 
     folder = record { failed = λ name e. absurd (cc); too_long = λ name e. absurd (cc) };
     no_memory = λ e. absurd (cc);
     sink = λ e. absurd (cc);
-    complete = λ quiet dry. where_told w.told (λ files. MatchAccepted (accepted (file files) words) (λ x. (status.Ok ≡ status.Ok) ⊎ (status.Ok ≡ status.Memory)) (λ t. ⊤))
-        (λ files t. match_each (accepted (file files) words) _ _ (λ x e. inl refl) (λ u e. tt));
+    too_much = where_told w.told (λ files. TooMuchHasCause files words status.Ok) (λ files t e. absurd (cc));
+    complete = λ quiet dry. at_replay (λ x. work_of x.network x.sources < 2 ^ 62 → (status.Ok ≡ status.Ok) ⊎ (status.Ok ≡ status.Memory)) (λ u. ⊤) (λ few. inl refl);
     named = tt;
   }
 
-  prefix_at : AppendsPrefix w.out_before w.out_now (all_text (due_of r)) → w.steps_now ≤ w.steps_before + work_of r.network r.sources
-      → WhereTold w.told (λ files. AnswersPrefix files words w.out_before w.out_now w.steps_before w.steps_now)
-  prefix_at out steps = where_told w.told (λ files. AnswersPrefix files words w.out_before w.out_now w.steps_before w.steps_now)
-      (λ files t. subst (λ o. MatchAccepted o (λ x. AppendsSuch w.out_before w.out_now (IsPrefixText (due_of x)) × (w.steps_now ≤ w.steps_before + work_of x.network x.sources)) (λ u. (w.out_now ≡ w.out_before) × (w.steps_now ≡ w.steps_before)))
-      (sym (accepted_at files t))
-      (appends_all w.out_before w.out_now out.0 (IsPrefixText (due_of r)) out.2 (prefix_of_all (due_of r) out.0 (told_at files t) out.1), steps))
+  -- a replay that is cut short, by a status that is no refusal
+  record CutBy (s : Status) : Type 0 where
+    no_refusal : is_refusal s ≡ false
+    not_ok : s ≡ status.Ok → ⊥
+    cause : (s ≡ status.Memory) ⊎ Rose w.sink_before w.sink_now ⊎ (2 ^ 62 ≤ work)
+    sink : s ≡ status.SinkFault → Rose w.sink_before w.sink_now
+    too_much : s ≡ status.TooMuch → 2 ^ 62 ≤ work
+    usage : s ≡ status.Usage → ⊥
+    network : (e : NetErr) → s ≡ status.BadNetwork e → ⊥
+    folder : (name : List ℕ) → s ≡ status.FolderFault name → ⊥
+    too_long : (name : List ℕ) → s ≡ status.TooLong name → ⊥
+    named : NamesSource w.told words s source
 
-  answered_memory : AppendsPrefix w.out_before w.out_now (all_text (due_of r)) → w.steps_now ≤ w.steps_before + work_of r.network r.sources → Ends words w status.Memory source
-  answered_memory out steps = record {
-    ok = λ e. absurd (cc);
-    other = λ e. prefix_at out steps;
-    refused_early = λ e. absurd (cc);
-    usage = record { only = λ e. absurd (cc); when = λ e. inr refl };
-    refusal = refusal_at status.Memory refl (λ name e. cc);
-    folder = record { failed = λ name e. absurd (cc); too_long = λ name e. absurd (cc) };
-    no_memory = λ e. absurd (cc);
+  ends_ok : (s : Status) → (s ≡ status.Memory) ⊎ Rose w.sink_before w.sink_now ⊎ (2 ^ 62 ≤ work) → ¬ (Rose w.sink_before w.sink_now) → work < 2 ^ 62 → (s ≡ status.Ok) ⊎ (s ≡ status.Memory)
+  ends_ok s (inl memory) dry few = inr memory
+  ends_ok s (inr (inl rose)) dry few = absurd (dry rose)
+  ends_ok s (inr (inr much)) dry few = absurd (omega (arith, much, few))
+
+  cut_ends : (s : Status) → AppendsSuch w.out_before w.out_now (IsPrefixText (due_of r)) → w.steps_now ≤ w.steps_before + work → CutBy s → Ends words w s source
+  cut_ends s out steps cut = record {
+    ok = λ e. absurd (cut.not_ok e);
+    other = λ e. at_replay (λ x. AppendsSuch w.out_before w.out_now (IsPrefixText (due_of x)) × (w.steps_now ≤ w.steps_before + work_of x.network x.sources))
+        (λ u. (w.out_now ≡ w.out_before) × (w.steps_now ≡ w.steps_before)) (out, steps);
+    refused_early = λ e. let both : true ≡ false = sym e ∙ cut.no_refusal in absurd (cc);
+    usage = record { only = λ e. absurd (cut.usage e); when = λ e. absurd (some_none (command_in words) some e) };
+    refusal = refusal_at s cut.no_refusal cut.folder;
+    folder = record { failed = λ name e. absurd (cut.folder name e); too_long = λ name e. absurd (cut.too_long name e) };
+    no_memory = λ e. absurd (cut.network net.Memory e);
+    sink = cut.sink;
+    too_much = at_much (λ e. at_replay (λ x. 2 ^ 62 ≤ work_of x.network x.sources) (λ u. ⊥) (cut.too_much e));
+    complete = λ quiet dry. at_replay (λ x. work_of x.network x.sources < 2 ^ 62 → (s ≡ status.Ok) ⊎ (s ≡ status.Memory)) (λ u. ⊤) (ends_ok s cut.cause dry);
+    named = cut.named;
+  }
+    where
+      at_much : (s ≡ status.TooMuch → WhereTold w.told (λ files. MatchAccepted (accepted (file files) words) (λ x. 2 ^ 62 ≤ work_of x.network x.sources) (λ u. ⊥)))
+          → WhereTold w.told (λ files. TooMuchHasCause files words s)
+      at_much f = where_told w.told (λ files. TooMuchHasCause files words s)
+          (λ files t e. at_told w.told (λ x. MatchAccepted (accepted (file x) words) (λ y. 2 ^ 62 ≤ work_of y.network y.sources) (λ u. ⊥)) files t (f e))
+
+  cut_memory : CutBy status.Memory
+  cut_memory = record {
+    no_refusal = refl;
+    not_ok = λ e. cc;
+    cause = inl refl;
     sink = λ e. absurd (cc);
-    complete = λ quiet dry. where_told w.told (λ files. MatchAccepted (accepted (file files) words) (λ x. (status.Memory ≡ status.Ok) ⊎ (status.Memory ≡ status.Memory)) (λ t. ⊤))
-        (λ files t. match_each (accepted (file files) words) _ _ (λ x e. inr refl) (λ u e. tt));
+    too_much = λ e. absurd (cc);
+    usage = λ e. cc;
+    network = λ x e. cc;
+    folder = λ name e. cc;
+    too_long = λ name e. cc;
     named = tt;
   }
 
-  answered_sink : AppendsPrefix w.out_before w.out_now (all_text (due_of r)) → w.steps_now ≤ w.steps_before + work_of r.network r.sources → Rose w.sink_before w.sink_now → Ends words w status.SinkFault source
-  answered_sink out steps rose = record {
-    ok = λ e. absurd (cc);
-    other = λ e. prefix_at out steps;
-    refused_early = λ e. absurd (cc);
-    usage = record { only = λ e. absurd (cc); when = λ e. absurd (some_none (command_in words) some e) };
-    refusal = refusal_at status.SinkFault refl (λ name e. cc);
-    folder = record { failed = λ name e. absurd (cc); too_long = λ name e. absurd (cc) };
-    no_memory = λ e. absurd (cc);
+  cut_sink : Rose w.sink_before w.sink_now → CutBy status.SinkFault
+  cut_sink rose = record {
+    no_refusal = refl;
+    not_ok = λ e. cc;
+    cause = inr (inl rose);
     sink = λ e. rose;
-    complete = λ quiet dry. absurd (dry rose);
+    too_much = λ e. absurd (cc);
+    usage = λ e. cc;
+    network = λ x e. cc;
+    folder = λ name e. cc;
+    too_long = λ name e. cc;
     named = tt;
   }
 
-  -- the answer is lost on the way
-  pub answered_lost : (s : Status) → AppendsPrefix w.out_before w.out_now (all_text (due_of r)) → w.steps_now ≤ w.steps_before + work_of r.network r.sources → IsLost w.sink_before w.sink_now s
-      → Ends words w s source
-  answered_lost s out steps (inl memory) = subst (λ x. Ends words w x source) (sym memory) (answered_memory out steps)
-  answered_lost s out steps (inr sink) = subst (λ x. Ends words w x source) (sym sink.0) (answered_sink out steps sink.1)
+  cut_much : 2 ^ 62 ≤ work → CutBy status.TooMuch
+  cut_much much = record {
+    no_refusal = refl;
+    not_ok = λ e. cc;
+    cause = inr (inr much);
+    sink = λ e. absurd (cc);
+    too_much = λ e. much;
+    usage = λ e. cc;
+    network = λ x e. cc;
+    folder = λ name e. cc;
+    too_long = λ name e. cc;
+    named = tt;
+  }
+
+  cut_by : (s : Status) → IsCutShort w.sink_before w.sink_now s → (s ≡ status.TooMuch → 2 ^ 62 ≤ work) → CutBy s
+  cut_by s (inl (inl memory)) much = subst CutBy (sym memory) cut_memory
+  cut_by s (inl (inr sink)) much = subst CutBy (sym sink.0) (cut_sink sink.1)
+  cut_by s (inr is) much = subst CutBy (sym is) (cut_much (much is))
+
+  -- the answer is cut short
+  pub answered_cut : (s : Status) → AppendsSuch w.out_before w.out_now (IsPrefixText (due_of r)) → w.steps_now ≤ w.steps_before + work → IsCutShort w.sink_before w.sink_now s
+      → (s ≡ status.TooMuch → 2 ^ 62 ≤ work) → Ends words w s source
+  answered_cut s out steps cut much = cut_ends s out steps (cut_by s cut much)
 
 -- any end but Ok may be one for want of memory
 pub memory_ends : (words : List (List ℕ)) (w : World) (s : Status) (source other : List ℕ) → s ≢ status.Ok → Ends words w s source → Ends words w status.Memory other
@@ -347,8 +401,8 @@ memory_ends words w s source other differs h = record {
   folder = record { failed = λ name e. absurd (cc); too_long = λ name e. absurd (cc) };
   no_memory = λ e. absurd (cc);
   sink = λ e. absurd (cc);
-  complete = λ quiet dry. where_told w.told (λ files. MatchAccepted (accepted (file files) words) (λ x. (status.Memory ≡ status.Ok) ⊎ (status.Memory ≡ status.Memory)) (λ t. ⊤))
-      (λ files t. match_each (accepted (file files) words) _ _ (λ x e. inr refl) (λ u e. tt));
+  too_much = where_told w.told (λ files. TooMuchHasCause files words status.Memory) (λ files t e. absurd (cc));
+  complete = λ quiet dry. where_told w.told (λ files. EndsOk files words status.Memory) (λ files t. match_each (accepted (file files) words) _ _ (λ x e few. inr refl) (λ u e. tt));
   named = tt;
 }
 

@@ -3,9 +3,13 @@ pub mod OrderLemmas
 pub mod DueLemmas
 pub mod MixedLemmas
 pub mod EndLemmas
+pub mod HistoryLemmas
+pub mod DrivingLemmas
+pub mod ReplayLemmas
 mod Rows
 pub mod SortedLines
 pub mod StoppedLemmas
 pub mod WritingLemmas
 pub mod SourceLemmas
+pub mod TrainLemmas
 pub mod WordLemmas

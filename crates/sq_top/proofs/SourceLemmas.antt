@@ -1,24 +1,77 @@
 -- The streams that the files of a sound network's sources are.
-use Rattle.std.proofs.Common.{◌≡◌, ℕ, ◌≤◌, true, List, [], ◌∷◌, ◌++◌, length, arith}
-use Rattle.std.specs.Prelude.{Ok}
-use Rattle.std.specs.List.{All}
+use Rattle.std.proofs.Common.{◌≡◌, ℕ, zero, suc, ◌+◌, ◌≤◌, ◌<◌, true, List, [], ◌∷◌, ◌++◌, length, get_or, take, refl, ap, sym, ◌∙◌, subst, arith, Some}
+use Rattle.std.specs.Prelude.{Ok, slice_get}
+use Rattle.std.specs.List.{AllByRecursion, list_all}
 use Rattle.std.proofs.lemmas.Bool.Decides.{nat_tests}
-use Rattle.std.proofs.lemmas.List.Elements.{All-append, All-from_recursion}
+use Rattle.std.proofs.lemmas.List.{take_more}
 use Rattle.sq_value.specs.declared.Tuple.{Tuple}
-use Rattle.sq_value.specs.Values.{IsStream}
+use Rattle.sq_value.specs.Values.{Columns, IsStream, IsTuple, fields_fit}
+use Rattle.sq_net.specs.declared.Network.{Network}
 use Rattle.sq_net.specs.declared.Source.{Source}
 use Rattle.sq_net.specs.Sound.{is_between, source_within}
+use Rattle.sq_oper.specs.Streams.{IsSoundTuple}
+use Rattle.sq_model.specs.Fit.{FitsOption, SourcesFit}
+use Rattle.sq_model.specs.Full.{nth}
+use Rattle.sq_replay.specs.Laws.{ReadsStreams}
 use Rattle.sq_replay.specs.Streams.{stream_in}
 use Rattle.sq_replay.proofs.FitLemmas.{streams_fit}
+use Rattle.sq_top.specs.Recorded.{AreRecorded}
 use Rattle.sq_top.proofs.SortedLines.{and-true}
 
 between : (low high k : ℕ) → is_between low high k ≡ true → (low ≤ k) × (k ≤ high)
 between low high k h = (grind (arith, nat_tests), grind (arith, nat_tests))
 
-pub text_is_stream : (s : Source) (bytes : List ℕ) (xs : List Tuple) → source_within s ≡ true → stream_in s.schema bytes ≡ Ok xs → IsStream xs
-text_is_stream s bytes xs within read =
+pub text_is_recorded : (s : Source) (bytes : List ℕ) (xs : List Tuple) → source_within s ≡ true → stream_in s.schema bytes ≡ Ok xs → ReadsStreams s.schema xs
+text_is_recorded s bytes xs within read =
     let few = between 1 16 (length s.schema) (and-true (is_between 1 255 (length s.file)) (is_between 1 16 (length s.schema)) within).1 in
-    (streams_fit s.schema bytes xs few.0 few.1 read).stream
+    streams_fit s.schema bytes xs few.0 few.1 read
 
-pub streams_more : (read : List (List Tuple)) (xs : List Tuple) → All IsStream read → IsStream xs → All IsStream (read ++ xs ∷ [])
-streams_more read xs before one = All-append IsStream read (xs ∷ []) before (All-from_recursion IsStream (xs ∷ []) (one, tt))
+recorded_both : (ss : List Source) (xss : List (List Tuple)) (s : Source) (xs : List Tuple) → AreRecorded ss xss → ReadsStreams s.schema xs → AreRecorded (ss ++ s ∷ []) (xss ++ xs ∷ [])
+recorded_both [] [] s xs before one = (one, tt)
+recorded_both [] (ys ∷ xss) s xs before one = absurd before
+recorded_both (r ∷ ss) [] s xs before one = absurd before
+recorded_both (r ∷ ss) (ys ∷ xss) s xs before one = (before.0, recorded_both ss xss s xs before.1 one)
+
+-- one source more was read
+pub recorded_more : (ss : List Source) (i : ℕ) (s : Source) (xss : List (List Tuple)) (xs : List Tuple) → i < length ss → s ≡ get_or ss i s → AreRecorded (take i ss) xss
+    → ReadsStreams s.schema xs → AreRecorded (take (i + 1) ss) (xss ++ xs ∷ [])
+recorded_more ss i s xss xs inside at before one =
+    subst (λ ys. AreRecorded ys (xss ++ xs ∷ [])) (sym (take_more ss i s inside ∙ ap (λ (y : Source). take i ss ++ y ∷ []) (sym at)))
+    (recorded_both (take i ss) xss s xs before one)
+
+pub recorded_even : (ss : List Source) (xss : List (List Tuple)) → AreRecorded ss xss → length xss ≡ length ss
+recorded_even [] [] all = refl
+recorded_even [] (xs ∷ xss) all = absurd all
+recorded_even (s ∷ ss) [] all = absurd all
+recorded_even (s ∷ ss) (xs ∷ xss) all = ap suc (recorded_even ss xss all.1)
+
+pub recorded_streams : (ss : List Source) (xss : List (List Tuple)) → AreRecorded ss xss → AllByRecursion IsStream xss
+recorded_streams [] [] all = tt
+recorded_streams [] (xs ∷ xss) all = absurd all
+recorded_streams (s ∷ ss) [] all = absurd all
+recorded_streams (s ∷ ss) (xs ∷ xss) all = (all.0.stream, recorded_streams ss xss all.1)
+
+sound_tuples : (xs : List Tuple) → AllByRecursion IsTuple xs → AllByRecursion IsSoundTuple xs
+sound_tuples [] all = tt
+sound_tuples (x ∷ xs) all = ((all.0.tick, (all.0.least, all.0.most)), sound_tuples xs all.1)
+
+pub recorded_tuples : (ss : List Source) (xss : List (List Tuple)) → AreRecorded ss xss → AllByRecursion (AllByRecursion IsSoundTuple) xss
+recorded_tuples [] [] all = tt
+recorded_tuples [] (xs ∷ xss) all = absurd all
+recorded_tuples (s ∷ ss) [] all = absurd all
+recorded_tuples (s ∷ ss) (xs ∷ xss) all = (sound_tuples xs all.0.tuples, recorded_tuples ss xss all.1)
+
+each_fits : (cs : Columns) (xs : List Tuple) → list_all (λ x. fields_fit cs x.fields) xs ≡ true → AllByRecursion (λ (x : Tuple). fields_fit cs x.fields ≡ true) xs
+each_fits cs [] all = tt
+each_fits cs (x ∷ xs) all =
+    let both = and-true (fields_fit cs x.fields) (list_all (λ y. fields_fit cs y.fields) xs) all in (both.0, each_fits cs xs both.1)
+
+fit_at : (ss : List Source) (xss : List (List Tuple)) → AreRecorded ss xss → (i : ℕ) (s : Source) → slice_get ss i ≡ Some s → FitsOption (Some s.schema) (nth xss i)
+fit_at [] xss all i s at = absurd (cc)
+fit_at (r ∷ ss) [] all i s at = absurd all
+fit_at (r ∷ ss) (xs ∷ xss) all zero s at =
+    let same : r ≡ s = cc in subst (λ (y : Source). FitsOption (Some y.schema) xs) same (each_fits r.schema xs all.0.fit)
+fit_at (r ∷ ss) (xs ∷ xss) all (suc i) s at = fit_at ss xss all.1 i s at
+
+pub recorded_fit : (n : Network) (xss : List (List Tuple)) → AreRecorded n.sources xss → SourcesFit n xss
+recorded_fit n xss all i s at = fit_at n.sources xss all i s at

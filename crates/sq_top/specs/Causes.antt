@@ -1,5 +1,5 @@
 -- Which status comes of which cause.
-use Rattle.std.specs.Prelude.{◌≡◌, ◌≢◌, ◌⊎◌, ℕ, ◌+◌, ◌≤◌, Bool, true, false, ⊤, List, [], ◌++◌, Option, Some, None, is_some, IsSome, IsSomeAnd, slice_get, Result, Ok, Err}
+use Rattle.std.specs.Prelude.{◌≡◌, ◌≢◌, ◌⊎◌, ℕ, ◌+◌, ◌^◌, ◌<◌, ◌≤◌, Bool, true, false, ⊤, List, [], ◌++◌, Option, Some, None, is_some, IsSome, IsSomeAnd, slice_get, Result, Ok, Err}
 use Rattle.sq_value.specs.Lists.{contains_bytes, same_bytes, IsPrefixOf}
 use Rattle.sq_outside.specs.Faults.{Rose, RoseBy}
 use Rattle.sq_outside.specs.Folders.{Files, IsLonger, file}
@@ -211,6 +211,14 @@ HasNoStreams told r sources faults_before faults_now taken_before taken_now resu
     ⊎ ((number : ℕ) × (s : Source) × (line : ℕ) × (why : Why) × (slice_get sources number ≡ Some s)
     × LeadsWhereTold told (after_streams r sources) (Stops (status.BadStream number line why)) × IsBadLine number s line why result source)
 
+-- too much was to be fed only where the work of what is accepted is too much
+abbrev pub TooMuchHasCause : Files → List (List ℕ) → Status → Type 0
+TooMuchHasCause files words result = result ≡ status.TooMuch → MatchAccepted (accepted (file files) words) (λ r. 2 ^ 62 ≤ work_of r.network r.sources) (λ s. ⊥)
+
+-- what is accepted, and isn't too much, ends Ok, but for want of memory
+abbrev pub EndsOk : Files → List (List ℕ) → Status → Type 0
+EndsOk files words result = MatchAccepted (accepted (file files) words) (λ r. work_of r.network r.sources < 2 ^ 62 → (result ≡ status.Ok) ⊎ (result ≡ status.Memory)) (λ s. ⊤)
+
 -- the folder, the output and the steps before a run and after it
 pub record World : Type 0 where
   pub told : Option Files
@@ -235,6 +243,6 @@ pub record Ends (words : List (List ℕ)) (w : World) (result : Status) (source 
   pub folder : FolderHasCause words w.told w.folder_before w.folder_now w.taken_before w.taken_now result
   pub no_memory : result ≢ status.BadNetwork net.Memory
   pub sink : result ≡ status.SinkFault → Rose w.sink_before w.sink_now
-  pub complete : ¬ (Rose w.folder_before w.folder_now) → ¬ (Rose w.sink_before w.sink_now)
-      → WhereTold w.told (λ files. MatchAccepted (accepted (file files) words) (λ r. (result ≡ status.Ok) ⊎ (result ≡ status.Memory)) (λ s. ⊤))
+  pub too_much : WhereTold w.told (λ files. TooMuchHasCause files words result)
+  pub complete : ¬ (Rose w.folder_before w.folder_now) → ¬ (Rose w.sink_before w.sink_now) → WhereTold w.told (λ files. EndsOk files words result)
   pub named : NamesSource w.told words result source

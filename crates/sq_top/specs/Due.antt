@@ -18,7 +18,7 @@ pub record Due : Type 0 where
   pub planned : List (List ℕ)
   pub ended : List (List ℕ)
 
--- all lines, in the order in which a run writes them, and their text
+-- all lines, class by class, and their text
 abbrev pub all_lines : Due → List (List ℕ)
 all_lines d = flat_map (λ o. o.1) d.shown ++ (flat_map (λ w. w.1) d.dropped ++ (d.planned ++ d.ended))
 

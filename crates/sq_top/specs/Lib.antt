@@ -4,6 +4,8 @@ pub mod Views
 pub mod Due
 pub mod Answers
 pub mod Writing
+pub mod Driving
+pub mod Recorded
 pub mod Messages
 pub mod Orders
 pub mod Causes

@@ -6,15 +6,14 @@
 //! for lines and `sq_outside` for the objects.
 #![tactic(auto)]
 
-ghost use Rattle.std.specs.Prelude.{◌≡◌, ◌≢◌, ◌⊎◌, ◌≤◌, ⊤, true, map};
+ghost use Rattle.std.specs.Prelude.{◌≡◌, ◌≢◌, ◌≤◌, true, map};
 ghost use Rattle.std.specs.String.{string_bytes};
 ghost use Rattle.sq_outside.specs.Faults.{Rose};
-ghost use Rattle.sq_outside.specs.Folders.{file};
 ghost use Rattle.sq_net.specs.declared.NetErr.TheVariants as net;
-ghost use Rattle.sq_top.specs.Causes.{AnswersPrefix, AnswersWhole, FolderHasCause, IsTold, MatchAccepted, RefusalHasCause, UsageHasCause, WhereTold, is_refusal};
+ghost use Rattle.sq_top.specs.Causes.{AnswersPrefix, AnswersWhole, EndsOk, FolderHasCause, IsTold, RefusalHasCause, TooMuchHasCause, UsageHasCause, WhereTold, is_refusal};
 ghost use Rattle.sq_top.specs.Messages.{code_of};
-ghost use Rattle.sq_top.specs.Scripts.{accepted};
 
+mod driving;
 mod messages;
 mod reading;
 mod running;
@@ -23,6 +22,7 @@ mod tests;
 mod words;
 mod writing;
 
+pub use driving::drive;
 use running::{run, tell};
 use sq_net::NetErr;
 use sq_outside::{Folder, PageDisk, Sink, Steps};
@@ -134,10 +134,10 @@ pub fn run_words<F: Folder, D: PageDisk, S: Sink, E: Sink, L: Ledger>(
         (F.taken folder.old) (F.taken folder.new) result }
     ensures no_memory { result ≢ Status.BadNetwork net.Memory }
     ensures sink { result ≡ Status.SinkFault → Rose (S.faults out.old) (S.faults out.new) }
-    // Where nothing fails, what is accepted ends Ok, but for want of memory.
+    ensures too_much { WhereTold (F.files folder.old) (λ files. TooMuchHasCause files (map string_bytes words.now.items) result) }
+    // Where nothing fails, what is accepted, and isn't too much, ends Ok, but for want of memory.
     ensures complete { ¬ Rose (F.faults folder.old) (F.faults folder.new) → ¬ Rose (S.faults out.old) (S.faults out.new)
-        → WhereTold (F.files folder.old) (λ files. MatchAccepted (accepted (file files) (map string_bytes words.now.items))
-        (λ _. (result ≡ Status.Ok) ⊎ (result ≡ Status.Memory)) (λ _. ⊤)) }
+        → WhereTold (F.files folder.old) (λ files. EndsOk files (map string_bytes words.now.items) result) }
 
     ensures message { IsTold (F.files folder.old) (map string_bytes words.now.items) (E.written err.old) (E.written err.new)
         (E.faults err.old) (E.faults err.new) result }

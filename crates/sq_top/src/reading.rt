@@ -1,15 +1,15 @@
 // The words and the files of a run, read in the order of work.
 ghost use Rattle.std.specs.Prelude.{true, ◌≡◌, ◌⊎◌, ◌≤◌, IfOk, IfErr, IsSome, None, Ok, Some, [], length, map};
-ghost use Rattle.std.specs.List.{All};
 ghost use Rattle.std.specs.String.{string_bytes};
-ghost use Rattle.sq_value.specs.Values.{IsStream};
 ghost use Rattle.sq_net.specs.Sound.{IsSound, source_within};
 ghost use Rattle.sq_outside.specs.Folders.{file};
+ghost use Rattle.sq_replay.specs.Laws.{ReadsStreams};
 ghost use Rattle.sq_top.specs.Commands.{command_in};
 ghost use Rattle.sq_top.specs.Scripts.{Done, Replay, accepted, after_streams, picks_script, readable, script_of, with_sources};
 ghost use Rattle.sq_top.specs.Causes.{ArePicksOf, HasNoPicks, HasNoStream, HasNoStreams, IsBadLine, IsNoCommand, IsRefusedBy, IsStopped, IsStreamOf, IsUnread, LeadsWhereTold, WhereTold, source_of};
 ghost use Rattle.sq_top.specs.Messages.{network_named};
 ghost use Rattle.sq_top.specs.Views.{replay_of};
+ghost use Rattle.sq_top.specs.Recorded.{AreRecorded};
 
 use crate::words::read_words;
 use crate::{Command, RunArgs, Status, WordsErr};
@@ -174,7 +174,6 @@ fn stopped_at(number: u32, source: &Source, line: u32, why: Why) -> Stopped
 }
 
 /// The tuples of the source with this number.
-#[tactic(auto, using(crate::proofs::SourceLemmas::text_is_stream))]
 fn stream_of<F: Folder>(
     alloc: Global,
     number: u32,
@@ -183,7 +182,7 @@ fn stream_of<F: Folder>(
 ) -> Result<Vec<Tuple>, Stopped>
     requires within { source_within source.now ≡ true }
     ensures stream { IfOk result (λ xs. IsStreamOf (F.files folder.old) source.now xs.items) }
-    ensures ticks { IfOk result (λ xs. IsStream xs.items) }
+    ensures recorded { IfOk result (λ xs. ReadsStreams source.now.schema xs.items) }
     ensures stopped { IfErr result (λ s. HasNoStream (F.files folder.old) number source.now (F.faults folder.old) (F.faults folder.new) (F.taken folder.old) (F.taken folder.new) s.status (source_of s.source)) }
     ensures files { F.files folder.new ≡ F.files folder.old }
     ensures later { (F.faults folder.old ≤ F.faults folder.new) × (F.taken folder.old ≤ F.taken folder.new) }
@@ -207,8 +206,7 @@ fn streams_of<F: Folder>(
 ) -> Result<Vec<Vec<Tuple>>, Stopped>
     requires { IsSound network.now }
     ensures leads { IfOk result (λ v. (r : Replay) → LeadsWhereTold (F.files folder.old) (after_streams (with_sources r []) network.now.sources) (Done (with_sources r (map (λ xs. xs.items) v.items)))) }
-    ensures even { IfOk result (λ v. length v.items ≡ length network.now.sources) }
-    ensures streams { IfOk result (λ v. All IsStream (map (λ xs. xs.items) v.items)) }
+    ensures recorded { IfOk result (λ v. AreRecorded network.now.sources (map (λ xs. xs.items) v.items)) }
     ensures stopped { IfErr result (λ s. (r : Replay) → HasNoStreams (F.files folder.old) (with_sources r []) network.now.sources (F.faults folder.old) (F.faults folder.new) (F.taken folder.old) (F.taken folder.new) s.status (source_of s.source)) }
     ensures files { F.files folder.new ≡ F.files folder.old }
     ensures later { (F.faults folder.old ≤ F.faults folder.new) × (F.taken folder.old ≤ F.taken folder.new) }
@@ -247,8 +245,8 @@ pub fn prepare<F: Folder>(
 ) -> Result<Accepted, Stopped>
     ensures command { IfOk result (λ _. IsSome (command_in (map string_bytes words.now.items))) }
     ensures sound { IfOk result (λ a. IsSound a.network) }
-    ensures even { IfOk result (λ a. length a.sources.items ≡ length a.network.sources) }
-    ensures streams { IfOk result (λ a. All IsStream (map (λ xs. xs.items) a.sources.items)) }
+    ensures recorded { IfOk result (λ a. AreRecorded a.network.sources (map (λ xs. xs.items) a.sources.items)) }
+    ensures train { IfOk result (λ a. 1 ≤ a.train) }
     ensures accepted { IfOk result (λ a. WhereTold (F.files folder.old) (λ files. accepted (file files) (map string_bytes words.now.items) ≡ Ok (replay_of a))) }
     ensures stopped { IfErr result (λ s. IsStopped (map string_bytes words.now.items) (F.files folder.old) (F.faults folder.old) (F.faults folder.new) (F.taken folder.old) (F.taken folder.new) s.status (source_of s.source)) }
     ensures files { F.files folder.new ≡ F.files folder.old }

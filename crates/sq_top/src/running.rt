@@ -1,18 +1,78 @@
 // A run, but for its message, and the message.
-ghost use Rattle.std.specs.Prelude.{◌≡◌, ◌⊎◌, ◌≤◌, map};
+ghost use Rattle.std.specs.Prelude.{◌≡◌, ◌⊎◌, ◌+◌, ◌^◌, ◌≤◌, IfErr, OnErr, OnOk, map};
 ghost use Rattle.std.specs.String.{string_bytes};
 ghost use Rattle.sq_outside.specs.Faults.{Rose};
 ghost use Rattle.sq_value.specs.Lists.{IsPrefixOf};
+ghost use Rattle.sq_net.specs.Sound.{IsSound};
+ghost use Rattle.sq_model.specs.Fed.{work_of};
+ghost use Rattle.sq_queue.specs.Faces.{Tells};
+ghost use Rattle.sq_top.specs.Answers.{IsPrefixText, IsWholeText};
 ghost use Rattle.sq_top.specs.Causes.{AppendsSuch, Ends, TellsStatus, source_of};
+ghost use Rattle.sq_top.specs.Driving.{IsCutShort};
+ghost use Rattle.sq_top.specs.Due.{due_of};
+ghost use Rattle.sq_top.specs.Recorded.{AreRecorded};
+ghost use Rattle.sq_top.specs.Views.{replay_of};
 
 use crate::Status;
 use crate::messages::message;
-use crate::reading::{Stopped, prepare};
-use crate::writing::write_answer;
-use sq_outside::{Folder, Sink, Steps, write_all};
+use crate::driving::drive;
+use crate::reading::{Accepted, Stopped, prepare};
+use crate::writing::write_ends;
+use sq_core::Engine;
+use sq_outside::{Folder, MemDisk, PageDisk, Sink, Steps, write_all};
+use sq_sched::Policy;
 use sq_value::Name;
 use std::alloc::Global;
 use std::sync::ledger::Ledger;
+
+/// How many pages the queues may keep in memory.
+const FRAMES: u32 = 256;
+
+/// A disk that tells its pages. The queues keep their items in memory yet, so that no call reaches it, and the caller's disk stays
+/// as it is.
+fn spare_disk(alloc: Global) -> MemDisk
+    ensures { Tells (⟦<MemDisk as PageDisk>⟧.pages result) }
+{
+    MemDisk::new(alloc, Vec::new(alloc), Vec::new(alloc))
+}
+
+/// Replays what was accepted under its schedule, and writes all lines of it.
+fn replay<S: Sink, L: Ledger>(
+    alloc: Global,
+    accepted: Accepted,
+    out: &mut S,
+    steps: &mut Steps<L>,
+) -> Result<(), Status>
+    requires sound { IsSound accepted.network }
+    requires recorded { AreRecorded accepted.network.sources (map (λ xs. xs.items) accepted.sources.items) }
+    requires train { 1 ≤ accepted.train }
+    ensures ok { OnOk result (AppendsSuch (S.written out.old) (S.written out.new) (IsWholeText (due_of (replay_of accepted)))) }
+    ensures err { OnErr result (AppendsSuch (S.written out.old) (S.written out.new) (IsPrefixText (due_of (replay_of accepted)))) }
+    ensures steps { OnOk result (steps.new ≡ steps.old + work_of accepted.network (map (λ xs. xs.items) accepted.sources.items)) }
+    ensures fewer { OnErr result (steps.new ≤ steps.old + work_of accepted.network (map (λ xs. xs.items) accepted.sources.items)) }
+    ensures cut { IfErr result (λ s. IsCutShort (S.faults out.old) (S.faults out.new) s) }
+    ensures too_much { IfErr result (λ s. s ≡ Status.TooMuch → 2 ^ 62 ≤ work_of accepted.network (map (λ xs. xs.items) accepted.sources.items)) }
+    ensures later { S.faults out.old ≤ S.faults out.new }
+{
+    let Accepted {
+        network,
+        sources,
+        seed,
+        rule,
+        picks,
+        train,
+    } = accepted;
+    let mut disk = spare_disk(alloc);
+    let engine = match Engine::new(alloc, network, sources, seed, FRAMES) {
+        Ok(engine) => engine,
+        Err(_) => return Err(Status::Memory),
+    };
+    let policy = Policy::new(rule, picks, seed, train);
+    match drive(alloc, engine, policy, &mut disk, out, steps) {
+        Ok(engine) => write_ends(alloc, &engine, out),
+        Err(status) => Err(status),
+    }
+}
 
 /// Does what the words ask for, and says how it ended.
 pub fn run<F: Folder, S: Sink, L: Ledger>(
@@ -43,8 +103,7 @@ pub fn run<F: Folder, S: Sink, L: Ledger>(
         Ok(accepted) => accepted,
         Err(stopped) => return stopped,
     };
-    let sources = accepted.sources;
-    match write_answer(alloc, &accepted.network, sources, out, steps) {
+    match replay(alloc, accepted, out, steps) {
         Ok(()) => Stopped {
             status: Status::Ok,
             source: None,

@@ -18,6 +18,7 @@ returns g c =
       folder = e.folder;
       no_memory = e.no_memory;
       sink = e.sink;
+      too_much = e.too_much;
       complete = e.complete;
       message = (source_of c.run-stopped.result.source, e.named, rw c.tell.ensures.source at c.tell.ensures.told);
       same_files = c.run-stopped.ensures.files;

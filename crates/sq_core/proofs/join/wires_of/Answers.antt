@@ -12,4 +12,4 @@ pub returns-clause-joined : goal.returns-clause-joined
 returns-clause-joined c =
     let past = c.loop-actor-test.false in
     let upto = c.loop-actor.auto.actor-end in
-    joined-done c.args.feeds.now c.loop-actor.actor c.loop-actor.wires c.requires.feeds c.loop-actor.invariant.0 (omega (arith, past, upto)) c.loop-actor.invariant.1.replay
+    joined-done c.args.shown c.args.feeds.now c.loop-actor.actor c.loop-actor.wires c.requires.feeds c.loop-actor.invariant.0 (omega (arith, past, upto)) c.loop-actor.invariant.1.replay

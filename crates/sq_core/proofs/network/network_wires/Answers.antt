@@ -1,14 +1,16 @@
 use Rattle.std.proofs.Common.{◌≡◌, ◌∙◌, ap, sym, arith, length, map, subst}
 use Rattle.std.proofs.lemmas.Result.{IfOk-weaker}
 use Rattle.sq_flow.specs.Wiring.{IsShaped}
-use Rattle.sq_core.specs.Joining.{IsOrder}
+use Rattle.sq_core.specs.Joining.{AreFeeds, IsOrder}
 use Rattle.sq_core.specs.Table.{ops_of}
 use Rattle.sq_core.proofs.TableLemmas.{are-feeds, count-is, joins-all, measured-all, if-both}
 use Rattle.sq_core.proofs.OrderLemmas.{network-order}
 use Rattle.sq_core.proofs.network.network_wires.Goals as goal
 
 pub wires_of-requires-clause-feeds : goal.wires_of-requires-clause-feeds
-wires_of-requires-clause-feeds c = are-feeds c.args.n.now c.requires c.deref.result.now (ap (map (λ f. f.items)) c.deref.ensures.value ∙ c.in_ok-table.ensures)
+wires_of-requires-clause-feeds c =
+    subst (λ k. AreFeeds k c.deref.result.now) (ap length (sym c.as_slice.ensures))
+    (are-feeds c.args.n.now c.requires c.deref.result.now (ap (map (λ f. f.items)) c.deref.ensures.value ∙ c.in_ok-table.ensures))
 
 pub wires_of-requires-clause-shown : goal.wires_of-requires-clause-shown
 wires_of-requires-clause-shown c =

@@ -1,6 +1,6 @@
 use Rattle.std.proofs.Common.{arith, rules, inl, map, [], ◌∷◌, ◌∙◌, ap, refl}
-use Rattle.std.proofs.lemmas.List.{drop_all, length-map, map-append}
-use Rattle.sq_top.proofs.SourceLemmas.{streams_more}
+use Rattle.std.proofs.lemmas.List.{drop_all, length-map, map-append, take_all}
+use Rattle.sq_top.proofs.SourceLemmas.{recorded_more}
 use Rattle.sq_top.proofs.StoppedLemmas.{leads_on, no_streams_at}
 use Rattle.sq_top.proofs.reading.streams_of.Goals as goal
 
@@ -26,8 +26,9 @@ sources-preserved g c = record {
       (rw c.as_slice-source-items.ensures at c.sources-test.true) (rw c.as_slice-source-items.ensures at c.source-item.is)
       (length-map c.sources.streams.items (λ xs. xs.items) ∙ c.sources.invariant.counted) (c.sources.invariant.leads r) c.in-Ok.stream.items
       (rw c.sources.invariant.files at c.in-Ok.ensures.stream));
-  streams = rw (ap (map (λ xs. xs.items)) c.in-Ok-push.ensures.items ∙ map-append (λ xs. xs.items) c.sources.streams.items (c.in-Ok.stream ∷ []))
-      (streams_more (map (λ xs. xs.items) c.sources.streams.items) c.in-Ok.stream.items c.sources.invariant.streams c.in-Ok.ensures.ticks);
+  recorded = rw (ap (map (λ xs. xs.items)) c.in-Ok-push.ensures.items ∙ map-append (λ xs. xs.items) c.sources.streams.items (c.in-Ok.stream ∷ []))
+      (recorded_more c.args.network.now.sources c.sources.source-index c.source-item.result (map (λ xs. xs.items) c.sources.streams.items) c.in-Ok.stream.items
+      (rw c.as_slice-source-items.ensures at c.sources-test.true) (rw c.as_slice-source-items.ensures at c.source-item.is) c.sources.invariant.recorded c.in-Ok.ensures.recorded);
   counted = search rules;
   files = c.in-Ok.ensures.files ∙ c.sources.invariant.files;
   faults = omega (arith, c.sources.invariant.faults, c.in-Ok.ensures.later.0);
@@ -36,3 +37,6 @@ sources-preserved g c = record {
 
 pub returns-clause-leads : goal.returns-clause-leads
 returns-clause-leads g c r = rw (drop_all c.sources.source-index c.args.network.now.sources (rw c.as_slice-source-items.ensures at c.sources-test.false)) at (c.sources.invariant.leads r)
+
+pub returns-clause-recorded : goal.returns-clause-recorded
+returns-clause-recorded g c = rw (take_all c.sources.source-index c.args.network.now.sources (rw c.as_slice-source-items.ensures at c.sources-test.false)) at c.sources.invariant.recorded

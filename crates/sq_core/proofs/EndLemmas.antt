@@ -1,0 +1,61 @@
+-- What a run that is done has shown, fed and lost.
+use Rattle.std.proofs.Common.{◌≡◌, ℕ, ◌+◌, ◌<◌, Bool, true, false, not, None, refl, List, [], ◌++◌, length, Option, Some, slice_get, ap, sym, ◌∙◌, subst, arith, append-nil}
+use Rattle.sq_value.specs.declared.Tuple.{Tuple}
+use Rattle.sq_outside.specs.Disks.{Pages}
+use Rattle.sq_road.specs.Levels.{Agrees, level_of}
+use Rattle.sq_oper.specs.declared.outs.Event.{Event}
+use Rattle.sq_net.specs.declared.Network.{Network}
+use Rattle.sq_queue.specs.Faces.{Tells}
+use Rattle.sq_flow.specs.Events.{lines_of}
+use Rattle.sq_flow.specs.Wiring.{net_of}
+use Rattle.sq_actor.specs.declared.actor.Actor.{Actor}
+use Rattle.sq_actor.proofs.LateLemmas.{late-lost}
+use Rattle.sq_flow.specs.declared.flow.Flow.{Flow}
+use Rattle.sq_flow.specs.declared.seats.Seat.{Seat}
+use Rattle.sq_flow.specs.Seats.{taken_at, lost_at, done_at, holds_at, IsSeat}
+use Rattle.sq_flow.specs.Engines.{AllDone}
+use Rattle.sq_flow.specs.Flows.{items_in, IsFlow, HoldsItems, lines_left, fed_at_last, lost_at_last, work_at_last, taken_in_all}
+use Rattle.sq_core.specs.declared.engine.Engine.{Engine}
+use Rattle.sq_core.specs.Meanings.{actors, IsValid}
+use Rattle.sq_core.specs.Runs.{IsRun, late_in, ShownAll}
+use Rattle.sq_core.proofs.RunLemmas.{agrees-self, shown-in, box-in}
+
+-- nothing is left of any output, and each operator was fed, and has lost, all that it is fed and loses in all
+pub record NothingLeft (e : Engine) : Type 0 where
+  pub lines : (pages : Option Pages) (table : ℕ → ℕ → ℕ) → HoldsItems actors (items_in e.engine.flow pages) e.engine.flow → Agrees e.engine.flow.levels table
+      → (output : ℕ) → e.engine.flow.wires.shown + output < length e.engine.flow.seats.items → lines_left actors table (items_in e.engine.flow pages) e.engine.flow output ≡ []
+  pub fed : (pages : Option Pages) (table : ℕ → ℕ → ℕ) → HoldsItems actors (items_in e.engine.flow pages) e.engine.flow → Agrees e.engine.flow.levels table
+      → (actor : ℕ) → actor < length e.engine.flow.seats.items → fed_at_last actors table (items_in e.engine.flow pages) e.engine.flow actor ≡ taken_at actors (slice_get e.engine.flow.seats.items actor)
+  pub lost : (pages : Option Pages) (table : ℕ → ℕ → ℕ) → HoldsItems actors (items_in e.engine.flow pages) e.engine.flow → Agrees e.engine.flow.levels table
+      → (actor : ℕ) → actor < length e.engine.flow.seats.items → lost_at_last actors table (items_in e.engine.flow pages) e.engine.flow actor ≡ lost_at actors (slice_get e.engine.flow.seats.items actor) []
+  pub work : (pages : Option Pages) (table : ℕ → ℕ → ℕ) → HoldsItems actors (items_in e.engine.flow pages) e.engine.flow → Agrees e.engine.flow.levels table
+      → work_at_last actors table (items_in e.engine.flow pages) e.engine.flow ≡ taken_in_all actors e.engine.flow
+
+not-true : (b : Bool) → not b ≡ true → b ≡ false
+not-true true h = cc h
+not-true false h = refl
+
+-- a finished operator is late with all that it loses
+late-seat : (flow : Flow Actor) → IsFlow actors IsValid flow → AllDone flow → (actor : ℕ) → actor < length flow.seats.items → late_in (slice_get flow.seats.items actor) ≡ lost_at actors (slice_get flow.seats.items actor) []
+late-seat flow is done actor low = by (slice_get flow.seats.items actor) (is.seats actor) (done actor (omega (arith, low)))
+  where
+    by : (o : Option (Seat Actor)) → holds_at (IsSeat actors IsValid ((net_of flow.wires).takes actor) ((net_of flow.wires).fits actor) flow.levels.epoch flow.taken) o → done_at flow.over o ≡ true → late_in o ≡ lost_at actors o []
+    by None h d = refl
+    by (Some seat) h d = late-lost seat.op h.is_valid (h.running ∙ not-true seat.tally.running d)
+
+pub shown-all : (e : Engine) → NothingLeft e → AllDone e.engine.flow → (n : Network) (sources : List (List Tuple)) (pages : Option Pages) (history : List Event) (begun steps : ℕ) → Tells pages
+    → IsRun n sources pages e history begun steps → ShownAll n sources e history begun steps
+shown-all e none done n sources pages history begun steps told run =
+    let a = run.answers told in
+    let table : ℕ → ℕ → ℕ = level_of e.engine.flow.levels in
+    let agrees : Agrees e.engine.flow.levels table = agrees-self e.engine.flow.levels in
+    record {
+      lines = λ output s here.
+          sym (append-nil (lines_of output history)) ∙ ap (λ l. lines_of output history ++ l) (sym (none.lines pages table a.holds agrees output (shown-in e n run.network run.sound output s here)))
+          ∙ a.lines table agrees output s here;
+      fed = λ at low. sym (none.fed pages table a.holds agrees at (box-in e n run.network run.sound at low)) ∙ a.fed table agrees at low;
+      late = λ at low.
+          late-seat e.engine.flow run.sound.engine.flow done at (box-in e n run.network run.sound at low)
+          ∙ sym (none.lost pages table a.holds agrees at (box-in e n run.network run.sound at low)) ∙ a.late table agrees at low;
+      work = (let all = none.work pages table a.holds agrees in let sum = a.work table agrees in let counted = run.counted in omega (arith, all, sum, counted));
+    }

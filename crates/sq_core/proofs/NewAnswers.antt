@@ -1,0 +1,163 @@
+-- What is left of a new engine of a network, and which of its actors are ready.
+use Rattle.std.proofs.Common.{◌≡◌, ◌≢◌, ℕ, zero, suc, ◌+◌, ◌-◌, ◌<◌, ◌≤◌, eqb, cond, Bool, true, false, ◌||◌, List, [], ◌∷◌, map, length, Option, Some, None, slice_get, refl, ap, sym, ◌∙◌, subst, arith, inl, inr, zero-le}
+use Rattle.std.specs.List.{All, AllByRecursion}
+use Rattle.std.specs.declared.alloc.Global.{Global}
+use Rattle.std.specs.declared.collections.VecDeque.{VecDeque}
+use Rattle.sq_value.specs.declared.Tuple.{Tuple}
+use Rattle.sq_value.specs.Values.{IsStream}
+use Rattle.sq_item.specs.declared.Item.{Item}
+use Rattle.sq_oper.specs.Streams.{IsSoundTuple}
+use Rattle.sq_graph.specs.Wires.{inputs_of}
+use Rattle.sq_net.specs.declared.Network.{Network}
+use Rattle.sq_net.specs.declared.Node.{Node}
+use Rattle.sq_net.specs.Sound.{IsSound}
+use Rattle.sq_left.proofs.MergeLemmas.{eqb-same, eqb-not}
+use Rattle.sq_sched.specs.Ready.{contains, OnlyOnce}
+use Rattle.sq_queue.specs.Faces.{face}
+use Rattle.sq_actor.specs.declared.actor.Actor.{Actor}
+use Rattle.sq_flow.specs.declared.flow.Flow.{Flow}
+use Rattle.sq_flow.specs.declared.engine.Engine.{Engine}
+use Rattle.sq_flow.specs.declared.wires.Wires.{Wires}
+use Rattle.sq_flow.specs.Seats.{Meaning, done_at}
+use Rattle.sq_flow.specs.Wiring.{net_of, arcs_read, numbers_in, IsShaped}
+use Rattle.sq_flow.specs.Flows.{tuples_at, RiseFrom, world_of, HoldsItems, fed_at_last, sum_below}
+use Rattle.sq_model.specs.Fed.{work_of}
+use Rattle.sq_flow.specs.Readiness.{stands, IsReady}
+use Rattle.sq_flow.specs.Engines.{place_in, IsEngine}
+use Rattle.sq_start.specs.Nets.{streams_of}
+use Rattle.sq_start.specs.Laws.{IsNew, OutputsStartFull, CountsStart, CountsAt, fed_by_streams}
+use Rattle.sq_start.proofs.LawLemmas.{First}
+use Rattle.sq_core.specs.Meanings.{actors}
+use Rattle.sq_core.specs.Table.{ops_of, IsMeasured}
+use Rattle.sq_core.specs.Answers.{Answers}
+use Rattle.sq_core.proofs.TableLemmas.{box-streams, output-streams}
+use Rattle.sq_core.proofs.SeatLemmas.{one-shown}
+use Rattle.sq_core.proofs.PortFits.{box-reads}
+use Rattle.sq_core.proofs.SumLemmas.{sum-same, box-fed, work-is}
+use Rattle.sq_core.proofs.NewFlow.{left-is}
+
+-- ---- what is left
+
+pub new-answers : (n : Network) (sources : List (List Tuple)) → All IsStream sources → OutputsStartFull n → CountsStart n
+    → (flow : Flow Actor) (items : ℕ → List Item) → ((table : ℕ → ℕ → ℕ) → IsNew n sources (net_of flow.wires) (world_of actors table items flow))
+    → IsShaped flow.wires (ops_of n) → flow.wires.shown ≡ length n.boxes → length flow.seats.items ≡ ops_of n → flow.taken ≡ 0 → HoldsItems actors items flow
+    → Answers n sources items flow []
+new-answers n sources recorded shows counts flow items new shaped shown many none holds =
+    record {
+      holds = holds;
+      lines = λ table agrees output s is. left-is actors n sources recorded flow.wires shaped shown shows flow refl items table (new table) output s is;
+      fed = λ table agrees at low. (at-actor table at (omega (arith, low))).fed ∙ box-fed n sources at low;
+      late = λ table agrees at low. (at-actor table at (omega (arith, low))).lost;
+      work = λ table agrees. sum-same (fed_at_last actors table items flow) (fed_by_streams n sources) (length flow.seats.items) (λ actor low. (at-actor table actor (omega (arith, low, many))).fed)
+          ∙ all-work;
+      turns = λ table agrees.
+          let sum = sum-same _ (fed_by_streams n sources) (length flow.seats.items) (λ actor low. (at-actor table actor (omega (arith, low, many))).turns) in
+          let all = all-work in
+          omega (arith, sum, all, none);
+    }
+  where
+    at-actor : (table : ℕ → ℕ → ℕ) (actor : ℕ) → actor < ops_of n → CountsAt n sources (net_of flow.wires) (world_of actors table items flow) flow.wires.order.items actor
+    at-actor table actor low =
+        counts sources (net_of flow.wires) (world_of actors table items flow) recorded (new table) flow.wires.order.items shaped.wired actor (shaped.ordered actor low)
+        (λ e. (let r = shaped.replay_is in omega (arith, low, e, r)))
+
+    all-work : sum_below (fed_by_streams n sources) (length flow.seats.items) ≡ work_of n sources
+    all-work = ap (sum_below (fed_by_streams n sources)) many ∙ work-is n sources
+
+-- ---- what is to be released
+
+rise-from : (time : ℕ) (xs : List Tuple) → IsStream xs → AllByRecursion IsSoundTuple xs → First time xs → RiseFrom time xs
+rise-from time [] s t f = _
+rise-from time (x ∷ []) s t f = (f, t.0, _)
+rise-from time (x ∷ y ∷ xs) s t f = (f, t.0, rise-from x.time (y ∷ xs) s.1 t.1 s.0)
+
+pub rising : (queues : List (VecDeque Tuple Global)) → AllByRecursion IsStream (map (λ q. q.items) queues) → AllByRecursion (AllByRecursion IsSoundTuple) (map (λ q. q.items) queues)
+    → (source : ℕ) → RiseFrom 0 (tuples_at (slice_get queues source))
+rising [] s t source = _
+rising (q ∷ queues) s t zero = rise-from 0 q.items s.0 t.0 (first-zero q.items)
+  where
+    first-zero : (xs : List Tuple) → First 0 xs
+    first-zero [] = _
+    first-zero (x ∷ xs) = zero-le
+rising (q ∷ queues) s t (suc source) = rising queues s.1 t.1 source
+
+-- ---- which actors are ready
+
+only-zero : (xs : List ℕ) → OnlyOnce xs → contains xs 0 ≡ true → ((y : ℕ) → contains xs y ≡ true → y ≡ 0) → xs ≡ 0 ∷ []
+only-zero [] once there zero-only = cc there
+only-zero (x ∷ []) once there zero-only = ap (λ y. y ∷ []) (zero-only x (ap (λ b. b || false) (eqb-same x x refl)))
+only-zero (x ∷ y ∷ ys) once there zero-only =
+    let first : x ≡ 0 = zero-only x (ap (λ b. b || contains (y ∷ ys) x) (eqb-same x x refl)) in
+    let next : y ≡ 0 = zero-only y (or-true (eqb x y) (ap (λ b. b || contains ys y) (eqb-same y y refl))) in
+    let twice : contains (y ∷ ys) x ≡ true = ap (λ b. b || contains ys x) (eqb-same y x (next ∙ sym first)) in
+    cc (once.0, twice)
+  where
+    or-true : (b : Bool) {c : Bool} → c ≡ true → (b || c) ≡ true
+    or-true true h = refl
+    or-true false h = h
+
+none-past : {A : Type 0} (xs : List A) (i : ℕ) → length xs ≤ i → slice_get xs i ≡ None
+none-past [] i h = refl
+none-past (x ∷ xs) zero h = absurd (omega (arith, h))
+none-past (x ∷ xs) (suc i) h = none-past xs i (omega (arith, h))
+
+first-of : (xs : List ℕ) → 1 ≤ length xs → (x : ℕ) × (slice_get xs 0 ≡ Some x)
+first-of [] h = absurd (omega (arith, h))
+first-of (x ∷ xs) h = (x, refl)
+
+-- each operator takes a stream
+reads-some : (n : Network) → IsSound n → (actor : ℕ) → actor < ops_of n → 1 ≤ length (streams_of n actor)
+reads-some n sound actor low = by (slice_get n.boxes actor) refl
+  where
+    node-low : (bs : List Node) (at : ℕ) (b : Node) → slice_get bs at ≡ Some b → at < length bs
+    node-low [] at b is = cc is
+    node-low (y ∷ bs) zero b is = omega arith
+    node-low (y ∷ bs) (suc at) b is = (let h = node-low bs at b is in omega (arith, h))
+
+    none-high : (bs : List Node) (at : ℕ) → slice_get bs at ≡ None → length bs ≤ at
+    none-high [] at is = omega arith
+    none-high (y ∷ bs) zero is = cc is
+    none-high (y ∷ bs) (suc at) is = (let h = none-high bs at is in omega (arith, h))
+
+    by : (o : Option Node) → slice_get n.boxes actor ≡ o → 1 ≤ length (streams_of n actor)
+    by (Some b) is = subst (λ ss. 1 ≤ length ss) (sym (box-streams n actor (node-low n.boxes actor b is))) (box-reads n sound actor b is)
+    by None is =
+        let high = none-high n.boxes actor is in
+        let e : length n.boxes + (actor - length n.boxes) ≡ actor = omega (arith, high) in
+        let one = ap length (ap (streams_of n) (sym e) ∙ output-streams n (actor - length n.boxes)) ∙ one-shown n.wires.outputs (actor - length n.boxes) (omega (arith, high, low)) in
+        omega (arith, one)
+
+module _ {O : Type 0} (m : Meaning O) (valid : O → Type 0) (n : Network) (sound : IsSound n) (e : Engine O) (is : IsEngine m valid e)
+    (measured : IsMeasured n e.flow.wires) (many : length e.flow.seats.items ≡ ops_of n) (runs : e.flow.over ≡ false)
+    (bare : (arc : ℕ) → face e.flow.queues arc ≡ record { count = 0; first = None; ended = false }) where
+  replay-ready : IsReady e.flow (length e.flow.seats.items)
+  replay-ready =
+      record {
+        running = ap (done_at e.flow.over) (none-past e.flow.seats.items (length e.flow.seats.items) (omega arith)) ∙ runs;
+        standing = λ port arc here.
+            let len = is.flow.shaped.inputs_len in
+            let none : arcs_read e.flow.wires (length e.flow.seats.items) ≡ [] = ap numbers_in (none-past e.flow.wires.inputs.items (length e.flow.seats.items) (omega (arith, len))) in
+            let no : None ≡ Some arc = ap (λ l. slice_get l port) (sym none) ∙ here in
+            cc no;
+      }
+
+  not-ready : (actor : ℕ) → actor < ops_of n → IsReady e.flow actor → ⊥
+  not-ready actor low ready =
+      let some = reads-some n sound actor low in
+      let arcs = measured.many actor in
+      let arc = first-of (arcs_read e.flow.wires actor) (omega (arith, some, arcs)) in
+      let no : false ≡ true = ap stands (sym (bare arc.0)) ∙ ready.standing 0 arc.0 arc.1 in
+      cc no
+
+  only-replay : (actor : ℕ) → contains e.ready.list actor ≡ true → actor ≡ 0
+  only-replay zero there = refl
+  only-replay (suc k) there =
+      let low = is.below (suc k) there in
+      let room = is.room.actors in
+      let here : place_in (length e.flow.seats.items) (suc k) ≡ k =
+      ap (λ b. cond b (length e.flow.seats.items) (suc k - 1)) (eqb-not (suc k) 0 (λ z. cc z)) ∙ (omega arith) in
+      absurd (not-ready k (omega (arith, low, room, many)) (subst (IsReady e.flow) here ((is.exact (suc k) (omega (arith, low, room))).listed there)))
+
+  -- at the start the replay alone is ready
+  pub starts-ready : e.ready.list ≡ 0 ∷ []
+  starts-ready = only-zero e.ready.list is.once ((is.exact 0 (omega arith)).ready replay-ready) only-replay

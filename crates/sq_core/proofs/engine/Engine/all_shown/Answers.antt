@@ -1,0 +1,8 @@
+use Rattle.sq_core.proofs.EndLemmas.{shown-all}
+use Rattle.sq_core.proofs.engine.Engine.all_shown.Goals as goal
+
+pub returns : goal.returns
+returns c =
+    shown-all c.args.self.now
+    (record { lines = c.nothing_left.ensures.lines; fed = c.nothing_left.ensures.fed; lost = c.nothing_left.ensures.lost; work = c.nothing_left.ensures.work })
+    c.requires.done

@@ -1,0 +1,14 @@
+use Rattle.std.proofs.Common.{◌≡◌, ◌+◌, refl, arith}
+use Rattle.sq_core.proofs.engine.Engine.new.Goals as goal
+
+pub returns-clause-run : goal.returns-clause-run
+returns-clause-run c = λ pages steps.
+    let made = c.in_ok-engine.ensures in
+    let none = made.none_fed in
+    record {
+      network = refl;
+      sound = record { network = c.requires.sound; boxes = made.boxes; operators = made.operators; engine = made.engine };
+      together = made.together pages;
+      counted = omega (arith, none);
+      answers = λ told. made.answers pages;
+    }

@@ -1,0 +1,5 @@
+use Rattle.std.proofs.Common.{◌≡◌, map}
+use Rattle.sq_core.proofs.start.queued.Given as goal
+
+abbrev pub invariant-loop-source : goal.invariant-loop-source
+invariant-loop-source l = map (λ q. q.items) l.queues.items ≡ map (λ v. v.items) l.yielded

@@ -1,0 +1,190 @@
+//! The engine of a network.
+
+ghost use Rattle.std.specs.Prelude.{◌≡◌, ◌⊎◌, ◌^◌, ℕ, ◌+◌, ◌-◌, ◌<◌, ◌≤◌, ◌++◌, [], ◌∷◌, List, Option, OnOk, OnErr, IfOk, IfErr, true, false, is_some, length, map, slice_get};
+ghost use Rattle.std.specs.List.{AllByRecursion};
+ghost use Rattle.sq_value.specs.declared.Tuple.{Tuple};
+ghost use Rattle.sq_value.specs.Values.{IsStream};
+ghost use Rattle.sq_oper.specs.declared.outs.Event.{Event};
+ghost use Rattle.sq_oper.specs.Streams.{IsSoundTuple};
+ghost use Rattle.sq_outside.specs.Disks.{Pages};
+ghost use Rattle.sq_net.specs.declared.Network.{Network};
+ghost use Rattle.sq_net.specs.Sound.{IsSound};
+ghost use Rattle.sq_model.specs.Fit.{SourcesFit};
+ghost use Rattle.sq_queue.specs.Faces.{Tells, Together};
+ghost use Rattle.sq_sched.specs.Ready.{contains, AreActors};
+ghost use Rattle.sq_flow.specs.Events.{IsLineBelow};
+
+use crate::start::network_engine;
+use sq_actor::Actor;
+use sq_flow::{Progress, RunErr, State};
+use sq_net::Network;
+use sq_oper::Event;
+use sq_outside::{PageDisk, Steps};
+use sq_sched::{Pick, Ready};
+use sq_value::Tuple;
+use std::alloc::{AllocError, Global};
+use std::sync::ledger::Ledger;
+
+/// The engine of a network: the network, and its boxes and outputs at work. Actor 0 is the replay of the sources, then come the
+/// boxes in file order, and then the outputs.
+#[derive(Drop)]
+pub struct Engine {
+    pub network: Network,
+    pub engine: sq_flow::Engine<Actor>,
+}
+
+impl Engine {
+    ghost use Rattle.sq_flow.specs.Flows.{measure_of};
+    ghost use Rattle.sq_flow.specs.Readiness.{IsReady, FallsBy};
+    ghost use Rattle.sq_flow.specs.Engines.{place_in, listed_after, AllDone};
+    ghost use Rattle.sq_core.specs.Runs.{IsSoundEngine, IsRun, ShownSoFar, Stopped, ShownAll, fed_at, late_at};
+
+    /// An engine that has released nothing yet of what the sources recorded, one list for each source. `seed` is for draws, of
+    /// which there are none yet; `frames` is how many pages the queues may keep in memory.
+    pub fn new(
+        alloc: Global,
+        network: Network,
+        sources: Vec<Vec<Tuple>>,
+        seed: u64,
+        frames: u32,
+    ) -> Result<Engine, AllocError>
+        requires sound { IsSound network }
+        requires lists { length sources.items ≡ length network.sources }
+        requires streams { AllByRecursion IsStream (map (λ v. v.items) sources.items) }
+        requires tuples { AllByRecursion (AllByRecursion IsSoundTuple) (map (λ v. v.items) sources.items) }
+        requires fit { SourcesFit network (map (λ v. v.items) sources.items) }
+        requires frames { 2 ≤ frames }
+        ensures sound { IfOk result IsSoundEngine }
+        ensures run { IfOk result (λ e. (pages : Option Pages) (steps : ℕ) → IsRun network (map (λ v. v.items) sources.items) pages e [] steps steps) }
+        ensures ready { IfOk result (λ e. e.engine.ready.list ≡ 0 ∷ []) }
+    {
+        let _seed = seed;
+        let engine = network_engine(alloc, &network, sources, frames)?;
+        Ok(Engine { network, engine })
+    }
+
+    /// Up to `pick.train` atomic steps of a ready actor: it is fed the first item of its arcs, or releases the next tuple of the
+    /// sources, or is finished. It stops where the actor is finished or isn't ready any more. What it shows goes behind `events`.
+    ///
+    /// Whatever is picked, what was shown, and then what is left, stays the same. After an `Err` the engine has failed; what it
+    /// has shown is a beginning.
+    pub fn step<D: PageDisk, L: Ledger>(
+        &mut self,
+        pick: Pick,
+        disk: &mut D,
+        events: &mut Vec<Event>,
+        steps: &mut Steps<L>,
+    ) -> Result<Progress, RunErr>
+        requires sound { IsSoundEngine self.old }
+        requires together { Together self.old.engine.flow.queues (D.pages disk.old) }
+        requires ready { contains self.old.engine.ready.list pick.actor ≡ true }
+        requires some { 1 ≤ pick.train }
+        ensures network { self.new.network ≡ self.old.network }
+        ensures sound { OnOk result (IsSoundEngine self.new) }
+        ensures together { OnOk result (Together self.new.engine.flow.queues (D.pages disk.new)) }
+        ensures tells { OnOk result (is_some (D.pages disk.new) ≡ is_some (D.pages disk.old)) }
+        ensures run { OnOk result ((n : Network) (sources : List (List Tuple)) (history : List Event) (begun : ℕ)
+            → IsRun n sources (D.pages disk.old) self.old (history ++ events.old.items) begun steps.old
+            → IsRun n sources (D.pages disk.new) self.new (history ++ events.new.items) begun steps.new) }
+        ensures stopped { IfErr result (λ e. Tells (D.pages disk.old) → (n : Network) (sources : List (List Tuple)) (history : List Event) (begun : ℕ)
+            → IsRun n sources (D.pages disk.old) self.old (history ++ events.old.items) begun steps.old
+            → Stopped n sources (history ++ events.new.items) begun steps.new e) }
+        ensures counted { IfErr result (λ e. e ≡ RunErr.TooMuch → 2 ^ 62 ≤ self.new.engine.flow.taken + 2) }
+        ensures failed { OnErr result (self.new.engine.failed ≡ true) }
+        ensures shows { OnOk result (AllByRecursion (IsLineBelow (length self.old.network.outputs)) events.old.items → AllByRecursion (IsLineBelow (length self.old.network.outputs)) events.new.items) }
+        ensures order { OnOk result (self.new.engine.ready.list ≡ listed_after self.new.engine.flow self.old.engine.ready.list pick.actor) }
+        ensures measure { IfOk result (λ p. FallsBy p.fed p.finished (measure_of self.old.engine.flow) (measure_of self.new.engine.flow)) }
+        ensures works { IfOk result (λ p. (p.fed ≡ 0) → p.finished ≡ true) }
+        ensures most { IfOk result (λ p. p.fed ≤ pick.train) }
+        ensures stops { IfOk result (λ p. (p.fed ≡ pick.train) ⊎ ((p.finished ≡ true) ⊎ (IsReady self.new.engine.flow (place_in (length self.new.engine.flow.seats.items) pick.actor) → ⊥))) }
+    {
+        self.engine.step(pick, disk, events, steps)
+    }
+
+    /// Running as long as an actor isn't finished, and then the ready list isn't empty; done where all are; failed after an
+    /// `Err` of a step.
+    pub fn state(&self) -> State
+        requires { self.now.engine.failed ≡ false → IsSoundEngine self.now }
+        ensures runs { result ≡ State.Running → (0 < length self.now.engine.ready.list) × (self.now.engine.failed ≡ false) }
+        ensures done { result ≡ State.Done → AllDone self.now.engine.flow × (self.now.engine.failed ≡ false) }
+        ensures when_done { self.now.engine.failed ≡ false → AllDone self.now.engine.flow → result ≡ State.Done }
+        ensures failed { result ≡ State.Failed → self.now.engine.failed ≡ true }
+        ensures when_failed { self.now.engine.failed ≡ true → result ≡ State.Failed }
+    {
+        self.engine.state()
+    }
+
+    /// Whether no step may follow: all actors are finished, or a step failed.
+    pub fn ended(&self) -> bool
+        requires { self.now.engine.failed ≡ false → IsSoundEngine self.now }
+        ensures runs { result ≡ false → (0 < length self.now.engine.ready.list) × (self.now.engine.failed ≡ false) }
+        ensures done { self.now.engine.failed ≡ false → result ≡ true → AllDone self.now.engine.flow }
+        ensures when_done { AllDone self.now.engine.flow → result ≡ true }
+        ensures when_failed { self.now.engine.failed ≡ true → result ≡ true }
+    {
+        match self.engine.state() {
+            State::Running => false,
+            State::Done => true,
+            State::Failed => true,
+        }
+    }
+
+    /// The ready actors, in the order in which they became so.
+    pub fn ready(&self) -> &Ready
+        ensures { result.now ≡ self.now.engine.ready }
+    {
+        self.engine.ready()
+    }
+
+    /// How many items wait for each actor; 0 for the replay.
+    pub fn waits(&self) -> &Vec<u64>
+        requires { IsSoundEngine self.now }
+        ensures value { result.now ≡ self.now.engine.waits }
+        ensures actors { AreActors (length result.now.items) self.now.engine.ready.list }
+    {
+        self.engine.waits()
+    }
+
+    /// How many tuples a box was fed.
+    pub fn fed(&self, at: u32) -> u64
+        requires sound { IsSoundEngine self.now }
+        requires there { at < length self.now.network.boxes }
+        ensures { result ≡ fed_at self.now at }
+    {
+        self.engine.fed(at)
+    }
+
+    /// How many of the tuples that a box was fed it has neither given nor holds, where it is a BSort; 0 for any other box.
+    pub fn late(&self, at: u32) -> u64
+        requires sound { IsSoundEngine self.now }
+        requires there { at < length self.now.network.boxes }
+        ensures { result ≡ late_at self.now at }
+    {
+        self.engine.flow.seats[at as usize].op.late()
+    }
+
+    /// The network that the engine was made for.
+    pub fn network(&self) -> &Network
+        ensures { result.now ≡ self.now.network }
+    {
+        &self.network
+    }
+
+    /// At any time what was shown is a beginning of the answers, and no more was fed than they take.
+    pub fn shown_so_far(&self)
+        ensures { (n : Network) (sources : List (List Tuple)) (pages : Option Pages) (history : List Event) (begun steps : ℕ) → Tells pages
+            → IsRun n sources pages self.now history begun steps → ShownSoFar n sources history begun steps }
+    {
+        let _engine = self;
+    }
+
+    /// Where all actors are finished all answers were shown, and every tuple of the full streams was fed.
+    pub fn all_shown(&self)
+        requires sound { IsSoundEngine self.now }
+        requires done { AllDone self.now.engine.flow }
+        ensures { (n : Network) (sources : List (List Tuple)) (pages : Option Pages) (history : List Event) (begun steps : ℕ) → Tells pages
+            → IsRun n sources pages self.now history begun steps → ShownAll n sources self.now history begun steps }
+    {
+        self.engine.nothing_left();
+    }
+}

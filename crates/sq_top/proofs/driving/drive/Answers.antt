@@ -1,0 +1,40 @@
+use Rattle.std.proofs.Common.{refl, arith, ◌∙◌}
+use Rattle.sq_top.proofs.DrivingLemmas.{drive_ends, drive_lost, drive_stops, goes_none, goes_then}
+use Rattle.sq_top.proofs.driving.drive.Goals as goal
+
+pub steps-init : goal.steps-init
+steps-init g c = record {
+  sound = c.requires.sound;
+  together = c.requires.together;
+  network = refl;
+  tells = refl;
+  goes = goes_none _ _ _ _ _ c.new-2.ensures.items;
+  later = omega arith;
+}
+
+pub steps-preserved : goal.steps-preserved
+steps-preserved g c =
+    let before = c.steps.invariant in
+    record {
+      sound = c.in-Ok.ensures.sound;
+      together = c.in-Ok.ensures.together;
+      network = c.step_once.ensures.network ∙ before.network;
+      tells = c.in-Ok.ensures.tells ∙ before.tells;
+      goes = goes_then _ _ _ _ _ _ _ _ _ _ before.goes before.network _ _ _ _ _ c.in-Ok.ensures.ok;
+      later = omega (arith, before.later, c.step_once.ensures.later);
+    }
+
+pub returns-in-Err-clause-err : goal.returns-in-Err-clause-err
+returns-in-Err-clause-err g c n sources begun told run =
+    let before = c.steps.invariant in drive_stops _ _ _ _ _ _ _ _ _ before.goes before.tells n sources begun told run _ _ _ c.in-Err.ensures.err
+
+pub returns-in-Ok-send-clause-ok : goal.returns-in-Ok-send-clause-ok
+returns-in-Ok-send-clause-ok g c n sources begun told run =
+    let before = c.steps.invariant in
+    drive_ends _ _ _ _ _ _ _ _ _ before.goes before.tells n sources begun told run _ _ c.in-Ok-send.ensures.ok c.in-Ok-send.ensures.none_waits
+    (λ history now. c.all_shown.ensures n sources (g.D.PageDisk.pages c.steps.disk) history begun c.steps.steps (before.tells ∙ told) now)
+
+pub returns-in-Err-send-clause-err : goal.returns-in-Err-send-clause-err
+returns-in-Err-send-clause-err g c n sources begun told run =
+    let before = c.steps.invariant in
+    drive_lost _ _ _ _ _ _ _ _ _ before.goes before.tells n sources begun told run _ _ _ _ c.in-Err-send.ensures.err c.in-Err-send.ensures.lost

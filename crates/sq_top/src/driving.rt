@@ -1,0 +1,160 @@
+// A run, driven to its end.
+ghost use Rattle.std.specs.Prelude.{◌≡◌, ◌⊎◌, ℕ, ◌+◌, ◌≤◌, ◌<◌, ◌++◌, [], IfErr, IfOk, List, OnErr, OnOk, is_some, length};
+ghost use Rattle.std.specs.List.{AllByRecursion};
+ghost use Rattle.sq_value.specs.declared.Tuple.{Tuple};
+ghost use Rattle.sq_net.specs.declared.Network.{Network};
+ghost use Rattle.sq_oper.specs.declared.outs.Event.{Event};
+ghost use Rattle.sq_replay.specs.Shown.{event_line};
+ghost use Rattle.sq_outside.specs.Sinks.{AppendsPrefix, appended};
+ghost use Rattle.sq_queue.specs.Faces.{Tells, Together};
+ghost use Rattle.sq_flow.specs.Flows.{measure_of};
+ghost use Rattle.sq_flow.specs.Engines.{AllDone};
+ghost use Rattle.sq_core.specs.Runs.{IsRun, IsSoundEngine};
+ghost use Rattle.sq_top.specs.Writing.{IsLost, Moves};
+ghost use Rattle.sq_top.specs.Driving.{GoesOn, IsCutShort, IsDriven, IsHalted, IsLineIn, Stops, history_text};
+
+use crate::Status;
+use crate::writing::{send, send_piece};
+use sq_core::Engine;
+use sq_flow::RunErr;
+use sq_net::Network;
+use sq_oper::Event;
+use sq_outside::{PageDisk, Sink, Steps};
+use sq_replay::event_line;
+use sq_sched::Policy;
+use std::alloc::Global;
+use std::sync::ledger::Ledger;
+
+/// What a run holds between two picks.
+#[derive(Drop)]
+struct Held {
+    /// What one pick has shown: its memory is used again.
+    events: Vec<Event>,
+    /// Lines that wait to be written.
+    text: Vec<u8>,
+}
+
+/// Writes the line of an event.
+fn show_event<S: Sink>(
+    network: &Network,
+    event: &Event,
+    text: &mut Vec<u8>,
+    out: &mut S,
+) -> Result<(), Status>
+    requires there { IsLineIn network.now event.now }
+    ensures ok { OnOk result (Moves (S.written out.old) text.old.items (S.written out.new) text.new.items (event_line network.now event.now)) }
+    ensures err { OnErr result (AppendsPrefix (S.written out.old) (S.written out.new) (text.old.items ++ event_line network.now event.now)) }
+    ensures lost { IfErr result (λ s. IsLost (S.faults out.old) (S.faults out.new) s) }
+    ensures later { S.faults out.old ≤ S.faults out.new }
+{
+    match event_line(network, event, text) {
+        Ok(()) => send_piece(text, out),
+        Err(_) => Err(Status::Memory),
+    }
+}
+
+/// Writes the lines of events.
+fn show_events<S: Sink>(
+    network: &Network,
+    events: &[Event],
+    text: &mut Vec<u8>,
+    out: &mut S,
+) -> Result<(), Status>
+    requires there { AllByRecursion (IsLineIn network.now) events.now }
+    ensures ok { OnOk result (Moves (S.written out.old) text.old.items (S.written out.new) text.new.items (history_text network.now events.now)) }
+    ensures err { OnErr result (AppendsPrefix (S.written out.old) (S.written out.new) (text.old.items ++ history_text network.now events.now)) }
+    ensures lost { IfErr result (λ s. IsLost (S.faults out.old) (S.faults out.new) s) }
+    ensures later { S.faults out.old ≤ S.faults out.new }
+{
+    'events: for event in events {
+        match show_event(network, event, text, out) {
+            Ok(()) => {}
+            Err(status) => return Err(status),
+        }
+    }
+    Ok(())
+}
+
+/// How a run ends whose engine stopped. Items come back as they were pushed, so none of them is strange.
+fn status_of(e: RunErr) -> Status
+    ensures cause { (result ≡ Status.Memory) ⊎ ((result ≡ Status.TooMuch) × (e ≡ RunErr.TooMuch)) }
+{
+    match e {
+        RunErr::TooMuch => Status::TooMuch,
+        RunErr::Strange { .. } => Status::Memory,
+        RunErr::Memory => Status::Memory,
+    }
+}
+
+/// Up to a train of steps of the actor that the policy picks, and the lines of what they show.
+fn step_once<D: PageDisk, S: Sink, L: Ledger>(
+    engine: &mut Engine,
+    policy: &mut Policy,
+    disk: &mut D,
+    held: &mut Held,
+    out: &mut S,
+    steps: &mut Steps<L>,
+) -> Result<(), Status>
+    requires sound { IsSoundEngine engine.old }
+    requires together { Together engine.old.engine.flow.queues (D.pages disk.old) }
+    requires runs { 0 < length engine.old.engine.ready.list }
+    ensures sound { OnOk result (IsSoundEngine engine.new) }
+    ensures together { OnOk result (Together engine.new.engine.flow.queues (D.pages disk.new)) }
+    ensures network { engine.new.network ≡ engine.old.network }
+    ensures tells { OnOk result (is_some (D.pages disk.new) ≡ is_some (D.pages disk.old)) }
+    ensures falls { OnOk result (measure_of engine.new.engine.flow < measure_of engine.old.engine.flow) }
+    ensures ok { OnOk result (GoesOn (D.pages disk.old) (D.pages disk.new) engine.old engine.new steps.old steps.new (S.written out.old) held.old.text.items (S.written out.new) held.new.text.items) }
+    ensures err { IfErr result (λ s. Stops (D.pages disk.old) engine.old steps.old steps.new (S.written out.old) held.old.text.items (S.written out.new) s) }
+    ensures lost { IfErr result (λ s. IsCutShort (S.faults out.old) (S.faults out.new) s) }
+    ensures later { S.faults out.old ≤ S.faults out.new }
+{
+    let pick = policy.next(engine.ready(), engine.waits());
+    held.events.clear();
+    match engine.step(pick, disk, &mut held.events, steps) {
+        Ok(_) => show_events(&engine.network, held.events.as_slice(), &mut held.text, out),
+        Err(e) => Err(status_of(e)),
+    }
+}
+
+/// Steps an engine by the picks of a policy until it has ended, and writes the line of each event.
+///
+/// # Errors
+/// `SinkFault` where the output failed, `TooMuch` where more is to be fed than is counted, `Memory`. What was written by then begins
+/// the lines of such a run.
+pub fn drive<D: PageDisk, S: Sink, L: Ledger>(
+    alloc: Global,
+    mut engine: Engine,
+    mut policy: Policy,
+    disk: &mut D,
+    out: &mut S,
+    steps: &mut Steps<L>,
+) -> Result<Engine, Status>
+    requires sound { IsSoundEngine engine }
+    requires together { Together engine.engine.flow.queues (D.pages disk.old) }
+    ensures sound { IfOk result (λ e. IsSoundEngine e) }
+    ensures done { IfOk result (λ e. AllDone e.engine.flow) }
+    ensures network { IfOk result (λ e. e.network ≡ engine.network) }
+    ensures ok { IfOk result (λ e. (n : Network) (sources : List (List Tuple)) (begun : ℕ) → Tells (D.pages disk.old) → IsRun n sources (D.pages disk.old) engine [] begun steps.old
+        → IsDriven n sources e (S.written out.old) (S.written out.new) begun steps.new) }
+    ensures err { IfErr result (λ s. (n : Network) (sources : List (List Tuple)) (begun : ℕ) → Tells (D.pages disk.old) → IsRun n sources (D.pages disk.old) engine [] begun steps.old
+        → IsHalted n sources s (S.written out.old) (S.written out.new) begun steps.new) }
+    ensures lost { IfErr result (λ s. IsCutShort (S.faults out.old) (S.faults out.new) s) }
+    ensures later { S.faults out.old ≤ S.faults out.new }
+    ensures tells { OnOk result (is_some (D.pages disk.new) ≡ is_some (D.pages disk.old)) }
+{
+    let mut held = Held {
+        events: Vec::new(alloc),
+        text: Vec::new(alloc),
+    };
+    'steps: while !engine.ended() {
+        match step_once(&mut engine, &mut policy, disk, &mut held, out, steps) {
+            Ok(()) => {}
+            Err(status) => return Err(status),
+        }
+    }
+    engine.all_shown();
+    match send(&mut held.text, out) {
+        Ok(()) => Ok(engine),
+        Err(status) => Err(status),
+    }
+}
