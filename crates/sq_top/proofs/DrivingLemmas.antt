@@ -21,6 +21,7 @@ use Rattle.sq_flow.specs.declared.errors.RunErr.TheVariants as run_err
 use Rattle.sq_flow.specs.Events.{lines_of}
 use Rattle.sq_core.specs.declared.engine.Engine.{Engine}
 use Rattle.sq_core.specs.Runs.{IsRun, ShownAll, ShownSoFar, Stopped}
+use Rattle.sq_core.proofs.RunLemmas.{shown-so-far}
 use Rattle.sq_top.specs.declared.Status.{Status}
 use Rattle.sq_top.specs.declared.Status.TheVariants as status
 use Rattle.sq_top.specs.Writing.{IsLost, Moves}
@@ -45,7 +46,7 @@ not_too_much P faults faults' s (inr sink) e = let both : status.SinkFault ≡ s
 
 so_far : (n : Network) (sources : List (List Tuple)) (pages : Option Pages) (engine : Engine) (history : List Event) (begun steps : ℕ) → IsRun n sources pages engine history begun steps → Tells pages
     → ShownSoFar n sources history begun steps
-so_far n sources pages engine history begun steps run tells = run.so_far tells
+so_far n sources pages engine history begun steps run tells = shown-so-far engine n sources pages history begun steps tells run
 
 -- one step, of an engine that showed nothing before it
 module _ (was : Option Pages) (from : Engine) (begun now : ℕ) (cleared shown : List Event) (none : cleared ≡ []) where
@@ -101,7 +102,7 @@ module _ (was : Option Pages) (from : Engine) (begun now : ℕ) (cleared shown :
         shown = tt;
         lines = λ o k at. subst (λ xs. IsPrefixOf (lines_of o xs) (full_stream n sources k)) (sym (append-nil history)) (far.lines o k at);
         written = lost_at_once before (waited ++ []);
-        work = halt.work;
+        work = halt.so_far.work;
         too_much = by cause (2 ^ 62 ≤ work_of n sources) halt.turns;
       }
     where

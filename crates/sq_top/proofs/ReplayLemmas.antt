@@ -16,7 +16,7 @@ use Rattle.sq_model.proofs.FullLemmas.{full_listed}
 use Rattle.sq_model.proofs.PlacedLemmas.{placed_of}
 use Rattle.sq_flow.specs.Events.{lines_of}
 use Rattle.sq_core.specs.declared.engine.Engine.{Engine}
-use Rattle.sq_core.specs.Runs.{fed_at, lost_by}
+use Rattle.sq_core.specs.Runs.{fed_at, late_at}
 use Rattle.sq_top.specs.declared.Status.{Status}
 use Rattle.sq_top.specs.Due.{Due, due_from}
 use Rattle.sq_top.specs.Answers.{IsPrefixText, IsWholeText}
@@ -65,9 +65,9 @@ module _ (n : Network) (sound : IsSound n) (sources : List (List Tuple)) where
   module _ (engine : Engine) (same : engine.network ≡ n) (before mid : Option (List ℕ)) (begun steps : ℕ) (driven : IsDriven n sources engine before mid begun steps) where
     ends_are : ends_text engine ≡ text_of due.ended
     ends_are =
-        ap (λ (m : Network). text_of (end_lines m (map (fed_at engine) (numbers_to (length m.boxes))) (map (lost_by engine) (numbers_to (length m.boxes))))) same
+        ap (λ (m : Network). text_of (end_lines m (map (fed_at engine) (numbers_to (length m.boxes))) (map (late_at engine) (numbers_to (length m.boxes))))) same
         ∙ ap₂ (λ fed late. text_of (end_lines n fed late))
-        (same_numbers (fed_at engine) (fed_of n sources) (length n.boxes) driven.fed) (same_numbers (lost_by engine) (late_of n sources) (length n.boxes) driven.late)
+        (same_numbers (fed_at engine) (fed_of n sources) (length n.boxes) driven.fed) (same_numbers (late_at engine) (late_of n sources) (length n.boxes) driven.late)
 
     -- its lines are all written
     pub replay_ends : (now : Option (List ℕ)) → now ≡ appended mid (ends_text engine) → AppendsSuch before now (IsWholeText due)

@@ -13,7 +13,7 @@ use Rattle.sq_model.specs.Fed.{fed_of, late_of, work_of}
 use Rattle.sq_queue.specs.Faces.{Tells}
 use Rattle.sq_flow.specs.Events.{IsLineBelow, lines_of}
 use Rattle.sq_core.specs.declared.engine.Engine.{Engine}
-use Rattle.sq_core.specs.Runs.{IsRun, fed_at, lost_by}
+use Rattle.sq_core.specs.Runs.{IsRun, fed_at, late_at}
 use Rattle.sq_top.specs.declared.Status.{Status}
 use Rattle.sq_top.specs.declared.Status.TheVariants as status
 use Rattle.sq_top.specs.Writing.{IsLost, Moves}
@@ -43,7 +43,7 @@ pub record IsDriven (n : Network) (sources : List (List Tuple)) (engine : Engine
   pub shows : ShowsAll n (full_stream n sources) history
   pub written : now ≡ appended before (history_text n history)
   pub fed : (at : ℕ) → at < length n.boxes → fed_at engine at ≡ fed_of n sources at
-  pub late : (at : ℕ) → at < length n.boxes → lost_by engine at ≡ late_of n sources at
+  pub late : (at : ℕ) → at < length n.boxes → late_at engine at ≡ late_of n sources at
   pub work : steps ≡ begun + work_of n sources
 
 -- a run stopped on its way: what was written begins the text of a history in which each output shows the first tuples of its full
@@ -55,9 +55,9 @@ pub record IsHalted (n : Network) (sources : List (List Tuple)) (result : Status
   pub work : steps ≤ begun + work_of n sources
   pub too_much : result ≡ status.TooMuch → 2 ^ 62 ≤ work_of n sources
 
--- the end lines of an engine in which nothing is left
+-- the end lines by what the boxes of an engine were fed
 abbrev pub ends_text : Engine → List ℕ
-ends_text e = text_of (end_lines e.network (map (fed_at e) (numbers_to (length e.network.boxes))) (map (lost_by e) (numbers_to (length e.network.boxes))))
+ends_text e = text_of (end_lines e.network (map (fed_at e) (numbers_to (length e.network.boxes))) (map (late_at e) (numbers_to (length e.network.boxes))))
 
 -- memory ran out, the sink failed, or too much was to be fed
 abbrev pub IsCutShort : ℕ → ℕ → Status → Type 0

@@ -3,8 +3,7 @@ ghost use Rattle.std.specs.Prelude.{◌≡◌, ◌≤◌, ◌++◌, [], IfErr, I
 ghost use Rattle.sq_value.specs.Lists.{numbers_to};
 ghost use Rattle.sq_net.specs.Sound.{IsSound};
 ghost use Rattle.sq_outside.specs.Sinks.{AppendsPrefix, appended};
-ghost use Rattle.sq_flow.specs.Engines.{AllDone};
-ghost use Rattle.sq_core.specs.Runs.{IsSoundEngine, fed_at, lost_by};
+ghost use Rattle.sq_core.specs.Runs.{IsSoundEngine, fed_at, late_at};
 ghost use Rattle.sq_top.specs.Writing.{IsLost, Moves};
 ghost use Rattle.sq_top.specs.Driving.{ends_text};
 
@@ -69,11 +68,10 @@ fn count_fed(alloc: Global, engine: &Engine) -> Result<Vec<u64>, AllocError>
     Ok(fed)
 }
 
-/// How many of them each box has lost, where nothing more comes, in file order.
+/// How many of them each box has neither given nor holds, in file order.
 fn count_late(alloc: Global, engine: &Engine) -> Result<Vec<u64>, AllocError>
-    requires sound { IsSoundEngine engine.now }
-    requires done { AllDone engine.now.engine.flow }
-    ensures { IfOk result (λ v. v.items ≡ map (lost_by engine.now) (numbers_to (length engine.now.network.boxes))) }
+    requires { IsSoundEngine engine.now }
+    ensures { IfOk result (λ v. v.items ≡ map (late_at engine.now) (numbers_to (length engine.now.network.boxes))) }
 {
     let mut late = Vec::new(alloc);
     for at in 0..count_boxes(&engine.network) {
@@ -82,10 +80,9 @@ fn count_late(alloc: Global, engine: &Engine) -> Result<Vec<u64>, AllocError>
     Ok(late)
 }
 
-/// Appends the end lines of an engine that is done.
+/// Appends the end lines by what the boxes of an engine were fed.
 fn append_ends(alloc: Global, engine: &Engine, text: &mut Vec<u8>) -> Result<(), AllocError>
-    requires sound { IsSoundEngine engine.now }
-    requires done { AllDone engine.now.engine.flow }
+    requires { IsSoundEngine engine.now }
     ensures ok { OnOk result (text.new.items ≡ text.old.items ++ ends_text engine.now) }
 {
     let fed = count_fed(alloc, engine)?;
@@ -93,10 +90,9 @@ fn append_ends(alloc: Global, engine: &Engine, text: &mut Vec<u8>) -> Result<(),
     end_lines(&engine.network, &fed, &late, text)
 }
 
-/// Writes the end lines of an engine that is done.
+/// Writes the end lines by what the boxes of an engine were fed.
 pub fn write_ends<S: Sink>(alloc: Global, engine: &Engine, out: &mut S) -> Result<(), Status>
-    requires sound { IsSoundEngine engine.now }
-    requires done { AllDone engine.now.engine.flow }
+    requires { IsSoundEngine engine.now }
     ensures ok { OnOk result (S.written out.new ≡ appended (S.written out.old) (ends_text engine.now)) }
     ensures err { OnErr result (AppendsPrefix (S.written out.old) (S.written out.new) (ends_text engine.now)) }
     ensures lost { IfErr result (λ s. IsLost (S.faults out.old) (S.faults out.new) s) }
