@@ -2,7 +2,8 @@
 //!
 //! The contracts promise exactly the drop points of the definition in `specs/`, with what is below each, its distances and
 //! its numbers, or the first that breaks a rule; and that no arc, box or output is below two. Each place costs one walk
-//! along the boxes and their arcs. Below stand the wiring of `sq_graph` and the windows of `sq_aggfn`.
+//! along the boxes and their arcs. Below stand the wiring of `sq_graph` and the windows of `sq_aggfn`. Dropping whole windows
+//! early is after window-aware load shedding (N. Tatbul and S. Zdonik, VLDB 2006); the rules are this project's own.
 #![tactic(auto)]
 
 mod drops;
