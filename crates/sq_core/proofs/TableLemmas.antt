@@ -41,9 +41,8 @@ boxes_low n sound =
 pub outputs_low : (n : Network) → IsSound n → length n.wires.outputs ≤ 32
 outputs_low n sound =
     let few : is_between 1 32 (length n.outputs) ≡ true = (and_parts _ _ (and_parts _ _ (and_parts _ _ (and_parts _ _ (and_parts _ _ (and_parts _ _ (and_parts _ _ sound.within).0).0).0).0).0).0).1 in
-    let e = sound.agrees.outputs in
-    let low = at-most 1 32 (length n.outputs) few in
-    omega (arith, e, low)
+    let low : length n.outputs ≤ 32 = at-most 1 32 (length n.outputs) few in
+    subst (λ k. k ≤ 32) (sym sound.agrees.outputs) low
 
 -- ---- rows of the table
 

@@ -1,5 +1,5 @@
--- A Union of two sources is sound, and what the tests record fits it.
-use Rattle.std.proofs.Common.{◌≡◌, ℕ, zero, suc, ◌<◌, ◌≤◌, lit<, lit≤, true, List, [], ◌∷◌, length, Some, slice_get, refl, ap, sym, ◌∙◌, subst, pos}
+-- A Union of two sources is a sound network.
+use Rattle.std.proofs.Common.{◌≡◌, ℕ, zero, suc, ◌<◌, lit≤, Bool, true, false, arith, List, [], ◌∷◌, length, Some, slice_get, refl, ap, sym, ◌∙◌, subst, pos}
 use Rattle.std.specs.Prelude.{codes}
 use Rattle.std.specs.List.{All}
 use Rattle.std.proofs.lemmas.List.Elements.{All-from_recursion}
@@ -71,17 +71,3 @@ sound-joined =
 pub sound-parts : (w : Wiring) (ss : List Source) (bs : List Node) (os : List Output) → w ≡ wiring → ss ≡ two → bs ≡ union ∷ [] → os ≡ shown ∷ []
     → IsSound (record { epoch = 1000; batch = 1; wires = w; sources = ss; boxes = bs; outputs = os })
 sound-parts w ss bs os a b c d = rw (a, b, c, d) sound-joined
-
-abbrev at : ℕ → ℕ → Tuple
-at t v = record { time = t; fields = value.Int (pos v) ∷ [] }
-
-abbrev pub recorded : List (List Tuple)
-recorded = (at 1 10 ∷ at 3 30 ∷ []) ∷ (at 2 20 ∷ []) ∷ []
-
-fits-at : (s : ℕ) (x : Source) → slice_get two s ≡ Some x → FitsOption (Some x.schema) (nth recorded s)
-fits-at zero x is = (let e : numbers ≡ x.schema = cc is in subst (λ cs. FitsOption (Some cs) (nth recorded 0)) e (refl, (refl, tt)))
-fits-at (suc zero) x is = (let e : numbers ≡ x.schema = cc is in subst (λ cs. FitsOption (Some cs) (nth recorded 1)) e (refl, tt))
-fits-at (suc (suc s)) x is = cc is
-
-pub fits-two : (n : Network) → n.sources ≡ two → SourcesFit n recorded
-fits-two n is = λ s x here. fits-at s x (ap (λ l. slice_get l s) (sym is) ∙ here)

@@ -1,8 +1,9 @@
 // A network of two sources, of a Union that joins them, and of an output that shows it.
-ghost use Rattle.std.specs.Prelude.{◌≡◌, ◌<◌, [], ◌∷◌, map, length, codes, false, pos, IfOk, OnOk};
+ghost use Rattle.std.specs.Prelude.{◌≡◌, ◌<◌, [], ◌∷◌, map, length, codes, false, pos, IfOk, OnOk, Option};
 ghost use Rattle.std.specs.List.{AllByRecursion};
 ghost use Rattle.sq_value.specs.Values.{IsStream};
 ghost use Rattle.sq_oper.specs.Streams.{IsSoundTuple};
+ghost use Rattle.sq_outside.specs.Disks.{Pages};
 ghost use Rattle.sq_net.specs.Sound.{IsSound};
 ghost use Rattle.sq_model.specs.Fit.{SourcesFit};
 ghost use Rattle.sq_queue.specs.Faces.{Together};
@@ -108,7 +109,8 @@ fn streams(alloc: Global) -> Result<Vec<Vec<Tuple>>, AllocError>
 }
 
 fn new_engine(alloc: Global) -> Result<Engine, Fail>
-    ensures { IfOk result IsSoundEngine }
+    ensures sound { IfOk result IsSoundEngine }
+    ensures together { IfOk result (λ e. (pages : Option Pages) → Together e.engine.flow.queues pages) }
 {
     Ok(Engine::new(alloc, network(alloc)?, streams(alloc)?, 0, 2)?)
 }
@@ -135,6 +137,18 @@ fn run_to_end<D: PageDisk, L: Ledger>(
     Ok(())
 }
 
+// What an engine shows over a disk in memory.
+fn events_of(alloc: Global, engine: &mut Engine) -> Result<Vec<Event>, Fail>
+    requires sound { IsSoundEngine engine.old }
+    requires together { (pages : Option Pages) → Together engine.old.engine.flow.queues pages }
+    ensures sound { OnOk result (IsSoundEngine engine.new) }
+{
+    let mut disk = MemDisk::new(alloc, Vec::new(alloc), Vec::new(alloc));
+    let mut events = Vec::new(alloc);
+    run_to_end::<MemDisk, Brand>(engine, &mut disk, &mut events, Blank::new(1))?;
+    Ok(events)
+}
+
 // The numbers that output 0 showed, if it showed nothing else.
 fn numbers_shown(alloc: Global, events: &[Event]) -> Result<Vec<i64>, Fail> {
     let mut shown = Vec::new(alloc);
@@ -154,10 +168,8 @@ fn numbers_shown(alloc: Global, events: &[Event]) -> Result<Vec<i64>, Fail> {
 fn a_union_shows_both_sources_by_time(rt: HostRuntime) -> Result<(), Fail> {
     let alloc = rt.alloc();
     let mut engine = new_engine(alloc)?;
-    let mut disk = MemDisk::new(alloc, Vec::new(alloc), Vec::new(alloc));
-    let mut events = Vec::new(alloc);
     assert_eq!(rt; engine.waits().as_slice(), [0, 0, 0].as_slice());
-    run_to_end::<MemDisk, Brand>(&mut engine, &mut disk, &mut events, Blank::new(1))?;
+    let events = events_of(alloc, &mut engine)?;
     assert_eq!(rt;
         numbers_shown(alloc, &events)?.as_slice(),
         [10, 20, 30].as_slice()
