@@ -38,3 +38,9 @@ pub returns-in-Err-send-clause-err : goal.returns-in-Err-send-clause-err
 returns-in-Err-send-clause-err g c n sources begun told run =
     let before = c.steps.invariant in
     drive_lost _ _ _ _ _ _ _ _ _ before.goes before.tells n sources begun told run _ _ _ _ c.in-Err-send.ensures.err c.in-Err-send.ensures.lost
+
+pub all_shown-requires-clause-done : goal.all_shown-requires-clause-done
+all_shown-requires-clause-done g c = c.steps-test.ensures.done c.steps.invariant.sound.engine.running refl
+
+pub returns-in-Ok-send-clause-done : goal.returns-in-Ok-send-clause-done
+returns-in-Ok-send-clause-done g c = c.steps-test.ensures.done c.steps.invariant.sound.engine.running refl
