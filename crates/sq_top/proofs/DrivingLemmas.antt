@@ -56,7 +56,7 @@ module _ (was : Option Pages) (from : Engine) (begun now : ℕ) (cleared shown :
 
   module _ (is : Option Pages) (to : Engine) (lines : AllByRecursion (IsLineIn from.network) cleared → AllByRecursion (IsLineIn from.network) shown)
       (goes : (n : Network) (sources : List (List Tuple)) (history : List Event) (start : ℕ) → IsRun n sources was from (history ++ cleared) start begun
-          → IsRun n sources is to (history ++ shown) start now)
+      → IsRun n sources is to (history ++ shown) start now)
       (same : to.network ≡ from.network) where
     lines_here : AllByRecursion (IsLineIn from.network) shown
     lines_here = lines (subst (AllByRecursion (IsLineIn from.network)) (sym none) tt)
@@ -92,7 +92,7 @@ module _ (was : Option Pages) (from : Engine) (begun now : ℕ) (cleared shown :
   -- it failed
   pub step_stops : (before : Option (List ℕ)) (waited : List ℕ) (e : RunErr) (s : Status) → (s ≡ status.Memory) ⊎ ((s ≡ status.TooMuch) × (e ≡ run_err.TooMuch))
       → (Tells was → (n : Network) (sources : List (List Tuple)) (history : List Event) (start : ℕ) → IsRun n sources was from (history ++ cleared) start begun
-          → Stopped n sources (history ++ shown) start now e)
+      → Stopped n sources (history ++ shown) start now e)
       → Stops was from begun now before waited before s
   step_stops before waited e s cause stopped n sources history start told run =
       let far = so_far n sources was from history start begun run told in

@@ -14,8 +14,8 @@ ghost use Rattle.sq_top.specs.Recorded.{AreRecorded};
 ghost use Rattle.sq_top.specs.Views.{replay_of};
 
 use crate::Status;
-use crate::messages::message;
 use crate::driving::drive;
+use crate::messages::message;
 use crate::reading::{Accepted, Stopped, prepare};
 use crate::writing::write_ends;
 use sq_core::Engine;
