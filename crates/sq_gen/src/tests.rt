@@ -1,0 +1,17 @@
+use super::*;
+use std::test::Fail;
+
+/// The words at number 1 begin 57767974, 3238378154; at number 7 they begin 3983464698, 4158475212, 3231508772, 3623616569,
+/// 3248273381, 1737382028.
+#[test]
+fn lines_are_of_the_generators_words(rt: HostRuntime) -> Result<(), Fail> {
+    let alloc = rt.alloc();
+    let made = generate(alloc, 1, 1)?;
+    assert_eq!(rt; made.stream.as_slice(), b"0,0,S16,1054\n".as_slice());
+    let made = generate(alloc, 7, 3)?;
+    let lines = b"0,0,S07,1012\n1,0,S16,1069\n2,0,S12,1028\n";
+    assert_eq!(rt; made.stream.as_slice(), lines.as_slice());
+    assert_eq!(rt; made.net.as_slice().len(), 573);
+    assert_eq!(rt; made.capacities.as_slice(), b"1,12000000000\n".as_slice());
+    Ok(())
+}
