@@ -1,5 +1,5 @@
 -- One word more, and one line more.
-use Rattle.std.proofs.Common.{◌≡◌, ℕ, zero, suc, ◌+◌, ◌*◌, List, ◌++◌, append_assoc, append-nil, refl, sym, ap, ◌∙◌, arith, add-one}
+use Rattle.std.proofs.Common.{◌≡◌, ℕ, zero, suc, ◌+◌, List, [], ◌++◌, append_assoc, append-nil, refl, sym, ap, ◌∙◌, arith, add-one}
 use Rattle.std.specs.List.{flat_map, range_with_len}
 use Rattle.rand_pcg.specs.Lcg.{Lcg, advance, next, state_after}
 use Rattle.rand_pcg.specs.Pcg.{multiplier_64, output_xsh_rr, pcg32}
@@ -34,6 +34,11 @@ flat_map-more f a (suc n) j e =
     ap (λ l. f a ++ l) (flat_map-more f (a + 1) n j (omega arith))
     ∙ sym (append_assoc (f a) (flat_map f (range_with_len (a + 1) n)) (f j))
 
+pub stream_of-none : (number : ℕ) → stream_of number 0 ≡ []
+unfolding stream_of
+stream_of-none number = refl
+
 pub stream_of-more : (number i : ℕ) → stream_of number (i + 1) ≡ stream_of number i ++ line_at number i
+unfolding stream_of
 stream_of-more number i =
     ap (stream_of number) (add-one i) ∙ flat_map-more (line_at number) 0 i i (omega arith)

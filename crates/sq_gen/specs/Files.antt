@@ -1,4 +1,4 @@
--- The files that a number gives.
+-- The files that a number gives. To the layers above, the three texts are just these words.
 use Rattle.std.specs.Prelude.{ℕ, ◌+◌, ◌-◌, ◌*◌, ◌/◌, ◌%◌, min, List, [], ◌∷◌, ◌++◌, codes}
 use Rattle.std.specs.Fmt.{decimal}
 use Rattle.std.specs.List.{flat_map}
@@ -34,20 +34,20 @@ abbrev pub price_of : ℕ → ℕ
 price_of word = 1000 + word % 100
 
 -- line i by its two words
-abbrev pub line_of : ℕ → ℕ → ℕ → List ℕ
-line_of i first second =
+abbrev pub trade_line : ℕ → ℕ → ℕ → List ℕ
+trade_line i first second =
     decimal i ++ codes "," ++ decimal (at_of i first) ++ codes "," ++ symbol_of first ++ codes "," ++ decimal (price_of second) ++ codes "\n"
 
 -- line i of a number's stream
 abbrev pub line_at : ℕ → ℕ → List ℕ
-line_at number i = line_of i (word_of number (2 * i)) (word_of number (2 * i + 1))
+line_at number i = trade_line i (word_of number (2 * i)) (word_of number (2 * i + 1))
 
 -- the lines 0, 1, .., rows - 1
-abbrev pub stream_of : ℕ → ℕ → List ℕ
+unfoldable pub stream_of : ℕ → ℕ → List ℕ
 stream_of number rows = flat_map (line_at number) (numbers_to rows)
 
 -- no limit in epoch 0, and one that is too small from epoch 1 on
-abbrev pub capacities_text : List ℕ
+unfoldable pub capacities_text : List ℕ
 capacities_text = codes "1,12000000000\n"
 
 abbrev pub made_of : ℕ → ℕ → Made

@@ -42,5 +42,5 @@ net_lines =
     ∷ codes "graph = [[0, 0], [500, 800000], [1000, 1000000]]"
     ∷ []
 
-abbrev pub net_text : List ℕ
+unfoldable pub net_text : List ℕ
 net_text = flat_map (λ line. line ++ codes "\n") net_lines

@@ -24,13 +24,14 @@ const CAPACITIES: &str = "1,12000000000\n";
 pub struct Made {
     /// The network, which has the one source `trades.csv`.
     pub net: ListOf<u8>,
-    /// `trades.csv`: a trade a tick, told of up to 7 ticks late.
+    /// `trades.csv`: a trade a tick, each with a time `at` that is up to 7 ticks before.
     pub stream: ListOf<u8>,
-    /// The capacities.
+    /// The capacity file.
     pub capacities: ListOf<u8>,
 }
 
 /// The files of a number, with a stream of so many lines.
+#[tactic(auto, unfolding(crate::specs::Files::capacities_text, crate::specs::Network::net_text))]
 pub fn generate(alloc: Global, number: u64, rows: u32) -> Result<Made, AllocError>
     requires some { 1 ≤ rows }
     requires bound { rows ≤ 1000000 }

@@ -1,7 +1,7 @@
 // The lines of the stream.
 ghost use Rattle.std.specs.Prelude.{◌≡◌, ◌≤◌, ◌<◌, ◌∷◌, ◌++◌, [], IfOk, OnOk, codes};
 ghost use Rattle.std.specs.Fmt.{decimal};
-ghost use Rattle.sq_gen.specs.Files.{line_of, stream_of, two_digits};
+ghost use Rattle.sq_gen.specs.Files.{stream_of, trade_line, two_digits};
 
 use itoa::Buffer;
 use rand_core::utils::NextWord;
@@ -31,7 +31,7 @@ pub(crate) fn stream_of(alloc: Global, number: u64, rows: u32) -> Result<Vec<u8>
 
 /// Puts line `i` of these two words at the end.
 fn push_line(i: u32, first: u32, second: u32, text: &mut Vec<u8>) -> Result<(), AllocError>
-    ensures { OnOk result (text.new.items ≡ text.old.items ++ line_of i first second) }
+    ensures { OnOk result (text.new.items ≡ text.old.items ++ trade_line i first second) }
 {
     push_number(i, b',', text)?;
     push_number(i.saturating_sub(first % 8), b',', text)?;
