@@ -1,4 +1,4 @@
--- The files that a number gives. To the layers above, the three texts are just these words.
+-- The files that a number names. The layers above see no further into the three texts than these words.
 use Rattle.std.specs.Prelude.{ℕ, ◌+◌, ◌-◌, ◌*◌, ◌/◌, ◌%◌, min, List, [], ◌∷◌, ◌++◌, codes}
 use Rattle.std.specs.Fmt.{decimal}
 use Rattle.std.specs.List.{flat_map}
@@ -22,7 +22,7 @@ word_of number k = output_xsh_rr (words_at number k).state
 abbrev pub two_digits : ℕ → List ℕ
 two_digits n = (48 + n / 10) ∷ (48 + n % 10) ∷ []
 
--- the time that a line's tuple tells of itself: at most 7 ticks before its place
+-- the time that the tuple of line i says of itself: at most 7 ticks before it
 abbrev pub at_of : ℕ → ℕ → ℕ
 at_of i word = i - min i (word % 8)
 
