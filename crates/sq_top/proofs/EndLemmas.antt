@@ -39,8 +39,9 @@ use Rattle.sq_top.specs.Due.{Due, due_from, due_of, ended_from, feds_from, lates
 use Rattle.sq_top.specs.Answers.{IsPrefixText, IsWholeText}
 use Rattle.sq_top.specs.Driving.{IsCutShort}
 use Rattle.sq_top.specs.declared.RunArgs.{RunArgs}
-use Rattle.sq_replay.specs.Entries.{picks_in}
-use Rattle.sq_top.specs.Scripts.{Lookup, Replay, accepted, after_network, after_picks, after_stream, after_streams, after_words, go_on, outcome_of, picks_script, readable, settings_limit, stream_limit, unread, with_sources, Script}
+use Rattle.sq_plan.specs.Plans.{Entries}
+use Rattle.sq_replay.specs.Entries.{capacities_in, picks_in}
+use Rattle.sq_top.specs.Scripts.{Lookup, Replay, accepted, after_capacities, after_network, after_picks, after_stream, after_streams, after_words, capacities_script, go_on, outcome_of, picks_script, readable, settings_limit, stream_limit, unread, with_sources, Script}
 use Rattle.sq_top.specs.Causes.{AnswersPrefix, AppendsSuch, Ends, EndsOk, HasFailedAt, IsStopped, MatchAccepted, NamesSource, RefusalHasCause, TooMuchHasCause, WhereTold, World, is_refusal}
 use Rattle.sq_top.proofs.SortedLines.{and-true}
 use Rattle.sq_top.proofs.StoppedLemmas.{at_told, some_none, where_told}
@@ -160,18 +161,28 @@ streams_ok files p (s ∷ left) r e =
     file_ok files p.network (readable s.file stream_limit (files s.file)) (λ bytes. after_stream (length p.sources) more (stream_in s.schema bytes)) r
     (λ bytes. stream_ok files p.network (length p.sources) more r (stream_in s.schema bytes) (λ xs. streams_ok files (with_sources p (p.sources ++ xs ∷ [])) left r)) e
 
-picks_ok : (files : Lookup) (args : RunArgs) (n : Network) (o : Result (List ℕ) ℕ) (r : Replay) → outcome_of files (after_picks args n o) ≡ Ok r → n ≡ r.network
-picks_ok files args n (Ok picks) r e = streams_ok files (unread args n picks) n.sources r e
-picks_ok files args n (Err line) r e = absurd (cc)
+module _ (files : Lookup) (args : RunArgs) (n : Network) where
+  picks_ok : (entries : Entries) (o : Result (List ℕ) ℕ) (r : Replay) → outcome_of files (after_picks args n entries o) ≡ Ok r → n ≡ r.network
+  picks_ok entries (Ok picks) r e = streams_ok files (unread args n entries picks) n.sources r e
+  picks_ok entries (Err line) r e = absurd (cc)
 
-named_ok : (files : Lookup) (args : RunArgs) (n : Network) (o : Option (List ℕ)) (r : Replay) → outcome_of files (picks_script args n o) ≡ Ok r → n ≡ r.network
-named_ok files args n None r e = picks_ok files args n (Ok []) r e
-named_ok files args n (Some name) r e =
-    file_ok files n (readable name settings_limit (files name)) (λ bytes. after_picks args n (picks_in bytes)) r (λ bytes. picks_ok files args n (picks_in bytes) r) e
+  picked_ok : (entries : Entries) (o : Option (List ℕ)) (r : Replay) → outcome_of files (picks_script args n entries o) ≡ Ok r → n ≡ r.network
+  picked_ok entries None r e = picks_ok entries (Ok []) r e
+  picked_ok entries (Some name) r e =
+      file_ok files n (readable name settings_limit (files name)) (λ bytes. after_picks args n entries (picks_in bytes)) r (λ bytes. picks_ok entries (picks_in bytes) r) e
+
+  capacities_ok : (o : Result Entries ℕ) (r : Replay) → outcome_of files (after_capacities args n o) ≡ Ok r → n ≡ r.network
+  capacities_ok (Ok entries) r e = picked_ok entries args.picks r e
+  capacities_ok (Err line) r e = absurd (cc)
+
+  named_ok : (o : Option (List ℕ)) (r : Replay) → outcome_of files (capacities_script args n o) ≡ Ok r → n ≡ r.network
+  named_ok None r e = capacities_ok (Ok []) r e
+  named_ok (Some name) r e =
+      file_ok files n (readable name settings_limit (files name)) (λ bytes. after_capacities args n (capacities_in bytes)) r (λ bytes. capacities_ok (capacities_in bytes) r) e
 
 network_ok : (files : Lookup) (args : RunArgs) (bytes : List ℕ) (o : Result Network NetErr) (r : Replay) → network_in bytes ≡ o → outcome_of files (after_network args o) ≡ Ok r
     → IsFileOf r.network
-network_ok files args bytes (Ok n) r said e = (bytes, said ∙ ap (λ (x : Network). Ok x) (named_ok files args n args.picks r e))
+network_ok files args bytes (Ok n) r said e = (bytes, said ∙ ap (λ (x : Network). Ok x) (named_ok files args n args.capacities r e))
 network_ok files args bytes (Err s) r said e = absurd (cc)
 
 network_file_ok : (files : Lookup) (args : RunArgs) (read : Result (List ℕ) Status) (r : Replay)

@@ -11,7 +11,8 @@ use Rattle.sq_value.specs.declared.Tuple.{Tuple}
 use Rattle.sq_net.specs.declared.NetErr.{NetErr}
 use Rattle.sq_net.specs.declared.NetErr.TheVariants as net
 use Rattle.sq_net.specs.declared.Source.{Source}
-use Rattle.sq_replay.specs.Entries.{picks_in}
+use Rattle.sq_plan.specs.Plans.{Entries}
+use Rattle.sq_replay.specs.Entries.{capacities_in, picks_in}
 use Rattle.sq_replay.specs.Streams.{stream_in}
 use Rattle.sq_replay.specs.declared.why.Why.{Why}
 use Rattle.sq_top.specs.Commands.{command_in}
@@ -26,6 +27,7 @@ abbrev pub is_refusal : Status → Bool
 is_refusal status.Ok = false
 is_refusal status.Usage = true
 is_refusal (status.BadNetwork e) = true
+is_refusal (status.BadCapacities line) = true
 is_refusal (status.BadPicks line) = true
 is_refusal (status.BadStream number line why) = true
 is_refusal (status.FolderFault name) = true
@@ -73,30 +75,38 @@ abbrev pub is_network : Option Command → List ℕ → Bool
 is_network None name = false
 is_network (Some (command.Run args)) name = same_bytes args.net name
 
--- whether this is the name of the picks' file
 abbrev pub is_named : Option (List ℕ) → List ℕ → Bool
 is_named None name = false
 is_named (Some file) name = same_bytes file name
 
+-- whether this is the name of the capacity file
+abbrev pub is_capacities : Option Command → List ℕ → Bool
+is_capacities None name = false
+is_capacities (Some (command.Run args)) name = is_named args.capacities name
+
+-- whether this is the name of the picks' file
 abbrev pub is_picks : Option Command → List ℕ → Bool
 is_picks None name = false
 is_picks (Some (command.Run args)) name = is_named args.picks name
 
--- what a file is to a run: its network, its picks, or a source's stream
+-- what a file is to a run: its network, its capacities, its picks, or a source's stream
 pub data FilePart : Type 0 where
   NetworkFile : FilePart
+  CapacityFile : FilePart
   PicksFile : FilePart
   StreamFile : FilePart
 
 -- how many bytes a file of this part may have
 abbrev pub limit_of : FilePart → ℕ
 limit_of NetworkFile = settings_limit
+limit_of CapacityFile = settings_limit
 limit_of PicksFile = settings_limit
 limit_of StreamFile = stream_limit
 
 -- whether a file of this name may have this part: which files are streams the network's file alone says
 abbrev pub may_be : Option Command → FilePart → List ℕ → Bool
 may_be c NetworkFile name = is_network c name
+may_be c CapacityFile name = is_capacities c name
 may_be c PicksFile name = is_picks c name
 may_be c StreamFile name = is_some c
 
@@ -175,6 +185,18 @@ source_of (Some name) = name
 -- the bytes are those of the file with this name, where the files are told
 abbrev pub AreBytesOf : Option Files → List ℕ → ℕ → List ℕ → Type 0
 AreBytesOf told name limit bytes = WhereTold told (λ files. readable name limit (file files name) ≡ Ok bytes)
+
+-- these are the capacities of the file that is named, or none where none is
+abbrev pub AreCapacitiesOf : Option Files → Option (List ℕ) → Entries → Type 0
+AreCapacitiesOf told None entries = entries ≡ []
+AreCapacitiesOf told (Some name) entries = (bytes : List ℕ) × (capacities_in bytes ≡ Ok entries) × AreBytesOf told name settings_limit bytes
+
+-- why the capacities aren't there: the file that is named isn't read, or one of its lines is bad
+abbrev pub HasNoCapacities : Option Files → Option (List ℕ) → ℕ → ℕ → ℕ → ℕ → Status → Type 0
+HasNoCapacities told None faults_before faults_now taken_before taken_now result = ⊥
+HasNoCapacities told (Some name) faults_before faults_now taken_before taken_now result =
+    IsUnread told name settings_limit faults_before faults_now taken_before taken_now result
+    ⊎ ((bytes : List ℕ) × (line : ℕ) × (capacities_in bytes ≡ Err line) × AreBytesOf told name settings_limit bytes × (result ≡ status.BadCapacities line))
 
 -- these are the picks of the file that is named, or none where none is
 abbrev pub ArePicksOf : Option Files → Option (List ℕ) → List ℕ → Type 0

@@ -57,6 +57,7 @@ fn replay<S: Sink, L: Ledger>(
     let Accepted {
         network,
         sources,
+        capacities: _,
         seed,
         rule,
         picks,
