@@ -4,7 +4,7 @@ use Rattle.std.proofs.lemmas.Bool.Decides.{nat_tests}
 use Rattle.std.proofs.lemmas.Grind.{pow_more}
 use Rattle.std.proofs.Math.Nat.{pow-le-pow_right}
 use Rattle.std.specs.Prelude.{Result}
-use Rattle.std.specs.List.{filter, list_all, slice_split, AllByRecursion}
+use Rattle.std.specs.List.{filter, slice_split, AllByRecursion}
 use Rattle.std.specs.Str.Lines.{strip_carriage_return}
 use Rattle.sq_value.specs.Texts.{read_number}
 use Rattle.sq_plan.specs.Plans.{Entries}

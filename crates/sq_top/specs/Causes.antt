@@ -17,8 +17,7 @@ use Rattle.sq_replay.specs.Streams.{stream_in}
 use Rattle.sq_replay.specs.declared.why.Why.{Why}
 use Rattle.sq_top.specs.Commands.{command_in}
 use Rattle.sq_top.specs.Scripts.{Lookup, Replay, Script, Reads, Stops, accepted, after_streams, outcome_of, readable, reads_of, script_of, settings_limit, stream_limit}
-use Rattle.sq_model.specs.Fed.{work_of}
-use Rattle.sq_top.specs.Due.{due_of}
+use Rattle.sq_top.specs.Due.{due_of, replayed, turns_in, work_in}
 use Rattle.sq_top.specs.Messages.{message_of, source_name}
 use Rattle.sq_top.specs.Answers.{IsWholeText, IsPrefixText}
 
@@ -120,13 +119,13 @@ pub record FolderHasCause (words : List (List ℕ)) (told : Option Files) (fault
 -- at Ok the text is whole and the steps are the work
 abbrev pub AnswersWhole : Files → List (List ℕ) → Option (List ℕ) → Option (List ℕ) → ℕ → ℕ → Type 0
 AnswersWhole files words out_before out_now steps_before steps_now = MatchAccepted (accepted (file files) words)
-    (λ r. AppendsSuch out_before out_now (IsWholeText (due_of r)) × (steps_now ≡ steps_before + work_of r.network r.sources))
+    (λ r. AppendsSuch out_before out_now (IsWholeText (due_of r)) × (steps_now ≡ steps_before + work_in (replayed r)))
     (λ s. ⊥)
 
 -- at another status it is a prefix, with no more steps than the work; nothing where a rule is broken
 abbrev pub AnswersPrefix : Files → List (List ℕ) → Option (List ℕ) → Option (List ℕ) → ℕ → ℕ → Type 0
 AnswersPrefix files words out_before out_now steps_before steps_now = MatchAccepted (accepted (file files) words)
-    (λ r. AppendsSuch out_before out_now (IsPrefixText (due_of r)) × (steps_now ≤ steps_before + work_of r.network r.sources))
+    (λ r. AppendsSuch out_before out_now (IsPrefixText (due_of r)) × (steps_now ≤ steps_before + work_in (replayed r)))
     (λ s. (out_now ≡ out_before) × (steps_now ≡ steps_before))
 
 -- the message: whole, or a part of it where the sink for messages has failed
@@ -233,13 +232,13 @@ HasNoStreams told r sources faults_before faults_now taken_before taken_now resu
     ⊎ ((number : ℕ) × (s : Source) × (line : ℕ) × (why : Why) × (slice_get sources number ≡ Some s)
     × LeadsWhereTold told (after_streams r sources) (Stops (status.BadStream number line why)) × IsBadLine number s line why result source)
 
--- too much was to be fed only where the work of what is accepted is too much
+-- too much was to be fed only where what is accepted has too many turns
 abbrev pub TooMuchHasCause : Files → List (List ℕ) → Status → Type 0
-TooMuchHasCause files words result = result ≡ status.TooMuch → MatchAccepted (accepted (file files) words) (λ r. 2 ^ 62 ≤ work_of r.network r.sources) (λ s. ⊥)
+TooMuchHasCause files words result = result ≡ status.TooMuch → MatchAccepted (accepted (file files) words) (λ r. 2 ^ 62 ≤ turns_in (replayed r)) (λ s. ⊥)
 
 -- what is accepted, and isn't too much, ends Ok, but for want of memory
 abbrev pub EndsOk : Files → List (List ℕ) → Status → Type 0
-EndsOk files words result = MatchAccepted (accepted (file files) words) (λ r. work_of r.network r.sources < 2 ^ 62 → (result ≡ status.Ok) ⊎ (result ≡ status.Memory)) (λ s. ⊤)
+EndsOk files words result = MatchAccepted (accepted (file files) words) (λ r. turns_in (replayed r) < 2 ^ 62 → (result ≡ status.Ok) ⊎ (result ≡ status.Memory)) (λ s. ⊤)
 
 -- the folder, the output and the steps before a run and after it
 pub record World : Type 0 where

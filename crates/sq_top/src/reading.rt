@@ -2,6 +2,7 @@
 ghost use Rattle.std.specs.Prelude.{true, ◌≡◌, ◌⊎◌, ◌≤◌, IfOk, IfErr, IsSome, None, Ok, Some, [], length, map};
 ghost use Rattle.std.specs.String.{string_bytes};
 ghost use Rattle.sq_net.specs.Sound.{IsSound, source_within};
+ghost use Rattle.sq_points.specs.Limits.{KeepsDropLimits};
 ghost use Rattle.sq_outside.specs.Folders.{file};
 ghost use Rattle.sq_replay.specs.Laws.{ReadsStreams};
 ghost use Rattle.sq_top.specs.Commands.{command_in};
@@ -85,6 +86,7 @@ fn network_for<F: Folder>(
 ) -> Result<(RunArgs, Network), Status>
     ensures command { IfOk result (λ r. command_in (map string_bytes words.now.items) ≡ Some (Command.Run r.0)) }
     ensures sound { IfOk result (λ r. IsSound r.1) }
+    ensures limits { IfOk result (λ r. KeepsDropLimits r.1) }
     ensures leads { IfOk result (λ r. LeadsWhereTold (F.files folder.old) (script_of (map string_bytes words.now.items)) (capacities_script r.0 r.1 (r.0).capacities)) }
     ensures named { IfOk result (λ r. WhereTold (F.files folder.old) (λ files. network_named (file files) (command_in (map string_bytes words.now.items)) ≡ Some r.1)) }
     ensures stopped { IfErr result (λ s. IsStopped (map string_bytes words.now.items) (F.files folder.old) (F.faults folder.old) (F.faults folder.new) (F.taken folder.old) (F.taken folder.new) s []) }
@@ -152,6 +154,7 @@ fn limits_for<F: Folder>(
 ) -> Result<(RunArgs, Network, Capacities), Status>
     ensures command { IfOk result (λ r. command_in (map string_bytes words.now.items) ≡ Some (Command.Run r.0)) }
     ensures sound { IfOk result (λ r. IsSound r.1) }
+    ensures limits { IfOk result (λ r. KeepsDropLimits r.1) }
     ensures leads { IfOk result (λ r. LeadsWhereTold (F.files folder.old) (script_of (map string_bytes words.now.items)) (picks_script r.0 r.1 r.2 (r.0).picks)) }
     ensures named { IfOk result (λ r. WhereTold (F.files folder.old) (λ files. network_named (file files) (command_in (map string_bytes words.now.items)) ≡ Some r.1)) }
     ensures stopped { IfErr result (λ s. IsStopped (map string_bytes words.now.items) (F.files folder.old) (F.faults folder.old) (F.faults folder.new) (F.taken folder.old) (F.taken folder.new) s []) }
@@ -310,6 +313,7 @@ pub fn prepare<F: Folder>(
 ) -> Result<Accepted, Stopped>
     ensures command { IfOk result (λ _. IsSome (command_in (map string_bytes words.now.items))) }
     ensures sound { IfOk result (λ a. IsSound a.network) }
+    ensures limits { IfOk result (λ a. KeepsDropLimits a.network) }
     ensures recorded { IfOk result (λ a. AreRecorded a.network.sources (map (λ xs. xs.items) a.sources.items)) }
     ensures train { IfOk result (λ a. 1 ≤ a.train) }
     ensures accepted { IfOk result (λ a. WhereTold (F.files folder.old) (λ files. accepted (file files) (map string_bytes words.now.items) ≡ Ok (replay_of a))) }

@@ -4,12 +4,12 @@ ghost use Rattle.std.specs.String.{string_bytes};
 ghost use Rattle.sq_outside.specs.Faults.{Rose};
 ghost use Rattle.sq_value.specs.Lists.{IsPrefixOf};
 ghost use Rattle.sq_net.specs.Sound.{IsSound};
-ghost use Rattle.sq_model.specs.Fed.{work_of};
+ghost use Rattle.sq_points.specs.Limits.{KeepsDropLimits};
 ghost use Rattle.sq_queue.specs.Faces.{Tells};
 ghost use Rattle.sq_top.specs.Answers.{IsPrefixText, IsWholeText};
 ghost use Rattle.sq_top.specs.Causes.{AppendsSuch, Ends, TellsStatus, source_of};
 ghost use Rattle.sq_top.specs.Driving.{IsCutShort};
-ghost use Rattle.sq_top.specs.Due.{due_of};
+ghost use Rattle.sq_top.specs.Due.{due_of, replayed, turns_in, work_in};
 ghost use Rattle.sq_top.specs.Recorded.{AreRecorded};
 ghost use Rattle.sq_top.specs.Views.{replay_of};
 
@@ -44,27 +44,28 @@ fn replay<S: Sink, L: Ledger>(
     steps: &mut Steps<L>,
 ) -> Result<(), Status>
     requires sound { IsSound accepted.network }
+    requires limits { KeepsDropLimits accepted.network }
     requires recorded { AreRecorded accepted.network.sources (map (λ xs. xs.items) accepted.sources.items) }
     requires train { 1 ≤ accepted.train }
     ensures ok { OnOk result (AppendsSuch (S.written out.old) (S.written out.new) (IsWholeText (due_of (replay_of accepted)))) }
     ensures err { OnErr result (AppendsSuch (S.written out.old) (S.written out.new) (IsPrefixText (due_of (replay_of accepted)))) }
-    ensures steps { OnOk result (steps.new ≡ steps.old + work_of accepted.network (map (λ xs. xs.items) accepted.sources.items)) }
-    ensures fewer { OnErr result (steps.new ≤ steps.old + work_of accepted.network (map (λ xs. xs.items) accepted.sources.items)) }
+    ensures steps { OnOk result (steps.new ≡ steps.old + work_in (replayed (replay_of accepted))) }
+    ensures fewer { OnErr result (steps.new ≤ steps.old + work_in (replayed (replay_of accepted))) }
     ensures cut { IfErr result (λ s. IsCutShort (S.faults out.old) (S.faults out.new) s) }
-    ensures too_much { IfErr result (λ s. s ≡ Status.TooMuch → 2 ^ 62 ≤ work_of accepted.network (map (λ xs. xs.items) accepted.sources.items)) }
+    ensures too_much { IfErr result (λ s. s ≡ Status.TooMuch → 2 ^ 62 ≤ turns_in (replayed (replay_of accepted))) }
     ensures later { S.faults out.old ≤ S.faults out.new }
 {
     let Accepted {
         network,
         sources,
-        capacities: _,
+        capacities,
         seed,
         rule,
         picks,
         train,
     } = accepted;
     let mut disk = spare_disk(alloc);
-    let engine = match Engine::new(alloc, network, sources, seed, FRAMES) {
+    let engine = match Engine::new(alloc, network, sources, capacities, seed, FRAMES) {
         Ok(engine) => engine,
         Err(_) => return Err(Status::Memory),
     };

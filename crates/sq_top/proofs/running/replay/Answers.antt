@@ -1,7 +1,9 @@
 use Rattle.std.proofs.Common.{arith, map, ◌∙◌}
 use Rattle.sq_replay.proofs.ShownLemmas.{on_err_any}
+use Rattle.sq_top.specs.Due.{replayed}
+use Rattle.sq_top.specs.Views.{replay_of}
 use Rattle.sq_top.proofs.ReplayLemmas.{replay_cut, replay_ends, replay_halts, replay_waits}
-use Rattle.sq_top.proofs.SourceLemmas.{recorded_even, recorded_fit, recorded_streams, recorded_tuples}
+use Rattle.sq_top.proofs.SourceLemmas.{recorded_even, recorded_few, recorded_fit, recorded_streams, recorded_tuples}
 use Rattle.sq_top.proofs.WritingLemmas.{on_err, on_ok, on_ok_any}
 use Rattle.std.proofs.lemmas.List.{length-map}
 use Rattle.std.proofs.Common.{sym}
@@ -17,58 +19,61 @@ new-requires-clause-streams g c = recorded_streams c.args.accepted.network.sourc
 pub new-requires-clause-tuples : goal.new-requires-clause-tuples
 new-requires-clause-tuples g c = recorded_tuples c.args.accepted.network.sources _ c.requires.recorded
 
+pub new-requires-clause-few : goal.new-requires-clause-few
+new-requires-clause-few g c = recorded_few c.args.accepted.network.sources _ c.requires.recorded
+
 pub new-requires-clause-fit : goal.new-requires-clause-fit
 new-requires-clause-fit g c = recorded_fit c.args.accepted.network _ c.requires.recorded
 
 pub returns-in-Err-clause-err : goal.returns-in-Err-clause-err
 returns-in-Err-clause-err g c =
-    replay_waits c.args.accepted.network c.requires.sound (map (λ xs. xs.items) c.args.accepted.sources.items) (g.S.Sink.written c.args.out.now)
+    replay_waits (replayed (replay_of c.args.accepted)) c.requires.sound (g.S.Sink.written c.args.out.now)
 
 pub drive-requires-clause-together : goal.drive-requires-clause-together
 drive-requires-clause-together g c = (c.in-Ok.ensures.run _ c.args.steps.now).together
 
 pub returns-in-Ok-drive-clause-ok : goal.returns-in-Ok-drive-clause-ok
 returns-in-Ok-drive-clause-ok g c =
-    let sources = map (λ xs. xs.items) c.args.accepted.sources.items in
+    let r = replayed (replay_of c.args.accepted) in
     let run = c.in-Ok.ensures.run _ c.args.steps.now in
-    let driven = c.in-Ok-drive.ensures.ok c.args.accepted.network sources c.args.steps.now c.spare_disk-disk.ensures run in
+    let driven = c.in-Ok-drive.ensures.ok r c.args.steps.now c.spare_disk-disk.ensures run in
     on_ok c.write_ends.result c.write_ends.ensures.ok
-    (λ written. replay_ends c.args.accepted.network c.requires.sound sources c.in-Ok-drive.engine (c.in-Ok-drive.ensures.network ∙ run.network) _ _ _ _ driven _ written)
+    (λ written. replay_ends r c.requires.sound c.in-Ok-drive.engine (c.in-Ok-drive.ensures.network ∙ run.network) _ _ _ _ driven _ written)
 
 pub returns-in-Ok-drive-clause-err : goal.returns-in-Ok-drive-clause-err
 returns-in-Ok-drive-clause-err g c =
-    let sources = map (λ xs. xs.items) c.args.accepted.sources.items in
+    let r = replayed (replay_of c.args.accepted) in
     let run = c.in-Ok.ensures.run _ c.args.steps.now in
-    let driven = c.in-Ok-drive.ensures.ok c.args.accepted.network sources c.args.steps.now c.spare_disk-disk.ensures run in
+    let driven = c.in-Ok-drive.ensures.ok r c.args.steps.now c.spare_disk-disk.ensures run in
     on_err c.write_ends.result c.write_ends.ensures.err
-    (λ written. replay_cut c.args.accepted.network c.requires.sound sources c.in-Ok-drive.engine (c.in-Ok-drive.ensures.network ∙ run.network) _ _ _ _ driven _ written)
+    (λ written. replay_cut r c.requires.sound c.in-Ok-drive.engine (c.in-Ok-drive.ensures.network ∙ run.network) _ _ _ _ driven _ written)
 
 pub returns-in-Ok-drive-clause-steps : goal.returns-in-Ok-drive-clause-steps
 returns-in-Ok-drive-clause-steps g c =
-    let sources = map (λ xs. xs.items) c.args.accepted.sources.items in
+    let r = replayed (replay_of c.args.accepted) in
     let run = c.in-Ok.ensures.run _ c.args.steps.now in
-    on_ok_any c.write_ends.result (c.in-Ok-drive.ensures.ok c.args.accepted.network sources c.args.steps.now c.spare_disk-disk.ensures run).work
+    on_ok_any c.write_ends.result (c.in-Ok-drive.ensures.ok r c.args.steps.now c.spare_disk-disk.ensures run).work
 
 pub returns-in-Ok-drive-clause-fewer : goal.returns-in-Ok-drive-clause-fewer
 returns-in-Ok-drive-clause-fewer g c =
-    let sources = map (λ xs. xs.items) c.args.accepted.sources.items in
+    let r = replayed (replay_of c.args.accepted) in
     let run = c.in-Ok.ensures.run _ c.args.steps.now in
-    let work = (c.in-Ok-drive.ensures.ok c.args.accepted.network sources c.args.steps.now c.spare_disk-disk.ensures run).work in
+    let work = (c.in-Ok-drive.ensures.ok r c.args.steps.now c.spare_disk-disk.ensures run).work in
     on_err_any c.write_ends.result (omega (arith, work))
 
 pub returns-clause-err : goal.returns-clause-err
 returns-clause-err g c =
-    let sources = map (λ xs. xs.items) c.args.accepted.sources.items in
+    let r = replayed (replay_of c.args.accepted) in
     let run = c.in-Ok.ensures.run _ c.args.steps.now in
-    let halted = c.in-Err-drive.ensures.err c.args.accepted.network sources c.args.steps.now c.spare_disk-disk.ensures run in
-    replay_halts c.args.accepted.network c.requires.sound sources c.in-Err-drive.status _ _ _ _ halted
+    let halted = c.in-Err-drive.ensures.err r c.args.steps.now c.spare_disk-disk.ensures run in
+    replay_halts r c.requires.sound c.in-Err-drive.status _ _ _ _ halted
 
 pub returns-clause-fewer : goal.returns-clause-fewer
 returns-clause-fewer g c =
-    let sources = map (λ xs. xs.items) c.args.accepted.sources.items in
-    (c.in-Err-drive.ensures.err c.args.accepted.network sources c.args.steps.now c.spare_disk-disk.ensures (c.in-Ok.ensures.run _ c.args.steps.now)).work
+    let r = replayed (replay_of c.args.accepted) in
+    (c.in-Err-drive.ensures.err r c.args.steps.now c.spare_disk-disk.ensures (c.in-Ok.ensures.run _ c.args.steps.now)).work
 
 pub returns-clause-too_much : goal.returns-clause-too_much
 returns-clause-too_much g c =
-    let sources = map (λ xs. xs.items) c.args.accepted.sources.items in
-    (c.in-Err-drive.ensures.err c.args.accepted.network sources c.args.steps.now c.spare_disk-disk.ensures (c.in-Ok.ensures.run _ c.args.steps.now)).too_much
+    let r = replayed (replay_of c.args.accepted) in
+    (c.in-Err-drive.ensures.err r c.args.steps.now c.spare_disk-disk.ensures (c.in-Ok.ensures.run _ c.args.steps.now)).too_much
