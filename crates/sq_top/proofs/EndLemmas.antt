@@ -102,9 +102,10 @@ second_is (b ∷ bs) fields some plain = first_field-line_of b bs fields plain
 pub line_dropped : (w b level : ℕ) → w < 2 ^ 64 → IsLineOf (Dropped w) (drop_line w b level)
 line_dropped w b level small =
     let fields = decimal b ∷ decimal level ∷ [] in
-    let second = second_is (decimal w) fields (decimal_nonempty w small) (decimal_bare w small) in
-    (is_line-line_of (codes "@drop" ∷ decimal w ∷ fields),
-    rw (first_field-line_of 64 (codes "drop") (decimal w ∷ fields) refl, second) (same_bytes-refl (decimal w)))
+    let second = second_is (decimal w) fields (decimal_nonempty w small) (decimal_bare w small) in (
+      is_line-line_of (codes "@drop" ∷ decimal w ∷ fields),
+      rw (first_field-line_of 64 (codes "drop") (decimal w ∷ fields) refl, second) (same_bytes-refl (decimal w)),
+    )
 
 pub line_planned : (epoch load capacity saved : ℕ) (fits : Bool) → IsLineOf Planned (plan_line epoch load capacity saved fits)
 line_planned epoch load capacity saved fits =

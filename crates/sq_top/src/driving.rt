@@ -53,7 +53,7 @@ fn show_event<S: Sink>(
 }
 
 /// Writes the lines of events.
-fn show_events<S: Sink>(
+pub(crate) fn show_events<S: Sink>(
     network: &Network,
     events: &[Event],
     text: &mut Vec<u8>,

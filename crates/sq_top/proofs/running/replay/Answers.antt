@@ -3,27 +3,8 @@ use Rattle.sq_replay.proofs.ShownLemmas.{on_err_any}
 use Rattle.sq_top.specs.Due.{replayed}
 use Rattle.sq_top.specs.Views.{replay_of}
 use Rattle.sq_top.proofs.ReplayLemmas.{replay_cut, replay_ends, replay_halts, replay_waits}
-use Rattle.sq_top.proofs.SourceLemmas.{recorded_even, recorded_few, recorded_fit, recorded_streams, recorded_tuples}
 use Rattle.sq_top.proofs.WritingLemmas.{on_err, on_ok, on_ok_any}
-use Rattle.std.proofs.lemmas.List.{length-map}
-use Rattle.std.proofs.Common.{sym}
 use Rattle.sq_top.proofs.running.replay.Goals as goal
-
-pub new-requires-clause-lists : goal.new-requires-clause-lists
-new-requires-clause-lists g c =
-    sym (length-map c.args.accepted.sources.items (λ xs. xs.items)) ∙ recorded_even c.args.accepted.network.sources (map (λ xs. xs.items) c.args.accepted.sources.items) c.requires.recorded
-
-pub new-requires-clause-streams : goal.new-requires-clause-streams
-new-requires-clause-streams g c = recorded_streams c.args.accepted.network.sources _ c.requires.recorded
-
-pub new-requires-clause-tuples : goal.new-requires-clause-tuples
-new-requires-clause-tuples g c = recorded_tuples c.args.accepted.network.sources _ c.requires.recorded
-
-pub new-requires-clause-few : goal.new-requires-clause-few
-new-requires-clause-few g c = recorded_few c.args.accepted.network.sources _ c.requires.recorded
-
-pub new-requires-clause-fit : goal.new-requires-clause-fit
-new-requires-clause-fit g c = recorded_fit c.args.accepted.network _ c.requires.recorded
 
 pub returns-in-Err-clause-err : goal.returns-in-Err-clause-err
 returns-in-Err-clause-err g c =
