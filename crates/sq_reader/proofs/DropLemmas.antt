@@ -32,7 +32,7 @@ long_from d (p ∷ ps) k (inr (fine, more)) = rw (fine.0, fine.1) (long_from (d 
 
 wide_from : (d : ℕ) (ps : List DropPoint) (k : ℕ) → Names d ps (error.WideExtent k) → position_from (λ p. not (is_drop_within p)) d ps ≡ Some k
 wide_from d [] k h = absurd h
-wide_from d (p ∷ ps) k (inl (same, (short, wide))) = rw (short, wide) (ap Some (sym same))
+wide_from d (p ∷ ps) k (inl (same, short, wide)) = rw (short, wide) (ap Some (sym same))
 wide_from d (p ∷ ps) k (inr (fine, more)) = rw (fine.0, fine.1) (wide_from (d + 1) ps k more)
 
 at_place : (n : Network) (o : Option ℕ) → position_from (λ p. not (is_drop_within p)) 0 (points_of n) ≡ o → drop_place n ≡ option_map (place_of part.Drop) o
