@@ -1,6 +1,6 @@
 -- A flow that has released nothing yet.
 use Rattle.std.proofs.Common.{◌≡◌, ℕ, ◌/◌, ◌<◌, ◌^◌, Bool, false, not, List, [], length, Option, Some, None, refl, ap, sym, ◌∙◌, arith}
-use Rattle.std.specs.Prelude.{slice_get}
+use Rattle.std.specs.Prelude.{slice_get, slice_index}
 use Rattle.sq_value.specs.declared.Value.{Value}
 use Rattle.sq_item.specs.declared.Item.{Item}
 use Rattle.sq_oper.specs.declared.tally.Place.TheVariants.{Start}
@@ -18,7 +18,8 @@ module _ {O : Type 0} (m : Meaning O) (valid : O → Type 0) (e : Flow O)
     (shaped : IsShaped e.wires (length e.seats.items)) (lanes : size e.queues ≡ length e.wires.arcs.items)
     (open_all : (arc : ℕ) → (face e.queues arc).ended ≡ false) (runs : e.over ≡ false)
     (seats : (actor : ℕ) → holds_at (IsNewSeat m valid ((net_of e.wires).takes actor) ((net_of e.wires).fits actor) e.levels.epoch) (slice_get e.seats.items actor))
-    (rises : (source : ℕ) → RiseFrom 0 (to_release e source)) (few : length e.sources.items < 2 ^ 32) (clock : e.clock ≡ 0) (none_taken : e.taken ≡ 0) (closed : 0 < e.levels.closed) where
+    (rises : (source : ℕ) → RiseFrom 0 (to_release e source)) (few : length e.sources.items < 2 ^ 32) (clock : e.clock ≡ 0) (none_taken : e.taken ≡ 0) (closed : e.levels.closed ≡ 1)
+    (counts : length e.counts.items ≡ length e.sources.items) (few_tuples : (source : ℕ) → slice_index e.counts.items source + length (to_release e source) ≤ 1000000) where
   done-none : (actor : ℕ) → done_at e.over (slice_get e.seats.items actor) ≡ false
   done-none actor = by (slice_get e.seats.items actor) (seats actor)
     where
@@ -44,12 +45,14 @@ module _ {O : Type 0} (m : Meaning O) (valid : O → Type 0) (e : Flow O)
         held = λ table agrees actor port. held-none table ((net_of e.wires).takes actor) ((net_of e.wires).fits actor) (slice_get e.seats.items actor) port (seats actor);
         coming = λ source. rw clock (rises source);
         few_sources = few;
-        levels = rw clock (first e.levels.epoch e.levels.closed closed, omega arith);
+        levels = rw clock (closed ∙ first e.levels.epoch, omega arith);
+        counts = counts;
+        few_tuples = few_tuples;
         over = λ o. absurd (cc (sym runs ∙ o));
       }
     where
-      first : (epoch closed : ℕ) → 0 < closed → 0 / epoch < closed
-      first epoch closed h = grind arith
+      first : (epoch : ℕ) → 1 ≡ 0 / epoch + 1
+      first epoch = grind arith
 
       seat-of : (actor : ℕ) (o : Option (Seat O)) → holds_at (IsNewSeat m valid ((net_of e.wires).takes actor) ((net_of e.wires).fits actor) e.levels.epoch) o
           → holds_at (IsSeat m valid ((net_of e.wires).takes actor) ((net_of e.wires).fits actor) e.levels.epoch e.taken) o
