@@ -50,7 +50,7 @@ range-split a (suc n) m = ap (range_with_len a) (suc-add n m) ∙ ap (λ l. a �
     one-more a n = omega arith
 
 -- functions that agree from a number on
-flat-same : {A : Type 0} (f g : ℕ → List A) (a n : ℕ) → ((y : ℕ) → a ≤ y → f y ≡ g y) → flat_map f (range_with_len a n) ≡ flat_map g (range_with_len a n)
+pub flat-same : {A : Type 0} (f g : ℕ → List A) (a n : ℕ) → ((y : ℕ) → a ≤ y → f y ≡ g y) → flat_map f (range_with_len a n) ≡ flat_map g (range_with_len a n)
 flat-same f g a zero h = refl
 flat-same f g a (suc n) h =
     ap (λ z. z ++ flat_map f (range_with_len (a + 1) n)) (h a (omega arith))
