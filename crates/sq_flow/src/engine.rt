@@ -12,6 +12,7 @@ ghost use Rattle.sq_flow.specs.Engines.{place_in};
 
 use crate::errors::RunErr;
 use crate::flow::Flow;
+use crate::plans::no_counts;
 use crate::seats::Seat;
 use crate::steps::Progress;
 use crate::wires::Wires;
@@ -78,6 +79,7 @@ impl<O: Operator + Drop> Flow<O> {
         requires few { length sources.items < 2 ^ 32 }
         requires few_tuples { (source : ℕ) → length (tuples_at (slice_get sources.items source)) ≤ 1000000 }
         requires levels { levels.closed ≡ 1 }
+        requires no_levels { levels.rows ≡ [] }
         requires frames { 2 ≤ frames }
         ensures flow { IfOk result (λ e. IsFlow (record { rest = O.rest; decides = O.decides; lost = O.lost; place = O.place; taken = O.taken; running = O.running; takes_marks = O.takes_marks; fits = O.fits; reads = O.reads }) O.valid e) }
         ensures parts { IfOk result (λ e. IsNewFlow wires seats sources planner levels e) }
@@ -86,7 +88,7 @@ impl<O: Operator + Drop> Flow<O> {
     {
         let arcs = wires.arcs.len() as u32;
         let queues = Queues::new(alloc, arcs, frames)?;
-        let counts = vec![in alloc; 0; sources.len()]?;
+        let counts = no_counts(alloc, &sources)?;
         Ok(Flow {
             wires,
             seats,
@@ -128,6 +130,7 @@ impl<O: Operator + Drop> Engine<O> {
         requires few { length sources.items < 2 ^ 32 }
         requires few_tuples { (source : ℕ) → length (tuples_at (slice_get sources.items source)) ≤ 1000000 }
         requires levels { levels.closed ≡ 1 }
+        requires no_levels { levels.rows ≡ [] }
         requires frames { 2 ≤ frames }
         ensures engine { IfOk result (λ e. IsEngine (record { rest = O.rest; decides = O.decides; lost = O.lost; place = O.place; taken = O.taken; running = O.running; takes_marks = O.takes_marks; fits = O.fits; reads = O.reads }) O.valid e) }
         ensures flow { IfOk result (λ e. IsNewFlow wires seats sources planner levels e.flow) }

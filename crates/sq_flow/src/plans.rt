@@ -1,6 +1,6 @@
 //! What is closed before a tuple of a later epoch is released.
 
-ghost use Rattle.std.specs.Prelude.{◌≡◌, ◌==◌, ℕ, ◌+◌, ◌-◌, ◌≤◌, ◌<◌, ◌++◌, ◌^◌, true, false, List, [], length, replicate, if◌then◌else◌, OnOk, OnErr};
+ghost use Rattle.std.specs.Prelude.{◌≡◌, ◌==◌, ℕ, ◌+◌, ◌-◌, ◌≤◌, ◌<◌, ◌++◌, ◌^◌, true, false, List, [], length, replicate, if◌then◌else◌, OnOk, OnErr, IfOk};
 ghost use Rattle.std.specs.List.{flat_map, range_with_len};
 ghost use Rattle.sq_road.specs.Levels.{level_of, Agrees};
 ghost use Rattle.sq_plan.specs.Flows.{AreCounts};
@@ -11,7 +11,19 @@ ghost use Rattle.sq_flow.specs.Plans.{plans_of};
 use sq_oper::Event;
 use sq_plan::{Planner, Shown, close_epochs};
 use sq_road::Levels;
-use std::alloc::AllocError;
+use sq_value::Tuple;
+use std::alloc::{AllocError, Global};
+use std::collections::VecDeque;
+
+/// Nothing is counted of any source.
+pub(crate) fn no_counts(
+    alloc: Global,
+    sources: &Vec<VecDeque<Tuple>>,
+) -> Result<Vec<u64>, AllocError>
+    ensures { IfOk result (λ v. v.items ≡ replicate (length sources.now.items) 0) }
+{
+    vec![in alloc; 0; sources.len()]
+}
 
 /// Shows a plan, if there is one.
 fn show_plan(plan: Option<Shown>, events: &mut Vec<Event>) -> Result<(), AllocError>
