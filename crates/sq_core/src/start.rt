@@ -51,7 +51,8 @@ fn points_in(alloc: Global, n: &Network) -> Result<Vec<DropPoint>, AllocError>
     match network_points(alloc, n) {
         Ok(points) => Ok(points),
         Err(PlaceErr::Memory) => Err(AllocError),
-        Err(_) => unreachable!(),
+        Err(PlaceErr::LongBatch { .. }) => unreachable!(),
+        Err(PlaceErr::WideExtent { .. }) => unreachable!(),
     }
 }
 

@@ -1,6 +1,7 @@
-use Rattle.std.proofs.Common.{◌≡◌, ℕ, ◌≤◌, ◌∙◌, refl, ap, sym, subst, map, length}
+use Rattle.std.proofs.Common.{◌≡◌, ℕ, ◌≤◌, ◌∙◌, refl, ap, sym, subst, map, length, arith, ◌<◌}
 use Rattle.std.specs.List.{AllByRecursion}
 use Rattle.std.proofs.lemmas.List.Elements.{All-from_recursion}
+use Rattle.std.proofs.lemmas.List.{length-map}
 use Rattle.std.proofs.lemmas.Result.{IfOk-weaker}
 use Rattle.sq_value.specs.Values.{IsStream}
 use Rattle.sq_oper.specs.Streams.{IsSoundTuple}
@@ -8,7 +9,7 @@ use Rattle.sq_flow.specs.Flows.{items_in}
 use Rattle.sq_flow.specs.Wiring.{IsShaped}
 use Rattle.sq_core.specs.Meanings.{actors, IsValid}
 use Rattle.sq_core.specs.Table.{ops_of, IsMeasured}
-use Rattle.sq_core.proofs.TableLemmas.{if-both}
+use Rattle.sq_core.proofs.TableLemmas.{if-both, if-three}
 use Rattle.sq_core.proofs.StartEngine.{new-seats}
 use Rattle.sq_core.proofs.NewFlow.{is-new, holds-is, none-fed}
 use Rattle.sq_core.proofs.PlanLemmas.{plans-start}
@@ -23,6 +24,14 @@ new-requires-clause-coming c =
     rising c.in_ok-queues.queues.items (subst (AllByRecursion IsStream) (sym c.in_ok-queues.ensures) c.requires.streams)
     (subst (AllByRecursion (AllByRecursion IsSoundTuple)) (sym c.in_ok-queues.ensures) c.requires.tuples)
 
+pub new-requires-clause-few : goal.new-requires-clause-few
+new-requires-clause-few c =
+    let queues = length-map c.in_ok-queues.queues.items (λ q. q.items) in
+    let sources = length-map c.args.sources.items (λ v. v.items) in
+    let same = ap length c.in_ok-queues.ensures in
+    let few = c.requires.few in
+    omega (arith, queues, sources, same, few)
+
 pub new-requires-clause-few_tuples : goal.new-requires-clause-few_tuples
 new-requires-clause-few_tuples c = few-queued c.in_ok-queues.queues.items (subst (AllByRecursion (λ xs. length xs ≤ 1000000)) (sym c.in_ok-queues.ensures) c.requires.few_tuples)
 
@@ -34,8 +43,9 @@ returns-clause-none_fed c =
 
 pub returns-clause-plans : goal.returns-clause-plans
 returns-clause-plans c =
-    if-both c.new.result _ _ _ (λ e h more seed. plans-start _ e.flow c.in_ok-planner.planner _ h.planner_is c.in_ok-planner.ensures c.in_ok-queues.ensures more.0 more.1)
-    c.new.ensures.flow (if-both c.new.result _ _ _ (λ e planned left. (planned, left)) c.new.ensures.planned c.new.ensures.plans)
+    if-three c.new.result _ _ _ _ (λ e h planned left seed.
+    plans-start _ e.flow c.in_ok-planner.planner c.new-levels.result.epoch _ h.planner_is c.in_ok-planner.ensures (ap (λ l. l.epoch) c.new-levels.ensures) c.in_ok-queues.ensures planned left)
+    c.new.ensures.flow c.new.ensures.planned c.new.ensures.plans
 
 pub returns-clause-answers : goal.returns-clause-answers
 returns-clause-answers c =
