@@ -1,5 +1,5 @@
 -- What the release of a tuple leaves of the plans.
-use Rattle.std.proofs.Common.{◌≡◌, ◌≢◌, ℕ, ◌+◌, ◌-◌, ◌/◌, ◌≤◌, ◌<◌, ◌^◌, max, eqb, cond, Bool, true, false, List, [], ◌∷◌, ◌++◌, length, set, replicate,  Some, refl, ap, sym, ◌∙◌, subst, append_assoc, append-nil, arith}
+use Rattle.std.proofs.Common.{◌≡◌, ◌≢◌, ℕ, ◌+◌, ◌-◌, ◌/◌, ◌≤◌, ◌<◌, ◌^◌, max, eqb, cond, Bool, true, false, List, [], ◌∷◌, ◌++◌, length, set, replicate, Some, refl, ap, sym, ◌∙◌, subst, append_assoc, append-nil, arith}
 use Rattle.std.specs.Prelude.{slice_get, slice_index, Vec}
 use Rattle.std.specs.List.{flat_map, range_with_len}
 use Rattle.std.proofs.lemmas.List.{length-replicate}

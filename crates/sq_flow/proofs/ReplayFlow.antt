@@ -252,31 +252,31 @@ module _ {O : Type 0} (m : Meaning O) (valid : O → Type 0) (e : Flow O) (flow 
                 goes-after m valid e flow (items_on e.queues was) (items_on q' is) holds e.over q' sources' x.time planner' levels' counts' (sent-by) given-there quiet ends (on told) before
                 events events' did.lines (λ output low q. quiet output (not-replay output low) q) table agrees;
           }
-          where
-            le-refl : x.time ≤ x.time
-            le-refl = omega arith
+        where
+          le-refl : x.time ≤ x.time
+          le-refl = omega arith
 
-            sent-by : ℕ → ℕ → List Thing
-            sent-by = sent e.wires.replay port (spread item)
+          sent-by : ℕ → ℕ → List Thing
+          sent-by = sent e.wires.replay port (spread item)
 
-            given-there : (q : ℕ) → things (to_release e q) ≡ sent e.wires.replay port (spread item) e.wires.replay q ++ things (tuples_at (slice_get sources'.items q))
-            given-there q =
-                at_or_other (λ k. things (to_release e k) ≡ cond (eqb port k) (spread item) [] ++ things (tuples_at (slice_get sources'.items k))) port
-                (ap things front ∙ ap (λ o. spread item ++ things (tuples_at o)) (sym is_after)
-                ∙ ap (λ b. cond b (spread item) [] ++ things (tuples_at (slice_get sources'.items port))) (sym (eqb-same port port refl)))
-                (λ k ne. ap (λ o. things (tuples_at o)) (sym (apart k ne))
-                ∙ ap (λ b. cond b (spread item) [] ++ things (tuples_at (slice_get sources'.items k))) (sym (eqb-not port k (λ same. ne (sym same))))) q
-                ∙ ap (λ z. z ++ things (tuples_at (slice_get sources'.items q))) (sym (own-sent e.wires.replay port (spread item) q))
+          given-there : (q : ℕ) → things (to_release e q) ≡ sent e.wires.replay port (spread item) e.wires.replay q ++ things (tuples_at (slice_get sources'.items q))
+          given-there q =
+              at_or_other (λ k. things (to_release e k) ≡ cond (eqb port k) (spread item) [] ++ things (tuples_at (slice_get sources'.items k))) port
+              (ap things front ∙ ap (λ o. spread item ++ things (tuples_at o)) (sym is_after)
+              ∙ ap (λ b. cond b (spread item) [] ++ things (tuples_at (slice_get sources'.items port))) (sym (eqb-same port port refl)))
+              (λ k ne. ap (λ o. things (tuples_at o)) (sym (apart k ne))
+              ∙ ap (λ b. cond b (spread item) [] ++ things (tuples_at (slice_get sources'.items k))) (sym (eqb-not port k (λ same. ne (sym same))))) q
+              ∙ ap (λ z. z ++ things (tuples_at (slice_get sources'.items q))) (sym (own-sent e.wires.replay port (spread item) q))
 
-            quiet : (other : ℕ) → other ≢ e.wires.replay → (q : ℕ) → sent e.wires.replay port (spread item) other q ≡ []
-            quiet = not-sent e.wires.replay port (spread item)
+          quiet : (other : ℕ) → other ≢ e.wires.replay → (q : ℕ) → sent e.wires.replay port (spread item) other q ≡ []
+          quiet = not-sent e.wires.replay port (spread item)
 
-            ends : e.over ≡ true → (q : ℕ) → tuples_at (slice_get sources'.items q) ≡ []
-            ends o = absurd (cc (replay-runs, o))
+          ends : e.over ≡ true → (q : ℕ) → tuples_at (slice_get sources'.items q) ≡ []
+          ends o = absurd (cc (replay-runs, o))
 
-            on : Tells was → (k : ℕ) → k < length e.wires.arcs.items
-                → spread_all (items_on q' is k) ≡ spread_all (items_on e.queues was k) ++ sent e.wires.replay port (spread item) ((net_of e.wires).from k) ((net_of e.wires).port k)
-            on told k low = pushes.items told k ∙ ap (λ z. spread_all (items_on e.queues was k) ++ z) (one-sent e.wires (length e.seats.items) flow.shaped e.wires.replay port k (spread item) low)
+          on : Tells was → (k : ℕ) → k < length e.wires.arcs.items
+              → spread_all (items_on q' is k) ≡ spread_all (items_on e.queues was k) ++ sent e.wires.replay port (spread item) ((net_of e.wires).from k) ((net_of e.wires).port k)
+          on told k low = pushes.items told k ∙ ap (λ z. spread_all (items_on e.queues was k) ++ z) (one-sent e.wires (length e.seats.items) flow.shaped e.wires.replay port k (spread item) low)
 
     pub released-touches : (was is : Option Pages) (q' : Queues) (sources' : Vec (VecDeque Tuple Global) Global) (planner' : Setting) (levels' : LevelTable) (counts' : Vec ℕ Global) (sent_there : ℕ → List Thing) (upto : ℕ → Type 0)
         → Pushes e.queues q' was is sent_there upto (contains (arcs_from e.wires e.wires.replay port))
