@@ -27,8 +27,9 @@ use Rattle.sq_top.specs.declared.Status.{Status}
 use Rattle.sq_top.specs.declared.Status.TheVariants as status
 use Rattle.sq_top.specs.Due.{answer_in, stream_shown, turns_in, work_in}
 use Rattle.sq_top.specs.Writing.{IsLost, Moves}
-use Rattle.sq_top.specs.Driving.{Begins, Completes, GoesOn, IsDriven, IsEventAt, IsHalted, Stops, StopsBehind, history_text}
+use Rattle.sq_top.specs.Driving.{Begins, Completes, GoesOn, IsCutShort, IsDriven, IsEventAt, IsHalted, Stops, StopsBehind, history_text}
 use Rattle.sq_top.proofs.ClassLemmas.{all_append}
+use Rattle.sq_top.proofs.StoppedLemmas.{rose_later}
 use Rattle.sq_top.proofs.WritingLemmas.{appended-nil, lost_at_once, moves-lost, moves-then, prefix_longer}
 
 -- an event of the run has its text
@@ -62,7 +63,16 @@ pub if_err_both : {T E A : Type 0} {P : E → Type 0} (Q : E → Type 0) (r : Re
 if_err_both Q (Ok x) a p f = tt
 if_err_both Q (Err e) a p f = f e a p
 
-not_too_much : (P : Type 0) (faults faults' : ℕ) (s : Status) → IsLost faults faults' s → s ≡ status.TooMuch → P
+pub if_err : {T E : Type 0} {P : E → Type 0} (Q : E → Type 0) (r : Result T E) → IfErr r P → ((e : E) → P e → Q e) → IfErr r Q
+if_err Q (Ok x) p f = tt
+if_err Q (Err e) p f = f e p
+
+-- what is lost behind a run cuts it short
+pub lost_cut : (before mid now : ℕ) (s : Status) → before ≤ mid → IsLost mid now s → IsCutShort before now s
+lost_cut before mid now s le (inl memory) = inl (inl memory)
+lost_cut before mid now s le (inr (sink, rose)) = inl (inr (sink, rose_later 1 before mid now le rose))
+
+pub not_too_much : (P : Type 0) (faults faults' : ℕ) (s : Status) → IsLost faults faults' s → s ≡ status.TooMuch → P
 not_too_much P faults faults' s (inl memory) e = let both : status.Memory ≡ status.TooMuch = sym memory ∙ e in cc
 not_too_much P faults faults' s (inr sink) e = let both : status.SinkFault ≡ status.TooMuch = sym sink.0 ∙ e in cc
 

@@ -104,13 +104,13 @@ line_dropped w b level small =
     let fields = decimal b ∷ decimal level ∷ [] in
     let second = second_is (decimal w) fields (decimal_nonempty w small) (decimal_bare w small) in (
       is_line-line_of (codes "@drop" ∷ decimal w ∷ fields),
-      rw (first_field-line_of 64 (codes "drop") (decimal w ∷ fields) refl, second) (same_bytes-refl (decimal w)),
+      subst (λ f. same_bytes f (decimal w) ≡ true) (sym second) (same_bytes-refl (decimal w)),
     )
 
 pub line_planned : (epoch load capacity saved : ℕ) (fits : Bool) → IsLineOf Planned (plan_line epoch load capacity saved fits)
 line_planned epoch load capacity saved fits =
     let fields = decimal epoch ∷ decimal load ∷ decimal capacity ∷ decimal saved ∷ (if fits then codes "fits" else codes "short") ∷ [] in
-    (is_line-line_of (codes "@plan" ∷ fields), rw (first_field-line_of 64 (codes "plan") fields refl) refl)
+    (is_line-line_of (codes "@plan" ∷ fields), subst (λ f. same_bytes f (codes "@plan") ≡ true) (sym (first_field-line_of 64 (codes "plan") fields refl)) refl)
 
 module _ (a : Answer) where
   names_plain : (os : List Output) (ss : List ℕ) → AllByRecursion (λ o. is_name o.name ≡ true) os → AllByRecursion (λ o. IsPlainName o.0) (map (shown_from a) (zip os ss))
@@ -311,9 +311,9 @@ stopped_ends words w s source h out steps = record {
 }
 
 module _ (words : List (List ℕ)) (w : World) (r : Replay) (source : List ℕ) (some : IsSome (command_in words))
-    (replayed : WhereTold w.told (λ files. accepted (file files) words ≡ Ok r)) where
+    (came : WhereTold w.told (λ files. accepted (file files) words ≡ Ok r)) where
   accepted_at : (files : Files) → w.told ≡ Some files → accepted (file files) words ≡ Ok r
-  accepted_at files t = at_told w.told (λ x. accepted (file x) words ≡ Ok r) files t replayed
+  accepted_at files t = at_told w.told (λ x. accepted (file x) words ≡ Ok r) files t came
 
   told_at : (files : Files) → w.told ≡ Some files → TellsClasses (due_of r)
   told_at files t = accepted_tells_classes (file files) words r (accepted_at files t)

@@ -228,7 +228,7 @@ module _ (n : Network) (sound : IsSound n) (a : Answer) (ended : List (List ℕ)
       where
         by : ((v : ℕ) × (v < drops_in n) × (is_numbered w v ≡ true)) ⊎ ((v : ℕ) → v < drops_in n → is_numbered w v ≡ false)
             → filter (is_of_class (Dropped w)) (lines history) ≡ due_lines due (Dropped w)
-        by (inl (v, (low, is))) =
+        by (inl (v, low, is)) =
             dropped_of w v low is history shown ∙ ap (map (λ d. drop_line v d.batch d.level)) (complete.drops v low) ∙ sym (one_numbered a w v (drops_in n) low few is)
         by (inr none) = filter_same (is_of_class (Dropped w)) false (lines history) (none_dropped w none history shown) ∙ sym (none_numbered a w (drops_in n) none)
 

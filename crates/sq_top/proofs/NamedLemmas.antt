@@ -141,15 +141,6 @@ number_from from (suc many) (suc at) s e = omega (arith, number_from (from + 1) 
 pub number_at : (many at s : ℕ) → slice_get (numbers_to many) at ≡ Some s → s ≡ at
 number_at many at s e = omega (arith, number_from 0 many at s e)
 
-there_from : (from many at : ℕ) → at < many → slice_get (range_with_len from many) at ≡ Some (from + at)
-there_from from zero at low = absurd (omega arith)
-there_from from (suc many) zero low = let is : from ≡ from + 0 = omega arith in ap Some is
-there_from from (suc many) (suc at) low =
-    let is : (from + 1) + at ≡ from + suc at = omega arith in there_from (from + 1) many at (omega arith) ∙ ap Some is
-
-pub number_there : (many at : ℕ) → at < many → slice_get (numbers_to many) at ≡ Some at
-number_there many at low = there_from 0 many at low
-
 -- whether a drop has a number, in decimal
 abbrev pub is_numbered : ℕ → ℕ → Bool
 is_numbered w v = same_bytes (decimal v) (decimal w)
@@ -161,8 +152,8 @@ find_drop w (suc many) = last (is_numbered w many) refl (find_drop w many)
   where
     last : (b : Bool) → is_numbered w many ≡ b → ((v : ℕ) × (v < many) × (is_numbered w v ≡ true)) ⊎ ((v : ℕ) → v < many → is_numbered w v ≡ false)
         → ((v : ℕ) × (v < suc many) × (is_numbered w v ≡ true)) ⊎ ((v : ℕ) → v < suc many → is_numbered w v ≡ false)
-    last true e rest = inl (many, (omega arith, e))
-    last false e (inl (v, (low, is))) = inl (v, (omega (arith, low), is))
+    last true e rest = inl (many, omega arith, e)
+    last false e (inl (v, low, is)) = inl (v, omega (arith, low), is)
     last false e (inr none) = inr (λ v low. here v low (v == many) refl)
       where
         here : (v : ℕ) → v < suc many → (t : Bool) → (v == many) ≡ t → is_numbered w v ≡ false
@@ -193,20 +184,22 @@ module _ (a : Answer) (w : ℕ) where
   one_from : (v from many : ℕ) → from ≤ v → v < from + many → is_numbered w v ≡ true → ((u : ℕ) → u < from + many → is_numbered w u ≡ true → u ≡ v)
       → numbered (range_with_len from many) ≡ (dropped_from a v).1
   one_from v from zero least low is alone = absurd (omega arith)
-  one_from v from (suc many) least low is alone = by (is_numbered w from) refl
+  one_from v from (suc many) least low is alone =
+      by (is_numbered w from) refl
+      (λ differ. one_from v (from + 1) many (omega (arith, least, differ)) (omega (arith, low)) is (λ u lower h. alone u (omega (arith, lower)) h))
     where
-      by : (t : Bool) → is_numbered w from ≡ t → numbered (range_with_len from (suc many)) ≡ (dropped_from a v).1
-      by true e =
+      by : (t : Bool) → is_numbered w from ≡ t → (from ≢ v → numbered (range_with_len (from + 1) many) ≡ (dropped_from a v).1)
+          → numbered (range_with_len from (suc many)) ≡ (dropped_from a v).1
+      by true e more =
           let same : from ≡ v = alone from (omega arith) e in
           numbered_one true from (range_with_len (from + 1) many) e
           ∙ ap (λ ls. (dropped_from a from).1 ++ ls)
-          (none_from (from + 1) many (λ u more lower. not_true (is_numbered w u) (λ h. let other = alone u (omega (arith, lower)) h in absurd (omega (arith, other, same, more)))))
+          (none_from (from + 1) many (λ u later lower. not_true (is_numbered w u) (λ h. let other = alone u (omega (arith, lower)) h in absurd (omega (arith, other, same, later)))))
           ∙ append-nil (dropped_from a from).1
           ∙ ap (λ k. (dropped_from a k).1) same
-      by false e =
-          let differ : (from ≡ v → ⊥) = (λ same. let both : true ≡ false = sym is ∙ ap (is_numbered w) (sym same) ∙ e in cc) in
+      by false e more =
           numbered_one false from (range_with_len (from + 1) many) e
-          ∙ one_from v (from + 1) many (omega (arith, least, differ)) (omega (arith, low)) is (λ u lower h. alone u (omega (arith, lower)) h)
+          ∙ more (λ same. let both : true ≡ false = sym is ∙ ap (is_numbered w) (sym same) ∙ e in cc)
 
   -- the lines of the drops with a number are those of the one that has it
   pub one_numbered : (v many : ℕ) → v < many → many < 2 ^ 64 → is_numbered w v ≡ true → numbered (numbers_to many) ≡ (dropped_from a v).1
@@ -215,16 +208,15 @@ module _ (a : Answer) (w : ℕ) where
 
 listed_from : (a : Answer) (v from many : ℕ) → from ≤ v → v < from + many → list_any (λ x. is_numbered x.0 v) (map (dropped_from a) (range_with_len from many)) ≡ true
 listed_from a v from zero least low = absurd (omega arith)
-listed_from a v from (suc many) least low = by (v == from) refl
+listed_from a v from (suc many) least low =
+    by (v == from) refl (λ differ. listed_from a v (from + 1) many (omega (arith, least, differ)) (omega (arith, low)))
   where
-    by : (t : Bool) → (v == from) ≡ t → list_any (λ x. is_numbered x.0 v) (map (dropped_from a) (range_with_len from (suc many))) ≡ true
-    by true e =
+    by : (t : Bool) → (v == from) ≡ t → (v ≢ from → list_any (λ x. is_numbered x.0 v) (map (dropped_from a) (range_with_len (from + 1) many)) ≡ true)
+        → list_any (λ x. is_numbered x.0 v) (map (dropped_from a) (range_with_len from (suc many))) ≡ true
+    by true e more =
         or_first (is_numbered from v) (list_any (λ x. is_numbered x.0 v) (map (dropped_from a) (range_with_len (from + 1) many)))
         (ap (λ k. is_numbered k v) (sym (eqb-true v from e)) ∙ same_bytes-refl (decimal v))
-    by false e =
-        let differ = eqb-false v from e in
-        or_true (is_numbered from v) (list_any (λ x. is_numbered x.0 v) (map (dropped_from a) (range_with_len (from + 1) many)))
-        (listed_from a v (from + 1) many (omega (arith, least, differ)) (omega (arith, low)))
+    by false e more = or_true (is_numbered from v) (list_any (λ x. is_numbered x.0 v) (map (dropped_from a) (range_with_len (from + 1) many))) (more (eqb-false v from e))
 
 -- each drop that is there is one of those that are due
 pub number_listed : (a : Answer) (v many : ℕ) → v < many → list_any (λ x. is_numbered x.0 v) (map (dropped_from a) (numbers_to many)) ≡ true

@@ -143,7 +143,7 @@ module _ (words : List (List ℕ)) (told : Option Files) (fb fn tb tn : ℕ) (so
   }
   stopped_rule s is some leads named = absurd is
 
-rose_later : (n before mid now : ℕ) → before ≤ mid → RoseBy n mid now → RoseBy n before now
+pub rose_later : (n before mid now : ℕ) → before ≤ mid → RoseBy n mid now → RoseBy n before now
 rose_later n before mid now le (inl up) = inl (omega arith)
 rose_later n before mid now le (inr end) = inr end
 

@@ -1,7 +1,10 @@
-use Rattle.std.proofs.Common.{arith, map, ◌∙◌}
+use Rattle.std.proofs.Common.{◌≡◌, ◌≤◌, ◌^◌, arith, map, ◌∙◌}
 use Rattle.sq_replay.proofs.ShownLemmas.{on_err_any}
-use Rattle.sq_top.specs.Due.{replayed}
 use Rattle.sq_top.specs.Views.{replay_of}
+use Rattle.sq_top.specs.declared.Status.TheVariants as status
+use Rattle.sq_top.specs.Driving.{IsCutShort}
+use Rattle.sq_top.specs.Due.{replayed, turns_in}
+use Rattle.sq_top.proofs.DrivingLemmas.{if_err, lost_cut, not_too_much}
 use Rattle.sq_top.proofs.ReplayLemmas.{replay_cut, replay_ends, replay_halts, replay_waits}
 use Rattle.sq_top.proofs.WritingLemmas.{on_err, on_ok, on_ok_any}
 use Rattle.sq_top.proofs.running.replay.Goals as goal
@@ -58,3 +61,13 @@ pub returns-clause-too_much : goal.returns-clause-too_much
 returns-clause-too_much g c =
     let r = replayed (replay_of c.args.accepted) in
     (c.in-Err-drive.ensures.err r c.args.steps.now c.spare_disk-disk.ensures (c.in-Ok.ensures.run _ c.args.steps.now)).too_much
+
+pub returns-in-Ok-drive-clause-cut : goal.returns-in-Ok-drive-clause-cut
+returns-in-Ok-drive-clause-cut g c =
+    if_err (IsCutShort (g.S.Sink.faults c.args.out.now) (g.S.Sink.faults c.write_ends.new.out)) c.write_ends.result c.write_ends.ensures.lost
+    (λ s lost. lost_cut _ _ _ s c.drive.ensures.later lost)
+
+pub returns-in-Ok-drive-clause-too_much : goal.returns-in-Ok-drive-clause-too_much
+returns-in-Ok-drive-clause-too_much g c =
+    if_err (λ s. s ≡ status.TooMuch → 2 ^ 62 ≤ turns_in (replayed (replay_of c.args.accepted))) c.write_ends.result c.write_ends.ensures.lost
+    (λ s lost. not_too_much (2 ^ 62 ≤ turns_in (replayed (replay_of c.args.accepted))) _ _ s lost)
