@@ -12,6 +12,8 @@ pub struct Case {
     pub err_fails: Vec<u64>,
     /// How many bytes a call of a sink takes.
     pub takes: usize,
+    /// The first fields whose lines are shown by class, where the order of classes isn't fixed.
+    pub classes: Vec<String>,
 }
 
 impl Case {
@@ -24,6 +26,7 @@ impl Case {
             out_fails: Vec::new(alloc),
             err_fails: Vec::new(alloc),
             takes: 4096,
+            classes: Vec::new(alloc),
         })
     }
 
@@ -34,6 +37,7 @@ impl Case {
             "folder fails" => self.folder_fails = numbers_of(alloc, value)?,
             "out fails" => self.out_fails = numbers_of(alloc, value)?,
             "err fails" => self.err_fails = numbers_of(alloc, value)?,
+            "classes" => self.classes = items_of(alloc, value)?,
             "takes" => self.takes = value.parse::<usize>().unwrap_or(1).max(1),
             _ => {}
         }

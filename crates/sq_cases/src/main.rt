@@ -5,9 +5,11 @@
 //! run compares that with what was worked out by hand.
 //!
 //! A case begins with a line `= TITLE`. Settings follow, if any, as `words: run,a.toml`, `folder fails: 0,2`,
-//! `out fails: 9`, `err fails: 0` and `takes: 1` (how many bytes a call of a sink takes); then files, each `- NAME` and
-//! its lines; then rows, each `| ROW`, and each a run with the row in place of `$`. A line that ends in `\` has no end of
-//! line, `\n` and `\r` are ends of lines, and `~COUNT TEXT~` is so many copies, with the number of each in place of `#`.
+//! `out fails: 9`, `err fails: 0`, `takes: 1` (how many bytes a call of a sink takes) and `classes: @plan,o` (the lines
+//! with these first fields are shown class by class and then all others, where the order of the classes isn't fixed); then
+//! files, each `- NAME` and its lines; then rows, each `| ROW`, and each a run with the row in place of `$`. A line that
+//! ends in `\` has no end of line, `\n` and `\r` are ends of lines, and `~COUNT TEXT~` is so many copies, with the number of
+//! each in place of `#`.
 #![tactic(auto)]
 
 mod case;

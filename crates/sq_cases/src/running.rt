@@ -16,6 +16,7 @@ struct Ran {
     code: u8,
     out: MemSink,
     err: MemSink,
+    classes: Vec<String>,
 }
 
 fn run_over<L: Ledger>(alloc: Global, case: Case, blank: Blank) -> Ran
@@ -41,6 +42,7 @@ fn run_over<L: Ledger>(alloc: Global, case: Case, blank: Blank) -> Ran
         code: status.code(),
         out,
         err,
+        classes: case.classes,
     }
 }
 
@@ -54,11 +56,51 @@ fn show_text(rt: &HostRuntime, text: &[u8]) -> io::Result<()> {
     }
 }
 
+fn is_of_class(line: &str, class: &str) -> bool {
+    match line.split_once(',') {
+        Some((first, _)) => first == class,
+        None => line == class,
+    }
+}
+
+fn is_of_any(line: &str, classes: &[String]) -> bool {
+    classes
+        .iter()
+        .any(|class| is_of_class(line, class.as_str()))
+}
+
+/// Shows the lines of a class, in their order.
+fn show_class(rt: &HostRuntime, text: &str, class: &str) -> io::Result<()> {
+    for line in text.lines() {
+        if is_of_class(line, class) {
+            println!(rt; "{line}")?;
+        }
+    }
+    Ok(())
+}
+
+/// Shows a text class by class, and then the lines of all other classes.
+fn show_classes(rt: &HostRuntime, text: &[u8], classes: &[String]) -> io::Result<()> {
+    if classes.is_empty() {
+        return show_text(rt, text);
+    }
+    let text = str::from_utf8(text).unwrap_or("?");
+    for class in classes {
+        show_class(rt, text, class.as_str())?;
+    }
+    for line in text.lines() {
+        if !is_of_any(line, classes) {
+            println!(rt; "{line}")?;
+        }
+    }
+    Ok(())
+}
+
 fn show_run(rt: &HostRuntime, text: &str) -> Result<(), Error> {
     let case = Case::read(rt.alloc(), text)?;
     let ran = run_over::<Brand>(rt.alloc(), case, Blank::new(1));
     println!(rt; "{}", ran.code)?;
-    show_text(rt, ran.out.bytes())?;
+    show_classes(rt, ran.out.bytes(), ran.classes.as_slice())?;
     show_text(rt, ran.err.bytes())?;
     Ok(())
 }

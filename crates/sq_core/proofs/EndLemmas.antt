@@ -1,12 +1,12 @@
 -- What a run that is done has shown, fed and lost.
-use Rattle.std.proofs.Common.{◌≡◌, ℕ, ◌+◌, ◌<◌, Bool, true, false, not, None, refl, List, [], ◌++◌, length, Option, Some, slice_get, ap, sym, ◌∙◌, subst, arith, append-nil}
-use Rattle.sq_value.specs.declared.Tuple.{Tuple}
+use Rattle.std.proofs.Common.{◌≡◌, ℕ, ◌+◌, ◌<◌, Bool, true, false, not, None, refl, List, [], ◌∷◌, ◌++◌, length, Option, Some, slice_get, ap, sym, ◌∙◌, subst, arith, append-nil}
 use Rattle.sq_outside.specs.Disks.{Pages}
-use Rattle.sq_road.specs.Levels.{Agrees, level_of}
+use Rattle.sq_road.specs.Levels.{Agrees}
 use Rattle.sq_oper.specs.declared.outs.Event.{Event}
-use Rattle.sq_net.specs.declared.Network.{Network}
+use Rattle.sq_model.specs.Shedding.{Replay, level_of}
 use Rattle.sq_queue.specs.Faces.{Tells}
 use Rattle.sq_flow.specs.Events.{lines_of}
+use Rattle.sq_flow.specs.Plans.{plans_of, plans_left}
 use Rattle.sq_flow.specs.Wiring.{net_of}
 use Rattle.sq_actor.specs.declared.actor.Actor.{Actor}
 use Rattle.sq_actor.proofs.LateLemmas.{late-lost}
@@ -17,8 +17,9 @@ use Rattle.sq_flow.specs.Engines.{AllDone}
 use Rattle.sq_flow.specs.Flows.{items_in, IsFlow, HoldsItems, lines_left, fed_at_last, lost_at_last, work_at_last, taken_in_all}
 use Rattle.sq_core.specs.declared.engine.Engine.{Engine}
 use Rattle.sq_core.specs.Meanings.{actors, IsValid}
-use Rattle.sq_core.specs.Runs.{IsRun, late_in, ShownAll}
-use Rattle.sq_core.proofs.RunLemmas.{agrees-self, shown-in, box-in}
+use Rattle.sq_core.specs.Runs.{IsSoundEngine, IsRun, late_in, ShownAll}
+use Rattle.sq_core.proofs.PlanLemmas.{no-plans}
+use Rattle.sq_core.proofs.RunLemmas.{agrees-of, shown-in, box-in}
 
 -- nothing is left of any output, and each operator was fed, and has lost, all that it is fed and loses in all
 pub record NothingLeft (e : Engine) : Type 0 where
@@ -30,6 +31,7 @@ pub record NothingLeft (e : Engine) : Type 0 where
       → (actor : ℕ) → actor < length e.engine.flow.seats.items → lost_at_last actors table (items_in e.engine.flow pages) e.engine.flow actor ≡ lost_at actors (slice_get e.engine.flow.seats.items actor) []
   pub work : (pages : Option Pages) (table : ℕ → ℕ → ℕ) → HoldsItems actors (items_in e.engine.flow pages) e.engine.flow → Agrees e.engine.flow.levels table
       → work_at_last actors table (items_in e.engine.flow pages) e.engine.flow ≡ taken_in_all actors e.engine.flow
+  pub plans : plans_left e.engine.flow ≡ []
 
 not-true : (b : Bool) → not b ≡ true → b ≡ false
 not-true true h = cc h
@@ -43,19 +45,29 @@ late-seat flow is done actor low = by (slice_get flow.seats.items actor) (is.sea
     by None h d = refl
     by (Some seat) h d = late-lost seat.op h.is_valid (h.running ∙ not-true seat.tally.running d)
 
-pub shown-all : (e : Engine) → NothingLeft e → AllDone e.engine.flow → (n : Network) (sources : List (List Tuple)) (pages : Option Pages) (history : List Event) (begun steps : ℕ) → Tells pages
-    → IsRun n sources pages e history begun steps → ShownAll n sources e history begun steps
-shown-all e none done n sources pages history begun steps told run =
+-- where all is done nothing is to be released, so nothing is planned
+pub nothing-planned : (e : Engine) → IsSoundEngine e → AllDone e.engine.flow → plans_left e.engine.flow ≡ []
+nothing-planned e sound done =
+    let flow = e.engine.flow in
+    no-plans flow (sound.engine.flow.over (sym (ap (done_at flow.over) (none-past flow.seats.items)) ∙ done (length flow.seats.items) (omega arith)))
+  where
+    none-past : (xs : List (Seat Actor)) → slice_get xs (length xs) ≡ None
+    none-past [] = refl
+    none-past (x ∷ xs) = none-past xs
+
+pub shown-all : (e : Engine) → NothingLeft e → AllDone e.engine.flow → (r : Replay) (pages : Option Pages) (history : List Event) (begun steps : ℕ) → Tells pages
+    → IsRun r pages e history begun steps → ShownAll r e history begun steps
+shown-all e none done r pages history begun steps told run =
     let a = run.answers told in
-    let table : ℕ → ℕ → ℕ = level_of e.engine.flow.levels in
-    let agrees : Agrees e.engine.flow.levels table = agrees-self e.engine.flow.levels in
+    let agrees = agrees-of r e.engine.flow history run.plans in
     record {
       lines = λ output s here.
-          sym (append-nil (lines_of output history)) ∙ ap (λ l. lines_of output history ++ l) (sym (none.lines pages table a.holds agrees output (shown-in e n run.network run.sound output s here)))
-          ∙ a.lines table agrees output s here;
-      fed = λ at low. sym (none.fed pages table a.holds agrees at (box-in e n run.network run.sound at low)) ∙ a.fed table agrees at low;
+          sym (append-nil (lines_of output history)) ∙ ap (λ l. lines_of output history ++ l) (sym (none.lines pages (level_of r) a.holds agrees output (shown-in e r.network run.network run.sound output s here)))
+          ∙ a.lines output s here;
+      plans = sym (append-nil (plans_of history)) ∙ ap (λ l. plans_of history ++ l) (sym none.plans) ∙ run.plans.shown;
+      fed = λ at low. sym (none.fed pages (level_of r) a.holds agrees at (box-in e r.network run.network run.sound at low)) ∙ a.fed at low;
       late = λ at low.
-          late-seat e.engine.flow run.sound.engine.flow done at (box-in e n run.network run.sound at low)
-          ∙ sym (none.lost pages table a.holds agrees at (box-in e n run.network run.sound at low)) ∙ a.late table agrees at low;
-      work = (let all = none.work pages table a.holds agrees in let sum = a.work table agrees in let counted = run.counted in omega (arith, all, sum, counted));
+          late-seat e.engine.flow run.sound.engine.flow done at (box-in e r.network run.network run.sound at low)
+          ∙ sym (none.lost pages (level_of r) a.holds agrees at (box-in e r.network run.network run.sound at low)) ∙ a.late at low;
+      work = (let all = none.work pages (level_of r) a.holds agrees in let sum = a.work in let counted = run.counted in omega (arith, all, sum, counted));
     }

@@ -22,6 +22,7 @@ use Rattle.sq_flow.specs.Seats.{Meaning, done_at}
 use Rattle.sq_flow.specs.Wiring.{net_of, arcs_read, numbers_in, IsShaped}
 use Rattle.sq_flow.specs.Flows.{tuples_at, RiseFrom, world_of, HoldsItems, fed_at_last, sum_below}
 use Rattle.sq_model.specs.Fed.{work_of}
+use Rattle.sq_model.specs.Shedding.{Replay, level_of}
 use Rattle.sq_flow.specs.Readiness.{stands, IsReady}
 use Rattle.sq_flow.specs.Engines.{place_in, IsEngine}
 use Rattle.sq_start.specs.Nets.{streams_of}
@@ -38,31 +39,31 @@ use Rattle.sq_core.proofs.NewFlow.{left-is}
 
 -- ---- what is left
 
-pub new-answers : (n : Network) (sources : List (List Tuple)) → All IsStream sources → OutputsStartFull n → CountsStart n
-    → (flow : Flow Actor) (items : ℕ → List Item) → ((table : ℕ → ℕ → ℕ) → IsNew n sources (net_of flow.wires) (world_of actors table items flow))
-    → IsShaped flow.wires (ops_of n) → flow.wires.shown ≡ length n.boxes → length flow.seats.items ≡ ops_of n → flow.taken ≡ 0 → HoldsItems actors items flow
-    → Answers n sources items flow []
-new-answers n sources recorded shows counts flow items new shaped shown many none holds =
+pub new-answers : (r : Replay) → All IsStream r.sources → OutputsStartFull r.network → CountsStart r.network
+    → (flow : Flow Actor) (items : ℕ → List Item) → ((table : ℕ → ℕ → ℕ) → IsNew r.network r.sources (net_of flow.wires) (world_of actors table items flow))
+    → IsShaped flow.wires (ops_of r.network) → flow.wires.shown ≡ length r.network.boxes → length flow.seats.items ≡ ops_of r.network → flow.taken ≡ 0 → HoldsItems actors items flow
+    → Answers r items flow []
+new-answers r recorded shows counts flow items new shaped shown many none holds =
     record {
       holds = holds;
-      lines = λ table agrees output s is. left-is actors n sources recorded flow.wires shaped shown shows flow refl items table (new table) output s is;
-      fed = λ table agrees at low. (at-actor table at (omega (arith, low))).fed ∙ box-fed n sources at low;
-      late = λ table agrees at low. (at-actor table at (omega (arith, low))).lost;
-      work = λ table agrees. sum-same (fed_at_last actors table items flow) (fed_by_streams n sources) (length flow.seats.items) (λ actor low. (at-actor table actor (omega (arith, low, many))).fed)
+      lines = λ output s is. left-is actors r.network r.sources recorded flow.wires shaped shown shows flow refl items (level_of r) (new (level_of r)) output s is;
+      fed = λ at low. (at-actor at (omega (arith, low))).fed ∙ box-fed r.network r.sources at low;
+      late = λ at low. (at-actor at (omega (arith, low))).lost;
+      work = sum-same (fed_at_last actors (level_of r) items flow) (fed_by_streams r.network r.sources) (length flow.seats.items) (λ actor low. (at-actor actor (omega (arith, low, many))).fed)
           ∙ all-work;
-      turns = λ table agrees.
-          let sum = sum-same _ (fed_by_streams n sources) (length flow.seats.items) (λ actor low. (at-actor table actor (omega (arith, low, many))).turns) in
+      turns =
+          let sum = sum-same _ (fed_by_streams r.network r.sources) (length flow.seats.items) (λ actor low. (at-actor actor (omega (arith, low, many))).turns) in
           let all = all-work in
           omega (arith, sum, all, none);
     }
   where
-    at-actor : (table : ℕ → ℕ → ℕ) (actor : ℕ) → actor < ops_of n → CountsAt n sources (net_of flow.wires) (world_of actors table items flow) flow.wires.order.items actor
-    at-actor table actor low =
-        counts sources (net_of flow.wires) (world_of actors table items flow) recorded (new table) flow.wires.order.items shaped.wired actor (shaped.ordered actor low)
+    at-actor : (actor : ℕ) → actor < ops_of r.network → CountsAt r.network r.sources (net_of flow.wires) (world_of actors (level_of r) items flow) flow.wires.order.items actor
+    at-actor actor low =
+        counts r.sources (net_of flow.wires) (world_of actors (level_of r) items flow) recorded (new (level_of r)) flow.wires.order.items shaped.wired actor (shaped.ordered actor low)
         (λ e. (let r = shaped.replay_is in omega (arith, low, e, r)))
 
-    all-work : sum_below (fed_by_streams n sources) (length flow.seats.items) ≡ work_of n sources
-    all-work = ap (sum_below (fed_by_streams n sources)) many ∙ work-is n sources
+    all-work : sum_below (fed_by_streams r.network r.sources) (length flow.seats.items) ≡ work_of r.network r.sources
+    all-work = ap (sum_below (fed_by_streams r.network r.sources)) many ∙ work-is r.network r.sources
 
 -- ---- what is to be released
 
@@ -80,6 +81,11 @@ rising (q ∷ queues) s t zero = rise-from 0 q.items s.0 t.0 (first-zero q.items
     first-zero [] = _
     first-zero (x ∷ xs) = zero-le
 rising (q ∷ queues) s t (suc source) = rising queues s.1 t.1 source
+
+pub few-queued : (queues : List (VecDeque Tuple Global)) → AllByRecursion (λ xs. length xs ≤ 1000000) (map (λ q. q.items) queues) → (source : ℕ) → length (tuples_at (slice_get queues source)) ≤ 1000000
+few-queued [] few source = zero-le
+few-queued (q ∷ queues) few zero = few.0
+few-queued (q ∷ queues) few (suc source) = few-queued queues few.1 source
 
 -- ---- which actors are ready
 

@@ -11,6 +11,7 @@ use Rattle.sq_item.specs.declared.Item.{Item}
 use Rattle.sq_item.specs.Things.{Thing, spread_all}
 use Rattle.sq_outside.specs.Disks.{Pages}
 use Rattle.sq_road.specs.Levels.{LevelTable}
+use Rattle.sq_plan.specs.Plans.{Setting}
 use Rattle.sq_oper.specs.declared.tally.Place.TheVariants.{Start}
 use Rattle.sq_oper.specs.Order.{merge, IsFuture}
 use Rattle.sq_oper.specs.Streams.{things, at_zero}
@@ -139,9 +140,9 @@ module _ (n : Network) (sound : IsSound n) (sources : List (List Tuple)) (record
             ap (λ o. late_at o (fed_of n sources actor) (length (nth (full_streams n sources) (stream_at n.wires actor 0)))) (sym (past n.boxes actor (omega (arith, high, count))))
 
     pub is-new : (seats-vec : Vec (Seat O) Global) → seats-vec.items ≡ seats → (queues : Vec (VecDeque Tuple Global) Global) → map (λ q. q.items) queues.items ≡ sources
-        → (levels : LevelTable) (flow : Flow O) → IsNewFlow w seats-vec queues levels flow → (pages : Option Pages) (table : ℕ → ℕ → ℕ)
+        → (planner : Setting) (levels : LevelTable) (flow : Flow O) → IsNewFlow w seats-vec queues planner levels flow → (pages : Option Pages) (table : ℕ → ℕ → ℕ)
         → IsNew n sources (net_of flow.wires) (world_of m table (items_in flow pages) flow)
-    is-new seats-vec same queues streams levels flow new pages table =
+    is-new seats-vec same queues streams planner levels flow new pages table =
         let here : flow.seats.items ≡ seats = ap (λ v. v.items) new.seats_are ∙ same in
         record {
           joins = subst (λ v. Joins n (net_of v)) (sym new.wires_are) joins;

@@ -257,3 +257,7 @@ module _ (n : Network) (sound : IsSound n) where
 pub if-both : {A E : Type 0} (r : Result A E) (P Q R : A → Type 0) → ((a : A) → P a → Q a → R a) → IfOk r P → IfOk r Q → IfOk r R
 if-both (Ok a) P Q R f p q = f a p q
 if-both (Err e) P Q R f p q = _
+
+pub if-three : {A E : Type 0} (r : Result A E) (P Q S R : A → Type 0) → ((a : A) → P a → Q a → S a → R a) → IfOk r P → IfOk r Q → IfOk r S → IfOk r R
+if-three (Ok a) P Q S R f p q s = f a p q s
+if-three (Err e) P Q S R f p q s = _

@@ -1,13 +1,13 @@
 -- The engine of a network, and what a run of it shows.
 use Rattle.std.specs.Prelude.{◌≡◌, ℕ, ◌+◌, ◌^◌, ◌≤◌, ◌<◌, List, length, Option, Some, None, slice_get}
-use Rattle.sq_value.specs.declared.Tuple.{Tuple}
 use Rattle.sq_value.specs.Lists.{IsPrefixOf}
 use Rattle.sq_outside.specs.Disks.{Pages}
 use Rattle.sq_oper.specs.declared.outs.Event.{Event}
-use Rattle.sq_net.specs.declared.Network.{Network}
 use Rattle.sq_net.specs.Sound.{IsSound}
 use Rattle.sq_model.specs.Full.{full_stream}
 use Rattle.sq_model.specs.Fed.{fed_of, late_of, work_of}
+use Rattle.sq_model.specs.Shedding.{Replay}
+use Rattle.sq_model.specs.Shown.{plans_shown}
 use Rattle.sq_actor.specs.declared.actor.Actor.{Actor}
 use Rattle.sq_actor.specs.Late.{late_by}
 use Rattle.sq_queue.specs.Faces.{Tells, Together}
@@ -18,11 +18,12 @@ use Rattle.sq_flow.specs.Events.{lines_of}
 use Rattle.sq_flow.specs.Seats.{taken_at}
 use Rattle.sq_flow.specs.Flows.{items_in, taken_in_all}
 use Rattle.sq_flow.specs.Engines.{IsEngine}
+use Rattle.sq_flow.specs.Plans.{plans_of}
 use Rattle.sq_flow.specs.Takes.{NotStrange}
 use Rattle.sq_core.specs.declared.engine.Engine.{Engine}
 use Rattle.sq_core.specs.Meanings.{actors, IsValid}
 use Rattle.sq_core.specs.Table.{ops_of}
-use Rattle.sq_core.specs.Answers.{Answers}
+use Rattle.sq_core.specs.Answers.{Plans, Answers}
 
 -- what each step keeps, over every disk: the network is sound, and the operators are its boxes and outputs
 pub record IsSoundEngine (e : Engine) : Type 0 where
@@ -31,25 +32,27 @@ pub record IsSoundEngine (e : Engine) : Type 0 where
   pub operators : length e.engine.flow.seats.items ≡ ops_of e.network
   pub engine : IsEngine actors IsValid e.engine
 
--- the engine is at work on a network and what its sources recorded. History is what it has shown, begun is what the counter of
--- steps said when nothing was fed, and steps is what it says now
-pub record IsRun (n : Network) (sources : List (List Tuple)) (pages : Option Pages) (engine : Engine) (history : List Event) (begun steps : ℕ) : Type 0 where
-  pub network : engine.network ≡ n
+-- the engine is at work on a replay. History is what it has shown, begun is what the counter of steps said when nothing was fed,
+-- and steps is what it says now
+pub record IsRun (r : Replay) (pages : Option Pages) (engine : Engine) (history : List Event) (begun steps : ℕ) : Type 0 where
+  pub network : engine.network ≡ r.network
   pub sound : IsSoundEngine engine
   pub together : Together engine.engine.flow.queues pages
   pub counted : steps ≡ begun + taken_in_all actors engine.engine.flow
-  pub answers : Tells pages → Answers n sources (items_in engine.engine.flow pages) engine.engine.flow history
+  pub plans : Plans r engine.engine.flow history
+  pub answers : Tells pages → Answers r (items_in engine.engine.flow pages) engine.engine.flow history
 
--- what a run has shown so far is a beginning of the answers, and no more was fed than they take
-pub record ShownSoFar (n : Network) (sources : List (List Tuple)) (history : List Event) (begun steps : ℕ) : Type 0 where
-  pub lines : (output s : ℕ) → slice_get n.wires.outputs output ≡ Some s → IsPrefixOf (lines_of output history) (full_stream n sources s)
-  pub work : steps ≤ begun + work_of n sources
+-- what a run has shown so far is a beginning of the answers and of the plans, and no more was fed than they take
+pub record ShownSoFar (r : Replay) (history : List Event) (begun steps : ℕ) : Type 0 where
+  pub lines : (output s : ℕ) → slice_get r.network.wires.outputs output ≡ Some s → IsPrefixOf (lines_of output history) (full_stream r.network r.sources s)
+  pub plans : IsPrefixOf (plans_of history) (plans_shown r)
+  pub work : steps ≤ begun + work_of r.network r.sources
 
 -- what a run that failed has shown, and why it may have failed
-pub record Stopped (n : Network) (sources : List (List Tuple)) (history : List Event) (begun steps : ℕ) (e : RunErr) : Type 0 where
-  pub so_far : ShownSoFar n sources history begun steps
+pub record Stopped (r : Replay) (history : List Event) (begun steps : ℕ) (e : RunErr) : Type 0 where
+  pub so_far : ShownSoFar r history begun steps
   pub named : NotStrange e
-  pub turns : e ≡ TooMuch → 2 ^ 62 ≤ work_of n sources
+  pub turns : e ≡ TooMuch → 2 ^ 62 ≤ work_of r.network r.sources
 
 -- how many tuples a box was fed, and how many of them it has neither given nor holds, where it is a BSort
 abbrev pub fed_at : Engine → ℕ → ℕ
@@ -63,8 +66,9 @@ abbrev pub late_at : Engine → ℕ → ℕ
 late_at engine at = late_in (slice_get engine.engine.flow.seats.items at)
 
 -- what a run that is done has shown, fed and lost
-pub record ShownAll (n : Network) (sources : List (List Tuple)) (engine : Engine) (history : List Event) (begun steps : ℕ) : Type 0 where
-  pub lines : (output s : ℕ) → slice_get n.wires.outputs output ≡ Some s → lines_of output history ≡ full_stream n sources s
-  pub fed : (at : ℕ) → at < length n.boxes → fed_at engine at ≡ fed_of n sources at
-  pub late : (at : ℕ) → at < length n.boxes → late_at engine at ≡ late_of n sources at
-  pub work : steps ≡ begun + work_of n sources
+pub record ShownAll (r : Replay) (engine : Engine) (history : List Event) (begun steps : ℕ) : Type 0 where
+  pub lines : (output s : ℕ) → slice_get r.network.wires.outputs output ≡ Some s → lines_of output history ≡ full_stream r.network r.sources s
+  pub plans : plans_of history ≡ plans_shown r
+  pub fed : (at : ℕ) → at < length r.network.boxes → fed_at engine at ≡ fed_of r.network r.sources at
+  pub late : (at : ℕ) → at < length r.network.boxes → late_at engine at ≡ late_of r.network r.sources at
+  pub work : steps ≡ begun + work_of r.network r.sources

@@ -7,12 +7,13 @@ ghost use Rattle.sq_value.specs.Values.{IsStream};
 ghost use Rattle.sq_oper.specs.declared.outs.Event.{Event};
 ghost use Rattle.sq_oper.specs.Streams.{IsSoundTuple};
 ghost use Rattle.sq_outside.specs.Disks.{Pages};
-ghost use Rattle.sq_net.specs.declared.Network.{Network};
 ghost use Rattle.sq_net.specs.Sound.{IsSound};
+ghost use Rattle.sq_points.specs.Limits.{KeepsDropLimits};
 ghost use Rattle.sq_model.specs.Fit.{SourcesFit};
+ghost use Rattle.sq_model.specs.Shedding.{Replay};
 ghost use Rattle.sq_queue.specs.Faces.{Tells, Together};
 ghost use Rattle.sq_sched.specs.Ready.{contains, AreActors};
-ghost use Rattle.sq_flow.specs.Events.{IsLineBelow};
+ghost use Rattle.sq_flow.specs.Events.{IsEventIn};
 
 use crate::start::network_engine;
 use sq_actor::Actor;
@@ -20,6 +21,7 @@ use sq_flow::{Progress, RunErr, State};
 use sq_net::Network;
 use sq_oper::Event;
 use sq_outside::{PageDisk, Steps};
+use sq_plan::Capacities;
 use sq_sched::{Pick, Ready};
 use sq_value::Tuple;
 use std::alloc::{AllocError, Global};
@@ -45,21 +47,25 @@ impl Engine {
         alloc: Global,
         network: Network,
         sources: Vec<Vec<Tuple>>,
+        capacities: Capacities,
         seed: u64,
         frames: u32,
     ) -> Result<Engine, AllocError>
         requires sound { IsSound network }
+        requires limits { KeepsDropLimits network }
         requires lists { length sources.items ≡ length network.sources }
         requires streams { AllByRecursion IsStream (map (λ v. v.items) sources.items) }
         requires tuples { AllByRecursion (AllByRecursion IsSoundTuple) (map (λ v. v.items) sources.items) }
+        requires few { AllByRecursion (λ xs. length xs ≤ 1000000) (map (λ v. v.items) sources.items) }
         requires fit { SourcesFit network (map (λ v. v.items) sources.items) }
         requires frames { 2 ≤ frames }
         ensures sound { IfOk result IsSoundEngine }
-        ensures run { IfOk result (λ e. (pages : Option Pages) (steps : ℕ) → IsRun network (map (λ v. v.items) sources.items) pages e [] steps steps) }
+        ensures run { IfOk result (λ e. (pages : Option Pages) (steps : ℕ)
+            → IsRun (record { network = network; sources = map (λ v. v.items) sources.items; entries = capacities; seed = seed }) pages e [] steps steps) }
         ensures ready { IfOk result (λ e. e.engine.ready.list ≡ 0 ∷ []) }
     {
         let _seed = seed;
-        let engine = network_engine(alloc, &network, sources, frames)?;
+        let engine = network_engine(alloc, &network, sources, &capacities, frames)?;
         Ok(Engine { network, engine })
     }
 
@@ -83,15 +89,15 @@ impl Engine {
         ensures sound { OnOk result (IsSoundEngine self.new) }
         ensures together { OnOk result (Together self.new.engine.flow.queues (D.pages disk.new)) }
         ensures tells { OnOk result (is_some (D.pages disk.new) ≡ is_some (D.pages disk.old)) }
-        ensures run { OnOk result ((n : Network) (sources : List (List Tuple)) (history : List Event) (begun : ℕ)
-            → IsRun n sources (D.pages disk.old) self.old (history ++ events.old.items) begun steps.old
-            → IsRun n sources (D.pages disk.new) self.new (history ++ events.new.items) begun steps.new) }
-        ensures stopped { IfErr result (λ e. Tells (D.pages disk.old) → (n : Network) (sources : List (List Tuple)) (history : List Event) (begun : ℕ)
-            → IsRun n sources (D.pages disk.old) self.old (history ++ events.old.items) begun steps.old
-            → Stopped n sources (history ++ events.new.items) begun steps.new e) }
+        ensures run { OnOk result ((r : Replay) (history : List Event) (begun : ℕ)
+            → IsRun r (D.pages disk.old) self.old (history ++ events.old.items) begun steps.old
+            → IsRun r (D.pages disk.new) self.new (history ++ events.new.items) begun steps.new) }
+        ensures stopped { IfErr result (λ e. Tells (D.pages disk.old) → (r : Replay) (history : List Event) (begun : ℕ)
+            → IsRun r (D.pages disk.old) self.old (history ++ events.old.items) begun steps.old
+            → Stopped r (history ++ events.new.items) begun steps.new e) }
         ensures counted { IfErr result (λ e. e ≡ RunErr.TooMuch → 2 ^ 62 ≤ self.new.engine.flow.taken + 2) }
         ensures failed { OnErr result (self.new.engine.failed ≡ true) }
-        ensures shows { OnOk result (AllByRecursion (IsLineBelow (length self.old.network.outputs)) events.old.items → AllByRecursion (IsLineBelow (length self.old.network.outputs)) events.new.items) }
+        ensures shows { OnOk result (AllByRecursion (IsEventIn (length self.old.network.outputs) 0) events.old.items → AllByRecursion (IsEventIn (length self.old.network.outputs) 0) events.new.items) }
         ensures order { OnOk result (self.new.engine.ready.list ≡ listed_after self.new.engine.flow self.old.engine.ready.list pick.actor) }
         ensures measure { IfOk result (λ p. FallsBy p.fed p.finished (measure_of self.old.engine.flow) (measure_of self.new.engine.flow)) }
         ensures works { IfOk result (λ p. (p.fed ≡ 0) → p.finished ≡ true) }
@@ -172,8 +178,8 @@ impl Engine {
 
     /// At any time what was shown is a beginning of the answers, and no more was fed than they take.
     pub fn shown_so_far(&self)
-        ensures { (n : Network) (sources : List (List Tuple)) (pages : Option Pages) (history : List Event) (begun steps : ℕ) → Tells pages
-            → IsRun n sources pages self.now history begun steps → ShownSoFar n sources history begun steps }
+        ensures { (r : Replay) (pages : Option Pages) (history : List Event) (begun steps : ℕ) → Tells pages
+            → IsRun r pages self.now history begun steps → ShownSoFar r history begun steps }
     {
         let _engine = self;
     }
@@ -182,8 +188,8 @@ impl Engine {
     pub fn all_shown(&self)
         requires sound { IsSoundEngine self.now }
         requires done { AllDone self.now.engine.flow }
-        ensures { (n : Network) (sources : List (List Tuple)) (pages : Option Pages) (history : List Event) (begun steps : ℕ) → Tells pages
-            → IsRun n sources pages self.now history begun steps → ShownAll n sources self.now history begun steps }
+        ensures { (r : Replay) (pages : Option Pages) (history : List Event) (begun steps : ℕ) → Tells pages
+            → IsRun r pages self.now history begun steps → ShownAll r self.now history begun steps }
     {
         self.engine.nothing_left();
     }

@@ -6,13 +6,15 @@ ghost use Rattle.sq_value.specs.Values.{IsStream};
 ghost use Rattle.sq_oper.specs.Streams.{IsSoundTuple};
 ghost use Rattle.sq_outside.specs.Disks.{Pages};
 ghost use Rattle.sq_net.specs.Sound.{IsSound};
+ghost use Rattle.sq_points.specs.Points.{points_of, setting_of};
+ghost use Rattle.sq_points.specs.Limits.{KeepsDropLimits};
 ghost use Rattle.sq_model.specs.Fit.{SourcesFit};
 ghost use Rattle.sq_queue.specs.Faces.{Together};
 ghost use Rattle.sq_flow.specs.Engines.{IsEngine};
 ghost use Rattle.sq_flow.specs.Flows.{items_in, taken_in_all};
 ghost use Rattle.sq_core.specs.Meanings.{actors, IsValid};
 ghost use Rattle.sq_core.specs.Table.{ops_of};
-ghost use Rattle.sq_core.specs.Answers.{Answers};
+ghost use Rattle.sq_core.specs.Answers.{Plans, Answers};
 
 use crate::network::network_wires;
 use crate::seated::network_seats;
@@ -20,6 +22,9 @@ use sq_actor::Actor;
 use sq_flow::Engine;
 use sq_model::full_streams_fit;
 use sq_net::Network;
+use sq_place::{DropPoint, PlaceErr};
+use sq_plan::{Capacities, Planner};
+use sq_points::{network_planner, network_points};
 use sq_road::Levels;
 use sq_start::{counts_start, outputs_start_full};
 use sq_value::Tuple;
@@ -37,18 +42,45 @@ fn queued(alloc: Global, sources: Vec<Vec<Tuple>>) -> Result<Vec<VecDeque<Tuple>
     Ok(queues)
 }
 
+/// The drop points of a network that keeps their limits.
+fn points_in(alloc: Global, n: &Network) -> Result<Vec<DropPoint>, AllocError>
+    requires sound { IsSound n.now }
+    requires limits { KeepsDropLimits n.now }
+    ensures { IfOk result (λ v. v.items ≡ points_of n.now) }
+{
+    match network_points(alloc, n) {
+        Ok(points) => Ok(points),
+        Err(PlaceErr::Memory) => Err(AllocError),
+        Err(PlaceErr::LongBatch { .. }) => unreachable!(),
+        Err(PlaceErr::WideExtent { .. }) => unreachable!(),
+    }
+}
+
+/// What plans the epochs of a run with these capacities.
+fn planner_of(alloc: Global, n: &Network, capacities: &Capacities) -> Result<Planner, AllocError>
+    requires sound { IsSound n.now }
+    requires limits { KeepsDropLimits n.now }
+    ensures { IfOk result (λ p. p ≡ setting_of n.now capacities.now) }
+{
+    let points = points_in(alloc, n)?;
+    network_planner(alloc, n, &points, capacities)
+}
+
 /// An engine over the boxes and outputs of a sound network, to which nothing was fed, and which has released nothing of what
 /// the sources recorded.
 pub(crate) fn network_engine(
     alloc: Global,
     n: &Network,
     sources: Vec<Vec<Tuple>>,
+    capacities: &Capacities,
     frames: u32,
 ) -> Result<Engine<Actor>, AllocError>
     requires sound { IsSound n.now }
+    requires limits { KeepsDropLimits n.now }
     requires few { length sources.items < 2 ^ 32 }
     requires streams { AllByRecursion IsStream (map (λ v. v.items) sources.items) }
     requires tuples { AllByRecursion (AllByRecursion IsSoundTuple) (map (λ v. v.items) sources.items) }
+    requires few_tuples { AllByRecursion (λ xs. length xs ≤ 1000000) (map (λ v. v.items) sources.items) }
     requires fit { SourcesFit n.now (map (λ v. v.items) sources.items) }
     requires frames { 2 ≤ frames }
     ensures engine { IfOk result (λ e. IsEngine actors IsValid e) }
@@ -56,7 +88,9 @@ pub(crate) fn network_engine(
     ensures operators { IfOk result (λ e. length e.flow.seats.items ≡ ops_of n.now) }
     ensures together { IfOk result (λ e. (pages : Option Pages) → Together e.flow.queues pages) }
     ensures none_fed { IfOk result (λ e. taken_in_all actors e.flow ≡ 0) }
-    ensures answers { IfOk result (λ e. (pages : Option Pages) → Answers n.now (map (λ v. v.items) sources.items) (items_in e.flow pages) e.flow []) }
+    ensures plans { IfOk result (λ e. (seed : ℕ) → Plans (record { network = n.now; sources = map (λ v. v.items) sources.items; entries = capacities.now; seed = seed }) e.flow []) }
+    ensures answers { IfOk result (λ e. (seed : ℕ) (pages : Option Pages)
+        → Answers (record { network = n.now; sources = map (λ v. v.items) sources.items; entries = capacities.now; seed = seed }) (items_in e.flow pages) e.flow []) }
     ensures ready { IfOk result (λ e. e.ready.list ≡ 0 ∷ []) }
 {
     full_streams_fit(n);
@@ -65,6 +99,7 @@ pub(crate) fn network_engine(
     let wires = network_wires(alloc, n)?;
     let seats = network_seats(alloc, n)?;
     let queues = queued(alloc, sources)?;
+    let planner = planner_of(alloc, n, capacities)?;
     let levels = Levels::new(alloc, n.epoch);
-    Engine::new(alloc, wires, seats, queues, levels, frames)
+    Engine::new(alloc, wires, seats, queues, planner, levels, frames)
 }

@@ -15,6 +15,7 @@ use sq_graph::{BoxKind, BoxWires, Wiring};
 use sq_net::{Body, Network, Node, Output, Source};
 use sq_oper::Event;
 use sq_outside::{MemDisk, PageDisk, Steps};
+use sq_plan::Capacities;
 use sq_qos::Graph;
 use sq_sched::Pick;
 use sq_value::{Kind, ListOf, Name, Schema, Tuple, Value};
@@ -112,7 +113,8 @@ fn new_engine(alloc: Global) -> Result<Engine, Fail>
     ensures sound { IfOk result IsSoundEngine }
     ensures together { IfOk result (λ e. (pages : Option Pages) → Together e.engine.flow.queues pages) }
 {
-    Ok(Engine::new(alloc, network(alloc)?, streams(alloc)?, 0, 2)?)
+    let none = Capacities::new(Vec::new(alloc));
+    Ok(Engine::new(alloc, network(alloc)?, streams(alloc)?, none, 0, 2)?)
 }
 
 // Steps of one item each, of the actor that became ready first, until none may follow.

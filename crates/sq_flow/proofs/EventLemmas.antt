@@ -12,7 +12,8 @@ use Rattle.sq_item.specs.Things.{Thing, spread, mark_part, body_part}
 use Rattle.sq_oper.specs.declared.outs.Event.{Event}
 use Rattle.sq_oper.specs.declared.outs.Event.TheVariants.{Line}
 use Rattle.sq_oper.specs.Streams.{tuple_in}
-use Rattle.sq_flow.specs.Events.{bodies, line_of, lines_of, ShowsBelow}
+use Rattle.sq_flow.specs.Events.{bodies, line_of, lines_of, ShowsIn}
+use Rattle.sq_flow.specs.Plans.{plan_in, plans_of}
 
 pub bodies-append : (xs ys : List Thing) → bodies (xs ++ ys) ≡ bodies xs ++ bodies ys
 bodies-append [] ys = refl
@@ -21,6 +22,14 @@ bodies-append (x ∷ xs) ys = ap (λ z. tuple_in x.time x.load ++ z) (bodies-app
 pub lines-append : (o : ℕ) (xs ys : List Event) → lines_of o (xs ++ ys) ≡ lines_of o xs ++ lines_of o ys
 lines-append o [] ys = refl
 lines-append o (x ∷ xs) ys = ap (λ z. line_of o x ++ z) (lines-append o xs ys) ∙ sym (append_assoc (line_of o x) (lines_of o xs) (lines_of o ys))
+
+-- no plan is shown with a tuple
+pub plans-append : (xs ys : List Event) → plans_of (xs ++ ys) ≡ plans_of xs ++ plans_of ys
+plans-append [] ys = refl
+plans-append (x ∷ xs) ys = ap (λ z. plan_in x ++ z) (plans-append xs ys) ∙ sym (append_assoc (plan_in x) (plans_of xs) (plans_of ys))
+
+pub plans-line : (events : List Event) (output : ℕ) (tuple : Tuple) → plans_of (events ++ Line output tuple ∷ []) ≡ plans_of events
+plans-line events output tuple = plans-append events (Line output tuple ∷ []) ∙ append-nil (plans_of events)
 
 -- the tuple of an item
 pub bodies-some : (item : Item) (f : List Value) → item.body ≡ Some f → bodies (spread item) ≡ record { time = item.time; fields = f } ∷ []
@@ -46,7 +55,7 @@ pub nothing-more : {A : Type 0} (b : Bool) (xs ys : List A) → ys ≡ [] → xs
 nothing-more true xs ys e = rw e (sym (append-nil xs))
 nothing-more false xs ys e = sym (append-nil xs)
 
-pub ruleset event_lemmas = (lines-push, bodies-some, bodies-none, nothing-more)
+pub ruleset event_lemmas = (lines-push, plans-line, bodies-some, bodies-none, nothing-more)
 
 cond-both : {A : Type 0} (b : Bool) (xs ys : List A) → cond b (xs ++ ys) [] ≡ cond b xs [] ++ cond b ys []
 cond-both true xs ys = refl
@@ -98,6 +107,6 @@ pub output-below : (actor shown outputs : ℕ) → shown ≤ actor → actor < s
 output-below actor shown outputs shows low = omega (arith, shows, low)
 
 -- one line more
-pub line-more : (outputs output : ℕ) (tuple : Tuple) (events : List Event) → output < outputs → ShowsBelow outputs events (events ++ Line output tuple ∷ [])
-line-more outputs output tuple [] low all = (low, tt)
-line-more outputs output tuple (e ∷ es) low all = (all.0, line-more outputs output tuple es low all.1)
+pub line-more : (outputs drops output : ℕ) (tuple : Tuple) (events : List Event) → output < outputs → ShowsIn outputs drops events (events ++ Line output tuple ∷ [])
+line-more outputs drops output tuple [] low all = (low, tt)
+line-more outputs drops output tuple (e ∷ es) low all = (all.0, line-more outputs drops output tuple es low all.1)

@@ -39,7 +39,8 @@ use Rattle.sq_flow.specs.Heads.{NextUpTo}
 use Rattle.sq_flow.specs.Seats as seat
 use Rattle.sq_flow.specs.Seats.{Meaning, rest_at, decides_at, lost_at, place_at, done_at, holds_at, IsSeat, FedSeat}
 use Rattle.sq_flow.specs.Takes.{takes_of, fits_of, MayBeFed}
-use Rattle.sq_flow.specs.Events.{bodies, lines_of, ShowsBelow}
+use Rattle.sq_flow.specs.Events.{bodies, lines_of, ShowsIn}
+use Rattle.sq_flow.specs.Plans.{plans_left, plans_of}
 use Rattle.sq_flow.specs.Flows.{world_of, IsFlow, HoldsItems, Goes, Stepped, ShowsPrefix, CostsFed, CostsAtMost, TooMuchOnly, lines_left, fed_at_last, sum_below, taken_in_all, work_at_last, turns_at_last}
 use Rattle.sq_flow.specs.declared.errors.RunErr.{RunErr}
 use Rattle.sq_flow.proofs.FutureLemmas.{future-weaker, future-port, ports-from-head, moves-fed, outs-fine, own-pushed, not-pushed, apart-from, fine-after, goes-on, prefix-chain}
@@ -163,6 +164,8 @@ module _ {O : Type 0} (m : Meaning O) (valid : O → Type 0) (e : Flow O) (flow 
             coming = flow.coming;
             few_sources = flow.few_sources;
             levels = flow.levels;
+            counts = flow.counts;
+            few_tuples = flow.few_tuples;
             over = flow.over;
           }
         where
@@ -486,9 +489,9 @@ module _ {O : Type 0} (m : Meaning O) (valid : O → Type 0) (e : Flow O) (flow 
       → length seats'.items ≡ length e.seats.items → done_at e.over (slice_get e.seats.items actor) ≡ false
       → Pushes mid q' mid_pages is (sent_to e.wires actor outs) (λ time. AllOutsFine time outs) (comes_from e.wires actor)
       → ((o : ℕ) → lines_of o events' ≡ lines_of o events ++ bodies (pushed_by actor outs (e.wires.shown + o) 0))
-      → ShowsBelow (length e.seats.items - e.wires.shown) events events'
+      → ShowsIn (length e.seats.items - e.wires.shown) 0 events events' → plans_of events' ≡ plans_of events
       → Stepped m valid was is e (record e { seats = seats'; queues = q'; taken = taken' }) events events'
-  fed-stepped was is mid_pages mid q' seats' taken' s' outs drops events events' together may ended lanes front others tells more few fed is_after apart seats_len unfinished sent shown below =
+  fed-stepped was is mid_pages mid q' seats' taken' s' outs drops events events' together may ended lanes front others tells more few fed is_after apart seats_len unfinished sent shown below plans =
       record {
         flow_after = flow-after s' outs drops fed may seats' q' taken' is_after apart seats_len (sent.lanes ∙ lanes ∙ flow.lanes) (λ k. sent.ended k ∙ ended k) more few unfinished;
         together = sent.together;
@@ -497,6 +500,9 @@ module _ {O : Type 0} (m : Meaning O) (valid : O → Type 0) (e : Flow O) (flow 
         seats = seats_len;
         closes = λ table h. h;
         shows = below;
+        planner = refl;
+        planned = λ all h. record { agrees = h.agrees; counts = h.counts };
+        plans = ap (λ z. z ++ plans_left e) (sym plans);
         holds = λ told holds.
             holds-after (items_on e.queues was) (items_on mid mid_pages) holds (together.faces told) (front told) (others told) seats' q' taken' s' outs drops (items_on q' is)
             fed is_after apart unfinished (on told) (sent.fine (tells ∙ told)) may;

@@ -32,7 +32,8 @@ use Rattle.sq_flow.specs.Wiring.{net_of, arcs_read, from_of, pushed_by, AllOutsF
 use Rattle.sq_flow.specs.Heads.{NextUpTo}
 use Rattle.sq_flow.specs.Seats as seat
 use Rattle.sq_flow.specs.Seats.{Meaning, rest_at, decides_at, lost_at, place_at, done_at, holds_at, IsSeat, FinishedSeat}
-use Rattle.sq_flow.specs.Events.{bodies, lines_of, ShowsBelow}
+use Rattle.sq_flow.specs.Events.{bodies, lines_of, ShowsIn}
+use Rattle.sq_flow.specs.Plans.{plans_left, plans_of}
 use Rattle.sq_flow.specs.Flows.{world_of, IsFlow, HoldsItems, Goes, Stepped, ShowsPrefix, lines_left, sum_below, taken_in_all, turns_at_last}
 use Rattle.sq_flow.proofs.FutureLemmas.{outs-fine, own-pushed, not-pushed, goes-on, prefix-chain}
 use Rattle.sq_flow.proofs.SendLemmas.{at_or_other}
@@ -106,6 +107,8 @@ module _ {O : Type 0} (m : Meaning O) (valid : O → Type 0) (e : Flow O) (flow 
             coming = flow.coming;
             few_sources = flow.few_sources;
             levels = flow.levels;
+            counts = flow.counts;
+            few_tuples = flow.few_tuples;
             over = flow.over;
           }
         where
@@ -295,9 +298,9 @@ module _ {O : Type 0} (m : Meaning O) (valid : O → Type 0) (e : Flow O) (flow 
       → ((pages : Option Pages) (k : ℕ) → items_on q' pages k ≡ items_on mid pages k)
       → ((pages : Option Pages) → Together mid pages → Together q' pages)
       → ((o : ℕ) → lines_of o events' ≡ lines_of o events ++ bodies (pushed_by actor outs (e.wires.shown + o) 0))
-      → ShowsBelow (length e.seats.items - e.wires.shown) events events'
+      → ShowsIn (length e.seats.items - e.wires.shown) 0 events events' → plans_of events' ≡ plans_of events
       → Stepped m valid was is e (record e { seats = seats'; queues = q' }) events events'
-  finished-stepped was is mid q' seats' s' outs drops events events' together fin is_after apart seats_len sent lanes ended same stays shown below =
+  finished-stepped was is mid q' seats' s' outs drops events events' together fin is_after apart seats_len sent lanes ended same stays shown below plans =
       record {
         flow_after = flow-after s' outs drops fin seats' q' is_after apart seats_len (lanes ∙ sent.lanes ∙ flow.lanes)
             (λ k low. ended k low ∙ ap (λ b. b || eqb (from_of (slice_get e.wires.arcs.items k)) actor) (sent.ended k));
@@ -307,6 +310,9 @@ module _ {O : Type 0} (m : Meaning O) (valid : O → Type 0) (e : Flow O) (flow 
         seats = seats_len;
         closes = λ table h. h;
         shows = below;
+        planner = refl;
+        planned = λ all h. record { agrees = h.agrees; counts = h.counts };
+        plans = ap (λ z. z ++ plans_left e) (sym plans);
         holds = λ told holds. holds-after (items_on e.queues was) holds (together.faces told) seats' q' s' outs drops (items_on q' is) fin is_after apart (on told) (fine told);
         goes = λ told holds table agrees.
             goes-after (items_on e.queues was) holds (together.faces told) seats' q' s' outs drops (items_on q' is) fin is_after apart (on told) (fine told) events events' seats_len shown table agrees;

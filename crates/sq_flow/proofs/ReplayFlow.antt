@@ -1,14 +1,16 @@
 -- What the replay keeps.
 use Rattle.std.proofs.Common.{◌≡◌, ◌≢◌, ℕ, zero, suc, ◌+◌, ◌/◌, ◌<◌, ◌≤◌, eqb, cond, Bool, true, false, not, ◌||◌, List, [], ◌∷◌, ◌++◌, length, set, Option, Some, None, refl, ap, sym, ◌∙◌, append-nil, arith, subst}
-use Rattle.std.specs.Prelude.{slice_get, Vec}
+use Rattle.std.specs.Prelude.{slice_get, slice_index, Vec}
 use Rattle.std.specs.declared.alloc.Global.{Global}
 use Rattle.std.specs.declared.collections.VecDeque.{VecDeque}
 use Rattle.std.proofs.lemmas.Option.{slice_get_past, same_Some}
+use Rattle.std.proofs.lemmas.List.{length-set, get_or-set_same, get_or-set_other}
 use Rattle.sq_value.specs.declared.Tuple.{Tuple}
 use Rattle.sq_item.specs.declared.Item.{Item}
 use Rattle.sq_item.specs.Things.{Thing, spread, spread_all}
 use Rattle.sq_item.specs.Sound.{IsSound}
-use Rattle.sq_road.specs.Levels.{LevelTable, Agrees, level_of}
+use Rattle.sq_road.specs.Levels.{LevelTable, Agrees}
+use Rattle.sq_plan.specs.Plans.{Setting}
 use Rattle.sq_oper.specs.declared.outs.Event.{Event}
 use Rattle.sq_oper.specs.Entries.{Entry}
 use Rattle.sq_oper.specs.Streams.{things, IsSoundTuple}
@@ -23,7 +25,10 @@ use Rattle.sq_queue.specs.declared.Queues.{Queues}
 use Rattle.sq_outside.specs.Disks.{Pages}
 use Rattle.sq_queue.specs.Faces.{face, size, items_on, Tells, Together}
 use Rattle.sq_flow.specs.Sends.{many, Pushes}
-use Rattle.sq_flow.specs.Sources.{BeginsNotBefore, BeginsLeast, IsNextSource}
+use Rattle.sq_flow.specs.Sources.{BeginsLeast, IsNextSource}
+use Rattle.sq_flow.specs.Plans.{IsPlanned, plans_left, plans_of}
+use Rattle.sq_flow.proofs.PlanLemmas.{rise-later}
+use Rattle.sq_flow.proofs.ReleasedPlans.{ClosedBefore, agrees-before, epoch_there, not-before, mid-len, mid-low, planned-after, plans-go}
 use Rattle.sq_flow.specs.Readiness.{TouchesOnly}
 use Rattle.sq_flow.proofs.TouchLemmas.{away-from, stands-pushed}
 use Rattle.sq_flow.proofs.SumLemmas.{sum-same}
@@ -33,8 +38,9 @@ use Rattle.sq_flow.specs.declared.flow.Flow.{Flow}
 use Rattle.sq_flow.specs.Wiring.{net_of, arcs_from, times_in, from_of, sent}
 use Rattle.sq_flow.specs.Seats.{Meaning, done_at, holds_at, IsSeat}
 use Rattle.sq_flow.specs.Events.{bodies, lines_of}
-use Rattle.sq_flow.specs.Flows.{world_of, IsFlow, HoldsItems, Goes, Stepped, RiseFrom, to_release, tuples_at, turns_at_last, count_all}
+use Rattle.sq_flow.specs.Flows.{world_of, IsFlow, HoldsItems, Goes, Stepped, ShowsPrefix, RiseFrom, to_release, tuples_at, lines_left, turns_at_last, count_all}
 use Rattle.sq_flow.proofs.SendLemmas.{at_or_other, apart-arcs}
+use Rattle.sq_flow.proofs.FutureLemmas.{slice_get-set_same, slice_get-set_other}
 
 pub fine-later : (t u : ℕ) (its : List Item) → t ≤ u → AllFine t its → AllFine u its
 fine-later t u [] le h = tt
@@ -45,17 +51,7 @@ slice_get-not_none [] i h = absurd (omega (arith, h))
 slice_get-not_none (x ∷ xs) zero h = λ e. cc e
 slice_get-not_none (x ∷ xs) (suc i) h = slice_get-not_none xs i (omega (arith, h))
 
--- a table that agrees with more closed levels agrees with fewer
-pub agrees-before : (l l' : LevelTable) → l'.rows ≡ l.rows → l.closed ≤ l'.closed → (table : ℕ → ℕ → ℕ) → Agrees l' table → Agrees l table
-agrees-before l l' rows grows table h epoch drop low =
-    h epoch drop (omega (arith, low, grows)) ∙ ap (λ r. level_of (record { epoch = 1; closed = 1; rows = r }) epoch drop) rows
-
 -- the replay stands behind the operators
--- tuples that rise, from the first of them on
-pub rise-later : (from time : ℕ) (ts : List Tuple) → RiseFrom from ts → BeginsNotBefore time ts → RiseFrom time ts
-rise-later from time [] h le = tt
-rise-later from time (x ∷ ts) h le = (le, h.1, h.2)
-
 pub replay-open : {O : Type 0} (m : Meaning O) (valid : O → Type 0) (e : Flow O) → IsFlow m valid e → e.over ≡ false → done_at e.over (slice_get e.seats.items e.wires.replay) ≡ false
 replay-open m valid e flow open_now =
     let is = flow.shaped.replay_is in
@@ -63,17 +59,17 @@ replay-open m valid e flow open_now =
 
 -- a step of the replay that pushes what the source loses
 module _ {O : Type 0} (m : Meaning O) (valid : O → Type 0) (e : Flow O) (flow : IsFlow m valid e) (items items' : ℕ → List Item) (holds : HoldsItems m items e)
-    (over' : Bool) (queues' : Queues) (sources' : Vec (VecDeque Tuple Global) Global) (clock' : ℕ) (levels' : LevelTable) (pushed : ℕ → ℕ → List Thing)
+    (over' : Bool) (queues' : Queues) (sources' : Vec (VecDeque Tuple Global) Global) (clock' : ℕ) (planner' : Setting) (levels' : LevelTable) (counts' : Vec ℕ Global) (pushed : ℕ → ℕ → List Thing)
     (source : (q : ℕ) → things (to_release e q) ≡ pushed e.wires.replay q ++ things (tuples_at (slice_get sources'.items q)))
     (quiet : (other : ℕ) → other ≢ e.wires.replay → (q : ℕ) → pushed other q ≡ [])
     (ends : over' ≡ true → (q : ℕ) → tuples_at (slice_get sources'.items q) ≡ [])
     (given_on : (k : ℕ) → k < length e.wires.arcs.items → spread_all (items' k) ≡ spread_all (items k) ++ pushed ((net_of e.wires).from k) ((net_of e.wires).port k))
-    (rows : levels'.rows ≡ e.levels.rows) (grows : e.levels.closed ≤ levels'.closed) where
+    (before : (table : ℕ → ℕ → ℕ) → Agrees levels' table → Agrees e.levels table) where
   abbrev net : Net
   net = net_of e.wires
 
   abbrev e' : Flow O
-  e' = record e { over = over'; queues = queues'; sources = sources'; clock = clock'; levels = levels' }
+  e' = record e { over = over'; queues = queues'; sources = sources'; clock = clock'; planner = planner'; levels = levels'; counts = counts' }
 
   abbrev was : (ℕ → ℕ → ℕ) → World
   was table = world_of m table items e
@@ -106,7 +102,7 @@ module _ {O : Type 0} (m : Meaning O) (valid : O → Type 0) (e : Flow O) (flow 
   pub holds-after : ((k : ℕ) → AllFine clock' (items' k)) → HoldsItems m items' e'
   holds-after fine =
       record {
-        facts = λ table agrees. (kept table (agrees-before e.levels levels' rows grows table agrees)).facts;
+        facts = λ table agrees. (kept table (before table agrees)).facts;
         queued = fine;
       }
 
@@ -118,15 +114,16 @@ module _ {O : Type 0} (m : Meaning O) (valid : O → Type 0) (e : Flow O) (flow 
       (λ other low. let away : other ≢ net.replay = omega (arith, is_replay, low) in ap (λ (l : List Entry). length l) (k.told other (flow.shaped.ordered other low) away).comes) in
       ap (λ n. e.taken + n) sums
 
-  pub goes-after : (events : List Event) → ((output : ℕ) → output < length e.seats.items → (q : ℕ) → pushed output q ≡ []) → (table : ℕ → ℕ → ℕ) → Agrees levels' table
-      → Goes m table items items' e e' events events
-  goes-after events none table agrees =
-      let k = kept table (agrees-before e.levels levels' rows grows table agrees) in
+  pub goes-after : (events events' : List Event) → ((o : ℕ) → lines_of o events' ≡ lines_of o events) → ((output : ℕ) → output < length e.seats.items → (q : ℕ) → pushed output q ≡ []) → (table : ℕ → ℕ → ℕ) → Agrees levels' table
+      → Goes m table items items' e e' events events'
+  goes-after events events' shown none table agrees =
+      let k = kept table (before table agrees) in
       record {
         lines = λ output low.
             ap (λ z. lines_of output events ++ bodies z)
             (k.streams (e.wires.shown + output) 0 (flow.shaped.ordered (e.wires.shown + output) low)
-            ∙ ap (λ z. z ++ coming net (is table) e.wires.order.items (e.wires.shown + output) 0) (none (e.wires.shown + output) low 0));
+            ∙ ap (λ z. z ++ coming net (is table) e.wires.order.items (e.wires.shown + output) 0) (none (e.wires.shown + output) low 0))
+            ∙ ap (λ z. z ++ lines_left m table items' e' output) (sym (shown output));
         fed = λ other low.
             let r = flow.shaped.replay_is in
             let away : other ≢ net.replay = omega (arith, r, low) in
@@ -135,7 +132,7 @@ module _ {O : Type 0} (m : Meaning O) (valid : O → Type 0) (e : Flow O) (flow 
             let r = flow.shaped.replay_is in
             let away : other ≢ net.replay = omega (arith, r, low) in
             (k.told other (flow.shaped.ordered other low) away).lost;
-        turns = turns-same table (agrees-before e.levels levels' rows grows table agrees);
+        turns = turns-same table (before table agrees);
       }
 
 own-sent : (replay port : ℕ) (xs : List Thing) (q : ℕ) → sent replay port xs replay q ≡ cond (eqb port q) xs []
@@ -149,24 +146,19 @@ module _ {O : Type 0} (m : Meaning O) (valid : O → Type 0) (e : Flow O) (flow 
   not-replay other low = let r = flow.shaped.replay_is in omega (arith, r, low)
 
   -- the whole of a release, from what its parts say
-  module _ (sources' : Vec (VecDeque Tuple Global) Global) (port : ℕ) (x : Tuple) (more : VecDeque Tuple Global) (next : IsNextSource e.sources.items port)
-      (front : to_release e port ≡ x ∷ more.items) (is_after : slice_get sources'.items port ≡ Some more)
-      (apart : (other : ℕ) → other ≢ port → slice_get sources'.items other ≡ slice_get e.sources.items other) where
+  module _ (pos : 0 < e.levels.epoch) (port : ℕ) (v more : VecDeque Tuple Global) (x : Tuple) (next : IsNextSource e.sources.items port)
+      (at : slice_get e.sources.items port ≡ Some v) (held : v.items ≡ x ∷ more.items) where
     abbrev item : Item
     item = record { time = x.time; mark = None; body = Some x.fields }
+
+    front : to_release e port ≡ x ∷ more.items
+    front = ap tuples_at at ∙ held
 
     first : (e.clock ≤ x.time) × IsSoundTuple x × RiseFrom x.time more.items
     first = subst (RiseFrom e.clock) front (flow.coming port)
 
     pub item-sound : IsSound item
     item-sound = record { tick = first.1.0; some = refl; mark = tt; body = first.1.1 }
-
-    coming-after : (source : ℕ) → RiseFrom x.time (tuples_at (slice_get sources'.items source))
-    coming-after = at_or_other (λ k. RiseFrom x.time (tuples_at (slice_get sources'.items k))) port (rw is_after first.2)
-        (λ k ne. subst (λ o. RiseFrom x.time (tuples_at o)) (sym (apart k ne)) (rise-later e.clock x.time (to_release e k) (flow.coming k) (least.0 k)))
-      where
-        least : BeginsLeast e.sources.items port (x ∷ more.items)
-        least = subst (BeginsLeast e.sources.items port) front next.least
 
     -- as long as something is to be released the replay isn't over
     pub replay-runs : e.over ≡ false
@@ -176,69 +168,120 @@ module _ {O : Type 0} (m : Meaning O) (valid : O → Type 0) (e : Flow O) (flow 
         by false h = refl
         by true h = cc (sym front ∙ flow.over h port)
 
-    pub released-stepped : (was is : Option Pages) (q' : Queues) (levels' : LevelTable) (events : List Event)
-        → Together e.queues was → length sources'.items ≡ length e.sources.items
-        → (levels'.rows ≡ e.levels.rows) × (levels'.epoch ≡ e.levels.epoch) → e.levels.closed ≤ levels'.closed → x.time / levels'.epoch < levels'.closed
-        → Pushes e.queues q' was is (λ k. many (times_in k (arcs_from e.wires e.wires.replay port)) (spread item)) (λ time. x.time ≤ time) (contains (arcs_from e.wires e.wires.replay port))
-        → Stepped m valid was is e (record e { queues = q'; sources = sources'; clock = x.time; levels = levels' }) events events
-    released-stepped was is q' levels' events together sources_len rows grows closed pushes =
-        record {
-          flow_after =
-              record {
-                shaped = flow.shaped;
-                lanes = pushes.lanes ∙ flow.lanes;
-                ended = λ arc low. pushes.ended arc ∙ flow.ended arc low;
-                seats = λ actor. subst (λ n. holds_at (IsSeat m valid ((net_of e.wires).takes actor) ((net_of e.wires).fits actor) n e.taken) (slice_get e.seats.items actor)) (sym rows.1) (flow.seats actor);
-                few = flow.few;
-                held = λ table agrees actor q. ThingsUpTo-later e.clock x.time _ first.0 (flow.held table (agrees-before e.levels levels' rows.0 grows table agrees) actor q);
-                coming = coming-after;
-                few_sources = rw sources_len flow.few_sources;
-                levels = (closed, first.1.0);
-                over = λ o. absurd (cc (replay-runs, o));
-              };
-          together = pushes.together;
-          tells = pushes.tells;
-          wires = refl;
-          seats = refl;
-          closes = agrees-before e.levels levels' rows.0 grows;
-          shows = λ h. h;
-          holds = λ told holds.
-              holds-after m valid e flow (items_on e.queues was) (items_on q' is) holds e.over q' sources' x.time levels' (sent-by) given-there quiet ends (on told) rows.0 grows
-              (pushes.fine told x.time le-refl (λ k. fine-later e.clock x.time (items_on e.queues was k) first.0 (holds.queued k)));
-          goes = λ told holds table agrees.
-              goes-after m valid e flow (items_on e.queues was) (items_on q' is) holds e.over q' sources' x.time levels' (sent-by) given-there quiet ends (on told) rows.0 grows
-              events (λ output low q. quiet output (not-replay output low) q) table agrees;
-        }
-      where
-        le-refl : x.time ≤ x.time
-        le-refl = omega arith
+    module _ (planner' : Setting) (levels' : LevelTable) (mid : List ℕ) (events events' : List Event)
+        (did : ClosedBefore e.planner planner' e.levels levels' e.counts.items mid (epoch_there m valid e flow pos port v more x next at held) events events')
+        (sources' : Vec (VecDeque Tuple Global) Global) (counts' : Vec ℕ Global)
+        (taken : sources'.items ≡ set e.sources.items port more) (counts_are : counts'.items ≡ set mid port (slice_index mid port + 1)) where
+      is_after : slice_get sources'.items port ≡ Some more
+      is_after = ap (λ l. slice_get l port) taken ∙ slice_get-set_same e.sources.items port more next.there
 
-        sent-by : ℕ → ℕ → List Thing
-        sent-by = sent e.wires.replay port (spread item)
+      apart : (other : ℕ) → other ≢ port → slice_get sources'.items other ≡ slice_get e.sources.items other
+      apart other ne = ap (λ l. slice_get l other) taken ∙ slice_get-set_other e.sources.items port other more ne
 
-        given-there : (q : ℕ) → things (to_release e q) ≡ sent e.wires.replay port (spread item) e.wires.replay q ++ things (tuples_at (slice_get sources'.items q))
-        given-there q =
-            at_or_other (λ k. things (to_release e k) ≡ cond (eqb port k) (spread item) [] ++ things (tuples_at (slice_get sources'.items k))) port
-            (ap things front ∙ ap (λ o. spread item ++ things (tuples_at o)) (sym is_after)
-            ∙ ap (λ b. cond b (spread item) [] ++ things (tuples_at (slice_get sources'.items port))) (sym (eqb-same port port refl)))
-            (λ k ne. ap (λ o. things (tuples_at o)) (sym (apart k ne))
-            ∙ ap (λ b. cond b (spread item) [] ++ things (tuples_at (slice_get sources'.items k))) (sym (eqb-not port k (λ same. ne (sym same))))) q
-            ∙ ap (λ z. z ++ things (tuples_at (slice_get sources'.items q))) (sym (own-sent e.wires.replay port (spread item) q))
+      sources_len : length sources'.items ≡ length e.sources.items
+      sources_len = ap (λ (l : List (VecDeque Tuple Global)). length l) taken ∙ length-set e.sources.items port more
 
-        quiet : (other : ℕ) → other ≢ e.wires.replay → (q : ℕ) → sent e.wires.replay port (spread item) other q ≡ []
-        quiet = not-sent e.wires.replay port (spread item)
+      coming-after : (source : ℕ) → RiseFrom x.time (tuples_at (slice_get sources'.items source))
+      coming-after = at_or_other (λ k. RiseFrom x.time (tuples_at (slice_get sources'.items k))) port (rw is_after first.2)
+          (λ k ne. subst (λ o. RiseFrom x.time (tuples_at o)) (sym (apart k ne)) (rise-later e.clock x.time (to_release e k) (flow.coming k) (least.0 k)))
+        where
+          least : BeginsLeast e.sources.items port (x ∷ more.items)
+          least = subst (BeginsLeast e.sources.items port) front next.least
 
-        ends : e.over ≡ true → (q : ℕ) → tuples_at (slice_get sources'.items q) ≡ []
-        ends o = absurd (cc (replay-runs, o))
+      grows : e.levels.closed ≤ levels'.closed
+      grows = let low = not-before m valid e flow pos port v more x next at held in let c = did.closed in omega (arith, low, c)
 
-        on : Tells was → (k : ℕ) → k < length e.wires.arcs.items
-            → spread_all (items_on q' is k) ≡ spread_all (items_on e.queues was k) ++ sent e.wires.replay port (spread item) ((net_of e.wires).from k) ((net_of e.wires).port k)
-        on told k low = pushes.items told k ∙ ap (λ z. spread_all (items_on e.queues was k) ++ z) (one-sent e.wires (length e.seats.items) flow.shaped e.wires.replay port k (spread item) low)
+      before : (table : ℕ → ℕ → ℕ) → Agrees levels' table → Agrees e.levels table
+      before = agrees-before e.levels levels' did.keeps grows
 
-    pub released-touches : (was is : Option Pages) (q' : Queues) (levels' : LevelTable) (sent_there : ℕ → List Thing) (upto : ℕ → Type 0)
+      counts-len : length counts'.items ≡ length sources'.items
+      counts-len = ap (λ (l : List ℕ). length l) counts_are ∙ length-set mid port (slice_index mid port + 1)
+          ∙ mid-len m valid e flow pos port v more x next at held planner' levels' mid events events' did ∙ flow.counts ∙ sym sources_len
+
+      few-after : (source : ℕ) → slice_index counts'.items source + length (tuples_at (slice_get sources'.items source)) ≤ 1000000
+      few-after = at_or_other (λ k. slice_index counts'.items k + length (tuples_at (slice_get sources'.items k)) ≤ 1000000) port
+          (let low = mid-low m valid e flow pos port v more x next at held planner' levels' mid events events' did port in
+          let few = flow.few_tuples port in
+          let more-is = ap (λ o. length (tuples_at o)) is_after in
+          let was = ap (λ (l : List Tuple). length l) front in
+          let counted = ap (λ l. slice_index l port) counts_are ∙ get_or-set_same mid port (slice_index mid port + 1) 0 within in
+          omega (arith, low, few, more-is, was, counted))
+          (λ k ne.
+          let low = mid-low m valid e flow pos port v more x next at held planner' levels' mid events events' did k in
+          let few = flow.few_tuples k in
+          let same = ap (λ o. length (tuples_at o)) (apart k ne) in
+          let counted = ap (λ l. slice_index l k) counts_are ∙ get_or-set_other mid port k (slice_index mid port + 1) 0 ne in
+          omega (arith, low, few, same, counted))
+        where
+          within : port < length mid
+          within = let l = mid-len m valid e flow pos port v more x next at held planner' levels' mid events events' did in let n = next.there in let c = flow.counts in omega (arith, l, n, c)
+
+      pub released-stepped : (was is : Option Pages) (q' : Queues) → Together e.queues was
+          → Pushes e.queues q' was is (λ k. many (times_in k (arcs_from e.wires e.wires.replay port)) (spread item)) (λ time. x.time ≤ time) (contains (arcs_from e.wires e.wires.replay port))
+          → Stepped m valid was is e (record e { queues = q'; sources = sources'; clock = x.time; planner = planner'; levels = levels'; counts = counts' }) events events'
+      released-stepped was is q' together pushes =
+          record {
+            flow_after =
+                record {
+                  shaped = flow.shaped;
+                  lanes = pushes.lanes ∙ flow.lanes;
+                  ended = λ arc low. pushes.ended arc ∙ flow.ended arc low;
+                  seats = λ actor. subst (λ n. holds_at (IsSeat m valid ((net_of e.wires).takes actor) ((net_of e.wires).fits actor) n e.taken) (slice_get e.seats.items actor)) (sym did.epoch) (flow.seats actor);
+                  few = flow.few;
+                  held = λ table agrees actor q. ThingsUpTo-later e.clock x.time _ first.0 (flow.held table (before table agrees) actor q);
+                  coming = coming-after;
+                  few_sources = rw sources_len flow.few_sources;
+                  levels = (did.closed ∙ ap (λ n. x.time / n + 1) (sym did.epoch), first.1.0);
+                  counts = counts-len;
+                  few_tuples = few-after;
+                  over = λ o. absurd (cc (replay-runs, o));
+                };
+            together = pushes.together;
+            tells = pushes.tells;
+            wires = refl;
+            seats = refl;
+            closes = before;
+            shows = did.within _ 0;
+            planner = did.same;
+            planned = planned-after m valid e flow pos port v more x next at held planner' levels' mid events events' did q' sources' counts' taken counts_are;
+            plans = plans-go m valid e flow pos port v more x next at held planner' levels' mid events events' did q' sources' counts' taken counts_are;
+            holds = λ told holds.
+                holds-after m valid e flow (items_on e.queues was) (items_on q' is) holds e.over q' sources' x.time planner' levels' counts' (sent-by) given-there quiet ends (on told) before
+                (pushes.fine told x.time le-refl (λ k. fine-later e.clock x.time (items_on e.queues was k) first.0 (holds.queued k)));
+            goes = λ told holds table agrees.
+                goes-after m valid e flow (items_on e.queues was) (items_on q' is) holds e.over q' sources' x.time planner' levels' counts' (sent-by) given-there quiet ends (on told) before
+                events events' did.lines (λ output low q. quiet output (not-replay output low) q) table agrees;
+          }
+        where
+          le-refl : x.time ≤ x.time
+          le-refl = omega arith
+
+          sent-by : ℕ → ℕ → List Thing
+          sent-by = sent e.wires.replay port (spread item)
+
+          given-there : (q : ℕ) → things (to_release e q) ≡ sent e.wires.replay port (spread item) e.wires.replay q ++ things (tuples_at (slice_get sources'.items q))
+          given-there q =
+              at_or_other (λ k. things (to_release e k) ≡ cond (eqb port k) (spread item) [] ++ things (tuples_at (slice_get sources'.items k))) port
+              (ap things front ∙ ap (λ o. spread item ++ things (tuples_at o)) (sym is_after)
+              ∙ ap (λ b. cond b (spread item) [] ++ things (tuples_at (slice_get sources'.items port))) (sym (eqb-same port port refl)))
+              (λ k ne. ap (λ o. things (tuples_at o)) (sym (apart k ne))
+              ∙ ap (λ b. cond b (spread item) [] ++ things (tuples_at (slice_get sources'.items k))) (sym (eqb-not port k (λ same. ne (sym same))))) q
+              ∙ ap (λ z. z ++ things (tuples_at (slice_get sources'.items q))) (sym (own-sent e.wires.replay port (spread item) q))
+
+          quiet : (other : ℕ) → other ≢ e.wires.replay → (q : ℕ) → sent e.wires.replay port (spread item) other q ≡ []
+          quiet = not-sent e.wires.replay port (spread item)
+
+          ends : e.over ≡ true → (q : ℕ) → tuples_at (slice_get sources'.items q) ≡ []
+          ends o = absurd (cc (replay-runs, o))
+
+          on : Tells was → (k : ℕ) → k < length e.wires.arcs.items
+              → spread_all (items_on q' is k) ≡ spread_all (items_on e.queues was k) ++ sent e.wires.replay port (spread item) ((net_of e.wires).from k) ((net_of e.wires).port k)
+          on told k low = pushes.items told k ∙ ap (λ z. spread_all (items_on e.queues was k) ++ z) (one-sent e.wires (length e.seats.items) flow.shaped e.wires.replay port k (spread item) low)
+
+    pub released-touches : (was is : Option Pages) (q' : Queues) (sources' : Vec (VecDeque Tuple Global) Global) (planner' : Setting) (levels' : LevelTable) (counts' : Vec ℕ Global) (sent_there : ℕ → List Thing) (upto : ℕ → Type 0)
         → Pushes e.queues q' was is sent_there upto (contains (arcs_from e.wires e.wires.replay port))
-        → TouchesOnly (length e.seats.items) e (record e { queues = q'; sources = sources'; clock = x.time; levels = levels' })
-    released-touches was is q' levels' sent_there upto pushes =
+        → TouchesOnly (length e.seats.items) e (record e { queues = q'; sources = sources'; clock = x.time; planner = planner'; levels = levels'; counts = counts' })
+    released-touches was is q' sources' planner' levels' counts' sent_there upto pushes =
         record {
           apart = λ arc low to from.
               let r = flow.shaped.replay_is in
@@ -269,6 +312,8 @@ module _ {O : Type 0} (m : Meaning O) (valid : O → Type 0) (e : Flow O) (flow 
               coming = flow.coming;
               few_sources = flow.few_sources;
               levels = flow.levels;
+              counts = flow.counts;
+              few_tuples = flow.few_tuples;
               over = λ o. none;
             };
         together = stays pages together;
@@ -277,17 +322,17 @@ module _ {O : Type 0} (m : Meaning O) (valid : O → Type 0) (e : Flow O) (flow 
         seats = refl;
         closes = λ table h. h;
         shows = λ h. h;
+        planner = refl;
+        planned = λ all h. record { agrees = h.agrees; counts = h.counts };
+        plans = refl;
         holds = λ told holds.
-            holds-after m valid e flow (items_on e.queues pages) (items_on q' pages) holds true q' e.sources e.clock e.levels (λ _ _. []) (λ q. refl) (λ other ne q. refl) (λ o. none) (on)
-            refl le-refl (λ k. subst (AllFine e.clock) (sym (same pages k)) (holds.queued k));
+            holds-after m valid e flow (items_on e.queues pages) (items_on q' pages) holds true q' e.sources e.clock e.planner e.levels e.counts (λ _ _. []) (λ q. refl) (λ other ne q. refl) (λ o. none) (on)
+            (λ table h. h) (λ k. subst (AllFine e.clock) (sym (same pages k)) (holds.queued k));
         goes = λ told holds table agrees.
-            goes-after m valid e flow (items_on e.queues pages) (items_on q' pages) holds true q' e.sources e.clock e.levels (λ _ _. []) (λ q. refl) (λ other ne q. refl) (λ o. none) (on)
-            refl le-refl events (λ output low q. refl) table agrees;
+            goes-after m valid e flow (items_on e.queues pages) (items_on q' pages) holds true q' e.sources e.clock e.planner e.levels e.counts (λ _ _. []) (λ q. refl) (λ other ne q. refl) (λ o. none) (on)
+            (λ table h. h) events events (λ o. refl) (λ output low q. refl) table agrees;
       }
     where
-      le-refl : e.levels.closed ≤ e.levels.closed
-      le-refl = omega arith
-
       on : (k : ℕ) → k < length e.wires.arcs.items → spread_all (items_on q' pages k) ≡ spread_all (items_on e.queues pages k) ++ []
       on k low = ap spread_all (same pages k) ∙ sym (append-nil (spread_all (items_on e.queues pages k)))
 
@@ -316,6 +361,12 @@ module _ {O : Type 0} (m : Meaning O) (valid : O → Type 0) (e : Flow O) (flow 
               let r = flow.shaped.replay_is in
               let away : actor ≢ e.wires.replay = eqb-no actor e.wires.replay k in
               some (slice_get e.seats.items actor) (slice_get-not_none e.seats.items actor (omega (arith, r, away, low)))
+
+-- where no tuple was shown
+pub lines-stay : {O : Type 0} (m : Meaning O) (was : Option Pages) (e : Flow O) (levels : LevelTable) (events events' : List Event) → ((o : ℕ) → lines_of o events' ≡ lines_of o events)
+    → ShowsPrefix m was e levels events events'
+lines-stay m was e levels events events' same = λ told holds table agrees output low.
+    (lines_left m table (items_on e.queues was) e output, ap (λ z. z ++ lines_left m table (items_on e.queues was) e output) (sym (same output)))
 
 -- a source of which one tuple was taken
 pub count-less : (sources : List (VecDeque Tuple Global)) (i : ℕ) (v v' : VecDeque Tuple Global) (x : Tuple) → slice_get sources i ≡ Some v → v.items ≡ x ∷ v'.items

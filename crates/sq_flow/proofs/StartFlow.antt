@@ -1,6 +1,10 @@
 -- A flow that has released nothing yet.
-use Rattle.std.proofs.Common.{◌≡◌, ℕ, ◌/◌, ◌<◌, ◌^◌, Bool, false, not, List, [], length, Option, Some, None, refl, ap, sym, ◌∙◌, arith}
-use Rattle.std.specs.Prelude.{slice_get}
+use Rattle.std.proofs.Common.{zero, suc, ◌+◌, ◌-◌, ◌≤◌, eqb, cond, true, replicate, ◌≡◌, ℕ, ◌/◌, ◌<◌, ◌^◌, Bool, false, not, List, [], length, Option, Some, None, refl, ap, sym, ◌∙◌, arith}
+use Rattle.std.specs.Prelude.{slice_get, slice_index}
+use Rattle.std.specs.List.{flat_map, range_with_len}
+use Rattle.sq_value.specs.Lists.{numbers_to}
+use Rattle.sq_road.specs.Levels.{Rows, Agrees, level_of}
+use Rattle.sq_plan.specs.Shown.{level_for, shown_from, shown_after}
 use Rattle.sq_value.specs.declared.Value.{Value}
 use Rattle.sq_item.specs.declared.Item.{Item}
 use Rattle.sq_oper.specs.declared.tally.Place.TheVariants.{Start}
@@ -13,12 +17,15 @@ use Rattle.sq_flow.specs.Wiring.{net_of, from_of, IsShaped}
 use Rattle.sq_flow.specs.Seats.{Meaning, rest_at, done_at, place_at, holds_at, IsSeat}
 use Rattle.sq_flow.specs.Flows.{world_of, IsFlow, HoldsItems, RiseFrom, to_release}
 use Rattle.sq_flow.specs.Starts.{IsNewSeat}
+use Rattle.sq_flow.specs.Plans.{arrivals, last_arrival, add_counts, streams_left, counts_of, IsPlanned, plans_left}
+use Rattle.sq_flow.proofs.PlanLemmas.{add-zeros, arrivals-len, flat-same, zeros-low}
 
 module _ {O : Type 0} (m : Meaning O) (valid : O → Type 0) (e : Flow O)
     (shaped : IsShaped e.wires (length e.seats.items)) (lanes : size e.queues ≡ length e.wires.arcs.items)
     (open_all : (arc : ℕ) → (face e.queues arc).ended ≡ false) (runs : e.over ≡ false)
     (seats : (actor : ℕ) → holds_at (IsNewSeat m valid ((net_of e.wires).takes actor) ((net_of e.wires).fits actor) e.levels.epoch) (slice_get e.seats.items actor))
-    (rises : (source : ℕ) → RiseFrom 0 (to_release e source)) (few : length e.sources.items < 2 ^ 32) (clock : e.clock ≡ 0) (none_taken : e.taken ≡ 0) (closed : 0 < e.levels.closed) where
+    (rises : (source : ℕ) → RiseFrom 0 (to_release e source)) (few : length e.sources.items < 2 ^ 32) (clock : e.clock ≡ 0) (none_taken : e.taken ≡ 0) (closed : e.levels.closed ≡ 1)
+    (counts : length e.counts.items ≡ length e.sources.items) (few_tuples : (source : ℕ) → slice_index e.counts.items source + length (to_release e source) ≤ 1000000) where
   done-none : (actor : ℕ) → done_at e.over (slice_get e.seats.items actor) ≡ false
   done-none actor = by (slice_get e.seats.items actor) (seats actor)
     where
@@ -44,12 +51,14 @@ module _ {O : Type 0} (m : Meaning O) (valid : O → Type 0) (e : Flow O)
         held = λ table agrees actor port. held-none table ((net_of e.wires).takes actor) ((net_of e.wires).fits actor) (slice_get e.seats.items actor) port (seats actor);
         coming = λ source. rw clock (rises source);
         few_sources = few;
-        levels = rw clock (first e.levels.epoch e.levels.closed closed, omega arith);
+        levels = rw clock (closed ∙ first e.levels.epoch, omega arith);
+        counts = counts;
+        few_tuples = few_tuples;
         over = λ o. absurd (cc (sym runs ∙ o));
       }
     where
-      first : (epoch closed : ℕ) → 0 < closed → 0 / epoch < closed
-      first epoch closed h = grind arith
+      first : (epoch : ℕ) → 1 ≡ 0 / epoch + 1
+      first epoch = grind arith
 
       seat-of : (actor : ℕ) (o : Option (Seat O)) → holds_at (IsNewSeat m valid ((net_of e.wires).takes actor) ((net_of e.wires).fits actor) e.levels.epoch) o
           → holds_at (IsSeat m valid ((net_of e.wires).takes actor) ((net_of e.wires).fits actor) e.levels.epoch e.taken) o
@@ -73,3 +82,42 @@ module _ {O : Type 0} (m : Meaning O) (valid : O → Type 0) (e : Flow O)
   -- where the facts hold of a world in which nothing is queued
   pub start-holds : (items : ℕ → List Item) → ((arc : ℕ) → items arc ≡ []) → ((table : ℕ → ℕ → ℕ) → Facts (net_of e.wires) (world_of m table items e) e.wires.order.items) → HoldsItems m items e
   start-holds items none facts = record { facts = λ table agrees. facts table; queued = λ arc. rw (none arc) tt }
+
+-- a flow that has counted nothing yet
+module _ {O : Type 0} (e : Flow O) (closed : e.levels.closed ≡ 1) (rows : e.levels.rows ≡ []) (counts : e.counts.items ≡ replicate (length e.sources.items) 0) where
+  abbrev pub all : ℕ → List ℕ
+  all = arrivals e.levels.epoch (streams_left e)
+
+  counts-first : (y : ℕ) → counts_of e y ≡ all y
+  counts-first y = by (eqb (y + 1) e.levels.closed)
+    where
+      by : (b : Bool) → add_counts (cond b e.counts.items []) (all y) ≡ all y
+      by false = refl
+      by true = ap (λ l. add_counts l (all y)) counts ∙ add-zeros (length e.sources.items) (all y) (arrivals-len e.levels.epoch y e.sources.items)
+
+  pub start-planned : IsPlanned all e
+  start-planned =
+      record {
+        agrees = λ y w low. by y w (omega (arith, low, closed)) ∙ sym (ap (λ (r : Rows). level_of (record { epoch = 1; closed = 1; rows = r }) y w) rows);
+        counts = λ y from. sym (counts-first y);
+      }
+    where
+      by : (y w : ℕ) → y < 1 → level_for e.planner all y w ≡ 0
+      by zero w low = refl
+      by (suc y) w low = absurd (omega (arith, low))
+
+  pub start-plans : plans_left e ≡ flat_map (shown_after e.planner all) (numbers_to (last_arrival e.levels.epoch (streams_left e)))
+  start-plans =
+      ap (λ n. flat_map (shown_after e.planner (counts_of e)) (range_with_len n (last_arrival e.levels.epoch (streams_left e) - n))) first
+      ∙ ap (λ n. flat_map (shown_after e.planner (counts_of e)) (range_with_len 0 n)) (less-none (last_arrival e.levels.epoch (streams_left e)))
+      ∙ flat-same (shown_after e.planner (counts_of e)) (shown_after e.planner all) 0 (last_arrival e.levels.epoch (streams_left e)) (λ y from. ap (shown_from e.planner y) (counts-first y))
+    where
+      first : e.levels.closed - 1 ≡ 0
+      first = omega (arith, closed)
+
+      less-none : (n : ℕ) → n - 0 ≡ n
+      less-none n = omega arith
+
+-- at most a million tuples of each source, of which none is counted
+pub few-first : (n : ℕ) (counts : List ℕ) (source many : ℕ) → counts ≡ replicate n 0 → many ≤ 1000000 → slice_index counts source + many ≤ 1000000
+few-first n counts source many none few = let low = ap (λ l. slice_index l source) none ∙ zeros-low n source in omega (arith, low, few)

@@ -12,7 +12,11 @@ use Rattle.sq_flow.specs.declared.heads.Next.TheVariants.{Waits}
 use Rattle.sq_flow.specs.Wiring.{arcs_read}
 use Rattle.sq_flow.specs.Heads.{NextUpTo}
 use Rattle.sq_flow.specs.Seats.{Meaning}
-use Rattle.sq_flow.specs.Events.{ShowsBelow}
+use Rattle.sq_flow.specs.Events.{ShowsIn}
+use Rattle.sq_flow.specs.Plans.{IsPlanned, PlansPrefix, plans_of}
+use Rattle.sq_plan.specs.Plans.{Setting}
+use Rattle.sq_plan.specs.Shown.{level_for}
+use Rattle.sq_value.specs.Lists.{IsPrefixOf}
 use Rattle.sq_flow.specs.Flows.{HoldsItems, Stepped, ShowsPrefix, NoneStrange, CostsFed, CostsAtMost, TooMuchOnly, items_in, fed_at_last, sum_below, work_at_last}
 use Rattle.sq_flow.proofs.SumLemmas.{sum-same}
 use Rattle.sq_flow.specs.Readiness.{IsReady}
@@ -34,7 +38,10 @@ module _ {O : Type 0} (m : Meaning O) (valid : O → Type 0) where
           wires = second.wires ∙ first.wires;
           seats = second.seats ∙ first.seats;
           closes = λ table h. first.closes table (second.closes table h);
-          shows = λ h. subst (λ n. ShowsBelow n e1 e2) outputs-same second.shows (first.shows h);
+          shows = λ h. subst (λ n. ShowsIn n 0 e1 e2) outputs-same second.shows (first.shows h);
+          planner = second.planner ∙ first.planner;
+          planned = λ all h. second.planned all (first.planned all h);
+          plans = first.plans ∙ second.plans;
           holds = λ told h. second.holds (first.tells ∙ told) (first.holds told h);
           goes = λ told h table agrees.
               let a = first.goes told h table (second.closes table agrees) in
@@ -52,6 +59,13 @@ module _ {O : Type 0} (m : Meaning O) (valid : O → Type 0) where
     prefix-after levels e2 closes pre = λ told h table agrees output low.
         let a = first.goes told h table (closes table agrees) in
         rw (a.lines output low) (pre (first.tells ∙ told) (first.holds told h) table agrees output (low-after output low))
+
+    pub plans-after : (levels : LevelTable) (e2 : List Event) → PlansPrefix f1 levels e1 e2 → PlansPrefix f levels e e2
+    plans-after levels e2 pre =
+        record {
+          shown = subst (IsPrefixOf (plans_of e2)) (sym first.plans) pre.shown;
+          agrees = λ all h. subst (λ (s : Setting). Agrees levels (level_for s all)) first.planner (pre.agrees all (first.planned all h));
+        }
 
     -- as much work is left in all as before
     work-same : Tells p → HoldsItems m (items_in f p) f → (table : ℕ → ℕ → ℕ) → Agrees f1.levels table

@@ -1,5 +1,5 @@
 -- What an engine holds, and what each step keeps.
-use Rattle.std.specs.Prelude.{◌≡◌, ℕ, zero, suc, ◌+◌, ◌-◌, ◌^◌, ◌/◌, ◌≤◌, ◌<◌, true, List, [], ◌∷◌, ◌++◌, length, Option, Some, None, is_some, slice_get, if◌then◌else◌}
+use Rattle.std.specs.Prelude.{◌≡◌, ℕ, zero, suc, ◌+◌, ◌-◌, ◌^◌, ◌/◌, ◌≤◌, ◌<◌, true, List, [], ◌∷◌, ◌++◌, length, Option, Some, None, is_some, slice_get, slice_index, if◌then◌else◌}
 use Rattle.sq_value.specs.declared.Tuple.{Tuple}
 use Rattle.sq_item.specs.declared.Item.{Item}
 use Rattle.sq_item.specs.Things.{spread_all}
@@ -23,7 +23,8 @@ use Rattle.sq_flow.specs.declared.flow.Did.TheVariants.{Waits, Fed, Finished}
 use Rattle.sq_flow.specs.Takes.{NotStrange}
 use Rattle.sq_flow.specs.Wiring.{net_of, from_of, IsShaped}
 use Rattle.sq_flow.specs.Seats.{Meaning, rest_at, decides_at, lost_at, taken_at, place_at, done_at, holds_at, IsSeat}
-use Rattle.sq_flow.specs.Events.{bodies, lines_of, ShowsBelow}
+use Rattle.sq_flow.specs.Events.{bodies, lines_of, ShowsIn}
+use Rattle.sq_flow.specs.Plans.{IsPlanned, plans_left, plans_of}
 
 abbrev pub tuples_at : Option (VecDeque Tuple Global) → List Tuple
 tuples_at None = []
@@ -66,7 +67,9 @@ pub record IsFlow {O : Type 0} (m : Meaning O) (valid : O → Type 0) (flow : Fl
   pub held : (table : ℕ → ℕ → ℕ) → Agrees flow.levels table → (actor port : ℕ) → ThingsUpTo flow.clock (rest_at m table (slice_get flow.seats.items actor) [] port)
   pub coming : (source : ℕ) → RiseFrom flow.clock (to_release flow source)
   pub few_sources : length flow.sources.items < 2 ^ 32
-  pub levels : (flow.clock / flow.levels.epoch < flow.levels.closed) × (flow.clock < 2 ^ 40)
+  pub levels : (flow.levels.closed ≡ flow.clock / flow.levels.epoch + 1) × (flow.clock < 2 ^ 40)
+  pub counts : length flow.counts.items ≡ length flow.sources.items
+  pub few_tuples : (source : ℕ) → slice_index flow.counts.items source + length (to_release flow source) ≤ 1000000
   pub over : flow.over ≡ true → (source : ℕ) → to_release flow source ≡ []
 
 -- and where these items stand on the arcs
@@ -129,7 +132,10 @@ pub record Stepped {O : Type 0} (m : Meaning O) (valid : O → Type 0) (was is :
   pub wires : flow'.wires ≡ flow.wires
   pub seats : length flow'.seats.items ≡ length flow.seats.items
   pub closes : (table : ℕ → ℕ → ℕ) → Agrees flow'.levels table → Agrees flow.levels table
-  pub shows : ShowsBelow (length flow.seats.items - flow.wires.shown) events events'
+  pub shows : ShowsIn (length flow.seats.items - flow.wires.shown) 0 events events'
+  pub planner : flow'.planner ≡ flow.planner
+  pub planned : (all : ℕ → List ℕ) → IsPlanned all flow → IsPlanned all flow'
+  pub plans : plans_of events ++ plans_left flow ≡ plans_of events' ++ plans_left flow'
   pub holds : Tells was → HoldsItems m (items_in flow was) flow → HoldsItems m (items_in flow' is) flow'
   pub goes : Tells was → HoldsItems m (items_in flow was) flow → (table : ℕ → ℕ → ℕ) → Agrees flow'.levels table
       → Goes m table (items_in flow was) (items_in flow' is) flow flow' events events'

@@ -7,6 +7,7 @@ use Rattle.std.specs.declared.collections.VecDeque.{VecDeque}
 use Rattle.sq_value.specs.declared.Tuple.{Tuple}
 use Rattle.sq_outside.specs.Disks.{Pages}
 use Rattle.sq_road.specs.Levels.{LevelTable}
+use Rattle.sq_plan.specs.Plans.{Setting}
 use Rattle.sq_queue.specs.Faces.{face, items_on, Together}
 use Rattle.sq_flow.specs.declared.wires.Wires.{Wires}
 use Rattle.sq_flow.specs.declared.flow.Flow.{Flow}
@@ -28,10 +29,11 @@ pub record IsNewSeat {O : Type 0} (m : Meaning O) (valid : O → Type 0) (takes 
   pub reads : m.reads seat.op epoch ≡ true
 
 -- a flow of these parts that has released nothing
-pub record IsNewFlow {O : Type 0} (wires : Wires) (seats : Vec (Seat O) Global) (sources : Vec (VecDeque Tuple Global) Global) (levels : LevelTable) (flow : Flow O) : Type 0 where
+pub record IsNewFlow {O : Type 0} (wires : Wires) (seats : Vec (Seat O) Global) (sources : Vec (VecDeque Tuple Global) Global) (planner : Setting) (levels : LevelTable) (flow : Flow O) : Type 0 where
   pub wires_are : flow.wires ≡ wires
   pub seats_are : flow.seats ≡ seats
   pub sources_are : flow.sources ≡ sources
+  pub planner_is : flow.planner ≡ planner
   pub levels_are : flow.levels ≡ levels
   pub runs : flow.over ≡ false
   pub none_taken : flow.taken ≡ 0

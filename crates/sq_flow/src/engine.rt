@@ -1,20 +1,24 @@
 //! The engine: a flow with its ready list.
 
-ghost use Rattle.std.specs.Prelude.{◌≡◌, ◌⊎◌, ◌-◌, ◌^◌, ℕ, ◌+◌, ◌≤◌, ◌<◌, true, false, [], ◌∷◌, Option, OnOk, OnErr, IfOk, IfErr, length, slice_get};
+ghost use Rattle.std.specs.Prelude.{◌≡◌, ◌⊎◌, ◌-◌, ◌^◌, ℕ, ◌+◌, ◌≤◌, ◌<◌, true, false, [], ◌∷◌, Option, OnOk, OnErr, IfOk, IfErr, length, map, slice_get};
 ghost use Rattle.sq_road.specs.Levels.{Agrees};
 ghost use Rattle.sq_outside.specs.Disks.{Pages};
 ghost use Rattle.sq_queue.specs.Faces.{Together};
 ghost use Rattle.sq_sched.specs.Ready.{contains};
-ghost use Rattle.std.specs.List.{range_with_len};
+ghost use Rattle.std.specs.List.{flat_map, range_with_len};
+ghost use Rattle.sq_value.specs.Lists.{numbers_to};
+ghost use Rattle.sq_plan.specs.Shown.{shown_after};
 ghost use Rattle.sq_flow.specs.Engines.{place_in};
 
 use crate::errors::RunErr;
 use crate::flow::Flow;
+use crate::plans::no_counts;
 use crate::seats::Seat;
 use crate::steps::Progress;
 use crate::wires::Wires;
 use sq_oper::{Event, Operator, Outs};
 use sq_outside::{PageDisk, Steps};
+use sq_plan::Planner;
 use sq_queue::Queues;
 use sq_road::Levels;
 use sq_sched::{Pick, Ready};
@@ -55,6 +59,7 @@ fn place_in(ops: u32, actor: u32) -> u32
 impl<O: Operator + Drop> Flow<O> {
     ghost use Rattle.sq_flow.specs.Flows.{IsFlow, RiseFrom, tuples_at};
     ghost use Rattle.sq_flow.specs.Starts.{IsNewSeat, IsNewFlow};
+    ghost use Rattle.sq_flow.specs.Plans.{IsPlanned, arrivals, last_arrival, plans_left};
     ghost use Rattle.sq_flow.specs.Seats.{holds_at};
     ghost use Rattle.sq_flow.specs.Wiring.{net_of, IsShaped};
 
@@ -64,6 +69,7 @@ impl<O: Operator + Drop> Flow<O> {
         wires: Wires,
         seats: Vec<Seat<O>>,
         sources: Vec<VecDeque<Tuple>>,
+        planner: Planner,
         levels: Levels,
         frames: u32,
     ) -> Result<Flow<O>, AllocError>
@@ -71,13 +77,18 @@ impl<O: Operator + Drop> Flow<O> {
         requires seats { (actor : ℕ) → holds_at (IsNewSeat (record { rest = O.rest; decides = O.decides; lost = O.lost; place = O.place; taken = O.taken; running = O.running; takes_marks = O.takes_marks; fits = O.fits; reads = O.reads }) O.valid ((net_of wires).takes actor) ((net_of wires).fits actor) levels.epoch) (slice_get seats.items actor) }
         requires coming { (source : ℕ) → RiseFrom 0 (tuples_at (slice_get sources.items source)) }
         requires few { length sources.items < 2 ^ 32 }
-        requires levels { 0 < levels.closed }
+        requires few_tuples { (source : ℕ) → length (tuples_at (slice_get sources.items source)) ≤ 1000000 }
+        requires levels { levels.closed ≡ 1 }
+        requires no_levels { levels.rows ≡ [] }
         requires frames { 2 ≤ frames }
         ensures flow { IfOk result (λ e. IsFlow (record { rest = O.rest; decides = O.decides; lost = O.lost; place = O.place; taken = O.taken; running = O.running; takes_marks = O.takes_marks; fits = O.fits; reads = O.reads }) O.valid e) }
-        ensures parts { IfOk result (λ e. IsNewFlow wires seats sources levels e) }
+        ensures parts { IfOk result (λ e. IsNewFlow wires seats sources planner levels e) }
+        ensures planned { IfOk result (IsPlanned (arrivals levels.epoch (map (λ s. s.items) sources.items))) }
+        ensures plans { IfOk result (λ e. plans_left e ≡ flat_map (shown_after planner (arrivals levels.epoch (map (λ s. s.items) sources.items))) (numbers_to (last_arrival levels.epoch (map (λ s. s.items) sources.items)))) }
     {
         let arcs = wires.arcs.len() as u32;
         let queues = Queues::new(alloc, arcs, frames)?;
+        let counts = no_counts(alloc, &sources)?;
         Ok(Flow {
             wires,
             seats,
@@ -85,7 +96,9 @@ impl<O: Operator + Drop> Flow<O> {
             queues,
             sources,
             clock: 0,
+            planner,
             levels,
+            counts,
             taken: 0,
         })
     }
@@ -93,6 +106,7 @@ impl<O: Operator + Drop> Flow<O> {
 
 impl<O: Operator + Drop> Engine<O> {
     ghost use Rattle.sq_flow.specs.Flows.{IsFlow, Stepped, ShowsPrefix, NoneStrange, measure_of, HoldsItems, items_in, lines_left, fed_at_last, RiseFrom, tuples_at, CostsFed, CostsAtMost, TooMuchOnly, lost_at_last, work_at_last, taken_in_all};
+    ghost use Rattle.sq_flow.specs.Plans.{PlansPrefix, IsPlanned, arrivals, last_arrival, plans_left};
     ghost use Rattle.sq_flow.specs.Readiness.{IsReady, FallsBy};
     ghost use Rattle.sq_flow.specs.Engines.{IsEngine, HasRoom, Looked, AllDone, newly_ready, listed_after, readers_of};
     ghost use Rattle.sq_flow.specs.Seats.{taken_at, lost_at, holds_at};
@@ -106,6 +120,7 @@ impl<O: Operator + Drop> Engine<O> {
         wires: Wires,
         seats: Vec<Seat<O>>,
         sources: Vec<VecDeque<Tuple>>,
+        planner: Planner,
         levels: Levels,
         frames: u32,
     ) -> Result<Engine<O>, AllocError>
@@ -113,13 +128,17 @@ impl<O: Operator + Drop> Engine<O> {
         requires seats { (actor : ℕ) → holds_at (IsNewSeat (record { rest = O.rest; decides = O.decides; lost = O.lost; place = O.place; taken = O.taken; running = O.running; takes_marks = O.takes_marks; fits = O.fits; reads = O.reads }) O.valid ((net_of wires).takes actor) ((net_of wires).fits actor) levels.epoch) (slice_get seats.items actor) }
         requires coming { (source : ℕ) → RiseFrom 0 (tuples_at (slice_get sources.items source)) }
         requires few { length sources.items < 2 ^ 32 }
-        requires levels { 0 < levels.closed }
+        requires few_tuples { (source : ℕ) → length (tuples_at (slice_get sources.items source)) ≤ 1000000 }
+        requires levels { levels.closed ≡ 1 }
+        requires no_levels { levels.rows ≡ [] }
         requires frames { 2 ≤ frames }
         ensures engine { IfOk result (λ e. IsEngine (record { rest = O.rest; decides = O.decides; lost = O.lost; place = O.place; taken = O.taken; running = O.running; takes_marks = O.takes_marks; fits = O.fits; reads = O.reads }) O.valid e) }
-        ensures flow { IfOk result (λ e. IsNewFlow wires seats sources levels e.flow) }
+        ensures flow { IfOk result (λ e. IsNewFlow wires seats sources planner levels e.flow) }
+        ensures planned { IfOk result (λ e. IsPlanned (arrivals levels.epoch (map (λ s. s.items) sources.items)) e.flow) }
+        ensures plans { IfOk result (λ e. plans_left e.flow ≡ flat_map (shown_after planner (arrivals levels.epoch (map (λ s. s.items) sources.items))) (numbers_to (last_arrival levels.epoch (map (λ s. s.items) sources.items)))) }
         ensures order { IfOk result (λ e. e.ready.list ≡ newly_ready e.flow []) }
     {
-        let flow = Flow::new(alloc, wires, seats, sources, levels, frames)?;
+        let flow = Flow::new(alloc, wires, seats, sources, planner, levels, frames)?;
         let ready = Ready::new(alloc, flow.wires.replay + 1)?;
         let waits = vec![in alloc; 0; flow.wires.replay as usize + 1]?;
         let mut engine = Engine {
@@ -189,6 +208,7 @@ impl<O: Operator + Drop> Engine<O> {
         ensures engine { OnOk result (IsEngine (record { rest = O.rest; decides = O.decides; lost = O.lost; place = O.place; taken = O.taken; running = O.running; takes_marks = O.takes_marks; fits = O.fits; reads = O.reads }) O.valid self.new) }
         ensures order { OnOk result (self.new.ready.list ≡ listed_after self.new.flow self.old.ready.list pick.actor) }
         ensures prefix { OnErr result (ShowsPrefix (record { rest = O.rest; decides = O.decides; lost = O.lost; place = O.place; taken = O.taken; running = O.running; takes_marks = O.takes_marks; fits = O.fits; reads = O.reads }) (D.pages disk.old) self.old.flow self.new.flow.levels events.old.items events.new.items) }
+        ensures plans { OnErr result (PlansPrefix self.old.flow self.new.flow.levels events.old.items events.new.items) }
         ensures strange { IfErr result (λ e. NoneStrange (record { rest = O.rest; decides = O.decides; lost = O.lost; place = O.place; taken = O.taken; running = O.running; takes_marks = O.takes_marks; fits = O.fits; reads = O.reads }) (D.pages disk.old) self.old.flow e) }
         ensures failed { OnErr result (self.new.failed ≡ true) }
         ensures closes { (table : ℕ → ℕ → ℕ) → Agrees self.new.flow.levels table → Agrees self.old.flow.levels table }

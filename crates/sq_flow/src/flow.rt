@@ -16,6 +16,7 @@ ghost use Rattle.sq_flow.specs.Sources.{IsNextSource};
 
 use crate::errors::RunErr;
 use crate::heads::{Next, next_of};
+use crate::plans::close_before;
 use crate::seats::{Seat, feed_seat, finish_seat};
 use crate::sending::{give, send_one};
 use crate::taking::{count_item, take_item};
@@ -23,13 +24,15 @@ use crate::wires::Wires;
 use sq_item::Item;
 use sq_oper::{Event, Operator, Outs};
 use sq_outside::{PageDisk, Steps};
+use sq_plan::Planner;
 use sq_queue::Queues;
 use sq_road::Levels;
 use sq_value::Tuple;
 use std::collections::VecDeque;
 use std::sync::ledger::Ledger;
 
-/// Operators joined by queues, and a replay of what each source has still to release.
+/// Operators joined by queues, and a replay of what each source has still to release. The levels of the closed epochs are known;
+/// of the epoch that is open, the last before `levels.closed`, it is counted how many tuples each source released.
 #[derive(Drop)]
 pub struct Flow<O> {
     pub wires: Wires,
@@ -38,7 +41,9 @@ pub struct Flow<O> {
     pub queues: Queues,
     pub sources: Vec<VecDeque<Tuple>>,
     pub clock: u64,
+    pub planner: Planner,
     pub levels: Levels,
+    pub counts: Vec<u64>,
     pub taken: u64,
 }
 
@@ -48,18 +53,6 @@ pub enum Did {
     Waits,
     Fed,
     Finished,
-}
-
-/// Levels are closed up to the epoch of a tick.
-fn reach(levels: &mut Levels, time: u64)
-    requires { time < 2 ^ 40 }
-    ensures rows { (levels.new.rows ≡ levels.old.rows) × (levels.new.epoch ≡ levels.old.epoch) }
-    ensures grows { levels.old.closed ≤ levels.new.closed }
-    ensures closed { time / levels.new.epoch < levels.new.closed }
-{
-    if levels.closed().saturating_mul(levels.epoch()) <= time {
-        levels.skip_to(time / levels.epoch() + 1);
-    }
 }
 
 /// The source that releases next: that of the least time, and of these the first; none where nothing is left.
@@ -126,6 +119,7 @@ fn end_arcs(wires: &Wires, queues: &mut Queues, actor: u32)
 
 impl<O: Operator + Drop> Flow<O> {
     ghost use Rattle.sq_flow.specs.Flows.{IsFlow, Stepped, ShowsPrefix, NoneStrange, CostsFed, CostsAtMost, TooMuchOnly, taken_in_all, to_release, measure_of};
+    ghost use Rattle.sq_flow.specs.Plans.{PlansPrefix};
     ghost use Rattle.sq_flow.specs.Readiness.{TouchesOnly};
     ghost use Rattle.sq_flow.specs.Wiring.{arcs_read};
     ghost use Rattle.sq_flow.specs.Heads.{NextUpTo};
@@ -150,6 +144,7 @@ impl<O: Operator + Drop> Flow<O> {
         requires none { (outs.old.items.items ≡ []) × (outs.old.drops.items ≡ []) }
         ensures ok { OnOk result (Stepped (record { rest = O.rest; decides = O.decides; lost = O.lost; place = O.place; taken = O.taken; running = O.running; takes_marks = O.takes_marks; fits = O.fits; reads = O.reads }) O.valid (D.pages disk.old) (D.pages disk.new) self.old self.new events.old.items events.new.items) }
         ensures prefix { OnErr result (ShowsPrefix (record { rest = O.rest; decides = O.decides; lost = O.lost; place = O.place; taken = O.taken; running = O.running; takes_marks = O.takes_marks; fits = O.fits; reads = O.reads }) (D.pages disk.old) self.old self.new.levels events.old.items events.new.items) }
+        ensures plans { OnErr result (PlansPrefix self.old self.new.levels events.old.items events.new.items) }
         ensures strange { IfErr result (λ e. NoneStrange (record { rest = O.rest; decides = O.decides; lost = O.lost; place = O.place; taken = O.taken; running = O.running; takes_marks = O.takes_marks; fits = O.fits; reads = O.reads }) (D.pages disk.old) self.old e) }
         ensures none { OnOk result ((outs.new.items.items ≡ []) × (outs.new.drops.items ≡ [])) }
         ensures touches { OnOk result (TouchesOnly actor self.old self.new) }
@@ -198,6 +193,7 @@ impl<O: Operator + Drop> Flow<O> {
         requires none { (outs.old.items.items ≡ []) × (outs.old.drops.items ≡ []) }
         ensures ok { OnOk result (Stepped (record { rest = O.rest; decides = O.decides; lost = O.lost; place = O.place; taken = O.taken; running = O.running; takes_marks = O.takes_marks; fits = O.fits; reads = O.reads }) O.valid (D.pages disk.old) (D.pages disk.new) self.old self.new events.old.items events.new.items) }
         ensures prefix { OnErr result (ShowsPrefix (record { rest = O.rest; decides = O.decides; lost = O.lost; place = O.place; taken = O.taken; running = O.running; takes_marks = O.takes_marks; fits = O.fits; reads = O.reads }) (D.pages disk.old) self.old self.new.levels events.old.items events.new.items) }
+        ensures plans { OnErr result (PlansPrefix self.old self.new.levels events.old.items events.new.items) }
         ensures strange { IfErr result (λ e. NoneStrange (record { rest = O.rest; decides = O.decides; lost = O.lost; place = O.place; taken = O.taken; running = O.running; takes_marks = O.takes_marks; fits = O.fits; reads = O.reads }) (D.pages disk.old) self.old e) }
         ensures memory { IfErr result (λ e. e ≢ RunErr.TooMuch) }
         ensures none { OnOk result ((outs.new.items.items ≡ []) × (outs.new.drops.items ≡ [])) }
@@ -212,17 +208,19 @@ impl<O: Operator + Drop> Flow<O> {
         Ok(())
     }
 
-    /// Releases the next tuple of a source, the one of the least time.
+    /// Releases the next tuple of a source, the one of the least time. Where it is of a later epoch those before it are closed.
     pub(crate) fn release_step<D: PageDisk>(
         &mut self,
         disk: &mut D,
         source: u32,
+        events: &mut Vec<Event>,
     ) -> Result<(), RunErr>
         requires flow { IsFlow (record { rest = O.rest; decides = O.decides; lost = O.lost; place = O.place; taken = O.taken; running = O.running; takes_marks = O.takes_marks; fits = O.fits; reads = O.reads }) O.valid self.old }
         requires together { Together self.old.queues (D.pages disk.old) }
         requires next { IsNextSource self.old.sources.items source }
-        ensures ok { OnOk result ((events : List Event) → Stepped (record { rest = O.rest; decides = O.decides; lost = O.lost; place = O.place; taken = O.taken; running = O.running; takes_marks = O.takes_marks; fits = O.fits; reads = O.reads }) O.valid (D.pages disk.old) (D.pages disk.new) self.old self.new events events) }
-        ensures prefix { OnErr result ((events : List Event) → ShowsPrefix (record { rest = O.rest; decides = O.decides; lost = O.lost; place = O.place; taken = O.taken; running = O.running; takes_marks = O.takes_marks; fits = O.fits; reads = O.reads }) (D.pages disk.old) self.old self.new.levels events events) }
+        ensures ok { OnOk result (Stepped (record { rest = O.rest; decides = O.decides; lost = O.lost; place = O.place; taken = O.taken; running = O.running; takes_marks = O.takes_marks; fits = O.fits; reads = O.reads }) O.valid (D.pages disk.old) (D.pages disk.new) self.old self.new events.old.items events.new.items) }
+        ensures prefix { OnErr result (ShowsPrefix (record { rest = O.rest; decides = O.decides; lost = O.lost; place = O.place; taken = O.taken; running = O.running; takes_marks = O.takes_marks; fits = O.fits; reads = O.reads }) (D.pages disk.old) self.old self.new.levels events.old.items events.new.items) }
+        ensures plans { OnErr result (PlansPrefix self.old self.new.levels events.old.items events.new.items) }
         ensures strange { IfErr result (λ e. NoneStrange (record { rest = O.rest; decides = O.decides; lost = O.lost; place = O.place; taken = O.taken; running = O.running; takes_marks = O.takes_marks; fits = O.fits; reads = O.reads }) (D.pages disk.old) self.old e) }
         ensures memory { IfErr result (λ e. e ≢ RunErr.TooMuch) }
         ensures touches { OnOk result (TouchesOnly (length self.old.seats.items) self.old self.new) }
@@ -232,7 +230,15 @@ impl<O: Operator + Drop> Flow<O> {
     {
         let tuple = first_of(&mut self.sources[source as usize]);
         self.clock = tuple.time;
-        reach(&mut self.levels, tuple.time);
+        let next = tuple.time / self.levels.epoch();
+        close_before(
+            &mut self.planner,
+            &mut self.levels,
+            &mut self.counts,
+            next,
+            events,
+        )?;
+        self.counts[source as usize] += 1;
         let item = Item {
             time: tuple.time,
             mark: None,

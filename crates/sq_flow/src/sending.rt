@@ -9,7 +9,8 @@ ghost use Rattle.sq_oper.specs.Given.{given, ItemsSound};
 ghost use Rattle.sq_queue.specs.Faces.{face, size, Together};
 ghost use Rattle.sq_flow.specs.Wiring.{arcs_from, times_in, AllOutsFine, pushed_by};
 ghost use Rattle.sq_flow.specs.Sends.{many, sent_to, comes_from, Pushes};
-ghost use Rattle.sq_flow.specs.Events.{bodies, lines_of, line_of, ShowsBelow};
+ghost use Rattle.sq_flow.specs.Events.{bodies, lines_of, line_of, ShowsIn};
+ghost use Rattle.sq_flow.specs.Plans.{plans_of};
 
 use crate::errors::RunErr;
 use crate::wires::Wires;
@@ -91,7 +92,8 @@ pub(crate) fn send_all<D: PageDisk>(
 fn show_item(output: u32, item: Item, events: &mut Vec<Event>) -> Result<(), AllocError>
     ensures shown { OnOk result ((o : ℕ) → lines_of o events.new.items ≡ lines_of o events.old.items ++ (if output == o then bodies (spread item) else [])) }
     ensures err { OnErr result (events.new.items ≡ events.old.items) }
-    ensures below { (outputs : ℕ) → output < outputs → ShowsBelow outputs events.old.items events.new.items }
+    ensures below { (outputs : ℕ) → output < outputs → ShowsIn outputs 0 events.old.items events.new.items }
+    ensures plans { plans_of events.new.items ≡ plans_of events.old.items }
 {
     let time = item.time;
     let body = item.body;
@@ -106,7 +108,8 @@ fn show_item(output: u32, item: Item, events: &mut Vec<Event>) -> Result<(), All
 fn show_one(output: u32, port: u32, item: Item, events: &mut Vec<Event>) -> Result<(), AllocError>
     ensures shown { OnOk result ((o : ℕ) → lines_of o events.new.items ≡ lines_of o events.old.items ++ (if output == o then bodies (given 0 (record { 0 = port; 1 = item } ∷ [])) else [])) }
     ensures err { OnErr result (events.new.items ≡ events.old.items) }
-    ensures below { (outputs : ℕ) → output < outputs → ShowsBelow outputs events.old.items events.new.items }
+    ensures below { (outputs : ℕ) → output < outputs → ShowsIn outputs 0 events.old.items events.new.items }
+    ensures plans { plans_of events.new.items ≡ plans_of events.old.items }
 {
     if port == 0 {
         show_item(output, item, events)?;
@@ -123,7 +126,8 @@ pub(crate) fn show_all(
     ensures shown { OnOk result ((o : ℕ) → lines_of o events.new.items ≡ lines_of o events.old.items ++ (if output == o then bodies (given 0 items.old.items) else [])) }
     ensures prefix { OnErr result ((o : ℕ) → IsPrefixOf (lines_of o events.new.items) (lines_of o events.old.items ++ (if output == o then bodies (given 0 items.old.items) else []))) }
     ensures none { OnOk result (items.new.items ≡ []) }
-    ensures below { (outputs : ℕ) → output < outputs → ShowsBelow outputs events.old.items events.new.items }
+    ensures below { (outputs : ℕ) → output < outputs → ShowsIn outputs 0 events.old.items events.new.items }
+    ensures plans { plans_of events.new.items ≡ plans_of events.old.items }
 {
     for (port, item) in items.drain(..) {
         show_one(output, port, item, events)?;
@@ -150,7 +154,8 @@ pub(crate) fn give<D: PageDisk>(
     ensures shown { OnOk result ((o : ℕ) → lines_of o events.new.items ≡ lines_of o events.old.items ++ bodies (pushed_by actor outs.old.items.items (wires.now.shown + o) 0)) }
     ensures none { OnOk result ((outs.new.items.items ≡ []) × (outs.new.drops.items ≡ [])) }
     ensures prefix { OnErr result ((o : ℕ) → IsPrefixOf (lines_of o events.new.items) (lines_of o events.old.items ++ bodies (pushed_by actor outs.old.items.items (wires.now.shown + o) 0))) }
-    ensures below { (outputs : ℕ) → actor < wires.now.shown + outputs → ShowsBelow outputs events.old.items events.new.items }
+    ensures below { (outputs : ℕ) → actor < wires.now.shown + outputs → ShowsIn outputs 0 events.old.items events.new.items }
+    ensures plans { plans_of events.new.items ≡ plans_of events.old.items }
     ensures memory { IfErr result (λ e. e ≡ RunErr.Memory) }
 {
     outs.drops.clear();

@@ -94,6 +94,7 @@ pub fn close_epochs(
     ensures same { planner.new ≡ planner.old }
     ensures epoch { levels.new.epoch ≡ levels.old.epoch }
     ensures closed { OnOk result (levels.new.closed ≡ next + 1) }
+    ensures keeps { (x w : ℕ) → x < levels.old.closed → level_of levels.new x w ≡ level_of levels.old x w }
     ensures agrees { OnOk result ((all : ℕ → List ℕ) → Ended all (levels.old.closed - 1) next counts.now.items → Agrees levels.old (level_for planner.old all) → Agrees levels.new (level_for planner.old all)) }
     ensures shown { IfOk result (λ p. (all : ℕ → List ℕ) → Ended all (levels.old.closed - 1) next counts.now.items
         → listed p ≡ flat_map (shown_after planner.old all) (range_with_len (levels.old.closed - 1) (next - (levels.old.closed - 1)))) }

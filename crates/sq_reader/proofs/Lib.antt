@@ -6,6 +6,7 @@ pub mod SourceLemmas
 pub mod ExpressionLemmas
 pub mod WiringLemmas
 pub mod DistinctLemmas
+pub mod DropLemmas
 pub mod SchemaLemmas
 pub mod NumberLemmas
 pub mod ColumnLemmas

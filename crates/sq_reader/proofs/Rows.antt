@@ -1,6 +1,6 @@
 -- Worked files, by their tables: a box of each kind that has more than inputs, outputs with weights and graphs, and refusals.
 use Rattle.std.proofs.Common.{◌≡◌, ℕ, List, [], ◌∷◌, refl, ℤ, pos, negsuc}
-use Rattle.std.specs.Prelude.{Result, Ok, Err, codes, replicate}
+use Rattle.std.specs.Prelude.{Result, Ok, Err, Option, None, Some, codes, replicate}
 use Rattle.std.specs.Fmt.{digits}
 use Rattle.sq_value.specs.Values.{Columns}
 use Rattle.sq_value.specs.declared.Kind.TheVariants as kind
@@ -23,11 +23,13 @@ use Rattle.sq_tables.specs.declared.raw.Over.TheVariants.{Sum, First}
 use Rattle.sq_tables.specs.declared.raw.Answer.TheVariants.{Count, Field as OfField}
 use Rattle.sq_tables.specs.declared.raw.RawBody.{RawBody}
 use Rattle.sq_tables.specs.declared.raw.RawBody.TheVariants.{Filter, BSort, Aggregate, Join}
+use Rattle.sq_tables.specs.declared.raw.RawBox.{RawBox}
 use Rattle.sq_tables.specs.declared.raw.RawOutput.{RawOutput}
 use Rattle.sq_tables.specs.declared.raw.Raw.{Raw}
 use Rattle.sq_tables.specs.Places.{place_at}
 use Rattle.sq_tables.specs.Shapes.{even_points}
-use Rattle.sq_reader.specs.Networks.{typed_network}
+use Rattle.sq_tables.specs.Rawly.{◌>>=◌}
+use Rattle.sq_reader.specs.Networks.{limited_network, typed_network}
 
 -- an output with the default weight and graph
 abbrev shown_of : List ℕ → RawOutput
@@ -216,3 +218,28 @@ too_heavy = refl
 second_graph : typed_network (output_file (codes "v:real") (output_of (codes "o") (pos 7) even_points ∷ output_of (codes "p") (pos 1) [] ∷ []))
     ≡ Err (broken.Graph (place_at part.Output 1 0) graph.Ends)
 second_graph = refl
+
+-- ---- the limits on drop points: two Aggregates, of which the second has this size
+
+abbrev window_box : List ℕ → List ℕ → ℕ → RawBox
+window_box name from size =
+    record { name = name; body = Aggregate (pos size) (pos 1) [] (counted ∷ []); ins = from ∷ []; cost = pos 1; selectivity = pos 1000 ∷ [] }
+
+abbrev two_windows : ℕ → Raw
+two_windows size = record {
+  epoch = pos 1000;
+  batch = pos 1;
+  sources = source_of (codes "s") (codes "v:int" ∷ []) ∷ [];
+  boxes = window_box (codes "a") (codes "s") 4096 ∷ window_box (codes "b") (codes "a") size ∷ [];
+  outputs = shown_of (codes "b") ∷ [];
+}
+
+abbrev refused : Result Network NetErr → Option NetErr
+refused (Ok n) = None
+refused (Err e) = Some e
+
+widest_extent : refused (typed_network (two_windows 1) >>= limited_network) ≡ None
+widest_extent = refl
+
+wider_extent : refused (typed_network (two_windows 2) >>= limited_network) ≡ Some (broken.Limit (place_at part.Drop 0 0))
+wider_extent = refl

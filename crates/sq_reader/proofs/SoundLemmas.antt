@@ -47,8 +47,9 @@ use Rattle.sq_reader.specs.Streaming.{box_wires, cycle_in, stream_named, stream_
 use Rattle.sq_reader.specs.Sources.{sources_from}
 use Rattle.sq_reader.specs.Columns.{columns_known, columns_taken, nat_of, no_nodes, node_known, node_of_box, nodes_from}
 use Rattle.sq_reader.specs.Windows.{has_window, window_place}
-use Rattle.sq_reader.specs.Networks.{graphed_network, named_network, network_in, network_of, ordered_network, single_network, streamed_network, typed_network, unless_at, unless_fault, windowed_network, wired_network}
+use Rattle.sq_reader.specs.Networks.{graphed_network, limited_network, named_network, network_in, network_of, ordered_network, single_network, streamed_network, typed_network, unless_at, unless_fault, windowed_network, wired_network}
 use Rattle.sq_reader.specs.Outputs.{graph_fault, output_of, points_of}
+use Rattle.sq_reader.proofs.DropLemmas.{limited_same}
 use Rattle.sq_reader.proofs.LimitLemmas.{is_within, number_within, output_of as output_limits}
 use Rattle.sq_reader.proofs.ListLemmas.{all_by_place, and_both, and_parts, each_passes, is_at_most, maps_same, none_failing, nothing_mapped, passes_at}
 use Rattle.sq_reader.proofs.WiringLemmas.{is_wired, outputs_shown}
@@ -322,6 +323,7 @@ answer_sound r (Err e) even h = tt
 -- so is the network of a file's bytes
 pub network_sound : (bytes : List ℕ) (n : Network) → network_in bytes ≡ Ok n → IsSound n
 network_sound bytes n h =
-    let tables = first_step (raw_of bytes) typed_network n h in
+    let typed = first_step (raw_of bytes >>= typed_network) limited_network n h in
+    let tables = first_step (raw_of bytes) typed_network typed.0 typed.1.0 in
     let document = first_step (or_broken broken.Toml (document_in bytes)) raw_from tables.0 tables.1.0 in
-    read_sound tables.0 n (answer_even document.0 (Ok tables.0) document.1.1) tables.1.1
+    subst IsSound (limited_same typed.0 n typed.1.1) (read_sound tables.0 typed.0 (answer_even document.0 (Ok tables.0) document.1.1) tables.1.1)

@@ -7,4 +7,5 @@ pub mod Expressions
 pub mod Functions
 pub mod Columns
 pub mod Outputs
+pub mod Drops
 pub mod Networks

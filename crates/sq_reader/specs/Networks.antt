@@ -17,6 +17,7 @@ use Rattle.sq_reader.specs.Streaming.{Numbers, cycle_in, stream_named, stream_na
 use Rattle.sq_reader.specs.Sources.{sources_from}
 use Rattle.sq_reader.specs.Windows.{window_place}
 use Rattle.sq_reader.specs.Outputs.{graph_fault, output_of}
+use Rattle.sq_reader.specs.Drops.{drop_place}
 use Rattle.sq_reader.specs.Columns.{nat_of, no_nodes, nodes_from}
 
 -- go on where no place breaks a rule
@@ -67,6 +68,10 @@ named_network r = unless_at broken.NoName (name_place r) (single_network r)
 abbrev pub typed_network : Raw → Result Network NetErr
 typed_network r = unless_at broken.Limit (limit_place r) (named_network r)
 
+-- the last rule, on the drop points of the network
+abbrev pub limited_network : Network → Result Network NetErr
+limited_network n = unless_at broken.Limit (drop_place n) (Ok n)
+
 -- the network of a file's bytes, or the first rule that they break
 abbrev pub network_in : List ℕ → Result Network NetErr
-network_in bytes = raw_of bytes >>= typed_network
+network_in bytes = raw_of bytes >>= typed_network >>= limited_network

@@ -2,16 +2,18 @@
 //!
 //! The contract of `read_network` promises the network that the file says, a sound one, where the file keeps every rule,
 //! and else the first broken rule with its first place; want of memory aside. Below stand the file's tables, the typed
-//! network, the wiring, the expressions, the quality graphs and the values.
+//! network with its drop points, the wiring, the expressions, the quality graphs and the values.
 #![tactic(auto)]
 
 ghost use Rattle.std.specs.Prelude.{◌≡◌, ◌++◌, ◌∷◌, [], IfOk, OnOk};
 ghost use Rattle.sq_net.specs.Sound.{IsSound};
+ghost use Rattle.sq_points.specs.Limits.{KeepsDropLimits};
 ghost use Rattle.sq_reader.specs.Networks.{network_in};
 ghost use Rattle.sq_tables.specs.Refusals.{Answers};
 
 mod bodies;
 mod boxes;
+mod drops;
 mod expressions;
 mod functions;
 mod limits;
@@ -37,12 +39,15 @@ pub(crate) fn push<T: Drop>(list: &mut Vec<T>, item: T) -> Result<(), AllocError
     Ok(())
 }
 
-/// The network that a file's bytes say, which is sound, or the first rule that they break, with its first place.
+/// The network that a file's bytes say, which is sound and keeps the limits on drop points, or the first rule that they break,
+/// with its first place.
 #[tactic(auto, using(crate::proofs::SoundLemmas::answer_sound))]
 pub fn read_network(alloc: Global, bytes: &[u8]) -> Result<Network, NetErr>
     ensures answer { Answers result (network_in bytes.now) }
     ensures sound { IfOk result IsSound }
+    ensures limits { IfOk result KeepsDropLimits }
 {
     let raw = raw_of(alloc, bytes)?;
-    network::typed_network(alloc, &raw)
+    let network = network::typed_network(alloc, &raw)?;
+    drops::limited_network(alloc, network)
 }

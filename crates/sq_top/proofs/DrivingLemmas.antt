@@ -1,5 +1,5 @@
 -- How an engine goes on, step by step, to its end, or stops on the way.
-use Rattle.std.proofs.Common.{◌≡◌, ◌⊎◌, inl, inr, ℕ, ◌+◌, ◌≤◌, ◌^◌, true, List, [], ◌∷◌, ◌++◌, length, refl, ap, sym, ◌∙◌, subst, append_assoc, append-nil, Option, Some}
+use Rattle.std.proofs.Common.{◌≡◌, ◌⊎◌, inl, inr, ℕ, ◌+◌, ◌<◌, ◌≤◌, ◌^◌, true, List, [], ◌∷◌, ◌++◌, length, refl, ap, sym, ◌∙◌, subst, arith, append_assoc, append-nil, Option, Some}
 use Rattle.std.specs.Prelude.{is_some, slice_get, Result, Ok, Err, OnErr, IfErr}
 use Rattle.std.specs.List.{AllByRecursion}
 use Rattle.std.proofs.lemmas.Grind.{flat_map-append}
@@ -10,11 +10,12 @@ use Rattle.sq_outside.specs.Faults.{Rose}
 use Rattle.sq_outside.specs.Sinks.{AppendsPrefix, appended}
 use Rattle.sq_outside.proofs.SinkLemmas.{appended-append}
 use Rattle.sq_net.specs.declared.Network.{Network}
+use Rattle.sq_net.specs.Sound.{IsSound}
 use Rattle.sq_oper.specs.declared.outs.Event.{Event}
 use Rattle.sq_oper.specs.declared.outs.Event.TheVariants.{Line, Dropped, Plan}
 use Rattle.sq_replay.specs.Shown.{IsEventOf, event_line}
-use Rattle.sq_model.specs.Fed.{work_of}
-use Rattle.sq_model.specs.Full.{full_stream}
+use Rattle.sq_model.specs.Shedding.{Replay}
+use Rattle.sq_model.proofs.StreamTypes.{some-at}
 use Rattle.sq_queue.specs.Faces.{Tells}
 use Rattle.sq_flow.specs.declared.errors.RunErr.{RunErr}
 use Rattle.sq_flow.specs.declared.errors.RunErr.TheVariants as run_err
@@ -24,46 +25,86 @@ use Rattle.sq_core.specs.Runs.{IsRun, ShownAll, ShownSoFar, Stopped}
 use Rattle.sq_core.proofs.RunLemmas.{shown-so-far}
 use Rattle.sq_top.specs.declared.Status.{Status}
 use Rattle.sq_top.specs.declared.Status.TheVariants as status
+use Rattle.sq_top.specs.Due.{answer_in, stream_shown, turns_in, work_in}
 use Rattle.sq_top.specs.Writing.{IsLost, Moves}
-use Rattle.sq_top.specs.Driving.{GoesOn, IsDriven, IsHalted, IsLineIn, Stops, StopsBehind, history_text}
+use Rattle.sq_top.specs.Driving.{Begins, Completes, GoesOn, IsCutShort, IsDriven, IsEventAt, IsHalted, Stops, StopsBehind, history_text}
 use Rattle.sq_top.proofs.ClassLemmas.{all_append}
+use Rattle.sq_top.proofs.StoppedLemmas.{rose_later}
 use Rattle.sq_top.proofs.WritingLemmas.{appended-nil, lost_at_once, moves-lost, moves-then, prefix_longer}
 
--- a line of an output that is there has its text
-pub line_event : (n : Network) (e : Event) → IsLineIn n e → IsEventOf n e
+-- an event of the run has its text
+pub line_event : (n : Network) (e : Event) → IsEventAt n e → IsEventOf n e
 line_event n (Line output tuple) there = there
-line_event n (Dropped d) there = absurd there
-line_event n (Plan epoch load capacity saved fits) there = absurd there
+line_event n (Dropped d) there = tt
+line_event n (Plan epoch load capacity saved fits) there = tt
+
+-- the stream that an output shows
+shown_at : (r : Replay) → IsSound r.network → (o : ℕ) → o < length r.network.outputs → (s : ℕ) × (slice_get r.network.wires.outputs o ≡ Some s)
+shown_at r sound o low = some-at r.network.wires.outputs o (omega (arith, low, sound.agrees.outputs))
+
+begins_so_far : (r : Replay) → IsSound r.network → (history : List Event) (begun steps : ℕ) → ShownSoFar r history begun steps → Begins r.network (answer_in r) history
+begins_so_far r sound history begun steps far = record {
+  lines = λ o low.
+      let s = shown_at r sound o low in
+      subst (λ k. IsPrefixOf (lines_of o history) (stream_shown r k)) (sym s.1) (far.lines o s.0 s.1);
+  drops = λ w low. absurd (omega (arith, low));
+  plans = far.plans;
+}
+
+completes : (r : Replay) → IsSound r.network → (engine : Engine) (history : List Event) (begun steps : ℕ) → ShownAll r engine history begun steps → Completes r.network (answer_in r) history
+completes r sound engine history begun steps all = record {
+  lines = λ o low. let s = shown_at r sound o low in all.lines o s.0 s.1 ∙ ap (stream_shown r) (sym s.1);
+  drops = λ w low. absurd (omega (arith, low));
+  plans = all.plans;
+}
 
 -- two facts of the error of a call that failed
 pub if_err_both : {T E A : Type 0} {P : E → Type 0} (Q : E → Type 0) (r : Result T E) → OnErr r A → IfErr r P → ((e : E) → A → P e → Q e) → IfErr r Q
 if_err_both Q (Ok x) a p f = tt
 if_err_both Q (Err e) a p f = f e a p
 
-not_too_much : (P : Type 0) (faults faults' : ℕ) (s : Status) → IsLost faults faults' s → s ≡ status.TooMuch → P
+pub if_err : {T E : Type 0} {P : E → Type 0} (Q : E → Type 0) (r : Result T E) → IfErr r P → ((e : E) → P e → Q e) → IfErr r Q
+if_err Q (Ok x) p f = tt
+if_err Q (Err e) p f = f e p
+
+-- what is lost behind a run cuts it short
+pub lost_cut : (before mid now : ℕ) (s : Status) → before ≤ mid → IsLost mid now s → IsCutShort before now s
+lost_cut before mid now s le (inl memory) = inl (inl memory)
+lost_cut before mid now s le (inr (sink, rose)) = inl (inr (sink, rose_later 1 before mid now le rose))
+
+pub not_too_much : (P : Type 0) (faults faults' : ℕ) (s : Status) → IsLost faults faults' s → s ≡ status.TooMuch → P
 not_too_much P faults faults' s (inl memory) e = let both : status.Memory ≡ status.TooMuch = sym memory ∙ e in cc
 not_too_much P faults faults' s (inr sink) e = let both : status.SinkFault ≡ status.TooMuch = sym sink.0 ∙ e in cc
 
-so_far : (n : Network) (sources : List (List Tuple)) (pages : Option Pages) (engine : Engine) (history : List Event) (begun steps : ℕ) → IsRun n sources pages engine history begun steps → Tells pages
-    → ShownSoFar n sources history begun steps
-so_far n sources pages engine history begun steps run tells = shown-so-far engine n sources pages history begun steps tells run
+so_far : (r : Replay) (pages : Option Pages) (engine : Engine) (history : List Event) (begun steps : ℕ) → IsRun r pages engine history begun steps → Tells pages
+    → ShownSoFar r history begun steps
+so_far r pages engine history begun steps run tells = shown-so-far engine r pages history begun steps tells run
+
+sound_run : (r : Replay) (pages : Option Pages) (engine : Engine) (history : List Event) (begun steps : ℕ) → IsRun r pages engine history begun steps → IsSound r.network
+sound_run r pages engine history begun steps run = subst IsSound run.network run.sound.network
+
+-- what was shown so far begins the answer
+begins_run : (r : Replay) (pages : Option Pages) (engine : Engine) (history : List Event) (begun steps : ℕ) → IsRun r pages engine history begun steps → Tells pages
+    → Begins r.network (answer_in r) history
+begins_run r pages engine history begun steps run tells =
+    begins_so_far r (sound_run r pages engine history begun steps run) history begun steps (so_far r pages engine history begun steps run tells)
 
 -- one step, of an engine that showed nothing before it
 module _ (was : Option Pages) (from : Engine) (begun now : ℕ) (cleared shown : List Event) (none : cleared ≡ []) where
-  run_here : (n : Network) (sources : List (List Tuple)) (history : List Event) (start : ℕ) → IsRun n sources was from history start begun
-      → IsRun n sources was from (history ++ cleared) start begun
-  run_here n sources history start run = subst (λ xs. IsRun n sources was from xs start begun) (sym (ap (λ xs. history ++ xs) none ∙ append-nil history)) run
+  run_here : (r : Replay) (history : List Event) (start : ℕ) → IsRun r was from history start begun
+      → IsRun r was from (history ++ cleared) start begun
+  run_here r history start run = subst (λ xs. IsRun r was from xs start begun) (sym (ap (λ xs. history ++ xs) none ∙ append-nil history)) run
 
-  module _ (is : Option Pages) (to : Engine) (lines : AllByRecursion (IsLineIn from.network) cleared → AllByRecursion (IsLineIn from.network) shown)
-      (goes : (n : Network) (sources : List (List Tuple)) (history : List Event) (start : ℕ) → IsRun n sources was from (history ++ cleared) start begun
-      → IsRun n sources is to (history ++ shown) start now)
+  module _ (is : Option Pages) (to : Engine) (lines : AllByRecursion (IsEventAt from.network) cleared → AllByRecursion (IsEventAt from.network) shown)
+      (goes : (r : Replay) (history : List Event) (start : ℕ) → IsRun r was from (history ++ cleared) start begun
+      → IsRun r is to (history ++ shown) start now)
       (same : to.network ≡ from.network) where
-    lines_here : AllByRecursion (IsLineIn from.network) shown
-    lines_here = lines (subst (AllByRecursion (IsLineIn from.network)) (sym none) tt)
+    lines_here : AllByRecursion (IsEventAt from.network) shown
+    lines_here = lines (subst (AllByRecursion (IsEventAt from.network)) (sym none) tt)
 
-    -- each of its events is a line of an output that is there
-    pub step_lines : AllByRecursion (IsLineIn to.network) shown
-    step_lines = subst (λ n. AllByRecursion (IsLineIn n) shown) (sym same) lines_here
+    -- each of its events is one of the run
+    pub step_lines : AllByRecursion (IsEventAt to.network) shown
+    step_lines = subst (λ n. AllByRecursion (IsEventAt n) shown) (sym same) lines_here
 
     pub step_goes : (before after : Option (List ℕ)) (waited waits : List ℕ) → Moves before waited after waits (history_text to.network shown)
         → GoesOn was is from to begun now before waited after waits
@@ -71,39 +112,39 @@ module _ (was : Option Pages) (from : Engine) (begun now : ℕ) (cleared shown :
       events = shown;
       shown = lines_here;
       moves = subst (λ n. Moves before waited after waits (history_text n shown)) same moves;
-      goes = λ n sources history start run. goes n sources history start (run_here n sources history start run);
+      goes = λ r history start run. goes r history start (run_here r history start run);
     }
 
     -- its lines are lost
     pub step_lost : (before after : Option (List ℕ)) (waited : List ℕ) (faults faults' : ℕ) (s : Status) → is_some is ≡ is_some was
         → AppendsPrefix before after (waited ++ history_text to.network shown) → IsLost faults faults' s → Stops was from begun now before waited after s
-    step_lost before after waited faults faults' s tells written lost n sources history start told run =
-        let far = so_far n sources is to (history ++ shown) start now (goes n sources history start (run_here n sources history start run)) (tells ∙ told) in
+    step_lost before after waited faults faults' s tells written lost r history start told run =
+        let run_on = goes r history start (run_here r history start run) in
+        let far = so_far r is to (history ++ shown) start now run_on (tells ∙ told) in
         let there = same ∙ run.network in
         record {
           events = shown;
-          shown = subst (λ m. AllByRecursion (IsLineIn m) shown) there step_lines;
-          lines = far.lines;
+          shown = subst (λ m. AllByRecursion (IsEventAt m) shown) there step_lines;
+          first = begins_run r is to (history ++ shown) start now run_on (tells ∙ told);
           written = subst (λ m. AppendsPrefix before after (waited ++ history_text m shown)) there written;
           work = far.work;
-          too_much = not_too_much (2 ^ 62 ≤ work_of n sources) faults faults' s lost;
+          too_much = not_too_much (2 ^ 62 ≤ turns_in r) faults faults' s lost;
         }
 
   -- it failed
   pub step_stops : (before : Option (List ℕ)) (waited : List ℕ) (e : RunErr) (s : Status) → (s ≡ status.Memory) ⊎ ((s ≡ status.TooMuch) × (e ≡ run_err.TooMuch))
-      → (Tells was → (n : Network) (sources : List (List Tuple)) (history : List Event) (start : ℕ) → IsRun n sources was from (history ++ cleared) start begun
-      → Stopped n sources (history ++ shown) start now e)
+      → (Tells was → (r : Replay) (history : List Event) (start : ℕ) → IsRun r was from (history ++ cleared) start begun
+      → Stopped r (history ++ shown) start now e)
       → Stops was from begun now before waited before s
-  step_stops before waited e s cause stopped n sources history start told run =
-      let far = so_far n sources was from history start begun run told in
-      let halt = stopped told n sources history start (run_here n sources history start run) in
+  step_stops before waited e s cause stopped r history start told run =
+      let halt = stopped told r history start (run_here r history start run) in
       record {
         events = [];
         shown = tt;
-        lines = λ o k at. subst (λ xs. IsPrefixOf (lines_of o xs) (full_stream n sources k)) (sym (append-nil history)) (far.lines o k at);
+        first = subst (Begins r.network (answer_in r)) (sym (append-nil history)) (begins_run r was from history start begun run told);
         written = lost_at_once before (waited ++ []);
         work = halt.so_far.work;
-        too_much = by cause (2 ^ 62 ≤ work_of n sources) halt.turns;
+        too_much = by cause (2 ^ 62 ≤ turns_in r) halt.turns;
       }
     where
       by : (s ≡ status.Memory) ⊎ ((s ≡ status.TooMuch) × (e ≡ run_err.TooMuch)) → (P : Type 0) → (e ≡ run_err.TooMuch → P) → s ≡ status.TooMuch → P
@@ -116,7 +157,7 @@ goes_none pages engine steps written waits none = record {
   events = [];
   shown = tt;
   moves = record { part = []; now_is = sym (appended-nil written); all = none };
-  goes = λ n sources history start run. subst (λ xs. IsRun n sources pages engine xs start steps) (sym (append-nil history)) run;
+  goes = λ r history start run. subst (λ xs. IsRun r pages engine xs start steps) (sym (append-nil history)) run;
 }
 
 module _ (was mid : Option Pages) (from via : Engine) (begun now : ℕ) (before between : Option (List ℕ)) (waited waits : List ℕ)
@@ -127,67 +168,70 @@ module _ (was mid : Option Pages) (from via : Engine) (begun now : ℕ) (before 
   pub goes_then : (is : Option Pages) (to : Engine) (later : ℕ) (after : Option (List ℕ)) (rest : List ℕ) → GoesOn mid is via to now later between waits after rest
       → GoesOn was is from to begun later before waited after rest
   goes_then is to later after rest second =
-      let shown = subst (λ n. AllByRecursion (IsLineIn n) second.events) same second.shown in
+      let shown = subst (λ n. AllByRecursion (IsEventAt n) second.events) same second.shown in
       let moves = subst (λ n. Moves between waits after rest (history_text n second.events)) same second.moves in
       record {
         events = first.events ++ second.events;
-        shown = all_append (IsLineIn from.network) first.events second.events first.shown shown;
+        shown = all_append (IsEventAt from.network) first.events second.events first.shown shown;
         moves = subst (Moves before waited after rest) (sym (text_both from.network first.events second.events))
             (moves-then before between after waited waits rest (history_text from.network first.events) (history_text from.network second.events) first.moves moves);
-        goes = λ n sources history start run.
-            subst (λ xs. IsRun n sources is to xs start later) (append_assoc history first.events second.events)
-            (second.goes n sources (history ++ first.events) start (first.goes n sources history start run));
+        goes = λ r history start run.
+            subst (λ xs. IsRun r is to xs start later) (append_assoc history first.events second.events)
+            (second.goes r (history ++ first.events) start (first.goes r history start run));
       }
 
 module _ (was mid : Option Pages) (from via : Engine) (begun now : ℕ) (before between : Option (List ℕ)) (waits : List ℕ)
     (first : GoesOn was mid from via begun now before [] between waits) (tells : is_some mid ≡ is_some was)
-    (n : Network) (sources : List (List Tuple)) (start : ℕ) (told : Tells was) (run : IsRun n sources was from [] start begun) where
-  run_now : IsRun n sources mid via first.events start now
-  run_now = first.goes n sources [] start run
+    (r : Replay) (start : ℕ) (told : Tells was) (run : IsRun r was from [] start begun) where
+  run_now : IsRun r mid via first.events start now
+  run_now = first.goes r [] start run
 
-  shown_now : AllByRecursion (IsLineIn n) first.events
-  shown_now = subst (λ m. AllByRecursion (IsLineIn m) first.events) run.network first.shown
+  shown_now : AllByRecursion (IsEventAt r.network) first.events
+  shown_now = subst (λ m. AllByRecursion (IsEventAt m) first.events) run.network first.shown
 
-  moves_now : Moves before [] between waits (history_text n first.events)
+  moves_now : Moves before [] between waits (history_text r.network first.events)
   moves_now = subst (λ m. Moves before [] between waits (history_text m first.events)) run.network first.moves
 
   -- it stops
-  pub drive_stops : (later : ℕ) (after : Option (List ℕ)) (s : Status) → Stops mid via now later between waits after s → IsHalted n sources s before after start later
+  pub drive_stops : (later : ℕ) (after : Option (List ℕ)) (s : Status) → Stops mid via now later between waits after s → IsHalted r s before after start later
   drive_stops later after s stops =
-      let stop = stops n sources first.events start (tells ∙ told) run_now in
+      let stop = stops r first.events start (tells ∙ told) run_now in
       record {
         history = first.events ++ stop.events;
-        shows = record { shown = all_append (IsLineIn n) first.events stop.events shown_now stop.shown; lines = stop.lines };
-        written = subst (AppendsPrefix before after) (sym (flat_map-append (event_line n) first.events stop.events))
-            (moves-lost before between after [] waits (history_text n first.events) (history_text n stop.events) moves_now stop.written);
+        shown = all_append (IsEventAt r.network) first.events stop.events shown_now stop.shown;
+        first = stop.first;
+        written = subst (AppendsPrefix before after) (sym (flat_map-append (event_line r.network) first.events stop.events))
+            (moves-lost before between after [] waits (history_text r.network first.events) (history_text r.network stop.events) moves_now stop.written);
         work = stop.work;
         too_much = stop.too_much;
       }
 
   -- the last lines are lost
-  pub drive_lost : (faults faults' : ℕ) (after : Option (List ℕ)) (s : Status) → AppendsPrefix between after waits → IsLost faults faults' s → IsHalted n sources s before after start now
+  pub drive_lost : (faults faults' : ℕ) (after : Option (List ℕ)) (s : Status) → AppendsPrefix between after waits → IsLost faults faults' s → IsHalted r s before after start now
   drive_lost faults faults' after s written lost =
-      let far = so_far n sources mid via first.events start now run_now (tells ∙ told) in
+      let far = so_far r mid via first.events start now run_now (tells ∙ told) in
       record {
         history = first.events;
-        shows = record { shown = shown_now; lines = far.lines };
-        written = subst (AppendsPrefix before after) (append-nil (history_text n first.events))
-            (moves-lost before between after [] waits (history_text n first.events) [] moves_now (subst (AppendsPrefix between after) (sym (append-nil waits)) written));
+        shown = shown_now;
+        first = begins_run r mid via first.events start now run_now (tells ∙ told);
+        written = subst (AppendsPrefix before after) (append-nil (history_text r.network first.events))
+            (moves-lost before between after [] waits (history_text r.network first.events) [] moves_now (subst (AppendsPrefix between after) (sym (append-nil waits)) written));
         work = far.work;
-        too_much = not_too_much (2 ^ 62 ≤ work_of n sources) faults faults' s lost;
+        too_much = not_too_much (2 ^ 62 ≤ turns_in r) faults faults' s lost;
       }
 
   -- nothing is left
   pub drive_ends : (after : Option (List ℕ)) (rest : List ℕ) → Moves between waits after rest [] → rest ≡ []
-      → ((history : List Event) → IsRun n sources mid via history start now → ShownAll n sources via history start now)
-      → IsDriven n sources via before after start now
+      → ((history : List Event) → IsRun r mid via history start now → ShownAll r via history start now)
+      → IsDriven r via before after start now
   drive_ends after rest last none all =
       let whole = all first.events run_now in
-      let both = moves-then before between after [] waits rest (history_text n first.events) [] moves_now last in
+      let both = moves-then before between after [] waits rest (history_text r.network first.events) [] moves_now last in
       record {
         history = first.events;
-        shows = record { shown = shown_now; lines = whole.lines };
-        written = both.now_is ∙ ap (appended before) (sym (append-nil both.part) ∙ ap (λ xs. both.part ++ xs) (sym none) ∙ both.all ∙ append-nil (history_text n first.events));
+        shown = shown_now;
+        all = completes r (sound_run r mid via first.events start now run_now) via first.events start now whole;
+        written = both.now_is ∙ ap (appended before) (sym (append-nil both.part) ∙ ap (λ xs. both.part ++ xs) (sym none) ∙ both.all ∙ append-nil (history_text r.network first.events));
         fed = whole.fed;
         late = whole.late;
         work = whole.work;

@@ -165,13 +165,13 @@ module _ (w : ℕ) (l : List ℕ) (is : is_of_class (Dropped w) l ≡ true) wher
   drop_number : second_field l ≡ decimal w
   drop_number = same_bytes-true (second_field l) (decimal w) (and_true (same_bytes (first_field l) (codes "@drop")) (same_bytes (second_field l) (decimal w)) is).1
 
-  dropped_test : (c : Class) → IsPlainClass c → is_of_class c l ≡ tells (Dropped w) c
+  pub dropped_test : (c : Class) → IsPlainClass c → is_of_class c l ≡ tells (Dropped w) c
   dropped_test (Shown name) plain = rw drop_field (not_plain name (codes "drop") plain)
   dropped_test (Dropped v) plain = rw (drop_field, drop_number) refl
   dropped_test Planned plain = rw drop_field refl
   dropped_test Ended plain = rw drop_field refl
 
-planned_test : (c : Class) (l : List ℕ) → IsPlainClass c → is_of_class Planned l ≡ true → is_of_class c l ≡ tells Planned c
+pub planned_test : (c : Class) (l : List ℕ) → IsPlainClass c → is_of_class Planned l ≡ true → is_of_class c l ≡ tells Planned c
 planned_test (Shown name) l plain is = rw (same_bytes-true (first_field l) (codes "@plan") is) (not_plain name (codes "plan") plain)
 planned_test (Dropped v) l plain is = rw (same_bytes-true (first_field l) (codes "@plan") is) refl
 planned_test Planned l plain is = is

@@ -1,15 +1,15 @@
 -- How a run ends.
-use Rattle.std.proofs.Common.{◌≡◌, ◌≢◌, ◌⊎◌, inl, inr, ℕ, ◌+◌, ◌^◌, ◌<◌, ◌≤◌, Bool, true, false, not, ◌&&◌, List, [], ◌∷◌, ◌++◌, length, refl, ap, sym, ◌∙◌, subst, arith, append_assoc, append-nil, Option, None, Some}
+use Rattle.std.proofs.Common.{◌≡◌, ◌≢◌, ◌⊎◌, inl, inr, ℕ, zero, suc, ◌+◌, ◌^◌, ◌<◌, ◌≤◌, Bool, true, false, not, ◌&&◌, List, [], ◌∷◌, ◌++◌, length, refl, ap, sym, ◌∙◌, subst, arith, append_assoc, append-nil, Option, None, Some}
 use Rattle.std.specs.Prelude.{⊤, map, nat_lt, if◌then◌else◌, IsSome, Result, Ok, Err, codes}
 use Rattle.std.specs.Fmt.{decimal}
-use Rattle.std.specs.List.{AllByRecursion, flat_map, list_all, list_any, zip}
+use Rattle.std.specs.List.{AllByRecursion, flat_map, list_all, list_any, range_with_len, zip}
 use Rattle.std.proofs.lemmas.Bool.Decides.{nat_tests}
 use Rattle.std.proofs.lemmas.List.Elements.{recursion_from_All}
 use Rattle.sq_value.specs.declared.Tuple.{Tuple}
-use Rattle.sq_value.specs.Lists.{contains_bytes, same_bytes, IsPrefixOf}
-use Rattle.sq_value.specs.Classes.{Shown, Ended}
+use Rattle.sq_value.specs.Lists.{contains_bytes, numbers_to, same_bytes, IsPrefixOf}
+use Rattle.sq_value.specs.Classes.{Shown, Dropped, Planned, Ended, second_field}
 use Rattle.sq_value.proofs.ListLemmas.{same_bytes-refl}
-use Rattle.sq_value.specs.LineTexts.{line_of, needs_quotes, output_line, late_line, end_line}
+use Rattle.sq_value.specs.LineTexts.{drop_line, line_of, needs_quotes, output_line, plan_line, late_line, end_line}
 use Rattle.sq_value.specs.Texts.{text_of}
 use Rattle.sq_value.proofs.RowLemmas.{first_field-line_of, is_line-line_of}
 use Rattle.sq_outside.specs.Faults.{Rose}
@@ -27,20 +27,24 @@ use Rattle.sq_reader.specs.Networks.{network_in}
 use Rattle.sq_reader.proofs.SoundLemmas.{network_sound}
 use Rattle.sq_replay.specs.declared.why.Why.{Why}
 use Rattle.sq_replay.specs.Streams.{stream_in}
-use Rattle.sq_model.specs.Full.{nth, full_streams}
-use Rattle.sq_model.specs.Fed.{work_of}
+use Rattle.sq_model.specs.Shedding as model
+use Rattle.sq_plan.specs.declared.closing.Shown.{Shown as ShownPlan}
+use Rattle.sq_oper.specs.declared.outs.Decision.{Decision}
 use Rattle.sq_top.specs.declared.Command.{Command}
 use Rattle.sq_top.specs.declared.Command.TheVariants as command
 use Rattle.sq_top.specs.declared.Status.{Status}
 use Rattle.sq_top.specs.declared.Status.TheVariants as status
 use Rattle.sq_top.specs.Commands.{command_in}
-use Rattle.sq_replay.specs.Shown.{fed_line, is_sorter, late_lines}
-use Rattle.sq_top.specs.Due.{Due, due_from, due_of, ended_from, feds_from, lates_from, shown_from}
+use Rattle.sq_replay.specs.Shown.{end_lines, fed_line, is_sorter, late_lines}
+use Rattle.sq_csv.proofs.NumberLemmas.{decimal_bare}
+use Rattle.std.proofs.lemmas.Fmt.{decimal_nonempty}
+use Rattle.sq_top.specs.Due.{Answer, Due, answer_in, drops_in, dropped_from, due_from, due_in, due_of, ended_in, fed_in, late_in, plan_text, replayed, shown_from, turns_in, work_in}
 use Rattle.sq_top.specs.Answers.{IsPrefixText, IsWholeText}
 use Rattle.sq_top.specs.Driving.{IsCutShort}
 use Rattle.sq_top.specs.declared.RunArgs.{RunArgs}
-use Rattle.sq_replay.specs.Entries.{picks_in}
-use Rattle.sq_top.specs.Scripts.{Lookup, Replay, accepted, after_network, after_picks, after_stream, after_streams, after_words, go_on, outcome_of, picks_script, readable, settings_limit, stream_limit, unread, with_sources, Script}
+use Rattle.sq_plan.specs.Plans.{Entries}
+use Rattle.sq_replay.specs.Entries.{capacities_in, picks_in}
+use Rattle.sq_top.specs.Scripts.{Lookup, Replay, accepted, after_capacities, after_network, after_picks, after_stream, after_streams, after_words, capacities_script, go_on, outcome_of, picks_script, readable, settings_limit, stream_limit, unread, with_sources, Script}
 use Rattle.sq_top.specs.Causes.{AnswersPrefix, AppendsSuch, Ends, EndsOk, HasFailedAt, IsStopped, MatchAccepted, NamesSource, RefusalHasCause, TooMuchHasCause, WhereTold, World, is_refusal}
 use Rattle.sq_top.proofs.SortedLines.{and-true}
 use Rattle.sq_top.proofs.StoppedLemmas.{at_told, some_none, where_told}
@@ -90,17 +94,47 @@ pub lines_shown : (w : List ℕ) (xs : List Tuple) → is_name w ≡ true → Al
 lines_shown [] xs h = absurd (cc)
 lines_shown (b ∷ bs) xs h = shown_lines b bs xs (name_quoteless b bs h)
 
-module _ (streams : List (List Tuple)) where
-  names_plain : (os : List Output) (ss : List ℕ) → AllByRecursion (λ o. is_name o.name ≡ true) os → AllByRecursion (λ o. IsPlainName o.0) (map (shown_from streams) (zip os ss))
+-- the second field of a drop's line
+second_is : (f : List ℕ) (fields : List (List ℕ)) → 0 < length f → list_any needs_quotes f ≡ false → second_field (line_of (codes "@drop" ∷ f ∷ fields)) ≡ f
+second_is [] fields some plain = absurd (omega (arith, some))
+second_is (b ∷ bs) fields some plain = first_field-line_of b bs fields plain
+
+pub line_dropped : (w b level : ℕ) → w < 2 ^ 64 → IsLineOf (Dropped w) (drop_line w b level)
+line_dropped w b level small =
+    let fields = decimal b ∷ decimal level ∷ [] in
+    let second = second_is (decimal w) fields (decimal_nonempty w small) (decimal_bare w small) in (
+      is_line-line_of (codes "@drop" ∷ decimal w ∷ fields),
+      subst (λ f. same_bytes f (decimal w) ≡ true) (sym second) (same_bytes-refl (decimal w)),
+    )
+
+pub line_planned : (epoch load capacity saved : ℕ) (fits : Bool) → IsLineOf Planned (plan_line epoch load capacity saved fits)
+line_planned epoch load capacity saved fits =
+    let fields = decimal epoch ∷ decimal load ∷ decimal capacity ∷ decimal saved ∷ (if fits then codes "fits" else codes "short") ∷ [] in
+    (is_line-line_of (codes "@plan" ∷ fields), subst (λ f. same_bytes f (codes "@plan") ≡ true) (sym (first_field-line_of 64 (codes "plan") fields refl)) refl)
+
+module _ (a : Answer) where
+  names_plain : (os : List Output) (ss : List ℕ) → AllByRecursion (λ o. is_name o.name ≡ true) os → AllByRecursion (λ o. IsPlainName o.0) (map (shown_from a) (zip os ss))
   names_plain [] ss named = tt
   names_plain (o ∷ os) [] named = tt
   names_plain (o ∷ os) (s ∷ ss) named = (plain_name o.name named.0, names_plain os ss named.1)
 
   outputs_shown : (os : List Output) (ss : List ℕ) → AllByRecursion (λ o. is_name o.name ≡ true) os
-      → AllByRecursion (λ o. AllByRecursion (IsLineOf (Shown o.0)) o.1) (map (shown_from streams) (zip os ss))
+      → AllByRecursion (λ o. AllByRecursion (IsLineOf (Shown o.0)) o.1) (map (shown_from a) (zip os ss))
   outputs_shown [] ss named = tt
   outputs_shown (o ∷ os) [] named = tt
-  outputs_shown (o ∷ os) (s ∷ ss) named = (lines_shown o.name (nth streams s) named.0, outputs_shown os ss named.1)
+  outputs_shown (o ∷ os) (s ∷ ss) named = (lines_shown o.name (a.tuples s) named.0, outputs_shown os ss named.1)
+
+  decisions_shown : (w : ℕ) → w < 2 ^ 64 → (ds : List Decision) → AllByRecursion (IsLineOf (Dropped w)) (map (λ d. drop_line w d.batch d.level) ds)
+  decisions_shown w small [] = tt
+  decisions_shown w small (d ∷ ds) = (line_dropped w d.batch d.level small, decisions_shown w small ds)
+
+  drops_shown : (from many : ℕ) → from + many < 2 ^ 64 → AllByRecursion (λ x. AllByRecursion (IsLineOf (Dropped x.0)) x.1) (map (dropped_from a) (range_with_len from many))
+  drops_shown from zero few = tt
+  drops_shown from (suc many) few = (decisions_shown from (omega (arith, few)) (a.decisions from), drops_shown (from + 1) many (omega (arith, few)))
+
+plans_planned : (ps : List ShownPlan) → AllByRecursion (IsLineOf Planned) (map plan_text ps)
+plans_planned [] = tt
+plans_planned (p ∷ ps) = (line_planned p.epoch p.load p.capacity p.saved p.fits, plans_planned ps)
 
 -- the box lines, the late lines and the last one
 module _ (rest : List (List ℕ)) (rest_ends : AllByRecursion (IsLineOf Ended) rest) where
@@ -121,22 +155,31 @@ module _ (rest : List (List ℕ)) (rest_ends : AllByRecursion (IsLineOf Ended) r
       rw (append_assoc (late_lines (b, k)) (flat_map late_lines (zip bs late)) rest)
       (late_ended (is_sorter b.body) b.name k (flat_map late_lines (zip bs late) ++ rest) (lates_ended bs late))
 
-all_ended : (n : Network) (streams : List (List Tuple)) → AllByRecursion (IsLineOf Ended) (ended_from n streams)
-all_ended n streams =
-    boxes_ended (flat_map late_lines (zip n.boxes (lates_from n streams)) ++ end_line ∷ [])
-    (lates_ended (end_line ∷ []) (end_line_of (codes "end") [] refl refl, tt) n.boxes (lates_from n streams)) n.boxes (feds_from n streams)
+pub all_ended : (n : Network) (fed late : List ℕ) → AllByRecursion (IsLineOf Ended) (end_lines n fed late)
+all_ended n fed late =
+    boxes_ended (flat_map late_lines (zip n.boxes late) ++ end_line ∷ [])
+    (lates_ended (end_line ∷ []) (end_line_of (codes "end") [] refl refl, tt) n.boxes late) n.boxes fed
 
 -- what is due of a sound network can be told apart by its classes
-pub due_tells_classes : (n : Network) (streams : List (List Tuple)) → IsSound n → TellsClasses (due_from n streams)
-due_tells_classes n streams is =
+pub due_tells_classes : (n : Network) (a : Answer) (ended : List (List ℕ)) → AllByRecursion (IsLineOf Ended) ended → drops_in n < 2 ^ 64 → IsSound n → TellsClasses (due_from n a ended)
+due_tells_classes n a ended ends few is =
     let named = recursion_from_All (λ (o : Output). is_name o.name ≡ true) n.outputs is.named in
     record {
-      names = names_plain streams n.outputs n.wires.outputs named;
-      shown = outputs_shown streams n.outputs n.wires.outputs named;
-      dropped = tt;
-      planned = tt;
-      ended = all_ended n streams;
+      names = names_plain a n.outputs (numbers_to (length n.outputs)) named;
+      shown = outputs_shown a n.outputs (numbers_to (length n.outputs)) named;
+      dropped = drops_shown a 0 (drops_in n) (omega (arith, few));
+      planned = plans_planned a.plans;
+      ended = ends;
     }
+
+-- there are few drops
+pub few_drops : (n : Network) → IsSound n → drops_in n < 2 ^ 64
+few_drops n is = omega arith
+
+pub replay_tells_classes : (r : model.Replay) → IsSound r.network → TellsClasses (due_in r)
+replay_tells_classes r is =
+    due_tells_classes r.network (answer_in r) (ended_in r)
+    (all_ended r.network (map (fed_in r) (numbers_to (length r.network.boxes))) (map (late_in r) (numbers_to (length r.network.boxes)))) (few_drops r.network is) is
 
 -- what is accepted is the network of the file
 abbrev IsFileOf : Network → Type 0
@@ -160,18 +203,28 @@ streams_ok files p (s ∷ left) r e =
     file_ok files p.network (readable s.file stream_limit (files s.file)) (λ bytes. after_stream (length p.sources) more (stream_in s.schema bytes)) r
     (λ bytes. stream_ok files p.network (length p.sources) more r (stream_in s.schema bytes) (λ xs. streams_ok files (with_sources p (p.sources ++ xs ∷ [])) left r)) e
 
-picks_ok : (files : Lookup) (args : RunArgs) (n : Network) (o : Result (List ℕ) ℕ) (r : Replay) → outcome_of files (after_picks args n o) ≡ Ok r → n ≡ r.network
-picks_ok files args n (Ok picks) r e = streams_ok files (unread args n picks) n.sources r e
-picks_ok files args n (Err line) r e = absurd (cc)
+module _ (files : Lookup) (args : RunArgs) (n : Network) where
+  picks_ok : (entries : Entries) (o : Result (List ℕ) ℕ) (r : Replay) → outcome_of files (after_picks args n entries o) ≡ Ok r → n ≡ r.network
+  picks_ok entries (Ok picks) r e = streams_ok files (unread args n entries picks) n.sources r e
+  picks_ok entries (Err line) r e = absurd (cc)
 
-named_ok : (files : Lookup) (args : RunArgs) (n : Network) (o : Option (List ℕ)) (r : Replay) → outcome_of files (picks_script args n o) ≡ Ok r → n ≡ r.network
-named_ok files args n None r e = picks_ok files args n (Ok []) r e
-named_ok files args n (Some name) r e =
-    file_ok files n (readable name settings_limit (files name)) (λ bytes. after_picks args n (picks_in bytes)) r (λ bytes. picks_ok files args n (picks_in bytes) r) e
+  picked_ok : (entries : Entries) (o : Option (List ℕ)) (r : Replay) → outcome_of files (picks_script args n entries o) ≡ Ok r → n ≡ r.network
+  picked_ok entries None r e = picks_ok entries (Ok []) r e
+  picked_ok entries (Some name) r e =
+      file_ok files n (readable name settings_limit (files name)) (λ bytes. after_picks args n entries (picks_in bytes)) r (λ bytes. picks_ok entries (picks_in bytes) r) e
+
+  capacities_ok : (o : Result Entries ℕ) (r : Replay) → outcome_of files (after_capacities args n o) ≡ Ok r → n ≡ r.network
+  capacities_ok (Ok entries) r e = picked_ok entries args.picks r e
+  capacities_ok (Err line) r e = absurd (cc)
+
+  named_ok : (o : Option (List ℕ)) (r : Replay) → outcome_of files (capacities_script args n o) ≡ Ok r → n ≡ r.network
+  named_ok None r e = capacities_ok (Ok []) r e
+  named_ok (Some name) r e =
+      file_ok files n (readable name settings_limit (files name)) (λ bytes. after_capacities args n (capacities_in bytes)) r (λ bytes. capacities_ok (capacities_in bytes) r) e
 
 network_ok : (files : Lookup) (args : RunArgs) (bytes : List ℕ) (o : Result Network NetErr) (r : Replay) → network_in bytes ≡ o → outcome_of files (after_network args o) ≡ Ok r
     → IsFileOf r.network
-network_ok files args bytes (Ok n) r said e = (bytes, said ∙ ap (λ (x : Network). Ok x) (named_ok files args n args.picks r e))
+network_ok files args bytes (Ok n) r said e = (bytes, said ∙ ap (λ (x : Network). Ok x) (named_ok files args n args.capacities r e))
 network_ok files args bytes (Err s) r said e = absurd (cc)
 
 network_file_ok : (files : Lookup) (args : RunArgs) (read : Result (List ℕ) Status) (r : Replay)
@@ -186,7 +239,7 @@ command_ok files (Some (command.Run args)) r e = network_file_ok files args (rea
 pub accepted_tells_classes : (files : Lookup) (words : List (List ℕ)) (r : Replay) → accepted files words ≡ Ok r → TellsClasses (due_of r)
 accepted_tells_classes files words r e =
     let f = command_ok files (command_in words) r e in
-    due_tells_classes r.network (full_streams r.network r.sources) (network_sound f.0 r.network f.1)
+    replay_tells_classes (replayed r) (network_sound f.0 r.network f.1)
 
 no_text : (d : Due) → TellsClasses d → IsPrefixText d []
 no_text d s = prefix_text d [] [] s tt ([], refl)
@@ -258,9 +311,9 @@ stopped_ends words w s source h out steps = record {
 }
 
 module _ (words : List (List ℕ)) (w : World) (r : Replay) (source : List ℕ) (some : IsSome (command_in words))
-    (replayed : WhereTold w.told (λ files. accepted (file files) words ≡ Ok r)) where
+    (came : WhereTold w.told (λ files. accepted (file files) words ≡ Ok r)) where
   accepted_at : (files : Files) → w.told ≡ Some files → accepted (file files) words ≡ Ok r
-  accepted_at files t = at_told w.told (λ x. accepted (file x) words ≡ Ok r) files t replayed
+  accepted_at files t = at_told w.told (λ x. accepted (file x) words ≡ Ok r) files t came
 
   told_at : (files : Files) → w.told ≡ Some files → TellsClasses (due_of r)
   told_at files t = accepted_tells_classes (file files) words r (accepted_at files t)
@@ -274,7 +327,10 @@ module _ (words : List (List ℕ)) (w : World) (r : Replay) (source : List ℕ) 
   })
 
   abbrev work : ℕ
-  work = work_of r.network r.sources
+  work = work_in (replayed r)
+
+  abbrev turns : ℕ
+  turns = turns_in (replayed r)
 
   -- what holds of what was accepted
   at_replay : (P : Replay → Type 0) (Q : Status → Type 0) → P r → WhereTold w.told (λ files. MatchAccepted (accepted (file files) words) P Q)
@@ -282,7 +338,7 @@ module _ (words : List (List ℕ)) (w : World) (r : Replay) (source : List ℕ) 
 
   pub answered_ok : AppendsSuch w.out_before w.out_now (IsWholeText (due_of r)) → w.steps_now ≡ w.steps_before + work → Ends words w status.Ok source
   answered_ok out steps = record {
-    ok = λ e. at_replay (λ x. AppendsSuch w.out_before w.out_now (IsWholeText (due_of x)) × (w.steps_now ≡ w.steps_before + work_of x.network x.sources)) (λ u. ⊥) (out, steps);
+    ok = λ e. at_replay (λ x. AppendsSuch w.out_before w.out_now (IsWholeText (due_of x)) × (w.steps_now ≡ w.steps_before + work_in (replayed x))) (λ u. ⊥) (out, steps);
     other = λ e. absurd (e refl);
     refused_early = λ e. absurd (cc);
     usage = record { only = λ e. absurd (cc); when = λ e. absurd (some_none (command_in words) some e) };
@@ -291,7 +347,7 @@ module _ (words : List (List ℕ)) (w : World) (r : Replay) (source : List ℕ) 
     no_memory = λ e. absurd (cc);
     sink = λ e. absurd (cc);
     too_much = where_told w.told (λ files. TooMuchHasCause files words status.Ok) (λ files t e. absurd (cc));
-    complete = λ quiet dry. at_replay (λ x. work_of x.network x.sources < 2 ^ 62 → (status.Ok ≡ status.Ok) ⊎ (status.Ok ≡ status.Memory)) (λ u. ⊤) (λ few. inl refl);
+    complete = λ quiet dry. at_replay (λ x. turns_in (replayed x) < 2 ^ 62 → (status.Ok ≡ status.Ok) ⊎ (status.Ok ≡ status.Memory)) (λ u. ⊤) (λ few. inl refl);
     named = tt;
   }
 
@@ -299,16 +355,16 @@ module _ (words : List (List ℕ)) (w : World) (r : Replay) (source : List ℕ) 
   record CutBy (s : Status) : Type 0 where
     no_refusal : is_refusal s ≡ false
     not_ok : s ≡ status.Ok → ⊥
-    cause : (s ≡ status.Memory) ⊎ Rose w.sink_before w.sink_now ⊎ (2 ^ 62 ≤ work)
+    cause : (s ≡ status.Memory) ⊎ Rose w.sink_before w.sink_now ⊎ (2 ^ 62 ≤ turns)
     sink : s ≡ status.SinkFault → Rose w.sink_before w.sink_now
-    too_much : s ≡ status.TooMuch → 2 ^ 62 ≤ work
+    too_much : s ≡ status.TooMuch → 2 ^ 62 ≤ turns
     usage : s ≡ status.Usage → ⊥
     network : (e : NetErr) → s ≡ status.BadNetwork e → ⊥
     folder : (name : List ℕ) → s ≡ status.FolderFault name → ⊥
     too_long : (name : List ℕ) → s ≡ status.TooLong name → ⊥
     named : NamesSource w.told words s source
 
-  ends_ok : (s : Status) → (s ≡ status.Memory) ⊎ Rose w.sink_before w.sink_now ⊎ (2 ^ 62 ≤ work) → ¬ (Rose w.sink_before w.sink_now) → work < 2 ^ 62 → (s ≡ status.Ok) ⊎ (s ≡ status.Memory)
+  ends_ok : (s : Status) → (s ≡ status.Memory) ⊎ Rose w.sink_before w.sink_now ⊎ (2 ^ 62 ≤ turns) → ¬ (Rose w.sink_before w.sink_now) → turns < 2 ^ 62 → (s ≡ status.Ok) ⊎ (s ≡ status.Memory)
   ends_ok s (inl memory) dry few = inr memory
   ends_ok s (inr (inl rose)) dry few = absurd (dry rose)
   ends_ok s (inr (inr much)) dry few = absurd (omega (arith, much, few))
@@ -316,7 +372,7 @@ module _ (words : List (List ℕ)) (w : World) (r : Replay) (source : List ℕ) 
   cut_ends : (s : Status) → AppendsSuch w.out_before w.out_now (IsPrefixText (due_of r)) → w.steps_now ≤ w.steps_before + work → CutBy s → Ends words w s source
   cut_ends s out steps cut = record {
     ok = λ e. absurd (cut.not_ok e);
-    other = λ e. at_replay (λ x. AppendsSuch w.out_before w.out_now (IsPrefixText (due_of x)) × (w.steps_now ≤ w.steps_before + work_of x.network x.sources))
+    other = λ e. at_replay (λ x. AppendsSuch w.out_before w.out_now (IsPrefixText (due_of x)) × (w.steps_now ≤ w.steps_before + work_in (replayed x)))
         (λ u. (w.out_now ≡ w.out_before) × (w.steps_now ≡ w.steps_before)) (out, steps);
     refused_early = λ e. let both : true ≡ false = sym e ∙ cut.no_refusal in absurd (cc);
     usage = record { only = λ e. absurd (cut.usage e); when = λ e. absurd (some_none (command_in words) some e) };
@@ -324,15 +380,15 @@ module _ (words : List (List ℕ)) (w : World) (r : Replay) (source : List ℕ) 
     folder = record { failed = λ name e. absurd (cut.folder name e); too_long = λ name e. absurd (cut.too_long name e) };
     no_memory = λ e. absurd (cut.network net.Memory e);
     sink = cut.sink;
-    too_much = at_much (λ e. at_replay (λ x. 2 ^ 62 ≤ work_of x.network x.sources) (λ u. ⊥) (cut.too_much e));
-    complete = λ quiet dry. at_replay (λ x. work_of x.network x.sources < 2 ^ 62 → (s ≡ status.Ok) ⊎ (s ≡ status.Memory)) (λ u. ⊤) (ends_ok s cut.cause dry);
+    too_much = at_much (λ e. at_replay (λ x. 2 ^ 62 ≤ turns_in (replayed x)) (λ u. ⊥) (cut.too_much e));
+    complete = λ quiet dry. at_replay (λ x. turns_in (replayed x) < 2 ^ 62 → (s ≡ status.Ok) ⊎ (s ≡ status.Memory)) (λ u. ⊤) (ends_ok s cut.cause dry);
     named = cut.named;
   }
     where
-      at_much : (s ≡ status.TooMuch → WhereTold w.told (λ files. MatchAccepted (accepted (file files) words) (λ x. 2 ^ 62 ≤ work_of x.network x.sources) (λ u. ⊥)))
+      at_much : (s ≡ status.TooMuch → WhereTold w.told (λ files. MatchAccepted (accepted (file files) words) (λ x. 2 ^ 62 ≤ turns_in (replayed x)) (λ u. ⊥)))
           → WhereTold w.told (λ files. TooMuchHasCause files words s)
       at_much f = where_told w.told (λ files. TooMuchHasCause files words s)
-          (λ files t e. at_told w.told (λ x. MatchAccepted (accepted (file x) words) (λ y. 2 ^ 62 ≤ work_of y.network y.sources) (λ u. ⊥)) files t (f e))
+          (λ files t e. at_told w.told (λ x. MatchAccepted (accepted (file x) words) (λ y. 2 ^ 62 ≤ turns_in (replayed y)) (λ u. ⊥)) files t (f e))
 
   cut_memory : CutBy status.Memory
   cut_memory = record {
@@ -362,7 +418,7 @@ module _ (words : List (List ℕ)) (w : World) (r : Replay) (source : List ℕ) 
     named = tt;
   }
 
-  cut_much : 2 ^ 62 ≤ work → CutBy status.TooMuch
+  cut_much : 2 ^ 62 ≤ turns → CutBy status.TooMuch
   cut_much much = record {
     no_refusal = refl;
     not_ok = λ e. cc;
@@ -376,14 +432,14 @@ module _ (words : List (List ℕ)) (w : World) (r : Replay) (source : List ℕ) 
     named = tt;
   }
 
-  cut_by : (s : Status) → IsCutShort w.sink_before w.sink_now s → (s ≡ status.TooMuch → 2 ^ 62 ≤ work) → CutBy s
+  cut_by : (s : Status) → IsCutShort w.sink_before w.sink_now s → (s ≡ status.TooMuch → 2 ^ 62 ≤ turns) → CutBy s
   cut_by s (inl (inl memory)) much = subst CutBy (sym memory) cut_memory
   cut_by s (inl (inr sink)) much = subst CutBy (sym sink.0) (cut_sink sink.1)
   cut_by s (inr is) much = subst CutBy (sym is) (cut_much (much is))
 
   -- the answer is cut short
   pub answered_cut : (s : Status) → AppendsSuch w.out_before w.out_now (IsPrefixText (due_of r)) → w.steps_now ≤ w.steps_before + work → IsCutShort w.sink_before w.sink_now s
-      → (s ≡ status.TooMuch → 2 ^ 62 ≤ work) → Ends words w s source
+      → (s ≡ status.TooMuch → 2 ^ 62 ≤ turns) → Ends words w s source
   answered_cut s out steps cut much = cut_ends s out steps (cut_by s cut much)
 
 -- any end but Ok may be one for want of memory

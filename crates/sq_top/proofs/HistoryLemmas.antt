@@ -1,157 +1,41 @@
--- Histories: the lines of a run whose outputs have shown their streams, in whatever order, are an order of writing with the end
--- lines behind. Where each output has shown the first tuples of its stream, each beginning of the text is one of such an order.
-use Rattle.std.proofs.Common.{◌≡◌, ◌≢◌, ℕ, zero, suc, ◌<◌, ◌≤◌, ◌+◌, Bool, true, false, not, ◌&&◌, List, [], ◌∷◌, ◌++◌, length, drop, refl, ap, ap₂, sym, ◌∙◌, subst, arith, append_assoc, append-nil, Option, Some, None}
-use Rattle.std.specs.Prelude.{◌==◌, map, if◌then◌else◌, slice_get, codes, IsTrue}
+-- Histories: the lines of a run that has shown its whole answer, in whatever order, are an order of writing with the end lines behind.
+use Rattle.std.proofs.Common.{◌≡◌, ◌⊎◌, inl, inr, ℕ, ◌<◌, ◌^◌, arith, Bool, true, false, not, ◌&&◌, List, [], ◌∷◌, ◌++◌, length, refl, ap, ap₂, sym, ◌∙◌, subst, append-nil, Option, Some}
+use Rattle.std.specs.Prelude.{◌==◌, map, if◌then◌else◌, slice_get}
 use Rattle.std.specs.Fmt.{decimal}
-use Rattle.std.specs.List.{AllByRecursion, filter, flat_map, list_all, list_any, zip}
-use Rattle.std.proofs.lemmas.Bool.{eq-eqb, eqb-true, eqb-false}
-use Rattle.std.proofs.lemmas.Option.{slice_get_cases, slice_get_within}
+use Rattle.std.specs.List.{AllByRecursion, filter, flat_map, list_all}
+use Rattle.std.proofs.lemmas.Bool.{eqb-true, eqb-false}
 use Rattle.std.proofs.lemmas.List.Elements.{filter-append, recursion_from_All}
 use Rattle.std.proofs.lemmas.List.Folds.{list_all-append}
+use Rattle.std.proofs.lemmas.List.FromFn.{length-range_with_len}
 use Rattle.std.proofs.lemmas.Grind.{flat_map-append}
-use Rattle.std.proofs.Math.Seq.{drop-append_seam}
+use Rattle.std.proofs.lemmas.Option.{slice_get_within}
 use Rattle.sq_value.specs.declared.Tuple.{Tuple}
-use Rattle.sq_value.specs.Lists.{are_distinct, contains_bytes, same_bytes, IsPrefixOf}
+use Rattle.sq_value.specs.Lists.{IsPrefixOf, numbers_to, same_bytes}
 use Rattle.sq_value.specs.Classes.{Class, Shown, Dropped, Planned, Ended, is_of_class}
-use Rattle.sq_value.specs.LineTexts.{output_line}
-use Rattle.sq_value.proofs.ListLemmas.{same_bytes-true, same_bytes-refl}
+use Rattle.sq_value.specs.LineTexts.{drop_line, output_line}
+use Rattle.sq_value.proofs.ListLemmas.{same_bytes-refl}
 use Rattle.sq_net.specs.declared.Network.{Network}
 use Rattle.sq_net.specs.declared.Output.{Output}
 use Rattle.sq_net.specs.Names.{is_name}
 use Rattle.sq_net.specs.Sound.{IsSound}
 use Rattle.sq_oper.specs.declared.outs.Event.{Event}
+use Rattle.sq_oper.specs.declared.outs.Decision.{Decision}
 use Rattle.sq_oper.specs.declared.outs.Event.TheVariants.{Line, Dropped as Decided, Plan}
-use Rattle.sq_model.specs.Full.{nth}
 use Rattle.sq_model.proofs.Alls.{holds-at}
 use Rattle.sq_model.proofs.StreamTypes.{some-at}
-use Rattle.sq_top.specs.Due.{Due, due_from, ended_from, shown_from}
-use Rattle.sq_top.specs.Answers.{IsClassIn, IsPrefixText, IsWholeText, is_classed, lines_of as due_lines}
-use Rattle.sq_top.specs.Orders.{AreAll, IsOrder}
 use Rattle.sq_replay.specs.Shown.{event_line, name_in, text_of}
-use Rattle.sq_flow.specs.Events.{line_of, lines_of}
-use Rattle.sq_top.specs.Driving.{IsLineIn, ShowsAll, ShowsFirst, history_text}
+use Rattle.sq_flow.specs.Events.{lines_of}
+use Rattle.sq_flow.specs.Plans.{plans_of}
+use Rattle.sq_top.specs.Due.{Answer, Due, drops_in, due_from, plan_text}
+use Rattle.sq_top.specs.Answers.{IsClassIn, IsPrefixText, IsWholeText, is_classed, lines_of as due_lines}
+use Rattle.sq_top.specs.Driving.{Completes, IsEventAt, drops_of, history_text}
+use Rattle.sq_top.specs.Orders.{AreAll, IsOrder}
 use Rattle.sq_top.proofs.SortedLines.{and-true, filter_same}
-use Rattle.sq_top.proofs.ClassLemmas.{IsLineOf, TellsClasses, all_append, all_map, classed_ended, classed_shown, not_true, or_first, or_true, plain_class}
-use Rattle.sq_top.proofs.DueLemmas.{IsWholeList, filter_ended, shown_test, tells, whole_order}
+use Rattle.sq_top.proofs.ClassLemmas.{IsLineOf, IsPlainClass, TellsClasses, all_map, classed_dropped, classed_ended, classed_planned, classed_shown, not_true, plain_class}
+use Rattle.sq_top.proofs.DueLemmas.{IsWholeList, dropped_test, filter_ended, planned_test, shown_test, tells, whole_order}
 use Rattle.sq_top.proofs.OrderLemmas.{prefix_text, whole_text}
-use Rattle.sq_top.proofs.EndLemmas.{due_tells_classes, lines_shown, plain_name}
-
-named_at : (os : List Output) (o : ℕ) (out : Output) → slice_get os o ≡ Some out → contains_bytes out.name (map (λ x. x.name) os) ≡ true
-named_at [] o out at = absurd (cc)
-named_at (x ∷ os) zero out at =
-    let is : x ≡ out = cc in
-    or_first (same_bytes out.name x.name) (contains_bytes out.name (map (λ y. y.name) os)) (ap (λ (y : Output). same_bytes out.name y.name) is ∙ same_bytes-refl out.name)
-named_at (x ∷ os) (suc o) out at = or_true (same_bytes out.name x.name) (contains_bytes out.name (map (λ y. y.name) os)) (named_at os o out at)
-
-none_named : (os : List Output) (x out : Output) (o : ℕ) → are_distinct (map (λ y. y.name) (x ∷ os)) ≡ true → slice_get os o ≡ Some out → x.name ≡ out.name → ⊥
-none_named os x out o d at same =
-    let here : contains_bytes x.name (map (λ y. y.name) os) ≡ true = subst (λ w. contains_bytes w (map (λ y. y.name) os) ≡ true) (sym same) (named_at os o out at) in
-    let other = (and-true (not (contains_bytes x.name (map (λ y. y.name) os))) (are_distinct (map (λ y. y.name) os)) d).0 in
-    let both : not true ≡ true = ap not (sym here) ∙ other in cc
-
--- where no name stands twice, one name stands at one place
-one_place : (os : List Output) (p o : ℕ) (q out : Output) → are_distinct (map (λ x. x.name) os) ≡ true → slice_get os p ≡ Some q → slice_get os o ≡ Some out
-    → q.name ≡ out.name → p ≡ o
-one_place [] p o q out d at at' same = absurd (cc)
-one_place (x ∷ os) zero zero q out d at at' same = refl
-one_place (x ∷ os) zero (suc o) q out d at at' same =
-    let is : x ≡ q = cc in absurd (none_named os x out o d at' (ap (λ (y : Output). y.name) is ∙ same))
-one_place (x ∷ os) (suc p) zero q out d at at' same =
-    let is : x ≡ out = cc in absurd (none_named os x q p d at (ap (λ (y : Output). y.name) is ∙ sym same))
-one_place (x ∷ os) (suc p) (suc o) q out d at at' same =
-    ap suc (one_place os p o q out (and-true (not (contains_bytes x.name (map (λ y. y.name) os))) (are_distinct (map (λ y. y.name) os)) d).1 at at' same)
-
--- the test of a name is the test of the place
-module _ (os : List Output) (p o : ℕ) (q out : Output) (distinct : are_distinct (map (λ x. x.name) os) ≡ true) (at : slice_get os p ≡ Some q) (there : slice_get os o ≡ Some out) where
-  name_test : (t : Bool) → (p == o) ≡ t → same_bytes q.name out.name ≡ t
-  name_test true e =
-      let same : q ≡ out = let both : Some q ≡ Some out = sym at ∙ ap (slice_get os) (eqb-true p o e) ∙ there in cc in
-      ap (λ (y : Output). same_bytes y.name out.name) same ∙ same_bytes-refl out.name
-  name_test false e =
-      not_true (same_bytes q.name out.name) (λ h. eqb-false p o e (one_place os p o q out distinct at there (same_bytes-true q.name out.name h)))
-
-abbrev Outputs : Type 0
-Outputs = List (List ℕ × List (List ℕ))
-
-abbrev picked : List ℕ → Outputs → List (List ℕ)
-picked name os = flat_map (λ x. x.1) (filter (λ x. same_bytes x.0 name) os)
-
-picked_one : (t : Bool) (name : List ℕ) (x : List ℕ × List (List ℕ)) (os : Outputs) → same_bytes x.0 name ≡ t
-    → picked name (x ∷ os) ≡ (if t then x.1 else []) ++ picked name os
-picked_one true name x os e = rw e refl
-picked_one false name x os e = rw e refl
-
-module _ (streams : List (List Tuple)) where
-  -- of the outputs with this name none has lines
-  none_picked : (os : List Output) (ss : List ℕ) (name : List ℕ) → contains_bytes name (map (λ x. x.name) os) ≡ false → picked name (map (shown_from streams) (zip os ss)) ≡ []
-  none_picked [] ss name none = refl
-  none_picked (x ∷ os) [] name none = refl
-  none_picked (x ∷ os) (s ∷ ss) name none =
-      picked_one false name (shown_from streams (x, s)) (map (shown_from streams) (zip os ss))
-      (not_true (same_bytes x.name name)
-      (λ h. let e : same_bytes name x.name ≡ true = ap (same_bytes name) (same_bytes-true x.name name h) ∙ same_bytes-refl name in
-      let some = or_first (same_bytes name x.name) (contains_bytes name (map (λ y. y.name) os)) e in
-      let both : true ≡ false = sym some ∙ none in cc))
-      ∙ none_picked os ss name
-      (not_true (contains_bytes name (map (λ y. y.name) os))
-      (λ h. let some = or_true (same_bytes name x.name) (contains_bytes name (map (λ y. y.name) os)) h in
-      let both : true ≡ false = sym some ∙ none in cc))
-
-  -- the lines of the outputs with a name are those of the one that has it
-  picked_at : (os : List Output) (ss : List ℕ) (o s : ℕ) (out : Output) → are_distinct (map (λ x. x.name) os) ≡ true → slice_get os o ≡ Some out → slice_get ss o ≡ Some s
-      → picked out.name (map (shown_from streams) (zip os ss)) ≡ map (output_line out.name) (nth streams s)
-  picked_at [] ss o s out d at there = absurd (cc)
-  picked_at (x ∷ os) [] o s out d at there = absurd (cc)
-  picked_at (x ∷ os) (r ∷ ss) zero s out d at there =
-      let is : x ≡ out = cc in
-      let same : r ≡ s = cc in
-      let others = not_true (contains_bytes x.name (map (λ y. y.name) os))
-      (λ h. let other = (and-true (not (contains_bytes x.name (map (λ y. y.name) os))) (are_distinct (map (λ y. y.name) os)) d).0 in
-      let both : not true ≡ true = ap not (sym h) ∙ other in cc) in
-      subst (λ (y : Output). picked y.name (map (shown_from streams) (zip (x ∷ os) (r ∷ ss))) ≡ map (output_line y.name) (nth streams s)) is
-      (picked_one true x.name (shown_from streams (x, r)) (map (shown_from streams) (zip os ss)) (same_bytes-refl x.name)
-      ∙ ap (λ ls. map (output_line x.name) (nth streams r) ++ ls) (none_picked os ss x.name others)
-      ∙ append-nil (map (output_line x.name) (nth streams r))
-      ∙ ap (λ k. map (output_line x.name) (nth streams k)) same)
-  picked_at (x ∷ os) (r ∷ ss) (suc o) s out d at there =
-      picked_one false out.name (shown_from streams (x, r)) (map (shown_from streams) (zip os ss))
-      (not_true (same_bytes x.name out.name) (λ h. none_named os x out o d at (same_bytes-true x.name out.name h)))
-      ∙ picked_at os ss o s out (and-true (not (contains_bytes x.name (map (λ y. y.name) os))) (are_distinct (map (λ y. y.name) os)) d).1 at there
-
--- an output with a name, and the stream that it shows
-record HasOutput (os : List Output) (ss : List ℕ) (name : List ℕ) : Type 0 where
-  at : ℕ
-  stream : ℕ
-  output : Output
-  there : slice_get os at ≡ Some output
-  shows : slice_get ss at ≡ Some stream
-  same : output.name ≡ name
-
-output_first : (t : Bool) (streams : List (List Tuple)) (x : Output) (r : ℕ) (os : List Output) (ss : List ℕ) (name : List ℕ) → same_bytes x.name name ≡ t
-    → (list_any (λ y. same_bytes y.0 name) (map (shown_from streams) (zip os ss)) ≡ true → HasOutput os ss name)
-    → list_any (λ y. same_bytes y.0 name) (map (shown_from streams) (zip (x ∷ os) (r ∷ ss))) ≡ true → HasOutput (x ∷ os) (r ∷ ss) name
-output_first true streams x r os ss name e more h = record { at = 0; stream = r; output = x; there = refl; shows = refl; same = same_bytes-true x.name name e }
-output_first false streams x r os ss name e more h =
-    let m = more (rw e at h) in record { at = suc m.at; stream = m.stream; output = m.output; there = m.there; shows = m.shows; same = m.same }
-
-output_of : (streams : List (List Tuple)) (os : List Output) (ss : List ℕ) (name : List ℕ) → list_any (λ y. same_bytes y.0 name) (map (shown_from streams) (zip os ss)) ≡ true
-    → HasOutput os ss name
-output_of streams [] ss name h = absurd (cc)
-output_of streams (x ∷ os) [] name h = absurd (cc)
-output_of streams (x ∷ os) (r ∷ ss) name h = output_first (same_bytes x.name name) streams x r os ss name refl (output_of streams os ss name) h
-
--- each output that is there is one of those that are due
-due_at : (streams : List (List Tuple)) (os : List Output) (ss : List ℕ) (o : ℕ) (out : Output) → length ss ≡ length os → slice_get os o ≡ Some out
-    → list_any (λ y. same_bytes out.name y.0) (map (shown_from streams) (zip os ss)) ≡ true
-due_at streams [] ss o out even at = absurd (cc)
-due_at streams (x ∷ os) [] o out even at = absurd (omega (arith, even))
-due_at streams (x ∷ os) (r ∷ ss) zero out even at =
-    let is : x ≡ out = cc in
-    or_first (same_bytes out.name x.name) (list_any (λ y. same_bytes out.name y.0) (map (shown_from streams) (zip os ss)))
-    (ap (λ (y : Output). same_bytes out.name y.name) is ∙ same_bytes-refl out.name)
-due_at streams (x ∷ os) (r ∷ ss) (suc o) out even at =
-    or_true (same_bytes out.name x.name) (list_any (λ y. same_bytes out.name y.0) (map (shown_from streams) (zip os ss)))
-    (due_at streams os ss o out (omega (arith, even)) at)
+use Rattle.sq_top.proofs.EndLemmas.{due_tells_classes, line_dropped, line_planned, lines_shown, plain_name}
+use Rattle.sq_top.proofs.NamedLemmas.{HasOutput, due_at, find_drop, is_numbered, name_test, none_numbered, number_at, number_listed, one_numbered, output_of, picked_at, same_number}
 
 filter_kept : (p : List ℕ → Bool) (x : List ℕ) (xs : List (List ℕ)) → p x ≡ true → filter p (x ∷ xs) ≡ x ∷ filter p xs
 filter_kept p x xs h = rw h refl
@@ -159,11 +43,17 @@ filter_kept p x xs h = rw h refl
 filter_left : (p : List ℕ → Bool) (x : List ℕ) (xs : List (List ℕ)) → p x ≡ false → filter p (x ∷ xs) ≡ filter p xs
 filter_left p x xs h = rw h refl
 
-line_kept : (p o : ℕ) (t : Tuple) (es : List Event) → (p == o) ≡ true → lines_of o (Line p t ∷ es) ≡ t ∷ lines_of o es
+pub line_kept : (p o : ℕ) (t : Tuple) (es : List Event) → (p == o) ≡ true → lines_of o (Line p t ∷ es) ≡ t ∷ lines_of o es
 line_kept p o t es h = rw h refl
 
-line_left : (p o : ℕ) (t : Tuple) (es : List Event) → (p == o) ≡ false → lines_of o (Line p t ∷ es) ≡ lines_of o es
+pub line_left : (p o : ℕ) (t : Tuple) (es : List Event) → (p == o) ≡ false → lines_of o (Line p t ∷ es) ≡ lines_of o es
 line_left p o t es h = rw h refl
+
+pub drop_kept : (w : ℕ) (d : Decision) (es : List Event) → (d.drop == w) ≡ true → drops_of w (Decided d ∷ es) ≡ d ∷ drops_of w es
+drop_kept w d es h = rw h refl
+
+pub drop_left : (w : ℕ) (d : Decision) (es : List Event) → (d.drop == w) ≡ false → drops_of w (Decided d ∷ es) ≡ drops_of w es
+drop_left w d es h = rw h refl
 
 all_listed : (p : List ℕ → Bool) (xs : List (List ℕ)) → AllByRecursion (λ x. p x ≡ true) xs → list_all p xs ≡ true
 all_listed p [] all = refl
@@ -176,12 +66,12 @@ text_of_lines : {X : Type 0} (f : X → List ℕ) (xs : List X) → flat_map (λ
 text_of_lines f [] = refl
 text_of_lines f (x ∷ xs) = ap (λ y. f x ++ y) (text_of_lines f xs)
 
-module _ (n : Network) (sound : IsSound n) (streams : List (List Tuple)) where
+module _ (n : Network) (sound : IsSound n) (a : Answer) (ended : List (List ℕ)) (ends : AllByRecursion (IsLineOf Ended) ended) (few : drops_in n < 2 ^ 64) where
   abbrev due : Due
-  due = due_from n streams
+  due = due_from n a ended
 
   told : TellsClasses due
-  told = due_tells_classes n streams sound
+  told = due_tells_classes n a ended ends few sound
 
   abbrev lines : List Event → List (List ℕ)
   lines history = map (event_line n) history
@@ -197,51 +87,124 @@ module _ (n : Network) (sound : IsSound n) (streams : List (List Tuple)) where
     of_output : is_of_class (Shown q.name) (event_line n (Line p t)) ≡ true
     of_output = ap (is_of_class (Shown q.name)) line_is ∙ (lines_shown q.name (t ∷ []) named).0.1
 
-    event_test : (c : Class) → is_of_class c (event_line n (Line p t)) ≡ tells (Shown q.name) c
-    event_test c = shown_test c q.name (event_line n (Line p t)) (plain_name q.name named) of_output
+    line_test : (c : Class) → is_of_class c (event_line n (Line p t)) ≡ tells (Shown q.name) c
+    line_test c = shown_test c q.name (event_line n (Line p t)) (plain_name q.name named) of_output
 
-    event_classed : is_classed due (event_line n (Line p t)) ≡ true
-    event_classed = classed_shown due told q.name (event_line n (Line p t)) (due_at streams n.outputs n.wires.outputs p q sound.agrees.outputs at) of_output
+    line_classed : is_classed due (event_line n (Line p t)) ≡ true
+    line_classed =
+        classed_shown due told q.name (event_line n (Line p t)) (due_at a n.outputs (numbers_to (length n.outputs)) p q (length-range_with_len 0 (length n.outputs)) at) of_output
 
-  -- of the lines of a history a class that is no output's has none
-  none_of : (c : Class) → ((name : List ℕ) → tells (Shown name) c ≡ false) → (history : List Event) → AllByRecursion (IsLineIn n) history
-      → AllByRecursion (λ l. is_of_class c l ≡ false) (lines history)
-  none_of c differs [] all = tt
-  none_of c differs (Line p t ∷ es) all =
-      let q = some-at n.outputs p all.0 in (event_test p t q.0 q.1 c ∙ differs q.0.name, none_of c differs es all.1)
-  none_of c differs (Decided d ∷ es) all = absurd all.0
-  none_of c differs (Plan epoch load capacity saved fits ∷ es) all = absurd all.0
+  -- one that is a decision
+  drop_test : (d : Decision) (c : Class) → d.drop < drops_in n → IsPlainClass c → is_of_class c (event_line n (Decided d)) ≡ tells (Dropped d.drop) c
+  drop_test d c low plain =
+      let small : d.drop < 2 ^ 64 = omega (arith, low, few) in
+      dropped_test d.drop (event_line n (Decided d)) (line_dropped d.drop d.batch d.level small).1 c plain
 
-  classed : (history : List Event) → AllByRecursion (IsLineIn n) history → AllByRecursion (λ l. is_classed due l ≡ true) (lines history)
+  drop_classed : (d : Decision) → d.drop < drops_in n → is_classed due (event_line n (Decided d)) ≡ true
+  drop_classed d low =
+      let small : d.drop < 2 ^ 64 = omega (arith, low, few) in
+      classed_dropped due told d.drop (event_line n (Decided d)) (number_listed a d.drop (drops_in n) low) (line_dropped d.drop d.batch d.level small).1
+
+  -- and one that is a plan
+  module _ (epoch load capacity saved : ℕ) (fits : Bool) where
+    abbrev plan : Event
+    plan = Plan epoch load capacity saved fits
+
+    plan_test : (c : Class) → IsPlainClass c → is_of_class c (event_line n plan) ≡ tells Planned c
+    plan_test c plain = planned_test c (event_line n plan) plain (line_planned epoch load capacity saved fits).1
+
+    plan_classed : is_classed due (event_line n plan) ≡ true
+    plan_classed = classed_planned due told (event_line n plan) (line_planned epoch load capacity saved fits).1
+
+  classed : (history : List Event) → AllByRecursion (IsEventAt n) history → AllByRecursion (λ l. is_classed due l ≡ true) (lines history)
   classed [] all = tt
-  classed (Line p t ∷ es) all = let q = some-at n.outputs p all.0 in (event_classed p t q.0 q.1, classed es all.1)
-  classed (Decided d ∷ es) all = absurd all.0
-  classed (Plan epoch load capacity saved fits ∷ es) all = absurd all.0
+  classed (Line p t ∷ es) all = let q = some-at n.outputs p all.0 in (line_classed p t q.0 q.1, classed es all.1)
+  classed (Decided d ∷ es) all = (drop_classed d all.0, classed es all.1)
+  classed (Plan epoch load capacity saved fits ∷ es) all = (plan_classed epoch load capacity saved fits, classed es all.1)
+
+  -- none of them is an end line
+  none_ended : (history : List Event) → AllByRecursion (IsEventAt n) history → AllByRecursion (λ l. is_of_class Ended l ≡ false) (lines history)
+  none_ended [] all = tt
+  none_ended (Line p t ∷ es) all = let q = some-at n.outputs p all.0 in (line_test p t q.0 q.1 Ended, none_ended es all.1)
+  none_ended (Decided d ∷ es) all = (drop_test d Ended all.0 tt, none_ended es all.1)
+  none_ended (Plan epoch load capacity saved fits ∷ es) all = (plan_test epoch load capacity saved fits Ended tt, none_ended es all.1)
 
   -- those of an output are the lines of its tuples
   module _ (o : ℕ) (out : Output) (there : slice_get n.outputs o ≡ Some out) where
+    abbrev of_out : List ℕ → Bool
+    of_out = is_of_class (Shown out.name)
+
+    out_plain : IsPlainClass (Shown out.name)
+    out_plain = plain_name out.name (holds-at (λ (x : Output). is_name x.name ≡ true) n.outputs o out (recursion_from_All (λ (x : Output). is_name x.name ≡ true) n.outputs sound.named) there)
+
     one_shown : (b : Bool) (p : ℕ) (t : Tuple) (es : List Event) (q : Output) → slice_get n.outputs p ≡ Some q → (p == o) ≡ b
-        → filter (is_of_class (Shown out.name)) (lines es) ≡ map (output_line out.name) (lines_of o es)
-        → filter (is_of_class (Shown out.name)) (lines (Line p t ∷ es)) ≡ map (output_line out.name) (lines_of o (Line p t ∷ es))
+        → filter of_out (lines es) ≡ map (output_line out.name) (lines_of o es)
+        → filter of_out (lines (Line p t ∷ es)) ≡ map (output_line out.name) (lines_of o (Line p t ∷ es))
     one_shown true p t es q at e rest =
         let is : event_line n (Line p t) ≡ output_line out.name t = ap (λ x. output_line (name_in x) t) (ap (slice_get n.outputs) (eqb-true p o e) ∙ there) in
-        filter_kept (is_of_class (Shown out.name)) (event_line n (Line p t)) (lines es) (event_test p t q at (Shown out.name) ∙ name_test n.outputs p o q out sound.distinct at there true e)
+        filter_kept of_out (event_line n (Line p t)) (lines es) (line_test p t q at (Shown out.name) ∙ name_test n.outputs p o q out sound.distinct at there true e)
         ∙ ap₂ (λ l ls. l ∷ ls) is rest
         ∙ sym (ap (map (output_line out.name)) (line_kept p o t es e))
     one_shown false p t es q at e rest =
-        filter_left (is_of_class (Shown out.name)) (event_line n (Line p t)) (lines es) (event_test p t q at (Shown out.name) ∙ name_test n.outputs p o q out sound.distinct at there false e)
+        filter_left of_out (event_line n (Line p t)) (lines es) (line_test p t q at (Shown out.name) ∙ name_test n.outputs p o q out sound.distinct at there false e)
         ∙ rest
         ∙ sym (ap (map (output_line out.name)) (line_left p o t es e))
 
-    shown_of : (history : List Event) → AllByRecursion (IsLineIn n) history
-        → filter (is_of_class (Shown out.name)) (lines history) ≡ map (output_line out.name) (lines_of o history)
+    shown_of : (history : List Event) → AllByRecursion (IsEventAt n) history → filter of_out (lines history) ≡ map (output_line out.name) (lines_of o history)
     shown_of [] all = refl
     shown_of (Line p t ∷ es) all = let q = some-at n.outputs p all.0 in one_shown (p == o) p t es q.0 q.1 refl (shown_of es all.1)
-    shown_of (Decided d ∷ es) all = absurd all.0
-    shown_of (Plan epoch load capacity saved fits ∷ es) all = absurd all.0
+    shown_of (Decided d ∷ es) all = filter_left of_out (event_line n (Decided d)) (lines es) (drop_test d (Shown out.name) all.0 out_plain) ∙ shown_of es all.1
+    shown_of (Plan epoch load capacity saved fits ∷ es) all =
+        filter_left of_out (event_line n (Plan epoch load capacity saved fits)) (lines es) (plan_test epoch load capacity saved fits (Shown out.name) out_plain) ∙ shown_of es all.1
 
-  -- each output has shown its stream
-  module _ (history : List Event) (shows : ShowsAll n (nth streams) history) where
+  -- those of a drop are the lines of what it decides
+  module _ (w : ℕ) where
+    abbrev of_drop : List ℕ → Bool
+    of_drop = is_of_class (Dropped w)
+
+    none_dropped : ((v : ℕ) → v < drops_in n → is_numbered w v ≡ false) → (history : List Event) → AllByRecursion (IsEventAt n) history
+        → AllByRecursion (λ l. of_drop l ≡ false) (lines history)
+    none_dropped none [] all = tt
+    none_dropped none (Line p t ∷ es) all = let q = some-at n.outputs p all.0 in (line_test p t q.0 q.1 (Dropped w), none_dropped none es all.1)
+    none_dropped none (Decided d ∷ es) all = (drop_test d (Dropped w) all.0 tt ∙ none d.drop all.0, none_dropped none es all.1)
+    none_dropped none (Plan epoch load capacity saved fits ∷ es) all = (plan_test epoch load capacity saved fits (Dropped w) tt, none_dropped none es all.1)
+
+    module _ (v : ℕ) (low : v < drops_in n) (is : is_numbered w v ≡ true) where
+      abbrev text_at : Decision → List ℕ
+      text_at d = drop_line v d.batch d.level
+
+      one_dropped : (b : Bool) (d : Decision) (es : List Event) → d.drop < drops_in n → (d.drop == v) ≡ b → filter of_drop (lines es) ≡ map text_at (drops_of v es)
+          → filter of_drop (lines (Decided d ∷ es)) ≡ map text_at (drops_of v (Decided d ∷ es))
+      one_dropped true d es there e rest =
+          let same = eqb-true d.drop v e in
+          filter_kept of_drop (event_line n (Decided d)) (lines es) (drop_test d (Dropped w) there tt ∙ ap (is_numbered w) same ∙ is)
+          ∙ ap₂ (λ l ls. l ∷ ls) (ap (λ k. drop_line k d.batch d.level) same) rest
+          ∙ sym (ap (map text_at) (drop_kept v d es e))
+      one_dropped false d es there e rest =
+          filter_left of_drop (event_line n (Decided d)) (lines es)
+          (drop_test d (Dropped w) there tt ∙ not_true (is_numbered w d.drop) (λ h. eqb-false d.drop v e (same_number w d.drop v (omega (arith, there, few)) (omega (arith, low, few)) h is)))
+          ∙ rest
+          ∙ sym (ap (map text_at) (drop_left v d es e))
+
+      dropped_of : (history : List Event) → AllByRecursion (IsEventAt n) history → filter of_drop (lines history) ≡ map text_at (drops_of v history)
+      dropped_of [] all = refl
+      dropped_of (Line p t ∷ es) all = let q = some-at n.outputs p all.0 in filter_left of_drop (event_line n (Line p t)) (lines es) (line_test p t q.0 q.1 (Dropped w)) ∙ dropped_of es all.1
+      dropped_of (Decided d ∷ es) all = one_dropped (d.drop == v) d es all.0 refl (dropped_of es all.1)
+      dropped_of (Plan epoch load capacity saved fits ∷ es) all =
+          filter_left of_drop (event_line n (Plan epoch load capacity saved fits)) (lines es) (plan_test epoch load capacity saved fits (Dropped w) tt) ∙ dropped_of es all.1
+
+  -- and those of the plans are the lines of the plans
+  planned_of : (history : List Event) → AllByRecursion (IsEventAt n) history → filter (is_of_class Planned) (lines history) ≡ map plan_text (plans_of history)
+  planned_of [] all = refl
+  planned_of (Line p t ∷ es) all =
+      let q = some-at n.outputs p all.0 in filter_left (is_of_class Planned) (event_line n (Line p t)) (lines es) (line_test p t q.0 q.1 Planned) ∙ planned_of es all.1
+  planned_of (Decided d ∷ es) all = filter_left (is_of_class Planned) (event_line n (Decided d)) (lines es) (drop_test d Planned all.0 tt) ∙ planned_of es all.1
+  planned_of (Plan epoch load capacity saved fits ∷ es) all =
+      filter_kept (is_of_class Planned) (event_line n (Plan epoch load capacity saved fits)) (lines es) (plan_test epoch load capacity saved fits Planned tt)
+      ∙ ap (λ ls. event_line n (Plan epoch load capacity saved fits) ∷ ls) (planned_of es all.1)
+
+  -- the whole answer was shown
+  module _ (history : List Event) (shown : AllByRecursion (IsEventAt n) history) (complete : Completes n a history) where
     abbrev whole_list : List (List ℕ)
     whole_list = lines history ++ due.ended
 
@@ -250,30 +213,41 @@ module _ (n : Network) (sound : IsSound n) (streams : List (List Tuple)) where
         filter-append (is_of_class c) (lines history) due.ended
         ∙ ap (λ ls. filter (is_of_class c) (lines history) ++ ls) (filter_ended due told c (plain_class due c told here))
 
-    output_all : (name : List ℕ) → IsClassIn due (Shown name) → HasOutput n.outputs n.wires.outputs name → filter (is_of_class (Shown name)) whole_list ≡ due_lines due (Shown name)
+    output_all : (name : List ℕ) → IsClassIn due (Shown name) → HasOutput n.outputs (numbers_to (length n.outputs)) name
+        → filter (is_of_class (Shown name)) whole_list ≡ due_lines due (Shown name)
     output_all name here h =
         filter_both (Shown name) here
         ∙ append-nil (filter (is_of_class (Shown name)) (lines history))
         ∙ subst (λ w. filter (is_of_class (Shown w)) (lines history) ≡ due_lines due (Shown w)) h.same
-        (shown_of h.at h.output h.there history shows.shown
-        ∙ ap (map (output_line h.output.name)) (shows.lines h.at h.stream h.shows)
-        ∙ sym (picked_at streams n.outputs n.wires.outputs h.at h.stream h.output sound.distinct h.there h.shows))
+        (shown_of h.at h.output h.there history shown
+        ∙ ap (map (output_line h.output.name)) (complete.lines h.at (slice_get_within n.outputs h.at h.output h.there) ∙ ap a.tuples (sym (number_at (length n.outputs) h.at h.stream h.shows)))
+        ∙ sym (picked_at a n.outputs (numbers_to (length n.outputs)) h.at h.stream h.output sound.distinct h.there h.shows))
+
+    drop_all : (w : ℕ) → filter (is_of_class (Dropped w)) (lines history) ≡ due_lines due (Dropped w)
+    drop_all w = by (find_drop w (drops_in n))
+      where
+        by : ((v : ℕ) × (v < drops_in n) × (is_numbered w v ≡ true)) ⊎ ((v : ℕ) → v < drops_in n → is_numbered w v ≡ false)
+            → filter (is_of_class (Dropped w)) (lines history) ≡ due_lines due (Dropped w)
+        by (inl (v, low, is)) =
+            dropped_of w v low is history shown ∙ ap (map (λ d. drop_line v d.batch d.level)) (complete.drops v low) ∙ sym (one_numbered a w v (drops_in n) low few is)
+        by (inr none) = filter_same (is_of_class (Dropped w)) false (lines history) (none_dropped w none history shown) ∙ sym (none_numbered a w (drops_in n) none)
 
     class_all : (c : Class) → IsClassIn due c → filter (is_of_class c) whole_list ≡ due_lines due c
-    class_all (Shown name) here = output_all name here (output_of streams n.outputs n.wires.outputs name here)
-    class_all (Dropped w) here = filter_both (Dropped w) here ∙ append-nil (filter (is_of_class (Dropped w)) (lines history)) ∙ filter_same (is_of_class (Dropped w)) false (lines history) (none_of (Dropped w) (λ name. refl) history shows.shown)
-    class_all Planned here = filter_both Planned here ∙ append-nil (filter (is_of_class Planned) (lines history)) ∙ filter_same (is_of_class Planned) false (lines history) (none_of Planned (λ name. refl) history shows.shown)
-    class_all Ended here = filter_both Ended here ∙ ap (λ ls. ls ++ due.ended) (filter_same (is_of_class Ended) false (lines history) (none_of Ended (λ name. refl) history shows.shown))
+    class_all (Shown name) here = output_all name here (output_of a n.outputs (numbers_to (length n.outputs)) name here)
+    class_all (Dropped w) here = filter_both (Dropped w) here ∙ append-nil (filter (is_of_class (Dropped w)) (lines history)) ∙ drop_all w
+    class_all Planned here =
+        filter_both Planned here ∙ append-nil (filter (is_of_class Planned) (lines history)) ∙ planned_of history shown ∙ ap (map plan_text) complete.plans
+    class_all Ended here = filter_both Ended here ∙ ap (λ ls. ls ++ due.ended) (filter_same (is_of_class Ended) false (lines history) (none_ended history shown))
 
     pub history_whole : IsWholeList due whole_list
     history_whole = record {
       all = class_all;
-      classed = both_listed (is_classed due) (lines history) due.ended (all_listed (is_classed due) (lines history) (classed history shows.shown))
+      classed = both_listed (is_classed due) (lines history) due.ended (all_listed (is_classed due) (lines history) (classed history shown))
           (all_listed (is_classed due) due.ended (all_map {P = IsLineOf Ended} (λ l h. classed_ended due told l h.1) due.ended told.ended));
       front = lines history;
       lines_are = refl;
       others = all_listed (λ l. not (is_of_class Ended l)) (lines history)
-          (all_map {P = λ l. is_of_class Ended l ≡ false} (λ l h. ap not h) (lines history) (none_of Ended (λ name. refl) history shows.shown));
+          (all_map {P = λ l. is_of_class Ended l ≡ false} (λ l h. ap not h) (lines history) (none_ended history shown));
     }
 
     text_is : text_of whole_list ≡ history_text n history ++ text_of due.ended
@@ -286,86 +260,3 @@ module _ (n : Network) (sound : IsSound n) (streams : List (List Tuple)) where
     pub beginning_of_history : (text : List ℕ) → IsPrefixOf text (history_text n history ++ text_of due.ended) → IsPrefixText due text
     beginning_of_history text begins =
         prefix_text due whole_list text told (whole_order due told whole_list history_whole) (subst (λ whole. IsPrefixOf text whole) (sym text_is) begins)
-
-lines_of-append : (o : ℕ) (xs ys : List Event) → lines_of o (xs ++ ys) ≡ lines_of o xs ++ lines_of o ys
-lines_of-append o [] ys = refl
-lines_of-append o (x ∷ xs) ys = ap (λ ts. line_of o x ++ ts) (lines_of-append o xs ys) ∙ sym (append_assoc (line_of o x) (lines_of o xs) (lines_of o ys))
-
-lines_of-own : (o : ℕ) (ts : List Tuple) → lines_of o (map (Line o) ts) ≡ ts
-lines_of-own o [] = refl
-lines_of-own o (t ∷ ts) = line_kept o o t (map (Line o) ts) (eq-eqb o o refl) ∙ ap (λ xs. t ∷ xs) (lines_of-own o ts)
-
-lines_of-other : (o p : ℕ) (ts : List Tuple) → p ≢ o → lines_of o (map (Line p) ts) ≡ []
-lines_of-other o p [] differ = refl
-lines_of-other o p (t ∷ ts) differ = line_left p o t (map (Line p) ts) (not_true (p == o) (λ h. differ (eqb-true p o h))) ∙ lines_of-other o p ts differ
-
-all_lines : (n : Network) (o : ℕ) (ts : List Tuple) → o < length n.outputs → AllByRecursion (IsLineIn n) (map (Line o) ts)
-all_lines n o [] within = tt
-all_lines n o (t ∷ ts) within = (within, all_lines n o ts within)
-
--- what a history has still to show: of each output, one after another
-module _ (n : Network) (stream : ℕ → List Tuple) (history : List Event) where
-  abbrev stream_at : Option ℕ → List Tuple
-  stream_at None = []
-  stream_at (Some s) = stream s
-
-  abbrev left : ℕ → List Tuple
-  left o = drop (length (lines_of o history)) (stream_at (slice_get n.wires.outputs o))
-
-  abbrev still : ℕ → List Event
-  still zero = []
-  still (suc k) = still k ++ map (Line k) (left k)
-
-  still_shown : (k : ℕ) → k ≤ length n.outputs → AllByRecursion (IsLineIn n) (still k)
-  still_shown zero within = tt
-  still_shown (suc k) within =
-      all_append (IsLineIn n) (still k) (map (Line k) (left k)) (still_shown k (omega arith)) (all_lines n k (left k) (omega arith))
-
-  still_none : (o k : ℕ) → k ≤ o → lines_of o (still k) ≡ []
-  still_none o zero past = refl
-  still_none o (suc k) past =
-      lines_of-append o (still k) (map (Line k) (left k))
-      ∙ ap₂ (λ xs ys. xs ++ ys) (still_none o k (omega arith)) (lines_of-other o k (left k) (λ e. absurd (omega (arith, e))))
-
-  still_by : (o k : ℕ) (b : Bool) → (k == o) ≡ b → (o < k → lines_of o (still k) ≡ left o) → o < suc k → lines_of o (still (suc k)) ≡ left o
-  still_by o k true e before within =
-      let same = eqb-true k o e in
-      lines_of-append o (still k) (map (Line k) (left k))
-      ∙ ap₂ (λ xs ys. xs ++ ys) (still_none o k (omega (arith, same))) (ap (λ j. lines_of o (map (Line j) (left j))) same ∙ lines_of-own o (left o))
-  still_by o k false e before within =
-      let differ = eqb-false k o e in
-      lines_of-append o (still k) (map (Line k) (left k))
-      ∙ ap₂ (λ xs ys. xs ++ ys) (before (omega (arith, differ))) (lines_of-other o k (left k) differ)
-      ∙ append-nil (left o)
-
-  still_is : (o k : ℕ) → o < k → lines_of o (still k) ≡ left o
-  still_is o zero within = absurd (omega arith)
-  still_is o (suc k) within = still_by o k (k == o) refl (still_is o k) within
-
-  module _ (even : length n.wires.outputs ≡ length n.outputs) (shows : ShowsFirst n stream history) where
-    rest_is : (o s : ℕ) → slice_get n.wires.outputs o ≡ Some s → lines_of o history ++ left o ≡ stream s
-    rest_is o s at =
-        let begins = shows.lines o s at in
-        let here = ap (λ x. drop (length (lines_of o history)) (stream_at x)) at ∙ ap (drop (length (lines_of o history))) begins.1 ∙ drop-append_seam (lines_of o history) begins.0 in
-        ap (λ ts. lines_of o history ++ ts) here ∙ sym begins.1
-
-    shows_all : ShowsAll n stream (history ++ still (length n.outputs))
-    shows_all = record {
-      shown = all_append (IsLineIn n) history (still (length n.outputs)) shows.shown (still_shown (length n.outputs) (omega arith));
-      lines = λ o s at.
-          lines_of-append o history (still (length n.outputs))
-          ∙ ap (λ ts. lines_of o history ++ ts) (still_is o (length n.outputs) (omega (arith, even, slice_get_within n.wires.outputs o s at)))
-          ∙ rest_is o s at;
-    }
-
--- where each output has shown the first tuples of its stream, each beginning of the text is one of such a text
-pub prefix_of_history : (n : Network) → IsSound n → (streams : List (List Tuple)) (history : List Event) → ShowsFirst n (nth streams) history
-    → (text : List ℕ) → IsPrefixOf text (history_text n history) → IsPrefixText (due_from n streams) text
-prefix_of_history n sound streams history shows text begins =
-    let more = still n (nth streams) history (length n.outputs) in
-    let ends = text_of (due_from n streams).ended in
-    beginning_of_history n sound streams (history ++ more) (shows_all n (nth streams) history sound.agrees.outputs shows) text (
-      begins.0 ++ (history_text n more ++ ends),
-      ap (λ whole. whole ++ ends) (flat_map-append (event_line n) history more) ∙ append_assoc (history_text n history) (history_text n more) ends
-          ∙ ap (λ whole. whole ++ (history_text n more ++ ends)) begins.1 ∙ append_assoc text begins.0 (history_text n more ++ ends),
-    )

@@ -3,7 +3,9 @@ pub mod OrderLemmas
 pub mod DueLemmas
 pub mod MixedLemmas
 pub mod EndLemmas
+pub mod NamedLemmas
 pub mod HistoryLemmas
+pub mod RestLemmas
 pub mod DrivingLemmas
 pub mod ReplayLemmas
 mod Rows

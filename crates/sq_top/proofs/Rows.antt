@@ -33,7 +33,7 @@ use Rattle.sq_top.specs.Messages.{message_of}
 use Rattle.sq_top.specs.Scripts.{Replay, accepted, after_network, outcome_of, unread, with_sources}
 
 abbrev defaults : List ℕ → RunArgs
-defaults net = record { net = net; seed = 0; rule = rule.RoundRobin; picks = None; train = 16 }
+defaults net = record { net = net; capacities = None; seed = 0; rule = rule.RoundRobin; picks = None; train = 16 }
 
 words_run : command_in (codes "run" ∷ codes "a.toml" ∷ []) ≡ Some (command.Run (defaults (codes "a.toml")))
 words_run = refl
@@ -88,6 +88,12 @@ words_all : command_in (codes "run" ∷ codes "--picks=-p" ∷ codes "--train" �
     ≡ Some (command.Run (record (defaults (codes "a")) { rule = rule.Picks; picks = Some (codes "-p"); train = 1 }))
 words_all = refl
 
+words_capacities : command_in (codes "run" ∷ codes "a" ∷ codes "--capacities" ∷ codes "c" ∷ []) ≡ Some (command.Run (record (defaults (codes "a")) { capacities = Some (codes "c") }))
+words_capacities = refl
+
+words_two_capacities : command_in (codes "run" ∷ codes "a" ∷ codes "--capacities=c" ∷ codes "--capacities=c" ∷ []) ≡ None
+words_two_capacities = refl
+
 words_policy : command_in (codes "run" ∷ codes "a" ∷ codes "--policy" ∷ codes "seeded" ∷ []) ≡ Some (command.Run (record (defaults (codes "a")) { rule = rule.Seeded }))
 words_policy = refl
 
@@ -116,7 +122,7 @@ at t v = record { time = t; fields = value.Int (pos v) ∷ [] }
 
 -- a network and the tuples of its sources, under what words say by default
 abbrev of_tuples : Network → List (List Tuple) → Replay
-of_tuples n sources = with_sources (unread (defaults (codes "a.toml")) n []) sources
+of_tuples n sources = with_sources (unread (defaults (codes "a.toml")) n [] []) sources
 
 abbrev replay : Replay
 replay = of_tuples network ((at 1 10 ∷ at 3 11 ∷ at 3 12 ∷ []) ∷ (at 2 20 ∷ at 3 21 ∷ []) ∷ [])
@@ -211,6 +217,21 @@ all_read : outcome_of (λ name. Some (codes "2,7\n")) (after_network (defaults (
 unfolding is_utf8 chars encode_utf8
 all_read = refl
 
+-- the capacities stand before the picks and the sources
+abbrev limited : RunArgs
+limited = record (defaults (codes "a.toml")) { capacities = Some (codes "c"); picks = Some (codes "picks") }
+
+bad_capacities : outcome_of (λ name. if same_bytes name (codes "c") then Some (codes "1,0\n1,5\n") else None) (after_network limited (Ok network)) ≡ Err (status.BadCapacities 2)
+bad_capacities = refl
+
+capacities_read : outcome_of (λ name. if same_bytes name (codes "c") then Some (codes "1,0\n3,-\n") else Some []) (after_network limited (Ok network))
+    ≡ Ok (with_sources (unread limited network ((1, Some 0) ∷ (3, None) ∷ []) []) ([] ∷ [] ∷ []))
+capacities_read = refl
+
+capacities_message : message_of [] (status.BadCapacities 2) ≡ codes "aurora: capacities: line 2\n"
+unfolding digits
+capacities_message = refl
+
 -- the picks stand before the sources
 abbrev picked : RunArgs
 picked = record (defaults (codes "a.toml")) { rule = rule.Picks; picks = Some (codes "picks") }
@@ -222,7 +243,7 @@ no_picks_file : outcome_of (λ name. None) (after_network picked (Ok network)) �
 no_picks_file = refl
 
 picks_read : outcome_of (λ name. if same_bytes name (codes "picks") then Some (codes "0\n4294967295\n") else Some []) (after_network picked (Ok network))
-    ≡ Ok (with_sources (unread picked network (0 ∷ 4294967295 ∷ [])) ([] ∷ [] ∷ []))
+    ≡ Ok (with_sources (unread picked network [] (0 ∷ 4294967295 ∷ [])) ([] ∷ [] ∷ []))
 picks_read = refl
 
 picks_message : message_of [] (status.BadPicks 3) ≡ codes "aurora: picks: line 3\n"

@@ -51,6 +51,12 @@ recorded_streams [] (xs ∷ xss) all = absurd all
 recorded_streams (s ∷ ss) [] all = absurd all
 recorded_streams (s ∷ ss) (xs ∷ xss) all = (all.0.stream, recorded_streams ss xss all.1)
 
+pub recorded_few : (ss : List Source) (xss : List (List Tuple)) → AreRecorded ss xss → AllByRecursion (λ xs. length xs ≤ 1000000) xss
+recorded_few [] [] all = tt
+recorded_few [] (xs ∷ xss) all = absurd all
+recorded_few (s ∷ ss) [] all = absurd all
+recorded_few (s ∷ ss) (xs ∷ xss) all = (all.0.few, recorded_few ss xss all.1)
+
 sound_tuples : (xs : List Tuple) → AllByRecursion IsTuple xs → AllByRecursion IsSoundTuple xs
 sound_tuples [] all = tt
 sound_tuples (x ∷ xs) all = ((all.0.tick, (all.0.least, all.0.most)), sound_tuples xs all.1)

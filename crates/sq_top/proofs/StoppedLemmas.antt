@@ -22,12 +22,13 @@ use Rattle.sq_net.specs.Sound.{IsSound, is_between}
 use Rattle.sq_reader.specs.Networks.{network_in}
 use Rattle.sq_tables.specs.Refusals.{is_memory}
 use Rattle.sq_replay.specs.declared.why.Why.{Why}
-use Rattle.sq_replay.specs.Entries.{picks_in}
+use Rattle.sq_plan.specs.Plans.{Entries}
+use Rattle.sq_replay.specs.Entries.{capacities_in, picks_in}
 use Rattle.sq_replay.specs.Streams.{stream_in}
 use Rattle.sq_top.specs.Commands.{command_in}
 use Rattle.sq_top.specs.Messages.{name_at, name_in, network_named, source_name}
-use Rattle.sq_top.specs.Scripts.{Script, Reads, Done, Stops, Lookup, Replay, accepted, after_network, after_picks, after_stream, after_streams, after_words, go_on, outcome_of, picks_script, readable, reads_of, script_of, settings_limit, stream_limit, unread, with_sources}
-use Rattle.sq_top.specs.Causes.{AreBytesOf, ArePicksOf, HasFailedAt, HasNoPicks, HasNoStream, HasNoStreams, IsNoCommand, IsRefusedBy, IsStopped, IsStreamOf, IsUnread, Leads, LeadsWhereTold, MatchAccepted, NamesSource, RefusalHasCause, WhereTold, FilePart, NetworkFile, PicksFile, StreamFile, is_named, is_network, is_picks, limit_of, may_be}
+use Rattle.sq_top.specs.Scripts.{Script, Reads, Done, Stops, Lookup, Replay, accepted, after_capacities, after_network, after_picks, after_stream, after_streams, after_words, capacities_script, go_on, outcome_of, picks_script, readable, reads_of, script_of, settings_limit, stream_limit, unread, with_sources}
+use Rattle.sq_top.specs.Causes.{AreBytesOf, AreCapacitiesOf, ArePicksOf, HasFailedAt, HasNoCapacities, HasNoPicks, HasNoStream, HasNoStreams, IsNoCommand, IsRefusedBy, IsStopped, IsStreamOf, IsUnread, Leads, LeadsWhereTold, MatchAccepted, NamesSource, RefusalHasCause, WhereTold, FilePart, NetworkFile, CapacityFile, PicksFile, StreamFile, is_capacities, is_named, is_network, is_picks, limit_of, may_be}
 use Rattle.sq_top.proofs.SortedLines.{and-true}
 
 match_any : (r : Result Replay Status) (P : Replay → Type 0) (Q : Status → Type 0) → ((x : Replay) → P x) → ((s : Status) → Q s) → MatchAccepted r P Q
@@ -94,6 +95,7 @@ module _ (words : List (List ℕ)) (told : Option Files) (fb fn tb tn : ℕ) (so
   -- a rule of a file, but want of memory
   abbrev IsRule : Status → Type 0
   IsRule (status.BadNetwork e) = e ≢ net.Memory
+  IsRule (status.BadCapacities line) = ⊤
   IsRule (status.BadPicks line) = ⊤
   IsRule (status.BadStream number line why) = ⊤
   IsRule s = ⊥
@@ -111,6 +113,15 @@ module _ (words : List (List ℕ)) (told : Option Files) (fb fn tb tn : ℕ) (so
     named = named;
     ends = inl refl;
     no_memory = λ h. is (same_error rule h);
+  }
+  stopped_rule (status.BadCapacities line) is some leads named = record {
+    usage = record { only = λ e. absurd (cc); when = λ e. absurd (some_none (command_in words) some e) };
+    refusal = where_told told (λ files. RefusalHasCause files words fb fn (status.BadCapacities line))
+        (λ files e. refusal_by files words fb fn (status.BadCapacities line) (inl (at_told told _ files e leads).outcome) (λ name h. absurd (cc)));
+    folder = record { failed = λ name e. absurd (cc); too_long = λ name e. absurd (cc) };
+    named = named;
+    ends = inl refl;
+    no_memory = λ e. absurd (cc);
   }
   stopped_rule (status.BadPicks line) is some leads named = record {
     usage = record { only = λ e. absurd (cc); when = λ e. absurd (some_none (command_in words) some e) };
@@ -132,7 +143,7 @@ module _ (words : List (List ℕ)) (told : Option Files) (fb fn tb tn : ℕ) (so
   }
   stopped_rule s is some leads named = absurd is
 
-rose_later : (n before mid now : ℕ) → before ≤ mid → RoseBy n mid now → RoseBy n before now
+pub rose_later : (n before mid now : ℕ) → before ≤ mid → RoseBy n mid now → RoseBy n before now
 rose_later n before mid now le (inl up) = inl (omega arith)
 rose_later n before mid now le (inr end) = inr end
 
@@ -281,7 +292,7 @@ module _ (words : List (List ℕ)) (args : RunArgs) (command : command_in words 
         subst (λ x. LeadsWhereTold told (script_of words) (after_network args x)) e
         (told_then told _ _ _ network_comes (told_read told args.net settings_limit (λ x. after_network args (network_in x)) bytes whole))
 
-    pub network_leads : (n : Network) → network_in bytes ≡ Ok n → LeadsWhereTold told (script_of words) (picks_script args n args.picks)
+    pub network_leads : (n : Network) → network_in bytes ≡ Ok n → LeadsWhereTold told (script_of words) (capacities_script args n args.capacities)
     network_leads n e = after_bytes (Ok n) e
 
     named_in : (files : Files) (n : Network) → readable args.net settings_limit (file files args.net) ≡ Ok bytes → network_in bytes ≡ Ok n
@@ -303,21 +314,55 @@ module _ (words : List (List ℕ)) (args : RunArgs) (command : command_in words 
         subst (λ x. IsStopped words told fb fn tb tn x source) (sym rule.1)
         (stopped_rule words told fb fn tb tn source (status.BadNetwork e) rule.0 is_command (after_bytes (Err e) (said (not_memory e rule.0))) tt)
 
+  -- the capacity file
+  module _ (n : Network) (leads : LeadsWhereTold told (script_of words) (capacities_script args n args.capacities)) where
+    -- what the file's bytes say comes next
+    after_capacity_file : (name bytes : List ℕ) (r : Result Entries ℕ) → capacities_in bytes ≡ r → AreBytesOf told name settings_limit bytes
+        → LeadsWhereTold told (capacities_script args n (Some name)) (after_capacities args n r)
+    after_capacity_file name bytes r said whole =
+        subst (λ x. LeadsWhereTold told (capacities_script args n (Some name)) (after_capacities args n x)) said
+        (told_read told name settings_limit (λ x. after_capacities args n (capacities_in x)) bytes whole)
+
+    capacities_lead : (o : Option (List ℕ)) (entries : Entries) → LeadsWhereTold told (script_of words) (capacities_script args n o) → AreCapacitiesOf told o entries
+        → LeadsWhereTold told (script_of words) (picks_script args n entries args.picks)
+    capacities_lead None entries to none = subst (λ x. LeadsWhereTold told (script_of words) (picks_script args n x args.picks)) (sym none) to
+    capacities_lead (Some name) entries to (bytes, said, whole) = told_then told _ _ _ to (after_capacity_file name bytes (Ok entries) said whole)
+
+    pub capacities_leads : (entries : Entries) → AreCapacitiesOf told args.capacities entries → LeadsWhereTold told (script_of words) (picks_script args n entries args.picks)
+    capacities_leads entries are = capacities_lead args.capacities entries leads are
+
+    file_is_capacities : (name other : List ℕ) → args.capacities ≡ Some name → name ≡ other → is_capacities (command_in words) other ≡ true
+    file_is_capacities name other is e =
+        rw command (subst (λ o. is_named o other ≡ true) (sym is) (subst (λ x. same_bytes name x ≡ true) e (same_bytes-refl name)))
+
+    pub stopped_capacities : (fb fn tb tn : ℕ) (s : Status) (source : List ℕ) → HasNoCapacities told args.capacities fb fn tb tn s → IsStopped words told fb fn tb tn s source
+    stopped_capacities fb fn tb tn s source missing = by args.capacities refl leads missing
+      where
+        by : (o : Option (List ℕ)) → args.capacities ≡ o → LeadsWhereTold told (script_of words) (capacities_script args n o) → HasNoCapacities told o fb fn tb tn s
+            → IsStopped words told fb fn tb tn s source
+        by None is to none = absurd none
+        by (Some name) is to (inl missed) =
+            stopped_unread words told fb fn tb tn source name settings_limit (λ bytes. after_capacities args n (capacities_in bytes)) is_command to s
+            (λ rose other e. (CapacityFile, file_is_capacities name other is e, rose)) missed
+        by (Some name) is to (inr (bytes, line, said, whole, bad)) =
+            subst (λ x. IsStopped words told fb fn tb tn x source) (sym bad)
+            (stopped_rule words told fb fn tb tn source (status.BadCapacities line) tt is_command (told_then told _ _ _ to (after_capacity_file name bytes (Err line) said whole)) tt)
+
   -- the picks file
-  module _ (n : Network) (leads : LeadsWhereTold told (script_of words) (picks_script args n args.picks)) where
+  module _ (n : Network) (entries : Entries) (leads : LeadsWhereTold told (script_of words) (picks_script args n entries args.picks)) where
     -- what the file's bytes say comes next
     after_picks_file : (name bytes : List ℕ) (r : Result (List ℕ) ℕ) → picks_in bytes ≡ r → AreBytesOf told name settings_limit bytes
-        → LeadsWhereTold told (picks_script args n (Some name)) (after_picks args n r)
+        → LeadsWhereTold told (picks_script args n entries (Some name)) (after_picks args n entries r)
     after_picks_file name bytes r said whole =
-        subst (λ x. LeadsWhereTold told (picks_script args n (Some name)) (after_picks args n x)) said
-        (told_read told name settings_limit (λ x. after_picks args n (picks_in x)) bytes whole)
+        subst (λ x. LeadsWhereTold told (picks_script args n entries (Some name)) (after_picks args n entries x)) said
+        (told_read told name settings_limit (λ x. after_picks args n entries (picks_in x)) bytes whole)
 
-    picks_lead : (o : Option (List ℕ)) (picks : List ℕ) → LeadsWhereTold told (script_of words) (picks_script args n o) → ArePicksOf told o picks
-        → LeadsWhereTold told (script_of words) (after_streams (unread args n picks) n.sources)
-    picks_lead None picks to none = subst (λ x. LeadsWhereTold told (script_of words) (after_streams (unread args n x) n.sources)) (sym none) to
+    picks_lead : (o : Option (List ℕ)) (picks : List ℕ) → LeadsWhereTold told (script_of words) (picks_script args n entries o) → ArePicksOf told o picks
+        → LeadsWhereTold told (script_of words) (after_streams (unread args n entries picks) n.sources)
+    picks_lead None picks to none = subst (λ x. LeadsWhereTold told (script_of words) (after_streams (unread args n entries x) n.sources)) (sym none) to
     picks_lead (Some name) picks to (bytes, said, whole) = told_then told _ _ _ to (after_picks_file name bytes (Ok picks) said whole)
 
-    pub picks_leads : (picks : List ℕ) → ArePicksOf told args.picks picks → LeadsWhereTold told (script_of words) (after_streams (unread args n picks) n.sources)
+    pub picks_leads : (picks : List ℕ) → ArePicksOf told args.picks picks → LeadsWhereTold told (script_of words) (after_streams (unread args n entries picks) n.sources)
     picks_leads picks are = picks_lead args.picks picks leads are
 
     file_is_picks : (name other : List ℕ) → args.picks ≡ Some name → name ≡ other → is_picks (command_in words) other ≡ true
@@ -327,11 +372,11 @@ module _ (words : List (List ℕ)) (args : RunArgs) (command : command_in words 
     pub stopped_picks : (fb fn tb tn : ℕ) (s : Status) (source : List ℕ) → HasNoPicks told args.picks fb fn tb tn s → IsStopped words told fb fn tb tn s source
     stopped_picks fb fn tb tn s source missing = by args.picks refl leads missing
       where
-        by : (o : Option (List ℕ)) → args.picks ≡ o → LeadsWhereTold told (script_of words) (picks_script args n o) → HasNoPicks told o fb fn tb tn s
+        by : (o : Option (List ℕ)) → args.picks ≡ o → LeadsWhereTold told (script_of words) (picks_script args n entries o) → HasNoPicks told o fb fn tb tn s
             → IsStopped words told fb fn tb tn s source
         by None is to none = absurd none
         by (Some name) is to (inl missed) =
-            stopped_unread words told fb fn tb tn source name settings_limit (λ bytes. after_picks args n (picks_in bytes)) is_command to s
+            stopped_unread words told fb fn tb tn source name settings_limit (λ bytes. after_picks args n entries (picks_in bytes)) is_command to s
             (λ rose other e. (PicksFile, file_is_picks name other is e, rose)) missed
         by (Some name) is to (inr (bytes, line, said, whole, bad)) =
             subst (λ x. IsStopped words told fb fn tb tn x source) (sym bad)
@@ -426,3 +471,9 @@ pub no_picks_later : (told : Option Files) (fb mid fn tb between tn : ℕ) (s : 
 no_picks_later told fb mid fn tb between tn s None f t none = none
 no_picks_later told fb mid fn tb between tn s (Some name) f t (inl missed) = inl (unread_later told name settings_limit fb mid fn tb between tn s f t missed)
 no_picks_later told fb mid fn tb between tn s (Some name) f t (inr bad) = inr bad
+
+pub no_capacities_later : (told : Option Files) (fb mid fn tb between tn : ℕ) (s : Status) (o : Option (List ℕ)) → fb ≤ mid → tb ≤ between
+    → HasNoCapacities told o mid fn between tn s → HasNoCapacities told o fb fn tb tn s
+no_capacities_later told fb mid fn tb between tn s None f t none = none
+no_capacities_later told fb mid fn tb between tn s (Some name) f t (inl missed) = inl (unread_later told name settings_limit fb mid fn tb between tn s f t missed)
+no_capacities_later told fb mid fn tb between tn s (Some name) f t (inr bad) = inr bad

@@ -36,13 +36,14 @@ given_train : (gs : List Given) → HasTrain (args_of gs)
 given_train gs =
     trained _ (lone (values_of None gs))
     (λ net e. trained _ net
-    (λ file e2. trained _ (lone (values_of (Some (codes "seed")) gs))
+    (λ file e2. trained _ (lone (values_of (Some (codes "capacities")) gs))
+    (λ capacities e0. trained _ (lone (values_of (Some (codes "seed")) gs))
     (λ seed e3. trained _ (lone (values_of (Some (codes "policy")) gs))
     (λ policy e4. trained _ (lone (values_of (Some (codes "picks")) gs))
     (λ picks e5. trained _ (lone (values_of (Some (codes "train")) gs))
     (λ train e6. trained _ (number_or 0 0 (2 ^ 64 - 1) seed)
     (λ seed_is e7. trained _ (number_or 16 1 4096 train)
-    (λ train_is e8. trained _ (rule_of policy picks) (λ rule_is e9. number_least 16 1 4096 train train_is (omega arith) e8)))))))))
+    (λ train_is e8. trained _ (rule_of policy picks) (λ rule_is e9. number_least 16 1 4096 train train_is (omega arith) e8))))))))))
 
 known_train : (t : Bool) (gs : List Given) → list_all (λ g. is_known g.0) gs ≡ t → HasTrain (known_args gs)
 known_train true gs e = rw e (given_train gs)

@@ -11,13 +11,13 @@ use Rattle.sq_value.specs.declared.Tuple.{Tuple}
 use Rattle.sq_net.specs.declared.NetErr.{NetErr}
 use Rattle.sq_net.specs.declared.NetErr.TheVariants as net
 use Rattle.sq_net.specs.declared.Source.{Source}
-use Rattle.sq_replay.specs.Entries.{picks_in}
+use Rattle.sq_plan.specs.Plans.{Entries}
+use Rattle.sq_replay.specs.Entries.{capacities_in, picks_in}
 use Rattle.sq_replay.specs.Streams.{stream_in}
 use Rattle.sq_replay.specs.declared.why.Why.{Why}
 use Rattle.sq_top.specs.Commands.{command_in}
 use Rattle.sq_top.specs.Scripts.{Lookup, Replay, Script, Reads, Stops, accepted, after_streams, outcome_of, readable, reads_of, script_of, settings_limit, stream_limit}
-use Rattle.sq_model.specs.Fed.{work_of}
-use Rattle.sq_top.specs.Due.{due_of}
+use Rattle.sq_top.specs.Due.{due_of, replayed, turns_in, work_in}
 use Rattle.sq_top.specs.Messages.{message_of, source_name}
 use Rattle.sq_top.specs.Answers.{IsWholeText, IsPrefixText}
 
@@ -26,6 +26,7 @@ abbrev pub is_refusal : Status → Bool
 is_refusal status.Ok = false
 is_refusal status.Usage = true
 is_refusal (status.BadNetwork e) = true
+is_refusal (status.BadCapacities line) = true
 is_refusal (status.BadPicks line) = true
 is_refusal (status.BadStream number line why) = true
 is_refusal (status.FolderFault name) = true
@@ -73,30 +74,38 @@ abbrev pub is_network : Option Command → List ℕ → Bool
 is_network None name = false
 is_network (Some (command.Run args)) name = same_bytes args.net name
 
--- whether this is the name of the picks' file
 abbrev pub is_named : Option (List ℕ) → List ℕ → Bool
 is_named None name = false
 is_named (Some file) name = same_bytes file name
 
+-- whether this is the name of the capacity file
+abbrev pub is_capacities : Option Command → List ℕ → Bool
+is_capacities None name = false
+is_capacities (Some (command.Run args)) name = is_named args.capacities name
+
+-- whether this is the name of the picks' file
 abbrev pub is_picks : Option Command → List ℕ → Bool
 is_picks None name = false
 is_picks (Some (command.Run args)) name = is_named args.picks name
 
--- what a file is to a run: its network, its picks, or a source's stream
+-- what a file is to a run: its network, its capacities, its picks, or a source's stream
 pub data FilePart : Type 0 where
   NetworkFile : FilePart
+  CapacityFile : FilePart
   PicksFile : FilePart
   StreamFile : FilePart
 
 -- how many bytes a file of this part may have
 abbrev pub limit_of : FilePart → ℕ
 limit_of NetworkFile = settings_limit
+limit_of CapacityFile = settings_limit
 limit_of PicksFile = settings_limit
 limit_of StreamFile = stream_limit
 
 -- whether a file of this name may have this part: which files are streams the network's file alone says
 abbrev pub may_be : Option Command → FilePart → List ℕ → Bool
 may_be c NetworkFile name = is_network c name
+may_be c CapacityFile name = is_capacities c name
 may_be c PicksFile name = is_picks c name
 may_be c StreamFile name = is_some c
 
@@ -110,13 +119,13 @@ pub record FolderHasCause (words : List (List ℕ)) (told : Option Files) (fault
 -- at Ok the text is whole and the steps are the work
 abbrev pub AnswersWhole : Files → List (List ℕ) → Option (List ℕ) → Option (List ℕ) → ℕ → ℕ → Type 0
 AnswersWhole files words out_before out_now steps_before steps_now = MatchAccepted (accepted (file files) words)
-    (λ r. AppendsSuch out_before out_now (IsWholeText (due_of r)) × (steps_now ≡ steps_before + work_of r.network r.sources))
+    (λ r. AppendsSuch out_before out_now (IsWholeText (due_of r)) × (steps_now ≡ steps_before + work_in (replayed r)))
     (λ s. ⊥)
 
 -- at another status it is a prefix, with no more steps than the work; nothing where a rule is broken
 abbrev pub AnswersPrefix : Files → List (List ℕ) → Option (List ℕ) → Option (List ℕ) → ℕ → ℕ → Type 0
 AnswersPrefix files words out_before out_now steps_before steps_now = MatchAccepted (accepted (file files) words)
-    (λ r. AppendsSuch out_before out_now (IsPrefixText (due_of r)) × (steps_now ≤ steps_before + work_of r.network r.sources))
+    (λ r. AppendsSuch out_before out_now (IsPrefixText (due_of r)) × (steps_now ≤ steps_before + work_in (replayed r)))
     (λ s. (out_now ≡ out_before) × (steps_now ≡ steps_before))
 
 -- the message: whole, or a part of it where the sink for messages has failed
@@ -176,6 +185,18 @@ source_of (Some name) = name
 abbrev pub AreBytesOf : Option Files → List ℕ → ℕ → List ℕ → Type 0
 AreBytesOf told name limit bytes = WhereTold told (λ files. readable name limit (file files name) ≡ Ok bytes)
 
+-- these are the capacities of the file that is named, or none where none is
+abbrev pub AreCapacitiesOf : Option Files → Option (List ℕ) → Entries → Type 0
+AreCapacitiesOf told None entries = entries ≡ []
+AreCapacitiesOf told (Some name) entries = (bytes : List ℕ) × (capacities_in bytes ≡ Ok entries) × AreBytesOf told name settings_limit bytes
+
+-- why the capacities aren't there: the file that is named isn't read, or one of its lines is bad
+abbrev pub HasNoCapacities : Option Files → Option (List ℕ) → ℕ → ℕ → ℕ → ℕ → Status → Type 0
+HasNoCapacities told None faults_before faults_now taken_before taken_now result = ⊥
+HasNoCapacities told (Some name) faults_before faults_now taken_before taken_now result =
+    IsUnread told name settings_limit faults_before faults_now taken_before taken_now result
+    ⊎ ((bytes : List ℕ) × (line : ℕ) × (capacities_in bytes ≡ Err line) × AreBytesOf told name settings_limit bytes × (result ≡ status.BadCapacities line))
+
 -- these are the picks of the file that is named, or none where none is
 abbrev pub ArePicksOf : Option Files → Option (List ℕ) → List ℕ → Type 0
 ArePicksOf told None picks = picks ≡ []
@@ -211,13 +232,13 @@ HasNoStreams told r sources faults_before faults_now taken_before taken_now resu
     ⊎ ((number : ℕ) × (s : Source) × (line : ℕ) × (why : Why) × (slice_get sources number ≡ Some s)
     × LeadsWhereTold told (after_streams r sources) (Stops (status.BadStream number line why)) × IsBadLine number s line why result source)
 
--- too much was to be fed only where the work of what is accepted is too much
+-- too much was to be fed only where what is accepted has too many turns
 abbrev pub TooMuchHasCause : Files → List (List ℕ) → Status → Type 0
-TooMuchHasCause files words result = result ≡ status.TooMuch → MatchAccepted (accepted (file files) words) (λ r. 2 ^ 62 ≤ work_of r.network r.sources) (λ s. ⊥)
+TooMuchHasCause files words result = result ≡ status.TooMuch → MatchAccepted (accepted (file files) words) (λ r. 2 ^ 62 ≤ turns_in (replayed r)) (λ s. ⊥)
 
 -- what is accepted, and isn't too much, ends Ok, but for want of memory
 abbrev pub EndsOk : Files → List (List ℕ) → Status → Type 0
-EndsOk files words result = MatchAccepted (accepted (file files) words) (λ r. work_of r.network r.sources < 2 ^ 62 → (result ≡ status.Ok) ⊎ (result ≡ status.Memory)) (λ s. ⊤)
+EndsOk files words result = MatchAccepted (accepted (file files) words) (λ r. turns_in (replayed r) < 2 ^ 62 → (result ≡ status.Ok) ⊎ (result ≡ status.Memory)) (λ s. ⊤)
 
 -- the folder, the output and the steps before a run and after it
 pub record World : Type 0 where

@@ -1,59 +1,75 @@
 -- What a run shows on its way: a history of events, whose lines are written one after another.
-use Rattle.std.specs.Prelude.{◌≡◌, ◌⊎◌, ℕ, ◌+◌, ◌^◌, ◌<◌, ◌≤◌, List, ◌++◌, length, map, Option, slice_get, Some}
+use Rattle.std.specs.Prelude.{◌≡◌, ◌⊎◌, ℕ, ◌+◌, ◌^◌, ◌<◌, ◌≤◌, ◌==◌, if◌then◌else◌, List, [], ◌∷◌, ◌++◌, length, map, Option}
 use Rattle.std.specs.List.{AllByRecursion, flat_map}
-use Rattle.sq_value.specs.declared.Tuple.{Tuple}
 use Rattle.sq_value.specs.Lists.{IsPrefixOf, numbers_to}
 use Rattle.sq_outside.specs.Disks.{Pages}
 use Rattle.sq_outside.specs.Sinks.{AppendsPrefix, appended}
 use Rattle.sq_net.specs.declared.Network.{Network}
+use Rattle.sq_oper.specs.declared.outs.Decision.{Decision}
 use Rattle.sq_oper.specs.declared.outs.Event.{Event}
+use Rattle.sq_oper.specs.declared.outs.Event.TheVariants.{Line, Dropped, Plan}
 use Rattle.sq_replay.specs.Shown.{end_lines, event_line, text_of}
-use Rattle.sq_model.specs.Full.{full_stream}
-use Rattle.sq_model.specs.Fed.{fed_of, late_of, work_of}
+use Rattle.sq_model.specs.Shedding.{Replay}
 use Rattle.sq_queue.specs.Faces.{Tells}
-use Rattle.sq_flow.specs.Events.{IsLineBelow, lines_of}
+use Rattle.sq_flow.specs.Events.{IsEventIn, lines_of}
+use Rattle.sq_flow.specs.Plans.{plans_of}
 use Rattle.sq_core.specs.declared.engine.Engine.{Engine}
 use Rattle.sq_core.specs.Runs.{IsRun, fed_at, late_at}
 use Rattle.sq_top.specs.declared.Status.{Status}
 use Rattle.sq_top.specs.declared.Status.TheVariants as status
+use Rattle.sq_top.specs.Due.{Answer, answer_in, drops_in, fed_in, late_in, turns_in, work_in}
 use Rattle.sq_top.specs.Writing.{IsLost, Moves}
 
--- a tuple at an output that is there
-abbrev pub IsLineIn : Network → Event → Type 0
-IsLineIn n e = IsLineBelow (length n.outputs) e
+-- a tuple at an output that is there, a decision of a drop that is there, or a plan
+abbrev pub IsEventAt : Network → Event → Type 0
+IsEventAt n e = IsEventIn (length n.outputs) (drops_in n) e
 
 -- the text of a history
 abbrev pub history_text : Network → List Event → List ℕ
 history_text n history = flat_map (event_line n) history
 
--- tuples were shown alone, and of each output these are all tuples of the stream that it shows, in order
-pub record ShowsAll (n : Network) (stream : ℕ → List Tuple) (history : List Event) : Type 0 where
-  pub shown : AllByRecursion (IsLineIn n) history
-  pub lines : (output s : ℕ) → slice_get n.wires.outputs output ≡ Some s → lines_of output history ≡ stream s
+-- what a drop has decided
+abbrev pub drop_in : ℕ → Event → List Decision
+drop_in w (Line output tuple) = []
+drop_in w (Dropped d) = if d.drop == w then d ∷ [] else []
+drop_in w (Plan epoch load capacity saved fits) = []
 
--- and of each output these are the first of them
-pub record ShowsFirst (n : Network) (stream : ℕ → List Tuple) (history : List Event) : Type 0 where
-  pub shown : AllByRecursion (IsLineIn n) history
-  pub lines : (output s : ℕ) → slice_get n.wires.outputs output ≡ Some s → IsPrefixOf (lines_of output history) (stream s)
+abbrev pub drops_of : ℕ → List Event → List Decision
+drops_of w [] = []
+drops_of w (e ∷ es) = drop_in w e ++ drops_of w es
 
--- a run came to its end: what was written is the text of a history in which each output shows its full stream, each box was fed
--- what it takes, and the steps are the work
-pub record IsDriven (n : Network) (sources : List (List Tuple)) (engine : Engine) (before now : Option (List ℕ)) (begun steps : ℕ) : Type 0 where
+-- of each output, of each drop and of the plans a history has all, in order
+pub record Completes (n : Network) (a : Answer) (history : List Event) : Type 0 where
+  pub lines : (o : ℕ) → o < length n.outputs → lines_of o history ≡ a.tuples o
+  pub drops : (w : ℕ) → w < drops_in n → drops_of w history ≡ a.decisions w
+  pub plans : plans_of history ≡ a.plans
+
+-- and of each it has the first
+pub record Begins (n : Network) (a : Answer) (history : List Event) : Type 0 where
+  pub lines : (o : ℕ) → o < length n.outputs → IsPrefixOf (lines_of o history) (a.tuples o)
+  pub drops : (w : ℕ) → w < drops_in n → IsPrefixOf (drops_of w history) (a.decisions w)
+  pub plans : IsPrefixOf (plans_of history) a.plans
+
+-- a run came to its end: what was written is the text of a history that shows the whole answer, each box was fed what it takes,
+-- and the steps are the work
+pub record IsDriven (r : Replay) (engine : Engine) (before now : Option (List ℕ)) (begun steps : ℕ) : Type 0 where
   pub history : List Event
-  pub shows : ShowsAll n (full_stream n sources) history
-  pub written : now ≡ appended before (history_text n history)
-  pub fed : (at : ℕ) → at < length n.boxes → fed_at engine at ≡ fed_of n sources at
-  pub late : (at : ℕ) → at < length n.boxes → late_at engine at ≡ late_of n sources at
-  pub work : steps ≡ begun + work_of n sources
+  pub shown : AllByRecursion (IsEventAt r.network) history
+  pub all : Completes r.network (answer_in r) history
+  pub written : now ≡ appended before (history_text r.network history)
+  pub fed : (at : ℕ) → at < length r.network.boxes → fed_at engine at ≡ fed_in r at
+  pub late : (at : ℕ) → at < length r.network.boxes → late_at engine at ≡ late_in r at
+  pub work : steps ≡ begun + work_in r
 
--- a run stopped on its way: what was written begins the text of a history in which each output shows the first tuples of its full
--- stream, the steps are no more than the work, and too much was to be fed only where the work is too much
-pub record IsHalted (n : Network) (sources : List (List Tuple)) (result : Status) (before now : Option (List ℕ)) (begun steps : ℕ) : Type 0 where
+-- a run stopped on its way: what was written begins the text of a history that shows the first of the answer, the steps are no more
+-- than the work, and too much was to be fed only where the turns are too many
+pub record IsHalted (r : Replay) (result : Status) (before now : Option (List ℕ)) (begun steps : ℕ) : Type 0 where
   pub history : List Event
-  pub shows : ShowsFirst n (full_stream n sources) history
-  pub written : AppendsPrefix before now (history_text n history)
-  pub work : steps ≤ begun + work_of n sources
-  pub too_much : result ≡ status.TooMuch → 2 ^ 62 ≤ work_of n sources
+  pub shown : AllByRecursion (IsEventAt r.network) history
+  pub first : Begins r.network (answer_in r) history
+  pub written : AppendsPrefix before now (history_text r.network history)
+  pub work : steps ≤ begun + work_in r
+  pub too_much : result ≡ status.TooMuch → 2 ^ 62 ≤ turns_in r
 
 -- the end lines by what the boxes of an engine were fed
 abbrev pub ends_text : Engine → List ℕ
@@ -66,21 +82,20 @@ IsCutShort faults_before faults_now result = IsLost faults_before faults_now res
 -- an engine went on: it showed these events more, and their lines were written or wait
 pub record GoesOn (was is : Option Pages) (from to : Engine) (begun now : ℕ) (before : Option (List ℕ)) (waited : List ℕ) (after : Option (List ℕ)) (waits : List ℕ) : Type 0 where
   pub events : List Event
-  pub shown : AllByRecursion (IsLineIn from.network) events
+  pub shown : AllByRecursion (IsEventAt from.network) events
   pub moves : Moves before waited after waits (history_text from.network events)
-  pub goes : (n : Network) (sources : List (List Tuple)) (history : List Event) (start : ℕ) → IsRun n sources was from history start begun
-      → IsRun n sources is to (history ++ events) start now
+  pub goes : (r : Replay) (history : List Event) (start : ℕ) → IsRun r was from history start begun → IsRun r is to (history ++ events) start now
 
 -- it stopped behind a history: of the events more that it showed a part of the lines was written
-pub record StopsBehind (n : Network) (sources : List (List Tuple)) (history : List Event) (start now : ℕ) (before : Option (List ℕ)) (waited : List ℕ) (after : Option (List ℕ)) (result : Status) : Type 0 where
+pub record StopsBehind (r : Replay) (history : List Event) (start now : ℕ) (before : Option (List ℕ)) (waited : List ℕ) (after : Option (List ℕ)) (result : Status) : Type 0 where
   pub events : List Event
-  pub shown : AllByRecursion (IsLineIn n) events
-  pub lines : (output s : ℕ) → slice_get n.wires.outputs output ≡ Some s → IsPrefixOf (lines_of output (history ++ events)) (full_stream n sources s)
-  pub written : AppendsPrefix before after (waited ++ history_text n events)
-  pub work : now ≤ start + work_of n sources
-  pub too_much : result ≡ status.TooMuch → 2 ^ 62 ≤ work_of n sources
+  pub shown : AllByRecursion (IsEventAt r.network) events
+  pub first : Begins r.network (answer_in r) (history ++ events)
+  pub written : AppendsPrefix before after (waited ++ history_text r.network events)
+  pub work : now ≤ start + work_in r
+  pub too_much : result ≡ status.TooMuch → 2 ^ 62 ≤ turns_in r
 
 abbrev pub Stops : Option Pages → Engine → ℕ → ℕ → Option (List ℕ) → List ℕ → Option (List ℕ) → Status → Type 0
 Stops was from begun now before waited after result =
-    (n : Network) (sources : List (List Tuple)) (history : List Event) (start : ℕ) → Tells was → IsRun n sources was from history start begun
-    → StopsBehind n sources history start now before waited after result
+    (r : Replay) (history : List Event) (start : ℕ) → Tells was → IsRun r was from history start begun
+    → StopsBehind r history start now before waited after result

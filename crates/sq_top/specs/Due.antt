@@ -1,14 +1,18 @@
 -- What a run is to write and the steps that it is to take.
-use Rattle.std.specs.Prelude.{ℕ, List, [], ◌++◌, map, length}
+use Rattle.std.specs.Prelude.{ℕ, List, [], ◌++◌, map, length, Option, None, Some, slice_get}
 use Rattle.std.specs.List.{flat_map, zip}
 use Rattle.sq_value.specs.declared.Tuple.{Tuple}
 use Rattle.sq_value.specs.Lists.{numbers_to}
-use Rattle.sq_value.specs.LineTexts.{output_line}
+use Rattle.sq_value.specs.LineTexts.{drop_line, output_line, plan_line}
 use Rattle.sq_net.specs.declared.Network.{Network}
 use Rattle.sq_net.specs.declared.Output.{Output}
+use Rattle.sq_oper.specs.declared.outs.Decision.{Decision}
+use Rattle.sq_plan.specs.declared.closing.Shown.{Shown}
 use Rattle.sq_replay.specs.Shown.{end_lines, text_of}
-use Rattle.sq_model.specs.Full.{nth, full_streams}
-use Rattle.sq_model.specs.Fed.{fed_from, late_from}
+use Rattle.sq_model.specs.Full.{full_stream}
+use Rattle.sq_model.specs.Fed.{fed_of, late_of, work_of}
+use Rattle.sq_model.specs.Shedding as model
+use Rattle.sq_model.specs.Shown.{plans_shown}
 use Rattle.sq_top.specs.Scripts.{Replay}
 
 -- the lines of each output, by its name, those of each drop, by its number, those of the plans, and the end lines
@@ -25,30 +29,74 @@ all_lines d = flat_map (λ o. o.1) d.shown ++ (flat_map (λ w. w.1) d.dropped ++
 abbrev pub all_text : Due → List ℕ
 all_text d = text_of (all_lines d)
 
--- the outputs in file order, each with its stream
+-- what a run shows: of each output the tuples, of each drop the batches that it drops, and the plans
+pub record Answer : Type 0 where
+  pub tuples : ℕ → List Tuple
+  pub decisions : ℕ → List Decision
+  pub plans : List Shown
+
+-- how many drops a network has: nothing is dropped yet
+abbrev pub drops_in : Network → ℕ
+drops_in n = 0
+
+-- the outputs in file order, each with its number
 abbrev pub outputs_of : Network → List (Output × ℕ)
-outputs_of n = zip n.outputs n.wires.outputs
+outputs_of n = zip n.outputs (numbers_to (length n.outputs))
 
--- an output's name, and the lines of its tuples, where these are the streams by number
-abbrev pub shown_from : List (List Tuple) → Output × ℕ → List ℕ × List (List ℕ)
-shown_from streams o = ((o.0).name, map (output_line (o.0).name) (nth streams o.1))
+-- an output's name, and the lines of its tuples
+abbrev pub shown_from : Answer → Output × ℕ → List ℕ × List (List ℕ)
+shown_from a o = ((o.0).name, map (output_line (o.0).name) (a.tuples o.1))
 
--- how many tuples each box is fed, where these are the streams by number
-abbrev pub feds_from : Network → List (List Tuple) → List ℕ
-feds_from n streams = map (fed_from n streams) (numbers_to (length n.boxes))
+-- a drop's number, and the lines of its batches
+abbrev pub dropped_from : Answer → ℕ → ℕ × List (List ℕ)
+dropped_from a w = (w, map (λ d. drop_line w d.batch d.level) (a.decisions w))
 
--- how many tuples of each box are late
-abbrev pub lates_from : Network → List (List Tuple) → List ℕ
-lates_from n streams = map (late_from n streams) (numbers_to (length n.boxes))
+abbrev pub plan_text : Shown → List ℕ
+plan_text p = plan_line p.epoch p.load p.capacity p.saved p.fits
 
--- the end lines, where these are the streams by number
-abbrev pub ended_from : Network → List (List Tuple) → List (List ℕ)
-ended_from n streams = end_lines n (feds_from n streams) (lates_from n streams)
+-- the lines of an answer, and these at the end
+abbrev pub due_from : Network → Answer → List (List ℕ) → Due
+due_from n a ended = record {
+  shown = map (shown_from a) (outputs_of n);
+  dropped = map (dropped_from a) (numbers_to (drops_in n));
+  planned = map plan_text a.plans;
+  ended = ended;
+}
 
--- nothing is dropped and nothing is planned
-abbrev pub due_from : Network → List (List Tuple) → Due
-due_from n streams = record { shown = map (shown_from streams) (outputs_of n); dropped = []; planned = []; ended = ended_from n streams }
+-- what is replayed, whatever the schedule
+abbrev pub replayed : Replay → model.Replay
+replayed r = record { network = r.network; sources = r.sources; entries = r.entries; seed = r.seed }
 
--- each output shows its full answer, and each box is fed all that it takes
+module _ (r : model.Replay) where
+  abbrev pub stream_shown : Option ℕ → List Tuple
+  stream_shown None = []
+  stream_shown (Some s) = full_stream r.network r.sources s
+
+  -- each output shows its full answer
+  abbrev pub answer_in : Answer
+  answer_in = record { tuples = λ o. stream_shown (slice_get r.network.wires.outputs o); decisions = λ w. []; plans = plans_shown r }
+
+  -- how many tuples a box is fed, and how many of them are late
+  abbrev pub fed_in : ℕ → ℕ
+  fed_in at = fed_of r.network r.sources at
+
+  abbrev pub late_in : ℕ → ℕ
+  late_in at = late_of r.network r.sources at
+
+  abbrev pub ended_in : List (List ℕ)
+  ended_in = end_lines r.network (map fed_in (numbers_to (length r.network.boxes))) (map late_in (numbers_to (length r.network.boxes)))
+
+  -- how many tuples are fed in all
+  abbrev pub work_in : ℕ
+  work_in = work_of r.network r.sources
+
+  -- and how many items
+  abbrev pub turns_in : ℕ
+  turns_in = work_in
+
+  abbrev pub due_in : Due
+  due_in = due_from r.network answer_in ended_in
+
+-- what is due of a replay
 abbrev pub due_of : Replay → Due
-due_of r = due_from r.network (full_streams r.network r.sources)
+due_of r = due_in (replayed r)

@@ -112,6 +112,7 @@ abbrev pub message_of : List ℕ → Status → List ℕ
 message_of source status.Ok = []
 message_of source status.Usage = codes "aurora: usage: aurora run NET [options]\n"
 message_of source (status.BadNetwork e) = codes "aurora: network: " ++ (rule_text e ++ (at_place (place_of e) ++ (detail_text e ++ codes "\n")))
+message_of source (status.BadCapacities line) = codes "aurora: capacities: line " ++ (decimal line ++ codes "\n")
 message_of source (status.BadPicks line) = codes "aurora: picks: line " ++ (decimal line ++ codes "\n")
 message_of source (status.BadStream number line w) =
     codes "aurora: stream " ++ (source ++ (codes ": line " ++ (decimal line ++ (codes ": " ++ (why_text w ++ codes "\n")))))
@@ -126,6 +127,7 @@ abbrev pub code_of : Status → ℕ
 code_of status.Ok = 0
 code_of status.Usage = 2
 code_of (status.BadNetwork e) = 3
+code_of (status.BadCapacities line) = 4
 code_of (status.BadPicks line) = 5
 code_of (status.BadStream number line w) = 6
 code_of (status.FolderFault name) = 7

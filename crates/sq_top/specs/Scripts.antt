@@ -6,7 +6,8 @@ use Rattle.sq_net.specs.declared.Network.{Network}
 use Rattle.sq_net.specs.declared.Source.{Source}
 use Rattle.sq_reader.specs.Networks.{network_in}
 use Rattle.sq_replay.specs.declared.why.Why.{Why}
-use Rattle.sq_replay.specs.Entries.{picks_in}
+use Rattle.sq_plan.specs.Plans.{Entries}
+use Rattle.sq_replay.specs.Entries.{capacities_in, picks_in}
 use Rattle.sq_replay.specs.Streams.{stream_in}
 use Rattle.sq_sched.specs.declared.policy.Rule.{Rule}
 use Rattle.sq_top.specs.declared.RunArgs.{RunArgs}
@@ -16,11 +17,12 @@ use Rattle.sq_top.specs.declared.Status.{Status}
 use Rattle.sq_top.specs.declared.Status.TheVariants as status
 use Rattle.sq_top.specs.Commands.{command_in}
 
--- what was accepted: a network, the tuples of each of its sources, and how the next actor is chosen: by which rule, seed and
--- picks, for how many steps
+-- what was accepted: a network, the tuples of each of its sources, the capacities, and how the next actor is chosen: by which rule,
+-- seed and picks, for how many steps. What is drawn goes by the seed, too
 pub record Replay : Type 0 where
   pub network : Network
   pub sources : List (List Tuple)
+  pub entries : Entries
   pub seed : ℕ
   pub rule : Rule
   pub picks : List ℕ
@@ -32,7 +34,7 @@ pub data Script : Type 0 where
   Done : Replay → Script
   Stops : Status → Script
 
--- how many bytes a network or picks file may have, and a stream
+-- how many bytes a network, capacity or picks file may have, and a stream
 abbrev pub settings_limit : ℕ
 settings_limit = 1048576
 
@@ -55,28 +57,38 @@ after_streams r (s ∷ left) =
     Reads s.file stream_limit
     (λ bytes. after_stream (length r.sources) (λ xs. after_streams (with_sources r (r.sources ++ xs ∷ [])) left) (stream_in s.schema bytes))
 
--- what the words, the network file and the picks say; no source is read yet
-abbrev pub unread : RunArgs → Network → List ℕ → Replay
-unread args n picks = record { network = n; sources = []; seed = args.seed; rule = args.rule; picks = picks; train = args.train }
+-- what the words, the network file, the capacities and the picks say; no source is read yet
+abbrev pub unread : RunArgs → Network → Entries → List ℕ → Replay
+unread args n entries picks =
+    record { network = n; sources = []; entries = entries; seed = args.seed; rule = args.rule; picks = picks; train = args.train }
 
-abbrev pub after_picks : RunArgs → Network → Result (List ℕ) ℕ → Script
-after_picks args n (Ok picks) = after_streams (unread args n picks) n.sources
-after_picks args n (Err line) = Stops (status.BadPicks line)
+abbrev pub after_picks : RunArgs → Network → Entries → Result (List ℕ) ℕ → Script
+after_picks args n entries (Ok picks) = after_streams (unread args n entries picks) n.sources
+after_picks args n entries (Err line) = Stops (status.BadPicks line)
 
 -- the picks file, where one is named; else there are no picks
-abbrev pub picks_script : RunArgs → Network → Option (List ℕ) → Script
-picks_script args n None = after_picks args n (Ok [])
-picks_script args n (Some name) = Reads name settings_limit (λ bytes. after_picks args n (picks_in bytes))
+abbrev pub picks_script : RunArgs → Network → Entries → Option (List ℕ) → Script
+picks_script args n entries None = after_picks args n entries (Ok [])
+picks_script args n entries (Some name) = Reads name settings_limit (λ bytes. after_picks args n entries (picks_in bytes))
+
+abbrev pub after_capacities : RunArgs → Network → Result Entries ℕ → Script
+after_capacities args n (Ok entries) = picks_script args n entries args.picks
+after_capacities args n (Err line) = Stops (status.BadCapacities line)
+
+-- the capacity file, where one is named; else there are no entries, and capacity is unlimited
+abbrev pub capacities_script : RunArgs → Network → Option (List ℕ) → Script
+capacities_script args n None = after_capacities args n (Ok [])
+capacities_script args n (Some name) = Reads name settings_limit (λ bytes. after_capacities args n (capacities_in bytes))
 
 abbrev pub after_network : RunArgs → Result Network NetErr → Script
 after_network args (Err e) = Stops (status.BadNetwork e)
-after_network args (Ok n) = picks_script args n args.picks
+after_network args (Ok n) = capacities_script args n args.capacities
 
 abbrev pub after_words : Option Command → Script
 after_words None = Stops status.Usage
 after_words (Some (command.Run args)) = Reads args.net settings_limit (λ bytes. after_network args (network_in bytes))
 
--- the words, then the network file, the picks file, and the sources in their order
+-- the words, then the network file, the capacity file, the picks file, and the sources in their order
 abbrev pub script_of : List (List ℕ) → Script
 script_of words = after_words (command_in words)
 

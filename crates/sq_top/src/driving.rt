@@ -1,8 +1,7 @@
 // A run, driven to its end.
 ghost use Rattle.std.specs.Prelude.{◌≡◌, ◌⊎◌, ℕ, ◌+◌, ◌≤◌, ◌<◌, ◌++◌, [], IfErr, IfOk, List, OnErr, OnOk, is_some, length};
 ghost use Rattle.std.specs.List.{AllByRecursion};
-ghost use Rattle.sq_value.specs.declared.Tuple.{Tuple};
-ghost use Rattle.sq_net.specs.declared.Network.{Network};
+ghost use Rattle.sq_model.specs.Shedding.{Replay};
 ghost use Rattle.sq_oper.specs.declared.outs.Event.{Event};
 ghost use Rattle.sq_replay.specs.Shown.{event_line};
 ghost use Rattle.sq_outside.specs.Sinks.{AppendsPrefix, appended};
@@ -11,7 +10,7 @@ ghost use Rattle.sq_flow.specs.Flows.{measure_of};
 ghost use Rattle.sq_flow.specs.Engines.{AllDone};
 ghost use Rattle.sq_core.specs.Runs.{IsRun, IsSoundEngine};
 ghost use Rattle.sq_top.specs.Writing.{IsLost, Moves};
-ghost use Rattle.sq_top.specs.Driving.{GoesOn, IsCutShort, IsDriven, IsHalted, IsLineIn, Stops, history_text};
+ghost use Rattle.sq_top.specs.Driving.{GoesOn, IsCutShort, IsDriven, IsEventAt, IsHalted, Stops, history_text};
 
 use crate::Status;
 use crate::writing::{send, send_piece};
@@ -41,7 +40,7 @@ fn show_event<S: Sink>(
     text: &mut Vec<u8>,
     out: &mut S,
 ) -> Result<(), Status>
-    requires there { IsLineIn network.now event.now }
+    requires there { IsEventAt network.now event.now }
     ensures ok { OnOk result (Moves (S.written out.old) text.old.items (S.written out.new) text.new.items (event_line network.now event.now)) }
     ensures err { OnErr result (AppendsPrefix (S.written out.old) (S.written out.new) (text.old.items ++ event_line network.now event.now)) }
     ensures lost { IfErr result (λ s. IsLost (S.faults out.old) (S.faults out.new) s) }
@@ -54,13 +53,13 @@ fn show_event<S: Sink>(
 }
 
 /// Writes the lines of events.
-fn show_events<S: Sink>(
+pub(crate) fn show_events<S: Sink>(
     network: &Network,
     events: &[Event],
     text: &mut Vec<u8>,
     out: &mut S,
 ) -> Result<(), Status>
-    requires there { AllByRecursion (IsLineIn network.now) events.now }
+    requires there { AllByRecursion (IsEventAt network.now) events.now }
     ensures ok { OnOk result (Moves (S.written out.old) text.old.items (S.written out.new) text.new.items (history_text network.now events.now)) }
     ensures err { OnErr result (AppendsPrefix (S.written out.old) (S.written out.new) (text.old.items ++ history_text network.now events.now)) }
     ensures lost { IfErr result (λ s. IsLost (S.faults out.old) (S.faults out.new) s) }
@@ -134,10 +133,10 @@ pub fn drive<D: PageDisk, S: Sink, L: Ledger>(
     ensures sound { IfOk result (λ e. IsSoundEngine e) }
     ensures done { IfOk result (λ e. AllDone e.engine.flow) }
     ensures network { IfOk result (λ e. e.network ≡ engine.network) }
-    ensures ok { IfOk result (λ e. (n : Network) (sources : List (List Tuple)) (begun : ℕ) → Tells (D.pages disk.old) → IsRun n sources (D.pages disk.old) engine [] begun steps.old
-        → IsDriven n sources e (S.written out.old) (S.written out.new) begun steps.new) }
-    ensures err { IfErr result (λ s. (n : Network) (sources : List (List Tuple)) (begun : ℕ) → Tells (D.pages disk.old) → IsRun n sources (D.pages disk.old) engine [] begun steps.old
-        → IsHalted n sources s (S.written out.old) (S.written out.new) begun steps.new) }
+    ensures ok { IfOk result (λ e. (r : Replay) (begun : ℕ) → Tells (D.pages disk.old) → IsRun r (D.pages disk.old) engine [] begun steps.old
+        → IsDriven r e (S.written out.old) (S.written out.new) begun steps.new) }
+    ensures err { IfErr result (λ s. (r : Replay) (begun : ℕ) → Tells (D.pages disk.old) → IsRun r (D.pages disk.old) engine [] begun steps.old
+        → IsHalted r s (S.written out.old) (S.written out.new) begun steps.new) }
     ensures lost { IfErr result (λ s. IsCutShort (S.faults out.old) (S.faults out.new) s) }
     ensures later { S.faults out.old ≤ S.faults out.new }
     ensures tells { OnOk result (is_some (D.pages disk.new) ≡ is_some (D.pages disk.old)) }

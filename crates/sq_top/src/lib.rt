@@ -39,6 +39,8 @@ pub use words::read_words;
 pub struct RunArgs {
     /// The network's file.
     pub net: Name,
+    /// The file of capacities, if one is named: without it capacity is unlimited.
+    pub capacities: Option<Name>,
     /// What the generator starts from that chooses under the rule Seeded.
     pub seed: u64,
     /// How the next actor is chosen: RoundRobin where the words don't say.
@@ -71,6 +73,8 @@ pub enum Status {
     Usage,
     /// The network file breaks this rule, the first in their order.
     BadNetwork(NetErr),
+    /// A line of the capacity file, by its number from 1, is refused: the first bad one.
+    BadCapacities { line: u32 },
     /// A line of the picks file, by its number from 1, is refused: the first bad one.
     BadPicks { line: u32 },
     /// A line of a source, by its number from 1, is refused: the first bad line of the first bad source. Sources count
@@ -97,6 +101,7 @@ impl Status {
             Status::Ok => 0,
             Status::Usage => 2,
             Status::BadNetwork(_) => 3,
+            Status::BadCapacities { .. } => 4,
             Status::BadPicks { .. } => 5,
             Status::BadStream { .. } => 6,
             Status::FolderFault { .. } => 7,

@@ -166,6 +166,7 @@ pub fn message(alloc: Global, source: &Option<Name>, status: &Status) -> Result<
         Status::Ok => String::from_str(alloc, ""),
         Status::Usage => String::from_str(alloc, "aurora: usage: aurora run NET [options]\n"),
         Status::BadNetwork(e) => network_message(alloc, *e),
+        Status::BadCapacities { line } => format!(in alloc; "aurora: capacities: line {line}\n"),
         Status::BadPicks { line } => format!(in alloc; "aurora: picks: line {line}\n"),
         Status::BadStream { line, why, .. } => {
             let source = name_text(source);

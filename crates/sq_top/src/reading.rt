@@ -2,11 +2,12 @@
 ghost use Rattle.std.specs.Prelude.{true, ◌≡◌, ◌⊎◌, ◌≤◌, IfOk, IfErr, IsSome, None, Ok, Some, [], length, map};
 ghost use Rattle.std.specs.String.{string_bytes};
 ghost use Rattle.sq_net.specs.Sound.{IsSound, source_within};
+ghost use Rattle.sq_points.specs.Limits.{KeepsDropLimits};
 ghost use Rattle.sq_outside.specs.Folders.{file};
 ghost use Rattle.sq_replay.specs.Laws.{ReadsStreams};
 ghost use Rattle.sq_top.specs.Commands.{command_in};
-ghost use Rattle.sq_top.specs.Scripts.{Done, Replay, accepted, after_streams, picks_script, readable, script_of, with_sources};
-ghost use Rattle.sq_top.specs.Causes.{ArePicksOf, HasNoPicks, HasNoStream, HasNoStreams, IsBadLine, IsNoCommand, IsRefusedBy, IsStopped, IsStreamOf, IsUnread, LeadsWhereTold, WhereTold, source_of};
+ghost use Rattle.sq_top.specs.Scripts.{Done, Replay, accepted, after_streams, capacities_script, picks_script, readable, script_of, with_sources};
+ghost use Rattle.sq_top.specs.Causes.{AreCapacitiesOf, ArePicksOf, HasNoCapacities, HasNoPicks, HasNoStream, HasNoStreams, IsBadLine, IsNoCommand, IsRefusedBy, IsStopped, IsStreamOf, IsUnread, LeadsWhereTold, WhereTold, source_of};
 ghost use Rattle.sq_top.specs.Messages.{network_named};
 ghost use Rattle.sq_top.specs.Views.{replay_of};
 ghost use Rattle.sq_top.specs.Recorded.{AreRecorded};
@@ -15,13 +16,14 @@ use crate::words::read_words;
 use crate::{Command, RunArgs, Status, WordsErr};
 use sq_net::{NetErr, Network, Source};
 use sq_outside::{Folder, FolderErr};
+use sq_plan::Capacities;
 use sq_reader::read_network;
-use sq_replay::{LineErr, StreamErr, Why, read_picks, read_stream};
+use sq_replay::{LineErr, StreamErr, Why, read_capacities, read_picks, read_stream};
 use sq_sched::Rule;
 use sq_value::{Name, Tuple, copy_name};
 use std::alloc::Global;
 
-/// How many bytes a network or picks file may have.
+/// How many bytes a network, capacity or picks file may have.
 const SETTINGS_LIMIT: u64 = 1_048_576;
 
 /// How many bytes a stream may have.
@@ -84,7 +86,8 @@ fn network_for<F: Folder>(
 ) -> Result<(RunArgs, Network), Status>
     ensures command { IfOk result (λ r. command_in (map string_bytes words.now.items) ≡ Some (Command.Run r.0)) }
     ensures sound { IfOk result (λ r. IsSound r.1) }
-    ensures leads { IfOk result (λ r. LeadsWhereTold (F.files folder.old) (script_of (map string_bytes words.now.items)) (picks_script r.0 r.1 (r.0).picks)) }
+    ensures limits { IfOk result (λ r. KeepsDropLimits r.1) }
+    ensures leads { IfOk result (λ r. LeadsWhereTold (F.files folder.old) (script_of (map string_bytes words.now.items)) (capacities_script r.0 r.1 (r.0).capacities)) }
     ensures named { IfOk result (λ r. WhereTold (F.files folder.old) (λ files. network_named (file files) (command_in (map string_bytes words.now.items)) ≡ Some r.1)) }
     ensures stopped { IfErr result (λ s. IsStopped (map string_bytes words.now.items) (F.files folder.old) (F.faults folder.old) (F.faults folder.new) (F.taken folder.old) (F.taken folder.new) s []) }
     ensures files { F.files folder.new ≡ F.files folder.old }
@@ -101,6 +104,70 @@ fn network_for<F: Folder>(
     match read_network(alloc, bytes.as_slice()) {
         Ok(network) => Ok((args, network)),
         Err(e) => Err(refused_by(e)),
+    }
+}
+
+/// The capacities of the file with this name, or the status of a run that doesn't get them.
+fn capacities_in<F: Folder>(
+    alloc: Global,
+    name: &Name,
+    folder: &mut F,
+) -> Result<Capacities, Status>
+    ensures capacities { IfOk result (λ c. AreCapacitiesOf (F.files folder.old) (Some name.now) c) }
+    ensures missing { IfErr result (λ s. HasNoCapacities (F.files folder.old) (Some name.now) (F.faults folder.old) (F.faults folder.new) (F.taken folder.old) (F.taken folder.new) s) }
+    ensures files { F.files folder.new ≡ F.files folder.old }
+    ensures later { (F.faults folder.old ≤ F.faults folder.new) × (F.taken folder.old ≤ F.taken folder.new) }
+{
+    let bytes = match read_file(alloc, folder, name, SETTINGS_LIMIT) {
+        Ok(bytes) => bytes,
+        Err(status) => return Err(status),
+    };
+    match read_capacities(alloc, bytes.as_slice()) {
+        Ok(capacities) => Ok(capacities),
+        Err(LineErr::Bad { line }) => Err(Status::BadCapacities { line }),
+        Err(LineErr::Memory) => Err(Status::Memory),
+    }
+}
+
+/// The capacities, where a file of them is named; else there are none.
+fn capacities_for<F: Folder>(
+    alloc: Global,
+    name: &Option<Name>,
+    folder: &mut F,
+) -> Result<Capacities, Status>
+    ensures capacities { IfOk result (λ c. AreCapacitiesOf (F.files folder.old) name.now c) }
+    ensures missing { IfErr result (λ s. HasNoCapacities (F.files folder.old) name.now (F.faults folder.old) (F.faults folder.new) (F.taken folder.old) (F.taken folder.new) s) }
+    ensures files { F.files folder.new ≡ F.files folder.old }
+    ensures later { (F.faults folder.old ≤ F.faults folder.new) × (F.taken folder.old ≤ F.taken folder.new) }
+{
+    match name {
+        Some(name) => capacities_in(alloc, name, folder),
+        None => Ok(Capacities::new(Vec::new(alloc))),
+    }
+}
+
+/// What the words ask for, the network that they name and the capacities, or the status of a run that has them not.
+fn limits_for<F: Folder>(
+    alloc: Global,
+    words: &Vec<String>,
+    folder: &mut F,
+) -> Result<(RunArgs, Network, Capacities), Status>
+    ensures command { IfOk result (λ r. command_in (map string_bytes words.now.items) ≡ Some (Command.Run r.0)) }
+    ensures sound { IfOk result (λ r. IsSound r.1) }
+    ensures limits { IfOk result (λ r. KeepsDropLimits r.1) }
+    ensures leads { IfOk result (λ r. LeadsWhereTold (F.files folder.old) (script_of (map string_bytes words.now.items)) (picks_script r.0 r.1 r.2 (r.0).picks)) }
+    ensures named { IfOk result (λ r. WhereTold (F.files folder.old) (λ files. network_named (file files) (command_in (map string_bytes words.now.items)) ≡ Some r.1)) }
+    ensures stopped { IfErr result (λ s. IsStopped (map string_bytes words.now.items) (F.files folder.old) (F.faults folder.old) (F.faults folder.new) (F.taken folder.old) (F.taken folder.new) s []) }
+    ensures files { F.files folder.new ≡ F.files folder.old }
+    ensures later { (F.faults folder.old ≤ F.faults folder.new) × (F.taken folder.old ≤ F.taken folder.new) }
+{
+    let (args, network) = match network_for(alloc, words, folder) {
+        Ok(named) => named,
+        Err(status) => return Err(status),
+    };
+    match capacities_for(alloc, &args.capacities, folder) {
+        Ok(capacities) => Ok((args, network, capacities)),
+        Err(status) => Err(status),
     }
 }
 
@@ -231,6 +298,7 @@ pub struct Accepted {
     pub network: Network,
     /// The tuples of each source.
     pub sources: Vec<Vec<Tuple>>,
+    pub capacities: Capacities,
     pub seed: u64,
     pub rule: Rule,
     pub picks: Vec<u32>,
@@ -245,6 +313,7 @@ pub fn prepare<F: Folder>(
 ) -> Result<Accepted, Stopped>
     ensures command { IfOk result (λ _. IsSome (command_in (map string_bytes words.now.items))) }
     ensures sound { IfOk result (λ a. IsSound a.network) }
+    ensures limits { IfOk result (λ a. KeepsDropLimits a.network) }
     ensures recorded { IfOk result (λ a. AreRecorded a.network.sources (map (λ xs. xs.items) a.sources.items)) }
     ensures train { IfOk result (λ a. 1 ≤ a.train) }
     ensures accepted { IfOk result (λ a. WhereTold (F.files folder.old) (λ files. accepted (file files) (map string_bytes words.now.items) ≡ Ok (replay_of a))) }
@@ -252,7 +321,7 @@ pub fn prepare<F: Folder>(
     ensures files { F.files folder.new ≡ F.files folder.old }
     ensures later { (F.faults folder.old ≤ F.faults folder.new) × (F.taken folder.old ≤ F.taken folder.new) }
 {
-    let (args, network) = match network_for(alloc, words, folder) {
+    let (args, network, capacities) = match limits_for(alloc, words, folder) {
         Ok(named) => named,
         Err(status) => return Err(stopped_by(status)),
     };
@@ -264,6 +333,7 @@ pub fn prepare<F: Folder>(
         Ok(sources) => Ok(Accepted {
             network,
             sources,
+            capacities,
             seed: args.seed,
             rule: args.rule,
             picks,

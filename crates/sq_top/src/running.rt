@@ -1,15 +1,17 @@
 // A run, but for its message, and the message.
-ghost use Rattle.std.specs.Prelude.{◌≡◌, ◌⊎◌, ◌+◌, ◌^◌, ◌≤◌, IfErr, OnErr, OnOk, map};
+ghost use Rattle.std.specs.Prelude.{◌≡◌, ◌⊎◌, ℕ, ◌+◌, ◌^◌, ◌≤◌, [], IfErr, IfOk, OnErr, OnOk, Option, map};
 ghost use Rattle.std.specs.String.{string_bytes};
 ghost use Rattle.sq_outside.specs.Faults.{Rose};
 ghost use Rattle.sq_value.specs.Lists.{IsPrefixOf};
 ghost use Rattle.sq_net.specs.Sound.{IsSound};
-ghost use Rattle.sq_model.specs.Fed.{work_of};
+ghost use Rattle.sq_points.specs.Limits.{KeepsDropLimits};
+ghost use Rattle.sq_outside.specs.Disks.{Pages};
 ghost use Rattle.sq_queue.specs.Faces.{Tells};
+ghost use Rattle.sq_core.specs.Runs.{IsRun, IsSoundEngine};
 ghost use Rattle.sq_top.specs.Answers.{IsPrefixText, IsWholeText};
 ghost use Rattle.sq_top.specs.Causes.{AppendsSuch, Ends, TellsStatus, source_of};
 ghost use Rattle.sq_top.specs.Driving.{IsCutShort};
-ghost use Rattle.sq_top.specs.Due.{due_of};
+ghost use Rattle.sq_top.specs.Due.{due_of, replayed, turns_in, work_in};
 ghost use Rattle.sq_top.specs.Recorded.{AreRecorded};
 ghost use Rattle.sq_top.specs.Views.{replay_of};
 
@@ -36,6 +38,31 @@ fn spare_disk(alloc: Global) -> MemDisk
     MemDisk::new(alloc, Vec::new(alloc), Vec::new(alloc))
 }
 
+/// The engine of what was accepted, and the policy that it is driven by.
+pub(crate) fn start(alloc: Global, accepted: Accepted) -> Result<(Engine, Policy), Status>
+    requires sound { IsSound accepted.network }
+    requires limits { KeepsDropLimits accepted.network }
+    requires recorded { AreRecorded accepted.network.sources (map (λ xs. xs.items) accepted.sources.items) }
+    requires train { 1 ≤ accepted.train }
+    ensures sound { IfOk result (λ e. IsSoundEngine e.0) }
+    ensures run { IfOk result (λ e. (pages : Option Pages) (steps : ℕ) → IsRun (replayed (replay_of accepted)) pages e.0 [] steps steps) }
+    ensures memory { IfErr result (λ s. s ≡ Status.Memory) }
+{
+    let Accepted {
+        network,
+        sources,
+        capacities,
+        seed,
+        rule,
+        picks,
+        train,
+    } = accepted;
+    match Engine::new(alloc, network, sources, capacities, seed, FRAMES) {
+        Ok(engine) => Ok((engine, Policy::new(rule, picks, seed, train))),
+        Err(_) => Err(Status::Memory),
+    }
+}
+
 /// Replays what was accepted under its schedule, and writes all lines of it.
 fn replay<S: Sink, L: Ledger>(
     alloc: Global,
@@ -44,30 +71,22 @@ fn replay<S: Sink, L: Ledger>(
     steps: &mut Steps<L>,
 ) -> Result<(), Status>
     requires sound { IsSound accepted.network }
+    requires limits { KeepsDropLimits accepted.network }
     requires recorded { AreRecorded accepted.network.sources (map (λ xs. xs.items) accepted.sources.items) }
     requires train { 1 ≤ accepted.train }
     ensures ok { OnOk result (AppendsSuch (S.written out.old) (S.written out.new) (IsWholeText (due_of (replay_of accepted)))) }
     ensures err { OnErr result (AppendsSuch (S.written out.old) (S.written out.new) (IsPrefixText (due_of (replay_of accepted)))) }
-    ensures steps { OnOk result (steps.new ≡ steps.old + work_of accepted.network (map (λ xs. xs.items) accepted.sources.items)) }
-    ensures fewer { OnErr result (steps.new ≤ steps.old + work_of accepted.network (map (λ xs. xs.items) accepted.sources.items)) }
+    ensures steps { OnOk result (steps.new ≡ steps.old + work_in (replayed (replay_of accepted))) }
+    ensures fewer { OnErr result (steps.new ≤ steps.old + work_in (replayed (replay_of accepted))) }
     ensures cut { IfErr result (λ s. IsCutShort (S.faults out.old) (S.faults out.new) s) }
-    ensures too_much { IfErr result (λ s. s ≡ Status.TooMuch → 2 ^ 62 ≤ work_of accepted.network (map (λ xs. xs.items) accepted.sources.items)) }
+    ensures too_much { IfErr result (λ s. s ≡ Status.TooMuch → 2 ^ 62 ≤ turns_in (replayed (replay_of accepted))) }
     ensures later { S.faults out.old ≤ S.faults out.new }
 {
-    let Accepted {
-        network,
-        sources,
-        seed,
-        rule,
-        picks,
-        train,
-    } = accepted;
     let mut disk = spare_disk(alloc);
-    let engine = match Engine::new(alloc, network, sources, seed, FRAMES) {
-        Ok(engine) => engine,
-        Err(_) => return Err(Status::Memory),
+    let (engine, policy) = match start(alloc, accepted) {
+        Ok(started) => started,
+        Err(status) => return Err(status),
     };
-    let policy = Policy::new(rule, picks, seed, train);
     match drive(alloc, engine, policy, &mut disk, out, steps) {
         Ok(engine) => write_ends(alloc, &engine, out),
         Err(status) => Err(status),

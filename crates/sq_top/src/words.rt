@@ -36,6 +36,7 @@ struct Given<'a> {
 #[derive(Clone, Copy, Drop)]
 struct Wanted<'a> {
     net: &'a str,
+    capacities: Option<&'a str>,
     seed: u64,
     rule: Rule,
     picks: Option<&'a str>,
@@ -120,7 +121,8 @@ fn is_known(option: Option<&str>) -> bool
     match option {
         None => true,
         Some(name) => {
-            same_text(name, "seed")
+            same_text(name, "capacities")
+                || same_text(name, "seed")
                 || same_text(name, "policy")
                 || same_text(name, "picks")
                 || same_text(name, "train")
@@ -236,6 +238,7 @@ fn wanted_of<'a>(given: &[Given<'a>]) -> Option<Wanted<'a>>
     ensures { option_map wanted_view result ≡ args_of (map given_view given.now) }
 {
     let net = value_of(given, None)??;
+    let capacities = value_of(given, Some("capacities"))?;
     let seed = value_of(given, Some("seed"))?;
     let policy = value_of(given, Some("policy"))?;
     let picks = value_of(given, Some("picks"))?;
@@ -245,6 +248,7 @@ fn wanted_of<'a>(given: &[Given<'a>]) -> Option<Wanted<'a>>
     let rule = rule_of(policy, picks)?;
     Some(Wanted {
         net,
+        capacities,
         seed,
         rule,
         picks,
@@ -266,6 +270,7 @@ fn args_from(alloc: Global, wanted: Wanted<'_>) -> Result<RunArgs, AllocError>
 {
     Ok(RunArgs {
         net: Name::new(alloc, wanted.net)?,
+        capacities: copied(alloc, wanted.capacities)?,
         seed: wanted.seed,
         rule: wanted.rule,
         picks: copied(alloc, wanted.picks)?,
@@ -294,8 +299,8 @@ fn run_args(alloc: Global, words: &[String]) -> Result<RunArgs, WordsErr>
     }
 }
 
-/// What words ask for: `run NET [--seed N] [--policy rr|long|seeded] [--picks FILE] [--train N]`, where each option stands
-/// once at most, as `--name value` or `--name=value`, and a policy excludes picks. A seed has 64 bits, a train is 1 to 4096.
+/// What words ask for: `run NET [--capacities FILE] [--seed N] [--policy rr|long|seeded] [--picks FILE] [--train N]`, where each
+/// option stands once at most, as `--name value` or `--name=value`, and a policy excludes picks. A seed has 64 bits, a train is 1 to 4096.
 pub fn read_words(alloc: Global, words: &Vec<String>) -> Result<Command, WordsErr>
     ensures command { IfOk result (λ c. command_in (map string_bytes words.now.items) ≡ Some c) }
     ensures usage { result ≡ Err WordsErr.Usage → command_in (map string_bytes words.now.items) ≡ None }

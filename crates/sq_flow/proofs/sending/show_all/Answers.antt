@@ -11,6 +11,7 @@ loop-port-preserved c =
       all = moved-on c.loop-port.yielded _ _ _ _ c.loop-port.invariant.all c.in-Some.ensures.steps.0;
       shown = λ o. shown-next o c.args.output c.loop-port.yielded (c.in-Some.port, c.in-Some.item) _ _ _ (c.loop-port.invariant.shown o) (c.in_ok-show_one.ensures.shown o);
       below = λ outputs low h. c.in_ok-show_one.ensures.below outputs low (c.loop-port.invariant.below outputs low h);
+      plans = c.in_ok-show_one.ensures.plans ∙ c.loop-port.invariant.plans;
     }
 
 pub returns-in_err-show_one-clause-prefix : goal.returns-in_err-show_one-clause-prefix

@@ -1,7 +1,8 @@
 use Rattle.std.proofs.Common.{◌≡◌, ℕ, ◌++◌, ◌<◌, [], cond, eqb}
 use Rattle.std.specs.Vec.Iter.{drain_items}
 use Rattle.sq_oper.specs.Given.{given}
-use Rattle.sq_flow.specs.Events.{bodies, lines_of, ShowsBelow}
+use Rattle.sq_flow.specs.Events.{bodies, lines_of, ShowsIn}
+use Rattle.sq_flow.specs.Plans.{plans_of}
 use Rattle.sq_flow.proofs.sending.show_all.Given as goal
 
 abbrev pub invariant-loop-port : goal.invariant-loop-port
@@ -9,5 +10,6 @@ invariant-loop-port l =
     record {
       all : l.yielded ++ drain_items l.port-iterator ≡ l.fn.items.items;
       shown : (o : ℕ) → lines_of o l.events.items ≡ lines_of o l.initial.events.items ++ cond (eqb l.output o) (bodies (given 0 l.yielded)) [];
-      below : (outputs : ℕ) → l.output < outputs → ShowsBelow outputs l.initial.events.items l.events.items;
+      below : (outputs : ℕ) → l.output < outputs → ShowsIn outputs 0 l.initial.events.items l.events.items;
+      plans : plans_of l.events.items ≡ plans_of l.initial.events.items;
     }

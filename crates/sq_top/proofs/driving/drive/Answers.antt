@@ -25,19 +25,19 @@ steps-preserved g c =
     }
 
 pub returns-in-Err-clause-err : goal.returns-in-Err-clause-err
-returns-in-Err-clause-err g c n sources begun told run =
-    let before = c.steps.invariant in drive_stops _ _ _ _ _ _ _ _ _ before.goes before.tells n sources begun told run _ _ _ c.in-Err.ensures.err
+returns-in-Err-clause-err g c r begun told run =
+    let before = c.steps.invariant in drive_stops _ _ _ _ _ _ _ _ _ before.goes before.tells r begun told run _ _ _ c.in-Err.ensures.err
 
 pub returns-in-Ok-send-clause-ok : goal.returns-in-Ok-send-clause-ok
-returns-in-Ok-send-clause-ok g c n sources begun told run =
+returns-in-Ok-send-clause-ok g c r begun told run =
     let before = c.steps.invariant in
-    drive_ends _ _ _ _ _ _ _ _ _ before.goes before.tells n sources begun told run _ _ c.in-Ok-send.ensures.ok c.in-Ok-send.ensures.none_waits
-    (λ history now. c.all_shown.ensures n sources (g.D.PageDisk.pages c.steps.disk) history begun c.steps.steps (before.tells ∙ told) now)
+    drive_ends _ _ _ _ _ _ _ _ _ before.goes before.tells r begun told run _ _ c.in-Ok-send.ensures.ok c.in-Ok-send.ensures.none_waits
+    (λ history now. c.all_shown.ensures r (g.D.PageDisk.pages c.steps.disk) history begun c.steps.steps (before.tells ∙ told) now)
 
 pub returns-in-Err-send-clause-err : goal.returns-in-Err-send-clause-err
-returns-in-Err-send-clause-err g c n sources begun told run =
+returns-in-Err-send-clause-err g c r begun told run =
     let before = c.steps.invariant in
-    drive_lost _ _ _ _ _ _ _ _ _ before.goes before.tells n sources begun told run _ _ _ _ c.in-Err-send.ensures.err c.in-Err-send.ensures.lost
+    drive_lost _ _ _ _ _ _ _ _ _ before.goes before.tells r begun told run _ _ _ _ c.in-Err-send.ensures.err c.in-Err-send.ensures.lost
 
 pub all_shown-requires-clause-done : goal.all_shown-requires-clause-done
 all_shown-requires-clause-done g c = c.steps-test.ensures.done c.steps.invariant.sound.engine.running refl

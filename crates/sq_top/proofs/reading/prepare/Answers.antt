@@ -9,7 +9,7 @@ pub returns-in-Err-picks_for-clause-stopped : goal.returns-in-Err-picks_for-clau
 returns-in-Err-picks_for-clause-stopped g c =
     let words = map string_bytes c.args.words.now.items in
     rw (c.stopped_by-in-Err-picks_for.ensures.0, c.stopped_by-in-Err-picks_for.ensures.1)
-    (stopped_picks words c.in-Ok.named.0 c.in-Ok.ensures.command (g.F.Folder.files c.args.folder.now) c.in-Ok.named.1 c.in-Ok.ensures.leads _ _ _ _ c.in-Err-picks_for.status _
+    (stopped_picks words c.in-Ok.named.0 c.in-Ok.ensures.command (g.F.Folder.files c.args.folder.now) c.in-Ok.named.1 c.in-Ok.named.2 c.in-Ok.ensures.leads _ _ _ _ c.in-Err-picks_for.status _
     (no_picks_later _ _ _ _ _ _ _ _ (c.in-Ok.named.0).picks c.in-Ok.ensures.later.0 c.in-Ok.ensures.later.1 (rw c.in-Ok.ensures.files at c.in-Err-picks_for.ensures.missing)))
 
 pub returns-in-Ok-streams_of-clause-accepted : goal.returns-in-Ok-streams_of-clause-accepted
@@ -18,10 +18,10 @@ returns-in-Ok-streams_of-clause-accepted g c =
     let args = c.in-Ok.named.0 in
     let n = c.in-Ok.named.1 in
     let told = g.F.Folder.files c.args.folder.now in
-    let start = unread args n c.in-Ok-picks_for.picks.items in
+    let start = unread args n c.in-Ok.named.2 c.in-Ok-picks_for.picks.items in
     let r = with_sources start (map (λ xs. xs.items) c.in-Ok-streams_of.sources.items) in
     let same = c.in-Ok-picks_for.ensures.files ∙ c.in-Ok.ensures.files in
-    let leads = picks_leads words args c.in-Ok.ensures.command told n c.in-Ok.ensures.leads c.in-Ok-picks_for.picks.items (rw c.in-Ok.ensures.files at c.in-Ok-picks_for.ensures.picks) in
+    let leads = picks_leads words args c.in-Ok.ensures.command told n c.in-Ok.named.2 c.in-Ok.ensures.leads c.in-Ok-picks_for.picks.items (rw c.in-Ok.ensures.files at c.in-Ok-picks_for.ensures.picks) in
     accepted_streams words told r (is_command words args c.in-Ok.ensures.command told) leads c.in-Ok.ensures.named (rw same at (c.in-Ok-streams_of.ensures.leads start))
 
 pub returns-clause-stopped : goal.returns-clause-stopped
@@ -30,9 +30,9 @@ returns-clause-stopped g c =
     let args = c.in-Ok.named.0 in
     let n = c.in-Ok.named.1 in
     let told = g.F.Folder.files c.args.folder.now in
-    let r = unread args n c.in-Ok-picks_for.picks.items in
+    let r = unread args n c.in-Ok.named.2 c.in-Ok-picks_for.picks.items in
     let same = c.in-Ok-picks_for.ensures.files ∙ c.in-Ok.ensures.files in
-    let leads = picks_leads words args c.in-Ok.ensures.command told n c.in-Ok.ensures.leads c.in-Ok-picks_for.picks.items (rw c.in-Ok.ensures.files at c.in-Ok-picks_for.ensures.picks) in
+    let leads = picks_leads words args c.in-Ok.ensures.command told n c.in-Ok.named.2 c.in-Ok.ensures.leads c.in-Ok-picks_for.picks.items (rw c.in-Ok.ensures.files at c.in-Ok-picks_for.ensures.picks) in
     let faults : g.F.Folder.faults c.args.folder.now ≤ g.F.Folder.faults c.picks_for.new.folder = omega (arith, c.in-Ok.ensures.later.0, c.in-Ok-picks_for.ensures.later.0) in
     let taken : g.F.Folder.taken c.args.folder.now ≤ g.F.Folder.taken c.picks_for.new.folder = omega (arith, c.in-Ok.ensures.later.1, c.in-Ok-picks_for.ensures.later.1) in
     stopped_streams words told r (is_command words args c.in-Ok.ensures.command told) leads c.in-Ok.ensures.named _ _ _ _ c.in-Err-streams_of.stopped.status _

@@ -1,8 +1,15 @@
-use Rattle.sq_core.proofs.EndLemmas.{shown-all}
+use Rattle.std.proofs.Common.{◌∙◌}
+use Rattle.sq_core.proofs.EndLemmas.{nothing-planned, shown-all}
 use Rattle.sq_core.proofs.engine.Engine.all_shown.Goals as goal
 
 pub returns : goal.returns
 returns c =
     shown-all c.args.self.now
-    (record { lines = c.nothing_left.ensures.lines; fed = c.nothing_left.ensures.fed; lost = c.nothing_left.ensures.lost; work = c.nothing_left.ensures.work })
+    (record {
+      lines = c.nothing_left.ensures.lines;
+      fed = c.nothing_left.ensures.fed;
+      lost = c.nothing_left.ensures.lost;
+      work = c.nothing_left.ensures.work;
+      plans = nothing-planned c.args.self.now c.requires.sound c.requires.done;
+    })
     c.requires.done

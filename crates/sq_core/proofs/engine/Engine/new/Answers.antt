@@ -10,5 +10,6 @@ returns-clause-run c = λ pages steps.
       sound = record { network = c.requires.sound; boxes = made.boxes; operators = made.operators; engine = made.engine };
       together = made.together pages;
       counted = omega (arith, none);
-      answers = λ told. made.answers pages;
+      plans = made.plans _;
+      answers = λ told. made.answers _ pages;
     }

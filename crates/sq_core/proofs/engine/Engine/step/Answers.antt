@@ -10,7 +10,7 @@ returns-clause-run g c =
 pub returns-clause-stopped : goal.returns-clause-stopped
 returns-clause-stopped g c =
     stopped-clause (g.D.PageDisk.pages c.args.disk.now) (g.D.PageDisk.pages c.step.new.disk) c.args.self.now (record c.args.self.now { engine = c.step.new.self })
-    c.args.events.now.items c.step.new.events.items c.args.steps.now c.step.new.steps refl c.step.result c.step.ensures.prefix c.step.ensures.cost_err c.step.ensures.strange c.step.ensures.too_much c.step.ensures.closes
+    c.args.events.now.items c.step.new.events.items c.args.steps.now c.step.new.steps refl c.step.result c.step.ensures.prefix c.step.ensures.plans c.step.ensures.cost_err c.step.ensures.strange c.step.ensures.too_much
 
 pub returns-clause-shows : goal.returns-clause-shows
 returns-clause-shows g c =

@@ -1,9 +1,12 @@
-use Rattle.sq_flow.proofs.StepLemmas.{stepped-both, prefix-after, none-strange-after}
+use Rattle.sq_flow.proofs.StepLemmas.{stepped-both, prefix-after, plans-after, none-strange-after}
 use Rattle.sq_flow.proofs.engine.Engine.run.Goals as goal
 
 pub returns-in-Err-clause-prefix : goal.returns-in-Err-clause-prefix
 returns-in-Err-clause-prefix g c =
     prefix-after _ _ _ _ _ _ _ _ c.loop-pick.invariant.stepped c.pick.new.self.flow.levels c.pick.new.events.items c.in-Err.ensures.closes c.in-Err.ensures.prefix
+
+pub returns-in-Err-clause-plans : goal.returns-in-Err-clause-plans
+returns-in-Err-clause-plans g c = plans-after _ _ _ _ _ _ _ _ c.loop-pick.invariant.stepped c.pick.new.self.flow.levels c.pick.new.events.items c.in-Err.ensures.plans
 
 pub returns-in-Err-clause-strange : goal.returns-in-Err-clause-strange
 returns-in-Err-clause-strange g c = none-strange-after _ _ _ _ _ _ _ _ c.loop-pick.invariant.stepped c.in-Err.e c.in-Err.ensures.strange

@@ -76,7 +76,7 @@ returns-clause-ok g c =
     (slice_get-set_same c.args.self.now.seats.items c.args.actor c.feed_seat.new.seat c.requires.actor_in)
     (λ other ne. slice_get-set_other c.args.self.now.seats.items c.args.actor other c.feed_seat.new.seat ne)
     (length-set c.args.self.now.seats.items c.args.actor c.feed_seat.new.seat) c.requires.running c.in_ok-give.ensures.sent c.in_ok-give.ensures.shown
-    (c.in_ok-give.ensures.below (length c.args.self.now.seats.items - c.args.self.now.wires.shown) (below-outputs c.args.actor (length c.args.self.now.seats.items) c.args.self.now.wires.shown c.requires.actor_in))
+    (c.in_ok-give.ensures.below (length c.args.self.now.seats.items - c.args.self.now.wires.shown) (below-outputs c.args.actor (length c.args.self.now.seats.items) c.args.self.now.wires.shown c.requires.actor_in)) c.in_ok-give.ensures.plans
 
 pub returns-clause-measure : goal.returns-clause-measure
 returns-clause-measure g c =

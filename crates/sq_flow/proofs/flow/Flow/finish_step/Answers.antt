@@ -32,7 +32,7 @@ returns-clause-ok g c =
     (λ other ne. slice_get-set_other c.args.self.now.seats.items c.args.actor other c.finish_seat.new.seat ne)
     (length-set c.args.self.now.seats.items c.args.actor c.finish_seat.new.seat)
     c.in_ok-give.ensures.sent c.end_arcs.ensures.size c.end_arcs.ensures.ended c.end_arcs.ensures.items c.end_arcs.ensures.together c.in_ok-give.ensures.shown
-    (c.in_ok-give.ensures.below (length c.args.self.now.seats.items - c.args.self.now.wires.shown) (below-outputs c.args.actor (length c.args.self.now.seats.items) c.args.self.now.wires.shown c.requires.actor_in))
+    (c.in_ok-give.ensures.below (length c.args.self.now.seats.items - c.args.self.now.wires.shown) (below-outputs c.args.actor (length c.args.self.now.seats.items) c.args.self.now.wires.shown c.requires.actor_in)) c.in_ok-give.ensures.plans
 
 pub returns-clause-measure : goal.returns-clause-measure
 returns-clause-measure g c =

@@ -1,11 +1,7 @@
 use Rattle.std.proofs.Common.{refl}
 use Rattle.sq_flow.proofs.FedFlow.{costs-none}
-use Rattle.std.proofs.lemmas.Result.{on_ok_weaker}
 use Rattle.sq_oper.proofs.GivenLemmas.{OnErr-from}
 use Rattle.sq_flow.proofs.flow.Flow.one_step.Goals as goal
-
-pub returns-then-actor-self-clause-ok : goal.returns-then-actor-self-clause-ok
-returns-then-actor-self-clause-ok g c = on_ok_weaker c.replay_step.result (λ h. h c.args.events.now.items) c.replay_step.ensures.ok
 
 pub returns-then-actor-self-clause-cost_err : goal.returns-then-actor-self-clause-cost_err
 returns-then-actor-self-clause-cost_err g c =

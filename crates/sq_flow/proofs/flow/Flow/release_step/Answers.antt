@@ -1,52 +1,115 @@
-use Rattle.std.proofs.Common.{length-set, refl, ap, ◌∙◌, arith}
+use Rattle.std.proofs.Common.{◌≡◌, ℕ, ◌+◌, ◌-◌, ◌/◌, ◌<◌, length, set, refl, ap, sym, ◌∙◌, subst, arith}
 use Rattle.std.specs.Vec.{with_item}
-use Rattle.std.proofs.lemmas.Option.{slice_get_read}
-use Rattle.sq_flow.specs.Flows.{tuples_at}
+use Rattle.std.proofs.lemmas.Option.{slice_get_read, get_or_from_slice_get}
+use Rattle.std.proofs.lemmas.Result.{err_from_is_err_and}
+use Rattle.sq_road.specs.Levels.{Agrees}
+use Rattle.sq_plan.specs.Shown.{level_for, Ended}
 use Rattle.sq_flow.proofs.WireLemmas.{arcs-open}
-use Rattle.sq_flow.proofs.FutureLemmas.{slice_get-set_same, slice_get-set_other}
-use Rattle.sq_flow.proofs.ReplayFlow.{replay-open, replay-runs, item-sound, released-stepped, released-touches, count-less}
+use Rattle.sq_flow.proofs.ReleasedPlans.{ClosedBefore, mid-len, plans-front, plans-none}
+use Rattle.sq_flow.proofs.ReplayFlow.{replay-open, replay-runs, item-sound, released-stepped, released-touches, lines-stay, count-less}
 use Rattle.sq_flow.proofs.flow.Flow.release_step.Goals as goal
+
+pub returns-in_err-close_before-clause-prefix : goal.returns-in_err-close_before-clause-prefix
+returns-in_err-close_before-clause-prefix g c =
+    let p = err_from_is_err_and c.from_residual.result c.from_residual.ensures.1 in
+    rw p.1 (lines-stay _ (g.D.PageDisk.pages c.args.disk.now) c.args.self.now c.close_before.new.levels c.args.events.now.items c.close_before.new.events.items c.in_err-close_before.ensures.lines)
+
+pub returns-in_err-close_before-clause-plans : goal.returns-in_err-close_before-clause-plans
+returns-in_err-close_before-clause-plans g c =
+    let sources = c.args.self.now.sources.items in
+    let at = slice_get_read sources _ c.args.source c.index_mut.result.now refl c.requires.next.there c.index_mut.ensures.value in
+    let pos : 0 < c.args.self.now.levels.epoch = omega (arith, c.epoch.ensures.epoch, c.epoch.ensures.lasts) in
+    let p = err_from_is_err_and c.from_residual.result c.from_residual.ensures.1 in
+    rw p.1
+    (plans-none _ _ c.args.self.now c.requires.flow pos c.args.source c.index_mut.result.now c.first_of-tuple.new.tuples c.first_of-tuple.result c.requires.next at c.first_of-tuple.ensures c.close_before.new.levels c.args.events.now.items c.close_before.new.events.items
+    (λ all. subst (λ (n : ℕ). (c.args.self.now.levels.closed < c.first_of-tuple.result.time / n + 1 → Ended all (c.args.self.now.levels.closed - 1) (c.first_of-tuple.result.time / n) c.args.self.now.counts.items)
+    → Agrees c.args.self.now.levels (level_for c.args.self.now.planner all) → Agrees c.close_before.new.levels (level_for c.args.self.now.planner all)) c.epoch.ensures.epoch (c.in_err-close_before.ensures.agrees all))
+    c.in_err-close_before.ensures.err)
 
 pub send_one-requires-clause-there : goal.send_one-requires-clause-there
 send_one-requires-clause-there g c =
     let sources = c.args.self.now.sources.items in
     let at = slice_get_read sources _ c.args.source c.index_mut.result.now refl c.requires.next.there c.index_mut.ensures.value in
-    let front = ap tuples_at at ∙ c.first_of-tuple.ensures in
+    let pos : 0 < c.args.self.now.levels.epoch = omega (arith, c.epoch.ensures.epoch, c.epoch.ensures.lasts) in
     arcs-open _ _ c.args.self.now c.requires.flow c.args.self.now.wires.replay
-    (replay-open _ _ c.args.self.now c.requires.flow
-    (replay-runs _ _ c.args.self.now c.requires.flow (with_item c.args.self.now.sources c.args.source c.first_of-tuple.new.tuples) c.args.source c.first_of-tuple.result c.first_of-tuple.new.tuples c.requires.next front
-    (slice_get-set_same sources c.args.source c.first_of-tuple.new.tuples c.requires.next.there)
-    (λ other ne. slice_get-set_other sources c.args.source other c.first_of-tuple.new.tuples ne))) c.args.source
+    (replay-open _ _ c.args.self.now c.requires.flow (replay-runs _ _ c.args.self.now c.requires.flow pos c.args.source c.index_mut.result.now c.first_of-tuple.new.tuples c.first_of-tuple.result c.requires.next at c.first_of-tuple.ensures)) c.args.source
 
 pub send_one-requires-clause-sound : goal.send_one-requires-clause-sound
 send_one-requires-clause-sound g c =
     let sources = c.args.self.now.sources.items in
     let at = slice_get_read sources _ c.args.source c.index_mut.result.now refl c.requires.next.there c.index_mut.ensures.value in
-    let front = ap tuples_at at ∙ c.first_of-tuple.ensures in
-    item-sound _ _ c.args.self.now c.requires.flow (with_item c.args.self.now.sources c.args.source c.first_of-tuple.new.tuples) c.args.source c.first_of-tuple.result c.first_of-tuple.new.tuples c.requires.next front
-    (slice_get-set_same sources c.args.source c.first_of-tuple.new.tuples c.requires.next.there)
-    (λ other ne. slice_get-set_other sources c.args.source other c.first_of-tuple.new.tuples ne)
+    let pos : 0 < c.args.self.now.levels.epoch = omega (arith, c.epoch.ensures.epoch, c.epoch.ensures.lasts) in
+    item-sound _ _ c.args.self.now c.requires.flow pos c.args.source c.index_mut.result.now c.first_of-tuple.new.tuples c.first_of-tuple.result c.requires.next at c.first_of-tuple.ensures
 
-pub returns-clause-ok : goal.returns-clause-ok
-returns-clause-ok g c = λ events.
+pub returns-in_err-send_one-clause-prefix : goal.returns-in_err-send_one-clause-prefix
+returns-in_err-send_one-clause-prefix g c =
+    let p = err_from_is_err_and c.from_residual-in_err-send_one.result c.from_residual-in_err-send_one.ensures.1 in
+    rw p.1 (lines-stay _ (g.D.PageDisk.pages c.args.disk.now) c.args.self.now c.close_before.new.levels c.args.events.now.items c.close_before.new.events.items c.in_ok-close_before.ensures.lines)
+
+pub returns-in_err-send_one-clause-plans : goal.returns-in_err-send_one-clause-plans
+returns-in_err-send_one-clause-plans g c =
     let sources = c.args.self.now.sources.items in
     let at = slice_get_read sources _ c.args.source c.index_mut.result.now refl c.requires.next.there c.index_mut.ensures.value in
-    let front = ap tuples_at at ∙ c.first_of-tuple.ensures in
-    released-stepped _ _ c.args.self.now c.requires.flow (with_item c.args.self.now.sources c.args.source c.first_of-tuple.new.tuples) c.args.source c.first_of-tuple.result c.first_of-tuple.new.tuples c.requires.next front
-    (slice_get-set_same sources c.args.source c.first_of-tuple.new.tuples c.requires.next.there)
-    (λ other ne. slice_get-set_other sources c.args.source other c.first_of-tuple.new.tuples ne)
-    (g.D.PageDisk.pages c.args.disk.now) (g.D.PageDisk.pages c.send_one.new.disk) c.send_one.new.queues c.reach.new.levels events
-    c.requires.together (length-set sources c.args.source c.first_of-tuple.new.tuples) c.reach.ensures.rows c.reach.ensures.grows c.reach.ensures.closed c.in_ok-send_one.ensures
+    let pos : 0 < c.args.self.now.levels.epoch = omega (arith, c.epoch.ensures.epoch, c.epoch.ensures.lasts) in
+    let done = c.in_ok-close_before.ensures in
+    let did = subst (λ (n : ℕ). ClosedBefore c.args.self.now.planner c.close_before.new.planner c.args.self.now.levels c.close_before.new.levels c.args.self.now.counts.items c.close_before.new.counts.items
+    (c.first_of-tuple.result.time / n) c.args.events.now.items c.close_before.new.events.items) c.epoch.ensures.epoch
+    (record {
+      same = done.same;
+      epoch = done.epoch;
+      closed = done.closed;
+      keeps = done.keeps;
+      counts = done.counts;
+      agrees = done.agrees;
+      plans = done.plans;
+      lines = done.lines;
+      within = done.within;
+    }) in
+    let len = mid-len _ _ c.args.self.now c.requires.flow pos c.args.source c.index_mut.result.now c.first_of-tuple.new.tuples c.first_of-tuple.result c.requires.next at c.first_of-tuple.ensures _ _ _ _ _ did in
+    let within : c.args.source < length c.close_before.new.counts.items = omega (arith, len, c.requires.flow.counts, c.requires.next.there) in
+    let read = get_or_from_slice_get c.close_before.new.counts.items c.args.source c.index_mut-2.result.now 0
+    (slice_get_read c.close_before.new.counts.items _ c.args.source c.index_mut-2.result.now refl within c.index_mut-2.ensures.value) in
+    let counted = ap (λ n. set c.close_before.new.counts.items c.args.source (n + 1)) (sym read) in
+    let p = err_from_is_err_and c.from_residual-in_err-send_one.result c.from_residual-in_err-send_one.ensures.1 in
+    rw p.1
+    (plans-front _ _ c.args.self.now c.requires.flow pos c.args.source c.index_mut.result.now c.first_of-tuple.new.tuples c.first_of-tuple.result c.requires.next at c.first_of-tuple.ensures _ _ _ _ _ did
+    c.send_one.new.queues (with_item c.args.self.now.sources c.args.source c.first_of-tuple.new.tuples) (with_item c.close_before.new.counts c.args.source (c.index_mut-2.result.now + 1)) refl counted)
+
+pub returns-clause-ok : goal.returns-clause-ok
+returns-clause-ok g c =
+    let sources = c.args.self.now.sources.items in
+    let at = slice_get_read sources _ c.args.source c.index_mut.result.now refl c.requires.next.there c.index_mut.ensures.value in
+    let pos : 0 < c.args.self.now.levels.epoch = omega (arith, c.epoch.ensures.epoch, c.epoch.ensures.lasts) in
+    let done = c.in_ok-close_before.ensures in
+    let did = subst (λ (n : ℕ). ClosedBefore c.args.self.now.planner c.close_before.new.planner c.args.self.now.levels c.close_before.new.levels c.args.self.now.counts.items c.close_before.new.counts.items
+    (c.first_of-tuple.result.time / n) c.args.events.now.items c.close_before.new.events.items) c.epoch.ensures.epoch
+    (record {
+      same = done.same;
+      epoch = done.epoch;
+      closed = done.closed;
+      keeps = done.keeps;
+      counts = done.counts;
+      agrees = done.agrees;
+      plans = done.plans;
+      lines = done.lines;
+      within = done.within;
+    }) in
+    let len = mid-len _ _ c.args.self.now c.requires.flow pos c.args.source c.index_mut.result.now c.first_of-tuple.new.tuples c.first_of-tuple.result c.requires.next at c.first_of-tuple.ensures _ _ _ _ _ did in
+    let within : c.args.source < length c.close_before.new.counts.items = omega (arith, len, c.requires.flow.counts, c.requires.next.there) in
+    let read = get_or_from_slice_get c.close_before.new.counts.items c.args.source c.index_mut-2.result.now 0
+    (slice_get_read c.close_before.new.counts.items _ c.args.source c.index_mut-2.result.now refl within c.index_mut-2.ensures.value) in
+    let counted = ap (λ n. set c.close_before.new.counts.items c.args.source (n + 1)) (sym read) in
+    released-stepped _ _ c.args.self.now c.requires.flow pos c.args.source c.index_mut.result.now c.first_of-tuple.new.tuples c.first_of-tuple.result c.requires.next at c.first_of-tuple.ensures _ _ _ _ _ did
+    (with_item c.args.self.now.sources c.args.source c.first_of-tuple.new.tuples) (with_item c.close_before.new.counts c.args.source (c.index_mut-2.result.now + 1)) refl counted
+    (g.D.PageDisk.pages c.args.disk.now) (g.D.PageDisk.pages c.send_one.new.disk) c.send_one.new.queues c.requires.together c.in_ok-send_one.ensures
 
 pub returns-clause-touches : goal.returns-clause-touches
 returns-clause-touches g c =
     let sources = c.args.self.now.sources.items in
     let at = slice_get_read sources _ c.args.source c.index_mut.result.now refl c.requires.next.there c.index_mut.ensures.value in
-    let front = ap tuples_at at ∙ c.first_of-tuple.ensures in
-    released-touches _ _ c.args.self.now c.requires.flow (with_item c.args.self.now.sources c.args.source c.first_of-tuple.new.tuples) c.args.source c.first_of-tuple.result c.first_of-tuple.new.tuples c.requires.next front
-    (slice_get-set_same sources c.args.source c.first_of-tuple.new.tuples c.requires.next.there)
-    (λ other ne. slice_get-set_other sources c.args.source other c.first_of-tuple.new.tuples ne)
-    (g.D.PageDisk.pages c.args.disk.now) (g.D.PageDisk.pages c.send_one.new.disk) c.send_one.new.queues c.reach.new.levels _ _ c.in_ok-send_one.ensures
+    let pos : 0 < c.args.self.now.levels.epoch = omega (arith, c.epoch.ensures.epoch, c.epoch.ensures.lasts) in
+    released-touches _ _ c.args.self.now c.requires.flow pos c.args.source c.index_mut.result.now c.first_of-tuple.new.tuples c.first_of-tuple.result c.requires.next at c.first_of-tuple.ensures
+    (g.D.PageDisk.pages c.args.disk.now) (g.D.PageDisk.pages c.send_one.new.disk) c.send_one.new.queues _ _ c.close_before.new.levels _ _ _ c.in_ok-send_one.ensures
 
 pub returns-clause-measure : goal.returns-clause-measure
 returns-clause-measure g c =

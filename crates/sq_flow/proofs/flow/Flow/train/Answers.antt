@@ -1,13 +1,16 @@
 use Rattle.std.proofs.Common.{◌≡◌, subst, arith, inr}
 use Rattle.sq_flow.specs.Flows.{Lowers, measure_of}
 use Rattle.sq_flow.specs.Readiness.{IsReady, WaitsOnly}
-use Rattle.sq_flow.proofs.StepLemmas.{stepped-both, prefix-after, none-strange-after, costs-after, costs-most-after, too-much-after}
+use Rattle.sq_flow.proofs.StepLemmas.{stepped-both, prefix-after, plans-after, none-strange-after, costs-after, costs-most-after, too-much-after}
 use Rattle.sq_flow.proofs.TouchLemmas.{touches-both}
 use Rattle.sq_flow.proofs.flow.Flow.train.Goals as goal
 
 pub returns-in-Err-clause-prefix : goal.returns-in-Err-clause-prefix
 returns-in-Err-clause-prefix g c =
     prefix-after _ _ _ _ _ _ _ _ c.steps.invariant.stepped c.one_step.new.self.levels c.one_step.new.events.items c.in-Err.ensures.closes c.in-Err.ensures.prefix
+
+pub returns-in-Err-clause-plans : goal.returns-in-Err-clause-plans
+returns-in-Err-clause-plans g c = plans-after _ _ _ _ _ _ _ _ c.steps.invariant.stepped c.one_step.new.self.levels c.one_step.new.events.items c.in-Err.ensures.plans
 
 pub returns-in-Err-clause-closes : goal.returns-in-Err-clause-closes
 returns-in-Err-clause-closes g c = λ table agrees. c.steps.invariant.stepped.closes table (c.in-Err.ensures.closes table agrees)

@@ -1,0 +1,79 @@
+//! What is closed before a tuple of a later epoch is released.
+
+ghost use Rattle.std.specs.Prelude.{◌≡◌, ◌==◌, ℕ, ◌+◌, ◌-◌, ◌≤◌, ◌<◌, ◌++◌, ◌^◌, true, false, List, [], length, replicate, if◌then◌else◌, OnOk, OnErr, IfOk};
+ghost use Rattle.std.specs.List.{flat_map, range_with_len};
+ghost use Rattle.sq_road.specs.Levels.{level_of, Agrees};
+ghost use Rattle.sq_plan.specs.Flows.{AreCounts};
+ghost use Rattle.sq_plan.specs.Shown.{listed, level_for, shown_after, Ended};
+ghost use Rattle.sq_flow.specs.Events.{lines_of, ShowsIn};
+ghost use Rattle.sq_flow.specs.Plans.{plans_of};
+
+use sq_oper::Event;
+use sq_plan::{Planner, Shown, close_epochs};
+use sq_road::Levels;
+use sq_value::Tuple;
+use std::alloc::{AllocError, Global};
+use std::collections::VecDeque;
+
+/// Nothing is counted of any source.
+pub(crate) fn no_counts(
+    alloc: Global,
+    sources: &Vec<VecDeque<Tuple>>,
+) -> Result<Vec<u64>, AllocError>
+    ensures { IfOk result (λ v. v.items ≡ replicate (length sources.now.items) 0) }
+{
+    vec![in alloc; 0; sources.len()]
+}
+
+/// Shows a plan, if there is one.
+fn show_plan(plan: Option<Shown>, events: &mut Vec<Event>) -> Result<(), AllocError>
+    ensures plans { OnOk result (plans_of events.new.items ≡ plans_of events.old.items ++ listed plan) }
+    ensures err { OnErr result (events.new.items ≡ events.old.items) }
+    ensures lines { (o : ℕ) → lines_of o events.new.items ≡ lines_of o events.old.items }
+    ensures within { (outputs drops : ℕ) → ShowsIn outputs drops events.old.items events.new.items }
+{
+    if let Some(shown) = plan {
+        events.push(Event::Plan {
+            epoch: shown.epoch,
+            load: shown.load,
+            capacity: shown.capacity,
+            saved: shown.saved,
+            fits: shown.fits,
+        })?;
+    }
+    Ok(())
+}
+
+/// Closes the epochs before one, where they are open, and shows the plan that follows. The counts begin anew with an epoch.
+pub(crate) fn close_before(
+    planner: &mut Planner,
+    levels: &mut Levels,
+    counts: &mut Vec<u64>,
+    next: u64,
+    events: &mut Vec<Event>,
+) -> Result<(), AllocError>
+    requires counts { AreCounts counts.old.items }
+    requires later { levels.old.closed ≤ next + 1 }
+    requires fits { next < 2 ^ 64 - 1 }
+    ensures same { planner.new ≡ planner.old }
+    ensures epoch { levels.new.epoch ≡ levels.old.epoch }
+    ensures closed { OnOk result (levels.new.closed ≡ next + 1) }
+    ensures grows { levels.old.closed ≤ levels.new.closed }
+    ensures keeps { (x w : ℕ) → x < levels.old.closed → level_of levels.new x w ≡ level_of levels.old x w }
+    ensures counts { OnOk result (counts.new.items ≡ (if next + 1 == levels.old.closed then counts.old.items else replicate (length counts.old.items) 0)) }
+    ensures agrees { (all : ℕ → List ℕ) → (levels.old.closed < next + 1 → Ended all (levels.old.closed - 1) next counts.old.items)
+        → Agrees levels.old (level_for planner.old all) → Agrees levels.new (level_for planner.old all) }
+    ensures plans { OnOk result ((all : ℕ → List ℕ) → (levels.old.closed < next + 1 → Ended all (levels.old.closed - 1) next counts.old.items)
+        → plans_of events.new.items ≡ plans_of events.old.items ++ flat_map (shown_after planner.old all) (range_with_len (levels.old.closed - 1) (next - (levels.old.closed - 1)))) }
+    ensures err { OnErr result (plans_of events.new.items ≡ plans_of events.old.items) }
+    ensures lines { (o : ℕ) → lines_of o events.new.items ≡ lines_of o events.old.items }
+    ensures within { (outputs drops : ℕ) → ShowsIn outputs drops events.old.items events.new.items }
+{
+    if next + 1 == levels.closed() {
+        return Ok(());
+    }
+    let plan = close_epochs(planner, levels, counts, next)?;
+    counts.fill(0);
+    show_plan(plan, events)?;
+    Ok(())
+}

@@ -1,0 +1,28 @@
+// The rule on drop points.
+ghost use Rattle.std.specs.Prelude.{IfOk};
+ghost use Rattle.sq_net.specs.Sound.{IsSound};
+ghost use Rattle.sq_points.specs.Limits.{KeepsDropLimits};
+ghost use Rattle.sq_reader.specs.Networks.{limited_network};
+ghost use Rattle.sq_tables.specs.Refusals.{Answers};
+
+use crate::limits::whole;
+use sq_net::{NetErr, Network, Part};
+use sq_place::PlaceErr;
+use sq_points::network_points;
+use std::alloc::Global;
+
+/// The network, where none of its drop points has a batch that is too long or an extent that is too wide.
+#[tactic(auto, using(crate::proofs::DropLemmas::limits_kept, crate::proofs::DropLemmas::long_refused, crate::proofs::DropLemmas::wide_refused))]
+pub(crate) fn limited_network(alloc: Global, network: Network) -> Result<Network, NetErr>
+    requires { IsSound network }
+    ensures answer { Answers result (limited_network network) }
+    ensures sound { IfOk result IsSound }
+    ensures limits { IfOk result KeepsDropLimits }
+{
+    match network_points(alloc, &network) {
+        Ok(_) => Ok(network),
+        Err(PlaceErr::LongBatch { drop }) => Err(NetErr::Limit(whole(Part::Drop, drop as usize))),
+        Err(PlaceErr::WideExtent { drop }) => Err(NetErr::Limit(whole(Part::Drop, drop as usize))),
+        Err(PlaceErr::Memory) => Err(NetErr::Memory),
+    }
+}

@@ -1,0 +1,89 @@
+-- The lines of a file one by one, and the entries of a capacity file.
+use Rattle.std.proofs.Common.{◌≡◌, ℕ, ◌+◌, ◌*◌, ◌^◌, ◌<◌, ◌≤◌, eqb, ltb, Bool, true, false, cond, List, [], ◌∷◌, ◌++◌, length, Option, Some, None, Ok, Err, refl, ap, sym, subst, ◌∙◌, arith, lit<}
+use Rattle.std.proofs.lemmas.Bool.Decides.{nat_tests}
+use Rattle.std.proofs.lemmas.Grind.{pow_more}
+use Rattle.std.proofs.Math.Nat.{pow-le-pow_right}
+use Rattle.std.specs.Prelude.{Result}
+use Rattle.std.specs.List.{filter, slice_split, AllByRecursion}
+use Rattle.std.specs.Str.Lines.{strip_carriage_return}
+use Rattle.sq_value.specs.Texts.{read_number}
+use Rattle.sq_plan.specs.Plans.{Entries}
+use Rattle.sq_plan.specs.Settings.{AreAscending}
+use Rattle.sq_replay.specs.FileLines.{Line, has_text, lines_from}
+use Rattle.sq_replay.specs.Streams.{◌>>=◌}
+use Rattle.sq_replay.specs.Entries.{good_or, capacity_text, is_later, with_capacity, entry_of, entry_fields, entry_in, entries_from}
+use Rattle.sq_replay.proofs.StreamLemmas.{with_front, front_cons}
+
+-- the lines of one piece more
+pub one_line : (n : ℕ) (piece : List ℕ) (pieces : List (List ℕ)) → lines_from n (piece ∷ pieces) ≡ filter has_text ((n, strip_carriage_return piece) ∷ []) ++ lines_from (n + 1) pieces
+one_line n piece pieces = by (has_text (n, strip_carriage_return piece))
+  where
+    by : (b : Bool) → cond b ((n, strip_carriage_return piece) ∷ lines_from (n + 1) pieces) (lines_from (n + 1) pieces) ≡ cond b ((n, strip_carriage_return piece) ∷ []) [] ++ lines_from (n + 1) pieces
+    by true = refl
+    by false = refl
+
+-- the number of some digits and one more, 24 at most
+pub wide_below : (n d i : ℕ) → n < 10 ^ i → d ≤ 9 → i < 24 → (n * 10 + d < 10 ^ (i + 1)) × (10 ^ (i + 1) ≤ 10 ^ 24)
+wide_below n d i below digit inside = (omega (arith, pow_more 10 i), pow-le-pow_right {n = 10} (lit< tt) {i = i + 1} {j = 24} (omega arith))
+
+pub entries_step : (front : Entries) (after : Option ℕ) (n : ℕ) (line : List ℕ) (ls : List Line) (x : ℕ × Option ℕ) → entry_in after line ≡ Some x
+    → with_front front (entries_from after ((n, line) ∷ ls)) ≡ with_front (front ++ x ∷ []) (entries_from (Some x.0) ls)
+entries_step front after n line ls x e = ap (λ o. with_front front (good_or n o >>= (λ x. entries_from (Some x.0) ls >>= (λ xs. Ok (x ∷ xs))))) e ∙ front_cons front x (entries_from (Some x.0) ls)
+
+pub entries_refused : (front : Entries) (after : Option ℕ) (n : ℕ) (line : List ℕ) (ls : List Line) → entry_in after line ≡ None → with_front front (entries_from after ((n, line) ∷ ls)) ≡ Err n
+entries_refused front after n line ls e = ap (λ o. with_front front (good_or n o >>= (λ x. entries_from (Some x.0) ls >>= (λ xs. Ok (x ∷ xs))))) e
+
+-- more than two fields are no entry
+pub too_many : (after : Option ℕ) (e c : List ℕ) (rest : List (List ℕ)) → 1 ≤ length rest → None ≡ entry_fields after (e ∷ c ∷ rest)
+too_many after e c [] h = absurd (omega (arith, h))
+too_many after e c (d ∷ ds) h = refl
+
+-- entries that are read ascend
+later-by : (after : Option ℕ) (e : Option ℕ) (c : List ℕ) (x : ℕ × Option ℕ) → entry_of after e c ≡ Some x → is_later after x.0 ≡ true
+later-by after None c x h = absurd (cc h)
+later-by after (Some e) c x h = by (is_later after e) refl h
+  where
+    taken : (o : Option (Option ℕ)) → with_capacity e o ≡ Some x → is_later after e ≡ true → is_later after x.0 ≡ true
+    taken None k l = absurd (cc k)
+    taken (Some d) k l = let pair : ◌≡◌ {A = ℕ × Option ℕ} (e, d) x = cc in ap (λ (z : ℕ × Option ℕ). is_later after z.0) (sym pair) ∙ l
+
+    by : (b : Bool) → is_later after e ≡ b → cond b (with_capacity e (capacity_text c)) None ≡ Some x → is_later after x.0 ≡ true
+    by true l k = taken (capacity_text c) k l
+    by false l k = absurd (cc k)
+
+later-in : (after : Option ℕ) (fields : List (List ℕ)) (x : ℕ × Option ℕ) → entry_fields after fields ≡ Some x → is_later after x.0 ≡ true
+later-in after [] x h = absurd (cc h)
+later-in after (e ∷ []) x h = absurd (cc h)
+later-in after (e ∷ c ∷ []) x h = later-by after (read_number 13 (2 ^ 40) e) c x h
+later-in after (e ∷ c ∷ d ∷ ds) x h = absurd (cc h)
+
+later-still : (a : ℕ) (after : Option ℕ) (e : ℕ) → ltb a e ≡ true → is_later after a ≡ true → is_later after e ≡ true
+later-still a None e h k = refl
+later-still a (Some b) e h k = grind (arith, nat_tests)
+
+pub ascend : (ls : List Line) (after : Option ℕ) (es : Entries) → entries_from after ls ≡ Ok es → AllByRecursion (λ d. is_later after d.0 ≡ true) es × AreAscending es
+ascend [] after es h = let same : ◌≡◌ {A = Entries} [] es = cc in subst (λ (z : Entries). AllByRecursion (λ d. is_later after d.0 ≡ true) z × AreAscending z) same (tt, tt)
+ascend (l ∷ ls) after es h = by (entry_in after l.1) refl (λ a es h. ascend ls a es h) h
+  where
+    weaker : (x : ℕ) → is_later after x ≡ true → (ds : Entries) → AllByRecursion (λ d. ltb x d.0 ≡ true) ds → AllByRecursion (λ d. is_later after d.0 ≡ true) ds
+    weaker x l [] m = tt
+    weaker x l (d ∷ ds) m = (later-still x after d.0 m.0 l, weaker x l ds m.1)
+
+    above : (x : ℕ) (ds : Entries) → AllByRecursion (λ d. ltb x d.0 ≡ true) ds → AllByRecursion (λ d. x < d.0) ds
+    above x [] m = tt
+    above x (d ∷ ds) m = (lt x d.0 m.0, above x ds m.1)
+      where
+        lt : (a b : ℕ) → ltb a b ≡ true → a < b
+        lt a b h = grind (arith, nat_tests)
+
+    rest : (x : ℕ × Option ℕ) → is_later after x.0 ≡ true → (r : Result Entries ℕ) → ((es : Entries) → r ≡ Ok es → AllByRecursion (λ d. ltb x.0 d.0 ≡ true) es × AreAscending es) → (r >>= (λ xs. Ok (x ∷ xs))) ≡ Ok es
+        → AllByRecursion (λ d. is_later after d.0 ≡ true) es × AreAscending es
+    rest x l (Err e) more k = absurd (cc k)
+    rest x l (Ok xs) more k =
+        let same : ◌≡◌ {A = Entries} (x ∷ xs) es = cc in let m = more xs refl in
+        subst (λ (z : Entries). AllByRecursion (λ d. is_later after d.0 ≡ true) z × AreAscending z) same ((l, weaker x.0 l xs m.0), (above x.0 xs m.0, m.1))
+
+    by : (o : Option (ℕ × Option ℕ)) → entry_in after l.1 ≡ o → ((a : Option ℕ) (es : Entries) → entries_from a ls ≡ Ok es → AllByRecursion (λ d. is_later a d.0 ≡ true) es × AreAscending es)
+        → (good_or l.0 o >>= (λ x. entries_from (Some x.0) ls >>= (λ xs. Ok (x ∷ xs)))) ≡ Ok es → AllByRecursion (λ d. is_later after d.0 ≡ true) es × AreAscending es
+    by None e more k = absurd (cc k)
+    by (Some x) e more k = rest x (later-in after (slice_split (λ b. eqb b 44) l.1) x e) (entries_from (Some x.0) ls) (λ es h. more (Some x.0) es h) k
