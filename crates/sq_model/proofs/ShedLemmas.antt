@@ -8,15 +8,12 @@ use Rattle.sq_graph.specs.Order.{contains_number}
 use Rattle.sq_value.specs.declared.Tuple.{Tuple}
 use Rattle.sq_value.specs.Lists.{numbers_to}
 use Rattle.sq_value.specs.Values.{IsStream}
-use Rattle.std.specs.List.{All}
 use Rattle.sq_graph.specs.Wires.{Arc, arcs_of, output_arc_at}
 use Rattle.sq_place.specs.declared.DropAt.{DropAt}
 use Rattle.sq_place.specs.declared.DropAt.TheVariants as place
-use Rattle.sq_net.specs.declared.Network.{Network}
 use Rattle.sq_model.specs.Full.{nth, full_on, full_arc, full_streams}
-use Rattle.sq_model.specs.Placed.{IsPlaced}
 use Rattle.sq_model.proofs.FullLemmas.{full_listed}
-use Rattle.sq_model.proofs.StreamLemmas.{stream_at_number, full_are_streams}
+use Rattle.sq_model.proofs.StreamLemmas.{stream_at_number}
 use Rattle.sq_road.specs.Levels.{LevelTable}
 use Rattle.sq_road.specs.Draws.{draw_of}
 use Rattle.sq_place.specs.declared.DropPoint.{DropPoint}

@@ -63,12 +63,7 @@ fn copy_of(alloc: Global, tuples: &[Tuple]) -> Result<Vec<Tuple>, AllocError>
     Ok(copy)
 }
 
-fn answer_in(
-    alloc: Global,
-    known: &Known,
-    output: u32,
-    arc: u32,
-) -> Result<Vec<Tuple>, AllocError>
+fn answer_in(alloc: Global, known: &Known, output: u32, arc: u32) -> Result<Vec<Tuple>, AllocError>
     requires { IsSafe known.now }
     ensures { IfOk result (λ v. (r : Replay) → IsKnown known.now r → arc ≡ output_arc_at r.network.wires output → v.items ≡ answer_of r output) }
 {
