@@ -1,4 +1,4 @@
-use Rattle.std.proofs.Common.{◌≡◌, ap, sym, ◌∙◌, arith, refl}
+use Rattle.std.proofs.Common.{arith, refl}
 use Rattle.sq_core.proofs.ShapeLemmas.{shaped-done, joined-done}
 use Rattle.sq_core.proofs.join.wires_of.Goals as goal
 

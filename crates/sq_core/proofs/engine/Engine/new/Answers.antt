@@ -1,4 +1,4 @@
-use Rattle.std.proofs.Common.{◌≡◌, ◌+◌, refl, arith}
+use Rattle.std.proofs.Common.{refl, arith}
 use Rattle.sq_core.proofs.engine.Engine.new.Goals as goal
 
 pub returns-clause-run : goal.returns-clause-run
