@@ -5,3 +5,7 @@ pub mod Laws
 pub mod Fit
 pub mod Unions
 pub mod Standing
+pub mod Shedding
+pub mod Kept
+pub mod Shown
+pub mod Given
