@@ -77,7 +77,7 @@ sum_few (w ∷ ws) (d ∷ ds) same each =
 
 -- ---- the limits
 
-nodes_within : (n : Network) → network_within n ≡ true → list_all node_within n.boxes ≡ true
+pub nodes_within : (n : Network) → network_within n ≡ true → list_all node_within n.boxes ≡ true
 nodes_within n h = (and_parts _ _ (and_parts _ _ (and_parts _ _ h).0).0).1
 
 pub takes_all : (n : Network) → network_within n ≡ true → list_all (λ b. takes_within b.kind (length b.inputs)) n.wires.boxes ≡ true

@@ -1,1 +1,4 @@
 pub mod Bounds
+pub mod Sharing
+pub mod Falls
+pub mod Plannable

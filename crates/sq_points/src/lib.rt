@@ -5,6 +5,8 @@
 //! stand the typed network of `sq_net`, the drop points of `sq_place` and the planner of `sq_plan`.
 #![tactic(auto)]
 
+mod planner;
 mod points;
 
+pub use planner::network_planner;
 pub use points::network_points;

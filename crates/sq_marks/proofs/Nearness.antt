@@ -1,0 +1,142 @@
+-- Where the tuples of a full list come from: each kind of box keeps what holds of the times, and an Aggregate goes back by its size less one.
+use Rattle.std.proofs.Common.{◌≡◌, ℕ, ◌+◌, ◌-◌, ◌*◌, ◌/◌, ◌≤◌, ◌<◌, leb, ltb, Bool, true, false, cond, ◌&&◌, List, [], ◌∷◌, ◌++◌, map, refl, ap, inl, inr, arith}
+use Rattle.std.proofs.lemmas.Bool.Decides.{nat_tests}
+use Rattle.std.specs.List.{filter, flat_map, AllByRecursion}
+use Rattle.sq_value.specs.declared.Value.{Value}
+use Rattle.sq_value.specs.declared.Tuple.{Tuple}
+use Rattle.sq_value.specs.Lists.{insert_by, sort_by, max_by, numbers_to}
+use Rattle.sq_expr.specs.Trees.{Expr}
+use Rattle.sq_aggfn.specs.declared.WindowSpec.{WindowSpec}
+use Rattle.sq_lists.specs.Boxes.{mapped, map_list_of}
+use Rattle.sq_lists.specs.Merge.{union}
+use Rattle.sq_lists.specs.Windows.{in_window, in_group, groups_of, window_results, aggregate_of}
+use Rattle.sq_place.specs.Ranks.{Somewhere}
+use Rattle.sq_marks.specs.Arcs.{AllTimes, IsNear}
+use Rattle.sq_marks.proofs.Unions.{time_of, union-sorted}
+use Rattle.sq_marks.proofs.Orders.{by_key}
+
+module _ {X : Type 0} (P : X → Type 0) where
+  pub All-append : (xs ys : List X) → AllByRecursion P xs → AllByRecursion P ys → AllByRecursion P (xs ++ ys)
+  All-append [] ys h k = k
+  All-append (x ∷ xs) ys h k = (h.0, All-append xs ys h.1 k)
+
+  pub All-kept : (p : X → Bool) (xs : List X) → AllByRecursion P xs → AllByRecursion P (filter p xs)
+  All-kept p [] h = tt
+  All-kept p (x ∷ xs) h = by (All-kept p xs h.1) (p x)
+    where
+      by : AllByRecursion P (filter p xs) → (b : Bool) → AllByRecursion P (cond b (x ∷ filter p xs) (filter p xs))
+      by more true = (h.0, more)
+      by more false = more
+
+  pub All-mapped : {Y : Type 0} (f : Y → X) (ys : List Y) → AllByRecursion (λ y. P (f y)) ys → AllByRecursion P (map f ys)
+  All-mapped f [] h = tt
+  All-mapped f (y ∷ ys) h = (h.0, All-mapped f ys h.1)
+
+  pub All-every : ((x : X) → P x) → (xs : List X) → AllByRecursion P xs
+  All-every h [] = tt
+  All-every h (x ∷ xs) = (h x, All-every h xs)
+
+  All-inserted : (before : X → X → Bool) (x : X) (ys : List X) → P x → AllByRecursion P ys → AllByRecursion P (insert_by before x ys)
+  All-inserted before x [] p h = (p, tt)
+  All-inserted before x (y ∷ ys) p h = by (All-inserted before x ys p h.1) (before y x)
+    where
+      by : AllByRecursion P (insert_by before x ys) → (b : Bool) → AllByRecursion P (cond b (y ∷ insert_by before x ys) (x ∷ y ∷ ys))
+      by more true = (h.0, more)
+      by more false = (p, (h.0, h.1))
+
+  pub All-sorted : (before : X → X → Bool) (xs : List X) → AllByRecursion P xs → AllByRecursion P (sort_by before xs)
+  All-sorted before [] h = tt
+  All-sorted before (x ∷ xs) h = All-inserted before x (sort_by before xs) h.0 (All-sorted before xs h.1)
+
+  pub All-joined : (xss : List (List X)) → AllByRecursion (AllByRecursion P) xss → AllByRecursion P (flat_map (λ xs. xs) xss)
+  All-joined [] h = tt
+  All-joined (xs ∷ xss) h = All-append xs (flat_map (λ xs. xs) xss) h.0 (All-joined xss h.1)
+
+  pub All-flat_map : {Y : Type 0} (f : Y → List X) → ((y : Y) → AllByRecursion P (f y)) → (ys : List Y) → AllByRecursion P (flat_map f ys)
+  All-flat_map f h [] = tt
+  All-flat_map f h (y ∷ ys) = All-append (f y) (flat_map f ys) (h y) (All-flat_map f h ys)
+
+pub All-weaker : {X : Type 0} (P Q : X → Type 0) → ((x : X) → P x → Q x) → (xs : List X) → AllByRecursion P xs → AllByRecursion Q xs
+All-weaker P Q h [] all = tt
+All-weaker P Q h (x ∷ xs) all = (h x all.0, All-weaker P Q h xs all.1)
+
+pub Somewhere-weaker : {X : Type 0} (P Q : X → Type 0) → ((x : X) → P x → Q x) → (xs : List X) → Somewhere P xs → Somewhere Q xs
+Somewhere-weaker P Q h [] i = absurd i
+Somewhere-weaker P Q h (x ∷ xs) (inl p) = inl (h x p)
+Somewhere-weaker P Q h (x ∷ xs) (inr i) = inr (Somewhere-weaker P Q h xs i)
+
+pub times-map : (P : ℕ → Type 0) (es : List Expr) (xs : List Tuple) → AllTimes P xs → AllTimes P (map_list_of es xs)
+times-map P es xs h = All-mapped (λ x. P x.time) (mapped es) xs h
+
+pub times-union : (P : ℕ → Type 0) (ins : List (List Tuple)) → AllByRecursion (AllTimes P) ins → AllTimes P (union ins)
+times-union P ins h = rw (union-sorted ins) (All-sorted (λ x. P x.time) (by_key time_of) (flat_map (λ xs. xs) ins) (All-joined (λ x. P x.time) ins h))
+
+-- what holds of each start of a window with a tuple in it holds of each result's time
+results-times : (P : ℕ → Type 0) (answers : List Tuple → List Value) (group : List ℕ) (s : ℕ) (inside : List Tuple) → (Somewhere (λ (x : Tuple). Unit {0}) inside → P s) → AllTimes P (window_results answers group s inside)
+results-times P answers group s [] h = tt
+results-times P answers group s (x ∷ xs) h =
+    All-mapped (λ y. P y.time) (λ (g : List Value). record { time = s; fields = g ++ answers (in_group group g (x ∷ xs)) }) (groups_of group (x ∷ xs))
+    (All-every (λ (g : List Value). P s) (λ g. h (inl tt)) (groups_of group (x ∷ xs)))
+
+-- a tuple of a window is a tuple of the list
+from-window : (w : WindowSpec) (s : ℕ) (xs : List Tuple) → Somewhere (λ (x : Tuple). Unit {0}) (in_window w s xs) → Somewhere (λ x. (s ≤ x.time) × (x.time < s + w.size)) xs
+from-window w s [] i = absurd i
+from-window w s (x ∷ xs) i = by (from-window w s xs) (leb s x.time && ltb x.time (s + w.size)) refl i
+  where
+    lem : (t z : ℕ) → (leb s t && ltb t (s + z)) ≡ true → (s ≤ t) × (t < s + z)
+    lem t z h = (low t z h, high t z h)
+      where
+        low : (t z : ℕ) → (leb s t && ltb t (s + z)) ≡ true → s ≤ t
+        low t z h = grind (arith, nat_tests)
+
+        high : (t z : ℕ) → (leb s t && ltb t (s + z)) ≡ true → t < s + z
+        high t z h = grind (arith, nat_tests)
+
+    by : (Somewhere (λ (x : Tuple). Unit {0}) (in_window w s xs) → Somewhere (λ x. (s ≤ x.time) × (x.time < s + w.size)) xs) → (b : Bool) → (leb s x.time && ltb x.time (s + w.size)) ≡ b
+        → Somewhere (λ (x : Tuple). Unit {0}) (cond b (x ∷ in_window w s xs) (in_window w s xs)) → Somewhere (λ x. (s ≤ x.time) × (x.time < s + w.size)) (x ∷ xs)
+    by more true e i = inl (lem x.time w.size e)
+    by more false e i = inr (more i)
+
+pub times-aggregate : (P : ℕ → Type 0) (answers : List Tuple → List Value) (group : List ℕ) (w : WindowSpec) (xs : List Tuple)
+    → ((k : ℕ) → Somewhere (λ x. (k * w.advance ≤ x.time) × (x.time < k * w.advance + w.size)) xs → P (k * w.advance)) → AllTimes P (aggregate_of answers group w xs)
+times-aggregate P answers group w xs h = starts (numbers_to (max_by (λ x. x.time) xs / w.advance + 1))
+  where
+    starts : (ks : List ℕ) → AllTimes P (flat_map (λ s. window_results answers group s (in_window w s xs)) (map (λ k. k * w.advance) ks))
+    starts [] = tt
+    starts (k ∷ ks) =
+        All-append (λ x. P x.time) (window_results answers group (k * w.advance) (in_window w (k * w.advance) xs)) (flat_map (λ s. window_results answers group s (in_window w s xs)) (map (λ k. k * w.advance) ks))
+        (results-times P answers group (k * w.advance) (in_window w (k * w.advance) xs) (λ i. h k (from-window w (k * w.advance) xs i)))
+        (starts ks)
+
+-- a tuple of a list of whose times P holds
+pub at-some : (P : ℕ → Type 0) (Q : Tuple → Type 0) (xs : List Tuple) → AllTimes P xs → Somewhere Q xs → (x : Tuple) × P x.time × Q x
+at-some P Q [] all i = absurd i
+at-some P Q (x ∷ xs) all (inl q) = (x, all.0, q)
+at-some P Q (x ∷ xs) all (inr i) = at-some P Q xs all.1 i
+
+-- the stream itself is at no distance
+pub near-itself : (above : List Tuple) → AllTimes (IsNear above 0) above
+near-itself above = every above (λ x i. i)
+  where
+    every : (xs : List Tuple) → ((x : Tuple) → Somewhere (λ y. y ≡ x) xs → Somewhere (λ y. y ≡ x) above) → AllTimes (IsNear above 0) xs
+    every [] h = tt
+    every (x ∷ xs) h = (
+      Somewhere-weaker (λ y. y ≡ x) (λ y. (x.time ≤ y.time) × (y.time ≤ x.time + 0)) (λ y e. let t : y.time ≡ x.time = ap (λ z. z.time) e in (omega arith, omega arith)) above (h x (inl refl)),
+      every xs (λ y i. h y (inr i)),
+    )
+
+pub near-farther : (above : List Tuple) (d e : ℕ) → d ≤ e → (xs : List Tuple) → AllTimes (IsNear above d) xs → AllTimes (IsNear above e) xs
+near-farther above d e le xs h =
+    All-weaker (λ x. IsNear above d x.time) (λ x. IsNear above e x.time)
+    (λ x i. Somewhere-weaker (λ y. (x.time ≤ y.time) × (y.time ≤ x.time + d)) (λ y. (x.time ≤ y.time) × (y.time ≤ x.time + e)) (λ y p. let a = p.0 in let b = p.1 in (a, omega (arith, le, b))) above i) xs h
+
+-- the second fact, for an Aggregate
+pub near-aggregate : (above : List Tuple) (d : ℕ) (answers : List Tuple → List Value) (group : List ℕ) (w : WindowSpec) (xs : List Tuple)
+    → AllTimes (IsNear above d) xs → AllTimes (IsNear above (d + (w.size - 1))) (aggregate_of answers group w xs)
+near-aggregate above d answers group w xs h = times-aggregate (IsNear above (d + (w.size - 1))) answers group w xs (λ k i. back (k * w.advance) i)
+  where
+    back : (s : ℕ) → Somewhere (λ x. (s ≤ x.time) × (x.time < s + w.size)) xs → IsNear above (d + (w.size - 1)) s
+    back s i =
+        let found = at-some (IsNear above d) (λ x. (s ≤ x.time) × (x.time < s + w.size)) xs h i in
+        let t = found.0.time in let low : s ≤ t = found.2.0 in let high : t < s + w.size = found.2.1 in
+        Somewhere-weaker (λ y. (t ≤ y.time) × (y.time ≤ t + d)) (λ y. (s ≤ y.time) × (y.time ≤ s + (d + (w.size - 1)))) (λ y p. let a = p.0 in let b = p.1 in (omega (arith, a, low), omega (arith, b, high, low))) above found.1
