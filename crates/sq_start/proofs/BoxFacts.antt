@@ -1,7 +1,8 @@
 -- What the law of early drop says of the box that a new actor stands for.
-use Rattle.std.proofs.Common.{◌≡◌, ℕ, Bool, true, false, ◌&&◌, List, [], ◌∷◌, map, length, Option, Some, None, refl, ap, sym, ◌∙◌, subst, rules}
+use Rattle.std.proofs.Common.{◌≡◌, ℕ, Bool, true, false, ◌&&◌, List, [], ◌∷◌, map, length, Option, Some, None, refl, ap, sym, ◌∙◌, subst}
 use Rattle.std.specs.Prelude.{slice_get}
 use Rattle.std.specs.List.{All}
+use Rattle.std.proofs.lemmas.List.FromFn.{length-range_with_len}
 use Rattle.sq_place.proofs.Wires.{length-mapped}
 use Rattle.sq_value.specs.declared.Value.{Value}
 use Rattle.sq_value.specs.Values.{IsStream}
@@ -52,7 +53,7 @@ module _ (readies : Ready) (widen : FuturesWiden) (r : Replay) (b : ℕ) (kind :
       by None e = e
       by (Some d) e =
           ap (λ (l : List ℕ). length l) e ∙ length-mapped _ (input_arcs_of r.network.wires b)
-          ∙ length-mapped (arc_at r.network.wires b) (numbers_to (length (inputs_of r.network.wires b))) ∙ search rules
+          ∙ length-mapped (arc_at r.network.wires b) (numbers_to (length (inputs_of r.network.wires b))) ∙ length-range_with_len 0 (length (inputs_of r.network.wires b))
 
   -- all that it is fed may come to what takes as much as the box
   pub box-future : (marks : ℕ → Bool) (fits : ℕ → List Value → Bool)

@@ -1,6 +1,7 @@
 -- New boxes by kind: by the clauses of each box, what it does for all that it is fed.
-use Rattle.std.proofs.Common.{◌≡◌, ℕ, ◌+◌, Bool, true, false, ◌&&◌, List, [], ◌∷◌, ◌++◌, map, length, refl, ap, sym, ◌∙◌}
+use Rattle.std.proofs.Common.{◌≡◌, ℕ, ◌+◌, eqb, cond, Bool, true, false, ◌&&◌, List, [], ◌∷◌, ◌++◌, map, length, refl, ap, sym, ◌∙◌}
 use Rattle.std.specs.Prelude.{◌==◌, ◌-◌, nat_lt}
+use Rattle.std.specs.List.{flat_map}
 use Rattle.sq_value.specs.declared.Value.{Value}
 use Rattle.sq_value.specs.declared.Tuple.{Tuple}
 use Rattle.sq_aggfn.specs.declared.Func.{Func}
@@ -10,13 +11,13 @@ use Rattle.sq_expr.specs.Trees.{Checked}
 use Rattle.sq_item.specs.Things.{Thing}
 use Rattle.sq_lists.specs.Boxes.{filter_list_of, map_list_of}
 use Rattle.sq_lists.specs.Sorting.{bsort_list_of}
-use Rattle.sq_lists.specs.Windows.{aggregate_of}
+use Rattle.sq_lists.specs.Windows.{aggregate_of, window_results, in_window, starts_of}
 use Rattle.sq_lists.specs.Pairs.{join_list_of, pairs_from}
 use Rattle.sq_oper.specs.declared.tally.Place.TheVariants.{Start}
 use Rattle.sq_oper.specs.Entries.{Entry}
 use Rattle.sq_oper.specs.Order.{IsFuture, unmarked}
 use Rattle.sq_oper.specs.Streams.{tuple_in, tuples_of, things, at_zero}
-use Rattle.sq_tagged.specs.Tagged.{HasNoMarks, spread_of, tagged_of}
+use Rattle.sq_tagged.specs.Tagged.{HasNoMarks, spread_of, tagged_of, below_bounds}
 use Rattle.sq_tagged.specs.Boxes.{filter_tagged, map_tagged, united_tagged, aggregate_tagged}
 use Rattle.sq_plain.specs.Boxes.{trees, at_ports_below, makes_tuple}
 use Rattle.sq_agg.specs.Held.{makes_result}
@@ -146,3 +147,25 @@ module _ (readies : Ready) (widen : FuturesWiden) (lags : List ℕ) (marked : Bo
 
       never : (r : Replay) (b : ℕ) → IsBox r b (Join size on) lags marked → marked ≡ true → ⊥
       never r b h below_drop = let bad : true ≡ false = sym below_drop ∙ not-marked readies widen r b (Join size on) lags marked h refl in cc bad
+
+-- ---- an Aggregate that is fed nothing
+
+zero-none : {A : Type 0} (q : ℕ) → at_zero {A = A} q [] ≡ []
+zero-none {A} q = by (eqb 0 q)
+  where
+    by : (b : Bool) → cond {A = List A} b [] [] ≡ []
+    by true = refl
+    by false = refl
+
+flat-none : (f : ℕ → List Tuple) → ((s : ℕ) → f s ≡ []) → (ss : List ℕ) → flat_map f ss ≡ []
+flat-none f h [] = refl
+flat-none f h (s ∷ ss) = ap (λ xs. xs ++ flat_map f ss) (h s) ∙ flat-none f h ss
+
+aggregate-none : (answers : List Tuple → List Value) (group : List ℕ) (w : WindowSpec) → aggregate_of answers group w [] ≡ []
+aggregate-none answers group w = flat-none (λ s. window_results answers group s (in_window w s [])) (λ s. refl) (starts_of w [])
+
+pub none-by : (answers : List Tuple → List Value) (group : List ℕ) (w : WindowSpec) (marked : Bool) (port : ℕ) (xs : List Thing)
+    → (marked ≡ false → xs ≡ at_zero port (things (aggregate_of answers group w []))) → (marked ≡ true → xs ≡ at_zero port (spread_of (aggregate_tagged answers group w (tagged_of [])))) → xs ≡ []
+none-by answers group w false port xs plain below = plain refl ∙ ap (λ l. at_zero port (things l)) (aggregate-none answers group w) ∙ zero-none port
+none-by answers group w true port xs plain below =
+    below refl ∙ ap (λ l. at_zero port (spread_of (record { marks = []; tuples = below_bounds [] l }))) (aggregate-none answers group w) ∙ zero-none port

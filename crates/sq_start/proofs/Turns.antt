@@ -10,8 +10,8 @@ use Rattle.sq_value.specs.Lists.{numbers_to, insert_by, sort_by}
 use Rattle.sq_item.specs.Things.{Thing}
 use Rattle.sq_oper.specs.Entries.{Entry, at_port}
 use Rattle.sq_oper.specs.Order.{earlier, merge, merge_under, merge_two, merge_from}
-use Rattle.sq_oper.specs.Streams.{things}
-use Rattle.sq_tagged.specs.Tagged.{Timed, Tagged, spread_of, lessened_by}
+use Rattle.sq_oper.specs.Streams.{thing_of, things}
+use Rattle.sq_tagged.specs.Tagged.{Timed, Tagged, mark_thing, sooner, spread_of, lessened}
 use Rattle.sq_graph.specs.declared.BoxWires.{BoxWires}
 use Rattle.sq_graph.specs.declared.Wiring.{Wiring}
 use Rattle.sq_graph.specs.Wires.{inputs_at, inputs_of, arc_at, input_arcs_of, output_arc_at}
@@ -78,20 +78,20 @@ length-sorted before (x ∷ xs) = length-inserted before x (sort_by before xs) �
 
 length-spread : (x : Tagged) → length (spread_of x) ≡ length x.marks + length x.tuples
 length-spread x =
-    length-sorted _ _
-    ∙ length-append _ _
-    ∙ (let a = length-mapped _ x.marks in let b = length-mapped _ x.tuples in omega (arith, a, b))
+    length-sorted sooner (map mark_thing x.marks ++ things x.tuples)
+    ∙ length-append (map mark_thing x.marks) (things x.tuples)
+    ∙ (let a = length-mapped mark_thing x.marks in let b = length-mapped thing_of x.tuples in omega (arith, a, b))
 
 length-on-by : (r : Replay) (a : ℕ) (o : Option Drop) → drop_above_arc r.network a ≡ o → length (standing r o a) ≡ length (kept_of r a) + marks_below r o
 length-on-by r a None e =
-    let all = length-mapped _ (full_arc r.network r.sources a) in
+    let all = length-mapped thing_of (full_arc r.network r.sources a) in
     let kept = ap (λ z. length (needed r z a (full_arc r.network r.sources a))) e in
     omega (arith, all, kept)
 length-on-by r a (Some d) e =
     let all = length-spread (marked_arc r d.0 d.1 a) in
-    let lessened = length-mapped _ (drop_marks r d.0 d.1) in
+    let less = length-mapped {Y = Timed} (λ (m : Timed). (m.0, lessened (distance_of d.1 a) m.1)) (drop_marks r d.0 d.1) in
     let marks = length-mapped (mark_of (is_dropped r d.0 d.1) (until_of d.1) (d.1).length) (touched_batches r d.1) in
-    omega (arith, all, lessened, marks)
+    omega (arith, all, less, marks)
 
 pub length-on : (r : Replay) (a : ℕ) → length (on_arc r a) ≡ length (kept_of r a) + marks_on r a
 length-on r a = length-on-by r a (drop_above_arc r.network a) refl
@@ -115,7 +115,7 @@ pub drop-takes : (r : Replay) (p : DropPoint) → length (drop_fed r p) ≡ leng
 drop-takes r p =
     let all = length-from 0 (things (full_at r p.at) ∷ []) in
     let one = sum_by-cons (λ (xs : List Thing). length xs) (things (full_at r p.at)) [] in
-    let same = length-mapped _ (full_at r p.at) in
+    let same = length-mapped thing_of (full_at r p.at) in
     omega (arith, all, one, same)
 
 pub output-takes : (r : Replay) (o : ℕ) → length (output_fed r o) ≡ length (kept_of r (output_arc_at r.network.wires o)) + marks_on r (output_arc_at r.network.wires o)
