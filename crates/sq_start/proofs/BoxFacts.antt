@@ -1,5 +1,5 @@
 -- What the law of early drop says of the box that a new actor stands for.
-use Rattle.std.proofs.Common.{◌≡◌, ℕ, Bool, true, false, ◌&&◌, List, [], ◌∷◌, map, length, Option, Some, None, refl, ap, sym, ◌∙◌, subst}
+use Rattle.std.proofs.Common.{◌≡◌, ℕ, ◌-◌, Bool, true, false, ◌&&◌, List, [], ◌∷◌, map, length, Option, Some, None, refl, ap, sym, ◌∙◌, subst}
 use Rattle.std.specs.Prelude.{slice_get}
 use Rattle.std.specs.List.{All}
 use Rattle.std.proofs.lemmas.List.FromFn.{length-range_with_len}
@@ -13,17 +13,17 @@ use Rattle.sq_oper.specs.Entries.{Entry}
 use Rattle.sq_oper.specs.Order.{load_fits, AllFit, IsFuture}
 use Rattle.sq_tagged.specs.Tagged.{HasNoMarks}
 use Rattle.sq_graph.specs.Wires.{inputs_of, input_arcs_of, arc_at}
-use Rattle.sq_value.specs.Lists.{numbers_to}
+use Rattle.sq_value.specs.Lists.{numbers_to, max_by}
 use Rattle.sq_net.specs.declared.Body.{Body}
 use Rattle.sq_net.specs.declared.Node.{Node}
 use Rattle.sq_net.specs.Sound.{IsSound}
 use Rattle.sq_model.specs.Fit.{SourcesFit}
 use Rattle.sq_model.specs.Shedding.{Replay}
-use Rattle.sq_below.specs.Carried.{lags_at}
+use Rattle.sq_model.specs.Kept.{distance_of}
 use Rattle.sq_below.specs.Standing.{Drop, drop_above_box, plain_gives, marked_gives, box_gives, box_fed}
 use Rattle.sq_below.specs.Actors.{Box, box_stream, stream_of}
 use Rattle.sq_below.specs.Ports.{body_fits, body_marks, marks_where, may_be_below, AllReady, FuturesWiden}
-use Rattle.sq_start.specs.Starts.{IsRead, IsDropAbove, AreLagsBelow, IsBox}
+use Rattle.sq_start.specs.Starts.{IsDropAbove, AreLags, IsBox}
 
 -- what is fed is ready, wherever a replay was read
 abbrev pub Ready : Type 0
@@ -49,10 +49,10 @@ module _ (readies : Ready) (widen : FuturesWiden) (r : Replay) (b : ℕ) (kind :
   pub lags-many : length lags ≡ length (inputs_of r.network.wires b)
   lags-many = by (drop_above_box r.network b) h.lagging
     where
-      by : (o : Option Drop) → AreLagsBelow r b lags o → length lags ≡ length (inputs_of r.network.wires b)
+      by : (o : Option Drop) → AreLags r.network b lags o → length lags ≡ length (inputs_of r.network.wires b)
       by None e = e
       by (Some d) e =
-          ap (λ (l : List ℕ). length l) e ∙ length-mapped _ (input_arcs_of r.network.wires b)
+          ap (λ (l : List ℕ). length l) e ∙ length-mapped (λ a. max_by (distance_of d.1) (input_arcs_of r.network.wires b) - distance_of d.1 a) (input_arcs_of r.network.wires b)
           ∙ length-mapped (arc_at r.network.wires b) (numbers_to (length (inputs_of r.network.wires b))) ∙ length-range_with_len 0 (length (inputs_of r.network.wires b))
 
   -- all that it is fed may come to what takes as much as the box
@@ -83,7 +83,7 @@ module _ (readies : Ready) (widen : FuturesWiden) (r : Replay) (b : ℕ) (kind :
   box-stream q given plain below =
       by (drop_above_box r.network b) refl h.above h.lagging ∙ ap (λ k. box_gives r (drop_above_box r.network b) b k (box_fed r b) q) (sym h.is) ∙ ap (λ o. box_stream r b o q) (sym h.there)
     where
-      by : (o : Option Drop) → drop_above_box r.network b ≡ o → IsDropAbove marked o → AreLagsBelow r b lags o → given ≡ box_gives r (drop_above_box r.network b) b kind (box_fed r b) q
+      by : (o : Option Drop) → drop_above_box r.network b ≡ o → IsDropAbove marked o → AreLags r.network b lags o → given ≡ box_gives r (drop_above_box r.network b) b kind (box_fed r b) q
       by None e above are = plain above (no-marks-fed e) ∙ ap (λ o. box_gives r o b kind (box_fed r b) q) (sym e)
       by (Some d) e above are = below above ∙ ap (λ l. marked_gives kind l (box_fed r b) q) are ∙ ap (λ o. box_gives r o b kind (box_fed r b) q) (sym e)
 

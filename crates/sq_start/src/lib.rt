@@ -9,9 +9,12 @@
 
 ghost use Rattle.sq_start.specs.Laws.{StartsAsReplayed};
 
+mod actors;
 mod boxes;
 mod drops;
+mod told;
 
+pub use actors::network_actors;
 pub use boxes::box_actor;
 pub use drops::{drop_actor, gate_actor};
 use sq_below::early_drop_is_sound;
