@@ -184,10 +184,10 @@ module _ {O : Type 0} (m : Meaning O) (valid : O → Type 0) (e : Flow O) (flow 
               }
 
   -- where these items stand on the arcs
-  module _ (items mid : ℕ → List Item) (holds : HoldsItems m items e) (faces : (k : ℕ) → IsFaceOf (face e.queues k) (items k))
+  module _ (table : ℕ → ℕ → ℕ) (agrees : Agrees e.levels table) (items mid : ℕ → List Item) (holds : HoldsItems m table items e) (faces : (k : ℕ) → IsFaceOf (face e.queues k) (items k))
       (whole : items at ≡ item ∷ mid at) (others : (k : ℕ) → k ≢ at → mid k ≡ items k) where
-    abbrev was : (ℕ → ℕ → ℕ) → World
-    was table = world_of m table items e
+    abbrev was : World
+    was = world_of m table items e
 
     not-replay : actor ≢ net.replay
     not-replay = let is = flow.shaped.replay_is in omega arith
@@ -201,31 +201,31 @@ module _ {O : Type 0} (m : Meaning O) (valid : O → Type 0) (e : Flow O) (flow 
     of-time : AllOfTime tick (spread item)
     of-time = subst (λ u. AllOfTime u (spread item)) time-is (spread-of-time item)
 
-    ports : (table : ℕ → ℕ → ℕ) → EachPort (PortFacts net (was table) tick p at) 0 (net.arcs actor)
-    ports table =
-        ports-from-head net (was table) items (λ k. place_of (slice_get e.wires.arcs.items k)) (λ k. (face e.queues k).first) (λ k. (face e.queues k).ended) e.clock actor tick p at
+    ports : EachPort (PortFacts net was tick p at) 0 (net.arcs actor)
+    ports =
+        ports-from-head net was items (λ k. place_of (slice_get e.wires.arcs.items k)) (λ k. (face e.queues k).first) (λ k. (face e.queues k).ended) e.clock actor tick p at
         (λ k. refl) holds.queued (λ k. (faces k).first)
         (λ port arc is. flow.ended arc (flow.shaped.arcs_in actor port arc is))
         (λ port arc is. (flow.shaped.joined actor port arc is).1) head
 
     -- the world between the taking and the giving
-    abbrev between : (ℕ → ℕ → ℕ) → World
-    between table = record (was table) { queue = λ k. spread_all (mid k) }
+    abbrev between : World
+    between = record was { queue = λ k. spread_all (mid k) }
 
-    moves-between : (table : ℕ → ℕ → ℕ) → Moves net (was table) (between table) (taken_at at (spread item)) (λ _ _. [])
-    moves-between table k within = moves-fed items mid (λ _. []) (λ j. spread_all (mid j)) at item whole others k (sym (append-nil (spread_all (mid k))))
+    moves-between : Moves net was between (taken_at at (spread item)) (λ _ _. [])
+    moves-between k within = moves-fed items mid (λ _. []) (λ j. spread_all (mid j)) at item whole others k (sym (append-nil (spread_all (mid k))))
 
-    pub next-may-come : (table : ℕ → ℕ → ℕ) → Agrees e.levels table → IsFuture (net.takes actor) (net.fits actor) (place_at m (slice_get e.seats.items actor)) (entries p item)
-    next-may-come table agrees =
-        next-is-future net (was table) (between table) actor tick p at (spread item) (coming net (was table) e.wires.order.items actor) (inputs net (was table) e.wires.order.items actor)
-        (facts-at net (was table) e.wires.order.items flow.shaped.wired (holds.facts table agrees) actor in-order not-replay)
-        (moves-between table) of-time head.0 (ports table)
+    pub next-may-come : IsFuture (net.takes actor) (net.fits actor) (place_at m (slice_get e.seats.items actor)) (entries p item)
+    next-may-come =
+        next-is-future net was between actor tick p at (spread item) (coming net was e.wires.order.items actor) (inputs net was e.wires.order.items actor)
+        (facts-at net was e.wires.order.items flow.shaped.wired holds.facts actor in-order not-replay)
+        moves-between of-time head.0 ports
 
     -- the tests pass
     pub passes : MayBeFed a p s.tally.place e.clock item
     passes =
         let in_time : item.time ≤ e.clock = (subst (AllFine e.clock) whole (holds.queued at)).0 in
-        let here : IsFuture (net.takes actor) (net.fits actor) (place_at m (slice_get e.seats.items actor)) (entries p item) = next-may-come (level_of e.levels) (λ epoch drop h. refl) in
+        let here : IsFuture (net.takes actor) (net.fits actor) (place_at m (slice_get e.seats.items actor)) (entries p item) = next-may-come in
         let place : place_at m (slice_get e.seats.items actor) ≡ s.tally.place = ap (place_at m) is_seat ∙ seat-fine.place in
         record {
           in_time = in_time;
@@ -242,50 +242,49 @@ module _ {O : Type 0} (m : Meaning O) (valid : O → Type 0) (e : Flow O) (flow 
         seat-fine.marks seat-fine.tuples (subst (λ z. IsFuture (net.takes actor) (net.fits actor) z (entries p item ++ future)) place f)
 
     -- what is still to be fed to the actor begins with the item
-    abbrev comes-first : (table : ℕ → ℕ → ℕ) → Agrees e.levels table
-        → (future : List Entry) × IsFuture (net.takes actor) (net.fits actor) (place_at m (slice_get e.seats.items actor)) (entries p item ++ future)
-        × ((port : ℕ) → coming net (was table) e.wires.order.items actor port ≡ rest_at m table (slice_get e.seats.items actor) (entries p item ++ future) port)
-        × (inputs net (was table) e.wires.order.items actor ≡ entries p item ++ future)
-    comes-first table agrees =
-        next-is-first net (was table) (between table) actor tick p at (spread item) (coming net (was table) e.wires.order.items actor) (inputs net (was table) e.wires.order.items actor)
-        (facts-at net (was table) e.wires.order.items flow.shaped.wired (holds.facts table agrees) actor in-order not-replay) (moves-between table) of-time head.0 (ports table)
+    abbrev comes-first : (future : List Entry) × IsFuture (net.takes actor) (net.fits actor) (place_at m (slice_get e.seats.items actor)) (entries p item ++ future)
+        × ((port : ℕ) → coming net was e.wires.order.items actor port ≡ rest_at m table (slice_get e.seats.items actor) (entries p item ++ future) port)
+        × (inputs net was e.wires.order.items actor ≡ entries p item ++ future)
+    comes-first =
+        next-is-first net was between actor tick p at (spread item) (coming net was e.wires.order.items actor) (inputs net was e.wires.order.items actor)
+        (facts-at net was e.wires.order.items flow.shaped.wired holds.facts actor in-order not-replay) moves-between of-time head.0 ports
 
     -- so as much more is to be taken and to be fed
-    pub turns-over : (table : ℕ → ℕ → ℕ) → Agrees e.levels table → e.taken + length (spread item) ≤ turns_at_last m table items e
-    turns-over table agrees =
-        let first = comes-first table agrees in
-        let ins = λ (k : ℕ). length (inputs net (was table) e.wires.order.items k) in
+    pub turns-over : e.taken + length (spread item) ≤ turns_at_last m table items e
+    turns-over =
+        let first = comes-first in
+        let ins = λ (k : ℕ). length (inputs net was e.wires.order.items k) in
         let least = sum-least ins (length e.seats.items) actor actor_in in
         let own = ap (λ (l : List Entry). length l) first.3 ∙ length-append (entries p item) first.0 in
         let one = entries-length p (spread item) in omega (arith, least, own, one)
 
-    pub work-over : (table : ℕ → ℕ → ℕ) → Agrees e.levels table → taken_in_all m e + cond (is_some item.body) 1 0 ≤ work_at_last m table items e
-    work-over table agrees =
-        let first = comes-first table agrees in
+    pub work-over : taken_in_all m e + cond (is_some item.body) 1 0 ≤ work_at_last m table items e
+    work-over =
+        let first = comes-first in
         let own = ap (λ l. length (tuples_of l)) first.3 ∙ tuples-both (entries p item) first.0 in
         let one = one-body item p in
         sum-over (λ k. seat.taken_at m (slice_get e.seats.items k)) (fed_at_last m table items e) (length e.seats.items) actor (cond (is_some item.body) 1 0) actor_in
         (λ k low. omega arith) (omega (arith, own, one))
 
     -- what a feed gives, or has given where it fails, is the beginning of what is left
-    pub prefix-of-left : (table : ℕ → ℕ → ℕ) → Agrees e.levels table → (outs : List (ℕ × Item))
+    pub prefix-of-left : (outs : List (ℕ × Item))
         → ((future : List Entry) → IsFuture (m.takes_marks s.op) (m.fits s.op) (m.place s.op) (entries p item ++ future)
         → (q : ℕ) → IsPrefixOf (given q outs) (m.rest s.op table (entries p item ++ future) q))
-        → (output : ℕ) → IsPrefixOf (bodies (pushed_by actor outs output 0)) (bodies (coming net (was table) e.wires.order.items output 0))
-    prefix-of-left table agrees outs law output = by (eqb actor output) refl
+        → (output : ℕ) → IsPrefixOf (bodies (pushed_by actor outs output 0)) (bodies (coming net was e.wires.order.items output 0))
+    prefix-of-left outs law output = by (eqb actor output) refl
       where
         cut : (xs ys : List Thing) → IsPrefixOf xs ys → IsPrefixOf (bodies xs) (bodies ys)
         cut xs ys (more, e) = (bodies more, ap bodies e ∙ bodies-append xs more)
 
-        by : (b : Bool) → eqb actor output ≡ b → IsPrefixOf (bodies (cond b (given 0 outs) [])) (bodies (coming net (was table) e.wires.order.items output 0))
+        by : (b : Bool) → eqb actor output ≡ b → IsPrefixOf (bodies (cond b (given 0 outs) [])) (bodies (coming net was e.wires.order.items output 0))
         by true t =
             let same : actor ≡ output = eqb-yes actor output t in
-            let first = comes-first table agrees in
-            let is : coming net (was table) e.wires.order.items actor 0 ≡ m.rest s.op table (entries p item ++ first.0) 0 =
+            let first = comes-first in
+            let is : coming net was e.wires.order.items actor 0 ≡ m.rest s.op table (entries p item ++ first.0) 0 =
             first.2 0 ∙ ap (λ o. rest_at m table o (entries p item ++ first.0) 0) is_seat in
-            let here : IsPrefixOf (given 0 outs) (coming net (was table) e.wires.order.items actor 0) = rw is (law first.0 (op-future first.0 first.1) 0) in
-            subst (λ k. IsPrefixOf (bodies (given 0 outs)) (bodies (coming net (was table) e.wires.order.items k 0))) same (cut (given 0 outs) (coming net (was table) e.wires.order.items actor 0) here)
-        by false t = (bodies (coming net (was table) e.wires.order.items output 0), refl)
+            let here : IsPrefixOf (given 0 outs) (coming net was e.wires.order.items actor 0) = rw is (law first.0 (op-future first.0 first.1) 0) in
+            subst (λ k. IsPrefixOf (bodies (given 0 outs)) (bodies (coming net was e.wires.order.items k 0))) same (cut (given 0 outs) (coming net was e.wires.order.items actor 0) here)
+        by false t = (bodies (coming net was e.wires.order.items output 0), refl)
 
     -- after the feed
     module _ (seats' : Vec (Seat O) Global) (queues' : Queues) (taken' : ℕ) (s' : Seat O) (outs : List (ℕ × Item)) (drops : List Decision) (items' : ℕ → List Item)
@@ -298,8 +297,8 @@ module _ {O : Type 0} (m : Meaning O) (valid : O → Type 0) (e : Flow O) (flow 
       abbrev e' : Flow O
       e' = record e { seats = seats'; queues = queues'; taken = taken' }
 
-      abbrev is : (ℕ → ℕ → ℕ) → World
-      is table = world_of m table items' e'
+      abbrev is : World
+      is = world_of m table items' e'
 
       abbrev decided : ℕ → List Decision
       decided k = cond (eqb k actor) drops []
@@ -311,12 +310,12 @@ module _ {O : Type 0} (m : Meaning O) (valid : O → Type 0) (e : Flow O) (flow 
       done-after =
           ap (done_at e.over) is_after ∙ ap not fed.open_still ∙ sym (ap (done_at e.over) is_seat) ∙ unfinished
 
-      moves-all : (table : ℕ → ℕ → ℕ) → Moves net (was table) (is table) (taken_at at (spread item)) (pushed_by actor outs)
-      moves-all table k within =
+      moves-all : Moves net was is (taken_at at (spread item)) (pushed_by actor outs)
+      moves-all k within =
           moves-fed items mid (λ j. pushed_by actor outs (net.from j) (net.port j)) (λ j. spread_all (items' j)) at item whole others k (given_on k within)
 
-      law-here : (table : ℕ → ℕ → ℕ) → Agrees e.levels table → FedActor net (was table) (is table) (pushed_by actor outs) decided actor p (spread item)
-      law-here table agrees =
+      law-here : FedActor net was is (pushed_by actor outs) decided actor p (spread item)
+      law-here =
           record {
             law = λ future f port.
                 ap (λ o. rest_at m table o (entries p item ++ future) port) is_seat
@@ -336,8 +335,8 @@ module _ {O : Type 0} (m : Meaning O) (valid : O → Type 0) (e : Flow O) (flow 
             running = done-after;
           }
 
-      same-actor : (table : ℕ → ℕ → ℕ) (other : ℕ) → other ≢ actor → SameActor (was table) (is table) other
-      same-actor table other ne =
+      same-actor : (other : ℕ) → other ≢ actor → SameActor was is other
+      same-actor other ne =
           let o = apart other ne in
           record {
             rest = ap (rest_at m table) o;
@@ -348,48 +347,48 @@ module _ {O : Type 0} (m : Meaning O) (valid : O → Type 0) (e : Flow O) (flow 
             done = ap (done_at e.over) o;
           }
 
-      pub kept : (table : ℕ → ℕ → ℕ) → Agrees e.levels table → Kept net (was table) (is table) (pushed_by actor outs) decided took e.wires.order.items
-      kept table agrees =
-          let facts = holds.facts table agrees in
-          world-fed net (was table) (is table) (pushed_by actor outs) decided took actor tick p at (spread item) e.wires.order.items flow.shaped.wired facts
-          (moves-all table) of-time head.0 (ports table) (law-here table agrees) (ap (λ b. cond b (entries p item) []) (eqb-same actor actor refl)) (same-actor table) (λ other ne port. not-pushed actor other outs ne port)
+      pub kept : Kept net was is (pushed_by actor outs) decided took e.wires.order.items
+      kept =
+          let facts = holds.facts in
+          world-fed net was is (pushed_by actor outs) decided took actor tick p at (spread item) e.wires.order.items flow.shaped.wired facts
+          moves-all of-time head.0 ports law-here (ap (λ b. cond b (entries p item) []) (eqb-same actor actor refl)) same-actor (λ other ne port. not-pushed actor other outs ne port)
           (λ other ne. ap (λ b. cond b drops []) (eqb-not other actor ne)) (λ other ne. ap (λ b. cond b (entries p item) []) (eqb-not other actor ne))
           (apart-from net (λ k. to_of (slice_get e.wires.arcs.items k)) actor at p (spread item) (λ other port arc k. (flow.shaped.joined other port arc k).0) head.1)
           not-replay (λ port. refl) (ap (done_at e.over) (apart net.replay (λ k. not-replay (sym k))))
-          (replay-end net (was table) e.wires.order.items facts)
+          (replay-end net was e.wires.order.items facts)
 
-      pub holds-after : HoldsItems m items' e'
+      pub holds-after : HoldsItems m table items' e'
       holds-after =
           record {
-            facts = λ table agrees. (kept table agrees).facts;
+            facts = kept.facts;
             queued = fine e.clock (outs-in-time s' outs drops fed may) (fine-after e.clock at items mid item whole others holds.queued);
           }
 
-      pub turns-same : (table : ℕ → ℕ → ℕ) → Agrees e.levels table → taken' ≡ e.taken + length (spread item)
-          → turns_at_last m table items e ≡ taken' + sum_below (λ other. length (inputs net (is table) e.wires.order.items other)) (length e.seats.items)
-      turns-same table agrees more =
-          let k = kept table agrees in
+      pub turns-same : taken' ≡ e.taken + length (spread item)
+          → turns_at_last m table items e ≡ taken' + sum_below (λ other. length (inputs net is e.wires.order.items other)) (length e.seats.items)
+      turns-same more =
+          let k = kept in
           let is_replay = flow.shaped.replay_is in
           let comes = λ (other : ℕ) (low : other < length e.seats.items). (let away : other ≢ net.replay = omega (arith, is_replay, low) in (k.told other (flow.shaped.ordered other low) away).comes) in
-          let own : length (inputs net (was table) e.wires.order.items actor) ≡ length (inputs net (is table) e.wires.order.items actor) + length (spread item) = (
-          let c = ap (λ (l : List Entry). length l) (comes actor actor_in ∙ ap (λ b. cond b (entries p item) [] ++ inputs net (is table) e.wires.order.items actor) (eqb-same actor actor refl)) in
-          let both = length-append (entries p item) (inputs net (is table) e.wires.order.items actor) in
+          let own : length (inputs net was e.wires.order.items actor) ≡ length (inputs net is e.wires.order.items actor) + length (spread item) = (
+          let c = ap (λ (l : List Entry). length l) (comes actor actor_in ∙ ap (λ b. cond b (entries p item) [] ++ inputs net is e.wires.order.items actor) (eqb-same actor actor refl)) in
+          let both = length-append (entries p item) (inputs net is e.wires.order.items actor) in
           let one = entries-length p (spread item) in omega (arith, c, both, one)
           ) in
-          let sums = sum-more (λ other. length (inputs net (is table) e.wires.order.items other)) (λ other. length (inputs net (was table) e.wires.order.items other)) (length e.seats.items) actor (length (spread item)) actor_in
-          (λ other low ne. ap (λ (l : List Entry). length l) (comes other low ∙ ap (λ b. cond b (entries p item) [] ++ inputs net (is table) e.wires.order.items other) (eqb-not other actor ne))) own in
+          let sums = sum-more (λ other. length (inputs net is e.wires.order.items other)) (λ other. length (inputs net was e.wires.order.items other)) (length e.seats.items) actor (length (spread item)) actor_in
+          (λ other low ne. ap (λ (l : List Entry). length l) (comes other low ∙ ap (λ b. cond b (entries p item) [] ++ inputs net is e.wires.order.items other) (eqb-not other actor ne))) own in
           omega (arith, sums, more)
 
       pub goes-after : (events events' : List Event) → length seats'.items ≡ length e.seats.items → taken' ≡ e.taken + length (spread item)
           → ((output : ℕ) → lines_of output events' ≡ lines_of output events ++ bodies (pushed_by actor outs (e.wires.shown + output) 0))
-          → (table : ℕ → ℕ → ℕ) → Agrees e.levels table → Goes m table items items' e e' events events'
-      goes-after events events' seats_len more shown table agrees =
-          let k = kept table agrees in
+          → Goes m table items items' e e' events events'
+      goes-after events events' seats_len more shown =
+          let k = kept in
           record {
             lines = λ output low.
                 goes-on (lines_of output events) (bodies (pushed_by actor outs (e.wires.shown + output) 0)) (lines_left m table items e output) (lines_left m table items' e' output) (lines_of output events')
                 (ap bodies (k.streams (e.wires.shown + output) 0 (flow.shaped.ordered (e.wires.shown + output) low))
-                ∙ bodies-append (pushed_by actor outs (e.wires.shown + output) 0) (coming net (is table) e.wires.order.items (e.wires.shown + output) 0))
+                ∙ bodies-append (pushed_by actor outs (e.wires.shown + output) 0) (coming net is e.wires.order.items (e.wires.shown + output) 0))
                 (shown output);
             fed = λ other low.
                 let is = flow.shaped.replay_is in
@@ -399,7 +398,7 @@ module _ {O : Type 0} (m : Meaning O) (valid : O → Type 0) (e : Flow O) (flow 
                 let is = flow.shaped.replay_is in
                 let away : other ≢ net.replay = omega arith in
                 (k.told other (flow.shaped.ordered other low) away).lost;
-            turns = turns-same table agrees more ∙ ap (λ n. taken' + sum_below (λ other. length (inputs net (is table) e.wires.order.items other)) n) (sym seats_len);
+            turns = turns-same more ∙ ap (λ n. taken' + sum_below (λ other. length (inputs net is e.wires.order.items other)) n) (sym seats_len);
           }
 
   -- where the disk tells its pages the tests pass, whatever stands behind the item
