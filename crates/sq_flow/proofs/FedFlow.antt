@@ -1,6 +1,7 @@
 -- What a feed keeps.
 use Rattle.std.proofs.Common.{◌≡◌, ◌≢◌, ℕ, suc, ◌+◌, ◌<◌, ◌≤◌, ◌^◌, eqb, cond, Bool, true, false, not, List, [], ◌∷◌, ◌++◌, length, Option, Some, None, refl, ap, sym, ◌∙◌, append-nil, length-append, arith, subst, ◌-◌}
 use Rattle.std.specs.Prelude.{is_some, slice_get, Vec}
+use Rattle.std.specs.List.{AllByRecursion}
 use Rattle.std.specs.declared.alloc.Global.{Global}
 use Rattle.std.proofs.lemmas.Option.{same_Some}
 use Rattle.sq_value.specs.declared.Value.{Value}
@@ -34,18 +35,19 @@ use Rattle.sq_flow.specs.declared.wires.Arc.{Arc}
 use Rattle.sq_flow.specs.declared.seats.Seat.{Seat}
 use Rattle.sq_flow.specs.declared.flow.Flow.{Flow}
 use Rattle.sq_flow.specs.declared.heads.Next.TheVariants.{Feed}
-use Rattle.sq_flow.specs.Wiring.{net_of, arcs_read, arc_at, marked_of, wide_of, from_of, to_of, place_of, pushed_by, AllOutsFine}
+use Rattle.sq_flow.specs.Wiring.{net_of, arcs_read, arc_at, marked_of, wide_of, from_of, to_of, place_of, pushed_by, AllOutsFine, IsOwn}
 use Rattle.sq_flow.specs.Heads.{NextUpTo}
 use Rattle.sq_flow.specs.Seats as seat
-use Rattle.sq_flow.specs.Seats.{Meaning, rest_at, decides_at, lost_at, place_at, done_at, holds_at, IsSeat, FedSeat}
+use Rattle.sq_flow.specs.Seats.{Meaning, rest_at, decides_at, lost_at, place_at, done_at, holds_at, IsSeat, Owns, FedSeat}
 use Rattle.sq_flow.specs.Takes.{takes_of, fits_of, MayBeFed}
-use Rattle.sq_flow.specs.Events.{bodies, lines_of, ShowsIn}
+use Rattle.sq_flow.specs.Events.{bodies, lines_of, of_drop, drops_of, ShowsIn}
 use Rattle.sq_flow.specs.Plans.{plans_left, plans_of}
-use Rattle.sq_flow.specs.Flows.{world_of, IsFlow, HoldsItems, Goes, Stepped, ShowsPrefix, CostsFed, CostsAtMost, TooMuchOnly, lines_left, fed_at_last, sum_below, taken_in_all, work_at_last, turns_at_last}
+use Rattle.sq_flow.specs.Flows.{world_of, IsFlow, HoldsItems, Goes, Stepped, ShowsPrefix, CostsFed, CostsAtMost, TooMuchOnly, lines_left, decisions_left, fed_at_last, sum_below, taken_in_all, work_at_last, turns_at_last}
 use Rattle.sq_flow.specs.declared.errors.RunErr.{RunErr}
 use Rattle.sq_flow.proofs.FutureLemmas.{future-weaker, future-port, ports-from-head, moves-fed, outs-fine, own-pushed, not-pushed, apart-from, fine-after, goes-on, prefix-chain}
 use Rattle.sq_flow.proofs.SendLemmas.{at_or_other}
 use Rattle.sq_flow.proofs.EventLemmas.{bodies-append}
+use Rattle.sq_flow.proofs.DropLemmas.{all-split, of-own, own-front, future-both}
 
 one-body : (item : Item) (port : ℕ) → length (tuples_of (entries port item)) ≡ cond (is_some item.body) 1 0
 one-body item port = by item.mark item.body
@@ -67,7 +69,7 @@ work-least m table items e = sum-most (λ k. seat.taken_at m (slice_get e.seats.
 -- where nothing was fed
 pub costs-none : {O : Type 0} (m : Meaning O) (valid : O → Type 0) (e : Flow O) → IsFlow m valid e → (was : Option Pages) (levels : LevelTable) (before after : ℕ) → after ≡ before
     → CostsAtMost m was e levels before after
-costs-none m valid e flow was levels before after same = λ told holds table agrees. let least = work-least m table (items_on e.queues was) e in omega (arith, least, same)
+costs-none m valid e flow was levels before after same = λ told table agrees holds. let least = work-least m table (items_on e.queues was) e in omega (arith, least, same)
 
 module _ {O : Type 0} (m : Meaning O) (valid : O → Type 0) (e : Flow O) (flow : IsFlow m valid e) (actor tick p at : ℕ) (a : Arc) (item : Item)
     (actor_in : actor < length e.seats.items)
@@ -92,6 +94,17 @@ module _ {O : Type 0} (m : Meaning O) (valid : O → Type 0) (e : Flow O) (flow 
       (future-port (takes_of a) (m.takes_marks s.op) (fits_of a) (m.fits s.op) s.tally.place p (spread item)
       (λ h. seat-fine.marks p (takes-is ∙ h)) (λ fields h. seat-fine.tuples p fields (fits-is fields ∙ h)) may.future)
 
+  -- the operator runs
+  pub runs : done_at e.over (slice_get e.seats.items actor) ≡ false → m.running s.op ≡ true
+  runs open_now = seat-fine.running ∙ by s.tally.running (sym (ap (done_at e.over) is_seat) ∙ open_now)
+    where
+      by : (b : Bool) → not b ≡ false → b ≡ true
+      by true h = refl
+      by false h = cc
+
+  seat-owns : Owns m (IsOwn e.wires actor) e.levels s
+  seat-owns = subst (holds_at (Owns m (IsOwn e.wires actor) e.levels)) is_seat (flow.owned actor)
+
   -- what a feed gives and leaves, over every disk
   module _ (s' : Seat O) (outs : List (ℕ × Item)) (drops : List Decision) (fed : FedSeat m valid e.levels p item outs drops s s') (may : MayBeFed a p s.tally.place e.clock item) where
     pub given-and-held : (table : ℕ → ℕ → ℕ) → Agrees e.levels table → (q : ℕ) → ThingsUpTo e.clock (given q outs) × ThingsUpTo e.clock (m.rest s'.op table [] q)
@@ -106,6 +119,27 @@ module _ {O : Type 0} (m : Meaning O) (valid : O → Type 0) (e : Flow O) (flow 
     pub outs-in-time : AllOutsFine e.clock outs
     outs-in-time = outs-fine e.clock outs fed.sound (λ q. (given-and-held (level_of e.levels) (λ epoch drop h. refl) q).0)
 
+    -- what it decides now, and what is left, is its own
+    own-future : (future : List Entry) → IsFuture (m.takes_marks s'.op) (m.fits s'.op) (m.place s'.op) future
+        → IsFuture (m.takes_marks s.op) (m.fits s.op) (m.place s.op) (entries p item ++ future)
+    own-future future f =
+        future-both (m.takes_marks s.op) (m.fits s.op) (m.place s.op) (entries p item) future (may-come may)
+        (rw (sym fed.marks, sym fed.fits, sym fed.moves) f)
+
+    pub own-drops : m.running s.op ≡ true → AllByRecursion (IsOwn e.wires actor) drops
+    own-drops running =
+        let alone : entries p item ++ [] ≡ entries p item = append-nil (entries p item) in
+        let future : IsFuture (m.takes_marks s.op) (m.fits s.op) (m.place s.op) (entries p item ++ []) = rw alone (may-come may) in
+        (all-split (IsOwn e.wires actor) drops (m.decides s'.op (level_of e.levels) [])
+        (subst (AllByRecursion (IsOwn e.wires actor)) (fed.decided (level_of e.levels) [] (λ epoch drop h. refl) future)
+        (seat-owns running (level_of e.levels) (λ epoch drop h. refl) (entries p item ++ []) future))).0
+
+    owns-after : m.running s.op ≡ true → Owns m (IsOwn e.wires actor) e.levels s'
+    owns-after running = λ _ table agrees future f.
+        (all-split (IsOwn e.wires actor) drops (m.decides s'.op table future)
+        (subst (AllByRecursion (IsOwn e.wires actor)) (fed.decided table future agrees (own-future future f))
+        (seat-owns running table agrees (entries p item ++ future) (own-future future f)))).1
+
     -- the facts over every disk stay
     module _ (seats' : Vec (Seat O) Global) (queues' : Queues) (taken' : ℕ)
         (is_after : slice_get seats'.items actor ≡ Some s') (apart : (other : ℕ) → other ≢ actor → slice_get seats'.items other ≡ slice_get e.seats.items other)
@@ -113,6 +147,9 @@ module _ {O : Type 0} (m : Meaning O) (valid : O → Type 0) (e : Flow O) (flow 
         (ended : (k : ℕ) → (face queues' k).ended ≡ (face e.queues k).ended)
         (more : taken' ≡ e.taken + length (spread item)) (few : taken' < 2 ^ 62)
         (unfinished : done_at e.over (slice_get e.seats.items actor) ≡ false) where
+      ran : m.running s.op ≡ true
+      ran = runs unfinished
+
       done-same : (other : ℕ) → done_at e.over (slice_get seats'.items other) ≡ done_at e.over (slice_get e.seats.items other)
       done-same = at_or_other (λ k. done_at e.over (slice_get seats'.items k) ≡ done_at e.over (slice_get e.seats.items k)) actor
           (ap (done_at e.over) is_after ∙ ap not fed.open_still ∙ sym (ap (done_at e.over) is_seat))
@@ -164,6 +201,9 @@ module _ {O : Type 0} (m : Meaning O) (valid : O → Type 0) (e : Flow O) (flow 
             coming = flow.coming;
             few_sources = flow.few_sources;
             levels = flow.levels;
+            owned = at_or_other (λ k. holds_at (Owns m (IsOwn e.wires k) e.levels) (slice_get seats'.items k)) actor
+                (subst (holds_at (Owns m (IsOwn e.wires actor) e.levels)) (sym is_after) (owns-after ran))
+                (λ k ne. subst (holds_at (Owns m (IsOwn e.wires k) e.levels)) (sym (apart k ne)) (flow.owned k));
             counts = flow.counts;
             few_tuples = flow.few_tuples;
             over = flow.over;
@@ -286,6 +326,18 @@ module _ {O : Type 0} (m : Meaning O) (valid : O → Type 0) (e : Flow O) (flow 
             subst (λ k. IsPrefixOf (bodies (given 0 outs)) (bodies (coming net was e.wires.order.items k 0))) same (cut (given 0 outs) (coming net was e.wires.order.items actor 0) here)
         by false t = (bodies (coming net was e.wires.order.items output 0), refl)
 
+    -- and so is what it decides
+    pub drops-of-left : (drops : List Decision) → AllByRecursion (IsOwn e.wires actor) drops
+        → ((future : List Entry) → IsFuture (m.takes_marks s.op) (m.fits s.op) (m.place s.op) (entries p item ++ future) → IsPrefixOf drops (m.decides s.op table (entries p item ++ future)))
+        → (w : ℕ) → IsPrefixOf (of_drop w drops) (decisions_left m table items e (e.wires.sheds + w))
+    drops-of-left drops own law w =
+        own-front e.wires actor w drops (decisions_left m table items e (e.wires.sheds + w)) own
+        (λ same.
+        let first = comes-first in
+        let is : decisions_left m table items e actor ≡ m.decides s.op table (entries p item ++ first.0) =
+        ap (λ z. decides_at m table (slice_get e.seats.items actor) z) first.3 ∙ ap (λ o. decides_at m table o (entries p item ++ first.0)) is_seat in
+        subst (λ k. IsPrefixOf drops (decisions_left m table items e k)) (sym same) (rw is (law first.0 (op-future first.0 first.1))))
+
     -- after the feed
     module _ (seats' : Vec (Seat O) Global) (queues' : Queues) (taken' : ℕ) (s' : Seat O) (outs : List (ℕ × Item)) (drops : List Decision) (items' : ℕ → List Item)
         (fed : FedSeat m valid e.levels p item outs drops s s')
@@ -381,8 +433,9 @@ module _ {O : Type 0} (m : Meaning O) (valid : O → Type 0) (e : Flow O) (flow 
 
       pub goes-after : (events events' : List Event) → length seats'.items ≡ length e.seats.items → taken' ≡ e.taken + length (spread item)
           → ((output : ℕ) → lines_of output events' ≡ lines_of output events ++ bodies (pushed_by actor outs (e.wires.shown + output) 0))
+          → ((w : ℕ) → drops_of w events' ≡ drops_of w events ++ of_drop w drops)
           → Goes m table items items' e e' events events'
-      goes-after events events' seats_len more shown =
+      goes-after events events' seats_len more shown decides =
           let k = kept in
           record {
             lines = λ output low.
@@ -390,6 +443,14 @@ module _ {O : Type 0} (m : Meaning O) (valid : O → Type 0) (e : Flow O) (flow 
                 (ap bodies (k.streams (e.wires.shown + output) 0 (flow.shaped.ordered (e.wires.shown + output) low))
                 ∙ bodies-append (pushed_by actor outs (e.wires.shown + output) 0) (coming net is e.wires.order.items (e.wires.shown + output) 0))
                 (shown output);
+            drops = λ w low.
+                let is_replay = flow.shaped.replay_is in
+                let some = flow.shaped.shown_in in
+                let there : e.wires.sheds + w < length e.seats.items = omega (arith, some, low) in
+                let away : e.wires.sheds + w ≢ net.replay = omega (arith, is_replay, there) in
+                goes-on (drops_of w events) (cond (eqb (e.wires.sheds + w) actor) drops []) (decisions_left m table items e (e.wires.sheds + w)) (decisions_left m table items' e' (e.wires.sheds + w)) (drops_of w events')
+                (k.told (e.wires.sheds + w) (flow.shaped.ordered (e.wires.sheds + w) there) away).decisions
+                (decides w ∙ ap (λ z. drops_of w events ++ z) (of-own e.wires actor w drops (own-drops s' outs drops fed may (runs unfinished))));
             fed = λ other low.
                 let is = flow.shaped.replay_is in
                 let away : other ≢ net.replay = omega arith in
@@ -402,10 +463,10 @@ module _ {O : Type 0} (m : Meaning O) (valid : O → Type 0) (e : Flow O) (flow 
           }
 
   -- where the disk tells its pages the tests pass, whatever stands behind the item
-  pub passes-front : (items : ℕ → List Item) → HoldsItems m items e → ((k : ℕ) → IsFaceOf (face e.queues k) (items k)) → (more : List Item) → items at ≡ item ∷ more
+  pub passes-front : (table : ℕ → ℕ → ℕ) → Agrees e.levels table → (items : ℕ → List Item) → HoldsItems m table items e → ((k : ℕ) → IsFaceOf (face e.queues k) (items k)) → (more : List Item) → items at ≡ item ∷ more
       → MayBeFed a p s.tally.place e.clock item
-  passes-front items holds faces more whole =
-      passes items (λ k. cond (eqb k at) more (items k)) holds faces
+  passes-front table agrees items holds faces more whole =
+      passes table agrees items (λ k. cond (eqb k at) more (items k)) holds faces
       (whole ∙ ap (λ b. item ∷ cond b more (items at)) (sym (eqb-same at at refl)))
       (λ k ne. ap (λ b. cond b more (items k)) (eqb-not k at ne))
 
@@ -417,8 +478,8 @@ module _ {O : Type 0} (m : Meaning O) (valid : O → Type 0) (e : Flow O) (flow 
   too-much-front was mid_pages mid e' err together front others over few taken levels =
       record {
         counted = λ is. omega (arith, over, few, taken);
-        turns = λ is told holds table agrees.
-            let most = turns-over (items_on e.queues was) (items_on mid mid_pages) holds (together.faces told) (front told) (others told) table (rw levels at agrees) in
+        turns = λ is told table agrees holds.
+            let most = turns-over table (rw levels at agrees) (items_on e.queues was) (items_on mid mid_pages) holds (together.faces told) (front told) (others told) in
             omega (arith, over, most);
       }
 
@@ -427,8 +488,8 @@ module _ {O : Type 0} (m : Meaning O) (valid : O → Type 0) (e : Flow O) (flow 
       → (Tells was → items_on e.queues was at ≡ item ∷ items_on mid mid_pages at)
       → (Tells was → (other : ℕ) → other ≢ at → items_on mid mid_pages other ≡ items_on e.queues was other)
       → after ≡ before + cond (is_some item.body) 1 0 → CostsAtMost m was e e.levels before after
-  costs-front was mid_pages mid before after together front others more = λ told holds table agrees.
-      let most = work-over (items_on e.queues was) (items_on mid mid_pages) holds (together.faces told) (front told) (others told) table agrees in
+  costs-front was mid_pages mid before after together front others more = λ told table agrees holds.
+      let most = work-over table agrees (items_on e.queues was) (items_on mid mid_pages) holds (together.faces told) (front told) (others told) in
       omega (arith, most, more)
 
   pub costs-fed : (seats' : Vec (Seat O) Global) (queues' : Queues) (taken' : ℕ) (s' : Seat O) (before after : ℕ) → slice_get seats'.items actor ≡ Some s' → ((other : ℕ) → other ≢ actor → slice_get seats'.items other ≡ slice_get e.seats.items other)
@@ -455,14 +516,6 @@ module _ {O : Type 0} (m : Meaning O) (valid : O → Type 0) (e : Flow O) (flow 
       not-fed : (arc : ℕ) → to_of (slice_get e.wires.arcs.items arc) ≢ actor → arc ≢ at
       not-fed arc to same = to (ap (λ k. to_of (slice_get e.wires.arcs.items k)) same ∙ (flow.shaped.joined actor p at head.1).0)
 
-  -- the operator runs
-  pub runs : done_at e.over (slice_get e.seats.items actor) ≡ false → m.running s.op ≡ true
-  runs open_now = seat-fine.running ∙ by s.tally.running (sym (ap (done_at e.over) is_seat) ∙ open_now)
-    where
-      by : (b : Bool) → not b ≡ false → b ≡ true
-      by true h = refl
-      by false h = cc
-
   -- what a feed has shown where giving failed
   pub fed-prefix : (was mid_pages : Option Pages) (mid : Queues) (s' : Seat O) (outs : List (ℕ × Item)) (drops : List Decision) (events events' : List Event)
       → Together e.queues was
@@ -470,11 +523,20 @@ module _ {O : Type 0} (m : Meaning O) (valid : O → Type 0) (e : Flow O) (flow 
       → (Tells was → (other : ℕ) → other ≢ at → items_on mid mid_pages other ≡ items_on e.queues was other)
       → FedSeat m valid e.levels p item outs drops s s'
       → ((o : ℕ) → IsPrefixOf (lines_of o events') (lines_of o events ++ bodies (pushed_by actor outs (e.wires.shown + o) 0)))
+      → MayBeFed a p s.tally.place e.clock item → done_at e.over (slice_get e.seats.items actor) ≡ false
+      → ((w : ℕ) → IsPrefixOf (drops_of w events') (drops_of w events ++ of_drop w drops))
       → ShowsPrefix m was e e.levels events events'
-  fed-prefix was mid_pages mid s' outs drops events events' together front others fed pre = λ told holds table agrees output low.
-      prefix-chain (lines_of output events') (lines_of output events) (bodies (pushed_by actor outs (e.wires.shown + output) 0)) (lines_left m table (items_on e.queues was) e output) (pre output)
-      (prefix-of-left (items_on e.queues was) (items_on mid mid_pages) holds (together.faces told) (front told) (others told) table agrees outs
-      (λ future f q. (m.rest s'.op table future q, fed.law table future agrees f q)) (e.wires.shown + output))
+  fed-prefix was mid_pages mid s' outs drops events events' together front others fed pre may unfinished decides = λ told table agrees holds.
+      record {
+        lines = λ output low.
+            prefix-chain (lines_of output events') (lines_of output events) (bodies (pushed_by actor outs (e.wires.shown + output) 0)) (lines_left m table (items_on e.queues was) e output) (pre output)
+            (prefix-of-left table agrees (items_on e.queues was) (items_on mid mid_pages) holds (together.faces told) (front told) (others told) outs
+            (λ future f q. (m.rest s'.op table future q, fed.law table future agrees f q)) (e.wires.shown + output));
+        drops = λ w low.
+            prefix-chain (drops_of w events') (drops_of w events) (of_drop w drops) (decisions_left m table (items_on e.queues was) e (e.wires.sheds + w)) (decides w)
+            (drops-of-left table agrees (items_on e.queues was) (items_on mid mid_pages) holds (together.faces told) (front told) (others told) drops (own-drops s' outs drops fed may (runs unfinished))
+            (λ future f. (m.decides s'.op table future, fed.decided table future agrees f)) w);
+      }
 
   -- the whole of a feed, from what its parts say
   pub fed-stepped : (was is mid_pages : Option Pages) (mid q' : Queues) (seats' : Vec (Seat O) Global) (taken' : ℕ) (s' : Seat O) (outs : List (ℕ × Item)) (drops : List Decision) (events events' : List Event)
@@ -488,9 +550,10 @@ module _ {O : Type 0} (m : Meaning O) (valid : O → Type 0) (e : Flow O) (flow 
       → length seats'.items ≡ length e.seats.items → done_at e.over (slice_get e.seats.items actor) ≡ false
       → Pushes mid q' mid_pages is (sent_to e.wires actor outs) (λ time. AllOutsFine time outs) (comes_from e.wires actor)
       → ((o : ℕ) → lines_of o events' ≡ lines_of o events ++ bodies (pushed_by actor outs (e.wires.shown + o) 0))
-      → ShowsIn (length e.seats.items - e.wires.shown) 0 events events' → plans_of events' ≡ plans_of events
+      → ((w : ℕ) → drops_of w events' ≡ drops_of w events ++ of_drop w drops)
+      → ShowsIn (length e.seats.items - e.wires.shown) (e.wires.shown - e.wires.sheds) events events' → plans_of events' ≡ plans_of events
       → Stepped m valid was is e (record e { seats = seats'; queues = q'; taken = taken' }) events events'
-  fed-stepped was is mid_pages mid q' seats' taken' s' outs drops events events' together may ended lanes front others tells more few fed is_after apart seats_len unfinished sent shown below plans =
+  fed-stepped was is mid_pages mid q' seats' taken' s' outs drops events events' together may ended lanes front others tells more few fed is_after apart seats_len unfinished sent shown decides below plans =
       record {
         flow_after = flow-after s' outs drops fed may seats' q' taken' is_after apart seats_len (sent.lanes ∙ lanes ∙ flow.lanes) (λ k. sent.ended k ∙ ended k) more few unfinished;
         together = sent.together;
@@ -502,12 +565,12 @@ module _ {O : Type 0} (m : Meaning O) (valid : O → Type 0) (e : Flow O) (flow 
         planner = refl;
         planned = λ all h. record { agrees = h.agrees; counts = h.counts };
         plans = ap (λ z. z ++ plans_left e) (sym plans);
-        holds = λ told holds.
-            holds-after (items_on e.queues was) (items_on mid mid_pages) holds (together.faces told) (front told) (others told) seats' q' taken' s' outs drops (items_on q' is)
+        holds = λ told table agrees holds.
+            holds-after table agrees (items_on e.queues was) (items_on mid mid_pages) holds (together.faces told) (front told) (others told) seats' q' taken' s' outs drops (items_on q' is)
             fed is_after apart unfinished (on told) (sent.fine (tells ∙ told)) may;
-        goes = λ told holds table agrees.
-            goes-after (items_on e.queues was) (items_on mid mid_pages) holds (together.faces told) (front told) (others told) seats' q' taken' s' outs drops (items_on q' is)
-            fed is_after apart unfinished (on told) (sent.fine (tells ∙ told)) may events events' seats_len more shown table agrees;
+        goes = λ told table agrees holds.
+            goes-after table agrees (items_on e.queues was) (items_on mid mid_pages) holds (together.faces told) (front told) (others told) seats' q' taken' s' outs drops (items_on q' is)
+            fed is_after apart unfinished (on told) (sent.fine (tells ∙ told)) may events events' seats_len more shown decides;
       }
     where
       on : Tells was → (k : ℕ) → k < length e.wires.arcs.items → spread_all (items_on q' is k) ≡ spread_all (items_on mid mid_pages k) ++ pushed_by actor outs (net.from k) (net.port k)

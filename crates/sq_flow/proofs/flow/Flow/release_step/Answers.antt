@@ -12,7 +12,7 @@ use Rattle.sq_flow.proofs.flow.Flow.release_step.Goals as goal
 pub returns-in_err-close_before-clause-prefix : goal.returns-in_err-close_before-clause-prefix
 returns-in_err-close_before-clause-prefix g c =
     let p = err_from_is_err_and c.from_residual.result c.from_residual.ensures.1 in
-    rw p.1 (lines-stay _ (g.D.PageDisk.pages c.args.disk.now) c.args.self.now c.close_before.new.levels c.args.events.now.items c.close_before.new.events.items c.in_err-close_before.ensures.lines)
+    rw p.1 (lines-stay _ (g.D.PageDisk.pages c.args.disk.now) c.args.self.now c.close_before.new.levels c.args.events.now.items c.close_before.new.events.items c.in_err-close_before.ensures.lines c.in_err-close_before.ensures.drops)
 
 pub returns-in_err-close_before-clause-plans : goal.returns-in_err-close_before-clause-plans
 returns-in_err-close_before-clause-plans g c =
@@ -44,7 +44,7 @@ send_one-requires-clause-sound g c =
 pub returns-in_err-send_one-clause-prefix : goal.returns-in_err-send_one-clause-prefix
 returns-in_err-send_one-clause-prefix g c =
     let p = err_from_is_err_and c.from_residual-in_err-send_one.result c.from_residual-in_err-send_one.ensures.1 in
-    rw p.1 (lines-stay _ (g.D.PageDisk.pages c.args.disk.now) c.args.self.now c.close_before.new.levels c.args.events.now.items c.close_before.new.events.items c.in_ok-close_before.ensures.lines)
+    rw p.1 (lines-stay _ (g.D.PageDisk.pages c.args.disk.now) c.args.self.now c.close_before.new.levels c.args.events.now.items c.close_before.new.events.items c.in_ok-close_before.ensures.lines c.in_ok-close_before.ensures.drops)
 
 pub returns-in_err-send_one-clause-plans : goal.returns-in_err-send_one-clause-plans
 returns-in_err-send_one-clause-plans g c =
@@ -63,6 +63,7 @@ returns-in_err-send_one-clause-plans g c =
       agrees = done.agrees;
       plans = done.plans;
       lines = done.lines;
+      drops = done.drops;
       within = done.within;
     }) in
     let len = mid-len _ _ c.args.self.now c.requires.flow pos c.args.source c.index_mut.result.now c.first_of-tuple.new.tuples c.first_of-tuple.result c.requires.next at c.first_of-tuple.ensures _ _ _ _ _ did in
@@ -92,6 +93,7 @@ returns-clause-ok g c =
       agrees = done.agrees;
       plans = done.plans;
       lines = done.lines;
+      drops = done.drops;
       within = done.within;
     }) in
     let len = mid-len _ _ c.args.self.now c.requires.flow pos c.args.source c.index_mut.result.now c.first_of-tuple.new.tuples c.first_of-tuple.result c.requires.next at c.first_of-tuple.ensures _ _ _ _ _ did in
