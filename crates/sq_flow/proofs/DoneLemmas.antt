@@ -3,7 +3,6 @@ use Rattle.std.proofs.Common.{◌≡◌, ◌≢◌, ℕ, zero, suc, ◌+◌, ◌
 use Rattle.std.specs.Prelude.{slice_get, is_some}
 use Rattle.std.proofs.lemmas.Option.{slice_get_past}
 use Rattle.sq_item.specs.declared.Item.{Item}
-use Rattle.sq_road.specs.Levels.{Agrees}
 use Rattle.sq_oper.specs.Streams.{tuples_of}
 use Rattle.sq_left.specs.Left.{Net, known, Each, IsWired}
 use Rattle.sq_left.proofs.MergeLemmas.{eqb-yes, eqb-no, eqb-same}

@@ -26,7 +26,6 @@ use Rattle.sq_outside.specs.Disks.{Pages}
 use Rattle.sq_queue.specs.Faces.{face, size, items_on, Tells, Together}
 use Rattle.sq_flow.specs.Sends.{many, Pushes}
 use Rattle.sq_flow.specs.Sources.{BeginsLeast, IsNextSource}
-use Rattle.sq_flow.specs.Plans.{IsPlanned, plans_left, plans_of}
 use Rattle.sq_flow.proofs.PlanLemmas.{rise-later}
 use Rattle.sq_flow.proofs.DropLemmas.{owns-later}
 use Rattle.sq_flow.proofs.ReleasedPlans.{ClosedBefore, agrees-before, epoch_there, not-before, mid-len, mid-low, planned-after, plans-go}
@@ -114,7 +113,7 @@ module _ {O : Type 0} (m : Meaning O) (valid : O → Type 0) (e : Flow O) (flow 
       (λ other low. let away : other ≢ net.replay = omega (arith, is_replay, low) in ap (λ (l : List Entry). length l) (k.told other (flow.shaped.ordered other low) away).comes) in
       ap (λ n. e.taken + n) sums
 
-  pub goes-after : (events events' : List Event) → ((o : ℕ) → lines_of o events' ≡ lines_of o events) → ((w : ℕ) → drops_of w events' ≡ drops_of w events) → ((output : ℕ) → output < length e.seats.items → (q : ℕ) → pushed output q ≡ []) → Agrees levels' table
+  pub goes-after : (events events' : List Event) → ((o : ℕ) → lines_of o events' ≡ lines_of o events) → ((w : ℕ) → drops_of w events' ≡ drops_of w events) → ((output : ℕ) → output < length e.seats.items → (q : ℕ) → pushed output q ≡ [])
       → Goes m table items items' e e' events events'
   goes-after events events' shown decides none =
       let k = kept in

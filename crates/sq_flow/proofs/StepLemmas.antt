@@ -13,7 +13,7 @@ use Rattle.sq_flow.specs.Wiring.{arcs_read}
 use Rattle.sq_flow.specs.Heads.{NextUpTo}
 use Rattle.sq_flow.specs.Seats.{Meaning}
 use Rattle.sq_flow.specs.Events.{drops_of, ShowsIn}
-use Rattle.sq_flow.specs.Plans.{IsPlanned, PlansPrefix, plans_of}
+use Rattle.sq_flow.specs.Plans.{PlansPrefix, plans_of}
 use Rattle.sq_plan.specs.Plans.{Setting}
 use Rattle.sq_plan.specs.Shown.{level_for}
 use Rattle.sq_value.specs.Lists.{IsPrefixOf}
