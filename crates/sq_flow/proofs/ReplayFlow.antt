@@ -285,16 +285,16 @@ module _ {O : Type 0} (m : Meaning O) (valid : O → Type 0) (e : Flow O) (flow 
               → spread_all (items_on q' is k) ≡ spread_all (items_on e.queues was k) ++ sent e.wires.replay port (spread item) ((net_of e.wires).from k) ((net_of e.wires).port k)
           on told k low = pushes.items told k ∙ ap (λ z. spread_all (items_on e.queues was k) ++ z) (one-sent e.wires (length e.seats.items) flow.shaped e.wires.replay port k (spread item) low)
 
-    pub released-touches : (was is : Option Pages) (q' : Queues) (sources' : Vec (VecDeque Tuple Global) Global) (planner' : Setting) (levels' : LevelTable) (counts' : Vec ℕ Global) (sent_there : ℕ → List Thing) (upto : ℕ → Type 0)
-        → Pushes e.queues q' was is sent_there upto (contains (arcs_from e.wires e.wires.replay port))
+    pub released-touches : (was is : Option Pages) (q' : Queues) (sources' : Vec (VecDeque Tuple Global) Global) (planner' : Setting) (levels' : LevelTable) (counts' : Vec ℕ Global)
+        → Pushes e.queues q' was is (λ k. many (times_in k (arcs_from e.wires e.wires.replay port)) (spread item)) (λ time. x.time ≤ time) (contains (arcs_from e.wires e.wires.replay port))
         → TouchesOnly (length e.seats.items) e (record e { queues = q'; sources = sources'; clock = x.time; planner = planner'; levels = levels'; counts = counts' })
-    released-touches was is q' sources' planner' levels' counts' sent_there upto pushes =
+    released-touches was is q' sources' planner' levels' counts' pushes =
         record {
           apart = λ arc low to from.
               let r = flow.shaped.replay_is in
               pushes.apart arc (apart-arcs e.wires e.wires.replay port arc (comes-from e.wires (length e.seats.items) flow.shaped e.wires.replay port arc)
               (away-from e.wires e.wires.replay arc (λ same. from (same ∙ r))));
-          grows = λ arc low to h. stands-pushed e.queues q' was is sent_there upto (contains (arcs_from e.wires e.wires.replay port)) pushes arc h;
+          grows = λ arc low to h. stands-pushed e.queues q' was is _ _ _ pushes arc h;
           others = λ other low ne. refl;
         }
 

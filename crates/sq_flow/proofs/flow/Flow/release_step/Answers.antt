@@ -112,7 +112,7 @@ returns-clause-touches g c =
     let pos : 0 < c.args.self.now.levels.epoch = omega (arith, c.epoch.ensures.epoch, c.epoch.ensures.lasts) in
     released-touches _ _ c.args.self.now c.requires.flow pos c.args.source c.index_mut.result.now c.first_of-tuple.new.tuples c.first_of-tuple.result c.requires.next at c.first_of-tuple.ensures
     (g.D.PageDisk.pages c.args.disk.now) (g.D.PageDisk.pages c.send_one.new.disk) c.send_one.new.queues (with_item c.args.self.now.sources c.args.source c.first_of-tuple.new.tuples) c.close_before.new.planner c.close_before.new.levels
-    (with_item c.close_before.new.counts c.args.source (c.index_mut-2.result.now + 1)) _ _ c.in_ok-send_one.ensures
+    (with_item c.close_before.new.counts c.args.source (c.index_mut-2.result.now + 1)) c.in_ok-send_one.ensures
 
 pub returns-clause-measure : goal.returns-clause-measure
 returns-clause-measure g c =
