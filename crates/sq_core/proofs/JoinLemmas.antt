@@ -339,4 +339,4 @@ module _ (shown : ℕ) (feeds : List (Vec Feed Global)) (at place : ℕ) (f : Fe
       }
 
 pub fixed-more : (a b c : Wires) → Fixed a b → Fixed b c → Fixed a c
-fixed-more a b c f g = record { replay = g.replay ∙ f.replay; shown = g.shown ∙ f.shown; order = g.order ∙ f.order }
+fixed-more a b c f g = record { replay = g.replay ∙ f.replay; sheds = g.sheds ∙ f.sheds; shown = g.shown ∙ f.shown; order = g.order ∙ f.order }

@@ -71,6 +71,7 @@ once_more x xs = if contains xs x then xs else xs ++ x ∷ []
 -- what no arc changes
 pub record Fixed (was is : Wires) : Type 0 where
   pub replay : is.replay ≡ was.replay
+  pub sheds : is.sheds ≡ was.sheds
   pub shown : is.shown ≡ was.shown
   pub order : is.order ≡ was.order
 
