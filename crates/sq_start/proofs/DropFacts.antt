@@ -1,7 +1,7 @@
 -- New window drops and gates: by their clauses, what they do for all that they are fed.
 use Rattle.std.proofs.Common.{◌≡◌, ℕ, Bool, true, false, List, [], ◌∷◌, map, Option, Some, None, refl, ap, sym, ◌∙◌, subst}
 use Rattle.std.specs.Prelude.{slice_get, ◌==◌}
-use Rattle.std.specs.List.{All, filter}
+use Rattle.std.specs.List.{All, AllByRecursion, filter}
 use Rattle.sq_value.specs.declared.Value.{Value}
 use Rattle.sq_value.specs.Values.{IsStream}
 use Rattle.sq_item.specs.Things.{Thing}
@@ -12,7 +12,8 @@ use Rattle.sq_oper.specs.Order.{IsFuture, unmarked}
 use Rattle.sq_oper.specs.Streams.{tuples_of, things, at_zero}
 use Rattle.sq_tagged.specs.Tagged.{spread_of}
 use Rattle.sq_tagged.specs.Boxes.{drop_tagged, until_at, touched_batches}
-use Rattle.sq_windrop.specs.Drops.{dropping, is_dropped, decided}
+use Rattle.sq_windrop.specs.declared.drop.Dropping.{Dropping}
+use Rattle.sq_windrop.specs.Drops.{dropping, is_dropped, decision, decided}
 use Rattle.sq_windrop.specs.Gates as gates
 use Rattle.sq_place.specs.declared.DropPoint.{DropPoint}
 use Rattle.sq_net.specs.Sound.{IsSound}
@@ -28,6 +29,14 @@ use Rattle.sq_start.specs.Starts.{IsRead, IsDrop, length_above, IsOutput, DropSt
 use Rattle.sq_start.proofs.BoxFacts.{Ready}
 use Rattle.sq_start.proofs.PointLemmas.{own-arc, own-drop}
 use Rattle.sq_start.proofs.OwnArcs.{own-fed}
+
+-- all that a drop decides is its own
+pub own-decided : (d : Dropping) (table : ℕ → ℕ → ℕ) (bs : List ℕ) → AllByRecursion (λ (x : Decision). x.drop ≡ d.number) (decided d table bs)
+own-decided d table bs = by (filter (is_dropped d table) bs)
+  where
+    by : (xs : List ℕ) → AllByRecursion (λ (x : Decision). x.drop ≡ d.number) (map (decision d table) xs)
+    by [] = tt
+    by (x ∷ xs) = (refl, by xs)
 
 -- a drop of the replay in the words of its box
 gives-as : (r : Replay) (w : ℕ) (p : DropPoint) (epoch seed : ℕ) → r.network.epoch ≡ epoch → r.seed ≡ seed

@@ -3,7 +3,9 @@
 ghost use Rattle.std.specs.Prelude.{◌≡◌, ◌<◌, ◌≤◌, ◌^◌, ◌*◌, ◌==◌, ℕ, true, false, List, [], Option};
 ghost use Rattle.sq_value.specs.declared.Value.{Value};
 ghost use Rattle.sq_oper.specs.declared.tally.Place.{Place};
+ghost use Rattle.std.specs.List.{AllByRecursion};
 ghost use Rattle.sq_oper.specs.Entries.{Entry};
+ghost use Rattle.sq_oper.specs.Order.{IsFuture};
 ghost use Rattle.sq_windrop.specs.Gates.{IsLength};
 ghost use Rattle.sq_start.specs.Starts.{DropStarts, OutputStarts};
 
@@ -19,6 +21,8 @@ pub fn drop_actor(w: u32, p: &DropPoint, epoch: u64, seed: u64) -> Actor
     requires keep { p.now.keep < 4096 * p.now.length }
     requires epoch { 1 ≤ epoch }
     ensures starts { DropStarts w p.now epoch seed (⟦<Actor as Operator>⟧.takes_marks result) (⟦<Actor as Operator>⟧.fits result) (⟦<Actor as Operator>⟧.rest result) (⟦<Actor as Operator>⟧.decides result) }
+    ensures owns { (table : ℕ → ℕ → ℕ) (future : List Entry) → IsFuture (⟦<Actor as Operator>⟧.takes_marks result) (⟦<Actor as Operator>⟧.fits result) Place.Start future
+        → AllByRecursion (λ d. d.drop ≡ w) (⟦<Actor as Operator>⟧.decides result table future) }
     ensures fits { (port : ℕ) (fields : List Value) → ⟦<Actor as Operator>⟧.fits result port fields ≡ (port == 0) }
     ensures none { (table : ℕ → ℕ → ℕ) (port : ℕ) → ⟦<Actor as Operator>⟧.rest result table [] port ≡ [] }
     ensures none_lost { (future : List Entry) → ⟦<Actor as Operator>⟧.lost result future ≡ 0 }
