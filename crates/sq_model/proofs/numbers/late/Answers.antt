@@ -1,7 +1,7 @@
 use Rattle.std.proofs.Common.{map}
 use Rattle.sq_model.specs.Fed.{late_from}
 use Rattle.sq_model.proofs.NumberLemmas.{numbered_more}
-use Rattle.sq_model.proofs.work.late.Goals as goal
+use Rattle.sq_model.proofs.numbers.late.Goals as goal
 
 pub loop-at-preserved : goal.loop-at-preserved
 loop-at-preserved c =
