@@ -1,15 +1,18 @@
 -- New operators of a network: by the contracts of new actors, each stands for its actor in every replay that was read of it.
 use Rattle.std.proofs.Common.{◌≡◌, ℕ, zero, suc, ◌-◌, ◌<◌, ◌⊎◌, Bool, true, false, ◌&&◌, List, [], ◌∷◌, ◌++◌, map, length, get_or, Option, Some, None, refl, ap, sym, ◌∙◌, subst, inl, inr}
 use Rattle.std.specs.Prelude.{slice_get, is_some, ◌==◌}
+use Rattle.std.specs.List.{AllByRecursion}
 use Rattle.std.proofs.lemmas.Option.{slice_get-get_or}
 use Rattle.std.proofs.lemmas.List.FromFn.{length-range_with_len}
 use Rattle.sq_value.specs.declared.Value.{Value}
 use Rattle.sq_value.specs.Lists.{numbers_to, max_by}
 use Rattle.sq_oper.specs.declared.tally.Place.TheVariants.{Start}
+use Rattle.sq_oper.specs.declared.outs.Decision.{Decision}
 use Rattle.sq_oper.specs.Entries.{Entry}
+use Rattle.sq_oper.specs.Order.{IsFuture}
 use Rattle.sq_graph.specs.Wires.{inputs_of, input_arcs_of, arc_at}
 use Rattle.sq_place.specs.declared.DropPoint.{DropPoint}
-use Rattle.sq_place.proofs.Lists.{and-left, and-right}
+use Rattle.sq_place.proofs.Lists.{and-left, and-right, All-weaker}
 use Rattle.sq_place.proofs.Wires.{length-mapped}
 use Rattle.sq_net.specs.declared.Network.{Network}
 use Rattle.sq_net.specs.declared.Node.{Node}
@@ -50,6 +53,7 @@ box-started n b x lags marked a there above are starts none fits takes reads fre
       gives = λ r read is same q. starts.gives r b (box r read is) q;
       decides = λ r read is same. none (level_of r) (fed_to r (Box b));
       loses = λ r read is same. starts.loses r b (box r read is);
+      owns = λ table future may. subst (AllByRecursion (λ d. Box b ≡ Shedder d.drop)) (sym (none table future)) tt;
       marks = marks;
       fits = λ port fields h. fits port fields ∙ ap (λ k. body_fits x.body k port fields) (lags-many n b lags (drop_above_box n b) are) ∙ sym (ap (λ o. node_fits o (length (inputs_of n.wires b)) port fields) there) ∙ h;
       reads = reads n.epoch;
@@ -83,13 +87,15 @@ box-started n b x lags marked a there above are starts none fits takes reads fre
 
 pub drop-started : (n : Network) (w : ℕ) (p : DropPoint) (number : ℕ) (a : operator.Actor) → slice_get (points_of n) w ≡ Some p
     → DropStarts w p n.epoch number (ghosts.takes_marks a) (ghosts.fits a) (ghosts.rest a) (ghosts.decides a)
+    → ((table : ℕ → ℕ → ℕ) (future : List Entry) → IsFuture (ghosts.takes_marks a) (ghosts.fits a) Start future → AllByRecursion (λ d. d.drop ≡ w) (ghosts.decides a table future))
     → ((future : List Entry) → ghosts.lost a future ≡ 0) → ((port : ℕ) (fields : List Value) → ghosts.fits a port fields ≡ (port == 0))
     → ghosts.reads a n.epoch ≡ true → IsFresh a → IsStarted n number (Shedder w) a
-drop-started n w p number a there starts none fits reads fresh =
+drop-started n w p number a there starts own none fits reads fresh =
     record {
       gives = λ r read is same q. (let k = known r is in ap (λ es. ghosts.rest a (level_of r) es q) (ap (drop_fed_at r) k) ∙ starts.gives r (of r read is same) q);
       decides = λ r read is same. (let k = known r is in ap (ghosts.decides a (level_of r)) (ap (drop_fed_at r) k) ∙ starts.decided r (of r read is same) ∙ sym (ap (drop_decisions r w) k));
       loses = λ r read is same. none (fed_to r (Shedder w));
+      owns = λ table future may. All-weaker (λ (d : Decision). d.drop ≡ w) (λ (d : Decision). Shedder w ≡ Shedder d.drop) (λ d e. ap Shedder (sym e)) (ghosts.decides a table future) (own table future may);
       marks = λ port h. absurd (cc h);
       fits = λ port fields h. fits port fields ∙ h;
       reads = reads;
@@ -116,6 +122,7 @@ output-started n o len a told starts none lost fits takes reads fresh number =
       gives = λ r read is same q. starts.gives r o (record { read = read; told = ap (λ (m : Network). length_above (drop_above_output m o)) is ∙ told }) q;
       decides = λ r read is same. none (level_of r) (fed_to r (Shower o));
       loses = λ r read is same. lost (fed_to r (Shower o));
+      owns = λ table future may. subst (AllByRecursion (λ d. Shower o ≡ Shedder d.drop)) (sym (none table future)) tt;
       marks = λ port h. takes port ∙ h;
       fits = λ port fields h. fits port fields;
       reads = reads n.epoch;

@@ -1,7 +1,10 @@
 -- The operators of a network, new, and that they are so for every replay that was read of it.
 use Rattle.std.specs.Prelude.{◌≡◌, ℕ, ◌==◌, ◌&&◌, Bool, true, false, List, [], length, Option, Some, None, is_some, slice_get}
+use Rattle.std.specs.List.{AllByRecursion}
 use Rattle.sq_value.specs.declared.Value.{Value}
 use Rattle.sq_oper.specs.declared.tally.Place.TheVariants.{Start}
+use Rattle.sq_oper.specs.Entries.{Entry}
+use Rattle.sq_oper.specs.Order.{IsFuture}
 use Rattle.sq_graph.specs.Wires.{inputs_of}
 use Rattle.sq_net.specs.declared.Network.{Network}
 use Rattle.sq_net.specs.declared.Node.{Node}
@@ -49,6 +52,8 @@ pub record IsStarted (n : Network) (number : ℕ) (x : Actor) (a : operator.Acto
   pub gives : (r : Replay) → IsRead r → r.network ≡ n → r.seed ≡ number → (q : ℕ) → ghosts.rest a (level_of r) (fed_to r x) q ≡ stream_of r (x, q)
   pub decides : (r : Replay) → IsRead r → r.network ≡ n → r.seed ≡ number → ghosts.decides a (level_of r) (fed_to r x) ≡ decided_by r x
   pub loses : (r : Replay) → IsRead r → r.network ≡ n → r.seed ≡ number → ghosts.lost a (fed_to r x) ≡ lost_by r x
+  pub owns : (table : ℕ → ℕ → ℕ) (future : List Entry) → IsFuture (ghosts.takes_marks a) (ghosts.fits a) Start future
+      → AllByRecursion (λ d. x ≡ Shedder d.drop) (ghosts.decides a table future)
   pub marks : (port : ℕ) → actor_marks n x port ≡ true → ghosts.takes_marks a port ≡ true
   pub fits : (port : ℕ) (fields : List Value) → actor_fits n x port fields ≡ true → ghosts.fits a port fields ≡ true
   pub reads : ghosts.reads a n.epoch ≡ true

@@ -17,5 +17,5 @@ returns c =
     let p = c.index-points-w.result in
     let there = ap (λ l. slice_get l c.args.w) (sym c.requires.points) ∙ there-in c.args.points.now c.args.w p c.requires.there c.index-points-w.is in
     let new = c.drop_actor.ensures in
-    drop-started c.args.n.now c.args.w p c.args.seed c.drop_actor.result there new.starts new.none_lost new.fits (new.reads c.args.n.now.epoch ∙ self-equal c.args.n.now.epoch)
+    drop-started c.args.n.now c.args.w p c.args.seed c.drop_actor.result there new.starts new.owns new.none_lost new.fits (new.reads c.args.n.now.epoch ∙ self-equal c.args.n.now.epoch)
     (record { none = new.none; at_start = new.start; is_valid = new.valid })
