@@ -1,5 +1,5 @@
 -- New operators of a network: by the contracts of new actors, each stands for its actor in every replay that was read of it.
-use Rattle.std.proofs.Common.{◌≡◌, ℕ, zero, suc, ◌-◌, ◌<◌, ◌⊎◌, Bool, true, false, ◌&&◌, List, [], ◌∷◌, ◌++◌, map, length, get_or, Option, Some, None, refl, ap, sym, ◌∙◌, subst, inl, inr}
+use Rattle.std.proofs.Common.{◌≡◌, ℕ, zero, suc, ◌-◌, ◌<◌, ◌⊎◌, Bool, true, List, [], ◌∷◌, ◌++◌, length, get_or, Option, Some, None, refl, ap, sym, ◌∙◌, subst, inl, inr}
 use Rattle.std.specs.Prelude.{slice_get, is_some, ◌==◌}
 use Rattle.std.specs.List.{AllByRecursion}
 use Rattle.std.proofs.lemmas.Option.{slice_get-get_or}
@@ -16,17 +16,16 @@ use Rattle.sq_place.proofs.Lists.{and-left, and-right, All-weaker}
 use Rattle.sq_place.proofs.Wires.{length-mapped}
 use Rattle.sq_net.specs.declared.Network.{Network}
 use Rattle.sq_net.specs.declared.Node.{Node}
-use Rattle.sq_net.specs.declared.Body.{Body}
 use Rattle.sq_points.specs.Points.{points_of}
 use Rattle.sq_model.specs.Shedding.{Replay, level_of, drop_above_output}
 use Rattle.sq_model.specs.Kept.{distance_of}
 use Rattle.sq_actor.specs.declared.actor.Actor as operator
 use Rattle.sq_actor.specs.contracts.actor.ActorOperator.TheImpl.{ghosts}
-use Rattle.sq_below.specs.Standing.{Drop, drop_above_box, drop_fed}
-use Rattle.sq_below.specs.Actors.{Actor, Box, Shedder, Shower, stream_of}
+use Rattle.sq_below.specs.Standing.{Drop, drop_above_box}
+use Rattle.sq_below.specs.Actors.{Box, Shedder, Shower}
 use Rattle.sq_below.specs.Ports.{body_fits, body_marks}
 use Rattle.sq_start.specs.Nets.{fed_to, drop_fed_at, drop_decisions}
-use Rattle.sq_start.specs.Starts.{IsRead, IsDropAbove, AreLags, IsBox, IsDrop, IsOutput, length_above, BoxStarts, DropStarts, OutputStarts}
+use Rattle.sq_start.specs.Starts.{IsRead, IsDropAbove, AreLags, IsBox, IsDrop, length_above, BoxStarts, DropStarts, OutputStarts}
 use Rattle.sq_start.specs.Started.{node_marks, node_fits, actor_marks, IsStarted}
 
 pub lags-many : (n : Network) (b : ℕ) (lags : List ℕ) (o : Option Drop) → AreLags n b lags o → length lags ≡ length (inputs_of n.wires b)

@@ -1,6 +1,5 @@
-use Rattle.std.proofs.Common.{◌≡◌, Some, ap, sym, ◌∙◌, refl}
-use Rattle.std.specs.Prelude.{slice_get, ◌==◌}
-use Rattle.sq_points.specs.Points.{points_of}
+use Rattle.std.proofs.Common.{ap, sym, ◌∙◌}
+use Rattle.std.specs.Prelude.{slice_get}
 use Rattle.sq_start.proofs.PointLemmas.{there-in}
 use Rattle.sq_start.proofs.ToldLemmas.{point-fine, self-equal}
 use Rattle.sq_start.proofs.StartedLemmas.{drop-started}

@@ -1,5 +1,4 @@
-use Rattle.std.proofs.Common.{◌≡◌, ◌+◌, ◌<◌, ap, sym, subst, ◌∙◌, length, arith}
-use Rattle.sq_points.specs.Points.{points_of}
+use Rattle.std.proofs.Common.{ap, sym, subst, ◌∙◌, length, arith}
 use Rattle.sq_points.proofs.Plannable.{few-points}
 use Rattle.sq_start.specs.Numbers.{actor_at}
 use Rattle.sq_start.specs.Started.{IsStarted}

@@ -1,4 +1,4 @@
-use Rattle.std.proofs.Common.{◌≡◌, ◌+◌, ◌<◌, ap, sym, subst, ◌∙◌, length, arith}
+use Rattle.std.proofs.Common.{ap, sym, subst, ◌∙◌, length, arith}
 use Rattle.sq_start.specs.Numbers.{actor_at}
 use Rattle.sq_start.specs.Started.{IsStarted}
 use Rattle.sq_start.proofs.NumberLemmas.{output-at}

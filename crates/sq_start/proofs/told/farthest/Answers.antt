@@ -1,6 +1,4 @@
-use Rattle.std.proofs.Common.{◌≡◌, ◌+◌, ap, sym, ◌∙◌, max, take, get_or, rules}
-use Rattle.std.proofs.Math.Seq.{take-suc}
-use Rattle.sq_value.specs.Lists.{max_by}
+use Rattle.std.proofs.Common.{rules}
 use Rattle.sq_model.specs.Kept.{distance_of}
 use Rattle.sq_start.proofs.ToldLemmas.{max-step}
 use Rattle.sq_start.proofs.told.farthest.Goals as goal

@@ -1,9 +1,8 @@
-use Rattle.std.proofs.Common.{◌≡◌, ◌+◌, ◌<◌, ◌^◌, ◌++◌, ◌∷◌, [], ap, sym, ◌∙◌, length, map, Some, arith}
-use Rattle.std.specs.Prelude.{slice_get}
+use Rattle.std.proofs.Common.{◌≡◌, ◌++◌, ◌∷◌, [], ap, sym, ◌∙◌, length, map, arith}
 use Rattle.sq_value.specs.Lists.{numbers_to}
 use Rattle.sq_graph.specs.declared.BoxWires.{BoxWires}
-use Rattle.sq_graph.specs.Wires.{arc_at, inputs_at, inputs_of}
-use Rattle.sq_start.proofs.ToldLemmas.{arc-low, port-low, numbers-more, item-there}
+use Rattle.sq_graph.specs.Wires.{arc_at, inputs_at}
+use Rattle.sq_start.proofs.ToldLemmas.{port-low, numbers-more, item-there}
 use Rattle.sq_start.proofs.told.input_arcs.Goals as goal
 
 pub overflow_cast-port : goal.overflow_cast-port
