@@ -19,13 +19,13 @@ use Rattle.sq_left.specs.Streams.{fed_by, Follows, IsStart}
 use Rattle.sq_below.specs.Laws.{PointsMeasured}
 use Rattle.sq_below.specs.Standing.{drop_fed, DropsFit}
 use Rattle.sq_below.specs.Actors.{Actor, Box, Shedder, Shower, giver, arc_from, stream_of, StreamsFollow}
-use Rattle.sq_start.specs.Numbers.{ops_of, number_of, actor_at, place_stream, drop_reads, reads_of}
+use Rattle.sq_start.specs.Numbers.{IsThere, ops_of, number_of, actor_at, place_stream, drop_reads, reads_of}
 use Rattle.sq_start.specs.Nets.{AllCome, fed_to, drop_fed_at}
 use Rattle.sq_start.specs.Starts.{IsRead}
 use Rattle.sq_start.specs.Laws.{IsNew}
 use Rattle.sq_start.proofs.PointLemmas.{own-arc, own-drop}
 use Rattle.sq_start.proofs.OwnArcs.{own-fed}
-use Rattle.sq_start.proofs.NumberLemmas.{Which, which, box-at, drop-at, output-at, replay-at, IsThere, there-at, reads-there}
+use Rattle.sq_start.proofs.NumberLemmas.{Which, which, box-at, drop-at, output-at, replay-at, there-at, reads-there}
 
 -- the streams of a replay by operator; behind the replay there is none
 abbrev pub streams_by : Replay → ℕ → ℕ → List Thing
