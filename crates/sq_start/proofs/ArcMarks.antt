@@ -1,11 +1,11 @@
 -- Marks and tuples on the arcs of a network, and the actors that they come to.
-use Rattle.std.proofs.Common.{◌≡◌, ℕ, zero, suc, ◌+◌, ◌<◌, Bool, true, false, ◌&&◌, List, [], ◌∷◌, map, length, get_or, Option, Some, None, refl, ap, sym, ◌∙◌, subst, arith}
+use Rattle.std.proofs.Common.{◌≡◌, ℕ, zero, suc, ◌<◌, Bool, true, false, ◌&&◌, List, [], ◌∷◌, length, get_or, Option, Some, None, refl, ap, sym, ◌∙◌, subst, arith}
 use Rattle.std.specs.Prelude.{slice_get, is_some, nat_lt, ◌==◌}
 use Rattle.std.specs.List.{All, AllByRecursion}
 use Rattle.std.proofs.lemmas.Bool.Decides.{nat_tests}
 use Rattle.std.proofs.lemmas.List.Elements.{All-nil}
 use Rattle.std.proofs.lemmas.List.FromFn.{length-range_with_len}
-use Rattle.std.proofs.lemmas.Option.{slice_get-get_or, slice_get_within, slice_get_past}
+use Rattle.std.proofs.lemmas.Option.{slice_get-get_or, slice_get_within}
 use Rattle.sq_value.specs.declared.Value.{Value}
 use Rattle.sq_value.specs.Lists.{numbers_to}
 use Rattle.sq_value.specs.Values.{Columns, IsStream, fields_fit}
@@ -28,7 +28,7 @@ use Rattle.sq_model.specs.Shedding.{Replay, drop_above_arc, drop_above_output}
 use Rattle.sq_below.specs.Laws.{PointsMeasured}
 use Rattle.sq_below.specs.Ranks.{Fits, FitsAt}
 use Rattle.sq_below.specs.Standing.{Drop, drop_above_box, takes, fits_columns, fits_stream, fits_inputs, BoxesFit, DropsFit, OutputsFit, drop_fed}
-use Rattle.sq_below.specs.Actors.{Actor, Sources, Box, Shedder, Shower}
+use Rattle.sq_below.specs.Actors.{Sources, Box, Shedder, Shower}
 use Rattle.sq_below.specs.Ports.{body_marks, may_be_below, AllReady, FuturesWiden}
 use Rattle.sq_below.proofs.FromSound.{fits-at, ranks-of}
 use Rattle.sq_below.proofs.Feeding.{inputs-alike, output-alike}
@@ -36,7 +36,7 @@ use Rattle.sq_start.specs.Numbers.{place_stream}
 use Rattle.sq_start.specs.Nets.{fed_to, drop_fed_at}
 use Rattle.sq_start.specs.Starts.{IsRead}
 use Rattle.sq_start.specs.Started.{node_marks, actor_marks}
-use Rattle.sq_start.specs.Comes.{arcs_to, point_streams, streams_to, TakesArcs, FedMayCome, MarksAreTaken}
+use Rattle.sq_start.specs.Comes.{point_streams, streams_to, FedMayCome, MarksAreTaken}
 use Rattle.sq_start.proofs.BoxFacts.{Ready}
 use Rattle.sq_start.proofs.PointLemmas.{own-arc, own-drop}
 use Rattle.sq_start.proofs.OwnArcs.{own-fed}

@@ -1,5 +1,5 @@
 -- What comes to the actors of a network on its arcs.
-use Rattle.std.specs.Prelude.{◌≡◌, ℕ, Bool, true, List, [], ◌∷◌, Option, Some, None, is_some, slice_get}
+use Rattle.std.specs.Prelude.{◌≡◌, ℕ, Bool, true, List, [], ◌∷◌, length, Option, Some, None, is_some, slice_get}
 use Rattle.sq_value.specs.declared.Value.{Value}
 use Rattle.sq_value.specs.Values.{Columns, fields_fit}
 use Rattle.sq_oper.specs.declared.tally.Place.TheVariants.{Start}
@@ -16,7 +16,7 @@ use Rattle.sq_below.specs.Actors.{Actor, Sources, Box, Shedder, Shower}
 use Rattle.sq_start.specs.Numbers.{IsThere, place_stream}
 use Rattle.sq_start.specs.Nets.{fed_to}
 use Rattle.sq_start.specs.Starts.{IsRead}
-use Rattle.sq_start.specs.Started.{actor_marks}
+use Rattle.sq_start.specs.Started.{actor_marks, actor_fits}
 
 -- the arcs of a box and of an output, by port
 abbrev pub arcs_to : Network → Actor → List ℕ
@@ -48,3 +48,8 @@ FedMayCome = (r : Replay) (x : Actor) (marks : ℕ → Bool) (fits : ℕ → Lis
 -- and an actor takes marks wherever an arc of its own lies below a drop
 abbrev pub MarksAreTaken : Type 0
 MarksAreTaken = (n : Network) (x : Actor) (port a : ℕ) → IsSound n → slice_get (arcs_to n x) port ≡ Some a → is_some (drop_above_arc n a) ≡ true → actor_marks n x port ≡ true
+
+-- and all tuples that are as wide as a stream that it reads
+abbrev pub TuplesAreTaken : Type 0
+TuplesAreTaken = (n : Network) (x : Actor) (port s : ℕ) (cs : Columns) (fields : List Value) → IsSound n → IsThere n x → slice_get (streams_to n x) port ≡ Some s
+    → columns_of_stream n s ≡ Some cs → length fields ≡ length cs → actor_fits n x port fields ≡ true

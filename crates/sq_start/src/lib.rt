@@ -8,7 +8,7 @@
 #![tactic(auto)]
 
 ghost use Rattle.sq_start.specs.Laws.{StartsAsReplayed};
-ghost use Rattle.sq_start.specs.Comes.{FedMayCome, MarksAreTaken};
+ghost use Rattle.sq_start.specs.Comes.{FedMayCome, MarksAreTaken, TuplesAreTaken};
 
 mod actors;
 mod boxes;
@@ -20,10 +20,12 @@ pub use boxes::box_actor;
 pub use drops::{drop_actor, gate_actor};
 use sq_below::early_drop_is_sound;
 
-/// What comes on the arcs of a network may come to its actors, and they take marks wherever marks come.
+/// What comes on the arcs of a network may come to its actors: they take marks wherever marks come, and all tuples that are
+/// as wide as a stream that they read.
 pub fn arcs_may_come()
     ensures fed { FedMayCome }
     ensures marks { MarksAreTaken }
+    ensures tuples { TuplesAreTaken }
 {
     early_drop_is_sound();
 }
