@@ -72,6 +72,10 @@ new-answers r read law flow items none new shaped sheds shown many untaken =
 
 -- ---- what is to be released
 
+abbrev First : ℕ → List Tuple → Type 0
+First t [] = Unit {0}
+First t (x ∷ xs) = t ≤ x.time
+
 rise-from : (time : ℕ) (xs : List Tuple) → IsStream xs → AllByRecursion IsSoundTuple xs → First time xs → RiseFrom time xs
 rise-from time [] s t f = _
 rise-from time (x ∷ []) s t f = (f, t.0, _)

@@ -34,8 +34,8 @@ use Rattle.sq_model.specs.Given.{IsAt}
 use Rattle.sq_model.proofs.PlacedLemmas.{placed_of}
 use Rattle.sq_below.specs.Standing.{Drop, drop_on_arc}
 use Rattle.sq_below.specs.Actors.{Actor, Sources, Box, Shedder, Shower, giver, from_drop, arc_from}
-use Rattle.sq_start.specs.Numbers.{drops_of, first_output, ops_of, number_of, actor_at, place_stream}
-use Rattle.sq_start.proofs.NumberLemmas.{box-at, drop-at, output-at, IsThere, giver-there, from-there}
+use Rattle.sq_start.specs.Numbers.{IsThere, drops_of, first_output, ops_of, number_of, actor_at, place_stream}
+use Rattle.sq_start.proofs.NumberLemmas.{box-at, drop-at, output-at, giver-there, from-there}
 use Rattle.sq_flow.specs.declared.wires.Wires.{Wires}
 use Rattle.sq_flow.specs.Wiring.{arcs_read, arc_at as wire_at}
 use Rattle.sq_core.specs.declared.join.Feed.{Feed}

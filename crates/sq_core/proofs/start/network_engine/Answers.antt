@@ -8,6 +8,7 @@ use Rattle.sq_oper.specs.Streams.{IsSoundTuple}
 use Rattle.sq_flow.specs.Flows.{items_in}
 use Rattle.sq_flow.specs.Wiring.{IsShaped}
 use Rattle.sq_start.specs.Numbers.{ops_of}
+use Rattle.sq_start.specs.Starts.{IsRead}
 use Rattle.sq_core.specs.Meanings.{actors, IsValid}
 use Rattle.sq_core.specs.Table.{IsMeasured}
 use Rattle.sq_core.proofs.TableLemmas.{if-both, if-three}
@@ -66,7 +67,7 @@ returns-clause-plans c =
 pub returns-clause-answers : goal.returns-clause-answers
 returns-clause-answers c =
     IfOk-weaker c.new.result _ _ (λ e h pages.
-    let read = record { sound = c.requires.sound; streams = All-from_recursion IsStream _ c.requires.streams; fit = c.requires.fit } in
+    let read : IsRead (record { network = c.args.n.now; sources = map (λ v. v.items) c.args.sources.items; entries = c.args.capacities.now; seed = c.args.seed }) = record { sound = c.requires.sound; streams = All-from_recursion IsStream _ c.requires.streams; fit = c.requires.fit } in
     let new = is-new c.args.n.now c.requires.sound (places-of c.early_drop_is_sound.ensures.points c.args.n.now c.requires.sound) c.in_ok-wires.wires c.in_ok-wires.ensures.measured
     c.args.seed c.in_ok-seats.seats.items c.in_ok-seats.ensures.seated c.in_ok-seats.ensures.count c.arcs_may_come.ensures.fed
     (record { network = c.args.n.now; sources = map (λ v. v.items) c.args.sources.items; entries = c.args.capacities.now; seed = c.args.seed }) read refl refl
