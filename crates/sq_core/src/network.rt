@@ -132,7 +132,11 @@ fn input_arcs(alloc: Global, n: &Network, at: u32) -> Result<Vec<u32>, AllocErro
     ensures { IfOk result (λ v. v.items ≡ input_arcs_of n.now.wires at) }
 {
     let mut arcs = Vec::new(alloc);
-    for port in 0..n.wires.boxes.as_slice()[at as usize].inputs.as_slice().len() as u32 {
+    for port in 0..n.wires.boxes.as_slice()[at as usize]
+        .inputs
+        .as_slice()
+        .len() as u32
+    {
         arcs.push(arc_of(&n.wires, at, port))?;
     }
     Ok(arcs)
