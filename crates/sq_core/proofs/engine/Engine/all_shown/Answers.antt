@@ -1,4 +1,3 @@
-use Rattle.std.proofs.Common.{◌∙◌}
 use Rattle.sq_core.proofs.EndLemmas.{nothing-planned, shown-all}
 use Rattle.sq_core.proofs.engine.Engine.all_shown.Goals as goal
 
@@ -7,6 +6,7 @@ returns c =
     shown-all c.args.self.now
     (record {
       lines = c.nothing_left.ensures.lines;
+      drops = c.nothing_left.ensures.drops;
       fed = c.nothing_left.ensures.fed;
       lost = c.nothing_left.ensures.lost;
       work = c.nothing_left.ensures.work;
