@@ -1,0 +1,4 @@
+pub mod StoreLemmas
+pub mod KeptLemmas
+pub mod AlongLemmas
+pub mod TogetherLemmas

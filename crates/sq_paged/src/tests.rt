@@ -1,0 +1,3 @@
+use super::*;
+use sq_outside::MemDisk;
+use std::test::Fail;
