@@ -422,9 +422,10 @@ impl Queues {
     // The kept time of the first page of an arc, where it has one.
     fn front_time(&self, arc: u32) -> Option<u64>
         requires arc { arc < length self.now.chains.lists }
-        requires node { IfSome (head_or (list_at self.now.chains.lists arc) None) (λ node. node < length self.now.kept.items) }
+        requires nodes { length self.now.kept.items ≡ self.now.chains.nodes }
         ensures { result ≡ option_map (λ node. (kept_at self.now.kept.items node).time) (head_or (list_at self.now.chains.lists arc) None) }
     {
+        self.chains.one_place_each();
         let node = self.chains.first(arc)?;
         Some(self.kept[node as usize].time)
     }
