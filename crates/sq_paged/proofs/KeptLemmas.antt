@@ -23,7 +23,7 @@ pub told-seen : (c : Pooled) (told : Option Pages) (p : ℕ) → Tells told → 
 told-seen c None p t agree held = absurd cc
 told-seen c (Some told) p t agree held = one-is (bytes_in p c.resident) (digest_at c.kept p) (finite.get told p) held (agree p)
 
-first-behind : (xs ys : List Item) (t : ℕ) → first_time xs ≡ Some t → first_time (xs ++ ys) ≡ Some t
+pub first-behind : (xs ys : List Item) (t : ℕ) → first_time xs ≡ Some t → first_time (xs ++ ys) ≡ Some t
 first-behind [] ys t h = absurd cc
 first-behind (x ∷ xs) ys t h = h
 
@@ -65,9 +65,12 @@ taken-kept c told d now kept after item a some =
           let b = told-seen d now after.page t a.spares.agree held in
           let f = a.fits b.0 b.1 in
           let h = back-head f.back (omega (arith, f.counts, some)) in
-          let items : items_in d now after ≡ h.0 ∷ h.1 = items-seen d now after b.0 b.1 f ∙ h.2 in
+          let items : items_in d now after ≡ h.0 ∷ h.1 = seen-are b.0 b.1 f h.0 h.1 h.2 in
           ap first_time items ∙ ap (λ (n : ℕ). Some n) (sym (a.time (sym a.spares.tells ∙ t) h.0 h.1 items));
     }
+  where
+    seen-are : (b : List ℕ) → seen d now after.page ≡ Some b → (f : FitsKept b after) (first : Item) (rest : List Item) → f.back ≡ first ∷ rest → items_in d now after ≡ first ∷ rest
+    seen-are b is f first rest e = items-seen d now after b is f ∙ e
 
 -- nothing is left of a page whose last item was taken
 pub taken-all : (c : Pooled) (told : Option Pages) (d : Pooled) (now : Option Pages) (kept after : Kept) (item : Item) → Taken c told d now kept after item → after.count ≡ 0 → Tells told → items_in c told kept ≡ item ∷ []

@@ -129,10 +129,10 @@ touch-rest q told r now arc node page g t =
       frames = t.spares.frames;
     }
 
--- with the lane of the arc written, all stands together
-pub together-by : (q : Queues) (told : Option Pages) (r : Queues) (now : Option Pages) (arc : ℕ) (lane : Lane) → Together q told → KeepsOthers q told r now arc → arc < length q.lanes.items → r.lanes.items ≡ set q.lanes.items arc lane
-    → IsLane (Some lane) r.kept.items (nodes_on r arc) → (Tells told → IsFaceOf (face_at (Some lane)) (items_on r now arc)) → Together r now
-together-by q told r now arc lane g k inside lanes own faced =
+-- with the lane of the arc written, as r has it, all stands together
+pub together-by : (q : Queues) (told : Option Pages) (m : Queues) (now : Option Pages) (r : Queues) (arc : ℕ) (lane : Lane) → Together q told → KeepsOthers q told m now arc → arc < length q.lanes.items → r.lanes.items ≡ set q.lanes.items arc lane
+    → IsLane (Some lane) m.kept.items (nodes_on m arc) → (Tells told → IsFaceOf (face_at (Some lane)) (items_on m now arc)) → Together (record m { lanes = r.lanes }) now
+together-by q told m now r arc lane g k inside lanes own faced =
     let here : slice_get r.lanes.items arc ≡ Some lane = ap (λ (ls : List Lane). slice_get ls arc) lanes ∙ slice_get-set_same q.lanes.items arc lane inside in
     let there : (l : ℕ) → l ≢ arc → slice_get r.lanes.items l ≡ slice_get q.lanes.items l = λ l away. ap (λ (ls : List Lane). slice_get ls l) lanes ∙ slice_get-set_other q.lanes.items arc l lane away in
     record {
@@ -142,16 +142,16 @@ together-by q told r now arc lane g k inside lanes own faced =
       lanes = λ l.
           elim (cases_eq l arc) [
             | inl same ↦
-                subst (λ (m : ℕ). IsLane (slice_get r.lanes.items m) r.kept.items (nodes_on r m)) (sym same)
-                (subst (λ (o : Option Lane). IsLane o r.kept.items (nodes_on r arc)) (sym here) own)
-            | inr away ↦ subst (λ (o : Option Lane). IsLane o r.kept.items (nodes_on r l)) (sym (there l away)) (k.lanes l away)
+                subst (λ (n : ℕ). IsLane (slice_get r.lanes.items n) m.kept.items (nodes_on m n)) (sym same)
+                (subst (λ (o : Option Lane). IsLane o m.kept.items (nodes_on m arc)) (sym here) own)
+            | inr away ↦ subst (λ (o : Option Lane). IsLane o m.kept.items (nodes_on m l)) (sym (there l away)) (k.lanes l away)
           ];
       pages = k.pages;
       apart = k.apart;
       faces = λ tell l.
           let tells : Tells told = sym k.tells ∙ tell in
           elim (cases_eq l arc) [
-            | inl same ↦ subst (λ (m : ℕ). IsFaceOf (face r m) (items_on r now m)) (sym same) (subst (λ (f : Face). IsFaceOf f (items_on r now arc)) (sym (ap face_at here)) (faced tells))
+            | inl same ↦ subst (λ (n : ℕ). IsFaceOf (face r n) (items_on m now n)) (sym same) (subst (λ (f : Face). IsFaceOf f (items_on m now arc)) (sym (ap face_at here)) (faced tells))
             | inr away ↦
                 subst (λ (xs : List Item). IsFaceOf (face r l) xs) (sym (k.others tells l away)) (subst (λ (f : Face). IsFaceOf f (items_on q told l)) (sym (ap face_at (there l away))) (g.faces tells l))
           ];
