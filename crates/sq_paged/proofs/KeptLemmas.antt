@@ -27,6 +27,9 @@ pub first-behind : (xs ys : List Item) (t : ℕ) → first_time xs ≡ Some t �
 first-behind [] ys t h = absurd cc
 first-behind (x ∷ xs) ys t h = h
 
+first-time-is : (items : List Item) (first : Item) (rest : List Item) (time : ℕ) → items ≡ first ∷ rest → time ≡ first.time → first_time items ≡ Some time
+first-time-is items first rest time e is = ap first_time e ∙ ap (λ (n : ℕ). Some n) (sym is)
+
 -- another page than the one that changed
 pub spared-items : (c : Pooled) (told : Option Pages) (d : Pooled) (now : Option Pages) (page : ℕ) (kept : Kept) → Spares c told d now page → kept.page ≢ page → Tells told → items_in d now kept ≡ items_in c told kept
 spared-items c told d now page kept s other t = ap (λ (o : Option (List ℕ)). items_of o kept) (s.same t kept.page other)
@@ -66,7 +69,7 @@ taken-kept c told d now kept after item a some =
           let f = a.fits b.0 b.1 in
           let h = back-head f.back (omega (arith, f.counts, some)) in
           let items : items_in d now after ≡ h.0 ∷ h.1 = seen-are b.0 b.1 f h.0 h.1 h.2 in
-          ap first_time items ∙ ap (λ (n : ℕ). Some n) (sym (a.time (sym a.spares.tells ∙ t) h.0 h.1 items));
+          first-time-is (items_in d now after) h.0 h.1 after.time items (a.time (sym a.spares.tells ∙ t) h.0 h.1 items);
     }
   where
     seen-are : (b : List ℕ) → seen d now after.page ≡ Some b → (f : FitsKept b after) (first : Item) (rest : List Item) → f.back ≡ first ∷ rest → items_in d now after ≡ first ∷ rest
