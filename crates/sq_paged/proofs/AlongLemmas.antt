@@ -54,8 +54,8 @@ last-behind n (x ∷ []) = refl
 last-behind n (x ∷ y ∷ xs) = last-behind n (y ∷ xs)
 
 pub stands-behind : (n m : ℕ) (xs : List ℕ) → StandsIn n (xs ++ m ∷ []) → n ≢ m → StandsIn n xs
-stands-behind n m [] h differ = elim h [ | inl same ↦ absurd (differ same) | inr none ↦ absurd none ]
-stands-behind n m (x ∷ xs) h differ = elim h [ | inl same ↦ inl same | inr more ↦ inr (stands-behind n m xs more differ) ]
+stands-behind n m [] h differ = elim h [ inl same ↦ absurd (differ same) | inr none ↦ absurd none ]
+stands-behind n m (x ∷ xs) h differ = elim h [ inl same ↦ inl same | inr more ↦ inr (stands-behind n m xs more differ) ]
 
 pub head-is : (n : ℕ) (xs : List ℕ) → head_or xs None ≡ Some n → (rest : List ℕ) × (xs ≡ n ∷ rest)
 head-is n [] h = absurd cc

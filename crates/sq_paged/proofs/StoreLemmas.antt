@@ -196,8 +196,7 @@ appended-fits : (b w : List ℕ) (kept after : Kept) (item : Item) → (f : Fits
     → after ≡ record kept { count = kept.count + 1; end = kept.end + length (item_bytes item) } → (g : FitsKept w after) × (g.back ≡ f.back ++ item ∷ [])
 appended-fits b w kept after item f page is =
     let more : IsPageOf w ((f.front ++ f.back) ++ item ∷ []) = page (f.front ++ f.back) f.page f.ends in
-    let parts : (f.front ++ f.back) ++ item ∷ [] ≡ f.front ++ (f.back ++ item ∷ []) = append_assoc f.front f.back (item ∷ []) in
-    (
+    let parts : (f.front ++ f.back) ++ item ∷ [] ≡ f.front ++ (f.back ++ item ∷ []) = append_assoc f.front f.back (item ∷ []) in (
       record {
         front = f.front;
         back = f.back ++ item ∷ [];

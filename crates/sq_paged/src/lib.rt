@@ -26,11 +26,10 @@ use sq_link::Chains;
 use sq_outside::PageDisk;
 use sq_page::item_room;
 use sq_pool::Pool;
-use std::alloc::{AllocError, Global};
-use store::{Kept, append_to_page, let_page_go, start_page, take_from_page};
-
 pub use sq_queue::Head;
+use std::alloc::{AllocError, Global};
 pub use store::QueueErr;
+use store::{Kept, append_to_page, let_page_go, start_page, take_from_page};
 
 // What is kept of an arc: how many items stand there, the time of the first, the node of its last page.
 #[derive(Clone, Copy, Debug, Drop)]
@@ -294,11 +293,20 @@ impl Queues {
     {
         let node = last?;
         let end = self.kept[node as usize].end;
-        if end + item_room(item) <= 8192 { Some(node) } else { None }
+        if end + item_room(item) <= 8192 {
+            Some(node)
+        } else {
+            None
+        }
     }
 
     // Puts an item behind the last of a page.
-    fn push_into<D: PageDisk>(&mut self, disk: &mut D, node: u64, item: &Item) -> Result<(), QueueErr>
+    fn push_into<D: PageDisk>(
+        &mut self,
+        disk: &mut D,
+        node: u64,
+        item: &Item,
+    ) -> Result<(), QueueErr>
         requires node { node < length self.old.kept.items }
         requires agree { Agree self.old.pool (D.pages disk.old) }
         requires kept { IsKept self.old.pool (D.pages disk.old) (kept_at self.old.kept.items node) }
@@ -347,7 +355,12 @@ impl Queues {
     }
 
     // Puts an item into a new page of an arc.
-    fn push_page<D: PageDisk>(&mut self, disk: &mut D, arc: u32, item: &Item) -> Result<u64, QueueErr>
+    fn push_page<D: PageDisk>(
+        &mut self,
+        disk: &mut D,
+        arc: u32,
+        item: &Item,
+    ) -> Result<u64, QueueErr>
         requires arc { arc < length self.old.chains.lists }
         requires nodes { length self.old.kept.items ≡ self.old.chains.nodes }
         requires agree { Agree self.old.pool (D.pages disk.old) }

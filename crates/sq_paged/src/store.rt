@@ -27,7 +27,10 @@ pub enum QueueErr {
         got: Digest,
     },
     /// The bytes of a page that came back aren't the page that the queue keeps.
-    NotAPage { page: u64, bytes: Vec<u8> },
+    NotAPage {
+        page: u64,
+        bytes: Vec<u8>,
+    },
     /// Memory ran out.
     Memory,
 }
@@ -84,7 +87,12 @@ fn test_page(alloc: Global, bytes: &[u8], kept: &Kept) -> Result<(), QueueErr>
 }
 
 /// A page is in a frame, and fits what is kept of it.
-pub fn bring_page<D: PageDisk>(alloc: Global, pool: &mut Pool, disk: &mut D, kept: &Kept) -> Result<(), QueueErr>
+pub fn bring_page<D: PageDisk>(
+    alloc: Global,
+    pool: &mut Pool,
+    disk: &mut D,
+    kept: &Kept,
+) -> Result<(), QueueErr>
     requires held { IsTrue (is_held pool.old kept.now.page) }
     requires agree { Agree pool.old (D.pages disk.old) }
     requires fits { IsFit (seen pool.old (D.pages disk.old) kept.now.page) kept.now }
@@ -123,7 +131,13 @@ pub fn append_item(pool: &mut Pool, page: u64, end: u32, item: &Item) -> u32
 }
 
 /// Puts an item behind the last of a page. Gives what is kept of the page then.
-pub fn append_to_page<D: PageDisk>(alloc: Global, pool: &mut Pool, disk: &mut D, kept: &Kept, item: &Item) -> Result<Kept, QueueErr>
+pub fn append_to_page<D: PageDisk>(
+    alloc: Global,
+    pool: &mut Pool,
+    disk: &mut D,
+    kept: &Kept,
+    item: &Item,
+) -> Result<Kept, QueueErr>
     requires held { IsTrue (is_held pool.old kept.now.page) }
     requires agree { Agree pool.old (D.pages disk.old) }
     requires fits { IsFit (seen pool.old (D.pages disk.old) kept.now.page) kept.now }
@@ -160,7 +174,12 @@ fn next_time(bytes: &[u8], start: u32, count: u16) -> u64
 }
 
 /// Takes the first item of a page that is left there. Gives what is kept of the page then.
-pub fn take_from_page<D: PageDisk>(alloc: Global, pool: &mut Pool, disk: &mut D, kept: &Kept) -> Result<(Item, Kept), QueueErr>
+pub fn take_from_page<D: PageDisk>(
+    alloc: Global,
+    pool: &mut Pool,
+    disk: &mut D,
+    kept: &Kept,
+) -> Result<(Item, Kept), QueueErr>
     requires held { IsTrue (is_held pool.old kept.now.page) }
     requires agree { Agree pool.old (D.pages disk.old) }
     requires fits { IsFit (seen pool.old (D.pages disk.old) kept.now.page) kept.now }
