@@ -1,5 +1,5 @@
 -- Each tuple of a full stream may come on the arc that carries the stream.
-use Rattle.std.proofs.Common.{◌≡◌, ◌≢◌, ℕ, zero, suc, ◌+◌, ◌<◌, eqb, cond, Bool, true, false, ◌&&◌, List, [], ◌∷◌, map, length, Option, Some, None, slice_get, refl, ap, sym, ◌∙◌, subst, arith, IsTrue}
+use Rattle.std.proofs.Common.{◌≡◌, ℕ, zero, suc, ◌+◌, cond, Bool, true, false, ◌&&◌, List, [], ◌∷◌, map, length, Option, Some, None, slice_get, refl, ap, sym, ◌∙◌, subst, arith, IsTrue}
 use Rattle.std.specs.List.{AllByRecursion}
 use Rattle.sq_value.specs.declared.Value.{Value}
 use Rattle.sq_value.specs.declared.Tuple.{Tuple}

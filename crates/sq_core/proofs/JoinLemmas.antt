@@ -1,8 +1,7 @@
 -- One more arc keeps what holds of the arcs that stand.
-use Rattle.std.proofs.Common.{◌≡◌, ◌≢◌, ℕ, zero, suc, ◌+◌, ◌-◌, ◌*◌, ◌<◌, ◌≤◌, ◌^◌, eqb, cond, Bool, true, false, ◌||◌, List, [], ◌∷◌, ◌++◌, length, Option, Some, None, Vec, slice_get, refl, ap, sym, ◌∙◌, subst, arith, inl, inr, ◌⊎◌}
+use Rattle.std.proofs.Common.{◌≡◌, ◌≢◌, ℕ, zero, suc, ◌+◌, ◌*◌, ◌<◌, ◌≤◌, eqb, cond, Bool, true, false, ◌||◌, List, [], ◌∷◌, ◌++◌, length, Option, Some, Vec, slice_get, refl, ap, sym, ◌∙◌, subst, arith, inl, inr, ◌⊎◌}
 use Rattle.std.specs.declared.alloc.Global.{Global}
 use Rattle.std.proofs.lemmas.Bool.{cases_lt, cases_eq}
-use Rattle.std.proofs.lemmas.Bool.Decides.{nat_tests}
 use Rattle.sq_left.proofs.MergeLemmas.{eqb-same, eqb-not}
 use Rattle.sq_sched.specs.Ready.{contains}
 use Rattle.sq_flow.specs.declared.wires.Arc.{Arc}
@@ -340,4 +339,4 @@ module _ (shown : ℕ) (feeds : List (Vec Feed Global)) (at place : ℕ) (f : Fe
       }
 
 pub fixed-more : (a b c : Wires) → Fixed a b → Fixed b c → Fixed a c
-fixed-more a b c f g = record { replay = g.replay ∙ f.replay; shown = g.shown ∙ f.shown; order = g.order ∙ f.order }
+fixed-more a b c f g = record { replay = g.replay ∙ f.replay; sheds = g.sheds ∙ f.sheds; shown = g.shown ∙ f.shown; order = g.order ∙ f.order }

@@ -1,12 +1,12 @@
 -- The outputs, and then the boxes, the last first, are an order in which each reads earlier ones.
-use Rattle.std.proofs.Common.{◌≡◌, ◌≢◌, ℕ, zero, suc, ◌+◌, ◌-◌, ◌<◌, ◌≤◌, eqb, cond, Bool, true, false, not, ◌||◌, ◌&&◌, List, [], ◌∷◌, ◌++◌, map, length, Option, Some, None, Vec, slice_get, refl, ap, sym, ◌∙◌, subst, arith, append_assoc, inl, inr, ◌⊎◌}
+use Rattle.std.proofs.Common.{◌≡◌, ◌≢◌, ℕ, zero, suc, ◌+◌, ◌<◌, ◌≤◌, eqb, Bool, true, false, not, ◌||◌, List, [], ◌∷◌, ◌++◌, map, length, Option, Some, None, Vec, refl, ap, sym, ◌∙◌, subst, arith, append_assoc, inl, inr}
 use Rattle.std.specs.List.{list_all, AllByRecursion}
 use Rattle.std.specs.declared.alloc.Global.{Global}
-use Rattle.std.proofs.lemmas.Bool.{cases_lt, cases_eq}
+use Rattle.std.proofs.lemmas.Bool.{cases_lt}
 use Rattle.std.proofs.lemmas.Bool.Decides.{nat_tests}
 use Rattle.std.proofs.lemmas.List.Folds.{list_any-append}
 use Rattle.std.proofs.lemmas.Option.{slice_get_within}
-use Rattle.sq_left.proofs.MergeLemmas.{eqb-same, eqb-not}
+use Rattle.sq_left.proofs.MergeLemmas.{eqb-same}
 use Rattle.sq_graph.specs.Wires.{Producer, Source, Port, producer_of, inputs_of}
 use Rattle.sq_graph.specs.Order.{is_there, is_given, contains_number, can_be_next, order_of}
 use Rattle.sq_graph.proofs.Producers.{producer_is}
@@ -20,7 +20,7 @@ use Rattle.sq_net.specs.Sound.{IsSound}
 use Rattle.sq_net.specs.Streams.{columns_of_stream}
 use Rattle.sq_net.proofs.StreamLemmas.{boxes_count}
 use Rattle.sq_model.proofs.OrderLemmas.{order_has}
-use Rattle.sq_start.specs.Nets.{shown_by, streams_of}
+use Rattle.sq_start.specs.Nets.{streams_of}
 use Rattle.sq_core.specs.declared.join.Feed.{Feed}
 use Rattle.sq_core.specs.Joining.{feeds_of, known_by, AllKnown, ReadsEarlier, IsOrder}
 use Rattle.sq_core.specs.Table.{width_of, feed_from, ops_of, feed_of, table_of, turned, with_outputs, actors_of}

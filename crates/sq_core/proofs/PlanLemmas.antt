@@ -38,14 +38,16 @@ plans-start r flow planner epoch streams here setting lasts same planned left =
 none-names : (ps : List DropPoint) → AllByRecursion IsFine ps → (d k : ℕ) → (Names d ps (LongBatch k) → ⊥) × (Names d ps (WideExtent k) → ⊥)
 none-names [] fine d k = (λ h. h, λ h. h)
 none-names (p ∷ ps) fine d k =
-    let rest = none-names ps fine.1 (d + 1) k in
-    (λ h. elim h [
-      | inl breaks ↦ (let no : true ≡ false = sym breaks.1 ∙ fine.0.0 in cc no)
-      | inr more ↦ rest.0 more.1
-    ], λ h. elim h [
-      | inl breaks ↦ (let no : true ≡ false = sym breaks.2 ∙ fine.0.1 in cc no)
-      | inr more ↦ rest.1 more.1
-    ])
+    let rest = none-names ps fine.1 (d + 1) k in (
+      λ h. elim h [
+        | inl breaks ↦ (let no : true ≡ false = sym breaks.1 ∙ fine.0.0 in cc no)
+        | inr more ↦ rest.0 more.1
+      ],
+      λ h. elim h [
+        | inl breaks ↦ (let no : true ≡ false = sym breaks.2 ∙ fine.0.1 in cc no)
+        | inr more ↦ rest.1 more.1
+      ],
+    )
 
 pub never-long : (ps : List DropPoint) → All IsFine ps → (e : PlaceErr) (k : ℕ) → NamesRefusal ps e → e ≡ LongBatch k → ⊥
 never-long ps fine e k names is = (none-names ps (recursion_from_All IsFine ps fine) 0 k).0 (subst (NamesRefusal ps) is names)

@@ -1,7 +1,7 @@
 -- One more actor takes its seat.
-use Rattle.std.proofs.Common.{◌≡◌, ℕ, zero, suc, ◌+◌, ◌-◌, ◌<◌, ◌≤◌, cond, List, [], ◌∷◌, ◌++◌, length, Option, Some, None, slice_get, refl, ap, sym, ◌∙◌, subst, arith, inl, inr}
+use Rattle.std.proofs.Common.{◌≡◌, ℕ, zero, suc, ◌+◌, ◌<◌, List, [], ◌∷◌, ◌++◌, length, Some, None, slice_get, refl, ap, sym, ◌∙◌, subst, arith, inl, inr}
 use Rattle.sq_graph.specs.declared.BoxWires.{BoxWires}
-use Rattle.sq_graph.specs.Wires.{inputs_at, inputs_of}
+use Rattle.sq_graph.specs.Wires.{inputs_at}
 use Rattle.sq_net.specs.declared.Network.{Network}
 use Rattle.sq_net.specs.declared.Node.{Node}
 use Rattle.sq_flow.specs.declared.seats.Seat.{Seat}

@@ -1,6 +1,5 @@
 -- Wires that were joined arc by arc are shaped.
-use Rattle.std.proofs.Common.{◌≡◌, ◌≢◌, ℕ, zero, suc, ◌+◌, ◌*◌, ◌<◌, ◌≤◌, ◌^◌, eqb, cond, Bool, true, false, ◌||◌, List, [], ◌∷◌, ◌++◌, length, Option, Some, None, Vec, slice_get, refl, ap, sym, ◌∙◌, subst, arith, inl, inr, ◌⊎◌}
-use Rattle.std.specs.Prelude.{IsTrue}
+use Rattle.std.proofs.Common.{◌≡◌, ◌≢◌, ℕ, zero, suc, ◌+◌, ◌<◌, ◌≤◌, eqb, cond, true, false, ◌||◌, List, [], ◌∷◌, length, Option, Some, None, Vec, slice_get, refl, ap, sym, ◌∙◌, subst, arith, inl, inr}
 use Rattle.std.specs.declared.alloc.Global.{Global}
 use Rattle.std.proofs.lemmas.Bool.{cases_lt, cases_eq}
 use Rattle.sq_sched.specs.Ready.{contains}
@@ -82,12 +81,13 @@ module _ (shown : ℕ) (feeds : List (Vec Feed Global)) (w : Wires) (are : AreFe
       let other : actor ≢ from_of (slice_get w.arcs.items arc) = λ e. no-giver shown (length feeds) actor high low (subst (IsGiver shown (length feeds)) (sym e) (i.from_in arc there)) in
       i.read actor port arc there ∙ ap (λ b. cond b (cond (eqb port (port_of (slice_get w.arcs.items arc))) 1 0) 0) (eqb-not actor (from_of (slice_get w.arcs.items arc)) other))
 
-  pub shaped-all : w.shown ≡ shown → shown ≤ length feeds → IsOrder (length feeds) feeds w.order.items → IsShaped w (length feeds)
-  shaped-all same low order =
+  pub shaped-all : w.shown ≡ shown → w.sheds ≤ shown → shown ≤ length feeds → IsOrder (length feeds) feeds w.order.items → IsShaped w (length feeds)
+  shaped-all same sheds low order =
       record {
         replay_is = replay;
         few = (let f = are.few in omega (arith, f));
         few_arcs = (let f = are.few in let c = i.count in omega (arith, f, c));
+        sheds_in = omega (arith, same, sheds);
         shown_in = (omega (arith, same, low));
         inputs_len = i.inputs_len;
         readers_len = i.readers_len;
@@ -178,7 +178,7 @@ pub joined-done : (shown : ℕ) (feeds : List (Vec Feed Global)) (at : ℕ) (w :
 joined-done shown feeds at w are i is replay = joined-all shown feeds w are (subst (λ p. IsJoining shown feeds p 0 w) is i) replay
 
 pub shaped-done : (feeds : List (Vec Feed Global)) (at : ℕ) (first w : Wires) → AreFeeds first.shown feeds → IsJoining first.shown feeds at 0 w → Fixed first w → at ≡ length feeds
-    → first.replay ≡ length feeds → first.shown ≤ length feeds → IsOrder (length feeds) feeds first.order.items → IsShaped w (length feeds)
-shaped-done feeds at first w are i fixed is replay low order =
-    shaped-all first.shown feeds w are (subst (λ p. IsJoining first.shown feeds p 0 w) is i) (fixed.replay ∙ replay) fixed.shown low
+    → first.replay ≡ length feeds → first.sheds ≤ first.shown → first.shown ≤ length feeds → IsOrder (length feeds) feeds first.order.items → IsShaped w (length feeds)
+shaped-done feeds at first w are i fixed is replay sheds low order =
+    shaped-all first.shown feeds w are (subst (λ p. IsJoining first.shown feeds p 0 w) is i) (fixed.replay ∙ replay) fixed.shown (let same = fixed.sheds in omega (arith, same, sheds)) low
     (subst (λ o. IsOrder (length feeds) feeds o.items) (sym fixed.order) order)

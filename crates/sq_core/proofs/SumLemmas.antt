@@ -1,15 +1,13 @@
 -- What all operators are fed of the full streams is the work of the network.
-use Rattle.std.proofs.Common.{◌≡◌, ℕ, zero, suc, ◌+◌, ◌<◌, ◌≤◌, List, [], ◌∷◌, length, Option, Some, None, slice_get, refl, ap, sym, ◌∙◌, arith}
+use Rattle.std.proofs.Common.{◌≡◌, ℕ, zero, suc, ◌+◌, ◌<◌, ◌≤◌, List, [], ◌∷◌, length, slice_get, refl, ap, ◌∙◌, arith}
 use Rattle.std.specs.List.{sum_by, range_with_len}
 use Rattle.std.proofs.lemmas.List.Sums.{sum_by-cons}
 use Rattle.sq_value.specs.declared.Tuple.{Tuple}
-use Rattle.sq_value.specs.Lists.{numbers_to}
-use Rattle.sq_graph.specs.Wires.{inputs_of}
 use Rattle.sq_net.specs.declared.Network.{Network}
 use Rattle.sq_model.specs.Full.{nth, full_streams}
-use Rattle.sq_model.specs.Fed.{fed_from, fed_of, work_of}
+use Rattle.sq_model.specs.Fed.{fed_of, work_of}
 use Rattle.sq_flow.specs.Flows.{sum_below}
-use Rattle.sq_start.specs.Nets.{shown_by, streams_of}
+use Rattle.sq_start.specs.Nets.{shown_by}
 use Rattle.sq_start.specs.Laws.{fed_by_streams}
 use Rattle.sq_core.specs.Table.{ops_of}
 use Rattle.sq_core.proofs.TableLemmas.{box-streams, output-streams}

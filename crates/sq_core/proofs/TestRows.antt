@@ -1,11 +1,9 @@
 -- A Union of two sources is a sound network.
-use Rattle.std.proofs.Common.{◌≡◌, ℕ, zero, suc, ◌<◌, lit≤, Bool, true, false, arith, List, [], ◌∷◌, length, Some, slice_get, refl, ap, sym, ◌∙◌, subst, pos}
+use Rattle.std.proofs.Common.{◌≡◌, ℕ, zero, suc, lit≤, true, List, [], ◌∷◌, Some, slice_get, refl, subst}
 use Rattle.std.specs.Prelude.{codes}
 use Rattle.std.specs.List.{All}
 use Rattle.std.proofs.lemmas.List.Elements.{All-from_recursion}
-use Rattle.sq_value.specs.declared.Value.TheVariants as value
 use Rattle.sq_value.specs.declared.Kind.TheVariants as kind
-use Rattle.sq_value.specs.declared.Tuple.{Tuple}
 use Rattle.sq_value.specs.Values.{Columns}
 use Rattle.sq_graph.specs.declared.BoxKind.TheVariants as kinds
 use Rattle.sq_graph.specs.declared.BoxWires.{BoxWires}
@@ -20,8 +18,6 @@ use Rattle.sq_net.specs.declared.Output.{Output}
 use Rattle.sq_net.specs.declared.Network.{Network}
 use Rattle.sq_net.specs.Sound.{HasWindow, IsSound, IsTypedBody, input_columns}
 use Rattle.sq_net.specs.Names.{is_name}
-use Rattle.sq_model.specs.Full.{nth}
-use Rattle.sq_model.specs.Fit.{FitsOption, SourcesFit}
 
 abbrev numbers : Columns
 numbers = (codes "v", kind.Int) ∷ []

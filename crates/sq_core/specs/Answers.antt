@@ -1,17 +1,19 @@
 -- What is left of the answers of a replay.
-use Rattle.std.specs.Prelude.{◌≡◌, ℕ, ◌<◌, ◌++◌, List, length, Some, slice_get}
+use Rattle.std.specs.Prelude.{◌≡◌, ℕ, ◌+◌, ◌<◌, ◌≤◌, ◌++◌, List, length, Some, slice_get}
 use Rattle.sq_item.specs.declared.Item.{Item}
 use Rattle.sq_oper.specs.declared.outs.Event.{Event}
-use Rattle.sq_points.specs.Points.{setting_of}
-use Rattle.sq_model.specs.Full.{full_stream}
-use Rattle.sq_model.specs.Fed.{fed_of, late_of, work_of}
-use Rattle.sq_model.specs.Shedding.{Replay, counts_in, level_of}
+use Rattle.sq_place.specs.declared.DropPoint.{DropPoint}
+use Rattle.sq_points.specs.Points.{points_of, setting_of}
+use Rattle.sq_model.specs.Fed.{late_of}
+use Rattle.sq_model.specs.Shedding.{Replay, counts_in, level_of, answer_of}
+use Rattle.sq_model.specs.Kept.{fed_of, work_of, turns_of}
 use Rattle.sq_model.specs.Shown.{plans_shown}
 use Rattle.sq_actor.specs.declared.actor.Actor.{Actor}
 use Rattle.sq_flow.specs.declared.flow.Flow.{Flow}
-use Rattle.sq_flow.specs.Events.{lines_of}
-use Rattle.sq_flow.specs.Flows.{HoldsItems, lines_left, fed_at_last, lost_at_last, work_at_last, turns_at_last}
+use Rattle.sq_flow.specs.Events.{lines_of, drops_of}
+use Rattle.sq_flow.specs.Flows.{HoldsItems, lines_left, decisions_left, fed_at_last, lost_at_last, work_at_last, turns_at_last}
 use Rattle.sq_flow.specs.Plans.{IsPlanned, plans_of, plans_left}
+use Rattle.sq_start.specs.Nets.{decisions_of}
 use Rattle.sq_core.specs.Meanings.{actors}
 
 -- over every disk: the levels of the closed epochs are those of the replay, and the plans that were shown, and then those that
@@ -21,13 +23,15 @@ pub record Plans (r : Replay) (flow : Flow Actor) (history : List Event) : Type 
   pub planned : IsPlanned (counts_in r) flow
   pub shown : plans_of history ++ plans_left flow ≡ plans_shown r
 
--- the lines that were shown, and then those that are left, are the full answer; and what each box will have been fed and have
--- lost at the end, and what all operators will have taken, is what the full streams say
+-- the lines that were shown at an output, and then those that are left, are its answer; the decisions of a drop that were shown,
+-- and then those that are left, are its record with the levels; and what each box will have been fed and have lost at the end,
+-- and what all operators will have taken, is what the replay says
 pub record Answers (r : Replay) (items : ℕ → List Item) (flow : Flow Actor) (history : List Event) : Type 0 where
-  pub holds : HoldsItems actors items flow
-  pub lines : (output s : ℕ) → slice_get r.network.wires.outputs output ≡ Some s
-      → lines_of output history ++ lines_left actors (level_of r) items flow output ≡ full_stream r.network r.sources s
-  pub fed : (at : ℕ) → at < length r.network.boxes → fed_at_last actors (level_of r) items flow at ≡ fed_of r.network r.sources at
+  pub holds : HoldsItems actors (level_of r) items flow
+  pub lines : (output : ℕ) → output < length r.network.wires.outputs → lines_of output history ++ lines_left actors (level_of r) items flow output ≡ answer_of r output
+  pub drops : (w : ℕ) (p : DropPoint) → slice_get (points_of r.network) w ≡ Some p
+      → drops_of w history ++ decisions_left actors (level_of r) items flow (flow.wires.sheds + w) ≡ decisions_of r w p
+  pub fed : (at : ℕ) → at < length r.network.boxes → fed_at_last actors (level_of r) items flow at ≡ fed_of r at
   pub late : (at : ℕ) → at < length r.network.boxes → lost_at_last actors (level_of r) items flow at ≡ late_of r.network r.sources at
-  pub work : work_at_last actors (level_of r) items flow ≡ work_of r.network r.sources
-  pub turns : turns_at_last actors (level_of r) items flow ≡ work_of r.network r.sources
+  pub work : work_at_last actors (level_of r) items flow ≡ work_of r
+  pub turns : turns_at_last actors (level_of r) items flow ≤ turns_of r

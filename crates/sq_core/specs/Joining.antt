@@ -1,10 +1,10 @@
 -- Wires that join operators as a table of feeds says.
-use Rattle.std.specs.Prelude.{◌≡◌, ◌≢◌, ◌⊎◌, ℕ, ◌+◌, ◌*◌, ◌==◌, ◌||◌, ◌≤◌, ◌<◌, ◌^◌, Bool, true, false, List, [], ◌∷◌, ◌++◌, length, Option, Some, None, Vec, slice_get, if◌then◌else◌}
+use Rattle.std.specs.Prelude.{◌≡◌, ◌≢◌, ◌⊎◌, ℕ, ◌+◌, ◌*◌, ◌==◌, ◌||◌, ◌≤◌, ◌<◌, ◌^◌, Bool, true, List, [], ◌∷◌, ◌++◌, length, Option, Some, None, Vec, slice_get, if◌then◌else◌}
 use Rattle.std.specs.declared.alloc.Global.{Global}
 use Rattle.sq_flow.specs.declared.wires.Arc.{Arc}
 use Rattle.sq_flow.specs.declared.wires.Wires.{Wires}
 use Rattle.sq_sched.specs.Ready.{contains}
-use Rattle.sq_flow.specs.Wiring.{numbers_in, rows_in, arcs_read, arcs_from, followers_of, Climbs, arc_at, from_of, port_of, to_of, place_of, times_in}
+use Rattle.sq_flow.specs.Wiring.{numbers_in, rows_in, arcs_read, arcs_from, followers_of, Climbs, from_of, port_of, to_of, place_of, times_in}
 use Rattle.sq_core.specs.declared.join.Feed.{Feed}
 
 abbrev pub items_in : Option (Vec Feed Global) → List Feed
@@ -71,6 +71,7 @@ once_more x xs = if contains xs x then xs else xs ++ x ∷ []
 -- what no arc changes
 pub record Fixed (was is : Wires) : Type 0 where
   pub replay : is.replay ≡ was.replay
+  pub sheds : is.sheds ≡ was.sheds
   pub shown : is.shown ≡ was.shown
   pub order : is.order ≡ was.order
 

@@ -4,9 +4,11 @@ use Rattle.sq_value.specs.Lists.{IsPrefixOf}
 use Rattle.sq_outside.specs.Disks.{Pages}
 use Rattle.sq_oper.specs.declared.outs.Event.{Event}
 use Rattle.sq_net.specs.Sound.{IsSound}
-use Rattle.sq_model.specs.Full.{full_stream}
-use Rattle.sq_model.specs.Fed.{fed_of, late_of, work_of}
-use Rattle.sq_model.specs.Shedding.{Replay}
+use Rattle.sq_place.specs.declared.DropPoint.{DropPoint}
+use Rattle.sq_points.specs.Points.{points_of}
+use Rattle.sq_model.specs.Fed.{late_of}
+use Rattle.sq_model.specs.Shedding.{Replay, answer_of}
+use Rattle.sq_model.specs.Kept.{fed_of, work_of, turns_of}
 use Rattle.sq_model.specs.Shown.{plans_shown}
 use Rattle.sq_actor.specs.declared.actor.Actor.{Actor}
 use Rattle.sq_actor.specs.Late.{late_by}
@@ -14,7 +16,7 @@ use Rattle.sq_queue.specs.Faces.{Tells, Together}
 use Rattle.sq_flow.specs.declared.seats.Seat.{Seat}
 use Rattle.sq_flow.specs.declared.errors.RunErr.{RunErr}
 use Rattle.sq_flow.specs.declared.errors.RunErr.TheVariants.{TooMuch}
-use Rattle.sq_flow.specs.Events.{lines_of}
+use Rattle.sq_flow.specs.Events.{lines_of, drops_of}
 use Rattle.sq_flow.specs.Seats.{taken_at}
 use Rattle.sq_flow.specs.Flows.{items_in, taken_in_all}
 use Rattle.sq_flow.specs.Engines.{IsEngine}
@@ -22,13 +24,15 @@ use Rattle.sq_flow.specs.Plans.{plans_of}
 use Rattle.sq_flow.specs.Takes.{NotStrange}
 use Rattle.sq_core.specs.declared.engine.Engine.{Engine}
 use Rattle.sq_core.specs.Meanings.{actors, IsValid}
-use Rattle.sq_core.specs.Table.{ops_of}
+use Rattle.sq_start.specs.Numbers.{first_output, ops_of}
+use Rattle.sq_start.specs.Nets.{decisions_of}
 use Rattle.sq_core.specs.Answers.{Plans, Answers}
 
--- what each step keeps, over every disk: the network is sound, and the operators are its boxes and outputs
+-- what each step keeps, over every disk: the network is sound, and the operators are its boxes, its window drops and its outputs
 pub record IsSoundEngine (e : Engine) : Type 0 where
   pub network : IsSound e.network
-  pub boxes : e.engine.flow.wires.shown ≡ length e.network.boxes
+  pub boxes : e.engine.flow.wires.sheds ≡ length e.network.boxes
+  pub drops : e.engine.flow.wires.shown ≡ first_output e.network
   pub operators : length e.engine.flow.seats.items ≡ ops_of e.network
   pub engine : IsEngine actors IsValid e.engine
 
@@ -42,17 +46,18 @@ pub record IsRun (r : Replay) (pages : Option Pages) (engine : Engine) (history 
   pub plans : Plans r engine.engine.flow history
   pub answers : Tells pages → Answers r (items_in engine.engine.flow pages) engine.engine.flow history
 
--- what a run has shown so far is a beginning of the answers and of the plans, and no more was fed than they take
+-- what a run has shown so far is a beginning of the answers, the records and the plans, and no more was fed than they take
 pub record ShownSoFar (r : Replay) (history : List Event) (begun steps : ℕ) : Type 0 where
-  pub lines : (output s : ℕ) → slice_get r.network.wires.outputs output ≡ Some s → IsPrefixOf (lines_of output history) (full_stream r.network r.sources s)
+  pub lines : (output : ℕ) → output < length r.network.wires.outputs → IsPrefixOf (lines_of output history) (answer_of r output)
+  pub drops : (w : ℕ) (p : DropPoint) → slice_get (points_of r.network) w ≡ Some p → IsPrefixOf (drops_of w history) (decisions_of r w p)
   pub plans : IsPrefixOf (plans_of history) (plans_shown r)
-  pub work : steps ≤ begun + work_of r.network r.sources
+  pub work : steps ≤ begun + work_of r
 
 -- what a run that failed has shown, and why it may have failed
 pub record Stopped (r : Replay) (history : List Event) (begun steps : ℕ) (e : RunErr) : Type 0 where
   pub so_far : ShownSoFar r history begun steps
   pub named : NotStrange e
-  pub turns : e ≡ TooMuch → 2 ^ 62 ≤ work_of r.network r.sources
+  pub turns : e ≡ TooMuch → 2 ^ 62 ≤ turns_of r
 
 -- how many tuples a box was fed, and how many of them it has neither given nor holds, where it is a BSort
 abbrev pub fed_at : Engine → ℕ → ℕ
@@ -67,8 +72,9 @@ late_at engine at = late_in (slice_get engine.engine.flow.seats.items at)
 
 -- what a run that is done has shown, fed and lost
 pub record ShownAll (r : Replay) (engine : Engine) (history : List Event) (begun steps : ℕ) : Type 0 where
-  pub lines : (output s : ℕ) → slice_get r.network.wires.outputs output ≡ Some s → lines_of output history ≡ full_stream r.network r.sources s
+  pub lines : (output : ℕ) → output < length r.network.wires.outputs → lines_of output history ≡ answer_of r output
+  pub drops : (w : ℕ) (p : DropPoint) → slice_get (points_of r.network) w ≡ Some p → drops_of w history ≡ decisions_of r w p
   pub plans : plans_of history ≡ plans_shown r
-  pub fed : (at : ℕ) → at < length r.network.boxes → fed_at engine at ≡ fed_of r.network r.sources at
+  pub fed : (at : ℕ) → at < length r.network.boxes → fed_at engine at ≡ fed_of r at
   pub late : (at : ℕ) → at < length r.network.boxes → late_at engine at ≡ late_of r.network r.sources at
-  pub work : steps ≡ begun + work_of r.network r.sources
+  pub work : steps ≡ begun + work_of r

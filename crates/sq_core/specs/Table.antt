@@ -1,56 +1,95 @@
--- What the boxes and outputs of a network read, and an order of them.
-use Rattle.std.specs.Prelude.{◌≡◌, ℕ, zero, suc, ◌+◌, false, List, [], ◌∷◌, ◌++◌, map, length, Option, Some, None, slice_get}
+-- What the boxes, drops and outputs of a network read, and an order of them.
+use Rattle.std.specs.Prelude.{◌≡◌, ℕ, zero, suc, ◌+◌, ◌<◌, ◌==◌, if◌then◌else◌, Bool, true, false, List, [], ◌∷◌, map, length, Option, Some, None, is_some, slice_get}
 use Rattle.sq_value.specs.Values.{Columns}
-use Rattle.sq_graph.specs.Wires.{Producer, Source, Port, producer_of}
+use Rattle.sq_value.specs.Lists.{numbers_to}
+use Rattle.sq_graph.specs.Wires.{producer_of, input_arcs_of, output_arc_at}
 use Rattle.sq_graph.specs.Order.{order_of}
+use Rattle.sq_place.specs.declared.DropPoint.{DropPoint}
+use Rattle.sq_place.specs.Places.{stream_on, arc_numbers, box_of}
 use Rattle.sq_net.specs.declared.Network.{Network}
 use Rattle.sq_net.specs.Streams.{columns_of_stream}
-use Rattle.sq_flow.specs.declared.wires.Arc.{Arc}
+use Rattle.sq_points.specs.Points.{points_of}
+use Rattle.sq_model.specs.Shedding.{drop_above_arc}
+use Rattle.sq_below.specs.Actors.{Actor, Sources, Box, Shedder, Shower, giver, arc_from}
+use Rattle.sq_start.specs.Numbers.{first_output, ops_of, number_of, actor_at, place_stream}
 use Rattle.sq_flow.specs.declared.wires.Wires.{Wires}
 use Rattle.sq_flow.specs.Wiring.{arcs_read, arc_at}
-use Rattle.sq_start.specs.Nets.{streams_of}
 use Rattle.sq_core.specs.declared.join.Feed.{Feed}
+use Rattle.sq_core.specs.Joining.{IsOf}
 
 abbrev pub width_of : Option Columns → ℕ
 width_of None = 0
 width_of (Some cs) = length cs
 
-abbrev pub feed_from : ℕ → ℕ → Option Producer → Feed
-feed_from replay width None = record { from = replay; port = 0; width = width; marked = false }
-feed_from replay width (Some (Source source)) = record { from = replay; port = source; width = width; marked = false }
-feed_from replay width (Some (Port at port)) = record { from = at; port = port; width = width; marked = false }
+-- the streams of the arcs, by number
+abbrev pub streams_on : Network → List ℕ
+streams_on n = map (stream_on n.wires) (arc_numbers n.wires)
 
--- how many operators there are: the boxes, and behind them the outputs
-abbrev pub ops_of : Network → ℕ
-ops_of n = length n.boxes + length n.wires.outputs
+-- the feed that takes a stream from a port of an actor
+abbrev pub feed_from : Network → ℕ → Bool → Actor × ℕ → Feed
+feed_from n stream marked x = record { from = number_of n x.0; port = x.1; width = width_of (columns_of_stream n stream); marked = marked }
 
--- the feed that takes a stream
-abbrev pub feed_of : Network → ℕ → Feed
-feed_of n s = feed_from (ops_of n) (width_of (columns_of_stream n s)) (producer_of n.wires s)
+-- the feed of an arc: it comes from the drop that stands on it, or else from what gives its stream; below a drop marks come on it
+abbrev pub arc_feed : Network → ℕ → Feed
+arc_feed n a = feed_from n (stream_on n.wires a) (is_some (drop_above_arc n a)) (arc_from n a)
+
+-- the feed of a drop: it comes from what gives the stream at its place
+abbrev pub place_feed : Network → DropPoint → Feed
+place_feed n p = feed_from n (place_stream n p.at) false (giver (producer_of n.wires (place_stream n p.at)))
+
+abbrev pub point_row : Network → Option DropPoint → List Feed
+point_row n None = []
+point_row n (Some p) = place_feed n p ∷ []
+
+-- what an actor reads, by port
+abbrev pub row_of : Network → Actor → List Feed
+row_of n Sources = []
+row_of n (Box b) = map (arc_feed n) (input_arcs_of n.wires b)
+row_of n (Shedder w) = point_row n (slice_get (points_of n) w)
+row_of n (Shower o) = arc_feed n (output_arc_at n.wires o) ∷ []
 
 -- what each operator reads
 abbrev pub table_of : Network → List (List Feed)
-table_of n = map (λ b. map (feed_of n) b.inputs) n.wires.boxes ++ map (λ s. feed_of n s ∷ []) n.wires.outputs
+table_of n = map (λ k. row_of n (actor_at n k)) (numbers_to (ops_of n))
 
 -- these, and in front of them others, the last first
 abbrev pub turned : List ℕ → List ℕ → List ℕ
 turned done [] = done
 turned done (x ∷ xs) = turned (x ∷ done) xs
 
+-- whether a stream is given by this box, or by a source
+abbrev pub same_box : Option ℕ → Option ℕ → Bool
+same_box None None = true
+same_box None (Some b) = false
+same_box (Some a) None = false
+same_box (Some a) (Some b) = a == b
+
+abbrev pub box_giving : Network → DropPoint → Option ℕ
+box_giving n p = box_of (producer_of n.wires (place_stream n p.at))
+
+-- the drops whose stream a box gives, or a source, of those from a number on
+abbrev pub drops_from : Network → Option ℕ → ℕ → List DropPoint → List ℕ
+drops_from n box first [] = []
+drops_from n box first (p ∷ ps) = if same_box (box_giving n p) box then first ∷ drops_from n box (first + 1) ps else drops_from n box (first + 1) ps
+
+abbrev pub drops_behind : Network → Option ℕ → List ℕ
+drops_behind n box = drops_from n box (length n.boxes) (points_of n)
+
+-- boxes in their order, each with the drops whose stream it gives, in front of earlier operators; the last first
+abbrev pub with_boxes : Network → List ℕ → List ℕ → List ℕ
+with_boxes n [] done = done
+with_boxes n (b ∷ bs) done = with_boxes n bs (turned (b ∷ done) (drops_behind n (Some b)))
+
 abbrev pub with_outputs : ℕ → ℕ → List ℕ → List ℕ
-with_outputs boxes zero order = order
-with_outputs boxes (suc k) order = (boxes + k) ∷ with_outputs boxes k order
+with_outputs first zero order = order
+with_outputs first (suc k) order = (first + k) ∷ with_outputs first k order
 
--- the outputs, and then the boxes, the last first
+-- the outputs, then the boxes with their drops, and behind all the drops on streams of sources: the last first
 abbrev pub actors_of : Network → List ℕ
-actors_of n = with_outputs (length n.boxes) (length n.wires.outputs) (turned [] (order_of n.wires))
+actors_of n = with_outputs (first_output n) (length n.wires.outputs) (with_boxes n (order_of n.wires) (turned [] (drops_behind n None)))
 
--- an arc whose tuples have so many values, and no marks
-abbrev pub IsWide : Option Arc → ℕ → Type 0
-IsWide None width = ⊥
-IsWide (Some arc) width = (arc.width ≡ width) × (arc.marked ≡ false)
-
--- each operator reads an arc for each stream that it takes, as wide as the stream
+-- each operator reads an arc for each feed of its row, and it is as the feed says
 pub record IsMeasured (n : Network) (w : Wires) : Type 0 where
-  pub many : (actor : ℕ) → length (arcs_read w actor) ≡ length (streams_of n actor)
-  pub wide : (actor port s : ℕ) → slice_get (streams_of n actor) port ≡ Some s → IsWide (arc_at w (slice_get (arcs_read w actor) port)) (width_of (columns_of_stream n s))
+  pub many : (actor : ℕ) → actor < ops_of n → length (arcs_read w actor) ≡ length (row_of n (actor_at n actor))
+  pub each : (actor port : ℕ) (f : Feed) → actor < ops_of n → slice_get (row_of n (actor_at n actor)) port ≡ Some f → IsOf (arc_at w (slice_get (arcs_read w actor) port)) (Some f)
+  pub no_more : (actor : ℕ) → ops_of n ≤ actor → arcs_read w actor ≡ []

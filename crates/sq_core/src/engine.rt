@@ -14,6 +14,7 @@ ghost use Rattle.sq_model.specs.Shedding.{Replay};
 ghost use Rattle.sq_queue.specs.Faces.{Tells, Together};
 ghost use Rattle.sq_sched.specs.Ready.{contains, AreActors};
 ghost use Rattle.sq_flow.specs.Events.{IsEventIn};
+ghost use Rattle.sq_start.specs.Numbers.{drops_of};
 
 use crate::start::network_engine;
 use sq_actor::Actor;
@@ -27,8 +28,8 @@ use sq_value::Tuple;
 use std::alloc::{AllocError, Global};
 use std::sync::ledger::Ledger;
 
-/// The engine of a network: the network, and its boxes and outputs at work. Actor 0 is the replay of the sources, then come the
-/// boxes in file order, and then the outputs.
+/// The engine of a network: the network, and its boxes, window drops and outputs at work. Actor 0 is the replay of the sources,
+/// then come the boxes in file order, the drops by number, and then the outputs.
 #[derive(Drop)]
 pub struct Engine {
     pub network: Network,
@@ -41,8 +42,8 @@ impl Engine {
     ghost use Rattle.sq_flow.specs.Engines.{place_in, listed_after, AllDone};
     ghost use Rattle.sq_core.specs.Runs.{IsSoundEngine, IsRun, ShownSoFar, Stopped, ShownAll, fed_at, late_at};
 
-    /// An engine that has released nothing yet of what the sources recorded, one list for each source. `seed` is for draws, of
-    /// which there are none yet; `frames` is how many pages the queues may keep in memory.
+    /// An engine that has released nothing yet of what the sources recorded, one list for each source. `seed` is that of the
+    /// draws; `frames` is how many pages the queues may keep in memory.
     pub fn new(
         alloc: Global,
         network: Network,
@@ -64,8 +65,7 @@ impl Engine {
             → IsRun (record { network = network; sources = map (λ v. v.items) sources.items; entries = capacities; seed = seed }) pages e [] steps steps) }
         ensures ready { IfOk result (λ e. e.engine.ready.list ≡ 0 ∷ []) }
     {
-        let _seed = seed;
-        let engine = network_engine(alloc, &network, sources, &capacities, frames)?;
+        let engine = network_engine(alloc, &network, sources, &capacities, seed, frames)?;
         Ok(Engine { network, engine })
     }
 
@@ -97,7 +97,7 @@ impl Engine {
             → Stopped r (history ++ events.new.items) begun steps.new e) }
         ensures counted { IfErr result (λ e. e ≡ RunErr.TooMuch → 2 ^ 62 ≤ self.new.engine.flow.taken + 2) }
         ensures failed { OnErr result (self.new.engine.failed ≡ true) }
-        ensures shows { OnOk result (AllByRecursion (IsEventIn (length self.old.network.outputs) 0) events.old.items → AllByRecursion (IsEventIn (length self.old.network.outputs) 0) events.new.items) }
+        ensures shows { OnOk result (AllByRecursion (IsEventIn (length self.old.network.outputs) (drops_of self.old.network)) events.old.items → AllByRecursion (IsEventIn (length self.old.network.outputs) (drops_of self.old.network)) events.new.items) }
         ensures order { OnOk result (self.new.engine.ready.list ≡ listed_after self.new.engine.flow self.old.engine.ready.list pick.actor) }
         ensures measure { IfOk result (λ p. FallsBy p.fed p.finished (measure_of self.old.engine.flow) (measure_of self.new.engine.flow)) }
         ensures works { IfOk result (λ p. (p.fed ≡ 0) → p.finished ≡ true) }

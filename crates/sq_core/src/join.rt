@@ -148,21 +148,25 @@ fn bare_readers(alloc: Global, many: u32) -> Result<Vec<Vec<Vec<u32>>>, AllocErr
 /// Wires in which each operator reads what the table says, by port.
 pub(crate) fn wires_of(
     alloc: Global,
+    sheds: u32,
     shown: u32,
     feeds: &[Vec<Feed>],
     order: Vec<u32>,
 ) -> Result<Wires, AllocError>
     requires feeds { AreFeeds shown feeds.now }
+    requires sheds { sheds ≤ shown }
     requires shown { shown ≤ length feeds.now }
     requires order { IsOrder (length feeds.now) feeds.now order.items }
     ensures shaped { IfOk result (λ w. IsShaped w (length feeds.now)) }
     ensures joined { IfOk result (λ w. IsJoined feeds.now w) }
+    ensures sheds { IfOk result (λ w. w.sheds ≡ sheds) }
     ensures shown { IfOk result (λ w. w.shown ≡ shown) }
     ensures order { IfOk result (λ w. w.order ≡ order) }
 {
     let ops = feeds.len() as u32;
     let mut wires = Wires {
         replay: ops,
+        sheds,
         shown,
         arcs: Vec::new(alloc),
         inputs: bare_rows(alloc, ops)?,

@@ -1,79 +1,206 @@
 //! The wires of a network.
 
-ghost use Rattle.std.specs.Prelude.{◌≡◌, ◌+◌, ◌<◌, ◌^◌, ℕ, true, length, map, IfOk};
-ghost use Rattle.std.specs.List.{AllByRecursion};
-ghost use Rattle.sq_graph.specs.Wires.{producer_of};
+ghost use Rattle.std.specs.Prelude.{◌≡◌, ◌+◌, ◌<◌, ◌≤◌, ◌^◌, ◌++◌, ◌∷◌, [], ℕ, true, length, map, IfOk, OnOk};
+ghost use Rattle.std.specs.List.{All};
+ghost use Rattle.sq_graph.specs.Wires.{producer_of, arcs_of, input_arcs_of};
 ghost use Rattle.sq_graph.specs.Order.{is_there, order_of};
+ghost use Rattle.sq_place.specs.Places.{box_of};
 ghost use Rattle.sq_net.specs.Sound.{IsSound};
-ghost use Rattle.sq_flow.specs.Wiring.{net_of, IsShaped};
-ghost use Rattle.sq_start.specs.Nets.{Joins};
-ghost use Rattle.sq_core.specs.Table.{ops_of, feed_of, table_of, actors_of, IsMeasured};
+ghost use Rattle.sq_net.specs.Streams.{columns_of_stream};
+ghost use Rattle.sq_points.specs.Points.{points_of};
+ghost use Rattle.sq_model.specs.Given.{IsAt};
+ghost use Rattle.sq_below.specs.Actors.{Box, giver};
+ghost use Rattle.sq_start.specs.Numbers.{first_output, ops_of, actor_at, place_stream};
+ghost use Rattle.sq_flow.specs.Wiring.{IsShaped};
+ghost use Rattle.sq_core.specs.Table.{width_of, streams_on, arc_feed, place_feed, feed_from, row_of, table_of, same_box, drops_behind, turned, with_outputs, actors_of, IsMeasured};
 
 use crate::join::{Feed, wires_of};
+use crate::points::{drop_on, is_below};
 use sq_flow::Wires;
-use sq_graph::{Giver, OrderErr, given_by, order};
+use sq_graph::{Giver, OrderErr, arc_of, given_by, order, output_arc};
 use sq_net::Network;
+use sq_place::{DropAt, DropPoint};
 use std::alloc::{AllocError, Global};
 
+/// The streams of the arcs, by number.
+#[tactic(auto, using(crate::proofs::PointLemmas::streams_are))]
+fn arc_streams(alloc: Global, n: &Network) -> Result<Vec<u32>, AllocError>
+    ensures { IfOk result (λ v. v.items ≡ streams_on n.now) }
+{
+    let mut streams = Vec::new(alloc);
+    for b in n.wires.boxes.as_slice() {
+        streams.extend_from_slice(b.inputs.as_slice())?;
+    }
+    streams.extend_from_slice(n.wires.outputs.as_slice())?;
+    Ok(streams)
+}
+
+fn width(n: &Network, stream: u32) -> u32
+    requires sound { IsSound n.now }
+    requires there { is_there (producer_of n.now.wires stream) ≡ true }
+    ensures { result ≡ width_of (columns_of_stream n.now stream) }
+{
+    n.stream_schema(stream).names().len() as u32
+}
+
+/// The feed that takes a stream from what gives it.
 #[tactic(auto, using(crate::proofs::TableLemmas::boxes_low))]
-fn feed_of(n: &Network, replay: u32, stream: u32) -> Feed
+fn given_feed(n: &Network, replay: u32, stream: u32, marked: bool) -> Feed
     requires sound { IsSound n.now }
     requires there { is_there (producer_of n.now.wires stream) ≡ true }
     requires replay { replay ≡ ops_of n.now }
-    ensures { result ≡ feed_of n.now stream }
+    ensures { result ≡ feed_from n.now stream marked (giver (producer_of n.now.wires stream)) }
 {
-    let width = n.stream_schema(stream).names().len() as u32;
+    let width = width(n, stream);
     match given_by(&n.wires, stream) {
         Some(Giver::Source { source }) => Feed {
             from: replay,
             port: source,
             width,
-            marked: false,
+            marked,
         },
         Some(Giver::Port { at, port }) => Feed {
             from: at,
             port,
             width,
-            marked: false,
+            marked,
         },
         None => unreachable!(),
     }
 }
 
-fn feeds_of(
-    alloc: Global,
-    n: &Network,
-    replay: u32,
-    streams: &[u32],
-) -> Result<Vec<Feed>, AllocError>
+/// The feed of an arc.
+fn arc_feed(n: &Network, points: &[DropPoint], streams: &[u32], replay: u32, arc: u32) -> Feed
     requires sound { IsSound n.now }
-    requires there { AllByRecursion (λ s. is_there (producer_of n.now.wires s) ≡ true) streams.now }
+    requires points { points.now ≡ points_of n.now }
+    requires streams { streams.now ≡ streams_on n.now }
     requires replay { replay ≡ ops_of n.now }
-    ensures { IfOk result (λ v. v.items ≡ map (feed_of n.now) streams.now) }
+    requires there { arc < length (arcs_of n.now.wires) }
+    ensures { result ≡ arc_feed n.now arc }
 {
-    let mut feeds = Vec::new(alloc);
-    for index in 0..streams.len() {
-        let stream = streams[index];
-        feeds.push(feed_of(n, replay, stream))?;
+    let stream = streams[arc as usize];
+    let marked = is_below(points, arc);
+    match drop_on(n, points, stream, arc) {
+        Some(drop) => Feed {
+            from: n.boxes.as_slice().len() as u32 + drop,
+            port: 0,
+            width: width(n, stream),
+            marked,
+        },
+        None => given_feed(n, replay, stream, marked),
     }
-    Ok(feeds)
 }
 
-fn table_of(alloc: Global, n: &Network, replay: u32) -> Result<Vec<Vec<Feed>>, AllocError>
+/// The stream at a place.
+fn place_stream(n: &Network, streams: &[u32], at: DropAt) -> u32
+    requires streams { streams.now ≡ streams_on n.now }
+    requires there { IsAt n.now at }
+    ensures { result ≡ place_stream n.now at }
+{
+    match at {
+        DropAt::Stream(stream) => stream,
+        DropAt::Arc(arc) => streams[arc as usize],
+    }
+}
+
+/// The feed of a drop.
+fn place_feed(n: &Network, streams: &[u32], replay: u32, point: &DropPoint) -> Feed
     requires sound { IsSound n.now }
+    requires streams { streams.now ≡ streams_on n.now }
+    requires replay { replay ≡ ops_of n.now }
+    requires there { IsAt n.now point.now.at }
+    ensures { result ≡ place_feed n.now point.now }
+{
+    given_feed(n, replay, place_stream(n, streams, point.at), false)
+}
+
+/// The arcs that a box takes.
+fn input_arcs(alloc: Global, n: &Network, at: u32) -> Result<Vec<u32>, AllocError>
+    requires sound { IsSound n.now }
+    requires there { at < length n.now.wires.boxes }
+    ensures { IfOk result (λ v. v.items ≡ input_arcs_of n.now.wires at) }
+{
+    let mut arcs = Vec::new(alloc);
+    for port in 0..n.wires.boxes.as_slice()[at as usize].inputs.as_slice().len() as u32 {
+        arcs.push(arc_of(&n.wires, at, port))?;
+    }
+    Ok(arcs)
+}
+
+/// What a box reads.
+fn box_row(
+    alloc: Global,
+    n: &Network,
+    points: &[DropPoint],
+    streams: &[u32],
+    replay: u32,
+    at: u32,
+) -> Result<Vec<Feed>, AllocError>
+    requires sound { IsSound n.now }
+    requires points { points.now ≡ points_of n.now }
+    requires streams { streams.now ≡ streams_on n.now }
+    requires replay { replay ≡ ops_of n.now }
+    requires there { at < length n.now.wires.boxes }
+    ensures { IfOk result (λ v. v.items ≡ row_of n.now (Box at)) }
+{
+    let arcs = input_arcs(alloc, n, at)?;
+    let mut row = Vec::new(alloc);
+    for index in 0..arcs.len() {
+        let arc = arcs[index];
+        row.push(arc_feed(n, points, streams, replay, arc))?;
+    }
+    Ok(row)
+}
+
+/// What an operator reads.
+fn row_at(
+    alloc: Global,
+    n: &Network,
+    points: &[DropPoint],
+    streams: &[u32],
+    replay: u32,
+    actor: u32,
+) -> Result<Vec<Feed>, AllocError>
+    requires sound { IsSound n.now }
+    requires points { points.now ≡ points_of n.now }
+    requires places { All (λ p. IsAt n.now p.at) points.now }
+    requires streams { streams.now ≡ streams_on n.now }
+    requires replay { replay ≡ ops_of n.now }
+    requires there { actor < ops_of n.now }
+    ensures { IfOk result (λ v. v.items ≡ row_of n.now (actor_at n.now actor)) }
+{
+    let boxes = n.boxes.as_slice().len() as u32;
+    let first = boxes + points.len() as u32;
+    if actor < boxes {
+        return box_row(alloc, n, points, streams, replay, actor);
+    }
+    let feed = if actor < first {
+        place_feed(n, streams, replay, &points[(actor - boxes) as usize])
+    } else {
+        let arc = output_arc(&n.wires, actor - first);
+        arc_feed(n, points, streams, replay, arc)
+    };
+    vec![in alloc; feed]
+}
+
+/// What each operator reads.
+fn table_of(
+    alloc: Global,
+    n: &Network,
+    points: &[DropPoint],
+    streams: &[u32],
+    replay: u32,
+) -> Result<Vec<Vec<Feed>>, AllocError>
+    requires sound { IsSound n.now }
+    requires points { points.now ≡ points_of n.now }
+    requires places { All (λ p. IsAt n.now p.at) points.now }
+    requires streams { streams.now ≡ streams_on n.now }
     requires replay { replay ≡ ops_of n.now }
     ensures { IfOk result (λ v. map (λ f. f.items) v.items ≡ table_of n.now) }
 {
     let mut table = Vec::new(alloc);
-    let boxes = n.wires.boxes.as_slice();
-    for at in 0..boxes.len() {
-        table.push(feeds_of(alloc, n, replay, boxes[at].inputs.as_slice())?)?;
-    }
-    let outputs = n.wires.outputs.as_slice();
-    for output in 0..outputs.len() {
-        let mut feeds = Vec::new(alloc);
-        feeds.push(feed_of(n, replay, outputs[output]))?;
-        table.push(feeds)?;
+    for actor in 0..replay {
+        table.push(row_at(alloc, n, points, streams, replay, actor)?)?;
     }
     Ok(table)
 }
@@ -89,35 +216,109 @@ fn box_order(alloc: Global, n: &Network) -> Result<Vec<u32>, AllocError>
     }
 }
 
-fn actors_of(alloc: Global, n: &Network) -> Result<Vec<u32>, AllocError>
+/// The box that gives a stream, if one does.
+#[tactic(auto, using(crate::proofs::TableLemmas::boxes_low))]
+fn box_giving(n: &Network, stream: u32) -> Option<u32>
     requires { IsSound n.now }
-    ensures { IfOk result (λ v. v.items ≡ actors_of n.now) }
+    ensures { result ≡ box_of (producer_of n.now.wires stream) }
 {
-    let boxes = box_order(alloc, n)?;
-    let first = n.boxes.as_slice().len() as u32;
-    let outputs = n.wires.outputs.as_slice().len() as u32;
-    let mut all = Vec::new(alloc);
-    for index in 0..boxes.len() {
-        let at = boxes[index];
-        all.insert(0, at)?;
+    match given_by(&n.wires, stream) {
+        Some(Giver::Port { at, .. }) => Some(at),
+        Some(Giver::Source { .. }) => None,
+        None => None,
     }
+}
+
+fn same_box(one: Option<u32>, other: Option<u32>) -> bool
+    ensures { result ≡ same_box one other }
+{
+    match (one, other) {
+        (None, None) => true,
+        (Some(a), Some(b)) => a == b,
+        _ => false,
+    }
+}
+
+/// Puts the drops whose stream a box gives, or a source, in front of earlier operators.
+fn add_drops(
+    n: &Network,
+    points: &[DropPoint],
+    streams: &[u32],
+    giver: Option<u32>,
+    all: &mut Vec<u32>,
+) -> Result<(), AllocError>
+    requires sound { IsSound n.now }
+    requires points { points.now ≡ points_of n.now }
+    requires places { All (λ p. IsAt n.now p.at) points.now }
+    requires streams { streams.now ≡ streams_on n.now }
+    ensures { OnOk result (all.new.items ≡ turned all.old.items (drops_behind n.now giver)) }
+{
+    let boxes = n.boxes.as_slice().len() as u32;
+    for number in 0..points.len() {
+        let stream = place_stream(n, streams, points[number].at);
+        if same_box(box_giving(n, stream), giver) {
+            all.insert(0, boxes + number as u32)?;
+        }
+    }
+    Ok(())
+}
+
+/// Puts the outputs in front of all other operators.
+fn add_outputs(first: u32, outputs: u32, all: &mut Vec<u32>) -> Result<(), AllocError>
+    requires { first + outputs < 2 ^ 32 }
+    ensures { OnOk result (all.new.items ≡ with_outputs first outputs all.old.items) }
+{
     for output in 0..outputs {
         all.insert(0, first + output)?;
     }
+    Ok(())
+}
+
+/// The operators in an order in which each stands behind those that it reads, the last first.
+fn actors_of(
+    alloc: Global,
+    n: &Network,
+    points: &[DropPoint],
+    streams: &[u32],
+) -> Result<Vec<u32>, AllocError>
+    requires sound { IsSound n.now }
+    requires points { points.now ≡ points_of n.now }
+    requires places { All (λ p. IsAt n.now p.at) points.now }
+    requires streams { streams.now ≡ streams_on n.now }
+    ensures { IfOk result (λ v. v.items ≡ actors_of n.now) }
+{
+    let boxes = box_order(alloc, n)?;
+    let mut all = Vec::new(alloc);
+    add_drops(n, points, streams, None, &mut all)?;
+    for index in 0..boxes.len() {
+        let at = boxes[index];
+        all.insert(0, at)?;
+        add_drops(n, points, streams, Some(at), &mut all)?;
+    }
+    let first = n.boxes.as_slice().len() as u32 + points.len() as u32;
+    add_outputs(first, n.wires.outputs.as_slice().len() as u32, &mut all)?;
     Ok(all)
 }
 
-/// The wires of a sound network: its boxes, and behind them its outputs, read what the network says.
-pub(crate) fn network_wires(alloc: Global, n: &Network) -> Result<Wires, AllocError>
-    requires { IsSound n.now }
+/// The wires of a sound network: its boxes, behind them its window drops, and then its outputs, read what the network says.
+pub(crate) fn network_wires(
+    alloc: Global,
+    n: &Network,
+    points: &[DropPoint],
+) -> Result<Wires, AllocError>
+    requires sound { IsSound n.now }
+    requires points { points.now ≡ points_of n.now }
+    requires places { All (λ p. IsAt n.now p.at) points.now }
     ensures shaped { IfOk result (λ w. IsShaped w (ops_of n.now)) }
-    ensures joins { IfOk result (λ w. Joins n.now (net_of w)) }
     ensures measured { IfOk result (λ w. IsMeasured n.now w) }
-    ensures shown { IfOk result (λ w. w.shown ≡ length n.now.boxes) }
+    ensures sheds { IfOk result (λ w. w.sheds ≡ length n.now.boxes) }
+    ensures shown { IfOk result (λ w. w.shown ≡ first_output n.now) }
 {
     let boxes = n.boxes.as_slice().len() as u32;
-    let replay = boxes + n.wires.outputs.as_slice().len() as u32;
-    let table = table_of(alloc, n, replay)?;
-    let order = actors_of(alloc, n)?;
-    wires_of(alloc, boxes, &table, order)
+    let first = boxes + points.len() as u32;
+    let replay = first + n.wires.outputs.as_slice().len() as u32;
+    let streams = arc_streams(alloc, n)?;
+    let table = table_of(alloc, n, points, &streams, replay)?;
+    let order = actors_of(alloc, n, points, &streams)?;
+    wires_of(alloc, boxes, first, &table, order)
 }

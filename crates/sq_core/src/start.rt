@@ -1,4 +1,4 @@
-//! The engine over the boxes and outputs of a network, to which nothing was fed.
+//! The engine over the operators of a network, to which nothing was fed.
 
 ghost use Rattle.std.specs.Prelude.{◌≡◌, ◌<◌, ◌≤◌, ◌^◌, ℕ, [], ◌∷◌, IfOk, Option, length, map};
 ghost use Rattle.std.specs.List.{AllByRecursion};
@@ -6,27 +6,27 @@ ghost use Rattle.sq_value.specs.Values.{IsStream};
 ghost use Rattle.sq_oper.specs.Streams.{IsSoundTuple};
 ghost use Rattle.sq_outside.specs.Disks.{Pages};
 ghost use Rattle.sq_net.specs.Sound.{IsSound};
-ghost use Rattle.sq_points.specs.Points.{points_of, setting_of};
+ghost use Rattle.sq_points.specs.Points.{points_of};
 ghost use Rattle.sq_points.specs.Limits.{KeepsDropLimits};
 ghost use Rattle.sq_model.specs.Fit.{SourcesFit};
 ghost use Rattle.sq_queue.specs.Faces.{Together};
 ghost use Rattle.sq_flow.specs.Engines.{IsEngine};
 ghost use Rattle.sq_flow.specs.Flows.{items_in, taken_in_all};
 ghost use Rattle.sq_core.specs.Meanings.{actors, IsValid};
-ghost use Rattle.sq_core.specs.Table.{ops_of};
+ghost use Rattle.sq_start.specs.Numbers.{first_output, ops_of};
 ghost use Rattle.sq_core.specs.Answers.{Plans, Answers};
 
 use crate::network::network_wires;
 use crate::seated::network_seats;
 use sq_actor::Actor;
+use sq_below::early_drop_is_sound;
 use sq_flow::Engine;
-use sq_model::full_streams_fit;
 use sq_net::Network;
 use sq_place::{DropPoint, PlaceErr};
-use sq_plan::{Capacities, Planner};
+use sq_plan::Capacities;
 use sq_points::{network_planner, network_points};
 use sq_road::Levels;
-use sq_start::{counts_start, outputs_start_full};
+use sq_start::starts_as_replayed;
 use sq_value::Tuple;
 use std::alloc::{AllocError, Global};
 use std::collections::VecDeque;
@@ -56,23 +56,14 @@ fn points_in(alloc: Global, n: &Network) -> Result<Vec<DropPoint>, AllocError>
     }
 }
 
-/// What plans the epochs of a run with these capacities.
-fn planner_of(alloc: Global, n: &Network, capacities: &Capacities) -> Result<Planner, AllocError>
-    requires sound { IsSound n.now }
-    requires limits { KeepsDropLimits n.now }
-    ensures { IfOk result (λ p. p ≡ setting_of n.now capacities.now) }
-{
-    let points = points_in(alloc, n)?;
-    network_planner(alloc, n, &points, capacities)
-}
-
-/// An engine over the boxes and outputs of a sound network, to which nothing was fed, and which has released nothing of what
-/// the sources recorded.
+/// An engine over the boxes, window drops and outputs of a sound network, to which nothing was fed, and which has released
+/// nothing of what the sources recorded.
 pub(crate) fn network_engine(
     alloc: Global,
     n: &Network,
     sources: Vec<Vec<Tuple>>,
     capacities: &Capacities,
+    seed: u64,
     frames: u32,
 ) -> Result<Engine<Actor>, AllocError>
     requires sound { IsSound n.now }
@@ -84,22 +75,23 @@ pub(crate) fn network_engine(
     requires fit { SourcesFit n.now (map (λ v. v.items) sources.items) }
     requires frames { 2 ≤ frames }
     ensures engine { IfOk result (λ e. IsEngine actors IsValid e) }
-    ensures boxes { IfOk result (λ e. e.flow.wires.shown ≡ length n.now.boxes) }
+    ensures boxes { IfOk result (λ e. e.flow.wires.sheds ≡ length n.now.boxes) }
+    ensures drops { IfOk result (λ e. e.flow.wires.shown ≡ first_output n.now) }
     ensures operators { IfOk result (λ e. length e.flow.seats.items ≡ ops_of n.now) }
     ensures together { IfOk result (λ e. (pages : Option Pages) → Together e.flow.queues pages) }
     ensures none_fed { IfOk result (λ e. taken_in_all actors e.flow ≡ 0) }
-    ensures plans { IfOk result (λ e. (seed : ℕ) → Plans (record { network = n.now; sources = map (λ v. v.items) sources.items; entries = capacities.now; seed = seed }) e.flow []) }
-    ensures answers { IfOk result (λ e. (seed : ℕ) (pages : Option Pages)
+    ensures plans { IfOk result (λ e. Plans (record { network = n.now; sources = map (λ v. v.items) sources.items; entries = capacities.now; seed = seed }) e.flow []) }
+    ensures answers { IfOk result (λ e. (pages : Option Pages)
         → Answers (record { network = n.now; sources = map (λ v. v.items) sources.items; entries = capacities.now; seed = seed }) (items_in e.flow pages) e.flow []) }
     ensures ready { IfOk result (λ e. e.ready.list ≡ 0 ∷ []) }
 {
-    full_streams_fit(n);
-    outputs_start_full(n);
-    counts_start(n);
-    let wires = network_wires(alloc, n)?;
-    let seats = network_seats(alloc, n)?;
+    early_drop_is_sound();
+    starts_as_replayed();
+    let points = points_in(alloc, n)?;
+    let wires = network_wires(alloc, n, &points)?;
+    let seats = network_seats(alloc, n, &points, seed)?;
     let queues = queued(alloc, sources)?;
-    let planner = planner_of(alloc, n, capacities)?;
+    let planner = network_planner(alloc, n, &points, capacities)?;
     let levels = Levels::new(alloc, n.epoch);
     Engine::new(alloc, wires, seats, queues, planner, levels, frames)
 }

@@ -16,6 +16,7 @@ use sq_net::{Body, Network, Node, Output, Source};
 use sq_oper::Event;
 use sq_outside::{MemDisk, PageDisk, Steps};
 use sq_plan::Capacities;
+use sq_points::network_points;
 use sq_qos::Graph;
 use sq_sched::Pick;
 use sq_value::{Kind, ListOf, Name, Schema, Tuple, Value};
@@ -113,8 +114,12 @@ fn new_engine(alloc: Global) -> Result<Engine, Fail>
     ensures sound { IfOk result IsSoundEngine }
     ensures together { IfOk result (λ e. (pages : Option Pages) → Together e.engine.flow.queues pages) }
 {
+    let network = network(alloc)?;
+    let Ok(_points) = network_points(alloc, &network) else {
+        return Err(Fail::from("a limit of drop points"));
+    };
     let none = Capacities::new(Vec::new(alloc));
-    Ok(Engine::new(alloc, network(alloc)?, streams(alloc)?, none, 0, 2)?)
+    Ok(Engine::new(alloc, network, streams(alloc)?, none, 0, 2)?)
 }
 
 // Steps of one item each, of the actor that became ready first, until none may follow.

@@ -3,7 +3,6 @@ use Rattle.std.proofs.Common.{◌≡◌, ◌≢◌, ℕ, zero, suc, ◌+◌, ◌
 use Rattle.std.specs.Prelude.{slice_get, is_some}
 use Rattle.std.proofs.lemmas.Option.{slice_get_past}
 use Rattle.sq_item.specs.declared.Item.{Item}
-use Rattle.sq_road.specs.Levels.{Agrees}
 use Rattle.sq_oper.specs.Streams.{tuples_of}
 use Rattle.sq_left.specs.Left.{Net, known, Each, IsWired}
 use Rattle.sq_left.proofs.MergeLemmas.{eqb-yes, eqb-no, eqb-same}
@@ -13,7 +12,7 @@ use Rattle.sq_flow.specs.declared.flow.Flow.{Flow}
 use Rattle.sq_flow.specs.Wiring.{net_of, arcs_read, numbers_in}
 use Rattle.sq_flow.specs.Seats.{Meaning, done_at, taken_at, lost_at}
 use Rattle.sq_flow.specs.Events.{bodies}
-use Rattle.sq_flow.specs.Flows.{world_of, IsFlow, HoldsItems, lines_left, fed_at_last, lost_at_last, sum_below, work_at_last, taken_in_all}
+use Rattle.sq_flow.specs.Flows.{world_of, IsFlow, HoldsItems, lines_left, decisions_left, fed_at_last, lost_at_last, sum_below, work_at_last, taken_in_all}
 use Rattle.sq_flow.specs.Readiness.{IsReady, stands}
 use Rattle.sq_flow.specs.declared.engine.Engine.{Engine}
 use Rattle.sq_flow.specs.Engines.{AllDone, IsEngine, place_in}
@@ -106,17 +105,17 @@ module _ {O : Type 0} (m : Meaning O) (valid : O → Type 0) (e : Flow O) (flow 
       by (inr r) = let low = flow.shaped.listed r.0 r.1.0 in (r.0, (omega (arith, low), r.1.1))
 
   -- at the end nothing is left
-  module _ (all : AllDone e) (items : ℕ → List Item) (holds : HoldsItems m items e) (table : ℕ → ℕ → ℕ) (agrees : Agrees e.levels table) where
+  module _ (all : AllDone e) (table : ℕ → ℕ → ℕ) (items : ℕ → List Item) (holds : HoldsItems m table items e) where
     pub none-left : (output : ℕ) → e.wires.shown + output < length e.seats.items → lines_left m table items e output ≡ []
     none-left output low =
-        ap bodies (ended-none net (world_of m table items e) e.wires.order.items (holds.facts table agrees) (e.wires.shown + output) 0 (flow.shaped.ordered (e.wires.shown + output) low)
+        ap bodies (ended-none net (world_of m table items e) e.wires.order.items holds.facts (e.wires.shown + output) 0 (flow.shaped.ordered (e.wires.shown + output) low)
         (all (e.wires.shown + output) (omega (arith, low))))
 
     pub all-fed : (actor : ℕ) → actor < length e.seats.items → fed_at_last m table items e actor ≡ taken_at m (slice_get e.seats.items actor)
     all-fed actor low =
         let r = flow.shaped.replay_is in
         let away : actor ≢ net.replay = omega (arith, r, low) in
-        let settled = ended-settled net (world_of m table items e) e.wires.order.items (holds.facts table agrees) actor (flow.shaped.ordered actor low) away (all actor (omega (arith, low))) in
+        let settled = ended-settled net (world_of m table items e) e.wires.order.items holds.facts actor (flow.shaped.ordered actor low) away (all actor (omega (arith, low))) in
         ap (λ fed. taken_at m (slice_get e.seats.items actor) + length (tuples_of fed)) settled.none ∙ zero-more (taken_at m (slice_get e.seats.items actor))
       where
         zero-more : (k : ℕ) → k + 0 ≡ k
@@ -126,8 +125,14 @@ module _ {O : Type 0} (m : Meaning O) (valid : O → Type 0) (e : Flow O) (flow 
     all-lost actor low =
         let r = flow.shaped.replay_is in
         let away : actor ≢ net.replay = omega (arith, r, low) in
-        let settled = ended-settled net (world_of m table items e) e.wires.order.items (holds.facts table agrees) actor (flow.shaped.ordered actor low) away (all actor (omega (arith, low))) in
+        let settled = ended-settled net (world_of m table items e) e.wires.order.items holds.facts actor (flow.shaped.ordered actor low) away (all actor (omega (arith, low))) in
         ap (lost_at m (slice_get e.seats.items actor)) settled.none
+
+    pub all-decided : (actor : ℕ) → actor < length e.seats.items → decisions_left m table items e actor ≡ []
+    all-decided actor low =
+        let r = flow.shaped.replay_is in
+        let away : actor ≢ net.replay = omega (arith, r, low) in
+        (ended-settled net (world_of m table items e) e.wires.order.items holds.facts actor (flow.shaped.ordered actor low) away (all actor (omega (arith, low)))).decided
 
     pub all-work : work_at_last m table items e ≡ taken_in_all m e
     all-work = sums-agree (fed_at_last m table items e) (λ actor. taken_at m (slice_get e.seats.items actor)) (length e.seats.items) all-fed

@@ -12,7 +12,7 @@ use Rattle.sq_item.specs.Things.{Thing, spread, mark_part, body_part}
 use Rattle.sq_oper.specs.declared.outs.Event.{Event}
 use Rattle.sq_oper.specs.declared.outs.Event.TheVariants.{Line}
 use Rattle.sq_oper.specs.Streams.{tuple_in}
-use Rattle.sq_flow.specs.Events.{bodies, line_of, lines_of, ShowsIn}
+use Rattle.sq_flow.specs.Events.{bodies, line_of, lines_of, drop_in, drops_of, ShowsIn}
 use Rattle.sq_flow.specs.Plans.{plan_in, plans_of}
 
 pub bodies-append : (xs ys : List Thing) → bodies (xs ++ ys) ≡ bodies xs ++ bodies ys
@@ -30,6 +30,14 @@ plans-append (x ∷ xs) ys = ap (λ z. plan_in x ++ z) (plans-append xs ys) ∙ 
 
 pub plans-line : (events : List Event) (output : ℕ) (tuple : Tuple) → plans_of (events ++ Line output tuple ∷ []) ≡ plans_of events
 plans-line events output tuple = plans-append events (Line output tuple ∷ []) ∙ append-nil (plans_of events)
+
+-- and no decision
+pub drops-append : (w : ℕ) (xs ys : List Event) → drops_of w (xs ++ ys) ≡ drops_of w xs ++ drops_of w ys
+drops-append w [] ys = refl
+drops-append w (x ∷ xs) ys = ap (λ z. drop_in w x ++ z) (drops-append w xs ys) ∙ sym (append_assoc (drop_in w x) (drops_of w xs) (drops_of w ys))
+
+pub drops-line : (w : ℕ) (events : List Event) (output : ℕ) (tuple : Tuple) → drops_of w (events ++ Line output tuple ∷ []) ≡ drops_of w events
+drops-line w events output tuple = drops-append w events (Line output tuple ∷ []) ∙ append-nil (drops_of w events)
 
 -- the tuple of an item
 pub bodies-some : (item : Item) (f : List Value) → item.body ≡ Some f → bodies (spread item) ≡ record { time = item.time; fields = f } ∷ []
@@ -55,7 +63,7 @@ pub nothing-more : {A : Type 0} (b : Bool) (xs ys : List A) → ys ≡ [] → xs
 nothing-more true xs ys e = rw e (sym (append-nil xs))
 nothing-more false xs ys e = sym (append-nil xs)
 
-pub ruleset event_lemmas = (lines-push, plans-line, bodies-some, bodies-none, nothing-more)
+pub ruleset event_lemmas = (lines-push, plans-line, drops-line, bodies-some, bodies-none, nothing-more)
 
 cond-both : {A : Type 0} (b : Bool) (xs ys : List A) → cond b (xs ++ ys) [] ≡ cond b xs [] ++ cond b ys []
 cond-both true xs ys = refl

@@ -1,6 +1,7 @@
 -- What a feed keeps.
 use Rattle.std.proofs.Common.{◌≡◌, ◌≢◌, ℕ, suc, ◌+◌, ◌<◌, ◌≤◌, ◌^◌, eqb, cond, Bool, true, false, not, List, [], ◌∷◌, ◌++◌, length, Option, Some, None, refl, ap, sym, ◌∙◌, append-nil, length-append, arith, subst, ◌-◌}
 use Rattle.std.specs.Prelude.{is_some, slice_get, Vec}
+use Rattle.std.specs.List.{AllByRecursion}
 use Rattle.std.specs.declared.alloc.Global.{Global}
 use Rattle.std.proofs.lemmas.Option.{same_Some}
 use Rattle.sq_value.specs.declared.Value.{Value}
@@ -34,18 +35,19 @@ use Rattle.sq_flow.specs.declared.wires.Arc.{Arc}
 use Rattle.sq_flow.specs.declared.seats.Seat.{Seat}
 use Rattle.sq_flow.specs.declared.flow.Flow.{Flow}
 use Rattle.sq_flow.specs.declared.heads.Next.TheVariants.{Feed}
-use Rattle.sq_flow.specs.Wiring.{net_of, arcs_read, arc_at, marked_of, wide_of, from_of, to_of, place_of, pushed_by, AllOutsFine}
+use Rattle.sq_flow.specs.Wiring.{net_of, arcs_read, arc_at, marked_of, wide_of, from_of, to_of, place_of, pushed_by, AllOutsFine, IsOwn}
 use Rattle.sq_flow.specs.Heads.{NextUpTo}
 use Rattle.sq_flow.specs.Seats as seat
-use Rattle.sq_flow.specs.Seats.{Meaning, rest_at, decides_at, lost_at, place_at, done_at, holds_at, IsSeat, FedSeat}
+use Rattle.sq_flow.specs.Seats.{Meaning, rest_at, decides_at, lost_at, place_at, done_at, holds_at, IsSeat, Owns, FedSeat}
 use Rattle.sq_flow.specs.Takes.{takes_of, fits_of, MayBeFed}
-use Rattle.sq_flow.specs.Events.{bodies, lines_of, ShowsIn}
+use Rattle.sq_flow.specs.Events.{bodies, lines_of, of_drop, drops_of, ShowsIn}
 use Rattle.sq_flow.specs.Plans.{plans_left, plans_of}
-use Rattle.sq_flow.specs.Flows.{world_of, IsFlow, HoldsItems, Goes, Stepped, ShowsPrefix, CostsFed, CostsAtMost, TooMuchOnly, lines_left, fed_at_last, sum_below, taken_in_all, work_at_last, turns_at_last}
+use Rattle.sq_flow.specs.Flows.{world_of, IsFlow, HoldsItems, Goes, Stepped, ShowsPrefix, CostsFed, CostsAtMost, TooMuchOnly, lines_left, decisions_left, fed_at_last, sum_below, taken_in_all, work_at_last, turns_at_last}
 use Rattle.sq_flow.specs.declared.errors.RunErr.{RunErr}
 use Rattle.sq_flow.proofs.FutureLemmas.{future-weaker, future-port, ports-from-head, moves-fed, outs-fine, own-pushed, not-pushed, apart-from, fine-after, goes-on, prefix-chain}
 use Rattle.sq_flow.proofs.SendLemmas.{at_or_other}
 use Rattle.sq_flow.proofs.EventLemmas.{bodies-append}
+use Rattle.sq_flow.proofs.DropLemmas.{all-split, of-own, own-front, future-both}
 
 one-body : (item : Item) (port : ℕ) → length (tuples_of (entries port item)) ≡ cond (is_some item.body) 1 0
 one-body item port = by item.mark item.body
@@ -67,7 +69,7 @@ work-least m table items e = sum-most (λ k. seat.taken_at m (slice_get e.seats.
 -- where nothing was fed
 pub costs-none : {O : Type 0} (m : Meaning O) (valid : O → Type 0) (e : Flow O) → IsFlow m valid e → (was : Option Pages) (levels : LevelTable) (before after : ℕ) → after ≡ before
     → CostsAtMost m was e levels before after
-costs-none m valid e flow was levels before after same = λ told holds table agrees. let least = work-least m table (items_on e.queues was) e in omega (arith, least, same)
+costs-none m valid e flow was levels before after same = λ told table agrees holds. let least = work-least m table (items_on e.queues was) e in omega (arith, least, same)
 
 module _ {O : Type 0} (m : Meaning O) (valid : O → Type 0) (e : Flow O) (flow : IsFlow m valid e) (actor tick p at : ℕ) (a : Arc) (item : Item)
     (actor_in : actor < length e.seats.items)
@@ -92,6 +94,17 @@ module _ {O : Type 0} (m : Meaning O) (valid : O → Type 0) (e : Flow O) (flow 
       (future-port (takes_of a) (m.takes_marks s.op) (fits_of a) (m.fits s.op) s.tally.place p (spread item)
       (λ h. seat-fine.marks p (takes-is ∙ h)) (λ fields h. seat-fine.tuples p fields (fits-is fields ∙ h)) may.future)
 
+  -- the operator runs
+  pub runs : done_at e.over (slice_get e.seats.items actor) ≡ false → m.running s.op ≡ true
+  runs open_now = seat-fine.running ∙ by s.tally.running (sym (ap (done_at e.over) is_seat) ∙ open_now)
+    where
+      by : (b : Bool) → not b ≡ false → b ≡ true
+      by true h = refl
+      by false h = cc
+
+  seat-owns : Owns m (IsOwn e.wires actor) e.levels s
+  seat-owns = subst (holds_at (Owns m (IsOwn e.wires actor) e.levels)) is_seat (flow.owned actor)
+
   -- what a feed gives and leaves, over every disk
   module _ (s' : Seat O) (outs : List (ℕ × Item)) (drops : List Decision) (fed : FedSeat m valid e.levels p item outs drops s s') (may : MayBeFed a p s.tally.place e.clock item) where
     pub given-and-held : (table : ℕ → ℕ → ℕ) → Agrees e.levels table → (q : ℕ) → ThingsUpTo e.clock (given q outs) × ThingsUpTo e.clock (m.rest s'.op table [] q)
@@ -106,6 +119,27 @@ module _ {O : Type 0} (m : Meaning O) (valid : O → Type 0) (e : Flow O) (flow 
     pub outs-in-time : AllOutsFine e.clock outs
     outs-in-time = outs-fine e.clock outs fed.sound (λ q. (given-and-held (level_of e.levels) (λ epoch drop h. refl) q).0)
 
+    -- what it decides now, and what is left, is its own
+    own-future : (future : List Entry) → IsFuture (m.takes_marks s'.op) (m.fits s'.op) (m.place s'.op) future
+        → IsFuture (m.takes_marks s.op) (m.fits s.op) (m.place s.op) (entries p item ++ future)
+    own-future future f =
+        future-both (m.takes_marks s.op) (m.fits s.op) (m.place s.op) (entries p item) future (may-come may)
+        (rw (sym fed.marks, sym fed.fits, sym fed.moves) f)
+
+    pub own-drops : m.running s.op ≡ true → AllByRecursion (IsOwn e.wires actor) drops
+    own-drops running =
+        let alone : entries p item ++ [] ≡ entries p item = append-nil (entries p item) in
+        let future : IsFuture (m.takes_marks s.op) (m.fits s.op) (m.place s.op) (entries p item ++ []) = rw alone (may-come may) in
+        (all-split (IsOwn e.wires actor) drops (m.decides s'.op (level_of e.levels) [])
+        (subst (AllByRecursion (IsOwn e.wires actor)) (fed.decided (level_of e.levels) [] (λ epoch drop h. refl) future)
+        (seat-owns running (level_of e.levels) (λ epoch drop h. refl) (entries p item ++ []) future))).0
+
+    owns-after : m.running s.op ≡ true → Owns m (IsOwn e.wires actor) e.levels s'
+    owns-after running = λ _ table agrees future f.
+        (all-split (IsOwn e.wires actor) drops (m.decides s'.op table future)
+        (subst (AllByRecursion (IsOwn e.wires actor)) (fed.decided table future agrees (own-future future f))
+        (seat-owns running table agrees (entries p item ++ future) (own-future future f)))).1
+
     -- the facts over every disk stay
     module _ (seats' : Vec (Seat O) Global) (queues' : Queues) (taken' : ℕ)
         (is_after : slice_get seats'.items actor ≡ Some s') (apart : (other : ℕ) → other ≢ actor → slice_get seats'.items other ≡ slice_get e.seats.items other)
@@ -113,6 +147,9 @@ module _ {O : Type 0} (m : Meaning O) (valid : O → Type 0) (e : Flow O) (flow 
         (ended : (k : ℕ) → (face queues' k).ended ≡ (face e.queues k).ended)
         (more : taken' ≡ e.taken + length (spread item)) (few : taken' < 2 ^ 62)
         (unfinished : done_at e.over (slice_get e.seats.items actor) ≡ false) where
+      ran : m.running s.op ≡ true
+      ran = runs unfinished
+
       done-same : (other : ℕ) → done_at e.over (slice_get seats'.items other) ≡ done_at e.over (slice_get e.seats.items other)
       done-same = at_or_other (λ k. done_at e.over (slice_get seats'.items k) ≡ done_at e.over (slice_get e.seats.items k)) actor
           (ap (done_at e.over) is_after ∙ ap not fed.open_still ∙ sym (ap (done_at e.over) is_seat))
@@ -164,6 +201,9 @@ module _ {O : Type 0} (m : Meaning O) (valid : O → Type 0) (e : Flow O) (flow 
             coming = flow.coming;
             few_sources = flow.few_sources;
             levels = flow.levels;
+            owned = at_or_other (λ k. holds_at (Owns m (IsOwn e.wires k) e.levels) (slice_get seats'.items k)) actor
+                (subst (holds_at (Owns m (IsOwn e.wires actor) e.levels)) (sym is_after) (owns-after ran))
+                (λ k ne. subst (holds_at (Owns m (IsOwn e.wires k) e.levels)) (sym (apart k ne)) (flow.owned k));
             counts = flow.counts;
             few_tuples = flow.few_tuples;
             over = flow.over;
@@ -184,10 +224,10 @@ module _ {O : Type 0} (m : Meaning O) (valid : O → Type 0) (e : Flow O) (flow 
               }
 
   -- where these items stand on the arcs
-  module _ (items mid : ℕ → List Item) (holds : HoldsItems m items e) (faces : (k : ℕ) → IsFaceOf (face e.queues k) (items k))
+  module _ (table : ℕ → ℕ → ℕ) (agrees : Agrees e.levels table) (items mid : ℕ → List Item) (holds : HoldsItems m table items e) (faces : (k : ℕ) → IsFaceOf (face e.queues k) (items k))
       (whole : items at ≡ item ∷ mid at) (others : (k : ℕ) → k ≢ at → mid k ≡ items k) where
-    abbrev was : (ℕ → ℕ → ℕ) → World
-    was table = world_of m table items e
+    abbrev was : World
+    was = world_of m table items e
 
     not-replay : actor ≢ net.replay
     not-replay = let is = flow.shaped.replay_is in omega arith
@@ -201,31 +241,31 @@ module _ {O : Type 0} (m : Meaning O) (valid : O → Type 0) (e : Flow O) (flow 
     of-time : AllOfTime tick (spread item)
     of-time = subst (λ u. AllOfTime u (spread item)) time-is (spread-of-time item)
 
-    ports : (table : ℕ → ℕ → ℕ) → EachPort (PortFacts net (was table) tick p at) 0 (net.arcs actor)
-    ports table =
-        ports-from-head net (was table) items (λ k. place_of (slice_get e.wires.arcs.items k)) (λ k. (face e.queues k).first) (λ k. (face e.queues k).ended) e.clock actor tick p at
+    ports : EachPort (PortFacts net was tick p at) 0 (net.arcs actor)
+    ports =
+        ports-from-head net was items (λ k. place_of (slice_get e.wires.arcs.items k)) (λ k. (face e.queues k).first) (λ k. (face e.queues k).ended) e.clock actor tick p at
         (λ k. refl) holds.queued (λ k. (faces k).first)
         (λ port arc is. flow.ended arc (flow.shaped.arcs_in actor port arc is))
         (λ port arc is. (flow.shaped.joined actor port arc is).1) head
 
     -- the world between the taking and the giving
-    abbrev between : (ℕ → ℕ → ℕ) → World
-    between table = record (was table) { queue = λ k. spread_all (mid k) }
+    abbrev between : World
+    between = record was { queue = λ k. spread_all (mid k) }
 
-    moves-between : (table : ℕ → ℕ → ℕ) → Moves net (was table) (between table) (taken_at at (spread item)) (λ _ _. [])
-    moves-between table k within = moves-fed items mid (λ _. []) (λ j. spread_all (mid j)) at item whole others k (sym (append-nil (spread_all (mid k))))
+    moves-between : Moves net was between (taken_at at (spread item)) (λ _ _. [])
+    moves-between k within = moves-fed items mid (λ _. []) (λ j. spread_all (mid j)) at item whole others k (sym (append-nil (spread_all (mid k))))
 
-    pub next-may-come : (table : ℕ → ℕ → ℕ) → Agrees e.levels table → IsFuture (net.takes actor) (net.fits actor) (place_at m (slice_get e.seats.items actor)) (entries p item)
-    next-may-come table agrees =
-        next-is-future net (was table) (between table) actor tick p at (spread item) (coming net (was table) e.wires.order.items actor) (inputs net (was table) e.wires.order.items actor)
-        (facts-at net (was table) e.wires.order.items flow.shaped.wired (holds.facts table agrees) actor in-order not-replay)
-        (moves-between table) of-time head.0 (ports table)
+    pub next-may-come : IsFuture (net.takes actor) (net.fits actor) (place_at m (slice_get e.seats.items actor)) (entries p item)
+    next-may-come =
+        next-is-future net was between actor tick p at (spread item) (coming net was e.wires.order.items actor) (inputs net was e.wires.order.items actor)
+        (facts-at net was e.wires.order.items flow.shaped.wired holds.facts actor in-order not-replay)
+        moves-between of-time head.0 ports
 
     -- the tests pass
     pub passes : MayBeFed a p s.tally.place e.clock item
     passes =
         let in_time : item.time ≤ e.clock = (subst (AllFine e.clock) whole (holds.queued at)).0 in
-        let here : IsFuture (net.takes actor) (net.fits actor) (place_at m (slice_get e.seats.items actor)) (entries p item) = next-may-come (level_of e.levels) (λ epoch drop h. refl) in
+        let here : IsFuture (net.takes actor) (net.fits actor) (place_at m (slice_get e.seats.items actor)) (entries p item) = next-may-come in
         let place : place_at m (slice_get e.seats.items actor) ≡ s.tally.place = ap (place_at m) is_seat ∙ seat-fine.place in
         record {
           in_time = in_time;
@@ -242,50 +282,61 @@ module _ {O : Type 0} (m : Meaning O) (valid : O → Type 0) (e : Flow O) (flow 
         seat-fine.marks seat-fine.tuples (subst (λ z. IsFuture (net.takes actor) (net.fits actor) z (entries p item ++ future)) place f)
 
     -- what is still to be fed to the actor begins with the item
-    abbrev comes-first : (table : ℕ → ℕ → ℕ) → Agrees e.levels table
-        → (future : List Entry) × IsFuture (net.takes actor) (net.fits actor) (place_at m (slice_get e.seats.items actor)) (entries p item ++ future)
-        × ((port : ℕ) → coming net (was table) e.wires.order.items actor port ≡ rest_at m table (slice_get e.seats.items actor) (entries p item ++ future) port)
-        × (inputs net (was table) e.wires.order.items actor ≡ entries p item ++ future)
-    comes-first table agrees =
-        next-is-first net (was table) (between table) actor tick p at (spread item) (coming net (was table) e.wires.order.items actor) (inputs net (was table) e.wires.order.items actor)
-        (facts-at net (was table) e.wires.order.items flow.shaped.wired (holds.facts table agrees) actor in-order not-replay) (moves-between table) of-time head.0 (ports table)
+    abbrev comes-first : (future : List Entry) × IsFuture (net.takes actor) (net.fits actor) (place_at m (slice_get e.seats.items actor)) (entries p item ++ future)
+        × ((port : ℕ) → coming net was e.wires.order.items actor port ≡ rest_at m table (slice_get e.seats.items actor) (entries p item ++ future) port)
+        × (inputs net was e.wires.order.items actor ≡ entries p item ++ future)
+    comes-first =
+        next-is-first net was between actor tick p at (spread item) (coming net was e.wires.order.items actor) (inputs net was e.wires.order.items actor)
+        (facts-at net was e.wires.order.items flow.shaped.wired holds.facts actor in-order not-replay) moves-between of-time head.0 ports
 
     -- so as much more is to be taken and to be fed
-    pub turns-over : (table : ℕ → ℕ → ℕ) → Agrees e.levels table → e.taken + length (spread item) ≤ turns_at_last m table items e
-    turns-over table agrees =
-        let first = comes-first table agrees in
-        let ins = λ (k : ℕ). length (inputs net (was table) e.wires.order.items k) in
+    pub turns-over : e.taken + length (spread item) ≤ turns_at_last m table items e
+    turns-over =
+        let first = comes-first in
+        let ins = λ (k : ℕ). length (inputs net was e.wires.order.items k) in
         let least = sum-least ins (length e.seats.items) actor actor_in in
         let own = ap (λ (l : List Entry). length l) first.3 ∙ length-append (entries p item) first.0 in
         let one = entries-length p (spread item) in omega (arith, least, own, one)
 
-    pub work-over : (table : ℕ → ℕ → ℕ) → Agrees e.levels table → taken_in_all m e + cond (is_some item.body) 1 0 ≤ work_at_last m table items e
-    work-over table agrees =
-        let first = comes-first table agrees in
+    pub work-over : taken_in_all m e + cond (is_some item.body) 1 0 ≤ work_at_last m table items e
+    work-over =
+        let first = comes-first in
         let own = ap (λ l. length (tuples_of l)) first.3 ∙ tuples-both (entries p item) first.0 in
         let one = one-body item p in
         sum-over (λ k. seat.taken_at m (slice_get e.seats.items k)) (fed_at_last m table items e) (length e.seats.items) actor (cond (is_some item.body) 1 0) actor_in
         (λ k low. omega arith) (omega (arith, own, one))
 
     -- what a feed gives, or has given where it fails, is the beginning of what is left
-    pub prefix-of-left : (table : ℕ → ℕ → ℕ) → Agrees e.levels table → (outs : List (ℕ × Item))
+    pub prefix-of-left : (outs : List (ℕ × Item))
         → ((future : List Entry) → IsFuture (m.takes_marks s.op) (m.fits s.op) (m.place s.op) (entries p item ++ future)
         → (q : ℕ) → IsPrefixOf (given q outs) (m.rest s.op table (entries p item ++ future) q))
-        → (output : ℕ) → IsPrefixOf (bodies (pushed_by actor outs output 0)) (bodies (coming net (was table) e.wires.order.items output 0))
-    prefix-of-left table agrees outs law output = by (eqb actor output) refl
+        → (output : ℕ) → IsPrefixOf (bodies (pushed_by actor outs output 0)) (bodies (coming net was e.wires.order.items output 0))
+    prefix-of-left outs law output = by (eqb actor output) refl
       where
         cut : (xs ys : List Thing) → IsPrefixOf xs ys → IsPrefixOf (bodies xs) (bodies ys)
         cut xs ys (more, e) = (bodies more, ap bodies e ∙ bodies-append xs more)
 
-        by : (b : Bool) → eqb actor output ≡ b → IsPrefixOf (bodies (cond b (given 0 outs) [])) (bodies (coming net (was table) e.wires.order.items output 0))
+        by : (b : Bool) → eqb actor output ≡ b → IsPrefixOf (bodies (cond b (given 0 outs) [])) (bodies (coming net was e.wires.order.items output 0))
         by true t =
             let same : actor ≡ output = eqb-yes actor output t in
-            let first = comes-first table agrees in
-            let is : coming net (was table) e.wires.order.items actor 0 ≡ m.rest s.op table (entries p item ++ first.0) 0 =
+            let first = comes-first in
+            let is : coming net was e.wires.order.items actor 0 ≡ m.rest s.op table (entries p item ++ first.0) 0 =
             first.2 0 ∙ ap (λ o. rest_at m table o (entries p item ++ first.0) 0) is_seat in
-            let here : IsPrefixOf (given 0 outs) (coming net (was table) e.wires.order.items actor 0) = rw is (law first.0 (op-future first.0 first.1) 0) in
-            subst (λ k. IsPrefixOf (bodies (given 0 outs)) (bodies (coming net (was table) e.wires.order.items k 0))) same (cut (given 0 outs) (coming net (was table) e.wires.order.items actor 0) here)
-        by false t = (bodies (coming net (was table) e.wires.order.items output 0), refl)
+            let here : IsPrefixOf (given 0 outs) (coming net was e.wires.order.items actor 0) = rw is (law first.0 (op-future first.0 first.1) 0) in
+            subst (λ k. IsPrefixOf (bodies (given 0 outs)) (bodies (coming net was e.wires.order.items k 0))) same (cut (given 0 outs) (coming net was e.wires.order.items actor 0) here)
+        by false t = (bodies (coming net was e.wires.order.items output 0), refl)
+
+    -- and so is what it decides
+    pub drops-of-left : (drops : List Decision) → AllByRecursion (IsOwn e.wires actor) drops
+        → ((future : List Entry) → IsFuture (m.takes_marks s.op) (m.fits s.op) (m.place s.op) (entries p item ++ future) → IsPrefixOf drops (m.decides s.op table (entries p item ++ future)))
+        → (w : ℕ) → IsPrefixOf (of_drop w drops) (decisions_left m table items e (e.wires.sheds + w))
+    drops-of-left drops own law w =
+        own-front e.wires actor w drops (decisions_left m table items e (e.wires.sheds + w)) own
+        (λ same.
+        let first = comes-first in
+        let is : decisions_left m table items e actor ≡ m.decides s.op table (entries p item ++ first.0) =
+        ap (λ z. decides_at m table (slice_get e.seats.items actor) z) first.3 ∙ ap (λ o. decides_at m table o (entries p item ++ first.0)) is_seat in
+        subst (λ k. IsPrefixOf drops (decisions_left m table items e k)) (sym same) (rw is (law first.0 (op-future first.0 first.1))))
 
     -- after the feed
     module _ (seats' : Vec (Seat O) Global) (queues' : Queues) (taken' : ℕ) (s' : Seat O) (outs : List (ℕ × Item)) (drops : List Decision) (items' : ℕ → List Item)
@@ -298,8 +349,8 @@ module _ {O : Type 0} (m : Meaning O) (valid : O → Type 0) (e : Flow O) (flow 
       abbrev e' : Flow O
       e' = record e { seats = seats'; queues = queues'; taken = taken' }
 
-      abbrev is : (ℕ → ℕ → ℕ) → World
-      is table = world_of m table items' e'
+      abbrev is : World
+      is = world_of m table items' e'
 
       abbrev decided : ℕ → List Decision
       decided k = cond (eqb k actor) drops []
@@ -311,12 +362,12 @@ module _ {O : Type 0} (m : Meaning O) (valid : O → Type 0) (e : Flow O) (flow 
       done-after =
           ap (done_at e.over) is_after ∙ ap not fed.open_still ∙ sym (ap (done_at e.over) is_seat) ∙ unfinished
 
-      moves-all : (table : ℕ → ℕ → ℕ) → Moves net (was table) (is table) (taken_at at (spread item)) (pushed_by actor outs)
-      moves-all table k within =
+      moves-all : Moves net was is (taken_at at (spread item)) (pushed_by actor outs)
+      moves-all k within =
           moves-fed items mid (λ j. pushed_by actor outs (net.from j) (net.port j)) (λ j. spread_all (items' j)) at item whole others k (given_on k within)
 
-      law-here : (table : ℕ → ℕ → ℕ) → Agrees e.levels table → FedActor net (was table) (is table) (pushed_by actor outs) decided actor p (spread item)
-      law-here table agrees =
+      law-here : FedActor net was is (pushed_by actor outs) decided actor p (spread item)
+      law-here =
           record {
             law = λ future f port.
                 ap (λ o. rest_at m table o (entries p item ++ future) port) is_seat
@@ -336,8 +387,8 @@ module _ {O : Type 0} (m : Meaning O) (valid : O → Type 0) (e : Flow O) (flow 
             running = done-after;
           }
 
-      same-actor : (table : ℕ → ℕ → ℕ) (other : ℕ) → other ≢ actor → SameActor (was table) (is table) other
-      same-actor table other ne =
+      same-actor : (other : ℕ) → other ≢ actor → SameActor was is other
+      same-actor other ne =
           let o = apart other ne in
           record {
             rest = ap (rest_at m table) o;
@@ -348,49 +399,58 @@ module _ {O : Type 0} (m : Meaning O) (valid : O → Type 0) (e : Flow O) (flow 
             done = ap (done_at e.over) o;
           }
 
-      pub kept : (table : ℕ → ℕ → ℕ) → Agrees e.levels table → Kept net (was table) (is table) (pushed_by actor outs) decided took e.wires.order.items
-      kept table agrees =
-          let facts = holds.facts table agrees in
-          world-fed net (was table) (is table) (pushed_by actor outs) decided took actor tick p at (spread item) e.wires.order.items flow.shaped.wired facts
-          (moves-all table) of-time head.0 (ports table) (law-here table agrees) (ap (λ b. cond b (entries p item) []) (eqb-same actor actor refl)) (same-actor table) (λ other ne port. not-pushed actor other outs ne port)
+      pub kept : Kept net was is (pushed_by actor outs) decided took e.wires.order.items
+      kept =
+          let facts = holds.facts in
+          world-fed net was is (pushed_by actor outs) decided took actor tick p at (spread item) e.wires.order.items flow.shaped.wired facts
+          moves-all of-time head.0 ports law-here (ap (λ b. cond b (entries p item) []) (eqb-same actor actor refl)) same-actor (λ other ne port. not-pushed actor other outs ne port)
           (λ other ne. ap (λ b. cond b drops []) (eqb-not other actor ne)) (λ other ne. ap (λ b. cond b (entries p item) []) (eqb-not other actor ne))
           (apart-from net (λ k. to_of (slice_get e.wires.arcs.items k)) actor at p (spread item) (λ other port arc k. (flow.shaped.joined other port arc k).0) head.1)
           not-replay (λ port. refl) (ap (done_at e.over) (apart net.replay (λ k. not-replay (sym k))))
-          (replay-end net (was table) e.wires.order.items facts)
+          (replay-end net was e.wires.order.items facts)
 
-      pub holds-after : HoldsItems m items' e'
+      pub holds-after : HoldsItems m table items' e'
       holds-after =
           record {
-            facts = λ table agrees. (kept table agrees).facts;
+            facts = kept.facts;
             queued = fine e.clock (outs-in-time s' outs drops fed may) (fine-after e.clock at items mid item whole others holds.queued);
           }
 
-      pub turns-same : (table : ℕ → ℕ → ℕ) → Agrees e.levels table → taken' ≡ e.taken + length (spread item)
-          → turns_at_last m table items e ≡ taken' + sum_below (λ other. length (inputs net (is table) e.wires.order.items other)) (length e.seats.items)
-      turns-same table agrees more =
-          let k = kept table agrees in
+      pub turns-same : taken' ≡ e.taken + length (spread item)
+          → turns_at_last m table items e ≡ taken' + sum_below (λ other. length (inputs net is e.wires.order.items other)) (length e.seats.items)
+      turns-same more =
+          let k = kept in
           let is_replay = flow.shaped.replay_is in
           let comes = λ (other : ℕ) (low : other < length e.seats.items). (let away : other ≢ net.replay = omega (arith, is_replay, low) in (k.told other (flow.shaped.ordered other low) away).comes) in
-          let own : length (inputs net (was table) e.wires.order.items actor) ≡ length (inputs net (is table) e.wires.order.items actor) + length (spread item) = (
-          let c = ap (λ (l : List Entry). length l) (comes actor actor_in ∙ ap (λ b. cond b (entries p item) [] ++ inputs net (is table) e.wires.order.items actor) (eqb-same actor actor refl)) in
-          let both = length-append (entries p item) (inputs net (is table) e.wires.order.items actor) in
+          let own : length (inputs net was e.wires.order.items actor) ≡ length (inputs net is e.wires.order.items actor) + length (spread item) = (
+          let c = ap (λ (l : List Entry). length l) (comes actor actor_in ∙ ap (λ b. cond b (entries p item) [] ++ inputs net is e.wires.order.items actor) (eqb-same actor actor refl)) in
+          let both = length-append (entries p item) (inputs net is e.wires.order.items actor) in
           let one = entries-length p (spread item) in omega (arith, c, both, one)
           ) in
-          let sums = sum-more (λ other. length (inputs net (is table) e.wires.order.items other)) (λ other. length (inputs net (was table) e.wires.order.items other)) (length e.seats.items) actor (length (spread item)) actor_in
-          (λ other low ne. ap (λ (l : List Entry). length l) (comes other low ∙ ap (λ b. cond b (entries p item) [] ++ inputs net (is table) e.wires.order.items other) (eqb-not other actor ne))) own in
+          let sums = sum-more (λ other. length (inputs net is e.wires.order.items other)) (λ other. length (inputs net was e.wires.order.items other)) (length e.seats.items) actor (length (spread item)) actor_in
+          (λ other low ne. ap (λ (l : List Entry). length l) (comes other low ∙ ap (λ b. cond b (entries p item) [] ++ inputs net is e.wires.order.items other) (eqb-not other actor ne))) own in
           omega (arith, sums, more)
 
       pub goes-after : (events events' : List Event) → length seats'.items ≡ length e.seats.items → taken' ≡ e.taken + length (spread item)
           → ((output : ℕ) → lines_of output events' ≡ lines_of output events ++ bodies (pushed_by actor outs (e.wires.shown + output) 0))
-          → (table : ℕ → ℕ → ℕ) → Agrees e.levels table → Goes m table items items' e e' events events'
-      goes-after events events' seats_len more shown table agrees =
-          let k = kept table agrees in
+          → ((w : ℕ) → drops_of w events' ≡ drops_of w events ++ of_drop w drops)
+          → Goes m table items items' e e' events events'
+      goes-after events events' seats_len more shown decides =
+          let k = kept in
           record {
             lines = λ output low.
                 goes-on (lines_of output events) (bodies (pushed_by actor outs (e.wires.shown + output) 0)) (lines_left m table items e output) (lines_left m table items' e' output) (lines_of output events')
                 (ap bodies (k.streams (e.wires.shown + output) 0 (flow.shaped.ordered (e.wires.shown + output) low))
-                ∙ bodies-append (pushed_by actor outs (e.wires.shown + output) 0) (coming net (is table) e.wires.order.items (e.wires.shown + output) 0))
+                ∙ bodies-append (pushed_by actor outs (e.wires.shown + output) 0) (coming net is e.wires.order.items (e.wires.shown + output) 0))
                 (shown output);
+            drops = λ w low.
+                let is_replay = flow.shaped.replay_is in
+                let some = flow.shaped.shown_in in
+                let there : e.wires.sheds + w < length e.seats.items = omega (arith, some, low) in
+                let away : e.wires.sheds + w ≢ net.replay = omega (arith, is_replay, there) in
+                goes-on (drops_of w events) (cond (eqb (e.wires.sheds + w) actor) drops []) (decisions_left m table items e (e.wires.sheds + w)) (decisions_left m table items' e' (e.wires.sheds + w)) (drops_of w events')
+                (k.told (e.wires.sheds + w) (flow.shaped.ordered (e.wires.sheds + w) there) away).decisions
+                (decides w ∙ ap (λ z. drops_of w events ++ z) (of-own e.wires actor w drops (own-drops s' outs drops fed may (runs unfinished))));
             fed = λ other low.
                 let is = flow.shaped.replay_is in
                 let away : other ≢ net.replay = omega arith in
@@ -399,14 +459,14 @@ module _ {O : Type 0} (m : Meaning O) (valid : O → Type 0) (e : Flow O) (flow 
                 let is = flow.shaped.replay_is in
                 let away : other ≢ net.replay = omega arith in
                 (k.told other (flow.shaped.ordered other low) away).lost;
-            turns = turns-same table agrees more ∙ ap (λ n. taken' + sum_below (λ other. length (inputs net (is table) e.wires.order.items other)) n) (sym seats_len);
+            turns = turns-same more ∙ ap (λ n. taken' + sum_below (λ other. length (inputs net is e.wires.order.items other)) n) (sym seats_len);
           }
 
   -- where the disk tells its pages the tests pass, whatever stands behind the item
-  pub passes-front : (items : ℕ → List Item) → HoldsItems m items e → ((k : ℕ) → IsFaceOf (face e.queues k) (items k)) → (more : List Item) → items at ≡ item ∷ more
+  pub passes-front : (table : ℕ → ℕ → ℕ) → Agrees e.levels table → (items : ℕ → List Item) → HoldsItems m table items e → ((k : ℕ) → IsFaceOf (face e.queues k) (items k)) → (more : List Item) → items at ≡ item ∷ more
       → MayBeFed a p s.tally.place e.clock item
-  passes-front items holds faces more whole =
-      passes items (λ k. cond (eqb k at) more (items k)) holds faces
+  passes-front table agrees items holds faces more whole =
+      passes table agrees items (λ k. cond (eqb k at) more (items k)) holds faces
       (whole ∙ ap (λ b. item ∷ cond b more (items at)) (sym (eqb-same at at refl)))
       (λ k ne. ap (λ b. cond b more (items k)) (eqb-not k at ne))
 
@@ -418,8 +478,8 @@ module _ {O : Type 0} (m : Meaning O) (valid : O → Type 0) (e : Flow O) (flow 
   too-much-front was mid_pages mid e' err together front others over few taken levels =
       record {
         counted = λ is. omega (arith, over, few, taken);
-        turns = λ is told holds table agrees.
-            let most = turns-over (items_on e.queues was) (items_on mid mid_pages) holds (together.faces told) (front told) (others told) table (rw levels at agrees) in
+        turns = λ is told table agrees holds.
+            let most = turns-over table (rw levels at agrees) (items_on e.queues was) (items_on mid mid_pages) holds (together.faces told) (front told) (others told) in
             omega (arith, over, most);
       }
 
@@ -428,8 +488,8 @@ module _ {O : Type 0} (m : Meaning O) (valid : O → Type 0) (e : Flow O) (flow 
       → (Tells was → items_on e.queues was at ≡ item ∷ items_on mid mid_pages at)
       → (Tells was → (other : ℕ) → other ≢ at → items_on mid mid_pages other ≡ items_on e.queues was other)
       → after ≡ before + cond (is_some item.body) 1 0 → CostsAtMost m was e e.levels before after
-  costs-front was mid_pages mid before after together front others more = λ told holds table agrees.
-      let most = work-over (items_on e.queues was) (items_on mid mid_pages) holds (together.faces told) (front told) (others told) table agrees in
+  costs-front was mid_pages mid before after together front others more = λ told table agrees holds.
+      let most = work-over table agrees (items_on e.queues was) (items_on mid mid_pages) holds (together.faces told) (front told) (others told) in
       omega (arith, most, more)
 
   pub costs-fed : (seats' : Vec (Seat O) Global) (queues' : Queues) (taken' : ℕ) (s' : Seat O) (before after : ℕ) → slice_get seats'.items actor ≡ Some s' → ((other : ℕ) → other ≢ actor → slice_get seats'.items other ≡ slice_get e.seats.items other)
@@ -456,14 +516,6 @@ module _ {O : Type 0} (m : Meaning O) (valid : O → Type 0) (e : Flow O) (flow 
       not-fed : (arc : ℕ) → to_of (slice_get e.wires.arcs.items arc) ≢ actor → arc ≢ at
       not-fed arc to same = to (ap (λ k. to_of (slice_get e.wires.arcs.items k)) same ∙ (flow.shaped.joined actor p at head.1).0)
 
-  -- the operator runs
-  pub runs : done_at e.over (slice_get e.seats.items actor) ≡ false → m.running s.op ≡ true
-  runs open_now = seat-fine.running ∙ by s.tally.running (sym (ap (done_at e.over) is_seat) ∙ open_now)
-    where
-      by : (b : Bool) → not b ≡ false → b ≡ true
-      by true h = refl
-      by false h = cc
-
   -- what a feed has shown where giving failed
   pub fed-prefix : (was mid_pages : Option Pages) (mid : Queues) (s' : Seat O) (outs : List (ℕ × Item)) (drops : List Decision) (events events' : List Event)
       → Together e.queues was
@@ -471,11 +523,20 @@ module _ {O : Type 0} (m : Meaning O) (valid : O → Type 0) (e : Flow O) (flow 
       → (Tells was → (other : ℕ) → other ≢ at → items_on mid mid_pages other ≡ items_on e.queues was other)
       → FedSeat m valid e.levels p item outs drops s s'
       → ((o : ℕ) → IsPrefixOf (lines_of o events') (lines_of o events ++ bodies (pushed_by actor outs (e.wires.shown + o) 0)))
+      → MayBeFed a p s.tally.place e.clock item → done_at e.over (slice_get e.seats.items actor) ≡ false
+      → ((w : ℕ) → IsPrefixOf (drops_of w events') (drops_of w events ++ of_drop w drops))
       → ShowsPrefix m was e e.levels events events'
-  fed-prefix was mid_pages mid s' outs drops events events' together front others fed pre = λ told holds table agrees output low.
-      prefix-chain (lines_of output events') (lines_of output events) (bodies (pushed_by actor outs (e.wires.shown + output) 0)) (lines_left m table (items_on e.queues was) e output) (pre output)
-      (prefix-of-left (items_on e.queues was) (items_on mid mid_pages) holds (together.faces told) (front told) (others told) table agrees outs
-      (λ future f q. (m.rest s'.op table future q, fed.law table future agrees f q)) (e.wires.shown + output))
+  fed-prefix was mid_pages mid s' outs drops events events' together front others fed pre may unfinished decides = λ told table agrees holds.
+      record {
+        lines = λ output low.
+            prefix-chain (lines_of output events') (lines_of output events) (bodies (pushed_by actor outs (e.wires.shown + output) 0)) (lines_left m table (items_on e.queues was) e output) (pre output)
+            (prefix-of-left table agrees (items_on e.queues was) (items_on mid mid_pages) holds (together.faces told) (front told) (others told) outs
+            (λ future f q. (m.rest s'.op table future q, fed.law table future agrees f q)) (e.wires.shown + output));
+        drops = λ w low.
+            prefix-chain (drops_of w events') (drops_of w events) (of_drop w drops) (decisions_left m table (items_on e.queues was) e (e.wires.sheds + w)) (decides w)
+            (drops-of-left table agrees (items_on e.queues was) (items_on mid mid_pages) holds (together.faces told) (front told) (others told) drops (own-drops s' outs drops fed may (runs unfinished))
+            (λ future f. (m.decides s'.op table future, fed.decided table future agrees f)) w);
+      }
 
   -- the whole of a feed, from what its parts say
   pub fed-stepped : (was is mid_pages : Option Pages) (mid q' : Queues) (seats' : Vec (Seat O) Global) (taken' : ℕ) (s' : Seat O) (outs : List (ℕ × Item)) (drops : List Decision) (events events' : List Event)
@@ -489,9 +550,10 @@ module _ {O : Type 0} (m : Meaning O) (valid : O → Type 0) (e : Flow O) (flow 
       → length seats'.items ≡ length e.seats.items → done_at e.over (slice_get e.seats.items actor) ≡ false
       → Pushes mid q' mid_pages is (sent_to e.wires actor outs) (λ time. AllOutsFine time outs) (comes_from e.wires actor)
       → ((o : ℕ) → lines_of o events' ≡ lines_of o events ++ bodies (pushed_by actor outs (e.wires.shown + o) 0))
-      → ShowsIn (length e.seats.items - e.wires.shown) 0 events events' → plans_of events' ≡ plans_of events
+      → ((w : ℕ) → drops_of w events' ≡ drops_of w events ++ of_drop w drops)
+      → ShowsIn (length e.seats.items - e.wires.shown) (e.wires.shown - e.wires.sheds) events events' → plans_of events' ≡ plans_of events
       → Stepped m valid was is e (record e { seats = seats'; queues = q'; taken = taken' }) events events'
-  fed-stepped was is mid_pages mid q' seats' taken' s' outs drops events events' together may ended lanes front others tells more few fed is_after apart seats_len unfinished sent shown below plans =
+  fed-stepped was is mid_pages mid q' seats' taken' s' outs drops events events' together may ended lanes front others tells more few fed is_after apart seats_len unfinished sent shown decides below plans =
       record {
         flow_after = flow-after s' outs drops fed may seats' q' taken' is_after apart seats_len (sent.lanes ∙ lanes ∙ flow.lanes) (λ k. sent.ended k ∙ ended k) more few unfinished;
         together = sent.together;
@@ -503,12 +565,12 @@ module _ {O : Type 0} (m : Meaning O) (valid : O → Type 0) (e : Flow O) (flow 
         planner = refl;
         planned = λ all h. record { agrees = h.agrees; counts = h.counts };
         plans = ap (λ z. z ++ plans_left e) (sym plans);
-        holds = λ told holds.
-            holds-after (items_on e.queues was) (items_on mid mid_pages) holds (together.faces told) (front told) (others told) seats' q' taken' s' outs drops (items_on q' is)
+        holds = λ told table agrees holds.
+            holds-after table agrees (items_on e.queues was) (items_on mid mid_pages) holds (together.faces told) (front told) (others told) seats' q' taken' s' outs drops (items_on q' is)
             fed is_after apart unfinished (on told) (sent.fine (tells ∙ told)) may;
-        goes = λ told holds table agrees.
-            goes-after (items_on e.queues was) (items_on mid mid_pages) holds (together.faces told) (front told) (others told) seats' q' taken' s' outs drops (items_on q' is)
-            fed is_after apart unfinished (on told) (sent.fine (tells ∙ told)) may events events' seats_len more shown table agrees;
+        goes = λ told table agrees holds.
+            goes-after table agrees (items_on e.queues was) (items_on mid mid_pages) holds (together.faces told) (front told) (others told) seats' q' taken' s' outs drops (items_on q' is)
+            fed is_after apart unfinished (on told) (sent.fine (tells ∙ told)) may events events' seats_len more shown decides;
       }
     where
       on : Tells was → (k : ℕ) → k < length e.wires.arcs.items → spread_all (items_on q' is k) ≡ spread_all (items_on mid mid_pages k) ++ pushed_by actor outs (net.from k) (net.port k)

@@ -1,6 +1,7 @@
 -- What the end of an operator keeps.
 use Rattle.std.proofs.Common.{◌≡◌, ◌≢◌, ℕ, ◌+◌, ◌<◌, eqb, cond, Bool, true, false, not, ◌||◌, List, [], ◌∷◌, ◌++◌, length, Option, Some, None, refl, ap, sym, ◌∙◌, append-nil, arith, subst, ◌-◌}
 use Rattle.std.specs.Prelude.{is_some, slice_get, Vec}
+use Rattle.std.specs.List.{AllByRecursion}
 use Rattle.std.specs.declared.alloc.Global.{Global}
 use Rattle.std.proofs.lemmas.Option.{slice_get_within}
 use Rattle.sq_value.specs.Lists.{IsPrefixOf}
@@ -15,7 +16,7 @@ use Rattle.sq_left.specs.Heads.{AllFine}
 use Rattle.sq_left.proofs.MergeLemmas.{eqb-yes, eqb-same, eqb-not}
 use Rattle.sq_left.proofs.Conserve.{Reads, Kept}
 use Rattle.sq_left.proofs.ActorSteps.{SameActor, Each-both, merge-none}
-use Rattle.sq_left.proofs.WorldSteps.{facts-at, world-finished, replay-end, Each-from}
+use Rattle.sq_left.proofs.WorldSteps.{At, facts-at, world-finished, replay-end, Each-from}
 use Rattle.sq_queue.specs.declared.Queues.{Queues}
 use Rattle.sq_outside.specs.Disks.{Pages}
 use Rattle.sq_queue.specs.Faces.{face, size, items_on, first_time, IsFaceOf, Tells, Together}
@@ -28,16 +29,17 @@ use Rattle.sq_flow.proofs.WireLemmas.{sent-is}
 use Rattle.sq_flow.specs.declared.seats.Seat.{Seat}
 use Rattle.sq_flow.specs.declared.flow.Flow.{Flow}
 use Rattle.sq_flow.specs.declared.heads.Next.TheVariants.{Ended}
-use Rattle.sq_flow.specs.Wiring.{net_of, arcs_read, from_of, pushed_by, AllOutsFine}
+use Rattle.sq_flow.specs.Wiring.{net_of, arcs_read, from_of, pushed_by, AllOutsFine, IsOwn}
 use Rattle.sq_flow.specs.Heads.{NextUpTo}
 use Rattle.sq_flow.specs.Seats as seat
-use Rattle.sq_flow.specs.Seats.{Meaning, rest_at, decides_at, lost_at, place_at, done_at, holds_at, IsSeat, FinishedSeat}
-use Rattle.sq_flow.specs.Events.{bodies, lines_of, ShowsIn}
+use Rattle.sq_flow.specs.Seats.{Meaning, rest_at, decides_at, lost_at, place_at, done_at, holds_at, IsSeat, Owns, FinishedSeat}
+use Rattle.sq_flow.specs.Events.{bodies, lines_of, of_drop, drops_of, ShowsIn}
 use Rattle.sq_flow.specs.Plans.{plans_left, plans_of}
-use Rattle.sq_flow.specs.Flows.{world_of, IsFlow, HoldsItems, Goes, Stepped, ShowsPrefix, lines_left, sum_below, taken_in_all, turns_at_last}
+use Rattle.sq_flow.specs.Flows.{world_of, IsFlow, HoldsItems, Goes, Stepped, ShowsPrefix, lines_left, decisions_left, sum_below, taken_in_all, turns_at_last}
 use Rattle.sq_flow.proofs.FutureLemmas.{outs-fine, own-pushed, not-pushed, goes-on, prefix-chain}
 use Rattle.sq_flow.proofs.SendLemmas.{at_or_other}
 use Rattle.sq_flow.proofs.EventLemmas.{bodies-append}
+use Rattle.sq_flow.proofs.DropLemmas.{of-own, own-front}
 
 module _ {O : Type 0} (m : Meaning O) (valid : O → Type 0) (e : Flow O) (flow : IsFlow m valid e) (actor : ℕ) (actor_in : actor < length e.seats.items)
     (head : NextUpTo (arcs_read e.wires actor) (λ k. (face e.queues k).first) (λ k. (face e.queues k).ended) (length (arcs_read e.wires actor)) Ended)
@@ -47,6 +49,21 @@ module _ {O : Type 0} (m : Meaning O) (valid : O → Type 0) (e : Flow O) (flow 
 
   pub seat-fine : IsSeat m valid (net.takes actor) (net.fits actor) e.levels.epoch e.taken s
   seat-fine = subst (holds_at (IsSeat m valid (net.takes actor) (net.fits actor) e.levels.epoch e.taken)) is_seat (flow.seats actor)
+
+  -- the operator runs
+  pub runs : done_at e.over (slice_get e.seats.items actor) ≡ false → m.running s.op ≡ true
+  runs open_now = seat-fine.running ∙ by s.tally.running (sym (ap (done_at e.over) is_seat) ∙ open_now)
+    where
+      by : (b : Bool) → not b ≡ false → b ≡ true
+      by true h = refl
+      by false h = cc
+
+  -- what it decides at its end is its own
+  pub own-drops : (s' : Seat O) (outs : List (ℕ × Item)) (drops : List Decision) → FinishedSeat m valid outs drops s s' → done_at e.over (slice_get e.seats.items actor) ≡ false → AllByRecursion (IsOwn e.wires actor) drops
+  own-drops s' outs drops fin unfinished =
+      let owns : Owns m (IsOwn e.wires actor) e.levels s = subst (holds_at (Owns m (IsOwn e.wires actor) e.levels)) is_seat (flow.owned actor) in
+      subst (AllByRecursion (IsOwn e.wires actor)) (fin.decided (level_of e.levels))
+      (owns (runs unfinished) (level_of e.levels) (λ epoch drop h. refl) [] (record { in_order = tt; fitting = tt }))
 
   -- what an end gives, over every disk
   module _ (s' : Seat O) (outs : List (ℕ × Item)) (drops : List Decision) (fin : FinishedSeat m valid outs drops s s') where
@@ -107,6 +124,9 @@ module _ {O : Type 0} (m : Meaning O) (valid : O → Type 0) (e : Flow O) (flow 
             coming = flow.coming;
             few_sources = flow.few_sources;
             levels = flow.levels;
+            owned = at_or_other (λ k. holds_at (Owns m (IsOwn e.wires k) e.levels) (slice_get seats'.items k)) actor
+                (subst (holds_at (Owns m (IsOwn e.wires actor) e.levels)) (sym is_after) (λ running. absurd (cc (fin.running, running))))
+                (λ k ne. subst (holds_at (Owns m (IsOwn e.wires k) e.levels)) (sym (apart k ne)) (flow.owned k));
             counts = flow.counts;
             few_tuples = flow.few_tuples;
             over = flow.over;
@@ -116,9 +136,9 @@ module _ {O : Type 0} (m : Meaning O) (valid : O → Type 0) (e : Flow O) (flow 
           nothing c xs h = rw h tt
 
   -- where these items stand on the arcs
-  module _ (items : ℕ → List Item) (holds : HoldsItems m items e) (faces : (k : ℕ) → IsFaceOf (face e.queues k) (items k)) where
-    abbrev was : (ℕ → ℕ → ℕ) → World
-    was table = world_of m table items e
+  module _ (table : ℕ → ℕ → ℕ) (agrees : Agrees e.levels table) (items : ℕ → List Item) (holds : HoldsItems m table items e) (faces : (k : ℕ) → IsFaceOf (face e.queues k) (items k)) where
+    abbrev was : World
+    was = world_of m table items e
 
     not-replay : actor ≢ net.replay
     not-replay = let is = flow.shaped.replay_is in omega arith
@@ -127,39 +147,53 @@ module _ {O : Type 0} (m : Meaning O) (valid : O → Type 0) (e : Flow O) (flow 
     empty-of [] h = refl
     empty-of (i ∷ its) h = cc
 
-    all-ended : (table : ℕ → ℕ → ℕ) → Each (λ k. ((was table).queue k ≡ []) × ((was table).done (net.from k) ≡ true)) (net.arcs actor)
-    all-ended table = Each-from (λ k. ((was table).queue k ≡ []) × ((was table).done (net.from k) ≡ true)) (net.arcs actor)
+    all-ended : Each (λ k. (was.queue k ≡ []) × (was.done (net.from k) ≡ true)) (net.arcs actor)
+    all-ended = Each-from (λ k. (was.queue k ≡ []) × (was.done (net.from k) ≡ true)) (net.arcs actor)
         (λ port arc k.
         let h = head port arc (slice_get_within (net.arcs actor) port arc k) k in
         let none : items arc ≡ [] = empty-of (items arc) (sym h.0 ∙ (faces arc).first) in
         (ap spread_all none, sym (flow.ended arc (flow.shaped.arcs_in actor port arc k)) ∙ h.1))
 
-    -- what is left of an actor whose arcs have ended is what it holds
-    ended-left : (table : ℕ → ℕ → ℕ) → Agrees e.levels table → (port : ℕ) → coming net (was table) e.wires.order.items actor port ≡ rest_at m table (slice_get e.seats.items actor) [] port
-    ended-left table agrees port =
-        let at = facts-at net (was table) e.wires.order.items flow.shaped.wired (holds.facts table agrees) actor (flow.shaped.ordered actor actor_in) not-replay in
-        let none : inputs_by net (was table) at.coming_in actor ≡ [] =
-        merge-none (net.arcs actor) (left_by net (was table) at.coming_in) 0
-        (Each-both (λ k. ((was table).queue k ≡ []) × ((was table).done (net.from k) ≡ true)) (Reads net (was table) (λ _ _. []) at.coming_in at.coming_in) (λ k. left_by net (was table) at.coming_in k ≡ []) (net.arcs actor)
-        (λ (k : ℕ) (h : ((was table).queue k ≡ []) × ((was table).done (net.from k) ≡ true)) (r : Reads net (was table) (λ _ _. []) at.coming_in at.coming_in k).
-        ap (λ z. z ++ at.coming_in (net.from k) (net.port k)) h.0 ∙ r.ended h.1)
-        (all-ended table) at.reads) in
-        at.is port ∙ ap (λ z. rest_at m table (slice_get e.seats.items actor) z port) none
+    abbrev before : At net was (coming net was e.wires.order.items actor) (inputs net was e.wires.order.items actor) actor
+    before = facts-at net was e.wires.order.items flow.shaped.wired holds.facts actor (flow.shaped.ordered actor actor_in) not-replay
 
-    pub prefix-of-end : (table : ℕ → ℕ → ℕ) → Agrees e.levels table → (outs : List (ℕ × Item)) → ((q : ℕ) → IsPrefixOf (given q outs) (m.rest s.op table [] q))
-        → (output : ℕ) → IsPrefixOf (bodies (pushed_by actor outs output 0)) (bodies (coming net (was table) e.wires.order.items output 0))
-    prefix-of-end table agrees outs law output = by (eqb actor output) refl
+    -- to an actor whose arcs have ended nothing more comes, and what is left of it is what it holds
+    no-inputs : inputs_by net was before.coming_in actor ≡ []
+    no-inputs =
+        merge-none (net.arcs actor) (left_by net was before.coming_in) 0
+        (Each-both (λ k. (was.queue k ≡ []) × (was.done (net.from k) ≡ true)) (Reads net was (λ _ _. []) before.coming_in before.coming_in) (λ k. left_by net was before.coming_in k ≡ []) (net.arcs actor)
+        (λ (k : ℕ) (h : (was.queue k ≡ []) × (was.done (net.from k) ≡ true)) (r : Reads net was (λ _ _. []) before.coming_in before.coming_in k).
+        ap (λ z. z ++ before.coming_in (net.from k) (net.port k)) h.0 ∙ r.ended h.1)
+        all-ended before.reads)
+
+    ended-left : (port : ℕ) → coming net was e.wires.order.items actor port ≡ rest_at m table (slice_get e.seats.items actor) [] port
+    ended-left port = before.is port ∙ ap (λ z. rest_at m table (slice_get e.seats.items actor) z port) no-inputs
+
+    ended-none : inputs net was e.wires.order.items actor ≡ []
+    ended-none = before.fed_is ∙ no-inputs
+
+    pub prefix-of-end : (outs : List (ℕ × Item)) → ((q : ℕ) → IsPrefixOf (given q outs) (m.rest s.op table [] q))
+        → (output : ℕ) → IsPrefixOf (bodies (pushed_by actor outs output 0)) (bodies (coming net was e.wires.order.items output 0))
+    prefix-of-end outs law output = by (eqb actor output) refl
       where
         cut : (xs ys : List Thing) → IsPrefixOf xs ys → IsPrefixOf (bodies xs) (bodies ys)
         cut xs ys (more, e) = (bodies more, ap bodies e ∙ bodies-append xs more)
 
-        by : (b : Bool) → eqb actor output ≡ b → IsPrefixOf (bodies (cond b (given 0 outs) [])) (bodies (coming net (was table) e.wires.order.items output 0))
+        by : (b : Bool) → eqb actor output ≡ b → IsPrefixOf (bodies (cond b (given 0 outs) [])) (bodies (coming net was e.wires.order.items output 0))
         by true t =
             let same : actor ≡ output = eqb-yes actor output t in
-            let is : coming net (was table) e.wires.order.items actor 0 ≡ m.rest s.op table [] 0 = ended-left table agrees 0 ∙ ap (λ o. rest_at m table o [] 0) is_seat in
-            let here : IsPrefixOf (given 0 outs) (coming net (was table) e.wires.order.items actor 0) = rw is (law 0) in
-            subst (λ k. IsPrefixOf (bodies (given 0 outs)) (bodies (coming net (was table) e.wires.order.items k 0))) same (cut (given 0 outs) (coming net (was table) e.wires.order.items actor 0) here)
-        by false t = (bodies (coming net (was table) e.wires.order.items output 0), refl)
+            let is : coming net was e.wires.order.items actor 0 ≡ m.rest s.op table [] 0 = ended-left 0 ∙ ap (λ o. rest_at m table o [] 0) is_seat in
+            let here : IsPrefixOf (given 0 outs) (coming net was e.wires.order.items actor 0) = rw is (law 0) in
+            subst (λ k. IsPrefixOf (bodies (given 0 outs)) (bodies (coming net was e.wires.order.items k 0))) same (cut (given 0 outs) (coming net was e.wires.order.items actor 0) here)
+        by false t = (bodies (coming net was e.wires.order.items output 0), refl)
+
+    pub drops-of-end : (drops : List Decision) → AllByRecursion (IsOwn e.wires actor) drops → m.decides s.op table [] ≡ drops → (w : ℕ) → IsPrefixOf (of_drop w drops) (decisions_left m table items e (e.wires.sheds + w))
+    drops-of-end drops own law w =
+        own-front e.wires actor w drops (decisions_left m table items e (e.wires.sheds + w)) own
+        (λ same.
+        let is : decisions_left m table items e actor ≡ drops =
+        ap (λ z. decides_at m table (slice_get e.seats.items actor) z) ended-none ∙ ap (λ o. decides_at m table o []) is_seat ∙ law in
+        subst (λ k. IsPrefixOf drops (decisions_left m table items e k)) (sym same) ([], is ∙ sym (append-nil drops)))
 
     module _ (seats' : Vec (Seat O) Global) (queues' : Queues) (s' : Seat O) (outs : List (ℕ × Item)) (drops : List Decision) (items' : ℕ → List Item)
         (fin : FinishedSeat m valid outs drops s s')
@@ -169,14 +203,14 @@ module _ {O : Type 0} (m : Meaning O) (valid : O → Type 0) (e : Flow O) (flow 
       abbrev e' : Flow O
       e' = record e { seats = seats'; queues = queues' }
 
-      abbrev is : (ℕ → ℕ → ℕ) → World
-      is table = world_of m table items' e'
+      abbrev is : World
+      is = world_of m table items' e'
 
       abbrev decided : ℕ → List Decision
       decided k = cond (eqb k actor) drops []
 
-      same-actor : (table : ℕ → ℕ → ℕ) (other : ℕ) → other ≢ actor → SameActor (was table) (is table) other
-      same-actor table other ne =
+      same-actor : (other : ℕ) → other ≢ actor → SameActor was is other
+      same-actor other ne =
           let o = apart other ne in
           record {
             rest = ap (rest_at m table) o;
@@ -187,11 +221,11 @@ module _ {O : Type 0} (m : Meaning O) (valid : O → Type 0) (e : Flow O) (flow 
             done = ap (done_at e.over) o;
           }
 
-      pub kept : (table : ℕ → ℕ → ℕ) → Agrees e.levels table → Kept net (was table) (is table) (pushed_by actor outs) decided (λ _. []) e.wires.order.items
-      kept table agrees =
-          let facts = holds.facts table agrees in
-          world-finished net (was table) (is table) (pushed_by actor outs) decided actor e.wires.order.items flow.shaped.wired facts
-          (λ k within. sym (given_on k within)) (all-ended table)
+      pub kept : Kept net was is (pushed_by actor outs) decided (λ _. []) e.wires.order.items
+      kept =
+          let facts = holds.facts in
+          world-finished net was is (pushed_by actor outs) decided actor e.wires.order.items flow.shaped.wired facts
+          (λ k within. sym (given_on k within)) all-ended
           (record {
             law = λ port. ap (λ o. rest_at m table o [] port) is_seat ∙ fin.law table port ∙ sym (own-pushed actor outs port);
             empty = λ port. ap (λ o. rest_at m table o [] port) is_after ∙ fin.empty table port;
@@ -200,37 +234,46 @@ module _ {O : Type 0} (m : Meaning O) (valid : O → Type 0) (e : Flow O) (flow 
             lost = ap (λ o. lost_at m o []) is_seat ∙ fin.loses ∙ ap (λ o. lost_at m o []) (sym is_after);
             counted = ap (seat.taken_at m) is_after ∙ fin.counted ∙ ap (seat.taken_at m) (sym is_seat);
           })
-          (same-actor table) (λ other ne port. not-pushed actor other outs ne port)
+          same-actor (λ other ne port. not-pushed actor other outs ne port)
           (λ other ne. ap (λ b. cond b drops []) (eqb-not other actor ne))
           not-replay (λ port. refl) (ap (done_at e.over) (apart net.replay (λ k. not-replay (sym k))))
-          (replay-end net (was table) e.wires.order.items facts)
+          (replay-end net was e.wires.order.items facts)
 
-      pub holds-after : HoldsItems m items' e'
+      pub holds-after : HoldsItems m table items' e'
       holds-after =
           record {
-            facts = λ table agrees. (kept table agrees).facts;
+            facts = kept.facts;
             queued = fine e.clock (outs-in-time s' outs drops fin) holds.queued;
           }
 
-      turns-same : (table : ℕ → ℕ → ℕ) → Agrees e.levels table → turns_at_last m table items e ≡ e.taken + sum_below (λ other. length (inputs net (is table) e.wires.order.items other)) (length e.seats.items)
-      turns-same table agrees =
-          let k = kept table agrees in
+      turns-same : turns_at_last m table items e ≡ e.taken + sum_below (λ other. length (inputs net is e.wires.order.items other)) (length e.seats.items)
+      turns-same =
+          let k = kept in
           let is_replay = flow.shaped.replay_is in
-          let sums = sum-same (λ other. length (inputs net (was table) e.wires.order.items other)) (λ other. length (inputs net (is table) e.wires.order.items other)) (length e.seats.items)
+          let sums = sum-same (λ other. length (inputs net was e.wires.order.items other)) (λ other. length (inputs net is e.wires.order.items other)) (length e.seats.items)
           (λ other low. let away : other ≢ net.replay = omega (arith, is_replay, low) in ap (λ (l : List Entry). length l) (k.told other (flow.shaped.ordered other low) away).comes) in
           ap (λ n. e.taken + n) sums
 
       pub goes-after : (events events' : List Event) → length seats'.items ≡ length e.seats.items
           → ((output : ℕ) → lines_of output events' ≡ lines_of output events ++ bodies (pushed_by actor outs (e.wires.shown + output) 0))
-          → (table : ℕ → ℕ → ℕ) → Agrees e.levels table → Goes m table items items' e e' events events'
-      goes-after events events' seats_len shown table agrees =
-          let k = kept table agrees in
+          → AllByRecursion (IsOwn e.wires actor) drops → ((w : ℕ) → drops_of w events' ≡ drops_of w events ++ of_drop w drops)
+          → Goes m table items items' e e' events events'
+      goes-after events events' seats_len shown own decides =
+          let k = kept in
           record {
             lines = λ output low.
                 goes-on (lines_of output events) (bodies (pushed_by actor outs (e.wires.shown + output) 0)) (lines_left m table items e output) (lines_left m table items' e' output) (lines_of output events')
                 (ap bodies (k.streams (e.wires.shown + output) 0 (flow.shaped.ordered (e.wires.shown + output) low))
-                ∙ bodies-append (pushed_by actor outs (e.wires.shown + output) 0) (coming net (is table) e.wires.order.items (e.wires.shown + output) 0))
+                ∙ bodies-append (pushed_by actor outs (e.wires.shown + output) 0) (coming net is e.wires.order.items (e.wires.shown + output) 0))
                 (shown output);
+            drops = λ w low.
+                let is_replay = flow.shaped.replay_is in
+                let some = flow.shaped.shown_in in
+                let there : e.wires.sheds + w < length e.seats.items = omega (arith, some, low) in
+                let away : e.wires.sheds + w ≢ net.replay = omega (arith, is_replay, there) in
+                goes-on (drops_of w events) (cond (eqb (e.wires.sheds + w) actor) drops []) (decisions_left m table items e (e.wires.sheds + w)) (decisions_left m table items' e' (e.wires.sheds + w)) (drops_of w events')
+                (k.told (e.wires.sheds + w) (flow.shaped.ordered (e.wires.sheds + w) there) away).decisions
+                (decides w ∙ ap (λ z. drops_of w events ++ z) (of-own e.wires actor w drops own));
             fed = λ other low.
                 let is = flow.shaped.replay_is in
                 let away : other ≢ net.replay = omega arith in
@@ -239,16 +282,8 @@ module _ {O : Type 0} (m : Meaning O) (valid : O → Type 0) (e : Flow O) (flow 
                 let is = flow.shaped.replay_is in
                 let away : other ≢ net.replay = omega arith in
                 (k.told other (flow.shaped.ordered other low) away).lost;
-            turns = turns-same table agrees ∙ ap (λ n. e.taken + sum_below (λ other. length (inputs net (is table) e.wires.order.items other)) n) (sym seats_len);
+            turns = turns-same ∙ ap (λ n. e.taken + sum_below (λ other. length (inputs net is e.wires.order.items other)) n) (sym seats_len);
           }
-
-  -- the operator runs
-  pub runs : done_at e.over (slice_get e.seats.items actor) ≡ false → m.running s.op ≡ true
-  runs open_now = seat-fine.running ∙ by s.tally.running (sym (ap (done_at e.over) is_seat) ∙ open_now)
-    where
-      by : (b : Bool) → not b ≡ false → b ≡ true
-      by true h = refl
-      by false h = cc
 
   -- as much was fed as before
   pub finished-taken : (seats' : Vec (Seat O) Global) (queues' : Queues) (s' : Seat O) → m.taken s'.op ≡ m.taken s.op
@@ -281,11 +316,19 @@ module _ {O : Type 0} (m : Meaning O) (valid : O → Type 0) (e : Flow O) (flow 
   pub finished-prefix : (was : Option Pages) (s' : Seat O) (outs : List (ℕ × Item)) (drops : List Decision) (events events' : List Event)
       → Together e.queues was → FinishedSeat m valid outs drops s s'
       → ((o : ℕ) → IsPrefixOf (lines_of o events') (lines_of o events ++ bodies (pushed_by actor outs (e.wires.shown + o) 0)))
+      → done_at e.over (slice_get e.seats.items actor) ≡ false
+      → ((w : ℕ) → IsPrefixOf (drops_of w events') (drops_of w events ++ of_drop w drops))
       → ShowsPrefix m was e e.levels events events'
-  finished-prefix was s' outs drops events events' together fin pre = λ told holds table agrees output low.
-      prefix-chain (lines_of output events') (lines_of output events) (bodies (pushed_by actor outs (e.wires.shown + output) 0)) (lines_left m table (items_on e.queues was) e output) (pre output)
-      (prefix-of-end (items_on e.queues was) holds (together.faces told) table agrees outs
-      (λ q. ([], fin.law table q ∙ sym (append-nil (given q outs)))) (e.wires.shown + output))
+  finished-prefix was s' outs drops events events' together fin pre unfinished decides = λ told table agrees holds.
+      record {
+        lines = λ output low.
+            prefix-chain (lines_of output events') (lines_of output events) (bodies (pushed_by actor outs (e.wires.shown + output) 0)) (lines_left m table (items_on e.queues was) e output) (pre output)
+            (prefix-of-end table agrees (items_on e.queues was) holds (together.faces told) outs
+            (λ q. ([], fin.law table q ∙ sym (append-nil (given q outs)))) (e.wires.shown + output));
+        drops = λ w low.
+            prefix-chain (drops_of w events') (drops_of w events) (of_drop w drops) (decisions_left m table (items_on e.queues was) e (e.wires.sheds + w)) (decides w)
+            (drops-of-end table agrees (items_on e.queues was) holds (together.faces told) drops (own-drops s' outs drops fin unfinished) (fin.decided table) w);
+      }
 
   -- the whole of an end, from what its parts say
   pub finished-stepped : (was is : Option Pages) (mid q' : Queues) (seats' : Vec (Seat O) Global) (s' : Seat O) (outs : List (ℕ × Item)) (drops : List Decision) (events events' : List Event)
@@ -298,9 +341,10 @@ module _ {O : Type 0} (m : Meaning O) (valid : O → Type 0) (e : Flow O) (flow 
       → ((pages : Option Pages) (k : ℕ) → items_on q' pages k ≡ items_on mid pages k)
       → ((pages : Option Pages) → Together mid pages → Together q' pages)
       → ((o : ℕ) → lines_of o events' ≡ lines_of o events ++ bodies (pushed_by actor outs (e.wires.shown + o) 0))
-      → ShowsIn (length e.seats.items - e.wires.shown) 0 events events' → plans_of events' ≡ plans_of events
+      → done_at e.over (slice_get e.seats.items actor) ≡ false → ((w : ℕ) → drops_of w events' ≡ drops_of w events ++ of_drop w drops)
+      → ShowsIn (length e.seats.items - e.wires.shown) (e.wires.shown - e.wires.sheds) events events' → plans_of events' ≡ plans_of events
       → Stepped m valid was is e (record e { seats = seats'; queues = q' }) events events'
-  finished-stepped was is mid q' seats' s' outs drops events events' together fin is_after apart seats_len sent lanes ended same stays shown below plans =
+  finished-stepped was is mid q' seats' s' outs drops events events' together fin is_after apart seats_len sent lanes ended same stays shown unfinished decides below plans =
       record {
         flow_after = flow-after s' outs drops fin seats' q' is_after apart seats_len (lanes ∙ sent.lanes ∙ flow.lanes)
             (λ k low. ended k low ∙ ap (λ b. b || eqb (from_of (slice_get e.wires.arcs.items k)) actor) (sent.ended k));
@@ -313,9 +357,9 @@ module _ {O : Type 0} (m : Meaning O) (valid : O → Type 0) (e : Flow O) (flow 
         planner = refl;
         planned = λ all h. record { agrees = h.agrees; counts = h.counts };
         plans = ap (λ z. z ++ plans_left e) (sym plans);
-        holds = λ told holds. holds-after (items_on e.queues was) holds (together.faces told) seats' q' s' outs drops (items_on q' is) fin is_after apart (on told) (fine told);
-        goes = λ told holds table agrees.
-            goes-after (items_on e.queues was) holds (together.faces told) seats' q' s' outs drops (items_on q' is) fin is_after apart (on told) (fine told) events events' seats_len shown table agrees;
+        holds = λ told table agrees holds. holds-after table agrees (items_on e.queues was) holds (together.faces told) seats' q' s' outs drops (items_on q' is) fin is_after apart (on told) (fine told);
+        goes = λ told table agrees holds.
+            goes-after table agrees (items_on e.queues was) holds (together.faces told) seats' q' s' outs drops (items_on q' is) fin is_after apart (on told) (fine told) events events' seats_len shown (own-drops s' outs drops fin unfinished) decides;
       }
     where
       on : Tells was → (k : ℕ) → k < length e.wires.arcs.items → spread_all (items_on q' is k) ≡ spread_all (items_on e.queues was k) ++ pushed_by actor outs (net.from k) (net.port k)

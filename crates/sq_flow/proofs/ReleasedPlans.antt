@@ -1,12 +1,11 @@
 -- What the release of a tuple leaves of the plans.
-use Rattle.std.proofs.Common.{◌≡◌, ◌≢◌, ℕ, ◌+◌, ◌-◌, ◌/◌, ◌≤◌, ◌<◌, ◌^◌, max, eqb, cond, Bool, true, false, List, [], ◌∷◌, ◌++◌, length, set, replicate, Some, refl, ap, sym, ◌∙◌, subst, append_assoc, append-nil, arith}
+use Rattle.std.proofs.Common.{◌≡◌, ◌≢◌, ℕ, ◌+◌, ◌-◌, ◌/◌, ◌≤◌, ◌<◌, ◌^◌, max, eqb, cond, Bool, true, false, List, [], ◌∷◌, ◌++◌, length, set, replicate, Some, refl, ap, sym, ◌∙◌, subst, append_assoc, arith}
 use Rattle.std.specs.Prelude.{slice_get, slice_index, Vec}
 use Rattle.std.specs.List.{flat_map, range_with_len}
 use Rattle.std.proofs.lemmas.List.{length-replicate}
 use Rattle.std.specs.declared.alloc.Global.{Global}
 use Rattle.std.specs.declared.collections.VecDeque.{VecDeque}
 use Rattle.sq_value.specs.declared.Tuple.{Tuple}
-use Rattle.sq_value.specs.Lists.{IsPrefixOf}
 use Rattle.sq_left.proofs.MergeLemmas.{eqb-yes, eqb-no, eqb-same, eqb-not}
 use Rattle.sq_road.specs.Levels.{LevelTable, level_of, Agrees}
 use Rattle.sq_plan.specs.declared.closing.Shown.{Shown}
@@ -16,7 +15,7 @@ use Rattle.sq_oper.specs.declared.outs.Event.{Event}
 use Rattle.sq_queue.specs.declared.Queues.{Queues}
 use Rattle.sq_flow.specs.declared.flow.Flow.{Flow}
 use Rattle.sq_flow.specs.Seats.{Meaning}
-use Rattle.sq_flow.specs.Events.{lines_of, ShowsIn}
+use Rattle.sq_flow.specs.Events.{lines_of, drops_of, ShowsIn}
 use Rattle.sq_flow.specs.Flows.{IsFlow, RiseFrom, tuples_at, to_release}
 use Rattle.sq_flow.specs.Plans.{arrivals, last_arrival, add_counts, counts_of, IsPlanned, plans_left, plans_of, PlansPrefix}
 use Rattle.sq_flow.specs.Sources.{BeginsLeast, IsNextSource}
@@ -33,6 +32,7 @@ pub record ClosedBefore (planner planner' : Setting) (levels levels' : LevelTabl
   pub plans : (all : ℕ → List ℕ) → (levels.closed < next + 1 → Ended all (levels.closed - 1) next before)
       → plans_of events' ≡ plans_of events ++ flat_map (shown_after planner all) (range_with_len (levels.closed - 1) (next - (levels.closed - 1)))
   pub lines : (o : ℕ) → lines_of o events' ≡ lines_of o events
+  pub drops : (w : ℕ) → drops_of w events' ≡ drops_of w events
   pub within : (outputs drops : ℕ) → ShowsIn outputs drops events events'
 
 -- a table that agrees with more closed levels agrees with fewer

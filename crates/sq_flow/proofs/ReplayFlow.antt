@@ -26,8 +26,8 @@ use Rattle.sq_outside.specs.Disks.{Pages}
 use Rattle.sq_queue.specs.Faces.{face, size, items_on, Tells, Together}
 use Rattle.sq_flow.specs.Sends.{many, Pushes}
 use Rattle.sq_flow.specs.Sources.{BeginsLeast, IsNextSource}
-use Rattle.sq_flow.specs.Plans.{IsPlanned, plans_left, plans_of}
 use Rattle.sq_flow.proofs.PlanLemmas.{rise-later}
+use Rattle.sq_flow.proofs.DropLemmas.{owns-later}
 use Rattle.sq_flow.proofs.ReleasedPlans.{ClosedBefore, agrees-before, epoch_there, not-before, mid-len, mid-low, planned-after, plans-go}
 use Rattle.sq_flow.specs.Readiness.{TouchesOnly}
 use Rattle.sq_flow.proofs.TouchLemmas.{away-from, stands-pushed}
@@ -35,10 +35,10 @@ use Rattle.sq_flow.proofs.SumLemmas.{sum-same}
 use Rattle.sq_flow.proofs.WireLemmas.{one-sent, comes-from}
 use Rattle.sq_flow.specs.declared.seats.Seat.{Seat}
 use Rattle.sq_flow.specs.declared.flow.Flow.{Flow}
-use Rattle.sq_flow.specs.Wiring.{net_of, arcs_from, times_in, from_of, sent}
+use Rattle.sq_flow.specs.Wiring.{net_of, arcs_from, times_in, from_of, sent, IsOwn}
 use Rattle.sq_flow.specs.Seats.{Meaning, done_at, holds_at, IsSeat}
-use Rattle.sq_flow.specs.Events.{bodies, lines_of}
-use Rattle.sq_flow.specs.Flows.{world_of, IsFlow, HoldsItems, Goes, Stepped, ShowsPrefix, RiseFrom, to_release, tuples_at, lines_left, turns_at_last, count_all}
+use Rattle.sq_flow.specs.Events.{bodies, lines_of, drops_of}
+use Rattle.sq_flow.specs.Flows.{world_of, IsFlow, HoldsItems, Goes, Stepped, ShowsPrefix, RiseFrom, to_release, tuples_at, lines_left, decisions_left, turns_at_last, count_all}
 use Rattle.sq_flow.proofs.SendLemmas.{at_or_other, apart-arcs}
 use Rattle.sq_flow.proofs.FutureLemmas.{slice_get-set_same, slice_get-set_other}
 
@@ -58,24 +58,23 @@ replay-open m valid e flow open_now =
     ap (done_at e.over) (slice_get_past e.seats.items e.wires.replay (omega (arith, is))) ∙ open_now
 
 -- a step of the replay that pushes what the source loses
-module _ {O : Type 0} (m : Meaning O) (valid : O → Type 0) (e : Flow O) (flow : IsFlow m valid e) (items items' : ℕ → List Item) (holds : HoldsItems m items e)
+module _ {O : Type 0} (m : Meaning O) (valid : O → Type 0) (e : Flow O) (flow : IsFlow m valid e) (table : ℕ → ℕ → ℕ) (items items' : ℕ → List Item) (holds : HoldsItems m table items e)
     (over' : Bool) (queues' : Queues) (sources' : Vec (VecDeque Tuple Global) Global) (clock' : ℕ) (planner' : Setting) (levels' : LevelTable) (counts' : Vec ℕ Global) (pushed : ℕ → ℕ → List Thing)
     (source : (q : ℕ) → things (to_release e q) ≡ pushed e.wires.replay q ++ things (tuples_at (slice_get sources'.items q)))
     (quiet : (other : ℕ) → other ≢ e.wires.replay → (q : ℕ) → pushed other q ≡ [])
     (ends : over' ≡ true → (q : ℕ) → tuples_at (slice_get sources'.items q) ≡ [])
-    (given_on : (k : ℕ) → k < length e.wires.arcs.items → spread_all (items' k) ≡ spread_all (items k) ++ pushed ((net_of e.wires).from k) ((net_of e.wires).port k))
-    (before : (table : ℕ → ℕ → ℕ) → Agrees levels' table → Agrees e.levels table) where
+    (given_on : (k : ℕ) → k < length e.wires.arcs.items → spread_all (items' k) ≡ spread_all (items k) ++ pushed ((net_of e.wires).from k) ((net_of e.wires).port k)) where
   abbrev net : Net
   net = net_of e.wires
 
   abbrev e' : Flow O
   e' = record e { over = over'; queues = queues'; sources = sources'; clock = clock'; planner = planner'; levels = levels'; counts = counts' }
 
-  abbrev was : (ℕ → ℕ → ℕ) → World
-  was table = world_of m table items e
+  abbrev was : World
+  was = world_of m table items e
 
-  abbrev is : (ℕ → ℕ → ℕ) → World
-  is table = world_of m table items' e'
+  abbrev is : World
+  is = world_of m table items' e'
 
   some-seat : (other : ℕ) → other < length e.seats.items → done_at over' (slice_get e.seats.items other) ≡ done_at e.over (slice_get e.seats.items other)
   some-seat other low = by (slice_get e.seats.items other) (slice_get-not_none e.seats.items other low)
@@ -84,9 +83,9 @@ module _ {O : Type 0} (m : Meaning O) (valid : O → Type 0) (e : Flow O) (flow 
       by None n = absurd (n refl)
       by (Some s) n = refl
 
-  pub kept : (table : ℕ → ℕ → ℕ) → Agrees e.levels table → Kept net (was table) (is table) pushed (λ _. []) (λ _. []) e.wires.order.items
-  kept table agrees =
-      world-released net (was table) (is table) pushed (λ _. []) e.wires.order.items flow.shaped.wired (holds.facts table agrees)
+  pub kept : Kept net was is pushed (λ _. []) (λ _. []) e.wires.order.items
+  kept =
+      world-released net was is pushed (λ _. []) e.wires.order.items flow.shaped.wired holds.facts
       (λ k within. sym (given_on k within))
       source
       (λ other ne k. record { rest = refl; decide = refl; lost = refl; taken = refl; place = refl; done = done-same other ne k })
@@ -99,31 +98,38 @@ module _ {O : Type 0} (m : Meaning O) (valid : O → Type 0) (e : Flow O) (flow 
       done-same : (other : ℕ) → other ≢ net.replay → known net e.wires.order.items other ≡ true → done_at over' (slice_get e.seats.items other) ≡ done_at e.over (slice_get e.seats.items other)
       done-same other ne k = let r = flow.shaped.replay_is in let low = flow.shaped.listed other k in some-seat other (omega (arith, r, low, ne))
 
-  pub holds-after : ((k : ℕ) → AllFine clock' (items' k)) → HoldsItems m items' e'
+  pub holds-after : ((k : ℕ) → AllFine clock' (items' k)) → HoldsItems m table items' e'
   holds-after fine =
       record {
-        facts = λ table agrees. (kept table (before table agrees)).facts;
+        facts = kept.facts;
         queued = fine;
       }
 
-  turns-same : (table : ℕ → ℕ → ℕ) → Agrees e.levels table → turns_at_last m table items e ≡ turns_at_last m table items' e'
-  turns-same table agrees =
-      let k = kept table agrees in
+  turns-same : turns_at_last m table items e ≡ turns_at_last m table items' e'
+  turns-same =
+      let k = kept in
       let is_replay = flow.shaped.replay_is in
-      let sums = sum-same (λ other. length (inputs net (was table) e.wires.order.items other)) (λ other. length (inputs net (is table) e.wires.order.items other)) (length e.seats.items)
+      let sums = sum-same (λ other. length (inputs net was e.wires.order.items other)) (λ other. length (inputs net is e.wires.order.items other)) (length e.seats.items)
       (λ other low. let away : other ≢ net.replay = omega (arith, is_replay, low) in ap (λ (l : List Entry). length l) (k.told other (flow.shaped.ordered other low) away).comes) in
       ap (λ n. e.taken + n) sums
 
-  pub goes-after : (events events' : List Event) → ((o : ℕ) → lines_of o events' ≡ lines_of o events) → ((output : ℕ) → output < length e.seats.items → (q : ℕ) → pushed output q ≡ []) → (table : ℕ → ℕ → ℕ) → Agrees levels' table
+  pub goes-after : (events events' : List Event) → ((o : ℕ) → lines_of o events' ≡ lines_of o events) → ((w : ℕ) → drops_of w events' ≡ drops_of w events) → ((output : ℕ) → output < length e.seats.items → (q : ℕ) → pushed output q ≡ [])
       → Goes m table items items' e e' events events'
-  goes-after events events' shown none table agrees =
-      let k = kept table (before table agrees) in
+  goes-after events events' shown decides none =
+      let k = kept in
       record {
         lines = λ output low.
             ap (λ z. lines_of output events ++ bodies z)
             (k.streams (e.wires.shown + output) 0 (flow.shaped.ordered (e.wires.shown + output) low)
-            ∙ ap (λ z. z ++ coming net (is table) e.wires.order.items (e.wires.shown + output) 0) (none (e.wires.shown + output) low 0))
+            ∙ ap (λ z. z ++ coming net is e.wires.order.items (e.wires.shown + output) 0) (none (e.wires.shown + output) low 0))
             ∙ ap (λ z. z ++ lines_left m table items' e' output) (sym (shown output));
+        drops = λ w low.
+            let is_replay = flow.shaped.replay_is in
+            let some = flow.shaped.shown_in in
+            let there : e.wires.sheds + w < length e.seats.items = omega (arith, some, low) in
+            let away : e.wires.sheds + w ≢ net.replay = omega (arith, is_replay, there) in
+            ap (λ z. drops_of w events ++ z) (k.told (e.wires.sheds + w) (flow.shaped.ordered (e.wires.sheds + w) there) away).decisions
+            ∙ ap (λ z. z ++ decisions_left m table items' e' (e.wires.sheds + w)) (sym (decides w));
         fed = λ other low.
             let r = flow.shaped.replay_is in
             let away : other ≢ net.replay = omega (arith, r, low) in
@@ -132,7 +138,7 @@ module _ {O : Type 0} (m : Meaning O) (valid : O → Type 0) (e : Flow O) (flow 
             let r = flow.shaped.replay_is in
             let away : other ≢ net.replay = omega (arith, r, low) in
             (k.told other (flow.shaped.ordered other low) away).lost;
-        turns = turns-same table (before table agrees);
+        turns = turns-same;
       }
 
 own-sent : (replay port : ℕ) (xs : List Thing) (q : ℕ) → sent replay port xs replay q ≡ cond (eqb port q) xs []
@@ -232,6 +238,7 @@ module _ {O : Type 0} (m : Meaning O) (valid : O → Type 0) (e : Flow O) (flow 
                   coming = coming-after;
                   few_sources = rw sources_len flow.few_sources;
                   levels = (did.closed ∙ ap (λ n. x.time / n + 1) (sym did.epoch), first.1.0);
+                  owned = λ actor. owns-later m (IsOwn e.wires actor) e.levels levels' before (slice_get e.seats.items actor) (flow.owned actor);
                   counts = counts-len;
                   few_tuples = few-after;
                   over = λ o. absurd (cc (replay-runs, o));
@@ -241,16 +248,16 @@ module _ {O : Type 0} (m : Meaning O) (valid : O → Type 0) (e : Flow O) (flow 
             wires = refl;
             seats = refl;
             closes = before;
-            shows = did.within _ 0;
+            shows = did.within _ _;
             planner = did.same;
             planned = planned-after m valid e flow pos port v more x next at held planner' levels' mid events events' did q' sources' counts' taken counts_are;
             plans = plans-go m valid e flow pos port v more x next at held planner' levels' mid events events' did q' sources' counts' taken counts_are;
-            holds = λ told holds.
-                holds-after m valid e flow (items_on e.queues was) (items_on q' is) holds e.over q' sources' x.time planner' levels' counts' (sent-by) given-there quiet ends (on told) before
+            holds = λ told table agrees holds.
+                holds-after m valid e flow table (items_on e.queues was) (items_on q' is) holds e.over q' sources' x.time planner' levels' counts' (sent-by) given-there quiet ends (on told)
                 (pushes.fine told x.time le-refl (λ k. fine-later e.clock x.time (items_on e.queues was k) first.0 (holds.queued k)));
-            goes = λ told holds table agrees.
-                goes-after m valid e flow (items_on e.queues was) (items_on q' is) holds e.over q' sources' x.time planner' levels' counts' (sent-by) given-there quiet ends (on told) before
-                events events' did.lines (λ output low q. quiet output (not-replay output low) q) table agrees;
+            goes = λ told table agrees holds.
+                goes-after m valid e flow table (items_on e.queues was) (items_on q' is) holds e.over q' sources' x.time planner' levels' counts' (sent-by) given-there quiet ends (on told)
+                events events' did.lines did.drops (λ output low q. quiet output (not-replay output low) q);
           }
         where
           le-refl : x.time ≤ x.time
@@ -278,16 +285,16 @@ module _ {O : Type 0} (m : Meaning O) (valid : O → Type 0) (e : Flow O) (flow 
               → spread_all (items_on q' is k) ≡ spread_all (items_on e.queues was k) ++ sent e.wires.replay port (spread item) ((net_of e.wires).from k) ((net_of e.wires).port k)
           on told k low = pushes.items told k ∙ ap (λ z. spread_all (items_on e.queues was k) ++ z) (one-sent e.wires (length e.seats.items) flow.shaped e.wires.replay port k (spread item) low)
 
-    pub released-touches : (was is : Option Pages) (q' : Queues) (sources' : Vec (VecDeque Tuple Global) Global) (planner' : Setting) (levels' : LevelTable) (counts' : Vec ℕ Global) (sent_there : ℕ → List Thing) (upto : ℕ → Type 0)
-        → Pushes e.queues q' was is sent_there upto (contains (arcs_from e.wires e.wires.replay port))
+    pub released-touches : (was is : Option Pages) (q' : Queues) (sources' : Vec (VecDeque Tuple Global) Global) (planner' : Setting) (levels' : LevelTable) (counts' : Vec ℕ Global)
+        → Pushes e.queues q' was is (λ k. many (times_in k (arcs_from e.wires e.wires.replay port)) (spread item)) (λ time. x.time ≤ time) (contains (arcs_from e.wires e.wires.replay port))
         → TouchesOnly (length e.seats.items) e (record e { queues = q'; sources = sources'; clock = x.time; planner = planner'; levels = levels'; counts = counts' })
-    released-touches was is q' sources' planner' levels' counts' sent_there upto pushes =
+    released-touches was is q' sources' planner' levels' counts' pushes =
         record {
           apart = λ arc low to from.
               let r = flow.shaped.replay_is in
               pushes.apart arc (apart-arcs e.wires e.wires.replay port arc (comes-from e.wires (length e.seats.items) flow.shaped e.wires.replay port arc)
               (away-from e.wires e.wires.replay arc (λ same. from (same ∙ r))));
-          grows = λ arc low to h. stands-pushed e.queues q' was is sent_there upto (contains (arcs_from e.wires e.wires.replay port)) pushes arc h;
+          grows = λ arc low to h. stands-pushed e.queues q' was is _ _ _ pushes arc h;
           others = λ other low ne. refl;
         }
 
@@ -312,6 +319,7 @@ module _ {O : Type 0} (m : Meaning O) (valid : O → Type 0) (e : Flow O) (flow 
               coming = flow.coming;
               few_sources = flow.few_sources;
               levels = flow.levels;
+              owned = flow.owned;
               counts = flow.counts;
               few_tuples = flow.few_tuples;
               over = λ o. none;
@@ -325,12 +333,12 @@ module _ {O : Type 0} (m : Meaning O) (valid : O → Type 0) (e : Flow O) (flow 
         planner = refl;
         planned = λ all h. record { agrees = h.agrees; counts = h.counts };
         plans = refl;
-        holds = λ told holds.
-            holds-after m valid e flow (items_on e.queues pages) (items_on q' pages) holds true q' e.sources e.clock e.planner e.levels e.counts (λ _ _. []) (λ q. refl) (λ other ne q. refl) (λ o. none) (on)
-            (λ table h. h) (λ k. subst (AllFine e.clock) (sym (same pages k)) (holds.queued k));
-        goes = λ told holds table agrees.
-            goes-after m valid e flow (items_on e.queues pages) (items_on q' pages) holds true q' e.sources e.clock e.planner e.levels e.counts (λ _ _. []) (λ q. refl) (λ other ne q. refl) (λ o. none) (on)
-            (λ table h. h) events events (λ o. refl) (λ output low q. refl) table agrees;
+        holds = λ told table agrees holds.
+            holds-after m valid e flow table (items_on e.queues pages) (items_on q' pages) holds true q' e.sources e.clock e.planner e.levels e.counts (λ _ _. []) (λ q. refl) (λ other ne q. refl) (λ o. none) (on)
+            (λ k. subst (AllFine e.clock) (sym (same pages k)) (holds.queued k));
+        goes = λ told table agrees holds.
+            goes-after m valid e flow table (items_on e.queues pages) (items_on q' pages) holds true q' e.sources e.clock e.planner e.levels e.counts (λ _ _. []) (λ q. refl) (λ other ne q. refl) (λ o. none) (on)
+            events events (λ o. refl) (λ w. refl) (λ output low q. refl);
       }
     where
       on : (k : ℕ) → k < length e.wires.arcs.items → spread_all (items_on q' pages k) ≡ spread_all (items_on e.queues pages k) ++ []
@@ -362,11 +370,15 @@ module _ {O : Type 0} (m : Meaning O) (valid : O → Type 0) (e : Flow O) (flow 
               let away : actor ≢ e.wires.replay = eqb-no actor e.wires.replay k in
               some (slice_get e.seats.items actor) (slice_get-not_none e.seats.items actor (omega (arith, r, away, low)))
 
--- where no tuple was shown
-pub lines-stay : {O : Type 0} (m : Meaning O) (was : Option Pages) (e : Flow O) (levels : LevelTable) (events events' : List Event) → ((o : ℕ) → lines_of o events' ≡ lines_of o events)
-    → ShowsPrefix m was e levels events events'
-lines-stay m was e levels events events' same = λ told holds table agrees output low.
-    (lines_left m table (items_on e.queues was) e output, ap (λ z. z ++ lines_left m table (items_on e.queues was) e output) (sym (same output)))
+-- where no tuple and no decision was shown
+pub lines-stay : {O : Type 0} (m : Meaning O) (was : Option Pages) (e : Flow O) (levels : LevelTable) (events events' : List Event)
+    → ((o : ℕ) → lines_of o events' ≡ lines_of o events) → ((w : ℕ) → drops_of w events' ≡ drops_of w events) → ShowsPrefix m was e levels events events'
+lines-stay m was e levels events events' same decides = λ told table agrees holds.
+    record {
+      lines = λ output low. (lines_left m table (items_on e.queues was) e output, ap (λ z. z ++ lines_left m table (items_on e.queues was) e output) (sym (same output)));
+      drops = λ w low.
+          (decisions_left m table (items_on e.queues was) e (e.wires.sheds + w), ap (λ z. z ++ decisions_left m table (items_on e.queues was) e (e.wires.sheds + w)) (sym (decides w)));
+    }
 
 -- a source of which one tuple was taken
 pub count-less : (sources : List (VecDeque Tuple Global)) (i : ℕ) (v v' : VecDeque Tuple Global) (x : Tuple) → slice_get sources i ≡ Some v → v.items ≡ x ∷ v'.items

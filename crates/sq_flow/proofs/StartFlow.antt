@@ -1,20 +1,22 @@
 -- A flow that has released nothing yet.
-use Rattle.std.proofs.Common.{zero, suc, ◌+◌, ◌-◌, ◌≤◌, eqb, cond, true, replicate, ◌≡◌, ℕ, ◌/◌, ◌<◌, ◌^◌, Bool, false, not, List, [], length, Option, Some, None, refl, ap, sym, ◌∙◌, arith}
+use Rattle.std.proofs.Common.{zero, suc, ◌+◌, ◌-◌, ◌≤◌, eqb, cond, true, replicate, ◌≡◌, ℕ, ◌/◌, ◌<◌, ◌^◌, Bool, false, not, List, [], length, Option, Some, None, refl, ap, sym, ◌∙◌, subst, arith}
 use Rattle.std.specs.Prelude.{slice_get, slice_index}
 use Rattle.std.specs.List.{flat_map, range_with_len}
 use Rattle.sq_value.specs.Lists.{numbers_to}
-use Rattle.sq_road.specs.Levels.{Rows, Agrees, level_of}
+use Rattle.sq_road.specs.Levels.{Rows, level_of}
 use Rattle.sq_plan.specs.Shown.{level_for, shown_from, shown_after}
 use Rattle.sq_value.specs.declared.Value.{Value}
 use Rattle.sq_item.specs.declared.Item.{Item}
 use Rattle.sq_oper.specs.declared.tally.Place.TheVariants.{Start}
+use Rattle.sq_oper.specs.declared.outs.Decision.{Decision}
+use Rattle.sq_oper.specs.Order.{IsFuture}
 use Rattle.sq_oper.specs.Given.{ThingsUpTo}
 use Rattle.sq_left.specs.Left.{Facts}
 use Rattle.sq_queue.specs.Faces.{face, size}
 use Rattle.sq_flow.specs.declared.seats.Seat.{Seat}
 use Rattle.sq_flow.specs.declared.flow.Flow.{Flow}
-use Rattle.sq_flow.specs.Wiring.{net_of, from_of, IsShaped}
-use Rattle.sq_flow.specs.Seats.{Meaning, rest_at, done_at, place_at, holds_at, IsSeat}
+use Rattle.sq_flow.specs.Wiring.{net_of, from_of, IsOwn, IsShaped}
+use Rattle.sq_flow.specs.Seats.{Meaning, rest_at, done_at, place_at, holds_at, IsSeat, Owns}
 use Rattle.sq_flow.specs.Flows.{world_of, IsFlow, HoldsItems, RiseFrom, to_release}
 use Rattle.sq_flow.specs.Starts.{IsNewSeat}
 use Rattle.sq_flow.specs.Plans.{arrivals, last_arrival, add_counts, streams_left, counts_of, IsPlanned, plans_left}
@@ -23,20 +25,20 @@ use Rattle.sq_flow.proofs.PlanLemmas.{add-zeros, arrivals-len, flat-same, zeros-
 module _ {O : Type 0} (m : Meaning O) (valid : O → Type 0) (e : Flow O)
     (shaped : IsShaped e.wires (length e.seats.items)) (lanes : size e.queues ≡ length e.wires.arcs.items)
     (open_all : (arc : ℕ) → (face e.queues arc).ended ≡ false) (runs : e.over ≡ false)
-    (seats : (actor : ℕ) → holds_at (IsNewSeat m valid ((net_of e.wires).takes actor) ((net_of e.wires).fits actor) e.levels.epoch) (slice_get e.seats.items actor))
+    (seats : (actor : ℕ) → holds_at (IsNewSeat m valid ((net_of e.wires).takes actor) ((net_of e.wires).fits actor) (IsOwn e.wires actor) e.levels.epoch) (slice_get e.seats.items actor))
     (rises : (source : ℕ) → RiseFrom 0 (to_release e source)) (few : length e.sources.items < 2 ^ 32) (clock : e.clock ≡ 0) (none_taken : e.taken ≡ 0) (closed : e.levels.closed ≡ 1)
     (counts : length e.counts.items ≡ length e.sources.items) (few_tuples : (source : ℕ) → slice_index e.counts.items source + length (to_release e source) ≤ 1000000) where
   done-none : (actor : ℕ) → done_at e.over (slice_get e.seats.items actor) ≡ false
   done-none actor = by (slice_get e.seats.items actor) (seats actor)
     where
-      by : (o : Option (Seat O)) → holds_at (IsNewSeat m valid ((net_of e.wires).takes actor) ((net_of e.wires).fits actor) e.levels.epoch) o → done_at e.over o ≡ false
+      by : (o : Option (Seat O)) → holds_at (IsNewSeat m valid ((net_of e.wires).takes actor) ((net_of e.wires).fits actor) (IsOwn e.wires actor) e.levels.epoch) o → done_at e.over o ≡ false
       by None h = runs
       by (Some s) h = ap not h.open_now
 
   pub place-start : (actor : ℕ) → place_at m (slice_get e.seats.items actor) ≡ Start
   place-start actor = by (slice_get e.seats.items actor) (seats actor)
     where
-      by : (o : Option (Seat O)) → holds_at (IsNewSeat m valid ((net_of e.wires).takes actor) ((net_of e.wires).fits actor) e.levels.epoch) o → place_at m o ≡ Start
+      by : (o : Option (Seat O)) → holds_at (IsNewSeat m valid ((net_of e.wires).takes actor) ((net_of e.wires).fits actor) (IsOwn e.wires actor) e.levels.epoch) o → place_at m o ≡ Start
       by None h = refl
       by (Some s) h = h.place
 
@@ -48,10 +50,11 @@ module _ {O : Type 0} (m : Meaning O) (valid : O → Type 0) (e : Flow O)
         ended = λ arc low. open_all arc ∙ sym (done-none (from_of (slice_get e.wires.arcs.items arc)));
         seats = λ actor. seat-of actor (slice_get e.seats.items actor) (seats actor);
         few = rw none_taken (omega arith);
-        held = λ table agrees actor port. held-none table ((net_of e.wires).takes actor) ((net_of e.wires).fits actor) (slice_get e.seats.items actor) port (seats actor);
+        held = λ table agrees actor port. held-none table ((net_of e.wires).takes actor) ((net_of e.wires).fits actor) (IsOwn e.wires actor) (slice_get e.seats.items actor) port (seats actor);
         coming = λ source. rw clock (rises source);
         few_sources = few;
         levels = rw clock (closed ∙ first e.levels.epoch, omega arith);
+        owned = λ actor. owns-of actor (slice_get e.seats.items actor) (seats actor);
         counts = counts;
         few_tuples = few_tuples;
         over = λ o. absurd (cc (sym runs ∙ o));
@@ -60,7 +63,7 @@ module _ {O : Type 0} (m : Meaning O) (valid : O → Type 0) (e : Flow O)
       first : (epoch : ℕ) → 1 ≡ 0 / epoch + 1
       first epoch = grind arith
 
-      seat-of : (actor : ℕ) (o : Option (Seat O)) → holds_at (IsNewSeat m valid ((net_of e.wires).takes actor) ((net_of e.wires).fits actor) e.levels.epoch) o
+      seat-of : (actor : ℕ) (o : Option (Seat O)) → holds_at (IsNewSeat m valid ((net_of e.wires).takes actor) ((net_of e.wires).fits actor) (IsOwn e.wires actor) e.levels.epoch) o
           → holds_at (IsSeat m valid ((net_of e.wires).takes actor) ((net_of e.wires).fits actor) e.levels.epoch e.taken) o
       seat-of actor None h = tt
       seat-of actor (Some s) h =
@@ -75,13 +78,18 @@ module _ {O : Type 0} (m : Meaning O) (valid : O → Type 0) (e : Flow O)
             reads = λ _. h.reads;
           }
 
-      held-none : (table : ℕ → ℕ → ℕ) (takes : ℕ → Bool) (fits : ℕ → List Value → Bool) (o : Option (Seat O)) (port : ℕ) → holds_at (IsNewSeat m valid takes fits e.levels.epoch) o → ThingsUpTo e.clock (rest_at m table o [] port)
-      held-none table takes fits None port h = tt
-      held-none table takes fits (Some s) port h = rw (h.holds_none table port) tt
+      owns-of : (actor : ℕ) (o : Option (Seat O)) → holds_at (IsNewSeat m valid ((net_of e.wires).takes actor) ((net_of e.wires).fits actor) (IsOwn e.wires actor) e.levels.epoch) o
+          → holds_at (Owns m (IsOwn e.wires actor) e.levels) o
+      owns-of actor None h = tt
+      owns-of actor (Some s) h = λ running table agrees future f. h.owns table future (subst (λ place. IsFuture (m.takes_marks s.op) (m.fits s.op) place future) h.place f)
+
+      held-none : (table : ℕ → ℕ → ℕ) (takes : ℕ → Bool) (fits : ℕ → List Value → Bool) (own : Decision → Type 0) (o : Option (Seat O)) (port : ℕ) → holds_at (IsNewSeat m valid takes fits own e.levels.epoch) o → ThingsUpTo e.clock (rest_at m table o [] port)
+      held-none table takes fits own None port h = tt
+      held-none table takes fits own (Some s) port h = rw (h.holds_none table port) tt
 
   -- where the facts hold of a world in which nothing is queued
-  pub start-holds : (items : ℕ → List Item) → ((arc : ℕ) → items arc ≡ []) → ((table : ℕ → ℕ → ℕ) → Facts (net_of e.wires) (world_of m table items e) e.wires.order.items) → HoldsItems m items e
-  start-holds items none facts = record { facts = λ table agrees. facts table; queued = λ arc. rw (none arc) tt }
+  pub start-holds : (table : ℕ → ℕ → ℕ) (items : ℕ → List Item) → ((arc : ℕ) → items arc ≡ []) → Facts (net_of e.wires) (world_of m table items e) e.wires.order.items → HoldsItems m table items e
+  start-holds table items none facts = record { facts = facts; queued = λ arc. rw (none arc) tt }
 
 -- a flow that has counted nothing yet
 module _ {O : Type 0} (e : Flow O) (closed : e.levels.closed ≡ 1) (rows : e.levels.rows ≡ []) (counts : e.counts.items ≡ replicate (length e.sources.items) 0) where

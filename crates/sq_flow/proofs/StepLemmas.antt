@@ -1,5 +1,5 @@
 -- Steps, one after another.
-use Rattle.std.proofs.Common.{◌≡◌, ℕ, ◌+◌, ◌-◌, ◌<◌, Bool, true, false, ◌||◌, List, length, Option, Some, None, refl, ap, sym, ◌∙◌, subst, arith}
+use Rattle.std.proofs.Common.{◌≡◌, ℕ, ◌+◌, ◌-◌, ◌<◌, ◌++◌, Bool, true, false, ◌||◌, List, length, Option, Some, None, refl, ap, sym, ◌∙◌, subst, arith}
 use Rattle.std.specs.Prelude.{is_some}
 use Rattle.sq_outside.specs.Disks.{Pages}
 use Rattle.sq_road.specs.Levels.{LevelTable, Agrees}
@@ -12,12 +12,12 @@ use Rattle.sq_flow.specs.declared.heads.Next.TheVariants.{Waits}
 use Rattle.sq_flow.specs.Wiring.{arcs_read}
 use Rattle.sq_flow.specs.Heads.{NextUpTo}
 use Rattle.sq_flow.specs.Seats.{Meaning}
-use Rattle.sq_flow.specs.Events.{ShowsIn}
-use Rattle.sq_flow.specs.Plans.{IsPlanned, PlansPrefix, plans_of}
+use Rattle.sq_flow.specs.Events.{drops_of, ShowsIn}
+use Rattle.sq_flow.specs.Plans.{PlansPrefix, plans_of}
 use Rattle.sq_plan.specs.Plans.{Setting}
 use Rattle.sq_plan.specs.Shown.{level_for}
 use Rattle.sq_value.specs.Lists.{IsPrefixOf}
-use Rattle.sq_flow.specs.Flows.{HoldsItems, Stepped, ShowsPrefix, NoneStrange, CostsFed, CostsAtMost, TooMuchOnly, items_in, fed_at_last, sum_below, work_at_last}
+use Rattle.sq_flow.specs.Flows.{HoldsItems, Stepped, ShowsPrefix, NoneStrange, CostsFed, CostsAtMost, TooMuchOnly, items_in, decisions_left, fed_at_last, sum_below, work_at_last}
 use Rattle.sq_flow.proofs.SumLemmas.{sum-same}
 use Rattle.sq_flow.specs.Readiness.{IsReady}
 
@@ -25,6 +25,12 @@ module _ {O : Type 0} (m : Meaning O) (valid : O → Type 0) where
   module _ (p p1 : Option Pages) (f f1 : Flow O) (e e1 : List Event) (first : Stepped m valid p p1 f f1 e e1) where
     outputs-same : length f1.seats.items - f1.wires.shown ≡ length f.seats.items - f.wires.shown
     outputs-same = rw (first.seats, ap (λ (w : Wires). w.shown) first.wires) refl
+
+    drops-same : f1.wires.shown - f1.wires.sheds ≡ f.wires.shown - f.wires.sheds
+    drops-same = ap (λ (w : Wires). w.shown - w.sheds) first.wires
+
+    sheds-same : f1.wires.sheds ≡ f.wires.sheds
+    sheds-same = ap (λ (w : Wires). w.sheds) first.wires
 
     low-after : (output : ℕ) → f.wires.shown + output < length f.seats.items → f1.wires.shown + output < length f1.seats.items
     low-after output low = rw (first.seats, ap (λ (w : Wires). w.shown) first.wires) low
@@ -38,16 +44,19 @@ module _ {O : Type 0} (m : Meaning O) (valid : O → Type 0) where
           wires = second.wires ∙ first.wires;
           seats = second.seats ∙ first.seats;
           closes = λ table h. first.closes table (second.closes table h);
-          shows = λ h. subst (λ n. ShowsIn n 0 e1 e2) outputs-same second.shows (first.shows h);
+          shows = λ h. subst (λ n. ShowsIn n (f.wires.shown - f.wires.sheds) e1 e2) outputs-same (subst (λ n. ShowsIn (length f1.seats.items - f1.wires.shown) n e1 e2) drops-same second.shows) (first.shows h);
           planner = second.planner ∙ first.planner;
           planned = λ all h. second.planned all (first.planned all h);
           plans = first.plans ∙ second.plans;
-          holds = λ told h. second.holds (first.tells ∙ told) (first.holds told h);
-          goes = λ told h table agrees.
-              let a = first.goes told h table (second.closes table agrees) in
-              let b = second.goes (first.tells ∙ told) (first.holds told h) table agrees in
+          holds = λ told table agrees h. second.holds (first.tells ∙ told) table agrees (first.holds told table (second.closes table agrees) h);
+          goes = λ told table agrees h.
+              let a = first.goes told table (second.closes table agrees) h in
+              let b = second.goes (first.tells ∙ told) table agrees (first.holds told table (second.closes table agrees) h) in
               record {
                 lines = λ output low. a.lines output low ∙ b.lines output (low-after output low);
+                drops = λ w low. a.drops w low
+                    ∙ subst (λ (wires : Wires). wires.sheds + w < wires.shown → drops_of w e1 ++ decisions_left m table (items_in f1 p1) f1 (wires.sheds + w) ≡ drops_of w e2 ++ decisions_left m table (items_in f2 p2) f2 (wires.sheds + w))
+                    first.wires (b.drops w) low;
                 fed = λ actor low. a.fed actor low ∙ b.fed actor (rw first.seats low);
                 lost = λ actor low. a.lost actor low ∙ b.lost actor (rw first.seats low);
                 turns = a.turns ∙ b.turns;
@@ -56,9 +65,14 @@ module _ {O : Type 0} (m : Meaning O) (valid : O → Type 0) where
 
     pub prefix-after : (levels : LevelTable) (e2 : List Event) → ((table : ℕ → ℕ → ℕ) → Agrees levels table → Agrees f1.levels table)
         → ShowsPrefix m p1 f1 levels e1 e2 → ShowsPrefix m p f levels e e2
-    prefix-after levels e2 closes pre = λ told h table agrees output low.
-        let a = first.goes told h table (closes table agrees) in
-        rw (a.lines output low) (pre (first.tells ∙ told) (first.holds told h) table agrees output (low-after output low))
+    prefix-after levels e2 closes pre = λ told table agrees h.
+        let a = first.goes told table (closes table agrees) h in
+        let b = pre (first.tells ∙ told) table agrees (first.holds told table (closes table agrees) h) in
+        record {
+          lines = λ output low. rw (a.lines output low) (b.lines output (low-after output low));
+          drops = λ w low. rw (a.drops w low)
+              (subst (λ (wires : Wires). wires.sheds + w < wires.shown → IsPrefixOf (drops_of w e2) (drops_of w e1 ++ decisions_left m table (items_in f1 p1) f1 (wires.sheds + w))) first.wires (b.drops w) low);
+        }
 
     pub plans-after : (levels : LevelTable) (e2 : List Event) → PlansPrefix f1 levels e1 e2 → PlansPrefix f levels e e2
     plans-after levels e2 pre =
@@ -68,10 +82,10 @@ module _ {O : Type 0} (m : Meaning O) (valid : O → Type 0) where
         }
 
     -- as much work is left in all as before
-    work-same : Tells p → HoldsItems m (items_in f p) f → (table : ℕ → ℕ → ℕ) → Agrees f1.levels table
+    work-same : Tells p → (table : ℕ → ℕ → ℕ) → Agrees f1.levels table → HoldsItems m table (items_in f p) f
         → work_at_last m table (items_in f p) f ≡ work_at_last m table (items_in f1 p1) f1
-    work-same told h table agrees =
-        sum-same (fed_at_last m table (items_in f p) f) (fed_at_last m table (items_in f1 p1) f1) (length f.seats.items) ((first.goes told h table agrees).fed)
+    work-same told table agrees h =
+        sum-same (fed_at_last m table (items_in f p) f) (fed_at_last m table (items_in f1 p1) f1) (length f.seats.items) ((first.goes told table agrees h).fed)
         ∙ ap (sum_below (fed_at_last m table (items_in f1 p1) f1)) (sym first.seats)
 
     pub costs-after : (f2 : Flow O) (before mid after : ℕ) → CostsFed m f f1 before mid → CostsFed m f1 f2 mid after → CostsFed m f f2 before after
@@ -79,20 +93,21 @@ module _ {O : Type 0} (m : Meaning O) (valid : O → Type 0) where
 
     pub costs-most-after : (levels : LevelTable) (before mid after : ℕ) → ((table : ℕ → ℕ → ℕ) → Agrees levels table → Agrees f1.levels table)
         → CostsFed m f f1 before mid → CostsAtMost m p1 f1 levels mid after → CostsAtMost m p f levels before after
-    costs-most-after levels before mid after closes a b = λ told h table agrees.
-        let same = work-same told h table (closes table agrees) in
-        let most = b (first.tells ∙ told) (first.holds told h) table agrees in
+    costs-most-after levels before mid after closes a b = λ told table agrees h.
+        let same = work-same told table (closes table agrees) h in
+        let most = b (first.tells ∙ told) table agrees (first.holds told table (closes table agrees) h) in
         omega (arith, a, same, most)
 
     pub too-much-after : (f2 : Flow O) (e2 : RunErr) → ((table : ℕ → ℕ → ℕ) → Agrees f2.levels table → Agrees f1.levels table) → TooMuchOnly m p1 f1 f2 e2 → TooMuchOnly m p f f2 e2
     too-much-after f2 e2 closes only =
         record {
           counted = only.counted;
-          turns = λ is told h table agrees. rw ((first.goes told h table (closes table agrees)).turns) (only.turns is (first.tells ∙ told) (first.holds told h) table agrees);
+          turns = λ is told table agrees h.
+              rw ((first.goes told table (closes table agrees) h).turns) (only.turns is (first.tells ∙ told) table agrees (first.holds told table (closes table agrees) h));
         }
 
-    pub none-strange-after : (e2 : RunErr) → NoneStrange m p1 f1 e2 → NoneStrange m p f e2
-    none-strange-after e2 none = λ told h. none (first.tells ∙ told) (first.holds told h)
+    pub none-strange-after : (levels : LevelTable) (e2 : RunErr) → ((table : ℕ → ℕ → ℕ) → Agrees levels table → Agrees f1.levels table) → NoneStrange m p1 f1 levels e2 → NoneStrange m p f levels e2
+    none-strange-after levels e2 closes none = λ told table agrees h. none (first.tells ∙ told) table agrees (first.holds told table (closes table agrees) h)
 
 -- an operator that waits for an arc isn't ready
 pub waits-not-ready : {O : Type 0} (f : Flow O) (actor : ℕ)

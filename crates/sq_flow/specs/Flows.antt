@@ -6,12 +6,13 @@ use Rattle.sq_item.specs.Things.{spread_all}
 use Rattle.sq_outside.specs.Disks.{Pages}
 use Rattle.sq_road.specs.Levels.{LevelTable, Agrees}
 use Rattle.sq_value.specs.Lists.{IsPrefixOf}
+use Rattle.sq_oper.specs.declared.outs.Decision.{Decision}
 use Rattle.sq_oper.specs.declared.outs.Event.{Event}
 use Rattle.sq_oper.specs.Given.{ThingsUpTo}
 use Rattle.sq_oper.specs.Streams.{things, IsSoundTuple}
 use Rattle.std.specs.declared.alloc.Global.{Global}
 use Rattle.std.specs.declared.collections.VecDeque.{VecDeque}
-use Rattle.sq_left.specs.Left.{World, Facts, coming, inputs, lost_in_all, fed_in_all}
+use Rattle.sq_left.specs.Left.{World, Facts, coming, inputs, still_dropped, lost_in_all, fed_in_all}
 use Rattle.sq_left.specs.Heads.{AllFine}
 use Rattle.sq_queue.specs.Faces.{face, size, items_on, Tells, Together}
 use Rattle.sq_flow.specs.declared.seats.Seat.{Seat}
@@ -21,9 +22,9 @@ use Rattle.sq_flow.specs.declared.errors.RunErr.TheVariants.{TooMuch}
 use Rattle.sq_flow.specs.declared.flow.Did.{Did}
 use Rattle.sq_flow.specs.declared.flow.Did.TheVariants.{Waits, Fed, Finished}
 use Rattle.sq_flow.specs.Takes.{NotStrange}
-use Rattle.sq_flow.specs.Wiring.{net_of, from_of, IsShaped}
-use Rattle.sq_flow.specs.Seats.{Meaning, rest_at, decides_at, lost_at, taken_at, place_at, done_at, holds_at, IsSeat}
-use Rattle.sq_flow.specs.Events.{bodies, lines_of, ShowsIn}
+use Rattle.sq_flow.specs.Wiring.{net_of, from_of, IsOwn, IsShaped}
+use Rattle.sq_flow.specs.Seats.{Meaning, rest_at, decides_at, lost_at, taken_at, place_at, done_at, holds_at, IsSeat, Owns}
+use Rattle.sq_flow.specs.Events.{bodies, lines_of, drops_of, ShowsIn}
 use Rattle.sq_flow.specs.Plans.{IsPlanned, plans_left, plans_of}
 
 abbrev pub tuples_at : Option (VecDeque Tuple Global) → List Tuple
@@ -68,18 +69,23 @@ pub record IsFlow {O : Type 0} (m : Meaning O) (valid : O → Type 0) (flow : Fl
   pub coming : (source : ℕ) → RiseFrom flow.clock (to_release flow source)
   pub few_sources : length flow.sources.items < 2 ^ 32
   pub levels : (flow.levels.closed ≡ flow.clock / flow.levels.epoch + 1) × (flow.clock < 2 ^ 40)
+  pub owned : (actor : ℕ) → holds_at (Owns m (IsOwn flow.wires actor) flow.levels) (slice_get flow.seats.items actor)
   pub counts : length flow.counts.items ≡ length flow.sources.items
   pub few_tuples : (source : ℕ) → slice_index flow.counts.items source + length (to_release flow source) ≤ 1000000
   pub over : flow.over ≡ true → (source : ℕ) → to_release flow source ≡ []
 
--- and where these items stand on the arcs
-pub record HoldsItems {O : Type 0} (m : Meaning O) (items : ℕ → List Item) (flow : Flow O) : Type 0 where
-  pub facts : (table : ℕ → ℕ → ℕ) → Agrees flow.levels table → Facts (net_of flow.wires) (world_of m table items flow) flow.wires.order.items
+-- and at one table of levels, where these items stand on the arcs
+pub record HoldsItems {O : Type 0} (m : Meaning O) (table : ℕ → ℕ → ℕ) (items : ℕ → List Item) (flow : Flow O) : Type 0 where
+  pub facts : Facts (net_of flow.wires) (world_of m table items flow) flow.wires.order.items
   pub queued : (arc : ℕ) → AllFine flow.clock (items arc)
 
 -- the tuples that an output will still show
 abbrev pub lines_left : {O : Type 0} → Meaning O → (ℕ → ℕ → ℕ) → (ℕ → List Item) → Flow O → ℕ → List Tuple
 lines_left m table items flow output = bodies (coming (net_of flow.wires) (world_of m table items flow) flow.wires.order.items (flow.wires.shown + output) 0)
+
+-- the batches that an operator will still drop
+abbrev pub decisions_left : {O : Type 0} → Meaning O → (ℕ → ℕ → ℕ) → (ℕ → List Item) → Flow O → ℕ → List Decision
+decisions_left m table items flow actor = still_dropped (net_of flow.wires) (world_of m table items flow) flow.wires.order.items actor
 
 -- how many tuples an operator will have been fed at the end, and how many of them it will have lost
 abbrev pub fed_at_last : {O : Type 0} → Meaning O → (ℕ → ℕ → ℕ) → (ℕ → List Item) → Flow O → ℕ → ℕ
@@ -108,6 +114,8 @@ turns_at_last m table items flow =
 pub record Goes {O : Type 0} (m : Meaning O) (table : ℕ → ℕ → ℕ) (items items' : ℕ → List Item) (flow flow' : Flow O) (events events' : List Event) : Type 0 where
   pub lines : (output : ℕ) → flow.wires.shown + output < length flow.seats.items
       → lines_of output events ++ lines_left m table items flow output ≡ lines_of output events' ++ lines_left m table items' flow' output
+  pub drops : (w : ℕ) → flow.wires.sheds + w < flow.wires.shown
+      → drops_of w events ++ decisions_left m table items flow (flow.wires.sheds + w) ≡ drops_of w events' ++ decisions_left m table items' flow' (flow.wires.sheds + w)
   pub fed : (actor : ℕ) → actor < length flow.seats.items → fed_at_last m table items flow actor ≡ fed_at_last m table items' flow' actor
   pub lost : (actor : ℕ) → actor < length flow.seats.items → lost_at_last m table items flow actor ≡ lost_at_last m table items' flow' actor
   pub turns : turns_at_last m table items flow ≡ turns_at_last m table items' flow'
@@ -132,23 +140,29 @@ pub record Stepped {O : Type 0} (m : Meaning O) (valid : O → Type 0) (was is :
   pub wires : flow'.wires ≡ flow.wires
   pub seats : length flow'.seats.items ≡ length flow.seats.items
   pub closes : (table : ℕ → ℕ → ℕ) → Agrees flow'.levels table → Agrees flow.levels table
-  pub shows : ShowsIn (length flow.seats.items - flow.wires.shown) 0 events events'
+  pub shows : ShowsIn (length flow.seats.items - flow.wires.shown) (flow.wires.shown - flow.wires.sheds) events events'
   pub planner : flow'.planner ≡ flow.planner
   pub planned : (all : ℕ → List ℕ) → IsPlanned all flow → IsPlanned all flow'
   pub plans : plans_of events ++ plans_left flow ≡ plans_of events' ++ plans_left flow'
-  pub holds : Tells was → HoldsItems m (items_in flow was) flow → HoldsItems m (items_in flow' is) flow'
-  pub goes : Tells was → HoldsItems m (items_in flow was) flow → (table : ℕ → ℕ → ℕ) → Agrees flow'.levels table
+  pub holds : Tells was → (table : ℕ → ℕ → ℕ) → Agrees flow'.levels table → HoldsItems m table (items_in flow was) flow → HoldsItems m table (items_in flow' is) flow'
+  pub goes : Tells was → (table : ℕ → ℕ → ℕ) → Agrees flow'.levels table → HoldsItems m table (items_in flow was) flow
       → Goes m table (items_in flow was) (items_in flow' is) flow flow' events events'
 
--- what a call that failed has shown is a beginning
+-- what was shown is a beginning of what was to be shown
+pub record Begins {O : Type 0} (m : Meaning O) (table : ℕ → ℕ → ℕ) (items : ℕ → List Item) (flow : Flow O) (events events' : List Event) : Type 0 where
+  pub lines : (output : ℕ) → flow.wires.shown + output < length flow.seats.items
+      → IsPrefixOf (lines_of output events') (lines_of output events ++ lines_left m table items flow output)
+  pub drops : (w : ℕ) → flow.wires.sheds + w < flow.wires.shown
+      → IsPrefixOf (drops_of w events') (drops_of w events ++ decisions_left m table items flow (flow.wires.sheds + w))
+
+-- what a call that failed has shown
 abbrev pub ShowsPrefix : {O : Type 0} → Meaning O → Option Pages → Flow O → LevelTable → List Event → List Event → Type 0
 ShowsPrefix m was flow levels events events' =
-    Tells was → HoldsItems m (items_in flow was) flow → (table : ℕ → ℕ → ℕ) → Agrees levels table → (output : ℕ) → flow.wires.shown + output < length flow.seats.items
-    → IsPrefixOf (lines_of output events') (lines_of output events ++ lines_left m table (items_in flow was) flow output)
+    Tells was → (table : ℕ → ℕ → ℕ) → Agrees levels table → HoldsItems m table (items_in flow was) flow → Begins m table (items_in flow was) flow events events'
 
 -- and it names no item, where the disk tells its pages
-abbrev pub NoneStrange : {O : Type 0} → Meaning O → Option Pages → Flow O → RunErr → Type 0
-NoneStrange m was flow e = Tells was → HoldsItems m (items_in flow was) flow → NotStrange e
+abbrev pub NoneStrange : {O : Type 0} → Meaning O → Option Pages → Flow O → LevelTable → RunErr → Type 0
+NoneStrange m was flow levels e = Tells was → (table : ℕ → ℕ → ℕ) → Agrees levels table → HoldsItems m table (items_in flow was) flow → NotStrange e
 
 -- a step that does something lowers the measure
 abbrev pub Lowers : Did → ℕ → ℕ → Type 0
@@ -163,11 +177,11 @@ CostsFed m flow flow' before after = after + taken_in_all m flow ≡ before + ta
 -- a call that failed raises them by no more than is still to be fed
 abbrev pub CostsAtMost : {O : Type 0} → Meaning O → Option Pages → Flow O → LevelTable → ℕ → ℕ → Type 0
 CostsAtMost m was flow levels before after =
-    Tells was → HoldsItems m (items_in flow was) flow → (table : ℕ → ℕ → ℕ) → Agrees levels table
+    Tells was → (table : ℕ → ℕ → ℕ) → Agrees levels table → HoldsItems m table (items_in flow was) flow
     → after + taken_in_all m flow ≤ before + work_at_last m table (items_in flow was) flow
 
 -- too much is taken only where as much is to be taken in all, and where the next item would bring the count past its end
 pub record TooMuchOnly {O : Type 0} (m : Meaning O) (was : Option Pages) (flow flow' : Flow O) (e : RunErr) : Type 0 where
   pub counted : e ≡ TooMuch → 2 ^ 62 ≤ flow'.taken + 2
-  pub turns : e ≡ TooMuch → Tells was → HoldsItems m (items_in flow was) flow → (table : ℕ → ℕ → ℕ) → Agrees flow'.levels table
+  pub turns : e ≡ TooMuch → Tells was → (table : ℕ → ℕ → ℕ) → Agrees flow'.levels table → HoldsItems m table (items_in flow was) flow
       → 2 ^ 62 ≤ turns_at_last m table (items_in flow was) flow

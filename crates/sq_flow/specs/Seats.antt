@@ -1,5 +1,6 @@
 -- Operators in their seats: an operator with what the run keeps of what it was fed.
 use Rattle.std.specs.Prelude.{◌≡◌, ℕ, ◌+◌, ◌≤◌, Bool, true, false, not, List, [], ◌++◌, Option, Some, None, is_some, if◌then◌else◌}
+use Rattle.std.specs.List.{AllByRecursion}
 use Rattle.sq_value.specs.declared.Value.{Value}
 use Rattle.sq_item.specs.Things.{Thing}
 use Rattle.sq_oper.specs.declared.tally.Place.{Place}
@@ -65,6 +66,12 @@ pub record IsSeat {O : Type 0} (m : Meaning O) (valid : O → Type 0) (takes : �
   pub marks : (port : ℕ) → takes port ≡ true → m.takes_marks seat.op port ≡ true
   pub tuples : (port : ℕ) (fields : List Value) → fits port fields ≡ true → m.fits seat.op port fields ≡ true
   pub reads : seat.tally.running ≡ true → m.reads seat.op epoch ≡ true
+
+-- as long as the operator runs all that it may still decide is its own
+abbrev pub Owns : {O : Type 0} → Meaning O → (Decision → Type 0) → LevelTable → Seat O → Type 0
+Owns m own levels seat =
+    m.running seat.op ≡ true → (table : ℕ → ℕ → ℕ) → Agrees levels table → (future : List Entry) → IsFuture (m.takes_marks seat.op) (m.fits seat.op) (m.place seat.op) future
+    → AllByRecursion own (m.decides seat.op table future)
 
 -- what a feed does to a seat: it gives these items and drops these batches
 pub record FedSeat {O : Type 0} (m : Meaning O) (valid : O → Type 0) (levels : LevelTable) (port : ℕ) (item : Item) (outs : List (ℕ × Item)) (drops : List Decision)

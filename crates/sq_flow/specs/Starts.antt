@@ -1,7 +1,11 @@
 -- Seats to which nothing was fed.
 use Rattle.std.specs.Prelude.{◌≡◌, ℕ, Bool, true, false, List, [], Option, None, Vec}
 use Rattle.sq_value.specs.declared.Value.{Value}
+use Rattle.std.specs.List.{AllByRecursion}
 use Rattle.sq_oper.specs.declared.tally.Place.TheVariants.{Start}
+use Rattle.sq_oper.specs.declared.outs.Decision.{Decision}
+use Rattle.sq_oper.specs.Entries.{Entry}
+use Rattle.sq_oper.specs.Order.{IsFuture}
 use Rattle.std.specs.declared.alloc.Global.{Global}
 use Rattle.std.specs.declared.collections.VecDeque.{VecDeque}
 use Rattle.sq_value.specs.declared.Tuple.{Tuple}
@@ -14,8 +18,9 @@ use Rattle.sq_flow.specs.declared.flow.Flow.{Flow}
 use Rattle.sq_flow.specs.declared.seats.Seat.{Seat}
 use Rattle.sq_flow.specs.Seats.{Meaning}
 
--- the operator is new, what comes on its arcs may come to it, and levels of epochs of so many ticks may be read
-pub record IsNewSeat {O : Type 0} (m : Meaning O) (valid : O → Type 0) (takes : ℕ → Bool) (fits : ℕ → List Value → Bool) (epoch : ℕ) (seat : Seat O) : Type 0 where
+-- the operator is new, what comes on its arcs may come to it, all that it may decide is its own, and levels of epochs of so many
+-- ticks may be read
+pub record IsNewSeat {O : Type 0} (m : Meaning O) (valid : O → Type 0) (takes : ℕ → Bool) (fits : ℕ → List Value → Bool) (own : Decision → Type 0) (epoch : ℕ) (seat : Seat O) : Type 0 where
   pub is_valid : valid seat.op
   pub running : m.running seat.op ≡ true
   pub place : m.place seat.op ≡ Start
@@ -27,6 +32,7 @@ pub record IsNewSeat {O : Type 0} (m : Meaning O) (valid : O → Type 0) (takes 
   pub marks : (port : ℕ) → takes port ≡ true → m.takes_marks seat.op port ≡ true
   pub tuples : (port : ℕ) (fields : List Value) → fits port fields ≡ true → m.fits seat.op port fields ≡ true
   pub reads : m.reads seat.op epoch ≡ true
+  pub owns : (table : ℕ → ℕ → ℕ) (future : List Entry) → IsFuture (m.takes_marks seat.op) (m.fits seat.op) Start future → AllByRecursion own (m.decides seat.op table future)
 
 -- a flow of these parts that has released nothing
 pub record IsNewFlow {O : Type 0} (wires : Wires) (seats : Vec (Seat O) Global) (sources : Vec (VecDeque Tuple Global) Global) (planner : Setting) (levels : LevelTable) (flow : Flow O) : Type 0 where

@@ -6,6 +6,7 @@ use Rattle.sq_item.specs.declared.Item.{Item}
 use Rattle.sq_item.specs.Things.{Thing}
 use Rattle.sq_item.specs.Sound.{IsSound}
 use Rattle.sq_oper.specs.Given.{given}
+use Rattle.sq_oper.specs.declared.outs.Decision.{Decision}
 use Rattle.sq_left.specs.Left.{Net, known, IsWired}
 use Rattle.sq_sched.specs.Ready.{contains}
 use Rattle.sq_flow.specs.declared.wires.Arc.{Arc}
@@ -95,11 +96,16 @@ abbrev pub times_in : ℕ → List ℕ → ℕ
 times_in n [] = 0
 times_in n (x ∷ xs) = (if x == n then 1 else 0) + times_in n xs
 
+-- a decision is one of this operator: operators `sheds`, `sheds` + 1, .. below `shown` are the drops 0, 1, ..
+abbrev pub IsOwn : Wires → ℕ → Decision → Type 0
+IsOwn wires actor d = (wires.sheds + d.drop ≡ actor) × (actor < wires.shown)
+
 -- how many actors there are, and how the arcs lead: each arc stands once among those that come from where it comes from
 pub record IsShaped (wires : Wires) (ops : ℕ) : Type 0 where
   pub replay_is : wires.replay ≡ ops
   pub few : ops < 2 ^ 31
   pub few_arcs : length wires.arcs.items < 2 ^ 32
+  pub sheds_in : wires.sheds ≤ wires.shown
   pub shown_in : wires.shown ≤ ops
   pub inputs_len : length wires.inputs.items ≡ ops
   pub readers_len : length wires.readers.items ≡ ops + 1

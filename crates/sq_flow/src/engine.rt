@@ -61,7 +61,7 @@ impl<O: Operator + Drop> Flow<O> {
     ghost use Rattle.sq_flow.specs.Starts.{IsNewSeat, IsNewFlow};
     ghost use Rattle.sq_flow.specs.Plans.{IsPlanned, arrivals, last_arrival, plans_left};
     ghost use Rattle.sq_flow.specs.Seats.{holds_at};
-    ghost use Rattle.sq_flow.specs.Wiring.{net_of, IsShaped};
+    ghost use Rattle.sq_flow.specs.Wiring.{net_of, IsOwn, IsShaped};
 
     /// A flow that has released nothing yet.
     fn new(
@@ -74,7 +74,7 @@ impl<O: Operator + Drop> Flow<O> {
         frames: u32,
     ) -> Result<Flow<O>, AllocError>
         requires shaped { IsShaped wires (length seats.items) }
-        requires seats { (actor : ℕ) → holds_at (IsNewSeat (record { rest = O.rest; decides = O.decides; lost = O.lost; place = O.place; taken = O.taken; running = O.running; takes_marks = O.takes_marks; fits = O.fits; reads = O.reads }) O.valid ((net_of wires).takes actor) ((net_of wires).fits actor) levels.epoch) (slice_get seats.items actor) }
+        requires seats { (actor : ℕ) → holds_at (IsNewSeat (record { rest = O.rest; decides = O.decides; lost = O.lost; place = O.place; taken = O.taken; running = O.running; takes_marks = O.takes_marks; fits = O.fits; reads = O.reads }) O.valid ((net_of wires).takes actor) ((net_of wires).fits actor) (IsOwn wires actor) levels.epoch) (slice_get seats.items actor) }
         requires coming { (source : ℕ) → RiseFrom 0 (tuples_at (slice_get sources.items source)) }
         requires few { length sources.items < 2 ^ 32 }
         requires few_tuples { (source : ℕ) → length (tuples_at (slice_get sources.items source)) ≤ 1000000 }
@@ -105,13 +105,13 @@ impl<O: Operator + Drop> Flow<O> {
 }
 
 impl<O: Operator + Drop> Engine<O> {
-    ghost use Rattle.sq_flow.specs.Flows.{IsFlow, Stepped, ShowsPrefix, NoneStrange, measure_of, HoldsItems, items_in, lines_left, fed_at_last, RiseFrom, tuples_at, CostsFed, CostsAtMost, TooMuchOnly, lost_at_last, work_at_last, taken_in_all};
+    ghost use Rattle.sq_flow.specs.Flows.{IsFlow, Stepped, ShowsPrefix, NoneStrange, measure_of, HoldsItems, items_in, lines_left, decisions_left, fed_at_last, RiseFrom, tuples_at, CostsFed, CostsAtMost, TooMuchOnly, lost_at_last, work_at_last, taken_in_all};
     ghost use Rattle.sq_flow.specs.Plans.{PlansPrefix, IsPlanned, arrivals, last_arrival, plans_left};
     ghost use Rattle.sq_flow.specs.Readiness.{IsReady, FallsBy};
     ghost use Rattle.sq_flow.specs.Engines.{IsEngine, HasRoom, Looked, AllDone, newly_ready, listed_after, readers_of};
     ghost use Rattle.sq_flow.specs.Seats.{taken_at, lost_at, holds_at};
     ghost use Rattle.sq_flow.specs.Starts.{IsNewSeat, IsNewFlow};
-    ghost use Rattle.sq_flow.specs.Wiring.{net_of, IsShaped};
+    ghost use Rattle.sq_flow.specs.Wiring.{net_of, IsOwn, IsShaped};
 
     /// An engine over operators that nothing was fed to, with what each source is to release, in the order of times. It has
     /// released nothing yet; the ready actors are listed in ascending number. An error says that memory ran out.
@@ -125,7 +125,7 @@ impl<O: Operator + Drop> Engine<O> {
         frames: u32,
     ) -> Result<Engine<O>, AllocError>
         requires shaped { IsShaped wires (length seats.items) }
-        requires seats { (actor : ℕ) → holds_at (IsNewSeat (record { rest = O.rest; decides = O.decides; lost = O.lost; place = O.place; taken = O.taken; running = O.running; takes_marks = O.takes_marks; fits = O.fits; reads = O.reads }) O.valid ((net_of wires).takes actor) ((net_of wires).fits actor) levels.epoch) (slice_get seats.items actor) }
+        requires seats { (actor : ℕ) → holds_at (IsNewSeat (record { rest = O.rest; decides = O.decides; lost = O.lost; place = O.place; taken = O.taken; running = O.running; takes_marks = O.takes_marks; fits = O.fits; reads = O.reads }) O.valid ((net_of wires).takes actor) ((net_of wires).fits actor) (IsOwn wires actor) levels.epoch) (slice_get seats.items actor) }
         requires coming { (source : ℕ) → RiseFrom 0 (tuples_at (slice_get sources.items source)) }
         requires few { length sources.items < 2 ^ 32 }
         requires few_tuples { (source : ℕ) → length (tuples_at (slice_get sources.items source)) ≤ 1000000 }
@@ -209,7 +209,7 @@ impl<O: Operator + Drop> Engine<O> {
         ensures order { OnOk result (self.new.ready.list ≡ listed_after self.new.flow self.old.ready.list pick.actor) }
         ensures prefix { OnErr result (ShowsPrefix (record { rest = O.rest; decides = O.decides; lost = O.lost; place = O.place; taken = O.taken; running = O.running; takes_marks = O.takes_marks; fits = O.fits; reads = O.reads }) (D.pages disk.old) self.old.flow self.new.flow.levels events.old.items events.new.items) }
         ensures plans { OnErr result (PlansPrefix self.old.flow self.new.flow.levels events.old.items events.new.items) }
-        ensures strange { IfErr result (λ e. NoneStrange (record { rest = O.rest; decides = O.decides; lost = O.lost; place = O.place; taken = O.taken; running = O.running; takes_marks = O.takes_marks; fits = O.fits; reads = O.reads }) (D.pages disk.old) self.old.flow e) }
+        ensures strange { IfErr result (λ e. NoneStrange (record { rest = O.rest; decides = O.decides; lost = O.lost; place = O.place; taken = O.taken; running = O.running; takes_marks = O.takes_marks; fits = O.fits; reads = O.reads }) (D.pages disk.old) self.old.flow self.new.flow.levels e) }
         ensures failed { OnErr result (self.new.failed ≡ true) }
         ensures closes { (table : ℕ → ℕ → ℕ) → Agrees self.new.flow.levels table → Agrees self.old.flow.levels table }
         ensures cost { OnOk result (CostsFed (record { rest = O.rest; decides = O.decides; lost = O.lost; place = O.place; taken = O.taken; running = O.running; takes_marks = O.takes_marks; fits = O.fits; reads = O.reads }) self.old.flow self.new.flow steps.old steps.new) }
@@ -280,17 +280,19 @@ impl<O: Operator + Drop> Engine<O> {
         }
     }
 
-    /// Where all actors are finished nothing is left of any output, and each operator was fed all that it is fed in all.
+    /// Where all actors are finished nothing is left of any output or drop, and each operator was fed all that it is fed in all.
     pub fn nothing_left(&self)
         requires engine { IsFlow (record { rest = O.rest; decides = O.decides; lost = O.lost; place = O.place; taken = O.taken; running = O.running; takes_marks = O.takes_marks; fits = O.fits; reads = O.reads }) O.valid self.now.flow }
         requires done { AllDone self.now.flow }
-        ensures lines { (pages : Option Pages) (table : ℕ → ℕ → ℕ) → HoldsItems (record { rest = O.rest; decides = O.decides; lost = O.lost; place = O.place; taken = O.taken; running = O.running; takes_marks = O.takes_marks; fits = O.fits; reads = O.reads }) (items_in self.now.flow pages) self.now.flow → Agrees self.now.flow.levels table
+        ensures lines { (pages : Option Pages) (table : ℕ → ℕ → ℕ) → HoldsItems (record { rest = O.rest; decides = O.decides; lost = O.lost; place = O.place; taken = O.taken; running = O.running; takes_marks = O.takes_marks; fits = O.fits; reads = O.reads }) table (items_in self.now.flow pages) self.now.flow
             → (output : ℕ) → self.now.flow.wires.shown + output < length self.now.flow.seats.items → lines_left (record { rest = O.rest; decides = O.decides; lost = O.lost; place = O.place; taken = O.taken; running = O.running; takes_marks = O.takes_marks; fits = O.fits; reads = O.reads }) table (items_in self.now.flow pages) self.now.flow output ≡ [] }
-        ensures fed { (pages : Option Pages) (table : ℕ → ℕ → ℕ) → HoldsItems (record { rest = O.rest; decides = O.decides; lost = O.lost; place = O.place; taken = O.taken; running = O.running; takes_marks = O.takes_marks; fits = O.fits; reads = O.reads }) (items_in self.now.flow pages) self.now.flow → Agrees self.now.flow.levels table
+        ensures drops { (pages : Option Pages) (table : ℕ → ℕ → ℕ) → HoldsItems (record { rest = O.rest; decides = O.decides; lost = O.lost; place = O.place; taken = O.taken; running = O.running; takes_marks = O.takes_marks; fits = O.fits; reads = O.reads }) table (items_in self.now.flow pages) self.now.flow
+            → (actor : ℕ) → actor < length self.now.flow.seats.items → decisions_left (record { rest = O.rest; decides = O.decides; lost = O.lost; place = O.place; taken = O.taken; running = O.running; takes_marks = O.takes_marks; fits = O.fits; reads = O.reads }) table (items_in self.now.flow pages) self.now.flow actor ≡ [] }
+        ensures fed { (pages : Option Pages) (table : ℕ → ℕ → ℕ) → HoldsItems (record { rest = O.rest; decides = O.decides; lost = O.lost; place = O.place; taken = O.taken; running = O.running; takes_marks = O.takes_marks; fits = O.fits; reads = O.reads }) table (items_in self.now.flow pages) self.now.flow
             → (actor : ℕ) → actor < length self.now.flow.seats.items → fed_at_last (record { rest = O.rest; decides = O.decides; lost = O.lost; place = O.place; taken = O.taken; running = O.running; takes_marks = O.takes_marks; fits = O.fits; reads = O.reads }) table (items_in self.now.flow pages) self.now.flow actor ≡ taken_at (record { rest = O.rest; decides = O.decides; lost = O.lost; place = O.place; taken = O.taken; running = O.running; takes_marks = O.takes_marks; fits = O.fits; reads = O.reads }) (slice_get self.now.flow.seats.items actor) }
-        ensures lost { (pages : Option Pages) (table : ℕ → ℕ → ℕ) → HoldsItems (record { rest = O.rest; decides = O.decides; lost = O.lost; place = O.place; taken = O.taken; running = O.running; takes_marks = O.takes_marks; fits = O.fits; reads = O.reads }) (items_in self.now.flow pages) self.now.flow → Agrees self.now.flow.levels table
+        ensures lost { (pages : Option Pages) (table : ℕ → ℕ → ℕ) → HoldsItems (record { rest = O.rest; decides = O.decides; lost = O.lost; place = O.place; taken = O.taken; running = O.running; takes_marks = O.takes_marks; fits = O.fits; reads = O.reads }) table (items_in self.now.flow pages) self.now.flow
             → (actor : ℕ) → actor < length self.now.flow.seats.items → lost_at_last (record { rest = O.rest; decides = O.decides; lost = O.lost; place = O.place; taken = O.taken; running = O.running; takes_marks = O.takes_marks; fits = O.fits; reads = O.reads }) table (items_in self.now.flow pages) self.now.flow actor ≡ lost_at (record { rest = O.rest; decides = O.decides; lost = O.lost; place = O.place; taken = O.taken; running = O.running; takes_marks = O.takes_marks; fits = O.fits; reads = O.reads }) (slice_get self.now.flow.seats.items actor) [] }
-        ensures work { (pages : Option Pages) (table : ℕ → ℕ → ℕ) → HoldsItems (record { rest = O.rest; decides = O.decides; lost = O.lost; place = O.place; taken = O.taken; running = O.running; takes_marks = O.takes_marks; fits = O.fits; reads = O.reads }) (items_in self.now.flow pages) self.now.flow → Agrees self.now.flow.levels table
+        ensures work { (pages : Option Pages) (table : ℕ → ℕ → ℕ) → HoldsItems (record { rest = O.rest; decides = O.decides; lost = O.lost; place = O.place; taken = O.taken; running = O.running; takes_marks = O.takes_marks; fits = O.fits; reads = O.reads }) table (items_in self.now.flow pages) self.now.flow
             → work_at_last (record { rest = O.rest; decides = O.decides; lost = O.lost; place = O.place; taken = O.taken; running = O.running; takes_marks = O.takes_marks; fits = O.fits; reads = O.reads }) table (items_in self.now.flow pages) self.now.flow ≡ taken_in_all (record { rest = O.rest; decides = O.decides; lost = O.lost; place = O.place; taken = O.taken; running = O.running; takes_marks = O.takes_marks; fits = O.fits; reads = O.reads }) self.now.flow }
     {
         let _engine = self;

@@ -30,7 +30,7 @@ impl<O: Operator + Drop> Engine<O> {
         ensures engine { OnOk result (IsEngine (record { rest = O.rest; decides = O.decides; lost = O.lost; place = O.place; taken = O.taken; running = O.running; takes_marks = O.takes_marks; fits = O.fits; reads = O.reads }) O.valid self.new) }
         ensures prefix { OnErr result (ShowsPrefix (record { rest = O.rest; decides = O.decides; lost = O.lost; place = O.place; taken = O.taken; running = O.running; takes_marks = O.takes_marks; fits = O.fits; reads = O.reads }) (D.pages disk.old) self.old.flow self.new.flow.levels events.old.items events.new.items) }
         ensures plans { OnErr result (PlansPrefix self.old.flow self.new.flow.levels events.old.items events.new.items) }
-        ensures strange { IfErr result (λ e. NoneStrange (record { rest = O.rest; decides = O.decides; lost = O.lost; place = O.place; taken = O.taken; running = O.running; takes_marks = O.takes_marks; fits = O.fits; reads = O.reads }) (D.pages disk.old) self.old.flow e) }
+        ensures strange { IfErr result (λ e. NoneStrange (record { rest = O.rest; decides = O.decides; lost = O.lost; place = O.place; taken = O.taken; running = O.running; takes_marks = O.takes_marks; fits = O.fits; reads = O.reads }) (D.pages disk.old) self.old.flow self.new.flow.levels e) }
         ensures closes { (table : ℕ → ℕ → ℕ) → Agrees self.new.flow.levels table → Agrees self.old.flow.levels table }
     {
         if pick.train == 0 || !self.ready.has(pick.actor) {
@@ -57,7 +57,7 @@ impl<O: Operator + Drop> Engine<O> {
         ensures engine { OnOk result (IsEngine (record { rest = O.rest; decides = O.decides; lost = O.lost; place = O.place; taken = O.taken; running = O.running; takes_marks = O.takes_marks; fits = O.fits; reads = O.reads }) O.valid self.new) }
         ensures prefix { OnErr result (ShowsPrefix (record { rest = O.rest; decides = O.decides; lost = O.lost; place = O.place; taken = O.taken; running = O.running; takes_marks = O.takes_marks; fits = O.fits; reads = O.reads }) (D.pages disk.old) self.old.flow self.new.flow.levels events.old.items events.new.items) }
         ensures plans { OnErr result (PlansPrefix self.old.flow self.new.flow.levels events.old.items events.new.items) }
-        ensures strange { IfErr result (λ e. NoneStrange (record { rest = O.rest; decides = O.decides; lost = O.lost; place = O.place; taken = O.taken; running = O.running; takes_marks = O.takes_marks; fits = O.fits; reads = O.reads }) (D.pages disk.old) self.old.flow e) }
+        ensures strange { IfErr result (λ e. NoneStrange (record { rest = O.rest; decides = O.decides; lost = O.lost; place = O.place; taken = O.taken; running = O.running; takes_marks = O.takes_marks; fits = O.fits; reads = O.reads }) (D.pages disk.old) self.old.flow self.new.flow.levels e) }
     {
         for pick in picks {
             match self.pick(*pick, disk, events, steps) {

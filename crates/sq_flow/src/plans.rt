@@ -5,7 +5,7 @@ ghost use Rattle.std.specs.List.{flat_map, range_with_len};
 ghost use Rattle.sq_road.specs.Levels.{level_of, Agrees};
 ghost use Rattle.sq_plan.specs.Flows.{AreCounts};
 ghost use Rattle.sq_plan.specs.Shown.{listed, level_for, shown_after, Ended};
-ghost use Rattle.sq_flow.specs.Events.{lines_of, ShowsIn};
+ghost use Rattle.sq_flow.specs.Events.{lines_of, drops_of, ShowsIn};
 ghost use Rattle.sq_flow.specs.Plans.{plans_of};
 
 use sq_oper::Event;
@@ -30,6 +30,7 @@ fn show_plan(plan: Option<Shown>, events: &mut Vec<Event>) -> Result<(), AllocEr
     ensures plans { OnOk result (plans_of events.new.items ≡ plans_of events.old.items ++ listed plan) }
     ensures err { OnErr result (events.new.items ≡ events.old.items) }
     ensures lines { (o : ℕ) → lines_of o events.new.items ≡ lines_of o events.old.items }
+    ensures drops { (w : ℕ) → drops_of w events.new.items ≡ drops_of w events.old.items }
     ensures within { (outputs drops : ℕ) → ShowsIn outputs drops events.old.items events.new.items }
 {
     if let Some(shown) = plan {
@@ -67,6 +68,7 @@ pub(crate) fn close_before(
         → plans_of events.new.items ≡ plans_of events.old.items ++ flat_map (shown_after planner.old all) (range_with_len (levels.old.closed - 1) (next - (levels.old.closed - 1)))) }
     ensures err { OnErr result (plans_of events.new.items ≡ plans_of events.old.items) }
     ensures lines { (o : ℕ) → lines_of o events.new.items ≡ lines_of o events.old.items }
+    ensures drops { (w : ℕ) → drops_of w events.new.items ≡ drops_of w events.old.items }
     ensures within { (outputs drops : ℕ) → ShowsIn outputs drops events.old.items events.new.items }
 {
     if next + 1 == levels.closed() {

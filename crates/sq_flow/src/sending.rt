@@ -7,15 +7,16 @@ ghost use Rattle.sq_item.specs.Sound.{IsSound};
 ghost use Rattle.sq_item.specs.Things.{spread};
 ghost use Rattle.sq_oper.specs.Given.{given, ItemsSound};
 ghost use Rattle.sq_queue.specs.Faces.{face, size, Together};
-ghost use Rattle.sq_flow.specs.Wiring.{arcs_from, times_in, AllOutsFine, pushed_by};
+ghost use Rattle.sq_flow.specs.Wiring.{arcs_from, times_in, AllOutsFine, pushed_by, IsOwn};
+ghost use Rattle.std.specs.List.{AllByRecursion};
 ghost use Rattle.sq_flow.specs.Sends.{many, sent_to, comes_from, Pushes};
-ghost use Rattle.sq_flow.specs.Events.{bodies, lines_of, line_of, ShowsIn};
+ghost use Rattle.sq_flow.specs.Events.{bodies, lines_of, line_of, drops_of, of_drop, ShowsIn};
 ghost use Rattle.sq_flow.specs.Plans.{plans_of};
 
 use crate::errors::RunErr;
 use crate::wires::Wires;
 use sq_item::Item;
-use sq_oper::{Event, Outs};
+use sq_oper::{Decision, Event, Outs};
 use sq_outside::PageDisk;
 use sq_queue::{QueueErr, Queues};
 use sq_value::Tuple;
@@ -92,7 +93,8 @@ pub(crate) fn send_all<D: PageDisk>(
 fn show_item(output: u32, item: Item, events: &mut Vec<Event>) -> Result<(), AllocError>
     ensures shown { OnOk result ((o : ℕ) → lines_of o events.new.items ≡ lines_of o events.old.items ++ (if output == o then bodies (spread item) else [])) }
     ensures err { OnErr result (events.new.items ≡ events.old.items) }
-    ensures below { (outputs : ℕ) → output < outputs → ShowsIn outputs 0 events.old.items events.new.items }
+    ensures below { (outputs drops : ℕ) → output < outputs → ShowsIn outputs drops events.old.items events.new.items }
+    ensures drops { (w : ℕ) → drops_of w events.new.items ≡ drops_of w events.old.items }
     ensures plans { plans_of events.new.items ≡ plans_of events.old.items }
 {
     let time = item.time;
@@ -108,7 +110,8 @@ fn show_item(output: u32, item: Item, events: &mut Vec<Event>) -> Result<(), All
 fn show_one(output: u32, port: u32, item: Item, events: &mut Vec<Event>) -> Result<(), AllocError>
     ensures shown { OnOk result ((o : ℕ) → lines_of o events.new.items ≡ lines_of o events.old.items ++ (if output == o then bodies (given 0 (record { 0 = port; 1 = item } ∷ [])) else [])) }
     ensures err { OnErr result (events.new.items ≡ events.old.items) }
-    ensures below { (outputs : ℕ) → output < outputs → ShowsIn outputs 0 events.old.items events.new.items }
+    ensures below { (outputs drops : ℕ) → output < outputs → ShowsIn outputs drops events.old.items events.new.items }
+    ensures drops { (w : ℕ) → drops_of w events.new.items ≡ drops_of w events.old.items }
     ensures plans { plans_of events.new.items ≡ plans_of events.old.items }
 {
     if port == 0 {
@@ -126,7 +129,8 @@ pub(crate) fn show_all(
     ensures shown { OnOk result ((o : ℕ) → lines_of o events.new.items ≡ lines_of o events.old.items ++ (if output == o then bodies (given 0 items.old.items) else [])) }
     ensures prefix { OnErr result ((o : ℕ) → IsPrefixOf (lines_of o events.new.items) (lines_of o events.old.items ++ (if output == o then bodies (given 0 items.old.items) else []))) }
     ensures none { OnOk result (items.new.items ≡ []) }
-    ensures below { (outputs : ℕ) → output < outputs → ShowsIn outputs 0 events.old.items events.new.items }
+    ensures below { (outputs drops : ℕ) → output < outputs → ShowsIn outputs drops events.old.items events.new.items }
+    ensures drops { (w : ℕ) → drops_of w events.new.items ≡ drops_of w events.old.items }
     ensures plans { plans_of events.new.items ≡ plans_of events.old.items }
 {
     for (port, item) in items.drain(..) {
@@ -135,7 +139,37 @@ pub(crate) fn show_all(
     Ok(())
 }
 
-/// What an output gives is shown; what another actor gives goes to the arcs that come from it. Nothing stays in `outs` but its memory.
+/// Shows a decision.
+fn show_drop(decision: Decision, events: &mut Vec<Event>) -> Result<(), AllocError>
+    ensures shown { OnOk result ((w : ℕ) → drops_of w events.new.items ≡ drops_of w events.old.items ++ of_drop w (decision ∷ [])) }
+    ensures err { OnErr result (events.new.items ≡ events.old.items) }
+    ensures lines { (o : ℕ) → lines_of o events.new.items ≡ lines_of o events.old.items }
+    ensures plans { plans_of events.new.items ≡ plans_of events.old.items }
+    ensures below { (outputs drops : ℕ) → decision.drop < drops → ShowsIn outputs drops events.old.items events.new.items }
+{
+    events.push(Event::Dropped(decision))?;
+    Ok(())
+}
+
+/// Shows what an actor decides.
+pub(crate) fn show_drops(
+    decisions: &mut Vec<Decision>,
+    events: &mut Vec<Event>,
+) -> Result<(), AllocError>
+    ensures shown { OnOk result ((w : ℕ) → drops_of w events.new.items ≡ drops_of w events.old.items ++ of_drop w decisions.old.items) }
+    ensures prefix { OnErr result ((w : ℕ) → IsPrefixOf (drops_of w events.new.items) (drops_of w events.old.items ++ of_drop w decisions.old.items)) }
+    ensures none { OnOk result (decisions.new.items ≡ []) }
+    ensures lines { (o : ℕ) → lines_of o events.new.items ≡ lines_of o events.old.items }
+    ensures plans { plans_of events.new.items ≡ plans_of events.old.items }
+    ensures below { (outputs drops : ℕ) → AllByRecursion (λ d. d.drop < drops) decisions.old.items → ShowsIn outputs drops events.old.items events.new.items }
+{
+    for decision in decisions.drain(..) {
+        show_drop(decision, events)?;
+    }
+    Ok(())
+}
+
+/// What an actor decides is shown. What an output gives is shown; what another actor gives goes to the arcs that come from it. Nothing stays in `outs` but its memory.
 pub(crate) fn give<D: PageDisk>(
     wires: &Wires,
     queues: &mut Queues,
@@ -152,13 +186,16 @@ pub(crate) fn give<D: PageDisk>(
     requires together { Together queues.old (D.pages disk.old) }
     ensures sent { OnOk result (Pushes queues.old queues.new (D.pages disk.old) (D.pages disk.new) (sent_to wires.now actor outs.old.items.items) (λ time. AllOutsFine time outs.old.items.items) (comes_from wires.now actor)) }
     ensures shown { OnOk result ((o : ℕ) → lines_of o events.new.items ≡ lines_of o events.old.items ++ bodies (pushed_by actor outs.old.items.items (wires.now.shown + o) 0)) }
+    ensures drops { OnOk result ((w : ℕ) → drops_of w events.new.items ≡ drops_of w events.old.items ++ of_drop w outs.old.drops.items) }
     ensures none { OnOk result ((outs.new.items.items ≡ []) × (outs.new.drops.items ≡ [])) }
     ensures prefix { OnErr result ((o : ℕ) → IsPrefixOf (lines_of o events.new.items) (lines_of o events.old.items ++ bodies (pushed_by actor outs.old.items.items (wires.now.shown + o) 0))) }
-    ensures below { (outputs : ℕ) → actor < wires.now.shown + outputs → ShowsIn outputs 0 events.old.items events.new.items }
+    ensures below { (outputs : ℕ) → actor < wires.now.shown + outputs → AllByRecursion (IsOwn wires.now actor) outs.old.drops.items
+        → ShowsIn outputs (wires.now.shown - wires.now.sheds) events.old.items events.new.items }
     ensures plans { plans_of events.new.items ≡ plans_of events.old.items }
+    ensures drops_prefix { OnErr result ((w : ℕ) → IsPrefixOf (drops_of w events.new.items) (drops_of w events.old.items ++ of_drop w outs.old.drops.items)) }
     ensures memory { IfErr result (λ e. e ≡ RunErr.Memory) }
 {
-    outs.drops.clear();
+    show_drops(&mut outs.drops, events)?;
     if wires.shown <= actor {
         show_all(actor - wires.shown, &mut outs.items, events)?;
     } else {

@@ -109,6 +109,10 @@ module _ (n : Network) (sound : IsSound n) where
       let many = length-range_with_len 0 (length n.wires.outputs) in
       omega (arith, few, share, all, many, outputs-low)
 
+  -- each drop point has an output of its own
+  pub few-points : length (points_of n) ≤ 32
+  few-points = (let few = few-places in let same = length-mapped (point_at n.wires (windows_of n) n.batch) places in omega (arith, few, same))
+
   boxes-low : length n.wires.boxes ≤ 128
   boxes-low = let low = at_most 0 128 (length n.boxes) (counts n sound.within).1 in let same = boxes_count n sound in omega (arith, low, same)
 
@@ -147,7 +151,7 @@ module _ (n : Network) (sound : IsSound n) where
       acyclic = sound.acyclic;
       tolls = tolls-low n.boxes (nodes_within n sound.within);
       paired = sym (length-mapped (λ (p : DropPoint). losses_below n p.outputs) (points_of n));
-      few_points = (let few = few-places in let same = length-mapped (point_at n.wires (windows_of n) n.batch) places in omega (arith, few, same));
+      few_points = (let few = few-points in omega (arith, few));
       few_below = All-from_recursion (λ (p : DropPoint). length p.boxes ≤ 128) (points_of n)
           (All-mapped (λ (p : DropPoint). length p.boxes ≤ 128) (point_at n.wires (windows_of n) n.batch) places (All-every (λ p. length (boxes_below n.wires (windows_of n) p) ≤ 128) below-low places));
       in_order = All-from_recursion IsNonDecreasing (map (λ p. losses_below n p.outputs) (points_of n))

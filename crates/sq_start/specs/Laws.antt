@@ -1,54 +1,51 @@
--- What is left of a new engine.
-use Rattle.std.specs.Prelude.{◌≡◌, ◌≢◌, ℕ, ◌+◌, true, List, [], map, length, Some, slice_get}
-use Rattle.std.specs.List.{All, sum_by}
-use Rattle.sq_value.specs.declared.Tuple.{Tuple}
-use Rattle.sq_value.specs.Values.{IsStream}
-use Rattle.sq_oper.specs.Order.{merge, AllFit}
+-- What is left of a new engine of a replay, at the levels of the replay.
+use Rattle.std.specs.Prelude.{◌≡◌, ℕ, ◌<◌, ◌≤◌, true, false, List, [], length}
+use Rattle.std.specs.List.{sum_by}
+use Rattle.sq_value.specs.Lists.{numbers_to}
+use Rattle.sq_oper.specs.declared.tally.Place.TheVariants.{Start}
+use Rattle.sq_oper.specs.Order.{IsFuture}
 use Rattle.sq_oper.specs.Streams.{things}
-use Rattle.sq_net.specs.declared.Network.{Network}
-use Rattle.sq_model.specs.Full.{nth, full_stream, full_streams}
+use Rattle.sq_model.specs.Full.{nth}
 use Rattle.sq_model.specs.Fed.{late_of}
-use Rattle.sq_left.specs.Left.{Net, World, coming, inputs, known, IsWired, fed_in_all, lost_in_all}
-use Rattle.sq_flow.specs.Events.{bodies}
-use Rattle.sq_start.specs.Nets.{streams_of, Joins, given_by, full_at}
+use Rattle.sq_model.specs.Shedding.{Replay, answer_of}
+use Rattle.sq_model.specs.Kept.{work_of, turns_of}
+use Rattle.sq_left.specs.Left.{Net, World, coming, inputs, known, IsWired, Facts, fed_in_all, lost_in_all, still_dropped}
+use Rattle.sq_below.specs.Actors.{Box, Shower, stream_of}
+use Rattle.sq_below.specs.Standing.{box_fed}
+use Rattle.sq_start.specs.Numbers.{ops_of, number_of, actor_at}
+use Rattle.sq_start.specs.Nets.{Joins, fed_to, decided_by, count_fed}
+use Rattle.sq_start.specs.Starts.{IsRead}
 
--- a world in which nothing was released, of new actors of a network: the sources are the recorded streams, nothing is queued,
--- each tuple fits where it comes, and each actor was fed nothing, and gives and loses what its box or output does of whole streams
-pub record IsNew (n : Network) (sources : List (List Tuple)) (net : Net) (w : World) : Type 0 where
-  pub joins : Joins n net
-  pub recorded : (port : ℕ) → w.source port ≡ things (nth sources port)
+-- a world in which nothing was released, of new actors of the network of a replay, at the levels of the replay: what each may be
+-- fed, gives, decides and loses for all that comes to it is what the replay says
+pub record IsNew (r : Replay) (net : Net) (w : World) : Type 0 where
+  pub joins : Joins r.network net
+  pub recorded : (port : ℕ) → w.source port ≡ things (nth r.sources port)
   pub empty : (arc : ℕ) → w.queue arc ≡ []
-  pub fit : (actor : ℕ) → actor ≢ net.replay → AllFit (net.takes actor) (net.fits actor) (merge (map things (map (full_stream n sources) (streams_of n actor))))
-  pub gives : (actor : ℕ) → actor ≢ net.replay → (port : ℕ)
-      → w.rest actor (merge (map things (map (full_stream n sources) (streams_of n actor)))) port
-      ≡ things (given_by (slice_get n.boxes actor) port (map (full_stream n sources) (streams_of n actor)))
   pub none_fed : (actor : ℕ) → w.taken actor ≡ 0
-  pub loses : (actor : ℕ) → actor ≢ net.replay → w.lost actor (merge (map things (map (full_stream n sources) (streams_of n actor)))) ≡ late_of n sources actor
+  pub at_start : (actor : ℕ) → w.place actor ≡ Start
+  pub running : (actor : ℕ) → w.done actor ≡ false
+  pub fit : (actor : ℕ) → actor < ops_of r.network → IsFuture (net.takes actor) (net.fits actor) Start (fed_to r (actor_at r.network actor))
+  pub gives : (actor : ℕ) → actor < ops_of r.network → (port : ℕ) → w.rest actor (fed_to r (actor_at r.network actor)) port ≡ stream_of r (actor_at r.network actor, port)
+  pub decides : (actor : ℕ) → actor < ops_of r.network → w.decide actor (fed_to r (actor_at r.network actor)) ≡ decided_by r (actor_at r.network actor)
+  pub loses : (b : ℕ) → b < length r.network.boxes → w.lost b (box_fed r b) ≡ late_of r.network r.sources b
+  pub no_more : (actor : ℕ) → ops_of r.network < actor → (port : ℕ) → w.rest actor [] port ≡ []
 
--- what is left of each stream is the full stream
-abbrev pub StartsFull : Network → Type 0
-StartsFull n =
-    (sources : List (List Tuple)) (net : Net) (w : World) → All IsStream sources → IsNew n sources net w → (order : List ℕ) → IsWired net order
-    → (actor port : ℕ) → known net order actor ≡ true → coming net w order actor port ≡ full_at n sources net.replay actor port
+-- the facts of such a world hold, and what is left of each stream, answer and record, and of each number, is what the replay says
+pub record StartsAs (r : Replay) (net : Net) (w : World) (order : List ℕ) : Type 0 where
+  pub facts : Facts net w order
+  pub streams : (actor : ℕ) → actor < ops_of r.network → (port : ℕ) → coming net w order actor port ≡ stream_of r (actor_at r.network actor, port)
+  pub lines : (o : ℕ) → o < length r.network.wires.outputs → coming net w order (number_of r.network (Shower o)) 0 ≡ things (answer_of r o)
+  pub decided : (actor : ℕ) → actor < ops_of r.network → still_dropped net w order actor ≡ decided_by r (actor_at r.network actor)
+  pub fed : (actor : ℕ) → actor < ops_of r.network → fed_in_all net w order actor ≡ count_fed r (actor_at r.network actor)
+  pub late : (b : ℕ) → b < length r.network.boxes → lost_in_all net w order b ≡ late_of r.network r.sources b
+  pub work : sum_by (fed_in_all net w order) (numbers_to (ops_of r.network)) ≡ work_of r
+  pub turns : sum_by (λ actor. length (inputs net w order actor)) (numbers_to (ops_of r.network)) ≤ turns_of r
 
--- what is left of an output is the full stream that it shows
-abbrev pub OutputsStartFull : Network → Type 0
-OutputsStartFull n =
-    (sources : List (List Tuple)) (net : Net) (w : World) → All IsStream sources → IsNew n sources net w → (order : List ℕ) → IsWired net order
-    → (output s : ℕ) → slice_get n.wires.outputs output ≡ Some s → length n.boxes + output ≢ net.replay → known net order (length n.boxes + output) ≡ true
-    → bodies (coming net w order (length n.boxes + output) 0) ≡ full_stream n sources s
+-- the order has each operator
+abbrev pub HasAll : Replay → Net → List ℕ → Type 0
+HasAll r net order = (actor : ℕ) → actor < ops_of r.network → known net order actor ≡ true
 
--- how many tuples an operator is fed of the full streams
-abbrev pub fed_by_streams : Network → List (List Tuple) → ℕ → ℕ
-fed_by_streams n sources actor = sum_by (λ s. length (nth (full_streams n sources) s)) (streams_of n actor)
-
--- what an operator takes, is fed and loses in all is what the full streams say
-pub record CountsAt (n : Network) (sources : List (List Tuple)) (net : Net) (w : World) (order : List ℕ) (actor : ℕ) : Type 0 where
-  pub turns : length (inputs net w order actor) ≡ fed_by_streams n sources actor
-  pub fed : fed_in_all net w order actor ≡ fed_by_streams n sources actor
-  pub lost : lost_in_all net w order actor ≡ late_of n sources actor
-
-abbrev pub CountsStart : Network → Type 0
-CountsStart n =
-    (sources : List (List Tuple)) (net : Net) (w : World) → All IsStream sources → IsNew n sources net w → (order : List ℕ) → IsWired net order
-    → (actor : ℕ) → known net order actor ≡ true → actor ≢ net.replay → CountsAt n sources net w order actor
+-- so it is wherever a replay was read
+abbrev pub StartsAsReplayed : Type 0
+StartsAsReplayed = (r : Replay) (net : Net) (w : World) (order : List ℕ) → IsRead r → IsNew r net w → IsWired net order → HasAll r net order → StartsAs r net w order

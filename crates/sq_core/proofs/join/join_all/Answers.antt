@@ -1,9 +1,9 @@
-use Rattle.std.proofs.Common.{◌≡◌, ◌∙◌, ◌<◌, ap, arith, length, refl, slice_get, Some, vec_len}
+use Rattle.std.proofs.Common.{◌≡◌, ◌∙◌, ap, arith, length, refl, slice_get, vec_len}
 use Rattle.std.proofs.lemmas.Grind.{common_steps}
 use Rattle.std.proofs.lemmas.Option.{slice_get_read}
 use Rattle.sq_core.specs.Joining.{feeds_of, items_in}
 use Rattle.sq_core.proofs.JoinLemmas.{joining-more, fixed-more}
-use Rattle.sq_core.proofs.ShapeLemmas.{joining-next, joining-past}
+use Rattle.sq_core.proofs.ShapeLemmas.{joining-past}
 use Rattle.sq_core.proofs.join.join_all.Goals as goal
 
 pub loop-place-preserved : goal.loop-place-preserved

@@ -1,8 +1,7 @@
-use Rattle.std.proofs.Common.{◌≡◌, ◌∙◌, ap, sym, arith, length, map, subst}
+use Rattle.std.proofs.Common.{◌∙◌, ap, sym, arith, length, map, subst}
 use Rattle.std.proofs.lemmas.Result.{IfOk-weaker}
 use Rattle.sq_flow.specs.Wiring.{IsShaped}
 use Rattle.sq_core.specs.Joining.{AreFeeds, IsOrder}
-use Rattle.sq_core.specs.Table.{ops_of}
 use Rattle.sq_core.proofs.TableLemmas.{are-feeds, count-is, joins-all, measured-all, if-both}
 use Rattle.sq_core.proofs.OrderLemmas.{network-order}
 use Rattle.sq_core.proofs.network.network_wires.Goals as goal

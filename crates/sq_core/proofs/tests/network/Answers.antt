@@ -1,5 +1,4 @@
-use Rattle.std.proofs.Common.{rules, ◌≡◌}
-use Rattle.std.proofs.lemmas.Grind.{common_steps}
+use Rattle.std.proofs.Common.{rules}
 use Rattle.sq_core.proofs.TestRows.{sound-parts}
 use Rattle.sq_core.proofs.tests.network.Goals as goal
 

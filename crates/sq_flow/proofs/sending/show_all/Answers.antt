@@ -10,7 +10,8 @@ loop-port-preserved c =
     record {
       all = moved-on c.loop-port.yielded _ _ _ _ c.loop-port.invariant.all c.in-Some.ensures.steps.0;
       shown = λ o. shown-next o c.args.output c.loop-port.yielded (c.in-Some.port, c.in-Some.item) _ _ _ (c.loop-port.invariant.shown o) (c.in_ok-show_one.ensures.shown o);
-      below = λ outputs low h. c.in_ok-show_one.ensures.below outputs low (c.loop-port.invariant.below outputs low h);
+      below = λ outputs drops low h. c.in_ok-show_one.ensures.below outputs drops low (c.loop-port.invariant.below outputs drops low h);
+      drops = λ w. c.in_ok-show_one.ensures.drops w ∙ c.loop-port.invariant.drops w;
       plans = c.in_ok-show_one.ensures.plans ∙ c.loop-port.invariant.plans;
     }
 
@@ -20,4 +21,7 @@ returns-in_err-show_one-clause-prefix c =
     rw p.1 (λ o. shown-front o c.args.output c.args.items.now.items c.loop-port.yielded (drain_items c.loop-port.port-iterator) _ _ c.loop-port.invariant.all (ap (lines_of o) c.in_err-show_one.ensures.err ∙ c.loop-port.invariant.shown o))
 
 pub returns-in_err-show_one-clause-below : goal.returns-in_err-show_one-clause-below
-returns-in_err-show_one-clause-below c = λ outputs low h. c.in_err-show_one.ensures.below outputs low (c.loop-port.invariant.below outputs low h)
+returns-in_err-show_one-clause-below c = λ outputs drops low h. c.in_err-show_one.ensures.below outputs drops low (c.loop-port.invariant.below outputs drops low h)
+
+pub returns-in_err-show_one-clause-drops : goal.returns-in_err-show_one-clause-drops
+returns-in_err-show_one-clause-drops c = λ w. c.in_err-show_one.ensures.drops w ∙ c.loop-port.invariant.drops w

@@ -1,4 +1,3 @@
-use Rattle.std.proofs.Common.{◌∙◌}
 use Rattle.sq_core.proofs.EndLemmas.{nothing-planned, shown-all}
 use Rattle.sq_core.proofs.engine.Engine.all_shown.Goals as goal
 

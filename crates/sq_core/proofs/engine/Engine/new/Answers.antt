@@ -1,4 +1,4 @@
-use Rattle.std.proofs.Common.{◌≡◌, ◌+◌, refl, arith}
+use Rattle.std.proofs.Common.{refl, arith}
 use Rattle.sq_core.proofs.engine.Engine.new.Goals as goal
 
 pub returns-clause-run : goal.returns-clause-run
@@ -7,9 +7,9 @@ returns-clause-run c = λ pages steps.
     let none = made.none_fed in
     record {
       network = refl;
-      sound = record { network = c.requires.sound; boxes = made.boxes; operators = made.operators; engine = made.engine };
+      sound = record { network = c.requires.sound; boxes = made.boxes; drops = made.drops; operators = made.operators; engine = made.engine };
       together = made.together pages;
       counted = omega (arith, none);
-      plans = made.plans _;
-      answers = λ told. made.answers _ pages;
+      plans = made.plans;
+      answers = λ told. made.answers pages;
     }

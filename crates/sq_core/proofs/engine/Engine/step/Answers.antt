@@ -1,4 +1,4 @@
-use Rattle.std.proofs.Common.{◌≡◌, refl}
+use Rattle.std.proofs.Common.{refl}
 use Rattle.sq_core.proofs.RunLemmas.{run-clause, stopped-clause, shows-clause}
 use Rattle.sq_core.proofs.engine.Engine.step.Goals as goal
 

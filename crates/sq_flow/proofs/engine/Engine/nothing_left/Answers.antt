@@ -1,19 +1,23 @@
 use Rattle.sq_flow.specs.Flows.{items_in}
-use Rattle.sq_flow.proofs.DoneLemmas.{none-left, all-fed, all-lost, all-work}
+use Rattle.sq_flow.proofs.DoneLemmas.{none-left, all-fed, all-lost, all-decided, all-work}
 use Rattle.sq_flow.proofs.engine.Engine.nothing_left.Goals as goal
 
 pub returns-clause-lines : goal.returns-clause-lines
-returns-clause-lines g c = λ pages table holds agrees output low.
-    none-left _ _ c.args.self.now.flow c.requires.engine c.requires.done (items_in c.args.self.now.flow pages) holds table agrees output low
+returns-clause-lines g c = λ pages table holds output low.
+    none-left _ _ c.args.self.now.flow c.requires.engine c.requires.done table (items_in c.args.self.now.flow pages) holds output low
 
 pub returns-clause-fed : goal.returns-clause-fed
-returns-clause-fed g c = λ pages table holds agrees actor low.
-    all-fed _ _ c.args.self.now.flow c.requires.engine c.requires.done (items_in c.args.self.now.flow pages) holds table agrees actor low
+returns-clause-fed g c = λ pages table holds actor low.
+    all-fed _ _ c.args.self.now.flow c.requires.engine c.requires.done table (items_in c.args.self.now.flow pages) holds actor low
 
 pub returns-clause-lost : goal.returns-clause-lost
-returns-clause-lost g c = λ pages table holds agrees actor low.
-    all-lost _ _ c.args.self.now.flow c.requires.engine c.requires.done (items_in c.args.self.now.flow pages) holds table agrees actor low
+returns-clause-lost g c = λ pages table holds actor low.
+    all-lost _ _ c.args.self.now.flow c.requires.engine c.requires.done table (items_in c.args.self.now.flow pages) holds actor low
 
 pub returns-clause-work : goal.returns-clause-work
-returns-clause-work g c = λ pages table holds agrees.
-    all-work _ _ c.args.self.now.flow c.requires.engine c.requires.done (items_in c.args.self.now.flow pages) holds table agrees
+returns-clause-work g c = λ pages table holds.
+    all-work _ _ c.args.self.now.flow c.requires.engine c.requires.done table (items_in c.args.self.now.flow pages) holds
+
+pub returns-clause-drops : goal.returns-clause-drops
+returns-clause-drops g c = λ pages table holds actor low.
+    all-decided _ _ c.args.self.now.flow c.requires.engine c.requires.done table (items_in c.args.self.now.flow pages) holds actor low

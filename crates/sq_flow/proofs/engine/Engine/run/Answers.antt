@@ -9,7 +9,7 @@ pub returns-in-Err-clause-plans : goal.returns-in-Err-clause-plans
 returns-in-Err-clause-plans g c = plans-after _ _ _ _ _ _ _ _ c.loop-pick.invariant.stepped c.pick.new.self.flow.levels c.pick.new.events.items c.in-Err.ensures.plans
 
 pub returns-in-Err-clause-strange : goal.returns-in-Err-clause-strange
-returns-in-Err-clause-strange g c = none-strange-after _ _ _ _ _ _ _ _ c.loop-pick.invariant.stepped c.in-Err.e c.in-Err.ensures.strange
+returns-in-Err-clause-strange g c = none-strange-after _ _ _ _ _ _ _ _ c.loop-pick.invariant.stepped c.pick.new.self.flow.levels c.in-Err.e c.in-Err.ensures.closes c.in-Err.ensures.strange
 
 pub loop-pick-preserved : goal.loop-pick-preserved
 loop-pick-preserved g c =

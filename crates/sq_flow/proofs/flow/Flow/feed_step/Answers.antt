@@ -7,18 +7,18 @@ use Rattle.sq_queue.specs.Faces.{items_on}
 use Rattle.sq_flow.proofs.WireLemmas.{arcs-open, comes-from}
 use Rattle.sq_flow.proofs.FutureLemmas.{slice_get-set_same, slice_get-set_other}
 use Rattle.sq_flow.proofs.Measures.{weighs, open-same}
-use Rattle.sq_flow.proofs.FedFlow.{seat-fine, may-come, runs, passes-front, fed-prefix, fed-stepped, fed-touches, costs-none, costs-front, costs-fed, too-much-front}
+use Rattle.sq_flow.proofs.FedFlow.{seat-fine, may-come, runs, own-drops, passes-front, fed-prefix, fed-stepped, fed-touches, costs-none, costs-front, costs-fed, too-much-front}
 use Rattle.sq_flow.proofs.EventLemmas.{below-outputs}
 use Rattle.sq_flow.proofs.flow.Flow.feed_step.Goals as goal
 
 pub returns-in-Err-clause-strange : goal.returns-in-Err-clause-strange
 returns-in-Err-clause-strange g c =
     let is = slice_get_read c.args.self.now.seats.items _ c.args.actor c.index.result.now refl c.requires.actor_in c.index.ensures in
-    λ told holds.
+    λ told table agrees holds.
     c.in-Err.ensures.strange told
     (λ item more front.
     passes-front _ _ c.args.self.now c.requires.flow c.args.actor c.requires.head.0 c.args.port c.args.arc c.arc-at.result item c.requires.actor_in c.requires.head.1
-    c.index.result.now is c.arc-at.ensures (items_on c.args.self.now.queues (g.D.PageDisk.pages c.args.disk.now)) holds (c.requires.together.faces told) more front)
+    c.index.result.now is c.arc-at.ensures table agrees (items_on c.args.self.now.queues (g.D.PageDisk.pages c.args.disk.now)) holds (c.requires.together.faces told) more front)
 
 pub feed_seat-requires-clause-is_valid : goal.feed_seat-requires-clause-is_valid
 feed_seat-requires-clause-is_valid g c =
@@ -56,27 +56,35 @@ pub returns-in_err-give-clause-prefix : goal.returns-in_err-give-clause-prefix
 returns-in_err-give-clause-prefix g c =
     let p = err_from_is_err_and c.from_residual-in_err-give.result c.from_residual-in_err-give.ensures.1 in
     let is = slice_get_read c.args.self.now.seats.items _ c.args.actor c.index_mut.result.now refl c.requires.actor_in c.index_mut.ensures.value in
+    let was = slice_get_read c.args.self.now.seats.items _ c.args.actor c.index.result.now refl c.requires.actor_in c.index.ensures in
+    let same = same_Some c.index.result.now c.index_mut.result.now (sym was ∙ is) in
     rw p.1
     (fed-prefix _ _ c.args.self.now c.requires.flow c.args.actor c.requires.head.0 c.args.port c.args.arc c.arc-at.result c.in-Ok.item c.requires.actor_in c.requires.head.1 c.index_mut.result.now is c.arc-at.ensures
     (g.D.PageDisk.pages c.args.disk.now) (g.D.PageDisk.pages c.take_item.new.disk) c.take_item.new.queues c.feed_seat.new.seat c.feed_seat.new.out.items.items c.feed_seat.new.out.drops.items c.args.events.now.items c.give.new.events.items
-    c.requires.together c.in-Ok.ensures.items c.in-Ok.ensures.others c.in_ok-feed_seat.ensures.fed c.in_err-give.ensures.prefix)
+    c.requires.together c.in-Ok.ensures.items c.in-Ok.ensures.others c.in_ok-feed_seat.ensures.fed c.in_err-give.ensures.prefix
+    (subst (λ z. MayBeFed c.arc-at.result c.args.port z.tally.place c.args.self.now.clock c.in-Ok.item) same c.in-Ok.ensures.may_be_fed) c.requires.running c.in_err-give.ensures.drops_prefix)
 
 pub returns-clause-ok : goal.returns-clause-ok
 returns-clause-ok g c =
     let was = slice_get_read c.args.self.now.seats.items _ c.args.actor c.index.result.now refl c.requires.actor_in c.index.ensures in
     let is = slice_get_read c.args.self.now.seats.items _ c.args.actor c.index_mut.result.now refl c.requires.actor_in c.index_mut.ensures.value in
     let same = same_Some c.index.result.now c.index_mut.result.now (sym was ∙ is) in
+    let may = subst (λ z. MayBeFed c.arc-at.result c.args.port z.tally.place c.args.self.now.clock c.in-Ok.item) same c.in-Ok.ensures.may_be_fed in
     fed-stepped _ _ c.args.self.now c.requires.flow c.args.actor c.requires.head.0 c.args.port c.args.arc c.arc-at.result c.in-Ok.item c.requires.actor_in c.requires.head.1 c.index_mut.result.now is c.arc-at.ensures
     (g.D.PageDisk.pages c.args.disk.now) (g.D.PageDisk.pages c.give.new.disk) (g.D.PageDisk.pages c.take_item.new.disk) c.take_item.new.queues c.give.new.queues _ c.in-Ok-count_item.taken
     c.feed_seat.new.seat c.feed_seat.new.out.items.items c.feed_seat.new.out.drops.items c.args.events.now.items c.give.new.events.items
     c.requires.together
-    (subst (λ z. MayBeFed c.arc-at.result c.args.port z.tally.place c.args.self.now.clock c.in-Ok.item) same c.in-Ok.ensures.may_be_fed)
+    may
     c.in-Ok.ensures.ended c.in-Ok.ensures.size c.in-Ok.ensures.items c.in-Ok.ensures.others c.in-Ok.ensures.tells c.in-Ok-count_item.ensures.ok.0 c.in-Ok-count_item.ensures.ok.1
     c.in_ok-feed_seat.ensures.fed
     (slice_get-set_same c.args.self.now.seats.items c.args.actor c.feed_seat.new.seat c.requires.actor_in)
     (λ other ne. slice_get-set_other c.args.self.now.seats.items c.args.actor other c.feed_seat.new.seat ne)
-    (length-set c.args.self.now.seats.items c.args.actor c.feed_seat.new.seat) c.requires.running c.in_ok-give.ensures.sent c.in_ok-give.ensures.shown
-    (c.in_ok-give.ensures.below (length c.args.self.now.seats.items - c.args.self.now.wires.shown) (below-outputs c.args.actor (length c.args.self.now.seats.items) c.args.self.now.wires.shown c.requires.actor_in)) c.in_ok-give.ensures.plans
+    (length-set c.args.self.now.seats.items c.args.actor c.feed_seat.new.seat) c.requires.running c.in_ok-give.ensures.sent c.in_ok-give.ensures.shown c.in_ok-give.ensures.drops
+    (c.in_ok-give.ensures.below (length c.args.self.now.seats.items - c.args.self.now.wires.shown) (below-outputs c.args.actor (length c.args.self.now.seats.items) c.args.self.now.wires.shown c.requires.actor_in)
+    (own-drops _ _ c.args.self.now c.requires.flow c.args.actor c.requires.head.0 c.args.port c.args.arc c.arc-at.result c.in-Ok.item c.requires.actor_in c.requires.head.1 c.index_mut.result.now is c.arc-at.ensures
+    c.feed_seat.new.seat c.feed_seat.new.out.items.items c.feed_seat.new.out.drops.items c.in_ok-feed_seat.ensures.fed may
+    (runs _ _ c.args.self.now c.requires.flow c.args.actor c.requires.head.0 c.args.port c.args.arc c.arc-at.result c.in-Ok.item c.requires.actor_in c.requires.head.1 c.index_mut.result.now is c.arc-at.ensures c.requires.running)))
+    c.in_ok-give.ensures.plans
 
 pub returns-clause-measure : goal.returns-clause-measure
 returns-clause-measure g c =

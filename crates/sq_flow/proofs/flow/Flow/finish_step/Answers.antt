@@ -5,7 +5,7 @@ use Rattle.std.proofs.lemmas.Result.{err_from_is_err_and}
 use Rattle.sq_flow.proofs.WireLemmas.{arcs-open, comes-from}
 use Rattle.sq_flow.proofs.FutureLemmas.{slice_get-set_same, slice_get-set_other}
 use Rattle.sq_flow.proofs.Measures.{open-less}
-use Rattle.sq_flow.proofs.FinishedFlow.{seat-fine, runs, finished-prefix, finished-stepped, finished-taken, finished-touches}
+use Rattle.sq_flow.proofs.FinishedFlow.{seat-fine, runs, own-drops, finished-prefix, finished-stepped, finished-taken, finished-touches}
 use Rattle.sq_flow.proofs.EventLemmas.{below-outputs}
 use Rattle.sq_flow.proofs.flow.Flow.finish_step.Goals as goal
 
@@ -19,7 +19,7 @@ returns-in_err-give-clause-prefix g c =
     rw p.1
     (finished-prefix _ _ c.args.self.now c.requires.flow c.args.actor c.requires.actor_in c.requires.head c.index_mut.result.now is
     (g.D.PageDisk.pages c.args.disk.now) c.finish_seat.new.seat c.finish_seat.new.out.items.items c.finish_seat.new.out.drops.items c.args.events.now.items c.give.new.events.items
-    c.requires.together c.in_ok-finish_seat.ensures.finished c.in_err-give.ensures.prefix)
+    c.requires.together c.in_ok-finish_seat.ensures.finished c.in_err-give.ensures.prefix c.requires.running c.in_err-give.ensures.drops_prefix)
 
 pub returns-clause-ok : goal.returns-clause-ok
 returns-clause-ok g c =
@@ -31,8 +31,11 @@ returns-clause-ok g c =
     (slice_get-set_same c.args.self.now.seats.items c.args.actor c.finish_seat.new.seat c.requires.actor_in)
     (λ other ne. slice_get-set_other c.args.self.now.seats.items c.args.actor other c.finish_seat.new.seat ne)
     (length-set c.args.self.now.seats.items c.args.actor c.finish_seat.new.seat)
-    c.in_ok-give.ensures.sent c.end_arcs.ensures.size c.end_arcs.ensures.ended c.end_arcs.ensures.items c.end_arcs.ensures.together c.in_ok-give.ensures.shown
-    (c.in_ok-give.ensures.below (length c.args.self.now.seats.items - c.args.self.now.wires.shown) (below-outputs c.args.actor (length c.args.self.now.seats.items) c.args.self.now.wires.shown c.requires.actor_in)) c.in_ok-give.ensures.plans
+    c.in_ok-give.ensures.sent c.end_arcs.ensures.size c.end_arcs.ensures.ended c.end_arcs.ensures.items c.end_arcs.ensures.together c.in_ok-give.ensures.shown c.requires.running c.in_ok-give.ensures.drops
+    (c.in_ok-give.ensures.below (length c.args.self.now.seats.items - c.args.self.now.wires.shown) (below-outputs c.args.actor (length c.args.self.now.seats.items) c.args.self.now.wires.shown c.requires.actor_in)
+    (own-drops _ _ c.args.self.now c.requires.flow c.args.actor c.requires.actor_in c.requires.head c.index_mut.result.now is
+    c.finish_seat.new.seat c.finish_seat.new.out.items.items c.finish_seat.new.out.drops.items c.in_ok-finish_seat.ensures.finished c.requires.running))
+    c.in_ok-give.ensures.plans
 
 pub returns-clause-measure : goal.returns-clause-measure
 returns-clause-measure g c =

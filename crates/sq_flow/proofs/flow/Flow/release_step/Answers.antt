@@ -1,4 +1,4 @@
-use Rattle.std.proofs.Common.{◌≡◌, ℕ, ◌+◌, ◌-◌, ◌/◌, ◌<◌, length, set, refl, ap, sym, ◌∙◌, subst, arith}
+use Rattle.std.proofs.Common.{ℕ, ◌+◌, ◌-◌, ◌/◌, ◌<◌, length, set, refl, ap, sym, subst, arith}
 use Rattle.std.specs.Vec.{with_item}
 use Rattle.std.proofs.lemmas.Option.{slice_get_read, get_or_from_slice_get}
 use Rattle.std.proofs.lemmas.Result.{err_from_is_err_and}
@@ -12,7 +12,7 @@ use Rattle.sq_flow.proofs.flow.Flow.release_step.Goals as goal
 pub returns-in_err-close_before-clause-prefix : goal.returns-in_err-close_before-clause-prefix
 returns-in_err-close_before-clause-prefix g c =
     let p = err_from_is_err_and c.from_residual.result c.from_residual.ensures.1 in
-    rw p.1 (lines-stay _ (g.D.PageDisk.pages c.args.disk.now) c.args.self.now c.close_before.new.levels c.args.events.now.items c.close_before.new.events.items c.in_err-close_before.ensures.lines)
+    rw p.1 (lines-stay _ (g.D.PageDisk.pages c.args.disk.now) c.args.self.now c.close_before.new.levels c.args.events.now.items c.close_before.new.events.items c.in_err-close_before.ensures.lines c.in_err-close_before.ensures.drops)
 
 pub returns-in_err-close_before-clause-plans : goal.returns-in_err-close_before-clause-plans
 returns-in_err-close_before-clause-plans g c =
@@ -44,7 +44,7 @@ send_one-requires-clause-sound g c =
 pub returns-in_err-send_one-clause-prefix : goal.returns-in_err-send_one-clause-prefix
 returns-in_err-send_one-clause-prefix g c =
     let p = err_from_is_err_and c.from_residual-in_err-send_one.result c.from_residual-in_err-send_one.ensures.1 in
-    rw p.1 (lines-stay _ (g.D.PageDisk.pages c.args.disk.now) c.args.self.now c.close_before.new.levels c.args.events.now.items c.close_before.new.events.items c.in_ok-close_before.ensures.lines)
+    rw p.1 (lines-stay _ (g.D.PageDisk.pages c.args.disk.now) c.args.self.now c.close_before.new.levels c.args.events.now.items c.close_before.new.events.items c.in_ok-close_before.ensures.lines c.in_ok-close_before.ensures.drops)
 
 pub returns-in_err-send_one-clause-plans : goal.returns-in_err-send_one-clause-plans
 returns-in_err-send_one-clause-plans g c =
@@ -63,6 +63,7 @@ returns-in_err-send_one-clause-plans g c =
       agrees = done.agrees;
       plans = done.plans;
       lines = done.lines;
+      drops = done.drops;
       within = done.within;
     }) in
     let len = mid-len _ _ c.args.self.now c.requires.flow pos c.args.source c.index_mut.result.now c.first_of-tuple.new.tuples c.first_of-tuple.result c.requires.next at c.first_of-tuple.ensures _ _ _ _ _ did in
@@ -92,6 +93,7 @@ returns-clause-ok g c =
       agrees = done.agrees;
       plans = done.plans;
       lines = done.lines;
+      drops = done.drops;
       within = done.within;
     }) in
     let len = mid-len _ _ c.args.self.now c.requires.flow pos c.args.source c.index_mut.result.now c.first_of-tuple.new.tuples c.first_of-tuple.result c.requires.next at c.first_of-tuple.ensures _ _ _ _ _ did in
@@ -109,7 +111,8 @@ returns-clause-touches g c =
     let at = slice_get_read sources _ c.args.source c.index_mut.result.now refl c.requires.next.there c.index_mut.ensures.value in
     let pos : 0 < c.args.self.now.levels.epoch = omega (arith, c.epoch.ensures.epoch, c.epoch.ensures.lasts) in
     released-touches _ _ c.args.self.now c.requires.flow pos c.args.source c.index_mut.result.now c.first_of-tuple.new.tuples c.first_of-tuple.result c.requires.next at c.first_of-tuple.ensures
-    (g.D.PageDisk.pages c.args.disk.now) (g.D.PageDisk.pages c.send_one.new.disk) c.send_one.new.queues _ _ c.close_before.new.levels _ _ _ c.in_ok-send_one.ensures
+    (g.D.PageDisk.pages c.args.disk.now) (g.D.PageDisk.pages c.send_one.new.disk) c.send_one.new.queues (with_item c.args.self.now.sources c.args.source c.first_of-tuple.new.tuples) c.close_before.new.planner c.close_before.new.levels
+    (with_item c.close_before.new.counts c.args.source (c.index_mut-2.result.now + 1)) c.in_ok-send_one.ensures
 
 pub returns-clause-measure : goal.returns-clause-measure
 returns-clause-measure g c =

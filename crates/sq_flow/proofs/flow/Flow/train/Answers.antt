@@ -16,7 +16,7 @@ pub returns-in-Err-clause-closes : goal.returns-in-Err-clause-closes
 returns-in-Err-clause-closes g c = λ table agrees. c.steps.invariant.stepped.closes table (c.in-Err.ensures.closes table agrees)
 
 pub returns-in-Err-clause-strange : goal.returns-in-Err-clause-strange
-returns-in-Err-clause-strange g c = none-strange-after _ _ _ _ _ _ _ _ c.steps.invariant.stepped c.in-Err.e c.in-Err.ensures.strange
+returns-in-Err-clause-strange g c = none-strange-after _ _ _ _ _ _ _ _ c.steps.invariant.stepped c.one_step.new.self.levels c.in-Err.e c.in-Err.ensures.closes c.in-Err.ensures.strange
 
 pub returns-in-Err-clause-cost_err : goal.returns-in-Err-clause-cost_err
 returns-in-Err-clause-cost_err g c =

@@ -1,0 +1,51 @@
+-- The actors of a network as operators: 0, 1, .. are the boxes, then the drops, then the outputs, and behind them the replay.
+use Rattle.std.specs.Prelude.{ℕ, ◌+◌, ◌-◌, nat_lt, List, [], ◌∷◌, map, length, Option, Some, None, slice_get, if◌then◌else◌}
+use Rattle.sq_graph.specs.Wires.{producer_of, input_arcs_of, output_arc_at}
+use Rattle.sq_place.specs.declared.DropPoint.{DropPoint}
+use Rattle.sq_place.specs.declared.DropAt.{DropAt}
+use Rattle.sq_place.specs.declared.DropAt.TheVariants as at
+use Rattle.sq_place.specs.Places.{stream_on}
+use Rattle.sq_net.specs.declared.Network.{Network}
+use Rattle.sq_points.specs.Points.{points_of}
+use Rattle.sq_below.specs.Actors.{Actor, Sources, Box, Shedder, Shower, giver, arc_from}
+
+abbrev pub drops_of : Network → ℕ
+drops_of n = length (points_of n)
+
+-- the first output, behind the boxes and the drops
+abbrev pub first_output : Network → ℕ
+first_output n = length n.boxes + drops_of n
+
+-- how many operators there are
+abbrev pub ops_of : Network → ℕ
+ops_of n = first_output n + length n.wires.outputs
+
+abbrev pub number_of : Network → Actor → ℕ
+number_of n Sources = ops_of n
+number_of n (Box b) = b
+number_of n (Shedder w) = length n.boxes + w
+number_of n (Shower o) = first_output n + o
+
+-- the actor of a number
+abbrev pub actor_at : Network → ℕ → Actor
+actor_at n k =
+    if nat_lt k (length n.boxes) then Box k
+    else if nat_lt k (first_output n) then Shedder (k - length n.boxes)
+    else if nat_lt k (ops_of n) then Shower (k - first_output n)
+    else Sources
+
+-- the stream at a place
+abbrev pub place_stream : Network → DropAt → ℕ
+place_stream n (at.Stream s) = s
+place_stream n (at.Arc a) = stream_on n.wires a
+
+-- what an actor reads, by port: the actor and the port that give it. A drop reads the stream of its place from its own giver
+abbrev pub drop_reads : Network → Option DropPoint → List (Actor × ℕ)
+drop_reads n None = []
+drop_reads n (Some p) = giver (producer_of n.wires (place_stream n p.at)) ∷ []
+
+abbrev pub reads_of : Network → Actor → List (Actor × ℕ)
+reads_of n Sources = []
+reads_of n (Box b) = map (arc_from n) (input_arcs_of n.wires b)
+reads_of n (Shedder w) = drop_reads n (slice_get (points_of n) w)
+reads_of n (Shower o) = arc_from n (output_arc_at n.wires o) ∷ []

@@ -1,0 +1,224 @@
+-- What a tuple makes of the batches that it is the first to touch, one batch after another.
+use Rattle.std.proofs.Common.{◌≡◌, ℕ, ◌+◌, ◌-◌, ◌*◌, ◌/◌, ◌<◌, ◌≤◌, max, Bool, true, false, List, [], ◌∷◌, ◌++◌, map, Option, Some, None, refl, ap, ap₂, sym, subst, ◌∙◌, append_assoc, append-nil, div-lt_iff_lt-mul, arith, tests}
+use Rattle.std.specs.Prelude.{nat_lt, if◌then◌else◌}
+use Rattle.std.proofs.lemmas.List.{map-append}
+use Rattle.std.proofs.lemmas.List.Elements.{filter-append}
+use Rattle.std.specs.List.{AllByRecursion, filter, range_with_len}
+use Rattle.sq_value.specs.declared.Value.{Value}
+use Rattle.sq_value.specs.Lists.{IsPrefixOf}
+use Rattle.sq_item.specs.declared.Mark.{Mark}
+use Rattle.sq_item.specs.declared.Item.{Item}
+use Rattle.sq_item.specs.Things.{Body, Thing, mark_part, body_part}
+use Rattle.sq_road.specs.Draws.{draw_of}
+use Rattle.sq_lists.proofs.WindowLemmas.{range-split}
+use Rattle.sq_oper.specs.declared.outs.Decision.{Decision}
+use Rattle.sq_oper.specs.Entries.{Entry, at_port, entries}
+use Rattle.sq_oper.specs.Given.{ThingsUpTo}
+use Rattle.sq_oper.specs.Machine.{next_all, gives_all}
+use Rattle.sq_oper.specs.Streams.{at_zero}
+use Rattle.sq_oper.proofs.GivenLemmas.{IsPrefixOf-longer, ThingsUpTo-append}
+use Rattle.sq_oper.proofs.StreamLemmas.{at_zero-append, at_zero-nil, UpTo-at_zero}
+use Rattle.sq_tagged.specs.Tagged.{Timed, mark_thing}
+use Rattle.sq_oper.proofs.PartLemmas.{at_port-append, item_law, body_prefix}
+use Rattle.sq_windrop.specs.declared.drop.Dropping.{Dropping}
+use Rattle.sq_windrop.specs.declared.drop.Batches.{Batches}
+use Rattle.sq_windrop.specs.Drops.{is_dropped, drop_mark, marks_for, decided, decision, greatest, bound_of, newly, after_tuple, for_tuple, drop_next, drop_gives, drop_rest, holds_none, decided_load, drop_decides, next_body, gives_body, decided_body}
+use Rattle.sq_windrop.proofs.DropLemmas.{newly-early}
+
+-- the epoch of an earlier tick is closed too
+pub start-closed : (start time epoch closed : ℕ) → 1 ≤ epoch → start ≤ time → time / epoch < closed → start / epoch < closed
+start-closed start time epoch closed some le h =
+    let lt : time < closed * epoch = (div-lt_iff_lt-mul some).0 h in
+    (div-lt_iff_lt-mul some).1 (let e : start < closed * epoch = omega (arith, le, lt) in e)
+
+module _ (d : Dropping) (table : ℕ → ℕ → ℕ) where
+  pub dropped-is : (b level draw : ℕ) → draw ≡ draw_of d.seed d.number b → table (b * d.length / d.epoch) d.number ≡ level → draw < level → is_dropped d table b ≡ true
+  dropped-is b level draw e f lt = ap₂ nat_lt (sym e) f ∙ (let t : nat_lt draw level ≡ true = grind (arith, tests) in t)
+
+  pub permitted-is : (b level draw : ℕ) → draw ≡ draw_of d.seed d.number b → table (b * d.length / d.epoch) d.number ≡ level → level ≤ draw → is_dropped d table b ≡ false
+  permitted-is b level draw e f le = ap₂ nat_lt (sym e) f ∙ (let t : nat_lt draw level ≡ false = grind (arith, tests) in t)
+
+  abbrev marks : List ℕ → List Thing
+  marks bs = map mark_thing (marks_for d table bs)
+
+  marks-append : (xs ys : List ℕ) → marks (xs ++ ys) ≡ marks xs ++ marks ys
+  marks-append xs ys = ap (map mark_thing) (map-append (drop_mark d table) xs ys) ∙ map-append mark_thing (marks_for d table xs) (marks_for d table ys)
+
+  pub given-push : (q : ℕ) (before : List Thing) (bs : List ℕ) (b : ℕ) → (before ++ at_zero q (marks bs)) ++ at_zero q (mark_thing (drop_mark d table b) ∷ []) ≡ before ++ at_zero q (marks (bs ++ b ∷ []))
+  given-push q before bs b =
+      append_assoc before (at_zero q (marks bs)) (at_zero q (marks (b ∷ [])))
+      ∙ ap (λ l. before ++ l) (sym (at_zero-append q (marks bs) (marks (b ∷ []))) ∙ ap (at_zero q) (sym (marks-append bs (b ∷ []))))
+
+  decided-append : (xs ys : List ℕ) → decided d table (xs ++ ys) ≡ decided d table xs ++ decided d table ys
+  decided-append xs ys =
+      ap (map (decision d table)) (filter-append (is_dropped d table) xs ys) ∙ map-append (decision d table) (filter (is_dropped d table) xs) (filter (is_dropped d table) ys)
+
+  pub decided-push : (before : List Decision) (bs : List ℕ) (b : ℕ) → (before ++ decided d table bs) ++ decided d table (b ∷ []) ≡ before ++ decided d table (bs ++ b ∷ [])
+  decided-push before bs b = append_assoc before (decided d table bs) (decided d table (b ∷ [])) ∙ ap (λ l. before ++ l) (sym (decided-append bs (b ∷ [])))
+
+  greatest-append : (ms ns : List Timed) → greatest (ms ++ ns) ≡ max (greatest ms) (greatest ns)
+  greatest-append [] ns = omega arith
+  greatest-append (m ∷ ms) ns = let r = greatest-append ms ns in omega (arith, r)
+
+  pub bound-push : (bound : ℕ) (bs : List ℕ) (b : ℕ) → max (max bound (greatest (marks_for d table bs))) (bound_of (drop_mark d table b)) ≡ max bound (greatest (marks_for d table (bs ++ b ∷ [])))
+  bound-push bound bs b =
+      let e = ap greatest (map-append (drop_mark d table) bs (b ∷ [])) ∙ greatest-append (marks_for d table bs) (marks_for d table (b ∷ [])) in
+      omega (arith, e)
+
+  -- what is a prefix of the marks of some batches is one of those of more
+  pub prefix-more : (q : ℕ) (before after : List Thing) (xs ys zs : List ℕ) → zs ≡ xs ++ ys → IsPrefixOf after (before ++ at_zero q (marks xs)) → IsPrefixOf after (before ++ at_zero q (marks zs))
+  prefix-more q before after xs ys zs e h =
+      subst (λ l. IsPrefixOf after (before ++ l)) (sym (ap (λ l. at_zero q (marks l)) e ∙ ap (at_zero q) (marks-append xs ys) ∙ at_zero-append q (marks xs) (marks ys)))
+      (IsPrefixOf-longer after before (at_zero q (marks xs)) (at_zero q (marks ys)) h)
+
+  pub decided-more : (before after : List Decision) (xs ys zs : List ℕ) → zs ≡ xs ++ ys → after ≡ before ++ decided d table xs → IsPrefixOf after (before ++ decided d table zs)
+  decided-more before after xs ys zs e h =
+      (decided d table ys, ap (λ l. before ++ decided d table l) e ∙ ap (λ l. before ++ l) (decided-append xs ys) ∙ sym (append_assoc before (decided d table xs) (decided d table ys)) ∙ ap (λ l. l ++ decided d table ys) (sym h))
+
+  -- a tuple behind the marks of its batches
+  pub tuple_prefix : (s : Batches) (time : ℕ) (fields : List Value) (q : ℕ) (before after : List Thing) → IsPrefixOf after (before ++ at_zero q (marks (newly d s.next time)))
+      → IsPrefixOf after (before ++ at_zero q (for_tuple d table s time fields))
+  tuple_prefix s time fields q before after h =
+      let body = if nat_lt time (after_tuple d table s time).bound then record { time = time; load = Body fields } ∷ [] else [] in
+      subst (λ l. IsPrefixOf after (before ++ l)) (sym (at_zero-append q (marks (newly d s.next time)) body)) (IsPrefixOf-longer after before (at_zero q (marks (newly d s.next time))) (at_zero q body) h)
+
+  pub tuple_given : (s : Batches) (time : ℕ) (fields : List Value) (bound q : ℕ) (before middle after : List Thing) → bound ≡ (after_tuple d table s time).bound → time < bound
+      → middle ≡ before ++ at_zero q (marks (newly d s.next time)) → after ≡ middle ++ at_zero q (record { time = time; load = Body fields } ∷ []) → after ≡ before ++ at_zero q (for_tuple d table s time fields)
+  tuple_given s time fields bound q before middle after is lt first second =
+      let front = marks (newly d s.next time) in
+      let one = record { time = time; load = Body fields } ∷ [] in
+      let below : nat_lt time bound ≡ true = grind (arith, tests) in
+      second
+      ∙ ap (λ l. l ++ at_zero q one) first
+      ∙ append_assoc before (at_zero q front) (at_zero q one)
+      ∙ ap (λ l. before ++ l) (sym (at_zero-append q front one))
+      ∙ ap (λ b. before ++ at_zero q (front ++ (if b then one else []))) (sym (ap (nat_lt time) (sym is) ∙ below))
+
+-- one batch more of a range
+pub range-push : (from b : ℕ) → from ≤ b → range_with_len from (b + 1 - from) ≡ range_with_len from (b - from) ++ b ∷ []
+range-push from b le =
+    ap (range_with_len from) (let e : b + 1 - from ≡ (b - from) + 1 = omega (arith, le) in e)
+    ∙ range-split from (b - from) 1
+    ∙ ap (λ k. range_with_len from (b - from) ++ range_with_len k 1) (let e : from + (b - from) ≡ b = omega (arith, le) in e)
+
+pub range-more : (from b end : ℕ) → from ≤ b → b ≤ end → range_with_len from (end - from) ≡ range_with_len from (b - from) ++ range_with_len b (end - b)
+range-more from b end le le2 =
+    ap (range_with_len from) (let e : end - from ≡ (b - from) + (end - b) = omega (arith, le, le2) in e)
+    ∙ range-split from (b - from) (end - b)
+    ∙ ap (λ k. range_with_len from (b - from) ++ range_with_len k (end - b)) (let e : from + (b - from) ≡ b = omega (arith, le) in e)
+
+-- a tick touches few batches at once
+pub few-touched : (time keep len next : ℕ) → 1 ≤ len → keep < 4096 * len → time / len + 1 - max next ((time - keep) / len) ≤ 4097
+few-touched time keep len next some less =
+    let first : ℕ = (time - keep) / len in
+    let lt : time - keep < (first + 1) * len = (div-lt_iff_lt-mul some).0 (let e : first < first + 1 = omega arith in e) in
+    let top : time < (first + 4097) * len = bound time keep len first lt less in
+    let quotient : time / len < first + 4097 = (div-lt_iff_lt-mul some).1 top in
+    omega (arith, quotient)
+  where
+    bound : (time keep len first : ℕ) → time - keep < (first + 1) * len → keep < 4096 * len → time < (first + 4097) * len
+    bound time keep len first lt less =
+        let e : (first + 4097) * len ≡ (first + 1) * len + 4096 * len = grind arith in
+        omega (arith, e, lt, less)
+
+-- an item's parts: its mark changes nothing
+module _ (d : Dropping) (table : ℕ → ℕ → ℕ) (port : ℕ) (item : Item) where
+  abbrev marks_part : List Entry
+  marks_part = at_port port (mark_part item.time item.mark)
+
+  abbrev body_entries : List Entry
+  body_entries = at_port port (body_part item.time item.body)
+
+  decides-append : (s : Batches) (xs ys : List Entry) → drop_decides d table s (xs ++ ys) ≡ drop_decides d table s xs ++ drop_decides d table (next_all (drop_next d table) s xs) ys
+  decides-append s [] ys = refl
+  decides-append s (e ∷ es) ys =
+      ap (λ l. decided_load d table s e.thing.time e.thing.load ++ l) (decides-append (drop_next d table s e) es ys)
+      ∙ sym (append_assoc (decided_load d table s e.thing.time e.thing.load) (drop_decides d table (drop_next d table s e) es) (drop_decides d table (next_all (drop_next d table) (drop_next d table s e) es) ys))
+
+  mark-same : (s : Batches) (m : Option Mark) → next_all (drop_next d table) s (at_port port (mark_part item.time m)) ≡ s
+  mark-same s None = refl
+  mark-same s (Some m) = refl
+
+  mark-gives : (s : Batches) (q : ℕ) (m : Option Mark) → gives_all (drop_next d table) (drop_gives d table) s (at_port port (mark_part item.time m)) q ≡ []
+  mark-gives s q None = refl
+  mark-gives s q (Some m) = ap (λ l. l ++ []) (at_zero-nil q)
+
+  mark-decides : (s : Batches) (m : Option Mark) → drop_decides d table s (at_port port (mark_part item.time m)) ≡ []
+  mark-decides s None = refl
+  mark-decides s (Some m) = refl
+
+  body-next : (s : Batches) (b : Option (List Value)) → next_all (drop_next d table) s (at_port port (body_part item.time b)) ≡ next_body d table s item.time b
+  body-next s None = refl
+  body-next s (Some fields) = refl
+
+  body-gives : (s : Batches) (q : ℕ) (b : Option (List Value)) → gives_all (drop_next d table) (drop_gives d table) s (at_port port (body_part item.time b)) q ≡ at_zero q (gives_body d table s item.time b)
+  body-gives s q None = sym (at_zero-nil q)
+  body-gives s q (Some fields) = append-nil (at_zero q (gives_body d table s item.time (Some fields)))
+
+  body-decides : (s : Batches) (b : Option (List Value)) → drop_decides d table s (at_port port (body_part item.time b)) ≡ decided_body d table s item.time b
+  body-decides s None = refl
+  body-decides s (Some fields) = append-nil (decided_body d table s item.time (Some fields))
+
+  pub drop_law : (future : List Entry) (q : ℕ) (s s2 : Batches) (before after : List Thing) → s2 ≡ next_body d table s item.time item.body → after ≡ before ++ at_zero q (gives_body d table s item.time item.body)
+      → before ++ drop_rest d table s (entries port item ++ future) q ≡ after ++ drop_rest d table s2 future q
+  drop_law future q s s2 before after is gave =
+      item_law (drop_next d table) (drop_gives d table) holds_none port item future q s s s2 before before after
+      (sym (mark-same s item.mark))
+      (sym (ap (λ l. before ++ l) (mark-gives s q item.mark) ∙ append-nil before))
+      (is ∙ sym (body-next s item.body))
+      (gave ∙ ap (λ l. before ++ l) (sym (body-gives s q item.body)))
+
+  pub drop_prefix : (future : List Entry) (q : ℕ) (s : Batches) (before after : List Thing) → IsPrefixOf after (before ++ at_zero q (gives_body d table s item.time item.body))
+      → IsPrefixOf after (before ++ drop_rest d table s (entries port item ++ future) q)
+  drop_prefix future q s before after h =
+      body_prefix (drop_next d table) (drop_gives d table) holds_none port item future q s s before before after
+      (sym (mark-same s item.mark))
+      (sym (ap (λ l. before ++ l) (mark-gives s q item.mark) ∙ append-nil before))
+      (subst (λ l. IsPrefixOf after (before ++ l)) (sym (body-gives s q item.body)) h)
+
+  decides-parts : (future : List Entry) (s : Batches) → drop_decides d table s (entries port item ++ future) ≡ decided_body d table s item.time item.body ++ drop_decides d table (next_body d table s item.time item.body) future
+  decides-parts future s =
+      ap (λ l. drop_decides d table s (l ++ future)) (at_port-append port (mark_part item.time item.mark) (body_part item.time item.body))
+      ∙ ap (drop_decides d table s) (append_assoc marks_part body_entries future)
+      ∙ decides-append s marks_part (body_entries ++ future)
+      ∙ ap₂ (λ l t. l ++ drop_decides d table t (body_entries ++ future)) (mark-decides s item.mark) (mark-same s item.mark)
+      ∙ decides-append s body_entries future
+      ∙ ap₂ (λ l t. l ++ drop_decides d table t future) (body-decides s item.body) (body-next s item.body)
+
+  pub decided_law : (future : List Entry) (s s2 : Batches) (before after : List Decision) → s2 ≡ next_body d table s item.time item.body → after ≡ before ++ decided_body d table s item.time item.body
+      → before ++ drop_decides d table s (entries port item ++ future) ≡ after ++ drop_decides d table s2 future
+  decided_law future s s2 before after is gave =
+      let some = decided_body d table s item.time item.body in
+      ap (λ l. before ++ l) (decides-parts future s)
+      ∙ sym (append_assoc before some (drop_decides d table (next_body d table s item.time item.body) future))
+      ∙ ap₂ (λ l t. l ++ drop_decides d table t future) (sym gave) (sym is)
+
+  pub decided_prefix : (future : List Entry) (s : Batches) (before after : List Decision) → IsPrefixOf after (before ++ decided_body d table s item.time item.body)
+      → IsPrefixOf after (before ++ drop_decides d table s (entries port item ++ future))
+  decided_prefix future s before after h =
+      subst (λ l. IsPrefixOf after (before ++ l)) (sym (decides-parts future s))
+      (IsPrefixOf-longer after before (decided_body d table s item.time item.body) (drop_decides d table (next_body d table s item.time item.body) future) h)
+
+  pub drop_times : 1 ≤ d.length → (q : ℕ) (s : Batches) → ThingsUpTo item.time (drop_rest d table s (entries port item) q)
+  drop_times some q s = by item.mark item.body
+    where
+      marks-up : (ms : List Timed) → AllByRecursion (λ (m : Timed). m.0 ≤ item.time) ms → ThingsUpTo item.time (map mark_thing ms)
+      marks-up [] h = tt
+      marks-up (m ∷ ms) h = (h.0, marks-up ms h.1)
+
+      tuple-up : (b : Bool) (fields : List Value) → ThingsUpTo item.time (if b then record { time = item.time; load = Body fields } ∷ [] else [])
+      tuple-up true fields = (omega arith, tt)
+      tuple-up false fields = tt
+
+      for-up : (fields : List Value) → ThingsUpTo item.time (at_zero q (for_tuple d table s item.time fields) ++ [])
+      for-up fields =
+          subst (ThingsUpTo item.time) (sym (append-nil (at_zero q (for_tuple d table s item.time fields))))
+          (UpTo-at_zero item.time q (for_tuple d table s item.time fields)
+          (ThingsUpTo-append item.time (map mark_thing (marks_for d table (newly d s.next item.time))) (if nat_lt item.time (after_tuple d table s item.time).bound then record { time = item.time; load = Body fields } ∷ [] else [])
+          (marks-up (marks_for d table (newly d s.next item.time)) (newly-early d some table item.time s.next)) (tuple-up (nat_lt item.time (after_tuple d table s item.time).bound) fields)))
+
+      by : (m : Option Mark) (b : Option (List Value)) → ThingsUpTo item.time (drop_rest d table s (at_port port (mark_part item.time m ++ body_part item.time b)) q)
+      by None None = tt
+      by (Some m) None = subst (λ l. ThingsUpTo item.time (l ++ [])) (sym (at_zero-nil q)) tt
+      by None (Some fields) = for-up fields
+      by (Some m) (Some fields) = subst (λ l. ThingsUpTo item.time (l ++ (at_zero q (for_tuple d table s item.time fields) ++ []))) (sym (at_zero-nil q)) (for-up fields)

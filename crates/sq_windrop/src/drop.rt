@@ -1,0 +1,327 @@
+//! The window drop.
+
+ghost use Rattle.std.specs.Prelude.{◌≡◌, ℕ, ◌+◌, ◌-◌, ◌*◌, ◌/◌, ◌^◌, ◌<◌, ◌≤◌, ◌==◌, ◌++◌, ◌∷◌, true, false, List, [], Some, map, length, is_some, IsTrue, IfOk, OnOk, OnErr, if◌then◌else◌};
+ghost use Rattle.sq_value.specs.declared.Value.{Value};
+ghost use Rattle.sq_value.specs.Lists.{IsPrefixOf};
+ghost use Rattle.sq_item.specs.Sound.{IsBody, IsMark, IsSound};
+ghost use Rattle.sq_item.specs.Things.{Thing};
+ghost use Rattle.sq_road.specs.Levels.{Agrees};
+ghost use Rattle.sq_oper.specs.declared.tally.Place.{Place};
+ghost use Rattle.sq_oper.specs.Entries.{Entry, entries};
+ghost use Rattle.sq_oper.specs.Given.{given, ItemsSound, ThingsUpTo};
+ghost use Rattle.sq_oper.specs.Order.{IsFuture, unmarked, after_all};
+ghost use Rattle.sq_oper.specs.Streams.{at_zero, tuples_of};
+ghost use Rattle.sq_tagged.specs.Tagged.{mark_thing, spread_of};
+ghost use Rattle.sq_tagged.specs.Boxes.{drop_tagged, touched_batches, until_at};
+ghost use Rattle.sq_windrop.specs.Drops.{IsDropping, dropping, is_dropped, drop_mark, marks_for, decided, bound_of, newly, after_tuple, next_body, gives_body, decided_body, drop_rest, drop_decides, port_fits, drop_reads, none_lost};
+
+use crate::give::give_item;
+use sq_item::{Item, Mark};
+use sq_oper::{Decision, Operator, Outs, Place, Tally};
+use sq_outside::Steps;
+use sq_road::{Levels, draw};
+use sq_value::{Fields, Value};
+use std::alloc::AllocError;
+use std::sync::ledger::Ledger;
+
+/// What a window drop is made with.
+#[derive(Clone, Copy, Debug, Drop)]
+pub struct Dropping {
+    /// The number of the drop.
+    pub number: u32,
+    /// How many ticks a batch lasts.
+    pub length: u64,
+    /// For how many ticks after a batch its tuples are needed.
+    pub keep: u64,
+    /// How many ticks an epoch lasts.
+    pub epoch: u64,
+    pub seed: u64,
+}
+
+/// The first batch that wasn't touched, and the greatest bound of the marks that were given.
+#[derive(Clone, Copy, Debug, Drop)]
+pub struct Batches {
+    pub next: u64,
+    pub bound: u64,
+}
+
+/// Decides for each batch of windows, when a tuple first touches it, whether it is dropped, by the level of the epoch
+/// in which it begins and a draw of its own. It gives a mark for each, and the tuples that a permitted batch needs.
+#[derive(Drop)]
+pub struct WinDropBox {
+    with: Dropping,
+    batches: Batches,
+    tally: Tally,
+}
+
+impl WinDropBox {
+    /// A window drop that nothing was fed to. It takes every tuple at port 0, and no marks.
+    pub fn new(w: u32, length: u64, keep: u64, epoch: u64, seed: u64) -> WinDropBox
+        requires length { (1 ≤ length) × (length ≤ 2 ^ 34) }
+        requires keep { keep < 4096 * length }
+        requires epoch { 1 ≤ epoch }
+        ensures marked { (table : ℕ → ℕ → ℕ) (future : List Entry) (q : ℕ)
+            → IsFuture (⟦<WinDropBox as Operator>⟧.takes_marks result) (⟦<WinDropBox as Operator>⟧.fits result) Place.Start future
+            → ⟦<WinDropBox as Operator>⟧.rest result table future q
+            ≡ at_zero q (spread_of (drop_tagged (is_dropped (dropping w length keep epoch seed) table) (until_at length keep) length (touched_batches length keep (tuples_of future)) (tuples_of future))) }
+        ensures decides { (table : ℕ → ℕ → ℕ) (future : List Entry)
+            → IsFuture (⟦<WinDropBox as Operator>⟧.takes_marks result) (⟦<WinDropBox as Operator>⟧.fits result) Place.Start future
+            → ⟦<WinDropBox as Operator>⟧.decides result table future ≡ decided (dropping w length keep epoch seed) table (touched_batches length keep (tuples_of future)) }
+        ensures fits { (port : ℕ) (fields : List Value) → ⟦<WinDropBox as Operator>⟧.fits result port fields ≡ (port == 0) }
+        ensures takes_marks { (port : ℕ) → ⟦<WinDropBox as Operator>⟧.takes_marks result port ≡ false }
+        ensures reads { (of : ℕ) → ⟦<WinDropBox as Operator>⟧.reads result of ≡ (of == epoch) }
+        ensures holds { (time : ℕ) (things : List Thing) → ⟦<WinDropBox as Operator>⟧.may_hold result time things → things ≡ [] }
+        ensures none_lost { (future : List Entry) → ⟦<WinDropBox as Operator>⟧.lost result future ≡ 0 }
+        ensures start { (⟦<WinDropBox as Operator>⟧.place result ≡ Place.Start) × (⟦<WinDropBox as Operator>⟧.taken result ≡ 0) }
+        ensures valid { ⟦<WinDropBox as Operator>⟧.valid result × IsTrue (⟦<WinDropBox as Operator>⟧.running result) }
+    {
+        WinDropBox {
+            with: Dropping {
+                number: w,
+                length,
+                keep,
+                epoch,
+                seed,
+            },
+            batches: Batches { next: 0, bound: 0 },
+            tally: Tally::new(),
+        }
+    }
+}
+
+/// Decides on a batch that a tuple of this time touches: its mark goes out, and a decision where it is dropped. Answers
+/// the mark's bound.
+fn decide(
+    with: &Dropping,
+    levels: &Levels,
+    time: u64,
+    batch: u64,
+    out: &mut Outs,
+) -> Result<u64, AllocError>
+    requires limits { IsDropping with.now }
+    requires tick { time < 2 ^ 40 }
+    requires begun { batch * with.now.length ≤ time }
+    requires epoch { with.now.epoch ≡ levels.now.epoch }
+    requires level { time / levels.now.epoch < levels.now.closed }
+    ensures given { OnOk result ((table : ℕ → ℕ → ℕ) → Agrees levels.now table → (q : ℕ)
+        → given q out.new.items.items ≡ given q out.old.items.items ++ at_zero q (mark_thing (drop_mark with.now table batch) ∷ [])) }
+    ensures bound { IfOk result (λ bound. (table : ℕ → ℕ → ℕ) → Agrees levels.now table → bound ≡ bound_of (drop_mark with.now table batch)) }
+    ensures drops { OnOk result ((table : ℕ → ℕ → ℕ) → Agrees levels.now table → out.new.drops.items ≡ out.old.drops.items ++ decided with.now table (batch ∷ [])) }
+    ensures prefix { OnErr result ((table : ℕ → ℕ → ℕ) → Agrees levels.now table → (q : ℕ)
+        → IsPrefixOf (given q out.new.items.items) (given q out.old.items.items ++ at_zero q (mark_thing (drop_mark with.now table batch) ∷ []))) }
+    ensures drops_err { OnErr result (out.new.drops.items ≡ out.old.drops.items) }
+    ensures sound { ItemsSound out.old.items.items → ItemsSound out.new.items.items }
+    ensures extends { IsPrefixOf out.old.items.items out.new.items.items }
+    ensures few { length out.new.items.items ≤ length out.old.items.items + 1 }
+{
+    let start = batch * with.length;
+    let level = levels.level(start / with.epoch, with.number);
+    let drawn = draw(with.seed, with.number, batch);
+    if drawn < level {
+        give_mark(start, Mark::Closed, out)?;
+        out.drops.push(Decision {
+            drop: with.number,
+            batch,
+            level,
+        })?;
+        return Ok(0);
+    }
+    let until = (batch + 1) * with.length + with.keep;
+    give_mark(start, Mark::Open { until }, out)?;
+    Ok(until)
+}
+
+/// Decides on each batch that a tuple of this time is the first to touch.
+fn touch(
+    with: &Dropping,
+    levels: &Levels,
+    time: u64,
+    batches: &mut Batches,
+    out: &mut Outs,
+) -> Result<(), AllocError>
+    requires limits { IsDropping with.now }
+    requires tick { time < 2 ^ 40 }
+    requires epoch { with.now.epoch ≡ levels.now.epoch }
+    requires level { time / levels.now.epoch < levels.now.closed }
+    ensures given { OnOk result ((table : ℕ → ℕ → ℕ) → Agrees levels.now table → (q : ℕ)
+        → given q out.new.items.items ≡ given q out.old.items.items ++ at_zero q (map mark_thing (marks_for with.now table (newly with.now batches.old.next time)))) }
+    ensures batches { OnOk result ((table : ℕ → ℕ → ℕ) → Agrees levels.now table → batches.new ≡ after_tuple with.now table batches.old time) }
+    ensures drops { OnOk result ((table : ℕ → ℕ → ℕ) → Agrees levels.now table → out.new.drops.items ≡ out.old.drops.items ++ decided with.now table (newly with.now batches.old.next time)) }
+    ensures prefix { OnErr result ((table : ℕ → ℕ → ℕ) → Agrees levels.now table → (q : ℕ)
+        → IsPrefixOf (given q out.new.items.items) (given q out.old.items.items ++ at_zero q (map mark_thing (marks_for with.now table (newly with.now batches.old.next time))))) }
+    ensures drops_prefix { OnErr result ((table : ℕ → ℕ → ℕ) → Agrees levels.now table
+        → IsPrefixOf out.new.drops.items (out.old.drops.items ++ decided with.now table (newly with.now batches.old.next time))) }
+    ensures sound { ItemsSound out.old.items.items → ItemsSound out.new.items.items }
+    ensures extends { IsPrefixOf out.old.items.items out.new.items.items }
+    ensures few { length out.new.items.items ≤ length out.old.items.items + 4097 }
+{
+    let end = time / with.length + 1;
+    let from = batches
+        .next
+        .max(time.saturating_sub(with.keep) / with.length);
+    let mut bound = batches.bound;
+    for batch in from..end {
+        let until = decide(with, levels, time, batch, out)?;
+        bound = bound.max(until);
+    }
+    *batches = Batches {
+        next: batches.next.max(end),
+        bound,
+    };
+    Ok(())
+}
+
+/// Takes an item's tuple: the marks of the batches that it is the first to touch, and then itself, if it is needed.
+fn take(
+    with: &Dropping,
+    levels: &Levels,
+    time: u64,
+    body: Option<Fields>,
+    batches: &mut Batches,
+    out: &mut Outs,
+) -> Result<(), AllocError>
+    requires limits { IsDropping with.now }
+    requires tick { time < 2 ^ 40 }
+    requires body { IsBody body }
+    requires epoch { with.now.epoch ≡ levels.now.epoch }
+    requires level { time / levels.now.epoch < levels.now.closed }
+    ensures given { OnOk result ((table : ℕ → ℕ → ℕ) → Agrees levels.now table → (q : ℕ)
+        → given q out.new.items.items ≡ given q out.old.items.items ++ at_zero q (gives_body with.now table batches.old time body)) }
+    ensures batches { OnOk result ((table : ℕ → ℕ → ℕ) → Agrees levels.now table → batches.new ≡ next_body with.now table batches.old time body) }
+    ensures drops { OnOk result ((table : ℕ → ℕ → ℕ) → Agrees levels.now table → out.new.drops.items ≡ out.old.drops.items ++ decided_body with.now table batches.old time body) }
+    ensures prefix { OnErr result ((table : ℕ → ℕ → ℕ) → Agrees levels.now table → (q : ℕ)
+        → IsPrefixOf (given q out.new.items.items) (given q out.old.items.items ++ at_zero q (gives_body with.now table batches.old time body))) }
+    ensures drops_prefix { OnErr result ((table : ℕ → ℕ → ℕ) → Agrees levels.now table
+        → IsPrefixOf out.new.drops.items (out.old.drops.items ++ decided_body with.now table batches.old time body)) }
+    ensures sound { ItemsSound out.old.items.items → ItemsSound out.new.items.items }
+    ensures extends { IsPrefixOf out.old.items.items out.new.items.items }
+    ensures few { length out.new.items.items ≤ length out.old.items.items + 4098 }
+{
+    let Some(fields) = body else {
+        return Ok(());
+    };
+    touch(with, levels, time, batches, out)?;
+    if time < batches.bound {
+        give_item(
+            Item {
+                time,
+                mark: None,
+                body: Some(fields),
+            },
+            out,
+        )?;
+    }
+    Ok(())
+}
+
+/// A mark goes out, with no tuple.
+fn give_mark(time: u64, mark: Mark, out: &mut Outs) -> Result<(), AllocError>
+    requires tick { time < 2 ^ 40 }
+    requires mark { IsMark (Some mark) }
+    ensures given { OnOk result ((q : ℕ) → given q out.new.items.items ≡ given q out.old.items.items ++ at_zero q (mark_thing (time, mark) ∷ [])) }
+    ensures err { OnErr result (out.new.items.items ≡ out.old.items.items) }
+    ensures sound { ItemsSound out.old.items.items → ItemsSound out.new.items.items }
+    ensures extends { IsPrefixOf out.old.items.items out.new.items.items }
+    ensures drops { out.new.drops.items ≡ out.old.drops.items }
+    ensures one { length out.new.items.items ≤ length out.old.items.items + 1 }
+{
+    give_item(
+        Item {
+            time,
+            mark: Some(mark),
+            body: None,
+        },
+        out,
+    )
+}
+
+impl Operator for WinDropBox {
+    ghost valid = { λ s. IsDropping s.with };
+
+    ghost running = { λ s. s.tally.running };
+
+    ghost taken = { λ s. s.tally.taken };
+
+    ghost place = { λ s. s.tally.place };
+
+    ghost takes_marks = { λ s. unmarked };
+
+    ghost fits = { λ s. port_fits };
+
+    ghost reads = { λ s. drop_reads s.with };
+
+    ghost rest = { λ s table future q. drop_rest s.with table s.batches future q };
+
+    ghost decides = { λ s table future. drop_decides s.with table s.batches future };
+
+    ghost may_hold = { λ s time things. things ≡ [] };
+
+    ghost lost = { λ s. none_lost };
+
+    fn feed<L: Ledger>(
+        &mut self,
+        levels: &Levels,
+        port: u32,
+        item: Item,
+        out: &mut Outs,
+        steps: &mut Steps<L>,
+    ) -> Result<(), AllocError>
+        requires is_valid { IsDropping self.old.with }
+        requires is_running { IsTrue self.old.tally.running }
+        requires may_come { IsFuture unmarked port_fits self.old.tally.place (entries port item) }
+        requires is_sound { IsSound item }
+        requires has_epoch { IsTrue (drop_reads self.old.with levels.now.epoch) }
+        requires has_level { item.time / levels.now.epoch < levels.now.closed }
+        requires has_room { is_some item.body ≡ true → self.old.tally.taken < 2 ^ 62 - 1 }
+        ensures law { OnOk result ((table : ℕ → ℕ → ℕ) (future : List Entry) → Agrees levels.now table
+            → IsFuture (unmarked) (port_fits) (self.old.tally.place) (entries port item ++ future)
+            → (q : ℕ) → given q out.old.items.items ++ drop_rest self.old.with table self.old.batches (entries port item ++ future) q
+            ≡ given q out.new.items.items ++ drop_rest self.new.with table self.new.batches future q) }
+        ensures decided { OnOk result ((table : ℕ → ℕ → ℕ) (future : List Entry) → Agrees levels.now table
+            → IsFuture (unmarked) (port_fits) (self.old.tally.place) (entries port item ++ future)
+            → out.old.drops.items ++ drop_decides self.old.with table self.old.batches (entries port item ++ future)
+            ≡ out.new.drops.items ++ drop_decides self.new.with table self.new.batches future) }
+        ensures loses { OnOk result ((future : List Entry) → none_lost (entries port item ++ future) ≡ none_lost future) }
+        ensures extends { IsPrefixOf out.old.items.items out.new.items.items }
+        ensures prefix { OnErr result ((table : ℕ → ℕ → ℕ) (future : List Entry) → Agrees levels.now table
+            → IsFuture (unmarked) (port_fits) (self.old.tally.place) (entries port item ++ future)
+            → (q : ℕ) → IsPrefixOf (given q out.new.items.items) (given q out.old.items.items ++ drop_rest self.old.with table self.old.batches (entries port item ++ future) q)) }
+        ensures decided_prefix { OnErr result ((table : ℕ → ℕ → ℕ) (future : List Entry) → Agrees levels.now table
+            → IsFuture (unmarked) (port_fits) (self.old.tally.place) (entries port item ++ future)
+            → IsPrefixOf out.new.drops.items (out.old.drops.items ++ drop_decides self.old.with table self.old.batches (entries port item ++ future))) }
+        ensures times { OnOk result ((table : ℕ → ℕ → ℕ) → Agrees levels.now table → (q : ℕ) → ThingsUpTo item.time (drop_rest self.old.with table self.old.batches (entries port item) q)) }
+        ensures sound { ItemsSound out.old.items.items → ItemsSound out.new.items.items }
+        ensures held { OnOk result ((table : ℕ → ℕ → ℕ) (q : ℕ) → drop_rest self.new.with table self.new.batches [] q ≡ []) }
+        ensures same_hold { OnOk result ((time : ℕ) (things : List Thing) → things ≡ [] → things ≡ []) }
+        ensures settled { OnOk result ((table : ℕ → ℕ → ℕ) → drop_decides self.new.with table self.new.batches [] ≡ []) }
+        ensures stays_valid { OnOk result (IsDropping self.new.with × IsTrue (self.new.tally.running)) }
+        ensures moves { OnOk result (self.new.tally.place ≡ after_all (self.old.tally.place) (entries port item)) }
+        ensures same { OnOk result ((unmarked ≡ unmarked) × (port_fits ≡ port_fits)) }
+        ensures same_epoch { OnOk result (drop_reads self.new.with ≡ drop_reads self.old.with) }
+        ensures counted { OnOk result (self.new.tally.taken ≡ self.old.tally.taken + (if is_some item.body then 1 else 0)) }
+        ensures cost { OnOk result (steps.new ≡ steps.old + (if is_some item.body then 1 else 0)) }
+        ensures no_cost { OnErr result (steps.new ≡ steps.old) }
+        // A drop appends the marks of few batches at once.
+        ensures few { length out.new.items.items ≤ length out.old.items.items + 4098 }
+    {
+        self.tally.note(port, &item);
+        let fed = item.body.is_some();
+        take(
+            &self.with,
+            levels,
+            item.time,
+            item.body,
+            &mut self.batches,
+            out,
+        )?;
+        if fed {
+            steps.tick();
+        }
+        Ok(())
+    }
+
+    fn finish(&mut self, _out: &mut Outs) -> Result<(), AllocError> {
+        self.tally.running = false;
+        Ok(())
+    }
+}
