@@ -1,7 +1,6 @@
 -- A finished actor has neither given nor holds just what it loses.
-use Rattle.std.proofs.Common.{◌≡◌, ℕ, ◌+◌, ◌-◌, false, List, [], map, length, refl, ap, arith}
+use Rattle.std.proofs.Common.{◌≡◌, false, [], length, refl, ap, arith}
 use Rattle.sq_lists.specs.Sorters.{sort_flush}
-use Rattle.sq_plain.specs.declared.bsort.BSortBox.{BSortBox}
 use Rattle.sq_actor.specs.declared.actor.Actor.{Actor}
 use Rattle.sq_actor.specs.declared.actor.Actor.TheVariants.{Filter, Map, Union, BSort, Aggregate, Join, Shed, Gate}
 use Rattle.sq_actor.specs.contracts.actor.ActorOperator.TheImpl.{ghosts}

@@ -13,3 +13,10 @@ pub mod Alls
 pub mod PortLow
 pub mod BoxTypes
 pub mod StreamTypes
+pub mod ArcCounts
+pub mod BatchLemmas
+pub mod EpochLemmas
+pub mod FirstLemmas
+pub mod ShedLemmas
+pub mod WorkLemmas
+pub mod MeasuredLemmas

@@ -8,19 +8,24 @@
 //! functions of whole lists, the order of boxes, and the typed network.
 #![tactic(auto)]
 
+mod answers;
 mod arcs;
 mod boxes;
+mod drops;
+mod epochs;
+mod known;
 mod laws;
+mod numbers;
 mod streams;
 #[cfg(test)]
 mod tests;
-mod work;
 
+pub use answers::{answer, dropped, work};
 pub use arcs::full;
 pub use boxes::stream_in;
 pub use laws::{
     full_streams_are_streams, full_streams_fit, full_streams_follow, late_tuples_are_the_rest,
     sound_is_placed,
 };
+pub use numbers::{fed, late};
 pub use streams::full_streams;
-pub use work::{fed, late};

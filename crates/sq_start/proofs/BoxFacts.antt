@@ -1,6 +1,5 @@
 -- What the law of early drop says of the box that a new actor stands for.
-use Rattle.std.proofs.Common.{◌≡◌, ℕ, ◌-◌, Bool, true, false, ◌&&◌, List, [], ◌∷◌, map, length, Option, Some, None, refl, ap, sym, ◌∙◌, subst}
-use Rattle.std.specs.Prelude.{slice_get}
+use Rattle.std.proofs.Common.{◌≡◌, ℕ, ◌-◌, Bool, true, false, List, [], ◌∷◌, length, Option, Some, None, refl, ap, sym, ◌∙◌, subst}
 use Rattle.std.specs.List.{All}
 use Rattle.std.proofs.lemmas.List.FromFn.{length-range_with_len}
 use Rattle.sq_place.proofs.Wires.{length-mapped}
@@ -15,7 +14,6 @@ use Rattle.sq_tagged.specs.Tagged.{HasNoMarks}
 use Rattle.sq_graph.specs.Wires.{inputs_of, input_arcs_of, arc_at}
 use Rattle.sq_value.specs.Lists.{numbers_to, max_by}
 use Rattle.sq_net.specs.declared.Body.{Body}
-use Rattle.sq_net.specs.declared.Node.{Node}
 use Rattle.sq_net.specs.Sound.{IsSound}
 use Rattle.sq_model.specs.Fit.{SourcesFit}
 use Rattle.sq_model.specs.Shedding.{Replay}

@@ -33,7 +33,7 @@ use Rattle.sq_model.specs.Shedding.{Replay, level_of}
 use Rattle.sq_below.specs.Standing.{pairs_in, box_fed}
 use Rattle.sq_below.specs.Ports.{FuturesWiden}
 use Rattle.sq_start.specs.Starts.{IsBox, BoxStarts}
-use Rattle.sq_start.proofs.BoxFacts.{Ready, lags-many, box-future, box-stream, not-marked}
+use Rattle.sq_start.proofs.BoxFacts.{Ready, box-future, box-stream, not-marked}
 use Rattle.sq_start.proofs.Late.{late-sorted}
 
 -- a box that loses nothing has no late tuples

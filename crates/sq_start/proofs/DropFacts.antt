@@ -1,6 +1,6 @@
 -- New window drops and gates: by their clauses, what they do for all that they are fed.
-use Rattle.std.proofs.Common.{◌≡◌, ℕ, Bool, true, false, List, [], ◌∷◌, map, Option, Some, None, refl, ap, sym, ◌∙◌, subst}
-use Rattle.std.specs.Prelude.{slice_get, ◌==◌}
+use Rattle.std.proofs.Common.{◌≡◌, ℕ, Bool, true, List, [], ◌∷◌, map, Option, Some, None, refl, ap, sym, ◌∙◌, subst}
+use Rattle.std.specs.Prelude.{◌==◌}
 use Rattle.std.specs.List.{All, AllByRecursion, filter}
 use Rattle.sq_value.specs.declared.Value.{Value}
 use Rattle.sq_value.specs.Values.{IsStream}
@@ -17,15 +17,14 @@ use Rattle.sq_windrop.specs.Drops.{dropping, is_dropped, decision, decided}
 use Rattle.sq_windrop.specs.Gates as gates
 use Rattle.sq_place.specs.declared.DropPoint.{DropPoint}
 use Rattle.sq_net.specs.Sound.{IsSound}
-use Rattle.sq_points.specs.Points.{points_of}
 use Rattle.sq_model.specs.Fit.{SourcesFit}
 use Rattle.sq_model.specs.Shedding.{Replay, level_of, drop_above_output}
 use Rattle.sq_below.specs.Laws.{PointsMeasured}
 use Rattle.sq_below.specs.Standing.{Drop, drop_gives, drop_decides, gate_gives, drop_fed, output_fed, DropsFit}
-use Rattle.sq_below.specs.Actors.{Shedder, Shower, drop_stream, stream_of}
-use Rattle.sq_below.specs.Ports.{marks_where, first_port, first_alone, AllReady, FuturesWiden}
-use Rattle.sq_start.specs.Nets.{decision_on, decisions_of}
-use Rattle.sq_start.specs.Starts.{IsRead, IsDrop, length_above, IsOutput, DropStarts, OutputStarts}
+use Rattle.sq_below.specs.Actors.{drop_stream}
+use Rattle.sq_below.specs.Ports.{marks_where, first_port, first_alone, FuturesWiden}
+use Rattle.sq_start.specs.Nets.{decision_on}
+use Rattle.sq_start.specs.Starts.{IsDrop, length_above, IsOutput, DropStarts, OutputStarts}
 use Rattle.sq_start.proofs.BoxFacts.{Ready}
 use Rattle.sq_start.proofs.PointLemmas.{own-arc, own-drop}
 use Rattle.sq_start.proofs.OwnArcs.{own-fed}

@@ -1,5 +1,5 @@
 -- What comes to each operator of a new engine is what the replay says that it is fed.
-use Rattle.std.proofs.Common.{◌≡◌, ◌≢◌, ℕ, suc, ◌+◌, ◌<◌, ◌≤◌, Bool, true, false, cond, List, [], ◌∷◌, map, length, get_or, Option, Some, None, refl, ap, sym, ◌∙◌, subst, inl, inr, arith}
+use Rattle.std.proofs.Common.{◌≡◌, ◌≢◌, ℕ, ◌<◌, ◌≤◌, true, false, cond, List, [], ◌∷◌, map, get_or, Some, refl, ap, sym, ◌∙◌, subst, inl, inr, arith}
 use Rattle.std.specs.Prelude.{slice_get, nat_lt}
 use Rattle.std.specs.List.{AllByRecursion}
 use Rattle.std.proofs.lemmas.Bool.{cases_lt}
@@ -7,32 +7,25 @@ use Rattle.std.proofs.lemmas.Bool.Decides.{nat_tests}
 use Rattle.std.proofs.lemmas.Option.{slice_get-get_or}
 use Rattle.sq_item.specs.Things.{Thing}
 use Rattle.sq_oper.specs.Order.{merge, IsFuture}
-use Rattle.sq_oper.specs.Streams.{things}
 use Rattle.sq_oper.specs.declared.tally.Place.TheVariants.{Start}
-use Rattle.sq_graph.specs.Wires.{Arc, Output, arcs_of, producers_of, producer_of, input_arcs_of, output_arc_at}
+use Rattle.sq_graph.specs.Wires.{producer_of, input_arcs_of}
 use Rattle.sq_place.specs.declared.DropPoint.{DropPoint}
-use Rattle.sq_place.specs.declared.DropAt.{DropAt}
 use Rattle.sq_place.specs.declared.DropAt.TheVariants as at
-use Rattle.sq_place.specs.Places.{stream_or, stream_on, own_arcs}
 use Rattle.sq_place.proofs.Wires.{map-map}
-use Rattle.sq_place.proofs.Apart.{one-only}
-use Rattle.sq_graph.specs.Order.{contains_number}
-use Rattle.sq_net.specs.declared.Network.{Network}
 use Rattle.sq_points.specs.Points.{points_of}
-use Rattle.sq_model.specs.Full.{nth, full_on, full_arc, full_stream}
-use Rattle.sq_model.specs.Shedding.{Replay, full_at}
+use Rattle.sq_model.specs.Shedding.{Replay}
 use Rattle.sq_left.specs.Left.{Net, World}
 use Rattle.sq_left.specs.Streams.{fed_by, Follows, IsStart}
 use Rattle.sq_below.specs.Laws.{PointsMeasured}
-use Rattle.sq_below.specs.Standing.{Drop, drop_on_arc, toward, leaving, drop_fed, DropsFit}
-use Rattle.sq_below.specs.Actors.{Actor, Sources, Box, Shedder, Shower, giver, stream_from, arc_from, stream_of, StreamsFollow}
-use Rattle.sq_start.specs.Numbers.{drops_of, ops_of, number_of, actor_at, place_stream, drop_reads, reads_of}
+use Rattle.sq_below.specs.Standing.{drop_fed, DropsFit}
+use Rattle.sq_below.specs.Actors.{Actor, Box, Shedder, Shower, giver, arc_from, stream_of, StreamsFollow}
+use Rattle.sq_start.specs.Numbers.{IsThere, ops_of, number_of, actor_at, place_stream, drop_reads, reads_of}
 use Rattle.sq_start.specs.Nets.{AllCome, fed_to, drop_fed_at}
 use Rattle.sq_start.specs.Starts.{IsRead}
 use Rattle.sq_start.specs.Laws.{IsNew}
 use Rattle.sq_start.proofs.PointLemmas.{own-arc, own-drop}
 use Rattle.sq_start.proofs.OwnArcs.{own-fed}
-use Rattle.sq_start.proofs.NumberLemmas.{Which, which, box-at, drop-at, output-at, replay-at, IsThere, there-at, reads-there}
+use Rattle.sq_start.proofs.NumberLemmas.{Which, which, box-at, drop-at, output-at, replay-at, there-at, reads-there}
 
 -- the streams of a replay by operator; behind the replay there is none
 abbrev pub streams_by : Replay → ℕ → ℕ → List Thing

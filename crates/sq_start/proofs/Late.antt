@@ -1,5 +1,5 @@
 -- The late tuples of a BSort: it lies below no drop, so it is fed its full stream, and gives its box's.
-use Rattle.std.proofs.Common.{◌≡◌, ℕ, zero, suc, ◌+◌, ◌-◌, ◌<◌, eqb, Bool, true, false, ◌||◌, List, [], ◌∷◌, map, length, get_or, Option, Some, None, refl, ap, sym, ◌∙◌, subst, arith}
+use Rattle.std.proofs.Common.{◌≡◌, ℕ, zero, suc, ◌-◌, ◌<◌, eqb, Bool, true, false, ◌||◌, List, [], ◌∷◌, map, length, get_or, Option, Some, None, refl, ap, sym, ◌∙◌, subst, arith}
 use Rattle.std.specs.Prelude.{slice_get}
 use Rattle.std.specs.List.{sum_by, list_all}
 use Rattle.std.proofs.lemmas.Bool.Decides.{nat_tests}
@@ -12,7 +12,6 @@ use Rattle.sq_item.specs.Things.{Thing}
 use Rattle.sq_oper.specs.Entries.{at_port}
 use Rattle.sq_oper.specs.Order.{merge, merge_two}
 use Rattle.sq_oper.specs.Streams.{tuples_of, thing_of, things}
-use Rattle.sq_graph.specs.declared.BoxKind.{BoxKind}
 use Rattle.sq_graph.specs.declared.BoxKind.TheVariants as kinds
 use Rattle.sq_graph.specs.declared.BoxWires.{BoxWires}
 use Rattle.sq_graph.specs.Wires.{Arc, Port, producers_of, producer_of, arcs_of, inputs_at, inputs_of, input_arcs_of, stream_at}
@@ -20,7 +19,6 @@ use Rattle.sq_graph.specs.Order.{contains_number}
 use Rattle.sq_graph.proofs.Reach.{and_parts}
 use Rattle.sq_place.specs.Places.{stream_or, stream_on}
 use Rattle.sq_place.proofs.Wires.{map-map, length-mapped, arcs-inputs}
-use Rattle.sq_net.specs.declared.Body.{Body}
 use Rattle.sq_net.specs.declared.Body.TheVariants.{BSort}
 use Rattle.sq_net.specs.declared.Node.{Node}
 use Rattle.sq_net.specs.declared.Network.{Network}
@@ -28,7 +26,7 @@ use Rattle.sq_net.specs.Sound.{IsSound, IsTypedBody, input_columns, kind_of_body
 use Rattle.sq_net.proofs.StreamLemmas.{boxes_count}
 use Rattle.sq_model.specs.Full.{nth, box_list, box_list_at, produced, full_on, full_arc, full_stream, full_streams}
 use Rattle.sq_model.specs.Fed.{fed_of, late_at, late_by, late_of}
-use Rattle.sq_model.specs.Shedding.{Replay, drop_above_arc}
+use Rattle.sq_model.specs.Shedding.{Replay}
 use Rattle.sq_model.proofs.NumberLemmas.{producer_at}
 use Rattle.sq_model.proofs.FullLemmas.{full_follows, full_listed}
 use Rattle.sq_model.proofs.PlacedLemmas.{placed_of}

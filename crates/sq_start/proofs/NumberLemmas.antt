@@ -1,5 +1,5 @@
 -- Operators by number, and that those that are read are there.
-use Rattle.std.proofs.Common.{◌≡◌, ℕ, suc, ◌+◌, ◌-◌, ◌<◌, ◌≤◌, ◌⊎◌, Bool, true, false, cond, List, [], ◌∷◌, map, length, Option, Some, None, refl, ap, sym, ◌∙◌, inl, inr, arith}
+use Rattle.std.proofs.Common.{◌≡◌, ℕ, ◌+◌, ◌-◌, ◌<◌, ◌≤◌, ◌⊎◌, true, false, List, [], ◌∷◌, map, length, Option, Some, None, refl, ap, inl, inr, arith}
 use Rattle.std.specs.Prelude.{slice_get, nat_lt}
 use Rattle.std.specs.List.{AllByRecursion}
 use Rattle.std.proofs.lemmas.Bool.{cases_lt}
@@ -15,7 +15,7 @@ use Rattle.sq_place.specs.Places.{stream_on}
 use Rattle.sq_points.specs.Points.{points_of}
 use Rattle.sq_below.specs.Standing.{Drop, drop_on_arc}
 use Rattle.sq_below.specs.Actors.{Actor, Sources, Box, Shedder, Shower, giver, from_drop, arc_from}
-use Rattle.sq_start.specs.Numbers.{drops_of, first_output, ops_of, number_of, actor_at, place_stream, drop_reads, reads_of}
+use Rattle.sq_start.specs.Numbers.{IsThere, drops_of, first_output, ops_of, number_of, actor_at, place_stream, drop_reads, reads_of}
 use Rattle.sq_start.proofs.PointLemmas.{first-found}
 
 less : (a b : ℕ) → a < b → nat_lt a b ≡ true
@@ -64,12 +64,6 @@ which n k low =
             | inr b ↦ inr (inr (k - first_output n, omega (arith, b), omega (arith, b, low)))
           ])
     ]
-
-abbrev pub IsThere : Network → Actor → Type 0
-IsThere n Sources = Unit {0}
-IsThere n (Box b) = b < length n.boxes
-IsThere n (Shedder w) = w < drops_of n
-IsThere n (Shower o) = o < length n.wires.outputs
 
 pub there-at : (n : Network) (x : Actor) → IsThere n x → (number_of n x ≤ ops_of n) × (actor_at n (number_of n x) ≡ x)
 there-at n Sources h = (omega arith, replay-at n)

@@ -1,5 +1,5 @@
 -- The full stream at a drop point is that of its own arcs.
-use Rattle.std.proofs.Common.{◌≡◌, ℕ, true, List, [], ◌∷◌, length, get_or, Option, Some, None, refl, ap, sym, ◌∙◌, subst}
+use Rattle.std.proofs.Common.{◌≡◌, true, [], ◌∷◌, length, get_or, Some, refl, ap, sym, ◌∙◌, subst}
 use Rattle.std.specs.Prelude.{slice_get}
 use Rattle.std.proofs.lemmas.Option.{slice_get-get_or}
 use Rattle.sq_oper.specs.Order.{merge}
@@ -9,7 +9,7 @@ use Rattle.sq_graph.specs.Order.{contains_number}
 use Rattle.sq_place.specs.declared.DropPoint.{DropPoint}
 use Rattle.sq_place.specs.declared.DropAt.{DropAt}
 use Rattle.sq_place.specs.declared.DropAt.TheVariants as at
-use Rattle.sq_place.specs.Places.{stream_or, stream_on, own_arcs}
+use Rattle.sq_place.specs.Places.{stream_or, own_arcs}
 use Rattle.sq_place.proofs.Apart.{one-only}
 use Rattle.sq_model.specs.Full.{full_on, full_arc, full_stream}
 use Rattle.sq_model.specs.Shedding.{Replay, full_at}

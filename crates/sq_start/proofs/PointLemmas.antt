@@ -1,19 +1,19 @@
 -- The drop points of a network: where they are found, what stands above a box's arcs, and their own arcs.
-use Rattle.std.proofs.Common.{◌≡◌, ℕ, zero, suc, ◌+◌, ◌<◌, ◌⊎◌, eqb, Bool, true, false, cond, not, ◌&&◌, ◌||◌, List, [], ◌∷◌, map, length, Option, Some, None, refl, ap, sym, ◌∙◌, subst, inl, inr, arith}
+use Rattle.std.proofs.Common.{◌≡◌, ℕ, zero, suc, ◌+◌, ◌<◌, ◌⊎◌, eqb, Bool, true, false, cond, not, ◌&&◌, ◌||◌, List, [], ◌∷◌, length, drop, get_or, Option, Some, None, refl, ap, sym, ◌∙◌, subst, inl, inr, arith}
 use Rattle.std.specs.Prelude.{slice_get, is_some}
 use Rattle.std.specs.List.{filter, filter_map, list_any, cons_option}
 use Rattle.std.specs.Option.{option_map}
-use Rattle.std.proofs.lemmas.Bool.{cases_lt}
 use Rattle.std.proofs.lemmas.Bool.Decides.{nat_tests}
-use Rattle.std.proofs.lemmas.Option.{slice_get-map, slice_get_within}
+use Rattle.std.proofs.lemmas.List.{drop_more}
+use Rattle.std.proofs.lemmas.Option.{slice_get-map, slice_get-get_or}
 use Rattle.sq_value.specs.Lists.{numbers_to}
 use Rattle.sq_graph.specs.declared.Wiring.{Wiring}
-use Rattle.sq_graph.specs.Wires.{Producer, arcs_of, producer_of, input_arcs_of, output_arc_at}
+use Rattle.sq_graph.specs.Wires.{arcs_of, input_arcs_of, output_arc_at}
 use Rattle.sq_graph.specs.Order.{contains_number}
 use Rattle.sq_place.specs.declared.DropAt.{DropAt}
 use Rattle.sq_place.specs.declared.DropAt.TheVariants as at
 use Rattle.sq_place.specs.declared.DropPoint.{DropPoint}
-use Rattle.sq_place.specs.Places.{Windows, window_at, reach_added, stream_on, own_arcs, arc_numbers, arcs_leaving, box_before, greatest, through, dist_within, is_reached, reached_arcs, outputs_below, is_candidate, candidates_of, places_of, lies_below, drop_places_of}
+use Rattle.sq_place.specs.Places.{Windows, window_at, reach_added, stream_on, own_arcs, arc_numbers, box_before, greatest, through, dist_within, is_reached, reached_arcs, outputs_below, is_candidate, candidates_of, places_of, lies_below, drop_places_of}
 use Rattle.sq_place.specs.Points.{point_at, dist_of}
 use Rattle.sq_place.proofs.Lists.{and-left, and-right, any-map, contains-filter, contains-range, range-contains}
 use Rattle.sq_net.specs.declared.Network.{Network}
@@ -199,3 +199,12 @@ own-arc n k p there fine =
 -- a drop stands on it
 pub own-drop : (n : Network) (k : ℕ) (p : DropPoint) → slice_get (points_of n) k ≡ Some p → (o : OwnArc n p) → (d : Drop) × (drop_on_arc n o.arc ≡ Some d)
 own-drop n k p there o = first-some (λ q. contains_number (own_arcs n.wires q.at) o.arc) 0 (points_of n) k p there o.own
+
+-- ---- one drop after another
+
+pub there-in : (ps : List DropPoint) (w : ℕ) (p : DropPoint) → w < length ps → p ≡ get_or ps w p → slice_get ps w ≡ Some p
+there-in ps w p low is = slice_get-get_or ps w p low ∙ ap Some (sym is)
+
+pub first-step : (t : DropPoint → Bool) (ps : List DropPoint) (first w : ℕ) (p : DropPoint) → w < length ps → p ≡ get_or ps w p
+    → first_drop t first (drop w ps) ≡ cond (t p) (Some (first, p)) (first_drop t (first + 1) (drop (w + 1) ps))
+first-step t ps first w p low is = ap (first_drop t first) (drop_more ps w p low ∙ ap (λ x. x ∷ drop (w + 1) ps) (sym is))

@@ -1,17 +1,16 @@
 -- What is left of a new engine is what the replay of its network says.
-use Rattle.std.proofs.Common.{◌≡◌, ◌≢◌, ℕ, ◌+◌, ◌<◌, ◌≤◌, true, List, [], ◌∷◌, length, Option, Some, None, refl, ap, sym, ◌∙◌, subst, inl, inr, arith}
+use Rattle.std.proofs.Common.{◌≡◌, ◌≢◌, ℕ, ◌+◌, ◌<◌, ◌≤◌, List, length, Option, Some, None, refl, ap, ◌∙◌, subst, arith}
 use Rattle.std.specs.Prelude.{slice_get}
 use Rattle.std.specs.List.{sum_by}
-use Rattle.sq_value.specs.declared.Tuple.{Tuple}
 use Rattle.sq_value.specs.Lists.{numbers_to}
-use Rattle.sq_oper.specs.Streams.{tuples_of, things, at_zero}
+use Rattle.sq_oper.specs.Streams.{tuples_of, things}
 use Rattle.sq_graph.specs.Wires.{input_arcs_of, output_arc_at}
 use Rattle.sq_place.specs.declared.DropPoint.{DropPoint}
 use Rattle.sq_net.proofs.StreamLemmas.{boxes_count}
 use Rattle.sq_points.specs.Points.{points_of}
-use Rattle.sq_model.specs.Shedding.{Replay, full_at, answer_of}
+use Rattle.sq_model.specs.Shedding.{Replay}
 use Rattle.sq_model.specs.Kept.{kept_of, fed_of, work_of, turns_of}
-use Rattle.sq_left.specs.Left.{Net, World, coming, inputs, known, IsWired, fed_in_all}
+use Rattle.sq_left.specs.Left.{Net, World, coming, inputs, IsWired, fed_in_all}
 use Rattle.sq_left.proofs.NewEngine.{new-left, new-inputs, new-facts}
 use Rattle.sq_below.specs.Laws.{PointsMeasured}
 use Rattle.sq_below.specs.Standing.{DropsFit, OutputsFit, FedCounted}
@@ -20,7 +19,7 @@ use Rattle.sq_start.specs.Numbers.{drops_of, first_output, ops_of, actor_at}
 use Rattle.sq_start.specs.Nets.{fed_to, drop_fed_at, drop_count, count_fed}
 use Rattle.sq_start.specs.Starts.{IsRead}
 use Rattle.sq_start.specs.Laws.{IsNew, StartsAs, HasAll}
-use Rattle.sq_start.proofs.NumberLemmas.{box-at, drop-at, output-at, Which, which}
+use Rattle.sq_start.proofs.NumberLemmas.{box-at, drop-at, output-at}
 use Rattle.sq_start.proofs.Sums.{total, total-same, total-added, total-split, total-items, sum-total}
 use Rattle.sq_start.proofs.Turns.{marks_on, box-takes, drop-takes, output-takes, each-once, marks-few}
 use Rattle.sq_start.proofs.Feeding.{streams_by, stream-low, fed-is, start, follows}

@@ -1,15 +1,14 @@
 -- How many marks and tuples the operators take in all: the work, and no more marks than one for each touched batch on each arc
 -- below a drop.
-use Rattle.std.proofs.Common.{◌≡◌, ℕ, zero, suc, ◌+◌, ◌*◌, ◌<◌, ◌≤◌, eqb, Bool, true, false, cond, ◌||◌, List, [], ◌∷◌, ◌++◌, map, take, length, Option, Some, None, refl, ap, sym, ◌∙◌, subst, length-append, arith}
+use Rattle.std.proofs.Common.{◌≡◌, ℕ, zero, suc, ◌+◌, ◌*◌, ◌≤◌, eqb, Bool, true, false, cond, ◌||◌, List, [], ◌∷◌, ◌++◌, map, take, length, Option, Some, None, refl, ap, ◌∙◌, length-append, arith}
 use Rattle.std.specs.Prelude.{slice_get}
-use Rattle.std.specs.List.{sum_by, list_any, range_with_len}
+use Rattle.std.specs.List.{sum_by, list_any}
 use Rattle.std.proofs.lemmas.List.{take_all}
-use Rattle.std.proofs.lemmas.List.Sums.{sum_by-cons, sum_by-append}
-use Rattle.sq_value.specs.declared.Tuple.{Tuple}
+use Rattle.std.proofs.lemmas.List.Sums.{sum_by-cons}
 use Rattle.sq_value.specs.Lists.{numbers_to, insert_by, sort_by}
 use Rattle.sq_item.specs.Things.{Thing}
 use Rattle.sq_oper.specs.Entries.{Entry, at_port}
-use Rattle.sq_oper.specs.Order.{earlier, merge, merge_under, merge_two, merge_from}
+use Rattle.sq_oper.specs.Order.{earlier, merge_under, merge_two, merge_from}
 use Rattle.sq_oper.specs.Streams.{thing_of, things}
 use Rattle.sq_tagged.specs.Tagged.{Timed, Tagged, mark_thing, sooner, spread_of, lessened}
 use Rattle.sq_graph.specs.declared.BoxWires.{BoxWires}
@@ -18,7 +17,6 @@ use Rattle.sq_graph.specs.Wires.{inputs_at, inputs_of, arc_at, input_arcs_of, ou
 use Rattle.sq_place.specs.declared.DropPoint.{DropPoint}
 use Rattle.sq_place.proofs.Wires.{length-mapped}
 use Rattle.sq_place.specs.Points.{until_of}
-use Rattle.sq_net.specs.declared.Network.{Network}
 use Rattle.sq_points.specs.Points.{points_of}
 use Rattle.sq_model.specs.Full.{full_arc}
 use Rattle.sq_model.specs.Shedding.{Replay, first_drop, drop_above_arc, touched_batches, full_at, is_dropped}
@@ -26,7 +24,7 @@ use Rattle.sq_model.specs.Kept.{distance_of, needed, kept_of, fed_of}
 use Rattle.sq_tagged.specs.Boxes.{mark_of}
 use Rattle.sq_below.specs.Carried.{drop_marks, marked_arc}
 use Rattle.sq_below.specs.Standing.{Drop, standing, on_arc, box_fed, drop_fed, output_fed}
-use Rattle.sq_start.proofs.Sums.{total, total-same, total-fewer, total-added, total-split, sum-total, total-once}
+use Rattle.sq_start.proofs.Sums.{total, total-fewer, total-added, total-split, sum-total, total-once}
 
 -- ---- the length of a merge
 

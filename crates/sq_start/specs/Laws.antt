@@ -10,7 +10,7 @@ use Rattle.sq_model.specs.Fed.{late_of}
 use Rattle.sq_model.specs.Shedding.{Replay, answer_of}
 use Rattle.sq_model.specs.Kept.{work_of, turns_of}
 use Rattle.sq_left.specs.Left.{Net, World, coming, inputs, known, IsWired, Facts, fed_in_all, lost_in_all, still_dropped}
-use Rattle.sq_below.specs.Actors.{Box, Shower, stream_of}
+use Rattle.sq_below.specs.Actors.{Shower, stream_of}
 use Rattle.sq_below.specs.Standing.{box_fed}
 use Rattle.sq_start.specs.Numbers.{ops_of, number_of, actor_at}
 use Rattle.sq_start.specs.Nets.{Joins, fed_to, decided_by, count_fed}

@@ -1,5 +1,5 @@
 -- The actors of a network as operators: 0, 1, .. are the boxes, then the drops, then the outputs, and behind them the replay.
-use Rattle.std.specs.Prelude.{ℕ, ◌+◌, ◌-◌, nat_lt, List, [], ◌∷◌, map, length, Option, Some, None, slice_get, if◌then◌else◌}
+use Rattle.std.specs.Prelude.{ℕ, ◌+◌, ◌-◌, ◌<◌, nat_lt, List, [], ◌∷◌, map, length, Option, Some, None, slice_get, if◌then◌else◌}
 use Rattle.sq_graph.specs.Wires.{producer_of, input_arcs_of, output_arc_at}
 use Rattle.sq_place.specs.declared.DropPoint.{DropPoint}
 use Rattle.sq_place.specs.declared.DropAt.{DropAt}
@@ -33,6 +33,13 @@ actor_at n k =
     else if nat_lt k (first_output n) then Shedder (k - length n.boxes)
     else if nat_lt k (ops_of n) then Shower (k - first_output n)
     else Sources
+
+-- the actor is there
+abbrev pub IsThere : Network → Actor → Type 0
+IsThere n Sources = Unit {0}
+IsThere n (Box b) = b < length n.boxes
+IsThere n (Shedder w) = w < drops_of n
+IsThere n (Shower o) = o < length n.wires.outputs
 
 -- the stream at a place
 abbrev pub place_stream : Network → DropAt → ℕ

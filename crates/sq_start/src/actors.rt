@@ -27,7 +27,8 @@ fn new_box(alloc: Global, n: &Network, points: &[DropPoint], b: u32) -> Result<A
     ensures { IfOk result (λ a. (seed : ℕ) → IsStarted n.now seed (Box b) a) }
 {
     let (lags, marked) = box_lags(alloc, n, points, b)?;
-    box_actor(alloc, &n.boxes.as_slice()[b as usize].body, lags, marked)
+    let actor = box_actor(alloc, &n.boxes.as_slice()[b as usize].body, lags, marked)?;
+    Ok(actor)
 }
 
 /// Drop `w`, new.
@@ -45,6 +46,7 @@ fn new_drop(n: &Network, points: &[DropPoint], w: u32, seed: u64) -> Actor
 /// Output `o`, new.
 fn new_output(n: &Network, points: &[DropPoint], o: u32) -> Actor
     requires sound { IsSound n.now }
+    requires limits { KeepsDropLimits n.now }
     requires points { points.now ≡ points_of n.now }
     ensures { (seed : ℕ) → IsStarted n.now seed (Shower o) result }
 {
@@ -96,6 +98,7 @@ fn push_outputs(
     actors: &mut Vec<Actor>,
 ) -> Result<(), AllocError>
     requires sound { IsSound n.now }
+    requires limits { KeepsDropLimits n.now }
     requires points { points.now ≡ points_of n.now }
     requires drops { length actors.old.items ≡ first_output n.now }
     ensures count { OnOk result (length actors.new.items ≡ ops_of n.now) }

@@ -8,6 +8,7 @@
 #![tactic(auto)]
 
 ghost use Rattle.sq_start.specs.Laws.{StartsAsReplayed};
+ghost use Rattle.sq_start.specs.Comes.{FedMayCome, MarksAreTaken, TuplesAreTaken};
 
 mod actors;
 mod boxes;
@@ -18,6 +19,16 @@ pub use actors::network_actors;
 pub use boxes::box_actor;
 pub use drops::{drop_actor, gate_actor};
 use sq_below::early_drop_is_sound;
+
+/// What comes on the arcs of a network may come to its actors: they take marks wherever marks come, and all tuples that are
+/// as wide as a stream that they read.
+pub fn arcs_may_come()
+    ensures fed { FedMayCome }
+    ensures marks { MarksAreTaken }
+    ensures tuples { TuplesAreTaken }
+{
+    early_drop_is_sound();
+}
 
 /// What is left of a new engine is what the replay of its network says.
 pub fn starts_as_replayed()

@@ -1,6 +1,6 @@
 //! What the actors of a network are told of the window drops above them.
 
-ghost use Rattle.std.specs.Prelude.{◌≡◌, ◌<◌, ◌^◌, ◌-◌, ◌==◌, ℕ, IfOk, IfSome, length, map};
+ghost use Rattle.std.specs.Prelude.{◌≡◌, ◌<◌, ◌-◌, ◌==◌, ℕ, IfOk, IfSome, length, map};
 ghost use Rattle.sq_graph.specs.Wires.{input_arcs_of, arc_at};
 ghost use Rattle.sq_graph.specs.Order.{contains_number};
 ghost use Rattle.sq_value.specs.Lists.{max_by};
@@ -24,14 +24,13 @@ fn has_box(p: &DropPoint, b: u32) -> bool
 }
 
 /// The number of the first drop below which a box lies.
-fn drop_above_box(points: &[DropPoint], b: u32) -> Option<u32>
-    requires { length points.now < 2 ^ 32 }
+fn drop_above_box(points: &[DropPoint], b: u32) -> Option<usize>
     ensures first { first_drop (λ p. contains_number p.boxes b) 0 points.now ≡ found_at result points.now }
     ensures inside { IfSome result (λ w. w < length points.now) }
 {
     for (w, p) in points.iter().enumerate() {
         if has_box(p, b) {
-            return Some(w as u32);
+            return Some(w);
         }
     }
     None
@@ -126,6 +125,6 @@ pub(crate) fn box_lags(
     let arcs = input_arcs(alloc, n, b)?;
     match drop_above_box(points, b) {
         None => Ok((zeros(alloc, arcs.len())?, false)),
-        Some(w) => Ok((lags_below(alloc, &points[w as usize], &arcs)?, true)),
+        Some(w) => Ok((lags_below(alloc, &points[w], &arcs)?, true)),
     }
 }

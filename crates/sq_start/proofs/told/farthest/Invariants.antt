@@ -1,0 +1,7 @@
+use Rattle.std.proofs.Common.{◌≡◌, take}
+use Rattle.sq_value.specs.Lists.{max_by}
+use Rattle.sq_model.specs.Kept.{distance_of}
+use Rattle.sq_start.proofs.told.farthest.Given as goal
+
+abbrev pub invariant-loop-arc : goal.invariant-loop-arc
+invariant-loop-arc l = l.most ≡ max_by (distance_of l.p) (take l.arc-index l.arcs)
