@@ -1,13 +1,19 @@
 -- The numbers of batches stay small, and filters of ranges grow at their end.
-use Rattle.std.proofs.Common.{◌≡◌, ℕ, zero, suc, ◌+◌, ◌*◌, ◌/◌, ◌≤◌, ◌<◌, ◌^◌, Bool, true, false, ◌&&◌, cond, if◌then◌else◌, List, [], ◌∷◌, ◌++◌, max, map, refl, ap, ◌∙◌, arith}
+use Rattle.std.proofs.Common.{◌≡◌, ℕ, zero, suc, ◌+◌, ◌-◌, ◌*◌, ◌/◌, ◌≤◌, ◌<◌, ◌^◌, eqb, Bool, true, false, not, ◌&&◌, ◌||◌, cond, if◌then◌else◌, List, [], ◌∷◌, ◌++◌, max, map, length, get_or, refl, ap, ◌∙◌, arith}
 use Rattle.std.proofs.Math.Nat.{div-lt_iff_lt-mul, div-mul-le_self}
 use Rattle.std.proofs.lemmas.List.Elements.{filter-append}
-use Rattle.std.specs.List.{filter, range_with_len}
+use Rattle.std.specs.Prelude.{nat_lt, nat_le}
+use Rattle.std.specs.List.{filter, list_any, range_with_len, AllByRecursion}
+use Rattle.std.proofs.lemmas.Bool.Decides.{nat_tests}
+use Rattle.sq_value.specs.Values.{IsStream}
+use Rattle.sq_road.specs.Levels.{LevelTable}
+use Rattle.sq_place.specs.declared.DropPoint.{DropPoint}
+use Rattle.sq_place.specs.Points.{until_of}
 use Rattle.sq_value.specs.declared.Tuple.{Tuple}
 use Rattle.sq_value.specs.Lists.{numbers_to, max_by}
 use Rattle.std.proofs.lemmas.List.FromFn.{map-range_with_len_more}
-use Rattle.sq_model.specs.Shedding.{last_of}
-use Rattle.sq_model.specs.Given.{AreTicks}
+use Rattle.sq_model.specs.Shedding.{last_of, is_touched}
+use Rattle.sq_model.specs.Given.{AreTicks, drops_at, needed_by, needs_at}
 
 pub last_low : (xs : List Tuple) → AreTicks xs → last_of xs < 2 ^ 40
 last_low [] h = omega arith
@@ -59,20 +65,93 @@ filter_both p q (x ∷ xs) = by (filter_both p q xs) (p x) (q x) refl
     by more true b e = ap (λ zs. cond (q x) (x ∷ zs) zs) more
     by more false b e = more
 
-max_append : (f : ℕ → ℕ) (xs ys : List ℕ) → max_by f (xs ++ ys) ≡ max (max_by f xs) (max_by f ys)
-max_append f [] ys = omega arith
-max_append f (x ∷ xs) ys = let more = max_append f xs ys in omega (arith, more)
-
-max_one : (f : ℕ → ℕ) (b : Bool) (n : ℕ) → max_by f (if b then n ∷ [] else []) ≡ (if b then f n else 0)
-max_one f true n = omega arith
-max_one f false n = refl
-
--- the greatest of a filtered range and one number more
-pub max_more : (f : ℕ → ℕ) (t : ℕ → Bool) (n : ℕ) → max_by f (filter t (numbers_to (n + 1))) ≡ max (max_by f (filter t (numbers_to n))) (if t n then f n else 0)
-max_more f t n =
-    ap (max_by f) (filter_more t n)
-    ∙ max_append f (filter t (numbers_to n)) (if t n then n ∷ [] else [])
-    ∙ ap (max (max_by f (filter t (numbers_to n)))) (max_one f (t n) n)
-
 pub map_more : (f : ℕ → ℕ) (n : ℕ) → map f (numbers_to (n + 1)) ≡ map f (numbers_to n) ++ f n ∷ []
 map_more f n = map-range_with_len_more f 0 n n (omega arith)
+
+-- ---- which batches need a tick
+
+later_of : (t a b d : ℕ) → nat_lt t (max a b - d) ≡ (nat_lt t (a - d) || nat_lt t (b - d))
+later_of t a b d = grind (arith, nat_tests)
+
+max_any : (f : ℕ → ℕ) (p : ℕ → Bool) (t d : ℕ) (bs : List ℕ) → nat_lt t (max_by f (filter p bs) - d) ≡ list_any (λ b. p b && nat_lt t (f b - d)) bs
+max_any f p t d [] = none t d
+  where
+    none : (t d : ℕ) → nat_lt t (0 - d) ≡ false
+    none t d = grind (arith, nat_tests)
+max_any f p t d (b ∷ bs) = by (max_any f p t d bs) (p b)
+  where
+    by : nat_lt t (max_by f (filter p bs) - d) ≡ list_any (λ b. p b && nat_lt t (f b - d)) bs → (c : Bool)
+        → nat_lt t (max_by f (cond c (b ∷ filter p bs) (filter p bs)) - d) ≡ ((c && nat_lt t (f b - d)) || list_any (λ b. p b && nat_lt t (f b - d)) bs)
+    by more true = later_of t (f b) (max_by f (filter p bs)) d ∙ ap (λ z. nat_lt t (f b - d) || z) more
+    by more false = more
+
+pub needed_any : (table : LevelTable) (seed w : ℕ) (p : DropPoint) (d t : ℕ) → nat_lt t (needed_by table seed w p (t / p.length) - d) ≡ list_any (needs_at table seed w p d t) (numbers_to (t / p.length + 1))
+needed_any table seed w p d t = max_any (until_of p) (λ b. not (drops_at table seed w p b)) t d (numbers_to (t / p.length + 1))
+
+pub any_none : (test : ℕ → Bool) (a n : ℕ) → ((b : ℕ) → b < a + n → test b ≡ false) → list_any test (range_with_len a n) ≡ false
+any_none test a zero h = refl
+any_none test a (suc n) h = ap (λ z. z || list_any test (range_with_len (a + 1) n)) (h a (omega arith)) ∙ any_none test (a + 1) n (λ b lt. h b (omega (arith, lt)))
+
+pub any_some : (test : ℕ → Bool) (a n b : ℕ) → a ≤ b → b < a + n → test b ≡ true → list_any test (range_with_len a n) ≡ true
+any_some test a zero b low high passes = absurd (omega (arith, low, high))
+any_some test a (suc n) b low high passes = by (λ next. any_some test (a + 1) n b next (omega (arith, high)) passes) (eqb a b) refl
+  where
+    same : (a b : ℕ) → eqb a b ≡ true → a ≡ b
+    same a b h = grind (arith, nat_tests)
+
+    other : (a b : ℕ) → eqb a b ≡ false → a ≤ b → a + 1 ≤ b
+    other a b h low = grind (arith, nat_tests)
+
+    last : (z : Bool) → (z || true) ≡ true
+    last true = refl
+    last false = refl
+
+    by : (a + 1 ≤ b → list_any test (range_with_len (a + 1) n) ≡ true) → (c : Bool) → eqb a b ≡ c → (test a || list_any test (range_with_len (a + 1) n)) ≡ true
+    by more true e = ap (λ z. z || list_any test (range_with_len (a + 1) n)) (ap test (same a b e) ∙ passes)
+    by more false e = ap (λ z. test a || z) (more (other a b e low)) ∙ last (test a)
+
+-- a batch that ends, with what is kept for it, by a tick
+pub ends_by : (b t len keep : ℕ) → 1 ≤ len → b < (t - keep) / len → (b + 1) * len + keep ≤ t
+ends_by b t len keep one lt =
+    let up = times_up (b + 1) ((t - keep) / len) len (omega (arith, lt)) in
+    let low = div-mul-le_self (t - keep) len in
+    let some = times_up 1 (b + 1) len (omega arith) in
+    let flat : 1 * len ≡ len = omega arith in
+    omega (arith, up, low, some, flat, one)
+
+pub too_early : (table : LevelTable) (seed w : ℕ) (p : DropPoint) (d t b : ℕ) → 1 ≤ p.length → b < (t - p.keep) / p.length → needs_at table seed w p d t b ≡ false
+too_early table seed w p d t b one lt = ap (λ z. not (drops_at table seed w p b) && z) (past t (until_of p b) d (ends_by b t p.length p.keep one lt)) ∙ last (not (drops_at table seed w p b))
+  where
+    past : (t u d : ℕ) → u ≤ t → nat_lt t (u - d) ≡ false
+    past t u d h = grind (arith, nat_tests)
+
+    last : (z : Bool) → (z && false) ≡ false
+    last true = refl
+    last false = refl
+
+-- ---- which batches no tuple touches
+
+pub untouched : (p : DropPoint) (xs : List Tuple) (t b : ℕ) → 1 ≤ p.length → AllByRecursion (λ (x : Tuple). t ≤ x.time) xs → b < (t - p.keep) / p.length → is_touched p xs b ≡ false
+untouched p [] t b one all lt = refl
+untouched p (x ∷ xs) t b one all lt =
+    ap (λ z. z || is_touched p xs b) (ap (λ z. nat_le (b * p.length) x.time && z) (past x.time (until_of p b) (let ends = ends_by b t p.length p.keep one lt in let low = all.0 in omega (arith, ends, low))) ∙ last (nat_le (b * p.length) x.time))
+    ∙ untouched p xs t b one all.1 lt
+  where
+    past : (t u : ℕ) → u ≤ t → nat_lt t u ≡ false
+    past t u h = grind (arith, nat_tests)
+
+    last : (z : Bool) → (z && false) ≡ false
+    last true = refl
+    last false = refl
+
+least_first : (t : ℕ) (x : Tuple) (xs : List Tuple) → t ≤ x.time → IsStream (x ∷ xs) → AllByRecursion (λ (y : Tuple). t ≤ y.time) (x ∷ xs)
+least_first t x [] low s = (low, tt)
+least_first t x (y ∷ ys) low s = (low, least_first t y ys (let up = s.0 in omega (arith, low, up)) s.1)
+
+pub first_least : (xs : List Tuple) (x : Tuple) → IsStream xs → 1 ≤ length xs → x ≡ get_or xs 0 x → AllByRecursion (λ (y : Tuple). x.time ≤ y.time) xs
+first_least [] x s some is = tt
+first_least (y ∷ ys) x s some is = least_first x.time y ys (let same : x.time ≡ y.time = ap (λ (z : Tuple). z.time) is in omega (arith, same)) s
+
+pub filter_nothing : (test : ℕ → Bool) (a n : ℕ) → ((b : ℕ) → b < a + n → test b ≡ false) → filter test (range_with_len a n) ≡ []
+filter_nothing test a zero h = refl
+filter_nothing test a (suc n) h = ap (λ z. cond z (a ∷ filter test (range_with_len (a + 1) n)) (filter test (range_with_len (a + 1) n))) (h a (omega arith)) ∙ filter_nothing test (a + 1) n (λ b lt. h b (omega (arith, lt)))

@@ -1,8 +1,5 @@
 -- Counts of epochs, and what lies between two epochs.
-use Rattle.std.proofs.Common.{◌≡◌, ℕ, zero, suc, ◌+◌, ◌-◌, ◌/◌, ◌≤◌, ◌<◌, ◌^◌, eqb, Bool, true, false, cond, ◌&&◌, List, [], ◌∷◌, map, length, drop, get_or, refl, ap, sym, ◌∙◌, subst, arith}
-use Rattle.std.specs.Prelude.{◌==◌}
-use Rattle.std.specs.List.{count_by, list_all, AllByRecursion}
-use Rattle.std.proofs.Math.Nat.{div-le_self}
+use Rattle.std.proofs.Common.{◌≡◌, ℕ, ◌+◌, ◌/◌, ◌≤◌, ◌<◌, eqb, Bool, true, false, cond, ◌&&◌, List, [], ◌∷◌, map, length, drop, get_or, refl, ap, sym, ◌∙◌, arith}
 use Rattle.std.proofs.lemmas.Bool.Decides.{nat_tests}
 use Rattle.std.proofs.lemmas.List.{drop_more}
 use Rattle.std.proofs.lemmas.List.Sums.{count_by-le-length, sum_by-cons}
@@ -10,7 +7,7 @@ use Rattle.sq_value.specs.declared.Tuple.{Tuple}
 use Rattle.sq_plan.specs.Flows.{AreCounts}
 use Rattle.sq_plan.specs.Shown.{is_quiet}
 use Rattle.sq_model.specs.Given.{counted, AreFew}
-use Rattle.sq_model.specs.Epochs.{count_in, NoneBetween, QuietBetween}
+use Rattle.sq_model.specs.Epochs.{count_in}
 
 pub few_counts : (epoch e : ℕ) (sources : List (List Tuple)) → AreFew sources → AreCounts (counted epoch sources e)
 few_counts epoch e [] h = tt

@@ -1,4 +1,5 @@
 pub mod Rows
+mod ShedRows
 pub mod BoxRows
 pub mod OrderLemmas
 pub mod StreamLemmas

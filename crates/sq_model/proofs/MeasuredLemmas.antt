@@ -1,7 +1,6 @@
 -- Drop points are at places that are there, and those that keep the limits can be counted with.
-use Rattle.std.proofs.Common.{◌≡◌, ℕ, zero, suc, ◌+◌, ◌-◌, ◌*◌, ◌≤◌, ◌<◌, ◌^◌, eqb, ltb, leb, max, Bool, true, false, cond, not, ◌&&◌, ◌||◌, List, [], ◌∷◌, map, length, Option, Some, None, refl, ap, sym, ◌∙◌, subst, arith}
-use Rattle.std.specs.Prelude.{is_some, unwrap_or}
-use Rattle.std.specs.List.{All, AllByRecursion, filter, flat_map, list_any, range_with_len}
+use Rattle.std.proofs.Common.{◌≡◌, ℕ, ◌+◌, ◌*◌, ◌≤◌, ◌<◌, eqb, ltb, max, Bool, true, false, cond, ◌&&◌, ◌||◌, List, [], ◌∷◌, map, length, refl, ap, sym, ◌∙◌, subst, arith}
+use Rattle.std.specs.List.{All, AllByRecursion, filter, flat_map}
 use Rattle.std.proofs.lemmas.Bool.Decides.{nat_tests}
 use Rattle.std.proofs.lemmas.List.Elements.{All-from_recursion, recursion_from_All}
 use Rattle.sq_value.specs.Lists.{max_by, numbers_to}
@@ -11,8 +10,8 @@ use Rattle.sq_place.specs.declared.DropAt.{DropAt}
 use Rattle.sq_place.specs.declared.DropAt.TheVariants as at
 use Rattle.sq_place.specs.declared.DropPoint.{DropPoint}
 use Rattle.sq_place.specs.Numbers.{lcm_of_all}
-use Rattle.sq_place.specs.Places.{Windows, stream_on, arc_numbers, arcs_leaving, is_candidate, lies_below, candidates_of, is_reached, reached_arcs, outputs_below, places_of_stream, places_of, drop_places_of}
-use Rattle.sq_place.specs.Points.{point_at, dist_of, keep_for, least, last_advances, advances_of, is_long_batch, is_wide_extent}
+use Rattle.sq_place.specs.Places.{stream_on, arc_numbers, arcs_leaving, is_reached, reached_arcs, outputs_below, places_of_stream, places_of, drop_places_of}
+use Rattle.sq_place.specs.Points.{point_at, dist_of, keep_for, last_advances}
 use Rattle.sq_place.specs.Refusals.{IsFine}
 use Rattle.sq_place.specs.Windows.{IsAdvance}
 use Rattle.sq_place.proofs.Lists.{All-mapped, All-weaker, contains-filter, contains-range}
@@ -31,17 +30,19 @@ flat-all : {X Y : Type 0} (P : Y → Type 0) (f : X → List Y) (xs : List X) �
 flat-all P f [] all = tt
 flat-all P f (x ∷ xs) all = All-append P (f x) (flat_map f xs) all.0 (flat-all P f xs all.1)
 
+pub numbers-low : (n : ℕ) → AllByRecursion (λ k. k < n) (numbers_to n)
+numbers-low n = All-weaker (λ k. k < 0 + n) (λ k. k < n) (λ k lt. omega (arith, lt)) (numbers_to n) (range-below 0 n)
+
 -- ---- places
 
 module _ (n : Network) where
   leaving-there : (s : ℕ) → AllByRecursion (IsAt n) (map at.Arc (arcs_leaving n.wires s))
   leaving-there s =
       All-mapped (IsAt n) at.Arc (arcs_leaving n.wires s)
-      (All-kept (λ a. a < length (arcs_of n.wires)) (λ a. eqb (stream_on n.wires a) s) (arc_numbers n.wires)
-      (All-weaker (λ a. a < 0 + length (arcs_of n.wires)) (λ a. a < length (arcs_of n.wires)) (λ a lt. omega (arith, lt)) (arc_numbers n.wires) (range-below 0 (length (arcs_of n.wires)))))
+      (All-kept (λ a. a < length (arcs_of n.wires)) (λ a. eqb (stream_on n.wires a) s) (arc_numbers n.wires) (numbers-low (length (arcs_of n.wires))))
 
-  stream-there : (s : ℕ) → s < 0 + length (producers_of n.wires) → AllByRecursion (IsAt n) (places_of_stream n.wires s)
-  stream-there s low = (omega (arith, low), by (ltb 1 (length (arcs_leaving n.wires s))))
+  stream-there : (s : ℕ) → s < length (producers_of n.wires) → AllByRecursion (IsAt n) (places_of_stream n.wires s)
+  stream-there s low = (low, by (ltb 1 (length (arcs_leaving n.wires s))))
     where
       by : (b : Bool) → AllByRecursion (IsAt n) (cond b (map at.Arc (arcs_leaving n.wires s)) [])
       by true = leaving-there s
@@ -50,8 +51,8 @@ module _ (n : Network) where
   pub places-there : AllByRecursion (IsAt n) (places_of n.wires)
   places-there =
       flat-all (IsAt n) (places_of_stream n.wires) (numbers_to (length (producers_of n.wires)))
-      (All-weaker (λ s. s < 0 + length (producers_of n.wires)) (λ s. AllByRecursion (IsAt n) (places_of_stream n.wires s)) stream-there (numbers_to (length (producers_of n.wires)))
-      (range-below 0 (length (producers_of n.wires))))
+      (All-weaker (λ s. s < length (producers_of n.wires)) (λ s. AllByRecursion (IsAt n) (places_of_stream n.wires s)) stream-there (numbers_to (length (producers_of n.wires)))
+      (numbers-low (length (producers_of n.wires))))
 
 -- ---- numbers
 
@@ -118,10 +119,10 @@ module _ (n : Network) (sound : IsSound n) (place : DropAt) where
   keep-low =
       subst (λ m. point.keep ≤ m + 1) (sym (max-pairs far (reached_arcs n.wires (windows_of n) place)))
       (max-low (keep_for n.wires (windows_of n) n.batch place) (outputs_below n.wires (windows_of n) place) (max_by far (reached_arcs n.wires (windows_of n) place) + 1)
-      (All-weaker (λ o. (o < 0 + length n.wires.outputs) × (is_reached n.wires (windows_of n) place (output_arc_at n.wires o) ≡ true))
-      (λ o. keep_for n.wires (windows_of n) n.batch place o ≤ max_by far (reached_arcs n.wires (windows_of n) place) + 1) (λ o h. near o (let low = h.0 in omega (arith, low)) h.1)
+      (All-weaker (λ o. (o < length n.wires.outputs) × (is_reached n.wires (windows_of n) place (output_arc_at n.wires o) ≡ true))
+      (λ o. keep_for n.wires (windows_of n) n.batch place o ≤ max_by far (reached_arcs n.wires (windows_of n) place) + 1) (λ o h. near o h.0 h.1)
       (outputs_below n.wires (windows_of n) place)
-      (filter-both (λ o. is_reached n.wires (windows_of n) place (output_arc_at n.wires o)) (λ o. o < 0 + length n.wires.outputs) (numbers_to (length n.wires.outputs)) (range-below 0 (length n.wires.outputs)))))
+      (filter-both (λ o. is_reached n.wires (windows_of n) place (output_arc_at n.wires o)) (λ o. o < length n.wires.outputs) (numbers_to (length n.wires.outputs)) (numbers-low (length n.wires.outputs)))))
 
   pub place-measured : IsFine point → IsMeasured point
   place-measured fine =

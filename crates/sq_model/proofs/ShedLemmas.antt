@@ -1,5 +1,5 @@
 -- The record and the answer at given levels are those of the replay.
-use Rattle.std.proofs.Common.{◌≡◌, ℕ, zero, suc, ◌+◌, ◌-◌, ◌*◌, ◌/◌, ◌≤◌, ◌<◌, ◌^◌, Bool, true, false, not, cond, List, [], ◌∷◌, map, refl, ap, sym, ◌∙◌, subst, arith}
+use Rattle.std.proofs.Common.{◌≡◌, ℕ, zero, suc, ◌+◌, ◌-◌, ◌*◌, ◌/◌, ◌≤◌, ◌<◌, ◌^◌, Bool, true, false, not, cond, List, [], ◌∷◌, refl, ap, sym, ◌∙◌, subst, arith}
 use Rattle.std.specs.Prelude.{nat_lt, ◌==◌, slice_get, Option, Some, None}
 use Rattle.std.specs.List.{filter, list_any, range_with_len, AllByRecursion}
 use Rattle.std.specs.Option.{option_map}
@@ -8,25 +8,20 @@ use Rattle.sq_graph.specs.Order.{contains_number}
 use Rattle.sq_value.specs.declared.Tuple.{Tuple}
 use Rattle.sq_value.specs.Lists.{numbers_to}
 use Rattle.sq_value.specs.Values.{IsStream}
-use Rattle.std.specs.List.{All}
 use Rattle.sq_graph.specs.Wires.{Arc, arcs_of, output_arc_at}
 use Rattle.sq_place.specs.declared.DropAt.{DropAt}
 use Rattle.sq_place.specs.declared.DropAt.TheVariants as place
-use Rattle.sq_net.specs.declared.Network.{Network}
 use Rattle.sq_model.specs.Full.{nth, full_on, full_arc, full_streams}
-use Rattle.sq_model.specs.Placed.{IsPlaced}
 use Rattle.sq_model.proofs.FullLemmas.{full_listed}
-use Rattle.sq_model.proofs.StreamLemmas.{stream_at_number, full_are_streams}
+use Rattle.sq_model.proofs.StreamLemmas.{stream_at_number}
 use Rattle.sq_road.specs.Levels.{LevelTable}
 use Rattle.sq_road.specs.Draws.{draw_of}
 use Rattle.sq_place.specs.declared.DropPoint.{DropPoint}
 use Rattle.sq_model.specs.Shedding.{Replay, is_touched, last_of, first_drop, level_of, is_dropped, full_at, touched_batches, record_of, drop_above_arc, drop_above_output, shown, answer_of}
-use Rattle.std.proofs.lemmas.List.FromFn.{get_or-map-range_with_len}
-use Rattle.std.specs.Prelude.{slice_index}
 use Rattle.sq_value.specs.Lists.{max_by}
 use Rattle.sq_place.specs.Points.{until_of}
 use Rattle.sq_model.specs.Kept.{needed_until, distance_of, needed, kept_of}
-use Rattle.sq_model.specs.Given.{needed_by, kept_within, kept_by, drops_at, record_by, AreTicks, LevelsAre, shown_without}
+use Rattle.sq_model.specs.Given.{needed_by, kept_by, drops_at, record_by, AreTicks, LevelsAre, shown_without}
 use Rattle.sq_model.specs.declared.known.Known.{Known}
 use Rattle.sq_model.specs.Known.{streams_in, stream_or_none, arc_in, place_in, IsSafe, IsKnown}
 use Rattle.sq_model.proofs.PlacedLemmas.{placed_of}
@@ -70,25 +65,9 @@ known_by t epoch closed ticks lasts known = let low = last_low t ticks in let up
 
 -- ---- what is kept
 
-upto_last : (m : ℕ) (xs : List Tuple) → last_of xs ≤ m → AllByRecursion (λ (x : Tuple). x.time ≤ m) xs
-upto_last m [] h = tt
-upto_last m (x ∷ xs) h = (omega (arith, h), upto_last m xs (omega (arith, h)))
-
 all_weaker : {X : Type 0} (P Q : X → Type 0) → ((x : X) → P x → Q x) → (xs : List X) → AllByRecursion P xs → AllByRecursion Q xs
 all_weaker P Q f [] h = tt
 all_weaker P Q f (x ∷ xs) h = (f x h.0, all_weaker P Q f xs h.1)
-
--- the bounds as they are worked out
-pub kept_same : (table : LevelTable) (seed w : ℕ) (p : DropPoint) (d : ℕ) (xs : List Tuple) (bounds : List ℕ) → 1 ≤ p.length
-    → bounds ≡ map (needed_by table seed w p) (numbers_to (last_of xs / p.length + 1)) → kept_within bounds p d xs ≡ kept_by table seed w p d xs
-kept_same table seed w p d xs bounds one e =
-    filter_same (λ x. nat_lt x.time (slice_index bounds (x.time / p.length) - d)) (λ x. nat_lt x.time (needed_by table seed w p (x.time / p.length) - d)) xs
-    (all_weaker (λ (x : Tuple). x.time ≤ last_of xs) (λ (x : Tuple). nat_lt x.time (slice_index bounds (x.time / p.length) - d) ≡ nat_lt x.time (needed_by table seed w p (x.time / p.length) - d))
-    (λ x le. ap (λ k. nat_lt x.time (k - d))
-    (ap (λ l. slice_index l (x.time / p.length)) e
-    ∙ (let up = epochs_up x.time (last_of xs) p.length one le in
-    get_or-map-range_with_len (needed_by table seed w p) 0 (last_of xs / p.length + 1) (x.time / p.length) (x.time / p.length) 0 (omega (arith, up)) (omega arith))))
-    xs (upto_last (last_of xs) xs (omega arith)))
 
 up_to_all : (P : ℕ → Type 0) (m : ℕ) → ((b : ℕ) → b ≤ m → P b) → (a n : ℕ) → a + n ≤ m + 1 → AllByRecursion P (range_with_len a n)
 up_to_all P m f a zero h = tt
@@ -124,9 +103,12 @@ arc_is_stream k safe a = by (slice_get k.arcs.items a)
 pub arc_ticks : (k : Known) → IsSafe k → (a : ℕ) → AreTicks (arc_in k a)
 arc_ticks k safe a = stream_ticks (arc_in k a) (arc_is_stream k safe a)
 
+pub place_stream : (k : Known) → IsSafe k → (at : DropAt) → IsStream (place_in k at)
+place_stream k safe (place.Stream s) = stream_is k safe s
+place_stream k safe (place.Arc a) = arc_is_stream k safe a
+
 pub place_ticks : (k : Known) → IsSafe k → (at : DropAt) → AreTicks (place_in k at)
-place_ticks k safe (place.Stream s) = stream_ticks (nth (streams_in k) s) (stream_is k safe s)
-place_ticks k safe (place.Arc a) = arc_ticks k safe a
+place_ticks k safe at = stream_ticks (place_in k at) (place_stream k safe at)
 
 module _ (k : Known) (r : Replay) (known : IsKnown k r) where
   pub arc_is : (a : ℕ) → arc_in k a ≡ full_arc r.network r.sources a

@@ -9,7 +9,6 @@ use Rattle.sq_graph.specs.declared.BoxWires.{BoxWires}
 use Rattle.sq_graph.specs.declared.Wiring.{Wiring}
 use Rattle.sq_graph.specs.Wires.{Arc, arcs_of, output_arc_at, inputs_at, inputs_of, input_arcs_of}
 use Rattle.sq_place.specs.declared.DropPoint.{DropPoint}
-use Rattle.sq_net.specs.declared.Network.{Network}
 use Rattle.sq_points.specs.Points.{points_of}
 use Rattle.sq_model.specs.Shedding.{Replay, full_at}
 use Rattle.sq_model.specs.Kept.{kept_of, work_of}
@@ -120,10 +119,10 @@ module _ (k : Known) (r : Replay) (known : IsKnown k r) where
   work_is kept given one two =
       let arcs : length k.arcs.items ≡ length (arcs_of r.network.wires) = ap (λ (l : List ℕ). length l) known.arcs ∙ length-map (arcs_of r.network.wires) (λ (a : Arc). a.stream) in
       let first : sum_by (λ (k : ℕ). k) kept ≡ boxes_fed + outputs_fed =
-          ap (sum_by (λ (k : ℕ). k)) one ∙ sum_map kept_at (numbers_to (length k.arcs.items)) ∙ ap (λ m. sum_by kept_at (numbers_to m)) arcs ∙ arcs_sum kept_at r.network.wires in
+      ap (sum_by (λ (k : ℕ). k)) one ∙ sum_map kept_at (numbers_to (length k.arcs.items)) ∙ ap (λ m. sum_by kept_at (numbers_to m)) arcs ∙ arcs_sum kept_at r.network.wires in
       let second : sum_by (λ (k : ℕ). k) given ≡ drops_fed =
-          ap (sum_by (λ (k : ℕ). k)) two ∙ sum_map (λ (p : DropPoint). length (place_in k p.at)) k.points.items ∙ points_same k.points.items
-          ∙ ap (sum_by (λ (p : DropPoint). length (full_at r p.at))) known.points in
+      ap (sum_by (λ (k : ℕ). k)) two ∙ sum_map (λ (p : DropPoint). length (place_in k p.at)) k.points.items ∙ points_same k.points.items
+      ∙ ap (sum_by (λ (p : DropPoint). length (full_at r p.at))) known.points in
       let boxes = ap (λ m. sum_by (λ b. sum_by kept_at (input_arcs_of r.network.wires b)) (numbers_to m)) (boxes_count r.network known.sound) in
       let outputs = ap (λ m. sum_by (λ o. kept_at (output_arc_at r.network.wires o)) (numbers_to m)) known.sound.agrees.outputs in
       omega (arith, first, second, boxes, outputs)

@@ -1,7 +1,7 @@
 -- What is dropped, shown and kept, where the drop points and the levels are given.
 --     drops_at table seed w p b     batch b of drop w is dropped at the levels of a table
 --     record_by, needed_by          the record, and the bounds of what is needed, at these levels
-use Rattle.std.specs.Prelude.{◌≡◌, ℕ, ◌+◌, ◌-◌, ◌*◌, ◌/◌, ◌≤◌, ◌<◌, ◌^◌, ◌==◌, Bool, not, nat_lt, List, map, length, slice_index, Option, Some, None, slice_get}
+use Rattle.std.specs.Prelude.{◌≡◌, ℕ, ◌+◌, ◌-◌, ◌*◌, ◌/◌, ◌≤◌, ◌<◌, ◌^◌, ◌==◌, Bool, not, ◌&&◌, nat_lt, List, map, length, Option, Some, None, slice_get}
 use Rattle.std.specs.Option.{option_map}
 use Rattle.std.specs.List.{filter, count_by, AllByRecursion}
 use Rattle.sq_value.specs.declared.Tuple.{Tuple}
@@ -34,9 +34,9 @@ needed_by table seed w p b = max_by (until_of p) (filter (λ c. not (drops_at ta
 abbrev pub shown_without : DropPoint → List ℕ → List Tuple → List Tuple
 shown_without p dropped xs = filter (λ x. not (contains_number dropped (x.time / p.length))) xs
 
--- the tuples that are below the bounds of their batches, at a distance
-abbrev pub kept_within : List ℕ → DropPoint → ℕ → List Tuple → List Tuple
-kept_within bounds p d xs = filter (λ x. nat_lt x.time (slice_index bounds (x.time / p.length) - d)) xs
+-- whether a batch is permitted and needs a tick, at a distance
+abbrev pub needs_at : LevelTable → ℕ → ℕ → DropPoint → ℕ → ℕ → ℕ → Bool
+needs_at table seed w p d t b = not (drops_at table seed w p b) && nat_lt t (until_of p b - d)
 
 -- the tuples that some permitted batch may need, at a distance
 abbrev pub kept_by : LevelTable → ℕ → ℕ → DropPoint → ℕ → List Tuple → List Tuple

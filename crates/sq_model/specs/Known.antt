@@ -2,7 +2,7 @@
 --     arc_in, place_in     the full stream of an arc, and at a place
 --     IsSafe               what can be counted with
 --     IsKnown              it is of this replay
-use Rattle.std.specs.Prelude.{◌≡◌, ℕ, ◌+◌, ◌/◌, ◌<◌, ◌^◌, List, [], map, length, Option, Some, None, slice_get}
+use Rattle.std.specs.Prelude.{◌≡◌, ℕ, ◌/◌, ◌<◌, ◌^◌, List, [], map, length, Option, Some, None, slice_get}
 use Rattle.std.specs.List.{All}
 use Rattle.sq_value.specs.declared.Tuple.{Tuple}
 use Rattle.sq_value.specs.Values.{IsStream}

@@ -14,13 +14,12 @@ ghost use Rattle.sq_model.specs.Given.{IsMeasured, AreTicks, AreFew, kept_by, fo
 ghost use Rattle.sq_model.specs.Known.{place_in, IsSafe, IsKnown};
 
 use crate::boxes::push_copies;
-use crate::drops::{dropped_batches, kept_number, last_time, needed_bounds, shown_tuples};
+use crate::drops::{dropped_batches, kept_number, shown_tuples};
 use crate::known::{Known, known_of};
 use sq_graph::output_arc;
 use sq_net::Network;
 use sq_place::DropPoint;
 use sq_plan::Capacities;
-use sq_road::Levels;
 use sq_value::Tuple;
 use std::alloc::{AllocError, Global};
 
@@ -63,12 +62,7 @@ fn copy_of(alloc: Global, tuples: &[Tuple]) -> Result<Vec<Tuple>, AllocError>
     Ok(copy)
 }
 
-fn answer_in(
-    alloc: Global,
-    known: &Known,
-    output: u32,
-    arc: u32,
-) -> Result<Vec<Tuple>, AllocError>
+fn answer_in(alloc: Global, known: &Known, output: u32, arc: u32) -> Result<Vec<Tuple>, AllocError>
     requires { IsSafe known.now }
     ensures { IfOk result (λ v. (r : Replay) → IsKnown known.now r → arc ≡ output_arc_at r.network.wires output → v.items ≡ answer_of r output) }
 {
@@ -83,27 +77,6 @@ fn answer_in(
             Ok(shown)
         }
     }
-}
-
-// How many tuples of a full stream some permitted batch may need, at a distance.
-fn kept_on(
-    alloc: Global,
-    full: &[Tuple],
-    levels: &Levels,
-    seed: u64,
-    w: u32,
-    p: &DropPoint,
-    distance: u64,
-) -> Result<u64, AllocError>
-    requires measured { IsMeasured p.now }
-    requires ticks { AreTicks full.now }
-    requires known { 2 ^ 40 / levels.now.epoch < levels.now.closed }
-    ensures { IfOk result (λ k. k ≡ length (kept_by levels.now seed w p.now distance full.now)) }
-{
-    let _epoch = levels.epoch();
-    let last = last_time(full);
-    let bounds = needed_bounds(alloc, levels, seed, w, p, last)?;
-    Ok(kept_number(full, p, &bounds, distance))
 }
 
 fn reaches(p: &DropPoint, arc: u32) -> bool
@@ -138,18 +111,18 @@ fn distance(p: &DropPoint, arc: u32) -> u64
 }
 
 // How many tuples of an arc are kept.
-fn kept_in(alloc: Global, known: &Known, arc: u32) -> Result<u64, AllocError>
+fn kept_in(known: &Known, arc: u32) -> u64
     requires { IsSafe known.now }
-    ensures { IfOk result (λ k. (r : Replay) → IsKnown known.now r → k ≡ length (kept_of r arc)) }
+    ensures { (r : Replay) → IsKnown known.now r → result ≡ length (kept_of r arc) }
 {
     let _epoch = known.levels.epoch();
     let full = known.at_arc(arc);
     match drop_over(&known.points, arc) {
-        None => Ok(full.len() as u64),
+        None => full.len() as u64,
         Some(w) => {
             let p = &known.points[w as usize];
             let distance = distance(p, arc);
-            kept_on(alloc, full, &known.levels, known.seed, w, p, distance)
+            kept_number(full, &known.levels, known.seed, w, p, distance)
         }
     }
 }
@@ -162,7 +135,7 @@ fn kept_numbers(alloc: Global, known: &Known) -> Result<Vec<u64>, AllocError>
 {
     let mut all = Vec::new(alloc);
     for arc in 0..known.arcs.len() as u32 {
-        all.push(kept_in(alloc, known, arc)?)?;
+        all.push(kept_in(known, arc))?;
     }
     Ok(all)
 }

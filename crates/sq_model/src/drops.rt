@@ -1,10 +1,9 @@
 // What is dropped, shown and kept, where the drop points and the levels are given.
-ghost use Rattle.std.specs.Prelude.{◌≡◌, ◌&&◌, not, max, map, length, slice_index, ◌+◌, ◌*◌, ◌/◌, ◌<◌, ◌≤◌, ◌^◌, ◌++◌, ◌∷◌, [], if◌then◌else◌, IfOk, OnOk};
-ghost use Rattle.sq_value.specs.Lists.{numbers_to};
-ghost use Rattle.sq_place.specs.Points.{until_of};
+ghost use Rattle.std.specs.Prelude.{◌≡◌, ℕ, ◌&&◌, not, length, nat_lt, ◌+◌, ◌-◌, ◌*◌, ◌/◌, ◌<◌, ◌≤◌, ◌^◌, ◌++◌, ◌∷◌, [], if◌then◌else◌, false, IfOk, OnOk};
+ghost use Rattle.sq_value.specs.Values.{IsStream};
 ghost use Rattle.sq_graph.specs.Order.{contains_number};
 ghost use Rattle.sq_model.specs.Shedding.{is_touched, last_of};
-ghost use Rattle.sq_model.specs.Given.{drops_at, record_by, needed_by, shown_without, kept_within, IsMeasured, AreTicks};
+ghost use Rattle.sq_model.specs.Given.{drops_at, record_by, needed_by, needs_at, kept_by, shown_without, IsMeasured, AreTicks};
 
 use sq_place::DropPoint;
 use sq_road::{Levels, draw};
@@ -64,6 +63,19 @@ fn note(batches: &mut Vec<u64>, b: u64, noted: bool) -> Result<(), AllocError>
     Ok(())
 }
 
+// A batch below which none is touched: each ends, with what is kept for it, by the first tuple.
+fn first_batch(tuples: &[Tuple], p: &DropPoint) -> u64
+    requires measured { IsMeasured p.now }
+    requires stream { IsStream tuples.now }
+    ensures untouched { (b : ℕ) → b < result → is_touched p.now tuples.now b ≡ false }
+    ensures low { result ≤ last_of tuples.now / p.now.length }
+{
+    match tuples {
+        [] => 0,
+        [x, ..] => x.time.saturating_sub(p.keep) / p.length,
+    }
+}
+
 // The record of drop `w`: of the batches that a tuple of its full stream touches, those that are dropped.
 pub(crate) fn dropped_batches(
     alloc: Global,
@@ -74,12 +86,13 @@ pub(crate) fn dropped_batches(
     p: &DropPoint,
 ) -> Result<Vec<u64>, AllocError>
     requires measured { IsMeasured p.now }
+    requires stream { IsStream tuples.now }
     requires ticks { AreTicks tuples.now }
     requires known { last_of tuples.now / levels.now.epoch < levels.now.closed }
     ensures { IfOk result (λ v. v.items ≡ record_by levels.now seed w p.now tuples.now) }
 {
     let mut batches = Vec::new(alloc);
-    for b in 0..last_time(tuples) / p.length + 1 {
+    for b in first_batch(tuples, p)..last_time(tuples) / p.length + 1 {
         let noted = is_recorded(tuples, levels, seed, w, p, b);
         note(&mut batches, b, noted)?;
     }
@@ -111,74 +124,55 @@ pub(crate) fn shown_tuples(
     Ok(())
 }
 
-// The bound of the batches up to `b`, from that of those before it.
-fn later(best: u64, p: &DropPoint, b: u64, dropped: bool) -> u64
-    requires more { b + 1 < 2 ^ 64 }
-    requires fits { (b + 1) * p.now.length + p.now.keep < 2 ^ 64 }
-    ensures { result ≡ max best (if not dropped then until_of p.now b else 0) }
-{
-    if dropped {
-        best
-    } else {
-        best.max((b + 1) * p.length + p.keep)
-    }
-}
-
+// Whether a batch that begins by a tick is permitted and needs it, at a distance.
 #[tactic(auto, using(crate::proofs::BatchLemmas::batch_begins, crate::proofs::BatchLemmas::batch_fits, crate::proofs::BatchLemmas::batch_small, crate::proofs::BatchLemmas::epochs_up))]
-fn bound_with(
-    best: u64,
-    levels: &Levels,
-    seed: u64,
-    w: u32,
-    p: &DropPoint,
-    last: u64,
-    b: u64,
-) -> u64
+fn needs(levels: &Levels, seed: u64, w: u32, p: &DropPoint, distance: u64, t: u64, b: u64) -> bool
     requires measured { IsMeasured p.now }
-    requires tick { last < 2 ^ 40 }
-    requires known { last / levels.now.epoch < levels.now.closed }
-    requires begun { b ≤ last / p.now.length }
-    ensures { result ≡ max best (if not (drops_at levels.now seed w p.now b) then until_of p.now b else 0) }
+    requires tick { t < 2 ^ 40 }
+    requires known { 2 ^ 40 / levels.now.epoch < levels.now.closed }
+    requires begun { b ≤ t / p.now.length }
+    ensures { result ≡ needs_at levels.now seed w p.now distance t b }
 {
     let _epoch = levels.epoch();
-    later(best, p, b, is_dropped(levels, seed, w, p, b))
+    let until = (b + 1) * p.length + p.keep;
+    !is_dropped(levels, seed, w, p, b) && t < until.saturating_sub(distance)
 }
 
-// For each batch that begins by a tick, until when the permitted batches up to it need tuples.
-pub(crate) fn needed_bounds(
-    alloc: Global,
+// Whether some permitted batch needs a tick, at a distance. A batch that begins more than `keep` ticks and its length before
+// it doesn't.
+fn is_needed(levels: &Levels, seed: u64, w: u32, p: &DropPoint, distance: u64, t: u64) -> bool
+    requires measured { IsMeasured p.now }
+    requires tick { t < 2 ^ 40 }
+    requires known { 2 ^ 40 / levels.now.epoch < levels.now.closed }
+    ensures { result ≡ nat_lt t (needed_by levels.now seed w p.now (t / p.now.length) - distance) }
+{
+    for b in t.saturating_sub(p.keep) / p.length..t / p.length + 1 {
+        if needs(levels, seed, w, p, distance, t, b) {
+            return true;
+        }
+    }
+    false
+}
+
+// How many tuples of a full stream some permitted batch may need, at a distance.
+pub(crate) fn kept_number(
+    full: &[Tuple],
     levels: &Levels,
     seed: u64,
     w: u32,
     p: &DropPoint,
-    last: u64,
-) -> Result<Vec<u64>, AllocError>
+    distance: u64,
+) -> u64
     requires measured { IsMeasured p.now }
-    requires tick { last < 2 ^ 40 }
-    requires known { last / levels.now.epoch < levels.now.closed }
-    ensures { IfOk result (λ v. v.items ≡ map (needed_by levels.now seed w p.now) (numbers_to (last / p.now.length + 1))) }
+    requires ticks { AreTicks full.now }
+    requires known { 2 ^ 40 / levels.now.epoch < levels.now.closed }
+    ensures { result ≡ length (kept_by levels.now seed w p.now distance full.now) }
 {
-    let mut bounds = Vec::new(alloc);
-    let mut best = 0;
-    for b in 0..last / p.length + 1 {
-        best = bound_with(best, levels, seed, w, p, last, b);
-        bounds.push(best)?;
+    let mut number = 0;
+    for x in full {
+        if is_needed(levels, seed, w, p, distance, x.time) {
+            number += 1;
+        }
     }
-    Ok(bounds)
-}
-
-fn bound_at(bounds: &[u64], batch: u64) -> u64
-    ensures { result ≡ slice_index bounds.now batch }
-{
-    bounds.get(batch as usize).copied().unwrap_or(0)
-}
-
-// How many tuples of a full stream are below the bounds at a distance.
-pub(crate) fn kept_number(full: &[Tuple], p: &DropPoint, bounds: &[u64], distance: u64) -> u64
-    requires { 1 ≤ p.now.length }
-    ensures { result ≡ length (kept_within bounds.now p.now distance full.now) }
-{
-    let kept = full.iter().filter(|x| x.time
-        < bound_at(bounds, x.time / p.length).saturating_sub(distance));
-    kept.count() as u64
+    number
 }

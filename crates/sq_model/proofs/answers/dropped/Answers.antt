@@ -1,4 +1,4 @@
-use Rattle.std.proofs.Common.{◌≡◌, ◌∙◌, ◌<◌, List, Some, slice_get, length, map, ap, sym, subst}
+use Rattle.std.proofs.Common.{◌∙◌, ◌<◌, List, slice_get, length, map, ap, sym, subst}
 use Rattle.std.proofs.lemmas.Result.{IfOk-weaker}
 use Rattle.sq_place.specs.declared.DropPoint.{DropPoint}
 use Rattle.sq_model.proofs.answers.dropped.Goals as goal

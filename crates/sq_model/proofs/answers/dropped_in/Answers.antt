@@ -1,13 +1,17 @@
 use Rattle.std.proofs.Common.{◌≡◌, ◌∙◌, ◌≤◌, Some, ap, sym, subst}
 use Rattle.std.proofs.lemmas.Result.{IfOk-weaker}
+use Rattle.sq_value.specs.Values.{IsStream}
 use Rattle.sq_model.specs.Shedding.{record_of}
 use Rattle.sq_model.specs.Given.{AreTicks, record_by}
 use Rattle.sq_model.proofs.FirstLemmas.{there}
-use Rattle.sq_model.proofs.ShedLemmas.{place_ticks, known_by, record_known}
+use Rattle.sq_model.proofs.ShedLemmas.{place_stream, place_ticks, known_by, record_known}
 use Rattle.sq_model.proofs.answers.dropped_in.Goals as goal
 
 pub dropped_batches-requires-clause-ticks : goal.dropped_batches-requires-clause-ticks
 dropped_batches-requires-clause-ticks c = subst AreTicks (sym c.at_place-full.ensures) (place_ticks c.args.known.now c.requires.safe c.index-p.result.now.at)
+
+pub dropped_batches-requires-clause-stream : goal.dropped_batches-requires-clause-stream
+dropped_batches-requires-clause-stream c = subst IsStream (sym c.at_place-full.ensures) (place_stream c.args.known.now c.requires.safe c.index-p.result.now.at)
 
 pub dropped_batches-requires-clause-known : goal.dropped_batches-requires-clause-known
 dropped_batches-requires-clause-known c =

@@ -1,4 +1,4 @@
-use Rattle.std.proofs.Common.{◌≡◌, ◌∙◌, ◌++◌, ◌∷◌, [], List, ℕ, Vec, Global, ap, sym, append_assoc}
+use Rattle.std.proofs.Common.{◌∙◌, ◌++◌, ◌∷◌, [], Vec, Global, ap, sym, append_assoc}
 use Rattle.std.specs.Prelude.{map}
 use Rattle.std.proofs.Common.{drop, ◌+◌}
 use Rattle.sq_value.specs.declared.Tuple.{Tuple}

@@ -1,4 +1,4 @@
-use Rattle.std.proofs.Common.{◌≡◌, ℕ, ◌+◌, ◌-◌, ◌<◌, ◌≤◌, ◌^◌, map}
+use Rattle.std.proofs.Common.{◌≡◌, ◌+◌, ◌-◌, ◌≤◌, ◌^◌, map}
 use Rattle.sq_plan.specs.Shown.{level_for}
 use Rattle.sq_road.specs.Levels.{Agrees}
 use Rattle.sq_model.specs.Given.{counted}

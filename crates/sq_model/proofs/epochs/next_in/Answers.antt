@@ -1,4 +1,4 @@
-use Rattle.std.proofs.Common.{◌∙◌, ◌≡◌, ◌<◌, ◌≤◌, ◌/◌, ◌+◌, ℕ, length, drop, ap, arith}
+use Rattle.std.proofs.Common.{◌∙◌, ap, arith}
 use Rattle.std.proofs.lemmas.List.{drop_all}
 use Rattle.sq_model.specs.Epochs.{count_in}
 use Rattle.sq_model.proofs.EpochLemmas.{not_counted}

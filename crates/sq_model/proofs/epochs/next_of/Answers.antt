@@ -1,4 +1,4 @@
-use Rattle.std.proofs.Common.{◌∙◌, ◌≡◌, ◌<◌, ◌≤◌, ◌+◌, ℕ, length, drop, Vec, Global, ap, sym, arith}
+use Rattle.std.proofs.Common.{◌∙◌, Vec, Global, ap, sym, arith}
 use Rattle.sq_value.specs.declared.Tuple.{Tuple}
 use Rattle.sq_model.specs.Epochs.{count_in}
 use Rattle.sq_model.proofs.EpochLemmas.{not_quiet_less}

@@ -1,4 +1,4 @@
-use Rattle.std.proofs.Common.{◌∙◌, ◌≡◌, ◌<◌, ◌^◌, List, ℕ, length, map, ap, sym, subst, refl, arith}
+use Rattle.std.proofs.Common.{◌∙◌, List, ℕ, length, map, ap, sym, subst, refl, arith}
 use Rattle.std.specs.List.{All}
 use Rattle.std.proofs.lemmas.List.{length-map}
 use Rattle.sq_value.specs.declared.Tuple.{Tuple}

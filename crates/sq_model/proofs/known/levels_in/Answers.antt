@@ -1,4 +1,4 @@
-use Rattle.std.proofs.Common.{◌∙◌, subst, map}
+use Rattle.std.proofs.Common.{subst, map}
 use Rattle.sq_plan.specs.Plans.{Setting}
 use Rattle.sq_plan.specs.Shown.{level_for}
 use Rattle.sq_road.specs.Levels.{Agrees}
