@@ -1,11 +1,10 @@
 -- What a run that is done has shown, fed and lost.
 use Rattle.std.proofs.Common.{◌≡◌, ℕ, ◌+◌, ◌<◌, Bool, true, false, not, None, refl, List, [], ◌∷◌, ◌++◌, length, Option, Some, slice_get, ap, sym, ◌∙◌, arith, append-nil}
 use Rattle.sq_outside.specs.Disks.{Pages}
-use Rattle.sq_road.specs.Levels.{Agrees}
 use Rattle.sq_oper.specs.declared.outs.Event.{Event}
 use Rattle.sq_model.specs.Shedding.{Replay, level_of}
 use Rattle.sq_queue.specs.Faces.{Tells}
-use Rattle.sq_flow.specs.Events.{lines_of}
+use Rattle.sq_flow.specs.Events.{lines_of, drops_of}
 use Rattle.sq_flow.specs.Plans.{plans_of, plans_left}
 use Rattle.sq_flow.specs.Wiring.{net_of}
 use Rattle.sq_actor.specs.declared.actor.Actor.{Actor}
@@ -14,22 +13,24 @@ use Rattle.sq_flow.specs.declared.flow.Flow.{Flow}
 use Rattle.sq_flow.specs.declared.seats.Seat.{Seat}
 use Rattle.sq_flow.specs.Seats.{taken_at, lost_at, done_at, holds_at, IsSeat}
 use Rattle.sq_flow.specs.Engines.{AllDone}
-use Rattle.sq_flow.specs.Flows.{items_in, IsFlow, HoldsItems, lines_left, fed_at_last, lost_at_last, work_at_last, taken_in_all}
+use Rattle.sq_flow.specs.Flows.{items_in, IsFlow, HoldsItems, lines_left, decisions_left, fed_at_last, lost_at_last, work_at_last, taken_in_all}
 use Rattle.sq_core.specs.declared.engine.Engine.{Engine}
 use Rattle.sq_core.specs.Meanings.{actors, IsValid}
 use Rattle.sq_core.specs.Runs.{IsSoundEngine, IsRun, late_in, ShownAll}
 use Rattle.sq_core.proofs.PlanLemmas.{no-plans}
-use Rattle.sq_core.proofs.RunLemmas.{agrees-of, shown-in, box-in}
+use Rattle.sq_core.proofs.RunLemmas.{shown-in, shed-in, box-in}
 
 -- nothing is left of any output, and each operator was fed, and has lost, all that it is fed and loses in all
 pub record NothingLeft (e : Engine) : Type 0 where
-  pub lines : (pages : Option Pages) (table : ℕ → ℕ → ℕ) → HoldsItems actors (items_in e.engine.flow pages) e.engine.flow → Agrees e.engine.flow.levels table
+  pub lines : (pages : Option Pages) (table : ℕ → ℕ → ℕ) → HoldsItems actors table (items_in e.engine.flow pages) e.engine.flow
       → (output : ℕ) → e.engine.flow.wires.shown + output < length e.engine.flow.seats.items → lines_left actors table (items_in e.engine.flow pages) e.engine.flow output ≡ []
-  pub fed : (pages : Option Pages) (table : ℕ → ℕ → ℕ) → HoldsItems actors (items_in e.engine.flow pages) e.engine.flow → Agrees e.engine.flow.levels table
+  pub drops : (pages : Option Pages) (table : ℕ → ℕ → ℕ) → HoldsItems actors table (items_in e.engine.flow pages) e.engine.flow
+      → (actor : ℕ) → actor < length e.engine.flow.seats.items → decisions_left actors table (items_in e.engine.flow pages) e.engine.flow actor ≡ []
+  pub fed : (pages : Option Pages) (table : ℕ → ℕ → ℕ) → HoldsItems actors table (items_in e.engine.flow pages) e.engine.flow
       → (actor : ℕ) → actor < length e.engine.flow.seats.items → fed_at_last actors table (items_in e.engine.flow pages) e.engine.flow actor ≡ taken_at actors (slice_get e.engine.flow.seats.items actor)
-  pub lost : (pages : Option Pages) (table : ℕ → ℕ → ℕ) → HoldsItems actors (items_in e.engine.flow pages) e.engine.flow → Agrees e.engine.flow.levels table
+  pub lost : (pages : Option Pages) (table : ℕ → ℕ → ℕ) → HoldsItems actors table (items_in e.engine.flow pages) e.engine.flow
       → (actor : ℕ) → actor < length e.engine.flow.seats.items → lost_at_last actors table (items_in e.engine.flow pages) e.engine.flow actor ≡ lost_at actors (slice_get e.engine.flow.seats.items actor) []
-  pub work : (pages : Option Pages) (table : ℕ → ℕ → ℕ) → HoldsItems actors (items_in e.engine.flow pages) e.engine.flow → Agrees e.engine.flow.levels table
+  pub work : (pages : Option Pages) (table : ℕ → ℕ → ℕ) → HoldsItems actors table (items_in e.engine.flow pages) e.engine.flow
       → work_at_last actors table (items_in e.engine.flow pages) e.engine.flow ≡ taken_in_all actors e.engine.flow
   pub plans : plans_left e.engine.flow ≡ []
 
@@ -59,15 +60,21 @@ pub shown-all : (e : Engine) → NothingLeft e → AllDone e.engine.flow → (r 
     → IsRun r pages e history begun steps → ShownAll r e history begun steps
 shown-all e none done r pages history begun steps told run =
     let a = run.answers told in
-    let agrees = agrees-of r e.engine.flow history run.plans in
     record {
-      lines = λ output s here.
-          sym (append-nil (lines_of output history)) ∙ ap (λ l. lines_of output history ++ l) (sym (none.lines pages (level_of r) a.holds agrees output (shown-in e r.network run.network run.sound output s here)))
-          ∙ a.lines output s here;
+      lines = λ output low.
+          sym (append-nil (lines_of output history)) ∙ ap (λ l. lines_of output history ++ l) (sym (none.lines pages (level_of r) a.holds output (shown-in e r.network run.network run.sound output low)))
+          ∙ a.lines output low;
+      drops = λ w p there.
+          let shed = shed-in e r.network run.network run.sound w p there in
+          let first = run.sound.drops in
+          let all = run.sound.operators in
+          sym (append-nil (drops_of w history))
+          ∙ ap (λ l. drops_of w history ++ l) (sym (none.drops pages (level_of r) a.holds (e.engine.flow.wires.sheds + w) (omega (arith, shed, first, all))))
+          ∙ a.drops w p there;
       plans = sym (append-nil (plans_of history)) ∙ ap (λ l. plans_of history ++ l) (sym none.plans) ∙ run.plans.shown;
-      fed = λ at low. sym (none.fed pages (level_of r) a.holds agrees at (box-in e r.network run.network run.sound at low)) ∙ a.fed at low;
+      fed = λ at low. sym (none.fed pages (level_of r) a.holds at (box-in e r.network run.network run.sound at low)) ∙ a.fed at low;
       late = λ at low.
           late-seat e.engine.flow run.sound.engine.flow done at (box-in e r.network run.network run.sound at low)
-          ∙ sym (none.lost pages (level_of r) a.holds agrees at (box-in e r.network run.network run.sound at low)) ∙ a.late at low;
-      work = (let all = none.work pages (level_of r) a.holds agrees in let sum = a.work in let counted = run.counted in omega (arith, all, sum, counted));
+          ∙ sym (none.lost pages (level_of r) a.holds at (box-in e r.network run.network run.sound at low)) ∙ a.late at low;
+      work = (let all = none.work pages (level_of r) a.holds in let sum = a.work in let counted = run.counted in omega (arith, all, sum, counted));
     }

@@ -1,69 +1,80 @@
 -- What is left of a new engine of a network, and which of its actors are ready.
-use Rattle.std.proofs.Common.{◌≡◌, ℕ, zero, suc, ◌+◌, ◌-◌, ◌<◌, ◌≤◌, eqb, cond, Bool, true, false, ◌||◌, List, [], ◌∷◌, map, length, Option, Some, None, slice_get, refl, ap, sym, ◌∙◌, subst, arith, zero-le}
-use Rattle.std.specs.List.{All, AllByRecursion}
+use Rattle.std.proofs.Common.{◌≡◌, ◌≢◌, ℕ, zero, suc, ◌+◌, ◌-◌, ◌<◌, ◌≤◌, eqb, cond, Bool, true, false, ◌||◌, List, [], ◌∷◌, ◌++◌, map, length, Option, Some, None, slice_get, refl, ap, sym, ◌∙◌, subst, arith, zero-le}
+use Rattle.std.specs.List.{AllByRecursion, sum_by}
 use Rattle.std.specs.declared.alloc.Global.{Global}
 use Rattle.std.specs.declared.collections.VecDeque.{VecDeque}
+use Rattle.std.proofs.lemmas.Option.{slice_get_within}
 use Rattle.sq_value.specs.declared.Tuple.{Tuple}
+use Rattle.sq_value.specs.Lists.{numbers_to}
 use Rattle.sq_value.specs.Values.{IsStream}
 use Rattle.sq_item.specs.declared.Item.{Item}
-use Rattle.sq_oper.specs.Streams.{IsSoundTuple}
+use Rattle.sq_oper.specs.Streams.{IsSoundTuple, things}
+use Rattle.sq_place.specs.declared.DropPoint.{DropPoint}
 use Rattle.sq_net.specs.declared.Network.{Network}
-use Rattle.sq_net.specs.declared.Node.{Node}
 use Rattle.sq_net.specs.Sound.{IsSound}
+use Rattle.sq_points.specs.Points.{points_of}
+use Rattle.sq_model.specs.Shedding.{Replay, level_of, answer_of}
+use Rattle.sq_model.specs.Kept.{work_of, turns_of}
 use Rattle.sq_left.proofs.MergeLemmas.{eqb-same, eqb-not}
+use Rattle.sq_left.specs.Left.{coming, inputs, still_dropped}
+use Rattle.sq_below.specs.Actors.{Box, Shedder, Shower}
 use Rattle.sq_sched.specs.Ready.{contains, OnlyOnce}
 use Rattle.sq_queue.specs.Faces.{face}
 use Rattle.sq_actor.specs.declared.actor.Actor.{Actor}
 use Rattle.sq_flow.specs.declared.flow.Flow.{Flow}
 use Rattle.sq_flow.specs.declared.engine.Engine.{Engine}
+use Rattle.sq_flow.specs.Events.{bodies}
 use Rattle.sq_flow.specs.Seats.{Meaning, done_at}
 use Rattle.sq_flow.specs.Wiring.{net_of, arcs_read, numbers_in, IsShaped}
 use Rattle.sq_flow.specs.Flows.{tuples_at, RiseFrom, world_of, HoldsItems, fed_at_last, sum_below}
-use Rattle.sq_model.specs.Fed.{work_of}
-use Rattle.sq_model.specs.Shedding.{Replay, level_of}
 use Rattle.sq_flow.specs.Readiness.{stands, IsReady}
 use Rattle.sq_flow.specs.Engines.{place_in, IsEngine}
-use Rattle.sq_start.specs.Nets.{streams_of}
-use Rattle.sq_start.specs.Laws.{IsNew, OutputsStartFull, CountsStart, CountsAt, fed_by_streams}
-use Rattle.sq_start.proofs.LawLemmas.{First}
+use Rattle.sq_start.specs.Numbers.{first_output, ops_of, number_of, actor_at}
+use Rattle.sq_start.specs.Nets.{decided_by, drop_decisions, decisions_of, count_fed}
+use Rattle.sq_start.specs.Starts.{IsRead}
+use Rattle.sq_start.specs.Laws.{IsNew, StartsAs, StartsAsReplayed}
+use Rattle.sq_start.proofs.NumberLemmas.{box-at, drop-at}
 use Rattle.sq_core.specs.Meanings.{actors}
-use Rattle.sq_core.specs.Table.{ops_of, IsMeasured}
+use Rattle.sq_core.specs.Table.{IsMeasured}
 use Rattle.sq_core.specs.Answers.{Answers}
-use Rattle.sq_core.proofs.TableLemmas.{box-streams, output-streams}
-use Rattle.sq_core.proofs.SeatLemmas.{one-shown}
-use Rattle.sq_core.proofs.PortFits.{box-reads}
-use Rattle.sq_core.proofs.SumLemmas.{sum-same, box-fed, work-is}
-use Rattle.sq_core.proofs.NewFlow.{left-is}
+use Rattle.sq_core.proofs.NetLemmas.{reads-some}
+use Rattle.sq_core.proofs.SumLemmas.{sum-numbers}
 
 -- ---- what is left
 
-pub new-answers : (r : Replay) → All IsStream r.sources → OutputsStartFull r.network → CountsStart r.network
-    → (flow : Flow Actor) (items : ℕ → List Item) → ((table : ℕ → ℕ → ℕ) → IsNew r.network r.sources (net_of flow.wires) (world_of actors table items flow))
-    → IsShaped flow.wires (ops_of r.network) → flow.wires.shown ≡ length r.network.boxes → length flow.seats.items ≡ ops_of r.network → flow.taken ≡ 0 → HoldsItems actors items flow
-    → Answers r items flow []
-new-answers r recorded shows counts flow items new shaped shown many none holds =
-    record {
-      holds = holds;
-      lines = λ output s is. left-is actors r.network r.sources recorded flow.wires shaped shown shows flow refl items (level_of r) (new (level_of r)) output s is;
-      fed = λ at low. (at-actor at (omega (arith, low))).fed ∙ box-fed r.network r.sources at low;
-      late = λ at low. (at-actor at (omega (arith, low))).lost;
-      work = sum-same (fed_at_last actors (level_of r) items flow) (fed_by_streams r.network r.sources) (length flow.seats.items) (λ actor low. (at-actor actor (omega (arith, low, many))).fed)
-          ∙ all-work;
-      turns =
-          let sum = sum-same _ (fed_by_streams r.network r.sources) (length flow.seats.items) (λ actor low. (at-actor actor (omega (arith, low, many))).turns) in
-          let all = all-work in
-          omega (arith, sum, all, none);
-    }
-  where
-    at-actor : (actor : ℕ) → actor < ops_of r.network → CountsAt r.network r.sources (net_of flow.wires) (world_of actors (level_of r) items flow) flow.wires.order.items actor
-    at-actor actor low =
-        counts r.sources (net_of flow.wires) (world_of actors (level_of r) items flow) recorded (new (level_of r)) flow.wires.order.items shaped.wired actor (shaped.ordered actor low)
-        (λ e. (let r = shaped.replay_is in omega (arith, low, e, r)))
+bodies-things : (xs : List Tuple) → bodies (things xs) ≡ xs
+bodies-things [] = refl
+bodies-things (x ∷ xs) = ap (λ l. x ∷ l) (bodies-things xs)
 
-    all-work : sum_below (fed_by_streams r.network r.sources) (length flow.seats.items) ≡ work_of r.network r.sources
-    all-work = ap (sum_below (fed_by_streams r.network r.sources)) many ∙ work-is r.network r.sources
+pub new-answers : (r : Replay) → IsRead r → StartsAsReplayed → (flow : Flow Actor) (items : ℕ → List Item) → ((arc : ℕ) → items arc ≡ []) → IsNew r (net_of flow.wires) (world_of actors (level_of r) items flow)
+    → IsShaped flow.wires (ops_of r.network) → flow.wires.sheds ≡ length r.network.boxes → flow.wires.shown ≡ first_output r.network → length flow.seats.items ≡ ops_of r.network → flow.taken ≡ 0
+    → Answers r items flow []
+new-answers r read law flow items none new shaped sheds shown many untaken =
+    let starts = law r (net_of flow.wires) (world_of actors (level_of r) items flow) flow.wires.order.items read new shaped.wired shaped.ordered in
+    record {
+      holds = record { facts = starts.facts; queued = λ arc. rw (none arc) _ };
+      lines = λ output low.
+          ap (λ k. bodies (coming (net_of flow.wires) (world_of actors (level_of r) items flow) flow.wires.order.items (k + output) 0)) shown
+          ∙ ap bodies (starts.lines output low) ∙ bodies-things (answer_of r output);
+      drops = λ w p there.
+          let low = slice_get_within (points_of r.network) w p there in
+          ap (λ k. still_dropped (net_of flow.wires) (world_of actors (level_of r) items flow) flow.wires.order.items (k + w)) sheds
+          ∙ starts.decided (length r.network.boxes + w) (omega (arith, low)) ∙ ap (decided_by r) (drop-at r.network w low) ∙ ap (drop_decisions r w) there;
+      fed = λ at low. starts.fed at (omega (arith, low)) ∙ ap (count_fed r) (box-at r.network at low);
+      late = starts.late;
+      work = ap (sum_below (fed_at_last actors (level_of r) items flow)) many ∙ sym (sum-numbers (fed_at_last actors (level_of r) items flow) (ops_of r.network)) ∙ starts.work;
+      turns =
+          let sum = ap (sum_below (λ actor. length (inputs (net_of flow.wires) (world_of actors (level_of r) items flow) flow.wires.order.items actor))) many
+          ∙ sym (sum-numbers (λ actor. length (inputs (net_of flow.wires) (world_of actors (level_of r) items flow) flow.wires.order.items actor)) (ops_of r.network)) in
+          let most = starts.turns in
+          omega (arith, sum, most, untaken);
+    }
 
 -- ---- what is to be released
+
+abbrev First : ℕ → List Tuple → Type 0
+First t [] = Unit {0}
+First t (x ∷ xs) = t ≤ x.time
 
 rise-from : (time : ℕ) (xs : List Tuple) → IsStream xs → AllByRecursion IsSoundTuple xs → First time xs → RiseFrom time xs
 rise-from time [] s t f = _
@@ -109,28 +120,6 @@ first-of : (xs : List ℕ) → 1 ≤ length xs → (x : ℕ) × (slice_get xs 0 
 first-of [] h = absurd (omega (arith, h))
 first-of (x ∷ xs) h = (x, refl)
 
--- each operator takes a stream
-reads-some : (n : Network) → IsSound n → (actor : ℕ) → actor < ops_of n → 1 ≤ length (streams_of n actor)
-reads-some n sound actor low = by (slice_get n.boxes actor) refl
-  where
-    node-low : (bs : List Node) (at : ℕ) (b : Node) → slice_get bs at ≡ Some b → at < length bs
-    node-low [] at b is = cc is
-    node-low (y ∷ bs) zero b is = omega arith
-    node-low (y ∷ bs) (suc at) b is = (let h = node-low bs at b is in omega (arith, h))
-
-    none-high : (bs : List Node) (at : ℕ) → slice_get bs at ≡ None → length bs ≤ at
-    none-high [] at is = omega arith
-    none-high (y ∷ bs) zero is = cc is
-    none-high (y ∷ bs) (suc at) is = (let h = none-high bs at is in omega (arith, h))
-
-    by : (o : Option Node) → slice_get n.boxes actor ≡ o → 1 ≤ length (streams_of n actor)
-    by (Some b) is = subst (λ ss. 1 ≤ length ss) (sym (box-streams n actor (node-low n.boxes actor b is))) (box-reads n sound actor b is)
-    by None is =
-        let high = none-high n.boxes actor is in
-        let e : length n.boxes + (actor - length n.boxes) ≡ actor = omega (arith, high) in
-        let one = ap length (ap (streams_of n) (sym e) ∙ output-streams n (actor - length n.boxes)) ∙ one-shown n.wires.outputs (actor - length n.boxes) (omega (arith, high, low)) in
-        omega (arith, one)
-
 module _ {O : Type 0} (m : Meaning O) (valid : O → Type 0) (n : Network) (sound : IsSound n) (e : Engine O) (is : IsEngine m valid e)
     (measured : IsMeasured n e.flow.wires) (many : length e.flow.seats.items ≡ ops_of n) (runs : e.flow.over ≡ false)
     (bare : (arc : ℕ) → face e.flow.queues arc ≡ record { count = 0; first = None; ended = false }) where
@@ -148,7 +137,7 @@ module _ {O : Type 0} (m : Meaning O) (valid : O → Type 0) (n : Network) (soun
   not-ready : (actor : ℕ) → actor < ops_of n → IsReady e.flow actor → ⊥
   not-ready actor low ready =
       let some = reads-some n sound actor low in
-      let arcs = measured.many actor in
+      let arcs = measured.many actor low in
       let arc = first-of (arcs_read e.flow.wires actor) (omega (arith, some, arcs)) in
       let no : false ≡ true = ap stands (sym (bare arc.0)) ∙ ready.standing 0 arc.0 arc.1 in
       cc no

@@ -1,51 +1,48 @@
--- The flow of a network's engine is new: what it releases, holds and gives is as the law of the start asks.
-use Rattle.std.proofs.Common.{◌≡◌, ℕ, zero, suc, ◌+◌, ◌-◌, ◌<◌, ◌≤◌, not, true, false, List, [], ◌∷◌, map, length, Option, Some, None, Vec, slice_get, refl, ap, sym, ◌∙◌, subst, arith}
+-- The flow of a network's engine is new: its seats, and what it releases, holds and gives, are as the law of the start asks.
+use Rattle.std.proofs.Common.{◌≡◌, ℕ, zero, suc, ◌+◌, ◌<◌, ◌≤◌, not, true, false, List, [], ◌∷◌, map, length, Option, Some, None, Vec, slice_get, refl, ap, sym, ◌∙◌, subst, arith, inl, inr}
 use Rattle.std.specs.List.{All, AllByRecursion}
 use Rattle.std.specs.declared.alloc.Global.{Global}
 use Rattle.std.specs.declared.collections.VecDeque.{VecDeque}
-use Rattle.std.proofs.lemmas.List.{length-map}
+use Rattle.std.proofs.lemmas.Option.{slice_get_within}
 use Rattle.sq_value.specs.declared.Tuple.{Tuple}
-use Rattle.sq_value.specs.Values.{IsStream}
-use Rattle.sq_item.specs.declared.Item.{Item}
 use Rattle.sq_item.specs.Things.{spread_all}
 use Rattle.sq_outside.specs.Disks.{Pages}
 use Rattle.sq_road.specs.Levels.{LevelTable}
 use Rattle.sq_plan.specs.Plans.{Setting}
+use Rattle.sq_place.specs.declared.DropPoint.{DropPoint}
+use Rattle.sq_oper.specs.declared.outs.Decision.{Decision}
 use Rattle.sq_oper.specs.declared.tally.Place.TheVariants.{Start}
-use Rattle.sq_oper.specs.Order.{merge, IsFuture}
-use Rattle.sq_oper.specs.Streams.{things, at_zero}
-use Rattle.sq_graph.specs.Wires.{inputs_of, stream_at}
+use Rattle.sq_oper.specs.Order.{IsFuture}
+use Rattle.sq_oper.specs.Streams.{things}
 use Rattle.sq_net.specs.declared.Network.{Network}
-use Rattle.sq_net.specs.declared.Node.{Node}
 use Rattle.sq_net.specs.Sound.{IsSound}
-use Rattle.sq_model.specs.Full.{nth, full_stream, full_streams}
-use Rattle.sq_model.specs.Fed.{fed_of, late_at, late_of}
-use Rattle.sq_left.proofs.MergeOrder.{merge-in-order}
+use Rattle.sq_points.specs.Points.{points_of}
+use Rattle.sq_model.specs.Full.{nth}
+use Rattle.sq_model.specs.Fed.{late_of}
+use Rattle.sq_model.specs.Given.{IsAt}
+use Rattle.sq_model.specs.Shedding.{Replay, level_of}
+use Rattle.sq_below.specs.Actors.{Actor, Sources, Box, Shedder, Shower, stream_of}
+use Rattle.sq_below.specs.Standing.{box_fed}
+use Rattle.sq_start.specs.Numbers.{IsThere, drops_of, first_output, ops_of, number_of, actor_at}
+use Rattle.sq_start.specs.Nets.{fed_to, decided_by, Joins}
+use Rattle.sq_start.specs.Starts.{IsRead}
+use Rattle.sq_start.specs.Started.{IsStarted, lost_by}
+use Rattle.sq_start.specs.Comes.{TakesArcs, FedMayCome, MarksAreTaken, TuplesAreTaken}
+use Rattle.sq_start.specs.Laws.{IsNew}
+use Rattle.sq_start.proofs.NumberLemmas.{box-at, drop-at, output-at, which}
+use Rattle.sq_actor.specs.declared.actor.Actor as operator
 use Rattle.sq_flow.specs.declared.wires.Wires.{Wires}
 use Rattle.sq_flow.specs.declared.flow.Flow.{Flow}
 use Rattle.sq_flow.specs.declared.seats.Seat.{Seat}
-use Rattle.sq_flow.specs.Seats.{Meaning, rest_at, lost_at, taken_at, place_at, done_at}
-use Rattle.sq_flow.specs.Starts.{IsNewFlow}
-use Rattle.sq_flow.specs.Flows.{tuples_at, world_of, items_in, lines_left, taken_in_all, HoldsItems}
-use Rattle.sq_flow.specs.Wiring.{net_of, IsShaped}
-use Rattle.sq_flow.proofs.FutureLemmas.{future-weaker}
-use Rattle.sq_start.specs.Nets.{shown_by, streams_of, given_by, Joins}
-use Rattle.sq_start.specs.Laws.{IsNew, OutputsStartFull}
-use Rattle.sq_left.specs.Left.{coming, IsWired}
-use Rattle.sq_flow.specs.Events.{bodies}
-use Rattle.sq_start.specs.Starts.{Takes}
-use Rattle.sq_start.proofs.LawLemmas.{all-rise, full-is-stream, new-holds}
-use Rattle.sq_start.proofs.StartLemmas.{zero-none}
-use Rattle.sq_model.specs.Fit.{StreamsFit}
-use Rattle.sq_core.specs.Table.{ops_of, IsMeasured}
-use Rattle.sq_core.specs.Seated.{IsSeated, AllSeated, NodeGives, NodeLoses}
-use Rattle.sq_core.proofs.TableLemmas.{box-streams, output-streams}
-use Rattle.sq_core.proofs.FitLemmas.{streams-come}
-use Rattle.sq_core.proofs.PortFits.{box-takes}
-use Rattle.sq_core.proofs.SeatLemmas.{one-shown}
+use Rattle.sq_flow.specs.Seats.{rest_at, decides_at, lost_at, taken_at, place_at, done_at, holds_at}
+use Rattle.sq_flow.specs.Starts.{IsNewSeat, IsNewFlow}
+use Rattle.sq_flow.specs.Flows.{tuples_at, world_of, items_in, taken_in_all}
+use Rattle.sq_flow.specs.Wiring.{net_of, IsOwn}
+use Rattle.sq_core.specs.Meanings.{actors, IsValid}
+use Rattle.sq_core.specs.Table.{IsMeasured}
+use Rattle.sq_core.specs.Seated.{none_fed, IsSeated, AllSeated}
+use Rattle.sq_core.proofs.NetLemmas.{takes-arcs, marks-come, tuples-come, joins-all}
 use Rattle.sq_core.proofs.SumLemmas.{sum-none}
-use Rattle.sq_core.proofs.LateStart.{late-start}
-use Rattle.sq_core.proofs.StartEngine.{node-low, none-high, node-takes, unmarked-port}
 
 -- what is to be released of a source is its stream
 released : (queues : List (VecDeque Tuple Global)) (source : ℕ) → tuples_at (slice_get queues source) ≡ nth (map (λ q. q.items) queues) source
@@ -53,134 +50,138 @@ released [] source = refl
 released (q ∷ queues) zero = refl
 released (q ∷ queues) (suc source) = released queues source
 
-past : {A : Type 0} (xs : List A) (i : ℕ) → length xs ≤ i → slice_get xs i ≡ None
-past [] i h = refl
-past (x ∷ xs) zero h = absurd (omega (arith, h))
-past (x ∷ xs) (suc i) h = past xs i (omega (arith, h))
+seat-some : {A : Type 0} (xs : List A) (i : ℕ) → i < length xs → (x : A) × (slice_get xs i ≡ Some x)
+seat-some [] i h = absurd (omega (arith, h))
+seat-some (x ∷ xs) zero h = (x, refl)
+seat-some (x ∷ xs) (suc i) h = seat-some xs i (omega (arith, h))
 
-seat-low : {A : Type 0} (xs : List A) (i : ℕ) (x : A) → slice_get xs i ≡ Some x → i < length xs
-seat-low [] i x is = cc is
-seat-low (y ∷ xs) zero x is = omega arith
-seat-low (y ∷ xs) (suc i) x is = (let h = seat-low xs i x is in omega (arith, h))
+seat-none : {A : Type 0} (xs : List A) (i : ℕ) → length xs ≤ i → slice_get xs i ≡ None
+seat-none [] i h = refl
+seat-none (x ∷ xs) zero h = absurd (omega (arith, h))
+seat-none (x ∷ xs) (suc i) h = seat-none xs i (omega (arith, h))
 
-seat-high : {A : Type 0} (xs : List A) (i : ℕ) → slice_get xs i ≡ None → length xs ≤ i
-seat-high [] i is = omega arith
-seat-high (y ∷ xs) zero is = cc is
-seat-high (y ∷ xs) (suc i) is = (let h = seat-high xs i is in omega (arith, h))
+weaker : (P Q : Decision → Type 0) → ((d : Decision) → P d → Q d) → (ds : List Decision) → AllByRecursion P ds → AllByRecursion Q ds
+weaker P Q f [] h = _
+weaker P Q f (d ∷ ds) h = (f d h.0, weaker P Q f ds h.1)
 
-module _ (n : Network) (sound : IsSound n) (sources : List (List Tuple)) (recorded : All IsStream sources) (w : Wires) (measured : IsMeasured n w) (joins : Joins n (net_of w)) (fit : StreamsFit n sources) where
-  abbrev fed : ℕ → List (List Tuple)
-  fed actor = map (full_stream n sources) (streams_of n actor)
+-- an operator is there
+pub there-of : (n : Network) (actor : ℕ) → actor < ops_of n → IsThere n (actor_at n actor)
+there-of n actor low =
+    elim (which n actor low) [
+      | inl box ↦ subst (IsThere n) (sym (box-at n actor box)) box
+      | inr (inl drop) ↦ subst (λ k. IsThere n (actor_at n k)) (sym drop.1) (subst (IsThere n) (sym (drop-at n drop.0 drop.2)) drop.2)
+      | inr (inr output) ↦ subst (λ k. IsThere n (actor_at n k)) (sym output.1) (subst (IsThere n) (sym (output-at n output.0 output.2)) output.2)
+    ]
 
-  may : (actor : ℕ) → IsFuture ((net_of w).takes actor) ((net_of w).fits actor) Start (merge (map things (fed actor)))
-  may actor = record { in_order = merge-in-order (map things (fed actor)) (all-rise n sound sources recorded (streams_of n actor)); fitting = streams-come n sources w fit measured actor }
+-- all that a drop decides is its own
+own-of : (n : Network) (w : Wires) → w.sheds ≡ length n.boxes → w.shown ≡ first_output n → (actor : ℕ) → actor < ops_of n → (d : Decision) → actor_at n actor ≡ Shedder d.drop → IsOwn w actor d
+own-of n w sheds shown actor low d is =
+    elim (which n actor low) [
+      | inl box ↦ (let bad : Box actor ≡ Shedder d.drop = sym (box-at n actor box) ∙ is in cc bad)
+      | inr (inl drop) ↦ (
+          let same : Shedder drop.0 ≡ Shedder d.drop = sym (drop-at n drop.0 drop.2) ∙ ap (actor_at n) (sym drop.1) ∙ is in
+          let k : drop.0 ≡ d.drop = cc same in
+          let here = drop.1 in
+          let below = drop.2 in
+          (omega (arith, sheds, k, here), omega (arith, shown, here, below)))
+      | inr (inr output) ↦ (let bad : Shower output.0 ≡ Shedder d.drop = sym (output-at n output.0 output.2) ∙ ap (actor_at n) (sym output.1) ∙ is in cc bad)
+    ]
 
-  are-streams : (ss : List ℕ) → AllByRecursion IsStream (map (full_stream n sources) ss)
-  are-streams [] = _
-  are-streams (s ∷ ss) = (full-is-stream n sound sources recorded s, are-streams ss)
-
-  at-output : (actor : ℕ) → length n.boxes ≤ actor → streams_of n actor ≡ shown_by (slice_get n.wires.outputs (actor - length n.boxes))
-  at-output actor high = (let e : length n.boxes + (actor - length n.boxes) ≡ actor = omega (arith, high) in ap (streams_of n) (sym e) ∙ output-streams n (actor - length n.boxes))
-
-  module _ {O : Type 0} (m : Meaning O) (valid : O → Type 0) (seats : List (Seat O)) (seated : AllSeated m valid n seats) (count : length seats ≡ ops_of n) where
-    Says : ℕ → (ℕ → ℕ → ℕ) → ℕ → Option (Seat O) → Option Node → Type 0
-    Says actor table port s node = rest_at m table s (merge (map things (fed actor))) port ≡ things (given_by node port (fed actor))
-
-    by-node : (actor port : ℕ) (table : ℕ → ℕ → ℕ) (seat : Seat O) → slice_get seats actor ≡ Some seat → (node : Option Node) → slice_get n.boxes actor ≡ node
-        → NodeGives node (m.takes_marks seat.op) (m.fits seat.op) (m.rest seat.op) → m.rest seat.op table (merge (map things (fed actor))) port ≡ things (given_by node port (fed actor))
-    by-node actor port table seat here None is gives =
-        let high = none-high n.boxes actor is in
-        let low = seat-low seats actor seat here in
-        let one = one-shown n.wires.outputs (actor - length n.boxes) (omega (arith, high, low, count)) in
-        gives table (fed actor) port (length-map (streams_of n actor) (full_stream n sources) ∙ ap length (at-output actor high) ∙ one)
-    by-node actor port table seat here (Some b) is gives =
-        let low = node-low n.boxes actor b is in
-        let k : length (inputs_of n.wires actor) ≡ length (fed actor) = sym (length-map (streams_of n actor) (full_stream n sources) ∙ ap length (box-streams n actor low)) in
-        let s = seated actor seat here in
-        gives.list table (fed actor) (subst (Takes b.body) k (box-takes n sound actor b is)) (are-streams (streams_of n actor))
-        (future-weaker ((net_of w).takes actor) (m.takes_marks seat.op) ((net_of w).fits actor) (m.fits seat.op) Start (merge (map things (fed actor)))
-        (λ p h. (let no : false ≡ true = sym (unmarked-port n sound w measured actor p) ∙ h in cc no))
-        (λ p fields h. s.fits p fields ∙ node-takes n sound w measured actor p fields h) (may actor)) port
-
-    pub gives-at : (actor port : ℕ) (table : ℕ → ℕ → ℕ) → rest_at m table (slice_get seats actor) (merge (map things (fed actor))) port ≡ things (given_by (slice_get n.boxes actor) port (fed actor))
-    gives-at actor port table = by (slice_get seats actor) refl
-      where
-        by : (o : Option (Seat O)) → slice_get seats actor ≡ o → rest_at m table o (merge (map things (fed actor))) port ≡ things (given_by (slice_get n.boxes actor) port (fed actor))
-        by (Some seat) is = by-node actor port table seat is (slice_get n.boxes actor) refl (seated actor seat is).gives
-        by None is =
-            let high = seat-high seats actor is in
-            let none = past n.boxes actor (omega (arith, high, count)) in
-            let rest : streams_of n actor ≡ [] = at-output actor (omega (arith, high, count)) ∙ ap shown_by (past n.wires.outputs (actor - length n.boxes) (omega (arith, high, count))) in
-            sym (ap (λ o. things (given_by o port (fed actor))) none ∙ ap (λ ss. things (at_zero port (nth (map (full_stream n sources) ss) 0))) rest ∙ ap things (zero-none port))
-
-    taken-none : (actor : ℕ) → taken_at m (slice_get seats actor) ≡ 0
-    taken-none actor = by (slice_get seats actor) refl
-      where
-        by : (o : Option (Seat O)) → slice_get seats actor ≡ o → taken_at m o ≡ 0
-        by None is = refl
-        by (Some seat) is = (seated actor seat is).taken
-
-    loses-node : (actor : ℕ) (seat : Seat O) → slice_get seats actor ≡ Some seat → (node : Option Node) → slice_get n.boxes actor ≡ node
-        → NodeLoses node (m.lost seat.op) → m.lost seat.op (merge (map things (fed actor))) ≡ late_of n sources actor
-    loses-node actor seat here None is loses = loses (merge (map things (fed actor)))
-        ∙ ap (λ o. late_at o (fed_of n sources actor) (length (nth (full_streams n sources) (stream_at n.wires actor 0)))) (sym is)
-    loses-node actor seat here (Some b) is loses =
-        let low = node-low n.boxes actor b is in
-        let k : length (inputs_of n.wires actor) ≡ length (fed actor) = sym (length-map (streams_of n actor) (full_stream n sources) ∙ ap length (box-streams n actor low)) in
-        late-start n sound sources actor b is (m.lost seat.op) loses (subst (Takes b.body) k (box-takes n sound actor b is))
-
-    loses-at : (actor : ℕ) → lost_at m (slice_get seats actor) (merge (map things (fed actor))) ≡ late_of n sources actor
-    loses-at actor = by (slice_get seats actor) refl
-      where
-        by : (o : Option (Seat O)) → slice_get seats actor ≡ o → lost_at m o (merge (map things (fed actor))) ≡ late_of n sources actor
-        by (Some seat) is = loses-node actor seat is (slice_get n.boxes actor) refl (seated actor seat is).loses
-        by None is =
-            let high = seat-high seats actor is in
-            ap (λ o. late_at o (fed_of n sources actor) (length (nth (full_streams n sources) (stream_at n.wires actor 0)))) (sym (past n.boxes actor (omega (arith, high, count))))
-
-    pub is-new : (seats-vec : Vec (Seat O) Global) → seats-vec.items ≡ seats → (queues : Vec (VecDeque Tuple Global) Global) → map (λ q. q.items) queues.items ≡ sources
-        → (planner : Setting) (levels : LevelTable) (flow : Flow O) → IsNewFlow w seats-vec queues planner levels flow → (pages : Option Pages) (table : ℕ → ℕ → ℕ)
-        → IsNew n sources (net_of flow.wires) (world_of m table (items_in flow pages) flow)
-    is-new seats-vec same queues streams planner levels flow new pages table =
-        let here : flow.seats.items ≡ seats = ap (λ v. v.items) new.seats_are ∙ same in
+module _ (n : Network) (sound : IsSound n) (places : (d : ℕ) (p : DropPoint) → slice_get (points_of n) d ≡ Some p → IsAt n p.at) (w : Wires) (measured : IsMeasured n w)
+    (number : ℕ) (seats : List (Seat operator.Actor)) (seated : AllSeated n number seats) (count : length seats ≡ ops_of n) where
+  module _ (marks : MarksAreTaken) (tuples : TuplesAreTaken) (sheds : w.sheds ≡ length n.boxes) (shown : w.shown ≡ first_output n) (epoch : ℕ) (lasts : n.epoch ≡ epoch) where
+    new-seat : (actor : ℕ) (seat : Seat operator.Actor) → actor < ops_of n → IsSeated n number actor seat → IsNewSeat actors IsValid ((net_of w).takes actor) ((net_of w).fits actor) (IsOwn w actor) epoch seat
+    new-seat actor seat low s =
         record {
-          joins = subst (λ v. Joins n (net_of v)) (sym new.wires_are) joins;
-          recorded = λ port. ap (λ q. things (tuples_at (slice_get q.items port))) new.sources_are ∙ ap things (released queues.items port) ∙ ap (λ ss. things (nth ss port)) streams;
-          empty = λ arc. ap spread_all (new.empty pages arc);
-          fit = λ actor ne. streams-come n sources flow.wires fit (subst (IsMeasured n) (sym new.wires_are) measured) actor;
-          gives = λ actor ne port. ap (λ l. rest_at m table (slice_get l actor) (merge (map things (fed actor))) port) here ∙ gives-at actor port table;
-          none_fed = λ actor. ap (λ l. taken_at m (slice_get l actor)) here ∙ taken-none actor;
-          loses = λ actor ne. ap (λ l. lost_at m (slice_get l actor) (merge (map things (fed actor)))) here ∙ loses-at actor;
+          is_valid = s.started.is_valid;
+          running = s.started.running;
+          place = s.started.at_start;
+          taken = s.started.none_fed;
+          holds_none = s.started.none;
+          at_start = ap (λ t. t.place) s.none;
+          none_counted = ap (λ t. t.taken) s.none;
+          open_now = ap (λ t. t.running) s.none;
+          owns = λ table future may. weaker (λ d. actor_at n actor ≡ Shedder d.drop) (IsOwn w actor) (own-of n w sheds shown actor low) (actors.decides seat.op table future) (s.started.owns table future may);
+          marks = λ port h. s.started.marks port (marks-come n sound places w measured actor low (there-of n actor low) marks port h);
+          tuples = λ port fields h. s.started.fits port fields (tuples-come n sound places w measured actor low (there-of n actor low) tuples port fields h);
+          reads = subst (λ k. actors.reads seat.op k ≡ true) lasts s.started.reads;
         }
 
-    pub none-fed : (flow : Flow O) → flow.seats.items ≡ seats → taken_in_all m flow ≡ 0
-    none-fed flow here = sum-none (λ actor. taken_at m (slice_get flow.seats.items actor)) (length flow.seats.items) (λ actor. ap (λ l. taken_at m (slice_get l actor)) here ∙ taken-none actor)
+    pub new-seats : (actor : ℕ) → holds_at (IsNewSeat actors IsValid ((net_of w).takes actor) ((net_of w).fits actor) (IsOwn w actor) epoch) (slice_get seats actor)
+    new-seats actor = by (slice_get seats actor) refl
+      where
+        by : (o : Option (Seat operator.Actor)) → slice_get seats actor ≡ o → holds_at (IsNewSeat actors IsValid ((net_of w).takes actor) ((net_of w).fits actor) (IsOwn w actor) epoch) o
+        by None is = _
+        by (Some seat) is = (let low = slice_get_within seats actor seat is in new-seat actor seat (omega (arith, low, count)) (seated actor seat is))
 
--- what is left of an output is the full stream that it shows
-pub left-is : {O : Type 0} (m : Meaning O) (n : Network) (sources : List (List Tuple)) → All IsStream sources → (w : Wires) → IsShaped w (ops_of n) → w.shown ≡ length n.boxes → OutputsStartFull n
-    → (flow : Flow O) → flow.wires ≡ w → (items : ℕ → List Item) (table : ℕ → ℕ → ℕ) → IsNew n sources (net_of flow.wires) (world_of m table items flow) → (output s : ℕ) → slice_get n.wires.outputs output ≡ Some s
-    → lines_left m table items flow output ≡ full_stream n sources s
-left-is m n sources recorded w shaped shown law flow same items table new output s is =
-    let sh : IsShaped flow.wires (ops_of n) = subst (λ v. IsShaped v (ops_of n)) (sym same) shaped in
-    let first : flow.wires.shown ≡ length n.boxes = ap (λ v. v.shown) same ∙ shown in
-    let low = seat-low n.wires.outputs output s is in
-    let r = sh.replay_is in
-    ap (λ a. bodies (coming (net_of flow.wires) (world_of m table items flow) flow.wires.order.items (a + output) 0)) first
-    ∙ law sources (net_of flow.wires) (world_of m table items flow) recorded new flow.wires.order.items sh.wired output s is (λ e. omega (arith, e, r, low)) (sh.ordered (length n.boxes + output) (omega (arith, low)))
+  taken-none : (actor : ℕ) → taken_at actors (slice_get seats actor) ≡ 0
+  taken-none actor = by (slice_get seats actor) refl
+    where
+      by : (o : Option (Seat operator.Actor)) → slice_get seats actor ≡ o → taken_at actors o ≡ 0
+      by None is = refl
+      by (Some seat) is = (seated actor seat is).started.none_fed
 
--- and the facts of its items hold
-pub holds-is : {O : Type 0} (m : Meaning O) (valid : O → Type 0) (n : Network) → IsSound n → (sources : List (List Tuple)) → All IsStream sources → (w : Wires) → IsShaped w (ops_of n)
-    → (seats : List (Seat O)) → AllSeated m valid n seats → (flow : Flow O) → flow.wires ≡ w → flow.seats.items ≡ seats → flow.over ≡ false → (items : ℕ → List Item) → ((arc : ℕ) → items arc ≡ [])
-    → ((table : ℕ → ℕ → ℕ) → IsNew n sources (net_of flow.wires) (world_of m table items flow)) → HoldsItems m items flow
-holds-is {O} m valid n sound sources recorded w shaped seats seated flow same seats-are runs items none new =
-    new-holds n sound sources recorded m flow items (subst (λ v. IsWired (net_of v) v.order.items) (sym same) shaped.wired) none new
-    (λ actor. subst (λ l. place_at m (slice_get l actor) ≡ Start) (sym seats-are) (place (slice_get seats actor) (λ seat is. seated actor seat is)))
-    (λ actor. subst (λ l. done_at flow.over (slice_get l actor) ≡ false) (sym seats-are) (done (slice_get seats actor) (λ seat is. seated actor seat is)))
-  where
-    place : {k : ℕ} {node : Option Node} (o : Option (Seat O)) → ((seat : Seat O) → o ≡ Some seat → IsSeated m valid node k seat) → place_at m o ≡ Start
-    place None h = refl
-    place (Some seat) h = (h seat refl).place
+  pub none-fed : (flow : Flow operator.Actor) → flow.seats.items ≡ seats → taken_in_all actors flow ≡ 0
+  none-fed flow here =
+      sum-none (λ actor. taken_at actors (slice_get flow.seats.items actor)) (length flow.seats.items) (λ actor. ap (λ l. taken_at actors (slice_get l actor)) here ∙ taken-none actor)
 
-    done : {k : ℕ} {node : Option Node} (o : Option (Seat O)) → ((seat : Seat O) → o ≡ Some seat → IsSeated m valid node k seat) → done_at flow.over o ≡ false
-    done None h = runs
-    done (Some seat) h = ap not (h seat refl).open_now
+  place-start : (actor : ℕ) → place_at actors (slice_get seats actor) ≡ Start
+  place-start actor = by (slice_get seats actor) refl
+    where
+      by : (o : Option (Seat operator.Actor)) → slice_get seats actor ≡ o → place_at actors o ≡ Start
+      by None is = refl
+      by (Some seat) is = (seated actor seat is).started.at_start
+
+  done-not : (actor : ℕ) → done_at false (slice_get seats actor) ≡ false
+  done-not actor = by (slice_get seats actor) refl
+    where
+      by : (o : Option (Seat operator.Actor)) → slice_get seats actor ≡ o → done_at false o ≡ false
+      by None is = refl
+      by (Some seat) is = ap (λ t. not t.running) (seated actor seat is).none
+
+  -- the seat of an operator
+  seat-of : (actor : ℕ) → actor < ops_of n → (seat : Seat operator.Actor) × (slice_get seats actor ≡ Some seat) × IsStarted n number (actor_at n actor) seat.op
+  seat-of actor low = (let s = seat-some seats actor (omega (arith, low, count)) in (s.0, s.1, (seated actor s.0 s.1).started))
+
+  module _ (comes : FedMayCome) (r : Replay) (read : IsRead r) (network : r.network ≡ n) (seed : r.seed ≡ number) where
+    gives-at : (actor port : ℕ) → actor < ops_of n → rest_at actors (level_of r) (slice_get seats actor) (fed_to r (actor_at n actor)) port ≡ stream_of r (actor_at n actor, port)
+    gives-at actor port low = (let s = seat-of actor low in ap (λ o. rest_at actors (level_of r) o (fed_to r (actor_at n actor)) port) s.1 ∙ s.2.gives r read network seed port)
+
+    decides-at : (actor : ℕ) → actor < ops_of n → decides_at actors (level_of r) (slice_get seats actor) (fed_to r (actor_at n actor)) ≡ decided_by r (actor_at n actor)
+    decides-at actor low = (let s = seat-of actor low in ap (λ o. decides_at actors (level_of r) o (fed_to r (actor_at n actor))) s.1 ∙ s.2.decides r read network seed)
+
+    loses-at : (b : ℕ) → b < length n.boxes → lost_at actors (slice_get seats b) (box_fed r b) ≡ late_of r.network r.sources b
+    loses-at b low =
+        let s = seat-of b (omega (arith, low)) in
+        let at : lost_at actors (slice_get seats b) (fed_to r (actor_at n b)) ≡ lost_by r (actor_at n b) = ap (λ o. lost_at actors o (fed_to r (actor_at n b))) s.1 ∙ s.2.loses r read network seed in
+        subst (λ x. lost_at actors (slice_get seats b) (fed_to r x) ≡ lost_by r x) (box-at n b low) at
+
+    pub is-new : (seats-vec : Vec (Seat operator.Actor) Global) → seats-vec.items ≡ seats → (queues : Vec (VecDeque Tuple Global) Global) → map (λ q. q.items) queues.items ≡ r.sources
+        → (planner : Setting) (levels : LevelTable) (flow : Flow operator.Actor) → IsNewFlow w seats-vec queues planner levels flow → w.replay ≡ ops_of n → (pages : Option Pages)
+        → IsNew r (net_of flow.wires) (world_of actors (level_of r) (items_in flow pages) flow)
+    is-new seats-vec same queues streams planner levels flow new replay pages =
+        let here : flow.seats.items ≡ seats = ap (λ v. v.items) new.seats_are ∙ same in
+        let wires = new.wires_are in
+        let to : (k : ℕ) → k < ops_of r.network → k < ops_of n = λ k low. subst (λ z. k < ops_of z) network low in
+        record {
+          joins = subst (λ v. Joins r.network (net_of v)) (sym wires) (subst (λ z. Joins z (net_of w)) (sym network) (joins-all n w measured replay));
+          recorded = λ port. ap (λ q. things (tuples_at (slice_get q.items port))) new.sources_are ∙ ap things (released queues.items port) ∙ ap (λ ss. things (nth ss port)) streams;
+          empty = λ arc. ap spread_all (new.empty pages arc);
+          none_fed = λ actor. ap (λ l. taken_at actors (slice_get l actor)) here ∙ taken-none actor;
+          at_start = λ actor. ap (λ l. place_at actors (slice_get l actor)) here ∙ place-start actor;
+          running = λ actor. ap (λ b. done_at b (slice_get flow.seats.items actor)) new.runs ∙ ap (λ l. done_at false (slice_get l actor)) here ∙ done-not actor;
+          fit = λ actor low.
+              subst (λ v. IsFuture ((net_of v).takes actor) ((net_of v).fits actor) Start (fed_to r (actor_at r.network actor))) (sym wires)
+              (comes r (actor_at r.network actor) ((net_of w).takes actor) ((net_of w).fits actor) read (there-of r.network actor low)
+              (subst (λ z. TakesArcs z (actor_at z actor) ((net_of w).takes actor) ((net_of w).fits actor)) (sym network) (takes-arcs n sound places w measured actor (to actor low) (there-of n actor (to actor low)))));
+          gives = λ actor low port.
+              ap (λ l. rest_at actors (level_of r) (slice_get l actor) (fed_to r (actor_at r.network actor)) port) here
+              ∙ subst (λ z. rest_at actors (level_of r) (slice_get seats actor) (fed_to r (actor_at z actor)) port ≡ stream_of r (actor_at z actor, port)) (sym network) (gives-at actor port (to actor low));
+          decides = λ actor low.
+              ap (λ l. decides_at actors (level_of r) (slice_get l actor) (fed_to r (actor_at r.network actor))) here
+              ∙ subst (λ z. decides_at actors (level_of r) (slice_get seats actor) (fed_to r (actor_at z actor)) ≡ decided_by r (actor_at z actor)) (sym network) (decides-at actor (to actor low));
+          loses = λ b low. ap (λ l. lost_at actors (slice_get l b) (box_fed r b)) here ∙ loses-at b (subst (λ z. b < length z.boxes) network low);
+          no_more = λ actor far port.
+              ap (λ l. rest_at actors (level_of r) (slice_get l actor) [] port) here
+              ∙ ap (λ o. rest_at actors (level_of r) o [] port) (seat-none seats actor (let f = subst (λ z. ops_of z < actor) network far in omega (arith, f, count)));
+        }

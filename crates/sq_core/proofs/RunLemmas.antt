@@ -11,6 +11,10 @@ use Rattle.sq_plan.specs.Shown.{level_for}
 use Rattle.sq_outside.specs.Disks.{Pages}
 use Rattle.sq_road.specs.Levels.{Agrees}
 use Rattle.sq_oper.specs.declared.outs.Event.{Event}
+use Rattle.sq_oper.specs.declared.outs.Decision.{Decision}
+use Rattle.sq_place.specs.declared.DropPoint.{DropPoint}
+use Rattle.sq_points.specs.Points.{points_of}
+use Rattle.std.proofs.lemmas.Option.{slice_get_within}
 use Rattle.sq_net.specs.declared.Network.{Network}
 use Rattle.sq_net.specs.Sound.{IsSound}
 use Rattle.sq_model.specs.Shedding.{Replay, counts_in, level_of}
@@ -18,14 +22,14 @@ use Rattle.sq_queue.specs.Faces.{Tells}
 use Rattle.sq_actor.specs.declared.actor.Actor.{Actor}
 use Rattle.sq_flow.specs.declared.flow.Flow.{Flow}
 use Rattle.sq_flow.specs.declared.errors.RunErr.{RunErr}
-use Rattle.sq_flow.specs.Events.{line_of, lines_of, IsEventIn}
-use Rattle.sq_flow.specs.Flows.{items_in, lines_left, fed_at_last, Stepped, ShowsPrefix, NoneStrange, CostsFed, CostsAtMost, TooMuchOnly, sum_below}
+use Rattle.sq_flow.specs.Events.{line_of, lines_of, drop_in, drops_of, IsEventIn}
+use Rattle.sq_flow.specs.Flows.{items_in, lines_left, decisions_left, fed_at_last, Stepped, ShowsPrefix, NoneStrange, CostsFed, CostsAtMost, TooMuchOnly, sum_below}
 use Rattle.sq_flow.specs.Plans.{plan_in, plans_of, plans_left, PlansPrefix}
 use Rattle.sq_flow.specs.Seats.{taken_at}
 use Rattle.sq_flow.specs.Engines.{IsEngine}
 use Rattle.sq_core.specs.declared.engine.Engine.{Engine}
 use Rattle.sq_core.specs.Meanings.{actors, IsValid}
-use Rattle.sq_core.specs.Table.{ops_of}
+use Rattle.sq_start.specs.Numbers.{first_output, ops_of, drops_of as drops_of_network}
 use Rattle.sq_core.specs.Answers.{Plans, Answers}
 use Rattle.sq_core.specs.Runs.{IsSoundEngine, IsRun, ShownSoFar, Stopped}
 use Rattle.sq_core.proofs.SumLemmas.{sum-same, sum-less}
@@ -43,6 +47,15 @@ plans-in-front history xs ys left left' same =
     ap (λ l. l ++ left) (plans-append history xs) ∙ append_assoc (plans_of history) (plans_of xs) left ∙ ap (λ l. plans_of history ++ l) same
     ∙ sym (append_assoc (plans_of history) (plans_of ys) left') ∙ ap (λ l. l ++ left') (sym (plans-append history ys))
 
+decided-append : (w : ℕ) (xs ys : List Event) → drops_of w (xs ++ ys) ≡ drops_of w xs ++ drops_of w ys
+decided-append w [] ys = refl
+decided-append w (x ∷ xs) ys = ap (λ l. drop_in w x ++ l) (decided-append w xs ys) ∙ sym (append_assoc (drop_in w x) (drops_of w xs) (drops_of w ys))
+
+decided-in-front : (w : ℕ) (history xs ys : List Event) (left left' : List Decision) → drops_of w xs ++ left ≡ drops_of w ys ++ left' → drops_of w (history ++ xs) ++ left ≡ drops_of w (history ++ ys) ++ left'
+decided-in-front w history xs ys left left' same =
+    ap (λ l. l ++ left) (decided-append w history xs) ∙ append_assoc (drops_of w history) (drops_of w xs) left ∙ ap (λ l. drops_of w history ++ l) same
+    ∙ sym (append_assoc (drops_of w history) (drops_of w ys) left') ∙ ap (λ l. l ++ left') (sym (decided-append w history ys))
+
 -- what was shown before goes in front
 in-front : (o : ℕ) (history xs ys : List Event) (left left' : List Tuple) → lines_of o xs ++ left ≡ lines_of o ys ++ left' → lines_of o (history ++ xs) ++ left ≡ lines_of o (history ++ ys) ++ left'
 in-front o history xs ys left left' same =
@@ -58,28 +71,35 @@ prefix-in-front o history xs ys left h =
     (subst (λ l. IsPrefixOf (lines_of o history ++ lines_of o ys) l) (sym (ap (λ l. l ++ left) (lines-append o history xs) ∙ append_assoc (lines_of o history) (lines_of o xs) left))
     (prefix-front (lines_of o history) (lines_of o ys) (lines_of o xs ++ left) h))
 
+decided-prefix-in-front : (w : ℕ) (history xs ys : List Event) (left : List Decision) → IsPrefixOf (drops_of w ys) (drops_of w xs ++ left) → IsPrefixOf (drops_of w (history ++ ys)) (drops_of w (history ++ xs) ++ left)
+decided-prefix-in-front w history xs ys left h =
+    subst (λ l. IsPrefixOf l (drops_of w (history ++ xs) ++ left)) (sym (decided-append w history ys))
+    (subst (λ l. IsPrefixOf (drops_of w history ++ drops_of w ys) l) (sym (ap (λ l. l ++ left) (decided-append w history xs) ∙ append_assoc (drops_of w history) (drops_of w xs) left))
+    (prefix-front (drops_of w history) (drops_of w ys) (drops_of w xs ++ left) h))
+
 plans-prefix-in-front : (history xs ys : List Event) (left : List Shown) → IsPrefixOf (plans_of ys) (plans_of xs ++ left) → IsPrefixOf (plans_of (history ++ ys)) (plans_of (history ++ xs) ++ left)
 plans-prefix-in-front history xs ys left h =
     subst (λ l. IsPrefixOf l (plans_of (history ++ xs) ++ left)) (sym (plans-append history ys))
     (subst (λ l. IsPrefixOf (plans_of history ++ plans_of ys) l) (sym (ap (λ l. l ++ left) (plans-append history xs) ∙ append_assoc (plans_of history) (plans_of xs) left))
     (prefix-front (plans_of history) (plans_of ys) (plans_of xs ++ left) h))
 
-output-low : (os : List ℕ) (output s : ℕ) → slice_get os output ≡ Some s → output < length os
-output-low [] output s is = cc is
-output-low (x ∷ os) zero s is = omega arith
-output-low (x ∷ os) (suc output) s is = (let h = output-low os output s is in omega (arith, h))
-
 -- the levels of the closed epochs are those of the replay
 pub agrees-of : (r : Replay) (flow : Flow Actor) (history : List Event) → Plans r flow history → Agrees flow.levels (level_of r)
 agrees-of r flow history plans = subst (λ s. Agrees flow.levels (level_for s (counts_in r))) plans.setting plans.planned.agrees
 
--- an output, and a box, is an operator
-pub shown-in : (e : Engine) (n : Network) → e.network ≡ n → IsSoundEngine e → (output s : ℕ) → slice_get n.wires.outputs output ≡ Some s → e.engine.flow.wires.shown + output < length e.engine.flow.seats.items
-shown-in e n given sound output s here =
-    let low = output-low n.wires.outputs output s here in
-    let boxes = sound.boxes ∙ ap (λ k. length k.boxes) given in
+-- an output, a drop and a box is an operator
+pub shown-in : (e : Engine) (n : Network) → e.network ≡ n → IsSoundEngine e → (output : ℕ) → output < length n.wires.outputs → e.engine.flow.wires.shown + output < length e.engine.flow.seats.items
+shown-in e n given sound output low =
+    let first = sound.drops ∙ ap first_output given in
     let all = sound.operators ∙ ap ops_of given in
-    omega (arith, low, boxes, all)
+    omega (arith, low, first, all)
+
+pub shed-in : (e : Engine) (n : Network) → e.network ≡ n → IsSoundEngine e → (w : ℕ) (p : DropPoint) → slice_get (points_of n) w ≡ Some p → e.engine.flow.wires.sheds + w < e.engine.flow.wires.shown
+shed-in e n given sound w p there =
+    let low = slice_get_within (points_of n) w p there in
+    let boxes = sound.boxes ∙ ap (λ k. length k.boxes) given in
+    let first = sound.drops ∙ ap first_output given in
+    omega (arith, low, boxes, first)
 
 pub box-in : (e : Engine) (n : Network) → e.network ≡ n → IsSoundEngine e → (at : ℕ) → at < length n.boxes → at < length e.engine.flow.seats.items
 box-in e n given sound at low = (let all = sound.operators ∙ ap ops_of given in omega (arith, low, all))
@@ -92,7 +112,8 @@ module _ (was is : Option Pages) (e e' : Engine) (events events' : List Event) (
     sound-after sound =
         record {
           network = subst IsSound (sym same) sound.network;
-          boxes = ap (λ w. w.shown) stepped.wires ∙ sound.boxes ∙ ap (λ n. length n.boxes) (sym same);
+          boxes = ap (λ w. w.sheds) stepped.wires ∙ sound.boxes ∙ ap (λ n. length n.boxes) (sym same);
+          drops = ap (λ w. w.shown) stepped.wires ∙ sound.drops ∙ ap first_output (sym same);
           operators = stepped.seats ∙ sound.operators ∙ ap ops_of (sym same);
           engine = engine;
         }
@@ -108,13 +129,19 @@ module _ (was is : Option Pages) (e e' : Engine) (events events' : List Event) (
     answers-after : (r : Replay) (history : List Event) → e.network ≡ r.network → IsSoundEngine e → Tells was → Agrees e'.engine.flow.levels (level_of r)
         → Answers r (items_in e.engine.flow was) e.engine.flow (history ++ events) → Answers r (items_in e'.engine.flow is) e'.engine.flow (history ++ events')
     answers-after r history given sound told agrees a =
-        let goes = stepped.goes told a.holds (level_of r) agrees in
+        let goes = stepped.goes told (level_of r) agrees a.holds in
         record {
-          holds = stepped.holds told a.holds;
-          lines = λ output s here.
+          holds = stepped.holds told (level_of r) agrees a.holds;
+          lines = λ output low.
               sym (in-front output history events events' (lines_left actors (level_of r) (items_in e.engine.flow was) e.engine.flow output) (lines_left actors (level_of r) (items_in e'.engine.flow is) e'.engine.flow output)
-              (goes.lines output (shown-in e r.network given sound output s here)))
-              ∙ a.lines output s here;
+              (goes.lines output (shown-in e r.network given sound output low)))
+              ∙ a.lines output low;
+          drops = λ w p there.
+              let k = ap (λ v. v.sheds) stepped.wires in
+              ap (λ z. drops_of w (history ++ events') ++ decisions_left actors (level_of r) (items_in e'.engine.flow is) e'.engine.flow (z + w)) k
+              ∙ sym (decided-in-front w history events events' (decisions_left actors (level_of r) (items_in e.engine.flow was) e.engine.flow (e.engine.flow.wires.sheds + w))
+              (decisions_left actors (level_of r) (items_in e'.engine.flow is) e'.engine.flow (e.engine.flow.wires.sheds + w)) (goes.drops w (shed-in e r.network given sound w p there)))
+              ∙ a.drops w p there;
           fed = λ at low. sym (goes.fed at (box-in e r.network given sound at low)) ∙ a.fed at low;
           late = λ at low. sym (goes.lost at (box-in e r.network given sound at low)) ∙ a.late at low;
           work =
@@ -122,7 +149,7 @@ module _ (was is : Option Pages) (e e' : Engine) (events events' : List Event) (
               ∙ sym (sum-same (fed_at_last actors (level_of r) (items_in e.engine.flow was) e.engine.flow) (fed_at_last actors (level_of r) (items_in e'.engine.flow is) e'.engine.flow) (length e.engine.flow.seats.items)
               goes.fed)
               ∙ a.work;
-          turns = sym goes.turns ∙ a.turns;
+          turns = (let same = goes.turns in let most = a.turns in omega (arith, same, most));
         }
 
     pub run-after : (before after : ℕ) → CostsFed actors e.engine.flow e'.engine.flow before after
@@ -138,34 +165,41 @@ module _ (was is : Option Pages) (e e' : Engine) (events events' : List Event) (
           answers = λ told. answers-after r history run.network run.sound (sym stepped.tells ∙ told) (agrees-of r e'.engine.flow (history ++ events') plans) (run.answers (sym stepped.tells ∙ told));
         }
 
-    -- what a step shows is shown at outputs of the network
-    pub shows-after : IsSoundEngine e → AllByRecursion (IsEventIn (length e.network.outputs) 0) events → AllByRecursion (IsEventIn (length e.network.outputs) 0) events'
+    -- what a step shows is shown at outputs of the network, or decided by its drops, or planned
+    pub shows-after : IsSoundEngine e → AllByRecursion (IsEventIn (length e.network.outputs) (drops_of_network e.network)) events → AllByRecursion (IsEventIn (length e.network.outputs) (drops_of_network e.network)) events'
     shows-after sound =
         let boxes = sound.boxes in
+        let first = sound.drops in
         let all = sound.operators in
         let outputs = sound.network.agrees.outputs in
-        let many : length e.engine.flow.seats.items - e.engine.flow.wires.shown ≡ length e.network.outputs = omega (arith, boxes, all, outputs) in
-        subst (λ k. AllByRecursion (IsEventIn k 0) events → AllByRecursion (IsEventIn k 0) events') many stepped.shows
+        let many : length e.engine.flow.seats.items - e.engine.flow.wires.shown ≡ length e.network.outputs = omega (arith, first, all, outputs) in
+        let drops : e.engine.flow.wires.shown - e.engine.flow.wires.sheds ≡ drops_of_network e.network = omega (arith, first, boxes) in
+        subst (λ k. AllByRecursion (IsEventIn k (drops_of_network e.network)) events → AllByRecursion (IsEventIn k (drops_of_network e.network)) events') many
+        (subst (λ k. AllByRecursion (IsEventIn (length e.engine.flow.seats.items - e.engine.flow.wires.shown) k) events → AllByRecursion (IsEventIn (length e.engine.flow.seats.items - e.engine.flow.wires.shown) k) events') drops stepped.shows)
 
   -- ---- a step that failed
 
   pub stopped-after : (before after : ℕ) (err : RunErr) → ShowsPrefix actors was e.engine.flow e'.engine.flow.levels events events' → PlansPrefix e.engine.flow e'.engine.flow.levels events events'
-      → CostsAtMost actors was e.engine.flow e'.engine.flow.levels before after → NoneStrange actors was e.engine.flow err → TooMuchOnly actors was e.engine.flow e'.engine.flow err
+      → CostsAtMost actors was e.engine.flow e'.engine.flow.levels before after → NoneStrange actors was e.engine.flow e'.engine.flow.levels err → TooMuchOnly actors was e.engine.flow e'.engine.flow err
       → Tells was → (r : Replay) (history : List Event) (begun : ℕ) → IsRun r was e (history ++ events) begun before → Stopped r (history ++ events') begun after err
   stopped-after before after err prefix planned cost strange much told r history begun run =
       let a = run.answers told in
       let agrees : Agrees e'.engine.flow.levels (level_of r) = subst (λ s. Agrees e'.engine.flow.levels (level_for s (counts_in r))) run.plans.setting (planned.agrees (counts_in r) run.plans.planned) in
+      let begins = prefix told (level_of r) agrees a.holds in
       record {
         so_far = record {
-          lines = λ output s here.
-              subst (IsPrefixOf (lines_of output (history ++ events'))) (a.lines output s here)
-              (prefix-in-front output history events events' (lines_left actors (level_of r) (items_in e.engine.flow was) e.engine.flow output)
-              (prefix told a.holds (level_of r) agrees output (shown-in e r.network run.network run.sound output s here)));
+          lines = λ output low.
+              subst (IsPrefixOf (lines_of output (history ++ events'))) (a.lines output low)
+              (prefix-in-front output history events events' (lines_left actors (level_of r) (items_in e.engine.flow was) e.engine.flow output) (begins.lines output (shown-in e r.network run.network run.sound output low)));
+          drops = λ w p there.
+              subst (IsPrefixOf (drops_of w (history ++ events'))) (a.drops w p there)
+              (decided-prefix-in-front w history events events' (decisions_left actors (level_of r) (items_in e.engine.flow was) e.engine.flow (e.engine.flow.wires.sheds + w))
+              (begins.drops w (shed-in e r.network run.network run.sound w p there)));
           plans = subst (IsPrefixOf (plans_of (history ++ events'))) run.plans.shown (plans-prefix-in-front history events events' (plans_left e.engine.flow) planned.shown);
-          work = (let most = cost told a.holds (level_of r) agrees in let all = a.work in let counted = run.counted in omega (arith, most, all, counted));
+          work = (let most = cost told (level_of r) agrees a.holds in let all = a.work in let counted = run.counted in omega (arith, most, all, counted));
         };
-        named = strange told a.holds;
-        turns = λ is-much. (let most = much.turns is-much told a.holds (level_of r) agrees in let all = a.turns in omega (arith, most, all));
+        named = strange told (level_of r) agrees a.holds;
+        turns = λ is-much. (let most = much.turns is-much told (level_of r) agrees a.holds in let all = a.turns in omega (arith, most, all));
       }
 
 -- ---- the clauses of a step
@@ -181,22 +215,22 @@ module _ {T : Type 0} (was is : Option Pages) (e e' : Engine) (events events' : 
       by (Err err) stepped engine cost = _
 
   pub shows-clause : OnOk answer (Stepped actors IsValid was is e.engine.flow e'.engine.flow events events') → OnOk answer (IsEngine actors IsValid e'.engine) → IsSoundEngine e
-      → OnOk answer (AllByRecursion (IsEventIn (length e.network.outputs) 0) events → AllByRecursion (IsEventIn (length e.network.outputs) 0) events')
+      → OnOk answer (AllByRecursion (IsEventIn (length e.network.outputs) (drops_of_network e.network)) events → AllByRecursion (IsEventIn (length e.network.outputs) (drops_of_network e.network)) events')
   shows-clause stepped engine sound = by answer stepped engine
     where
       by : (o : Result T RunErr) → OnOk o (Stepped actors IsValid was is e.engine.flow e'.engine.flow events events') → OnOk o (IsEngine actors IsValid e'.engine)
-          → OnOk o (AllByRecursion (IsEventIn (length e.network.outputs) 0) events → AllByRecursion (IsEventIn (length e.network.outputs) 0) events')
+          → OnOk o (AllByRecursion (IsEventIn (length e.network.outputs) (drops_of_network e.network)) events → AllByRecursion (IsEventIn (length e.network.outputs) (drops_of_network e.network)) events')
       by (Ok p) stepped engine = shows-after was is e e' events events' same stepped engine sound
       by (Err err) stepped engine = _
 
   pub stopped-clause : OnErr answer (ShowsPrefix actors was e.engine.flow e'.engine.flow.levels events events') → OnErr answer (PlansPrefix e.engine.flow e'.engine.flow.levels events events') → OnErr answer (CostsAtMost actors was e.engine.flow e'.engine.flow.levels before after)
-      → IfErr answer (NoneStrange actors was e.engine.flow) → IfErr answer (TooMuchOnly actors was e.engine.flow e'.engine.flow)
+      → IfErr answer (NoneStrange actors was e.engine.flow e'.engine.flow.levels) → IfErr answer (TooMuchOnly actors was e.engine.flow e'.engine.flow)
       → IfErr answer (λ err. Tells was → (r : Replay) (history : List Event) (begun : ℕ) → IsRun r was e (history ++ events) begun before
       → Stopped r (history ++ events') begun after err)
   stopped-clause prefix planned cost strange much = by answer prefix planned cost strange much
     where
       by : (o : Result T RunErr) → OnErr o (ShowsPrefix actors was e.engine.flow e'.engine.flow.levels events events') → OnErr o (PlansPrefix e.engine.flow e'.engine.flow.levels events events') → OnErr o (CostsAtMost actors was e.engine.flow e'.engine.flow.levels before after)
-          → IfErr o (NoneStrange actors was e.engine.flow) → IfErr o (TooMuchOnly actors was e.engine.flow e'.engine.flow)
+          → IfErr o (NoneStrange actors was e.engine.flow e'.engine.flow.levels) → IfErr o (TooMuchOnly actors was e.engine.flow e'.engine.flow)
           → IfErr o (λ err. Tells was → (r : Replay) (history : List Event) (begun : ℕ) → IsRun r was e (history ++ events) begun before
           → Stopped r (history ++ events') begun after err)
       by (Ok p) prefix planned cost strange much = _
@@ -209,7 +243,8 @@ pub shown-so-far : (e : Engine) (r : Replay) (pages : Option Pages) (history : L
 shown-so-far e r pages history begun steps told run =
     let a = run.answers told in
     record {
-      lines = λ output s here. (lines_left actors (level_of r) (items_in e.engine.flow pages) e.engine.flow output, sym (a.lines output s here));
+      lines = λ output low. (lines_left actors (level_of r) (items_in e.engine.flow pages) e.engine.flow output, sym (a.lines output low));
+      drops = λ w p there. (decisions_left actors (level_of r) (items_in e.engine.flow pages) e.engine.flow (e.engine.flow.wires.sheds + w), sym (a.drops w p there));
       plans = (plans_left e.engine.flow, sym run.plans.shown);
       work =
           let less = sum-less (λ actor. taken_at actors (slice_get e.engine.flow.seats.items actor)) (fed_at_last actors (level_of r) (items_in e.engine.flow pages) e.engine.flow) (length e.engine.flow.seats.items) (λ i. omega arith) in

@@ -1,32 +1,48 @@
 -- The table of a network can be joined, and wires of it join the network.
-use Rattle.std.proofs.Common.{◌≡◌, ℕ, zero, suc, ◌+◌, ◌-◌, ◌<◌, ◌≤◌, cond, true, false, List, [], ◌∷◌, ◌++◌, map, length, Option, Some, None, Vec, slice_get, refl, ap, sym, ◌∙◌, subst, arith, length-append, inl, inr}
-use Rattle.std.specs.Prelude.{nat_lt, IfOk}
+use Rattle.std.proofs.Common.{◌≡◌, ℕ, zero, suc, ◌+◌, ◌-◌, ◌<◌, ◌≤◌, ◌^◌, Bool, true, List, [], ◌∷◌, ◌++◌, map, length, Option, Some, None, Vec, slice_get, refl, ap, sym, ◌∙◌, subst, arith, inl, inr}
+use Rattle.std.specs.Prelude.{IfOk, is_some}
+use Rattle.std.specs.Option.{option_map}
 use Rattle.std.specs.declared.result.Result.{Result}
 use Rattle.std.specs.declared.result.Result.TheVariants.{Ok, Err}
-use Rattle.std.specs.List.{All, AllByRecursion}
+use Rattle.std.specs.List.{All, AllByRecursion, flat_map, range_with_len}
 use Rattle.std.specs.declared.alloc.Global.{Global}
 use Rattle.std.proofs.lemmas.Bool.{cases_lt}
+use Rattle.std.proofs.lemmas.Option.{slice_get_within}
 use Rattle.std.proofs.lemmas.Bool.Decides.{nat_tests}
 use Rattle.std.proofs.lemmas.List.{length-map}
+use Rattle.std.proofs.lemmas.List.FromFn.{length-map-range_with_len, length-range_with_len}
 use Rattle.std.proofs.lemmas.List.Elements.{recursion_from_All}
-use Rattle.std.proofs.lemmas.Option.{slice_get_within}
+use Rattle.sq_value.specs.Lists.{numbers_to}
 use Rattle.sq_graph.specs.declared.BoxWires.{BoxWires}
-use Rattle.sq_graph.specs.Wires.{Producer, Source, Port, producer_of, inputs_at, inputs_of}
+use Rattle.sq_graph.specs.Wires.{Producer, Source, Port, producer_of, producers_of, arcs_of, arc_at, inputs_at, inputs_of, input_arcs_of, output_arc_at}
 use Rattle.sq_graph.specs.Order.{is_there}
-use Rattle.sq_graph.proofs.Producers.{producer_is}
 use Rattle.sq_graph.proofs.Reach.{and_parts}
+use Rattle.sq_place.specs.declared.DropAt.{DropAt}
+use Rattle.sq_place.specs.declared.DropAt.TheVariants as at
+use Rattle.sq_place.specs.declared.DropPoint.{DropPoint}
+use Rattle.sq_place.specs.Places.{stream_on}
+use Rattle.sq_place.proofs.Exact.{range-get}
+use Rattle.sq_place.proofs.Numbering.{numbered_more}
+use Rattle.sq_place.proofs.Wires.{map-append, arcs-there}
 use Rattle.sq_net.specs.declared.Network.{Network}
 use Rattle.sq_net.specs.Sound.{IsSound, is_between}
 use Rattle.sq_net.specs.Streams.{columns_of_stream}
-use Rattle.sq_net.proofs.StreamLemmas.{boxes_count}
+use Rattle.sq_points.specs.Points.{points_of}
+use Rattle.sq_model.specs.Shedding.{drop_above_arc}
+use Rattle.sq_points.proofs.Plannable.{few-points}
+use Rattle.sq_model.specs.Given.{IsAt}
 use Rattle.sq_model.proofs.PlacedLemmas.{placed_of}
-use Rattle.sq_flow.specs.declared.wires.Arc.{Arc}
+use Rattle.sq_below.specs.Standing.{Drop, drop_on_arc}
+use Rattle.sq_below.specs.Actors.{Actor, Sources, Box, Shedder, Shower, giver, from_drop, arc_from}
+use Rattle.sq_start.specs.Numbers.{IsThere, drops_of, first_output, ops_of, number_of, actor_at, place_stream}
+use Rattle.sq_start.proofs.NumberLemmas.{box-at, drop-at, output-at, giver-there, from-there}
 use Rattle.sq_flow.specs.declared.wires.Wires.{Wires}
-use Rattle.sq_flow.specs.Wiring.{net_of, arcs_read, arc_at, from_of, port_of}
-use Rattle.sq_start.specs.Nets.{shown_by, streams_of, ComesFrom, AllCome, Joins}
+use Rattle.sq_flow.specs.Wiring.{arcs_read, arc_at as wire_at}
 use Rattle.sq_core.specs.declared.join.Feed.{Feed}
-use Rattle.sq_core.specs.Joining.{feeds_of, IsGiver, AreFeeds, IsOf, IsJoined}
-use Rattle.sq_core.specs.Table.{width_of, feed_from, ops_of, feed_of, table_of, IsWide, IsMeasured}
+use Rattle.sq_core.specs.Joining.{items_in, feeds_of, IsGiver, AreFeeds, IsOf, IsJoined}
+use Rattle.sq_core.specs.Table.{width_of, streams_on, arc_feed, place_feed, point_row, row_of, table_of, IsMeasured}
+use Rattle.sq_core.proofs.PointLemmas.{streams_are}
+use Rattle.sq_core.proofs.ShapeLemmas.{no-feeds}
 
 -- ---- how many
 
@@ -44,6 +60,33 @@ outputs_low n sound =
     let low : length n.outputs ≤ 32 = at-most 1 32 (length n.outputs) few in
     subst (λ k. k ≤ 32) (sym sound.agrees.outputs) low
 
+pub points_low : (n : Network) → IsSound n → length (points_of n) ≤ 32
+points_low n sound = few-points n sound
+
+-- ---- the streams of arcs are there
+
+all-mapped : (P : ℕ → Type 0) (f : ℕ → ℕ) (xs : List ℕ) → AllByRecursion P (map f xs) → AllByRecursion (λ x. P (f x)) xs
+all-mapped P f [] h = _
+all-mapped P f (x ∷ xs) h = (h.0, all-mapped P f xs h.1)
+
+range-all : (P : ℕ → Type 0) (first len i : ℕ) → AllByRecursion P (range_with_len first len) → i < len → P (first + i)
+range-all P first zero i h low = absurd (omega (arith, low))
+range-all P first (suc len) zero h low = (let e : first ≡ first + 0 = omega arith in subst P e h.0)
+range-all P first (suc len) (suc i) h low = (let e : first + 1 + i ≡ first + suc i = omega arith in subst P e (range-all P (first + 1) len i h.1 (omega (arith, low))))
+
+all-append : (P : ℕ → Type 0) (xs ys : List ℕ) → AllByRecursion P xs → AllByRecursion P ys → AllByRecursion P (xs ++ ys)
+all-append P [] ys h k = k
+all-append P (x ∷ xs) ys h k = (h.0, all-append P xs ys h.1 k)
+
+all-inputs : (P : ℕ → Type 0) (bs : List BoxWires) → AllByRecursion (λ (b : BoxWires). All P b.inputs) bs → AllByRecursion P (flat_map (λ b. b.inputs) bs)
+all-inputs P [] h = _
+all-inputs P (b ∷ bs) h = all-append P b.inputs (flat_map (λ b. b.inputs) bs) (recursion_from_All P b.inputs h.0) (all-inputs P bs h.1)
+
+few-at : (bs : List BoxWires) (at : ℕ) → AllByRecursion (λ b. length b.inputs ≤ 8) bs → length (inputs_at (slice_get bs at)) ≤ 8
+few-at [] at h = omega arith
+few-at (b ∷ bs) zero h = h.0
+few-at (b ∷ bs) (suc at) h = few-at bs at h.1
+
 -- ---- rows of the table
 
 abbrev list_in : Option (List Feed) → List Feed
@@ -55,205 +98,202 @@ rows-at [] actor = refl
 rows-at (f ∷ feeds) zero = refl
 rows-at (f ∷ feeds) (suc actor) = rows-at feeds actor
 
-module _ (F : ℕ → Feed) where
-  box-row : (bs : List BoxWires) (os : List ℕ) (actor : ℕ) → actor < length bs → list_in (slice_get (map (λ b. map F b.inputs) bs ++ map (λ s. F s ∷ []) os) actor) ≡ map F (inputs_at (slice_get bs actor))
-  box-row [] os actor low = absurd (omega (arith, low))
-  box-row (b ∷ bs) os zero low = refl
-  box-row (b ∷ bs) os (suc actor) low = box-row bs os actor (omega (arith, low))
-
-  only-row : (os : List ℕ) (o : ℕ) → list_in (slice_get (map (λ s. F s ∷ []) os) o) ≡ map F (shown_by (slice_get os o))
-  only-row [] o = refl
-  only-row (s ∷ os) zero = refl
-  only-row (s ∷ os) (suc o) = only-row os o
-
-  output-row : (bs : List BoxWires) (os : List ℕ) (actor : ℕ) → length bs ≤ actor → list_in (slice_get (map (λ b. map F b.inputs) bs ++ map (λ s. F s ∷ []) os) actor) ≡ map F (shown_by (slice_get os (actor - length bs)))
-  output-row [] os actor high = (let z : actor - 0 ≡ actor = omega arith in only-row os actor ∙ ap (λ k. map F (shown_by (slice_get os k))) (sym z))
-  output-row (b ∷ bs) os zero high = absurd (omega (arith, high))
-  output-row (b ∷ bs) os (suc actor) high =
-      (let z : suc actor - suc (length bs) ≡ actor - length bs = omega arith in
-      output-row bs os actor (omega (arith, high)) ∙ ap (λ k. map F (shown_by (slice_get os k))) (sym z))
-
-is-below : (a b : ℕ) → a < b → nat_lt a b ≡ true
-is-below a b h = grind (arith, nat_tests)
-
-not-below : (a b : ℕ) → b ≤ a → nat_lt a b ≡ false
-not-below a b h = grind (arith, nat_tests)
-
-pub box-streams : (n : Network) (at : ℕ) → at < length n.boxes → streams_of n at ≡ inputs_of n.wires at
-box-streams n at low = ap (λ b. cond b (inputs_of n.wires at) (shown_by (slice_get n.wires.outputs (at - length n.boxes)))) (is-below at (length n.boxes) low)
-
-pub output-streams : (n : Network) (o : ℕ) → streams_of n (length n.boxes + o) ≡ shown_by (slice_get n.wires.outputs o)
-output-streams n o =
-    let z : length n.boxes + o - length n.boxes ≡ o = omega arith in
-    ap (λ b. cond b (inputs_of n.wires (length n.boxes + o)) (shown_by (slice_get n.wires.outputs (length n.boxes + o - length n.boxes)))) (not-below (length n.boxes + o) (length n.boxes) (omega arith))
-    ∙ ap (λ k. shown_by (slice_get n.wires.outputs k)) z
-
-there-at : (P : ℕ → Type 0) (bs : List BoxWires) (at : ℕ) → AllByRecursion (λ (b : BoxWires). AllByRecursion P b.inputs) bs → AllByRecursion P (inputs_at (slice_get bs at))
-there-at P [] at h = _
-there-at P (b ∷ bs) zero h = h.0
-there-at P (b ∷ bs) (suc at) h = there-at P bs at h.1
-
-shown-at : (P : ℕ → Type 0) (os : List ℕ) (o : ℕ) → AllByRecursion P os → AllByRecursion P (shown_by (slice_get os o))
-shown-at P [] o h = _
-shown-at P (s ∷ os) zero h = (h.0, _)
-shown-at P (s ∷ os) (suc o) h = shown-at P os o h.1
-
-weaker : {A : Type 0} (P Q : A → Type 0) → ((a : A) → P a → Q a) → (xs : List A) → AllByRecursion P xs → AllByRecursion Q xs
-weaker P Q f [] h = _
-weaker P Q f (x ∷ xs) h = (f x h.0, weaker P Q f xs h.1)
-
-few-at : (bs : List BoxWires) (at : ℕ) → AllByRecursion (λ b. length b.inputs ≤ 8) bs → length (inputs_at (slice_get bs at)) ≤ 8
-few-at [] at h = omega arith
-few-at (b ∷ bs) zero h = h.0
-few-at (b ∷ bs) (suc at) h = few-at bs at h.1
-
-few-shown : (os : List ℕ) (o : ℕ) → length (shown_by (slice_get os o)) ≤ 8
-few-shown [] o = omega arith
-few-shown (s ∷ os) zero = omega arith
-few-shown (s ∷ os) (suc o) = few-shown os o
-
 map-at : (F : ℕ → Feed) (P : Feed → Type 0) → ((s : ℕ) → P (F s)) → (ss : List ℕ) (port : ℕ) (f : Feed) → slice_get (map F ss) port ≡ Some f → P f
 map-at F P each [] port f is = cc is
 map-at F P each (s ∷ ss) zero f is = (let e : F s ≡ f = cc is in subst P e (each s))
 map-at F P each (s ∷ ss) (suc port) f is = map-at F P each ss port f is
 
+abbrev IsNoOutput : Actor → Type 0
+IsNoOutput Sources = Unit {0}
+IsNoOutput (Box b) = Unit {0}
+IsNoOutput (Shedder w) = Unit {0}
+IsNoOutput (Shower o) = ⊥
+
 module _ (n : Network) (sound : IsSound n) where
-  boxes-are : length n.wires.boxes ≡ length n.boxes
-  boxes-are = boxes_count n sound
+  abbrev There : ℕ → Type 0
+  There s = is_there (producer_of n.wires s) ≡ true
 
-  -- all streams that an operator takes are there, and they are few
-  pub Streams-there : ℕ → Type 0
-  Streams-there actor = AllByRecursion (λ s. is_there (producer_of n.wires s) ≡ true) (streams_of n actor)
+  pub arc_stream_there : (a : ℕ) → a < length (arcs_of n.wires) → is_there (producer_of n.wires (stream_on n.wires a)) ≡ true
+  arc_stream_there a low =
+      let all = all-append There _ n.wires.outputs
+      (all-inputs There n.wires.boxes (recursion_from_All (λ (b : BoxWires). All There b.inputs) n.wires.boxes sound.agrees.wired)) (recursion_from_All There n.wires.outputs sound.agrees.shown) in
+      let z : 0 + a ≡ a = omega arith in
+      subst (λ x. There (stream_on n.wires x)) z (range-all (λ x. There (stream_on n.wires x)) 0 (length (arcs_of n.wires)) a
+      (all-mapped There (stream_on n.wires) (numbers_to (length (arcs_of n.wires))) (subst (AllByRecursion There) (streams_are n) all)) low)
 
-  pub inputs-there : (at : ℕ) → AllByRecursion (λ s. is_there (producer_of n.wires s) ≡ true) (inputs_of n.wires at)
-  inputs-there at =
-      there-at (λ s. is_there (producer_of n.wires s) ≡ true) n.wires.boxes at
-      (weaker (λ (b : BoxWires). All (λ s. is_there (producer_of n.wires s) ≡ true) b.inputs) (λ (b : BoxWires). AllByRecursion (λ s. is_there (producer_of n.wires s) ≡ true) b.inputs)
-      (λ b h. recursion_from_All (λ s. is_there (producer_of n.wires s) ≡ true) b.inputs h) n.wires.boxes
-      (recursion_from_All (λ (b : BoxWires). All (λ s. is_there (producer_of n.wires s) ≡ true) b.inputs) n.wires.boxes sound.agrees.wired))
-
-  pub shown-there : (o : ℕ) → AllByRecursion (λ s. is_there (producer_of n.wires s) ≡ true) (shown_by (slice_get n.wires.outputs o))
-  shown-there o = shown-at (λ s. is_there (producer_of n.wires s) ≡ true) n.wires.outputs o (recursion_from_All (λ s. is_there (producer_of n.wires s) ≡ true) n.wires.outputs sound.agrees.shown)
-
-  by-actor : (P : List ℕ → Type 0) (actor : ℕ) → (actor < length n.boxes → P (inputs_of n.wires actor)) → (length n.boxes ≤ actor → P (shown_by (slice_get n.wires.outputs (actor - length n.boxes)))) → P (streams_of n actor)
-  by-actor P actor box output =
-      elim (cases_lt actor (length n.boxes)) [
-        | inl low ↦ subst (λ b. P (cond b (inputs_of n.wires actor) (shown_by (slice_get n.wires.outputs (actor - length n.boxes))))) (sym (is-below actor (length n.boxes) low)) (box low)
-        | inr high ↦ subst (λ b. P (cond b (inputs_of n.wires actor) (shown_by (slice_get n.wires.outputs (actor - length n.boxes))))) (sym (not-below actor (length n.boxes) high)) (output high)
-      ]
-
-  pub streams-there : (actor : ℕ) → AllByRecursion (λ s. is_there (producer_of n.wires s) ≡ true) (streams_of n actor)
-  streams-there actor = by-actor (AllByRecursion (λ s. is_there (producer_of n.wires s) ≡ true)) actor (λ low. inputs-there actor) (λ high. shown-there (actor - length n.boxes))
-
-  streams-few : (actor : ℕ) → length (streams_of n actor) ≤ 8
-  streams-few actor = by-actor (λ ss. length ss ≤ 8) actor
-      (λ low. few-at n.wires.boxes actor (recursion_from_All (λ b. length b.inputs ≤ 8) n.wires.boxes (placed_of n sound).few_inputs))
-      (λ high. few-shown n.wires.outputs (actor - length n.boxes))
-
-  from-giver : (s : ℕ) → IsGiver (length n.boxes) (ops_of n) (feed_of n s).from
-  from-giver s = by (producer_of n.wires s) refl
+  pub place_stream_there : (place : DropAt) → IsAt n place → is_there (producer_of n.wires (place_stream n place)) ≡ true
+  place_stream_there (at.Stream s) low = (let p = some-producer (producers_of n.wires) s low in ap is_there p.1)
     where
-      by : (p : Option Producer) → producer_of n.wires s ≡ p → IsGiver (length n.boxes) (ops_of n) (feed_from (ops_of n) (width_of (columns_of_stream n s)) p).from
-      by None is = inr refl
-      by (Some (Source k)) is = inr refl
-      by (Some (Port at port)) is =
-          let there = producer_is n.wires s (Port at port) is in
-          let low = slice_get_within n.wires.boxes at there.0 there.1.0 in
-          let e = boxes-are in
-          inl (omega (arith, low, e))
+      some-producer : (ps : List Producer) (s : ℕ) → s < length ps → (p : Producer) × (slice_get ps s ≡ Some p)
+      some-producer [] s h = absurd (omega (arith, h))
+      some-producer (p ∷ ps) zero h = (p, refl)
+      some-producer (p ∷ ps) (suc s) h = some-producer ps s (omega (arith, h))
+  place_stream_there (at.Arc a) low = arc_stream_there a low
+
+  -- a fact of all feeds
+  pub row-feeds : (P : Feed → Type 0) → ((a : ℕ) → P (arc_feed n a)) → ((p : DropPoint) → P (place_feed n p)) → (x : Actor) (port : ℕ) (f : Feed) → slice_get (row_of n x) port ≡ Some f → P f
+  row-feeds P arc place Sources port f is = cc is
+  row-feeds P arc place (Box b) port f is = map-at (arc_feed n) P arc (input_arcs_of n.wires b) port f is
+  row-feeds P arc place (Shedder w) port f is = by (slice_get (points_of n) w) port is
+    where
+      by : (o : Option DropPoint) (port : ℕ) → slice_get (point_row n o) port ≡ Some f → P f
+      by None port is = cc is
+      by (Some p) zero is = (let e : place_feed n p ≡ f = cc is in subst P e (place p))
+      by (Some p) (suc port) is = cc is
+  row-feeds P arc place (Shower o) zero f is = (let e : arc_feed n (output_arc_at n.wires o) ≡ f = cc is in subst P e (arc (output_arc_at n.wires o)))
+  row-feeds P arc place (Shower o) (suc port) f is = cc is
+
+  few-in-row : (x : Actor) → length (row_of n x) ≤ 8
+  few-in-row Sources = omega arith
+  few-in-row (Box b) =
+      let a = length-map (input_arcs_of n.wires b) (arc_feed n) in
+      let c = length-map-range_with_len (arc_at n.wires b) 0 (length (inputs_of n.wires b)) in
+      let f = few-at n.wires.boxes b (recursion_from_All (λ b. length b.inputs ≤ 8) n.wires.boxes (placed_of n sound).few_inputs) in
+      omega (arith, a, c, f)
+  few-in-row (Shedder w) = by (slice_get (points_of n) w)
+    where
+      by : (o : Option DropPoint) → length (point_row n o) ≤ 8
+      by None = omega arith
+      by (Some p) = omega arith
+  few-in-row (Shower o) = omega arith
+
+  giver-gives : (s : ℕ) → IsGiver (first_output n) (ops_of n) (number_of n (giver (producer_of n.wires s)).0)
+  giver-gives s = by (giver (producer_of n.wires s)).0 (giver-there n sound s) (never-shown (producer_of n.wires s))
+    where
+      never-shown : (p : Option Producer) → IsNoOutput (giver p).0
+      never-shown None = _
+      never-shown (Some (Source s)) = _
+      never-shown (Some (Port b q)) = _
+
+      by : (x : Actor) → IsThere n x → IsNoOutput x → IsGiver (first_output n) (ops_of n) (number_of n x)
+      by Sources t away = inr refl
+      by (Box b) t away = inl (omega (arith, t))
+      by (Shedder w) t away = inl (omega (arith, t))
+      by (Shower o) t away = absurd away
+
+  from-gives : (a : ℕ) → IsGiver (first_output n) (ops_of n) (number_of n (arc_from n a).0)
+  from-gives a = by (drop_on_arc n a) (from-there n sound a)
+    where
+      by : (o : Option Drop) → IsThere n (from_drop n o a).0 → IsGiver (first_output n) (ops_of n) (number_of n (from_drop n o a).0)
+      by None t = giver-gives (stream_on n.wires a)
+      by (Some d) t = inl (omega (arith, t))
 
   module _ (feeds : List (Vec Feed Global)) (table : map (λ f. f.items) feeds ≡ table_of n) where
-    pub row-is : (actor : ℕ) → feeds_of feeds actor ≡ map (feed_of n) (streams_of n actor)
-    row-is actor = rows-at feeds actor ∙ ap (λ t. list_in (slice_get t actor)) table
-        ∙ by-actor (λ ss. list_in (slice_get (table_of n) actor) ≡ map (feed_of n) ss) actor
-        (λ low. box-row (feed_of n) n.wires.boxes n.wires.outputs actor (let e = boxes-are in omega (arith, low, e)))
-        (λ high. (output-row (feed_of n) n.wires.boxes n.wires.outputs actor (let e = boxes-are in omega (arith, high, e)) ∙ ap (λ k. map (feed_of n) (shown_by (slice_get n.wires.outputs (actor - k)))) boxes-are))
+    pub row-is : (actor : ℕ) → actor < ops_of n → feeds_of feeds actor ≡ row_of n (actor_at n actor)
+    row-is actor low = rows-at feeds actor ∙ ap (λ t. list_in (slice_get t actor)) table ∙ ap list_in (range-get (λ k. row_of n (actor_at n k)) (ops_of n) actor low)
 
     pub count-is : length feeds ≡ ops_of n
     count-is =
         let a = length-map feeds (λ f. f.items) in
-        let t = ap length table in
-        let b = length-append (map (λ b. map (feed_of n) b.inputs) n.wires.boxes) (map (λ s. feed_of n s ∷ []) n.wires.outputs) in
-        let c = length-map n.wires.boxes (λ b. map (feed_of n) b.inputs) in
-        let d = length-map n.wires.outputs (λ s. feed_of n s ∷ []) in
-        let e = boxes-are in
-        omega (arith, a, t, b, c, d, e)
+        let t = ap (λ (l : List (List Feed)). length l) table in
+        let b = length-map-range_with_len (λ k. row_of n (actor_at n k)) 0 (ops_of n) in
+        omega (arith, a, t, b)
 
-    pub are-feeds : AreFeeds (length n.boxes) feeds
+    by-row : (P : List Feed → Type 0) → ((x : Actor) → P (row_of n x)) → P [] → (actor : ℕ) → P (feeds_of feeds actor)
+    by-row P row none actor =
+        elim (cases_lt actor (ops_of n)) [
+          | inl low ↦ subst P (sym (row-is actor low)) (row (actor_at n actor))
+          | inr past ↦ (let c = count-is in subst P (sym (no-feeds feeds actor (omega (arith, c, past)))) none)
+        ]
+
+    pub are-feeds : AreFeeds (first_output n) feeds
     are-feeds =
         record {
-          few = (let c = count-is in let b = boxes_low n sound in let o = outputs_low n sound in omega (arith, c, b, o));
-          ports = λ actor. (let r = ap length (row-is actor) in let m = length-map (streams_of n actor) (feed_of n) in let f = streams-few actor in omega (arith, r, m, f));
-          from_in = λ actor port f is. subst (λ k. IsGiver (length n.boxes) k f.from) (sym count-is)
-              (map-at (feed_of n) (λ g. IsGiver (length n.boxes) (ops_of n) g.from) from-giver (streams_of n actor) port f (ap (λ l. slice_get l port) (sym (row-is actor)) ∙ is));
+          few = (let c = count-is in let b = boxes_low n sound in let o = outputs_low n sound in let p = points_low n sound in omega (arith, c, b, o, p));
+          ports = by-row (λ l. length l ≤ 8) few-in-row (omega arith);
+          from_in = by-row (λ l. (port : ℕ) (f : Feed) → slice_get l port ≡ Some f → IsGiver (first_output n) (length feeds) f.from)
+              (λ x port f is. subst (λ k. IsGiver (first_output n) k f.from) (sym count-is) (row-feeds (λ g. IsGiver (first_output n) (ops_of n) g.from) from-gives (λ p. giver-gives (place_stream n p.at)) x port f is))
+              (λ port f is. cc is);
         }
 
-    module _ (w : Wires) (joined : IsJoined feeds w) (replay : w.replay ≡ ops_of n) where
-      comes : (arc : ℕ) (p : Option Producer) (width : ℕ) → is_there p ≡ true → (o : Option Arc) → slice_get w.arcs.items arc ≡ o → IsOf o (Some (feed_from (ops_of n) width p)) → ComesFrom (net_of w) p arc
-      comes arc p width there None is of = absurd of
-      comes arc None width there (Some a) is of = cc there
-      comes arc (Some (Source k)) width there (Some a) is of = (ap from_of is ∙ of.0 ∙ sym replay, ap port_of is ∙ of.1)
-      comes arc (Some (Port at port)) width there (Some a) is of = (ap from_of is ∙ of.0, ap port_of is ∙ of.1)
+    module _ (w : Wires) (joined : IsJoined feeds w) where
+      ports-many : (actor : ℕ) → actor < ops_of n → length (arcs_read w actor) ≡ length (row_of n (actor_at n actor))
+      ports-many actor low = joined.many actor ∙ ap (λ (l : List Feed). length l) (row-is actor low)
 
-      all-come : (ss arcs : List ℕ) → length arcs ≡ length (map (feed_of n) ss) → AllByRecursion (λ s. is_there (producer_of n.wires s) ≡ true) ss
-          → ((port arc : ℕ) → slice_get arcs port ≡ Some arc → IsOf (slice_get w.arcs.items arc) (slice_get (map (feed_of n) ss) port)) → AllCome n (net_of w) ss arcs
-      all-come [] [] len there of = _
-      all-come [] (arc ∷ arcs) len there of = absurd (omega (arith, len))
-      all-come (s ∷ ss) [] len there of = absurd (omega (arith, len))
-      all-come (s ∷ ss) (arc ∷ arcs) len there of = (
-        comes arc (producer_of n.wires s) _ there.0 (slice_get w.arcs.items arc) refl (of 0 arc refl),
-        all-come ss arcs (omega (arith, len)) there.1 (λ port a is. of (suc port) a is),
-      )
-
-      pub joins-all : Joins n (net_of w)
-      joins-all =
-          record {
-            replay = omega (arith, replay);
-            arcs = λ actor ne. all-come (streams_of n actor) (arcs_read w actor) (joined.many actor ∙ ap length (row-is actor)) (streams-there actor)
-                (λ port arc is. subst (λ l. IsOf (slice_get w.arcs.items arc) (slice_get l port)) (row-is actor) (joined.fed actor port arc is));
-          }
+      within : (xs : List Feed) (i : ℕ) (x : Feed) → slice_get xs i ≡ Some x → i < length xs
+      within [] i x is = cc is
+      within (y ∷ xs) zero x is = omega arith
+      within (y ∷ xs) (suc i) x is = (let h = within xs i x is in omega (arith, h))
 
       some-at : (xs : List ℕ) (i : ℕ) → i < length xs → (x : ℕ) × (slice_get xs i ≡ Some x)
       some-at [] i h = absurd (omega (arith, h))
       some-at (x ∷ xs) zero h = (x, refl)
       some-at (x ∷ xs) (suc i) h = some-at xs i (omega (arith, h))
 
-      within : (xs : List ℕ) (i x : ℕ) → slice_get xs i ≡ Some x → i < length xs
-      within [] i x is = cc is
-      within (y ∷ xs) zero x is = omega arith
-      within (y ∷ xs) (suc i) x is = (let h = within xs i x is in omega (arith, h))
-
-      map-some : (ss : List ℕ) (port s : ℕ) → slice_get ss port ≡ Some s → slice_get (map (feed_of n) ss) port ≡ Some (feed_of n s)
-      map-some [] port s is = cc is
-      map-some (x ∷ ss) zero s is = (let e : x ≡ s = cc is in ap (λ z. Some (feed_of n z)) e)
-      map-some (x ∷ ss) (suc port) s is = map-some ss port s is
-
-      width-from : (width : ℕ) (p : Option Producer) → ((feed_from (ops_of n) width p).width ≡ width) × ((feed_from (ops_of n) width p).marked ≡ false)
-      width-from width None = (refl, refl)
-      width-from width (Some (Source k)) = (refl, refl)
-      width-from width (Some (Port at port)) = (refl, refl)
-
-      ports-many : (actor : ℕ) → length (arcs_read w actor) ≡ length (streams_of n actor)
-      ports-many actor = joined.many actor ∙ ap length (row-is actor) ∙ length-map (streams_of n actor) (feed_of n)
-
-      of-some : (o : Option Arc) (s : ℕ) → IsOf o (Some (feed_of n s)) → IsWide o (width_of (columns_of_stream n s))
-      of-some None s of = absurd of
-      of-some (Some a) s of = (let f = width-from (width_of (columns_of_stream n s)) (producer_of n.wires s) in (of.2 ∙ f.0, of.3 ∙ f.1))
+      none-in : (xs : List ℕ) → length xs ≡ 0 → xs ≡ []
+      none-in [] h = refl
+      none-in (x ∷ xs) h = absurd (omega (arith, h))
 
       pub measured-all : IsMeasured n w
       measured-all =
           record {
             many = ports-many;
-            wide = λ actor port s is.
-                let low = within (streams_of n actor) port s is in
-                let m = ports-many actor in
-                let a = some-at (arcs_read w actor) port (omega (arith, low, m)) in
-                let of = joined.fed actor port a.0 a.1 in
-                let f : slice_get (feeds_of feeds actor) port ≡ Some (feed_of n s) = ap (λ l. slice_get l port) (row-is actor) ∙ map-some (streams_of n actor) port s is in
-                subst (λ o. IsWide (arc_at w o) (width_of (columns_of_stream n s))) (sym a.1) (of-some (slice_get w.arcs.items a.0) s (subst (IsOf (slice_get w.arcs.items a.0)) f of));
+            each = λ actor port f low is.
+                let inside = within (row_of n (actor_at n actor)) port f is in
+                let m = ports-many actor low in
+                let a = some-at (arcs_read w actor) port (omega (arith, inside, m)) in
+                let here : slice_get (feeds_of feeds actor) port ≡ Some f = ap (λ l. slice_get l port) (row-is actor low) ∙ is in
+                subst (λ o. IsOf (wire_at w o) (Some f)) (sym a.1) (subst (IsOf (slice_get w.arcs.items a.0)) here (joined.fed actor port a.0 a.1));
+            no_more = λ actor past. none-in (arcs_read w actor) (let c = count-is in joined.many actor ∙ ap (λ (l : List Feed). length l) (no-feeds feeds actor (omega (arith, c, past))));
           }
 
--- what follows of two facts of an answer
+-- ---- a feed, and a row, as it is made
+
+pub arc-feed-is : (n : Network) (a : ℕ) (f : Feed) (x : Actor × ℕ) → arc_from n a ≡ x → f.from ≡ number_of n x.0 → f.port ≡ x.1 → f.width ≡ width_of (columns_of_stream n (stream_on n.wires a))
+    → f.marked ≡ is_some (drop_above_arc n a) → f ≡ arc_feed n a
+arc-feed-is n a f x from actor port width marked =
+    ap (λ k. record { from = k; port = f.port; width = f.width; marked = f.marked }) (actor ∙ ap (λ y. number_of n y.0) (sym from))
+    ∙ ap (λ k. record { from = number_of n (arc_from n a).0; port = k; width = f.width; marked = f.marked }) (port ∙ ap (λ y. y.1) (sym from))
+    ∙ ap (λ k. record { from = number_of n (arc_from n a).0; port = (arc_from n a).1; width = k; marked = f.marked }) width
+    ∙ ap (λ k. record { from = number_of n (arc_from n a).0; port = (arc_from n a).1; width = width_of (columns_of_stream n (stream_on n.wires a)); marked = k }) marked
+
+pub from-drop : (n : Network) (a k : ℕ) → Some k ≡ option_map (λ d. d.0) (drop_on_arc n a) → arc_from n a ≡ (Shedder k, 0)
+from-drop n a k = by (drop_on_arc n a)
+  where
+    by : (o : Option Drop) → Some k ≡ option_map (λ d. d.0) o → from_drop n o a ≡ (Shedder k, 0)
+    by None is = cc is
+    by (Some d) is = (let e : k ≡ d.0 = cc is in ap (λ w. (Shedder w, 0)) (sym e))
+
+pub from-giver : (n : Network) (a : ℕ) → None ≡ option_map (λ (d : Drop). d.0) (drop_on_arc n a) → arc_from n a ≡ giver (producer_of n.wires (stream_on n.wires a))
+from-giver n a = by (drop_on_arc n a)
+  where
+    by : (o : Option Drop) → None ≡ option_map (λ (d : Drop). d.0) o → from_drop n o a ≡ giver (producer_of n.wires (stream_on n.wires a))
+    by None is = refl
+    by (Some d) is = cc is
+
+pub row-box : (n : Network) (actor : ℕ) → actor < length n.boxes → row_of n (actor_at n actor) ≡ row_of n (Box actor)
+row-box n actor low = ap (row_of n) (box-at n actor low)
+
+pub row-drop : (n : Network) (actor : ℕ) (p : DropPoint) → length n.boxes ≤ actor → slice_get (points_of n) (actor - length n.boxes) ≡ Some p → row_of n (actor_at n actor) ≡ place_feed n p ∷ []
+row-drop n actor p high there =
+    let low = slice_get_within (points_of n) (actor - length n.boxes) p there in
+    let e : actor ≡ length n.boxes + (actor - length n.boxes) = omega (arith, high) in
+    ap (λ k. row_of n (actor_at n k)) e ∙ ap (row_of n) (drop-at n (actor - length n.boxes) low) ∙ ap (point_row n) there
+
+pub row-output : (n : Network) (actor : ℕ) → first_output n ≤ actor → actor < ops_of n → row_of n (actor_at n actor) ≡ arc_feed n (output_arc_at n.wires (actor - first_output n)) ∷ []
+row-output n actor high low =
+    let e : actor ≡ first_output n + (actor - first_output n) = omega (arith, high) in
+    ap (λ k. row_of n (actor_at n k)) e ∙ ap (row_of n) (output-at n (actor - first_output n) (omega (arith, high, low)))
+
+pub row-more : (f : ℕ → List Feed) (k : ℕ) (row : Vec Feed Global) (old new : List (Vec Feed Global)) → new ≡ old ++ row ∷ [] → map (λ v. v.items) old ≡ map f (numbers_to k) → row.items ≡ f k → map (λ v. v.items) new ≡ map f (numbers_to (k + 1))
+row-more f k row old new more so-far is =
+    numbered_more f k row.items (map (λ v. v.items) old) (map (λ v. v.items) new) (ap (map (λ v. v.items)) more ∙ map-append (λ (v : Vec Feed Global). v.items) old (row ∷ [])) so-far is
+
+all-at : (P : ℕ → Type 0) (xs : List ℕ) (i x : ℕ) → AllByRecursion P xs → slice_get xs i ≡ Some x → P x
+all-at P [] i x h is = cc is
+all-at P (y ∷ xs) zero x h is = (let e : y ≡ x = cc is in subst P e h.0)
+all-at P (y ∷ xs) (suc i) x h is = all-at P xs i x h.1 is
+
+some-box : (bs : List BoxWires) (at : ℕ) → at < length bs → (b : BoxWires) × (slice_get bs at ≡ Some b)
+some-box [] at h = absurd (omega (arith, h))
+some-box (b ∷ bs) zero h = (b, refl)
+some-box (b ∷ bs) (suc at) h = some-box bs at (omega (arith, h))
+
+-- an input's arc is there
+pub input-low : (n : Network) (at port a : ℕ) → at < length n.wires.boxes → slice_get (input_arcs_of n.wires at) port ≡ Some a → a < length (arcs_of n.wires)
+input-low n at port a low is = (let b = some-box n.wires.boxes at low in all-at (λ x. x < length (arcs_of n.wires)) (input_arcs_of n.wires at) port a (arcs-there n.wires at b.0 b.1) is)
+
+-- what follows of two facts of an answer, and of three
 pub if-both : {A E : Type 0} (r : Result A E) (P Q R : A → Type 0) → ((a : A) → P a → Q a → R a) → IfOk r P → IfOk r Q → IfOk r R
 if-both (Ok a) P Q R f p q = f a p q
 if-both (Err e) P Q R f p q = _

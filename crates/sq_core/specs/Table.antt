@@ -1,5 +1,5 @@
 -- What the boxes, drops and outputs of a network read, and an order of them.
-use Rattle.std.specs.Prelude.{◌≡◌, ℕ, zero, suc, ◌+◌, ◌<◌, ◌==◌, if◌then◌else◌, Bool, true, false, List, [], ◌∷◌, map, length, Option, Some, None, is_some, slice_get}
+use Rattle.std.specs.Prelude.{◌≡◌, ℕ, zero, suc, ◌+◌, ◌<◌, ◌≤◌, ◌==◌, if◌then◌else◌, Bool, true, false, List, [], ◌∷◌, map, length, Option, Some, None, is_some, slice_get}
 use Rattle.sq_value.specs.Values.{Columns}
 use Rattle.sq_value.specs.Lists.{numbers_to}
 use Rattle.sq_graph.specs.Wires.{producer_of, input_arcs_of, output_arc_at}

@@ -1,10 +1,10 @@
 //! The wires of a network.
 
 ghost use Rattle.std.specs.Prelude.{◌≡◌, ◌+◌, ◌<◌, ◌≤◌, ◌^◌, ◌++◌, ◌∷◌, [], ℕ, true, length, map, IfOk, OnOk};
-ghost use Rattle.std.specs.List.{All};
+ghost use Rattle.std.specs.List.{All, flat_map};
 ghost use Rattle.sq_graph.specs.Wires.{producer_of, arcs_of, input_arcs_of};
 ghost use Rattle.sq_graph.specs.Order.{is_there, order_of};
-ghost use Rattle.sq_place.specs.Places.{box_of};
+ghost use Rattle.sq_place.specs.Places.{stream_on, box_of};
 ghost use Rattle.sq_net.specs.Sound.{IsSound};
 ghost use Rattle.sq_net.specs.Streams.{columns_of_stream};
 ghost use Rattle.sq_points.specs.Points.{points_of};
@@ -23,9 +23,8 @@ use sq_place::{DropAt, DropPoint};
 use std::alloc::{AllocError, Global};
 
 /// The streams of the arcs, by number.
-#[tactic(auto, using(crate::proofs::PointLemmas::streams_are))]
 fn arc_streams(alloc: Global, n: &Network) -> Result<Vec<u32>, AllocError>
-    ensures { IfOk result (λ v. v.items ≡ streams_on n.now) }
+    ensures { IfOk result (λ v. v.items ≡ flat_map (λ b. b.inputs) n.now.wires.boxes ++ n.now.wires.outputs) }
 {
     let mut streams = Vec::new(alloc);
     for b in n.wires.boxes.as_slice() {
@@ -33,6 +32,16 @@ fn arc_streams(alloc: Global, n: &Network) -> Result<Vec<u32>, AllocError>
     }
     streams.extend_from_slice(n.wires.outputs.as_slice())?;
     Ok(streams)
+}
+
+#[tactic(auto, using(crate::proofs::PointLemmas::streams_many, crate::proofs::PointLemmas::stream_at))]
+fn stream_on(n: &Network, streams: &[u32], arc: u32) -> u32
+    requires streams { streams.now ≡ streams_on n.now }
+    requires there { arc < length (arcs_of n.now.wires) }
+    ensures { result ≡ stream_on n.now.wires arc }
+{
+    let _wires = &n.wires;
+    streams[arc as usize]
 }
 
 fn width(n: &Network, stream: u32) -> u32
@@ -70,6 +79,7 @@ fn given_feed(n: &Network, replay: u32, stream: u32, marked: bool) -> Feed
 }
 
 /// The feed of an arc.
+#[tactic(auto, using(crate::proofs::TableLemmas::boxes_low, crate::proofs::TableLemmas::points_low, crate::proofs::TableLemmas::arc_stream_there))]
 fn arc_feed(n: &Network, points: &[DropPoint], streams: &[u32], replay: u32, arc: u32) -> Feed
     requires sound { IsSound n.now }
     requires points { points.now ≡ points_of n.now }
@@ -78,7 +88,7 @@ fn arc_feed(n: &Network, points: &[DropPoint], streams: &[u32], replay: u32, arc
     requires there { arc < length (arcs_of n.now.wires) }
     ensures { result ≡ arc_feed n.now arc }
 {
-    let stream = streams[arc as usize];
+    let stream = stream_on(n, streams, arc);
     let marked = is_below(points, arc);
     match drop_on(n, points, stream, arc) {
         Some(drop) => Feed {
@@ -99,11 +109,12 @@ fn place_stream(n: &Network, streams: &[u32], at: DropAt) -> u32
 {
     match at {
         DropAt::Stream(stream) => stream,
-        DropAt::Arc(arc) => streams[arc as usize],
+        DropAt::Arc(arc) => stream_on(n, streams, arc),
     }
 }
 
 /// The feed of a drop.
+#[tactic(auto, using(crate::proofs::TableLemmas::place_stream_there))]
 fn place_feed(n: &Network, streams: &[u32], replay: u32, point: &DropPoint) -> Feed
     requires sound { IsSound n.now }
     requires streams { streams.now ≡ streams_on n.now }
@@ -121,7 +132,11 @@ fn input_arcs(alloc: Global, n: &Network, at: u32) -> Result<Vec<u32>, AllocErro
     ensures { IfOk result (λ v. v.items ≡ input_arcs_of n.now.wires at) }
 {
     let mut arcs = Vec::new(alloc);
-    for port in 0..n.wires.boxes.as_slice()[at as usize].inputs.as_slice().len() as u32 {
+    for port in 0..n.wires.boxes.as_slice()[at as usize]
+        .inputs
+        .as_slice()
+        .len() as u32
+    {
         arcs.push(arc_of(&n.wires, at, port))?;
     }
     Ok(arcs)
@@ -152,7 +167,14 @@ fn box_row(
     Ok(row)
 }
 
+fn one_feed(alloc: Global, feed: Feed) -> Result<Vec<Feed>, AllocError>
+    ensures { IfOk result (λ v. v.items ≡ feed ∷ []) }
+{
+    Ok(vec![in alloc; feed]?)
+}
+
 /// What an operator reads.
+#[tactic(auto, using(crate::proofs::TableLemmas::boxes_low, crate::proofs::TableLemmas::points_low))]
 fn row_at(
     alloc: Global,
     n: &Network,
@@ -174,13 +196,12 @@ fn row_at(
     if actor < boxes {
         return box_row(alloc, n, points, streams, replay, actor);
     }
-    let feed = if actor < first {
-        place_feed(n, streams, replay, &points[(actor - boxes) as usize])
-    } else {
-        let arc = output_arc(&n.wires, actor - first);
-        arc_feed(n, points, streams, replay, arc)
-    };
-    vec![in alloc; feed]
+    if actor < first {
+        let point = &points[(actor - boxes) as usize];
+        return one_feed(alloc, place_feed(n, streams, replay, point));
+    }
+    let arc = output_arc(&n.wires, actor - first);
+    one_feed(alloc, arc_feed(n, points, streams, replay, arc))
 }
 
 /// What each operator reads.
@@ -240,6 +261,7 @@ fn same_box(one: Option<u32>, other: Option<u32>) -> bool
 }
 
 /// Puts the drops whose stream a box gives, or a source, in front of earlier operators.
+#[tactic(auto, using(crate::proofs::TableLemmas::boxes_low, crate::proofs::TableLemmas::points_low))]
 fn add_drops(
     n: &Network,
     points: &[DropPoint],
@@ -275,6 +297,7 @@ fn add_outputs(first: u32, outputs: u32, all: &mut Vec<u32>) -> Result<(), Alloc
 }
 
 /// The operators in an order in which each stands behind those that it reads, the last first.
+#[tactic(auto, using(crate::proofs::TableLemmas::boxes_low, crate::proofs::TableLemmas::points_low, crate::proofs::TableLemmas::outputs_low))]
 fn actors_of(
     alloc: Global,
     n: &Network,
@@ -301,6 +324,7 @@ fn actors_of(
 }
 
 /// The wires of a sound network: its boxes, behind them its window drops, and then its outputs, read what the network says.
+#[tactic(auto, using(crate::proofs::TableLemmas::boxes_low, crate::proofs::TableLemmas::points_low, crate::proofs::TableLemmas::outputs_low))]
 pub(crate) fn network_wires(
     alloc: Global,
     n: &Network,

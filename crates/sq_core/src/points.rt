@@ -1,6 +1,6 @@
 //! Where drops stand, and what lies below them.
 
-ghost use Rattle.std.specs.Prelude.{◌≡◌, ◌<◌, ◌≤◌, ◌==◌, is_some, length};
+ghost use Rattle.std.specs.Prelude.{◌≡◌, ◌<◌, ◌≤◌, ◌==◌, is_some, IfSome, length};
 ghost use Rattle.std.specs.List.{list_any};
 ghost use Rattle.std.specs.Option.{option_map};
 ghost use Rattle.sq_graph.specs.Wires.{arcs_of};
@@ -28,12 +28,14 @@ fn stands_on(n: &Network, point: &DropPoint, stream: u32, arc: u32) -> bool
 }
 
 /// The drop that stands on an arc of this stream, if one does.
+#[tactic(auto, using(crate::proofs::TableLemmas::points_low))]
 pub(crate) fn drop_on(n: &Network, points: &[DropPoint], stream: u32, arc: u32) -> Option<u32>
     requires sound { IsSound n.now }
     requires points { points.now ≡ points_of n.now }
     requires there { arc < length (arcs_of n.now.wires) }
     requires stream { stream ≡ stream_on n.now.wires arc }
-    ensures { result ≡ option_map (λ d. d.0) (drop_on_arc n.now arc) }
+    ensures drop { result ≡ option_map (λ d. d.0) (drop_on_arc n.now arc) }
+    ensures there { IfSome result (λ number. number < length points.now) }
 {
     for number in 0..points.len() {
         if stands_on(n, &points[number], stream, arc) {

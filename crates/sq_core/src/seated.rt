@@ -1,11 +1,11 @@
 //! The actors of a network in their seats.
 
-ghost use Rattle.std.specs.Prelude.{◌≡◌, IfOk, length};
+ghost use Rattle.std.specs.Prelude.{◌≡◌, IfOk, length, map};
 ghost use Rattle.sq_net.specs.Sound.{IsSound};
 ghost use Rattle.sq_points.specs.Points.{points_of};
 ghost use Rattle.sq_points.specs.Limits.{KeepsDropLimits};
 ghost use Rattle.sq_start.specs.Numbers.{ops_of};
-ghost use Rattle.sq_core.specs.Seated.{AllSeated};
+ghost use Rattle.sq_core.specs.Seated.{none_fed, AllSeated};
 
 use sq_actor::Actor;
 use sq_flow::Seat;
@@ -14,6 +14,20 @@ use sq_oper::Tally;
 use sq_place::DropPoint;
 use sq_start::network_actors;
 use std::alloc::{AllocError, Global};
+
+/// Each actor in a seat, in which nothing was fed.
+fn seats_of(alloc: Global, actors: Vec<Actor>) -> Result<Vec<Seat<Actor>>, AllocError>
+    ensures { IfOk result (λ v. v.items ≡ map (λ a. record { op = a; tally = none_fed }) actors.items) }
+{
+    let mut seats = Vec::new(alloc);
+    for op in actors {
+        seats.push(Seat {
+            op,
+            tally: Tally::new(),
+        })?;
+    }
+    Ok(seats)
+}
 
 /// A seat for each box, then for each window drop, and then for each output, in which nothing was fed.
 pub(crate) fn network_seats(
@@ -29,12 +43,5 @@ pub(crate) fn network_seats(
     ensures seated { IfOk result (λ v. AllSeated n.now seed v.items) }
 {
     let actors = network_actors(alloc, n, points, seed)?;
-    let mut seats = Vec::new(alloc);
-    for op in actors {
-        seats.push(Seat {
-            op,
-            tally: Tally::new(),
-        })?;
-    }
-    Ok(seats)
+    seats_of(alloc, actors)
 }

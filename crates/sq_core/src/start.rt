@@ -26,7 +26,7 @@ use sq_place::{DropPoint, PlaceErr};
 use sq_plan::Capacities;
 use sq_points::{network_planner, network_points};
 use sq_road::Levels;
-use sq_start::starts_as_replayed;
+use sq_start::{arcs_may_come, starts_as_replayed};
 use sq_value::Tuple;
 use std::alloc::{AllocError, Global};
 use std::collections::VecDeque;
@@ -87,6 +87,7 @@ pub(crate) fn network_engine(
 {
     early_drop_is_sound();
     starts_as_replayed();
+    arcs_may_come();
     let points = points_in(alloc, n)?;
     let wires = network_wires(alloc, n, &points)?;
     let seats = network_seats(alloc, n, &points, seed)?;

@@ -1,10 +1,7 @@
-use Rattle.std.proofs.Common.{◌≡◌, [], drop, length}
+use Rattle.std.proofs.Common.{◌≡◌, [], drop, None}
 use Rattle.sq_graph.specs.Order.{order_of}
-use Rattle.sq_core.specs.Table.{turned, with_outputs}
+use Rattle.sq_core.specs.Table.{turned, drops_behind, with_boxes}
 use Rattle.sq_core.proofs.network.actors_of.Given as goal
 
 abbrev pub invariant-loop-index : goal.invariant-loop-index
-invariant-loop-index l = turned l.all.items (drop l.index l.boxes.items) ≡ turned [] (order_of l.n.wires)
-
-abbrev pub invariant-loop-output : goal.invariant-loop-output
-invariant-loop-output l = l.all.items ≡ with_outputs (length l.n.boxes) l.output (turned [] (order_of l.n.wires))
+invariant-loop-index l = with_boxes l.n (drop l.index l.boxes.items) l.all.items ≡ with_boxes l.n (order_of l.n.wires) (turned [] (drops_behind l.n None))

@@ -1,11 +1,8 @@
-use Rattle.std.proofs.Common.{◌≡◌, [], ◌∷◌, ◌++◌, drop, map}
-use Rattle.sq_core.specs.Table.{feed_of}
+use Rattle.std.proofs.Common.{◌≡◌, map}
+use Rattle.sq_value.specs.Lists.{numbers_to}
+use Rattle.sq_start.specs.Numbers.{actor_at}
+use Rattle.sq_core.specs.Table.{row_of}
 use Rattle.sq_core.proofs.network.table_of.Given as goal
 
-abbrev pub invariant-loop-at : goal.invariant-loop-at
-invariant-loop-at l = map (λ b. map (feed_of l.n) b.inputs) l.n.wires.boxes ≡ map (λ f. f.items) l.table.items ++ map (λ b. map (feed_of l.n) b.inputs) (drop l.at l.n.wires.boxes)
-
-abbrev pub invariant-loop-output : goal.invariant-loop-output
-invariant-loop-output l =
-    map (λ b. map (feed_of l.n) b.inputs) l.n.wires.boxes ++ map (λ s. feed_of l.n s ∷ []) l.n.wires.outputs
-    ≡ map (λ f. f.items) l.table.items ++ map (λ s. feed_of l.n s ∷ []) (drop l.output l.n.wires.outputs)
+abbrev pub invariant-loop-actor : goal.invariant-loop-actor
+invariant-loop-actor l = map (λ f. f.items) l.table.items ≡ map (λ k. row_of l.n (actor_at l.n k)) (numbers_to l.actor)

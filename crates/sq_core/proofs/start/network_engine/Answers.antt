@@ -1,23 +1,31 @@
-use Rattle.std.proofs.Common.{ℕ, ◌≤◌, ◌∙◌, refl, ap, sym, subst, map, length, arith}
+use Rattle.std.proofs.Common.{◌≡◌, ℕ, ◌<◌, ◌≤◌, ◌∙◌, refl, ap, sym, subst, map, length, arith}
 use Rattle.std.specs.List.{AllByRecursion}
-use Rattle.std.proofs.lemmas.List.Elements.{All-from_recursion}
 use Rattle.std.proofs.lemmas.List.{length-map}
+use Rattle.std.proofs.lemmas.List.Elements.{All-from_recursion}
 use Rattle.std.proofs.lemmas.Result.{IfOk-weaker}
 use Rattle.sq_value.specs.Values.{IsStream}
 use Rattle.sq_oper.specs.Streams.{IsSoundTuple}
 use Rattle.sq_flow.specs.Flows.{items_in}
 use Rattle.sq_flow.specs.Wiring.{IsShaped}
+use Rattle.sq_start.specs.Numbers.{ops_of}
+use Rattle.sq_start.specs.Starts.{IsRead}
 use Rattle.sq_core.specs.Meanings.{actors, IsValid}
-use Rattle.sq_core.specs.Table.{ops_of, IsMeasured}
+use Rattle.sq_core.specs.Table.{IsMeasured}
 use Rattle.sq_core.proofs.TableLemmas.{if-both, if-three}
-use Rattle.sq_core.proofs.StartEngine.{new-seats}
-use Rattle.sq_core.proofs.NewFlow.{is-new, holds-is, none-fed}
+use Rattle.sq_core.proofs.NewFlow.{new-seats, is-new, none-fed}
 use Rattle.sq_core.proofs.PlanLemmas.{plans-start}
+use Rattle.sq_core.proofs.PlaceLemmas.{places-of, all-places}
 use Rattle.sq_core.proofs.NewAnswers.{new-answers, rising, few-queued, starts-ready}
 use Rattle.sq_core.proofs.start.network_engine.Goals as goal
 
+pub network_wires-requires-clause-places : goal.network_wires-requires-clause-places
+network_wires-requires-clause-places c = all-places c.early_drop_is_sound.ensures.points c.args.n.now c.requires.sound _ (c.deref.ensures.value ∙ c.in_ok-points.ensures)
+
 pub new-requires-clause-seats : goal.new-requires-clause-seats
-new-requires-clause-seats c = new-seats c.args.n.now c.requires.sound c.in_ok-wires.wires c.in_ok-wires.ensures.measured actors IsValid c.in_ok-seats.seats.items c.in_ok-seats.ensures.seated _
+new-requires-clause-seats c =
+    new-seats c.args.n.now c.requires.sound (places-of c.early_drop_is_sound.ensures.points c.args.n.now c.requires.sound) c.in_ok-wires.wires c.in_ok-wires.ensures.measured
+    c.args.seed c.in_ok-seats.seats.items c.in_ok-seats.ensures.seated c.in_ok-seats.ensures.count c.arcs_may_come.ensures.marks c.arcs_may_come.ensures.tuples
+    c.in_ok-wires.ensures.sheds c.in_ok-wires.ensures.shown c.new-levels.result.epoch (sym (ap (λ l. l.epoch) c.new-levels.ensures))
 
 pub new-requires-clause-coming : goal.new-requires-clause-coming
 new-requires-clause-coming c =
@@ -35,29 +43,39 @@ new-requires-clause-few c =
 pub new-requires-clause-few_tuples : goal.new-requires-clause-few_tuples
 new-requires-clause-few_tuples c = few-queued c.in_ok-queues.queues.items (subst (AllByRecursion (λ xs. length xs ≤ 1000000)) (sym c.in_ok-queues.ensures) c.requires.few_tuples)
 
+pub returns-clause-boxes : goal.returns-clause-boxes
+returns-clause-boxes c = IfOk-weaker c.new.result _ _ (λ e h. ap (λ w. w.sheds) h.wires_are ∙ c.in_ok-wires.ensures.sheds) c.new.ensures.flow
+
+pub returns-clause-drops : goal.returns-clause-drops
+returns-clause-drops c = IfOk-weaker c.new.result _ _ (λ e h. ap (λ w. w.shown) h.wires_are ∙ c.in_ok-wires.ensures.shown) c.new.ensures.flow
+
+pub returns-clause-operators : goal.returns-clause-operators
+returns-clause-operators c = IfOk-weaker c.new.result _ _ (λ e h. ap (λ v. length v.items) h.seats_are ∙ c.in_ok-seats.ensures.count) c.new.ensures.flow
+
 pub returns-clause-none_fed : goal.returns-clause-none_fed
 returns-clause-none_fed c =
     IfOk-weaker c.new.result _ _ (λ e h.
-    none-fed c.args.n.now c.requires.sound (map (λ v. v.items) c.args.sources.items) (All-from_recursion IsStream _ c.requires.streams) c.in_ok-wires.wires c.in_ok-wires.ensures.measured c.in_ok-wires.ensures.joins (c.full_streams_fit.ensures _ c.requires.fit)
-    actors IsValid c.in_ok-seats.seats.items c.in_ok-seats.ensures.seated c.in_ok-seats.ensures.count e.flow (ap (λ v. v.items) h.seats_are)) c.new.ensures.flow
+    none-fed c.args.n.now c.requires.sound (places-of c.early_drop_is_sound.ensures.points c.args.n.now c.requires.sound) c.in_ok-wires.wires c.in_ok-wires.ensures.measured
+    c.args.seed c.in_ok-seats.seats.items c.in_ok-seats.ensures.seated c.in_ok-seats.ensures.count e.flow (ap (λ v. v.items) h.seats_are)) c.new.ensures.flow
 
 pub returns-clause-plans : goal.returns-clause-plans
 returns-clause-plans c =
-    if-three c.new.result _ _ _ _ (λ e h planned left seed.
+    if-three c.new.result _ _ _ _ (λ e h planned left.
     plans-start _ e.flow c.in_ok-planner.planner c.new-levels.result.epoch _ h.planner_is c.in_ok-planner.ensures (ap (λ l. l.epoch) c.new-levels.ensures) c.in_ok-queues.ensures planned left)
     c.new.ensures.flow c.new.ensures.planned c.new.ensures.plans
 
 pub returns-clause-answers : goal.returns-clause-answers
 returns-clause-answers c =
-    IfOk-weaker c.new.result _ _ (λ e h seed pages.
-    let recorded = All-from_recursion IsStream _ c.requires.streams in
-    let new = λ (table : ℕ → ℕ → ℕ). is-new c.args.n.now c.requires.sound _ recorded c.in_ok-wires.wires c.in_ok-wires.ensures.measured c.in_ok-wires.ensures.joins (c.full_streams_fit.ensures _ c.requires.fit)
-    actors IsValid c.in_ok-seats.seats.items c.in_ok-seats.ensures.seated c.in_ok-seats.ensures.count c.in_ok-seats.seats refl c.in_ok-queues.queues c.in_ok-queues.ensures _ _ e.flow h pages table in
-    new-answers _ recorded c.outputs_start_full.ensures c.counts_start.ensures e.flow (items_in e.flow pages) new
-    (subst (λ w. IsShaped w (ops_of c.args.n.now)) (sym h.wires_are) c.in_ok-wires.ensures.shaped) (ap (λ w. w.shown) h.wires_are ∙ c.in_ok-wires.ensures.shown)
-    (ap (λ v. length v.items) h.seats_are ∙ c.in_ok-seats.ensures.count) h.none_taken
-    (holds-is actors IsValid c.args.n.now c.requires.sound _ recorded c.in_ok-wires.wires c.in_ok-wires.ensures.shaped
-    c.in_ok-seats.seats.items c.in_ok-seats.ensures.seated e.flow h.wires_are (ap (λ v. v.items) h.seats_are) h.runs (items_in e.flow pages) (λ arc. h.empty pages arc) new)) c.new.ensures.flow
+    IfOk-weaker c.new.result _ _ (λ e h pages.
+    let read : IsRead (record { network = c.args.n.now; sources = map (λ v. v.items) c.args.sources.items; entries = c.args.capacities.now; seed = c.args.seed }) = record { sound = c.requires.sound; streams = All-from_recursion IsStream _ c.requires.streams; fit = c.requires.fit } in
+    let new = is-new c.args.n.now c.requires.sound (places-of c.early_drop_is_sound.ensures.points c.args.n.now c.requires.sound) c.in_ok-wires.wires c.in_ok-wires.ensures.measured
+    c.args.seed c.in_ok-seats.seats.items c.in_ok-seats.ensures.seated c.in_ok-seats.ensures.count c.arcs_may_come.ensures.fed
+    (record { network = c.args.n.now; sources = map (λ v. v.items) c.args.sources.items; entries = c.args.capacities.now; seed = c.args.seed }) read refl refl
+    c.in_ok-seats.seats refl c.in_ok-queues.queues c.in_ok-queues.ensures _ _ e.flow h c.in_ok-wires.ensures.shaped.replay_is pages in
+    new-answers (record { network = c.args.n.now; sources = map (λ v. v.items) c.args.sources.items; entries = c.args.capacities.now; seed = c.args.seed })
+    read c.starts_as_replayed.ensures e.flow (items_in e.flow pages) (λ arc. h.empty pages arc) new
+    (subst (λ w. IsShaped w (ops_of c.args.n.now)) (sym h.wires_are) c.in_ok-wires.ensures.shaped) (ap (λ w. w.sheds) h.wires_are ∙ c.in_ok-wires.ensures.sheds)
+    (ap (λ w. w.shown) h.wires_are ∙ c.in_ok-wires.ensures.shown) (ap (λ v. length v.items) h.seats_are ∙ c.in_ok-seats.ensures.count) h.none_taken) c.new.ensures.flow
 
 pub returns-clause-ready : goal.returns-clause-ready
 returns-clause-ready c =

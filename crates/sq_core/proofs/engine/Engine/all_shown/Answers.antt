@@ -6,6 +6,7 @@ returns c =
     shown-all c.args.self.now
     (record {
       lines = c.nothing_left.ensures.lines;
+      drops = c.nothing_left.ensures.drops;
       fed = c.nothing_left.ensures.fed;
       lost = c.nothing_left.ensures.lost;
       work = c.nothing_left.ensures.work;

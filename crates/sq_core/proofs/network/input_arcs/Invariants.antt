@@ -1,0 +1,7 @@
+use Rattle.std.proofs.Common.{◌≡◌, map}
+use Rattle.sq_value.specs.Lists.{numbers_to}
+use Rattle.sq_graph.specs.Wires.{arc_at}
+use Rattle.sq_core.proofs.network.input_arcs.Given as goal
+
+abbrev pub invariant-loop-port : goal.invariant-loop-port
+invariant-loop-port l = l.arcs.items ≡ map (arc_at l.n.wires l.at) (numbers_to l.port)
