@@ -4,6 +4,7 @@ use Rattle.std.specs.Prelude.{Some, None, Ok, Err, codes, if◌then◌else◌}
 use Rattle.std.specs.Fmt.{digits}
 use Rattle.std.specs.Str.{is_utf8, chars}
 use Rattle.std.specs.Char.{encode_utf8}
+use Rattle.rand_pcg.specs.Lcg.{state_after}
 use Rattle.sq_value.specs.declared.Tuple.{Tuple}
 use Rattle.sq_value.specs.declared.Kind.TheVariants as kind
 use Rattle.sq_value.specs.declared.Value.TheVariants as value
@@ -185,8 +186,25 @@ nested = record {
   outputs = output ∷ [];
 }
 
-nested_work : work_in (replayed (of_tuples nested (map (λ t. at t t) (numbers_to 16) ∷ []))) ≡ 44
+abbrev fed : Replay
+fed = of_tuples nested (map (λ t. at t t) (numbers_to 16) ∷ [])
+
+nested_work : work_in (replayed fed) ≡ 44
+unfolding state_after
 nested_work = refl
+
+-- and where capacity lacks for two epochs
+abbrev short : Replay
+short = record fed { entries = (1, Some 0) ∷ (3, None) ∷ [] }
+
+short_text : all_text (due_of short)
+    ≡ codes "o,0,14\no,12,54\n@drop,0,1,1000\n@drop,0,2,1000\n@plan,1,8000000,0,8000000,fits\n@plan,2,8000000,0,8000000,fits\n@box,a1,11\n@box,a2,4\n@end\n"
+unfolding state_after digits
+short_text = refl
+
+short_work : work_in (replayed short) ≡ 33
+unfolding state_after
+short_work = refl
 
 cycle_is : message_of [] (status.BadNetwork (net.Cycle (record { part = part.Box; number = 0; item = 0 }))) ≡ codes "aurora: network: Cycle box 0 0\n"
 unfolding digits
