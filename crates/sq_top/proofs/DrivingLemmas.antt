@@ -14,18 +14,20 @@ use Rattle.sq_net.specs.Sound.{IsSound}
 use Rattle.sq_oper.specs.declared.outs.Event.{Event}
 use Rattle.sq_oper.specs.declared.outs.Event.TheVariants.{Line, Dropped, Plan}
 use Rattle.sq_replay.specs.Shown.{IsEventOf, event_line}
+use Rattle.sq_points.specs.Points.{points_of}
 use Rattle.sq_model.specs.Shedding.{Replay}
+use Rattle.sq_start.specs.Nets.{drop_decisions}
 use Rattle.sq_model.proofs.StreamTypes.{some-at}
 use Rattle.sq_queue.specs.Faces.{Tells}
 use Rattle.sq_flow.specs.declared.errors.RunErr.{RunErr}
 use Rattle.sq_flow.specs.declared.errors.RunErr.TheVariants as run_err
-use Rattle.sq_flow.specs.Events.{lines_of}
+use Rattle.sq_flow.specs.Events.{drops_of}
 use Rattle.sq_core.specs.declared.engine.Engine.{Engine}
 use Rattle.sq_core.specs.Runs.{IsRun, ShownAll, ShownSoFar, Stopped}
 use Rattle.sq_core.proofs.RunLemmas.{shown-so-far}
 use Rattle.sq_top.specs.declared.Status.{Status}
 use Rattle.sq_top.specs.declared.Status.TheVariants as status
-use Rattle.sq_top.specs.Due.{answer_in, stream_shown, turns_in, work_in}
+use Rattle.sq_top.specs.Due.{answer_in, turns_in, work_in}
 use Rattle.sq_top.specs.Writing.{IsLost, Moves}
 use Rattle.sq_top.specs.Driving.{Begins, Completes, GoesOn, IsCutShort, IsDriven, IsEventAt, IsHalted, Stops, StopsBehind, history_text}
 use Rattle.sq_top.proofs.ClassLemmas.{all_append}
@@ -38,23 +40,23 @@ line_event n (Line output tuple) there = there
 line_event n (Dropped d) there = tt
 line_event n (Plan epoch load capacity saved fits) there = tt
 
--- the stream that an output shows
-shown_at : (r : Replay) → IsSound r.network → (o : ℕ) → o < length r.network.outputs → (s : ℕ) × (slice_get r.network.wires.outputs o ≡ Some s)
-shown_at r sound o low = some-at r.network.wires.outputs o (omega (arith, low, sound.agrees.outputs))
+-- an output is one of the wiring
+wired : (r : Replay) → IsSound r.network → (o : ℕ) → o < length r.network.outputs → o < length r.network.wires.outputs
+wired r sound o low = omega (arith, low, sound.agrees.outputs)
 
 begins_so_far : (r : Replay) → IsSound r.network → (history : List Event) (begun steps : ℕ) → ShownSoFar r history begun steps → Begins r.network (answer_in r) history
 begins_so_far r sound history begun steps far = record {
-  lines = λ o low.
-      let s = shown_at r sound o low in
-      subst (λ k. IsPrefixOf (lines_of o history) (stream_shown r k)) (sym s.1) (far.lines o s.0 s.1);
-  drops = λ w low. absurd (omega (arith, low));
+  lines = λ o low. far.lines o (wired r sound o low);
+  drops = λ w low.
+      let p = some-at (points_of r.network) w low in
+      subst (λ k. IsPrefixOf (drops_of w history) (drop_decisions r w k)) (sym p.1) (far.drops w p.0 p.1);
   plans = far.plans;
 }
 
 completes : (r : Replay) → IsSound r.network → (engine : Engine) (history : List Event) (begun steps : ℕ) → ShownAll r engine history begun steps → Completes r.network (answer_in r) history
 completes r sound engine history begun steps all = record {
-  lines = λ o low. let s = shown_at r sound o low in all.lines o s.0 s.1 ∙ ap (stream_shown r) (sym s.1);
-  drops = λ w low. absurd (omega (arith, low));
+  lines = λ o low. all.lines o (wired r sound o low);
+  drops = λ w low. let p = some-at (points_of r.network) w low in all.drops w p.0 p.1 ∙ ap (drop_decisions r w) (sym p.1);
   plans = all.plans;
 }
 

@@ -37,6 +37,12 @@ use Rattle.sq_top.specs.declared.Status.TheVariants as status
 use Rattle.sq_top.specs.Commands.{command_in}
 use Rattle.sq_replay.specs.Shown.{end_lines, fed_line, is_sorter, late_lines}
 use Rattle.sq_csv.proofs.NumberLemmas.{decimal_bare}
+use Rattle.std.proofs.lemmas.List.{length-map}
+use Rattle.sq_place.specs.Points.{point_at}
+use Rattle.sq_place.specs.Places.{drop_places_of}
+use Rattle.sq_place.proofs.Final.{drops-few}
+use Rattle.sq_points.specs.Points.{points_of, windows_of}
+use Rattle.sq_points.proofs.Bounds.{few_places}
 use Rattle.std.proofs.lemmas.Fmt.{decimal_nonempty}
 use Rattle.sq_top.specs.Due.{Answer, Due, answer_in, drops_in, dropped_from, due_from, due_in, due_of, ended_in, fed_in, late_in, plan_text, replayed, shown_from, turns_in, work_in}
 use Rattle.sq_top.specs.Answers.{IsPrefixText, IsWholeText}
@@ -174,7 +180,9 @@ due_tells_classes n a ended ends few is =
 
 -- there are few drops
 pub few_drops : (n : Network) → IsSound n → drops_in n < 2 ^ 64
-few_drops n is = omega arith
+few_drops n is =
+    let count : length (points_of n) ≡ length (drop_places_of n.wires (windows_of n)) = length-map (drop_places_of n.wires (windows_of n)) (point_at n.wires (windows_of n) n.batch) in
+    omega (arith, count, drops-few n.wires (windows_of n), few_places n is)
 
 pub replay_tells_classes : (r : model.Replay) → IsSound r.network → TellsClasses (due_in r)
 replay_tells_classes r is =

@@ -24,11 +24,11 @@ use Rattle.sq_oper.specs.declared.outs.Event.TheVariants.{Line, Dropped as Decid
 use Rattle.sq_model.proofs.Alls.{holds-at}
 use Rattle.sq_model.proofs.StreamTypes.{some-at}
 use Rattle.sq_replay.specs.Shown.{event_line, name_in, text_of}
-use Rattle.sq_flow.specs.Events.{lines_of}
+use Rattle.sq_flow.specs.Events.{drops_of, lines_of}
 use Rattle.sq_flow.specs.Plans.{plans_of}
 use Rattle.sq_top.specs.Due.{Answer, Due, drops_in, due_from, plan_text}
 use Rattle.sq_top.specs.Answers.{IsClassIn, IsPrefixText, IsWholeText, is_classed, lines_of as due_lines}
-use Rattle.sq_top.specs.Driving.{Completes, IsEventAt, drops_of, history_text}
+use Rattle.sq_top.specs.Driving.{Completes, IsEventAt, history_text}
 use Rattle.sq_top.specs.Orders.{AreAll, IsOrder}
 use Rattle.sq_top.proofs.SortedLines.{and-true, filter_same}
 use Rattle.sq_top.proofs.ClassLemmas.{IsLineOf, IsPlainClass, TellsClasses, all_map, classed_dropped, classed_ended, classed_planned, classed_shown, not_true, plain_class}

@@ -1,5 +1,6 @@
 -- What a replay has written: the text of a history, and the end lines behind it.
-use Rattle.std.proofs.Common.{◌≡◌, ℕ, zero, suc, ◌+◌, ◌<◌, ◌≤◌, ◌^◌, true, List, [], ◌∷◌, ◌++◌, length, map, refl, ap, ap₂, sym, ◌∙◌, subst, arith, append_assoc, Option, Some}
+use Rattle.std.proofs.Common.{◌≡◌, ℕ, zero, suc, ◌+◌, ◌<◌, ◌≤◌, ◌^◌, true, List, [], ◌∷◌, ◌++◌, length, map, refl, ap, ap₂, sym, ◌∙◌, subst, arith, append_assoc, Option, None, Some}
+use Rattle.std.specs.Prelude.{slice_get}
 use Rattle.std.specs.List.{AllByRecursion, range_with_len}
 use Rattle.sq_value.specs.Lists.{IsPrefixOf, numbers_to}
 use Rattle.sq_value.specs.Classes.{Ended}
@@ -10,7 +11,10 @@ use Rattle.sq_net.specs.Sound.{IsSound}
 use Rattle.sq_oper.specs.declared.outs.Event.{Event}
 use Rattle.sq_oper.specs.declared.outs.Decision.{Decision}
 use Rattle.sq_replay.specs.Shown.{end_lines, text_of}
-use Rattle.sq_model.specs.Shedding.{Replay}
+use Rattle.sq_place.specs.declared.DropPoint.{DropPoint}
+use Rattle.sq_points.specs.Points.{points_of}
+use Rattle.sq_model.specs.Shedding.{Replay, record_of}
+use Rattle.sq_start.specs.Nets.{decision_on, drop_decisions}
 use Rattle.sq_core.specs.declared.engine.Engine.{Engine}
 use Rattle.sq_core.specs.Runs.{fed_at, late_at}
 use Rattle.sq_top.specs.declared.Status.{Status}
@@ -39,7 +43,15 @@ module _ (r : Replay) (sound : IsSound r.network) where
 
   -- the decisions of a drop are its own
   own : (w : ℕ) → AllByRecursion (λ (d : Decision). d.drop ≡ w) ((answer_in r).decisions w)
-  own w = tt
+  own w = by (slice_get (points_of r.network) w)
+    where
+      each : (p : DropPoint) (bs : List ℕ) → AllByRecursion (λ (d : Decision). d.drop ≡ w) (map (decision_on r w p) bs)
+      each p [] = tt
+      each p (b ∷ bs) = (refl, each p bs)
+
+      by : (o : Option DropPoint) → AllByRecursion (λ (d : Decision). d.drop ≡ w) (drop_decisions r w o)
+      by None = tt
+      by (Some p) = each p (record_of r w p)
 
   ends : AllByRecursion (IsLineOf Ended) (ended_in r)
   ends = all_ended r.network (map (fed_in r) (numbers_to (length r.network.boxes))) (map (late_in r) (numbers_to (length r.network.boxes)))

@@ -16,11 +16,11 @@ use Rattle.sq_oper.specs.declared.outs.Decision.{Decision}
 use Rattle.sq_oper.specs.declared.outs.Event.TheVariants.{Line, Dropped as Decided, Plan}
 use Rattle.sq_plan.specs.declared.closing.Shown.{Shown as ShownPlan}
 use Rattle.sq_replay.specs.Shown.{event_line, text_of}
-use Rattle.sq_flow.specs.Events.{line_of, lines_of}
+use Rattle.sq_flow.specs.Events.{drop_in, drops_of, line_of, lines_of}
 use Rattle.sq_flow.specs.Plans.{plan_in, plans_of}
 use Rattle.sq_top.specs.Due.{Answer, drops_in, due_from}
 use Rattle.sq_top.specs.Answers.{IsPrefixText}
-use Rattle.sq_top.specs.Driving.{Begins, Completes, IsEventAt, drop_in, drops_of, history_text}
+use Rattle.sq_top.specs.Driving.{Begins, Completes, IsEventAt, history_text}
 use Rattle.sq_top.proofs.ClassLemmas.{IsLineOf, all_append, not_true}
 use Rattle.sq_top.proofs.HistoryLemmas.{beginning_of_history, drop_kept, drop_left, line_kept, line_left}
 

@@ -4,6 +4,7 @@ use Rattle.std.specs.Prelude.{Some, None, Ok, Err, codes, if◌then◌else◌}
 use Rattle.std.specs.Fmt.{digits}
 use Rattle.std.specs.Str.{is_utf8, chars}
 use Rattle.std.specs.Char.{encode_utf8}
+use Rattle.rand_pcg.specs.Lcg.{state_after}
 use Rattle.sq_value.specs.declared.Tuple.{Tuple}
 use Rattle.sq_value.specs.declared.Kind.TheVariants as kind
 use Rattle.sq_value.specs.declared.Value.TheVariants as value
@@ -21,13 +22,12 @@ use Rattle.sq_net.specs.declared.Output.{Output}
 use Rattle.sq_net.specs.declared.Part.TheVariants as part
 use Rattle.sq_net.specs.declared.Source.{Source}
 use Rattle.sq_replay.specs.declared.why.Why.TheVariants as why
-use Rattle.sq_model.specs.Fed.{work_of}
 use Rattle.sq_sched.specs.declared.policy.Rule.TheVariants as rule
 use Rattle.sq_top.specs.declared.RunArgs.{RunArgs}
 use Rattle.sq_top.specs.declared.Command.TheVariants as command
 use Rattle.sq_top.specs.declared.Status.TheVariants as status
 use Rattle.sq_top.specs.Commands.{command_in}
-use Rattle.sq_top.specs.Due.{all_text, due_of}
+use Rattle.sq_top.specs.Due.{all_text, due_of, replayed, work_in}
 use Rattle.sq_top.specs.Answers.{lines_of}
 use Rattle.sq_top.specs.Messages.{message_of}
 use Rattle.sq_top.specs.Scripts.{Replay, accepted, after_network, outcome_of, unread, with_sources}
@@ -140,7 +140,7 @@ unfolding digits
 ended_is = refl
 
 -- five at the box and five at the output
-work_is : work_of network replay.sources ≡ 10
+work_is : work_in (replayed replay) ≡ 10
 work_is = refl
 
 -- a BSort that has no room: what comes too late has a line of its own
@@ -162,7 +162,7 @@ late_is : all_text (due_of sorted) ≡ codes "o,3,3\n@box,bs,3\n@late,bs,2\n@end
 unfolding digits
 late_is = refl
 
--- an Aggregate of an Aggregate: 16 and 8 steps at the boxes, and 4 at the output
+-- an Aggregate of an Aggregate: 16 steps at the drop, 16 and 8 at the boxes, and 4 at the output
 abbrev window_box : List ℕ → Func → ℕ → Node
 window_box name f advance = record {
   name = name;
@@ -186,8 +186,25 @@ nested = record {
   outputs = output ∷ [];
 }
 
-nested_work : work_of nested (map (λ t. at t t) (numbers_to 16) ∷ []) ≡ 28
+abbrev fed : Replay
+fed = of_tuples nested (map (λ t. at t t) (numbers_to 16) ∷ [])
+
+nested_work : work_in (replayed fed) ≡ 44
+unfolding state_after
 nested_work = refl
+
+-- and where capacity lacks for two epochs
+abbrev short : Replay
+short = record fed { entries = (1, Some 0) ∷ (3, None) ∷ [] }
+
+short_text : all_text (due_of short)
+    ≡ codes "o,0,14\no,12,54\n@drop,0,1,1000\n@drop,0,2,1000\n@plan,1,8000000,0,8000000,fits\n@plan,2,8000000,0,8000000,fits\n@box,a1,11\n@box,a2,4\n@end\n"
+unfolding state_after digits
+short_text = refl
+
+short_work : work_in (replayed short) ≡ 33
+unfolding state_after
+short_work = refl
 
 cycle_is : message_of [] (status.BadNetwork (net.Cycle (record { part = part.Box; number = 0; item = 0 }))) ≡ codes "aurora: network: Cycle box 0 0\n"
 unfolding digits

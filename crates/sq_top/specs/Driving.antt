@@ -1,17 +1,15 @@
 -- What a run shows on its way: a history of events, whose lines are written one after another.
-use Rattle.std.specs.Prelude.{◌≡◌, ◌⊎◌, ℕ, ◌+◌, ◌^◌, ◌<◌, ◌≤◌, ◌==◌, if◌then◌else◌, List, [], ◌∷◌, ◌++◌, length, map, Option}
+use Rattle.std.specs.Prelude.{◌≡◌, ◌⊎◌, ℕ, ◌+◌, ◌^◌, ◌<◌, ◌≤◌, List, ◌++◌, length, map, Option}
 use Rattle.std.specs.List.{AllByRecursion, flat_map}
 use Rattle.sq_value.specs.Lists.{IsPrefixOf, numbers_to}
 use Rattle.sq_outside.specs.Disks.{Pages}
 use Rattle.sq_outside.specs.Sinks.{AppendsPrefix, appended}
 use Rattle.sq_net.specs.declared.Network.{Network}
-use Rattle.sq_oper.specs.declared.outs.Decision.{Decision}
 use Rattle.sq_oper.specs.declared.outs.Event.{Event}
-use Rattle.sq_oper.specs.declared.outs.Event.TheVariants.{Line, Dropped, Plan}
 use Rattle.sq_replay.specs.Shown.{end_lines, event_line, text_of}
 use Rattle.sq_model.specs.Shedding.{Replay}
 use Rattle.sq_queue.specs.Faces.{Tells}
-use Rattle.sq_flow.specs.Events.{IsEventIn, lines_of}
+use Rattle.sq_flow.specs.Events.{IsEventIn, drops_of, lines_of}
 use Rattle.sq_flow.specs.Plans.{plans_of}
 use Rattle.sq_core.specs.declared.engine.Engine.{Engine}
 use Rattle.sq_core.specs.Runs.{IsRun, fed_at, late_at}
@@ -27,16 +25,6 @@ IsEventAt n e = IsEventIn (length n.outputs) (drops_in n) e
 -- the text of a history
 abbrev pub history_text : Network → List Event → List ℕ
 history_text n history = flat_map (event_line n) history
-
--- what a drop has decided
-abbrev pub drop_in : ℕ → Event → List Decision
-drop_in w (Line output tuple) = []
-drop_in w (Dropped d) = if d.drop == w then d ∷ [] else []
-drop_in w (Plan epoch load capacity saved fits) = []
-
-abbrev pub drops_of : ℕ → List Event → List Decision
-drops_of w [] = []
-drops_of w (e ∷ es) = drop_in w e ++ drops_of w es
 
 -- of each output, of each drop and of the plans a history has all, in order
 pub record Completes (n : Network) (a : Answer) (history : List Event) : Type 0 where

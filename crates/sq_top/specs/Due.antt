@@ -1,5 +1,5 @@
 -- What a run is to write and the steps that it is to take.
-use Rattle.std.specs.Prelude.{ℕ, List, [], ◌++◌, map, length, Option, None, Some, slice_get}
+use Rattle.std.specs.Prelude.{ℕ, List, ◌++◌, map, length, slice_get}
 use Rattle.std.specs.List.{flat_map, zip}
 use Rattle.sq_value.specs.declared.Tuple.{Tuple}
 use Rattle.sq_value.specs.Lists.{numbers_to}
@@ -9,10 +9,13 @@ use Rattle.sq_net.specs.declared.Output.{Output}
 use Rattle.sq_oper.specs.declared.outs.Decision.{Decision}
 use Rattle.sq_plan.specs.declared.closing.Shown.{Shown}
 use Rattle.sq_replay.specs.Shown.{end_lines, text_of}
-use Rattle.sq_model.specs.Full.{full_stream}
-use Rattle.sq_model.specs.Fed.{fed_of, late_of, work_of}
+use Rattle.sq_points.specs.Points.{points_of}
+use Rattle.sq_model.specs.Fed.{late_of}
+use Rattle.sq_model.specs.Kept.{fed_of, turns_of, work_of}
 use Rattle.sq_model.specs.Shedding as model
+use Rattle.sq_model.specs.Shedding.{answer_of}
 use Rattle.sq_model.specs.Shown.{plans_shown}
+use Rattle.sq_start.specs.Nets.{drop_decisions}
 use Rattle.sq_top.specs.Scripts.{Replay}
 
 -- the lines of each output, by its name, those of each drop, by its number, those of the plans, and the end lines
@@ -35,9 +38,9 @@ pub record Answer : Type 0 where
   pub decisions : ℕ → List Decision
   pub plans : List Shown
 
--- how many drops a network has: nothing is dropped yet
+-- how many drops a network has
 abbrev pub drops_in : Network → ℕ
-drops_in n = 0
+drops_in n = length (points_of n)
 
 -- the outputs in file order, each with its number
 abbrev pub outputs_of : Network → List (Output × ℕ)
@@ -68,17 +71,13 @@ abbrev pub replayed : Replay → model.Replay
 replayed r = record { network = r.network; sources = r.sources; entries = r.entries; seed = r.seed }
 
 module _ (r : model.Replay) where
-  abbrev pub stream_shown : Option ℕ → List Tuple
-  stream_shown None = []
-  stream_shown (Some s) = full_stream r.network r.sources s
-
-  -- each output shows its full answer
+  -- each output shows its answer, each drop decides its record, and the plans are those of the epochs
   abbrev pub answer_in : Answer
-  answer_in = record { tuples = λ o. stream_shown (slice_get r.network.wires.outputs o); decisions = λ w. []; plans = plans_shown r }
+  answer_in = record { tuples = answer_of r; decisions = λ w. drop_decisions r w (slice_get (points_of r.network) w); plans = plans_shown r }
 
   -- how many tuples a box is fed, and how many of them are late
   abbrev pub fed_in : ℕ → ℕ
-  fed_in at = fed_of r.network r.sources at
+  fed_in at = fed_of r at
 
   abbrev pub late_in : ℕ → ℕ
   late_in at = late_of r.network r.sources at
@@ -88,11 +87,11 @@ module _ (r : model.Replay) where
 
   -- how many tuples are fed in all
   abbrev pub work_in : ℕ
-  work_in = work_of r.network r.sources
+  work_in = work_of r
 
   -- and how many items
   abbrev pub turns_in : ℕ
-  turns_in = work_in
+  turns_in = turns_of r
 
   abbrev pub due_in : Due
   due_in = due_from r.network answer_in ended_in

@@ -3,8 +3,8 @@
 //! `run_words` carries the promise of the whole engine: a run that ends Ok has written exactly the lines that belong
 //! to each class and taken exactly the steps of its work; any other end leaves a prefix of each class and has a cause
 //! of its own, whatever the schedule. `drive` carries the part of it that an engine does. Below stand `sq_reader` and
-//! `sq_replay` for texts, `sq_core` for the engine, `sq_sched` for schedules, `sq_model` for the full answers and
-//! `sq_outside` for the objects.
+//! `sq_replay` for texts, `sq_core` for the engine, `sq_sched` for schedules, `sq_model` for the answers, the records of
+//! what is dropped and the plans, and `sq_outside` for the objects.
 #![tactic(auto)]
 
 ghost use Rattle.std.specs.Prelude.{◌≡◌, ◌≢◌, ◌≤◌, true, map};

@@ -96,10 +96,11 @@ fn begun(alloc: Global, options: &[&str]) -> Result<(Engine, Policy), Fail>
 }
 
 // The lines of what an engine shows that is stepped by the picks of a policy.
-fn stepped<L: Ledger>(
+fn stepped<D: PageDisk, L: Ledger>(
     alloc: Global,
     mut engine: Engine,
     mut policy: Policy,
+    disk: &mut D,
     blank: Blank,
 ) -> Result<Vec<u8>, Status>
     requires name { blank.name ≡ L.name }
@@ -108,15 +109,11 @@ fn stepped<L: Ledger>(
     requires sound { IsSoundEngine engine }
     requires together { (pages : Option Pages) → Together engine.engine.flow.queues pages }
 {
-    let mut disk = MemDisk::new(alloc, Vec::new(alloc), Vec::new(alloc));
     let mut steps = Steps::<L>::open(blank);
     let mut events = Vec::new(alloc);
     'steps: while !engine.ended() {
         let pick = policy.next(engine.ready(), engine.waits());
-        if engine
-            .step(pick, &mut disk, &mut events, &mut steps)
-            .is_err()
-        {
+        if engine.step(pick, disk, &mut events, &mut steps).is_err() {
             return Err(Status::Memory);
         }
     }
@@ -129,10 +126,11 @@ fn stepped<L: Ledger>(
 }
 
 // What is written of an engine that is driven by a policy.
-fn driven<L: Ledger>(
+fn driven<D: PageDisk, L: Ledger>(
     alloc: Global,
     engine: Engine,
     policy: Policy,
+    disk: &mut D,
     blank: Blank,
 ) -> Result<MemSink, Status>
     requires name { blank.name ≡ L.name }
@@ -141,10 +139,9 @@ fn driven<L: Ledger>(
     requires sound { IsSoundEngine engine }
     requires together { (pages : Option Pages) → Together engine.engine.flow.queues pages }
 {
-    let mut disk = MemDisk::new(alloc, Vec::new(alloc), Vec::new(alloc));
     let mut steps = Steps::<L>::open(blank);
     let mut out = MemSink::new(alloc, Vec::new(alloc), 4096);
-    match drive(alloc, engine, policy, &mut disk, &mut out, &mut steps) {
+    match drive(alloc, engine, policy, disk, &mut out, &mut steps) {
         Ok(_) => Ok(out),
         Err(status) => Err(status),
     }
@@ -164,11 +161,12 @@ fn drive_writes_the_lines_of_what_its_engine_shows(rt: HostRuntime) -> Result<()
             policy,
         ];
         let (engine, policy) = begun(alloc, &options)?;
-        let lines = stepped::<Brand>(alloc, engine, policy, Blank::new(1))
+        let mut disk = MemDisk::new(alloc, Vec::new(alloc), Vec::new(alloc));
+        let lines = stepped::<MemDisk, Brand>(alloc, engine, policy, &mut disk, Blank::new(1))
             .ok()
             .ok_or("stopped")?;
         let (engine, policy) = begun(alloc, &options)?;
-        let out = driven::<Brand>(alloc, engine, policy, Blank::new(1))
+        let out = driven::<MemDisk, Brand>(alloc, engine, policy, &mut disk, Blank::new(1))
             .ok()
             .ok_or("cut short")?;
         assert_eq!(rt; out.bytes(), lines.as_slice());

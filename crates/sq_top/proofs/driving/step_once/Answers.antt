@@ -1,7 +1,12 @@
 use Rattle.sq_top.specs.Driving.{Stops}
 use Rattle.sq_top.proofs.WritingLemmas.{on_ok}
-use Rattle.sq_top.proofs.DrivingLemmas.{if_err_both, step_goes, step_lost, step_stops}
+use Rattle.sq_top.proofs.DrivingLemmas.{if_err_both, step_goes, step_lines, step_lost, step_stops}
 use Rattle.sq_top.proofs.driving.step_once.Goals as goal
+
+pub show_events-requires : goal.show_events-requires
+show_events-requires g c =
+    rw c.as_slice.ensures.value
+    (record { there = step_lines _ _ _ _ _ _ c.clear.ensures.items _ _ c.in-Ok.ensures.shows c.in-Ok.ensures.run c.step.ensures.network })
 
 pub returns-in-Ok-clause-ok : goal.returns-in-Ok-clause-ok
 returns-in-Ok-clause-ok g c =
