@@ -1,5 +1,5 @@
 -- Wires that are measured join the actors of a network, and what comes on them may come.
-use Rattle.std.proofs.Common.{◌≡◌, ℕ, zero, suc, ◌+◌, ◌-◌, ◌<◌, ◌≤◌, eqb, Bool, true, false, List, [], ◌∷◌, map, length, Option, Some, None, slice_get, refl, ap, sym, ◌∙◌, subst, arith, inl, inr, ◌⊎◌}
+use Rattle.std.proofs.Common.{◌≡◌, ℕ, zero, suc, ◌-◌, ◌<◌, ◌≤◌, eqb, true, false, List, [], ◌∷◌, map, length, Option, Some, None, slice_get, refl, ap, sym, ◌∙◌, subst, arith, inl, inr, ◌⊎◌}
 use Rattle.std.specs.Prelude.{is_some}
 use Rattle.std.proofs.lemmas.Bool.Decides.{nat_tests}
 use Rattle.std.proofs.lemmas.List.{length-map}
@@ -10,7 +10,7 @@ use Rattle.sq_left.proofs.MergeLemmas.{eqb-same}
 use Rattle.sq_graph.specs.declared.BoxKind.{BoxKind}
 use Rattle.sq_graph.specs.declared.BoxKind.TheVariants as kinds
 use Rattle.sq_graph.specs.declared.BoxWires.{BoxWires}
-use Rattle.sq_graph.specs.Wires.{producer_of, arcs_of, inputs_at, inputs_of, input_arcs_of, output_arc_at, arc_at as graph_arc}
+use Rattle.sq_graph.specs.Wires.{producer_of, inputs_at, inputs_of, input_arcs_of, output_arc_at, arc_at as graph_arc}
 use Rattle.sq_graph.specs.Order.{is_there}
 use Rattle.sq_graph.proofs.Reach.{and_parts}
 use Rattle.sq_place.specs.declared.DropPoint.{DropPoint}

@@ -1,23 +1,19 @@
 -- What is left of a new engine of a network, and which of its actors are ready.
-use Rattle.std.proofs.Common.{◌≡◌, ◌≢◌, ℕ, zero, suc, ◌+◌, ◌-◌, ◌<◌, ◌≤◌, eqb, cond, Bool, true, false, ◌||◌, List, [], ◌∷◌, ◌++◌, map, length, Option, Some, None, slice_get, refl, ap, sym, ◌∙◌, subst, arith, zero-le}
-use Rattle.std.specs.List.{AllByRecursion, sum_by}
+use Rattle.std.proofs.Common.{◌≡◌, ℕ, zero, suc, ◌+◌, ◌-◌, ◌<◌, ◌≤◌, eqb, cond, Bool, true, false, ◌||◌, List, [], ◌∷◌, map, length, Some, None, slice_get, refl, ap, sym, ◌∙◌, subst, arith, zero-le}
+use Rattle.std.specs.List.{AllByRecursion}
 use Rattle.std.specs.declared.alloc.Global.{Global}
 use Rattle.std.specs.declared.collections.VecDeque.{VecDeque}
 use Rattle.std.proofs.lemmas.Option.{slice_get_within}
 use Rattle.sq_value.specs.declared.Tuple.{Tuple}
-use Rattle.sq_value.specs.Lists.{numbers_to}
 use Rattle.sq_value.specs.Values.{IsStream}
 use Rattle.sq_item.specs.declared.Item.{Item}
 use Rattle.sq_oper.specs.Streams.{IsSoundTuple, things}
-use Rattle.sq_place.specs.declared.DropPoint.{DropPoint}
 use Rattle.sq_net.specs.declared.Network.{Network}
 use Rattle.sq_net.specs.Sound.{IsSound}
 use Rattle.sq_points.specs.Points.{points_of}
 use Rattle.sq_model.specs.Shedding.{Replay, level_of, answer_of}
-use Rattle.sq_model.specs.Kept.{work_of, turns_of}
 use Rattle.sq_left.proofs.MergeLemmas.{eqb-same, eqb-not}
 use Rattle.sq_left.specs.Left.{coming, inputs, still_dropped}
-use Rattle.sq_below.specs.Actors.{Box, Shedder, Shower}
 use Rattle.sq_sched.specs.Ready.{contains, OnlyOnce}
 use Rattle.sq_queue.specs.Faces.{face}
 use Rattle.sq_actor.specs.declared.actor.Actor.{Actor}
@@ -26,13 +22,13 @@ use Rattle.sq_flow.specs.declared.engine.Engine.{Engine}
 use Rattle.sq_flow.specs.Events.{bodies}
 use Rattle.sq_flow.specs.Seats.{Meaning, done_at}
 use Rattle.sq_flow.specs.Wiring.{net_of, arcs_read, numbers_in, IsShaped}
-use Rattle.sq_flow.specs.Flows.{tuples_at, RiseFrom, world_of, HoldsItems, fed_at_last, sum_below}
+use Rattle.sq_flow.specs.Flows.{tuples_at, RiseFrom, world_of, fed_at_last, sum_below}
 use Rattle.sq_flow.specs.Readiness.{stands, IsReady}
 use Rattle.sq_flow.specs.Engines.{place_in, IsEngine}
-use Rattle.sq_start.specs.Numbers.{first_output, ops_of, number_of, actor_at}
-use Rattle.sq_start.specs.Nets.{decided_by, drop_decisions, decisions_of, count_fed}
+use Rattle.sq_start.specs.Numbers.{first_output, ops_of}
+use Rattle.sq_start.specs.Nets.{decided_by, drop_decisions, count_fed}
 use Rattle.sq_start.specs.Starts.{IsRead}
-use Rattle.sq_start.specs.Laws.{IsNew, StartsAs, StartsAsReplayed}
+use Rattle.sq_start.specs.Laws.{IsNew, StartsAsReplayed}
 use Rattle.sq_start.proofs.NumberLemmas.{box-at, drop-at}
 use Rattle.sq_core.specs.Meanings.{actors}
 use Rattle.sq_core.specs.Table.{IsMeasured}

@@ -1,6 +1,6 @@
 -- The flow of a network's engine is new: its seats, and what it releases, holds and gives, are as the law of the start asks.
-use Rattle.std.proofs.Common.{◌≡◌, ℕ, zero, suc, ◌+◌, ◌<◌, ◌≤◌, not, true, false, List, [], ◌∷◌, map, length, Option, Some, None, Vec, slice_get, refl, ap, sym, ◌∙◌, subst, arith, inl, inr}
-use Rattle.std.specs.List.{All, AllByRecursion}
+use Rattle.std.proofs.Common.{◌≡◌, ℕ, zero, suc, ◌<◌, ◌≤◌, not, true, false, List, [], ◌∷◌, map, length, Option, Some, None, Vec, slice_get, refl, ap, sym, ◌∙◌, subst, arith, inl, inr}
+use Rattle.std.specs.List.{AllByRecursion}
 use Rattle.std.specs.declared.alloc.Global.{Global}
 use Rattle.std.specs.declared.collections.VecDeque.{VecDeque}
 use Rattle.std.proofs.lemmas.Option.{slice_get_within}
@@ -21,9 +21,9 @@ use Rattle.sq_model.specs.Full.{nth}
 use Rattle.sq_model.specs.Fed.{late_of}
 use Rattle.sq_model.specs.Given.{IsAt}
 use Rattle.sq_model.specs.Shedding.{Replay, level_of}
-use Rattle.sq_below.specs.Actors.{Actor, Sources, Box, Shedder, Shower, stream_of}
+use Rattle.sq_below.specs.Actors.{Box, Shedder, Shower, stream_of}
 use Rattle.sq_below.specs.Standing.{box_fed}
-use Rattle.sq_start.specs.Numbers.{IsThere, drops_of, first_output, ops_of, number_of, actor_at}
+use Rattle.sq_start.specs.Numbers.{IsThere, first_output, ops_of, actor_at}
 use Rattle.sq_start.specs.Nets.{fed_to, decided_by, Joins}
 use Rattle.sq_start.specs.Starts.{IsRead}
 use Rattle.sq_start.specs.Started.{IsStarted, lost_by}
@@ -40,7 +40,7 @@ use Rattle.sq_flow.specs.Flows.{tuples_at, world_of, items_in, taken_in_all}
 use Rattle.sq_flow.specs.Wiring.{net_of, IsOwn}
 use Rattle.sq_core.specs.Meanings.{actors, IsValid}
 use Rattle.sq_core.specs.Table.{IsMeasured}
-use Rattle.sq_core.specs.Seated.{none_fed, IsSeated, AllSeated}
+use Rattle.sq_core.specs.Seated.{IsSeated, AllSeated}
 use Rattle.sq_core.proofs.NetLemmas.{takes-arcs, marks-come, tuples-come, joins-all}
 use Rattle.sq_core.proofs.SumLemmas.{sum-none}
 

@@ -1,13 +1,13 @@
 -- The outputs, then the boxes with their drops, the last first, are an order in which each reads earlier ones.
-use Rattle.std.proofs.Common.{◌≡◌, ◌≢◌, ℕ, zero, suc, ◌+◌, ◌<◌, ◌≤◌, eqb, cond, Bool, true, false, not, ◌||◌, ◌&&◌, List, [], ◌∷◌, ◌++◌, map, length, Option, Some, None, Vec, slice_get, refl, ap, sym, ◌∙◌, subst, arith, append_assoc, append-nil, inl, inr, ◌⊎◌}
+use Rattle.std.proofs.Common.{◌≡◌, ◌≢◌, ℕ, zero, suc, ◌+◌, ◌<◌, ◌≤◌, eqb, cond, Bool, true, false, not, ◌||◌, List, [], ◌∷◌, ◌++◌, map, length, Option, Some, None, Vec, slice_get, refl, ap, sym, ◌∙◌, subst, arith, append_assoc, append-nil, inl, inr, ◌⊎◌}
 use Rattle.std.specs.List.{list_all, AllByRecursion}
 use Rattle.std.specs.declared.alloc.Global.{Global}
 use Rattle.std.proofs.lemmas.Bool.{cases_lt}
 use Rattle.std.proofs.lemmas.Bool.Decides.{nat_tests}
 use Rattle.std.proofs.lemmas.List.Folds.{list_any-append}
 use Rattle.std.proofs.lemmas.Option.{slice_get_within}
-use Rattle.sq_left.proofs.MergeLemmas.{eqb-same, eqb-not}
-use Rattle.sq_graph.specs.Wires.{Producer, Source, Port, producer_of, arcs_of, inputs_of, input_arcs_of, output_arc_at}
+use Rattle.sq_left.proofs.MergeLemmas.{eqb-same}
+use Rattle.sq_graph.specs.Wires.{Producer, Source, Port, producer_of, inputs_of, input_arcs_of, output_arc_at}
 use Rattle.sq_graph.specs.Order.{is_given, contains_number, can_be_next, order_of}
 use Rattle.sq_graph.proofs.Producers.{producer_is}
 use Rattle.sq_graph.proofs.Reach.{and_parts}
@@ -26,7 +26,7 @@ use Rattle.sq_net.proofs.StreamLemmas.{boxes_count}
 use Rattle.sq_points.specs.Points.{points_of}
 use Rattle.sq_model.proofs.OrderLemmas.{order_has}
 use Rattle.sq_below.specs.Standing.{Drop, drop_on_arc}
-use Rattle.sq_below.specs.Actors.{Actor, Sources, Box, Shedder, Shower, giver, from_drop, arc_from}
+use Rattle.sq_below.specs.Actors.{giver, from_drop}
 use Rattle.sq_start.specs.Numbers.{drops_of, first_output, ops_of, number_of, actor_at, place_stream}
 use Rattle.sq_start.proofs.NumberLemmas.{box-at, drop-at, output-at, which}
 use Rattle.sq_start.proofs.PointLemmas.{first-found}

@@ -1,5 +1,5 @@
 -- Where drops stand, and the streams of arcs.
-use Rattle.std.proofs.Common.{◌≡◌, ℕ, ◌<◌, eqb, Bool, true, false, ◌||◌, ◌&&◌, List, ◌++◌, length, map, refl, ap, sym, ◌∙◌, zero-le, arith}
+use Rattle.std.proofs.Common.{◌≡◌, ℕ, ◌<◌, eqb, Bool, true, false, ◌||◌, ◌&&◌, ◌++◌, length, refl, ap, ◌∙◌, zero-le, arith}
 use Rattle.std.specs.Prelude.{slice_index_or}
 use Rattle.std.specs.List.{flat_map}
 use Rattle.std.proofs.lemmas.List.FromFn.{length-map-range_with_len, get_or-map-range_with_len}

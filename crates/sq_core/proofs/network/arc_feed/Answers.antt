@@ -1,4 +1,4 @@
-use Rattle.std.proofs.Common.{◌≡◌, ◌+◌, ◌==◌, ◌∙◌, refl, ap, sym, length}
+use Rattle.std.proofs.Common.{◌+◌, ◌==◌, ◌∙◌, refl, ap, sym, length}
 use Rattle.std.specs.Prelude.{is_some}
 use Rattle.std.specs.List.{list_any}
 use Rattle.sq_graph.specs.Wires.{producer_of}

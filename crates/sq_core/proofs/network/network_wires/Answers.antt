@@ -1,4 +1,4 @@
-use Rattle.std.proofs.Common.{◌≡◌, ◌+◌, ◌≤◌, ◌∙◌, ap, sym, arith, length, map, subst}
+use Rattle.std.proofs.Common.{◌≡◌, ◌+◌, ◌∙◌, ap, sym, arith, length, map, subst}
 use Rattle.std.proofs.lemmas.Result.{IfOk-weaker}
 use Rattle.sq_flow.specs.Wiring.{IsShaped}
 use Rattle.sq_start.specs.Numbers.{first_output}

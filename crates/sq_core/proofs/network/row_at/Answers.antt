@@ -1,9 +1,9 @@
-use Rattle.std.proofs.Common.{◌≡◌, ◌+◌, ◌-◌, ◌<◌, ◌≤◌, ◌∙◌, [], ◌∷◌, ap, sym, refl, arith, length, slice_get}
+use Rattle.std.proofs.Common.{◌≡◌, ◌+◌, ◌-◌, ◌∙◌, [], ◌∷◌, ap, sym, refl, arith, length, slice_get}
 use Rattle.std.proofs.lemmas.Option.{slice_get_read}
 use Rattle.std.proofs.lemmas.Result.{IfOk-weaker}
 use Rattle.sq_graph.specs.Wires.{output_arc_at}
 use Rattle.sq_points.specs.Points.{points_of}
-use Rattle.sq_start.specs.Numbers.{first_output, ops_of}
+use Rattle.sq_start.specs.Numbers.{first_output}
 use Rattle.sq_points.proofs.Bounds.{few_arcs}
 use Rattle.sq_place.proofs.Wires.{outputs-there}
 use Rattle.sq_core.specs.Table.{arc_feed}
