@@ -1,15 +1,21 @@
-// A network of one BSort that has no room, and of an output that shows it.
-ghost use Rattle.std.specs.Prelude.{◌≡◌, [], ◌∷◌, map, length, IfOk};
+// A network of one BSort that has no room, and of an output that shows it; and a drop whose second and third batch fall in an
+// overload.
+ghost use Rattle.std.specs.Prelude.{◌≡◌, ◌/◌, ◌<◌, ◌^◌, [], ◌∷◌, map, length, IfOk};
 ghost use Rattle.std.specs.List.{All};
 ghost use Rattle.sq_value.specs.Values.{IsStream};
 ghost use Rattle.sq_graph.specs.Wires.{arcs_of};
 ghost use Rattle.sq_net.specs.Sound.{HasWindow};
 ghost use Rattle.sq_model.specs.Placed.{IsPlaced};
+ghost use Rattle.sq_model.specs.Given.{IsMeasured, AreTicks};
+ghost use Rattle.sq_model.specs.Shedding.{last_of};
 
 use super::*;
+use crate::drops::{dropped_batches, kept_number};
 use sq_graph::{BoxKind, BoxWires, Wiring};
 use sq_net::{Body, Network, Node, Output, Source};
+use sq_place::{DropAt, DropPoint};
 use sq_qos::Graph;
+use sq_road::Levels;
 use sq_value::{Kind, ListOf, Name, Schema, Tuple, Value};
 use std::alloc::{AllocError, Global};
 use std::test::Fail;
@@ -127,5 +133,58 @@ fn a_sort_without_slack_leaves_out_late_tuples(rt: HostRuntime) -> Result<(), Fa
         (fed.as_slice(), late.as_slice()),
         ([3].as_slice(), [2].as_slice())
     );
+    Ok(())
+}
+
+// Batches of four ticks, of which tuples are kept for three ticks more.
+fn drop_of_four(alloc: Global) -> Result<DropPoint, AllocError>
+    ensures { IfOk result IsMeasured }
+{
+    Ok(DropPoint {
+        at: DropAt::Stream(0),
+        boxes: ListOf::new(vec![in alloc; 0, 1]?),
+        outputs: ListOf::new(vec![in alloc; 0]?),
+        reach: ListOf::new(vec![in alloc; (0, 0), (1, 3), (2, 6)]?),
+        length: 4,
+        keep: 3,
+    })
+}
+
+// Epochs of four ticks; all is dropped in epochs 1 and 2.
+fn overload(alloc: Global) -> Result<Levels, AllocError>
+    ensures all { IfOk result (λ l. 2 ^ 40 / l.epoch < l.closed) }
+    ensures twelve { IfOk result (λ l. 12 / l.epoch < l.closed) }
+{
+    let mut levels = Levels::new(alloc, 4);
+    levels.set(1, vec![in alloc; 1000]?)?;
+    levels.set(2, vec![in alloc; 1000]?)?;
+    levels.skip_to(1_099_511_627_776);
+    Ok(levels)
+}
+
+fn four_ticks(alloc: Global) -> Result<Vec<Tuple>, AllocError>
+    ensures stream { IfOk result (λ v. IsStream v.items) }
+    ensures ticks { IfOk result (λ v. AreTicks v.items) }
+    ensures last { IfOk result (λ v. last_of v.items ≡ 12) }
+{
+    Ok(vec![in alloc;
+        at(alloc, 0, 0)?,
+        at(alloc, 6, 6)?,
+        at(alloc, 7, 7)?,
+        at(alloc, 12, 12)?,
+    ]?)
+}
+
+#[test]
+fn dropped_batches_keep_no_tuple_for_themselves(rt: HostRuntime) -> Result<(), Fail> {
+    let (p, levels) = (drop_of_four(rt.alloc())?, overload(rt.alloc())?);
+    let full = four_ticks(rt.alloc())?;
+    let record = dropped_batches(rt.alloc(), &full, &levels, 0, 0, &p)?;
+    let kept = (
+        kept_number(&full, &levels, 0, 0, &p, 0),
+        kept_number(&full, &levels, 0, 0, &p, 1),
+    );
+    assert_eq!(rt; record.as_slice(), [1, 2].as_slice());
+    assert_eq!(rt; kept, (3, 2));
     Ok(())
 }
