@@ -1,20 +1,20 @@
 // Words that are a command, and a run that is driven. Further runs are cases of the top call, kept as data beside a program that
 // runs them.
-ghost use Rattle.std.specs.Prelude.{◌≡◌, ◌≤◌, ◌<◌, [], IfOk, Option, map};
+ghost use Rattle.std.specs.Prelude.{◌≡◌, ◌<◌, IfOk, OnOk, Option, length};
 ghost use Rattle.std.specs.List.{AllByRecursion};
 ghost use Rattle.sq_outside.specs.Disks.{Pages};
 ghost use Rattle.sq_queue.specs.Faces.{Together};
 ghost use Rattle.sq_core.specs.Runs.{IsSoundEngine};
-ghost use Rattle.sq_net.specs.Sound.{IsSound};
-ghost use Rattle.sq_points.specs.Limits.{KeepsDropLimits};
+ghost use Rattle.sq_flow.specs.Flows.{measure_of};
 ghost use Rattle.sq_top.specs.Driving.{IsEventAt};
-ghost use Rattle.sq_top.specs.Recorded.{AreRecorded};
 
 use super::*;
 use crate::driving::show_events;
 use crate::reading::prepare;
 use crate::running::start;
 use sq_core::Engine;
+use sq_flow::RunErr;
+use sq_oper::Event;
 use sq_outside::{MemDisk, MemFolder, MemSink};
 use sq_sched::Policy;
 use std::alloc::AllocError;
@@ -91,8 +91,37 @@ fn begun(alloc: Global, options: &[&str]) -> Result<(Engine, Policy), Fail>
 {
     let words = words_of(alloc, options)?;
     let mut folder = folder(alloc)?;
-    let accepted = prepare(alloc, &words, &mut folder).ok().ok_or("refused")?;
-    Ok(start(alloc, accepted).ok().ok_or("no memory")?)
+    match prepare(alloc, &words, &mut folder) {
+        Ok(accepted) => match start(alloc, accepted) {
+            Ok(started) => Ok(started),
+            Err(_) => Err(Fail::from("no memory")),
+        },
+        Err(_) => Err(Fail::from("refused")),
+    }
+}
+
+// Up to a train of steps of the actor that a policy picks.
+fn step_picked<D: PageDisk, L: Ledger>(
+    engine: &mut Engine,
+    policy: &mut Policy,
+    disk: &mut D,
+    events: &mut Vec<Event>,
+    steps: &mut Steps<L>,
+) -> Result<(), RunErr>
+    requires sound { IsSoundEngine engine.old }
+    requires together { Together engine.old.engine.flow.queues (D.pages disk.old) }
+    requires runs { 0 < length engine.old.engine.ready.list }
+    requires shown { AllByRecursion (IsEventAt engine.old.network) events.old.items }
+    ensures sound { OnOk result (IsSoundEngine engine.new) }
+    ensures together { OnOk result (Together engine.new.engine.flow.queues (D.pages disk.new)) }
+    ensures falls { OnOk result (measure_of engine.new.engine.flow < measure_of engine.old.engine.flow) }
+    ensures shown { OnOk result (AllByRecursion (IsEventAt engine.new.network) events.new.items) }
+{
+    let pick = policy.next(engine.ready(), engine.waits());
+    match engine.step(pick, disk, events, steps) {
+        Ok(_) => Ok(()),
+        Err(e) => Err(e),
+    }
 }
 
 // The lines of what an engine shows that is stepped by the picks of a policy.
@@ -112,9 +141,9 @@ fn stepped<D: PageDisk, L: Ledger>(
     let mut steps = Steps::<L>::open(blank);
     let mut events = Vec::new(alloc);
     'steps: while !engine.ended() {
-        let pick = policy.next(engine.ready(), engine.waits());
-        if engine.step(pick, disk, &mut events, &mut steps).is_err() {
-            return Err(Status::Memory);
+        match step_picked(&mut engine, &mut policy, disk, &mut events, &mut steps) {
+            Ok(()) => {}
+            Err(_) => return Err(Status::Memory),
         }
     }
     let mut text = Vec::new(alloc);
