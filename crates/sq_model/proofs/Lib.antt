@@ -1,4 +1,5 @@
 pub mod Rows
+mod ShedRows
 pub mod BoxRows
 pub mod OrderLemmas
 pub mod StreamLemmas
@@ -13,3 +14,10 @@ pub mod Alls
 pub mod PortLow
 pub mod BoxTypes
 pub mod StreamTypes
+pub mod ArcCounts
+pub mod BatchLemmas
+pub mod EpochLemmas
+pub mod FirstLemmas
+pub mod ShedLemmas
+pub mod WorkLemmas
+pub mod MeasuredLemmas

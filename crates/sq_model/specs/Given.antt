@@ -1,9 +1,9 @@
 -- What is dropped, shown and kept, where the drop points and the levels are given.
 --     drops_at table seed w p b     batch b of drop w is dropped at the levels of a table
 --     record_by, needed_by          the record, and the bounds of what is needed, at these levels
-use Rattle.std.specs.Prelude.{◌≡◌, ℕ, ◌+◌, ◌-◌, ◌*◌, ◌/◌, ◌≤◌, ◌<◌, ◌^◌, Bool, not, nat_lt, List, length, slice_index, Option, Some, None, slice_get}
+use Rattle.std.specs.Prelude.{◌≡◌, ℕ, ◌+◌, ◌-◌, ◌*◌, ◌/◌, ◌≤◌, ◌<◌, ◌^◌, ◌==◌, Bool, not, nat_lt, List, map, length, slice_index, Option, Some, None, slice_get}
 use Rattle.std.specs.Option.{option_map}
-use Rattle.std.specs.List.{filter, AllByRecursion}
+use Rattle.std.specs.List.{filter, count_by, AllByRecursion}
 use Rattle.sq_value.specs.declared.Tuple.{Tuple}
 use Rattle.sq_value.specs.Lists.{numbers_to, max_by}
 use Rattle.sq_graph.specs.Order.{contains_number}
@@ -15,8 +15,8 @@ use Rattle.sq_place.specs.Points.{until_of}
 use Rattle.sq_place.specs.declared.DropAt.{DropAt}
 use Rattle.sq_place.specs.declared.DropAt.TheVariants as at
 use Rattle.sq_net.specs.declared.Network.{Network}
-use Rattle.sq_model.specs.Full.{full_stream, full_arc}
 use Rattle.sq_model.specs.Shedding.{Replay, touched_by}
+use Rattle.sq_model.specs.Kept.{distance_of}
 use Rattle.sq_model.specs.Shedding as shed
 
 abbrev pub drops_at : LevelTable → ℕ → ℕ → DropPoint → ℕ → Bool
@@ -62,18 +62,20 @@ pub record LevelsAre (table : LevelTable) (r : Replay) : Type 0 where
   pub epoch : table.epoch ≡ r.network.epoch
   pub agrees : Agrees table (shed.level_of r)
 
--- what is replayed: a network, its recorded streams and the seed, with any capacities
-pub record IsReplayOf (r : Replay) (n : Network) (streams : List (List Tuple)) (number : ℕ) : Type 0 where
-  pub network : r.network ≡ n
-  pub recorded : r.sources ≡ streams
-  pub seed : r.seed ≡ number
-
--- the full stream at a place
-abbrev pub place_full : Network → List (List Tuple) → DropAt → List Tuple
-place_full n sources (at.Stream s) = full_stream n sources s
-place_full n sources (at.Arc a) = full_arc n sources a
-
 -- the first drop that passes a test, by its number
 abbrev pub found_at : Option ℕ → List DropPoint → Option (ℕ × DropPoint)
 found_at None ps = None
 found_at (Some w) ps = option_map (λ p. (w, p)) (slice_get ps w)
+
+-- the tuples of an arc that some permitted batch may need, where these are all and the drop above the arc is one of these
+abbrev pub kept_for : LevelTable → ℕ → Option (ℕ × DropPoint) → ℕ → List Tuple → List Tuple
+kept_for table seed None a xs = xs
+kept_for table seed (Some d) a xs = kept_by table seed d.0 d.1 (distance_of d.1 a) xs
+
+-- how many tuples of each source arrive in an epoch of this length
+abbrev pub counted : ℕ → List (List Tuple) → ℕ → List ℕ
+counted epoch sources e = map (count_by (λ x. x.time / epoch == e)) sources
+
+-- a million at most
+abbrev pub AreFew : List (List Tuple) → Type 0
+AreFew sources = AllByRecursion (λ xs. length xs ≤ 1000000) sources

@@ -9,3 +9,5 @@ pub mod Shedding
 pub mod Kept
 pub mod Shown
 pub mod Given
+pub mod Known
+pub mod Epochs

@@ -14,7 +14,7 @@ use sq_value::Tuple;
 use std::alloc::{AllocError, Global};
 
 // The streams of all arcs: those that the boxes take, then those that the outputs show.
-fn streams_on_arcs(alloc: Global, w: &Wiring) -> Result<Vec<u32>, AllocError>
+pub(crate) fn streams_on_arcs(alloc: Global, w: &Wiring) -> Result<Vec<u32>, AllocError>
     ensures { IfOk result (λ v. v.items ≡ map (λ a. a.stream) (arcs_of w.now)) }
 {
     let mut streams = Vec::new(alloc);
@@ -25,7 +25,7 @@ fn streams_on_arcs(alloc: Global, w: &Wiring) -> Result<Vec<u32>, AllocError>
     Ok(streams)
 }
 
-fn copies(alloc: Global, streams: &[Vec<Tuple>]) -> Result<Vec<Vec<Tuple>>, AllocError>
+pub(crate) fn copies(alloc: Global, streams: &[Vec<Tuple>]) -> Result<Vec<Vec<Tuple>>, AllocError>
     ensures { IfOk result (λ v. map (λ t. t.items) v.items ≡ map (λ t. t.items) streams.now) }
 {
     let mut all = Vec::new(alloc);

@@ -1,26 +1,32 @@
-//! The full answer of a network: what its boxes give on whole streams. It is plain and slow, for runs that need no
-//! engine, for audits and for tests.
+//! The full answer of a network, and what is dropped, shown and fed where load is shed. It is plain and slow, for runs
+//! that need no engine, for audits and for tests.
 //!
 //! The full stream of a source is its recorded tuples, and that of a port is what its box gives for the full streams
 //! that it takes. The contracts promise exactly these lists, how many tuples each box is fed and how many of them come too
-//! late for a BSort, want of memory aside; that the streams are determined by one another alone is the law of
-//! `full_streams_follow`, and that their tuples fit their columns that of `full_streams_fit`. Below stand the boxes as
-//! functions of whole lists, the order of boxes, and the typed network.
+//! late for a BSort; and of a replay with capacities and a seed exactly the batches that each drop records, the answers
+//! without them, and the tuples that are still needed, want of memory aside. Below stand the boxes as functions of whole
+//! lists, the typed network, its drop points and the planner. Dropping whole windows early is after window-aware load
+//! shedding (N. Tatbul and S. Zdonik, VLDB 2006); the rules are this project's own.
 #![tactic(auto)]
 
+mod answers;
 mod arcs;
 mod boxes;
+mod drops;
+mod epochs;
+mod known;
 mod laws;
+mod numbers;
 mod streams;
 #[cfg(test)]
 mod tests;
-mod work;
 
+pub use answers::{answer, dropped, work};
 pub use arcs::full;
 pub use boxes::stream_in;
 pub use laws::{
     full_streams_are_streams, full_streams_fit, full_streams_follow, late_tuples_are_the_rest,
     sound_is_placed,
 };
+pub use numbers::{fed, late};
 pub use streams::full_streams;
-pub use work::{fed, late};

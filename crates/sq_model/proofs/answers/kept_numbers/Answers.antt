@@ -1,0 +1,20 @@
+use Rattle.std.proofs.Common.{◌∙◌, ◌++◌, ◌∷◌, [], length, map, ap, sym, length-append, arith, ℕ, List}
+use Rattle.sq_value.specs.Lists.{numbers_to}
+use Rattle.sq_model.specs.Kept.{kept_of}
+use Rattle.sq_model.proofs.BatchLemmas.{map_more}
+use Rattle.sq_model.proofs.answers.kept_numbers.Goals as goal
+
+pub loop-arc-preserved : goal.loop-arc-preserved
+loop-arc-preserved c =
+    let pushed = c.in_ok-push.ensures.items in
+    let longer = ap (λ (xs : List ℕ). length xs) pushed in
+    let count = length-append c.loop-arc.all.items (c.in_ok-kept_in.field-0 ∷ []) in
+    let many = c.loop-arc.invariant.many in
+    record {
+      kept = λ r known.
+          pushed
+          ∙ ap (λ xs. xs ++ c.in_ok-kept_in.field-0 ∷ []) (c.loop-arc.invariant.kept r known)
+          ∙ ap (λ z. map (λ a. length (kept_of r a)) (numbers_to c.loop-arc.arc) ++ z ∷ []) (c.in_ok-kept_in.ensures r known)
+          ∙ sym (map_more (λ a. length (kept_of r a)) c.loop-arc.arc);
+      many = omega (arith, longer, count, many);
+    }

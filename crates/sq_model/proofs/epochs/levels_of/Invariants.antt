@@ -1,0 +1,17 @@
+use Rattle.std.proofs.Common.{◌≡◌, ◌+◌, ◌-◌, ◌≤◌, ◌^◌, map}
+use Rattle.sq_plan.specs.Shown.{level_for}
+use Rattle.sq_road.specs.Levels.{Agrees}
+use Rattle.sq_model.specs.Given.{counted}
+use Rattle.sq_model.proofs.epochs.levels_of.Given as goal
+
+abbrev pub invariant-loop-ended : goal.invariant-loop-ended
+invariant-loop-ended l = record {
+  closed : l.levels.closed ≡ l.ended + 1;
+  epoch : l.levels.epoch ≡ l.epoch;
+  low : l.ended ≤ 2 ^ 40;
+  same : l.planner ≡ l.fn.planner;
+  agrees : Agrees l.levels (level_for l.fn.planner (counted l.epoch (map (λ t. t.items) l.sources)));
+}
+
+abbrev pub decreases-loop-ended : goal.decreases-loop-ended
+decreases-loop-ended l = 2 ^ 40 - l.ended

@@ -1,7 +1,0 @@
-use Rattle.std.proofs.Common.{◌≡◌, map}
-use Rattle.sq_value.specs.Lists.{numbers_to}
-use Rattle.sq_model.specs.Fed.{fed_from}
-use Rattle.sq_model.proofs.work.fed.Given as goal
-
-abbrev pub invariant-loop-wires : goal.invariant-loop-wires
-invariant-loop-wires l = l.all.items ≡ map (fed_from l.n (map (λ t. t.items) l.streams)) (numbers_to l.wires-index)

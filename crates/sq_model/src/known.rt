@@ -1,0 +1,112 @@
+// What is worked out of a replay once.
+ghost use Rattle.std.specs.Prelude.{◌≡◌, ℕ, ◌/◌, ◌<◌, ◌^◌, map, length, IfOk};
+ghost use Rattle.std.specs.List.{All, AllByRecursion};
+ghost use Rattle.sq_value.specs.Values.{IsStream};
+ghost use Rattle.sq_net.specs.Sound.{IsSound};
+ghost use Rattle.sq_points.specs.Limits.{KeepsDropLimits};
+ghost use Rattle.sq_points.specs.Points.{points_of};
+ghost use Rattle.sq_model.specs.Shedding.{Replay};
+ghost use Rattle.sq_model.specs.Given.{AreFew, LevelsAre};
+ghost use Rattle.sq_model.specs.Known.{arc_in, place_in, streams_in, IsSafe, IsKnown};
+
+use crate::arcs::{copies, streams_on_arcs};
+use crate::boxes::stream_in;
+use crate::epochs::levels_of;
+use crate::streams::full_streams;
+use sq_net::Network;
+use sq_place::{DropAt, DropPoint, PlaceErr};
+use sq_plan::Capacities;
+use sq_points::{network_planner, network_points};
+use sq_road::Levels;
+use sq_value::Tuple;
+use std::alloc::{AllocError, Global};
+
+/// The full streams of a replay, the stream of each arc, the drop points, the levels and the seed.
+#[derive(Drop)]
+pub(crate) struct Known {
+    pub(crate) streams: Vec<Vec<Tuple>>,
+    pub(crate) arcs: Vec<u32>,
+    pub(crate) points: Vec<DropPoint>,
+    pub(crate) levels: Levels,
+    pub(crate) seed: u64,
+}
+
+fn points_in(alloc: Global, n: &Network) -> Result<Vec<DropPoint>, AllocError>
+    requires sound { IsSound n.now }
+    requires limits { KeepsDropLimits n.now }
+    ensures { IfOk result (λ v. v.items ≡ points_of n.now) }
+{
+    match network_points(alloc, n) {
+        Ok(points) => Ok(points),
+        Err(PlaceErr::Memory) => Err(AllocError),
+        Err(PlaceErr::LongBatch { .. }) => unreachable!(),
+        Err(PlaceErr::WideExtent { .. }) => unreachable!(),
+    }
+}
+
+fn levels_in(
+    alloc: Global,
+    n: &Network,
+    sources: &[Vec<Tuple>],
+    points: &Vec<DropPoint>,
+    c: &Capacities,
+) -> Result<Levels, AllocError>
+    requires sound { IsSound n.now }
+    requires points { points.now.items ≡ points_of n.now }
+    requires few { AreFew (map (λ t. t.items) sources.now) }
+    ensures closed { IfOk result (λ l. 2 ^ 40 / l.epoch < l.closed) }
+    ensures levels { IfOk result (λ l. (seed : ℕ) → LevelsAre l (record { network = n.now; sources = map (λ t. t.items) sources.now; entries = c.now; seed = seed })) }
+{
+    let mut planner = network_planner(alloc, n, points, c)?;
+    let levels = levels_of(alloc, &mut planner, sources, n.epoch)?;
+    Ok(levels)
+}
+
+/// What is known of a replay of these.
+pub(crate) fn known_of(
+    alloc: Global,
+    n: &Network,
+    sources: &[Vec<Tuple>],
+    c: &Capacities,
+    seed: u64,
+) -> Result<Known, AllocError>
+    requires sound { IsSound n.now }
+    requires limits { KeepsDropLimits n.now }
+    requires lists { length sources.now ≡ length n.now.sources }
+    requires streams { All IsStream (map (λ t. t.items) sources.now) }
+    requires few { AreFew (map (λ t. t.items) sources.now) }
+    ensures safe { IfOk result IsSafe }
+    ensures known { IfOk result (λ k. IsKnown k (record { network = n.now; sources = map (λ t. t.items) sources.now; entries = c.now; seed = seed })) }
+{
+    let points = points_in(alloc, n)?;
+    let levels = levels_in(alloc, n, sources, &points, c)?;
+    Ok(Known {
+        streams: full_streams(alloc, n, copies(alloc, sources)?)?,
+        arcs: streams_on_arcs(alloc, &n.wires)?,
+        points,
+        levels,
+        seed,
+    })
+}
+
+impl Known {
+    /// The full stream of an arc.
+    pub(crate) fn at_arc(&self, arc: u32) -> &[Tuple]
+        ensures { result.now ≡ arc_in self.now arc }
+    {
+        match self.arcs.get(arc as usize) {
+            Some(stream) => stream_in(&self.streams, *stream),
+            None => &[],
+        }
+    }
+
+    /// The full stream at a place.
+    pub(crate) fn at_place(&self, at: DropAt) -> &[Tuple]
+        ensures { result.now ≡ place_in self.now at }
+    {
+        match at {
+            DropAt::Stream(stream) => stream_in(&self.streams, stream),
+            DropAt::Arc(arc) => self.at_arc(arc),
+        }
+    }
+}
