@@ -1,0 +1,97 @@
+// What a run is over, as the readers of its files say.
+ghost use Rattle.std.specs.Prelude.{true, ◌≡◌, ◌≤◌, IfSome, length, map};
+ghost use Rattle.sq_net.specs.Sound.{IsSound, source_within};
+ghost use Rattle.sq_points.specs.Limits.{KeepsDropLimits};
+ghost use Rattle.sq_replay.specs.Laws.{ReadsStreams};
+ghost use Rattle.sq_top.specs.Recorded.{AreRecorded};
+
+use crate::case::Case;
+use sq_net::{Network, Source};
+use sq_outside::{Folder, MemFolder};
+use sq_plan::Capacities;
+use sq_reader::read_network;
+use sq_replay::{read_capacities, read_stream};
+use sq_top::{Command, read_words};
+use sq_value::{Name, Tuple};
+use std::alloc::Global;
+
+/// No file of a run that ends well is longer.
+const MOST: u64 = 67_108_864;
+
+/// A network, its recorded streams, the capacities and the seed.
+#[derive(Drop)]
+pub struct Given {
+    pub network: Network,
+    pub sources: Vec<Vec<Tuple>>,
+    pub capacities: Capacities,
+    pub seed: u64,
+}
+
+fn bytes_of(alloc: Global, folder: &mut MemFolder, name: &Name) -> Option<Vec<u8>>
+    ensures { IfSome result (λ v. length v.items ≤ 67108864) }
+{
+    folder.read_whole(alloc, name.as_str(), MOST).ok()
+}
+
+fn network_of(alloc: Global, folder: &mut MemFolder, name: &Name) -> Option<Network>
+    ensures sound { IfSome result IsSound }
+    ensures limits { IfSome result KeepsDropLimits }
+{
+    let bytes = bytes_of(alloc, folder, name)?;
+    read_network(alloc, bytes.as_slice()).ok()
+}
+
+fn capacities_of(
+    alloc: Global,
+    folder: &mut MemFolder,
+    name: &Option<Name>,
+) -> Option<Capacities> {
+    let Some(name) = name else {
+        return Some(Capacities::new(Vec::new(alloc)));
+    };
+    let bytes = bytes_of(alloc, folder, name)?;
+    read_capacities(alloc, bytes.as_slice()).ok()
+}
+
+fn source_of(alloc: Global, folder: &mut MemFolder, source: &Source) -> Option<Vec<Tuple>>
+    requires { source_within source.now ≡ true }
+    ensures { IfSome result (λ v. ReadsStreams source.now.schema v.items) }
+{
+    let bytes = bytes_of(alloc, folder, &source.file)?;
+    read_stream(alloc, bytes.as_slice(), &source.schema).ok()
+}
+
+fn sources_of(
+    alloc: Global,
+    folder: &mut MemFolder,
+    network: &Network,
+) -> Option<Vec<Vec<Tuple>>>
+    requires { IsSound network.now }
+    ensures { IfSome result (λ v. AreRecorded network.now.sources (map (λ xs. xs.items) v.items)) }
+{
+    let mut sources = Vec::new(alloc);
+    for source in network.sources.as_slice() {
+        let tuples = source_of(alloc, folder, source)?;
+        sources.push(tuples).ok()?;
+    }
+    Some(sources)
+}
+
+/// What the run of a case is over, where its words and files are accepted.
+pub fn given_by(alloc: Global, case: Case) -> Option<Given>
+    ensures sound { IfSome result (λ g. IsSound g.network) }
+    ensures limits { IfSome result (λ g. KeepsDropLimits g.network) }
+    ensures recorded { IfSome result (λ g. AreRecorded g.network.sources (map (λ xs. xs.items) g.sources.items)) }
+{
+    let Command::Run(args) = read_words(alloc, &case.words).ok()?;
+    let mut folder = MemFolder::new(case.files, Vec::new(alloc));
+    let network = network_of(alloc, &mut folder, &args.net)?;
+    let capacities = capacities_of(alloc, &mut folder, &args.capacities)?;
+    let sources = sources_of(alloc, &mut folder, &network)?;
+    Some(Given {
+        network,
+        sources,
+        capacities,
+        seed: args.seed,
+    })
+}
