@@ -22,6 +22,11 @@ pub fn is_of_class(line: &str, class: &str) -> bool {
     }
 }
 
+/// How many lines a class has.
+pub fn count_of(text: &str, class: &str) -> usize {
+    text.lines().filter(|line| is_of_class(line, class)).count()
+}
+
 /// The lines of a class.
 fn lines_of(alloc: Global, text: &str, class: &str) -> Result<String, AllocError> {
     let mut lines = String::new(alloc);
@@ -132,7 +137,7 @@ fn compare_drops(rt: &HostRuntime, given: &Given, text: &str) -> Result<(), Erro
     for w in 0..points.len() as u32 {
         batches = batches.saturating_add(compare_drop(rt, given, text, w)?);
     }
-    if text.lines().filter(|line| is_of_class(line, "@drop")).count() != batches {
+    if count_of(text, "@drop") != batches {
         println!(rt; "differs from the model: @drop")?;
     }
     Ok(())

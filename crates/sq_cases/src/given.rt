@@ -41,11 +41,7 @@ fn network_of(alloc: Global, folder: &mut MemFolder, name: &Name) -> Option<Netw
     read_network(alloc, bytes.as_slice()).ok()
 }
 
-fn capacities_of(
-    alloc: Global,
-    folder: &mut MemFolder,
-    name: &Option<Name>,
-) -> Option<Capacities> {
+fn capacities_of(alloc: Global, folder: &mut MemFolder, name: &Option<Name>) -> Option<Capacities> {
     let Some(name) = name else {
         return Some(Capacities::new(Vec::new(alloc)));
     };
@@ -61,11 +57,7 @@ fn source_of(alloc: Global, folder: &mut MemFolder, source: &Source) -> Option<V
     read_stream(alloc, bytes.as_slice(), &source.schema).ok()
 }
 
-fn sources_of(
-    alloc: Global,
-    folder: &mut MemFolder,
-    network: &Network,
-) -> Option<Vec<Vec<Tuple>>>
+fn sources_of(alloc: Global, folder: &mut MemFolder, network: &Network) -> Option<Vec<Vec<Tuple>>>
     requires { IsSound network.now }
     ensures { IfSome result (λ v. AreRecorded network.now.sources (map (λ xs. xs.items) v.items)) }
 {

@@ -7,11 +7,11 @@
 //! that differs is shown, and at the end how many runs were compared.
 //!
 //! A case begins with a line `= TITLE`. Settings follow, if any, as `words: run,a.toml`, `folder fails: 0,2`,
-//! `out fails: 9`, `err fails: 0`, `takes: 1` (how many bytes a call of a sink takes) and `classes: @plan,o` (the lines
+//! `out fails: 9`, `err fails: 0`, `takes: 1` (how many bytes a call of a sink takes), `classes: @plan,o` (the lines
 //! with these first fields are shown class by class and then all others, where the order of the classes isn't fixed) and
-//! `shows: counts` (of these classes only the number of lines is shown); then files, each `- NAME` and its lines; then rows, each `| ROW`, and each a run with the row in place of `$`. A line that
-//! ends in `\` has no end of line, `\n` and `\r` are ends of lines, and `~COUNT TEXT~` is so many copies, with the number of
-//! each in place of `#`.
+//! `shows: counts` (of each of these classes only how many lines it has); then files, each `- NAME` and its lines; then
+//! rows, each `| ROW`, and each a run with the row in place of `$`. A line that ends in `\` has no end of line, `\n` and
+//! `\r` are ends of lines, and `~COUNT TEXT~` is so many copies, with the number of each in place of `#`.
 #![tactic(auto)]
 
 mod beside;

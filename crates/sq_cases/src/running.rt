@@ -1,7 +1,7 @@
 // The runs of cases, and what is shown of them.
 ghost use Rattle.std.specs.Prelude.{◌≡◌, ◌<◌};
 
-use crate::beside::{compare, is_of_class};
+use crate::beside::{compare, count_of, is_of_class};
 use crate::case::Case;
 use anyhow::Error;
 use sq_outside::{MemDisk, MemFolder, MemSink, Steps};
@@ -77,8 +77,7 @@ fn show_class(rt: &HostRuntime, text: &str, class: &str) -> io::Result<()> {
 
 /// Shows how many lines a class has.
 fn show_count(rt: &HostRuntime, text: &str, class: &str) -> io::Result<()> {
-    let lines = text.lines().filter(|line| is_of_class(line, class)).count();
-    println!(rt; "{class}: {lines}")
+    println!(rt; "{class}: {}", count_of(text, class))
 }
 
 /// Shows the lines of all classes but these.
