@@ -38,7 +38,10 @@ fn network_of(alloc: Global, folder: &mut MemFolder, name: &Name) -> Option<Netw
     ensures limits { IfSome result KeepsDropLimits }
 {
     let bytes = bytes_of(alloc, folder, name)?;
-    read_network(alloc, bytes.as_slice()).ok()
+    match read_network(alloc, bytes.as_slice()) {
+        Ok(network) => Some(network),
+        Err(_) => None,
+    }
 }
 
 fn capacities_of(alloc: Global, folder: &mut MemFolder, name: &Option<Name>) -> Option<Capacities> {
@@ -49,24 +52,37 @@ fn capacities_of(alloc: Global, folder: &mut MemFolder, name: &Option<Name>) -> 
     read_capacities(alloc, bytes.as_slice()).ok()
 }
 
+fn tuples_in(alloc: Global, bytes: &[u8], source: &Source) -> Option<Vec<Tuple>>
+    requires few { length bytes.now ≤ 67108864 }
+    requires within { source_within source.now ≡ true }
+    ensures { IfSome result (λ v. ReadsStreams source.now.schema v.items) }
+{
+    match read_stream(alloc, bytes, &source.schema) {
+        Ok(tuples) => Some(tuples),
+        Err(_) => None,
+    }
+}
+
 fn source_of(alloc: Global, folder: &mut MemFolder, source: &Source) -> Option<Vec<Tuple>>
-    requires { source_within source.now ≡ true }
+    requires within { source_within source.now ≡ true }
     ensures { IfSome result (λ v. ReadsStreams source.now.schema v.items) }
 {
     let bytes = bytes_of(alloc, folder, &source.file)?;
-    read_stream(alloc, bytes.as_slice(), &source.schema).ok()
+    tuples_in(alloc, bytes.as_slice(), source)
 }
 
 fn sources_of(alloc: Global, folder: &mut MemFolder, network: &Network) -> Option<Vec<Vec<Tuple>>>
     requires { IsSound network.now }
     ensures { IfSome result (λ v. AreRecorded network.now.sources (map (λ xs. xs.items) v.items)) }
 {
-    let mut sources = Vec::new(alloc);
-    for source in network.sources.as_slice() {
-        let tuples = source_of(alloc, folder, source)?;
-        sources.push(tuples).ok()?;
+    let mut streams = Vec::new(alloc);
+    'sources: for source in network.sources.as_slice() {
+        match source_of(alloc, folder, source) {
+            Some(stream) => streams.push(stream).ok()?,
+            None => return None,
+        }
     }
-    Some(sources)
+    Some(streams)
 }
 
 /// What the run of a case is over, where its words and files are accepted.
