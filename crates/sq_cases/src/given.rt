@@ -78,7 +78,10 @@ fn sources_of(alloc: Global, folder: &mut MemFolder, network: &Network) -> Optio
     let mut streams = Vec::new(alloc);
     'sources: for source in network.sources.as_slice() {
         match source_of(alloc, folder, source) {
-            Some(stream) => streams.push(stream).ok()?,
+            Some(stream) => match streams.push(stream) {
+                Ok(()) => {}
+                Err(_) => return None,
+            },
             None => return None,
         }
     }
