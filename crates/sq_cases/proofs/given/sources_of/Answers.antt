@@ -1,5 +1,5 @@
 use Rattle.std.proofs.Common.{map, [], ◌∷◌, ◌∙◌, ap}
-use Rattle.std.proofs.lemmas.List.{map-append, take_all}
+use Rattle.std.proofs.lemmas.List.{map-append}
 use Rattle.sq_top.proofs.SourceLemmas.{recorded_more}
 use Rattle.sq_cases.proofs.given.sources_of.Goals as goal
 
