@@ -14,6 +14,8 @@ pub struct Case {
     pub takes: usize,
     /// The first fields whose lines are shown by class, where the order of classes isn't fixed.
     pub classes: Vec<String>,
+    /// Whether of these classes only the number of lines is shown.
+    pub counts: bool,
 }
 
 impl Case {
@@ -27,6 +29,7 @@ impl Case {
             err_fails: Vec::new(alloc),
             takes: 4096,
             classes: Vec::new(alloc),
+            counts: false,
         })
     }
 
@@ -38,6 +41,7 @@ impl Case {
             "out fails" => self.out_fails = numbers_of(alloc, value)?,
             "err fails" => self.err_fails = numbers_of(alloc, value)?,
             "classes" => self.classes = items_of(alloc, value)?,
+            "shows" => self.counts = value == "counts",
             "takes" => self.takes = value.parse::<usize>().unwrap_or(1).max(1),
             _ => {}
         }

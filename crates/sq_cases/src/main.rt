@@ -2,17 +2,21 @@
 //!
 //! The program promises nothing of its own. For each case of the files that its words name it runs `run_words` of
 //! `sq_top` over objects in memory, and prints the number of the status, what was written and what was told. The stored
-//! run compares that with what was worked out by hand.
+//! run compares that with what was worked out by hand. Where a run ended well, its lines are also compared with what the
+//! slow definitions of `sq_model` give for the same files: each output with its answer, each drop with its record. A class
+//! that differs is shown, and at the end how many runs were compared.
 //!
 //! A case begins with a line `= TITLE`. Settings follow, if any, as `words: run,a.toml`, `folder fails: 0,2`,
-//! `out fails: 9`, `err fails: 0`, `takes: 1` (how many bytes a call of a sink takes) and `classes: @plan,o` (the lines
-//! with these first fields are shown class by class and then all others, where the order of the classes isn't fixed); then
-//! files, each `- NAME` and its lines; then rows, each `| ROW`, and each a run with the row in place of `$`. A line that
-//! ends in `\` has no end of line, `\n` and `\r` are ends of lines, and `~COUNT TEXT~` is so many copies, with the number of
-//! each in place of `#`.
+//! `out fails: 9`, `err fails: 0`, `takes: 1` (how many bytes a call of a sink takes), `classes: @plan,o` (the lines
+//! with these first fields are shown class by class and then all others, where the order of the classes isn't fixed) and
+//! `shows: counts` (of each of these classes only how many lines it has); then files, each `- NAME` and its lines; then
+//! rows, each `| ROW`, and each a run with the row in place of `$`. A line that ends in `\` has no end of line, `\n` and
+//! `\r` are ends of lines, and `~COUNT TEXT~` is so many copies, with the number of each in place of `#`.
 #![tactic(auto)]
 
+mod beside;
 mod case;
+mod given;
 mod running;
 mod texts;
 
@@ -22,9 +26,11 @@ use std::alloc::Global;
 use std::{env, fs};
 
 fn main(rt: HostRuntime) -> Result<(), Error> {
+    let mut compared = 0u64;
     for name in env::args(&rt)?.skip(1) {
         let text = fs::read_to_string(&rt, name.as_str())?;
-        show_cases(&rt, text.as_str())?;
+        show_cases(&rt, text.as_str(), &mut compared)?;
     }
+    println!(rt; "{compared} runs compared with the model")?;
     Ok(())
 }

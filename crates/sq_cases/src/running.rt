@@ -1,6 +1,7 @@
 // The runs of cases, and what is shown of them.
 ghost use Rattle.std.specs.Prelude.{◌≡◌, ◌<◌};
 
+use crate::beside::{compare, count_of, is_of_class};
 use crate::case::Case;
 use anyhow::Error;
 use sq_outside::{MemDisk, MemFolder, MemSink, Steps};
@@ -17,6 +18,7 @@ struct Ran {
     out: MemSink,
     err: MemSink,
     classes: Vec<String>,
+    counts: bool,
 }
 
 fn run_over<L: Ledger>(alloc: Global, case: Case, blank: Blank) -> Ran
@@ -43,6 +45,7 @@ fn run_over<L: Ledger>(alloc: Global, case: Case, blank: Blank) -> Ran
         out,
         err,
         classes: case.classes,
+        counts: case.counts,
     }
 }
 
@@ -53,13 +56,6 @@ fn show_text(rt: &HostRuntime, text: &[u8]) -> io::Result<()> {
         print!(rt; "{text}")
     } else {
         println!(rt; "{text}\\")
-    }
-}
-
-fn is_of_class(line: &str, class: &str) -> bool {
-    match line.split_once(',') {
-        Some((first, _)) => first == class,
-        None => line == class,
     }
 }
 
@@ -79,15 +75,13 @@ fn show_class(rt: &HostRuntime, text: &str, class: &str) -> io::Result<()> {
     Ok(())
 }
 
-/// Shows a text class by class, and then the lines of all other classes.
-fn show_classes(rt: &HostRuntime, text: &[u8], classes: &[String]) -> io::Result<()> {
-    if classes.is_empty() {
-        return show_text(rt, text);
-    }
-    let text = str::from_utf8(text).unwrap_or("?");
-    for class in classes {
-        show_class(rt, text, class.as_str())?;
-    }
+/// Shows how many lines a class has.
+fn show_count(rt: &HostRuntime, text: &str, class: &str) -> io::Result<()> {
+    println!(rt; "{class}: {}", count_of(text, class))
+}
+
+/// Shows the lines of all classes but these.
+fn show_others(rt: &HostRuntime, text: &str, classes: &[String]) -> io::Result<()> {
     for line in text.lines() {
         if !is_of_any(line, classes) {
             println!(rt; "{line}")?;
@@ -96,12 +90,34 @@ fn show_classes(rt: &HostRuntime, text: &[u8], classes: &[String]) -> io::Result
     Ok(())
 }
 
-fn show_run(rt: &HostRuntime, text: &str) -> Result<(), Error> {
+/// Shows what a run wrote: class by class where classes are named, and then the lines of all others.
+fn show_out(rt: &HostRuntime, ran: &Ran) -> io::Result<()> {
+    if ran.classes.is_empty() {
+        return show_text(rt, ran.out.bytes());
+    }
+    let text = str::from_utf8(ran.out.bytes()).unwrap_or("?");
+    for class in &ran.classes {
+        if ran.counts {
+            show_count(rt, text, class.as_str())?;
+        } else {
+            show_class(rt, text, class.as_str())?;
+        }
+    }
+    show_others(rt, text, ran.classes.as_slice())
+}
+
+/// Shows a run, and where it differs from the slow definitions. Counts it where it is compared: where it ends well.
+fn show_run(rt: &HostRuntime, text: &str, compared: &mut u64) -> Result<(), Error> {
     let case = Case::read(rt.alloc(), text)?;
     let ran = run_over::<Brand>(rt.alloc(), case, Blank::new(1));
     println!(rt; "{}", ran.code)?;
-    show_classes(rt, ran.out.bytes(), ran.classes.as_slice())?;
+    show_out(rt, &ran)?;
     show_text(rt, ran.err.bytes())?;
+    if ran.code == 0 {
+        let case = Case::read(rt.alloc(), text)?;
+        compare(rt, case, str::from_utf8(ran.out.bytes()).unwrap_or("?"))?;
+        *compared = compared.saturating_add(1);
+    }
     Ok(())
 }
 
@@ -122,23 +138,24 @@ fn parts_of(alloc: Global, case: &str) -> Result<(String, Vec<String>), AllocErr
 }
 
 /// Shows a case: its title, and a run for each row, which stands for `$`. Without rows it is one run.
-fn show_case(rt: &HostRuntime, case: &str) -> Result<(), Error> {
+fn show_case(rt: &HostRuntime, case: &str, compared: &mut u64) -> Result<(), Error> {
     let (text, rows) = parts_of(rt.alloc(), case)?;
     println!(rt; "= {}", text.lines().next().unwrap_or(""))?;
     if rows.is_empty() {
-        return show_run(rt, text.as_str());
+        return show_run(rt, text.as_str(), compared);
     }
     for row in rows.iter() {
         println!(rt; "| {row}")?;
-        show_run(rt, text.replace(rt.alloc(), '$', row.as_str())?.as_str())?;
+        let text = text.replace(rt.alloc(), '$', row.as_str())?;
+        show_run(rt, text.as_str(), compared)?;
     }
     Ok(())
 }
 
-/// Shows each case of a file: what follows each line that begins with `= `.
-pub fn show_cases(rt: &HostRuntime, text: &str) -> Result<(), Error> {
+/// Shows each case of a file: what follows each line that begins with `= `. Adds the runs that were compared.
+pub fn show_cases(rt: &HostRuntime, text: &str, compared: &mut u64) -> Result<(), Error> {
     for case in text.split("\n= ").skip(1) {
-        show_case(rt, case)?;
+        show_case(rt, case, compared)?;
     }
     Ok(())
 }
