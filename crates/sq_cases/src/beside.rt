@@ -133,8 +133,12 @@ fn compare_drops(rt: &HostRuntime, given: &Given, text: &str) -> Result<(), Erro
         println!(rt; "differs from the model: its drop points")?;
         return Ok(());
     };
+    let Ok(count) = u32::try_from(points.len()) else {
+        println!(rt; "differs from the model: its drop points")?;
+        return Ok(());
+    };
     let mut batches = 0usize;
-    for w in 0..points.len() as u32 {
+    for w in 0..count {
         batches = batches.saturating_add(compare_drop(rt, given, text, w)?);
     }
     if count_of(text, "@drop") != batches {
