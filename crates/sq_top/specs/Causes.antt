@@ -3,6 +3,7 @@ use Rattle.std.specs.Prelude.{◌≡◌, ◌≢◌, ◌⊎◌, ℕ, ◌+◌, ◌
 use Rattle.sq_value.specs.Lists.{contains_bytes, same_bytes, IsPrefixOf}
 use Rattle.sq_outside.specs.Faults.{Rose, RoseBy}
 use Rattle.sq_outside.specs.Folders.{Files, IsLonger, file}
+use Rattle.sq_outside.specs.Disks.{Pages}
 use Rattle.sq_top.specs.declared.Command.{Command}
 use Rattle.sq_top.specs.declared.Command.TheVariants as command
 use Rattle.sq_top.specs.declared.Status.{Status}
@@ -15,11 +16,14 @@ use Rattle.sq_plan.specs.Plans.{Entries}
 use Rattle.sq_replay.specs.Entries.{capacities_in, picks_in}
 use Rattle.sq_replay.specs.Streams.{stream_in}
 use Rattle.sq_replay.specs.declared.why.Why.{Why}
+use Rattle.sq_queue.specs.Fronts.{Tells}
+use Rattle.sq_core.specs.declared.engine.Engine.{Engine}
 use Rattle.sq_top.specs.Commands.{command_in}
 use Rattle.sq_top.specs.Scripts.{Lookup, Replay, Script, Reads, Stops, accepted, after_streams, outcome_of, readable, reads_of, script_of, settings_limit, stream_limit}
 use Rattle.sq_top.specs.Due.{due_of, replayed, turns_in, work_in}
 use Rattle.sq_top.specs.Messages.{message_of, source_name}
 use Rattle.sq_top.specs.Answers.{IsWholeText, IsPrefixText}
+use Rattle.sq_top.specs.Stopping.{StopHasCause, is_changed}
 
 -- the statuses of refusals: nothing was replayed
 abbrev pub is_refusal : Status → Bool
@@ -30,6 +34,10 @@ is_refusal (status.BadCapacities line) = true
 is_refusal (status.BadPicks line) = true
 is_refusal (status.BadStream number line why) = true
 is_refusal (status.FolderFault name) = true
+is_refusal status.DiskFault = false
+is_refusal (status.Garbled page kept got) = false
+is_refusal (status.NotAPage page bytes) = false
+is_refusal (status.Strange arc item) = false
 is_refusal status.SinkFault = false
 is_refusal (status.TooLong name) = true
 is_refusal status.Memory = false
@@ -116,16 +124,20 @@ pub record FolderHasCause (words : List (List ℕ)) (told : Option Files) (fault
   pub too_long : (name : List ℕ) → result ≡ status.TooLong name →
       (p : FilePart) × (may_be (command_in words) p name ≡ true) × RoseBy (limit_of p + 1) taken_before taken_now
 
--- at Ok the text is whole and the steps are the work
-abbrev pub AnswersWhole : Files → List (List ℕ) → Option (List ℕ) → Option (List ℕ) → ℕ → ℕ → Type 0
-AnswersWhole files words out_before out_now steps_before steps_now = MatchAccepted (accepted (file files) words)
-    (λ r. AppendsSuch out_before out_now (IsWholeText (due_of r)) × (steps_now ≡ steps_before + work_in (replayed r)))
+-- the engine has the network that was accepted, where the files are told
+abbrev pub IsEngineOf : Option Files → List (List ℕ) → Engine → Type 0
+IsEngineOf told words engine = WhereTold told (λ files. MatchAccepted (accepted (file files) words) (λ r. engine.network ≡ r.network) (λ s. ⊥))
+
+-- at Ok all was accepted; where the disk tells its pages the text is whole and the steps are the work
+abbrev pub AnswersWhole : Files → List (List ℕ) → Option Pages → Option (List ℕ) → Option (List ℕ) → ℕ → ℕ → Type 0
+AnswersWhole files words pages out_before out_now steps_before steps_now = MatchAccepted (accepted (file files) words)
+    (λ r. Tells pages → AppendsSuch out_before out_now (IsWholeText (due_of r)) × (steps_now ≡ steps_before + work_in (replayed r)))
     (λ s. ⊥)
 
--- at another status it is a prefix, with no more steps than the work; nothing where a rule is broken
-abbrev pub AnswersPrefix : Files → List (List ℕ) → Option (List ℕ) → Option (List ℕ) → ℕ → ℕ → Type 0
-AnswersPrefix files words out_before out_now steps_before steps_now = MatchAccepted (accepted (file files) words)
-    (λ r. AppendsSuch out_before out_now (IsPrefixText (due_of r)) × (steps_now ≤ steps_before + work_in (replayed r)))
+-- at another status, where the disk tells its pages, it is a prefix, with no more steps than the work; nothing where a rule is broken
+abbrev pub AnswersPrefix : Files → List (List ℕ) → Option Pages → Option (List ℕ) → Option (List ℕ) → ℕ → ℕ → Type 0
+AnswersPrefix files words pages out_before out_now steps_before steps_now = MatchAccepted (accepted (file files) words)
+    (λ r. Tells pages → AppendsSuch out_before out_now (IsPrefixText (due_of r)) × (steps_now ≤ steps_before + work_in (replayed r)))
     (λ s. (out_now ≡ out_before) × (steps_now ≡ steps_before))
 
 -- the message: whole, or a part of it where the sink for messages has failed
@@ -232,21 +244,26 @@ HasNoStreams told r sources faults_before faults_now taken_before taken_now resu
     ⊎ ((number : ℕ) × (s : Source) × (line : ℕ) × (why : Why) × (slice_get sources number ≡ Some s)
     × LeadsWhereTold told (after_streams r sources) (Stops (status.BadStream number line why)) × IsBadLine number s line why result source)
 
--- too much was to be fed only where what is accepted has too many turns
-abbrev pub TooMuchHasCause : Files → List (List ℕ) → Status → Type 0
-TooMuchHasCause files words result = result ≡ status.TooMuch → MatchAccepted (accepted (file files) words) (λ r. 2 ^ 62 ≤ turns_in (replayed r)) (λ s. ⊥)
+-- too much was to be fed only where all was accepted and, where the disk tells its pages, has too many turns
+abbrev pub TooMuchHasCause : Files → List (List ℕ) → Option Pages → Status → Type 0
+TooMuchHasCause files words pages result = result ≡ status.TooMuch
+    → MatchAccepted (accepted (file files) words) (λ r. Tells pages → 2 ^ 62 ≤ turns_in (replayed r)) (λ s. ⊥)
 
--- what is accepted, and isn't too much, ends Ok, but for want of memory
-abbrev pub EndsOk : Files → List (List ℕ) → Status → Type 0
-EndsOk files words result = MatchAccepted (accepted (file files) words) (λ r. turns_in (replayed r) < 2 ^ 62 → (result ≡ status.Ok) ⊎ (result ≡ status.Memory)) (λ s. ⊤)
+-- what is accepted, and isn't too much, ends Ok over a disk that tells its pages, but for want of memory
+abbrev pub EndsOk : Files → List (List ℕ) → Option Pages → Status → Type 0
+EndsOk files words pages result = MatchAccepted (accepted (file files) words)
+    (λ r. Tells pages → turns_in (replayed r) < 2 ^ 62 → (result ≡ status.Ok) ⊎ (result ≡ status.Memory)) (λ s. ⊤)
 
--- the folder, the output and the steps before a run and after it
+-- the folder, the disk, the output and the steps before a run and after it
 pub record World : Type 0 where
   pub told : Option Files
   pub folder_before : ℕ
   pub folder_now : ℕ
   pub taken_before : ℕ
   pub taken_now : ℕ
+  pub pages : Option Pages
+  pub disk_before : ℕ
+  pub disk_now : ℕ
   pub out_before : Option (List ℕ)
   pub out_now : Option (List ℕ)
   pub sink_before : ℕ
@@ -256,14 +273,17 @@ pub record World : Type 0 where
 
 -- how a run ends, but for its message
 pub record Ends (words : List (List ℕ)) (w : World) (result : Status) (source : List ℕ) : Type 0 where
-  pub ok : result ≡ status.Ok → WhereTold w.told (λ files. AnswersWhole files words w.out_before w.out_now w.steps_before w.steps_now)
-  pub other : result ≢ status.Ok → WhereTold w.told (λ files. AnswersPrefix files words w.out_before w.out_now w.steps_before w.steps_now)
+  pub ok : result ≡ status.Ok → WhereTold w.told (λ files. AnswersWhole files words w.pages w.out_before w.out_now w.steps_before w.steps_now)
+  pub other : result ≢ status.Ok → WhereTold w.told (λ files. AnswersPrefix files words w.pages w.out_before w.out_now w.steps_before w.steps_now)
   pub refused_early : is_refusal result ≡ true → (w.out_now ≡ w.out_before) × (w.steps_now ≡ w.steps_before)
   pub usage : UsageHasCause words result
   pub refusal : WhereTold w.told (λ files. RefusalHasCause files words w.folder_before w.folder_now result)
   pub folder : FolderHasCause words w.told w.folder_before w.folder_now w.taken_before w.taken_now result
   pub no_memory : result ≢ status.BadNetwork net.Memory
+  pub stopped : StopHasCause (IsEngineOf w.told words) w.disk_before w.disk_now result
+  pub unchanged : Tells w.pages → is_changed result ≡ false
   pub sink : result ≡ status.SinkFault → Rose w.sink_before w.sink_now
-  pub too_much : WhereTold w.told (λ files. TooMuchHasCause files words result)
-  pub complete : ¬ (Rose w.folder_before w.folder_now) → ¬ (Rose w.sink_before w.sink_now) → WhereTold w.told (λ files. EndsOk files words result)
+  pub too_much : WhereTold w.told (λ files. TooMuchHasCause files words w.pages result)
+  pub complete : ¬ (Rose w.folder_before w.folder_now) → ¬ (Rose w.disk_before w.disk_now) → ¬ (Rose w.sink_before w.sink_now)
+      → WhereTold w.told (λ files. EndsOk files words w.pages result)
   pub named : NamesSource w.told words result source

@@ -58,7 +58,7 @@ given_from [] (Some n) = None
 given_from (w ∷ ws) pending = with_piece (piece_of w) pending (λ p. given_from ws p)
 
 abbrev pub options : List Word
-options = codes "capacities" ∷ codes "seed" ∷ codes "policy" ∷ codes "picks" ∷ codes "train" ∷ []
+options = codes "capacities" ∷ codes "seed" ∷ codes "policy" ∷ codes "picks" ∷ codes "train" ∷ codes "frames" ∷ []
 
 -- whether there is such an option
 abbrev pub is_known : Option Word → Bool
@@ -116,10 +116,12 @@ args_of gs = do
   policy ← lone (values_of (Some (codes "policy")) gs)
   picks ← lone (values_of (Some (codes "picks")) gs)
   train ← lone (values_of (Some (codes "train")) gs)
+  frames ← lone (values_of (Some (codes "frames")) gs)
   seed_is ← number_or 0 0 (2 ^ 64 - 1) seed
   train_is ← number_or 16 1 4096 train
+  frames_is ← number_or 256 2 16384 frames
   rule_is ← rule_of policy picks
-  Some (record { net = file; capacities = capacities; seed = seed_is; rule = rule_is; picks = picks; train = train_is })
+  Some (record { net = file; capacities = capacities; seed = seed_is; rule = rule_is; picks = picks; train = train_is; frames = frames_is })
 
 abbrev pub known_args : List Given → Option RunArgs
 known_args gs = if list_all (λ g. is_known g.0) gs then args_of gs else None

@@ -1,8 +1,9 @@
 -- What a run shows on its way: a history of events, whose lines are written one after another.
-use Rattle.std.specs.Prelude.{◌≡◌, ◌⊎◌, ℕ, ◌+◌, ◌^◌, ◌<◌, ◌≤◌, List, ◌++◌, length, map, Option}
+use Rattle.std.specs.Prelude.{◌≡◌, ◌≢◌, ℕ, ◌+◌, ◌^◌, ◌<◌, ◌≤◌, false, List, ◌++◌, length, map, Option}
 use Rattle.std.specs.List.{AllByRecursion, flat_map}
 use Rattle.sq_value.specs.Lists.{IsPrefixOf, numbers_to}
 use Rattle.sq_outside.specs.Disks.{Pages}
+use Rattle.sq_outside.specs.Faults.{Rose}
 use Rattle.sq_outside.specs.Sinks.{AppendsPrefix, appended}
 use Rattle.sq_net.specs.declared.Network.{Network}
 use Rattle.sq_oper.specs.declared.outs.Event.{Event}
@@ -16,7 +17,9 @@ use Rattle.sq_core.specs.Runs.{IsRun, fed_at, late_at}
 use Rattle.sq_top.specs.declared.Status.{Status}
 use Rattle.sq_top.specs.declared.Status.TheVariants as status
 use Rattle.sq_top.specs.Due.{Answer, answer_in, drops_in, fed_in, late_in, turns_in, work_in}
-use Rattle.sq_top.specs.Writing.{IsLost, Moves}
+use Rattle.sq_top.specs.Writing.{Moves}
+use Rattle.sq_top.specs.Causes.{is_refusal}
+use Rattle.sq_top.specs.Stopping.{is_changed}
 
 -- a tuple at an output that is there, a decision of a drop that is there, or a plan
 abbrev pub IsEventAt : Network → Event → Type 0
@@ -49,23 +52,26 @@ pub record IsDriven (r : Replay) (engine : Engine) (before now : Option (List �
   pub late : (at : ℕ) → at < length r.network.boxes → late_at engine at ≡ late_in r at
   pub work : steps ≡ begun + work_in r
 
--- a run stopped on its way: what was written begins the text of a history that shows the first of the answer, the steps are no more
--- than the work, and too much was to be fed only where the turns are too many
+-- a run stopped on its way, over a disk that told its pages and so changed none: what was written begins the text of a history that
+-- shows the first of the answer, the steps are no more than the work, and too much was to be fed only where the turns are too many
 pub record IsHalted (r : Replay) (result : Status) (before now : Option (List ℕ)) (begun steps : ℕ) : Type 0 where
   pub history : List Event
   pub shown : AllByRecursion (IsEventAt r.network) history
   pub first : Begins r.network (answer_in r) history
   pub written : AppendsPrefix before now (history_text r.network history)
   pub work : steps ≤ begun + work_in r
+  pub unchanged : is_changed result ≡ false
   pub too_much : result ≡ status.TooMuch → 2 ^ 62 ≤ turns_in r
 
 -- the end lines by what the boxes of an engine were fed
 abbrev pub ends_text : Engine → List ℕ
 ends_text e = text_of (end_lines e.network (map (fed_at e) (numbers_to (length e.network.boxes))) (map (late_at e) (numbers_to (length e.network.boxes))))
 
--- memory ran out, the sink failed, or too much was to be fed
-abbrev pub IsCutShort : ℕ → ℕ → Status → Type 0
-IsCutShort faults_before faults_now result = IsLost faults_before faults_now result ⊎ (result ≡ status.TooMuch)
+-- what was begun is cut short: by no refusal, and by a fault of the sink only where its count rose
+pub record IsCutShort (faults_before faults_now : ℕ) (result : Status) : Type 0 where
+  pub begun : is_refusal result ≡ false
+  pub no_end : result ≢ status.Ok
+  pub sink : result ≡ status.SinkFault → Rose faults_before faults_now
 
 -- an engine went on: it showed these events more, and their lines were written or wait
 pub record GoesOn (was is : Option Pages) (from to : Engine) (begun now : ℕ) (before : Option (List ℕ)) (waited : List ℕ) (after : Option (List ℕ)) (waits : List ℕ) : Type 0 where
@@ -81,6 +87,7 @@ pub record StopsBehind (r : Replay) (history : List Event) (start now : ℕ) (be
   pub first : Begins r.network (answer_in r) (history ++ events)
   pub written : AppendsPrefix before after (waited ++ history_text r.network events)
   pub work : now ≤ start + work_in r
+  pub unchanged : is_changed result ≡ false
   pub too_much : result ≡ status.TooMuch → 2 ^ 62 ≤ turns_in r
 
 abbrev pub Stops : Option Pages → Engine → ℕ → ℕ → Option (List ℕ) → List ℕ → Option (List ℕ) → Status → Type 0

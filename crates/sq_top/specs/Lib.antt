@@ -4,6 +4,7 @@ pub mod Views
 pub mod Due
 pub mod Answers
 pub mod Writing
+pub mod Stopping
 pub mod Driving
 pub mod Recorded
 pub mod Messages

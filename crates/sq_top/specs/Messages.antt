@@ -1,7 +1,8 @@
 -- The message of each status.
-use Rattle.std.specs.Prelude.{ℕ, List, [], ◌++◌, codes, Option, Some, None, slice_get, Result, Ok, Err}
+use Rattle.std.specs.Prelude.{ℕ, ◌/◌, ◌%◌, false, List, [], ◌∷◌, ◌++◌, codes, Option, Some, None, slice_get, Result, Ok, Err}
 use Rattle.std.specs.Option.{option_and_then}
-use Rattle.std.specs.Fmt.{decimal}
+use Rattle.std.specs.List.{flat_map}
+use Rattle.std.specs.Fmt.{decimal, digit_glyph}
 use Rattle.sq_expr.specs.declared.What.{What}
 use Rattle.sq_expr.specs.declared.What.TheVariants as what
 use Rattle.sq_qos.specs.declared.GraphErr.{GraphErr}
@@ -107,6 +108,13 @@ detail_text (net.Graph p e) = codes " " ++ graph_text e
 detail_text (net.Expr p e) = codes " " ++ (decimal e.at ++ (codes " " ++ what_text e.what))
 detail_text e = []
 
+-- two lower-case hexadecimal digits for each byte
+abbrev pub hex_byte : ℕ → List ℕ
+hex_byte byte = digit_glyph false (byte / 16) ∷ digit_glyph false (byte % 16) ∷ []
+
+abbrev pub hex_text : List ℕ → List ℕ
+hex_text bytes = flat_map hex_byte bytes
+
 -- the line of a status, where the source has this name; Ok has none
 abbrev pub message_of : List ℕ → Status → List ℕ
 message_of source status.Ok = []
@@ -117,6 +125,11 @@ message_of source (status.BadPicks line) = codes "aurora: picks: line " ++ (deci
 message_of source (status.BadStream number line w) =
     codes "aurora: stream " ++ (source ++ (codes ": line " ++ (decimal line ++ (codes ": " ++ (why_text w ++ codes "\n")))))
 message_of source (status.FolderFault name) = codes "aurora: cannot read " ++ (name ++ codes "\n")
+message_of source status.DiskFault = codes "aurora: spill disk failed\n"
+message_of source (status.Garbled page kept got) =
+    codes "aurora: page " ++ (decimal page ++ (codes " changed: " ++ (hex_text kept.0 ++ (codes " " ++ (hex_text got.0 ++ codes "\n")))))
+message_of source (status.NotAPage page bytes) = codes "aurora: page " ++ (decimal page ++ codes " is no page\n")
+message_of source (status.Strange arc item) = codes "aurora: arc " ++ (decimal arc ++ codes ": strange item\n")
 message_of source status.SinkFault = codes "aurora: output failed\n"
 message_of source (status.TooLong name) = codes "aurora: file too long: " ++ (name ++ codes "\n")
 message_of source status.Memory = codes "aurora: out of memory\n"
@@ -131,10 +144,14 @@ code_of (status.BadCapacities line) = 4
 code_of (status.BadPicks line) = 5
 code_of (status.BadStream number line w) = 6
 code_of (status.FolderFault name) = 7
+code_of status.DiskFault = 8
+code_of (status.Garbled page kept got) = 9
 code_of status.SinkFault = 10
 code_of (status.TooLong name) = 11
 code_of status.Memory = 12
 code_of status.TooMuch = 15
+code_of (status.NotAPage page bytes) = 16
+code_of (status.Strange arc item) = 17
 
 -- the network that the words and the files lead to, where there is one
 abbrev pub network_of : Result Network NetErr → Option Network

@@ -17,8 +17,8 @@ use Rattle.sq_top.specs.declared.Status.{Status}
 use Rattle.sq_top.specs.declared.Status.TheVariants as status
 use Rattle.sq_top.specs.Commands.{command_in}
 
--- what was accepted: a network, the tuples of each of its sources, the capacities, and how the next actor is chosen: by which rule,
--- seed and picks, for how many steps. What is drawn goes by the seed, too
+-- what was accepted: a network, the tuples of each of its sources, the capacities, how the next actor is chosen: by which rule,
+-- seed and picks, for how many steps, and how many pages may be in memory. What is drawn goes by the seed, too
 pub record Replay : Type 0 where
   pub network : Network
   pub sources : List (List Tuple)
@@ -27,6 +27,7 @@ pub record Replay : Type 0 where
   pub rule : Rule
   pub picks : List ℕ
   pub train : ℕ
+  pub frames : ℕ
 
 -- a file is read and its bytes say what comes next; or all was read; or a rule is broken
 pub data Script : Type 0 where
@@ -60,7 +61,7 @@ after_streams r (s ∷ left) =
 -- what the words, the network file, the capacities and the picks say; no source is read yet
 abbrev pub unread : RunArgs → Network → Entries → List ℕ → Replay
 unread args n entries picks =
-    record { network = n; sources = []; entries = entries; seed = args.seed; rule = args.rule; picks = picks; train = args.train }
+    record { network = n; sources = []; entries = entries; seed = args.seed; rule = args.rule; picks = picks; train = args.train; frames = args.frames }
 
 abbrev pub after_picks : RunArgs → Network → Entries → Result (List ℕ) ℕ → Script
 after_picks args n entries (Ok picks) = after_streams (unread args n entries picks) n.sources

@@ -24,7 +24,7 @@ abbrev pub given_view : GivenRead → Given
 given_view g = (text_view g.option, g.value.now)
 
 abbrev pub wanted_view : Wanted → RunArgs
-wanted_view a = record { net = a.net.now; capacities = text_view a.capacities; seed = a.seed; rule = a.rule; picks = text_view a.picks; train = a.train }
+wanted_view a = record { net = a.net.now; capacities = text_view a.capacities; seed = a.seed; rule = a.rule; picks = text_view a.picks; train = a.train; frames = a.frames }
 
 abbrev pub replay_of : Accepted → Replay
 replay_of a = record {
@@ -35,4 +35,5 @@ replay_of a = record {
   rule = a.rule;
   picks = a.picks.items;
   train = a.train;
+  frames = a.frames;
 }

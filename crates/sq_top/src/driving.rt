@@ -12,6 +12,7 @@ ghost use Rattle.sq_flow.specs.Engines.{AllDone};
 ghost use Rattle.sq_core.specs.Runs.{IsRun, IsSoundEngine};
 ghost use Rattle.sq_top.specs.Writing.{IsLost, Moves};
 ghost use Rattle.sq_top.specs.Driving.{GoesOn, IsCutShort, IsDriven, IsEventAt, IsHalted, Stops, history_text};
+ghost use Rattle.sq_top.specs.Stopping.{StopHasCause, status_of};
 
 use crate::Status;
 use crate::writing::{send, send_piece};
@@ -54,7 +55,7 @@ fn show_event<S: Sink>(
 }
 
 /// Writes the lines of events.
-pub(crate) fn show_events<S: Sink>(
+fn show_events<S: Sink>(
     network: &Network,
     events: &[Event],
     text: &mut Vec<u8>,
@@ -75,13 +76,16 @@ pub(crate) fn show_events<S: Sink>(
     Ok(())
 }
 
-/// How a run ends whose engine stopped. Items come back as they were pushed, so none of them is strange.
+/// How a run ends whose engine stopped.
 fn status_of(e: RunErr) -> Status
-    ensures cause { (result ≡ Status.Memory) ⊎ ((result ≡ Status.TooMuch) × (e ≡ RunErr.TooMuch)) }
+    ensures { result ≡ status_of e }
 {
     match e {
+        RunErr::Disk => Status::DiskFault,
+        RunErr::Garbled { page, kept, got } => Status::Garbled { page, kept, got },
+        RunErr::NotAPage { page, bytes } => Status::NotAPage { page, bytes },
+        RunErr::Strange { arc, item } => Status::Strange { arc, item },
         RunErr::TooMuch => Status::TooMuch,
-        RunErr::Strange { .. } => Status::Memory,
         RunErr::Memory => Status::Memory,
     }
 }
@@ -101,12 +105,13 @@ fn step_once<D: PageDisk, S: Sink, L: Ledger>(
     ensures sound { OnOk result (IsSoundEngine engine.new) }
     ensures together { OnOk result (Together engine.new.engine.flow.queues (D.pages disk.new)) }
     ensures network { engine.new.network ≡ engine.old.network }
-    ensures tells { OnOk result (is_some (D.pages disk.new) ≡ is_some (D.pages disk.old)) }
+    ensures tells { is_some (D.pages disk.new) ≡ is_some (D.pages disk.old) }
     ensures falls { OnOk result (measure_of engine.new.engine.flow < measure_of engine.old.engine.flow) }
     ensures ok { OnOk result (GoesOn (D.pages disk.old) (D.pages disk.new) engine.old engine.new steps.old steps.new (S.written out.old) held.old.text.items (S.written out.new) held.new.text.items) }
     ensures err { IfErr result (λ s. Stops (D.pages disk.old) engine.old steps.old steps.new (S.written out.old) held.old.text.items (S.written out.new) s) }
-    ensures lost { IfErr result (λ s. IsCutShort (S.faults out.old) (S.faults out.new) s) }
-    ensures later { S.faults out.old ≤ S.faults out.new }
+    ensures cut { IfErr result (IsCutShort (S.faults out.old) (S.faults out.new)) }
+    ensures stopped { IfErr result (StopHasCause (λ e. e.network ≡ engine.old.network) (D.faults disk.old) (D.faults disk.new)) }
+    ensures later { (D.faults disk.old ≤ D.faults disk.new) × (S.faults out.old ≤ S.faults out.new) }
 {
     let pick = policy.next(engine.ready(), engine.waits());
     held.events.clear();
@@ -119,8 +124,9 @@ fn step_once<D: PageDisk, S: Sink, L: Ledger>(
 /// Steps an engine by the picks of a policy until it has ended, and writes the line of each event.
 ///
 /// # Errors
-/// `SinkFault` where the output failed, `TooMuch` where more is to be fed than is counted, `Memory`. What was written by then begins
-/// the lines of such a run.
+/// `DiskFault` where the disk had a fault, `Garbled`, `NotAPage` and `Strange` where a page came back that isn't the one which was
+/// put, `SinkFault` where the output failed, `TooMuch` where more is to be fed than is counted, `Memory`. Where the disk tells its
+/// pages, what was written by then begins the lines of such a run.
 pub fn drive<D: PageDisk, S: Sink, L: Ledger>(
     alloc: Global,
     mut engine: Engine,
@@ -138,9 +144,10 @@ pub fn drive<D: PageDisk, S: Sink, L: Ledger>(
         → IsDriven r e (S.written out.old) (S.written out.new) begun steps.new) }
     ensures err { IfErr result (λ s. (r : Replay) (begun : ℕ) → Tells (D.pages disk.old) → IsRun r (D.pages disk.old) engine [] begun steps.old
         → IsHalted r s (S.written out.old) (S.written out.new) begun steps.new) }
-    ensures lost { IfErr result (λ s. IsCutShort (S.faults out.old) (S.faults out.new) s) }
-    ensures later { S.faults out.old ≤ S.faults out.new }
-    ensures tells { OnOk result (is_some (D.pages disk.new) ≡ is_some (D.pages disk.old)) }
+    ensures cut { IfErr result (IsCutShort (S.faults out.old) (S.faults out.new)) }
+    ensures stopped { IfErr result (StopHasCause (λ e. e.network ≡ engine.network) (D.faults disk.old) (D.faults disk.new)) }
+    ensures later { (D.faults disk.old ≤ D.faults disk.new) × (S.faults out.old ≤ S.faults out.new) }
+    ensures tells { is_some (D.pages disk.new) ≡ is_some (D.pages disk.old) }
 {
     let mut held = Held {
         events: Vec::new(alloc),

@@ -7,11 +7,13 @@
 //! what is dropped and the plans, and `sq_outside` for the objects.
 #![tactic(auto)]
 
-ghost use Rattle.std.specs.Prelude.{◌≡◌, ◌≢◌, ◌≤◌, true, map};
+ghost use Rattle.std.specs.Prelude.{◌≡◌, ◌≢◌, ◌≤◌, false, is_some, map, true};
 ghost use Rattle.std.specs.String.{string_bytes};
 ghost use Rattle.sq_outside.specs.Faults.{Rose};
 ghost use Rattle.sq_net.specs.declared.NetErr.TheVariants as net;
-ghost use Rattle.sq_top.specs.Causes.{AnswersPrefix, AnswersWhole, EndsOk, FolderHasCause, IsTold, RefusalHasCause, TooMuchHasCause, UsageHasCause, WhereTold, is_refusal};
+ghost use Rattle.sq_queue.specs.Fronts.{Tells};
+ghost use Rattle.sq_top.specs.Causes.{AnswersPrefix, AnswersWhole, EndsOk, FolderHasCause, IsEngineOf, IsTold, RefusalHasCause, TooMuchHasCause, UsageHasCause, WhereTold, is_refusal};
+ghost use Rattle.sq_top.specs.Stopping.{StopHasCause, is_changed};
 ghost use Rattle.sq_top.specs.Messages.{code_of};
 
 mod driving;
@@ -25,8 +27,10 @@ mod writing;
 
 pub use driving::drive;
 use running::{run, tell};
+use sq_item::Item;
 use sq_net::NetErr;
 use sq_outside::{Folder, PageDisk, Sink, Steps};
+use sq_pool::Digest;
 use sq_replay::Why;
 use sq_sched::Rule;
 use sq_value::Name;
@@ -49,6 +53,8 @@ pub struct RunArgs {
     pub picks: Option<Name>,
     /// How many atomic steps an actor may do in a row: 1 to 4096.
     pub train: u32,
+    /// How many pages the queues may keep in memory: 2 to 16,384.
+    pub frames: u32,
 }
 
 /// What words ask for.
@@ -82,6 +88,19 @@ pub enum Status {
     BadStream { source: u32, line: u32, why: Why },
     /// A file wasn't read: it isn't there, or the folder failed.
     FolderFault { name: Name },
+    /// The disk had a fault.
+    DiskFault,
+    /// A page came back from the disk with another digest than the one that was kept when it was put.
+    Garbled {
+        page: u64,
+        kept: Digest,
+        got: Digest,
+    },
+    /// The bytes of a page that came back aren't the page that the queues keep.
+    NotAPage { page: u64, bytes: Vec<u8> },
+    /// The item that came from an arc may not be fed there. Arcs count from 0: the inputs of the boxes in file order, then the
+    /// outputs.
+    Strange { arc: u32, item: Item },
     /// The output failed.
     SinkFault,
     /// A file is longer than files of its part may be.
@@ -105,10 +124,14 @@ impl Status {
             Status::BadPicks { .. } => 5,
             Status::BadStream { .. } => 6,
             Status::FolderFault { .. } => 7,
+            Status::DiskFault => 8,
+            Status::Garbled { .. } => 9,
             Status::SinkFault => 10,
             Status::TooLong { .. } => 11,
             Status::Memory => 12,
             Status::TooMuch => 15,
+            Status::NotAPage { .. } => 16,
+            Status::Strange { .. } => 17,
         }
     }
 }
@@ -123,12 +146,12 @@ pub fn run_words<F: Folder, D: PageDisk, S: Sink, E: Sink, L: Ledger>(
     err: &mut E,
     steps: &mut Steps<L>,
 ) -> Status
-    // At Ok each class of lines is whole, nothing else was written, and the steps are the work.
+    // At Ok, where the disk tells its pages: each class of lines is whole, nothing else was written, and the steps are the work.
     ensures ok { result ≡ Status.Ok → WhereTold (F.files folder.old) (λ files.
-        AnswersWhole files (map string_bytes words.now.items) (S.written out.old) (S.written out.new) steps.old steps.new) }
-    // At any other status: a prefix of each class, and no more steps than the work.
+        AnswersWhole files (map string_bytes words.now.items) (D.pages disk.old) (S.written out.old) (S.written out.new) steps.old steps.new) }
+    // At any other status, where the disk tells its pages: a prefix of each class, and no more steps than the work.
     ensures other { result ≢ Status.Ok → WhereTold (F.files folder.old) (λ files.
-        AnswersPrefix files (map string_bytes words.now.items) (S.written out.old) (S.written out.new) steps.old steps.new) }
+        AnswersPrefix files (map string_bytes words.now.items) (D.pages disk.old) (S.written out.old) (S.written out.new) steps.old steps.new) }
     // A refusal writes nothing and takes no step, and so does any end where a rule is broken.
     ensures refused_early { is_refusal result ≡ true → (S.written out.new ≡ S.written out.old) × (steps.new ≡ steps.old) }
 
@@ -139,22 +162,26 @@ pub fn run_words<F: Folder, D: PageDisk, S: Sink, E: Sink, L: Ledger>(
     ensures folder { FolderHasCause (map string_bytes words.now.items) (F.files folder.old) (F.faults folder.old) (F.faults folder.new)
         (F.taken folder.old) (F.taken folder.new) result }
     ensures no_memory { result ≢ Status.BadNetwork net.Memory }
+    ensures stopped { StopHasCause (IsEngineOf (F.files folder.old) (map string_bytes words.now.items)) (D.faults disk.old) (D.faults disk.new) result }
+    ensures unchanged { Tells (D.pages disk.old) → is_changed result ≡ false }
     ensures sink { result ≡ Status.SinkFault → Rose (S.faults out.old) (S.faults out.new) }
-    ensures too_much { WhereTold (F.files folder.old) (λ files. TooMuchHasCause files (map string_bytes words.now.items) result) }
-    // Where nothing fails, what is accepted, and isn't too much, ends Ok, but for want of memory.
-    ensures complete { ¬ Rose (F.faults folder.old) (F.faults folder.new) → ¬ Rose (S.faults out.old) (S.faults out.new)
-        → WhereTold (F.files folder.old) (λ files. EndsOk files (map string_bytes words.now.items) result) }
+    ensures too_much { WhereTold (F.files folder.old) (λ files. TooMuchHasCause files (map string_bytes words.now.items) (D.pages disk.old) result) }
+    // Where nothing fails and the disk tells its pages, what is accepted, and isn't too much, ends Ok, but for want of memory.
+    ensures complete { ¬ Rose (F.faults folder.old) (F.faults folder.new) → ¬ Rose (D.faults disk.old) (D.faults disk.new)
+        → ¬ Rose (S.faults out.old) (S.faults out.new)
+        → WhereTold (F.files folder.old) (λ files. EndsOk files (map string_bytes words.now.items) (D.pages disk.old) result) }
 
     ensures message { IsTold (F.files folder.old) (map string_bytes words.now.items) (E.written err.old) (E.written err.new)
         (E.faults err.old) (E.faults err.new) result }
 
-    // The files and the disk stay, and no count falls.
+    // The files stay, and so does whether the disk tells its pages; a refusal doesn't call the disk. No count falls.
     ensures same_files { F.files folder.new ≡ F.files folder.old }
-    ensures same_disk { (D.pages disk.new ≡ D.pages disk.old) × (D.faults disk.new ≡ D.faults disk.old) }
+    ensures same_disk { is_refusal result ≡ true → (D.pages disk.new ≡ D.pages disk.old) × (D.faults disk.new ≡ D.faults disk.old) }
+    ensures tells { is_some (D.pages disk.new) ≡ is_some (D.pages disk.old) }
     ensures later { (F.faults folder.old ≤ F.faults folder.new) × (F.taken folder.old ≤ F.taken folder.new)
-        × (S.faults out.old ≤ S.faults out.new) × (E.faults err.old ≤ E.faults err.new) }
+        × (D.faults disk.old ≤ D.faults disk.new) × (S.faults out.old ≤ S.faults out.new) × (E.faults err.old ≤ E.faults err.new) }
 {
-    let stopped = run(alloc, words, folder, out, steps);
+    let stopped = run(alloc, words, folder, disk, out, steps);
     if let Status::Ok = stopped.status {
         return Status::Ok;
     }

@@ -1,11 +1,12 @@
 // The message of each status.
 ghost use Rattle.std.specs.Prelude.{◌≡◌, [], IfOk, string_bytes};
 ghost use Rattle.sq_top.specs.Causes.{source_of};
-ghost use Rattle.sq_top.specs.Messages.{at_place, detail_text, graph_text, message_of, part_text, place_of, rule_text, what_text, why_text};
+ghost use Rattle.sq_top.specs.Messages.{at_place, detail_text, graph_text, hex_text, message_of, part_text, place_of, rule_text, what_text, why_text};
 
 use crate::Status;
 use sq_expr::What;
 use sq_net::{NetErr, Part, Place};
+use sq_pool::Digest;
 use sq_qos::GraphErr;
 use sq_replay::Why;
 use sq_value::Name;
@@ -148,6 +149,31 @@ fn network_message(alloc: Global, e: NetErr) -> Result<String, AllocError>
     format!(in alloc; "aurora: network: {rule}{place}{detail}\n")
 }
 
+/// The lower-case hexadecimal digits of a digest.
+fn digest_text(alloc: Global, digest: &Digest) -> Result<String, AllocError>
+    ensures { IfOk result (λ text. string_bytes text ≡ hex_text (digest.now).0) }
+{
+    let mut text = String::new(alloc);
+    for byte in &digest.0 {
+        let digits = format!(in alloc; "{byte:02x}")?;
+        text.push_str(digits.as_str())?;
+    }
+    Ok(text)
+}
+
+fn changed_message(
+    alloc: Global,
+    page: u64,
+    kept: &Digest,
+    got: &Digest,
+) -> Result<String, AllocError>
+    ensures { IfOk result (λ text. string_bytes text ≡ message_of [] (Status.Garbled page kept.now got.now)) }
+{
+    let kept = digest_text(alloc, kept)?;
+    let got = digest_text(alloc, got)?;
+    format!(in alloc; "aurora: page {page} changed: {kept} {got}\n")
+}
+
 /// The name of a source, or nothing.
 fn name_text(source: &Option<Name>) -> &str
     ensures { result.now ≡ source_of source.now }
@@ -177,6 +203,10 @@ pub fn message(alloc: Global, source: &Option<Name>, status: &Status) -> Result<
             let name = name.as_str();
             format!(in alloc; "aurora: cannot read {name}\n")
         }
+        Status::DiskFault => String::from_str(alloc, "aurora: spill disk failed\n"),
+        Status::Garbled { page, kept, got } => changed_message(alloc, *page, kept, got),
+        Status::NotAPage { page, .. } => format!(in alloc; "aurora: page {page} is no page\n"),
+        Status::Strange { arc, .. } => format!(in alloc; "aurora: arc {arc}: strange item\n"),
         Status::SinkFault => String::from_str(alloc, "aurora: output failed\n"),
         Status::TooLong { name } => {
             let name = name.as_str();

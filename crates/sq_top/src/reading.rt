@@ -303,6 +303,7 @@ pub struct Accepted {
     pub rule: Rule,
     pub picks: Vec<u32>,
     pub train: u32,
+    pub frames: u32,
 }
 
 /// What the words and files come to, or the status of a run that stops at them.
@@ -316,6 +317,7 @@ pub fn prepare<F: Folder>(
     ensures limits { IfOk result (λ a. KeepsDropLimits a.network) }
     ensures recorded { IfOk result (λ a. AreRecorded a.network.sources (map (λ xs. xs.items) a.sources.items)) }
     ensures train { IfOk result (λ a. 1 ≤ a.train) }
+    ensures frames { IfOk result (λ a. 2 ≤ a.frames) }
     ensures accepted { IfOk result (λ a. WhereTold (F.files folder.old) (λ files. accepted (file files) (map string_bytes words.now.items) ≡ Ok (replay_of a))) }
     ensures stopped { IfErr result (λ s. IsStopped (map string_bytes words.now.items) (F.files folder.old) (F.faults folder.old) (F.faults folder.new) (F.taken folder.old) (F.taken folder.new) s.status (source_of s.source)) }
     ensures files { F.files folder.new ≡ F.files folder.old }
@@ -338,6 +340,7 @@ pub fn prepare<F: Folder>(
             rule: args.rule,
             picks,
             train: args.train,
+            frames: args.frames,
         }),
         Err(stopped) => Err(stopped),
     }

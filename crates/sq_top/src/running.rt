@@ -1,5 +1,5 @@
 // A run, but for its message, and the message.
-ghost use Rattle.std.specs.Prelude.{◌≡◌, ◌⊎◌, ℕ, ◌+◌, ◌^◌, ◌≤◌, [], IfErr, IfOk, OnErr, OnOk, Option, map};
+ghost use Rattle.std.specs.Prelude.{◌≡◌, ◌⊎◌, ℕ, ◌+◌, ◌^◌, ◌≤◌, [], IfErr, IfOk, OnErr, OnOk, Option, false, is_some, map, true};
 ghost use Rattle.std.specs.String.{string_bytes};
 ghost use Rattle.sq_outside.specs.Faults.{Rose};
 ghost use Rattle.sq_value.specs.Lists.{IsPrefixOf};
@@ -9,7 +9,8 @@ ghost use Rattle.sq_outside.specs.Disks.{Pages};
 ghost use Rattle.sq_queue.specs.Fronts.{Tells};
 ghost use Rattle.sq_core.specs.Runs.{IsRun, IsSoundEngine};
 ghost use Rattle.sq_top.specs.Answers.{IsPrefixText, IsWholeText};
-ghost use Rattle.sq_top.specs.Causes.{AppendsSuch, Ends, TellsStatus, source_of};
+ghost use Rattle.sq_top.specs.Causes.{AppendsSuch, Ends, TellsStatus, is_refusal, source_of};
+ghost use Rattle.sq_top.specs.Stopping.{StopHasCause, is_changed};
 ghost use Rattle.sq_top.specs.Driving.{IsCutShort};
 ghost use Rattle.sq_top.specs.Due.{due_of, replayed, turns_in, work_in};
 ghost use Rattle.sq_top.specs.Recorded.{AreRecorded};
@@ -21,22 +22,11 @@ use crate::messages::message;
 use crate::reading::{Accepted, Stopped, prepare};
 use crate::writing::write_ends;
 use sq_core::Engine;
-use sq_outside::{Folder, MemDisk, PageDisk, Sink, Steps, write_all};
+use sq_outside::{Folder, PageDisk, Sink, Steps, write_all};
 use sq_sched::Policy;
 use sq_value::Name;
 use std::alloc::Global;
 use std::sync::ledger::Ledger;
-
-/// How many pages the queues may keep in memory.
-const FRAMES: u32 = 256;
-
-/// A disk that tells its pages. The queues keep their items in memory yet, so that no call reaches it, and the caller's disk stays
-/// as it is.
-fn spare_disk(alloc: Global) -> MemDisk
-    ensures { Tells (⟦<MemDisk as PageDisk>⟧.pages result) }
-{
-    MemDisk::new(alloc, Vec::new(alloc), Vec::new(alloc))
-}
 
 /// The engine of what was accepted, and the policy that it is driven by.
 pub(crate) fn start(alloc: Global, accepted: Accepted) -> Result<(Engine, Policy), Status>
@@ -44,6 +34,7 @@ pub(crate) fn start(alloc: Global, accepted: Accepted) -> Result<(Engine, Policy
     requires limits { KeepsDropLimits accepted.network }
     requires recorded { AreRecorded accepted.network.sources (map (λ xs. xs.items) accepted.sources.items) }
     requires train { 1 ≤ accepted.train }
+    requires frames { 2 ≤ accepted.frames }
     ensures sound { IfOk result (λ e. IsSoundEngine e.0) }
     ensures run { IfOk result (λ e. (pages : Option Pages) (steps : ℕ) → IsRun (replayed (replay_of accepted)) pages e.0 [] steps steps) }
     ensures memory { IfErr result (λ s. s ≡ Status.Memory) }
@@ -56,17 +47,19 @@ pub(crate) fn start(alloc: Global, accepted: Accepted) -> Result<(Engine, Policy
         rule,
         picks,
         train,
+        frames,
     } = accepted;
-    match Engine::new(alloc, network, sources, capacities, seed, FRAMES) {
+    match Engine::new(alloc, network, sources, capacities, seed, frames) {
         Ok(engine) => Ok((engine, Policy::new(rule, picks, seed, train))),
         Err(_) => Err(Status::Memory),
     }
 }
 
 /// Replays what was accepted under its schedule, and writes all lines of it.
-fn replay<S: Sink, L: Ledger>(
+fn replay<D: PageDisk, S: Sink, L: Ledger>(
     alloc: Global,
     accepted: Accepted,
+    disk: &mut D,
     out: &mut S,
     steps: &mut Steps<L>,
 ) -> Result<(), Status>
@@ -74,30 +67,34 @@ fn replay<S: Sink, L: Ledger>(
     requires limits { KeepsDropLimits accepted.network }
     requires recorded { AreRecorded accepted.network.sources (map (λ xs. xs.items) accepted.sources.items) }
     requires train { 1 ≤ accepted.train }
-    ensures ok { OnOk result (AppendsSuch (S.written out.old) (S.written out.new) (IsWholeText (due_of (replay_of accepted)))) }
-    ensures err { OnErr result (AppendsSuch (S.written out.old) (S.written out.new) (IsPrefixText (due_of (replay_of accepted)))) }
-    ensures steps { OnOk result (steps.new ≡ steps.old + work_in (replayed (replay_of accepted))) }
-    ensures fewer { OnErr result (steps.new ≤ steps.old + work_in (replayed (replay_of accepted))) }
-    ensures cut { IfErr result (λ s. IsCutShort (S.faults out.old) (S.faults out.new) s) }
-    ensures too_much { IfErr result (λ s. s ≡ Status.TooMuch → 2 ^ 62 ≤ turns_in (replayed (replay_of accepted))) }
-    ensures later { S.faults out.old ≤ S.faults out.new }
+    requires frames { 2 ≤ accepted.frames }
+    ensures ok { OnOk result (Tells (D.pages disk.old) → AppendsSuch (S.written out.old) (S.written out.new) (IsWholeText (due_of (replay_of accepted)))) }
+    ensures err { OnErr result (Tells (D.pages disk.old) → AppendsSuch (S.written out.old) (S.written out.new) (IsPrefixText (due_of (replay_of accepted)))) }
+    ensures steps { OnOk result (Tells (D.pages disk.old) → steps.new ≡ steps.old + work_in (replayed (replay_of accepted))) }
+    ensures fewer { OnErr result (Tells (D.pages disk.old) → steps.new ≤ steps.old + work_in (replayed (replay_of accepted))) }
+    ensures cut { IfErr result (IsCutShort (S.faults out.old) (S.faults out.new)) }
+    ensures stopped { IfErr result (StopHasCause (λ e. e.network ≡ accepted.network) (D.faults disk.old) (D.faults disk.new)) }
+    ensures unchanged { IfErr result (λ s. Tells (D.pages disk.old) → is_changed s ≡ false) }
+    ensures too_much { IfErr result (λ s. Tells (D.pages disk.old) → s ≡ Status.TooMuch → 2 ^ 62 ≤ turns_in (replayed (replay_of accepted))) }
+    ensures tells { is_some (D.pages disk.new) ≡ is_some (D.pages disk.old) }
+    ensures later { (D.faults disk.old ≤ D.faults disk.new) × (S.faults out.old ≤ S.faults out.new) }
 {
-    let mut disk = spare_disk(alloc);
     let (engine, policy) = match start(alloc, accepted) {
         Ok(started) => started,
         Err(status) => return Err(status),
     };
-    match drive(alloc, engine, policy, &mut disk, out, steps) {
+    match drive(alloc, engine, policy, disk, out, steps) {
         Ok(engine) => write_ends(alloc, &engine, out),
         Err(status) => Err(status),
     }
 }
 
 /// Does what the words ask for, and says how it ended.
-pub fn run<F: Folder, S: Sink, L: Ledger>(
+pub fn run<F: Folder, D: PageDisk, S: Sink, L: Ledger>(
     alloc: Global,
     words: &Vec<String>,
     folder: &mut F,
+    disk: &mut D,
     out: &mut S,
     steps: &mut Steps<L>,
 ) -> Stopped
@@ -107,6 +104,9 @@ pub fn run<F: Folder, S: Sink, L: Ledger>(
       folder_now = F.faults folder.new;
       taken_before = F.taken folder.old;
       taken_now = F.taken folder.new;
+      pages = D.pages disk.old;
+      disk_before = D.faults disk.old;
+      disk_now = D.faults disk.new;
       out_before = S.written out.old;
       out_now = S.written out.new;
       sink_before = S.faults out.old;
@@ -116,13 +116,16 @@ pub fn run<F: Folder, S: Sink, L: Ledger>(
     })
         result.status (source_of result.source) }
     ensures files { F.files folder.new ≡ F.files folder.old }
-    ensures later { (F.faults folder.old ≤ F.faults folder.new) × (F.taken folder.old ≤ F.taken folder.new) × (S.faults out.old ≤ S.faults out.new) }
+    ensures disk { is_refusal result.status ≡ true → (D.pages disk.new ≡ D.pages disk.old) × (D.faults disk.new ≡ D.faults disk.old) }
+    ensures tells { is_some (D.pages disk.new) ≡ is_some (D.pages disk.old) }
+    ensures later { (F.faults folder.old ≤ F.faults folder.new) × (F.taken folder.old ≤ F.taken folder.new)
+        × (D.faults disk.old ≤ D.faults disk.new) × (S.faults out.old ≤ S.faults out.new) }
 {
     let accepted = match prepare(alloc, words, folder) {
         Ok(accepted) => accepted,
         Err(stopped) => return stopped,
     };
-    match replay(alloc, accepted, out, steps) {
+    match replay(alloc, accepted, disk, out, steps) {
         Ok(()) => Stopped {
             status: Status::Ok,
             source: None,

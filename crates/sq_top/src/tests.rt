@@ -1,19 +1,16 @@
-// Words that are a command, and a run that is driven. Further runs are cases of the top call, kept as data beside a program that
-// runs them.
+// Words that are a command, and the pages that a run puts. Further runs are cases of the top call, kept as data beside a program
+// that runs them.
 ghost use Rattle.std.specs.Prelude.{◌≡◌, ◌<◌, IfOk, OnOk, Option, length};
-ghost use Rattle.std.specs.List.{AllByRecursion};
 ghost use Rattle.sq_outside.specs.Disks.{Pages};
 ghost use Rattle.sq_queue.specs.Faces.{Together};
 ghost use Rattle.sq_core.specs.Runs.{IsSoundEngine};
 ghost use Rattle.sq_flow.specs.Flows.{measure_of};
-ghost use Rattle.sq_top.specs.Driving.{IsEventAt};
 
 use super::*;
-use crate::driving::show_events;
 use crate::reading::prepare;
 use crate::running::start;
 use sq_core::Engine;
-use sq_flow::RunErr;
+use sq_flow::{RunErr, State};
 use sq_oper::Event;
 use sq_outside::{MemDisk, MemFolder, MemSink};
 use sq_sched::Policy;
@@ -36,7 +33,7 @@ fn run_with_a_name_and_options_is_a_command(rt: HostRuntime) -> Result<(), Fail>
     let words = words_of(rt.alloc(), &options)?;
     let Command::Run(args) = read_words(rt.alloc(), &words).ok().ok_or("no command")?;
     assert_eq!(rt; args.net.as_str(), "a.toml");
-    assert!(rt; args.seed == 7 && args.rule == Rule::Longest && args.train == 16);
+    assert!(rt; args.seed == 7 && args.rule == Rule::Longest && args.train == 16 && args.frames == 256);
     let capacities = args.capacities.as_ref().ok_or("no capacities")?;
     assert_eq!(rt; capacities.as_str(), "c");
     assert!(rt; args.picks.is_none());
@@ -51,37 +48,81 @@ fn words_of(alloc: Global, texts: &[&str]) -> Result<Vec<String>, AllocError> {
     Ok(words)
 }
 
-/// Two aggregates, one of the other, over the ticks of four epochs.
+/// A union of a source with what a filter lets through, which is nothing: so all tuples wait until the filter has ended.
 const NETWORK: &str = "version = 1
-epoch = 4
 source = [{name='s', file='s.csv', fields=['v:int']}]
 box = [
-  {name='a', kind='aggregate', in=['s'], size=4, advance=2, give=[['t', 'sum', 'v']]},
-  {name='b', kind='aggregate', in=['a'], size=4, advance=4, give=[['m', 'max', 't']]},
+  {name='f', kind='filter', in=['s'], where=['v < 0']},
+  {name='u', kind='union', in=['s', 'f.1']},
 ]
-output = [{name='o', from='b'}]
+output = [{name='o', from='u'}]
 ";
 
-const STREAM: &str =
-    "0,0\n1,1\n2,2\n3,3\n4,4\n5,5\n6,6\n7,7\n8,8\n9,9\n10,10\n11,11\n12,12\n13,13\n14,14\n15,15\n";
+const TUPLES: u32 = 3000;
 
-fn push_file(
-    alloc: Global,
-    files: &mut Vec<(String, Vec<u8>)>,
-    name: &str,
-    text: &str,
-) -> Result<(), AllocError> {
-    let bytes = Vec::from_slice(alloc, text.as_bytes())?;
-    files.push((String::from_str(alloc, name)?, bytes))?;
-    Ok(())
+fn stream(alloc: Global) -> Result<Vec<u8>, AllocError> {
+    let mut text = String::new(alloc);
+    for at in 0..TUPLES {
+        let line = format!(in alloc; "{at},{at}\n")?;
+        text.push_str(line.as_str())?;
+    }
+    Ok(text.into_bytes())
+}
+
+fn lines(alloc: Global) -> Result<String, AllocError> {
+    let mut text = String::new(alloc);
+    for at in 0..TUPLES {
+        let line = format!(in alloc; "o,{at},{at}\n")?;
+        text.push_str(line.as_str())?;
+    }
+    text.push_str("@box,f,3000\n@box,u,3000\n@end\n")?;
+    Ok(text)
 }
 
 fn folder(alloc: Global) -> Result<MemFolder, AllocError> {
+    let network = Vec::from_slice(alloc, NETWORK.as_bytes())?;
     let mut files = Vec::new(alloc);
-    push_file(alloc, &mut files, "c.toml", NETWORK)?;
-    push_file(alloc, &mut files, "s.csv", STREAM)?;
-    push_file(alloc, &mut files, "c", "1,0\n3,-\n")?;
+    files.push((String::from_str(alloc, "a.toml")?, network))?;
+    files.push((String::from_str(alloc, "s.csv")?, stream(alloc)?))?;
     Ok(MemFolder::new(files, Vec::new(alloc)))
+}
+
+fn disk(alloc: Global) -> MemDisk {
+    MemDisk::new(alloc, Vec::new(alloc), Vec::new(alloc))
+}
+
+fn sink(alloc: Global) -> MemSink {
+    MemSink::new(alloc, Vec::new(alloc), 4096)
+}
+
+// What a run of these words writes over a disk.
+fn written<D: PageDisk, L: Ledger>(
+    alloc: Global,
+    options: &[&str],
+    disk: &mut D,
+    blank: Blank,
+) -> Result<MemSink, Fail>
+    requires name { blank.name ≡ L.name }
+    requires parts { blank.parts ≡ L.parts }
+    requires some { 0 < blank.parts }
+{
+    let words = words_of(alloc, options)?;
+    let mut folder = folder(alloc)?;
+    let mut out = sink(alloc);
+    let mut err = sink(alloc);
+    let mut steps = Steps::<L>::open(blank);
+    match run_words(
+        alloc,
+        &words,
+        &mut folder,
+        disk,
+        &mut out,
+        &mut err,
+        &mut steps,
+    ) {
+        Status::Ok => Ok(out),
+        _ => Err(Fail::from("no end")),
+    }
 }
 
 // An engine that has not begun, and what drives it.
@@ -111,11 +152,9 @@ fn step_picked<D: PageDisk, L: Ledger>(
     requires sound { IsSoundEngine engine.old }
     requires together { Together engine.old.engine.flow.queues (D.pages disk.old) }
     requires runs { 0 < length engine.old.engine.ready.list }
-    requires shown { AllByRecursion (IsEventAt engine.old.network) events.old.items }
     ensures sound { OnOk result (IsSoundEngine engine.new) }
     ensures together { OnOk result (Together engine.new.engine.flow.queues (D.pages disk.new)) }
     ensures falls { OnOk result (measure_of engine.new.engine.flow < measure_of engine.old.engine.flow) }
-    ensures shown { OnOk result (AllByRecursion (IsEventAt engine.new.network) events.new.items) }
 {
     let pick = policy.next(engine.ready(), engine.waits());
     match engine.step(pick, disk, events, steps) {
@@ -124,14 +163,14 @@ fn step_picked<D: PageDisk, L: Ledger>(
     }
 }
 
-// The lines of what an engine shows that is stepped by the picks of a policy.
-fn stepped<D: PageDisk, L: Ledger>(
+// Steps an engine by the picks of a policy until it has ended.
+fn step_all<D: PageDisk, L: Ledger>(
     alloc: Global,
     mut engine: Engine,
     mut policy: Policy,
     disk: &mut D,
     blank: Blank,
-) -> Result<Vec<u8>, Status>
+) -> Result<(), Fail>
     requires name { blank.name ≡ L.name }
     requires parts { blank.parts ≡ L.parts }
     requires some { 0 < blank.parts }
@@ -143,25 +182,20 @@ fn stepped<D: PageDisk, L: Ledger>(
     'steps: while !engine.ended() {
         match step_picked(&mut engine, &mut policy, disk, &mut events, &mut steps) {
             Ok(()) => {}
-            Err(_) => return Err(Status::Memory),
+            Err(_) => return Err(Fail::from("stopped")),
         }
     }
-    let mut text = Vec::new(alloc);
-    let mut out = MemSink::new(alloc, Vec::new(alloc), 4096);
-    match show_events(&engine.network, events.as_slice(), &mut text, &mut out) {
-        Ok(()) => Ok(text),
-        Err(status) => Err(status),
-    }
+    Ok(())
 }
 
-// What is written of an engine that is driven by a policy.
-fn driven<D: PageDisk, L: Ledger>(
+// Drives an engine by a policy, and says what it is then.
+fn drive_all<D: PageDisk, L: Ledger>(
     alloc: Global,
     engine: Engine,
     policy: Policy,
     disk: &mut D,
     blank: Blank,
-) -> Result<MemSink, Status>
+) -> Result<State, Fail>
     requires name { blank.name ≡ L.name }
     requires parts { blank.parts ≡ L.parts }
     requires some { 0 < blank.parts }
@@ -169,37 +203,40 @@ fn driven<D: PageDisk, L: Ledger>(
     requires together { (pages : Option Pages) → Together engine.engine.flow.queues pages }
 {
     let mut steps = Steps::<L>::open(blank);
-    let mut out = MemSink::new(alloc, Vec::new(alloc), 4096);
+    let mut out = sink(alloc);
     match drive(alloc, engine, policy, disk, &mut out, &mut steps) {
-        Ok(_) => Ok(out),
-        Err(status) => Err(status),
+        Ok(engine) => Ok(engine.state()),
+        Err(_) => Err(Fail::from("cut short")),
     }
 }
 
 #[test]
-fn drive_writes_the_lines_of_what_its_engine_shows(rt: HostRuntime) -> Result<(), Fail> {
+fn a_run_puts_the_pages_of_its_engine_stepped_or_driven(rt: HostRuntime) -> Result<(), Fail> {
     let alloc = rt.alloc();
-    for policy in ["seeded", "rr", "long"] {
+    for (policy, train) in [("seeded", "5"), ("rr", "16"), ("long", "64")] {
         let options = [
             "run",
-            "c.toml",
-            "--capacities=c",
+            "a.toml",
+            "--frames=2",
             "--seed=3",
-            "--train=5",
             "--policy",
             policy,
+            "--train",
+            train,
         ];
+        let mut of_run = disk(alloc);
+        let out = written::<MemDisk, Brand>(alloc, &options, &mut of_run, Blank::new(1))?;
+        assert_eq!(rt; out.bytes(), lines(alloc)?.as_str().as_bytes());
+        assert!(rt; of_run.puts().len() >= 5);
         let (engine, policy) = begun(alloc, &options)?;
-        let mut disk = MemDisk::new(alloc, Vec::new(alloc), Vec::new(alloc));
-        let lines = stepped::<MemDisk, Brand>(alloc, engine, policy, &mut disk, Blank::new(1))
-            .ok()
-            .ok_or("stopped")?;
+        let mut of_steps = disk(alloc);
+        step_all::<MemDisk, Brand>(alloc, engine, policy, &mut of_steps, Blank::new(1))?;
+        assert_eq!(rt; of_steps.puts().as_slice(), of_run.puts().as_slice());
         let (engine, policy) = begun(alloc, &options)?;
-        let out = driven::<MemDisk, Brand>(alloc, engine, policy, &mut disk, Blank::new(1))
-            .ok()
-            .ok_or("cut short")?;
-        assert_eq!(rt; out.bytes(), lines.as_slice());
-        assert!(rt; !lines.is_empty());
+        let mut of_drive = disk(alloc);
+        let state = drive_all::<MemDisk, Brand>(alloc, engine, policy, &mut of_drive, Blank::new(1))?;
+        assert!(rt; state == State::Done);
+        assert_eq!(rt; of_drive.puts().as_slice(), of_run.puts().as_slice());
     }
     Ok(())
 }

@@ -41,6 +41,7 @@ struct Wanted<'a> {
     rule: Rule,
     picks: Option<&'a str>,
     train: u32,
+    frames: u32,
 }
 
 fn whole_piece<'a>(name: &'a str, value: &'a str) -> Piece<'a>
@@ -126,6 +127,7 @@ fn is_known(option: Option<&str>) -> bool
                 || same_text(name, "policy")
                 || same_text(name, "picks")
                 || same_text(name, "train")
+                || same_text(name, "frames")
         }
     }
 }
@@ -243,8 +245,10 @@ fn wanted_of<'a>(given: &[Given<'a>]) -> Option<Wanted<'a>>
     let policy = value_of(given, Some("policy"))?;
     let picks = value_of(given, Some("picks"))?;
     let train = value_of(given, Some("train"))?;
+    let frames = value_of(given, Some("frames"))?;
     let seed = number_or(0, 0, u64::MAX, seed)?;
     let train = number_or(16, 1, 4096, train)?;
+    let frames = number_or(256, 2, 16_384, frames)?;
     let rule = rule_of(policy, picks)?;
     Some(Wanted {
         net,
@@ -253,6 +257,7 @@ fn wanted_of<'a>(given: &[Given<'a>]) -> Option<Wanted<'a>>
         rule,
         picks,
         train: train as u32,
+        frames: frames as u32,
     })
 }
 
@@ -275,6 +280,7 @@ fn args_from(alloc: Global, wanted: Wanted<'_>) -> Result<RunArgs, AllocError>
         rule: wanted.rule,
         picks: copied(alloc, wanted.picks)?,
         train: wanted.train,
+        frames: wanted.frames,
     })
 }
 
@@ -299,8 +305,9 @@ fn run_args(alloc: Global, words: &[String]) -> Result<RunArgs, WordsErr>
     }
 }
 
-/// What words ask for: `run NET [--capacities FILE] [--seed N] [--policy rr|long|seeded] [--picks FILE] [--train N]`, where each
-/// option stands once at most, as `--name value` or `--name=value`, and a policy excludes picks. A seed has 64 bits, a train is 1 to 4096.
+/// What words ask for: `run NET [--capacities FILE] [--seed N] [--policy rr|long|seeded] [--picks FILE] [--train N] [--frames N]`,
+/// where each option stands once at most, as `--name value` or `--name=value`, and a policy excludes picks. A seed has 64 bits,
+/// a train is 1 to 4096, frames are 2 to 16,384.
 pub fn read_words(alloc: Global, words: &Vec<String>) -> Result<Command, WordsErr>
     ensures command { IfOk result (λ c. command_in (map string_bytes words.now.items) ≡ Some c) }
     ensures usage { result ≡ Err WordsErr.Usage → command_in (map string_bytes words.now.items) ≡ None }

@@ -1,0 +1,47 @@
+-- Why the engine of a run stopped, and what shows it.
+use Rattle.std.specs.Prelude.{◌≡◌, ¬, ⊤, ℕ, ◌+◌, ◌^◌, ◌≤◌, Bool, true, false}
+use Rattle.sq_outside.specs.Faults.{Rose}
+use Rattle.sq_queue.specs.declared.store.QueueErr.TheVariants as queue
+use Rattle.sq_actor.specs.declared.actor.Actor.{Actor}
+use Rattle.sq_flow.specs.declared.flow.Flow.{Flow}
+use Rattle.sq_flow.specs.declared.errors.RunErr.{RunErr}
+use Rattle.sq_flow.specs.declared.errors.RunErr.TheVariants as error
+use Rattle.sq_flow.specs.Causes.{IsPageRefused, IsStrangeIn}
+use Rattle.sq_core.specs.declared.engine.Engine.{Engine}
+use Rattle.sq_top.specs.declared.Status.{Status}
+use Rattle.sq_top.specs.declared.Status.TheVariants as status
+
+-- the status for the error of a step
+abbrev pub status_of : RunErr → Status
+status_of error.Disk = status.DiskFault
+status_of (error.Garbled page kept got) = status.Garbled page kept got
+status_of (error.NotAPage page bytes) = status.NotAPage page bytes
+status_of (error.Strange arc item) = status.Strange arc item
+status_of error.TooMuch = status.TooMuch
+status_of error.Memory = status.Memory
+
+-- an engine of a run failed, and what it holds shows why
+pub record FailedIn (IsOfRun : Engine → Type 0) (Shows : Flow Actor → Type 0) : Type 0 where
+  pub engine : Engine
+  pub of_run : IsOfRun engine
+  pub failed : engine.engine.failed ≡ true
+  pub shows : Shows engine.engine.flow
+
+-- over every disk, by its faults before a run and now: the disk is at fault only where its count rose, a page is garbled only where
+-- the two digests differ, bytes are no page only where they came back to the queues and were refused, an item is strange only where
+-- its operator may not be fed it, and it is too much only where no more can be counted
+abbrev pub StopHasCause : (Engine → Type 0) → ℕ → ℕ → Status → Type 0
+StopHasCause IsOfRun before now status.DiskFault = Rose before now
+StopHasCause IsOfRun before now (status.Garbled page kept got) = ¬ (kept.0 ≡ got.0) × FailedIn IsOfRun (λ flow. IsPageRefused flow.queues (queue.Garbled page kept got))
+StopHasCause IsOfRun before now (status.NotAPage page bytes) = FailedIn IsOfRun (λ flow. IsPageRefused flow.queues (queue.NotAPage page bytes))
+StopHasCause IsOfRun before now (status.Strange arc item) = FailedIn IsOfRun (λ flow. IsStrangeIn flow arc item)
+StopHasCause IsOfRun before now status.TooMuch = FailedIn IsOfRun (λ flow. 2 ^ 62 ≤ flow.taken + 2)
+StopHasCause IsOfRun before now result = ⊤
+
+-- the statuses of a disk that changes its pages
+abbrev pub is_changed : Status → Bool
+is_changed status.DiskFault = false
+is_changed (status.Garbled page kept got) = true
+is_changed (status.NotAPage page bytes) = true
+is_changed (status.Strange arc item) = true
+is_changed result = false
