@@ -29,9 +29,10 @@ use Rattle.sq_top.specs.declared.Status.{Status}
 use Rattle.sq_top.specs.declared.Status.TheVariants as status
 use Rattle.sq_top.specs.Due.{answer_in, turns_in, work_in}
 use Rattle.sq_top.specs.Writing.{IsLost, Moves}
-use Rattle.sq_top.specs.Driving.{Begins, Completes, GoesOn, IsCutShort, IsDriven, IsEventAt, IsHalted, Stops, StopsBehind, history_text}
+use Rattle.sq_top.specs.Stopping.{is_changed, status_of}
+use Rattle.sq_top.specs.Driving.{Begins, Completes, GoesOn, IsDriven, IsEventAt, IsHalted, Stops, StopsBehind, history_text}
 use Rattle.sq_top.proofs.ClassLemmas.{all_append}
-use Rattle.sq_top.proofs.StoppedLemmas.{rose_later}
+use Rattle.sq_top.proofs.StopLemmas.{lost_unchanged, step_much, step_unchanged}
 use Rattle.sq_top.proofs.WritingLemmas.{appended-nil, lost_at_once, moves-lost, moves-then, prefix_longer}
 
 -- an event of the run has its text
@@ -68,11 +69,6 @@ if_err_both Q (Err e) a p f = f e a p
 pub if_err : {T E : Type 0} {P : E → Type 0} (Q : E → Type 0) (r : Result T E) → IfErr r P → ((e : E) → P e → Q e) → IfErr r Q
 if_err Q (Ok x) p f = tt
 if_err Q (Err e) p f = f e p
-
--- what is lost behind a run cuts it short
-pub lost_cut : (before mid now : ℕ) (s : Status) → before ≤ mid → IsLost mid now s → IsCutShort before now s
-lost_cut before mid now s le (inl memory) = inl (inl memory)
-lost_cut before mid now s le (inr (sink, rose)) = inl (inr (sink, rose_later 1 before mid now le rose))
 
 pub not_too_much : (P : Type 0) (faults faults' : ℕ) (s : Status) → IsLost faults faults' s → s ≡ status.TooMuch → P
 not_too_much P faults faults' s (inl memory) e = let both : status.Memory ≡ status.TooMuch = sym memory ∙ e in cc
@@ -130,15 +126,16 @@ module _ (was : Option Pages) (from : Engine) (begun now : ℕ) (cleared shown :
           first = begins_run r is to (history ++ shown) start now run_on (tells ∙ told);
           written = subst (λ m. AppendsPrefix before after (waited ++ history_text m shown)) there written;
           work = far.work;
+          unchanged = lost_unchanged faults faults' s lost;
           too_much = not_too_much (2 ^ 62 ≤ turns_in r) faults faults' s lost;
         }
 
   -- it failed
-  pub step_stops : (before : Option (List ℕ)) (waited : List ℕ) (e : RunErr) (s : Status) → (s ≡ status.Memory) ⊎ ((s ≡ status.TooMuch) × (e ≡ run_err.TooMuch))
+  pub step_stops : (before : Option (List ℕ)) (waited : List ℕ) (e : RunErr) (s : Status) → s ≡ status_of e
       → (Tells was → (r : Replay) (history : List Event) (start : ℕ) → IsRun r was from (history ++ cleared) start begun
       → Stopped r (history ++ shown) start now e)
       → Stops was from begun now before waited before s
-  step_stops before waited e s cause stopped r history start told run =
+  step_stops before waited e s is stopped r history start told run =
       let halt = stopped told r history start (run_here r history start run) in
       record {
         events = [];
@@ -146,12 +143,9 @@ module _ (was : Option Pages) (from : Engine) (begun now : ℕ) (cleared shown :
         first = subst (Begins r.network (answer_in r)) (sym (append-nil history)) (begins_run r was from history start begun run told);
         written = lost_at_once before (waited ++ []);
         work = halt.so_far.work;
-        too_much = by cause (2 ^ 62 ≤ turns_in r) halt.turns;
+        unchanged = ap is_changed is ∙ step_unchanged e halt.named;
+        too_much = λ much. halt.turns (step_much e (sym is ∙ much));
       }
-    where
-      by : (s ≡ status.Memory) ⊎ ((s ≡ status.TooMuch) × (e ≡ run_err.TooMuch)) → (P : Type 0) → (e ≡ run_err.TooMuch → P) → s ≡ status.TooMuch → P
-      by (inl memory) P much is = let both : status.Memory ≡ status.TooMuch = sym memory ∙ is in cc
-      by (inr both) P much is = much both.1
 
 -- an engine that hasn't begun
 pub goes_none : (pages : Option Pages) (engine : Engine) (steps : ℕ) (written : Option (List ℕ)) (waits : List ℕ) → waits ≡ [] → GoesOn pages pages engine engine steps steps written [] written waits
@@ -205,6 +199,7 @@ module _ (was mid : Option Pages) (from via : Engine) (begun now : ℕ) (before 
         written = subst (AppendsPrefix before after) (sym (flat_map-append (event_line r.network) first.events stop.events))
             (moves-lost before between after [] waits (history_text r.network first.events) (history_text r.network stop.events) moves_now stop.written);
         work = stop.work;
+        unchanged = stop.unchanged;
         too_much = stop.too_much;
       }
 
@@ -219,6 +214,7 @@ module _ (was mid : Option Pages) (from via : Engine) (begun now : ℕ) (before 
         written = subst (AppendsPrefix before after) (append-nil (history_text r.network first.events))
             (moves-lost before between after [] waits (history_text r.network first.events) [] moves_now (subst (AppendsPrefix between after) (sym (append-nil waits)) written));
         work = far.work;
+        unchanged = lost_unchanged faults faults' s lost;
         too_much = not_too_much (2 ^ 62 ≤ turns_in r) faults faults' s lost;
       }
 

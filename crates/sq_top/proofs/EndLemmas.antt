@@ -14,6 +14,7 @@ use Rattle.sq_value.specs.Texts.{text_of}
 use Rattle.sq_value.proofs.RowLemmas.{first_field-line_of, is_line-line_of}
 use Rattle.sq_outside.specs.Faults.{Rose}
 use Rattle.sq_outside.specs.Folders.{Files, file}
+use Rattle.sq_outside.specs.Disks.{Pages}
 use Rattle.sq_outside.specs.Sinks.{AppendsPrefix, appended}
 use Rattle.sq_net.specs.declared.NetErr.{NetErr}
 use Rattle.sq_net.specs.declared.NetErr.TheVariants as net
@@ -51,9 +52,12 @@ use Rattle.sq_top.specs.declared.RunArgs.{RunArgs}
 use Rattle.sq_plan.specs.Plans.{Entries}
 use Rattle.sq_replay.specs.Entries.{capacities_in, picks_in}
 use Rattle.sq_top.specs.Scripts.{Lookup, Replay, accepted, after_capacities, after_network, after_picks, after_stream, after_streams, after_words, capacities_script, go_on, outcome_of, picks_script, readable, settings_limit, stream_limit, unread, with_sources, Script}
-use Rattle.sq_top.specs.Causes.{AnswersPrefix, AppendsSuch, Ends, EndsOk, HasFailedAt, IsStopped, MatchAccepted, NamesSource, RefusalHasCause, TooMuchHasCause, WhereTold, World, is_refusal}
+use Rattle.sq_queue.specs.Fronts.{Tells}
+use Rattle.sq_top.specs.Stopping.{StopHasCause, is_changed}
+use Rattle.sq_top.specs.Causes.{AnswersPrefix, AppendsSuch, Ends, EndsOk, HasFailedAt, IsEngineOf, IsStopped, MatchAccepted, NamesSource, RefusalHasCause, TooMuchHasCause, WhereTold, World, is_refusal}
 use Rattle.sq_top.proofs.SortedLines.{and-true}
 use Rattle.sq_top.proofs.StoppedLemmas.{at_told, some_none, where_told}
+use Rattle.sq_top.proofs.StopLemmas.{refused_stop, refused_unchanged, stop_map}
 use Rattle.sq_top.proofs.ClassLemmas.{IsLineOf, IsPlainName, TellsClasses, is_end_field}
 use Rattle.sq_top.proofs.OrderLemmas.{prefix_text}
 
@@ -266,17 +270,17 @@ match_each : (o : Result Replay Status) (P : Replay → Type 0) (Q : Status → 
 match_each (Ok r) P Q p q = p r refl
 match_each (Err s) P Q p q = q s refl
 
-nothing_written : (files : Files) (words : List (List ℕ)) (out : Option (List ℕ)) (steps : ℕ) → AnswersPrefix files words out out steps steps
-nothing_written files words out steps =
+nothing_written : (files : Files) (words : List (List ℕ)) (pages : Option Pages) (out : Option (List ℕ)) (steps : ℕ) → AnswersPrefix files words pages out out steps steps
+nothing_written files words pages out steps =
     match_each (accepted (file files) words) _ _
-    (λ r e. (appends_none out (IsPrefixText (due_of r)) (no_text (due_of r) (accepted_tells_classes (file files) words r e)), omega arith))
+    (λ r e told. (appends_none out (IsPrefixText (due_of r)) (no_text (due_of r) (accepted_tells_classes (file files) words r e)), omega arith))
     (λ s e. (refl, refl))
 
-nothing_between : (files : Files) (words : List (List ℕ)) (out_before out_now : Option (List ℕ)) (steps_before steps_now : ℕ) → out_now ≡ out_before → steps_now ≡ steps_before
-    → AnswersPrefix files words out_before out_now steps_before steps_now
-nothing_between files words out_before out_now steps_before steps_now e f =
-    subst (λ o. AnswersPrefix files words out_before o steps_before steps_now) (sym e)
-    (subst (λ k. AnswersPrefix files words out_before out_before steps_before k) (sym f) (nothing_written files words out_before steps_before))
+nothing_between : (files : Files) (words : List (List ℕ)) (pages : Option Pages) (out_before out_now : Option (List ℕ)) (steps_before steps_now : ℕ) → out_now ≡ out_before
+    → steps_now ≡ steps_before → AnswersPrefix files words pages out_before out_now steps_before steps_now
+nothing_between files words pages out_before out_now steps_before steps_now e f =
+    subst (λ o. AnswersPrefix files words pages out_before o steps_before steps_now) (sym e)
+    (subst (λ k. AnswersPrefix files words pages out_before out_before steps_before k) (sym f) (nothing_written files words pages out_before steps_before))
 
 not_ok : (s : Status) → (is_refusal s ≡ true) ⊎ (s ≡ status.Memory) → s ≡ status.Ok → ⊥
 not_ok s (inl refused) e = let r : is_refusal status.Ok ≡ true = subst (λ x. is_refusal x ≡ true) e refused in cc
@@ -302,18 +306,20 @@ pub stopped_ends : (words : List (List ℕ)) (w : World) (s : Status) (source : 
     → w.out_now ≡ w.out_before → w.steps_now ≡ w.steps_before → Ends words w s source
 stopped_ends words w s source h out steps = record {
   ok = λ e. absurd (not_ok s h.ends e);
-  other = λ e. where_told w.told (λ files. AnswersPrefix files words w.out_before w.out_now w.steps_before w.steps_now)
-      (λ files t. nothing_between files words w.out_before w.out_now w.steps_before w.steps_now out steps);
+  other = λ e. where_told w.told (λ files. AnswersPrefix files words w.pages w.out_before w.out_now w.steps_before w.steps_now)
+      (λ files t. nothing_between files words w.pages w.out_before w.out_now w.steps_before w.steps_now out steps);
   refused_early = λ e. (out, steps);
   usage = h.usage;
   refusal = h.refusal;
   folder = h.folder;
   no_memory = h.no_memory;
+  stopped = refused_stop _ _ _ s h.ends;
+  unchanged = λ pages. refused_unchanged s h.ends;
   sink = λ e. absurd (not_sink s h.ends e);
-  too_much = where_told w.told (λ files. TooMuchHasCause files words s) (λ files t e. absurd (not_much s h.ends e));
-  complete = λ quiet dry. where_told w.told (λ files. EndsOk files words s)
+  too_much = where_told w.told (λ files. TooMuchHasCause files words w.pages s) (λ files t e. absurd (not_much s h.ends e));
+  complete = λ quiet sound dry. where_told w.told (λ files. EndsOk files words w.pages s)
       (λ files t. match_each (accepted (file files) words) _ _
-      (λ r e few. no_fault files words w.folder_before w.folder_now s r h.ends (at_told w.told (λ x. RefusalHasCause x words w.folder_before w.folder_now s) files t h.refusal) quiet e)
+      (λ r e pages few. no_fault files words w.folder_before w.folder_now s r h.ends (at_told w.told (λ x. RefusalHasCause x words w.folder_before w.folder_now s) files t h.refusal) quiet e)
       (λ u e. tt));
   named = h.named;
 }
@@ -344,111 +350,70 @@ module _ (words : List (List ℕ)) (w : World) (r : Replay) (source : List ℕ) 
   at_replay : (P : Replay → Type 0) (Q : Status → Type 0) → P r → WhereTold w.told (λ files. MatchAccepted (accepted (file files) words) P Q)
   at_replay P Q p = where_told w.told (λ files. MatchAccepted (accepted (file files) words) P Q) (λ files t. subst (λ o. MatchAccepted o P Q) (sym (accepted_at files t)) p)
 
-  pub answered_ok : AppendsSuch w.out_before w.out_now (IsWholeText (due_of r)) → w.steps_now ≡ w.steps_before + work → Ends words w status.Ok source
-  answered_ok out steps = record {
-    ok = λ e. at_replay (λ x. AppendsSuch w.out_before w.out_now (IsWholeText (due_of x)) × (w.steps_now ≡ w.steps_before + work_in (replayed x))) (λ u. ⊥) (out, steps);
+  pub answered_ok : (Tells w.pages → AppendsSuch w.out_before w.out_now (IsWholeText (due_of r)) × (w.steps_now ≡ w.steps_before + work)) → Ends words w status.Ok source
+  answered_ok whole = record {
+    ok = λ e. at_replay (λ x. Tells w.pages → AppendsSuch w.out_before w.out_now (IsWholeText (due_of x)) × (w.steps_now ≡ w.steps_before + work_in (replayed x))) (λ u. ⊥) whole;
     other = λ e. absurd (e refl);
     refused_early = λ e. absurd (cc);
     usage = record { only = λ e. absurd (cc); when = λ e. absurd (some_none (command_in words) some e) };
     refusal = refusal_at status.Ok refl (λ name e. cc);
     folder = record { failed = λ name e. absurd (cc); too_long = λ name e. absurd (cc) };
     no_memory = λ e. absurd (cc);
+    stopped = tt;
+    unchanged = λ pages. refl;
     sink = λ e. absurd (cc);
-    too_much = where_told w.told (λ files. TooMuchHasCause files words status.Ok) (λ files t e. absurd (cc));
-    complete = λ quiet dry. at_replay (λ x. turns_in (replayed x) < 2 ^ 62 → (status.Ok ≡ status.Ok) ⊎ (status.Ok ≡ status.Memory)) (λ u. ⊤) (λ few. inl refl);
+    too_much = where_told w.told (λ files. TooMuchHasCause files words w.pages status.Ok) (λ files t e. absurd (cc));
+    complete = λ quiet sound dry.
+        at_replay (λ x. Tells w.pages → turns_in (replayed x) < 2 ^ 62 → (status.Ok ≡ status.Ok) ⊎ (status.Ok ≡ status.Memory)) (λ u. ⊤) (λ pages few. inl refl);
     named = tt;
   }
 
-  -- a replay that is cut short, by a status that is no refusal
-  record CutBy (s : Status) : Type 0 where
-    no_refusal : is_refusal s ≡ false
-    not_ok : s ≡ status.Ok → ⊥
-    cause : (s ≡ status.Memory) ⊎ Rose w.sink_before w.sink_now ⊎ (2 ^ 62 ≤ turns)
-    sink : s ≡ status.SinkFault → Rose w.sink_before w.sink_now
-    too_much : s ≡ status.TooMuch → 2 ^ 62 ≤ turns
-    usage : s ≡ status.Usage → ⊥
-    network : (e : NetErr) → s ≡ status.BadNetwork e → ⊥
-    folder : (name : List ℕ) → s ≡ status.FolderFault name → ⊥
-    too_long : (name : List ℕ) → s ≡ status.TooLong name → ⊥
-    named : NamesSource w.told words s source
+  -- no status of a refusal cuts short what was begun
+  begun : (s t : Status) → is_refusal s ≡ false → is_refusal t ≡ true → s ≡ t → ⊥
+  begun s t is refused same = let both : true ≡ false = sym refused ∙ ap is_refusal (sym same) ∙ is in cc
 
-  ends_ok : (s : Status) → (s ≡ status.Memory) ⊎ Rose w.sink_before w.sink_now ⊎ (2 ^ 62 ≤ turns) → ¬ (Rose w.sink_before w.sink_now) → turns < 2 ^ 62 → (s ≡ status.Ok) ⊎ (s ≡ status.Memory)
-  ends_ok s (inl memory) dry few = inr memory
-  ends_ok s (inr (inl rose)) dry few = absurd (dry rose)
-  ends_ok s (inr (inr much)) dry few = absurd (omega (arith, much, few))
+  names_none : (s : Status) → is_refusal s ≡ false → NamesSource w.told words s source
+  names_none (status.BadStream number line why) is = absurd (cc)
+  names_none s is = tt
 
-  cut_ends : (s : Status) → AppendsSuch w.out_before w.out_now (IsPrefixText (due_of r)) → w.steps_now ≤ w.steps_before + work → CutBy s → Ends words w s source
-  cut_ends s out steps cut = record {
-    ok = λ e. absurd (cut.not_ok e);
-    other = λ e. at_replay (λ x. AppendsSuch w.out_before w.out_now (IsPrefixText (due_of x)) × (w.steps_now ≤ w.steps_before + work_in (replayed x)))
-        (λ u. (w.out_now ≡ w.out_before) × (w.steps_now ≡ w.steps_before)) (out, steps);
-    refused_early = λ e. let both : true ≡ false = sym e ∙ cut.no_refusal in absurd (cc);
-    usage = record { only = λ e. absurd (cut.usage e); when = λ e. absurd (some_none (command_in words) some e) };
-    refusal = refusal_at s cut.no_refusal cut.folder;
-    folder = record { failed = λ name e. absurd (cut.folder name e); too_long = λ name e. absurd (cut.too_long name e) };
-    no_memory = λ e. absurd (cut.network net.Memory e);
-    sink = cut.sink;
-    too_much = at_much (λ e. at_replay (λ x. 2 ^ 62 ≤ turns_in (replayed x)) (λ u. ⊥) (cut.too_much e));
-    complete = λ quiet dry. at_replay (λ x. turns_in (replayed x) < 2 ^ 62 → (s ≡ status.Ok) ⊎ (s ≡ status.Memory)) (λ u. ⊤) (ends_ok s cut.cause dry);
-    named = cut.named;
-  }
-    where
-      at_much : (s ≡ status.TooMuch → WhereTold w.told (λ files. MatchAccepted (accepted (file files) words) (λ x. 2 ^ 62 ≤ turns_in (replayed x)) (λ u. ⊥)))
-          → WhereTold w.told (λ files. TooMuchHasCause files words s)
-      at_much f = where_told w.told (λ files. TooMuchHasCause files words s)
-          (λ files t e. at_told w.told (λ x. MatchAccepted (accepted (file x) words) (λ y. 2 ^ 62 ≤ turns_in (replayed y)) (λ u. ⊥)) files t (f e))
-
-  cut_memory : CutBy status.Memory
-  cut_memory = record {
-    no_refusal = refl;
-    not_ok = λ e. cc;
-    cause = inl refl;
-    sink = λ e. absurd (cc);
-    too_much = λ e. absurd (cc);
-    usage = λ e. cc;
-    network = λ x e. cc;
-    folder = λ name e. cc;
-    too_long = λ name e. cc;
-    named = tt;
-  }
-
-  cut_sink : Rose w.sink_before w.sink_now → CutBy status.SinkFault
-  cut_sink rose = record {
-    no_refusal = refl;
-    not_ok = λ e. cc;
-    cause = inr (inl rose);
-    sink = λ e. rose;
-    too_much = λ e. absurd (cc);
-    usage = λ e. cc;
-    network = λ x e. cc;
-    folder = λ name e. cc;
-    too_long = λ name e. cc;
-    named = tt;
-  }
-
-  cut_much : 2 ^ 62 ≤ turns → CutBy status.TooMuch
-  cut_much much = record {
-    no_refusal = refl;
-    not_ok = λ e. cc;
-    cause = inr (inr much);
-    sink = λ e. absurd (cc);
-    too_much = λ e. much;
-    usage = λ e. cc;
-    network = λ x e. cc;
-    folder = λ name e. cc;
-    too_long = λ name e. cc;
-    named = tt;
-  }
-
-  cut_by : (s : Status) → IsCutShort w.sink_before w.sink_now s → (s ≡ status.TooMuch → 2 ^ 62 ≤ turns) → CutBy s
-  cut_by s (inl (inl memory)) much = subst CutBy (sym memory) cut_memory
-  cut_by s (inl (inr sink)) much = subst CutBy (sym sink.0) (cut_sink sink.1)
-  cut_by s (inr is) much = subst CutBy (sym is) (cut_much (much is))
+  -- without a fault, and over a disk that changes no page, it is want of memory, or too much
+  ends_ok : (s : Status) → IsCutShort w.sink_before w.sink_now s → StopHasCause (λ e. e.network ≡ r.network) w.disk_before w.disk_now s → is_changed s ≡ false
+      → (s ≡ status.TooMuch → 2 ^ 62 ≤ turns) → ¬ (Rose w.disk_before w.disk_now) → ¬ (Rose w.sink_before w.sink_now) → turns < 2 ^ 62 → (s ≡ status.Ok) ⊎ (s ≡ status.Memory)
+  ends_ok status.Memory cut stop same much sound dry few = inr refl
+  ends_ok status.SinkFault cut stop same much sound dry few = absurd (dry (cut.sink refl))
+  ends_ok status.DiskFault cut stop same much sound dry few = absurd (sound stop)
+  ends_ok status.TooMuch cut stop same much sound dry few = let most = much refl in absurd (omega (arith, most, few))
+  ends_ok (status.Garbled page kept got) cut stop same much sound dry few = absurd (cc)
+  ends_ok (status.NotAPage page bytes) cut stop same much sound dry few = absurd (cc)
+  ends_ok (status.Strange arc item) cut stop same much sound dry few = absurd (cc)
+  ends_ok s cut stop same much sound dry few = let no = cut.begun in absurd (cc)
 
   -- the answer is cut short
-  pub answered_cut : (s : Status) → AppendsSuch w.out_before w.out_now (IsPrefixText (due_of r)) → w.steps_now ≤ w.steps_before + work → IsCutShort w.sink_before w.sink_now s
-      → (s ≡ status.TooMuch → 2 ^ 62 ≤ turns) → Ends words w s source
-  answered_cut s out steps cut much = cut_ends s out steps (cut_by s cut much)
+  pub answered_cut : (s : Status) → IsCutShort w.sink_before w.sink_now s → StopHasCause (λ e. e.network ≡ r.network) w.disk_before w.disk_now s
+      → (Tells w.pages → is_changed s ≡ false) → (Tells w.pages → s ≡ status.TooMuch → 2 ^ 62 ≤ turns)
+      → (Tells w.pages → AppendsSuch w.out_before w.out_now (IsPrefixText (due_of r)) × (w.steps_now ≤ w.steps_before + work)) → Ends words w s source
+  answered_cut s cut stop same much first = record {
+    ok = λ e. absurd (cut.no_end e);
+    other = λ e. at_replay (λ x. Tells w.pages → AppendsSuch w.out_before w.out_now (IsPrefixText (due_of x)) × (w.steps_now ≤ w.steps_before + work_in (replayed x)))
+        (λ u. (w.out_now ≡ w.out_before) × (w.steps_now ≡ w.steps_before)) first;
+    refused_early = λ e. let both : true ≡ false = sym e ∙ cut.begun in absurd (cc);
+    usage = record { only = λ e. absurd (begun s status.Usage cut.begun refl e); when = λ e. absurd (some_none (command_in words) some e) };
+    refusal = refusal_at s cut.begun (λ name e. begun s (status.FolderFault name) cut.begun refl e);
+    folder = record {
+      failed = λ name e. absurd (begun s (status.FolderFault name) cut.begun refl e);
+      too_long = λ name e. absurd (begun s (status.TooLong name) cut.begun refl e);
+    };
+    no_memory = λ e. begun s (status.BadNetwork net.Memory) cut.begun refl e;
+    stopped = stop_map _ (IsEngineOf w.told words) _ _ _ _ s (λ rose. rose) (λ e is. at_replay (λ x. e.network ≡ x.network) (λ u. ⊥) is) stop;
+    unchanged = same;
+    sink = cut.sink;
+    too_much = where_told w.told (λ files. TooMuchHasCause files words w.pages s)
+        (λ files t e. at_told w.told (λ x. MatchAccepted (accepted (file x) words) (λ y. Tells w.pages → 2 ^ 62 ≤ turns_in (replayed y)) (λ u. ⊥)) files t
+        (at_replay (λ y. Tells w.pages → 2 ^ 62 ≤ turns_in (replayed y)) (λ u. ⊥) (λ pages. much pages e)));
+    complete = λ quiet sound dry. at_replay (λ x. Tells w.pages → turns_in (replayed x) < 2 ^ 62 → (s ≡ status.Ok) ⊎ (s ≡ status.Memory)) (λ u. ⊤)
+        (λ pages few. ends_ok s cut stop (same pages) (much pages) sound dry few);
+    named = names_none s cut.begun;
+  }
 
 -- any end but Ok may be one for want of memory
 pub memory_ends : (words : List (List ℕ)) (w : World) (s : Status) (source other : List ℕ) → s ≢ status.Ok → Ends words w s source → Ends words w status.Memory other
@@ -464,9 +429,11 @@ memory_ends words w s source other differs h = record {
   });
   folder = record { failed = λ name e. absurd (cc); too_long = λ name e. absurd (cc) };
   no_memory = λ e. absurd (cc);
+  stopped = tt;
+  unchanged = λ pages. refl;
   sink = λ e. absurd (cc);
-  too_much = where_told w.told (λ files. TooMuchHasCause files words status.Memory) (λ files t e. absurd (cc));
-  complete = λ quiet dry. where_told w.told (λ files. EndsOk files words status.Memory) (λ files t. match_each (accepted (file files) words) _ _ (λ x e few. inr refl) (λ u e. tt));
+  too_much = where_told w.told (λ files. TooMuchHasCause files words w.pages status.Memory) (λ files t e. absurd (cc));
+  complete = λ quiet sound dry. where_told w.told (λ files. EndsOk files words w.pages status.Memory) (λ files t. match_each (accepted (file files) words) _ _ (λ x e pages few. inr refl) (λ u e. tt));
   named = tt;
 }
 

@@ -11,6 +11,7 @@ pub mod ReplayLemmas
 mod Rows
 pub mod SortedLines
 pub mod StoppedLemmas
+pub mod StopLemmas
 pub mod WritingLemmas
 pub mod SourceLemmas
 pub mod TrainLemmas

@@ -149,12 +149,12 @@ fn network_message(alloc: Global, e: NetErr) -> Result<String, AllocError>
     format!(in alloc; "aurora: network: {rule}{place}{detail}\n")
 }
 
-/// The lower-case hexadecimal digits of a digest.
-fn digest_text(alloc: Global, digest: &Digest) -> Result<String, AllocError>
-    ensures { IfOk result (λ text. string_bytes text ≡ hex_text (digest.now).0) }
+/// Two lower-case hexadecimal digits for each byte.
+fn hex_text(alloc: Global, bytes: &[u8]) -> Result<String, AllocError>
+    ensures { IfOk result (λ text. string_bytes text ≡ hex_text bytes.now) }
 {
     let mut text = String::new(alloc);
-    for byte in &digest.0 {
+    'bytes: for byte in bytes {
         let digits = format!(in alloc; "{byte:02x}")?;
         text.push_str(digits.as_str())?;
     }
@@ -169,8 +169,8 @@ fn changed_message(
 ) -> Result<String, AllocError>
     ensures { IfOk result (λ text. string_bytes text ≡ message_of [] (Status.Garbled page kept.now got.now)) }
 {
-    let kept = digest_text(alloc, kept)?;
-    let got = digest_text(alloc, got)?;
+    let kept = hex_text(alloc, &kept.0)?;
+    let got = hex_text(alloc, &got.0)?;
     format!(in alloc; "aurora: page {page} changed: {kept} {got}\n")
 }
 

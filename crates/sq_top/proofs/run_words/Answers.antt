@@ -1,6 +1,6 @@
-use Rattle.std.proofs.Common.{refl}
 use Rattle.sq_top.specs.Causes.{source_of}
 use Rattle.sq_top.proofs.EndLemmas.{told_ends}
+use Rattle.sq_top.proofs.StopLemmas.{told_refused}
 use Rattle.sq_top.proofs.run_words.Goals as goal
 
 pub returns-in-Ok-clause-complete : goal.returns-in-Ok-clause-complete
@@ -17,11 +17,14 @@ returns g c =
       refusal = e.refusal;
       folder = e.folder;
       no_memory = e.no_memory;
+      stopped = e.stopped;
+      unchanged = e.unchanged;
       sink = e.sink;
       too_much = e.too_much;
       complete = e.complete;
       message = (source_of c.run-stopped.result.source, e.named, rw c.tell.ensures.source at c.tell.ensures.told);
       same_files = c.run-stopped.ensures.files;
-      same_disk = (refl, refl);
-      later = (c.run-stopped.ensures.later.0, c.run-stopped.ensures.later.1, c.run-stopped.ensures.later.2, c.tell.ensures.later);
+      same_disk = λ refused. c.run-stopped.ensures.disk (told_refused _ _ c.tell.ensures.status refused);
+      tells = c.run-stopped.ensures.tells;
+      later = (c.run-stopped.ensures.later.0, c.run-stopped.ensures.later.1, c.run-stopped.ensures.later.2, c.run-stopped.ensures.later.3, c.tell.ensures.later);
     }

@@ -1,5 +1,7 @@
 use Rattle.std.proofs.Common.{refl, arith, ◌∙◌}
 use Rattle.sq_top.proofs.DrivingLemmas.{drive_ends, drive_lost, drive_stops, goes_none, goes_then}
+use Rattle.sq_top.proofs.StopLemmas.{cut_later, lost_cut, lost_stop, stop_map}
+use Rattle.sq_top.proofs.StoppedLemmas.{rose_later}
 use Rattle.sq_top.proofs.driving.drive.Goals as goal
 
 pub steps-init : goal.steps-init
@@ -9,6 +11,7 @@ steps-init g c = record {
   network = refl;
   tells = refl;
   goes = goes_none _ _ _ _ _ c.new-2.ensures.items;
+  disk_later = omega arith;
   later = omega arith;
 }
 
@@ -19,14 +22,29 @@ steps-preserved g c =
       sound = c.in-Ok.ensures.sound;
       together = c.in-Ok.ensures.together;
       network = c.step_once.ensures.network ∙ before.network;
-      tells = c.in-Ok.ensures.tells ∙ before.tells;
+      tells = c.step_once.ensures.tells ∙ before.tells;
       goes = goes_then _ _ _ _ _ _ _ _ _ _ before.goes before.network _ _ _ _ _ c.in-Ok.ensures.ok;
-      later = omega (arith, before.later, c.step_once.ensures.later);
+      disk_later = omega (arith, before.disk_later, c.step_once.ensures.later.0);
+      later = omega (arith, before.later, c.step_once.ensures.later.1);
     }
 
 pub returns-in-Err-clause-err : goal.returns-in-Err-clause-err
 returns-in-Err-clause-err g c r begun told run =
     let before = c.steps.invariant in drive_stops _ _ _ _ _ _ _ _ _ before.goes before.tells r begun told run _ _ _ c.in-Err.ensures.err
+
+pub returns-in-Err-clause-cut : goal.returns-in-Err-clause-cut
+returns-in-Err-clause-cut g c = cut_later _ _ _ _ c.steps.invariant.later c.in-Err.ensures.cut
+
+pub returns-in-Err-clause-stopped : goal.returns-in-Err-clause-stopped
+returns-in-Err-clause-stopped g c =
+    let before = c.steps.invariant in
+    stop_map _ _ _ _ _ _ c.in-Err.status (rose_later 1 _ _ _ before.disk_later) (λ e same. same ∙ before.network) c.in-Err.ensures.stopped
+
+pub returns-in-Err-send-clause-cut : goal.returns-in-Err-send-clause-cut
+returns-in-Err-send-clause-cut g c = lost_cut _ _ _ _ c.steps.invariant.later c.in-Err-send.ensures.lost
+
+pub returns-in-Err-send-clause-stopped : goal.returns-in-Err-send-clause-stopped
+returns-in-Err-send-clause-stopped g c = lost_stop _ _ _ _ _ _ c.in-Err-send.ensures.lost
 
 pub returns-in-Ok-send-clause-ok : goal.returns-in-Ok-send-clause-ok
 returns-in-Ok-send-clause-ok g c r begun told run =

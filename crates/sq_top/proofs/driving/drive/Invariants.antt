@@ -13,6 +13,7 @@ invariant-steps g l = record {
   network : l.engine.network ≡ l.fn.engine.network;
   tells : is_some (g.D.PageDisk.pages l.disk) ≡ is_some (g.D.PageDisk.pages l.fn.disk);
   goes : GoesOn (g.D.PageDisk.pages l.fn.disk) (g.D.PageDisk.pages l.disk) l.fn.engine l.engine l.fn.steps l.steps (g.S.Sink.written l.fn.out) [] (g.S.Sink.written l.out) l.held.text.items;
+  disk_later : g.D.PageDisk.faults l.fn.disk ≤ g.D.PageDisk.faults l.disk;
   later : g.S.Sink.faults l.fn.out ≤ g.S.Sink.faults l.out;
 }
 

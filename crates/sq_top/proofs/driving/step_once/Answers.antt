@@ -1,6 +1,9 @@
-use Rattle.sq_top.specs.Driving.{Stops}
+use Rattle.std.proofs.Common.{◌≡◌, arith, subst, sym}
+use Rattle.sq_top.specs.Driving.{IsCutShort, Stops}
+use Rattle.sq_top.specs.Stopping.{StopHasCause}
 use Rattle.sq_top.proofs.WritingLemmas.{on_ok}
-use Rattle.sq_top.proofs.DrivingLemmas.{if_err_both, step_goes, step_lines, step_lost, step_stops}
+use Rattle.sq_top.proofs.DrivingLemmas.{if_err, if_err_both, step_goes, step_lines, step_lost, step_stops}
+use Rattle.sq_top.proofs.StopLemmas.{lost_cut, lost_stop, step_cause, step_cut}
 use Rattle.sq_top.proofs.driving.step_once.Goals as goal
 
 pub show_events-requires : goal.show_events-requires
@@ -18,7 +21,25 @@ returns-in-Ok-clause-err g c =
     if_err_both
     (Stops (g.D.PageDisk.pages c.args.disk.now) c.args.engine.now c.args.steps.now c.step.new.steps (g.S.Sink.written c.args.out.now) c.args.held.now.text.items (g.S.Sink.written c.show_events.new.out))
     c.show_events.result (rw c.as_slice.ensures.value at c.show_events.ensures.err) c.show_events.ensures.lost
-    (λ s written lost. step_lost _ _ _ _ _ _ c.clear.ensures.items _ _ c.in-Ok.ensures.shows c.in-Ok.ensures.run c.step.ensures.network _ _ _ _ _ s c.in-Ok.ensures.tells written lost)
+    (λ s written lost. step_lost _ _ _ _ _ _ c.clear.ensures.items _ _ c.in-Ok.ensures.shows c.in-Ok.ensures.run c.step.ensures.network _ _ _ _ _ s c.step.ensures.tells written lost)
 
 pub returns-in-Err-clause-err : goal.returns-in-Err-clause-err
-returns-in-Err-clause-err g c = step_stops _ _ _ _ _ _ c.clear.ensures.items _ _ _ _ c.status_of.ensures.cause c.in-Err.ensures.stopped
+returns-in-Err-clause-err g c = step_stops _ _ _ _ _ _ c.clear.ensures.items _ _ _ _ c.status_of.ensures c.in-Err.ensures.stopped
+
+pub returns-in-Err-clause-cut : goal.returns-in-Err-clause-cut
+returns-in-Err-clause-cut g c = subst (IsCutShort _ _) (sym c.status_of.ensures) (step_cut _ _ c.in-Err.e)
+
+pub returns-in-Err-clause-stopped : goal.returns-in-Err-clause-stopped
+returns-in-Err-clause-stopped g c =
+    subst (StopHasCause (λ e. e.network ≡ c.args.engine.now.network) _ _) (sym c.status_of.ensures)
+    (step_cause _ c.step.new.self _ _ c.in-Err.e c.step.ensures.network c.in-Err.ensures.failed c.in-Err.ensures.cause c.in-Err.ensures.counted)
+
+pub returns-in-Ok-clause-cut : goal.returns-in-Ok-clause-cut
+returns-in-Ok-clause-cut g c =
+    if_err (IsCutShort (g.S.Sink.faults c.args.out.now) (g.S.Sink.faults c.show_events.new.out)) c.show_events.result c.show_events.ensures.lost
+    (λ s lost. lost_cut _ _ _ s (omega arith) lost)
+
+pub returns-in-Ok-clause-stopped : goal.returns-in-Ok-clause-stopped
+returns-in-Ok-clause-stopped g c =
+    if_err (StopHasCause (λ e. e.network ≡ c.args.engine.now.network) (g.D.PageDisk.faults c.args.disk.now) (g.D.PageDisk.faults c.step.new.disk)) c.show_events.result
+    c.show_events.ensures.lost (λ s lost. lost_stop _ _ _ _ _ s lost)

@@ -2,7 +2,7 @@ use Rattle.std.proofs.Common.{arith, map, ◌∙◌, ◌≤◌}
 use Rattle.std.specs.String.{string_bytes}
 use Rattle.sq_top.specs.Scripts.{unread, with_sources}
 use Rattle.sq_top.proofs.StoppedLemmas.{accepted_streams, is_command, no_picks_later, no_streams_later, picks_leads, stopped_picks, stopped_streams}
-use Rattle.sq_top.proofs.TrainLemmas.{command_train}
+use Rattle.sq_top.proofs.TrainLemmas.{command_least}
 use Rattle.sq_top.proofs.reading.prepare.Goals as goal
 
 pub returns-in-Err-picks_for-clause-stopped : goal.returns-in-Err-picks_for-clause-stopped
@@ -39,4 +39,7 @@ returns-clause-stopped g c =
     (no_streams_later told r n.sources _ _ _ _ _ _ _ _ faults taken (rw same at (c.in-Err-streams_of.ensures.stopped r)))
 
 pub returns-in-Ok-streams_of-clause-train : goal.returns-in-Ok-streams_of-clause-train
-returns-in-Ok-streams_of-clause-train g c = command_train (map string_bytes c.args.words.now.items) c.in-Ok.named.0 c.in-Ok.ensures.command
+returns-in-Ok-streams_of-clause-train g c = (command_least (map string_bytes c.args.words.now.items) c.in-Ok.named.0 c.in-Ok.ensures.command).0
+
+pub returns-in-Ok-streams_of-clause-frames : goal.returns-in-Ok-streams_of-clause-frames
+returns-in-Ok-streams_of-clause-frames g c = (command_least (map string_bytes c.args.words.now.items) c.in-Ok.named.0 c.in-Ok.ensures.command).1

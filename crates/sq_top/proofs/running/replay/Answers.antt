@@ -1,16 +1,19 @@
-use Rattle.std.proofs.Common.{◌≡◌, ◌≤◌, ◌^◌, arith, map, ◌∙◌}
+use Rattle.std.proofs.Common.{◌≡◌, ◌≤◌, ◌^◌, arith, false, map, ◌∙◌}
 use Rattle.sq_replay.proofs.ShownLemmas.{on_err_any}
+use Rattle.sq_queue.specs.Fronts.{Tells}
 use Rattle.sq_top.specs.Views.{replay_of}
 use Rattle.sq_top.specs.declared.Status.TheVariants as status
 use Rattle.sq_top.specs.Driving.{IsCutShort}
 use Rattle.sq_top.specs.Due.{replayed, turns_in}
-use Rattle.sq_top.proofs.DrivingLemmas.{if_err, lost_cut, not_too_much}
+use Rattle.sq_top.specs.Stopping.{StopHasCause, is_changed}
+use Rattle.sq_top.proofs.DrivingLemmas.{if_err, not_too_much}
 use Rattle.sq_top.proofs.ReplayLemmas.{replay_cut, replay_ends, replay_halts, replay_waits}
-use Rattle.sq_top.proofs.WritingLemmas.{on_err, on_ok, on_ok_any}
+use Rattle.sq_top.proofs.StopLemmas.{lost_cut, lost_stop, lost_unchanged, stop_map}
+use Rattle.sq_top.proofs.WritingLemmas.{on_err, on_ok}
 use Rattle.sq_top.proofs.running.replay.Goals as goal
 
 pub returns-in-Err-clause-err : goal.returns-in-Err-clause-err
-returns-in-Err-clause-err g c =
+returns-in-Err-clause-err g c told =
     replay_waits (replayed (replay_of c.args.accepted)) c.requires.sound (g.S.Sink.written c.args.out.now)
 
 pub drive-requires-clause-together : goal.drive-requires-clause-together
@@ -20,54 +23,65 @@ pub returns-in-Ok-drive-clause-ok : goal.returns-in-Ok-drive-clause-ok
 returns-in-Ok-drive-clause-ok g c =
     let r = replayed (replay_of c.args.accepted) in
     let run = c.in-Ok.ensures.run _ c.args.steps.now in
-    let driven = c.in-Ok-drive.ensures.ok r c.args.steps.now c.spare_disk-disk.ensures run in
     on_ok c.write_ends.result c.write_ends.ensures.ok
-    (λ written. replay_ends r c.requires.sound c.in-Ok-drive.engine (c.in-Ok-drive.ensures.network ∙ run.network) _ _ _ _ driven _ written)
+    (λ written told. replay_ends r c.requires.sound c.in-Ok-drive.engine (c.in-Ok-drive.ensures.network ∙ run.network) _ _ _ _ (c.in-Ok-drive.ensures.ok r c.args.steps.now told run) _ written)
 
 pub returns-in-Ok-drive-clause-err : goal.returns-in-Ok-drive-clause-err
 returns-in-Ok-drive-clause-err g c =
     let r = replayed (replay_of c.args.accepted) in
     let run = c.in-Ok.ensures.run _ c.args.steps.now in
-    let driven = c.in-Ok-drive.ensures.ok r c.args.steps.now c.spare_disk-disk.ensures run in
     on_err c.write_ends.result c.write_ends.ensures.err
-    (λ written. replay_cut r c.requires.sound c.in-Ok-drive.engine (c.in-Ok-drive.ensures.network ∙ run.network) _ _ _ _ driven _ written)
+    (λ written told. replay_cut r c.requires.sound c.in-Ok-drive.engine (c.in-Ok-drive.ensures.network ∙ run.network) _ _ _ _ (c.in-Ok-drive.ensures.ok r c.args.steps.now told run) _ written)
 
 pub returns-in-Ok-drive-clause-steps : goal.returns-in-Ok-drive-clause-steps
 returns-in-Ok-drive-clause-steps g c =
     let r = replayed (replay_of c.args.accepted) in
-    let run = c.in-Ok.ensures.run _ c.args.steps.now in
-    on_ok_any c.write_ends.result (c.in-Ok-drive.ensures.ok r c.args.steps.now c.spare_disk-disk.ensures run).work
+    on_ok c.write_ends.result c.write_ends.ensures.ok
+    (λ written told. (c.in-Ok-drive.ensures.ok r c.args.steps.now told (c.in-Ok.ensures.run _ c.args.steps.now)).work)
 
 pub returns-in-Ok-drive-clause-fewer : goal.returns-in-Ok-drive-clause-fewer
 returns-in-Ok-drive-clause-fewer g c =
     let r = replayed (replay_of c.args.accepted) in
-    let run = c.in-Ok.ensures.run _ c.args.steps.now in
-    let work = (c.in-Ok-drive.ensures.ok r c.args.steps.now c.spare_disk-disk.ensures run).work in
-    on_err_any c.write_ends.result (omega (arith, work))
+    on_err c.write_ends.result c.write_ends.ensures.err
+    (λ written told. (let work = (c.in-Ok-drive.ensures.ok r c.args.steps.now told (c.in-Ok.ensures.run _ c.args.steps.now)).work in omega (arith, work)))
 
-pub returns-clause-err : goal.returns-clause-err
-returns-clause-err g c =
+pub returns-in-Err-drive-clause-err : goal.returns-in-Err-drive-clause-err
+returns-in-Err-drive-clause-err g c told =
     let r = replayed (replay_of c.args.accepted) in
-    let run = c.in-Ok.ensures.run _ c.args.steps.now in
-    let halted = c.in-Err-drive.ensures.err r c.args.steps.now c.spare_disk-disk.ensures run in
-    replay_halts r c.requires.sound c.in-Err-drive.status _ _ _ _ halted
+    replay_halts r c.requires.sound c.in-Err-drive.status _ _ _ _ (c.in-Err-drive.ensures.err r c.args.steps.now told (c.in-Ok.ensures.run _ c.args.steps.now))
 
-pub returns-clause-fewer : goal.returns-clause-fewer
-returns-clause-fewer g c =
-    let r = replayed (replay_of c.args.accepted) in
-    (c.in-Err-drive.ensures.err r c.args.steps.now c.spare_disk-disk.ensures (c.in-Ok.ensures.run _ c.args.steps.now)).work
+pub returns-in-Err-drive-clause-fewer : goal.returns-in-Err-drive-clause-fewer
+returns-in-Err-drive-clause-fewer g c told =
+    (c.in-Err-drive.ensures.err (replayed (replay_of c.args.accepted)) c.args.steps.now told (c.in-Ok.ensures.run _ c.args.steps.now)).work
 
-pub returns-clause-too_much : goal.returns-clause-too_much
-returns-clause-too_much g c =
-    let r = replayed (replay_of c.args.accepted) in
-    (c.in-Err-drive.ensures.err r c.args.steps.now c.spare_disk-disk.ensures (c.in-Ok.ensures.run _ c.args.steps.now)).too_much
+pub returns-in-Err-drive-clause-too_much : goal.returns-in-Err-drive-clause-too_much
+returns-in-Err-drive-clause-too_much g c told =
+    (c.in-Err-drive.ensures.err (replayed (replay_of c.args.accepted)) c.args.steps.now told (c.in-Ok.ensures.run _ c.args.steps.now)).too_much
+
+pub returns-in-Err-drive-clause-unchanged : goal.returns-in-Err-drive-clause-unchanged
+returns-in-Err-drive-clause-unchanged g c told =
+    (c.in-Err-drive.ensures.err (replayed (replay_of c.args.accepted)) c.args.steps.now told (c.in-Ok.ensures.run _ c.args.steps.now)).unchanged
+
+pub returns-in-Err-drive-clause-stopped : goal.returns-in-Err-drive-clause-stopped
+returns-in-Err-drive-clause-stopped g c =
+    stop_map _ _ _ _ _ _ c.in-Err-drive.status (λ rose. rose) (λ e same. same ∙ (c.in-Ok.ensures.run (g.D.PageDisk.pages c.args.disk.now) c.args.steps.now).network) c.in-Err-drive.ensures.stopped
 
 pub returns-in-Ok-drive-clause-cut : goal.returns-in-Ok-drive-clause-cut
 returns-in-Ok-drive-clause-cut g c =
     if_err (IsCutShort (g.S.Sink.faults c.args.out.now) (g.S.Sink.faults c.write_ends.new.out)) c.write_ends.result c.write_ends.ensures.lost
-    (λ s lost. lost_cut _ _ _ s c.drive.ensures.later lost)
+    (λ s lost. lost_cut _ _ _ s c.drive.ensures.later.1 lost)
+
+pub returns-in-Ok-drive-clause-stopped : goal.returns-in-Ok-drive-clause-stopped
+returns-in-Ok-drive-clause-stopped g c =
+    if_err (StopHasCause (λ e. e.network ≡ c.args.accepted.network) (g.D.PageDisk.faults c.args.disk.now) (g.D.PageDisk.faults c.drive.new.disk)) c.write_ends.result
+    c.write_ends.ensures.lost (λ s lost. lost_stop _ _ _ _ _ s lost)
+
+pub returns-in-Ok-drive-clause-unchanged : goal.returns-in-Ok-drive-clause-unchanged
+returns-in-Ok-drive-clause-unchanged g c =
+    if_err (λ s. Tells (g.D.PageDisk.pages c.args.disk.now) → is_changed s ≡ false) c.write_ends.result c.write_ends.ensures.lost
+    (λ s lost told. lost_unchanged _ _ s lost)
 
 pub returns-in-Ok-drive-clause-too_much : goal.returns-in-Ok-drive-clause-too_much
 returns-in-Ok-drive-clause-too_much g c =
-    if_err (λ s. s ≡ status.TooMuch → 2 ^ 62 ≤ turns_in (replayed (replay_of c.args.accepted))) c.write_ends.result c.write_ends.ensures.lost
-    (λ s lost. not_too_much (2 ^ 62 ≤ turns_in (replayed (replay_of c.args.accepted))) _ _ s lost)
+    if_err (λ s. Tells (g.D.PageDisk.pages c.args.disk.now) → s ≡ status.TooMuch → 2 ^ 62 ≤ turns_in (replayed (replay_of c.args.accepted))) c.write_ends.result
+    c.write_ends.ensures.lost (λ s lost told. not_too_much (2 ^ 62 ≤ turns_in (replayed (replay_of c.args.accepted))) _ _ s lost)

@@ -1,0 +1,111 @@
+-- Why engines stop, and what is cut short.
+use Rattle.std.proofs.Common.{◌≡◌, ◌⊎◌, inl, inr, ℕ, ◌+◌, ◌^◌, ◌≤◌, true, false, refl, ap, sym, ◌∙◌, subst}
+use Rattle.sq_outside.specs.Faults.{Rose}
+use Rattle.sq_actor.specs.declared.actor.Actor.{Actor}
+use Rattle.sq_flow.specs.declared.flow.Flow.{Flow}
+use Rattle.sq_flow.specs.declared.errors.RunErr.{RunErr}
+use Rattle.sq_flow.specs.declared.errors.RunErr.TheVariants as run_err
+use Rattle.sq_flow.specs.Causes.{IsCauseIn}
+use Rattle.sq_flow.specs.Takes.{NotStrange}
+use Rattle.sq_core.specs.declared.engine.Engine.{Engine}
+use Rattle.sq_top.specs.declared.Status.{Status}
+use Rattle.sq_top.specs.declared.Status.TheVariants as status
+use Rattle.sq_top.specs.Causes.{is_refusal}
+use Rattle.sq_top.specs.Driving.{IsCutShort}
+use Rattle.sq_top.specs.Stopping.{FailedIn, StopHasCause, is_changed, status_of}
+use Rattle.sq_top.specs.Writing.{IsLost}
+use Rattle.sq_top.proofs.StoppedLemmas.{rose_later}
+
+failed_map : (P Q : Engine → Type 0) (X : Flow Actor → Type 0) → ((e : Engine) → P e → Q e) → FailedIn P X → FailedIn Q X
+failed_map P Q X of f = record { engine = f.engine; of_run = of f.engine f.of_run; failed = f.failed; shows = f.shows }
+
+-- what shows why an engine stopped shows it of a longer call, and of any run of which the engine is
+pub stop_map : (P Q : Engine → Type 0) (before now before' now' : ℕ) (s : Status) → (Rose before now → Rose before' now') → ((e : Engine) → P e → Q e)
+    → StopHasCause P before now s → StopHasCause Q before' now' s
+stop_map P Q before now before' now' status.DiskFault rose of h = rose h
+stop_map P Q before now before' now' (status.Garbled page kept got) rose of h = (h.0, failed_map P Q _ of h.1)
+stop_map P Q before now before' now' (status.NotAPage page bytes) rose of h = failed_map P Q _ of h
+stop_map P Q before now before' now' (status.Strange arc item) rose of h = failed_map P Q _ of h
+stop_map P Q before now before' now' status.TooMuch rose of h = failed_map P Q _ of h
+stop_map P Q before now before' now' s rose of h = tt
+
+-- why a step failed
+pub step_cause : (P : Engine → Type 0) (to : Engine) (before now : ℕ) (e : RunErr) → P to → to.engine.failed ≡ true → IsCauseIn to.engine.flow before now e
+    → (e ≡ run_err.TooMuch → 2 ^ 62 ≤ to.engine.flow.taken + 2) → StopHasCause P before now (status_of e)
+step_cause P to before now run_err.Disk of failed cause counted = cause
+step_cause P to before now (run_err.Garbled page kept got) of failed cause counted =
+    (cause.refusal.2.3, record { engine = to; of_run = of; failed = failed; shows = cause })
+step_cause P to before now (run_err.NotAPage page bytes) of failed cause counted = record { engine = to; of_run = of; failed = failed; shows = cause }
+step_cause P to before now (run_err.Strange arc item) of failed cause counted = record { engine = to; of_run = of; failed = failed; shows = cause }
+step_cause P to before now run_err.TooMuch of failed cause counted = record { engine = to; of_run = of; failed = failed; shows = counted refl }
+step_cause P to before now run_err.Memory of failed cause counted = tt
+
+pub step_unchanged : (e : RunErr) → NotStrange e → is_changed (status_of e) ≡ false
+step_unchanged run_err.Disk named = refl
+step_unchanged (run_err.Garbled page kept got) named = absurd named
+step_unchanged (run_err.NotAPage page bytes) named = absurd named
+step_unchanged (run_err.Strange arc item) named = absurd named
+step_unchanged run_err.TooMuch named = refl
+step_unchanged run_err.Memory named = refl
+
+pub step_much : (e : RunErr) → status_of e ≡ status.TooMuch → e ≡ run_err.TooMuch
+step_much run_err.Disk is = absurd (cc)
+step_much (run_err.Garbled page kept got) is = absurd (cc)
+step_much (run_err.NotAPage page bytes) is = absurd (cc)
+step_much (run_err.Strange arc item) is = absurd (cc)
+step_much run_err.TooMuch is = refl
+step_much run_err.Memory is = absurd (cc)
+
+pub step_cut : (before now : ℕ) (e : RunErr) → IsCutShort before now (status_of e)
+step_cut before now run_err.Disk = record { begun = refl; no_end = λ is. absurd (cc); sink = λ is. absurd (cc) }
+step_cut before now (run_err.Garbled page kept got) = record { begun = refl; no_end = λ is. absurd (cc); sink = λ is. absurd (cc) }
+step_cut before now (run_err.NotAPage page bytes) = record { begun = refl; no_end = λ is. absurd (cc); sink = λ is. absurd (cc) }
+step_cut before now (run_err.Strange arc item) = record { begun = refl; no_end = λ is. absurd (cc); sink = λ is. absurd (cc) }
+step_cut before now run_err.TooMuch = record { begun = refl; no_end = λ is. absurd (cc); sink = λ is. absurd (cc) }
+step_cut before now run_err.Memory = record { begun = refl; no_end = λ is. absurd (cc); sink = λ is. absurd (cc) }
+
+pub cut_later : (before mid now : ℕ) (s : Status) → before ≤ mid → IsCutShort mid now s → IsCutShort before now s
+cut_later before mid now s le cut = record { begun = cut.begun; no_end = cut.no_end; sink = λ is. rose_later 1 before mid now le (cut.sink is) }
+
+-- what is lost cuts short
+pub lost_cut : (before mid now : ℕ) (s : Status) → before ≤ mid → IsLost mid now s → IsCutShort before now s
+lost_cut before mid now s le (inl memory) =
+    subst (IsCutShort before now) (sym memory) (record { begun = refl; no_end = λ is. absurd (cc); sink = λ is. absurd (cc) })
+lost_cut before mid now s le (inr (sink, rose)) =
+    subst (IsCutShort before now) (sym sink) (record { begun = refl; no_end = λ is. absurd (cc); sink = λ is. rose_later 1 before mid now le rose })
+
+pub lost_stop : (P : Engine → Type 0) (before now faults faults' : ℕ) (s : Status) → IsLost faults faults' s → StopHasCause P before now s
+lost_stop P before now faults faults' s (inl memory) = subst (StopHasCause P before now) (sym memory) tt
+lost_stop P before now faults faults' s (inr (sink, rose)) = subst (StopHasCause P before now) (sym sink) tt
+
+pub lost_unchanged : (faults faults' : ℕ) (s : Status) → IsLost faults faults' s → is_changed s ≡ false
+lost_unchanged faults faults' s (inl memory) = ap is_changed memory
+lost_unchanged faults faults' s (inr (sink, rose)) = ap is_changed sink
+
+-- a refusal, and want of memory, stops no engine
+pub refused_stop : (P : Engine → Type 0) (before now : ℕ) (s : Status) → (is_refusal s ≡ true) ⊎ (s ≡ status.Memory) → StopHasCause P before now s
+refused_stop P before now s (inr memory) = subst (StopHasCause P before now) (sym memory) tt
+refused_stop P before now s (inl refused) = by s refused
+  where
+    by : (s : Status) → is_refusal s ≡ true → StopHasCause P before now s
+    by status.DiskFault is = absurd (cc)
+    by (status.Garbled page kept got) is = absurd (cc)
+    by (status.NotAPage page bytes) is = absurd (cc)
+    by (status.Strange arc item) is = absurd (cc)
+    by status.TooMuch is = absurd (cc)
+    by s is = tt
+
+pub refused_unchanged : (s : Status) → (is_refusal s ≡ true) ⊎ (s ≡ status.Memory) → is_changed s ≡ false
+refused_unchanged s (inr memory) = ap is_changed memory
+refused_unchanged s (inl refused) = by s refused
+  where
+    by : (s : Status) → is_refusal s ≡ true → is_changed s ≡ false
+    by (status.Garbled page kept got) is = absurd (cc)
+    by (status.NotAPage page bytes) is = absurd (cc)
+    by (status.Strange arc item) is = absurd (cc)
+    by s is = refl
+
+-- of a status that is told the other that it may stand for is a refusal, too
+pub told_refused : (s told : Status) → (told ≡ s) ⊎ (told ≡ status.Memory) → is_refusal told ≡ true → is_refusal s ≡ true
+told_refused s told (inl same) refused = ap is_refusal (sym same) ∙ refused
+told_refused s told (inr memory) refused = let both : is_refusal status.Memory ≡ true = ap is_refusal (sym memory) ∙ refused in absurd (cc)
