@@ -379,6 +379,7 @@ module _ (words : List (List ℕ)) (w : World) (r : Replay) (source : List ℕ) 
   -- without a fault, and over a disk that changes no page, it is want of memory, or too much
   ends_ok : (s : Status) → IsCutShort w.sink_before w.sink_now s → StopHasCause (λ e. e.network ≡ r.network) w.disk_before w.disk_now s → is_changed s ≡ false
       → (s ≡ status.TooMuch → 2 ^ 62 ≤ turns) → ¬ (Rose w.disk_before w.disk_now) → ¬ (Rose w.sink_before w.sink_now) → turns < 2 ^ 62 → (s ≡ status.Ok) ⊎ (s ≡ status.Memory)
+  ends_ok status.Ok cut stop same much sound dry few = inl refl
   ends_ok status.Memory cut stop same much sound dry few = inr refl
   ends_ok status.SinkFault cut stop same much sound dry few = absurd (dry (cut.sink refl))
   ends_ok status.DiskFault cut stop same much sound dry few = absurd (sound stop)

@@ -1,5 +1,5 @@
 -- Why the engine of a run stopped, and what shows it.
-use Rattle.std.specs.Prelude.{◌≡◌, ¬, ⊤, ℕ, ◌+◌, ◌^◌, ◌≤◌, Bool, true, false}
+use Rattle.std.specs.Prelude.{◌≡◌, ⊤, ℕ, ◌+◌, ◌^◌, ◌≤◌, Bool, true, false}
 use Rattle.sq_outside.specs.Faults.{Rose}
 use Rattle.sq_queue.specs.declared.store.QueueErr.TheVariants as queue
 use Rattle.sq_actor.specs.declared.actor.Actor.{Actor}
@@ -32,7 +32,7 @@ pub record FailedIn (IsOfRun : Engine → Type 0) (Shows : Flow Actor → Type 0
 -- its operator may not be fed it, and it is too much only where no more can be counted
 abbrev pub StopHasCause : (Engine → Type 0) → ℕ → ℕ → Status → Type 0
 StopHasCause IsOfRun before now status.DiskFault = Rose before now
-StopHasCause IsOfRun before now (status.Garbled page kept got) = ¬ (kept.0 ≡ got.0) × FailedIn IsOfRun (λ flow. IsPageRefused flow.queues (queue.Garbled page kept got))
+StopHasCause IsOfRun before now (status.Garbled page kept got) = (¬ (kept.0 ≡ got.0)) × FailedIn IsOfRun (λ flow. IsPageRefused flow.queues (queue.Garbled page kept got))
 StopHasCause IsOfRun before now (status.NotAPage page bytes) = FailedIn IsOfRun (λ flow. IsPageRefused flow.queues (queue.NotAPage page bytes))
 StopHasCause IsOfRun before now (status.Strange arc item) = FailedIn IsOfRun (λ flow. IsStrangeIn flow arc item)
 StopHasCause IsOfRun before now status.TooMuch = FailedIn IsOfRun (λ flow. 2 ^ 62 ≤ flow.taken + 2)

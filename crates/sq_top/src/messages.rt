@@ -1,7 +1,7 @@
 // The message of each status.
 ghost use Rattle.std.specs.Prelude.{◌≡◌, [], IfOk, string_bytes};
 ghost use Rattle.sq_top.specs.Causes.{source_of};
-ghost use Rattle.sq_top.specs.Messages.{at_place, detail_text, graph_text, hex_text, message_of, part_text, place_of, rule_text, what_text, why_text};
+ghost use Rattle.sq_top.specs.Messages.{at_place, detail_text, graph_text, hex_byte, hex_text, message_of, part_text, place_of, rule_text, what_text, why_text};
 
 use crate::Status;
 use sq_expr::What;
@@ -149,13 +149,20 @@ fn network_message(alloc: Global, e: NetErr) -> Result<String, AllocError>
     format!(in alloc; "aurora: network: {rule}{place}{detail}\n")
 }
 
-/// Two lower-case hexadecimal digits for each byte.
+/// The two lower-case hexadecimal digits of a byte.
+#[tactic(auto, using(std::proofs::lemmas::Fmt::hex_byte))]
+fn hex_byte(alloc: Global, byte: u8) -> Result<String, AllocError>
+    ensures { IfOk result (λ text. string_bytes text ≡ hex_byte byte) }
+{
+    format!(in alloc; "{byte:02x}")
+}
+
 fn hex_text(alloc: Global, bytes: &[u8]) -> Result<String, AllocError>
     ensures { IfOk result (λ text. string_bytes text ≡ hex_text bytes.now) }
 {
     let mut text = String::new(alloc);
     'bytes: for byte in bytes {
-        let digits = format!(in alloc; "{byte:02x}")?;
+        let digits = hex_byte(alloc, *byte)?;
         text.push_str(digits.as_str())?;
     }
     Ok(text)
