@@ -1,8 +1,8 @@
 //! The top call: what the words ask for, done over a folder, a disk and two sinks.
 //!
-//! `run_words` carries the promise of the whole engine: a run that ends Ok has written exactly the lines that belong
-//! to each class and taken exactly the steps of its work; any other end leaves a prefix of each class and has a cause
-//! of its own, whatever the schedule. `drive` carries the part of it that an engine does. Below stand `sq_reader` and
+//! `run_words` carries the promise of the whole engine, over objects that tell what they hold: a run that ends Ok has
+//! written exactly the lines that belong to each class and taken exactly the steps of its work; any other end leaves a
+//! prefix of each class and has a cause of its own, whatever the schedule and however few pages stay in memory. `drive` carries the part of it that an engine does. Below stand `sq_reader` and
 //! `sq_replay` for texts, `sq_core` for the engine, `sq_sched` for schedules, `sq_model` for the answers, the records of
 //! what is dropped and the plans, and `sq_outside` for the objects.
 #![tactic(auto)]
@@ -80,14 +80,24 @@ pub enum Status {
     /// The network file breaks this rule, the first in their order.
     BadNetwork(NetErr),
     /// A line of the capacity file, by its number from 1, is refused: the first bad one.
-    BadCapacities { line: u32 },
+    BadCapacities {
+        line: u32,
+    },
     /// A line of the picks file, by its number from 1, is refused: the first bad one.
-    BadPicks { line: u32 },
+    BadPicks {
+        line: u32,
+    },
     /// A line of a source, by its number from 1, is refused: the first bad line of the first bad source. Sources count
     /// from 0, in the order of the network file.
-    BadStream { source: u32, line: u32, why: Why },
+    BadStream {
+        source: u32,
+        line: u32,
+        why: Why,
+    },
     /// A file wasn't read: it isn't there, or the folder failed.
-    FolderFault { name: Name },
+    FolderFault {
+        name: Name,
+    },
     /// The disk had a fault.
     DiskFault,
     /// A page came back from the disk with another digest than the one that was kept when it was put.
@@ -97,14 +107,22 @@ pub enum Status {
         got: Digest,
     },
     /// The bytes of a page that came back aren't the page that the queues keep.
-    NotAPage { page: u64, bytes: Vec<u8> },
+    NotAPage {
+        page: u64,
+        bytes: Vec<u8>,
+    },
     /// The item that came from an arc may not be fed there. Arcs count from 0: the inputs of the boxes in file order, then the
     /// outputs.
-    Strange { arc: u32, item: Item },
+    Strange {
+        arc: u32,
+        item: Item,
+    },
     /// The output failed.
     SinkFault,
     /// A file is longer than files of its part may be.
-    TooLong { name: Name },
+    TooLong {
+        name: Name,
+    },
     /// Memory ran out.
     Memory,
     /// More tuples would be fed than are counted.

@@ -33,7 +33,9 @@ fn run_with_a_name_and_options_is_a_command(rt: HostRuntime) -> Result<(), Fail>
     let words = words_of(rt.alloc(), &options)?;
     let Command::Run(args) = read_words(rt.alloc(), &words).ok().ok_or("no command")?;
     assert_eq!(rt; args.net.as_str(), "a.toml");
-    assert!(rt; args.seed == 7 && args.rule == Rule::Longest && args.train == 16 && args.frames == 256);
+    assert!(rt;
+        args.seed == 7 && args.rule == Rule::Longest && args.train == 16 && args.frames == 256
+    );
     let capacities = args.capacities.as_ref().ok_or("no capacities")?;
     assert_eq!(rt; capacities.as_str(), "c");
     assert!(rt; args.picks.is_none());
@@ -93,6 +95,19 @@ fn disk(alloc: Global) -> MemDisk {
 
 fn sink(alloc: Global) -> MemSink {
     MemSink::new(alloc, Vec::new(alloc), 4096)
+}
+
+fn options_of<'a>(policy: &'a str, train: &'a str) -> [&'a str; 8] {
+    [
+        "run",
+        "a.toml",
+        "--frames=2",
+        "--seed=3",
+        "--policy",
+        policy,
+        "--train",
+        train,
+    ]
 }
 
 // What a run of these words writes over a disk.
@@ -214,16 +229,7 @@ fn drive_all<D: PageDisk, L: Ledger>(
 fn a_run_puts_the_pages_of_its_engine_stepped_or_driven(rt: HostRuntime) -> Result<(), Fail> {
     let alloc = rt.alloc();
     for (policy, train) in [("seeded", "5"), ("rr", "16"), ("long", "64")] {
-        let options = [
-            "run",
-            "a.toml",
-            "--frames=2",
-            "--seed=3",
-            "--policy",
-            policy,
-            "--train",
-            train,
-        ];
+        let options = options_of(policy, train);
         let mut of_run = disk(alloc);
         let out = written::<MemDisk, Brand>(alloc, &options, &mut of_run, Blank::new(1))?;
         assert_eq!(rt; out.bytes(), lines(alloc)?.as_str().as_bytes());
@@ -234,7 +240,13 @@ fn a_run_puts_the_pages_of_its_engine_stepped_or_driven(rt: HostRuntime) -> Resu
         assert_eq!(rt; of_steps.puts().as_slice(), of_run.puts().as_slice());
         let (engine, policy) = begun(alloc, &options)?;
         let mut of_drive = disk(alloc);
-        let state = drive_all::<MemDisk, Brand>(alloc, engine, policy, &mut of_drive, Blank::new(1))?;
+        let state = drive_all::<MemDisk, Brand>(
+            alloc,
+            engine,
+            policy,
+            &mut of_drive,
+            Blank::new(1),
+        )?;
         assert!(rt; state == State::Done);
         assert_eq!(rt; of_drive.puts().as_slice(), of_run.puts().as_slice());
     }

@@ -1,17 +1,12 @@
-use Rattle.std.specs.List.{AllByRecursion}
-use Rattle.std.specs.Prelude.{Option}
-use Rattle.sq_outside.specs.Disks.{Pages}
 use Rattle.sq_queue.specs.Faces.{Together}
 use Rattle.sq_flow.specs.Flows.{measure_of}
 use Rattle.sq_core.specs.Runs.{IsSoundEngine}
-use Rattle.sq_top.specs.Driving.{IsEventAt}
-use Rattle.sq_top.proofs.tests.stepped.Given as goal
+use Rattle.sq_top.proofs.tests.step_all.Given as goal
 
 abbrev pub invariant-steps : goal.invariant-steps
 invariant-steps g l = record {
   sound : IsSoundEngine l.engine;
   together : Together l.engine.engine.flow.queues (g.D.PageDisk.pages l.disk);
-  shown : AllByRecursion (IsEventAt l.engine.network) l.events.items;
 }
 
 abbrev pub decreases-steps : goal.decreases-steps
