@@ -1,5 +1,5 @@
 -- Why a step failed, and what shows it.
-use Rattle.std.specs.Prelude.{◌≡◌, ℕ, ⊤, ⊥, ¬, Some, slice_get}
+use Rattle.std.specs.Prelude.{◌≡◌, ℕ, ⊤, Some, slice_get}
 use Rattle.sq_item.specs.declared.Item.{Item}
 use Rattle.sq_outside.specs.Faults.{Rose}
 use Rattle.sq_queue.specs.declared.Queues.{Queues}

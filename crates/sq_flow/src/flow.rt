@@ -1,6 +1,6 @@
 //! The run of operators, one atomic step at a time.
 
-ghost use Rattle.std.specs.Prelude.{◌≡◌, ◌≢◌, ℕ, ◌+◌, ◌-◌, ◌^◌, ◌/◌, ◌<◌, ◌≤◌, ◌∷◌, ◌++◌, ◌==◌, ◌||◌, Bool, true, false, List, [], Option, Some, None, OnOk, OnErr, IfOk, IfErr, IfSome, length, slice_get, if◌then◌else◌};
+ghost use Rattle.std.specs.Prelude.{◌≡◌, ◌≢◌, ℕ, ◌+◌, ◌-◌, ◌^◌, ◌/◌, ◌<◌, ◌≤◌, ◌∷◌, ◌++◌, ◌==◌, ◌||◌, Bool, true, false, List, [], Option, Some, None, OnOk, OnErr, IfOk, IfErr, IfSome, is_some, length, slice_get, if◌then◌else◌};
 ghost use Rattle.sq_item.specs.Sound.{IsSound};
 ghost use Rattle.sq_oper.specs.Given.{given, ItemsSound};
 ghost use Rattle.sq_oper.specs.declared.outs.Event.{Event};

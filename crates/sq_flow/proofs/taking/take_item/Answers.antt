@@ -11,9 +11,9 @@ returns-in_err-item-clause-strange g c =
 pub returns-in_err-item-clause-memory : goal.returns-in_err-item-clause-memory
 returns-in_err-item-clause-memory g c =
     let p = err_from_is_err_and c.from_residual.result c.from_residual.ensures.1 in
-    rw (p.1, p.2) (counts-none _ _ _ _ (cause-of _ _ _ _ _ _ c.in_err-item.ensures.disk c.in_err-item.ensures.cause))
+    rw (p.1, p.2) (counts-none c.pop.new.self _ _ _ (cause-of c.args.queues.now c.pop.new.self c.args.arc _ _ _ c.in_err-item.ensures.disk c.in_err-item.ensures.cause))
 
 pub returns-in_err-item-clause-cause : goal.returns-in_err-item-clause-cause
 returns-in_err-item-clause-cause g c =
     let p = err_from_is_err_and c.from_residual.result c.from_residual.ensures.1 in
-    rw (p.1, p.2) (inl (cause-of _ _ _ _ _ _ c.in_err-item.ensures.disk c.in_err-item.ensures.cause))
+    rw (p.1, p.2) (inl (cause-of c.args.queues.now c.pop.new.self c.args.arc _ _ _ c.in_err-item.ensures.disk c.in_err-item.ensures.cause))
