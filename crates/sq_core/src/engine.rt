@@ -11,8 +11,10 @@ ghost use Rattle.sq_net.specs.Sound.{IsSound};
 ghost use Rattle.sq_points.specs.Limits.{KeepsDropLimits};
 ghost use Rattle.sq_model.specs.Fit.{SourcesFit};
 ghost use Rattle.sq_model.specs.Shedding.{Replay};
-ghost use Rattle.sq_queue.specs.Faces.{Tells, Together};
+ghost use Rattle.sq_queue.specs.Fronts.{Tells};
+ghost use Rattle.sq_queue.specs.Faces.{Together};
 ghost use Rattle.sq_sched.specs.Ready.{contains, AreActors};
+ghost use Rattle.sq_flow.specs.Causes.{IsCauseIn};
 ghost use Rattle.sq_flow.specs.Events.{IsEventIn};
 ghost use Rattle.sq_start.specs.Numbers.{drops_of};
 
@@ -88,7 +90,9 @@ impl Engine {
         ensures network { self.new.network ≡ self.old.network }
         ensures sound { OnOk result (IsSoundEngine self.new) }
         ensures together { OnOk result (Together self.new.engine.flow.queues (D.pages disk.new)) }
-        ensures tells { OnOk result (is_some (D.pages disk.new) ≡ is_some (D.pages disk.old)) }
+        ensures tells { is_some (D.pages disk.new) ≡ is_some (D.pages disk.old) }
+        ensures faults { D.faults disk.old ≤ D.faults disk.new }
+        ensures cause { IfErr result (IsCauseIn self.new.engine.flow (D.faults disk.old) (D.faults disk.new)) }
         ensures run { OnOk result ((r : Replay) (history : List Event) (begun : ℕ)
             → IsRun r (D.pages disk.old) self.old (history ++ events.old.items) begun steps.old
             → IsRun r (D.pages disk.new) self.new (history ++ events.new.items) begun steps.new) }

@@ -3,7 +3,7 @@ use Rattle.std.proofs.Common.{◌≡◌, ◌≢◌, ℕ, ◌+◌, ◌<◌, eqb, 
 use Rattle.std.proofs.lemmas.Option.{same_Some}
 use Rattle.std.specs.Prelude.{slice_get}
 use Rattle.sq_queue.specs.declared.Head.TheVariants as head
-use Rattle.sq_queue.specs.Faces.{head_by}
+use Rattle.sq_queue.specs.Fronts.{head_by}
 use Rattle.sq_flow.specs.declared.heads.Next.{Next}
 use Rattle.sq_flow.specs.declared.heads.Next.TheVariants.{Waits, Ended, Feed}
 use Rattle.sq_left.specs.Heads.{UpTo}

@@ -36,7 +36,11 @@ abbrev pub body_fits : ℕ → Option (List Value) → Bool
 body_fits width None = true
 body_fits width (Some fields) = length fields == width
 
+-- an error that may come over a disk that tells its pages
 abbrev pub NotStrange : RunErr → Type 0
+NotStrange error.Disk = Unit {0}
+NotStrange (error.Garbled page kept got) = ⊥
+NotStrange (error.NotAPage page bytes) = ⊥
 NotStrange (error.Strange arc item) = ⊥
 NotStrange error.TooMuch = Unit {0}
 NotStrange error.Memory = Unit {0}

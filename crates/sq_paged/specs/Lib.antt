@@ -1,3 +1,0 @@
-pub mod Kept
-pub mod Faces
-pub mod Steps
