@@ -1,6 +1,18 @@
 // A case: what a run is over.
 use crate::texts::{items_of, numbers_of, written_out};
+use sq_outside::{Flip, Swap};
 use std::alloc::{AllocError, Global};
+
+/// What a disk does wrong in turn, once in each run, until a run ends well.
+#[derive(Clone, Copy, Debug, PartialEq, Eq)]
+pub enum Turns {
+    /// One run.
+    Once,
+    /// Each call fails.
+    Calls,
+    /// Each get answers a byte wrongly.
+    Flips,
+}
 
 /// The words, the files and the calls that are to fail of a run.
 #[derive(Drop)]
@@ -10,6 +22,12 @@ pub struct Case {
     pub folder_fails: Vec<u64>,
     pub out_fails: Vec<u64>,
     pub err_fails: Vec<u64>,
+    pub disk_fails: Vec<u64>,
+    pub flips: Vec<Flip>,
+    pub swaps: Vec<Swap>,
+    pub turns: Turns,
+    /// How many pages are put at least, where this is shown.
+    pub least_puts: Option<usize>,
     /// How many bytes a call of a sink takes.
     pub takes: usize,
     /// The first fields whose lines are shown by class, where the order of classes isn't fixed.
@@ -18,7 +36,44 @@ pub struct Case {
     pub counts: bool,
 }
 
+/// Which byte of a page is answered wrongly.
+const CHANGED: u32 = 17;
+
+fn flips_of(alloc: Global, value: &str) -> Result<Vec<Flip>, AllocError> {
+    let mut flips = Vec::new(alloc);
+    for get in numbers_of(alloc, value)? {
+        flips.push(Flip { get, at: CHANGED })?;
+    }
+    Ok(flips)
+}
+
+fn swaps_of(alloc: Global, value: &str) -> Result<Vec<Swap>, AllocError> {
+    let mut swaps = Vec::new(alloc);
+    for get in numbers_of(alloc, value)? {
+        swaps.push(Swap { get })?;
+    }
+    Ok(swaps)
+}
+
+fn turns_of(value: &str) -> Turns {
+    match value {
+        "calls" => Turns::Calls,
+        "flips" => Turns::Flips,
+        _ => Turns::Once,
+    }
+}
+
 impl Case {
+    /// The same case, in which the disk does this wrong once.
+    pub fn in_turn(mut self, alloc: Global, number: u64) -> Result<Case, AllocError> {
+        match self.turns {
+            Turns::Once => {}
+            Turns::Calls => self.disk_fails = vec![in alloc; number]?,
+            Turns::Flips => self.flips = vec![in alloc; Flip { get: number, at: CHANGED }]?,
+        }
+        Ok(self)
+    }
+
     /// `run a.toml` over an empty folder, where nothing fails.
     fn new(alloc: Global) -> Result<Case, AllocError> {
         Ok(Case {
@@ -27,6 +82,11 @@ impl Case {
             folder_fails: Vec::new(alloc),
             out_fails: Vec::new(alloc),
             err_fails: Vec::new(alloc),
+            disk_fails: Vec::new(alloc),
+            flips: Vec::new(alloc),
+            swaps: Vec::new(alloc),
+            turns: Turns::Once,
+            least_puts: None,
             takes: 4096,
             classes: Vec::new(alloc),
             counts: false,
@@ -40,6 +100,11 @@ impl Case {
             "folder fails" => self.folder_fails = numbers_of(alloc, value)?,
             "out fails" => self.out_fails = numbers_of(alloc, value)?,
             "err fails" => self.err_fails = numbers_of(alloc, value)?,
+            "disk fails" => self.disk_fails = numbers_of(alloc, value)?,
+            "flips" => self.flips = flips_of(alloc, value)?,
+            "swaps" => self.swaps = swaps_of(alloc, value)?,
+            "turns" => self.turns = turns_of(value),
+            "puts" => self.least_puts = value.parse::<usize>().ok(),
             "classes" => self.classes = items_of(alloc, value)?,
             "shows" => self.counts = value == "counts",
             "takes" => self.takes = value.parse::<usize>().unwrap_or(1).max(1),
