@@ -1,5 +1,6 @@
 // A case: what a run is over.
 use crate::texts::{items_of, numbers_of, written_out};
+use sq_gen::generate;
 use sq_outside::{Flip, Swap};
 use std::alloc::{AllocError, Global};
 
@@ -32,8 +33,10 @@ pub struct Case {
     pub takes: usize,
     /// The first fields whose lines are shown by class, where the order of classes isn't fixed.
     pub classes: Vec<String>,
-    /// Whether of these classes only the number of lines is shown.
-    pub counts: bool,
+    /// The first fields of which only the number of lines is shown, after those.
+    pub counted: Vec<String>,
+    /// The number and the lines of a stream that is made, with its network and its capacities, where there is one.
+    pub made: Option<(u64, u32)>,
 }
 
 /// Which byte of a page is answered wrongly.
@@ -53,6 +56,13 @@ fn swaps_of(alloc: Global, value: &str) -> Result<Vec<Swap>, AllocError> {
         swaps.push(Swap { get })?;
     }
     Ok(swaps)
+}
+
+/// A number and how many lines, which are 1 to 1,000,000.
+fn made_of(value: &str) -> Option<(u64, u32)> {
+    let (number, rows) = value.split_once(',')?;
+    let rows = rows.parse::<u32>().ok()?;
+    Some((number.parse::<u64>().ok()?, rows.clamp(1, 1_000_000)))
 }
 
 fn turns_of(value: &str) -> Turns {
@@ -89,7 +99,8 @@ impl Case {
             least_puts: None,
             takes: 4096,
             classes: Vec::new(alloc),
-            counts: false,
+            counted: Vec::new(alloc),
+            made: None,
         })
     }
 
@@ -106,9 +117,32 @@ impl Case {
             "turns" => self.turns = turns_of(value),
             "puts" => self.least_puts = value.parse::<usize>().ok(),
             "classes" => self.classes = items_of(alloc, value)?,
-            "shows" => self.counts = value == "counts",
+            "counted" => self.counted = items_of(alloc, value)?,
+            "made" => self.made = made_of(value),
             "takes" => self.takes = value.parse::<usize>().unwrap_or(1).max(1),
             _ => {}
+        }
+        Ok(())
+    }
+
+    /// Whether what it gives is compared with the slow definitions: a run over files that are written out.
+    pub fn is_compared(&self) -> bool {
+        match self.words.first() {
+            Some(word) => word.as_str() == "run" && self.made.is_none(),
+            None => false,
+        }
+    }
+
+    /// Takes the files that are made: `net.toml`, `trades.csv` and `capacities.csv`.
+    fn take_made(&mut self, alloc: Global, number: u64, rows: u32) -> Result<(), AllocError> {
+        let made = generate(alloc, number, rows.clamp(1, 1_000_000))?;
+        for (name, bytes) in [
+            ("net.toml", made.net),
+            ("trades.csv", made.stream),
+            ("capacities.csv", made.capacities),
+        ] {
+            let bytes = Vec::from_slice(alloc, bytes.as_slice())?;
+            self.files.push((String::from_str(alloc, name)?, bytes))?;
         }
         Ok(())
     }
@@ -144,6 +178,9 @@ impl Case {
         }
         for file in parts {
             case.take_file(alloc, file)?;
+        }
+        if let Some((number, rows)) = case.made {
+            case.take_made(alloc, number, rows)?;
         }
         Ok(case)
     }

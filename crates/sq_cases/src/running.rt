@@ -19,7 +19,7 @@ pub struct Ran {
     pub out: MemSink,
     err: MemSink,
     pub classes: Vec<String>,
-    counts: bool,
+    counted: Vec<String>,
     /// How many pages were put.
     pub puts: usize,
     least_puts: Option<usize>,
@@ -49,7 +49,7 @@ fn run_over<L: Ledger>(alloc: Global, case: Case, blank: Blank) -> Ran
         out,
         err,
         classes: case.classes,
-        counts: case.counts,
+        counted: case.counted,
         puts: disk.puts().len(),
         least_puts: case.least_puts,
     }
@@ -91,30 +91,29 @@ fn show_count(rt: &HostRuntime, text: &str, class: &str) -> io::Result<()> {
     println!(rt; "{class}: {}", count_of(text, class))
 }
 
-/// Shows the lines of all classes but these.
-fn show_others(rt: &HostRuntime, text: &str, classes: &[String]) -> io::Result<()> {
+/// Shows the lines that are of no class that is named.
+fn show_others(rt: &HostRuntime, text: &str, ran: &Ran) -> io::Result<()> {
     for line in text.lines() {
-        if !is_of_any(line, classes) {
+        if !is_of_any(line, ran.classes.as_slice()) && !is_of_any(line, ran.counted.as_slice()) {
             println!(rt; "{line}")?;
         }
     }
     Ok(())
 }
 
-/// Shows what a run wrote: class by class where classes are named, and then the lines of all others.
+/// Shows what a run wrote: class by class where classes are named, then how many lines others have, and then all others.
 fn show_out(rt: &HostRuntime, ran: &Ran) -> io::Result<()> {
-    if ran.classes.is_empty() {
+    if ran.classes.is_empty() && ran.counted.is_empty() {
         return show_text(rt, ran.out.bytes());
     }
     let text = str::from_utf8(ran.out.bytes()).unwrap_or("?");
     for class in &ran.classes {
-        if ran.counts {
-            show_count(rt, text, class.as_str())?;
-        } else {
-            show_class(rt, text, class.as_str())?;
-        }
+        show_class(rt, text, class.as_str())?;
     }
-    show_others(rt, text, ran.classes.as_slice())
+    for class in &ran.counted {
+        show_count(rt, text, class.as_str())?;
+    }
+    show_others(rt, text, ran)
 }
 
 /// Shows where fewer pages were put than a case says.
@@ -131,12 +130,13 @@ fn show_run(rt: &HostRuntime, text: &str, compared: &mut u64) -> Result<(), Erro
     if case.turns != Turns::Once {
         return show_turns(rt, text);
     }
+    let is_compared = case.is_compared();
     let ran = ran(rt.alloc(), case);
     println!(rt; "{}", ran.code)?;
     show_out(rt, &ran)?;
     show_text(rt, ran.err.bytes())?;
     show_puts(rt, &ran)?;
-    if ran.code == 0 {
+    if ran.code == 0 && is_compared {
         let case = Case::read(rt.alloc(), text)?;
         compare(rt, case, str::from_utf8(ran.out.bytes()).unwrap_or("?"))?;
         *compared = compared.saturating_add(1);
