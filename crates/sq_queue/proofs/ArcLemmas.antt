@@ -1,15 +1,14 @@
 -- The arc of which an item was pushed or popped.
-use Rattle.std.proofs.Common.{◌≡◌, ◌≢◌, ℕ, zero, suc, ◌+◌, ◌<◌, ◌≤◌, ◌⊎◌, Bool, true, false, List, [], ◌∷◌, ◌++◌, Option, Some, None, length, refl, sym, ap, subst, ◌∙◌, inl, inr, arith, get_or-set_other, get_or-set_same}
+use Rattle.std.proofs.Common.{◌≡◌, ◌≢◌, ℕ, ◌+◌, ◌<◌, ◌≤◌, Bool, true, false, List, [], ◌∷◌, ◌++◌, Option, Some, length, refl, sym, ap, subst, ◌∙◌, inl, inr, arith, get_or-set_other, get_or-set_same}
 use Rattle.std.proofs.Math.ListN.{set, length-set}
-use Rattle.std.specs.Prelude.{slice_get, is_some, drop}
+use Rattle.std.specs.Prelude.{drop}
 use Rattle.sq_item.specs.declared.Item.{Item}
-use Rattle.sq_link.specs.Chained.{Chained, list_at, StandsIn, Apart, head_or}
+use Rattle.sq_link.specs.Chained.{Chained, list_at, StandsIn, Apart}
 use Rattle.sq_outside.specs.Disks.{Pages}
 use Rattle.sq_pool.specs.Pools.{is_held}
-use Rattle.sq_queue.specs.Fronts.{Tells}
-use Rattle.sq_queue.specs.Kept.{items_in, Spares, Appended, Taken, Started}
-use Rattle.sq_queue.specs.Faces.{nodes_on, items_on, items_along, IsKept, Together, kept_at, count_along, last_of}
-use Rattle.sq_queue.specs.Steps.{AppendsAt, TakesAt, StartsAt, DropsAt, KeepsOthers, Adds, Removes}
+use Rattle.sq_queue.specs.Kept.{items_in, Spares}
+use Rattle.sq_queue.specs.Faces.{nodes_on, items_along, IsKept, Together, kept_at, count_along, last_of}
+use Rattle.sq_queue.specs.Steps.{AppendsAt, TakesAt, StartsAt, DropsAt, Adds, Removes}
 use Rattle.sq_queue.specs.declared.store.Kept.{Kept}
 use Rattle.sq_queue.specs.declared.Queues.{Queues}
 use Rattle.sq_queue.proofs.StoreLemmas.{spares-then}

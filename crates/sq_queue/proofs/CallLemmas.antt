@@ -1,11 +1,11 @@
 -- What the calls of queues need of what stands together.
-use Rattle.std.proofs.Common.{◌≡◌, ◌≢◌, ℕ, zero, suc, ◌+◌, ◌<◌, ◌≤◌, Bool, true, false, List, [], ◌∷◌, Option, Some, None, length, refl, sym, ap, subst, ◌∙◌, inl, inr, arith, get_or, get_or-set_same}
+use Rattle.std.proofs.Common.{◌≡◌, ℕ, ◌<◌, true, false, List, [], ◌∷◌, Option, Some, None, length, refl, sym, ap, subst, ◌∙◌, inl, arith, get_or, get_or-set_same}
 use Rattle.std.specs.Prelude.{slice_get, IfSome, IfOk, Result, Ok, Err, is_some}
 use Rattle.sq_item.specs.declared.Item.{Item}
-use Rattle.sq_link.specs.Chained.{list_at, StandsIn, head_or}
+use Rattle.sq_link.specs.Chained.{StandsIn, head_or}
 use Rattle.sq_outside.specs.Disks.{Pages}
 use Rattle.sq_queue.specs.Kept.{IsCause, IsTold}
-use Rattle.sq_queue.specs.Faces.{face_at, nodes_on, kept_at, count_along, is_first, last_at, last_of, IsLane, Together, IsRefusal}
+use Rattle.sq_queue.specs.Faces.{face_at, nodes_on, kept_at, count_along, is_first, last_at, last_of, Together, IsRefusal}
 use Rattle.sq_queue.specs.Steps.{TakesAt}
 use Rattle.sq_queue.specs.declared.Lane.{Lane}
 use Rattle.sq_queue.specs.declared.store.Kept.{Kept}

@@ -1,5 +1,5 @@
 -- What is kept of each page, after a change of one.
-use Rattle.std.proofs.Common.{◌≡◌, ◌≢◌, ℕ, zero, suc, ◌+◌, ◌-◌, ◌<◌, ◌≤◌, ◌⊎◌, Bool, true, false, List, [], ◌∷◌, ◌++◌, Option, Some, None, length, refl, sym, ap, subst, ◌∙◌, arith}
+use Rattle.std.proofs.Common.{◌≡◌, ◌≢◌, ℕ, ◌≤◌, true, List, [], ◌∷◌, ◌++◌, Option, Some, None, length, refl, sym, ap, ◌∙◌, arith}
 use Rattle.std.specs.Prelude.{IfSome, is_some, ◌||◌}
 use Rattle.std.specs.FinMap as finite
 use Rattle.sq_item.specs.declared.Item.{Item}
@@ -7,7 +7,7 @@ use Rattle.sq_outside.specs.Disks.{Pages}
 use Rattle.sq_pool.specs.Slots.{kept_at as digest_at}
 use Rattle.sq_pool.specs.Pools.{Pooled, bytes_in, is_held, if_none, if_kept, HasDigest, Agree}
 use Rattle.sq_queue.specs.Fronts.{Tells, first_time}
-use Rattle.sq_queue.specs.Kept.{seen, FitsKept, IsFit, Spares, Appended, Taken, Started, items_in, items_of}
+use Rattle.sq_queue.specs.Kept.{seen, FitsKept, Spares, Appended, Taken, Started, items_in, items_of}
 use Rattle.sq_queue.specs.Faces.{IsKept}
 use Rattle.sq_queue.specs.declared.store.Kept.{Kept}
 use Rattle.sq_queue.proofs.StoreLemmas.{items-seen, back-head}

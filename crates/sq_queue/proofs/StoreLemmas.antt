@@ -1,11 +1,11 @@
 -- What a call of the pool leaves of the other pages.
-use Rattle.std.proofs.Common.{◌≡◌, ◌≢◌, ℕ, zero, suc, ◌+◌, ◌-◌, ◌<◌, ◌≤◌, ◌⊎◌, Bool, true, false, cond, eqb, List, [], ◌∷◌, ◌++◌, Option, Some, None, length, refl, sym, ap, subst, ◌∙◌, append_assoc, inl, inr, arith}
-use Rattle.std.specs.Prelude.{IfSome, IsSome, is_some, ◌||◌, Result, Ok, Err, OnOk}
+use Rattle.std.proofs.Common.{◌≡◌, ◌≢◌, ℕ, suc, ◌+◌, ◌-◌, ◌≤◌, true, false, cond, eqb, List, [], ◌∷◌, ◌++◌, Option, Some, None, length, refl, sym, ap, subst, ◌∙◌, append_assoc, inl, inr, arith}
+use Rattle.std.specs.Prelude.{is_some, ◌||◌, Result, Ok, Err, OnOk}
 use Rattle.std.proofs.lemmas.Bool.{cases_eq}
 use Rattle.std.specs.FinMap as finite
 use Rattle.sq_outside.specs.Disks.{Pages}
 use Rattle.sq_pool.specs.Slots.{without_page, kept_at}
-use Rattle.sq_pool.specs.Pools.{Pooled, bytes_in, is_held, page_of, if_none, if_kept, Agree, Spills, HasRoom, with_bytes, loaded, Fetches, Keeps, Makes, Drops, Brings, Touched, CameBack, IsMade, IsNumbered, zeros, LetsGo}
+use Rattle.sq_pool.specs.Pools.{Pooled, bytes_in, is_held, if_none, if_kept, Agree, HasRoom, with_bytes, loaded, Keeps, Makes, Drops, Brings, Touched, CameBack, IsMade, zeros, LetsGo}
 use Rattle.sq_link.proofs.ListLemmas.{eqb-same, eqb-other}
 use Rattle.sq_pool.proofs.MapLemmas.{bytes-other, bytes-gone, bytes-last, bytes-before, room-out}
 use Rattle.std.proofs.lemmas.List.{length-append}

@@ -1,13 +1,13 @@
 -- New queues stand together with every disk.
-use Rattle.std.proofs.Common.{◌≡◌, ◌≢◌, ℕ, zero, suc, ◌+◌, ◌<◌, ◌≤◌, Bool, true, false, List, [], ◌∷◌, ◌++◌, Option, Some, None, length, refl, sym, ap, subst, ◌∙◌, arith}
-use Rattle.std.specs.Prelude.{replicate, slice_get, is_some}
+use Rattle.std.proofs.Common.{◌≡◌, ℕ, zero, suc, false, List, [], Option, None, length, refl, sym, ap, subst, ◌∙◌}
+use Rattle.std.specs.Prelude.{replicate, slice_get}
 use Rattle.std.proofs.lemmas.List.{length-replicate}
 use Rattle.sq_item.specs.declared.Item.{Item}
 use Rattle.sq_link.specs.Chained.{list_at, StandsIn}
 use Rattle.sq_outside.specs.Disks.{Pages}
-use Rattle.sq_pool.specs.Pools.{Pooled, Agree}
-use Rattle.sq_queue.specs.Fronts.{Tells, Face, IsFaceOf}
-use Rattle.sq_queue.specs.Faces.{face_at, face, nodes_on, items_on, items_along, IsLane, IsKept, Together, kept_at, no_items}
+use Rattle.sq_pool.specs.Pools.{Agree}
+use Rattle.sq_queue.specs.Fronts.{Face, IsFaceOf}
+use Rattle.sq_queue.specs.Faces.{face_at, face, nodes_on, items_on, items_along, IsLane, Together, no_items}
 use Rattle.sq_queue.specs.declared.store.Kept.{Kept}
 use Rattle.sq_queue.specs.declared.Lane.{Lane}
 use Rattle.sq_queue.specs.declared.Queues.{Queues}

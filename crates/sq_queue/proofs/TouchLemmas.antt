@@ -1,14 +1,14 @@
 -- Queues after the pages of one arc changed, at one node.
-use Rattle.std.proofs.Common.{◌≡◌, ◌≢◌, ℕ, zero, suc, ◌+◌, ◌<◌, ◌≤◌, ◌⊎◌, Bool, true, false, List, [], ◌∷◌, ◌++◌, Option, Some, None, length, refl, sym, ap, subst, ◌∙◌, inl, inr, arith}
+use Rattle.std.proofs.Common.{◌≡◌, ◌≢◌, ℕ, suc, ◌<◌, List, Option, Some, length, sym, ap, subst, ◌∙◌, inl, inr, arith}
 use Rattle.std.proofs.Math.ListN.{set, length-set}
 use Rattle.std.proofs.lemmas.Bool.{cases_eq}
-use Rattle.std.specs.Prelude.{slice_get, is_some}
+use Rattle.std.specs.Prelude.{slice_get}
 use Rattle.sq_item.specs.declared.Item.{Item}
 use Rattle.sq_link.specs.Chained.{Chained, list_at, StandsIn, Apart, IsSound}
 use Rattle.sq_outside.specs.Disks.{Pages}
 use Rattle.sq_queue.specs.Fronts.{Tells, Face, IsFaceOf}
 use Rattle.sq_queue.specs.Kept.{items_in, Spares}
-use Rattle.sq_queue.specs.Faces.{face, face_at, nodes_on, items_on, items_along, IsKept, IsLane, Together, kept_at, count_along}
+use Rattle.sq_queue.specs.Faces.{face, face_at, nodes_on, items_on, items_along, IsKept, IsLane, Together, kept_at}
 use Rattle.sq_queue.specs.Steps.{KeepsOthers}
 use Rattle.sq_queue.specs.declared.Lane.{Lane}
 use Rattle.sq_queue.specs.declared.store.Kept.{Kept}

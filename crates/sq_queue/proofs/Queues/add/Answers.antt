@@ -1,4 +1,4 @@
-use Rattle.std.proofs.Common.{◌≡◌, ◌<◌, ◌≤◌, refl, ap, arith, ℕ}
+use Rattle.std.proofs.Common.{◌<◌, ◌≤◌, refl}
 use Rattle.std.specs.Prelude.{length}
 use Rattle.std.proofs.lemmas.Option.{slice_get_read}
 use Rattle.sq_queue.specs.Faces.{kept_at}

@@ -1,10 +1,9 @@
-use Rattle.std.proofs.Common.{◌≡◌, ◌≤◌, ◌∙◌, ap, subst, sym, ℕ, List}
-use Rattle.std.specs.Prelude.{slice_get, length}
+use Rattle.std.proofs.Common.{◌∙◌, ap, List}
+use Rattle.std.specs.Prelude.{slice_get}
 use Rattle.sq_link.specs.Chained.{Chained}
-use Rattle.sq_pool.specs.Pools.{Pooled}
 use Rattle.sq_queue.specs.Faces.{face_at}
 use Rattle.sq_queue.specs.declared.Lane.{Lane}
-use Rattle.sq_queue.proofs.TogetherLemmas.{none-face, new-together, new-items}
+use Rattle.sq_queue.proofs.TogetherLemmas.{none-face, new-together}
 use Rattle.sq_queue.proofs.Queues.new.Goals as goal
 
 pub returns-clause-faces : goal.returns-clause-faces

@@ -1,4 +1,4 @@
-use Rattle.std.proofs.Common.{◌≡◌, ap, refl, Some}
+use Rattle.std.proofs.Common.{ap, refl, Some}
 use Rattle.std.proofs.Math.ListN.{set}
 use Rattle.std.specs.Vec.{with_item}
 use Rattle.sq_queue.specs.declared.Lane.{Lane}

@@ -1,5 +1,4 @@
-use Rattle.std.proofs.Common.{◌≡◌, ◌<◌, ◌≤◌, ◌∙◌, sym, ap, arith}
-use Rattle.sq_link.specs.Chained.{StandsIn}
+use Rattle.std.proofs.Common.{sym, ap, arith}
 use Rattle.sq_queue.specs.declared.store.Kept.{Kept}
 use Rattle.sq_queue.proofs.AlongLemmas.{head-is}
 use Rattle.sq_queue.proofs.TouchLemmas.{alone-by}
