@@ -1,14 +1,19 @@
 -- What an arc keeps, by its front and the face of its pages.
-use Rattle.std.proofs.Common.{◌≡◌, ◌≢◌, ℕ, zero, suc, ◌+◌, ◌-◌, ◌<◌, ◌≤◌, Bool, true, false, List, [], ◌∷◌, ◌++◌, Option, Some, None, length, refl, sym, ap, ◌∙◌, subst, arith, append_assoc}
-use Rattle.std.specs.Prelude.{is_some, unwrap_or}
+use Rattle.std.proofs.Common.{◌≡◌, ◌≢◌, ℕ, zero, suc, ◌+◌, ◌-◌, ◌<◌, ◌≤◌, Bool, true, false, cond, List, [], ◌∷◌, ◌++◌, Option, Some, None, length, refl, sym, ap, ◌∙◌, subst, arith, append_assoc}
+use Rattle.std.specs.Prelude.{Result, Ok, Err, OnOk, is_some, unwrap_or}
 use Rattle.std.specs.List.{AllByRecursion}
 use Rattle.std.proofs.lemmas.List.{length-append, append-nil}
 use Rattle.sq_item.specs.declared.Item.{Item}
 use Rattle.sq_item.specs.Sound.{IsSound}
+use Rattle.sq_link.proofs.ListLemmas.{eqb-other}
 use Rattle.sq_paged.specs.Faces.{is_first}
 use Rattle.sq_paged.specs.Fronts.{Face, IsFaceOf, IsPopped, first_time, first_or, pushed}
 use Rattle.sq_queue.specs.Faces.{face_at, front_at, behind_at, first_of, IsLane}
 use Rattle.sq_queue.specs.declared.Lane.{Lane}
+
+pub on-ok-both : {T E P Q R : Type 0} (r : Result T E) → OnOk r P → OnOk r Q → (P → Q → R) → OnOk r R
+on-ok-both (Ok x) p q f = f p q
+on-ok-both (Err e) p q f = tt
 
 -- ---- the face of an arc is that of its items
 
@@ -37,17 +42,11 @@ sound-append : (items : List Item) (item : Item) → IsSound item → AllByRecur
 sound-append [] item s h = (s, tt)
 sound-append (x ∷ items) item s h = (h.0, sound-append items item s h.1)
 
-first-append : (items : List Item) (item : Item) → first_of (items ++ item ∷ []) None ≡ first_or (first_of items None) item.time
-first-append [] item = refl
-first-append (x ∷ items) item = refl
-
--- a lane has one item more in front, and nothing behind
+-- a lane has one item more in front
 pub record Appends (lane new : Lane) (item : Item) : Type 0 where
   pub front : new.front.items ≡ lane.front.items ++ item ∷ []
   pub count : new.count ≡ lane.count + 1
   pub behind : new.behind ≡ lane.behind
-  pub ended : new.ended ≡ lane.ended
-  pub none : lane.behind ≡ None
 
 pub appended-lane : (lane new : Lane) (item : Item) (paged : Face) → IsLane (Some lane) paged → Appends lane new item → IsSound item → length lane.front.items < 64 → IsLane (Some new) paged
 appended-lane lane new item paged l a sound room =
@@ -55,20 +54,10 @@ appended-lane lane new item paged l a sound room =
     record {
       count = omega (arith, l.count, a.count, more);
       behind = a.behind ∙ l.behind;
-      open = l.open;
+      runs = l.runs;
       few = omega (arith, more, room);
       sound = subst (λ (xs : List Item). AllByRecursion IsSound xs) (sym a.front) (sound-append lane.front.items item sound l.sound);
     }
-
-face-is : (f : Face) (count : ℕ) (first : Option ℕ) (ended : Bool) → f.count ≡ count → f.first ≡ first → f.ended ≡ ended → f ≡ record { count = count; first = first; ended = ended }
-face-is f count first ended c t e = cc
-
-pub appended-face : (lane new : Lane) (item : Item) → Appends lane new item → face_at (Some new) ≡ pushed (face_at (Some lane)) item.time
-appended-face lane new item a =
-    face-is (face_at (Some new)) (lane.count + 1) (first_or (first_of lane.front.items lane.behind) item.time) lane.ended a.count
-    (ap (λ (xs : List Item). first_of xs new.behind) a.front ∙ ap (λ (o : Option ℕ). first_of (lane.front.items ++ item ∷ []) o) (a.behind ∙ a.none) ∙ first-append lane.front.items item
-    ∙ ap (λ (o : Option ℕ). first_or (first_of lane.front.items o) item.time) (sym a.none))
-    a.ended
 
 -- an item behind the front is behind all, where nothing else is there
 pub appended-items : (front new items : List Item) (item : Item) → new ≡ front ++ item ∷ [] → items ≡ [] → new ++ items ≡ (front ++ items) ++ item ∷ []
@@ -81,29 +70,18 @@ first-given : (o : Option ℕ) (time : ℕ) → Some (unwrap_or o time) ≡ firs
 first-given None time = refl
 first-given (Some t) time = refl
 
-first-behind : (front : List Item) (behind : Option ℕ) (time : ℕ) → first_of front (first_or behind time) ≡ first_or (first_of front behind) time
-first-behind [] behind time = refl
-first-behind (x ∷ front) behind time = refl
-
--- the lane of an arc in whose pages an item of this time stands behind the others
-abbrev pub pushed_lane : Lane → ℕ → Lane
-pushed_lane lane time = record lane { count = lane.count + 1; behind = Some (unwrap_or lane.behind time) }
-
-pub pushed-behind : (lane : Lane) (time : ℕ) (paged after : Face) → IsLane (Some lane) paged → after ≡ pushed paged time → IsLane (Some (pushed_lane lane time)) after
-pushed-behind lane time paged after l e =
+pub pushed-behind : (lane new : Lane) (time : ℕ) (paged after : Face) → IsLane (Some lane) paged → after ≡ pushed paged time → new.front.items ≡ lane.front.items → new.count ≡ lane.count + 1 → new.behind ≡ Some (unwrap_or lane.behind time)
+    → IsLane (Some new) after
+pushed-behind lane new time paged after l e front count behind =
     let more : after.count ≡ paged.count + 1 = ap (λ (f : Face). f.count) e in
+    let same : length new.front.items ≡ length lane.front.items = ap length front in
     record {
-      count = omega (arith, l.count, more);
-      behind = first-given lane.behind time ∙ ap (λ (o : Option ℕ). first_or o time) l.behind ∙ sym (ap (λ (f : Face). f.first) e);
-      open = ap (λ (f : Face). f.ended) e ∙ l.open;
-      few = l.few;
-      sound = l.sound;
+      count = omega (arith, l.count, more, count, same);
+      behind = behind ∙ first-given lane.behind time ∙ ap (λ (o : Option ℕ). first_or o time) l.behind ∙ sym (ap (λ (f : Face). f.first) e);
+      runs = ap (λ (f : Face). f.ended) e ∙ l.runs;
+      few = omega (arith, l.few, same);
+      sound = subst (λ (xs : List Item). AllByRecursion IsSound xs) (sym front) l.sound;
     }
-
-pub pushed-face : (lane : Lane) (time : ℕ) → face_at (Some (pushed_lane lane time)) ≡ pushed (face_at (Some lane)) time
-pushed-face lane time =
-    face-is (face_at (Some (pushed_lane lane time))) (lane.count + 1) (first_or (first_of lane.front.items lane.behind) time) lane.ended refl
-    (ap (λ (o : Option ℕ). first_of lane.front.items o) (first-given lane.behind time) ∙ first-behind lane.front.items lane.behind time) refl
 
 -- ---- the first item in front goes
 
@@ -122,15 +100,18 @@ taken-lane lane new item paged l t =
     record {
       count = omega (arith, l.count, t.count, less);
       behind = t.behind ∙ l.behind;
-      open = l.open;
+      runs = l.runs;
       few = omega (arith, l.few, less);
       sound = (subst (λ (xs : List Item). AllByRecursion IsSound xs) t.front l.sound).1;
     }
 
+is-first-suc : (n : ℕ) → is_first (suc n) ≡ true
+is-first-suc n = ap (λ (b : Bool). cond b false true) (eqb-other (suc n) 0 (λ e. absurd (omega (arith, e))))
+
 -- a first stands exactly where items do, in front or in pages
 some-of : (front : List Item) (behind : Option ℕ) (count paged : ℕ) → is_some behind ≡ is_first paged → count ≡ length front + paged → is_some (first_of front behind) ≡ is_first count
 some-of [] behind count paged h c = let same : count ≡ paged = omega (arith, c) in h ∙ ap is_first (sym same)
-some-of (x ∷ front) behind count paged h c = let more : count ≡ suc (length front + paged) = omega (arith, c) in sym (ap is_first more)
+some-of (x ∷ front) behind count paged h c = let more : count ≡ suc (length front + paged) = omega (arith, c) in sym (ap is_first more ∙ is-first-suc (length front + paged))
 
 pub taken-face : (lane new : Lane) (item : Item) (paged : Face) → IsLane (Some lane) paged → is_some paged.first ≡ is_first paged.count → Takes lane new item → IsPopped (face_at (Some lane)) (face_at (Some new))
 taken-face lane new item paged l first t =
@@ -151,15 +132,7 @@ popped-lane lane behind paged after l p e =
     record {
       count = omega (arith, l.count, p.count);
       behind = e;
-      open = p.ended ∙ l.open;
+      runs = p.ended ∙ l.runs;
       few = l.few;
       sound = l.sound;
-    }
-
-pub popped-face : (lane : Lane) (behind : Option ℕ) (paged after : Face) → lane.front.items ≡ [] → IsLane (Some lane) paged → IsPopped paged after → behind ≡ after.first → IsPopped (face_at (Some lane)) (face_at (Some (popped_lane lane behind)))
-popped-face lane behind paged after none l p e =
-    record {
-      count = omega (arith, l.count, p.count);
-      first = some-of lane.front.items behind (lane.count - 1) after.count (ap is_some e ∙ p.first) (omega (arith, l.count, p.count));
-      ended = refl;
     }
