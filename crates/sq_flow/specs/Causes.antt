@@ -3,8 +3,8 @@ use Rattle.std.specs.Prelude.{◌≡◌, ℕ, ⊤, Some, slice_get}
 use Rattle.sq_item.specs.declared.Item.{Item}
 use Rattle.sq_outside.specs.Faults.{Rose}
 use Rattle.sq_queue.specs.declared.Queues.{Queues}
-use Rattle.sq_queue.specs.declared.store.QueueErr.{QueueErr}
-use Rattle.sq_queue.specs.declared.store.QueueErr.TheVariants as queue
+use Rattle.sq_paged.specs.declared.store.QueueErr.{QueueErr}
+use Rattle.sq_paged.specs.declared.store.QueueErr.TheVariants as queue
 use Rattle.sq_queue.specs.Faces.{IsRefusal}
 use Rattle.sq_flow.specs.declared.wires.Arc.{Arc}
 use Rattle.sq_flow.specs.declared.seats.Seat.{Seat}

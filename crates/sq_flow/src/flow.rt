@@ -7,7 +7,7 @@ ghost use Rattle.sq_oper.specs.declared.outs.Event.{Event};
 ghost use Rattle.sq_value.specs.Lists.{IsPrefixOf};
 ghost use Rattle.sq_outside.specs.Disks.{Pages};
 ghost use Rattle.sq_road.specs.Levels.{Agrees};
-ghost use Rattle.sq_queue.specs.Fronts.{Tells};
+ghost use Rattle.sq_paged.specs.Fronts.{Tells};
 ghost use Rattle.sq_queue.specs.Faces.{face, size, items_on, Together};
 ghost use Rattle.sq_flow.specs.Wiring.{arcs_from, from_of, pushed_by, AllOutsFine};
 ghost use Rattle.sq_flow.specs.Sends.{sent_to, comes_from, Pushes};

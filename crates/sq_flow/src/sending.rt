@@ -6,7 +6,7 @@ ghost use Rattle.sq_value.specs.Lists.{IsPrefixOf};
 ghost use Rattle.sq_item.specs.Sound.{IsSound};
 ghost use Rattle.sq_item.specs.Things.{spread};
 ghost use Rattle.sq_oper.specs.Given.{given, ItemsSound};
-ghost use Rattle.sq_queue.specs.Fronts.{Tells};
+ghost use Rattle.sq_paged.specs.Fronts.{Tells};
 ghost use Rattle.sq_queue.specs.Faces.{face, size, Together};
 ghost use Rattle.sq_flow.specs.Causes.{of_queue, IsQueueCause};
 ghost use Rattle.sq_flow.specs.Takes.{NotStrange};

@@ -23,7 +23,7 @@ fn an_arc_gives_its_items_in_order_and_then_its_end(rt: HostRuntime) -> Result<(
     queues.end(1);
     assert_eq!(rt;
         (queues.head(0), queues.head(1), queues.resident()),
-        (Head::Empty, Head::Time(5), 1)
+        (Head::Empty, Head::Time(5), 0)
     );
     let taken = queues.pop(&mut disk, 1)?;
     assert_eq!(rt;
