@@ -27,12 +27,12 @@ loop-arc-preserved g c =
     let faults : g.D.PageDisk.faults c.args.disk.now ≤ g.D.PageDisk.faults c.push.new.disk = omega (arith, c.loop-arc.invariant.faults, told.faults) in
     record {
       pushes = pushes-both _ _ _ _ _ _ _ _ _ _ _ _ _ _ _ c.loop-arc.invariant.pushes
-    (pushes-one _ _ _ _ at c.args.item c.requires.sound told.face told.faces told.size told.items told.others told.together told.tells)
-    (λ time le. (le, le))
-    (λ arc. ap (λ l. many (times_in arc l) (spread c.args.item))
-    (ap (λ n. take n c.in-Some.others.now) (add-one c.loop-arc.arc-index) ∙ take-suc c.in-Some.others.now c.loop-arc.arc-index 0 c.loop-arc-test.true)
-    ∙ many-next (take c.loop-arc.arc-index c.in-Some.others.now) at (spread c.args.item) arc)
-    (λ arc away. (away, not-in c.args.arcs.now at arc (contains-get c.args.arcs.now c.loop-arc.arc-index at here) away));
+          (pushes-one _ _ _ _ at c.args.item c.requires.sound told.face told.faces told.size told.items told.others told.together told.tells)
+          (λ time le. (le, le))
+          (λ arc. ap (λ l. many (times_in arc l) (spread c.args.item))
+          (ap (λ n. take n c.in-Some.others.now) (add-one c.loop-arc.arc-index) ∙ take-suc c.in-Some.others.now c.loop-arc.arc-index 0 c.loop-arc-test.true)
+          ∙ many-next (take c.loop-arc.arc-index c.in-Some.others.now) at (spread c.args.item) arc)
+          (λ arc away. (away, not-in c.args.arcs.now at arc (contains-get c.args.arcs.now c.loop-arc.arc-index at here) away));
       faults = faults;
     }
 

@@ -1,4 +1,4 @@
-use Rattle.std.proofs.Common.{inl, inr, refl}
+use Rattle.std.proofs.Common.{inl}
 use Rattle.std.proofs.lemmas.Result.{err_from_is_err_and}
 use Rattle.sq_flow.proofs.CauseLemmas.{cause-of, told-of, counts-none}
 use Rattle.sq_flow.proofs.taking.take_item.Goals as goal
