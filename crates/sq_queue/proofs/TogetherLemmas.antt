@@ -1,5 +1,5 @@
 -- Queues after the lane of one arc was written.
-use Rattle.std.proofs.Common.{◌≡◌, ◌≢◌, ℕ, zero, suc, ◌<◌, ◌⊎◌, false, List, [], ◌∷◌, ◌++◌, Option, Some, None, length, refl, sym, ap, subst, ◌∙◌, inl, inr, arith}
+use Rattle.std.proofs.Common.{◌≡◌, ◌≢◌, ℕ, zero, suc, ◌<◌, List, [], ◌∷◌, ◌++◌, Option, Some, None, length, refl, sym, ap, subst, ◌∙◌, inl, inr, arith}
 use Rattle.std.proofs.Math.ListN.{set, length-set}
 use Rattle.std.proofs.lemmas.Bool.{cases_eq}
 use Rattle.std.specs.Prelude.{slice_get}
@@ -10,7 +10,7 @@ use Rattle.sq_outside.specs.Disks.{Pages}
 use Rattle.sq_paged.specs.Fronts.{Tells, Face}
 use Rattle.sq_paged.specs.Faces as pages
 use Rattle.sq_paged.proofs.AlongLemmas.{slice_get-set_same, slice_get-set_other}
-use Rattle.sq_queue.specs.Faces.{face, face_at, front_at, behind_at, size, items_on, no_face, IsEmpty, IsLane, Together}
+use Rattle.sq_queue.specs.Faces.{front_at, size, items_on, no_face, IsEmpty, IsLane, Together}
 use Rattle.sq_queue.specs.declared.Lane.{Lane}
 use Rattle.sq_queue.specs.declared.Queues.{Queues}
 use Rattle.sq_queue.proofs.LaneLemmas.{lane-face, none-behind}

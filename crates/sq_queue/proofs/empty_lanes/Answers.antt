@@ -1,4 +1,4 @@
-use Rattle.std.proofs.Common.{◌≡◌, ◌+◌, ℕ, List, sym, subst, refl, rules}
+use Rattle.std.proofs.Common.{ℕ, List, sym, subst, refl, rules}
 use Rattle.std.specs.Prelude.{slice_get}
 use Rattle.sq_queue.specs.declared.Lane.{Lane}
 use Rattle.sq_queue.specs.Faces.{IsEmpty}

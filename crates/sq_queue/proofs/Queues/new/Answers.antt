@@ -1,4 +1,4 @@
-use Rattle.std.proofs.Common.{◌≡◌, sym, ◌∙◌}
+use Rattle.std.proofs.Common.{sym, ◌∙◌}
 use Rattle.sq_queue.proofs.TogetherLemmas.{new-together}
 use Rattle.sq_queue.proofs.Queues.new.Goals as goal
 
