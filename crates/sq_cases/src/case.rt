@@ -79,7 +79,12 @@ impl Case {
         match self.turns {
             Turns::Once => {}
             Turns::Calls => self.disk_fails = vec![in alloc; number]?,
-            Turns::Flips => self.flips = vec![in alloc; Flip { get: number, at: CHANGED }]?,
+            Turns::Flips => self.flips = vec![in alloc;
+                Flip {
+                    get: number,
+                    at: CHANGED
+                },
+            ]?,
         }
         Ok(self)
     }

@@ -51,7 +51,14 @@ pub fn show_turns(rt: &HostRuntime, text: &str) -> Result<(), Error> {
     for number in 0..MOST {
         let turn = ran(alloc, Case::read(alloc, text)?.in_turn(alloc, number)?);
         if turn.code == 0 {
-            println!(rt; "{}", if number < 5 { "too few turns" } else { "each turn ends so" })?;
+            println!(rt;
+                "{}",
+                if number < 5 {
+                    "too few turns"
+                } else {
+                    "each turn ends so"
+                }
+            )?;
             return Ok(());
         }
         show_turn(rt, number, &turn, &whole, code)?;

@@ -53,7 +53,10 @@ fn a_page_comes_back_from_a_file_without_a_name(rt: HostRuntime) -> Result<(), F
     assert_eq!(rt; disk.get(0, &mut page), Err(Failed));
     assert_eq!(rt; disk.put(2, &[7; PAGE]), Ok(()));
     assert_eq!(rt; disk.put(0, &[5; PAGE]), Ok(()));
-    assert_eq!(rt; (disk.get(2, &mut page), page[0], page[PAGE - 1]), (Ok(()), 7, 7));
+    assert_eq!(rt;
+        (disk.get(2, &mut page), page[0], page[PAGE - 1]),
+        (Ok(()), 7, 7)
+    );
     assert_eq!(rt; disk.get(3, &mut page), Err(Failed));
     assert_eq!(rt; disk.put(1 << 50, &page), Err(Failed));
     assert_eq!(rt; disk.faults, 3);
