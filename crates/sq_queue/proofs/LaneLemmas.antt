@@ -1,11 +1,11 @@
 -- What an arc keeps, by its front and the face of its pages.
 use Rattle.std.proofs.Common.{◌≡◌, ℕ, suc, ◌+◌, ◌-◌, ◌<◌, Bool, true, false, cond, List, [], ◌∷◌, ◌++◌, Option, Some, None, length, refl, sym, ap, ◌∙◌, subst, arith}
+use Rattle.std.proofs.Math.Dec.{eqb-suc-zero}
 use Rattle.std.specs.Prelude.{Result, Ok, Err, OnOk, is_some, unwrap_or}
 use Rattle.std.specs.List.{AllByRecursion}
 use Rattle.std.proofs.lemmas.List.{length-append, append-nil}
 use Rattle.sq_item.specs.declared.Item.{Item}
 use Rattle.sq_item.specs.Sound.{IsSound}
-use Rattle.sq_link.proofs.ListLemmas.{eqb-other}
 use Rattle.sq_paged.specs.Faces.{is_first}
 use Rattle.sq_paged.specs.Fronts.{Face, IsFaceOf, IsPopped, first_time, first_or, pushed}
 use Rattle.sq_queue.specs.Faces.{face_at, front_at, behind_at, first_of, IsLane}
@@ -106,7 +106,7 @@ taken-lane lane new item paged l t =
     }
 
 is-first-suc : (n : ℕ) → is_first (suc n) ≡ true
-is-first-suc n = ap (λ (b : Bool). cond b false true) (eqb-other (suc n) 0 (λ e. absurd (omega (arith, e))))
+is-first-suc n = ap (λ (b : Bool). cond b false true) (eqb-suc-zero n)
 
 -- a first stands exactly where items do, in front or in pages
 some-of : (front : List Item) (behind : Option ℕ) (count paged : ℕ) → is_some behind ≡ is_first paged → count ≡ length front + paged → is_some (first_of front behind) ≡ is_first count
