@@ -41,7 +41,7 @@ fn run<L: Ledger>(rt: &HostRuntime, blank: Blank) -> Status
         return Status::Memory;
     };
     let mut folder = OpenFolder::new(rt);
-    let mut disk = SpillFile::new();
+    let mut disk = SpillFile::new(rt);
     let mut out = Out::new(rt.stdout());
     let mut steps = Steps::<L>::open(blank);
     run_words(

@@ -1,6 +1,19 @@
 // A case: what a run is over.
 use crate::texts::{items_of, numbers_of, written_out};
+use sq_gen::generate;
+use sq_outside::{Flip, Swap};
 use std::alloc::{AllocError, Global};
+
+/// What a disk does wrong in turn, once in each run, until a run ends well.
+#[derive(Clone, Copy, Debug, PartialEq, Eq)]
+pub enum Turns {
+    /// One run.
+    Once,
+    /// Each call fails.
+    Calls,
+    /// Each get answers a byte wrongly.
+    Flips,
+}
 
 /// The words, the files and the calls that are to fail of a run.
 #[derive(Drop)]
@@ -10,15 +23,72 @@ pub struct Case {
     pub folder_fails: Vec<u64>,
     pub out_fails: Vec<u64>,
     pub err_fails: Vec<u64>,
+    pub disk_fails: Vec<u64>,
+    pub flips: Vec<Flip>,
+    pub swaps: Vec<Swap>,
+    pub turns: Turns,
+    /// How many pages are put at least, where this is shown.
+    pub least_puts: Option<usize>,
     /// How many bytes a call of a sink takes.
     pub takes: usize,
     /// The first fields whose lines are shown by class, where the order of classes isn't fixed.
     pub classes: Vec<String>,
-    /// Whether of these classes only the number of lines is shown.
-    pub counts: bool,
+    /// The first fields of which only the number of lines is shown, after those.
+    pub counted: Vec<String>,
+    /// The number and the lines of a stream that is made, with its network and its capacities, where there is one.
+    pub made: Option<(u64, u32)>,
+}
+
+/// Which byte of a page is answered wrongly.
+const CHANGED: u32 = 17;
+
+fn flips_of(alloc: Global, value: &str) -> Result<Vec<Flip>, AllocError> {
+    let mut flips = Vec::new(alloc);
+    for get in numbers_of(alloc, value)? {
+        flips.push(Flip { get, at: CHANGED })?;
+    }
+    Ok(flips)
+}
+
+fn swaps_of(alloc: Global, value: &str) -> Result<Vec<Swap>, AllocError> {
+    let mut swaps = Vec::new(alloc);
+    for get in numbers_of(alloc, value)? {
+        swaps.push(Swap { get })?;
+    }
+    Ok(swaps)
+}
+
+/// A number and how many lines, which are 1 to 1,000,000.
+fn made_of(value: &str) -> Option<(u64, u32)> {
+    let (number, rows) = value.split_once(',')?;
+    let rows = rows.parse::<u32>().ok()?;
+    Some((number.parse::<u64>().ok()?, rows.clamp(1, 1_000_000)))
+}
+
+fn turns_of(value: &str) -> Turns {
+    match value {
+        "calls" => Turns::Calls,
+        "flips" => Turns::Flips,
+        _ => Turns::Once,
+    }
 }
 
 impl Case {
+    /// The same case, in which the disk does this wrong once.
+    pub fn in_turn(mut self, alloc: Global, number: u64) -> Result<Case, AllocError> {
+        match self.turns {
+            Turns::Once => {}
+            Turns::Calls => self.disk_fails = vec![in alloc; number]?,
+            Turns::Flips => self.flips = vec![in alloc;
+                Flip {
+                    get: number,
+                    at: CHANGED
+                },
+            ]?,
+        }
+        Ok(self)
+    }
+
     /// `run a.toml` over an empty folder, where nothing fails.
     fn new(alloc: Global) -> Result<Case, AllocError> {
         Ok(Case {
@@ -27,9 +97,15 @@ impl Case {
             folder_fails: Vec::new(alloc),
             out_fails: Vec::new(alloc),
             err_fails: Vec::new(alloc),
+            disk_fails: Vec::new(alloc),
+            flips: Vec::new(alloc),
+            swaps: Vec::new(alloc),
+            turns: Turns::Once,
+            least_puts: None,
             takes: 4096,
             classes: Vec::new(alloc),
-            counts: false,
+            counted: Vec::new(alloc),
+            made: None,
         })
     }
 
@@ -40,10 +116,38 @@ impl Case {
             "folder fails" => self.folder_fails = numbers_of(alloc, value)?,
             "out fails" => self.out_fails = numbers_of(alloc, value)?,
             "err fails" => self.err_fails = numbers_of(alloc, value)?,
+            "disk fails" => self.disk_fails = numbers_of(alloc, value)?,
+            "flips" => self.flips = flips_of(alloc, value)?,
+            "swaps" => self.swaps = swaps_of(alloc, value)?,
+            "turns" => self.turns = turns_of(value),
+            "puts" => self.least_puts = value.parse::<usize>().ok(),
             "classes" => self.classes = items_of(alloc, value)?,
-            "shows" => self.counts = value == "counts",
+            "counted" => self.counted = items_of(alloc, value)?,
+            "made" => self.made = made_of(value),
             "takes" => self.takes = value.parse::<usize>().unwrap_or(1).max(1),
             _ => {}
+        }
+        Ok(())
+    }
+
+    /// Whether what it gives is compared with the slow definitions: a run over files that are written out.
+    pub fn is_compared(&self) -> bool {
+        match self.words.first() {
+            Some(word) => word.as_str() == "run" && self.made.is_none(),
+            None => false,
+        }
+    }
+
+    /// Takes the files that are made: `net.toml`, `trades.csv` and `capacities.csv`.
+    fn take_made(&mut self, alloc: Global, number: u64, rows: u32) -> Result<(), AllocError> {
+        let made = generate(alloc, number, rows.clamp(1, 1_000_000))?;
+        for (name, bytes) in [
+            ("net.toml", made.net),
+            ("trades.csv", made.stream),
+            ("capacities.csv", made.capacities),
+        ] {
+            let bytes = Vec::from_slice(alloc, bytes.as_slice())?;
+            self.files.push((String::from_str(alloc, name)?, bytes))?;
         }
         Ok(())
     }
@@ -79,6 +183,9 @@ impl Case {
         }
         for file in parts {
             case.take_file(alloc, file)?;
+        }
+        if let Some((number, rows)) = case.made {
+            case.take_made(alloc, number, rows)?;
         }
         Ok(case)
     }

@@ -94,7 +94,9 @@ pub fn given_by(alloc: Global, case: Case) -> Option<Given>
     ensures limits { IfSome result (λ g. KeepsDropLimits g.network) }
     ensures recorded { IfSome result (λ g. AreRecorded g.network.sources (map (λ xs. xs.items) g.sources.items)) }
 {
-    let Command::Run(args) = read_words(alloc, &case.words).ok()?;
+    let Ok(Command::Run(args)) = read_words(alloc, &case.words) else {
+        return None;
+    };
     let mut folder = MemFolder::new(case.files, Vec::new(alloc));
     let network = network_of(alloc, &mut folder, &args.net)?;
     let capacities = capacities_of(alloc, &mut folder, &args.capacities)?;

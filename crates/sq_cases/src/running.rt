@@ -2,7 +2,8 @@
 ghost use Rattle.std.specs.Prelude.{◌≡◌, ◌<◌};
 
 use crate::beside::{compare, count_of, is_of_class};
-use crate::case::Case;
+use crate::case::{Case, Turns};
+use crate::turns::show_turns;
 use anyhow::Error;
 use sq_outside::{MemDisk, MemFolder, MemSink, Steps};
 use sq_top::run_words;
@@ -13,12 +14,15 @@ use std::sync::ledger::{Blank, Ledger};
 
 /// What a run gave.
 #[derive(Drop)]
-struct Ran {
-    code: u8,
-    out: MemSink,
+pub struct Ran {
+    pub code: u8,
+    pub out: MemSink,
     err: MemSink,
-    classes: Vec<String>,
-    counts: bool,
+    pub classes: Vec<String>,
+    counted: Vec<String>,
+    /// How many pages were put.
+    pub puts: usize,
+    least_puts: Option<usize>,
 }
 
 fn run_over<L: Ledger>(alloc: Global, case: Case, blank: Blank) -> Ran
@@ -27,7 +31,7 @@ fn run_over<L: Ledger>(alloc: Global, case: Case, blank: Blank) -> Ran
     requires some { 0 < blank.parts }
 {
     let mut folder = MemFolder::new(case.files, case.folder_fails);
-    let mut disk = MemDisk::new(alloc, Vec::new(alloc), Vec::new(alloc));
+    let mut disk = MemDisk::hostile(alloc, case.disk_fails, case.flips, case.swaps);
     let mut out = MemSink::new(alloc, case.out_fails, case.takes.max(1));
     let mut err = MemSink::new(alloc, case.err_fails, case.takes.max(1));
     let mut steps = Steps::<L>::open(blank);
@@ -45,8 +49,15 @@ fn run_over<L: Ledger>(alloc: Global, case: Case, blank: Blank) -> Ran
         out,
         err,
         classes: case.classes,
-        counts: case.counts,
+        counted: case.counted,
+        puts: disk.puts().len(),
+        least_puts: case.least_puts,
     }
+}
+
+/// The run of a case.
+pub fn ran(alloc: Global, case: Case) -> Ran {
+    run_over::<Brand>(alloc, case, Blank::new(1))
 }
 
 /// Shows a text; where its last line has no end, a `\` stands for the missing end.
@@ -80,40 +91,52 @@ fn show_count(rt: &HostRuntime, text: &str, class: &str) -> io::Result<()> {
     println!(rt; "{class}: {}", count_of(text, class))
 }
 
-/// Shows the lines of all classes but these.
-fn show_others(rt: &HostRuntime, text: &str, classes: &[String]) -> io::Result<()> {
+/// Shows the lines that are of no class that is named.
+fn show_others(rt: &HostRuntime, text: &str, ran: &Ran) -> io::Result<()> {
     for line in text.lines() {
-        if !is_of_any(line, classes) {
+        if !is_of_any(line, ran.classes.as_slice()) && !is_of_any(line, ran.counted.as_slice()) {
             println!(rt; "{line}")?;
         }
     }
     Ok(())
 }
 
-/// Shows what a run wrote: class by class where classes are named, and then the lines of all others.
+/// Shows what a run wrote: class by class where classes are named, then how many lines others have, and then all others.
 fn show_out(rt: &HostRuntime, ran: &Ran) -> io::Result<()> {
-    if ran.classes.is_empty() {
+    if ran.classes.is_empty() && ran.counted.is_empty() {
         return show_text(rt, ran.out.bytes());
     }
     let text = str::from_utf8(ran.out.bytes()).unwrap_or("?");
     for class in &ran.classes {
-        if ran.counts {
-            show_count(rt, text, class.as_str())?;
-        } else {
-            show_class(rt, text, class.as_str())?;
-        }
+        show_class(rt, text, class.as_str())?;
     }
-    show_others(rt, text, ran.classes.as_slice())
+    for class in &ran.counted {
+        show_count(rt, text, class.as_str())?;
+    }
+    show_others(rt, text, ran)
+}
+
+/// Shows where fewer pages were put than a case says.
+fn show_puts(rt: &HostRuntime, ran: &Ran) -> io::Result<()> {
+    match ran.least_puts {
+        Some(least) if ran.puts < least => println!(rt; "only {} pages were put", ran.puts),
+        _ => Ok(()),
+    }
 }
 
 /// Shows a run, and where it differs from the slow definitions. Counts it where it is compared: where it ends well.
 fn show_run(rt: &HostRuntime, text: &str, compared: &mut u64) -> Result<(), Error> {
     let case = Case::read(rt.alloc(), text)?;
-    let ran = run_over::<Brand>(rt.alloc(), case, Blank::new(1));
+    if case.turns != Turns::Once {
+        return show_turns(rt, text);
+    }
+    let is_compared = case.is_compared();
+    let ran = ran(rt.alloc(), case);
     println!(rt; "{}", ran.code)?;
     show_out(rt, &ran)?;
     show_text(rt, ran.err.bytes())?;
-    if ran.code == 0 {
+    show_puts(rt, &ran)?;
+    if ran.code == 0 && is_compared {
         let case = Case::read(rt.alloc(), text)?;
         compare(rt, case, str::from_utf8(ran.out.bytes()).unwrap_or("?"))?;
         *compared = compared.saturating_add(1);

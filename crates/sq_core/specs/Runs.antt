@@ -12,7 +12,7 @@ use Rattle.sq_model.specs.Kept.{fed_of, work_of, turns_of}
 use Rattle.sq_model.specs.Shown.{plans_shown}
 use Rattle.sq_actor.specs.declared.actor.Actor.{Actor}
 use Rattle.sq_actor.specs.Late.{late_by}
-use Rattle.sq_queue.specs.Fronts.{Tells}
+use Rattle.sq_paged.specs.Fronts.{Tells}
 use Rattle.sq_queue.specs.Faces.{Together}
 use Rattle.sq_flow.specs.declared.seats.Seat.{Seat}
 use Rattle.sq_flow.specs.declared.errors.RunErr.{RunErr}

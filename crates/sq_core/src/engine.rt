@@ -11,7 +11,7 @@ ghost use Rattle.sq_net.specs.Sound.{IsSound};
 ghost use Rattle.sq_points.specs.Limits.{KeepsDropLimits};
 ghost use Rattle.sq_model.specs.Fit.{SourcesFit};
 ghost use Rattle.sq_model.specs.Shedding.{Replay};
-ghost use Rattle.sq_queue.specs.Fronts.{Tells};
+ghost use Rattle.sq_paged.specs.Fronts.{Tells};
 ghost use Rattle.sq_queue.specs.Faces.{Together};
 ghost use Rattle.sq_sched.specs.Ready.{contains, AreActors};
 ghost use Rattle.sq_flow.specs.Causes.{IsCauseIn};

@@ -25,7 +25,7 @@ use Rattle.sq_left.proofs.ActorSteps.{tuples-both, EachPort, PortFacts, taken_at
 use Rattle.sq_left.proofs.WorldSteps.{facts-at, next-is-future, next-is-first, spread-of-time, world-fed, replay-end}
 use Rattle.sq_queue.specs.declared.Queues.{Queues}
 use Rattle.sq_outside.specs.Disks.{Pages}
-use Rattle.sq_queue.specs.Fronts.{first_time, IsFaceOf, Tells}
+use Rattle.sq_paged.specs.Fronts.{first_time, IsFaceOf, Tells}
 use Rattle.sq_queue.specs.Faces.{face, size, items_on, Together}
 use Rattle.sq_flow.specs.Sends.{sent_to, comes_from, Pushes}
 use Rattle.sq_flow.specs.Readiness.{stands, TouchesOnly}

@@ -19,7 +19,7 @@ use Rattle.sq_left.proofs.ActorSteps.{SameActor, Each-both, merge-none}
 use Rattle.sq_left.proofs.WorldSteps.{At, facts-at, world-finished, replay-end, Each-from}
 use Rattle.sq_queue.specs.declared.Queues.{Queues}
 use Rattle.sq_outside.specs.Disks.{Pages}
-use Rattle.sq_queue.specs.Fronts.{first_time, IsFaceOf, Tells}
+use Rattle.sq_paged.specs.Fronts.{first_time, IsFaceOf, Tells}
 use Rattle.sq_queue.specs.Faces.{face, size, items_on, Together}
 use Rattle.sq_flow.specs.Sends.{sent_to, comes_from, Pushes}
 use Rattle.sq_flow.specs.Readiness.{TouchesOnly}

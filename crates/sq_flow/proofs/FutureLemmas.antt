@@ -18,7 +18,7 @@ use Rattle.sq_left.specs.Heads.{ItemsNotBefore, AllFine}
 use Rattle.sq_left.proofs.MergeLemmas.{eqb-yes, eqb-no, eqb-same, eqb-not}
 use Rattle.sq_left.proofs.ActorSteps.{EachPort, PortFacts, taken_at}
 use Rattle.sq_left.proofs.WorldSteps.{EachPort-from, Each-from, spread-not-before}
-use Rattle.sq_queue.specs.Fronts.{first_time}
+use Rattle.sq_paged.specs.Fronts.{first_time}
 use Rattle.sq_flow.specs.Wiring.{pushed_by, AllOutsFine}
 use Rattle.sq_flow.specs.Heads.{FirstNotBefore, NextUpTo}
 use Rattle.sq_flow.specs.declared.heads.Next.TheVariants.{Feed}

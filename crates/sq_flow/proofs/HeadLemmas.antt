@@ -2,8 +2,8 @@
 use Rattle.std.proofs.Common.{◌≡◌, ◌≢◌, ℕ, ◌+◌, ◌<◌, eqb, Bool, true, false, List, Option, Some, None, refl, ap, sym, ◌∙◌, subst, arith}
 use Rattle.std.proofs.lemmas.Option.{same_Some}
 use Rattle.std.specs.Prelude.{slice_get}
-use Rattle.sq_queue.specs.declared.Head.TheVariants as head
-use Rattle.sq_queue.specs.Fronts.{head_by}
+use Rattle.sq_paged.specs.declared.Head.TheVariants as head
+use Rattle.sq_paged.specs.Fronts.{head_by}
 use Rattle.sq_flow.specs.declared.heads.Next.{Next}
 use Rattle.sq_flow.specs.declared.heads.Next.TheVariants.{Waits, Ended, Feed}
 use Rattle.sq_left.specs.Heads.{UpTo}

@@ -4,7 +4,7 @@ use Rattle.std.specs.Prelude.{slice_get, min, sum}
 use Rattle.std.specs.List.{filter, list_all}
 use Rattle.sq_sched.specs.Ready.{contains, AreActors, OnlyOnce}
 use Rattle.sq_left.proofs.MergeLemmas.{eqb-not}
-use Rattle.sq_queue.specs.Fronts.{Face}
+use Rattle.sq_paged.specs.Fronts.{Face}
 use Rattle.sq_queue.specs.Faces.{face}
 use Rattle.sq_flow.specs.declared.flow.Flow.{Flow}
 use Rattle.sq_flow.specs.declared.wires.Wires.{Wires}

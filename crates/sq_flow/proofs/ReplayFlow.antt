@@ -23,7 +23,7 @@ use Rattle.sq_left.proofs.Conserve.{Kept}
 use Rattle.sq_left.proofs.WorldSteps.{world-released}
 use Rattle.sq_queue.specs.declared.Queues.{Queues}
 use Rattle.sq_outside.specs.Disks.{Pages}
-use Rattle.sq_queue.specs.Fronts.{Tells}
+use Rattle.sq_paged.specs.Fronts.{Tells}
 use Rattle.sq_queue.specs.Faces.{face, size, items_on, Together}
 use Rattle.sq_flow.specs.Sends.{many, Pushes}
 use Rattle.sq_flow.specs.Sources.{BeginsLeast, IsNextSource}

@@ -12,7 +12,7 @@ use Rattle.sq_left.specs.Heads.{AllFine}
 use Rattle.sq_left.proofs.MergeLemmas.{eqb-yes, eqb-no, eqb-same, eqb-not}
 use Rattle.sq_sched.specs.Ready.{contains}
 use Rattle.sq_queue.specs.declared.Queues.{Queues}
-use Rattle.sq_queue.specs.Fronts.{Tells, pushed, first_or}
+use Rattle.sq_paged.specs.Fronts.{Tells, pushed, first_or}
 use Rattle.sq_queue.specs.Faces.{face, size, items_on, Together}
 use Rattle.sq_flow.specs.declared.wires.Wires.{Wires}
 use Rattle.sq_flow.specs.Wiring.{arcs_from, times_in, AllOutsFine}

@@ -4,7 +4,7 @@ use Rattle.std.specs.Prelude.{is_some}
 use Rattle.sq_outside.specs.Disks.{Pages}
 use Rattle.sq_road.specs.Levels.{LevelTable, Agrees}
 use Rattle.sq_oper.specs.declared.outs.Event.{Event}
-use Rattle.sq_queue.specs.Fronts.{Tells}
+use Rattle.sq_paged.specs.Fronts.{Tells}
 use Rattle.sq_queue.specs.Faces.{face}
 use Rattle.sq_flow.specs.declared.wires.Wires.{Wires}
 use Rattle.sq_flow.specs.declared.flow.Flow.{Flow}

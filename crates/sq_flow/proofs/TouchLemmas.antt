@@ -4,7 +4,7 @@ use Rattle.std.specs.Prelude.{slice_get, is_some}
 use Rattle.sq_outside.specs.Disks.{Pages}
 use Rattle.sq_item.specs.Things.{Thing}
 use Rattle.sq_queue.specs.declared.Queues.{Queues}
-use Rattle.sq_queue.specs.Fronts.{Face}
+use Rattle.sq_paged.specs.Fronts.{Face}
 use Rattle.sq_queue.specs.Faces.{face}
 use Rattle.sq_left.proofs.MergeLemmas.{eqb-not}
 use Rattle.sq_flow.specs.declared.wires.Wires.{Wires}

@@ -1,10 +1,10 @@
 -- Why a step failed, and what shows it.
-use Rattle.std.specs.Prelude.{◌≡◌, ℕ, ⊤, ⊥, ¬, Some, slice_get}
+use Rattle.std.specs.Prelude.{◌≡◌, ℕ, ⊤, Some, slice_get}
 use Rattle.sq_item.specs.declared.Item.{Item}
 use Rattle.sq_outside.specs.Faults.{Rose}
 use Rattle.sq_queue.specs.declared.Queues.{Queues}
-use Rattle.sq_queue.specs.declared.store.QueueErr.{QueueErr}
-use Rattle.sq_queue.specs.declared.store.QueueErr.TheVariants as queue
+use Rattle.sq_paged.specs.declared.store.QueueErr.{QueueErr}
+use Rattle.sq_paged.specs.declared.store.QueueErr.TheVariants as queue
 use Rattle.sq_queue.specs.Faces.{IsRefusal}
 use Rattle.sq_flow.specs.declared.wires.Arc.{Arc}
 use Rattle.sq_flow.specs.declared.seats.Seat.{Seat}
@@ -37,6 +37,15 @@ pub record IsStrangeIn {O : Type 0} (flow : Flow O) (arc : ℕ) (item : Item) : 
   pub seated : slice_get flow.seats.items actor ≡ Some seat
   pub wired : slice_get flow.wires.arcs.items arc ≡ Some at
   pub refused : ¬ (MayBeFed at port seat.tally.place flow.clock item)
+
+-- what shows why a call over queues failed: the disk's faults before and after it, and the queues as they stand after it
+abbrev pub IsQueueCause : Queues → ℕ → ℕ → RunErr → Type 0
+IsQueueCause queues before now error.Disk = Rose before now
+IsQueueCause queues before now (error.Garbled page kept got) = IsPageRefused queues (queue.Garbled page kept got)
+IsQueueCause queues before now (error.NotAPage page bytes) = IsPageRefused queues (queue.NotAPage page bytes)
+IsQueueCause queues before now (error.Strange arc item) = ⊥
+IsQueueCause queues before now error.TooMuch = ⊥
+IsQueueCause queues before now error.Memory = ⊤
 
 -- what shows why a step failed: the disk's faults before and after it, and the flow as it stands after it
 abbrev pub IsCauseIn : {O : Type 0} → Flow O → ℕ → ℕ → RunErr → Type 0

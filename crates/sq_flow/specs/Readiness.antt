@@ -1,7 +1,7 @@
 -- Which actors are ready.
 use Rattle.std.specs.Prelude.{◌≡◌, ◌≢◌, ℕ, ◌+◌, ◌-◌, ◌^◌, ◌<◌, ◌≤◌, ◌&&◌, ◌||◌, Bool, true, false, not, length, map, min, sum, Some, is_some, slice_get, if◌then◌else◌}
 use Rattle.std.specs.List.{list_all}
-use Rattle.sq_queue.specs.Fronts.{Face}
+use Rattle.sq_paged.specs.Fronts.{Face}
 use Rattle.sq_queue.specs.Faces.{face}
 use Rattle.sq_flow.specs.declared.flow.Flow.{Flow}
 use Rattle.sq_flow.specs.declared.flow.Did.{Did}

@@ -5,7 +5,7 @@ use Rattle.sq_item.specs.Things.{Thing, spread, spread_all}
 use Rattle.sq_outside.specs.Disks.{Pages}
 use Rattle.sq_left.specs.Heads.{AllFine}
 use Rattle.sq_queue.specs.declared.Queues.{Queues}
-use Rattle.sq_queue.specs.Fronts.{Tells}
+use Rattle.sq_paged.specs.Fronts.{Tells}
 use Rattle.sq_queue.specs.Faces.{face, size, items_on, Together}
 use Rattle.sq_flow.specs.declared.wires.Wires.{Wires}
 use Rattle.sq_flow.specs.Wiring.{arcs_from, from_of, times_in}

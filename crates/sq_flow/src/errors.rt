@@ -22,7 +22,10 @@ pub enum RunErr {
         bytes: Vec<u8>,
     },
     /// The item that came from an arc may not be fed there.
-    Strange { arc: u32, item: Item },
+    Strange {
+        arc: u32,
+        item: Item,
+    },
     /// As many marks and tuples were taken as can be counted.
     TooMuch,
     /// Memory ran out.

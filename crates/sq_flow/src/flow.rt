@@ -1,13 +1,13 @@
 //! The run of operators, one atomic step at a time.
 
-ghost use Rattle.std.specs.Prelude.{◌≡◌, ◌≢◌, ℕ, ◌+◌, ◌-◌, ◌^◌, ◌/◌, ◌<◌, ◌≤◌, ◌∷◌, ◌++◌, ◌==◌, ◌||◌, Bool, true, false, List, [], Option, Some, None, OnOk, OnErr, IfOk, IfErr, IfSome, length, slice_get, if◌then◌else◌};
+ghost use Rattle.std.specs.Prelude.{◌≡◌, ◌≢◌, ℕ, ◌+◌, ◌-◌, ◌^◌, ◌/◌, ◌<◌, ◌≤◌, ◌∷◌, ◌++◌, ◌==◌, ◌||◌, Bool, true, false, List, [], Option, Some, None, OnOk, OnErr, IfOk, IfErr, IfSome, is_some, length, slice_get, if◌then◌else◌};
 ghost use Rattle.sq_item.specs.Sound.{IsSound};
 ghost use Rattle.sq_oper.specs.Given.{given, ItemsSound};
 ghost use Rattle.sq_oper.specs.declared.outs.Event.{Event};
 ghost use Rattle.sq_value.specs.Lists.{IsPrefixOf};
 ghost use Rattle.sq_outside.specs.Disks.{Pages};
 ghost use Rattle.sq_road.specs.Levels.{Agrees};
-ghost use Rattle.sq_queue.specs.Fronts.{Tells};
+ghost use Rattle.sq_paged.specs.Fronts.{Tells};
 ghost use Rattle.sq_queue.specs.Faces.{face, size, items_on, Together};
 ghost use Rattle.sq_flow.specs.Wiring.{arcs_from, from_of, pushed_by, AllOutsFine};
 ghost use Rattle.sq_flow.specs.Sends.{sent_to, comes_from, Pushes};
@@ -121,6 +121,7 @@ fn end_arcs(wires: &Wires, queues: &mut Queues, actor: u32)
 impl<O: Operator + Drop> Flow<O> {
     ghost use Rattle.sq_flow.specs.Flows.{IsFlow, Stepped, ShowsPrefix, NoneStrange, CostsFed, CostsAtMost, TooMuchOnly, taken_in_all, to_release, measure_of};
     ghost use Rattle.sq_flow.specs.Plans.{PlansPrefix};
+    ghost use Rattle.sq_flow.specs.Causes.{IsCauseIn};
     ghost use Rattle.sq_flow.specs.Readiness.{TouchesOnly};
     ghost use Rattle.sq_flow.specs.Wiring.{arcs_read};
     ghost use Rattle.sq_flow.specs.Heads.{NextUpTo};
@@ -147,6 +148,9 @@ impl<O: Operator + Drop> Flow<O> {
         ensures prefix { OnErr result (ShowsPrefix (record { rest = O.rest; decides = O.decides; lost = O.lost; place = O.place; taken = O.taken; running = O.running; takes_marks = O.takes_marks; fits = O.fits; reads = O.reads }) (D.pages disk.old) self.old self.new.levels events.old.items events.new.items) }
         ensures plans { OnErr result (PlansPrefix self.old self.new.levels events.old.items events.new.items) }
         ensures strange { IfErr result (λ e. NoneStrange (record { rest = O.rest; decides = O.decides; lost = O.lost; place = O.place; taken = O.taken; running = O.running; takes_marks = O.takes_marks; fits = O.fits; reads = O.reads }) (D.pages disk.old) self.old self.new.levels e) }
+        ensures cause { IfErr result (IsCauseIn self.new (D.faults disk.old) (D.faults disk.new)) }
+        ensures faults { D.faults disk.old ≤ D.faults disk.new }
+        ensures tells { is_some (D.pages disk.new) ≡ is_some (D.pages disk.old) }
         ensures none { OnOk result ((outs.new.items.items ≡ []) × (outs.new.drops.items ≡ [])) }
         ensures touches { OnOk result (TouchesOnly actor self.old self.new) }
         ensures cost { OnOk result (CostsFed (record { rest = O.rest; decides = O.decides; lost = O.lost; place = O.place; taken = O.taken; running = O.running; takes_marks = O.takes_marks; fits = O.fits; reads = O.reads }) self.old self.new steps.old steps.new) }
@@ -196,6 +200,9 @@ impl<O: Operator + Drop> Flow<O> {
         ensures prefix { OnErr result (ShowsPrefix (record { rest = O.rest; decides = O.decides; lost = O.lost; place = O.place; taken = O.taken; running = O.running; takes_marks = O.takes_marks; fits = O.fits; reads = O.reads }) (D.pages disk.old) self.old self.new.levels events.old.items events.new.items) }
         ensures plans { OnErr result (PlansPrefix self.old self.new.levels events.old.items events.new.items) }
         ensures strange { IfErr result (λ e. NoneStrange (record { rest = O.rest; decides = O.decides; lost = O.lost; place = O.place; taken = O.taken; running = O.running; takes_marks = O.takes_marks; fits = O.fits; reads = O.reads }) (D.pages disk.old) self.old self.new.levels e) }
+        ensures cause { IfErr result (IsCauseIn self.new (D.faults disk.old) (D.faults disk.new)) }
+        ensures faults { D.faults disk.old ≤ D.faults disk.new }
+        ensures tells { is_some (D.pages disk.new) ≡ is_some (D.pages disk.old) }
         ensures memory { IfErr result (λ e. e ≢ RunErr.TooMuch) }
         ensures none { OnOk result ((outs.new.items.items ≡ []) × (outs.new.drops.items ≡ [])) }
         ensures touches { OnOk result (TouchesOnly actor self.old self.new) }
@@ -223,6 +230,9 @@ impl<O: Operator + Drop> Flow<O> {
         ensures prefix { OnErr result (ShowsPrefix (record { rest = O.rest; decides = O.decides; lost = O.lost; place = O.place; taken = O.taken; running = O.running; takes_marks = O.takes_marks; fits = O.fits; reads = O.reads }) (D.pages disk.old) self.old self.new.levels events.old.items events.new.items) }
         ensures plans { OnErr result (PlansPrefix self.old self.new.levels events.old.items events.new.items) }
         ensures strange { IfErr result (λ e. NoneStrange (record { rest = O.rest; decides = O.decides; lost = O.lost; place = O.place; taken = O.taken; running = O.running; takes_marks = O.takes_marks; fits = O.fits; reads = O.reads }) (D.pages disk.old) self.old self.new.levels e) }
+        ensures cause { IfErr result (IsCauseIn self.new (D.faults disk.old) (D.faults disk.new)) }
+        ensures faults { D.faults disk.old ≤ D.faults disk.new }
+        ensures tells { is_some (D.pages disk.new) ≡ is_some (D.pages disk.old) }
         ensures memory { IfErr result (λ e. e ≢ RunErr.TooMuch) }
         ensures touches { OnOk result (TouchesOnly (length self.old.seats.items) self.old self.new) }
         ensures taken { OnOk result (taken_in_all (record { rest = O.rest; decides = O.decides; lost = O.lost; place = O.place; taken = O.taken; running = O.running; takes_marks = O.takes_marks; fits = O.fits; reads = O.reads }) self.new ≡ taken_in_all (record { rest = O.rest; decides = O.decides; lost = O.lost; place = O.place; taken = O.taken; running = O.running; takes_marks = O.takes_marks; fits = O.fits; reads = O.reads }) self.old) }

@@ -1,12 +1,15 @@
 //! What an actor gives goes to the arcs that come from it, or is shown.
 
-ghost use Rattle.std.specs.Prelude.{◌≡◌, ◌==◌, if◌then◌else◌, ◌≢◌, ℕ, ◌+◌, ◌-◌, ◌^◌, ◌<◌, ◌≤◌, ◌++◌, ◌∷◌, List, [], true, false, Some, OnOk, OnErr, IfErr, length, slice_get};
+ghost use Rattle.std.specs.Prelude.{◌≡◌, ◌==◌, if◌then◌else◌, ◌≢◌, ℕ, ◌+◌, ◌-◌, ◌^◌, ◌<◌, ◌≤◌, ◌++◌, ◌∷◌, List, [], true, false, Some, OnOk, OnErr, IfErr, is_some, length, slice_get};
 ghost use Rattle.sq_sched.specs.Ready.{contains};
 ghost use Rattle.sq_value.specs.Lists.{IsPrefixOf};
 ghost use Rattle.sq_item.specs.Sound.{IsSound};
 ghost use Rattle.sq_item.specs.Things.{spread};
 ghost use Rattle.sq_oper.specs.Given.{given, ItemsSound};
+ghost use Rattle.sq_paged.specs.Fronts.{Tells};
 ghost use Rattle.sq_queue.specs.Faces.{face, size, Together};
+ghost use Rattle.sq_flow.specs.Causes.{of_queue, IsQueueCause};
+ghost use Rattle.sq_flow.specs.Takes.{NotStrange};
 ghost use Rattle.sq_flow.specs.Wiring.{arcs_from, times_in, AllOutsFine, pushed_by, IsOwn};
 ghost use Rattle.std.specs.List.{AllByRecursion};
 ghost use Rattle.sq_flow.specs.Sends.{many, sent_to, comes_from, Pushes};
@@ -32,7 +35,11 @@ fn send_item<D: PageDisk>(
     requires there { (place arc : ℕ) → slice_get arcs.now place ≡ Some arc → (arc < size queues.old) × ((face queues.old arc).ended ≡ false) }
     requires sound { IsSound item }
     requires together { Together queues.old (D.pages disk.old) }
-    ensures { OnOk result (Pushes queues.old queues.new (D.pages disk.old) (D.pages disk.new) (λ arc. many (times_in arc arcs.now) (spread item)) (λ time. item.time ≤ time) (λ arc. contains arcs.now arc)) }
+    ensures sent { OnOk result (Pushes queues.old queues.new (D.pages disk.old) (D.pages disk.new) (λ arc. many (times_in arc arcs.now) (spread item)) (λ time. item.time ≤ time) (λ arc. contains arcs.now arc)) }
+    ensures cause { IfErr result (λ e. IsQueueCause queues.new (D.faults disk.old) (D.faults disk.new) (of_queue e)) }
+    ensures told { IfErr result (λ e. Tells (D.pages disk.old) → NotStrange (of_queue e)) }
+    ensures faults { D.faults disk.old ≤ D.faults disk.new }
+    ensures tells { is_some (D.pages disk.new) ≡ is_some (D.pages disk.old) }
 {
     let Some((last, others)) = arcs.split_last() else {
         return Ok(());
@@ -57,7 +64,11 @@ pub(crate) fn send_one<D: PageDisk>(
     requires there { (place arc : ℕ) → slice_get (arcs_from wires.now actor port) place ≡ Some arc → (arc < size queues.old) × ((face queues.old arc).ended ≡ false) }
     requires sound { IsSound item }
     requires together { Together queues.old (D.pages disk.old) }
-    ensures { OnOk result (Pushes queues.old queues.new (D.pages disk.old) (D.pages disk.new) (λ arc. many (times_in arc (arcs_from wires.now actor port)) (spread item)) (λ time. item.time ≤ time) (λ arc. contains (arcs_from wires.now actor port) arc)) }
+    ensures sent { OnOk result (Pushes queues.old queues.new (D.pages disk.old) (D.pages disk.new) (λ arc. many (times_in arc (arcs_from wires.now actor port)) (spread item)) (λ time. item.time ≤ time) (λ arc. contains (arcs_from wires.now actor port) arc)) }
+    ensures cause { IfErr result (λ e. IsQueueCause queues.new (D.faults disk.old) (D.faults disk.new) (of_queue e)) }
+    ensures told { IfErr result (λ e. Tells (D.pages disk.old) → NotStrange (of_queue e)) }
+    ensures faults { D.faults disk.old ≤ D.faults disk.new }
+    ensures tells { is_some (D.pages disk.new) ≡ is_some (D.pages disk.old) }
 {
     let rows = &wires.readers[actor as usize];
     if (port as usize) < rows.len() {
@@ -81,6 +92,10 @@ pub(crate) fn send_all<D: PageDisk>(
     requires together { Together queues.old (D.pages disk.old) }
     ensures sent { OnOk result (Pushes queues.old queues.new (D.pages disk.old) (D.pages disk.new) (sent_to wires.now actor items.old.items) (λ time. AllOutsFine time items.old.items) (comes_from wires.now actor)) }
     ensures none { OnOk result (items.new.items ≡ []) }
+    ensures cause { IfErr result (λ e. IsQueueCause queues.new (D.faults disk.old) (D.faults disk.new) (of_queue e)) }
+    ensures told { IfErr result (λ e. Tells (D.pages disk.old) → NotStrange (of_queue e)) }
+    ensures faults { D.faults disk.old ≤ D.faults disk.new }
+    ensures tells { is_some (D.pages disk.new) ≡ is_some (D.pages disk.old) }
 {
     for (port, item) in items.drain(..) {
         send_one(wires, queues, disk, actor, port, item)?;
@@ -193,7 +208,10 @@ pub(crate) fn give<D: PageDisk>(
         → ShowsIn outputs (wires.now.shown - wires.now.sheds) events.old.items events.new.items }
     ensures plans { plans_of events.new.items ≡ plans_of events.old.items }
     ensures drops_prefix { OnErr result ((w : ℕ) → IsPrefixOf (drops_of w events.new.items) (drops_of w events.old.items ++ of_drop w outs.old.drops.items)) }
-    ensures memory { IfErr result (λ e. e ≡ RunErr.Memory) }
+    ensures cause { IfErr result (IsQueueCause queues.new (D.faults disk.old) (D.faults disk.new)) }
+    ensures told { IfErr result (λ e. Tells (D.pages disk.old) → NotStrange e) }
+    ensures faults { D.faults disk.old ≤ D.faults disk.new }
+    ensures tells { is_some (D.pages disk.new) ≡ is_some (D.pages disk.old) }
 {
     show_drops(&mut outs.drops, events)?;
     if wires.shown <= actor {

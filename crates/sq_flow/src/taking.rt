@@ -1,11 +1,13 @@
 //! Taking an item from an arc, and the tests that it passes.
 
-ghost use Rattle.std.specs.Prelude.{◌≡◌, ◌≢◌, ℕ, ◌+◌, ◌-◌, ◌^◌, ◌<◌, ◌≤◌, ◌∷◌, true, is_some, length, List, Option, IfOk, IfErr, OnOk, OnErr};
+ghost use Rattle.std.specs.Prelude.{◌≡◌, ◌≢◌, ℕ, ◌+◌, ◌-◌, ◌^◌, ◌<◌, ◌≤◌, ◌∷◌, ◌⊎◌, true, is_some, length, List, Option, IfOk, IfErr, OnOk, OnErr};
+ghost use Rattle.sq_item.specs.declared.Item.{Item};
 ghost use Rattle.sq_item.specs.Sound.{IsSound};
 ghost use Rattle.sq_item.specs.Things.{spread};
 ghost use Rattle.sq_outside.specs.Disks.{Pages};
-ghost use Rattle.sq_queue.specs.Fronts.{Tells, IsPopped};
+ghost use Rattle.sq_paged.specs.Fronts.{Tells, IsPopped};
 ghost use Rattle.sq_queue.specs.Faces.{face, size, items_on, Together};
+ghost use Rattle.sq_flow.specs.Causes.{IsQueueCause};
 ghost use Rattle.sq_flow.specs.Takes.{MayBeFed, may_stand, mark_fits, body_fits, NotStrange};
 
 use crate::errors::RunErr;
@@ -107,6 +109,9 @@ pub(crate) fn take_item<D: PageDisk>(
     ensures strange { IfErr result (λ e. Tells (D.pages disk.old)
         → ((item : Item) (more : List Item) → items_on queues.old (D.pages disk.old) arc ≡ item ∷ more → MayBeFed at port place clock item) → NotStrange e) }
     ensures memory { IfErr result (λ e. e ≢ RunErr.TooMuch) }
+    ensures cause { IfErr result (λ e. IsQueueCause queues.new (D.faults disk.old) (D.faults disk.new) e
+        ⊎ ((item : Item) × (e ≡ RunErr.Strange arc item) × ¬ (MayBeFed at port place clock item))) }
+    ensures faults { D.faults disk.old ≤ D.faults disk.new }
 {
     let item = queues.pop(disk, arc)?;
     if !may_be_fed(at, port, place, clock, &item) {

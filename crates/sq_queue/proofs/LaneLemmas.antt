@@ -1,135 +1,138 @@
--- What is kept of an arc after a push and after a pop.
-use Rattle.std.proofs.Common.{◌≡◌, ◌≢◌, ℕ, zero, suc, ◌+◌, ◌-◌, ◌<◌, ◌≤◌, Bool, true, false, cond, List, [], ◌∷◌, ◌++◌, Option, Some, None, length, refl, sym, ap, subst, ◌∙◌, inl, inr, arith, get_or}
-use Rattle.std.proofs.Math.ListN.{set}
-use Rattle.std.specs.Prelude.{slice_get, is_some, option_map, unwrap_or}
-use Rattle.std.proofs.lemmas.List.{length-append}
-use Rattle.std.proofs.lemmas.Option.{slice_get_read}
+-- What an arc keeps, by its front and the face of its pages.
+use Rattle.std.proofs.Common.{◌≡◌, ℕ, suc, ◌+◌, ◌-◌, ◌<◌, Bool, true, false, cond, List, [], ◌∷◌, ◌++◌, Option, Some, None, length, refl, sym, ap, ◌∙◌, subst, arith}
+use Rattle.std.proofs.Math.Dec.{eqb-suc-zero}
+use Rattle.std.specs.Prelude.{Result, Ok, Err, OnOk, is_some, unwrap_or}
+use Rattle.std.specs.List.{AllByRecursion}
+use Rattle.std.proofs.lemmas.List.{length-append, append-nil}
 use Rattle.sq_item.specs.declared.Item.{Item}
-use Rattle.sq_link.proofs.ListLemmas.{eqb-other}
-use Rattle.sq_link.specs.Chained.{StandsIn, head_or}
-use Rattle.sq_outside.specs.Disks.{Pages}
-use Rattle.sq_pool.specs.Pools.{Pooled}
-use Rattle.sq_queue.specs.Fronts.{Tells, Face, IsFaceOf, IsPopped, first_time, first_or, pushed}
-use Rattle.sq_queue.specs.Kept.{items_in}
-use Rattle.sq_queue.specs.Faces.{face, face_at, nodes_on, items_on, items_along, IsKept, IsLane, Together, kept_at, count_along, is_first, last_of, last_at, last_if}
-use Rattle.sq_queue.specs.Steps.{Adds, Removes}
+use Rattle.sq_item.specs.Sound.{IsSound}
+use Rattle.sq_paged.specs.Faces.{is_first}
+use Rattle.sq_paged.specs.Fronts.{Face, IsFaceOf, IsPopped, first_time, first_or, pushed}
+use Rattle.sq_queue.specs.Faces.{face_at, front_at, behind_at, first_of, IsLane}
 use Rattle.sq_queue.specs.declared.Lane.{Lane}
-use Rattle.sq_queue.specs.declared.store.Kept.{Kept}
-use Rattle.sq_queue.specs.declared.Queues.{Queues}
-use Rattle.sq_queue.proofs.KeptLemmas.{first-behind}
-use Rattle.sq_queue.proofs.AlongLemmas.{slice_get-set_same, slice_get-set_other}
-use Rattle.sq_queue.proofs.TouchLemmas.{together-by}
 
-is-first-some : (n : ℕ) → 1 ≤ n → is_first n ≡ true
-is-first-some n h = ap (λ (b : Bool). cond b false true) (eqb-other n 0 (λ e. absurd (omega (arith, e, h))))
+pub on-ok-both : {T E P Q R : Type 0} (r : Result T E) → OnOk r P → OnOk r Q → (P → Q → R) → OnOk r R
+on-ok-both (Ok x) p q f = f p q
+on-ok-both (Err e) p q f = tt
 
-pub some-count : (n : ℕ) → is_first n ≡ true → 1 ≤ n
-some-count zero h = absurd cc
-some-count (suc n) h = omega arith
+-- ---- the face of an arc is that of its items
 
--- ---- a push
+first-of-all : (front items : List Item) (behind : Option ℕ) → behind ≡ first_time items → first_of front behind ≡ first_time (front ++ items)
+first-of-all [] items behind h = h
+first-of-all (x ∷ front) items behind h = refl
 
-some-first : (o : Option ℕ) (time : ℕ) → is_some (first_or o time) ≡ true
-some-first None time = refl
-some-first (Some t) time = refl
+face-first : (lane : Option Lane) → (face_at lane).first ≡ first_of (front_at lane) (behind_at lane)
+face-first None = refl
+face-first (Some lane) = refl
 
-first-pushed : (items : List Item) (item : Item) → first_or (first_time items) item.time ≡ first_time (items ++ item ∷ [])
-first-pushed [] item = refl
-first-pushed (x ∷ items) item = refl
-
-pub pushed-together : (q : Queues) (told : Option Pages) (m : Queues) (now : Option Pages) (r : Queues) (arc node : ℕ) (item : Item) (lane new : Lane) → Together q told → Adds q told m now arc node item → arc < length q.lanes.items
-    → slice_get q.lanes.items arc ≡ Some lane → r.lanes.items ≡ set q.lanes.items arc new → face_at (Some new) ≡ pushed (face_at (Some lane)) item.time → new.last ≡ Some node → Together (record m { lanes = r.lanes }) now
-pushed-together q told m now r arc node item lane new g a inside was lanes is last =
-    let own = g.lanes arc in
-    let wasc : (face_at (slice_get q.lanes.items arc)).count ≡ lane.count = ap (λ (o : Option Lane). (face_at o).count) was in
-    let more : new.count ≡ lane.count + 1 = ap (λ (f : Face). f.count) is in
-    together-by q told m now r arc new g a.rest inside lanes (record {
-      count = omega (arith, own.count, wasc, more, a.count);
-      first = ap (λ (f : Face). is_some f.first) is ∙ some-first lane.first item.time ∙ sym (is-first-some new.count (omega (arith, more)));
-      last = last ∙ sym a.last;
-    }) (λ tells.
-    let f = g.faces tells arc in
-    subst (λ (xs : List Item). IsFaceOf (face_at (Some new)) xs) (sym (a.items tells)) (record {
-      count = omega (arith, more, wasc, f.count, length-append (items_on q told arc) (item ∷ []));
-      first = ap (λ (x : Face). x.first) is ∙ ap (λ (o : Option Lane). first_or (face_at o).first item.time) (sym was) ∙ ap (λ (o : Option ℕ). first_or o item.time) f.first ∙ first-pushed (items_on q told arc) item;
-    }))
-
--- ---- a pop
-
--- the time that is first, by the nodes that are left
-abbrev pub front_of : List Kept → List ℕ → Option ℕ
-front_of kept nodes = option_map (λ node. (kept_at kept node).time) (head_or nodes None)
-
-front-first : (kept : List Kept) (xs : List ℕ) → ((node : ℕ) → StandsIn node xs → 1 ≤ (kept_at kept node).count) → is_some (front_of kept xs) ≡ is_first (count_along kept xs)
-front-first kept [] h = refl
-front-first kept (x ∷ xs) h = sym (is-first-some (count_along kept (x ∷ xs)) (omega (arith, h x (inl refl))))
-
-front-last : (kept : List Kept) (xs : List ℕ) (last : Option ℕ) → ((first : ℕ) (behind : List ℕ) → xs ≡ first ∷ behind → last_of xs ≡ last) → last_if (front_of kept xs) last ≡ last_of xs
-front-last kept [] last h = refl
-front-last kept (x ∷ xs) last h = sym (h x xs refl)
-
-front-time : (pool : Pooled) (now : Option Pages) (kept : List Kept) (xs : List ℕ) → ((node : ℕ) → StandsIn node xs → IsKept pool now (kept_at kept node)) → Tells now → front_of kept xs ≡ first_time (items_along pool now kept xs)
-front-time pool now kept [] h t = refl
-front-time pool now kept (x ∷ xs) h t = sym (first-behind (items_in pool now (kept_at kept x)) (items_along pool now kept xs) (kept_at kept x).time ((h x (inl refl)).timed t))
-
--- the lane of an arc of which the first item was popped
-abbrev pub popped : Lane → Option ℕ → Lane
-popped lane first = record lane { count = lane.count - 1; first = first; last = last_if first lane.last }
-
-popped-lane : (q : Queues) (told : Option Pages) (r : Queues) (now : Option Pages) (arc : ℕ) (item : Item) (lane : Lane) → Together q told → Removes q told r now arc item → slice_get q.lanes.items arc ≡ Some lane
-    → IsLane (Some (popped lane (front_of r.kept.items (nodes_on r arc)))) r.kept.items (nodes_on r arc)
-popped-lane q told r now arc item lane g p was =
-    let own = g.lanes arc in
-    let wasc : (face_at (slice_get q.lanes.items arc)).count ≡ lane.count = ap (λ (o : Option Lane). (face_at o).count) was in
-    let less : lane.count - 1 ≡ count_along r.kept.items (nodes_on r arc) = omega (arith, own.count, wasc, p.count) in
-    let last : lane.last ≡ last_of (nodes_on q arc) = sym (ap last_at was) ∙ own.last in
+pub lane-face : (lane : Option Lane) (paged : Face) (items : List Item) → IsLane lane paged → IsFaceOf paged items → IsFaceOf (face_at lane) (front_at lane ++ items)
+lane-face lane paged items l f =
     record {
-      count = less;
-      first = front-first r.kept.items (nodes_on r arc) (λ node h. (p.rest.pages arc node h).some) ∙ ap is_first (sym less);
-      last = front-last r.kept.items (nodes_on r arc) lane.last (λ first behind e. p.last first behind e ∙ sym last);
+      count = omega (arith, l.count, f.count, length-append (front_at lane) items);
+      first = face-first lane ∙ first-of-all (front_at lane) items (behind_at lane) (l.behind ∙ f.first);
     }
 
-pub popped-together : (q : Queues) (told : Option Pages) (m : Queues) (now : Option Pages) (r : Queues) (arc : ℕ) (item : Item) (lane new : Lane) → Together q told → Removes q told m now arc item → arc < length q.lanes.items
-    → slice_get q.lanes.items arc ≡ Some lane → r.lanes.items ≡ set q.lanes.items arc new → new ≡ popped lane (front_of m.kept.items (nodes_on m arc)) → Together (record m { lanes = r.lanes }) now
-popped-together q told m now r arc item lane new g p inside was lanes is =
-    let front = front_of m.kept.items (nodes_on m arc) in
-    let wasc : (face_at (slice_get q.lanes.items arc)).count ≡ lane.count = ap (λ (o : Option Lane). (face_at o).count) was in
-    together-by q told m now r arc (popped lane front) g p.rest inside (lanes ∙ ap (λ (l : Lane). set q.lanes.items arc l) is) (popped-lane q told m now arc item lane g p was) (λ tells.
-    let f = g.faces tells arc in
-    let long : length (items_on q told arc) ≡ suc (length (items_on m now arc)) = ap length (p.items tells) in
+pub none-behind : (paged : Face) (items : List Item) → IsFaceOf paged items → paged.first ≡ None → items ≡ []
+none-behind paged [] f e = refl
+none-behind paged (x ∷ items) f e = let no : Some x.time ≡ None = sym f.first ∙ e in absurd cc
+
+-- ---- an item behind the others in front
+
+sound-append : (items : List Item) (item : Item) → IsSound item → AllByRecursion IsSound items → AllByRecursion IsSound (items ++ item ∷ [])
+sound-append [] item s h = (s, tt)
+sound-append (x ∷ items) item s h = (h.0, sound-append items item s h.1)
+
+-- a lane has one item more in front
+pub record Appends (lane new : Lane) (item : Item) : Type 0 where
+  pub front : new.front.items ≡ lane.front.items ++ item ∷ []
+  pub count : new.count ≡ lane.count + 1
+  pub behind : new.behind ≡ lane.behind
+
+pub appended-lane : (lane new : Lane) (item : Item) (paged : Face) → IsLane (Some lane) paged → Appends lane new item → IsSound item → length lane.front.items < 64 → IsLane (Some new) paged
+appended-lane lane new item paged l a sound room =
+    let more : length new.front.items ≡ length lane.front.items + 1 = ap length a.front ∙ length-append lane.front.items (item ∷ []) in
     record {
-      count = omega (arith, wasc, f.count, long);
-      first = front-time m.pool now m.kept.items (nodes_on m arc) (λ node h. p.rest.pages arc node h) (p.rest.tells ∙ tells);
-    })
+      count = omega (arith, l.count, a.count, more);
+      behind = a.behind ∙ l.behind;
+      runs = l.runs;
+      few = omega (arith, more, room);
+      sound = subst (λ (xs : List Item). AllByRecursion IsSound xs) (sym a.front) (sound-append lane.front.items item sound l.sound);
+    }
 
-pub popped-face : (q : Queues) (told : Option Pages) (m : Queues) (now : Option Pages) (r : Queues) (arc : ℕ) (item : Item) (lane new : Lane) → Together q told → Removes q told m now arc item → arc < length q.lanes.items
-    → slice_get q.lanes.items arc ≡ Some lane → r.lanes.items ≡ set q.lanes.items arc new → new ≡ popped lane (front_of m.kept.items (nodes_on m arc)) → IsPopped (face q arc) (face r arc)
-popped-face q told m now r arc item lane new g p inside was lanes is =
-    let l = popped-lane q told m now arc item lane g p was in
-    let own = g.lanes arc in
-    let wasc : (face_at (slice_get q.lanes.items arc)).count ≡ lane.count = ap (λ (o : Option Lane). (face_at o).count) was in
-    let front = front_of m.kept.items (nodes_on m arc) in
-    let will : face r arc ≡ face_at (Some (popped lane front)) = ap (λ (ls : List Lane). face_at (slice_get ls arc)) lanes ∙ ap face_at (slice_get-set_same q.lanes.items arc new inside) ∙ ap (λ (x : Lane). face_at (Some x)) is in
-    subst (λ (f : Face). IsPopped (face q arc) f) (sym will) (record {
-      count = omega (arith, wasc, own.count, p.count);
-      first = l.first;
-      ended = ap (λ (o : Option Lane). (face_at o).ended) (sym was);
-    })
+-- an item behind the front is behind all, where nothing else is there
+pub appended-items : (front new items : List Item) (item : Item) → new ≡ front ++ item ∷ [] → items ≡ [] → new ++ items ≡ (front ++ items) ++ item ∷ []
+appended-items front new items item e none =
+    ap (λ (xs : List Item). new ++ xs) none ∙ append-nil new ∙ e ∙ ap (λ (xs : List Item). xs ++ item ∷ []) (sym (append-nil front) ∙ ap (λ (xs : List Item). front ++ xs) (sym none))
 
--- ---- lanes as they are read and written
-
-pub lane-read : (xs ys : List Lane) (arc : ℕ) (lane : Lane) → ys ≡ xs → arc < length xs → lane ≡ get_or ys arc lane → slice_get xs arc ≡ Some lane
-lane-read xs ys arc lane same inside e = slice_get_read xs (length xs) arc lane refl inside (e ∙ ap (λ (ls : List Lane). get_or ls arc lane) same)
-
-pub other-face : (xs ys : List Lane) (arc other : ℕ) (new : Lane) → ys ≡ set xs arc new → other ≢ arc → face_at (slice_get ys other) ≡ face_at (slice_get xs other)
-other-face xs ys arc other new lanes differ = ap (λ (ls : List Lane). face_at (slice_get ls other)) lanes ∙ ap face_at (slice_get-set_other xs arc other new differ)
+-- ---- an item behind the last in pages
 
 first-given : (o : Option ℕ) (time : ℕ) → Some (unwrap_or o time) ≡ first_or o time
 first-given None time = refl
 first-given (Some t) time = refl
 
-pub pushed-is : (lane : Lane) (last : Option ℕ) (time count first : ℕ) → count ≡ lane.count + 1 → first ≡ unwrap_or lane.first time
-    → face_at (Some (record { count = count; first = Some first; last = last; ended = lane.ended })) ≡ pushed (face_at (Some lane)) time
-pushed-is lane last time count first more is =
-    let one : Face = record { count = count; first = Some first; ended = lane.ended } in
-    ap (λ (n : ℕ). record one { count = n }) more ∙ ap (λ (o : Option ℕ). record one { count = lane.count + 1; first = o }) (ap (λ (n : ℕ). Some n) is ∙ first-given lane.first time)
+pub pushed-behind : (lane new : Lane) (time : ℕ) (paged after : Face) → IsLane (Some lane) paged → after ≡ pushed paged time → new.front.items ≡ lane.front.items → new.count ≡ lane.count + 1 → new.behind ≡ Some (unwrap_or lane.behind time)
+    → IsLane (Some new) after
+pushed-behind lane new time paged after l e front count behind =
+    let more : after.count ≡ paged.count + 1 = ap (λ (f : Face). f.count) e in
+    let same : length new.front.items ≡ length lane.front.items = ap length front in
+    record {
+      count = omega (arith, l.count, more, count, same);
+      behind = behind ∙ first-given lane.behind time ∙ ap (λ (o : Option ℕ). first_or o time) l.behind ∙ sym (ap (λ (f : Face). f.first) e);
+      runs = ap (λ (f : Face). f.ended) e ∙ l.runs;
+      few = omega (arith, l.few, same);
+      sound = subst (λ (xs : List Item). AllByRecursion IsSound xs) (sym front) l.sound;
+    }
+
+-- ---- the first item in front goes
+
+pub record Takes (lane new : Lane) (item : Item) : Type 0 where
+  pub front : lane.front.items ≡ item ∷ new.front.items
+  pub count : lane.count ≡ new.count + 1
+  pub behind : new.behind ≡ lane.behind
+  pub ended : new.ended ≡ lane.ended
+
+pub taken-sound : (lane new : Lane) (item : Item) (paged : Face) → IsLane (Some lane) paged → Takes lane new item → IsSound item
+taken-sound lane new item paged l t = (subst (λ (xs : List Item). AllByRecursion IsSound xs) t.front l.sound).0
+
+pub taken-lane : (lane new : Lane) (item : Item) (paged : Face) → IsLane (Some lane) paged → Takes lane new item → IsLane (Some new) paged
+taken-lane lane new item paged l t =
+    let less : length lane.front.items ≡ suc (length new.front.items) = ap length t.front in
+    record {
+      count = omega (arith, l.count, t.count, less);
+      behind = t.behind ∙ l.behind;
+      runs = l.runs;
+      few = omega (arith, l.few, less);
+      sound = (subst (λ (xs : List Item). AllByRecursion IsSound xs) t.front l.sound).1;
+    }
+
+is-first-suc : (n : ℕ) → is_first (suc n) ≡ true
+is-first-suc n = ap (λ (b : Bool). cond b false true) (eqb-suc-zero n)
+
+-- a first stands exactly where items do, in front or in pages
+some-of : (front : List Item) (behind : Option ℕ) (count paged : ℕ) → is_some behind ≡ is_first paged → count ≡ length front + paged → is_some (first_of front behind) ≡ is_first count
+some-of [] behind count paged h c = let same : count ≡ paged = omega (arith, c) in h ∙ ap is_first (sym same)
+some-of (x ∷ front) behind count paged h c = let more : count ≡ suc (length front + paged) = omega (arith, c) in sym (ap is_first more ∙ is-first-suc (length front + paged))
+
+pub taken-face : (lane new : Lane) (item : Item) (paged : Face) → IsLane (Some lane) paged → is_some paged.first ≡ is_first paged.count → Takes lane new item → IsPopped (face_at (Some lane)) (face_at (Some new))
+taken-face lane new item paged l first t =
+    let after = taken-lane lane new item paged l t in
+    record {
+      count = t.count;
+      first = some-of new.front.items new.behind new.count paged.count (ap is_some after.behind ∙ first) after.count;
+      ended = t.ended;
+    }
+
+-- ---- the first item in pages goes, where none is in front
+
+abbrev pub popped_lane : Lane → Option ℕ → Lane
+popped_lane lane behind = record lane { count = lane.count - 1; behind = behind }
+
+pub popped-lane : (lane : Lane) (behind : Option ℕ) (paged after : Face) → IsLane (Some lane) paged → IsPopped paged after → behind ≡ after.first → IsLane (Some (popped_lane lane behind)) after
+popped-lane lane behind paged after l p e =
+    record {
+      count = omega (arith, l.count, p.count);
+      behind = e;
+      runs = p.ended ∙ l.runs;
+      few = l.few;
+      sound = l.sound;
+    }

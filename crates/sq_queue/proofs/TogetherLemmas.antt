@@ -1,55 +1,87 @@
--- New queues stand together with every disk.
-use Rattle.std.proofs.Common.{◌≡◌, ◌≢◌, ℕ, zero, suc, ◌+◌, ◌<◌, ◌≤◌, Bool, true, false, List, [], ◌∷◌, ◌++◌, Option, Some, None, length, refl, sym, ap, subst, ◌∙◌, arith}
-use Rattle.std.specs.Prelude.{replicate, slice_get, is_some}
-use Rattle.std.proofs.lemmas.List.{length-replicate}
+-- Queues after the lane of one arc was written.
+use Rattle.std.proofs.Common.{◌≡◌, ◌≢◌, ℕ, zero, suc, ◌<◌, List, [], ◌∷◌, ◌++◌, Option, Some, None, length, refl, sym, ap, subst, ◌∙◌, inl, inr, arith}
+use Rattle.std.proofs.Math.ListN.{set, length-set}
+use Rattle.std.proofs.lemmas.Bool.{cases_eq}
+use Rattle.std.specs.Prelude.{slice_get}
+use Rattle.std.specs.List.{AllByRecursion}
 use Rattle.sq_item.specs.declared.Item.{Item}
-use Rattle.sq_link.specs.Chained.{list_at, StandsIn}
+use Rattle.sq_item.specs.Sound.{IsSound}
 use Rattle.sq_outside.specs.Disks.{Pages}
-use Rattle.sq_pool.specs.Pools.{Pooled, Agree}
-use Rattle.sq_queue.specs.Fronts.{Tells, Face, IsFaceOf}
-use Rattle.sq_queue.specs.Faces.{face_at, face, nodes_on, items_on, items_along, IsLane, IsKept, Together, kept_at, no_items}
-use Rattle.sq_queue.specs.declared.store.Kept.{Kept}
+use Rattle.sq_paged.specs.Fronts.{Tells, Face}
+use Rattle.sq_paged.specs.Faces as pages
+use Rattle.sq_paged.proofs.AlongLemmas.{slice_get-set_same, slice_get-set_other}
+use Rattle.sq_queue.specs.Faces.{front_at, size, items_on, no_face, IsEmpty, IsLane, Together}
 use Rattle.sq_queue.specs.declared.Lane.{Lane}
 use Rattle.sq_queue.specs.declared.Queues.{Queues}
+use Rattle.sq_queue.proofs.LaneLemmas.{lane-face, none-behind}
 
-abbrev pub no_face : Face
-no_face = record { count = 0; first = None; ended = false }
-
-pub none-face : (n arc : ℕ) → face_at (slice_get (replicate n no_items) arc) ≡ no_face
-none-face zero arc = refl
-none-face (suc n) zero = refl
-none-face (suc n) (suc arc) = none-face n arc
-
-none-lane : (n arc : ℕ) (kept : List Kept) → IsLane (slice_get (replicate n no_items) arc) kept []
-none-lane zero arc kept = record { count = refl; first = refl; last = refl }
-none-lane (suc n) zero kept = record { count = refl; first = refl; last = refl }
-none-lane (suc n) (suc arc) kept = none-lane n arc kept
-
-pub none-listed : (n arc : ℕ) → list_at (replicate n []) arc ≡ []
-none-listed zero arc = refl
-none-listed (suc n) zero = refl
-none-listed (suc n) (suc arc) = none-listed n arc
-
-none-stands : (xs : List ℕ) (node : ℕ) → xs ≡ [] → StandsIn node xs → ⊥
-none-stands xs node e h = subst (λ (ys : List ℕ). StandsIn node ys) e h
-
-pub new-items : (q : Queues) (arcs : ℕ) (told : Option Pages) (arc : ℕ) → q.chains.lists ≡ replicate arcs [] → items_on q told arc ≡ []
-new-items q arcs told arc lists = ap (λ (ls : List (List ℕ)). items_along q.pool told q.kept.items (list_at ls arc)) lists ∙ ap (λ (xs : List ℕ). items_along q.pool told q.kept.items xs) (none-listed arcs arc)
-
-pub new-together : (q : Queues) (arcs : ℕ) (told : Option Pages) → Agree q.pool told → q.chains.lists ≡ replicate arcs [] → q.chains.nodes ≡ 0 → q.kept.items ≡ [] → q.lanes.items ≡ replicate arcs no_items → Together q told
-new-together q arcs told agree lists nodes kept lanes =
-    let none : (arc : ℕ) → nodes_on q arc ≡ [] = λ arc. ap (λ (ls : List (List ℕ)). list_at ls arc) lists ∙ none-listed arcs arc in
-    let empty : (arc : ℕ) → face q arc ≡ no_face = λ arc. ap (λ (ls : List Lane). face_at (slice_get ls arc)) lanes ∙ none-face arcs arc in
+-- where pages and lanes are as they should be, all stands together
+pub together-by : (q : Queues) (told : Option Pages) → pages.Together q.paged told → pages.size q.paged ≡ size q → ((arc : ℕ) → IsLane (slice_get q.lanes.items arc) (pages.face q.paged arc)) → Together q told
+together-by q told paged arcs lanes =
     record {
-      agree = agree;
-      arcs = ap length lists ∙ length-replicate {A = List ℕ} arcs [] ∙ sym (ap length lanes ∙ length-replicate {A = Lane} arcs no_items);
-      nodes = ap length kept ∙ sym nodes;
-      lanes = λ arc.
-          subst (λ (ls : List Lane). IsLane (slice_get ls arc) q.kept.items (nodes_on q arc)) (sym lanes)
-          (subst (λ (xs : List ℕ). IsLane (slice_get (replicate arcs no_items) arc) q.kept.items xs) (sym (none arc)) (none-lane arcs arc q.kept.items));
-      pages = λ arc node h. absurd (none-stands (nodes_on q arc) node (none arc) h);
-      apart = λ arc node other_arc other h k differ. absurd (none-stands (nodes_on q arc) node (none arc) h);
-      faces = λ t arc.
-          subst (λ (f : Face). IsFaceOf f (items_on q told arc)) (sym (empty arc))
-          (subst (λ (xs : List Item). IsFaceOf no_face xs) (sym (new-items q arcs told arc lists)) (record { count = refl; first = refl }));
+      paged = paged;
+      arcs = arcs;
+      lanes = lanes;
+      faces = λ tells arc. lane-face (slice_get q.lanes.items arc) (pages.face q.paged arc) (pages.items_on q.paged told arc) (lanes arc) (paged.faces tells arc);
     }
+
+pub own-lane : (q : Queues) (told : Option Pages) (arc : ℕ) (lane : Lane) → Together q told → slice_get q.lanes.items arc ≡ Some lane → IsLane (Some lane) (pages.face q.paged arc)
+own-lane q told arc lane g was = subst (λ (o : Option Lane). IsLane o (pages.face q.paged arc)) was (g.lanes arc)
+
+-- the lane of one arc was written, and what stands in its pages changed with it
+pub written-together : (q : Queues) (told : Option Pages) (r : Queues) (now : Option Pages) (arc : ℕ) (lane new : Lane) → Together q told → pages.Together r.paged now → pages.size r.paged ≡ pages.size q.paged → arc < size q
+    → slice_get q.lanes.items arc ≡ Some lane → r.lanes.items ≡ set q.lanes.items arc new → ((other : ℕ) → other ≢ arc → pages.face r.paged other ≡ pages.face q.paged other)
+    → (IsLane (Some lane) (pages.face q.paged arc) → IsLane (Some new) (pages.face r.paged arc)) → Together r now
+written-together q told r now arc lane new g paged sizes inside was lanes others own =
+    let here : slice_get r.lanes.items arc ≡ Some new = ap (λ (ls : List Lane). slice_get ls arc) lanes ∙ slice_get-set_same q.lanes.items arc new inside in
+    together-by r now paged (sizes ∙ g.arcs ∙ sym (ap length lanes ∙ length-set q.lanes.items arc new)) (λ l.
+    elim (cases_eq l arc) [
+      | inl same ↦
+          subst (λ (n : ℕ). IsLane (slice_get r.lanes.items n) (pages.face r.paged n)) (sym same)
+          (subst (λ (o : Option Lane). IsLane o (pages.face r.paged arc)) (sym here) (own (own-lane q told arc lane g was)))
+      | inr away ↦
+          let there : slice_get r.lanes.items l ≡ slice_get q.lanes.items l = ap (λ (ls : List Lane). slice_get ls l) lanes ∙ slice_get-set_other q.lanes.items arc l new away in
+          subst (λ (o : Option Lane). IsLane o (pages.face r.paged l)) (sym there) (subst (λ (f : Face). IsLane (slice_get q.lanes.items l) f) (sym (others l away)) (g.lanes l))
+    ])
+
+-- the items of the arc whose lane was written, and of the others
+pub written-items : (q : Queues) (told : Option Pages) (r : Queues) (now : Option Pages) (arc : ℕ) (lane new : Lane) (more : List Item) → arc < size q → slice_get q.lanes.items arc ≡ Some lane → r.lanes.items ≡ set q.lanes.items arc new
+    → new.front.items ++ pages.items_on r.paged now arc ≡ (lane.front.items ++ pages.items_on q.paged told arc) ++ more → items_on r now arc ≡ items_on q told arc ++ more
+written-items q told r now arc lane new more inside was lanes own =
+    let here : slice_get r.lanes.items arc ≡ Some new = ap (λ (ls : List Lane). slice_get ls arc) lanes ∙ slice_get-set_same q.lanes.items arc new inside in
+    ap (λ (o : Option Lane). front_at o ++ pages.items_on r.paged now arc) here ∙ own ∙ ap (λ (o : Option Lane). (front_at o ++ pages.items_on q.paged told arc) ++ more) (sym was)
+
+pub other-items : (q : Queues) (told : Option Pages) (r : Queues) (now : Option Pages) (arc other : ℕ) (new : Lane) → r.lanes.items ≡ set q.lanes.items arc new → other ≢ arc → pages.items_on r.paged now other ≡ pages.items_on q.paged told other
+    → items_on r now other ≡ items_on q told other
+other-items q told r now arc other new lanes differ same =
+    let there : slice_get r.lanes.items other ≡ slice_get q.lanes.items other = ap (λ (ls : List Lane). slice_get ls other) lanes ∙ slice_get-set_other q.lanes.items arc other new differ in
+    ap (λ (o : Option Lane). front_at o ++ pages.items_on r.paged now other) there ∙ ap (λ (xs : List Item). front_at (slice_get q.lanes.items other) ++ xs) same
+
+-- where nothing of an arc is said to be in pages, nothing is
+pub none-paged : (q : Queues) (told : Option Pages) (arc : ℕ) (lane : Lane) → Together q told → Tells told → slice_get q.lanes.items arc ≡ Some lane → lane.behind ≡ None → pages.items_on q.paged told arc ≡ []
+none-paged q told arc lane g tells was none =
+    let own = own-lane q told arc lane g was in
+    none-behind (pages.face q.paged arc) (pages.items_on q.paged told arc) (g.paged.faces tells arc) (sym own.behind ∙ none)
+
+-- ---- new queues
+
+-- a lane more is read at its place, and all others as before
+pub empty-more : (lanes : List Lane) (lane : Lane) → IsEmpty (Some lane) → ((arc : ℕ) → IsEmpty (slice_get lanes arc)) → (arc : ℕ) → IsEmpty (slice_get (lanes ++ lane ∷ []) arc)
+empty-more [] lane here others zero = here
+empty-more [] lane here others (suc arc) = record { face = refl; front = refl; behind = refl }
+empty-more (x ∷ lanes) lane here others zero = others 0
+empty-more (x ∷ lanes) lane here others (suc arc) = empty-more lanes lane here (λ a. others (suc a)) arc
+
+empty-lane : (lane : Option Lane) (paged : Face) → IsEmpty lane → paged ≡ no_face → IsLane lane paged
+empty-lane lane paged e p =
+    let none : length (front_at lane) ≡ 0 = ap length e.front in
+    record {
+      count = omega (arith, ap (λ (f : Face). f.count) e.face, none, ap (λ (f : Face). f.count) p);
+      behind = e.behind ∙ sym (ap (λ (f : Face). f.first) p);
+      runs = ap (λ (f : Face). f.ended) p;
+      few = omega (arith, none);
+      sound = subst (λ (xs : List Item). AllByRecursion IsSound xs) (sym e.front) tt;
+    }
+
+pub new-together : (q : Queues) (told : Option Pages) → pages.Together q.paged told → pages.size q.paged ≡ size q → ((arc : ℕ) → IsEmpty (slice_get q.lanes.items arc)) → ((arc : ℕ) → pages.face q.paged arc ≡ no_face) → Together q told
+new-together q told paged arcs empty faces = together-by q told paged arcs (λ arc. empty-lane (slice_get q.lanes.items arc) (pages.face q.paged arc) (empty arc) (faces arc))

@@ -1,6 +1,7 @@
 -- The actor that `longest` names is one of those for which most items wait, and the lowest of them.
-use Rattle.std.proofs.Common.{◌≡◌, ℕ, ◌≤◌, cond, Bool, true, false, ◌||◌, ◌&&◌, List, [], ◌∷◌, refl, arith}
+use Rattle.std.proofs.Common.{◌≡◌, ℕ, ◌+◌, ◌<◌, ◌≤◌, cond, Bool, true, false, ◌||◌, ◌&&◌, List, [], ◌∷◌, length, drop, add-one, refl, arith}
 use Rattle.std.specs.Prelude.{◌==◌, nat_lt, slice_index}
+use Rattle.std.proofs.Math.Seq.{drop-cons}
 use Rattle.std.proofs.lemmas.Bool.Decides.{nat_tests}
 use Rattle.sq_sched.specs.Ready.{contains}
 use Rattle.sq_sched.specs.Policies.{IsLongest, longer, longest_from, longest}
@@ -72,5 +73,17 @@ longest-is waits (actor ∷ actors) = record {
   most = λ other h. (all-led waits actor actors other h).most;
   lowest = λ other h. (all-led waits actor actors other h).lowest;
 }
+
+pub longer-ready : (waits ready : List ℕ) (best actor : ℕ) → contains ready best ≡ true → contains ready actor ≡ true → contains ready (longer waits best actor) ≡ true
+longer-ready waits ready best actor h k = by (nat_lt (slice_index waits best) (slice_index waits actor) || ((slice_index waits best == slice_index waits actor) && nat_lt actor best))
+  where
+    by : (b : Bool) → contains ready (cond b actor best) ≡ true
+    by true = k
+    by false = h
+
+-- the best of the first is led on by the actor at the next place
+pub longest-on : (waits ready : List ℕ) (i best actor : ℕ) → i < length ready → actor ≡ slice_index ready i
+    → longest_from waits (longer waits best actor) (drop (i + 1) ready) ≡ longest_from waits best (drop i ready)
+longest-on waits ready i best actor low here = rw (add-one, here, drop-cons ready i 0) refl
 
 pub ruleset longest_lemmas = (longest-is)

@@ -18,7 +18,7 @@ use Rattle.sq_points.specs.Points.{points_of}
 use Rattle.sq_model.specs.Shedding.{Replay}
 use Rattle.sq_start.specs.Nets.{drop_decisions}
 use Rattle.sq_model.proofs.StreamTypes.{some-at}
-use Rattle.sq_queue.specs.Fronts.{Tells}
+use Rattle.sq_paged.specs.Fronts.{Tells}
 use Rattle.sq_flow.specs.declared.errors.RunErr.{RunErr}
 use Rattle.sq_flow.specs.declared.errors.RunErr.TheVariants as run_err
 use Rattle.sq_flow.specs.Events.{drops_of}

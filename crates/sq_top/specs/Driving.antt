@@ -9,7 +9,7 @@ use Rattle.sq_net.specs.declared.Network.{Network}
 use Rattle.sq_oper.specs.declared.outs.Event.{Event}
 use Rattle.sq_replay.specs.Shown.{end_lines, event_line, text_of}
 use Rattle.sq_model.specs.Shedding.{Replay}
-use Rattle.sq_queue.specs.Fronts.{Tells}
+use Rattle.sq_paged.specs.Fronts.{Tells}
 use Rattle.sq_flow.specs.Events.{IsEventIn, drops_of, lines_of}
 use Rattle.sq_flow.specs.Plans.{plans_of}
 use Rattle.sq_core.specs.declared.engine.Engine.{Engine}

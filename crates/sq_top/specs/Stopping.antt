@@ -1,7 +1,7 @@
 -- Why the engine of a run stopped, and what shows it.
 use Rattle.std.specs.Prelude.{◌≡◌, ⊤, ℕ, ◌+◌, ◌^◌, ◌≤◌, Bool, true, false}
 use Rattle.sq_outside.specs.Faults.{Rose}
-use Rattle.sq_queue.specs.declared.store.QueueErr.TheVariants as queue
+use Rattle.sq_paged.specs.declared.store.QueueErr.TheVariants as queue
 use Rattle.sq_actor.specs.declared.actor.Actor.{Actor}
 use Rattle.sq_flow.specs.declared.flow.Flow.{Flow}
 use Rattle.sq_flow.specs.declared.errors.RunErr.{RunErr}

@@ -5,7 +5,7 @@ ghost use Rattle.sq_model.specs.Shedding.{Replay};
 ghost use Rattle.sq_oper.specs.declared.outs.Event.{Event};
 ghost use Rattle.sq_replay.specs.Shown.{event_line};
 ghost use Rattle.sq_outside.specs.Sinks.{AppendsPrefix, appended};
-ghost use Rattle.sq_queue.specs.Fronts.{Tells};
+ghost use Rattle.sq_paged.specs.Fronts.{Tells};
 ghost use Rattle.sq_queue.specs.Faces.{Together};
 ghost use Rattle.sq_flow.specs.Flows.{measure_of};
 ghost use Rattle.sq_flow.specs.Engines.{AllDone};

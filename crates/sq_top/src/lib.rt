@@ -12,7 +12,7 @@ ghost use Rattle.std.specs.Prelude.{◌≡◌, ◌≢◌, ◌≤◌, false, is_s
 ghost use Rattle.std.specs.String.{string_bytes};
 ghost use Rattle.sq_outside.specs.Faults.{Rose};
 ghost use Rattle.sq_net.specs.declared.NetErr.TheVariants as net;
-ghost use Rattle.sq_queue.specs.Fronts.{Tells};
+ghost use Rattle.sq_paged.specs.Fronts.{Tells};
 ghost use Rattle.sq_top.specs.Causes.{AnswersPrefix, AnswersWhole, EndsOk, FolderHasCause, IsEngineOf, IsTold, RefusalHasCause, TooMuchHasCause, UsageHasCause, WhereTold, is_refusal};
 ghost use Rattle.sq_top.specs.Stopping.{StopHasCause, is_changed};
 ghost use Rattle.sq_top.specs.Messages.{code_of};

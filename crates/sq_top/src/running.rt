@@ -6,7 +6,7 @@ ghost use Rattle.sq_value.specs.Lists.{IsPrefixOf};
 ghost use Rattle.sq_net.specs.Sound.{IsSound};
 ghost use Rattle.sq_points.specs.Limits.{KeepsDropLimits};
 ghost use Rattle.sq_outside.specs.Disks.{Pages};
-ghost use Rattle.sq_queue.specs.Fronts.{Tells};
+ghost use Rattle.sq_paged.specs.Fronts.{Tells};
 ghost use Rattle.sq_core.specs.Runs.{IsRun, IsSoundEngine};
 ghost use Rattle.sq_top.specs.Answers.{IsPrefixText, IsWholeText};
 ghost use Rattle.sq_top.specs.Causes.{AppendsSuch, Ends, TellsStatus, is_refusal, source_of};

@@ -1,7 +1,7 @@
 use Rattle.std.proofs.Common.{◌≡◌, ◌≢◌, ◌||◌, false, ap, sym, ◌∙◌, arith}
 use Rattle.std.specs.Prelude.{◌==◌}
 use borrow.Author.Count.{below_more}
-use Rattle.sq_queue.specs.Fronts.{Face}
+use Rattle.sq_paged.specs.Fronts.{Face}
 use Rattle.sq_queue.specs.Faces.{face}
 use Rattle.sq_flow.specs.Wiring.{from_of}
 use Rattle.sq_flow.specs.Sends.{comes_from}

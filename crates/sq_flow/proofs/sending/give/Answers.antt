@@ -1,4 +1,4 @@
-use Rattle.std.proofs.Common.{◌+◌, ◌++◌, ◌-◌, ap, sym, subst}
+use Rattle.std.proofs.Common.{◌+◌, ◌++◌, ◌-◌, ap, sym, subst, arith}
 use Rattle.std.proofs.lemmas.Result.{err_from_is_err_and}
 use Rattle.sq_value.specs.Lists.{IsPrefixOf}
 use Rattle.sq_oper.specs.Given.{given}
@@ -58,4 +58,29 @@ returns-clause-below g c =
       | else-wires-actor+in_ok-send_all w ↦
           rw w.events-is
           (λ outputs low own h. c.in_ok-show_drops.ensures.below outputs (c.args.wires.now.shown - c.args.wires.now.sheds) (own-below c.args.wires.now c.args.actor c.args.outs.now.drops.items own) h)
+    ]
+
+pub returns-in_err-show_drops-clause-cause : goal.returns-in_err-show_drops-clause-cause
+returns-in_err-show_drops-clause-cause g c = let p = err_from_is_err_and c.from_residual.result c.from_residual.ensures.1 in rw (p.1, p.2) tt
+
+pub returns-in_err-show_drops-clause-told : goal.returns-in_err-show_drops-clause-told
+returns-in_err-show_drops-clause-told g c = let p = err_from_is_err_and c.from_residual.result c.from_residual.ensures.1 in rw (p.1, p.2) (λ told. tt)
+
+pub returns-in_err-show_all-clause-cause : goal.returns-in_err-show_all-clause-cause
+returns-in_err-show_all-clause-cause g c = let p = err_from_is_err_and c.from_residual-in_err-show_all.result c.from_residual-in_err-show_all.ensures.1 in rw (p.1, p.2) tt
+
+pub returns-in_err-show_all-clause-told : goal.returns-in_err-show_all-clause-told
+returns-in_err-show_all-clause-told g c = let p = err_from_is_err_and c.from_residual-in_err-show_all.result c.from_residual-in_err-show_all.ensures.1 in rw (p.1, p.2) (λ told. tt)
+
+pub returns-in_err-send_all-clause-cause : goal.returns-in_err-send_all-clause-cause
+returns-in_err-send_all-clause-cause g c = let p = err_from_is_err_and c.from_residual-in_err-send_all.result c.from_residual-in_err-send_all.ensures.1 in rw (p.1, p.2) c.in_err-send_all.ensures.cause
+
+pub returns-in_err-send_all-clause-told : goal.returns-in_err-send_all-clause-told
+returns-in_err-send_all-clause-told g c = let p = err_from_is_err_and c.from_residual-in_err-send_all.result c.from_residual-in_err-send_all.ensures.1 in rw (p.1, p.2) c.in_err-send_all.ensures.told
+
+pub returns-clause-faults : goal.returns-clause-faults
+returns-clause-faults g c =
+    elim c.if-wires-actor.branch [
+      | then-wires-actor+in_ok-show_all w ↦ rw w.disk-is (omega arith)
+      | else-wires-actor+in_ok-send_all w ↦ rw w.disk-is w.in_ok-send_all.ensures.faults
     ]

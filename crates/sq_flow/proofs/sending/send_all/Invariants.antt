@@ -1,4 +1,4 @@
-use Rattle.std.proofs.Common.{◌≡◌, ◌++◌}
+use Rattle.std.proofs.Common.{◌≡◌, ◌≤◌, ◌++◌}
 use Rattle.std.specs.Vec.Iter.{drain_items}
 use Rattle.sq_flow.specs.Wiring.{AllOutsFine}
 use Rattle.sq_flow.specs.Sends.{sent_to, comes_from, Pushes}
@@ -9,4 +9,5 @@ invariant-loop-port g l =
     record {
       all : l.yielded ++ drain_items l.port-iterator ≡ l.fn.items.items;
       pushes : Pushes l.initial.queues l.queues (g.D.PageDisk.pages l.initial.disk) (g.D.PageDisk.pages l.disk) (sent_to l.wires l.actor l.yielded) (λ time. AllOutsFine time l.fn.items.items) (comes_from l.wires l.actor);
+      faults : g.D.PageDisk.faults l.initial.disk ≤ g.D.PageDisk.faults l.disk;
     }

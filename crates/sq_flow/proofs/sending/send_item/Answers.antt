@@ -1,54 +1,82 @@
-use Rattle.std.proofs.Common.{◌++◌, ◌∷◌, [], get_or, take, ap, sym, ◌∙◌, add-one}
+use Rattle.std.proofs.Common.{◌++◌, ◌∷◌, [], get_or, take, ap, sym, ◌∙◌, add-one, ◌≤◌, arith}
 use Rattle.std.proofs.Math.Seq.{take-suc}
 use Rattle.std.proofs.lemmas.List.{take_all}
 use Rattle.sq_item.specs.Things.{spread}
 use Rattle.sq_flow.specs.Wiring.{times_in}
 use Rattle.sq_flow.specs.Sends.{many}
 use Rattle.sq_flow.proofs.SendLemmas.{pushes-one, pushes-both, many-next, not-in, contains-get, at-front, at-last}
+use Rattle.std.proofs.lemmas.Result.{err_from_is_err_and}
+use Rattle.sq_flow.proofs.CauseLemmas.{cause-of, told-of, queue-cause-since}
 use Rattle.sq_flow.proofs.sending.send_item.Goals as goal
 
 pub push-requires-clause-there : goal.push-requires-clause-there
 push-requires-clause-there g c =
     let here = at-front c.args.arcs.now c.in-Some.others.now c.in-Some.last.now c.loop-arc.arc-index c.in-Some.ensures.cases.0 c.loop-arc-test.true in
-    let low = (c.requires.there c.loop-arc.arc-index _ here).0 in rw c.loop-arc.invariant.lanes low
+    let low = (c.requires.there c.loop-arc.arc-index _ here).0 in rw c.loop-arc.invariant.pushes.lanes low
 
 pub push-requires-clause-open : goal.push-requires-clause-open
 push-requires-clause-open g c =
     let here = at-front c.args.arcs.now c.in-Some.others.now c.in-Some.last.now c.loop-arc.arc-index c.in-Some.ensures.cases.0 c.loop-arc-test.true in
-    c.loop-arc.invariant.ended _ ∙ (c.requires.there c.loop-arc.arc-index _ here).1
+    c.loop-arc.invariant.pushes.ended _ ∙ (c.requires.there c.loop-arc.arc-index _ here).1
 
 pub loop-arc-preserved : goal.loop-arc-preserved
 loop-arc-preserved g c =
     let at = get_or c.in-Some.others.now c.loop-arc.arc-index 0 in
     let here = at-front c.args.arcs.now c.in-Some.others.now c.in-Some.last.now c.loop-arc.arc-index c.in-Some.ensures.cases.0 c.loop-arc-test.true in
     let told = c.in_ok-push.ensures in
-    pushes-both _ _ _ _ _ _ _ _ _ _ _ _ _ _ _ c.loop-arc.invariant
-    (pushes-one _ _ _ _ at c.args.item c.requires.sound told.face told.faces told.size told.items told.others told.together told.tells)
-    (λ time le. (le, le))
-    (λ arc. ap (λ l. many (times_in arc l) (spread c.args.item))
-    (ap (λ n. take n c.in-Some.others.now) (add-one c.loop-arc.arc-index) ∙ take-suc c.in-Some.others.now c.loop-arc.arc-index 0 c.loop-arc-test.true)
-    ∙ many-next (take c.loop-arc.arc-index c.in-Some.others.now) at (spread c.args.item) arc)
-    (λ arc away. (away, not-in c.args.arcs.now at arc (contains-get c.args.arcs.now c.loop-arc.arc-index at here) away))
+    let faults : g.D.PageDisk.faults c.args.disk.now ≤ g.D.PageDisk.faults c.push.new.disk = omega (arith, c.loop-arc.invariant.faults, told.faults) in
+    record {
+      pushes = pushes-both _ _ _ _ _ _ _ _ _ _ _ _ _ _ _ c.loop-arc.invariant.pushes
+          (pushes-one _ _ _ _ at c.args.item c.requires.sound told.face told.faces told.size told.items told.others told.together told.tells)
+          (λ time le. (le, le))
+          (λ arc. ap (λ l. many (times_in arc l) (spread c.args.item))
+          (ap (λ n. take n c.in-Some.others.now) (add-one c.loop-arc.arc-index) ∙ take-suc c.in-Some.others.now c.loop-arc.arc-index 0 c.loop-arc-test.true)
+          ∙ many-next (take c.loop-arc.arc-index c.in-Some.others.now) at (spread c.args.item) arc)
+          (λ arc away. (away, not-in c.args.arcs.now at arc (contains-get c.args.arcs.now c.loop-arc.arc-index at here) away));
+      faults = faults;
+    }
 
 pub send-requires-clause-there : goal.send-requires-clause-there
 send-requires-clause-there g c =
     let here = at-last c.args.arcs.now c.in-Some.others.now c.in-Some.last.now c.in-Some.ensures.cases.0 in
-    let low = (c.requires.there _ _ here).0 in rw c.loop-arc.invariant.lanes low
+    let low = (c.requires.there _ _ here).0 in rw c.loop-arc.invariant.pushes.lanes low
 
 pub send-requires-clause-open : goal.send-requires-clause-open
 send-requires-clause-open g c =
     let here = at-last c.args.arcs.now c.in-Some.others.now c.in-Some.last.now c.in-Some.ensures.cases.0 in
-    c.loop-arc.invariant.ended _ ∙ (c.requires.there _ _ here).1
+    c.loop-arc.invariant.pushes.ended _ ∙ (c.requires.there _ _ here).1
 
-pub returns : goal.returns
-returns g c =
+pub returns-clause-sent : goal.returns-clause-sent
+returns-clause-sent g c =
     let arcs = c.args.arcs.now in
     let told = c.in_ok-send.ensures in
     let here = at-last arcs c.in-Some.others.now c.in-Some.last.now c.in-Some.ensures.cases.0 in
-    pushes-both _ _ _ _ _ _ _ _ _ _ _ _ _ _ _ c.loop-arc.invariant
+    pushes-both _ _ _ _ _ _ _ _ _ _ _ _ _ _ _ c.loop-arc.invariant.pushes
     (pushes-one _ _ _ _ c.in-Some.last.now c.args.item c.requires.sound told.face told.faces told.size told.items told.others told.together told.tells)
     (λ time le. (le, le))
     (λ arc. ap (λ l. many (times_in arc l) (spread c.args.item))
     (c.in-Some.ensures.cases.0 ∙ ap (λ l. l ++ c.in-Some.last.now ∷ []) (sym (take_all c.loop-arc.arc-index c.in-Some.others.now c.loop-arc-test.false)))
     ∙ many-next (take c.loop-arc.arc-index c.in-Some.others.now) c.in-Some.last.now (spread c.args.item) arc)
     (λ arc away. (away, not-in arcs c.in-Some.last.now arc (contains-get arcs _ c.in-Some.last.now here) away))
+
+pub returns-in_err-push-clause-cause : goal.returns-in_err-push-clause-cause
+returns-in_err-push-clause-cause g c =
+    let p = err_from_is_err_and c.from_residual.result c.from_residual.ensures.1 in
+    rw (p.1, p.2)
+    (queue-cause-since _ _ _ _ _ c.loop-arc.invariant.faults (cause-of c.loop-arc.queues _ _ _ _ _ c.in_err-push.ensures.disk c.in_err-push.ensures.cause))
+
+pub returns-in_err-push-clause-told : goal.returns-in_err-push-clause-told
+returns-in_err-push-clause-told g c =
+    let p = err_from_is_err_and c.from_residual.result c.from_residual.ensures.1 in
+    rw (p.1, p.2) (λ told. told-of _ (c.in_err-push.ensures.told (c.loop-arc.invariant.pushes.tells ∙ told)))
+
+pub returns-in_err-send-clause-cause : goal.returns-in_err-send-clause-cause
+returns-in_err-send-clause-cause g c =
+    let p = err_from_is_err_and c.from_residual-in_err-send.result c.from_residual-in_err-send.ensures.1 in
+    rw (p.1, p.2)
+    (queue-cause-since _ _ _ _ _ c.loop-arc.invariant.faults (cause-of c.loop-arc.queues _ _ _ _ _ c.in_err-send.ensures.disk c.in_err-send.ensures.cause))
+
+pub returns-in_err-send-clause-told : goal.returns-in_err-send-clause-told
+returns-in_err-send-clause-told g c =
+    let p = err_from_is_err_and c.from_residual-in_err-send.result c.from_residual-in_err-send.ensures.1 in
+    rw (p.1, p.2) (λ told. told-of _ (c.in_err-send.ensures.told (c.loop-arc.invariant.pushes.tells ∙ told)))

@@ -7,4 +7,7 @@ use Rattle.sq_flow.proofs.sending.send_item.Given as goal
 
 abbrev pub invariant-loop-arc : goal.invariant-loop-arc
 invariant-loop-arc g l =
-    Pushes l.initial.queues l.queues (g.D.PageDisk.pages l.initial.disk) (g.D.PageDisk.pages l.disk) (λ arc. many (times_in arc (take l.arc-index l.others)) (spread l.item)) (λ time. l.item.time ≤ time) (λ arc. contains l.fn.arcs arc)
+    record {
+      pushes : Pushes l.initial.queues l.queues (g.D.PageDisk.pages l.initial.disk) (g.D.PageDisk.pages l.disk) (λ arc. many (times_in arc (take l.arc-index l.others)) (spread l.item)) (λ time. l.item.time ≤ time) (λ arc. contains l.fn.arcs arc);
+      faults : g.D.PageDisk.faults l.initial.disk ≤ g.D.PageDisk.faults l.disk;
+    }

@@ -1,16 +1,6 @@
-use Rattle.std.proofs.Common.{◌≡◌, ◌≤◌, ◌∙◌, ap, subst, sym, ℕ, List}
-use Rattle.std.specs.Prelude.{slice_get, length}
-use Rattle.sq_link.specs.Chained.{Chained}
-use Rattle.sq_pool.specs.Pools.{Pooled}
-use Rattle.sq_queue.specs.Faces.{face_at}
-use Rattle.sq_queue.specs.declared.Lane.{Lane}
-use Rattle.sq_queue.proofs.TogetherLemmas.{none-face, new-together, new-items}
+use Rattle.std.proofs.Common.{sym, ◌∙◌}
+use Rattle.sq_queue.proofs.TogetherLemmas.{new-together}
 use Rattle.sq_queue.proofs.Queues.new.Goals as goal
 
-pub returns-clause-faces : goal.returns-clause-faces
-returns-clause-faces c arc = ap (λ (ls : List Lane). face_at (slice_get ls arc)) c.in_ok-lanes.ensures ∙ none-face c.args.arcs arc
-
 pub returns-clause-together : goal.returns-clause-together
-returns-clause-together c told =
-    new-together _ c.args.arcs told (c.in_ok-new.ensures.agree told)
-    (ap (λ (x : Chained). x.lists) c.in_ok-new-2.ensures) (ap (λ (x : Chained). x.nodes) c.in_ok-new-2.ensures) c.new-3.ensures.items c.in_ok-lanes.ensures
+returns-clause-together c told = new-together _ told (c.in_ok-paged.ensures.together told) (c.in_ok-paged.ensures.size ∙ sym c.in_ok-lanes.ensures.size) c.in_ok-lanes.ensures.empty c.in_ok-paged.ensures.faces

@@ -1,21 +1,35 @@
-use Rattle.std.proofs.Common.{◌≡◌, ◌∙◌, ap, ℕ, Option}
-use Rattle.std.proofs.Math.ListN.{set}
+use Rattle.std.proofs.Common.{Option, Some, refl, sym, subst}
 use Rattle.std.specs.Vec.{with_item}
-use Rattle.sq_queue.proofs.LaneLemmas.{lane-read, other-face, popped, popped-face, popped-together}
+use Rattle.std.proofs.lemmas.Option.{slice_get_read}
+use Rattle.sq_paged.specs.Faces as pages
+use Rattle.sq_paged.specs.Fronts.{IsPopped}
+use Rattle.sq_paged.proofs.AlongLemmas.{slice_get-set_same}
+use Rattle.sq_queue.specs.Faces.{face, face_at}
+use Rattle.sq_queue.specs.declared.Lane.{Lane}
+use Rattle.sq_queue.specs.declared.Queues.{Queues}
+use Rattle.sq_queue.proofs.LaneLemmas.{Takes, taken-lane, taken-face}
+use Rattle.sq_queue.proofs.TogetherLemmas.{own-lane, written-together}
 use Rattle.sq_queue.proofs.Queues.pop.Goals as goal
 
 pub returns-clause-face : goal.returns-clause-face
 returns-clause-face g c =
-    let is = lane-read c.args.self.now.lanes.items c.take.new.self.lanes.items c.args.arc c.index-lane.result.now (ap (λ v. v.items) c.in-Ok.ensures.lanes) c.requires.there c.index-lane.ensures in
-    popped-face c.args.self.now _ c.take.new.self _ (record c.take.new.self { lanes = with_item c.take.new.self.lanes c.args.arc c.popped_lane.result }) c.args.arc c.in-Ok.item c.index-lane.result.now c.popped_lane.result c.requires.together c.in-Ok.ensures.ok
-    c.requires.there is (ap (λ v. set v.items c.args.arc c.popped_lane.result) c.in-Ok.ensures.lanes) (c.popped_lane.ensures ∙ ap (λ (o : Option ℕ). popped c.index-lane.result.now o) c.front_time.ensures)
-
-pub returns-clause-faces : goal.returns-clause-faces
-returns-clause-faces g c other differ =
-    other-face c.args.self.now.lanes.items (with_item c.take.new.self.lanes c.args.arc c.popped_lane.result).items c.args.arc other c.popped_lane.result (ap (λ v. set v.items c.args.arc c.popped_lane.result) c.in-Ok.ensures.lanes) differ
+    let q = c.args.self.now in
+    let arc = c.args.arc in
+    let lane = c.index_mut-lane.result.now in
+    let new = c.take_first.new.self in
+    let was = slice_get_read q.lanes.items _ arc lane refl c.requires.there c.index_mut-lane.ensures.value in
+    let takes : Takes lane new c.take_first.result = record { front = c.take_first.ensures.front; count = c.take_first.ensures.count; behind = c.take_first.ensures.behind; ended = c.take_first.ensures.ended } in
+    let popped = taken-face lane new c.take_first.result (pages.face q.paged arc) (own-lane q _ arc lane c.requires.together was) (c.requires.together.paged.lanes arc).first takes in
+    subst (λ (o : Option Lane). IsPopped (face q arc) (face_at o)) (sym (slice_get-set_same q.lanes.items arc new c.requires.there)) (subst (λ (o : Option Lane). IsPopped (face_at o) (face_at (Some new))) (sym was) popped)
 
 pub returns-clause-together : goal.returns-clause-together
 returns-clause-together g c =
-    let is = lane-read c.args.self.now.lanes.items c.take.new.self.lanes.items c.args.arc c.index-lane.result.now (ap (λ v. v.items) c.in-Ok.ensures.lanes) c.requires.there c.index-lane.ensures in
-    popped-together c.args.self.now _ c.take.new.self _ (record c.take.new.self { lanes = with_item c.take.new.self.lanes c.args.arc c.popped_lane.result }) c.args.arc c.in-Ok.item c.index-lane.result.now c.popped_lane.result c.requires.together c.in-Ok.ensures.ok
-    c.requires.there is (ap (λ v. set v.items c.args.arc c.popped_lane.result) c.in-Ok.ensures.lanes) (c.popped_lane.ensures ∙ ap (λ (o : Option ℕ). popped c.index-lane.result.now o) c.front_time.ensures)
+    let q = c.args.self.now in
+    let arc = c.args.arc in
+    let lane = c.index_mut-lane.result.now in
+    let new = c.take_first.new.self in
+    let takes : Takes lane new c.take_first.result = record { front = c.take_first.ensures.front; count = c.take_first.ensures.count; behind = c.take_first.ensures.behind; ended = c.take_first.ensures.ended } in
+    let r : Queues = record q { lanes = with_item q.lanes arc new } in
+    written-together q _ r _ arc lane new c.requires.together c.requires.together.paged refl c.requires.there
+    (slice_get_read q.lanes.items _ arc lane refl c.requires.there c.index_mut-lane.ensures.value) refl (λ other differ. refl)
+    (λ own. taken-lane lane new c.take_first.result (pages.face q.paged arc) own takes)

@@ -5,6 +5,7 @@ use Rattle.std.proofs.lemmas.Result.{err_from_is_err_and}
 use Rattle.sq_flow.specs.Takes.{MayBeFed}
 use Rattle.sq_queue.specs.Faces.{items_on}
 use Rattle.sq_flow.proofs.WireLemmas.{arcs-open, comes-from}
+use Rattle.sq_flow.proofs.CauseLemmas.{cause-in, refused-in, too-much-in, queue-cause-since, counts-none, none-too-much}
 use Rattle.sq_flow.proofs.FutureLemmas.{slice_get-set_same, slice_get-set_other}
 use Rattle.sq_flow.proofs.Measures.{weighs, open-same}
 use Rattle.sq_flow.proofs.FedFlow.{seat-fine, may-come, runs, own-drops, passes-front, fed-prefix, fed-stepped, fed-touches, costs-none, costs-front, costs-fed, too-much-front}
@@ -148,3 +149,26 @@ returns-clause-cost g c =
     (slice_get-set_same c.args.self.now.seats.items c.args.actor c.feed_seat.new.seat c.requires.actor_in)
     (λ other ne. slice_get-set_other c.args.self.now.seats.items c.args.actor other c.feed_seat.new.seat ne)
     (length-set c.args.self.now.seats.items c.args.actor c.feed_seat.new.seat) c.in_ok-feed_seat.ensures.fed.counted c.in_ok-feed_seat.ensures.cost
+
+pub returns-in-Err-clause-cause : goal.returns-in-Err-clause-cause
+returns-in-Err-clause-cause g c =
+    let is = slice_get_read c.args.self.now.seats.items _ c.args.actor c.index.result.now refl c.requires.actor_in c.index.ensures in
+    refused-in _ c.args.actor c.args.port c.args.arc c.index.result.now c.arc-at.result _ _ _ c.requires.head.1.1 is c.arc-at.ensures c.in-Err.ensures.cause
+
+pub returns-in-Err-count_item-clause-cause : goal.returns-in-Err-count_item-clause-cause
+returns-in-Err-count_item-clause-cause g c = too-much-in _ _ _ _ c.in-Err-count_item.ensures.err
+
+pub returns-in_err-give-clause-cause : goal.returns-in_err-give-clause-cause
+returns-in_err-give-clause-cause g c =
+    let p = err_from_is_err_and c.from_residual-in_err-give.result c.from_residual-in_err-give.ensures.1 in
+    rw (p.1, p.2) (cause-in _ _ _ _ (queue-cause-since _ _ _ _ _ c.in-Ok.ensures.faults c.in_err-give.ensures.cause))
+
+pub returns-in_err-give-clause-strange : goal.returns-in_err-give-clause-strange
+returns-in_err-give-clause-strange g c =
+    let p = err_from_is_err_and c.from_residual-in_err-give.result c.from_residual-in_err-give.ensures.1 in
+    rw (p.1, p.2) (λ told table agrees holds. c.in_err-give.ensures.told (c.in-Ok.ensures.tells ∙ told))
+
+pub returns-in_err-give-clause-too_much : goal.returns-in_err-give-clause-too_much
+returns-in_err-give-clause-too_much g c =
+    let p = err_from_is_err_and c.from_residual-in_err-give.result c.from_residual-in_err-give.ensures.1 in
+    rw (p.1, p.2) (none-too-much _ _ _ _ _ (counts-none _ _ _ _ c.in_err-give.ensures.cause))

@@ -3,6 +3,7 @@ use Rattle.std.specs.Vec.{with_item}
 use Rattle.std.proofs.lemmas.Option.{slice_get_read}
 use Rattle.std.proofs.lemmas.Result.{err_from_is_err_and}
 use Rattle.sq_flow.proofs.WireLemmas.{arcs-open, comes-from}
+use Rattle.sq_flow.proofs.CauseLemmas.{cause-in, counts-none}
 use Rattle.sq_flow.proofs.FutureLemmas.{slice_get-set_same, slice_get-set_other}
 use Rattle.sq_flow.proofs.Measures.{open-less}
 use Rattle.sq_flow.proofs.FinishedFlow.{seat-fine, runs, own-drops, finished-prefix, finished-stepped, finished-taken, finished-touches}
@@ -64,3 +65,18 @@ returns-clause-touches g c =
     (g.D.PageDisk.pages c.args.disk.now) (g.D.PageDisk.pages c.give.new.disk) c.give.new.queues c.end_arcs.new.queues _ c.finish_seat.new.out.items.items
     (λ other ne. slice_get-set_other c.args.self.now.seats.items c.args.actor other c.finish_seat.new.seat ne)
     c.in_ok-give.ensures.sent c.end_arcs.ensures.ended c.end_arcs.ensures.first c.end_arcs.ensures.apart
+
+pub returns-in_err-give-clause-cause : goal.returns-in_err-give-clause-cause
+returns-in_err-give-clause-cause g c =
+    let p = err_from_is_err_and c.from_residual-in_err-give.result c.from_residual-in_err-give.ensures.1 in
+    rw (p.1, p.2) (cause-in _ _ _ _ c.in_err-give.ensures.cause)
+
+pub returns-in_err-give-clause-strange : goal.returns-in_err-give-clause-strange
+returns-in_err-give-clause-strange g c =
+    let p = err_from_is_err_and c.from_residual-in_err-give.result c.from_residual-in_err-give.ensures.1 in
+    rw (p.1, p.2) (λ told table agrees holds. c.in_err-give.ensures.told told)
+
+pub returns-in_err-give-clause-memory : goal.returns-in_err-give-clause-memory
+returns-in_err-give-clause-memory g c =
+    let p = err_from_is_err_and c.from_residual-in_err-give.result c.from_residual-in_err-give.ensures.1 in
+    rw (p.1, p.2) (counts-none _ _ _ _ c.in_err-give.ensures.cause)

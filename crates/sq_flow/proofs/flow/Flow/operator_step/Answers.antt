@@ -11,3 +11,7 @@ pub returns-in_err-finish_step-in-Ended-clause-cost_err : goal.returns-in_err-fi
 returns-in_err-finish_step-in-Ended-clause-cost_err g c =
     let p = err_from_is_err_and c.from_residual.result c.from_residual.ensures.1 in
     rw p.1 (costs-none _ _ c.args.self.now c.requires.flow (g.D.PageDisk.pages c.args.disk.now) c.finish_step.new.self.levels c.args.steps.now c.args.steps.now refl)
+
+pub returns-in_err-finish_step-in-Ended-clause-strange : goal.returns-in_err-finish_step-in-Ended-clause-strange
+returns-in_err-finish_step-in-Ended-clause-strange g c =
+    let p = err_from_is_err_and c.from_residual.result c.from_residual.ensures.1 in rw (p.1, p.2) c.in_err-finish_step-in-Ended.ensures.strange

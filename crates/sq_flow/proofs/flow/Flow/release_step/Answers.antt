@@ -5,6 +5,7 @@ use Rattle.std.proofs.lemmas.Result.{err_from_is_err_and}
 use Rattle.sq_road.specs.Levels.{Agrees}
 use Rattle.sq_plan.specs.Shown.{level_for, Ended}
 use Rattle.sq_flow.proofs.WireLemmas.{arcs-open}
+use Rattle.sq_flow.proofs.CauseLemmas.{cause-in, counts-none}
 use Rattle.sq_flow.proofs.ReleasedPlans.{ClosedBefore, mid-len, plans-front, plans-none}
 use Rattle.sq_flow.proofs.ReplayFlow.{replay-open, replay-runs, item-sound, released-stepped, released-touches, lines-stay, count-less}
 use Rattle.sq_flow.proofs.flow.Flow.release_step.Goals as goal
@@ -103,7 +104,7 @@ returns-clause-ok g c =
     let counted = ap (λ n. set c.close_before.new.counts.items c.args.source (n + 1)) (sym read) in
     released-stepped _ _ c.args.self.now c.requires.flow pos c.args.source c.index_mut.result.now c.first_of-tuple.new.tuples c.first_of-tuple.result c.requires.next at c.first_of-tuple.ensures _ _ _ _ _ did
     (with_item c.args.self.now.sources c.args.source c.first_of-tuple.new.tuples) (with_item c.close_before.new.counts c.args.source (c.index_mut-2.result.now + 1)) refl counted
-    (g.D.PageDisk.pages c.args.disk.now) (g.D.PageDisk.pages c.send_one.new.disk) c.send_one.new.queues c.requires.together c.in_ok-send_one.ensures
+    (g.D.PageDisk.pages c.args.disk.now) (g.D.PageDisk.pages c.send_one.new.disk) c.send_one.new.queues c.requires.together c.in_ok-send_one.ensures.sent
 
 pub returns-clause-touches : goal.returns-clause-touches
 returns-clause-touches g c =
@@ -112,7 +113,7 @@ returns-clause-touches g c =
     let pos : 0 < c.args.self.now.levels.epoch = omega (arith, c.epoch.ensures.epoch, c.epoch.ensures.lasts) in
     released-touches _ _ c.args.self.now c.requires.flow pos c.args.source c.index_mut.result.now c.first_of-tuple.new.tuples c.first_of-tuple.result c.requires.next at c.first_of-tuple.ensures
     (g.D.PageDisk.pages c.args.disk.now) (g.D.PageDisk.pages c.send_one.new.disk) c.send_one.new.queues (with_item c.args.self.now.sources c.args.source c.first_of-tuple.new.tuples) c.close_before.new.planner c.close_before.new.levels
-    (with_item c.close_before.new.counts c.args.source (c.index_mut-2.result.now + 1)) c.in_ok-send_one.ensures
+    (with_item c.close_before.new.counts c.args.source (c.index_mut-2.result.now + 1)) c.in_ok-send_one.ensures.sent
 
 pub returns-clause-measure : goal.returns-clause-measure
 returns-clause-measure g c =
@@ -120,3 +121,18 @@ returns-clause-measure g c =
     let at = slice_get_read sources _ c.args.source c.index_mut.result.now refl c.requires.next.there c.index_mut.ensures.value in
     let less = count-less sources c.args.source c.index_mut.result.now c.first_of-tuple.new.tuples c.first_of-tuple.result at c.first_of-tuple.ensures in
     omega (arith, less)
+
+pub returns-in_err-send_one-clause-cause : goal.returns-in_err-send_one-clause-cause
+returns-in_err-send_one-clause-cause g c =
+    let p = err_from_is_err_and c.from_residual-in_err-send_one.result c.from_residual-in_err-send_one.ensures.1 in
+    rw (p.1, p.2) (cause-in _ _ _ _ c.in_err-send_one.ensures.cause)
+
+pub returns-in_err-send_one-clause-strange : goal.returns-in_err-send_one-clause-strange
+returns-in_err-send_one-clause-strange g c =
+    let p = err_from_is_err_and c.from_residual-in_err-send_one.result c.from_residual-in_err-send_one.ensures.1 in
+    rw (p.1, p.2) (λ told table agrees holds. c.in_err-send_one.ensures.told told)
+
+pub returns-in_err-send_one-clause-memory : goal.returns-in_err-send_one-clause-memory
+returns-in_err-send_one-clause-memory g c =
+    let p = err_from_is_err_and c.from_residual-in_err-send_one.result c.from_residual-in_err-send_one.ensures.1 in
+    rw (p.1, p.2) (counts-none _ _ _ _ c.in_err-send_one.ensures.cause)

@@ -2,6 +2,7 @@ use Rattle.std.proofs.Common.{◌≡◌, subst, arith, inr}
 use Rattle.sq_flow.specs.Flows.{Lowers, measure_of}
 use Rattle.sq_flow.specs.Readiness.{IsReady, WaitsOnly}
 use Rattle.sq_flow.proofs.StepLemmas.{stepped-both, prefix-after, plans-after, none-strange-after, costs-after, costs-most-after, too-much-after}
+use Rattle.sq_flow.proofs.CauseLemmas.{cause-since}
 use Rattle.sq_flow.proofs.TouchLemmas.{touches-both}
 use Rattle.sq_flow.proofs.flow.Flow.train.Goals as goal
 
@@ -17,6 +18,10 @@ returns-in-Err-clause-closes g c = λ table agrees. c.steps.invariant.stepped.cl
 
 pub returns-in-Err-clause-strange : goal.returns-in-Err-clause-strange
 returns-in-Err-clause-strange g c = none-strange-after _ _ _ _ _ _ _ _ c.steps.invariant.stepped c.one_step.new.self.levels c.in-Err.e c.in-Err.ensures.closes c.in-Err.ensures.strange
+
+pub returns-in-Err-clause-cause : goal.returns-in-Err-clause-cause
+returns-in-Err-clause-cause g c =
+    cause-since c.one_step.new.self (g.D.PageDisk.faults c.args.disk.now) (g.D.PageDisk.faults c.steps.disk) (g.D.PageDisk.faults c.one_step.new.disk) c.in-Err.e c.steps.invariant.faults c.in-Err.ensures.cause
 
 pub returns-in-Err-clause-cost_err : goal.returns-in-Err-clause-cost_err
 returns-in-Err-clause-cost_err g c =
@@ -67,4 +72,5 @@ steps-preserved g c =
       begun = λ none. absurd (omega (arith, none));
       none = c.in-Ok.ensures.none;
       few = omega arith;
+      faults = omega (arith, c.steps.invariant.faults, c.in-Ok.ensures.faults);
     }

@@ -15,6 +15,7 @@ invariant-steps g l =
       begun : l.fed ≡ 0 → l.self ≡ l.fn.self;
       none : (l.outs.items.items ≡ []) × (l.outs.drops.items ≡ []);
       few : l.fed ≤ l.train;
+      faults : g.D.PageDisk.faults l.fn.disk ≤ g.D.PageDisk.faults l.disk;
     }
 
 abbrev pub decreases-steps : goal.decreases-steps

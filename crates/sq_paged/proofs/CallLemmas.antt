@@ -1,0 +1,64 @@
+-- What the calls of queues need of what stands together.
+use Rattle.std.proofs.Common.{◌≡◌, ℕ, ◌<◌, true, false, List, [], ◌∷◌, Option, Some, None, length, refl, sym, ap, subst, ◌∙◌, inl, arith, get_or, get_or-set_same}
+use Rattle.std.specs.Prelude.{slice_get, IfSome, IfOk, Result, Ok, Err, is_some}
+use Rattle.sq_item.specs.declared.Item.{Item}
+use Rattle.sq_link.specs.Chained.{StandsIn, head_or}
+use Rattle.sq_outside.specs.Disks.{Pages}
+use Rattle.sq_paged.specs.Kept.{IsCause, IsTold}
+use Rattle.sq_paged.specs.Faces.{face_at, nodes_on, kept_at, count_along, is_first, last_at, last_of, Together, IsRefusal}
+use Rattle.sq_paged.specs.Steps.{TakesAt}
+use Rattle.sq_paged.specs.declared.Lane.{Lane}
+use Rattle.sq_paged.specs.declared.store.Kept.{Kept}
+use Rattle.sq_paged.specs.declared.Queues.{Queues}
+use Rattle.sq_paged.specs.declared.store.QueueErr.{QueueErr}
+use Rattle.sq_paged.specs.declared.store.QueueErr.TheVariants as error
+use Rattle.sq_paged.proofs.AlongLemmas.{last-stands, head-is}
+
+pub if-some : {A : Type 0} (P : A → Type 0) (o : Option A) → ((x : A) → o ≡ Some x → P x) → IfSome o P
+if-some P None h = tt
+if-some P (Some x) h = h x refl
+
+pub if-ok : {A E : Type 0} (P Q : A → Type 0) (r : Result A E) → ((x : A) → P x → Q x) → IfOk r P → IfOk r Q
+if-ok P Q (Ok x) f h = f x h
+if-ok P Q (Err e) f h = tt
+
+pub inside : (q : Queues) (told : Option Pages) (arc : ℕ) → Together q told → arc < length q.lanes.items → arc < length q.chains.lists
+inside q told arc g h = omega (arith, g.arcs, h)
+
+-- the last node of an arc is the one that its lane keeps
+pub last-is : (q : Queues) (told : Option Pages) (arc : ℕ) (lane : Lane) (node : ℕ) → Together q told → slice_get q.lanes.items arc ≡ Some lane → lane.last ≡ Some node → last_of (nodes_on q arc) ≡ Some node
+last-is q told arc lane node g is e = let l = g.lanes arc in sym l.last ∙ ap last_at is ∙ e
+
+pub last-in : (q : Queues) (told : Option Pages) (arc : ℕ) (lane : Lane) (node : ℕ) → Together q told → slice_get q.lanes.items arc ≡ Some lane → lane.last ≡ Some node → StandsIn node (nodes_on q arc)
+last-in q told arc lane node g is e = last-stands node (nodes_on q arc) (last-is q told arc lane node g is e)
+
+-- why a page of an arc is refused is why the arc is
+pub cause-refusal : (q r : Queues) (arc node : ℕ) (e : QueueErr) → StandsIn node (nodes_on q arc) → IsCause q.pool r.pool (kept_at q.kept.items node) e → IsRefusal q r arc e
+cause-refusal q r arc node error.Disk s h = tt
+cause-refusal q r arc node (error.Garbled page kept got) s h = (node, s, h)
+cause-refusal q r arc node (error.NotAPage page bytes) s h = (node, s, h)
+cause-refusal q r arc node error.Memory s h = tt
+
+pub plain-refusal : (q r : Queues) (arc : ℕ) (e : QueueErr) → IsTold e → IsRefusal q r arc e
+plain-refusal q r arc error.Disk h = tt
+plain-refusal q r arc (error.Garbled page kept got) h = absurd h
+plain-refusal q r arc (error.NotAPage page bytes) h = absurd h
+plain-refusal q r arc error.Memory h = tt
+
+-- where something stands on an arc, a page does
+pub some-first : (q : Queues) (told : Option Pages) (arc : ℕ) → Together q told → is_some (face_at (slice_get q.lanes.items arc)).first ≡ true → head_or (nodes_on q arc) None ≡ None → ⊥
+some-first q told arc g some none =
+    let l = g.lanes arc in
+    empty (nodes_on q arc) none (sym l.first ∙ some) l.count
+  where
+    empty : (xs : List ℕ) → head_or xs None ≡ None → is_first (face_at (slice_get q.lanes.items arc)).count ≡ true → (face_at (slice_get q.lanes.items arc)).count ≡ count_along q.kept.items xs → ⊥
+    empty [] e f c = let no : false ≡ true = ap is_first (sym c) ∙ f in absurd cc
+    empty (x ∷ xs) e f c = absurd cc
+
+pub first-in : (q : Queues) (arc node : ℕ) → head_or (nodes_on q arc) None ≡ Some node → StandsIn node (nodes_on q arc)
+first-in q arc node e = let h = head-is node (nodes_on q arc) e in subst (λ (xs : List ℕ). StandsIn node xs) (sym h.1) (inl refl)
+
+-- what is kept of a page of which the first item was taken, as it is read
+pub left-is : (q : Queues) (told : Option Pages) (m : Queues) (mid : Option Pages) (node : ℕ) (item : Item) (x : Kept) → (a : TakesAt q told m mid node item) → node < length q.kept.items → x ≡ get_or m.kept.items node x → x ≡ a.after
+left-is q told m mid node item x a below e =
+    e ∙ ap (λ (ks : List Kept). get_or ks node x) a.kept ∙ get_or-set_same q.kept.items node a.after x below

@@ -1,0 +1,105 @@
+-- What queues are: of each arc a face, which they keep themselves, and the items that stand on it, which they keep together
+-- with a disk.
+use Rattle.std.specs.Prelude.{◌≡◌, ◌≢◌, ⊤, ℕ, ◌+◌, ◌==◌, ◌≤◌, Bool, true, false, List, [], ◌∷◌, length, Option, Some, None, is_some, slice_get, slice_index_or, if◌then◌else◌}
+use Rattle.std.specs.List.{flat_map}
+use Rattle.sq_item.specs.declared.Item.{Item}
+use Rattle.sq_link.specs.Chained.{list_at, StandsIn}
+use Rattle.sq_outside.specs.Disks.{Pages}
+use Rattle.sq_pool.specs.Pools.{Pooled, is_held, Agree}
+use Rattle.sq_paged.specs.Fronts.{Tells, Face, first_time, IsFaceOf}
+use Rattle.sq_paged.specs.Kept.{seen, IsFit, items_in, IsCause}
+use Rattle.sq_paged.specs.declared.store.Kept.{Kept}
+use Rattle.sq_paged.specs.declared.Lane.{Lane}
+use Rattle.sq_paged.specs.declared.Queues.{Queues}
+use Rattle.sq_paged.specs.declared.store.QueueErr.{QueueErr}
+use Rattle.sq_paged.specs.declared.store.QueueErr.TheVariants as error
+
+abbrev pub face_at : Option Lane → Face
+face_at None = record { count = 0; first = None; ended = false }
+face_at (Some lane) = record { count = lane.count; first = lane.first; ended = lane.ended }
+
+-- what is kept of an arc on which nothing stands
+abbrev pub no_items : Lane
+no_items = record { count = 0; first = None; last = None; ended = false }
+
+abbrev pub face : Queues → ℕ → Face
+face queues arc = face_at (slice_get queues.lanes.items arc)
+
+abbrev pub size : Queues → ℕ
+size queues = length queues.lanes.items
+
+abbrev pub frames : Queues → ℕ
+frames queues = queues.pool.frames
+
+-- the nodes of an arc, and what is kept of the page of a node
+abbrev pub nodes_on : Queues → ℕ → List ℕ
+nodes_on queues arc = list_at queues.chains.lists arc
+
+abbrev pub no_page : Kept
+no_page = record { page = 0; start = 0; count = 0; end = 0; time = 0 }
+
+abbrev pub kept_at : List Kept → ℕ → Kept
+kept_at kept node = slice_index_or kept node no_page
+
+-- the items of the pages of some nodes, one page behind the other
+abbrev pub items_along : Pooled → Option Pages → List Kept → List ℕ → List Item
+items_along pool told kept nodes = flat_map (λ node. items_in pool told (kept_at kept node)) nodes
+
+-- the items on an arc, in their order, by queues and what a disk tells of its pages
+abbrev pub items_on : Queues → Option Pages → ℕ → List Item
+items_on queues told arc = items_along queues.pool told queues.kept.items (nodes_on queues arc)
+
+abbrev pub last_of : List ℕ → Option ℕ
+last_of [] = None
+last_of (node ∷ []) = Some node
+last_of (node ∷ next ∷ nodes) = last_of (next ∷ nodes)
+
+abbrev pub count_along : List Kept → List ℕ → ℕ
+count_along kept [] = 0
+count_along kept (node ∷ nodes) = (kept_at kept node).count + count_along kept nodes
+
+-- a time is first exactly where items are there
+abbrev pub is_first : ℕ → Bool
+is_first count = if count == 0 then false else true
+
+abbrev pub last_at : Option Lane → Option ℕ
+last_at None = None
+last_at (Some lane) = lane.last
+
+-- the last node, where a first is left
+abbrev pub last_if : Option ℕ → Option ℕ → Option ℕ
+last_if None last = None
+last_if (Some first) last = last
+
+-- what an arc keeps is that of its pages
+pub record IsLane (lane : Option Lane) (kept : List Kept) (nodes : List ℕ) : Type 0 where
+  pub count : (face_at lane).count ≡ count_along kept nodes
+  pub first : is_some (face_at lane).first ≡ is_first (face_at lane).count
+  pub last : last_at lane ≡ last_of nodes
+
+-- a page of an arc: some of its items are left, and it is what is kept of it
+pub record IsKept (pool : Pooled) (told : Option Pages) (kept : Kept) : Type 0 where
+  pub held : is_held pool kept.page ≡ true
+  pub some : 1 ≤ kept.count
+  pub ends : kept.end ≤ 8192
+  pub fits : IsFit (seen pool told kept.page) kept
+  pub timed : Tells told → first_time (items_in pool told kept) ≡ Some kept.time
+
+-- queues and a disk stand together: pool and disk agree, each arc and each page is as is kept of it, no two nodes have one
+-- page, and where the disk tells its pages each face is that of its items
+pub record Together (queues : Queues) (told : Option Pages) : Type 0 where
+  pub agree : Agree queues.pool told
+  pub arcs : length queues.chains.lists ≡ length queues.lanes.items
+  pub nodes : length queues.kept.items ≡ queues.chains.nodes
+  pub lanes : (arc : ℕ) → IsLane (slice_get queues.lanes.items arc) queues.kept.items (nodes_on queues arc)
+  pub pages : (arc node : ℕ) → StandsIn node (nodes_on queues arc) → IsKept queues.pool told (kept_at queues.kept.items node)
+  pub apart : (arc node other_arc other : ℕ) → StandsIn node (nodes_on queues arc) → StandsIn other (nodes_on queues other_arc) → node ≢ other
+      → (kept_at queues.kept.items node).page ≢ (kept_at queues.kept.items other).page
+  pub faces : Tells told → (arc : ℕ) → IsFaceOf (face queues arc) (items_on queues told arc)
+
+-- why an arc is refused: a page of it came back, and it is refused
+abbrev pub IsRefusal : Queues → Queues → ℕ → QueueErr → Type 0
+IsRefusal q r arc error.Disk = ⊤
+IsRefusal q r arc (error.Garbled page kept got) = (node : ℕ) × StandsIn node (nodes_on q arc) × IsCause q.pool r.pool (kept_at q.kept.items node) (error.Garbled page kept got)
+IsRefusal q r arc (error.NotAPage page bytes) = (node : ℕ) × StandsIn node (nodes_on q arc) × IsCause q.pool r.pool (kept_at q.kept.items node) (error.NotAPage page bytes)
+IsRefusal q r arc error.Memory = ⊤

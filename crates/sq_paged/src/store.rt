@@ -1,0 +1,258 @@
+// The pages of queues in their pool.
+ghost use Rattle.std.specs.Prelude.{◌≡◌, ◌≢◌, ℕ, ◌+◌, ◌<◌, ◌≤◌, ◌++◌, ◌∷◌, [], true, false, List, Option, Some, None, length, is_some, IfOk, OnOk, IfErr, IsTrue, IsSome};
+ghost use Rattle.sq_item.specs.declared.Item.{Item};
+ghost use Rattle.sq_item.specs.Sound.{IsSound};
+ghost use Rattle.sq_outside.specs.Faults.{Rose};
+ghost use Rattle.sq_page.specs.Fitting.{Fits};
+ghost use Rattle.sq_page.specs.Pages.{item_bytes, IsPageOf, EndsAt, BeginsAt, end_of};
+ghost use Rattle.sq_pool.specs.Pools.{Agree, bytes_in, is_held, with_bytes};
+ghost use Rattle.sq_paged.specs.Fronts.{Tells};
+ghost use Rattle.sq_paged.specs.Kept.{seen, FitsKept, IsFit, Brought, Written, Spares, of_pool, IsMisfit, IsCause, IsTold, Appended, Taken, Started};
+
+use sq_item::Item;
+use sq_outside::PageDisk;
+use sq_page::{fits, item_at, item_room, put_item, time_at};
+use sq_pool::{Digest, Pool, PoolErr};
+use std::alloc::{AllocError, AllocFailed, Global};
+
+/// Why an item was neither pushed nor popped.
+#[derive(Debug, Drop)]
+pub enum QueueErr {
+    /// The disk had a fault.
+    Disk,
+    /// The bytes of a page that came back aren't those that were put.
+    Garbled {
+        page: u64,
+        kept: Digest,
+        got: Digest,
+    },
+    /// The bytes of a page that came back aren't the page that the queue keeps.
+    NotAPage {
+        page: u64,
+        bytes: Vec<u8>,
+    },
+    /// Memory ran out.
+    Memory,
+}
+
+impl From<AllocError> for QueueErr {
+    ghost use Rattle.std.specs.Prelude.{◌≡◌};
+    ghost use Rattle.sq_paged.specs.declared.store.QueueErr.{QueueErr};
+    ghost use Rattle.sq_paged.specs.declared.store.QueueErr.TheVariants as error;
+
+    ghost from_gives = { λ _ e. e ≡ error.Memory };
+
+    fn from(_e: AllocError) -> QueueErr {
+        QueueErr::Memory
+    }
+}
+
+/// What is kept of a page: where its first item that isn't taken begins, how many there are from there on, where they
+/// end, and the time of the first.
+#[derive(Clone, Copy, Debug, Drop)]
+pub struct Kept {
+    pub page: u64,
+    pub start: u32,
+    pub count: u16,
+    pub end: u32,
+    pub time: u64,
+}
+
+pub fn failed(e: PoolErr) -> QueueErr
+    ensures { result ≡ of_pool e }
+{
+    match e {
+        PoolErr::Disk => QueueErr::Disk,
+        PoolErr::Garbled { page, kept, got } => QueueErr::Garbled { page, kept, got },
+        PoolErr::Memory => QueueErr::Memory,
+    }
+}
+
+// Bytes that came back against what is kept of their page.
+fn test_page(alloc: Global, bytes: &[u8], kept: &Kept) -> Result<(), QueueErr>
+    ensures ok { OnOk result (FitsKept bytes.now kept.now) }
+    ensures cause { IfErr result (λ e. IsMisfit bytes.now kept.now e) }
+    ensures told { IfErr result (λ e. FitsKept bytes.now kept.now → IsTold e) }
+{
+    if fits(bytes, kept.start, kept.count, kept.end) {
+        return Ok(());
+    }
+    match Vec::from_slice(alloc, bytes) {
+        Ok(bytes) => Err(QueueErr::NotAPage {
+            page: kept.page,
+            bytes,
+        }),
+        Err(_) => Err(QueueErr::Memory),
+    }
+}
+
+/// A page is in a frame, and fits what is kept of it.
+pub fn bring_page<D: PageDisk>(
+    alloc: Global,
+    pool: &mut Pool,
+    disk: &mut D,
+    kept: &Kept,
+) -> Result<(), QueueErr>
+    requires held { IsTrue (is_held pool.old kept.now.page) }
+    requires agree { Agree pool.old (D.pages disk.old) }
+    requires fits { IsFit (seen pool.old (D.pages disk.old) kept.now.page) kept.now }
+    ensures ok { OnOk result (Brought pool.old (D.pages disk.old) pool.new (D.pages disk.new) kept.now) }
+
+    // Each refusal.
+    ensures disk { IfErr result (λ e. e ≡ QueueErr.Disk → Rose (D.faults disk.old) (D.faults disk.new)) }
+    ensures cause { IfErr result (λ e. IsCause pool.old pool.new kept.now e) }
+    ensures told { IfErr result (λ e. Tells (D.pages disk.old) → IsTold e) }
+    ensures tells { is_some (D.pages disk.new) ≡ is_some (D.pages disk.old) }
+    ensures faults { D.faults disk.old ≤ D.faults disk.new }
+{
+    let there = pool.is_resident(kept.page);
+    match pool.bring(disk, kept.page) {
+        Ok(()) => {}
+        Err(e) => return Err(failed(e)),
+    }
+    if there {
+        return Ok(());
+    }
+    test_page(alloc, pool.page(kept.page), kept)
+}
+
+/// Writes an item behind those of a page in a frame, and gives their new end.
+pub fn append_item(pool: &mut Pool, page: u64, end: u32, item: &Item) -> u32
+    requires there { IsSome (bytes_in page pool.old.resident) }
+    requires page { (bytes : List ℕ) → bytes_in page pool.old.resident ≡ Some bytes → EndsAt bytes end }
+    requires sound { IsSound item.now }
+    requires room { end + length (item_bytes item.now) ≤ 8192 }
+    ensures end { result ≡ end + length (item_bytes item.now) }
+    ensures pool { (bytes : List ℕ) × (pool.new ≡ record pool.old { resident = with_bytes page bytes pool.old.resident })
+        × ((before : List ℕ) (items : List Item) → bytes_in page pool.old.resident ≡ Some before → IsPageOf before items → end ≡ end_of items
+        → IsPageOf bytes (items ++ item.now ∷ [])) }
+{
+    put_item(pool.page_mut(page), end, item)
+}
+
+/// Puts an item behind the last of a page. Gives what is kept of the page then.
+pub fn append_to_page<D: PageDisk>(
+    alloc: Global,
+    pool: &mut Pool,
+    disk: &mut D,
+    kept: &Kept,
+    item: &Item,
+) -> Result<Kept, QueueErr>
+    requires held { IsTrue (is_held pool.old kept.now.page) }
+    requires agree { Agree pool.old (D.pages disk.old) }
+    requires fits { IsFit (seen pool.old (D.pages disk.old) kept.now.page) kept.now }
+    requires sound { IsSound item.now }
+    requires room { kept.now.end + length (item_bytes item.now) ≤ 8192 }
+    ensures ok { IfOk result (λ after. Appended pool.old (D.pages disk.old) pool.new (D.pages disk.new) kept.now after item.now) }
+
+    // Each refusal.
+    ensures disk { IfErr result (λ e. e ≡ QueueErr.Disk → Rose (D.faults disk.old) (D.faults disk.new)) }
+    ensures cause { IfErr result (λ e. IsCause pool.old pool.new kept.now e) }
+    ensures told { IfErr result (λ e. Tells (D.pages disk.old) → IsTold e) }
+    ensures tells { is_some (D.pages disk.new) ≡ is_some (D.pages disk.old) }
+    ensures faults { D.faults disk.old ≤ D.faults disk.new }
+{
+    match bring_page(alloc, pool, disk, kept) {
+        Ok(()) => {}
+        Err(e) => return Err(e),
+    }
+    let end = append_item(pool, kept.page, kept.end, item);
+    Ok(Kept {
+        count: kept.count + 1,
+        end,
+        ..*kept
+    })
+}
+
+// The time of the item that begins at a place, where another is left behind the one that is taken.
+fn next_time(bytes: &[u8], start: u32, count: u16) -> u64
+    requires { 2 ≤ count → BeginsAt bytes.now start }
+    ensures { 2 ≤ count → (front : List Item) (item : Item) (back : List Item) → IsPageOf bytes.now (front ++ item ∷ back) → start ≡ end_of front
+        → result ≡ item.time }
+{
+    if count < 2 { 0 } else { time_at(bytes, start) }
+}
+
+/// Takes the first item of a page that is left there. Gives what is kept of the page then.
+pub fn take_from_page<D: PageDisk>(
+    alloc: Global,
+    pool: &mut Pool,
+    disk: &mut D,
+    kept: &Kept,
+) -> Result<(Item, Kept), QueueErr>
+    requires held { IsTrue (is_held pool.old kept.now.page) }
+    requires agree { Agree pool.old (D.pages disk.old) }
+    requires fits { IsFit (seen pool.old (D.pages disk.old) kept.now.page) kept.now }
+    requires some { 1 ≤ kept.now.count }
+    ensures ok { IfOk result (λ taken. Taken pool.old (D.pages disk.old) pool.new (D.pages disk.new) kept.now taken.1 taken.0) }
+    ensures sound { IfOk result (λ taken. IsSound taken.0) }
+
+    // Each refusal.
+    ensures disk { IfErr result (λ e. e ≡ QueueErr.Disk → Rose (D.faults disk.old) (D.faults disk.new)) }
+    ensures cause { IfErr result (λ e. IsCause pool.old pool.new kept.now e) }
+    ensures told { IfErr result (λ e. Tells (D.pages disk.old) → IsTold e) }
+    ensures tells { is_some (D.pages disk.new) ≡ is_some (D.pages disk.old) }
+    ensures faults { D.faults disk.old ≤ D.faults disk.new }
+{
+    match bring_page(alloc, pool, disk, kept) {
+        Ok(()) => {}
+        Err(e) => return Err(e),
+    }
+    let bytes = pool.page(kept.page);
+    let (item, start) = match item_at(alloc, bytes, kept.start) {
+        Ok(found) => found,
+        Err(_) => return Err(QueueErr::Memory),
+    };
+    let time = next_time(bytes, start, kept.count);
+    let after = Kept {
+        start,
+        count: kept.count - 1,
+        time,
+        ..*kept
+    };
+    Ok((item, after))
+}
+
+/// Puts an item into a new page. Gives what is kept of the page.
+pub fn start_page<D: PageDisk>(pool: &mut Pool, disk: &mut D, item: &Item) -> Result<Kept, QueueErr>
+    requires agree { Agree pool.old (D.pages disk.old) }
+    requires sound { IsSound item.now }
+    ensures ok { IfOk result (λ kept. Started pool.old (D.pages disk.old) pool.new (D.pages disk.new) kept item.now) }
+
+    // Each refusal.
+    ensures disk { IfErr result (λ e. e ≡ QueueErr.Disk → Rose (D.faults disk.old) (D.faults disk.new)) }
+    ensures told { IfErr result IsTold }
+    ensures tells { is_some (D.pages disk.new) ≡ is_some (D.pages disk.old) }
+    ensures faults { D.faults disk.old ≤ D.faults disk.new }
+{
+    let _room = item_room(item);
+    let page = match pool.make(disk) {
+        Ok(page) => page,
+        Err(e) => return Err(failed(e)),
+    };
+    let end = append_item(pool, page, 2, item);
+    Ok(Kept {
+        page,
+        start: 2,
+        count: 1,
+        end,
+        time: item.time,
+    })
+}
+
+/// Lets a page go.
+pub fn let_page_go<D: PageDisk>(pool: &mut Pool, disk: &mut D, page: u64) -> Result<(), QueueErr>
+    requires held { IsTrue (is_held pool.old page) }
+    requires agree { Agree pool.old (D.pages disk.old) }
+    ensures ok { OnOk result (Spares pool.old (D.pages disk.old) pool.new (D.pages disk.new) page) }
+
+    // Each refusal.
+    ensures disk { IfErr result (λ e. (e ≡ QueueErr.Disk) × Rose (D.faults disk.old) (D.faults disk.new)) }
+    ensures tells { is_some (D.pages disk.new) ≡ is_some (D.pages disk.old) }
+    ensures faults { D.faults disk.old ≤ D.faults disk.new }
+{
+    match pool.drop_page(disk, page) {
+        Ok(()) => Ok(()),
+        Err(e) => Err(failed(e)),
+    }
+}
