@@ -33,7 +33,7 @@ use Rattle.sq_top.specs.Messages.{message_of}
 use Rattle.sq_top.specs.Scripts.{Replay, accepted, after_network, outcome_of, unread, with_sources}
 
 abbrev defaults : List ℕ → RunArgs
-defaults net = record { net = net; capacities = None; seed = 0; rule = rule.RoundRobin; picks = None; train = 16 }
+defaults net = record { net = net; capacities = None; seed = 0; rule = rule.RoundRobin; picks = None; train = 16; frames = 256 }
 
 words_run : command_in (codes "run" ∷ codes "a.toml" ∷ []) ≡ Some (command.Run (defaults (codes "a.toml")))
 words_run = refl
@@ -71,8 +71,17 @@ words_twice = refl
 words_dashes : command_in (codes "run" ∷ codes "--" ∷ codes "a" ∷ []) ≡ None
 words_dashes = refl
 
-words_unknown : command_in (codes "run" ∷ codes "a" ∷ codes "--frames" ∷ codes "2" ∷ []) ≡ None
+words_unknown : command_in (codes "run" ∷ codes "a" ∷ codes "--frame" ∷ codes "2" ∷ []) ≡ None
 words_unknown = refl
+
+words_one_frame : command_in (codes "run" ∷ codes "a.toml" ∷ codes "--frames" ∷ codes "1" ∷ []) ≡ None
+words_one_frame = refl
+
+words_many_frames : command_in (codes "run" ∷ codes "a.toml" ∷ codes "--frames" ∷ codes "16385" ∷ []) ≡ None
+words_many_frames = refl
+
+words_frames : command_in (codes "run" ∷ codes "--frames=16384" ∷ codes "a" ∷ []) ≡ Some (command.Run (record (defaults (codes "a")) { frames = 16384 }))
+words_frames = refl
 
 words_seed : command_in (codes "run" ∷ codes "--seed=7" ∷ codes "a.toml" ∷ []) ≡ Some (command.Run (record (defaults (codes "a.toml")) { seed = 7 }))
 words_seed = refl
