@@ -56,7 +56,7 @@ fn run_over<L: Ledger>(alloc: Global, case: Case, blank: Blank) -> Ran
 }
 
 /// The run of a case.
-pub fn ran(alloc: Global, case: Case) -> Ran {
+pub fn run_case(alloc: Global, case: Case) -> Ran {
     run_over::<Brand>(alloc, case, Blank::new(1))
 }
 
@@ -131,7 +131,7 @@ fn show_run(rt: &HostRuntime, text: &str, compared: &mut u64) -> Result<(), Erro
         return show_turns(rt, text);
     }
     let is_compared = case.is_compared();
-    let ran = ran(rt.alloc(), case);
+    let ran = run_case(rt.alloc(), case);
     println!(rt; "{}", ran.code)?;
     show_out(rt, &ran)?;
     show_text(rt, ran.err.bytes())?;

@@ -1,7 +1,7 @@
 // Runs in which a disk does one thing wrong, each in its turn.
 use crate::beside::{count_of, lines_of};
 use crate::case::{Case, Turns};
-use crate::running::{Ran, ran};
+use crate::running::{Ran, run_case};
 use anyhow::Error;
 use std::alloc::{AllocError, Global};
 use std::io;
@@ -47,9 +47,9 @@ pub fn show_turns(rt: &HostRuntime, text: &str) -> Result<(), Error> {
     let alloc = rt.alloc();
     let case = Case::read(alloc, text)?;
     let (turns, code) = (case.turns, code_of(case.turns));
-    let whole = ran(alloc, case);
+    let whole = run_case(alloc, case);
     for number in 0..MOST {
-        let turn = ran(alloc, Case::read(alloc, text)?.in_turn(alloc, number)?);
+        let turn = run_case(alloc, Case::read(alloc, text)?.in_turn(alloc, number)?);
         if turn.code == 0 {
             println!(rt;
                 "{}",
