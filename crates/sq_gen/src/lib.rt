@@ -9,8 +9,6 @@ ghost use Rattle.sq_gen.specs.Files.{made_of};
 
 mod network;
 mod stream;
-#[cfg(test)]
-mod tests;
 
 use network::NETWORK;
 use sq_value::ListOf;

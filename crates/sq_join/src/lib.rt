@@ -9,6 +9,3 @@ mod join;
 mod sides;
 
 pub use join::JoinBox;
-
-#[cfg(test)]
-mod tests;

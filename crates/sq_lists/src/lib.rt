@@ -22,6 +22,3 @@ pub use sorter::Sorter;
 pub use sorts::{bsort_list, time_in_field};
 pub use tuples::{filter_list, map_list, map_tuple, port_of_tuple};
 pub use windows::{aggregate_list, result_of};
-
-#[cfg(test)]
-mod tests;

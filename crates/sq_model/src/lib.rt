@@ -18,8 +18,6 @@ mod known;
 mod laws;
 mod numbers;
 mod streams;
-#[cfg(test)]
-mod tests;
 
 pub use answers::{answer, dropped, work};
 pub use arcs::full;

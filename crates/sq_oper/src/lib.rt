@@ -14,6 +14,3 @@ mod tally;
 pub use operator::Operator;
 pub use outs::{Decision, Event, Outs};
 pub use tally::{Place, Tally};
-
-#[cfg(test)]
-mod tests;

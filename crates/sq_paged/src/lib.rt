@@ -472,6 +472,3 @@ fn head_of_none(ended: bool) -> Head
 {
     if ended { Head::Ended } else { Head::Empty }
 }
-
-#[cfg(test)]
-mod tests;

@@ -13,8 +13,6 @@ mod numbers;
 mod points;
 mod regions;
 mod seen;
-#[cfg(test)]
-mod tests;
 
 pub use drops::drop_points;
 pub use laws::drops_are_apart;

@@ -14,8 +14,6 @@ ghost use Rattle.sq_qos.specs.Ratios.{fractions_tie, fractions_equal, fractions_
 ghost use Rattle.sq_qos.specs.Graphs.{ratio_cmp, ratio_sum, graph_error, value_at, scale, loss_steps_of, IsLossBetween};
 
 mod points;
-#[cfg(test)]
-mod tests;
 
 use std::cmp::Ordering;
 use std::marker::Model;

@@ -24,8 +24,6 @@ mod outputs;
 mod pairs;
 mod sources;
 mod streams;
-#[cfg(test)]
-mod tests;
 mod windows;
 
 use sq_net::{NetErr, Network};

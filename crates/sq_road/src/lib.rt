@@ -17,8 +17,6 @@ mod draws;
 mod levels;
 mod offers;
 mod rows;
-#[cfg(test)]
-mod tests;
 
 pub use draws::draw;
 pub use levels::Levels;

@@ -17,8 +17,6 @@ mod graphs;
 mod raw;
 mod reading;
 mod shape;
-#[cfg(test)]
-mod tests;
 
 use document::{Table, value_at};
 pub use raw::{Answer, AnswerColumn, Over, Raw, RawBody, RawBox, RawOutput, RawSource, Setting};

@@ -21,8 +21,6 @@ mod driving;
 mod messages;
 mod reading;
 mod running;
-#[cfg(test)]
-mod tests;
 mod words;
 mod writing;
 

@@ -15,8 +15,6 @@ mod laws;
 mod numbers;
 mod order;
 mod short;
-#[cfg(test)]
-mod tests;
 mod written;
 
 pub use copies::{copy_fields, copy_name, copy_schema, copy_tuple, copy_txt, copy_value};

@@ -2,7 +2,7 @@ ghost use Rattle.std.specs.Prelude.{◌*◌, ◌≤◌, IfOk};
 ghost use Rattle.std.specs.List.{sum};
 ghost use Rattle.std.specs.List.Sorted.{IsNonDecreasing};
 
-use crate::{Levels, draw, road};
+use sq_road::{Levels, draw, road};
 use sq_qos::{Frac, Graph, GraphErr};
 use std::alloc::Global;
 use std::test::Fail;

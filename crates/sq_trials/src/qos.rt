@@ -1,4 +1,4 @@
-use crate::{Frac, Graph};
+use sq_qos::{Frac, Graph};
 use std::test::Fail;
 
 #[test]

@@ -1,7 +1,7 @@
 ghost use Rattle.std.specs.Prelude.{◌<◌, ◌≤◌, length};
 ghost use Rattle.sq_sched.specs.Ready.{AreActors};
 
-use super::*;
+use sq_sched::*;
 use std::test::Fail;
 
 // The actors of a policy's first three picks.

@@ -1,7 +1,7 @@
 ghost use Rattle.std.specs.Prelude.{◌<◌, ◌≡◌, OnOk};
 ghost use Rattle.sq_pool.specs.Pools.{Agree};
 
-use super::*;
+use sq_pool::*;
 use sq_outside::{Flip, MemDisk, PageDisk};
 use std::test::Fail;
 

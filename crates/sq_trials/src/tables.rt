@@ -1,5 +1,5 @@
 // A file of every kind of box. Files that are refused are cases of the top call.
-use crate::raw_of;
+use sq_tables::raw_of;
 use std::test::Fail;
 
 const FILE: &str = "version = 1

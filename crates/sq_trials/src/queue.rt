@@ -1,4 +1,4 @@
-use super::*;
+use sq_queue::*;
 use sq_item::Mark;
 use sq_outside::MemDisk;
 use std::test::Fail;

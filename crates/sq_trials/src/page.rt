@@ -1,4 +1,4 @@
-use super::*;
+use sq_page::*;
 use sq_item::{Item, Mark};
 use sq_value::{ListOf, Value};
 use std::alloc::{AllocError, Global};

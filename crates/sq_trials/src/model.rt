@@ -9,8 +9,8 @@ ghost use Rattle.sq_model.specs.Placed.{IsPlaced};
 ghost use Rattle.sq_model.specs.Given.{IsMeasured, AreTicks};
 ghost use Rattle.sq_model.specs.Shedding.{last_of};
 
-use super::*;
-use crate::drops::{dropped_batches, kept_number};
+use sq_model::*;
+use sq_model::{dropped_batches, kept_number};
 use sq_graph::{BoxKind, BoxWires, Wiring};
 use sq_net::{Body, Network, Node, Output, Source};
 use sq_place::{DropAt, DropPoint};

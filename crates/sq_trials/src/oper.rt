@@ -1,4 +1,4 @@
-use super::*;
+use sq_oper::*;
 use sq_item::{Item, Mark};
 use std::test::Fail;
 

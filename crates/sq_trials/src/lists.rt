@@ -1,7 +1,7 @@
 ghost use Rattle.std.specs.Prelude.{◌≡◌, ◌≤◌, [], ◌∷◌, length, IfOk};
 ghost use Rattle.sq_value.specs.Values.{IsStream};
 
-use super::*;
+use sq_lists::*;
 use sq_aggfn::{Func, WindowSpec};
 use sq_expr::{Typed, check, parse};
 use sq_value::{Kind, ListOf, Name, Schema, Tuple, Value};

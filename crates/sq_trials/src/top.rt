@@ -6,9 +6,9 @@ ghost use Rattle.sq_queue.specs.Faces.{Together};
 ghost use Rattle.sq_core.specs.Runs.{IsSoundEngine};
 ghost use Rattle.sq_flow.specs.Flows.{measure_of};
 
-use super::*;
-use crate::reading::prepare;
-use crate::running::start;
+use sq_top::*;
+use sq_top::reading::prepare;
+use sq_top::running::start;
 use sq_core::Engine;
 use sq_flow::{RunErr, State};
 use sq_oper::Event;

@@ -1,5 +1,5 @@
 // A file of every kind of box. Files that are refused are cases of the top call.
-use crate::read_network;
+use sq_reader::read_network;
 use std::test::Fail;
 
 const FILE: &str = "version = 1

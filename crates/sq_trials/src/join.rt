@@ -3,7 +3,7 @@ ghost use Rattle.sq_item.specs.Things.{Body};
 ghost use Rattle.sq_oper.specs.Order.{may_come};
 ghost use Rattle.sq_join.specs.Sides.{left_fields};
 
-use super::*;
+use sq_join::*;
 use sq_expr::{Typed, check, parse};
 use sq_item::Item;
 use sq_oper::{Operator, Outs, Place, Tally};

@@ -1,0 +1,61 @@
+//! Trials
+#![tactic(auto)]
+
+#[cfg(test)]
+mod agg;
+#[cfg(test)]
+mod aggfn;
+#[cfg(test)]
+mod csv;
+#[cfg(test)]
+mod expr;
+#[cfg(test)]
+mod gen;
+#[cfg(test)]
+mod graph;
+#[cfg(test)]
+mod item;
+#[cfg(test)]
+mod join;
+#[cfg(test)]
+mod link;
+#[cfg(test)]
+mod lists;
+#[cfg(test)]
+mod model;
+#[cfg(test)]
+mod oper;
+#[cfg(test)]
+mod outside;
+#[cfg(test)]
+mod page;
+#[cfg(test)]
+mod paged;
+#[cfg(test)]
+mod pane;
+#[cfg(test)]
+mod place;
+#[cfg(test)]
+mod plain;
+#[cfg(test)]
+mod pool;
+#[cfg(test)]
+mod qos;
+#[cfg(test)]
+mod queue;
+#[cfg(test)]
+mod reader;
+#[cfg(test)]
+mod replay;
+#[cfg(test)]
+mod road;
+#[cfg(test)]
+mod sched;
+#[cfg(test)]
+mod tables;
+#[cfg(test)]
+mod top;
+#[cfg(test)]
+mod value;
+#[cfg(test)]
+mod windrop;
