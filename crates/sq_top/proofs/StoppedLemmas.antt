@@ -28,7 +28,7 @@ use Rattle.sq_replay.specs.Streams.{stream_in}
 use Rattle.sq_top.specs.Commands.{command_in}
 use Rattle.sq_top.specs.Messages.{name_at, name_in, network_named, source_name}
 use Rattle.sq_top.specs.Scripts.{Script, Reads, Done, Stops, Lookup, Replay, accepted, after_capacities, after_network, after_picks, after_stream, after_streams, after_words, capacities_script, go_on, outcome_of, picks_script, readable, reads_of, script_of, settings_limit, stream_limit, unread, with_sources}
-use Rattle.sq_top.specs.Causes.{AreBytesOf, AreCapacitiesOf, ArePicksOf, HasFailedAt, HasNoCapacities, HasNoPicks, HasNoStream, HasNoStreams, IsNoCommand, IsRefusedBy, IsStopped, IsStreamOf, IsUnread, Leads, LeadsWhereTold, MatchAccepted, NamesSource, RefusalHasCause, WhereTold, FilePart, NetworkFile, CapacityFile, PicksFile, StreamFile, is_capacities, is_named, is_network, is_picks, limit_of, may_be}
+use Rattle.sq_top.specs.Causes.{AreBytesOf, AreCapacitiesOf, ArePicksOf, HasFailedAt, HasNoCapacities, HasNoPicks, HasNoStream, HasNoStreams, IsNoCommand, IsRefusedBy, IsRule, IsStopped, IsStreamOf, IsUnread, Leads, LeadsWhereTold, MatchAccepted, NamesSource, RefusalHasCause, WhereTold, FilePart, NetworkFile, CapacityFile, PicksFile, StreamFile, is_capacities, is_named, is_network, is_picks, limit_of, may_be}
 use Rattle.sq_top.proofs.SortedLines.{and-true}
 
 match_any : (r : Result Replay Status) (P : Replay → Type 0) (Q : Status → Type 0) → ((x : Replay) → P x) → ((s : Status) → Q s) → MatchAccepted r P Q
@@ -91,14 +91,6 @@ module _ (words : List (List ℕ)) (told : Option Files) (fb fn tb tn : ℕ) (so
     ends = inl refl;
     no_memory = λ e. absurd (cc);
   }
-
-  -- a rule of a file, but want of memory
-  abbrev IsRule : Status → Type 0
-  IsRule (status.BadNetwork e) = e ≢ net.Memory
-  IsRule (status.BadCapacities line) = ⊤
-  IsRule (status.BadPicks line) = ⊤
-  IsRule (status.BadStream number line why) = ⊤
-  IsRule s = ⊥
 
   same_error : (e : NetErr) → status.BadNetwork e ≡ status.BadNetwork net.Memory → e ≡ net.Memory
   same_error e h = cc
