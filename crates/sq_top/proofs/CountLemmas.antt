@@ -1,5 +1,6 @@
 -- Lines are counted as they come.
-use Rattle.std.proofs.Common.{◌≡◌, ◌≢◌, ◌⊎◌, inl, inr, ℕ, ◌+◌, ◌<◌, Bool, true, false, eqb, cond, List, [], ◌∷◌, ◌++◌, length, map, set, get_or, replicate, take, refl, ap, sym, ◌∙◌, subst, arith, append_assoc, append-nil, length-append}
+use Rattle.std.proofs.Common.{◌≡◌, ◌≢◌, ◌⊎◌, inl, inr, ℕ, zero, suc, ◌+◌, ◌<◌, Bool, true, false, eqb, cond, List, [], ◌∷◌, ◌++◌, length, map, set, get_or, replicate, take, refl, ap, sym, ◌∙◌, subst, arith, append_assoc, append-nil, length-append}
+use Rattle.std.specs.List.{AllByRecursion}
 use Rattle.std.proofs.lemmas.Bool.{cases_eq}
 use Rattle.std.proofs.lemmas.List.{get_or-replicate, get_or-set_other, length-replicate, length-set, take_more}
 use Rattle.std.proofs.lemmas.List.FromFn.{fill_by_all, get_or-map-range_with_len, length-map-range_with_len}
@@ -10,7 +11,7 @@ use Rattle.sq_left.proofs.MergeLemmas.{eqb-not, eqb-same}
 use Rattle.sq_oper.specs.declared.outs.Decision.{Decision}
 use Rattle.sq_oper.specs.declared.outs.Event.{Event}
 use Rattle.sq_oper.specs.declared.outs.Event.TheVariants.{Line, Dropped, Plan}
-use Rattle.sq_flow.specs.Events.{drops_of, lines_of, of_drop}
+use Rattle.sq_flow.specs.Events.{IsEventIn, drops_of, lines_of, of_drop}
 use Rattle.sq_flow.proofs.DropLemmas.{drops-drop, drops-plan, lines-drop}
 use Rattle.sq_flow.proofs.EventLemmas.{drops-line, lines-append, lines-push}
 use Rattle.sq_top.specs.declared.counting.Counts.{Counts}
@@ -145,6 +146,18 @@ both_counted xs ys before mid now first second = record {
   drops = second.drops ∙ first.drops;
   more = λ history are. subst (λ zs. AreCounts zs now) (append_assoc history xs ys) (second.more (history ++ xs) (first.more history are));
 }
+
+all_at : {X : Type 0} (P : X → Type 0) (xs : List X) (i : ℕ) (d : X) → i < length xs → AllByRecursion P xs → P (get_or xs i d)
+all_at P [] i d low all = absurd (omega (arith, low))
+all_at P (x ∷ xs) zero d low all = all.0
+all_at P (x ∷ xs) (suc i) d low all = all_at P xs i d (omega (arith, low)) all.1
+
+-- an event of a list has its count
+pub there_at : (events : List Event) (i : ℕ) (x : Event) (before mid : Counts) (front : List Event) → i < length events → x ≡ get_or events i x → Counted front before mid
+    → AllByRecursion (IsEventIn (length before.lines.items) (length before.drops.items)) events → IsEventIn (length mid.lines.items) (length mid.drops.items) x
+there_at events i x before mid front inside at counted all =
+    let here = subst (IsEventIn (length before.lines.items) (length before.drops.items)) (sym at) (all_at (IsEventIn (length before.lines.items) (length before.drops.items)) events i x inside all) in
+    rw (counted.lines, counted.drops) here
 
 -- one event more of a list
 pub next_counted : (events : List Event) (i : ℕ) (x : Event) (before mid now : Counts) → i < length events → x ≡ get_or events i x

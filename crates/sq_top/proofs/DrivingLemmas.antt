@@ -54,7 +54,7 @@ begins_so_far r sound history begun steps far = record {
   plans = far.plans;
 }
 
-completes : (r : Replay) → IsSound r.network → (engine : Engine) (history : List Event) (begun steps : ℕ) → ShownAll r engine history begun steps → Completes r.network (answer_in r) history
+pub completes : (r : Replay) → IsSound r.network → (engine : Engine) (history : List Event) (begun steps : ℕ) → ShownAll r engine history begun steps → Completes r.network (answer_in r) history
 completes r sound engine history begun steps all = record {
   lines = λ o low. all.lines o (wired r sound o low);
   drops = λ w low. let p = some-at (points_of r.network) w low in all.drops w p.0 p.1 ∙ ap (drop_decisions r w) (sym p.1);
@@ -78,7 +78,7 @@ so_far : (r : Replay) (pages : Option Pages) (engine : Engine) (history : List E
     → ShownSoFar r history begun steps
 so_far r pages engine history begun steps run tells = shown-so-far engine r pages history begun steps tells run
 
-sound_run : (r : Replay) (pages : Option Pages) (engine : Engine) (history : List Event) (begun steps : ℕ) → IsRun r pages engine history begun steps → IsSound r.network
+pub sound_run : (r : Replay) (pages : Option Pages) (engine : Engine) (history : List Event) (begun steps : ℕ) → IsRun r pages engine history begun steps → IsSound r.network
 sound_run r pages engine history begun steps run = subst IsSound run.network run.sound.network
 
 -- what was shown so far begins the answer

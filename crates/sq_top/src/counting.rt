@@ -1,6 +1,7 @@
 // A run, driven to its end, of which the lines are counted and not written.
 ghost use Rattle.std.specs.Prelude.{◌≡◌, ℕ, ◌+◌, ◌≤◌, ◌<◌, [], ◌∷◌, None, IfErr, IfOk, List, OnOk, is_some, length, replicate, slice_index, slice_set};
 ghost use Rattle.std.specs.List.{AllByRecursion};
+ghost use Rattle.sq_net.specs.Sound.{IsSound};
 ghost use Rattle.sq_model.specs.Shedding.{Replay};
 ghost use Rattle.sq_oper.specs.declared.outs.Event.{Event};
 ghost use Rattle.sq_paged.specs.Fronts.{Tells};
@@ -10,12 +11,12 @@ ghost use Rattle.sq_flow.specs.Flows.{measure_of};
 ghost use Rattle.sq_core.specs.Runs.{IsRun, IsSoundEngine};
 ghost use Rattle.sq_top.specs.Counting.{Counted, CountsOn, AreCounts, HasRoom, IsSummed};
 ghost use Rattle.sq_top.specs.Driving.{IsCutShort, IsHalted, Stops};
-ghost use Rattle.sq_top.specs.Due.{drops_in};
 ghost use Rattle.sq_top.specs.Stopping.{StopHasCause};
 
 use crate::Status;
 use crate::driving::status_of;
 use sq_core::Engine;
+use sq_net::Network;
 use sq_oper::Event;
 use sq_outside::{PageDisk, Steps};
 use sq_sched::Policy;
@@ -109,19 +110,25 @@ fn count_step<D: PageDisk, L: Ledger>(
     }
 }
 
+/// How many outputs a network has.
+#[tactic(auto, using(sq_points::proofs::Bounds::few_outputs))]
+fn count_outputs(network: &Network) -> u32
+    requires { IsSound network.now }
+    ensures { result ≡ length network.now.outputs }
+{
+    network.outputs.as_slice().len() as u32
+}
+
 /// No lines yet of each output and of each drop of an engine.
-fn no_counts(alloc: Global, engine: &Engine) -> Result<Counts, Status>
+fn no_counts(alloc: Global, engine: &Engine) -> Result<Counts, AllocError>
     requires { IsSoundEngine engine.now }
     ensures room { IfOk result (HasRoom engine.now.network) }
     ensures none { IfOk result (AreCounts []) }
-    ensures memory { IfErr result (λ s. s ≡ Status.Memory) }
 {
     let wires = &engine.engine.flow.wires;
-    let outputs = engine.network.outputs.as_slice().len() as u32;
-    match (zeros(alloc, outputs), zeros(alloc, wires.shown - wires.sheds)) {
-        (Ok(lines), Ok(drops)) => Ok(Counts { lines, drops }),
-        _ => Err(Status::Memory),
-    }
+    let lines = zeros(alloc, count_outputs(&engine.network))?;
+    let drops = zeros(alloc, wires.shown - wires.sheds)?;
+    Ok(Counts { lines, drops })
 }
 
 /// Steps an engine by the picks of a policy until it has ended, and counts the line of each event.
@@ -148,7 +155,7 @@ pub fn count<D: PageDisk, L: Ledger>(
 {
     let mut counts = match no_counts(alloc, &engine) {
         Ok(counts) => counts,
-        Err(status) => return Err(status),
+        Err(_) => return Err(Status::Memory),
     };
     let mut events = Vec::new(alloc);
     'steps: while !engine.ended() {
