@@ -1,5 +1,5 @@
 -- How an engine goes on whose lines are counted, to its end, or stops on the way.
-use Rattle.std.proofs.Common.{◌≡◌, ℕ, ◌<◌, List, [], ◌++◌, length, map, refl, ap, sym, ◌∙◌, subst, append_assoc, append-nil, Option, None}
+use Rattle.std.proofs.Common.{◌≡◌, inl, ℕ, ◌<◌, List, [], ◌++◌, length, map, refl, ap, sym, ◌∙◌, subst, append_assoc, append-nil, Option, None}
 use Rattle.std.specs.Prelude.{is_some}
 use Rattle.std.specs.List.{AllByRecursion}
 use Rattle.sq_value.specs.declared.Tuple.{Tuple}
@@ -14,32 +14,32 @@ use Rattle.sq_flow.specs.Events.{IsEventIn, drops_of, lines_of}
 use Rattle.sq_core.specs.declared.engine.Engine.{Engine}
 use Rattle.sq_core.specs.Runs.{IsRun, ShownAll}
 use Rattle.sq_top.specs.declared.Status.{Status}
+use Rattle.sq_top.specs.declared.Status.TheVariants as status
 use Rattle.sq_top.specs.declared.counting.Counts.{Counts}
 use Rattle.sq_top.specs.Counting.{AreCounts, Counted, CountsOn, HasRoom, IsSummed}
 use Rattle.sq_top.specs.Driving.{GoesOn, IsEventAt, IsHalted, Stops, history_text}
 use Rattle.sq_top.specs.Due.{answer_in, drops_in}
 use Rattle.sq_top.proofs.ClassLemmas.{all_append}
 use Rattle.sq_top.proofs.CountLemmas.{both_counted, none_counted}
-use Rattle.sq_top.proofs.DrivingLemmas.{completes, drive_stops, sound_run}
+use Rattle.sq_top.proofs.DrivingLemmas.{completes, drive_lost, drive_stops, goes_none, sound_run}
 use Rattle.sq_top.proofs.ReplayLemmas.{same_numbers}
 use Rattle.sq_top.proofs.WritingLemmas.{lost_at_once}
 
--- one step, of an engine that showed nothing before it
-module _ (was is : Option Pages) (from to : Engine) (begun now : ℕ) (cleared shown : List Event) (none : cleared ≡ [])
-    (lines : AllByRecursion (IsEventAt from.network) cleared → AllByRecursion (IsEventAt from.network) shown) where
-  pub events_here : AllByRecursion (IsEventAt from.network) shown
-  events_here = lines (subst (AllByRecursion (IsEventAt from.network)) (sym none) tt)
+-- the events of one step, of an engine that showed nothing before it
+pub events_here : (n : Network) (cleared shown : List Event) → cleared ≡ [] → (AllByRecursion (IsEventAt n) cleared → AllByRecursion (IsEventAt n) shown) → AllByRecursion (IsEventAt n) shown
+events_here n cleared shown none lines = lines (subst (AllByRecursion (IsEventAt n)) (sym none) tt)
 
-  pub step_counts : (before after : Counts)
-      → ((r : Replay) (history : List Event) (start : ℕ) → IsRun r was from (history ++ cleared) start begun → IsRun r is to (history ++ shown) start now)
-      → Counted shown before after → CountsOn was is from to begun now before after
-  step_counts before after goes counted = record {
-    events = shown;
-    shown = events_here;
-    counted = counted;
-    goes = λ r history start run.
-        goes r history start (subst (λ xs. IsRun r was from xs start begun) (sym (ap (λ xs. history ++ xs) none ∙ append-nil history)) run);
-  }
+pub step_counts : (was is : Option Pages) (from to : Engine) (begun now : ℕ) (cleared shown : List Event) (before after : Counts) → cleared ≡ []
+    → (AllByRecursion (IsEventAt from.network) cleared → AllByRecursion (IsEventAt from.network) shown)
+    → ((r : Replay) (history : List Event) (start : ℕ) → IsRun r was from (history ++ cleared) start begun → IsRun r is to (history ++ shown) start now)
+    → Counted shown before after → CountsOn was is from to begun now before after
+step_counts was is from to begun now cleared shown before after none lines goes counted = record {
+  events = shown;
+  shown = events_here from.network cleared shown none lines;
+  counted = counted;
+  goes = λ r history start run.
+      goes r history start (subst (λ xs. IsRun r was from xs start begun) (sym (ap (λ xs. history ++ xs) none ∙ append-nil history)) run);
+}
 
 -- an engine that hasn't begun
 pub counts_none : (pages : Option Pages) (engine : Engine) (steps : ℕ) (counts : Counts) → CountsOn pages pages engine engine steps steps counts counts
@@ -69,6 +69,11 @@ there_all from to counts shown same room there = rw (room.lines, room.drops) the
 -- there is room as before
 pub same_room : (n m : Network) (before after : Counts) (events : List Event) → HasRoom n before → m ≡ n → Counted events before after → HasRoom m after
 same_room n m before after events room same counted = subst (λ k. HasRoom k after) (sym same) (record { lines = counted.lines ∙ room.lines; drops = counted.drops ∙ room.drops })
+
+-- memory runs out before the first step
+pub count_waits : (pages : Option Pages) (engine : Engine) (steps : ℕ) (r : Replay) (start : ℕ) → Tells pages → IsRun r pages engine [] start steps → IsHalted r status.Memory None None start steps
+count_waits pages engine steps r start told run =
+    drive_lost pages pages engine engine steps steps None None [] (goes_none pages engine steps None [] refl) refl r start told run 0 0 None status.Memory (lost_at_once None []) (inl refl)
 
 -- where nothing is written, nothing else may wait
 silent_stop : (was : Option Pages) (from : Engine) (begun now : ℕ) (waits : List ℕ) (s : Status) → Stops was from begun now None [] None s → Stops was from begun now None waits None s

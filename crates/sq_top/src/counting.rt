@@ -143,7 +143,7 @@ pub fn count<D: PageDisk, L: Ledger>(
     requires together { Together engine.engine.flow.queues (D.pages disk.old) }
     ensures sound { IfOk result (λ c. IsSoundEngine c.0) }
     ensures network { IfOk result (λ c. (c.0).network ≡ engine.network) }
-    ensures room { IfOk result (λ c. HasRoom engine.network c.1) }
+    ensures room { IfOk result (λ c. HasRoom (c.0).network c.1) }
     ensures ok { IfOk result (λ c. (r : Replay) (begun : ℕ) → Tells (D.pages disk.old) → IsRun r (D.pages disk.old) engine [] begun steps.old
         → IsSummed r c.0 c.1 begun steps.new) }
     ensures err { IfErr result (λ s. (r : Replay) (begun : ℕ) → Tells (D.pages disk.old) → IsRun r (D.pages disk.old) engine [] begun steps.old

@@ -2,6 +2,7 @@
 ghost use Rattle.std.specs.Prelude.{◌≡◌, ◌≢◌, ◌⊎◌, ℕ, ◌+◌, ◌^◌, ◌≤◌, [], IfErr, IfOk, List, OnErr, OnOk, Option, Some, false, is_some, map, true};
 ghost use Rattle.std.specs.String.{string_bytes};
 ghost use Rattle.sq_outside.specs.Faults.{Rose};
+ghost use Rattle.sq_outside.specs.Folders.{Files};
 ghost use Rattle.sq_value.specs.Lists.{IsPrefixOf};
 ghost use Rattle.sq_net.specs.Sound.{IsSound};
 ghost use Rattle.sq_points.specs.Limits.{KeepsDropLimits};
@@ -10,7 +11,7 @@ ghost use Rattle.sq_paged.specs.Fronts.{Tells};
 ghost use Rattle.sq_core.specs.Runs.{IsRun, IsSoundEngine};
 ghost use Rattle.sq_top.specs.Answers.{IsPrefixText, IsWholeText};
 ghost use Rattle.sq_top.specs.Commands.{IsGen, command_in};
-ghost use Rattle.sq_top.specs.Causes.{AppendsSuch, BeginsSummary, Ends, TellsStatus, files_for, is_refusal, no_files, source_of};
+ghost use Rattle.sq_top.specs.Causes.{AppendsSuch, BeginsSummary, Ends, TellsStatus, files_for, is_refusal, source_of};
 ghost use Rattle.sq_top.specs.Summaries.{summary_of};
 ghost use Rattle.sq_top.specs.Stopping.{StopHasCause, is_changed};
 ghost use Rattle.sq_top.specs.Driving.{IsCutShort};
@@ -142,7 +143,7 @@ fn run_files<F: Folder, D: PageDisk, S: Sink, L: Ledger>(
     requires train { 1 ≤ args.train }
     requires frames { 2 ≤ args.frames }
     ensures ends { (words : List (List ℕ)) → command_in words ≡ Some (Command.Run args) → Ends words (record {
-      told = F.files folder.old;
+      told = files_for words (F.files folder.old);
       folder_before = F.faults folder.old;
       folder_now = F.faults folder.new;
       taken_before = F.taken folder.old;
@@ -169,8 +170,14 @@ fn run_files<F: Folder, D: PageDisk, S: Sink, L: Ledger>(
         Err(stopped) => return stopped,
     };
     match replay(alloc, accepted, disk, out, steps) {
-        Ok(()) => stopped_by(Status::Ok),
-        Err(status) => stopped_by(status),
+        Ok(()) => Stopped {
+            status: Status::Ok,
+            source: None,
+        },
+        Err(status) => Stopped {
+            status,
+            source: None,
+        },
     }
 }
 
@@ -185,8 +192,8 @@ fn run_made<D: PageDisk, S: Sink, L: Ledger>(
 ) -> Stopped
     requires some { 1 ≤ rows }
     requires bound { rows ≤ 1000000 }
-    ensures ends { (words : List (List ℕ)) (faults taken : ℕ) → command_in words ≡ Some (Command.Gen number rows) → Ends words (record {
-      told = Some no_files;
+    ensures ends { (words : List (List ℕ)) (told : Option Files) (faults taken : ℕ) → command_in words ≡ Some (Command.Gen number rows) → Ends words (record {
+      told = files_for words told;
       folder_before = faults;
       folder_now = faults;
       taken_before = taken;
@@ -211,8 +218,14 @@ fn run_made<D: PageDisk, S: Sink, L: Ledger>(
         Err(stopped) => return stopped,
     };
     match sum_up(alloc, number, rows, accepted, disk, out, steps) {
-        Ok(()) => stopped_by(Status::Ok),
-        Err(status) => stopped_by(status),
+        Ok(()) => Stopped {
+            status: Status::Ok,
+            source: None,
+        },
+        Err(status) => Stopped {
+            status,
+            source: None,
+        },
     }
 }
 
