@@ -1,7 +1,7 @@
 //! The program `aurora`: what the words after its name ask for, over the files of the working folder and the standard
 //! streams.
 //!
-//! It promises nothing beyond `run_words` of `sq_top`, which it calls once over the real objects of `outside`. They
+//! Without a file `gen NUMBER ROWS` runs what a number makes. It promises nothing beyond `run_words` of `sq_top`, which it calls once over the real objects of `outside`. They
 //! tell no content, so of a run of the program the contract says how it ended, and what was written is shown by a
 //! stored run. Its exit code is that of the status.
 #![tactic(auto)]
