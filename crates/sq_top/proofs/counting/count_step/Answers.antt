@@ -10,7 +10,7 @@ use Rattle.sq_top.proofs.counting.count_step.Goals as goal
 pub count_events-requires : goal.count_events-requires
 count_events-requires g c =
     rw c.as_slice.ensures.value
-    (record { there = there_all _ _ _ _ refl c.requires.room (events_here _ _ _ c.clear.ensures.items c.in-Ok.ensures.shows) })
+    (record { there = there_all c.args.engine.now.network _ _ _ refl c.requires.room (events_here c.args.engine.now.network _ _ c.clear.ensures.items c.in-Ok.ensures.shows) })
 
 pub returns-in-Ok-clause-ok : goal.returns-in-Ok-clause-ok
 returns-in-Ok-clause-ok g c =
