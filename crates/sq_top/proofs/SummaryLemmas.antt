@@ -52,4 +52,4 @@ module _ (number rows : ℕ) (r : Replay) where
     summary_cut None now s part alone = part.2
     summary_cut (Some before) now s part alone =
         let begins : IsPrefixOf part.0 (summary_of number rows r) = (part.1.0, sym summary_is ∙ part.1.1) in
-        (part.0, part.2, begins, λ other. nothing_more before part.0 (let both : Some (before ++ part.0) ≡ Some before = sym part.2 ∙ alone other in cc))
+        (part.0, part.2, (begins, λ other. nothing_more before part.0 (let both : Some (before ++ part.0) ≡ Some before = sym part.2 ∙ alone other in cc)))

@@ -1,12 +1,12 @@
 // The summary of a run that counted its lines.
-ghost use Rattle.std.specs.Prelude.{◌≡◌, ◌≢◌, ◌≤◌, ◌++◌, IfErr, OnErr, OnOk, length, map};
+ghost use Rattle.std.specs.Prelude.{◌≡◌, ◌≢◌, ◌≤◌, ◌++◌, IfErr, IfOk, OnErr, OnOk, decimal, length};
 ghost use Rattle.std.specs.List.{flat_map, zip};
 ghost use Rattle.sq_value.specs.Lists.{numbers_to};
 ghost use Rattle.sq_net.specs.declared.Node.{Node};
 ghost use Rattle.sq_outside.specs.Sinks.{AppendsPrefix, appended};
 ghost use Rattle.sq_core.specs.Runs.{IsSoundEngine};
 ghost use Rattle.sq_top.specs.Counting.{HasRoom, engine_summary};
-ghost use Rattle.sq_top.specs.Summaries.{count_line, drop_count, fed_count, late_count, output_count, summary_text};
+ghost use Rattle.sq_top.specs.Summaries.{count_line, drop_count, fed_count, late_count, output_count};
 ghost use Rattle.sq_top.specs.Writing.{IsLost};
 
 use crate::Status;

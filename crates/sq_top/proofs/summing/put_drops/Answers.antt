@@ -1,4 +1,4 @@
-use Rattle.std.proofs.Common.{◌++◌, append_assoc, ap, sym, ◌∙◌, length, take}
+use Rattle.std.proofs.Common.{◌++◌, append_assoc, ap, sym, ◌∙◌, length, take, get_or}
 use Rattle.std.specs.List.{flat_map, zip}
 use Rattle.sq_value.specs.Lists.{numbers_to}
 use Rattle.sq_top.specs.Summaries.{drop_count}
@@ -7,11 +7,11 @@ use Rattle.sq_top.proofs.summing.put_drops.Goals as goal
 
 pub drops-preserved : goal.drops-preserved
 drops-preserved c =
-    let line = drop_count (c.drops.w, c.index-drops-w.result) in
+    let line = drop_count (c.drops.w, get_or c.args.drops.now c.drops.w 0) in
     c.in_ok-put_numbered.ensures
     ∙ ap (λ t. t ++ line) c.drops.invariant
     ∙ append_assoc c.args.text.now.items (flat_map drop_count (take c.drops.w (zip (numbers_to (length c.args.drops.now)) c.args.drops.now))) line
-    ∙ ap (λ t. c.args.text.now.items ++ t) (sym (numbers_text-more c.args.drops.now c.drops.w c.index-drops-w.result c.drops-test.true c.index-drops-w.is drop_count))
+    ∙ ap (λ t. c.args.text.now.items ++ t) (sym (numbers_text-more c.args.drops.now c.drops.w c.drops-test.true drop_count))
 
 pub returns : goal.returns
 returns c = rw (numbers_all c.args.drops.now c.drops.w c.drops-test.false) at c.drops.invariant

@@ -7,7 +7,7 @@ use Rattle.sq_top.proofs.summing.put_fed.Goals as goal
 pub boxes-preserved : goal.boxes-preserved
 boxes-preserved c =
     let line = fed_count (c.index-boxes-i.result, get_or c.args.fed.now c.boxes.i 0) in
-    c.in_ok-put_count.ensures
+    (rw c.as_str.ensures at c.in_ok-put_count.ensures)
     ∙ ap (λ t. t ++ line) c.boxes.invariant
     ∙ append_assoc c.args.text.now.items (flat_map fed_count (take c.boxes.i (zip c.args.boxes.now c.args.fed.now))) line
     ∙ ap (λ t. c.args.text.now.items ++ t) (sym (pairs_text-more c.args.boxes.now c.args.fed.now c.requires.even c.boxes.i c.index-boxes-i.result c.boxes-test.true c.index-boxes-i.is fed_count))

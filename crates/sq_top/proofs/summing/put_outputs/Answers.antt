@@ -7,7 +7,7 @@ use Rattle.sq_top.proofs.summing.put_outputs.Goals as goal
 pub outputs-preserved : goal.outputs-preserved
 outputs-preserved c =
     let line = output_count (c.index-outputs-i.result, get_or c.args.lines.now c.outputs.i 0) in
-    c.in_ok-put_count.ensures
+    (rw c.as_str.ensures at c.in_ok-put_count.ensures)
     ∙ ap (λ t. t ++ line) c.outputs.invariant
     ∙ append_assoc c.args.text.now.items (flat_map output_count (take c.outputs.i (zip c.args.outputs.now c.args.lines.now))) line
     ∙ ap (λ t. c.args.text.now.items ++ t) (sym (pairs_text-more c.args.outputs.now c.args.lines.now c.requires.even c.outputs.i c.index-outputs-i.result c.outputs-test.true c.index-outputs-i.is output_count))
