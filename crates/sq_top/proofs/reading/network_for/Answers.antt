@@ -16,7 +16,7 @@ returns-in-Ok-read_network-clause-named g c words asked =
     network_is_named words c.args.args.now asked (g.F.Folder.files c.args.folder.now) c.in-Ok.bytes.items
     c.in-Ok.ensures.whole c.in-Ok-read_network.network (ap network_in (sym c.as_slice.ensures.value) ∙ c.in-Ok-read_network.ensures.answer)
 
-pub returns-in-Err-read_network-clause-stopped : goal.returns-in-Err-read_network-clause-stopped
-returns-in-Err-read_network-clause-stopped g c words asked =
+pub returns-clause-stopped : goal.returns-clause-stopped
+returns-clause-stopped g c words asked =
     stopped_refused words c.args.args.now asked (g.F.Folder.files c.args.folder.now) c.in-Ok.bytes.items
     c.in-Ok.ensures.whole _ _ _ _ c.in-Err-read_network.e _ _ c.refused_by.ensures (λ h. ap network_in (sym c.as_slice.ensures.value) ∙ c.in-Err-read_network.ensures.answer h)

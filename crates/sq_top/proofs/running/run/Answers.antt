@@ -1,0 +1,33 @@
+use Rattle.std.proofs.Common.{ap, map, refl, sym, ◌∙◌, Some}
+use Rattle.std.specs.String.{string_bytes}
+use Rattle.sq_top.specs.declared.Command.{Command}
+use Rattle.sq_top.proofs.EndLemmas.{stopped_ends}
+use Rattle.sq_top.proofs.StoppedLemmas.{stopped_memory, stopped_usage}
+use Rattle.sq_top.proofs.TrainLemmas.{command_least, gen_rows}
+use Rattle.sq_top.proofs.running.run.Goals as goal
+
+pub run_files-requires-clause-train : goal.run_files-requires-clause-train
+run_files-requires-clause-train g c =
+    (command_least (map string_bytes c.args.words.now.items) c.in-Ok-Run.args (c.in-Ok-Run.ensures.command ∙ ap (λ (x : Command). Some x) c.in-Ok-Run.field-0-is)).0
+
+pub run_files-requires-clause-frames : goal.run_files-requires-clause-frames
+run_files-requires-clause-frames g c =
+    (command_least (map string_bytes c.args.words.now.items) c.in-Ok-Run.args (c.in-Ok-Run.ensures.command ∙ ap (λ (x : Command). Some x) c.in-Ok-Run.field-0-is)).1
+
+pub run_made-requires-clause-some : goal.run_made-requires-clause-some
+run_made-requires-clause-some g c =
+    (gen_rows (map string_bytes c.args.words.now.items) c.in-Ok-Gen.number c.in-Ok-Gen.rows (c.in-Ok-Gen.ensures.command ∙ ap (λ (x : Command). Some x) c.in-Ok-Gen.field-0-is)).0
+
+pub run_made-requires-clause-bound : goal.run_made-requires-clause-bound
+run_made-requires-clause-bound g c =
+    (gen_rows (map string_bytes c.args.words.now.items) c.in-Ok-Gen.number c.in-Ok-Gen.rows (c.in-Ok-Gen.ensures.command ∙ ap (λ (x : Command). Some x) c.in-Ok-Gen.field-0-is)).1
+
+pub returns-in-Ok-Gen-clause-ends : goal.returns-in-Ok-Gen-clause-ends
+returns-in-Ok-Gen-clause-ends g c =
+    c.run_made.ensures.ends (map string_bytes c.args.words.now.items) (g.F.Folder.files c.args.folder.now) (g.F.Folder.faults c.args.folder.now) (g.F.Folder.taken c.args.folder.now)
+    (c.in-Ok-Gen.ensures.command ∙ ap (λ (x : Command). Some x) c.in-Ok-Gen.field-0-is)
+
+pub returns-in-Err-Memory-clause-ends : goal.returns-in-Err-Memory-clause-ends
+returns-in-Err-Memory-clause-ends g c =
+    rw (c.stopped_by-in-Err-Memory.ensures.0, c.stopped_by-in-Err-Memory.ensures.1)
+    (stopped_ends _ _ _ _ (stopped_memory (map string_bytes c.args.words.now.items) _ _ _ _ _ _) refl refl)
