@@ -6,7 +6,7 @@ use Rattle.std.specs.List.{AllByRecursion, flat_map, list_all, list_any, range_w
 use Rattle.std.proofs.lemmas.Bool.Decides.{nat_tests}
 use Rattle.std.proofs.lemmas.List.Elements.{recursion_from_All}
 use Rattle.sq_value.specs.declared.Tuple.{Tuple}
-use Rattle.sq_value.specs.Lists.{contains_bytes, numbers_to, same_bytes, IsPrefixOf}
+use Rattle.sq_value.specs.Lists.{contains_bytes, numbers_to, same_bytes}
 use Rattle.sq_value.specs.Classes.{Shown, Dropped, Planned, Ended, second_field}
 use Rattle.sq_value.proofs.ListLemmas.{same_bytes-refl}
 use Rattle.sq_value.specs.LineTexts.{drop_line, line_of, needs_quotes, output_line, plan_line, late_line, end_line}
@@ -15,7 +15,7 @@ use Rattle.sq_value.proofs.RowLemmas.{first_field-line_of, is_line-line_of}
 use Rattle.sq_outside.specs.Faults.{Rose}
 use Rattle.sq_outside.specs.Folders.{Files, file}
 use Rattle.sq_outside.specs.Disks.{Pages}
-use Rattle.sq_outside.specs.Sinks.{AppendsPrefix, appended}
+use Rattle.sq_outside.specs.Sinks.{appended}
 use Rattle.sq_net.specs.declared.NetErr.{NetErr}
 use Rattle.sq_net.specs.declared.NetErr.TheVariants as net
 use Rattle.sq_net.specs.declared.Network.{Network}

@@ -1,12 +1,11 @@
 -- A train is at least one step, frames are at least two, and rows are 1 to 1,000,000.
-use Rattle.std.proofs.Common.{◌≡◌, ℕ, ◌-◌, ◌^◌, ◌≤◌, Bool, true, false, ◌&&◌, List, [], ◌∷◌, refl, ap, sym, ◌∙◌, subst, arith, Option, Some, None}
-use Rattle.std.specs.Prelude.{nat_le, if◌then◌else◌, codes}
+use Rattle.std.proofs.Common.{◌≡◌, ℕ, ◌-◌, ◌^◌, ◌≤◌, Bool, true, false, ◌&&◌, List, [], ◌∷◌, refl, subst, arith, Option, Some, None}
+use Rattle.std.specs.Prelude.{nat_le, codes}
 use Rattle.std.specs.Option.{option_map, option_and_then}
 use Rattle.std.specs.List.{list_all}
 use Rattle.std.proofs.lemmas.Bool.Decides.{nat_tests}
 use Rattle.sq_value.specs.Lists.{same_bytes}
 use Rattle.sq_value.specs.Texts.{are_digits, number_in}
-use Rattle.sq_sched.specs.declared.policy.Rule.{Rule}
 use Rattle.sq_top.specs.declared.RunArgs.{RunArgs}
 use Rattle.sq_top.specs.declared.Command.{Command}
 use Rattle.sq_top.specs.declared.Command.TheVariants as command
@@ -82,8 +81,10 @@ gen_within (number ∷ []) = tt
 gen_within (number ∷ rows ∷ []) =
     of_gen _ (number_within 0 (2 ^ 64 - 1) number)
     (λ n e. of_gen _ (number_within 1 1000000 rows)
-    (λ k e1. (within_least (are_digits 20 rows && (nat_le 1 (number_in rows) && nat_le (number_in rows) 1000000)) 1 1000000 rows k refl e1,
-      within_most (are_digits 20 rows && (nat_le 1 (number_in rows) && nat_le (number_in rows) 1000000)) 1 1000000 rows k refl e1)))
+    (λ k e1. (
+      within_least (are_digits 20 rows && (nat_le 1 (number_in rows) && nat_le (number_in rows) 1000000)) 1 1000000 rows k refl e1,
+      within_most (are_digits 20 rows && (nat_le 1 (number_in rows) && nat_le (number_in rows) 1000000)) 1 1000000 rows k refl e1,
+    )))
 gen_within (number ∷ rows ∷ w ∷ ws) = tt
 
 command_by : (run gen : Bool) (w : Word) (ws : List Word) → same_bytes w (codes "run") ≡ run → same_bytes w (codes "gen") ≡ gen → IsWithin (command_in (w ∷ ws))

@@ -1,5 +1,5 @@
 -- What a run that counts its lines knows on its way.
-use Rattle.std.specs.Prelude.{◌≡◌, ◌⊎◌, ℕ, ◌+◌, ◌<◌, List, ◌++◌, length, map, Option}
+use Rattle.std.specs.Prelude.{◌≡◌, ℕ, ◌+◌, ◌<◌, List, ◌++◌, length, map, Option}
 use Rattle.std.specs.List.{AllByRecursion}
 use Rattle.sq_value.specs.Lists.{numbers_to}
 use Rattle.sq_outside.specs.Disks.{Pages}

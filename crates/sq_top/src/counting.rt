@@ -159,7 +159,14 @@ pub fn count<D: PageDisk, L: Ledger>(
     };
     let mut events = Vec::new(alloc);
     'steps: while !engine.ended() {
-        match count_step(&mut engine, &mut policy, disk, &mut events, &mut counts, steps) {
+        match count_step(
+            &mut engine,
+            &mut policy,
+            disk,
+            &mut events,
+            &mut counts,
+            steps,
+        ) {
             Ok(()) => {}
             Err(status) => return Err(status),
         }

@@ -67,11 +67,7 @@ pub(crate) fn refused_by(e: NetErr) -> Status
 }
 
 /// The network that is named, or the status of a run that has none.
-fn network_for<F: Folder>(
-    alloc: Global,
-    args: &RunArgs,
-    folder: &mut F,
-) -> Result<Network, Status>
+fn network_for<F: Folder>(alloc: Global, args: &RunArgs, folder: &mut F) -> Result<Network, Status>
     ensures sound { IfOk result IsSound }
     ensures limits { IfOk result KeepsDropLimits }
     ensures leads { IfOk result (λ n. (words : List (List ℕ)) → command_in words ≡ Some (Command.Run args.now)
@@ -311,11 +307,7 @@ pub struct Accepted {
 }
 
 /// What the files come to that are asked for, or the status of a run that stops at them.
-pub fn prepare<F: Folder>(
-    alloc: Global,
-    args: RunArgs,
-    folder: &mut F,
-) -> Result<Accepted, Stopped>
+pub fn prepare<F: Folder>(alloc: Global, args: RunArgs, folder: &mut F) -> Result<Accepted, Stopped>
     requires train { 1 ≤ args.train }
     requires frames { 2 ≤ args.frames }
     ensures sound { IfOk result (λ a. IsSound a.network) }

@@ -72,12 +72,7 @@ fn put_drops(alloc: Global, drops: &[u64], text: &mut Vec<u8>) -> Result<(), All
 }
 
 /// Puts how many tuples each box was fed.
-fn put_fed(
-    alloc: Global,
-    boxes: &[Node],
-    fed: &[u64],
-    text: &mut Vec<u8>,
-) -> Result<(), AllocError>
+fn put_fed(alloc: Global, boxes: &[Node], fed: &[u64], text: &mut Vec<u8>) -> Result<(), AllocError>
     requires even { length fed.now ≡ length boxes.now }
     ensures { OnOk result (text.new.items ≡ text.old.items ++ flat_map fed_count (zip boxes.now fed.now)) }
 {
@@ -130,7 +125,12 @@ fn summary(
     let boxes = engine.network.boxes.as_slice();
     let mut text = Vec::new(alloc);
     put_numbered(alloc, "gen", number, rows as u64, &mut text)?;
-    put_outputs(alloc, engine.network.outputs.as_slice(), &counts.lines, &mut text)?;
+    put_outputs(
+        alloc,
+        engine.network.outputs.as_slice(),
+        &counts.lines,
+        &mut text,
+    )?;
     put_drops(alloc, &counts.drops, &mut text)?;
     put_fed(alloc, boxes, &fed, &mut text)?;
     put_lates(alloc, boxes, &late, &mut text)?;

@@ -1,6 +1,4 @@
-use Rattle.std.proofs.Common.{◌≡◌, length, sym, subst}
 use Rattle.std.proofs.lemmas.List.{take_all}
-use Rattle.sq_top.specs.Counting.{Counted}
 use Rattle.sq_top.proofs.CountLemmas.{next_counted, none_counted, there_at}
 use Rattle.sq_top.proofs.counting.count_events.Goals as goal
 

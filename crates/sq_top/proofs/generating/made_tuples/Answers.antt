@@ -1,4 +1,4 @@
-use Rattle.std.proofs.Common.{arith, rules, inl, map, [], ◌∷◌, ◌∙◌, ap, refl}
+use Rattle.std.proofs.Common.{rules, inl, map, [], ◌∷◌, ◌∙◌, ap}
 use Rattle.std.proofs.lemmas.List.{drop_all, length-map, map-append, take_all}
 use Rattle.sq_top.proofs.MadeLemmas.{made_bad, made_on}
 use Rattle.sq_top.proofs.SourceLemmas.{recorded_more}

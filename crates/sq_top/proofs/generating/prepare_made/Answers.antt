@@ -1,10 +1,7 @@
-use Rattle.std.proofs.Common.{◌≡◌, arith, inl, map, refl, ap, length, ◌∙◌, List, ℕ}
+use Rattle.std.proofs.Common.{◌≡◌, arith, inl, map, ap, length, ◌∙◌, List, ℕ}
 use Rattle.sq_gen.specs.declared.Made.{Made}
 use Rattle.sq_gen.specs.Files.{capacities_text, stream_of}
 use Rattle.sq_gen.proofs.Lengths.{capacities_short, stream_short}
-use Rattle.sq_reader.specs.Networks.{network_in}
-use Rattle.sq_replay.specs.Entries.{capacities_in}
-use Rattle.sq_top.specs.Made.{HasBadStreams}
 use Rattle.sq_top.proofs.MadeLemmas.{bad_capacities, bad_network, bad_streams, made_accepted}
 use Rattle.sq_top.proofs.generating.prepare_made.Goals as goal
 

@@ -1,8 +1,8 @@
-use Rattle.std.proofs.Common.{ap, map, refl, sym, ◌∙◌, Some}
+use Rattle.std.proofs.Common.{ap, map, refl, ◌∙◌, Some}
 use Rattle.std.specs.String.{string_bytes}
 use Rattle.sq_top.specs.declared.Command.{Command}
 use Rattle.sq_top.proofs.EndLemmas.{stopped_ends}
-use Rattle.sq_top.proofs.StoppedLemmas.{stopped_memory, stopped_usage}
+use Rattle.sq_top.proofs.StoppedLemmas.{stopped_memory}
 use Rattle.sq_top.proofs.TrainLemmas.{command_least, gen_rows}
 use Rattle.sq_top.proofs.running.run.Goals as goal
 
