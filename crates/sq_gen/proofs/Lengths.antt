@@ -1,9 +1,8 @@
 -- How long what is made is.
-use Rattle.std.proofs.Common.{◌≡◌, ℕ, zero, suc, ◌+◌, ◌-◌, ◌*◌, ◌%◌, ◌^◌, ◌≤◌, ◌<◌, min, List, ◌++◌, length, refl, ap, sym, ◌∙◌, arith, add-one, length-append}
-use Rattle.std.specs.Prelude.{codes}
+use Rattle.std.proofs.Common.{◌≡◌, ℕ, zero, suc, ◌+◌, ◌*◌, ◌≤◌, ◌<◌, ◌++◌, length, ap, sym, ◌∙◌, arith, add-one, length-append}
 use Rattle.std.specs.Fmt.{decimal}
 use Rattle.std.proofs.lemmas.Fmt.{length-decimal-le}
-use Rattle.sq_gen.specs.Files.{at_of, capacities_text, line_at, price_of, stream_of, symbol_of, trade_line, word_of}
+use Rattle.sq_gen.specs.Files.{at_of, capacities_text, line_at, price_of, stream_of, trade_line, word_of}
 use Rattle.sq_gen.proofs.StreamLemmas.{stream_of-more, stream_of-none}
 
 line_short : (i first second : ℕ) → i < 1000000 → length (trade_line i first second) ≤ 23

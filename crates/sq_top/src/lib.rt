@@ -3,9 +3,10 @@
 //! `run_words` carries the promise of the whole engine, over objects that tell what they hold: a run that ends Ok has
 //! written exactly the lines that belong to each class and taken exactly the steps of its work; any other end leaves a
 //! prefix of each class and has a cause of its own, whatever the schedule and however few pages stay in memory. `drive`
-//! carries the part of it that an engine does. Below stand `sq_reader` and `sq_replay` for texts, `sq_core` for the
-//! engine, `sq_sched` for schedules, `sq_model` for the answers, the records of what is dropped and the plans, and
-//! `sq_outside` for the objects.
+//! carries the part of it that an engine does. A run of what a number makes is a replay as any other, of which the numbers
+//! of lines are written in their place. Below stand `sq_gen` for what a number makes, `sq_reader` and `sq_replay` for texts,
+//! `sq_core` for the engine, `sq_sched` for schedules, `sq_model` for the answers, the records of what is dropped and the
+//! plans, and `sq_outside` for the objects.
 #![tactic(auto)]
 
 ghost use Rattle.std.specs.Prelude.{◌≡◌, ◌≢◌, ◌≤◌, false, is_some, map, true};
