@@ -4,8 +4,7 @@ ghost use Rattle.std.specs.Prelude.{◌≡◌, ℕ, ◌+◌, ◌-◌, ◌*◌, �
 ghost use Rattle.std.specs.Ordering.{nat_cmp};
 ghost use Rattle.std.specs.List.{AllByRecursion, filter};
 ghost use Rattle.sq_aggfn.specs.Keyed.{added};
-ghost use Rattle.sq_pane.proofs.RiseProps.{Rises-prop};
-ghost use Rattle.sq_pane.specs.Panes.{Rises, within, joined_within, total, AllAreMade, IsMadeIf, number_if};
+ghost use Rattle.sq_pane.specs.Panes.{Rises, Rises-prop, within, joined_within, total, AllAreMade, IsMadeIf, number_if};
 
 use sq_aggfn::{Fold, WindowSpec};
 use sq_value::Tuple;
