@@ -13,10 +13,9 @@ use Rattle.sq_aggfn.specs.declared.WindowSpec.{WindowSpec}
 use Rattle.sq_aggfn.specs.Keyed.{added}
 use Rattle.sq_aggfn.proofs.KeyedLemmas.{Ascends}
 use Rattle.sq_pane.specs.declared.line.Line.{Line}
-use Rattle.sq_pane.specs.Panes.{Key, key_cmp, from_pane, in_group, within, window_from, joined_within, entry_of, Rises, total, AllAreMade}
+use Rattle.sq_pane.specs.Panes.{Key, key_cmp, from_pane, in_group, within, window_from, joined_within, entry_of, IsMadeIf, number_if, total, AllAreMade}
 use Rattle.sq_pane.specs.States.{states_of, groups_within}
 use Rattle.sq_pane.proofs.WindowLemmas.{itself}
-use Rattle.sq_pane.proofs.PaneLemmas.{key_order}
 
 abbrev Lines : Type 0 → Type 0
 Lines M = List (List Value × Line M)
@@ -192,7 +191,7 @@ module _ {M : Type 0} (number : M → ℕ) where
       by Greater e s ih = (let le = ih e in let t = total_parts l.0 (states_of (insert_entry fields_cmp ls g new)) l.1.states.items in omega (arith, le, s, t))
 
 -- what is forgotten
-module _ {M F : Type 0} (m : ℕ) where
+module _ {M : Type 0} (m : ℕ) where
   group-kept : (g : List Value) (rest : List (Key × M)) (qs : List (ℕ × M)) → from_pane m (in_group g qs ++ rest) ≡ in_group g (filter (λ q. nat_le m q.0) qs) ++ from_pane m rest
   group-kept g rest [] = refl
   group-kept g rest (q ∷ qs) = by (nat_le m q.0) (group-kept g rest qs)
@@ -202,7 +201,7 @@ module _ {M F : Type 0} (m : ℕ) where
       by true ih = ap (λ l. ((q.0, g), q.1) ∷ l) ih
       by false ih = ih
 
-  pub states_kept : (T : F → List Value → Line M → Bool → Line M → F → Type 0) (I : F → Type 0)
+  pub states_kept : {F : Type 0} (T : F → List Value → Line M → Bool → Line M → F → Type 0) (I : F → Type 0)
       → ((f : F) (k : List Value) (v : Line M) (b : Bool) (w : Line M) (f' : F) → I f → T f k v b w f' → (w.states.items ≡ filter (λ q. nat_le m q.0) v.states.items) × (b ≡ false → w.states.items ≡ []) × I f')
       → (f : F) (ls kept : Lines M) → I f → RetainsPairs T f ls kept → states_of kept ≡ from_pane m (states_of ls)
   states_kept T I says f [] kept i r = ap states_of r
@@ -233,12 +232,13 @@ module _ {M : Type 0} (none : M) (join : M → M → M) (w : WindowSpec) (width 
   window-line : (g : List Value) (gs : List (List Value × M)) → Below gs g → (rest : List (Key × M)) (qs : List (ℕ × M)) (o : Option M)
       → window_from none join w width start (gs ++ entry_of g o) (in_group g qs ++ rest) ≡ window_from none join w width start (gs ++ entry_of g (joined_within none join w width start o qs)) rest
   window-line g gs all rest [] o = refl
-  window-line g gs all rest (q ∷ qs) o = by (within w width start q.0)
+  window-line g gs all rest (q ∷ qs) o = by (within w width start q.0) (λ o. window-line g gs all rest qs o)
     where
-      by : (b : Bool) → window_from none join w width start (if b then added fields_cmp none join g q.1 (gs ++ entry_of g o) else gs ++ entry_of g o) (in_group g qs ++ rest)
+      by : (b : Bool) → ((o : Option M) → window_from none join w width start (gs ++ entry_of g o) (in_group g qs ++ rest) ≡ window_from none join w width start (gs ++ entry_of g (joined_within none join w width start o qs)) rest)
+          → window_from none join w width start (if b then added fields_cmp none join g q.1 (gs ++ entry_of g o) else gs ++ entry_of g o) (in_group g qs ++ rest)
           ≡ window_from none join w width start (gs ++ entry_of g (joined_within none join w width start (if b then Some (join (unwrap_or o none) q.1) else o) qs)) rest
-      by true = ap (λ l. window_from none join w width start l (in_group g qs ++ rest)) (put-behind g q.1 o gs all) ∙ window-line g gs all rest qs (Some (join (unwrap_or o none) q.1))
-      by false = window-line g gs all rest qs o
+      by true ih = ap (λ l. window_from none join w width start l (in_group g qs ++ rest)) (put-behind g q.1 o gs all) ∙ ih (Some (join (unwrap_or o none) q.1))
+      by false ih = ih o
 
   below-entry : (g h : List Value) (o : Option M) (gs : List (List Value × M)) → fields_cmp g h ≡ Less → Below gs h → Below (gs ++ entry_of g o) h
   below-entry g h None [] k all = tt
@@ -265,8 +265,20 @@ module _ {M : Type 0} (none : M) (join : M → M → M) (w : WindowSpec) (width 
       nothing [] = tt
       nothing (l ∷ ls) = (tt, nothing ls)
 
--- all keys ascend
-module _ {M : Type 0} where
-  later-panes : (g : List Value) (n : ℕ) (rest : List (Key × M)) → AllByRecursion (λ e. key_cmp (n, g) e.0 ≡ Less) rest → (qs : List (ℕ × M)) → AllByRecursion (λ h. nat_cmp n h.0 ≡ Less) qs → AllByRecursion (λ e. key_cmp (n, g) e.0 ≡ Less) (in_group g qs ++ rest)
-  later-panes g n rest all [] up = all
-  later-panes g n rest all (q ∷ qs) up = (ap (λ o. ordering_then o (nat_cmp n q.0)) (itself fields_cmp fields_order g) ∙ up.0, later-panes g n rest all qs up.1)
+-- what holds of all states, and of a line's
+module _ {M : Type 0} (P : ℕ → M → Type 0) where
+  pub all_parts : (g : List Value) (rest : List (Key × M)) (qs : List (ℕ × M)) → AllByRecursion (λ e. P e.0.0 e.1) (in_group g qs ++ rest) → AllByRecursion (λ q. P q.0 q.1) qs × AllByRecursion (λ e. P e.0.0 e.1) rest
+  all_parts g rest [] all = (tt, all)
+  all_parts g rest (q ∷ qs) all = (let more = all_parts g rest qs all.1 in ((all.0, more.0), more.1))
+
+-- a group that comes behind the others
+module _ {M : Type 0} (made : M → Type 0) (number : M → ℕ) (g : List Value) where
+  pub pushed_made : (o : Option M) (gs : List (List Value × M)) → AllAreMade made gs → IsMadeIf made o → AllAreMade made (gs ++ entry_of g o)
+  pushed_made None [] all p = tt
+  pushed_made (Some m) [] all p = (p, tt)
+  pushed_made o (x ∷ xs) all p = (all.0, pushed_made o xs all.1 p)
+
+  pub pushed_total : (o : Option M) (gs : List (List Value × M)) → total number (gs ++ entry_of g o) ≡ total number gs + number_if number o
+  pushed_total None [] = refl
+  pushed_total (Some m) [] = omega arith
+  pushed_total o (x ∷ xs) = (let s = pushed_total o xs in omega (arith, s))
