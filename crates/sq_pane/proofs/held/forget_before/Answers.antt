@@ -1,4 +1,4 @@
-use Rattle.std.proofs.Common.{◌≡◌, ℕ, Bool, false, List, [], refl, sym, ap, ◌∙◌, rules}
+use Rattle.std.proofs.Common.{◌≡◌, refl, rules}
 use Rattle.sq_pane.proofs.StateLemmas.{states_kept}
 use Rattle.sq_pane.proofs.held.forget_before.Goals as goal
 

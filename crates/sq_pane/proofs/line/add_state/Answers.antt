@@ -78,16 +78,16 @@ returns-clause-added g c =
     let within = c.count_up_to-count.ensures.within in
     let last = subst (λ (l : List (ℕ × g.row.F-State.Denot)). (d : ℕ × g.row.F-State.Denot) → 0 < n → (get_or l (n - 1) d).0 ≤ c.args.pane) c.deref.ensures.value c.count_up_to-count.ensures.last in
     let before : (n ≡ 0) ⊎ ((x : ℕ × g.row.F-State.Denot) × (0 < n) × (x ≡ get_or es (n - 1) x) × (x.0 < c.args.pane)) =
-        elim c.else-count-gt0.branch [
-          | else-count-gt0-via-then-count-gt0+else-index-pane w ↦
-              let some = w.if-count-gt0.true in
-              let at = w.index.ensures in
-              let x = w.index.result.now in
-              let le : x.0 ≤ c.args.pane = subst (λ (z : ℕ × g.row.F-State.Denot). z.0 ≤ c.args.pane) (sym at) (last x some) in
-              let other = w.if-index-pane.false in
-              inr (x, some, at, omega (arith, le, other))
-          | else-count-gt0-via-else-count-gt0 w ↦ (let no = w.if-count-gt0.false in inl (omega (arith, no)))
-        ] in
+    elim c.else-count-gt0.branch [
+      | else-count-gt0-via-then-count-gt0+else-index-pane w ↦
+          let some = w.if-count-gt0.true in
+          let at = w.index.ensures in
+          let x = w.index.result.now in
+          let le : x.0 ≤ c.args.pane = subst (λ (z : ℕ × g.row.F-State.Denot). z.0 ≤ c.args.pane) (sym at) (last x some) in
+          let other = w.if-index-pane.false in
+          inr (x, some, at, omega (arith, le, other))
+      | else-count-gt0-via-else-count-gt0 w ↦ (let no = w.if-count-gt0.false in inl (omega (arith, no)))
+    ] in
     c.in_ok-insert.ensures.items ∙ ap (λ m. insert es n (c.args.pane, m)) (c.in_ok-one.ensures.value ∙ sym first)
     ∙ insert_is_put (g.F.Fold.none fold) (g.F.Fold.joined fold) c.args.pane u es n c.requires.rises (omega (arith, within, long)) before
     (subst (λ (l : List (ℕ × g.row.F-State.Denot)). AllByRecursion (λ e. c.args.pane < e.0) (drop n l)) c.deref.ensures.value c.count_up_to-count.ensures.after)

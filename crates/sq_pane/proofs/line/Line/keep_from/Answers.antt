@@ -1,6 +1,5 @@
-use Rattle.std.proofs.Common.{◌≡◌, ℕ, true, false, List, [], sym, ap, subst, ◌∙◌, rules, arith}
+use Rattle.std.proofs.Common.{ℕ, sym, subst, rules}
 use Rattle.std.specs.Prelude.{nat_le}
-use Rattle.std.specs.List.{filter}
 use Rattle.std.proofs.lemmas.Fn.{filter_same}
 use Rattle.sq_pane.specs.Panes.{Rises}
 use Rattle.sq_pane.proofs.LineLemmas.{rises_kept}
