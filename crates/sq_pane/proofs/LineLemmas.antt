@@ -10,7 +10,7 @@ use Rattle.sq_pane.proofs.WindowLemmas.{itself}
 greater : (a b : ℕ) → b < a → nat_cmp a b ≡ Greater
 greater a b lt = grind (arith, tests)
 
-lesser : (a b : ℕ) → a < b → nat_cmp a b ≡ Less
+pub lesser : (a b : ℕ) → a < b → nat_cmp a b ≡ Less
 lesser a b lt = grind (arith, tests)
 
 module _ {A : Type 0} (P : A → Type 0) where

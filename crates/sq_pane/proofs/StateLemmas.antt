@@ -1,5 +1,5 @@
 -- The states of all groups.
-use Rattle.std.proofs.Common.{◌≡◌, ℕ, ◌+◌, ◌≤◌, Bool, true, false, cond, List, [], ◌∷◌, ◌++◌, Some, None, Option, refl, ap, ap₂, sym, ◌∙◌, subst, append_assoc, append-nil, Ordering, Less, Equal, Greater, nat_cmp, arith}
+use Rattle.std.proofs.Common.{◌≡◌, ℕ, ◌+◌, ◌<◌, ◌≤◌, Bool, true, false, cond, List, [], ◌∷◌, ◌++◌, Some, None, Option, refl, ap, ap₂, sym, ◌∙◌, subst, append_assoc, append-nil, Ordering, Less, Equal, Greater, nat_cmp, arith}
 use Rattle.std.specs.Prelude.{if◌then◌else◌, nat_le, unwrap_or}
 use Rattle.std.specs.Ordering.{match_ordering, is_eq, ordering_then, ordering_reverse}
 use Rattle.std.specs.Map.{lookup, set_value}
@@ -13,9 +13,11 @@ use Rattle.sq_aggfn.specs.declared.WindowSpec.{WindowSpec}
 use Rattle.sq_aggfn.specs.Keyed.{added}
 use Rattle.sq_aggfn.proofs.KeyedLemmas.{Ascends}
 use Rattle.sq_pane.specs.declared.line.Line.{Line}
-use Rattle.sq_pane.specs.Panes.{Key, key_cmp, from_pane, in_group, within, window_from, joined_within, entry_of, IsMadeIf, number_if, total, AllAreMade}
+use Rattle.sq_pane.specs.Panes.{Key, key_cmp, from_pane, in_group, within, window_from, joined_within, entry_of, Rises, IsMadeIf, number_if, total, AllAreMade}
 use Rattle.sq_pane.specs.States.{states_of, groups_within}
 use Rattle.sq_pane.proofs.WindowLemmas.{itself}
+use Rattle.sq_pane.proofs.PaneLemmas.{key_order}
+use Rattle.sq_pane.proofs.LineLemmas.{lesser}
 
 abbrev Lines : Type 0 → Type 0
 Lines M = List (List Value × Line M)
@@ -23,6 +25,16 @@ Lines M = List (List Value × Line M)
 -- a group's look-up
 abbrev is_at : List Value → List Value → Bool
 is_at g q = is_eq (fields_cmp g q)
+
+-- a group before all others
+module _ {M : Type 0} (g : List Value) where
+  above-group : (h : List Value) → fields_cmp g h ≡ Less → (rest : List (Key × M)) → AllByRecursion (λ e. fields_cmp g e.0.1 ≡ Less) rest → (qs : List (ℕ × M)) → AllByRecursion (λ e. fields_cmp g e.0.1 ≡ Less) (in_group h qs ++ rest)
+  above-group h k rest all [] = all
+  above-group h k rest all (q ∷ qs) = (k, above-group h k rest all qs)
+
+  above-states : (ls : Lines M) → AllByRecursion (λ l. fields_cmp g l.0 ≡ Less) ls → AllByRecursion (λ e. fields_cmp g e.0.1 ≡ Less) (states_of ls)
+  above-states [] all = tt
+  above-states (l ∷ ls) all = above-group l.0 all.0 (states_of ls) (above-states ls all.1) l.1.states.items
 
 -- a state is added to its group
 module _ {M : Type 0} (none : M) (join : M → M → M) (n : ℕ) (g : List Value) (u : M) where
@@ -50,14 +62,6 @@ module _ {M : Type 0} (none : M) (join : M → M → M) (n : ℕ) (g : List Valu
   put-past : (h : List Value) → fields_cmp g h ≡ Greater → (rest : List (Key × M)) (qs : List (ℕ × M)) → put_key (in_group h qs ++ rest) ≡ in_group h qs ++ put_key rest
   put-past h k rest [] = refl
   put-past h k rest (q ∷ qs) = ap (λ o. choose (ordering_then o (nat_cmp n q.0)) ((q.0, h), q.1) (in_group h qs ++ rest)) k ∙ ap (λ l. ((q.0, h), q.1) ∷ l) (put-past h k rest qs)
-
-  above-group : (h : List Value) → fields_cmp g h ≡ Less → (rest : List (Key × M)) → AllByRecursion (λ e. fields_cmp g e.0.1 ≡ Less) rest → (qs : List (ℕ × M)) → AllByRecursion (λ e. fields_cmp g e.0.1 ≡ Less) (in_group h qs ++ rest)
-  above-group h k rest all [] = all
-  above-group h k rest all (q ∷ qs) = (k, above-group h k rest all qs)
-
-  above-states : (ls : Lines M) → AllByRecursion (λ l. fields_cmp g l.0 ≡ Less) ls → AllByRecursion (λ e. fields_cmp g e.0.1 ≡ Less) (states_of ls)
-  above-states [] all = tt
-  above-states (l ∷ ls) all = above-group l.0 all.0 (states_of ls) (above-states ls all.1) l.1.states.items
 
   after-less : (h : List Value) → fields_cmp g h ≡ Less → (ls : Lines M) → AllByRecursion (λ l. fields_cmp h l.0 ≡ Less) ls → AllByRecursion (λ l. fields_cmp g l.0 ≡ Less) ls
   after-less h k [] all = tt
@@ -91,7 +95,7 @@ module _ {M : Type 0} (none : M) (join : M → M → M) (n : ℕ) (g : List Valu
       by Equal k e ih =
           let same = fields_same g l.0 k in
           ap (λ q. in_group l.0 q ++ states_of ls) (is ∙ ap (λ (x : Line M). added nat_cmp none join n u x.states.items) (sym (inside e)))
-          ∙ here l.0 same (above-states ls (after-same l.0 same ls up.0)) l.1.states.items
+          ∙ here l.0 same (above-states g ls (after-same l.0 same ls up.0)) l.1.states.items
       by Greater k e ih = ap (λ r. in_group l.0 l.1.states.items ++ r) (ih e) ∙ sym (put-past l.0 k (states_of ls) l.1.states.items)
 
   -- in a new one
@@ -103,7 +107,7 @@ module _ {M : Type 0} (none : M) (join : M → M → M) (n : ℕ) (g : List Valu
       by : (o : Ordering) → fields_cmp g l.0 ≡ o → cond (is_eq o) (Some l.1) (lookup (is_at g) ls) ≡ None → (lookup (is_at g) ls ≡ None → states_of (insert_entry fields_cmp ls g new) ≡ put_key (states_of ls))
           → states_of (match_ordering o ((g, new) ∷ l ∷ ls) ((l.0, new) ∷ ls) (l ∷ insert_entry fields_cmp ls g new)) ≡ put_key (in_group l.0 l.1.states.items ++ states_of ls)
       by Less k e ih =
-          ap (λ q. in_group g q ++ states_of (l ∷ ls)) is ∙ sym (put-front (states_of (l ∷ ls)) (above-states (l ∷ ls) (k, after-less l.0 k ls up.0)))
+          ap (λ q. in_group g q ++ states_of (l ∷ ls)) is ∙ sym (put-front (states_of (l ∷ ls)) (above-states g (l ∷ ls) (k, after-less l.0 k ls up.0)))
       by Equal k e ih = cc
       by Greater k e ih = ap (λ r. in_group l.0 l.1.states.items ++ r) (ih e) ∙ sym (put-past l.0 k (states_of ls) l.1.states.items)
 
@@ -282,3 +286,18 @@ module _ {M : Type 0} (made : M → Type 0) (number : M → ℕ) (g : List Value
   pushed_total None [] = refl
   pushed_total (Some m) [] = omega arith
   pushed_total o (x ∷ xs) = (let s = pushed_total o xs in omega (arith, s))
+
+-- the keys of all states ascend
+module _ {M : Type 0} where
+  later-panes : (g : List Value) (n : ℕ) (rest : List (Key × M)) → AllByRecursion (λ e. fields_cmp g e.0.1 ≡ Less) rest → (qs : List (ℕ × M)) → AllByRecursion (λ h. n < h.0) qs → AllByRecursion (λ e. key_cmp (n, g) e.0 ≡ Less) (in_group g qs ++ rest)
+  later-panes g n [] all [] up = tt
+  later-panes g n (e ∷ es) all [] up = (ap (λ o. ordering_then o (nat_cmp n e.0.0)) all.0, later-panes g n es all.1 [] tt)
+  later-panes g n rest all (q ∷ qs) up = (ap₂ (λ o p. ordering_then o p) (itself fields_cmp fields_order g) (lesser n q.0 up.0), later-panes g n rest all qs up.1)
+
+  group-ascends : (g : List Value) (rest : List (Key × M)) → AllByRecursion (λ e. fields_cmp g e.0.1 ≡ Less) rest → Ascends key_cmp key_order rest → (qs : List (ℕ × M)) → Rises qs → Ascends key_cmp key_order (in_group g qs ++ rest)
+  group-ascends g rest all more [] up = more
+  group-ascends g rest all more (q ∷ qs) up = (later-panes g q.0 rest all qs up.0, group-ascends g rest all more qs up.1)
+
+  pub states_ascend : (ls : Lines M) → Ascends fields_cmp fields_order ls → Ascends key_cmp key_order (states_of ls)
+  states_ascend [] up = tt
+  states_ascend (l ∷ ls) up = group-ascends l.0 (states_of ls) (above-states l.0 ls up.0) (states_ascend ls up.1) l.1.states.items l.1.rises
