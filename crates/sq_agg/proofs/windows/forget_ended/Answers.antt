@@ -1,4 +1,4 @@
-use Rattle.std.proofs.Common.{◌≡◌, ℕ, true, cond, List, [], ◌∷◌, refl, ap, sym, ◌∙◌, arith, tests}
+use Rattle.std.proofs.Common.{◌≡◌, true, cond, List, [], ◌∷◌, refl, ap, sym, ◌∙◌, arith, tests}
 use Rattle.std.specs.Prelude.{nat_le}
 use Rattle.sq_pane.specs.Panes.{Key, from_pane}
 use Rattle.sq_pane.specs.States.{states_of}
