@@ -111,6 +111,12 @@ module _ {M : Type 0} (none : M) (join : M → M → M) (n : ℕ) (g : List Valu
       by Equal k e ih = cc
       by Greater k e ih = ap (λ r. in_group l.0 l.1.states.items ++ r) (ih e) ∙ sym (put-past l.0 k (states_of ls) l.1.states.items)
 
+-- what holds of all states, and of a line's
+module _ {M : Type 0} (P : ℕ → M → Type 0) where
+  pub all_parts : (g : List Value) (rest : List (Key × M)) (qs : List (ℕ × M)) → AllByRecursion (λ e. P e.0.0 e.1) (in_group g qs ++ rest) → AllByRecursion (λ q. P q.0 q.1) qs × AllByRecursion (λ e. P e.0.0 e.1) rest
+  all_parts g rest [] all = (tt, all)
+  all_parts g rest (q ∷ qs) all = (let more = all_parts g rest qs all.1 in ((all.0, more.0), more.1))
+
 -- the fold gave them
 module _ {M : Type 0} (made : M → Type 0) where
   group-made : (g : List Value) (rest : List (Key × M)) (qs : List (ℕ × M)) → AllAreMade made qs → AllAreMade made rest → AllAreMade made (in_group g qs ++ rest)
@@ -118,8 +124,7 @@ module _ {M : Type 0} (made : M → Type 0) where
   group-made g rest (q ∷ qs) all more = (all.0, group-made g rest qs all.1 more)
 
   pub made_parts : (g : List Value) (rest : List (Key × M)) (qs : List (ℕ × M)) → AllAreMade made (in_group g qs ++ rest) → AllAreMade made qs × AllAreMade made rest
-  made_parts g rest [] all = (tt, all)
-  made_parts g rest (q ∷ qs) all = (let more = made_parts g rest qs all.1 in ((all.0, more.0), more.1))
+  made_parts g rest qs all = all_parts (λ n (m : M). made m) g rest qs all
 
   module _ (test : List Value → Bool) where
     pub made_found : (ls : Lines M) (line : Line M) → lookup test ls ≡ Some line → AllAreMade made (states_of ls) → AllAreMade made line.states.items
@@ -268,12 +273,6 @@ module _ {M : Type 0} (none : M) (join : M → M → M) (w : WindowSpec) (width 
       nothing : (ls : Lines M) → AllByRecursion (λ l. Below [] l.0) ls
       nothing [] = tt
       nothing (l ∷ ls) = (tt, nothing ls)
-
--- what holds of all states, and of a line's
-module _ {M : Type 0} (P : ℕ → M → Type 0) where
-  pub all_parts : (g : List Value) (rest : List (Key × M)) (qs : List (ℕ × M)) → AllByRecursion (λ e. P e.0.0 e.1) (in_group g qs ++ rest) → AllByRecursion (λ q. P q.0 q.1) qs × AllByRecursion (λ e. P e.0.0 e.1) rest
-  all_parts g rest [] all = (tt, all)
-  all_parts g rest (q ∷ qs) all = (let more = all_parts g rest qs all.1 in ((all.0, more.0), more.1))
 
 -- a group that comes behind the others
 module _ {M : Type 0} (made : M → Type 0) (number : M → ℕ) (g : List Value) where
