@@ -1,32 +1,26 @@
 // A network of one BSort that has no room, and of an output that shows it; and a drop whose second and third batch fall in an
 // overload.
-ghost use Rattle.std.specs.Prelude.{◌≡◌, ◌/◌, ◌<◌, ◌^◌, [], ◌∷◌, map, length, IfOk};
+ghost use Rattle.std.specs.Prelude.{◌≡◌, [], ◌∷◌, map, length, IfOk};
 ghost use Rattle.std.specs.List.{All};
 ghost use Rattle.sq_value.specs.Values.{IsStream};
 ghost use Rattle.sq_graph.specs.Wires.{arcs_of};
-ghost use Rattle.sq_net.specs.Sound.{HasWindow};
+ghost use Rattle.sq_net.specs.Sound.{HasWindow, IsSound};
+ghost use Rattle.sq_points.specs.Limits.{KeepsDropLimits};
 ghost use Rattle.sq_model.specs.Placed.{IsPlaced};
-ghost use Rattle.sq_model.specs.Given.{IsMeasured, AreTicks};
-ghost use Rattle.sq_model.specs.Shedding.{last_of};
+ghost use Rattle.sq_top.specs.Recorded.{AreRecorded};
 
-use sq_model::*;
-use sq_model::{dropped_batches, kept_number};
+use crate::given::read_given;
+use crate::numbers::tuple_at;
 use sq_graph::{BoxKind, BoxWires, Wiring};
+use sq_model::{dropped, fed, full, full_streams, late, stream_in, work};
 use sq_net::{Body, Network, Node, Output, Source};
-use sq_place::{DropAt, DropPoint};
+use sq_plan::Capacities;
+use sq_points::network_points;
 use sq_qos::Graph;
-use sq_road::Levels;
-use sq_value::{Kind, ListOf, Name, Schema, Tuple, Value};
+use sq_replay::read_capacities;
+use sq_value::{Kind, ListOf, Name, Schema, Tuple};
 use std::alloc::{AllocError, Global};
 use std::test::Fail;
-
-// A tuple of one number.
-fn at(alloc: Global, time: u64, v: i64) -> Result<Tuple, AllocError>
-    ensures { IfOk result (λ x. x ≡ record { time = time; fields = Value.Int v ∷ [] }) }
-{
-    let fields = ListOf::new(vec![in alloc; Value::Int(v)]?);
-    Ok(Tuple { time, fields })
-}
 
 // One column `v` of numbers.
 fn numbers(alloc: Global) -> Result<Schema, Fail> {
@@ -115,7 +109,11 @@ fn lines(alloc: Global) -> Result<Vec<Vec<Tuple>>, AllocError>
     ensures count { IfOk result (λ v. length v.items ≡ 1) }
     ensures streams { IfOk result (λ v. All IsStream (map (λ t. t.items) v.items)) }
 {
-    let s = vec![in alloc; at(alloc, 5, 3)?, at(alloc, 6, 1)?, at(alloc, 7, 2)?]?;
+    let s = vec![in alloc;
+        tuple_at(alloc, 5, 3)?,
+        tuple_at(alloc, 6, 1)?,
+        tuple_at(alloc, 7, 2)?,
+    ]?;
     Ok(vec![in alloc; s]?)
 }
 
@@ -136,55 +134,42 @@ fn a_sort_without_slack_leaves_out_late_tuples(rt: HostRuntime) -> Result<(), Fa
     Ok(())
 }
 
-// Batches of four ticks, of which tuples are kept for three ticks more.
-fn drop_of_four(alloc: Global) -> Result<DropPoint, AllocError>
-    ensures { IfOk result IsMeasured }
+/// The batches are as long as the epochs.
+const SUMS: &str = "version = 1
+epoch = 4
+source = [{name='s', file='s.csv', fields=['v:int']}]
+box = [{name='a', kind='aggregate', in=['s'], size=4, advance=4, give=[['t', 'sum', 'v']]}]
+output = [{name='o', from='a'}]
+";
+
+// The record of the first drop, and how many tuples all that is there is fed.
+fn shed(
+    alloc: Global,
+    n: &Network,
+    sources: &[Vec<Tuple>],
+    c: &Capacities,
+) -> Result<(Vec<u64>, u128), Fail>
+    requires sound { IsSound n.now }
+    requires limits { KeepsDropLimits n.now }
+    requires recorded { AreRecorded n.now.sources (map (λ xs. xs.items) sources.now) }
 {
-    Ok(DropPoint {
-        at: DropAt::Stream(0),
-        boxes: ListOf::new(vec![in alloc; 0, 1]?),
-        outputs: ListOf::new(vec![in alloc; 0]?),
-        reach: ListOf::new(vec![in alloc; (0, 0), (1, 3), (2, 6)]?),
-        length: 4,
-        keep: 3,
-    })
+    if network_points(alloc, n)?.is_empty() {
+        return Err(Fail::from("no drop"));
+    }
+    let record = dropped(alloc, n, sources, c, 0, 0)?;
+    let work = work(alloc, n, sources, c, 0)?;
+    Ok((record, work))
 }
 
-// Epochs of four ticks; all is dropped in epochs 1 and 2.
-fn overload(alloc: Global) -> Result<Levels, AllocError>
-    ensures all { IfOk result (λ l. 2 ^ 40 / l.epoch < l.closed) }
-    ensures twelve { IfOk result (λ l. 12 / l.epoch < l.closed) }
-{
-    let mut levels = Levels::new(alloc, 4);
-    levels.set(1, vec![in alloc; 1000]?)?;
-    levels.set(2, vec![in alloc; 1000]?)?;
-    levels.skip_to(1_099_511_627_776);
-    Ok(levels)
-}
-
-fn four_ticks(alloc: Global) -> Result<Vec<Tuple>, AllocError>
-    ensures stream { IfOk result (λ v. IsStream v.items) }
-    ensures ticks { IfOk result (λ v. AreTicks v.items) }
-    ensures last { IfOk result (λ v. last_of v.items ≡ 12) }
-{
-    Ok(vec![in alloc;
-        at(alloc, 0, 0)?,
-        at(alloc, 6, 6)?,
-        at(alloc, 7, 7)?,
-        at(alloc, 12, 12)?,
-    ]?)
-}
-
+// In epochs 1 and 2 all is dropped. The drop is fed four tuples, the box the three that batches 0 and 3 need, and the output the
+// two sums of these.
 #[test]
 fn dropped_batches_keep_no_tuple_for_themselves(rt: HostRuntime) -> Result<(), Fail> {
-    let (p, levels) = (drop_of_four(rt.alloc())?, overload(rt.alloc())?);
-    let full = four_ticks(rt.alloc())?;
-    let record = dropped_batches(rt.alloc(), &full, &levels, 0, 0, &p)?;
-    let kept = (
-        kept_number(&full, &levels, 0, 0, &p, 0),
-        kept_number(&full, &levels, 0, 0, &p, 1),
-    );
+    let alloc = rt.alloc();
+    let given = read_given(alloc, SUMS, b"0,0\n6,6\n7,7\n12,12\n")?;
+    let capacities = read_capacities(alloc, b"0,0\n2,-\n")?;
+    let (record, work) = shed(alloc, &given.network, &given.sources, &capacities)?;
     assert_eq!(rt; record.as_slice(), [1, 2].as_slice());
-    assert_eq!(rt; kept, (3, 2));
+    assert_eq!(rt; work, 4 + 3 + 2);
     Ok(())
 }

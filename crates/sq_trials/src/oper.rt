@@ -1,5 +1,5 @@
-use sq_oper::*;
 use sq_item::{Item, Mark};
+use sq_oper::Outs;
 use std::test::Fail;
 
 #[test]

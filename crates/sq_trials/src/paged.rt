@@ -1,6 +1,6 @@
-use sq_paged::*;
-use sq_item::Mark;
+use sq_item::{Item, Mark};
 use sq_outside::MemDisk;
+use sq_paged::{Head, Queues};
 use std::test::Fail;
 
 #[test]

@@ -1,8 +1,8 @@
 ghost use Rattle.std.specs.Prelude.{◌<◌, ◌≡◌, OnOk};
 ghost use Rattle.sq_pool.specs.Pools.{Agree};
 
-use sq_pool::*;
 use sq_outside::{Flip, MemDisk, PageDisk};
+use sq_pool::{Pool, PoolErr};
 use std::test::Fail;
 
 // A page whose first byte is this.

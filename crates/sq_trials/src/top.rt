@@ -6,17 +6,17 @@ ghost use Rattle.sq_queue.specs.Faces.{Together};
 ghost use Rattle.sq_core.specs.Runs.{IsSoundEngine};
 ghost use Rattle.sq_flow.specs.Flows.{measure_of};
 
-use sq_top::*;
-use sq_top::reading::prepare;
-use sq_top::running::start;
+use crate::given::{Given, read_given};
 use sq_core::Engine;
 use sq_flow::{RunErr, State};
 use sq_oper::Event;
-use sq_outside::{MemDisk, MemFolder, MemSink};
-use sq_sched::Policy;
-use std::alloc::AllocError;
+use sq_outside::{MemDisk, MemFolder, MemSink, PageDisk, Steps};
+use sq_plan::Capacities;
+use sq_sched::{Policy, Rule};
+use sq_top::{Command, Status, drive, read_words, run_words};
+use std::alloc::{AllocError, Global};
 use std::marker::Brand;
-use std::sync::ledger::Blank;
+use std::sync::ledger::{Blank, Ledger};
 use std::test::Fail;
 
 #[test]
@@ -140,20 +140,14 @@ fn written<D: PageDisk, L: Ledger>(
     }
 }
 
-// An engine that has not begun, and what drives it.
-fn begun(alloc: Global, options: &[&str]) -> Result<(Engine, Policy), Fail>
-    ensures sound { IfOk result (λ e. IsSoundEngine e.0) }
-    ensures together { IfOk result (λ e. (pages : Option Pages) → Together (e.0).engine.flow.queues pages) }
+// An engine that has not begun.
+fn begun(alloc: Global) -> Result<Engine, Fail>
+    ensures sound { IfOk result (λ e. IsSoundEngine e) }
+    ensures together { IfOk result (λ e. (pages : Option Pages) → Together e.engine.flow.queues pages) }
 {
-    let words = words_of(alloc, options)?;
-    let mut folder = folder(alloc)?;
-    match prepare(alloc, &words, &mut folder) {
-        Ok(accepted) => match start(alloc, accepted) {
-            Ok(started) => Ok(started),
-            Err(_) => Err(Fail::from("no memory")),
-        },
-        Err(_) => Err(Fail::from("refused")),
-    }
+    let Given { network, sources } = read_given(alloc, NETWORK, stream(alloc)?.as_slice())?;
+    let capacities = Capacities::new(Vec::new(alloc));
+    Ok(Engine::new(alloc, network, sources, capacities, 3, 2)?)
 }
 
 // Up to a train of steps of the actor that a policy picks.
@@ -228,21 +222,29 @@ fn drive_all<D: PageDisk, L: Ledger>(
 #[test]
 fn a_run_puts_the_pages_of_its_engine_stepped_or_driven(rt: HostRuntime) -> Result<(), Fail> {
     let alloc = rt.alloc();
-    for (policy, train) in [("seeded", "5"), ("rr", "16"), ("long", "64")] {
-        let options = options_of(policy, train);
+    for (name, rule, words, train) in [
+        ("seeded", Rule::Seeded, "5", 5),
+        ("rr", Rule::RoundRobin, "16", 16),
+        ("long", Rule::Longest, "64", 64),
+    ] {
         let mut of_run = disk(alloc);
-        let out = written::<MemDisk, Brand>(alloc, &options, &mut of_run, Blank::new(1))?;
+        let out = written::<MemDisk, Brand>(
+            alloc,
+            &options_of(name, words),
+            &mut of_run,
+            Blank::new(1),
+        )?;
         assert_eq!(rt; out.bytes(), lines(alloc)?.as_str().as_bytes());
         assert!(rt; of_run.puts().len() >= 5);
-        let (engine, policy) = begun(alloc, &options)?;
+        let policy = Policy::new(rule, Vec::new(alloc), 3, train);
         let mut of_steps = disk(alloc);
-        step_all::<MemDisk, Brand>(alloc, engine, policy, &mut of_steps, Blank::new(1))?;
+        step_all::<MemDisk, Brand>(alloc, begun(alloc)?, policy, &mut of_steps, Blank::new(1))?;
         assert_eq!(rt; of_steps.puts().as_slice(), of_run.puts().as_slice());
-        let (engine, policy) = begun(alloc, &options)?;
+        let policy = Policy::new(rule, Vec::new(alloc), 3, train);
         let mut of_drive = disk(alloc);
         let state = drive_all::<MemDisk, Brand>(
             alloc,
-            engine,
+            begun(alloc)?,
             policy,
             &mut of_drive,
             Blank::new(1),

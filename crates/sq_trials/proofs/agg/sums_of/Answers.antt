@@ -1,7 +1,7 @@
 use Rattle.std.proofs.Common.{ℕ, List, length, ap₂, ◌∙◌, [], ◌∷◌}
 use Rattle.sq_aggfn.specs.declared.Func.{Func}
 use Rattle.sq_agg.specs.Held.{makes_result}
-use Rattle.sq_agg.proofs.tests.sums_of.Goals as goal
+use Rattle.sq_trials.proofs.agg.sums_of.Goals as goal
 
 pub feed_all-requires-clause-fits : goal.feed_all-requires-clause-fits
 feed_all-requires-clause-fits c = λ v.

@@ -1,6 +1,6 @@
 use Rattle.std.proofs.Common.{◌/◌, ◌<◌, ◌∙◌, ap, sym, subst}
 use Rattle.sq_model.specs.Shedding.{last_of}
-use Rattle.sq_model.proofs.tests.dropped_batches_keep_no_tuple_for_themselves.Goals as goal
+use Rattle.sq_trials.proofs.model.dropped_batches_keep_no_tuple_for_themselves.Goals as goal
 
 pub dropped_batches-requires-clause-known : goal.dropped_batches-requires-clause-known
 dropped_batches-requires-clause-known g c =

@@ -1,7 +1,7 @@
 use Rattle.std.proofs.Common.{◌≡◌, ◌∙◌, [], ◌∷◌}
 use Rattle.sq_model.specs.Placed.{IsPlaced}
 use Rattle.sq_model.proofs.BoxRows.{both_ok, placed_one}
-use Rattle.sq_model.proofs.tests.on_one.Goals as goal
+use Rattle.sq_trials.proofs.model.on_one.Goals as goal
 
 pub returns-clause-placed : goal.returns-clause-placed
 returns-clause-placed c =

@@ -1,7 +1,7 @@
 use Rattle.std.proofs.Common.{◌≡◌, false}
 use Rattle.sq_outside.specs.MemDisks.{told_pages}
 use Rattle.sq_queue.specs.Faces.{face, size, Together}
-use Rattle.sq_queue.proofs.tests.items_in_front_and_in_pages_come_in_order.Given as goal
+use Rattle.sq_trials.proofs.queue.items_in_front_and_in_pages_come_in_order.Given as goal
 
 abbrev pub invariant-loop-time : goal.invariant-loop-time
 invariant-loop-time g l =

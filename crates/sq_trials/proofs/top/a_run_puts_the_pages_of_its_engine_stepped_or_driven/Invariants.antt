@@ -1,4 +1,4 @@
-use Rattle.sq_top.proofs.tests.a_run_puts_the_pages_of_its_engine_stepped_or_driven.Given as goal
+use Rattle.sq_trials.proofs.top.a_run_puts_the_pages_of_its_engine_stepped_or_driven.Given as goal
 
 abbrev pub ghosts-written : goal.ghosts-written
 ghosts-written g a = record { name = a.blank.name; parts = a.blank.parts }

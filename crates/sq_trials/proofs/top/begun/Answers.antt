@@ -1,4 +1,4 @@
-use Rattle.sq_top.proofs.tests.begun.Goals as goal
+use Rattle.sq_trials.proofs.top.begun.Goals as goal
 
 pub start-requires-clause-limits : goal.start-requires-clause-limits
 start-requires-clause-limits c = c.in-Ok.ensures.limits

@@ -3,7 +3,7 @@ use Rattle.sq_value.specs.declared.Value.{Value}
 use Rattle.sq_oper.specs.declared.tally.Place.TheVariants.{Start}
 use Rattle.sq_oper.proofs.FedLemmas.{may-be-fed, place-after-tuple}
 use Rattle.sq_windrop.specs.Drops.{drop_reads}
-use Rattle.sq_windrop.proofs.tests.feed_drop.Goals as goal
+use Rattle.sq_trials.proofs.windrop.feed_drop.Goals as goal
 
 pub feed-requires-clause-may_come : goal.feed-requires-clause-may_come
 feed-requires-clause-may_come g c = may-be-fed _ _ _ 0 0 _ _ c.in_ok-at.ensures (rw c.new-drop.ensures.start.0 refl) (c.new-drop.ensures.fits 0 [])

@@ -1,4 +1,4 @@
-use sq_gen::*;
+use sq_gen::generate;
 use std::test::Fail;
 
 /// The words at number 1 begin 57767974, 3238378154; at number 7 they begin 3983464698, 4158475212, 3231508772, 3623616569,
