@@ -167,7 +167,7 @@ fn shed(
 fn dropped_batches_keep_no_tuple_for_themselves(rt: HostRuntime) -> Result<(), Fail> {
     let alloc = rt.alloc();
     let given = read_given(alloc, SUMS, b"0,0\n6,6\n7,7\n12,12\n")?;
-    let capacities = read_capacities(alloc, b"0,0\n2,-\n")?;
+    let capacities = read_capacities(alloc, b"1,0\n3,-\n")?;
     let (record, work) = shed(alloc, &given.network, &given.sources, &capacities)?;
     assert_eq!(rt; record.as_slice(), [1, 2].as_slice());
     assert_eq!(rt; work, 4 + 3 + 2);
