@@ -25,7 +25,8 @@ fn tuples_of(alloc: Global, source: &Source, text: &[u8]) -> Result<Vec<Tuple>, 
     if text.len() > 1_000_000 {
         return Err(Fail::from("a long text"));
     }
-    Ok(read_stream(alloc, text, &source.schema)?)
+    let tuples = read_stream(alloc, text, &source.schema)?;
+    Ok(tuples)
 }
 
 pub fn read_given(alloc: Global, file: &str, text: &[u8]) -> Result<Given, Fail>
