@@ -1,9 +1,10 @@
-// Tuples of one number, and expressions over pairs of them.
-ghost use Rattle.std.specs.Prelude.{◌≡◌, ◌≤◌, ◌∷◌, [], None, Some, length, IfOk};
+// Tuples of one number, expressions over pairs of them, and marks.
+ghost use Rattle.std.specs.Prelude.{◌≡◌, ◌<◌, ◌≤◌, ◌^◌, ◌∷◌, [], None, Some, length, IfOk};
+ghost use Rattle.sq_item.specs.Sound.{IsMark, IsSound};
 ghost use Rattle.sq_join.specs.Sides.{left_fields};
 
 use sq_expr::{Typed, check, parse};
-use sq_item::Item;
+use sq_item::{Item, Mark};
 use sq_value::{Kind, ListOf, Name, Schema, Tuple, Value};
 use std::alloc::{AllocError, Global};
 use std::test::Fail;
@@ -36,4 +37,18 @@ pub fn over_pairs(alloc: Global, text: &str) -> Result<Typed, Fail>
     let scope = Schema::new(names, vec![in alloc; Kind::Int, Kind::Int]?)?;
     let ast = parse(alloc, text)?;
     Ok(check(alloc, &ast, &scope)?)
+}
+
+/// An item that is a mark alone.
+pub fn mark_at(time: u64, mark: Mark) -> Item
+    requires tick { time < 2 ^ 40 }
+    requires mark { IsMark (Some mark) }
+    ensures sound { IsSound result }
+    ensures value { result ≡ record { time = time; mark = Some mark; body = None } }
+{
+    Item {
+        time,
+        mark: Some(mark),
+        body: None,
+    }
 }

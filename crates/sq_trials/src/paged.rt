@@ -1,7 +1,8 @@
 ghost use Rattle.std.specs.Prelude.{◌≡◌, false, OnOk};
 ghost use Rattle.sq_paged.specs.Faces.{Together, face, size};
 
-use sq_item::{Item, Mark};
+use crate::numbers::mark_at;
+use sq_item::Mark;
 use sq_outside::{MemDisk, PageDisk};
 use sq_paged::{Head, QueueErr, Queues};
 use std::test::Fail;
@@ -14,18 +15,8 @@ fn fill<D: PageDisk>(queues: &mut Queues, disk: &mut D) -> Result<(), QueueErr>
     ensures size { OnOk result (size queues.new ≡ 2) }
     ensures together { OnOk result (Together queues.new (D.pages disk.new)) }
 {
-    let first = Item {
-        time: 5,
-        mark: Some(Mark::Closed),
-        body: None,
-    };
-    let second = Item {
-        time: 7,
-        mark: Some(Mark::Open { until: 9 }),
-        body: None,
-    };
-    queues.push(disk, 1, &first)?;
-    queues.send(disk, 1, second)?;
+    queues.push(disk, 1, &mark_at(5, Mark::Closed))?;
+    queues.send(disk, 1, mark_at(7, Mark::Open { until: 9 }))?;
     queues.end(1);
     Ok(())
 }
