@@ -1,9 +1,9 @@
-//! The program `aurora`: what the words after its name ask for, over the files of the working folder and the standard
-//! streams.
+//! The program `aurora`: what the words after its name ask for, a run of the working folder's files or of what a number
+//! makes, over the standard streams.
 //!
 //! It promises nothing beyond `run_words` of `sq_top`, which it calls once over the real objects of `outside`. They
-//! tell no content, so of a run of the program the contract says how it ended, and what was written is shown by a
-//! stored run. Its exit code is that of the status.
+//! tell no content, so of a run of files the contract says how it ended, and what was written is shown by a stored run.
+//! Its exit code is that of the status.
 #![tactic(auto)]
 
 ghost use Rattle.std.specs.Prelude.{◌≡◌, ◌<◌};

@@ -12,13 +12,14 @@ ghost use Rattle.sq_oper.specs.Order.{IsFuture, time_of};
 ghost use Rattle.sq_oper.specs.Streams.{things, tuples_of, at_zero};
 ghost use Rattle.sq_tagged.specs.Tagged.{spread_of, tagged_of};
 ghost use Rattle.sq_tagged.specs.Boxes.{aggregate_tagged};
+ghost use Rattle.sq_pane.specs.States.{states_of};
 ghost use Rattle.sq_agg.specs.Positions.{open_at};
-ghost use Rattle.sq_agg.specs.Held.{HoldsPanes, MarksWait, OnlyOpen, aggregate_rest, bounds_of, folding_of, makes_result, takes_marks_at};
+ghost use Rattle.sq_agg.specs.Held.{EndsFirst, HoldsPanes, MarksWait, OnlyOpen, aggregate_rest, bounds_of, folding_of, makes_result, takes_marks_at};
 
 use crate::grow::add_body;
 use crate::held::give_before;
 use crate::waiting::Waiting;
-use crate::windows::windows_before;
+use crate::windows::{forget_ended, next_end, windows_before, windows_ending};
 use sq_aggfn::{Fold, WindowSpec};
 use sq_item::Item;
 use sq_oper::{Decision, Operator, Outs, Place, Tally};
@@ -40,6 +41,7 @@ pub struct AggregateBox<F: Fold + Drop> {
     panes: Panes<F>,
     group: Vec<u32>,
     time: u64,
+    ends: u64,
     waiting: Waiting,
     tally: Tally,
 }
@@ -74,6 +76,7 @@ impl<F: Fold + Drop> AggregateBox<F> {
             panes: Panes::new(alloc, fold, window),
             group,
             time: 0,
+            ends: window.size,
             waiting: Waiting::new(alloc, marked),
             tally: Tally::new(),
         }
@@ -90,9 +93,9 @@ fn first_open(size: u64, time: u64) -> u64
 
 impl<F: Fold + Drop> Operator for AggregateBox<F> {
     ghost valid = { λ s. IsWindow s.panes.window × (time_of s.tally.place < 2 ^ 40) × (IsGcd s.panes.window.size s.panes.window.advance s.panes.width × (1 ≤ s.panes.width))
-        × HoldsPanes (F.made s.panes.fold) (F.number s.panes.fold) s.panes.width (F.width s.panes.fold) s.tally.taken s.tally.place s.panes.held.entries
-        × (s.tally.taken < 2 ^ 62) × (s.tally.running ≡ false → s.panes.held.entries ≡ []) × MarksWait s.panes.window.size (time_of s.tally.place) (bounds_of s.waiting).waiting
-        × (s.time ≡ time_of s.tally.place) };
+        × HoldsPanes (F.made s.panes.fold) (F.number s.panes.fold) s.panes.width (F.width s.panes.fold) s.tally.taken s.tally.place (states_of s.panes.held.entries)
+        × (s.tally.taken < 2 ^ 62) × (s.tally.running ≡ false → (states_of s.panes.held.entries) ≡ []) × MarksWait s.panes.window.size (time_of s.tally.place) (bounds_of s.waiting).waiting
+        × (s.time ≡ time_of s.tally.place) × EndsFirst s.panes.window s.time s.ends };
 
     ghost running = { λ s. s.tally.running };
 
@@ -106,7 +109,7 @@ impl<F: Fold + Drop> Operator for AggregateBox<F> {
 
     ghost reads = { λ s epoch. true };
 
-    ghost rest = { λ s table future q. aggregate_rest (folding_of s.group.items (F.none s.panes.fold) (F.joined s.panes.fold) (F.unit s.panes.fold) (F.told s.panes.fold)) s.panes.window s.panes.width (time_of s.tally.place) (bounds_of s.waiting) s.panes.held.entries future q };
+    ghost rest = { λ s table future q. aggregate_rest (folding_of s.group.items (F.none s.panes.fold) (F.joined s.panes.fold) (F.unit s.panes.fold) (F.told s.panes.fold)) s.panes.window s.panes.width (time_of s.tally.place) (bounds_of s.waiting) (states_of s.panes.held.entries) future q };
 
     ghost decides = { λ s table future. [] };
 
@@ -127,9 +130,10 @@ impl<F: Fold + Drop> Operator for AggregateBox<F> {
         let time = item.time;
         let fed = item.body.is_some();
         let open = first_open(self.panes.window.size, time);
-        let mut due = windows_before(&self.panes, &self.waiting, self.time, open)?;
+        let mut due = windows_ending(&self.panes, &self.waiting, self.time, self.ends, time, open)?;
         give_before(&self.panes.fold, &mut due, &mut self.waiting, open, out)?;
-        self.panes.forget(open);
+        forget_ended(&mut self.panes, self.ends <= time, open);
+        self.ends = next_end(self.panes.window, self.ends, time);
         self.time = time;
         self.waiting
             .push(self.panes.window.size - 1, time, item.mark)?;

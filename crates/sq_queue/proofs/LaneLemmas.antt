@@ -48,7 +48,7 @@ pub record Appends (lane new : Lane) (item : Item) : Type 0 where
   pub count : new.count ≡ lane.count + 1
   pub behind : new.behind ≡ lane.behind
 
-pub appended-lane : (lane new : Lane) (item : Item) (paged : Face) → IsLane (Some lane) paged → Appends lane new item → IsSound item → length lane.front.items < 64 → IsLane (Some new) paged
+pub appended-lane : (lane new : Lane) (item : Item) (paged : Face) → IsLane (Some lane) paged → Appends lane new item → IsSound item → length lane.front.items < 256 → IsLane (Some new) paged
 appended-lane lane new item paged l a sound room =
     let more : length new.front.items ≡ length lane.front.items + 1 = ap length a.front ∙ length-append lane.front.items (item ∷ []) in
     record {

@@ -1,14 +1,11 @@
 -- How an engine goes on, step by step, to its end, or stops on the way.
-use Rattle.std.proofs.Common.{◌≡◌, ◌⊎◌, inl, inr, ℕ, ◌+◌, ◌<◌, ◌≤◌, ◌^◌, true, List, [], ◌∷◌, ◌++◌, length, refl, ap, sym, ◌∙◌, subst, arith, append_assoc, append-nil, Option, Some}
-use Rattle.std.specs.Prelude.{is_some, slice_get, Result, Ok, Err, OnErr, IfErr}
+use Rattle.std.proofs.Common.{◌≡◌, inl, inr, ℕ, ◌<◌, ◌≤◌, ◌^◌, List, [], ◌++◌, length, ap, sym, ◌∙◌, subst, arith, append_assoc, append-nil, Option}
+use Rattle.std.specs.Prelude.{is_some, Result, Ok, Err, OnErr, IfErr}
 use Rattle.std.specs.List.{AllByRecursion}
 use Rattle.std.proofs.lemmas.Grind.{flat_map-append}
-use Rattle.sq_value.specs.declared.Tuple.{Tuple}
 use Rattle.sq_value.specs.Lists.{IsPrefixOf}
 use Rattle.sq_outside.specs.Disks.{Pages}
-use Rattle.sq_outside.specs.Faults.{Rose}
 use Rattle.sq_outside.specs.Sinks.{AppendsPrefix, appended}
-use Rattle.sq_outside.proofs.SinkLemmas.{appended-append}
 use Rattle.sq_net.specs.declared.Network.{Network}
 use Rattle.sq_net.specs.Sound.{IsSound}
 use Rattle.sq_oper.specs.declared.outs.Event.{Event}
@@ -20,20 +17,19 @@ use Rattle.sq_start.specs.Nets.{drop_decisions}
 use Rattle.sq_model.proofs.StreamTypes.{some-at}
 use Rattle.sq_paged.specs.Fronts.{Tells}
 use Rattle.sq_flow.specs.declared.errors.RunErr.{RunErr}
-use Rattle.sq_flow.specs.declared.errors.RunErr.TheVariants as run_err
 use Rattle.sq_flow.specs.Events.{drops_of}
 use Rattle.sq_core.specs.declared.engine.Engine.{Engine}
 use Rattle.sq_core.specs.Runs.{IsRun, ShownAll, ShownSoFar, Stopped}
 use Rattle.sq_core.proofs.RunLemmas.{shown-so-far}
 use Rattle.sq_top.specs.declared.Status.{Status}
 use Rattle.sq_top.specs.declared.Status.TheVariants as status
-use Rattle.sq_top.specs.Due.{answer_in, turns_in, work_in}
+use Rattle.sq_top.specs.Due.{answer_in, turns_in}
 use Rattle.sq_top.specs.Writing.{IsLost, Moves}
 use Rattle.sq_top.specs.Stopping.{is_changed, status_of}
-use Rattle.sq_top.specs.Driving.{Begins, Completes, GoesOn, IsDriven, IsEventAt, IsHalted, Stops, StopsBehind, history_text}
+use Rattle.sq_top.specs.Driving.{Begins, Completes, GoesOn, IsDriven, IsEventAt, IsHalted, Stops, history_text}
 use Rattle.sq_top.proofs.ClassLemmas.{all_append}
 use Rattle.sq_top.proofs.StopLemmas.{lost_unchanged, step_much, step_unchanged}
-use Rattle.sq_top.proofs.WritingLemmas.{appended-nil, lost_at_once, moves-lost, moves-then, prefix_longer}
+use Rattle.sq_top.proofs.WritingLemmas.{appended-nil, lost_at_once, moves-lost, moves-then}
 
 -- an event of the run has its text
 pub line_event : (n : Network) (e : Event) → IsEventAt n e → IsEventOf n e
@@ -54,7 +50,7 @@ begins_so_far r sound history begun steps far = record {
   plans = far.plans;
 }
 
-completes : (r : Replay) → IsSound r.network → (engine : Engine) (history : List Event) (begun steps : ℕ) → ShownAll r engine history begun steps → Completes r.network (answer_in r) history
+pub completes : (r : Replay) → IsSound r.network → (engine : Engine) (history : List Event) (begun steps : ℕ) → ShownAll r engine history begun steps → Completes r.network (answer_in r) history
 completes r sound engine history begun steps all = record {
   lines = λ o low. all.lines o (wired r sound o low);
   drops = λ w low. let p = some-at (points_of r.network) w low in all.drops w p.0 p.1 ∙ ap (drop_decisions r w) (sym p.1);
@@ -78,7 +74,7 @@ so_far : (r : Replay) (pages : Option Pages) (engine : Engine) (history : List E
     → ShownSoFar r history begun steps
 so_far r pages engine history begun steps run tells = shown-so-far engine r pages history begun steps tells run
 
-sound_run : (r : Replay) (pages : Option Pages) (engine : Engine) (history : List Event) (begun steps : ℕ) → IsRun r pages engine history begun steps → IsSound r.network
+pub sound_run : (r : Replay) (pages : Option Pages) (engine : Engine) (history : List Event) (begun steps : ℕ) → IsRun r pages engine history begun steps → IsSound r.network
 sound_run r pages engine history begun steps run = subst IsSound run.network run.sound.network
 
 -- what was shown so far begins the answer

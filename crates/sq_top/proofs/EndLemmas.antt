@@ -6,7 +6,7 @@ use Rattle.std.specs.List.{AllByRecursion, flat_map, list_all, list_any, range_w
 use Rattle.std.proofs.lemmas.Bool.Decides.{nat_tests}
 use Rattle.std.proofs.lemmas.List.Elements.{recursion_from_All}
 use Rattle.sq_value.specs.declared.Tuple.{Tuple}
-use Rattle.sq_value.specs.Lists.{contains_bytes, numbers_to, same_bytes, IsPrefixOf}
+use Rattle.sq_value.specs.Lists.{contains_bytes, numbers_to, same_bytes}
 use Rattle.sq_value.specs.Classes.{Shown, Dropped, Planned, Ended, second_field}
 use Rattle.sq_value.proofs.ListLemmas.{same_bytes-refl}
 use Rattle.sq_value.specs.LineTexts.{drop_line, line_of, needs_quotes, output_line, plan_line, late_line, end_line}
@@ -15,7 +15,7 @@ use Rattle.sq_value.proofs.RowLemmas.{first_field-line_of, is_line-line_of}
 use Rattle.sq_outside.specs.Faults.{Rose}
 use Rattle.sq_outside.specs.Folders.{Files, file}
 use Rattle.sq_outside.specs.Disks.{Pages}
-use Rattle.sq_outside.specs.Sinks.{AppendsPrefix, appended}
+use Rattle.sq_outside.specs.Sinks.{appended}
 use Rattle.sq_net.specs.declared.NetErr.{NetErr}
 use Rattle.sq_net.specs.declared.NetErr.TheVariants as net
 use Rattle.sq_net.specs.declared.Network.{Network}
@@ -47,16 +47,21 @@ use Rattle.sq_points.proofs.Bounds.{few_places}
 use Rattle.std.proofs.lemmas.Fmt.{decimal_nonempty}
 use Rattle.sq_top.specs.Due.{Answer, Due, answer_in, drops_in, dropped_from, due_from, due_in, due_of, ended_in, fed_in, late_in, plan_text, replayed, shown_from, turns_in, work_in}
 use Rattle.sq_top.specs.Answers.{IsPrefixText, IsWholeText}
+use Rattle.sq_gen.specs.declared.Made.{Made}
+use Rattle.sq_gen.specs.Files.{made_of}
+use Rattle.sq_top.specs.Made.{HasBadMade, NamesMade}
+use Rattle.sq_top.specs.Messages.{name_at, network_named, source_name}
+use Rattle.sq_top.specs.Summaries.{summary_of}
 use Rattle.sq_top.specs.Driving.{IsCutShort}
 use Rattle.sq_top.specs.declared.RunArgs.{RunArgs}
 use Rattle.sq_plan.specs.Plans.{Entries}
 use Rattle.sq_replay.specs.Entries.{capacities_in, picks_in}
-use Rattle.sq_top.specs.Scripts.{Lookup, Replay, accepted, after_capacities, after_network, after_picks, after_stream, after_streams, after_words, capacities_script, go_on, outcome_of, picks_script, readable, settings_limit, stream_limit, unread, with_sources, Script}
+use Rattle.sq_top.specs.Scripts.{Lookup, Replay, accepted, after_capacities, after_network, after_picks, after_stream, after_streams, after_words, capacities_script, go_on, made_limits, made_script, made_sources, made_streams, made_unread, outcome_of, picks_script, readable, script_of, settings_limit, stream_limit, unread, with_sources, Script, Done, Stops}
 use Rattle.sq_paged.specs.Fronts.{Tells}
 use Rattle.sq_top.specs.Stopping.{StopHasCause, is_changed}
-use Rattle.sq_top.specs.Causes.{AnswersPrefix, AppendsSuch, Ends, EndsOk, HasFailedAt, IsEngineOf, IsStopped, MatchAccepted, NamesSource, RefusalHasCause, TooMuchHasCause, WhereTold, World, is_refusal}
+use Rattle.sq_top.specs.Causes.{AnswersPrefix, AppendsSuch, BeginsSummary, Ends, EndsOk, HasFailedAt, IsEngineOf, IsPrefixOfDue, IsStopped, IsWholeOf, LeadsWhereTold, MatchAccepted, NamesSource, files_for, looked_at, RefusalHasCause, TooMuchHasCause, WhereTold, World, is_refusal}
 use Rattle.sq_top.proofs.SortedLines.{and-true}
-use Rattle.sq_top.proofs.StoppedLemmas.{at_told, some_none, where_told}
+use Rattle.sq_top.proofs.StoppedLemmas.{at_told, some_none, stopped_memory, stopped_rule, told_self, where_told}
 use Rattle.sq_top.proofs.StopLemmas.{refused_stop, refused_unchanged, stop_map}
 use Rattle.sq_top.proofs.ClassLemmas.{IsLineOf, IsPlainName, TellsClasses, is_end_field}
 use Rattle.sq_top.proofs.OrderLemmas.{prefix_text}
@@ -244,9 +249,27 @@ network_file_ok : (files : Lookup) (args : RunArgs) (read : Result (List ℕ) St
 network_file_ok files args (Ok bytes) r e = network_ok files args bytes (network_in bytes) r refl e
 network_file_ok files args (Err s) r e = absurd (cc)
 
+-- and of what is made
+module _ (files : Lookup) where
+  made_streams_ok : (stream : List ℕ) (p : Replay) (left : List Source) (r : Replay) → outcome_of files (made_streams stream p left) ≡ Ok r → p.network ≡ r.network
+  made_streams_ok stream p [] r e = let same : p ≡ r = cc in ap (λ (x : Replay). x.network) same
+  made_streams_ok stream p (s ∷ left) r e =
+      let more = λ (xs : List Tuple). made_streams stream (with_sources p (p.sources ++ xs ∷ [])) left in
+      stream_ok files p.network (length p.sources) more r (stream_in s.schema stream) (λ xs. made_streams_ok stream (with_sources p (p.sources ++ xs ∷ [])) left r) e
+
+  made_sources_ok : (number : ℕ) (stream : List ℕ) (n : Network) (o : Result Entries ℕ) (r : Replay) → outcome_of files (made_sources number stream n o) ≡ Ok r → n ≡ r.network
+  made_sources_ok number stream n (Ok entries) r e = made_streams_ok stream (made_unread number n entries) n.sources r e
+  made_sources_ok number stream n (Err line) r e = absurd (cc)
+
+  made_ok : (number : ℕ) (made : Made) (o : Result Network NetErr) (r : Replay) → network_in made.net ≡ o → outcome_of files (made_limits number made o) ≡ Ok r → IsFileOf r.network
+  made_ok number made (Ok n) r said e =
+      (made.net, said ∙ ap (λ (x : Network). Ok x) (made_sources_ok number made.stream n (capacities_in made.capacities) r e))
+  made_ok number made (Err s) r said e = absurd (cc)
+
 command_ok : (files : Lookup) (o : Option Command) (r : Replay) → outcome_of files (after_words o) ≡ Ok r → IsFileOf r.network
 command_ok files None r e = absurd (cc)
 command_ok files (Some (command.Run args)) r e = network_file_ok files args (readable args.net settings_limit (files args.net)) r e
+command_ok files (Some (command.Gen number rows)) r e = made_ok files number (made_of number rows) (network_in (made_of number rows).net) r refl e
 
 pub accepted_tells_classes : (files : Lookup) (words : List (List ℕ)) (r : Replay) → accepted files words ≡ Ok r → TellsClasses (due_of r)
 accepted_tells_classes files words r e =
@@ -257,7 +280,7 @@ no_text : (d : Due) → TellsClasses d → IsPrefixText d []
 no_text d s = prefix_text d [] [] s tt ([], refl)
 
 -- nothing was written
-appends_none : (o : Option (List ℕ)) (P : List ℕ → Type 0) → P [] → AppendsSuch o o P
+pub appends_none : (o : Option (List ℕ)) (P : List ℕ → Type 0) → P [] → AppendsSuch o o P
 appends_none None P p = refl
 appends_none (Some before) P p = ([], ap Some (sym (append-nil before)), p)
 
@@ -265,22 +288,71 @@ pub appends_all : (before now : Option (List ℕ)) (text : List ℕ) (P : List �
 appends_all None now text P e p = e
 appends_all (Some before) now text P e p = (text, e, p)
 
+appends_map : (before now : Option (List ℕ)) (P Q : List ℕ → Type 0) → ((text : List ℕ) → P text → Q text) → AppendsSuch before now P → AppendsSuch before now Q
+appends_map None now P Q f a = a
+appends_map (Some before) now P Q f a = (a.0, a.1, f a.0 a.2)
+
+-- the texts of a run
+pub whole_of_run : (c : Option Command) (args : RunArgs) (r : Replay) (before now : Option (List ℕ)) → c ≡ Some (command.Run args)
+    → AppendsSuch before now (IsWholeText (due_of r)) → AppendsSuch before now (IsWholeOf c r)
+whole_of_run c args r before now e a = subst (λ o. AppendsSuch before now (IsWholeOf o r)) (sym e) a
+
+pub prefix_of_run : (c : Option Command) (args : RunArgs) (r : Replay) (s : Status) (before now : Option (List ℕ)) → c ≡ Some (command.Run args)
+    → AppendsSuch before now (IsPrefixText (due_of r)) → AppendsSuch before now (IsPrefixOfDue c r s)
+prefix_of_run c args r s before now e a = subst (λ o. AppendsSuch before now (IsPrefixOfDue o r s)) (sym e) a
+
+-- and of what is made
+pub whole_of_made : (c : Option Command) (number rows : ℕ) (r : Replay) (before now : Option (List ℕ)) → c ≡ Some (command.Gen number rows)
+    → AppendsSuch before now (λ text. text ≡ summary_of number rows (replayed r)) → AppendsSuch before now (IsWholeOf c r)
+whole_of_made c number rows r before now e a = subst (λ o. AppendsSuch before now (IsWholeOf o r)) (sym e) a
+
+pub prefix_of_made : (c : Option Command) (number rows : ℕ) (r : Replay) (s : Status) (before now : Option (List ℕ)) → c ≡ Some (command.Gen number rows)
+    → AppendsSuch before now (BeginsSummary number rows (replayed r) s) → AppendsSuch before now (IsPrefixOfDue c r s)
+prefix_of_made c number rows r s before now e a = subst (λ o. AppendsSuch before now (IsPrefixOfDue o r s)) (sym e) a
+
+no_due : (c : Option Command) (r : Replay) (s : Status) → TellsClasses (due_of r) → IsPrefixOfDue c r s []
+no_due None r s tells = no_text (due_of r) tells
+no_due (Some (command.Run args)) r s tells = no_text (due_of r) tells
+no_due (Some (command.Gen number rows)) r s tells = ((summary_of number rows (replayed r), refl), λ other. refl)
+
+-- what is written at a status but that of the sink's may be at want of memory
+due_memory : (c : Option Command) (r : Replay) (s : Status) → s ≢ status.SinkFault → (text : List ℕ) → IsPrefixOfDue c r s text → IsPrefixOfDue c r status.Memory text
+due_memory None r s other text p = p
+due_memory (Some (command.Run args)) r s other text p = p
+due_memory (Some (command.Gen number rows)) r s other text p = (p.0, λ memory. p.1 other)
+
 -- each outcome of the words and files has its fact
 match_each : (o : Result Replay Status) (P : Replay → Type 0) (Q : Status → Type 0) → ((r : Replay) → o ≡ Ok r → P r) → ((s : Status) → o ≡ Err s → Q s) → MatchAccepted o P Q
 match_each (Ok r) P Q p q = p r refl
 match_each (Err s) P Q p q = q s refl
 
-nothing_written : (files : Files) (words : List (List ℕ)) (pages : Option Pages) (out : Option (List ℕ)) (steps : ℕ) → AnswersPrefix files words pages out out steps steps
-nothing_written files words pages out steps =
-    match_each (accepted (file files) words) _ _
-    (λ r e told. (appends_none out (IsPrefixText (due_of r)) (no_text (due_of r) (accepted_tells_classes (file files) words r e)), omega arith))
-    (λ s e. (refl, refl))
+match_map : (o : Result Replay Status) (P P' : Replay → Type 0) (Q : Status → Type 0) → ((r : Replay) → P r → P' r) → MatchAccepted o P Q → MatchAccepted o P' Q
+match_map (Ok r) P P' Q f m = f r m
+match_map (Err s) P P' Q f m = m
 
-nothing_between : (files : Files) (words : List (List ℕ)) (pages : Option Pages) (out_before out_now : Option (List ℕ)) (steps_before steps_now : ℕ) → out_now ≡ out_before
-    → steps_now ≡ steps_before → AnswersPrefix files words pages out_before out_now steps_before steps_now
-nothing_between files words pages out_before out_now steps_before steps_now e f =
-    subst (λ o. AnswersPrefix files words pages out_before o steps_before steps_now) (sym e)
-    (subst (λ k. AnswersPrefix files words pages out_before out_before steps_before k) (sym f) (nothing_written files words pages out_before steps_before))
+nothing_written : (files : Files) (words : List (List ℕ)) (pages : Option Pages) (s : Status) (out : Option (List ℕ)) (steps : ℕ) → AnswersPrefix files words pages s out out steps steps
+nothing_written files words pages s out steps =
+    match_each (accepted (file files) words) _ _
+    (λ r e told. (appends_none out (IsPrefixOfDue (command_in words) r s) (no_due (command_in words) r s (accepted_tells_classes (file files) words r e)), omega arith))
+    (λ t e. (refl, refl))
+
+nothing_between : (files : Files) (words : List (List ℕ)) (pages : Option Pages) (s : Status) (out_before out_now : Option (List ℕ)) (steps_before steps_now : ℕ) → out_now ≡ out_before
+    → steps_now ≡ steps_before → AnswersPrefix files words pages s out_before out_now steps_before steps_now
+nothing_between files words pages s out_before out_now steps_before steps_now e f =
+    subst (λ o. AnswersPrefix files words pages s out_before o steps_before steps_now) (sym e)
+    (subst (λ k. AnswersPrefix files words pages s out_before out_before steps_before k) (sym f) (nothing_written files words pages s out_before steps_before))
+
+prefix_memory : (files : Files) (words : List (List ℕ)) (pages : Option Pages) (s : Status) (out_before out_now : Option (List ℕ)) (steps_before steps_now : ℕ) → s ≢ status.SinkFault
+    → AnswersPrefix files words pages s out_before out_now steps_before steps_now → AnswersPrefix files words pages status.Memory out_before out_now steps_before steps_now
+prefix_memory files words pages s out_before out_now steps_before steps_now other =
+    match_map (accepted (file files) words)
+    (λ r. Tells pages → AppendsSuch out_before out_now (IsPrefixOfDue (command_in words) r s) × (steps_now ≤ steps_before + work_in (replayed r)))
+    (λ r. Tells pages → AppendsSuch out_before out_now (IsPrefixOfDue (command_in words) r status.Memory) × (steps_now ≤ steps_before + work_in (replayed r)))
+    (λ t. (out_now ≡ out_before) × (steps_now ≡ steps_before))
+    (λ r prefix told. (
+      appends_map out_before out_now (IsPrefixOfDue (command_in words) r s) (IsPrefixOfDue (command_in words) r status.Memory) (due_memory (command_in words) r s other) (prefix told).0,
+      (prefix told).1,
+    ))
 
 not_ok : (s : Status) → (is_refusal s ≡ true) ⊎ (s ≡ status.Memory) → s ≡ status.Ok → ⊥
 not_ok s (inl refused) e = let r : is_refusal status.Ok ≡ true = subst (λ x. is_refusal x ≡ true) e refused in cc
@@ -306,8 +378,8 @@ pub stopped_ends : (words : List (List ℕ)) (w : World) (s : Status) (source : 
     → w.out_now ≡ w.out_before → w.steps_now ≡ w.steps_before → Ends words w s source
 stopped_ends words w s source h out steps = record {
   ok = λ e. absurd (not_ok s h.ends e);
-  other = λ e. where_told w.told (λ files. AnswersPrefix files words w.pages w.out_before w.out_now w.steps_before w.steps_now)
-      (λ files t. nothing_between files words w.pages w.out_before w.out_now w.steps_before w.steps_now out steps);
+  other = λ e. where_told w.told (λ files. AnswersPrefix files words w.pages s w.out_before w.out_now w.steps_before w.steps_now)
+      (λ files t. nothing_between files words w.pages s w.out_before w.out_now w.steps_before w.steps_now out steps);
   refused_early = λ e. (out, steps);
   usage = h.usage;
   refusal = h.refusal;
@@ -350,9 +422,9 @@ module _ (words : List (List ℕ)) (w : World) (r : Replay) (source : List ℕ) 
   at_replay : (P : Replay → Type 0) (Q : Status → Type 0) → P r → WhereTold w.told (λ files. MatchAccepted (accepted (file files) words) P Q)
   at_replay P Q p = where_told w.told (λ files. MatchAccepted (accepted (file files) words) P Q) (λ files t. subst (λ o. MatchAccepted o P Q) (sym (accepted_at files t)) p)
 
-  pub answered_ok : (Tells w.pages → AppendsSuch w.out_before w.out_now (IsWholeText (due_of r)) × (w.steps_now ≡ w.steps_before + work)) → Ends words w status.Ok source
+  pub answered_ok : (Tells w.pages → AppendsSuch w.out_before w.out_now (IsWholeOf (command_in words) r) × (w.steps_now ≡ w.steps_before + work)) → Ends words w status.Ok source
   answered_ok whole = record {
-    ok = λ e. at_replay (λ x. Tells w.pages → AppendsSuch w.out_before w.out_now (IsWholeText (due_of x)) × (w.steps_now ≡ w.steps_before + work_in (replayed x))) (λ u. ⊥) whole;
+    ok = λ e. at_replay (λ x. Tells w.pages → AppendsSuch w.out_before w.out_now (IsWholeOf (command_in words) x) × (w.steps_now ≡ w.steps_before + work_in (replayed x))) (λ u. ⊥) whole;
     other = λ e. absurd (e refl);
     refused_early = λ e. absurd (cc);
     usage = record { only = λ e. absurd (cc); when = λ e. absurd (some_none (command_in words) some e) };
@@ -392,10 +464,10 @@ module _ (words : List (List ℕ)) (w : World) (r : Replay) (source : List ℕ) 
   -- the answer is cut short
   pub answered_cut : (s : Status) → IsCutShort w.sink_before w.sink_now s → StopHasCause (λ e. e.network ≡ r.network) w.disk_before w.disk_now s
       → (Tells w.pages → is_changed s ≡ false) → (Tells w.pages → s ≡ status.TooMuch → 2 ^ 62 ≤ turns)
-      → (Tells w.pages → AppendsSuch w.out_before w.out_now (IsPrefixText (due_of r)) × (w.steps_now ≤ w.steps_before + work)) → Ends words w s source
+      → (Tells w.pages → AppendsSuch w.out_before w.out_now (IsPrefixOfDue (command_in words) r s) × (w.steps_now ≤ w.steps_before + work)) → Ends words w s source
   answered_cut s cut stop same much first = record {
     ok = λ e. absurd (cut.no_end e);
-    other = λ e. at_replay (λ x. Tells w.pages → AppendsSuch w.out_before w.out_now (IsPrefixText (due_of x)) × (w.steps_now ≤ w.steps_before + work_in (replayed x)))
+    other = λ e. at_replay (λ x. Tells w.pages → AppendsSuch w.out_before w.out_now (IsPrefixOfDue (command_in words) x s) × (w.steps_now ≤ w.steps_before + work_in (replayed x)))
         (λ u. (w.out_now ≡ w.out_before) × (w.steps_now ≡ w.steps_before)) first;
     refused_early = λ e. let both : true ≡ false = sym e ∙ cut.begun in absurd (cc);
     usage = record { only = λ e. absurd (begun s status.Usage cut.begun refl e); when = λ e. absurd (some_none (command_in words) some e) };
@@ -416,11 +488,14 @@ module _ (words : List (List ℕ)) (w : World) (r : Replay) (source : List ℕ) 
     named = names_none s cut.begun;
   }
 
--- any end but Ok may be one for want of memory
-pub memory_ends : (words : List (List ℕ)) (w : World) (s : Status) (source other : List ℕ) → s ≢ status.Ok → Ends words w s source → Ends words w status.Memory other
-memory_ends words w s source other differs h = record {
+-- any end but Ok and that of the sink may be one for want of memory
+pub memory_ends : (words : List (List ℕ)) (w : World) (s : Status) (source other : List ℕ) → s ≢ status.Ok → s ≢ status.SinkFault → Ends words w s source
+    → Ends words w status.Memory other
+memory_ends words w s source other differs dry' h = record {
   ok = λ e. absurd (cc);
-  other = λ e. h.other differs;
+  other = λ e. where_told w.told (λ files. AnswersPrefix files words w.pages status.Memory w.out_before w.out_now w.steps_before w.steps_now)
+      (λ files t. prefix_memory files words w.pages s w.out_before w.out_now w.steps_before w.steps_now dry'
+      (at_told w.told (λ x. AnswersPrefix x words w.pages s w.out_before w.out_now w.steps_before w.steps_now) files t (h.other differs)));
   refused_early = λ e. absurd (cc);
   usage = record { only = λ e. absurd (cc); when = λ e. inr refl };
   refusal = where_told w.told (λ files. RefusalHasCause files words w.folder_before w.folder_now status.Memory) (λ files t. record {
@@ -439,6 +514,42 @@ memory_ends words w s source other differs h = record {
 }
 
 -- an end that is told stays, or is one for want of memory
-pub told_ends : (words : List (List ℕ)) (w : World) (s told : Status) (source : List ℕ) → s ≢ status.Ok → (told ≡ s) ⊎ (told ≡ status.Memory) → Ends words w s source → Ends words w told source
+pub told_ends : (words : List (List ℕ)) (w : World) (s told : Status) (source : List ℕ) → s ≢ status.Ok → (told ≡ s) ⊎ ((told ≡ status.Memory) × (s ≢ status.SinkFault))
+    → Ends words w s source → Ends words w told source
 told_ends words w s told source differs (inl same) h = subst (λ x. Ends words w x source) (sym same) h
-told_ends words w s told source differs (inr memory) h = subst (λ x. Ends words w x source) (sym memory) (memory_ends words w s source source differs h)
+told_ends words w s told source differs (inr memory) h = subst (λ x. Ends words w x source) (sym memory.0) (memory_ends words w s source source differs memory.1 h)
+
+-- a run looks at the files that are told, and what is made at none
+pub files_of_run : (words : List (List ℕ)) (args : RunArgs) (told : Option Files) → command_in words ≡ Some (command.Run args) → files_for words told ≡ told
+files_of_run words args told e = ap (λ c. looked_at c told) e
+
+pub where_run : (words : List (List ℕ)) (args : RunArgs) (told : Option Files) (P : Files → Type 0) → command_in words ≡ Some (command.Run args) → WhereTold told P
+    → WhereTold (files_for words told) P
+where_run words args told P e h = subst (λ t. WhereTold t P) (sym (files_of_run words args told e)) h
+
+pub stopped_run : (words : List (List ℕ)) (args : RunArgs) (told : Option Files) (fb fn tb tn : ℕ) (s : Status) (source : List ℕ) → command_in words ≡ Some (command.Run args)
+    → IsStopped words told fb fn tb tn s source → IsStopped words (files_for words told) fb fn tb tn s source
+stopped_run words args told fb fn tb tn s source e h = subst (λ t. IsStopped words t fb fn tb tn s source) (sym (files_of_run words args told e)) h
+
+-- what is made comes to what it is said to, whatever the files
+module _ (words : List (List ℕ)) (number rows : ℕ) (asked : command_in words ≡ Some (command.Gen number rows)) (told : Option Files) where
+  script_made : (x : Script) → made_script number (made_of number rows) ≡ x → script_of words ≡ x
+  script_made x e = ap after_words asked ∙ e
+
+  pub is_made : IsSome (command_in words)
+  is_made = rw asked refl
+
+  pub accepted_made : (r : Replay) → made_script number (made_of number rows) ≡ Done r → WhereTold told (λ files. accepted (file files) words ≡ Ok r)
+  accepted_made r e = where_told told (λ files. accepted (file files) words ≡ Ok r) (λ files t. ap (outcome_of (file files)) (script_made (Done r) e))
+
+  pub stopped_made : (fb fn tb tn : ℕ) (s : Status) (source : List ℕ) → HasBadMade number rows s source → IsStopped words told fb fn tb tn s source
+  stopped_made fb fn tb tn s source (inl memory) = subst (λ x. IsStopped words told fb fn tb tn x source) (sym memory) (stopped_memory words told fb fn tb tn source)
+  stopped_made fb fn tb tn s source (inr (rule, comes, named)) =
+      stopped_rule words told fb fn tb tn source s rule is_made
+      (subst (λ x. LeadsWhereTold told (script_of words) x) (script_made (Stops s) comes) (told_self told (script_of words)))
+      (names s named)
+    where
+      names : (s : Status) → NamesMade number rows s source → NamesSource told words s source
+      names (status.BadStream at line why) e =
+          where_told told (λ files. source ≡ source_name (file files) words at) (λ files t. e ∙ sym (ap (λ c. name_at at (network_named (file files) c)) asked))
+      names s e = tt

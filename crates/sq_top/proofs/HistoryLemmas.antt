@@ -1,7 +1,6 @@
 -- Histories: the lines of a run that has shown its whole answer, in whatever order, are an order of writing with the end lines behind.
-use Rattle.std.proofs.Common.{◌≡◌, ◌⊎◌, inl, inr, ℕ, ◌<◌, ◌^◌, arith, Bool, true, false, not, ◌&&◌, List, [], ◌∷◌, ◌++◌, length, refl, ap, ap₂, sym, ◌∙◌, subst, append-nil, Option, Some}
+use Rattle.std.proofs.Common.{◌≡◌, ◌⊎◌, inl, inr, ℕ, ◌<◌, ◌^◌, arith, Bool, true, false, not, ◌&&◌, List, [], ◌∷◌, ◌++◌, length, refl, ap, ap₂, sym, ◌∙◌, subst, append-nil, Some}
 use Rattle.std.specs.Prelude.{◌==◌, map, if◌then◌else◌, slice_get}
-use Rattle.std.specs.Fmt.{decimal}
 use Rattle.std.specs.List.{AllByRecursion, filter, flat_map, list_all}
 use Rattle.std.proofs.lemmas.Bool.{eqb-true, eqb-false}
 use Rattle.std.proofs.lemmas.List.Elements.{filter-append, recursion_from_All}
@@ -10,10 +9,9 @@ use Rattle.std.proofs.lemmas.List.FromFn.{length-range_with_len}
 use Rattle.std.proofs.lemmas.Grind.{flat_map-append}
 use Rattle.std.proofs.lemmas.Option.{slice_get_within}
 use Rattle.sq_value.specs.declared.Tuple.{Tuple}
-use Rattle.sq_value.specs.Lists.{IsPrefixOf, numbers_to, same_bytes}
+use Rattle.sq_value.specs.Lists.{IsPrefixOf, numbers_to}
 use Rattle.sq_value.specs.Classes.{Class, Shown, Dropped, Planned, Ended, is_of_class}
 use Rattle.sq_value.specs.LineTexts.{drop_line, output_line}
-use Rattle.sq_value.proofs.ListLemmas.{same_bytes-refl}
 use Rattle.sq_net.specs.declared.Network.{Network}
 use Rattle.sq_net.specs.declared.Output.{Output}
 use Rattle.sq_net.specs.Names.{is_name}
@@ -29,8 +27,7 @@ use Rattle.sq_flow.specs.Plans.{plans_of}
 use Rattle.sq_top.specs.Due.{Answer, Due, drops_in, due_from, plan_text}
 use Rattle.sq_top.specs.Answers.{IsClassIn, IsPrefixText, IsWholeText, is_classed, lines_of as due_lines}
 use Rattle.sq_top.specs.Driving.{Completes, IsEventAt, history_text}
-use Rattle.sq_top.specs.Orders.{AreAll, IsOrder}
-use Rattle.sq_top.proofs.SortedLines.{and-true, filter_same}
+use Rattle.sq_top.proofs.SortedLines.{filter_same}
 use Rattle.sq_top.proofs.ClassLemmas.{IsLineOf, IsPlainClass, TellsClasses, all_map, classed_dropped, classed_ended, classed_planned, classed_shown, not_true, plain_class}
 use Rattle.sq_top.proofs.DueLemmas.{IsWholeList, dropped_test, filter_ended, planned_test, shown_test, tells, whole_order}
 use Rattle.sq_top.proofs.OrderLemmas.{prefix_text, whole_text}

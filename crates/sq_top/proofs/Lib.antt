@@ -16,3 +16,8 @@ pub mod WritingLemmas
 pub mod SourceLemmas
 pub mod TrainLemmas
 pub mod WordLemmas
+pub mod TextLemmas
+pub mod CountLemmas
+pub mod CountingLemmas
+pub mod MadeLemmas
+pub mod SummaryLemmas

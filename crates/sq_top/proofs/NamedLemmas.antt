@@ -1,16 +1,14 @@
 -- Outputs by their names, and drops by their numbers: the lines of one are those of the one place that has its name or number.
-use Rattle.std.proofs.Common.{◌≡◌, ◌≢◌, ◌⊎◌, inl, inr, ℕ, zero, suc, ◌+◌, ◌<◌, ◌≤◌, ◌^◌, Bool, true, false, not, ◌&&◌, List, [], ◌∷◌, ◌++◌, length, refl, ap, sym, ◌∙◌, subst, arith, append-nil, Option, Some, None}
+use Rattle.std.proofs.Common.{◌≡◌, ◌≢◌, ◌⊎◌, inl, inr, ℕ, zero, suc, ◌+◌, ◌<◌, ◌≤◌, ◌^◌, Bool, true, false, not, List, [], ◌∷◌, ◌++◌, length, refl, ap, sym, ◌∙◌, subst, arith, append-nil, Some}
 use Rattle.std.specs.Prelude.{◌==◌, map, if◌then◌else◌, slice_get}
 use Rattle.std.specs.Fmt.{decimal}
 use Rattle.std.specs.List.{filter, flat_map, list_any, range_with_len, zip}
 use Rattle.std.proofs.lemmas.Bool.{eqb-true, eqb-false}
 use Rattle.std.proofs.lemmas.Fmt.{decimal_injective}
-use Rattle.sq_value.specs.declared.Tuple.{Tuple}
 use Rattle.sq_value.specs.Lists.{are_distinct, contains_bytes, numbers_to, same_bytes}
-use Rattle.sq_value.specs.LineTexts.{drop_line, output_line}
+use Rattle.sq_value.specs.LineTexts.{output_line}
 use Rattle.sq_value.proofs.ListLemmas.{same_bytes-true, same_bytes-refl}
 use Rattle.sq_net.specs.declared.Output.{Output}
-use Rattle.sq_oper.specs.declared.outs.Decision.{Decision}
 use Rattle.sq_top.specs.Due.{Answer, dropped_from, shown_from}
 use Rattle.sq_top.proofs.SortedLines.{and-true}
 use Rattle.sq_top.proofs.ClassLemmas.{not_true, or_first, or_true}

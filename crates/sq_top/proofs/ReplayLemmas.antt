@@ -1,5 +1,5 @@
 -- What a replay has written: the text of a history, and the end lines behind it.
-use Rattle.std.proofs.Common.{◌≡◌, ℕ, zero, suc, ◌+◌, ◌<◌, ◌≤◌, ◌^◌, true, List, [], ◌∷◌, ◌++◌, length, map, refl, ap, ap₂, sym, ◌∙◌, subst, arith, append_assoc, Option, None, Some}
+use Rattle.std.proofs.Common.{◌≡◌, ℕ, zero, suc, ◌+◌, ◌<◌, ◌^◌, List, [], ◌∷◌, ◌++◌, length, map, refl, ap, ap₂, sym, ◌∙◌, arith, append_assoc, Option, None, Some}
 use Rattle.std.specs.Prelude.{slice_get}
 use Rattle.std.specs.List.{AllByRecursion, range_with_len}
 use Rattle.sq_value.specs.Lists.{IsPrefixOf, numbers_to}
@@ -34,7 +34,7 @@ same_below f g from zero same = refl
 same_below f g from (suc many) same =
     ap₂ (λ x xs. x ∷ xs) (same from (omega arith)) (same_below f g (from + 1) many (λ at below. same at (omega (arith, below))))
 
-same_numbers : (f g : ℕ → ℕ) (many : ℕ) → ((at : ℕ) → at < many → f at ≡ g at) → map f (numbers_to many) ≡ map g (numbers_to many)
+pub same_numbers : (f g : ℕ → ℕ) (many : ℕ) → ((at : ℕ) → at < many → f at ≡ g at) → map f (numbers_to many) ≡ map g (numbers_to many)
 same_numbers f g many same = same_below f g 0 many (λ at below. same at (omega (arith, below)))
 
 module _ (r : Replay) (sound : IsSound r.network) where

@@ -1,5 +1,5 @@
 -- Why engines stop, and what is cut short.
-use Rattle.std.proofs.Common.{◌≡◌, ◌⊎◌, inl, inr, ℕ, ◌+◌, ◌^◌, ◌≤◌, true, false, refl, ap, sym, ◌∙◌, subst}
+use Rattle.std.proofs.Common.{◌≡◌, ◌≢◌, ◌⊎◌, inl, inr, ℕ, ◌+◌, ◌^◌, ◌≤◌, true, false, refl, ap, sym, ◌∙◌, subst}
 use Rattle.sq_outside.specs.Faults.{Rose}
 use Rattle.sq_actor.specs.declared.actor.Actor.{Actor}
 use Rattle.sq_flow.specs.declared.flow.Flow.{Flow}
@@ -106,6 +106,6 @@ refused_unchanged s (inl refused) = by s refused
     by s is = refl
 
 -- of a status that is told the other that it may stand for is a refusal, too
-pub told_refused : (s told : Status) → (told ≡ s) ⊎ (told ≡ status.Memory) → is_refusal told ≡ true → is_refusal s ≡ true
+pub told_refused : (s told : Status) → (told ≡ s) ⊎ ((told ≡ status.Memory) × (s ≢ status.SinkFault)) → is_refusal told ≡ true → is_refusal s ≡ true
 told_refused s told (inl same) refused = ap is_refusal (sym same) ∙ refused
-told_refused s told (inr memory) refused = let both : is_refusal status.Memory ≡ true = ap is_refusal (sym memory) ∙ refused in absurd (cc)
+told_refused s told (inr memory) refused = let both : is_refusal status.Memory ≡ true = ap is_refusal (sym memory.0) ∙ refused in absurd (cc)

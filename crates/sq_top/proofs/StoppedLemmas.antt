@@ -1,6 +1,6 @@
 -- How a run stops before anything is replayed.
 use Rattle.std.proofs.Common.{◌≡◌, ◌≢◌, ◌⊎◌, inl, inr, ℕ, ◌+◌, ◌<◌, ◌≤◌, Bool, true, false, ◌||◌, List, [], ◌∷◌, ◌++◌, length, drop, get_or, refl, ap, sym, ◌∙◌, subst, arith, Option, None, Some}
-use Rattle.std.specs.Prelude.{⊤, nat_lt, IsSome, IsSomeAnd, slice_get, Result, Ok, Err}
+use Rattle.std.specs.Prelude.{nat_lt, IsSome, IsSomeAnd, slice_get, Result, Ok, Err}
 use Rattle.std.proofs.lemmas.Bool.Decides.{nat_tests}
 use Rattle.std.proofs.lemmas.List.{drop_more}
 use Rattle.std.proofs.lemmas.Option.{slice_get-get_or}
@@ -25,10 +25,10 @@ use Rattle.sq_replay.specs.declared.why.Why.{Why}
 use Rattle.sq_plan.specs.Plans.{Entries}
 use Rattle.sq_replay.specs.Entries.{capacities_in, picks_in}
 use Rattle.sq_replay.specs.Streams.{stream_in}
-use Rattle.sq_top.specs.Commands.{command_in}
+use Rattle.sq_top.specs.Commands.{command_in, is_run}
 use Rattle.sq_top.specs.Messages.{name_at, name_in, network_named, source_name}
 use Rattle.sq_top.specs.Scripts.{Script, Reads, Done, Stops, Lookup, Replay, accepted, after_capacities, after_network, after_picks, after_stream, after_streams, after_words, capacities_script, go_on, outcome_of, picks_script, readable, reads_of, script_of, settings_limit, stream_limit, unread, with_sources}
-use Rattle.sq_top.specs.Causes.{AreBytesOf, AreCapacitiesOf, ArePicksOf, HasFailedAt, HasNoCapacities, HasNoPicks, HasNoStream, HasNoStreams, IsNoCommand, IsRefusedBy, IsStopped, IsStreamOf, IsUnread, Leads, LeadsWhereTold, MatchAccepted, NamesSource, RefusalHasCause, WhereTold, FilePart, NetworkFile, CapacityFile, PicksFile, StreamFile, is_capacities, is_named, is_network, is_picks, limit_of, may_be}
+use Rattle.sq_top.specs.Causes.{AreBytesOf, AreCapacitiesOf, ArePicksOf, HasFailedAt, HasNoCapacities, HasNoPicks, HasNoStream, HasNoStreams, IsNoCommand, IsRefusedBy, IsRule, IsStopped, IsStreamOf, IsUnread, Leads, LeadsWhereTold, MatchAccepted, NamesSource, RefusalHasCause, WhereTold, FilePart, NetworkFile, CapacityFile, PicksFile, StreamFile, is_capacities, is_named, is_network, is_picks, limit_of, may_be}
 use Rattle.sq_top.proofs.SortedLines.{and-true}
 
 match_any : (r : Result Replay Status) (P : Replay → Type 0) (Q : Status → Type 0) → ((x : Replay) → P x) → ((s : Status) → Q s) → MatchAccepted r P Q
@@ -91,14 +91,6 @@ module _ (words : List (List ℕ)) (told : Option Files) (fb fn tb tn : ℕ) (so
     ends = inl refl;
     no_memory = λ e. absurd (cc);
   }
-
-  -- a rule of a file, but want of memory
-  abbrev IsRule : Status → Type 0
-  IsRule (status.BadNetwork e) = e ≢ net.Memory
-  IsRule (status.BadCapacities line) = ⊤
-  IsRule (status.BadPicks line) = ⊤
-  IsRule (status.BadStream number line why) = ⊤
-  IsRule s = ⊥
 
   same_error : (e : NetErr) → status.BadNetwork e ≡ status.BadNetwork net.Memory → e ≡ net.Memory
   same_error e h = cc
@@ -274,6 +266,9 @@ module _ (words : List (List ℕ)) (args : RunArgs) (command : command_in words 
   pub is_command : IsSome (command_in words)
   is_command = rw command refl
 
+  pub is_of_run : is_run (command_in words) ≡ true
+  is_of_run = rw command refl
+
   network_comes : LeadsWhereTold told (script_of words) (Reads args.net settings_limit (λ bytes. after_network args (network_in bytes)))
   network_comes = subst (λ o. LeadsWhereTold told (script_of words) (after_words o)) command (told_self told (script_of words))
 
@@ -443,7 +438,7 @@ module _ (told : Option Files) (r : Replay) (all : List Source) (vs : List (List
       (subst (λ k. HasNoStream told k s mid fn between tn result source) (same ∙ sym counted) none))
 
 -- the sources of a network
-module _ (words : List (List ℕ)) (told : Option Files) (r : Replay) (some : IsSome (command_in words))
+module _ (words : List (List ℕ)) (told : Option Files) (r : Replay) (some : IsSome (command_in words)) (reads : is_run (command_in words) ≡ true)
     (leads : LeadsWhereTold told (script_of words) (after_streams (with_sources r []) r.network.sources))
     (named : WhereTold told (λ files. network_named (file files) (command_in words) ≡ Some r.network)) where
   name_is : (files : Files) (number : ℕ) (s : Source) → network_named (file files) (command_in words) ≡ Some r.network → slice_get r.network.sources number ≡ Some s
@@ -458,7 +453,7 @@ module _ (words : List (List ℕ)) (told : Option Files) (r : Replay) (some : Is
   pub stopped_streams : (fb fn tb tn : ℕ) (result : Status) (source : List ℕ) → HasNoStreams told (with_sources r []) r.network.sources fb fn tb tn result source
       → IsStopped words told fb fn tb tn result source
   stopped_streams fb fn tb tn result source (inl (s, more, to, missed)) =
-      stopped_unread words told fb fn tb tn source s.file stream_limit more some (told_then told _ _ _ leads to) result (λ rose other e. (StreamFile, some, rose)) missed
+      stopped_unread words told fb fn tb tn source s.file stream_limit more some (told_then told _ _ _ leads to) result (λ rose other e. (StreamFile, reads, rose)) missed
   stopped_streams fb fn tb tn result source (inr (number, s, line, why, at, to, bad)) =
       subst (λ x. IsStopped words told fb fn tb tn x source) (sym bad.0)
       (stopped_rule words told fb fn tb tn source (status.BadStream number line why) tt some (told_then told _ _ _ leads to) (names_source number s source at bad.1))

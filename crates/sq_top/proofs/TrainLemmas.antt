@@ -1,16 +1,15 @@
--- A train is at least one step, and frames are at least two.
-use Rattle.std.proofs.Common.{◌≡◌, ℕ, ◌-◌, ◌^◌, ◌≤◌, Bool, true, false, ◌&&◌, List, [], ◌∷◌, refl, ap, sym, ◌∙◌, subst, arith, Option, Some, None}
-use Rattle.std.specs.Prelude.{nat_le, if◌then◌else◌, codes}
+-- A train is at least one step, frames are at least two, and rows are 1 to 1,000,000.
+use Rattle.std.proofs.Common.{◌≡◌, ℕ, ◌-◌, ◌^◌, ◌≤◌, Bool, true, false, ◌&&◌, List, [], ◌∷◌, refl, subst, arith, Option, Some, None}
+use Rattle.std.specs.Prelude.{nat_le, codes}
 use Rattle.std.specs.Option.{option_map, option_and_then}
 use Rattle.std.specs.List.{list_all}
 use Rattle.std.proofs.lemmas.Bool.Decides.{nat_tests}
 use Rattle.sq_value.specs.Lists.{same_bytes}
 use Rattle.sq_value.specs.Texts.{are_digits, number_in}
-use Rattle.sq_sched.specs.declared.policy.Rule.{Rule}
 use Rattle.sq_top.specs.declared.RunArgs.{RunArgs}
 use Rattle.sq_top.specs.declared.Command.{Command}
 use Rattle.sq_top.specs.declared.Command.TheVariants as command
-use Rattle.sq_top.specs.Commands.{Given, Word, args_of, command_in, given_from, is_known, known_args, lone, number_or, number_within, rule_of, run_args, values_of}
+use Rattle.sq_top.specs.Commands.{Given, Word, args_of, command_in, gen_args, given_from, is_known, known_args, lone, number_or, number_within, rule_of, run_args, values_of}
 use Rattle.sq_top.proofs.SortedLines.{and-true}
 
 within_least : (t : Bool) (low high : ℕ) (w : Word) (k : ℕ) → (are_digits 20 w && (nat_le low (number_in w) && nat_le (number_in w) high)) ≡ t → number_within low high w ≡ Some k → low ≤ k
@@ -55,15 +54,50 @@ known_least false gs e = rw e tt
 run_least : (ws : List Word) → HasLeast (run_args ws)
 run_least ws = bounded _ (given_from ws None) (λ gs e. known_least (list_all (λ g. is_known g.0) gs) gs refl)
 
-of_run : (o : Option RunArgs) (args : RunArgs) → HasLeast o → option_map command.Run o ≡ Some (command.Run args) → (1 ≤ args.train) × (2 ≤ args.frames)
-of_run None args has h = absurd (cc)
-of_run (Some a) args has h = let same : a ≡ args = cc in subst (λ (x : RunArgs). (1 ≤ x.train) × (2 ≤ x.frames)) same has
+-- a train is at least one step and frames are two, and rows are within their limits
+abbrev IsWithin : Option Command → Type 0
+IsWithin None = Unit {0}
+IsWithin (Some (command.Run a)) = (1 ≤ a.train) × (2 ≤ a.frames)
+IsWithin (Some (command.Gen number rows)) = (1 ≤ rows) × (rows ≤ 1000000)
 
-command_by : (t : Bool) (w : Word) (ws : List Word) (args : RunArgs) → same_bytes w (codes "run") ≡ t → command_in (w ∷ ws) ≡ Some (command.Run args)
-    → (1 ≤ args.train) × (2 ≤ args.frames)
-command_by true w ws args e h = of_run (run_args ws) args (run_least ws) (rw e at h)
-command_by false w ws args e h = let both : ◌≡◌ {A = Option Command} None (Some (command.Run args)) = rw e at h in cc
+of_run : (o : Option RunArgs) → HasLeast o → IsWithin (option_map command.Run o)
+of_run None has = tt
+of_run (Some a) has = has
+
+of_gen : {A : Type 0} (f : A → Option Command) (o : Option A) → ((x : A) → o ≡ Some x → IsWithin (f x)) → IsWithin (option_and_then f o)
+of_gen f None all = tt
+of_gen f (Some x) all = all x refl
+
+within_most : (t : Bool) (low high : ℕ) (w : Word) (k : ℕ) → (are_digits 20 w && (nat_le low (number_in w) && nat_le (number_in w) high)) ≡ t → number_within low high w ≡ Some k → k ≤ high
+within_most true low high w k e h =
+    let is : number_in w ≡ k = let both : Some (number_in w) ≡ Some k = rw e at h in cc in
+    let most = (and-true (nat_le low (number_in w)) (nat_le (number_in w) high) (and-true (are_digits 20 w) (nat_le low (number_in w) && nat_le (number_in w) high) e).1).1 in
+    subst (λ m. m ≤ high) is (grind (arith, nat_tests))
+within_most false low high w k e h = let both : ◌≡◌ {A = Option ℕ} None (Some k) = rw e at h in cc
+
+gen_within : (ws : List Word) → IsWithin (gen_args ws)
+gen_within [] = tt
+gen_within (number ∷ []) = tt
+gen_within (number ∷ rows ∷ []) =
+    of_gen _ (number_within 0 (2 ^ 64 - 1) number)
+    (λ n e. of_gen _ (number_within 1 1000000 rows)
+    (λ k e1. (
+      within_least (are_digits 20 rows && (nat_le 1 (number_in rows) && nat_le (number_in rows) 1000000)) 1 1000000 rows k refl e1,
+      within_most (are_digits 20 rows && (nat_le 1 (number_in rows) && nat_le (number_in rows) 1000000)) 1 1000000 rows k refl e1,
+    )))
+gen_within (number ∷ rows ∷ w ∷ ws) = tt
+
+command_by : (run gen : Bool) (w : Word) (ws : List Word) → same_bytes w (codes "run") ≡ run → same_bytes w (codes "gen") ≡ gen → IsWithin (command_in (w ∷ ws))
+command_by true gen w ws e f = rw e (of_run (run_args ws) (run_least ws))
+command_by false true w ws e f = rw (e, f) (gen_within ws)
+command_by false false w ws e f = rw (e, f) tt
+
+command_within : (ws : List Word) → IsWithin (command_in ws)
+command_within [] = tt
+command_within (w ∷ ws) = command_by (same_bytes w (codes "run")) (same_bytes w (codes "gen")) w ws refl refl
 
 pub command_least : (ws : List Word) (args : RunArgs) → command_in ws ≡ Some (command.Run args) → (1 ≤ args.train) × (2 ≤ args.frames)
-command_least [] args h = absurd (cc)
-command_least (w ∷ ws) args h = command_by (same_bytes w (codes "run")) w ws args refl h
+command_least ws args h = subst IsWithin h (command_within ws)
+
+pub gen_rows : (ws : List Word) (number rows : ℕ) → command_in ws ≡ Some (command.Gen number rows) → (1 ≤ rows) × (rows ≤ 1000000)
+gen_rows ws number rows h = subst IsWithin h (command_within ws)

@@ -1,5 +1,6 @@
 -- Which status comes of which cause.
-use Rattle.std.specs.Prelude.{◌≡◌, ◌≢◌, ◌⊎◌, ℕ, ◌+◌, ◌^◌, ◌<◌, ◌≤◌, Bool, true, false, ⊤, List, [], ◌++◌, Option, Some, None, is_some, IsSome, IsSomeAnd, slice_get, Result, Ok, Err}
+use Rattle.std.specs.Prelude.{◌≡◌, ◌≢◌, ◌⊎◌, ℕ, ◌+◌, ◌^◌, ◌<◌, ◌≤◌, Bool, true, false, ⊤, List, [], ◌++◌, Option, Some, None, IsSome, IsSomeAnd, slice_get, Result, Ok, Err}
+use Rattle.std.specs.FinMap as map
 use Rattle.sq_value.specs.Lists.{contains_bytes, same_bytes, IsPrefixOf}
 use Rattle.sq_outside.specs.Faults.{Rose, RoseBy}
 use Rattle.sq_outside.specs.Folders.{Files, IsLonger, file}
@@ -17,10 +18,12 @@ use Rattle.sq_replay.specs.Entries.{capacities_in, picks_in}
 use Rattle.sq_replay.specs.Streams.{stream_in}
 use Rattle.sq_replay.specs.declared.why.Why.{Why}
 use Rattle.sq_paged.specs.Fronts.{Tells}
+use Rattle.sq_model.specs.Shedding as model
 use Rattle.sq_core.specs.declared.engine.Engine.{Engine}
-use Rattle.sq_top.specs.Commands.{command_in}
+use Rattle.sq_top.specs.Commands.{command_in, is_run}
 use Rattle.sq_top.specs.Scripts.{Lookup, Replay, Script, Reads, Stops, accepted, after_streams, outcome_of, readable, reads_of, script_of, settings_limit, stream_limit}
 use Rattle.sq_top.specs.Due.{due_of, replayed, turns_in, work_in}
+use Rattle.sq_top.specs.Summaries.{summary_of}
 use Rattle.sq_top.specs.Messages.{message_of, source_name}
 use Rattle.sq_top.specs.Answers.{IsWholeText, IsPrefixText}
 use Rattle.sq_top.specs.Stopping.{StopHasCause, is_changed}
@@ -43,10 +46,30 @@ is_refusal (status.TooLong name) = true
 is_refusal status.Memory = false
 is_refusal status.TooMuch = false
 
+-- a rule of a file's bytes, and no want of memory
+abbrev pub IsRule : Status → Type 0
+IsRule (status.BadNetwork e) = e ≢ net.Memory
+IsRule (status.BadCapacities line) = ⊤
+IsRule (status.BadPicks line) = ⊤
+IsRule (status.BadStream number line why) = ⊤
+IsRule s = ⊥
+
 -- a sink that told what it held tells it still, with a text appended of which P holds
 abbrev pub AppendsSuch : Option (List ℕ) → Option (List ℕ) → (List ℕ → Type 0) → Type 0
 AppendsSuch None now P = now ≡ None
 AppendsSuch (Some before) now P = (text : List ℕ) × (now ≡ Some (before ++ text)) × P text
+
+abbrev pub no_files : Files
+no_files = map.empty
+
+-- the files that a command looks at, where they are told: of what a number makes none
+abbrev pub looked_at : Option Command → Option Files → Option Files
+looked_at None told = told
+looked_at (Some (command.Run args)) told = told
+looked_at (Some (command.Gen number rows)) told = Some no_files
+
+abbrev pub files_for : List (List ℕ) → Option Files → Option Files
+files_for words told = looked_at (command_in words) told
 
 -- P of the content, where it is told
 abbrev pub WhereTold : {X : Type 0} → Option X → (X → Type 0) → Type 0
@@ -81,6 +104,7 @@ pub record RefusalHasCause (files : Files) (words : List (List ℕ)) (faults_bef
 abbrev pub is_network : Option Command → List ℕ → Bool
 is_network None name = false
 is_network (Some (command.Run args)) name = same_bytes args.net name
+is_network (Some (command.Gen number rows)) name = false
 
 abbrev pub is_named : Option (List ℕ) → List ℕ → Bool
 is_named None name = false
@@ -90,11 +114,13 @@ is_named (Some file) name = same_bytes file name
 abbrev pub is_capacities : Option Command → List ℕ → Bool
 is_capacities None name = false
 is_capacities (Some (command.Run args)) name = is_named args.capacities name
+is_capacities (Some (command.Gen number rows)) name = false
 
 -- whether this is the name of the picks' file
 abbrev pub is_picks : Option Command → List ℕ → Bool
 is_picks None name = false
 is_picks (Some (command.Run args)) name = is_named args.picks name
+is_picks (Some (command.Gen number rows)) name = false
 
 -- what a file is to a run: its network, its capacities, its picks, or a source's stream
 pub data FilePart : Type 0 where
@@ -115,7 +141,7 @@ abbrev pub may_be : Option Command → FilePart → List ℕ → Bool
 may_be c NetworkFile name = is_network c name
 may_be c CapacityFile name = is_capacities c name
 may_be c PicksFile name = is_picks c name
-may_be c StreamFile name = is_some c
+may_be c StreamFile name = is_run c
 
 -- over every folder: it is at fault only where its count rose, or where it tells its files; a file is too long only where more was
 -- taken than a file of its part may have
@@ -128,16 +154,32 @@ pub record FolderHasCause (words : List (List ℕ)) (told : Option Files) (fault
 abbrev pub IsEngineOf : Option Files → List (List ℕ) → Engine → Type 0
 IsEngineOf told words engine = WhereTold told (λ files. MatchAccepted (accepted (file files) words) (λ r. engine.network ≡ r.network) (λ s. ⊥))
 
+-- the whole text of a command: the lines of each class, or the summary
+abbrev pub IsWholeOf : Option Command → Replay → List ℕ → Type 0
+IsWholeOf None r text = IsWholeText (due_of r) text
+IsWholeOf (Some (command.Run args)) r text = IsWholeText (due_of r) text
+IsWholeOf (Some (command.Gen number rows)) r text = text ≡ summary_of number rows (replayed r)
+
+-- a beginning of the summary: nothing, unless the output failed
+abbrev pub BeginsSummary : ℕ → ℕ → model.Replay → Status → List ℕ → Type 0
+BeginsSummary number rows r result text = IsPrefixOf text (summary_of number rows r) × (result ≢ status.SinkFault → text ≡ [])
+
+-- what a command has written at this status: a prefix of the lines of each class, or a beginning of the summary
+abbrev pub IsPrefixOfDue : Option Command → Replay → Status → List ℕ → Type 0
+IsPrefixOfDue None r result text = IsPrefixText (due_of r) text
+IsPrefixOfDue (Some (command.Run args)) r result text = IsPrefixText (due_of r) text
+IsPrefixOfDue (Some (command.Gen number rows)) r result text = BeginsSummary number rows (replayed r) result text
+
 -- at Ok all was accepted; where the disk tells its pages the text is whole and the steps are the work
 abbrev pub AnswersWhole : Files → List (List ℕ) → Option Pages → Option (List ℕ) → Option (List ℕ) → ℕ → ℕ → Type 0
 AnswersWhole files words pages out_before out_now steps_before steps_now = MatchAccepted (accepted (file files) words)
-    (λ r. Tells pages → AppendsSuch out_before out_now (IsWholeText (due_of r)) × (steps_now ≡ steps_before + work_in (replayed r)))
+    (λ r. Tells pages → AppendsSuch out_before out_now (IsWholeOf (command_in words) r) × (steps_now ≡ steps_before + work_in (replayed r)))
     (λ s. ⊥)
 
 -- at another status, where the disk tells its pages, it is a prefix, with no more steps than the work; nothing where a rule is broken
-abbrev pub AnswersPrefix : Files → List (List ℕ) → Option Pages → Option (List ℕ) → Option (List ℕ) → ℕ → ℕ → Type 0
-AnswersPrefix files words pages out_before out_now steps_before steps_now = MatchAccepted (accepted (file files) words)
-    (λ r. Tells pages → AppendsSuch out_before out_now (IsPrefixText (due_of r)) × (steps_now ≤ steps_before + work_in (replayed r)))
+abbrev pub AnswersPrefix : Files → List (List ℕ) → Option Pages → Status → Option (List ℕ) → Option (List ℕ) → ℕ → ℕ → Type 0
+AnswersPrefix files words pages result out_before out_now steps_before steps_now = MatchAccepted (accepted (file files) words)
+    (λ r. Tells pages → AppendsSuch out_before out_now (IsPrefixOfDue (command_in words) r result) × (steps_now ≤ steps_before + work_in (replayed r)))
     (λ s. (out_now ≡ out_before) × (steps_now ≡ steps_before))
 
 -- the message: whole, or a part of it where the sink for messages has failed
@@ -229,6 +271,11 @@ IsStreamOf told s xs = (bytes : List ℕ) × (stream_in s.schema bytes ≡ Ok xs
 abbrev pub IsBadLine : ℕ → Source → ℕ → Why → Status → List ℕ → Type 0
 IsBadLine number s line why result source = (result ≡ status.BadStream number line why) × (source ≡ s.name)
 
+-- why the stream's text of the source with this number has no tuples: memory ran out, or a line of it is bad
+abbrev pub HasBadLine : ℕ → Source → List ℕ → Status → List ℕ → Type 0
+HasBadLine number s bytes result source =
+    (result ≡ status.Memory) ⊎ ((line : ℕ) × (why : Why) × (stream_in s.schema bytes ≡ Err (line, why)) × IsBadLine number s line why result source)
+
 -- why the tuples of the source with this number aren't there
 abbrev pub HasNoStream : Option Files → ℕ → Source → ℕ → ℕ → ℕ → ℕ → Status → List ℕ → Type 0
 HasNoStream told number s faults_before faults_now taken_before taken_now result source =
@@ -274,7 +321,7 @@ pub record World : Type 0 where
 -- how a run ends, but for its message
 pub record Ends (words : List (List ℕ)) (w : World) (result : Status) (source : List ℕ) : Type 0 where
   pub ok : result ≡ status.Ok → WhereTold w.told (λ files. AnswersWhole files words w.pages w.out_before w.out_now w.steps_before w.steps_now)
-  pub other : result ≢ status.Ok → WhereTold w.told (λ files. AnswersPrefix files words w.pages w.out_before w.out_now w.steps_before w.steps_now)
+  pub other : result ≢ status.Ok → WhereTold w.told (λ files. AnswersPrefix files words w.pages result w.out_before w.out_now w.steps_before w.steps_now)
   pub refused_early : is_refusal result ≡ true → (w.out_now ≡ w.out_before) × (w.steps_now ≡ w.steps_before)
   pub usage : UsageHasCause words result
   pub refusal : WhereTold w.told (λ files. RefusalHasCause files words w.folder_before w.folder_now result)

@@ -1,5 +1,5 @@
 -- Which words are a command, and what it asks for.
-use Rattle.std.specs.Prelude.{ℕ, ◌-◌, ◌^◌, Bool, true, false, ◌&&◌, ◌==◌, nat_le, if◌then◌else◌, List, [], ◌∷◌, Option, Some, None, codes}
+use Rattle.std.specs.Prelude.{◌≡◌, ℕ, ◌-◌, ◌^◌, Bool, true, false, ◌&&◌, ◌==◌, nat_le, if◌then◌else◌, List, [], ◌∷◌, Option, Some, None, codes}
 use Rattle.std.specs.List.{list_all, list_any, before_first, after_first}
 use Rattle.std.specs.Option.{option_map, option_and_then}
 use Rattle.sq_value.specs.Lists.{contains_bytes, same_bytes}
@@ -132,7 +132,26 @@ run_args ws = do
   gs ← given_from ws None
   known_args gs
 
+-- what the words behind `gen` ask for: a number of 64 bits, and 1 to 1,000,000 rows
+abbrev pub gen_args : List Word → Option Command
+gen_args (number ∷ rows ∷ []) = do
+  number_is ← number_within 0 (2 ^ 64 - 1) number
+  rows_are ← number_within 1 1000000 rows
+  Some (command.Gen number_is rows_are)
+gen_args ws = None
+
 -- what the words ask for, where they are a command
 abbrev pub command_in : List Word → Option Command
 command_in [] = None
-command_in (w ∷ ws) = if same_bytes w (codes "run") then option_map command.Run (run_args ws) else None
+command_in (w ∷ ws) =
+    if same_bytes w (codes "run") then option_map command.Run (run_args ws) else (if same_bytes w (codes "gen") then gen_args ws else None)
+
+-- whether a command reads the folder
+abbrev pub is_run : Option Command → Bool
+is_run None = false
+is_run (Some (command.Run args)) = true
+is_run (Some (command.Gen number rows)) = false
+
+-- the words ask for the run of a number's files
+abbrev pub IsGen : Option Command → Type 0
+IsGen c = (number : ℕ) × (rows : ℕ) × (c ≡ Some (command.Gen number rows))

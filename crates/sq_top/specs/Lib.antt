@@ -2,11 +2,14 @@ pub mod Commands
 pub mod Scripts
 pub mod Views
 pub mod Due
+pub mod Summaries
 pub mod Answers
 pub mod Writing
 pub mod Stopping
 pub mod Driving
+pub mod Counting
 pub mod Recorded
 pub mod Messages
 pub mod Orders
 pub mod Causes
+pub mod Made

@@ -15,6 +15,7 @@ use Rattle.sq_net.specs.declared.Place.{Place}
 use Rattle.sq_net.specs.declared.NetErr.{NetErr}
 use Rattle.sq_net.specs.declared.NetErr.TheVariants as net
 use Rattle.sq_reader.specs.Networks.{network_in}
+use Rattle.sq_gen.specs.Files.{made_of}
 use Rattle.sq_replay.specs.declared.why.Why.{Why}
 use Rattle.sq_replay.specs.declared.why.Why.TheVariants as why
 use Rattle.sq_top.specs.declared.Command.{Command}
@@ -161,6 +162,7 @@ network_of (Err e) = None
 abbrev pub network_named : Lookup → Option Command → Option Network
 network_named files None = None
 network_named files (Some (command.Run args)) = option_and_then (λ bytes. network_of (network_in bytes)) (files args.net)
+network_named files (Some (command.Gen number rows)) = network_of (network_in (made_of number rows).net)
 
 -- the name of the source with this number
 abbrev pub name_in : Option Source → List ℕ

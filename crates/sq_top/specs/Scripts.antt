@@ -10,6 +10,9 @@ use Rattle.sq_plan.specs.Plans.{Entries}
 use Rattle.sq_replay.specs.Entries.{capacities_in, picks_in}
 use Rattle.sq_replay.specs.Streams.{stream_in}
 use Rattle.sq_sched.specs.declared.policy.Rule.{Rule}
+use Rattle.sq_sched.specs.declared.policy.Rule.TheVariants as rule
+use Rattle.sq_gen.specs.declared.Made.{Made}
+use Rattle.sq_gen.specs.Files.{made_of}
 use Rattle.sq_top.specs.declared.RunArgs.{RunArgs}
 use Rattle.sq_top.specs.declared.Command.{Command}
 use Rattle.sq_top.specs.declared.Command.TheVariants as command
@@ -85,11 +88,35 @@ abbrev pub after_network : RunArgs → Result Network NetErr → Script
 after_network args (Err e) = Stops (status.BadNetwork e)
 after_network args (Ok n) = capacities_script args n args.capacities
 
+-- the sources that are left of a network that was made, behind those that were read: each has the stream that was made
+abbrev pub made_streams : List ℕ → Replay → List Source → Script
+made_streams bytes r [] = Done r
+made_streams bytes r (s ∷ left) =
+    after_stream (length r.sources) (λ xs. made_streams bytes (with_sources r (r.sources ++ xs ∷ [])) left) (stream_in s.schema bytes)
+
+-- the run of what a number makes: the number is its seed, and its actors take turns
+abbrev pub made_unread : ℕ → Network → Entries → Replay
+made_unread number n entries =
+    record { network = n; sources = []; entries = entries; seed = number; rule = rule.RoundRobin; picks = []; train = 16; frames = 256 }
+
+abbrev pub made_sources : ℕ → List ℕ → Network → Result Entries ℕ → Script
+made_sources number stream n (Ok entries) = made_streams stream (made_unread number n entries) n.sources
+made_sources number stream n (Err line) = Stops (status.BadCapacities line)
+
+abbrev pub made_limits : ℕ → Made → Result Network NetErr → Script
+made_limits number made (Err e) = Stops (status.BadNetwork e)
+made_limits number made (Ok n) = made_sources number made.stream n (capacities_in made.capacities)
+
+-- what a number makes: the network, then the capacities, then the stream. No file is read
+abbrev pub made_script : ℕ → Made → Script
+made_script number made = made_limits number made (network_in made.net)
+
 abbrev pub after_words : Option Command → Script
 after_words None = Stops status.Usage
 after_words (Some (command.Run args)) = Reads args.net settings_limit (λ bytes. after_network args (network_in bytes))
+after_words (Some (command.Gen number rows)) = made_script number (made_of number rows)
 
--- the words, then the network file, the capacity file, the picks file, and the sources in their order
+-- the words, then the network file, the capacity file, the picks file, and the sources in their order; or what a number makes
 abbrev pub script_of : List (List ℕ) → Script
 script_of words = after_words (command_in words)
 

@@ -77,7 +77,7 @@ fn show_events<S: Sink>(
 }
 
 /// How a run ends whose engine stopped.
-fn status_of(e: RunErr) -> Status
+pub(crate) fn status_of(e: RunErr) -> Status
     ensures { result ≡ status_of e }
 {
     match e {

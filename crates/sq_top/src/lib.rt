@@ -13,14 +13,18 @@ ghost use Rattle.std.specs.String.{string_bytes};
 ghost use Rattle.sq_outside.specs.Faults.{Rose};
 ghost use Rattle.sq_net.specs.declared.NetErr.TheVariants as net;
 ghost use Rattle.sq_paged.specs.Fronts.{Tells};
-ghost use Rattle.sq_top.specs.Causes.{AnswersPrefix, AnswersWhole, EndsOk, FolderHasCause, IsEngineOf, IsTold, RefusalHasCause, TooMuchHasCause, UsageHasCause, WhereTold, is_refusal};
+ghost use Rattle.sq_top.specs.Causes.{AnswersPrefix, AnswersWhole, EndsOk, FolderHasCause, IsEngineOf, IsTold, RefusalHasCause, TooMuchHasCause, UsageHasCause, WhereTold, files_for, is_refusal};
+ghost use Rattle.sq_top.specs.Commands.{IsGen, command_in};
 ghost use Rattle.sq_top.specs.Stopping.{StopHasCause, is_changed};
 ghost use Rattle.sq_top.specs.Messages.{code_of};
 
+mod counting;
 mod driving;
+mod generating;
 mod messages;
 mod reading;
 mod running;
+mod summing;
 mod words;
 mod writing;
 
@@ -59,7 +63,14 @@ pub struct RunArgs {
 /// What words ask for.
 #[derive(Debug, Drop)]
 pub enum Command {
+    /// A run of the files of a network.
     Run(RunArgs),
+    /// A run of what a number makes, with so many rows, of which the summary is written.
+    Gen {
+        number: u64,
+        /// 1 to 1,000,000.
+        rows: u32,
+    },
 }
 
 /// Why words are no command.
@@ -163,36 +174,39 @@ pub fn run_words<F: Folder, D: PageDisk, S: Sink, E: Sink, L: Ledger>(
     err: &mut E,
     steps: &mut Steps<L>,
 ) -> Status
-    // At Ok, where the disk tells its pages: each class of lines is whole, nothing else was written, and the steps are the work.
-    ensures ok { result ≡ Status.Ok → WhereTold (F.files folder.old) (λ files.
+    // At Ok, where the disk tells its pages: each class of lines is whole, or the summary, nothing else was written, and the steps are
+    // the work.
+    ensures ok { result ≡ Status.Ok → WhereTold (files_for (map string_bytes words.now.items) (F.files folder.old)) (λ files.
         AnswersWhole files (map string_bytes words.now.items) (D.pages disk.old) (S.written out.old) (S.written out.new) steps.old steps.new) }
-    // At any other status, where the disk tells its pages: a prefix of each class, and no more steps than the work.
-    ensures other { result ≢ Status.Ok → WhereTold (F.files folder.old) (λ files.
-        AnswersPrefix files (map string_bytes words.now.items) (D.pages disk.old) (S.written out.old) (S.written out.new) steps.old steps.new) }
+    // At any other status, where the disk tells its pages: a prefix of each class, or of the summary, and no more steps than the work.
+    ensures other { result ≢ Status.Ok → WhereTold (files_for (map string_bytes words.now.items) (F.files folder.old)) (λ files.
+        AnswersPrefix files (map string_bytes words.now.items) (D.pages disk.old) result (S.written out.old) (S.written out.new) steps.old steps.new) }
     // A refusal writes nothing and takes no step, and so does any end where a rule is broken.
     ensures refused_early { is_refusal result ≡ true → (S.written out.new ≡ S.written out.old) × (steps.new ≡ steps.old) }
 
     // Each status has its cause.
     ensures usage { UsageHasCause (map string_bytes words.now.items) result }
-    ensures refusal { WhereTold (F.files folder.old) (λ files.
+    ensures refusal { WhereTold (files_for (map string_bytes words.now.items) (F.files folder.old)) (λ files.
         RefusalHasCause files (map string_bytes words.now.items) (F.faults folder.old) (F.faults folder.new) result) }
-    ensures folder { FolderHasCause (map string_bytes words.now.items) (F.files folder.old) (F.faults folder.old) (F.faults folder.new)
+    ensures folder { FolderHasCause (map string_bytes words.now.items) (files_for (map string_bytes words.now.items) (F.files folder.old)) (F.faults folder.old) (F.faults folder.new)
         (F.taken folder.old) (F.taken folder.new) result }
     ensures no_memory { result ≢ Status.BadNetwork net.Memory }
-    ensures stopped { StopHasCause (IsEngineOf (F.files folder.old) (map string_bytes words.now.items)) (D.faults disk.old) (D.faults disk.new) result }
+    ensures stopped { StopHasCause (IsEngineOf (files_for (map string_bytes words.now.items) (F.files folder.old)) (map string_bytes words.now.items)) (D.faults disk.old) (D.faults disk.new) result }
     ensures unchanged { Tells (D.pages disk.old) → is_changed result ≡ false }
     ensures sink { result ≡ Status.SinkFault → Rose (S.faults out.old) (S.faults out.new) }
-    ensures too_much { WhereTold (F.files folder.old) (λ files. TooMuchHasCause files (map string_bytes words.now.items) (D.pages disk.old) result) }
+    ensures too_much { WhereTold (files_for (map string_bytes words.now.items) (F.files folder.old)) (λ files. TooMuchHasCause files (map string_bytes words.now.items) (D.pages disk.old) result) }
     // Where nothing fails and the disk tells its pages, what is accepted, and isn't too much, ends Ok, but for want of memory.
     ensures complete { ¬ Rose (F.faults folder.old) (F.faults folder.new) → ¬ Rose (D.faults disk.old) (D.faults disk.new)
         → ¬ Rose (S.faults out.old) (S.faults out.new)
-        → WhereTold (F.files folder.old) (λ files. EndsOk files (map string_bytes words.now.items) (D.pages disk.old) result) }
+        → WhereTold (files_for (map string_bytes words.now.items) (F.files folder.old)) (λ files. EndsOk files (map string_bytes words.now.items) (D.pages disk.old) result) }
 
-    ensures message { IsTold (F.files folder.old) (map string_bytes words.now.items) (E.written err.old) (E.written err.new)
+    ensures message { IsTold (files_for (map string_bytes words.now.items) (F.files folder.old)) (map string_bytes words.now.items) (E.written err.old) (E.written err.new)
         (E.faults err.old) (E.faults err.new) result }
 
-    // The files stay, and so does whether the disk tells its pages; a refusal doesn't call the disk. No count falls.
+    // The files stay, and so does whether the disk tells its pages; a refusal doesn't call the disk, nor does a run of what a number
+    // makes call the folder. No count falls.
     ensures same_files { F.files folder.new ≡ F.files folder.old }
+    ensures unread { IsGen (command_in (map string_bytes words.now.items)) → (F.faults folder.new ≡ F.faults folder.old) × (F.taken folder.new ≡ F.taken folder.old) }
     ensures same_disk { is_refusal result ≡ true → (D.pages disk.new ≡ D.pages disk.old) × (D.faults disk.new ≡ D.faults disk.old) }
     ensures tells { is_some (D.pages disk.new) ≡ is_some (D.pages disk.old) }
     ensures later { (F.faults folder.old ≤ F.faults folder.new) × (F.taken folder.old ≤ F.taken folder.new)

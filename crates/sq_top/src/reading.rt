@@ -1,19 +1,19 @@
-// The words and the files of a run, read in the order of work.
-ghost use Rattle.std.specs.Prelude.{true, ◌≡◌, ◌⊎◌, ◌≤◌, IfOk, IfErr, IsSome, None, Ok, Some, [], length, map};
-ghost use Rattle.std.specs.String.{string_bytes};
+// The files of a run, read in the order of work.
+ghost use Rattle.std.specs.Prelude.{true, ◌≡◌, ◌⊎◌, ℕ, ◌+◌, ◌^◌, ◌<◌, ◌≤◌, IfOk, IfErr, List, None, Ok, Some, [], length, map};
 ghost use Rattle.sq_net.specs.Sound.{IsSound, source_within};
 ghost use Rattle.sq_points.specs.Limits.{KeepsDropLimits};
 ghost use Rattle.sq_outside.specs.Folders.{file};
 ghost use Rattle.sq_replay.specs.Laws.{ReadsStreams};
+ghost use Rattle.sq_replay.specs.Streams.{stream_in};
+ghost use Rattle.sq_top.specs.declared.Command.TheVariants as Command;
 ghost use Rattle.sq_top.specs.Commands.{command_in};
 ghost use Rattle.sq_top.specs.Scripts.{Done, Replay, accepted, after_streams, capacities_script, picks_script, readable, script_of, with_sources};
-ghost use Rattle.sq_top.specs.Causes.{AreCapacitiesOf, ArePicksOf, HasNoCapacities, HasNoPicks, HasNoStream, HasNoStreams, IsBadLine, IsNoCommand, IsRefusedBy, IsStopped, IsStreamOf, IsUnread, LeadsWhereTold, WhereTold, source_of};
+ghost use Rattle.sq_top.specs.Causes.{AreCapacitiesOf, ArePicksOf, HasNoCapacities, HasNoPicks, HasBadLine, HasNoStream, HasNoStreams, IsBadLine, IsRefusedBy, IsStopped, IsStreamOf, IsUnread, LeadsWhereTold, WhereTold, source_of};
 ghost use Rattle.sq_top.specs.Messages.{network_named};
 ghost use Rattle.sq_top.specs.Views.{replay_of};
 ghost use Rattle.sq_top.specs.Recorded.{AreRecorded};
 
-use crate::words::read_words;
-use crate::{Command, RunArgs, Status, WordsErr};
+use crate::{RunArgs, Status};
 use sq_net::{NetErr, Network, Source};
 use sq_outside::{Folder, FolderErr};
 use sq_plan::Capacities;
@@ -56,20 +56,8 @@ fn read_file<F: Folder>(
     }
 }
 
-/// What the words ask for, or the status of a run of other words.
-fn args_for(alloc: Global, words: &Vec<String>) -> Result<RunArgs, Status>
-    ensures command { IfOk result (λ args. command_in (map string_bytes words.now.items) ≡ Some (Command.Run args)) }
-    ensures status { IfErr result (λ s. IsNoCommand (map string_bytes words.now.items) s) }
-{
-    match read_words(alloc, words) {
-        Ok(Command::Run(args)) => Ok(args),
-        Err(WordsErr::Usage) => Err(Status::Usage),
-        Err(WordsErr::Memory) => Err(Status::Memory),
-    }
-}
-
 /// How an error of the network file ends a run.
-fn refused_by(e: NetErr) -> Status
+pub(crate) fn refused_by(e: NetErr) -> Status
     ensures { IsRefusedBy e result }
 {
     match e {
@@ -78,31 +66,25 @@ fn refused_by(e: NetErr) -> Status
     }
 }
 
-/// What the words ask for and the network that they name, or the status of a run that has none.
-fn network_for<F: Folder>(
-    alloc: Global,
-    words: &Vec<String>,
-    folder: &mut F,
-) -> Result<(RunArgs, Network), Status>
-    ensures command { IfOk result (λ r. command_in (map string_bytes words.now.items) ≡ Some (Command.Run r.0)) }
-    ensures sound { IfOk result (λ r. IsSound r.1) }
-    ensures limits { IfOk result (λ r. KeepsDropLimits r.1) }
-    ensures leads { IfOk result (λ r. LeadsWhereTold (F.files folder.old) (script_of (map string_bytes words.now.items)) (capacities_script r.0 r.1 (r.0).capacities)) }
-    ensures named { IfOk result (λ r. WhereTold (F.files folder.old) (λ files. network_named (file files) (command_in (map string_bytes words.now.items)) ≡ Some r.1)) }
-    ensures stopped { IfErr result (λ s. IsStopped (map string_bytes words.now.items) (F.files folder.old) (F.faults folder.old) (F.faults folder.new) (F.taken folder.old) (F.taken folder.new) s []) }
+/// The network that is named, or the status of a run that has none.
+fn network_for<F: Folder>(alloc: Global, args: &RunArgs, folder: &mut F) -> Result<Network, Status>
+    ensures sound { IfOk result IsSound }
+    ensures limits { IfOk result KeepsDropLimits }
+    ensures leads { IfOk result (λ n. (words : List (List ℕ)) → command_in words ≡ Some (Command.Run args.now)
+        → LeadsWhereTold (F.files folder.old) (script_of words) (capacities_script args.now n args.now.capacities)) }
+    ensures named { IfOk result (λ n. (words : List (List ℕ)) → command_in words ≡ Some (Command.Run args.now)
+        → WhereTold (F.files folder.old) (λ files. network_named (file files) (command_in words) ≡ Some n)) }
+    ensures stopped { IfErr result (λ s. (words : List (List ℕ)) → command_in words ≡ Some (Command.Run args.now)
+        → IsStopped words (F.files folder.old) (F.faults folder.old) (F.faults folder.new) (F.taken folder.old) (F.taken folder.new) s []) }
     ensures files { F.files folder.new ≡ F.files folder.old }
     ensures later { (F.faults folder.old ≤ F.faults folder.new) × (F.taken folder.old ≤ F.taken folder.new) }
 {
-    let args = match args_for(alloc, words) {
-        Ok(args) => args,
-        Err(status) => return Err(status),
-    };
     let bytes = match read_file(alloc, folder, &args.net, SETTINGS_LIMIT) {
         Ok(bytes) => bytes,
         Err(status) => return Err(status),
     };
     match read_network(alloc, bytes.as_slice()) {
-        Ok(network) => Ok((args, network)),
+        Ok(network) => Ok(network),
         Err(e) => Err(refused_by(e)),
     }
 }
@@ -146,27 +128,29 @@ fn capacities_for<F: Folder>(
     }
 }
 
-/// What the words ask for, the network that they name and the capacities, or the status of a run that has them not.
+/// The network that is named and the capacities, or the status of a run that has them not.
 fn limits_for<F: Folder>(
     alloc: Global,
-    words: &Vec<String>,
+    args: &RunArgs,
     folder: &mut F,
-) -> Result<(RunArgs, Network, Capacities), Status>
-    ensures command { IfOk result (λ r. command_in (map string_bytes words.now.items) ≡ Some (Command.Run r.0)) }
-    ensures sound { IfOk result (λ r. IsSound r.1) }
-    ensures limits { IfOk result (λ r. KeepsDropLimits r.1) }
-    ensures leads { IfOk result (λ r. LeadsWhereTold (F.files folder.old) (script_of (map string_bytes words.now.items)) (picks_script r.0 r.1 r.2 (r.0).picks)) }
-    ensures named { IfOk result (λ r. WhereTold (F.files folder.old) (λ files. network_named (file files) (command_in (map string_bytes words.now.items)) ≡ Some r.1)) }
-    ensures stopped { IfErr result (λ s. IsStopped (map string_bytes words.now.items) (F.files folder.old) (F.faults folder.old) (F.faults folder.new) (F.taken folder.old) (F.taken folder.new) s []) }
+) -> Result<(Network, Capacities), Status>
+    ensures sound { IfOk result (λ r. IsSound r.0) }
+    ensures limits { IfOk result (λ r. KeepsDropLimits r.0) }
+    ensures leads { IfOk result (λ r. (words : List (List ℕ)) → command_in words ≡ Some (Command.Run args.now)
+        → LeadsWhereTold (F.files folder.old) (script_of words) (picks_script args.now r.0 r.1 args.now.picks)) }
+    ensures named { IfOk result (λ r. (words : List (List ℕ)) → command_in words ≡ Some (Command.Run args.now)
+        → WhereTold (F.files folder.old) (λ files. network_named (file files) (command_in words) ≡ Some r.0)) }
+    ensures stopped { IfErr result (λ s. (words : List (List ℕ)) → command_in words ≡ Some (Command.Run args.now)
+        → IsStopped words (F.files folder.old) (F.faults folder.old) (F.faults folder.new) (F.taken folder.old) (F.taken folder.new) s []) }
     ensures files { F.files folder.new ≡ F.files folder.old }
     ensures later { (F.faults folder.old ≤ F.faults folder.new) × (F.taken folder.old ≤ F.taken folder.new) }
 {
-    let (args, network) = match network_for(alloc, words, folder) {
-        Ok(named) => named,
+    let network = match network_for(alloc, args, folder) {
+        Ok(network) => network,
         Err(status) => return Err(status),
     };
     match capacities_for(alloc, &args.capacities, folder) {
-        Ok(capacities) => Ok((args, network, capacities)),
+        Ok(capacities) => Ok((network, capacities)),
         Err(status) => Err(status),
     }
 }
@@ -214,7 +198,7 @@ pub struct Stopped {
 }
 
 /// A run that stops of no line.
-fn stopped_by(status: Status) -> Stopped
+pub(crate) fn stopped_by(status: Status) -> Stopped
     ensures { (result.status ≡ status) × (result.source ≡ None) }
 {
     Stopped {
@@ -240,6 +224,26 @@ fn stopped_at(number: u32, source: &Source, line: u32, why: Why) -> Stopped
     }
 }
 
+/// The tuples that the stream's text of the source with this number has.
+pub(crate) fn tuples_of(
+    alloc: Global,
+    number: u32,
+    source: &Source,
+    bytes: &[u8],
+) -> Result<Vec<Tuple>, Stopped>
+    requires within { source_within source.now ≡ true }
+    requires few { length bytes.now + 1 < 2 ^ 32 }
+    ensures tuples { IfOk result (λ xs. stream_in source.now.schema bytes.now ≡ Ok xs.items) }
+    ensures recorded { IfOk result (λ xs. ReadsStreams source.now.schema xs.items) }
+    ensures bad { IfErr result (λ s. HasBadLine number source.now bytes.now s.status (source_of s.source)) }
+{
+    match read_stream(alloc, bytes, &source.schema) {
+        Ok(tuples) => Ok(tuples),
+        Err(StreamErr::Bad { line, why }) => Err(stopped_at(number, source, line, why)),
+        Err(StreamErr::Memory) => Err(stopped_by(Status::Memory)),
+    }
+}
+
 /// The tuples of the source with this number.
 fn stream_of<F: Folder>(
     alloc: Global,
@@ -258,11 +262,7 @@ fn stream_of<F: Folder>(
         Ok(bytes) => bytes,
         Err(status) => return Err(stopped_by(status)),
     };
-    match read_stream(alloc, bytes.as_slice(), &source.schema) {
-        Ok(tuples) => Ok(tuples),
-        Err(StreamErr::Bad { line, why }) => Err(stopped_at(number, source, line, why)),
-        Err(StreamErr::Memory) => Err(stopped_by(Status::Memory)),
-    }
+    tuples_of(alloc, number, source, bytes.as_slice())
 }
 
 /// The tuples of each source, in the order of the network file.
@@ -306,24 +306,23 @@ pub struct Accepted {
     pub frames: u32,
 }
 
-/// What the words and files come to, or the status of a run that stops at them.
-pub fn prepare<F: Folder>(
-    alloc: Global,
-    words: &Vec<String>,
-    folder: &mut F,
-) -> Result<Accepted, Stopped>
-    ensures command { IfOk result (λ _. IsSome (command_in (map string_bytes words.now.items))) }
+/// What the files come to that are asked for, or the status of a run that stops at them.
+pub fn prepare<F: Folder>(alloc: Global, args: RunArgs, folder: &mut F) -> Result<Accepted, Stopped>
+    requires train { 1 ≤ args.train }
+    requires frames { 2 ≤ args.frames }
     ensures sound { IfOk result (λ a. IsSound a.network) }
     ensures limits { IfOk result (λ a. KeepsDropLimits a.network) }
     ensures recorded { IfOk result (λ a. AreRecorded a.network.sources (map (λ xs. xs.items) a.sources.items)) }
     ensures train { IfOk result (λ a. 1 ≤ a.train) }
     ensures frames { IfOk result (λ a. 2 ≤ a.frames) }
-    ensures accepted { IfOk result (λ a. WhereTold (F.files folder.old) (λ files. accepted (file files) (map string_bytes words.now.items) ≡ Ok (replay_of a))) }
-    ensures stopped { IfErr result (λ s. IsStopped (map string_bytes words.now.items) (F.files folder.old) (F.faults folder.old) (F.faults folder.new) (F.taken folder.old) (F.taken folder.new) s.status (source_of s.source)) }
+    ensures accepted { IfOk result (λ a. (words : List (List ℕ)) → command_in words ≡ Some (Command.Run args)
+        → WhereTold (F.files folder.old) (λ files. accepted (file files) words ≡ Ok (replay_of a))) }
+    ensures stopped { IfErr result (λ s. (words : List (List ℕ)) → command_in words ≡ Some (Command.Run args)
+        → IsStopped words (F.files folder.old) (F.faults folder.old) (F.faults folder.new) (F.taken folder.old) (F.taken folder.new) s.status (source_of s.source)) }
     ensures files { F.files folder.new ≡ F.files folder.old }
     ensures later { (F.faults folder.old ≤ F.faults folder.new) × (F.taken folder.old ≤ F.taken folder.new) }
 {
-    let (args, network, capacities) = match limits_for(alloc, words, folder) {
+    let (network, capacities) = match limits_for(alloc, &args, folder) {
         Ok(named) => named,
         Err(status) => return Err(stopped_by(status)),
     };

@@ -1,7 +1,8 @@
 // A run, but for its message, and the message.
-ghost use Rattle.std.specs.Prelude.{◌≡◌, ◌⊎◌, ℕ, ◌+◌, ◌^◌, ◌≤◌, [], IfErr, IfOk, OnErr, OnOk, Option, false, is_some, map, true};
+ghost use Rattle.std.specs.Prelude.{◌≡◌, ◌≢◌, ◌⊎◌, ℕ, ◌+◌, ◌^◌, ◌≤◌, [], IfErr, IfOk, List, OnErr, OnOk, Option, Some, false, is_some, map, true};
 ghost use Rattle.std.specs.String.{string_bytes};
 ghost use Rattle.sq_outside.specs.Faults.{Rose};
+ghost use Rattle.sq_outside.specs.Folders.{Files};
 ghost use Rattle.sq_value.specs.Lists.{IsPrefixOf};
 ghost use Rattle.sq_net.specs.Sound.{IsSound};
 ghost use Rattle.sq_points.specs.Limits.{KeepsDropLimits};
@@ -9,22 +10,27 @@ ghost use Rattle.sq_outside.specs.Disks.{Pages};
 ghost use Rattle.sq_paged.specs.Fronts.{Tells};
 ghost use Rattle.sq_core.specs.Runs.{IsRun, IsSoundEngine};
 ghost use Rattle.sq_top.specs.Answers.{IsPrefixText, IsWholeText};
-ghost use Rattle.sq_top.specs.Causes.{AppendsSuch, Ends, TellsStatus, is_refusal, source_of};
+ghost use Rattle.sq_top.specs.Commands.{IsGen, command_in};
+ghost use Rattle.sq_top.specs.Causes.{AppendsSuch, BeginsSummary, Ends, TellsStatus, files_for, is_refusal, source_of};
+ghost use Rattle.sq_top.specs.Summaries.{summary_of};
 ghost use Rattle.sq_top.specs.Stopping.{StopHasCause, is_changed};
 ghost use Rattle.sq_top.specs.Driving.{IsCutShort};
 ghost use Rattle.sq_top.specs.Due.{due_of, replayed, turns_in, work_in};
 ghost use Rattle.sq_top.specs.Recorded.{AreRecorded};
 ghost use Rattle.sq_top.specs.Views.{replay_of};
 
-use crate::Status;
+use crate::counting::count;
 use crate::driving::drive;
+use crate::generating::prepare_made;
 use crate::messages::message;
-use crate::reading::{Accepted, Stopped, prepare};
+use crate::reading::{Accepted, Stopped, prepare, stopped_by};
+use crate::summing::write_summary;
+use crate::words::read_words;
 use crate::writing::write_ends;
+use crate::{Command, RunArgs, Status, WordsErr};
 use sq_core::Engine;
 use sq_outside::{Folder, PageDisk, Sink, Steps, write_all};
 use sq_sched::Policy;
-use sq_value::Name;
 use std::alloc::Global;
 use std::sync::ledger::Ledger;
 
@@ -89,17 +95,55 @@ fn replay<D: PageDisk, S: Sink, L: Ledger>(
     }
 }
 
-/// Does what the words ask for, and says how it ended.
-pub fn run<F: Folder, D: PageDisk, S: Sink, L: Ledger>(
+/// Replays what a number makes under its schedule, and writes the summary of it.
+fn sum_up<D: PageDisk, S: Sink, L: Ledger>(
     alloc: Global,
-    words: &Vec<String>,
+    number: u64,
+    rows: u32,
+    accepted: Accepted,
+    disk: &mut D,
+    out: &mut S,
+    steps: &mut Steps<L>,
+) -> Result<(), Status>
+    requires sound { IsSound accepted.network }
+    requires limits { KeepsDropLimits accepted.network }
+    requires recorded { AreRecorded accepted.network.sources (map (λ xs. xs.items) accepted.sources.items) }
+    requires train { 1 ≤ accepted.train }
+    requires frames { 2 ≤ accepted.frames }
+    ensures ok { OnOk result (Tells (D.pages disk.old) → AppendsSuch (S.written out.old) (S.written out.new) (λ text. text ≡ summary_of number rows (replayed (replay_of accepted)))) }
+    ensures err { IfErr result (λ s. Tells (D.pages disk.old) → AppendsSuch (S.written out.old) (S.written out.new) (BeginsSummary number rows (replayed (replay_of accepted)) s)) }
+    ensures steps { OnOk result (Tells (D.pages disk.old) → steps.new ≡ steps.old + work_in (replayed (replay_of accepted))) }
+    ensures fewer { OnErr result (Tells (D.pages disk.old) → steps.new ≤ steps.old + work_in (replayed (replay_of accepted))) }
+    ensures cut { IfErr result (IsCutShort (S.faults out.old) (S.faults out.new)) }
+    ensures stopped { IfErr result (StopHasCause (λ e. e.network ≡ accepted.network) (D.faults disk.old) (D.faults disk.new)) }
+    ensures unchanged { IfErr result (λ s. Tells (D.pages disk.old) → is_changed s ≡ false) }
+    ensures too_much { IfErr result (λ s. Tells (D.pages disk.old) → s ≡ Status.TooMuch → 2 ^ 62 ≤ turns_in (replayed (replay_of accepted))) }
+    ensures tells { is_some (D.pages disk.new) ≡ is_some (D.pages disk.old) }
+    ensures later { (D.faults disk.old ≤ D.faults disk.new) × (S.faults out.old ≤ S.faults out.new) }
+{
+    let (engine, policy) = match start(alloc, accepted) {
+        Ok(started) => started,
+        Err(status) => return Err(status),
+    };
+    match count(alloc, engine, policy, disk, steps) {
+        Ok((engine, counts)) => write_summary(alloc, number, rows, &engine, &counts, out),
+        Err(status) => Err(status),
+    }
+}
+
+/// Does what a run of a network's files asks for, and says how it ended.
+fn run_files<F: Folder, D: PageDisk, S: Sink, L: Ledger>(
+    alloc: Global,
+    args: RunArgs,
     folder: &mut F,
     disk: &mut D,
     out: &mut S,
     steps: &mut Steps<L>,
 ) -> Stopped
-    ensures ends { Ends (map string_bytes words.now.items) (record {
-      told = F.files folder.old;
+    requires train { 1 ≤ args.train }
+    requires frames { 2 ≤ args.frames }
+    ensures ends { (words : List (List ℕ)) → command_in words ≡ Some (Command.Run args) → Ends words (record {
+      told = files_for words (F.files folder.old);
       folder_before = F.faults folder.old;
       folder_now = F.faults folder.new;
       taken_before = F.taken folder.old;
@@ -121,7 +165,7 @@ pub fn run<F: Folder, D: PageDisk, S: Sink, L: Ledger>(
     ensures later { (F.faults folder.old ≤ F.faults folder.new) × (F.taken folder.old ≤ F.taken folder.new)
         × (D.faults disk.old ≤ D.faults disk.new) × (S.faults out.old ≤ S.faults out.new) }
 {
-    let accepted = match prepare(alloc, words, folder) {
+    let accepted = match prepare(alloc, args, folder) {
         Ok(accepted) => accepted,
         Err(stopped) => return stopped,
     };
@@ -137,6 +181,95 @@ pub fn run<F: Folder, D: PageDisk, S: Sink, L: Ledger>(
     }
 }
 
+/// Runs what a number makes, and says how it ended.
+fn run_made<D: PageDisk, S: Sink, L: Ledger>(
+    alloc: Global,
+    number: u64,
+    rows: u32,
+    disk: &mut D,
+    out: &mut S,
+    steps: &mut Steps<L>,
+) -> Stopped
+    requires some { 1 ≤ rows }
+    requires bound { rows ≤ 1000000 }
+    ensures ends { (words : List (List ℕ)) (told : Option Files) (faults taken : ℕ) → command_in words ≡ Some (Command.Gen number rows) → Ends words (record {
+      told = files_for words told;
+      folder_before = faults;
+      folder_now = faults;
+      taken_before = taken;
+      taken_now = taken;
+      pages = D.pages disk.old;
+      disk_before = D.faults disk.old;
+      disk_now = D.faults disk.new;
+      out_before = S.written out.old;
+      out_now = S.written out.new;
+      sink_before = S.faults out.old;
+      sink_now = S.faults out.new;
+      steps_before = steps.old;
+      steps_now = steps.new;
+    })
+        result.status (source_of result.source) }
+    ensures disk { is_refusal result.status ≡ true → (D.pages disk.new ≡ D.pages disk.old) × (D.faults disk.new ≡ D.faults disk.old) }
+    ensures tells { is_some (D.pages disk.new) ≡ is_some (D.pages disk.old) }
+    ensures later { (D.faults disk.old ≤ D.faults disk.new) × (S.faults out.old ≤ S.faults out.new) }
+{
+    let accepted = match prepare_made(alloc, number, rows) {
+        Ok(accepted) => accepted,
+        Err(stopped) => return stopped,
+    };
+    match sum_up(alloc, number, rows, accepted, disk, out, steps) {
+        Ok(()) => Stopped {
+            status: Status::Ok,
+            source: None,
+        },
+        Err(status) => Stopped {
+            status,
+            source: None,
+        },
+    }
+}
+
+/// Does what the words ask for, and says how it ended.
+pub fn run<F: Folder, D: PageDisk, S: Sink, L: Ledger>(
+    alloc: Global,
+    words: &Vec<String>,
+    folder: &mut F,
+    disk: &mut D,
+    out: &mut S,
+    steps: &mut Steps<L>,
+) -> Stopped
+    ensures ends { Ends (map string_bytes words.now.items) (record {
+      told = files_for (map string_bytes words.now.items) (F.files folder.old);
+      folder_before = F.faults folder.old;
+      folder_now = F.faults folder.new;
+      taken_before = F.taken folder.old;
+      taken_now = F.taken folder.new;
+      pages = D.pages disk.old;
+      disk_before = D.faults disk.old;
+      disk_now = D.faults disk.new;
+      out_before = S.written out.old;
+      out_now = S.written out.new;
+      sink_before = S.faults out.old;
+      sink_now = S.faults out.new;
+      steps_before = steps.old;
+      steps_now = steps.new;
+    })
+        result.status (source_of result.source) }
+    ensures files { F.files folder.new ≡ F.files folder.old }
+    ensures unread { IsGen (command_in (map string_bytes words.now.items)) → (F.faults folder.new ≡ F.faults folder.old) × (F.taken folder.new ≡ F.taken folder.old) }
+    ensures disk { is_refusal result.status ≡ true → (D.pages disk.new ≡ D.pages disk.old) × (D.faults disk.new ≡ D.faults disk.old) }
+    ensures tells { is_some (D.pages disk.new) ≡ is_some (D.pages disk.old) }
+    ensures later { (F.faults folder.old ≤ F.faults folder.new) × (F.taken folder.old ≤ F.taken folder.new)
+        × (D.faults disk.old ≤ D.faults disk.new) × (S.faults out.old ≤ S.faults out.new) }
+{
+    match read_words(alloc, words) {
+        Ok(Command::Run(args)) => run_files(alloc, args, folder, disk, out, steps),
+        Ok(Command::Gen { number, rows }) => run_made(alloc, number, rows, disk, out, steps),
+        Err(WordsErr::Usage) => stopped_by(Status::Usage),
+        Err(WordsErr::Memory) => stopped_by(Status::Memory),
+    }
+}
+
 /// Writes a message as far as the sink takes it.
 fn say<E: Sink>(err: &mut E, text: &[u8])
     ensures told { AppendsSuch (E.written err.old) (E.written err.new) (λ said. (said ≡ text.now) ⊎ (Rose (E.faults err.old) (E.faults err.new) × IsPrefixOf said text.now)) }
@@ -145,13 +278,17 @@ fn say<E: Sink>(err: &mut E, text: &[u8])
     let _ = write_all(err, text);
 }
 
-/// Tells the status of a run, or that memory ran out where there is none for the message.
+/// Tells the status of a run, or that memory ran out where there is none for the message. That the output failed takes none.
 pub fn tell<E: Sink>(alloc: Global, stopped: Stopped, err: &mut E) -> Stopped
-    ensures status { (result.status ≡ stopped.status) ⊎ (result.status ≡ Status.Memory) }
+    ensures status { (result.status ≡ stopped.status) ⊎ ((result.status ≡ Status.Memory) × (stopped.status ≢ Status.SinkFault)) }
     ensures source { source_of result.source ≡ source_of stopped.source }
     ensures told { AppendsSuch (E.written err.old) (E.written err.new) (TellsStatus (source_of result.source) (E.faults err.old) (E.faults err.new) result.status) }
     ensures later { E.faults err.old ≤ E.faults err.new }
 {
+    if let Status::SinkFault = stopped.status {
+        say(err, b"aurora: output failed\n");
+        return stopped;
+    }
     match message(alloc, &stopped.source, &stopped.status) {
         Ok(text) => {
             say(err, text.as_str().as_bytes());

@@ -4,7 +4,7 @@ ghost use Rattle.std.specs.List.{list_all};
 ghost use Rattle.std.specs.Option.{option_map};
 ghost use Rattle.std.specs.String.{string_bytes};
 ghost use Rattle.sq_value.specs.Texts.{is_digit, read_number};
-ghost use Rattle.sq_top.specs.Commands.{args_of, command_in, dashed_piece, given_from, is_known, known_args, lone, named_piece, number_or, number_within, piece_of, rule_named, rule_of, run_args, same_option, values_of, whole_piece};
+ghost use Rattle.sq_top.specs.Commands.{args_of, command_in, dashed_piece, gen_args, given_from, is_known, known_args, lone, named_piece, number_or, number_within, piece_of, rule_named, rule_of, run_args, same_option, values_of, whole_piece};
 ghost use Rattle.sq_top.specs.Views.{wanted_view, given_view, piece_view, text_view};
 
 use crate::{Command, RunArgs, WordsErr};
@@ -305,9 +305,24 @@ fn run_args(alloc: Global, words: &[String]) -> Result<RunArgs, WordsErr>
     }
 }
 
+/// What the words behind `gen` ask for.
+fn gen_args(words: &[String]) -> Option<Command>
+    ensures { result ≡ gen_args (map string_bytes words.now) }
+{
+    let [number, rows] = words else {
+        return None;
+    };
+    let number = number_within(0, u64::MAX, number.as_str())?;
+    let rows = number_within(1, 1_000_000, rows.as_str())?;
+    Some(Command::Gen {
+        number,
+        rows: rows as u32,
+    })
+}
+
 /// What words ask for: `run NET [--capacities FILE] [--seed N] [--policy rr|long|seeded] [--picks FILE] [--train N] [--frames N]`,
 /// where each option stands once at most, as `--name value` or `--name=value`, and a policy excludes picks. A seed has 64 bits,
-/// a train is 1 to 4096, frames are 2 to 16,384.
+/// a train is 1 to 4096, frames are 2 to 16,384. Or `gen NUMBER ROWS`, where the number has 64 bits and the rows are 1 to 1,000,000.
 pub fn read_words(alloc: Global, words: &Vec<String>) -> Result<Command, WordsErr>
     ensures command { IfOk result (λ c. command_in (map string_bytes words.now.items) ≡ Some c) }
     ensures usage { result ≡ Err WordsErr.Usage → command_in (map string_bytes words.now.items) ≡ None }
@@ -315,11 +330,17 @@ pub fn read_words(alloc: Global, words: &Vec<String>) -> Result<Command, WordsEr
     let [first, rest @ ..] = words.as_slice() else {
         return Err(WordsErr::Usage);
     };
-    if !same_text(first.as_str(), "run") {
+    if same_text(first.as_str(), "run") {
+        return match run_args(alloc, rest) {
+            Ok(args) => Ok(Command::Run(args)),
+            Err(e) => Err(e),
+        };
+    }
+    if !same_text(first.as_str(), "gen") {
         return Err(WordsErr::Usage);
     }
-    match run_args(alloc, rest) {
-        Ok(args) => Ok(Command::Run(args)),
-        Err(e) => Err(e),
+    match gen_args(rest) {
+        Some(command) => Ok(command),
+        None => Err(WordsErr::Usage),
     }
 }

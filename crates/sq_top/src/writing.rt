@@ -57,7 +57,7 @@ fn count_boxes(network: &Network) -> u32
 }
 
 /// How many tuples each box was fed, in file order.
-fn count_fed(alloc: Global, engine: &Engine) -> Result<Vec<u64>, AllocError>
+pub(crate) fn count_fed(alloc: Global, engine: &Engine) -> Result<Vec<u64>, AllocError>
     requires { IsSoundEngine engine.now }
     ensures { IfOk result (λ v. v.items ≡ map (fed_at engine.now) (numbers_to (length engine.now.network.boxes))) }
 {
@@ -69,7 +69,7 @@ fn count_fed(alloc: Global, engine: &Engine) -> Result<Vec<u64>, AllocError>
 }
 
 /// How many of them each box has neither given nor holds, in file order.
-fn count_late(alloc: Global, engine: &Engine) -> Result<Vec<u64>, AllocError>
+pub(crate) fn count_late(alloc: Global, engine: &Engine) -> Result<Vec<u64>, AllocError>
     requires { IsSoundEngine engine.now }
     ensures { IfOk result (λ v. v.items ≡ map (late_at engine.now) (numbers_to (length engine.now.network.boxes))) }
 {

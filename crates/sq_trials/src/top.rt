@@ -31,7 +31,9 @@ fn run_with_a_name_and_options_is_a_command(rt: HostRuntime) -> Result<(), Fail>
         "c",
     ];
     let words = words_of(rt.alloc(), &options)?;
-    let Command::Run(args) = read_words(rt.alloc(), &words).ok().ok_or("no command")?;
+    let Some(Command::Run(args)) = read_words(rt.alloc(), &words).ok() else {
+        return Err(Fail::from("no run"));
+    };
     assert_eq!(rt; args.net.as_str(), "a.toml");
     assert!(rt;
         args.seed == 7 && args.rule == Rule::Longest && args.train == 16 && args.frames == 256

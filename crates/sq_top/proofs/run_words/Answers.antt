@@ -24,6 +24,7 @@ returns g c =
       complete = e.complete;
       message = (source_of c.run-stopped.result.source, e.named, rw c.tell.ensures.source at c.tell.ensures.told);
       same_files = c.run-stopped.ensures.files;
+      unread = c.run-stopped.ensures.unread;
       same_disk = λ refused. c.run-stopped.ensures.disk (told_refused _ _ c.tell.ensures.status refused);
       tells = c.run-stopped.ensures.tells;
       later = (c.run-stopped.ensures.later.0, c.run-stopped.ensures.later.1, c.run-stopped.ensures.later.2, c.run-stopped.ensures.later.3, c.tell.ensures.later);

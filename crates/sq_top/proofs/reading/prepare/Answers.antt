@@ -1,45 +1,34 @@
 use Rattle.std.proofs.Common.{arith, map, ◌∙◌, ◌≤◌}
-use Rattle.std.specs.String.{string_bytes}
 use Rattle.sq_top.specs.Scripts.{unread, with_sources}
-use Rattle.sq_top.proofs.StoppedLemmas.{accepted_streams, is_command, no_picks_later, no_streams_later, picks_leads, stopped_picks, stopped_streams}
-use Rattle.sq_top.proofs.TrainLemmas.{command_least}
+use Rattle.sq_top.proofs.StoppedLemmas.{accepted_streams, is_command, is_of_run, no_picks_later, no_streams_later, picks_leads, stopped_picks, stopped_streams}
 use Rattle.sq_top.proofs.reading.prepare.Goals as goal
 
 pub returns-in-Err-picks_for-clause-stopped : goal.returns-in-Err-picks_for-clause-stopped
-returns-in-Err-picks_for-clause-stopped g c =
-    let words = map string_bytes c.args.words.now.items in
+returns-in-Err-picks_for-clause-stopped g c words asked =
     rw (c.stopped_by-in-Err-picks_for.ensures.0, c.stopped_by-in-Err-picks_for.ensures.1)
-    (stopped_picks words c.in-Ok.named.0 c.in-Ok.ensures.command (g.F.Folder.files c.args.folder.now) c.in-Ok.named.1 c.in-Ok.named.2 c.in-Ok.ensures.leads _ _ _ _ c.in-Err-picks_for.status _
-    (no_picks_later _ _ _ _ _ _ _ _ (c.in-Ok.named.0).picks c.in-Ok.ensures.later.0 c.in-Ok.ensures.later.1 (rw c.in-Ok.ensures.files at c.in-Err-picks_for.ensures.missing)))
+    (stopped_picks words c.args.args asked (g.F.Folder.files c.args.folder.now) c.in-Ok.named.0 c.in-Ok.named.1 (c.in-Ok.ensures.leads words asked) _ _ _ _ c.in-Err-picks_for.status _
+    (no_picks_later _ _ _ _ _ _ _ _ c.args.args.picks c.in-Ok.ensures.later.0 c.in-Ok.ensures.later.1 (rw c.in-Ok.ensures.files at c.in-Err-picks_for.ensures.missing)))
 
 pub returns-in-Ok-streams_of-clause-accepted : goal.returns-in-Ok-streams_of-clause-accepted
-returns-in-Ok-streams_of-clause-accepted g c =
-    let words = map string_bytes c.args.words.now.items in
-    let args = c.in-Ok.named.0 in
-    let n = c.in-Ok.named.1 in
+returns-in-Ok-streams_of-clause-accepted g c words asked =
+    let args = c.args.args in
+    let n = c.in-Ok.named.0 in
     let told = g.F.Folder.files c.args.folder.now in
-    let start = unread args n c.in-Ok.named.2 c.in-Ok-picks_for.picks.items in
+    let start = unread args n c.in-Ok.named.1 c.in-Ok-picks_for.picks.items in
     let r = with_sources start (map (λ xs. xs.items) c.in-Ok-streams_of.sources.items) in
     let same = c.in-Ok-picks_for.ensures.files ∙ c.in-Ok.ensures.files in
-    let leads = picks_leads words args c.in-Ok.ensures.command told n c.in-Ok.named.2 c.in-Ok.ensures.leads c.in-Ok-picks_for.picks.items (rw c.in-Ok.ensures.files at c.in-Ok-picks_for.ensures.picks) in
-    accepted_streams words told r (is_command words args c.in-Ok.ensures.command told) leads c.in-Ok.ensures.named (rw same at (c.in-Ok-streams_of.ensures.leads start))
+    let leads = picks_leads words args asked told n c.in-Ok.named.1 (c.in-Ok.ensures.leads words asked) c.in-Ok-picks_for.picks.items (rw c.in-Ok.ensures.files at c.in-Ok-picks_for.ensures.picks) in
+    accepted_streams words told r (is_command words args asked told) (is_of_run words args asked told) leads (c.in-Ok.ensures.named words asked) (rw same at (c.in-Ok-streams_of.ensures.leads start))
 
 pub returns-clause-stopped : goal.returns-clause-stopped
-returns-clause-stopped g c =
-    let words = map string_bytes c.args.words.now.items in
-    let args = c.in-Ok.named.0 in
-    let n = c.in-Ok.named.1 in
+returns-clause-stopped g c words asked =
+    let args = c.args.args in
+    let n = c.in-Ok.named.0 in
     let told = g.F.Folder.files c.args.folder.now in
-    let r = unread args n c.in-Ok.named.2 c.in-Ok-picks_for.picks.items in
+    let r = unread args n c.in-Ok.named.1 c.in-Ok-picks_for.picks.items in
     let same = c.in-Ok-picks_for.ensures.files ∙ c.in-Ok.ensures.files in
-    let leads = picks_leads words args c.in-Ok.ensures.command told n c.in-Ok.named.2 c.in-Ok.ensures.leads c.in-Ok-picks_for.picks.items (rw c.in-Ok.ensures.files at c.in-Ok-picks_for.ensures.picks) in
+    let leads = picks_leads words args asked told n c.in-Ok.named.1 (c.in-Ok.ensures.leads words asked) c.in-Ok-picks_for.picks.items (rw c.in-Ok.ensures.files at c.in-Ok-picks_for.ensures.picks) in
     let faults : g.F.Folder.faults c.args.folder.now ≤ g.F.Folder.faults c.picks_for.new.folder = omega (arith, c.in-Ok.ensures.later.0, c.in-Ok-picks_for.ensures.later.0) in
     let taken : g.F.Folder.taken c.args.folder.now ≤ g.F.Folder.taken c.picks_for.new.folder = omega (arith, c.in-Ok.ensures.later.1, c.in-Ok-picks_for.ensures.later.1) in
-    stopped_streams words told r (is_command words args c.in-Ok.ensures.command told) leads c.in-Ok.ensures.named _ _ _ _ c.in-Err-streams_of.stopped.status _
+    stopped_streams words told r (is_command words args asked told) (is_of_run words args asked told) leads (c.in-Ok.ensures.named words asked) _ _ _ _ c.in-Err-streams_of.stopped.status _
     (no_streams_later told r n.sources _ _ _ _ _ _ _ _ faults taken (rw same at (c.in-Err-streams_of.ensures.stopped r)))
-
-pub returns-in-Ok-streams_of-clause-train : goal.returns-in-Ok-streams_of-clause-train
-returns-in-Ok-streams_of-clause-train g c = (command_least (map string_bytes c.args.words.now.items) c.in-Ok.named.0 c.in-Ok.ensures.command).0
-
-pub returns-in-Ok-streams_of-clause-frames : goal.returns-in-Ok-streams_of-clause-frames
-returns-in-Ok-streams_of-clause-frames g c = (command_least (map string_bytes c.args.words.now.items) c.in-Ok.named.0 c.in-Ok.ensures.command).1

@@ -1,5 +1,4 @@
-use Rattle.std.proofs.Common.{◌≡◌, ◌≤◌, ◌^◌, arith, false, map, ◌∙◌}
-use Rattle.sq_replay.proofs.ShownLemmas.{on_err_any}
+use Rattle.std.proofs.Common.{◌≡◌, ◌≤◌, ◌^◌, arith, false, ◌∙◌}
 use Rattle.sq_paged.specs.Fronts.{Tells}
 use Rattle.sq_top.specs.Views.{replay_of}
 use Rattle.sq_top.specs.declared.Status.TheVariants as status

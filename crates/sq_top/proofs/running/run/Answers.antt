@@ -1,21 +1,33 @@
-use Rattle.std.proofs.Common.{◌≡◌, true, false, refl, sym, ◌∙◌}
-use Rattle.sq_top.specs.Views.{replay_of}
-use Rattle.sq_top.proofs.EndLemmas.{answered_cut, answered_ok, stopped_ends}
+use Rattle.std.proofs.Common.{ap, map, refl, ◌∙◌, Some}
+use Rattle.std.specs.String.{string_bytes}
+use Rattle.sq_top.specs.declared.Command.{Command}
+use Rattle.sq_top.proofs.EndLemmas.{stopped_ends}
+use Rattle.sq_top.proofs.StoppedLemmas.{stopped_memory}
+use Rattle.sq_top.proofs.TrainLemmas.{command_least, gen_rows}
 use Rattle.sq_top.proofs.running.run.Goals as goal
 
-pub returns-in-Err-clause-ends : goal.returns-in-Err-clause-ends
-returns-in-Err-clause-ends g c = stopped_ends _ _ c.in-Err.stopped.status _ c.in-Err.ensures.stopped refl refl
+pub run_files-requires-clause-train : goal.run_files-requires-clause-train
+run_files-requires-clause-train g c =
+    (command_least (map string_bytes c.args.words.now.items) c.in-Ok-Run.args (c.in-Ok-Run.ensures.command ∙ ap (λ (x : Command). Some x) c.in-Ok-Run.field-0-is)).0
 
-pub returns-in-Ok-replay-clause-ends : goal.returns-in-Ok-replay-clause-ends
-returns-in-Ok-replay-clause-ends g c =
-    answered_ok _ _ (replay_of c.in-Ok.accepted) _ c.in-Ok.ensures.command c.in-Ok.ensures.accepted
-    (λ told. (c.in-Ok-replay.ensures.ok told, c.in-Ok-replay.ensures.steps told))
+pub run_files-requires-clause-frames : goal.run_files-requires-clause-frames
+run_files-requires-clause-frames g c =
+    (command_least (map string_bytes c.args.words.now.items) c.in-Ok-Run.args (c.in-Ok-Run.ensures.command ∙ ap (λ (x : Command). Some x) c.in-Ok-Run.field-0-is)).1
 
-pub returns-in-Err-replay-clause-ends : goal.returns-in-Err-replay-clause-ends
-returns-in-Err-replay-clause-ends g c =
-    answered_cut _ _ (replay_of c.in-Ok.accepted) _ c.in-Ok.ensures.command c.in-Ok.ensures.accepted c.in-Err-replay.status
-    c.in-Err-replay.ensures.cut c.in-Err-replay.ensures.stopped c.in-Err-replay.ensures.unchanged c.in-Err-replay.ensures.too_much
-    (λ told. (c.in-Err-replay.ensures.err told, c.in-Err-replay.ensures.fewer told))
+pub run_made-requires-clause-some : goal.run_made-requires-clause-some
+run_made-requires-clause-some g c =
+    (gen_rows (map string_bytes c.args.words.now.items) c.in-Ok-Gen.number c.in-Ok-Gen.rows (c.in-Ok-Gen.ensures.command ∙ ap (λ (x : Command). Some x) c.in-Ok-Gen.field-0-is)).0
 
-pub returns-in-Err-replay-clause-disk : goal.returns-in-Err-replay-clause-disk
-returns-in-Err-replay-clause-disk g c refused = let both : true ≡ false = sym refused ∙ c.in-Err-replay.ensures.cut.begun in absurd (cc)
+pub run_made-requires-clause-bound : goal.run_made-requires-clause-bound
+run_made-requires-clause-bound g c =
+    (gen_rows (map string_bytes c.args.words.now.items) c.in-Ok-Gen.number c.in-Ok-Gen.rows (c.in-Ok-Gen.ensures.command ∙ ap (λ (x : Command). Some x) c.in-Ok-Gen.field-0-is)).1
+
+pub returns-in-Ok-Gen-clause-ends : goal.returns-in-Ok-Gen-clause-ends
+returns-in-Ok-Gen-clause-ends g c =
+    c.run_made.ensures.ends (map string_bytes c.args.words.now.items) (g.F.Folder.files c.args.folder.now) (g.F.Folder.faults c.args.folder.now) (g.F.Folder.taken c.args.folder.now)
+    (c.in-Ok-Gen.ensures.command ∙ ap (λ (x : Command). Some x) c.in-Ok-Gen.field-0-is)
+
+pub returns-in-Err-Memory-clause-ends : goal.returns-in-Err-Memory-clause-ends
+returns-in-Err-Memory-clause-ends g c =
+    rw (c.stopped_by-in-Err-Memory.ensures.0, c.stopped_by-in-Err-Memory.ensures.1)
+    (stopped_ends _ _ _ _ (stopped_memory (map string_bytes c.args.words.now.items) _ _ _ _ _ _) refl refl)

@@ -1,0 +1,16 @@
+-- The states of all groups.
+use Rattle.std.specs.Prelude.{ℕ, List, [], ◌∷◌, ◌++◌, None}
+use Rattle.sq_value.specs.declared.Value.{Value}
+use Rattle.sq_aggfn.specs.declared.WindowSpec.{WindowSpec}
+use Rattle.sq_pane.specs.declared.line.Line.{Line}
+use Rattle.sq_pane.specs.Panes.{Key, in_group, joined_within, entry_of}
+
+-- the states of all groups, in the order of groups and then of panes
+abbrev pub states_of : {M : Type 0} → List (List Value × Line M) → List (Key × M)
+states_of [] = []
+states_of (l ∷ ls) = in_group l.0 l.1.states.items ++ states_of ls
+
+-- the groups of a window, one after another
+abbrev pub groups_within : {M : Type 0} → M → (M → M → M) → WindowSpec → ℕ → ℕ → List (List Value × Line M) → List (List Value × M)
+groups_within none join w width start [] = []
+groups_within none join w width start (l ∷ ls) = entry_of l.0 (joined_within none join w width start None l.1.states.items) ++ groups_within none join w width start ls

@@ -1,0 +1,85 @@
+//! The states of panes, by group and pane.
+
+ghost use Rattle.std.specs.Prelude.{◌≡◌, ℕ, ◌+◌, ◌*◌, ◌^◌, ◌<◌, ◌≤◌, ◌++◌, [], OnOk, IfOk, List};
+ghost use Rattle.std.specs.List.{AllByRecursion};
+ghost use Rattle.sq_aggfn.specs.Keyed.{added};
+ghost use Rattle.sq_pane.specs.Panes.{key_cmp, from_pane, window_from, total, AllAreMade, entry_of};
+ghost use Rattle.sq_pane.specs.States.{states_of, groups_within};
+
+use crate::line::{Line, add_to_line, joined_in, line_of_one};
+use sq_aggfn::{Fold, Group, WindowSpec};
+use sq_value::Tuple;
+use std::alloc::{AllocError, Global};
+use std::collections::BTreeMap;
+
+/// For each group that has tuples a state for each pane where it has them.
+pub type Held<S> = BTreeMap<Group, Line<S>>;
+
+/// The state of a pane and group becomes its join with that of a tuple, in place.
+pub fn add_at_key<F: Fold>(
+    alloc: Global,
+    fold: &F,
+    held: &mut Held<F::State>,
+    key: (u64, Group),
+    t: &Tuple,
+) -> Result<(), AllocError>
+    requires made { AllAreMade (F.made fold.now) (states_of held.old.entries) }
+    requires few { total (F.number fold.now) (states_of held.old.entries) + 1 < 2 ^ 62 }
+    ensures added { OnOk result (states_of held.new.entries ≡ added key_cmp (F.none fold.now) (F.joined fold.now) key (F.unit fold.now t.now) (states_of held.old.entries)) }
+    ensures made { OnOk result (AllAreMade (F.made fold.now) (states_of held.new.entries)) }
+    ensures total { OnOk result (total (F.number fold.now) (states_of held.new.entries) ≡ total (F.number fold.now) (states_of held.old.entries) + 1) }
+{
+    let _count = held.len();
+    if let Some(line) = held.get_mut(&key.1) {
+        return add_to_line(fold, line, key.0, t);
+    }
+    let line = line_of_one(alloc, fold, key.0, t)?;
+    held.insert(key.1, line)?;
+    Ok(())
+}
+
+/// Takes the states of all panes before a number out.
+pub fn forget_before<S: Drop>(held: &mut Held<S>, pane: u64)
+    ensures { states_of held.new.entries ≡ from_pane pane (states_of held.old.entries) }
+{
+    held.retain(|_, line| line.keep_from(pane));
+}
+
+/// Puts a group behind the others, where it has a state.
+fn push_some<S: Drop>(
+    groups: &mut Vec<(Group, S)>,
+    group: &Group,
+    state: Option<S>,
+) -> Result<(), AllocError>
+    ensures { OnOk result (groups.new.items ≡ groups.old.items ++ entry_of group.now state) }
+{
+    if let Some(state) = state {
+        groups.push((group.copied()?, state))?;
+    }
+    Ok(())
+}
+
+/// The states of the groups of the window that begins at a tick, in the order of groups.
+pub fn groups_at<F: Fold>(
+    alloc: Global,
+    fold: &F,
+    held: &Held<F::State>,
+    window: WindowSpec,
+    width: u64,
+    start: u64,
+) -> Result<Vec<(Group, F::State)>, AllocError>
+    requires start { start + window.size < 2 ^ 64 }
+    requires ticks { AllByRecursion (λ e. e.0.0 * width < 2 ^ 64) (states_of held.now.entries) }
+    requires made { AllAreMade (F.made fold.now) (states_of held.now.entries) }
+    requires few { total (F.number fold.now) (states_of held.now.entries) < 2 ^ 62 }
+    ensures value { IfOk result (λ groups. groups.items ≡ window_from (F.none fold.now) (F.joined fold.now) window width start [] (states_of held.now.entries)) }
+    ensures made { IfOk result (λ groups. AllAreMade (F.made fold.now) groups.items) }
+    ensures few { IfOk result (λ groups. total (F.number fold.now) groups.items ≤ total (F.number fold.now) (states_of held.now.entries)) }
+{
+    let mut groups = Vec::new(alloc);
+    for (group, line) in held.iter() {
+        let joined = joined_in(fold, &line.states, window, width, start)?;
+        push_some(&mut groups, group, joined)?;
+    }
+    Ok(groups)
+}

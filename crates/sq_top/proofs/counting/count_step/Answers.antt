@@ -1,0 +1,46 @@
+use Rattle.std.proofs.Common.{◌≡◌, arith, inl, ℕ, refl, subst, sym, None, []}
+use Rattle.sq_top.specs.Driving.{IsCutShort, Stops}
+use Rattle.sq_top.specs.Stopping.{StopHasCause}
+use Rattle.sq_top.proofs.CountingLemmas.{events_here, step_counts, there_all}
+use Rattle.sq_top.proofs.DrivingLemmas.{if_err, step_lost, step_stops}
+use Rattle.sq_top.proofs.StopLemmas.{lost_cut, lost_stop, step_cause, step_cut}
+use Rattle.sq_top.proofs.WritingLemmas.{lost_at_once, on_ok}
+use Rattle.sq_top.proofs.counting.count_step.Goals as goal
+
+pub count_events-requires : goal.count_events-requires
+count_events-requires g c =
+    rw c.as_slice.ensures.value
+    (record { there = there_all c.args.engine.now.network _ _ _ refl c.requires.room (events_here c.args.engine.now.network _ _ c.clear.ensures.items c.in-Ok.ensures.shows) })
+
+pub returns-in-Ok-clause-ok : goal.returns-in-Ok-clause-ok
+returns-in-Ok-clause-ok g c =
+    on_ok c.count_events.result (rw c.as_slice.ensures.value at c.count_events.ensures.ok)
+    (λ counted. step_counts _ _ _ _ _ _ _ _ _ _ c.clear.ensures.items c.in-Ok.ensures.shows c.in-Ok.ensures.run counted)
+
+pub returns-in-Ok-clause-err : goal.returns-in-Ok-clause-err
+returns-in-Ok-clause-err g c =
+    if_err
+    (Stops (g.D.PageDisk.pages c.args.disk.now) c.args.engine.now c.args.steps.now c.step.new.steps None [] None)
+    c.count_events.result c.count_events.ensures.memory
+    (λ s memory. step_lost _ _ _ _ _ _ c.clear.ensures.items _ _ c.in-Ok.ensures.shows c.in-Ok.ensures.run c.step.ensures.network None None [] 0 0 s c.step.ensures.tells (lost_at_once None _) (inl memory))
+
+pub returns-in-Err-clause-err : goal.returns-in-Err-clause-err
+returns-in-Err-clause-err g c = step_stops _ _ _ _ _ _ c.clear.ensures.items _ _ _ _ c.status_of.ensures c.in-Err.ensures.stopped
+
+pub returns-in-Err-clause-cut : goal.returns-in-Err-clause-cut
+returns-in-Err-clause-cut g c before now = subst (IsCutShort before now) (sym c.status_of.ensures) (step_cut before now c.in-Err.e)
+
+pub returns-in-Err-clause-stopped : goal.returns-in-Err-clause-stopped
+returns-in-Err-clause-stopped g c =
+    subst (StopHasCause (λ e. e.network ≡ c.args.engine.now.network) _ _) (sym c.status_of.ensures)
+    (step_cause _ c.step.new.self _ _ c.in-Err.e c.step.ensures.network c.in-Err.ensures.failed c.in-Err.ensures.cause c.in-Err.ensures.counted)
+
+pub returns-in-Ok-clause-cut : goal.returns-in-Ok-clause-cut
+returns-in-Ok-clause-cut g c =
+    if_err (λ s. (before now : ℕ) → IsCutShort before now s) c.count_events.result c.count_events.ensures.memory
+    (λ s memory before now. lost_cut before before now s (omega arith) (inl memory))
+
+pub returns-in-Ok-clause-stopped : goal.returns-in-Ok-clause-stopped
+returns-in-Ok-clause-stopped g c =
+    if_err (StopHasCause (λ e. e.network ≡ c.args.engine.now.network) (g.D.PageDisk.faults c.args.disk.now) (g.D.PageDisk.faults c.step.new.disk)) c.count_events.result
+    c.count_events.ensures.memory (λ s memory. lost_stop _ _ _ 0 0 s (inl memory))

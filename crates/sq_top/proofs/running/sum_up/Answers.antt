@@ -1,0 +1,92 @@
+use Rattle.std.proofs.Common.{◌≡◌, ◌≤◌, ◌^◌, arith, false, ◌∙◌}
+use Rattle.sq_paged.specs.Fronts.{Tells}
+use Rattle.sq_top.specs.Views.{replay_of}
+use Rattle.sq_top.specs.declared.Status.TheVariants as status
+use Rattle.sq_top.specs.Causes.{AppendsSuch, BeginsSummary}
+use Rattle.sq_top.specs.Driving.{IsCutShort}
+use Rattle.sq_top.specs.Due.{replayed, turns_in}
+use Rattle.sq_top.specs.Stopping.{StopHasCause, is_changed}
+use Rattle.sq_top.proofs.DrivingLemmas.{if_err, if_err_both, not_too_much}
+use Rattle.sq_top.proofs.StopLemmas.{lost_cut, lost_stop, lost_unchanged, stop_map}
+use Rattle.sq_top.proofs.SummaryLemmas.{summary_cut, summary_ends, summary_waits}
+use Rattle.sq_top.proofs.WritingLemmas.{on_err, on_ok}
+use Rattle.sq_top.proofs.running.sum_up.Goals as goal
+
+pub returns-in-Err-clause-err : goal.returns-in-Err-clause-err
+returns-in-Err-clause-err g c told =
+    summary_waits c.args.number c.args.rows (replayed (replay_of c.args.accepted)) (g.S.Sink.written c.args.out.now) c.in-Err.status
+
+pub count-requires-clause-together : goal.count-requires-clause-together
+count-requires-clause-together g c = (c.in-Ok.ensures.run _ c.args.steps.now).together
+
+pub returns-in-Ok-count-clause-ok : goal.returns-in-Ok-count-clause-ok
+returns-in-Ok-count-clause-ok g c =
+    let r = replayed (replay_of c.args.accepted) in
+    let run = c.in-Ok.ensures.run _ c.args.steps.now in
+    on_ok c.write_summary.result c.write_summary.ensures.ok
+    (λ written told. summary_ends c.args.number c.args.rows r c.in-Ok-count.engine (c.in-Ok-count.ensures.network ∙ run.network) c.in-Ok-count.counts _ _
+    (c.in-Ok-count.ensures.ok r c.args.steps.now told run) _ _ written)
+
+pub returns-in-Ok-count-clause-err : goal.returns-in-Ok-count-clause-err
+returns-in-Ok-count-clause-err g c =
+    let r = replayed (replay_of c.args.accepted) in
+    let run = c.in-Ok.ensures.run _ c.args.steps.now in
+    if_err_both (λ s. Tells (g.D.PageDisk.pages c.args.disk.now) → AppendsSuch (g.S.Sink.written c.args.out.now) (g.S.Sink.written c.write_summary.new.out) (BeginsSummary c.args.number c.args.rows r s))
+    c.write_summary.result c.write_summary.ensures.err c.write_summary.ensures.alone
+    (λ s written alone told. summary_cut c.args.number c.args.rows r c.in-Ok-count.engine (c.in-Ok-count.ensures.network ∙ run.network) c.in-Ok-count.counts _ _
+    (c.in-Ok-count.ensures.ok r c.args.steps.now told run) _ _ s written alone)
+
+pub returns-in-Ok-count-clause-steps : goal.returns-in-Ok-count-clause-steps
+returns-in-Ok-count-clause-steps g c =
+    let r = replayed (replay_of c.args.accepted) in
+    on_ok c.write_summary.result c.write_summary.ensures.ok
+    (λ written told. (c.in-Ok-count.ensures.ok r c.args.steps.now told (c.in-Ok.ensures.run _ c.args.steps.now)).work)
+
+pub returns-in-Ok-count-clause-fewer : goal.returns-in-Ok-count-clause-fewer
+returns-in-Ok-count-clause-fewer g c =
+    let r = replayed (replay_of c.args.accepted) in
+    on_err c.write_summary.result c.write_summary.ensures.err
+    (λ written told. (let work = (c.in-Ok-count.ensures.ok r c.args.steps.now told (c.in-Ok.ensures.run _ c.args.steps.now)).work in omega (arith, work)))
+
+pub returns-in-Err-count-clause-err : goal.returns-in-Err-count-clause-err
+returns-in-Err-count-clause-err g c told =
+    summary_waits c.args.number c.args.rows (replayed (replay_of c.args.accepted)) (g.S.Sink.written c.args.out.now) c.in-Err-count.status
+
+pub returns-in-Err-count-clause-fewer : goal.returns-in-Err-count-clause-fewer
+returns-in-Err-count-clause-fewer g c told =
+    (c.in-Err-count.ensures.err (replayed (replay_of c.args.accepted)) c.args.steps.now told (c.in-Ok.ensures.run _ c.args.steps.now)).work
+
+pub returns-in-Err-count-clause-too_much : goal.returns-in-Err-count-clause-too_much
+returns-in-Err-count-clause-too_much g c told =
+    (c.in-Err-count.ensures.err (replayed (replay_of c.args.accepted)) c.args.steps.now told (c.in-Ok.ensures.run _ c.args.steps.now)).too_much
+
+pub returns-in-Err-count-clause-unchanged : goal.returns-in-Err-count-clause-unchanged
+returns-in-Err-count-clause-unchanged g c told =
+    (c.in-Err-count.ensures.err (replayed (replay_of c.args.accepted)) c.args.steps.now told (c.in-Ok.ensures.run _ c.args.steps.now)).unchanged
+
+pub returns-in-Err-count-clause-cut : goal.returns-in-Err-count-clause-cut
+returns-in-Err-count-clause-cut g c = c.in-Err-count.ensures.cut _ _
+
+pub returns-in-Err-count-clause-stopped : goal.returns-in-Err-count-clause-stopped
+returns-in-Err-count-clause-stopped g c =
+    stop_map _ _ _ _ _ _ c.in-Err-count.status (λ rose. rose) (λ e same. same ∙ (c.in-Ok.ensures.run (g.D.PageDisk.pages c.args.disk.now) c.args.steps.now).network) c.in-Err-count.ensures.stopped
+
+pub returns-in-Ok-count-clause-cut : goal.returns-in-Ok-count-clause-cut
+returns-in-Ok-count-clause-cut g c =
+    if_err (IsCutShort (g.S.Sink.faults c.args.out.now) (g.S.Sink.faults c.write_summary.new.out)) c.write_summary.result c.write_summary.ensures.lost
+    (λ s lost. lost_cut _ _ _ s (omega arith) lost)
+
+pub returns-in-Ok-count-clause-stopped : goal.returns-in-Ok-count-clause-stopped
+returns-in-Ok-count-clause-stopped g c =
+    if_err (StopHasCause (λ e. e.network ≡ c.args.accepted.network) (g.D.PageDisk.faults c.args.disk.now) (g.D.PageDisk.faults c.count.new.disk)) c.write_summary.result
+    c.write_summary.ensures.lost (λ s lost. lost_stop _ _ _ _ _ s lost)
+
+pub returns-in-Ok-count-clause-unchanged : goal.returns-in-Ok-count-clause-unchanged
+returns-in-Ok-count-clause-unchanged g c =
+    if_err (λ s. Tells (g.D.PageDisk.pages c.args.disk.now) → is_changed s ≡ false) c.write_summary.result c.write_summary.ensures.lost
+    (λ s lost told. lost_unchanged _ _ s lost)
+
+pub returns-in-Ok-count-clause-too_much : goal.returns-in-Ok-count-clause-too_much
+returns-in-Ok-count-clause-too_much g c =
+    if_err (λ s. Tells (g.D.PageDisk.pages c.args.disk.now) → s ≡ status.TooMuch → 2 ^ 62 ≤ turns_in (replayed (replay_of c.args.accepted))) c.write_summary.result
+    c.write_summary.ensures.lost (λ s lost told. not_too_much (2 ^ 62 ≤ turns_in (replayed (replay_of c.args.accepted))) _ _ s lost)
