@@ -1,4 +1,8 @@
-use sq_graph::*;
+ghost use Rattle.std.specs.Prelude.{◌≡◌, ◌∷◌, [], IfOk};
+
+use sq_graph::{BoxKind, BoxWires, Wiring, order};
+use sq_value::ListOf;
+use std::alloc::{AllocError, Global};
 use std::test::Fail;
 
 fn map_of(alloc: Global, input: u32) -> Result<BoxWires, AllocError>

@@ -1,4 +1,4 @@
-use sq_item::*;
+use sq_item::{Item, Mark, copy_item};
 use sq_value::{ListOf, Value};
 use std::test::Fail;
 

@@ -1,4 +1,8 @@
-//! Trials
+//! Tests of the crates below, by their public calls: what no contract says, as printed text, outside vectors, and that each call
+//! can succeed. It offers nothing.
+//!
+//! They stand here and not in the crates that they test, since a crate with tests is proved a second time, as a program with
+//! them: here a test costs just its own functions.
 #![tactic(auto)]
 
 #[cfg(test)]
@@ -10,7 +14,11 @@ mod csv;
 #[cfg(test)]
 mod expr;
 #[cfg(test)]
-mod gen;
+mod feeding;
+#[cfg(test)]
+mod generator;
+#[cfg(test)]
+mod given;
 #[cfg(test)]
 mod graph;
 #[cfg(test)]
@@ -23,6 +31,8 @@ mod link;
 mod lists;
 #[cfg(test)]
 mod model;
+#[cfg(test)]
+mod numbers;
 #[cfg(test)]
 mod oper;
 #[cfg(test)]

@@ -1,4 +1,4 @@
-use sq_link::*;
+use sq_link::Chains;
 use std::test::Fail;
 
 #[test]

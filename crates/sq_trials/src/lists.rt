@@ -1,20 +1,12 @@
-ghost use Rattle.std.specs.Prelude.{◌≡◌, ◌≤◌, [], ◌∷◌, length, IfOk};
+ghost use Rattle.std.specs.Prelude.{IfOk};
 ghost use Rattle.sq_value.specs.Values.{IsStream};
 
-use sq_lists::*;
+use crate::numbers::{over_pairs, tuple_at};
 use sq_aggfn::{Func, WindowSpec};
-use sq_expr::{Typed, check, parse};
-use sq_value::{Kind, ListOf, Name, Schema, Tuple, Value};
+use sq_lists::{aggregate_list, bsort_list, filter_list, join_list, map_list, merge};
+use sq_value::{Tuple, Value};
 use std::alloc::{AllocError, Global};
 use std::test::Fail;
-
-// A tuple of one number.
-fn at(alloc: Global, time: u64, v: i64) -> Result<Tuple, AllocError>
-    ensures { IfOk result (λ x. x ≡ record { time = time; fields = Value.Int v ∷ [] }) }
-{
-    let fields = ListOf::new(vec![in alloc; Value::Int(v)]?);
-    Ok(Tuple { time, fields })
-}
 
 // A number of a tuple, or -1.
 fn number(x: &Tuple, place: usize) -> i64 {
@@ -34,33 +26,28 @@ fn are(tuples: &[Tuple], expected: &[(u64, i64, i64)]) -> bool {
     tuples.len() == expected.len()
 }
 
-// An expression over a left and a right number.
-fn typed(alloc: Global, text: &str) -> Result<Typed, Fail>
-    requires { length text.now ≤ 4096 }
-{
-    let names = vec![in alloc; Name::new(alloc, "l_v")?, Name::new(alloc, "r_v")?]?;
-    let scope = Schema::new(names, vec![in alloc; Kind::Int, Kind::Int]?)?;
-    Ok(check(alloc, &parse(alloc, text)?, &scope)?)
-}
-
 // The tuples 5:3, 6:1 and 7:2.
 fn stream(alloc: Global) -> Result<Vec<Tuple>, AllocError>
     ensures { IfOk result (λ xs. IsStream xs.items) }
 {
-    Ok(vec![in alloc; at(alloc, 5, 3)?, at(alloc, 6, 1)?, at(alloc, 7, 2)?]?)
+    Ok(vec![in alloc;
+        tuple_at(alloc, 5, 3)?,
+        tuple_at(alloc, 6, 1)?,
+        tuple_at(alloc, 7, 2)?,
+    ]?)
 }
 
 fn other_stream(alloc: Global) -> Result<Vec<Tuple>, AllocError> {
-    Ok(vec![in alloc; at(alloc, 4, 9)?, at(alloc, 6, 8)?]?)
+    Ok(vec![in alloc; tuple_at(alloc, 4, 9)?, tuple_at(alloc, 6, 8)?]?)
 }
 
 fn filtered(alloc: Global, xs: &[Tuple]) -> Result<Vec<Tuple>, Fail> {
-    let preds = vec![in alloc; typed(alloc, "l_v > 1")?]?;
+    let preds = vec![in alloc; over_pairs(alloc, "l_v > 1")?]?;
     Ok(filter_list(alloc, &preds, 1, xs)?)
 }
 
 fn mapped(alloc: Global, xs: &[Tuple]) -> Result<Vec<Tuple>, Fail> {
-    let exprs = vec![in alloc; typed(alloc, "l_v + time")?]?;
+    let exprs = vec![in alloc; over_pairs(alloc, "l_v + time")?]?;
     Ok(map_list(alloc, &exprs, xs)?)
 }
 
@@ -75,7 +62,7 @@ fn summed(alloc: Global, xs: &[Tuple]) -> Result<Vec<Tuple>, AllocError>
 }
 
 fn joined(alloc: Global, xs: &[Tuple]) -> Result<Vec<Tuple>, Fail> {
-    let on = typed(alloc, "l_v < r_v")?;
+    let on = over_pairs(alloc, "l_v < r_v")?;
     Ok(join_list(alloc, 1, &on, xs, &other_stream(alloc)?)?)
 }
 

@@ -1,17 +1,13 @@
-use sq_oper::*;
-use sq_item::{Item, Mark};
+use crate::numbers::mark_at;
+use sq_item::Mark;
+use sq_oper::Outs;
 use std::test::Fail;
 
 #[test]
 fn what_is_given_keeps_its_port_and_its_order(rt: HostRuntime) -> Result<(), Fail> {
     let mut out = Outs::new(rt.alloc());
     for (port, time) in [(2, 7), (0, 3)] {
-        let item = Item {
-            time,
-            mark: Some(Mark::Closed),
-            body: None,
-        };
-        out.give(port, item)?;
+        out.give(port, mark_at(time, Mark::Closed))?;
     }
     let [a, b] = out.items.as_slice() else {
         return Err(Fail::from("two items"));

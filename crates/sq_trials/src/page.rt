@@ -1,5 +1,5 @@
-use sq_page::*;
 use sq_item::{Item, Mark};
+use sq_page::{decode_page, encode_page, is_page, item_at, item_room};
 use sq_value::{ListOf, Value};
 use std::alloc::{AllocError, Global};
 use std::test::Fail;

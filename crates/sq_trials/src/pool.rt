@@ -1,8 +1,8 @@
 ghost use Rattle.std.specs.Prelude.{◌<◌, ◌≡◌, OnOk};
 ghost use Rattle.sq_pool.specs.Pools.{Agree};
 
-use sq_pool::*;
 use sq_outside::{Flip, MemDisk, PageDisk};
+use sq_pool::{Pool, PoolErr};
 use std::test::Fail;
 
 // A page whose first byte is this.
@@ -65,6 +65,17 @@ fn used<D: PageDisk>(pool: &mut Pool, disk: &mut D) -> Result<(), PoolErr>
     Ok(())
 }
 
+// Whether the first of three pages is told to have come back changed, and with another digest.
+fn is_garbled<D: PageDisk>(pool: &mut Pool, disk: &mut D) -> Result<bool, PoolErr>
+    requires { Agree pool.old (D.pages disk.old) }
+{
+    let [p, _, _] = three(pool, disk)?;
+    match brought(pool, disk, p) {
+        Err(PoolErr::Garbled { page, kept, got }) => Ok(page == p && kept.0 != got.0),
+        _ => Ok(false),
+    }
+}
+
 #[test]
 fn the_page_of_longest_disuse_is_spilled(rt: HostRuntime) -> Result<(), Fail> {
     let alloc = rt.alloc();
@@ -88,14 +99,7 @@ fn each_byte_that_changes_is_found(rt: HostRuntime) -> Result<(), Fail> {
         let flips = vec![in alloc; Flip { get: 0, at }]?;
         let mut disk = MemDisk::new(alloc, Vec::new(alloc), flips);
         let mut pool = Pool::new(alloc, 2)?;
-        let [p, _, _] = three(&mut pool, &mut disk)?;
-        match brought(&mut pool, &mut disk, p) {
-            Err(PoolErr::Garbled { page, kept, got }) => {
-                assert_eq!(rt; page, p);
-                assert!(rt; kept.0 != got.0, "at {at}");
-            }
-            _ => return Err(Fail::from("the page is garbled")),
-        }
+        assert!(rt; is_garbled(&mut pool, &mut disk)?, "at {at}");
     }
     Ok(())
 }

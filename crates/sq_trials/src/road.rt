@@ -2,8 +2,8 @@ ghost use Rattle.std.specs.Prelude.{◌*◌, ◌≤◌, IfOk};
 ghost use Rattle.std.specs.List.{sum};
 ghost use Rattle.std.specs.List.Sorted.{IsNonDecreasing};
 
-use sq_road::{Levels, draw, road};
 use sq_qos::{Frac, Graph, GraphErr};
+use sq_road::{Levels, draw, road};
 use std::alloc::Global;
 use std::test::Fail;
 

@@ -1,7 +1,7 @@
 ghost use Rattle.std.specs.Prelude.{◌<◌, ◌≤◌, length};
 ghost use Rattle.sq_sched.specs.Ready.{AreActors};
 
-use sq_sched::*;
+use sq_sched::{Policy, Ready, Rule};
 use std::test::Fail;
 
 // The actors of a policy's first three picks.

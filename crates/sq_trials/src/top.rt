@@ -6,17 +6,17 @@ ghost use Rattle.sq_queue.specs.Faces.{Together};
 ghost use Rattle.sq_core.specs.Runs.{IsSoundEngine};
 ghost use Rattle.sq_flow.specs.Flows.{measure_of};
 
-use sq_top::*;
-use sq_top::reading::prepare;
-use sq_top::running::start;
+use crate::given::read_given;
 use sq_core::Engine;
 use sq_flow::{RunErr, State};
 use sq_oper::Event;
-use sq_outside::{MemDisk, MemFolder, MemSink};
-use sq_sched::Policy;
-use std::alloc::AllocError;
+use sq_outside::{MemDisk, MemFolder, MemSink, PageDisk, Steps};
+use sq_plan::Capacities;
+use sq_sched::{Policy, Rule};
+use sq_top::{Command, Status, drive, read_words, run_words};
+use std::alloc::{AllocError, Global};
 use std::marker::Brand;
-use std::sync::ledger::Blank;
+use std::sync::ledger::{Blank, Ledger};
 use std::test::Fail;
 
 #[test]
@@ -142,20 +142,15 @@ fn written<D: PageDisk, L: Ledger>(
     }
 }
 
-// An engine that has not begun, and what drives it.
-fn begun(alloc: Global, options: &[&str]) -> Result<(Engine, Policy), Fail>
-    ensures sound { IfOk result (λ e. IsSoundEngine e.0) }
-    ensures together { IfOk result (λ e. (pages : Option Pages) → Together (e.0).engine.flow.queues pages) }
+// An engine that has not begun.
+fn begun(alloc: Global) -> Result<Engine, Fail>
+    ensures sound { IfOk result (λ e. IsSoundEngine e) }
+    ensures together { IfOk result (λ e. (pages : Option Pages) → Together e.engine.flow.queues pages) }
 {
-    let words = words_of(alloc, options)?;
-    let mut folder = folder(alloc)?;
-    match prepare(alloc, &words, &mut folder) {
-        Ok(accepted) => match start(alloc, accepted) {
-            Ok(started) => Ok(started),
-            Err(_) => Err(Fail::from("no memory")),
-        },
-        Err(_) => Err(Fail::from("refused")),
-    }
+    let given = read_given(alloc, NETWORK, stream(alloc)?.as_slice())?;
+    let capacities = Capacities::new(Vec::new(alloc));
+    let engine = Engine::new(alloc, given.network, given.sources, capacities, 3, 2)?;
+    Ok(engine)
 }
 
 // Up to a train of steps of the actor that a policy picks.
@@ -227,30 +222,57 @@ fn drive_all<D: PageDisk, L: Ledger>(
     }
 }
 
+fn policy_of(alloc: Global, rule: Rule, train: u32) -> Result<Policy, Fail> {
+    if train == 0 {
+        return Err(Fail::from("no train"));
+    }
+    Ok(Policy::new(rule, Vec::new(alloc), 3, train))
+}
+
+// The pages that a run puts, which writes all lines.
+fn puts_of_run(alloc: Global, policy: &str, train: &str) -> Result<Vec<u64>, Fail> {
+    let options = options_of(policy, train);
+    let mut disk = disk(alloc);
+    let out = written::<MemDisk, Brand>(alloc, &options, &mut disk, Blank::new(1))?;
+    if out.bytes() != lines(alloc)?.as_str().as_bytes() {
+        return Err(Fail::from("other lines"));
+    }
+    Ok(Vec::from_slice(alloc, disk.puts())?)
+}
+
+// The pages that an engine puts which is stepped to its end.
+fn puts_of_steps(alloc: Global, rule: Rule, train: u32) -> Result<Vec<u64>, Fail> {
+    let policy = policy_of(alloc, rule, train)?;
+    let engine = begun(alloc)?;
+    let mut disk = disk(alloc);
+    step_all::<MemDisk, Brand>(alloc, engine, policy, &mut disk, Blank::new(1))?;
+    Ok(Vec::from_slice(alloc, disk.puts())?)
+}
+
+// The pages that an engine puts which is driven to its end.
+fn puts_of_drive(alloc: Global, rule: Rule, train: u32) -> Result<Vec<u64>, Fail> {
+    let policy = policy_of(alloc, rule, train)?;
+    let engine = begun(alloc)?;
+    let mut disk = disk(alloc);
+    let state = drive_all::<MemDisk, Brand>(alloc, engine, policy, &mut disk, Blank::new(1))?;
+    if state != State::Done {
+        return Err(Fail::from("not done"));
+    }
+    Ok(Vec::from_slice(alloc, disk.puts())?)
+}
+
 #[test]
 fn a_run_puts_the_pages_of_its_engine_stepped_or_driven(rt: HostRuntime) -> Result<(), Fail> {
     let alloc = rt.alloc();
-    for (policy, train) in [("seeded", "5"), ("rr", "16"), ("long", "64")] {
-        let options = options_of(policy, train);
-        let mut of_run = disk(alloc);
-        let out = written::<MemDisk, Brand>(alloc, &options, &mut of_run, Blank::new(1))?;
-        assert_eq!(rt; out.bytes(), lines(alloc)?.as_str().as_bytes());
-        assert!(rt; of_run.puts().len() >= 5);
-        let (engine, policy) = begun(alloc, &options)?;
-        let mut of_steps = disk(alloc);
-        step_all::<MemDisk, Brand>(alloc, engine, policy, &mut of_steps, Blank::new(1))?;
-        assert_eq!(rt; of_steps.puts().as_slice(), of_run.puts().as_slice());
-        let (engine, policy) = begun(alloc, &options)?;
-        let mut of_drive = disk(alloc);
-        let state = drive_all::<MemDisk, Brand>(
-            alloc,
-            engine,
-            policy,
-            &mut of_drive,
-            Blank::new(1),
-        )?;
-        assert!(rt; state == State::Done);
-        assert_eq!(rt; of_drive.puts().as_slice(), of_run.puts().as_slice());
+    for (policy, rule, words, train) in [
+        ("seeded", Rule::Seeded, "5", 5),
+        ("rr", Rule::RoundRobin, "16", 16),
+        ("long", Rule::Longest, "64", 64),
+    ] {
+        let pages = puts_of_run(alloc, policy, words)?;
+        assert!(rt; pages.len() >= 5);
+        assert_eq!(rt; puts_of_steps(alloc, rule, train)?, pages);
+        assert_eq!(rt; puts_of_drive(alloc, rule, train)?, pages);
     }
     Ok(())
 }

@@ -3,7 +3,7 @@ use Rattle.std.specs.Prelude.{nat_le}
 use Rattle.sq_value.specs.declared.Value.{Value}
 use Rattle.sq_value.specs.Values.{Columns}
 use Rattle.sq_join.specs.Sides.{left_fields, join_fits}
-use Rattle.sq_join.proofs.tests.pairs_on.Goals as goal
+use Rattle.sq_trials.proofs.join.pairs_on.Goals as goal
 
 both-fit : (columns : Columns) (v : Value) (port : ℕ) → left_fields columns ≡ 1 → port < 2 → join_fits columns port (v ∷ []) ≡ true
 both-fit columns v zero one low = ap (λ (w : ℕ). nat_le 1 w) one

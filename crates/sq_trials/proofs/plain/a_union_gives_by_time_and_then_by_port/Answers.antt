@@ -1,6 +1,6 @@
 use Rattle.std.proofs.Common.{◌≡◌, ℕ, ◌<◌, List, true, length, ap, ◌∙◌, [], ◌∷◌, arith, tests}
 use Rattle.std.specs.Prelude.{nat_lt}
-use Rattle.sq_plain.proofs.tests.a_union_gives_by_time_and_then_by_port.Goals as goal
+use Rattle.sq_trials.proofs.plain.a_union_gives_by_time_and_then_by_port.Goals as goal
 
 -- the Union has two ports
 two : (port : ℕ) → port < 2 → nat_lt port 2 ≡ true

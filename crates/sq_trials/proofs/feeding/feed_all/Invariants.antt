@@ -1,6 +1,6 @@
 use Rattle.std.proofs.Common.{◌≡◌, ℕ, ◌<◌, true, [], ◌∷◌}
 use Rattle.sq_value.specs.declared.Value.{Value}
-use Rattle.sq_plain.proofs.tests.feed_all.Given as goal
+use Rattle.sq_trials.proofs.feeding.feed_all.Given as goal
 
 abbrev pub invariant-loop-row : goal.invariant-loop-row
 invariant-loop-row g l =

@@ -1,0 +1,54 @@
+// Tuples of one number, expressions over pairs of them, and marks.
+ghost use Rattle.std.specs.Prelude.{◌≡◌, ◌<◌, ◌≤◌, ◌^◌, ◌∷◌, [], None, Some, length, IfOk};
+ghost use Rattle.sq_item.specs.Sound.{IsMark, IsSound};
+ghost use Rattle.sq_join.specs.Sides.{left_fields};
+
+use sq_expr::{Typed, check, parse};
+use sq_item::{Item, Mark};
+use sq_value::{Kind, ListOf, Name, Schema, Tuple, Value};
+use std::alloc::{AllocError, Global};
+use std::test::Fail;
+
+pub fn tuple_at(alloc: Global, time: u64, v: i64) -> Result<Tuple, AllocError>
+    ensures { IfOk result (λ x. x ≡ record { time = time; fields = Value.Int v ∷ [] }) }
+{
+    let fields = ListOf::new(vec![in alloc; Value::Int(v)]?);
+    Ok(Tuple { time, fields })
+}
+
+/// An item that is a tuple alone.
+pub fn item_at(alloc: Global, time: u64, v: i64) -> Result<Item, AllocError>
+    ensures { IfOk result (λ i. i ≡ record { time = time; mark = None; body = Some (Value.Int v ∷ []) }) }
+{
+    let fields = ListOf::new(vec![in alloc; Value::Int(v)]?);
+    Ok(Item {
+        time,
+        mark: None,
+        body: Some(fields),
+    })
+}
+
+/// An expression over a left and a right number, `l_v` and `r_v`.
+pub fn over_pairs(alloc: Global, text: &str) -> Result<Typed, Fail>
+    requires { length text.now ≤ 4096 }
+    ensures { IfOk result (λ on. left_fields on.scope ≡ 1) }
+{
+    let names = vec![in alloc; Name::new(alloc, "l_v")?, Name::new(alloc, "r_v")?]?;
+    let scope = Schema::new(names, vec![in alloc; Kind::Int, Kind::Int]?)?;
+    let ast = parse(alloc, text)?;
+    Ok(check(alloc, &ast, &scope)?)
+}
+
+/// An item that is a mark alone.
+pub fn mark_at(time: u64, mark: Mark) -> Item
+    requires tick { time < 2 ^ 40 }
+    requires mark { IsMark (Some mark) }
+    ensures sound { IsSound result }
+    ensures value { result ≡ record { time = time; mark = Some mark; body = None } }
+{
+    Item {
+        time,
+        mark: Some(mark),
+        body: None,
+    }
+}
