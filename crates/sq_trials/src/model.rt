@@ -55,11 +55,12 @@ fn a_sort_without_slack_leaves_out_late_tuples(rt: HostRuntime) -> Result<(), Fa
     Ok(())
 }
 
-/// The batches are as long as the epochs.
+/// Windows of four ticks begin at each tick, and the batches are as long as the epochs.
 const SUMS: &str = "version = 1
 epoch = 4
+batch = 4
 source = [{name='s', file='s.csv', fields=['v:int']}]
-box = [{name='a', kind='aggregate', in=['s'], size=4, advance=4, give=[['t', 'sum', 'v']]}]
+box = [{name='a', kind='aggregate', in=['s'], size=4, advance=1, give=[['t', 'sum', 'v']]}]
 output = [{name='o', from='a'}]
 ";
 
@@ -82,8 +83,8 @@ fn shed(
     Ok((record, work))
 }
 
-// In epochs 1 and 2 all is dropped. The drop is fed four tuples, the box the three that batches 0 and 3 need, and the output the
-// two sums of these.
+// In epochs 1 and 2 all is dropped. The drop is fed four tuples, the box the three that batches 0 and 3 need, 0, 6 and 12, and the
+// output the sums of the windows that begin at 0, 3 and 12.
 #[test]
 fn dropped_batches_keep_no_tuple_for_themselves(rt: HostRuntime) -> Result<(), Fail> {
     let alloc = rt.alloc();
@@ -91,6 +92,6 @@ fn dropped_batches_keep_no_tuple_for_themselves(rt: HostRuntime) -> Result<(), F
     let capacities = read_capacities(alloc, b"1,0\n3,-\n")?;
     let (record, work) = shed(alloc, &given.network, &given.sources, &capacities)?;
     assert_eq!(rt; record.as_slice(), [1, 2].as_slice());
-    assert_eq!(rt; work, 4 + 3 + 2);
+    assert_eq!(rt; work, 4 + 3 + 3);
     Ok(())
 }

@@ -56,7 +56,7 @@ fn an_arc_gives_its_items_in_order_and_then_its_end(rt: HostRuntime) -> Result<(
     Ok(())
 }
 
-// Sends items of times 0 to 99 on arc 0.
+// Sends items of times 0 to 299 on arc 0.
 fn send_all<D: PageDisk>(queues: &mut Queues, disk: &mut D) -> Result<(), QueueErr>
     requires size { size queues.old ≡ 1 }
     requires open { (face queues.old 0).ended ≡ false }
@@ -64,7 +64,7 @@ fn send_all<D: PageDisk>(queues: &mut Queues, disk: &mut D) -> Result<(), QueueE
     ensures size { OnOk result (size queues.new ≡ 1) }
     ensures together { OnOk result (Together queues.new (D.pages disk.new)) }
 {
-    for time in 0..100 {
+    for time in 0..300 {
         queues.send(disk, 0, mark_at(time, Mark::Closed))?;
     }
     Ok(())
@@ -93,8 +93,8 @@ fn items_in_front_and_in_pages_come_in_order(rt: HostRuntime) -> Result<(), Fail
     let mut disk = MemDisk::new(alloc, Vec::new(alloc), Vec::new(alloc));
     let mut queues = Queues::new(alloc, 1, 2)?;
     send_all(&mut queues, &mut disk)?;
-    assert_eq!(rt; (queues.len(0), queues.resident()), (100, 1));
+    assert_eq!(rt; (queues.len(0), queues.resident()), (300, 1));
     let taken = take_all(&mut queues, &mut disk)?;
-    assert_eq!(rt; (taken, queues.len(0), queues.resident()), (100, 0, 0));
+    assert_eq!(rt; (taken, queues.len(0), queues.resident()), (300, 0, 0));
     Ok(())
 }
