@@ -128,6 +128,7 @@ impl<O: Operator + Drop> Flow<O> {
     ghost use Rattle.sq_flow.specs.Seats.{done_at};
 
     /// Feeds an operator the first item of an arc.
+    #[inline(always)]
     pub(crate) fn feed_step<D: PageDisk, L: Ledger>(
         &mut self,
         disk: &mut D,

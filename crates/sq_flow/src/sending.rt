@@ -26,6 +26,7 @@ use sq_value::Tuple;
 use std::alloc::AllocError;
 
 /// An item goes to each of these arcs: a copy to each but the last, and to the last the item itself.
+#[inline(always)]
 fn send_item<D: PageDisk>(
     arcs: &[u32],
     queues: &mut Queues,
@@ -52,6 +53,7 @@ fn send_item<D: PageDisk>(
 }
 
 /// An item that an actor gives at a port goes to each arc that comes from there.
+#[inline(always)]
 pub(crate) fn send_one<D: PageDisk>(
     wires: &Wires,
     queues: &mut Queues,

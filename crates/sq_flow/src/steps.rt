@@ -74,6 +74,7 @@ impl<O: Operator + Drop> Flow<O> {
     }
 
     /// One step of an operator.
+    #[inline(always)]
     fn operator_step<D: PageDisk, L: Ledger>(
         &mut self,
         disk: &mut D,
@@ -118,6 +119,7 @@ impl<O: Operator + Drop> Flow<O> {
     }
 
     /// One step of an actor; none where it isn't ready.
+    #[inline(always)]
     pub fn one_step<D: PageDisk, L: Ledger>(
         &mut self,
         disk: &mut D,

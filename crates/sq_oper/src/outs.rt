@@ -61,6 +61,7 @@ impl Outs {
 
     /// An item goes out at a port. An `Err` changes nothing.
     #[tactic(auto, using(crate::proofs::GivenLemmas::given_lemmas))]
+    #[inline(always)]
     pub fn give(&mut self, port: u32, item: Item) -> Result<(), AllocError>
         requires { IsSound item }
         ensures given { OnOk result ((q : ℕ) → given q self.new.items.items ≡ given q self.old.items.items ++ (if port == q then spread item else [])) }
@@ -69,7 +70,8 @@ impl Outs {
         ensures extends { IsPrefixOf self.old.items.items self.new.items.items }
         ensures drops { self.new.drops.items ≡ self.old.drops.items }
     {
-        self.items.push((port, item))?;
+        self.items.reserve(1)?;
+        self.items.push_reserved((port, item));
         Ok(())
     }
 }
