@@ -14,7 +14,7 @@ ghost use Rattle.sq_tagged.specs.Tagged.{spread_of, tagged_of};
 ghost use Rattle.sq_tagged.specs.Boxes.{aggregate_tagged};
 ghost use Rattle.sq_pane.specs.States.{states_of};
 ghost use Rattle.sq_agg.specs.Positions.{open_at};
-ghost use Rattle.sq_agg.specs.Held.{EndsFirst, HoldsPanes, MarksWait, OnlyOpen, aggregate_rest, bounds_of, folding_of, makes_result, takes_marks_at};
+ghost use Rattle.sq_agg.specs.Held.{IsFirstEnd, KeepsNear, HoldsPanes, MarksWait, OnlyOpen, aggregate_rest, bounds_of, folding_of, makes_result, takes_marks_at};
 
 use crate::grow::add_body;
 use crate::held::give_before;
@@ -33,7 +33,8 @@ use std::sync::ledger::Ledger;
 /// group's values and then the fold's answers, at the window's start (after SQuAl's Aggregate: Abadi and others, "Aurora",
 /// VLDB Journal 2003; that windows begin at the multiples of the advance is this project's own).
 ///
-/// It keeps one state for each pane and group, and joins a window that ends from its panes. Below a window drop it gives
+/// It keeps one state for each pane and group, and joins a window that ends from its panes; when one has ended, what no
+/// window needs any more goes. Below a window drop it gives
 /// a window only where the marks allow it, and hands each mark on before the results of its time and behind all earlier
 /// ones.
 #[derive(Drop)]
@@ -95,7 +96,7 @@ impl<F: Fold + Drop> Operator for AggregateBox<F> {
     ghost valid = { λ s. IsWindow s.panes.window × (time_of s.tally.place < 2 ^ 40) × (IsGcd s.panes.window.size s.panes.window.advance s.panes.width × (1 ≤ s.panes.width))
         × HoldsPanes (F.made s.panes.fold) (F.number s.panes.fold) s.panes.width (F.width s.panes.fold) s.tally.taken s.tally.place (states_of s.panes.held.entries)
         × (s.tally.taken < 2 ^ 62) × (s.tally.running ≡ false → (states_of s.panes.held.entries) ≡ []) × MarksWait s.panes.window.size (time_of s.tally.place) (bounds_of s.waiting).waiting
-        × (s.time ≡ time_of s.tally.place) × EndsFirst s.panes.window s.time s.ends };
+        × (s.time ≡ time_of s.tally.place) × IsFirstEnd s.panes.window s.time s.ends × KeepsNear s.panes.window s.panes.width s.ends (states_of s.panes.held.entries) };
 
     ghost running = { λ s. s.tally.running };
 
