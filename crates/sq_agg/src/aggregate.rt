@@ -1,6 +1,6 @@
 //! Aggregate.
 
-ghost use Rattle.std.specs.Prelude.{◌≡◌, ℕ, ◌+◌, ◌-◌, ◌^◌, ◌<◌, ◌≤◌, ◌==◌, ◌&&◌, nat_le, true, false, List, [], length, IsTrue};
+ghost use Rattle.std.specs.Prelude.{◌≡◌, ℕ, ◌+◌, ◌-◌, ◌^◌, ◌<◌, ◌≤◌, ◌==◌, ◌&&◌, true, false, List, [], length, IsTrue};
 ghost use Rattle.sq_value.specs.declared.Value.{Value};
 ghost use Rattle.std.specs.Int.{IsGcd};
 ghost use Rattle.sq_item.specs.Things.{Thing};
@@ -33,10 +33,10 @@ use std::sync::ledger::Ledger;
 /// group's values and then the fold's answers, at the window's start (after SQuAl's Aggregate: Abadi and others, "Aurora",
 /// VLDB Journal 2003; that windows begin at the multiples of the advance is this project's own).
 ///
-/// It keeps one state for each pane and group, and joins a window that ends from its panes; when one has ended, what no
-/// window needs any more goes. Below a window drop it gives
-/// a window only where the marks allow it, and hands each mark on before the results of its time and behind all earlier
-/// ones.
+/// It keeps one state for each pane and group, and joins a window that ends from its panes. Each time a window ends, the
+/// panes that no later window needs go, so none is held that ended an advance or more before the window begins that
+/// ends next. Below a window drop it gives a window only where the marks allow it, and hands each mark on before the
+/// results of its time and behind all earlier ones.
 #[derive(Drop)]
 pub struct AggregateBox<F: Fold + Drop> {
     panes: Panes<F>,

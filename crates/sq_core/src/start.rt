@@ -1,6 +1,6 @@
 //! The engine over the operators of a network, to which nothing was fed.
 
-ghost use Rattle.std.specs.Prelude.{◌≡◌, ◌<◌, ◌≤◌, ◌^◌, ℕ, [], ◌∷◌, IfOk, Option, length, map};
+ghost use Rattle.std.specs.Prelude.{◌≡◌, ◌<◌, ◌≤◌, ◌^◌, [], ◌∷◌, IfOk, Option, length, map};
 ghost use Rattle.std.specs.List.{AllByRecursion};
 ghost use Rattle.sq_value.specs.Values.{IsStream};
 ghost use Rattle.sq_oper.specs.Streams.{IsSoundTuple};

@@ -1,17 +1,12 @@
 //! The run of operators, one atomic step at a time.
 
-ghost use Rattle.std.specs.Prelude.{◌≡◌, ◌≢◌, ℕ, ◌+◌, ◌-◌, ◌^◌, ◌/◌, ◌<◌, ◌≤◌, ◌∷◌, ◌++◌, ◌==◌, ◌||◌, Bool, true, false, List, [], Option, Some, None, OnOk, OnErr, IfOk, IfErr, IfSome, is_some, length, slice_get, if◌then◌else◌};
-ghost use Rattle.sq_item.specs.Sound.{IsSound};
-ghost use Rattle.sq_oper.specs.Given.{given, ItemsSound};
+ghost use Rattle.std.specs.Prelude.{◌≡◌, ◌≢◌, ℕ, ◌+◌, ◌-◌, ◌^◌, ◌/◌, ◌<◌, ◌≤◌, ◌∷◌, ◌==◌, ◌||◌, true, false, List, [], Option, Some, None, OnOk, OnErr, IfErr, IfSome, is_some, length, slice_get, if◌then◌else◌};
 ghost use Rattle.sq_oper.specs.declared.outs.Event.{Event};
-ghost use Rattle.sq_value.specs.Lists.{IsPrefixOf};
 ghost use Rattle.sq_outside.specs.Disks.{Pages};
 ghost use Rattle.sq_road.specs.Levels.{Agrees};
-ghost use Rattle.sq_paged.specs.Fronts.{Tells};
 ghost use Rattle.sq_queue.specs.Faces.{face, size, items_on, Together};
-ghost use Rattle.sq_flow.specs.Wiring.{arcs_from, from_of, pushed_by, AllOutsFine};
-ghost use Rattle.sq_flow.specs.Sends.{sent_to, comes_from, Pushes};
-ghost use Rattle.sq_flow.specs.Events.{lines_of, bodies};
+ghost use Rattle.sq_flow.specs.Wiring.{from_of};
+ghost use Rattle.sq_flow.specs.Sends.{comes_from};
 ghost use Rattle.sq_flow.specs.Flows.{tuples_at};
 ghost use Rattle.sq_flow.specs.Sources.{IsNextSource};
 

@@ -1,6 +1,6 @@
 //! What an operator may do next.
 
-ghost use Rattle.std.specs.Prelude.{◌≡◌, ℕ, ◌+◌, ◌^◌, ◌<◌, ◌≤◌, Bool, List, Option, Some, length, slice_get};
+ghost use Rattle.std.specs.Prelude.{◌≡◌, ℕ, ◌+◌, ◌^◌, ◌<◌, Bool, List, Option, Some, length, slice_get};
 ghost use Rattle.sq_paged.specs.Fronts.{head_by};
 ghost use Rattle.sq_queue.specs.Faces.{face, size};
 ghost use Rattle.sq_flow.specs.Wiring.{arcs_read};

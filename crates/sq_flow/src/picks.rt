@@ -1,6 +1,6 @@
 //! An engine under any list of picks.
 
-ghost use Rattle.std.specs.Prelude.{◌≡◌, ℕ, ◌+◌, ◌≤◌, true, false, OnOk, OnErr, IfOk, IfErr, length, slice_get};
+ghost use Rattle.std.specs.Prelude.{ℕ, ◌+◌, OnOk, OnErr, IfErr};
 ghost use Rattle.sq_road.specs.Levels.{Agrees};
 ghost use Rattle.sq_queue.specs.Faces.{Together};
 

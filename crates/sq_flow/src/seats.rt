@@ -1,10 +1,10 @@
 //! Operators in their seats.
 
-ghost use Rattle.std.specs.Prelude.{◌≡◌, ℕ, ◌+◌, List, ◌-◌, ◌^◌, ◌/◌, ◌<◌, ◌≤◌, ◌++◌, true, false, [], is_some, IsTrue, OnOk, OnErr, if◌then◌else◌};
+ghost use Rattle.std.specs.Prelude.{◌≡◌, ℕ, ◌+◌, List, ◌-◌, ◌^◌, ◌/◌, ◌<◌, ◌++◌, true, false, [], is_some, OnOk, OnErr, if◌then◌else◌};
 ghost use Rattle.sq_item.specs.Sound.{IsSound};
 ghost use Rattle.sq_road.specs.Levels.{Agrees};
 ghost use Rattle.sq_oper.specs.Entries.{Entry, entries};
-ghost use Rattle.sq_oper.specs.Given.{given, ItemsSound};
+ghost use Rattle.sq_oper.specs.Given.{given};
 ghost use Rattle.sq_oper.specs.Order.{IsFuture};
 ghost use Rattle.sq_value.specs.Lists.{IsPrefixOf};
 ghost use Rattle.sq_flow.specs.Seats.{FedSeat, FinishedSeat};

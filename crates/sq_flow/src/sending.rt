@@ -1,6 +1,6 @@
 //! What an actor gives goes to the arcs that come from it, or is shown.
 
-ghost use Rattle.std.specs.Prelude.{◌≡◌, ◌==◌, if◌then◌else◌, ◌≢◌, ℕ, ◌+◌, ◌-◌, ◌^◌, ◌<◌, ◌≤◌, ◌++◌, ◌∷◌, List, [], true, false, Some, OnOk, OnErr, IfErr, is_some, length, slice_get};
+ghost use Rattle.std.specs.Prelude.{◌≡◌, ◌==◌, if◌then◌else◌, ℕ, ◌+◌, ◌-◌, ◌<◌, ◌≤◌, ◌++◌, ◌∷◌, [], true, false, Some, OnOk, OnErr, IfErr, is_some, length, slice_get};
 ghost use Rattle.sq_sched.specs.Ready.{contains};
 ghost use Rattle.sq_value.specs.Lists.{IsPrefixOf};
 ghost use Rattle.sq_item.specs.Sound.{IsSound};
@@ -13,7 +13,7 @@ ghost use Rattle.sq_flow.specs.Takes.{NotStrange};
 ghost use Rattle.sq_flow.specs.Wiring.{arcs_from, times_in, AllOutsFine, pushed_by, IsOwn};
 ghost use Rattle.std.specs.List.{AllByRecursion};
 ghost use Rattle.sq_flow.specs.Sends.{many, sent_to, comes_from, Pushes};
-ghost use Rattle.sq_flow.specs.Events.{bodies, lines_of, line_of, drops_of, of_drop, ShowsIn};
+ghost use Rattle.sq_flow.specs.Events.{bodies, lines_of, drops_of, of_drop, ShowsIn};
 ghost use Rattle.sq_flow.specs.Plans.{plans_of};
 
 use crate::errors::RunErr;

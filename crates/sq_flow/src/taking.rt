@@ -4,8 +4,7 @@ ghost use Rattle.std.specs.Prelude.{◌≡◌, ◌≢◌, ℕ, ◌+◌, ◌-◌,
 ghost use Rattle.sq_item.specs.declared.Item.{Item};
 ghost use Rattle.sq_item.specs.Sound.{IsSound};
 ghost use Rattle.sq_item.specs.Things.{spread};
-ghost use Rattle.sq_outside.specs.Disks.{Pages};
-ghost use Rattle.sq_paged.specs.Fronts.{Tells, IsPopped};
+ghost use Rattle.sq_paged.specs.Fronts.{Tells};
 ghost use Rattle.sq_queue.specs.Faces.{face, size, items_on, Together};
 ghost use Rattle.sq_flow.specs.Causes.{IsQueueCause};
 ghost use Rattle.sq_flow.specs.Takes.{MayBeFed, may_stand, mark_fits, body_fits, NotStrange};

@@ -6,7 +6,7 @@
 //! a box back to itself, of any length. It stands on the lists of sq_value.
 #![tactic(auto)]
 
-ghost use Rattle.std.specs.Prelude.{◌≡◌, ℕ, ◌+◌, ◌<◌, ◌≤◌, ◌^◌, ◌++◌, Some, None, Option, length, map, replicate, slice_get, IfOk, IfErr, OnOk, option_map, true, false, [], ◌∷◌};
+ghost use Rattle.std.specs.Prelude.{◌≡◌, ℕ, ◌+◌, ◌<◌, ◌≤◌, ◌^◌, ◌++◌, Some, None, Option, length, map, replicate, slice_get, IfOk, IfErr, OnOk, option_map, true, false};
 ghost use Rattle.std.specs.List.{list_all, list_any, find, sum_by};
 ghost use Rattle.sq_value.specs.Lists.{numbers_to};
 ghost use Rattle.sq_graph.specs.Wires.{producer_of, producers_of, stream_at, arc_at, output_arc_at};

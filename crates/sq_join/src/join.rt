@@ -1,6 +1,6 @@
 //! Join.
 
-ghost use Rattle.std.specs.Prelude.{◌≡◌, ℕ, ◌+◌, ◌≤◌, true, false, List, [], IsTrue};
+ghost use Rattle.std.specs.Prelude.{◌≡◌, ℕ, true, false, List, [], IsTrue};
 ghost use Rattle.sq_value.specs.declared.Value.{Value};
 ghost use Rattle.sq_item.specs.Things.{Thing};
 ghost use Rattle.sq_lists.specs.Pairs.{join_list_of};

@@ -1,7 +1,7 @@
 //! The merge of streams.
 
 ghost use Rattle.std.specs.Prelude.{◌≡◌, ◌^◌, ◌<◌, ◌++◌, [], ◌∷◌, map, length, IfOk, OnOk};
-ghost use Rattle.sq_value.specs.Lists.{sort_by, ports_from};
+ghost use Rattle.sq_value.specs.Lists.{sort_by};
 ghost use Rattle.sq_lists.specs.Merge.{merge, earlier};
 
 use sq_value::{Tuple, copy_tuple};

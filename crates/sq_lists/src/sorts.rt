@@ -1,6 +1,6 @@
 //! BSort.
 
-ghost use Rattle.std.specs.Prelude.{◌≡◌, ◌+◌, ◌-◌, ◌^◌, ◌<◌, ◌≤◌, ◌++◌, IfOk, OnOk, OnErr};
+ghost use Rattle.std.specs.Prelude.{◌≡◌, ◌+◌, ◌-◌, ◌^◌, ◌<◌, ◌++◌, IfOk, OnOk};
 ghost use Rattle.sq_value.specs.Values.{field};
 ghost use Rattle.sq_lists.specs.Sorting.{time_in, bsort_list_of};
 ghost use Rattle.sq_lists.specs.Sorters.{timed, next_with, gives_with, sort_flush};

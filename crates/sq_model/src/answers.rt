@@ -1,5 +1,5 @@
 // What is dropped, shown and fed in a replay.
-ghost use Rattle.std.specs.Prelude.{◌≡◌, ℕ, ◌+◌, ◌/◌, ◌<◌, ◌^◌, ◌==◌, map, length, Some, slice_get, IfOk, IfSome};
+ghost use Rattle.std.specs.Prelude.{◌≡◌, ◌+◌, ◌<◌, ◌^◌, ◌==◌, map, length, Some, slice_get, IfOk, IfSome};
 ghost use Rattle.std.specs.List.{All, list_any, sum_by};
 ghost use Rattle.sq_value.specs.Lists.{numbers_to};
 ghost use Rattle.sq_value.specs.Values.{IsStream};
@@ -10,7 +10,7 @@ ghost use Rattle.sq_points.specs.Limits.{KeepsDropLimits};
 ghost use Rattle.sq_points.specs.Points.{points_of};
 ghost use Rattle.sq_model.specs.Shedding.{Replay, first_drop, record_of, answer_of};
 ghost use Rattle.sq_model.specs.Kept.{distance_of, kept_of, work_of};
-ghost use Rattle.sq_model.specs.Given.{IsMeasured, AreTicks, AreFew, kept_by, found_at};
+ghost use Rattle.sq_model.specs.Given.{AreFew, found_at};
 ghost use Rattle.sq_model.specs.Known.{place_in, IsSafe, IsKnown};
 
 use crate::boxes::push_copies;

@@ -1,6 +1,5 @@
 // The levels of all epochs of recorded streams.
-ghost use Rattle.std.specs.Prelude.{◌≡◌, ℕ, List, ◌+◌, ◌/◌, ◌<◌, ◌≤◌, ◌^◌, map, length, IfOk};
-ghost use Rattle.sq_plan.specs.Flows.{AreCounts};
+ghost use Rattle.std.specs.Prelude.{◌≡◌, ◌+◌, ◌/◌, ◌<◌, ◌≤◌, ◌^◌, map, IfOk};
 ghost use Rattle.sq_plan.specs.Shown.{level_for};
 ghost use Rattle.sq_road.specs.Levels.{Agrees};
 ghost use Rattle.sq_model.specs.Given.{counted, AreFew};

@@ -1,13 +1,12 @@
 // What is worked out of a replay once.
 ghost use Rattle.std.specs.Prelude.{◌≡◌, ℕ, ◌/◌, ◌<◌, ◌^◌, map, length, IfOk};
-ghost use Rattle.std.specs.List.{All, AllByRecursion};
+ghost use Rattle.std.specs.List.{All};
 ghost use Rattle.sq_value.specs.Values.{IsStream};
 ghost use Rattle.sq_net.specs.Sound.{IsSound};
 ghost use Rattle.sq_points.specs.Limits.{KeepsDropLimits};
 ghost use Rattle.sq_points.specs.Points.{points_of};
-ghost use Rattle.sq_model.specs.Shedding.{Replay};
 ghost use Rattle.sq_model.specs.Given.{AreFew, LevelsAre};
-ghost use Rattle.sq_model.specs.Known.{arc_in, place_in, streams_in, IsSafe, IsKnown};
+ghost use Rattle.sq_model.specs.Known.{arc_in, place_in, IsSafe, IsKnown};
 
 use crate::arcs::{copies, streams_on_arcs};
 use crate::boxes::stream_in;

@@ -1,13 +1,12 @@
 // The pages of queues in their pool.
-ghost use Rattle.std.specs.Prelude.{◌≡◌, ◌≢◌, ℕ, ◌+◌, ◌<◌, ◌≤◌, ◌++◌, ◌∷◌, [], true, false, List, Option, Some, None, length, is_some, IfOk, OnOk, IfErr, IsTrue, IsSome};
+ghost use Rattle.std.specs.Prelude.{◌≡◌, ℕ, ◌+◌, ◌<◌, ◌≤◌, ◌++◌, ◌∷◌, [], List, Some, length, is_some, IfOk, OnOk, IfErr, IsTrue, IsSome};
 ghost use Rattle.sq_item.specs.declared.Item.{Item};
 ghost use Rattle.sq_item.specs.Sound.{IsSound};
 ghost use Rattle.sq_outside.specs.Faults.{Rose};
-ghost use Rattle.sq_page.specs.Fitting.{Fits};
 ghost use Rattle.sq_page.specs.Pages.{item_bytes, IsPageOf, EndsAt, BeginsAt, end_of};
 ghost use Rattle.sq_pool.specs.Pools.{Agree, bytes_in, is_held, with_bytes};
 ghost use Rattle.sq_paged.specs.Fronts.{Tells};
-ghost use Rattle.sq_paged.specs.Kept.{seen, FitsKept, IsFit, Brought, Written, Spares, of_pool, IsMisfit, IsCause, IsTold, Appended, Taken, Started};
+ghost use Rattle.sq_paged.specs.Kept.{seen, FitsKept, IsFit, Brought, Spares, of_pool, IsMisfit, IsCause, IsTold, Appended, Taken, Started};
 
 use sq_item::Item;
 use sq_outside::PageDisk;

@@ -1,10 +1,10 @@
 //! The states of panes, by group and pane.
 
-ghost use Rattle.std.specs.Prelude.{◌≡◌, ℕ, ◌+◌, ◌*◌, ◌^◌, ◌<◌, ◌≤◌, ◌++◌, [], OnOk, IfOk, List};
+ghost use Rattle.std.specs.Prelude.{◌≡◌, ◌+◌, ◌*◌, ◌^◌, ◌<◌, ◌≤◌, ◌++◌, [], OnOk, IfOk};
 ghost use Rattle.std.specs.List.{AllByRecursion};
 ghost use Rattle.sq_aggfn.specs.Keyed.{added};
 ghost use Rattle.sq_pane.specs.Panes.{key_cmp, from_pane, window_from, total, AllAreMade, entry_of};
-ghost use Rattle.sq_pane.specs.States.{states_of, groups_within};
+ghost use Rattle.sq_pane.specs.States.{states_of};
 
 use crate::line::{Line, add_to_line, joined_in, line_of_one};
 use sq_aggfn::{Fold, Group, WindowSpec};

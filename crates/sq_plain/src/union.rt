@@ -1,6 +1,6 @@
 //! Union.
 
-ghost use Rattle.std.specs.Prelude.{◌≡◌, ℕ, ◌^◌, ◌<◌, ◌≤◌, ◌==◌, ◌++◌, true, false, List, [], None, Some, map, length, nat_lt, is_some, slice_index, IsTrue, OnOk, OnErr};
+ghost use Rattle.std.specs.Prelude.{◌≡◌, ℕ, ◌^◌, ◌<◌, ◌==◌, ◌++◌, true, false, List, [], None, Some, map, length, nat_lt, slice_index, IsTrue, OnOk, OnErr};
 ghost use Rattle.std.specs.List.{AllByRecursion};
 ghost use Rattle.sq_value.specs.declared.Tuple.{Tuple};
 ghost use Rattle.sq_value.specs.declared.Value.{Value};

@@ -1,6 +1,6 @@
 // What is closed at the release of a tuple of a later epoch.
-ghost use Rattle.std.specs.Prelude.{◌≡◌, ℕ, ◌+◌, ◌-◌, ◌≤◌, ◌<◌, ◌^◌, false, true, List, if◌then◌else◌, IfOk, OnOk, OnErr};
-ghost use Rattle.std.specs.List.{flat_map, list_all, range_with_len};
+ghost use Rattle.std.specs.Prelude.{◌≡◌, ℕ, ◌+◌, ◌-◌, ◌≤◌, ◌<◌, ◌^◌, false, List, if◌then◌else◌, IfOk, OnOk, OnErr};
+ghost use Rattle.std.specs.List.{flat_map, range_with_len};
 ghost use Rattle.sq_road.specs.Levels.{level_of, Agrees};
 ghost use Rattle.sq_road.specs.Roads.{level_in};
 ghost use Rattle.sq_plan.specs.Rates.{load_of_all};

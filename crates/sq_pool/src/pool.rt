@@ -68,8 +68,8 @@ fn clear(bytes: &mut [u8])
 }
 
 impl Pool {
-    ghost use Rattle.std.specs.Prelude.{◌≡◌, ℕ, ◌<◌, ◌≤◌, ◌+◌, IfOk, OnOk, OnErr, IfErr, IfSome, IsSome, is_some, IsTrue, None, Some, Option, List, length, ◌⊎◌, ◌++◌, ◌∷◌, []};
-    ghost use Rattle.sq_pool.specs.Pools.{Agree, SameMap, Spills, HasRoom, is_held, bytes_in, loaded, Fetches, Keeps, Makes, Drops, IsLast, Brings, IsMade, IsNumbered, LetsGo};
+    ghost use Rattle.std.specs.Prelude.{◌≡◌, ℕ, ◌<◌, ◌≤◌, ◌+◌, IfOk, OnOk, IfErr, IfSome, IsSome, is_some, IsTrue, None, Some, Option, List, length, ◌⊎◌, []};
+    ghost use Rattle.sq_pool.specs.Pools.{Agree, Spills, HasRoom, is_held, bytes_in, loaded, Fetches, Keeps, Makes, Drops, IsLast, Brings, IsMade, IsNumbered, LetsGo};
     ghost use Rattle.sq_pool.specs.Errors.{IsGarbling};
     ghost use Rattle.sq_pool.specs.Slots.{kept_at};
     ghost use Rattle.sq_outside.specs.Faults.{Rose};

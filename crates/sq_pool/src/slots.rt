@@ -43,7 +43,7 @@ impl Model for Slots {
 }
 
 impl Slots {
-    ghost use Rattle.std.specs.Prelude.{◌≡◌, ◌⊎◌, ℕ, ◌<◌, ◌+◌, IfOk, OnOk, OnErr, IfSome, IfNone, IsSome, IsTrue, ◌↔◌, None, Some, Option, List, length, map, slice_set, slice_get, ◌≢◌, ◌≤◌, ◌++◌, ◌∷◌, []};
+    ghost use Rattle.std.specs.Prelude.{◌≡◌, ◌⊎◌, ◌<◌, ◌+◌, IfOk, OnOk, OnErr, IfSome, IsSome, IsTrue, ◌↔◌, None, Some, Option, length, slice_set, slice_get, ◌++◌, ◌∷◌, []};
     ghost use Rattle.sq_pool.specs.Slots.{frame_in, without_page, kept_at, kept_of, frame_of, HasFrame, IsSlotted};
 
     /// So many free frames, and no page.

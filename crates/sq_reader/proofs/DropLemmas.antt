@@ -1,16 +1,14 @@
 -- The rule on drop points by what their answer says.
-use Rattle.std.proofs.Common.{◌≡◌, ◌∙◌, inl, inr, sym, ap, refl, ℕ, ◌+◌, Bool, true, false, not, ◌&&◌, List, [], ◌∷◌, Option, Some, None}
-use Rattle.std.specs.Prelude.{Result, Ok, Err}
-use Rattle.std.specs.List.{All, AllByRecursion, position_from}
+use Rattle.std.proofs.Common.{◌≡◌, ◌∙◌, inl, inr, sym, ap, refl, ℕ, ◌+◌, not, List, [], ◌∷◌, Option, Some, None}
+use Rattle.std.specs.Prelude.{Ok, Err}
+use Rattle.std.specs.List.{AllByRecursion, position_from}
 use Rattle.std.specs.Option.{option_map}
 use Rattle.std.proofs.lemmas.Iterator.Adapters.{position_from-zero}
 use Rattle.std.proofs.lemmas.List.Elements.{recursion_from_All}
 use Rattle.sq_place.specs.declared.DropPoint.{DropPoint}
-use Rattle.sq_place.specs.declared.PlaceErr.{PlaceErr}
 use Rattle.sq_place.specs.declared.PlaceErr.TheVariants as error
 use Rattle.sq_place.specs.Refusals.{IsFine, Names}
 use Rattle.sq_net.specs.declared.Network.{Network}
-use Rattle.sq_net.specs.declared.NetErr.{NetErr}
 use Rattle.sq_net.specs.declared.NetErr.TheVariants as broken
 use Rattle.sq_net.specs.declared.Part.TheVariants as part
 use Rattle.sq_net.specs.declared.Place.{Place}
@@ -18,7 +16,6 @@ use Rattle.sq_points.specs.Points.{points_of}
 use Rattle.sq_points.specs.Limits.{KeepsDropLimits}
 use Rattle.sq_tables.specs.Places.{place_of}
 use Rattle.sq_reader.specs.Drops.{drop_place, is_drop_within}
-use Rattle.sq_reader.specs.Limits.{first_failing}
 use Rattle.sq_reader.specs.Networks.{limited_network, unless_at}
 
 none_from : (d : ℕ) (ps : List DropPoint) → AllByRecursion IsFine ps → position_from (λ p. not (is_drop_within p)) d ps ≡ None

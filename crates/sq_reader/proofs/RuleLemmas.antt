@@ -24,7 +24,7 @@ use Rattle.sq_tables.specs.declared.raw.Raw.{Raw}
 use Rattle.sq_tables.specs.Places.{or_else, place_at, place_of}
 use Rattle.sq_tables.specs.Rawly.{◌>>=◌, or_broken}
 use Rattle.sq_reader.specs.Limits as limits
-use Rattle.sq_reader.specs.Limits.{body_within, box_within, first_failing, has_between, inputs_within, limit_place, top_within}
+use Rattle.sq_reader.specs.Limits.{body_within, box_within, first_failing, has_between, inputs_within}
 use Rattle.sq_reader.specs.Naming.{first_repeat, name_place, place_in_space, space_names, twice_place}
 use Rattle.sq_reader.specs.Sources.{column_in, column_with, columns_from, is_colon, kind_named, source_of, sources_from}
 use Rattle.sq_reader.specs.Streaming.{Numbers, box_wires, is_stream, kind_of_body, unknown_among, unknown_in_boxes}

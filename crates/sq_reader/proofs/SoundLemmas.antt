@@ -43,7 +43,7 @@ use Rattle.sq_reader.specs.Limits.{box_within, first_failing, has_between, limit
 use Rattle.sq_reader.specs.Naming.{name_place, twice_place}
 use Rattle.sq_tables.specs.Shapes.{ports_of}
 use Rattle.sq_reader.specs.Streaming as wires
-use Rattle.sq_reader.specs.Streaming.{box_wires, cycle_in, stream_named, stream_names, unknown_place, wiring_by, wiring_of}
+use Rattle.sq_reader.specs.Streaming.{box_wires, cycle_in, stream_named, stream_names, unknown_place, wiring_of}
 use Rattle.sq_reader.specs.Sources.{sources_from}
 use Rattle.sq_reader.specs.Columns.{columns_known, columns_taken, nat_of, no_nodes, node_known, node_of_box, nodes_from}
 use Rattle.sq_reader.specs.Windows.{has_window, window_place}

@@ -1,9 +1,7 @@
 //! All operators of a network, new.
 
-ghost use Rattle.std.specs.Prelude.{◌≡◌, ◌+◌, ◌<◌, ◌≤◌, ℕ, IfOk, OnOk, length, Some, slice_get};
-ghost use Rattle.std.specs.List.{All};
+ghost use Rattle.std.specs.Prelude.{◌≡◌, ◌<◌, ℕ, IfOk, OnOk, length};
 ghost use Rattle.sq_net.specs.Sound.{IsSound};
-ghost use Rattle.sq_place.specs.Refusals.{IsFine};
 ghost use Rattle.sq_points.specs.Points.{points_of};
 ghost use Rattle.sq_points.specs.Limits.{KeepsDropLimits};
 ghost use Rattle.sq_below.specs.Actors.{Box, Shedder, Shower};

@@ -1,6 +1,6 @@
 //! The window drops and the outputs of a network as new actors.
 
-ghost use Rattle.std.specs.Prelude.{◌≡◌, ◌<◌, ◌≤◌, ◌^◌, ◌*◌, ◌==◌, ℕ, true, false, List, [], Option};
+ghost use Rattle.std.specs.Prelude.{◌≡◌, ◌<◌, ◌≤◌, ◌^◌, ◌*◌, ◌==◌, ℕ, true, List, [], Option};
 ghost use Rattle.sq_value.specs.declared.Value.{Value};
 ghost use Rattle.sq_oper.specs.declared.tally.Place.{Place};
 ghost use Rattle.std.specs.List.{AllByRecursion};

@@ -1,12 +1,12 @@
 //! What the actors of a network are told of the window drops above them.
 
-ghost use Rattle.std.specs.Prelude.{◌≡◌, ◌<◌, ◌-◌, ◌==◌, ℕ, IfOk, IfSome, length, map};
-ghost use Rattle.sq_graph.specs.Wires.{input_arcs_of, arc_at};
+ghost use Rattle.std.specs.Prelude.{◌≡◌, ◌<◌, ◌-◌, ◌==◌, IfOk, IfSome, length};
+ghost use Rattle.sq_graph.specs.Wires.{input_arcs_of};
 ghost use Rattle.sq_graph.specs.Order.{contains_number};
 ghost use Rattle.sq_value.specs.Lists.{max_by};
 ghost use Rattle.sq_net.specs.Sound.{IsSound};
 ghost use Rattle.sq_points.specs.Points.{points_of};
-ghost use Rattle.sq_model.specs.Shedding.{first_drop, drop_above_output};
+ghost use Rattle.sq_model.specs.Shedding.{first_drop};
 ghost use Rattle.sq_model.specs.Kept.{distance_of};
 ghost use Rattle.sq_model.specs.Given.{found_at};
 ghost use Rattle.sq_below.specs.Standing.{drop_above_box};

@@ -1,5 +1,5 @@
 // What a number makes, read as the files of a run are.
-ghost use Rattle.std.specs.Prelude.{◌≡◌, ◌⊎◌, ℕ, ◌+◌, ◌^◌, ◌<◌, ◌≤◌, IfErr, IfOk, List, Ok, Err, [], false, length, map};
+ghost use Rattle.std.specs.Prelude.{◌≡◌, ◌⊎◌, ℕ, ◌+◌, ◌^◌, ◌<◌, ◌≤◌, IfErr, IfOk, Ok, Err, [], false, length, map};
 ghost use Rattle.sq_gen.specs.Files.{made_of};
 ghost use Rattle.sq_net.specs.Sound.{IsSound};
 ghost use Rattle.sq_net.specs.declared.NetErr.{NetErr};

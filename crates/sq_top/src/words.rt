@@ -1,10 +1,10 @@
 // What words ask for.
-ghost use Rattle.std.specs.Prelude.{◌≡◌, ◌≤◌, ◌^◌, Err, IfOk, None, Some, map};
+ghost use Rattle.std.specs.Prelude.{◌≡◌, ◌^◌, Err, IfOk, None, Some, map};
 ghost use Rattle.std.specs.List.{list_all};
 ghost use Rattle.std.specs.Option.{option_map};
 ghost use Rattle.std.specs.String.{string_bytes};
 ghost use Rattle.sq_value.specs.Texts.{is_digit, read_number};
-ghost use Rattle.sq_top.specs.Commands.{args_of, command_in, dashed_piece, gen_args, given_from, is_known, known_args, lone, named_piece, number_or, number_within, piece_of, rule_named, rule_of, run_args, same_option, values_of, whole_piece};
+ghost use Rattle.sq_top.specs.Commands.{args_of, command_in, dashed_piece, gen_args, given_from, is_known, lone, named_piece, number_or, number_within, piece_of, rule_named, rule_of, run_args, same_option, values_of, whole_piece};
 ghost use Rattle.sq_top.specs.Views.{wanted_view, given_view, piece_view, text_view};
 
 use crate::{Command, RunArgs, WordsErr};

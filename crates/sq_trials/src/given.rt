@@ -1,5 +1,5 @@
 // A network of one source and what that source recorded, as the readers say them.
-ghost use Rattle.std.specs.Prelude.{◌≡◌, ◌≤◌, true, IfOk, length, map};
+ghost use Rattle.std.specs.Prelude.{◌≡◌, true, IfOk, map};
 ghost use Rattle.sq_net.specs.Sound.{IsSound, source_within};
 ghost use Rattle.sq_points.specs.Limits.{KeepsDropLimits};
 ghost use Rattle.sq_replay.specs.Laws.{ReadsStreams};

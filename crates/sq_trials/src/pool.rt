@@ -1,4 +1,4 @@
-ghost use Rattle.std.specs.Prelude.{◌<◌, ◌≡◌, OnOk};
+ghost use Rattle.std.specs.Prelude.{◌<◌, OnOk};
 ghost use Rattle.sq_pool.specs.Pools.{Agree};
 
 use sq_outside::{Flip, MemDisk, PageDisk};

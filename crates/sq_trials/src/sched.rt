@@ -1,4 +1,4 @@
-ghost use Rattle.std.specs.Prelude.{◌<◌, ◌≤◌, length};
+ghost use Rattle.std.specs.Prelude.{◌<◌, length};
 ghost use Rattle.sq_sched.specs.Ready.{AreActors};
 
 use sq_sched::{Policy, Ready, Rule};

@@ -1,6 +1,6 @@
 //! The gate.
 
-ghost use Rattle.std.specs.Prelude.{◌≡◌, ℕ, ◌^◌, ◌*◌, ◌/◌, ◌<◌, ◌≤◌, ◌==◌, ◌++◌, ◌∷◌, true, false, List, [], None, Some, length, IsTrue, OnOk, OnErr};
+ghost use Rattle.std.specs.Prelude.{◌≡◌, ℕ, ◌^◌, ◌*◌, ◌/◌, ◌<◌, ◌==◌, ◌++◌, true, false, List, [], None, Some, length, IsTrue, OnOk, OnErr};
 ghost use Rattle.sq_value.specs.declared.Value.{Value};
 ghost use Rattle.sq_value.specs.Lists.{IsPrefixOf};
 ghost use Rattle.sq_item.specs.Sound.{IsBody};

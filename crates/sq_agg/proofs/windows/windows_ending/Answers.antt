@@ -1,6 +1,5 @@
 use Rattle.std.proofs.Common.{subst, ap, ◌∙◌, ◌<◌}
 use Rattle.sq_pane.specs.States.{states_of}
-use Rattle.sq_agg.specs.Positions.{open_at}
 use Rattle.sq_agg.specs.Held.{groups_at, bounds_of}
 use Rattle.sq_agg.proofs.EndedLemmas.{nothing_ends}
 use Rattle.sq_agg.proofs.EndLemmas.{none_ends_before}
