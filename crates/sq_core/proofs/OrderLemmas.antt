@@ -23,11 +23,11 @@ use Rattle.sq_place.proofs.Wires.{arcs-inputs}
 use Rattle.sq_net.specs.declared.Network.{Network}
 use Rattle.sq_net.specs.Sound.{IsSound}
 use Rattle.sq_net.proofs.StreamLemmas.{boxes_count}
-use Rattle.sq_points.specs.Points.{points_of}
+use Rattle.sq_points.specs.Points.{points_of, drops_in}
 use Rattle.sq_model.proofs.OrderLemmas.{order_has}
 use Rattle.sq_below.specs.Standing.{Drop, drop_on_arc}
 use Rattle.sq_below.specs.Actors.{giver, from_drop}
-use Rattle.sq_start.specs.Numbers.{drops_of, first_output, ops_of, number_of, actor_at, place_stream}
+use Rattle.sq_start.specs.Numbers.{first_output, ops_of, number_of, actor_at, place_stream}
 use Rattle.sq_start.proofs.NumberLemmas.{box-at, drop-at, output-at, which}
 use Rattle.sq_start.proofs.PointLemmas.{first-found}
 use Rattle.sq_core.specs.declared.join.Feed.{Feed}
@@ -137,7 +137,7 @@ module _ (n : Network) (sound : IsSound n) (feeds : List (Vec Feed Global)) (row
       here : slice_get (points_of n) k ≡ Some p
       here = rest-here k p ps rest
 
-      low : k < drops_of n
+      low : k < drops_in n
       low = slice_get_within (points_of n) k p here
 
       row : feeds_of feeds first ≡ place_feed n p ∷ []

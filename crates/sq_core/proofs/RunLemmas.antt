@@ -13,7 +13,7 @@ use Rattle.sq_road.specs.Levels.{Agrees}
 use Rattle.sq_oper.specs.declared.outs.Event.{Event}
 use Rattle.sq_oper.specs.declared.outs.Decision.{Decision}
 use Rattle.sq_place.specs.declared.DropPoint.{DropPoint}
-use Rattle.sq_points.specs.Points.{points_of}
+use Rattle.sq_points.specs.Points.{points_of, drops_in}
 use Rattle.std.proofs.lemmas.Option.{slice_get_within}
 use Rattle.sq_net.specs.declared.Network.{Network}
 use Rattle.sq_net.specs.Sound.{IsSound}
@@ -29,7 +29,7 @@ use Rattle.sq_flow.specs.Seats.{taken_at}
 use Rattle.sq_flow.specs.Engines.{IsEngine}
 use Rattle.sq_core.specs.declared.engine.Engine.{Engine}
 use Rattle.sq_core.specs.Meanings.{actors, IsValid}
-use Rattle.sq_start.specs.Numbers.{first_output, ops_of, drops_of as drops_of_network}
+use Rattle.sq_start.specs.Numbers.{first_output, ops_of}
 use Rattle.sq_core.specs.Answers.{Plans, Answers}
 use Rattle.sq_core.specs.Runs.{IsSoundEngine, IsRun, ShownSoFar, Stopped}
 use Rattle.sq_core.proofs.SumLemmas.{sum-same, sum-less}
@@ -166,15 +166,15 @@ module _ (was is : Option Pages) (e e' : Engine) (events events' : List Event) (
         }
 
     -- what a step shows is shown at outputs of the network, or decided by its drops, or planned
-    pub shows-after : IsSoundEngine e → AllByRecursion (IsEventIn (length e.network.outputs) (drops_of_network e.network)) events → AllByRecursion (IsEventIn (length e.network.outputs) (drops_of_network e.network)) events'
+    pub shows-after : IsSoundEngine e → AllByRecursion (IsEventIn (length e.network.outputs) (drops_in e.network)) events → AllByRecursion (IsEventIn (length e.network.outputs) (drops_in e.network)) events'
     shows-after sound =
         let boxes = sound.boxes in
         let first = sound.drops in
         let all = sound.operators in
         let outputs = sound.network.agrees.outputs in
         let many : length e.engine.flow.seats.items - e.engine.flow.wires.shown ≡ length e.network.outputs = omega (arith, first, all, outputs) in
-        let drops : e.engine.flow.wires.shown - e.engine.flow.wires.sheds ≡ drops_of_network e.network = omega (arith, first, boxes) in
-        subst (λ k. AllByRecursion (IsEventIn k (drops_of_network e.network)) events → AllByRecursion (IsEventIn k (drops_of_network e.network)) events') many
+        let drops : e.engine.flow.wires.shown - e.engine.flow.wires.sheds ≡ drops_in e.network = omega (arith, first, boxes) in
+        subst (λ k. AllByRecursion (IsEventIn k (drops_in e.network)) events → AllByRecursion (IsEventIn k (drops_in e.network)) events') many
         (subst (λ k. AllByRecursion (IsEventIn (length e.engine.flow.seats.items - e.engine.flow.wires.shown) k) events → AllByRecursion (IsEventIn (length e.engine.flow.seats.items - e.engine.flow.wires.shown) k) events') drops stepped.shows)
 
   -- ---- a step that failed
@@ -215,11 +215,11 @@ module _ {T : Type 0} (was is : Option Pages) (e e' : Engine) (events events' : 
       by (Err err) stepped engine cost = _
 
   pub shows-clause : OnOk answer (Stepped actors IsValid was is e.engine.flow e'.engine.flow events events') → OnOk answer (IsEngine actors IsValid e'.engine) → IsSoundEngine e
-      → OnOk answer (AllByRecursion (IsEventIn (length e.network.outputs) (drops_of_network e.network)) events → AllByRecursion (IsEventIn (length e.network.outputs) (drops_of_network e.network)) events')
+      → OnOk answer (AllByRecursion (IsEventIn (length e.network.outputs) (drops_in e.network)) events → AllByRecursion (IsEventIn (length e.network.outputs) (drops_in e.network)) events')
   shows-clause stepped engine sound = by answer stepped engine
     where
       by : (o : Result T RunErr) → OnOk o (Stepped actors IsValid was is e.engine.flow e'.engine.flow events events') → OnOk o (IsEngine actors IsValid e'.engine)
-          → OnOk o (AllByRecursion (IsEventIn (length e.network.outputs) (drops_of_network e.network)) events → AllByRecursion (IsEventIn (length e.network.outputs) (drops_of_network e.network)) events')
+          → OnOk o (AllByRecursion (IsEventIn (length e.network.outputs) (drops_in e.network)) events → AllByRecursion (IsEventIn (length e.network.outputs) (drops_in e.network)) events')
       by (Ok p) stepped engine = shows-after was is e e' events events' same stepped engine sound
       by (Err err) stepped engine = _
 

@@ -16,7 +16,7 @@ ghost use Rattle.sq_queue.specs.Faces.{Together};
 ghost use Rattle.sq_sched.specs.Ready.{contains, AreActors};
 ghost use Rattle.sq_flow.specs.Causes.{IsCauseIn};
 ghost use Rattle.sq_flow.specs.Events.{IsEventIn};
-ghost use Rattle.sq_start.specs.Numbers.{drops_of};
+ghost use Rattle.sq_points.specs.Points.{drops_in};
 
 use crate::start::network_engine;
 use sq_actor::Actor;
@@ -101,7 +101,7 @@ impl Engine {
             → Stopped r (history ++ events.new.items) begun steps.new e) }
         ensures counted { IfErr result (λ e. e ≡ RunErr.TooMuch → 2 ^ 62 ≤ self.new.engine.flow.taken + 2) }
         ensures failed { OnErr result (self.new.engine.failed ≡ true) }
-        ensures shows { OnOk result (AllByRecursion (IsEventIn (length self.old.network.outputs) (drops_of self.old.network)) events.old.items → AllByRecursion (IsEventIn (length self.old.network.outputs) (drops_of self.old.network)) events.new.items) }
+        ensures shows { OnOk result (AllByRecursion (IsEventIn (length self.old.network.outputs) (drops_in self.old.network)) events.old.items → AllByRecursion (IsEventIn (length self.old.network.outputs) (drops_in self.old.network)) events.new.items) }
         ensures order { OnOk result (self.new.engine.ready.list ≡ listed_after self.new.engine.flow self.old.engine.ready.list pick.actor) }
         ensures measure { IfOk result (λ p. FallsBy p.fed p.finished (measure_of self.old.engine.flow) (measure_of self.new.engine.flow)) }
         ensures works { IfOk result (λ p. (p.fed ≡ 0) → p.finished ≡ true) }

@@ -1,5 +1,5 @@
 -- The drop points of a network, and what its plans are made from.
-use Rattle.std.specs.Prelude.{ℕ, List, map, Option, Some, None, slice_get}
+use Rattle.std.specs.Prelude.{ℕ, List, length, map, Option, Some, None, slice_get}
 use Rattle.std.specs.List.{sum_by, range_with_len}
 use Rattle.sq_expr.specs.Trees.{Checked, Expr}
 use Rattle.sq_aggfn.specs.declared.WindowSpec.{WindowSpec}
@@ -27,6 +27,10 @@ windows_of n = map (λ b. window_in b.body) n.boxes
 
 abbrev pub points_of : Network → List DropPoint
 points_of n = drop_points_of n.wires (windows_of n) n.batch
+
+-- how many drop points a network has
+abbrev pub drops_in : Network → ℕ
+drops_in n = length (points_of n)
 
 abbrev pub tolls_of : Network → List Toll
 tolls_of n = map (λ b. record { cost = b.cost; selectivity = b.selectivity }) n.boxes

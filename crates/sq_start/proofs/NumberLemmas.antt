@@ -12,10 +12,10 @@ use Rattle.sq_net.specs.Sound.{IsSound}
 use Rattle.sq_net.proofs.StreamLemmas.{boxes_count}
 use Rattle.sq_place.specs.declared.DropPoint.{DropPoint}
 use Rattle.sq_place.specs.Places.{stream_on}
-use Rattle.sq_points.specs.Points.{points_of}
+use Rattle.sq_points.specs.Points.{points_of, drops_in}
 use Rattle.sq_below.specs.Standing.{Drop, drop_on_arc}
 use Rattle.sq_below.specs.Actors.{Actor, Sources, Box, Shedder, Shower, giver, from_drop, arc_from}
-use Rattle.sq_start.specs.Numbers.{IsThere, drops_of, first_output, ops_of, number_of, actor_at, place_stream, drop_reads, reads_of}
+use Rattle.sq_start.specs.Numbers.{IsThere, first_output, ops_of, number_of, actor_at, place_stream, drop_reads, reads_of}
 use Rattle.sq_start.proofs.PointLemmas.{first-found}
 
 less : (a b : ℕ) → a < b → nat_lt a b ≡ true
@@ -27,7 +27,7 @@ not-less a b h = grind (arith, nat_tests)
 pub box-at : (n : Network) (b : ℕ) → b < length n.boxes → actor_at n b ≡ Box b
 box-at n b low = rw (less b (length n.boxes) low) refl
 
-pub drop-at : (n : Network) (w : ℕ) → w < drops_of n → actor_at n (length n.boxes + w) ≡ Shedder w
+pub drop-at : (n : Network) (w : ℕ) → w < drops_in n → actor_at n (length n.boxes + w) ≡ Shedder w
 drop-at n w low =
     let past = not-less (length n.boxes + w) (length n.boxes) (omega arith) in
     let before = less (length n.boxes + w) (first_output n) (omega (arith, low)) in
@@ -52,7 +52,7 @@ replay-at n =
 -- an operator is a box, a drop or an output
 abbrev pub Which : Network → ℕ → Type 0
 Which n k =
-    (k < length n.boxes) ⊎ (((w : ℕ) × (k ≡ length n.boxes + w) × (w < drops_of n)) ⊎ ((o : ℕ) × (k ≡ first_output n + o) × (o < length n.wires.outputs)))
+    (k < length n.boxes) ⊎ (((w : ℕ) × (k ≡ length n.boxes + w) × (w < drops_in n)) ⊎ ((o : ℕ) × (k ≡ first_output n + o) × (o < length n.wires.outputs)))
 
 pub which : (n : Network) (k : ℕ) → k < ops_of n → Which n k
 which n k low =

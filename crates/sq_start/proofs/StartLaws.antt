@@ -7,7 +7,7 @@ use Rattle.sq_oper.specs.Streams.{tuples_of, things}
 use Rattle.sq_graph.specs.Wires.{input_arcs_of, output_arc_at}
 use Rattle.sq_place.specs.declared.DropPoint.{DropPoint}
 use Rattle.sq_net.proofs.StreamLemmas.{boxes_count}
-use Rattle.sq_points.specs.Points.{points_of}
+use Rattle.sq_points.specs.Points.{points_of, drops_in}
 use Rattle.sq_model.specs.Shedding.{Replay}
 use Rattle.sq_model.specs.Kept.{kept_of, fed_of, work_of, turns_of}
 use Rattle.sq_left.specs.Left.{Net, World, coming, inputs, IsWired, fed_in_all}
@@ -15,7 +15,7 @@ use Rattle.sq_left.proofs.NewEngine.{new-left, new-inputs, new-facts}
 use Rattle.sq_below.specs.Laws.{PointsMeasured}
 use Rattle.sq_below.specs.Standing.{DropsFit, OutputsFit, FedCounted}
 use Rattle.sq_below.specs.Actors.{Actor, Sources, Box, Shedder, Shower, stream_of, StreamsFollow}
-use Rattle.sq_start.specs.Numbers.{drops_of, first_output, ops_of, actor_at}
+use Rattle.sq_start.specs.Numbers.{first_output, ops_of, actor_at}
 use Rattle.sq_start.specs.Nets.{fed_to, drop_fed_at, drop_count, count_fed}
 use Rattle.sq_start.specs.Starts.{IsRead}
 use Rattle.sq_start.specs.Laws.{IsNew, StartsAs, HasAll}
@@ -29,16 +29,16 @@ use Rattle.sq_start.proofs.Feeding.{streams_by, stream-low, fed-is, start, follo
 module _ (r : Replay) (read : IsRead r) where
   -- what all boxes, drops and outputs count
   split : (f : ℕ → ℕ) → sum_by f (numbers_to (ops_of r.network))
-      ≡ total f (length r.network.boxes) + total (λ w. f (length r.network.boxes + w)) (drops_of r.network) + total (λ o. f (first_output r.network + o)) (length r.network.wires.outputs)
+      ≡ total f (length r.network.boxes) + total (λ w. f (length r.network.boxes + w)) (drops_in r.network) + total (λ o. f (first_output r.network + o)) (length r.network.wires.outputs)
   split f =
       let all = sum-total f (ops_of r.network) in
       let last = total-split f (first_output r.network) (length r.network.wires.outputs) in
-      let front = total-split f (length r.network.boxes) (drops_of r.network) in
+      let front = total-split f (length r.network.boxes) (drops_in r.network) in
       omega (arith, all, last, front)
 
   -- the same sums as the replay's work has them
   work-parts : work_of r
-      ≡ total (fed_of r) (length r.network.boxes) + total (λ w. drop_count r (slice_get (points_of r.network) w)) (drops_of r.network)
+      ≡ total (fed_of r) (length r.network.boxes) + total (λ w. drop_count r (slice_get (points_of r.network) w)) (drops_in r.network)
       + total (λ o. length (kept_of r (output_arc_at r.network.wires o))) (length r.network.wires.outputs)
   work-parts =
       let a = sum-total (fed_of r) (length r.network.boxes) in
@@ -52,7 +52,7 @@ module _ (r : Replay) (read : IsRead r) where
       let all = split f in
       let parts = work-parts in
       let a = total-same f (fed_of r) (length r.network.boxes) (λ b low. is b (omega (arith, low)) ∙ ap (count_fed r) (box-at r.network b low)) in
-      let b = total-same (λ w. f (length r.network.boxes + w)) (λ w. drop_count r (slice_get (points_of r.network) w)) (drops_of r.network)
+      let b = total-same (λ w. f (length r.network.boxes + w)) (λ w. drop_count r (slice_get (points_of r.network) w)) (drops_in r.network)
       (λ w low. is (length r.network.boxes + w) (omega (arith, low)) ∙ ap (count_fed r) (drop-at r.network w low)) in
       let c = total-same (λ o. f (first_output r.network + o)) (λ o. length (kept_of r (output_arc_at r.network.wires o))) (length r.network.wires.outputs)
       (λ o low. is (first_output r.network + o) (omega (arith, low)) ∙ ap (count_fed r) (output-at r.network o low)) in
@@ -68,7 +68,7 @@ module _ (r : Replay) (read : IsRead r) where
       let parts = work-parts in
       let w = r.network.wires in
       let a = total-same f (λ b. fed_of r b + sum_by (marks_on r) (input_arcs_of w b)) (length r.network.boxes) (λ b low. is b (omega (arith, low)) ∙ ap (λ x. length (fed_to r x)) (box-at r.network b low) ∙ box-takes r b) in
-      let b = total-same (λ d. f (length r.network.boxes + d)) (λ d. drop_count r (slice_get (points_of r.network) d)) (drops_of r.network)
+      let b = total-same (λ d. f (length r.network.boxes + d)) (λ d. drop_count r (slice_get (points_of r.network) d)) (drops_in r.network)
       (λ d low. is (length r.network.boxes + d) (omega (arith, low)) ∙ ap (λ x. length (fed_to r x)) (drop-at r.network d low) ∙ drop-all (slice_get (points_of r.network) d)) in
       let c = total-same (λ o. f (first_output r.network + o)) (λ o. length (kept_of r (output_arc_at w o)) + marks_on r (output_arc_at w o)) (length w.outputs)
       (λ o low. is (first_output r.network + o) (omega (arith, low)) ∙ ap (λ x. length (fed_to r x)) (output-at r.network o low) ∙ output-takes r o) in

@@ -6,15 +6,12 @@ use Rattle.sq_place.specs.declared.DropAt.{DropAt}
 use Rattle.sq_place.specs.declared.DropAt.TheVariants as at
 use Rattle.sq_place.specs.Places.{stream_on}
 use Rattle.sq_net.specs.declared.Network.{Network}
-use Rattle.sq_points.specs.Points.{points_of}
+use Rattle.sq_points.specs.Points.{points_of, drops_in}
 use Rattle.sq_below.specs.Actors.{Actor, Sources, Box, Shedder, Shower, giver, arc_from}
-
-abbrev pub drops_of : Network → ℕ
-drops_of n = length (points_of n)
 
 -- the first output, behind the boxes and the drops
 abbrev pub first_output : Network → ℕ
-first_output n = length n.boxes + drops_of n
+first_output n = length n.boxes + drops_in n
 
 -- how many operators there are
 abbrev pub ops_of : Network → ℕ
@@ -38,7 +35,7 @@ actor_at n k =
 abbrev pub IsThere : Network → Actor → Type 0
 IsThere n Sources = Unit {0}
 IsThere n (Box b) = b < length n.boxes
-IsThere n (Shedder w) = w < drops_of n
+IsThere n (Shedder w) = w < drops_in n
 IsThere n (Shower o) = o < length n.wires.outputs
 
 -- the stream at a place

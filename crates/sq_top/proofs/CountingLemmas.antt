@@ -18,7 +18,8 @@ use Rattle.sq_top.specs.declared.Status.TheVariants as status
 use Rattle.sq_top.specs.declared.counting.Counts.{Counts}
 use Rattle.sq_top.specs.Counting.{AreCounts, Counted, CountsOn, HasRoom, IsSummed}
 use Rattle.sq_top.specs.Driving.{GoesOn, IsEventAt, IsHalted, Stops, history_text}
-use Rattle.sq_top.specs.Due.{answer_in, drops_in}
+use Rattle.sq_points.specs.Points.{drops_in}
+use Rattle.sq_top.specs.Due.{answer_in}
 use Rattle.sq_top.proofs.ClassLemmas.{all_append}
 use Rattle.sq_top.proofs.CountLemmas.{both_counted, none_counted}
 use Rattle.sq_top.proofs.DrivingLemmas.{completes, drive_lost, drive_stops, goes_none, sound_run}

@@ -42,10 +42,10 @@ use Rattle.std.proofs.lemmas.List.{length-map}
 use Rattle.sq_place.specs.Points.{point_at}
 use Rattle.sq_place.specs.Places.{drop_places_of}
 use Rattle.sq_place.proofs.Final.{drops-few}
-use Rattle.sq_points.specs.Points.{points_of, windows_of}
+use Rattle.sq_points.specs.Points.{points_of, windows_of, drops_in}
 use Rattle.sq_points.proofs.Bounds.{few_places}
 use Rattle.std.proofs.lemmas.Fmt.{decimal_nonempty}
-use Rattle.sq_top.specs.Due.{Answer, Due, answer_in, drops_in, dropped_from, due_from, due_in, due_of, ended_in, fed_in, late_in, plan_text, replayed, shown_from, turns_in, work_in}
+use Rattle.sq_top.specs.Due.{Answer, Due, answer_in, dropped_from, due_from, due_in, due_of, ended_in, fed_in, late_in, plan_text, replayed, shown_from, turns_in, work_in}
 use Rattle.sq_top.specs.Answers.{IsPrefixText, IsWholeText}
 use Rattle.sq_gen.specs.declared.Made.{Made}
 use Rattle.sq_gen.specs.Files.{made_of}

@@ -24,7 +24,8 @@ use Rattle.sq_model.proofs.StreamTypes.{some-at}
 use Rattle.sq_replay.specs.Shown.{event_line, name_in, text_of}
 use Rattle.sq_flow.specs.Events.{drops_of, lines_of}
 use Rattle.sq_flow.specs.Plans.{plans_of}
-use Rattle.sq_top.specs.Due.{Answer, Due, drops_in, due_from, plan_text}
+use Rattle.sq_points.specs.Points.{drops_in}
+use Rattle.sq_top.specs.Due.{Answer, Due, due_from, plan_text}
 use Rattle.sq_top.specs.Answers.{IsClassIn, IsPrefixText, IsWholeText, is_classed, lines_of as due_lines}
 use Rattle.sq_top.specs.Driving.{Completes, IsEventAt, history_text}
 use Rattle.sq_top.proofs.SortedLines.{filter_same}

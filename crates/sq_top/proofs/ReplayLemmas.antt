@@ -12,13 +12,13 @@ use Rattle.sq_oper.specs.declared.outs.Event.{Event}
 use Rattle.sq_oper.specs.declared.outs.Decision.{Decision}
 use Rattle.sq_replay.specs.Shown.{end_lines, text_of}
 use Rattle.sq_place.specs.declared.DropPoint.{DropPoint}
-use Rattle.sq_points.specs.Points.{points_of}
+use Rattle.sq_points.specs.Points.{points_of, drops_in}
 use Rattle.sq_model.specs.Shedding.{Replay, record_of}
 use Rattle.sq_start.specs.Nets.{decision_on, drop_decisions}
 use Rattle.sq_core.specs.declared.engine.Engine.{Engine}
 use Rattle.sq_core.specs.Runs.{fed_at, late_at}
 use Rattle.sq_top.specs.declared.Status.{Status}
-use Rattle.sq_top.specs.Due.{Due, answer_in, drops_in, due_in, ended_in, fed_in, late_in}
+use Rattle.sq_top.specs.Due.{Due, answer_in, due_in, ended_in, fed_in, late_in}
 use Rattle.sq_top.specs.Answers.{IsPrefixText, IsWholeText}
 use Rattle.sq_top.specs.Causes.{AppendsSuch}
 use Rattle.sq_top.specs.Driving.{Begins, IsDriven, IsEventAt, IsHalted, ends_text, history_text}

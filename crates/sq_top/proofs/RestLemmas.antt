@@ -18,7 +18,8 @@ use Rattle.sq_plan.specs.declared.closing.Shown.{Shown as ShownPlan}
 use Rattle.sq_replay.specs.Shown.{event_line, text_of}
 use Rattle.sq_flow.specs.Events.{drop_in, drops_of, line_of, lines_of}
 use Rattle.sq_flow.specs.Plans.{plan_in, plans_of}
-use Rattle.sq_top.specs.Due.{Answer, drops_in, due_from}
+use Rattle.sq_points.specs.Points.{drops_in}
+use Rattle.sq_top.specs.Due.{Answer, due_from}
 use Rattle.sq_top.specs.Answers.{IsPrefixText}
 use Rattle.sq_top.specs.Driving.{Begins, Completes, IsEventAt, history_text}
 use Rattle.sq_top.proofs.ClassLemmas.{IsLineOf, all_append, not_true}

@@ -11,7 +11,8 @@ use Rattle.sq_top.specs.declared.Status.TheVariants as status
 use Rattle.sq_top.specs.declared.counting.Counts.{Counts}
 use Rattle.sq_top.specs.Causes.{AppendsSuch, BeginsSummary}
 use Rattle.sq_top.specs.Counting.{IsSummed, engine_summary}
-use Rattle.sq_top.specs.Due.{answer_in, drops_in, fed_in, late_in}
+use Rattle.sq_points.specs.Points.{drops_in}
+use Rattle.sq_top.specs.Due.{answer_in, fed_in, late_in}
 use Rattle.sq_top.specs.Summaries.{summary_of, summary_text}
 use Rattle.sq_top.proofs.EndLemmas.{appends_all, appends_none}
 use Rattle.sq_top.proofs.ReplayLemmas.{same_numbers}

@@ -12,7 +12,8 @@ use Rattle.sq_core.specs.Runs.{IsRun, fed_at, late_at}
 use Rattle.sq_top.specs.declared.counting.Counts.{Counts}
 use Rattle.sq_top.specs.Driving.{IsEventAt}
 use Rattle.sq_top.specs.Summaries.{summary_text}
-use Rattle.sq_top.specs.Due.{answer_in, drops_in, fed_in, late_in, work_in}
+use Rattle.sq_points.specs.Points.{drops_in}
+use Rattle.sq_top.specs.Due.{answer_in, fed_in, late_in, work_in}
 
 -- there is a count for each output and for each drop
 pub record HasRoom (n : Network) (counts : Counts) : Type 0 where

@@ -16,7 +16,8 @@ use Rattle.sq_core.specs.declared.engine.Engine.{Engine}
 use Rattle.sq_core.specs.Runs.{IsRun, fed_at, late_at}
 use Rattle.sq_top.specs.declared.Status.{Status}
 use Rattle.sq_top.specs.declared.Status.TheVariants as status
-use Rattle.sq_top.specs.Due.{Answer, answer_in, drops_in, fed_in, late_in, turns_in, work_in}
+use Rattle.sq_points.specs.Points.{drops_in}
+use Rattle.sq_top.specs.Due.{Answer, answer_in, fed_in, late_in, turns_in, work_in}
 use Rattle.sq_top.specs.Writing.{Moves}
 use Rattle.sq_top.specs.Causes.{is_refusal}
 use Rattle.sq_top.specs.Stopping.{is_changed}

@@ -9,7 +9,7 @@ use Rattle.sq_net.specs.declared.Output.{Output}
 use Rattle.sq_oper.specs.declared.outs.Decision.{Decision}
 use Rattle.sq_plan.specs.declared.closing.Shown.{Shown}
 use Rattle.sq_replay.specs.Shown.{end_lines, text_of}
-use Rattle.sq_points.specs.Points.{points_of}
+use Rattle.sq_points.specs.Points.{points_of, drops_in}
 use Rattle.sq_model.specs.Fed.{late_of}
 use Rattle.sq_model.specs.Kept.{fed_of, turns_of, work_of}
 use Rattle.sq_model.specs.Shedding as model
@@ -37,10 +37,6 @@ pub record Answer : Type 0 where
   pub tuples : ℕ → List Tuple
   pub decisions : ℕ → List Decision
   pub plans : List Shown
-
--- how many drops a network has
-abbrev pub drops_in : Network → ℕ
-drops_in n = length (points_of n)
 
 -- the outputs in file order, each with its number
 abbrev pub outputs_of : Network → List (Output × ℕ)

@@ -8,7 +8,8 @@ use Rattle.sq_net.specs.declared.Node.{Node}
 use Rattle.sq_net.specs.declared.Output.{Output}
 use Rattle.sq_replay.specs.Shown.{is_sorter}
 use Rattle.sq_model.specs.Shedding.{Replay}
-use Rattle.sq_top.specs.Due.{answer_in, drops_in, fed_in, late_in}
+use Rattle.sq_points.specs.Points.{drops_in}
+use Rattle.sq_top.specs.Due.{answer_in, fed_in, late_in}
 
 -- a word, what is counted, and how many there are
 abbrev pub count_line : List ℕ → List ℕ → ℕ → List ℕ
