@@ -13,7 +13,7 @@ ghost use Rattle.sq_outside.specs.Disks.{Pages};
 ghost use Rattle.sq_outside.specs.Faults.{Rose};
 ghost use Rattle.sq_paged.specs.Fronts.{Tells, head_by, pushed, IsPopped};
 ghost use Rattle.sq_paged.specs.Kept.{IsTold, IsCause};
-ghost use Rattle.sq_paged.specs.Faces.{face, size, frames, items_on, Together, no_items, last_if, IsKept, kept_at, IsRefusal};
+ghost use Rattle.sq_paged.specs.Faces.{face, size, frames, frames as frames_of, items_on, Together, no_items, last_if, IsKept, kept_at, IsRefusal};
 ghost use Rattle.sq_paged.specs.Steps.{AppendsAt, TakesAt, StartsAt, DropsAt, Adds, Removes};
 ghost use Rattle.sq_page.specs.Pages.{item_bytes};
 ghost use Rattle.sq_pool.specs.Pools.{Agree, is_held};
@@ -89,7 +89,7 @@ impl Queues {
     pub fn new(alloc: Global, arcs: u32, frames: u32) -> Result<Queues, AllocError>
         requires { 2 ≤ frames }
         ensures size { IfOk result (λ q. size q ≡ arcs) }
-        ensures frames { IfOk result (λ q. q.pool.frames ≡ frames) }
+        ensures frames { IfOk result (λ q. frames_of q ≡ frames) }
         ensures faces { IfOk result (λ q. (arc : ℕ) → face q arc ≡ record { count = 0; first = None; ended = false }) }
         ensures items { IfOk result (λ q. (pages : Option Pages) (arc : ℕ) → items_on q pages arc ≡ []) }
         ensures together { IfOk result (λ q. (pages : Option Pages) → Together q pages) }
