@@ -11,7 +11,7 @@ impl WindowSpec {
         requires { start_of self number < 2 ^ 64 }
         ensures { result ≡ start_of self number }
     {
-        number * self.advance
+        number * self.advance + self.phase
     }
 
     /// How many windows start at or before a tick.
@@ -21,7 +21,11 @@ impl WindowSpec {
         ensures count { result ≡ started self tick }
         ensures those { (k : ℕ) → (k < result) ↔ (start_of self k ≤ tick) }
     {
-        tick / self.advance + 1
+        if tick < self.phase {
+            0
+        } else {
+            (tick - self.phase) / self.advance + 1
+        }
     }
 
     /// Whether the window that starts at a tick covers another.
@@ -39,10 +43,11 @@ impl WindowSpec {
         ensures after { tick < start_of self result + self.size }
         ensures begun { result ≤ started self tick }
     {
-        if tick < self.size {
+        let first_end = self.phase + self.size;
+        if tick < first_end {
             0
         } else {
-            (tick - self.size) / self.advance + 1
+            (tick - first_end) / self.advance + 1
         }
     }
 }
