@@ -1,11 +1,11 @@
 -- What a box gives for streams is a stream: its times are ticks, and don't fall.
-use Rattle.std.proofs.Common.{◌≡◌, ℕ, zero, suc, ◌+◌, ◌*◌, ◌/◌, ◌^◌, ◌<◌, ◌≤◌, max, Bool, true, false, cond, List, [], ◌∷◌, ◌++◌, length, map, Option, Some, None, refl, arith, tests}
+use Rattle.std.proofs.Common.{◌≡◌, ℕ, zero, suc, ◌+◌, ◌-◌, ◌/◌, ◌^◌, ◌<◌, ◌≤◌, max, Bool, true, false, cond, List, [], ◌∷◌, ◌++◌, length, map, Option, Some, None, refl, ap, ◌∙◌, arith, tests}
 use Rattle.std.specs.Prelude.{if◌then◌else◌, ◌==◌, nat_lt, nat_le}
 use Rattle.std.specs.List.{AllByRecursion, filter, cons_option, enumerate_from, flat_map, range_with_len}
 use Rattle.std.specs.Option.{IfSome}
 use Rattle.std.proofs.lemmas.Option.{IfSome_then}
+use Rattle.std.proofs.Math.Nat.{div-zero}
 use Rattle.std.proofs.lemmas.List.MinMax.{IsStrictWeakOrder-by_number}
-use Rattle.std.proofs.Math.Nat.{div-mul-le_self}
 use Rattle.sq_value.specs.declared.Value.{Value}
 use Rattle.sq_value.specs.declared.Tuple.{Tuple}
 use Rattle.sq_value.specs.Values.{IsStream}
@@ -21,6 +21,7 @@ use Rattle.sq_lists.specs.Pairs.{meets, paired, pairs_of, pairs_from, join_list_
 use Rattle.sq_lists.specs.Sorting.{Numbered, sooner, retimed, without, tuple_of, chosen, without_late, bsort_list_of}
 use Rattle.sq_lists.specs.Sorters.{timed}
 use Rattle.sq_aggfn.specs.Windows.{start_of, started}
+use Rattle.sq_aggfn.proofs.StartLemmas.{starts_before}
 use Rattle.sq_lists.specs.Windows.{groups_of, in_group, in_window, window_results, aggregate_of}
 use Rattle.sq_lists.specs.WindowParts.{NotFalling}
 use Rattle.sq_lists.specs.Keeps.{KeepStreams}
@@ -173,10 +174,14 @@ module _ (answers : List Tuple → List Value) (by : List ℕ) (w : WindowSpec) 
       stream-is (start_of w 0) (aggregate_of answers by w xs) (windows-from 0 (started w last) (λ k few. start-tick k last few (max-tick xs (stream_ticks xs h))))
     where
       start-tick : (k last : ℕ) → k < 0 + started w last → last < 2 ^ 40 → start_of w k < 2 ^ 40
-      start-tick k last few tick =
-          let whole : last / w.advance * w.advance ≤ last = div-mul-le_self last w.advance in
-          let start : start_of w k ≤ last / w.advance * w.advance = grind arith in
-          omega (arith, start, whole, tick)
+      start-tick k last few tick = moving w.advance refl
+        where
+          moving : (a : ℕ) → w.advance ≡ a → start_of w k < 2 ^ 40
+          moving zero e = absurd (none (ap (λ n. (last + n - w.phase) / n) e ∙ div-zero (last + 0 - w.phase)))
+            where
+              none : started w last ≡ 0 → ⊥
+              none z = omega (arith, few, z)
+          moving (suc a) e = let early : start_of w k ≤ last = starts_before w (omega (arith, e)) last k (omega (arith, few)) in omega (arith, early, tick)
 
 -- Join
 abbrev NoneAfter : ℕ → List Entry → Type 0

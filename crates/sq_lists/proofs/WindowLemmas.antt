@@ -197,13 +197,14 @@ module _ (w : WindowSpec) (window : IsWindow w) where
   -- the start after the last window of a tick
   pub next_small : (time : ℕ) → time < 2 ^ 40 → start_of w (started w time) < 2 ^ 41
   next_small time tick =
-      let whole = div-mul-le_self time w.advance in
+      let whole = div-mul-le_self (time + w.advance - w.phase) w.advance in
       let bounded = window.bounded in
       let covers = window.covers in
-      omega (arith, whole, bounded, covers, tick)
+      let begins = window.begins in
+      omega (arith, whole, bounded, covers, begins, tick)
 
-  pub last_start : (time : ℕ) (xs : List Tuple) → NotFalling time xs → NotFalling (start_of w (started w time - 1)) xs
-  last_start time xs up = lower (start_of w (started w time - 1)) time xs (starts_before w window.moves time (started w time - 1) (omega arith)) up
+  pub early_start : (time : ℕ) (xs : List Tuple) → NotFalling time xs → (k : ℕ) → k < started w time → NotFalling (start_of w k) xs
+  early_start time xs up k lt = lower (start_of w k) time xs (starts_before w window.moves time k lt) up
 
 -- all that is left of a list
 pub rest_is : (xs : List Tuple) (i : ℕ) → take (length xs - i) (drop i xs) ≡ drop i xs

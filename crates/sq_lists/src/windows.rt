@@ -1,6 +1,6 @@
 //! Aggregate.
 
-ghost use Rattle.std.specs.Prelude.{◌≡◌, ◌+◌, ◌-◌, ◌^◌, ◌<◌, ◌≤◌, ◌++◌, [], length, IfOk, OnOk};
+ghost use Rattle.std.specs.Prelude.{◌≡◌, ℕ, ◌+◌, ◌-◌, ◌^◌, ◌<◌, ◌≤◌, ◌++◌, [], length, IfOk, OnOk};
 ghost use Rattle.sq_value.specs.Values.{IsStream, fields_cmp};
 ghost use Rattle.sq_aggfn.specs.Groups.{group_of};
 ghost use Rattle.sq_aggfn.specs.Keyed.{keyed_from, AllMade};
@@ -83,7 +83,7 @@ fn push_windows<F: Fold>(
     out: &mut Vec<Tuple>,
 ) -> Result<(), AllocError>
     requires window { IsWindow window }
-    requires rises { NotFalling (start_of window (to - 1)) rest.now }
+    requires rises { (k : ℕ) → k < to → NotFalling (start_of window k) rest.now }
     requires small { start_of window to < 2 ^ 41 }
     ensures { OnOk result (out.new.items ≡ out.old.items ++ numbered_results (F.table fold.now) by.now window rest.now from to) }
 {
@@ -130,7 +130,7 @@ fn aggregate<F: Fold>(
 }
 
 /// What an Aggregate gives (after SQuAl's Aggregate: Abadi and others, VLDB Journal 2003; that windows begin at the
-/// multiples of the advance is this project's own): for each window, in the order of starts, and for each group with a
+/// phase and an advance apart is this project's own): for each window, in the order of starts, and for each group with a
 /// tuple in it, in the order of values, the group's values and then the functions' answers, at the window's start. Only
 /// windows that cover a tuple are visited.
 pub fn aggregate_list(

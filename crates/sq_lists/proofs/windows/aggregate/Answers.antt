@@ -5,7 +5,7 @@ use Rattle.sq_value.specs.declared.Tuple.{Tuple}
 use Rattle.sq_aggfn.specs.declared.WindowSpec.{WindowSpec}
 use Rattle.sq_aggfn.specs.Windows.{started}
 use Rattle.sq_lists.specs.WindowParts.{numbered_results, NotFalling}
-use Rattle.sq_lists.proofs.WindowLemmas.{left_results, left_first, left_last, left_step, begun_step, stream_rises, stream_ticks, lower, next_small, last_start, rest_is}
+use Rattle.sq_lists.proofs.WindowLemmas.{left_results, left_first, left_last, left_step, begun_step, stream_rises, stream_ticks, lower, next_small, early_start, rest_is}
 use Rattle.sq_lists.proofs.windows.aggregate.Goals as goal
 
 begun-first : (w : WindowSpec) (xs : List Tuple) → AllByRecursion (λ x. 0 ≤ started w x.time) xs
@@ -37,7 +37,7 @@ push_windows-requires-clause-rises g c =
     let whole = drop_more t i c.index-tuples-i.result c.loop-i-test.true in
     let rises = rw whole at c.loop-i.invariant.rises in
     let up : NotFalling x.time (x ∷ drop (i + 1) t) = (omega arith, rises.1) in
-    rw (rest_is t i, whole, c.started-end.ensures.count) (last_start c.args.window c.requires.window x.time (x ∷ drop (i + 1) t) up)
+    λ k lt. rw (rest_is t i, whole) (early_start c.args.window c.requires.window x.time (x ∷ drop (i + 1) t) up k (rw c.started-end.ensures.count at lt))
 
 pub push_windows-requires-clause-small : goal.push_windows-requires-clause-small
 push_windows-requires-clause-small g c =

@@ -1,4 +1,4 @@
-use Rattle.std.proofs.Common.{ℕ, ◌≡◌, ◌+◌, ◌-◌, ◌*◌, ◌<◌, ◌≤◌, ◌++◌, take, sym, ap, ◌∙◌, append-nil, append_assoc, arith}
+use Rattle.std.proofs.Common.{ℕ, ◌≡◌, ◌+◌, ◌<◌, ◌++◌, take, sym, ap, ◌∙◌, append-nil, append_assoc, arith}
 use Rattle.sq_aggfn.specs.Windows.{start_of}
 use Rattle.sq_lists.specs.Windows.{in_window, window_results}
 use Rattle.sq_lists.specs.WindowParts.{told_results, numbered_results}
@@ -22,8 +22,7 @@ loop-k-preserved g c =
     let start : ℕ = c.start_of-start.result in
     let is : start ≡ start_of w k = c.start_of-start.ensures in
     let lt : k < to = c.loop-k-test.true in
-    let early : start ≤ start_of w (to - 1) = (let le = earlier k to w.advance lt in omega (arith, is, le)) in
-    let inside : take c.leading.result xs ≡ in_window w start xs = ap (λ n. take n xs) c.leading.ensures.leading ∙ leading_is w start (start_of w (to - 1)) xs early c.requires.rises in
+    let inside : take c.leading.result xs ≡ in_window w start xs = ap (λ n. take n xs) c.leading.ensures.leading ∙ leading_is w start (start_of w k) xs (omega (arith, is)) (c.requires.rises k lt) in
     let results : told_results (g.F.Fold.told fold) start c.in_ok-held.held.entries ≡ window_results table by (start_of w k) (in_window w (start_of w k) xs) =
     ap (told_results (g.F.Fold.told fold) start) c.in_ok-held.ensures.groups
     ∙ told_window (g.F.Fold.none fold) (g.F.Fold.joined fold) (g.F.Fold.unit fold) (g.F.Fold.told fold) table (g.met.F.Fold.tells fold) by start (take c.leading.result xs)
@@ -33,6 +32,3 @@ loop-k-preserved g c =
     ∙ append_assoc c.loop-k.out.items (window_results table by (start_of w k) (in_window w (start_of w k) xs)) (numbered_results table by w xs (k + 1) to)
     ∙ ap (λ l. c.loop-k.out.items ++ l) (sym (first_window table by w xs k to lt))
     ∙ c.loop-k.invariant
-  where
-    earlier : (k to advance : ℕ) → k < to → k * advance ≤ (to - 1) * advance
-    earlier k to advance h = grind arith
