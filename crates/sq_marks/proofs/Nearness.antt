@@ -1,5 +1,5 @@
 -- Where the tuples of a full list come from: each kind of box keeps what holds of the times, and an Aggregate goes back by its size less one.
-use Rattle.std.proofs.Common.{◌≡◌, ℕ, ◌+◌, ◌-◌, ◌*◌, ◌/◌, ◌≤◌, ◌<◌, leb, ltb, Bool, true, false, cond, ◌&&◌, List, [], ◌∷◌, ◌++◌, map, refl, ap, inl, inr, arith}
+use Rattle.std.proofs.Common.{◌≡◌, ℕ, ◌+◌, ◌-◌, ◌≤◌, ◌<◌, leb, ltb, Bool, true, false, cond, ◌&&◌, List, [], ◌∷◌, ◌++◌, map, refl, ap, inl, inr, arith}
 use Rattle.std.proofs.lemmas.Bool.Decides.{nat_tests}
 use Rattle.std.specs.List.{filter, flat_map, AllByRecursion}
 use Rattle.sq_value.specs.declared.Value.{Value}
@@ -7,6 +7,7 @@ use Rattle.sq_value.specs.declared.Tuple.{Tuple}
 use Rattle.sq_value.specs.Lists.{insert_by, sort_by, max_by, numbers_to}
 use Rattle.sq_expr.specs.Trees.{Expr}
 use Rattle.sq_aggfn.specs.declared.WindowSpec.{WindowSpec}
+use Rattle.sq_aggfn.specs.Windows.{start_of, started}
 use Rattle.sq_lists.specs.Boxes.{mapped, map_list_of}
 use Rattle.sq_lists.specs.Merge.{union}
 use Rattle.sq_lists.specs.Windows.{in_window, in_group, groups_of, window_results, aggregate_of}
@@ -98,14 +99,14 @@ from-window w s (x ∷ xs) i = by (from-window w s xs) (leb s x.time && ltb x.ti
     by more false e i = inr (more i)
 
 pub times-aggregate : (P : ℕ → Type 0) (answers : List Tuple → List Value) (group : List ℕ) (w : WindowSpec) (xs : List Tuple)
-    → ((k : ℕ) → Somewhere (λ x. (k * w.advance ≤ x.time) × (x.time < k * w.advance + w.size)) xs → P (k * w.advance)) → AllTimes P (aggregate_of answers group w xs)
-times-aggregate P answers group w xs h = starts (numbers_to (max_by (λ x. x.time) xs / w.advance + 1))
+    → ((k : ℕ) → Somewhere (λ x. (start_of w k ≤ x.time) × (x.time < start_of w k + w.size)) xs → P (start_of w k)) → AllTimes P (aggregate_of answers group w xs)
+times-aggregate P answers group w xs h = starts (numbers_to (started w (max_by (λ x. x.time) xs)))
   where
-    starts : (ks : List ℕ) → AllTimes P (flat_map (λ s. window_results answers group s (in_window w s xs)) (map (λ k. k * w.advance) ks))
+    starts : (ks : List ℕ) → AllTimes P (flat_map (λ s. window_results answers group s (in_window w s xs)) (map (start_of w) ks))
     starts [] = tt
     starts (k ∷ ks) =
-        All-append (λ x. P x.time) (window_results answers group (k * w.advance) (in_window w (k * w.advance) xs)) (flat_map (λ s. window_results answers group s (in_window w s xs)) (map (λ k. k * w.advance) ks))
-        (results-times P answers group (k * w.advance) (in_window w (k * w.advance) xs) (λ i. h k (from-window w (k * w.advance) xs i)))
+        All-append (λ x. P x.time) (window_results answers group (start_of w k) (in_window w (start_of w k) xs)) (flat_map (λ s. window_results answers group s (in_window w s xs)) (map (start_of w) ks))
+        (results-times P answers group (start_of w k) (in_window w (start_of w k) xs) (λ i. h k (from-window w (start_of w k) xs i)))
         (starts ks)
 
 -- a tuple of a list of whose times P holds
@@ -133,7 +134,7 @@ near-farther above d e le xs h =
 -- the second fact, for an Aggregate
 pub near-aggregate : (above : List Tuple) (d : ℕ) (answers : List Tuple → List Value) (group : List ℕ) (w : WindowSpec) (xs : List Tuple)
     → AllTimes (IsNear above d) xs → AllTimes (IsNear above (d + (w.size - 1))) (aggregate_of answers group w xs)
-near-aggregate above d answers group w xs h = times-aggregate (IsNear above (d + (w.size - 1))) answers group w xs (λ k i. back (k * w.advance) i)
+near-aggregate above d answers group w xs h = times-aggregate (IsNear above (d + (w.size - 1))) answers group w xs (λ k i. back (start_of w k) i)
   where
     back : (s : ℕ) → Somewhere (λ x. (s ≤ x.time) × (x.time < s + w.size)) xs → IsNear above (d + (w.size - 1)) s
     back s i =
