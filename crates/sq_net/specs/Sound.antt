@@ -110,7 +110,7 @@ IsTypedBody ins (Aggregate funcs group window) ports =
 IsTypedBody ins (Join size on) ports =
     IsPredicate (pair_columns ins) on × (ports ≡ pair_columns ins ∷ []) × (nat_le (length (pair_columns ins)) 16 ≡ true)
 
--- an Aggregate's window moves on, covers what it moves by, and is at most 2^32 ticks and 4096 advances long
+-- an Aggregate's window moves on, covers what it moves by, is at most 2^32 ticks and 4096 advances long, and has a phase below its advance
 abbrev pub HasWindow : Body → Type 0
 HasWindow (Aggregate funcs group window) = IsWindow window
 HasWindow b = ⊤

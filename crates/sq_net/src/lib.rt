@@ -169,7 +169,7 @@ pub enum NetErr {
     /// The box reaches itself.
     #[error("Cycle {0}")]
     Cycle(Place),
-    /// A window's size and advance don't fit.
+    /// A window's size, advance and phase don't fit.
     #[error("Window {0}")]
     Window(Place),
     /// The points are no quality graph.
