@@ -55,7 +55,7 @@ lone b sources schema = record {
 
 -- windows of size 10 by 5; arc 1 is the output's
 abbrev sums : Network
-sums = lone (body.Aggregate (func.Sum 0 ∷ []) [] (record { size = 10; advance = 5 })) (source (codes "s") ∷ []) ((codes "sum", kind.Int) ∷ [])
+sums = lone (body.Aggregate (func.Sum 0 ∷ []) [] (record { size = 10; advance = 5; phase = 0 })) (source (codes "s") ∷ []) ((codes "sum", kind.Int) ∷ [])
 
 abbrev counted : List (List Tuple)
 counted = (at 0 1 ∷ at 3 2 ∷ at 12 4 ∷ []) ∷ []

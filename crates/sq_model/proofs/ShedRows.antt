@@ -15,6 +15,7 @@ use Rattle.sq_net.specs.declared.Node.{Node}
 use Rattle.sq_net.specs.declared.Output.{Output}
 use Rattle.sq_net.specs.declared.Source.{Source}
 use Rattle.sq_net.specs.declared.Body.TheVariants as body
+use Rattle.sq_place.specs.Points.{until_of}
 use Rattle.sq_model.specs.Full.{full_arc}
 use Rattle.sq_points.specs.Points.{points_of}
 use Rattle.sq_model.specs.Shedding.{Replay, record_of, answer_of, level_of, touched_batches}
@@ -32,14 +33,17 @@ ticks = map (λ t. at t t) (numbers_to 16)
 abbrev source_s : Source
 source_s = record { name = 115 ∷ []; file = []; schema = (118 ∷ [], kind.Int) ∷ [] }
 
-abbrev aggregate : List ℕ → Func → ℕ → ℕ → Node
-aggregate name f size advance = record {
+abbrev aggregate_from : List ℕ → Func → ℕ → ℕ → ℕ → Node
+aggregate_from name f size advance phase = record {
   name = name;
-  body = body.Aggregate (f ∷ []) [] (record { size = size; advance = advance });
+  body = body.Aggregate (f ∷ []) [] (record { size = size; advance = advance; phase = phase });
   schemas = [];
   cost = 1;
   selectivity = 1000 ∷ [];
 }
+
+abbrev aggregate : List ℕ → Func → ℕ → ℕ → Node
+aggregate name f size advance = aggregate_from name f size advance 0
 
 abbrev output : List ℕ → Output
 output name = record { name = name; weight = 1; graph = (0, 0) ∷ (1000, 1000000) ∷ [] }
@@ -195,3 +199,48 @@ wide_batch_fed = refl
 wide_batch_work : work_of wide_batch ≡ 33
 unfolding state_after
 wide_batch_work = refl
+
+-- the second Aggregate of network c with the phase 2, so that a batch's tuples are kept for 2 ticks more
+abbrev network_late : Network
+network_late = record network_c { boxes = aggregate (codes "a1") (func.Sum 0) 4 2 ∷ aggregate_from (codes "a2") (func.Max 0) 4 4 2 ∷ [] }
+
+abbrev pub late : Replay
+late = record row_5 { network = network_late }
+
+late_until : map (λ p. map (until_of p) (numbers_to 3)) (points_of network_late) ≡ (9 ∷ 13 ∷ 17 ∷ []) ∷ []
+late_until = refl
+
+late_full : full_arc network_late (ticks ∷ []) 2 ≡ at 2 22 ∷ at 6 38 ∷ at 10 54 ∷ at 14 29 ∷ []
+late_full = refl
+
+late_records : map (record_of late 0) (points_of network_late) ≡ (1 ∷ 2 ∷ []) ∷ []
+unfolding state_after
+late_records = refl
+
+late_answer : answer_of late 0 ≡ at 2 22 ∷ at 14 29 ∷ []
+unfolding state_after
+late_answer = refl
+
+-- ticks 9 to 11 are dropped early
+late_kept : map (λ x. x.time) (kept_of late 0) ≡ 0 ∷ 1 ∷ 2 ∷ 3 ∷ 4 ∷ 5 ∷ 6 ∷ 7 ∷ 8 ∷ 12 ∷ 13 ∷ 14 ∷ 15 ∷ []
+unfolding state_after
+late_kept = refl
+
+late_fed : map (fed_of late) (numbers_to 2) ≡ 13 ∷ 5 ∷ []
+unfolding state_after
+late_fed = refl
+
+late_work : work_of late ≡ 36
+unfolding state_after
+late_work = refl
+
+-- windows of size 10 by 5 from 3 on
+abbrev late_alone : Network
+late_alone = record network_b { boxes = aggregate_from (codes "a") (func.Sum 0) 10 5 3 ∷ [] }
+
+late_alone_full : full_arc late_alone ((at 2 5 ∷ at 3 1 ∷ at 9 2 ∷ []) ∷ []) 1 ≡ at 3 3 ∷ at 8 2 ∷ []
+late_alone_full = refl
+
+late_alone_fed : fed_of (record { network = late_alone; sources = (at 2 5 ∷ at 3 1 ∷ at 9 2 ∷ []) ∷ []; entries = []; seed = 0 }) 0 ≡ 3
+unfolding state_after
+late_alone_fed = refl
