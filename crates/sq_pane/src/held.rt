@@ -7,6 +7,7 @@ ghost use Rattle.sq_pane.specs.Panes.{key_cmp, from_pane, window_from, total, Al
 ghost use Rattle.sq_pane.specs.States.{states_of};
 
 use crate::line::{Line, add_to_line, joined_in, line_of_one};
+use crate::width::pane_shift;
 use sq_aggfn::{Fold, Group, WindowSpec};
 use sq_value::Tuple;
 use std::alloc::{AllocError, Global};
@@ -68,7 +69,8 @@ pub fn groups_at<F: Fold>(
     width: u64,
     start: u64,
 ) -> Result<Vec<(Group, F::State)>, AllocError>
-    requires start { start + window.size < 2 ^ 64 }
+    requires width { 1 ≤ width }
+    requires start { start + width + window.size < 2 ^ 64 }
     requires ticks { AllByRecursion (λ e. e.0.0 * width < 2 ^ 64) (states_of held.now.entries) }
     requires made { AllAreMade (F.made fold.now) (states_of held.now.entries) }
     requires few { total (F.number fold.now) (states_of held.now.entries) < 2 ^ 62 }
@@ -77,8 +79,9 @@ pub fn groups_at<F: Fold>(
     ensures few { IfOk result (λ groups. total (F.number fold.now) groups.items ≤ total (F.number fold.now) (states_of held.now.entries)) }
 {
     let mut groups = Vec::new(alloc);
+    let shift = pane_shift(window, width);
     for (group, line) in held.iter() {
-        let joined = joined_in(fold, &line.states, window, width, start)?;
+        let joined = joined_in(fold, &line.states, window, width, shift, start)?;
         push_some(&mut groups, group, joined)?;
     }
     Ok(groups)

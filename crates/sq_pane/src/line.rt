@@ -4,7 +4,7 @@ ghost use Rattle.std.specs.Prelude.{◌≡◌, ℕ, ◌+◌, ◌-◌, ◌*◌, �
 ghost use Rattle.std.specs.Ordering.{nat_cmp};
 ghost use Rattle.std.specs.List.{AllByRecursion, filter};
 ghost use Rattle.sq_aggfn.specs.Keyed.{added};
-ghost use Rattle.sq_pane.specs.Panes.{Rises, Rises-prop, within, joined_within, total, AllAreMade, IsMadeIf, number_if};
+ghost use Rattle.sq_pane.specs.Panes.{Rises, Rises-prop, shift_of, within, joined_within, total, AllAreMade, IsMadeIf, number_if};
 
 use sq_aggfn::{Fold, WindowSpec};
 use sq_value::Tuple;
@@ -125,12 +125,13 @@ fn joined_if<F: Fold>(
 }
 
 /// Whether the window that starts at a tick covers a pane.
-fn is_within(window: WindowSpec, width: u64, start: u64, pane: u64) -> bool
-    requires start { start + window.size < 2 ^ 64 }
+fn is_within(window: WindowSpec, width: u64, shift: u64, start: u64, pane: u64) -> bool
+    requires shift { shift ≡ shift_of window width }
+    requires start { start + shift + window.size < 2 ^ 64 }
     requires pane { pane * width < 2 ^ 64 }
     ensures { result ≡ within window width start pane }
 {
-    window.covers(start, pane * width)
+    window.covers(start + shift, pane * width)
 }
 
 /// The join of the states that the window that starts at a tick covers, where there is one.
@@ -139,9 +140,11 @@ pub fn joined_in<F: Fold>(
     states: &[(u64, F::State)],
     window: WindowSpec,
     width: u64,
+    shift: u64,
     start: u64,
 ) -> Result<Option<F::State>, AllocError>
-    requires start { start + window.size < 2 ^ 64 }
+    requires shift { shift ≡ shift_of window width }
+    requires start { start + shift + window.size < 2 ^ 64 }
     requires ticks { AllByRecursion (λ e. e.0 * width < 2 ^ 64) states.now }
     requires made { AllAreMade (F.made fold.now) states.now }
     requires few { total (F.number fold.now) states.now < 2 ^ 62 }
@@ -151,7 +154,8 @@ pub fn joined_in<F: Fold>(
 {
     let mut joined = None;
     for (pane, state) in states {
-        joined = joined_if(fold, joined, is_within(window, width, start, *pane), state)?;
+        let covered = is_within(window, width, shift, start, *pane);
+        joined = joined_if(fold, joined, covered, state)?;
     }
     Ok(joined)
 }
