@@ -6,26 +6,26 @@ use Rattle.sq_value.specs.declared.Value.{Value}
 use Rattle.sq_aggfn.specs.declared.WindowSpec.{WindowSpec}
 use Rattle.sq_aggfn.specs.Windows.{start_of}
 use Rattle.sq_aggfn.proofs.StartLemmas.{starts_rise}
-use Rattle.sq_pane.specs.Panes.{Key, from_pane}
+use Rattle.sq_pane.specs.Panes.{Key, shift_of, pane_of, from_pane}
 use Rattle.sq_agg.specs.Positions.{open_at}
 use Rattle.sq_agg.specs.Slots.{Folding}
 use Rattle.sq_agg.specs.Held.{IsFirstEnd, KeepsNear, panes_after}
 use Rattle.sq_agg.proofs.FeedLemmas.{after-key}
 
 -- the panes before a number went, none of which begins at a tick or later
-abbrev pub Forgets : {M : Type 0} → ℕ → ℕ → List (Key × M) → List (Key × M) → Type 0
-Forgets width mid old new = (n : ℕ) × (n * width ≤ mid) × (new ≡ from_pane n old)
+abbrev pub Forgets : {M : Type 0} → WindowSpec → ℕ → ℕ → List (Key × M) → List (Key × M) → Type 0
+Forgets w width mid old new = (n : ℕ) × (n * width ≤ mid + shift_of w width) × (new ≡ from_pane n old)
 
 all-stay : {M : Type 0} (es : List (Key × M)) → from_pane 0 es ≡ es
 all-stay [] = refl
 all-stay (e ∷ es) = (let le : nat_le 0 e.0.0 ≡ true = grind (arith, tests) in ap (λ b. cond b (e ∷ from_pane 0 es) (from_pane 0 es)) le) ∙ ap (λ l. e ∷ l) (all-stay es)
 
-pub forgets_if : {M : Type 0} (width mid : ℕ) → 1 ≤ width → (is : Bool) (old new : List (Key × M)) → new ≡ (if is then from_pane (mid / width) old else old) → Forgets width mid old new
-forgets_if width mid wide true old new e = (mid / width, div-mul-le_self mid width, e)
-forgets_if width mid wide false old new e = (0, omega arith, e ∙ sym (all-stay old))
+pub forgets_if : {M : Type 0} (w : WindowSpec) (width mid : ℕ) → 1 ≤ width → (is : Bool) (old new : List (Key × M)) → new ≡ (if is then from_pane (pane_of w width mid) old else old) → Forgets w width mid old new
+forgets_if w width mid wide true old new e = (pane_of w width mid, div-mul-le_self (mid + shift_of w width) width, e)
+forgets_if w width mid wide false old new e = (0, omega arith, e ∙ sym (all-stay old))
 
 -- windows that start later end later
-module _ (w : WindowSpec) (moves : 1 ≤ w.advance) where
+module _ (w : WindowSpec) (moves : 1 ≤ w.advance) (begins : w.phase < w.advance) where
   ends-rise : (j k : ℕ) → j ≤ k → start_of w j ≤ start_of w k
   ends-rise j k le = by (nat_lt j k) refl
     where
@@ -50,10 +50,10 @@ module _ (w : WindowSpec) (moves : 1 ≤ w.advance) where
   first_end_below now ends most first some low = by first.window first.is first.over
     where
       by : (n : ℕ) → ends ≡ start_of w n + w.size → ((k : ℕ) → k < n → start_of w k + w.size ≤ now) → ends < most + (w.advance + w.size)
-      by zero is over = (let none : start_of w 0 ≡ 0 = zero-mul w.advance in omega (arith, is, none, some))
+      by zero is over = (let none : 0 * w.advance ≡ 0 = zero-mul w.advance in omega (arith, is, none, some, begins))
       by (suc n) is over =
           let before = over n (omega arith) in
-          let step : start_of w (suc n) ≡ start_of w n + w.advance = suc-mul n w.advance in
+          let step : suc n * w.advance ≡ n * w.advance + w.advance = suc-mul n w.advance in
           omega (arith, is, before, step, low)
 
   -- the first end doesn't move while it isn't reached
@@ -68,7 +68,7 @@ module _ (w : WindowSpec) (moves : 1 ≤ w.advance) where
     nearer ends next le [] all = tt
     nearer ends next le (e ∷ es) all = ((let h = all.0 in omega (arith, h, le)), nearer ends next le es all.1)
 
-    left-near : (next n : ℕ) → next < n * width + width + (w.advance + w.size) → (es : List (Key × M)) → KeepsNear w width next (from_pane n es)
+    left-near : (next n : ℕ) → next + shift_of w width < n * width + width + (w.advance + w.size) → (es : List (Key × M)) → KeepsNear w width next (from_pane n es)
     left-near next n low [] = tt
     left-near next n low (e ∷ es) = by (nat_le n e.0.0) refl (left-near next n low es)
       where
@@ -81,19 +81,21 @@ module _ (w : WindowSpec) (moves : 1 ≤ w.advance) where
 
     -- what is left once the windows before a time have ended
     pub near_left : (now time ends next : ℕ) → IsFirstEnd w now ends → IsFirstEnd w time next → (es : List (Key × M)) → KeepsNear w width ends es
-        → KeepsNear w width next (if nat_le ends time then from_pane (open_at w.size time / width) es else es)
+        → KeepsNear w width next (if nat_le ends time then from_pane (pane_of w width (open_at w.size time)) es else es)
     near_left now time ends next first after es all = by (nat_le ends time) refl
       where
-        by : (b : Bool) → nat_le ends time ≡ b → KeepsNear w width next (if b then from_pane (open_at w.size time / width) es else es)
+        by : (b : Bool) → nat_le ends time ≡ b → KeepsNear w width next (if b then from_pane (pane_of w width (open_at w.size time)) es else es)
         by true q =
-            let lt : open_at w.size time < open_at w.size time / width * width + width = lt-div-mul-add wide in
-            left-near next (open_at w.size time / width) (first_end_below time next (open_at w.size time / width * width + width) after (omega (arith, wide)) (omega (arith, lt))) es
+            let n : ℕ = pane_of w width (open_at w.size time) in
+            let lt : open_at w.size time + shift_of w width < n * width + width = lt-div-mul-add wide in
+            let low = first_end_below time next (open_at w.size time + 1) after (omega arith) (omega arith) in
+            left-near next n (omega (arith, lt, low)) es
         by false q = nearer ends next (first_end_stays now time ends next (let lt : time < ends = grind (arith, tests) in lt) first after) es all
 
     -- and once a tuple of that time was added
     pub near_added : (made : M → Type 0) (number : M → ℕ) (f : Folding M) (time next : ℕ) → IsFirstEnd w time next → (body : Option (List Value)) (es : List (Key × M)) → KeepsNear w width next es
-        → KeepsNear w width next (panes_after f width time body es)
+        → KeepsNear w width next (panes_after f w width time body es)
     near_added made number f time next after body es all =
-        let lt : time < time / width * width + width = lt-div-mul-add wide in
-        let low = first_end_below time next (time / width * width + width) after (omega (arith, wide)) (omega (arith, lt)) in
-        after-key made number f width 0 (λ k. next < k.0 * width + (width + w.advance + w.size)) time body es (λ fields e. omega (arith, low)) all
+        let lt : time + shift_of w width < pane_of w width time * width + width = lt-div-mul-add wide in
+        let low = first_end_below time next (time + 1) after (omega arith) (omega arith) in
+        after-key made number f w width 0 (λ k. next + shift_of w width < k.0 * width + (width + w.advance + w.size)) time body es (λ fields e. omega (arith, low, lt)) all

@@ -31,7 +31,7 @@ use std::sync::ledger::Ledger;
 
 /// Gives for each window, in the order of starts, and for each group with a tuple in it, in the order of values, the
 /// group's values and then the fold's answers, at the window's start (after SQuAl's Aggregate: Abadi and others, "Aurora",
-/// VLDB Journal 2003; that windows begin at the multiples of the advance is this project's own).
+/// VLDB Journal 2003; that windows begin at the phase and an advance apart is this project's own).
 ///
 /// It keeps one state for each pane and group, and joins a window that ends from its panes. Each time a window ends, the
 /// panes that no later window needs go, so none is held that ended an advance or more before the window begins that
@@ -77,7 +77,7 @@ impl<F: Fold + Drop> AggregateBox<F> {
             panes: Panes::new(alloc, fold, window),
             group,
             time: 0,
-            ends: window.size,
+            ends: window.phase + window.size,
             waiting: Waiting::new(alloc, marked),
             tally: Tally::new(),
         }
@@ -94,7 +94,7 @@ fn first_open(size: u64, time: u64) -> u64
 
 impl<F: Fold + Drop> Operator for AggregateBox<F> {
     ghost valid = { λ s. IsWindow s.panes.window × (time_of s.tally.place < 2 ^ 40) × (IsGcd s.panes.window.size s.panes.window.advance s.panes.width × (1 ≤ s.panes.width))
-        × HoldsPanes (F.made s.panes.fold) (F.number s.panes.fold) s.panes.width (F.width s.panes.fold) s.tally.taken s.tally.place (states_of s.panes.held.entries)
+        × HoldsPanes (F.made s.panes.fold) (F.number s.panes.fold) s.panes.window s.panes.width (F.width s.panes.fold) s.tally.taken s.tally.place (states_of s.panes.held.entries)
         × (s.tally.taken < 2 ^ 62) × (s.tally.running ≡ false → (states_of s.panes.held.entries) ≡ []) × MarksWait s.panes.window.size (time_of s.tally.place) (bounds_of s.waiting).waiting
         × (s.time ≡ time_of s.tally.place) × IsFirstEnd s.panes.window s.time s.ends × KeepsNear s.panes.window s.panes.width s.ends (states_of s.panes.held.entries) };
 

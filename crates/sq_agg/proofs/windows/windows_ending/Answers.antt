@@ -12,4 +12,4 @@ returns-then-time-ends-clause-groups g c = λ p lo hi.
     let moves = c.requires.window.moves in
     ap (groups_at p) c.new.ensures.items
     ∙ nothing_ends (g.F.Fold.none panes.fold) (g.F.Fold.joined panes.fold) w moves panes.width (bounds_of c.args.waiting.now) (states_of panes.held.entries) c.args.now c.args.ends c.args.time
-    (none_ends_before w moves c.args.now c.args.ends c.requires.ends) c.if-time-ends.true p lo (subst (λ m. p < m) c.requires.mid hi)
+    (none_ends_before w moves c.requires.window.begins c.args.now c.args.ends c.requires.ends) c.if-time-ends.true p lo (subst (λ m. p < m) c.requires.mid hi)
