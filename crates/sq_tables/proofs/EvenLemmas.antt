@@ -11,12 +11,13 @@ use Rattle.sq_net.specs.declared.Part.TheVariants as part
 use Rattle.sq_tables.specs.declared.raw.RawBody.{RawBody}
 use Rattle.sq_tables.specs.declared.raw.RawBox.{RawBox}
 use Rattle.sq_tables.specs.declared.raw.Raw.{Raw}
+use Rattle.sq_tables.specs.declared.raw.Version.{Version}
 use Rattle.sq_tables.specs.Documents as option
 use Rattle.sq_tables.specs.Documents.{list_in, optional, required, when}
 use Rattle.sq_tables.specs.Places.{place_of}
 use Rattle.sq_tables.specs.Shapes.{IsEven, AreEven, body_in, box_in, default_selectivity, output_in, ports_of, source_in, top_in}
 use Rattle.sq_tables.specs.Refusals.{Answers}
-use Rattle.sq_tables.specs.Rawly.{◌>>=◌, is_version_one, or_broken, raw_from, raw_in, shaped_from}
+use Rattle.sq_tables.specs.Rawly.{◌>>=◌, version_in, or_broken, raw_from, raw_in, shaped_from}
 use Rattle.sq_tables.proofs.ShapedLemmas.{first_step}
 
 first_part : {A B : Type 0} (o : Option A) (f : A → Option B) (y : B) → option.◌>>=◌ o f ≡ Some y → (x : A) × ((o ≡ Some x) × (f x ≡ Some y))
@@ -50,10 +51,10 @@ fed ms body name = option.◌>>=◌ (required (list_in as_str) (get_member (code
 abbrev called : Members → RawBody → Option RawBox
 called ms body = option.◌>>=◌ (required as_str (get_member (codes "name") ms)) (fed ms body)
 
-box_even : (ms : Members) (raw : RawBox) → box_in ms ≡ Some raw → IsEven raw
-box_even ms raw h =
-    let kind = first_part (required as_str (get_member (codes "kind") ms)) (λ k. option.◌>>=◌ (body_in k ms) (called ms)) raw h in
-    let body = first_part (body_in kind.0 ms) (called ms) raw kind.1.1 in
+box_even : (v : Version) (ms : Members) (raw : RawBox) → box_in v ms ≡ Some raw → IsEven raw
+box_even v ms raw h =
+    let kind = first_part (required as_str (get_member (codes "kind") ms)) (λ k. option.◌>>=◌ (body_in v k ms) (called ms)) raw h in
+    let body = first_part (body_in v kind.0 ms) (called ms) raw kind.1.1 in
     let name = first_part (required as_str (get_member (codes "name") ms)) (fed ms body.0) raw body.1.1 in
     let ins = first_part (required (list_in as_str) (get_member (codes "in") ms)) (priced ms name.0 body.0) raw name.1.1 in
     let cost = first_part (optional (pos 1) as_integer (get_member (codes "cost") ms)) (weighed ms name.0 body.0 ins.0) raw ins.1.1 in
@@ -64,14 +65,14 @@ read_as : {A : Type 0} (b : NetErr) (o : Option A) (x : A) → or_broken b o ≡
 read_as b None x e = cc
 read_as b (Some y) x e = let same : y ≡ x = cc in ap Some same
 
-boxes_even : (n : ℕ) (ts : List Members) (boxes : List RawBox) → shaped_from part.Box box_in n ts ≡ Ok boxes → AllByRecursion IsEven boxes
-boxes_even n [] boxes h = let same : [] ≡ boxes = cc in subst (λ (bs : List RawBox). AllByRecursion IsEven bs) same tt
-boxes_even n (t ∷ ts) boxes h =
+boxes_even : (v : Version) (n : ℕ) (ts : List Members) (boxes : List RawBox) → shaped_from part.Box (box_in v) n ts ≡ Ok boxes → AllByRecursion IsEven boxes
+boxes_even v n [] boxes h = let same : [] ≡ boxes = cc in subst (λ (bs : List RawBox). AllByRecursion IsEven bs) same tt
+boxes_even v n (t ∷ ts) boxes h =
     let fault : NetErr = broken.Shape (place_of part.Box n) in
-    let one = first_step (or_broken fault (box_in t)) (λ b. shaped_from part.Box box_in (n + 1) ts >>= λ bs. Ok (b ∷ bs)) boxes h in
-    let two = first_step (shaped_from part.Box box_in (n + 1) ts) (λ bs. Ok (one.0 ∷ bs)) boxes one.1.1 in
+    let one = first_step (or_broken fault (box_in v t)) (λ b. shaped_from part.Box (box_in v) (n + 1) ts >>= λ bs. Ok (b ∷ bs)) boxes h in
+    let two = first_step (shaped_from part.Box (box_in v) (n + 1) ts) (λ bs. Ok (one.0 ∷ bs)) boxes one.1.1 in
     let same : one.0 ∷ two.0 ≡ boxes = (let last = two.1.1 in cc) in
-    subst (λ (bs : List RawBox). AllByRecursion IsEven bs) same (box_even t one.0 (read_as fault (box_in t) one.0 one.1.0), boxes_even (n + 1) ts two.0 two.1.0)
+    subst (λ (bs : List RawBox). AllByRecursion IsEven bs) same (box_even v t one.0 (read_as fault (box_in v t) one.0 one.1.0), boxes_even v (n + 1) ts two.0 two.1.0)
 
 abbrev read : Raw → Result Raw NetErr
 read r = Ok r
@@ -79,31 +80,31 @@ read r = Ok r
 same_even : (raw r : Raw) → read raw ≡ read r → AllByRecursion IsEven raw.boxes → AllByRecursion IsEven r.boxes
 same_even raw r e even = let same : raw ≡ r = cc in subst (λ (x : Raw). AllByRecursion IsEven x.boxes) same even
 
-in_even : (ms : Members) (r : Raw) → raw_in ms ≡ Ok r → AllByRecursion IsEven r.boxes
-in_even ms r h =
+in_even : (v : Version) (ms : Members) (r : Raw) → raw_in v ms ≡ Ok r → AllByRecursion IsEven r.boxes
+in_even v ms r h =
     let top = first_step (or_broken (broken.Shape (place_of part.Top 0)) (top_in ms)) (λ t.
     shaped_from part.Source source_in 0 t.sources >>= λ sources.
-    shaped_from part.Box box_in 0 t.boxes >>= λ boxes.
+    shaped_from part.Box (box_in v) 0 t.boxes >>= λ boxes.
     shaped_from part.Output output_in 0 t.outputs >>= λ outputs.
     Ok (record { epoch = t.epoch; batch = t.batch; sources = sources; boxes = boxes; outputs = outputs })) r h in
     let sources = first_step (shaped_from part.Source source_in 0 top.0.sources) (λ sources.
-    shaped_from part.Box box_in 0 top.0.boxes >>= λ boxes.
+    shaped_from part.Box (box_in v) 0 top.0.boxes >>= λ boxes.
     shaped_from part.Output output_in 0 top.0.outputs >>= λ outputs.
     Ok (record { epoch = top.0.epoch; batch = top.0.batch; sources = sources; boxes = boxes; outputs = outputs })) r top.1.1 in
-    let boxes = first_step (shaped_from part.Box box_in 0 top.0.boxes) (λ boxes.
+    let boxes = first_step (shaped_from part.Box (box_in v) 0 top.0.boxes) (λ boxes.
     shaped_from part.Output output_in 0 top.0.outputs >>= λ outputs.
     Ok (record { epoch = top.0.epoch; batch = top.0.batch; sources = sources.0; boxes = boxes; outputs = outputs })) r sources.1.1 in
     let outputs = first_step (shaped_from part.Output output_in 0 top.0.outputs) (λ outputs.
     Ok (record { epoch = top.0.epoch; batch = top.0.batch; sources = sources.0; boxes = boxes.0; outputs = outputs })) r boxes.1.1 in
     let raw : Raw = record { epoch = top.0.epoch; batch = top.0.batch; sources = sources.0; boxes = boxes.0; outputs = outputs.0 } in
-    same_even raw r outputs.1.1 (boxes_even 0 top.0.boxes boxes.0 boxes.1.0)
+    same_even raw r outputs.1.1 (boxes_even v 0 top.0.boxes boxes.0 boxes.1.0)
 
 from_even : (ms : Members) (r : Raw) → raw_from ms ≡ Ok r → AllByRecursion IsEven r.boxes
-from_even ms r h = by_version (is_version_one ms) h
+from_even ms r h = by_version (version_in ms) h
   where
-    by_version : (t : Bool) → cond t (raw_in ms) (Err broken.Version) ≡ Ok r → AllByRecursion IsEven r.boxes
-    by_version true h = in_even ms r h
-    by_version false h = cc
+    by_version : (o : Option Version) → (or_broken broken.Version o >>= λ v. raw_in v ms) ≡ Ok r → AllByRecursion IsEven r.boxes
+    by_version (Some v) h = in_even v ms r h
+    by_version None h = cc
 
 pub answer_even : (ms : Members) (answer : Result Raw NetErr) → Answers answer (raw_from ms) → IfOk answer AreEven
 answer_even ms (Ok r) h = All-from_recursion IsEven r.boxes (from_even ms r h)

@@ -6,6 +6,7 @@ use Rattle.sq_tables.specs.declared.raw.Over.TheVariants.{Avg, First}
 use Rattle.sq_tables.specs.declared.raw.Answer.TheVariants.{Count, Field}
 use Rattle.sq_tables.specs.declared.raw.RawBody.TheVariants.{Filter, Map, Union, BSort, Aggregate, Join}
 use Rattle.sq_tables.specs.declared.raw.RawOutput.{RawOutput}
+use Rattle.sq_tables.specs.declared.raw.Version.TheVariants.{One, Two}
 use Rattle.sq_tables.specs.Shapes.{body_in, box_in, answer_column_in, output_in}
 
 abbrev texts : List (List ℕ) → Data
@@ -28,17 +29,17 @@ boxed kind others = member (codes "name") (string (codes "b")) (member (codes "k
 
 -- ---- one of each kind
 
-filter_row : body_in (codes "filter") (boxed (codes "filter") (member (codes "where") (texts (codes "v >= 10" ∷ [])) no_members)) ≡ Some (Filter (codes "v >= 10" ∷ []))
+filter_row : body_in One (codes "filter") (boxed (codes "filter") (member (codes "where") (texts (codes "v >= 10" ∷ [])) no_members)) ≡ Some (Filter (codes "v >= 10" ∷ []))
 filter_row = refl
 
-map_row : body_in (codes "map") (boxed (codes "map") (member (codes "set") (lists ((codes "w" ∷ codes "v + 1" ∷ []) ∷ [])) no_members))
+map_row : body_in One (codes "map") (boxed (codes "map") (member (codes "set") (lists ((codes "w" ∷ codes "v + 1" ∷ []) ∷ [])) no_members))
     ≡ Some (Map (record { name = codes "w"; text = codes "v + 1" } ∷ []))
 map_row = refl
 
-union_row : body_in (codes "union") (boxed (codes "union") no_members) ≡ Some Union
+union_row : body_in One (codes "union") (boxed (codes "union") no_members) ≡ Some Union
 union_row = refl
 
-bsort_row : body_in (codes "bsort") (boxed (codes "bsort") (member (codes "by") (string (codes "v")) (member (codes "slack") (integer (pos 5)) no_members)))
+bsort_row : body_in One (codes "bsort") (boxed (codes "bsort") (member (codes "by") (string (codes "v")) (member (codes "slack") (integer (pos 5)) no_members)))
     ≡ Some (BSort (codes "v") (pos 5))
 bsort_row = refl
 
@@ -46,33 +47,43 @@ bsort_row = refl
 abbrev windowed : List (List (List ℕ)) → Members
 windowed give = boxed (codes "aggregate") (member (codes "size") (integer (pos 10)) (member (codes "advance") (integer (pos 4)) (member (codes "give") (lists give) no_members)))
 
-aggregate_row : body_in (codes "aggregate") (windowed ((codes "n" ∷ codes "count" ∷ []) ∷ (codes "mean" ∷ codes "avg" ∷ codes "v" ∷ []) ∷ []))
-    ≡ Some (Aggregate (pos 10) (pos 4) [] (record { name = codes "n"; answer = Count } ∷ record { name = codes "mean"; answer = Field Avg (codes "v") } ∷ []))
+aggregate_row : body_in One (codes "aggregate") (windowed ((codes "n" ∷ codes "count" ∷ []) ∷ (codes "mean" ∷ codes "avg" ∷ codes "v" ∷ []) ∷ []))
+    ≡ Some (Aggregate (pos 10) (pos 4) (pos 0) [] (record { name = codes "n"; answer = Count } ∷ record { name = codes "mean"; answer = Field Avg (codes "v") } ∷ []))
 aggregate_row = refl
 
-grouped_row : body_in (codes "aggregate") (member (codes "group") (texts (codes "k" ∷ [])) (windowed ((codes "f" ∷ codes "first" ∷ codes "v" ∷ []) ∷ [])))
-    ≡ Some (Aggregate (pos 10) (pos 4) (codes "k" ∷ []) (record { name = codes "f"; answer = Field First (codes "v") } ∷ []))
+grouped_row : body_in One (codes "aggregate") (member (codes "group") (texts (codes "k" ∷ [])) (windowed ((codes "f" ∷ codes "first" ∷ codes "v" ∷ []) ∷ [])))
+    ≡ Some (Aggregate (pos 10) (pos 4) (pos 0) (codes "k" ∷ []) (record { name = codes "f"; answer = Field First (codes "v") } ∷ []))
 grouped_row = refl
+
+-- a phase is a key of the second version alone
+abbrev phased : Members
+phased = member (codes "phase") (integer (pos 3)) (windowed ((codes "n" ∷ codes "count" ∷ []) ∷ []))
+
+phase_row : body_in Two (codes "aggregate") phased ≡ Some (Aggregate (pos 10) (pos 4) (pos 3) [] (record { name = codes "n"; answer = Count } ∷ []))
+phase_row = refl
+
+no_phase_yet : body_in One (codes "aggregate") phased ≡ None
+no_phase_yet = refl
 
 abbrev joining : Members
 joining = boxed (codes "join") (member (codes "size") (integer (pos 3)) (member (codes "on") (string (codes "v = w")) no_members))
 
-join_row : body_in (codes "join") joining ≡ Some (Join (pos 3) (codes "v = w"))
+join_row : body_in One (codes "join") joining ≡ Some (Join (pos 3) (codes "v = w"))
 join_row = refl
 
 -- a cost of 1, and a selectivity of 1000 for its one port
-whole_row : box_in joining ≡ Some (record { name = codes "b"; body = Join (pos 3) (codes "v = w"); ins = codes "s" ∷ []; cost = pos 1; selectivity = pos 1000 ∷ [] })
+whole_row : box_in One joining ≡ Some (record { name = codes "b"; body = Join (pos 3) (codes "v = w"); ins = codes "s" ∷ []; cost = pos 1; selectivity = pos 1000 ∷ [] })
 whole_row = refl
 
 -- ---- out of shape
 
-no_slack : body_in (codes "bsort") (boxed (codes "bsort") (member (codes "by") (string (codes "v")) no_members)) ≡ None
+no_slack : body_in One (codes "bsort") (boxed (codes "bsort") (member (codes "by") (string (codes "v")) no_members)) ≡ None
 no_slack = refl
 
-slack_of_text : body_in (codes "bsort") (boxed (codes "bsort") (member (codes "by") (string (codes "v")) (member (codes "slack") (string (codes "5")) no_members))) ≡ None
+slack_of_text : body_in One (codes "bsort") (boxed (codes "bsort") (member (codes "by") (string (codes "v")) (member (codes "slack") (string (codes "5")) no_members))) ≡ None
 slack_of_text = refl
 
-unknown_function : body_in (codes "aggregate") (windowed ((codes "n" ∷ codes "median" ∷ codes "v" ∷ []) ∷ [])) ≡ None
+unknown_function : body_in One (codes "aggregate") (windowed ((codes "n" ∷ codes "median" ∷ codes "v" ∷ []) ∷ [])) ≡ None
 unknown_function = refl
 
 count_of_a_field : answer_column_in (texts (codes "n" ∷ codes "count" ∷ codes "v" ∷ [])) ≡ None
@@ -81,10 +92,10 @@ count_of_a_field = refl
 sum_of_nothing : answer_column_in (texts (codes "n" ∷ codes "sum" ∷ [])) ≡ None
 sum_of_nothing = refl
 
-unknown_key : body_in (codes "join") (member (codes "advance") (integer (pos 1)) joining) ≡ None
+unknown_key : body_in One (codes "join") (member (codes "advance") (integer (pos 1)) joining) ≡ None
 unknown_key = refl
 
-two_selectivities : box_in (member (codes "selectivity") (array (item (integer (pos 1)) (item (integer (pos 1)) no_items))) joining) ≡ None
+two_selectivities : box_in One (member (codes "selectivity") (array (item (integer (pos 1)) (item (integer (pos 1)) no_items))) joining) ≡ None
 two_selectivities = refl
 
 -- ---- outputs

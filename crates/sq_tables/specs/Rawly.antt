@@ -1,5 +1,5 @@
 -- The tables of a file one after another; the first that is out of shape refuses it.
-use Rattle.std.specs.Prelude.{ℕ, ◌+◌, Bool, false, if◌then◌else◌, List, [], ◌∷◌, ℤ, pos, Option, Some, None, Result, Ok, Err, codes}
+use Rattle.std.specs.Prelude.{ℕ, ◌+◌, if◌then◌else◌, List, [], ◌∷◌, ℤ, pos, Option, Some, None, Result, Ok, Err, codes}
 use Rattle.std.specs.Option.{option_and_then}
 use Rattle.std.specs.Ordering.{int_eq}
 use Rattle.toml.specs.Data.{Members, get_member, as_integer}
@@ -8,6 +8,8 @@ use Rattle.sq_net.specs.declared.Part.TheVariants as part
 use Rattle.sq_net.specs.declared.NetErr.{NetErr}
 use Rattle.sq_net.specs.declared.NetErr.TheVariants as broken
 use Rattle.sq_tables.specs.declared.raw.Raw.{Raw}
+use Rattle.sq_tables.specs.declared.raw.Version.{Version}
+use Rattle.sq_tables.specs.declared.raw.Version.TheVariants.{One, Two}
 use Rattle.sq_tables.specs.Documents.{document_in}
 use Rattle.sq_tables.specs.Places.{place_of}
 use Rattle.sq_tables.specs.Shapes.{top_in, source_in, box_in, output_in}
@@ -29,24 +31,23 @@ shaped_from p f n (t ∷ ts) = do
   xs ← shaped_from p f (n + 1) ts
   Ok (x ∷ xs)
 
-abbrev pub raw_in : Members → Result Raw NetErr
-raw_in ms = do
+abbrev pub raw_in : Version → Members → Result Raw NetErr
+raw_in version ms = do
   t ← or_broken (broken.Shape (place_of part.Top 0)) (top_in ms)
   sources ← shaped_from part.Source source_in 0 t.sources
-  boxes ← shaped_from part.Box box_in 0 t.boxes
+  boxes ← shaped_from part.Box (box_in version) 0 t.boxes
   outputs ← shaped_from part.Output output_in 0 t.outputs
   Ok (record { epoch = t.epoch; batch = t.batch; sources = sources; boxes = boxes; outputs = outputs })
 
--- whether the version is there and is 1
-abbrev pub is_one : Option ℤ → Bool
-is_one None = false
-is_one (Some z) = int_eq z (pos 1)
+-- the version, where it is there and is 1 or 2
+abbrev pub version_numbered : ℤ → Option Version
+version_numbered z = if int_eq z (pos 1) then Some One else (if int_eq z (pos 2) then Some Two else None)
 
-abbrev pub is_version_one : Members → Bool
-is_version_one ms = is_one (option_and_then as_integer (get_member (codes "version") ms))
+abbrev pub version_in : Members → Option Version
+version_in ms = option_and_then version_numbered (option_and_then as_integer (get_member (codes "version") ms))
 
 abbrev pub raw_from : Members → Result Raw NetErr
-raw_from ms = if is_version_one ms then raw_in ms else Err broken.Version
+raw_from ms = or_broken broken.Version (version_in ms) >>= λ version. raw_in version ms
 
 -- the tables of a file's bytes, or the first rule that they break
 abbrev pub raw_of : List ℕ → Result Raw NetErr

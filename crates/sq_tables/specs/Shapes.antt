@@ -13,6 +13,8 @@ use Rattle.sq_tables.specs.declared.raw.AnswerColumn.{AnswerColumn}
 use Rattle.sq_tables.specs.declared.raw.RawBody.{RawBody}
 use Rattle.sq_tables.specs.declared.raw.RawBody.TheVariants.{Filter, Map, Union, BSort, Aggregate, Join}
 use Rattle.sq_tables.specs.declared.raw.RawBox.{RawBox}
+use Rattle.sq_tables.specs.declared.raw.Version.{Version}
+use Rattle.sq_tables.specs.declared.raw.Version.TheVariants.{One, Two}
 use Rattle.sq_tables.specs.declared.raw.RawOutput.{RawOutput}
 use Rattle.sq_tables.specs.declared.raw.Raw.{Raw}
 use Rattle.sq_tables.specs.Documents.{◌>>=◌, when, list_in, has_only, required, optional}
@@ -127,14 +129,23 @@ bsort_in ms = do
   slack ← required as_integer (get_member (codes "slack") ms)
   Some (BSort by slack)
 
-abbrev pub aggregate_in : Members → Option RawBody
-aggregate_in ms = do
-  _keys ← when (has_only (codes "size" ∷ codes "advance" ∷ codes "group" ∷ codes "give" ∷ box_keys) ms) true
+abbrev pub window_keys : List (List ℕ)
+window_keys = codes "size" ∷ codes "advance" ∷ codes "group" ∷ codes "give" ∷ box_keys
+
+-- the phase of windows is a key of the second version alone
+abbrev pub aggregate_keys : Version → List (List ℕ)
+aggregate_keys One = window_keys
+aggregate_keys Two = codes "phase" ∷ window_keys
+
+abbrev pub aggregate_in : Version → Members → Option RawBody
+aggregate_in version ms = do
+  _keys ← when (has_only (aggregate_keys version) ms) true
   size ← required as_integer (get_member (codes "size") ms)
   advance ← required as_integer (get_member (codes "advance") ms)
+  phase ← optional (pos 0) as_integer (get_member (codes "phase") ms)
   group ← optional [] (list_in as_str) (get_member (codes "group") ms)
   give ← required (list_in answer_column_in) (get_member (codes "give") ms)
-  Some (Aggregate size advance group give)
+  Some (Aggregate size advance phase group give)
 
 abbrev pub join_in : Members → Option RawBody
 join_in ms = do
@@ -144,13 +155,13 @@ join_in ms = do
   Some (Join size on)
 
 -- what a box of a kind does
-abbrev pub body_in : List ℕ → Members → Option RawBody
-body_in kind ms =
+abbrev pub body_in : Version → List ℕ → Members → Option RawBody
+body_in version kind ms =
     if same_bytes kind (codes "filter") then filter_in ms
     else (if same_bytes kind (codes "map") then map_in ms
     else (if same_bytes kind (codes "union") then union_in ms
     else (if same_bytes kind (codes "bsort") then bsort_in ms
-    else (if same_bytes kind (codes "aggregate") then aggregate_in ms
+    else (if same_bytes kind (codes "aggregate") then aggregate_in version ms
     else (if same_bytes kind (codes "join") then join_in ms else None)))))
 
 abbrev pub ports_of : RawBody → ℕ
@@ -161,10 +172,10 @@ ports_of b = 1
 abbrev pub default_selectivity : ℕ → List ℤ
 default_selectivity ports = replicate ports (pos 1000)
 
-abbrev pub box_in : Members → Option RawBox
-box_in ms = do
+abbrev pub box_in : Version → Members → Option RawBox
+box_in version ms = do
   kind ← required as_str (get_member (codes "kind") ms)
-  body ← body_in kind ms
+  body ← body_in version kind ms
   name ← required as_str (get_member (codes "name") ms)
   ins ← required (list_in as_str) (get_member (codes "in") ms)
   cost ← optional (pos 1) as_integer (get_member (codes "cost") ms)

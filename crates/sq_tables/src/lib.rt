@@ -1,13 +1,13 @@
 //! A network file by its tables: a TOML document of sources, boxes and outputs, before its names and numbers are checked.
 //!
 //! The contract of `raw_of` promises the tables that the file says, with a selectivity for each port of each box, where the
-//! file is a document of version 1 whose tables have their shape, and else the first broken rule with its first place; want of
+//! file is a document of version 1 or 2 whose tables have their shape, and else the first broken rule with its first place; want of
 //! memory aside. Below stand the refusals of the typed network, and `toml`.
 #![tactic(auto)]
 
 ghost use Rattle.std.specs.Prelude.{◌≡◌, IfOk};
 ghost use Rattle.toml.specs.View.{table_view};
-ghost use Rattle.sq_tables.specs.Rawly.{is_version_one, raw_from, raw_of};
+ghost use Rattle.sq_tables.specs.Rawly.{version_numbered, version_in, raw_from, raw_of};
 ghost use Rattle.sq_tables.specs.Refusals.{Answers};
 ghost use Rattle.sq_tables.specs.Shapes.{AreEven};
 
@@ -19,30 +19,42 @@ mod reading;
 mod shape;
 
 use document::{Table, value_at};
-pub use raw::{Answer, AnswerColumn, Over, Raw, RawBody, RawBox, RawOutput, RawSource, Setting};
+pub use raw::{Answer, AnswerColumn, Over, Raw, RawBody, RawBox, RawOutput, RawSource, Setting, Version};
 pub use shape::ports_of;
 use sq_net::NetErr;
 use std::alloc::Global;
 
-fn is_version_one(table: &Table) -> bool
-    ensures { result ≡ is_version_one (table_view table.now) }
+fn version_numbered(number: i64) -> Option<Version>
+    ensures { result ≡ version_numbered number }
+{
+    if number == 1 {
+        Some(Version::One)
+    } else if number == 2 {
+        Some(Version::Two)
+    } else {
+        None
+    }
+}
+
+fn version_in(table: &Table) -> Option<Version>
+    ensures { result ≡ version_in (table_view table.now) }
 {
     let Some(version) = value_at(table, "version") else {
-        return false;
+        return None;
     };
     match version.as_integer() {
-        Some(number) => number == 1,
-        None => false,
+        Some(number) => version_numbered(number),
+        None => None,
     }
 }
 
 fn raw_from(alloc: Global, table: &Table) -> Result<Raw, NetErr>
     ensures { Answers result (raw_from (table_view table.now)) }
 {
-    if !is_version_one(table) {
-        return Err(NetErr::Version);
+    match version_in(table) {
+        Some(version) => reading::raw_in(alloc, version, table),
+        None => Err(NetErr::Version),
     }
-    reading::raw_in(alloc, table)
 }
 
 /// The tables that a file's bytes say, or the first rule that they break, with its first place.

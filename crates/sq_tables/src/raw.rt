@@ -1,6 +1,13 @@
 // A network file by its tables, before its names and numbers are checked.
 use sq_value::{ListOf, Name};
 
+/// The versions of a network file. In the second an Aggregate may have a phase.
+#[derive(Clone, Copy, Debug, PartialEq, Eq, Drop)]
+pub enum Version {
+    One,
+    Two,
+}
+
 /// A source: its name, the name of its file, and its fields, each `name:kind`.
 #[derive(Drop)]
 pub struct RawSource {
@@ -58,6 +65,7 @@ pub enum RawBody {
     Aggregate {
         size: i64,
         advance: i64,
+        phase: i64,
         group: ListOf<Name>,
         give: ListOf<AnswerColumn>,
     },

@@ -10,7 +10,7 @@ ghost use Rattle.sq_tables.specs.Refusals.{Answers, is_memory};
 ghost use Rattle.sq_tables.specs.Shapes.{box_in, output_in, source_in};
 
 use crate::document::{Table, Unread};
-use crate::raw::{Raw, RawBox, RawOutput, RawSource};
+use crate::raw::{Raw, RawBox, RawOutput, RawSource, Version};
 use crate::shape::{box_in, output_in, source_in, top_in};
 use sq_net::{NetErr, Part, Place};
 use sq_value::ListOf;
@@ -65,13 +65,13 @@ fn sources_in(alloc: Global, tables: &[&Table]) -> Result<Vec<RawSource>, NetErr
     Ok(found)
 }
 
-fn boxes_in(alloc: Global, tables: &[&Table]) -> Result<Vec<RawBox>, NetErr>
-    ensures ok { IfOk result (λ v. shaped_from part.Box box_in 0 (map (λ t. table_view t.now) tables.now) ≡ Ok v.items) }
-    ensures err { IfErr result (λ e. is_memory e ≡ false → shaped_from part.Box box_in 0 (map (λ t. table_view t.now) tables.now) ≡ Err e) }
+fn boxes_in(alloc: Global, version: Version, tables: &[&Table]) -> Result<Vec<RawBox>, NetErr>
+    ensures ok { IfOk result (λ v. shaped_from part.Box (box_in version) 0 (map (λ t. table_view t.now) tables.now) ≡ Ok v.items) }
+    ensures err { IfErr result (λ e. is_memory e ≡ false → shaped_from part.Box (box_in version) 0 (map (λ t. table_view t.now) tables.now) ≡ Err e) }
 {
     let mut found = Vec::new(alloc);
     for (number, table) in tables.iter().enumerate() {
-        match box_in(alloc, table) {
+        match box_in(alloc, version, table) {
             Ok(item) => push(&mut found, item)?,
             Err(e) => return Err(unshaped(e, Part::Box, number)),
         }
@@ -94,15 +94,15 @@ fn outputs_in(alloc: Global, tables: &[&Table]) -> Result<Vec<RawOutput>, NetErr
 }
 
 /// A document by its tables, or the first table that is out of shape.
-pub(crate) fn raw_in(alloc: Global, table: &Table) -> Result<Raw, NetErr>
-    ensures { Answers result (raw_in (table_view table.now)) }
+pub(crate) fn raw_in(alloc: Global, version: Version, table: &Table) -> Result<Raw, NetErr>
+    ensures { Answers result (raw_in version (table_view table.now)) }
 {
     let top = match top_in(alloc, table) {
         Ok(top) => top,
         Err(e) => return Err(unshaped(e, Part::Top, 0)),
     };
     let sources = sources_in(alloc, &top.sources)?;
-    let boxes = boxes_in(alloc, &top.boxes)?;
+    let boxes = boxes_in(alloc, version, &top.boxes)?;
     let outputs = outputs_in(alloc, &top.outputs)?;
     Ok(Raw {
         epoch: top.epoch,

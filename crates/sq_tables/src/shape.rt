@@ -1,8 +1,9 @@
 // The tables of a network file, by the keys that each kind of table has.
-ghost use Rattle.std.specs.Prelude.{◌≡◌, IfOk, IfErr, map};
+ghost use Rattle.std.specs.Prelude.{◌≡◌, ◌∷◌, IfOk, IfErr, map, codes};
+ghost use Rattle.sq_tables.specs.Documents.{has_only};
 ghost use Rattle.toml.specs.View.{table_view};
 ghost use Rattle.sq_tables.specs.Readings.{IsUnread, Reads};
-ghost use Rattle.sq_tables.specs.Shapes.{aggregate_in, body_in, box_in, bsort_in, filter_in, join_in, map_in, output_in, ports_of, source_in, top_in, union_in};
+ghost use Rattle.sq_tables.specs.Shapes.{aggregate_in, aggregate_keys, body_in, box_in, bsort_in, filter_in, join_in, map_in, output_in, ports_of, source_in, top_in, union_in, window_keys};
 ghost use Rattle.sq_tables.specs.ShapesSeen.{tables_seen};
 
 use crate::answer_columns::answer_columns_at;
@@ -11,7 +12,7 @@ use crate::document::{
     settings_at, tables_at, text_at, texts_at,
 };
 use crate::graphs::graph_at;
-use crate::raw::{RawBody, RawBox, RawOutput, RawSource};
+use crate::raw::{RawBody, RawBox, RawOutput, RawSource, Version};
 use sq_value::same_text;
 use std::alloc::Global;
 
@@ -125,10 +126,10 @@ fn bsort_in(alloc: Global, table: &Table) -> Result<RawBody, Unread>
     Ok(RawBody::BSort { by, slack })
 }
 
-fn aggregate_in(alloc: Global, table: &Table) -> Result<RawBody, Unread>
-    ensures { Reads result (aggregate_in (table_view table.now)) }
+fn has_window_keys(table: &Table) -> bool
+    ensures { result ≡ has_only window_keys (table_view table.now) }
 {
-    if !has_only(
+    has_only(
         table,
         &[
             "size",
@@ -141,16 +142,53 @@ fn aggregate_in(alloc: Global, table: &Table) -> Result<RawBody, Unread>
             "cost",
             "selectivity",
         ],
-    ) {
+    )
+}
+
+fn has_phase_keys(table: &Table) -> bool
+    ensures { result ≡ has_only (codes "phase" ∷ window_keys) (table_view table.now) }
+{
+    has_only(
+        table,
+        &[
+            "phase",
+            "size",
+            "advance",
+            "group",
+            "give",
+            "name",
+            "kind",
+            "in",
+            "cost",
+            "selectivity",
+        ],
+    )
+}
+
+fn has_aggregate_keys(version: Version, table: &Table) -> bool
+    ensures { result ≡ has_only (aggregate_keys version) (table_view table.now) }
+{
+    match version {
+        Version::One => has_window_keys(table),
+        Version::Two => has_phase_keys(table),
+    }
+}
+
+fn aggregate_in(alloc: Global, version: Version, table: &Table) -> Result<RawBody, Unread>
+    ensures { Reads result (aggregate_in version (table_view table.now)) }
+{
+    if !has_aggregate_keys(version, table) {
         return Err(Unread::Shape);
     }
     let size = number_at(table, "size")?;
     let advance = number_at(table, "advance")?;
+    let phase = number_or(table, "phase", 0)?;
     let group = any_texts_at(alloc, table, "group")?;
     let give = answer_columns_at(alloc, table)?;
     Ok(RawBody::Aggregate {
         size,
         advance,
+        phase,
         group,
         give,
     })
@@ -170,8 +208,13 @@ fn join_in(alloc: Global, table: &Table) -> Result<RawBody, Unread>
     Ok(RawBody::Join { size, on })
 }
 
-fn body_in(alloc: Global, table: &Table, kind: &str) -> Result<RawBody, Unread>
-    ensures { Reads result (body_in kind.now (table_view table.now)) }
+fn body_in(
+    alloc: Global,
+    version: Version,
+    table: &Table,
+    kind: &str,
+) -> Result<RawBody, Unread>
+    ensures { Reads result (body_in version kind.now (table_view table.now)) }
 {
     if same_text(kind, "filter") {
         return filter_in(alloc, table);
@@ -186,7 +229,7 @@ fn body_in(alloc: Global, table: &Table, kind: &str) -> Result<RawBody, Unread>
         return bsort_in(alloc, table);
     }
     if same_text(kind, "aggregate") {
-        return aggregate_in(alloc, table);
+        return aggregate_in(alloc, version, table);
     }
     if same_text(kind, "join") {
         return join_in(alloc, table);
@@ -208,11 +251,11 @@ pub fn ports_of(body: &RawBody) -> usize
     }
 }
 
-pub(crate) fn box_in(alloc: Global, table: &Table) -> Result<RawBox, Unread>
-    ensures { Reads result (box_in (table_view table.now)) }
+pub(crate) fn box_in(alloc: Global, version: Version, table: &Table) -> Result<RawBox, Unread>
+    ensures { Reads result (box_in version (table_view table.now)) }
 {
     let kind = text_at(alloc, table, "kind")?;
-    let body = body_in(alloc, table, kind.as_str())?;
+    let body = body_in(alloc, version, table, kind.as_str())?;
     let name = text_at(alloc, table, "name")?;
     let ins = texts_at(alloc, table, "in")?;
     let cost = number_or(table, "cost", 1)?;

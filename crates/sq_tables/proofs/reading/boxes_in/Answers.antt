@@ -10,5 +10,5 @@ pub loop-number-preserved : goal.loop-number-preserved
 loop-number-preserved c =
     let more = map-drop (λ t. table_view t.now) c.args.tables.now c.loop-number.number c.index-tables-number.result c.loop-number-test.true c.index-tables-number.is in
     rw c.in_ok-push-in-Ok.ensures
-    (shaped_more part.Box box_in c.loop-number.number c.loop-number.found.items (table_view c.index-tables-number.result.now) (map (λ t. table_view t.now) (drop (c.loop-number.number + 1) c.args.tables.now)) c.in-Ok.item c.in-Ok.ensures
-    ∙ (ap (λ ts. joined c.loop-number.found.items (shaped_from part.Box box_in c.loop-number.number ts)) (sym more) ∙ c.loop-number.invariant))
+    (shaped_more part.Box (box_in c.args.version) c.loop-number.number c.loop-number.found.items (table_view c.index-tables-number.result.now) (map (λ t. table_view t.now) (drop (c.loop-number.number + 1) c.args.tables.now)) c.in-Ok.item c.in-Ok.ensures
+    ∙ (ap (λ ts. joined c.loop-number.found.items (shaped_from part.Box (box_in c.args.version) c.loop-number.number ts)) (sym more) ∙ c.loop-number.invariant))

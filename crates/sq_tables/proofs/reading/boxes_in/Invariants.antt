@@ -8,5 +8,5 @@ use Rattle.sq_tables.proofs.reading.boxes_in.Given as goal
 
 abbrev pub invariant-loop-number : goal.invariant-loop-number
 invariant-loop-number l =
-    joined l.found.items (shaped_from part.Box box_in l.number (map (λ t. table_view t.now) (drop l.number l.tables)))
-    ≡ shaped_from part.Box box_in 0 (map (λ t. table_view t.now) l.tables)
+    joined l.found.items (shaped_from part.Box (box_in l.version) l.number (map (λ t. table_view t.now) (drop l.number l.tables)))
+    ≡ shaped_from part.Box (box_in l.version) 0 (map (λ t. table_view t.now) l.tables)
