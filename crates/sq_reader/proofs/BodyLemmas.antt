@@ -181,11 +181,11 @@ bsort_is n by slack ins t h =
     let P : TypedBody → Type 0 = IsBodyOf (BSort by slack) ins in
     subst P same built
 
-aggregate_is : (n : ℕ) (size advance : ℤ) (group : List (List ℕ)) (give : List AnswerColumn) (ins : List Columns) (t : TypedBody)
-    → aggregate_of n (window_of size advance) group give (first_columns ins) ≡ Ok t → IsBodyOf (Aggregate size advance group give) ins t
-aggregate_is n size advance group give ins t h =
+aggregate_is : (n : ℕ) (size advance phase : ℤ) (group : List (List ℕ)) (give : List AnswerColumn) (ins : List Columns) (t : TypedBody)
+    → aggregate_of n (window_of size advance phase) group give (first_columns ins) ≡ Ok t → IsBodyOf (Aggregate size advance phase group give) ins t
+aggregate_is n size advance phase group give ins t h =
     let cs : Columns = first_columns ins in
-    let window : WindowSpec = window_of size advance in
+    let window : WindowSpec = window_of size advance phase in
     let zero_step = unless_none n (bad_given group (give_names give)) (funcs_from n 0 cs give >>= λ fs. group_from n 0 cs [] group >>= λ ps.
     Ok (body.Aggregate fs ps window, (columns_at cs ps ++ zip (give_names give) (kinds_answered cs fs)) ∷ [])) t h in
     let one = first_step (funcs_from n 0 cs give) (λ fs. group_from n 0 cs [] group >>= λ ps.
@@ -204,7 +204,7 @@ aggregate_is n size advance group give ins t h =
     let count = funcs.count in
     let few = good.few in
     let long = given_length give in
-    let built : IsBodyOf (Aggregate size advance group give) ins (body.Aggregate one.0 two.0 window, (columns_at cs two.0 ++ given) ∷ []) = record {
+    let built : IsBodyOf (Aggregate size advance phase group give) ins (body.Aggregate one.0 two.0 window, (columns_at cs two.0 ++ given) ∷ []) = record {
       typed = (
         given,
         refl,
@@ -217,13 +217,13 @@ aggregate_is n size advance group give ins t h =
       kind = refl;
       ports = refl;
       within = λ w. (let parts = and_parts (has_between 0 16 group) (has_between 1 16 give) w in
-          let low = answer_columns_of size advance group give w in
+          let low = answer_columns_of size advance phase group give w in
           let most = low.few_groups in
           and_both (sound.is_between 1 16 (length one.0)) (nat_le (length two.0) 16) (rw count parts.1) (is_at_most (length two.0) 16 (omega (arith, places, most))));
-      window = λ w. window_is size advance w;
+      window = λ w. window_is size advance phase w;
     } in
     let same : (body.Aggregate one.0 two.0 window, (columns_at cs two.0 ++ given) ∷ []) ≡ t = (let last = two.1.1 in cc) in
-    let P : TypedBody → Type 0 = IsBodyOf (Aggregate size advance group give) ins in
+    let P : TypedBody → Type 0 = IsBodyOf (Aggregate size advance phase group give) ins in
     subst P same built
 
 join_is : (n : ℕ) (size : ℤ) (on : List ℕ) (ins : List Columns) (t : TypedBody) → join_of n size on ins ≡ Ok t → IsBodyOf (Join size on) ins t
@@ -248,7 +248,7 @@ body_is n (Filter preds) ins t h = filter_is n preds ins t h
 body_is n (Map set) ins t h = map_is n set ins t h
 body_is n Union ins t h = union_is n ins t h
 body_is n (BSort by slack) ins t h = bsort_is n by slack ins t h
-body_is n (Aggregate size advance group give) ins t h = aggregate_is n size advance group give ins t h
+body_is n (Aggregate size advance phase group give) ins t h = aggregate_is n size advance phase group give ins t h
 body_is n (Join size on) ins t h = join_is n size on ins t h
 
 -- a box of the file, and the node that it was typed as on these columns

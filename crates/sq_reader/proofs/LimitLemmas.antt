@@ -162,8 +162,8 @@ pub record AnswerColumnsWithin (group : List (List ℕ)) (give : List AnswerColu
   pub some : 1 ≤ length give
   pub few : length give ≤ 16
 
-pub answer_columns_of : (size advance : ℤ) (group : List (List ℕ)) (give : List AnswerColumn) → body_within (Aggregate size advance group give) ≡ true → AnswerColumnsWithin group give
-answer_columns_of size advance group give h =
+pub answer_columns_of : (size advance phase : ℤ) (group : List (List ℕ)) (give : List AnswerColumn) → body_within (Aggregate size advance phase group give) ≡ true → AnswerColumnsWithin group give
+answer_columns_of size advance phase group give h =
     let parts = and_parts (has_between 0 16 group) (has_between 1 16 give) h in
     record { few_groups = few 0 16 group parts.0; some = some 1 16 give parts.1; few = few 1 16 give parts.1 }
 
@@ -191,7 +191,7 @@ ports_few (Filter preds) h = let low = (predicates_of preds h).few in omega (ari
 ports_few (Map set) h = omega arith
 ports_few Union h = omega arith
 ports_few (BSort by slack) h = omega arith
-ports_few (Aggregate size advance group give) h = omega arith
+ports_few (Aggregate size advance phase group give) h = omega arith
 ports_few (Join size on) h = omega arith
 
 pub record BoxWithin (b : RawBox) : Type 0 where
@@ -211,5 +211,5 @@ box_of b h =
     inputs (Map set) g = (some 1 1 b.ins g, (let low = few 1 1 b.ins g in omega (arith, low)))
     inputs Union g = (some 1 8 b.ins g, few 1 8 b.ins g)
     inputs (BSort by slack) g = (some 1 1 b.ins g, (let low = few 1 1 b.ins g in omega (arith, low)))
-    inputs (Aggregate size advance group give) g = (some 1 1 b.ins g, (let low = few 1 1 b.ins g in omega (arith, low)))
+    inputs (Aggregate size advance phase group give) g = (some 1 1 b.ins g, (let low = few 1 1 b.ins g in omega (arith, low)))
     inputs (Join size on) g = ((let least = some 2 2 b.ins g in omega (arith, least)), (let low = few 2 2 b.ins g in omega (arith, low)))

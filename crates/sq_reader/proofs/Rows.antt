@@ -102,13 +102,13 @@ aggregate_file size advance group give = record {
   epoch = pos 1000;
   batch = pos 1;
   sources = source_of (codes "s") (codes "k:text" ∷ codes "v:int" ∷ []) ∷ [];
-  boxes = record { name = codes "a"; body = Aggregate (pos size) (pos advance) group give; ins = codes "s" ∷ []; cost = pos 1; selectivity = pos 1000 ∷ [] } ∷ [];
+  boxes = record { name = codes "a"; body = Aggregate (pos size) (pos advance) (pos 0) group give; ins = codes "s" ∷ []; cost = pos 1; selectivity = pos 1000 ∷ [] } ∷ [];
   outputs = shown_of (codes "a") ∷ [];
 }
 
 one_aggregate : boxes_in (typed_network (aggregate_file 10 5 (codes "k" ∷ []) (record { name = codes "t"; answer = OfField Sum (codes "v") } ∷ counted ∷ []))) ≡ Ok (record {
   name = codes "a";
-  body = body.Aggregate (func.Sum 1 ∷ func.Count ∷ []) (0 ∷ []) (record { size = 10; advance = 5 });
+  body = body.Aggregate (func.Sum 1 ∷ func.Count ∷ []) (0 ∷ []) (record { size = 10; advance = 5; phase = 0 });
   schemas = ((codes "k", kind.Text) ∷ (codes "t", kind.Int) ∷ (codes "n", kind.Int) ∷ []) ∷ [];
   cost = 1;
   selectivity = 1000 ∷ [];

@@ -141,7 +141,7 @@ takes_as number_of b long h = by_body b.body h
     by_body (Map set) h = rw long (one_only (length b.ins) h)
     by_body Union h = rw long h
     by_body (BSort by slack) h = rw long (one_only (length b.ins) h)
-    by_body (Aggregate size advance group give) h = rw long (one_only (length b.ins) h)
+    by_body (Aggregate size advance phase group give) h = rw long (one_only (length b.ins) h)
     by_body (Join size on) h = rw long (two_only (length b.ins) h)
 
 takes_from : (number_of : Numbers) (n : ℕ) (boxes : List RawBox) → unknown_in_boxes number_of n boxes ≡ None → list_all box_within boxes ≡ true

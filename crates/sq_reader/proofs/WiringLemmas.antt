@@ -49,7 +49,7 @@ body_length name (Filter preds) = length-map-range_with_len (λ i. port_name nam
 body_length name (Map set) = refl
 body_length name Union = refl
 body_length name (BSort by slack) = refl
-body_length name (Aggregate size advance group give) = refl
+body_length name (Aggregate size advance phase group give) = refl
 body_length name (Join size on) = refl
 
 ports_length : (names : List (List ℕ)) (k : ℕ) (bs : List RawBox)

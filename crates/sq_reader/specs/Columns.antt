@@ -115,9 +115,9 @@ give_names give = map (λ g. g.name) give
 abbrev pub bad_given : List (List ℕ) → List (List ℕ) → Option ℕ
 bad_given group given = or_else (too_many (length group + length given)) (bad_name group given)
 
--- a window by its size and its advance
-abbrev pub window_of : ℤ → ℤ → WindowSpec
-window_of size advance = record { size = nat_of size; advance = nat_of advance }
+-- a window by its size, its advance and its phase
+abbrev pub window_of : ℤ → ℤ → ℤ → WindowSpec
+window_of size advance phase = record { size = nat_of size; advance = nat_of advance; phase = nat_of phase }
 
 abbrev pub aggregate_of : ℕ → WindowSpec → List (List ℕ) → List AnswerColumn → Columns → Result TypedBody NetErr
 aggregate_of n window group give cs =
@@ -136,7 +136,7 @@ body_of n (Filter preds) ins = filter_of n preds (first_columns ins)
 body_of n (Map set) ins = map_of n set (first_columns ins)
 body_of n Union ins = union_of n ins
 body_of n (BSort by slack) ins = bsort_of n by slack (first_columns ins)
-body_of n (Aggregate size advance group give) ins = aggregate_of n (window_of size advance) group give (first_columns ins)
+body_of n (Aggregate size advance phase group give) ins = aggregate_of n (window_of size advance phase) group give (first_columns ins)
 body_of n (Join size on) ins = join_of n size on ins
 
 abbrev pub node_of : RawBox → TypedBody → Node

@@ -33,7 +33,7 @@ body_within (Filter preds) = has_between 1 15 preds && list_all is_expression_lo
 body_within (Map set) = has_between 1 16 set && list_all (λ e. is_expression_long e.text) set
 body_within Union = true
 body_within (BSort by slack) = is_between 0 10000 slack
-body_within (Aggregate size advance group give) = has_between 0 16 group && has_between 1 16 give
+body_within (Aggregate size advance phase group give) = has_between 0 16 group && has_between 1 16 give
 body_within (Join size on) = is_between 0 (2 ^ 32) size && is_expression_long on
 
 -- a Union takes 1 to 8 streams, a Join two, and each other box one

@@ -72,7 +72,7 @@ kind_of_body (Filter preds) = boxes.Filter
 kind_of_body (Map set) = boxes.Map
 kind_of_body Union = boxes.Union
 kind_of_body (BSort by slack) = boxes.BSort
-kind_of_body (Aggregate size advance group give) = boxes.Aggregate
+kind_of_body (Aggregate size advance phase group give) = boxes.Aggregate
 kind_of_body (Join size on) = boxes.Join
 
 abbrev pub box_wires : Numbers → RawBox → BoxWires

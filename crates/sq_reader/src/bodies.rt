@@ -230,12 +230,13 @@ fn join_of(
     ))
 }
 
-fn window_of(size: i64, advance: i64) -> WindowSpec
-    ensures { result ≡ window_of size advance }
+fn window_of(size: i64, advance: i64, phase: i64) -> WindowSpec
+    ensures { result ≡ window_of size advance phase }
 {
     WindowSpec {
         size: natural(size),
         advance: natural(advance),
+        phase: natural(phase),
     }
 }
 
@@ -261,12 +262,13 @@ pub(crate) fn body_of(
         RawBody::Aggregate {
             size,
             advance,
+            phase,
             group,
             give,
         } => aggregate_of(
             alloc,
             number,
-            window_of(*size, *advance),
+            window_of(*size, *advance, *phase),
             group.as_slice(),
             give.as_slice(),
             first_of(ins),

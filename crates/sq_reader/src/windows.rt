@@ -2,23 +2,34 @@
 ghost use Rattle.std.specs.Prelude.{◌≡◌, ◌≤◌, length};
 ghost use Rattle.sq_net.specs.declared.Part.TheVariants as part;
 ghost use Rattle.sq_reader.specs.Limits.{first_failing};
-ghost use Rattle.sq_reader.specs.Windows.{has_window, is_window, window_place};
+ghost use Rattle.sq_reader.specs.Windows.{has_window, is_span, is_window, window_place};
 
 use crate::limits::whole;
 use sq_net::{Part, Place};
 use sq_tables::{Raw, RawBody, RawBox};
 
-fn is_window(size: i64, advance: i64) -> bool
-    ensures { result ≡ is_window size advance }
+fn is_span(size: i64, advance: i64) -> bool
+    ensures { result ≡ is_span size advance }
 {
     1 <= advance && advance <= size && size <= 1 << 32 && size <= 4096 * advance
+}
+
+fn is_window(size: i64, advance: i64, phase: i64) -> bool
+    ensures { result ≡ is_window size advance phase }
+{
+    is_span(size, advance) && 0 <= phase && !(advance <= phase)
 }
 
 fn has_window(body: &RawBody) -> bool
     ensures { result ≡ has_window body.now }
 {
     match body {
-        RawBody::Aggregate { size, advance, .. } => is_window(*size, *advance),
+        RawBody::Aggregate {
+            size,
+            advance,
+            phase,
+            ..
+        } => is_window(*size, *advance, *phase),
         RawBody::Filter { .. }
         | RawBody::Map { .. }
         | RawBody::Union
@@ -33,7 +44,7 @@ fn box_without_window(boxes: &[RawBox]) -> Option<usize>
     boxes.iter().position(|b| !has_window(&b.body))
 }
 
-/// The first Aggregate whose size and advance are no window.
+/// The first Aggregate whose size, advance and phase are no window.
 pub(crate) fn window_place(raw: &Raw) -> Option<Place>
     requires { length raw.now.boxes ≤ 128 }
     ensures { result ≡ window_place raw.now }
