@@ -175,7 +175,7 @@ late_is = refl
 abbrev window_box : List ℕ → Func → ℕ → Node
 window_box name f advance = record {
   name = name;
-  body = Aggregate (f ∷ []) [] (record { size = 4; advance = advance });
+  body = Aggregate (f ∷ []) [] (record { size = 4; advance = advance; phase = 0 });
   schemas = ((codes "t", kind.Int) ∷ []) ∷ [];
   cost = 1;
   selectivity = 1000 ∷ [];

@@ -57,6 +57,7 @@ fn summed(alloc: Global, xs: &[Tuple]) -> Result<Vec<Tuple>, AllocError>
     let window = WindowSpec {
         size: 10,
         advance: 5,
+        phase: 0,
     };
     aggregate_list(alloc, &[Func::Sum(0), Func::Count], &[], window, xs)
 }
