@@ -223,7 +223,7 @@ second_graph = refl
 
 abbrev window_box : List ℕ → List ℕ → ℕ → RawBox
 window_box name from size =
-    record { name = name; body = Aggregate (pos size) (pos 1) [] (counted ∷ []); ins = from ∷ []; cost = pos 1; selectivity = pos 1000 ∷ [] }
+    record { name = name; body = Aggregate (pos size) (pos 1) (pos 0) [] (counted ∷ []); ins = from ∷ []; cost = pos 1; selectivity = pos 1000 ∷ [] }
 
 abbrev two_windows : ℕ → Raw
 two_windows size = record {
