@@ -137,7 +137,7 @@ impl<F: Fold + Drop> Operator for AggregateBox<F> {
         self.ends = next_end(self.panes.window, self.ends, time);
         self.time = time;
         self.waiting
-            .push(self.panes.window.size - 1, time, item.mark)?;
+            .push(self.panes.window.size - 1, time, &item.mark)?;
         let alloc = *self.group.allocator();
         add_body(alloc, &self.group, &mut self.panes, time, item.body)?;
         if fed {

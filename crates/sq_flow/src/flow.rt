@@ -17,7 +17,7 @@ use crate::seats::{Seat, feed_seat, finish_seat};
 use crate::sending::{give, send_one};
 use crate::taking::{count_item, take_item};
 use crate::wires::Wires;
-use sq_item::Item;
+use sq_item::{Body, Item, Sign};
 use sq_oper::{Event, Operator, Outs};
 use sq_outside::{PageDisk, Steps};
 use sq_plan::Planner;
@@ -248,8 +248,8 @@ impl<O: Operator + Drop> Flow<O> {
         self.counts[source as usize] += 1;
         let item = Item {
             time: tuple.time,
-            mark: None,
-            body: Some(tuple.fields),
+            mark: Sign::none(),
+            body: Body::some(tuple.fields),
         };
         let replay = self.wires.replay;
         send_one(&self.wires, &mut self.queues, disk, replay, source, item)?;

@@ -115,7 +115,7 @@ fn show_item(output: u32, item: Item, events: &mut Vec<Event>) -> Result<(), All
     ensures plans { plans_of events.new.items ≡ plans_of events.old.items }
 {
     let time = item.time;
-    let body = item.body;
+    let body = item.body.get();
     if let Some(fields) = body {
         let tuple = Tuple { time, fields };
         events.push(Event::Line { output, tuple })?;

@@ -11,28 +11,21 @@ ghost use Rattle.sq_flow.specs.Takes.{MayBeFed, may_stand, mark_fits, body_fits,
 
 use crate::errors::RunErr;
 use crate::wires::Arc;
-use sq_item::{Item, Mark};
+use sq_item::{Body, Item, Sign};
 use sq_oper::Place;
 use sq_outside::PageDisk;
 use sq_queue::Queues;
-use sq_value::Fields;
 
-fn mark_fits(marked: bool, mark: &Option<Mark>) -> bool
+fn mark_fits(marked: bool, mark: &Sign) -> bool
     ensures { result ≡ mark_fits marked mark.now }
 {
-    match mark {
-        None => true,
-        Some(_) => marked,
-    }
+    marked || !mark.is_some()
 }
 
-fn body_fits(width: u32, body: &Option<Fields>) -> bool
+fn body_fits(width: u32, body: &Body) -> bool
     ensures { result ≡ body_fits width body.now }
 {
-    match body {
-        None => true,
-        Some(fields) => fields.as_slice().len() == width as usize,
-    }
+    !body.is_some() || body.as_slice().len() == width as usize
 }
 
 /// What begins with a mark, or with a tuple, may stand behind this place.
@@ -72,12 +65,7 @@ fn weight_of(item: &Item) -> u64
     ensures weight { result ≡ length (spread item.now) }
     ensures few { result ≤ 2 }
 {
-    match (&item.mark, &item.body) {
-        (None, None) => 0,
-        (None, Some(_)) => 1,
-        (Some(_), None) => 1,
-        (Some(_), Some(_)) => 2,
-    }
+    u64::from(item.mark.is_some()) + u64::from(item.body.is_some())
 }
 
 /// How many marks and tuples may be taken.

@@ -1,2 +1,3 @@
 pub mod Things
 pub mod Sound
+pub mod Words

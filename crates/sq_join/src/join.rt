@@ -96,7 +96,7 @@ impl Operator for JoinBox {
     ) -> Result<(), AllocError> {
         self.tally.note(port, &item);
         let time = item.time;
-        if let Some(fields) = item.body {
+        if let Some(fields) = item.body.get() {
             self.sides.let_go(self.size, time);
             let x = Tuple { time, fields };
             take(&mut self.sides, &self.on, port, x, out)?;

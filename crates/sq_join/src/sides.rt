@@ -8,7 +8,7 @@ ghost use Rattle.sq_oper.specs.Given.{given, ItemsSound};
 ghost use Rattle.sq_oper.specs.Streams.{IsSoundTuple, things, at_zero};
 
 use sq_expr::Typed;
-use sq_item::Item;
+use sq_item::{Body, Item, Sign};
 use sq_lists::{Sides, passing_pair};
 use sq_oper::Outs;
 use sq_value::Tuple;
@@ -38,8 +38,8 @@ fn give_pair(
             0,
             Item {
                 time,
-                mark: None,
-                body: Some(fields),
+                mark: Sign::none(),
+                body: Body::some(fields),
             },
         )?;
     }

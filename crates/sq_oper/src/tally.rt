@@ -57,21 +57,21 @@ impl Tally {
         ensures running { self.new.running ≡ self.old.running }
     {
         let time = item.time;
-        match (&item.mark, &item.body) {
-            (None, None) => {}
-            (None, Some(_)) => {
+        match (item.mark.is_some(), item.body.is_some()) {
+            (false, false) => {}
+            (false, true) => {
                 let marked = self.place.is_marked_at(time);
                 self.place = Place::At { time, port, marked };
                 self.taken += 1;
             }
-            (Some(_), None) => {
+            (true, false) => {
                 self.place = Place::At {
                     time,
                     port,
                     marked: true,
                 };
             }
-            (Some(_), Some(_)) => {
+            (true, true) => {
                 self.place = Place::At {
                     time,
                     port,

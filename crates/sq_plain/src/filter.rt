@@ -18,12 +18,12 @@ ghost use Rattle.sq_plain.specs.Boxes.{trees, filter_gives, filter_rest, at_port
 
 use crate::give::{give_to_ports, give_tuple};
 use sq_expr::Typed;
-use sq_item::{Item, Mark};
+use sq_item::{Body, Item, Mark, Sign};
 use sq_lists::port_of_tuple;
 use sq_oper::{Decision, Operator, Outs, Place, Tally};
 use sq_outside::Steps;
 use sq_road::Levels;
-use sq_value::{Fields, Tuple, Value};
+use sq_value::{Tuple, Value};
 use std::alloc::AllocError;
 use std::sync::ledger::Ledger;
 
@@ -74,8 +74,8 @@ impl FilterBox {
         Ok(())
     }
 
-    // Hands an item's mark on to every port.
-    fn pass_on(&self, time: u64, mark: Option<Mark>, out: &mut Outs) -> Result<(), AllocError>
+    // Hands a mark on to every port.
+    fn pass_mark(&self, time: u64, mark: Option<Mark>, out: &mut Outs) -> Result<(), AllocError>
         requires few { length self.now.preds.items < 2 ^ 32 }
         requires tick { time < 2 ^ 40 }
         requires mark { IsMark mark }
@@ -91,8 +91,22 @@ impl FilterBox {
         }
     }
 
+    // Hands an item's mark on to every port.
+    fn pass_on(&self, time: u64, mark: &Sign, out: &mut Outs) -> Result<(), AllocError>
+        requires few { length self.now.preds.items < 2 ^ 32 }
+        requires tick { time < 2 ^ 40 }
+        requires mark { IsMark mark.now }
+        ensures given { OnOk result ((q : ℕ) → given q out.new.items.items ≡ given q out.old.items.items ++ for_mark (filter_gives self.now.preds.items q) time mark.now) }
+        ensures prefix { OnErr result ((q : ℕ) → IsPrefixOf (given q out.new.items.items) (given q out.old.items.items ++ for_mark (filter_gives self.now.preds.items q) time mark.now)) }
+        ensures sound { ItemsSound out.old.items.items → ItemsSound out.new.items.items }
+        ensures extends { IsPrefixOf out.old.items.items out.new.items.items }
+        ensures drops { out.new.drops.items ≡ out.old.drops.items }
+    {
+        self.pass_mark(time, mark.get(), out)
+    }
+
     // Sends an item's tuple to its port.
-    fn send_body(&self, time: u64, body: Option<Fields>, out: &mut Outs) -> Result<(), AllocError>
+    fn send_body(&self, time: u64, body: Body, out: &mut Outs) -> Result<(), AllocError>
         requires few { length self.now.preds.items < 2 ^ 32 }
         requires tick { time < 2 ^ 40 }
         requires body { IsBody body }
@@ -102,7 +116,7 @@ impl FilterBox {
         ensures extends { IsPrefixOf out.old.items.items out.new.items.items }
         ensures drops { out.new.drops.items ≡ out.old.drops.items }
     {
-        match body {
+        match body.get() {
             None => Ok(()),
             Some(fields) => self.send(Tuple { time, fields }, out),
         }
@@ -142,7 +156,7 @@ impl Operator for FilterBox {
     ) -> Result<(), AllocError> {
         self.tally.note(port, &item);
         let fed = item.body.is_some();
-        self.pass_on(item.time, item.mark, out)?;
+        self.pass_on(item.time, &item.mark, out)?;
         self.send_body(item.time, item.body, out)?;
         if fed {
             steps.tick();

@@ -18,12 +18,12 @@ ghost use Rattle.sq_plain.specs.Boxes.{trees, map_gives, map_rest, makes_tuple, 
 
 use crate::give::{give_mark, give_tuple};
 use sq_expr::Typed;
-use sq_item::{Item, Mark};
+use sq_item::{Body, Item, Sign};
 use sq_lists::map_tuple;
 use sq_oper::{Decision, Operator, Outs, Place, Tally};
 use sq_outside::Steps;
 use sq_road::Levels;
-use sq_value::{Fields, Tuple, Value};
+use sq_value::{Tuple, Value};
 use std::alloc::AllocError;
 use std::sync::ledger::Ledger;
 
@@ -74,23 +74,23 @@ impl MapBox {
     }
 
     // Hands an item's mark on.
-    fn pass_on(&self, time: u64, mark: Option<Mark>, out: &mut Outs) -> Result<(), AllocError>
+    fn pass_on(&self, time: u64, mark: &Sign, out: &mut Outs) -> Result<(), AllocError>
         requires tick { time < 2 ^ 40 }
-        requires mark { IsMark mark }
-        ensures given { OnOk result ((q : ℕ) → given q out.new.items.items ≡ given q out.old.items.items ++ for_mark (map_gives self.now.exprs.items q) time mark) }
+        requires mark { IsMark mark.now }
+        ensures given { OnOk result ((q : ℕ) → given q out.new.items.items ≡ given q out.old.items.items ++ for_mark (map_gives self.now.exprs.items q) time mark.now) }
         ensures err { OnErr result (out.new.items.items ≡ out.old.items.items) }
         ensures sound { ItemsSound out.old.items.items → ItemsSound out.new.items.items }
         ensures extends { IsPrefixOf out.old.items.items out.new.items.items }
         ensures drops { out.new.drops.items ≡ out.old.drops.items }
     {
-        match mark {
+        match mark.get() {
             None => Ok(()),
             Some(mark) => give_mark(0, time, mark, out),
         }
     }
 
     // Maps an item's tuple.
-    fn send_body(&self, time: u64, body: Option<Fields>, out: &mut Outs) -> Result<(), AllocError>
+    fn send_body(&self, time: u64, body: Body, out: &mut Outs) -> Result<(), AllocError>
         requires few { is_some body ≡ true → IsTrue (makes_tuple self.now.exprs.items) }
         requires tick { time < 2 ^ 40 }
         requires body { IsBody body }
@@ -100,7 +100,7 @@ impl MapBox {
         ensures extends { IsPrefixOf out.old.items.items out.new.items.items }
         ensures drops { out.new.drops.items ≡ out.old.drops.items }
     {
-        match body {
+        match body.get() {
             None => Ok(()),
             Some(fields) => self.send(Tuple { time, fields }, out),
         }
@@ -140,7 +140,7 @@ impl Operator for MapBox {
     ) -> Result<(), AllocError> {
         self.tally.note(port, &item);
         let fed = item.body.is_some();
-        self.pass_on(item.time, item.mark, out)?;
+        self.pass_on(item.time, &item.mark, out)?;
         self.send_body(item.time, item.body, out)?;
         if fed {
             steps.tick();

@@ -20,12 +20,12 @@ ghost use Rattle.sq_tagged.specs.Boxes.{united_tagged};
 ghost use Rattle.sq_plain.specs.Unions.{seen, union_next, union_gives, union_rest, union_marks};
 
 use crate::give::{give_mark, give_tuple};
-use sq_item::{Item, Mark};
+use sq_item::{Body, Item, Mark, Sign};
 use sq_oper::{Decision, Operator, Outs, Place, Tally};
 use sq_outside::Steps;
 use sq_road::Levels;
 use sq_tagged::{bound_of, lessen};
-use sq_value::{Fields, Tuple, Value};
+use sq_value::{Tuple, Value};
 use std::alloc::AllocError;
 use std::sync::ledger::Ledger;
 
@@ -121,21 +121,21 @@ impl UnionBox {
         &mut self,
         port: u32,
         time: u64,
-        mark: Option<Mark>,
+        mark: &Sign,
         out: &mut Outs,
     ) -> Result<(), AllocError>
         requires tick { time < 2 ^ 40 }
-        requires mark { IsMark mark }
-        ensures bounds { OnOk result (self.new.bounds ≡ next_all (union_next self.old.lags.items) self.old.bounds (at_port port (mark_part time mark))) }
+        requires mark { IsMark mark.now }
+        ensures bounds { OnOk result (self.new.bounds ≡ next_all (union_next self.old.lags.items) self.old.bounds (at_port port (mark_part time mark.now))) }
         ensures given { OnOk result ((q : ℕ) → given q out.new.items.items
-            ≡ given q out.old.items.items ++ gives_all (union_next self.old.lags.items) (union_gives self.old.marked self.old.lags.items) self.old.bounds (at_port port (mark_part time mark)) q) }
+            ≡ given q out.old.items.items ++ gives_all (union_next self.old.lags.items) (union_gives self.old.marked self.old.lags.items) self.old.bounds (at_port port (mark_part time mark.now)) q) }
         ensures err { OnErr result (out.new.items.items ≡ out.old.items.items) }
         ensures same { self.new ≡ record self.old { bounds = self.new.bounds } }
         ensures sound { ItemsSound out.old.items.items → ItemsSound out.new.items.items }
         ensures extends { IsPrefixOf out.old.items.items out.new.items.items }
         ensures drops { out.new.drops.items ≡ out.old.drops.items }
     {
-        match mark {
+        match mark.get() {
             None => Ok(()),
             Some(mark) => self.hand_on(port, time, mark, out),
         }
@@ -146,7 +146,7 @@ impl UnionBox {
         &self,
         port: u32,
         time: u64,
-        body: Option<Fields>,
+        body: Body,
         out: &mut Outs,
     ) -> Result<(), AllocError>
         requires tick { time < 2 ^ 40 }
@@ -159,7 +159,7 @@ impl UnionBox {
         ensures drops { out.new.drops.items ≡ out.old.drops.items }
     {
         let _port = port;
-        match body {
+        match body.get() {
             None => Ok(()),
             Some(fields) => {
                 if !self.marked || time < self.bounds.bound {
@@ -214,7 +214,7 @@ impl Operator for UnionBox {
     ) -> Result<(), AllocError> {
         self.tally.note(port, &item);
         let fed = item.body.is_some();
-        self.pass_on(port, item.time, item.mark, out)?;
+        self.pass_on(port, item.time, &item.mark, out)?;
         self.send_body(port, item.time, item.body, out)?;
         if fed {
             steps.tick();

@@ -16,11 +16,11 @@ ghost use Rattle.sq_tagged.specs.Boxes.{drop_tagged, touched_batches, until_at};
 ghost use Rattle.sq_windrop.specs.Drops.{IsDropping, dropping, is_dropped, drop_mark, marks_for, decided, bound_of, newly, after_tuple, next_body, gives_body, decided_body, drop_rest, drop_decides, port_fits, drop_reads, none_lost};
 
 use crate::give::give_item;
-use sq_item::{Item, Mark};
+use sq_item::{Body, Item, Mark, Sign};
 use sq_oper::{Decision, Operator, Outs, Place, Tally};
 use sq_outside::Steps;
 use sq_road::{Levels, draw};
-use sq_value::{Fields, Value};
+use sq_value::Value;
 use std::alloc::AllocError;
 use std::sync::ledger::Ledger;
 
@@ -176,7 +176,7 @@ fn take(
     with: &Dropping,
     levels: &Levels,
     time: u64,
-    body: Option<Fields>,
+    body: Body,
     batches: &mut Batches,
     out: &mut Outs,
 ) -> Result<(), AllocError>
@@ -197,7 +197,7 @@ fn take(
     ensures extends { IsPrefixOf out.old.items.items out.new.items.items }
     ensures few { length out.new.items.items ≤ length out.old.items.items + 4098 }
 {
-    let Some(fields) = body else {
+    let Some(fields) = body.get() else {
         return Ok(());
     };
     touch(with, levels, time, batches, out)?;
@@ -205,8 +205,8 @@ fn take(
         give_item(
             Item {
                 time,
-                mark: None,
-                body: Some(fields),
+                mark: Sign::none(),
+                body: Body::some(fields),
             },
             out,
         )?;
@@ -225,11 +225,12 @@ fn give_mark(time: u64, mark: Mark, out: &mut Outs) -> Result<(), AllocError>
     ensures drops { out.new.drops.items ≡ out.old.drops.items }
     ensures one { length out.new.items.items ≤ length out.old.items.items + 1 }
 {
+    let body = Body::none(*out.items.allocator());
     give_item(
         Item {
             time,
-            mark: Some(mark),
-            body: None,
+            mark: Sign::new(Some(mark)),
+            body,
         },
         out,
     )

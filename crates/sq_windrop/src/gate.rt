@@ -14,11 +14,11 @@ ghost use Rattle.sq_oper.specs.Streams.{at_zero, things};
 ghost use Rattle.sq_windrop.specs.Gates.{IsLength, shows_at, shown, first_port, gate_next, gate_gives, gate_rest};
 
 use crate::give::give_item;
-use sq_item::{Item, Mark};
+use sq_item::{Body, Item, Mark, Sign};
 use sq_oper::{Decision, Operator, Outs, Place, Tally};
 use sq_outside::Steps;
 use sq_road::Levels;
-use sq_value::{Fields, Value};
+use sq_value::Value;
 use std::alloc::AllocError;
 use std::sync::ledger::Ledger;
 
@@ -56,15 +56,15 @@ impl GateBox {
     }
 
     // An item's mark: an open mark at a batch's start opens the batch.
-    fn read_mark(&mut self, port: u32, time: u64, mark: Option<Mark>)
+    fn read_mark(&mut self, port: u32, time: u64, mark: &Sign)
         requires { IsLength self.old.length }
-        ensures { self.new ≡ record self.old { opened = next_all (gate_next self.old.length) self.old.opened (at_port port (mark_part time mark)) } }
+        ensures { self.new ≡ record self.old { opened = next_all (gate_next self.old.length) self.old.opened (at_port port (mark_part time mark.now)) } }
     {
         let _port = port;
         let Some(length) = self.length else {
             return;
         };
-        if let Some(Mark::Open { until: _ }) = mark {
+        if let Some(Mark::Open { until: _ }) = mark.get() {
             let batch = time / length;
             if batch * length == time {
                 self.opened = Some(batch);
@@ -91,7 +91,7 @@ impl GateBox {
         &self,
         port: u32,
         time: u64,
-        body: Option<Fields>,
+        body: Body,
         out: &mut Outs,
     ) -> Result<(), AllocError>
         requires length { IsLength self.now.length }
@@ -105,13 +105,13 @@ impl GateBox {
         ensures drops { out.new.drops.items ≡ out.old.drops.items }
     {
         let _port = port;
-        if let Some(fields) = body {
+        if let Some(fields) = body.get() {
             if self.is_shown(time) {
                 give_item(
                     Item {
                         time,
-                        mark: None,
-                        body: Some(fields),
+                        mark: Sign::none(),
+                        body: Body::some(fields),
                     },
                     out,
                 )?;
@@ -154,7 +154,7 @@ impl Operator for GateBox {
     ) -> Result<(), AllocError> {
         self.tally.note(port, &item);
         let fed = item.body.is_some();
-        self.read_mark(port, item.time, item.mark);
+        self.read_mark(port, item.time, &item.mark);
         self.show(port, item.time, item.body, out)?;
         if fed {
             steps.tick();

@@ -13,7 +13,7 @@ use Rattle.sq_flow.specs.Wiring.{arcs_from, times_in, numbers_in, rows_in}
 use Rattle.sq_flow.specs.Sends.{many, Pushes}
 use Rattle.sq_flow.proofs.SendLemmas.{pushes-none}
 use Rattle.sq_flow.proofs.sending.send_one.Goals as goal
-use Rattle.sq_flow.proofs.sending.send_one.Goals.{then-port-len+in_ok-send_item, else-port-len+in-None-1, else-port-len+in-Some-1}
+use Rattle.sq_flow.proofs.sending.send_one.Goals.{then-port-len+in_ok-send_item, else-port-len}
 
 -- nothing goes to ports beyond the last
 pushes-beyond : (wires : Wires) (actor port : ℕ) (rows : Vec (Vec ℕ Global) Global) (q : Queues) (was : Option Pages) (item : Item) → slice_get wires.readers.items actor ≡ Some rows
@@ -42,10 +42,7 @@ returns-clause-sent g c =
           let is = ap (λ o. numbers_in (slice_get (rows_in o) c.args.port)) row ∙ ap numbers_in here in
           subst (λ (l : List ℕ). Pushes c.args.queues.now w.send_item.new.queues (g.D.PageDisk.pages c.args.disk.now) (g.D.PageDisk.pages w.send_item.new.disk) (λ arc. many (times_in arc l) (spread c.args.item)) (λ time. c.args.item.time ≤ time) (λ arc. contains l arc))
           (w.deref.ensures.value ∙ sym is) w.in_ok-send_item.ensures.sent)
-      | else-port-len+in-None-1 w ↦
-          let past : length c.index-rows.result.now.items ≤ c.args.port = omega (arith, w.if-port-len.false, c.len.ensures, c.index-rows.result.now.ok.0) in
-          rw (w.queues-is, w.disk-is) (pushes-beyond c.args.wires.now c.args.actor c.args.port c.index-rows.result.now c.args.queues.now (g.D.PageDisk.pages c.args.disk.now) c.args.item row past c.requires.together)
-      | else-port-len+in-Some-1 w ↦
+      | else-port-len w ↦
           let past : length c.index-rows.result.now.items ≤ c.args.port = omega (arith, w.if-port-len.false, c.len.ensures, c.index-rows.result.now.ok.0) in
           rw (w.queues-is, w.disk-is) (pushes-beyond c.args.wires.now c.args.actor c.args.port c.index-rows.result.now c.args.queues.now (g.D.PageDisk.pages c.args.disk.now) c.args.item row past c.requires.together)
     ]

@@ -1,4 +1,4 @@
-use Rattle.std.proofs.Common.{[], ◌∷◌, refl}
+use Rattle.std.proofs.Common.{[], ◌∷◌, ◌∙◌, refl}
 use Rattle.std.specs.Vec.{with_item}
 use Rattle.std.proofs.lemmas.Option.{slice_get_read}
 use Rattle.std.proofs.lemmas.Result.{on_ok_weaker}
@@ -41,3 +41,12 @@ returns-then-has_room-clause-together g c =
     written-together q _ r _ arc lane new c.requires.together c.requires.together.paged refl c.requires.there
     (slice_get_read q.lanes.items _ arc lane refl c.requires.there c.index_mut-lane.ensures.value) refl (λ other differ. refl)
     (λ own. appended-lane lane new c.args.item (pages.face q.paged arc) own (record { front = front; count = count; behind = c.append.ensures.behind }) c.requires.sound room.1))
+
+pub returns-clause-others : goal.returns-clause-others
+returns-clause-others g c =
+    let q = c.args.self.now in
+    let told = g.D.PageDisk.pages c.args.disk.now in
+    let lane = c.index_mut-lane.result.now in
+    let r : Queues = record q { lanes = with_item q.lanes c.args.arc lane } in
+    on_ok_weaker c.push_behind.result (λ kept tells other differ.
+    kept tells other differ ∙ other-items q told r told c.args.arc other lane refl differ refl) c.push_behind.ensures.others

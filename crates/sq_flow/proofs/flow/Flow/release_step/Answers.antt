@@ -40,7 +40,8 @@ send_one-requires-clause-sound g c =
     let sources = c.args.self.now.sources.items in
     let at = slice_get_read sources _ c.args.source c.index_mut.result.now refl c.requires.next.there c.index_mut.ensures.value in
     let pos : 0 < c.args.self.now.levels.epoch = omega (arith, c.epoch.ensures.epoch, c.epoch.ensures.lasts) in
-    item-sound _ _ c.args.self.now c.requires.flow pos c.args.source c.index_mut.result.now c.first_of-tuple.new.tuples c.first_of-tuple.result c.requires.next at c.first_of-tuple.ensures
+    rw (c.none.ensures, c.some.ensures)
+    (item-sound _ _ c.args.self.now c.requires.flow pos c.args.source c.index_mut.result.now c.first_of-tuple.new.tuples c.first_of-tuple.result c.requires.next at c.first_of-tuple.ensures)
 
 pub returns-in_err-send_one-clause-prefix : goal.returns-in_err-send_one-clause-prefix
 returns-in_err-send_one-clause-prefix g c =
@@ -104,7 +105,7 @@ returns-clause-ok g c =
     let counted = ap (λ n. set c.close_before.new.counts.items c.args.source (n + 1)) (sym read) in
     released-stepped _ _ c.args.self.now c.requires.flow pos c.args.source c.index_mut.result.now c.first_of-tuple.new.tuples c.first_of-tuple.result c.requires.next at c.first_of-tuple.ensures _ _ _ _ _ did
     (with_item c.args.self.now.sources c.args.source c.first_of-tuple.new.tuples) (with_item c.close_before.new.counts c.args.source (c.index_mut-2.result.now + 1)) refl counted
-    (g.D.PageDisk.pages c.args.disk.now) (g.D.PageDisk.pages c.send_one.new.disk) c.send_one.new.queues c.requires.together c.in_ok-send_one.ensures.sent
+    (g.D.PageDisk.pages c.args.disk.now) (g.D.PageDisk.pages c.send_one.new.disk) c.send_one.new.queues c.requires.together (rw (c.none.ensures, c.some.ensures) at c.in_ok-send_one.ensures.sent)
 
 pub returns-clause-touches : goal.returns-clause-touches
 returns-clause-touches g c =
@@ -113,7 +114,7 @@ returns-clause-touches g c =
     let pos : 0 < c.args.self.now.levels.epoch = omega (arith, c.epoch.ensures.epoch, c.epoch.ensures.lasts) in
     released-touches _ _ c.args.self.now c.requires.flow pos c.args.source c.index_mut.result.now c.first_of-tuple.new.tuples c.first_of-tuple.result c.requires.next at c.first_of-tuple.ensures
     (g.D.PageDisk.pages c.args.disk.now) (g.D.PageDisk.pages c.send_one.new.disk) c.send_one.new.queues (with_item c.args.self.now.sources c.args.source c.first_of-tuple.new.tuples) c.close_before.new.planner c.close_before.new.levels
-    (with_item c.close_before.new.counts c.args.source (c.index_mut-2.result.now + 1)) c.in_ok-send_one.ensures.sent
+    (with_item c.close_before.new.counts c.args.source (c.index_mut-2.result.now + 1)) (rw (c.none.ensures, c.some.ensures) at c.in_ok-send_one.ensures.sent)
 
 pub returns-clause-measure : goal.returns-clause-measure
 returns-clause-measure g c =

@@ -13,27 +13,27 @@ pub take-requires : goal.take-requires
 take-requires g c =
     let b = c.args.self.now in
     let v = c.requires.is_valid in
-    rw (c.in-Some.fields-is, c.let_go.ensures.left, c.let_go.ensures.right)
-    (fed_sound b.size b.on.tree b.on.scope b.sides.left.items b.sides.right.items b.tally.place c.args.port c.args.item c.in-Some.fields c.in-Some.is c.requires.is_sound c.requires.may_come v.0 v.1)
+    rw (c.let_go.ensures.left, c.let_go.ensures.right)
+    (fed_sound b.size b.on.tree b.on.scope b.sides.left.items b.sides.right.items b.tally.place c.args.port c.args.item c.in-Some.fields (sym c.get.ensures ∙ c.in-Some.is) c.requires.is_sound c.requires.may_come v.0 v.1)
 
 pub returns-in_err-take-clause-prefix : goal.returns-in_err-take-clause-prefix
 returns-in_err-take-clause-prefix g c =
     let b = c.args.self.now in
     let v = c.requires.is_valid in
-    let began = rw (c.in-Some.fields-is, c.let_go.ensures.left, c.let_go.ensures.right) at c.in_err-take.ensures.prefix in
+    let began = rw (c.let_go.ensures.left, c.let_go.ensures.right) at c.in_err-take.ensures.prefix in
     OnErr-from c.from_residual.result (λ table future agrees may q.
-    fed_prefix b.size b.on.tree b.on.scope b.sides.left.items b.sides.right.items b.tally.place c.args.port c.args.item c.in-Some.fields c.in-Some.is c.requires.is_sound c.requires.may_come v.0 v.1
+    fed_prefix b.size b.on.tree b.on.scope b.sides.left.items b.sides.right.items b.tally.place c.args.port c.args.item c.in-Some.fields (sym c.get.ensures ∙ c.in-Some.is) c.requires.is_sound c.requires.may_come v.0 v.1
     future may q (given q c.args.out.now.items.items) (given q c.take.new.out.items.items) (began q))
 
 pub returns-in_ok-take-clause-law : goal.returns-in_ok-take-clause-law
 returns-in_ok-take-clause-law g c =
     let b = c.args.self.now in
     let v = c.requires.is_valid in
-    let gave = rw (c.in-Some.fields-is, c.let_go.ensures.left, c.let_go.ensures.right) at c.in_ok-take.ensures.given in
-    let left = rw (c.in-Some.fields-is, c.let_go.ensures.left) at c.in_ok-take.ensures.left in
-    let right = rw (c.in-Some.fields-is, c.let_go.ensures.right) at c.in_ok-take.ensures.right in
+    let gave = rw (c.let_go.ensures.left, c.let_go.ensures.right) at c.in_ok-take.ensures.given in
+    let left = rw c.let_go.ensures.left at c.in_ok-take.ensures.left in
+    let right = rw c.let_go.ensures.right at c.in_ok-take.ensures.right in
     λ table future agrees may q.
-    fed_law b.size b.on.tree b.on.scope b.sides.left.items b.sides.right.items b.tally.place c.args.port c.args.item c.in-Some.fields c.in-Some.is c.requires.is_sound c.requires.may_come v.0 v.1
+    fed_law b.size b.on.tree b.on.scope b.sides.left.items b.sides.right.items b.tally.place c.args.port c.args.item c.in-Some.fields (sym c.get.ensures ∙ c.in-Some.is) c.requires.is_sound c.requires.may_come v.0 v.1
     future may q (given q c.args.out.now.items.items) (given q c.take.new.out.items.items) (gave q)
     ∙ ap₂ (λ l r. given q c.take.new.out.items.items ++ join_rest b.size b.on.tree l r future q) (sym left) (sym right)
 
@@ -42,22 +42,22 @@ returns-in_ok-take-clause-times g c =
     let b = c.args.self.now in
     let v = c.requires.is_valid in
     λ table agrees q.
-    fed_times b.size b.on.tree b.on.scope b.sides.left.items b.sides.right.items b.tally.place c.args.port c.args.item c.in-Some.fields c.in-Some.is c.requires.is_sound c.requires.may_come v.0 v.1 q
+    fed_times b.size b.on.tree b.on.scope b.sides.left.items b.sides.right.items b.tally.place c.args.port c.args.item c.in-Some.fields (sym c.get.ensures ∙ c.in-Some.is) c.requires.is_sound c.requires.may_come v.0 v.1 q
 
 pub returns-in_ok-take-clause-stays_valid : goal.returns-in_ok-take-clause-stays_valid
 returns-in_ok-take-clause-stays_valid g c =
     let b = c.args.self.now in
     let v = c.requires.is_valid in
-    let left = rw (c.in-Some.fields-is, c.let_go.ensures.left) at c.in_ok-take.ensures.left in
-    let right = rw (c.in-Some.fields-is, c.let_go.ensures.right) at c.in_ok-take.ensures.right in
-    let place : time_of c.note.new.self.place ≡ c.args.item.time = ap time_of c.note.ensures.place ∙ time-after-item b.tally.place c.args.port c.args.item c.in-Some.fields c.in-Some.is in (
+    let left = rw c.let_go.ensures.left at c.in_ok-take.ensures.left in
+    let right = rw c.let_go.ensures.right at c.in_ok-take.ensures.right in
+    let place : time_of c.note.new.self.place ≡ c.args.item.time = ap time_of c.note.ensures.place ∙ time-after-item b.tally.place c.args.port c.args.item c.in-Some.fields (sym c.get.ensures ∙ c.in-Some.is) in (
       (
-        rw (left, place) (fed_left b.size b.on.tree b.on.scope b.sides.left.items b.sides.right.items b.tally.place c.args.port c.args.item c.in-Some.fields c.in-Some.is c.requires.is_sound c.requires.may_come v.0 v.1),
-        rw (right, place) (fed_right b.size b.on.tree b.on.scope b.sides.left.items b.sides.right.items b.tally.place c.args.port c.args.item c.in-Some.fields c.in-Some.is c.requires.is_sound c.requires.may_come v.0 v.1),
+        rw (left, place) (fed_left b.size b.on.tree b.on.scope b.sides.left.items b.sides.right.items b.tally.place c.args.port c.args.item c.in-Some.fields (sym c.get.ensures ∙ c.in-Some.is) c.requires.is_sound c.requires.may_come v.0 v.1),
+        rw (right, place) (fed_right b.size b.on.tree b.on.scope b.sides.left.items b.sides.right.items b.tally.place c.args.port c.args.item c.in-Some.fields (sym c.get.ensures ∙ c.in-Some.is) c.requires.is_sound c.requires.may_come v.0 v.1),
         subst (λ (l : List Tuple). AllNear b.size (time_of c.note.new.self.place) l) (sym left) (rw place
-            (near_left b.size b.on.tree b.on.scope b.sides.left.items b.sides.right.items b.tally.place c.args.port c.args.item c.in-Some.fields c.in-Some.is c.requires.is_sound c.requires.may_come v.0 v.1)),
+            (near_left b.size b.on.tree b.on.scope b.sides.left.items b.sides.right.items b.tally.place c.args.port c.args.item c.in-Some.fields (sym c.get.ensures ∙ c.in-Some.is) c.requires.is_sound c.requires.may_come v.0 v.1)),
         subst (λ (l : List Tuple). AllNear b.size (time_of c.note.new.self.place) l) (sym right) (rw place
-            (near_right b.size b.on.tree b.on.scope b.sides.left.items b.sides.right.items b.tally.place c.args.port c.args.item c.in-Some.fields c.in-Some.is c.requires.is_sound c.requires.may_come v.0 v.1)),
+            (near_right b.size b.on.tree b.on.scope b.sides.left.items b.sides.right.items b.tally.place c.args.port c.args.item c.in-Some.fields (sym c.get.ensures ∙ c.in-Some.is) c.requires.is_sound c.requires.may_come v.0 v.1)),
       ),
       c.note.ensures.running ∙ c.requires.is_running,
     )

@@ -1,0 +1,14 @@
+use Rattle.std.proofs.Common.{◌≡◌, ℕ, ◌+◌, ◌++◌, ◌∷◌, [], length, OnErr, subst, rules}
+use Rattle.sq_value.specs.Lists.{IsPrefixOf}
+use Rattle.sq_oper.specs.Given.{given}
+use Rattle.sq_tagged.specs.Tagged.{mark_thing}
+use Rattle.sq_plain.specs.Boxes.{at_ports_below}
+use Rattle.sq_plain.proofs.filter.FilterBox.pass_mark.Goals as goal
+
+pub returns-in-Some-clause-prefix : goal.returns-in-Some-clause-prefix
+returns-in-Some-clause-prefix c =
+    let before = λ (q : ℕ). given q c.args.out.now.items.items in
+    let after = λ (q : ℕ). given q c.give_to_ports.new.out.items.items in
+    let long : c.len.result ≡ length c.args.self.now.preds.items = search rules in
+    rw c.in-Some.is
+    (subst (λ (n : ℕ). OnErr c.give_to_ports.result ((q : ℕ) → IsPrefixOf (after q) (before q ++ at_ports_below (n + 1) q (mark_thing (c.args.time, c.in-Some.mark) ∷ [])))) long c.give_to_ports.ensures.prefix)
