@@ -1,9 +1,11 @@
 -- Rows of levels, ascending by epoch.
-use Rattle.std.proofs.Common.{◌≡◌, ◌∙◌, ℕ, ◌+◌, ◌<◌, ◌≤◌, ◌==◌, List, [], ◌∷◌, ◌++◌, Bool, true, false, cond, Greater, nat_cmp, refl, ap, arith, unwrap_or, Some}
+use Rattle.std.proofs.Common.{◌≡◌, ◌∙◌, ℕ, zero, suc, ◌+◌, ◌<◌, ◌≤◌, ◌==◌, List, [], ◌∷◌, ◌++◌, Bool, true, false, cond, Greater, nat_cmp, refl, ap, arith, unwrap_or, Some}
 use Rattle.std.proofs.lemmas.Bool.Decides.{nat_tests}
 use Rattle.std.specs.Ordering.{is_eq}
 use Rattle.std.specs.BTreeMap.{is_at, insert_entry}
 use Rattle.std.specs.Map.{lookup}
+use Rattle.std.specs.List.{list_all}
+use Rattle.std.specs.Prelude.{slice_index}
 use Rattle.sq_road.specs.Levels.{Rows, AreBelow, row_at}
 
 at_number : (e x : ℕ) → is_eq (nat_cmp e x) ≡ (x == e)
@@ -60,3 +62,9 @@ row_at-before e x row (r ∷ rows) h = either_way (r.0 == x) (row_at-before e x 
 pub inserted : (e closed : ℕ) (row of : List ℕ) (was is : Rows) → e ≡ closed → row ≡ of → AreBelow closed was → is ≡ insert_entry nat_cmp was e row → is ≡ was ++ (e, of) ∷ []
 inserted e closed row of was is next same below entries =
     entries ∙ (insert_entry-later e row was (rw next below) ∙ ap (λ r. was ++ (e, r) ∷ []) same)
+
+-- where all levels are 0, the level of each drop is
+pub none-at : (of : List ℕ) (w : ℕ) → list_all (λ level. level == 0) of ≡ true → slice_index of w ≡ 0
+none-at [] w h = refl
+none-at (x ∷ xs) zero h = grind (arith, nat_tests)
+none-at (x ∷ xs) (suc w) h = none-at xs w (grind (arith, nat_tests))

@@ -1,6 +1,7 @@
 //! The levels of the epochs that are closed.
 
-ghost use Rattle.std.specs.Prelude.{◌≡◌, ℕ, ◌+◌, ◌-◌, ◌^◌, ◌<◌, ◌≤◌, ◌++◌, ◌∷◌, [], OnOk, OnErr, slice_index};
+ghost use Rattle.std.specs.Prelude.{◌≡◌, ◌==◌, ℕ, ◌+◌, ◌-◌, ◌^◌, ◌<◌, ◌≤◌, ◌++◌, ◌∷◌, [], OnOk, OnErr, slice_index};
+ghost use Rattle.std.specs.List.{list_all};
 ghost use Rattle.sq_road.specs.Levels.{LevelTable, level_of};
 
 use sq_value::ListOf;
@@ -82,6 +83,23 @@ impl Levels {
         self.closed = e;
     }
 
+    /// Closes epoch `e`, the next, with the levels of its drops, which are kept only where one isn't 0. An `Err` changes nothing.
+    pub fn close(&mut self, e: u64, of: Vec<u32>) -> Result<(), AllocError>
+        requires next { e ≡ self.old.closed }
+        requires fits { e < 2 ^ 64 - 1 }
+        ensures closed { OnOk result (self.new.closed ≡ e + 1) }
+        ensures epoch { self.new.epoch ≡ self.old.epoch }
+        ensures sets { OnOk result ((w : ℕ) → level_of self.new e w ≡ slice_index of.items w) }
+        ensures keeps { (x w : ℕ) → x < self.old.closed → level_of self.new x w ≡ level_of self.old x w }
+        ensures err { OnErr result (self.new ≡ self.old) }
+    {
+        if are_none(&of) {
+            self.skip_to(e + 1);
+            return Ok(());
+        }
+        self.set(e, of)
+    }
+
     /// The level of drop `w` in a closed epoch, in permille; 0 for a drop of which that epoch has none.
     pub fn level(&self, e: u64, w: u32) -> u32
         requires { e < self.now.closed }
@@ -92,6 +110,13 @@ impl Levels {
             None => 0,
         }
     }
+}
+
+/// Whether all levels are 0.
+fn are_none(of: &[u32]) -> bool
+    ensures { result ≡ list_all (λ level. level == 0) of.now }
+{
+    of.iter().all(|level| *level == 0)
 }
 
 fn level_at(row: &[u32], w: u32) -> u32
