@@ -24,6 +24,7 @@ pub struct Seat<O> {
 }
 
 /// Feeds an operator one item.
+#[inline(always)]
 pub(crate) fn feed_seat<O: Operator, L: Ledger>(
     seat: &mut Seat<O>,
     levels: &Levels,

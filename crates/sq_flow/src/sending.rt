@@ -80,6 +80,7 @@ pub(crate) fn send_one<D: PageDisk>(
 }
 
 /// What an actor gives goes to the arcs that come from its ports.
+#[inline(always)]
 pub(crate) fn send_all<D: PageDisk>(
     wires: &Wires,
     queues: &mut Queues,
@@ -107,6 +108,7 @@ pub(crate) fn send_all<D: PageDisk>(
 
 /// Shows the tuple of an item at an output.
 #[tactic(auto, using(crate::proofs::EventLemmas::event_lemmas))]
+#[inline(always)]
 fn show_item(output: u32, item: Item, events: &mut Vec<Event>) -> Result<(), AllocError>
     ensures shown { OnOk result ((o : ℕ) → lines_of o events.new.items ≡ lines_of o events.old.items ++ (if output == o then bodies (spread item) else [])) }
     ensures err { OnErr result (events.new.items ≡ events.old.items) }
@@ -124,6 +126,7 @@ fn show_item(output: u32, item: Item, events: &mut Vec<Event>) -> Result<(), All
 }
 
 /// Shows what an output gives at its port 0.
+#[inline(always)]
 fn show_one(output: u32, port: u32, item: Item, events: &mut Vec<Event>) -> Result<(), AllocError>
     ensures shown { OnOk result ((o : ℕ) → lines_of o events.new.items ≡ lines_of o events.old.items ++ (if output == o then bodies (given 0 (record { 0 = port; 1 = item } ∷ [])) else [])) }
     ensures err { OnErr result (events.new.items ≡ events.old.items) }
@@ -138,6 +141,7 @@ fn show_one(output: u32, port: u32, item: Item, events: &mut Vec<Event>) -> Resu
 }
 
 /// Shows what an output gives.
+#[inline(always)]
 pub(crate) fn show_all(
     output: u32,
     items: &mut Vec<(u32, Item)>,
@@ -187,6 +191,7 @@ pub(crate) fn show_drops(
 }
 
 /// What an actor decides is shown. What an output gives is shown; what another actor gives goes to the arcs that come from it. Nothing stays in `outs` but its memory.
+#[inline(always)]
 pub(crate) fn give<D: PageDisk>(
     wires: &Wires,
     queues: &mut Queues,

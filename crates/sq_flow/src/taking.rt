@@ -16,12 +16,14 @@ use sq_oper::Place;
 use sq_outside::PageDisk;
 use sq_queue::Queues;
 
+#[inline(always)]
 fn mark_fits(marked: bool, mark: &Sign) -> bool
     ensures { result ≡ mark_fits marked mark.now }
 {
     marked || !mark.is_some()
 }
 
+#[inline(always)]
 fn body_fits(width: u32, body: &Body) -> bool
     ensures { result ≡ body_fits width body.now }
 {
@@ -29,6 +31,7 @@ fn body_fits(width: u32, body: &Body) -> bool
 }
 
 /// What begins with a mark, or with a tuple, may stand behind this place.
+#[inline(always)]
 fn may_stand(place: Place, port: u32, time: u64, mark: bool) -> bool
     ensures { result ≡ may_stand place port time mark }
 {
@@ -50,6 +53,7 @@ fn may_stand(place: Place, port: u32, time: u64, mark: bool) -> bool
 
 /// An item may come from an arc to a port of an operator that stands at this place.
 #[tactic(auto, using(crate::proofs::TakeLemmas::take_lemmas))]
+#[inline(always)]
 fn may_be_fed(at: Arc, port: u32, place: Place, clock: u64, item: &Item) -> bool
     requires { IsSound item.now }
     ensures yes { result ≡ true → MayBeFed at port place clock item.now }
@@ -61,6 +65,7 @@ fn may_be_fed(at: Arc, port: u32, place: Place, clock: u64, item: &Item) -> bool
 }
 
 /// How many marks and tuples an item has.
+#[inline(always)]
 fn weight_of(item: &Item) -> u64
     ensures weight { result ≡ length (spread item.now) }
     ensures few { result ≤ 2 }
@@ -72,6 +77,7 @@ fn weight_of(item: &Item) -> u64
 pub(crate) const LIMIT: u64 = 0x3FFF_FFFF_FFFF_FFFF;
 
 /// Takes the first item of an arc, if it may be fed.
+#[inline(always)]
 pub(crate) fn take_item<D: PageDisk>(
     queues: &mut Queues,
     disk: &mut D,
@@ -108,6 +114,7 @@ pub(crate) fn take_item<D: PageDisk>(
 }
 
 /// Counts what an item has, if it can be counted.
+#[inline(always)]
 pub(crate) fn count_item(taken: u64, item: &Item) -> Result<u64, RunErr>
     requires { taken < 2 ^ 62 }
     ensures ok { IfOk result (λ n. (n ≡ taken + length (spread item.now)) × (n < 2 ^ 62)) }

@@ -50,6 +50,7 @@ impl Tally {
     }
 
     /// Counts an item that is fed at a port.
+    #[inline(always)]
     pub fn note(&mut self, port: u32, item: &Item)
         requires { is_some item.now.body ≡ true → self.old.taken < 2 ^ 62 - 1 }
         ensures place { self.new.place ≡ after_all self.old.place (entries port item.now) }

@@ -104,7 +104,7 @@ enum Bytes {
 
 impl Bytes {
     /// A copy of a text.
-    #[inline]
+    #[inline(always)]
     fn new(alloc: Global, text: &str) -> Result<Bytes, AllocError>
         ensures { IfOk result (λ b. bytes_of b ≡ text.now) }
     {
@@ -175,7 +175,7 @@ pub enum TxtErr {
 
 impl Txt {
     /// A copy of the text, of which there must be 1 to 255 bytes.
-    #[inline]
+    #[inline(always)]
     pub fn new(alloc: Global, text: &str) -> Result<Txt, TxtErr>
         ensures value { IfOk result (λ t. t ≡ text.now) }
         ensures empty { (result ≡ Err TxtErr.Empty) ↔ (text.now ≡ []) }
