@@ -142,13 +142,7 @@ impl UnionBox {
     }
 
     // Gives an item's tuple, if it is below the bound.
-    fn send_body(
-        &self,
-        port: u32,
-        time: u64,
-        body: Body,
-        out: &mut Outs,
-    ) -> Result<(), AllocError>
+    fn send_body(&self, port: u32, time: u64, body: Body, out: &mut Outs) -> Result<(), AllocError>
         requires tick { time < 2 ^ 40 }
         requires body { IsBody body }
         ensures given { OnOk result ((q : ℕ) → given q out.new.items.items

@@ -19,7 +19,9 @@ mod reading;
 mod shape;
 
 use document::{Table, value_at};
-pub use raw::{Answer, AnswerColumn, Over, Raw, RawBody, RawBox, RawOutput, RawSource, Setting, Version};
+pub use raw::{
+    Answer, AnswerColumn, Over, Raw, RawBody, RawBox, RawOutput, RawSource, Setting, Version,
+};
 pub use shape::ports_of;
 use sq_net::NetErr;
 use std::alloc::Global;

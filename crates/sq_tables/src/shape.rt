@@ -208,12 +208,7 @@ fn join_in(alloc: Global, table: &Table) -> Result<RawBody, Unread>
     Ok(RawBody::Join { size, on })
 }
 
-fn body_in(
-    alloc: Global,
-    version: Version,
-    table: &Table,
-    kind: &str,
-) -> Result<RawBody, Unread>
+fn body_in(alloc: Global, version: Version, table: &Table, kind: &str) -> Result<RawBody, Unread>
     ensures { Reads result (body_in version kind.now (table_view table.now)) }
 {
     if same_text(kind, "filter") {

@@ -87,13 +87,7 @@ impl GateBox {
     }
 
     // Gives an item's tuple, if its batch is open.
-    fn show(
-        &self,
-        port: u32,
-        time: u64,
-        body: Body,
-        out: &mut Outs,
-    ) -> Result<(), AllocError>
+    fn show(&self, port: u32, time: u64, body: Body, out: &mut Outs) -> Result<(), AllocError>
         requires length { IsLength self.now.length }
         requires tick { time < 2 ^ 40 }
         requires body { IsBody body }
