@@ -1,0 +1,71 @@
+# Builds and installs aurora. What is built without `make proved` is not proved.
+#
+#     make                        the program, optimised, without proving it: some minutes
+#     make proved                 the gate: everything proved and tested, and the program that was proved: an hour and more
+#     make install PREFIX=..      program, manual page, tools, completion; the proved program where there is one
+#     make uninstall PREFIX=..    takes away what `make install` put there
+#     make deb                    a Debian package, by dpkg-deb
+#
+# DESTDIR is put before PREFIX where a package is made. PROGRAM names another program to install.
+PREFIX ?= /usr/local
+DESTDIR ?=
+
+proved_program = crates/aurora/out/aurora
+quick_program = out/aurora
+# The proved program, as long as no source has changed since.
+changed := $(shell find crates -name out -prune -o -name '*.rt' -newer $(proved_program) -print 2>&1 | head -n 1)
+PROGRAM ?= $(if $(changed),$(quick_program),$(proved_program))
+
+version := $(shell git describe --tags --always --dirty 2>/dev/null | sed -n 's/^v\{0,1\}\([0-9].*\..*\)/\1/p')
+ifeq ($(version),)
+version := 0.1+$(shell git rev-list --count HEAD 2>/dev/null || echo 0)
+endif
+architecture := $(shell dpkg --print-architecture 2>/dev/null || echo amd64)
+
+# The tools that a user runs, those of them that are there, and what they share.
+tools = $(wildcard $(addprefix tools/,draw explain output plan report stream))
+modules = $(wildcard tools/*.py)
+pages = README.md docs/MANUAL.md docs/PROMISES.md docs/rivers.png $(wildcard docs/network.schema.json)
+
+root = $(DESTDIR)$(PREFIX)
+binaries = $(root)/bin
+library = $(root)/lib/aurora
+manual = $(root)/share/man/man1
+completions = $(root)/share/bash-completion/completions
+documents = $(root)/share/doc/aurora
+
+.PHONY: all proved install uninstall deb clean
+
+all: $(quick_program)
+
+# The crates' files say whether it is to be built again.
+$(quick_program): $(shell find crates -name out -prune -o -name '*.rt' -print) crates.txt tools/build
+	mkdir -p out
+	tools/build $@
+
+proved:
+	.ci/run
+	@echo "$(proved_program) is proved"
+
+install: $(PROGRAM)
+	install -d $(binaries) $(library) $(manual) $(completions) $(documents)
+	install -m 755 $(PROGRAM) $(binaries)/aurora
+	gzip -9n <docs/aurora.1 >$(manual)/aurora.1.gz
+	install -m 644 tools/completion.bash $(completions)/aurora
+	install -m 644 $(pages) $(documents)
+	cp -r examples $(documents)/
+	install -m 755 $(tools) $(library)
+	$(if $(modules),install -m 644 $(modules) $(library))
+	for tool in $(notdir $(tools)); do ln -sf ../lib/aurora/$$tool $(binaries)/aurora-$$tool; done
+	@echo "installed below $(root): $(if $(filter $(proved_program),$(PROGRAM)),the proved program,a program that is not proved)"
+
+uninstall:
+	rm -f $(binaries)/aurora $(foreach tool,draw explain output plan report stream,$(binaries)/aurora-$(tool))
+	rm -f $(manual)/aurora.1.gz $(completions)/aurora
+	rm -rf $(library) $(documents)
+
+deb: $(PROGRAM)
+	tools/package "$(PROGRAM)" "$(version)" "$(architecture)"
+
+clean:
+	rm -rf out

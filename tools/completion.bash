@@ -1,0 +1,34 @@
+# Completion of aurora's words for bash.
+
+_aurora_options()
+{
+    local given=" ${COMP_WORDS[*]} " option
+    for option in --capacities --policy --seed --picks --train --frames; do
+        [[ $given == *" $option"[\ =]* ]] && [ "$option" != "$1" ] || echo "$option"
+    done
+}
+
+_aurora()
+{
+    local word=${COMP_WORDS[COMP_CWORD]} before=${COMP_WORDS[COMP_CWORD - 1]}
+    COMPREPLY=()
+    if [ "$COMP_CWORD" = 1 ]; then
+        mapfile -t COMPREPLY < <(compgen -W "run gen" -- "$word")
+        return
+    fi
+    [ "${COMP_WORDS[1]}" = run ] || return
+    case $before in
+        --policy) mapfile -t COMPREPLY < <(compgen -W "rr long seeded" -- "$word") ;;
+        --capacities | --picks) mapfile -t COMPREPLY < <(compgen -f -- "$word") ;;
+        --seed | --train | --frames) ;;
+        *)
+            if [[ $word == -* ]]; then
+                mapfile -t COMPREPLY < <(compgen -W "$(_aurora_options "$word")" -- "$word")
+            else
+                mapfile -t COMPREPLY < <(compgen -f -X '!*.toml' -- "$word"; compgen -d -S / -- "$word")
+            fi
+            ;;
+    esac
+}
+
+complete -o filenames -F _aurora aurora
