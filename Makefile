@@ -24,7 +24,7 @@ architecture := $(shell dpkg --print-architecture 2>/dev/null || echo amd64)
 
 # The tools that a user runs, those of them that are there, and what they share.
 tools = $(wildcard $(addprefix tools/,draw explain output plan report stream))
-modules = $(wildcard tools/*.py)
+modules = $(wildcard tools/aurora_tools/*.py)
 pages = README.md docs/MANUAL.md docs/PROMISES.md docs/rivers.png $(wildcard docs/network.schema.json)
 
 root = $(DESTDIR)$(PREFIX)
@@ -55,7 +55,7 @@ install: $(PROGRAM)
 	install -m 644 $(pages) $(documents)
 	cp -r examples $(documents)/
 	install -m 755 $(tools) $(library)
-	$(if $(modules),install -m 644 $(modules) $(library))
+	$(if $(modules),install -d $(library)/aurora_tools && install -m 644 $(modules) $(library)/aurora_tools)
 	for tool in $(notdir $(tools)); do ln -sf ../lib/aurora/$$tool $(binaries)/aurora-$$tool; done
 	@echo "installed below $(root): $(if $(filter $(proved_program),$(PROGRAM)),the proved program,a program that is not proved)"
 
