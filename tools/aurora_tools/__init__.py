@@ -1,0 +1,1 @@
+"""What the tools round `aurora` share: network files, runs, charts. Python's standard library alone."""

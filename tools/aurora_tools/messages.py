@@ -1,0 +1,173 @@
+"""The messages of `aurora run`: which file each is about, and what is found out there."""
+import os
+import re
+
+from . import line_rules, meaning_rules, shape_rules
+from .finding import Finding, article, near
+from .network import KINDS, Network
+from .places import line_and_column
+from .run_words import Words
+
+RULES = {
+    "Version": shape_rules.version, "Shape": shape_rules.shape, "Limit": shape_rules.limit, "NoName": shape_rules.no_name,
+    "Twice": meaning_rules.twice, "Unknown": meaning_rules.unknown, "Cycle": meaning_rules.cycle, "Window": meaning_rules.window,
+    "Graph": meaning_rules.graph, "Schema": meaning_rules.schema, "Expr": meaning_rules.unreadable, "Typing": meaning_rules.typing, "Group": meaning_rules.group,
+}
+TOML_FAULTS = (
+    (r"Illegal character '\\n'|Unterminated string|Expected \"'\"", "a text isn't closed on its line", "It ends with the quote that it began with."),
+    (r"Invalid value", "no value begins here", "Texts stand in double quotes, lists in square brackets, true and false are in small letters."),
+    (r"Cannot overwrite a value", "this key stands twice in its table", "Each table has a key once: is a line with [[box]] missing before it?"),
+    (r"Cannot declare|Cannot mutate|namespace", "this table can't stand here", "Each source, box and output has a heading with double brackets: [[source]], [[box]], [[output]]."),
+    (r"Expected '='", "a key is followed by =", ""),
+    (r"Unclosed array", "a list isn't closed", "It ends with a square bracket; between its entries stand commas."),
+    (r"Expected newline or end of document", "something stands behind the end of a value", "Each key has a line of its own; a text in a list stands in quotes."),
+    (r"Invalid initial character for a key part|Invalid statement", "no key begins here", "A line is KEY = VALUE, or a heading as [[box]]."),
+    (r"Unescaped '\\\\'", "a backslash in double quotes begins an escape", "Write it twice, or take single quotes round the text."),
+)
+FIXED = {
+    "spill disk failed": "The spill file aurora.spill, in the folder where the program was run, couldn't be made, written or read. Is something of that name there "
+                         "already, is the folder not to be written, or the disk full? More memory by --frames spills less. What was written is the beginning of each output's lines.",
+    "output failed": "Standard output took no more: the disk is full, or the program that read it ended before, as `head` does. What was written is the beginning of each output's lines.",
+    "too many tuples": "More tuples and marks would be fed than are counted, 2^62.",
+    "out of memory": "A run keeps its whole streams in memory, and open windows, slack and Joins beside them. Cut the streams, or make windows and sizes smaller. "
+                     "What was written, if anything, is the beginning of each output's lines.",
+}
+
+
+def findings(words, message):
+    """Yields what is found out of a message of a run with these words."""
+    given = Words(words)
+    said = message.removeprefix("aurora: ")
+    if said.startswith("usage: "):
+        for fault in given.faults:
+            yield Finding(fault)
+    elif match := re.fullmatch(r"network: (\w+)(?: (\w+) (\d+) (\d+))?((?: \S+)*)", said):
+        yield from of_network(Network(given.nets[0]), match)
+    elif match := re.fullmatch(r"(capacities|picks): line (\d+)", said):
+        rule = line_rules.capacities_finding if match[1] == "capacities" else line_rules.picks_finding
+        yield rule(given.options[f"--{match[1]}"], int(match[2]))
+    elif match := re.fullmatch(r"stream (\w+): line (\d+): (\w+)", said):
+        yield line_rules.stream_finding(Network(given.nets[0]), match[1], int(match[2]), match[3])
+    elif match := re.fullmatch(r"(cannot read|file too long:) (.*)", said, re.DOTALL):
+        yield unread(match[2], given) if match[1] == "cannot read" else too_long(match[2], given)
+    elif said in FIXED:
+        yield Finding(FIXED[said])
+    elif re.match(r"page \d+ |arc \d+: ", said):
+        yield Finding("The spill file came back with other bytes than were put into it. Test the disk, and run again. What was written is the beginning of each output's lines.")
+
+
+def of_network(network, match):
+    """Yields what is found of a rule of network files."""
+    rule, part, number, item = match[1], match[2] or "top", int(match[3] or 0), int(match[4] or 0)
+    if rule == "Toml":
+        yield toml_finding(network)
+        return
+    for words, remedy, way, *place in RULES[rule](network, part, number, item, *match[5].split()):
+        there, path = (way[0], way[1:]) if way and isinstance(way[0], tuple) else (("", 0) if part == "top" else (part, number), way)
+        offset = network.places.offset(*there, *path)
+        if place:
+            offset += place_in_text(network.text, offset, network.part(part, number), way, place[0])
+        line, column = line_and_column(network.text, offset)
+        text = network.text.split("\n")[line - 1]
+        shown = Finding(titled(network, part, number) + words, remedy, network.path, line, text, column if len(path) > 1 or place else None)
+        if place and place[0] and offset == network.places.offset(*there, *path):
+            shown.words += f" (behind `{text_at(network.part(part, number), way)[:place[0]]}`)"
+        if part == "top" and not way:
+            shown.line, shown.text, shown.column = 0, None, None
+        yield shown
+
+
+def text_at(it, way):
+    for step in way:
+        it = it[step]
+    return it
+
+
+def place_in_text(text, offset, it, way, place):
+    """Returns how far a place in an expression is from the offset of its quotes, where it stands in the file as it is."""
+    expression = text_at(it, way)
+    return place + 1 if text.startswith(expression, offset + 1) else 0
+
+
+def titled(network, part, number):
+    it = network.part(part, number)
+    name, kind = it.get("name"), it.get("kind")
+    if part in ("top", "drop"):
+        return ""
+    return f"{part} {number}" + (f", `{name}`" if isinstance(name, str) else "") + (f", {article(kind)}" if kind in KINDS else "") + ": "
+
+
+def toml_finding(network):
+    try:
+        network.bytes.decode()
+    except UnicodeDecodeError as fault:
+        line = network.bytes.count(b"\n", 0, fault.start) + 1
+        return Finding(f"the byte {network.bytes[fault.start]:02X} is no UTF-8", "A file of another code is mended by: iconv -f LATIN1 -t UTF-8", network.path, line)
+    if not network.fault:
+        wide = re.search(r"\b[0-9][0-9_]{18,}\b", network.text)
+        line, column = line_and_column(network.text, wide.start()) if wide else (0, None)
+        text = network.text.split("\n")[line - 1] if wide else None
+        return Finding("a number has more than 64 bits" if wide else "this is no TOML document", "", network.path, line, text, column)
+    place = re.search(r" \(at (?:line (\d+), column (\d+)|(end of document))\)", network.fault)
+    lines = network.text.rstrip("\n").split("\n")
+    line = int(place[1]) if place and place[1] else len(lines)
+    column = min(int(place[2]) - 1, len(lines[line - 1])) if place and place[2] else None
+    for pattern, words, remedy in TOML_FAULTS:
+        if re.search(pattern, network.fault):
+            return Finding(f"this is no TOML: {words}", remedy, network.path, line, lines[line - 1], column)
+    return Finding(f"this is no TOML: {network.fault}", "", network.path, line, lines[line - 1], column)
+
+
+def who_names(name, given):
+    """Returns the line of the network file that names a file, and who names it, as far as these are known."""
+    if name in given.nets:
+        return "", 0, None, "the network file "
+    for option, value in given.options.items():
+        if value == name:
+            return "", 0, None, f"the file of `{option}`, "
+    network = Network(given.nets[0])
+    number = next((at for at, source in enumerate(network.sources) if source.get("file") == name), None)
+    if number is None:
+        return "", 0, None, "the file "
+    line = network.places.line(network.places.offset("source", number, "file"))
+    return network.path, line, network.text.split("\n")[line - 1], f"source {number}, `{network.sources[number].get('name')}`: its file "
+
+
+def unread(name, given):
+    path, line, text, who = who_names(name, given)
+    folder = os.path.dirname(name) or "."
+    beside = os.path.join(os.path.dirname(given.nets[0]) if given.nets else "", name)
+    remedy = ""
+    if os.path.isdir(name):
+        words = f"{who}{name} is a folder"
+    elif os.path.exists(name):
+        words = f"{who}{name} can't be opened, or reading it failed"
+        remedy = "May this user read it? `ls -l` tells."
+    elif not os.path.isdir(folder):
+        words = f"{who}{name} isn't there, and neither is its folder {folder}"
+    else:
+        words = f"{who}{name} isn't there" + near(os.path.basename(name), os.listdir(folder))
+    if not os.path.exists(name) and given.nets and name != given.nets[0] and os.path.exists(beside):
+        remedy = f"It lies beside the network file: names are looked for from the folder where the program is run, so go there first: cd {os.path.dirname(given.nets[0])}"
+    elif not os.path.exists(name):
+        remedy = "Names are looked for from the folder where the program is run."
+    return Finding(words, remedy, path, line, text)
+
+
+def too_long(name, given):
+    path, line, text, who = who_names(name, given)
+    limit = 67_108_864 if line else 1_048_576
+    have = f" has {os.path.getsize(name):,} bytes, and" if os.path.isfile(name) else ""
+    remedy = "Cut it into several sources of the same fields and put them together by a Union, or run its parts." if line else ""
+    return Finding(f"{who}{name}{have} may have {limit:,} bytes", remedy, path, line, text)
+
+
+def explained(words, message):
+    """Returns a message and the lines below it."""
+    try:
+        below = [line for found in findings(words, message.rstrip("\n")) for line in found.lines()]
+    except (KeyError, IndexError, TypeError, AttributeError, ValueError, StopIteration, OSError, RecursionError):
+        below = []
+    if not below and message.startswith("aurora: "):
+        below = ["  nothing more is found out: the manual's parts 9 to 11 have this message"]
+    return "\n".join([message.rstrip("\n"), *below]) + "\n"

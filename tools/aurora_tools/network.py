@@ -1,0 +1,227 @@
+"""A network file as the tools see it: its tables, its streams with their fields, its arcs and its drop points."""
+import dataclasses
+import functools
+import math
+import re
+import tomllib
+
+from . import expression
+from .places import Places
+
+WORDS = ("and", "or", "not", "is", "null", "true", "false", "time")
+NAME = re.compile(r"[a-z][a-z0-9_]{0,31}")
+FUNCTIONS = ("count", "sum", "avg", "min", "max", "first", "last")
+FIELD_KINDS = ("int", "bool", "text")
+KINDS = {
+    "filter": ("where",),
+    "map": ("set",),
+    "union": (),
+    "bsort": ("by", "slack"),
+    "aggregate": ("size", "advance", "give"),
+    "join": ("size", "on"),
+    "resample": ("size", "give"),
+}
+MAY = {"aggregate": ("group", "phase")}
+REQUIRED = {"top": ("version", "source", "output"), "source": ("name", "file", "fields"), "box": ("name", "kind", "in"), "output": ("name", "from")}
+OPTIONAL = {"top": ("epoch", "batch", "box"), "source": (), "box": ("cost", "selectivity"), "output": ("weight", "graph")}
+MOST_TICKS_OF_A_BATCH = 1 << 34
+MOST_BATCHES_OF_A_REACH = 4096
+
+
+class Unreadable(Exception):
+    """A network file that can't be read at all, or is no network that the program accepts."""
+
+
+@dataclasses.dataclass
+class Drop:
+    """A drop point: its stream, its own arcs, what is below it, the ticks of a batch, and how far back its Aggregates reach."""
+    stream: str
+    arcs: frozenset
+    boxes: list
+    outputs: list
+    length: int
+    reach: int
+
+
+def is_name(text):
+    return bool(NAME.fullmatch(text)) and text not in WORDS
+
+
+def keys_of(kind):
+    """Returns the keys that a box of a kind must have, and those that it may have."""
+    return REQUIRED["box"] + KINDS[kind], OPTIONAL["box"] + MAY.get(kind, ())
+
+
+def ports(box):
+    """Returns the names of a box's streams."""
+    if box["kind"] == "filter":
+        return [f"{box['name']}.{port + 1}" for port in range(len(box["where"]) + 1)]
+    return [box["name"]]
+
+
+class Network:
+    """A network file. What goes beyond its tables holds for a file that the program accepts, or has accepted as far as it is asked."""
+
+    def __init__(self, path):
+        self.path = path
+        with open(path, "rb") as file:
+            self.bytes = file.read()
+        self.text = self.bytes.decode("utf-8-sig", errors="replace").replace("\r\n", "\n")
+        self.places = Places(self.text)
+        self.table, self.fault, self.known_fields = {}, None, {}
+        try:
+            self.table = tomllib.loads(self.text)
+        except (tomllib.TOMLDecodeError, RecursionError) as fault:
+            self.fault = str(fault)
+
+    def tables(self, part):
+        """Returns the tables of a part, where it is an array of tables."""
+        found = self.table.get(part, [])
+        return found if isinstance(found, list) and all(isinstance(it, dict) for it in found) else []
+
+    def part(self, part, number):
+        tables = [self.table] if part == "top" else self.tables(part)
+        return tables[number] if number < len(tables) else {}
+
+    @property
+    def sources(self):
+        return self.tables("source")
+
+    @property
+    def boxes(self):
+        return self.tables("box")
+
+    @property
+    def outputs(self):
+        return self.tables("output")
+
+    @property
+    def epoch(self):
+        return self.table.get("epoch", 1000)
+
+    @functools.cached_property
+    def givers(self):
+        """The number of the box that gives a stream, None for a source, by the stream's name and in the order of streams."""
+        found = {source["name"]: None for source in self.sources}
+        for number, box in enumerate(self.boxes):
+            found.update(dict.fromkeys(ports(box), number))
+        return found
+
+    @functools.cached_property
+    def arcs(self):
+        """Each arc in its order: its stream, and ("box", number) or ("output", number) that takes it."""
+        into_boxes = [(stream, ("box", number)) for number, box in enumerate(self.boxes) for stream in box["in"]]
+        return into_boxes + [(output["from"], ("output", number)) for number, output in enumerate(self.outputs)]
+
+    def fields(self, stream):
+        """Returns the fields of a stream with their kinds; a kind that isn't known is None."""
+        if stream not in self.known_fields:
+            giver = self.givers[stream]
+            if giver is None:
+                source = next(it for it in self.sources if it["name"] == stream)
+                self.known_fields[stream] = dict(field.split(":") for field in source["fields"])
+            else:
+                box = self.boxes[giver]
+                self.known_fields[stream] = given_fields(box, [self.fields(name) for name in box["in"]])
+        return self.known_fields[stream]
+
+    def taken_fields(self, box):
+        """Returns the fields that the expressions of a box may name, with their kinds."""
+        taken = [self.fields(stream) for stream in box["in"]]
+        return paired(*taken) if box["kind"] == "join" else taken[1 if box["kind"] == "resample" else 0]
+
+    @functools.cached_property
+    def drops(self):
+        """The drop points, by their numbers."""
+        places = []
+        for stream in self.givers:
+            own = [arc for arc, (name, _) in enumerate(self.arcs) if name == stream]
+            places += [(stream, own)] if own else []
+            places += [(stream, [arc]) for arc in own] if len(own) > 1 else []
+        found = [drop for drop in (self.candidate(stream, own) for stream, own in places) if drop]
+        return [it for it in found if not any(it.arcs != other.arcs and it.arcs <= self.below(other.arcs) for other in found)]
+
+    def below(self, own):
+        """Returns the arcs that are reached from these, and themselves."""
+        reached, waiting = set(own), list(own)
+        while waiting:
+            taker, number = self.arcs[waiting.pop()][1]
+            if taker == "box":
+                more = {arc for arc, (stream, _) in enumerate(self.arcs) if self.givers[stream] == number} - reached
+                reached |= more
+                waiting += more
+        return reached
+
+    def candidate(self, stream, own):
+        """Returns the drop that may stand at these arcs of a stream, or None."""
+        reached = self.below(own)
+        boxes = sorted({number for kind, number in (self.arcs[arc][1] for arc in reached) if kind == "box"})
+        outputs = sorted(self.arcs[arc][1][1] for arc in reached if self.arcs[arc][1][0] == "output")
+        inputs = {arc for arc, (_, (kind, number)) in enumerate(self.arcs) if kind == "box" and number in boxes}
+        if not outputs or not inputs <= reached or any(self.boxes[it]["kind"] not in ("filter", "map", "union", "aggregate") for it in boxes):
+            return None
+        ends = [arc for arc in reached if self.arcs[arc][1][0] == "output"]
+        known = {}
+        for arc in reached:
+            self.ways(arc, frozenset(own), known)
+        last = set().union(*(known[arc][0] for arc in ends))
+        if None in last:
+            return None
+        length = self.table.get("batch", 1) * math.lcm(*(self.boxes[it]["advance"] for it in last))
+        reach = max(known[arc][1] for arc in reached)
+        return Drop(stream, frozenset(own), boxes, outputs, length, reach)
+
+    def ways(self, arc, own, known):
+        """Notes of an arc the last Aggregates on the ways to it from a place, None for a way without one, and how far back they reach."""
+        if arc in own:
+            known[arc] = ({None}, 0)
+        if arc in known:
+            return known
+        number = self.givers[self.arcs[arc][0]]
+        last, reach = set(), 0
+        for into, (_, taker) in enumerate(self.arcs):
+            if taker == ("box", number):
+                self.ways(into, own, known)
+                last, reach = last | known[into][0], max(reach, known[into][1])
+        box = self.boxes[number]
+        known[arc] = ({number}, reach + box["size"] - 1) if box["kind"] == "aggregate" else (last, reach)
+        return known
+
+
+def paired(left, right):
+    return {f"l_{name}": kind for name, kind in left.items()} | {f"r_{name}": kind for name, kind in right.items()}
+
+
+def given_fields(box, taken):
+    """Returns the fields of a box's streams from those that it takes."""
+    kind = box["kind"]
+    if kind == "map":
+        return {name: expression.checked(text, taken[0])[0] for name, text in box["set"]}
+    if kind == "aggregate":
+        return {name: taken[0].get(name) for name in box.get("group", [])} | answers(box["give"], taken[0])
+    if kind == "resample":
+        return {f"l_{name}": of for name, of in taken[0].items()} | answers(box["give"], taken[1])
+    return paired(*taken) if kind == "join" else taken[0]
+
+
+def answers(give, fields):
+    """Returns the names of an Aggregate's functions and the kinds of their answers."""
+    return {name: "int" if function in ("count", "sum", "avg") else fields.get(field[0]) for name, function, *field in give}
+
+
+def read(path):
+    """Reads the network file of a run; raises Unreadable where it is none that the program accepts, as far as is seen here."""
+    try:
+        network = Network(path)
+        if network.fault:
+            raise Unreadable(f"{path}: {network.fault}")
+        for stream in network.givers:
+            network.fields(stream)
+        _ = network.drops
+        if not network.outputs or any(stream not in network.givers for stream, _ in network.arcs):
+            raise Unreadable(f"{path} has an output or box that takes no stream of it")
+        return network
+    except (KeyError, IndexError, TypeError, ValueError, StopIteration, RecursionError) as fault:
+        raise Unreadable(f"{path} is no network that aurora runs (`aurora run {path}` says why)") from fault
+    except OSError as fault:
+        raise Unreadable(f"{path}: {fault.strerror}") from fault

@@ -1,0 +1,66 @@
+"""Where in the text of a TOML document its tables, its keys and the entries of its lists stand."""
+import re
+
+TOKEN = re.compile(
+    r'(?P<text>"""(?:\\.|[^\\])*?"""|\'\'\'.*?\'\'\'|"(?:\\.|[^"\\\n])*"|\'[^\'\n]*\')'
+    r"|(?P<comment>#[^\n]*)|(?P<open>[\[{])|(?P<close>[\]}])|(?P<comma>,)|(?P<newline>\n)|(?P<blank>[^\S\n]+)|(?P<word>[^\s,\[\]{}#\"']+|.)",
+    re.DOTALL)
+HEADER = re.compile(r"\[\[?[ \t]*([^\[\]\n]*?)[ \t]*\]\]?")
+KEY = re.compile(r"([A-Za-z0-9_-]+|\"[^\"\n]*\"|'[^'\n]*')[ \t]*=")
+
+
+class Places:
+    """The offsets of a document's parts. A part is a table's name and its number among those of that name; the top's name is empty."""
+
+    def __init__(self, text):
+        self.text, self.tables, self.keys, counts, part = text, {("", 0): 0}, {}, {}, ("", 0)
+        at = 0
+        while at < len(text):
+            header, key = HEADER.match(text, at), KEY.match(text, at)
+            if header:
+                name = header[1].strip("\"'")
+                part = (name, counts.get(name, 0))
+                counts[name] = part[1] + 1
+                self.tables[part] = at
+                at = header.end()
+            elif key:
+                self.keys[part, key[1].strip("\"'")] = at
+                at = self.value(key.end(), (part, key[1].strip("\"'")))
+            else:
+                found = TOKEN.match(text, at)
+                at = found.end()
+
+    def value(self, at, key):
+        """Notes where a value's entries stand, those in lists of lists too, and returns where it ends."""
+        path = []
+        while at < len(self.text):
+            found = TOKEN.match(self.text, at)
+            kind = found.lastgroup
+            if kind in ("text", "open", "word"):
+                self.keys.setdefault((*key, *path), at)
+            if kind == "newline" and not path:
+                break
+            if kind == "open":
+                path.append(0)
+            elif kind == "close" and path:
+                path.pop()
+            elif kind == "comma" and path:
+                path[-1] += 1
+            at = found.end()
+        return at
+
+    def offset(self, name, number, *path):
+        """Returns the offset of a table, of a key in it or of an entry of its list; of what is round it where it isn't found."""
+        while path:
+            if ((name, number), *path) in self.keys:
+                return self.keys[(name, number), *path]
+            path = path[:-1]
+        return self.tables.get((name, number), self.keys.get((("", 0), name, number), self.keys.get((("", 0), name), 0)))
+
+    def line(self, offset):
+        return line_and_column(self.text, offset)[0]
+
+
+def line_and_column(text, offset):
+    """Returns the line, from 1, and the column, from 0, of an offset."""
+    return text.count("\n", 0, offset) + 1, offset - (text.rfind("\n", 0, offset) + 1)
