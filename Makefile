@@ -65,7 +65,8 @@ uninstall:
 	rm -rf $(library) $(documents)
 
 deb: $(PROGRAM)
-	tools/package "$(PROGRAM)" "$(version)" "$(architecture)"
+	mkdir -p out
+	tools/package "$(PROGRAM)" "$(version)" "$(architecture)" "out/aurora_$(version)_$(architecture).deb"
 
 clean:
 	rm -rf out

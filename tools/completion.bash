@@ -10,7 +10,14 @@ _aurora_options()
 
 _aurora()
 {
-    local word=${COMP_WORDS[COMP_CWORD]} before=${COMP_WORDS[COMP_CWORD - 1]}
+    local at=$((COMP_CWORD - 1)) word=${COMP_WORDS[COMP_CWORD]}
+    # bash cuts `--name=value` at the sign, which is a word of its own.
+    if [ "$word" = = ]; then
+        word=
+    elif [ "${COMP_WORDS[at]}" = = ]; then
+        at=$((at - 1))
+    fi
+    local before=${COMP_WORDS[at]}
     COMPREPLY=()
     if [ "$COMP_CWORD" = 1 ]; then
         mapfile -t COMPREPLY < <(compgen -W "run gen" -- "$word")

@@ -1,0 +1,30 @@
+#!/usr/bin/env bash
+# Completion offers commands, options that aren't given yet, values of options, and networks.
+cd "$(dirname "${BASH_SOURCE[0]}")/../.." || exit 1
+source tools/completion.bash
+cd examples/overload || exit 1
+failed=0
+
+# offers WANTED WORD..: the last word is to be completed.
+offers() {
+    local wanted=$1
+    COMP_WORDS=("${@:2}") COMP_CWORD=$(($# - 2))
+    _aurora
+    if [ "${COMPREPLY[*]}" != "$wanted" ]; then
+        echo "${COMP_WORDS[*]}: '${COMPREPLY[*]}' for '$wanted'"
+        failed=1
+    fi
+}
+
+offers "run gen" aurora ""
+offers "run" aurora r
+offers "front.toml" aurora run ""
+offers "--capacities --policy --seed --picks --train --frames" aurora run front.toml --
+offers "" aurora run front.toml --seed 3 --se
+offers "--policy --picks" aurora run front.toml --seed = 3 --p
+offers "rr long seeded" aurora run front.toml --policy ""
+offers "rr long seeded" aurora run front.toml --policy =
+offers "long" aurora run front.toml --policy = l
+offers "capacity.csv" aurora run front.toml --capacities cap
+offers "" aurora gen ""
+exit $failed

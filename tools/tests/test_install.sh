@@ -1,0 +1,31 @@
+#!/usr/bin/env bash
+# What `make install` puts down runs from there, `make uninstall` takes all of it away, and the package holds the same.
+program=$1
+cd "$(dirname "${BASH_SOURCE[0]}")/../.." || exit 1
+room=$(mktemp -d)
+trap 'rm -rf "$room"' EXIT
+missing() { echo "skipped: $1 isn't installed"; }
+
+fail() {
+    echo "$1"
+    exit 1
+}
+
+command -v make >/dev/null || { missing make; exit 0; }
+make -s install PROGRAM="$program" PREFIX="$room/there" >/dev/null || fail "make install failed"
+PATH=$room/there/bin:$PATH
+(cd "$room/there/share/doc/aurora/examples/desk" && aurora run desk.toml >"$room/text" && aurora-output --csv - --output averages desk.toml "$room/text") |
+    diff - <(echo time,symbol,trades,average; grep ^averages examples/desk/expected.txt | cut -d, -f2-) || fail "the installed program or tool doesn't answer"
+for tool in plan stream output; do
+    "aurora-$tool" --help | grep -q "tools/$tool" || fail "aurora-$tool isn't installed"
+done
+[ "$(gzip -dc "$room/there/share/man/man1/aurora.1.gz")" = "$(cat docs/aurora.1)" ] || fail "the manual page isn't installed"
+make -s uninstall PREFIX="$room/there" || fail "make uninstall failed"
+[ -z "$(find "$room/there" -type f -o -type l)" ] || fail "something is left: $(find "$room/there" -type f -o -type l)"
+
+command -v dpkg-deb >/dev/null || { missing dpkg-deb; exit 0; }
+tools/package "$program" 0.1 amd64 "$room/aurora.deb" >/dev/null || fail "no package was made"
+dpkg-deb -x "$room/aurora.deb" "$room/root" || fail "the package can't be opened"
+[ "$(dpkg-deb -f "$room/aurora.deb" Version)" = 0.1 ] || fail "the package has another version"
+(cd examples/first && "$room/root/usr/bin/aurora" run alarm.toml) | diff - examples/first/expected.txt || fail "the packaged program doesn't run"
+[ -x "$room/root/usr/bin/aurora-plan" ] && [ -f "$room/root/usr/share/man/man1/aurora.1.gz" ] || fail "the package isn't whole"

@@ -1,0 +1,83 @@
+#!/usr/bin/env python3
+"""What a run wrote becomes tables with the values of its lines; what isn't whole or isn't of the network becomes nothing."""
+import csv
+import json
+import os
+import sqlite3
+import subprocess
+import sys
+import tempfile
+import unittest
+
+TOP = os.path.dirname(os.path.dirname(os.path.dirname(os.path.abspath(__file__))))
+BOXES = f"{TOP}/examples/boxes"
+
+
+class Outputs(unittest.TestCase):
+    def setUp(self):
+        room = tempfile.TemporaryDirectory()
+        self.addCleanup(room.cleanup)
+        self.room = room.name
+
+    def made(self, form, where, network, text, *words):
+        return subprocess.run([f"{TOP}/tools/output", f"--{form}", where, *words, network, text], capture_output=True, text=True)
+
+    def test_a_table_an_output_with_headings(self):
+        self.assertEqual(self.made("csv", f"{self.room}/a", f"{TOP}/examples/desk/desk.toml", f"{TOP}/examples/desk/expected.txt").returncode, 0)
+        with open(f"{self.room}/a/lost.csv", encoding="utf-8") as table:
+            self.assertEqual(table.read(), "time,symbol,price,loss\n34201,ABC,1049,1\n34207,XYZ,24990,5\n34230,ABC,1046,2\n34263,ABC,1052,2\n")
+        self.assertEqual(sorted(os.listdir(f"{self.room}/a")), ["averages.csv", "lost.csv"])
+
+    def test_values_have_their_kinds_in_json(self):
+        ran = self.made("jsonl", "-", f"{BOXES}/values.toml", f"{BOXES}/values.txt", "--output", "values")
+        self.assertEqual(json.loads(ran.stdout.splitlines()[3]), {"time": 4, "sum": None, "quotient": 9223372036854775807, "rest": 0, "less": False,
+                                                                  "both": None, "either": None, "none": False})
+        ran = self.made("jsonl", "-", f"{BOXES}/text.toml", f"{BOXES}/text.txt", "--output", "named")
+        self.assertEqual([json.loads(line) for line in ran.stdout.splitlines()],
+                         [{"time": 2, "words": "one, two", "number": 2}, {"time": 3, "words": 'he said "no"', "number": None}])
+
+    def test_quotes_are_those_of_csv(self):
+        ran = self.made("csv", "-", f"{BOXES}/text.toml", f"{BOXES}/text.txt", "--output", "named")
+        self.assertEqual(list(csv.reader(ran.stdout.splitlines())), [["time", "words", "number"], ["2", "one, two", "2"], ["3", 'he said "no"', ""]])
+
+    def test_tables_of_a_database(self):
+        self.assertEqual(self.made("sqlite", f"{self.room}/db", f"{BOXES}/aggregate.toml", f"{BOXES}/aggregate.txt").returncode, 0)
+        with sqlite3.connect(f"{self.room}/db") as database:
+            found = database.execute("SELECT time, unit, total, ended FROM windows WHERE ended").fetchall()
+        self.assertEqual(found, [(0, "a", 25, 1)])
+        again = self.made("sqlite", f"{self.room}/db", f"{BOXES}/aggregate.toml", f"{BOXES}/aggregate.txt")
+        self.assertEqual(again.returncode, 1)
+        self.assertIn("already exists", again.stderr)
+
+    def refused(self, why, network, text):
+        with open(f"{self.room}/text", "w", encoding="utf-8") as file:
+            file.write(text)
+        ran = self.made("csv", f"{self.room}/b", network, f"{self.room}/text")
+        self.assertEqual((ran.returncode, ran.stdout), (1, ""))
+        self.assertIn(why, ran.stderr)
+        self.assertFalse(os.path.exists(f"{self.room}/b"))
+
+    def test_a_text_without_its_end_becomes_nothing(self):
+        self.refused("no @end", f"{TOP}/examples/first/alarm.toml", "alarm,120,80\nalarm,240,93\n@box,hot,6\n")
+        self.refused("no @end", f"{TOP}/examples/first/alarm.toml", "")
+
+    def test_lines_of_another_network_become_nothing(self):
+        self.refused("line 1 of the text", f"{TOP}/examples/first/alarm.toml", "other,120,80\n@end\n")
+        self.refused("line 2 of the text", f"{TOP}/examples/first/alarm.toml", "alarm,1,2\nalarm,120,80,1\n@end\n")
+
+    def test_a_file_that_is_there_stays(self):
+        os.mkdir(f"{self.room}/c")
+        with open(f"{self.room}/c/alarm.csv", "w", encoding="utf-8") as file:
+            file.write("mine")
+        ran = self.made("csv", f"{self.room}/c", f"{TOP}/examples/first/alarm.toml", f"{TOP}/examples/first/expected.txt")
+        self.assertIn("is there already", ran.stderr)
+        with open(f"{self.room}/c/alarm.csv", encoding="utf-8") as file:
+            self.assertEqual(file.read(), "mine")
+
+    def test_dropped_batches_are_counted(self):
+        ran = self.made("csv", f"{self.room}/d", f"{TOP}/examples/overload/front.toml", f"{TOP}/examples/overload/expected.txt")
+        self.assertIn("7 batches of windows were left out", ran.stderr)
+
+
+if __name__ == "__main__":
+    unittest.main(argv=sys.argv[:1])
