@@ -216,7 +216,9 @@ def mistyped(box, item, fields, have):
     text, way = expressions(box)[item]
     kind, misfits = expression.checked(text, fields)
     for misfit in misfits:
-        yield misfit.words + (near(misfit.field, fields) if misfit.field else ""), have, way, misfit.at
+        sides = [side for side in (f"l_{misfit.field}", f"r_{misfit.field}") if side in fields]
+        guess = f" (is {listed([f'`{side}`' for side in sides], 'or')} meant?)" if sides else near(misfit.field, fields) if misfit.field else ""
+        yield misfit.words + guess, have, way, misfit.at
     if not misfits and box["kind"] == "map":
         yield "the bare `null` has no kind", "Leave the field out, or compute a Null of a kind: `0 / 0` is a number.", way, 0
     elif not misfits:

@@ -5,7 +5,7 @@ import re
 from . import line_rules, meaning_rules, shape_rules
 from .finding import Finding, article, near
 from .network import KINDS, Network
-from .places import line_and_column
+from .places import VALUE, line_and_column
 from .run_words import Words
 
 RULES = {
@@ -18,6 +18,7 @@ TOML_FAULTS = (
     (r"Invalid value", "no value begins here", "Texts stand in double quotes, lists in square brackets, true and false are in small letters."),
     (r"Cannot overwrite a value", "this key stands twice in its table", "Each table has a key once: is a line with [[box]] missing before it?"),
     (r"Cannot declare|Cannot mutate|namespace", "this table can't stand here", "Each source, box and output has a heading with double brackets: [[source]], [[box]], [[output]]."),
+    (r"Expected '\]", "a heading isn't closed", "A table of an array has double brackets on both sides, as [[box]]."),
     (r"Expected '='", "a key is followed by =", ""),
     (r"Unclosed array", "a list isn't closed", "It ends with a square bracket; between its entries stand commas."),
     (r"Expected newline or end of document", "something stands behind the end of a value", "Each key has a line of its own; a text in a list stands in quotes."),
@@ -64,13 +65,12 @@ def of_network(network, match):
         return
     for words, remedy, way, *place in RULES[rule](network, part, number, item, *match[5].split()):
         there, path = (way[0], way[1:]) if way and isinstance(way[0], tuple) else (("", 0) if part == "top" else (part, number), way)
-        offset = network.places.offset(*there, *path)
-        if place:
-            offset += place_in_text(network.text, offset, network.part(part, number), way, place[0])
+        start = network.places.offset(*there, *path, *([VALUE] if place else []))
+        offset = start + (place_in_text(network.text, start, network.part(part, number), way, place[0]) if place else 0)
         line, column = line_and_column(network.text, offset)
         text = network.text.split("\n")[line - 1]
         shown = Finding(titled(network, part, number) + words, remedy, network.path, line, text, column if len(path) > 1 or place else None)
-        if place and place[0] and offset == network.places.offset(*there, *path):
+        if place and place[0] and offset == start:
             shown.words += f" (behind `{text_at(network.part(part, number), way)[:place[0]]}`)"
         if part == "top" and not way:
             shown.line, shown.text, shown.column = 0, None, None
@@ -114,8 +114,20 @@ def toml_finding(network):
     column = min(int(place[2]) - 1, len(lines[line - 1])) if place and place[2] else None
     for pattern, words, remedy in TOML_FAULTS:
         if re.search(pattern, network.fault):
+            words += stood_before(lines, line) if "twice" in words else ""
             return Finding(f"this is no TOML: {words}", remedy, network.path, line, lines[line - 1], column)
     return Finding(f"this is no TOML: {network.fault}", "", network.path, line, lines[line - 1], column)
+
+
+def stood_before(lines, line):
+    """Returns where the key of a line stood before in its table."""
+    key = lines[line - 1].partition("=")[0].strip()
+    for at in range(line - 1, 0, -1):
+        if re.match(r"\s*\[+\s*\w+\s*\]", lines[at - 1]):
+            break
+        if lines[at - 1].partition("=")[0].strip() == key:
+            return f", first in line {at}"
+    return ""
 
 
 def who_names(name, given):

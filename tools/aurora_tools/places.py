@@ -7,6 +7,7 @@ TOKEN = re.compile(
     re.DOTALL)
 HEADER = re.compile(r"\[\[?[ \t]*([^\[\]\n]*?)[ \t]*\]\]?")
 KEY = re.compile(r"([A-Za-z0-9_-]+|\"[^\"\n]*\"|'[^'\n]*')[ \t]*=")
+VALUE = "="
 
 
 class Places:
@@ -37,7 +38,7 @@ class Places:
             found = TOKEN.match(self.text, at)
             kind = found.lastgroup
             if kind in ("text", "open", "word"):
-                self.keys.setdefault((*key, *path), at)
+                self.keys.setdefault((*key, *(path or [VALUE])), at)
             if kind == "newline" and not path:
                 break
             if kind == "open":
@@ -50,7 +51,7 @@ class Places:
         return at
 
     def offset(self, name, number, *path):
-        """Returns the offset of a table, of a key in it or of an entry of its list; of what is round it where it isn't found."""
+        """Returns the offset of a table, of a key in it, of its value or of an entry of its list; of what is round it where it isn't found."""
         while path:
             if ((name, number), *path) in self.keys:
                 return self.keys[(name, number), *path]

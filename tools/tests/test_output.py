@@ -5,7 +5,6 @@ import json
 import os
 import sqlite3
 import subprocess
-import sys
 import tempfile
 import unittest
 
@@ -77,7 +76,3 @@ class Outputs(unittest.TestCase):
     def test_dropped_batches_are_counted(self):
         ran = self.made("csv", f"{self.room}/d", f"{TOP}/examples/overload/front.toml", f"{TOP}/examples/overload/expected.txt")
         self.assertIn("7 batches of windows were left out", ran.stderr)
-
-
-if __name__ == "__main__":
-    unittest.main(argv=sys.argv[:1])

@@ -3,12 +3,11 @@
 import os
 import shutil
 import subprocess
-import sys
 import tempfile
 import unittest
 
 TOP = os.path.dirname(os.path.dirname(os.path.dirname(os.path.abspath(__file__))))
-PROGRAM = os.path.abspath(sys.argv[1])
+PROGRAM = os.environ["AURORA"]
 
 # The load of an hour of 3600 trades is 3600 + 4 * 3600 + 1198.8, in millions; below the drop lie 15598.8, so a step saves 779.94.
 HOURS = """
@@ -116,7 +115,3 @@ class Plans(unittest.TestCase):
         self.overload()
         self.write("text", "up,0,a,5\n")
         self.assertIn("no @end", self.planned("front.toml", "capacity.csv", "text").stderr)
-
-
-if __name__ == "__main__":
-    unittest.main(argv=sys.argv[:1])

@@ -2,7 +2,6 @@
 """Tables become the streams that are expected of them, and what can't be written exactly is refused by its line."""
 import os
 import subprocess
-import sys
 import tempfile
 import unittest
 
@@ -95,7 +94,3 @@ class Streams(unittest.TestCase):
         self.refused("is no name of a field", "t,And\n1,1\n", "--time", "t")
         self.refused("--field w:int", "t,v\n1,1\n", "--time", "t", "--field", "w:int")
         self.refused("a list or an object is no field", '{"t": 1, "v": [2]}\n', "--time", "t", name="t.jsonl")
-
-
-if __name__ == "__main__":
-    unittest.main(argv=sys.argv[:1])

@@ -1,0 +1,251 @@
+"""Mistakes in the files of a run: the program refuses each, and the tool names the line of the mistake and says what is wrong there."""
+import os
+import re
+import subprocess
+import tempfile
+import unittest
+
+from aurora_tools.messages import explained
+
+PROGRAM = os.environ["AURORA"]
+HERE = os.path.dirname(os.path.abspath(__file__))
+STREAM = "1,a,12,true\n2,b,7,\n3,a,,false\n"
+
+# What is put in place of what in plant.toml; the program's message; a word of the line that is told, empty where none is; what is said.
+NETWORKS = [
+    ('"count"],', '"count"]]', "Toml", "mean", "no TOML"),
+    ('name = "sort"', 'name = sort', "Toml", "name = sort", "no value begins here"),
+    ('name = "sort"', 'name = "sort', "Toml", 'name = "sort', "isn't closed"),
+    ('slack = 4', 'slack = 4\nslack = 5', "Toml", "slack = 5", "stands twice"),
+    ('slack = 4', 'slack = 99999999999999999999', "Toml", "slack", "64 bits"),
+    ("version = 2", "version = 4", "Version", "version", "is 4"),
+    ("version = 2", 'version = "1"', "Version", "version", "without quotes"),
+    ("version = 2\n", "", "Version", "", "no `version`"),
+    ("version = 2", "version = 1", "Shape box 2 0", "phase", "version 1"),
+    ("epoch = 20", "epcoh = 20", "Shape top 0 0", "epcoh", "`epoch` meant"),
+    ("epoch = 20", "epoch = 2.5", "Shape top 0 0", "epoch", "whole number"),
+    ("[[source]]\nname = \"readings\"", "[source]\nname = \"readings\"", "Toml", "[[source]]", ""),
+    ('file = "readings.csv"\n', "", "Shape source 0 0", "[[source]]", "`file` is missing"),
+    ('fields = ["unit:text", "value:int", "good:bool"]', 'fields = "unit:text"', "Shape source 0 0", "fields", "square brackets"),
+    ('kind = "filter"', 'kind = "filtre"', "Shape box 0 0", "kind", "`filter` meant"),
+    ('kind = "filter"', 'kind = 3', "Shape box 0 0", "kind", ""),
+    ("where = [", "were = [", "Shape box 0 0", "were", "`where` meant"),
+    ("cost = 2", 'cost = "2"', "Shape box 0 0", "cost", "whole number"),
+    ("cost = 2", "costs = 2", "Shape box 0 0", "costs", "`cost` meant"),
+    ("selectivity = [300, 300, 400]", "selectivity = [300, 400]", "Shape box 0 0", "selectivity", "3 streams"),
+    ("selectivity = [300, 300, 400]", "selectivity = [300, 300, 0.4]", "Shape box 0 0", "selectivity", "entry 2"),
+    ('["unit", "unit"],', '["unit"],', "Shape box 1 0", '["unit"]', "expression"),
+    ('["tuples", "count"]', '["tuples", "count", "tenths"]', "Shape box 2 0", "tuples", "takes no field"),
+    ('["mean", "avg", "tenths"]', '["mean", "mean", "tenths"]', "Shape box 2 0", "mean", "no function `mean`"),
+    ('["mean", "avg", "tenths"]', '["mean", "avg"]', "Shape box 2 0", "mean", "one field"),
+    ("slack = 4\n", "", "Shape box 4 0", "[[box]]", "`slack` is missing"),
+    ("[500, 900000]", "[500]", "Shape output 0 0", "graph", "two whole numbers"),
+    ("weight = 2", "wait = 2", "Shape output 0 0", "wait", "`weight` meant"),
+    ("epoch = 20", "epoch = 0", "Limit top 0 0", "epoch", "must be 1 to"),
+    ("batch = 2", "batch = 1000001", "Limit top 0 0", "batch", "1,000,001"),
+    ('in = ["scaled"]', 'in = ["scaled", "scaled"]', "Limit box 2 0", "in =", "2 streams"),
+    ('in = ["sort.2", "others"]', 'in = ["others"]', "Limit box 5 0", "in =", "must have 2"),
+    ("cost = 2", "cost = 1001", "Limit box 0 0", "cost", "1,001"),
+    ("slack = 4", "slack = 10001", "Limit box 4 0", "slack", "10,001"),
+    ("size = 3", "size = -1", "Limit box 5 0", "size", "-1"),
+    ("weight = 2", "weight = 1001", "Limit output 0 0", "weight", "1,001"),
+    ('"value >= 10", "unit = \'a\' and good"', '', "Shape box 0 0", "selectivity", "1 stream"),
+    ("400]", "4000000]", "Limit box 0 0", "selectivity", "4,000,000"),
+    ('name = "sort"', 'name = "Sort"', "NoName box 0 0", "Sort", "capital"),
+    ('name = "sort"', 'name = "time"', "NoName box 0 0", "time", "word of the language"),
+    ('name = "pairs"', 'name = "the pairs"', "NoName output 1 0", "the pairs", "blank"),
+    ('name = "pairs"', 'name = "2pairs"', "NoName output 1 0", "2pairs", "begin with"),
+    ('name = "near"', 'name = "both"', "Twice box 5 0", "both", "box 3"),
+    ('name = "others"', 'name = "readings"', "Twice source 1 0", "readings", "source 0"),
+    ('name = "pairs"', 'name = "averages"', "Twice output 1 0", "averages", "output 0"),
+    ('in = ["sort.1"]', 'in = ["sort"]', "Unknown box 1 0", "in =", "sort.1"),
+    ('in = ["sort.1"]', 'in = ["sort.4"]', "Unknown box 1 0", "in =", "sort.3"),
+    ('from = "means"', 'from = "mean"', "Unknown output 0 0", "from", "`means` meant"),
+    ('from = "means"', 'from = "means.1"', "Unknown output 0 0", "from", "only Filters"),
+    ('in = ["sort.2", "others"]', 'in = ["sort.2", "near"]', "Cycle box 5 0", "in =", "own stream"),
+    ('in = ["readings"]\nwhere', 'in = ["scaled"]\nwhere', "Cycle box 0 0", "in =", "sort <- scaled <- sort"),
+    ("advance = 10", "advance = 0", "Window box 2 0", "advance", "1 or more"),
+    ("advance = 10", "advance = 30", "Window box 2 0", "advance", "greater than `size`"),
+    ("size = 20", "size = 40961", "Window box 2 0", "size", "4,096 times"),
+    ("phase = 5", "phase = 10", "Window box 2 0", "phase", "below `advance`"),
+    ("[500, 900000]", "[510, 900000]", "Graph output 0 0 Grid", "graph", "510"),
+    ("[500, 900000]", "[0, 900000]", "Graph output 0 0 Grid", "graph", "isn't greater"),
+    ("[500, 900000]", "[500, 1900000]", "Graph output 0 0 Grid", "graph", "out of 0 to"),
+    (", [1000, 1000000]", "", "Graph output 0 0 Ends", "graph", "ends at [500, 900000]"),
+    ("[1000, 1000000]", "[1000, 1000]", "Graph output 0 0 Falls", "graph", "falls"),
+    ("[500, 900000]", "[500, 1000]", "Graph output 0 0 NotConcave", "graph", "steeply"),
+    ('"value:int", "good:bool"]\n\n[[box]]', '"value:integer", "good:bool"]\n\n[[box]]', "Schema source 1 1", "integer", "`int` meant"),
+    ('"value:int", "good:bool"]\n\n[[box]]', '"value", "good:bool"]\n\n[[box]]', "Schema source 1 1", '"value"', "no kind"),
+    ('"value:int", "good:bool"]\n\n[[box]]', '"value: int", "good:bool"]\n\n[[box]]', "Schema source 1 1", "value: int", "blank"),
+    ('"value:int", "good:bool"]\n\n[[box]]', '"unit:int", "good:bool"]\n\n[[box]]', "Schema source 1 1", "unit:int", "stood before"),
+    ('"value:int", "good:bool"]\n\n[[box]]', '"good:bool"]\n\n[[box]]', "Schema box 3 1", "in =", "`others` has unit:text, good:bool"),
+    ('["unit", "unit"],', '["Unit", "unit"],', "Schema box 1 0", "Unit", "capital"),
+    ('["tenths", "value * 10"]', '["unit", "value * 10"]', "Schema box 1 1", "value * 10", "stood before"),
+    ('["tuples", "count"]', '["unit", "count"]', "Schema box 2 0", "count", "`group`"),
+    ("value >= 10", "value => 10", "Expr box 0 0 7 Expected", "=>", "value must stand"),
+    ("value >= 10", "value == 10", "Expr box 0 0 7 Expected", "==", "stands twice"),
+    ("value >= 10", "value != 10", "Expr box 0 0 6 BadToken", "!=", "`<>`"),
+    ("value >= 10", "Value >= 10", "Expr box 0 0 0 BadToken", "Value", "capital"),
+    ("value >= 10", "value >= 1.5", "Expr box 0 0 10 BadToken", "1.5", "fractions"),
+    ("value >= 10", "value >= 10 or unit = 'a", "Expr box 0 0 22 BadToken", "where", "isn't closed"),
+    ("value >= 10", "unit = ''", "Expr box 0 0 7 EmptyText", "where", "is null"),
+    ("value >= 10", "value > 9223372036854775808", "Expr box 0 0 8 Wide", "where", "9223372036854775807"),
+    ("value >= 10", "(value >= 10", "Expr box 0 0 12 Expected", "where", "1 of its parentheses"),
+    ("value >= 10", "1 < value < 3", "Expr box 0 0 10 Expected", "where", "don't chain"),
+    ("value >= 10", "value is 3", "Expr box 0 0 9 Expected", "where", "is null"),
+    ("value >= 10", "abs(value) > 3", "Expr box 0 0 3 Expected", "where", "no functions"),
+    ("value >= 10", "(" * 65 + "value" + ")" * 65, "Expr box 0 0 64 Depth", "where", "64 may be"),
+    ("value >= 10", "vlaue >= 10", "Typing box 0 0", "vlaue", "`value` meant"),
+    ("value >= 10", "value", "Typing box 0 0", "where", "kind int"),
+    ("value >= 10", "value >= 'a'", "Typing box 0 0", "where", "of the kind text"),
+    ("value >= 10", "value and good", "Typing box 0 0", "where", "for booleans"),
+    ("value >= 10", "unit + 1 > 2", "Typing box 0 0", "where", "for numbers"),
+    ('"value * 10"', '"null"', "Typing box 1 1", "null", "bare `null`"),
+    ('["mean", "avg", "tenths"]', '["mean", "avg", "value"]', "Typing box 2 1", "mean", "no field `value`"),
+    ('["mean", "avg", "tenths"]', '["mean", "sum", "unit"]', "Typing box 2 1", "mean", "kind text"),
+    ('by = "value"', 'by = "unit"', "Typing box 4 0", "by", "kind text"),
+    ('on = "l_unit = r_unit"', 'on = "unit = r_unit"', "Typing box 5 0", "on =", "`l_unit` or `r_unit` meant"),
+    ('group = ["unit"]', 'group = ["units"]', "Group box 2 0", "group", "`unit` meant"),
+    ('group = ["unit"]', 'group = ["unit", "unit"]', "Group box 2 1", "group", "stood before"),
+    ("batch = 2", "batch = 1000000", None, "", ""),
+]
+
+# Lines that follow the stream of `readings`; the program's reason; what is said.
+LINES = [
+    ("4,a,1", "Fields", "3 fields"),
+    ("4;a;1;true", "Fields", "semicolons"),
+    ("4,a,1,true,x", "Fields", "5 fields"),
+    ("x,a,1,true", "Tick", "`x`"),
+    ("1700000000000,a,1,true", "Tick", "Milliseconds"),
+    ("2024-05-01,a,1,true", "Tick", "date"),
+    ("4.5,a,1,true", "Tick", "whole"),
+    (" 4,a,1,true", "Tick", "Blanks"),
+    ("2,a,1,true", "Falls", "line 3, `3`"),
+    ("4,a,1.5,true", "NotInt", "`value`"),
+    ("4,a,NA,true", "NotInt", "left empty"),
+    ('4,a,"1,000",true', "NotInt", "thousands"),
+    ("4,a,9223372036854775808,true", "NotInt", "64 bits"),
+    ("4,a,1,True", "NotBool", "small letters"),
+    ("4,a,1,1", "NotBool", "1 and 0"),
+    ("4," + "a" * 256 + ",1,true", "TextLong", "256 bytes"),
+    ("4,a\rb,1,true", "Cut", "carriage return"),
+]
+
+# Capacity files, and the line and words that are told.
+CAPACITIES = [("1,5\n2\n", 2, "no comma"), ("1,5\n1,6\n", 2, "isn't greater"), ("x,5\n", 1, "the epoch is `x`"), ("1,5\n\n2,none\n", 3, "`none`")]
+PICKS = [("1\n-2\n", 2), ("4294967296\n", 1)]
+
+# Words behind `run`, and what is told of them.
+WORDS = [
+    ([], "none is named"), (["a.toml", "b.toml"], "2 words"), (["a.toml", "--capacity", "c.csv"], "`--capacities` meant"), (["a.toml", "--train", "0"], "1 to 4,096"),
+    (["a.toml", "--seed"], "no value"), (["a.toml", "--seed=1", "--seed=1"], "twice"), (["a.toml", "--picks=p", "--policy=rr"], "exclude"), (["-a"], "two dashes"),
+    (["a.toml", "--policy", "fast"], "rr, long and seeded"),
+]
+
+
+class Mistakes(unittest.TestCase):
+    def setUp(self):
+        self.room = tempfile.TemporaryDirectory()
+        self.before = os.getcwd()
+        os.chdir(self.room.name)
+        with open(f"{HERE}/plant.toml", encoding="utf-8") as file:
+            self.network = file.read()
+        self.write("plant.toml", self.network)
+        self.write("readings.csv", STREAM)
+        self.write("others.csv", STREAM)
+
+    def tearDown(self):
+        os.chdir(self.before)
+        self.room.cleanup()
+
+    def write(self, name, text):
+        with open(name, "w", encoding="utf-8", newline="") as file:
+            file.write(text)
+
+    def refused(self, *words):
+        """Returns the program's message and what is said below it."""
+        run = subprocess.run([PROGRAM, "run", *words], capture_output=True, encoding="utf-8")
+        return run.stderr.rstrip("\n"), explained(words, run.stderr).partition("\n")[2]
+
+    def test_the_network_without_a_mistake_runs(self):
+        self.assertEqual(self.refused("plant.toml"), ("", ""))
+
+    def test_networks(self):
+        for old, new, message, place, words in NETWORKS:
+            with self.subTest(new):
+                at = self.network.index(old)
+                changed = self.network[:at] + new + self.network[at + len(old):]
+                self.write("plant.toml", changed)
+                told, below = self.refused("plant.toml")
+                self.assertEqual(told, f"aurora: network: {message}" if message else "")
+                self.assertIn(words, below)
+                self.assertNotIn("nothing more", below)
+                line = re.match(r"  plant\.toml:(\d+): ", below)
+                self.assertEqual(bool(line), bool(place), below)
+                if place:
+                    shown = changed.split("\n")[int(line[1]) - 1]
+                    self.assertIn(place, shown)
+                    table = changed.rfind("\n[[", 0, at) + 1
+                    self.assertGreater(int(line[1]), changed.count("\n", 0, table), "a line of another table")
+
+    def test_lines_of_streams(self):
+        for text, why, words in LINES:
+            with self.subTest(text):
+                self.write("readings.csv", STREAM + text + "\n")
+                told, below = self.refused("plant.toml")
+                self.assertEqual(told, f"aurora: stream readings: line 4: {why}")
+                self.assertRegex(below, r"^  readings\.csv:4: ")
+                self.assertIn(words, below)
+
+    def test_a_line_of_headings(self):
+        self.write("readings.csv", "tick,unit,value,good\n" + STREAM)
+        self.assertIn("sed 1d", self.refused("plant.toml")[1])
+
+    def test_a_byte_that_is_no_text(self):
+        with open("readings.csv", "wb") as file:
+            file.write(b"1,M\xfcller,5,true\n")
+        told, below = self.refused("plant.toml")
+        self.assertEqual(told, "aurora: stream readings: line 1: Utf8")
+        self.assertIn("FC in field 1", below)
+
+    def test_capacities_and_picks(self):
+        for text, line, words in CAPACITIES:
+            with self.subTest(text):
+                self.write("capacities.csv", text)
+                told, below = self.refused("plant.toml", "--capacities", "capacities.csv")
+                self.assertEqual(told, f"aurora: capacities: line {line}")
+                self.assertIn(words, below)
+        for text, line in PICKS:
+            with self.subTest(text):
+                self.write("picks.txt", text)
+                told, below = self.refused("plant.toml", "--picks=picks.txt")
+                self.assertEqual(told, f"aurora: picks: line {line}")
+                self.assertRegex(below, rf"^  picks\.txt:{line}: ")
+
+    def test_words(self):
+        for words, said in WORDS:
+            with self.subTest(words):
+                told, below = self.refused(*words)
+                self.assertEqual(told, "aurora: usage: aurora run NET [options]")
+                self.assertIn(said, below)
+
+    def test_files_that_are_not_there(self):
+        os.remove("others.csv")
+        self.assertIn("plant.toml:12: source 1, `others`: its file others.csv isn't there", self.refused("plant.toml")[1])
+        self.assertIn("is `plant.toml` meant", self.refused("plnt.toml")[1])
+        os.mkdir("below")
+        os.chdir("below")
+        self.assertIn("cd ..", self.refused("../plant.toml")[1])
+        self.assertIn("is a folder", self.refused("..")[1])
+
+    def test_a_drop_that_reaches_too_far(self):
+        more = '[[box]]\nname = "far"\nkind = "aggregate"\nin = ["means"]\nsize = 90000\nadvance = 30\ngive = [["n", "count"]]\n[[output]]\nname = "far"\nfrom = "far"\n'
+        self.write("plant.toml", self.network.replace("batch = 2\n", "") + more.replace("90000", "122880"))
+        told, below = self.refused("plant.toml")
+        self.assertEqual(told, "aurora: network: Limit drop 0 0")
+        self.assertIn("batches of 30 ticks", below)
+        self.assertIn("`batch = 2` or more", below)
+
+
+if __name__ == "__main__":
+    unittest.main()
