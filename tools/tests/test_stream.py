@@ -40,6 +40,13 @@ class Streams(unittest.TestCase):
         self.assertEqual(table[1:5], ["[[source]]", 'name = "made"', 'file = "made.csv"',
                                       'fields = ["price_usd:int", "ok:bool", "code:text", "note:text"]'])
 
+    def test_a_stream_to_standard_output_has_its_table_beside_it(self):
+        with open(f"{self.room}/t.csv", "w", encoding="utf-8") as table:
+            table.write("t,v\n1,2\n")
+        ran = subprocess.run([f"{TOOLS}/stream", "--time", "t", "t.csv", "-"], cwd=self.room, capture_output=True, text=True)
+        self.assertEqual(ran.stdout, "1,2\n")
+        self.assertEqual(ran.stderr, '[[source]]\nname = "t"\nfile = "t.csv"\nfields = ["v:int"]\n')
+
     def test_fields_that_are_named_are_taken_alone(self):
         lines, table = self.made("t;a;b\n1;2,0;N/A\n", "--time", "t", "--separator", ";", "--field", "b=left:int.2", "--missing", "N/A")
         self.assertEqual(lines, ["1,"])
@@ -72,7 +79,7 @@ class Streams(unittest.TestCase):
             self.assertEqual(stream.read(), "5,5,a\n5,3,b\n9,9,c\n9,4,d\n")
 
     def test_what_is_not_exact_is_refused(self):
-        self.refused("line 3, v: 1.25 has more than 1 digits", "t,v\n1,1.5\n2,1.25\n", "--time", "t", "--field", "v:int.1")
+        self.refused("line 3, v: 1.25 has more than 1 decimal", "t,v\n1,1.5\n2,1.25\n", "--time", "t", "--field", "v:int.1")
         self.refused("line 2, v: 9223372036854775808 is out of 64 bits", "t,v\n1,9223372036854775808\n", "--time", "t", "--field", "v:int")
         self.refused("line 2, v: 'NaN' is no number", "t,v\n1,NaN\n", "--time", "t", "--field", "v:int")
         self.refused("line 2, v: 'yes' is no word for true or false", "t,v\n1,yes\n", "--time", "t", "--field", "v:bool")
