@@ -1,0 +1,223 @@
+"""Charts as SVG: panels over one axis of time with grey bands, small multiples, bars."""
+import dataclasses
+import datetime
+import html
+import math
+
+from .series import pieces
+
+COLOURS = ("#0072b2", "#d55e00", "#009e73", "#cc79a7", "#b58900", "#56b4e9", "#6a3d9a", "#333333")
+WIDTH, LEFT, RIGHT, TOP, BOTTOM = 640, 62, 10, 20, 34
+MOST_LINES, MOST_MULTIPLES, MOST_DOTS, MOST_POINTS = 8, 24, 400, 1500
+SECONDS = (1, 2, 5, 10, 15, 30, 60, 120, 300, 600, 900, 1800, 3600, 7200, 10800, 21600, 43200, 86400, 172800, 604800, 2629800, 31557600)
+
+
+@dataclasses.dataclass
+class Axis:
+    """The ticks that all panels show, and whether they are seconds since 1970."""
+    low: int
+    high: int
+    seconds: bool
+
+    def text(self, tick):
+        return moment(tick) if self.seconds else f"{tick:,}"
+
+    def marks(self, most):
+        """Returns where the axis is marked, at most so many times, with a text for each."""
+        span = max(self.high - self.low, 1)
+        if not self.seconds:
+            step = max(1, round_step(span / most))
+            return [(tick, f"{tick:,}") for tick in range(-(-self.low // step) * step, self.high + 1, step)]
+        step = next((it for it in SECONDS if span / it <= most), SECONDS[-1] * max(1, -(-span // (SECONDS[-1] * most))))
+        found, day = [], None
+        for tick in range(-(-self.low // step) * step, self.high + 1, step):
+            date, clock = moment(tick).split(" ")
+            shown = date if step >= 86400 else clock if step % 60 else clock[:5]
+            found.append((tick, shown if date == day or step >= 86400 else f"{shown}\n{date}"))
+            day = date
+        return found
+
+
+def moment(tick):
+    """Returns the time in UTC of a tick that is a second since 1970."""
+    return (datetime.datetime(1970, 1, 1) + datetime.timedelta(seconds=tick)).strftime("%Y-%m-%d %H:%M:%S") if tick < 253402300800 else f"{tick} s"
+
+
+def round_step(step):
+    """Returns the least of 1, 2 and 5 times a power of ten that isn't below a step."""
+    power = 10 ** math.floor(math.log10(step)) if step > 0 else 1
+    found = next(it for it in (1, 2, 5, 10) if it * power >= step * 0.999999) * power
+    return int(found) if found >= 1 else found
+
+
+def worth_marks(low, high, most):
+    """Returns the marks of an axis of values: whole numbers, each with its text."""
+    step = max(1, round_step((high - low) / most if high > low else 1))
+    return [(value, short(value)) for value in range(-(-math.floor(low) // step) * step, math.ceil(high) + 1, step) if low <= value <= high]
+
+
+def short(value):
+    """Returns a number in few letters."""
+    for power, sign in ((18, "E"), (15, "P"), (12, "T"), (9, "G"), (6, "M")):
+        if abs(value) >= 10 ** power:
+            return f"{value / 10 ** power:g}".rstrip() + sign if len(f"{value / 10 ** power:g}") <= 6 else f"{value / 10 ** power:.3g}{sign}"
+    return f"{value:,}"
+
+
+def text(x, y, words, kind="", title=""):
+    kind, title = f' class="{kind}"' if kind else "", f"<title>{html.escape(title)}</title>" if title else ""
+    return f'<text x="{x:.1f}" y="{y:.1f}"{kind}>{title}{html.escape(words)}</text>'
+
+
+def picture(height, inside, words):
+    return f'<div class="wide"><svg viewBox="0 0 {WIDTH} {height}" role="img" aria-label="{html.escape(words)}">{inside}</svg></div>'
+
+
+def legend(entries):
+    """Returns colours with their names, as HTML that wraps."""
+    return '<p class="legend">' + "".join(f'<span><i style="background:{colour}"></i>{html.escape(name)}</span> ' for name, colour in entries) + "</p>" if entries else ""
+
+
+def note(words):
+    return f'<p class="note">{html.escape(words)}</p>'
+
+
+@dataclasses.dataclass
+class Frame:
+    """Where a panel's ticks and values stand in its picture."""
+    axis: Axis
+    left: float
+    top: float
+    width: float
+    height: float
+    low: float
+    high: float
+
+    def x(self, tick):
+        span = max(self.axis.high - self.axis.low, 1)
+        return self.left + 4 + (tick - self.axis.low) / span * (self.width - 8)
+
+    def y(self, value):
+        return self.top + self.height - (value - self.low) / ((self.high - self.low) or 1) * self.height
+
+    def ground(self, gone, marks_of_time, marks_of_value, named=True):
+        """Draws bands, the marks of both axes, and the frame."""
+        parts = []
+        for low, high in gone:
+            begin, end = max(self.x(low), self.left), min(self.x(high), self.left + self.width)
+            title = f"left out: {self.axis.text(low)} to {self.axis.text(high - 1)}"
+            parts.append(f'<rect class="gone" x="{begin:.1f}" y="{self.top}" width="{max(end - begin, 1):.1f}" height="{self.height}"><title>{title}</title></rect>')
+        for value, words in marks_of_value:
+            parts.append(f'<path class="grid" d="M{self.left} {self.y(value):.1f}h{self.width}"/>' + text(self.left - 6, self.y(value) + 4, words, "end"))
+        for tick, words in marks_of_time:
+            parts.append(f'<path class="grid" d="M{self.x(tick):.1f} {self.top}v{self.height}"/>')
+            for line, word in enumerate(words.split("\n") if named else []):
+                parts.append(text(self.x(tick), self.top + self.height + 14 + 12 * line, word, "mid"))
+        return "".join(parts) + f'<rect class="frame" x="{self.left}" y="{self.top}" width="{self.width}" height="{self.height}"/>'
+
+    def line(self, points, gone, colour, dots, joined=True):
+        """Draws the pieces of one line, and its tuples as dots."""
+        parts = []
+        for piece in pieces(points, gone):
+            drawn = thinned(piece, self.axis)
+            if len(drawn) > 1 and joined:
+                parts.append(f'<path class="line" stroke="{colour}" d="M' + "L".join(f"{self.x(tick):.1f} {self.y(value):.1f}" for tick, value in drawn) + '"/>')
+            for tick, value in drawn if dots or len(drawn) == 1 or not joined else []:
+                title = f"<title>{html.escape(self.axis.text(tick))}: {value:,}</title>" if dots else ""
+                parts.append(f'<circle cx="{self.x(tick):.1f}" cy="{self.y(value):.1f}" r="2.2" fill="{colour}">{title}</circle>')
+        return "".join(parts)
+
+
+def thinned(points, axis):
+    """Returns of many points the first, last, least and greatest of each stretch that is as wide as a pixel."""
+    if len(points) <= MOST_POINTS:
+        return points
+    stretches = {}
+    for point in points:
+        stretches.setdefault((point[0] - axis.low) * 700 // max(axis.high - axis.low, 1), []).append(point)
+    kept = (sorted({it[0], it[-1], min(it, key=lambda one: one[1]), max(it, key=lambda one: one[1])}) for it in stretches.values())
+    return [point for stretch in kept for point in stretch]
+
+
+def values_of(series):
+    return [value for points in series.lines.values() for _, value in points if value is not None]
+
+
+def range_of(values):
+    low, high = (min(values), max(values)) if values else (0, 1)
+    edge = (high - low) * 0.08 or 1
+    return low - edge, high + edge
+
+
+def panel(series, gone, axis, colours):
+    """Draws a field: its lines in one panel, in small multiples where they are more than eight, or dots where they don't repeat."""
+    points = sum(len(it) for it in series.lines.values())
+    if not series.field:
+        return events(series, gone, axis)
+    if len(series.lines) > MOST_MULTIPLES and points < 3 * len(series.lines):
+        together = sorted(point for it in series.lines.values() for point in it if point[1] is not None)
+        words = f"{len(series.lines):,} different texts go with it, too many for lines: each tuple is a dot."
+        return one_panel(dataclasses.replace(series, lines={"": together}), gone, axis, colours, joined=False) + note(words)
+    return multiples(series, gone, axis) if len(series.lines) > MOST_LINES else one_panel(series, gone, axis, colours)
+
+
+def one_panel(series, gone, axis, colours, joined=True):
+    height = 130
+    frame = Frame(axis, LEFT, TOP, WIDTH - LEFT - RIGHT, height, *range_of(values_of(series)))
+    parts = [text(LEFT, TOP - 7, series.field, "name"), frame.ground(gone, axis.marks(7), worth_marks(frame.low, frame.high, 5))]
+    dots, entries = sum(len(it) for it in series.lines.values()) <= MOST_DOTS, []
+    for name, points in sorted(series.lines.items()):
+        colour = colours.setdefault(name, COLOURS[sum(it != "" for it in colours) % len(COLOURS)] if name else COLOURS[0])
+        parts.append(frame.line(points, gone, colour, dots, joined))
+        entries += [(name, colour)] if name else []
+    return picture(TOP + height + BOTTOM, "".join(parts), f"{series.field} over time") + legend(entries)
+
+
+def multiples(series, gone, axis):
+    """Draws each line in a small panel of its own, all with the same axes, those with most tuples first."""
+    columns, wide, high, across, left = 3, 182, 62, 195, 52
+    chosen = sorted(series.lines.items(), key=lambda it: (-len(it[1]), it[0]))[:MOST_MULTIPLES]
+    low, top = range_of([value for _, points in chosen for _, value in points if value is not None])
+    parts = [text(left, 12, series.field, "name")]
+    for at, (name, points) in enumerate(sorted(chosen)):
+        column, row = at % columns, at // columns
+        frame = Frame(axis, left + across * column, 32 + (high + 22) * row, wide, high, low, top)
+        parts.append(frame.ground(gone, axis.marks(3), worth_marks(low, top, 3) if column == 0 else [], at + columns >= len(chosen)))
+        parts.append(text(frame.left, frame.top - 4, name[:30], title=name) + frame.line(points, gone, COLOURS[0], False))
+    more, height = len(series.lines) - len(chosen), 32 + (high + 22) * -(-len(chosen) // columns) + 16
+    return picture(height, "".join(parts), f"{series.field} over time, a panel a line") + (note(f"{more:,} further lines, with fewer tuples, aren't drawn.") if more else "")
+
+
+def events(series, gone, axis):
+    """Draws tuples without a number: a row of dots for each of their texts."""
+    names = sorted(sorted(series.lines, key=lambda it: (-len(series.lines[it]), it))[:MOST_MULTIPLES])
+    height = 26 * len(names) + 6
+    frame = Frame(axis, LEFT, TOP, WIDTH - LEFT - RIGHT, height, 0, len(names))
+    parts = [frame.ground(gone, axis.marks(7), [])]
+    for at, name in enumerate(names):
+        y = TOP + 22 + 26 * at
+        shown = thinned([(tick, 0) for tick, _ in series.lines[name]], axis)
+        parts += [f'<circle cx="{frame.x(tick):.1f}" cy="{y}" r="2.4" fill="{COLOURS[at % len(COLOURS)]}"><title>{html.escape(axis.text(tick))}</title></circle>' for tick, _ in shown]
+        parts.append(text(LEFT + 6, y - 6, name[:60]))
+    more = len(series.lines) - len(names)
+    return picture(TOP + height + BOTTOM, "".join(parts), "tuples over time") + (note(f"{more:,} further texts aren't drawn.") if more else "")
+
+
+def loads(plans):
+    """Draws for each epoch a bar of its load: what the plan leaves of it and what it saves, with a line at the capacity."""
+    most = max(max(plan.load, plan.capacity) for plan in plans) or 1
+    first, count, tall = plans[0].epoch, plans[-1].epoch - plans[0].epoch + 1, 150
+    room, floor = (WIDTH - LEFT - RIGHT) / count, TOP + tall
+    bar, every = max(min(room * 0.7, 50), 0.5), max(1, -(-count // 14))
+    parts = [f'<path class="grid" d="M{LEFT} {floor - value / most * tall:.1f}h{WIDTH - LEFT - RIGHT}"/>' + text(LEFT - 6, floor - value / most * tall + 4, words, "end")
+             for value, words in worth_marks(0, most, 5)]
+    for plan in plans:
+        x, left = LEFT + (plan.epoch - first + 0.5) * room, max(plan.load - plan.saved, 0)
+        title = f"<title>epoch {plan.epoch}: load {plan.load:,}, saved {plan.saved:,}, capacity {plan.capacity:,}, {plan.verdict}</title>"
+        for kind, value in (("saved", plan.load), ("kept", left)):
+            high = value / most * tall
+            parts.append(f'<rect class="{kind}" x="{x - bar / 2:.1f}" y="{floor - high:.1f}" width="{bar:.1f}" height="{high:.1f}">{title}</rect>')
+        parts.append(f'<path class="capacity" d="M{x - bar / 2 - 3:.1f} {floor - plan.capacity / most * tall:.1f}h{bar + 6:.1f}"/>')
+        parts += [text(x, floor + 14, f"{plan.epoch:,}", "mid")] if (plan.epoch - first) % every == 0 else []
+    drawn = picture(floor + 22, "".join(parts) + text(LEFT, TOP - 7, "load by epoch", "name"), "load and capacity by epoch")
+    return drawn + legend([("load that is left", "#4a7ebb"), ("saved by the plan", "#c9d9ee"), ("capacity", "#c03030")])

@@ -1,0 +1,79 @@
+"""What a run wrote, class by class, and whether it can be the run of a network."""
+import collections
+import csv
+import io
+import sys
+
+Plan = collections.namedtuple("Plan", "epoch load capacity saved verdict")
+Batch = collections.namedtuple("Batch", "drop number level")
+
+
+class Strange(Exception):
+    """A text that no run writes, or not the run of this network."""
+
+
+class Run:
+    """The lines of a run. A last line that isn't ended is left out: the run broke off in it."""
+
+    def __init__(self, path):
+        self.rows, self.plans, self.batches, self.fed, self.late = {}, [], [], {}, {}
+        with sys.stdin if path == "-" else open(path, encoding="utf-8", newline="") as file:
+            text = file.read()
+        last, reader = [], csv.reader(io.StringIO(text[:text.rfind("\n") + 1], newline=""))
+        for row in reader:
+            try:
+                self.take(row)
+            except (ValueError, IndexError) as fault:
+                raise Strange(f"line {reader.line_num} of the text is none that a run writes: {','.join(row)[:80]}") from fault
+            last = row
+        self.whole = last == ["@end"] and text.endswith("\n")
+
+    def take(self, row):
+        kind = row[0]
+        if kind == "@plan":
+            self.plans.append(Plan(*(int(it) for it in row[1:5]), row[5]))
+        elif kind == "@drop":
+            self.batches.append(Batch(*(int(it) for it in row[1:4])))
+        elif kind == "@box":
+            self.fed[row[1]] = int(row[2])
+        elif kind == "@late":
+            self.late[row[1]] = int(row[2])
+        elif kind != "@end":
+            self.rows.setdefault(kind, []).append((int(row[1]), row[2:]))
+
+    def shown(self, output):
+        return self.rows.get(output["name"], [])
+
+
+def agree(network, run):
+    """Raises Strange where the text isn't that of a run of the network."""
+    unknown = sorted(run.fed.keys() - {box["name"] for box in network.boxes} | run.rows.keys() - {output["name"] for output in network.outputs})
+    if unknown:
+        raise Strange(f"{network.path} has no {', '.join(unknown)}, of which the text tells: it is the run of another network")
+    if any(batch.drop >= len(network.drops) for batch in run.batches):
+        raise Strange(f"the text tells of drop {max(it.drop for it in run.batches)}, and {network.path} has {len(network.drops)} drop points")
+    gone = {(batch.drop, batch.number) for batch in run.batches}
+    for number, output in enumerate(network.outputs):
+        drop, width = drop_above(network, number), len(network.fields(output["from"]))
+        for time, fields in run.shown(output):
+            if drop is not None and (drop, time // network.drops[drop].length) in gone:
+                raise Strange(f"{output['name']} has a line of tick {time}, and drop {drop} left out batch {time // network.drops[drop].length}, in which it lies: "
+                              f"{network.path} isn't the network of this run")
+            if len(fields) != width:
+                raise Strange(f"{output['name']} has a line with {len(fields)} fields, and {width} in {network.path}, which isn't the network of this run")
+
+
+def drop_above(network, output):
+    """Returns the number of the drop above an output, or None."""
+    return next((number for number, drop in enumerate(network.drops) if output in drop.outputs), None)
+
+
+def missing(network, run, output):
+    """Returns the spans of ticks that the run left out of an output, ascending, those that meet as one."""
+    number, spans = drop_above(network, output), []
+    for batch in sorted(it.number for it in run.batches if it.drop == number):
+        low, high = batch * network.drops[number].length, (batch + 1) * network.drops[number].length
+        if spans and spans[-1][1] == low:
+            low = spans.pop()[0]
+        spans.append((low, high))
+    return spans
