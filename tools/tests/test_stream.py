@@ -78,6 +78,11 @@ class Streams(unittest.TestCase):
         with open(f"{self.room}/made.csv", encoding="utf-8") as stream:
             self.assertEqual(stream.read(), "5,5,a\n5,3,b\n9,9,c\n9,4,d\n")
 
+    def test_lines_are_numbered_as_they_stood(self):
+        lines, table = self.made("t,v\n2,a\n1,b\n", "--time", "t", "--sort", "--number", "id")
+        self.assertEqual(lines, ["1,2,b", "2,1,a"])
+        self.assertIn('fields = ["id:int", "v:text"]', table)
+
     def test_what_is_not_exact_is_refused(self):
         self.refused("line 3, v: 1.25 has more than 1 decimal", "t,v\n1,1.5\n2,1.25\n", "--time", "t", "--field", "v:int.1")
         self.refused("line 2, v: 9223372036854775808 is out of 64 bits", "t,v\n1,9223372036854775808\n", "--time", "t", "--field", "v:int")
