@@ -60,6 +60,11 @@ class Streams(unittest.TestCase):
         self.assertEqual(self.made("t,v\n2026-03-01 01:00:05 +0100,1\n", "--time", "t", "--unit", "%Y-%m-%d %H:%M:%S %z")[0], ["1772323205,1"])
         self.assertEqual(self.made("v\n8\n9\n", "--time", "")[0], ["0,8", "1,9"])
 
+    def test_decimals_are_scaled_exactly(self):
+        cells = ["-0.5", "0.50", "+7", "1e3", "25e-1", ".5", "1.", "92233720368547758.07", "-92233720368547758.08"]
+        lines, _ = self.made("t,v\n" + "".join(f"1,{it}\n" for it in cells), "--time", "t", "--field", "v:int.2")
+        self.assertEqual(lines, [f"1,{it}" for it in ("-50", "50", "700", "100000", "250", "50", "100", "9223372036854775807", "-9223372036854775808")])
+
     def test_lines_of_json(self):
         rows = '{"t": 1, "price": 1.10, "on": true}\n\n{"t": 2, "price": null, "who": "x"}\n'
         lines, table = self.made(rows, "--time", "t", name="t.jsonl")
@@ -86,6 +91,7 @@ class Streams(unittest.TestCase):
     def test_what_is_not_exact_is_refused(self):
         self.refused("line 3, v: 1.25 has more than 1 decimal", "t,v\n1,1.5\n2,1.25\n", "--time", "t", "--field", "v:int.1")
         self.refused("line 2, v: 9223372036854775808 is out of 64 bits", "t,v\n1,9223372036854775808\n", "--time", "t", "--field", "v:int")
+        self.refused("has more than 1 decimal", f"t,v\n1,1.{'0' * 500}1\n", "--time", "t", "--field", "v:int.1")
         self.refused("line 2, v: 'NaN' is no number", "t,v\n1,NaN\n", "--time", "t", "--field", "v:int")
         self.refused("line 2, v: 'yes' is no word for true or false", "t,v\n1,yes\n", "--time", "t", "--field", "v:bool")
         self.refused("line 2, v: a text over 255 bytes", f"t,v\n1,{'ä' * 128}\n", "--time", "t")
