@@ -129,6 +129,13 @@ class Charts(unittest.TestCase):
         self.assertEqual(series.pieces(points, []), [[(0, 1), (10, 2), (20, 3)], [(50, 4)], [(70, 5), (80, 6), (90, 7)]])
         self.assertEqual(series.pieces([(0, 1), (10, 2), (20, 3)], [(12, 15)]), [[(0, 1), (10, 2)], [(20, 3)]])
 
+    def test_of_many_points_each_stretch_keeps_its_least_and_greatest(self):
+        points = [(tick, 5 if tick == 1234 else -5 if tick == 4321 else tick % 2) for tick in range(5000)]
+        kept = charts.thinned(points, charts.Axis(0, 4999, False), 100)
+        self.assertLessEqual(len(kept), 400)
+        self.assertEqual(kept, sorted(kept))
+        self.assertLessEqual({(0, 0), (1234, 5), (4321, -5), (4999, 1)}, set(kept))
+
     def test_marks_of_an_axis(self):
         self.assertEqual([tick for tick, _ in charts.Axis(3, 98, False).marks(5)], [20, 40, 60, 80])
         self.assertEqual(charts.Axis(1704066000, 1704073200, True).marks(3), [(1704067200, "00:00\n2024-01-01"), (1704070800, "01:00")])
