@@ -7,7 +7,7 @@ import math
 from .series import pieces
 
 COLOURS = ("#0072b2", "#d55e00", "#009e73", "#cc79a7", "#b58900", "#56b4e9", "#6a3d9a", "#333333")
-WIDTH, LEFT, RIGHT, TOP, BOTTOM = 640, 62, 10, 20, 34
+WIDTH, LEFT, RIGHT, TOP = 640, 62, 10, 20
 MOST_LINES, MOST_MULTIPLES, MOST_DOTS, MOST_POINTS = 8, 24, 400, 1500
 SECONDS = (1, 2, 5, 10, 15, 30, 60, 120, 300, 600, 900, 1800, 3600, 7200, 10800, 21600, 43200, 86400, 172800, 604800, 2629800, 31557600)
 
@@ -21,6 +21,11 @@ class Axis:
 
     def text(self, tick):
         return moment(tick) if self.seconds else f"{tick:,}"
+
+    @property
+    def room(self):
+        """How high the texts below a panel are: a day stands below the clock."""
+        return 34 if self.seconds else 20
 
     def marks(self, most):
         """Returns where the axis is marked, at most so many times, with a text for each."""
@@ -116,27 +121,30 @@ class Frame:
         return "".join(parts) + f'<rect class="frame" x="{self.left}" y="{self.top}" width="{self.width}" height="{self.height}"/>'
 
     def line(self, points, gone, colour, dots, joined=True):
-        """Draws the pieces of one line, and its tuples as dots."""
-        parts = []
-        for piece in pieces(points, gone):
-            drawn = thinned(piece, self.axis)
-            if len(drawn) > 1 and joined:
-                parts.append(f'<path class="line" stroke="{colour}" d="M' + "L".join(f"{self.x(tick):.1f} {self.y(value):.1f}" for tick, value in drawn) + '"/>')
-            for tick, value in drawn if dots or len(drawn) == 1 or not joined else []:
+        """Draws the pieces of one line, and its tuples as dots. Where tuples are many, gaps narrower than a dot aren't seen."""
+        parts, width = [], (self.axis.high - self.axis.low) / self.width
+        points, least = (thinned(points, self.axis, int(self.width)), 2 * width) if len(points) > MOST_POINTS else (points, 0)
+        for piece in pieces(points, gone, least):
+            if len(piece) > 1 and joined:
+                parts.append(f'<path class="line" stroke="{colour}" d="M' + "L".join(f"{self.x(tick):.1f} {self.y(value):.1f}" for tick, value in piece) + '"/>')
+            for tick, value in piece if dots or len(piece) == 1 or not joined else []:
                 title = f"<title>{html.escape(self.axis.text(tick))}: {value:,}</title>" if dots else ""
                 parts.append(f'<circle cx="{self.x(tick):.1f}" cy="{self.y(value):.1f}" r="2.2" fill="{colour}">{title}</circle>')
         return "".join(parts)
 
 
-def thinned(points, axis):
-    """Returns of many points the first, last, least and greatest of each stretch that is as wide as a pixel."""
-    if len(points) <= MOST_POINTS:
-        return points
-    stretches = {}
-    for point in points:
-        stretches.setdefault((point[0] - axis.low) * 700 // max(axis.high - axis.low, 1), []).append(point)
-    kept = (sorted({it[0], it[-1], min(it, key=lambda one: one[1]), max(it, key=lambda one: one[1])}) for it in stretches.values())
-    return [point for stretch in kept for point in stretch]
+def thinned(points, axis, columns):
+    """Returns of many points the first, least, greatest and last of each stretch that is as wide as a dot."""
+    span, kept, stretch, now = max(axis.high - axis.low, 1), [], [], None
+    for point in [*(it for it in points if it[1] is not None), None]:
+        column = None if point is None else (point[0] - axis.low) * columns // span
+        if column != now and stretch:
+            places = {0, len(stretch) - 1, *(choose(range(len(stretch)), key=lambda at: stretch[at][1]) for choose in (min, max))}
+            kept += [stretch[at] for at in sorted(places)]
+            stretch = []
+        now = column
+        stretch.append(point)
+    return kept
 
 
 def values_of(series):
@@ -170,7 +178,7 @@ def one_panel(series, gone, axis, colours, joined=True):
         colour = colours.setdefault(name, COLOURS[sum(it != "" for it in colours) % len(COLOURS)] if name else COLOURS[0])
         parts.append(frame.line(points, gone, colour, dots, joined))
         entries += [(name, colour)] if name else []
-    return picture(TOP + height + BOTTOM, "".join(parts), f"{series.field} over time") + legend(entries)
+    return picture(TOP + height + axis.room, "".join(parts), f"{series.field} over time") + legend(entries)
 
 
 def multiples(series, gone, axis):
@@ -184,7 +192,7 @@ def multiples(series, gone, axis):
         frame = Frame(axis, left + across * column, 32 + (high + 22) * row, wide, high, low, top)
         parts.append(frame.ground(gone, axis.marks(3), worth_marks(low, top, 3) if column == 0 else [], at + columns >= len(chosen)))
         parts.append(text(frame.left, frame.top - 4, name[:30], title=name) + frame.line(points, gone, COLOURS[0], False))
-    more, height = len(series.lines) - len(chosen), 32 + (high + 22) * -(-len(chosen) // columns) + 16
+    more, height = len(series.lines) - len(chosen), 32 + (high + 22) * -(-len(chosen) // columns) + axis.room - 18
     return picture(height, "".join(parts), f"{series.field} over time, a panel a line") + (note(f"{more:,} further lines, with fewer tuples, aren't drawn.") if more else "")
 
 
@@ -196,11 +204,12 @@ def events(series, gone, axis):
     parts = [frame.ground(gone, axis.marks(7), [])]
     for at, name in enumerate(names):
         y = TOP + 22 + 26 * at
-        shown = thinned([(tick, 0) for tick, _ in series.lines[name]], axis)
+        shown = [(tick, 0) for tick, _ in series.lines[name]]
+        shown = thinned(shown, axis, int(frame.width)) if len(shown) > MOST_POINTS else shown
         parts += [f'<circle cx="{frame.x(tick):.1f}" cy="{y}" r="2.4" fill="{COLOURS[at % len(COLOURS)]}"><title>{html.escape(axis.text(tick))}</title></circle>' for tick, _ in shown]
         parts.append(text(LEFT + 6, y - 6, name[:60]))
     more = len(series.lines) - len(names)
-    return picture(TOP + height + BOTTOM, "".join(parts), "tuples over time") + (note(f"{more:,} further texts aren't drawn.") if more else "")
+    return picture(TOP + height + axis.room, "".join(parts), "tuples over time") + (note(f"{more:,} further texts aren't drawn.") if more else "")
 
 
 def loads(plans):

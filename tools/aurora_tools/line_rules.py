@@ -84,7 +84,7 @@ def tick(_, fields, __, before):
     words = f"the tick is {shown(value)}, and must be 1 to 13 digits of a number below {MOST_TICK:,}"
     if re.fullmatch(rb"[0-9]+", value):
         milliseconds = len(value) >= 13
-        remedy = "Milliseconds since 1970 are too great: take seconds, or take the start of the day from them." if milliseconds else ""
+        remedy = "Milliseconds since 1970 are too great: take seconds, or subtract the start of the day." if milliseconds else ""
     elif re.match(rb"[0-9]{4}-[0-9]{2}|[0-9]+[:/]", value):
         remedy = "A date is brought to seconds since 1970 before, as by: date +%s -d"
     elif re.fullmatch(rb"[0-9]*\.[0-9]+", value):

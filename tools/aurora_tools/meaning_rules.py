@@ -1,6 +1,6 @@
 """The rules on what a network file means, each as a function from a part to what it finds: words, a remedy, the way to the key."""
 from . import expression
-from .finding import listed, near, shown_fields, told_fields
+from .finding import counted, listed, near, shown_fields, told_fields
 from .network import is_name
 from .shape_rules import NAMED, expressions, said, why_no_field, why_no_name
 
@@ -115,7 +115,7 @@ def schema(network, part, number, item):
             yield f"the field `{field.partition(':')[0]}` stood before in this source", "Take another name for one of the two.", ("fields", item)
         else:
             why, hint = why_no_field(field)
-            yield f"`{field}` is no field, as name:int is one: {why}", hint, ("fields", item)
+            yield f"entry {item} of `fields` is `{field}`, and must be of the form name:int: {why}", hint, ("fields", item)
     elif it["kind"] == "union":
         first, other = network.fields(it["in"][0]), network.fields(it["in"][item])
         yield (f"a Union takes streams of the same fields: `{it['in'][0]}` has {shown_fields(first)}, and `{it['in'][item]}` has {shown_fields(other)}",
@@ -170,7 +170,7 @@ def why_unreadable(text, at, what):
     if not last or last in ("and", "or", "not", "(") or not (last[-1].isalnum() or last[-1] in "_')"):
         return f"{'here' if here else 'where it ends'} a value must stand: a number, a text in single quotes, a field, or a part in parentheses", ""
     if not here:
-        return f"it ends where {before.count('(') - before.count(')')} of its parentheses are open", "Close them by `)`."
+        return f"it ends, and {counted(before.count('(') - before.count(')'), 'parenthesis is', 'parentheses are')} open", "Close by `)`."
     if any(rest.startswith(it) for it in expression.COMPARISONS):
         return "comparisons don't chain", "Write `a < b and b < c`."
     guess = near(last, ("and", "or", "not", "is")) if last.isalpha() else ""

@@ -114,9 +114,19 @@ def toml_finding(network):
     column = min(int(place[2]) - 1, len(lines[line - 1])) if place and place[2] else None
     for pattern, words, remedy in TOML_FAULTS:
         if re.search(pattern, network.fault):
-            words += stood_before(lines, line) if "twice" in words else ""
+            words, remedy = of_this_line(words, remedy, lines, line)
             return Finding(f"this is no TOML: {words}", remedy, network.path, line, lines[line - 1], column)
     return Finding(f"this is no TOML: {network.fault}", "", network.path, line, lines[line - 1], column)
+
+
+def of_this_line(words, remedy, lines, line):
+    """Returns what is said of a fault of TOML, nearer to what stands in its line."""
+    heading, entry = lines[line - 1].lstrip().startswith("["), re.search(r"[\",']", lines[line - 1])
+    if "heading" in words and entry:
+        return "no list goes on here: the one above ended already", "Look for a bracket too many in the lines above."
+    if "twice" in words and heading:
+        return "there is a table of this name with single brackets", "Each source, box and output has a heading with double brackets: [[source]], [[box]], [[output]]."
+    return words + (stood_before(lines, line) if "twice" in words else ""), remedy
 
 
 def stood_before(lines, line):

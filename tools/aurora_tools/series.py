@@ -33,10 +33,15 @@ def series_of(network, output, rows):
     return found
 
 
-def pieces(points, gone):
-    """Cuts a line where a value is missing, where the next tuple is further away than most, and at a span that was left out."""
+def usual_step(points):
+    """Returns the most ticks between two tuples of a line that has no gap: half as many again as most have."""
     steps = [after[0] - now[0] for now, after in zip(points, points[1:])]
-    most = 1.5 * statistics.median(steps) if steps else 0
+    return 1.5 * statistics.median(steps) if steps else 0
+
+
+def pieces(points, gone, least=0):
+    """Cuts a line where a value is missing, at a step that is longer than usual and than the least, and at a span that was left out."""
+    most = max(usual_step(points), least)
     found, before, spans = [], None, iter(gone)
     span = next(spans, None)
     for time, value in points:

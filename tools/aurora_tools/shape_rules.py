@@ -48,7 +48,10 @@ def version(network, *_):
 def shape(network, part, number, _):
     """What of a table is missing, isn't known or is of another kind."""
     it = network.part(part, number)
-    if part == "box" and it.get("kind") not in KINDS and "kind" in it:
+    if part == "box" and "kind" in it and not isinstance(it["kind"], str):
+        yield f"`kind` is {said(it['kind'])}, and must be {TEXT}", f"The kinds are {listed(KINDS)}.", ("kind",)
+        return
+    if part == "box" and "kind" in it and it["kind"] not in KINDS:
         yield f"there is no box of the kind {said(it['kind'])}{near(str(it['kind']), KINDS)}", f"The kinds are {listed(KINDS)}.", ("kind",)
         return
     kind = it.get("kind")
@@ -69,7 +72,7 @@ def keys(it, need, may, place):
     unknown = [key for key in it if key not in need + may]
     missing = [key for key in need if key not in it]
     for key in unknown:
-        words = f"the key `{key}` isn't known in {place}"
+        words = f"the key `{key}` isn't known {'at' if place.startswith('the top') else 'in'} {place}"
         if key == "phase":
             yield words + " of version 1", "Write `version = 2` at the top.", (key,)
             continue
@@ -81,7 +84,7 @@ def keys(it, need, may, place):
         yield words + guess, f"Its keys are {listed(need + may)}.", (key,)
     for key in missing:
         hint = f"It is written with double brackets: [[{key}]]." if WANTED[key] is TABLES else ""
-        yield f"the key `{key}` is missing, which {place} must have", hint, ()
+        yield f"the key `{key}` is missing: {place} must have it", hint, ()
 
 
 def entries(key, value):
@@ -207,9 +210,11 @@ def why_no_name(name):
         return "it is empty"
     if name in WORDS:
         return "it is a word of the language of expressions"
+    if " " in name:
+        return "it has a blank"
     if strange := re.search(r"[^a-z0-9_]", name):
-        kind = " a capital letter" if strange[0].isupper() else " a dash: take `_`" if strange[0] == "-" else " a blank" if strange[0] == " " else ""
-        return f"`{strange[0]}` is" + (kind or " no lower-case letter, digit or `_`")
+        kind = "a capital letter" if strange[0].isupper() else "a dash: take `_`" if strange[0] == "-" else "no lower-case letter, digit or `_`"
+        return f"`{strange[0]}` is {kind}"
     return f"it has {len(name)} bytes" if NAME.fullmatch(name[:32]) else "it doesn't begin with a lower-case letter"
 
 

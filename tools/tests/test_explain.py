@@ -13,7 +13,7 @@ STREAM = "1,a,12,true\n2,b,7,\n3,a,,false\n"
 
 # What is put in place of what in plant.toml; the program's message; a word of the line that is told, empty where none is; what is said.
 NETWORKS = [
-    ('"count"],', '"count"]]', "Toml", "mean", "no TOML"),
+    ('"count"],', '"count"]]', "Toml", "mean", "bracket too many"),
     ('name = "sort"', 'name = sort', "Toml", "name = sort", "no value begins here"),
     ('name = "sort"', 'name = "sort', "Toml", 'name = "sort', "isn't closed"),
     ('slack = 4', 'slack = 4\nslack = 5', "Toml", "slack = 5", "stands twice"),
@@ -24,11 +24,11 @@ NETWORKS = [
     ("version = 2", "version = 1", "Shape box 2 0", "phase", "version 1"),
     ("epoch = 20", "epcoh = 20", "Shape top 0 0", "epcoh", "`epoch` meant"),
     ("epoch = 20", "epoch = 2.5", "Shape top 0 0", "epoch", "whole number"),
-    ("[[source]]\nname = \"readings\"", "[source]\nname = \"readings\"", "Toml", "[[source]]", ""),
+    ("[[source]]\nname = \"readings\"", "[source]\nname = \"readings\"", "Toml", "[[source]]", "single brackets"),
     ('file = "readings.csv"\n', "", "Shape source 0 0", "[[source]]", "`file` is missing"),
     ('fields = ["unit:text", "value:int", "good:bool"]', 'fields = "unit:text"', "Shape source 0 0", "fields", "square brackets"),
     ('kind = "filter"', 'kind = "filtre"', "Shape box 0 0", "kind", "`filter` meant"),
-    ('kind = "filter"', 'kind = 3', "Shape box 0 0", "kind", ""),
+    ('kind = "filter"', 'kind = 3', "Shape box 0 0", "kind", "in double quotes"),
     ("where = [", "were = [", "Shape box 0 0", "were", "`where` meant"),
     ("cost = 2", 'cost = "2"', "Shape box 0 0", "cost", "whole number"),
     ("cost = 2", "costs = 2", "Shape box 0 0", "costs", "`cost` meant"),
@@ -90,7 +90,7 @@ NETWORKS = [
     ("value >= 10", "value >= 10 or unit = 'a", "Expr box 0 0 22 BadToken", "where", "isn't closed"),
     ("value >= 10", "unit = ''", "Expr box 0 0 7 EmptyText", "where", "is null"),
     ("value >= 10", "value > 9223372036854775808", "Expr box 0 0 8 Wide", "where", "9223372036854775807"),
-    ("value >= 10", "(value >= 10", "Expr box 0 0 12 Expected", "where", "1 of its parentheses"),
+    ("value >= 10", "(value >= 10", "Expr box 0 0 12 Expected", "where", "1 parenthesis is open"),
     ("value >= 10", "1 < value < 3", "Expr box 0 0 10 Expected", "where", "don't chain"),
     ("value >= 10", "value is 3", "Expr box 0 0 9 Expected", "where", "is null"),
     ("value >= 10", "abs(value) > 3", "Expr box 0 0 3 Expected", "where", "no functions"),
@@ -237,6 +237,34 @@ class Mistakes(unittest.TestCase):
         os.chdir("below")
         self.assertIn("cd ..", self.refused("../plant.toml")[1])
         self.assertIn("is a folder", self.refused("..")[1])
+
+    def test_a_file_that_is_too_long(self):
+        self.write("plant.toml", self.network + "#" * 1_048_577)
+        told, below = self.refused("plant.toml")
+        self.assertEqual(told, "aurora: file too long: plant.toml")
+        self.assertIn("may have 1,048,576 bytes", below)
+
+    def test_the_command_runs_as_the_program_does(self):
+        self.write("capacities.csv", "x\n")
+        command = [f"{os.path.dirname(HERE)}/explain", "--program", PROGRAM, "plant.toml"]
+        run = subprocess.run(command, capture_output=True, encoding="utf-8")
+        self.assertEqual((run.returncode, run.stderr), (0, ""))
+        self.assertTrue(run.stdout.endswith("@end\n"))
+        run = subprocess.run([*command, "--capacities", "capacities.csv"], capture_output=True, encoding="utf-8")
+        self.assertEqual((run.returncode, run.stdout), (4, ""))
+        self.assertIn("no comma", run.stderr)
+        with open("/dev/full", "w", encoding="utf-8") as full:
+            run = subprocess.run(command, stdout=full, stderr=subprocess.PIPE, encoding="utf-8")
+        self.assertEqual(run.returncode, 10)
+        self.assertIn("Standard output took no more", run.stderr)
+
+    def test_messages_of_an_earlier_run(self):
+        self.write("messages", "aurora: network: Limit box 4 0\naurora: page 3 changed: aa bb\naurora: out of memory\nsomething else\n")
+        self.write("plant.toml", self.network.replace("slack = 4", "slack = 40000"))
+        command = [f"{os.path.dirname(HERE)}/explain", "--messages", "messages", "plant.toml"]
+        said = subprocess.run(command, capture_output=True, encoding="utf-8", check=True).stdout
+        for words in ("`slack` is 40,000", "Test the disk", "whole streams in memory", "\nsomething else\n"):
+            self.assertIn(words, said)
 
     def test_a_drop_that_reaches_too_far(self):
         more = '[[box]]\nname = "far"\nkind = "aggregate"\nin = ["means"]\nsize = 90000\nadvance = 30\ngive = [["n", "count"]]\n[[output]]\nname = "far"\nfrom = "far"\n'
