@@ -1,7 +1,7 @@
 -- What a sound network is.
-use Rattle.std.specs.Prelude.{⊤, ◌≡◌, ℕ, ◌+◌, ◌<◌, ◌^◌, Bool, true, ◌&&◌, ◌==◌, nat_le, List, [], ◌∷◌, ◌++◌, map, length, Some, slice_get}
+use Rattle.std.specs.Prelude.{⊤, ◌≡◌, ℕ, ◌+◌, ◌<◌, ◌^◌, Bool, true, false, ◌&&◌, ◌==◌, nat_le, List, [], ◌∷◌, ◌++◌, map, length, Some, slice_get}
 use Rattle.std.specs.List.{list_all, filter_map, All}
-use Rattle.sq_value.specs.Lists.{are_distinct}
+use Rattle.sq_value.specs.Lists.{are_distinct, contains_bytes}
 use Rattle.sq_value.specs.Values.{Columns, kinds_of, names_of}
 use Rattle.sq_value.specs.declared.Kind.TheVariants as kind
 use Rattle.sq_expr.specs.Trees.{Checked}
@@ -89,11 +89,15 @@ IsOver cs e = (e.scope ≡ cs) × (kinds_agree e.scope e.tree ≡ true)
 abbrev pub IsPredicate : Columns → Checked → Type 0
 IsPredicate cs e = IsOver cs e × (fits kind.Bool (kind_in e.scope e.tree) ≡ true)
 
+-- names that differ, and of which none is one of those before
+abbrev pub AreNew : List (List ℕ) → List (List ℕ) → Type 0
+AreNew before names = (are_distinct names ≡ true) × All (λ w. contains_bytes w before ≡ false) names
+
 -- a Filter's ports have its input's kinds; a Map's port has the kinds of its expressions, under names that are names and
 -- differ; a Union's inputs are alike, and its port is as they are; a BSort sorts by a number; an Aggregate's port has the
 -- columns to group by, then one for each function, 16 at most with names that differ; a Join's port has the columns of a
--- pair, 16 at most; a Resample's port has the left columns, then one for each function over the right ones, 16 at most with
--- names that differ
+-- pair, 16 at most; a Resample's port has the left columns, then one for each function over the right ones, 16 at most, and the
+-- names of these differ from one another and from those of the left columns
 abbrev pub IsTypedBody : List Columns → Body → List Columns → Type 0
 IsTypedBody ins (Filter preds) ports =
     All (IsPredicate (first_columns ins)) preds × (length ports ≡ length preds + 1)
@@ -116,8 +120,7 @@ IsTypedBody ins (Join size on) ports =
 IsTypedBody ins (Resample size funcs) ports =
     (given : Columns) × (ports ≡ (left_columns ins ++ given) ∷ [])
     × (map (kind_of_func (second_columns ins)) funcs ≡ map Some (kinds_of given)) × All (λ w. is_name w ≡ true) (names_of given)
-    × (are_distinct (names_of (left_columns ins ++ given)) ≡ true)
-    × (nat_le (length (first_columns ins) + length funcs) 16 ≡ true)
+    × AreNew (names_of (left_columns ins)) (names_of given) × (nat_le (length (first_columns ins) + length funcs) 16 ≡ true)
 
 -- an Aggregate's window moves on, covers what it moves by, is at most 2^32 ticks and 4096 advances long, and has a phase below its advance
 abbrev pub HasWindow : Body → Type 0
