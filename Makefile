@@ -6,7 +6,8 @@
 #     make uninstall PREFIX=..    takes away what `make install` put there
 #     make deb                    a Debian package, by dpkg-deb
 #
-# DESTDIR is put before PREFIX where a package is made. PROGRAM names another program to install.
+# `make proved && make install` installs what was proved. DESTDIR is put before PREFIX where a package is made; PROGRAM names another
+# program to install.
 PREFIX ?= /usr/local
 DESTDIR ?=
 
@@ -25,7 +26,7 @@ architecture := $(shell dpkg --print-architecture 2>/dev/null || echo amd64)
 # The tools that a user runs, those of them that are there, and what they share.
 tools = $(wildcard $(addprefix tools/,draw explain output plan report stream))
 modules = $(wildcard tools/aurora_tools/*.py)
-pages = README.md docs/MANUAL.md docs/PROMISES.md docs/rivers.png $(wildcard docs/network.schema.json)
+pages = $(wildcard docs/*)
 
 root = $(DESTDIR)$(PREFIX)
 binaries = $(root)/bin
@@ -48,21 +49,22 @@ proved:
 	@echo "$(proved_program) is proved"
 
 install: $(PROGRAM)
-	install -d $(binaries) $(library) $(manual) $(completions) $(documents)
-	install -m 755 $(PROGRAM) $(binaries)/aurora
-	gzip -9n <docs/aurora.1 >$(manual)/aurora.1.gz
-	install -m 644 tools/completion.bash $(completions)/aurora
-	install -m 644 $(pages) $(documents)
-	cp -r examples $(documents)/
-	install -m 755 $(tools) $(library)
-	$(if $(modules),install -d $(library)/aurora_tools && install -m 644 $(modules) $(library)/aurora_tools)
-	for tool in $(notdir $(tools)); do ln -sf ../lib/aurora/$$tool $(binaries)/aurora-$$tool; done
+	install -d "$(binaries)" "$(library)/aurora_tools" "$(manual)" "$(completions)" "$(documents)/docs"
+	install -m 755 $(PROGRAM) "$(binaries)/aurora"
+	gzip -9n <docs/aurora.1 >"$(manual)/aurora.1.gz"
+	install -m 644 tools/completion.bash "$(completions)/aurora"
+	install -m 644 README.md "$(documents)"
+	install -m 644 $(pages) "$(documents)/docs"
+	cp -r examples "$(documents)/"
+	install -m 755 $(tools) "$(library)"
+	install -m 644 $(modules) "$(library)/aurora_tools"
+	for tool in $(notdir $(tools)); do ln -sf ../lib/aurora/$$tool "$(binaries)/aurora-$$tool"; done
 	@echo "installed below $(root): $(if $(filter $(proved_program),$(PROGRAM)),the proved program,a program that is not proved)"
 
 uninstall:
-	rm -f $(binaries)/aurora $(foreach tool,draw explain output plan report stream,$(binaries)/aurora-$(tool))
-	rm -f $(manual)/aurora.1.gz $(completions)/aurora
-	rm -rf $(library) $(documents)
+	for tool in $(notdir $(tools)); do rm -f "$(binaries)/aurora-$$tool"; done
+	rm -f "$(binaries)/aurora" "$(manual)/aurora.1.gz" "$(completions)/aurora"
+	rm -rf "$(library)" "$(documents)"
 
 deb: $(PROGRAM)
 	mkdir -p out

@@ -12,16 +12,17 @@ fail() {
 }
 
 command -v make >/dev/null || { missing make; exit 0; }
-make -s install PROGRAM="$program" PREFIX="$room/there" >/dev/null || fail "make install failed"
-PATH=$room/there/bin:$PATH
-(cd "$room/there/share/doc/aurora/examples/desk" && aurora run desk.toml >"$room/text" && aurora-output --csv - --output averages desk.toml "$room/text") |
+make -s install PROGRAM="$program" PREFIX="$room/my place" >/dev/null || fail "make install failed"
+PATH="$room/my place/bin:$PATH"
+(cd "$room/my place/share/doc/aurora/examples/desk" && aurora run desk.toml >"$room/text" && aurora-output --csv - --output averages desk.toml "$room/text") |
     diff - <(echo time,symbol,trades,average; grep ^averages examples/desk/expected.txt | cut -d, -f2-) || fail "the installed program or tool doesn't answer"
 for tool in plan stream output; do
     "aurora-$tool" --help | grep -q "tools/$tool" || fail "aurora-$tool isn't installed"
 done
-[ "$(gzip -dc "$room/there/share/man/man1/aurora.1.gz")" = "$(cat docs/aurora.1)" ] || fail "the manual page isn't installed"
-make -s uninstall PREFIX="$room/there" || fail "make uninstall failed"
-[ -z "$(find "$room/there" -type f -o -type l)" ] || fail "something is left: $(find "$room/there" -type f -o -type l)"
+[ -f "$room/my place/share/doc/aurora/examples/first/../../docs/network.schema.json" ] || fail "examples don't find their schema"
+[ "$(gzip -dc "$room/my place/share/man/man1/aurora.1.gz")" = "$(cat docs/aurora.1)" ] || fail "the manual page isn't installed"
+make -s uninstall PREFIX="$room/my place" || fail "make uninstall failed"
+[ -z "$(find "$room/my place" -type f -o -type l)" ] || fail "something is left: $(find "$room/my place" -type f -o -type l)"
 
 command -v dpkg-deb >/dev/null || { missing dpkg-deb; exit 0; }
 tools/package "$program" 0.1 amd64 "$room/aurora.deb" >/dev/null || fail "no package was made"
