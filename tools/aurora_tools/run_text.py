@@ -17,7 +17,7 @@ class Run:
 
     def __init__(self, path):
         self.rows, self.plans, self.batches, self.fed, self.late = {}, [], [], {}, {}
-        with sys.stdin if path == "-" else open(path, encoding="utf-8", newline="") as file:
+        with open(sys.stdin.fileno() if path == "-" else path, encoding="utf-8", newline="") as file:
             text = file.read()
         last, reader = [], csv.reader(io.StringIO(text[:text.rfind("\n") + 1], newline=""))
         for row in reader:

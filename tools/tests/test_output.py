@@ -61,8 +61,8 @@ class Outputs(unittest.TestCase):
         self.refused("no @end", f"{TOP}/examples/first/alarm.toml", "")
 
     def test_lines_of_another_network_become_nothing(self):
-        self.refused("line 1 of the text", f"{TOP}/examples/first/alarm.toml", "other,120,80\n@end\n")
-        self.refused("line 2 of the text", f"{TOP}/examples/first/alarm.toml", "alarm,1,2\nalarm,120,80,1\n@end\n")
+        self.refused("has no other, of which the text tells", f"{TOP}/examples/first/alarm.toml", "other,120,80\n@end\n")
+        self.refused("a line with 2 fields, and 1 in", f"{TOP}/examples/first/alarm.toml", "alarm,1,2\nalarm,120,80,1\n@end\n")
 
     def test_a_file_that_is_there_stays(self):
         os.mkdir(f"{self.room}/c")
