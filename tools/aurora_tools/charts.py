@@ -189,10 +189,12 @@ def one_panel(series, gone, axis, colours, joined=True):
     height = 130
     frame = Frame(axis, LEFT, TOP, WIDTH - LEFT - RIGHT, height, *range_of(values_of(series)))
     parts = [text(LEFT, TOP - 7, series.field, "name"), frame.ground(gone, axis.marks(7), worth_marks(frame.low, frame.high, 5))]
-    dots, entries = sum(len(it) for it in series.lines.values()) <= MOST_DOTS, []
+    dots, entries, seen = sum(len(it) for it in series.lines.values()) <= MOST_DOTS, [], set()
     for name, points in sorted(series.lines.items()):
         colour = colours.setdefault(name, COLOURS[sum(it != "" for it in colours) % len(COLOURS)] if name else COLOURS[0])
-        parts.append(frame.line(points, gone, colour, dots, joined))
+        drawn = frame.line(points, gone, colour, dots, joined)
+        parts.append(f'<g class="over">{drawn}</g>' if tuple(points) in seen else drawn)
+        seen.add(tuple(points))
         entries += [(name, colour)] if name else []
     return picture(TOP + height + axis.room, "".join(parts), f"{series.field} over time") + legend(entries)
 

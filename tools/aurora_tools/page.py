@@ -15,6 +15,7 @@ th{background:#f3f3f3}th:first-child,td:first-child{text-align:left}.note{color:
 .state{padding:.5em .8em;border-left:5px solid}.good{background:#e9f6e9;border-color:#3a8f3a}.bad{background:#fdeaea;border-color:#c03030}
 svg text{font:11px system-ui,sans-serif;fill:#333}svg .end{text-anchor:end}svg .mid{text-anchor:middle}svg .name{font-weight:bold}
 svg .grid{stroke:#e3e3e3;fill:none}svg .frame{stroke:#999;fill:none}svg .gone{fill:#c8c8c8}svg .line{fill:none;stroke-width:1.6}
+svg .over .line{stroke-dasharray:7 7}
 svg .kept{fill:#4a7ebb}svg .saved{fill:#c9d9ee}svg .capacity{stroke:#c03030;stroke-width:2}
 """
 MOST_SPANS = 12
