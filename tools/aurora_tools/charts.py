@@ -74,13 +74,29 @@ def text(x, y, words, kind="", title=""):
     return f'<text x="{x:.1f}" y="{y:.1f}"{kind}>{title}{html.escape(words)}</text>'
 
 
+def bar(kind, x, y, width, height, title):
+    place = f'x="{x:.1f}" y="{y:.1f}" width="{width:.1f}" height="{height:.1f}"'
+    return f'<rect class="{kind}" {place}><title>{html.escape(title)}</title></rect>'
+
+
+def dot(x, y, colour, title):
+    said = f"<title>{html.escape(title)}</title>" if title else ""
+    return f'<circle cx="{x:.1f}" cy="{y:.1f}" r="2.3" fill="{colour}">{said}</circle>'
+
+
+def level(x, y, width, words):
+    """Returns a level line with its value before it."""
+    return f'<path class="grid" d="M{x} {y:.1f}h{width}"/>' + text(x - 6, y + 4, words, "end")
+
+
 def picture(height, inside, words):
     return f'<div class="wide"><svg viewBox="0 0 {WIDTH} {height}" role="img" aria-label="{html.escape(words)}">{inside}</svg></div>'
 
 
 def legend(entries):
     """Returns colours with their names, as HTML that wraps."""
-    return '<p class="legend">' + "".join(f'<span><i style="background:{colour}"></i>{html.escape(name)}</span> ' for name, colour in entries) + "</p>" if entries else ""
+    shown = "".join(f'<span><i style="background:{colour}"></i>{html.escape(name)}</span> ' for name, colour in entries)
+    return f'<p class="legend">{shown}</p>' if entries else ""
 
 
 def note(words):
@@ -111,9 +127,9 @@ class Frame:
         for low, high in gone:
             begin, end = max(self.x(low), self.left), min(self.x(high), self.left + self.width)
             title = f"left out: {self.axis.text(low)} to {self.axis.text(high - 1)}"
-            parts.append(f'<rect class="gone" x="{begin:.1f}" y="{self.top}" width="{max(end - begin, 1):.1f}" height="{self.height}"><title>{title}</title></rect>')
+            parts.append(bar("gone", begin, self.top, max(end - begin, 1), self.height, title))
         for value, words in marks_of_value:
-            parts.append(f'<path class="grid" d="M{self.left} {self.y(value):.1f}h{self.width}"/>' + text(self.left - 6, self.y(value) + 4, words, "end"))
+            parts.append(level(self.left, self.y(value), self.width, words))
         for tick, words in marks_of_time:
             parts.append(f'<path class="grid" d="M{self.x(tick):.1f} {self.top}v{self.height}"/>')
             for line, word in enumerate(words.split("\n") if named else []):
@@ -126,10 +142,10 @@ class Frame:
         points, least = (thinned(points, self.axis, int(self.width)), 2 * width) if len(points) > MOST_POINTS else (points, 0)
         for piece in pieces(points, gone, least):
             if len(piece) > 1 and joined:
-                parts.append(f'<path class="line" stroke="{colour}" d="M' + "L".join(f"{self.x(tick):.1f} {self.y(value):.1f}" for tick, value in piece) + '"/>')
+                way = "L".join(f"{self.x(tick):.1f} {self.y(value):.1f}" for tick, value in piece)
+                parts.append(f'<path class="line" stroke="{colour}" d="M{way}"/>')
             for tick, value in piece if dots or len(piece) == 1 or not joined else []:
-                title = f"<title>{html.escape(self.axis.text(tick))}: {value:,}</title>" if dots else ""
-                parts.append(f'<circle cx="{self.x(tick):.1f}" cy="{self.y(value):.1f}" r="2.2" fill="{colour}">{title}</circle>')
+                parts.append(dot(self.x(tick), self.y(value), colour, f"{self.axis.text(tick)}: {value:,}" if dots else ""))
         return "".join(parts)
 
 
@@ -173,10 +189,12 @@ def one_panel(series, gone, axis, colours, joined=True):
     height = 130
     frame = Frame(axis, LEFT, TOP, WIDTH - LEFT - RIGHT, height, *range_of(values_of(series)))
     parts = [text(LEFT, TOP - 7, series.field, "name"), frame.ground(gone, axis.marks(7), worth_marks(frame.low, frame.high, 5))]
-    dots, entries = sum(len(it) for it in series.lines.values()) <= MOST_DOTS, []
+    dots, entries, seen = sum(len(it) for it in series.lines.values()) <= MOST_DOTS, [], set()
     for name, points in sorted(series.lines.items()):
         colour = colours.setdefault(name, COLOURS[sum(it != "" for it in colours) % len(COLOURS)] if name else COLOURS[0])
-        parts.append(frame.line(points, gone, colour, dots, joined))
+        drawn = frame.line(points, gone, colour, dots, joined)
+        parts.append(f'<g class="over">{drawn}</g>' if tuple(points) in seen else drawn)
+        seen.add(tuple(points))
         entries += [(name, colour)] if name else []
     return picture(TOP + height + axis.room, "".join(parts), f"{series.field} over time") + legend(entries)
 
@@ -193,7 +211,8 @@ def multiples(series, gone, axis):
         parts.append(frame.ground(gone, axis.marks(3), worth_marks(low, top, 3) if column == 0 else [], at + columns >= len(chosen)))
         parts.append(text(frame.left, frame.top - 4, name[:30], title=name) + frame.line(points, gone, COLOURS[0], False))
     more, height = len(series.lines) - len(chosen), 32 + (high + 22) * -(-len(chosen) // columns) + axis.room - 18
-    return picture(height, "".join(parts), f"{series.field} over time, a panel a line") + (note(f"{more:,} further lines, with fewer tuples, aren't drawn.") if more else "")
+    drawn = picture(height, "".join(parts), f"{series.field} over time, a panel a line")
+    return drawn + (note(f"{more:,} further lines, with fewer tuples, aren't drawn.") if more else "")
 
 
 def events(series, gone, axis):
@@ -206,10 +225,11 @@ def events(series, gone, axis):
         y = TOP + 22 + 26 * at
         shown = [(tick, 0) for tick, _ in series.lines[name]]
         shown = thinned(shown, axis, int(frame.width)) if len(shown) > MOST_POINTS else shown
-        parts += [f'<circle cx="{frame.x(tick):.1f}" cy="{y}" r="2.4" fill="{COLOURS[at % len(COLOURS)]}"><title>{html.escape(axis.text(tick))}</title></circle>' for tick, _ in shown]
+        parts += [dot(frame.x(tick), y, COLOURS[at % len(COLOURS)], axis.text(tick)) for tick, _ in shown]
         parts.append(text(LEFT + 6, y - 6, name[:60]))
     more = len(series.lines) - len(names)
-    return picture(TOP + height + axis.room, "".join(parts), "tuples over time") + (note(f"{more:,} further texts aren't drawn.") if more else "")
+    drawn = picture(TOP + height + axis.room, "".join(parts), "tuples over time")
+    return drawn + (note(f"{more:,} further texts aren't drawn.") if more else "")
 
 
 def loads(plans):
@@ -217,16 +237,15 @@ def loads(plans):
     most = max(max(plan.load, plan.capacity) for plan in plans) or 1
     first, count, tall = plans[0].epoch, plans[-1].epoch - plans[0].epoch + 1, 150
     room, floor = (WIDTH - LEFT - RIGHT) / count, TOP + tall
-    bar, every = max(min(room * 0.7, 50), 0.5), max(1, -(-count // 14))
-    parts = [f'<path class="grid" d="M{LEFT} {floor - value / most * tall:.1f}h{WIDTH - LEFT - RIGHT}"/>' + text(LEFT - 6, floor - value / most * tall + 4, words, "end")
-             for value, words in worth_marks(0, most, 5)]
+    wide, every = max(min(room * 0.7, 50), 0.5), max(1, -(-count // 14))
+    parts = [level(LEFT, floor - value / most * tall, WIDTH - LEFT - RIGHT, words) for value, words in worth_marks(0, most, 5)]
     for plan in plans:
         x, left = LEFT + (plan.epoch - first + 0.5) * room, max(plan.load - plan.saved, 0)
-        title = f"<title>epoch {plan.epoch}: load {plan.load:,}, saved {plan.saved:,}, capacity {plan.capacity:,}, {plan.verdict}</title>"
+        title = f"epoch {plan.epoch}: load {plan.load:,}, saved {plan.saved:,}, capacity {plan.capacity:,}, {plan.verdict}"
         for kind, value in (("saved", plan.load), ("kept", left)):
             high = value / most * tall
-            parts.append(f'<rect class="{kind}" x="{x - bar / 2:.1f}" y="{floor - high:.1f}" width="{bar:.1f}" height="{high:.1f}">{title}</rect>')
-        parts.append(f'<path class="capacity" d="M{x - bar / 2 - 3:.1f} {floor - plan.capacity / most * tall:.1f}h{bar + 6:.1f}"/>')
+            parts.append(bar(kind, x - wide / 2, floor - high, wide, high, title))
+        parts.append(f'<path class="capacity" d="M{x - wide / 2 - 3:.1f} {floor - plan.capacity / most * tall:.1f}h{wide + 6:.1f}"/>')
         parts += [text(x, floor + 14, f"{plan.epoch:,}", "mid")] if (plan.epoch - first) % every == 0 else []
     drawn = picture(floor + 22, "".join(parts) + text(LEFT, TOP - 7, "load by epoch", "name"), "load and capacity by epoch")
     return drawn + legend([("load that is left", "#4a7ebb"), ("saved by the plan", "#c9d9ee"), ("capacity", "#c03030")])

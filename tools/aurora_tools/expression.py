@@ -105,8 +105,8 @@ def kind_of(node, fields, misfits, text):
     if word in COMPARISONS:
         left, right = kinds
         if left != right and not {left, right} & {None, "null"}:
-            misfits.append(Misfit(node.begin, f"`{word}` compares two values of one kind, and here `{part(text, node.sides[0])}` is of the kind {left}, "
-                                              f"`{part(text, node.sides[1])}` of the kind {right}"))
+            sides = " and ".join(f"`{part(text, side)}` is of the kind {kind}" for side, kind in zip(node.sides, kinds))
+            misfits.append(Misfit(node.begin, f"`{word}` compares two values of one kind, and here {sides}"))
         return "bool"
     wanted, said = ("bool", "booleans") if word in ("and", "or", "not") else ("int", "numbers")
     for side, kind in zip(node.sides, kinds):

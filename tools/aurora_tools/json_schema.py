@@ -35,6 +35,9 @@ class Schema:
     def properties(self, schema, value):
         return not isinstance(value, dict) or all(self.fits(value[key], inner) for key, inner in schema["properties"].items() if key in value)
 
+    def no_more(self, schema, value):
+        return not isinstance(value, dict) or schema["additionalProperties"] or set(value) <= set(schema["properties"])
+
     def items(self, schema, value):
         inner = schema["items"]
         if not isinstance(value, list):
@@ -61,7 +64,7 @@ RULES = {
     "const": lambda _, schema, value: same(value, schema["const"]),
     "enum": lambda _, schema, value: any(same(value, it) for it in schema["enum"]),
     "required": lambda _, schema, value: not isinstance(value, dict) or set(schema["required"]) <= set(value),
-    "additionalProperties": lambda _, schema, value: not isinstance(value, dict) or schema["additionalProperties"] or set(value) <= set(schema["properties"]),
+    "additionalProperties": Schema.no_more,
     "properties": Schema.properties,
     "items": Schema.items,
     "minItems": at_least("minItems", "array"),

@@ -50,24 +50,27 @@ def stream_finding(network, name, number, why):
 
 
 def too_many(*_):
-    return "a source has at most 1,000,000 tuples, and this line would be one more", "Cut the file into several sources of the same fields and put them together by a Union.", None
+    remedy = "Cut the file into several sources of the same fields and put them together by a Union."
+    return "a source has at most 1,000,000 tuples, and this line would be one more", remedy, None
 
 
 def cut(line, *_):
     if line.startswith(b"\xef\xbb\xbf"):
         return "it begins with a mark of byte order, which only the start of a file may have", "Take it away: sed 's/^\\xef\\xbb\\xbf//'", 0
     place = line.find(b"\r")
-    return "something stands behind a carriage return, which ends a record outside of quotes", "A file whose lines end by it alone is mended by: tr '\\r' '\\n'", place if place >= 0 else None
+    words = "something stands behind a carriage return, which ends a record outside of quotes"
+    return words, "A file whose lines end by it alone is mended by: tr '\\r' '\\n'", place if place >= 0 else None
 
 
 def number_of_fields(line, fields, kinds, _):
     names = ["the tick", *(f"`{name}`" for name, _ in kinds)]
     words = f"it has {counted(len(fields), 'field')}, and {listed(names)} make {len(names)}"
-    for sign, said in ((b";", "semicolons"), (b"\t", "tabs"), (b"|", "bars")):
+    for sign, written, said in ((b";", ";", "semicolons"), (b"\t", "\\t", "tabs"), (b"|", "|", "bars")):
         if len(fields) == 1 and line.count(sign) >= len(kinds):
-            return words, f"Fields are separated by commas, and here by {said}: tr '{sign.decode() if sign != bytes([9]) else chr(92) + 't'}' ','", line.find(sign)
-    remedy = "A field with a comma in it stands in double quotes." if len(fields) > len(names) else "What is missing is left empty, but its comma stands."
-    return words, remedy, fields[len(names)][1] if len(fields) > len(names) else None
+            return words, f"Fields are separated by commas, and here by {said}: tr '{written}' ','", line.find(sign)
+    if len(fields) > len(names):
+        return words, "A field with a comma in it stands in double quotes.", fields[len(names)][1]
+    return words, "What is missing is left empty, but its comma stands.", None
 
 
 def no_text(line, fields, *_):
@@ -75,7 +78,8 @@ def no_text(line, fields, *_):
         try:
             value.decode()
         except UnicodeDecodeError as fault:
-            return f"the byte {value[fault.start]:02X} in field {at} is no UTF-8", "A file of another code is mended by: iconv -f LATIN1 -t UTF-8", begin + fault.start
+            words = f"the byte {value[fault.start]:02X} in field {at} is no UTF-8"
+            return words, "A file of another code is mended by: iconv -f LATIN1 -t UTF-8", begin + fault.start
     return "a field isn't UTF-8", "", None
 
 

@@ -13,7 +13,8 @@ def twice(network, part, number, _):
     before = next((space, at) for space in spaces for at, it in enumerate(network.tables(space)) if it["name"] == name)
     line = network.places.line(network.places.offset(*before, "name"))
     rest = ", and sources and boxes share one space of names" if part == "box" and before[0] == "source" else ""
-    yield f"the name `{name}` stood before, as that of {before[0]} {before[1]} in line {line}{rest}", "Take another name here, and where this stream is taken.", ("name",)
+    words = f"the name `{name}` stood before, as that of {before[0]} {before[1]} in line {line}{rest}"
+    yield words, "Take another name here, and where this stream is taken.", ("name",)
 
 
 def unknown(network, part, number, item):
@@ -38,7 +39,8 @@ def cycle(network, _, number, __):
     if len(way) == 1:
         yield f"the box takes its own stream, `{names[0]}`", "A box takes what sources and other boxes give.", ("in",)
     else:
-        yield f"what it takes comes of what it gives, by way of {' <- '.join([*names, names[0]])}", "Take one of these streams from elsewhere: a network has no cycle.", ("in",)
+        words = f"what it takes comes of what it gives, by way of {' <- '.join([*names, names[0]])}"
+        yield words, "Take one of these streams from elsewhere: a network has no cycle.", ("in",)
 
 
 def way_round(network, start):
@@ -62,13 +64,16 @@ def window(network, _, number, __):
     if advance < 1:
         yield f"`advance` is {advance}, and must be 1 or more", "", ("advance",)
     elif advance > size:
-        yield f"`advance` is {advance:,} and greater than `size`, which is {size:,}: tuples between two windows would be in none", "Take an `advance` of at most `size`.", ("advance",)
+        words = f"`advance` is {advance:,} and greater than `size`, which is {size:,}: tuples between two windows would be in none"
+        yield words, "Take an `advance` of at most `size`.", ("advance",)
     elif size > 1 << 32:
         yield f"`size` is {size:,}, and must be {1 << 32:,} at most", "", ("size",)
     elif size > 4096 * advance:
-        yield f"`size` is {size:,}, which is over 4,096 times `advance`, {advance:,}", f"Take an `advance` of {-(-size // 4096):,} or more.", ("size",)
+        words = f"`size` is {size:,}, which is over 4,096 times `advance`, {advance:,}"
+        yield words, f"Take an `advance` of {-(-size // 4096):,} or more.", ("size",)
     else:
-        yield f"`phase` is {phase:,}, and must be 0 to {advance - 1:,}, below `advance`", f"A window begins at {phase % advance:,} too: `phase = {phase % advance}`.", ("phase",)
+        words = f"`phase` is {phase:,}, and must be 0 to {advance - 1:,}, below `advance`"
+        yield words, f"The same windows, and those before them, begin with `phase = {phase % advance}`.", ("phase",)
 
 
 def graph(network, _, number, __, why=""):
@@ -87,8 +92,9 @@ def graph(network, _, number, __, why=""):
     else:
         steep = [(after[1] - now[1]) / (after[0] - now[0]) for now, after in zip(points, points[1:])]
         at = next(at for at in range(1, len(steep)) if steep[at] > steep[at - 1])
-        yield (f"the line from {points[at]} to {points[at + 1]} rises by {steep[at]:g} a permille, more steeply than the line before it, which rises by {steep[at - 1]:g}",
-               "Each further part of the tuples is worth at most as much as the part before it.", ("graph", at + 1))
+        words = f"the line from {points[at]} to {points[at + 1]} rises by {steep[at]:g} a permille, more steeply than the line before it"
+        words += f", which rises by {steep[at - 1]:g}"
+        yield words, "Each further part of the tuples is worth at most as much as the part before it.", ("graph", at + 1)
 
 
 def off_the_grid(points):
@@ -118,8 +124,9 @@ def schema(network, part, number, item):
             yield f"entry {item} of `fields` is `{field}`, and must be of the form name:int: {why}", hint, ("fields", item)
     elif it["kind"] == "union":
         first, other = network.fields(it["in"][0]), network.fields(it["in"][item])
-        yield (f"a Union takes streams of the same fields: `{it['in'][0]}` has {shown_fields(first)}, and `{it['in'][item]}` has {shown_fields(other)}",
-               "Put a Map before it that gives the same names, kinds and order.", ("in", item))
+        words = f"a Union takes streams of the same fields: `{it['in'][0]}` has {shown_fields(first)}, and "
+        words += f"`{it['in'][item]}` has {shown_fields(other)}"
+        yield words, "Put a Map before it that gives the same names, kinds and order.", ("in", item)
     else:
         yield from names_of_fields(network, it, item)
 
@@ -128,7 +135,9 @@ def names_of_fields(network, box, item):
     """What is wrong with the names that a Map, Aggregate, Join or Resample gives its fields."""
     key = "set" if box["kind"] == "map" else "give"
     names = [entry[0] for entry in box.get(key, [])]
-    before = box.get("group", []) if box["kind"] == "aggregate" else [f"l_{it}" for it in network.fields(box["in"][0])] if box["kind"] == "resample" else []
+    before = box.get("group", [])
+    if box["kind"] == "resample":
+        before = [f"l_{it}" for it in network.fields(box["in"][0])]
     name = names[item] if item < len(names) else None
     if name is not None and not is_name(name):
         yield f"{said(name)} is no name for a field: {why_no_name(name)}", NAMED, (key, item, 0)
@@ -174,7 +183,8 @@ def why_unreadable(text, at, what):
     if any(rest.startswith(it) for it in expression.COMPARISONS):
         return "comparisons don't chain", "Write `a < b and b < c`."
     guess = near(last, ("and", "or", "not", "is")) if last.isalpha() else ""
-    return f"an operator must stand between `{last}` and `{rest.split()[0]}`, or the expression ends{guess}", "There are no functions: operators are + - * / %, comparisons, and, or, not, is null."
+    words = f"an operator must stand between `{last}` and `{rest.split()[0]}`, or the expression ends{guess}"
+    return words, "There are no functions: operators are + - * / %, comparisons, and, or, not, is null."
 
 
 def bad_token(text, at):
@@ -183,8 +193,9 @@ def bad_token(text, at):
         if two.startswith(sign):
             return f"there is no `{sign}`", f"Write `{instead}`."
     if here == "'":
-        closed = text.find("'", at + 1) > 0
-        return ("the text has more than 255 bytes", "") if closed else ("the text isn't closed", "It ends with a single quote; a quote in it is written twice.")
+        if text.find("'", at + 1) > 0:
+            return "the text has more than 255 bytes", ""
+        return "the text isn't closed", "It ends with a single quote; a quote in it is written twice."
     if here == '"':
         return "a text in an expression stands in single quotes", "Write 'so'."
     if here == ".":

@@ -11,27 +11,32 @@ from .run_words import Words
 RULES = {
     "Version": shape_rules.version, "Shape": shape_rules.shape, "Limit": shape_rules.limit, "NoName": shape_rules.no_name,
     "Twice": meaning_rules.twice, "Unknown": meaning_rules.unknown, "Cycle": meaning_rules.cycle, "Window": meaning_rules.window,
-    "Graph": meaning_rules.graph, "Schema": meaning_rules.schema, "Expr": meaning_rules.unreadable, "Typing": meaning_rules.typing, "Group": meaning_rules.group,
+    "Graph": meaning_rules.graph, "Schema": meaning_rules.schema, "Expr": meaning_rules.unreadable, "Typing": meaning_rules.typing,
+    "Group": meaning_rules.group,
 }
+HEADINGS = "Each source, box and output has a heading with double brackets: [[source]], [[box]], [[output]]."
+BEGINNING = "What was written is the beginning of each output's lines."
 TOML_FAULTS = (
     (r"Illegal character '\\n'|Unterminated string|Expected \"'\"", "a text isn't closed on its line", "It ends with the quote that it began with."),
     (r"Invalid value", "no value begins here", "Texts stand in double quotes, lists in square brackets, true and false are in small letters."),
     (r"Cannot overwrite a value", "this key stands twice in its table", "Each table has a key once: is a line with [[box]] missing before it?"),
-    (r"Cannot declare|Cannot mutate|namespace", "this table can't stand here", "Each source, box and output has a heading with double brackets: [[source]], [[box]], [[output]]."),
+    (r"Cannot declare|Cannot mutate|namespace", "this table can't stand here", HEADINGS),
     (r"Expected '\]", "a heading isn't closed", "A table of an array has double brackets on both sides, as [[box]]."),
     (r"Expected '='", "a key is followed by =", ""),
     (r"Unclosed array", "a list isn't closed", "It ends with a square bracket; between its entries stand commas."),
-    (r"Expected newline or end of document", "something stands behind the end of a value", "Each key has a line of its own; a text in a list stands in quotes."),
+    (r"Expected newline or end of document", "something stands behind the end of a value",
+     "Each key has a line of its own; a text in a list stands in quotes."),
     (r"Invalid initial character for a key part|Invalid statement", "no key begins here", "A line is KEY = VALUE, or a heading as [[box]]."),
     (r"Unescaped '\\\\'", "a backslash in double quotes begins an escape", "Write it twice, or take single quotes round the text."),
 )
+FROM_HERE = "Names are looked for from the folder where the program is run."
 FIXED = {
-    "spill disk failed": "The spill file aurora.spill, in the folder where the program was run, couldn't be made, written or read. Is something of that name there "
-                         "already, is the folder not to be written, or the disk full? More memory by --frames spills less. What was written is the beginning of each output's lines.",
-    "output failed": "Standard output took no more: the disk is full, or the program that read it ended before, as `head` does. What was written is the beginning of each output's lines.",
+    "spill disk failed": "The spill file aurora.spill, in the folder where the program was run, couldn't be made, written or read. Is something of "
+                         "that name there already, is the folder not to be written, or the disk full? More memory by --frames spills less. " + BEGINNING,
+    "output failed": "Standard output took no more: the disk is full, or the program that read it ended before, as `head` does. " + BEGINNING,
     "too many tuples": "More tuples and marks would be fed than are counted, 2^62.",
-    "out of memory": "A run keeps its whole streams in memory, and open windows, slack and Joins beside them. Cut the streams, or make windows and sizes smaller. "
-                     "What was written, if anything, is the beginning of each output's lines.",
+    "out of memory": "A run keeps its whole streams in memory, and open windows, slack and Joins beside them. "
+                     "Cut the streams, or make windows and sizes smaller. " + BEGINNING,
 }
 
 
@@ -54,7 +59,7 @@ def findings(words, message):
     elif said in FIXED:
         yield Finding(FIXED[said])
     elif re.match(r"page \d+ |arc \d+: ", said):
-        yield Finding("The spill file came back with other bytes than were put into it. Test the disk, and run again. What was written is the beginning of each output's lines.")
+        yield Finding("The spill file came back with other bytes than were put into it. Test the disk, and run again. " + BEGINNING)
 
 
 def of_network(network, match):
@@ -102,7 +107,8 @@ def toml_finding(network):
         network.bytes.decode()
     except UnicodeDecodeError as fault:
         line = network.bytes.count(b"\n", 0, fault.start) + 1
-        return Finding(f"the byte {network.bytes[fault.start]:02X} is no UTF-8", "A file of another code is mended by: iconv -f LATIN1 -t UTF-8", network.path, line)
+        words = f"the byte {network.bytes[fault.start]:02X} is no UTF-8"
+        return Finding(words, "A file of another code is mended by: iconv -f LATIN1 -t UTF-8", network.path, line)
     if not network.fault:
         wide = re.search(r"\b[0-9][0-9_]{18,}\b", network.text)
         line, column = line_and_column(network.text, wide.start()) if wide else (0, None)
@@ -125,7 +131,7 @@ def of_this_line(words, remedy, lines, line):
     if "heading" in words and entry:
         return "no list goes on here: the one above ended already", "Look for a bracket too many in the lines above."
     if "twice" in words and heading:
-        return "there is a table of this name with single brackets", "Each source, box and output has a heading with double brackets: [[source]], [[box]], [[output]]."
+        return "there is a table of this name with single brackets", HEADINGS
     return words + (stood_before(lines, line) if "twice" in words else ""), remedy
 
 
@@ -170,9 +176,9 @@ def unread(name, given):
     else:
         words = f"{who}{name} isn't there" + near(os.path.basename(name), os.listdir(folder))
     if not os.path.exists(name) and given.nets and name != given.nets[0] and os.path.exists(beside):
-        remedy = f"It lies beside the network file: names are looked for from the folder where the program is run, so go there first: cd {os.path.dirname(given.nets[0])}"
+        remedy = f"It lies beside the network file. {FROM_HERE} Go there first: cd {os.path.dirname(given.nets[0])}"
     elif not os.path.exists(name):
-        remedy = "Names are looked for from the folder where the program is run."
+        remedy = FROM_HERE
     return Finding(words, remedy, path, line, text)
 
 

@@ -2,23 +2,23 @@
 import html
 
 from . import charts, graph, run_text, series
+from .finding import counted, listed
 
 STYLE = """
 :root{color-scheme:light}body{font:15px/1.45 system-ui,sans-serif;margin:0 auto;padding:1em 1.2em 3em;max-width:1120px;color:#222;background:#fff}
 h1{font-size:1.5em}h2{font-size:1.2em;margin:1.8em 0 .4em;border-bottom:1px solid #ccc}h3{font-size:1em;margin:1.2em 0 .2em}
 .wide{overflow-x:auto}.wide svg{display:block;width:100%;max-width:880px;height:auto}.network svg{max-width:100%;width:auto}
-.legend{margin:0 0 .6em;padding-left:min(5.5em,8%);font-size:.88em}.legend span{margin-right:1.1em;white-space:nowrap}.legend i{display:inline-block;width:1.3em;height:.3em;margin-right:.4em;vertical-align:middle}
-table{border-collapse:collapse;font-size:.93em;margin:.5em 0}th,td{border:1px solid #ccc;padding:.15em .6em;text-align:right;white-space:nowrap}th{background:#f3f3f3}
-th:first-child,td:first-child{text-align:left}.state{padding:.5em .8em;border-left:5px solid}.good{background:#e9f6e9;border-color:#3a8f3a}.bad{background:#fdeaea;border-color:#c03030}
-.note{color:#555;font-size:.93em}svg text{font:11px system-ui,sans-serif;fill:#333}svg .end{text-anchor:end}svg .mid{text-anchor:middle}svg .name{font-weight:bold}
+.legend{margin:0 0 .6em;padding-left:min(5.5em,8%);font-size:.88em}.legend span{margin-right:1.1em;white-space:nowrap}
+.legend i{display:inline-block;width:1.3em;height:.3em;margin-right:.4em;vertical-align:middle}
+table{border-collapse:collapse;font-size:.93em;margin:.5em 0}th,td{border:1px solid #ccc;padding:.15em .6em;text-align:right;white-space:nowrap}
+th{background:#f3f3f3}th:first-child,td:first-child{text-align:left}.note{color:#555;font-size:.93em}
+.state{padding:.5em .8em;border-left:5px solid}.good{background:#e9f6e9;border-color:#3a8f3a}.bad{background:#fdeaea;border-color:#c03030}
+svg text{font:11px system-ui,sans-serif;fill:#333}svg .end{text-anchor:end}svg .mid{text-anchor:middle}svg .name{font-weight:bold}
 svg .grid{stroke:#e3e3e3;fill:none}svg .frame{stroke:#999;fill:none}svg .gone{fill:#c8c8c8}svg .line{fill:none;stroke-width:1.6}
+svg .over .line{stroke-dasharray:7 7}
 svg .kept{fill:#4a7ebb}svg .saved{fill:#c9d9ee}svg .capacity{stroke:#c03030;stroke-width:2}
 """
 MOST_SPANS = 12
-
-
-def counted(number, one):
-    return f"{number:,} {one if number == 1 else one + ('es' if one.endswith('ch') else 's')}"
 
 
 def table(heads, rows):
@@ -30,12 +30,14 @@ def table(heads, rows):
 def state(network, run):
     """Says whether the run came to its end, and what is missing."""
     if not run.whole:
-        return ('<p class="state bad">The run didn\'t come to its end: the text has no <code>@end</code>. What is here is the beginning of each output; '
-                "what would follow isn't known, and more is missing than is grey below.</p>")
+        return ('<p class="state bad">The run didn\'t come to its end: the text has no <code>@end</code>. What is here is the beginning of each '
+                "output; what would follow isn't known, and more is missing than is grey below.</p>")
+    counts = [(number, sum(it.drop == number for it in run.batches)) for number in range(len(network.drops))]
+    gone = listed(f"{counted(count, 'batch', 'batches')} of drop {number}" for number, count in counts if count)
+    missing = f"Under load it left out {gone}: the windows that are grey below." if run.batches else "It left out no windows: each output is whole."
     late = sum(run.late.values())
-    gone = [f"{counted(sum(it.drop == number for it in run.batches), 'batch')} of drop {number}" for number in range(len(network.drops)) if any(it.drop == number for it in run.batches)]
-    missing = f"Under load it left out {' and '.join(gone)}: the windows that are grey below." if gone else "It left out no windows: each output is whole."
-    return f'<p class="state good">The run came to its end. {missing}' + (f" A BSort left out {counted(late, 'tuple')}, too late or without a time." if late else "") + "</p>"
+    too_late = f" A BSort left out {counted(late, 'tuple')}, too late or without a time." if late else ""
+    return f'<p class="state good">The run came to its end. {missing}{too_late}</p>'
 
 
 def axis_of(network, run, seconds):
@@ -50,8 +52,11 @@ def output_part(network, run, number, axis, colours):
     rows, gone = run.shown(output), run_text.missing(network, run, number)
     ends = [axis.text(low) if low == high - 1 else f"{axis.text(low)} to {axis.text(high - 1)}" for low, high in gone[:MOST_SPANS]]
     more = f", and {len(gone) - MOST_SPANS:,} spans more" if len(gone) > MOST_SPANS else ""
-    left_out = f"Left out by drop {drop}: the windows that start from {', '.join(ends)}{more}." if gone else "Nothing of it was left out." if run.whole else ""
-    parts = [f"<h3>{html.escape(output['name'])}</h3><p>{counted(len(rows), 'line')} of the stream <code>{html.escape(output['from'])}</code>, weight {output.get('weight', 1):,}. {left_out}</p>"]
+    left_out = f"Left out by drop {drop}: the windows that start from {', '.join(ends)}{more}." if gone else ""
+    if not gone and run.whole:
+        left_out = "Nothing of it was left out."
+    stream, weight = f"the stream <code>{html.escape(output['from'])}</code>", f"weight {output.get('weight', 1):,}"
+    parts = [f"<h3>{html.escape(output['name'])}</h3><p>{counted(len(rows), 'line')} of {stream}, {weight}. {left_out}</p>"]
     if rows or gone:
         for one in series.series_of(network, output, rows):
             parts.append(charts.panel(one, gone, axis, colours))
@@ -69,29 +74,35 @@ def plans_part(network, run, axis):
             levels = [it.level for it in run.batches if it.drop == number and it.number in batches]
             row.append(f"{len(levels)} of {len(batches)}" + (f" (level {levels[0]})" if levels else ""))
         rows.append(row)
-    heads = ["epoch", "from tick", "load", "capacity", "saved", "verdict", *(f"drop {number}, at {drop.stream}" for number, drop in enumerate(network.drops))]
+    heads = ["epoch", "from tick", "load", "capacity", "saved", "verdict"]
+    heads += [f"drop {number}, at {drop.stream}" for number, drop in enumerate(network.drops)]
     return ("<h2>Plans</h2>" + charts.loads(run.plans) + table(heads, rows) +
-            '<p class="note">A load is estimated from the epoch before. An epoch that isn\'t here had no plan that takes a step. Of each drop stands how many of the batches that '
-            "begin in the epoch were left out; a level is the chance of each of them in permille, so of few batches more or fewer go.</p>")
+            '<p class="note">A load is estimated from the epoch before. An epoch that isn\'t here had no plan that takes a step. Of each drop stands '
+            "how many of the batches that begin in the epoch were left out; a level is the chance of each of them in permille, so of few batches "
+            "more or fewer go.</p>")
 
 
 def boxes_part(network, run):
-    rows = [(box["name"], box["kind"], f"{run.fed[box['name']]:,}" if box["name"] in run.fed else "not told", f"{run.late[box['name']]:,}" if box["name"] in run.late else "")
-            for box in network.boxes]
+    def told(counts, name, otherwise):
+        return f"{counts[name]:,}" if name in counts else otherwise
+    rows = [(box["name"], box["kind"], told(run.fed, box["name"], "not told"), told(run.late, box["name"], "")) for box in network.boxes]
     return "<h2>Boxes</h2>" + table(["box", "kind", "tuples fed", "late"], rows) if rows else ""
 
 
 def made(network, run, title, seconds):
     """Returns the page."""
     axis, picture = axis_of(network, run, seconds), graph.drawn(network, run)
-    parts = [f'<!doctype html><html lang="en"><meta charset="utf-8"><meta name="viewport" content="width=device-width"><title>{html.escape(title)}</title><style>{STYLE}</style>']
-    parts.append(f"<h1>{html.escape(title)}</h1>{state(network, run)}<h2>Network</h2>")
+    parts = ['<!doctype html><html lang="en"><meta charset="utf-8"><meta name="viewport" content="width=device-width">']
+    parts.append(f"<title>{html.escape(title)}</title><style>{STYLE}</style><h1>{html.escape(title)}</h1>{state(network, run)}<h2>Network</h2>")
     parts.append(f'<div class="wide network">{picture}</div>' if picture else "<p>Not drawn: Graphviz wasn't there.</p>")
     colours = {}
     parts.append("<h2>Outputs</h2>")
-    parts += [output_part(network, run, number, axis, colours) for number in range(len(network.outputs))] if axis else ["<p>No output has a line.</p>"]
+    if axis is None:
+        parts.append("<p>No output has a line.</p>")
+    parts += [output_part(network, run, number, axis, colours) for number in range(len(network.outputs)) if axis]
     parts.append(plans_part(network, run, axis or charts.Axis(0, 1, seconds)) if run.plans else "")
     parts.append(boxes_part(network, run))
-    parts.append('<p class="note">Grey are windows that the run says it left out: what was there isn\'t known. A line that breaks elsewhere had no tuple there. '
-                 f"Ticks are {'seconds since 1970, shown in UTC' if seconds else 'shown as they are'}. The page is made from the lines of the run by a script, which isn't proved.</p></html>\n")
+    parts.append('<p class="note">Grey are windows that the run says it left out: what was there isn\'t known. A line that breaks elsewhere had no '
+                 f"tuple there. Ticks are {'seconds since 1970, shown in UTC' if seconds else 'shown as they are'}. The page is made from the lines "
+                 "of the run by a script, which isn't proved.</p></html>\n")
     return "\n".join(parts)

@@ -57,10 +57,12 @@ def agree(network, run):
         drop, width = drop_above(network, number), len(network.fields(output["from"]))
         for time, fields in run.shown(output):
             if drop is not None and (drop, time // network.drops[drop].length) in gone:
-                raise Strange(f"{output['name']} has a line of tick {time}, and drop {drop} left out batch {time // network.drops[drop].length}, in which it lies: "
+                batch = time // network.drops[drop].length
+                raise Strange(f"{output['name']} has a line of tick {time}, and drop {drop} left out batch {batch}, in which it lies: "
                               f"{network.path} isn't the network of this run")
             if len(fields) != width:
-                raise Strange(f"{output['name']} has a line with {len(fields)} fields, and {width} in {network.path}, which isn't the network of this run")
+                raise Strange(f"{output['name']} has a line with {len(fields)} fields, and {width} in {network.path}, "
+                              "which isn't the network of this run")
 
 
 def drop_above(network, output):

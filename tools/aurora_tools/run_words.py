@@ -5,6 +5,10 @@ NUMBERS = {"--seed": (0, (1 << 64) - 1), "--train": (1, 4096), "--frames": (2, 1
 OPTIONS = ("--capacities", "--seed", "--policy", "--picks", "--train", "--frames")
 
 
+def is_between(text, least, most):
+    return text.isascii() and text.isdigit() and len(text) <= 20 and least <= int(text) <= most
+
+
 class Words:
     """NET and the options of a run as they were written, and what is wrong with them."""
 
@@ -22,7 +26,8 @@ class Words:
             else:
                 self.nets.append(word)
         if len(self.nets) != 1 or not self.nets[0]:
-            self.faults.append("a run takes one network file, and " + ("none is named" if not any(self.nets) else f"{len(self.nets)} words could be it: {' '.join(self.nets)}"))
+            named = f"{len(self.nets)} words could be it: {' '.join(self.nets)}" if any(self.nets) else "none is named"
+            self.faults.append(f"a run takes one network file, and {named}")
         if "--policy" in self.options and "--picks" in self.options:
             self.faults.append("`--policy` and `--picks` exclude each other")
 
@@ -33,7 +38,7 @@ class Words:
             self.faults.append(f"`{name}` stands twice")
         elif not value:
             self.faults.append(f"`{name}` has no value behind it, or one that begins with `-`: write {name}=VALUE")
-        elif name in NUMBERS and not (value.isascii() and value.isdigit() and len(value) <= 20 and NUMBERS[name][0] <= int(value) <= NUMBERS[name][1]):
+        elif name in NUMBERS and not is_between(value, *NUMBERS[name]):
             self.faults.append(f"the value of `{name}` is `{value}`, and must be {NUMBERS[name][0]:,} to {NUMBERS[name][1]:,}")
         elif name == "--policy" and value not in ("rr", "long", "seeded"):
             self.faults.append(f"there is no policy `{value}`{near(value, ('rr', 'long', 'seeded'))}; they are rr, long and seeded")

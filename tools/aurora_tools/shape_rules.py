@@ -4,9 +4,11 @@ import re
 from .finding import article, counted, listed, near
 from .network import FIELD_KINDS, FUNCTIONS, KINDS, NAME, OPTIONAL, REQUIRED, WORDS, is_name, keys_of
 
-TEXT, NUMBER, LIST, TABLES = "a text, in double quotes", "a whole number, without quotes", "a list, in square brackets", "an array of tables, each headed by double brackets"
+TEXT, NUMBER, LIST = "a text, in double quotes", "a whole number, without quotes", "a list, in square brackets"
+TABLES = "an array of tables, each headed by double brackets"
 WANTED = {
-    "version": NUMBER, "epoch": NUMBER, "batch": NUMBER, "cost": NUMBER, "slack": NUMBER, "size": NUMBER, "advance": NUMBER, "phase": NUMBER, "weight": NUMBER,
+    "version": NUMBER, "epoch": NUMBER, "batch": NUMBER, "cost": NUMBER, "slack": NUMBER,
+    "size": NUMBER, "advance": NUMBER, "phase": NUMBER, "weight": NUMBER,
     "source": TABLES, "box": TABLES, "output": TABLES,
     "fields": LIST, "in": LIST, "selectivity": LIST, "where": LIST, "set": LIST, "group": LIST, "give": LIST, "graph": LIST,
     "name": TEXT, "file": TEXT, "kind": TEXT, "by": TEXT, "on": TEXT, "from": TEXT,
@@ -35,12 +37,14 @@ def said(value):
 def version(network, *_):
     have = network.table.get("version")
     if have is not None:
-        hint = "Write the number without quotes." if isinstance(have, str) else "Write `version = 1`, or `version = 2` where an Aggregate has a `phase`."
+        hint = "Write `version = 1`, or `version = 2` where an Aggregate has a `phase`."
+        hint = "Write the number without quotes." if isinstance(have, str) else hint
         yield f"`version` is {said(have)}, and there are the versions 1 and 2", hint, ("version",)
         return
     lost = next(((part, number) for part in ("source", "box", "output") for number, it in enumerate(network.tables(part)) if "version" in it), None)
     if lost:
-        yield f"`version` stands in {lost[0]} {lost[1]}, whose table begins above it", "Set it before the first line with brackets.", (lost, "version")
+        words = f"`version` stands in {lost[0]} {lost[1]}, whose table begins above it"
+        yield words, "Set it before the first line with brackets.", (lost, "version")
     else:
         yield "the file has no `version`", "Begin it with `version = 1`.", ()
 
@@ -109,7 +113,8 @@ def given(at, entry):
     elif entry[1] not in FUNCTIONS:
         yield f"there is no function `{entry[1]}`{near(entry[1], FUNCTIONS)}", f"The functions are {listed(FUNCTIONS)}. {form}", ("give", at, 1)
     elif entry[1] == "count" and len(entry) > 2:
-        yield "`count` takes no field: it counts tuples", "For the number of values that aren't Null put a Filter before it, as `where = [\"x is not null\"]`.", ("give", at)
+        hint = "For the number of values that aren't Null put a Filter before it, as `where = [\"x is not null\"]`."
+        yield "`count` takes no field: it counts tuples", hint, ("give", at)
     elif entry[1] != "count" and len(entry) != 3:
         yield f"`{entry[1]}` needs one field behind it", form, ("give", at)
 
@@ -179,15 +184,16 @@ def limit_output(_, it, number):
 def limit_drop(network, _, number):
     drop = network.drops[number]
     where = f"drop {number} stands at the stream `{drop.stream}`; "
-    advances = listed(f"{network.boxes[it]['name']} {network.boxes[it]['advance']:,}" for it in drop.boxes if network.boxes[it]["kind"] == "aggregate")
+    below = [network.boxes[it] for it in drop.boxes]
+    advances = "The advances are: " + listed(f"{box['name']} {box['advance']:,}" for box in below if box["kind"] == "aggregate") + "."
     way = (("box", network.arcs[min(drop.arcs)][1][1]),)
     if drop.length > 1 << 34:
-        yield (f"{where}a batch of its windows has {drop.length:,} ticks, the least common multiple of advances times `batch`, and may have {1 << 34:,} at most",
-               f"Take advances that divide each other, or a smaller `batch`. The advances are: {advances}.", way)
+        yield (f"{where}a batch of its windows has {drop.length:,} ticks, the least common multiple of advances times `batch`, "
+               f"and may have {1 << 34:,} at most", f"Take advances that divide each other, or a smaller `batch`. {advances}", way)
     else:
-        batch = network.table.get("batch", 1)
-        yield (f"{where}the Aggregates below reach back over {drop.reach + 1:,} ticks, and may over 4,096 batches of {counted(drop.length, 'tick')}",
-               f"Take `batch = {-(-(drop.reach + 1) // (4096 * (drop.length // batch)))}` or more, or greater advances. The advances are: {advances}.", way)
+        enough = -(-(drop.reach + 1) // (4096 * (drop.length // network.table.get("batch", 1))))
+        words = f"{where}the Aggregates below reach back over {drop.reach + 1:,} ticks, and may over 4,096 batches of {counted(drop.length, 'tick')}"
+        yield words, f"Take `batch = {enough}` or more, or greater advances. {advances}", way
 
 
 def expressions(box):
@@ -227,6 +233,8 @@ def why_no_field(text):
         return "it has a blank", "Write it without blanks."
     if kind not in FIELD_KINDS:
         other = {"integer": "int", "number": "int", "boolean": "bool", "string": "text", "str": "text", "i64": "int"}.get(kind.lower(), None)
-        hint = "Fractions are kept as whole numbers of a smaller unit, as tenths or cents." if kind.lower() in ("float", "double", "real", "decimal") else ""
-        return f"there is no kind `{kind}`" + (f" (is `{other}` meant?)" if other else near(kind, FIELD_KINDS)), f"The kinds are {listed(FIELD_KINDS)}. {hint}".rstrip()
+        fraction = kind.lower() in ("float", "double", "real", "decimal")
+        hint = " Fractions are kept as whole numbers of a smaller unit, as tenths or cents." if fraction else ""
+        guess = f" (is `{other}` meant?)" if other else near(kind, FIELD_KINDS)
+        return f"there is no kind `{kind}`{guess}", f"The kinds are {listed(FIELD_KINDS)}.{hint}"
     return f"`{name}` is no name: {why_no_name(name)}", NAMED
