@@ -123,7 +123,7 @@ LINES = [
     ("4.5,a,1,true", "Tick", "whole"),
     (" 4,a,1,true", "Tick", "Blanks"),
     ("2,a,1,true", "Falls", "line 3, `3`"),
-    ("4,a,1.5,true", "NotInt", "`value`"),
+    ("4,a,1.5,true", "NotInt", "`value:int`"),
     ("4,a,NA,true", "NotInt", "left empty"),
     ('4,a,"1,000",true', "NotInt", "thousands"),
     ("4,a,9223372036854775808,true", "NotInt", "64 bits"),
