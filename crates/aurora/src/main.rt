@@ -1,17 +1,15 @@
 //! The program `aurora`: what the words after its name ask for, a run of the working folder's files or of what a number
 //! makes, over the standard streams.
 //!
-//! It promises nothing beyond `run_words` of `sq_top`, which it calls once over the real objects of `outside`. They
+//! It promises nothing beyond `run_words` of `sq_top`, which it calls once over the real objects of `sq_system`. They
 //! tell no content, so of a run of files the contract says how it ended, and what was written is shown by a stored run.
 //! Its exit code is that of the status.
 #![tactic(auto)]
 
 ghost use Rattle.std.specs.Prelude.{◌≡◌, ◌<◌};
 
-mod outside;
-
-use outside::{OpenFolder, Out, SpillFile};
 use sq_outside::{Steps, write_all};
+use sq_system::{OpenFolder, Out, SpillFile};
 use sq_top::{Status, run_words};
 use std::alloc::{AllocError, Global};
 use std::env;

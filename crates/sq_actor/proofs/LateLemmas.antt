@@ -2,7 +2,7 @@
 use Rattle.std.proofs.Common.{◌≡◌, false, [], length, refl, ap, arith}
 use Rattle.sq_lists.specs.Sorters.{sort_flush}
 use Rattle.sq_actor.specs.declared.actor.Actor.{Actor}
-use Rattle.sq_actor.specs.declared.actor.Actor.TheVariants.{Filter, Map, Union, BSort, Aggregate, Join, Shed, Gate}
+use Rattle.sq_actor.specs.declared.actor.Actor.TheVariants.{Filter, Map, Union, BSort, Aggregate, Join, Resample, Shed, Gate}
 use Rattle.sq_actor.specs.contracts.actor.ActorOperator.TheImpl.{ghosts}
 use Rattle.sq_actor.specs.Late.{late_by}
 
@@ -17,5 +17,6 @@ late-lost (BSort b) v r =
     omega (arith, held, flush)
 late-lost (Aggregate b) v r = refl
 late-lost (Join b) v r = refl
+late-lost (Resample b) v r = refl
 late-lost (Shed b) v r = refl
 late-lost (Gate b) v r = refl

@@ -1,33 +1,11 @@
-//! Cases of the top call, kept as data: files, words and calls that are to fail, and what a run over them gives.
+//! The program of cases: shows each case of the files that its words name, by `show_cases` of `sq_casebook`, and at the end
+//! how many runs were compared with the slow definitions.
 //!
-//! The program promises nothing of its own. For each case of the files that its words name it runs `run_words` of
-//! `sq_top` over objects in memory, and prints the number of the status, what was written and what was told. The stored
-//! run compares that with what was worked out by hand. Where a run ended well, its lines are also compared with what the
-//! slow definitions of `sq_model` give for the same files: each output with its answer, each drop with its record. A class
-//! that differs is shown, and at the end how many runs were compared.
-//!
-//! A case begins with a line `= TITLE`. Settings follow, if any; then files, each `- NAME` and its lines; then rows, each
-//! `| ROW`, and each a run with the row in place of `$`. A line that ends in `\` has no end of line, `\n` and `\r` are ends of
-//! lines, and `~COUNT TEXT~` is so many copies, with the number of each in place of `#`. The settings:
-//! - `words: run,a.toml`; `made: 7,20000` (the files that the generator makes of a number and so many lines);
-//! - `folder fails: 0,2`, `out fails: 9`, `err fails: 0`, `disk fails: 2` (calls that fail), `takes: 1` (how many bytes a call of
-//!   a sink takes), `flips: 0`, `swaps: 0` (gets of the disk that answer a byte wrongly, or another page);
-//! - `turns: calls`, `turns: flips` (each call of the disk fails in turn, or each get answers a byte wrongly, until a run ends
-//!   well: shown is each run that isn't as it is to be);
-//! - `classes: @plan,o` (the lines with these first fields are shown class by class, and then all others, where the order of the
-//!   classes isn't fixed), `counted: o` (of these only how many lines there are), `puts: 5` (so many pages are put at least).
+//! It promises nothing of its own. The stored run compares what it prints with what was worked out by hand.
 #![tactic(auto)]
 
-mod beside;
-mod case;
-mod given;
-mod running;
-mod texts;
-mod turns;
-
 use anyhow::Error;
-use running::show_cases;
-use std::alloc::Global;
+use sq_casebook::show_cases;
 use std::{env, fs};
 
 fn main(rt: HostRuntime) -> Result<(), Error> {

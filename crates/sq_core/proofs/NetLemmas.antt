@@ -254,6 +254,7 @@ takes-some kinds.Union k h = at_least 1 8 k h
 takes-some kinds.BSort k h = grind (arith, nat_tests)
 takes-some kinds.Aggregate k h = grind (arith, nat_tests)
 takes-some kinds.Join k h = grind (arith, nat_tests)
+takes-some kinds.Resample k h = grind (arith, nat_tests)
 
 box-reads : (n : Network) → IsSound n → (b : ℕ) → b < length n.boxes → 1 ≤ length (row_of n (Box b))
 box-reads n sound b low = by (slice_get n.wires.boxes b) refl

@@ -26,6 +26,7 @@ pub enum BoxKind {
     BSort,
     Aggregate,
     Join,
+    Resample,
 }
 
 /// A box: its kind, the numbers of the streams that its inputs take, and how many ports give a stream.

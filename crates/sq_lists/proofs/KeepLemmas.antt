@@ -26,6 +26,7 @@ use Rattle.sq_lists.specs.Windows.{groups_of, in_group, in_window, window_result
 use Rattle.sq_lists.specs.WindowParts.{NotFalling}
 use Rattle.sq_lists.specs.Keeps.{KeepStreams}
 use Rattle.sq_lists.proofs.LeastLemmas.{holds-least}
+use Rattle.sq_lists.proofs.NearLemmas.{resample_keeps}
 use Rattle.sq_lists.proofs.SorterFacts.{timed-is}
 use Rattle.sq_lists.proofs.AllLemmas.{All-weaker, All-filter, All-push, All-sort}
 use Rattle.sq_lists.proofs.WindowLemmas.{stream_rises, stream_ticks}
@@ -239,4 +240,5 @@ keep_streams = record {
   bsort = bsort_keeps;
   aggregate = λ fs by w xs h. aggregate_keeps (answers_of fs) by w xs h;
   join = join_keeps;
+  resample = resample_keeps;
 }

@@ -10,3 +10,5 @@ pub mod WindowLemmas
 mod AggregateRows
 pub mod SideLemmas
 mod PairRows
+pub mod NearLemmas
+mod ResampleRows

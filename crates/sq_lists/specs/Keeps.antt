@@ -11,6 +11,7 @@ use Rattle.sq_lists.specs.Merge as merges
 use Rattle.sq_lists.specs.Sorting.{bsort_list_of}
 use Rattle.sq_lists.specs.Windows.{aggregate_list_of}
 use Rattle.sq_lists.specs.Pairs.{join_list_of}
+use Rattle.sq_lists.specs.Resamples.{resample_list_of}
 
 -- box by box, at each port and for all parameters
 pub record KeepStreams : Type 0 where
@@ -20,3 +21,4 @@ pub record KeepStreams : Type 0 where
   pub bsort : (by slack : ℕ) (xs : List Tuple) → IsStream xs → IsStream (bsort_list_of by slack xs)
   pub aggregate : (fs : List Func) (by : List ℕ) (w : WindowSpec) (xs : List Tuple) → IsStream xs → IsStream (aggregate_list_of fs by w xs)
   pub join : (size : ℕ) (on : Expr) (left right : List Tuple) → IsStream left → IsStream right → IsStream (join_list_of size on left right)
+  pub resample : (fs : List Func) (size : ℕ) (left right : List Tuple) → IsStream left → IsStream (resample_list_of fs size left right)

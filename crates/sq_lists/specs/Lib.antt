@@ -7,3 +7,5 @@ pub mod Windows
 pub mod WindowParts
 pub mod Pairs
 pub mod Sides
+pub mod Resamples
+pub mod Nearness

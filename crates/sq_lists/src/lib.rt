@@ -8,6 +8,7 @@
 mod laws;
 mod merges;
 mod pairs;
+mod resamples;
 mod sides;
 mod sorter;
 mod sorts;
@@ -17,7 +18,8 @@ mod windows;
 pub use laws::boxes_keep_streams;
 pub use merges::merge;
 pub use pairs::join_list;
-pub use sides::{Sides, passing_pair};
+pub use resamples::{resample_list, with_answers};
+pub use sides::{Sides, begins_past, passing_pair};
 pub use sorter::Sorter;
 pub use sorts::{bsort_list, time_in_field};
 pub use tuples::{filter_list, map_list, map_tuple, port_of_tuple};

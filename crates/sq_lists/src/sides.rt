@@ -75,7 +75,8 @@ pub struct Sides {
     pub right: VecDeque<Tuple>,
 }
 
-fn begins_past(held: &VecDeque<Tuple>, size: u64, now: u64) -> bool
+/// Whether the first tuple is more than `size` ticks before a time.
+pub fn begins_past(held: &VecDeque<Tuple>, size: u64, now: u64) -> bool
     ensures { result ≡ begins_past size now held.now.items }
 {
     match held.front() {

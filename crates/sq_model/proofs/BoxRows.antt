@@ -120,6 +120,22 @@ join_fed = refl
 join_work : work_of join sides ≡ 7
 join_work = refl
 
+-- a sum of what is at most 1 tick from a left tuple; arc 2 is the output's
+abbrev resample : Network
+resample = lone (body.Resample 1 (func.Sum 0 ∷ [])) (source (codes "l") ∷ source (codes "r") ∷ []) ((codes "l_v", kind.Int) ∷ (codes "sum", kind.Int) ∷ [])
+
+abbrev readings : List (List Tuple)
+readings = (at 2 1 ∷ at 5 2 ∷ []) ∷ (at 1 10 ∷ at 3 20 ∷ at 4 30 ∷ []) ∷ []
+
+sums_near : full_arc resample readings 2 ≡ pair_at 2 1 30 ∷ pair_at 5 2 30 ∷ []
+sums_near = refl
+
+resample_fed : map (fed_of resample readings) (numbers_to 1) ≡ 5 ∷ []
+resample_fed = refl
+
+resample_work : work_of resample readings ≡ 7
+resample_work = refl
+
 -- each network of such wires is placed, where the box's window is one
 placed_by : (w : Wiring) (b : Node) (n : Network) → IsWired w → All (λ s. is_there (producer_of w s) ≡ true) w.outputs → length w.boxes ≤ length (order_of w)
     → length w.boxes ≡ 1 → length (producers_of w) < 2 ^ 32 → All (λ (x : BoxWires). length x.inputs ≤ 8) w.boxes

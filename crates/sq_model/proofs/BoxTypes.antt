@@ -25,6 +25,7 @@ use Rattle.sq_lists.specs.Boxes.{mapped}
 use Rattle.sq_lists.specs.Sorting.{Numbered, sooner, time_in, at_time, retimed, without, tuple_of, chosen, without_late, bsort_list_of}
 use Rattle.sq_lists.specs.Windows.{in_window, in_group, groups_of, window_results, aggregate_list_of, starts_of}
 use Rattle.sq_lists.specs.Pairs.{meets, paired, pairs_of, pairs_from}
+use Rattle.sq_lists.specs.Resamples.{near, resampled, resample_list_of}
 use Rattle.sq_net.specs.Columns.{if_int, kind_of_func, prefixed, columns_at}
 use Rattle.sq_model.proofs.Alls.{All-append, All-kept, All-mapped, All-weaker, All-flat_map}
 use Rattle.sq_expr.proofs.KindLemmas.{field_has_kind, value_has_kind}
@@ -332,3 +333,13 @@ module _ (left right : Columns) (l r : List ℕ) (size : ℕ) (on : Expr) where
       (All-mapped Sided (λ x. (0, x)) xs (All-weaker (λ (x : Tuple). fields_fit left x.fields ≡ true) (λ x. Sided (0, x)) (λ x f. inl (refl, f)) xs h))
       (All-append Sided (map (λ x. (1, x)) ys) []
       (All-mapped Sided (λ x. (1, x)) ys (All-weaker (λ (x : Tuple). fields_fit right x.fields ≡ true) (λ x. Sided (1, x)) (λ x f. inr (refl, f)) ys k)) tt)
+
+-- ---- Resample
+
+pub resample-fits : (left right given : Columns) (letters : List ℕ) (fs : List Func) → map (kind_of_func right) fs ≡ map Some (kinds_of given) → (size : ℕ) (ys : List Tuple) → FitsColumns right ys
+    → (xs : List Tuple) → FitsColumns left xs → FitsColumns (prefixed letters left ++ given) (resample_list_of fs size xs ys)
+resample-fits left right given letters fs kinds size ys k xs h =
+    All-mapped (λ (x : Tuple). fields_fit (prefixed letters left ++ given) x.fields ≡ true) (resampled (answers_of fs) size ys) xs
+    (All-weaker (λ (x : Tuple). fields_fit left x.fields ≡ true) (λ (x : Tuple). fields_fit (prefixed letters left ++ given) (resampled (answers_of fs) size ys x).fields ≡ true)
+    (λ x f. fits-append (prefixed letters left) given x.fields (answers_of fs (near size x.time ys)) (prefixed-fits letters left x.fields f)
+    (answers-fit right given fs kinds (near size x.time ys) (All-kept (λ (y : Tuple). fields_fit right y.fields ≡ true) _ ys k))) xs h)

@@ -14,7 +14,7 @@ use Rattle.sq_graph.specs.Wires.{Port, producer_of, inputs_of, stream_at}
 use Rattle.sq_lists.specs.Sorting.{Numbered, sooner, retimed, without, tuple_of, chosen, without_late, bsort_list_of}
 use Rattle.sq_lists.specs.Sorters.{timed}
 use Rattle.sq_net.specs.declared.Body.{Body}
-use Rattle.sq_net.specs.declared.Body.TheVariants.{Filter, Map, Union, BSort, Aggregate, Join}
+use Rattle.sq_net.specs.declared.Body.TheVariants.{Filter, Map, Union, BSort, Aggregate, Join, Resample}
 use Rattle.sq_net.specs.declared.Node.{Node}
 use Rattle.sq_net.specs.declared.Network.{Network}
 use Rattle.sq_net.specs.Sound.{IsSound, IsTypedBody, input_columns}
@@ -73,6 +73,7 @@ late_other Union taken given other = refl
 late_other (BSort by slack) taken given other = absurd (other by slack refl)
 late_other (Aggregate funcs group window) taken given other = refl
 late_other (Join size on) taken given other = refl
+late_other (Resample size funcs) taken given other = refl
 
 first_few : (stream : ℕ → List Tuple) (inputs : List ℕ) → length (nth (map stream inputs) 0) ≤ sum_by (λ s. length (stream s)) inputs
 first_few stream [] = omega arith

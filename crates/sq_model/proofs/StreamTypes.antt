@@ -28,7 +28,7 @@ use Rattle.sq_model.proofs.Alls.{time_of, union-sorted}
 use Rattle.sq_model.proofs.Alls.{by_key}
 use Rattle.sq_model.proofs.Alls.{All-kept, All-sorted, All-joined, All-weaker}
 use Rattle.sq_model.specs.Fit.{FitsOption, SourcesFit, StreamsFit}
-use Rattle.sq_model.proofs.BoxTypes.{FitsColumns, same-kinds, map-fits, bsort-keeps, aggregate-fits, join-fits, sided}
+use Rattle.sq_model.proofs.BoxTypes.{FitsColumns, same-kinds, map-fits, bsort-keeps, aggregate-fits, join-fits, resample-fits, sided}
 use Rattle.sq_model.proofs.Alls.{holds-at}
 use Rattle.sq_model.proofs.PortLow.{port-low}
 
@@ -93,6 +93,9 @@ box-fits (body.Join size on) css xss ports q cs t h s =
     tt
     (All-sorted _ whole.earlier (ports_of (nth xss 0 ∷ nth xss 1 ∷ []))
     (sided (first_columns css) (second_columns css) (codes "l_") (codes "r_") size on.tree (nth xss 0) (nth xss 1) (first-fits css xss h) (second-fits css xss h))))
+box-fits (body.Resample size fs) css xss ports q cs t h s =
+    subst (λ z. FitsColumns z (box_list (body.Resample size fs) q xss)) (only-columns cs _ ports q t.1 s)
+    (resample-fits (first_columns css) (second_columns css) t.0 (codes "l_") fs t.2 size (nth xss 1) (second-fits css xss h) (nth xss 0) (first-fits css xss h))
 
 module _ (n : Network) (sound : IsSound n) (recorded : List (List Tuple)) (fit : SourcesFit n recorded) where
   source-fits : (s k : ℕ) → producer_of n.wires s ≡ Some (Source k) → FitsOption (columns_given n (Some (Source k))) (nth recorded k)

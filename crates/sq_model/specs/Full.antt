@@ -8,10 +8,11 @@ use Rattle.sq_lists.specs.Boxes.{filter_list_of, map_list_of}
 use Rattle.sq_lists.specs.Sorting.{bsort_list_of}
 use Rattle.sq_lists.specs.Windows.{aggregate_list_of}
 use Rattle.sq_lists.specs.Pairs.{join_list_of}
+use Rattle.sq_lists.specs.Resamples.{resample_list_of}
 use Rattle.sq_net.specs.declared.Network.{Network}
 use Rattle.sq_net.specs.declared.Node.{Node}
 use Rattle.sq_net.specs.declared.Body.{Body}
-use Rattle.sq_net.specs.declared.Body.TheVariants.{Filter, Map, Union, BSort, Aggregate, Join}
+use Rattle.sq_net.specs.declared.Body.TheVariants.{Filter, Map, Union, BSort, Aggregate, Join, Resample}
 
 -- the stream of this number among some streams
 abbrev pub nth : List (List Tuple) → ℕ → List Tuple
@@ -25,6 +26,7 @@ box_list Union port ins = union ins
 box_list (BSort by slack) port ins = bsort_list_of by slack (nth ins 0)
 box_list (Aggregate funcs group window) port ins = aggregate_list_of funcs group window (nth ins 0)
 box_list (Join size on) port ins = join_list_of size on.tree (nth ins 0) (nth ins 1)
+box_list (Resample size funcs) port ins = resample_list_of funcs size (nth ins 0) (nth ins 1)
 
 abbrev pub box_list_at : Option Node → ℕ → List (List Tuple) → List Tuple
 box_list_at None port ins = []

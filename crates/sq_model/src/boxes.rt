@@ -8,7 +8,7 @@ ghost use Rattle.sq_net.specs.Sound.{HasWindow};
 ghost use Rattle.sq_model.specs.Full.{nth, box_list};
 ghost use Rattle.sq_model.specs.Unions.{sooner};
 
-use sq_lists::{aggregate_list, bsort_list, filter_list, join_list, map_list};
+use sq_lists::{aggregate_list, bsort_list, filter_list, join_list, map_list, resample_list};
 use sq_net::Body;
 use sq_value::{Tuple, copy_tuple};
 use std::alloc::{AllocError, Global};
@@ -98,5 +98,9 @@ pub(crate) fn box_list(
             window,
         } => aggregate_list(alloc, funcs.as_slice(), group.as_slice(), *window, first),
         Body::Join { size, on } => { join_list(alloc, *size, on, first, taken(streams, inputs, 1)) }
+        Body::Resample { size, funcs } => {
+            let right = taken(streams, inputs, 1);
+            resample_list(alloc, funcs.as_slice(), *size, first, right)
+        }
     }
 }

@@ -19,6 +19,10 @@ second_columns (cs ∷ rest) = first_columns rest
 abbrev pub prefixed : List ℕ → Columns → Columns
 prefixed letters cs = map (λ c. (letters ++ c.0, c.1)) cs
 
+-- the columns of a left tuple in what a box of two inputs makes of it
+abbrev pub left_columns : List Columns → Columns
+left_columns ins = prefixed (codes "l_") (first_columns ins)
+
 -- the columns of a pair: the left ones, then the right ones
 abbrev pub pair_columns : List Columns → Columns
 pair_columns ins = prefixed (codes "l_") (first_columns ins) ++ prefixed (codes "r_") (second_columns ins)

@@ -1,7 +1,7 @@
 -- What a sound network is.
-use Rattle.std.specs.Prelude.{⊤, ◌≡◌, ℕ, ◌+◌, ◌<◌, ◌^◌, Bool, true, ◌&&◌, ◌==◌, nat_le, List, [], ◌∷◌, ◌++◌, map, length, Some, slice_get}
+use Rattle.std.specs.Prelude.{⊤, ◌≡◌, ℕ, ◌+◌, ◌<◌, ◌^◌, Bool, true, false, ◌&&◌, ◌==◌, nat_le, List, [], ◌∷◌, ◌++◌, map, length, Some, slice_get}
 use Rattle.std.specs.List.{list_all, filter_map, All}
-use Rattle.sq_value.specs.Lists.{are_distinct}
+use Rattle.sq_value.specs.Lists.{are_distinct, contains_bytes}
 use Rattle.sq_value.specs.Values.{Columns, kinds_of, names_of}
 use Rattle.sq_value.specs.declared.Kind.TheVariants as kind
 use Rattle.sq_expr.specs.Trees.{Checked}
@@ -16,8 +16,8 @@ use Rattle.sq_net.specs.declared.Source.{Source}
 use Rattle.sq_net.specs.declared.Node.{Node}
 use Rattle.sq_net.specs.declared.Output.{Output}
 use Rattle.sq_net.specs.declared.Body.{Body}
-use Rattle.sq_net.specs.declared.Body.TheVariants.{Filter, Map, Union, BSort, Aggregate, Join}
-use Rattle.sq_net.specs.Columns.{columns_at, first_columns, kind_of_func, pair_columns}
+use Rattle.sq_net.specs.declared.Body.TheVariants.{Filter, Map, Union, BSort, Aggregate, Join, Resample}
+use Rattle.sq_net.specs.Columns.{columns_at, first_columns, kind_of_func, left_columns, pair_columns, second_columns}
 use Rattle.sq_net.specs.Names.{is_name}
 use Rattle.sq_net.specs.Streams.{columns_of_stream}
 
@@ -36,6 +36,7 @@ body_within Union = true
 body_within (BSort by slack) = nat_le slack 10000
 body_within (Aggregate funcs group window) = is_between 1 16 (length funcs) && nat_le (length group) 16
 body_within (Join size on) = nat_le size (2 ^ 32)
+body_within (Resample size funcs) = nat_le size (2 ^ 32) && is_between 1 16 (length funcs)
 
 abbrev pub node_within : Node → Bool
 node_within b = body_within b.body && is_between 0 1000 b.cost && list_all (is_between 0 1000000) b.selectivity
@@ -43,10 +44,11 @@ node_within b = body_within b.body && is_between 0 1000 b.cost && list_all (is_b
 abbrev pub output_within : Output → Bool
 output_within o = nat_le o.weight 1000 && nat_le (length o.graph) 1000
 
--- a Union takes 1 to 8 streams, a Join two, and each other box one
+-- a Union takes 1 to 8 streams, a Join and a Resample two, and each other box one
 abbrev pub takes_within : BoxKind → ℕ → Bool
 takes_within boxes.Union n = is_between 1 8 n
 takes_within boxes.Join n = n == 2
+takes_within boxes.Resample n = n == 2
 takes_within k n = n == 1
 
 abbrev pub network_within : Network → Bool
@@ -65,6 +67,7 @@ kind_of_body Union = boxes.Union
 kind_of_body (BSort by slack) = boxes.BSort
 kind_of_body (Aggregate funcs group window) = boxes.Aggregate
 kind_of_body (Join size on) = boxes.Join
+kind_of_body (Resample size funcs) = boxes.Resample
 
 -- the lists and the wiring agree in number and in the kind and the ports of each box, and name only streams that exist
 pub record Agrees (n : Network) : Type 0 where
@@ -86,10 +89,15 @@ IsOver cs e = (e.scope ≡ cs) × (kinds_agree e.scope e.tree ≡ true)
 abbrev pub IsPredicate : Columns → Checked → Type 0
 IsPredicate cs e = IsOver cs e × (fits kind.Bool (kind_in e.scope e.tree) ≡ true)
 
+-- names that differ, and of which none is one of those before
+abbrev pub AreNew : List (List ℕ) → List (List ℕ) → Type 0
+AreNew before names = (are_distinct names ≡ true) × All (λ w. contains_bytes w before ≡ false) names
+
 -- a Filter's ports have its input's kinds; a Map's port has the kinds of its expressions, under names that are names and
 -- differ; a Union's inputs are alike, and its port is as they are; a BSort sorts by a number; an Aggregate's port has the
 -- columns to group by, then one for each function, 16 at most with names that differ; a Join's port has the columns of a
--- pair, 16 at most
+-- pair, 16 at most; a Resample's port has the left columns, then one for each function over the right ones, 16 at most, and the
+-- names of these differ from one another and from those of the left columns
 abbrev pub IsTypedBody : List Columns → Body → List Columns → Type 0
 IsTypedBody ins (Filter preds) ports =
     All (IsPredicate (first_columns ins)) preds × (length ports ≡ length preds + 1)
@@ -109,6 +117,10 @@ IsTypedBody ins (Aggregate funcs group window) ports =
     × (nat_le (length group + length funcs) 16 ≡ true)
 IsTypedBody ins (Join size on) ports =
     IsPredicate (pair_columns ins) on × (ports ≡ pair_columns ins ∷ []) × (nat_le (length (pair_columns ins)) 16 ≡ true)
+IsTypedBody ins (Resample size funcs) ports =
+    (given : Columns) × (ports ≡ (left_columns ins ++ given) ∷ [])
+    × (map (kind_of_func (second_columns ins)) funcs ≡ map Some (kinds_of given)) × All (λ w. is_name w ≡ true) (names_of given)
+    × AreNew (names_of (left_columns ins)) (names_of given) × (nat_le (length (first_columns ins) + length funcs) 16 ≡ true)
 
 -- an Aggregate's window moves on, covers what it moves by, is at most 2^32 ticks and 4096 advances long, and has a phase below its advance
 abbrev pub HasWindow : Body → Type 0

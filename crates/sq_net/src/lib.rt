@@ -55,6 +55,11 @@ pub enum Body {
         size: u64,
         on: Typed,
     },
+    /// For each left tuple, its fields and the functions' answers over the right tuples at most `size` ticks from it.
+    Resample {
+        size: u64,
+        funcs: ListOf<Func>,
+    },
 }
 
 /// A box: its name, what it does, a schema and a selectivity (in permille) for each port, and what a tuple costs.

@@ -3,3 +3,4 @@ pub mod MachineLemmas
 pub mod StreamLemmas
 pub mod FedLemmas
 pub mod PartLemmas
+pub mod PortLemmas

@@ -1,5 +1,6 @@
 -- Tuples as they stand in tagged lists.
 use Rattle.std.specs.Prelude.{ℕ, ◌^◌, ◌<◌, ◌==◌, if◌then◌else◌, List, [], ◌∷◌, ◌++◌, map, Some}
+use Rattle.std.specs.List.{filter}
 use Rattle.sq_value.specs.declared.Tuple.{Tuple}
 use Rattle.sq_item.specs.Sound.{IsBody}
 use Rattle.sq_item.specs.Things.{Load, Sign, Body, Thing}
@@ -17,6 +18,10 @@ tuple_in time (Body fields) = record { time = time; fields = fields } ∷ []
 abbrev pub tuples_of : List Entry → List Tuple
 tuples_of [] = []
 tuples_of (e ∷ es) = tuple_in e.thing.time e.thing.load ++ tuples_of es
+
+-- those of them that come at a port
+abbrev pub tuples_at : ℕ → List Entry → List Tuple
+tuples_at port es = tuples_of (filter (λ e. e.port == port) es)
 
 abbrev pub thing_of : Tuple → Thing
 thing_of x = record { time = x.time; load = Body x.fields }

@@ -7,10 +7,12 @@
 //! can stand on this law alone and know no kind of box. Below stand items, levels and the counter of steps.
 #![tactic(auto)]
 
+mod laws;
 mod operator;
 mod outs;
 mod tally;
 
+pub use laws::ports_have_their_streams;
 pub use operator::Operator;
 pub use outs::{Decision, Event, Outs};
 pub use tally::{Place, Tally};

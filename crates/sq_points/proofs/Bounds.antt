@@ -14,7 +14,7 @@ use Rattle.sq_graph.specs.declared.BoxWires.{BoxWires}
 use Rattle.sq_graph.specs.Wires.{producers_of, arcs_of}
 use Rattle.sq_graph.proofs.Reach.{and_parts}
 use Rattle.sq_net.specs.declared.Body.{Body}
-use Rattle.sq_net.specs.declared.Body.TheVariants.{Filter, Map, Union, BSort, Aggregate, Join}
+use Rattle.sq_net.specs.declared.Body.TheVariants.{Filter, Map, Union, BSort, Aggregate, Join, Resample}
 use Rattle.sq_net.specs.declared.Node.{Node}
 use Rattle.sq_net.specs.declared.Network.{Network}
 use Rattle.sq_net.proofs.StreamLemmas.{boxes_count}
@@ -40,6 +40,7 @@ takes_few boxes.Union k h = at_most 1 8 k h
 takes_few boxes.BSort k h = grind (arith, nat_tests)
 takes_few boxes.Aggregate k h = grind (arith, nat_tests)
 takes_few boxes.Join k h = grind (arith, nat_tests)
+takes_few boxes.Resample k h = grind (arith, nat_tests)
 
 pub all_take_few : (ws : List BoxWires) → list_all (λ b. takes_within b.kind (length b.inputs)) ws ≡ true → AllByRecursion (λ (b : BoxWires). length b.inputs ≤ 8) ws
 all_take_few [] h = tt
@@ -56,6 +57,7 @@ body_gives_few ins Union ports h typed = (let one = ap (λ (cs : List Columns). 
 body_gives_few ins (BSort by slack) ports h typed = (let one = ap (λ (cs : List Columns). length cs) typed.1 in omega (arith, one))
 body_gives_few ins (Aggregate funcs group window) ports h typed = (let one = ap (λ (cs : List Columns). length cs) typed.1 in omega (arith, one))
 body_gives_few ins (Join size on) ports h typed = (let one = ap (λ (cs : List Columns). length cs) typed.1 in omega (arith, one))
+body_gives_few ins (Resample size funcs) ports h typed = (let one = ap (λ (cs : List Columns). length cs) typed.1 in omega (arith, one))
 
 pub passes_at : {X : Type 0} (test : X → Bool) (xs : List X) (i : ℕ) (x : X) → list_all test xs ≡ true → slice_get xs i ≡ Some x → test x ≡ true
 passes_at test [] i x h there = cc
@@ -148,6 +150,7 @@ small_in Union h = tt
 small_in (BSort by slack) h = tt
 small_in (Aggregate funcs group window) h = small window h
 small_in (Join size on) h = tt
+small_in (Resample size funcs) h = tt
 
 small_all : (bs : List Node) → AllByRecursion (λ (b : Node). HasWindow b.body) bs → AreWindows (map (λ b. window_in b.body) bs)
 small_all [] h = tt

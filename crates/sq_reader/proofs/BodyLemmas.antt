@@ -14,19 +14,19 @@ use Rattle.sq_expr.specs.Trees.{Checked}
 use Rattle.sq_expr.specs.Kinds.{kind_at, kind_in}
 use Rattle.sq_expr.specs.Checking.{column_of}
 use Rattle.sq_aggfn.specs.declared.WindowSpec.{WindowSpec}
-use Rattle.sq_net.specs.Columns.{columns_at, first_columns, if_int, pair_columns}
+use Rattle.sq_net.specs.Columns.{columns_at, first_columns, if_int, left_columns, pair_columns, second_columns}
 use Rattle.sq_net.specs.declared.Body.TheVariants as body
 use Rattle.sq_net.specs.declared.Node.{Node}
 use Rattle.sq_net.specs.declared.NetErr.{NetErr}
 use Rattle.sq_net.specs.declared.NetErr.TheVariants as broken
 use Rattle.sq_net.specs.declared.Part.TheVariants as part
 use Rattle.sq_net.specs.Names.{is_name}
-use Rattle.sq_net.specs.Sound.{HasWindow, IsOver, IsPredicate, IsTypedBody, kind_of_body}
+use Rattle.sq_net.specs.Sound.{AreNew, HasWindow, IsOver, IsPredicate, IsTypedBody, kind_of_body}
 use Rattle.sq_net.specs.Sound as sound
 use Rattle.sq_tables.specs.declared.raw.AnswerColumn.{AnswerColumn}
 use Rattle.sq_tables.specs.declared.raw.Setting.{Setting}
 use Rattle.sq_tables.specs.declared.raw.RawBody.{RawBody}
-use Rattle.sq_tables.specs.declared.raw.RawBody.TheVariants.{Filter, Map, Union, BSort, Aggregate, Join}
+use Rattle.sq_tables.specs.declared.raw.RawBody.TheVariants.{Filter, Map, Union, BSort, Aggregate, Join, Resample}
 use Rattle.sq_tables.specs.declared.raw.RawBox.{RawBox}
 use Rattle.sq_tables.specs.Places.{place_at}
 use Rattle.sq_tables.specs.Rawly.{◌>>=◌, or_broken}
@@ -36,7 +36,7 @@ use Rattle.sq_reader.specs.Windows.{has_window}
 use Rattle.sq_reader.specs.Streaming as wires
 use Rattle.sq_reader.specs.Expressions.{may_be_predicate, may_be_set, predicate_of, typed_in}
 use Rattle.sq_reader.specs.Functions.{funcs_from, group_from, kinds_answered}
-use Rattle.sq_reader.specs.Columns.{TypedBody, aggregate_of, bad_given, bad_name, body_of, bsort_of, filter_of, give_names, int_place, join_of, kinds_set, map_of, nat_of, node_in, node_of, place_if, same_columns, set_names, set_texts, too_many, union_of, unless_schema, window_of}
+use Rattle.sq_reader.specs.Columns.{TypedBody, aggregate_of, bad_given, bad_name, body_of, bsort_of, filter_of, give_names, int_place, join_of, kinds_set, map_of, nat_of, node_in, node_of, place_if, resample_of, same_columns, set_names, set_texts, too_many, union_of, unless_schema, window_of}
 use Rattle.sq_tables.proofs.ShapedLemmas.{first_step}
 use Rattle.sq_reader.proofs.StepLemmas.{found_as}
 use Rattle.sq_reader.proofs.ListLemmas.{and_both, and_parts, each_passes, is_at_most, none_failing}
@@ -46,6 +46,7 @@ use Rattle.sq_reader.proofs.SchemaLemmas.{schema_none}
 use Rattle.sq_reader.proofs.ColumnLemmas.{alike_each, kinds_of_zip, names_of_zip}
 use Rattle.sq_reader.proofs.TypedLemmas.{IsAllowed, kinds_are_set, over_each, predicate_is, typed_all}
 use Rattle.sq_reader.proofs.FunctionLemmas.{few_enough, funcs_kinded, good_given, group_fields, told_count}
+use Rattle.sq_reader.proofs.ResampleLemmas.{given_new, left_width}
 use Rattle.sq_reader.proofs.WindowLemmas.{window_is}
 
 -- a box of the file, and what it was typed as on these columns
@@ -243,6 +244,42 @@ join_is n size on ins t h =
     let P : TypedBody → Type 0 = IsBodyOf (Join size on) ins in
     subst P same built
 
+resample_is : (n : ℕ) (size : ℤ) (give : List AnswerColumn) (ins : List Columns) (t : TypedBody) → resample_of n size give ins ≡ Ok t → IsBodyOf (Resample size give) ins t
+resample_is n size give ins t h =
+    let left : Columns = left_columns ins in
+    let right : Columns = second_columns ins in
+    let zero_step = unless_none n (bad_given (names_of left) (give_names give)) (funcs_from n 0 right give >>= λ fs.
+    Ok (body.Resample (nat_of size) fs, (left ++ zip (give_names give) (kinds_answered right fs)) ∷ [])) t h in
+    let one = first_step (funcs_from n 0 right give) (λ fs. Ok (body.Resample (nat_of size) fs, (left ++ zip (give_names give) (kinds_answered right fs)) ∷ [])) t zero_step.1 in
+    let good = good_given (names_of left) (give_names give) zero_step.0 in
+    let funcs = funcs_kinded n 0 right give one.0 one.1.0 in
+    let kinds : length (kinds_answered right one.0) ≡ length (give_names give) = told_count right give one.0 funcs in
+    let given : Columns = zip (give_names give) (kinds_answered right one.0) in
+    let names : names_of given ≡ give_names give = names_of_zip (give_names give) (kinds_answered right one.0) (sym kinds) in
+    let count = funcs.count in
+    let few = good.few in
+    let long = given_length give in
+    let width = left_width ins in
+    let built : IsBodyOf (Resample size give) ins (body.Resample (nat_of size) one.0, (left ++ given) ∷ []) = record {
+      typed = (
+        given,
+        refl,
+        funcs.kinds ∙ ap (λ (ks : List Kind). map Some ks) (sym (kinds_of_zip (give_names give) (kinds_answered right one.0) (sym kinds))),
+        (let P : List (List ℕ) → Type 0 = λ ws. All (λ w. is_name w ≡ true) ws in subst P (sym names) (All-from_recursion (λ w. is_name w ≡ true) (give_names give) good.names)),
+        subst (AreNew (names_of left)) (sym names) (given_new (names_of left) (give_names give) good),
+        is_at_most (length (first_columns ins) + length one.0) 16 (omega (arith, width, count, few, long)),
+      );
+      kind = refl;
+      ports = refl;
+      within = λ w. (let parts = and_parts (is_between 0 (2 ^ 32) size) (has_between 1 16 give) w in
+          let low = and_parts (nat_le 0 (nat_of size)) (nat_le (nat_of size) (2 ^ 32)) (number_within 0 (2 ^ 32) size parts.0) in
+          and_both (nat_le (nat_of size) (2 ^ 32)) (sound.is_between 1 16 (length one.0)) low.1 (rw count parts.1));
+      window = λ w. tt;
+    } in
+    let same : (body.Resample (nat_of size) one.0, (left ++ given) ∷ []) ≡ t = (let last = one.1.1 in cc) in
+    let P : TypedBody → Type 0 = IsBodyOf (Resample size give) ins in
+    subst P same built
+
 pub body_is : (n : ℕ) (raw : RawBody) (ins : List Columns) (t : TypedBody) → body_of n raw ins ≡ Ok t → IsBodyOf raw ins t
 body_is n (Filter preds) ins t h = filter_is n preds ins t h
 body_is n (Map set) ins t h = map_is n set ins t h
@@ -250,6 +287,7 @@ body_is n Union ins t h = union_is n ins t h
 body_is n (BSort by slack) ins t h = bsort_is n by slack ins t h
 body_is n (Aggregate size advance phase group give) ins t h = aggregate_is n size advance phase group give ins t h
 body_is n (Join size on) ins t h = join_is n size on ins t h
+body_is n (Resample size give) ins t h = resample_is n size give ins t h
 
 -- a box of the file, and the node that it was typed as on these columns
 pub record IsNodeOf (raw : RawBox) (ins : List Columns) (b : Node) : Type 0 where

@@ -40,7 +40,7 @@ split_out before x (y ∷ ys) h =
     let apart = turned y x here.0 in
     ((parts.0, more.0), rw (apart, more.1) refl)
 
-new_out : (before xs : List (List ℕ)) → IsNew before xs → AllByRecursion (λ y. contains_bytes y before ≡ false) xs
+pub new_out : (before xs : List (List ℕ)) → IsNew before xs → AllByRecursion (λ y. contains_bytes y before ≡ false) xs
 new_out before [] h = tt
 new_out before (x ∷ xs) h = (h.0, (split_out before x xs (new_out (before ++ x ∷ []) xs h.1)).0)
 
@@ -50,6 +50,29 @@ new_distinct before (x ∷ xs) h =
     let apart = (split_out before x xs (new_out (before ++ x ∷ []) xs h.1)).1 in
     let more = new_distinct (before ++ x ∷ []) xs h.1 in
     rw (apart, more) refl
+
+-- none is x or one of these
+split_front : (x : List ℕ) (before ys : List (List ℕ)) → AllByRecursion (λ y. contains_bytes y (x ∷ before) ≡ false) ys
+    → AllByRecursion (λ y. contains_bytes y before ≡ false) ys × (contains_bytes x ys ≡ false)
+split_front x before [] h = (tt, refl)
+split_front x before (y ∷ ys) h =
+    let more = split_front x before ys h.1 in
+    let parts = or_none (same_bytes y x) (contains_bytes y before) h.0 in
+    let apart = turned y x parts.0 in
+    ((parts.1, more.0), rw (apart, more.1) refl)
+
+and_each : (b c : Bool) → (not b && c) ≡ true → (b ≡ false) × (c ≡ true)
+and_each true c h = cc
+and_each false c h = (refl, h)
+
+-- names that differ, and then others that do and are none of them
+pub distinct_both : (xs ys : List (List ℕ)) → are_distinct xs ≡ true → AllByRecursion (λ y. contains_bytes y xs ≡ false) ys → are_distinct ys ≡ true → are_distinct (xs ++ ys) ≡ true
+distinct_both [] ys h new g = g
+distinct_both (x ∷ xs) ys h new g =
+    let here = and_each (contains_bytes x xs) (are_distinct xs) h in
+    let apart = split_front x xs ys new in
+    let more = distinct_both xs ys here.1 apart.0 g in
+    rw (list_any-append (same_bytes x) xs ys, here.0, apart.1, more) refl
 
 -- these, and then those that are new after them
 pub new_both : (before xs ys : List (List ℕ)) → IsNew before xs → IsNew (before ++ xs) ys → IsNew before (xs ++ ys)

@@ -1,4 +1,4 @@
--- What is known of the functions of an Aggregate, and of the places that it groups by.
+-- What is known of the functions of an Aggregate or a Resample, and of the places that an Aggregate groups by.
 use Rattle.std.proofs.Common.{◌≡◌, ◌∙◌, sym, ap, subst, refl, ℕ, suc, ◌+◌, ◌<◌, ◌≤◌, Bool, true, false, List, [], ◌∷◌, ◌++◌, map, length, get_or, Option, Some, None, slice_get, cond, arith, length-append}
 use Rattle.std.specs.Prelude.{Ok, is_some, nat_le}
 use Rattle.std.specs.List.{AllByRecursion, cons_option, filter_map, zip}

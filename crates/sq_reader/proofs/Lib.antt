@@ -13,6 +13,7 @@ pub mod ColumnLemmas
 pub mod TypedLemmas
 pub mod FunctionLemmas
 pub mod PairLemmas
+pub mod ResampleLemmas
 pub mod WindowLemmas
 pub mod BodyLemmas
 pub mod NodeLemmas

@@ -10,7 +10,7 @@ use Rattle.sq_tables.specs.declared.raw.RawSource.{RawSource}
 use Rattle.sq_tables.specs.declared.raw.AnswerColumn.{AnswerColumn}
 use Rattle.sq_tables.specs.declared.raw.Setting.{Setting}
 use Rattle.sq_tables.specs.declared.raw.RawBody.{RawBody}
-use Rattle.sq_tables.specs.declared.raw.RawBody.TheVariants.{Filter, Map, Union, BSort, Aggregate, Join}
+use Rattle.sq_tables.specs.declared.raw.RawBody.TheVariants.{Filter, Map, Union, BSort, Aggregate, Join, Resample}
 use Rattle.sq_tables.specs.declared.raw.RawBox.{RawBox}
 use Rattle.sq_tables.specs.declared.raw.RawOutput.{RawOutput}
 use Rattle.sq_tables.specs.declared.raw.Raw.{Raw}
@@ -182,6 +182,7 @@ takes_few boxes.Union n h = grind (arith, nat_tests)
 takes_few boxes.BSort n h = grind (arith, nat_tests)
 takes_few boxes.Aggregate n h = grind (arith, nat_tests)
 takes_few boxes.Join n h = grind (arith, nat_tests)
+takes_few boxes.Resample n h = grind (arith, nat_tests)
 
 pub takes_of : (b : RawBody) (n : ℕ) → takes_within (kind_of_body b) n ≡ true → TakesWithin n
 takes_of b n h = takes_few (kind_of_body b) n h
@@ -193,6 +194,7 @@ ports_few Union h = omega arith
 ports_few (BSort by slack) h = omega arith
 ports_few (Aggregate size advance phase group give) h = omega arith
 ports_few (Join size on) h = omega arith
+ports_few (Resample size give) h = omega arith
 
 pub record BoxWithin (b : RawBox) : Type 0 where
   pub body : body_within b.body ≡ true
@@ -213,3 +215,4 @@ box_of b h =
     inputs (BSort by slack) g = (some 1 1 b.ins g, (let low = few 1 1 b.ins g in omega (arith, low)))
     inputs (Aggregate size advance phase group give) g = (some 1 1 b.ins g, (let low = few 1 1 b.ins g in omega (arith, low)))
     inputs (Join size on) g = ((let least = some 2 2 b.ins g in omega (arith, least)), (let low = few 2 2 b.ins g in omega (arith, low)))
+    inputs (Resample size give) g = ((let least = some 2 2 b.ins g in omega (arith, least)), (let low = few 2 2 b.ins g in omega (arith, low)))

@@ -32,6 +32,10 @@ left_apart : (x : List ℕ) (ws : List (List ℕ)) → contains_bytes (codes "l_
 left_apart x [] = refl
 left_apart x (w ∷ ws) = left_apart x ws
 
+pub left_distinct : (ws : List (List ℕ)) → are_distinct (left_names ws) ≡ are_distinct ws
+left_distinct [] = refl
+left_distinct (w ∷ ws) = rw (left_contained w ws, left_distinct ws) refl
+
 right_distinct : (ws : List (List ℕ)) → are_distinct (right_names ws) ≡ are_distinct ws
 right_distinct [] = refl
 right_distinct (w ∷ ws) = rw (right_contained w ws, right_distinct ws) refl
@@ -53,18 +57,23 @@ pair_distinct (w ∷ ws) vs h g = by_test (contains_bytes w ws) refl (λ e. pair
 
 -- ---- the columns
 
-prefixed_zip : (letters : List ℕ) (cs : Columns) → zip (map (λ w. letters ++ w) (names_of cs)) (kinds_of cs) ≡ prefixed letters cs
+pub prefixed_zip : (letters : List ℕ) (cs : Columns) → zip (map (λ w. letters ++ w) (names_of cs)) (kinds_of cs) ≡ prefixed letters cs
 prefixed_zip letters [] = refl
 prefixed_zip letters (c ∷ cs) = ap (λ (ds : Columns). (letters ++ c.0, c.1) ∷ ds) (prefixed_zip letters cs)
 
-left_length : (cs : Columns) → length (left_names (names_of cs)) ≡ length cs
+pub left_length : (cs : Columns) → length (left_names (names_of cs)) ≡ length cs
 left_length cs = length-map (names_of cs) (λ (w : List ℕ). codes "l_" ++ w) ∙ length-map cs (λ (c : List ℕ × Kind). c.0)
 
 right_length : (cs : Columns) → length (right_names (names_of cs)) ≡ length cs
 right_length cs = length-map (names_of cs) (λ (w : List ℕ). codes "r_" ++ w) ∙ length-map cs (λ (c : List ℕ × Kind). c.0)
 
-kinds_length : (cs : Columns) → length (kinds_of cs) ≡ length cs
+pub kinds_length : (cs : Columns) → length (kinds_of cs) ≡ length cs
 kinds_length cs = length-map cs (λ (c : List ℕ × Kind). c.1)
+
+-- the names of prefixed columns
+pub prefixed_names : (letters : List ℕ) (cs : Columns) → map (λ w. letters ++ w) (names_of cs) ≡ names_of (prefixed letters cs)
+prefixed_names letters [] = refl
+prefixed_names letters (c ∷ cs) = ap (λ (ws : List (List ℕ)). (letters ++ c.0) ∷ ws) (prefixed_names letters cs)
 
 pub pair_zip : (left right : Columns) → zip (left_names (names_of left) ++ right_names (names_of right)) (kinds_of left ++ kinds_of right) ≡ pair_columns (left ∷ right ∷ [])
 pair_zip left right =

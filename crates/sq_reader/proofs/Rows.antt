@@ -22,7 +22,7 @@ use Rattle.sq_tables.specs.declared.raw.AnswerColumn.{AnswerColumn}
 use Rattle.sq_tables.specs.declared.raw.Over.TheVariants.{Sum, First}
 use Rattle.sq_tables.specs.declared.raw.Answer.TheVariants.{Count, Field as OfField}
 use Rattle.sq_tables.specs.declared.raw.RawBody.{RawBody}
-use Rattle.sq_tables.specs.declared.raw.RawBody.TheVariants.{Filter, BSort, Aggregate, Join}
+use Rattle.sq_tables.specs.declared.raw.RawBody.TheVariants.{Filter, BSort, Aggregate, Join, Resample}
 use Rattle.sq_tables.specs.declared.raw.RawBox.{RawBox}
 use Rattle.sq_tables.specs.declared.raw.RawOutput.{RawOutput}
 use Rattle.sq_tables.specs.declared.raw.Raw.{Raw}
@@ -153,6 +153,67 @@ one_join = refl
 
 join_on_number : typed_network (join_file (codes "l_v")) ≡ Err (broken.Typing (place_at part.Box 0 0))
 join_on_number = refl
+
+-- ---- a Resample: the left v as `l_v`, then what is given
+
+abbrev resample_file : List (List ℕ) → ℤ → List AnswerColumn → Raw
+resample_file ins size give = record {
+  epoch = pos 1000;
+  batch = pos 1;
+  sources = source_of (codes "l") (codes "v:int" ∷ []) ∷ source_of (codes "r") (codes "k:text" ∷ codes "v:int" ∷ []) ∷ [];
+  boxes = record { name = codes "rs"; body = Resample size give; ins = ins; cost = pos 1; selectivity = pos 1000 ∷ [] } ∷ [];
+  outputs = shown_of (codes "rs") ∷ [];
+}
+
+abbrev two_streams : List (List ℕ)
+two_streams = codes "l" ∷ codes "r" ∷ []
+
+one_resample : boxes_in (typed_network (resample_file two_streams (pos 3) (record { name = codes "t"; answer = OfField Sum (codes "v") } ∷ counted ∷ []))) ≡ Ok (record {
+  name = codes "rs";
+  body = body.Resample 3 (func.Sum 1 ∷ func.Count ∷ []);
+  schemas = ((codes "l_v", kind.Int) ∷ (codes "t", kind.Int) ∷ (codes "n", kind.Int) ∷ []) ∷ [];
+  cost = 1;
+  selectivity = 1000 ∷ [];
+} ∷ [])
+one_resample = refl
+
+abbrev resample_refused : List (List ℕ) → ℤ → List AnswerColumn → NetErr → Type 0
+resample_refused ins size give e = typed_network (resample_file ins size give) ≡ Err e
+
+one_stream : resample_refused (codes "l" ∷ []) (pos 3) (counted ∷ []) (broken.Limit (place_at part.Box 0 0))
+one_stream = refl
+
+three_streams : resample_refused (codes "l" ∷ codes "r" ∷ codes "r" ∷ []) (pos 3) (counted ∷ []) (broken.Limit (place_at part.Box 0 0))
+three_streams = refl
+
+negative_size : resample_refused two_streams (negsuc 0) (counted ∷ []) (broken.Limit (place_at part.Box 0 0))
+negative_size = refl
+
+size_too_large : resample_refused two_streams (pos 4294967297) (counted ∷ []) (broken.Limit (place_at part.Box 0 0))
+size_too_large = refl
+
+nothing_given : resample_refused two_streams (pos 3) [] (broken.Limit (place_at part.Box 0 0))
+nothing_given = refl
+
+seventeen_given : resample_refused two_streams (pos 3) (replicate 17 counted) (broken.Limit (place_at part.Box 0 0))
+seventeen_given = refl
+
+left_name_given : resample_refused two_streams (pos 3) (counted ∷ record { name = codes "l_v"; answer = Count } ∷ []) (broken.Schema (place_at part.Box 0 1))
+left_name_given = refl
+
+-- 17 columns together, before the name that repeats
+sixteen_given : resample_refused two_streams (pos 3) (replicate 16 counted) (broken.Schema (place_at part.Box 0 0))
+sixteen_given = refl
+
+given_again : resample_refused two_streams (pos 3) (counted ∷ counted ∷ []) (broken.Schema (place_at part.Box 0 1))
+given_again = refl
+
+sum_of_right_text : resample_refused two_streams (pos 3) (counted ∷ record { name = codes "t"; answer = OfField Sum (codes "k") } ∷ []) (broken.Typing (place_at part.Box 0 1))
+sum_of_right_text = refl
+
+-- a field of the left stream alone isn't there
+field_of_left : resample_refused two_streams (pos 3) (record { name = codes "t"; answer = OfField First (codes "l_v") } ∷ []) (broken.Typing (place_at part.Box 0 0))
+field_of_left = refl
 
 -- ---- weights and graphs
 

@@ -18,7 +18,7 @@ use Rattle.sq_net.specs.Names.{is_name}
 use Rattle.sq_net.specs.Sound.{is_between, source_within, takes_within}
 use Rattle.sq_tables.specs.declared.raw.RawSource.{RawSource}
 use Rattle.sq_tables.specs.declared.raw.RawBody.{RawBody}
-use Rattle.sq_tables.specs.declared.raw.RawBody.TheVariants.{Filter, Map, Union, BSort, Aggregate, Join}
+use Rattle.sq_tables.specs.declared.raw.RawBody.TheVariants.{Filter, Map, Union, BSort, Aggregate, Join, Resample}
 use Rattle.sq_tables.specs.declared.raw.RawBox.{RawBox}
 use Rattle.sq_tables.specs.declared.raw.Raw.{Raw}
 use Rattle.sq_tables.specs.Places.{or_else, place_at, place_of}
@@ -143,6 +143,7 @@ takes_as number_of b long h = by_body b.body h
     by_body (BSort by slack) h = rw long (one_only (length b.ins) h)
     by_body (Aggregate size advance phase group give) h = rw long (one_only (length b.ins) h)
     by_body (Join size on) h = rw long (two_only (length b.ins) h)
+    by_body (Resample size give) h = rw long (two_only (length b.ins) h)
 
 takes_from : (number_of : Numbers) (n : ℕ) (boxes : List RawBox) → unknown_in_boxes number_of n boxes ≡ None → list_all box_within boxes ≡ true
     → list_all (λ (w : BoxWires). takes_within w.kind (length w.inputs)) (map (box_wires number_of) boxes) ≡ true

@@ -13,7 +13,7 @@ use Rattle.sq_graph.specs.declared.Wiring.{Wiring}
 use Rattle.sq_graph.specs.Wires.{Source, Port, producers_of, producer_of}
 use Rattle.sq_graph.specs.Order.{is_there, IsWired}
 use Rattle.sq_tables.specs.declared.raw.RawBody.{RawBody}
-use Rattle.sq_tables.specs.declared.raw.RawBody.TheVariants.{Filter, Map, Union, BSort, Aggregate, Join}
+use Rattle.sq_tables.specs.declared.raw.RawBody.TheVariants.{Filter, Map, Union, BSort, Aggregate, Join, Resample}
 use Rattle.sq_tables.specs.declared.raw.RawBox.{RawBox}
 use Rattle.sq_tables.specs.declared.raw.RawSource.{RawSource}
 use Rattle.sq_tables.specs.declared.raw.Raw.{Raw}
@@ -51,6 +51,7 @@ body_length name Union = refl
 body_length name (BSort by slack) = refl
 body_length name (Aggregate size advance phase group give) = refl
 body_length name (Join size on) = refl
+body_length name (Resample size give) = refl
 
 ports_length : (names : List (List ℕ)) (k : ℕ) (bs : List RawBox)
     → length (flat_map (λ b. map (Port b.0) (numbers_to (b.1).ports)) (enumerate_from k (map (box_wires (stream_named names)) bs))) ≡ length (flat_map (λ b. port_names b.name b.body) bs)

@@ -18,13 +18,13 @@ use Rattle.sq_net.specs.declared.Body.TheVariants as body
 use Rattle.sq_net.specs.declared.NetErr.{NetErr}
 use Rattle.sq_net.specs.declared.NetErr.TheVariants as broken
 use Rattle.sq_net.specs.declared.Part.TheVariants as part
-use Rattle.sq_net.specs.Columns.{columns_at, first_columns, if_int, pair_columns}
+use Rattle.sq_net.specs.Columns.{columns_at, first_columns, if_int, left_columns, pair_columns, second_columns}
 use Rattle.sq_net.specs.Names.{is_name}
 use Rattle.sq_net.specs.Streams.{columns_of_port}
 use Rattle.sq_tables.specs.declared.raw.Setting.{Setting}
 use Rattle.sq_tables.specs.declared.raw.AnswerColumn.{AnswerColumn}
 use Rattle.sq_tables.specs.declared.raw.RawBody.{RawBody}
-use Rattle.sq_tables.specs.declared.raw.RawBody.TheVariants.{Filter, Map, Union, BSort, Aggregate, Join}
+use Rattle.sq_tables.specs.declared.raw.RawBody.TheVariants.{Filter, Map, Union, BSort, Aggregate, Join, Resample}
 use Rattle.sq_tables.specs.declared.raw.RawBox.{RawBox}
 use Rattle.sq_tables.specs.declared.raw.Raw.{Raw}
 use Rattle.sq_tables.specs.Places.{place_at, place_of, or_else}
@@ -111,9 +111,9 @@ too_many n = if nat_le n 16 then None else Some 0
 abbrev pub give_names : List AnswerColumn → List (List ℕ)
 give_names give = map (λ g. g.name) give
 
--- the item at fault: item 0 where there are too many, else the first name that is none or stands before
+-- the item at fault: item 0 where there are too many with those before, else the first name that is none or stands before
 abbrev pub bad_given : List (List ℕ) → List (List ℕ) → Option ℕ
-bad_given group given = or_else (too_many (length group + length given)) (bad_name group given)
+bad_given before given = or_else (too_many (length before + length given)) (bad_name before given)
 
 -- a window by its size, its advance and its phase
 abbrev pub window_of : ℤ → ℤ → ℤ → WindowSpec
@@ -130,6 +130,12 @@ join_of n size on ins =
     unless_schema n (too_many (length (pair_columns ins)))
     (predicate_of n (pair_columns ins) on >>= λ e. Ok (body.Join (nat_of size) e, pair_columns ins ∷ []))
 
+abbrev pub resample_of : ℕ → ℤ → List AnswerColumn → List Columns → Result TypedBody NetErr
+resample_of n size give ins =
+    unless_schema n (bad_given (names_of (left_columns ins)) (give_names give))
+    (funcs_from n 0 (second_columns ins) give >>= λ fs.
+    Ok (body.Resample (nat_of size) fs, (left_columns ins ++ zip (give_names give) (kinds_answered (second_columns ins) fs)) ∷ []))
+
 -- a box on what it takes
 abbrev pub body_of : ℕ → RawBody → List Columns → Result TypedBody NetErr
 body_of n (Filter preds) ins = filter_of n preds (first_columns ins)
@@ -138,6 +144,7 @@ body_of n Union ins = union_of n ins
 body_of n (BSort by slack) ins = bsort_of n by slack (first_columns ins)
 body_of n (Aggregate size advance phase group give) ins = aggregate_of n (window_of size advance phase) group give (first_columns ins)
 body_of n (Join size on) ins = join_of n size on ins
+body_of n (Resample size give) ins = resample_of n size give ins
 
 abbrev pub node_of : RawBox → TypedBody → Node
 node_of b t = record { name = b.name; body = t.0; schemas = t.1; cost = nat_of b.cost; selectivity = map nat_of b.selectivity }

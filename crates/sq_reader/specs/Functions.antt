@@ -1,4 +1,4 @@
--- What an Aggregate gives, and what it groups by, over the columns that it takes.
+-- What an Aggregate or a Resample answers, and what an Aggregate groups by, over columns that it takes.
 use Rattle.std.specs.Prelude.{ℕ, ◌+◌, is_some, if◌then◌else◌, List, [], ◌∷◌, ◌++◌, Option, Some, None, Result, Ok, option_map}
 use Rattle.std.specs.List.{filter_map}
 use Rattle.std.specs.Option.{option_and_then}

@@ -5,7 +5,7 @@ use Rattle.sq_net.specs.declared.Part.TheVariants as part
 use Rattle.sq_net.specs.declared.Place.{Place}
 use Rattle.sq_tables.specs.declared.raw.RawSource.{RawSource}
 use Rattle.sq_tables.specs.declared.raw.RawBody.{RawBody}
-use Rattle.sq_tables.specs.declared.raw.RawBody.TheVariants.{Filter, Map, Union, BSort, Aggregate, Join}
+use Rattle.sq_tables.specs.declared.raw.RawBody.TheVariants.{Filter, Map, Union, BSort, Aggregate, Join, Resample}
 use Rattle.sq_tables.specs.declared.raw.RawBox.{RawBox}
 use Rattle.sq_tables.specs.declared.raw.RawOutput.{RawOutput}
 use Rattle.sq_tables.specs.declared.raw.Raw.{Raw}
@@ -35,11 +35,13 @@ body_within Union = true
 body_within (BSort by slack) = is_between 0 10000 slack
 body_within (Aggregate size advance phase group give) = has_between 0 16 group && has_between 1 16 give
 body_within (Join size on) = is_between 0 (2 ^ 32) size && is_expression_long on
+body_within (Resample size give) = is_between 0 (2 ^ 32) size && has_between 1 16 give
 
--- a Union takes 1 to 8 streams, a Join two, and each other box one
+-- a Union takes 1 to 8 streams, a Join and a Resample two, and each other box one
 abbrev pub inputs_within : RawBody → List (List ℕ) → Bool
 inputs_within Union ins = has_between 1 8 ins
 inputs_within (Join size on) ins = has_between 2 2 ins
+inputs_within (Resample size give) ins = has_between 2 2 ins
 inputs_within b ins = has_between 1 1 ins
 
 abbrev pub box_within : RawBox → Bool

@@ -14,7 +14,7 @@ use Rattle.sq_graph.specs.Order.{is_on_cycle}
 use Rattle.sq_net.specs.declared.Part.TheVariants as part
 use Rattle.sq_net.specs.declared.Place.{Place}
 use Rattle.sq_tables.specs.declared.raw.RawBody.{RawBody}
-use Rattle.sq_tables.specs.declared.raw.RawBody.TheVariants.{Filter, Map, Union, BSort, Aggregate, Join}
+use Rattle.sq_tables.specs.declared.raw.RawBody.TheVariants.{Filter, Map, Union, BSort, Aggregate, Join, Resample}
 use Rattle.sq_tables.specs.declared.raw.RawBox.{RawBox}
 use Rattle.sq_tables.specs.declared.raw.Raw.{Raw}
 use Rattle.sq_tables.specs.Places.{place_at, place_of, or_else}
@@ -74,6 +74,7 @@ kind_of_body Union = boxes.Union
 kind_of_body (BSort by slack) = boxes.BSort
 kind_of_body (Aggregate size advance phase group give) = boxes.Aggregate
 kind_of_body (Join size on) = boxes.Join
+kind_of_body (Resample size give) = boxes.Resample
 
 abbrev pub box_wires : Numbers → RawBox → BoxWires
 box_wires number_of b = record { kind = kind_of_body b.body; inputs = filter_map number_of b.ins; ports = ports_of b.body }

@@ -4,7 +4,7 @@ ghost use Rattle.sq_net.specs.Columns.{first_columns, second_columns};
 ghost use Rattle.sq_net.specs.Sound.{takes_within};
 ghost use Rattle.sq_tables.specs.declared.raw.RawBody.TheVariants as raw;
 ghost use Rattle.sq_tables.specs.Refusals.{is_memory};
-ghost use Rattle.sq_reader.specs.Columns.{aggregate_of, bad_given, body_of, bsort_of, filter_of, join_of, map_of, nat_of, too_many, union_of, window_of};
+ghost use Rattle.sq_reader.specs.Columns.{aggregate_of, bad_given, body_of, bsort_of, filter_of, join_of, map_of, nat_of, resample_of, too_many, union_of, window_of};
 ghost use Rattle.sq_reader.specs.Limits.{body_within};
 ghost use Rattle.sq_reader.specs.Streaming.{kind_of_body};
 
@@ -12,9 +12,11 @@ use crate::boxes::{
     bad_name, copies_of, kinds_set, names_set, predicates_in, texts_set, unlike, values_in,
 };
 use crate::expressions::predicate_of;
-use crate::functions::{funcs_in, give_names, group_in, int_place, kinds_shown, names_shown};
+use crate::functions::{
+    funcs_in, give_names, group_in, int_place, kinds_answered, kinds_shown, names_shown,
+};
 use crate::limits::place_at;
-use crate::pairs::pair_schema;
+use crate::pairs::{kinds_of_both, left_names, pair_schema};
 use crate::sources::schema_of;
 use sq_aggfn::WindowSpec;
 use sq_net::{Body, NetErr, Part};
@@ -154,15 +156,15 @@ fn too_many(count: usize) -> Option<usize>
     if count <= 16 { None } else { Some(0) }
 }
 
-fn bad_given(group: &[Name], given: &[Name]) -> Option<usize>
-    requires group { length group.now ≤ 16 }
+fn bad_given(before: &[Name], given: &[Name]) -> Option<usize>
+    requires before { length before.now ≤ 16 }
     requires given { length given.now ≤ 16 }
-    ensures first { result ≡ bad_given group.now given.now }
+    ensures first { result ≡ bad_given before.now given.now }
     ensures within { IfSome result (λ i. i < 16) }
 {
-    match too_many(group.len() + given.len()) {
+    match too_many(before.len() + given.len()) {
         Some(item) => Some(item),
-        None => bad_name(group, given),
+        None => bad_name(before, given),
     }
 }
 
@@ -230,6 +232,41 @@ fn join_of(
     ))
 }
 
+fn resample_of(
+    alloc: Global,
+    number: usize,
+    size: i64,
+    give: &[AnswerColumn],
+    ins: &[Schema],
+) -> Result<(Body, Vec<Schema>), NetErr>
+    requires number { number < 2 ^ 32 }
+    requires some { 1 ≤ length give.now }
+    requires few { length give.now ≤ 16 }
+    requires two { length ins.now ≡ 2 }
+    ensures ok { IfOk result (λ t. resample_of number size give.now ins.now ≡ Ok (t.0, t.1.items)) }
+    ensures err { IfErr result (λ e. is_memory e ≡ false → resample_of number size give.now ins.now ≡ Err e) }
+{
+    let left = first_of(ins);
+    let right = second_of(ins);
+    let shown = left_names(alloc, left.names())?;
+    let given = give_names(alloc, give)?;
+    if let Some(item) = bad_given(&shown, &given) {
+        return Err(NetErr::Schema(place_at(Part::Box, number, item)));
+    }
+    let funcs = funcs_in(alloc, number, give, right)?;
+    let names = names_shown(alloc, &shown, &given)?;
+    let answered = kinds_answered(alloc, right, &funcs)?;
+    let kinds = kinds_of_both(alloc, left.kinds(), &answered)?;
+    let ports = one_port(alloc, schema_of(names, kinds))?;
+    Ok((
+        Body::Resample {
+            size: natural(size),
+            funcs: ListOf::new(funcs),
+        },
+        ports,
+    ))
+}
+
 fn window_of(size: i64, advance: i64, phase: i64) -> WindowSpec
     ensures { result ≡ window_of size advance phase }
 {
@@ -274,5 +311,8 @@ pub(crate) fn body_of(
             first_of(ins),
         ),
         RawBody::Join { size, on } => join_of(alloc, number, *size, on, ins),
+        RawBody::Resample { size, give } => {
+            resample_of(alloc, number, *size, give.as_slice(), ins)
+        }
     }
 }

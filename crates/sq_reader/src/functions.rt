@@ -1,4 +1,4 @@
-// What an Aggregate gives, and what it groups by, over the columns that it takes.
+// What an Aggregate or a Resample answers, and what an Aggregate groups by, over columns that it takes.
 ghost use Rattle.std.specs.Prelude.{◌≡◌, ◌<◌, ◌^◌, ◌++◌, [], false, Ok, Err, IfOk, IfErr, IfSome, OnOk, length, position};
 ghost use Rattle.std.specs.List.{filter_map};
 ghost use Rattle.sq_value.specs.Lists.{same_bytes};
@@ -182,16 +182,16 @@ fn push_names(names: &mut Vec<Name>, more: &[Name]) -> Result<(), AllocError>
     Ok(())
 }
 
-/// The names to group by, then those of what is given.
+/// The names to group by, or of the left columns, then those of what is given.
 pub(crate) fn names_shown(
     alloc: Global,
-    group: &[Name],
+    before: &[Name],
     given: &[Name],
 ) -> Result<Vec<Name>, AllocError>
-    ensures { IfOk result (λ v. v.items ≡ group.now ++ given.now) }
+    ensures { IfOk result (λ v. v.items ≡ before.now ++ given.now) }
 {
     let mut names = Vec::new(alloc);
-    push_names(&mut names, group)?;
+    push_names(&mut names, before)?;
     push_names(&mut names, given)?;
     Ok(names)
 }
@@ -205,7 +205,12 @@ fn kinds_at(alloc: Global, scope: &Schema, places: &[u32]) -> Result<Vec<Kind>, 
         .collect(alloc)
 }
 
-fn kinds_answered(alloc: Global, scope: &Schema, funcs: &[Func]) -> Result<Vec<Kind>, AllocError>
+/// The kinds of the functions.
+pub(crate) fn kinds_answered(
+    alloc: Global,
+    scope: &Schema,
+    funcs: &[Func],
+) -> Result<Vec<Kind>, AllocError>
     ensures { IfOk result (λ v. v.items ≡ kinds_answered scope.now funcs.now) }
 {
     funcs

@@ -92,6 +92,9 @@ fn body_within(body: &RawBody) -> bool
             has_between(group.as_slice(), 0, 16) && has_between(give.as_slice(), 1, 16)
         }
         RawBody::Join { size, on } => is_between(*size, 0, 1 << 32) && is_expression_long(on),
+        RawBody::Resample { size, give } => {
+            is_between(*size, 0, 1 << 32) && has_between(give.as_slice(), 1, 16)
+        }
     }
 }
 
@@ -100,7 +103,7 @@ fn inputs_within(body: &RawBody, ins: &[Name]) -> bool
 {
     match body {
         RawBody::Union => has_between(ins, 1, 8),
-        RawBody::Join { .. } => has_between(ins, 2, 2),
+        RawBody::Join { .. } | RawBody::Resample { .. } => has_between(ins, 2, 2),
         RawBody::Filter { .. }
         | RawBody::Map { .. }
         | RawBody::BSort { .. }

@@ -1,4 +1,4 @@
-// The columns of the pairs that a Join makes.
+// The columns of the pairs that a Join makes, and of the left tuples in what a Resample gives.
 ghost use Rattle.std.specs.Prelude.{◌≡◌, ◌+◌, ◌≤◌, ◌++◌, ◌∷◌, [], IfOk, OnOk, codes, length, map};
 ghost use Rattle.sq_net.specs.Columns.{pair_columns};
 
@@ -28,16 +28,29 @@ fn push_prefixed(
     Ok(())
 }
 
-fn pair_names(alloc: Global, left: &[Name], right: &[Name]) -> Result<Vec<Name>, AllocError>
-    ensures { IfOk result (λ v. v.items ≡ map (λ w. codes "l_" ++ w) left.now ++ map (λ w. codes "r_" ++ w) right.now) }
+/// The names of left columns in what is made of them.
+pub(crate) fn left_names(alloc: Global, left: &[Name]) -> Result<Vec<Name>, AllocError>
+    ensures { IfOk result (λ v. v.items ≡ map (λ w. codes "l_" ++ w) left.now) }
 {
     let mut names = Vec::new(alloc);
     push_prefixed(alloc, &mut names, "l_", left)?;
+    Ok(names)
+}
+
+fn pair_names(alloc: Global, left: &[Name], right: &[Name]) -> Result<Vec<Name>, AllocError>
+    ensures { IfOk result (λ v. v.items ≡ map (λ w. codes "l_" ++ w) left.now ++ map (λ w. codes "r_" ++ w) right.now) }
+{
+    let mut names = left_names(alloc, left)?;
     push_prefixed(alloc, &mut names, "r_", right)?;
     Ok(names)
 }
 
-fn pair_kinds(alloc: Global, left: &[Kind], right: &[Kind]) -> Result<Vec<Kind>, AllocError>
+/// Some kinds, then others.
+pub(crate) fn kinds_of_both(
+    alloc: Global,
+    left: &[Kind],
+    right: &[Kind],
+) -> Result<Vec<Kind>, AllocError>
     ensures { IfOk result (λ v. v.items ≡ left.now ++ right.now) }
 {
     let mut kinds = Vec::from_slice(alloc, left)?;
@@ -55,6 +68,6 @@ pub(crate) fn pair_schema(
     ensures { IfOk result (λ s. s ≡ pair_columns (left.now ∷ right.now ∷ [])) }
 {
     let names = pair_names(alloc, left.names(), right.names())?;
-    let kinds = pair_kinds(alloc, left.kinds(), right.kinds())?;
+    let kinds = kinds_of_both(alloc, left.kinds(), right.kinds())?;
     Ok(schema_of(names, kinds))
 }

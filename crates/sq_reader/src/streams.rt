@@ -53,7 +53,8 @@ fn push_ports(alloc: Global, names: &mut Vec<Name>, b: &RawBox) -> Result<(), Al
         | RawBody::Union
         | RawBody::BSort { .. }
         | RawBody::Aggregate { .. }
-        | RawBody::Join { .. } => Ok(names.push(copy_name(&b.name)?)?),
+        | RawBody::Join { .. }
+        | RawBody::Resample { .. } => Ok(names.push(copy_name(&b.name)?)?),
     }
 }
 
@@ -199,6 +200,7 @@ fn kind_of(body: &RawBody) -> BoxKind
         RawBody::BSort { .. } => BoxKind::BSort,
         RawBody::Aggregate { .. } => BoxKind::Aggregate,
         RawBody::Join { .. } => BoxKind::Join,
+        RawBody::Resample { .. } => BoxKind::Resample,
     }
 }
 

@@ -34,7 +34,8 @@ fn has_window(body: &RawBody) -> bool
         | RawBody::Map { .. }
         | RawBody::Union
         | RawBody::BSort { .. }
-        | RawBody::Join { .. } => true,
+        | RawBody::Join { .. }
+        | RawBody::Resample { .. } => true,
     }
 }
 

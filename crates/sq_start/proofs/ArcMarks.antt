@@ -19,7 +19,7 @@ use Rattle.sq_place.proofs.Wires.{length-mapped}
 use Rattle.sq_net.specs.declared.Network.{Network}
 use Rattle.sq_net.specs.declared.Node.{Node}
 use Rattle.sq_net.specs.declared.Body.{Body}
-use Rattle.sq_net.specs.declared.Body.TheVariants.{Filter, Map, Union, BSort, Aggregate, Join}
+use Rattle.sq_net.specs.declared.Body.TheVariants.{Filter, Map, Union, BSort, Aggregate, Join, Resample}
 use Rattle.sq_net.specs.Sound.{IsSound}
 use Rattle.sq_net.specs.Streams.{columns_of_stream}
 use Rattle.sq_points.specs.Points.{points_of}
@@ -73,6 +73,7 @@ port-marked Union w port may fit low = lower port (length w.inputs) low
 port-marked (BSort by slack) w port may fit low = absurd (cc may)
 port-marked (Aggregate fs group window) w port may fit low = (let one = fit.1 in zero-only port (omega (arith, one, low)))
 port-marked (Join size on) w port may fit low = absurd (cc may)
+port-marked (Resample size fs) w port may fit low = absurd (cc may)
 
 module _ (readies : Ready) where
   -- the node of a box that reads an arc takes marks there, where it lies below a drop

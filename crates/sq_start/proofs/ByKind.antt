@@ -13,10 +13,11 @@ use Rattle.sq_lists.specs.Boxes.{filter_list_of, map_list_of}
 use Rattle.sq_lists.specs.Sorting.{bsort_list_of}
 use Rattle.sq_lists.specs.Windows.{aggregate_of, window_results, in_window, starts_of}
 use Rattle.sq_lists.specs.Pairs.{join_list_of, pairs_from}
+use Rattle.sq_lists.specs.Resamples.{resample_list_of}
 use Rattle.sq_oper.specs.declared.tally.Place.TheVariants.{Start}
 use Rattle.sq_oper.specs.Entries.{Entry}
 use Rattle.sq_oper.specs.Order.{IsFuture, unmarked}
-use Rattle.sq_oper.specs.Streams.{tuple_in, tuples_of, things, at_zero}
+use Rattle.sq_oper.specs.Streams.{tuple_in, tuples_at, tuples_of, things, at_zero}
 use Rattle.sq_tagged.specs.Tagged.{HasNoMarks, spread_of, tagged_of, below_bounds}
 use Rattle.sq_tagged.specs.Boxes.{filter_tagged, map_tagged, united_tagged, aggregate_tagged}
 use Rattle.sq_plain.specs.Boxes.{trees, at_ports_below, makes_tuple}
@@ -24,8 +25,9 @@ use Rattle.sq_agg.specs.Held.{makes_result}
 use Rattle.sq_join.specs.Elements.{elements_of, side_of}
 use Rattle.sq_join.specs.Sides.{join_fits}
 use Rattle.sq_join.proofs.JoinLemmas.{join_new}
+use Rattle.sq_resample.specs.Resampling.{resample_fits}
 use Rattle.sq_net.specs.declared.Body.{Body}
-use Rattle.sq_net.specs.declared.Body.TheVariants.{Filter, Map, Union, BSort, Aggregate, Join}
+use Rattle.sq_net.specs.declared.Body.TheVariants.{Filter, Map, Union, BSort, Aggregate, Join, Resample}
 use Rattle.sq_model.specs.Fed.{late_at, late_by, late_of, fed_of}
 use Rattle.sq_model.specs.Full.{nth, full_streams}
 use Rattle.sq_graph.specs.Wires.{stream_at}
@@ -147,6 +149,21 @@ module _ (readies : Ready) (widen : FuturesWiden) (lags : List ℕ) (marked : Bo
 
       never : (r : Replay) (b : ℕ) → IsBox r b (Join size on) lags marked → marked ≡ true → ⊥
       never r b h below_drop = let bad : true ≡ false = sym below_drop ∙ not-marked readies widen r b (Join size on) lags marked h refl in cc bad
+
+  pub resample-starts : (size : ℕ) (funcs : List Func)
+      → ((table : ℕ → ℕ → ℕ) (future : List Entry) (q : ℕ) → rest table future q ≡ at_zero q (things (resample_list_of funcs size (tuples_at 0 future) (tuples_at 1 future))))
+      → ((port : ℕ) (fields : List Value) → fits port fields ≡ resample_fits (length funcs) port fields) → ((future : List Entry) → lost future ≡ 0)
+      → BoxStarts (Resample size funcs) lags marked marks fits rest lost
+  resample-starts size funcs plain f none =
+      record {
+        future = λ r b h. box-future readies widen r b (Resample size funcs) lags marked h marks fits (λ port below_drop e. absurd (cc e)) (λ port fields e. f port fields ∙ e);
+        gives = λ r b h q. box-stream readies widen r b (Resample size funcs) lags marked h q (rest (level_of r) (box_fed r b) q) (λ no free. plain (level_of r) (box_fed r b) q)
+            (λ below_drop. absurd (never r b h below_drop));
+        loses = λ r b h. none-late r b (Resample size funcs) lags marked h (λ t g. refl) (lost (box_fed r b)) (none (box_fed r b));
+      }
+    where
+      never : (r : Replay) (b : ℕ) → IsBox r b (Resample size funcs) lags marked → marked ≡ true → ⊥
+      never r b h below_drop = let bad : true ≡ false = sym below_drop ∙ not-marked readies widen r b (Resample size funcs) lags marked h refl in cc bad
 
 -- ---- an Aggregate that is fed nothing
 

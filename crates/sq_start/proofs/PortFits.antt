@@ -26,6 +26,7 @@ use Rattle.sq_place.specs.declared.DropPoint.{DropPoint}
 use Rattle.sq_points.specs.Points.{points_of}
 use Rattle.sq_below.specs.Ports.{body_fits}
 use Rattle.sq_below.specs.Actors.{Sources, Box, Shedder, Shower}
+use Rattle.sq_below.proofs.PortTypes.{resample-takes}
 use Rattle.sq_start.specs.Numbers.{place_stream}
 use Rattle.sq_start.specs.Comes.{point_streams, TuplesAreTaken}
 use Rattle.sq_start.specs.Started.{node_fits}
@@ -39,6 +40,7 @@ Takes body.Union n = 1 ≤ n
 Takes (body.BSort by slack) n = n ≡ 1
 Takes (body.Aggregate funcs group window) n = n ≡ 1
 Takes (body.Join size on) n = n ≡ 2
+Takes (body.Resample size fs) n = n ≡ 2
 
 abbrev is_left : List ℕ × Kind → Bool
 is_left c = same_bytes (take 2 c.0) (108 ∷ 95 ∷ [])
@@ -142,6 +144,7 @@ body-takes n ss (body.Aggregate fs group window) ports port fields f inner t typ
     and-both (eqb port 0) (nat_le 1 (length group + length fs) && nat_le (length group + length fs) 16) (zero-test port (omega (arith, f, low)))
     (and-both (nat_le 1 (length group + length fs)) (nat_le (length group + length fs) 16) (within 1 (length group + length fs) (omega (arith, few))) t.6)
 body-takes n ss (body.Join size on) ports port fields f inner t typed h = join-takes n ss on.scope port fields f t.0.0.0 t.2 typed h
+body-takes n ss (body.Resample size fs) ports port fields f inner t typed h = resample-takes n ss (length fs) port h.stream h.columns fields f h.there h.are h.fit t.5
 
 -- ---- from a sound network
 
@@ -158,6 +161,7 @@ takes-body body.Union kind k is h = (let within : is_between 1 8 k ≡ true = su
 takes-body (body.BSort by slack) kind k is h = one-of k (subst (λ z. takes_within z k ≡ true) is h)
 takes-body (body.Aggregate fs group window) kind k is h = one-of k (subst (λ z. takes_within z k ≡ true) is h)
 takes-body (body.Join size on) kind k is h = two-of k (subst (λ z. takes_within z k ≡ true) is h)
+takes-body (body.Resample size fs) kind k is h = two-of k (subst (λ z. takes_within z k ≡ true) is h)
 
 takes-at : (ws : List BoxWires) (bs : List Node) (at : ℕ) (b : Node) → map (λ w. w.kind) ws ≡ map (λ b. kind_of_body b.body) bs → list_all (λ w. takes_within w.kind (length w.inputs)) ws ≡ true
     → slice_get bs at ≡ Some b → Takes b.body (length (inputs_at (slice_get ws at)))

@@ -4,7 +4,7 @@ use Rattle.std.specs.Prelude.{codes}
 use Rattle.toml.specs.Data.{Data, string, integer, array, Items, no_items, item, Members, no_members, member}
 use Rattle.sq_tables.specs.declared.raw.Over.TheVariants.{Avg, First}
 use Rattle.sq_tables.specs.declared.raw.Answer.TheVariants.{Count, Field}
-use Rattle.sq_tables.specs.declared.raw.RawBody.TheVariants.{Filter, Map, Union, BSort, Aggregate, Join}
+use Rattle.sq_tables.specs.declared.raw.RawBody.TheVariants.{Filter, Map, Union, BSort, Aggregate, Join, Resample}
 use Rattle.sq_tables.specs.declared.raw.RawOutput.{RawOutput}
 use Rattle.sq_tables.specs.declared.raw.Version.TheVariants.{One, Two}
 use Rattle.sq_tables.specs.Shapes.{body_in, box_in, answer_column_in, output_in}
@@ -70,6 +70,19 @@ joining = boxed (codes "join") (member (codes "size") (integer (pos 3)) (member 
 
 join_row : body_in One (codes "join") joining ≡ Some (Join (pos 3) (codes "v = w"))
 join_row = refl
+
+-- either version has it, and no phase
+abbrev resampling : Members
+resampling = boxed (codes "resample") (member (codes "size") (integer (pos 3)) (member (codes "give") (lists ((codes "n" ∷ codes "count" ∷ []) ∷ [])) no_members))
+
+resample_row : body_in One (codes "resample") resampling ≡ Some (Resample (pos 3) (record { name = codes "n"; answer = Count } ∷ []))
+resample_row = refl
+
+resample_in_two : body_in Two (codes "resample") resampling ≡ body_in One (codes "resample") resampling
+resample_in_two = refl
+
+no_phase_there : body_in Two (codes "resample") (member (codes "phase") (integer (pos 0)) resampling) ≡ None
+no_phase_there = refl
 
 -- a cost of 1, and a selectivity of 1000 for its one port
 whole_row : box_in One joining ≡ Some (record { name = codes "b"; body = Join (pos 3) (codes "v = w"); ins = codes "s" ∷ []; cost = pos 1; selectivity = pos 1000 ∷ [] })

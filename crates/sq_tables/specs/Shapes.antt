@@ -11,7 +11,7 @@ use Rattle.sq_tables.specs.declared.raw.Over.TheVariants.{Sum, Avg, Min, Max, Fi
 use Rattle.sq_tables.specs.declared.raw.Answer.TheVariants.{Count, Field}
 use Rattle.sq_tables.specs.declared.raw.AnswerColumn.{AnswerColumn}
 use Rattle.sq_tables.specs.declared.raw.RawBody.{RawBody}
-use Rattle.sq_tables.specs.declared.raw.RawBody.TheVariants.{Filter, Map, Union, BSort, Aggregate, Join}
+use Rattle.sq_tables.specs.declared.raw.RawBody.TheVariants.{Filter, Map, Union, BSort, Aggregate, Join, Resample}
 use Rattle.sq_tables.specs.declared.raw.RawBox.{RawBox}
 use Rattle.sq_tables.specs.declared.raw.Version.{Version}
 use Rattle.sq_tables.specs.declared.raw.Version.TheVariants.{One, Two}
@@ -154,6 +154,13 @@ join_in ms = do
   on ← required as_str (get_member (codes "on") ms)
   Some (Join size on)
 
+abbrev pub resample_in : Members → Option RawBody
+resample_in ms = do
+  _keys ← when (has_only (codes "size" ∷ codes "give" ∷ box_keys) ms) true
+  size ← required as_integer (get_member (codes "size") ms)
+  give ← required (list_in answer_column_in) (get_member (codes "give") ms)
+  Some (Resample size give)
+
 -- what a box of a kind does
 abbrev pub body_in : Version → List ℕ → Members → Option RawBody
 body_in version kind ms =
@@ -162,7 +169,8 @@ body_in version kind ms =
     else (if same_bytes kind (codes "union") then union_in ms
     else (if same_bytes kind (codes "bsort") then bsort_in ms
     else (if same_bytes kind (codes "aggregate") then aggregate_in version ms
-    else (if same_bytes kind (codes "join") then join_in ms else None)))))
+    else (if same_bytes kind (codes "join") then join_in ms
+    else (if same_bytes kind (codes "resample") then resample_in ms else None))))))
 
 abbrev pub ports_of : RawBody → ℕ
 ports_of (Filter preds) = length preds + 1

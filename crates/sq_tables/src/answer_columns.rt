@@ -1,4 +1,4 @@
-// What an Aggregate gives, by the entries of `give`.
+// What an Aggregate or a Resample gives, by the entries of `give`.
 ghost use Rattle.std.specs.Prelude.{◌≡◌, IfOk, codes, option_map};
 ghost use Rattle.toml.specs.Data.{get_member};
 ghost use Rattle.toml.specs.View.{view, table_view, array_view};

@@ -34,14 +34,15 @@ pub enum Over {
     Last,
 }
 
-/// What an Aggregate answers of the tuples of a group: their number, or a function of a field, by the field's name.
+/// What an Aggregate answers of the tuples of a group, and a Resample of those near a left one: their number, or a function
+/// of a field, by the field's name.
 #[derive(Drop)]
 pub enum Answer {
     Count,
     Field { over: Over, field: Name },
 }
 
-/// A field that an Aggregate gives: its name, and its answer.
+/// A field that an Aggregate or a Resample gives: its name, and its answer.
 #[derive(Drop)]
 pub struct AnswerColumn {
     pub name: Name,
@@ -72,6 +73,10 @@ pub enum RawBody {
     Join {
         size: i64,
         on: Name,
+    },
+    Resample {
+        size: i64,
+        give: ListOf<AnswerColumn>,
     },
 }
 

@@ -3,7 +3,7 @@ ghost use Rattle.std.specs.Prelude.{◌≡◌, ◌∷◌, IfOk, IfErr, map, code
 ghost use Rattle.sq_tables.specs.Documents.{has_only};
 ghost use Rattle.toml.specs.View.{table_view};
 ghost use Rattle.sq_tables.specs.Readings.{IsUnread, Reads};
-ghost use Rattle.sq_tables.specs.Shapes.{aggregate_in, aggregate_keys, body_in, box_in, bsort_in, filter_in, join_in, map_in, output_in, ports_of, source_in, top_in, union_in, window_keys};
+ghost use Rattle.sq_tables.specs.Shapes.{aggregate_in, aggregate_keys, body_in, box_in, bsort_in, filter_in, join_in, map_in, output_in, ports_of, resample_in, source_in, top_in, union_in, window_keys};
 ghost use Rattle.sq_tables.specs.ShapesSeen.{tables_seen};
 
 use crate::answer_columns::answer_columns_at;
@@ -208,6 +208,20 @@ fn join_in(alloc: Global, table: &Table) -> Result<RawBody, Unread>
     Ok(RawBody::Join { size, on })
 }
 
+fn resample_in(alloc: Global, table: &Table) -> Result<RawBody, Unread>
+    ensures { Reads result (resample_in (table_view table.now)) }
+{
+    if !has_only(
+        table,
+        &["size", "give", "name", "kind", "in", "cost", "selectivity"],
+    ) {
+        return Err(Unread::Shape);
+    }
+    let size = number_at(table, "size")?;
+    let give = answer_columns_at(alloc, table)?;
+    Ok(RawBody::Resample { size, give })
+}
+
 fn body_in(alloc: Global, version: Version, table: &Table, kind: &str) -> Result<RawBody, Unread>
     ensures { Reads result (body_in version kind.now (table_view table.now)) }
 {
@@ -229,6 +243,9 @@ fn body_in(alloc: Global, version: Version, table: &Table, kind: &str) -> Result
     if same_text(kind, "join") {
         return join_in(alloc, table);
     }
+    if same_text(kind, "resample") {
+        return resample_in(alloc, table);
+    }
     Err(Unread::Shape)
 }
 
@@ -242,7 +259,8 @@ pub fn ports_of(body: &RawBody) -> usize
         | RawBody::Union
         | RawBody::BSort { .. }
         | RawBody::Aggregate { .. }
-        | RawBody::Join { .. } => 1,
+        | RawBody::Join { .. }
+        | RawBody::Resample { .. } => 1,
     }
 }
 

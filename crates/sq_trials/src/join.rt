@@ -12,7 +12,7 @@ use std::alloc::Global;
 use std::test::Fail;
 
 // Whether these pairs of numbers went out at port 0, by time, left and right number.
-fn are(outs: &Outs, rows: &[(u64, i64, i64)]) -> bool {
+pub fn are(outs: &Outs, rows: &[(u64, i64, i64)]) -> bool {
     outs.items.len() == rows.len()
         && outs
             .items

@@ -58,6 +58,8 @@ mod reader;
 #[cfg(test)]
 mod replay;
 #[cfg(test)]
+mod resample;
+#[cfg(test)]
 mod road;
 #[cfg(test)]
 mod sched;

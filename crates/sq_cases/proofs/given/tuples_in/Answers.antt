@@ -1,6 +1,0 @@
-use Rattle.sq_top.proofs.SourceLemmas.{text_is_recorded}
-use Rattle.sq_cases.proofs.given.tuples_in.Goals as goal
-
-pub returns-in-Ok : goal.returns-in-Ok
-returns-in-Ok c =
-    text_is_recorded c.args.source.now c.args.bytes.now c.in-Ok.tuples.items c.requires.within c.in-Ok.ensures.tuples

@@ -1,0 +1,3 @@
+pub mod RoundLemmas
+pub mod SumLemmas
+pub mod FedLemmas

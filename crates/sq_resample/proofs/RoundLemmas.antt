@@ -1,0 +1,140 @@
+-- What a Resample gives for the left tuples that wait, one after another.
+use Rattle.std.proofs.Common.{◌≡◌, ℕ, ◌+◌, ◌-◌, ◌≤◌, Bool, true, false, cond, List, [], ◌∷◌, ◌++◌, refl, ap, ap₂, sym, ◌∙◌, append-nil, append_assoc, zero-le, arith, tests}
+use Rattle.std.specs.Prelude.{if◌then◌else◌, nat_lt, nat_le}
+use Rattle.std.specs.Int.{abs_diff}
+use Rattle.std.specs.List.{AllByRecursion}
+use Rattle.std.proofs.lemmas.List.{map-append}
+use Rattle.std.proofs.lemmas.List.Elements.{filter-append}
+use Rattle.sq_value.specs.declared.Value.{Value}
+use Rattle.sq_value.specs.declared.Tuple.{Tuple}
+use Rattle.sq_item.specs.Things.{Thing}
+use Rattle.sq_lists.specs.Sides.{recent}
+use Rattle.sq_lists.specs.WindowParts.{NotFalling}
+use Rattle.sq_lists.proofs.AllLemmas.{All-weaker}
+use Rattle.sq_lists.proofs.SideLemmas.{All-recent, rises-recent}
+use Rattle.sq_lists.proofs.WindowLemmas.{lower}
+use Rattle.sq_lists.specs.Resamples.{near, resampled, resample_of}
+use Rattle.sq_lists.proofs.NearLemmas.{near-is, reaching-all, resample-let_go, resample-recent}
+use Rattle.sq_oper.specs.Streams.{things, at_zero}
+use Rattle.sq_oper.proofs.StreamLemmas.{at_zero-append}
+use Rattle.sq_resample.specs.Rounds.{CanGive, first_time, passed}
+
+-- ---- those that pass, and those that wait on
+
+pub passed-recent : (size now : ℕ) (xs : List Tuple) → passed size now xs ++ recent size now xs ≡ xs
+passed-recent size now [] = refl
+passed-recent size now (x ∷ xs) =
+    let ih = passed-recent size now xs in
+    elim (nat_lt size (now - x.time)) as (λ b. (if b then x ∷ passed size now xs else []) ++ (if b then recent size now xs else x ∷ xs) ≡ x ∷ xs) [ true ↦ ap (λ l. x ∷ l) ih | false ↦ refl ]
+
+pub passed-rises : (size now a : ℕ) (xs : List Tuple) → NotFalling a xs → NotFalling a (passed size now xs)
+passed-rises size now a [] up = tt
+passed-rises size now a (x ∷ xs) up =
+    let ih = passed-rises size now x.time xs up.1 in
+    elim (nat_lt size (now - x.time)) as (λ b. NotFalling a (if b then x ∷ passed size now xs else [])) [ true ↦ (up.0, ih) | false ↦ tt ]
+
+pub All-passed : (P : Tuple → Type 0) (size now : ℕ) (xs : List Tuple) → AllByRecursion P xs → AllByRecursion P (passed size now xs)
+All-passed P size now [] all = tt
+All-passed P size now (x ∷ xs) all =
+    let ih = All-passed P size now xs all.1 in
+    elim (nat_lt size (now - x.time)) as (λ b. AllByRecursion P (if b then x ∷ passed size now xs else [])) [ true ↦ (all.0, ih) | false ↦ tt ]
+
+-- the first that waits on is no earlier than what is before all of them
+pub first-later : (size now a : ℕ) (xs : List Tuple) → NotFalling a xs → a ≤ now → a ≤ first_time now (recent size now xs)
+first-later size now a [] up le = le
+first-later size now a (x ∷ xs) up le =
+    let first = up.0 in by (nat_lt size (now - x.time)) refl (λ at. first-later size now x.time xs up.1 at) first
+  where
+    by : (b : Bool) → nat_lt size (now - x.time) ≡ b → (x.time ≤ now → x.time ≤ first_time now (recent size now xs)) → a ≤ x.time → a ≤ first_time now (if b then recent size now xs else x ∷ xs)
+    by true e ih first = let at : x.time ≤ now = grind (arith, tests) in let k = ih at in omega (arith, k, first)
+    by false e ih first = first
+
+-- what comes after a stream
+rises-append : (a now : ℕ) (xs ys : List Tuple) → NotFalling a xs → AllByRecursion (λ x. x.time ≤ now) xs → a ≤ now → NotFalling now ys → NotFalling a (xs ++ ys)
+rises-append a now [] ys up all le more = lower a now ys le more
+rises-append a now (x ∷ xs) ys up all le more = (up.0, rises-append x.time now xs ys up.1 all.1 all.0 more)
+
+first-rises : (now : ℕ) (xs ys : List Tuple) → NotFalling 0 xs → AllByRecursion (λ x. x.time ≤ now) xs → NotFalling now ys → NotFalling (first_time now xs) (xs ++ ys)
+first-rises now [] ys up all more = more
+first-rises now (x ∷ xs) ys up all more = (omega arith, rises-append x.time now xs ys up.1 all.1 all.0 more)
+
+-- ---- what is given
+
+too-late : (size now x y : ℕ) → nat_lt size (now - x) ≡ true → now ≤ y → nat_le (abs_diff x y) size ≡ false
+too-late size now x y h le = grind (arith, tests)
+
+-- none of those that come is near what has passed
+none-come : (size now t : ℕ) (ys : List Tuple) → nat_lt size (now - t) ≡ true → AllByRecursion (λ y. now ≤ y.time) ys → near size t ys ≡ []
+none-come size now t [] far all = refl
+none-come size now t (y ∷ ys) far all =
+    ap (λ b. cond b (y ∷ near size t ys) (near size t ys)) (too-late size now t y.time far all.0) ∙ none-come size now t ys far all.1
+
+module _ (answers : List Tuple → List Value) (size : ℕ) where
+  passed-ready : (now : ℕ) (xs held more : List Tuple) → AllByRecursion (λ y. now ≤ y.time) more
+      → resample_of answers size (passed size now xs) (held ++ more) ≡ resample_of answers size (passed size now xs) held
+  passed-ready now [] held more all = refl
+  passed-ready now (x ∷ xs) held more all = by (nat_lt size (now - x.time)) refl (passed-ready now xs held more all)
+    where
+      by : (b : Bool) → nat_lt size (now - x.time) ≡ b
+          → resample_of answers size (passed size now xs) (held ++ more) ≡ resample_of answers size (passed size now xs) held
+          → resample_of answers size (if b then x ∷ passed size now xs else []) (held ++ more) ≡ resample_of answers size (if b then x ∷ passed size now xs else []) held
+      by false e ih = refl
+      by true e ih =
+          let same : near size x.time (held ++ more) ≡ near size x.time held =
+          filter-append (λ y. nat_le (abs_diff x.time y.time) size) held more
+          ∙ ap (λ l. near size x.time held ++ l) (none-come size now x.time more e all)
+          ∙ append-nil (near size x.time held) in
+          ap₂ (λ l rest. record { time = x.time; fields = x.fields ++ answers l } ∷ rest) same ih
+
+  -- what a Resample gives once an item came, and what it gives later
+  pub resample-parts : (now : ℕ) (waiting held lefts rights : List Tuple) → NotFalling 0 waiting → AllByRecursion (λ x. x.time ≤ now) waiting
+      → NotFalling now lefts → AllByRecursion (λ y. now ≤ y.time) rights
+      → resample_of answers size (waiting ++ lefts) (held ++ rights)
+      ≡ resample_of answers size (passed size now waiting) held
+      ++ resample_of answers size (recent size now waiting ++ lefts) (recent size (first_time now (recent size now waiting)) held ++ rights)
+  resample-parts now waiting held lefts rights up early more later =
+      let gone = passed size now waiting in
+      let on = recent size now waiting in
+      let rises = first-rises now on lefts (rises-recent size now waiting up) (All-recent (λ x. x.time ≤ now) size now waiting early) more in
+      ap (λ l. resample_of answers size (l ++ lefts) (held ++ rights)) (sym (passed-recent size now waiting))
+      ∙ ap (λ l. resample_of answers size l (held ++ rights)) (append_assoc gone on lefts)
+      ∙ map-append (resampled answers size (held ++ rights)) gone (on ++ lefts)
+      ∙ ap₂ (λ a b. a ++ b) (passed-ready now waiting held rights later) (sym (resample-recent answers size (first_time now on) (on ++ lefts) held rights rises))
+
+  -- near a left tuple that goes out is all that is held and isn't past
+  pub round-near : (t : ℕ) (held : List Tuple) → NotFalling 0 held → AllByRecursion (λ y. y.time ≤ t + size) held → near size t held ≡ recent size t held
+  round-near t held up all = near-is size t 0 held up ∙ reaching-all size t (recent size t held) (All-recent (λ y. y.time ≤ t + size) size t held all)
+
+  -- one is given, and then the others
+  one-given : (q : ℕ) (x : Tuple) (xs : List Tuple) (before after : List Thing) → after ≡ before ++ at_zero q (things (x ∷ []))
+      → after ++ at_zero q (things xs) ≡ before ++ at_zero q (things (x ∷ xs))
+  one-given q x xs before after gave =
+      ap (λ l. l ++ at_zero q (things xs)) gave
+      ∙ append_assoc before (at_zero q (things (x ∷ []))) (at_zero q (things xs))
+      ∙ ap (λ l. before ++ l) (sym (at_zero-append q (things (x ∷ [])) (things xs)))
+
+  pub round-step : (q now : ℕ) (x : Tuple) (xs held : List Tuple) (before after : List Thing) → nat_lt size (now - x.time) ≡ true → NotFalling x.time xs
+      → after ≡ before ++ at_zero q (things (resampled answers size held x ∷ []))
+      → after ++ at_zero q (things (resample_of answers size (passed size now xs) (recent size x.time held)))
+      ≡ before ++ at_zero q (things (resample_of answers size (passed size now (x ∷ xs)) held))
+  round-step q now x xs held before after past up gave =
+      ap (λ l. after ++ at_zero q (things l)) (resample-let_go answers size x.time (passed size now xs) held (passed-rises size now x.time xs up))
+      ∙ one-given q (resampled answers size held x) (resample_of answers size (passed size now xs) held) before after gave
+      ∙ ap (λ (b : Bool). before ++ at_zero q (things (resample_of answers size (if b then x ∷ passed size now xs else []) held))) (sym past)
+
+  pub all-step : (q : ℕ) (x : Tuple) (xs held : List Tuple) (before after : List Thing) → NotFalling x.time xs
+      → after ≡ before ++ at_zero q (things (resampled answers size held x ∷ []))
+      → after ++ at_zero q (things (resample_of answers size xs (recent size x.time held))) ≡ before ++ at_zero q (things (resample_of answers size (x ∷ xs) held))
+  all-step q x xs held before after up gave =
+      ap (λ l. after ++ at_zero q (things l)) (resample-let_go answers size x.time xs held up)
+      ∙ one-given q (resampled answers size held x) (resample_of answers size xs held) before after gave
+
+-- what has to hold of the others
+pub can-step : (width size : ℕ) (x : Tuple) (xs held : List Tuple) → CanGive width size (x ∷ xs) held → CanGive width size xs (recent size x.time held)
+can-step width size x xs held can = record {
+  waits = lower 0 x.time xs zero-le can.waits.1;
+  room = can.room.1;
+  rises = rises-recent size x.time held can.rises;
+  reaches = All-weaker (λ w. AllByRecursion (λ y. y.time ≤ w.time + size) held) (λ w. AllByRecursion (λ y. y.time ≤ w.time + size) (recent size x.time held))
+      (λ w h. All-recent (λ y. y.time ≤ w.time + size) size x.time held h) xs can.reaches.1;
+}
