@@ -16,8 +16,8 @@ class Finding:
     column: int | None = None
 
     def lines(self):
-        place = f"{self.path}:{self.line}: " if self.line else f"{self.path}: " if self.path else ""
-        yield f"  {place}{self.words}"
+        place = self.path + (f":{self.line}" if self.line else "") + ("" if self.column is None else f":{self.column + 1}")
+        yield f"  {place}{': ' if place else ''}{self.words}"
         if self.text is not None:
             shown, column = window(self.text, self.column)
             yield f"    {self.line} | {shown}".rstrip()

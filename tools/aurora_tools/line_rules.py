@@ -118,7 +118,7 @@ def field_of_kind(kind, wrong, words, remedies):
             if own == kind and value and wrong(value):
                 remedy = next((remedy for pattern, remedy in remedies if re.search(pattern, value)), "")
                 here = f"{len(value)} bytes long" if kind == "text" else shown(value)
-                return f"the field `{name}` is {here}, and {words}", remedy, place
+                return f"the field `{name}:{kind}` is {here}, and {words}", remedy, place
         return f"a field isn't of its kind; the fields are {shown_fields(dict(kinds))}", "", None
     return rule
 

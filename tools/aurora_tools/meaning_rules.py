@@ -176,10 +176,14 @@ def why_unreadable(text, at, what):
         return "the equals sign stands twice", "Write one: `=` compares."
     if before[-2:] == ["is", "not"] or last == "is":
         return "`is` asks for Null alone", "Write `is null` or `is not null`; values are compared by `=`."
+    if rest.startswith("not ") and last in (*expression.COMPARISONS, "+", "-", "*", "/", "%"):
+        return f"`not` binds less than `{last}`", "Put it in parentheses: (not a)."
     if not last or last in ("and", "or", "not", "(") or not (last[-1].isalnum() or last[-1] in "_')"):
         return f"{'here' if here else 'where it ends'} a value must stand: a number, a text in single quotes, a field, or a part in parentheses", ""
     if not here:
         return f"it ends, and {counted(before.count('(') - before.count(')'), 'parenthesis is', 'parentheses are')} open", "Close by `)`."
+    if rest.startswith("is "):
+        return "behind a comparison `is` needs parentheses", "Write `(a = b) is null`."
     if any(rest.startswith(it) for it in expression.COMPARISONS):
         return "comparisons don't chain", "Write `a < b and b < c`."
     guess = near(last, ("and", "or", "not", "is")) if last.isalpha() else ""

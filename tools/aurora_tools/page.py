@@ -18,7 +18,7 @@ svg .grid{stroke:#e3e3e3;fill:none}svg .frame{stroke:#999;fill:none}svg .gone{fi
 svg .over .line{stroke-dasharray:7 7}
 svg .kept{fill:#4a7ebb}svg .saved{fill:#c9d9ee}svg .capacity{stroke:#c03030;stroke-width:2}
 """
-MOST_SPANS = 12
+MOST_SPANS, MOST_PLANS = 12, 300
 
 
 def table(heads, rows):
@@ -65,18 +65,20 @@ def output_part(network, run, number, axis, colours):
 
 def plans_part(network, run, axis):
     """Returns the loads and capacities of the epochs that have a plan, as bars and as a table with what went of each drop."""
-    rows = []
-    for plan in run.plans:
+    rows, gone = [], [[(it.number, it.level) for it in run.batches if it.drop == number] for number in range(len(network.drops))]
+    for plan in run.plans[:MOST_PLANS]:
         begin, end = plan.epoch * network.epoch, (plan.epoch + 1) * network.epoch
         row = [f"{plan.epoch:,}", axis.text(begin), f"{plan.load:,}", f"{plan.capacity:,}", f"{plan.saved:,}", plan.verdict]
         for number, drop in enumerate(network.drops):
             batches = range(-(-begin // drop.length), -(-end // drop.length))
-            levels = [it.level for it in run.batches if it.drop == number and it.number in batches]
-            row.append(f"{len(levels)} of {len(batches)}" + (f" (level {levels[0]})" if levels else ""))
+            levels = [level for batch, level in gone[number] if batch in batches]
+            went = f"{len(levels)} of {len(batches)}" if batches else "none begins"
+            row.append(went + (f" (level {levels[0]})" if levels else ""))
         rows.append(row)
     heads = ["epoch", "from tick", "load", "capacity", "saved", "verdict"]
     heads += [f"drop {number}, at {drop.stream}" for number, drop in enumerate(network.drops)]
-    return ("<h2>Plans</h2>" + charts.loads(run.plans) + table(heads, rows) +
+    more = charts.note(f"{len(run.plans) - MOST_PLANS:,} plans more aren't listed.") if len(run.plans) > MOST_PLANS else ""
+    return ("<h2>Plans</h2>" + charts.loads(run.plans) + table(heads, rows) + more +
             '<p class="note">A load is estimated from the epoch before. An epoch that isn\'t here had no plan that takes a step. Of each drop stands '
             "how many of the batches that begin in the epoch were left out; a level is the chance of each of them in permille, so of few batches "
             "more or fewer go.</p>")

@@ -93,6 +93,8 @@ NETWORKS = [
     ("value >= 10", "(value >= 10", "Expr box 0 0 12 Expected", "where", "1 parenthesis is open"),
     ("value >= 10", "1 < value < 3", "Expr box 0 0 10 Expected", "where", "don't chain"),
     ("value >= 10", "value is 3", "Expr box 0 0 9 Expected", "where", "is null"),
+    ("value >= 10", "value > 10 is null", "Expr box 0 0 11 Expected", "where", "`(a = b) is null`"),
+    ("value >= 10", "good = not good", "Expr box 0 0 7 Expected", "where", "(not a)"),
     ("value >= 10", "abs(value) > 3", "Expr box 0 0 3 Expected", "where", "no functions"),
     ("value >= 10", "(" * 65 + "value" + ")" * 65, "Expr box 0 0 64 Depth", "where", "64 may be"),
     ("value >= 10", "vlaue >= 10", "Typing box 0 0", "vlaue", "`value` meant"),
@@ -121,7 +123,7 @@ LINES = [
     ("4.5,a,1,true", "Tick", "whole"),
     (" 4,a,1,true", "Tick", "Blanks"),
     ("2,a,1,true", "Falls", "line 3, `3`"),
-    ("4,a,1.5,true", "NotInt", "`value`"),
+    ("4,a,1.5,true", "NotInt", "`value:int`"),
     ("4,a,NA,true", "NotInt", "left empty"),
     ('4,a,"1,000",true', "NotInt", "thousands"),
     ("4,a,9223372036854775808,true", "NotInt", "64 bits"),
@@ -180,7 +182,7 @@ class Mistakes(unittest.TestCase):
                 self.assertEqual(told, f"aurora: network: {message}" if message else "")
                 self.assertIn(words, below)
                 self.assertNotIn("nothing more", below)
-                line = re.match(r"  plant\.toml:(\d+): ", below)
+                line = re.match(r"  plant\.toml:(\d+)(?::\d+)?: ", below)
                 self.assertEqual(bool(line), bool(place), below)
                 if place:
                     shown = changed.split("\n")[int(line[1]) - 1]
@@ -194,7 +196,7 @@ class Mistakes(unittest.TestCase):
                 self.write("readings.csv", STREAM + text + "\n")
                 told, below = self.refused("plant.toml")
                 self.assertEqual(told, f"aurora: stream readings: line 4: {why}")
-                self.assertRegex(below, r"^  readings\.csv:4: ")
+                self.assertRegex(below, r"^  readings\.csv:4(:\d+)?: ")
                 self.assertIn(words, below)
 
     def test_a_line_of_headings(self):
@@ -220,7 +222,7 @@ class Mistakes(unittest.TestCase):
                 self.write("picks.txt", text)
                 told, below = self.refused("plant.toml", "--picks=picks.txt")
                 self.assertEqual(told, f"aurora: picks: line {line}")
-                self.assertRegex(below, rf"^  picks\.txt:{line}: ")
+                self.assertRegex(below, rf"^  picks\.txt:{line}:1: ")
 
     def test_words(self):
         for words, said in WORDS:
