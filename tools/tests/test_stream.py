@@ -83,6 +83,12 @@ class Streams(unittest.TestCase):
         with open(f"{self.room}/made.csv", encoding="utf-8") as stream:
             self.assertEqual(stream.read(), "5,5,a\n5,3,b\n9,9,c\n9,4,d\n")
 
+    def test_a_second_time_becomes_ticks_too(self):
+        lines, table = self.made("came,made,v\n00:00:05,00:00:03,1\n00:00:06,,2\n", "--time", "came", "--unit", "%H:%M:%S", "--origin", "00:00:00",
+                                 "--field", "made=at:time", "--field", "v:int")
+        self.assertEqual(lines, ["5,3,1", "6,,2"])
+        self.assertIn('fields = ["at:int", "v:int"]', table)
+
     def test_lines_are_numbered_as_they_stood(self):
         lines, table = self.made("t,v\n2,a\n1,b\n", "--time", "t", "--sort", "--number", "id")
         self.assertEqual(lines, ["1,2,b", "2,1,a"])
