@@ -1,0 +1,13 @@
+#!/usr/bin/env bash
+# `tools/try` passes all words on, with a copy of each file beside the network, and says first what it does.
+cd "$(dirname "${BASH_SOURCE[0]}")/../.." || exit 1
+room=$(mktemp -d)
+trap 'rm -rf "$room"' EXIT
+printf '%s\n' '#!/bin/sh' 'echo "$@"' >"$room/rt"
+chmod +x "$room/rt"
+said=$(PATH=$room:$PATH tools/try examples/overload/front.toml --capacities capacity.csv --seed=7 2>"$room/told")
+failed=0
+[[ $said == "try "*" -- run front.toml --capacities capacity.csv --seed=7" ]] || { echo "the words are: $said"; failed=1; }
+[[ $said == *" --data capacity.csv=$PWD/examples/overload/capacity.csv "* ]] || { echo "the capacities aren't copied: $said"; failed=1; }
+grep -q '^try: the program is built, without a proof' "$room/told" || { echo "it doesn't say what it does"; failed=1; }
+exit $failed
