@@ -65,7 +65,7 @@ def short(value):
     """Returns a number in few letters."""
     for power, sign in ((18, "E"), (15, "P"), (12, "T"), (9, "G"), (6, "M")):
         if abs(value) >= 10 ** power:
-            return f"{value / 10 ** power:g}".rstrip() + sign if len(f"{value / 10 ** power:g}") <= 6 else f"{value / 10 ** power:.3g}{sign}"
+            return f"{value / 10 ** power:.6g}{sign}"
     return f"{value:,}"
 
 

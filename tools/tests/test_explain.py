@@ -37,6 +37,7 @@ NETWORKS = [
     ('fields = ["unit:text", "value:int", "good:bool"]', 'fields = "unit:text"', "Shape source 0 0", "fields", "square brackets"),
     ('kind = "filter"', 'kind = "filtre"', "Shape box 0 0", "kind", "`filter` meant"),
     ('kind = "filter"', 'kind = 3', "Shape box 0 0", "kind", "in double quotes"),
+    ('kind = "filter"', 'kind = ["filter"]', "Shape box 0 0", "kind", "in double quotes"),
     ("where = [", "were = [", "Shape box 0 0", "were", "`where` meant"),
     ("cost = 2", 'cost = "2"', "Shape box 0 0", "cost", "whole number"),
     ("cost = 2", "costs = 2", "Shape box 0 0", "costs", "`cost` meant"),
