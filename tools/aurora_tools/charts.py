@@ -208,7 +208,8 @@ def multiples(series, gone, axis):
     for at, (name, points) in enumerate(sorted(chosen)):
         column, row = at % columns, at // columns
         frame = Frame(axis, left + across * column, 32 + (high + 22) * row, wide, high, low, top)
-        parts.append(frame.ground(gone, axis.marks(3), worth_marks(low, top, 3) if column == 0 else [], at + columns >= len(chosen)))
+        levels = [(value, words if column == 0 else "") for value, words in worth_marks(low, top, 3)]
+        parts.append(frame.ground(gone, axis.marks(3), levels, at + columns >= len(chosen)))
         parts.append(text(frame.left, frame.top - 4, name[:30], title=name) + frame.line(points, gone, COLOURS[0], False))
     more, height = len(series.lines) - len(chosen), 32 + (high + 22) * -(-len(chosen) // columns) + axis.room - 18
     drawn = picture(height, "".join(parts), f"{series.field} over time, a panel a line")
