@@ -65,7 +65,7 @@ def short(value):
     """Returns a number in few letters."""
     for power, sign in ((18, "E"), (15, "P"), (12, "T"), (9, "G"), (6, "M")):
         if abs(value) >= 10 ** power:
-            return f"{value / 10 ** power:g}".rstrip() + sign if len(f"{value / 10 ** power:g}") <= 6 else f"{value / 10 ** power:.3g}{sign}"
+            return f"{value / 10 ** power:.6g}{sign}"
     return f"{value:,}"
 
 
@@ -208,7 +208,8 @@ def multiples(series, gone, axis):
     for at, (name, points) in enumerate(sorted(chosen)):
         column, row = at % columns, at // columns
         frame = Frame(axis, left + across * column, 32 + (high + 22) * row, wide, high, low, top)
-        parts.append(frame.ground(gone, axis.marks(3), worth_marks(low, top, 3) if column == 0 else [], at + columns >= len(chosen)))
+        levels = [(value, words if column == 0 else "") for value, words in worth_marks(low, top, 3)]
+        parts.append(frame.ground(gone, axis.marks(3), levels, at + columns >= len(chosen)))
         parts.append(text(frame.left, frame.top - 4, name[:30], title=name) + frame.line(points, gone, COLOURS[0], False))
     more, height = len(series.lines) - len(chosen), 32 + (high + 22) * -(-len(chosen) // columns) + axis.room - 18
     drawn = picture(height, "".join(parts), f"{series.field} over time, a panel a line")

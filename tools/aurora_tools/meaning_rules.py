@@ -73,7 +73,7 @@ def window(network, _, number, __):
         yield words, f"Take an `advance` of {-(-size // 4096):,} or more.", ("size",)
     else:
         words = f"`phase` is {phase:,}, and must be 0 to {advance - 1:,}, below `advance`"
-        yield words, f"The same windows, and those before them, begin with `phase = {phase % advance}`.", ("phase",)
+        yield words, f"`phase = {phase % advance}` has the same windows, and those that begin before them.", ("phase",)
 
 
 def graph(network, _, number, __, why=""):

@@ -99,7 +99,8 @@ def titled(network, part, number):
     name, kind = it.get("name"), it.get("kind")
     if part in ("top", "drop"):
         return ""
-    return f"{part} {number}" + (f", `{name}`" if isinstance(name, str) else "") + (f", {article(kind)}" if kind in KINDS else "") + ": "
+    named = f", `{name}`" if isinstance(name, str) else ""
+    return f"{part} {number}{named}" + (f", {article(kind)}" if isinstance(kind, str) and kind in KINDS else "") + ": "
 
 
 def toml_finding(network):

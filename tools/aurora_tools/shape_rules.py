@@ -152,12 +152,12 @@ def limit_top(network, it, _):
     yield from between(it.get("batch"), "batch", 1, 1_000_000)
 
 
-def limit_source(_, it, number):
+def limit_source(_, it, __):
     yield from long(it["file"].encode(), "file", 1, 255, ("byte",))
     yield from long(it["fields"], "fields", 1, 16, ("field",))
 
 
-def limit_box(_, it, number):
+def limit_box(_, it, __):
     kind = it["kind"]
     inputs = {"union": (1, 8), "join": (2, 2), "resample": (2, 2)}.get(kind, (1, 1))
     for found, hint, way in long(it["in"], "in", *inputs, ("stream",)):
@@ -176,7 +176,7 @@ def limit_box(_, it, number):
             yield f"the expression has {len(text.encode()):,} bytes, and must have 1 to 4,096", "", way
 
 
-def limit_output(_, it, number):
+def limit_output(_, it, __):
     yield from between(it.get("weight"), "weight", 0, 1000)
     yield from long(it.get("graph"), "graph", 0, 1000, ("point",))
 

@@ -11,6 +11,14 @@ PROGRAM = os.environ["AURORA"]
 HERE = os.path.dirname(os.path.abspath(__file__))
 STREAM = "1,a,12,true\n2,b,7,\n3,a,,false\n"
 
+OUTPUT = '[[output]]\nname = "averages"'
+
+
+def resample(give, into='"readings", "others"', size=3):
+    """Returns a Resample before the first output."""
+    return f'[[box]]\nname = "round"\nkind = "resample"\nin = [{into}]\nsize = {size}\ngive = [{give}]\n\n{OUTPUT}'
+
+
 # What is put in place of what in plant.toml; the program's message; a word of the line that is told, empty where none is; what is said.
 NETWORKS = [
     ('"count"],', '"count"]]', "Toml", "mean", "bracket too many"),
@@ -29,6 +37,7 @@ NETWORKS = [
     ('fields = ["unit:text", "value:int", "good:bool"]', 'fields = "unit:text"', "Shape source 0 0", "fields", "square brackets"),
     ('kind = "filter"', 'kind = "filtre"', "Shape box 0 0", "kind", "`filter` meant"),
     ('kind = "filter"', 'kind = 3', "Shape box 0 0", "kind", "in double quotes"),
+    ('kind = "filter"', 'kind = ["filter"]', "Shape box 0 0", "kind", "in double quotes"),
     ("where = [", "were = [", "Shape box 0 0", "were", "`where` meant"),
     ("cost = 2", 'cost = "2"', "Shape box 0 0", "cost", "whole number"),
     ("cost = 2", "costs = 2", "Shape box 0 0", "costs", "`cost` meant"),
@@ -110,6 +119,13 @@ NETWORKS = [
     ('group = ["unit"]', 'group = ["units"]', "Group box 2 0", "group", "`unit` meant"),
     ('group = ["unit"]', 'group = ["unit", "unit"]', "Group box 2 1", "group", "stood before"),
     ("batch = 2", "batch = 1000000", None, "", ""),
+    (OUTPUT, resample('["most", "max", "value"]'), None, "", ""),
+    (OUTPUT, resample('["l_value", "count"]'), "Schema box 6 0", "l_value", "left stream"),
+    (OUTPUT, resample('["most", "max", "vlaue"]'), "Typing box 6 0", "vlaue", "`value` meant"),
+    (OUTPUT, resample('["most", "sum", "unit"]'), "Typing box 6 0", "unit", "kind text"),
+    (OUTPUT, resample('["most", "count"]', '"readings"'), "Limit box 6 0", "in =", "must have 2"),
+    (OUTPUT, resample('["most", "count"]', size=4294967297), "Limit box 6 0", "size", "4,294,967,296"),
+    (OUTPUT, resample('["most", "count"]').replace("size = 3\n", ""), "Shape box 6 0", "[[box]]", "`size` is missing"),
 ]
 
 # Lines that follow the stream of `readings`; the program's reason; what is said.

@@ -26,6 +26,7 @@ ENDS = [
     ("[0, 0], [500, 900000], [1000, 1000000]", ", ".join(f"[{50 * at}, {50000 * at}]" for at in range(21))), ("[0, 0], [500, 900000], [1000, 1000000]", "[0, 0], [1000, 0]"),
     ('name = "pairs"', f'name = "{"p" * 32}"'), ("value >= 10", "value >= 10" + " " * 4085), ('["readings", "others"]', '["others"]'),
     ('["readings", "others"]', '["others", "others", "others", "others", "others", "others", "others", "others"]'), ("version = 2", "version = 2\n#"),
+    (test_explain.OUTPUT, test_explain.resample('["most", "count"]', size=0)), (test_explain.OUTPUT, test_explain.resample('["most", "count"]', size=4294967296)),
 ]
 
 
