@@ -19,7 +19,7 @@ use Rattle.sq_oper.specs.declared.tally.Place.{Place}
 use Rattle.sq_oper.specs.Entries.{Entry, at_port, entries}
 use Rattle.sq_oper.specs.Given.{ThingsUpTo}
 use Rattle.sq_oper.specs.Order.{time_of, after, InOrder, unmarked, IsFuture}
-use Rattle.sq_oper.specs.Streams.{tuple_in, tuples_of, things, at_zero}
+use Rattle.sq_oper.specs.Streams.{tuple_in, tuples_at, tuples_of, things, at_zero}
 use Rattle.sq_oper.proofs.GivenLemmas.{IsPrefixOf-append, IsPrefixOf-longer, ThingsUpTo-append}
 use Rattle.sq_oper.proofs.StreamLemmas.{things-append, at_zero-append, at_zero-nil, All-at_zero, UpTo-at_zero, may-come-time}
 use Rattle.sq_oper.proofs.FedLemmas.{tuple_at, tuple_entry, mark_entry, no_body, read-fed, time-before-item}
