@@ -34,9 +34,9 @@ use std::sync::ledger::Ledger;
 /// VLDB Journal 2003; that windows begin at the phase and an advance apart is this project's own).
 ///
 /// It keeps one state for each pane and group, and joins a window that ends from its panes. Each time a window ends, the
-/// panes that no later window needs go, so none is held that ended an advance or more before the window begins that
-/// ends next. Below a window drop it gives a window only where the marks allow it, and hands each mark on before the
-/// results of its time and behind all earlier ones.
+/// panes before the first tick whose window may still grow go, so none is held that ended an advance or more before the
+/// window begins that ends next. Below a window drop it gives a window only where the marks allow it, and hands each
+/// mark on before the results of its time and behind all earlier ones.
 #[derive(Drop)]
 pub struct AggregateBox<F: Fold + Drop> {
     panes: Panes<F>,

@@ -1,19 +1,18 @@
 -- What is near a time in a stream.
-use Rattle.std.proofs.Common.{◌≡◌, ℕ, ◌+◌, ◌-◌, ◌≤◌, Bool, true, false, cond, List, [], ◌∷◌, ◌++◌, map, refl, ap, ap₂, sym, ◌∙◌, zero-le, arith, tests}
+use Rattle.std.proofs.Common.{◌≡◌, ℕ, ◌+◌, ◌-◌, ◌≤◌, Bool, true, false, cond, List, [], ◌∷◌, ◌++◌, refl, ap, ap₂, sym, ◌∙◌, arith, tests}
 use Rattle.std.specs.Prelude.{if◌then◌else◌, nat_lt, nat_le}
 use Rattle.std.specs.Int.{abs_diff}
-use Rattle.std.specs.List.{AllByRecursion, filter}
+use Rattle.std.specs.List.{AllByRecursion}
 use Rattle.std.proofs.lemmas.List.Elements.{filter-append}
 use Rattle.sq_value.specs.declared.Value.{Value}
 use Rattle.sq_value.specs.declared.Tuple.{Tuple}
 use Rattle.sq_value.specs.Values.{IsStream}
 use Rattle.sq_aggfn.specs.declared.Func.{Func}
-use Rattle.sq_aggfn.specs.Functions.{answers_of}
 use Rattle.sq_lists.specs.Sides.{recent}
 use Rattle.sq_lists.specs.WindowParts.{NotFalling}
 use Rattle.sq_lists.proofs.WindowLemmas.{lower}
 use Rattle.sq_lists.specs.Nearness.{reaching}
-use Rattle.sq_lists.specs.Resamples.{near, resampled, resample_of, resample_list_of}
+use Rattle.sq_lists.specs.Resamples.{near, resample_of, resample_list_of}
 
 -- ---- one time and another
 

@@ -40,7 +40,7 @@ box_keeps b port ins all = by_kind b
     by_kind (BSort by slack) = keep_streams.bsort by slack (nth ins 0) (at 0)
     by_kind (Aggregate funcs group window) = keep_streams.aggregate funcs group window (nth ins 0) (at 0)
     by_kind (Join size on) = keep_streams.join size on.tree (nth ins 0) (nth ins 1) (at 0) (at 1)
-    by_kind (Resample size funcs) = keep_streams.resample funcs size (nth ins 0) (nth ins 1) (at 0) (at 1)
+    by_kind (Resample size funcs) = keep_streams.resample funcs size (nth ins 0) (nth ins 1) (at 0)
 
 -- what stands at an input, and what a box gives, where these are the inputs among streams
 pub input_is_stream : (streams : List (List Tuple)) (inputs : List ℕ) (i : ℕ) → All IsStream streams → IsStream (nth (map (nth streams) inputs) i)

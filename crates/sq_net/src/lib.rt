@@ -153,7 +153,7 @@ pub enum NetErr {
     /// The bytes are no TOML document.
     #[error("Toml")]
     Toml,
-    /// The version is absent or isn't 1.
+    /// The version is absent or is neither 1 nor 2.
     #[error("Version")]
     Version,
     /// A key is missing, unknown or of another kind.

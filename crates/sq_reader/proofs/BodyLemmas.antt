@@ -244,7 +244,7 @@ join_is n size on ins t h =
     let P : TypedBody → Type 0 = IsBodyOf (Join size on) ins in
     subst P same built
 
-resample_is : (n : ℕ) (size : ℤ) (give : List AnswerColumn) (ins : List Columns) (t : TypedBody) → resample_of n size give ins ≡ Ok t → IsBodyOf (Resample size give) ins t
+resample_is : (n : ℕ) (size : ℤ) (give : List AnswerColumn) (ins : List Columns) (t : TypedBody) → resample_of n (nat_of size) give ins ≡ Ok t → IsBodyOf (Resample size give) ins t
 resample_is n size give ins t h =
     let left : Columns = left_columns ins in
     let right : Columns = second_columns ins in

@@ -1,6 +1,6 @@
 -- What a Resample gives: the left columns, then one for each function, whose names are new.
-use Rattle.std.proofs.Common.{◌≡◌, ◌∙◌, sym, ap, refl, ℕ, ◌+◌, ◌≤◌, false, List, [], ◌∷◌, ◌++◌, length, None, ℤ, arith, length-append}
-use Rattle.std.specs.Prelude.{Ok, codes}
+use Rattle.std.proofs.Common.{◌≡◌, ◌∙◌, sym, ap, refl, ℕ, ◌+◌, false, List, [], ◌∷◌, ◌++◌, length, Some, None, arith, length-append}
+use Rattle.std.specs.Prelude.{Ok, Err, codes}
 use Rattle.std.specs.List.{zip}
 use Rattle.std.proofs.lemmas.List.{length-map}
 use Rattle.std.proofs.lemmas.List.Elements.{All-from_recursion}
@@ -12,8 +12,12 @@ use Rattle.sq_aggfn.specs.declared.Func.{Func}
 use Rattle.sq_net.specs.Columns.{first_columns, left_columns, prefixed, second_columns}
 use Rattle.sq_net.specs.Sound.{AreNew}
 use Rattle.sq_net.specs.declared.Body.TheVariants as body
+use Rattle.sq_net.specs.declared.NetErr.{NetErr}
+use Rattle.sq_net.specs.declared.NetErr.TheVariants as broken
+use Rattle.sq_net.specs.declared.Part.TheVariants as part
 use Rattle.sq_tables.specs.declared.raw.AnswerColumn.{AnswerColumn}
-use Rattle.sq_reader.specs.Columns.{bad_given, give_names, nat_of, resample_of}
+use Rattle.sq_tables.specs.Places.{place_at}
+use Rattle.sq_reader.specs.Columns.{bad_given, give_names, resample_of}
 use Rattle.sq_reader.specs.Functions.{funcs_from, kinds_answered}
 use Rattle.sq_reader.proofs.ColumnLemmas.{zip_both}
 use Rattle.sq_reader.proofs.DistinctLemmas.{distinct_both, new_distinct, new_out}
@@ -56,9 +60,19 @@ resampled_zip left given kinds =
 pub as_left : (left : Columns) (given : List (List ℕ)) → bad_given (left_names (names_of left)) given ≡ bad_given (names_of (prefixed (codes "l_") left)) given
 as_left left given = ap (λ (ws : List (List ℕ)). bad_given ws given) (prefixed_names (codes "l_") left)
 
-pub resampled : (n : ℕ) (size : ℤ) (give : List AnswerColumn) (ins : List Columns) (fs : List Func) → bad_given (left_names (names_of (first_columns ins))) (give_names give) ≡ None
+-- what is given breaks a rule on names
+pub names_at_fault : (n : ℕ) (size : ℕ) (give : List AnswerColumn) (ins : List Columns) (i : ℕ) → bad_given (left_names (names_of (first_columns ins))) (give_names give) ≡ Some i
+    → resample_of n size give ins ≡ Err (broken.Schema (place_at part.Box n i))
+names_at_fault n size give ins i bad = rw (sym (as_left (first_columns ins) (give_names give)) ∙ bad) refl
+
+-- a function is at fault
+pub funcs_at_fault : (n : ℕ) (size : ℕ) (give : List AnswerColumn) (ins : List Columns) (e : NetErr) → bad_given (left_names (names_of (first_columns ins))) (give_names give) ≡ None
+    → funcs_from n 0 (second_columns ins) give ≡ Err e → resample_of n size give ins ≡ Err e
+funcs_at_fault n size give ins e good funcs = rw (sym (as_left (first_columns ins) (give_names give)) ∙ good, funcs) refl
+
+pub resampled : (n : ℕ) (size : ℕ) (give : List AnswerColumn) (ins : List Columns) (fs : List Func) → bad_given (left_names (names_of (first_columns ins))) (give_names give) ≡ None
     → funcs_from n 0 (second_columns ins) give ≡ Ok fs
     → resample_of n size give ins
-    ≡ Ok (body.Resample (nat_of size) fs, zip (left_names (names_of (first_columns ins)) ++ give_names give) (kinds_of (first_columns ins) ++ kinds_answered (second_columns ins) fs) ∷ [])
+    ≡ Ok (body.Resample size fs, zip (left_names (names_of (first_columns ins)) ++ give_names give) (kinds_of (first_columns ins) ++ kinds_answered (second_columns ins) fs) ∷ [])
 resampled n size give ins fs good funcs =
     rw (sym (as_left (first_columns ins) (give_names give)) ∙ good, funcs, resampled_zip (first_columns ins) (give_names give) (kinds_answered (second_columns ins) fs)) refl

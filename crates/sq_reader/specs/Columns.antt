@@ -130,11 +130,11 @@ join_of n size on ins =
     unless_schema n (too_many (length (pair_columns ins)))
     (predicate_of n (pair_columns ins) on >>= λ e. Ok (body.Join (nat_of size) e, pair_columns ins ∷ []))
 
-abbrev pub resample_of : ℕ → ℤ → List AnswerColumn → List Columns → Result TypedBody NetErr
+abbrev pub resample_of : ℕ → ℕ → List AnswerColumn → List Columns → Result TypedBody NetErr
 resample_of n size give ins =
     unless_schema n (bad_given (names_of (left_columns ins)) (give_names give))
     (funcs_from n 0 (second_columns ins) give >>= λ fs.
-    Ok (body.Resample (nat_of size) fs, (left_columns ins ++ zip (give_names give) (kinds_answered (second_columns ins) fs)) ∷ []))
+    Ok (body.Resample size fs, (left_columns ins ++ zip (give_names give) (kinds_answered (second_columns ins) fs)) ∷ []))
 
 -- a box on what it takes
 abbrev pub body_of : ℕ → RawBody → List Columns → Result TypedBody NetErr
@@ -144,7 +144,7 @@ body_of n Union ins = union_of n ins
 body_of n (BSort by slack) ins = bsort_of n by slack (first_columns ins)
 body_of n (Aggregate size advance phase group give) ins = aggregate_of n (window_of size advance phase) group give (first_columns ins)
 body_of n (Join size on) ins = join_of n size on ins
-body_of n (Resample size give) ins = resample_of n size give ins
+body_of n (Resample size give) ins = resample_of n (nat_of size) give ins
 
 abbrev pub node_of : RawBox → TypedBody → Node
 node_of b t = record { name = b.name; body = t.0; schemas = t.1; cost = nat_of b.cost; selectivity = map nat_of b.selectivity }

@@ -235,7 +235,7 @@ fn join_of(
 fn resample_of(
     alloc: Global,
     number: usize,
-    size: i64,
+    size: u64,
     give: &[AnswerColumn],
     ins: &[Schema],
 ) -> Result<(Body, Vec<Schema>), NetErr>
@@ -260,7 +260,7 @@ fn resample_of(
     let ports = one_port(alloc, schema_of(names, kinds))?;
     Ok((
         Body::Resample {
-            size: natural(size),
+            size,
             funcs: ListOf::new(funcs),
         },
         ports,
@@ -312,7 +312,7 @@ pub(crate) fn body_of(
         ),
         RawBody::Join { size, on } => join_of(alloc, number, *size, on, ins),
         RawBody::Resample { size, give } => {
-            resample_of(alloc, number, *size, give.as_slice(), ins)
+            resample_of(alloc, number, natural(*size), give.as_slice(), ins)
         }
     }
 }

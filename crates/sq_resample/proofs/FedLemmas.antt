@@ -1,5 +1,5 @@
 -- The law of a Resample.
-use Rattle.std.proofs.Common.{◌≡◌, ℕ, suc, ◌+◌, ◌-◌, ◌≤◌, Bool, true, false, cond, ◌⊎◌, inl, inr, IsTrue, List, [], ◌∷◌, ◌++◌, length, Option, Some, None, refl, ap, ap₂, sym, ◌∙◌, append-nil, append_assoc, length-append, zero-le, arith, tests}
+use Rattle.std.proofs.Common.{◌≡◌, ℕ, suc, ◌+◌, ◌-◌, ◌≤◌, Bool, true, false, cond, ◌⊎◌, inl, inr, IsTrue, List, [], ◌∷◌, ◌++◌, length, Option, Some, None, refl, ap, ap₂, sym, subst, ◌∙◌, append-nil, append_assoc, length-append, zero-le, arith, tests}
 use Rattle.std.specs.Prelude.{if◌then◌else◌, nat_lt, nat_le, ◌==◌}
 use Rattle.std.specs.List.{AllByRecursion, filter}
 use Rattle.sq_value.specs.declared.Value.{Value}
@@ -9,7 +9,7 @@ use Rattle.sq_item.specs.declared.Mark.{Mark}
 use Rattle.sq_item.specs.declared.Item.{Item}
 use Rattle.sq_item.specs.Sound.{IsSound}
 use Rattle.sq_item.specs.Things.{Load, Sign, Body, Thing, mark_part, body_part}
-use Rattle.sq_lists.specs.Sides.{recent, left_with, right_with}
+use Rattle.sq_lists.specs.Sides.{AllNear, recent, left_with, right_with}
 use Rattle.sq_lists.specs.WindowParts.{NotFalling}
 use Rattle.sq_lists.proofs.AllLemmas.{All-weaker, All-push}
 use Rattle.sq_lists.proofs.SideLemmas.{All-recent, rises-recent, rises-push, near-recent}
@@ -19,7 +19,7 @@ use Rattle.sq_oper.specs.declared.tally.Place.{Place}
 use Rattle.sq_oper.specs.Entries.{Entry, at_port, entries}
 use Rattle.sq_oper.specs.Given.{ThingsUpTo}
 use Rattle.sq_oper.specs.Order.{time_of, after, InOrder, unmarked, IsFuture}
-use Rattle.sq_oper.specs.Streams.{tuple_in, tuples_of, things, at_zero}
+use Rattle.sq_oper.specs.Streams.{tuple_in, tuples_at, tuples_of, things, at_zero}
 use Rattle.sq_oper.proofs.GivenLemmas.{IsPrefixOf-append, IsPrefixOf-longer, ThingsUpTo-append}
 use Rattle.sq_oper.proofs.StreamLemmas.{things-append, at_zero-append, at_zero-nil, All-at_zero, UpTo-at_zero, may-come-time}
 use Rattle.sq_oper.proofs.FedLemmas.{tuple_at, tuple_entry, mark_entry, no_body, read-fed, time-before-item}
@@ -86,6 +86,14 @@ times-given : (answers : List Tuple → List Value) (size : ℕ) (P : ℕ → Ty
 times-given answers size P [] right all = tt
 times-given answers size P (x ∷ left) right all = (all.0, times-given answers size P left right all.1)
 
+first-early : (now : ℕ) (xs : List Tuple) → AllByRecursion (λ x. x.time ≤ now) xs → first_time now xs ≤ now
+first-early now [] early = omega arith
+first-early now (x ∷ xs) early = early.0
+
+first-pushed : (now : ℕ) (xs : List Tuple) (x : Tuple) → x.time ≡ now → first_time now (xs ++ x ∷ []) ≡ first_time now xs
+first-pushed now [] x is = is
+first-pushed now (y ∷ xs) x is = refl
+
 -- ---- a box that is fed a tuple
 
 module _ (answers : List Tuple → List Value) (width size : ℕ) (waiting held : List Tuple) (place : Place) (port : ℕ) (item : Item) (fields : List Value)
@@ -145,6 +153,7 @@ module _ (answers : List Tuple → List Value) (width size : ℕ) (waiting held 
     room = All-recent (HasRoom width) size item.time waiting facts.room;
     rises = rises-recent size (first_time item.time on) held facts.rises;
     past = All-recent (λ y. y.time ≤ item.time) size (first_time item.time on) held held-past;
+    needed = near-recent size (first_time item.time on) held facts.rises;
   }
 
   -- the facts of what is held then
@@ -159,6 +168,7 @@ module _ (answers : List Tuple → List Value) (width size : ℕ) (waiting held 
         room = All-push (HasRoom width) on fed facts-on.room (record { tick = sound.tick; some = fed-some.0; few = at.1 });
         rises = facts-on.rises;
         past = facts-on.past;
+        needed = subst (λ t. AllNear size t kept) (sym (first-pushed item.time on fed refl)) facts-on.needed;
       })
       by port (inr at) = rw at (record {
         waits = facts-on.waits;
@@ -167,6 +177,7 @@ module _ (answers : List Tuple → List Value) (width size : ℕ) (waiting held 
         room = facts-on.room;
         rises = rises-push 0 kept fed facts-on.rises facts-on.past zero-le;
         past = All-push (λ y. y.time ≤ item.time) kept fed facts-on.past (omega arith);
+        needed = (let le = first-early item.time on facts-on.early in All-push (λ y. first_time item.time on ≤ y.time + size) kept fed facts-on.needed (omega (arith, le)));
       })
 
   module _ (future : List Entry) (all : IsFuture unmarked (resample_fits width) place (entries port item ++ future)) where

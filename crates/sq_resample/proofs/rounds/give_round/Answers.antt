@@ -18,6 +18,7 @@ returns-clause-given g c =
     let answers : c.in_ok-answers.answers ≡ table (near size x.time held) = c.in_ok-answers.ensures.answers ∙ ap table inside in
     let time = ap (λ (y : Tuple). y.time) c.in_ok-time.ensures in
     let fields = ap (λ (y : Tuple). y.fields) c.in_ok-time.ensures ∙ ap (λ (l : List Value). x.fields ++ l) answers in
+    let gave = rw (c.none.ensures, c.some.ensures) at c.in_ok-give.ensures.given in
     λ q.
-    c.in_ok-give.ensures.given q
+    gave q
     ∙ (λ i. given q c.args.out.now.items.items ++ at_zero q (things (record { time = time i; fields = fields i } ∷ [])))

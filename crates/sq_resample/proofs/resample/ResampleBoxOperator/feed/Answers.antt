@@ -9,8 +9,13 @@ use Rattle.sq_oper.proofs.GivenLemmas.{OnErr-from}
 use Rattle.sq_oper.proofs.FedLemmas.{tuple_at, time-after-item}
 use Rattle.sq_resample.specs.Rounds.{first_time}
 use Rattle.sq_resample.specs.Resampling.{resample_rest}
-use Rattle.sq_resample.proofs.FedLemmas.{fed_prefix, fed_law, fed_times, fed_held, fed_facts, length-recent, length-right}
+use Rattle.sq_resample.proofs.FedLemmas.{fed_early, fed_prefix, fed_law, fed_times, fed_held, fed_facts, length-recent, length-right}
 use Rattle.sq_resample.proofs.resample.ResampleBoxOperator.feed.Goals as goal
+
+pub give_ready-requires-clause-early : goal.give_ready-requires-clause-early
+give_ready-requires-clause-early g c =
+    let b = c.args.self.now in
+    fed_early (g.F.Fold.table b.fold) (g.F.Fold.width b.fold) b.size b.waiting.items b.held.tuples.items b.tally.place c.args.port c.args.item c.in-Some.fields (sym c.get.ensures ∙ c.in-Some.is) c.requires.is_sound c.requires.may_come c.requires.is_valid.0
 
 pub returns-in_err-give_ready-clause-prefix : goal.returns-in_err-give_ready-clause-prefix
 returns-in_err-give_ready-clause-prefix g c =
