@@ -24,13 +24,10 @@ pub fn are(outs: &Outs, rows: &[(u64, i64, i64)]) -> bool {
 fn is_pair(out: &(u32, Item), row: (u64, i64, i64)) -> bool {
     let (time, left, right) = row;
     let (to, item) = out;
-    match &item.body {
-        Some(fields) => *to == 0
-            && item.time == time
-            && item.mark.is_none()
-            && matches!(fields.as_slice(), [Value::Int(l), Value::Int(r)] if *l == left && *r == right),
-        None => false,
-    }
+    *to == 0
+        && item.time == time
+        && !item.mark.is_some()
+        && matches!(item.body.as_slice(), [Value::Int(l), Value::Int(r)] if *l == left && *r == right)
 }
 
 // Left 1:10 and 4:40, right 3:30 and 6:60.

@@ -4,7 +4,7 @@ ghost use Rattle.sq_item.specs.Sound.{IsMark, IsSound};
 ghost use Rattle.sq_join.specs.Sides.{left_fields};
 
 use sq_expr::{Typed, check, parse};
-use sq_item::{Item, Mark};
+use sq_item::{Body, Item, Mark, Sign};
 use sq_value::{Kind, ListOf, Name, Schema, Tuple, Value};
 use std::alloc::{AllocError, Global};
 use std::test::Fail;
@@ -23,8 +23,8 @@ pub fn item_at(alloc: Global, time: u64, v: i64) -> Result<Item, AllocError>
     let fields = ListOf::new(vec![in alloc; Value::Int(v)]?);
     Ok(Item {
         time,
-        mark: None,
-        body: Some(fields),
+        mark: Sign::none(),
+        body: Body::some(fields),
     })
 }
 
@@ -40,7 +40,7 @@ pub fn over_pairs(alloc: Global, text: &str) -> Result<Typed, Fail>
 }
 
 /// An item that is a mark alone.
-pub fn mark_at(time: u64, mark: Mark) -> Item
+pub fn mark_at(alloc: Global, time: u64, mark: Mark) -> Item
     requires tick { time < 2 ^ 40 }
     requires mark { IsMark (Some mark) }
     ensures sound { IsSound result }
@@ -48,7 +48,7 @@ pub fn mark_at(time: u64, mark: Mark) -> Item
 {
     Item {
         time,
-        mark: Some(mark),
-        body: None,
+        mark: Sign::new(Some(mark)),
+        body: Body::none(alloc),
     }
 }

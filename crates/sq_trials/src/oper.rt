@@ -5,9 +5,10 @@ use std::test::Fail;
 
 #[test]
 fn what_is_given_keeps_its_port_and_its_order(rt: HostRuntime) -> Result<(), Fail> {
-    let mut out = Outs::new(rt.alloc());
+    let alloc = rt.alloc();
+    let mut out = Outs::new(alloc);
     for (port, time) in [(2, 7), (0, 3)] {
-        out.give(port, mark_at(time, Mark::Closed))?;
+        out.give(port, mark_at(alloc, time, Mark::Closed))?;
     }
     let [a, b] = out.items.as_slice() else {
         return Err(Fail::from("two items"));

@@ -1,4 +1,5 @@
-use sq_item::{Item, Mark};
+use crate::numbers::mark_at;
+use sq_item::{Body, Item, Mark, Sign};
 use sq_page::{decode_page, encode_page, is_page, item_at, item_room};
 use sq_value::{ListOf, Value};
 use std::alloc::{AllocError, Global};
@@ -20,14 +21,10 @@ fn a_page_of_two_items(rt: HostRuntime) -> Result<(), Fail> {
     let alloc = rt.alloc();
     let first = Item {
         time: 5,
-        mark: Some(Mark::Open { until: 9 }),
-        body: Some(ListOf::new(vec![in alloc; Value::Int(1)]?)),
+        mark: Sign::new(Some(Mark::Open { until: 9 })),
+        body: Body::some(ListOf::new(vec![in alloc; Value::Int(1)]?)),
     };
-    let second = Item {
-        time: 7,
-        mark: Some(Mark::Closed),
-        body: None,
-    };
+    let second = mark_at(alloc, 7, Mark::Closed);
     assert_eq!(rt; (item_room(&first), item_room(&second)), (27, 9));
     let mut items = Vec::new(alloc);
     items.push(first)?;

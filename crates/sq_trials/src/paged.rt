@@ -5,18 +5,19 @@ use crate::numbers::mark_at;
 use sq_item::Mark;
 use sq_outside::{MemDisk, PageDisk};
 use sq_paged::{Head, QueueErr, Queues};
+use std::alloc::Global;
 use std::test::Fail;
 
 // Pushes an item of time 5 on arc 1, sends one of time 7 there, and ends it.
-fn fill<D: PageDisk>(queues: &mut Queues, disk: &mut D) -> Result<(), QueueErr>
+fn fill<D: PageDisk>(alloc: Global, queues: &mut Queues, disk: &mut D) -> Result<(), QueueErr>
     requires size { size queues.old ≡ 2 }
     requires open { (face queues.old 1).ended ≡ false }
     requires together { Together queues.old (D.pages disk.old) }
     ensures size { OnOk result (size queues.new ≡ 2) }
     ensures together { OnOk result (Together queues.new (D.pages disk.new)) }
 {
-    queues.push(disk, 1, &mark_at(5, Mark::Closed))?;
-    queues.send(disk, 1, mark_at(7, Mark::Open { until: 9 }))?;
+    queues.push(disk, 1, &mark_at(alloc, 5, Mark::Closed))?;
+    queues.send(disk, 1, mark_at(alloc, 7, Mark::Open { until: 9 }))?;
     queues.end(1);
     Ok(())
 }
@@ -44,7 +45,7 @@ fn an_arc_gives_its_items_in_order_and_then_its_end(rt: HostRuntime) -> Result<(
     let alloc = rt.alloc();
     let mut disk = MemDisk::new(alloc, Vec::new(alloc), Vec::new(alloc));
     let mut queues = Queues::new(alloc, 2, 2)?;
-    fill(&mut queues, &mut disk)?;
+    fill(alloc, &mut queues, &mut disk)?;
     assert_eq!(rt;
         (queues.head(0), queues.head(1), queues.resident()),
         (Head::Empty, Head::Time(5), 1)
