@@ -206,7 +206,11 @@ fn kinds_at(alloc: Global, scope: &Schema, places: &[u32]) -> Result<Vec<Kind>, 
 }
 
 /// The kinds of the functions.
-pub(crate) fn kinds_answered(alloc: Global, scope: &Schema, funcs: &[Func]) -> Result<Vec<Kind>, AllocError>
+pub(crate) fn kinds_answered(
+    alloc: Global,
+    scope: &Schema,
+    funcs: &[Func],
+) -> Result<Vec<Kind>, AllocError>
     ensures { IfOk result (λ v. v.items ≡ kinds_answered scope.now funcs.now) }
 {
     funcs
