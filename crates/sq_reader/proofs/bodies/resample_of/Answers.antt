@@ -1,4 +1,4 @@
-use Rattle.std.proofs.Common.{◌≡◌, ◌∙◌, sym, ◌≤◌, Some, None, arith}
+use Rattle.std.proofs.Common.{◌≡◌, ◌∙◌, sym, Some, None, arith}
 use Rattle.std.proofs.lemmas.Result.{err_from_is_err_and}
 use Rattle.sq_value.specs.Values.{names_of}
 use Rattle.sq_net.specs.Columns.{first_columns}
