@@ -4,7 +4,7 @@ use Rattle.sq_queue.specs.Faces.{Together}
 use Rattle.sq_flow.specs.Flows.{measure_of}
 use Rattle.sq_core.specs.Runs.{IsSoundEngine}
 use Rattle.sq_top.specs.Driving.{GoesOn}
-use Rattle.sq_top.proofs.driving.drive.Given as goal
+use Rattle.sq_top.proofs.driving.step_to_end.Given as goal
 
 abbrev pub invariant-steps : goal.invariant-steps
 invariant-steps g l = record {
