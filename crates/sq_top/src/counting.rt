@@ -131,6 +131,43 @@ fn no_counts(alloc: Global, engine: &Engine) -> Result<Counts, AllocError>
     Ok(Counts { lines, drops })
 }
 
+/// Steps an engine that another owns until it has ended, and counts the lines. Where it fails, its owner alone lets it go.
+fn count_to_end<D: PageDisk, L: Ledger>(
+    alloc: Global,
+    engine: &mut Engine,
+    policy: &mut Policy,
+    disk: &mut D,
+    steps: &mut Steps<L>,
+) -> Result<Counts, Status>
+    requires sound { IsSoundEngine engine.old }
+    requires together { Together engine.old.engine.flow.queues (D.pages disk.old) }
+    ensures sound { OnOk result (IsSoundEngine engine.new) }
+    ensures network { OnOk result (engine.new.network ≡ engine.old.network) }
+    ensures room { IfOk result (λ c. HasRoom engine.new.network c) }
+    ensures ok { IfOk result (λ c. (r : Replay) (begun : ℕ) → Tells (D.pages disk.old) → IsRun r (D.pages disk.old) engine.old [] begun steps.old
+        → IsSummed r engine.new c begun steps.new) }
+    ensures err { IfErr result (λ s. (r : Replay) (begun : ℕ) → Tells (D.pages disk.old) → IsRun r (D.pages disk.old) engine.old [] begun steps.old
+        → IsHalted r s None None begun steps.new) }
+    ensures cut { IfErr result (λ s. (before now : ℕ) → IsCutShort before now s) }
+    ensures stopped { IfErr result (StopHasCause (λ e. e.network ≡ engine.old.network) (D.faults disk.old) (D.faults disk.new)) }
+    ensures later { D.faults disk.old ≤ D.faults disk.new }
+    ensures tells { is_some (D.pages disk.new) ≡ is_some (D.pages disk.old) }
+{
+    let mut counts = match no_counts(alloc, engine) {
+        Ok(counts) => counts,
+        Err(_) => return Err(Status::Memory),
+    };
+    let mut events = Vec::new(alloc);
+    'steps: while !engine.ended() {
+        match count_step(engine, policy, disk, &mut events, &mut counts, steps) {
+            Ok(()) => {}
+            Err(status) => return Err(status),
+        }
+    }
+    engine.all_shown();
+    Ok(counts)
+}
+
 /// Steps an engine by the picks of a policy until it has ended, and counts the line of each event.
 pub fn count<D: PageDisk, L: Ledger>(
     alloc: Global,
@@ -153,24 +190,8 @@ pub fn count<D: PageDisk, L: Ledger>(
     ensures later { D.faults disk.old ≤ D.faults disk.new }
     ensures tells { is_some (D.pages disk.new) ≡ is_some (D.pages disk.old) }
 {
-    let mut counts = match no_counts(alloc, &engine) {
-        Ok(counts) => counts,
-        Err(_) => return Err(Status::Memory),
-    };
-    let mut events = Vec::new(alloc);
-    'steps: while !engine.ended() {
-        match count_step(
-            &mut engine,
-            &mut policy,
-            disk,
-            &mut events,
-            &mut counts,
-            steps,
-        ) {
-            Ok(()) => {}
-            Err(status) => return Err(status),
-        }
+    match count_to_end(alloc, &mut engine, &mut policy, disk, steps) {
+        Ok(counts) => Ok((engine, counts)),
+        Err(status) => Err(status),
     }
-    engine.all_shown();
-    Ok((engine, counts))
 }

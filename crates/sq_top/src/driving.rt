@@ -121,6 +121,46 @@ fn step_once<D: PageDisk, S: Sink, L: Ledger>(
     }
 }
 
+/// Steps an engine that another owns until it has ended, and writes the lines. Where it fails, its owner alone lets it go.
+fn step_to_end<D: PageDisk, S: Sink, L: Ledger>(
+    alloc: Global,
+    engine: &mut Engine,
+    policy: &mut Policy,
+    disk: &mut D,
+    out: &mut S,
+    steps: &mut Steps<L>,
+) -> Result<(), Status>
+    requires sound { IsSoundEngine engine.old }
+    requires together { Together engine.old.engine.flow.queues (D.pages disk.old) }
+    ensures sound { OnOk result (IsSoundEngine engine.new) }
+    ensures done { OnOk result (AllDone engine.new.engine.flow) }
+    ensures network { OnOk result (engine.new.network ≡ engine.old.network) }
+    ensures ok { OnOk result ((r : Replay) (begun : ℕ) → Tells (D.pages disk.old) → IsRun r (D.pages disk.old) engine.old [] begun steps.old
+        → IsDriven r engine.new (S.written out.old) (S.written out.new) begun steps.new) }
+    ensures err { IfErr result (λ s. (r : Replay) (begun : ℕ) → Tells (D.pages disk.old) → IsRun r (D.pages disk.old) engine.old [] begun steps.old
+        → IsHalted r s (S.written out.old) (S.written out.new) begun steps.new) }
+    ensures cut { IfErr result (IsCutShort (S.faults out.old) (S.faults out.new)) }
+    ensures stopped { IfErr result (StopHasCause (λ e. e.network ≡ engine.old.network) (D.faults disk.old) (D.faults disk.new)) }
+    ensures later { (D.faults disk.old ≤ D.faults disk.new) × (S.faults out.old ≤ S.faults out.new) }
+    ensures tells { is_some (D.pages disk.new) ≡ is_some (D.pages disk.old) }
+{
+    let mut held = Held {
+        events: Vec::new(alloc),
+        text: Vec::new(alloc),
+    };
+    'steps: while !engine.ended() {
+        match step_once(engine, policy, disk, &mut held, out, steps) {
+            Ok(()) => {}
+            Err(status) => return Err(status),
+        }
+    }
+    engine.all_shown();
+    match send(&mut held.text, out) {
+        Ok(()) => Ok(()),
+        Err(status) => Err(status),
+    }
+}
+
 /// Steps an engine by the picks of a policy until it has ended, and writes the line of each event.
 ///
 /// # Errors
@@ -149,18 +189,7 @@ pub fn drive<D: PageDisk, S: Sink, L: Ledger>(
     ensures later { (D.faults disk.old ≤ D.faults disk.new) × (S.faults out.old ≤ S.faults out.new) }
     ensures tells { is_some (D.pages disk.new) ≡ is_some (D.pages disk.old) }
 {
-    let mut held = Held {
-        events: Vec::new(alloc),
-        text: Vec::new(alloc),
-    };
-    'steps: while !engine.ended() {
-        match step_once(&mut engine, &mut policy, disk, &mut held, out, steps) {
-            Ok(()) => {}
-            Err(status) => return Err(status),
-        }
-    }
-    engine.all_shown();
-    match send(&mut held.text, out) {
+    match step_to_end(alloc, &mut engine, &mut policy, disk, out, steps) {
         Ok(()) => Ok(engine),
         Err(status) => Err(status),
     }

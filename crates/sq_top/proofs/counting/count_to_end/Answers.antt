@@ -2,7 +2,7 @@ use Rattle.std.proofs.Common.{refl, arith, inl, ◌∙◌}
 use Rattle.sq_top.proofs.CountingLemmas.{count_ends, count_stops, count_waits, counts_none, counts_then, same_room}
 use Rattle.sq_top.proofs.StopLemmas.{lost_cut, stop_map}
 use Rattle.sq_top.proofs.StoppedLemmas.{rose_later}
-use Rattle.sq_top.proofs.counting.count.Goals as goal
+use Rattle.sq_top.proofs.counting.count_to_end.Goals as goal
 
 pub returns-in-Err-clause-err : goal.returns-in-Err-clause-err
 returns-in-Err-clause-err g c r begun told run = count_waits _ _ _ r begun told run

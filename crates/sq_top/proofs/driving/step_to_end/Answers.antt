@@ -2,7 +2,7 @@ use Rattle.std.proofs.Common.{refl, arith, ◌∙◌}
 use Rattle.sq_top.proofs.DrivingLemmas.{drive_ends, drive_lost, drive_stops, goes_none, goes_then}
 use Rattle.sq_top.proofs.StopLemmas.{cut_later, lost_cut, lost_stop, stop_map}
 use Rattle.sq_top.proofs.StoppedLemmas.{rose_later}
-use Rattle.sq_top.proofs.driving.drive.Goals as goal
+use Rattle.sq_top.proofs.driving.step_to_end.Goals as goal
 
 pub steps-init : goal.steps-init
 steps-init g c = record {
@@ -40,11 +40,11 @@ returns-in-Err-clause-stopped g c =
     let before = c.steps.invariant in
     stop_map _ _ _ _ _ _ c.in-Err.status (rose_later 1 _ _ _ before.disk_later) (λ e same. same ∙ before.network) c.in-Err.ensures.stopped
 
-pub returns-in-Err-send-clause-cut : goal.returns-in-Err-send-clause-cut
-returns-in-Err-send-clause-cut g c = lost_cut _ _ _ _ c.steps.invariant.later c.in-Err-send.ensures.lost
+pub returns-clause-cut : goal.returns-clause-cut
+returns-clause-cut g c = lost_cut _ _ _ _ c.steps.invariant.later c.in-Err-send.ensures.lost
 
-pub returns-in-Err-send-clause-stopped : goal.returns-in-Err-send-clause-stopped
-returns-in-Err-send-clause-stopped g c = lost_stop _ _ _ _ _ _ c.in-Err-send.ensures.lost
+pub returns-clause-stopped : goal.returns-clause-stopped
+returns-clause-stopped g c = lost_stop _ _ _ _ _ _ c.in-Err-send.ensures.lost
 
 pub returns-in-Ok-send-clause-ok : goal.returns-in-Ok-send-clause-ok
 returns-in-Ok-send-clause-ok g c r begun told run =
@@ -52,8 +52,8 @@ returns-in-Ok-send-clause-ok g c r begun told run =
     drive_ends _ _ _ _ _ _ _ _ _ before.goes before.tells r begun told run _ _ c.in-Ok-send.ensures.ok c.in-Ok-send.ensures.none_waits
     (λ history now. c.all_shown.ensures r (g.D.PageDisk.pages c.steps.disk) history begun c.steps.steps (before.tells ∙ told) now)
 
-pub returns-in-Err-send-clause-err : goal.returns-in-Err-send-clause-err
-returns-in-Err-send-clause-err g c r begun told run =
+pub returns-clause-err : goal.returns-clause-err
+returns-clause-err g c r begun told run =
     let before = c.steps.invariant in
     drive_lost _ _ _ _ _ _ _ _ _ before.goes before.tells r begun told run _ _ _ _ c.in-Err-send.ensures.err c.in-Err-send.ensures.lost
 
