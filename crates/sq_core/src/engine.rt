@@ -32,10 +32,19 @@ use std::sync::ledger::Ledger;
 
 /// The engine of a network: the network, and its boxes, window drops and outputs at work. Actor 0 is the replay of the sources,
 /// then come the boxes in file order, the drops by number, and then the outputs.
-#[derive(Drop)]
 pub struct Engine {
     pub network: Network,
     pub engine: sq_flow::Engine<Actor>,
+}
+
+/// By hand, so that a proof above meets one call where an engine is let go, and not each thing in it.
+impl Drop for Engine {
+    fn drop(self) {
+        let Engine {
+            network: _network,
+            engine: _engine,
+        } = self;
+    }
 }
 
 impl Engine {
