@@ -26,7 +26,7 @@ make -s uninstall PREFIX="$room/my place" || fail "make uninstall failed"
 
 command -v dpkg-deb >/dev/null || { missing dpkg-deb; exit 0; }
 tools/package "$program" 0.1 amd64 "$room/aurora.deb" >/dev/null || fail "no package was made"
-dpkg-deb -x "$room/aurora.deb" "$room/root" || fail "the package can't be opened"
+dpkg-deb -x "$room/aurora.deb" "$room/packaged" || fail "the package can't be opened"
 [ "$(dpkg-deb -f "$room/aurora.deb" Version)" = 0.1 ] || fail "the package has another version"
-(cd examples/first && "$room/root/usr/bin/aurora" run alarm.toml) | diff - examples/first/expected.txt || fail "the packaged program doesn't run"
-[ -x "$room/root/usr/bin/aurora-plan" ] && [ -f "$room/root/usr/share/man/man1/aurora.1.gz" ] || fail "the package isn't whole"
+(cd examples/first && "$room/packaged/usr/bin/aurora" run alarm.toml) | diff - examples/first/expected.txt || fail "the packaged program doesn't run"
+[ -x "$room/packaged/usr/bin/aurora-plan" ] && [ -f "$room/packaged/usr/share/man/man1/aurora.1.gz" ] || fail "the package isn't whole"
