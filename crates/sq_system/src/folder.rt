@@ -1,5 +1,5 @@
 // The folder of the system.
-use sq_outside::{Folder, FolderErr};
+use sq_outside::{Folder, FolderErr, Pieces};
 use std::alloc::Global;
 use std::fs::{File, Files};
 use std::io;
@@ -9,15 +9,21 @@ use std::io::{ErrorKind, Read};
 #[derive(Drop)]
 pub struct OpenFolder<'a, R> {
     rt: &'a R,
+    pub read: Pieces,
     taken: u64,
     faults: u64,
 }
 
 impl<'a, R: Files> OpenFolder<'a, R> {
-    /// A folder without faults, of which nothing was taken.
-    pub fn new(rt: &'a R) -> OpenFolder<'a, R> {
+    ghost use Rattle.std.specs.Prelude.{◌≡◌, []};
+
+    /// A folder without faults, of which nothing was read.
+    pub fn new(rt: &'a R) -> OpenFolder<'a, R>
+        ensures { result.read.all ≡ [] }
+    {
         OpenFolder {
             rt,
+            read: Pieces::new(),
             taken: 0,
             faults: 0,
         }
@@ -36,6 +42,8 @@ impl<'a, R: Files> Folder for OpenFolder<'a, R> {
 
     ghost files = { λ _. None };
 
+    ghost read = { λ s. s.read.all };
+
     ghost taken = { λ s. s.taken };
 
     ghost faults = { λ s. s.faults };
@@ -47,7 +55,10 @@ impl<'a, R: Files> Folder for OpenFolder<'a, R> {
         let length = bytes.len() as u64;
         self.taken = self.taken.saturating_add(length);
         match end {
-            Ok(()) if length <= limit => Ok(bytes),
+            Ok(()) if length <= limit => {
+                self.read.note(bytes.as_slice());
+                Ok(bytes)
+            }
             Ok(()) => Err(FolderErr::TooLong),
             Err(e) if e.kind() == ErrorKind::OutOfMemory => Err(FolderErr::Memory),
             Err(_) => {
