@@ -1,5 +1,5 @@
 -- The lines of a run: one for each event, and those at its end.
-use Rattle.std.specs.Prelude.{⊤, ◌≡◌, ℕ, ◌<◌, Bool, true, false, if◌then◌else◌, List, [], ◌∷◌, ◌++◌, map, length, Option, Some, None, slice_get, codes}
+use Rattle.std.specs.Prelude.{drop, ⊤, ◌≡◌, ℕ, ◌<◌, Bool, true, false, if◌then◌else◌, List, [], ◌∷◌, ◌++◌, map, length, Option, Some, None, slice_get, codes}
 use Rattle.std.specs.List.{flat_map, zip}
 use Rattle.sq_value.specs.Lists.{IsPrefixOf}
 use Rattle.sq_value.specs.LineTexts.{output_line, drop_line, plan_line, box_line, late_line, end_line}
@@ -57,6 +57,14 @@ late_text b = text_of (late_lines b)
 -- the lines of all boxes, then those of the BSorts, then the last one, where each box was fed so many tuples, of which so many were late
 abbrev pub end_lines : Network → List ℕ → List ℕ → List (List ℕ)
 end_lines n fed late = map fed_line (zip n.boxes fed) ++ (flat_map late_lines (zip n.boxes late) ++ end_line ∷ [])
+
+-- a network of the boxes from one on
+abbrev pub boxes_from : ℕ → Network → Network
+boxes_from first n = record n { boxes = drop first n.boxes }
+
+-- the end lines of the boxes from one on
+abbrev pub end_lines_from : Network → ℕ → List ℕ → List ℕ → List (List ℕ)
+end_lines_from n first fed late = end_lines (boxes_from first n) (drop first fed) (drop first late)
 
 -- a part of a text was appended, from its start
 abbrev pub AppendsPart : List ℕ → List ℕ → List ℕ → Type 0
