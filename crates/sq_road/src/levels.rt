@@ -1,6 +1,6 @@
 //! The levels of the epochs that are closed.
 
-ghost use Rattle.std.specs.Prelude.{◌≡◌, ◌==◌, ℕ, ◌+◌, ◌-◌, ◌^◌, ◌<◌, ◌≤◌, ◌++◌, ◌∷◌, [], OnOk, OnErr, slice_index};
+ghost use Rattle.std.specs.Prelude.{◌≡◌, ◌==◌, ℕ, ◌+◌, ◌-◌, ◌^◌, ◌<◌, ◌≤◌, ◌++◌, ◌∷◌, [], length, OnOk, OnErr, slice_index};
 ghost use Rattle.std.specs.List.{list_all};
 ghost use Rattle.sq_road.specs.Levels.{LevelTable, level_of};
 
@@ -57,6 +57,13 @@ impl Levels {
         ensures begun { 1 ≤ result }
     {
         self.closed
+    }
+
+    /// How many epochs have levels that are kept: those that were set, and none that was skipped.
+    pub fn kept(&self) -> u64
+        ensures { result ≡ length self.now.rows }
+    {
+        self.rows.len() as u64
     }
 
     /// Closes epoch `e`, the next, with the levels of its drops. An `Err` changes nothing.
