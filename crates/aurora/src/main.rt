@@ -2,9 +2,9 @@
 //! makes, over the standard streams.
 //!
 //! It promises nothing beyond `run_words` of `sq_top`, which it calls once over the real objects of `sq_system`. What
-//! it promises speaks of the very bytes that were read and of all that the output took. The disk tells no content: of a
-//! run that spilled to it the contract says how it ended, and stored runs show what was written. Its exit code is that
-//! of the status.
+//! that says of refusals and messages is about the very bytes that were read and all that the outputs took. Its clauses
+//! on answers ask for a disk that tells its pages, as the one in memory does and a file can't: that the program's
+//! answers are right is shown by stored runs. Its exit code is that of the status.
 #![tactic(auto)]
 
 ghost use Rattle.std.specs.Prelude.{◌≡◌, ◌<◌};
