@@ -234,7 +234,7 @@ def events(series, gone, axis):
 
 
 def loads(plans):
-    """Draws for each epoch a bar of its load: what the plan leaves of it and what it saves, with a line at the capacity."""
+    """Draws for each epoch a bar of its load: what the plan leaves of it on average and what it saves, with a line at the capacity."""
     most = max(max(plan.load, plan.capacity) for plan in plans) or 1
     first, count, tall = plans[0].epoch, plans[-1].epoch - plans[0].epoch + 1, 150
     room, floor = (WIDTH - LEFT - RIGHT) / count, TOP + tall
@@ -242,11 +242,11 @@ def loads(plans):
     parts = [level(LEFT, floor - value / most * tall, WIDTH - LEFT - RIGHT, words) for value, words in worth_marks(0, most, 5)]
     for plan in plans:
         x, left = LEFT + (plan.epoch - first + 0.5) * room, max(plan.load - plan.saved, 0)
-        title = f"epoch {plan.epoch}: load {plan.load:,}, saved {plan.saved:,}, capacity {plan.capacity:,}, {plan.verdict}"
+        title = f"epoch {plan.epoch}: load {plan.load:,}, planned saving {plan.saved:,}, capacity {plan.capacity:,}, {plan.verdict}"
         for kind, value in (("saved", plan.load), ("kept", left)):
             high = value / most * tall
             parts.append(bar(kind, x - wide / 2, floor - high, wide, high, title))
         parts.append(f'<path class="capacity" d="M{x - wide / 2 - 3:.1f} {floor - plan.capacity / most * tall:.1f}h{wide + 6:.1f}"/>')
         parts += [text(x, floor + 14, f"{plan.epoch:,}", "mid")] if (plan.epoch - first) % every == 0 else []
     drawn = picture(floor + 22, "".join(parts) + text(LEFT, TOP - 7, "load by epoch", "name"), "load and capacity by epoch")
-    return drawn + legend([("load that is left", "#4a7ebb"), ("saved by the plan", "#c9d9ee"), ("capacity", "#c03030")])
+    return drawn + legend([("load that the plan leaves, on average", "#4a7ebb"), ("planned saving", "#c9d9ee"), ("capacity", "#c03030")])

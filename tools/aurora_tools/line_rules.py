@@ -107,7 +107,7 @@ def tick(_, fields, __, before):
 def falls(_, fields, __, before):
     last = next(((at, line) for at, line in reversed(list(enumerate(before, 1))) if line), (0, b""))
     words = f"the tick {shown(fields[0][0])} is below that of line {last[0]}, {shown(fields_of(last[1])[0][0])}"
-    return words, "Put the file in order by: sort -t, -k1,1n -s. Where a second time is a field, a BSort puts tuples in its order.", 0
+    return words, "If both are right, put the file in order by: sort -t, -k1,1n -s. If one is a slip, mend it.", 0
 
 
 def field_of_kind(kind, wrong, words, remedies):

@@ -235,7 +235,7 @@ def mistyped(box, item, fields, have):
         guess = f" (is {listed([f'`{side}`' for side in sides], 'or')} meant?)" if sides else near(misfit.field, fields) if misfit.field else ""
         yield misfit.words + guess, have, way, misfit.at
     if not misfits and box["kind"] == "map":
-        yield "the bare `null` has no kind", "Leave the field out, or compute a Null of a kind: `0 / 0` is a number.", way, 0
+        yield "the bare `null` has no kind", "Leave the field out, or compute a Null of a kind: `null + 0` is a number.", way, 0
     elif not misfits:
         hint = "Compare it, as by `<> 0`." if kind == "int" else "Compare it, as by `= 'so'`."
         yield f"the predicate `{text}` is of the kind {kind}, and must be a boolean", f"{hint} {have}", way, 0

@@ -75,7 +75,7 @@ def plans_part(network, run, axis):
             went = f"{len(levels)} of {len(batches)}" if batches else "none begins"
             row.append(went + (f" (level {levels[0]})" if levels else ""))
         rows.append(row)
-    heads = ["epoch", "from tick", "load", "capacity", "saved", "verdict"]
+    heads = ["epoch", "from tick", "load", "capacity", "planned saving", "verdict"]
     heads += [f"drop {number}, at {drop.stream}" for number, drop in enumerate(network.drops)]
     more = charts.note(f"{len(run.plans) - MOST_PLANS:,} plans more aren't listed.") if len(run.plans) > MOST_PLANS else ""
     return ("<h2>Plans</h2>" + charts.loads(run.plans) + table(heads, rows) + more +

@@ -52,10 +52,13 @@ def version(network, *_):
 def shape(network, part, number, _):
     """What of a table is missing, isn't known or is of another kind."""
     it = network.part(part, number)
-    if part == "box" and "kind" in it and not isinstance(it["kind"], str):
+    if part == "box" and "kind" not in it:
+        yield no_kind(it)
+        return
+    if part == "box" and not isinstance(it["kind"], str):
         yield f"`kind` is {said(it['kind'])}, and must be {TEXT}", f"The kinds are {listed(KINDS)}.", ("kind",)
         return
-    if part == "box" and "kind" in it and it["kind"] not in KINDS:
+    if part == "box" and it["kind"] not in KINDS:
         yield f"there is no box of the kind {said(it['kind'])}{near(str(it['kind']), KINDS)}", f"The kinds are {listed(KINDS)}.", ("kind",)
         return
     kind = it.get("kind")
@@ -70,6 +73,19 @@ def shape(network, part, number, _):
         elif key in need + may and isinstance(value, list) and WANTED[key] is LIST:
             yield from entries(key, value)
     yield from selectivity(it)
+
+
+def no_kind(box):
+    """Returns what is said of a box without a kind: which kind its other keys look like, as far as one is nearest."""
+    known = REQUIRED["box"] + OPTIONAL["box"]
+    wrong = next((key for key in box if key not in known and near("kind", [key])), None)
+    if wrong:
+        return f"the key `{wrong}` isn't known in a table [[box]] (is `kind` meant?)", f"The kinds are {listed(KINDS)}.", (wrong,)
+    own = {key for key in box if key not in known}
+    far = {kind: len(own - set(sum(keys_of(kind), ()))) + len(set(KINDS[kind]) - own) for kind in KINDS}
+    nearest = [kind for kind in KINDS if far[kind] == min(far.values())]
+    guess = f": its other keys are those of {article(nearest[0])}" if len(nearest) == 1 else ""
+    return f"the key `kind` is missing{guess}", f"The kinds are {listed(KINDS)}.", ()
 
 
 def keys(it, need, may, place):

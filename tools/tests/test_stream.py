@@ -40,6 +40,15 @@ class Streams(unittest.TestCase):
         self.assertEqual(table[1:5], ["[[source]]", 'name = "made"', 'file = "made.csv"',
                                       'fields = ["price_usd:int", "ok:bool", "code:text", "note:text"]'])
 
+    def test_a_word_that_makes_a_text_of_a_column_of_numbers_is_told(self):
+        ran = self.run_on("t,v,code,who\n1,1.5,007,ann\n2,NA,012,bob\n3,2.5,100,5\n4,NA,101,6\n5,-,102,7\n6,3,1,8\n7,4,1,cy\n", "--time", "t")
+        self.assertIn('fields = ["v:text", "code:text", "who:text"]', ran.stdout)
+        self.assertIn('stream: v is text because of "NA" in line 3 and "-" in line 6: --missing NA --missing - makes Null of that\n', ran.stderr)
+        self.assertNotIn("code", ran.stderr)
+        text = "t,v\n1,1.5\n2,NA\n3,2\n"
+        self.assertIn('["v:int"]', self.run_on(text, "--time", "t", "--missing", "NA").stdout)
+        self.assertEqual(self.run_on(text, "--time", "t", "--field", "v:text").stderr, "")
+
     def test_a_stream_to_standard_output_has_its_table_beside_it(self):
         with open(f"{self.room}/t.csv", "w", encoding="utf-8") as table:
             table.write("t,v\n1,2\n")

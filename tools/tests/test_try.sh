@@ -10,4 +10,5 @@ failed=0
 [[ $said == "try "*" -- run front.toml --capacities capacity.csv --seed=7" ]] || { echo "the words are: $said"; failed=1; }
 [[ $said == *" --data capacity.csv=$PWD/examples/overload/capacity.csv "* ]] || { echo "the capacities aren't copied: $said"; failed=1; }
 grep -q '^try: the program is built, without a proof' "$room/told" || { echo "it doesn't say what it does"; failed=1; }
+[[ $(PATH=$room:$PATH tools/try --help) == "Builds the program "*" tools/try examples/desk/desk.toml"* ]] || { echo "it doesn't say what its words are"; failed=1; }
 exit $failed
