@@ -48,6 +48,29 @@ class Outputs(unittest.TestCase):
         self.assertEqual(again.returncode, 1)
         self.assertIn("already exists", again.stderr)
 
+    def lost(self, form, *words):
+        return self.made(form, "-", f"{TOP}/examples/desk/desk.toml", f"{TOP}/examples/desk/expected.txt", "--output", "lost", *words)
+
+    def test_ticks_become_times_and_small_units_decimals(self):
+        said = self.lost("csv", "--field", "price:int.2", "--field", "time:time", "--origin", "2026-03-02T00:00:00Z").stdout
+        self.assertEqual(said.splitlines()[:2], ["time,symbol,price,loss", "2026-03-02T09:30:01Z,ABC,10.49,1"])
+        said = self.lost("jsonl", "--field", "loss:int.3", "--field", "time:time", "--tick", "ms").stdout
+        self.assertEqual(said.splitlines()[0], '{"time": "1970-01-01T00:00:34.201Z", "symbol": "ABC", "price": 1049, "loss": 0.001}')
+        said = self.lost("csv", "--field", "price:time", "--tick", "d").stdout
+        self.assertEqual(said.splitlines()[1], "34201,ABC,1972-11-15T00:00:00Z,1")
+        self.made("sqlite", f"{self.room}/db", f"{BOXES}/values.toml", f"{BOXES}/values.txt", "--field", "sum:int.1")
+        with sqlite3.connect(f"{self.room}/db") as database:
+            self.assertEqual(database.execute('SELECT sum FROM "values" WHERE time < 5').fetchall(), [(0.9,), (-0.5,), (0.7,), (None,)])
+        said = self.made("csv", "-", f"{BOXES}/values.toml", f"{BOXES}/values.txt", "--field", "quotient:int.19").stdout
+        self.assertEqual(said.splitlines()[4], "4,,0.9223372036854775807,0,false,,,false")
+
+    def test_a_kind_that_no_column_can_have_is_told(self):
+        self.assertIn("pric:int.2: it is FIELD:int.N", self.lost("csv", "--field", "pric:int.2").stderr)
+        self.assertIn("price:int: it is FIELD:int.N", self.lost("csv", "--field", "price:int").stderr)
+        self.assertIn("symbol is no number", self.lost("csv", "--field", "symbol:time").stderr)
+        self.assertIn("is no time as 2026", self.lost("csv", "--field", "time:time", "--origin", "soon").stderr)
+        self.assertIn("no time of the years", self.lost("csv", "--field", "time:time", "--tick", "d", "--origin", "9990-01-01").stderr)
+
     def refused(self, why, network, text):
         with open(f"{self.room}/text", "w", encoding="utf-8") as file:
             file.write(text)
