@@ -91,6 +91,8 @@ class Plans(unittest.TestCase):
         self.assertIn("1 at checks 1-16 800 up 0 800,000 0 159,200,000".split(), rows)
         self.assertIn("0 at requests 1-9 450 asked slowing 70,000 7,800,000 8,974.4 89,000,000".split(), rows)
         self.assertIn("1 at checks 17 850 up 250,000 800,000 312,500 not taken".split(), rows)
+        self.assertEqual(ran.stdout.splitlines()[-4:-1], [f"{it} is without the windows that start from {spans}" for it, spans in (
+            ("asked", "80 to 129"), ("slowing", "80 to 129"), ("up", "90 to 149"))])
 
     def test_other_files_than_those_of_the_run_are_told(self):
         self.overload()
