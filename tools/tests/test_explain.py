@@ -1,7 +1,9 @@
 """Mistakes in the files of a run: the program refuses each, and the tool names the line of the mistake and says what is wrong there."""
 import os
 import re
+import shutil
 import subprocess
+import sys
 import tempfile
 import unittest
 
@@ -278,6 +280,18 @@ class Mistakes(unittest.TestCase):
             run = subprocess.run(command, stdout=full, stderr=subprocess.PIPE, encoding="utf-8")
         self.assertEqual(run.returncode, 10)
         self.assertIn("Standard output took no more", run.stderr)
+
+    def test_the_program_that_was_built_last_is_run_where_none_is_installed(self):
+        shutil.copytree(os.path.dirname(HERE), "tools")
+        for place, says in (("crates/aurora/out", "proved"), ("out", "quick")):
+            os.makedirs(place)
+            self.write(f"{place}/aurora", f"#!/bin/sh\necho {says}\n")
+            os.chmod(f"{place}/aurora", 0o755)
+        for older, newer, says in (("out", "crates/aurora/out", "proved"), ("crates/aurora/out", "out", "quick")):
+            os.utime(f"{older}/aurora", (1, 1))
+            os.utime(f"{newer}/aurora", (2, 2))
+            run = subprocess.run([sys.executable, "tools/explain", "plant.toml"], capture_output=True, encoding="utf-8", env={"PATH": "/nowhere"})
+            self.assertEqual(run.stdout, f"{says}\n")
 
     def test_messages_of_an_earlier_run(self):
         self.write("messages", "aurora: network: Limit box 4 0\naurora: page 3 changed: aa bb\naurora: out of memory\nsomething else\n")
