@@ -168,6 +168,8 @@ class Page(Files):
         went = re.findall(r"<td>(\d of \d(?: \(level \d+\))?|none begins)</td>", page)
         self.assertEqual(went, ["2 of 2 (level 450)", "1 of 1 (level 800)", "2 of 2 (level 450)", "none begins", "1 of 2 (level 450)", "1 of 1 (level 800)"])
         self.assertIn("<td>tens</td><td>aggregate</td><td>153</td>", page)
+        for words in ("load that the plan leaves, on average", "</i>planned saving", "<th>planned saving</th>"):
+            self.assertIn(words, page)
         self.assertEqual(page.count("left out: 80 to 129"), 4, "a band in each panel below drop 0")
         self.assertNotRegex(page, r"<script|href|src=|http://(?!www\.w3\.org)|@import")
 
