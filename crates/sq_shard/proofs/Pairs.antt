@@ -1,5 +1,5 @@
 -- A Join whose predicate makes the keys equal, or one side of which is whole: its pairs of the class are those of what is of the class.
-use Rattle.std.proofs.Common.{◌≡◌, ℕ, ◌+◌, eqb, Bool, true, false, not, cond, ◌&&◌, ◌||◌, List, [], ◌∷◌, ◌++◌, map, length, refl, ap, sym, ◌∙◌, inl, inr, ◌⊎◌, arith, append-nil, Ordering, Less, Equal, Greater}
+use Rattle.std.proofs.Common.{◌≡◌, ℕ, ◌+◌, eqb, Bool, true, false, not, cond, ◌&&◌, ◌||◌, List, [], ◌∷◌, ◌++◌, map, length, refl, ap, sym, ◌∙◌, inl, inr, ◌⊎◌, arith, append-nil}
 use Rattle.std.proofs.lemmas.Bool.Decides.{nat_tests}
 use Rattle.std.proofs.lemmas.List.MinMax.{IsStrictWeakOrder-by_number}
 use Rattle.std.proofs.lemmas.List.Elements.{filter-append}
@@ -22,7 +22,8 @@ use Rattle.sq_lists.specs.Merge.{Entry, earlier, merge}
 use Rattle.sq_lists.specs.Pairs.{meets, paired, pairs_of, pairs_from, join_list_of}
 use Rattle.sq_model.proofs.Alls.{All-append, All-mapped, All-sorted, All-every, All-weaker}
 use Rattle.sq_shard.specs.Keys.{is_pair_of, joins_on}
-use Rattle.sq_shard.proofs.Lists.{filter-map, filter-none}
+use Rattle.sq_place.proofs.Deciding.{filter-mapped}
+use Rattle.sq_shard.proofs.Lists.{equal-of, filter-none}
 
 -- ---- merges
 
@@ -35,7 +36,7 @@ filter-ports : {X : Type 0} (q : ℕ → X → Bool) (port : ℕ) (xss : List (L
 filter-ports q port [] = refl
 filter-ports {X} q port (xs ∷ rest) =
     filter-append (λ (e : ℕ × X). q e.0 e.1) (map (λ x. (port, x)) xs) (ports_from (port + 1) rest)
-    ∙ ap (λ l. l ++ filter (λ (e : ℕ × X). q e.0 e.1) (ports_from (port + 1) rest)) (filter-map (λ (e : ℕ × X). q e.0 e.1) (λ x. (port, x)) xs)
+    ∙ ap (λ l. l ++ filter (λ (e : ℕ × X). q e.0 e.1) (ports_from (port + 1) rest)) (filter-mapped (λ (e : ℕ × X). q e.0 e.1) (λ x. (port, x)) xs)
     ∙ ap (λ l. map (λ x. (port, x)) (filter (q port) xs) ++ l) (filter-ports q (port + 1) rest)
 
 pub filter-merge : (q : ℕ → Tuple → Bool) (ins : List (List Tuple)) → filter (λ (e : Entry). q e.0 e.1) (merge ins) ≡ merge (kept_from q 0 ins)
@@ -65,10 +66,10 @@ module _ (E : Entry → Type 0) (keep : Entry → Bool) (out : Tuple → Bool) (
   one-of before now e all =
       let o : Entry → Bool = λ b. out (paired now b) in
       let h : Entry → Bool = λ b. holds_of on (paired now b) in
-      ap (filter out) (filter-map (holds_of on) (paired now) (filter (meets size now) before))
-      ∙ filter-map out (paired now) (filter h (filter (meets size now) before))
+      ap (filter out) (filter-mapped (holds_of on) (paired now) (filter (meets size now) before))
+      ∙ filter-mapped out (paired now) (filter h (filter (meets size now) before))
       ∙ ap (map (paired now)) (three o h (meets size now) (λ b. keep now && keep b) before (All-weaker E (λ b. meets size now b ≡ true → h b ≡ true → o b ≡ (keep now && keep b)) (λ b k m t. agree now b e k m t) before all))
-      ∙ sym (filter-map (holds_of on) (paired now) (filter (meets size now) (filter (λ b. keep now && keep b) before)))
+      ∙ sym (filter-mapped (holds_of on) (paired now) (filter (meets size now) (filter (λ b. keep now && keep b) before)))
 
   none-kept : (before : List Entry) → filter (λ (b : Entry). false) before ≡ []
   none-kept before = filter-none (λ (b : Entry). false) before (All-every (λ (b : Entry). false ≡ false) (λ b. refl) before)
@@ -155,11 +156,6 @@ and-parts (value.Bool true) (value.Bool true) h = (refl, refl)
 and-parts (value.Bool true) (value.Bool false) h = absurd (cc h)
 and-parts (value.Bool false) (value.Bool b) h = absurd (cc h)
 and-parts v w h = absurd (cc h)
-
-equal-of : (o : Ordering) → is_eq o ≡ true → o ≡ Equal
-equal-of Less h = absurd (cc h)
-equal-of Equal h = refl
-equal-of Greater h = absurd (cc h)
 
 compared-equal : (v w : Value) → is_true (compare_value compare.Equal v w) ≡ true → v ≡ w
 compared-equal v w h = value-same v w (equal-of (value_cmp v w) (test (is_null v || is_null w) (is_eq (value_cmp v w)) h))

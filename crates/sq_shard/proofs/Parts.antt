@@ -30,7 +30,8 @@ use Rattle.sq_shard.specs.declared.Cut.{Cut}
 use Rattle.sq_shard.specs.declared.Cut.TheVariants.{Whole, By}
 use Rattle.sq_shard.specs.Cuts.{Class, of_class, IsPart}
 use Rattle.sq_shard.specs.Keys.{places, is_among, joins_on, through, own, cut_at, both_cut, union_cut, left_keys, right_keys, join_cut, resample_cut, box_cut}
-use Rattle.sq_shard.proofs.Lists.{filter-swap, filter-same, filter-map}
+use Rattle.sq_place.proofs.Deciding.{filter-mapped}
+use Rattle.sq_shard.proofs.Lists.{filter-swap, filter-same}
 use Rattle.sq_shard.specs.Laws.{SameBody}
 use Rattle.sq_shard.proofs.Windows.{aggregate-taken}
 use Rattle.sq_shard.proofs.Sorted.{all-sorted, bsort-taken}
@@ -134,7 +135,7 @@ module _ (in_class : Class) where
       subst (By' (map_list_of es xs) (map_list_of es ys)) (let z : k ≡ 0 + k = omega arith in z) (
       ap (map_list_of es) (contained (By' xs ys) columns named.0 all named.2)
       ∙ ap (map_list_of es) (filter-same (of named.0) (λ x. of k (mapped es x)) xs (each es k named.0 at xs))
-      ∙ sym (filter-map (of k) (mapped es) xs))))
+      ∙ sym (filter-mapped (of k) (mapped es) xs))))
     where
       each : (es : List Expr) (k i : ℕ) → slice_get es k ≡ Some (Field i) → (xs : List Tuple) → AllByRecursion (λ x. of i x ≡ of k (mapped es x)) xs
       each es k i at [] = tt
@@ -233,7 +234,7 @@ module _ (in_class : Class) where
 
     sample-key : (l : ℕ) → l < width → filter (of l) (resample_list_of funcs size xl xr) ≡ resample_list_of funcs size (filter (of l) xl) xr
     sample-key l low =
-        filter-map (of l) (resampled (answers_of funcs) size xr) xl
+        filter-mapped (of l) (resampled (answers_of funcs) size xr) xl
         ∙ ap (map (resampled (answers_of funcs) size xr)) (filter-same (λ x. of l (resampled (answers_of funcs) size xr x)) (of l) xl (all-left l low xl wide))
 
     resample-part : (a b : Cut) → IsPart in_class a xl yl → IsPart in_class b xr yr → IsPart in_class (resample_cut width a b) (resample_list_of funcs size xl xr) (resample_list_of funcs size yl yr)
@@ -285,7 +286,7 @@ module _ (in_class : Class) where
 
     filter-union : (c : ℕ) (inputs : List ℕ) → filter (of c) (union (map full inputs)) ≡ union (map (λ s. filter (of c) (full s)) inputs)
     filter-union c inputs =
-        filter-map (of c) (λ (e : Entry). e.1) (merge (map full inputs))
+        filter-mapped (of c) (λ (e : Entry). e.1) (merge (map full inputs))
         ∙ ap (map (λ (e : Entry). e.1)) (filter-merge (λ port x. of c x) (map full inputs) ∙ ap merge (kept-of c 0 inputs))
 
     union-part : (a : Cut) (inputs : List ℕ) → Each a inputs → IsPart in_class a (union (map full inputs)) (union (map part inputs))
