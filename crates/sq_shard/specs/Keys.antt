@@ -1,8 +1,8 @@
 -- Where keys stand in what boxes give.
---     places passes i xs       the numbers of the items that pass, where the first has number i
---     box_cut on_time body widths cuts      what a part has of what a box gives, where it has these cuts of the inputs
---     FollowsCuts n by on_time cuts        cuts of all streams of a network that follow the boxes; cuts_of n by on_time are these
---     loses_key n on_time cuts at      a box gives neither a key nor a whole stream, though it takes them
+--     places passes i xs                  the numbers of the items that pass, where the first has number i
+--     box_cut on_time body widths cuts    what a part has of what a box gives, where it has these cuts of the inputs
+--     FollowsCuts n by on_time cuts       cuts of all streams of a network that follow the boxes; cuts_of n by on_time are these
+--     loses_key n on_time cuts at         a box gives neither a key nor a whole stream, though it takes them
 use Rattle.std.specs.Prelude.{◌≡◌, ℕ, zero, suc, ◌+◌, ◌==◌, ◌&&◌, ◌||◌, nat_lt, Bool, true, false, not, if◌then◌else◌, List, [], ◌∷◌, ◌++◌, map, length, Option, Some, None, slice_get, slice_index_or}
 use Rattle.std.specs.List.{filter, list_any, list_all}
 use Rattle.sq_value.specs.Lists.{numbers_to}
