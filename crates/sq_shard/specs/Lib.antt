@@ -1,0 +1,4 @@
+pub mod Cuts
+pub mod Keys
+pub mod Laws
+pub mod Together
