@@ -28,7 +28,7 @@ pub fn count_of(text: &str, class: &str) -> usize {
 }
 
 /// The lines of a class.
-pub fn lines_of(alloc: Global, text: &str, class: &str) -> Result<String, AllocError> {
+fn lines_of(alloc: Global, text: &str, class: &str) -> Result<String, AllocError> {
     let mut lines = String::new(alloc);
     for line in text.lines() {
         if is_of_class(line, class) {

@@ -4,14 +4,20 @@ use sq_gen::generate;
 use sq_outside::{Flip, Swap};
 use std::alloc::{AllocError, Global};
 
-/// What a disk does wrong in turn, once in each run, until a run ends well.
+/// What goes wrong in turn, once in each run, until nothing does.
 #[derive(Clone, Copy, Debug, PartialEq, Eq)]
 pub enum Turns {
     /// One run.
     Once,
-    /// Each call fails.
+    /// Each call of the folder fails.
+    Reads,
+    /// Each call of the output fails.
+    Writes,
+    /// Each call of the sink of messages fails.
+    Messages,
+    /// Each call of the disk fails.
     Calls,
-    /// Each get answers a byte wrongly.
+    /// Each get of the disk answers a byte wrongly.
     Flips,
 }
 
@@ -37,6 +43,8 @@ pub struct Case {
     pub counted: Vec<String>,
     /// The number and the lines of a stream that is made, with its network and its capacities, where there is one.
     pub made: Option<(u64, u32)>,
+    /// Whether the slow definitions are asked.
+    compared: bool,
 }
 
 /// Which byte of a page is answered wrongly.
@@ -67,6 +75,9 @@ fn made_of(value: &str) -> Option<(u64, u32)> {
 
 fn turns_of(value: &str) -> Turns {
     match value {
+        "reads" => Turns::Reads,
+        "writes" => Turns::Writes,
+        "messages" => Turns::Messages,
         "calls" => Turns::Calls,
         "flips" => Turns::Flips,
         _ => Turns::Once,
@@ -74,10 +85,13 @@ fn turns_of(value: &str) -> Turns {
 }
 
 impl Case {
-    /// The same case, in which the disk does this wrong once.
+    /// The same case, in which this goes wrong once.
     pub fn in_turn(mut self, alloc: Global, number: u64) -> Result<Case, AllocError> {
         match self.turns {
             Turns::Once => {}
+            Turns::Reads => self.folder_fails = vec![in alloc; number]?,
+            Turns::Writes => self.out_fails = vec![in alloc; number]?,
+            Turns::Messages => self.err_fails = vec![in alloc; number]?,
             Turns::Calls => self.disk_fails = vec![in alloc; number]?,
             Turns::Flips => self.flips = vec![in alloc;
                 Flip {
@@ -106,6 +120,7 @@ impl Case {
             classes: Vec::new(alloc),
             counted: Vec::new(alloc),
             made: None,
+            compared: true,
         })
     }
 
@@ -124,16 +139,17 @@ impl Case {
             "classes" => self.classes = items_of(alloc, value)?,
             "counted" => self.counted = items_of(alloc, value)?,
             "made" => self.made = made_of(value),
+            "compared" => self.compared = value != "no",
             "takes" => self.takes = value.parse::<usize>().unwrap_or(1).max(1),
             _ => {}
         }
         Ok(())
     }
 
-    /// Whether what it gives is compared with the slow definitions: a run over files that are written out.
+    /// Whether what it gives is compared with the slow definitions: a run over files that are written out, unless it says no.
     pub fn is_compared(&self) -> bool {
         match self.words.first() {
-            Some(word) => word.as_str() == "run" && self.made.is_none(),
+            Some(word) => word.as_str() == "run" && self.made.is_none() && self.compared,
             None => false,
         }
     }

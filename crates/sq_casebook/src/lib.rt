@@ -12,12 +12,15 @@
 //! - `words: run,a.toml`; `made: 7,20000` (the files that the generator makes of a number and so many lines);
 //! - `folder fails: 0,2`, `out fails: 9`, `err fails: 0`, `disk fails: 2` (calls that fail), `takes: 1` (how many bytes a call of
 //!   a sink takes), `flips: 0`, `swaps: 0` (gets of the disk that answer a byte wrongly, or another page);
-//! - `turns: calls`, `turns: flips` (each call of the disk fails in turn, or each get answers a byte wrongly, until a run ends
-//!   well: shown is each run that isn't as it is to be);
+//! - `turns: reads`, `turns: writes`, `turns: messages`, `turns: calls`, `turns: flips` (each call of the folder, of the output, of
+//!   the sink of messages or of the disk fails in turn, or each get of the disk answers a byte wrongly, until nothing goes wrong:
+//!   shown is how many runs failed, and each of them that isn't as it is to be);
 //! - `classes: @plan,o` (the lines with these first fields are shown class by class, and then all others, where the order of the
-//!   classes isn't fixed), `counted: o` (of these only how many lines there are), `puts: 5` (so many pages are put at least).
+//!   classes isn't fixed), `counted: o` (of these only how many lines there are), `puts: 5` (so many pages are put at least);
+//! - `compared: no` (the slow definitions aren't asked: they go through every batch, and some runs have too many).
 #![tactic(auto)]
 
+mod begun;
 mod beside;
 mod case;
 mod given;

@@ -17,11 +17,11 @@ use std::sync::ledger::{Blank, Ledger};
 pub struct Ran {
     pub code: u8,
     pub out: MemSink,
-    err: MemSink,
-    pub classes: Vec<String>,
+    pub err: MemSink,
+    classes: Vec<String>,
     counted: Vec<String>,
     /// How many pages were put.
-    pub puts: usize,
+    puts: usize,
     least_puts: Option<usize>,
 }
 

@@ -1,5 +1,5 @@
-// Runs in which a disk does one thing wrong, each in its turn.
-use crate::beside::{count_of, lines_of};
+// Runs in which one thing goes wrong, each in its turn.
+use crate::begun::{has_ends, is_begun};
 use crate::case::{Case, Turns};
 use crate::running::{Ran, run_case};
 use anyhow::Error;
@@ -9,59 +9,90 @@ use std::io;
 /// No run here makes as many calls.
 const MOST: u64 = 10_000;
 
-/// Whether of each class that is named the lines of a run begin those of another.
-fn begins(alloc: Global, ran: &Ran, whole: &Ran) -> Result<bool, AllocError> {
-    let text = str::from_utf8(ran.out.bytes()).unwrap_or("?");
-    let whole_text = str::from_utf8(whole.out.bytes()).unwrap_or("?");
-    for class in &whole.classes {
-        let lines = lines_of(alloc, text, class.as_str())?;
-        if !lines_of(alloc, whole_text, class.as_str())?.starts_with(lines.as_str()) {
-            return Ok(false);
-        }
-    }
-    Ok(true)
-}
-
-/// Shows a run that ended with another status, wrote an end, or wrote what doesn't begin the whole run's lines.
-fn show_turn(rt: &HostRuntime, number: u64, ran: &Ran, whole: &Ran, code: u8) -> Result<(), Error> {
-    let text = str::from_utf8(ran.out.bytes()).unwrap_or("?");
-    let is_ended = count_of(text, "@end") > 0;
-    if ran.code != code || is_ended || !begins(rt.alloc(), ran, whole)? {
-        println!(rt; "turn {number}: {}, not a beginning", ran.code)?;
-    }
-    Ok(())
-}
-
-/// The status of a run whose disk did this wrong.
+/// The status of a run in which this went wrong.
 fn code_of(turns: Turns) -> u8 {
     match turns {
         Turns::Once => 0,
+        Turns::Reads => 7,
+        Turns::Writes => 10,
+        Turns::Messages => 2,
         Turns::Calls => 8,
         Turns::Flips => 9,
     }
 }
 
-/// Shows how the runs of a case end in which the disk does one thing wrong, each in its turn until a run ends well, and
-/// each that isn't as it is to be.
+fn text_of(bytes: &[u8]) -> &str {
+    str::from_utf8(bytes).unwrap_or("?")
+}
+
+/// Whether nothing went wrong any more: the run ended well, or the whole message stands there.
+fn is_last(turns: Turns, ran: &Ran, whole: &Ran) -> bool {
+    match turns {
+        Turns::Messages => ran.err.bytes() == whole.err.bytes(),
+        _ => ran.code == 0,
+    }
+}
+
+/// Whether a run ended like the whole one and wrote and told the same.
+fn is_whole(ran: &Ran, whole: &Ran) -> bool {
+    ran.code == whole.code
+        && ran.out.bytes() == whole.out.bytes()
+        && ran.err.bytes() == whole.err.bytes()
+}
+
+/// Whether what a failing run wrote is as it is to be: nothing where the input failed or the words are no command, else a
+/// beginning that isn't all, and no end line where the disk failed. Of a message that fails a beginning is told.
+fn is_due(alloc: Global, turns: Turns, ran: &Ran, whole: &Ran) -> Result<bool, AllocError> {
+    let (text, whole_text) = (text_of(ran.out.bytes()), text_of(whole.out.bytes()));
+    match turns {
+        Turns::Once => Ok(true),
+        Turns::Reads => Ok(text.is_empty()),
+        Turns::Messages => {
+            let told = text_of(whole.err.bytes()).starts_with(text_of(ran.err.bytes()));
+            Ok(told && text.is_empty())
+        }
+        Turns::Writes => Ok(text != whole_text && is_begun(alloc, text, whole_text)?),
+        Turns::Calls | Turns::Flips => Ok(!has_ends(text) && is_begun(alloc, text, whole_text)?),
+    }
+}
+
+/// Shows a failing run that ended with another status, or wrote what it may not.
+fn show_turn(
+    rt: &HostRuntime,
+    turns: Turns,
+    number: u64,
+    ran: &Ran,
+    whole: &Ran,
+) -> Result<(), Error> {
+    if ran.code != code_of(turns) || !is_due(rt.alloc(), turns, ran, whole)? {
+        println!(rt; "turn {number}: {}, not a beginning", ran.code)?;
+    }
+    Ok(())
+}
+
+/// Shows how many runs failed before the last, and whether that one was as the whole run.
+fn show_last(rt: &HostRuntime, number: u64, ran: &Ran, whole: &Ran) -> io::Result<()> {
+    if !is_whole(ran, whole) {
+        println!(rt; "the last run isn't the whole one")?;
+    }
+    println!(rt; "{number} turns")
+}
+
+/// Shows in how many runs of a case one thing goes wrong, each in its turn until nothing does, and each of them that isn't
+/// as it is to be.
 pub fn show_turns(rt: &HostRuntime, text: &str) -> Result<(), Error> {
     let alloc = rt.alloc();
     let case = Case::read(alloc, text)?;
-    let (turns, code) = (case.turns, code_of(case.turns));
+    let turns = case.turns;
     let whole = run_case(alloc, case);
     for number in 0..MOST {
-        let turn = run_case(alloc, Case::read(alloc, text)?.in_turn(alloc, number)?);
-        if turn.code == 0 {
-            println!(rt;
-                "{}",
-                if number < 5 {
-                    "too few turns"
-                } else {
-                    "each turn ends so"
-                }
-            )?;
+        let ran = run_case(alloc, Case::read(alloc, text)?.in_turn(alloc, number)?);
+        if is_last(turns, &ran, &whole) {
+            show_last(rt, number, &ran, &whole)?;
             return Ok(());
         }
-        show_turn(rt, number, &turn, &whole, code)?;
+        show_turn(rt, turns, number, &ran, &whole)?;
     }
+    println!(rt; "turns without end")?;
     Ok(())
 }
