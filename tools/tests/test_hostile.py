@@ -1,0 +1,43 @@
+"""What hostile inputs are made of, and how their runs are judged."""
+import importlib.machinery
+import importlib.util
+import itertools
+import os
+import pathlib
+import sys
+import tempfile
+import unittest
+
+sys.dont_write_bytecode = True
+PATH = os.path.join(os.path.dirname(os.path.dirname(os.path.abspath(__file__))), "hostile_inputs")
+LOADER = importlib.machinery.SourceFileLoader("hostile_inputs", PATH)
+hostile = importlib.util.module_from_spec(importlib.util.spec_from_loader("hostile_inputs", LOADER))
+LOADER.exec_module(hostile)
+
+
+class Inputs(unittest.TestCase):
+    def test_files_are_as_long_as_they_may_be(self):
+        made = dict(itertools.islice(hostile.cases(), 6))
+        self.assertEqual(len(made["the longest network file"].net), 1_048_576)
+        self.assertEqual(len(made["a picks file of 524,288 lines"].files["p"]), 1_048_576)
+        self.assertEqual(len(made["the longest capacity file"].files["c"]), 1_048_576)
+        self.assertEqual(len(made["a stream of empty lines"].files["s.csv"]), 67_108_864)
+        self.assertIn("where = [\"" + "not " * 64 + "v >= 10", made["an expression of 4096 bytes"].net)
+
+    def test_a_run_has_the_lines_that_are_worked_out(self):
+        case = hostile.Case([], "", {}, {"o": 2, "@drop": 1}, ["a,3", "b,1"])
+        good = hostile.Ran(0, 0.1, 9)
+        for text, ran, is_right in (("o,1,2\n@drop,0,1,50\no,2,3\n@box,a,3\n@box,b,1\n@late,b,0\n@end\n", good, True),
+                                    ("o,1,2\n@drop,0,1,50\no,2,3\n@box,a,3\n@box,b,1\n@late,b,0\n@end\n", good._replace(status=12), False),
+                                    ("o,1,2\n@drop,0,1,50\n@box,a,3\n@box,b,1\n@end\n", good, False),
+                                    ("o,1,2\n@drop,0,1,50\no,2,3\np,1\n@box,a,3\n@box,b,1\n@end\n", good, False),
+                                    ("o,1,2\n@drop,0,1,50\no,2,3\n@box,a,2\n@box,b,1\n@end\n", good, False),
+                                    ("o,1,2\n@drop,0,1,50\no,2,3\n@box,a,3\n@box,b,1\n", good, False), ("", good, False)):
+            with tempfile.TemporaryDirectory() as room:
+                path = pathlib.Path(room, "text")
+                path.write_text(text, encoding="utf-8")
+                self.assertEqual(hostile.fault_of(case, ran, path) is None, is_right, text)
+
+
+if __name__ == "__main__":
+    unittest.main()
