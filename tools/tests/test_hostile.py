@@ -26,7 +26,7 @@ class Inputs(unittest.TestCase):
 
     def test_a_run_has_the_lines_that_are_worked_out(self):
         case = hostile.Case([], "", {}, {"o": 2, "@drop": 1}, ["a,3", "b,1"])
-        good = hostile.Ran(0, 0.1, 9)
+        good = hostile.Ran(0, 0.1, 9, "")
         for text, ran, is_right in (("o,1,2\n@drop,0,1,50\no,2,3\n@box,a,3\n@box,b,1\n@late,b,0\n@end\n", good, True),
                                     ("o,1,2\n@drop,0,1,50\no,2,3\n@box,a,3\n@box,b,1\n@late,b,0\n@end\n", good._replace(status=12), False),
                                     ("o,1,2\n@drop,0,1,50\n@box,a,3\n@box,b,1\n@end\n", good, False),
@@ -37,6 +37,15 @@ class Inputs(unittest.TestCase):
                 path = pathlib.Path(room, "text")
                 path.write_text(text, encoding="utf-8")
                 self.assertEqual(hostile.fault_of(case, ran, path) is None, is_right, text)
+
+    def test_a_run_past_a_limit_is_refused_and_writes_nothing(self):
+        case = hostile.Case([], "", {}, {}, [], (11, "aurora: file too long: s.csv\n"))
+        good = hostile.Ran(11, 0.1, 9, "aurora: file too long: s.csv\n")
+        for text, ran, is_right in (("", good, True), ("@end\n", good, False), ("", good._replace(status=6), False), ("", good._replace(told=""), False)):
+            with tempfile.TemporaryDirectory() as room:
+                path = pathlib.Path(room, "text")
+                path.write_text(text, encoding="utf-8")
+                self.assertEqual(hostile.fault_of(case, ran, path) is None, is_right, ran)
 
 
 if __name__ == "__main__":

@@ -17,7 +17,7 @@
 //!   shown is how many runs failed, and each of them that isn't as it is to be);
 //! - `classes: @plan,o` (the lines with these first fields are shown class by class, and then all others, where the order of the
 //!   classes isn't fixed), `counted: o` (of these only how many lines there are), `puts: 5` (so many pages are put at least);
-//! - `compared: no` (the slow definitions aren't asked: they go through every batch, and some runs have too many).
+//! - `compared: no` (the slow definitions aren't asked, which go through every batch and take too long for some runs).
 #![tactic(auto)]
 
 mod begun;
