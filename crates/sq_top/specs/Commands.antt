@@ -151,7 +151,3 @@ abbrev pub is_run : Option Command → Bool
 is_run None = false
 is_run (Some (command.Run args)) = true
 is_run (Some (command.Gen number rows)) = false
-
--- the words ask for the run of a number's files
-abbrev pub IsGen : Option Command → Type 0
-IsGen c = (number : ℕ) × (rows : ℕ) × (c ≡ Some (command.Gen number rows))
