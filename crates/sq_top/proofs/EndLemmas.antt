@@ -1,6 +1,6 @@
 -- How a run ends.
 use Rattle.std.proofs.Common.{◌≡◌, ◌≢◌, ◌⊎◌, inl, inr, ℕ, zero, suc, ◌+◌, ◌^◌, ◌<◌, ◌≤◌, Bool, true, false, not, ◌&&◌, List, [], ◌∷◌, ◌++◌, length, refl, ap, sym, ◌∙◌, subst, arith, append_assoc, append-nil, Option, None, Some}
-use Rattle.std.specs.Prelude.{⊤, map, nat_lt, if◌then◌else◌, IsSome, Result, Ok, Err, codes}
+use Rattle.std.specs.Prelude.{map, nat_lt, if◌then◌else◌, IsSome, codes}
 use Rattle.std.specs.Fmt.{decimal}
 use Rattle.std.specs.List.{AllByRecursion, flat_map, list_all, list_any, range_with_len, zip}
 use Rattle.std.proofs.lemmas.Bool.Decides.{nat_tests}
@@ -13,21 +13,15 @@ use Rattle.sq_value.specs.LineTexts.{drop_line, line_of, needs_quotes, output_li
 use Rattle.sq_value.specs.Texts.{text_of}
 use Rattle.sq_value.proofs.RowLemmas.{first_field-line_of, is_line-line_of}
 use Rattle.sq_outside.specs.Faults.{Rose}
-use Rattle.sq_outside.specs.Folders.{Files, file}
-use Rattle.sq_outside.specs.Disks.{Pages}
+use Rattle.sq_outside.specs.Folders.{Files}
 use Rattle.sq_outside.specs.Sinks.{appended}
-use Rattle.sq_net.specs.declared.NetErr.{NetErr}
 use Rattle.sq_net.specs.declared.NetErr.TheVariants as net
 use Rattle.sq_net.specs.declared.Network.{Network}
-use Rattle.sq_net.specs.declared.Source.{Source}
 use Rattle.sq_net.specs.declared.Node.{Node}
 use Rattle.sq_net.specs.declared.Output.{Output}
 use Rattle.sq_net.specs.Names.{has_name_form, is_lower, is_name, may_follow, reserved}
 use Rattle.sq_net.specs.Sound.{IsSound}
-use Rattle.sq_reader.specs.Networks.{network_in}
 use Rattle.sq_reader.proofs.SoundLemmas.{network_sound}
-use Rattle.sq_replay.specs.declared.why.Why.{Why}
-use Rattle.sq_replay.specs.Streams.{stream_in}
 use Rattle.sq_model.specs.Shedding as model
 use Rattle.sq_plan.specs.declared.closing.Shown.{Shown as ShownPlan}
 use Rattle.sq_oper.specs.declared.outs.Decision.{Decision}
@@ -47,21 +41,20 @@ use Rattle.sq_points.proofs.Bounds.{few_places}
 use Rattle.std.proofs.lemmas.Fmt.{decimal_nonempty}
 use Rattle.sq_top.specs.Due.{Answer, Due, answer_in, dropped_from, due_from, due_in, due_of, ended_in, fed_in, late_in, plan_text, replayed, shown_from, turns_in, work_in}
 use Rattle.sq_top.specs.Answers.{IsPrefixText, IsWholeText}
-use Rattle.sq_gen.specs.declared.Made.{Made}
 use Rattle.sq_gen.specs.Files.{made_of}
 use Rattle.sq_top.specs.Made.{HasBadMade, NamesMade}
-use Rattle.sq_top.specs.Messages.{name_at, network_named, source_name}
+use Rattle.sq_top.specs.Messages.{name_at}
 use Rattle.sq_top.specs.Summaries.{summary_of}
 use Rattle.sq_top.specs.Driving.{IsCutShort}
 use Rattle.sq_top.specs.declared.RunArgs.{RunArgs}
-use Rattle.sq_plan.specs.Plans.{Entries}
-use Rattle.sq_replay.specs.Entries.{capacities_in, picks_in}
-use Rattle.sq_top.specs.Scripts.{Lookup, Replay, accepted, after_capacities, after_network, after_picks, after_stream, after_streams, after_words, capacities_script, go_on, made_limits, made_script, made_sources, made_streams, made_unread, outcome_of, picks_script, readable, script_of, settings_limit, stream_limit, unread, with_sources, Script, Done, Stops}
+use Rattle.sq_top.specs.Scripts.{Replay, Script, Reads, Done, Stops, after_words, made_script, script_of}
+use Rattle.sq_top.specs.Reads.{GoesBy, IfAccepted, Leads, network_read}
 use Rattle.sq_paged.specs.Fronts.{Tells}
 use Rattle.sq_top.specs.Stopping.{StopHasCause, is_changed}
-use Rattle.sq_top.specs.Causes.{AnswersPrefix, AppendsSuch, BeginsSummary, Ends, EndsOk, HasFailedAt, IsEngineOf, IsPrefixOfDue, IsStopped, IsWholeOf, LeadsWhereTold, MatchAccepted, NamesSource, files_for, looked_at, RefusalHasCause, TooMuchHasCause, WhereTold, World, is_refusal}
+use Rattle.sq_top.specs.Causes.{AppendsSuch, BeginsSummary, Ends, IsEngineOf, IsPrefixOfDue, IsRefusedAt, IsStopped, IsWholeOf, NamesSource, TellsStatus, World, is_refusal}
 use Rattle.sq_top.proofs.SortedLines.{and-true}
-use Rattle.sq_top.proofs.StoppedLemmas.{at_told, some_none, stopped_memory, stopped_rule, told_self, where_told}
+use Rattle.sq_top.proofs.ReadsLemmas.{leads_self, left_holds, none_given}
+use Rattle.sq_top.proofs.StoppedLemmas.{memory_at, some_none, stopped_memory, stopped_rule}
 use Rattle.sq_top.proofs.StopLemmas.{refused_stop, refused_unchanged, stop_map}
 use Rattle.sq_top.proofs.ClassLemmas.{IsLineOf, IsPlainName, TellsClasses, is_end_field}
 use Rattle.sq_top.proofs.OrderLemmas.{prefix_text}
@@ -198,82 +191,9 @@ replay_tells_classes r is =
     due_tells_classes r.network (answer_in r) (ended_in r)
     (all_ended r.network (map (fed_in r) (numbers_to (length r.network.boxes))) (map (late_in r) (numbers_to (length r.network.boxes)))) (few_drops r.network is) is
 
--- what is accepted is the network of the file
-abbrev IsFileOf : Network → Type 0
-IsFileOf n = (bytes : List ℕ) × (network_in bytes ≡ Ok n)
-
-module _ (files : Lookup) (n : Network) where
-  stream_ok : (number : ℕ) (more : List Tuple → Script) (r : Replay) (o : Result (List Tuple) (ℕ × Why)) → ((xs : List Tuple) → outcome_of files (more xs) ≡ Ok r → n ≡ r.network)
-      → outcome_of files (after_stream number more o) ≡ Ok r → n ≡ r.network
-  stream_ok number more r (Ok xs) rest e = rest xs e
-  stream_ok number more r (Err w) rest e = absurd (cc)
-
-  file_ok : (read : Result (List ℕ) Status) (more : List ℕ → Script) (r : Replay) → ((bytes : List ℕ) → outcome_of files (more bytes) ≡ Ok r → n ≡ r.network)
-      → go_on (λ s. Err s) (λ bytes. outcome_of files (more bytes)) read ≡ Ok r → n ≡ r.network
-  file_ok (Ok bytes) more r rest e = rest bytes e
-  file_ok (Err s) more r rest e = absurd (cc)
-
-streams_ok : (files : Lookup) (p : Replay) (left : List Source) (r : Replay) → outcome_of files (after_streams p left) ≡ Ok r → p.network ≡ r.network
-streams_ok files p [] r e = let same : p ≡ r = cc in ap (λ (x : Replay). x.network) same
-streams_ok files p (s ∷ left) r e =
-    let more = λ (xs : List Tuple). after_streams (with_sources p (p.sources ++ xs ∷ [])) left in
-    file_ok files p.network (readable s.file stream_limit (files s.file)) (λ bytes. after_stream (length p.sources) more (stream_in s.schema bytes)) r
-    (λ bytes. stream_ok files p.network (length p.sources) more r (stream_in s.schema bytes) (λ xs. streams_ok files (with_sources p (p.sources ++ xs ∷ [])) left r)) e
-
-module _ (files : Lookup) (args : RunArgs) (n : Network) where
-  picks_ok : (entries : Entries) (o : Result (List ℕ) ℕ) (r : Replay) → outcome_of files (after_picks args n entries o) ≡ Ok r → n ≡ r.network
-  picks_ok entries (Ok picks) r e = streams_ok files (unread args n entries picks) n.sources r e
-  picks_ok entries (Err line) r e = absurd (cc)
-
-  picked_ok : (entries : Entries) (o : Option (List ℕ)) (r : Replay) → outcome_of files (picks_script args n entries o) ≡ Ok r → n ≡ r.network
-  picked_ok entries None r e = picks_ok entries (Ok []) r e
-  picked_ok entries (Some name) r e =
-      file_ok files n (readable name settings_limit (files name)) (λ bytes. after_picks args n entries (picks_in bytes)) r (λ bytes. picks_ok entries (picks_in bytes) r) e
-
-  capacities_ok : (o : Result Entries ℕ) (r : Replay) → outcome_of files (after_capacities args n o) ≡ Ok r → n ≡ r.network
-  capacities_ok (Ok entries) r e = picked_ok entries args.picks r e
-  capacities_ok (Err line) r e = absurd (cc)
-
-  named_ok : (o : Option (List ℕ)) (r : Replay) → outcome_of files (capacities_script args n o) ≡ Ok r → n ≡ r.network
-  named_ok None r e = capacities_ok (Ok []) r e
-  named_ok (Some name) r e =
-      file_ok files n (readable name settings_limit (files name)) (λ bytes. after_capacities args n (capacities_in bytes)) r (λ bytes. capacities_ok (capacities_in bytes) r) e
-
-network_ok : (files : Lookup) (args : RunArgs) (bytes : List ℕ) (o : Result Network NetErr) (r : Replay) → network_in bytes ≡ o → outcome_of files (after_network args o) ≡ Ok r
-    → IsFileOf r.network
-network_ok files args bytes (Ok n) r said e = (bytes, said ∙ ap (λ (x : Network). Ok x) (named_ok files args n args.capacities r e))
-network_ok files args bytes (Err s) r said e = absurd (cc)
-
-network_file_ok : (files : Lookup) (args : RunArgs) (read : Result (List ℕ) Status) (r : Replay)
-    → go_on (λ s. Err s) (λ bytes. outcome_of files (after_network args (network_in bytes))) read ≡ Ok r → IsFileOf r.network
-network_file_ok files args (Ok bytes) r e = network_ok files args bytes (network_in bytes) r refl e
-network_file_ok files args (Err s) r e = absurd (cc)
-
--- and of what is made
-module _ (files : Lookup) where
-  made_streams_ok : (stream : List ℕ) (p : Replay) (left : List Source) (r : Replay) → outcome_of files (made_streams stream p left) ≡ Ok r → p.network ≡ r.network
-  made_streams_ok stream p [] r e = let same : p ≡ r = cc in ap (λ (x : Replay). x.network) same
-  made_streams_ok stream p (s ∷ left) r e =
-      let more = λ (xs : List Tuple). made_streams stream (with_sources p (p.sources ++ xs ∷ [])) left in
-      stream_ok files p.network (length p.sources) more r (stream_in s.schema stream) (λ xs. made_streams_ok stream (with_sources p (p.sources ++ xs ∷ [])) left r) e
-
-  made_sources_ok : (number : ℕ) (stream : List ℕ) (n : Network) (o : Result Entries ℕ) (r : Replay) → outcome_of files (made_sources number stream n o) ≡ Ok r → n ≡ r.network
-  made_sources_ok number stream n (Ok entries) r e = made_streams_ok stream (made_unread number n entries) n.sources r e
-  made_sources_ok number stream n (Err line) r e = absurd (cc)
-
-  made_ok : (number : ℕ) (made : Made) (o : Result Network NetErr) (r : Replay) → network_in made.net ≡ o → outcome_of files (made_limits number made o) ≡ Ok r → IsFileOf r.network
-  made_ok number made (Ok n) r said e =
-      (made.net, said ∙ ap (λ (x : Network). Ok x) (made_sources_ok number made.stream n (capacities_in made.capacities) r e))
-  made_ok number made (Err s) r said e = absurd (cc)
-
-command_ok : (files : Lookup) (o : Option Command) (r : Replay) → outcome_of files (after_words o) ≡ Ok r → IsFileOf r.network
-command_ok files None r e = absurd (cc)
-command_ok files (Some (command.Run args)) r e = network_file_ok files args (readable args.net settings_limit (files args.net)) r e
-command_ok files (Some (command.Gen number rows)) r e = made_ok files number (made_of number rows) (network_in (made_of number rows).net) r refl e
-
-pub accepted_tells_classes : (files : Lookup) (words : List (List ℕ)) (r : Replay) → accepted files words ≡ Ok r → TellsClasses (due_of r)
-accepted_tells_classes files words r e =
-    let f = command_ok files (command_in words) r e in
+pub left_tells_classes : (told : Option Files) (words read : List (List ℕ)) (r : Replay) → GoesBy told read (script_of words) (Done r) → TellsClasses (due_of r)
+left_tells_classes told words read r goes =
+    let f = left_holds told words read (Done r) goes in
     replay_tells_classes (replayed r) (network_sound f.0 r.network f.1)
 
 no_text : (d : Due) → TellsClasses d → IsPrefixText d []
@@ -283,6 +203,10 @@ no_text d s = prefix_text d [] [] s tt ([], refl)
 pub appends_none : (o : Option (List ℕ)) (P : List ℕ → Type 0) → P [] → AppendsSuch o o P
 appends_none None P p = refl
 appends_none (Some before) P p = ([], ap Some (sym (append-nil before)), p)
+
+-- at Ok there is no message
+pub told_nothing : (source : List ℕ) (o : Option (List ℕ)) (faults : ℕ) → AppendsSuch o o (TellsStatus source faults faults status.Ok)
+told_nothing source o faults = appends_none o (TellsStatus source faults faults status.Ok) (inl refl)
 
 pub appends_all : (before now : Option (List ℕ)) (text : List ℕ) (P : List ℕ → Type 0) → now ≡ appended before text → P text → AppendsSuch before now P
 appends_all None now text P e p = e
@@ -321,37 +245,42 @@ due_memory None r s other text p = p
 due_memory (Some (command.Run args)) r s other text p = p
 due_memory (Some (command.Gen number rows)) r s other text p = (p.0, λ memory. p.1 other)
 
--- each outcome of the words and files has its fact
-match_each : (o : Result Replay Status) (P : Replay → Type 0) (Q : Status → Type 0) → ((r : Replay) → o ≡ Ok r → P r) → ((s : Status) → o ≡ Err s → Q s) → MatchAccepted o P Q
-match_each (Ok r) P Q p q = p r refl
-match_each (Err s) P Q p q = q s refl
+-- each script that is left has its fact
+pub if_accepted : (left : Script) (P : Replay → Type 0) (Q : Type 0) → ((r : Replay) → left ≡ Done r → P r) → Q → IfAccepted left P Q
+if_accepted (Done r) P Q p q = p r refl
+if_accepted (Stops s) P Q p q = q
+if_accepted (Reads name limit more) P Q p q = q
 
-match_map : (o : Result Replay Status) (P P' : Replay → Type 0) (Q : Status → Type 0) → ((r : Replay) → P r → P' r) → MatchAccepted o P Q → MatchAccepted o P' Q
-match_map (Ok r) P P' Q f m = f r m
-match_map (Err s) P P' Q f m = m
+accepted_map : (left : Script) (P P' : Replay → Type 0) (Q : Type 0) → ((r : Replay) → P r → P' r) → IfAccepted left P Q → IfAccepted left P' Q
+accepted_map (Done r) P P' Q f m = f r m
+accepted_map (Stops s) P P' Q f m = m
+accepted_map (Reads name limit more) P P' Q f m = m
 
-nothing_written : (files : Files) (words : List (List ℕ)) (pages : Option Pages) (s : Status) (out : Option (List ℕ)) (steps : ℕ) → AnswersPrefix files words pages s out out steps steps
-nothing_written files words pages s out steps =
-    match_each (accepted (file files) words) _ _
-    (λ r e told. (appends_none out (IsPrefixOfDue (command_in words) r s) (no_due (command_in words) r s (accepted_tells_classes (file files) words r e)), omega arith))
-    (λ t e. (refl, refl))
+-- a beginning of the answer, and nothing where there is none
+abbrev Begun : List (List ℕ) → World → Status → Script → Type 0
+Begun words w s left = IfAccepted left
+    (λ r. Tells w.pages → AppendsSuch w.out_before w.out_now (IsPrefixOfDue (command_in words) r s) × (w.steps_now ≤ w.steps_before + work_in (replayed r)))
+    ((w.out_now ≡ w.out_before) × (w.steps_now ≡ w.steps_before))
 
-nothing_between : (files : Files) (words : List (List ℕ)) (pages : Option Pages) (s : Status) (out_before out_now : Option (List ℕ)) (steps_before steps_now : ℕ) → out_now ≡ out_before
-    → steps_now ≡ steps_before → AnswersPrefix files words pages s out_before out_now steps_before steps_now
-nothing_between files words pages s out_before out_now steps_before steps_now e f =
-    subst (λ o. AnswersPrefix files words pages s out_before o steps_before steps_now) (sym e)
-    (subst (λ k. AnswersPrefix files words pages s out_before out_before steps_before k) (sym f) (nothing_written files words pages s out_before steps_before))
+nothing_appended : (before now : Option (List ℕ)) (P : List ℕ → Type 0) → now ≡ before → P [] → AppendsSuch before now P
+nothing_appended before now P e p = subst (λ o. AppendsSuch before o P) (sym e) (appends_none before P p)
 
-prefix_memory : (files : Files) (words : List (List ℕ)) (pages : Option Pages) (s : Status) (out_before out_now : Option (List ℕ)) (steps_before steps_now : ℕ) → s ≢ status.SinkFault
-    → AnswersPrefix files words pages s out_before out_now steps_before steps_now → AnswersPrefix files words pages status.Memory out_before out_now steps_before steps_now
-prefix_memory files words pages s out_before out_now steps_before steps_now other =
-    match_map (accepted (file files) words)
-    (λ r. Tells pages → AppendsSuch out_before out_now (IsPrefixOfDue (command_in words) r s) × (steps_now ≤ steps_before + work_in (replayed r)))
-    (λ r. Tells pages → AppendsSuch out_before out_now (IsPrefixOfDue (command_in words) r status.Memory) × (steps_now ≤ steps_before + work_in (replayed r)))
-    (λ t. (out_now ≡ out_before) × (steps_now ≡ steps_before))
-    (λ r prefix told. (
-      appends_map out_before out_now (IsPrefixOfDue (command_in words) r s) (IsPrefixOfDue (command_in words) r status.Memory) (due_memory (command_in words) r s other) (prefix told).0,
-      (prefix told).1,
+pub begun_nothing : (words : List (List ℕ)) (w : World) (s : Status) (r : Replay) → w.out_now ≡ w.out_before → w.steps_now ≡ w.steps_before → TellsClasses (due_of r)
+    → Tells w.pages → AppendsSuch w.out_before w.out_now (IsPrefixOfDue (command_in words) r s) × (w.steps_now ≤ w.steps_before + work_in (replayed r))
+begun_nothing words w s r out steps tells pages =
+    (nothing_appended w.out_before w.out_now (IsPrefixOfDue (command_in words) r s) out (no_due (command_in words) r s tells), omega (arith, steps))
+
+nothing_written : (words : List (List ℕ)) (w : World) (s : Status) (read : List (List ℕ)) (left : Script) → GoesBy w.told read (script_of words) left
+    → w.out_now ≡ w.out_before → w.steps_now ≡ w.steps_before → Begun words w s left
+nothing_written words w s read left goes out steps = if_accepted left _ _
+    (λ r e. begun_nothing words w s r out steps (left_tells_classes w.told words read r (subst (GoesBy w.told read (script_of words)) e goes)))
+    (out, steps)
+
+prefix_memory : (words : List (List ℕ)) (w : World) (s : Status) (left : Script) → s ≢ status.SinkFault → Begun words w s left → Begun words w status.Memory left
+prefix_memory words w s left other = accepted_map left _ _ _
+    (λ r prefix pages. (
+      appends_map w.out_before w.out_now (IsPrefixOfDue (command_in words) r s) (IsPrefixOfDue (command_in words) r status.Memory) (due_memory (command_in words) r s other) (prefix pages).0,
+      (prefix pages).1,
     ))
 
 not_ok : (s : Status) → (is_refusal s ≡ true) ⊎ (s ≡ status.Memory) → s ≡ status.Ok → ⊥
@@ -366,77 +295,62 @@ not_much : (s : Status) → (is_refusal s ≡ true) ⊎ (s ≡ status.Memory) �
 not_much s (inl refused) e = let r : is_refusal status.TooMuch ≡ true = subst (λ x. is_refusal x ≡ true) e refused in cc
 not_much s (inr memory) e = cc
 
-no_fault : (files : Files) (words : List (List ℕ)) (fb fn : ℕ) (s : Status) (r : Replay) → (is_refusal s ≡ true) ⊎ (s ≡ status.Memory) → RefusalHasCause files words fb fn s
-    → ¬ (Rose fb fn) → accepted (file files) words ≡ Ok r → (s ≡ status.Ok) ⊎ (s ≡ status.Memory)
-no_fault files words fb fn s r (inl refused) cause quiet e =
-    let failed = subst (λ o. MatchAccepted o (λ x. HasFailedAt fb fn s) (λ t. (s ≡ t) ⊎ HasFailedAt fb fn s)) e (cause.only refused) in
-    absurd (quiet failed.2)
-no_fault files words fb fn s r (inr memory) cause quiet e = inr memory
+-- where all was accepted no refusal comes
+not_refused : (told : Option Files) (fb fn tb tn : ℕ) (s : Status) (left : Script) (r : Replay) → (is_refusal s ≡ true) ⊎ (s ≡ status.Memory) → IsRefusedAt told fb fn tb tn s left → left ≡ Done r
+    → (s ≡ status.Ok) ⊎ (s ≡ status.Memory)
+not_refused told fb fn tb tn s left r (inl refused) why e =
+    let not : is_refusal s ≡ false = subst (IsRefusedAt told fb fn tb tn s) e why in
+    let both : true ≡ false = sym refused ∙ not in absurd (cc)
+not_refused told fb fn tb tn s left r (inr memory) why e = inr memory
 
 -- a run that stops before anything is replayed
-pub stopped_ends : (words : List (List ℕ)) (w : World) (s : Status) (source : List ℕ) → IsStopped words w.told w.folder_before w.folder_now w.taken_before w.taken_now s source
+pub stopped_ends : (words : List (List ℕ)) (w : World) (s : Status) (source : List ℕ) → IsStopped words w.told w.folder_before w.folder_now w.taken_before w.taken_now w.read_before w.read_now s source
     → w.out_now ≡ w.out_before → w.steps_now ≡ w.steps_before → Ends words w s source
 stopped_ends words w s source h out steps = record {
+  read = h.read;
+  given = h.given;
+  left = h.left;
+  goes = h.goes;
   ok = λ e. absurd (not_ok s h.ends e);
-  other = λ e. where_told w.told (λ files. AnswersPrefix files words w.pages s w.out_before w.out_now w.steps_before w.steps_now)
-      (λ files t. nothing_between files words w.pages s w.out_before w.out_now w.steps_before w.steps_now out steps);
+  other = λ e. nothing_written words w s h.read h.left h.goes out steps;
   refused_early = λ e. (out, steps);
   usage = h.usage;
   refusal = h.refusal;
-  folder = h.folder;
   no_memory = h.no_memory;
   stopped = refused_stop _ _ _ s h.ends;
   unchanged = λ pages. refused_unchanged s h.ends;
   sink = λ e. absurd (not_sink s h.ends e);
-  too_much = where_told w.told (λ files. TooMuchHasCause files words w.pages s) (λ files t e. absurd (not_much s h.ends e));
-  complete = λ quiet sound dry. where_told w.told (λ files. EndsOk files words w.pages s)
-      (λ files t. match_each (accepted (file files) words) _ _
-      (λ r e pages few. no_fault files words w.folder_before w.folder_now s r h.ends (at_told w.told (λ x. RefusalHasCause x words w.folder_before w.folder_now s) files t h.refusal) quiet e)
-      (λ u e. tt));
+  too_much = λ e. absurd (not_much s h.ends e);
+  complete = λ sound dry. if_accepted h.left _ _
+      (λ r e pages few. not_refused w.told w.folder_before w.folder_now w.taken_before w.taken_now s h.left r h.ends h.refusal e) tt;
   named = h.named;
 }
 
 module _ (words : List (List ℕ)) (w : World) (r : Replay) (source : List ℕ) (some : IsSome (command_in words))
-    (came : WhereTold w.told (λ files. accepted (file files) words ≡ Ok r)) where
-  accepted_at : (files : Files) → w.told ≡ Some files → accepted (file files) words ≡ Ok r
-  accepted_at files t = at_told w.told (λ x. accepted (file x) words ≡ Ok r) files t came
-
-  told_at : (files : Files) → w.told ≡ Some files → TellsClasses (due_of r)
-  told_at files t = accepted_tells_classes (file files) words r (accepted_at files t)
-
-  refusal_at : (s : Status) → is_refusal s ≡ false → ((name : List ℕ) → s ≡ status.FolderFault name → ⊥)
-      → WhereTold w.told (λ files. RefusalHasCause files words w.folder_before w.folder_now s)
-  refusal_at s replay no_fault' = where_told w.told (λ files. RefusalHasCause files words w.folder_before w.folder_now s) (λ files t. record {
-    only = λ refused. absurd (cc);
-    when = subst (λ o. MatchAccepted o (λ x. ⊤) (λ u. (s ≡ u) ⊎ (s ≡ status.Memory) ⊎ Rose w.folder_before w.folder_now)) (sym (accepted_at files t)) tt;
-    reached = λ name e. absurd (no_fault' name e);
-  })
-
+    (came : Leads w.told w.read_before w.read_now (script_of words) (Done r)) where
   abbrev work : ℕ
   work = work_in (replayed r)
 
   abbrev turns : ℕ
   turns = turns_in (replayed r)
 
-  -- what holds of what was accepted
-  at_replay : (P : Replay → Type 0) (Q : Status → Type 0) → P r → WhereTold w.told (λ files. MatchAccepted (accepted (file files) words) P Q)
-  at_replay P Q p = where_told w.told (λ files. MatchAccepted (accepted (file files) words) P Q) (λ files t. subst (λ o. MatchAccepted o P Q) (sym (accepted_at files t)) p)
-
   pub answered_ok : (Tells w.pages → AppendsSuch w.out_before w.out_now (IsWholeOf (command_in words) r) × (w.steps_now ≡ w.steps_before + work)) → Ends words w status.Ok source
   answered_ok whole = record {
-    ok = λ e. at_replay (λ x. Tells w.pages → AppendsSuch w.out_before w.out_now (IsWholeOf (command_in words) x) × (w.steps_now ≡ w.steps_before + work_in (replayed x))) (λ u. ⊥) whole;
+    read = came.0;
+    given = came.2;
+    left = Done r;
+    goes = came.1;
+    ok = λ e. whole;
     other = λ e. absurd (e refl);
     refused_early = λ e. absurd (cc);
     usage = record { only = λ e. absurd (cc); when = λ e. absurd (some_none (command_in words) some e) };
-    refusal = refusal_at status.Ok refl (λ name e. cc);
-    folder = record { failed = λ name e. absurd (cc); too_long = λ name e. absurd (cc) };
+    refusal = refl;
     no_memory = λ e. absurd (cc);
     stopped = tt;
     unchanged = λ pages. refl;
     sink = λ e. absurd (cc);
-    too_much = where_told w.told (λ files. TooMuchHasCause files words w.pages status.Ok) (λ files t e. absurd (cc));
-    complete = λ quiet sound dry.
-        at_replay (λ x. Tells w.pages → turns_in (replayed x) < 2 ^ 62 → (status.Ok ≡ status.Ok) ⊎ (status.Ok ≡ status.Memory)) (λ u. ⊤) (λ pages few. inl refl);
+    too_much = λ e. absurd (cc);
+    complete = λ sound dry pages few. inl refl;
     named = tt;
   }
 
@@ -444,7 +358,7 @@ module _ (words : List (List ℕ)) (w : World) (r : Replay) (source : List ℕ) 
   begun : (s t : Status) → is_refusal s ≡ false → is_refusal t ≡ true → s ≡ t → ⊥
   begun s t is refused same = let both : true ≡ false = sym refused ∙ ap is_refusal (sym same) ∙ is in cc
 
-  names_none : (s : Status) → is_refusal s ≡ false → NamesSource w.told words s source
+  names_none : (s : Status) → is_refusal s ≡ false → NamesSource words came.0 s source
   names_none (status.BadStream number line why) is = absurd (cc)
   names_none s is = tt
 
@@ -466,25 +380,21 @@ module _ (words : List (List ℕ)) (w : World) (r : Replay) (source : List ℕ) 
       → (Tells w.pages → is_changed s ≡ false) → (Tells w.pages → s ≡ status.TooMuch → 2 ^ 62 ≤ turns)
       → (Tells w.pages → AppendsSuch w.out_before w.out_now (IsPrefixOfDue (command_in words) r s) × (w.steps_now ≤ w.steps_before + work)) → Ends words w s source
   answered_cut s cut stop same much first = record {
+    read = came.0;
+    given = came.2;
+    left = Done r;
+    goes = came.1;
     ok = λ e. absurd (cut.no_end e);
-    other = λ e. at_replay (λ x. Tells w.pages → AppendsSuch w.out_before w.out_now (IsPrefixOfDue (command_in words) x s) × (w.steps_now ≤ w.steps_before + work_in (replayed x)))
-        (λ u. (w.out_now ≡ w.out_before) × (w.steps_now ≡ w.steps_before)) first;
+    other = λ e. first;
     refused_early = λ e. let both : true ≡ false = sym e ∙ cut.begun in absurd (cc);
     usage = record { only = λ e. absurd (begun s status.Usage cut.begun refl e); when = λ e. absurd (some_none (command_in words) some e) };
-    refusal = refusal_at s cut.begun (λ name e. begun s (status.FolderFault name) cut.begun refl e);
-    folder = record {
-      failed = λ name e. absurd (begun s (status.FolderFault name) cut.begun refl e);
-      too_long = λ name e. absurd (begun s (status.TooLong name) cut.begun refl e);
-    };
+    refusal = cut.begun;
     no_memory = λ e. begun s (status.BadNetwork net.Memory) cut.begun refl e;
-    stopped = stop_map _ (IsEngineOf w.told words) _ _ _ _ s (λ rose. rose) (λ e is. at_replay (λ x. e.network ≡ x.network) (λ u. ⊥) is) stop;
+    stopped = stop_map _ (IsEngineOf (Done r)) _ _ _ _ s (λ rose. rose) (λ e is. is) stop;
     unchanged = same;
     sink = cut.sink;
-    too_much = where_told w.told (λ files. TooMuchHasCause files words w.pages s)
-        (λ files t e. at_told w.told (λ x. MatchAccepted (accepted (file x) words) (λ y. Tells w.pages → 2 ^ 62 ≤ turns_in (replayed y)) (λ u. ⊥)) files t
-        (at_replay (λ y. Tells w.pages → 2 ^ 62 ≤ turns_in (replayed y)) (λ u. ⊥) (λ pages. much pages e)));
-    complete = λ quiet sound dry. at_replay (λ x. Tells w.pages → turns_in (replayed x) < 2 ^ 62 → (s ≡ status.Ok) ⊎ (s ≡ status.Memory)) (λ u. ⊤)
-        (λ pages few. ends_ok s cut stop (same pages) (much pages) sound dry few);
+    too_much = λ e pages. much pages e;
+    complete = λ sound dry pages few. ends_ok s cut stop (same pages) (much pages) sound dry few;
     named = names_none s cut.begun;
   }
 
@@ -492,24 +402,21 @@ module _ (words : List (List ℕ)) (w : World) (r : Replay) (source : List ℕ) 
 pub memory_ends : (words : List (List ℕ)) (w : World) (s : Status) (source other : List ℕ) → s ≢ status.Ok → s ≢ status.SinkFault → Ends words w s source
     → Ends words w status.Memory other
 memory_ends words w s source other differs dry' h = record {
+  read = h.read;
+  given = h.given;
+  left = h.left;
+  goes = h.goes;
   ok = λ e. absurd (cc);
-  other = λ e. where_told w.told (λ files. AnswersPrefix files words w.pages status.Memory w.out_before w.out_now w.steps_before w.steps_now)
-      (λ files t. prefix_memory files words w.pages s w.out_before w.out_now w.steps_before w.steps_now dry'
-      (at_told w.told (λ x. AnswersPrefix x words w.pages s w.out_before w.out_now w.steps_before w.steps_now) files t (h.other differs)));
+  other = λ e. prefix_memory words w s h.left dry' (h.other differs);
   refused_early = λ e. absurd (cc);
   usage = record { only = λ e. absurd (cc); when = λ e. inr refl };
-  refusal = where_told w.told (λ files. RefusalHasCause files words w.folder_before w.folder_now status.Memory) (λ files t. record {
-    only = λ e. absurd (cc);
-    when = match_each (accepted (file files) words) _ _ (λ x e. tt) (λ u e. inr (inl refl));
-    reached = λ name e. absurd (cc);
-  });
-  folder = record { failed = λ name e. absurd (cc); too_long = λ name e. absurd (cc) };
+  refusal = memory_at w.told w.folder_before w.folder_now w.taken_before w.taken_now h.left;
   no_memory = λ e. absurd (cc);
   stopped = tt;
   unchanged = λ pages. refl;
   sink = λ e. absurd (cc);
-  too_much = where_told w.told (λ files. TooMuchHasCause files words w.pages status.Memory) (λ files t e. absurd (cc));
-  complete = λ quiet sound dry. where_told w.told (λ files. EndsOk files words w.pages status.Memory) (λ files t. match_each (accepted (file files) words) _ _ (λ x e pages few. inr refl) (λ u e. tt));
+  too_much = λ e. absurd (cc);
+  complete = λ sound dry. if_accepted h.left _ _ (λ r e pages few. inr refl) tt;
   named = tt;
 }
 
@@ -519,19 +426,7 @@ pub told_ends : (words : List (List ℕ)) (w : World) (s told : Status) (source 
 told_ends words w s told source differs (inl same) h = subst (λ x. Ends words w x source) (sym same) h
 told_ends words w s told source differs (inr memory) h = subst (λ x. Ends words w x source) (sym memory.0) (memory_ends words w s source source differs memory.1 h)
 
--- a run looks at the files that are told, and what is made at none
-pub files_of_run : (words : List (List ℕ)) (args : RunArgs) (told : Option Files) → command_in words ≡ Some (command.Run args) → files_for words told ≡ told
-files_of_run words args told e = ap (λ c. looked_at c told) e
-
-pub where_run : (words : List (List ℕ)) (args : RunArgs) (told : Option Files) (P : Files → Type 0) → command_in words ≡ Some (command.Run args) → WhereTold told P
-    → WhereTold (files_for words told) P
-where_run words args told P e h = subst (λ t. WhereTold t P) (sym (files_of_run words args told e)) h
-
-pub stopped_run : (words : List (List ℕ)) (args : RunArgs) (told : Option Files) (fb fn tb tn : ℕ) (s : Status) (source : List ℕ) → command_in words ≡ Some (command.Run args)
-    → IsStopped words told fb fn tb tn s source → IsStopped words (files_for words told) fb fn tb tn s source
-stopped_run words args told fb fn tb tn s source e h = subst (λ t. IsStopped words t fb fn tb tn s source) (sym (files_of_run words args told e)) h
-
--- what is made comes to what it is said to, whatever the files
+-- what is made comes to what it is said to, and reads no file
 module _ (words : List (List ℕ)) (number rows : ℕ) (asked : command_in words ≡ Some (command.Gen number rows)) (told : Option Files) where
   script_made : (x : Script) → made_script number (made_of number rows) ≡ x → script_of words ≡ x
   script_made x e = ap after_words asked ∙ e
@@ -539,17 +434,17 @@ module _ (words : List (List ℕ)) (number rows : ℕ) (asked : command_in words
   pub is_made : IsSome (command_in words)
   is_made = rw asked refl
 
-  pub accepted_made : (r : Replay) → made_script number (made_of number rows) ≡ Done r → WhereTold told (λ files. accepted (file files) words ≡ Ok r)
-  accepted_made r e = where_told told (λ files. accepted (file files) words ≡ Ok r) (λ files t. ap (outcome_of (file files)) (script_made (Done r) e))
+  pub accepted_made : (reads : List (List ℕ)) (r : Replay) → made_script number (made_of number rows) ≡ Done r → Leads told reads reads (script_of words) (Done r)
+  accepted_made reads r e = ([], script_made (Done r) e, none_given reads reads refl)
 
-  pub stopped_made : (fb fn tb tn : ℕ) (s : Status) (source : List ℕ) → HasBadMade number rows s source → IsStopped words told fb fn tb tn s source
-  stopped_made fb fn tb tn s source (inl memory) = subst (λ x. IsStopped words told fb fn tb tn x source) (sym memory) (stopped_memory words told fb fn tb tn source)
-  stopped_made fb fn tb tn s source (inr (rule, comes, named)) =
-      stopped_rule words told fb fn tb tn source s rule is_made
-      (subst (λ x. LeadsWhereTold told (script_of words) x) (script_made (Stops s) comes) (told_self told (script_of words)))
-      (names s named)
+  pub stopped_made : (fb fn tb tn : ℕ) (reads : List (List ℕ)) (s : Status) (source : List ℕ) → HasBadMade number rows s source
+      → IsStopped words told fb fn tb tn reads reads s source
+  stopped_made fb fn tb tn reads s source (inl memory) =
+      subst (λ x. IsStopped words told fb fn tb tn reads reads x source) (sym memory)
+      (stopped_memory words told fb fn tb tn reads reads source (script_of words) (leads_self told reads (script_of words)))
+  stopped_made fb fn tb tn reads s source (inr (rule, comes, named)) =
+      stopped_rule words told fb fn tb tn reads reads source s rule is_made ([], script_made (Stops s) comes, none_given reads reads refl) (names s named)
     where
-      names : (s : Status) → NamesMade number rows s source → NamesSource told words s source
-      names (status.BadStream at line why) e =
-          where_told told (λ files. source ≡ source_name (file files) words at) (λ files t. e ∙ sym (ap (λ c. name_at at (network_named (file files) c)) asked))
+      names : (s : Status) → NamesMade number rows s source → NamesSource words [] s source
+      names (status.BadStream at line why) e = e ∙ sym (ap (λ c. name_at at (network_read c [])) asked)
       names s e = tt

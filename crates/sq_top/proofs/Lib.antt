@@ -3,6 +3,7 @@ pub mod OrderLemmas
 pub mod DueLemmas
 pub mod MixedLemmas
 pub mod EndLemmas
+pub mod ToldLemmas
 pub mod NamedLemmas
 pub mod HistoryLemmas
 pub mod RestLemmas
@@ -10,6 +11,7 @@ pub mod DrivingLemmas
 pub mod ReplayLemmas
 mod Rows
 pub mod SortedLines
+pub mod ReadsLemmas
 pub mod StoppedLemmas
 pub mod StopLemmas
 pub mod WritingLemmas

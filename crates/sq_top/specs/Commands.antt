@@ -1,5 +1,5 @@
 -- Which words are a command, and what it asks for.
-use Rattle.std.specs.Prelude.{◌≡◌, ℕ, ◌-◌, ◌^◌, Bool, true, false, ◌&&◌, ◌==◌, nat_le, if◌then◌else◌, List, [], ◌∷◌, Option, Some, None, codes}
+use Rattle.std.specs.Prelude.{ℕ, ◌-◌, ◌^◌, Bool, true, false, ◌&&◌, ◌==◌, nat_le, if◌then◌else◌, List, [], ◌∷◌, Option, Some, None, codes}
 use Rattle.std.specs.List.{list_all, list_any, before_first, after_first}
 use Rattle.std.specs.Option.{option_map, option_and_then}
 use Rattle.sq_value.specs.Lists.{contains_bytes, same_bytes}
@@ -151,7 +151,3 @@ abbrev pub is_run : Option Command → Bool
 is_run None = false
 is_run (Some (command.Run args)) = true
 is_run (Some (command.Gen number rows)) = false
-
--- the words ask for the run of a number's files
-abbrev pub IsGen : Option Command → Type 0
-IsGen c = (number : ℕ) × (rows : ℕ) × (c ≡ Some (command.Gen number rows))

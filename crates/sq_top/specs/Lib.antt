@@ -11,5 +11,7 @@ pub mod Counting
 pub mod Recorded
 pub mod Messages
 pub mod Orders
+pub mod Reads
+pub mod Told
 pub mod Causes
 pub mod Made

@@ -1,6 +1,5 @@
 -- The message of each status.
 use Rattle.std.specs.Prelude.{ℕ, ◌/◌, ◌%◌, false, List, [], ◌∷◌, ◌++◌, codes, Option, Some, None, slice_get, Result, Ok, Err}
-use Rattle.std.specs.Option.{option_and_then}
 use Rattle.std.specs.List.{flat_map}
 use Rattle.std.specs.Fmt.{decimal, digit_glyph}
 use Rattle.sq_expr.specs.declared.What.{What}
@@ -14,16 +13,10 @@ use Rattle.sq_net.specs.declared.Part.TheVariants as part
 use Rattle.sq_net.specs.declared.Place.{Place}
 use Rattle.sq_net.specs.declared.NetErr.{NetErr}
 use Rattle.sq_net.specs.declared.NetErr.TheVariants as net
-use Rattle.sq_reader.specs.Networks.{network_in}
-use Rattle.sq_gen.specs.Files.{made_of}
 use Rattle.sq_replay.specs.declared.why.Why.{Why}
 use Rattle.sq_replay.specs.declared.why.Why.TheVariants as why
-use Rattle.sq_top.specs.declared.Command.{Command}
-use Rattle.sq_top.specs.declared.Command.TheVariants as command
 use Rattle.sq_top.specs.declared.Status.{Status}
 use Rattle.sq_top.specs.declared.Status.TheVariants as status
-use Rattle.sq_top.specs.Commands.{command_in}
-use Rattle.sq_top.specs.Scripts.{Lookup}
 
 abbrev pub why_text : Why → List ℕ
 why_text why.TooMany = codes "TooMany"
@@ -154,15 +147,10 @@ code_of status.TooMuch = 15
 code_of (status.NotAPage page bytes) = 16
 code_of (status.Strange arc item) = 17
 
--- the network that the words and the files lead to, where there is one
+-- the network of a text, where there is one
 abbrev pub network_of : Result Network NetErr → Option Network
 network_of (Ok n) = Some n
 network_of (Err e) = None
-
-abbrev pub network_named : Lookup → Option Command → Option Network
-network_named files None = None
-network_named files (Some (command.Run args)) = option_and_then (λ bytes. network_of (network_in bytes)) (files args.net)
-network_named files (Some (command.Gen number rows)) = network_of (network_in (made_of number rows).net)
 
 -- the name of the source with this number
 abbrev pub name_in : Option Source → List ℕ
@@ -172,6 +160,3 @@ name_in (Some s) = s.name
 abbrev pub name_at : ℕ → Option Network → List ℕ
 name_at number None = []
 name_at number (Some n) = name_in (slice_get n.sources number)
-
-abbrev pub source_name : Lookup → List (List ℕ) → ℕ → List ℕ
-source_name files words number = name_at number (network_named files (command_in words))

@@ -1,27 +1,29 @@
 //! The top call: what the words ask for, done over a folder, a disk and two sinks.
 //!
-//! `run_words` carries the promise of the whole engine, over objects that tell what they hold: a run that ends Ok has
-//! written exactly the lines that belong to each class and taken exactly the steps of its work; any other end leaves a
-//! prefix of each class and has a cause of its own, whatever the schedule and however few pages stay in memory. `drive`
-//! carries the part of it that an engine does. A run of what a number makes is a replay as any other, of which the numbers
-//! of lines are written in their place. Below stand `sq_gen` for what a number makes, `sq_reader` and `sq_replay` for texts,
-//! `sq_core` for the engine, `sq_sched` for schedules, `sq_model` for the answers, the records of what is dropped and the
-//! plans, and `sq_outside` for the objects.
+//! `run_words` carries the promise of the whole engine, by the bytes that the folder's reads gave in that run, and
+//! over a disk and sinks that tell what they hold: a run that ends Ok has written exactly the lines that belong to
+//! each class and taken exactly the steps of its work; any other end leaves a prefix of each class and has a cause of
+//! its own, whatever the schedule and however few pages stay in memory. Where a folder tells its files, they decide
+//! (`told_files_decide`). `drive` carries the part of it that an engine does. A run of what a number makes is a
+//! replay as any other, of which the numbers of lines are written in their place. Below stand `sq_gen` for what a
+//! number makes, `sq_reader` and `sq_replay` for texts, `sq_core` for the engine, `sq_sched` for schedules,
+//! `sq_model` for the answers, the records of what is dropped and the plans, and `sq_outside` for the objects.
 #![tactic(auto)]
 
-ghost use Rattle.std.specs.Prelude.{◌≡◌, ◌≢◌, ◌≤◌, false, is_some, map, true};
+ghost use Rattle.std.specs.Prelude.{◌≡◌, ◌≢◌, ◌≤◌, List, ℕ, false, is_some, map, true};
 ghost use Rattle.std.specs.String.{string_bytes};
 ghost use Rattle.sq_outside.specs.Faults.{Rose};
 ghost use Rattle.sq_net.specs.declared.NetErr.TheVariants as net;
 ghost use Rattle.sq_paged.specs.Fronts.{Tells};
-ghost use Rattle.sq_top.specs.Causes.{AnswersPrefix, AnswersWhole, EndsOk, FolderHasCause, IsEngineOf, IsTold, RefusalHasCause, TooMuchHasCause, UsageHasCause, WhereTold, files_for, is_refusal};
-ghost use Rattle.sq_top.specs.Commands.{IsGen, command_in};
-ghost use Rattle.sq_top.specs.Stopping.{StopHasCause, is_changed};
+ghost use Rattle.sq_top.specs.Causes.{AppendsSuch, Ends, TellsStatus, UsageHasCause, is_refusal};
+ghost use Rattle.sq_top.specs.Commands.{command_in, is_run};
+ghost use Rattle.sq_top.specs.Stopping.{is_changed};
 ghost use Rattle.sq_top.specs.Messages.{code_of};
 
 mod counting;
 mod driving;
 mod generating;
+mod laws;
 mod messages;
 mod reading;
 mod running;
@@ -30,6 +32,7 @@ mod words;
 mod writing;
 
 pub use driving::drive;
+pub use laws::{folders_have_causes, told_files_decide};
 use running::{run, tell};
 use sq_item::Item;
 use sq_net::NetErr;
@@ -175,39 +178,42 @@ pub fn run_words<F: Folder, D: PageDisk, S: Sink, E: Sink, L: Ledger>(
     err: &mut E,
     steps: &mut Steps<L>,
 ) -> Status
-    // At Ok, where the disk tells its pages: each class of lines is whole, or the summary, nothing else was written, and the steps are
-    // the work.
-    ensures ok { result ≡ Status.Ok → WhereTold (files_for (map string_bytes words.now.items) (F.files folder.old)) (λ files.
-        AnswersWhole files (map string_bytes words.now.items) (D.pages disk.old) (S.written out.old) (S.written out.new) steps.old steps.new) }
-    // At any other status, where the disk tells its pages: a prefix of each class, or of the summary, and no more steps than the work.
-    ensures other { result ≢ Status.Ok → WhereTold (files_for (map string_bytes words.now.items) (F.files folder.old)) (λ files.
-        AnswersPrefix files (map string_bytes words.now.items) (D.pages disk.old) result (S.written out.old) (S.written out.new) steps.old steps.new) }
-    // A refusal writes nothing and takes no step, and so does any end where a rule is broken.
-    ensures refused_early { is_refusal result ≡ true → (S.written out.new ≡ S.written out.old) × (steps.new ≡ steps.old) }
+    // By the bytes that the folder's reads gave in this run, in order and no others, which are those of its files where it tells them,
+    // the run came to what is left of the script of its words: all was accepted, a rule is broken, or a file isn't read. By that it
+    // ends, and tells its status.
+    ensures ends { (source : List ℕ) × Ends (map string_bytes words.now.items) (record {
+      told = F.files folder.old;
+      folder_before = F.faults folder.old;
+      folder_now = F.faults folder.new;
+      taken_before = F.taken folder.old;
+      taken_now = F.taken folder.new;
+      read_before = F.read folder.old;
+      read_now = F.read folder.new;
+      pages = D.pages disk.old;
+      disk_before = D.faults disk.old;
+      disk_now = D.faults disk.new;
+      out_before = S.written out.old;
+      out_now = S.written out.new;
+      sink_before = S.faults out.old;
+      sink_now = S.faults out.new;
+      steps_before = steps.old;
+      steps_now = steps.new;
+    })
+        result source
+        × AppendsSuch (E.written err.old) (E.written err.new) (TellsStatus source (E.faults err.old) (E.faults err.new) result) }
 
-    // Each status has its cause.
+    // Of that, what needs no file: a refusal writes nothing and takes no step; the words; the disk; the output.
+    ensures refused_early { is_refusal result ≡ true → (S.written out.new ≡ S.written out.old) × (steps.new ≡ steps.old) }
     ensures usage { UsageHasCause (map string_bytes words.now.items) result }
-    ensures refusal { WhereTold (files_for (map string_bytes words.now.items) (F.files folder.old)) (λ files.
-        RefusalHasCause files (map string_bytes words.now.items) (F.faults folder.old) (F.faults folder.new) result) }
-    ensures folder { FolderHasCause (map string_bytes words.now.items) (files_for (map string_bytes words.now.items) (F.files folder.old)) (F.faults folder.old) (F.faults folder.new)
-        (F.taken folder.old) (F.taken folder.new) result }
     ensures no_memory { result ≢ Status.BadNetwork net.Memory }
-    ensures stopped { StopHasCause (IsEngineOf (files_for (map string_bytes words.now.items) (F.files folder.old)) (map string_bytes words.now.items)) (D.faults disk.old) (D.faults disk.new) result }
     ensures unchanged { Tells (D.pages disk.old) → is_changed result ≡ false }
     ensures sink { result ≡ Status.SinkFault → Rose (S.faults out.old) (S.faults out.new) }
-    ensures too_much { WhereTold (files_for (map string_bytes words.now.items) (F.files folder.old)) (λ files. TooMuchHasCause files (map string_bytes words.now.items) (D.pages disk.old) result) }
-    // Where nothing fails and the disk tells its pages, what is accepted, and isn't too much, ends Ok, but for want of memory.
-    ensures complete { ¬ Rose (F.faults folder.old) (F.faults folder.new) → ¬ Rose (D.faults disk.old) (D.faults disk.new)
-        → ¬ Rose (S.faults out.old) (S.faults out.new)
-        → WhereTold (files_for (map string_bytes words.now.items) (F.files folder.old)) (λ files. EndsOk files (map string_bytes words.now.items) (D.pages disk.old) result) }
 
-    ensures message { IsTold (files_for (map string_bytes words.now.items) (F.files folder.old)) (map string_bytes words.now.items) (E.written err.old) (E.written err.new)
-        (E.faults err.old) (E.faults err.new) result }
-
-    // The files stay, and so does whether the disk tells its pages; a refusal doesn't call the disk, nor does a run of what a number
-    // makes call the folder. No count falls.
+    // The files stay, and so does whether the disk tells its pages; a refusal doesn't call the disk, nor do words call the folder that
+    // don't ask for the run of a network's files. No count falls.
     ensures same_files { F.files folder.new ≡ F.files folder.old }
-    ensures unread { IsGen (command_in (map string_bytes words.now.items)) → (F.faults folder.new ≡ F.faults folder.old) × (F.taken folder.new ≡ F.taken folder.old) }
+    ensures unread { is_run (command_in (map string_bytes words.now.items)) ≡ false → (F.faults folder.new ≡ F.faults folder.old)
+        × (F.taken folder.new ≡ F.taken folder.old) × (F.read folder.new ≡ F.read folder.old) }
     ensures same_disk { is_refusal result ≡ true → (D.pages disk.new ≡ D.pages disk.old) × (D.faults disk.new ≡ D.faults disk.old) }
     ensures tells { is_some (D.pages disk.new) ≡ is_some (D.pages disk.old) }
     ensures later { (F.faults folder.old ≤ F.faults folder.new) × (F.taken folder.old ≤ F.taken folder.new)

@@ -1,15 +1,14 @@
 // The files of a run, read in the order of work.
-ghost use Rattle.std.specs.Prelude.{true, ◌≡◌, ◌⊎◌, ℕ, ◌+◌, ◌^◌, ◌<◌, ◌≤◌, IfOk, IfErr, List, None, Ok, Some, [], length, map};
+ghost use Rattle.std.specs.Prelude.{true, ◌≡◌, ◌⊎◌, ℕ, ◌+◌, ◌++◌, ◌∷◌, ◌^◌, ◌<◌, ◌≤◌, IfOk, IfErr, List, None, Ok, OnErr, Some, [], length, map};
 ghost use Rattle.sq_net.specs.Sound.{IsSound, source_within};
 ghost use Rattle.sq_points.specs.Limits.{KeepsDropLimits};
-ghost use Rattle.sq_outside.specs.Folders.{file};
 ghost use Rattle.sq_replay.specs.Laws.{ReadsStreams};
 ghost use Rattle.sq_replay.specs.Streams.{stream_in};
 ghost use Rattle.sq_top.specs.declared.Command.TheVariants as Command;
 ghost use Rattle.sq_top.specs.Commands.{command_in};
-ghost use Rattle.sq_top.specs.Scripts.{Done, Replay, accepted, after_streams, capacities_script, picks_script, readable, script_of, with_sources};
-ghost use Rattle.sq_top.specs.Causes.{AreCapacitiesOf, ArePicksOf, HasNoCapacities, HasNoPicks, HasBadLine, HasNoStream, HasNoStreams, IsBadLine, IsRefusedBy, IsStopped, IsStreamOf, IsUnread, LeadsWhereTold, WhereTold, source_of};
-ghost use Rattle.sq_top.specs.Messages.{network_named};
+ghost use Rattle.sq_top.specs.Scripts.{Done, Replay, after_streams, capacities_script, picks_script, script_of, with_sources};
+ghost use Rattle.sq_top.specs.Reads.{AreBytesOf, Leads, LeadsWith};
+ghost use Rattle.sq_top.specs.Causes.{AreCapacitiesOf, ArePicksOf, HasNoCapacities, HasNoPicks, HasBadLine, HasNoStream, HasNoStreams, IsBadLine, IsRefusedBy, IsStopped, IsStreamOf, IsUnread, source_of};
 ghost use Rattle.sq_top.specs.Views.{replay_of};
 ghost use Rattle.sq_top.specs.Recorded.{AreRecorded};
 
@@ -36,9 +35,11 @@ fn read_file<F: Folder>(
     name: &Name,
     limit: u64,
 ) -> Result<Vec<u8>, Status>
-    ensures whole { IfOk result (λ bytes. WhereTold (F.files folder.old) (λ files. readable name.now limit (file files name.now) ≡ Ok bytes.items)) }
+    ensures whole { IfOk result (λ bytes. AreBytesOf (F.files folder.old) name.now limit bytes.items) }
     ensures within { IfOk result (λ bytes. length bytes.items ≤ limit) }
     ensures unread { IfErr result (λ s. IsUnread (F.files folder.old) name.now limit (F.faults folder.old) (F.faults folder.new) (F.taken folder.old) (F.taken folder.new) s) }
+    ensures gives { IfOk result (λ bytes. F.read folder.new ≡ F.read folder.old ++ bytes.items ∷ []) }
+    ensures refuses { OnErr result (F.read folder.new ≡ F.read folder.old) }
     ensures files { F.files folder.new ≡ F.files folder.old }
     ensures later { (F.faults folder.old ≤ F.faults folder.new) × (F.taken folder.old ≤ F.taken folder.new) }
 {
@@ -71,11 +72,9 @@ fn network_for<F: Folder>(alloc: Global, args: &RunArgs, folder: &mut F) -> Resu
     ensures sound { IfOk result IsSound }
     ensures limits { IfOk result KeepsDropLimits }
     ensures leads { IfOk result (λ n. (words : List (List ℕ)) → command_in words ≡ Some (Command.Run args.now)
-        → LeadsWhereTold (F.files folder.old) (script_of words) (capacities_script args.now n args.now.capacities)) }
-    ensures named { IfOk result (λ n. (words : List (List ℕ)) → command_in words ≡ Some (Command.Run args.now)
-        → WhereTold (F.files folder.old) (λ files. network_named (file files) (command_in words) ≡ Some n)) }
+        → LeadsWith (F.files folder.old) (F.read folder.old) (F.read folder.new) words n (capacities_script args.now n args.now.capacities)) }
     ensures stopped { IfErr result (λ s. (words : List (List ℕ)) → command_in words ≡ Some (Command.Run args.now)
-        → IsStopped words (F.files folder.old) (F.faults folder.old) (F.faults folder.new) (F.taken folder.old) (F.taken folder.new) s []) }
+        → IsStopped words (F.files folder.old) (F.faults folder.old) (F.faults folder.new) (F.taken folder.old) (F.taken folder.new) (F.read folder.old) (F.read folder.new) s []) }
     ensures files { F.files folder.new ≡ F.files folder.old }
     ensures later { (F.faults folder.old ≤ F.faults folder.new) × (F.taken folder.old ≤ F.taken folder.new) }
 {
@@ -95,8 +94,8 @@ fn capacities_in<F: Folder>(
     name: &Name,
     folder: &mut F,
 ) -> Result<Capacities, Status>
-    ensures capacities { IfOk result (λ c. AreCapacitiesOf (F.files folder.old) (Some name.now) c) }
-    ensures missing { IfErr result (λ s. HasNoCapacities (F.files folder.old) (Some name.now) (F.faults folder.old) (F.faults folder.new) (F.taken folder.old) (F.taken folder.new) s) }
+    ensures capacities { IfOk result (λ c. AreCapacitiesOf (F.files folder.old) (F.read folder.old) (F.read folder.new) (Some name.now) c) }
+    ensures missing { IfErr result (λ s. HasNoCapacities (F.files folder.old) (Some name.now) (F.faults folder.old) (F.faults folder.new) (F.taken folder.old) (F.taken folder.new) (F.read folder.old) (F.read folder.new) s) }
     ensures files { F.files folder.new ≡ F.files folder.old }
     ensures later { (F.faults folder.old ≤ F.faults folder.new) × (F.taken folder.old ≤ F.taken folder.new) }
 {
@@ -117,8 +116,8 @@ fn capacities_for<F: Folder>(
     name: &Option<Name>,
     folder: &mut F,
 ) -> Result<Capacities, Status>
-    ensures capacities { IfOk result (λ c. AreCapacitiesOf (F.files folder.old) name.now c) }
-    ensures missing { IfErr result (λ s. HasNoCapacities (F.files folder.old) name.now (F.faults folder.old) (F.faults folder.new) (F.taken folder.old) (F.taken folder.new) s) }
+    ensures capacities { IfOk result (λ c. AreCapacitiesOf (F.files folder.old) (F.read folder.old) (F.read folder.new) name.now c) }
+    ensures missing { IfErr result (λ s. HasNoCapacities (F.files folder.old) name.now (F.faults folder.old) (F.faults folder.new) (F.taken folder.old) (F.taken folder.new) (F.read folder.old) (F.read folder.new) s) }
     ensures files { F.files folder.new ≡ F.files folder.old }
     ensures later { (F.faults folder.old ≤ F.faults folder.new) × (F.taken folder.old ≤ F.taken folder.new) }
 {
@@ -137,11 +136,9 @@ fn limits_for<F: Folder>(
     ensures sound { IfOk result (λ r. IsSound r.0) }
     ensures limits { IfOk result (λ r. KeepsDropLimits r.0) }
     ensures leads { IfOk result (λ r. (words : List (List ℕ)) → command_in words ≡ Some (Command.Run args.now)
-        → LeadsWhereTold (F.files folder.old) (script_of words) (picks_script args.now r.0 r.1 args.now.picks)) }
-    ensures named { IfOk result (λ r. (words : List (List ℕ)) → command_in words ≡ Some (Command.Run args.now)
-        → WhereTold (F.files folder.old) (λ files. network_named (file files) (command_in words) ≡ Some r.0)) }
+        → LeadsWith (F.files folder.old) (F.read folder.old) (F.read folder.new) words r.0 (picks_script args.now r.0 r.1 args.now.picks)) }
     ensures stopped { IfErr result (λ s. (words : List (List ℕ)) → command_in words ≡ Some (Command.Run args.now)
-        → IsStopped words (F.files folder.old) (F.faults folder.old) (F.faults folder.new) (F.taken folder.old) (F.taken folder.new) s []) }
+        → IsStopped words (F.files folder.old) (F.faults folder.old) (F.faults folder.new) (F.taken folder.old) (F.taken folder.new) (F.read folder.old) (F.read folder.new) s []) }
     ensures files { F.files folder.new ≡ F.files folder.old }
     ensures later { (F.faults folder.old ≤ F.faults folder.new) × (F.taken folder.old ≤ F.taken folder.new) }
 {
@@ -157,8 +154,8 @@ fn limits_for<F: Folder>(
 
 /// The picks of the file with this name, or the status of a run that doesn't get them.
 fn picks_in<F: Folder>(alloc: Global, name: &Name, folder: &mut F) -> Result<Vec<u32>, Status>
-    ensures picks { IfOk result (λ v. ArePicksOf (F.files folder.old) (Some name.now) v.items) }
-    ensures missing { IfErr result (λ s. HasNoPicks (F.files folder.old) (Some name.now) (F.faults folder.old) (F.faults folder.new) (F.taken folder.old) (F.taken folder.new) s) }
+    ensures picks { IfOk result (λ v. ArePicksOf (F.files folder.old) (F.read folder.old) (F.read folder.new) (Some name.now) v.items) }
+    ensures missing { IfErr result (λ s. HasNoPicks (F.files folder.old) (Some name.now) (F.faults folder.old) (F.faults folder.new) (F.taken folder.old) (F.taken folder.new) (F.read folder.old) (F.read folder.new) s) }
     ensures files { F.files folder.new ≡ F.files folder.old }
     ensures later { (F.faults folder.old ≤ F.faults folder.new) × (F.taken folder.old ≤ F.taken folder.new) }
 {
@@ -179,8 +176,8 @@ fn picks_for<F: Folder>(
     name: &Option<Name>,
     folder: &mut F,
 ) -> Result<Vec<u32>, Status>
-    ensures picks { IfOk result (λ v. ArePicksOf (F.files folder.old) name.now v.items) }
-    ensures missing { IfErr result (λ s. HasNoPicks (F.files folder.old) name.now (F.faults folder.old) (F.faults folder.new) (F.taken folder.old) (F.taken folder.new) s) }
+    ensures picks { IfOk result (λ v. ArePicksOf (F.files folder.old) (F.read folder.old) (F.read folder.new) name.now v.items) }
+    ensures missing { IfErr result (λ s. HasNoPicks (F.files folder.old) name.now (F.faults folder.old) (F.faults folder.new) (F.taken folder.old) (F.taken folder.new) (F.read folder.old) (F.read folder.new) s) }
     ensures files { F.files folder.new ≡ F.files folder.old }
     ensures later { (F.faults folder.old ≤ F.faults folder.new) × (F.taken folder.old ≤ F.taken folder.new) }
 {
@@ -252,9 +249,9 @@ fn stream_of<F: Folder>(
     folder: &mut F,
 ) -> Result<Vec<Tuple>, Stopped>
     requires within { source_within source.now ≡ true }
-    ensures stream { IfOk result (λ xs. IsStreamOf (F.files folder.old) source.now xs.items) }
+    ensures stream { IfOk result (λ xs. IsStreamOf (F.files folder.old) (F.read folder.old) (F.read folder.new) source.now xs.items) }
     ensures recorded { IfOk result (λ xs. ReadsStreams source.now.schema xs.items) }
-    ensures stopped { IfErr result (λ s. HasNoStream (F.files folder.old) number source.now (F.faults folder.old) (F.faults folder.new) (F.taken folder.old) (F.taken folder.new) s.status (source_of s.source)) }
+    ensures stopped { IfErr result (λ s. HasNoStream (F.files folder.old) number source.now (F.faults folder.old) (F.faults folder.new) (F.taken folder.old) (F.taken folder.new) (F.read folder.old) (F.read folder.new) s.status (source_of s.source)) }
     ensures files { F.files folder.new ≡ F.files folder.old }
     ensures later { (F.faults folder.old ≤ F.faults folder.new) × (F.taken folder.old ≤ F.taken folder.new) }
 {
@@ -272,9 +269,9 @@ fn streams_of<F: Folder>(
     folder: &mut F,
 ) -> Result<Vec<Vec<Tuple>>, Stopped>
     requires { IsSound network.now }
-    ensures leads { IfOk result (λ v. (r : Replay) → LeadsWhereTold (F.files folder.old) (after_streams (with_sources r []) network.now.sources) (Done (with_sources r (map (λ xs. xs.items) v.items)))) }
+    ensures leads { IfOk result (λ v. (r : Replay) → Leads (F.files folder.old) (F.read folder.old) (F.read folder.new) (after_streams (with_sources r []) network.now.sources) (Done (with_sources r (map (λ xs. xs.items) v.items)))) }
     ensures recorded { IfOk result (λ v. AreRecorded network.now.sources (map (λ xs. xs.items) v.items)) }
-    ensures stopped { IfErr result (λ s. (r : Replay) → HasNoStreams (F.files folder.old) (with_sources r []) network.now.sources (F.faults folder.old) (F.faults folder.new) (F.taken folder.old) (F.taken folder.new) s.status (source_of s.source)) }
+    ensures stopped { IfErr result (λ s. (r : Replay) → HasNoStreams (F.files folder.old) (with_sources r []) network.now.sources (F.faults folder.old) (F.faults folder.new) (F.taken folder.old) (F.taken folder.new) (F.read folder.old) (F.read folder.new) s.status (source_of s.source)) }
     ensures files { F.files folder.new ≡ F.files folder.old }
     ensures later { (F.faults folder.old ≤ F.faults folder.new) × (F.taken folder.old ≤ F.taken folder.new) }
 {
@@ -316,9 +313,9 @@ pub fn prepare<F: Folder>(alloc: Global, args: RunArgs, folder: &mut F) -> Resul
     ensures train { IfOk result (λ a. 1 ≤ a.train) }
     ensures frames { IfOk result (λ a. 2 ≤ a.frames) }
     ensures accepted { IfOk result (λ a. (words : List (List ℕ)) → command_in words ≡ Some (Command.Run args)
-        → WhereTold (F.files folder.old) (λ files. accepted (file files) words ≡ Ok (replay_of a))) }
+        → Leads (F.files folder.old) (F.read folder.old) (F.read folder.new) (script_of words) (Done (replay_of a))) }
     ensures stopped { IfErr result (λ s. (words : List (List ℕ)) → command_in words ≡ Some (Command.Run args)
-        → IsStopped words (F.files folder.old) (F.faults folder.old) (F.faults folder.new) (F.taken folder.old) (F.taken folder.new) s.status (source_of s.source)) }
+        → IsStopped words (F.files folder.old) (F.faults folder.old) (F.faults folder.new) (F.taken folder.old) (F.taken folder.new) (F.read folder.old) (F.read folder.new) s.status (source_of s.source)) }
     ensures files { F.files folder.new ≡ F.files folder.old }
     ensures later { (F.faults folder.old ≤ F.faults folder.new) × (F.taken folder.old ≤ F.taken folder.new) }
 {

@@ -10,8 +10,8 @@ ghost use Rattle.sq_outside.specs.Disks.{Pages};
 ghost use Rattle.sq_paged.specs.Fronts.{Tells};
 ghost use Rattle.sq_core.specs.Runs.{IsRun, IsSoundEngine};
 ghost use Rattle.sq_top.specs.Answers.{IsPrefixText, IsWholeText};
-ghost use Rattle.sq_top.specs.Commands.{IsGen, command_in};
-ghost use Rattle.sq_top.specs.Causes.{AppendsSuch, BeginsSummary, Ends, TellsStatus, files_for, is_refusal, source_of};
+ghost use Rattle.sq_top.specs.Commands.{command_in, is_run};
+ghost use Rattle.sq_top.specs.Causes.{AppendsSuch, BeginsSummary, Ends, TellsStatus, is_refusal, source_of};
 ghost use Rattle.sq_top.specs.Summaries.{summary_of};
 ghost use Rattle.sq_top.specs.Stopping.{StopHasCause, is_changed};
 ghost use Rattle.sq_top.specs.Driving.{IsCutShort};
@@ -143,11 +143,13 @@ fn run_files<F: Folder, D: PageDisk, S: Sink, L: Ledger>(
     requires train { 1 ≤ args.train }
     requires frames { 2 ≤ args.frames }
     ensures ends { (words : List (List ℕ)) → command_in words ≡ Some (Command.Run args) → Ends words (record {
-      told = files_for words (F.files folder.old);
+      told = F.files folder.old;
       folder_before = F.faults folder.old;
       folder_now = F.faults folder.new;
       taken_before = F.taken folder.old;
       taken_now = F.taken folder.new;
+      read_before = F.read folder.old;
+      read_now = F.read folder.new;
       pages = D.pages disk.old;
       disk_before = D.faults disk.old;
       disk_now = D.faults disk.new;
@@ -192,12 +194,14 @@ fn run_made<D: PageDisk, S: Sink, L: Ledger>(
 ) -> Stopped
     requires some { 1 ≤ rows }
     requires bound { rows ≤ 1000000 }
-    ensures ends { (words : List (List ℕ)) (told : Option Files) (faults taken : ℕ) → command_in words ≡ Some (Command.Gen number rows) → Ends words (record {
-      told = files_for words told;
+    ensures ends { (words : List (List ℕ)) (told : Option Files) (faults taken : ℕ) (reads : List (List ℕ)) → command_in words ≡ Some (Command.Gen number rows) → Ends words (record {
+      told = told;
       folder_before = faults;
       folder_now = faults;
       taken_before = taken;
       taken_now = taken;
+      read_before = reads;
+      read_now = reads;
       pages = D.pages disk.old;
       disk_before = D.faults disk.old;
       disk_now = D.faults disk.new;
@@ -239,11 +243,13 @@ pub fn run<F: Folder, D: PageDisk, S: Sink, L: Ledger>(
     steps: &mut Steps<L>,
 ) -> Stopped
     ensures ends { Ends (map string_bytes words.now.items) (record {
-      told = files_for (map string_bytes words.now.items) (F.files folder.old);
+      told = F.files folder.old;
       folder_before = F.faults folder.old;
       folder_now = F.faults folder.new;
       taken_before = F.taken folder.old;
       taken_now = F.taken folder.new;
+      read_before = F.read folder.old;
+      read_now = F.read folder.new;
       pages = D.pages disk.old;
       disk_before = D.faults disk.old;
       disk_now = D.faults disk.new;
@@ -256,7 +262,8 @@ pub fn run<F: Folder, D: PageDisk, S: Sink, L: Ledger>(
     })
         result.status (source_of result.source) }
     ensures files { F.files folder.new ≡ F.files folder.old }
-    ensures unread { IsGen (command_in (map string_bytes words.now.items)) → (F.faults folder.new ≡ F.faults folder.old) × (F.taken folder.new ≡ F.taken folder.old) }
+    ensures unread { is_run (command_in (map string_bytes words.now.items)) ≡ false → (F.faults folder.new ≡ F.faults folder.old)
+        × (F.taken folder.new ≡ F.taken folder.old) × (F.read folder.new ≡ F.read folder.old) }
     ensures disk { is_refusal result.status ≡ true → (D.pages disk.new ≡ D.pages disk.old) × (D.faults disk.new ≡ D.faults disk.old) }
     ensures tells { is_some (D.pages disk.new) ≡ is_some (D.pages disk.old) }
     ensures later { (F.faults folder.old ≤ F.faults folder.new) × (F.taken folder.old ≤ F.taken folder.new)

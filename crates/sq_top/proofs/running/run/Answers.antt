@@ -1,8 +1,11 @@
-use Rattle.std.proofs.Common.{ap, map, refl, ◌∙◌, Some}
+use Rattle.std.proofs.Common.{◌≡◌, None, ap, map, refl, rules, ◌∙◌, Some}
 use Rattle.std.specs.String.{string_bytes}
 use Rattle.sq_top.specs.declared.Command.{Command}
+use Rattle.sq_top.specs.Commands.{command_in}
+use Rattle.sq_top.specs.Scripts.{script_of}
 use Rattle.sq_top.proofs.EndLemmas.{stopped_ends}
-use Rattle.sq_top.proofs.StoppedLemmas.{stopped_memory}
+use Rattle.sq_top.proofs.ReadsLemmas.{leads_self}
+use Rattle.sq_top.proofs.StoppedLemmas.{stopped_memory, stopped_usage}
 use Rattle.sq_top.proofs.TrainLemmas.{command_least, gen_rows}
 use Rattle.sq_top.proofs.running.run.Goals as goal
 
@@ -25,9 +28,16 @@ run_made-requires-clause-bound g c =
 pub returns-in-Ok-Gen-clause-ends : goal.returns-in-Ok-Gen-clause-ends
 returns-in-Ok-Gen-clause-ends g c =
     c.run_made.ensures.ends (map string_bytes c.args.words.now.items) (g.F.Folder.files c.args.folder.now) (g.F.Folder.faults c.args.folder.now) (g.F.Folder.taken c.args.folder.now)
-    (c.in-Ok-Gen.ensures.command ∙ ap (λ (x : Command). Some x) c.in-Ok-Gen.field-0-is)
+    (g.F.Folder.read c.args.folder.now) (c.in-Ok-Gen.ensures.command ∙ ap (λ (x : Command). Some x) c.in-Ok-Gen.field-0-is)
+
+pub returns-in-Err-Usage-clause-ends : goal.returns-in-Err-Usage-clause-ends
+returns-in-Err-Usage-clause-ends g c =
+    let none : command_in (map string_bytes c.args.words.now.items) ≡ None = search rules in
+    rw (c.stopped_by.ensures.0, c.stopped_by.ensures.1)
+    (stopped_ends _ _ _ _ (stopped_usage (map string_bytes c.args.words.now.items) _ _ _ _ _ (g.F.Folder.read c.args.folder.now) _ _ refl none) refl refl)
 
 pub returns-in-Err-Memory-clause-ends : goal.returns-in-Err-Memory-clause-ends
 returns-in-Err-Memory-clause-ends g c =
     rw (c.stopped_by-in-Err-Memory.ensures.0, c.stopped_by-in-Err-Memory.ensures.1)
-    (stopped_ends _ _ _ _ (stopped_memory (map string_bytes c.args.words.now.items) _ _ _ _ _ _) refl refl)
+    (stopped_ends _ _ _ _ (stopped_memory (map string_bytes c.args.words.now.items) _ _ _ _ _ _ _ _ (script_of (map string_bytes c.args.words.now.items))
+    (leads_self (g.F.Folder.files c.args.folder.now) (g.F.Folder.read c.args.folder.now) (script_of (map string_bytes c.args.words.now.items)))) refl refl)

@@ -1,23 +1,23 @@
 use Rattle.std.proofs.Common.{◌≡◌, true, false, refl, sym, ◌∙◌}
 use Rattle.sq_top.specs.Views.{replay_of}
-use Rattle.sq_top.proofs.EndLemmas.{answered_cut, answered_ok, prefix_of_run, stopped_ends, stopped_run, where_run, whole_of_run}
+use Rattle.sq_top.proofs.EndLemmas.{answered_cut, answered_ok, prefix_of_run, stopped_ends, whole_of_run}
 use Rattle.sq_top.proofs.StoppedLemmas.{is_command}
 use Rattle.sq_top.proofs.running.run_files.Goals as goal
 
 pub returns-in-Err-clause-ends : goal.returns-in-Err-clause-ends
 returns-in-Err-clause-ends g c words asked =
-    stopped_ends _ _ c.in-Err.stopped.status _ (stopped_run words c.args.args _ _ _ _ _ _ _ asked (c.in-Err.ensures.stopped words asked)) refl refl
+    stopped_ends _ _ c.in-Err.stopped.status _ (c.in-Err.ensures.stopped words asked) refl refl
 
 pub returns-in-Ok-replay-clause-ends : goal.returns-in-Ok-replay-clause-ends
 returns-in-Ok-replay-clause-ends g c words asked =
     let told = g.F.Folder.files c.args.folder.now in
-    answered_ok _ _ (replay_of c.in-Ok.accepted) _ (is_command words c.args.args asked told) (where_run words c.args.args told _ asked (c.in-Ok.ensures.accepted words asked))
+    answered_ok _ _ (replay_of c.in-Ok.accepted) _ (is_command words c.args.args asked told) (c.in-Ok.ensures.accepted words asked)
     (λ tells. (whole_of_run _ c.args.args _ _ _ asked (c.in-Ok-replay.ensures.ok tells), c.in-Ok-replay.ensures.steps tells))
 
 pub returns-in-Err-replay-clause-ends : goal.returns-in-Err-replay-clause-ends
 returns-in-Err-replay-clause-ends g c words asked =
     let told = g.F.Folder.files c.args.folder.now in
-    answered_cut _ _ (replay_of c.in-Ok.accepted) _ (is_command words c.args.args asked told) (where_run words c.args.args told _ asked (c.in-Ok.ensures.accepted words asked)) c.in-Err-replay.status
+    answered_cut _ _ (replay_of c.in-Ok.accepted) _ (is_command words c.args.args asked told) (c.in-Ok.ensures.accepted words asked) c.in-Err-replay.status
     c.in-Err-replay.ensures.cut c.in-Err-replay.ensures.stopped c.in-Err-replay.ensures.unchanged c.in-Err-replay.ensures.too_much
     (λ tells. (prefix_of_run _ c.args.args _ c.in-Err-replay.status _ _ asked (c.in-Err-replay.ensures.err tells), c.in-Err-replay.ensures.fewer tells))
 

@@ -1,0 +1,173 @@
+-- How the script of a run goes on by what is read, and what each step of it keeps.
+use Rattle.std.proofs.Common.{◌≡◌, ℕ, true, false, List, [], ◌∷◌, ◌++◌, length, refl, ap, sym, ◌∙◌, subst, append_assoc, append-nil, Option, None, Some}
+use Rattle.std.specs.Prelude.{Result, Ok, Err, Bool}
+use Rattle.sq_value.specs.declared.Tuple.{Tuple}
+use Rattle.sq_value.proofs.ListLemmas.{same_bytes-refl}
+use Rattle.sq_outside.specs.Folders.{Files}
+use Rattle.sq_net.specs.declared.NetErr.{NetErr}
+use Rattle.sq_net.specs.declared.Network.{Network}
+use Rattle.sq_net.specs.declared.Source.{Source}
+use Rattle.sq_plan.specs.Plans.{Entries}
+use Rattle.sq_reader.specs.Networks.{network_in}
+use Rattle.sq_replay.specs.declared.why.Why.{Why}
+use Rattle.sq_replay.specs.Entries.{capacities_in, picks_in}
+use Rattle.sq_replay.specs.Streams.{stream_in}
+use Rattle.sq_gen.specs.declared.Made.{Made}
+use Rattle.sq_gen.specs.Files.{made_of}
+use Rattle.sq_top.specs.declared.Command.{Command}
+use Rattle.sq_top.specs.declared.Command.TheVariants as command
+use Rattle.sq_top.specs.declared.RunArgs.{RunArgs}
+use Rattle.sq_top.specs.declared.Status.{Status}
+use Rattle.sq_top.specs.declared.Status.TheVariants as status
+use Rattle.sq_top.specs.Commands.{command_in, is_run}
+use Rattle.sq_top.specs.Scripts.{Replay, Script, Reads, Done, Stops, after_capacities, after_network, after_picks, after_stream, after_streams, after_words, capacities_script, made_limits, made_sources, made_streams, made_unread, picks_script, script_of, unread, with_sources}
+use Rattle.sq_top.specs.Reads.{GoesBy, IsRead, Leads, LeadsWith, network_read}
+use Rattle.sq_top.specs.Told.{FilePart, NetworkFile, CapacityFile, PicksFile, StreamFile, is_named, limit_of, may_be}
+
+pub goes_then : (told : Option Files) (read more : List (List ℕ)) (a b c : Script) → GoesBy told read a b → GoesBy told more b c → GoesBy told (read ++ more) a c
+goes_then told [] more a b c ab bc = subst (λ x. GoesBy told more x c) (sym ab) bc
+goes_then told (bytes ∷ read) more (Reads name limit next) b c ab bc = (ab.0, goes_then told read more (next bytes) b c ab.1 bc)
+goes_then told (bytes ∷ read) more (Done r) b c ab bc = absurd ab
+goes_then told (bytes ∷ read) more (Stops s) b c ab bc = absurd ab
+
+-- where no read gave anything since
+pub none_given : (before now : List (List ℕ)) → now ≡ before → now ≡ before ++ []
+none_given before now same = same ∙ sym (append-nil before)
+
+pub given_then : (before mid now read more : List (List ℕ)) → mid ≡ before ++ read → now ≡ mid ++ more → now ≡ before ++ (read ++ more)
+given_then before mid now read more first next = next ∙ ap (λ (xs : List (List ℕ)). xs ++ more) first ∙ append_assoc before read more
+
+pub leads_self : (told : Option Files) (before : List (List ℕ)) (s : Script) → Leads told before before s s
+leads_self told before s = ([], refl, none_given before before refl)
+
+pub leads_still : (told : Option Files) (before mid now : List (List ℕ)) (a b : Script) → Leads told before mid a b → now ≡ mid → Leads told before now a b
+leads_still told before mid now a b ab same = (ab.0, ab.1, same ∙ ab.2)
+
+pub leads_then : (told : Option Files) (before mid now : List (List ℕ)) (a b c : Script) → Leads told before mid a b → Leads told mid now b c → Leads told before now a c
+leads_then told before mid now a b c ab bc = (ab.0 ++ bc.0, goes_then told ab.0 bc.0 a b c ab.1 bc.1, given_then before mid now ab.0 bc.0 ab.2 bc.2)
+
+pub leads_read : (told : Option Files) (name : List ℕ) (limit : ℕ) (more : List ℕ → Script) (before now : List (List ℕ)) (bytes : List ℕ)
+    → IsRead told name limit before now bytes → Leads told before now (Reads name limit more) (more bytes)
+leads_read told name limit more before now bytes got = (bytes ∷ [], (got.0, refl), got.1)
+
+-- the network was read first
+network_stays : (c : Option Command) (n : Network) (read more : List (List ℕ)) → network_read c read ≡ Some n → network_read c (read ++ more) ≡ Some n
+network_stays None n read more e = absurd (cc)
+network_stays (Some (command.Run args)) n [] more e = absurd (cc)
+network_stays (Some (command.Run args)) n (bytes ∷ read) more e = e
+network_stays (Some (command.Gen number rows)) n read more e = e
+
+pub with_then : (told : Option Files) (words : List (List ℕ)) (n : Network) (before mid now : List (List ℕ)) (a b : Script) → LeadsWith told before mid words n a → Leads told mid now a b
+    → LeadsWith told before now words n b
+with_then told words n before mid now a b wa ab = (
+  wa.0 ++ ab.0,
+  goes_then told wa.0 ab.0 (script_of words) a b wa.1 ab.1,
+  network_stays (command_in words) n wa.0 ab.0 wa.2,
+  given_then before mid now wa.0 ab.0 wa.3 ab.2,
+)
+
+-- the words lead there, whatever the network is
+pub words_lead : (told : Option Files) (words : List (List ℕ)) (n : Network) (before now : List (List ℕ)) (a : Script) → LeadsWith told before now words n a
+    → Leads told before now (script_of words) a
+words_lead told words n before now a wa = (wa.0, wa.1, wa.3)
+
+-- P of what is accepted in the end, Q of each rule and R of each file, whatever is read
+abbrev pub Holds : (Replay → Type 0) → (Status → Type 0) → (List ℕ → ℕ → Type 0) → Script → Type 0
+Holds P Q R (Reads name limit more) = R name limit × ((bytes : List ℕ) → Holds P Q R (more bytes))
+Holds P Q R (Done r) = P r
+Holds P Q R (Stops s) = Q s
+
+pub goes_holds : (P : Replay → Type 0) (Q : Status → Type 0) (R : List ℕ → ℕ → Type 0) (told : Option Files) (read : List (List ℕ)) (from to : Script)
+    → GoesBy told read from to → Holds P Q R from → Holds P Q R to
+goes_holds P Q R told [] from to goes holds = subst (Holds P Q R) goes holds
+goes_holds P Q R told (bytes ∷ read) (Reads name limit more) to goes holds = goes_holds P Q R told read (more bytes) to goes.1 (holds.1 bytes)
+goes_holds P Q R told (bytes ∷ read) (Done r) to goes holds = absurd goes
+goes_holds P Q R told (bytes ∷ read) (Stops s) to goes holds = absurd goes
+
+-- what is accepted is the network of a file
+abbrev pub IsFileOf : Network → Type 0
+IsFileOf n = (bytes : List ℕ) × (network_in bytes ≡ Ok n)
+
+-- the rules that words and files may break
+abbrev pub is_rule : Status → Bool
+is_rule status.Usage = true
+is_rule (status.BadNetwork e) = true
+is_rule (status.BadCapacities line) = true
+is_rule (status.BadPicks line) = true
+is_rule (status.BadStream number line why) = true
+is_rule s = false
+
+-- a file of this name has a part in what a command asks for, and no more bytes than that part may have
+abbrev pub IsPartOf : Option Command → List ℕ → ℕ → Type 0
+IsPartOf c name limit = (p : FilePart) × (may_be c p name ≡ true) × (limit ≡ limit_of p)
+
+abbrev pub HoldsFor : Option Command → Script → Type 0
+HoldsFor c s = Holds (λ r. IsFileOf r.network) (λ t. is_rule t ≡ true) (IsPartOf c) s
+
+stream_holds : (c : Option Command) (number : ℕ) (more : List Tuple → Script) (o : Result (List Tuple) (ℕ × Why)) → ((xs : List Tuple) → HoldsFor c (more xs))
+    → HoldsFor c (after_stream number more o)
+stream_holds c number more (Ok xs) rest = rest xs
+stream_holds c number more (Err e) rest = refl
+
+streams_hold : (c : Option Command) → is_run c ≡ true → (p : Replay) (left : List Source) → IsFileOf p.network → HoldsFor c (after_streams p left)
+streams_hold c run p [] f = f
+streams_hold c run p (s ∷ left) f = (
+  (StreamFile, run, refl),
+  λ bytes. stream_holds c (length p.sources) (λ xs. after_streams (with_sources p (p.sources ++ xs ∷ [])) left) (stream_in s.schema bytes)
+      (λ xs. streams_hold c run (with_sources p (p.sources ++ xs ∷ [])) left f),
+)
+
+module _ (args : RunArgs) (n : Network) (f : IsFileOf n) where
+  abbrev asked : Option Command
+  asked = Some (command.Run args)
+
+  named_self : (o : Option (List ℕ)) (name : List ℕ) → o ≡ Some name → is_named o name ≡ true
+  named_self o name is = subst (λ x. is_named x name ≡ true) (sym is) (same_bytes-refl name)
+
+  picks_hold : (entries : Entries) (o : Result (List ℕ) ℕ) → HoldsFor asked (after_picks args n entries o)
+  picks_hold entries (Ok picks) = streams_hold asked refl (unread args n entries picks) n.sources f
+  picks_hold entries (Err line) = refl
+
+  picked_hold : (entries : Entries) (o : Option (List ℕ)) → args.picks ≡ o → HoldsFor asked (picks_script args n entries o)
+  picked_hold entries None is = picks_hold entries (Ok [])
+  picked_hold entries (Some name) is = ((PicksFile, named_self args.picks name is, refl), λ bytes. picks_hold entries (picks_in bytes))
+
+  capacities_hold : (o : Result Entries ℕ) → HoldsFor asked (after_capacities args n o)
+  capacities_hold (Ok entries) = picked_hold entries args.picks refl
+  capacities_hold (Err line) = refl
+
+  limited_hold : (o : Option (List ℕ)) → args.capacities ≡ o → HoldsFor asked (capacities_script args n o)
+  limited_hold None is = capacities_hold (Ok [])
+  limited_hold (Some name) is = ((CapacityFile, named_self args.capacities name is, refl), λ bytes. capacities_hold (capacities_in bytes))
+
+network_holds : (args : RunArgs) (bytes : List ℕ) (o : Result Network NetErr) → network_in bytes ≡ o → HoldsFor (Some (command.Run args)) (after_network args o)
+network_holds args bytes (Ok n) said = limited_hold args n (bytes, said) args.capacities refl
+network_holds args bytes (Err e) said = refl
+
+-- and what is made
+made_streams_hold : (c : Option Command) (stream : List ℕ) (p : Replay) (left : List Source) → IsFileOf p.network → HoldsFor c (made_streams stream p left)
+made_streams_hold c stream p [] f = f
+made_streams_hold c stream p (s ∷ left) f =
+    stream_holds c (length p.sources) (λ xs. made_streams stream (with_sources p (p.sources ++ xs ∷ [])) left) (stream_in s.schema stream)
+    (λ xs. made_streams_hold c stream (with_sources p (p.sources ++ xs ∷ [])) left f)
+
+made_sources_hold : (c : Option Command) (number : ℕ) (stream : List ℕ) (n : Network) (o : Result Entries ℕ) → IsFileOf n → HoldsFor c (made_sources number stream n o)
+made_sources_hold c number stream n (Ok entries) f = made_streams_hold c stream (made_unread number n entries) n.sources f
+made_sources_hold c number stream n (Err line) f = refl
+
+made_holds : (c : Option Command) (number : ℕ) (made : Made) (o : Result Network NetErr) → network_in made.net ≡ o → HoldsFor c (made_limits number made o)
+made_holds c number made (Ok n) said = made_sources_hold c number made.stream n (capacities_in made.capacities) (made.net, said)
+made_holds c number made (Err e) said = refl
+
+command_holds : (c : Option Command) → HoldsFor c (after_words c)
+command_holds None = refl
+command_holds (Some (command.Run args)) = ((NetworkFile, same_bytes-refl args.net, refl), λ bytes. network_holds args bytes (network_in bytes) refl)
+command_holds (Some (command.Gen number rows)) = made_holds (Some (command.Gen number rows)) number (made_of number rows) (network_in (made_of number rows).net) refl
+
+pub script_holds : (words : List (List ℕ)) → HoldsFor (command_in words) (script_of words)
+script_holds words = command_holds (command_in words)
+
+-- what is left of a script of words
+pub left_holds : (told : Option Files) (words read : List (List ℕ)) (left : Script) → GoesBy told read (script_of words) left → HoldsFor (command_in words) left
+left_holds told words read left goes =
+    goes_holds (λ r. IsFileOf r.network) (λ t. is_rule t ≡ true) (IsPartOf (command_in words)) told read (script_of words) left goes (script_holds words)

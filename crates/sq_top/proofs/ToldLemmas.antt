@@ -1,0 +1,320 @@
+-- Where files are told, a run reads what is told, and so what is left of its script comes to what words and files come to.
+use Rattle.std.proofs.Common.{◌≡◌, ◌≢◌, ◌⊎◌, inl, inr, ℕ, ◌+◌, ◌^◌, ◌<◌, ◌≤◌, Bool, true, false, ◌||◌, List, [], ◌∷◌, length, refl, ap, sym, ◌∙◌, subst, arith, Option, None, Some}
+use Rattle.std.specs.Prelude.{⊤, nat_lt, IsSome, IsSomeAnd, Result, Ok, Err}
+use Rattle.std.specs.Option.{option_and_then}
+use Rattle.std.proofs.lemmas.Bool.Decides.{nat_tests}
+use Rattle.sq_value.specs.Lists.{contains_bytes, same_bytes}
+use Rattle.sq_value.proofs.ListLemmas.{same_bytes-refl}
+use Rattle.sq_outside.specs.Faults.{Rose, RoseBy}
+use Rattle.sq_outside.specs.Folders.{Files, file}
+use Rattle.sq_reader.specs.Networks.{network_in}
+use Rattle.sq_reader.proofs.SoundLemmas.{network_sound}
+use Rattle.sq_replay.specs.declared.why.Why.{Why}
+use Rattle.sq_top.specs.declared.Command.{Command}
+use Rattle.sq_top.specs.declared.Command.TheVariants as command
+use Rattle.sq_top.specs.declared.Status.{Status}
+use Rattle.sq_top.specs.declared.Status.TheVariants as status
+use Rattle.sq_top.specs.Commands.{command_in}
+use Rattle.sq_top.specs.Messages.{name_at, network_of}
+use Rattle.sq_top.specs.Scripts.{Lookup, Replay, Script, Reads, Done, Stops, accepted, after_words, go_on, outcome_of, readable, reads_of, script_of, settings_limit}
+use Rattle.sq_top.specs.Due.{due_of, replayed, turns_in, work_in}
+use Rattle.sq_paged.specs.Fronts.{Tells}
+use Rattle.sq_top.specs.Reads.{GoesBy, IfAccepted, network_read}
+use Rattle.sq_top.specs.Causes.{AppendsSuch, Ends, IsEngineOf, IsPrefixOfDue, IsRefusedAt, IsUnread, IsWholeOf, NamesSource, World, is_refusal}
+use Rattle.sq_top.specs.Told.{EndsOver, FilePart, NetworkFile, CapacityFile, PicksFile, StreamFile, FolderHasCause, HasFailedAt, MatchAccepted, NamesTold, limit_of, looked_at, may_be, network_named}
+use Rattle.sq_top.proofs.ClassLemmas.{TellsClasses}
+use Rattle.sq_top.proofs.EndLemmas.{begun_nothing, replay_tells_classes}
+use Rattle.sq_top.proofs.ReadsLemmas.{Holds, HoldsFor, IsFileOf, IsPartOf, is_rule, left_holds, script_holds}
+use Rattle.sq_top.proofs.StopLemmas.{stop_map}
+
+readable-none : (name : List ℕ) (limit : ℕ) (o : Option (List ℕ)) → o ≡ None → readable name limit o ≡ Err (status.FolderFault name)
+readable-none name limit o e = rw e refl
+
+long_test : (limit : ℕ) (bytes : List ℕ) → limit < length bytes → nat_lt limit (length bytes) ≡ true
+long_test limit bytes h = grind (arith, nat_tests)
+
+readable-long : (name : List ℕ) (limit : ℕ) (o : Option (List ℕ)) → IsSomeAnd o (λ bytes. limit < length bytes) → readable name limit o ≡ Err (status.TooLong name)
+readable-long name limit None h = absurd h
+readable-long name limit (Some bytes) h = rw (long_test limit bytes h) refl
+
+readable-ok : (name : List ℕ) (limit : ℕ) (o : Option (List ℕ)) (bytes : List ℕ) → readable name limit o ≡ Ok bytes → o ≡ Some bytes
+readable-ok name limit None bytes e = cc
+readable-ok name limit (Some found) bytes e = within (nat_lt limit (length found)) refl e
+  where
+    within : (t : Bool) → nat_lt limit (length found) ≡ t → readable name limit (Some found) ≡ Ok bytes → Some found ≡ Some bytes
+    within true long h = let h' = rw long at h in cc
+    within false short h = let h' = rw short at h in cc
+
+or_later : (a b : Bool) → b ≡ true → (a || b) ≡ true
+or_later true b h = refl
+or_later false b h = h
+
+-- over these files a script comes to the same as what is left of it, and reads each file that that reads
+record Agrees (files : Lookup) (from to : Script) : Type 0 where
+  outcome : outcome_of files from ≡ outcome_of files to
+  reads : (name : List ℕ) → contains_bytes name (reads_of files to) ≡ true → contains_bytes name (reads_of files from) ≡ true
+
+goes_agrees : (files : Files) (read : List (List ℕ)) (from to : Script) → GoesBy (Some files) read from to → Agrees (file files) from to
+goes_agrees files [] from to e = record { outcome = ap (outcome_of (file files)) e; reads = λ name h. subst (λ s. contains_bytes name (reads_of (file files) s) ≡ true) (sym e) h }
+goes_agrees files (bytes ∷ read) (Reads name limit more) to goes =
+    let rest = goes_agrees files read (more bytes) to goes.1 in
+    record {
+      outcome = rw goes.0.1 rest.outcome;
+      reads = λ other h. or_later (same_bytes other name) _ (rw goes.0.1 (rest.reads other h));
+    }
+goes_agrees files (bytes ∷ read) (Done r) to goes = absurd goes
+goes_agrees files (bytes ∷ read) (Stops s) to goes = absurd goes
+
+-- of what a number makes no file is read
+no_part : (number rows : ℕ) (name : List ℕ) (limit : ℕ) → IsPartOf (Some (command.Gen number rows)) name limit → ⊥
+no_part number rows name limit (NetworkFile, is, at) = cc
+no_part number rows name limit (CapacityFile, is, at) = cc
+no_part number rows name limit (PicksFile, is, at) = cc
+no_part number rows name limit (StreamFile, is, at) = cc
+
+goes_told : (c : Option Command) (told : Option Files) (files : Files) → looked_at c told ≡ Some files → (read : List (List ℕ)) (from to : Script) → HoldsFor c from → GoesBy told read from to
+    → GoesBy (Some files) read from to
+goes_told None told files e read from to holds goes = subst (λ t. GoesBy t read from to) e goes
+goes_told (Some (command.Run args)) told files e read from to holds goes = subst (λ t. GoesBy t read from to) e goes
+goes_told (Some (command.Gen number rows)) told files e [] from to holds goes = goes
+goes_told (Some (command.Gen number rows)) told files e (bytes ∷ read) (Reads name limit more) to holds goes = absurd (no_part number rows name limit holds.0)
+goes_told (Some (command.Gen number rows)) told files e (bytes ∷ read) (Done r) to holds goes = absurd goes
+goes_told (Some (command.Gen number rows)) told files e (bytes ∷ read) (Stops s) to holds goes = absurd goes
+
+told_at : (c : Option Command) (told : Option Files) (files : Files) (name : List ℕ) (limit : ℕ) → looked_at c told ≡ Some files → IsPartOf c name limit → told ≡ Some files
+told_at None told files name limit e part = e
+told_at (Some (command.Run args)) told files name limit e part = e
+told_at (Some (command.Gen number rows)) told files name limit e part = absurd (no_part number rows name limit part)
+
+-- what is accepted over files is told by its classes
+read_holds : (files : Lookup) (P : Replay → Type 0) (more : List ℕ → Script) (r : Replay) → ((bytes : List ℕ) → outcome_of files (more bytes) ≡ Ok r → P r) → (o : Result (List ℕ) Status)
+    → go_on (λ s. Err s) (λ bytes. outcome_of files (more bytes)) o ≡ Ok r → P r
+read_holds files P more r rest (Ok bytes) e = rest bytes e
+read_holds files P more r rest (Err s) e = absurd (cc)
+
+outcome_holds : (files : Lookup) (P : Replay → Type 0) (Q : Status → Type 0) (R : List ℕ → ℕ → Type 0) (s : Script) (r : Replay) → Holds P Q R s → outcome_of files s ≡ Ok r → P r
+outcome_holds files P Q R (Reads name limit more) r holds e =
+    read_holds files P more r (λ bytes. outcome_holds files P Q R (more bytes) r (holds.1 bytes)) (readable name limit (files name)) e
+outcome_holds files P Q R (Done x) r holds e = let same : x ≡ r = cc in subst P same holds
+outcome_holds files P Q R (Stops s) r holds e = absurd (cc)
+
+pub accepted_tells_classes : (files : Lookup) (words : List (List ℕ)) (r : Replay) → accepted files words ≡ Ok r → TellsClasses (due_of r)
+accepted_tells_classes files words r e =
+    let f = outcome_holds files (λ x. IsFileOf x.network) (λ t. is_rule t ≡ true) (IsPartOf (command_in words)) (script_of words) r (script_holds words) e in
+    replay_tells_classes (replayed r) (network_sound f.0 r.network f.1)
+
+-- by what is left of a script
+match_any : (o : Result Replay Status) (P : Replay → Type 0) (Q : Status → Type 0) → ((r : Replay) → o ≡ Ok r → P r) → ((s : Status) → o ≡ Err s → Q s) → MatchAccepted o P Q
+match_any (Ok r) P Q p q = p r refl
+match_any (Err s) P Q p q = q s refl
+
+match_err : (o : Result Replay Status) (P : Replay → Type 0) (Q : Status → Type 0) (s : Status) → o ≡ Err s → Q s → MatchAccepted o P Q
+match_err o P Q s e q = subst (λ x. MatchAccepted x P Q) (sym e) q
+
+match_left : (files : Lookup) (left : Script) (P : Replay → Type 0) (Q : Status → Type 0) → IfAccepted left P ⊥ → MatchAccepted (outcome_of files left) P Q
+match_left files (Done r) P Q h = h
+match_left files (Stops s) P Q h = absurd h
+match_left files (Reads name limit more) P Q h = absurd h
+
+-- why a file wasn't read, where files are told: the count of the folder's faults rose, or its rule is broken
+unread_told : (files : Files) (name : List ℕ) (limit : ℕ) (more : List ℕ → Script) (fb fn tb tn : ℕ) (s : Status) → IsUnread (Some files) name limit fb fn tb tn s
+    → (s ≡ status.Memory) ⊎ ((s ≡ status.FolderFault name) × Rose fb fn) ⊎ (outcome_of (file files) (Reads name limit more) ≡ Err s)
+unread_told files name limit more fb fn tb tn s (inl memory) = inl memory
+unread_told files name limit more fb fn tb tn s (inr (inl (e, inl rose))) = inr (inl (e, rose))
+unread_told files name limit more fb fn tb tn s (inr (inl (e, inr none))) =
+    inr (inr (subst (λ x. outcome_of (file files) (Reads name limit more) ≡ Err x) (sym e) (rw (readable-none name limit (file files name) none) refl)))
+unread_told files name limit more fb fn tb tn s (inr (inr l)) =
+    inr (inr (subst (λ x. outcome_of (file files) (Reads name limit more) ≡ Err x) (sym l.0) (rw (readable-long name limit (file files name) l.2) refl)))
+
+is_fault : (a b : List ℕ) → status.FolderFault a ≡ status.FolderFault b → a ≡ b
+is_fault a b e = cc
+
+contains_first : (a b : List ℕ) (more : List (List ℕ)) → a ≡ b → contains_bytes b (a ∷ more) ≡ true
+contains_first a b more e = let same : same_bytes b a ≡ true = subst (λ x. same_bytes b x ≡ true) (sym e) (same_bytes-refl b) in rw same refl
+
+module _ (files : Files) (words : List (List ℕ)) (w : World) (result : Status) (source : List ℕ) (told : looked_at (command_in words) w.told ≡ Some files) (h : Ends words w result source) where
+  goes : GoesBy (Some files) h.read (script_of words) h.left
+  goes = goes_told (command_in words) w.told files told h.read (script_of words) h.left (script_holds words) h.goes
+
+  agrees : Agrees (file files) (script_of words) h.left
+  agrees = goes_agrees files h.read (script_of words) h.left goes
+
+  holds : HoldsFor (command_in words) h.left
+  holds = left_holds w.told words h.read h.left h.goes
+
+  at_left : (P : Replay → Type 0) (Q : Status → Type 0) → MatchAccepted (outcome_of (file files) h.left) P Q → MatchAccepted (accepted (file files) words) P Q
+  at_left P Q m = subst (λ o. MatchAccepted o P Q) (sym agrees.outcome) m
+
+  -- of a file that isn't read
+  unread : (name : List ℕ) (limit : ℕ) (more : List ℕ → Script) → h.left ≡ Reads name limit more
+      → (result ≡ status.Memory) ⊎ ((result ≡ status.FolderFault name) × Rose w.folder_before w.folder_now) ⊎ (outcome_of (file files) (Reads name limit more) ≡ Err result)
+  unread name limit more is =
+      let part = (subst (HoldsFor (command_in words)) is holds).0 in
+      let why : IsUnread w.told name limit w.folder_before w.folder_now w.taken_before w.taken_now result =
+      subst (IsRefusedAt w.told w.folder_before w.folder_now w.taken_before w.taken_now result) is h.refusal in
+      unread_told files name limit more w.folder_before w.folder_now w.taken_before w.taken_now result
+      (subst (λ t. IsUnread t name limit w.folder_before w.folder_now w.taken_before w.taken_now result) (told_at (command_in words) w.told files name limit told part) why)
+
+  -- each way in which a run ends: all was accepted, a rule is broken, a file isn't read
+  ends_each : (P : Replay → Type 0) (Q : Status → Type 0) → ((r : Replay) → h.left ≡ Done r → is_refusal result ≡ false → P r)
+      → ((s : Status) → h.left ≡ Stops s → is_rule s ≡ true → (result ≡ s) ⊎ (result ≡ status.Memory) → Q s)
+      → ((name : List ℕ) (limit : ℕ) (more : List ℕ → Script) → h.left ≡ Reads name limit more → MatchAccepted (outcome_of (file files) (Reads name limit more)) P Q)
+      → MatchAccepted (accepted (file files) words) P Q
+  ends_each P Q done stops reads = at_left P Q (by h.left refl h.refusal holds)
+    where
+      by : (left : Script) → h.left ≡ left → IsRefusedAt w.told w.folder_before w.folder_now w.taken_before w.taken_now result left → HoldsFor (command_in words) left
+          → MatchAccepted (outcome_of (file files) left) P Q
+      by (Done r) is why hold = done r is why
+      by (Stops s) is why hold = stops s is hold why
+      by (Reads name limit more) is why hold = reads name limit more is
+
+  refusal_only : is_refusal result ≡ true → MatchAccepted (accepted (file files) words) (λ r. HasFailedAt w.folder_before w.folder_now result)
+      (λ s. (result ≡ s) ⊎ HasFailedAt w.folder_before w.folder_now result)
+  refusal_only refused = ends_each _ _
+      (λ r is not. let both : true ≡ false = sym refused ∙ not in absurd (cc))
+      (λ s is rule why. or_memory s why)
+      (λ name limit more is. by name limit more (unread name limit more is))
+    where
+      no_memory : result ≡ status.Memory → ⊥
+      no_memory memory = let both : is_refusal status.Memory ≡ true = ap is_refusal (sym memory) ∙ refused in cc
+
+      or_memory : (s : Status) → (result ≡ s) ⊎ (result ≡ status.Memory) → (result ≡ s) ⊎ HasFailedAt w.folder_before w.folder_now result
+      or_memory s (inl same) = inl same
+      or_memory s (inr memory) = absurd (no_memory memory)
+
+      by : (name : List ℕ) (limit : ℕ) (more : List ℕ → Script)
+          → (result ≡ status.Memory) ⊎ ((result ≡ status.FolderFault name) × Rose w.folder_before w.folder_now) ⊎ (outcome_of (file files) (Reads name limit more) ≡ Err result)
+          → MatchAccepted (outcome_of (file files) (Reads name limit more)) (λ r. HasFailedAt w.folder_before w.folder_now result) (λ s. (result ≡ s) ⊎ HasFailedAt w.folder_before w.folder_now result)
+      by name limit more (inl memory) = absurd (no_memory memory)
+      by name limit more (inr (inl (fault, rose))) =
+          let failed : HasFailedAt w.folder_before w.folder_now result = (name, fault, rose) in
+          match_any _ _ _ (λ r e. failed) (λ s e. inr failed)
+      by name limit more (inr (inr broken)) = match_err _ _ _ result broken (inl refl)
+
+  refusal_when : MatchAccepted (accepted (file files) words) (λ r. ⊤) (λ s. (result ≡ s) ⊎ (result ≡ status.Memory) ⊎ Rose w.folder_before w.folder_now)
+  refusal_when = ends_each _ _ (λ r is not. tt) (λ s is rule why. or_memory s why) (λ name limit more is. by name limit more (unread name limit more is))
+    where
+      or_memory : (s : Status) → (result ≡ s) ⊎ (result ≡ status.Memory) → (result ≡ s) ⊎ (result ≡ status.Memory) ⊎ Rose w.folder_before w.folder_now
+      or_memory s (inl same) = inl same
+      or_memory s (inr memory) = inr (inl memory)
+
+      by : (name : List ℕ) (limit : ℕ) (more : List ℕ → Script)
+          → (result ≡ status.Memory) ⊎ ((result ≡ status.FolderFault name) × Rose w.folder_before w.folder_now) ⊎ (outcome_of (file files) (Reads name limit more) ≡ Err result)
+          → MatchAccepted (outcome_of (file files) (Reads name limit more)) (λ r. ⊤) (λ s. (result ≡ s) ⊎ (result ≡ status.Memory) ⊎ Rose w.folder_before w.folder_now)
+      by name limit more (inl memory) = match_any _ _ _ (λ r e. tt) (λ s e. inr (inl memory))
+      by name limit more (inr (inl (fault, rose))) = match_any _ _ _ (λ r e. tt) (λ s e. inr (inr rose))
+      by name limit more (inr (inr broken)) = match_err _ _ _ result broken (inl refl)
+
+  reached : (name : List ℕ) → result ≡ status.FolderFault name → contains_bytes name (reads_of (file files) (script_of words)) ≡ true
+  reached name fault = by h.left refl (subst (λ x. IsRefusedAt w.told w.folder_before w.folder_now w.taken_before w.taken_now x h.left) fault h.refusal) holds
+    where
+      by : (left : Script) → h.left ≡ left → IsRefusedAt w.told w.folder_before w.folder_now w.taken_before w.taken_now (status.FolderFault name) left → HoldsFor (command_in words) left
+          → contains_bytes name (reads_of (file files) (script_of words)) ≡ true
+      by (Done r) is why hold = absurd (cc)
+      by (Stops s) is (inl same) hold = let both : is_rule (status.FolderFault name) ≡ true = ap is_rule same ∙ hold in absurd (cc)
+      by (Stops s) is (inr memory) hold = absurd (cc)
+      by (Reads other limit more) is (inl memory) hold = absurd (cc)
+      by (Reads other limit more) is (inr (inl why)) hold =
+          agrees.reads name (subst (λ s. contains_bytes name (reads_of (file files) s) ≡ true) (sym is)
+          (contains_first other name (go_on (λ s. []) (λ bytes. reads_of (file files) (more bytes)) (readable other limit (file files other))) (sym (is_fault name other why.0))))
+      by (Reads other limit more) is (inr (inr why)) hold = let no = why.0 in absurd (cc)
+
+  -- a beginning of the answer, and nothing
+  abbrev First : Replay → Type 0
+  First r = Tells w.pages → AppendsSuch w.out_before w.out_now (IsPrefixOfDue (command_in words) r result) × (w.steps_now ≤ w.steps_before + work_in (replayed r))
+
+  abbrev Nothing : Type 0
+  Nothing = (w.out_now ≡ w.out_before) × (w.steps_now ≡ w.steps_before)
+
+  other_told : result ≢ status.Ok → MatchAccepted (accepted (file files) words) First (λ s. Nothing)
+  other_told differs = by h.left refl (h.other differs)
+    where
+      by : (left : Script) → h.left ≡ left → IfAccepted left First Nothing → MatchAccepted (accepted (file files) words) First (λ s. Nothing)
+      by (Done r) is first = subst (λ o. MatchAccepted o First (λ s. Nothing)) (sym (agrees.outcome ∙ ap (outcome_of (file files)) is)) first
+      by (Stops s) is none = match_any _ First _ (λ r e. begun_nothing words w result r none.0 none.1 (accepted_tells_classes (file files) words r e)) (λ s e. none)
+      by (Reads name limit more) is none = match_any _ First _ (λ r e. begun_nothing words w result r none.0 none.1 (accepted_tells_classes (file files) words r e)) (λ s e. none)
+
+  complete_told : ¬ (Rose w.folder_before w.folder_now) → ¬ (Rose w.disk_before w.disk_now) → ¬ (Rose w.sink_before w.sink_now)
+      → MatchAccepted (accepted (file files) words) (λ r. Tells w.pages → turns_in (replayed r) < 2 ^ 62 → (result ≡ status.Ok) ⊎ (result ≡ status.Memory)) (λ s. ⊤)
+  complete_told quiet sound dry = ends_each _ _
+      (λ r is not. subst (λ s. IfAccepted s (λ x. Tells w.pages → turns_in (replayed x) < 2 ^ 62 → (result ≡ status.Ok) ⊎ (result ≡ status.Memory)) ⊤) is (h.complete sound dry))
+      (λ s is rule why. tt) (λ name limit more is. by name limit more (unread name limit more is))
+    where
+      by : (name : List ℕ) (limit : ℕ) (more : List ℕ → Script)
+          → (result ≡ status.Memory) ⊎ ((result ≡ status.FolderFault name) × Rose w.folder_before w.folder_now) ⊎ (outcome_of (file files) (Reads name limit more) ≡ Err result)
+          → MatchAccepted (outcome_of (file files) (Reads name limit more)) (λ r. Tells w.pages → turns_in (replayed r) < 2 ^ 62 → (result ≡ status.Ok) ⊎ (result ≡ status.Memory)) (λ s. ⊤)
+      by name limit more (inl memory) =
+          match_any _ (λ r. Tells w.pages → turns_in (replayed r) < 2 ^ 62 → (result ≡ status.Ok) ⊎ (result ≡ status.Memory)) _ (λ r e pages few. inr memory) (λ s e. tt)
+      by name limit more (inr (inl (fault, rose))) = absurd (quiet rose)
+      by name limit more (inr (inr broken)) = match_err _ _ _ result broken tt
+
+  not_unread : (name : List ℕ) (limit number line : ℕ) (why : Why) → IsUnread w.told name limit w.folder_before w.folder_now w.taken_before w.taken_now (status.BadStream number line why) → ⊥
+  not_unread name limit number line why (inl e) = cc
+  not_unread name limit number line why (inr (inl fault)) = let e = fault.0 in cc
+  not_unread name limit number line why (inr (inr long)) = let e = long.0 in cc
+
+  -- where a line of a source is bad the network was read, which is that of the file
+  same_network : (c : Option Command) (read : List (List ℕ)) (left : Script) (number line : ℕ) (why : Why) → GoesBy (Some files) read (after_words c) left
+      → IsRefusedAt w.told w.folder_before w.folder_now w.taken_before w.taken_now (status.BadStream number line why) left → network_read c read ≡ network_named (file files) c
+  same_network None read left number line why by refused = refl
+  same_network (Some (command.Gen number rows)) read left at line why by refused = refl
+  same_network (Some (command.Run args)) [] left number line why by refused =
+      absurd (not_unread args.net settings_limit number line why
+      (subst (IsRefusedAt w.told w.folder_before w.folder_now w.taken_before w.taken_now (status.BadStream number line why)) (sym by) refused))
+  same_network (Some (command.Run args)) (bytes ∷ read) left number line why by refused =
+      sym (ap (option_and_then (λ x. network_of (network_in x))) (readable-ok args.net settings_limit (file files args.net) bytes by.0.1))
+
+  named_told : (s : Status) → IsRefusedAt w.told w.folder_before w.folder_now w.taken_before w.taken_now s h.left → NamesSource words h.read s source → NamesTold files words s source
+  named_told (status.BadStream number line why) refused named =
+      named ∙ ap (name_at number) (same_network (command_in words) h.read h.left number line why goes refused)
+  named_told s refused named = tt
+
+  pub ends_over : EndsOver files words w result source
+  ends_over = record {
+    ok = λ e. at_left _ _ (match_left (file files) h.left (λ r. Tells w.pages → AppendsSuch w.out_before w.out_now (IsWholeOf (command_in words) r) × (w.steps_now ≡ w.steps_before + work_in (replayed r)))
+        (λ s. ⊥) (h.ok e));
+    other = other_told;
+    refusal = record { only = refusal_only; when = refusal_when; reached = reached };
+    stopped = stop_map (IsEngineOf h.left) _ _ _ _ _ result (λ rose. rose) (λ e is. at_left _ _ (match_left (file files) h.left (λ r. e.network ≡ r.network) (λ s. ⊥) is)) h.stopped;
+    too_much = λ e. at_left _ _ (match_left (file files) h.left (λ r. Tells w.pages → 2 ^ 62 ≤ turns_in (replayed r)) (λ s. ⊥) (h.too_much e));
+    complete = complete_told;
+    named = named_told result h.refusal h.named;
+  }
+
+-- over every folder
+module _ (words : List (List ℕ)) (w : World) (result : Status) (source : List ℕ) (h : Ends words w result source) where
+  is_there : (o : Option Files) (name : List ℕ) → IsSomeAnd o (λ x. file x name ≡ None) → IsSome o
+  is_there None name e = absurd e
+  is_there (Some files) name e = refl
+
+  fault_at : (name : List ℕ) (left : Script) → IsRefusedAt w.told w.folder_before w.folder_now w.taken_before w.taken_now (status.FolderFault name) left → HoldsFor (command_in words) left
+      → Rose w.folder_before w.folder_now ⊎ IsSome w.told
+  fault_at name (Done r) why holds = absurd (cc)
+  fault_at name (Stops s) (inl same) holds = let both : is_rule (status.FolderFault name) ≡ true = ap is_rule same ∙ holds in absurd (cc)
+  fault_at name (Stops s) (inr memory) holds = absurd (cc)
+  fault_at name (Reads other limit more) (inl memory) holds = absurd (cc)
+  fault_at name (Reads other limit more) (inr (inl (e, inl rose))) holds = inl rose
+  fault_at name (Reads other limit more) (inr (inl (e, inr none))) holds = inr (is_there w.told other none)
+  fault_at name (Reads other limit more) (inr (inr long)) holds = let e = long.0 in absurd (cc)
+
+  same_long : (a b : List ℕ) → status.TooLong a ≡ status.TooLong b → a ≡ b
+  same_long a b e = cc
+
+  long_at : (name : List ℕ) (left : Script) → IsRefusedAt w.told w.folder_before w.folder_now w.taken_before w.taken_now (status.TooLong name) left → HoldsFor (command_in words) left
+      → (p : FilePart) × (may_be (command_in words) p name ≡ true) × RoseBy (limit_of p + 1) w.taken_before w.taken_now
+  long_at name (Done r) why holds = absurd (cc)
+  long_at name (Stops s) (inl same) holds = let both : is_rule (status.TooLong name) ≡ true = ap is_rule same ∙ holds in absurd (cc)
+  long_at name (Stops s) (inr memory) holds = absurd (cc)
+  long_at name (Reads other limit more) (inl memory) holds = absurd (cc)
+  long_at name (Reads other limit more) (inr (inl fault)) holds = let e = fault.0 in absurd (cc)
+  long_at name (Reads other limit more) (inr (inr (e, rose, longer))) ((p, is, at), rest) = (
+    p,
+    subst (λ x. may_be (command_in words) p x ≡ true) (sym (same_long name other e)) is,
+    subst (λ k. RoseBy (k + 1) w.taken_before w.taken_now) at rose,
+  )
+
+  pub folder_causes : FolderHasCause words w.told w.folder_before w.folder_now w.taken_before w.taken_now result
+  folder_causes = record {
+    failed = λ name e. fault_at name h.left (subst (λ x. IsRefusedAt w.told w.folder_before w.folder_now w.taken_before w.taken_now x h.left) e h.refusal) (left_holds w.told words h.read h.left h.goes);
+    too_long = λ name e. long_at name h.left (subst (λ x. IsRefusedAt w.told w.folder_before w.folder_now w.taken_before w.taken_now x h.left) e h.refusal) (left_holds w.told words h.read h.left h.goes);
+  }
