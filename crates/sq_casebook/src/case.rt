@@ -33,6 +33,8 @@ pub struct Case {
     pub flips: Vec<Flip>,
     pub swaps: Vec<Swap>,
     pub turns: Turns,
+    /// Whether what the run wrote is cut at each byte and audited.
+    pub cuts: bool,
     /// How many pages are put at least, where this is shown.
     pub least_puts: Option<usize>,
     /// How many bytes a call of a sink takes.
@@ -115,6 +117,7 @@ impl Case {
             flips: Vec::new(alloc),
             swaps: Vec::new(alloc),
             turns: Turns::Once,
+            cuts: false,
             least_puts: None,
             takes: 4096,
             classes: Vec::new(alloc),
@@ -135,6 +138,7 @@ impl Case {
             "flips" => self.flips = flips_of(alloc, value)?,
             "swaps" => self.swaps = swaps_of(alloc, value)?,
             "turns" => self.turns = turns_of(value),
+            "cuts" => self.cuts = value == "yes",
             "puts" => self.least_puts = value.parse::<usize>().ok(),
             "classes" => self.classes = items_of(alloc, value)?,
             "counted" => self.counted = items_of(alloc, value)?,

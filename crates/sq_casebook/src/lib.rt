@@ -3,8 +3,9 @@
 //! It promises nothing of its own. For each case of a text `show_cases` runs `run_words` of
 //! `sq_top` over objects in memory, and prints the number of the status, what was written and what was told. Where a run ended
 //! well, its lines are also compared with what the slow definitions of `sq_model` give for the same files: each output with
-//! its answer, each drop with its record. A class that differs is shown, and runs that were compared are counted. Below stand
-//! the top call, the readers and the slow definitions.
+//! its answer, each drop with its record. A class that differs is shown, and runs that were compared are counted. What any such
+//! run of files wrote is audited beside its files, and a verdict that isn't yes is shown. Below stand the top call, the readers and
+//! the slow definitions.
 //!
 //! A case begins with a line `= TITLE`. Settings follow, if any; then files, each `- NAME` and its lines; then rows, each
 //! `| ROW`, and each a run with the row in place of `$`. A line that ends in `\` has no end of line, `\n` and `\r` are ends of
@@ -17,9 +18,11 @@
 //!   shown is how many runs failed, and each of them that isn't as it is to be);
 //! - `classes: @plan,o` (the lines with these first fields are shown class by class, and then all others, where the order of the
 //!   classes isn't fixed), `counted: o` (of these only how many lines there are), `puts: 5` (so many pages are put at least);
+//! - `cuts: yes` (what the run wrote is cut at each byte and audited: shown is which beginning is accepted, if one is);
 //! - `compared: no` (the slow definitions aren't asked, which go through every batch and take too long for some runs).
 #![tactic(auto)]
 
+mod auditing;
 mod begun;
 mod beside;
 mod case;

@@ -1,6 +1,7 @@
 // The runs of cases, and what is shown of them.
 ghost use Rattle.std.specs.Prelude.{◌≡◌, ◌<◌};
 
+use crate::auditing::{show_cuts, show_verdict};
 use crate::beside::{compare, count_of, is_of_class};
 use crate::case::{Case, Turns};
 use crate::turns::show_turns;
@@ -124,9 +125,13 @@ fn show_puts(rt: &HostRuntime, ran: &Ran) -> io::Result<()> {
     }
 }
 
-/// Shows a run, and where it differs from the slow definitions. Counts it where it is compared: where it ends well.
+/// Shows a run, and where it differs from the slow definitions. Counts it where it is compared: where it ends well. What such a
+/// run wrote is audited, too.
 fn show_run(rt: &HostRuntime, text: &str, compared: &mut u64) -> Result<(), Error> {
     let case = Case::read(rt.alloc(), text)?;
+    if case.cuts {
+        return show_cuts(rt, text);
+    }
     if case.turns != Turns::Once {
         return show_turns(rt, text);
     }
@@ -136,6 +141,9 @@ fn show_run(rt: &HostRuntime, text: &str, compared: &mut u64) -> Result<(), Erro
     show_out(rt, &ran)?;
     show_text(rt, ran.err.bytes())?;
     show_puts(rt, &ran)?;
+    if ran.code == 0 {
+        show_verdict(rt, text, &ran)?;
+    }
     if ran.code == 0 && is_compared {
         let case = Case::read(rt.alloc(), text)?;
         compare(rt, case, str::from_utf8(ran.out.bytes()).unwrap_or("?"))?;
