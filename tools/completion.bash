@@ -20,7 +20,15 @@ _aurora()
     local before=${COMP_WORDS[at]}
     COMPREPLY=()
     if [ "$COMP_CWORD" = 1 ]; then
-        mapfile -t COMPREPLY < <(compgen -W "run gen" -- "$word")
+        mapfile -t COMPREPLY < <(compgen -W "run gen audit" -- "$word")
+        return
+    fi
+    if [ "${COMP_WORDS[1]}" = audit ]; then
+        # The network, and then a text.
+        case $COMP_CWORD in
+            2) mapfile -t COMPREPLY < <(compgen -f -X '!*.toml' -- "$word"; compgen -d -S / -- "$word") ;;
+            3) mapfile -t COMPREPLY < <(compgen -f -- "$word") ;;
+        esac
         return
     fi
     [ "${COMP_WORDS[1]}" = run ] || return

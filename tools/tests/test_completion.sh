@@ -16,7 +16,7 @@ offers() {
     fi
 }
 
-offers "run gen" aurora ""
+offers "run gen audit" aurora ""
 offers "run" aurora r
 offers "front.toml" aurora run ""
 offers "--capacities --policy --seed --picks --train --frames" aurora run front.toml --
@@ -27,4 +27,7 @@ offers "rr long seeded" aurora run front.toml --policy =
 offers "long" aurora run front.toml --policy = l
 offers "capacity.csv" aurora run front.toml --capacities cap
 offers "" aurora gen ""
+offers "front.toml" aurora audit ""
+offers "capacity.csv" aurora audit front.toml cap
+offers "" aurora audit front.toml text ""
 exit $failed
