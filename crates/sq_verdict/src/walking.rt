@@ -1,13 +1,11 @@
 // One walk over a text: the first fault, or what is missing.
-ghost use Rattle.std.specs.Prelude.{◌≡◌, ◌≢◌, ◌≤◌, ◌<◌, ◌+◌, ◌^◌, ◌∷◌, ◌++◌, [], ℕ, List, None, Some, true, false, map, max, is_some, length, IfOk, IfSome, OnOk, if◌then◌else◌, slice_get, slice_index, nat_lt, not, ◌||◌, ◌==◌, replicate};
+ghost use Rattle.std.specs.Prelude.{◌≡◌, ◌≢◌, ◌<◌, ◌+◌, ◌^◌, ◌∷◌, ◌++◌, [], ℕ, List, None, true, false, map, max, is_some, length, IfOk, IfSome, if◌then◌else◌, slice_get, slice_index, nat_lt, not, ◌||◌, ◌==◌, replicate};
 ghost use Rattle.std.specs.List.{All, find, list_any};
-ghost use Rattle.sq_value.specs.declared.Tuple.{Tuple};
 ghost use Rattle.sq_value.specs.Lists.{are_distinct, same_bytes};
 ghost use Rattle.sq_value.specs.Classes.{first_field, whole_lines};
-ghost use Rattle.sq_verdict.specs.declared.verdict.Wanted.{Wanted};
-ghost use Rattle.sq_verdict.specs.Faults.{Lines, class_fault, count_of, drop_in, fault_of, has_first, has_word, is_end, is_next, output_in, recorded, rises, verdict_on, word_fault};
-ghost use Rattle.sq_verdict.specs.Wanting.{IsBelow, is_left, left_of, nth, shown_of, shown_one, verdict_of};
-ghost use Rattle.sq_verdict.specs.Walking.{AreAtPlaces, HoldRecord, IsAfter, IsAtPlace, IsMost, Skips, found_in, is_line_of, line_fault};
+ghost use Rattle.sq_verdict.specs.Faults.{Lines, class_fault, count_of, drop_in, fault_of, has_first, has_word, is_end, is_next, output_in, recorded, rises, word_fault};
+ghost use Rattle.sq_verdict.specs.Wanting.{IsBelow, nth, shown_of, shown_one, verdict_of};
+ghost use Rattle.sq_verdict.specs.Walking.{AreAtPlaces, HoldRecord, IsAfter, IsAtPlace, IsMost, found_in, is_line_of, line_fault};
 
 use crate::cutting::{cut_field, cut_line};
 use crate::dropping::drop_in;
@@ -357,7 +355,6 @@ fn walk_text(
 ) -> Result<Verdict, AllocError>
     requires below { All (IsBelow (length sets.now)) outputs.now }
     requires distinct { are_distinct (map (λ o. o.name) outputs.now) ≡ true }
-    requires room { length text.now < 2 ^ 63 }
     requires held { HoldRecord sets.now (recorded (length sets.now) (whole_lines text.now)) }
     ensures { IfOk result (λ v. v ≡ verdict_of outputs.now (map (λ t. t.items) streams.now) (length sets.now) text.now) }
 {
@@ -388,7 +385,6 @@ pub fn verdict_on(
 ) -> Result<Verdict, AllocError>
     requires below { All (IsBelow drops) outputs.now }
     requires distinct { are_distinct (map (λ o. o.name) outputs.now) ≡ true }
-    requires room { length text.now < 2 ^ 63 }
     ensures { IfOk result (λ v. v ≡ verdict_of outputs.now (map (λ t. t.items) streams.now) drops text.now) }
 {
     let sets = recorded_in(alloc, drops, text)?;
