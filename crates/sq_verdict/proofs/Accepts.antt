@@ -2,17 +2,18 @@
 use Rattle.std.proofs.Common.{◌≡◌, ◌⊎◌, inl, inr, ℕ, zero, suc, ◌+◌, ◌<◌, Bool, true, false, not, ◌&&◌, ◌||◌, ◌==◌, List, [], ◌∷◌, ◌++◌, length, refl, ap, sym, ◌∙◌, subst, arith, append_assoc, append-nil, Option, Some, None}
 use Rattle.std.specs.Prelude.{slice_get, codes, map, nat_lt, nat_le}
 use Rattle.std.specs.List.{filter, find, flat_map, list_all, list_any, range_with_len}
-use Rattle.std.proofs.lemmas.Bool.{cases_Bool}
+use Rattle.std.proofs.lemmas.Bool.{cases_Bool, and_parts, not-true, or_parts}
 use Rattle.std.proofs.lemmas.Bool.Decides.{nat_tests}
 use Rattle.std.proofs.lemmas.List.Folds.{list_all-append}
 use Rattle.sq_value.specs.Lists.{same_bytes, contains_bytes, are_distinct, numbers_to, max_by}
 use Rattle.sq_value.specs.LineTexts.{end_line}
 use Rattle.std.specs.Fmt.{decimal}
+use Rattle.std.proofs.lemmas.Option.{same_Some}
 use Rattle.sq_value.specs.Classes.{Class, Shown, Dropped, Planned, Ended, first_field, second_field, is_of_class, of_class, whole_lines, unfinished}
 use Rattle.sq_value.proofs.ListLemmas.{same_bytes-true, same_bytes-refl}
 use Rattle.sq_verdict.specs.declared.verdict.Verdict.TheVariants as verdict
 use Rattle.sq_verdict.specs.Faults.{Lines, drop_in, batch_of, recorded, rises, has_first, is_end, has_word, output_in, is_next, is_line_at, count_of, word_fault, class_fault, fault_of, ends_with_end, is_short, verdict_from, verdict_on}
-use Rattle.sq_verdict.proofs.Plain.{not_true, and-true, or-false, not-false, some_same}
+use Rattle.sq_verdict.proofs.Plain.{not_true}
 use Rattle.sq_verdict.specs.Whole.{Due, IsSoundDue, IsWhole, is_classed}
 
 -- ---- outputs, of which each name stands once
@@ -26,23 +27,23 @@ names os = map (λ o. o.0) os
 none_picked : (name : List ℕ) (os : Lines) → contains_bytes name (names os) ≡ false → filter (λ x. same_bytes x.0 name) os ≡ []
 none_picked name [] h = refl
 none_picked name (o ∷ os) h =
-    let parts = or-false (same_bytes name o.0) (contains_bytes name (names os)) h in
+    let parts = or_parts (same_bytes name o.0) (contains_bytes name (names os)) h in
     rw (differs name o.0 parts.0) (none_picked name os parts.1)
 
 not_contained : (name : List ℕ) (front : Lines) (o : List ℕ × List (List ℕ)) (back : Lines) → contains_bytes name (names (front ++ (o ∷ back))) ≡ false → same_bytes name o.0 ≡ false
-not_contained name [] o back h = (or-false (same_bytes name o.0) (contains_bytes name (names back)) h).0
+not_contained name [] o back h = (or_parts (same_bytes name o.0) (contains_bytes name (names back)) h).0
 not_contained name (x ∷ front) o back h =
-    not_contained name front o back (or-false (same_bytes name x.0) (contains_bytes name (names (front ++ (o ∷ back)))) h).1
+    not_contained name front o back (or_parts (same_bytes name x.0) (contains_bytes name (names (front ++ (o ∷ back)))) h).1
 
 picked_one : (front : Lines) (o : List ℕ × List (List ℕ)) (back : Lines) → are_distinct (names (front ++ (o ∷ back))) ≡ true
     → filter (λ x. same_bytes x.0 o.0) (front ++ (o ∷ back)) ≡ o ∷ []
 picked_one [] o back h =
-    let parts = and-true (not (contains_bytes o.0 (names back))) (are_distinct (names back)) h in
-    rw (same_bytes-refl o.0) (ap (λ xs. o ∷ xs) (none_picked o.0 back (not-false (contains_bytes o.0 (names back)) parts.0)))
+    let parts = and_parts (not (contains_bytes o.0 (names back))) (are_distinct (names back)) h in
+    rw (same_bytes-refl o.0) (ap (λ xs. o ∷ xs) (none_picked o.0 back (not-true (contains_bytes o.0 (names back)) parts.0)))
 picked_one (x ∷ front) o back h =
     let all = names (front ++ (o ∷ back)) in
-    let parts = and-true (not (contains_bytes x.0 all)) (are_distinct all) h in
-    rw (not_contained x.0 front o back (not-false (contains_bytes x.0 all) parts.0)) (picked_one front o back parts.1)
+    let parts = and_parts (not (contains_bytes x.0 all)) (are_distinct all) h in
+    rw (not_contained x.0 front o back (not-true (contains_bytes x.0 all) parts.0)) (picked_one front o back parts.1)
 
 -- an element of a list, and where it stands
 pub record Split {X : Type 0} (xs : List X) (x : X) : Type 0 where
@@ -59,7 +60,7 @@ pub record Found {X : Type 0} (p : X → Bool) (xs : List X) (x : X) : Type 0 wh
 
 find_first : {X : Type 0} (p : X → Bool) (t : Bool) (y : X) (xs : List X) (x : X) → p y ≡ t → (find p xs ≡ Some x → Found p xs x) → find p (y ∷ xs) ≡ Some x → Found p (y ∷ xs) x
 find_first p true y xs x e more h =
-    let same : y ≡ x = some_same y x (rw e at h) in
+    let same : y ≡ x = same_Some y x (rw e at h) in
     record { at = record { front = []; back = xs; is = ap (λ z. z ∷ xs) same }; passes = subst (λ z. p z ≡ true) same e }
 find_first p false y xs x e more h =
     let m = more (rw e at h) in record { at = split_more y xs x m.at; passes = m.passes }
@@ -92,12 +93,12 @@ any_at p [] x back h = rw h refl
 any_at p (y ∷ front) x back h = rw (any_at p front x back h) (grind arith)
 
 all_at : {X : Type 0} (p : X → Bool) (front : List X) (x : X) (back : List X) → list_all p (front ++ (x ∷ back)) ≡ true → p x ≡ true
-all_at p [] x back h = (and-true (p x) (list_all p back) h).0
-all_at p (y ∷ front) x back h = all_at p front x back (and-true (p y) (list_all p (front ++ (x ∷ back))) h).1
+all_at p [] x back h = (and_parts (p x) (list_all p back) h).0
+all_at p (y ∷ front) x back h = all_at p front x back (and_parts (p y) (list_all p (front ++ (x ∷ back))) h).1
 
 all_front : {X : Type 0} (p : X → Bool) (front back : List X) → list_all p (front ++ back) ≡ true → list_all p front ≡ true
 all_front p [] back h = refl
-all_front p (y ∷ front) back h = let both = and-true (p y) (list_all p (front ++ back)) h in rw (both.0, all_front p front back both.1) refl
+all_front p (y ∷ front) back h = let both = and_parts (p y) (list_all p (front ++ back)) h in rw (both.0, all_front p front back both.1) refl
 
 filter_at : {X : Type 0} (p : X → Bool) (front : List X) (x : X) (back : List X) → p x ≡ true → filter p (front ++ (x ∷ back)) ≡ filter p front ++ (x ∷ filter p back)
 filter_at p [] x back h = rw h refl
@@ -150,10 +151,10 @@ stands [] (y ∷ []) rest l all e = cc
 stands [] (y ∷ z ∷ before) rest l all e = cc
 stands (x ∷ xs) [] rest l all e =
     let same = (head_same x l (xs ++ (end_line ∷ [])) rest e).0 in
-    record { none = refl; here = inr (subst (λ z. q z ≡ true) same (and-true (q x) (list_all q xs) all).0) }
+    record { none = refl; here = inr (subst (λ z. q z ≡ true) same (and_parts (q x) (list_all q xs) all).0) }
 stands (x ∷ xs) (y ∷ before) rest l all e =
     let same = head_same x y (xs ++ (end_line ∷ [])) (before ++ (l ∷ rest)) e in
-    let both = and-true (q x) (list_all q xs) all in
+    let both = and_parts (q x) (list_all q xs) all in
     let more = stands xs before rest l both.1 same.1 in
     record { none = rw (subst (λ z. q z ≡ true) same.0 both.0, more.none) refl; here = more.here }
 
@@ -162,7 +163,7 @@ not_end l h = not_true (is_end l) (λ e. let same = same_bytes-true l end_line e
 
 none_end : (ls : List (List ℕ)) → list_all q ls ≡ true → list_any is_end ls ≡ false
 none_end [] h = refl
-none_end (l ∷ ls) h = let both = and-true (q l) (list_all q ls) h in rw (not_end l both.0) (none_end ls both.1)
+none_end (l ∷ ls) h = let both = and_parts (q l) (list_all q ls) h in rw (not_end l both.0) (none_end ls both.1)
 
 pub ends_last-is : (xs : List (List ℕ)) (l : List ℕ) → ends_with_end (xs ++ (l ∷ [])) ≡ is_end l
 ends_last-is [] l = refl
@@ -174,13 +175,13 @@ not_ended-q : (l : List ℕ) → not (is_of_class Ended l) ≡ true → q l ≡ 
 not_ended-q l h =
     let box = same_bytes (first_field l) (codes "@box") in
     let late = same_bytes (first_field l) (codes "@late") in
-    let none = not-false (is_of_class Ended l) h in
-    let last = (or-false (box || late) (same_bytes (first_field l) (codes "@end")) (grind (arith, none))).1 in
+    let none = not-true (is_of_class Ended l) h in
+    let last = (or_parts (box || late) (same_bytes (first_field l) (codes "@end")) (grind (arith, none))).1 in
     rw last refl
 
 all_q : (ls : List (List ℕ)) → list_all (λ l. not (is_of_class Ended l)) ls ≡ true → list_all q ls ≡ true
 all_q [] h = refl
-all_q (l ∷ ls) h = let both = and-true (not (is_of_class Ended l)) (list_all (λ x. not (is_of_class Ended x)) ls) h in rw (not_ended-q l both.0, all_q ls both.1) refl
+all_q (l ∷ ls) h = let both = and_parts (not (is_of_class Ended l)) (list_all (λ x. not (is_of_class Ended x)) ls) h in rw (not_ended-q l both.0, all_q ls both.1) refl
 
 -- ---- the law
 
@@ -258,12 +259,12 @@ module _ (d : Due) (text : List ℕ) (classes : DropsHaveClass d.drops) (s : IsS
       rest_classed = let c = line_classed in grind (arith, none, c)
 
       drop_word : (w : ℕ) → is_of_class (Dropped w) l ≡ true → has_first (codes "@drop") l ≡ true
-      drop_word w of = (and-true (has_first (codes "@drop") l) (same_bytes (second_field l) (decimal w)) of).0
+      drop_word w of = (and_parts (has_first (codes "@drop") l) (same_bytes (second_field l) (decimal w)) of).0
 
       end_word : has_first (codes "@end") l ≡ true → is_end l ≡ true
       end_word first = elim where_it_stands.here [
         | inl same ↦ rw same (same_bytes-refl end_line)
-        | inr other ↦ let no_first = not-false (has_first (codes "@end") l) other in absurd (cc)
+        | inr other ↦ let no_first = not-true (has_first (codes "@end") l) other in absurd (cc)
       ]
 
       words_of : (plan drop box late end : Bool) → (plan ≡ true) ⊎ (drop ≡ true) ⊎ (box ≡ true) ⊎ (late ≡ true) ⊎ (end ≡ true) → (plan || drop || box || late || end) ≡ true

@@ -2,9 +2,11 @@
 use Rattle.std.proofs.Common.{◌≡◌, ◌≢◌, inl, inr, ℕ, zero, suc, ◌+◌, ◌<◌, ◌||◌, Bool, true, false, not, List, [], ◌∷◌, ◌++◌, length, map, drop, refl, ap, sym, ◌∙◌, arith, subst, append-nil, Option, Some, None}
 use Rattle.std.specs.Prelude.{nat_lt, slice_get, slice_index, option_map}
 use Rattle.std.specs.List.{filter, list_any}
-use Rattle.std.proofs.lemmas.Bool.{cases_Bool}
+use Rattle.std.proofs.lemmas.Bool.{and_parts, cases_Bool, not-true, or_parts}
 use Rattle.std.proofs.lemmas.Bool.Decides.{nat_tests}
+use Rattle.std.proofs.lemmas.List.{drop-drop, length-append}
 use Rattle.std.proofs.lemmas.List.Elements.{filter-append}
+use Rattle.std.proofs.lemmas.Option.{same_Some, slice_get-map}
 use Rattle.sq_value.specs.declared.Tuple.{Tuple}
 use Rattle.sq_value.specs.Lists.{same_bytes, are_distinct, contains_bytes}
 use Rattle.sq_value.specs.LineTexts.{output_line}
@@ -14,7 +16,7 @@ use Rattle.sq_verdict.specs.declared.verdict.Wanted.{Wanted}
 use Rattle.sq_verdict.specs.Faults.{has_first, count_of, is_next, is_line_at}
 use Rattle.sq_verdict.specs.Wanting.{is_left, left_of, nth, shown_of, shown_one}
 use Rattle.sq_verdict.specs.Walking.{AreAtPlaces, IsAtPlace, Skips, is_line_of}
-use Rattle.sq_verdict.proofs.Plain.{and-true, or-false, not-false, some_same, get-map, get-drop, drop-one, drop-at, drop-past, length-more}
+use Rattle.sq_verdict.proofs.Plain.{get-drop, drop-at, drop-past}
 
 -- ---- what is left of a stream from a place on
 
@@ -69,7 +71,7 @@ module _ (record_at : ℕ → List ℕ) (streams : List (List Tuple)) (o : Wante
   pub next_is : (line : List ℕ) → is_line_of o.name (slice_get tuples at) line ≡ is_next before (shown_one record_at streams o) line
   next_is line =
       ap (λ zs. is_line_of o.name (slice_get zs at) line) e
-      ∙ sym (ap (λ x. is_line_at x line) (get-map (output_line o.name) ys count ∙ ap (option_map (output_line o.name)) next_tuple)
+      ∙ sym (ap (λ x. is_line_at x line) (slice_get-map (output_line o.name) ys count ∙ ap (option_map (output_line o.name)) next_tuple)
       ∙ line_at o.name line (slice_get xs at))
 
   -- behind the line of the tuple there
@@ -83,7 +85,7 @@ module _ (record_at : ℕ → List ℕ) (streams : List (List Tuple)) (o : Wante
       one_line =
           let one : filter (is_of_class (Shown o.name)) (line ∷ []) ≡ line ∷ [] = rw first refl in
           let all = filter-append (is_of_class (Shown o.name)) before (line ∷ []) ∙ ap (λ x. filter (is_of_class (Shown o.name)) before ++ x) one in
-          ap (λ (x : List (List ℕ)). length x) all ∙ length-more (filter (is_of_class (Shown o.name)) before) line
+          ap (λ (x : List (List ℕ)). length x) all ∙ length-append (filter (is_of_class (Shown o.name)) before) (line ∷ [])
 
       there : (zs : List Tuple) (i : ℕ) → i < length zs → slice_get zs i ≡ None → ⊥
       there [] i lt e = omega (arith, lt)
@@ -92,7 +94,7 @@ module _ (record_at : ℕ → List ℕ) (streams : List (List Tuple)) (o : Wante
 
       by : (x : Option Tuple) → slice_get xs at ≡ x → drop (count_of (before ++ (line ∷ [])) o.name) ys ≡ filter t (drop (at + 1) xs)
       by None is = absurd (there xs at inside is)
-      by (Some x) is = ap (λ k. drop k ys) one_line ∙ sym (drop-one ys count) ∙ ap (drop 1) (rest_is ∙ one_from t xs at x is (skips.stands x is))
+      by (Some x) is = ap (λ k. drop k ys) one_line ∙ sym (drop-drop 1 count ys) ∙ ap (drop 1) (rest_is ∙ one_from t xs at x is (skips.stands x is))
 
   -- whether it is still to show something
   size_of : (zs : List Tuple) (k : ℕ) → drop k zs ≡ [] → nat_lt k (length zs) ≡ false
@@ -150,26 +152,26 @@ names_of os = map (λ o. o.name) os
 other_name : (name : List ℕ) (os : List Wanted) (j : ℕ) (o : Wanted) → contains_bytes name (names_of os) ≡ false → slice_get os j ≡ Some o → same_bytes name o.name ≡ false
 other_name name [] j o h at = cc
 other_name name (y ∷ os) zero o h at =
-    let same = some_same y o at in
-    subst (λ (z : Wanted). same_bytes name z.name ≡ false) same (or-false (same_bytes name y.name) (contains_bytes name (names_of os)) h).0
-other_name name (y ∷ os) (suc j) o h at = other_name name os j o (or-false (same_bytes name y.name) (contains_bytes name (names_of os)) h).1 at
+    let same = same_Some y o at in
+    subst (λ (z : Wanted). same_bytes name z.name ≡ false) same (or_parts (same_bytes name y.name) (contains_bytes name (names_of os)) h).0
+other_name name (y ∷ os) (suc j) o h at = other_name name os j o (or_parts (same_bytes name y.name) (contains_bytes name (names_of os)) h).1 at
 
 -- two outputs with one name are one output
 one_name : (os : List Wanted) (i j : ℕ) (a b : Wanted) → are_distinct (names_of os) ≡ true → slice_get os i ≡ Some a → slice_get os j ≡ Some b → a.name ≡ b.name → i ≡ j
 one_name [] i j a b d ia jb same = cc
 one_name (y ∷ os) zero zero a b d ia jb same = refl
 one_name (y ∷ os) zero (suc j) a b d ia jb same =
-    let first = not-false (contains_bytes y.name (names_of os)) (and-true (not (contains_bytes y.name (names_of os))) (are_distinct (names_of os)) d).0 in
+    let first = not-true (contains_bytes y.name (names_of os)) (and_parts (not (contains_bytes y.name (names_of os))) (are_distinct (names_of os)) d).0 in
     let other = other_name y.name os j b first jb in
-    let e : y.name ≡ b.name = ap (λ (z : Wanted). z.name) (some_same y a ia) ∙ same in
+    let e : y.name ≡ b.name = ap (λ (z : Wanted). z.name) (same_Some y a ia) ∙ same in
     let yes : same_bytes y.name b.name ≡ true = ap (λ n. same_bytes n b.name) e ∙ same_bytes-refl b.name in absurd (cc)
 one_name (y ∷ os) (suc i) zero a b d ia jb same =
-    let first = not-false (contains_bytes y.name (names_of os)) (and-true (not (contains_bytes y.name (names_of os))) (are_distinct (names_of os)) d).0 in
+    let first = not-true (contains_bytes y.name (names_of os)) (and_parts (not (contains_bytes y.name (names_of os))) (are_distinct (names_of os)) d).0 in
     let other = other_name y.name os i a first ia in
-    let e : y.name ≡ a.name = ap (λ (z : Wanted). z.name) (some_same y b jb) ∙ sym same in
+    let e : y.name ≡ a.name = ap (λ (z : Wanted). z.name) (same_Some y b jb) ∙ sym same in
     let yes : same_bytes y.name a.name ≡ true = ap (λ n. same_bytes n a.name) e ∙ same_bytes-refl a.name in absurd (cc)
 one_name (y ∷ os) (suc i) (suc j) a b d ia jb same =
-    ap suc (one_name os i j a b (and-true (not (contains_bytes y.name (names_of os))) (are_distinct (names_of os)) d).1 ia jb same)
+    ap suc (one_name os i j a b (and_parts (not (contains_bytes y.name (names_of os))) (are_distinct (names_of os)) d).1 ia jb same)
 
 -- a line of output i, of which the place alone has changed
 pub places_after : (record_at : ℕ → List ℕ) (streams : List (List Tuple)) (os : List Wanted) (places now : List ℕ) (before : List (List ℕ)) (line : List ℕ) (i : ℕ) (o : Wanted)
@@ -181,11 +183,11 @@ places_after record_at streams os places now before line i o d at first hit miss
       | inl holds ↦
           let same : o.name ≡ b.name = sym (same_bytes-true (first_field line) o.name first) ∙ same_bytes-true (first_field line) b.name holds in
           let ij = one_name os i j o b d at there same in
-          let both : o ≡ b = some_same o b (sym at ∙ ap (slice_get os) ij ∙ there) in
+          let both : o ≡ b = same_Some o b (sym at ∙ ap (slice_get os) ij ∙ there) in
           subst (λ k. IsAtPlace record_at streams b (slice_index now k) (before ++ (line ∷ []))) ij (subst (λ (z : Wanted). IsAtPlace record_at streams z (slice_index now i) (before ++ (line ∷ []))) both hit)
       | inr fails ↦
           let apart : j ≢ i = λ e.
-          (let both : o ≡ b = some_same o b (sym at ∙ ap (slice_get os) (sym e) ∙ there) in
+          (let both : o ≡ b = same_Some o b (sym at ∙ ap (slice_get os) (sym e) ∙ there) in
           let yes : has_first b.name line ≡ true = subst (λ (z : Wanted). has_first z.name line ≡ true) both first in absurd (cc)) in
           other_line record_at streams b (slice_index now j) before line fails (subst (λ k. IsAtPlace record_at streams b k before) (sym (miss j apart)) (h j b there))
     ]
@@ -197,5 +199,5 @@ places_same record_at streams os places before line none h j b there = other_lin
   where
     by : (xs : List Wanted) (j : ℕ) (b : Wanted) → list_any (λ (o : Wanted). has_first o.name line) xs ≡ false → slice_get xs j ≡ Some b → has_first b.name line ≡ false
     by [] j b none there = cc
-    by (x ∷ xs) zero b none there = subst (λ (z : Wanted). has_first z.name line ≡ false) (some_same x b there) (or-false (has_first x.name line) (list_any (λ (o : Wanted). has_first o.name line) xs) none).0
-    by (x ∷ xs) (suc j) b none there = by xs j b (or-false (has_first x.name line) (list_any (λ (o : Wanted). has_first o.name line) xs) none).1 there
+    by (x ∷ xs) zero b none there = subst (λ (z : Wanted). has_first z.name line ≡ false) (same_Some x b there) (or_parts (has_first x.name line) (list_any (λ (o : Wanted). has_first o.name line) xs) none).0
+    by (x ∷ xs) (suc j) b none there = by xs j b (or_parts (has_first x.name line) (list_any (λ (o : Wanted). has_first o.name line) xs) none).1 there

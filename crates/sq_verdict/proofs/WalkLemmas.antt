@@ -2,10 +2,12 @@
 use Rattle.std.proofs.Common.{◌≡◌, ◌≢◌, inl, inr, ℕ, zero, suc, ◌+◌, ◌<◌, ◌==◌, ◌||◌, max, Bool, true, false, not, List, [], ◌∷◌, ◌++◌, length, map, drop, get_or, refl, ap, sym, ◌∙◌, arith, append-nil, Some, None}
 use Rattle.std.specs.Prelude.{nat_lt, slice_get, slice_index, option_map, if◌then◌else◌}
 use Rattle.std.specs.List.{find, list_any}
-use Rattle.std.proofs.lemmas.Bool.{cases_Bool}
+use Rattle.std.proofs.lemmas.Bool.{cases_Bool, or_parts}
 use Rattle.std.proofs.lemmas.Bool.Decides.{nat_tests}
 use Rattle.std.proofs.lemmas.Grind.{flat_map-append}
+use Rattle.std.proofs.lemmas.List.{length-append}
 use Rattle.std.proofs.lemmas.List.Folds.{list_any-append}
+use Rattle.std.proofs.lemmas.Option.{slice_get-map}
 use Rattle.sq_value.specs.declared.Tuple.{Tuple}
 use Rattle.sq_value.specs.Lists.{max_by, same_bytes}
 use Rattle.sq_value.specs.Classes.{whole_lines, unfinished}
@@ -19,7 +21,6 @@ use Rattle.sq_verdict.specs.Faults.{Lines, batch_of, drop_in, recorded, has_firs
 use Rattle.sq_verdict.specs.Wanting.{shown_of, shown_one}
 use Rattle.sq_verdict.specs.Walking.{IsAfter, AreAtPlaces, IsAtPlace, IsMost}
 use Rattle.sq_verdict.proofs.Accepts.{found, any_none, ends_last-is}
-use Rattle.sq_verdict.proofs.Plain.{or-false, get-map, length-more}
 use Rattle.sq_verdict.proofs.PlaceLemmas.{names_of}
 
 -- ---- the output with a number, among lines by name
@@ -78,7 +79,7 @@ module _ (record_at : ℕ → List ℕ) (streams : List (List Tuple)) (line : Li
   named_none : (os : List Wanted) → list_any (λ o. has_first o.0 line) (shown_of record_at streams os) ≡ false → list_any (λ (o : Wanted). has_first o.name line) os ≡ false
   named_none [] h = refl
   named_none (o ∷ os) h =
-      let parts = or-false (has_first o.name line) (list_any (λ o. has_first o.0 line) (shown_of record_at streams os)) h in
+      let parts = or_parts (has_first o.name line) (list_any (λ o. has_first o.0 line) (shown_of record_at streams os)) h in
       rw parts.0 (named_none os parts.1)
 
   pub none_found : (os : List Wanted) → output_in (shown_of record_at streams os) line ≡ None → list_any (λ (o : Wanted). has_first o.name line) os ≡ false
@@ -87,7 +88,7 @@ module _ (record_at : ℕ → List ℕ) (streams : List (List Tuple)) (line : Li
   pub one_found : (os : List Wanted) (i : ℕ) (o : Wanted) → slice_get os i ≡ Some o → output_in (shown_of record_at streams os) line ≡ slice_get (shown_of record_at streams os) i
       → (output_in (shown_of record_at streams os) line ≡ Some (shown_one record_at streams o)) × (has_first o.name line ≡ true)
   one_found os i o at e =
-      let is = e ∙ get-map (shown_one record_at streams) os i ∙ ap (option_map (shown_one record_at streams)) at in
+      let is = e ∙ slice_get-map (shown_one record_at streams) os i ∙ ap (option_map (shown_one record_at streams)) at in
       (is, (found (λ o. has_first o.0 line) (shown_of record_at streams os) (shown_one record_at streams o) is).passes)
 
 -- ---- what was recorded
@@ -173,7 +174,7 @@ module _ (record_at : ℕ → List ℕ) (streams : List (List Tuple)) (os : List
     walked_more b now_most now_places none after = record {
       before = h.before ++ (line ∷ []);
       after = after;
-      number_is = ap (λ k. k + 1) h.number_is ∙ sym (length-more h.before line);
+      number_is = ap (λ k. k + 1) h.number_is ∙ sym (length-append h.before (line ∷ []));
       verdict_is = sym (ap (λ o. at_line (length h.before) o (verdict_from shown drops (unfinished text) (h.before ++ (line ∷ [])) (whole_lines rest))) none) ∙ next_verdict;
       left_is = sym cut.left ∙ h.left_is;
     }
