@@ -1,0 +1,37 @@
+// What is asked of a text, and what is answered.
+use sq_value::Name;
+
+/// What an output is to show.
+#[derive(Drop)]
+pub struct Wanted {
+    /// The name that its lines begin with.
+    pub name: Name,
+    /// The number of its stream among those that are given.
+    pub stream: u32,
+    /// The number of the drop above it and the length of that drop's batches in ticks; none where no drop is above.
+    pub above: Option<(u32, u64)>,
+}
+
+/// Why a text fails.
+#[derive(Clone, Copy, Debug, PartialEq, Eq, Drop)]
+pub enum AuditWhy {
+    /// The line stands behind an end line.
+    End,
+    /// The line begins with no output's name and no word of a run, or begins as an end line and is more.
+    Form,
+    /// The line records no batch of a drop that is there, or one that isn't above those before it.
+    Drop,
+    /// The line isn't the next one of its output.
+    Line,
+    /// Behind the last line bytes are left, or the end line or lines of an output are missing.
+    Short,
+}
+
+/// The verdict on a text.
+#[derive(Clone, Copy, Debug, PartialEq, Eq, Drop)]
+pub enum Verdict {
+    /// It shows what it is to show.
+    Yes,
+    /// It doesn't: the first line that has a fault, counted from 1, or the one behind the last, and why.
+    No { line: u64, why: AuditWhy },
+}
