@@ -1,5 +1,5 @@
 // An audit: what it reads, and the line that it writes.
-ghost use Rattle.std.specs.Prelude.{◌≡◌, ◌≢◌, ℕ, ◌≤◌, true, IfErr, IfOk, List, OnErr, OnOk, Option, Some, length, map};
+ghost use Rattle.std.specs.Prelude.{◌≡◌, ◌≢◌, ℕ, ◌≤◌, true, IfErr, IfOk, List, OnErr, OnOk, Option, Some, map};
 ghost use Rattle.sq_outside.specs.Disks.{Pages};
 ghost use Rattle.sq_outside.specs.Sinks.{AppendsPrefix, appended};
 ghost use Rattle.sq_net.specs.Sound.{IsSound};
@@ -50,7 +50,6 @@ fn prepare_audit<F: Folder>(
     ensures sound { IfOk result (λ a. IsSound a.0.network) }
     ensures limits { IfOk result (λ a. KeepsDropLimits a.0.network) }
     ensures recorded { IfOk result (λ a. AreRecorded a.0.network.sources (map (λ xs. xs.items) a.0.sources.items)) }
-    ensures within { IfOk result (λ a. length a.1.items ≤ 268435456) }
     ensures accepted { IfOk result (λ a. (words : List (List ℕ)) → command_in words ≡ Some (Command.Audit net text.now)
         → Leads (F.files folder.old) (F.read folder.old) (F.read folder.new) (script_of words) (Done (with_text (replay_of a.0) a.1.items))) }
     ensures stopped { IfErr result (λ s. (words : List (List ℕ)) → command_in words ≡ Some (Command.Audit net text.now)
@@ -73,10 +72,14 @@ fn verdict_line(alloc: Global, accepted: &Accepted, text: &[u8]) -> Result<Vec<u
     requires sound { IsSound accepted.now.network }
     requires limits { KeepsDropLimits accepted.now.network }
     requires recorded { AreRecorded accepted.now.network.sources (map (λ xs. xs.items) accepted.now.sources.items) }
-    requires within { length text.now ≤ 268435456 }
     ensures { IfOk result (λ line. line.items ≡ verdict_of (with_text (replay_of accepted.now) text.now)) }
 {
-    let verdict = audit_text(alloc, &accepted.network, &accepted.sources, text)?;
+    let verdict = audit_text(
+        alloc,
+        &accepted.network,
+        accepted.sources.as_slice(),
+        text,
+    )?;
     let mut line = Vec::new(alloc);
     append_verdict_line(verdict, &mut line)?;
     Ok(line)
@@ -92,7 +95,6 @@ fn write_verdict<S: Sink>(
     requires sound { IsSound accepted.now.network }
     requires limits { KeepsDropLimits accepted.now.network }
     requires recorded { AreRecorded accepted.now.network.sources (map (λ xs. xs.items) accepted.now.sources.items) }
-    requires within { length text.now ≤ 268435456 }
     ensures ok { OnOk result (S.written out.new ≡ appended (S.written out.old) (verdict_of (with_text (replay_of accepted.now) text.now))) }
     ensures err { OnErr result (AppendsPrefix (S.written out.old) (S.written out.new) (verdict_of (with_text (replay_of accepted.now) text.now))) }
     ensures alone { IfErr result (λ s. s ≢ Status.SinkFault → S.written out.new ≡ S.written out.old) }
