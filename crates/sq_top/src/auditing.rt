@@ -74,12 +74,7 @@ fn verdict_line(alloc: Global, accepted: &Accepted, text: &[u8]) -> Result<Vec<u
     requires recorded { AreRecorded accepted.now.network.sources (map (λ xs. xs.items) accepted.now.sources.items) }
     ensures { IfOk result (λ line. line.items ≡ verdict_of (with_text (replay_of accepted.now) text.now)) }
 {
-    let verdict = audit_text(
-        alloc,
-        &accepted.network,
-        accepted.sources.as_slice(),
-        text,
-    )?;
+    let verdict = audit_text(alloc, &accepted.network, accepted.sources.as_slice(), text)?;
     let mut line = Vec::new(alloc);
     append_verdict_line(verdict, &mut line)?;
     Ok(line)
