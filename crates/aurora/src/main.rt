@@ -1,9 +1,10 @@
 //! The program `aurora`: what the words after its name ask for, a run of the working folder's files or of what a number
 //! makes, over the standard streams.
 //!
-//! It promises nothing beyond `run_words` of `sq_top`, which it calls once over the real objects of `sq_system`. They
-//! tell no content, so of a run of files the contract says how it ended, and what was written is shown by a stored run.
-//! Its exit code is that of the status.
+//! It promises nothing beyond `run_words` of `sq_top`, which it calls once over the real objects of `sq_system`. What
+//! that says of refusals and messages is about the very bytes that were read and all that the outputs took. Its clauses
+//! on answers ask for a disk that tells its pages, as the one in memory does and a file can't: that the program's
+//! answers are right is shown by stored runs. Its exit code is that of the status.
 #![tactic(auto)]
 
 ghost use Rattle.std.specs.Prelude.{◌≡◌, ◌<◌};

@@ -3,17 +3,18 @@ ghost use Rattle.std.specs.Prelude.{◌≤◌, IsErr};
 ghost use Rattle.sq_outside.specs.Faults.{Rose};
 
 use sq_outside::{Failed, PAGE, PageDisk};
+use std::alloc::AllocError;
 use std::fs::{File, OpenOptions};
 use std::io::ErrorKind;
 use std::os::unix::fs::{FileExt, OpenOptionsExt};
 use std::{fs, io};
 
-/// The name of the spill file, in the working folder.
-const SPILL: &str = "aurora.spill";
+/// How many names are tried for a spill file.
+const NAMES: u32 = 1000;
 
-/// Pages in a file: page n stands at byte n * 8192. The file is made at the first put, for this user alone, and loses its
-/// name at once, so that nothing of it is left at the end, however a run ends. Where something stands at its name the put is
-/// a fault, and what stands there isn't touched.
+/// Pages in a file: page n stands at byte n * 8192. The file is made at the first put, in the working folder and for this user
+/// alone, under the first name that is free of `aurora.spill`, `aurora.spill.1` and so on. It loses its name at once, so that
+/// nothing of it is left at the end, however a run ends. What stands at a name that isn't free isn't touched.
 #[derive(Drop)]
 pub struct SpillFile<'a> {
     rt: &'a HostRuntime,
@@ -46,16 +47,38 @@ impl<'a> SpillFile<'a> {
     }
 }
 
-// A new file without a name.
-fn nameless_file(rt: &HostRuntime) -> io::Result<File> {
+// The names that are tried, by number.
+fn spill_name(rt: &HostRuntime, number: u32) -> Result<String, AllocError> {
+    match number {
+        0 => format!(in rt.alloc(); "aurora.spill"),
+        _ => format!(in rt.alloc(); "aurora.spill.{number}"),
+    }
+}
+
+// A new file, which loses this name at once.
+fn unnamed_file(rt: &HostRuntime, name: &str) -> io::Result<File> {
     let file = OpenOptions::new()
         .read(true)
         .write(true)
         .create_new(true)
         .mode(0o600)
-        .open(rt, SPILL)?;
-    fs::remove_file(rt, SPILL)?;
+        .open(rt, name)?;
+    fs::remove_file(rt, name)?;
     Ok(file)
+}
+
+// A new file without a name, made under the first name that is free.
+fn nameless_file(rt: &HostRuntime) -> io::Result<File> {
+    for number in 0..NAMES {
+        let Ok(name) = spill_name(rt, number) else {
+            return Err(ErrorKind::OutOfMemory.into());
+        };
+        match unnamed_file(rt, name.as_str()) {
+            Err(e) if e.kind() == ErrorKind::AlreadyExists => {}
+            end => return end,
+        }
+    }
+    Err(ErrorKind::AlreadyExists.into())
 }
 
 // Where a page stands, if the file may be that long.

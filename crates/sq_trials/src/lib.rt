@@ -1,73 +1,15 @@
-//! Tests of the crates below, by their public calls: what no contract says, as printed text, outside vectors, and that each call
-//! can succeed. It offers nothing.
+//! Tests of whole networks, by the public calls of the slow definitions, the audit, the engine and the top call: what no contract
+//! says, and that each call can succeed. It offers nothing.
 //!
 //! They stand here and not in the crates that they test, since a crate with tests is proved a second time, as a program with
-//! them: here a test costs just its own functions.
+//! them: here a test costs just its own functions. The parts below are tested in `sq_part_trials`.
 #![tactic(auto)]
 
 #[cfg(test)]
-mod agg;
-#[cfg(test)]
-mod aggfn;
-#[cfg(test)]
-mod csv;
-#[cfg(test)]
-mod expr;
-#[cfg(test)]
-mod feeding;
-#[cfg(test)]
-mod generator;
+mod auditing;
 #[cfg(test)]
 mod given;
 #[cfg(test)]
-mod graph;
-#[cfg(test)]
-mod item;
-#[cfg(test)]
-mod join;
-#[cfg(test)]
-mod link;
-#[cfg(test)]
-mod lists;
-#[cfg(test)]
 mod model;
 #[cfg(test)]
-mod numbers;
-#[cfg(test)]
-mod oper;
-#[cfg(test)]
-mod outside;
-#[cfg(test)]
-mod page;
-#[cfg(test)]
-mod paged;
-#[cfg(test)]
-mod pane;
-#[cfg(test)]
-mod place;
-#[cfg(test)]
-mod plain;
-#[cfg(test)]
-mod pool;
-#[cfg(test)]
-mod qos;
-#[cfg(test)]
-mod queue;
-#[cfg(test)]
-mod reader;
-#[cfg(test)]
-mod replay;
-#[cfg(test)]
-mod resample;
-#[cfg(test)]
-mod road;
-#[cfg(test)]
-mod sched;
-#[cfg(test)]
-mod tables;
-#[cfg(test)]
 mod top;
-#[cfg(test)]
-mod value;
-#[cfg(test)]
-mod windrop;

@@ -15,18 +15,21 @@ fn a_page_comes_back_from_a_file_without_a_name(rt: HostRuntime) -> Result<(), F
     assert_eq!(rt; disk.get(3, &mut page), Err(Failed));
     assert_eq!(rt; disk.put(1 << 50, &page), Err(Failed));
     assert_eq!(rt; disk.faults, 3);
-    assert_eq!(rt; fs::exists(&rt, SPILL)?, false);
+    assert_eq!(rt; fs::exists(&rt, "aurora.spill")?, false);
     Ok(())
 }
 
 #[test]
-fn what_stands_at_the_name_of_the_spill_file_is_not_touched(rt: HostRuntime) -> Result<(), Fail> {
-    fs::write(&rt, SPILL, "mine")?;
+fn what_stands_at_a_name_is_not_touched_and_the_next_is_taken(rt: HostRuntime) -> Result<(), Fail> {
+    fs::write(&rt, "aurora.spill", "mine")?;
     let mut disk = SpillFile::new(&rt);
+    let mut page = [0; PAGE];
     let put = disk.put(0, &[5; PAGE]);
-    let kept = fs::read_to_string(&rt, SPILL)?;
-    fs::remove_file(&rt, SPILL)?;
-    assert_eq!(rt; (put, disk.faults), (Err(Failed), 1));
+    let kept = fs::read_to_string(&rt, "aurora.spill")?;
+    fs::remove_file(&rt, "aurora.spill")?;
+    assert_eq!(rt; (put, disk.faults), (Ok(()), 0));
+    assert_eq!(rt; (disk.get(0, &mut page), page[0]), (Ok(()), 5));
     assert_eq!(rt; kept.as_str(), "mine");
+    assert_eq!(rt; fs::exists(&rt, "aurora.spill.1")?, false);
     Ok(())
 }
