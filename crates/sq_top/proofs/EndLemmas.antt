@@ -51,7 +51,7 @@ use Rattle.sq_top.specs.Scripts.{Replay, Script, Reads, Done, Stops, after_words
 use Rattle.sq_top.specs.Reads.{GoesBy, IfAccepted, Leads, network_read}
 use Rattle.sq_paged.specs.Fronts.{Tells}
 use Rattle.sq_top.specs.Stopping.{StopHasCause, is_changed}
-use Rattle.sq_top.specs.Causes.{AppendsSuch, Begins, BeginsSummary, Ends, IsEngineOf, IsPrefixOfDue, IsRefusedAt, IsStopped, IsWholeOf, NamesSource, TellsFor, TellsStatus, World, is_refusal, turns_for, verdict_of, work_for}
+use Rattle.sq_top.specs.Causes.{AppendsSuch, BeginsSummary, BeginsText, Ends, IsEngineOf, IsPrefixOfDue, IsRefusedAt, IsStopped, IsWholeOf, NamesSource, TellsFor, TellsStatus, World, is_refusal, turns_for, verdict_of, work_for}
 use Rattle.sq_top.proofs.SortedLines.{and-true}
 use Rattle.sq_top.proofs.ReadsLemmas.{leads_self, left_holds, none_given}
 use Rattle.sq_top.proofs.StoppedLemmas.{memory_at, some_none, stopped_memory, stopped_rule}
@@ -224,7 +224,7 @@ nothing_more before (b ∷ bs) e =
 
 -- a part of what is written at once
 pub appends_begun : (whole : List ℕ) (before now : Option (List ℕ)) (s : Status) → AppendsPrefix before now whole → (s ≢ status.SinkFault → now ≡ before)
-    → AppendsSuch before now (Begins whole s)
+    → AppendsSuch before now (BeginsText whole s)
 appends_begun whole None now s part alone = part.2
 appends_begun whole (Some before) now s part alone =
     (part.0, part.2, (part.1, λ other. nothing_more before part.0 (let both : Some (before ++ part.0) ≡ Some before = sym part.2 ∙ alone other in cc)))

@@ -9,7 +9,7 @@ use Rattle.sq_core.specs.Runs.{fed_at, late_at}
 use Rattle.sq_top.specs.declared.Status.{Status}
 use Rattle.sq_top.specs.declared.Status.TheVariants as status
 use Rattle.sq_top.specs.declared.counting.Counts.{Counts}
-use Rattle.sq_top.specs.Causes.{AppendsSuch, Begins, BeginsSummary}
+use Rattle.sq_top.specs.Causes.{AppendsSuch, BeginsSummary, BeginsText}
 use Rattle.sq_top.specs.Counting.{IsSummed, engine_summary}
 use Rattle.sq_points.specs.Points.{drops_in}
 use Rattle.sq_top.specs.Due.{answer_in, fed_in, late_in}
@@ -44,4 +44,4 @@ module _ (number rows : ℕ) (r : Replay) where
     -- a part of it is lost
     pub summary_cut : (before now : Option (List ℕ)) (s : Status) → AppendsPrefix before now (engine_summary number rows engine counts)
         → (s ≢ status.SinkFault → now ≡ before) → AppendsSuch before now (BeginsSummary number rows r s)
-    summary_cut before now s part alone = subst (λ whole. AppendsSuch before now (Begins whole s)) summary_is (appends_begun (engine_summary number rows engine counts) before now s part alone)
+    summary_cut before now s part alone = subst (λ whole. AppendsSuch before now (BeginsText whole s)) summary_is (appends_begun (engine_summary number rows engine counts) before now s part alone)

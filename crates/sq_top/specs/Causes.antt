@@ -100,18 +100,18 @@ IsWholeOf (Some (command.Gen number rows)) r text = text ≡ summary_of number r
 IsWholeOf (Some (command.Audit net out)) r text = text ≡ verdict_of r
 
 -- a beginning of what is written at once: nothing, unless the output failed
-abbrev pub Begins : List ℕ → Status → List ℕ → Type 0
-Begins whole result text = IsPrefixOf text whole × (result ≢ status.SinkFault → text ≡ [])
+abbrev pub BeginsText : List ℕ → Status → List ℕ → Type 0
+BeginsText whole result text = IsPrefixOf text whole × (result ≢ status.SinkFault → text ≡ [])
 
 abbrev pub BeginsSummary : ℕ → ℕ → model.Replay → Status → List ℕ → Type 0
-BeginsSummary number rows r result text = Begins (summary_of number rows r) result text
+BeginsSummary number rows r result text = BeginsText (summary_of number rows r) result text
 
 -- what a command has written at this status: a prefix of the lines of each class, or a beginning of the summary or of the verdict
 abbrev pub IsPrefixOfDue : Option Command → Replay → Status → List ℕ → Type 0
 IsPrefixOfDue None r result text = IsPrefixText (due_of r) text
 IsPrefixOfDue (Some (command.Run args)) r result text = IsPrefixText (due_of r) text
 IsPrefixOfDue (Some (command.Gen number rows)) r result text = BeginsSummary number rows (replayed r) result text
-IsPrefixOfDue (Some (command.Audit net out)) r result text = Begins (verdict_of r) result text
+IsPrefixOfDue (Some (command.Audit net out)) r result text = BeginsText (verdict_of r) result text
 
 -- the disk tells its pages, where a command runs an engine
 abbrev pub TellsFor : Option Command → Option Pages → Type 0
