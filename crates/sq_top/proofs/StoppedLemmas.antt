@@ -326,7 +326,7 @@ module _ (words : List (List ℕ)) (told : Option Files) (rb rm rn : List (List 
   stopped_streams fb fn tb tn result source (inr (inl (number, s, line, why, at, to, bad))) =
       let l = with_then told words r.network rb rm rn _ _ leads to in
       subst (λ x. IsStopped words told fb fn tb tn rb rn x source) (sym bad.0)
-      (stopped_rule words told fb fn tb tn rb rn source (status.BadStream number line why) tt some (words_lead told words r.network rb rn _ l)
+      (stopped_rule words told fb fn tb tn rb rn source (status.BadStream number line why) tt some (l.0, l.1, l.3)
       (names_source l.0 number s line why source l.2 at bad.1))
   stopped_streams fb fn tb tn result source (inr (inr (left, to, memory))) =
       let l = with_then told words r.network rb rm rn _ _ leads to in
