@@ -14,7 +14,7 @@ use sq_net::{Network, Output};
 use sq_place::{DropPoint, PlaceErr};
 use sq_points::network_points;
 use sq_value::{Tuple, copy_name, copy_tuple};
-use sq_verdict::{Verdict, Wanted, verdict_on};
+use sq_verdict::{Verdict, Wanted, verdict_of};
 use std::alloc::{AllocError, Global};
 
 // The drop points of a network that keeps their limits, so only want of memory is left to refuse them.
@@ -131,5 +131,5 @@ pub fn audit_text(
     let wanted = wanted_of(alloc, n, points.as_slice(), n.outputs.as_slice())?;
     let streams = full_streams(alloc, n, copies(alloc, sources)?)?;
     let drops = points.as_slice().len() as u32;
-    verdict_on(alloc, wanted.as_slice(), streams.as_slice(), drops, text)
+    verdict_of(alloc, wanted.as_slice(), streams.as_slice(), drops, text)
 }

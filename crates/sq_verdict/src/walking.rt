@@ -81,7 +81,7 @@ fn output_of(outputs: &[Wanted], field: &[u8]) -> Option<usize>
 }
 
 /// Whether a line is that of the tuple at a place.
-fn is_line_at(
+fn is_line_of(
     name: &Name,
     tuples: &[Tuple],
     at: usize,
@@ -128,7 +128,7 @@ fn place_behind(
 {
     let tuples = stream_in(streams, output.stream);
     let at = next_place(sets, output.above, tuples, place);
-    if is_line_at(&output.name, tuples, at, line, buffer)? {
+    if is_line_of(&output.name, tuples, at, line, buffer)? {
         return Ok(Some(at + 1));
     }
     Ok(None)
@@ -376,7 +376,7 @@ fn walk_text(
 
 /// The verdict on a text: whether it shows each of these outputs, which have different names, with its stream less the batches
 /// that the text records, where there are so many drops. It fails only for want of memory.
-pub fn verdict_on(
+pub fn verdict_of(
     alloc: Global,
     outputs: &[Wanted],
     streams: &[Vec<Tuple>],

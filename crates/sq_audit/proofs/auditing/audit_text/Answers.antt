@@ -16,10 +16,10 @@ returns c =
     let streams = ap (map (λ t. t.items)) c.as_slice-5.ensures.value ∙ c.in_ok-streams.ensures
     ∙ ap (full_streams n) c.in_ok-copies.ensures in
     let many : drops ≡ drops_in n = ap (λ ps. length ps) (c.as_slice-3.ensures.value ∙ c.in_ok-points.ensures) in
-    IfOk-weaker c.verdict_on.result _ _
+    IfOk-weaker c.verdict_of.result _ _
     (λ v h.
     h
     ∙ ap (λ os. verdict_of os (map (λ t. t.items) c.as_slice-5.result.now) drops text) wanted
     ∙ ap (λ ss. verdict_of (wanted_of n) ss drops text) streams
     ∙ ap (λ k. verdict_of (wanted_of n) (full_streams n sources) k text) many)
-    c.verdict_on.ensures
+    c.verdict_of.ensures
