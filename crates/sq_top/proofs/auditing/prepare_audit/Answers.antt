@@ -18,8 +18,8 @@ returns-in-Ok-read_file-clause-accepted g c words asked =
     (c.in-Ok.ensures.accepted (run_words c.args.net) (run_asked c.args.net c.requires ∙ ap (λ x. Some (command.Run x)) (sym c.plain_args.ensures))) c.in-Ok-read_file.bytes.items
     (rw c.in-Ok.ensures.files at c.in-Ok-read_file.ensures.whole, c.in-Ok-read_file.ensures.gives)
 
-pub returns-clause-stopped : goal.returns-clause-stopped
-returns-clause-stopped g c words asked =
+pub returns-in-Err-read_file-clause-stopped : goal.returns-in-Err-read_file-clause-stopped
+returns-in-Err-read_file-clause-stopped g c words asked =
     let told = g.F.Folder.files c.args.folder.now in
     rw (c.stopped_by.ensures.0, c.stopped_by.ensures.1)
     (stopped_text words c.args.net c.args.text.now asked told c.requires (g.F.Folder.read c.args.folder.now) (g.F.Folder.read c.prepare.new.folder) (g.F.Folder.read c.read_file.new.folder)
