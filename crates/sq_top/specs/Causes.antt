@@ -253,8 +253,8 @@ pub record World : Type 0 where
   pub steps_before : ℕ
   pub steps_now : ℕ
 
--- how a run ends, but for its message. By the bytes of the files that it read it came to what is left of the script of its words: all was
--- accepted, a rule is broken, or a file isn't read
+-- how a run ends, but for its message. By the bytes that the folder's reads gave in it, it came to what is left of the script of its words:
+-- all was accepted, a rule is broken, or a file isn't read
 pub record Ends (words : List (List ℕ)) (w : World) (result : Status) (source : List ℕ) : Type 0 where
   -- the bytes of each file that was read, in order: all that the folder's reads gave in this run, none made up and none left out
   pub read : List (List ℕ)

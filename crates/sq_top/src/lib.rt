@@ -1,14 +1,15 @@
 //! The top call: what the words ask for, done over a folder, a disk and two sinks.
 //!
-//! `run_words` carries the promise of the whole engine, by the bytes that the folder's reads gave in that run, and over a
-//! disk and sinks that tell what they hold: a run that ends Ok has written exactly the lines that belong to each class and
-//! taken exactly the steps of its work; any other end leaves a prefix of each class and has a cause of its own, whatever
-//! the schedule and however few pages stay in memory. Where a folder tells its files, they decide (`told_files_decide`).
-//! `drive` carries the part of it that an engine does. A run of what a number makes is a replay as any other, of which the numbers
-//! of lines are written in their place. An audit runs no engine: it reads a network, the streams of its sources and a text, and
-//! writes the verdict on the text as one line. Below stand `sq_gen` for what a number makes, `sq_reader` and `sq_replay` for
-//! texts, `sq_core` for the engine, `sq_sched` for schedules, `sq_model` for the answers, the records of what is dropped and the
-//! plans, `sq_audit` for verdicts, and `sq_outside` for the objects.
+//! `run_words` carries the promise of the whole engine, by the bytes that the folder's reads gave in that run, and
+//! over a disk and sinks that tell what they hold: a run that ends Ok has written exactly the lines that belong to
+//! each class and taken exactly the steps of its work; any other end leaves a prefix of each class and has a cause of
+//! its own, whatever the schedule and however few pages stay in memory. Where a folder tells its files, they decide
+//! (`told_files_decide`). `drive` carries the part of it that an engine does. A run of what a number makes is a
+//! replay as any other, of which the numbers of lines are written in their place. An audit runs no engine: it reads a
+//! network, the streams of its sources and a text, and writes the verdict on the text as one line. Below stand
+//! `sq_gen` for what a number makes, `sq_reader` and `sq_replay` for texts, `sq_core` for the engine, `sq_sched` for
+//! schedules, `sq_model` for the answers, the records of what is dropped and the plans, `sq_audit` for verdicts, and
+//! `sq_outside` for the objects.
 #![tactic(auto)]
 
 ghost use Rattle.std.specs.Prelude.{◌≡◌, ◌≢◌, ◌≤◌, List, ℕ, false, is_some, map, true};

@@ -1,4 +1,4 @@
-use Rattle.std.proofs.Common.{arith, rules, map, [], ◌∷◌, ◌∙◌, ap, refl}
+use Rattle.std.proofs.Common.{arith, rules, map, [], ◌∷◌, ◌∙◌, ap}
 use Rattle.std.proofs.lemmas.List.{drop_all, length-map, map-append, take_all}
 use Rattle.sq_top.proofs.SourceLemmas.{recorded_more}
 use Rattle.sq_top.proofs.StoppedLemmas.{leads_on, no_streams_at, no_streams_kept}
