@@ -1,17 +1,16 @@
 -- An audit reads what a run of the network's file reads that has no options, and then the text; how it ends.
-use Rattle.std.proofs.Common.{◌≡◌, ◌≢◌, ◌⊎◌, inl, inr, ℕ, ◌+◌, ◌≤◌, Bool, true, false, not, ◌==◌, List, [], ◌∷◌, refl, ap, sym, ◌∙◌, subst, arith, Option, None, Some}
+use Rattle.std.proofs.Common.{◌≡◌, ◌≢◌, ◌⊎◌, inl, inr, ℕ, Bool, true, false, not, ◌==◌, List, [], ◌∷◌, refl, ap, sym, ◌∙◌, subst, arith, Option, None, Some}
 use Rattle.std.specs.Prelude.{codes, IsSome}
 use Rattle.sq_outside.specs.Folders.{Files}
 use Rattle.sq_outside.specs.Sinks.{AppendsPrefix, appended}
-use Rattle.sq_top.specs.declared.Command.{Command}
 use Rattle.sq_top.specs.declared.Command.TheVariants as command
 use Rattle.sq_top.specs.declared.Status.{Status}
 use Rattle.sq_top.specs.declared.Status.TheVariants as status
 use Rattle.sq_top.specs.Commands.{command_in, may_name, runs_engine}
-use Rattle.sq_top.specs.Scripts.{Replay, Script, Reads, Done, Stops, after_words, audit_script, followed_by, plain_args, run_script, script_of, text_limit, text_script, with_text}
+use Rattle.sq_top.specs.Scripts.{Replay, Script, Reads, Done, Stops, after_words, followed_by, plain_args, script_of, text_limit, text_script, with_text}
 use Rattle.sq_top.specs.Messages.{name_at}
 use Rattle.sq_top.specs.Reads.{GoesBy, IsRead, Leads, network_read}
-use Rattle.sq_top.specs.Causes.{AppendsSuch, BeginsText, Ends, IsPrefixOfDue, IsRefusedAt, IsStopped, IsUnread, IsWholeOf, NamesSource, World, is_plain_end, is_refusal, turns_for, verdict_of, work_for}
+use Rattle.sq_top.specs.Causes.{AppendsSuch, Ends, IsPrefixOfDue, IsRefusedAt, IsStopped, IsUnread, IsWholeOf, NamesSource, World, is_plain_end, is_refusal, verdict_of, work_for}
 use Rattle.sq_top.specs.Writing.{IsLost}
 use Rattle.sq_top.proofs.DrivingLemmas.{not_too_much}
 use Rattle.sq_top.proofs.EndLemmas.{answered_cut, answered_ok, appends_all, appends_begun}

@@ -1,7 +1,7 @@
-use Rattle.std.proofs.Common.{◌≡◌, None, ap, false, map, refl, rules, sym, true, ◌∙◌, Some}
+use Rattle.std.proofs.Common.{◌≡◌, None, ap, map, refl, rules, ◌∙◌, Some}
 use Rattle.std.specs.String.{string_bytes}
 use Rattle.sq_top.specs.declared.Command.{Command}
-use Rattle.sq_top.specs.Commands.{command_in, runs_engine}
+use Rattle.sq_top.specs.Commands.{command_in}
 use Rattle.sq_top.specs.Scripts.{script_of}
 use Rattle.sq_top.proofs.EndLemmas.{stopped_ends}
 use Rattle.sq_top.proofs.ReadsLemmas.{leads_self}
@@ -54,11 +54,3 @@ returns-in-Ok-Audit-clause-ends g c =
 pub returns-in-Ok-Audit-clause-no_engine : goal.returns-in-Ok-Audit-clause-no_engine
 returns-in-Ok-Audit-clause-no_engine g c plain =
     (c.audit_files.ensures.plain (map string_bytes c.args.words.now.items) (c.in-Ok-Audit.ensures.command ∙ ap (λ (x : Command). Some x) c.in-Ok-Audit.field-0-is), refl, refl, refl)
-
-pub returns-in-Ok-Run-clause-no_engine : goal.returns-in-Ok-Run-clause-no_engine
-returns-in-Ok-Run-clause-no_engine g c plain =
-    let engine : true ≡ false = sym (ap runs_engine (c.in-Ok-Run.ensures.command ∙ ap (λ (x : Command). Some x) c.in-Ok-Run.field-0-is)) ∙ plain in absurd (cc)
-
-pub returns-in-Ok-Gen-clause-no_engine : goal.returns-in-Ok-Gen-clause-no_engine
-returns-in-Ok-Gen-clause-no_engine g c plain =
-    let engine : true ≡ false = sym (ap runs_engine (c.in-Ok-Gen.ensures.command ∙ ap (λ (x : Command). Some x) c.in-Ok-Gen.field-0-is)) ∙ plain in absurd (cc)
