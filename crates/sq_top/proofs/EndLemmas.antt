@@ -1,5 +1,5 @@
 -- How a run ends.
-use Rattle.std.proofs.Common.{◌≡◌, ◌≢◌, ◌⊎◌, inl, inr, ℕ, zero, suc, ◌+◌, ◌^◌, ◌<◌, ◌≤◌, Bool, true, false, not, ◌&&◌, List, [], ◌∷◌, ◌++◌, length, refl, ap, sym, ◌∙◌, subst, arith, append_assoc, append-nil, Option, None, Some}
+use Rattle.std.proofs.Common.{◌≡◌, ◌≢◌, ◌⊎◌, inl, inr, ℕ, zero, suc, ◌+◌, ◌^◌, ◌<◌, ◌≤◌, Bool, true, false, not, ◌&&◌, List, [], ◌∷◌, ◌++◌, length, refl, ap, sym, ◌∙◌, subst, arith, append_assoc, append-nil, length-append, Option, None, Some}
 use Rattle.std.specs.Prelude.{map, nat_lt, if◌then◌else◌, IsSome, codes}
 use Rattle.std.specs.Fmt.{decimal}
 use Rattle.std.specs.List.{AllByRecursion, flat_map, list_all, list_any, range_with_len, zip}
@@ -14,7 +14,7 @@ use Rattle.sq_value.specs.Texts.{text_of}
 use Rattle.sq_value.proofs.RowLemmas.{first_field-line_of, is_line-line_of}
 use Rattle.sq_outside.specs.Faults.{Rose}
 use Rattle.sq_outside.specs.Folders.{Files}
-use Rattle.sq_outside.specs.Sinks.{appended}
+use Rattle.sq_outside.specs.Sinks.{AppendsPrefix, appended}
 use Rattle.sq_net.specs.declared.NetErr.TheVariants as net
 use Rattle.sq_net.specs.declared.Network.{Network}
 use Rattle.sq_net.specs.declared.Node.{Node}
@@ -29,7 +29,7 @@ use Rattle.sq_top.specs.declared.Command.{Command}
 use Rattle.sq_top.specs.declared.Command.TheVariants as command
 use Rattle.sq_top.specs.declared.Status.{Status}
 use Rattle.sq_top.specs.declared.Status.TheVariants as status
-use Rattle.sq_top.specs.Commands.{command_in}
+use Rattle.sq_top.specs.Commands.{command_in, runs_engine}
 use Rattle.sq_replay.specs.Shown.{end_lines, fed_line, is_sorter, late_lines}
 use Rattle.sq_csv.proofs.NumberLemmas.{decimal_bare}
 use Rattle.std.proofs.lemmas.List.{length-map}
@@ -51,7 +51,7 @@ use Rattle.sq_top.specs.Scripts.{Replay, Script, Reads, Done, Stops, after_words
 use Rattle.sq_top.specs.Reads.{GoesBy, IfAccepted, Leads, network_read}
 use Rattle.sq_paged.specs.Fronts.{Tells}
 use Rattle.sq_top.specs.Stopping.{StopHasCause, is_changed}
-use Rattle.sq_top.specs.Causes.{AppendsSuch, BeginsSummary, Ends, IsEngineOf, IsPrefixOfDue, IsRefusedAt, IsStopped, IsWholeOf, NamesSource, TellsStatus, World, is_refusal}
+use Rattle.sq_top.specs.Causes.{AppendsSuch, BeginsSummary, BeginsText, Ends, IsEngineOf, IsPrefixOfDue, IsRefusedAt, IsStopped, IsWholeOf, NamesSource, TellsFor, TellsStatus, World, is_refusal, turns_for, verdict_of, work_for}
 use Rattle.sq_top.proofs.SortedLines.{and-true}
 use Rattle.sq_top.proofs.ReadsLemmas.{leads_self, left_holds, none_given}
 use Rattle.sq_top.proofs.StoppedLemmas.{memory_at, some_none, stopped_memory, stopped_rule}
@@ -216,6 +216,19 @@ appends_map : (before now : Option (List ℕ)) (P Q : List ℕ → Type 0) → (
 appends_map None now P Q f a = a
 appends_map (Some before) now P Q f a = (a.0, a.1, f a.0 a.2)
 
+nothing_more : (before part : List ℕ) → before ++ part ≡ before → part ≡ []
+nothing_more before [] e = refl
+nothing_more before (b ∷ bs) e =
+    let count : length (before ++ b ∷ bs) ≡ length before = ap (λ (xs : List ℕ). length xs) e in
+    absurd (omega (arith, count, length-append before (b ∷ bs)))
+
+-- a part of what is written at once
+pub appends_begun : (whole : List ℕ) (before now : Option (List ℕ)) (s : Status) → AppendsPrefix before now whole → (s ≢ status.SinkFault → now ≡ before)
+    → AppendsSuch before now (BeginsText whole s)
+appends_begun whole None now s part alone = part.2
+appends_begun whole (Some before) now s part alone =
+    (part.0, part.2, (part.1, λ other. nothing_more before part.0 (let both : Some (before ++ part.0) ≡ Some before = sym part.2 ∙ alone other in cc)))
+
 -- the texts of a run
 pub whole_of_run : (c : Option Command) (args : RunArgs) (r : Replay) (before now : Option (List ℕ)) → c ≡ Some (command.Run args)
     → AppendsSuch before now (IsWholeText (due_of r)) → AppendsSuch before now (IsWholeOf c r)
@@ -238,12 +251,14 @@ no_due : (c : Option Command) (r : Replay) (s : Status) → TellsClasses (due_of
 no_due None r s tells = no_text (due_of r) tells
 no_due (Some (command.Run args)) r s tells = no_text (due_of r) tells
 no_due (Some (command.Gen number rows)) r s tells = ((summary_of number rows (replayed r), refl), λ other. refl)
+no_due (Some (command.Audit net text)) r s tells = ((verdict_of r, refl), λ other. refl)
 
 -- what is written at a status but that of the sink's may be at want of memory
 due_memory : (c : Option Command) (r : Replay) (s : Status) → s ≢ status.SinkFault → (text : List ℕ) → IsPrefixOfDue c r s text → IsPrefixOfDue c r status.Memory text
 due_memory None r s other text p = p
 due_memory (Some (command.Run args)) r s other text p = p
 due_memory (Some (command.Gen number rows)) r s other text p = (p.0, λ memory. p.1 other)
+due_memory (Some (command.Audit net out)) r s other text p = (p.0, λ memory. p.1 other)
 
 -- each script that is left has its fact
 pub if_accepted : (left : Script) (P : Replay → Type 0) (Q : Type 0) → ((r : Replay) → left ≡ Done r → P r) → Q → IfAccepted left P Q
@@ -259,14 +274,14 @@ accepted_map (Reads name limit more) P P' Q f m = m
 -- a beginning of the answer, and nothing where there is none
 abbrev Begun : List (List ℕ) → World → Status → Script → Type 0
 Begun words w s left = IfAccepted left
-    (λ r. Tells w.pages → AppendsSuch w.out_before w.out_now (IsPrefixOfDue (command_in words) r s) × (w.steps_now ≤ w.steps_before + work_in (replayed r)))
+    (λ r. TellsFor (command_in words) w.pages → AppendsSuch w.out_before w.out_now (IsPrefixOfDue (command_in words) r s) × (w.steps_now ≤ w.steps_before + work_for (command_in words) r))
     ((w.out_now ≡ w.out_before) × (w.steps_now ≡ w.steps_before))
 
 nothing_appended : (before now : Option (List ℕ)) (P : List ℕ → Type 0) → now ≡ before → P [] → AppendsSuch before now P
 nothing_appended before now P e p = subst (λ o. AppendsSuch before o P) (sym e) (appends_none before P p)
 
 pub begun_nothing : (words : List (List ℕ)) (w : World) (s : Status) (r : Replay) → w.out_now ≡ w.out_before → w.steps_now ≡ w.steps_before → TellsClasses (due_of r)
-    → Tells w.pages → AppendsSuch w.out_before w.out_now (IsPrefixOfDue (command_in words) r s) × (w.steps_now ≤ w.steps_before + work_in (replayed r))
+    → TellsFor (command_in words) w.pages → AppendsSuch w.out_before w.out_now (IsPrefixOfDue (command_in words) r s) × (w.steps_now ≤ w.steps_before + work_for (command_in words) r)
 begun_nothing words w s r out steps tells pages =
     (nothing_appended w.out_before w.out_now (IsPrefixOfDue (command_in words) r s) out (no_due (command_in words) r s tells), omega (arith, steps))
 
@@ -329,12 +344,15 @@ stopped_ends words w s source h out steps = record {
 module _ (words : List (List ℕ)) (w : World) (r : Replay) (source : List ℕ) (some : IsSome (command_in words))
     (came : Leads w.told w.read_before w.read_now (script_of words) (Done r)) where
   abbrev work : ℕ
-  work = work_in (replayed r)
+  work = work_for (command_in words) r
 
   abbrev turns : ℕ
-  turns = turns_in (replayed r)
+  turns = turns_for (command_in words) r
 
-  pub answered_ok : (Tells w.pages → AppendsSuch w.out_before w.out_now (IsWholeOf (command_in words) r) × (w.steps_now ≡ w.steps_before + work)) → Ends words w status.Ok source
+  abbrev Told : Type 0
+  Told = TellsFor (command_in words) w.pages
+
+  pub answered_ok : (Told → AppendsSuch w.out_before w.out_now (IsWholeOf (command_in words) r) × (w.steps_now ≡ w.steps_before + work)) → Ends words w status.Ok source
   answered_ok whole = record {
     read = came.0;
     given = came.2;
@@ -377,9 +395,9 @@ module _ (words : List (List ℕ)) (w : World) (r : Replay) (source : List ℕ) 
 
   -- the answer is cut short
   pub answered_cut : (s : Status) → IsCutShort w.sink_before w.sink_now s → StopHasCause (λ e. e.network ≡ r.network) w.disk_before w.disk_now s
-      → (Tells w.pages → is_changed s ≡ false) → (Tells w.pages → s ≡ status.TooMuch → 2 ^ 62 ≤ turns)
-      → (Tells w.pages → AppendsSuch w.out_before w.out_now (IsPrefixOfDue (command_in words) r s) × (w.steps_now ≤ w.steps_before + work)) → Ends words w s source
-  answered_cut s cut stop same much first = record {
+      → (Tells w.pages → is_changed s ≡ false) → (Told → is_changed s ≡ false) → (Told → s ≡ status.TooMuch → 2 ^ 62 ≤ turns)
+      → (Told → AppendsSuch w.out_before w.out_now (IsPrefixOfDue (command_in words) r s) × (w.steps_now ≤ w.steps_before + work)) → Ends words w s source
+  answered_cut s cut stop same kept much first = record {
     read = came.0;
     given = came.2;
     left = Done r;
@@ -394,9 +412,30 @@ module _ (words : List (List ℕ)) (w : World) (r : Replay) (source : List ℕ) 
     unchanged = same;
     sink = cut.sink;
     too_much = λ e pages. much pages e;
-    complete = λ sound dry pages few. ends_ok s cut stop (same pages) (much pages) sound dry few;
+    complete = λ sound dry pages few. ends_ok s cut stop (kept pages) (much pages) sound dry few;
     named = names_none s cut.begun;
   }
+
+  -- by what an engine did, where the command runs one
+  module _ (engine : runs_engine (command_in words) ≡ true) where
+    work_is : work_in (replayed r) ≡ work
+    work_is = sym (ap (λ (runs : Bool). if runs then work_in (replayed r) else 0) engine)
+
+    turns_are : turns_in (replayed r) ≡ turns
+    turns_are = sym (ap (λ (runs : Bool). if runs then turns_in (replayed r) else 0) engine)
+
+    pub driven_ok : (Tells w.pages → AppendsSuch w.out_before w.out_now (IsWholeOf (command_in words) r) × (w.steps_now ≡ w.steps_before + work_in (replayed r)))
+        → Ends words w status.Ok source
+    driven_ok whole = answered_ok
+        (λ told. let all = whole (told engine) in (all.0, subst (λ k. w.steps_now ≡ w.steps_before + k) work_is all.1))
+
+    pub driven_cut : (s : Status) → IsCutShort w.sink_before w.sink_now s → StopHasCause (λ e. e.network ≡ r.network) w.disk_before w.disk_now s
+        → (Tells w.pages → is_changed s ≡ false) → (Tells w.pages → s ≡ status.TooMuch → 2 ^ 62 ≤ turns_in (replayed r))
+        → (Tells w.pages → AppendsSuch w.out_before w.out_now (IsPrefixOfDue (command_in words) r s) × (w.steps_now ≤ w.steps_before + work_in (replayed r)))
+        → Ends words w s source
+    driven_cut s cut stop same much first = answered_cut s cut stop same (λ told. same (told engine))
+        (λ told is. subst (λ k. 2 ^ 62 ≤ k) turns_are (much (told engine) is))
+        (λ told. let part = first (told engine) in (part.0, subst (λ k. w.steps_now ≤ w.steps_before + k) work_is part.1))
 
 -- any end but Ok and that of the sink may be one for want of memory
 pub memory_ends : (words : List (List ℕ)) (w : World) (s : Status) (source other : List ℕ) → s ≢ status.Ok → s ≢ status.SinkFault → Ends words w s source

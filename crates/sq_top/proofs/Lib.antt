@@ -23,3 +23,4 @@ pub mod CountLemmas
 pub mod CountingLemmas
 pub mod MadeLemmas
 pub mod SummaryLemmas
+pub mod AuditLemmas

@@ -19,10 +19,11 @@ use Rattle.sq_top.specs.declared.Command.TheVariants as command
 use Rattle.sq_top.specs.declared.RunArgs.{RunArgs}
 use Rattle.sq_top.specs.declared.Status.{Status}
 use Rattle.sq_top.specs.declared.Status.TheVariants as status
-use Rattle.sq_top.specs.Commands.{command_in, is_run}
-use Rattle.sq_top.specs.Scripts.{Replay, Script, Reads, Done, Stops, after_capacities, after_network, after_picks, after_stream, after_streams, after_words, capacities_script, made_limits, made_sources, made_streams, made_unread, picks_script, script_of, unread, with_sources}
+use Rattle.sq_top.specs.Commands.{command_in, reads_folder, runs_engine}
+use Rattle.sq_top.specs.Scripts.{Replay, Script, Reads, Done, Stops, after_capacities, after_network, after_picks, after_stream, after_streams, after_words, audit_script, capacities_script, followed_by, made_limits, made_sources, made_streams, made_unread, picks_script, plain_args, run_script, script_of, text_script, unread, with_sources}
 use Rattle.sq_top.specs.Reads.{GoesBy, IsRead, Leads, LeadsWith, network_read}
-use Rattle.sq_top.specs.Told.{FilePart, NetworkFile, CapacityFile, PicksFile, StreamFile, is_named, limit_of, may_be}
+use Rattle.sq_top.specs.Causes.{is_plain_end}
+use Rattle.sq_top.specs.Told.{FilePart, NetworkFile, CapacityFile, PicksFile, StreamFile, TextFile, is_named, limit_of, may_be}
 
 pub goes_then : (told : Option Files) (read more : List (List ℕ)) (a b c : Script) → GoesBy told read a b → GoesBy told more b c → GoesBy told (read ++ more) a c
 goes_then told [] more a b c ab bc = subst (λ x. GoesBy told more x c) (sym ab) bc
@@ -56,6 +57,8 @@ network_stays None n read more e = absurd (cc)
 network_stays (Some (command.Run args)) n [] more e = absurd (cc)
 network_stays (Some (command.Run args)) n (bytes ∷ read) more e = e
 network_stays (Some (command.Gen number rows)) n read more e = e
+network_stays (Some (command.Audit net text)) n [] more e = absurd (cc)
+network_stays (Some (command.Audit net text)) n (bytes ∷ read) more e = e
 
 pub with_then : (told : Option Files) (words : List (List ℕ)) (n : Network) (before mid now : List (List ℕ)) (a b : Script) → LeadsWith told before mid words n a → Leads told mid now a b
     → LeadsWith told before now words n b
@@ -84,6 +87,13 @@ goes_holds P Q R told (bytes ∷ read) (Reads name limit more) to goes holds = g
 goes_holds P Q R told (bytes ∷ read) (Done r) to goes holds = absurd goes
 goes_holds P Q R told (bytes ∷ read) (Stops s) to goes holds = absurd goes
 
+-- a script and what comes behind it
+pub holds_then : (P : Replay → Type 0) (Q : Status → Type 0) (R : List ℕ → ℕ → Type 0) (next : Replay → Script) → ((r : Replay) → P r → Holds P Q R (next r)) → (s : Script)
+    → Holds P Q R s → Holds P Q R (followed_by s next)
+holds_then P Q R next rest (Reads name limit more) holds = (holds.0, λ bytes. holds_then P Q R next rest (more bytes) (holds.1 bytes))
+holds_then P Q R next rest (Done r) holds = rest r holds
+holds_then P Q R next rest (Stops s) holds = holds
+
 -- what is accepted is the network of a file
 abbrev pub IsFileOf : Network → Type 0
 IsFileOf n = (bytes : List ℕ) × (network_in bytes ≡ Ok n)
@@ -97,19 +107,23 @@ is_rule (status.BadPicks line) = true
 is_rule (status.BadStream number line why) = true
 is_rule s = false
 
+-- and those that a command may break: of capacities and picks a run alone
+abbrev pub IsRuleOf : Option Command → Status → Type 0
+IsRuleOf c s = (is_rule s ≡ true) × (runs_engine c ≡ false → is_plain_end s ≡ true)
+
 -- a file of this name has a part in what a command asks for, and no more bytes than that part may have
 abbrev pub IsPartOf : Option Command → List ℕ → ℕ → Type 0
 IsPartOf c name limit = (p : FilePart) × (may_be c p name ≡ true) × (limit ≡ limit_of p)
 
 abbrev pub HoldsFor : Option Command → Script → Type 0
-HoldsFor c s = Holds (λ r. IsFileOf r.network) (λ t. is_rule t ≡ true) (IsPartOf c) s
+HoldsFor c s = Holds (λ r. IsFileOf r.network) (IsRuleOf c) (IsPartOf c) s
 
 stream_holds : (c : Option Command) (number : ℕ) (more : List Tuple → Script) (o : Result (List Tuple) (ℕ × Why)) → ((xs : List Tuple) → HoldsFor c (more xs))
     → HoldsFor c (after_stream number more o)
 stream_holds c number more (Ok xs) rest = rest xs
-stream_holds c number more (Err e) rest = refl
+stream_holds c number more (Err e) rest = (refl, λ plain. refl)
 
-streams_hold : (c : Option Command) → is_run c ≡ true → (p : Replay) (left : List Source) → IsFileOf p.network → HoldsFor c (after_streams p left)
+streams_hold : (c : Option Command) → reads_folder c ≡ true → (p : Replay) (left : List Source) → IsFileOf p.network → HoldsFor c (after_streams p left)
 streams_hold c run p [] f = f
 streams_hold c run p (s ∷ left) f = (
   (StreamFile, run, refl),
@@ -126,7 +140,7 @@ module _ (args : RunArgs) (n : Network) (f : IsFileOf n) where
 
   picks_hold : (entries : Entries) (o : Result (List ℕ) ℕ) → HoldsFor asked (after_picks args n entries o)
   picks_hold entries (Ok picks) = streams_hold asked refl (unread args n entries picks) n.sources f
-  picks_hold entries (Err line) = refl
+  picks_hold entries (Err line) = (refl, λ plain. absurd (cc))
 
   picked_hold : (entries : Entries) (o : Option (List ℕ)) → args.picks ≡ o → HoldsFor asked (picks_script args n entries o)
   picked_hold entries None is = picks_hold entries (Ok [])
@@ -134,7 +148,7 @@ module _ (args : RunArgs) (n : Network) (f : IsFileOf n) where
 
   capacities_hold : (o : Result Entries ℕ) → HoldsFor asked (after_capacities args n o)
   capacities_hold (Ok entries) = picked_hold entries args.picks refl
-  capacities_hold (Err line) = refl
+  capacities_hold (Err line) = (refl, λ plain. absurd (cc))
 
   limited_hold : (o : Option (List ℕ)) → args.capacities ≡ o → HoldsFor asked (capacities_script args n o)
   limited_hold None is = capacities_hold (Ok [])
@@ -142,7 +156,7 @@ module _ (args : RunArgs) (n : Network) (f : IsFileOf n) where
 
 network_holds : (args : RunArgs) (bytes : List ℕ) (o : Result Network NetErr) → network_in bytes ≡ o → HoldsFor (Some (command.Run args)) (after_network args o)
 network_holds args bytes (Ok n) said = limited_hold args n (bytes, said) args.capacities refl
-network_holds args bytes (Err e) said = refl
+network_holds args bytes (Err e) said = (refl, λ plain. refl)
 
 -- and what is made
 made_streams_hold : (c : Option Command) (stream : List ℕ) (p : Replay) (left : List Source) → IsFileOf p.network → HoldsFor c (made_streams stream p left)
@@ -151,18 +165,37 @@ made_streams_hold c stream p (s ∷ left) f =
     stream_holds c (length p.sources) (λ xs. made_streams stream (with_sources p (p.sources ++ xs ∷ [])) left) (stream_in s.schema stream)
     (λ xs. made_streams_hold c stream (with_sources p (p.sources ++ xs ∷ [])) left f)
 
-made_sources_hold : (c : Option Command) (number : ℕ) (stream : List ℕ) (n : Network) (o : Result Entries ℕ) → IsFileOf n → HoldsFor c (made_sources number stream n o)
-made_sources_hold c number stream n (Ok entries) f = made_streams_hold c stream (made_unread number n entries) n.sources f
-made_sources_hold c number stream n (Err line) f = refl
+module _ (c : Option Command) (engine : runs_engine c ≡ true) where
+  not_plain : (s : Status) → runs_engine c ≡ false → is_plain_end s ≡ true
+  not_plain s plain = let both : true ≡ false = sym engine ∙ plain in absurd (cc)
 
-made_holds : (c : Option Command) (number : ℕ) (made : Made) (o : Result Network NetErr) → network_in made.net ≡ o → HoldsFor c (made_limits number made o)
-made_holds c number made (Ok n) said = made_sources_hold c number made.stream n (capacities_in made.capacities) (made.net, said)
-made_holds c number made (Err e) said = refl
+  made_sources_hold : (number : ℕ) (stream : List ℕ) (n : Network) (o : Result Entries ℕ) → IsFileOf n → HoldsFor c (made_sources number stream n o)
+  made_sources_hold number stream n (Ok entries) f = made_streams_hold c stream (made_unread number n entries) n.sources f
+  made_sources_hold number stream n (Err line) f = (refl, not_plain (status.BadCapacities line))
+
+  made_holds : (number : ℕ) (made : Made) (o : Result Network NetErr) → network_in made.net ≡ o → HoldsFor c (made_limits number made o)
+  made_holds number made (Ok n) said = made_sources_hold number made.stream n (capacities_in made.capacities) (made.net, said)
+  made_holds number made (Err e) said = (refl, λ plain. refl)
+
+-- an audit reads no capacities and no picks, and the text last
+module _ (net text : List ℕ) where
+  abbrev audited : Option Command
+  audited = Some (command.Audit net text)
+
+  plain_holds : (bytes : List ℕ) (o : Result Network NetErr) → network_in bytes ≡ o → HoldsFor audited (after_network (plain_args net) o)
+  plain_holds bytes (Ok n) said = streams_hold audited refl (unread (plain_args net) n [] []) n.sources (bytes, said)
+  plain_holds bytes (Err e) said = (refl, λ plain. refl)
+
+  audit_holds : HoldsFor audited (audit_script net text)
+  audit_holds = holds_then (λ r. IsFileOf r.network) (IsRuleOf audited) (IsPartOf audited) (text_script text)
+      (λ r file. ((TextFile, same_bytes-refl text, refl), λ bytes. file)) (run_script (plain_args net))
+      ((NetworkFile, same_bytes-refl net, refl), λ bytes. plain_holds bytes (network_in bytes) refl)
 
 command_holds : (c : Option Command) → HoldsFor c (after_words c)
-command_holds None = refl
+command_holds None = (refl, λ plain. refl)
 command_holds (Some (command.Run args)) = ((NetworkFile, same_bytes-refl args.net, refl), λ bytes. network_holds args bytes (network_in bytes) refl)
-command_holds (Some (command.Gen number rows)) = made_holds (Some (command.Gen number rows)) number (made_of number rows) (network_in (made_of number rows).net) refl
+command_holds (Some (command.Gen number rows)) = made_holds (Some (command.Gen number rows)) refl number (made_of number rows) (network_in (made_of number rows).net) refl
+command_holds (Some (command.Audit net text)) = audit_holds net text
 
 pub script_holds : (words : List (List ℕ)) → HoldsFor (command_in words) (script_of words)
 script_holds words = command_holds (command_in words)
@@ -170,4 +203,4 @@ script_holds words = command_holds (command_in words)
 -- what is left of a script of words
 pub left_holds : (told : Option Files) (words read : List (List ℕ)) (left : Script) → GoesBy told read (script_of words) left → HoldsFor (command_in words) left
 left_holds told words read left goes =
-    goes_holds (λ r. IsFileOf r.network) (λ t. is_rule t ≡ true) (IsPartOf (command_in words)) told read (script_of words) left goes (script_holds words)
+    goes_holds (λ r. IsFileOf r.network) (IsRuleOf (command_in words)) (IsPartOf (command_in words)) told read (script_of words) left goes (script_holds words)

@@ -30,7 +30,7 @@ use Rattle.sq_top.specs.Commands.{command_in}
 use Rattle.sq_top.specs.Due.{all_text, due_of, replayed, work_in}
 use Rattle.sq_top.specs.Answers.{lines_of}
 use Rattle.sq_top.specs.Messages.{message_of}
-use Rattle.sq_top.specs.Scripts.{Replay, accepted, after_network, outcome_of, unread, with_sources}
+use Rattle.sq_top.specs.Scripts.{Replay, accepted, after_network, followed_by, outcome_of, plain_args, text_script, unread, with_sources, with_text}
 
 abbrev defaults : List ℕ → RunArgs
 defaults net = record { net = net; capacities = None; seed = 0; rule = rule.RoundRobin; picks = None; train = 16; frames = 256 }
@@ -96,6 +96,12 @@ words_seed_too_great = refl
 words_all : command_in (codes "run" ∷ codes "--picks=-p" ∷ codes "--train" ∷ codes "00000000000000000001" ∷ codes "a" ∷ [])
     ≡ Some (command.Run (record (defaults (codes "a")) { rule = rule.Picks; picks = Some (codes "-p"); train = 1 }))
 words_all = refl
+
+words_audit : command_in (codes "audit" ∷ codes "a.toml" ∷ codes "t" ∷ []) ≡ Some (command.Audit (codes "a.toml") (codes "t"))
+words_audit = refl
+
+words_audit_dash : command_in (codes "audit" ∷ codes "a.toml" ∷ codes "-" ∷ []) ≡ None
+words_audit_dash = refl
 
 words_capacities : command_in (codes "run" ∷ codes "a" ∷ codes "--capacities" ∷ codes "c" ∷ []) ≡ Some (command.Run (record (defaults (codes "a")) { capacities = Some (codes "c") }))
 words_capacities = refl
@@ -275,3 +281,12 @@ picks_read = refl
 picks_message : message_of [] (status.BadPicks 3) ≡ codes "aurora: picks: line 3\n"
 unfolding digits
 picks_message = refl
+
+-- an audit reads the text last
+no_text_file : outcome_of (λ name. if same_bytes name (codes "t") then None else Some []) (followed_by (after_network (plain_args (codes "a.toml")) (Ok network)) (text_script (codes "t")))
+    ≡ Err (status.FolderFault (codes "t"))
+no_text_file = refl
+
+text_read : outcome_of (λ name. if same_bytes name (codes "t") then Some (codes "@end\n") else Some []) (followed_by (after_network (plain_args (codes "a.toml")) (Ok network)) (text_script (codes "t")))
+    ≡ Ok (with_text (of_tuples network ([] ∷ [] ∷ [])) (codes "@end\n"))
+text_read = refl

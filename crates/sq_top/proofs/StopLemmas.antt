@@ -10,7 +10,7 @@ use Rattle.sq_flow.specs.Takes.{NotStrange}
 use Rattle.sq_core.specs.declared.engine.Engine.{Engine}
 use Rattle.sq_top.specs.declared.Status.{Status}
 use Rattle.sq_top.specs.declared.Status.TheVariants as status
-use Rattle.sq_top.specs.Causes.{is_refusal}
+use Rattle.sq_top.specs.Causes.{is_plain_end, is_refusal}
 use Rattle.sq_top.specs.Driving.{IsCutShort}
 use Rattle.sq_top.specs.Stopping.{FailedIn, StopHasCause, is_changed, status_of}
 use Rattle.sq_top.specs.Writing.{IsLost}
@@ -109,3 +109,7 @@ refused_unchanged s (inl refused) = by s refused
 pub told_refused : (s told : Status) → (told ≡ s) ⊎ ((told ≡ status.Memory) × (s ≢ status.SinkFault)) → is_refusal told ≡ true → is_refusal s ≡ true
 told_refused s told (inl same) refused = ap is_refusal (sym same) ∙ refused
 told_refused s told (inr memory) refused = let both : is_refusal status.Memory ≡ true = ap is_refusal (sym memory.0) ∙ refused in absurd (cc)
+
+pub told_plain : (s told : Status) → (told ≡ s) ⊎ ((told ≡ status.Memory) × (s ≢ status.SinkFault)) → is_plain_end s ≡ true → is_plain_end told ≡ true
+told_plain s told (inl same) plain = ap is_plain_end same ∙ plain
+told_plain s told (inr memory) plain = ap is_plain_end memory.0

@@ -1,6 +1,6 @@
 -- The summary of a run is that of its replay.
-use Rattle.std.proofs.Common.{◌≡◌, ◌≢◌, ℕ, List, [], ◌∷◌, ◌++◌, length, map, refl, ap, sym, ◌∙◌, arith, length-append, Option, None, Some}
-use Rattle.sq_value.specs.Lists.{IsPrefixOf, numbers_to}
+use Rattle.std.proofs.Common.{◌≡◌, ◌≢◌, ℕ, List, length, map, refl, ap, ◌∙◌, subst, Option}
+use Rattle.sq_value.specs.Lists.{numbers_to}
 use Rattle.sq_outside.specs.Sinks.{AppendsPrefix, appended}
 use Rattle.sq_net.specs.declared.Network.{Network}
 use Rattle.sq_model.specs.Shedding.{Replay}
@@ -9,19 +9,13 @@ use Rattle.sq_core.specs.Runs.{fed_at, late_at}
 use Rattle.sq_top.specs.declared.Status.{Status}
 use Rattle.sq_top.specs.declared.Status.TheVariants as status
 use Rattle.sq_top.specs.declared.counting.Counts.{Counts}
-use Rattle.sq_top.specs.Causes.{AppendsSuch, BeginsSummary}
+use Rattle.sq_top.specs.Causes.{AppendsSuch, BeginsSummary, BeginsText}
 use Rattle.sq_top.specs.Counting.{IsSummed, engine_summary}
 use Rattle.sq_points.specs.Points.{drops_in}
 use Rattle.sq_top.specs.Due.{answer_in, fed_in, late_in}
 use Rattle.sq_top.specs.Summaries.{summary_of, summary_text}
-use Rattle.sq_top.proofs.EndLemmas.{appends_all, appends_none}
+use Rattle.sq_top.proofs.EndLemmas.{appends_all, appends_begun, appends_none}
 use Rattle.sq_top.proofs.ReplayLemmas.{same_numbers}
-
-nothing_more : (before part : List ℕ) → before ++ part ≡ before → part ≡ []
-nothing_more before [] e = refl
-nothing_more before (b ∷ bs) e =
-    let count : length (before ++ b ∷ bs) ≡ length before = ap (λ (xs : List ℕ). length xs) e in
-    absurd (omega (arith, count, length-append before (b ∷ bs)))
 
 module _ (number rows : ℕ) (r : Replay) where
   -- nothing is written yet
@@ -50,7 +44,4 @@ module _ (number rows : ℕ) (r : Replay) where
     -- a part of it is lost
     pub summary_cut : (before now : Option (List ℕ)) (s : Status) → AppendsPrefix before now (engine_summary number rows engine counts)
         → (s ≢ status.SinkFault → now ≡ before) → AppendsSuch before now (BeginsSummary number rows r s)
-    summary_cut None now s part alone = part.2
-    summary_cut (Some before) now s part alone =
-        let begins : IsPrefixOf part.0 (summary_of number rows r) = (part.1.0, sym summary_is ∙ part.1.1) in
-        (part.0, part.2, (begins, λ other. nothing_more before part.0 (let both : Some (before ++ part.0) ≡ Some before = sym part.2 ∙ alone other in cc)))
+    summary_cut before now s part alone = subst (λ whole. AppendsSuch before now (BeginsText whole s)) summary_is (appends_begun (engine_summary number rows engine counts) before now s part alone)

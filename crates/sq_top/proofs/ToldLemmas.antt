@@ -17,14 +17,13 @@ use Rattle.sq_top.specs.declared.Status.TheVariants as status
 use Rattle.sq_top.specs.Commands.{command_in}
 use Rattle.sq_top.specs.Messages.{name_at, network_of}
 use Rattle.sq_top.specs.Scripts.{Lookup, Replay, Script, Reads, Done, Stops, accepted, after_words, go_on, outcome_of, readable, reads_of, script_of, settings_limit}
-use Rattle.sq_top.specs.Due.{due_of, replayed, turns_in, work_in}
-use Rattle.sq_paged.specs.Fronts.{Tells}
+use Rattle.sq_top.specs.Due.{due_of, replayed}
 use Rattle.sq_top.specs.Reads.{GoesBy, IfAccepted, network_read}
-use Rattle.sq_top.specs.Causes.{AppendsSuch, Ends, IsEngineOf, IsPrefixOfDue, IsRefusedAt, IsUnread, IsWholeOf, NamesSource, World, is_refusal}
-use Rattle.sq_top.specs.Told.{EndsOver, FilePart, NetworkFile, CapacityFile, PicksFile, StreamFile, FolderHasCause, HasFailedAt, MatchAccepted, NamesTold, limit_of, looked_at, may_be, network_named}
+use Rattle.sq_top.specs.Causes.{AppendsSuch, Ends, IsEngineOf, IsPrefixOfDue, IsRefusedAt, IsUnread, IsWholeOf, NamesSource, TellsFor, World, is_refusal, turns_for, work_for}
+use Rattle.sq_top.specs.Told.{EndsOver, FilePart, NetworkFile, CapacityFile, PicksFile, StreamFile, TextFile, FolderHasCause, HasFailedAt, MatchAccepted, NamesTold, limit_of, looked_at, may_be, network_named}
 use Rattle.sq_top.proofs.ClassLemmas.{TellsClasses}
 use Rattle.sq_top.proofs.EndLemmas.{begun_nothing, replay_tells_classes}
-use Rattle.sq_top.proofs.ReadsLemmas.{Holds, HoldsFor, IsFileOf, IsPartOf, is_rule, left_holds, script_holds}
+use Rattle.sq_top.proofs.ReadsLemmas.{Holds, HoldsFor, IsFileOf, IsPartOf, IsRuleOf, is_rule, left_holds, script_holds}
 use Rattle.sq_top.proofs.StopLemmas.{stop_map}
 
 readable-none : (name : List ℕ) (limit : ℕ) (o : Option (List ℕ)) → o ≡ None → readable name limit o ≡ Err (status.FolderFault name)
@@ -71,11 +70,13 @@ no_part number rows name limit (NetworkFile, is, at) = cc
 no_part number rows name limit (CapacityFile, is, at) = cc
 no_part number rows name limit (PicksFile, is, at) = cc
 no_part number rows name limit (StreamFile, is, at) = cc
+no_part number rows name limit (TextFile, is, at) = cc
 
 goes_told : (c : Option Command) (told : Option Files) (files : Files) → looked_at c told ≡ Some files → (read : List (List ℕ)) (from to : Script) → HoldsFor c from → GoesBy told read from to
     → GoesBy (Some files) read from to
 goes_told None told files e read from to holds goes = subst (λ t. GoesBy t read from to) e goes
 goes_told (Some (command.Run args)) told files e read from to holds goes = subst (λ t. GoesBy t read from to) e goes
+goes_told (Some (command.Audit net text)) told files e read from to holds goes = subst (λ t. GoesBy t read from to) e goes
 goes_told (Some (command.Gen number rows)) told files e [] from to holds goes = goes
 goes_told (Some (command.Gen number rows)) told files e (bytes ∷ read) (Reads name limit more) to holds goes = absurd (no_part number rows name limit holds.0)
 goes_told (Some (command.Gen number rows)) told files e (bytes ∷ read) (Done r) to holds goes = absurd goes
@@ -84,6 +85,7 @@ goes_told (Some (command.Gen number rows)) told files e (bytes ∷ read) (Stops 
 told_at : (c : Option Command) (told : Option Files) (files : Files) (name : List ℕ) (limit : ℕ) → looked_at c told ≡ Some files → IsPartOf c name limit → told ≡ Some files
 told_at None told files name limit e part = e
 told_at (Some (command.Run args)) told files name limit e part = e
+told_at (Some (command.Audit net text)) told files name limit e part = e
 told_at (Some (command.Gen number rows)) told files name limit e part = absurd (no_part number rows name limit part)
 
 -- what is accepted over files is told by its classes
@@ -100,7 +102,7 @@ outcome_holds files P Q R (Stops s) r holds e = absurd (cc)
 
 pub accepted_tells_classes : (files : Lookup) (words : List (List ℕ)) (r : Replay) → accepted files words ≡ Ok r → TellsClasses (due_of r)
 accepted_tells_classes files words r e =
-    let f = outcome_holds files (λ x. IsFileOf x.network) (λ t. is_rule t ≡ true) (IsPartOf (command_in words)) (script_of words) r (script_holds words) e in
+    let f = outcome_holds files (λ x. IsFileOf x.network) (IsRuleOf (command_in words)) (IsPartOf (command_in words)) (script_of words) r (script_holds words) e in
     replay_tells_classes (replayed r) (network_sound f.0 r.network f.1)
 
 -- by what is left of a script
@@ -165,7 +167,7 @@ module _ (files : Files) (words : List (List ℕ)) (w : World) (result : Status)
       by : (left : Script) → h.left ≡ left → IsRefusedAt w.told w.folder_before w.folder_now w.taken_before w.taken_now result left → HoldsFor (command_in words) left
           → MatchAccepted (outcome_of (file files) left) P Q
       by (Done r) is why hold = done r is why
-      by (Stops s) is why hold = stops s is hold why
+      by (Stops s) is why hold = stops s is hold.0 why
       by (Reads name limit more) is why hold = reads name limit more is
 
   refusal_only : is_refusal result ≡ true → MatchAccepted (accepted (file files) words) (λ r. HasFailedAt w.folder_before w.folder_now result)
@@ -211,7 +213,7 @@ module _ (files : Files) (words : List (List ℕ)) (w : World) (result : Status)
       by : (left : Script) → h.left ≡ left → IsRefusedAt w.told w.folder_before w.folder_now w.taken_before w.taken_now (status.FolderFault name) left → HoldsFor (command_in words) left
           → contains_bytes name (reads_of (file files) (script_of words)) ≡ true
       by (Done r) is why hold = absurd (cc)
-      by (Stops s) is (inl same) hold = let both : is_rule (status.FolderFault name) ≡ true = ap is_rule same ∙ hold in absurd (cc)
+      by (Stops s) is (inl same) hold = let both : is_rule (status.FolderFault name) ≡ true = ap is_rule same ∙ hold.0 in absurd (cc)
       by (Stops s) is (inr memory) hold = absurd (cc)
       by (Reads other limit more) is (inl memory) hold = absurd (cc)
       by (Reads other limit more) is (inr (inl why)) hold =
@@ -221,7 +223,7 @@ module _ (files : Files) (words : List (List ℕ)) (w : World) (result : Status)
 
   -- a beginning of the answer, and nothing
   abbrev First : Replay → Type 0
-  First r = Tells w.pages → AppendsSuch w.out_before w.out_now (IsPrefixOfDue (command_in words) r result) × (w.steps_now ≤ w.steps_before + work_in (replayed r))
+  First r = TellsFor (command_in words) w.pages → AppendsSuch w.out_before w.out_now (IsPrefixOfDue (command_in words) r result) × (w.steps_now ≤ w.steps_before + work_for (command_in words) r)
 
   abbrev Nothing : Type 0
   Nothing = (w.out_now ≡ w.out_before) × (w.steps_now ≡ w.steps_before)
@@ -235,16 +237,16 @@ module _ (files : Files) (words : List (List ℕ)) (w : World) (result : Status)
       by (Reads name limit more) is none = match_any _ First _ (λ r e. begun_nothing words w result r none.0 none.1 (accepted_tells_classes (file files) words r e)) (λ s e. none)
 
   complete_told : ¬ (Rose w.folder_before w.folder_now) → ¬ (Rose w.disk_before w.disk_now) → ¬ (Rose w.sink_before w.sink_now)
-      → MatchAccepted (accepted (file files) words) (λ r. Tells w.pages → turns_in (replayed r) < 2 ^ 62 → (result ≡ status.Ok) ⊎ (result ≡ status.Memory)) (λ s. ⊤)
+      → MatchAccepted (accepted (file files) words) (λ r. TellsFor (command_in words) w.pages → turns_for (command_in words) r < 2 ^ 62 → (result ≡ status.Ok) ⊎ (result ≡ status.Memory)) (λ s. ⊤)
   complete_told quiet sound dry = ends_each _ _
-      (λ r is not. subst (λ s. IfAccepted s (λ x. Tells w.pages → turns_in (replayed x) < 2 ^ 62 → (result ≡ status.Ok) ⊎ (result ≡ status.Memory)) ⊤) is (h.complete sound dry))
+      (λ r is not. subst (λ s. IfAccepted s (λ x. TellsFor (command_in words) w.pages → turns_for (command_in words) x < 2 ^ 62 → (result ≡ status.Ok) ⊎ (result ≡ status.Memory)) ⊤) is (h.complete sound dry))
       (λ s is rule why. tt) (λ name limit more is. by name limit more (unread name limit more is))
     where
       by : (name : List ℕ) (limit : ℕ) (more : List ℕ → Script)
           → (result ≡ status.Memory) ⊎ ((result ≡ status.FolderFault name) × Rose w.folder_before w.folder_now) ⊎ (outcome_of (file files) (Reads name limit more) ≡ Err result)
-          → MatchAccepted (outcome_of (file files) (Reads name limit more)) (λ r. Tells w.pages → turns_in (replayed r) < 2 ^ 62 → (result ≡ status.Ok) ⊎ (result ≡ status.Memory)) (λ s. ⊤)
+          → MatchAccepted (outcome_of (file files) (Reads name limit more)) (λ r. TellsFor (command_in words) w.pages → turns_for (command_in words) r < 2 ^ 62 → (result ≡ status.Ok) ⊎ (result ≡ status.Memory)) (λ s. ⊤)
       by name limit more (inl memory) =
-          match_any _ (λ r. Tells w.pages → turns_in (replayed r) < 2 ^ 62 → (result ≡ status.Ok) ⊎ (result ≡ status.Memory)) _ (λ r e pages few. inr memory) (λ s e. tt)
+          match_any _ (λ r. TellsFor (command_in words) w.pages → turns_for (command_in words) r < 2 ^ 62 → (result ≡ status.Ok) ⊎ (result ≡ status.Memory)) _ (λ r e pages few. inr memory) (λ s e. tt)
       by name limit more (inr (inl (fault, rose))) = absurd (quiet rose)
       by name limit more (inr (inr broken)) = match_err _ _ _ result broken tt
 
@@ -263,6 +265,11 @@ module _ (files : Files) (words : List (List ℕ)) (w : World) (result : Status)
       (subst (IsRefusedAt w.told w.folder_before w.folder_now w.taken_before w.taken_now (status.BadStream number line why)) (sym by) refused))
   same_network (Some (command.Run args)) (bytes ∷ read) left number line why by refused =
       sym (ap (option_and_then (λ x. network_of (network_in x))) (readable-ok args.net settings_limit (file files args.net) bytes by.0.1))
+  same_network (Some (command.Audit net text)) [] left number line why by refused =
+      absurd (not_unread net settings_limit number line why
+      (subst (IsRefusedAt w.told w.folder_before w.folder_now w.taken_before w.taken_now (status.BadStream number line why)) (sym by) refused))
+  same_network (Some (command.Audit net text)) (bytes ∷ read) left number line why by refused =
+      sym (ap (option_and_then (λ x. network_of (network_in x))) (readable-ok net settings_limit (file files net) bytes by.0.1))
 
   named_told : (s : Status) → IsRefusedAt w.told w.folder_before w.folder_now w.taken_before w.taken_now s h.left → NamesSource words h.read s source → NamesTold files words s source
   named_told (status.BadStream number line why) refused named =
@@ -271,12 +278,12 @@ module _ (files : Files) (words : List (List ℕ)) (w : World) (result : Status)
 
   pub ends_over : EndsOver files words w result source
   ends_over = record {
-    ok = λ e. at_left _ _ (match_left (file files) h.left (λ r. Tells w.pages → AppendsSuch w.out_before w.out_now (IsWholeOf (command_in words) r) × (w.steps_now ≡ w.steps_before + work_in (replayed r)))
+    ok = λ e. at_left _ _ (match_left (file files) h.left (λ r. TellsFor (command_in words) w.pages → AppendsSuch w.out_before w.out_now (IsWholeOf (command_in words) r) × (w.steps_now ≡ w.steps_before + work_for (command_in words) r))
         (λ s. ⊥) (h.ok e));
     other = other_told;
     refusal = record { only = refusal_only; when = refusal_when; reached = reached };
     stopped = stop_map (IsEngineOf h.left) _ _ _ _ _ result (λ rose. rose) (λ e is. at_left _ _ (match_left (file files) h.left (λ r. e.network ≡ r.network) (λ s. ⊥) is)) h.stopped;
-    too_much = λ e. at_left _ _ (match_left (file files) h.left (λ r. Tells w.pages → 2 ^ 62 ≤ turns_in (replayed r)) (λ s. ⊥) (h.too_much e));
+    too_much = λ e. at_left _ _ (match_left (file files) h.left (λ r. TellsFor (command_in words) w.pages → 2 ^ 62 ≤ turns_for (command_in words) r) (λ s. ⊥) (h.too_much e));
     complete = complete_told;
     named = named_told result h.refusal h.named;
   }
@@ -290,7 +297,7 @@ module _ (words : List (List ℕ)) (w : World) (result : Status) (source : List 
   fault_at : (name : List ℕ) (left : Script) → IsRefusedAt w.told w.folder_before w.folder_now w.taken_before w.taken_now (status.FolderFault name) left → HoldsFor (command_in words) left
       → Rose w.folder_before w.folder_now ⊎ IsSome w.told
   fault_at name (Done r) why holds = absurd (cc)
-  fault_at name (Stops s) (inl same) holds = let both : is_rule (status.FolderFault name) ≡ true = ap is_rule same ∙ holds in absurd (cc)
+  fault_at name (Stops s) (inl same) holds = let both : is_rule (status.FolderFault name) ≡ true = ap is_rule same ∙ holds.0 in absurd (cc)
   fault_at name (Stops s) (inr memory) holds = absurd (cc)
   fault_at name (Reads other limit more) (inl memory) holds = absurd (cc)
   fault_at name (Reads other limit more) (inr (inl (e, inl rose))) holds = inl rose
@@ -303,7 +310,7 @@ module _ (words : List (List ℕ)) (w : World) (result : Status) (source : List 
   long_at : (name : List ℕ) (left : Script) → IsRefusedAt w.told w.folder_before w.folder_now w.taken_before w.taken_now (status.TooLong name) left → HoldsFor (command_in words) left
       → (p : FilePart) × (may_be (command_in words) p name ≡ true) × RoseBy (limit_of p + 1) w.taken_before w.taken_now
   long_at name (Done r) why holds = absurd (cc)
-  long_at name (Stops s) (inl same) holds = let both : is_rule (status.TooLong name) ≡ true = ap is_rule same ∙ holds in absurd (cc)
+  long_at name (Stops s) (inl same) holds = let both : is_rule (status.TooLong name) ≡ true = ap is_rule same ∙ holds.0 in absurd (cc)
   long_at name (Stops s) (inr memory) holds = absurd (cc)
   long_at name (Reads other limit more) (inl memory) holds = absurd (cc)
   long_at name (Reads other limit more) (inr (inl fault)) holds = let e = fault.0 in absurd (cc)

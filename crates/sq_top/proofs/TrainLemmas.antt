@@ -9,7 +9,7 @@ use Rattle.sq_value.specs.Texts.{are_digits, number_in}
 use Rattle.sq_top.specs.declared.RunArgs.{RunArgs}
 use Rattle.sq_top.specs.declared.Command.{Command}
 use Rattle.sq_top.specs.declared.Command.TheVariants as command
-use Rattle.sq_top.specs.Commands.{Given, Word, args_of, command_in, gen_args, given_from, is_known, known_args, lone, number_or, number_within, rule_of, run_args, values_of}
+use Rattle.sq_top.specs.Commands.{Given, Word, args_of, audit_args, command_in, gen_args, given_from, is_known, known_args, lone, may_name, number_or, number_within, rule_of, run_args, values_of}
 use Rattle.sq_top.proofs.SortedLines.{and-true}
 
 within_least : (t : Bool) (low high : ℕ) (w : Word) (k : ℕ) → (are_digits 20 w && (nat_le low (number_in w) && nat_le (number_in w) high)) ≡ t → number_within low high w ≡ Some k → low ≤ k
@@ -54,11 +54,12 @@ known_least false gs e = rw e tt
 run_least : (ws : List Word) → HasLeast (run_args ws)
 run_least ws = bounded _ (given_from ws None) (λ gs e. known_least (list_all (λ g. is_known g.0) gs) gs refl)
 
--- a train is at least one step and frames are two, and rows are within their limits
+-- a train is at least one step and frames are two, rows are within their limits, and the network of an audit may be that of a run
 abbrev IsWithin : Option Command → Type 0
 IsWithin None = Unit {0}
 IsWithin (Some (command.Run a)) = (1 ≤ a.train) × (2 ≤ a.frames)
 IsWithin (Some (command.Gen number rows)) = (1 ≤ rows) × (rows ≤ 1000000)
+IsWithin (Some (command.Audit net text)) = may_name net ≡ true
 
 of_run : (o : Option RunArgs) → HasLeast o → IsWithin (option_map command.Run o)
 of_run None has = tt
@@ -87,17 +88,32 @@ gen_within (number ∷ rows ∷ []) =
     )))
 gen_within (number ∷ rows ∷ w ∷ ws) = tt
 
-command_by : (run gen : Bool) (w : Word) (ws : List Word) → same_bytes w (codes "run") ≡ run → same_bytes w (codes "gen") ≡ gen → IsWithin (command_in (w ∷ ws))
-command_by true gen w ws e f = rw e (of_run (run_args ws) (run_least ws))
-command_by false true w ws e f = rw (e, f) (gen_within ws)
-command_by false false w ws e f = rw (e, f) tt
+audit_by : (t : Bool) (net text : Word) → (may_name net && may_name text) ≡ t → IsWithin (audit_args (net ∷ text ∷ []))
+audit_by true net text e = rw e ((and-true (may_name net) (may_name text) e).0)
+audit_by false net text e = rw e tt
+
+audit_within : (ws : List Word) → IsWithin (audit_args ws)
+audit_within [] = tt
+audit_within (net ∷ []) = tt
+audit_within (net ∷ text ∷ []) = audit_by (may_name net && may_name text) net text refl
+audit_within (net ∷ text ∷ w ∷ ws) = tt
+
+command_by : (run audit gen : Bool) (w : Word) (ws : List Word) → same_bytes w (codes "run") ≡ run → same_bytes w (codes "audit") ≡ audit → same_bytes w (codes "gen") ≡ gen
+    → IsWithin (command_in (w ∷ ws))
+command_by true audit gen w ws e f h = rw e (of_run (run_args ws) (run_least ws))
+command_by false true gen w ws e f h = rw (e, f) (audit_within ws)
+command_by false false true w ws e f h = rw (e, f, h) (gen_within ws)
+command_by false false false w ws e f h = rw (e, f, h) tt
 
 command_within : (ws : List Word) → IsWithin (command_in ws)
 command_within [] = tt
-command_within (w ∷ ws) = command_by (same_bytes w (codes "run")) (same_bytes w (codes "gen")) w ws refl refl
+command_within (w ∷ ws) = command_by (same_bytes w (codes "run")) (same_bytes w (codes "audit")) (same_bytes w (codes "gen")) w ws refl refl refl
 
 pub command_least : (ws : List Word) (args : RunArgs) → command_in ws ≡ Some (command.Run args) → (1 ≤ args.train) × (2 ≤ args.frames)
 command_least ws args h = subst IsWithin h (command_within ws)
 
 pub gen_rows : (ws : List Word) (number rows : ℕ) → command_in ws ≡ Some (command.Gen number rows) → (1 ≤ rows) × (rows ≤ 1000000)
 gen_rows ws number rows h = subst IsWithin h (command_within ws)
+
+pub audit_named : (ws : List Word) (net text : List ℕ) → command_in ws ≡ Some (command.Audit net text) → may_name net ≡ true
+audit_named ws net text h = subst IsWithin h (command_within ws)

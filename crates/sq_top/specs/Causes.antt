@@ -1,5 +1,5 @@
 -- Which status comes of which cause.
-use Rattle.std.specs.Prelude.{◌≡◌, ◌≢◌, ◌⊎◌, ℕ, ◌+◌, ◌^◌, ◌<◌, ◌≤◌, Bool, true, false, ⊤, List, [], ◌++◌, Option, Some, None, IsSomeAnd, slice_get, Ok, Err}
+use Rattle.std.specs.Prelude.{◌≡◌, ◌≢◌, ◌⊎◌, ℕ, ◌+◌, ◌^◌, ◌<◌, ◌≤◌, Bool, true, false, if◌then◌else◌, ⊤, List, [], ◌++◌, Option, Some, None, IsSomeAnd, slice_get, Ok, Err}
 use Rattle.sq_value.specs.Lists.{IsPrefixOf}
 use Rattle.sq_outside.specs.Faults.{Rose, RoseBy}
 use Rattle.sq_outside.specs.Folders.{Files, IsLonger, file}
@@ -19,7 +19,9 @@ use Rattle.sq_replay.specs.declared.why.Why.{Why}
 use Rattle.sq_paged.specs.Fronts.{Tells}
 use Rattle.sq_model.specs.Shedding as model
 use Rattle.sq_core.specs.declared.engine.Engine.{Engine}
-use Rattle.sq_top.specs.Commands.{command_in}
+use Rattle.sq_audit.specs.Audits.{audit_of}
+use Rattle.sq_audit.specs.VerdictLines.{verdict_line}
+use Rattle.sq_top.specs.Commands.{command_in, runs_engine}
 use Rattle.sq_top.specs.Scripts.{Replay, Script, Reads, Done, Stops, after_streams, script_of, settings_limit, stream_limit}
 use Rattle.sq_top.specs.Reads.{WhereTold, GoesBy, IfAccepted, IsRead, Leads, source_read}
 use Rattle.sq_top.specs.Due.{due_of, replayed, turns_in, work_in}
@@ -46,6 +48,24 @@ is_refusal (status.TooLong name) = true
 is_refusal status.Memory = false
 is_refusal status.TooMuch = false
 
+-- the statuses of a command that runs no engine: it has no capacities and no picks, and doesn't call the disk
+abbrev pub is_plain_end : Status → Bool
+is_plain_end status.Ok = true
+is_plain_end status.Usage = true
+is_plain_end (status.BadNetwork e) = true
+is_plain_end (status.BadCapacities line) = false
+is_plain_end (status.BadPicks line) = false
+is_plain_end (status.BadStream number line why) = true
+is_plain_end (status.FolderFault name) = true
+is_plain_end status.DiskFault = false
+is_plain_end (status.Garbled page kept got) = false
+is_plain_end (status.NotAPage page bytes) = false
+is_plain_end (status.Strange arc item) = false
+is_plain_end status.SinkFault = true
+is_plain_end (status.TooLong name) = true
+is_plain_end status.Memory = true
+is_plain_end status.TooMuch = false
+
 -- a rule of a file's bytes, and no want of memory
 abbrev pub IsRule : Status → Type 0
 IsRule (status.BadNetwork e) = e ≢ net.Memory
@@ -68,21 +88,41 @@ pub record UsageHasCause (words : List (List ℕ)) (result : Status) : Type 0 wh
 abbrev pub IsEngineOf : Script → Engine → Type 0
 IsEngineOf left engine = IfAccepted left (λ r. engine.network ≡ r.network) ⊥
 
--- the whole text of a command: the lines of each class, or the summary
+-- the line of the verdict on the text
+abbrev pub verdict_of : Replay → List ℕ
+verdict_of r = verdict_line (audit_of r.network r.sources r.text)
+
+-- the whole text of a command: the lines of each class, or the summary, or the line of the verdict
 abbrev pub IsWholeOf : Option Command → Replay → List ℕ → Type 0
 IsWholeOf None r text = IsWholeText (due_of r) text
 IsWholeOf (Some (command.Run args)) r text = IsWholeText (due_of r) text
 IsWholeOf (Some (command.Gen number rows)) r text = text ≡ summary_of number rows (replayed r)
+IsWholeOf (Some (command.Audit net out)) r text = text ≡ verdict_of r
 
--- a beginning of the summary: nothing, unless the output failed
+-- a beginning of what is written at once: nothing, unless the output failed
+abbrev pub BeginsText : List ℕ → Status → List ℕ → Type 0
+BeginsText whole result text = IsPrefixOf text whole × (result ≢ status.SinkFault → text ≡ [])
+
 abbrev pub BeginsSummary : ℕ → ℕ → model.Replay → Status → List ℕ → Type 0
-BeginsSummary number rows r result text = IsPrefixOf text (summary_of number rows r) × (result ≢ status.SinkFault → text ≡ [])
+BeginsSummary number rows r result text = BeginsText (summary_of number rows r) result text
 
--- what a command has written at this status: a prefix of the lines of each class, or a beginning of the summary
+-- what a command has written at this status: a prefix of the lines of each class, or a beginning of the summary or of the verdict
 abbrev pub IsPrefixOfDue : Option Command → Replay → Status → List ℕ → Type 0
 IsPrefixOfDue None r result text = IsPrefixText (due_of r) text
 IsPrefixOfDue (Some (command.Run args)) r result text = IsPrefixText (due_of r) text
 IsPrefixOfDue (Some (command.Gen number rows)) r result text = BeginsSummary number rows (replayed r) result text
+IsPrefixOfDue (Some (command.Audit net out)) r result text = BeginsText (verdict_of r) result text
+
+-- the disk tells its pages, where a command runs an engine
+abbrev pub TellsFor : Option Command → Option Pages → Type 0
+TellsFor c pages = runs_engine c ≡ true → Tells pages
+
+-- how many tuples an engine is fed for a command, each a step of the run, and how many items
+abbrev pub work_for : Option Command → Replay → ℕ
+work_for c r = if runs_engine c then work_in (replayed r) else 0
+
+abbrev pub turns_for : Option Command → Replay → ℕ
+turns_for c r = if runs_engine c then turns_in (replayed r) else 0
 
 -- the message: whole, or a part of it where the sink for messages has failed
 abbrev pub TellsStatus : List ℕ → ℕ → ℕ → Status → List ℕ → Type 0
@@ -222,12 +262,13 @@ pub record Ends (words : List (List ℕ)) (w : World) (result : Status) (source 
   -- by these the script of the words comes to what is left of it
   pub left : Script
   pub goes : GoesBy w.told read (script_of words) left
-  -- at Ok all was accepted; where the disk tells its pages the text is whole and the steps are the work
+  -- at Ok all was accepted; where the disk tells its pages the text is whole and the steps are the work. An audit asks nothing of the
+  -- disk, and has no work
   pub ok : result ≡ status.Ok → IfAccepted left
-      (λ r. Tells w.pages → AppendsSuch w.out_before w.out_now (IsWholeOf (command_in words) r) × (w.steps_now ≡ w.steps_before + work_in (replayed r))) ⊥
+      (λ r. TellsFor (command_in words) w.pages → AppendsSuch w.out_before w.out_now (IsWholeOf (command_in words) r) × (w.steps_now ≡ w.steps_before + work_for (command_in words) r)) ⊥
   -- at another status, where the disk tells its pages, it is a prefix, with no more steps than the work; nothing where not all was accepted
   pub other : result ≢ status.Ok → IfAccepted left
-      (λ r. Tells w.pages → AppendsSuch w.out_before w.out_now (IsPrefixOfDue (command_in words) r result) × (w.steps_now ≤ w.steps_before + work_in (replayed r)))
+      (λ r. TellsFor (command_in words) w.pages → AppendsSuch w.out_before w.out_now (IsPrefixOfDue (command_in words) r result) × (w.steps_now ≤ w.steps_before + work_for (command_in words) r))
       ((w.out_now ≡ w.out_before) × (w.steps_now ≡ w.steps_before))
   pub refused_early : is_refusal result ≡ true → (w.out_now ≡ w.out_before) × (w.steps_now ≡ w.steps_before)
   -- each status has its cause
@@ -237,8 +278,8 @@ pub record Ends (words : List (List ℕ)) (w : World) (result : Status) (source 
   pub stopped : StopHasCause (IsEngineOf left) w.disk_before w.disk_now result
   pub unchanged : Tells w.pages → is_changed result ≡ false
   pub sink : result ≡ status.SinkFault → Rose w.sink_before w.sink_now
-  pub too_much : result ≡ status.TooMuch → IfAccepted left (λ r. Tells w.pages → 2 ^ 62 ≤ turns_in (replayed r)) ⊥
+  pub too_much : result ≡ status.TooMuch → IfAccepted left (λ r. TellsFor (command_in words) w.pages → 2 ^ 62 ≤ turns_for (command_in words) r) ⊥
   -- what is accepted, and isn't too much, ends Ok where nothing fails and the disk tells its pages, but for want of memory
   pub complete : ¬ (Rose w.disk_before w.disk_now) → ¬ (Rose w.sink_before w.sink_now)
-      → IfAccepted left (λ r. Tells w.pages → turns_in (replayed r) < 2 ^ 62 → (result ≡ status.Ok) ⊎ (result ≡ status.Memory)) ⊤
+      → IfAccepted left (λ r. TellsFor (command_in words) w.pages → turns_for (command_in words) r < 2 ^ 62 → (result ≡ status.Ok) ⊎ (result ≡ status.Memory)) ⊤
   pub named : NamesSource words read result source

@@ -1,5 +1,5 @@
 -- Which words are a command, and what it asks for.
-use Rattle.std.specs.Prelude.{ℕ, ◌-◌, ◌^◌, Bool, true, false, ◌&&◌, ◌==◌, nat_le, if◌then◌else◌, List, [], ◌∷◌, Option, Some, None, codes}
+use Rattle.std.specs.Prelude.{ℕ, ◌-◌, ◌^◌, Bool, true, false, not, ◌&&◌, ◌==◌, nat_le, if◌then◌else◌, List, [], ◌∷◌, Option, Some, None, codes}
 use Rattle.std.specs.List.{list_all, list_any, before_first, after_first}
 use Rattle.std.specs.Option.{option_map, option_and_then}
 use Rattle.sq_value.specs.Lists.{contains_bytes, same_bytes}
@@ -140,14 +140,33 @@ gen_args (number ∷ rows ∷ []) = do
   Some (command.Gen number_is rows_are)
 gen_args ws = None
 
+-- a word that may name a file: it isn't empty and doesn't begin with a dash
+abbrev pub may_name : Word → Bool
+may_name [] = false
+may_name (b ∷ bs) = not (b == 45)
+
+-- what the words behind `audit` ask for: the file of a network, and that of a text
+abbrev pub audit_args : List Word → Option Command
+audit_args (net ∷ text ∷ []) = if may_name net && may_name text then Some (command.Audit net text) else None
+audit_args ws = None
+
 -- what the words ask for, where they are a command
 abbrev pub command_in : List Word → Option Command
 command_in [] = None
 command_in (w ∷ ws) =
-    if same_bytes w (codes "run") then option_map command.Run (run_args ws) else (if same_bytes w (codes "gen") then gen_args ws else None)
+    if same_bytes w (codes "run") then option_map command.Run (run_args ws)
+    else (if same_bytes w (codes "audit") then audit_args ws else (if same_bytes w (codes "gen") then gen_args ws else None))
 
 -- whether a command reads the folder
-abbrev pub is_run : Option Command → Bool
-is_run None = false
-is_run (Some (command.Run args)) = true
-is_run (Some (command.Gen number rows)) = false
+abbrev pub reads_folder : Option Command → Bool
+reads_folder None = false
+reads_folder (Some (command.Run args)) = true
+reads_folder (Some (command.Gen number rows)) = false
+reads_folder (Some (command.Audit net text)) = true
+
+-- whether it runs an engine, which alone calls the disk and takes steps
+abbrev pub runs_engine : Option Command → Bool
+runs_engine None = false
+runs_engine (Some (command.Run args)) = true
+runs_engine (Some (command.Gen number rows)) = true
+runs_engine (Some (command.Audit net text)) = false

@@ -40,6 +40,8 @@ network_read None read = None
 network_read (Some (command.Run args)) [] = None
 network_read (Some (command.Run args)) (bytes ∷ read) = network_of (network_in bytes)
 network_read (Some (command.Gen number rows)) read = network_of (network_in (made_of number rows).net)
+network_read (Some (command.Audit net text)) [] = None
+network_read (Some (command.Audit net text)) (bytes ∷ read) = network_of (network_in bytes)
 
 -- the name that the network gives to the source with this number
 abbrev pub source_read : List (List ℕ) → List (List ℕ) → ℕ → List ℕ

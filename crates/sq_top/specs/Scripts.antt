@@ -21,7 +21,8 @@ use Rattle.sq_top.specs.declared.Status.TheVariants as status
 use Rattle.sq_top.specs.Commands.{command_in}
 
 -- what was accepted: a network, the tuples of each of its sources, the capacities, how the next actor is chosen: by which rule,
--- seed and picks, for how many steps, and how many pages may be in memory. What is drawn goes by the seed, too
+-- seed and picks, for how many steps, and how many pages may be in memory. What is drawn goes by the seed, too. An audit has a text
+-- beside them, and a run has none
 pub record Replay : Type 0 where
   pub network : Network
   pub sources : List (List Tuple)
@@ -31,6 +32,7 @@ pub record Replay : Type 0 where
   pub picks : List ℕ
   pub train : ℕ
   pub frames : ℕ
+  pub text : List ℕ
 
 -- a file is read and its bytes say what comes next; or all was read; or a rule is broken
 pub data Script : Type 0 where
@@ -38,12 +40,15 @@ pub data Script : Type 0 where
   Done : Replay → Script
   Stops : Status → Script
 
--- how many bytes a network, capacity or picks file may have, and a stream
+-- how many bytes a network, capacity or picks file may have, a stream, and a text that is audited
 abbrev pub settings_limit : ℕ
 settings_limit = 1048576
 
 abbrev pub stream_limit : ℕ
 stream_limit = 67108864
+
+abbrev pub text_limit : ℕ
+text_limit = 268435456
 
 -- what was accepted, with these sources
 abbrev pub with_sources : Replay → List (List Tuple) → Replay
@@ -64,7 +69,7 @@ after_streams r (s ∷ left) =
 -- what the words, the network file, the capacities and the picks say; no source is read yet
 abbrev pub unread : RunArgs → Network → Entries → List ℕ → Replay
 unread args n entries picks =
-    record { network = n; sources = []; entries = entries; seed = args.seed; rule = args.rule; picks = picks; train = args.train; frames = args.frames }
+    record { network = n; sources = []; entries = entries; seed = args.seed; rule = args.rule; picks = picks; train = args.train; frames = args.frames; text = [] }
 
 abbrev pub after_picks : RunArgs → Network → Entries → Result (List ℕ) ℕ → Script
 after_picks args n entries (Ok picks) = after_streams (unread args n entries picks) n.sources
@@ -97,7 +102,7 @@ made_streams bytes r (s ∷ left) =
 -- the run of what a number makes: the number is its seed, and its actors take turns
 abbrev pub made_unread : ℕ → Network → Entries → Replay
 made_unread number n entries =
-    record { network = n; sources = []; entries = entries; seed = number; rule = rule.RoundRobin; picks = []; train = 16; frames = 256 }
+    record { network = n; sources = []; entries = entries; seed = number; rule = rule.RoundRobin; picks = []; train = 16; frames = 256; text = [] }
 
 abbrev pub made_sources : ℕ → List ℕ → Network → Result Entries ℕ → Script
 made_sources number stream n (Ok entries) = made_streams stream (made_unread number n entries) n.sources
@@ -111,12 +116,37 @@ made_limits number made (Ok n) = made_sources number made.stream n (capacities_i
 abbrev pub made_script : ℕ → Made → Script
 made_script number made = made_limits number made (network_in made.net)
 
+abbrev pub run_script : RunArgs → Script
+run_script args = Reads args.net settings_limit (λ bytes. after_network args (network_in bytes))
+
+-- a script, and behind it what comes of what it accepts
+abbrev pub followed_by : Script → (Replay → Script) → Script
+followed_by (Reads name limit more) next = Reads name limit (λ bytes. followed_by (more bytes) next)
+followed_by (Done r) next = next r
+followed_by (Stops s) next = Stops s
+
+-- an audit reads what a run of the network's file reads that has no options
+abbrev pub plain_args : List ℕ → RunArgs
+plain_args net = record { net = net; capacities = None; seed = 0; rule = rule.RoundRobin; picks = None; train = 16; frames = 256 }
+
+abbrev pub with_text : Replay → List ℕ → Replay
+with_text r text = record r { text = text }
+
+-- and then the text
+abbrev pub text_script : List ℕ → Replay → Script
+text_script text r = Reads text text_limit (λ bytes. Done (with_text r bytes))
+
+abbrev pub audit_script : List ℕ → List ℕ → Script
+audit_script net text = followed_by (run_script (plain_args net)) (text_script text)
+
 abbrev pub after_words : Option Command → Script
 after_words None = Stops status.Usage
-after_words (Some (command.Run args)) = Reads args.net settings_limit (λ bytes. after_network args (network_in bytes))
+after_words (Some (command.Run args)) = run_script args
 after_words (Some (command.Gen number rows)) = made_script number (made_of number rows)
+after_words (Some (command.Audit net text)) = audit_script net text
 
--- the words, then the network file, the capacity file, the picks file, and the sources in their order; or what a number makes
+-- the words, then the network file, the capacity file, the picks file, and the sources in their order, and a text that is audited;
+-- or what a number makes
 abbrev pub script_of : List (List ℕ) → Script
 script_of words = after_words (command_in words)
 

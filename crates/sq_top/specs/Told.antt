@@ -5,7 +5,6 @@ use Rattle.std.specs.FinMap as map
 use Rattle.sq_value.specs.Lists.{contains_bytes, same_bytes}
 use Rattle.sq_outside.specs.Faults.{Rose, RoseBy}
 use Rattle.sq_outside.specs.Folders.{Files, file}
-use Rattle.sq_paged.specs.Fronts.{Tells}
 use Rattle.sq_net.specs.declared.Network.{Network}
 use Rattle.sq_reader.specs.Networks.{network_in}
 use Rattle.sq_gen.specs.Files.{made_of}
@@ -13,18 +12,18 @@ use Rattle.sq_top.specs.declared.Command.{Command}
 use Rattle.sq_top.specs.declared.Command.TheVariants as command
 use Rattle.sq_top.specs.declared.Status.{Status}
 use Rattle.sq_top.specs.declared.Status.TheVariants as status
-use Rattle.sq_top.specs.Commands.{command_in, is_run}
-use Rattle.sq_top.specs.Scripts.{Lookup, Replay, accepted, reads_of, script_of, settings_limit, stream_limit}
-use Rattle.sq_top.specs.Due.{replayed, turns_in, work_in}
+use Rattle.sq_top.specs.Commands.{command_in, reads_folder}
+use Rattle.sq_top.specs.Scripts.{Lookup, Replay, accepted, reads_of, script_of, settings_limit, stream_limit, text_limit}
 use Rattle.sq_top.specs.Messages.{name_at, network_of}
 use Rattle.sq_top.specs.Stopping.{StopHasCause}
-use Rattle.sq_top.specs.Causes.{AppendsSuch, IsPrefixOfDue, IsWholeOf, World, is_refusal}
+use Rattle.sq_top.specs.Causes.{AppendsSuch, IsPrefixOfDue, IsWholeOf, TellsFor, World, is_refusal, turns_for, work_for}
 
 -- whether this is the name of the network's file
 abbrev pub is_network : Option Command → List ℕ → Bool
 is_network None name = false
 is_network (Some (command.Run args)) name = same_bytes args.net name
 is_network (Some (command.Gen number rows)) name = false
+is_network (Some (command.Audit net text)) name = same_bytes net name
 
 abbrev pub is_named : Option (List ℕ) → List ℕ → Bool
 is_named None name = false
@@ -35,19 +34,29 @@ abbrev pub is_capacities : Option Command → List ℕ → Bool
 is_capacities None name = false
 is_capacities (Some (command.Run args)) name = is_named args.capacities name
 is_capacities (Some (command.Gen number rows)) name = false
+is_capacities (Some (command.Audit net text)) name = false
 
 -- whether this is the name of the picks' file
 abbrev pub is_picks : Option Command → List ℕ → Bool
 is_picks None name = false
 is_picks (Some (command.Run args)) name = is_named args.picks name
 is_picks (Some (command.Gen number rows)) name = false
+is_picks (Some (command.Audit net text)) name = false
 
--- what a file is to a run: its network, its capacities, its picks, or a source's stream
+-- whether this is the name of the text that is audited
+abbrev pub is_text : Option Command → List ℕ → Bool
+is_text None name = false
+is_text (Some (command.Run args)) name = false
+is_text (Some (command.Gen number rows)) name = false
+is_text (Some (command.Audit net text)) name = same_bytes text name
+
+-- what a file is to a command: its network, its capacities, its picks, a source's stream, or the text that is audited
 pub data FilePart : Type 0 where
   NetworkFile : FilePart
   CapacityFile : FilePart
   PicksFile : FilePart
   StreamFile : FilePart
+  TextFile : FilePart
 
 -- how many bytes a file of this part may have
 abbrev pub limit_of : FilePart → ℕ
@@ -55,13 +64,15 @@ limit_of NetworkFile = settings_limit
 limit_of CapacityFile = settings_limit
 limit_of PicksFile = settings_limit
 limit_of StreamFile = stream_limit
+limit_of TextFile = text_limit
 
 -- whether a file of this name may have this part: which files are streams the network's file alone says
 abbrev pub may_be : Option Command → FilePart → List ℕ → Bool
 may_be c NetworkFile name = is_network c name
 may_be c CapacityFile name = is_capacities c name
 may_be c PicksFile name = is_picks c name
-may_be c StreamFile name = is_run c
+may_be c StreamFile name = reads_folder c
+may_be c TextFile name = is_text c name
 
 -- over every folder: it is at fault only where its count rose, or where it tells its files; a file is too long only where more was
 -- taken than a file of its part may have
@@ -78,6 +89,7 @@ abbrev pub looked_at : Option Command → Option Files → Option Files
 looked_at None told = told
 looked_at (Some (command.Run args)) told = told
 looked_at (Some (command.Gen number rows)) told = Some no_files
+looked_at (Some (command.Audit net text)) told = told
 
 -- P of what was accepted, and Q of the status of the rule that is broken
 abbrev pub MatchAccepted : Result Replay Status → (Replay → Type 0) → (Status → Type 0) → Type 0
@@ -102,6 +114,7 @@ abbrev pub network_named : Lookup → Option Command → Option Network
 network_named files None = None
 network_named files (Some (command.Run args)) = option_and_then (λ bytes. network_of (network_in bytes)) (files args.net)
 network_named files (Some (command.Gen number rows)) = network_of (network_in (made_of number rows).net)
+network_named files (Some (command.Audit net text)) = option_and_then (λ bytes. network_of (network_in bytes)) (files net)
 
 -- the source's name is that in the network file, where a line of the source is bad
 abbrev pub NamesTold : Files → List (List ℕ) → Status → List ℕ → Type 0
@@ -111,14 +124,14 @@ NamesTold files words result source = ⊤
 -- how a run ends over these files, by what words and files come to
 pub record EndsOver (files : Files) (words : List (List ℕ)) (w : World) (result : Status) (source : List ℕ) : Type 0 where
   pub ok : result ≡ status.Ok → MatchAccepted (accepted (file files) words)
-      (λ r. Tells w.pages → AppendsSuch w.out_before w.out_now (IsWholeOf (command_in words) r) × (w.steps_now ≡ w.steps_before + work_in (replayed r)))
+      (λ r. TellsFor (command_in words) w.pages → AppendsSuch w.out_before w.out_now (IsWholeOf (command_in words) r) × (w.steps_now ≡ w.steps_before + work_for (command_in words) r))
       (λ s. ⊥)
   pub other : result ≢ status.Ok → MatchAccepted (accepted (file files) words)
-      (λ r. Tells w.pages → AppendsSuch w.out_before w.out_now (IsPrefixOfDue (command_in words) r result) × (w.steps_now ≤ w.steps_before + work_in (replayed r)))
+      (λ r. TellsFor (command_in words) w.pages → AppendsSuch w.out_before w.out_now (IsPrefixOfDue (command_in words) r result) × (w.steps_now ≤ w.steps_before + work_for (command_in words) r))
       (λ s. (w.out_now ≡ w.out_before) × (w.steps_now ≡ w.steps_before))
   pub refusal : RefusalHasCause files words w.folder_before w.folder_now result
   pub stopped : StopHasCause (λ engine. MatchAccepted (accepted (file files) words) (λ r. engine.network ≡ r.network) (λ s. ⊥)) w.disk_before w.disk_now result
-  pub too_much : result ≡ status.TooMuch → MatchAccepted (accepted (file files) words) (λ r. Tells w.pages → 2 ^ 62 ≤ turns_in (replayed r)) (λ s. ⊥)
+  pub too_much : result ≡ status.TooMuch → MatchAccepted (accepted (file files) words) (λ r. TellsFor (command_in words) w.pages → 2 ^ 62 ≤ turns_for (command_in words) r) (λ s. ⊥)
   pub complete : ¬ (Rose w.folder_before w.folder_now) → ¬ (Rose w.disk_before w.disk_now) → ¬ (Rose w.sink_before w.sink_now)
-      → MatchAccepted (accepted (file files) words) (λ r. Tells w.pages → turns_in (replayed r) < 2 ^ 62 → (result ≡ status.Ok) ⊎ (result ≡ status.Memory)) (λ s. ⊤)
+      → MatchAccepted (accepted (file files) words) (λ r. TellsFor (command_in words) w.pages → turns_for (command_in words) r < 2 ^ 62 → (result ≡ status.Ok) ⊎ (result ≡ status.Memory)) (λ s. ⊤)
   pub named : NamesTold files words result source

@@ -1,5 +1,5 @@
 -- What code reads, in the terms in which commands and what was accepted are told.
-use Rattle.std.specs.Prelude.{ℕ, List, map, Option}
+use Rattle.std.specs.Prelude.{ℕ, List, [], map, Option}
 use Rattle.std.specs.Borrow.{Bor}
 use Rattle.std.specs.Option.{option_map}
 use Rattle.sq_top.specs.declared.RunArgs.{RunArgs}
@@ -36,4 +36,5 @@ replay_of a = record {
   picks = a.picks.items;
   train = a.train;
   frames = a.frames;
+  text = [];
 }

@@ -5,9 +5,11 @@
 //! each class and taken exactly the steps of its work; any other end leaves a prefix of each class and has a cause of
 //! its own, whatever the schedule and however few pages stay in memory. Where a folder tells its files, they decide
 //! (`told_files_decide`). `drive` carries the part of it that an engine does. A run of what a number makes is a
-//! replay as any other, of which the numbers of lines are written in their place. Below stand `sq_gen` for what a
-//! number makes, `sq_reader` and `sq_replay` for texts, `sq_core` for the engine, `sq_sched` for schedules,
-//! `sq_model` for the answers, the records of what is dropped and the plans, and `sq_outside` for the objects.
+//! replay as any other, of which the numbers of lines are written in their place. An audit runs no engine: it reads a
+//! network, the streams of its sources and a text, and writes the verdict on the text as one line. Below stand
+//! `sq_gen` for what a number makes, `sq_reader` and `sq_replay` for texts, `sq_core` for the engine, `sq_sched` for
+//! schedules, `sq_model` for the answers, the records of what is dropped and the plans, `sq_audit` for verdicts, and
+//! `sq_outside` for the objects.
 #![tactic(auto)]
 
 ghost use Rattle.std.specs.Prelude.{◌≡◌, ◌≢◌, ◌≤◌, List, ℕ, false, is_some, map, true};
@@ -15,11 +17,12 @@ ghost use Rattle.std.specs.String.{string_bytes};
 ghost use Rattle.sq_outside.specs.Faults.{Rose};
 ghost use Rattle.sq_net.specs.declared.NetErr.TheVariants as net;
 ghost use Rattle.sq_paged.specs.Fronts.{Tells};
-ghost use Rattle.sq_top.specs.Causes.{AppendsSuch, Ends, TellsStatus, UsageHasCause, is_refusal};
-ghost use Rattle.sq_top.specs.Commands.{command_in, is_run};
+ghost use Rattle.sq_top.specs.Causes.{AppendsSuch, Ends, TellsStatus, UsageHasCause, is_plain_end, is_refusal};
+ghost use Rattle.sq_top.specs.Commands.{command_in, reads_folder, runs_engine};
 ghost use Rattle.sq_top.specs.Stopping.{is_changed};
 ghost use Rattle.sq_top.specs.Messages.{code_of};
 
+mod auditing;
 mod counting;
 mod driving;
 mod generating;
@@ -74,6 +77,13 @@ pub enum Command {
         number: u64,
         /// 1 to 1,000,000.
         rows: u32,
+    },
+    /// An audit of a text beside the files of a network, of which the verdict is written.
+    Audit {
+        /// The network's file.
+        net: Name,
+        /// The text's file.
+        text: Name,
     },
 }
 
@@ -210,11 +220,14 @@ pub fn run_words<F: Folder, D: PageDisk, S: Sink, E: Sink, L: Ledger>(
     ensures sink { result ≡ Status.SinkFault → Rose (S.faults out.old) (S.faults out.new) }
 
     // The files stay, and so does whether the disk tells its pages; a refusal doesn't call the disk, nor do words call the folder that
-    // don't ask for the run of a network's files. No count falls.
+    // don't ask for a network's files. Words that ask for no engine don't call the disk and take no step, and none of its statuses
+    // comes. No count falls.
     ensures same_files { F.files folder.new ≡ F.files folder.old }
-    ensures unread { is_run (command_in (map string_bytes words.now.items)) ≡ false → (F.faults folder.new ≡ F.faults folder.old)
+    ensures unread { reads_folder (command_in (map string_bytes words.now.items)) ≡ false → (F.faults folder.new ≡ F.faults folder.old)
         × (F.taken folder.new ≡ F.taken folder.old) × (F.read folder.new ≡ F.read folder.old) }
     ensures same_disk { is_refusal result ≡ true → (D.pages disk.new ≡ D.pages disk.old) × (D.faults disk.new ≡ D.faults disk.old) }
+    ensures no_engine { runs_engine (command_in (map string_bytes words.now.items)) ≡ false → (is_plain_end result ≡ true)
+        × (D.pages disk.new ≡ D.pages disk.old) × (D.faults disk.new ≡ D.faults disk.old) × (steps.new ≡ steps.old) }
     ensures tells { is_some (D.pages disk.new) ≡ is_some (D.pages disk.old) }
     ensures later { (F.faults folder.old ≤ F.faults folder.new) × (F.taken folder.old ≤ F.taken folder.new)
         × (D.faults disk.old ≤ D.faults disk.new) × (S.faults out.old ≤ S.faults out.new) × (E.faults err.old ≤ E.faults err.new) }

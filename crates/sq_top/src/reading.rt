@@ -29,7 +29,7 @@ const SETTINGS_LIMIT: u64 = 1_048_576;
 const STREAM_LIMIT: u64 = 67_108_864;
 
 /// The bytes of a file, or the status of a run that doesn't get them.
-fn read_file<F: Folder>(
+pub(crate) fn read_file<F: Folder>(
     alloc: Global,
     folder: &mut F,
     name: &Name,

@@ -10,8 +10,8 @@ ghost use Rattle.sq_outside.specs.Disks.{Pages};
 ghost use Rattle.sq_paged.specs.Fronts.{Tells};
 ghost use Rattle.sq_core.specs.Runs.{IsRun, IsSoundEngine};
 ghost use Rattle.sq_top.specs.Answers.{IsPrefixText, IsWholeText};
-ghost use Rattle.sq_top.specs.Commands.{command_in, is_run};
-ghost use Rattle.sq_top.specs.Causes.{AppendsSuch, BeginsSummary, Ends, TellsStatus, is_refusal, source_of};
+ghost use Rattle.sq_top.specs.Commands.{command_in, reads_folder, runs_engine};
+ghost use Rattle.sq_top.specs.Causes.{AppendsSuch, BeginsSummary, Ends, TellsStatus, is_plain_end, is_refusal, source_of};
 ghost use Rattle.sq_top.specs.Summaries.{summary_of};
 ghost use Rattle.sq_top.specs.Stopping.{StopHasCause, is_changed};
 ghost use Rattle.sq_top.specs.Driving.{IsCutShort};
@@ -19,6 +19,7 @@ ghost use Rattle.sq_top.specs.Due.{due_of, replayed, turns_in, work_in};
 ghost use Rattle.sq_top.specs.Recorded.{AreRecorded};
 ghost use Rattle.sq_top.specs.Views.{replay_of};
 
+use crate::auditing::audit_files;
 use crate::counting::count;
 use crate::driving::drive;
 use crate::generating::prepare_made;
@@ -262,8 +263,10 @@ pub fn run<F: Folder, D: PageDisk, S: Sink, L: Ledger>(
     })
         result.status (source_of result.source) }
     ensures files { F.files folder.new ≡ F.files folder.old }
-    ensures unread { is_run (command_in (map string_bytes words.now.items)) ≡ false → (F.faults folder.new ≡ F.faults folder.old)
+    ensures unread { reads_folder (command_in (map string_bytes words.now.items)) ≡ false → (F.faults folder.new ≡ F.faults folder.old)
         × (F.taken folder.new ≡ F.taken folder.old) × (F.read folder.new ≡ F.read folder.old) }
+    ensures no_engine { runs_engine (command_in (map string_bytes words.now.items)) ≡ false → (is_plain_end result.status ≡ true)
+        × (D.pages disk.new ≡ D.pages disk.old) × (D.faults disk.new ≡ D.faults disk.old) × (steps.new ≡ steps.old) }
     ensures disk { is_refusal result.status ≡ true → (D.pages disk.new ≡ D.pages disk.old) × (D.faults disk.new ≡ D.faults disk.old) }
     ensures tells { is_some (D.pages disk.new) ≡ is_some (D.pages disk.old) }
     ensures later { (F.faults folder.old ≤ F.faults folder.new) × (F.taken folder.old ≤ F.taken folder.new)
@@ -272,6 +275,7 @@ pub fn run<F: Folder, D: PageDisk, S: Sink, L: Ledger>(
     match read_words(alloc, words) {
         Ok(Command::Run(args)) => run_files(alloc, args, folder, disk, out, steps),
         Ok(Command::Gen { number, rows }) => run_made(alloc, number, rows, disk, out, steps),
+        Ok(Command::Audit { net, text }) => audit_files(alloc, net, &text, folder, out),
         Err(WordsErr::Usage) => stopped_by(Status::Usage),
         Err(WordsErr::Memory) => stopped_by(Status::Memory),
     }

@@ -4,7 +4,7 @@ ghost use Rattle.std.specs.List.{list_all};
 ghost use Rattle.std.specs.Option.{option_map};
 ghost use Rattle.std.specs.String.{string_bytes};
 ghost use Rattle.sq_value.specs.Texts.{is_digit, read_number};
-ghost use Rattle.sq_top.specs.Commands.{args_of, command_in, dashed_piece, gen_args, given_from, is_known, lone, named_piece, number_or, number_within, piece_of, rule_named, rule_of, run_args, same_option, values_of, whole_piece};
+ghost use Rattle.sq_top.specs.Commands.{args_of, audit_args, command_in, dashed_piece, gen_args, given_from, is_known, lone, may_name, named_piece, number_or, number_within, piece_of, rule_named, rule_of, run_args, same_option, values_of, whole_piece};
 ghost use Rattle.sq_top.specs.Views.{wanted_view, given_view, piece_view, text_view};
 
 use crate::{Command, RunArgs, WordsErr};
@@ -320,9 +320,46 @@ fn gen_args(words: &[String]) -> Option<Command>
     })
 }
 
+/// Whether a word may name a file: it isn't empty and doesn't begin with a dash.
+fn may_name(word: &str) -> bool
+    ensures { result ≡ may_name word.now }
+{
+    match word.as_bytes() {
+        [] => false,
+        [first, ..] => *first != b'-',
+    }
+}
+
+fn audit_of(alloc: Global, net: &str, text: &str) -> Result<Command, AllocError>
+    ensures { IfOk result (λ c. c ≡ Command.Audit net.now text.now) }
+{
+    Ok(Command::Audit {
+        net: Name::new(alloc, net)?,
+        text: Name::new(alloc, text)?,
+    })
+}
+
+/// What the words behind `audit` ask for.
+fn audit_args(alloc: Global, words: &[String]) -> Result<Command, WordsErr>
+    ensures command { IfOk result (λ c. audit_args (map string_bytes words.now) ≡ Some c) }
+    ensures usage { result ≡ Err WordsErr.Usage → audit_args (map string_bytes words.now) ≡ None }
+{
+    let [net, text] = words else {
+        return Err(WordsErr::Usage);
+    };
+    if !may_name(net.as_str()) || !may_name(text.as_str()) {
+        return Err(WordsErr::Usage);
+    }
+    match audit_of(alloc, net.as_str(), text.as_str()) {
+        Ok(command) => Ok(command),
+        Err(_) => Err(WordsErr::Memory),
+    }
+}
+
 /// What words ask for: `run NET [--capacities FILE] [--seed N] [--policy rr|long|seeded] [--picks FILE] [--train N] [--frames N]`,
 /// where each option stands once at most, as `--name value` or `--name=value`, and a policy excludes picks. A seed has 64 bits,
 /// a train is 1 to 4096, frames are 2 to 16,384. Or `gen NUMBER ROWS`, where the number has 64 bits and the rows are 1 to 1,000,000.
+/// Or `audit NET OUT`, where neither is empty or begins with a dash.
 pub fn read_words(alloc: Global, words: &Vec<String>) -> Result<Command, WordsErr>
     ensures command { IfOk result (λ c. command_in (map string_bytes words.now.items) ≡ Some c) }
     ensures usage { result ≡ Err WordsErr.Usage → command_in (map string_bytes words.now.items) ≡ None }
@@ -335,6 +372,9 @@ pub fn read_words(alloc: Global, words: &Vec<String>) -> Result<Command, WordsEr
             Ok(args) => Ok(Command::Run(args)),
             Err(e) => Err(e),
         };
+    }
+    if same_text(first.as_str(), "audit") {
+        return audit_args(alloc, rest);
     }
     if !same_text(first.as_str(), "gen") {
         return Err(WordsErr::Usage);

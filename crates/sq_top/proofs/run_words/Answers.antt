@@ -1,6 +1,6 @@
 use Rattle.sq_top.specs.Causes.{source_of}
 use Rattle.sq_top.proofs.EndLemmas.{told_ends, told_nothing}
-use Rattle.sq_top.proofs.StopLemmas.{told_refused}
+use Rattle.sq_top.proofs.StopLemmas.{told_plain, told_refused}
 use Rattle.sq_top.proofs.run_words.Goals as goal
 
 pub returns-in-Ok-clause-ends : goal.returns-in-Ok-clause-ends
@@ -19,6 +19,7 @@ returns g c =
       same_files = c.run-stopped.ensures.files;
       unread = c.run-stopped.ensures.unread;
       same_disk = λ refused. c.run-stopped.ensures.disk (told_refused _ _ c.tell.ensures.status refused);
+      no_engine = λ plain. let own = c.run-stopped.ensures.no_engine plain in (told_plain _ _ c.tell.ensures.status own.0, own.1, own.2, own.3);
       tells = c.run-stopped.ensures.tells;
       later = (c.run-stopped.ensures.later.0, c.run-stopped.ensures.later.1, c.run-stopped.ensures.later.2, c.run-stopped.ensures.later.3, c.tell.ensures.later);
     }

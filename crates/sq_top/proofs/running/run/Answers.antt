@@ -6,7 +6,7 @@ use Rattle.sq_top.specs.Scripts.{script_of}
 use Rattle.sq_top.proofs.EndLemmas.{stopped_ends}
 use Rattle.sq_top.proofs.ReadsLemmas.{leads_self}
 use Rattle.sq_top.proofs.StoppedLemmas.{stopped_memory, stopped_usage}
-use Rattle.sq_top.proofs.TrainLemmas.{command_least, gen_rows}
+use Rattle.sq_top.proofs.TrainLemmas.{audit_named, command_least, gen_rows}
 use Rattle.sq_top.proofs.running.run.Goals as goal
 
 pub run_files-requires-clause-train : goal.run_files-requires-clause-train
@@ -41,3 +41,16 @@ returns-in-Err-Memory-clause-ends g c =
     rw (c.stopped_by-in-Err-Memory.ensures.0, c.stopped_by-in-Err-Memory.ensures.1)
     (stopped_ends _ _ _ _ (stopped_memory (map string_bytes c.args.words.now.items) _ _ _ _ _ _ _ _ (script_of (map string_bytes c.args.words.now.items))
     (leads_self (g.F.Folder.files c.args.folder.now) (g.F.Folder.read c.args.folder.now) (script_of (map string_bytes c.args.words.now.items)))) refl refl)
+
+pub audit_files-requires : goal.audit_files-requires
+audit_files-requires g c =
+    audit_named (map string_bytes c.args.words.now.items) c.in-Ok-Audit.net c.in-Ok-Audit.text (c.in-Ok-Audit.ensures.command ∙ ap (λ (x : Command). Some x) c.in-Ok-Audit.field-0-is)
+
+pub returns-in-Ok-Audit-clause-ends : goal.returns-in-Ok-Audit-clause-ends
+returns-in-Ok-Audit-clause-ends g c =
+    c.audit_files.ensures.ends (map string_bytes c.args.words.now.items) (g.D.PageDisk.pages c.args.disk.now) (g.D.PageDisk.faults c.args.disk.now) c.args.steps.now
+    (c.in-Ok-Audit.ensures.command ∙ ap (λ (x : Command). Some x) c.in-Ok-Audit.field-0-is)
+
+pub returns-in-Ok-Audit-clause-no_engine : goal.returns-in-Ok-Audit-clause-no_engine
+returns-in-Ok-Audit-clause-no_engine g c plain =
+    (c.audit_files.ensures.plain (map string_bytes c.args.words.now.items) (c.in-Ok-Audit.ensures.command ∙ ap (λ (x : Command). Some x) c.in-Ok-Audit.field-0-is), refl, refl, refl)

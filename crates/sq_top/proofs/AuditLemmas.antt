@@ -1,0 +1,154 @@
+-- An audit reads what a run of the network's file reads that has no options, and then the text; how it ends.
+use Rattle.std.proofs.Common.{◌≡◌, ◌≢◌, ◌⊎◌, inl, inr, ℕ, Bool, true, false, not, ◌==◌, List, [], ◌∷◌, refl, ap, sym, ◌∙◌, subst, arith, Option, None, Some}
+use Rattle.std.specs.Prelude.{codes, IsSome}
+use Rattle.sq_outside.specs.Folders.{Files}
+use Rattle.sq_outside.specs.Sinks.{AppendsPrefix, appended}
+use Rattle.sq_top.specs.declared.Command.TheVariants as command
+use Rattle.sq_top.specs.declared.Status.{Status}
+use Rattle.sq_top.specs.declared.Status.TheVariants as status
+use Rattle.sq_top.specs.Commands.{command_in, may_name, runs_engine}
+use Rattle.sq_top.specs.Scripts.{Replay, Script, Reads, Done, Stops, after_words, followed_by, plain_args, script_of, text_limit, text_script, with_text}
+use Rattle.sq_top.specs.Messages.{name_at}
+use Rattle.sq_top.specs.Reads.{GoesBy, IsRead, Leads, network_read}
+use Rattle.sq_top.specs.Causes.{AppendsSuch, Ends, IsPrefixOfDue, IsRefusedAt, IsStopped, IsUnread, IsWholeOf, NamesSource, World, is_plain_end, is_refusal, verdict_of, work_for}
+use Rattle.sq_top.specs.Writing.{IsLost}
+use Rattle.sq_top.proofs.DrivingLemmas.{not_too_much}
+use Rattle.sq_top.proofs.EndLemmas.{answered_cut, answered_ok, appends_all, appends_begun}
+use Rattle.sq_top.proofs.ReadsLemmas.{HoldsFor, leads_read, leads_still, leads_then, left_holds}
+use Rattle.sq_top.proofs.StoppedLemmas.{memory_at, some_none, stopped_unread}
+use Rattle.sq_top.proofs.StopLemmas.{lost_cut, lost_stop, lost_unchanged}
+
+-- by what leads through the first script the two go on
+goes_behind : (told : Option Files) (next : Replay → Script) (read : List (List ℕ)) (from to : Script) → GoesBy told read from to
+    → GoesBy told read (followed_by from next) (followed_by to next)
+goes_behind told next [] from to goes = ap (λ s. followed_by s next) goes
+goes_behind told next (bytes ∷ read) (Reads name limit more) to goes = (goes.0, goes_behind told next read (more bytes) to goes.1)
+goes_behind told next (bytes ∷ read) (Done r) to goes = absurd goes
+goes_behind told next (bytes ∷ read) (Stops s) to goes = absurd goes
+
+-- and where the first stops, they stop alike
+refused_behind : (told : Option Files) (fb fn tb tn : ℕ) (s : Status) (next : Replay → Script) (left : Script) → (is_refusal s ≡ true) ⊎ (s ≡ status.Memory)
+    → IsRefusedAt told fb fn tb tn s left → IsRefusedAt told fb fn tb tn s (followed_by left next)
+refused_behind told fb fn tb tn s next (Reads name limit more) ends why = why
+refused_behind told fb fn tb tn s next (Stops t) ends why = why
+refused_behind told fb fn tb tn s next (Done r) (inl refused) why = let both : true ≡ false = sym refused ∙ why in absurd (cc)
+refused_behind told fb fn tb tn s next (Done r) (inr memory) why = subst (λ x. IsRefusedAt told fb fn tb tn x (next r)) (sym memory) (memory_at told fb fn tb tn (next r))
+
+-- the words of that run
+abbrev pub run_words : List ℕ → List (List ℕ)
+run_words net = codes "run" ∷ net ∷ []
+
+not-true : (b : Bool) → not b ≡ true → b ≡ false
+not-true true h = cc
+not-true false h = refl
+
+pub run_asked : (net : List ℕ) → may_name net ≡ true → command_in (run_words net) ≡ Some (command.Run (plain_args net))
+run_asked [] h = cc
+run_asked (b ∷ bs) h = rw (not-true (b == 45) h) refl
+
+module _ (words : List (List ℕ)) (net text : List ℕ) (asked : command_in words ≡ Some (command.Audit net text)) (told : Option Files) where
+  pub is_audit : IsSome (command_in words)
+  is_audit = rw asked refl
+
+  no_engine : runs_engine (command_in words) ≡ false
+  no_engine = ap runs_engine asked
+
+  module _ (named : may_name net ≡ true) where
+    abbrev run : List (List ℕ)
+    run = run_words net
+
+    run_is : command_in run ≡ Some (command.Run (plain_args net))
+    run_is = run_asked net named
+
+    script_behind : script_of words ≡ followed_by (script_of run) (text_script text)
+    script_behind = ap after_words asked ∙ ap (λ c. followed_by (after_words c) (text_script text)) (sym run_is)
+
+    goes_on : (read : List (List ℕ)) (left : Script) → GoesBy told read (script_of run) left → GoesBy told read (script_of words) (followed_by left (text_script text))
+    goes_on read left goes = subst (λ x. GoesBy told read x (followed_by left (text_script text))) (sym script_behind) (goes_behind told (text_script text) read (script_of run) left goes)
+
+    same_network : (read : List (List ℕ)) → network_read (command_in run) read ≡ network_read (command_in words) read
+    same_network read = ap (λ c. network_read c read) run_is ∙ by read ∙ sym (ap (λ c. network_read c read) asked)
+      where
+        by : (read : List (List ℕ)) → network_read (Some (command.Run (plain_args net))) read ≡ network_read (Some (command.Audit net text)) read
+        by [] = refl
+        by (bytes ∷ read) = refl
+
+    same_names : (read : List (List ℕ)) (s : Status) (source : List ℕ) → NamesSource run read s source → NamesSource words read s source
+    same_names read (status.BadStream number line why) source e = e ∙ ap (name_at number) (same_network read)
+    same_names read s source e = tt
+
+    not_usage : (fb fn tb tn : ℕ) (rb rn : List (List ℕ)) (s : Status) (source : List ℕ) → IsStopped run told fb fn tb tn rb rn s source → s ≡ status.Usage → command_in words ≡ None
+    not_usage fb fn tb tn rb rn s source h e = absurd (some_none (command_in run) (rw run_is refl) (h.usage.only e))
+
+    -- where the run stops before its replay, so does the audit
+    pub stopped_run : (fb fn tb tn : ℕ) (rb rn : List (List ℕ)) (s : Status) (source : List ℕ) → IsStopped run told fb fn tb tn rb rn s source
+        → IsStopped words told fb fn tb tn rb rn s source
+    stopped_run fb fn tb tn rb rn s source h = record {
+      read = h.read;
+      given = h.given;
+      left = followed_by h.left (text_script text);
+      goes = goes_on h.read h.left h.goes;
+      refusal = refused_behind told fb fn tb tn s (text_script text) h.left h.ends h.refusal;
+      usage = record { only = not_usage fb fn tb tn rb rn s source h; when = λ none. absurd (some_none (command_in words) is_audit none) };
+      named = same_names h.read s source h.named;
+      ends = h.ends;
+      no_memory = h.no_memory;
+    }
+
+    -- where the run goes on to its replay, the audit goes on to the text
+    module _ (rb rm rn : List (List ℕ)) (r : Replay) (leads : Leads told rb rm (script_of run) (Done r)) where
+      text_leads : Leads told rb rm (script_of words) (text_script text r)
+      text_leads = (leads.0, goes_on leads.0 (Done r) leads.1, leads.2)
+
+      pub stopped_text : (fb fn tb tn : ℕ) (s : Status) (source : List ℕ) → rn ≡ rm → IsUnread told text text_limit fb fn tb tn s
+          → IsStopped words told fb fn tb tn rb rn s source
+      stopped_text fb fn tb tn s source same unread =
+          stopped_unread words told fb fn tb tn rb rn source text text_limit (λ bytes. Done (with_text r bytes)) is_audit
+          (leads_still told rb rm rn (script_of words) (text_script text r) text_leads same) s unread
+
+      pub accepted_text : (bytes : List ℕ) → IsRead told text text_limit rm rn bytes → Leads told rb rn (script_of words) (Done (with_text r bytes))
+      accepted_text bytes got =
+          leads_then told rb rm rn (script_of words) (text_script text r) (Done (with_text r bytes)) text_leads
+          (leads_read told text text_limit (λ xs. Done (with_text r xs)) rm rn bytes got)
+
+  -- an audit that stops has a status of its own
+  pub stopped_plain : (fb fn tb tn : ℕ) (rb rn : List (List ℕ)) (s : Status) (source : List ℕ) → IsStopped words told fb fn tb tn rb rn s source → is_plain_end s ≡ true
+  stopped_plain fb fn tb tn rb rn s source h = by h.left h.ends h.refusal (left_holds told words h.read h.left h.goes)
+    where
+      by : (left : Script) → (is_refusal s ≡ true) ⊎ (s ≡ status.Memory) → IsRefusedAt told fb fn tb tn s left → HoldsFor (command_in words) left → is_plain_end s ≡ true
+      by (Done r) (inl refused) why holds = let both : true ≡ false = sym refused ∙ why in absurd (cc)
+      by (Done r) (inr memory) why holds = ap is_plain_end memory
+      by (Stops t) ends (inl same) holds = ap is_plain_end same ∙ holds.1 no_engine
+      by (Stops t) ends (inr memory) holds = ap is_plain_end memory
+      by (Reads name limit more) ends (inl memory) holds = ap is_plain_end memory
+      by (Reads name limit more) ends (inr (inl fault)) holds = ap is_plain_end fault.0
+      by (Reads name limit more) ends (inr (inr long)) holds = ap is_plain_end long.0
+
+pub lost_plain : (before now : ℕ) (s : Status) → IsLost before now s → is_plain_end s ≡ true
+lost_plain before now s (inl memory) = ap is_plain_end memory
+lost_plain before now s (inr (sink, rose)) = ap is_plain_end sink
+
+-- how an audit ends whose files were read
+module _ (words : List (List ℕ)) (net text : List ℕ) (asked : command_in words ≡ Some (command.Audit net text)) (w : World) (r : Replay) (source : List ℕ)
+    (came : Leads w.told w.read_before w.read_now (script_of words) (Done r)) (still : w.steps_now ≡ w.steps_before) where
+  no_work : work_for (command_in words) r ≡ 0
+  no_work = ap (λ c. work_for c r) asked
+
+  pub audited_ok : w.out_now ≡ appended w.out_before (verdict_of r) → Ends words w status.Ok source
+  audited_ok written =
+      answered_ok words w r source (is_audit words net text asked w.told) came
+      (λ told. (
+        subst (λ c. AppendsSuch w.out_before w.out_now (IsWholeOf c r)) (sym asked) (appends_all w.out_before w.out_now (verdict_of r) (λ said. said ≡ verdict_of r) written refl),
+        omega (arith, still, no_work),
+      ))
+
+  pub audited_cut : (s : Status) → IsLost w.sink_before w.sink_now s → AppendsPrefix w.out_before w.out_now (verdict_of r) → (s ≢ status.SinkFault → w.out_now ≡ w.out_before)
+      → Ends words w s source
+  audited_cut s lost part alone =
+      answered_cut words w r source (is_audit words net text asked w.told) came s (lost_cut w.sink_before w.sink_before w.sink_now s (omega arith) lost)
+      (lost_stop _ w.disk_before w.disk_now w.sink_before w.sink_now s lost) (λ pages. lost_unchanged w.sink_before w.sink_now s lost) (λ told. lost_unchanged w.sink_before w.sink_now s lost)
+      (λ told. not_too_much _ w.sink_before w.sink_now s lost)
+      (λ told. (
+        subst (λ c. AppendsSuch w.out_before w.out_now (IsPrefixOfDue c r s)) (sym asked) (appends_begun (verdict_of r) w.out_before w.out_now s part alone),
+        omega (arith, still, no_work),
+      ))

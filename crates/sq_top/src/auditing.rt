@@ -1,0 +1,149 @@
+// An audit: what it reads, and the line that it writes.
+ghost use Rattle.std.specs.Prelude.{◌≡◌, ◌≢◌, ℕ, ◌≤◌, true, IfErr, IfOk, List, OnErr, OnOk, Option, Some, map};
+ghost use Rattle.sq_outside.specs.Disks.{Pages};
+ghost use Rattle.sq_outside.specs.Sinks.{AppendsPrefix, appended};
+ghost use Rattle.sq_net.specs.Sound.{IsSound};
+ghost use Rattle.sq_points.specs.Limits.{KeepsDropLimits};
+ghost use Rattle.sq_top.specs.declared.Command.TheVariants as Command;
+ghost use Rattle.sq_top.specs.Commands.{command_in, may_name};
+ghost use Rattle.sq_top.specs.Scripts.{Done, plain_args, script_of, with_text};
+ghost use Rattle.sq_top.specs.Reads.{Leads};
+ghost use Rattle.sq_top.specs.Causes.{Ends, IsStopped, is_plain_end, source_of, verdict_of};
+ghost use Rattle.sq_top.specs.Views.{replay_of};
+ghost use Rattle.sq_top.specs.Recorded.{AreRecorded};
+ghost use Rattle.sq_top.specs.Writing.{IsLost};
+
+use crate::reading::{Accepted, Stopped, prepare, read_file, stopped_by};
+use crate::{RunArgs, Status};
+use sq_audit::{append_verdict_line, audit_text};
+use sq_outside::{Failed, Folder, Sink, write_all};
+use sq_sched::Rule;
+use sq_value::Name;
+use std::alloc::{AllocError, Global};
+
+/// How many bytes a text may have that is audited.
+const TEXT_LIMIT: u64 = 268_435_456;
+
+/// What a run is asked for that reads a network and its sources, and no capacities or picks.
+fn plain_args(net: Name) -> RunArgs
+    ensures { result ≡ plain_args net }
+{
+    RunArgs {
+        net,
+        capacities: None,
+        seed: 0,
+        rule: Rule::RoundRobin,
+        picks: None,
+        train: 16,
+        frames: 256,
+    }
+}
+
+/// The network, its sources' tuples and the text, or the status of an audit that stops at them.
+fn prepare_audit<F: Folder>(
+    alloc: Global,
+    net: Name,
+    text: &Name,
+    folder: &mut F,
+) -> Result<(Accepted, Vec<u8>), Stopped>
+    requires { may_name net ≡ true }
+    ensures sound { IfOk result (λ a. IsSound a.0.network) }
+    ensures limits { IfOk result (λ a. KeepsDropLimits a.0.network) }
+    ensures recorded { IfOk result (λ a. AreRecorded a.0.network.sources (map (λ xs. xs.items) a.0.sources.items)) }
+    ensures accepted { IfOk result (λ a. (words : List (List ℕ)) → command_in words ≡ Some (Command.Audit net text.now)
+        → Leads (F.files folder.old) (F.read folder.old) (F.read folder.new) (script_of words) (Done (with_text (replay_of a.0) a.1.items))) }
+    ensures stopped { IfErr result (λ s. (words : List (List ℕ)) → command_in words ≡ Some (Command.Audit net text.now)
+        → IsStopped words (F.files folder.old) (F.faults folder.old) (F.faults folder.new) (F.taken folder.old) (F.taken folder.new) (F.read folder.old) (F.read folder.new) s.status (source_of s.source)) }
+    ensures files { F.files folder.new ≡ F.files folder.old }
+    ensures later { (F.faults folder.old ≤ F.faults folder.new) × (F.taken folder.old ≤ F.taken folder.new) }
+{
+    let accepted = match prepare(alloc, plain_args(net), folder) {
+        Ok(accepted) => accepted,
+        Err(stopped) => return Err(stopped),
+    };
+    match read_file(alloc, folder, text, TEXT_LIMIT) {
+        Ok(bytes) => Ok((accepted, bytes)),
+        Err(status) => Err(stopped_by(status)),
+    }
+}
+
+/// The line of the verdict on a text.
+fn verdict_line(alloc: Global, accepted: &Accepted, text: &[u8]) -> Result<Vec<u8>, AllocError>
+    requires sound { IsSound accepted.now.network }
+    requires limits { KeepsDropLimits accepted.now.network }
+    requires recorded { AreRecorded accepted.now.network.sources (map (λ xs. xs.items) accepted.now.sources.items) }
+    ensures { IfOk result (λ line. line.items ≡ verdict_of (with_text (replay_of accepted.now) text.now)) }
+{
+    let verdict = audit_text(alloc, &accepted.network, accepted.sources.as_slice(), text)?;
+    let mut line = Vec::new(alloc);
+    append_verdict_line(verdict, &mut line)?;
+    Ok(line)
+}
+
+/// Writes the line of the verdict on a text: all of it at once, when it is whole.
+fn write_verdict<S: Sink>(
+    alloc: Global,
+    accepted: &Accepted,
+    text: &[u8],
+    out: &mut S,
+) -> Result<(), Status>
+    requires sound { IsSound accepted.now.network }
+    requires limits { KeepsDropLimits accepted.now.network }
+    requires recorded { AreRecorded accepted.now.network.sources (map (λ xs. xs.items) accepted.now.sources.items) }
+    ensures ok { OnOk result (S.written out.new ≡ appended (S.written out.old) (verdict_of (with_text (replay_of accepted.now) text.now))) }
+    ensures err { OnErr result (AppendsPrefix (S.written out.old) (S.written out.new) (verdict_of (with_text (replay_of accepted.now) text.now))) }
+    ensures alone { IfErr result (λ s. s ≢ Status.SinkFault → S.written out.new ≡ S.written out.old) }
+    ensures lost { IfErr result (λ s. IsLost (S.faults out.old) (S.faults out.new) s) }
+    ensures later { S.faults out.old ≤ S.faults out.new }
+{
+    let line = match verdict_line(alloc, accepted, text) {
+        Ok(line) => line,
+        Err(_) => return Err(Status::Memory),
+    };
+    match write_all(out, line.as_slice()) {
+        Ok(()) => Ok(()),
+        Err(Failed) => Err(Status::SinkFault),
+    }
+}
+
+/// Does what an audit asks for, and says how it ended.
+pub(crate) fn audit_files<F: Folder, S: Sink>(
+    alloc: Global,
+    net: Name,
+    text: &Name,
+    folder: &mut F,
+    out: &mut S,
+) -> Stopped
+    requires { may_name net ≡ true }
+    ensures ends { (words : List (List ℕ)) (pages : Option Pages) (disk steps : ℕ) → command_in words ≡ Some (Command.Audit net text.now) → Ends words (record {
+      told = F.files folder.old;
+      folder_before = F.faults folder.old;
+      folder_now = F.faults folder.new;
+      taken_before = F.taken folder.old;
+      taken_now = F.taken folder.new;
+      read_before = F.read folder.old;
+      read_now = F.read folder.new;
+      pages = pages;
+      disk_before = disk;
+      disk_now = disk;
+      out_before = S.written out.old;
+      out_now = S.written out.new;
+      sink_before = S.faults out.old;
+      sink_now = S.faults out.new;
+      steps_before = steps;
+      steps_now = steps;
+    })
+        result.status (source_of result.source) }
+    ensures plain { (words : List (List ℕ)) → command_in words ≡ Some (Command.Audit net text.now) → is_plain_end result.status ≡ true }
+    ensures files { F.files folder.new ≡ F.files folder.old }
+    ensures later { (F.faults folder.old ≤ F.faults folder.new) × (F.taken folder.old ≤ F.taken folder.new) × (S.faults out.old ≤ S.faults out.new) }
+{
+    let (accepted, bytes) = match prepare_audit(alloc, net, text, folder) {
+        Ok(prepared) => prepared,
+        Err(stopped) => return stopped,
+    };
+    match write_verdict(alloc, &accepted, bytes.as_slice(), out) {
+        Ok(()) => stopped_by(Status::Ok),
+        Err(status) => stopped_by(status),
+    }
+}
