@@ -34,7 +34,7 @@ fn audit_of(alloc: Global, text: &str, shown: &[u8]) -> Result<Option<Case>, All
 
 /// Whether an audit ended well with the verdict yes.
 fn is_yes(ran: &Ran) -> bool {
-    ran.code == 0 && ran.out.bytes() == b"yes\n"
+    ran.code == 0 && ran.out.bytes() == b"yes\n".as_slice()
 }
 
 /// Shows the verdict on what the run of a case wrote, where it isn't yes.

@@ -3,8 +3,8 @@
 //! It promises nothing of its own. For each case of a text `show_cases` runs `run_words` of
 //! `sq_top` over objects in memory, and prints the number of the status, what was written and what was told. Where a run ended
 //! well, its lines are also compared with what the slow definitions of `sq_model` give for the same files: each output with
-//! its answer, each drop with its record. A class that differs is shown, and runs that were compared are counted. What any such
-//! run of files wrote is audited beside its files, and a verdict that isn't yes is shown. Below stand the top call, the readers and
+//! its answer, each drop with its record. A class that differs is shown, and runs that were compared are counted. What such a
+//! run wrote, or one of files that are made, is audited beside its files, and a verdict that isn't yes is shown. Below stand the top call, the readers and
 //! the slow definitions.
 //!
 //! A case begins with a line `= TITLE`. Settings follow, if any; then files, each `- NAME` and its lines; then rows, each

@@ -126,7 +126,7 @@ fn show_puts(rt: &HostRuntime, ran: &Ran) -> io::Result<()> {
 }
 
 /// Shows a run, and where it differs from the slow definitions. Counts it where it is compared: where it ends well. What such a
-/// run wrote is audited, too.
+/// run wrote is audited, too, and that of a run of files that are made.
 fn show_run(rt: &HostRuntime, text: &str, compared: &mut u64) -> Result<(), Error> {
     let case = Case::read(rt.alloc(), text)?;
     if case.cuts {
@@ -136,12 +136,13 @@ fn show_run(rt: &HostRuntime, text: &str, compared: &mut u64) -> Result<(), Erro
         return show_turns(rt, text);
     }
     let is_compared = case.is_compared();
+    let is_audited = is_compared || case.made.is_some();
     let ran = run_case(rt.alloc(), case);
     println!(rt; "{}", ran.code)?;
     show_out(rt, &ran)?;
     show_text(rt, ran.err.bytes())?;
     show_puts(rt, &ran)?;
-    if ran.code == 0 {
+    if ran.code == 0 && is_audited {
         show_verdict(rt, text, &ran)?;
     }
     if ran.code == 0 && is_compared {
