@@ -220,8 +220,8 @@ pub fn run_words<F: Folder, D: PageDisk, S: Sink, E: Sink, L: Ledger>(
     ensures sink { result ≡ Status.SinkFault → Rose (S.faults out.old) (S.faults out.new) }
 
     // The files stay, and so does whether the disk tells its pages; a refusal doesn't call the disk, nor do words call the folder that
-    // don't ask for a network's files. Words that ask for no engine don't call the disk and take no step, and none of its statuses
-    // comes. No count falls.
+    // don't ask for a network's files. Words that ask for no engine don't call the disk and take no step, and no status of an engine,
+    // of capacities or of picks comes. No count falls.
     ensures same_files { F.files folder.new ≡ F.files folder.old }
     ensures unread { reads_folder (command_in (map string_bytes words.now.items)) ≡ false → (F.faults folder.new ≡ F.faults folder.old)
         × (F.taken folder.new ≡ F.taken folder.old) × (F.read folder.new ≡ F.read folder.old) }
