@@ -13,9 +13,13 @@ DESTDIR ?=
 
 proved_program = crates/aurora/out/aurora
 quick_program = out/aurora
+proved_keys = crates/aurora_keys/out/aurora_keys
+quick_keys = out/aurora_keys
 # The proved program, as long as no source has changed since.
 changed := $(shell find crates -name out -prune -o -name '*.rt' -newer $(proved_program) -print 2>&1 | head -n 1)
 PROGRAM ?= $(if $(changed),$(quick_program),$(proved_program))
+# The program that tells which outputs parts make, where it is there.
+KEYS ?= $(if $(changed),$(quick_keys),$(proved_keys))
 
 version := $(shell git describe --tags --always --dirty 2>/dev/null | sed -n 's/^v\{0,1\}\([0-9].*\..*\)/\1/p')
 ifeq ($(version),)
@@ -24,7 +28,7 @@ endif
 architecture := $(shell dpkg --print-architecture 2>/dev/null || echo amd64)
 
 # The tools that a user runs, those of them that are there, and what they share.
-tools = $(wildcard $(addprefix tools/,draw explain output plan report stream))
+tools = $(wildcard $(addprefix tools/,draw explain output plan report shard stream))
 modules = $(wildcard tools/aurora_tools/*.py)
 pages = $(wildcard docs/*)
 
@@ -37,12 +41,16 @@ documents = $(root)/share/doc/aurora
 
 .PHONY: all proved install uninstall deb clean
 
-all: $(quick_program)
+all: $(quick_program) $(quick_keys)
 
 # The crates' files say whether it is to be built again.
 $(quick_program): $(shell find crates -name out -prune -o -name '*.rt' -print) crates.txt tools/build
 	mkdir -p out
 	tools/build $@
+
+$(quick_keys): $(shell find crates -name out -prune -o -name '*.rt' -print) crates.txt tools/build
+	mkdir -p out
+	tools/build $@ aurora_keys
 
 proved:
 	.ci/run
@@ -51,6 +59,7 @@ proved:
 install: $(PROGRAM)
 	install -d "$(binaries)" "$(library)/aurora_tools" "$(manual)" "$(completions)" "$(documents)/docs"
 	install -m 755 $(PROGRAM) "$(binaries)/aurora"
+	if [ -f "$(KEYS)" ]; then install -m 755 "$(KEYS)" "$(binaries)/aurora_keys"; fi
 	gzip -9n <docs/aurora.1 >"$(manual)/aurora.1.gz"
 	install -m 644 tools/completion.bash "$(completions)/aurora"
 	install -m 644 README.md "$(documents)"
@@ -63,7 +72,7 @@ install: $(PROGRAM)
 
 uninstall:
 	for tool in $(notdir $(tools)); do rm -f "$(binaries)/aurora-$$tool"; done
-	rm -f "$(binaries)/aurora" "$(manual)/aurora.1.gz" "$(completions)/aurora"
+	rm -f "$(binaries)/aurora" "$(binaries)/aurora_keys" "$(manual)/aurora.1.gz" "$(completions)/aurora"
 	rm -rf "$(library)" "$(documents)"
 
 deb: $(PROGRAM)

@@ -20,7 +20,7 @@ _aurora()
     local before=${COMP_WORDS[at]}
     COMPREPLY=()
     if [ "$COMP_CWORD" = 1 ]; then
-        mapfile -t COMPREPLY < <(compgen -W "run gen audit" -- "$word")
+        mapfile -t COMPREPLY < <(compgen -W "run gen audit tap" -- "$word")
         return
     fi
     if [ "${COMP_WORDS[1]}" = audit ]; then
@@ -28,6 +28,13 @@ _aurora()
         case $COMP_CWORD in
             2) mapfile -t COMPREPLY < <(compgen -f -X '!*.toml' -- "$word"; compgen -d -S / -- "$word") ;;
             3) mapfile -t COMPREPLY < <(compgen -f -- "$word") ;;
+        esac
+        return
+    fi
+    if [ "${COMP_WORDS[1]}" = tap ]; then
+        # The network, a stream, a tick and a history, and then the query.
+        case $COMP_CWORD in
+            2 | 6) mapfile -t COMPREPLY < <(compgen -f -X '!*.toml' -- "$word"; compgen -d -S / -- "$word") ;;
         esac
         return
     fi

@@ -16,7 +16,7 @@ offers() {
     fi
 }
 
-offers "run gen audit" aurora ""
+offers "run gen audit tap" aurora ""
 offers "run" aurora r
 offers "front.toml" aurora run ""
 offers "--capacities --policy --seed --picks --train --frames" aurora run front.toml --
@@ -30,4 +30,7 @@ offers "" aurora gen ""
 offers "front.toml" aurora audit ""
 offers "capacity.csv" aurora audit front.toml cap
 offers "" aurora audit front.toml text ""
+offers "front.toml" aurora tap ""
+offers "" aurora tap front.toml ""
+offers "front.toml" aurora tap front.toml tens 60 0 fr
 exit $failed

@@ -1,32 +1,20 @@
 //! The program `aurora`: what the words after its name ask for, a run of the working folder's files or of what a number
 //! makes, over the standard streams.
 //!
-//! It promises nothing beyond `run_words` of `sq_top`, which it calls once over the real objects of `sq_system`. What
-//! that says of refusals and messages is about the very bytes that were read and all that the outputs took. Its clauses
-//! on answers ask for a disk that tells its pages, as the one in memory does and a file can't: that the program's
-//! answers are right is shown by stored runs. Its exit code is that of the status.
+//! It promises nothing beyond `run_words` of `sq_top`, which it calls once over the real objects of `sq_system`: what
+//! that says of answers, refusals and messages is about the very bytes that were read, all that the outputs took, and
+//! a spill file that may change what it keeps, as long as a changed page has another SHA-256. Its exit code is that of
+//! the status.
 #![tactic(auto)]
 
 ghost use Rattle.std.specs.Prelude.{◌≡◌, ◌<◌};
 
 use sq_outside::{Steps, write_all};
-use sq_system::{OpenFolder, Out, SpillFile};
+use sq_system::{OpenFolder, Out, SpillFile, words_after_name};
 use sq_top::{Status, run_words};
-use std::alloc::{AllocError, Global};
-use std::env;
-use std::io::ErrorKind;
 use std::marker::Brand;
 use std::process::ExitCode;
 use std::sync::ledger::{Blank, Ledger};
-
-/// The words after the program's name. A word that isn't UTF-8 makes them no command, which no words are either.
-fn words_after_name<R: env::Env + AllocGlobal>(rt: &R) -> Result<Vec<String>, AllocError> {
-    match env::args(rt) {
-        Ok(args) => args.skip(1).collect(rt.alloc()),
-        Err(e) if e.kind() == ErrorKind::OutOfMemory => Err(AllocError),
-        Err(_) => Ok(Vec::new(rt.alloc())),
-    }
-}
 
 /// Does what the words ask for, and says how it ended.
 fn run<L: Ledger>(rt: &HostRuntime, blank: Blank) -> Status

@@ -1,6 +1,6 @@
 //! Aggregate.
 
-ghost use Rattle.std.specs.Prelude.{◌≡◌, ℕ, ◌+◌, ◌-◌, ◌^◌, ◌<◌, ◌≤◌, ◌==◌, ◌&&◌, true, false, List, [], length, IsTrue};
+ghost use Rattle.std.specs.Prelude.{◌≡◌, ℕ, ◌+◌, ◌-◌, ◌^◌, ◌<◌, ◌≤◌, ◌==◌, ◌&&◌, true, false, List, [], length, if◌then◌else◌, IsTrue};
 ghost use Rattle.sq_value.specs.declared.Value.{Value};
 ghost use Rattle.std.specs.Int.{IsGcd};
 ghost use Rattle.sq_item.specs.Things.{Thing};
@@ -16,10 +16,10 @@ ghost use Rattle.sq_pane.specs.States.{states_of};
 ghost use Rattle.sq_agg.specs.Positions.{open_at};
 ghost use Rattle.sq_agg.specs.Held.{IsFirstEnd, KeepsNear, HoldsPanes, MarksWait, OnlyOpen, aggregate_rest, bounds_of, folding_of, makes_result, takes_marks_at};
 
+use crate::ending::{give_ended, give_open};
 use crate::grow::add_body;
-use crate::held::give_before;
 use crate::waiting::Waiting;
-use crate::windows::{forget_ended, next_end, windows_before, windows_ending};
+use crate::windows::{forget_ended, next_end};
 use sq_aggfn::{Fold, WindowSpec};
 use sq_item::Item;
 use sq_oper::{Decision, Operator, Outs, Place, Tally};
@@ -92,6 +92,15 @@ fn first_open(size: u64, time: u64) -> u64
     (time + 1).saturating_sub(size)
 }
 
+/// Counts a step, where a tuple was fed.
+fn count_step<L: Ledger>(fed: bool, steps: &mut Steps<L>)
+    ensures { steps.new ≡ steps.old + (if fed then 1 else 0) }
+{
+    if fed {
+        steps.tick();
+    }
+}
+
 impl<F: Fold + Drop> Operator for AggregateBox<F> {
     ghost valid = { λ s. IsWindow s.panes.window × (time_of s.tally.place < 2 ^ 40) × (IsGcd s.panes.window.size s.panes.window.advance s.panes.width × (1 ≤ s.panes.width))
         × HoldsPanes (F.made s.panes.fold) (F.number s.panes.fold) s.panes.window s.panes.width (F.width s.panes.fold) s.tally.taken s.tally.place (states_of s.panes.held.entries)
@@ -131,8 +140,15 @@ impl<F: Fold + Drop> Operator for AggregateBox<F> {
         let time = item.time;
         let fed = item.body.is_some();
         let open = first_open(self.panes.window.size, time);
-        let mut due = windows_ending(&self.panes, &self.waiting, self.time, self.ends, time, open)?;
-        give_before(&self.panes.fold, &mut due, &mut self.waiting, open, out)?;
+        give_ended(
+            &self.panes,
+            &mut self.waiting,
+            self.time,
+            self.ends,
+            time,
+            open,
+            out,
+        )?;
         forget_ended(&mut self.panes, self.ends <= time, open);
         self.ends = next_end(self.panes.window, self.ends, time);
         self.time = time;
@@ -140,16 +156,19 @@ impl<F: Fold + Drop> Operator for AggregateBox<F> {
             .push(self.panes.window.size - 1, time, &item.mark)?;
         let alloc = *self.group.allocator();
         add_body(alloc, &self.group, &mut self.panes, time, item.body)?;
-        if fed {
-            steps.tick();
-        }
+        count_step(fed, steps);
         Ok(())
     }
 
     fn finish(&mut self, out: &mut Outs) -> Result<(), AllocError> {
         let _count = self.panes.held.len();
-        let mut due = windows_before(&self.panes, &self.waiting, self.time, u64::MAX)?;
-        give_before(&self.panes.fold, &mut due, &mut self.waiting, u64::MAX, out)?;
+        give_open(
+            &self.panes,
+            &mut self.waiting,
+            self.time,
+            self.time + 1,
+            out,
+        )?;
         self.panes.held.clear();
         self.tally.running = false;
         Ok(())

@@ -17,7 +17,7 @@ use Rattle.sq_net.specs.declared.Network.{Network}
 use Rattle.sq_net.specs.declared.Part.TheVariants as part
 use Rattle.sq_net.specs.declared.Place.{Place}
 use Rattle.sq_net.specs.declared.Source.{Source}
-use Rattle.sq_net.specs.Sound.{network_within, source_within}
+use Rattle.sq_net.specs.Sound.{IsSound, source_within}
 use Rattle.sq_points.specs.Limits.{KeepsDropLimits}
 use Rattle.sq_points.specs.Points.{points_of}
 use Rattle.sq_tables.specs.Places.{place_of}
@@ -36,9 +36,13 @@ use Rattle.sq_top.specs.declared.Command.{Command}
 use Rattle.sq_top.specs.declared.Command.TheVariants as command
 use Rattle.sq_top.specs.declared.RunArgs.{RunArgs}
 use Rattle.sq_top.specs.declared.Status.{Status}
+use Rattle.sq_tap.specs.declared.TapErr.{TapErr}
+use Rattle.sq_tap.specs.Names.{stream_named}
 use Rattle.sq_top.specs.Commands.{command_in}
-use Rattle.sq_top.specs.Scripts.{Lookup, Replay, Script, Reads, Done, Stops, after_capacities, after_network, after_picks, after_stream, after_streams, after_words, capacities_script, followed_by, go_on, made_limits, made_sources, made_streams, made_unread, outcome_of, picks_script, plain_args, readable, run_script, settings_limit, stream_limit, text_limit, text_script, unread, with_sources, with_text}
-use Rattle.sq_top.proofs.SourceLemmas.{text_is_recorded}
+use Rattle.sq_top.specs.Taps.{Tapped, first_tick, tapped}
+use Rattle.sq_top.specs.Scripts.{Lookup, Replay, Script, Reads, Done, Stops, after_capacities, after_network, after_picks, after_query, after_stream, after_streams, after_tap, after_tapped, after_words, capacities_script, followed_by, go_on, made_limits, made_sources, made_streams, made_unread, outcome_of, picks_script, plain_args, readable, run_script, settings_limit, stream_limit, tap_script, tap_unread, text_limit, text_script, unread, with_sources, with_text}
+use Rattle.sq_top.proofs.JoinLemmas.{tapped_limits, tapped_sound}
+use Rattle.sq_top.proofs.SourceLemmas.{sources_within, streams_more, text_is_recorded}
 use Rattle.sq_audited.specs.Laws.{AcceptsRuns}
 use Rattle.sq_audited.proofs.Wholes.{accepts_replays}
 
@@ -87,10 +91,6 @@ record IsAuditable (n : Network) (r : Replay) : Type 0 where
   network : n ≡ r.network
   streams : AllByRecursion IsStream r.sources
 
-all_then : (xss : List (List Tuple)) (xs : List Tuple) → AllByRecursion IsStream xss → IsStream xs → AllByRecursion IsStream (xss ++ xs ∷ [])
-all_then [] xs h one = (one, tt)
-all_then (ys ∷ xss) xs h one = (h.0, all_then xss xs h.1 one)
-
 module _ (files : Lookup) (r : Replay) (Q : Type 0) where
   file_ok : (read : Result (List ℕ) Status) (more : List ℕ → Script) → ((bytes : List ℕ) → outcome_of files (more bytes) ≡ Ok r → Q)
       → go_on (λ s. Err s) (λ bytes. outcome_of files (more bytes)) read ≡ Ok r → Q
@@ -116,7 +116,7 @@ streams_ok files p (s ∷ left) r within h e =
     let both = and_parts (source_within s) (list_all source_within left) within in
     file_ok files r (IsAuditable p.network r) (readable s.file stream_limit (files s.file)) (λ bytes. after_stream (length p.sources) more (stream_in s.schema bytes))
     (λ bytes. stream_ok files r (IsAuditable p.network r) s bytes (length p.sources) more (stream_in s.schema bytes) refl
-    (λ xs said. streams_ok files (with_sources p (p.sources ++ xs ∷ [])) left r both.1 (all_then p.sources xs h (text_is_recorded s bytes xs both.0 said).stream))) e
+    (λ xs said. streams_ok files (with_sources p (p.sources ++ xs ∷ [])) left r both.1 (streams_more p.sources xs h (text_is_recorded s bytes xs both.0 said).stream))) e
 
 made_ok : (files : Lookup) (stream : List ℕ) (p : Replay) (left : List Source) (r : Replay) → list_all source_within left ≡ true → AllByRecursion IsStream p.sources
     → outcome_of files (made_streams stream p left) ≡ Ok r → IsAuditable p.network r
@@ -125,7 +125,7 @@ made_ok files stream p (s ∷ left) r within h e =
     let more = λ (xs : List Tuple). made_streams stream (with_sources p (p.sources ++ xs ∷ [])) left in
     let both = and_parts (source_within s) (list_all source_within left) within in
     stream_ok files r (IsAuditable p.network r) s stream (length p.sources) more (stream_in s.schema stream) refl
-    (λ xs said. made_ok files stream (with_sources p (p.sources ++ xs ∷ [])) left r both.1 (all_then p.sources xs h (text_is_recorded s stream xs both.0 said).stream)) e
+    (λ xs said. made_ok files stream (with_sources p (p.sources ++ xs ∷ [])) left r both.1 (streams_more p.sources xs h (text_is_recorded s stream xs both.0 said).stream)) e
 
 module _ (files : Lookup) (n : Network) (within : list_all source_within n.sources ≡ true) (r : Replay) where
   module _ (args : RunArgs) where
@@ -151,20 +151,21 @@ module _ (files : Lookup) (n : Network) (within : list_all source_within n.sourc
   made_sources_ok number stream (Ok entries) e = made_ok files stream (made_unread number n entries) n.sources r within tt e
   made_sources_ok number stream (Err line) e = absurd (cc)
 
--- what is accepted is of a network file, and can be audited
+-- what is accepted can be audited
 record IsAccepted (r : Replay) : Type 0 where
-  bytes : List ℕ
-  said : network_in bytes ≡ Ok r.network
+  sound : IsSound r.network
+  limits : KeepsDropLimits r.network
   streams : AllByRecursion IsStream r.sources
-
-sources_within : (n : Network) → network_within n ≡ true → list_all source_within n.sources ≡ true
-sources_within n h = (and_parts _ _ (and_parts _ _ (and_parts _ _ (and_parts _ _ h).0).0).0).1
 
 file_within : (bytes : List ℕ) (n : Network) → network_in bytes ≡ Ok n → list_all source_within n.sources ≡ true
 file_within bytes n said = sources_within n (network_sound bytes n said).within
 
 accepted_of : (bytes : List ℕ) (n : Network) (r : Replay) → network_in bytes ≡ Ok n → IsAuditable n r → IsAccepted r
-accepted_of bytes n r said a = record { bytes = bytes; said = said ∙ ap (λ (x : Network). Ok x) a.network; streams = a.streams }
+accepted_of bytes n r said a = record {
+  sound = subst IsSound a.network (network_sound bytes n said);
+  limits = subst KeepsDropLimits a.network (network_limits bytes n said);
+  streams = a.streams;
+}
 
 network_ok : (files : Lookup) (args : RunArgs) (bytes : List ℕ) (o : Result Network NetErr) (r : Replay) → network_in bytes ≡ o → outcome_of files (after_network args o) ≡ Ok r → IsAccepted r
 network_ok files args bytes (Ok n) r said e = accepted_of bytes n r said (named_ok files n (file_within bytes n said) r args args.capacities e)
@@ -197,11 +198,37 @@ module _ (files : Lookup) (next : Replay → Script) (r : Replay) where
 
 -- with a text it is what it was
 with_text_ok : (p r : Replay) (bytes : List ℕ) → IsAccepted p → with_text p bytes ≡ r → IsAccepted r
-with_text_ok p r bytes a same = subst IsAccepted same (record { bytes = a.bytes; said = a.said; streams = a.streams })
+with_text_ok p r bytes a same = subst IsAccepted same (record { sound = a.sound; limits = a.limits; streams = a.streams })
 
 text_ok : (files : Lookup) (text : List ℕ) (p r : Replay) → IsAccepted p → outcome_of files (text_script text p) ≡ Ok r → IsAccepted r
 text_ok files text p r a e =
     file_ok files r (IsAccepted r) (readable text text_limit (files text)) (λ bytes. Done (with_text p bytes)) (λ bytes same. with_text_ok p r bytes a (own (with_text p bytes) r same)) e
+
+-- what is joined
+module _ (files : Lookup) (stream : List ℕ) (from : ℕ) (r : Replay) where
+  joined_ok : (o : Result Tapped TapErr) → ((t : Tapped) → o ≡ Ok t → IsSound t.network × KeepsDropLimits t.network) → outcome_of files (after_tap o) ≡ Ok r → IsAccepted r
+  joined_ok (Ok t) keeps e =
+      let kept = keeps t refl in
+      let a = streams_ok files (tap_unread t) t.network.sources r (sources_within t.network kept.0.within) tt e in
+      record { sound = subst IsSound a.network kept.0; limits = subst KeepsDropLimits a.network kept.1; streams = a.streams }
+  joined_ok (Err s) keeps e = absurd (cc)
+
+  query_ok : (n : Network) → IsSound n → (bytes : List ℕ) (o : Result Network NetErr) → network_in bytes ≡ o → outcome_of files (after_query n stream from o) ≡ Ok r → IsAccepted r
+  query_ok n sound bytes (Ok q) said e =
+      joined_ok (tapped n (stream_named n stream) from q)
+      (λ t is. (tapped_sound n stream from q t sound (network_sound bytes q said) is, tapped_limits n stream from q t is)) e
+  query_ok n sound bytes (Err s) said e = absurd (cc)
+
+  tapped_ok : (query bytes : List ℕ) (o : Result Network NetErr) → network_in bytes ≡ o → outcome_of files (after_tapped stream from query o) ≡ Ok r → IsAccepted r
+  tapped_ok query bytes (Ok n) said e =
+      file_ok files r (IsAccepted r) (readable query settings_limit (files query)) (λ more. after_query n stream from (network_in more))
+      (λ more. query_ok n (network_sound bytes n said) more (network_in more) refl) e
+  tapped_ok query bytes (Err s) said e = absurd (cc)
+
+  tap_ok : (net query : List ℕ) → outcome_of files (tap_script net stream from query) ≡ Ok r → IsAccepted r
+  tap_ok net query e =
+      file_ok files r (IsAccepted r) (readable net settings_limit (files net)) (λ bytes. after_tapped stream from query (network_in bytes))
+      (λ bytes. tapped_ok query bytes (network_in bytes) refl) e
 
 command_ok : (files : Lookup) (o : Option Command) (r : Replay) → outcome_of files (after_words o) ≡ Ok r → IsAccepted r
 command_ok files None r e = absurd (cc)
@@ -209,8 +236,9 @@ command_ok files (Some (command.Run args)) r e = run_ok files args r e
 command_ok files (Some (command.Gen number rows)) r e = made_limits_ok files number (made_of number rows) (network_in (made_of number rows).net) r refl e
 command_ok files (Some (command.Audit net text)) r e =
     followed_ok files (text_script text) r (run_script (plain_args net)) e (λ p ran read. text_ok files text p r (run_ok files (plain_args net) p ran) read)
+command_ok files (Some (command.Tap net stream tick history query)) r e = tap_ok files stream (first_tick tick history) r net query e
 
 pub accepts_runs : AcceptsRuns
 accepts_runs files words r text e h =
     let a = command_ok files (command_in words) r e in
-    accepts_replays r text (network_sound a.bytes r.network a.said) (network_limits a.bytes r.network a.said) (All-from_recursion IsStream r.sources a.streams) h
+    accepts_replays r text a.sound a.limits (All-from_recursion IsStream r.sources a.streams) h

@@ -21,7 +21,7 @@ use Rattle.sq_points.specs.Points.{drops_in, points_of}
 use Rattle.sq_oper.specs.declared.outs.Decision.{Decision}
 use Rattle.sq_start.specs.Nets.{decision_on, drop_decisions}
 use Rattle.sq_model.specs.Shedding as model
-use Rattle.sq_replay.specs.Shown.{end_lines, fed_line, is_sorter, late_lines}
+use Rattle.sq_replay.specs.Shown.{boxes_from, end_lines, fed_line, is_sorter, late_lines}
 use Rattle.sq_verdict.specs.Faults.{has_first}
 use Rattle.sq_verdict.specs.Whole as whole
 use Rattle.sq_verdict.specs.Whole.{AreEnds, IsWhole}
@@ -140,12 +140,12 @@ ends_are n fed late = record {
 
 -- ---- a whole text
 
-module _ (r : model.Replay) (sound : IsSound r.network) (text : List ℕ) (h : IsWholeText (due_in r) text) where
+module _ (r : model.Replay) (first : ℕ) (sound : IsSound r.network) (text : List ℕ) (h : IsWholeText (due_in r first) text) where
   abbrev d : Due
-  d = due_in r
+  d = due_in r first
 
   abbrev asked : whole.Due
-  asked = due_for r (ended_in r)
+  asked = due_for r (ended_in r first)
 
   same : d.shown ≡ asked.shown
   same = shown_same r 0 r.network.outputs
@@ -186,4 +186,4 @@ module _ (r : model.Replay) (sound : IsSound r.network) (text : List ℕ) (h : I
 pub accepts_replays : AcceptsReplays
 accepts_replays r text sound limits streams h =
     let m = replayed r in
-    accepts_whole m (ended_in m) text sound limits streams (ends_are m.network _ _) (is_whole m sound text h)
+    accepts_whole m (ended_in m r.first) text sound limits streams (ends_are (boxes_from r.first m.network) _ _) (is_whole m r.first sound text h)

@@ -3,7 +3,7 @@ use Rattle.std.proofs.Common.{◌≡◌, ℕ, ◌+◌, ◌<◌, Bool, true, fals
 use Rattle.sq_outside.specs.Disks.{Pages}
 use Rattle.sq_oper.specs.declared.outs.Event.{Event}
 use Rattle.sq_model.specs.Shedding.{Replay, level_of}
-use Rattle.sq_paged.specs.Fronts.{Tells}
+use Rattle.sq_pool.specs.Trust.{Tells}
 use Rattle.sq_flow.specs.Events.{lines_of, drops_of}
 use Rattle.sq_flow.specs.Plans.{plans_of, plans_left}
 use Rattle.sq_flow.specs.Wiring.{net_of}

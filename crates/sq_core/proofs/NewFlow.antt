@@ -157,9 +157,9 @@ module _ (n : Network) (sound : IsSound n) (places : (d : ℕ) (p : DropPoint) �
         subst (λ x. lost_at actors (slice_get seats b) (fed_to r x) ≡ lost_by r x) (box-at n b low) at
 
     pub is-new : (seats-vec : Vec (Seat operator.Actor) Global) → seats-vec.items ≡ seats → (queues : Vec (VecDeque Tuple Global) Global) → map (λ q. q.items) queues.items ≡ r.sources
-        → (planner : Setting) (levels : LevelTable) (flow : Flow operator.Actor) → IsNewFlow w seats-vec queues planner levels flow → w.replay ≡ ops_of n → (pages : Option Pages)
+        → (planner : Setting) (levels : LevelTable) (most : ℕ) (flow : Flow operator.Actor) → IsNewFlow w seats-vec queues planner levels most flow → w.replay ≡ ops_of n → (pages : Option Pages)
         → IsNew r (net_of flow.wires) (world_of actors (level_of r) (items_in flow pages) flow)
-    is-new seats-vec same queues streams planner levels flow new replay pages =
+    is-new seats-vec same queues streams planner levels most flow new replay pages =
         let here : flow.seats.items ≡ seats = ap (λ v. v.items) new.seats_are ∙ same in
         let wires = new.wires_are in
         let to : (k : ℕ) → k < ops_of r.network → k < ops_of n = λ k low. subst (λ z. k < ops_of z) network low in

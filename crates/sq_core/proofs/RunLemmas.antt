@@ -1,5 +1,5 @@
 -- A step of the engine of a network, by what it is over any operators.
-use Rattle.std.proofs.Common.{◌≡◌, ℕ, ◌+◌, ◌-◌, ◌<◌, List, [], ◌∷◌, ◌++◌, length, Option, Some, slice_get, refl, ap, sym, ◌∙◌, subst, arith, append_assoc}
+use Rattle.std.proofs.Common.{◌≡◌, ℕ, ◌+◌, ◌-◌, ◌<◌, Bool, List, [], ◌∷◌, ◌++◌, length, Option, Some, slice_get, refl, ap, sym, ◌∙◌, subst, arith, append_assoc}
 use Rattle.std.specs.Prelude.{OnOk, OnErr, IfErr}
 use Rattle.std.specs.declared.result.Result.{Result}
 use Rattle.std.specs.declared.result.Result.TheVariants.{Ok, Err}
@@ -18,7 +18,7 @@ use Rattle.std.proofs.lemmas.Option.{slice_get_within}
 use Rattle.sq_net.specs.declared.Network.{Network}
 use Rattle.sq_net.specs.Sound.{IsSound}
 use Rattle.sq_model.specs.Shedding.{Replay, counts_in, level_of}
-use Rattle.sq_paged.specs.Fronts.{Tells}
+use Rattle.sq_pool.specs.Trust.{Tells}
 use Rattle.sq_actor.specs.declared.actor.Actor.{Actor}
 use Rattle.sq_flow.specs.declared.flow.Flow.{Flow}
 use Rattle.sq_flow.specs.declared.errors.RunErr.{RunErr}
@@ -126,7 +126,7 @@ module _ (was is : Option Pages) (e e' : Engine) (events events' : List Event) (
           shown = sym (plans-in-front history events events' (plans_left e.engine.flow) (plans_left e'.engine.flow) stepped.plans) ∙ plans.shown;
         }
 
-    answers-after : (r : Replay) (history : List Event) → e.network ≡ r.network → IsSoundEngine e → Tells was → Agrees e'.engine.flow.levels (level_of r)
+    answers-after : (r : Replay) (history : List Event) → e.network ≡ r.network → IsSoundEngine e → Tells is → Agrees e'.engine.flow.levels (level_of r)
         → Answers r (items_in e.engine.flow was) e.engine.flow (history ++ events) → Answers r (items_in e'.engine.flow is) e'.engine.flow (history ++ events')
     answers-after r history given sound told agrees a =
         let goes = stepped.goes told (level_of r) agrees a.holds in
@@ -162,7 +162,7 @@ module _ (was is : Option Pages) (e e' : Engine) (events events' : List Event) (
           together = stepped.together;
           counted = (let counted = run.counted in omega (arith, counted, cost));
           plans = plans;
-          answers = λ told. answers-after r history run.network run.sound (sym stepped.tells ∙ told) (agrees-of r e'.engine.flow (history ++ events') plans) (run.answers (sym stepped.tells ∙ told));
+          answers = λ told. answers-after r history run.network run.sound told (agrees-of r e'.engine.flow (history ++ events') plans) (run.answers (stepped.tells told));
         }
 
     -- what a step shows is shown at outputs of the network, or decided by its drops, or planned
@@ -179,11 +179,11 @@ module _ (was is : Option Pages) (e e' : Engine) (events events' : List Event) (
 
   -- ---- a step that failed
 
-  pub stopped-after : (before after : ℕ) (err : RunErr) → ShowsPrefix actors was e.engine.flow e'.engine.flow.levels events events' → PlansPrefix e.engine.flow e'.engine.flow.levels events events'
-      → CostsAtMost actors was e.engine.flow e'.engine.flow.levels before after → NoneStrange actors was e.engine.flow e'.engine.flow.levels err → TooMuchOnly actors was e.engine.flow e'.engine.flow err
-      → Tells was → (r : Replay) (history : List Event) (begun : ℕ) → IsRun r was e (history ++ events) begun before → Stopped r (history ++ events') begun after err
-  stopped-after before after err prefix planned cost strange much told r history begun run =
-      let a = run.answers told in
+  pub stopped-after : (honest : Bool) → (Tells is → Tells was) → (before after : ℕ) (err : RunErr) → ShowsPrefix actors was is e.engine.flow e'.engine.flow.levels events events' → PlansPrefix e.engine.flow e'.engine.flow.levels events events'
+      → CostsAtMost actors was is e.engine.flow e'.engine.flow.levels before after → NoneStrange actors honest was e.engine.flow e'.engine.flow.levels err → TooMuchOnly actors was is e.engine.flow e'.engine.flow err
+      → Tells is → (r : Replay) (history : List Event) (begun : ℕ) → IsRun r was e (history ++ events) begun before → Stopped honest r (history ++ events') begun after err
+  stopped-after honest tells before after err prefix planned cost strange much told r history begun run =
+      let a = run.answers (tells told) in
       let agrees : Agrees e'.engine.flow.levels (level_of r) = subst (λ s. Agrees e'.engine.flow.levels (level_for s (counts_in r))) run.plans.setting (planned.agrees (counts_in r) run.plans.planned) in
       let begins = prefix told (level_of r) agrees a.holds in
       record {
@@ -198,7 +198,7 @@ module _ (was is : Option Pages) (e e' : Engine) (events events' : List Event) (
           plans = subst (IsPrefixOf (plans_of (history ++ events'))) run.plans.shown (plans-prefix-in-front history events events' (plans_left e.engine.flow) planned.shown);
           work = (let most = cost told (level_of r) agrees a.holds in let all = a.work in let counted = run.counted in omega (arith, most, all, counted));
         };
-        named = strange told (level_of r) agrees a.holds;
+        named = λ is-honest. strange is-honest (level_of r) agrees a.holds;
         turns = λ is-much. (let most = much.turns is-much told (level_of r) agrees a.holds in let all = a.turns in omega (arith, most, all));
       }
 
@@ -223,18 +223,20 @@ module _ {T : Type 0} (was is : Option Pages) (e e' : Engine) (events events' : 
       by (Ok p) stepped engine = shows-after was is e e' events events' same stepped engine sound
       by (Err err) stepped engine = _
 
-  pub stopped-clause : OnErr answer (ShowsPrefix actors was e.engine.flow e'.engine.flow.levels events events') → OnErr answer (PlansPrefix e.engine.flow e'.engine.flow.levels events events') → OnErr answer (CostsAtMost actors was e.engine.flow e'.engine.flow.levels before after)
-      → IfErr answer (NoneStrange actors was e.engine.flow e'.engine.flow.levels) → IfErr answer (TooMuchOnly actors was e.engine.flow e'.engine.flow)
-      → IfErr answer (λ err. Tells was → (r : Replay) (history : List Event) (begun : ℕ) → IsRun r was e (history ++ events) begun before
-      → Stopped r (history ++ events') begun after err)
-  stopped-clause prefix planned cost strange much = by answer prefix planned cost strange much
+  pub stopped-clause : (honest : Bool) → (Tells is → Tells was) → OnErr answer (ShowsPrefix actors was is e.engine.flow e'.engine.flow.levels events events') → OnErr answer (PlansPrefix e.engine.flow e'.engine.flow.levels events events')
+      → OnErr answer (CostsAtMost actors was is e.engine.flow e'.engine.flow.levels before after)
+      → IfErr answer (NoneStrange actors honest was e.engine.flow e'.engine.flow.levels) → IfErr answer (TooMuchOnly actors was is e.engine.flow e'.engine.flow)
+      → IfErr answer (λ err. Tells is → (r : Replay) (history : List Event) (begun : ℕ) → IsRun r was e (history ++ events) begun before
+      → Stopped honest r (history ++ events') begun after err)
+  stopped-clause honest tells prefix planned cost strange much = by answer prefix planned cost strange much
     where
-      by : (o : Result T RunErr) → OnErr o (ShowsPrefix actors was e.engine.flow e'.engine.flow.levels events events') → OnErr o (PlansPrefix e.engine.flow e'.engine.flow.levels events events') → OnErr o (CostsAtMost actors was e.engine.flow e'.engine.flow.levels before after)
-          → IfErr o (NoneStrange actors was e.engine.flow e'.engine.flow.levels) → IfErr o (TooMuchOnly actors was e.engine.flow e'.engine.flow)
-          → IfErr o (λ err. Tells was → (r : Replay) (history : List Event) (begun : ℕ) → IsRun r was e (history ++ events) begun before
-          → Stopped r (history ++ events') begun after err)
+      by : (o : Result T RunErr) → OnErr o (ShowsPrefix actors was is e.engine.flow e'.engine.flow.levels events events') → OnErr o (PlansPrefix e.engine.flow e'.engine.flow.levels events events')
+          → OnErr o (CostsAtMost actors was is e.engine.flow e'.engine.flow.levels before after)
+          → IfErr o (NoneStrange actors honest was e.engine.flow e'.engine.flow.levels) → IfErr o (TooMuchOnly actors was is e.engine.flow e'.engine.flow)
+          → IfErr o (λ err. Tells is → (r : Replay) (history : List Event) (begun : ℕ) → IsRun r was e (history ++ events) begun before
+          → Stopped honest r (history ++ events') begun after err)
       by (Ok p) prefix planned cost strange much = _
-      by (Err err) prefix planned cost strange much = stopped-after was is e e' events events' same before after err prefix planned cost strange much
+      by (Err err) prefix planned cost strange much = stopped-after was is e e' events events' same honest tells before after err prefix planned cost strange much
 
 -- ---- at any time
 

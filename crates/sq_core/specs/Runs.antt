@@ -1,5 +1,5 @@
 -- The engine of a network, and what a run of it shows.
-use Rattle.std.specs.Prelude.{◌≡◌, ℕ, ◌+◌, ◌^◌, ◌≤◌, ◌<◌, List, length, Option, Some, None, slice_get}
+use Rattle.std.specs.Prelude.{◌≡◌, ℕ, ◌+◌, ◌^◌, ◌≤◌, ◌<◌, Bool, true, List, length, Option, Some, None, slice_get}
 use Rattle.sq_value.specs.Lists.{IsPrefixOf}
 use Rattle.sq_outside.specs.Disks.{Pages}
 use Rattle.sq_oper.specs.declared.outs.Event.{Event}
@@ -12,7 +12,7 @@ use Rattle.sq_model.specs.Kept.{fed_of, work_of, turns_of}
 use Rattle.sq_model.specs.Shown.{plans_shown}
 use Rattle.sq_actor.specs.declared.actor.Actor.{Actor}
 use Rattle.sq_actor.specs.Late.{late_by}
-use Rattle.sq_paged.specs.Fronts.{Tells}
+use Rattle.sq_pool.specs.Trust.{Tells}
 use Rattle.sq_queue.specs.Faces.{Together}
 use Rattle.sq_flow.specs.declared.seats.Seat.{Seat}
 use Rattle.sq_flow.specs.declared.errors.RunErr.{RunErr}
@@ -54,10 +54,10 @@ pub record ShownSoFar (r : Replay) (history : List Event) (begun steps : ℕ) : 
   pub plans : IsPrefixOf (plans_of history) (plans_shown r)
   pub work : steps ≤ begun + work_of r
 
--- what a run that failed has shown, and why it may have failed
-pub record Stopped (r : Replay) (history : List Event) (begun steps : ℕ) (e : RunErr) : Type 0 where
+-- what a run that failed has shown, and why it may have failed: over an honest disk by no page that came back changed
+pub record Stopped (honest : Bool) (r : Replay) (history : List Event) (begun steps : ℕ) (e : RunErr) : Type 0 where
   pub so_far : ShownSoFar r history begun steps
-  pub named : NotStrange e
+  pub named : honest ≡ true → NotStrange e
   pub turns : e ≡ TooMuch → 2 ^ 62 ≤ turns_of r
 
 -- how many tuples a box was fed, and how many of them it has neither given nor holds, where it is a BSort

@@ -1,8 +1,9 @@
 //! The engine of a network.
 
-ghost use Rattle.std.specs.Prelude.{◌≡◌, ◌⊎◌, ◌^◌, ℕ, ◌+◌, ◌-◌, ◌<◌, ◌≤◌, ◌++◌, [], ◌∷◌, List, Option, OnOk, OnErr, IfOk, IfErr, true, false, is_some, length, map};
+ghost use Rattle.std.specs.Prelude.{◌≡◌, ◌⊎◌, ◌^◌, ℕ, ◌+◌, ◌-◌, ◌<◌, ◌≤◌, ◌++◌, [], ◌∷◌, List, Option, OnOk, OnErr, IfOk, IfErr, true, false, length, map};
 ghost use Rattle.std.specs.List.{AllByRecursion};
 ghost use Rattle.sq_value.specs.declared.Tuple.{Tuple};
+ghost use Rattle.sq_value.specs.Lists.{IsPrefixOf};
 ghost use Rattle.sq_value.specs.Values.{IsStream};
 ghost use Rattle.sq_oper.specs.declared.outs.Event.{Event};
 ghost use Rattle.sq_oper.specs.Streams.{IsSoundTuple};
@@ -11,7 +12,8 @@ ghost use Rattle.sq_net.specs.Sound.{IsSound};
 ghost use Rattle.sq_points.specs.Limits.{KeepsDropLimits};
 ghost use Rattle.sq_model.specs.Fit.{SourcesFit};
 ghost use Rattle.sq_model.specs.Shedding.{Replay};
-ghost use Rattle.sq_paged.specs.Fronts.{Tells};
+ghost use Rattle.sq_pool.specs.Trust.{IsLater, Tells, known};
+ghost use Rattle.sq_queue.specs.Faces as faces;
 ghost use Rattle.sq_queue.specs.Faces.{Together};
 ghost use Rattle.sq_sched.specs.Ready.{contains, AreActors};
 ghost use Rattle.sq_flow.specs.Causes.{IsCauseIn};
@@ -49,7 +51,7 @@ impl Drop for Engine {
 
 impl Engine {
     ghost use Rattle.sq_flow.specs.Flows.{measure_of};
-    ghost use Rattle.sq_flow.specs.Readiness.{IsReady, FallsBy};
+    ghost use Rattle.sq_flow.specs.Readiness.{IsReady, FallsBy, Took};
     ghost use Rattle.sq_flow.specs.Engines.{place_in, listed_after, AllDone};
     ghost use Rattle.sq_core.specs.Runs.{IsSoundEngine, IsRun, ShownSoFar, Stopped, ShownAll, fed_at, late_at};
 
@@ -75,6 +77,7 @@ impl Engine {
         ensures run { IfOk result (λ e. (pages : Option Pages) (steps : ℕ)
             → IsRun (record { network = network; sources = map (λ v. v.items) sources.items; entries = capacities; seed = seed }) pages e [] steps steps) }
         ensures ready { IfOk result (λ e. e.engine.ready.list ≡ 0 ∷ []) }
+        ensures frames { IfOk result (λ e. faces.frames e.engine.flow.queues ≡ frames) }
     {
         let engine = network_engine(alloc, &network, sources, &capacities, seed, frames)?;
         Ok(Engine { network, engine })
@@ -93,21 +96,21 @@ impl Engine {
         steps: &mut Steps<L>,
     ) -> Result<Progress, RunErr>
         requires sound { IsSoundEngine self.old }
-        requires together { Together self.old.engine.flow.queues (D.pages disk.old) }
+        requires together { Together self.old.engine.flow.queues (known (D.log disk.old)) }
         requires ready { contains self.old.engine.ready.list pick.actor ≡ true }
         requires some { 1 ≤ pick.train }
         ensures network { self.new.network ≡ self.old.network }
         ensures sound { OnOk result (IsSoundEngine self.new) }
-        ensures together { OnOk result (Together self.new.engine.flow.queues (D.pages disk.new)) }
-        ensures tells { is_some (D.pages disk.new) ≡ is_some (D.pages disk.old) }
+        ensures together { OnOk result (Together self.new.engine.flow.queues (known (D.log disk.new))) }
+        ensures later { IsLater (D.log disk.old) (D.log disk.new) }
         ensures faults { D.faults disk.old ≤ D.faults disk.new }
         ensures cause { IfErr result (IsCauseIn self.new.engine.flow (D.faults disk.old) (D.faults disk.new)) }
         ensures run { OnOk result ((r : Replay) (history : List Event) (begun : ℕ)
-            → IsRun r (D.pages disk.old) self.old (history ++ events.old.items) begun steps.old
-            → IsRun r (D.pages disk.new) self.new (history ++ events.new.items) begun steps.new) }
-        ensures stopped { IfErr result (λ e. Tells (D.pages disk.old) → (r : Replay) (history : List Event) (begun : ℕ)
-            → IsRun r (D.pages disk.old) self.old (history ++ events.old.items) begun steps.old
-            → Stopped r (history ++ events.new.items) begun steps.new e) }
+            → IsRun r (known (D.log disk.old)) self.old (history ++ events.old.items) begun steps.old
+            → IsRun r (known (D.log disk.new)) self.new (history ++ events.new.items) begun steps.new) }
+        ensures stopped { IfErr result (λ e. Tells (known (D.log disk.new)) → (r : Replay) (history : List Event) (begun : ℕ)
+            → IsRun r (known (D.log disk.old)) self.old (history ++ events.old.items) begun steps.old
+            → Stopped (D.log disk.old).honest r (history ++ events.new.items) begun steps.new e) }
         ensures counted { IfErr result (λ e. e ≡ RunErr.TooMuch → 2 ^ 62 ≤ self.new.engine.flow.taken + 2) }
         ensures failed { OnErr result (self.new.engine.failed ≡ true) }
         ensures shows { OnOk result (AllByRecursion (IsEventIn (length self.old.network.outputs) (drops_in self.old.network)) events.old.items → AllByRecursion (IsEventIn (length self.old.network.outputs) (drops_in self.old.network)) events.new.items) }
@@ -116,6 +119,9 @@ impl Engine {
         ensures works { IfOk result (λ p. (p.fed ≡ 0) → p.finished ≡ true) }
         ensures most { IfOk result (λ p. p.fed ≤ pick.train) }
         ensures stops { IfOk result (λ p. (p.fed ≡ pick.train) ⊎ ((p.finished ≡ true) ⊎ (IsReady self.new.engine.flow (place_in (length self.new.engine.flow.seats.items) pick.actor) → ⊥))) }
+        ensures stay { IsPrefixOf events.old.items events.new.items }
+        ensures took { IfOk result (λ p. Took (place_in (length self.old.engine.flow.seats.items) pick.actor) p.fed p.finished self.old.engine.flow self.new.engine.flow) }
+        ensures frames { OnOk result (faces.frames self.new.engine.flow.queues ≡ faces.frames self.old.engine.flow.queues) }
     {
         self.engine.step(pick, disk, events, steps)
     }

@@ -9,6 +9,7 @@ ghost use Rattle.sq_net.specs.Sound.{IsSound};
 ghost use Rattle.sq_points.specs.Points.{points_of};
 ghost use Rattle.sq_points.specs.Limits.{KeepsDropLimits};
 ghost use Rattle.sq_model.specs.Fit.{SourcesFit};
+ghost use Rattle.sq_queue.specs.Faces as faces;
 ghost use Rattle.sq_queue.specs.Faces.{Together};
 ghost use Rattle.sq_flow.specs.Engines.{IsEngine};
 ghost use Rattle.sq_flow.specs.Flows.{items_in, taken_in_all};
@@ -84,6 +85,7 @@ pub(crate) fn network_engine(
     ensures answers { IfOk result (λ e. (pages : Option Pages)
         → Answers (record { network = n.now; sources = map (λ v. v.items) sources.items; entries = capacities.now; seed = seed }) (items_in e.flow pages) e.flow []) }
     ensures ready { IfOk result (λ e. e.ready.list ≡ 0 ∷ []) }
+    ensures frames { IfOk result (λ e. faces.frames e.flow.queues ≡ frames) }
 {
     early_drop_is_sound();
     starts_as_replayed();

@@ -79,5 +79,5 @@ too-much-in flow before now e is = subst (IsCauseIn flow before now) (sym is) tt
 pub counts-none : (queues : Queues) (before now : ℕ) (e : RunErr) → IsQueueCause queues before now e → e ≢ error.TooMuch
 counts-none queues before now e h = λ is. subst (IsQueueCause queues before now) is h
 
-pub none-too-much : {O : Type 0} (m : Meaning O) (was : Option Pages) (flow flow' : Flow O) (e : RunErr) → e ≢ error.TooMuch → TooMuchOnly m was flow flow' e
-none-too-much m was flow flow' e not = record { counted = λ is. absurd (not is); turns = λ is. absurd (not is) }
+pub none-too-much : {O : Type 0} (m : Meaning O) (was is : Option Pages) (flow flow' : Flow O) (e : RunErr) → e ≢ error.TooMuch → TooMuchOnly m was is flow flow' e
+none-too-much m was is flow flow' e not = record { counted = λ same. absurd (not same); turns = λ same. absurd (not same) }

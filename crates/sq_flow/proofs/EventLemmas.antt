@@ -15,6 +15,19 @@ use Rattle.sq_oper.specs.Streams.{tuple_in}
 use Rattle.sq_flow.specs.Events.{bodies, line_of, lines_of, drop_in, drops_of, ShowsIn}
 use Rattle.sq_flow.specs.Plans.{plan_in, plans_of}
 
+-- what was shown stays
+pub stays-same : {A : Type 0} (xs : List A) → IsPrefixOf xs xs
+stays-same xs = ([], sym (append-nil xs))
+
+pub stays-is : {A : Type 0} (xs ys : List A) → ys ≡ xs → IsPrefixOf xs ys
+stays-is xs ys same = ([], same ∙ sym (append-nil xs))
+
+pub stays-push : {A : Type 0} (xs : List A) (x : A) → IsPrefixOf xs (xs ++ x ∷ [])
+stays-push xs x = (x ∷ [], refl)
+
+pub stays-both : {A : Type 0} (xs ys zs : List A) → IsPrefixOf xs ys → IsPrefixOf ys zs → IsPrefixOf xs zs
+stays-both xs ys zs a b = (a.0 ++ b.0, b.1 ∙ ap (λ l. l ++ b.0) a.1 ∙ append_assoc xs a.0 b.0)
+
 pub bodies-append : (xs ys : List Thing) → bodies (xs ++ ys) ≡ bodies xs ++ bodies ys
 bodies-append [] ys = refl
 bodies-append (x ∷ xs) ys = ap (λ z. tuple_in x.time x.load ++ z) (bodies-append xs ys) ∙ sym (append_assoc (tuple_in x.time x.load) (bodies xs) (bodies ys))
@@ -63,7 +76,7 @@ pub nothing-more : {A : Type 0} (b : Bool) (xs ys : List A) → ys ≡ [] → xs
 nothing-more true xs ys e = rw e (sym (append-nil xs))
 nothing-more false xs ys e = sym (append-nil xs)
 
-pub ruleset event_lemmas = (lines-push, plans-line, drops-line, bodies-some, bodies-none, nothing-more)
+pub ruleset event_lemmas = (lines-push, plans-line, drops-line, bodies-some, bodies-none, nothing-more, stays-same, stays-is, stays-push)
 
 cond-both : {A : Type 0} (b : Bool) (xs ys : List A) → cond b (xs ++ ys) [] ≡ cond b xs [] ++ cond b ys []
 cond-both true xs ys = refl

@@ -25,8 +25,9 @@ use Rattle.sq_left.proofs.ActorSteps.{tuples-both, EachPort, PortFacts, taken_at
 use Rattle.sq_left.proofs.WorldSteps.{facts-at, next-is-future, next-is-first, spread-of-time, world-fed, replay-end}
 use Rattle.sq_queue.specs.declared.Queues.{Queues}
 use Rattle.sq_outside.specs.Disks.{Pages}
-use Rattle.sq_paged.specs.Fronts.{first_time, IsFaceOf, Tells}
-use Rattle.sq_queue.specs.Faces.{face, size, items_on, Together}
+use Rattle.sq_pool.specs.Trust.{Tells}
+use Rattle.sq_paged.specs.Fronts.{first_time, IsFaceOf}
+use Rattle.sq_queue.specs.Faces.{face, size, frames, items_on, Together}
 use Rattle.sq_flow.specs.Sends.{sent_to, comes_from, Pushes}
 use Rattle.sq_flow.specs.Readiness.{stands, TouchesOnly}
 use Rattle.sq_flow.proofs.TouchLemmas.{away-from, stands-pushed}
@@ -68,9 +69,9 @@ pub work-least : {O : Type 0} (m : Meaning O) (table : ℕ → ℕ → ℕ) (ite
 work-least m table items e = sum-most (λ k. seat.taken_at m (slice_get e.seats.items k)) (fed_at_last m table items e) (length e.seats.items) (λ k low. omega arith)
 
 -- where nothing was fed
-pub costs-none : {O : Type 0} (m : Meaning O) (valid : O → Type 0) (e : Flow O) → IsFlow m valid e → (was : Option Pages) (levels : LevelTable) (before after : ℕ) → after ≡ before
-    → CostsAtMost m was e levels before after
-costs-none m valid e flow was levels before after same = λ told table agrees holds. let least = work-least m table (items_on e.queues was) e in omega (arith, least, same)
+pub costs-none : {O : Type 0} (m : Meaning O) (valid : O → Type 0) (e : Flow O) → IsFlow m valid e → (was is : Option Pages) (levels : LevelTable) (before after : ℕ) → after ≡ before
+    → CostsAtMost m was is e levels before after
+costs-none m valid e flow was is levels before after same = λ told table agrees holds. let least = work-least m table (items_on e.queues was) e in omega (arith, least, same)
 
 module _ {O : Type 0} (m : Meaning O) (valid : O → Type 0) (e : Flow O) (flow : IsFlow m valid e) (actor tick p at : ℕ) (a : Arc) (item : Item)
     (actor_in : actor < length e.seats.items)
@@ -463,7 +464,7 @@ module _ {O : Type 0} (m : Meaning O) (valid : O → Type 0) (e : Flow O) (flow 
             turns = turns-same more ∙ ap (λ n. taken' + sum_below (λ other. length (inputs net is e.wires.order.items other)) n) (sym seats_len);
           }
 
-  -- where the disk tells its pages the tests pass, whatever stands behind the item
+  -- where the pages are known the tests pass, whatever stands behind the item
   pub passes-front : (table : ℕ → ℕ → ℕ) → Agrees e.levels table → (items : ℕ → List Item) → HoldsItems m table items e → ((k : ℕ) → IsFaceOf (face e.queues k) (items k)) → (more : List Item) → items at ≡ item ∷ more
       → MayBeFed a p s.tally.place e.clock item
   passes-front table agrees items holds faces more whole =
@@ -472,25 +473,25 @@ module _ {O : Type 0} (m : Meaning O) (valid : O → Type 0) (e : Flow O) (flow 
       (λ k ne. ap (λ b. cond b more (items k)) (eqb-not k at ne))
 
   -- where the item can't be counted
-  pub too-much-front : (was mid_pages : Option Pages) (mid : Queues) (e' : Flow O) (err : RunErr) → Together e.queues was
-      → (Tells was → items_on e.queues was at ≡ item ∷ items_on mid mid_pages at)
-      → (Tells was → (other : ℕ) → other ≢ at → items_on mid mid_pages other ≡ items_on e.queues was other)
-      → 2 ^ 62 ≤ e.taken + length (spread item) → length (spread item) ≤ 2 → e'.taken ≡ e.taken → e'.levels ≡ e.levels → TooMuchOnly m was e e' err
-  too-much-front was mid_pages mid e' err together front others over few taken levels =
+  pub too-much-front : (was mid_pages : Option Pages) (mid : Queues) (e' : Flow O) (err : RunErr) → Together e.queues was → (Tells mid_pages → Tells was)
+      → (Tells mid_pages → items_on e.queues was at ≡ item ∷ items_on mid mid_pages at)
+      → (Tells mid_pages → (other : ℕ) → other ≢ at → items_on mid mid_pages other ≡ items_on e.queues was other)
+      → 2 ^ 62 ≤ e.taken + length (spread item) → length (spread item) ≤ 2 → e'.taken ≡ e.taken → e'.levels ≡ e.levels → TooMuchOnly m was mid_pages e e' err
+  too-much-front was mid_pages mid e' err together tells front others over few taken levels =
       record {
         counted = λ is. omega (arith, over, few, taken);
         turns = λ is told table agrees holds.
-            let most = turns-over table (rw levels at agrees) (items_on e.queues was) (items_on mid mid_pages) holds (together.faces told) (front told) (others told) in
+            let most = turns-over table (rw levels at agrees) (items_on e.queues was) (items_on mid mid_pages) holds (together.faces (tells told)) (front told) (others told) in
             omega (arith, over, most);
       }
 
   -- where the item was fed
-  pub costs-front : (was mid_pages : Option Pages) (mid : Queues) (before after : ℕ) → Together e.queues was
-      → (Tells was → items_on e.queues was at ≡ item ∷ items_on mid mid_pages at)
-      → (Tells was → (other : ℕ) → other ≢ at → items_on mid mid_pages other ≡ items_on e.queues was other)
-      → after ≡ before + cond (is_some item.body) 1 0 → CostsAtMost m was e e.levels before after
-  costs-front was mid_pages mid before after together front others more = λ told table agrees holds.
-      let most = work-over table agrees (items_on e.queues was) (items_on mid mid_pages) holds (together.faces told) (front told) (others told) in
+  pub costs-front : (was mid_pages is : Option Pages) (mid : Queues) (before after : ℕ) → Together e.queues was → (Tells mid_pages → Tells was) → (Tells is → Tells mid_pages)
+      → (Tells mid_pages → items_on e.queues was at ≡ item ∷ items_on mid mid_pages at)
+      → (Tells mid_pages → (other : ℕ) → other ≢ at → items_on mid mid_pages other ≡ items_on e.queues was other)
+      → after ≡ before + cond (is_some item.body) 1 0 → CostsAtMost m was is e e.levels before after
+  costs-front was mid_pages is mid before after together tells then front others more = λ told table agrees holds.
+      let most = work-over table agrees (items_on e.queues was) (items_on mid mid_pages) holds (together.faces (tells (then told))) (front (then told)) (others (then told)) in
       omega (arith, most, more)
 
   pub costs-fed : (seats' : Vec (Seat O) Global) (queues' : Queues) (taken' : ℕ) (s' : Seat O) (before after : ℕ) → slice_get seats'.items actor ≡ Some s' → ((other : ℕ) → other ≢ actor → slice_get seats'.items other ≡ slice_get e.seats.items other)
@@ -518,34 +519,34 @@ module _ {O : Type 0} (m : Meaning O) (valid : O → Type 0) (e : Flow O) (flow 
       not-fed arc to same = to (ap (λ k. to_of (slice_get e.wires.arcs.items k)) same ∙ (flow.shaped.joined actor p at head.1).0)
 
   -- what a feed has shown where giving failed
-  pub fed-prefix : (was mid_pages : Option Pages) (mid : Queues) (s' : Seat O) (outs : List (ℕ × Item)) (drops : List Decision) (events events' : List Event)
-      → Together e.queues was
-      → (Tells was → items_on e.queues was at ≡ item ∷ items_on mid mid_pages at)
-      → (Tells was → (other : ℕ) → other ≢ at → items_on mid mid_pages other ≡ items_on e.queues was other)
+  pub fed-prefix : (was mid_pages is : Option Pages) (mid : Queues) (s' : Seat O) (outs : List (ℕ × Item)) (drops : List Decision) (events events' : List Event)
+      → Together e.queues was → (Tells mid_pages → Tells was) → (Tells is → Tells mid_pages)
+      → (Tells mid_pages → items_on e.queues was at ≡ item ∷ items_on mid mid_pages at)
+      → (Tells mid_pages → (other : ℕ) → other ≢ at → items_on mid mid_pages other ≡ items_on e.queues was other)
       → FedSeat m valid e.levels p item outs drops s s'
       → ((o : ℕ) → IsPrefixOf (lines_of o events') (lines_of o events ++ bodies (pushed_by actor outs (e.wires.shown + o) 0)))
       → MayBeFed a p s.tally.place e.clock item → done_at e.over (slice_get e.seats.items actor) ≡ false
       → ((w : ℕ) → IsPrefixOf (drops_of w events') (drops_of w events ++ of_drop w drops))
-      → ShowsPrefix m was e e.levels events events'
-  fed-prefix was mid_pages mid s' outs drops events events' together front others fed pre may unfinished decides = λ told table agrees holds.
+      → ShowsPrefix m was is e e.levels events events'
+  fed-prefix was mid_pages _ mid s' outs drops events events' together tells then front others fed pre may unfinished decides = λ told table agrees holds.
       record {
         lines = λ output low.
             prefix-chain (lines_of output events') (lines_of output events) (bodies (pushed_by actor outs (e.wires.shown + output) 0)) (lines_left m table (items_on e.queues was) e output) (pre output)
-            (prefix-of-left table agrees (items_on e.queues was) (items_on mid mid_pages) holds (together.faces told) (front told) (others told) outs
+            (prefix-of-left table agrees (items_on e.queues was) (items_on mid mid_pages) holds (together.faces (tells (then told))) (front (then told)) (others (then told)) outs
             (λ future f q. (m.rest s'.op table future q, fed.law table future agrees f q)) (e.wires.shown + output));
         drops = λ w low.
             prefix-chain (drops_of w events') (drops_of w events) (of_drop w drops) (decisions_left m table (items_on e.queues was) e (e.wires.sheds + w)) (decides w)
-            (drops-of-left table agrees (items_on e.queues was) (items_on mid mid_pages) holds (together.faces told) (front told) (others told) drops (own-drops s' outs drops fed may (runs unfinished))
+            (drops-of-left table agrees (items_on e.queues was) (items_on mid mid_pages) holds (together.faces (tells (then told))) (front (then told)) (others (then told)) drops (own-drops s' outs drops fed may (runs unfinished))
             (λ future f. (m.decides s'.op table future, fed.decided table future agrees f)) w);
       }
 
   -- the whole of a feed, from what its parts say
   pub fed-stepped : (was is mid_pages : Option Pages) (mid q' : Queues) (seats' : Vec (Seat O) Global) (taken' : ℕ) (s' : Seat O) (outs : List (ℕ × Item)) (drops : List Decision) (events events' : List Event)
       → Together e.queues was → MayBeFed a p s.tally.place e.clock item
-      → ((other : ℕ) → (face mid other).ended ≡ (face e.queues other).ended) → size mid ≡ size e.queues
-      → (Tells was → items_on e.queues was at ≡ item ∷ items_on mid mid_pages at)
-      → (Tells was → (other : ℕ) → other ≢ at → items_on mid mid_pages other ≡ items_on e.queues was other)
-      → is_some mid_pages ≡ is_some was → taken' ≡ e.taken + length (spread item) → taken' < 2 ^ 62
+      → ((other : ℕ) → (face mid other).ended ≡ (face e.queues other).ended) → size mid ≡ size e.queues → frames mid ≡ frames e.queues
+      → (Tells mid_pages → items_on e.queues was at ≡ item ∷ items_on mid mid_pages at)
+      → (Tells mid_pages → (other : ℕ) → other ≢ at → items_on mid mid_pages other ≡ items_on e.queues was other)
+      → (Tells mid_pages → Tells was) → taken' ≡ e.taken + length (spread item) → taken' < 2 ^ 62
       → FedSeat m valid e.levels p item outs drops s s'
       → slice_get seats'.items actor ≡ Some s' → ((other : ℕ) → other ≢ actor → slice_get seats'.items other ≡ slice_get e.seats.items other)
       → length seats'.items ≡ length e.seats.items → done_at e.over (slice_get e.seats.items actor) ≡ false
@@ -554,12 +555,13 @@ module _ {O : Type 0} (m : Meaning O) (valid : O → Type 0) (e : Flow O) (flow 
       → ((w : ℕ) → drops_of w events' ≡ drops_of w events ++ of_drop w drops)
       → ShowsIn (length e.seats.items - e.wires.shown) (e.wires.shown - e.wires.sheds) events events' → plans_of events' ≡ plans_of events
       → Stepped m valid was is e (record e { seats = seats'; queues = q'; taken = taken' }) events events'
-  fed-stepped was is mid_pages mid q' seats' taken' s' outs drops events events' together may ended lanes front others tells more few fed is_after apart seats_len unfinished sent shown decides below plans =
+  fed-stepped was is mid_pages mid q' seats' taken' s' outs drops events events' together may ended lanes framed front others tells more few fed is_after apart seats_len unfinished sent shown decides below plans =
       record {
         flow_after = flow-after s' outs drops fed may seats' q' taken' is_after apart seats_len (sent.lanes ∙ lanes ∙ flow.lanes) (λ k. sent.ended k ∙ ended k) more few unfinished;
         together = sent.together;
-        tells = sent.tells ∙ tells;
+        tells = λ told. tells (sent.tells told);
         wires = refl;
+        framed = sent.framed ∙ framed;
         seats = seats_len;
         closes = λ table h. h;
         shows = below;
@@ -567,14 +569,14 @@ module _ {O : Type 0} (m : Meaning O) (valid : O → Type 0) (e : Flow O) (flow 
         planned = λ all h. record { agrees = h.agrees; counts = h.counts };
         plans = ap (λ z. z ++ plans_left e) (sym plans);
         holds = λ told table agrees holds.
-            holds-after table agrees (items_on e.queues was) (items_on mid mid_pages) holds (together.faces told) (front told) (others told) seats' q' taken' s' outs drops (items_on q' is)
-            fed is_after apart unfinished (on told) (sent.fine (tells ∙ told)) may;
+            holds-after table agrees (items_on e.queues was) (items_on mid mid_pages) holds (together.faces (tells (sent.tells told))) (front (sent.tells told)) (others (sent.tells told)) seats' q' taken' s' outs drops (items_on q' is)
+            fed is_after apart unfinished (on told) (sent.fine told) may;
         goes = λ told table agrees holds.
-            goes-after table agrees (items_on e.queues was) (items_on mid mid_pages) holds (together.faces told) (front told) (others told) seats' q' taken' s' outs drops (items_on q' is)
-            fed is_after apart unfinished (on told) (sent.fine (tells ∙ told)) may events events' seats_len more shown decides;
+            goes-after table agrees (items_on e.queues was) (items_on mid mid_pages) holds (together.faces (tells (sent.tells told))) (front (sent.tells told)) (others (sent.tells told)) seats' q' taken' s' outs drops (items_on q' is)
+            fed is_after apart unfinished (on told) (sent.fine told) may events events' seats_len more shown decides;
       }
     where
-      on : Tells was → (k : ℕ) → k < length e.wires.arcs.items → spread_all (items_on q' is k) ≡ spread_all (items_on mid mid_pages k) ++ pushed_by actor outs (net.from k) (net.port k)
+      on : Tells is → (k : ℕ) → k < length e.wires.arcs.items → spread_all (items_on q' is k) ≡ spread_all (items_on mid mid_pages k) ++ pushed_by actor outs (net.from k) (net.port k)
       on told k low =
-          sent.items (tells ∙ told) k
+          sent.items told k
           ∙ ap (λ z. spread_all (items_on mid mid_pages k) ++ z) (sent-is e.wires (length e.seats.items) flow.shaped actor outs k low)

@@ -19,8 +19,9 @@ use Rattle.sq_left.proofs.ActorSteps.{SameActor, Each-both, merge-none}
 use Rattle.sq_left.proofs.WorldSteps.{At, facts-at, world-finished, replay-end, Each-from}
 use Rattle.sq_queue.specs.declared.Queues.{Queues}
 use Rattle.sq_outside.specs.Disks.{Pages}
-use Rattle.sq_paged.specs.Fronts.{first_time, IsFaceOf, Tells}
-use Rattle.sq_queue.specs.Faces.{face, size, items_on, Together}
+use Rattle.sq_pool.specs.Trust.{Tells}
+use Rattle.sq_paged.specs.Fronts.{first_time, IsFaceOf}
+use Rattle.sq_queue.specs.Faces.{face, size, frames, items_on, Together}
 use Rattle.sq_flow.specs.Sends.{sent_to, comes_from, Pushes}
 use Rattle.sq_flow.specs.Readiness.{TouchesOnly}
 use Rattle.sq_flow.proofs.TouchLemmas.{away-from, stands-pushed, stands-grows}
@@ -314,21 +315,21 @@ module _ {O : Type 0} (m : Meaning O) (valid : O → Type 0) (e : Flow O) (flow 
       }
 
   -- what an end has shown where giving failed
-  pub finished-prefix : (was : Option Pages) (s' : Seat O) (outs : List (ℕ × Item)) (drops : List Decision) (events events' : List Event)
-      → Together e.queues was → FinishedSeat m valid outs drops s s'
+  pub finished-prefix : (was is : Option Pages) (s' : Seat O) (outs : List (ℕ × Item)) (drops : List Decision) (events events' : List Event)
+      → Together e.queues was → (Tells is → Tells was) → FinishedSeat m valid outs drops s s'
       → ((o : ℕ) → IsPrefixOf (lines_of o events') (lines_of o events ++ bodies (pushed_by actor outs (e.wires.shown + o) 0)))
       → done_at e.over (slice_get e.seats.items actor) ≡ false
       → ((w : ℕ) → IsPrefixOf (drops_of w events') (drops_of w events ++ of_drop w drops))
-      → ShowsPrefix m was e e.levels events events'
-  finished-prefix was s' outs drops events events' together fin pre unfinished decides = λ told table agrees holds.
+      → ShowsPrefix m was is e e.levels events events'
+  finished-prefix was _ s' outs drops events events' together tells fin pre unfinished decides = λ told table agrees holds.
       record {
         lines = λ output low.
             prefix-chain (lines_of output events') (lines_of output events) (bodies (pushed_by actor outs (e.wires.shown + output) 0)) (lines_left m table (items_on e.queues was) e output) (pre output)
-            (prefix-of-end table agrees (items_on e.queues was) holds (together.faces told) outs
+            (prefix-of-end table agrees (items_on e.queues was) holds (together.faces (tells told)) outs
             (λ q. ([], fin.law table q ∙ sym (append-nil (given q outs)))) (e.wires.shown + output));
         drops = λ w low.
             prefix-chain (drops_of w events') (drops_of w events) (of_drop w drops) (decisions_left m table (items_on e.queues was) e (e.wires.sheds + w)) (decides w)
-            (drops-of-end table agrees (items_on e.queues was) holds (together.faces told) drops (own-drops s' outs drops fin unfinished) (fin.decided table) w);
+            (drops-of-end table agrees (items_on e.queues was) holds (together.faces (tells told)) drops (own-drops s' outs drops fin unfinished) (fin.decided table) w);
       }
 
   -- the whole of an end, from what its parts say
@@ -337,7 +338,7 @@ module _ {O : Type 0} (m : Meaning O) (valid : O → Type 0) (e : Flow O) (flow 
       → slice_get seats'.items actor ≡ Some s' → ((other : ℕ) → other ≢ actor → slice_get seats'.items other ≡ slice_get e.seats.items other)
       → length seats'.items ≡ length e.seats.items
       → Pushes e.queues mid was is (sent_to e.wires actor outs) (λ time. AllOutsFine time outs) (comes_from e.wires actor)
-      → size q' ≡ size mid
+      → size q' ≡ size mid → frames q' ≡ frames mid
       → ((k : ℕ) → k < length e.wires.arcs.items → (face q' k).ended ≡ ((face mid k).ended || eqb (from_of (slice_get e.wires.arcs.items k)) actor))
       → ((pages : Option Pages) (k : ℕ) → items_on q' pages k ≡ items_on mid pages k)
       → ((pages : Option Pages) → Together mid pages → Together q' pages)
@@ -345,28 +346,29 @@ module _ {O : Type 0} (m : Meaning O) (valid : O → Type 0) (e : Flow O) (flow 
       → done_at e.over (slice_get e.seats.items actor) ≡ false → ((w : ℕ) → drops_of w events' ≡ drops_of w events ++ of_drop w drops)
       → ShowsIn (length e.seats.items - e.wires.shown) (e.wires.shown - e.wires.sheds) events events' → plans_of events' ≡ plans_of events
       → Stepped m valid was is e (record e { seats = seats'; queues = q' }) events events'
-  finished-stepped was is mid q' seats' s' outs drops events events' together fin is_after apart seats_len sent lanes ended same stays shown unfinished decides below plans =
+  finished-stepped was is mid q' seats' s' outs drops events events' together fin is_after apart seats_len sent lanes framed ended same stays shown unfinished decides below plans =
       record {
         flow_after = flow-after s' outs drops fin seats' q' is_after apart seats_len (lanes ∙ sent.lanes ∙ flow.lanes)
             (λ k low. ended k low ∙ ap (λ b. b || eqb (from_of (slice_get e.wires.arcs.items k)) actor) (sent.ended k));
         together = stays is sent.together;
         tells = sent.tells;
         wires = refl;
+        framed = framed ∙ sent.framed;
         seats = seats_len;
         closes = λ table h. h;
         shows = below;
         planner = refl;
         planned = λ all h. record { agrees = h.agrees; counts = h.counts };
         plans = ap (λ z. z ++ plans_left e) (sym plans);
-        holds = λ told table agrees holds. holds-after table agrees (items_on e.queues was) holds (together.faces told) seats' q' s' outs drops (items_on q' is) fin is_after apart (on told) (fine told);
+        holds = λ told table agrees holds. holds-after table agrees (items_on e.queues was) holds (together.faces (sent.tells told)) seats' q' s' outs drops (items_on q' is) fin is_after apart (on told) (fine told);
         goes = λ told table agrees holds.
-            goes-after table agrees (items_on e.queues was) holds (together.faces told) seats' q' s' outs drops (items_on q' is) fin is_after apart (on told) (fine told) events events' seats_len shown (own-drops s' outs drops fin unfinished) decides;
+            goes-after table agrees (items_on e.queues was) holds (together.faces (sent.tells told)) seats' q' s' outs drops (items_on q' is) fin is_after apart (on told) (fine told) events events' seats_len shown (own-drops s' outs drops fin unfinished) decides;
       }
     where
-      on : Tells was → (k : ℕ) → k < length e.wires.arcs.items → spread_all (items_on q' is k) ≡ spread_all (items_on e.queues was k) ++ pushed_by actor outs (net.from k) (net.port k)
+      on : Tells is → (k : ℕ) → k < length e.wires.arcs.items → spread_all (items_on q' is k) ≡ spread_all (items_on e.queues was k) ++ pushed_by actor outs (net.from k) (net.port k)
       on told k low =
           ap spread_all (same is k) ∙ sent.items told k
           ∙ ap (λ z. spread_all (items_on e.queues was k) ++ z) (sent-is e.wires (length e.seats.items) flow.shaped actor outs k low)
 
-      fine : Tells was → (time : ℕ) → AllOutsFine time outs → ((k : ℕ) → AllFine time (items_on e.queues was k)) → (k : ℕ) → AllFine time (items_on q' is k)
+      fine : Tells is → (time : ℕ) → AllOutsFine time outs → ((k : ℕ) → AllFine time (items_on e.queues was k)) → (k : ℕ) → AllFine time (items_on q' is k)
       fine told time u f k = subst (AllFine time) (sym (same is k)) (sent.fine told time u f k)

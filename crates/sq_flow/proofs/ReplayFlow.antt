@@ -23,8 +23,8 @@ use Rattle.sq_left.proofs.Conserve.{Kept}
 use Rattle.sq_left.proofs.WorldSteps.{world-released}
 use Rattle.sq_queue.specs.declared.Queues.{Queues}
 use Rattle.sq_outside.specs.Disks.{Pages}
-use Rattle.sq_paged.specs.Fronts.{Tells}
-use Rattle.sq_queue.specs.Faces.{face, size, items_on, Together}
+use Rattle.sq_pool.specs.Trust.{Tells}
+use Rattle.sq_queue.specs.Faces.{face, size, frames, items_on, Together}
 use Rattle.sq_flow.specs.Sends.{many, Pushes}
 use Rattle.sq_flow.specs.Sources.{BeginsLeast, IsNextSource}
 use Rattle.sq_flow.proofs.PlanLemmas.{rise-later}
@@ -247,6 +247,7 @@ module _ {O : Type 0} (m : Meaning O) (valid : O → Type 0) (e : Flow O) (flow 
             together = pushes.together;
             tells = pushes.tells;
             wires = refl;
+            framed = pushes.framed;
             seats = refl;
             closes = before;
             shows = did.within _ _;
@@ -282,7 +283,7 @@ module _ {O : Type 0} (m : Meaning O) (valid : O → Type 0) (e : Flow O) (flow 
           ends : e.over ≡ true → (q : ℕ) → tuples_at (slice_get sources'.items q) ≡ []
           ends o = absurd (cc (replay-runs, o))
 
-          on : Tells was → (k : ℕ) → k < length e.wires.arcs.items
+          on : Tells is → (k : ℕ) → k < length e.wires.arcs.items
               → spread_all (items_on q' is k) ≡ spread_all (items_on e.queues was k) ++ sent e.wires.replay port (spread item) ((net_of e.wires).from k) ((net_of e.wires).port k)
           on told k low = pushes.items told k ∙ ap (λ z. spread_all (items_on e.queues was k) ++ z) (one-sent e.wires (length e.seats.items) flow.shaped e.wires.replay port k (spread item) low)
 
@@ -301,12 +302,12 @@ module _ {O : Type 0} (m : Meaning O) (valid : O → Type 0) (e : Flow O) (flow 
 
   -- the whole of the end of the replay
   pub ended-stepped : (pages : Option Pages) (q' : Queues) (events : List Event)
-      → Together e.queues pages → ((source : ℕ) → to_release e source ≡ []) → size q' ≡ size e.queues
+      → Together e.queues pages → ((source : ℕ) → to_release e source ≡ []) → size q' ≡ size e.queues → frames q' ≡ frames e.queues
       → ((k : ℕ) → k < length e.wires.arcs.items → (face q' k).ended ≡ ((face e.queues k).ended || eqb (from_of (slice_get e.wires.arcs.items k)) e.wires.replay))
       → ((pages : Option Pages) (k : ℕ) → items_on q' pages k ≡ items_on e.queues pages k)
       → ((pages : Option Pages) → Together e.queues pages → Together q' pages)
       → Stepped m valid pages pages e (record e { over = true; queues = q' }) events events
-  ended-stepped pages q' events together none lanes ended same stays =
+  ended-stepped pages q' events together none lanes framed ended same stays =
       record {
         flow_after =
             record {
@@ -326,8 +327,9 @@ module _ {O : Type 0} (m : Meaning O) (valid : O → Type 0) (e : Flow O) (flow 
               over = λ o. none;
             };
         together = stays pages together;
-        tells = refl;
+        tells = λ told. told;
         wires = refl;
+        framed = framed;
         seats = refl;
         closes = λ table h. h;
         shows = λ h. h;
@@ -372,9 +374,9 @@ module _ {O : Type 0} (m : Meaning O) (valid : O → Type 0) (e : Flow O) (flow 
               some (slice_get e.seats.items actor) (slice_get-not_none e.seats.items actor (omega (arith, r, away, low)))
 
 -- where no tuple and no decision was shown
-pub lines-stay : {O : Type 0} (m : Meaning O) (was : Option Pages) (e : Flow O) (levels : LevelTable) (events events' : List Event)
-    → ((o : ℕ) → lines_of o events' ≡ lines_of o events) → ((w : ℕ) → drops_of w events' ≡ drops_of w events) → ShowsPrefix m was e levels events events'
-lines-stay m was e levels events events' same decides = λ told table agrees holds.
+pub lines-stay : {O : Type 0} (m : Meaning O) (was is : Option Pages) (e : Flow O) (levels : LevelTable) (events events' : List Event)
+    → ((o : ℕ) → lines_of o events' ≡ lines_of o events) → ((w : ℕ) → drops_of w events' ≡ drops_of w events) → ShowsPrefix m was is e levels events events'
+lines-stay m was _ e levels events events' same decides = λ told table agrees holds.
     record {
       lines = λ output low. (lines_left m table (items_on e.queues was) e output, ap (λ z. z ++ lines_left m table (items_on e.queues was) e output) (sym (same output)));
       drops = λ w low.

@@ -12,8 +12,9 @@ use Rattle.sq_left.specs.Heads.{AllFine}
 use Rattle.sq_left.proofs.MergeLemmas.{eqb-yes, eqb-no, eqb-same, eqb-not}
 use Rattle.sq_sched.specs.Ready.{contains}
 use Rattle.sq_queue.specs.declared.Queues.{Queues}
-use Rattle.sq_paged.specs.Fronts.{Tells, pushed, first_or}
-use Rattle.sq_queue.specs.Faces.{face, size, items_on, Together}
+use Rattle.sq_pool.specs.Trust.{Tells}
+use Rattle.sq_paged.specs.Fronts.{pushed, first_or}
+use Rattle.sq_queue.specs.Faces.{face, size, frames, items_on, Together}
 use Rattle.sq_flow.specs.declared.wires.Wires.{Wires}
 use Rattle.sq_flow.specs.Wiring.{arcs_from, times_in, AllOutsFine}
 use Rattle.sq_flow.specs.Sends.{many, sent_to, comes_from, Pushes}
@@ -37,7 +38,8 @@ pub pushes-none : (q : Queues) (was : Option Pages) (more : ℕ → List Thing) 
 pushes-none q was more upto near together none =
     record {
       lanes = refl;
-      tells = refl;
+      framed = refl;
+      tells = λ told. told;
       together = together;
       ended = λ arc. refl;
       grows = λ arc h. h;
@@ -52,17 +54,18 @@ pub pushes-both : (q q1 q2 : Queues) (p p1 p2 : Option Pages) (m m1 m2 : ℕ →
 pushes-both q q1 q2 p p1 p2 m m1 m2 u u1 u2 n n1 n2 a b both joins far =
     record {
       lanes = b.lanes ∙ a.lanes;
-      tells = b.tells ∙ a.tells;
+      framed = b.framed ∙ a.framed;
+      tells = λ told. a.tells (b.tells told);
       together = b.together;
       ended = λ arc. b.ended arc ∙ a.ended arc;
       grows = λ arc h. b.grows arc (a.grows arc h);
       apart = λ arc h. b.apart arc (far arc h).1 ∙ a.apart arc (far arc h).0;
       items = λ told arc.
-          b.items (a.tells ∙ told) arc
-          ∙ ap (λ z. z ++ m2 arc) (a.items told arc)
+          b.items told arc
+          ∙ ap (λ z. z ++ m2 arc) (a.items (b.tells told) arc)
           ∙ append_assoc (spread_all (items_on q p arc)) (m1 arc) (m2 arc)
           ∙ ap (λ z. spread_all (items_on q p arc) ++ z) (sym (joins arc));
-      fine = λ told time v f. let w = both time v in b.fine (a.tells ∙ told) time w.1 (a.fine told time w.0 f);
+      fine = λ told time v f. let w = both time v in b.fine told time w.1 (a.fine (b.tells told) time w.0 f);
     }
 
 first-grows : (o : Option ℕ) (time : ℕ) → is_some (first_or o time) ≡ true
@@ -71,13 +74,14 @@ first-grows (Some t) time = refl
 
 -- one item to one arc
 pub pushes-one : (q q' : Queues) (p p' : Option Pages) (at : ℕ) (item : Item) → IsSound item
-    → face q' at ≡ pushed (face q at) item.time → ((other : ℕ) → other ≢ at → face q' other ≡ face q other) → size q' ≡ size q
-    → (Tells p → items_on q' p' at ≡ items_on q p at ++ item ∷ []) → (Tells p → (other : ℕ) → other ≢ at → items_on q' p' other ≡ items_on q p other)
-    → Together q' p' → is_some p' ≡ is_some p
+    → face q' at ≡ pushed (face q at) item.time → ((other : ℕ) → other ≢ at → face q' other ≡ face q other) → size q' ≡ size q → frames q' ≡ frames q
+    → (Tells p' → items_on q' p' at ≡ items_on q p at ++ item ∷ []) → (Tells p' → (other : ℕ) → other ≢ at → items_on q' p' other ≡ items_on q p other)
+    → Together q' p' → (Tells p' → Tells p)
     → Pushes q q' p p' (λ arc. cond (eqb at arc) (spread item) []) (λ time. item.time ≤ time) (λ arc. eqb at arc)
-pushes-one q q' p p' at item sound here others lanes items apart together tells =
+pushes-one q q' p p' at item sound here others lanes framed items apart together tells =
     record {
       lanes = lanes;
+      framed = framed;
       tells = tells;
       together = together;
       ended = at_or_other (λ arc. (face q' arc).ended ≡ (face q arc).ended) at (ap (λ f. f.ended) here) (λ arc ne. ap (λ f. f.ended) (others arc ne));

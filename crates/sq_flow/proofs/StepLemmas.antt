@@ -4,7 +4,7 @@ use Rattle.std.specs.Prelude.{is_some}
 use Rattle.sq_outside.specs.Disks.{Pages}
 use Rattle.sq_road.specs.Levels.{LevelTable, Agrees}
 use Rattle.sq_oper.specs.declared.outs.Event.{Event}
-use Rattle.sq_paged.specs.Fronts.{Tells}
+use Rattle.sq_pool.specs.Trust.{Tells}
 use Rattle.sq_queue.specs.Faces.{face}
 use Rattle.sq_flow.specs.declared.wires.Wires.{Wires}
 use Rattle.sq_flow.specs.declared.flow.Flow.{Flow}
@@ -41,18 +41,19 @@ module _ {O : Type 0} (m : Meaning O) (valid : O → Type 0) where
         record {
           flow_after = second.flow_after;
           together = second.together;
-          tells = second.tells ∙ first.tells;
+          tells = λ told. first.tells (second.tells told);
           wires = second.wires ∙ first.wires;
+          framed = second.framed ∙ first.framed;
           seats = second.seats ∙ first.seats;
           closes = λ table h. first.closes table (second.closes table h);
           shows = λ h. subst (λ n. ShowsIn n (f.wires.shown - f.wires.sheds) e1 e2) outputs-same (subst (λ n. ShowsIn (length f1.seats.items - f1.wires.shown) n e1 e2) drops-same second.shows) (first.shows h);
           planner = second.planner ∙ first.planner;
           planned = λ all h. second.planned all (first.planned all h);
           plans = first.plans ∙ second.plans;
-          holds = λ told table agrees h. second.holds (first.tells ∙ told) table agrees (first.holds told table (second.closes table agrees) h);
+          holds = λ told table agrees h. second.holds told table agrees (first.holds (second.tells told) table (second.closes table agrees) h);
           goes = λ told table agrees h.
-              let a = first.goes told table (second.closes table agrees) h in
-              let b = second.goes (first.tells ∙ told) table agrees (first.holds told table (second.closes table agrees) h) in
+              let a = first.goes (second.tells told) table (second.closes table agrees) h in
+              let b = second.goes told table agrees (first.holds (second.tells told) table (second.closes table agrees) h) in
               record {
                 lines = λ output low. a.lines output low ∙ b.lines output (low-after output low);
                 drops = λ w low. a.drops w low
@@ -64,11 +65,11 @@ module _ {O : Type 0} (m : Meaning O) (valid : O → Type 0) where
               };
         }
 
-    pub prefix-after : (levels : LevelTable) (e2 : List Event) → ((table : ℕ → ℕ → ℕ) → Agrees levels table → Agrees f1.levels table)
-        → ShowsPrefix m p1 f1 levels e1 e2 → ShowsPrefix m p f levels e e2
-    prefix-after levels e2 closes pre = λ told table agrees h.
-        let a = first.goes told table (closes table agrees) h in
-        let b = pre (first.tells ∙ told) table agrees (first.holds told table (closes table agrees) h) in
+    pub prefix-after : (p2 : Option Pages) (levels : LevelTable) (e2 : List Event) → (Tells p2 → Tells p1) → ((table : ℕ → ℕ → ℕ) → Agrees levels table → Agrees f1.levels table)
+        → ShowsPrefix m p1 p2 f1 levels e1 e2 → ShowsPrefix m p p2 f levels e e2
+    prefix-after p2 levels e2 tells closes pre = λ told table agrees h.
+        let a = first.goes (tells told) table (closes table agrees) h in
+        let b = pre told table agrees (first.holds (tells told) table (closes table agrees) h) in
         record {
           lines = λ output low. rw (a.lines output low) (b.lines output (low-after output low));
           drops = λ w low. rw (a.drops w low)
@@ -83,7 +84,7 @@ module _ {O : Type 0} (m : Meaning O) (valid : O → Type 0) where
         }
 
     -- as much work is left in all as before
-    work-same : Tells p → (table : ℕ → ℕ → ℕ) → Agrees f1.levels table → HoldsItems m table (items_in f p) f
+    work-same : Tells p1 → (table : ℕ → ℕ → ℕ) → Agrees f1.levels table → HoldsItems m table (items_in f p) f
         → work_at_last m table (items_in f p) f ≡ work_at_last m table (items_in f1 p1) f1
     work-same told table agrees h =
         sum-same (fed_at_last m table (items_in f p) f) (fed_at_last m table (items_in f1 p1) f1) (length f.seats.items) ((first.goes told table agrees h).fed)
@@ -92,23 +93,24 @@ module _ {O : Type 0} (m : Meaning O) (valid : O → Type 0) where
     pub costs-after : (f2 : Flow O) (before mid after : ℕ) → CostsFed m f f1 before mid → CostsFed m f1 f2 mid after → CostsFed m f f2 before after
     costs-after f2 before mid after a b = omega (arith, a, b)
 
-    pub costs-most-after : (levels : LevelTable) (before mid after : ℕ) → ((table : ℕ → ℕ → ℕ) → Agrees levels table → Agrees f1.levels table)
-        → CostsFed m f f1 before mid → CostsAtMost m p1 f1 levels mid after → CostsAtMost m p f levels before after
-    costs-most-after levels before mid after closes a b = λ told table agrees h.
-        let same = work-same told table (closes table agrees) h in
-        let most = b (first.tells ∙ told) table agrees (first.holds told table (closes table agrees) h) in
+    pub costs-most-after : (p2 : Option Pages) (levels : LevelTable) (before mid after : ℕ) → (Tells p2 → Tells p1) → ((table : ℕ → ℕ → ℕ) → Agrees levels table → Agrees f1.levels table)
+        → CostsFed m f f1 before mid → CostsAtMost m p1 p2 f1 levels mid after → CostsAtMost m p p2 f levels before after
+    costs-most-after p2 levels before mid after tells closes a b = λ told table agrees h.
+        let same = work-same (tells told) table (closes table agrees) h in
+        let most = b told table agrees (first.holds (tells told) table (closes table agrees) h) in
         omega (arith, a, same, most)
 
-    pub too-much-after : (f2 : Flow O) (e2 : RunErr) → ((table : ℕ → ℕ → ℕ) → Agrees f2.levels table → Agrees f1.levels table) → TooMuchOnly m p1 f1 f2 e2 → TooMuchOnly m p f f2 e2
-    too-much-after f2 e2 closes only =
+    pub too-much-after : (p2 : Option Pages) (f2 : Flow O) (e2 : RunErr) → (Tells p2 → Tells p1) → ((table : ℕ → ℕ → ℕ) → Agrees f2.levels table → Agrees f1.levels table) → TooMuchOnly m p1 p2 f1 f2 e2 → TooMuchOnly m p p2 f f2 e2
+    too-much-after p2 f2 e2 tells closes only =
         record {
           counted = only.counted;
           turns = λ is told table agrees h.
-              rw ((first.goes told table (closes table agrees) h).turns) (only.turns is (first.tells ∙ told) table agrees (first.holds told table (closes table agrees) h));
+              rw ((first.goes (tells told) table (closes table agrees) h).turns) (only.turns is told table agrees (first.holds (tells told) table (closes table agrees) h));
         }
 
-    pub none-strange-after : (levels : LevelTable) (e2 : RunErr) → ((table : ℕ → ℕ → ℕ) → Agrees levels table → Agrees f1.levels table) → NoneStrange m p1 f1 levels e2 → NoneStrange m p f levels e2
-    none-strange-after levels e2 closes none = λ told table agrees h. none (first.tells ∙ told) table agrees (first.holds told table (closes table agrees) h)
+    pub none-strange-after : (was now : Bool) (levels : LevelTable) (e2 : RunErr) → now ≡ was → (now ≡ true → Tells p1) → ((table : ℕ → ℕ → ℕ) → Agrees levels table → Agrees f1.levels table)
+        → NoneStrange m now p1 f1 levels e2 → NoneStrange m was p f levels e2
+    none-strange-after was now levels e2 same tells closes none = λ honest table agrees h. none (same ∙ honest) table agrees (first.holds (tells (same ∙ honest)) table (closes table agrees) h)
 
 -- an operator that waits for an arc isn't ready
 pub waits-not-ready : {O : Type 0} (f : Flow O) (actor : ℕ)

@@ -1,5 +1,5 @@
 -- What an engine holds, and what each step keeps.
-use Rattle.std.specs.Prelude.{◌≡◌, ℕ, zero, suc, ◌+◌, ◌-◌, ◌^◌, ◌/◌, ◌≤◌, ◌<◌, true, List, [], ◌∷◌, ◌++◌, length, Option, Some, None, is_some, slice_get, slice_index, if◌then◌else◌}
+use Rattle.std.specs.Prelude.{◌≡◌, ℕ, zero, suc, ◌+◌, ◌-◌, ◌^◌, ◌/◌, ◌≤◌, ◌<◌, Bool, true, List, [], ◌∷◌, ◌++◌, length, Option, Some, None, slice_get, slice_index, if◌then◌else◌}
 use Rattle.sq_value.specs.declared.Tuple.{Tuple}
 use Rattle.sq_item.specs.declared.Item.{Item}
 use Rattle.sq_item.specs.Things.{spread_all}
@@ -14,8 +14,8 @@ use Rattle.std.specs.declared.alloc.Global.{Global}
 use Rattle.std.specs.declared.collections.VecDeque.{VecDeque}
 use Rattle.sq_left.specs.Left.{World, Facts, coming, inputs, still_dropped, lost_in_all, fed_in_all}
 use Rattle.sq_left.specs.Heads.{AllFine}
-use Rattle.sq_paged.specs.Fronts.{Tells}
-use Rattle.sq_queue.specs.Faces.{face, size, items_on, Together}
+use Rattle.sq_pool.specs.Trust.{Tells}
+use Rattle.sq_queue.specs.Faces.{face, size, frames, items_on, Together}
 use Rattle.sq_flow.specs.declared.seats.Seat.{Seat}
 use Rattle.sq_flow.specs.declared.flow.Flow.{Flow}
 use Rattle.sq_flow.specs.declared.errors.RunErr.{RunErr}
@@ -137,16 +137,17 @@ measure_of flow = count_all flow.sources.items + (2 ^ 62 - 1 - flow.taken) + (op
 pub record Stepped {O : Type 0} (m : Meaning O) (valid : O → Type 0) (was is : Option Pages) (flow flow' : Flow O) (events events' : List Event) : Type 0 where
   pub flow_after : IsFlow m valid flow'
   pub together : Together flow'.queues is
-  pub tells : is_some is ≡ is_some was
+  pub tells : Tells is → Tells was
   pub wires : flow'.wires ≡ flow.wires
+  pub framed : frames flow'.queues ≡ frames flow.queues
   pub seats : length flow'.seats.items ≡ length flow.seats.items
   pub closes : (table : ℕ → ℕ → ℕ) → Agrees flow'.levels table → Agrees flow.levels table
   pub shows : ShowsIn (length flow.seats.items - flow.wires.shown) (flow.wires.shown - flow.wires.sheds) events events'
   pub planner : flow'.planner ≡ flow.planner
   pub planned : (all : ℕ → List ℕ) → IsPlanned all flow → IsPlanned all flow'
   pub plans : plans_of events ++ plans_left flow ≡ plans_of events' ++ plans_left flow'
-  pub holds : Tells was → (table : ℕ → ℕ → ℕ) → Agrees flow'.levels table → HoldsItems m table (items_in flow was) flow → HoldsItems m table (items_in flow' is) flow'
-  pub goes : Tells was → (table : ℕ → ℕ → ℕ) → Agrees flow'.levels table → HoldsItems m table (items_in flow was) flow
+  pub holds : Tells is → (table : ℕ → ℕ → ℕ) → Agrees flow'.levels table → HoldsItems m table (items_in flow was) flow → HoldsItems m table (items_in flow' is) flow'
+  pub goes : Tells is → (table : ℕ → ℕ → ℕ) → Agrees flow'.levels table → HoldsItems m table (items_in flow was) flow
       → Goes m table (items_in flow was) (items_in flow' is) flow flow' events events'
 
 -- what was shown is a beginning of what was to be shown
@@ -157,13 +158,13 @@ pub record Begins {O : Type 0} (m : Meaning O) (table : ℕ → ℕ → ℕ) (it
       → IsPrefixOf (drops_of w events') (drops_of w events ++ decisions_left m table items flow (flow.wires.sheds + w))
 
 -- what a call that failed has shown
-abbrev pub ShowsPrefix : {O : Type 0} → Meaning O → Option Pages → Flow O → LevelTable → List Event → List Event → Type 0
-ShowsPrefix m was flow levels events events' =
-    Tells was → (table : ℕ → ℕ → ℕ) → Agrees levels table → HoldsItems m table (items_in flow was) flow → Begins m table (items_in flow was) flow events events'
+abbrev pub ShowsPrefix : {O : Type 0} → Meaning O → Option Pages → Option Pages → Flow O → LevelTable → List Event → List Event → Type 0
+ShowsPrefix m was is flow levels events events' =
+    Tells is → (table : ℕ → ℕ → ℕ) → Agrees levels table → HoldsItems m table (items_in flow was) flow → Begins m table (items_in flow was) flow events events'
 
--- and it names no item, where the disk tells its pages
-abbrev pub NoneStrange : {O : Type 0} → Meaning O → Option Pages → Flow O → LevelTable → RunErr → Type 0
-NoneStrange m was flow levels e = Tells was → (table : ℕ → ℕ → ℕ) → Agrees levels table → HoldsItems m table (items_in flow was) flow → NotStrange e
+-- and it names no item, where the disk is honest
+abbrev pub NoneStrange : {O : Type 0} → Meaning O → Bool → Option Pages → Flow O → LevelTable → RunErr → Type 0
+NoneStrange m honest was flow levels e = honest ≡ true → (table : ℕ → ℕ → ℕ) → Agrees levels table → HoldsItems m table (items_in flow was) flow → NotStrange e
 
 -- a step that does something lowers the measure
 abbrev pub Lowers : Did → ℕ → ℕ → Type 0
@@ -176,13 +177,13 @@ abbrev pub CostsFed : {O : Type 0} → Meaning O → Flow O → Flow O → ℕ �
 CostsFed m flow flow' before after = after + taken_in_all m flow ≡ before + taken_in_all m flow'
 
 -- a call that failed raises them by no more than is still to be fed
-abbrev pub CostsAtMost : {O : Type 0} → Meaning O → Option Pages → Flow O → LevelTable → ℕ → ℕ → Type 0
-CostsAtMost m was flow levels before after =
-    Tells was → (table : ℕ → ℕ → ℕ) → Agrees levels table → HoldsItems m table (items_in flow was) flow
+abbrev pub CostsAtMost : {O : Type 0} → Meaning O → Option Pages → Option Pages → Flow O → LevelTable → ℕ → ℕ → Type 0
+CostsAtMost m was is flow levels before after =
+    Tells is → (table : ℕ → ℕ → ℕ) → Agrees levels table → HoldsItems m table (items_in flow was) flow
     → after + taken_in_all m flow ≤ before + work_at_last m table (items_in flow was) flow
 
 -- too much is taken only where as much is to be taken in all, and where the next item would bring the count past its end
-pub record TooMuchOnly {O : Type 0} (m : Meaning O) (was : Option Pages) (flow flow' : Flow O) (e : RunErr) : Type 0 where
+pub record TooMuchOnly {O : Type 0} (m : Meaning O) (was is : Option Pages) (flow flow' : Flow O) (e : RunErr) : Type 0 where
   pub counted : e ≡ TooMuch → 2 ^ 62 ≤ flow'.taken + 2
-  pub turns : e ≡ TooMuch → Tells was → (table : ℕ → ℕ → ℕ) → Agrees flow'.levels table → HoldsItems m table (items_in flow was) flow
+  pub turns : e ≡ TooMuch → Tells is → (table : ℕ → ℕ → ℕ) → Agrees flow'.levels table → HoldsItems m table (items_in flow was) flow
       → 2 ^ 62 ≤ turns_at_last m table (items_in flow was) flow

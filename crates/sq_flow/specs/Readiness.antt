@@ -1,6 +1,6 @@
 -- Which actors are ready.
-use Rattle.std.specs.Prelude.{◌≡◌, ◌≢◌, ℕ, ◌+◌, ◌-◌, ◌^◌, ◌<◌, ◌≤◌, ◌&&◌, ◌||◌, Bool, true, false, not, length, map, min, sum, Some, is_some, slice_get, if◌then◌else◌}
-use Rattle.std.specs.List.{list_all}
+use Rattle.std.specs.Prelude.{◌≡◌, ◌≢◌, ℕ, ◌+◌, ◌-◌, ◌^◌, ◌<◌, ◌≤◌, ◌&&◌, ◌||◌, ◌==◌, Bool, true, false, not, length, map, min, sum, Some, is_some, slice_get, if◌then◌else◌}
+use Rattle.std.specs.List.{list_all, sum_by}
 use Rattle.sq_paged.specs.Fronts.{Face}
 use Rattle.sq_queue.specs.Faces.{face}
 use Rattle.sq_flow.specs.declared.flow.Flow.{Flow}
@@ -8,6 +8,7 @@ use Rattle.sq_flow.specs.declared.flow.Did.{Did}
 use Rattle.sq_flow.specs.declared.flow.Did.TheVariants.{Waits, Fed, Finished}
 use Rattle.sq_flow.specs.Wiring.{arcs_read, from_of, to_of}
 use Rattle.sq_flow.specs.Seats.{done_at}
+use Rattle.sq_flow.specs.Flows.{count_all}
 
 -- an item stands first on the arc, or the arc has ended
 abbrev pub stands : Face → Bool
@@ -35,6 +36,22 @@ pub record TouchesOnly {O : Type 0} (actor : ℕ) (flow flow' : Flow O) : Type 0
 -- how many items wait for an actor, as far as a u64 counts
 abbrev pub waiting : {O : Type 0} → Flow O → ℕ → ℕ
 waiting flow actor = min (2 ^ 64 - 1) (sum (map (λ arc. (face flow.queues arc).count) (arcs_read flow.wires actor)))
+
+-- how many items an actor may still take by itself: those that stand on the arcs that it reads, or what the replay has to release
+abbrev pub to_take : {O : Type 0} → Flow O → ℕ → ℕ
+to_take flow actor =
+    if actor == length flow.seats.items then count_all flow.sources.items else sum_by (λ arc. (face flow.queues arc).count) (arcs_read flow.wires actor)
+
+-- an actor took so many items, and then it is finished or not
+pub record Took {O : Type 0} (actor fed : ℕ) (finished : Bool) (flow flow' : Flow O) : Type 0 where
+  pub falls : to_take flow' actor + fed ≡ to_take flow actor
+  pub done : finished ≡ done_at flow'.over (slice_get flow'.seats.items actor)
+
+-- a step that feeds takes one item, and one that finishes an actor none
+abbrev pub TookBy : {O : Type 0} → ℕ → Did → Flow O → Flow O → Type 0
+TookBy actor Waits flow flow' = Unit {0}
+TookBy actor Fed flow flow' = Took actor 1 false flow flow'
+TookBy actor Finished flow flow' = Took actor 0 true flow flow'
 
 -- a fact of a step that waits
 abbrev pub WaitsOnly : Did → Type 0 → Type 0

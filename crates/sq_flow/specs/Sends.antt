@@ -5,8 +5,8 @@ use Rattle.sq_item.specs.Things.{Thing, spread, spread_all}
 use Rattle.sq_outside.specs.Disks.{Pages}
 use Rattle.sq_left.specs.Heads.{AllFine}
 use Rattle.sq_queue.specs.declared.Queues.{Queues}
-use Rattle.sq_paged.specs.Fronts.{Tells}
-use Rattle.sq_queue.specs.Faces.{face, size, items_on, Together}
+use Rattle.sq_pool.specs.Trust.{Tells}
+use Rattle.sq_queue.specs.Faces.{face, size, frames, items_on, Together}
 use Rattle.sq_flow.specs.declared.wires.Wires.{Wires}
 use Rattle.sq_flow.specs.Wiring.{arcs_from, from_of, times_in}
 
@@ -23,13 +23,14 @@ sent_to wires actor (out ∷ outs) arc = many (times_in arc (arcs_from wires act
 abbrev pub comes_from : Wires → ℕ → ℕ → Bool
 comes_from wires actor arc = from_of (slice_get wires.arcs.items arc) == actor
 
--- each arc gets more behind what stands there, no arc ends, none loses its first item, and those that aren't near stay as they are
+-- each arc gets more behind what stands there, as many pages are in memory at most, no arc ends, none loses its first item, and those that aren't near stay as they are
 pub record Pushes (before after : Queues) (was is : Option Pages) (more : ℕ → List Thing) (upto : ℕ → Type 0) (near : ℕ → Bool) : Type 0 where
   pub lanes : size after ≡ size before
-  pub tells : is_some is ≡ is_some was
+  pub framed : frames after ≡ frames before
+  pub tells : Tells is → Tells was
   pub together : Together after is
   pub ended : (arc : ℕ) → (face after arc).ended ≡ (face before arc).ended
   pub grows : (arc : ℕ) → is_some (face before arc).first ≡ true → is_some (face after arc).first ≡ true
   pub apart : (arc : ℕ) → near arc ≡ false → face after arc ≡ face before arc
-  pub items : Tells was → (arc : ℕ) → spread_all (items_on after is arc) ≡ spread_all (items_on before was arc) ++ more arc
-  pub fine : Tells was → (time : ℕ) → upto time → ((arc : ℕ) → AllFine time (items_on before was arc)) → (arc : ℕ) → AllFine time (items_on after is arc)
+  pub items : Tells is → (arc : ℕ) → spread_all (items_on after is arc) ≡ spread_all (items_on before was arc) ++ more arc
+  pub fine : Tells is → (time : ℕ) → upto time → ((arc : ℕ) → AllFine time (items_on before was arc)) → (arc : ℕ) → AllFine time (items_on after is arc)

@@ -36,7 +36,7 @@ abbrev pub body_fits : ℕ → Option (List Value) → Bool
 body_fits width None = true
 body_fits width (Some fields) = length fields == width
 
--- an error that may come over a disk that tells its pages
+-- an error that may come over an honest disk
 abbrev pub NotStrange : RunErr → Type 0
 NotStrange error.Disk = Unit {0}
 NotStrange (error.Garbled page kept got) = ⊥

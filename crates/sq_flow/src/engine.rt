@@ -1,12 +1,13 @@
 //! The engine: a flow with its ready list.
 
-ghost use Rattle.std.specs.Prelude.{◌≡◌, ◌⊎◌, ◌-◌, ◌^◌, ℕ, ◌+◌, ◌≤◌, ◌<◌, true, false, [], ◌∷◌, Option, OnOk, OnErr, IfOk, IfErr, is_some, length, map, slice_get};
+ghost use Rattle.std.specs.Prelude.{◌≡◌, ◌⊎◌, ◌-◌, ◌^◌, ℕ, ◌+◌, ◌≤◌, ◌<◌, true, false, [], ◌∷◌, Option, OnOk, OnErr, IfOk, IfErr, length, map, slice_get};
 ghost use Rattle.sq_road.specs.Levels.{Agrees};
 ghost use Rattle.sq_outside.specs.Disks.{Pages};
+ghost use Rattle.sq_pool.specs.Trust.{IsLater, known};
 ghost use Rattle.sq_queue.specs.Faces.{Together};
 ghost use Rattle.sq_sched.specs.Ready.{contains};
 ghost use Rattle.std.specs.List.{flat_map, range_with_len};
-ghost use Rattle.sq_value.specs.Lists.{numbers_to};
+ghost use Rattle.sq_value.specs.Lists.{IsPrefixOf, numbers_to};
 ghost use Rattle.sq_plan.specs.Shown.{shown_after};
 ghost use Rattle.sq_flow.specs.Engines.{place_in};
 
@@ -82,7 +83,7 @@ impl<O: Operator + Drop> Flow<O> {
         requires no_levels { levels.rows ≡ [] }
         requires frames { 2 ≤ frames }
         ensures flow { IfOk result (λ e. IsFlow (record { rest = O.rest; decides = O.decides; lost = O.lost; place = O.place; taken = O.taken; running = O.running; takes_marks = O.takes_marks; fits = O.fits; reads = O.reads }) O.valid e) }
-        ensures parts { IfOk result (λ e. IsNewFlow wires seats sources planner levels e) }
+        ensures parts { IfOk result (λ e. IsNewFlow wires seats sources planner levels frames e) }
         ensures planned { IfOk result (IsPlanned (arrivals levels.epoch (map (λ s. s.items) sources.items))) }
         ensures plans { IfOk result (λ e. plans_left e ≡ flat_map (shown_after planner (arrivals levels.epoch (map (λ s. s.items) sources.items))) (numbers_to (last_arrival levels.epoch (map (λ s. s.items) sources.items)))) }
     {
@@ -108,7 +109,7 @@ impl<O: Operator + Drop> Engine<O> {
     ghost use Rattle.sq_flow.specs.Flows.{IsFlow, Stepped, ShowsPrefix, NoneStrange, measure_of, HoldsItems, items_in, lines_left, decisions_left, fed_at_last, RiseFrom, tuples_at, CostsFed, CostsAtMost, TooMuchOnly, lost_at_last, work_at_last, taken_in_all};
     ghost use Rattle.sq_flow.specs.Plans.{PlansPrefix, IsPlanned, arrivals, last_arrival, plans_left};
     ghost use Rattle.sq_flow.specs.Causes.{IsCauseIn};
-    ghost use Rattle.sq_flow.specs.Readiness.{IsReady, FallsBy};
+    ghost use Rattle.sq_flow.specs.Readiness.{IsReady, FallsBy, Took};
     ghost use Rattle.sq_flow.specs.Engines.{IsEngine, HasRoom, Looked, AllDone, newly_ready, listed_after, readers_of};
     ghost use Rattle.sq_flow.specs.Seats.{taken_at, lost_at, holds_at};
     ghost use Rattle.sq_flow.specs.Starts.{IsNewSeat, IsNewFlow};
@@ -134,7 +135,7 @@ impl<O: Operator + Drop> Engine<O> {
         requires no_levels { levels.rows ≡ [] }
         requires frames { 2 ≤ frames }
         ensures engine { IfOk result (λ e. IsEngine (record { rest = O.rest; decides = O.decides; lost = O.lost; place = O.place; taken = O.taken; running = O.running; takes_marks = O.takes_marks; fits = O.fits; reads = O.reads }) O.valid e) }
-        ensures flow { IfOk result (λ e. IsNewFlow wires seats sources planner levels e.flow) }
+        ensures flow { IfOk result (λ e. IsNewFlow wires seats sources planner levels frames e.flow) }
         ensures planned { IfOk result (λ e. IsPlanned (arrivals levels.epoch (map (λ s. s.items) sources.items)) e.flow) }
         ensures plans { IfOk result (λ e. plans_left e.flow ≡ flat_map (shown_after planner (arrivals levels.epoch (map (λ s. s.items) sources.items))) (numbers_to (last_arrival levels.epoch (map (λ s. s.items) sources.items)))) }
         ensures order { IfOk result (λ e. e.ready.list ≡ newly_ready e.flow []) }
@@ -202,27 +203,29 @@ impl<O: Operator + Drop> Engine<O> {
         steps: &mut Steps<L>,
     ) -> Result<Progress, RunErr>
         requires engine { IsEngine (record { rest = O.rest; decides = O.decides; lost = O.lost; place = O.place; taken = O.taken; running = O.running; takes_marks = O.takes_marks; fits = O.fits; reads = O.reads }) O.valid self.old }
-        requires together { Together self.old.flow.queues (D.pages disk.old) }
+        requires together { Together self.old.flow.queues (known (D.log disk.old)) }
         requires ready { contains self.old.ready.list pick.actor ≡ true }
         requires some { 1 ≤ pick.train }
-        ensures ok { OnOk result (Stepped (record { rest = O.rest; decides = O.decides; lost = O.lost; place = O.place; taken = O.taken; running = O.running; takes_marks = O.takes_marks; fits = O.fits; reads = O.reads }) O.valid (D.pages disk.old) (D.pages disk.new) self.old.flow self.new.flow events.old.items events.new.items) }
+        ensures ok { OnOk result (Stepped (record { rest = O.rest; decides = O.decides; lost = O.lost; place = O.place; taken = O.taken; running = O.running; takes_marks = O.takes_marks; fits = O.fits; reads = O.reads }) O.valid (known (D.log disk.old)) (known (D.log disk.new)) self.old.flow self.new.flow events.old.items events.new.items) }
         ensures engine { OnOk result (IsEngine (record { rest = O.rest; decides = O.decides; lost = O.lost; place = O.place; taken = O.taken; running = O.running; takes_marks = O.takes_marks; fits = O.fits; reads = O.reads }) O.valid self.new) }
         ensures order { OnOk result (self.new.ready.list ≡ listed_after self.new.flow self.old.ready.list pick.actor) }
-        ensures prefix { OnErr result (ShowsPrefix (record { rest = O.rest; decides = O.decides; lost = O.lost; place = O.place; taken = O.taken; running = O.running; takes_marks = O.takes_marks; fits = O.fits; reads = O.reads }) (D.pages disk.old) self.old.flow self.new.flow.levels events.old.items events.new.items) }
+        ensures prefix { OnErr result (ShowsPrefix (record { rest = O.rest; decides = O.decides; lost = O.lost; place = O.place; taken = O.taken; running = O.running; takes_marks = O.takes_marks; fits = O.fits; reads = O.reads }) (known (D.log disk.old)) (known (D.log disk.new)) self.old.flow self.new.flow.levels events.old.items events.new.items) }
         ensures plans { OnErr result (PlansPrefix self.old.flow self.new.flow.levels events.old.items events.new.items) }
-        ensures strange { IfErr result (λ e. NoneStrange (record { rest = O.rest; decides = O.decides; lost = O.lost; place = O.place; taken = O.taken; running = O.running; takes_marks = O.takes_marks; fits = O.fits; reads = O.reads }) (D.pages disk.old) self.old.flow self.new.flow.levels e) }
+        ensures strange { IfErr result (λ e. NoneStrange (record { rest = O.rest; decides = O.decides; lost = O.lost; place = O.place; taken = O.taken; running = O.running; takes_marks = O.takes_marks; fits = O.fits; reads = O.reads }) (D.log disk.old).honest (known (D.log disk.old)) self.old.flow self.new.flow.levels e) }
         ensures cause { IfErr result (IsCauseIn self.new.flow (D.faults disk.old) (D.faults disk.new)) }
         ensures faults { D.faults disk.old ≤ D.faults disk.new }
-        ensures tells { is_some (D.pages disk.new) ≡ is_some (D.pages disk.old) }
+        ensures later { IsLater (D.log disk.old) (D.log disk.new) }
         ensures failed { OnErr result (self.new.failed ≡ true) }
         ensures closes { (table : ℕ → ℕ → ℕ) → Agrees self.new.flow.levels table → Agrees self.old.flow.levels table }
         ensures cost { OnOk result (CostsFed (record { rest = O.rest; decides = O.decides; lost = O.lost; place = O.place; taken = O.taken; running = O.running; takes_marks = O.takes_marks; fits = O.fits; reads = O.reads }) self.old.flow self.new.flow steps.old steps.new) }
-        ensures cost_err { OnErr result (CostsAtMost (record { rest = O.rest; decides = O.decides; lost = O.lost; place = O.place; taken = O.taken; running = O.running; takes_marks = O.takes_marks; fits = O.fits; reads = O.reads }) (D.pages disk.old) self.old.flow self.new.flow.levels steps.old steps.new) }
-        ensures too_much { IfErr result (λ e. TooMuchOnly (record { rest = O.rest; decides = O.decides; lost = O.lost; place = O.place; taken = O.taken; running = O.running; takes_marks = O.takes_marks; fits = O.fits; reads = O.reads }) (D.pages disk.old) self.old.flow self.new.flow e) }
+        ensures cost_err { OnErr result (CostsAtMost (record { rest = O.rest; decides = O.decides; lost = O.lost; place = O.place; taken = O.taken; running = O.running; takes_marks = O.takes_marks; fits = O.fits; reads = O.reads }) (known (D.log disk.old)) (known (D.log disk.new)) self.old.flow self.new.flow.levels steps.old steps.new) }
+        ensures too_much { IfErr result (λ e. TooMuchOnly (record { rest = O.rest; decides = O.decides; lost = O.lost; place = O.place; taken = O.taken; running = O.running; takes_marks = O.takes_marks; fits = O.fits; reads = O.reads }) (known (D.log disk.old)) (known (D.log disk.new)) self.old.flow self.new.flow e) }
         ensures measure { IfOk result (λ p. FallsBy p.fed p.finished (measure_of self.old.flow) (measure_of self.new.flow)) }
         ensures works { IfOk result (λ p. (p.fed ≡ 0) → p.finished ≡ true) }
         ensures most { IfOk result (λ p. p.fed ≤ pick.train) }
         ensures stops { IfOk result (λ p. (p.fed ≡ pick.train) ⊎ ((p.finished ≡ true) ⊎ (IsReady self.new.flow (place_in (length self.new.flow.seats.items) pick.actor) → ⊥))) }
+        ensures stay { IsPrefixOf events.old.items events.new.items }
+        ensures took { IfOk result (λ p. Took (place_in (length self.old.flow.seats.items) pick.actor) p.fed p.finished self.old.flow self.new.flow) }
     {
         let place = place_in(self.flow.wires.replay, pick.actor);
         self.ready.remove(pick.actor);

@@ -1,10 +1,12 @@
 //! The run of operators, one atomic step at a time.
 
-ghost use Rattle.std.specs.Prelude.{◌≡◌, ◌≢◌, ℕ, ◌+◌, ◌-◌, ◌^◌, ◌/◌, ◌<◌, ◌≤◌, ◌∷◌, ◌==◌, ◌||◌, true, false, List, [], Option, Some, None, OnOk, OnErr, IfErr, IfSome, is_some, length, slice_get, if◌then◌else◌};
+ghost use Rattle.sq_value.specs.Lists.{IsPrefixOf};
+ghost use Rattle.std.specs.Prelude.{◌≡◌, ◌≢◌, ℕ, ◌+◌, ◌-◌, ◌^◌, ◌/◌, ◌<◌, ◌≤◌, ◌∷◌, ◌==◌, ◌||◌, true, false, List, [], Option, Some, None, OnOk, OnErr, IfErr, IfSome, length, slice_get, if◌then◌else◌};
 ghost use Rattle.sq_oper.specs.declared.outs.Event.{Event};
 ghost use Rattle.sq_outside.specs.Disks.{Pages};
 ghost use Rattle.sq_road.specs.Levels.{Agrees};
-ghost use Rattle.sq_queue.specs.Faces.{face, size, items_on, Together};
+ghost use Rattle.sq_pool.specs.Trust.{IsLater, known};
+ghost use Rattle.sq_queue.specs.Faces.{face, size, frames, items_on, Together};
 ghost use Rattle.sq_flow.specs.Wiring.{from_of};
 ghost use Rattle.sq_flow.specs.Sends.{comes_from};
 ghost use Rattle.sq_flow.specs.Flows.{tuples_at};
@@ -91,6 +93,7 @@ fn end_if(queues: &mut Queues, arc: u32, ends: bool)
     ensures first { (other : ℕ) → (face queues.new other).first ≡ (face queues.old other).first }
     ensures items { (pages : Option Pages) (other : ℕ) → items_on queues.new pages other ≡ items_on queues.old pages other }
     ensures together { (pages : Option Pages) → Together queues.old pages → Together queues.new pages }
+    ensures frames { frames queues.new ≡ frames queues.old }
 {
     if ends {
         queues.end(arc);
@@ -107,6 +110,7 @@ fn end_arcs(wires: &Wires, queues: &mut Queues, actor: u32)
     ensures first { (arc : ℕ) → (face queues.new arc).first ≡ (face queues.old arc).first }
     ensures items { (pages : Option Pages) (arc : ℕ) → items_on queues.new pages arc ≡ items_on queues.old pages arc }
     ensures together { (pages : Option Pages) → Together queues.old pages → Together queues.new pages }
+    ensures frames { frames queues.new ≡ frames queues.old }
 {
     for arc in 0..wires.arcs.len() as u32 {
         end_if(queues, arc, wires.arc(arc).from == actor);
@@ -117,7 +121,7 @@ impl<O: Operator + Drop> Flow<O> {
     ghost use Rattle.sq_flow.specs.Flows.{IsFlow, Stepped, ShowsPrefix, NoneStrange, CostsFed, CostsAtMost, TooMuchOnly, taken_in_all, to_release, measure_of};
     ghost use Rattle.sq_flow.specs.Plans.{PlansPrefix};
     ghost use Rattle.sq_flow.specs.Causes.{IsCauseIn};
-    ghost use Rattle.sq_flow.specs.Readiness.{TouchesOnly};
+    ghost use Rattle.sq_flow.specs.Readiness.{TouchesOnly, Took};
     ghost use Rattle.sq_flow.specs.Wiring.{arcs_read};
     ghost use Rattle.sq_flow.specs.Heads.{NextUpTo};
     ghost use Rattle.sq_flow.specs.Seats.{done_at};
@@ -135,25 +139,27 @@ impl<O: Operator + Drop> Flow<O> {
         steps: &mut Steps<L>,
     ) -> Result<(), RunErr>
         requires flow { IsFlow (record { rest = O.rest; decides = O.decides; lost = O.lost; place = O.place; taken = O.taken; running = O.running; takes_marks = O.takes_marks; fits = O.fits; reads = O.reads }) O.valid self.old }
-        requires together { Together self.old.queues (D.pages disk.old) }
+        requires together { Together self.old.queues (known (D.log disk.old)) }
         requires actor_in { actor < length self.old.seats.items }
         requires head { (time : ℕ) × NextUpTo (arcs_read self.old.wires actor) (λ a. (face self.old.queues a).first) (λ a. (face self.old.queues a).ended) (length (arcs_read self.old.wires actor)) (Next.Feed time port arc) }
         requires running { done_at self.old.over (slice_get self.old.seats.items actor) ≡ false }
         requires none { (outs.old.items.items ≡ []) × (outs.old.drops.items ≡ []) }
-        ensures ok { OnOk result (Stepped (record { rest = O.rest; decides = O.decides; lost = O.lost; place = O.place; taken = O.taken; running = O.running; takes_marks = O.takes_marks; fits = O.fits; reads = O.reads }) O.valid (D.pages disk.old) (D.pages disk.new) self.old self.new events.old.items events.new.items) }
-        ensures prefix { OnErr result (ShowsPrefix (record { rest = O.rest; decides = O.decides; lost = O.lost; place = O.place; taken = O.taken; running = O.running; takes_marks = O.takes_marks; fits = O.fits; reads = O.reads }) (D.pages disk.old) self.old self.new.levels events.old.items events.new.items) }
+        ensures ok { OnOk result (Stepped (record { rest = O.rest; decides = O.decides; lost = O.lost; place = O.place; taken = O.taken; running = O.running; takes_marks = O.takes_marks; fits = O.fits; reads = O.reads }) O.valid (known (D.log disk.old)) (known (D.log disk.new)) self.old self.new events.old.items events.new.items) }
+        ensures prefix { OnErr result (ShowsPrefix (record { rest = O.rest; decides = O.decides; lost = O.lost; place = O.place; taken = O.taken; running = O.running; takes_marks = O.takes_marks; fits = O.fits; reads = O.reads }) (known (D.log disk.old)) (known (D.log disk.new)) self.old self.new.levels events.old.items events.new.items) }
         ensures plans { OnErr result (PlansPrefix self.old self.new.levels events.old.items events.new.items) }
-        ensures strange { IfErr result (λ e. NoneStrange (record { rest = O.rest; decides = O.decides; lost = O.lost; place = O.place; taken = O.taken; running = O.running; takes_marks = O.takes_marks; fits = O.fits; reads = O.reads }) (D.pages disk.old) self.old self.new.levels e) }
+        ensures strange { IfErr result (λ e. NoneStrange (record { rest = O.rest; decides = O.decides; lost = O.lost; place = O.place; taken = O.taken; running = O.running; takes_marks = O.takes_marks; fits = O.fits; reads = O.reads }) (D.log disk.old).honest (known (D.log disk.old)) self.old self.new.levels e) }
         ensures cause { IfErr result (IsCauseIn self.new (D.faults disk.old) (D.faults disk.new)) }
         ensures faults { D.faults disk.old ≤ D.faults disk.new }
-        ensures tells { is_some (D.pages disk.new) ≡ is_some (D.pages disk.old) }
+        ensures later { IsLater (D.log disk.old) (D.log disk.new) }
         ensures none { OnOk result ((outs.new.items.items ≡ []) × (outs.new.drops.items ≡ [])) }
         ensures touches { OnOk result (TouchesOnly actor self.old self.new) }
         ensures cost { OnOk result (CostsFed (record { rest = O.rest; decides = O.decides; lost = O.lost; place = O.place; taken = O.taken; running = O.running; takes_marks = O.takes_marks; fits = O.fits; reads = O.reads }) self.old self.new steps.old steps.new) }
-        ensures cost_err { OnErr result (CostsAtMost (record { rest = O.rest; decides = O.decides; lost = O.lost; place = O.place; taken = O.taken; running = O.running; takes_marks = O.takes_marks; fits = O.fits; reads = O.reads }) (D.pages disk.old) self.old self.new.levels steps.old steps.new) }
-        ensures too_much { IfErr result (λ e. TooMuchOnly (record { rest = O.rest; decides = O.decides; lost = O.lost; place = O.place; taken = O.taken; running = O.running; takes_marks = O.takes_marks; fits = O.fits; reads = O.reads }) (D.pages disk.old) self.old self.new e) }
+        ensures cost_err { OnErr result (CostsAtMost (record { rest = O.rest; decides = O.decides; lost = O.lost; place = O.place; taken = O.taken; running = O.running; takes_marks = O.takes_marks; fits = O.fits; reads = O.reads }) (known (D.log disk.old)) (known (D.log disk.new)) self.old self.new.levels steps.old steps.new) }
+        ensures too_much { IfErr result (λ e. TooMuchOnly (record { rest = O.rest; decides = O.decides; lost = O.lost; place = O.place; taken = O.taken; running = O.running; takes_marks = O.takes_marks; fits = O.fits; reads = O.reads }) (known (D.log disk.old)) (known (D.log disk.new)) self.old self.new e) }
         ensures closes { (table : ℕ → ℕ → ℕ) → Agrees self.new.levels table → Agrees self.old.levels table }
         ensures measure { OnOk result (measure_of self.new + 1 ≤ measure_of self.old) }
+        ensures stay { IsPrefixOf events.old.items events.new.items }
+        ensures took { OnOk result (Took actor 1 false self.old self.new) }
     {
         let at = self.wires.arc(arc);
         let place = self.seats[actor as usize].tally.place;
@@ -187,24 +193,26 @@ impl<O: Operator + Drop> Flow<O> {
         events: &mut Vec<Event>,
     ) -> Result<(), RunErr>
         requires flow { IsFlow (record { rest = O.rest; decides = O.decides; lost = O.lost; place = O.place; taken = O.taken; running = O.running; takes_marks = O.takes_marks; fits = O.fits; reads = O.reads }) O.valid self.old }
-        requires together { Together self.old.queues (D.pages disk.old) }
+        requires together { Together self.old.queues (known (D.log disk.old)) }
         requires actor_in { actor < length self.old.seats.items }
         requires head { NextUpTo (arcs_read self.old.wires actor) (λ a. (face self.old.queues a).first) (λ a. (face self.old.queues a).ended) (length (arcs_read self.old.wires actor)) Next.Ended }
         requires running { done_at self.old.over (slice_get self.old.seats.items actor) ≡ false }
         requires none { (outs.old.items.items ≡ []) × (outs.old.drops.items ≡ []) }
-        ensures ok { OnOk result (Stepped (record { rest = O.rest; decides = O.decides; lost = O.lost; place = O.place; taken = O.taken; running = O.running; takes_marks = O.takes_marks; fits = O.fits; reads = O.reads }) O.valid (D.pages disk.old) (D.pages disk.new) self.old self.new events.old.items events.new.items) }
-        ensures prefix { OnErr result (ShowsPrefix (record { rest = O.rest; decides = O.decides; lost = O.lost; place = O.place; taken = O.taken; running = O.running; takes_marks = O.takes_marks; fits = O.fits; reads = O.reads }) (D.pages disk.old) self.old self.new.levels events.old.items events.new.items) }
+        ensures ok { OnOk result (Stepped (record { rest = O.rest; decides = O.decides; lost = O.lost; place = O.place; taken = O.taken; running = O.running; takes_marks = O.takes_marks; fits = O.fits; reads = O.reads }) O.valid (known (D.log disk.old)) (known (D.log disk.new)) self.old self.new events.old.items events.new.items) }
+        ensures prefix { OnErr result (ShowsPrefix (record { rest = O.rest; decides = O.decides; lost = O.lost; place = O.place; taken = O.taken; running = O.running; takes_marks = O.takes_marks; fits = O.fits; reads = O.reads }) (known (D.log disk.old)) (known (D.log disk.new)) self.old self.new.levels events.old.items events.new.items) }
         ensures plans { OnErr result (PlansPrefix self.old self.new.levels events.old.items events.new.items) }
-        ensures strange { IfErr result (λ e. NoneStrange (record { rest = O.rest; decides = O.decides; lost = O.lost; place = O.place; taken = O.taken; running = O.running; takes_marks = O.takes_marks; fits = O.fits; reads = O.reads }) (D.pages disk.old) self.old self.new.levels e) }
+        ensures strange { IfErr result (λ e. NoneStrange (record { rest = O.rest; decides = O.decides; lost = O.lost; place = O.place; taken = O.taken; running = O.running; takes_marks = O.takes_marks; fits = O.fits; reads = O.reads }) (D.log disk.old).honest (known (D.log disk.old)) self.old self.new.levels e) }
         ensures cause { IfErr result (IsCauseIn self.new (D.faults disk.old) (D.faults disk.new)) }
         ensures faults { D.faults disk.old ≤ D.faults disk.new }
-        ensures tells { is_some (D.pages disk.new) ≡ is_some (D.pages disk.old) }
+        ensures later { IsLater (D.log disk.old) (D.log disk.new) }
         ensures memory { IfErr result (λ e. e ≢ RunErr.TooMuch) }
         ensures none { OnOk result ((outs.new.items.items ≡ []) × (outs.new.drops.items ≡ [])) }
         ensures touches { OnOk result (TouchesOnly actor self.old self.new) }
         ensures taken { OnOk result (taken_in_all (record { rest = O.rest; decides = O.decides; lost = O.lost; place = O.place; taken = O.taken; running = O.running; takes_marks = O.takes_marks; fits = O.fits; reads = O.reads }) self.new ≡ taken_in_all (record { rest = O.rest; decides = O.decides; lost = O.lost; place = O.place; taken = O.taken; running = O.running; takes_marks = O.takes_marks; fits = O.fits; reads = O.reads }) self.old) }
         ensures closes { (table : ℕ → ℕ → ℕ) → Agrees self.new.levels table → Agrees self.old.levels table }
         ensures measure { OnOk result (measure_of self.new + 1 ≤ measure_of self.old) }
+        ensures stay { IsPrefixOf events.old.items events.new.items }
+        ensures took { OnOk result (Took actor 0 true self.old self.new) }
     {
         finish_seat(&mut self.seats[actor as usize], outs)?;
         give(&self.wires, &mut self.queues, disk, actor, outs, events)?;
@@ -220,20 +228,22 @@ impl<O: Operator + Drop> Flow<O> {
         events: &mut Vec<Event>,
     ) -> Result<(), RunErr>
         requires flow { IsFlow (record { rest = O.rest; decides = O.decides; lost = O.lost; place = O.place; taken = O.taken; running = O.running; takes_marks = O.takes_marks; fits = O.fits; reads = O.reads }) O.valid self.old }
-        requires together { Together self.old.queues (D.pages disk.old) }
+        requires together { Together self.old.queues (known (D.log disk.old)) }
         requires next { IsNextSource self.old.sources.items source }
-        ensures ok { OnOk result (Stepped (record { rest = O.rest; decides = O.decides; lost = O.lost; place = O.place; taken = O.taken; running = O.running; takes_marks = O.takes_marks; fits = O.fits; reads = O.reads }) O.valid (D.pages disk.old) (D.pages disk.new) self.old self.new events.old.items events.new.items) }
-        ensures prefix { OnErr result (ShowsPrefix (record { rest = O.rest; decides = O.decides; lost = O.lost; place = O.place; taken = O.taken; running = O.running; takes_marks = O.takes_marks; fits = O.fits; reads = O.reads }) (D.pages disk.old) self.old self.new.levels events.old.items events.new.items) }
+        ensures ok { OnOk result (Stepped (record { rest = O.rest; decides = O.decides; lost = O.lost; place = O.place; taken = O.taken; running = O.running; takes_marks = O.takes_marks; fits = O.fits; reads = O.reads }) O.valid (known (D.log disk.old)) (known (D.log disk.new)) self.old self.new events.old.items events.new.items) }
+        ensures prefix { OnErr result (ShowsPrefix (record { rest = O.rest; decides = O.decides; lost = O.lost; place = O.place; taken = O.taken; running = O.running; takes_marks = O.takes_marks; fits = O.fits; reads = O.reads }) (known (D.log disk.old)) (known (D.log disk.new)) self.old self.new.levels events.old.items events.new.items) }
         ensures plans { OnErr result (PlansPrefix self.old self.new.levels events.old.items events.new.items) }
-        ensures strange { IfErr result (λ e. NoneStrange (record { rest = O.rest; decides = O.decides; lost = O.lost; place = O.place; taken = O.taken; running = O.running; takes_marks = O.takes_marks; fits = O.fits; reads = O.reads }) (D.pages disk.old) self.old self.new.levels e) }
+        ensures strange { IfErr result (λ e. NoneStrange (record { rest = O.rest; decides = O.decides; lost = O.lost; place = O.place; taken = O.taken; running = O.running; takes_marks = O.takes_marks; fits = O.fits; reads = O.reads }) (D.log disk.old).honest (known (D.log disk.old)) self.old self.new.levels e) }
         ensures cause { IfErr result (IsCauseIn self.new (D.faults disk.old) (D.faults disk.new)) }
         ensures faults { D.faults disk.old ≤ D.faults disk.new }
-        ensures tells { is_some (D.pages disk.new) ≡ is_some (D.pages disk.old) }
+        ensures later { IsLater (D.log disk.old) (D.log disk.new) }
         ensures memory { IfErr result (λ e. e ≢ RunErr.TooMuch) }
         ensures touches { OnOk result (TouchesOnly (length self.old.seats.items) self.old self.new) }
         ensures taken { OnOk result (taken_in_all (record { rest = O.rest; decides = O.decides; lost = O.lost; place = O.place; taken = O.taken; running = O.running; takes_marks = O.takes_marks; fits = O.fits; reads = O.reads }) self.new ≡ taken_in_all (record { rest = O.rest; decides = O.decides; lost = O.lost; place = O.place; taken = O.taken; running = O.running; takes_marks = O.takes_marks; fits = O.fits; reads = O.reads }) self.old) }
         ensures closes { (table : ℕ → ℕ → ℕ) → Agrees self.new.levels table → Agrees self.old.levels table }
         ensures measure { OnOk result (measure_of self.new + 1 ≤ measure_of self.old) }
+        ensures stay { IsPrefixOf events.old.items events.new.items }
+        ensures took { OnOk result (Took (length self.old.seats.items) 1 false self.old self.new) }
     {
         let tuple = first_of(&mut self.sources[source as usize]);
         self.clock = tuple.time;
@@ -266,6 +276,7 @@ impl<O: Operator + Drop> Flow<O> {
         ensures taken { taken_in_all (record { rest = O.rest; decides = O.decides; lost = O.lost; place = O.place; taken = O.taken; running = O.running; takes_marks = O.takes_marks; fits = O.fits; reads = O.reads }) self.new ≡ taken_in_all (record { rest = O.rest; decides = O.decides; lost = O.lost; place = O.place; taken = O.taken; running = O.running; takes_marks = O.takes_marks; fits = O.fits; reads = O.reads }) self.old }
         ensures closes { (table : ℕ → ℕ → ℕ) → Agrees self.new.levels table → Agrees self.old.levels table }
         ensures measure { measure_of self.new + 1 ≤ measure_of self.old }
+        ensures took { Took (length self.old.seats.items) 0 true self.old self.new }
     {
         let replay = self.wires.replay;
         self.over = true;

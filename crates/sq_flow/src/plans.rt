@@ -1,5 +1,6 @@
 //! What is closed before a tuple of a later epoch is released.
 
+ghost use Rattle.sq_value.specs.Lists.{IsPrefixOf};
 ghost use Rattle.std.specs.Prelude.{◌≡◌, ◌==◌, ℕ, ◌+◌, ◌-◌, ◌≤◌, ◌<◌, ◌++◌, ◌^◌, List, length, replicate, if◌then◌else◌, OnOk, OnErr, IfOk};
 ghost use Rattle.std.specs.List.{flat_map, range_with_len};
 ghost use Rattle.sq_road.specs.Levels.{level_of, Agrees};
@@ -32,6 +33,7 @@ fn show_plan(plan: Option<Shown>, events: &mut Vec<Event>) -> Result<(), AllocEr
     ensures lines { (o : ℕ) → lines_of o events.new.items ≡ lines_of o events.old.items }
     ensures drops { (w : ℕ) → drops_of w events.new.items ≡ drops_of w events.old.items }
     ensures within { (outputs drops : ℕ) → ShowsIn outputs drops events.old.items events.new.items }
+    ensures stay { IsPrefixOf events.old.items events.new.items }
 {
     if let Some(shown) = plan {
         events.push(Event::Plan {
@@ -70,6 +72,7 @@ pub(crate) fn close_before(
     ensures lines { (o : ℕ) → lines_of o events.new.items ≡ lines_of o events.old.items }
     ensures drops { (w : ℕ) → drops_of w events.new.items ≡ drops_of w events.old.items }
     ensures within { (outputs drops : ℕ) → ShowsIn outputs drops events.old.items events.new.items }
+    ensures stay { IsPrefixOf events.old.items events.new.items }
 {
     if next + 1 == levels.closed() {
         return Ok(());

@@ -1,12 +1,13 @@
 //! What an actor gives goes to the arcs that come from it, or is shown.
 
-ghost use Rattle.std.specs.Prelude.{◌≡◌, ◌==◌, if◌then◌else◌, ℕ, ◌+◌, ◌-◌, ◌<◌, ◌≤◌, ◌++◌, ◌∷◌, [], true, false, Some, OnOk, OnErr, IfErr, is_some, length, slice_get};
+ghost use Rattle.std.specs.Prelude.{◌≡◌, ◌==◌, if◌then◌else◌, ℕ, ◌+◌, ◌-◌, ◌<◌, ◌≤◌, ◌++◌, ◌∷◌, [], true, false, Some, OnOk, OnErr, IfErr, length, slice_get};
 ghost use Rattle.sq_sched.specs.Ready.{contains};
 ghost use Rattle.sq_value.specs.Lists.{IsPrefixOf};
 ghost use Rattle.sq_item.specs.Sound.{IsSound};
 ghost use Rattle.sq_item.specs.Things.{spread};
 ghost use Rattle.sq_oper.specs.Given.{given, ItemsSound};
-ghost use Rattle.sq_paged.specs.Fronts.{Tells};
+ghost use Rattle.sq_outside.specs.Disks.{Honest};
+ghost use Rattle.sq_pool.specs.Trust.{IsLater, known};
 ghost use Rattle.sq_queue.specs.Faces.{face, size, Together};
 ghost use Rattle.sq_flow.specs.Causes.{of_queue, IsQueueCause};
 ghost use Rattle.sq_flow.specs.Takes.{NotStrange};
@@ -35,12 +36,12 @@ fn send_item<D: PageDisk>(
 ) -> Result<(), QueueErr>
     requires there { (place arc : ℕ) → slice_get arcs.now place ≡ Some arc → (arc < size queues.old) × ((face queues.old arc).ended ≡ false) }
     requires sound { IsSound item }
-    requires together { Together queues.old (D.pages disk.old) }
-    ensures sent { OnOk result (Pushes queues.old queues.new (D.pages disk.old) (D.pages disk.new) (λ arc. many (times_in arc arcs.now) (spread item)) (λ time. item.time ≤ time) (λ arc. contains arcs.now arc)) }
+    requires together { Together queues.old (known (D.log disk.old)) }
+    ensures sent { OnOk result (Pushes queues.old queues.new (known (D.log disk.old)) (known (D.log disk.new)) (λ arc. many (times_in arc arcs.now) (spread item)) (λ time. item.time ≤ time) (λ arc. contains arcs.now arc)) }
     ensures cause { IfErr result (λ e. IsQueueCause queues.new (D.faults disk.old) (D.faults disk.new) (of_queue e)) }
-    ensures told { IfErr result (λ e. Tells (D.pages disk.old) → NotStrange (of_queue e)) }
+    ensures honest { IfErr result (λ e. Honest (D.log disk.old) → NotStrange (of_queue e)) }
     ensures faults { D.faults disk.old ≤ D.faults disk.new }
-    ensures tells { is_some (D.pages disk.new) ≡ is_some (D.pages disk.old) }
+    ensures later { IsLater (D.log disk.old) (D.log disk.new) }
 {
     let Some((last, others)) = arcs.split_last() else {
         return Ok(());
@@ -65,12 +66,12 @@ pub(crate) fn send_one<D: PageDisk>(
     requires within { actor < length wires.now.readers.items }
     requires there { (place arc : ℕ) → slice_get (arcs_from wires.now actor port) place ≡ Some arc → (arc < size queues.old) × ((face queues.old arc).ended ≡ false) }
     requires sound { IsSound item }
-    requires together { Together queues.old (D.pages disk.old) }
-    ensures sent { OnOk result (Pushes queues.old queues.new (D.pages disk.old) (D.pages disk.new) (λ arc. many (times_in arc (arcs_from wires.now actor port)) (spread item)) (λ time. item.time ≤ time) (λ arc. contains (arcs_from wires.now actor port) arc)) }
+    requires together { Together queues.old (known (D.log disk.old)) }
+    ensures sent { OnOk result (Pushes queues.old queues.new (known (D.log disk.old)) (known (D.log disk.new)) (λ arc. many (times_in arc (arcs_from wires.now actor port)) (spread item)) (λ time. item.time ≤ time) (λ arc. contains (arcs_from wires.now actor port) arc)) }
     ensures cause { IfErr result (λ e. IsQueueCause queues.new (D.faults disk.old) (D.faults disk.new) (of_queue e)) }
-    ensures told { IfErr result (λ e. Tells (D.pages disk.old) → NotStrange (of_queue e)) }
+    ensures honest { IfErr result (λ e. Honest (D.log disk.old) → NotStrange (of_queue e)) }
     ensures faults { D.faults disk.old ≤ D.faults disk.new }
-    ensures tells { is_some (D.pages disk.new) ≡ is_some (D.pages disk.old) }
+    ensures later { IsLater (D.log disk.old) (D.log disk.new) }
 {
     let rows = &wires.readers[actor as usize];
     if (port as usize) < rows.len() {
@@ -92,13 +93,13 @@ pub(crate) fn send_all<D: PageDisk>(
     requires there { (port place arc : ℕ) → slice_get (arcs_from wires.now actor port) place ≡ Some arc → (arc < size queues.old) × ((face queues.old arc).ended ≡ false) }
     requires joined { (port arc : ℕ) → contains (arcs_from wires.now actor port) arc ≡ true → comes_from wires.now actor arc ≡ true }
     requires sound { ItemsSound items.old.items }
-    requires together { Together queues.old (D.pages disk.old) }
-    ensures sent { OnOk result (Pushes queues.old queues.new (D.pages disk.old) (D.pages disk.new) (sent_to wires.now actor items.old.items) (λ time. AllOutsFine time items.old.items) (comes_from wires.now actor)) }
+    requires together { Together queues.old (known (D.log disk.old)) }
+    ensures sent { OnOk result (Pushes queues.old queues.new (known (D.log disk.old)) (known (D.log disk.new)) (sent_to wires.now actor items.old.items) (λ time. AllOutsFine time items.old.items) (comes_from wires.now actor)) }
     ensures none { OnOk result (items.new.items ≡ []) }
     ensures cause { IfErr result (λ e. IsQueueCause queues.new (D.faults disk.old) (D.faults disk.new) (of_queue e)) }
-    ensures told { IfErr result (λ e. Tells (D.pages disk.old) → NotStrange (of_queue e)) }
+    ensures honest { IfErr result (λ e. Honest (D.log disk.old) → NotStrange (of_queue e)) }
     ensures faults { D.faults disk.old ≤ D.faults disk.new }
-    ensures tells { is_some (D.pages disk.new) ≡ is_some (D.pages disk.old) }
+    ensures later { IsLater (D.log disk.old) (D.log disk.new) }
 {
     for (port, item) in items.drain(..) {
         send_one(wires, queues, disk, actor, port, item)?;
@@ -115,6 +116,7 @@ fn show_item(output: u32, item: Item, events: &mut Vec<Event>) -> Result<(), All
     ensures below { (outputs drops : ℕ) → output < outputs → ShowsIn outputs drops events.old.items events.new.items }
     ensures drops { (w : ℕ) → drops_of w events.new.items ≡ drops_of w events.old.items }
     ensures plans { plans_of events.new.items ≡ plans_of events.old.items }
+    ensures stay { IsPrefixOf events.old.items events.new.items }
 {
     let time = item.time;
     let body = item.body.get();
@@ -133,6 +135,7 @@ fn show_one(output: u32, port: u32, item: Item, events: &mut Vec<Event>) -> Resu
     ensures below { (outputs drops : ℕ) → output < outputs → ShowsIn outputs drops events.old.items events.new.items }
     ensures drops { (w : ℕ) → drops_of w events.new.items ≡ drops_of w events.old.items }
     ensures plans { plans_of events.new.items ≡ plans_of events.old.items }
+    ensures stay { IsPrefixOf events.old.items events.new.items }
 {
     if port == 0 {
         show_item(output, item, events)?;
@@ -153,6 +156,7 @@ pub(crate) fn show_all(
     ensures below { (outputs drops : ℕ) → output < outputs → ShowsIn outputs drops events.old.items events.new.items }
     ensures drops { (w : ℕ) → drops_of w events.new.items ≡ drops_of w events.old.items }
     ensures plans { plans_of events.new.items ≡ plans_of events.old.items }
+    ensures stay { IsPrefixOf events.old.items events.new.items }
 {
     for (port, item) in items.drain(..) {
         show_one(output, port, item, events)?;
@@ -167,6 +171,7 @@ fn show_drop(decision: Decision, events: &mut Vec<Event>) -> Result<(), AllocErr
     ensures lines { (o : ℕ) → lines_of o events.new.items ≡ lines_of o events.old.items }
     ensures plans { plans_of events.new.items ≡ plans_of events.old.items }
     ensures below { (outputs drops : ℕ) → decision.drop < drops → ShowsIn outputs drops events.old.items events.new.items }
+    ensures stay { IsPrefixOf events.old.items events.new.items }
 {
     events.push(Event::Dropped(decision))?;
     Ok(())
@@ -183,6 +188,7 @@ pub(crate) fn show_drops(
     ensures lines { (o : ℕ) → lines_of o events.new.items ≡ lines_of o events.old.items }
     ensures plans { plans_of events.new.items ≡ plans_of events.old.items }
     ensures below { (outputs drops : ℕ) → AllByRecursion (λ d. d.drop < drops) decisions.old.items → ShowsIn outputs drops events.old.items events.new.items }
+    ensures stay { IsPrefixOf events.old.items events.new.items }
 {
     for decision in decisions.drain(..) {
         show_drop(decision, events)?;
@@ -205,8 +211,8 @@ pub(crate) fn give<D: PageDisk>(
     requires there { (port place arc : ℕ) → slice_get (arcs_from wires.now actor port) place ≡ Some arc → (arc < size queues.old) × ((face queues.old arc).ended ≡ false) }
     requires joined { (port arc : ℕ) → contains (arcs_from wires.now actor port) arc ≡ true → comes_from wires.now actor arc ≡ true }
     requires sound { ItemsSound outs.old.items.items }
-    requires together { Together queues.old (D.pages disk.old) }
-    ensures sent { OnOk result (Pushes queues.old queues.new (D.pages disk.old) (D.pages disk.new) (sent_to wires.now actor outs.old.items.items) (λ time. AllOutsFine time outs.old.items.items) (comes_from wires.now actor)) }
+    requires together { Together queues.old (known (D.log disk.old)) }
+    ensures sent { OnOk result (Pushes queues.old queues.new (known (D.log disk.old)) (known (D.log disk.new)) (sent_to wires.now actor outs.old.items.items) (λ time. AllOutsFine time outs.old.items.items) (comes_from wires.now actor)) }
     ensures shown { OnOk result ((o : ℕ) → lines_of o events.new.items ≡ lines_of o events.old.items ++ bodies (pushed_by actor outs.old.items.items (wires.now.shown + o) 0)) }
     ensures drops { OnOk result ((w : ℕ) → drops_of w events.new.items ≡ drops_of w events.old.items ++ of_drop w outs.old.drops.items) }
     ensures none { OnOk result ((outs.new.items.items ≡ []) × (outs.new.drops.items ≡ [])) }
@@ -216,9 +222,10 @@ pub(crate) fn give<D: PageDisk>(
     ensures plans { plans_of events.new.items ≡ plans_of events.old.items }
     ensures drops_prefix { OnErr result ((w : ℕ) → IsPrefixOf (drops_of w events.new.items) (drops_of w events.old.items ++ of_drop w outs.old.drops.items)) }
     ensures cause { IfErr result (IsQueueCause queues.new (D.faults disk.old) (D.faults disk.new)) }
-    ensures told { IfErr result (λ e. Tells (D.pages disk.old) → NotStrange e) }
+    ensures honest { IfErr result (λ e. Honest (D.log disk.old) → NotStrange e) }
     ensures faults { D.faults disk.old ≤ D.faults disk.new }
-    ensures tells { is_some (D.pages disk.new) ≡ is_some (D.pages disk.old) }
+    ensures later { IsLater (D.log disk.old) (D.log disk.new) }
+    ensures stay { IsPrefixOf events.old.items events.new.items }
 {
     show_drops(&mut outs.drops, events)?;
     if wires.shown <= actor {

@@ -4,8 +4,10 @@ ghost use Rattle.std.specs.Prelude.{◌≡◌, ◌≢◌, ℕ, ◌+◌, ◌-◌,
 ghost use Rattle.sq_item.specs.declared.Item.{Item};
 ghost use Rattle.sq_item.specs.Sound.{IsSound};
 ghost use Rattle.sq_item.specs.Things.{spread};
-ghost use Rattle.sq_paged.specs.Fronts.{Tells};
-ghost use Rattle.sq_queue.specs.Faces.{face, size, items_on, Together};
+ghost use Rattle.sq_outside.specs.Disks.{Honest};
+ghost use Rattle.sq_pool.specs.Trust.{IsLater, Tells, known};
+ghost use Rattle.sq_paged.specs.Fronts.{IsPopped};
+ghost use Rattle.sq_queue.specs.Faces.{face, size, frames, items_on, Together};
 ghost use Rattle.sq_flow.specs.Causes.{IsQueueCause};
 ghost use Rattle.sq_flow.specs.Takes.{MayBeFed, may_stand, mark_fits, body_fits, NotStrange};
 
@@ -89,22 +91,24 @@ pub(crate) fn take_item<D: PageDisk>(
 ) -> Result<Item, RunErr>
     requires there { arc < size queues.old }
     requires some { is_some (face queues.old arc).first ≡ true }
-    requires together { Together queues.old (D.pages disk.old) }
+    requires together { Together queues.old (known (D.log disk.old)) }
     ensures sound { IfOk result IsSound }
     ensures may_be_fed { IfOk result (λ item. MayBeFed at port place clock item) }
     ensures ended { OnOk result ((other : ℕ) → (face queues.new other).ended ≡ (face queues.old other).ended) }
     ensures faces { (other : ℕ) → other ≢ arc → face queues.new other ≡ face queues.old other }
     ensures size { size queues.new ≡ size queues.old }
-    ensures items { IfOk result (λ item. Tells (D.pages disk.old) → items_on queues.old (D.pages disk.old) arc ≡ item ∷ items_on queues.new (D.pages disk.new) arc) }
-    ensures others { OnOk result (Tells (D.pages disk.old) → (other : ℕ) → other ≢ arc → items_on queues.new (D.pages disk.new) other ≡ items_on queues.old (D.pages disk.old) other) }
-    ensures together { OnOk result (Together queues.new (D.pages disk.new)) }
-    ensures tells { is_some (D.pages disk.new) ≡ is_some (D.pages disk.old) }
-    ensures strange { IfErr result (λ e. Tells (D.pages disk.old)
-        → ((item : Item) (more : List Item) → items_on queues.old (D.pages disk.old) arc ≡ item ∷ more → MayBeFed at port place clock item) → NotStrange e) }
+    ensures items { IfOk result (λ item. Tells (known (D.log disk.new)) → items_on queues.old (known (D.log disk.old)) arc ≡ item ∷ items_on queues.new (known (D.log disk.new)) arc) }
+    ensures others { OnOk result (Tells (known (D.log disk.new)) → (other : ℕ) → other ≢ arc → items_on queues.new (known (D.log disk.new)) other ≡ items_on queues.old (known (D.log disk.old)) other) }
+    ensures together { OnOk result (Together queues.new (known (D.log disk.new))) }
+    ensures later { IsLater (D.log disk.old) (D.log disk.new) }
+    ensures strange { IfErr result (λ e. Honest (D.log disk.old)
+        → ((item : Item) (more : List Item) → items_on queues.old (known (D.log disk.old)) arc ≡ item ∷ more → MayBeFed at port place clock item) → NotStrange e) }
     ensures memory { IfErr result (λ e. e ≢ RunErr.TooMuch) }
     ensures cause { IfErr result (λ e. IsQueueCause queues.new (D.faults disk.old) (D.faults disk.new) e
         ⊎ ((item : Item) × (e ≡ RunErr.Strange arc item) × ¬ (MayBeFed at port place clock item))) }
     ensures faults { D.faults disk.old ≤ D.faults disk.new }
+    ensures popped { OnOk result (IsPopped (face queues.old arc) (face queues.new arc)) }
+    ensures frames { OnOk result (frames queues.new ≡ frames queues.old) }
 {
     let item = queues.pop(disk, arc)?;
     if !may_be_fed(at, port, place, clock, &item) {

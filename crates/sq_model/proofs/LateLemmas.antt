@@ -75,11 +75,11 @@ late_other (Aggregate funcs group window) taken given other = refl
 late_other (Join size on) taken given other = refl
 late_other (Resample size funcs) taken given other = refl
 
-first_few : (stream : ℕ → List Tuple) (inputs : List ℕ) → length (nth (map stream inputs) 0) ≤ sum_by (λ s. length (stream s)) inputs
+pub first_few : (stream : ℕ → List Tuple) (inputs : List ℕ) → length (nth (map stream inputs) 0) ≤ sum_by (λ s. length (stream s)) inputs
 first_few stream [] = omega arith
 first_few stream (s ∷ inputs) = (let sum = sum_by-cons (λ s. length (stream s)) s inputs in omega (arith, sum))
 
-same_sum : (f g : ℕ → List Tuple) → ((s : ℕ) → f s ≡ g s) → (inputs : List ℕ) → sum_by (λ s. length (f s)) inputs ≡ sum_by (λ s. length (g s)) inputs
+pub same_sum : (f g : ℕ → List Tuple) → ((s : ℕ) → f s ≡ g s) → (inputs : List ℕ) → sum_by (λ s. length (f s)) inputs ≡ sum_by (λ s. length (g s)) inputs
 same_sum f g alike [] = refl
 same_sum f g alike (s ∷ inputs) =
     let here = ap (λ (xs : List Tuple). length xs) (alike s) in
@@ -89,7 +89,7 @@ same_sum f g alike (s ∷ inputs) =
     omega (arith, here, later, a, b)
 
 -- a BSort has one port
-bsort_gives : (n : Network) → IsSound n → (at by slack : ℕ) (b : Node) → slice_get n.boxes at ≡ Some b → b.body ≡ BSort by slack
+pub bsort_gives : (n : Network) → IsSound n → (at by slack : ℕ) (b : Node) → slice_get n.boxes at ≡ Some b → b.body ≡ BSort by slack
     → producer_of n.wires (stream_at n.wires at 0) ≡ Some (Port at 0)
 bsort_gives n sound at by slack b there is =
     producer_at n.wires at 0 w wired one

@@ -16,7 +16,6 @@ use sq_graph::{Giver, Wiring, given_by};
 use sq_qos::{Graph, GraphErr};
 use sq_value::{ListOf, Name, Schema};
 use std::alloc::AllocError;
-use thiserror::Error;
 
 /// A recorded stream: its name, the name of its file, and its schema.
 #[derive(Drop)]
@@ -120,26 +119,20 @@ impl Network {
 }
 
 /// A part of a network file.
-#[derive(Clone, Copy, Debug, PartialEq, Eq, Error)]
+#[derive(Clone, Copy, Debug, PartialEq, Eq)]
 pub enum Part {
     /// The file as a whole.
-    #[error("top")]
     Top,
-    #[error("source")]
     Source,
-    #[error("box")]
     Box,
-    #[error("output")]
     Output,
     /// A place where windows are dropped.
-    #[error("drop")]
     Drop,
 }
 
 /// Where a rule is broken: the part, its number, and a place in a list of it. Both count from 0, and where a rule names
 /// no list the item is 0.
-#[derive(Clone, Copy, Debug, PartialEq, Eq, Error)]
-#[error("{part} {number} {item}")]
+#[derive(Clone, Copy, Debug, PartialEq, Eq)]
 pub struct Place {
     pub part: Part,
     pub number: u32,
@@ -148,52 +141,37 @@ pub struct Place {
 
 /// Why a file is no network: the first broken rule, in this order but for the rules on boxes, which come box by box in
 /// the order in which the boxes are typed.
-#[derive(Clone, Copy, Debug, PartialEq, Eq, Error)]
+#[derive(Clone, Copy, Debug, PartialEq, Eq)]
 pub enum NetErr {
     /// The bytes are no TOML document.
-    #[error("Toml")]
     Toml,
     /// The version is absent or is neither 1 nor 2.
-    #[error("Version")]
     Version,
     /// A key is missing, unknown or of another kind.
-    #[error("Shape {0}")]
     Shape(Place),
     /// A number or a length is out of its limits.
-    #[error("Limit {0}")]
     Limit(Place),
     /// A name isn't of the form of names.
-    #[error("NoName {0}")]
     NoName(Place),
     /// A name stands a second time.
-    #[error("Twice {0}")]
     Twice(Place),
     /// There is no stream of this name.
-    #[error("Unknown {0}")]
     Unknown(Place),
     /// The box reaches itself.
-    #[error("Cycle {0}")]
     Cycle(Place),
     /// A window's size, advance and phase don't fit.
-    #[error("Window {0}")]
     Window(Place),
     /// The points are no quality graph.
-    #[error("Graph {0} {1}")]
     Graph(Place, GraphErr),
     /// A field's name or kind isn't what its place asks for.
-    #[error("Schema {0}")]
     Schema(Place),
     /// The text is no expression.
-    #[error("Expr {0} {1}")]
     Expr(Place, ParseErr),
     /// An expression's kind isn't what its place asks for.
-    #[error("Typing {0}")]
     Typing(Place),
     /// A field to group by isn't there or stands twice.
-    #[error("Group {0}")]
     Group(Place),
     /// Memory ran out.
-    #[error("Memory")]
     Memory,
 }
 

@@ -57,6 +57,13 @@ pub stands-behind : (n m : ℕ) (xs : List ℕ) → StandsIn n (xs ++ m ∷ []) 
 stands-behind n m [] h differ = elim h [ inl same ↦ absurd (differ same) | inr none ↦ absurd none ]
 stands-behind n m (x ∷ xs) h differ = elim h [ inl same ↦ inl same | inr more ↦ inr (stands-behind n m xs more differ) ]
 
+pub stands-before : (n m : ℕ) (xs : List ℕ) → StandsIn n xs → StandsIn n (xs ++ m ∷ [])
+stands-before n m [] h = absurd h
+stands-before n m (x ∷ xs) h = elim h [ inl same ↦ inl same | inr more ↦ inr (stands-before n m xs more) ]
+
+pub behind-first : (n m : ℕ) (xs : List ℕ) → StandsIn n (m ∷ xs) → n ≢ m → StandsIn n xs
+behind-first n m xs h differ = elim h [ inl same ↦ absurd (differ same) | inr more ↦ more ]
+
 pub head-is : (n : ℕ) (xs : List ℕ) → head_or xs None ≡ Some n → (rest : List ℕ) × (xs ≡ n ∷ rest)
 head-is n [] h = absurd cc
 head-is n (x ∷ xs) h = let is : x ≡ n = cc in (xs, ap (λ (m : ℕ). m ∷ xs) is)

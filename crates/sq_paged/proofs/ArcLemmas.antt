@@ -13,7 +13,7 @@ use Rattle.sq_paged.specs.declared.store.Kept.{Kept}
 use Rattle.sq_paged.specs.declared.Queues.{Queues}
 use Rattle.sq_paged.proofs.StoreLemmas.{spares-then}
 use Rattle.sq_paged.proofs.KeptLemmas.{appended-kept, taken-kept, taken-all, started-kept}
-use Rattle.sq_paged.proofs.AlongLemmas.{along-last, along-first, along-gone, along-more, last-stands, last-behind, stands-behind, kept-same, kept-other, count-same, count-more, count-last}
+use Rattle.sq_paged.proofs.AlongLemmas.{along-last, along-first, along-gone, along-more, last-stands, last-behind, stands-behind, stands-before, behind-first, kept-same, kept-other, count-same, count-more, count-last}
 use Rattle.sq_paged.proofs.TouchLemmas.{AreAlone, Touches, touch-items, touch-rest, change-touches}
 
 -- ---- an item behind the last of a page
@@ -56,6 +56,9 @@ start-touches q told r now arc node item g alone inside s =
       here = λ h. (started-kept q.pool told r.pool now (kept_at r.kept.items node) item s.page, refl);
       apart = λ l other h differ e. held-apart (is_held q.pool (kept_at q.kept.items other).page) (g.pages l other h).held (ap (λ (p : ℕ). is_held q.pool p) e ∙ s.page.fresh);
       alone = λ l away h. s.outside l h;
+      stays = λ other h differ. subst (λ (xs : List ℕ). StandsIn other xs) (sym here) (stands-before other node (nodes_on q arc) h);
+      had = λ l h. absurd (s.outside l h);
+      held = λ h. subst (λ (xs : List ℕ). StandsIn node xs) (sym here) (last-stands node (nodes_on q arc ++ node ∷ []) (last-behind node (nodes_on q arc)));
     }
 
 pub start-adds : (q : Queues) (told : Option Pages) (r : Queues) (now : Option Pages) (arc node : ℕ) (item : Item) → Together q told → AreAlone q → arc < length q.chains.lists → StartsAt q told r now arc node item → Adds q told r now arc node item
@@ -127,6 +130,9 @@ gone-touches q told m mid r now arc node item ys g alone inside first a d left =
       here = λ h. absurd (behind-off node (nodes_on q arc) ys (alone.once arc) first node (subst (λ (xs : List ℕ). StandsIn node xs) left h) refl);
       apart = λ l other h differ. g.apart l other arc node h s differ;
       alone = λ l away h. away (alone.one l arc node h s);
+      stays = λ other h differ. subst (λ (xs : List ℕ). StandsIn other xs) (sym left) (behind-first other node ys (subst (λ (xs : List ℕ). StandsIn other xs) first h) differ);
+      had = λ l h. refl;
+      held = λ h. absurd (held-apart (is_held r.pool (kept_at q.kept.items node).page) h (subst (λ (p : ℕ). is_held r.pool p ≡ false) page d.gone));
     }
 
 last-of-more : (n x : ℕ) (ys xs : List ℕ) → ys ≡ x ∷ xs → last_of ys ≡ last_of (n ∷ ys)
@@ -155,6 +161,6 @@ gone-removes q told m mid r now arc node item ys g alone inside first a none d =
           ap (λ (ns : List ℕ). items_along q.pool told q.kept.items ns) first
           ∙ along-gone (λ n. items_in q.pool told (kept_at q.kept.items n)) (λ n. items_in r.pool now (kept_at r.kept.items n)) item node ys
           (λ n h. touch-items q told r now arc node (kept_at q.kept.items node).page t tells arc n (stands n h) (off n h))
-          (taken-all q.pool told m.pool mid (kept_at q.kept.items node) a.after item a.page none tells)
+          (taken-all q.pool told m.pool mid (kept_at q.kept.items node) a.after item a.page none (d.spares.tells tells))
           ∙ ap (λ (ns : List ℕ). item ∷ items_along r.pool now r.kept.items ns) (sym left);
     }

@@ -9,7 +9,8 @@ use Rattle.sq_link.proofs.ListLemmas.{eqb-other}
 use Rattle.sq_link.specs.Chained.{StandsIn, head_or}
 use Rattle.sq_outside.specs.Disks.{Pages}
 use Rattle.sq_pool.specs.Pools.{Pooled}
-use Rattle.sq_paged.specs.Fronts.{Tells, Face, IsFaceOf, IsPopped, first_time, first_or, pushed}
+use Rattle.sq_pool.specs.Trust.{Tells}
+use Rattle.sq_paged.specs.Fronts.{Face, IsFaceOf, IsPopped, first_time, first_or, pushed}
 use Rattle.sq_paged.specs.Kept.{items_in}
 use Rattle.sq_paged.specs.Faces.{face, face_at, nodes_on, items_on, items_along, IsKept, IsLane, Together, kept_at, count_along, is_first, last_of, last_at, last_if}
 use Rattle.sq_paged.specs.Steps.{Adds, Removes}
@@ -48,7 +49,7 @@ pushed-together q told m now r arc node item lane new g a inside was lanes is la
       first = ap (λ (f : Face). is_some f.first) is ∙ some-first lane.first item.time ∙ sym (is-first-some new.count (omega (arith, more)));
       last = last ∙ sym a.last;
     }) (λ tells.
-    let f = g.faces tells arc in
+    let f = g.faces (a.rest.tells tells) arc in
     subst (λ (xs : List Item). IsFaceOf (face_at (Some new)) xs) (sym (a.items tells)) (record {
       count = omega (arith, more, wasc, f.count, length-append (items_on q told arc) (item ∷ []));
       first = ap (λ (x : Face). x.first) is ∙ ap (λ (o : Option Lane). first_or (face_at o).first item.time) (sym was) ∙ ap (λ (o : Option ℕ). first_or o item.time) f.first ∙ first-pushed (items_on q told arc) item;
@@ -95,11 +96,11 @@ popped-together q told m now r arc item lane new g p inside was lanes is =
     let front = front_of m.kept.items (nodes_on m arc) in
     let wasc : (face_at (slice_get q.lanes.items arc)).count ≡ lane.count = ap (λ (o : Option Lane). (face_at o).count) was in
     together-by q told m now r arc (popped lane front) g p.rest inside (lanes ∙ ap (λ (l : Lane). set q.lanes.items arc l) is) (popped-lane q told m now arc item lane g p was) (λ tells.
-    let f = g.faces tells arc in
+    let f = g.faces (p.rest.tells tells) arc in
     let long : length (items_on q told arc) ≡ suc (length (items_on m now arc)) = ap length (p.items tells) in
     record {
       count = omega (arith, wasc, f.count, long);
-      first = front-time m.pool now m.kept.items (nodes_on m arc) (λ node h. p.rest.pages arc node h) (p.rest.tells ∙ tells);
+      first = front-time m.pool now m.kept.items (nodes_on m arc) (λ node h. p.rest.pages arc node h) tells;
     })
 
 pub popped-face : (q : Queues) (told : Option Pages) (m : Queues) (now : Option Pages) (r : Queues) (arc : ℕ) (item : Item) (lane new : Lane) → Together q told → Removes q told m now arc item → arc < length q.lanes.items

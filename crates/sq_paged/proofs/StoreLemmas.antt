@@ -6,6 +6,7 @@ use Rattle.std.specs.FinMap as finite
 use Rattle.sq_outside.specs.Disks.{Pages}
 use Rattle.sq_pool.specs.Slots.{without_page, kept_at}
 use Rattle.sq_pool.specs.Pools.{Pooled, bytes_in, is_held, if_none, if_kept, Agree, HasRoom, with_bytes, loaded, Keeps, Makes, Drops, Brings, Touched, CameBack, IsMade, zeros, LetsGo}
+use Rattle.sq_pool.specs.Trust.{Tells}
 use Rattle.sq_link.proofs.ListLemmas.{eqb-same, eqb-other}
 use Rattle.sq_pool.proofs.MapLemmas.{bytes-other, bytes-gone, bytes-last, bytes-before, room-out}
 use Rattle.std.proofs.lemmas.List.{length-append}
@@ -16,7 +17,6 @@ use Rattle.sq_page.proofs.FitLemmas.{items-are-read}
 use Rattle.sq_page.proofs.PageLemmas.{many-room}
 use Rattle.sq_page.proofs.Takes.{some_is}
 use Rattle.sq_page.proofs.WholeTakes.{item_at_end, empty_page}
-use Rattle.sq_paged.specs.Fronts.{Tells}
 use Rattle.sq_paged.specs.Kept.{seen, FitsKept, IsFit, Brought, Written, Spares, Appended, Taken, Started, items_in, items_of}
 use Rattle.sq_paged.specs.declared.store.Kept.{Kept}
 
@@ -40,26 +40,25 @@ pub brings-known : (c : Pooled) (told : Option Pages) (d : Pooled) (now : Option
 brings-known c told d now p (Touched bytes had is same) q other b e =
     sym (bytes-other p q c.resident other) ∙ sym (bytes-before p q bytes (without_page p c.resident) other) ∙ sym (ap (λ (x : Pooled). bytes_in q x.resident) is) ∙ e
 brings-known c told d now p (CameBack digest out kept f) q other b e =
-    room-known c told f.mid now f.room q b (loaded-known f.mid d p f.bytes f.pool q other b e)
+    room-known c told f.mid f.between f.room q b (loaded-known f.mid d p f.bytes f.pool q other b e)
 
 -- the bytes of a page in a frame are those that are seen
 pub in-frame : (c : Pooled) (told : Option Pages) (p : ℕ) (b : List ℕ) → bytes_in p c.resident ≡ Some b → seen c told p ≡ Some b
 in-frame c None p b e = e
 in-frame c (Some t) p b e = ap (λ (o : Option (List ℕ)). if_none o (if_kept (kept_at c.kept p) (finite.get t p))) e
 
-known-by : (c : Pooled) (told : Option Pages) (d : Pooled) (now : Option Pages) → is_some now ≡ is_some told → Keeps c told d now → (q : ℕ) (b : List ℕ)
+known-by : (c : Pooled) (told : Option Pages) (d : Pooled) (now : Option Pages) → (Tells now → Tells told) → Keeps c told d now → (q : ℕ) (b : List ℕ)
     → (bytes_in q d.resident ≡ Some b → bytes_in q c.resident ≡ Some b) → seen d now q ≡ Some b → seen c told q ≡ Some b
-known-by c None d None tells k q b stays e = stays e
-known-by c None d (Some n) tells k q b stays e = absurd cc
-known-by c (Some t) d None tells k q b stays e = absurd cc
+known-by c told d None tells k q b stays e = in-frame c told q b (stays e)
+known-by c None d (Some n) tells k q b stays e = let no : false ≡ true = tells refl in absurd cc
 known-by c (Some t) d (Some n) tells k q b stays e = sym (k.pages q) ∙ e
 
-pub same-by : (c : Pooled) (told : Option Pages) (d : Pooled) (now : Option Pages) → is_some now ≡ is_some told → Keeps c told d now → Tells told → (q : ℕ) → seen d now q ≡ seen c told q
-same-by c None d now tells k t q = absurd cc
-same-by c (Some t) d None tells k s q = absurd cc
+pub same-by : (c : Pooled) (told : Option Pages) (d : Pooled) (now : Option Pages) → (Tells now → Tells told) → Keeps c told d now → Tells now → (q : ℕ) → seen d now q ≡ seen c told q
+same-by c told d None tells k t q = absurd cc
+same-by c None d (Some n) tells k t q = let no : false ≡ true = tells t in absurd cc
 same-by c (Some t) d (Some n) tells k s q = k.pages q
 
-pub brings-spares : (c : Pooled) (told : Option Pages) (d : Pooled) (now : Option Pages) (p : ℕ) → Brings c told d now p → Keeps c told d now → is_some now ≡ is_some told → Agree d now → d.frames ≡ c.frames
+pub brings-spares : (c : Pooled) (told : Option Pages) (d : Pooled) (now : Option Pages) (p : ℕ) → Brings c told d now p → Keeps c told d now → (Tells now → Tells told) → Agree d now → d.frames ≡ c.frames
     → Spares c told d now p
 brings-spares c told d now p brings k tells agree frames =
     record {
@@ -78,7 +77,7 @@ brings-there c told d now p (Touched bytes had is same) there = (bytes, ap (λ (
 brings-there c told d now p (CameBack digest out kept f) there = let no : false ≡ true = sym (ap (λ (o : Option (List ℕ)). is_some o) out) ∙ there in absurd cc
 
 -- a page that was in a frame was brought
-pub brought-there : (c : Pooled) (told : Option Pages) (d : Pooled) (now : Option Pages) (kept : Kept) → Brings c told d now kept.page → Keeps c told d now → is_some now ≡ is_some told → Agree d now → d.frames ≡ c.frames
+pub brought-there : (c : Pooled) (told : Option Pages) (d : Pooled) (now : Option Pages) (kept : Kept) → Brings c told d now kept.page → Keeps c told d now → (Tells now → Tells told) → Agree d now → d.frames ≡ c.frames
     → IsFit (seen c told kept.page) kept → is_held c kept.page ≡ true → is_some (bytes_in kept.page c.resident) ≡ true → Brought c told d now kept
 brought-there c told d now kept brings k tells agree frames fit held there =
     let b = brings-there c told d now kept.page brings there in
@@ -92,7 +91,7 @@ brought-there c told d now kept brings k tells agree frames fit held there =
     }
 
 -- a page that came back and passed the test was brought
-pub brought-back : (c : Pooled) (told : Option Pages) (d : Pooled) (now : Option Pages) (kept : Kept) → Brings c told d now kept.page → Keeps c told d now → is_some now ≡ is_some told → Agree d now → d.frames ≡ c.frames
+pub brought-back : (c : Pooled) (told : Option Pages) (d : Pooled) (now : Option Pages) (kept : Kept) → Brings c told d now kept.page → Keeps c told d now → (Tells now → Tells told) → Agree d now → d.frames ≡ c.frames
     → is_held c kept.page ≡ true → (b : List ℕ) → bytes_in kept.page d.resident ≡ Some b → FitsKept b kept → Brought c told d now kept
 brought-back c told d now kept brings k tells agree frames held b there fits =
     record {
@@ -104,9 +103,9 @@ brought-back c told d now kept brings k tells agree frames held b there fits =
       spares = brings-spares c told d now kept.page brings k tells agree frames;
     }
 
--- where the disk tells, what came back fits
-pub told-fits : (c : Pooled) (told : Option Pages) (d : Pooled) (now : Option Pages) (kept : Kept) → Keeps c told d now → is_some now ≡ is_some told → IsFit (seen c told kept.page) kept → (b : List ℕ) → bytes_in kept.page d.resident ≡ Some b
-    → Tells told → FitsKept b kept
+-- where the pages are known, what came back fits
+pub told-fits : (c : Pooled) (told : Option Pages) (d : Pooled) (now : Option Pages) (kept : Kept) → Keeps c told d now → (Tells now → Tells told) → IsFit (seen c told kept.page) kept → (b : List ℕ) → bytes_in kept.page d.resident ≡ Some b
+    → Tells now → FitsKept b kept
 told-fits c told d now kept k tells fit b there t = fit b (sym (same-by c told d now tells k t kept.page) ∙ in-frame d now kept.page b there)
 
 pub on-ok : {A E P Q : Type 0} (r : Result A E) → (P → Q) → OnOk r P → OnOk r Q
@@ -156,7 +155,7 @@ rewritten-written c told p b w there agree =
         known = λ q other b e. sym (seen-other c told p q w other) ∙ e;
         same = λ t q other. seen-other c told p q w other;
         held = λ q other. ap (λ (o : Option (List ℕ)). is_some o || is_some (kept_at c.kept q)) (with-other p q w c.resident other);
-        tells = refl;
+        tells = λ t. t;
         agree = agree-rewritten c told p w agree;
         frames = refl;
       };
@@ -166,9 +165,9 @@ pub spares-then : (c : Pooled) (told : Option Pages) (d : Pooled) (now : Option 
 spares-then c told d now e end p a b =
     record {
       known = λ q other bytes is. a.known q other bytes (b.known q other bytes is);
-      same = λ t q other. b.same (a.tells ∙ t) q other ∙ a.same t q other;
+      same = λ t q other. b.same t q other ∙ a.same (b.tells t) q other;
       held = λ q other. b.held q other ∙ a.held q other;
-      tells = b.tells ∙ a.tells;
+      tells = λ t. a.tells (b.tells t);
       agree = b.agree;
       frames = b.frames ∙ a.frames;
     }
@@ -331,17 +330,16 @@ made-known c told d now p m q other b e =
       | inr more ↦ sym (ap (λ (x : Pooled). bytes_in q x.resident) more) ∙ start
     ]
 
-made-same : (c : Pooled) (told : Option Pages) (d : Pooled) (now : Option Pages) (p : ℕ) → is_some now ≡ is_some told → Makes c told d now p → Tells told → (q : ℕ) → q ≢ p → seen d now q ≡ seen c told q
-made-same c None d now p tells k t q other = absurd cc
-made-same c (Some t) d None p tells k s q other = absurd cc
+made-same : (c : Pooled) (told : Option Pages) (d : Pooled) (now : Option Pages) (p : ℕ) → (Tells now → Tells told) → Makes c told d now p → Tells now → (q : ℕ) → q ≢ p → seen d now q ≡ seen c told q
+made-same c told d None p tells k t q other = absurd cc
+made-same c None d (Some n) p tells k t q other = let no : false ≡ true = tells t in absurd cc
 made-same c (Some t) d (Some n) p tells k s q other = rw (eqb-other q p other) at (k.pages q)
 
-made-seen : (c : Pooled) (told : Option Pages) (d : Pooled) (now : Option Pages) (p : ℕ) → is_some now ≡ is_some told → IsMade c told d now p → Makes c told d now p → (q : ℕ) → q ≢ p → (b : List ℕ) → seen d now q ≡ Some b → seen c told q ≡ Some b
-made-seen c None d None p tells m k q other b e = made-known c None d None p m q other b e
-made-seen c None d (Some n) p tells m k q other b e = absurd cc
-made-seen c (Some t) d now p tells m k q other b e = sym (made-same c (Some t) d now p tells k refl q other) ∙ e
+made-seen : (c : Pooled) (told : Option Pages) (d : Pooled) (now : Option Pages) (p : ℕ) → (Tells now → Tells told) → IsMade c told d now p → Makes c told d now p → (q : ℕ) → q ≢ p → (b : List ℕ) → seen d now q ≡ Some b → seen c told q ≡ Some b
+made-seen c told d None p tells m k q other b e = in-frame c told q b (made-known c told d None p m q other b e)
+made-seen c told d (Some n) p tells m k q other b e = sym (made-same c told d (Some n) p tells k refl q other) ∙ e
 
-made-spares : (c : Pooled) (told : Option Pages) (d : Pooled) (now : Option Pages) (p : ℕ) → is_some now ≡ is_some told → IsMade c told d now p → Makes c told d now p → Agree d now → d.frames ≡ c.frames → Spares c told d now p
+made-spares : (c : Pooled) (told : Option Pages) (d : Pooled) (now : Option Pages) (p : ℕ) → (Tells now → Tells told) → IsMade c told d now p → Makes c told d now p → Agree d now → d.frames ≡ c.frames → Spares c told d now p
 made-spares c told d now p tells m k agree frames =
     record {
       known = made-seen c told d now p tells m k;
@@ -364,7 +362,7 @@ pub zeros-end : (bytes : List ℕ) → ◌≡◌ {A = Option (List ℕ)} (Some z
 zeros-end bytes e = ([], empty_page bytes (sym (some_is _ _ e)), refl)
 
 pub started : (c : Pooled) (told : Option Pages) (d : Pooled) (now : Option Pages) (e : Pooled) (kept : Kept) (item : Item) (w : List ℕ) (end : ℕ)
-    → is_some now ≡ is_some told → IsMade c told d now kept.page → Makes c told d now kept.page → Agree d now → d.frames ≡ c.frames → e ≡ rewritten d kept.page w
+    → (Tells now → Tells told) → IsMade c told d now kept.page → Makes c told d now kept.page → Agree d now → d.frames ≡ c.frames → e ≡ rewritten d kept.page w
     → ((before : List ℕ) (items : List Item) → bytes_in kept.page d.resident ≡ Some before → IsPageOf before items → 2 ≡ end_of items → IsPageOf w (items ++ item ∷ []))
     → end ≡ 2 + length (item_bytes item) → kept ≡ record { page = kept.page; start = 2; count = 1; end = end; time = item.time } → Started c told e now kept item
 started c told d now e kept item w end tells m k agree frames pool page ends is =
@@ -393,17 +391,20 @@ started c told d now e kept item w end tells m k agree frames pool page ends is 
 
 -- ---- a page is let go
 
-gone-same : (c : Pooled) (told : Option Pages) (d : Pooled) (now : Option Pages) (p : ℕ) → is_some now ≡ is_some told → Drops c told d now p → Tells told → (q : ℕ) → q ≢ p → seen d now q ≡ seen c told q
-gone-same c None d now p tells k t q other = absurd cc
-gone-same c (Some t) d None p tells k s q other = absurd cc
+gone-same : (c : Pooled) (told : Option Pages) (d : Pooled) (now : Option Pages) (p : ℕ) → (Tells now → Tells told) → Drops c told d now p → Tells now → (q : ℕ) → q ≢ p → seen d now q ≡ seen c told q
+gone-same c told d None p tells k t q other = absurd cc
+gone-same c None d (Some n) p tells k t q other = let no : false ≡ true = tells t in absurd cc
 gone-same c (Some t) d (Some n) p tells k s q other = rw (eqb-other q p other) at (k.pages q)
 
-gone-seen : (c : Pooled) (told : Option Pages) (d : Pooled) (now : Option Pages) (p : ℕ) → is_some now ≡ is_some told → LetsGo c d p → Drops c told d now p → (q : ℕ) → q ≢ p → (b : List ℕ) → seen d now q ≡ Some b → seen c told q ≡ Some b
-gone-seen c None d None p tells l k q other b e = sym (rw (eqb-other q p other) at (l.bytes q)) ∙ e
-gone-seen c None d (Some n) p tells l k q other b e = absurd cc
-gone-seen c (Some t) d now p tells l k q other b e = sym (gone-same c (Some t) d now p tells k refl q other) ∙ e
+gone-seen : (c : Pooled) (told : Option Pages) (d : Pooled) (now : Option Pages) (p : ℕ) → (Tells now → Tells told) → LetsGo c d p → Drops c told d now p → (q : ℕ) → q ≢ p → (b : List ℕ) → seen d now q ≡ Some b → seen c told q ≡ Some b
+gone-seen c told d None p tells l k q other b e = in-frame c told q b (sym (rw (eqb-other q p other) at (l.bytes q)) ∙ e)
+gone-seen c told d (Some n) p tells l k q other b e = sym (gone-same c told d (Some n) p tells k refl q other) ∙ e
 
-pub gone-spares : (c : Pooled) (told : Option Pages) (d : Pooled) (now : Option Pages) (p : ℕ) → is_some now ≡ is_some told → LetsGo c d p → Drops c told d now p → Agree d now → d.frames ≡ c.frames → Spares c told d now p
+-- no page is there that was let go
+pub gone-held : (c : Pooled) (told : Option Pages) (d : Pooled) (now : Option Pages) (p : ℕ) → Drops c told d now p → is_held d p ≡ false
+gone-held c told d now p k = rw (eqb-same p) at (k.numbers p)
+
+pub gone-spares : (c : Pooled) (told : Option Pages) (d : Pooled) (now : Option Pages) (p : ℕ) → (Tells now → Tells told) → LetsGo c d p → Drops c told d now p → Agree d now → d.frames ≡ c.frames → Spares c told d now p
 gone-spares c told d now p tells l k agree frames =
     record {
       known = gone-seen c told d now p tells l k;

@@ -1,11 +1,11 @@
 -- New queues stand together with every disk.
-use Rattle.std.proofs.Common.{◌≡◌, ℕ, zero, suc, false, List, [], Option, None, length, refl, sym, ap, subst, ◌∙◌}
+use Rattle.std.proofs.Common.{◌≡◌, ℕ, zero, suc, true, false, List, [], Option, None, length, refl, sym, ap, subst, ◌∙◌}
 use Rattle.std.specs.Prelude.{replicate, slice_get}
 use Rattle.std.proofs.lemmas.List.{length-replicate}
 use Rattle.sq_item.specs.declared.Item.{Item}
 use Rattle.sq_link.specs.Chained.{list_at, StandsIn}
 use Rattle.sq_outside.specs.Disks.{Pages}
-use Rattle.sq_pool.specs.Pools.{Agree}
+use Rattle.sq_pool.specs.Pools.{is_held, Agree}
 use Rattle.sq_paged.specs.Fronts.{Face, IsFaceOf}
 use Rattle.sq_paged.specs.Faces.{face_at, face, nodes_on, items_on, items_along, IsLane, Together, no_items}
 use Rattle.sq_paged.specs.declared.store.Kept.{Kept}
@@ -36,8 +36,8 @@ none-stands xs node e h = subst (λ (ys : List ℕ). StandsIn node ys) e h
 pub new-items : (q : Queues) (arcs : ℕ) (told : Option Pages) (arc : ℕ) → q.chains.lists ≡ replicate arcs [] → items_on q told arc ≡ []
 new-items q arcs told arc lists = ap (λ (ls : List (List ℕ)). items_along q.pool told q.kept.items (list_at ls arc)) lists ∙ ap (λ (xs : List ℕ). items_along q.pool told q.kept.items xs) (none-listed arcs arc)
 
-pub new-together : (q : Queues) (arcs : ℕ) (told : Option Pages) → Agree q.pool told → q.chains.lists ≡ replicate arcs [] → q.chains.nodes ≡ 0 → q.kept.items ≡ [] → q.lanes.items ≡ replicate arcs no_items → Together q told
-new-together q arcs told agree lists nodes kept lanes =
+pub new-together : (q : Queues) (arcs : ℕ) (told : Option Pages) → Agree q.pool told → ((page : ℕ) → is_held q.pool page ≡ false) → q.chains.lists ≡ replicate arcs [] → q.chains.nodes ≡ 0 → q.kept.items ≡ [] → q.lanes.items ≡ replicate arcs no_items → Together q told
+new-together q arcs told agree held lists nodes kept lanes =
     let none : (arc : ℕ) → nodes_on q arc ≡ [] = λ arc. ap (λ (ls : List (List ℕ)). list_at ls arc) lists ∙ none-listed arcs arc in
     let empty : (arc : ℕ) → face q arc ≡ no_face = λ arc. ap (λ (ls : List Lane). face_at (slice_get ls arc)) lanes ∙ none-face arcs arc in
     record {
@@ -49,6 +49,7 @@ new-together q arcs told agree lists nodes kept lanes =
           (subst (λ (xs : List ℕ). IsLane (slice_get (replicate arcs no_items) arc) q.kept.items xs) (sym (none arc)) (none-lane arcs arc q.kept.items));
       pages = λ arc node h. absurd (none-stands (nodes_on q arc) node (none arc) h);
       apart = λ arc node other_arc other h k differ. absurd (none-stands (nodes_on q arc) node (none arc) h);
+      standing = λ page h. let no : false ≡ true = sym (held page) ∙ h in absurd cc;
       faces = λ t arc.
           subst (λ (f : Face). IsFaceOf f (items_on q told arc)) (sym (empty arc))
           (subst (λ (xs : List Item). IsFaceOf no_face xs) (sym (new-items q arcs told arc lists)) (record { count = refl; first = refl }));

@@ -1,14 +1,16 @@
 -- Queues after the pages of one arc changed, at one node.
-use Rattle.std.proofs.Common.{◌≡◌, ◌≢◌, ℕ, suc, ◌<◌, List, Option, Some, length, sym, ap, subst, ◌∙◌, inl, inr, arith}
+use Rattle.std.proofs.Common.{◌≡◌, ◌≢◌, ℕ, suc, ◌<◌, true, List, Option, Some, length, refl, sym, ap, subst, ◌∙◌, inl, inr, arith}
 use Rattle.std.proofs.Math.ListN.{set, length-set}
 use Rattle.std.proofs.lemmas.Bool.{cases_eq}
 use Rattle.std.specs.Prelude.{slice_get}
 use Rattle.sq_item.specs.declared.Item.{Item}
 use Rattle.sq_link.specs.Chained.{Chained, list_at, StandsIn, Apart, IsSound}
 use Rattle.sq_outside.specs.Disks.{Pages}
-use Rattle.sq_paged.specs.Fronts.{Tells, Face, IsFaceOf}
+use Rattle.sq_pool.specs.Pools.{is_held}
+use Rattle.sq_pool.specs.Trust.{Tells}
+use Rattle.sq_paged.specs.Fronts.{Face, IsFaceOf}
 use Rattle.sq_paged.specs.Kept.{items_in, Spares}
-use Rattle.sq_paged.specs.Faces.{face, face_at, nodes_on, items_on, items_along, IsKept, IsLane, Together, kept_at}
+use Rattle.sq_paged.specs.Faces.{face, face_at, nodes_on, items_on, items_along, IsKept, IsLane, IsOfNode, Together, kept_at}
 use Rattle.sq_paged.specs.Steps.{KeepsOthers}
 use Rattle.sq_paged.specs.declared.Lane.{Lane}
 use Rattle.sq_paged.specs.declared.store.Kept.{Kept}
@@ -41,6 +43,9 @@ pub record Touches (q : Queues) (told : Option Pages) (r : Queues) (now : Option
   pub here : StandsIn node (nodes_on r arc) → IsKept r.pool now (kept_at r.kept.items node) × ((kept_at r.kept.items node).page ≡ page)
   pub apart : (l other : ℕ) → StandsIn other (nodes_on q l) → other ≢ node → (kept_at q.kept.items other).page ≢ page
   pub alone : (l : ℕ) → l ≢ arc → StandsIn node (nodes_on q l) → ⊥
+  pub stays : (other : ℕ) → StandsIn other (nodes_on q arc) → other ≢ node → StandsIn other (nodes_on r arc)
+  pub had : (l : ℕ) → StandsIn node (nodes_on q l) → (kept_at q.kept.items node).page ≡ page
+  pub held : is_held r.pool page ≡ true → StandsIn node (nodes_on r arc)
 
 -- another node stood there before
 touch-stays : (q : Queues) (told : Option Pages) (r : Queues) (now : Option Pages) (arc node page : ℕ) → Touches q told r now arc node page → (l other : ℕ) → StandsIn other (nodes_on r l) → other ≢ node → StandsIn other (nodes_on q l)
@@ -80,7 +85,7 @@ touch-pages q told r now arc node page g t l other h =
     ]
 
 -- the items of another node stay
-pub touch-items : (q : Queues) (told : Option Pages) (r : Queues) (now : Option Pages) (arc node page : ℕ) → Touches q told r now arc node page → Tells told → (l other : ℕ) → StandsIn other (nodes_on q l) → other ≢ node
+pub touch-items : (q : Queues) (told : Option Pages) (r : Queues) (now : Option Pages) (arc node page : ℕ) → Touches q told r now arc node page → Tells now → (l other : ℕ) → StandsIn other (nodes_on q l) → other ≢ node
     → items_in r.pool now (kept_at r.kept.items other) ≡ items_in q.pool told (kept_at q.kept.items other)
 touch-items q told r now arc node page t tells l other h differ =
     ap (λ (k : Kept). items_in r.pool now k) (t.kept l other h differ) ∙ spared-items q.pool told r.pool now page (kept_at q.kept.items other) t.spares (t.apart l other h differ) tells
@@ -89,7 +94,7 @@ touch-items q told r now arc node page t tells l other h differ =
 touch-away : (q : Queues) (told : Option Pages) (r : Queues) (now : Option Pages) (arc node page : ℕ) → Touches q told r now arc node page → (l : ℕ) → l ≢ arc → (n : ℕ) → StandsIn n (nodes_on q l) → n ≢ node
 touch-away q told r now arc node page t l away n h e = t.alone l away (subst (λ (m : ℕ). StandsIn m (nodes_on q l)) e h)
 
-touch-others : (q : Queues) (told : Option Pages) (r : Queues) (now : Option Pages) (arc node page : ℕ) → Touches q told r now arc node page → Tells told → (l : ℕ) → l ≢ arc → items_on r now l ≡ items_on q told l
+touch-others : (q : Queues) (told : Option Pages) (r : Queues) (now : Option Pages) (arc node page : ℕ) → Touches q told r now arc node page → Tells now → (l : ℕ) → l ≢ arc → items_on r now l ≡ items_on q told l
 touch-others q told r now arc node page t tells l away =
     ap (λ (ns : List ℕ). items_along r.pool now r.kept.items ns) (t.lists l away)
     ∙ along-same (λ n. items_in q.pool told (kept_at q.kept.items n)) (λ n. items_in r.pool now (kept_at r.kept.items n)) (nodes_on q l)
@@ -115,6 +120,25 @@ touch-apart q told r now arc node page g t l n m other h k differ e =
       ]
     ]
 
+-- another node stands where it stood
+touch-still : (q : Queues) (told : Option Pages) (r : Queues) (now : Option Pages) (arc node page : ℕ) → Touches q told r now arc node page → (l other : ℕ) → StandsIn other (nodes_on q l) → other ≢ node → StandsIn other (nodes_on r l)
+touch-still q told r now arc node page t l other h differ =
+    elim (cases_eq l arc) [
+      | inl same ↦ subst (λ (m : ℕ). StandsIn other (nodes_on r m)) (sym same) (t.stays other (subst (λ (m : ℕ). StandsIn other (nodes_on q m)) same h) differ)
+      | inr away ↦ subst (λ (xs : List ℕ). StandsIn other xs) (sym (t.lists l away)) h
+    ]
+
+-- each page that the pool holds is that of a node
+touch-standing : (q : Queues) (told : Option Pages) (r : Queues) (now : Option Pages) (arc node page : ℕ) → Together q told → Touches q told r now arc node page → (p : ℕ) → is_held r.pool p ≡ true → IsOfNode r p
+touch-standing q told r now arc node page g t p held =
+    elim (cases_eq p page) [
+      | inl at ↦ let h = t.held (subst (λ (n : ℕ). is_held r.pool n ≡ true) at held) in (arc, node, h, (t.here h).1 ∙ sym at)
+      | inr off ↦
+          let was = g.standing p (sym (t.spares.held p off) ∙ held) in
+          let differ : was.1 ≢ node = λ e. off (sym was.3 ∙ ap (λ (n : ℕ). (kept_at q.kept.items n).page) e ∙ t.had was.0 (subst (λ (n : ℕ). StandsIn n (nodes_on q was.0)) e was.2)) in
+          (was.0, was.1, touch-still q told r now arc node page t was.0 was.1 was.2 differ, ap (λ (k : Kept). k.page) (t.kept was.0 was.1 was.2 differ) ∙ was.3)
+    ]
+
 pub touch-rest : (q : Queues) (told : Option Pages) (r : Queues) (now : Option Pages) (arc node page : ℕ) → Together q told → Touches q told r now arc node page → KeepsOthers q told r now arc
 touch-rest q told r now arc node page g t =
     record {
@@ -124,6 +148,7 @@ touch-rest q told r now arc node page g t =
       lanes = touch-lanes q told r now arc node page g t;
       pages = touch-pages q told r now arc node page g t;
       apart = touch-apart q told r now arc node page g t;
+      standing = touch-standing q told r now arc node page g t;
       others = touch-others q told r now arc node page t;
       tells = t.spares.tells;
       frames = t.spares.frames;
@@ -131,7 +156,7 @@ touch-rest q told r now arc node page g t =
 
 -- with the lane of the arc written, as r has it, all stands together
 pub together-by : (q : Queues) (told : Option Pages) (m : Queues) (now : Option Pages) (r : Queues) (arc : ℕ) (lane : Lane) → Together q told → KeepsOthers q told m now arc → arc < length q.lanes.items → r.lanes.items ≡ set q.lanes.items arc lane
-    → IsLane (Some lane) m.kept.items (nodes_on m arc) → (Tells told → IsFaceOf (face_at (Some lane)) (items_on m now arc)) → Together (record m { lanes = r.lanes }) now
+    → IsLane (Some lane) m.kept.items (nodes_on m arc) → (Tells now → IsFaceOf (face_at (Some lane)) (items_on m now arc)) → Together (record m { lanes = r.lanes }) now
 together-by q told m now r arc lane g k inside lanes own faced =
     let here : slice_get r.lanes.items arc ≡ Some lane = ap (λ (ls : List Lane). slice_get ls arc) lanes ∙ slice_get-set_same q.lanes.items arc lane inside in
     let there : (l : ℕ) → l ≢ arc → slice_get r.lanes.items l ≡ slice_get q.lanes.items l = λ l away. ap (λ (ls : List Lane). slice_get ls l) lanes ∙ slice_get-set_other q.lanes.items arc l lane away in
@@ -148,12 +173,12 @@ together-by q told m now r arc lane g k inside lanes own faced =
           ];
       pages = k.pages;
       apart = k.apart;
-      faces = λ tell l.
-          let tells : Tells told = sym k.tells ∙ tell in
+      standing = k.standing;
+      faces = λ tells l.
           elim (cases_eq l arc) [
             | inl same ↦ subst (λ (n : ℕ). IsFaceOf (face r n) (items_on m now n)) (sym same) (subst (λ (f : Face). IsFaceOf f (items_on m now arc)) (sym (ap face_at here)) (faced tells))
             | inr away ↦
-                subst (λ (xs : List Item). IsFaceOf (face r l) xs) (sym (k.others tells l away)) (subst (λ (f : Face). IsFaceOf f (items_on q told l)) (sym (ap face_at (there l away))) (g.faces tells l))
+                subst (λ (xs : List Item). IsFaceOf (face r l) xs) (sym (k.others tells l away)) (subst (λ (f : Face). IsFaceOf f (items_on q told l)) (sym (ap face_at (there l away))) (g.faces (k.tells tells) l))
           ];
     }
 
@@ -172,4 +197,7 @@ change-touches q told r now arc node after g alone s state kept spares page stan
       here = λ h. (subst (λ (k : Kept). IsKept r.pool now k) (sym is) stands, ap (λ (k : Kept). k.page) is ∙ page);
       apart = λ l other h differ. g.apart l other arc node h s differ;
       alone = λ l away h. away (alone.one l arc node h s);
+      stays = λ other h differ. subst (λ (c : Chained). StandsIn other (list_at c.lists arc)) (sym state) h;
+      had = λ l h. refl;
+      held = λ h. subst (λ (c : Chained). StandsIn node (list_at c.lists arc)) (sym state) s;
     }

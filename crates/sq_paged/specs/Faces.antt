@@ -5,8 +5,9 @@ use Rattle.std.specs.List.{flat_map}
 use Rattle.sq_item.specs.declared.Item.{Item}
 use Rattle.sq_link.specs.Chained.{list_at, StandsIn}
 use Rattle.sq_outside.specs.Disks.{Pages}
+use Rattle.sq_pool.specs.Trust.{Tells}
 use Rattle.sq_pool.specs.Pools.{Pooled, is_held, Agree}
-use Rattle.sq_paged.specs.Fronts.{Tells, Face, first_time, IsFaceOf}
+use Rattle.sq_paged.specs.Fronts.{Face, first_time, IsFaceOf}
 use Rattle.sq_paged.specs.Kept.{seen, IsFit, items_in, IsCause}
 use Rattle.sq_paged.specs.declared.store.Kept.{Kept}
 use Rattle.sq_paged.specs.declared.Lane.{Lane}
@@ -31,6 +32,10 @@ size queues = length queues.lanes.items
 abbrev pub frames : Queues → ℕ
 frames queues = queues.pool.frames
 
+-- how many pages are in memory
+abbrev pub resident_of : Queues → ℕ
+resident_of queues = length queues.pool.resident
+
 -- the nodes of an arc, and what is kept of the page of a node
 abbrev pub nodes_on : Queues → ℕ → List ℕ
 nodes_on queues arc = list_at queues.chains.lists arc
@@ -45,7 +50,7 @@ kept_at kept node = slice_index_or kept node no_page
 abbrev pub items_along : Pooled → Option Pages → List Kept → List ℕ → List Item
 items_along pool told kept nodes = flat_map (λ node. items_in pool told (kept_at kept node)) nodes
 
--- the items on an arc, in their order, by queues and what a disk tells of its pages
+-- the items on an arc, in their order, by queues and what is known of the pages of a disk
 abbrev pub items_on : Queues → Option Pages → ℕ → List Item
 items_on queues told arc = items_along queues.pool told queues.kept.items (nodes_on queues arc)
 
@@ -85,8 +90,12 @@ pub record IsKept (pool : Pooled) (told : Option Pages) (kept : Kept) : Type 0 w
   pub fits : IsFit (seen pool told kept.page) kept
   pub timed : Tells told → first_time (items_in pool told kept) ≡ Some kept.time
 
+-- a page is that of a node that stands on an arc
+abbrev pub IsOfNode : Queues → ℕ → Type 0
+IsOfNode queues page = (arc : ℕ) × (node : ℕ) × StandsIn node (nodes_on queues arc) × ((kept_at queues.kept.items node).page ≡ page)
+
 -- queues and a disk stand together: pool and disk agree, each arc and each page is as is kept of it, no two nodes have one
--- page, and where the disk tells its pages each face is that of its items
+-- page, the pool holds no page but theirs, and where the pages are known each face is that of its items
 pub record Together (queues : Queues) (told : Option Pages) : Type 0 where
   pub agree : Agree queues.pool told
   pub arcs : length queues.chains.lists ≡ length queues.lanes.items
@@ -95,6 +104,7 @@ pub record Together (queues : Queues) (told : Option Pages) : Type 0 where
   pub pages : (arc node : ℕ) → StandsIn node (nodes_on queues arc) → IsKept queues.pool told (kept_at queues.kept.items node)
   pub apart : (arc node other_arc other : ℕ) → StandsIn node (nodes_on queues arc) → StandsIn other (nodes_on queues other_arc) → node ≢ other
       → (kept_at queues.kept.items node).page ≢ (kept_at queues.kept.items other).page
+  pub standing : (page : ℕ) → is_held queues.pool page ≡ true → IsOfNode queues page
   pub faces : Tells told → (arc : ℕ) → IsFaceOf (face queues arc) (items_on queues told arc)
 
 -- why an arc is refused: a page of it came back, and it is refused

@@ -1,7 +1,6 @@
 -- What is seen of an arc.
 use Rattle.std.specs.Prelude.{◌≡◌, ℕ, ◌+◌, ◌==◌, Bool, true, false, List, [], ◌∷◌, length, Option, Some, None, is_some, if◌then◌else◌}
 use Rattle.sq_item.specs.declared.Item.{Item}
-use Rattle.sq_outside.specs.Disks.{Pages}
 use Rattle.sq_paged.specs.declared.Head.{Head}
 use Rattle.sq_paged.specs.declared.Head.TheVariants.{Time, Empty, Ended}
 
@@ -14,10 +13,6 @@ pub record Face : Type 0 where
 abbrev pub first_time : List Item → Option ℕ
 first_time [] = None
 first_time (item ∷ items) = Some item.time
-
--- a disk tells its pages
-abbrev pub Tells : Option Pages → Type 0
-Tells pages = is_some pages ≡ true
 
 -- the face is that of the items
 pub record IsFaceOf (face : Face) (items : List Item) : Type 0 where

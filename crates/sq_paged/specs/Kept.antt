@@ -1,18 +1,18 @@
 -- What is kept of a page, and the pages of a pool as they are seen over a disk.
-use Rattle.std.specs.Prelude.{◌≡◌, ◌≢◌, ⊤, ℕ, ◌+◌, ◌≤◌, true, false, List, [], ◌∷◌, ◌++◌, Option, Some, None, is_some}
+use Rattle.std.specs.Prelude.{◌≡◌, ◌≢◌, ⊤, ℕ, ◌+◌, ◌≤◌, true, false, List, [], ◌∷◌, ◌++◌, Option, Some, None}
 use Rattle.sq_item.specs.declared.Item.{Item}
 use Rattle.sq_outside.specs.Disks.{Pages}
 use Rattle.sq_page.specs.Fitting.{Fits, items_from}
 use Rattle.sq_pool.specs.Pools.{Pooled, bytes_in, page_of, is_held, Agree}
 use Rattle.sq_pool.specs.Errors.{IsGarbling}
-use Rattle.sq_paged.specs.Fronts.{Tells}
+use Rattle.sq_pool.specs.Trust.{Tells}
 use Rattle.sq_pool.specs.declared.pool.PoolErr.{PoolErr}
 use Rattle.sq_pool.specs.declared.pool.PoolErr.TheVariants as pool
 use Rattle.sq_paged.specs.declared.store.Kept.{Kept}
 use Rattle.sq_paged.specs.declared.store.QueueErr.{QueueErr}
 use Rattle.sq_paged.specs.declared.store.QueueErr.TheVariants as error
 
--- the bytes of a page, where they are known: in a frame, or on a disk that tells them
+-- the bytes of a page, where they are known: in a frame, or on a disk of which the pages are known
 abbrev pub seen : Pooled → Option Pages → ℕ → Option (List ℕ)
 seen c None p = bytes_in p c.resident
 seen c (Some told) p = page_of c told p
@@ -29,22 +29,23 @@ abbrev pub items_of : Option (List ℕ) → Kept → List Item
 items_of None kept = []
 items_of (Some bytes) kept = items_from bytes kept.start kept.count
 
--- what a call leaves of all pages but one
+-- what a call leaves of all pages but one: what is seen behind it was seen before, and where the pages are known behind it
+-- they were known before
 pub record Spares (c : Pooled) (told : Option Pages) (d : Pooled) (now : Option Pages) (page : ℕ) : Type 0 where
   pub known : (q : ℕ) → q ≢ page → (bytes : List ℕ) → seen d now q ≡ Some bytes → seen c told q ≡ Some bytes
-  pub same : Tells told → (q : ℕ) → q ≢ page → seen d now q ≡ seen c told q
+  pub same : Tells now → (q : ℕ) → q ≢ page → seen d now q ≡ seen c told q
   pub held : (q : ℕ) → q ≢ page → is_held d q ≡ is_held c q
-  pub tells : is_some now ≡ is_some told
+  pub tells : Tells now → Tells told
   pub agree : Agree d now
   pub frames : d.frames ≡ c.frames
 
--- a page is in a frame and fits; where the disk tells, it is the same as before
+-- a page is in a frame and fits; where the pages are known behind the call, it is the same as before
 pub record Brought (c : Pooled) (told : Option Pages) (d : Pooled) (now : Option Pages) (kept : Kept) : Type 0 where
   pub bytes : List ℕ
   pub there : bytes_in kept.page d.resident ≡ Some bytes
   pub fits : FitsKept bytes kept
   pub held : is_held d kept.page ≡ true
-  pub same : Tells told → seen c told kept.page ≡ Some bytes
+  pub same : Tells now → seen c told kept.page ≡ Some bytes
   pub spares : Spares c told d now kept.page
 
 -- a page is in a frame with these bytes
@@ -65,7 +66,7 @@ pub record Appended (c : Pooled) (told : Option Pages) (d : Pooled) (now : Optio
   pub ends : after.end ≤ 8192
   pub count : after.count ≡ kept.count + 1
   pub time : after.time ≡ kept.time
-  pub items : Tells told → items_in d now after ≡ items_in c told kept ++ item ∷ []
+  pub items : Tells now → items_in d now after ≡ items_in c told kept ++ item ∷ []
 
 -- a page has one item less in front
 pub record Taken (c : Pooled) (told : Option Pages) (d : Pooled) (now : Option Pages) (kept after : Kept) (item : Item) : Type 0 where
@@ -75,8 +76,8 @@ pub record Taken (c : Pooled) (told : Option Pages) (d : Pooled) (now : Option P
   pub fits : IsFit (seen d now after.page) after
   pub ends : after.end ≤ 8192
   pub count : kept.count ≡ after.count + 1
-  pub items : Tells told → items_in c told kept ≡ item ∷ items_in d now after
-  pub time : Tells told → (next : Item) (rest : List Item) → items_in d now after ≡ next ∷ rest → after.time ≡ next.time
+  pub items : Tells now → items_in c told kept ≡ item ∷ items_in d now after
+  pub time : Tells now → (next : Item) (rest : List Item) → items_in d now after ≡ next ∷ rest → after.time ≡ next.time
 
 -- a new page has one item
 pub record Started (c : Pooled) (told : Option Pages) (d : Pooled) (now : Option Pages) (kept : Kept) (item : Item) : Type 0 where
@@ -87,7 +88,7 @@ pub record Started (c : Pooled) (told : Option Pages) (d : Pooled) (now : Option
   pub ends : kept.end ≤ 8192
   pub count : kept.count ≡ 1
   pub time : kept.time ≡ item.time
-  pub items : Tells told → items_in d now kept ≡ item ∷ []
+  pub items : Tells now → items_in d now kept ≡ item ∷ []
 
 -- the error of a queue for that of its pool
 abbrev pub of_pool : PoolErr → QueueErr
@@ -110,7 +111,7 @@ IsCause c d kept (error.Garbled page old got) = IsGarbling c d kept.page (pool.G
 IsCause c d kept (error.NotAPage page bytes) = (page ≡ kept.page) × (bytes_in page c.resident ≡ None) × (bytes_in page d.resident ≡ Some bytes.items) × (¬ (FitsKept bytes.items kept))
 IsCause c d kept error.Memory = ⊤
 
--- a refusal that may come over a disk that tells its pages
+-- a refusal that may come over an honest disk
 abbrev pub IsTold : QueueErr → Type 0
 IsTold error.Disk = ⊤
 IsTold (error.Garbled page old got) = ⊥

@@ -1,12 +1,12 @@
 -- What the steps of a push and of a pop do to queues, before the lane of the arc is written.
-use Rattle.std.specs.Prelude.{◌≡◌, ◌≢◌, ℕ, ◌+◌, ◌<◌, List, [], ◌∷◌, length, Option, Some, is_some, slice_get, slice_set, drop, ◌++◌}
+use Rattle.std.specs.Prelude.{◌≡◌, ◌≢◌, ℕ, ◌+◌, ◌<◌, true, false, List, [], ◌∷◌, length, Option, Some, slice_get, slice_set, drop, ◌++◌}
 use Rattle.sq_item.specs.declared.Item.{Item}
 use Rattle.sq_link.specs.Chained.{list_at, StandsIn}
 use Rattle.sq_outside.specs.Disks.{Pages}
-use Rattle.sq_pool.specs.Pools.{Agree}
-use Rattle.sq_paged.specs.Fronts.{Tells}
+use Rattle.sq_pool.specs.Pools.{is_held, Agree}
+use Rattle.sq_pool.specs.Trust.{Tells}
 use Rattle.sq_paged.specs.Kept.{Appended, Taken, Started, Spares}
-use Rattle.sq_paged.specs.Faces.{nodes_on, kept_at, items_on, count_along, last_of, IsLane, IsKept}
+use Rattle.sq_paged.specs.Faces.{nodes_on, kept_at, items_on, count_along, last_of, IsLane, IsKept, IsOfNode}
 use Rattle.sq_paged.specs.declared.store.Kept.{Kept}
 use Rattle.sq_paged.specs.declared.Queues.{Queues}
 
@@ -35,6 +35,7 @@ pub record StartsAt (q : Queues) (told : Option Pages) (r : Queues) (now : Optio
 -- the first page of an arc is let go
 pub record DropsAt (q : Queues) (told : Option Pages) (r : Queues) (now : Option Pages) (arc : ℕ) (node : ℕ) : Type 0 where
   pub spares : Spares q.pool told r.pool now (kept_at q.kept.items node).page
+  pub gone : is_held r.pool (kept_at q.kept.items node).page ≡ false
   pub lists : r.chains.lists ≡ slice_set q.chains.lists arc (drop 1 (list_at q.chains.lists arc))
   pub nodes : r.chains.nodes ≡ q.chains.nodes
   pub kept : r.kept ≡ q.kept
@@ -47,8 +48,9 @@ pub record KeepsOthers (q : Queues) (told : Option Pages) (r : Queues) (now : Op
   pub lanes : (l : ℕ) → l ≢ arc → IsLane (slice_get q.lanes.items l) r.kept.items (nodes_on r l)
   pub pages : (l node : ℕ) → StandsIn node (nodes_on r l) → IsKept r.pool now (kept_at r.kept.items node)
   pub apart : (l node m other : ℕ) → StandsIn node (nodes_on r l) → StandsIn other (nodes_on r m) → node ≢ other → (kept_at r.kept.items node).page ≢ (kept_at r.kept.items other).page
-  pub others : Tells told → (l : ℕ) → l ≢ arc → items_on r now l ≡ items_on q told l
-  pub tells : is_some now ≡ is_some told
+  pub standing : (page : ℕ) → is_held r.pool page ≡ true → IsOfNode r page
+  pub others : Tells now → (l : ℕ) → l ≢ arc → items_on r now l ≡ items_on q told l
+  pub tells : Tells now → Tells told
   pub frames : r.pool.frames ≡ q.pool.frames
 
 -- an item is behind the last of an arc, in the page of this node
@@ -56,11 +58,11 @@ pub record Adds (q : Queues) (told : Option Pages) (r : Queues) (now : Option Pa
   pub rest : KeepsOthers q told r now arc
   pub count : count_along r.kept.items (nodes_on r arc) ≡ count_along q.kept.items (nodes_on q arc) + 1
   pub last : last_of (nodes_on r arc) ≡ Some node
-  pub items : Tells told → items_on r now arc ≡ items_on q told arc ++ item ∷ []
+  pub items : Tells now → items_on r now arc ≡ items_on q told arc ++ item ∷ []
 
 -- the first item of an arc is taken; its last page stays, where one is left
 pub record Removes (q : Queues) (told : Option Pages) (r : Queues) (now : Option Pages) (arc : ℕ) (item : Item) : Type 0 where
   pub rest : KeepsOthers q told r now arc
   pub count : count_along q.kept.items (nodes_on q arc) ≡ count_along r.kept.items (nodes_on r arc) + 1
   pub last : (first : ℕ) (behind : List ℕ) → nodes_on r arc ≡ first ∷ behind → last_of (nodes_on r arc) ≡ last_of (nodes_on q arc)
-  pub items : Tells told → items_on q told arc ≡ item ∷ items_on r now arc
+  pub items : Tells now → items_on q told arc ≡ item ∷ items_on r now arc

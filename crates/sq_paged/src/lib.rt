@@ -1,19 +1,21 @@
 //! Queues of items that are all in pages, one queue for each arc.
 //!
 //! The contract has two parts. Over every disk the queues know each arc's face: how many items stand there, the time of the
-//! first, and whether the arc has ended. Where a disk tells its pages, queues and disk together stand for one list of items
-//! for each arc: `push` and `send` append to one list, `pop` takes its first, and all others stay. At most `frames` pages are in
-//! memory, and a page that comes back from the disk is tested before an item of it is handed on. Below stand items, pages,
-//! linked lists, the pool and the disk.
+//! first, and whether the arc has ended. Where the pages of the disk are known, queues and disk together stand for one list of
+//! items for each arc: `push` and `send` append to one list, `pop` takes its first, and all others stay. They are known where
+//! the disk is honest, and where no page came back changed with the digest of what was put. At most `frames` pages are in
+//! memory, a page of which no item is left leaves the pool, and a page that comes back from the disk is tested before an item
+//! of it is handed on. Below stand items, pages, linked lists, the pool and the disk.
 #![tactic(auto)]
 
 ghost use Rattle.std.specs.Prelude.{◌≡◌, ◌≢◌, ℕ, ◌+◌, ◌-◌, ◌<◌, ◌≤◌, ◌++◌, ◌∷◌, [], true, false, Option, Some, None, length, is_some, option_map, IfOk, OnOk, IfErr, IfSome, replicate};
 ghost use Rattle.sq_item.specs.Sound.{IsSound};
-ghost use Rattle.sq_outside.specs.Disks.{Pages};
+ghost use Rattle.sq_outside.specs.Disks.{Honest, Pages};
 ghost use Rattle.sq_outside.specs.Faults.{Rose};
-ghost use Rattle.sq_paged.specs.Fronts.{Tells, head_by, pushed, IsPopped};
+ghost use Rattle.sq_paged.specs.Fronts.{head_by, pushed, IsPopped};
+ghost use Rattle.sq_pool.specs.Trust.{IsLater, Tells, known};
 ghost use Rattle.sq_paged.specs.Kept.{IsTold, IsCause};
-ghost use Rattle.sq_paged.specs.Faces.{face, size, frames, frames as frames_of, items_on, Together, no_items, last_if, IsKept, kept_at, IsRefusal};
+ghost use Rattle.sq_paged.specs.Faces.{face, size, frames, frames as frames_of, resident_of, items_on, Together, no_items, last_if, IsKept, kept_at, IsRefusal};
 ghost use Rattle.sq_paged.specs.Steps.{AppendsAt, TakesAt, StartsAt, DropsAt, Adds, Removes};
 ghost use Rattle.sq_page.specs.Pages.{item_bytes};
 ghost use Rattle.sq_pool.specs.Pools.{Agree, is_held};
@@ -110,20 +112,20 @@ impl Queues {
         requires there { arc < size self.old }
         requires open { (face self.old arc).ended ≡ false }
         requires sound { IsSound item.now }
-        requires together { Together self.old (D.pages disk.old) }
+        requires together { Together self.old (known (D.log disk.old)) }
         ensures face { OnOk result (face self.new arc ≡ pushed (face self.old arc) item.now.time) }
         ensures faces { (other : ℕ) → other ≢ arc → face self.new other ≡ face self.old other }
         ensures size { size self.new ≡ size self.old }
         ensures frames { OnOk result (frames self.new ≡ frames self.old) }
-        ensures items { OnOk result (Tells (D.pages disk.old) → items_on self.new (D.pages disk.new) arc ≡ items_on self.old (D.pages disk.old) arc ++ item.now ∷ []) }
-        ensures others { OnOk result (Tells (D.pages disk.old) → (other : ℕ) → other ≢ arc → items_on self.new (D.pages disk.new) other ≡ items_on self.old (D.pages disk.old) other) }
-        ensures together { OnOk result (Together self.new (D.pages disk.new)) }
-        ensures tells { is_some (D.pages disk.new) ≡ is_some (D.pages disk.old) }
+        ensures items { OnOk result (Tells (known (D.log disk.new)) → items_on self.new (known (D.log disk.new)) arc ≡ items_on self.old (known (D.log disk.old)) arc ++ item.now ∷ []) }
+        ensures others { OnOk result (Tells (known (D.log disk.new)) → (other : ℕ) → other ≢ arc → items_on self.new (known (D.log disk.new)) other ≡ items_on self.old (known (D.log disk.old)) other) }
+        ensures together { OnOk result (Together self.new (known (D.log disk.new))) }
+        ensures later { IsLater (D.log disk.old) (D.log disk.new) }
 
         // Each refusal.
         ensures disk { IfErr result (λ e. e ≡ QueueErr.Disk → Rose (D.faults disk.old) (D.faults disk.new)) }
         ensures cause { IfErr result (λ e. IsRefusal self.old self.new arc e) }
-        ensures told { IfErr result (λ e. Tells (D.pages disk.old) → IsTold e) }
+        ensures honest { IfErr result (λ e. Honest (D.log disk.old) → IsTold e) }
         ensures faults { D.faults disk.old ≤ D.faults disk.new }
     {
         let lane = self.lanes[arc as usize];
@@ -148,20 +150,20 @@ impl Queues {
         requires there { arc < size self.old }
         requires open { (face self.old arc).ended ≡ false }
         requires sound { IsSound item }
-        requires together { Together self.old (D.pages disk.old) }
+        requires together { Together self.old (known (D.log disk.old)) }
         ensures face { OnOk result (face self.new arc ≡ pushed (face self.old arc) item.time) }
         ensures faces { (other : ℕ) → other ≢ arc → face self.new other ≡ face self.old other }
         ensures size { size self.new ≡ size self.old }
         ensures frames { OnOk result (frames self.new ≡ frames self.old) }
-        ensures items { OnOk result (Tells (D.pages disk.old) → items_on self.new (D.pages disk.new) arc ≡ items_on self.old (D.pages disk.old) arc ++ item ∷ []) }
-        ensures others { OnOk result (Tells (D.pages disk.old) → (other : ℕ) → other ≢ arc → items_on self.new (D.pages disk.new) other ≡ items_on self.old (D.pages disk.old) other) }
-        ensures together { OnOk result (Together self.new (D.pages disk.new)) }
-        ensures tells { is_some (D.pages disk.new) ≡ is_some (D.pages disk.old) }
+        ensures items { OnOk result (Tells (known (D.log disk.new)) → items_on self.new (known (D.log disk.new)) arc ≡ items_on self.old (known (D.log disk.old)) arc ++ item ∷ []) }
+        ensures others { OnOk result (Tells (known (D.log disk.new)) → (other : ℕ) → other ≢ arc → items_on self.new (known (D.log disk.new)) other ≡ items_on self.old (known (D.log disk.old)) other) }
+        ensures together { OnOk result (Together self.new (known (D.log disk.new))) }
+        ensures later { IsLater (D.log disk.old) (D.log disk.new) }
 
         // Each refusal.
         ensures disk { IfErr result (λ e. e ≡ QueueErr.Disk → Rose (D.faults disk.old) (D.faults disk.new)) }
         ensures cause { IfErr result (λ e. IsRefusal self.old self.new arc e) }
-        ensures told { IfErr result (λ e. Tells (D.pages disk.old) → IsTold e) }
+        ensures honest { IfErr result (λ e. Honest (D.log disk.old) → IsTold e) }
         ensures faults { D.faults disk.old ≤ D.faults disk.new }
     {
         self.push(disk, arc, &item)
@@ -172,21 +174,21 @@ impl Queues {
     pub fn pop<D: PageDisk>(&mut self, disk: &mut D, arc: u32) -> Result<Item, QueueErr>
         requires there { arc < size self.old }
         requires some { is_some (face self.old arc).first ≡ true }
-        requires together { Together self.old (D.pages disk.old) }
+        requires together { Together self.old (known (D.log disk.old)) }
         ensures sound { IfOk result IsSound }
         ensures face { OnOk result (IsPopped (face self.old arc) (face self.new arc)) }
         ensures faces { (other : ℕ) → other ≢ arc → face self.new other ≡ face self.old other }
         ensures size { size self.new ≡ size self.old }
         ensures frames { OnOk result (frames self.new ≡ frames self.old) }
-        ensures items { IfOk result (λ item. Tells (D.pages disk.old) → items_on self.old (D.pages disk.old) arc ≡ item ∷ items_on self.new (D.pages disk.new) arc) }
-        ensures others { OnOk result (Tells (D.pages disk.old) → (other : ℕ) → other ≢ arc → items_on self.new (D.pages disk.new) other ≡ items_on self.old (D.pages disk.old) other) }
-        ensures together { OnOk result (Together self.new (D.pages disk.new)) }
-        ensures tells { is_some (D.pages disk.new) ≡ is_some (D.pages disk.old) }
+        ensures items { IfOk result (λ item. Tells (known (D.log disk.new)) → items_on self.old (known (D.log disk.old)) arc ≡ item ∷ items_on self.new (known (D.log disk.new)) arc) }
+        ensures others { OnOk result (Tells (known (D.log disk.new)) → (other : ℕ) → other ≢ arc → items_on self.new (known (D.log disk.new)) other ≡ items_on self.old (known (D.log disk.old)) other) }
+        ensures together { OnOk result (Together self.new (known (D.log disk.new))) }
+        ensures later { IsLater (D.log disk.old) (D.log disk.new) }
 
         // Each refusal.
         ensures disk { IfErr result (λ e. e ≡ QueueErr.Disk → Rose (D.faults disk.old) (D.faults disk.new)) }
         ensures cause { IfErr result (λ e. IsRefusal self.old self.new arc e) }
-        ensures told { IfErr result (λ e. Tells (D.pages disk.old) → IsTold e) }
+        ensures honest { IfErr result (λ e. Honest (D.log disk.old) → IsTold e) }
         ensures faults { D.faults disk.old ≤ D.faults disk.new }
     {
         let item = match self.take(disk, arc) {
@@ -233,7 +235,8 @@ impl Queues {
 
     /// How many pages are in memory.
     pub fn resident(&self) -> u32
-        ensures { result ≤ frames self.now }
+        ensures value { result ≡ resident_of self.now }
+        ensures most { result ≤ frames self.now }
     {
         self.pool.resident()
     }
@@ -242,13 +245,13 @@ impl Queues {
     fn add<D: PageDisk>(&mut self, disk: &mut D, arc: u32, item: &Item) -> Result<u64, QueueErr>
         requires there { arc < size self.old }
         requires sound { IsSound item.now }
-        requires together { Together self.old (D.pages disk.old) }
-        ensures ok { IfOk result (λ node. Adds self.old (D.pages disk.old) self.new (D.pages disk.new) arc node item.now) }
+        requires together { Together self.old (known (D.log disk.old)) }
+        ensures ok { IfOk result (λ node. Adds self.old (known (D.log disk.old)) self.new (known (D.log disk.new)) arc node item.now) }
         ensures lanes { self.new.lanes ≡ self.old.lanes }
         ensures disk { IfErr result (λ e. e ≡ QueueErr.Disk → Rose (D.faults disk.old) (D.faults disk.new)) }
         ensures cause { IfErr result (λ e. IsRefusal self.old self.new arc e) }
-        ensures told { IfErr result (λ e. Tells (D.pages disk.old) → IsTold e) }
-        ensures tells { is_some (D.pages disk.new) ≡ is_some (D.pages disk.old) }
+        ensures honest { IfErr result (λ e. Honest (D.log disk.old) → IsTold e) }
+        ensures later { IsLater (D.log disk.old) (D.log disk.new) }
         ensures faults { D.faults disk.old ≤ D.faults disk.new }
     {
         self.chains.one_place_each();
@@ -266,14 +269,14 @@ impl Queues {
     fn take<D: PageDisk>(&mut self, disk: &mut D, arc: u32) -> Result<Item, QueueErr>
         requires there { arc < size self.old }
         requires some { is_some (face self.old arc).first ≡ true }
-        requires together { Together self.old (D.pages disk.old) }
-        ensures ok { IfOk result (λ item. Removes self.old (D.pages disk.old) self.new (D.pages disk.new) arc item) }
+        requires together { Together self.old (known (D.log disk.old)) }
+        ensures ok { IfOk result (λ item. Removes self.old (known (D.log disk.old)) self.new (known (D.log disk.new)) arc item) }
         ensures sound { IfOk result IsSound }
         ensures lanes { self.new.lanes ≡ self.old.lanes }
         ensures disk { IfErr result (λ e. e ≡ QueueErr.Disk → Rose (D.faults disk.old) (D.faults disk.new)) }
         ensures cause { IfErr result (λ e. IsRefusal self.old self.new arc e) }
-        ensures told { IfErr result (λ e. Tells (D.pages disk.old) → IsTold e) }
-        ensures tells { is_some (D.pages disk.new) ≡ is_some (D.pages disk.old) }
+        ensures honest { IfErr result (λ e. Honest (D.log disk.old) → IsTold e) }
+        ensures later { IsLater (D.log disk.old) (D.log disk.new) }
         ensures faults { D.faults disk.old ≤ D.faults disk.new }
     {
         self.chains.one_place_each();
@@ -318,17 +321,17 @@ impl Queues {
         item: &Item,
     ) -> Result<(), QueueErr>
         requires node { node < length self.old.kept.items }
-        requires agree { Agree self.old.pool (D.pages disk.old) }
-        requires kept { IsKept self.old.pool (D.pages disk.old) (kept_at self.old.kept.items node) }
+        requires agree { Agree self.old.pool (known (D.log disk.old)) }
+        requires kept { IsKept self.old.pool (known (D.log disk.old)) (kept_at self.old.kept.items node) }
         requires sound { IsSound item.now }
         requires room { (kept_at self.old.kept.items node).end + length (item_bytes item.now) ≤ 8192 }
-        ensures ok { OnOk result (AppendsAt self.old (D.pages disk.old) self.new (D.pages disk.new) node item.now) }
-        ensures page { OnOk result (IsKept self.new.pool (D.pages disk.new) (kept_at self.new.kept.items node)) }
+        ensures ok { OnOk result (AppendsAt self.old (known (D.log disk.old)) self.new (known (D.log disk.new)) node item.now) }
+        ensures page { OnOk result (IsKept self.new.pool (known (D.log disk.new)) (kept_at self.new.kept.items node)) }
         ensures lanes { self.new.lanes ≡ self.old.lanes }
         ensures disk { IfErr result (λ e. e ≡ QueueErr.Disk → Rose (D.faults disk.old) (D.faults disk.new)) }
         ensures cause { IfErr result (λ e. IsCause self.old.pool self.new.pool (kept_at self.old.kept.items node) e) }
-        ensures told { IfErr result (λ e. Tells (D.pages disk.old) → IsTold e) }
-        ensures tells { is_some (D.pages disk.new) ≡ is_some (D.pages disk.old) }
+        ensures honest { IfErr result (λ e. Honest (D.log disk.old) → IsTold e) }
+        ensures later { IsLater (D.log disk.old) (D.log disk.new) }
         ensures faults { D.faults disk.old ≤ D.faults disk.new }
     {
         let kept = self.kept[node as usize];
@@ -373,13 +376,13 @@ impl Queues {
     ) -> Result<u64, QueueErr>
         requires arc { arc < length self.old.chains.lists }
         requires nodes { length self.old.kept.items ≡ self.old.chains.nodes }
-        requires agree { Agree self.old.pool (D.pages disk.old) }
+        requires agree { Agree self.old.pool (known (D.log disk.old)) }
         requires sound { IsSound item.now }
-        ensures ok { IfOk result (λ node. StartsAt self.old (D.pages disk.old) self.new (D.pages disk.new) arc node item.now) }
+        ensures ok { IfOk result (λ node. StartsAt self.old (known (D.log disk.old)) self.new (known (D.log disk.new)) arc node item.now) }
         ensures lanes { self.new.lanes ≡ self.old.lanes }
         ensures disk { IfErr result (λ e. e ≡ QueueErr.Disk → Rose (D.faults disk.old) (D.faults disk.new)) }
         ensures plain { IfErr result IsTold }
-        ensures tells { is_some (D.pages disk.new) ≡ is_some (D.pages disk.old) }
+        ensures later { IsLater (D.log disk.old) (D.log disk.new) }
         ensures faults { D.faults disk.old ≤ D.faults disk.new }
     {
         let node = match self.free_node() {
@@ -398,15 +401,15 @@ impl Queues {
     // Takes the first item of a page that is left there.
     fn take_first<D: PageDisk>(&mut self, disk: &mut D, node: u64) -> Result<Item, QueueErr>
         requires node { node < length self.old.kept.items }
-        requires agree { Agree self.old.pool (D.pages disk.old) }
-        requires kept { IsKept self.old.pool (D.pages disk.old) (kept_at self.old.kept.items node) }
-        ensures ok { IfOk result (λ item. TakesAt self.old (D.pages disk.old) self.new (D.pages disk.new) node item) }
+        requires agree { Agree self.old.pool (known (D.log disk.old)) }
+        requires kept { IsKept self.old.pool (known (D.log disk.old)) (kept_at self.old.kept.items node) }
+        ensures ok { IfOk result (λ item. TakesAt self.old (known (D.log disk.old)) self.new (known (D.log disk.new)) node item) }
         ensures sound { IfOk result IsSound }
         ensures lanes { self.new.lanes ≡ self.old.lanes }
         ensures disk { IfErr result (λ e. e ≡ QueueErr.Disk → Rose (D.faults disk.old) (D.faults disk.new)) }
         ensures cause { IfErr result (λ e. IsCause self.old.pool self.new.pool (kept_at self.old.kept.items node) e) }
-        ensures told { IfErr result (λ e. Tells (D.pages disk.old) → IsTold e) }
-        ensures tells { is_some (D.pages disk.new) ≡ is_some (D.pages disk.old) }
+        ensures honest { IfErr result (λ e. Honest (D.log disk.old) → IsTold e) }
+        ensures later { IsLater (D.log disk.old) (D.log disk.new) }
         ensures faults { D.faults disk.old ≤ D.faults disk.new }
     {
         let kept = self.kept[node as usize];
@@ -424,12 +427,12 @@ impl Queues {
         requires first { head_or (list_at self.old.chains.lists arc) None ≡ Some node }
         requires node { node < length self.old.kept.items }
         requires held { is_held self.old.pool (kept_at self.old.kept.items node).page ≡ true }
-        requires agree { Agree self.old.pool (D.pages disk.old) }
-        ensures ok { OnOk result (DropsAt self.old (D.pages disk.old) self.new (D.pages disk.new) arc node) }
+        requires agree { Agree self.old.pool (known (D.log disk.old)) }
+        ensures ok { OnOk result (DropsAt self.old (known (D.log disk.old)) self.new (known (D.log disk.new)) arc node) }
         ensures lanes { self.new.lanes ≡ self.old.lanes }
         ensures disk { IfErr result (λ e. e ≡ QueueErr.Disk → Rose (D.faults disk.old) (D.faults disk.new)) }
         ensures plain { IfErr result IsTold }
-        ensures tells { is_some (D.pages disk.new) ≡ is_some (D.pages disk.old) }
+        ensures later { IsLater (D.log disk.old) (D.log disk.new) }
         ensures faults { D.faults disk.old ≤ D.faults disk.new }
     {
         if let Some(first) = self.chains.pop_front(arc) {

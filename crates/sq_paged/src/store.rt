@@ -1,11 +1,12 @@
 // The pages of queues in their pool.
-ghost use Rattle.std.specs.Prelude.{◌≡◌, ℕ, ◌+◌, ◌<◌, ◌≤◌, ◌++◌, ◌∷◌, [], List, Some, length, is_some, IfOk, OnOk, IfErr, IsTrue, IsSome};
+ghost use Rattle.std.specs.Prelude.{◌≡◌, ℕ, ◌+◌, ◌<◌, ◌≤◌, ◌++◌, ◌∷◌, [], false, List, Some, length, IfOk, OnOk, IfErr, IsTrue, IsSome};
 ghost use Rattle.sq_item.specs.declared.Item.{Item};
 ghost use Rattle.sq_item.specs.Sound.{IsSound};
+ghost use Rattle.sq_outside.specs.Disks.{Honest};
 ghost use Rattle.sq_outside.specs.Faults.{Rose};
 ghost use Rattle.sq_page.specs.Pages.{item_bytes, IsPageOf, EndsAt, BeginsAt, end_of};
 ghost use Rattle.sq_pool.specs.Pools.{Agree, bytes_in, is_held, with_bytes};
-ghost use Rattle.sq_paged.specs.Fronts.{Tells};
+ghost use Rattle.sq_pool.specs.Trust.{IsLater, known};
 ghost use Rattle.sq_paged.specs.Kept.{seen, FitsKept, IsFit, Brought, Spares, of_pool, IsMisfit, IsCause, IsTold, Appended, Taken, Started};
 
 use sq_item::Item;
@@ -93,15 +94,15 @@ pub fn bring_page<D: PageDisk>(
     kept: &Kept,
 ) -> Result<(), QueueErr>
     requires held { IsTrue (is_held pool.old kept.now.page) }
-    requires agree { Agree pool.old (D.pages disk.old) }
-    requires fits { IsFit (seen pool.old (D.pages disk.old) kept.now.page) kept.now }
-    ensures ok { OnOk result (Brought pool.old (D.pages disk.old) pool.new (D.pages disk.new) kept.now) }
+    requires agree { Agree pool.old (known (D.log disk.old)) }
+    requires fits { IsFit (seen pool.old (known (D.log disk.old)) kept.now.page) kept.now }
+    ensures ok { OnOk result (Brought pool.old (known (D.log disk.old)) pool.new (known (D.log disk.new)) kept.now) }
 
     // Each refusal.
     ensures disk { IfErr result (λ e. e ≡ QueueErr.Disk → Rose (D.faults disk.old) (D.faults disk.new)) }
     ensures cause { IfErr result (λ e. IsCause pool.old pool.new kept.now e) }
-    ensures told { IfErr result (λ e. Tells (D.pages disk.old) → IsTold e) }
-    ensures tells { is_some (D.pages disk.new) ≡ is_some (D.pages disk.old) }
+    ensures honest { IfErr result (λ e. Honest (D.log disk.old) → IsTold e) }
+    ensures later { IsLater (D.log disk.old) (D.log disk.new) }
     ensures faults { D.faults disk.old ≤ D.faults disk.new }
 {
     let there = pool.is_resident(kept.page);
@@ -138,17 +139,17 @@ pub fn append_to_page<D: PageDisk>(
     item: &Item,
 ) -> Result<Kept, QueueErr>
     requires held { IsTrue (is_held pool.old kept.now.page) }
-    requires agree { Agree pool.old (D.pages disk.old) }
-    requires fits { IsFit (seen pool.old (D.pages disk.old) kept.now.page) kept.now }
+    requires agree { Agree pool.old (known (D.log disk.old)) }
+    requires fits { IsFit (seen pool.old (known (D.log disk.old)) kept.now.page) kept.now }
     requires sound { IsSound item.now }
     requires room { kept.now.end + length (item_bytes item.now) ≤ 8192 }
-    ensures ok { IfOk result (λ after. Appended pool.old (D.pages disk.old) pool.new (D.pages disk.new) kept.now after item.now) }
+    ensures ok { IfOk result (λ after. Appended pool.old (known (D.log disk.old)) pool.new (known (D.log disk.new)) kept.now after item.now) }
 
     // Each refusal.
     ensures disk { IfErr result (λ e. e ≡ QueueErr.Disk → Rose (D.faults disk.old) (D.faults disk.new)) }
     ensures cause { IfErr result (λ e. IsCause pool.old pool.new kept.now e) }
-    ensures told { IfErr result (λ e. Tells (D.pages disk.old) → IsTold e) }
-    ensures tells { is_some (D.pages disk.new) ≡ is_some (D.pages disk.old) }
+    ensures honest { IfErr result (λ e. Honest (D.log disk.old) → IsTold e) }
+    ensures later { IsLater (D.log disk.old) (D.log disk.new) }
     ensures faults { D.faults disk.old ≤ D.faults disk.new }
 {
     match bring_page(alloc, pool, disk, kept) {
@@ -180,17 +181,17 @@ pub fn take_from_page<D: PageDisk>(
     kept: &Kept,
 ) -> Result<(Item, Kept), QueueErr>
     requires held { IsTrue (is_held pool.old kept.now.page) }
-    requires agree { Agree pool.old (D.pages disk.old) }
-    requires fits { IsFit (seen pool.old (D.pages disk.old) kept.now.page) kept.now }
+    requires agree { Agree pool.old (known (D.log disk.old)) }
+    requires fits { IsFit (seen pool.old (known (D.log disk.old)) kept.now.page) kept.now }
     requires some { 1 ≤ kept.now.count }
-    ensures ok { IfOk result (λ taken. Taken pool.old (D.pages disk.old) pool.new (D.pages disk.new) kept.now taken.1 taken.0) }
+    ensures ok { IfOk result (λ taken. Taken pool.old (known (D.log disk.old)) pool.new (known (D.log disk.new)) kept.now taken.1 taken.0) }
     ensures sound { IfOk result (λ taken. IsSound taken.0) }
 
     // Each refusal.
     ensures disk { IfErr result (λ e. e ≡ QueueErr.Disk → Rose (D.faults disk.old) (D.faults disk.new)) }
     ensures cause { IfErr result (λ e. IsCause pool.old pool.new kept.now e) }
-    ensures told { IfErr result (λ e. Tells (D.pages disk.old) → IsTold e) }
-    ensures tells { is_some (D.pages disk.new) ≡ is_some (D.pages disk.old) }
+    ensures honest { IfErr result (λ e. Honest (D.log disk.old) → IsTold e) }
+    ensures later { IsLater (D.log disk.old) (D.log disk.new) }
     ensures faults { D.faults disk.old ≤ D.faults disk.new }
 {
     match bring_page(alloc, pool, disk, kept) {
@@ -214,14 +215,14 @@ pub fn take_from_page<D: PageDisk>(
 
 /// Puts an item into a new page. Gives what is kept of the page.
 pub fn start_page<D: PageDisk>(pool: &mut Pool, disk: &mut D, item: &Item) -> Result<Kept, QueueErr>
-    requires agree { Agree pool.old (D.pages disk.old) }
+    requires agree { Agree pool.old (known (D.log disk.old)) }
     requires sound { IsSound item.now }
-    ensures ok { IfOk result (λ kept. Started pool.old (D.pages disk.old) pool.new (D.pages disk.new) kept item.now) }
+    ensures ok { IfOk result (λ kept. Started pool.old (known (D.log disk.old)) pool.new (known (D.log disk.new)) kept item.now) }
 
     // Each refusal.
     ensures disk { IfErr result (λ e. e ≡ QueueErr.Disk → Rose (D.faults disk.old) (D.faults disk.new)) }
     ensures told { IfErr result IsTold }
-    ensures tells { is_some (D.pages disk.new) ≡ is_some (D.pages disk.old) }
+    ensures later { IsLater (D.log disk.old) (D.log disk.new) }
     ensures faults { D.faults disk.old ≤ D.faults disk.new }
 {
     let _room = item_room(item);
@@ -242,12 +243,13 @@ pub fn start_page<D: PageDisk>(pool: &mut Pool, disk: &mut D, item: &Item) -> Re
 /// Lets a page go.
 pub fn let_page_go<D: PageDisk>(pool: &mut Pool, disk: &mut D, page: u64) -> Result<(), QueueErr>
     requires held { IsTrue (is_held pool.old page) }
-    requires agree { Agree pool.old (D.pages disk.old) }
-    ensures ok { OnOk result (Spares pool.old (D.pages disk.old) pool.new (D.pages disk.new) page) }
+    requires agree { Agree pool.old (known (D.log disk.old)) }
+    ensures ok { OnOk result (Spares pool.old (known (D.log disk.old)) pool.new (known (D.log disk.new)) page) }
+    ensures gone { OnOk result (is_held pool.new page ≡ false) }
 
     // Each refusal.
     ensures disk { IfErr result (λ e. (e ≡ QueueErr.Disk) × Rose (D.faults disk.old) (D.faults disk.new)) }
-    ensures tells { is_some (D.pages disk.new) ≡ is_some (D.pages disk.old) }
+    ensures later { IsLater (D.log disk.old) (D.log disk.new) }
     ensures faults { D.faults disk.old ≤ D.faults disk.new }
 {
     match pool.drop_page(disk, page) {

@@ -40,6 +40,12 @@ same_at [] i x y lt ex ey = absurd (omega (arith, lt))
 same_at (z ∷ zs) zero x y lt ex ey = ex ∙ sym ey
 same_at (z ∷ zs) (suc i) x y lt ex ey = same_at zs i x y (omega (arith, lt)) ex ey
 
+-- an element that is written anew with itself
+pub set_same : {A : Type 0} (xs : List A) (i : ℕ) (x : A) → i < length xs → x ≡ get_or xs i x → set xs i x ≡ xs
+set_same [] i x lt is = absurd (omega (arith, lt))
+set_same (y ∷ ys) zero x lt is = ap (λ z. z ∷ ys) is
+set_same (y ∷ ys) (suc i) x lt is = ap (λ l. y ∷ l) (set_same ys i x (omega (arith, lt)) is)
+
 -- what was kept rises
 pub rises_kept : {M : Type 0} (p : ℕ × M → Bool) (es : List (ℕ × M)) → Rises es → Rises (filter p es)
 rises_kept p [] up = tt

@@ -300,3 +300,20 @@ module _ {M : Type 0} where
   pub states_ascend : (ls : Lines M) → Ascends fields_cmp fields_order ls → Ascends key_cmp key_order (states_of ls)
   states_ascend [] up = tt
   states_ascend (l ∷ ls) up = group-ascends l.0 (states_of ls) (above-states l.0 ls up.0) (states_ascend ls up.1) l.1.states.items l.1.rises
+
+-- a line that is written anew with the same states
+module _ {M : Type 0} (test : List Value → Bool) where
+  same-by : (l : List Value × Line M) (ls : Lines M) (line new : Line M) → new.states.items ≡ line.states.items → (b : Bool)
+      → cond b (Some l.1) (lookup test ls) ≡ Some line → (lookup test ls ≡ Some line → states_of (set_value test ls new) ≡ states_of ls)
+      → states_of (cond b ((l.0, new) ∷ ls) (l ∷ set_value test ls new)) ≡ states_of (l ∷ ls)
+  same-by l ls line new e true is ih =
+      let own : l.1 ≡ line = inside is in
+      ap (λ es. in_group l.0 es ++ states_of ls) (e ∙ sym (ap (λ (z : Line M). z.states.items) own))
+    where
+      inside : Some l.1 ≡ Some line → l.1 ≡ line
+      inside k = cc
+  same-by l ls line new e false is ih = ap (λ es. in_group l.0 l.1.states.items ++ es) (ih is)
+
+  pub states_same : (ls : Lines M) (line new : Line M) → lookup test ls ≡ Some line → new.states.items ≡ line.states.items → states_of (set_value test ls new) ≡ states_of ls
+  states_same [] line new is e = refl
+  states_same (l ∷ ls) line new is e = same-by l ls line new e (test l.0) is (λ k. states_same ls line new k e)

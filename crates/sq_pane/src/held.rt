@@ -1,7 +1,6 @@
 //! The states of panes, by group and pane.
 
-ghost use Rattle.std.specs.Prelude.{◌≡◌, ◌+◌, ◌*◌, ◌^◌, ◌<◌, ◌≤◌, ◌++◌, [], OnOk, IfOk};
-ghost use Rattle.std.specs.List.{AllByRecursion};
+ghost use Rattle.std.specs.Prelude.{◌≡◌, ◌+◌, ◌^◌, ◌<◌, ◌≤◌, ◌++◌, [], OnOk, OnErr, IfOk};
 ghost use Rattle.sq_aggfn.specs.Keyed.{added};
 ghost use Rattle.sq_pane.specs.Panes.{key_cmp, from_pane, window_from, total, AllAreMade, entry_of};
 ghost use Rattle.sq_pane.specs.States.{states_of};
@@ -16,7 +15,7 @@ use std::collections::BTreeMap;
 /// For each group that has tuples a state for each pane where it has them.
 pub type Held<S> = BTreeMap<Group, Line<S>>;
 
-/// The state of a pane and group becomes its join with that of a tuple, in place.
+/// The state of a pane and group becomes its join with that of a tuple, in place; after want of memory nothing changed.
 pub fn add_at_key<F: Fold>(
     alloc: Global,
     fold: &F,
@@ -29,6 +28,7 @@ pub fn add_at_key<F: Fold>(
     ensures added { OnOk result (states_of held.new.entries ≡ added key_cmp (F.none fold.now) (F.joined fold.now) key (F.unit fold.now t.now) (states_of held.old.entries)) }
     ensures made { OnOk result (AllAreMade (F.made fold.now) (states_of held.new.entries)) }
     ensures total { OnOk result (total (F.number fold.now) (states_of held.new.entries) ≡ total (F.number fold.now) (states_of held.old.entries) + 1) }
+    ensures err { OnErr result (states_of held.new.entries ≡ states_of held.old.entries) }
 {
     let _count = held.len();
     if let Some(line) = held.get_mut(&key.1) {
@@ -40,7 +40,7 @@ pub fn add_at_key<F: Fold>(
 }
 
 /// Takes the states of all panes before a number out.
-pub fn forget_before<S: Drop>(held: &mut Held<S>, pane: u64)
+pub fn forget_before<S: Drop>(held: &mut Held<S>, pane: u128)
     ensures { states_of held.new.entries ≡ from_pane pane (states_of held.old.entries) }
 {
     held.retain(|_, line| line.keep_from(pane));
@@ -69,9 +69,6 @@ pub fn groups_at<F: Fold>(
     width: u64,
     start: u64,
 ) -> Result<Vec<(Group, F::State)>, AllocError>
-    requires width { 1 ≤ width }
-    requires start { start + width + window.size < 2 ^ 64 }
-    requires ticks { AllByRecursion (λ e. e.0.0 * width < 2 ^ 64) (states_of held.now.entries) }
     requires made { AllAreMade (F.made fold.now) (states_of held.now.entries) }
     requires few { total (F.number fold.now) (states_of held.now.entries) < 2 ^ 62 }
     ensures value { IfOk result (λ groups. groups.items ≡ window_from (F.none fold.now) (F.joined fold.now) window width start [] (states_of held.now.entries)) }

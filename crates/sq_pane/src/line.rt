@@ -1,6 +1,6 @@
 //! The states of one group.
 
-ghost use Rattle.std.specs.Prelude.{◌≡◌, ℕ, ◌+◌, ◌-◌, ◌*◌, ◌^◌, ◌<◌, ◌≤◌, nat_le, false, if◌then◌else◌, unwrap_or, [], length, drop, get_or, OnOk, IfOk};
+ghost use Rattle.std.specs.Prelude.{◌≡◌, ℕ, ◌+◌, ◌-◌, ◌^◌, ◌<◌, ◌≤◌, nat_le, false, if◌then◌else◌, unwrap_or, [], length, drop, get_or, OnOk, OnErr, IfOk};
 ghost use Rattle.std.specs.Ordering.{nat_cmp};
 ghost use Rattle.std.specs.List.{AllByRecursion, filter};
 ghost use Rattle.sq_aggfn.specs.Keyed.{added};
@@ -30,7 +30,7 @@ fn count_up_to<S>(states: &[(u64, S)], pane: u64) -> usize
     count
 }
 
-/// The state of a pane becomes its join with that of a tuple, in place.
+/// The state of a pane becomes its join with that of a tuple, in place; after want of memory nothing changed.
 fn add_state<F: Fold>(
     fold: &F,
     states: &mut Vec<(u64, F::State)>,
@@ -44,6 +44,7 @@ fn add_state<F: Fold>(
     ensures rises { Rises states.new.items }
     ensures made { OnOk result (AllAreMade (F.made fold.now) states.new.items) }
     ensures total { OnOk result (total (F.number fold.now) states.new.items ≡ total (F.number fold.now) states.old.items + 1) }
+    ensures err { OnErr result (states.new.items ≡ states.old.items) }
 {
     let count = count_up_to(states, pane);
     if count > 0 && states[count - 1].0 == pane {
@@ -54,7 +55,7 @@ fn add_state<F: Fold>(
     Ok(())
 }
 
-/// The state of a pane becomes its join with that of a tuple, in place.
+/// The state of a pane becomes its join with that of a tuple, in place; after want of memory nothing changed.
 pub fn add_to_line<F: Fold>(
     fold: &F,
     line: &mut Line<F::State>,
@@ -66,6 +67,7 @@ pub fn add_to_line<F: Fold>(
     ensures added { OnOk result (line.new.states.items ≡ added nat_cmp (F.none fold.now) (F.joined fold.now) pane (F.unit fold.now t.now) line.old.states.items) }
     ensures made { OnOk result (AllAreMade (F.made fold.now) line.new.states.items) }
     ensures total { OnOk result (total (F.number fold.now) line.new.states.items ≡ total (F.number fold.now) line.old.states.items + 1) }
+    ensures err { OnErr result (line.new.states.items ≡ line.old.states.items) }
 {
     add_state(fold, &mut line.states, pane, t)
 }
@@ -89,11 +91,11 @@ pub fn line_of_one<F: Fold>(
 
 impl<S: Drop> Line<S> {
     /// Takes out the states of all panes before a number, and says whether others are left.
-    pub fn keep_from(&mut self, pane: u64) -> bool
+    pub fn keep_from(&mut self, pane: u128) -> bool
         ensures kept { self.new.states.items ≡ filter (λ e. nat_le pane e.0) self.old.states.items }
         ensures none { result ≡ false → self.new.states.items ≡ [] }
     {
-        self.states.retain(|entry| pane <= entry.0);
+        self.states.retain(|entry| pane <= u128::from(entry.0));
         !self.states.is_empty()
     }
 }
@@ -126,12 +128,12 @@ fn joined_if<F: Fold>(
 
 /// Whether the window that starts at a tick covers a pane.
 fn is_within(window: WindowSpec, width: u64, shift: u64, start: u64, pane: u64) -> bool
-    requires shift { shift ≡ shift_of window width }
-    requires start { start + shift + window.size < 2 ^ 64 }
-    requires pane { pane * width < 2 ^ 64 }
+    requires { shift ≡ shift_of window width }
     ensures { result ≡ within window width start pane }
 {
-    window.covers(start + shift, pane * width)
+    let first = u128::from(start) + u128::from(shift);
+    let tick = u128::from(pane) * u128::from(width);
+    first <= tick && tick < first + u128::from(window.size)
 }
 
 /// The join of the states that the window that starts at a tick covers, where there is one.
@@ -144,8 +146,6 @@ pub fn joined_in<F: Fold>(
     start: u64,
 ) -> Result<Option<F::State>, AllocError>
     requires shift { shift ≡ shift_of window width }
-    requires start { start + shift + window.size < 2 ^ 64 }
-    requires ticks { AllByRecursion (λ e. e.0 * width < 2 ^ 64) states.now }
     requires made { AllAreMade (F.made fold.now) states.now }
     requires few { total (F.number fold.now) states.now < 2 ^ 62 }
     ensures value { IfOk result (λ o. o ≡ joined_within (F.none fold.now) (F.joined fold.now) window width start None states.now) }

@@ -1,5 +1,6 @@
 ghost use Rattle.std.specs.Prelude.{◌<◌, OnOk};
 ghost use Rattle.sq_pool.specs.Pools.{Agree};
+ghost use Rattle.sq_pool.specs.Trust.{known};
 
 use sq_outside::{Flip, MemDisk, PageDisk};
 use sq_pool::{Pool, PoolErr};
@@ -7,8 +8,8 @@ use std::test::Fail;
 
 // A page whose first byte is this.
 fn marked<D: PageDisk>(pool: &mut Pool, disk: &mut D, byte: u8) -> Result<u64, PoolErr>
-    requires { Agree pool.old (D.pages disk.old) }
-    ensures { OnOk result (Agree pool.new (D.pages disk.new)) }
+    requires { Agree pool.old (known (D.log disk.old)) }
+    ensures { OnOk result (Agree pool.new (known (D.log disk.new))) }
 {
     let page = pool.make(disk)?;
     pool.page_mut(page)[0] = byte;
@@ -17,8 +18,8 @@ fn marked<D: PageDisk>(pool: &mut Pool, disk: &mut D, byte: u8) -> Result<u64, P
 
 // Three pages, in two frames.
 fn three<D: PageDisk>(pool: &mut Pool, disk: &mut D) -> Result<[u64; 3], PoolErr>
-    requires { Agree pool.old (D.pages disk.old) }
-    ensures { OnOk result (Agree pool.new (D.pages disk.new)) }
+    requires { Agree pool.old (known (D.log disk.old)) }
+    ensures { OnOk result (Agree pool.new (known (D.log disk.new))) }
 {
     let p = marked(pool, disk, 1)?;
     let q = marked(pool, disk, 2)?;
@@ -36,8 +37,8 @@ fn first_byte(pool: &Pool, page: u64) -> Option<u8> {
 }
 
 fn brought<D: PageDisk>(pool: &mut Pool, disk: &mut D, page: u64) -> Result<(), PoolErr>
-    requires { Agree pool.old (D.pages disk.old) }
-    ensures { OnOk result (Agree pool.new (D.pages disk.new)) }
+    requires { Agree pool.old (known (D.log disk.old)) }
+    ensures { OnOk result (Agree pool.new (known (D.log disk.new))) }
 {
     if pool.holds(page) {
         pool.bring(disk, page)
@@ -48,7 +49,7 @@ fn brought<D: PageDisk>(pool: &mut Pool, disk: &mut D, page: u64) -> Result<(), 
 
 // Gives a page up, and makes another.
 fn replaced<D: PageDisk>(pool: &mut Pool, disk: &mut D, page: u64) -> Result<u64, PoolErr>
-    requires { Agree pool.old (D.pages disk.old) }
+    requires { Agree pool.old (known (D.log disk.old)) }
 {
     if pool.holds(page) {
         pool.drop_page(disk, page)?;
@@ -57,7 +58,7 @@ fn replaced<D: PageDisk>(pool: &mut Pool, disk: &mut D, page: u64) -> Result<u64
 }
 
 fn used<D: PageDisk>(pool: &mut Pool, disk: &mut D) -> Result<(), PoolErr>
-    requires { Agree pool.old (D.pages disk.old) }
+    requires { Agree pool.old (known (D.log disk.old)) }
 {
     let [p, q, _] = three(pool, disk)?;
     brought(pool, disk, p)?;
@@ -67,7 +68,7 @@ fn used<D: PageDisk>(pool: &mut Pool, disk: &mut D) -> Result<(), PoolErr>
 
 // Whether the first of three pages is told to have come back changed, and with another digest.
 fn is_garbled<D: PageDisk>(pool: &mut Pool, disk: &mut D) -> Result<bool, PoolErr>
-    requires { Agree pool.old (D.pages disk.old) }
+    requires { Agree pool.old (known (D.log disk.old)) }
 {
     let [p, _, _] = three(pool, disk)?;
     match brought(pool, disk, p) {

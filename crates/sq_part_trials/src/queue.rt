@@ -1,5 +1,6 @@
 ghost use Rattle.std.specs.Prelude.{◌≡◌, false, OnOk};
 ghost use Rattle.sq_queue.specs.Faces.{Together, face, size};
+ghost use Rattle.sq_pool.specs.Trust.{known};
 
 use crate::numbers::mark_at;
 use sq_item::Mark;
@@ -12,9 +13,9 @@ use std::test::Fail;
 fn fill<D: PageDisk>(alloc: Global, queues: &mut Queues, disk: &mut D) -> Result<(), QueueErr>
     requires size { size queues.old ≡ 2 }
     requires open { (face queues.old 1).ended ≡ false }
-    requires together { Together queues.old (D.pages disk.old) }
+    requires together { Together queues.old (known (D.log disk.old)) }
     ensures size { OnOk result (size queues.new ≡ 2) }
-    ensures together { OnOk result (Together queues.new (D.pages disk.new)) }
+    ensures together { OnOk result (Together queues.new (known (D.log disk.new))) }
 {
     queues.push(disk, 1, &mark_at(alloc, 5, Mark::Closed))?;
     queues.send(disk, 1, mark_at(alloc, 7, Mark::Open { until: 9 }))?;
@@ -29,9 +30,9 @@ fn take<D: PageDisk>(
     disk: &mut D,
 ) -> Result<Option<(u64, Head, u64, u32)>, QueueErr>
     requires size { size queues.old ≡ 2 }
-    requires together { Together queues.old (D.pages disk.old) }
+    requires together { Together queues.old (known (D.log disk.old)) }
     ensures size { OnOk result (size queues.new ≡ 2) }
-    ensures together { OnOk result (Together queues.new (D.pages disk.new)) }
+    ensures together { OnOk result (Together queues.new (known (D.log disk.new))) }
 {
     let Head::Time(_) = queues.head(1) else {
         return Ok(None);
@@ -61,9 +62,9 @@ fn an_arc_gives_its_items_in_order_and_then_its_end(rt: HostRuntime) -> Result<(
 fn send_all<D: PageDisk>(alloc: Global, queues: &mut Queues, disk: &mut D) -> Result<(), QueueErr>
     requires size { size queues.old ≡ 1 }
     requires open { (face queues.old 0).ended ≡ false }
-    requires together { Together queues.old (D.pages disk.old) }
+    requires together { Together queues.old (known (D.log disk.old)) }
     ensures size { OnOk result (size queues.new ≡ 1) }
-    ensures together { OnOk result (Together queues.new (D.pages disk.new)) }
+    ensures together { OnOk result (Together queues.new (known (D.log disk.new))) }
 {
     for time in 0..300 {
         queues.send(disk, 0, mark_at(alloc, time, Mark::Closed))?;
@@ -74,7 +75,7 @@ fn send_all<D: PageDisk>(alloc: Global, queues: &mut Queues, disk: &mut D) -> Re
 // Takes all items of arc 0, where their times are 0, 1, ..; how many there were.
 fn take_all<D: PageDisk>(queues: &mut Queues, disk: &mut D) -> Result<u64, Fail>
     requires size { size queues.old ≡ 1 }
-    requires together { Together queues.old (D.pages disk.old) }
+    requires together { Together queues.old (known (D.log disk.old)) }
     ensures size { OnOk result (size queues.new ≡ 1) }
 {
     let mut next = 0;

@@ -1,7 +1,8 @@
 -- The public calls, seen as pools.
 use Rattle.std.proofs.Common.{◌≡◌, ℕ, ◌∷◌, ◌++◌, [], List, Option, Some, None, refl, sym, ap, subst, ◌∙◌}
 use Rattle.std.proofs.Math.ListN.{set}
-use Rattle.sq_outside.specs.Disks.{Pages, without_page as without_number}
+use Rattle.sq_outside.specs.Disks.{Pages}
+use Rattle.sq_pool.specs.Trust.{pages_without}
 use Rattle.sq_pool.specs.Slots.{Slotted, frame_in, without_page, kept_at}
 use Rattle.sq_pool.specs.Pools.{Pooled, frame_at, pooled, bytes_in, with_bytes, loaded, HasRoom, Fetches, Keeps, Makes, Drops, IsLast, zeros, IsNumbered, IsMade, Brings, Touched, LetsGo}
 use Rattle.sq_pool.proofs.PoolLemmas.{bytes-frame, touched, dropped, out-of-frames}
@@ -18,7 +19,7 @@ pub drops-release : (slots : Slotted) (frames : List (List ℕ)) (told : Option 
 drops-release slots frames told p =
     subst (λ (x : Pooled). Drops (pooled slots frames) told x told p) (sym (dropped slots frames p)) (drops-resident (pooled slots frames) told p)
 
-pub drops-given : (slots : Slotted) (frames : List (List ℕ)) (told now : Option Pages) (p : ℕ) → frame_in p slots.order ≡ None → now ≡ without_number told p
+pub drops-given : (slots : Slotted) (frames : List (List ℕ)) (told now : Option Pages) (p : ℕ) → frame_in p slots.order ≡ None → now ≡ pages_without told p
     → Drops (pooled slots frames) told (pooled (record slots { kept = set slots.kept p None }) frames) now p
 drops-given slots frames told now p e is = drops-spilled (pooled slots frames) told now p (out-of-frames slots frames p e) is
 

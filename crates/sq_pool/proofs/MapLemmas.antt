@@ -11,9 +11,12 @@ use Rattle.std.specs.declared.cmp.Ordering.TheVariants.{Less, Equal, Greater}
 use Rattle.std.specs.Cmp.{nat_cmp_total, eq_by_cmp_equiv}
 use Rattle.sha2.specs.Sha256.{sha256}
 use Rattle.sq_link.proofs.ListLemmas.{eqb-same, eqb-other}
-use Rattle.sq_outside.specs.Disks.{Pages, with_page, without_page as without_number, HasPage, HoldsPage}
+use Rattle.sq_outside.specs.Disks.{Pages, DiskLog, Honest, put_at, after_get}
+use Rattle.sq_pool.specs.Trust.{known, Tells, pages_with, pages_without, HasPage}
 use Rattle.sq_pool.specs.Slots.{without_page, kept_at}
 use Rattle.sq_pool.specs.Pools.{Pooled, bytes_in, is_held, page_of, if_none, if_kept, HasDigest, Agree, SameMap, Spills, HasRoom, with_bytes, loaded, Fetches, Keeps, Makes, Drops, zeros, numbered, IsNumbered, LetsGo}
+use Rattle.sq_pool.proofs.PoolLemmas.{is-some}
+use Rattle.sq_pool.proofs.TrustLemmas.{if-tells, tells-with, tells-without, honest-tells, known-honest, known-pages, known-get, put-came}
 
 -- ---- lists of pages
 
@@ -116,46 +119,61 @@ get-other t p q b other =
 get-same : (t : Pages) (p : ℕ) (b : List ℕ) → finite.get (finite.insert t p b) p ≡ Some b
 get-same t p b = finite.get-insert nat_cmp_total t p b p ∙ ap (λ (x : Bool). cond x (Some b) (finite.get t p)) ((eq_by_cmp_equiv nat_cmp_total).refl p)
 
--- where the disk tells its pages, it does so after it took one
+-- where the pages are known once there is room, the disk holds the page with bytes of the kept digest
 pub room-told : (c : Pooled) (told : Option Pages) (d : Pooled) (now : Option Pages) (p : ℕ) (digest : List ℕ) → HasRoom c told d now → Agree c told → bytes_in p c.resident ≡ None → kept_at c.kept p ≡ Some digest
     → IfSome now (λ n. HasDigest (finite.get n p) digest)
 room-told c told d now p digest room agree none kept =
     elim room.how [
       | inl same ↦ subst (λ (o : Option Pages). IfSome o (λ n. HasDigest (finite.get n p) digest)) (sym same.1) (told_at told agree)
-      | inr s ↦ subst (λ (o : Option Pages). IfSome o (λ n. HasDigest (finite.get n p) digest)) (sym s.disk) (put_at told agree s.page s.bytes (not-spilled c told d now p s none))
+      | inr s ↦ subst (λ (o : Option Pages). IfSome o (λ n. HasDigest (finite.get n p) digest)) (sym s.disk) (spilled_at told agree s.page s.bytes (not-spilled c told d now p s none))
     ]
   where
     told_at : (o : Option Pages) → Agree c o → IfSome o (λ n. HasDigest (finite.get n p) digest)
     told_at None a = tt
     told_at (Some t) a = subst (λ (k : Option (List ℕ)). IfSome k (HasDigest (finite.get t p))) kept (a p)
 
-    put_at : (o : Option Pages) → Agree c o → (v : ℕ) (b : List ℕ) → p ≢ v → IfSome (with_page o v b) (λ n. HasDigest (finite.get n p) digest)
-    put_at None a v b other = tt
-    put_at (Some t) a v b other = subst (λ (k : Option (List ℕ)). HasDigest k digest) (sym (get-other t v p b other)) (subst (λ (k : Option (List ℕ)). IfSome k (HasDigest (finite.get t p))) kept (a p))
+    spilled_at : (o : Option Pages) → Agree c o → (v : ℕ) (b : List ℕ) → p ≢ v → IfSome (pages_with o v b) (λ n. HasDigest (finite.get n p) digest)
+    spilled_at None a v b other = tt
+    spilled_at (Some t) a v b other = subst (λ (k : Option (List ℕ)). HasDigest k digest) (sym (get-other t v p b other)) (subst (λ (k : Option (List ℕ)). IfSome k (HasDigest (finite.get t p))) kept (a p))
 
-has_page : (o : Option (List ℕ)) (digest : List ℕ) → HasDigest o digest → IsSome o
-has_page None digest h = absurd h
-has_page (Some b) digest h = refl
+-- the bytes that were put, which have this digest
+put_with : (o : Option (List ℕ)) (digest : List ℕ) → HasDigest o digest → (put : List ℕ) × (o ≡ Some put) × (sha256 put ≡ digest)
+put_with None digest h = absurd h
+put_with (Some b) digest h = (b, refl, h)
 
-pub holds_page : (now : Option Pages) (p : ℕ) (digest : List ℕ) → IfSome now (λ n. HasDigest (finite.get n p) digest) → HoldsPage now p
-holds_page None p digest h = tt
-holds_page (Some n) p digest h = has_page (finite.get n p) digest h
+known_put : (log : DiskLog) (p : ℕ) (digest : List ℕ) → IfSome (known log) (λ n. HasDigest (finite.get n p) digest) → Tells (known log) → (put : List ℕ) × (put_at log p ≡ Some put) × (sha256 put ≡ digest)
+known_put log p digest h t = put_with (put_at log p) digest (subst (λ (o : Option Pages). IfSome o (λ n. HasDigest (finite.get n p) digest)) (known-pages log t) h)
 
--- a disk that tells its pages garbles none
-pub same_digest : (now : Option Pages) (p : ℕ) (digest bytes : List ℕ) → IfSome now (λ n. HasDigest (finite.get n p) digest) → HasPage now p bytes → is_some now ≡ true → sha256 bytes ≡ digest
-same_digest None p digest bytes h k t = absurd cc
-same_digest (Some n) p digest bytes h k t = subst (λ (o : Option (List ℕ)). HasDigest o digest) k h
+-- an honest disk holds the page
+pub holds_page : (log : DiskLog) (p : ℕ) (digest : List ℕ) → IfSome (known log) (λ n. HasDigest (finite.get n p) digest) → Honest log → IsSome (put_at log p)
+holds_page log p digest h honest = let put = known_put log p digest h (honest-tells log honest) in is-some (put_at log p) put.0 put.1
 
-pub room-tells : (c : Pooled) (told : Option Pages) (d : Pooled) (now : Option Pages) → HasRoom c told d now → is_some now ≡ is_some told
-room-tells c told d now room = elim room.how [ inl same ↦ ap (λ (o : Option Pages). is_some o) same.1 | inr s ↦ ap (λ (o : Option Pages). is_some o) s.disk ∙ tells told s.page s.bytes ]
+-- an honest disk garbles none
+pub same_digest : (log : DiskLog) (p : ℕ) (digest bytes : List ℕ) → IfSome (known log) (λ n. HasDigest (finite.get n p) digest) → Honest log → put_at log p ≡ Some bytes → sha256 bytes ≡ digest
+same_digest log p digest bytes h honest there =
+    subst (λ (o : Option (List ℕ)). HasDigest o digest) there (subst (λ (o : Option Pages). IfSome o (λ n. HasDigest (finite.get n p) digest)) (known-honest log honest) h)
+
+-- where the pages are known behind a get, bytes of the kept digest are those that were put
+pub came_back : (log : DiskLog) (p : ℕ) (digest bytes : List ℕ) → IfSome (known log) (λ n. HasDigest (finite.get n p) digest) → (Honest log → put_at log p ≡ Some bytes) → sha256 bytes ≡ digest
+    → HasPage (known (after_get log p bytes)) p bytes
+came_back log p digest bytes h promised same = if-tells (known (after_get log p bytes)) (λ n. finite.get n p ≡ Some bytes) (λ t.
+    let before = known-get log p bytes t in
+    let tells : Tells (known log) = subst Tells before t in
+    let put = known_put log p digest h tells in
+    let is : put.0 ≡ bytes = put-came log p put.0 bytes promised put.1 (same ∙ sym put.2) t in
+    subst (λ (o : Option Pages). HasPage o p bytes) (sym (before ∙ known-pages log tells)) (put.1 ∙ ap (λ (b : List ℕ). Some b) is))
+
+pub stays_known : (log : DiskLog) (p : ℕ) (bytes : List ℕ) → IfSome (known (after_get log p bytes)) (λ pages. known log ≡ Some pages)
+stays_known log p bytes = if-tells (known (after_get log p bytes)) (λ pages. known log ≡ Some pages) (λ t.
+    subst (λ (o : Option Pages). IfSome o (λ pages. known log ≡ Some pages)) (sym (known-get log p bytes t)) (itself (known log)))
   where
-    tells : (o : Option Pages) (v : ℕ) (b : List ℕ) → is_some (with_page o v b) ≡ is_some o
-    tells None v b = refl
-    tells (Some t) v b = refl
+    itself : (o : Option Pages) → IfSome o (λ pages. o ≡ Some pages)
+    itself None = tt
+    itself (Some t) = refl
 
-pub is-told : {P : Type 0} (o : Option Pages) → (is_some o ≡ true → P) → IfSome o (λ _. P)
-is-told None h = tt
-is-told (Some t) h = h refl
+pub room-tells : (c : Pooled) (told : Option Pages) (d : Pooled) (now : Option Pages) → HasRoom c told d now → Tells now → Tells told
+room-tells c told d now room t =
+    elim room.how [ inl same ↦ subst Tells same.1 t | inr s ↦ tells-with told s.page s.bytes (subst Tells s.disk t) ]
 
 -- ---- the map stays
 
@@ -191,7 +209,7 @@ spilled-held c v b is inside =
     (rw (bytes-gone v c.resident, get_or-set_same c.kept v (Some (sha256 b)) None inside, is) refl)
     (λ q other. held-is c (spilled_of c v b) q (bytes-other v q c.resident other) (get_or-set_other c.kept v q (Some (sha256 b)) None other))
 
-keeps-spilled : (c : Pooled) (told : Option Pages) (v : ℕ) (b : List ℕ) → bytes_in v c.resident ≡ Some b → v < length c.kept → Keeps c told (spilled_of c v b) (with_page told v b)
+keeps-spilled : (c : Pooled) (told : Option Pages) (v : ℕ) (b : List ℕ) → bytes_in v c.resident ≡ Some b → v < length c.kept → Keeps c told (spilled_of c v b) (pages_with told v b)
 keeps-spilled c None v b is inside = record { pages = tt; numbers = spilled-held c v b is inside; agree = λ a. tt }
 keeps-spilled c (Some t) v b is inside = record {
   pages = spilled-map c t v b is inside;
@@ -246,25 +264,39 @@ keeps-loaded mid (Some n) p bytes digest none kept there = record {
   agree = agree-loaded mid (Some n) p bytes;
 }
 
-pub keeps-then : (c : Pooled) (told : Option Pages) (d : Pooled) (now : Option Pages) (e : Pooled) (end : Option Pages) → is_some now ≡ is_some told → Keeps c told d now → Keeps d now e end → Keeps c told e end
+pub keeps-then : (c : Pooled) (told : Option Pages) (d : Pooled) (now : Option Pages) (e : Pooled) (end : Option Pages) → (Tells end → Tells now) → Keeps c told d now → Keeps d now e end → Keeps c told e end
 keeps-then c told d now e end tells k l = record {
   pages = joined told now end tells k.pages l.pages;
   numbers = λ q. l.numbers q ∙ k.numbers q;
   agree = λ a. l.agree (k.agree a);
 }
   where
-    joined : (a b x : Option Pages) → is_some b ≡ is_some a → SameMap c a d b → SameMap d b e x → SameMap c a e x
+    joined : (a b x : Option Pages) → (Tells x → Tells b) → SameMap c a d b → SameMap d b e x → SameMap c a e x
     joined None b x s h m = tt
-    joined (Some t) None x s h m = absurd (cc)
-    joined (Some t) (Some n) None s h m = tt
+    joined (Some t) b None s h m = tt
+    joined (Some t) None (Some z) s h m = absurd (let no : false ≡ true = s refl in cc)
     joined (Some t) (Some n) (Some z) s h m = λ q. m q ∙ h q
+
+-- nothing was done but that pages are unknown, or are those that were known
+keeps-known : (c : Pooled) (told now : Option Pages) → IfSome now (λ pages. told ≡ Some pages) → Keeps c told c now
+keeps-known c told None stays = record { pages = none told; numbers = λ q. refl; agree = λ a. tt }
+  where
+    none : (o : Option Pages) → SameMap c o c None
+    none None = tt
+    none (Some t) = tt
+keeps-known c told (Some n) stays = subst (λ (o : Option Pages). Keeps c o c (Some n)) (sym stays) (keeps-same c (Some n))
+
+known-stays : (told now : Option Pages) → IfSome now (λ pages. told ≡ Some pages) → Tells now → Tells told
+known-stays told None stays t = absurd cc
+known-stays told (Some n) stays t = subst Tells (sym stays) refl
 
 pub keeps-fetched : (c : Pooled) (told : Option Pages) (d : Pooled) (now : Option Pages) (p : ℕ) (digest : List ℕ) → Fetches c told d now p digest → bytes_in p c.resident ≡ None → kept_at c.kept p ≡ Some digest → Keeps c told d now
 keeps-fetched c told d now p digest f none kept =
-    let out = room-out c told f.mid now p f.room none in
-    let mid-kept = room-kept c told f.mid now p f.room none ∙ kept in
+    let out = room-out c told f.mid f.between p f.room none in
+    let mid-kept = room-kept c told f.mid f.between p f.room none ∙ kept in
+    let between = keeps-then c told f.mid f.between f.mid now (known-stays f.between now f.stays) (keeps-room c told f.mid f.between f.room) (keeps-known f.mid f.between now f.stays) in
     subst (λ (x : Pooled). Keeps c told x now) (sym f.pool)
-    (keeps-then c told f.mid now (loaded f.mid p f.bytes) now (room-tells c told f.mid now f.room) (keeps-room c told f.mid now f.room) (keeps-loaded f.mid now p f.bytes digest out mid-kept f.disk))
+    (keeps-then c told f.mid now (loaded f.mid p f.bytes) now (λ t. t) between (keeps-loaded f.mid now p f.bytes digest out mid-kept f.disk))
 
 pub keeps-touched : (c : Pooled) (told : Option Pages) (p : ℕ) (b : List ℕ) → bytes_in p c.resident ≡ Some b → Keeps c told (record c { resident = without_page p c.resident ++ (p, b) ∷ [] }) told
 keeps-touched c told p b is =
@@ -309,19 +341,19 @@ makes-loaded mid now p none gone = record {
         (rw (bytes-last p zeros mid.resident none, eqb-same p) refl)
         (λ q other. page-is mid (loaded mid p zeros) t t q (bytes-before p q zeros mid.resident other) (get_or-set_other mid.kept p q None None other) refl ∙ sym (rw (eqb-other q p other) refl))
 
-makes-after : (c : Pooled) (told : Option Pages) (d : Pooled) (now : Option Pages) (e : Pooled) (p : ℕ) → is_some now ≡ is_some told → Keeps c told d now → Makes d now e now p → Makes c told e now p
-makes-after c told d now e p tells k m = record {
+makes-after : (c : Pooled) (told : Option Pages) (d : Pooled) (now : Option Pages) (e : Pooled) (p : ℕ) → Keeps c told d now → Makes d now e now p → Makes c told e now p
+makes-after c told d now e p k m = record {
   fresh = sym (k.numbers p) ∙ m.fresh;
-  pages = joined told now tells k.pages m.pages;
+  pages = joined told now k.pages m.pages;
   numbers = λ q. m.numbers q ∙ ap (λ (b : Bool). eqb q p || b) (k.numbers q);
   agree = λ a. m.agree (k.agree a);
 }
   where
-    joined : (a b : Option Pages) → is_some b ≡ is_some a → SameMap c a d b → IfSome b (λ t. IfSome b (λ n. (q : ℕ) → page_of e n q ≡ cond (eqb q p) (Some zeros) (page_of d t q)))
+    joined : (a b : Option Pages) → SameMap c a d b → IfSome b (λ t. IfSome b (λ n. (q : ℕ) → page_of e n q ≡ cond (eqb q p) (Some zeros) (page_of d t q)))
         → IfSome a (λ t. IfSome b (λ n. (q : ℕ) → page_of e n q ≡ cond (eqb q p) (Some zeros) (page_of c t q)))
-    joined None b s h x = tt
-    joined (Some t) None s h x = absurd (cc)
-    joined (Some t) (Some n) s h x = λ q. x q ∙ ap (λ (o : Option (List ℕ)). cond (eqb q p) (Some zeros) o) (h q)
+    joined None b h x = tt
+    joined (Some t) None h x = tt
+    joined (Some t) (Some n) h x = λ q. x q ∙ ap (λ (o : Option (List ℕ)). cond (eqb q p) (Some zeros) o) (h q)
 
 -- what one more number leaves
 pub record IsStart (c : Pooled) (told : Option Pages) (start : Pooled) (p : ℕ) : Type 0 where
@@ -347,8 +379,8 @@ pub makes : (c : Pooled) (told : Option Pages) (start mid : Pooled) (now : Optio
 makes c told start mid now p s room =
     let out = room-out start told mid now p room s.out in
     let gone : kept_at mid.kept p ≡ None = room-kept start told mid now p room s.out ∙ s.gone in
-    makes-after c told mid now (loaded mid p zeros) p (room-tells start told mid now room)
-    (keeps-then c told start told mid now refl s.keeps (keeps-room start told mid now room)) (makes-loaded mid now p out gone)
+    makes-after c told mid now (loaded mid p zeros) p
+    (keeps-then c told start told mid now (room-tells start told mid now room) s.keeps (keeps-room start told mid now room)) (makes-loaded mid now p out gone)
 
 pub room-length : (c : Pooled) (told : Option Pages) (d : Pooled) (now : Option Pages) → HasRoom c told d now → length d.kept ≡ length c.kept
 room-length c told d now room =
@@ -360,7 +392,7 @@ room-length c told d now room =
 -- a page is let go
 
 drops-at : (c d : Pooled) (told now : Option Pages) (p : ℕ) → bytes_in p d.resident ≡ None → kept_at d.kept p ≡ None → ((q : ℕ) → q ≢ p → (bytes_in q d.resident ≡ bytes_in q c.resident) × (kept_at d.kept q ≡ kept_at c.kept q))
-    → IfSome told (λ t. IfSome now (λ n. (q : ℕ) → q ≢ p → finite.get n q ≡ finite.get t q)) → is_some now ≡ is_some told → Drops c told d now p
+    → IfSome told (λ t. IfSome now (λ n. (q : ℕ) → q ≢ p → finite.get n q ≡ finite.get t q)) → (Tells now → Tells told) → Drops c told d now p
 drops-at c d told now p none gone rest got tells = record {
   pages = mapped told now got;
   numbers = at-page (is_held d) (λ q. not (eqb q p) && is_held c q) p
@@ -377,9 +409,9 @@ drops-at c d told now p none gone rest got tells = record {
         (rw (none, gone, eqb-same p) refl)
         (λ q other. page-is c d t n q (rest q other).0 (rest q other).1 (h q other) ∙ sym (rw (eqb-other q p other) refl))
 
-    agrees : (a b : Option Pages) → IfSome a (λ t. IfSome b (λ n. (q : ℕ) → q ≢ p → finite.get n q ≡ finite.get t q)) → is_some b ≡ is_some a → Agree c a → Agree d b
+    agrees : (a b : Option Pages) → IfSome a (λ t. IfSome b (λ n. (q : ℕ) → q ≢ p → finite.get n q ≡ finite.get t q)) → (Tells b → Tells a) → Agree c a → Agree d b
     agrees a None h s g = tt
-    agrees None (Some n) h s g = absurd (cc)
+    agrees None (Some n) h s g = absurd (let no : false ≡ true = s refl in cc)
     agrees (Some t) (Some n) h s g = λ q.
         elim (cases_eq q p) [
           | inl e ↦ subst (λ (o : Option (List ℕ)). IfSome o (HasDigest (finite.get n q))) (sym (ap (kept_at d.kept) e ∙ gone)) tt
@@ -391,23 +423,19 @@ same-gets : (told : Option Pages) (p : ℕ) → IfSome told (λ t. IfSome told (
 same-gets None p = tt
 same-gets (Some t) p = λ q other. refl
 
-less-gets : (told : Option Pages) (p : ℕ) → IfSome told (λ t. IfSome (without_number told p) (λ n. (q : ℕ) → q ≢ p → finite.get n q ≡ finite.get t q))
+less-gets : (told : Option Pages) (p : ℕ) → IfSome told (λ t. IfSome (pages_without told p) (λ n. (q : ℕ) → q ≢ p → finite.get n q ≡ finite.get t q))
 less-gets None p = tt
 less-gets (Some t) p = λ q other. finite.get-remove nat_cmp_total t p q ∙ ap (λ (x : Bool). cond x None (finite.get t q)) (unequal (nat_cmp q p) (λ e. other (finite.nat_cmp-IsAntisymmetric q p e)))
-
-less-tells : (told : Option Pages) (p : ℕ) → is_some (without_number told p) ≡ is_some told
-less-tells None p = refl
-less-tells (Some t) p = refl
 
 pub drops-resident : (c : Pooled) (told : Option Pages) (p : ℕ) → Drops c told (record c { resident = without_page p c.resident; kept = set c.kept p None }) told p
 drops-resident c told p =
     drops-at c (record c { resident = without_page p c.resident; kept = set c.kept p None }) told told p (bytes-gone p c.resident) (kept-cleared c.kept p)
-    (λ q other. (bytes-other p q c.resident other, get_or-set_other c.kept p q None None other)) (same-gets told p) refl
+    (λ q other. (bytes-other p q c.resident other, get_or-set_other c.kept p q None None other)) (same-gets told p) (λ t. t)
 
-pub drops-spilled : (c : Pooled) (told now : Option Pages) (p : ℕ) → bytes_in p c.resident ≡ None → now ≡ without_number told p → Drops c told (record c { kept = set c.kept p None }) now p
+pub drops-spilled : (c : Pooled) (told now : Option Pages) (p : ℕ) → bytes_in p c.resident ≡ None → now ≡ pages_without told p → Drops c told (record c { kept = set c.kept p None }) now p
 drops-spilled c told now p none is =
     subst (λ (o : Option Pages). Drops c told (record c { kept = set c.kept p None }) o p) (sym is)
-    (drops-at c (record c { kept = set c.kept p None }) told (without_number told p) p none (kept-cleared c.kept p) (λ q other. (refl, get_or-set_other c.kept p q None None other)) (less-gets told p) (less-tells told p))
+    (drops-at c (record c { kept = set c.kept p None }) told (pages_without told p) p none (kept-cleared c.kept p) (λ q other. (refl, get_or-set_other c.kept p q None None other)) (less-gets told p) (tells-without told p))
 
 lets-go : (c d : Pooled) (p : ℕ) → bytes_in p d.resident ≡ None → kept_at d.kept p ≡ None → ((q : ℕ) → q ≢ p → (bytes_in q d.resident ≡ bytes_in q c.resident) × (kept_at d.kept q ≡ kept_at c.kept q)) → LetsGo c d p
 lets-go c d p none gone rest = record {

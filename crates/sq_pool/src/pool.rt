@@ -68,12 +68,13 @@ fn clear(bytes: &mut [u8])
 }
 
 impl Pool {
-    ghost use Rattle.std.specs.Prelude.{◌≡◌, ℕ, ◌<◌, ◌≤◌, ◌+◌, IfOk, OnOk, IfErr, IfSome, IsSome, is_some, IsTrue, None, Some, Option, List, length, ◌⊎◌, []};
+    ghost use Rattle.std.specs.Prelude.{◌≡◌, ℕ, ◌<◌, ◌≤◌, ◌+◌, if◌then◌else◌, IfOk, OnOk, IfErr, IfSome, IsSome, is_some, IsTrue, None, Some, Option, List, length, ◌⊎◌, []};
     ghost use Rattle.sq_pool.specs.Pools.{Agree, Spills, HasRoom, is_held, bytes_in, loaded, Fetches, Keeps, Makes, Drops, IsLast, Brings, IsMade, IsNumbered, LetsGo};
     ghost use Rattle.sq_pool.specs.Errors.{IsGarbling};
     ghost use Rattle.sq_pool.specs.Slots.{kept_at};
     ghost use Rattle.sq_outside.specs.Faults.{Rose};
-    ghost use Rattle.sq_outside.specs.Disks.{Pages};
+    ghost use Rattle.sq_outside.specs.Disks.{after_give_up, Honest, Pages};
+    ghost use Rattle.sq_pool.specs.Trust.{known, IsLater};
     ghost use Rattle.std.specs.Borrow.{sem};
     ghost use Rattle.sq_pool.specs.Lends.{LendsPage};
 
@@ -117,11 +118,11 @@ impl Pool {
     // Puts the page of longest disuse on the disk.
     fn spill<D: PageDisk>(&mut self, disk: &mut D) -> Result<(), PoolErr>
         requires { 0 < length self.old.resident }
-        ensures ok { OnOk result (Spills self.old (D.pages disk.old) self.new (D.pages disk.new)) }
+        ensures ok { OnOk result (Spills self.old (known (D.log disk.old)) self.new (known (D.log disk.new))) }
         ensures room { OnOk result (length self.new.resident + 1 ≡ length self.old.resident) }
         ensures disk { IfErr result (λ e. (e ≡ PoolErr.Disk) × Rose (D.faults disk.old) (D.faults disk.new)) }
         ensures faults { D.faults disk.old ≤ D.faults disk.new }
-        ensures tells { is_some (D.pages disk.new) ≡ is_some (D.pages disk.old) }
+        ensures later { IsLater (D.log disk.old) (D.log disk.new) }
     {
         self.slots.sound();
         let Some((page, frame)) = self.slots.oldest() else {
@@ -142,10 +143,10 @@ impl Pool {
     // Makes a frame free, where none is.
     fn make_room<D: PageDisk>(&mut self, disk: &mut D) -> Result<(), PoolErr>
         requires { 0 < self.old.frames }
-        ensures ok { OnOk result (HasRoom self.old (D.pages disk.old) self.new (D.pages disk.new)) }
+        ensures ok { OnOk result (HasRoom self.old (known (D.log disk.old)) self.new (known (D.log disk.new))) }
         ensures disk { IfErr result (λ e. (e ≡ PoolErr.Disk) × Rose (D.faults disk.old) (D.faults disk.new)) }
         ensures faults { D.faults disk.old ≤ D.faults disk.new }
-        ensures tells { is_some (D.pages disk.new) ≡ is_some (D.pages disk.old) }
+        ensures later { IsLater (D.log disk.old) (D.log disk.new) }
     {
         self.slots.sound();
         if self.resident as usize == self.frames.count() {
@@ -208,13 +209,13 @@ impl Pool {
         requires frames { 0 < self.old.frames }
         requires kept { kept_at self.old.kept page ≡ Some kept.0 }
         requires out { bytes_in page self.old.resident ≡ None }
-        requires agree { Agree self.old (D.pages disk.old) }
-        ensures ok { OnOk result (Fetches self.old (D.pages disk.old) self.new (D.pages disk.new) page kept.0) }
+        requires agree { Agree self.old (known (D.log disk.old)) }
+        ensures ok { OnOk result (Fetches self.old (known (D.log disk.old)) self.new (known (D.log disk.new)) page kept.0) }
         ensures disk { IfErr result (λ e. e ≡ PoolErr.Disk → Rose (D.faults disk.old) (D.faults disk.new)) }
         ensures garbled { IfErr result (λ e. IsGarbling self.old self.new page e) }
-        ensures told { IfErr result (λ e. IfSome (D.pages disk.old) (λ _. e ≡ PoolErr.Disk)) }
+        ensures honest { IfErr result (λ e. Honest (D.log disk.old) → e ≡ PoolErr.Disk) }
         ensures faults { D.faults disk.old ≤ D.faults disk.new }
-        ensures tells { is_some (D.pages disk.new) ≡ is_some (D.pages disk.old) }
+        ensures later { IsLater (D.log disk.old) (D.log disk.new) }
     {
         self.make_room(disk)?;
         self.open_frame(page);
@@ -229,22 +230,22 @@ impl Pool {
     }
 
     /// The page is in a frame and was used last; the map stays. It fails by a fault of the disk, or where a page came back
-    /// garbled.
+    /// garbled, which none does of an honest disk.
     pub fn bring<D: PageDisk>(&mut self, disk: &mut D, page: u64) -> Result<(), PoolErr>
         requires held { IsTrue (is_held self.old page) }
-        requires agree { Agree self.old (D.pages disk.old) }
-        ensures pool { OnOk result (Brings self.old (D.pages disk.old) self.new (D.pages disk.new) page) }
-        ensures map { OnOk result (Keeps self.old (D.pages disk.old) self.new (D.pages disk.new)) }
+        requires agree { Agree self.old (known (D.log disk.old)) }
+        ensures pool { OnOk result (Brings self.old (known (D.log disk.old)) self.new (known (D.log disk.new)) page) }
+        ensures map { OnOk result (Keeps self.old (known (D.log disk.old)) self.new (known (D.log disk.new))) }
         ensures last { OnOk result (IsLast page self.new) }
-        ensures agree { OnOk result (Agree self.new (D.pages disk.new)) }
+        ensures agree { OnOk result (Agree self.new (known (D.log disk.new))) }
         ensures frames { OnOk result (self.new.frames ≡ self.old.frames) }
 
         // Each refusal.
         ensures disk { IfErr result (λ e. e ≡ PoolErr.Disk → Rose (D.faults disk.old) (D.faults disk.new)) }
         ensures garbled { IfErr result (λ e. IsGarbling self.old self.new page e) }
-        ensures told { IfErr result (λ e. IfSome (D.pages disk.old) (λ _. e ≡ PoolErr.Disk)) }
+        ensures honest { IfErr result (λ e. Honest (D.log disk.old) → e ≡ PoolErr.Disk) }
         ensures faults { D.faults disk.old ≤ D.faults disk.new }
-        ensures tells { is_some (D.pages disk.new) ≡ is_some (D.pages disk.old) }
+        ensures later { IsLater (D.log disk.old) (D.log disk.new) }
     {
         self.slots.sound();
         match self.slots.place(page) {
@@ -263,18 +264,18 @@ impl Pool {
     /// The number of a new page of zeros, which is in a frame and was used last. It fails by a fault of the disk, or want
     /// of memory.
     pub fn make<D: PageDisk>(&mut self, disk: &mut D) -> Result<u64, PoolErr>
-        requires agree { Agree self.old (D.pages disk.old) }
-        ensures pool { IfOk result (λ page. IsMade self.old (D.pages disk.old) self.new (D.pages disk.new) page) }
-        ensures map { IfOk result (λ page. Makes self.old (D.pages disk.old) self.new (D.pages disk.new) page) }
+        requires agree { Agree self.old (known (D.log disk.old)) }
+        ensures pool { IfOk result (λ page. IsMade self.old (known (D.log disk.old)) self.new (known (D.log disk.new)) page) }
+        ensures map { IfOk result (λ page. Makes self.old (known (D.log disk.old)) self.new (known (D.log disk.new)) page) }
         ensures last { IfOk result (λ page. IsLast page self.new) }
-        ensures agree { OnOk result (Agree self.new (D.pages disk.new)) }
+        ensures agree { OnOk result (Agree self.new (known (D.log disk.new))) }
         ensures frames { OnOk result (self.new.frames ≡ self.old.frames) }
 
         // Each refusal.
         ensures disk { IfErr result (λ e. e ≡ PoolErr.Disk → Rose (D.faults disk.old) (D.faults disk.new)) }
         ensures plain { IfErr result (λ e. (e ≡ PoolErr.Disk) ⊎ (e ≡ PoolErr.Memory)) }
         ensures faults { D.faults disk.old ≤ D.faults disk.new }
-        ensures tells { is_some (D.pages disk.new) ≡ is_some (D.pages disk.old) }
+        ensures later { IsLater (D.log disk.old) (D.log disk.new) }
     {
         self.slots.sound();
         let page = self.new_number()?;
@@ -284,19 +285,20 @@ impl Pool {
         Ok(page)
     }
 
-    /// The page leaves the map. It fails by a fault of the disk.
+    /// The page leaves the map, and one that is in no frame leaves the disk. It fails by a fault of the disk.
     pub fn drop_page<D: PageDisk>(&mut self, disk: &mut D, page: u64) -> Result<(), PoolErr>
         requires held { IsTrue (is_held self.old page) }
-        requires agree { Agree self.old (D.pages disk.old) }
+        requires agree { Agree self.old (known (D.log disk.old)) }
         ensures pool { OnOk result (LetsGo self.old self.new page) }
-        ensures map { OnOk result (Drops self.old (D.pages disk.old) self.new (D.pages disk.new) page) }
-        ensures agree { OnOk result (Agree self.new (D.pages disk.new)) }
+        ensures map { OnOk result (Drops self.old (known (D.log disk.old)) self.new (known (D.log disk.new)) page) }
+        ensures agree { OnOk result (Agree self.new (known (D.log disk.new))) }
+        ensures disk_after { OnOk result (D.log disk.new ≡ (if is_some (bytes_in page self.old.resident) then D.log disk.old else after_give_up (D.log disk.old) page)) }
         ensures frames { OnOk result (self.new.frames ≡ self.old.frames) }
 
         // Each refusal.
         ensures disk { IfErr result (λ e. (e ≡ PoolErr.Disk) × Rose (D.faults disk.old) (D.faults disk.new)) }
         ensures faults { D.faults disk.old ≤ D.faults disk.new }
-        ensures tells { is_some (D.pages disk.new) ≡ is_some (D.pages disk.old) }
+        ensures later { IsLater (D.log disk.old) (D.log disk.new) }
     {
         self.slots.sound();
         match self.slots.place(page) {

@@ -7,7 +7,8 @@ use Rattle.std.specs.List.{AllByRecursion}
 use Rattle.sq_item.specs.declared.Item.{Item}
 use Rattle.sq_item.specs.Sound.{IsSound}
 use Rattle.sq_outside.specs.Disks.{Pages}
-use Rattle.sq_paged.specs.Fronts.{Tells, Face}
+use Rattle.sq_pool.specs.Trust.{Tells}
+use Rattle.sq_paged.specs.Fronts.{Face}
 use Rattle.sq_paged.specs.Faces as pages
 use Rattle.sq_paged.proofs.AlongLemmas.{slice_get-set_same, slice_get-set_other}
 use Rattle.sq_queue.specs.Faces.{front_at, size, items_on, no_face, IsEmpty, IsLane, Together}

@@ -30,7 +30,7 @@ use Rattle.sq_shard.specs.Cuts.{Class, IsPart, AreParts, kept, column_at}
 use Rattle.sq_shard.specs.Keys.{FollowsCuts, cut_given, box_cut_at, source_cut, input_widths, width_of}
 use Rattle.sq_shard.specs.Laws.{NoneLate, SameBody, SameNode, AreAlike}
 use Rattle.sq_shard.proofs.InOrder.{by-order}
-use Rattle.sq_shard.proofs.Ports.{bsort_gives}
+use Rattle.sq_model.proofs.LateLemmas.{bsort_gives}
 use Rattle.sq_shard.proofs.Parts.{Law, GivesAll, moved, box-part}
 use Rattle.sq_shard.proofs.Sorted.{bsort-few}
 

@@ -1,8 +1,9 @@
 // The disk of the system.
-ghost use Rattle.std.specs.Prelude.{◌≤◌, IsErr};
+ghost use Rattle.std.specs.Prelude.{◌≡◌, ◌≤◌};
+ghost use Rattle.sq_outside.specs.Disks.{nothing_put};
 ghost use Rattle.sq_outside.specs.Faults.{Rose};
 
-use sq_outside::{Failed, PAGE, PageDisk};
+use sq_outside::{Failed, PAGE, PageDisk, PageLog};
 use std::alloc::AllocError;
 use std::fs::{File, OpenOptions};
 use std::io::ErrorKind;
@@ -14,36 +15,37 @@ const NAMES: u32 = 1000;
 
 /// Pages in a file: page n stands at byte n * 8192. The file is made at the first put, in the working folder and for this user
 /// alone, under the first name that is free of `aurora.spill`, `aurora.spill.1` and so on. It loses its name at once, so that
-/// nothing of it is left at the end, however a run ends. What stands at a name that isn't free isn't touched.
+/// nothing of it is left at the end, however a run ends. What stands at a name that isn't free isn't touched. It promises
+/// nothing of what a page gives back, and tells what was put and what came.
 #[derive(Drop)]
 pub struct SpillFile<'a> {
     rt: &'a HostRuntime,
     file: Option<File>,
+    pub log: PageLog,
     faults: u64,
 }
 
 impl<'a> SpillFile<'a> {
     /// A disk without faults, which holds no page.
-    pub fn new(rt: &'a HostRuntime) -> SpillFile<'a> {
+    pub fn new(rt: &'a HostRuntime) -> SpillFile<'a>
+        ensures { result.log.all ≡ nothing_put }
+    {
         SpillFile {
             rt,
             file: None,
+            log: PageLog::new(),
             faults: 0,
         }
     }
 
     // Counts a call that failed.
-    fn counted(&mut self, end: io::Result<()>) -> Result<(), Failed>
-        ensures rose { IsErr result → Rose self.old.faults self.new.faults }
+    fn failed(&mut self) -> Failed
+        ensures rose { Rose self.old.faults self.new.faults }
         ensures later { self.old.faults ≤ self.new.faults }
+        ensures log { self.new.log.all ≡ self.old.log.all }
     {
-        match end {
-            Ok(()) => Ok(()),
-            Err(_) => {
-                self.faults = self.faults.saturating_add(1);
-                Err(Failed)
-            }
-        }
+        self.faults = self.faults.saturating_add(1);
+        Failed
     }
 }
 
@@ -114,24 +116,38 @@ fn read_page(file: &Option<File>, page: u64, into: &mut [u8]) -> io::Result<()> 
 }
 
 impl<'a> PageDisk for SpillFile<'a> {
-    ghost use Rattle.std.specs.Prelude.{None};
+    ghost use Rattle.std.specs.Prelude.{false};
 
-    ghost pages = { λ _. None };
+    ghost log = { λ s. record s.log.all { honest = false } };
 
     ghost faults = { λ s. s.faults };
 
     fn put(&mut self, page: u64, bytes: &[u8]) -> Result<(), Failed> {
-        let end = write_page(self.rt, &mut self.file, page, bytes);
-        self.counted(end)
+        match write_page(self.rt, &mut self.file, page, bytes) {
+            Ok(()) => {
+                self.log.put(page, bytes);
+                Ok(())
+            }
+            Err(_) => {
+                self.log.gone(page);
+                Err(self.failed())
+            }
+        }
     }
 
     fn get(&mut self, page: u64, into: &mut [u8]) -> Result<(), Failed> {
-        let end = read_page(&self.file, page, into);
-        self.counted(end)
+        match read_page(&self.file, page, into) {
+            Ok(()) => {
+                self.log.came(page, into);
+                Ok(())
+            }
+            Err(_) => Err(self.failed()),
+        }
     }
 
     // Its place is free for the next page of this number; the file keeps its length.
-    fn give_up(&mut self, _page: u64) -> Result<(), Failed> {
+    fn give_up(&mut self, page: u64) -> Result<(), Failed> {
+        self.log.gone(page);
         Ok(())
     }
 }

@@ -1,5 +1,5 @@
 // The folder of the system.
-use sq_outside::{Folder, FolderErr, Pieces};
+use sq_outside::{Folder, FolderErr, Pairs};
 use std::alloc::Global;
 use std::fs::{File, Files};
 use std::io;
@@ -9,7 +9,7 @@ use std::io::{ErrorKind, Read};
 #[derive(Drop)]
 pub struct OpenFolder<'a, R> {
     rt: &'a R,
-    pub read: Pieces,
+    pub read: Pairs,
     taken: u64,
     faults: u64,
 }
@@ -23,7 +23,7 @@ impl<'a, R: Files> OpenFolder<'a, R> {
     {
         OpenFolder {
             rt,
-            read: Pieces::new(),
+            read: Pairs::new(),
             taken: 0,
             faults: 0,
         }
@@ -56,7 +56,7 @@ impl<'a, R: Files> Folder for OpenFolder<'a, R> {
         self.taken = self.taken.saturating_add(length);
         match end {
             Ok(()) if length <= limit => {
-                self.read.note(bytes.as_slice());
+                self.read.note(name.as_bytes(), bytes.as_slice());
                 Ok(bytes)
             }
             Ok(()) => Err(FolderErr::TooLong),

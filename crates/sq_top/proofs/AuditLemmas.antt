@@ -19,12 +19,12 @@ use Rattle.sq_top.proofs.StoppedLemmas.{memory_at, some_none, stopped_unread}
 use Rattle.sq_top.proofs.StopLemmas.{lost_cut, lost_stop, lost_unchanged}
 
 -- by what leads through the first script the two go on
-goes_behind : (told : Option Files) (next : Replay → Script) (read : List (List ℕ)) (from to : Script) → GoesBy told read from to
+goes_behind : (told : Option Files) (next : Replay → Script) (read : List (List ℕ × List ℕ)) (from to : Script) → GoesBy told read from to
     → GoesBy told read (followed_by from next) (followed_by to next)
 goes_behind told next [] from to goes = ap (λ s. followed_by s next) goes
-goes_behind told next (bytes ∷ read) (Reads name limit more) to goes = (goes.0, goes_behind told next read (more bytes) to goes.1)
-goes_behind told next (bytes ∷ read) (Done r) to goes = absurd goes
-goes_behind told next (bytes ∷ read) (Stops s) to goes = absurd goes
+goes_behind told next (given ∷ read) (Reads name limit more) to goes = (goes.0, goes.1, goes_behind told next read (more given.1) to goes.2)
+goes_behind told next (given ∷ read) (Done r) to goes = absurd goes
+goes_behind told next (given ∷ read) (Stops s) to goes = absurd goes
 
 -- and where the first stops, they stop alike
 refused_behind : (told : Option Files) (fb fn tb tn : ℕ) (s : Status) (next : Replay → Script) (left : Script) → (is_refusal s ≡ true) ⊎ (s ≡ status.Memory)
@@ -63,25 +63,25 @@ module _ (words : List (List ℕ)) (net text : List ℕ) (asked : command_in wor
     script_behind : script_of words ≡ followed_by (script_of run) (text_script text)
     script_behind = ap after_words asked ∙ ap (λ c. followed_by (after_words c) (text_script text)) (sym run_is)
 
-    goes_on : (read : List (List ℕ)) (left : Script) → GoesBy told read (script_of run) left → GoesBy told read (script_of words) (followed_by left (text_script text))
+    goes_on : (read : List (List ℕ × List ℕ)) (left : Script) → GoesBy told read (script_of run) left → GoesBy told read (script_of words) (followed_by left (text_script text))
     goes_on read left goes = subst (λ x. GoesBy told read x (followed_by left (text_script text))) (sym script_behind) (goes_behind told (text_script text) read (script_of run) left goes)
 
-    same_network : (read : List (List ℕ)) → network_read (command_in run) read ≡ network_read (command_in words) read
+    same_network : (read : List (List ℕ × List ℕ)) → network_read (command_in run) read ≡ network_read (command_in words) read
     same_network read = ap (λ c. network_read c read) run_is ∙ by read ∙ sym (ap (λ c. network_read c read) asked)
       where
-        by : (read : List (List ℕ)) → network_read (Some (command.Run (plain_args net))) read ≡ network_read (Some (command.Audit net text)) read
+        by : (read : List (List ℕ × List ℕ)) → network_read (Some (command.Run (plain_args net))) read ≡ network_read (Some (command.Audit net text)) read
         by [] = refl
-        by (bytes ∷ read) = refl
+        by (given ∷ read) = refl
 
-    same_names : (read : List (List ℕ)) (s : Status) (source : List ℕ) → NamesSource run read s source → NamesSource words read s source
+    same_names : (read : List (List ℕ × List ℕ)) (s : Status) (source : List ℕ) → NamesSource run read s source → NamesSource words read s source
     same_names read (status.BadStream number line why) source e = e ∙ ap (name_at number) (same_network read)
     same_names read s source e = tt
 
-    not_usage : (fb fn tb tn : ℕ) (rb rn : List (List ℕ)) (s : Status) (source : List ℕ) → IsStopped run told fb fn tb tn rb rn s source → s ≡ status.Usage → command_in words ≡ None
+    not_usage : (fb fn tb tn : ℕ) (rb rn : List (List ℕ × List ℕ)) (s : Status) (source : List ℕ) → IsStopped run told fb fn tb tn rb rn s source → s ≡ status.Usage → command_in words ≡ None
     not_usage fb fn tb tn rb rn s source h e = absurd (some_none (command_in run) (rw run_is refl) (h.usage.only e))
 
     -- where the run stops before its replay, so does the audit
-    pub stopped_run : (fb fn tb tn : ℕ) (rb rn : List (List ℕ)) (s : Status) (source : List ℕ) → IsStopped run told fb fn tb tn rb rn s source
+    pub stopped_run : (fb fn tb tn : ℕ) (rb rn : List (List ℕ × List ℕ)) (s : Status) (source : List ℕ) → IsStopped run told fb fn tb tn rb rn s source
         → IsStopped words told fb fn tb tn rb rn s source
     stopped_run fb fn tb tn rb rn s source h = record {
       read = h.read;
@@ -96,7 +96,7 @@ module _ (words : List (List ℕ)) (net text : List ℕ) (asked : command_in wor
     }
 
     -- where the run goes on to its replay, the audit goes on to the text
-    module _ (rb rm rn : List (List ℕ)) (r : Replay) (leads : Leads told rb rm (script_of run) (Done r)) where
+    module _ (rb rm rn : List (List ℕ × List ℕ)) (r : Replay) (leads : Leads told rb rm (script_of run) (Done r)) where
       text_leads : Leads told rb rm (script_of words) (text_script text r)
       text_leads = (leads.0, goes_on leads.0 (Done r) leads.1, leads.2)
 
@@ -112,7 +112,7 @@ module _ (words : List (List ℕ)) (net text : List ℕ) (asked : command_in wor
           (leads_read told text text_limit (λ xs. Done (with_text r xs)) rm rn bytes got)
 
   -- an audit that stops has a status of its own
-  pub stopped_plain : (fb fn tb tn : ℕ) (rb rn : List (List ℕ)) (s : Status) (source : List ℕ) → IsStopped words told fb fn tb tn rb rn s source → is_plain_end s ≡ true
+  pub stopped_plain : (fb fn tb tn : ℕ) (rb rn : List (List ℕ × List ℕ)) (s : Status) (source : List ℕ) → IsStopped words told fb fn tb tn rb rn s source → is_plain_end s ≡ true
   stopped_plain fb fn tb tn rb rn s source h = by h.left h.ends h.refusal (left_holds told words h.read h.left h.goes)
     where
       by : (left : Script) → (is_refusal s ≡ true) ⊎ (s ≡ status.Memory) → IsRefusedAt told fb fn tb tn s left → HoldsFor (command_in words) left → is_plain_end s ≡ true
@@ -146,7 +146,7 @@ module _ (words : List (List ℕ)) (net text : List ℕ) (asked : command_in wor
       → Ends words w s source
   audited_cut s lost part alone =
       answered_cut words w r source (is_audit words net text asked w.told) came s (lost_cut w.sink_before w.sink_before w.sink_now s (omega arith) lost)
-      (lost_stop _ w.disk_before w.disk_now w.sink_before w.sink_now s lost) (λ pages. lost_unchanged w.sink_before w.sink_now s lost) (λ told. lost_unchanged w.sink_before w.sink_now s lost)
+      (lost_stop _ w.disk_before w.disk_now w.sink_before w.sink_now s lost) (λ is-honest. lost_unchanged w.sink_before w.sink_now s lost)
       (λ told. not_too_much _ w.sink_before w.sink_now s lost)
       (λ told. (
         subst (λ c. AppendsSuch w.out_before w.out_now (IsPrefixOfDue c r s)) (sym asked) (appends_begun (verdict_of r) w.out_before w.out_now s part alone),

@@ -1,6 +1,5 @@
 -- How an engine goes on whose lines are counted, to its end, or stops on the way.
-use Rattle.std.proofs.Common.{◌≡◌, inl, ℕ, List, [], ◌++◌, length, map, refl, ap, sym, ◌∙◌, subst, append_assoc, append-nil, Option, None}
-use Rattle.std.specs.Prelude.{is_some}
+use Rattle.std.proofs.Common.{◌≡◌, inl, ℕ, Bool, List, [], ◌++◌, length, map, refl, ap, sym, ◌∙◌, subst, append_assoc, append-nil, Option, None}
 use Rattle.std.specs.List.{AllByRecursion}
 use Rattle.sq_value.specs.declared.Tuple.{Tuple}
 use Rattle.sq_value.specs.Lists.{numbers_to}
@@ -9,7 +8,7 @@ use Rattle.sq_net.specs.declared.Network.{Network}
 use Rattle.sq_oper.specs.declared.outs.Decision.{Decision}
 use Rattle.sq_oper.specs.declared.outs.Event.{Event}
 use Rattle.sq_model.specs.Shedding.{Replay}
-use Rattle.sq_paged.specs.Fronts.{Tells}
+use Rattle.sq_pool.specs.Trust.{Tells}
 use Rattle.sq_flow.specs.Events.{IsEventIn, drops_of, lines_of}
 use Rattle.sq_core.specs.declared.engine.Engine.{Engine}
 use Rattle.sq_core.specs.Runs.{IsRun, ShownAll}
@@ -72,13 +71,15 @@ pub same_room : (n m : Network) (before after : Counts) (events : List Event) �
 same_room n m before after events room same counted = subst (λ k. HasRoom k after) (sym same) (record { lines = counted.lines ∙ room.lines; drops = counted.drops ∙ room.drops })
 
 -- memory runs out before the first step
-pub count_waits : (pages : Option Pages) (engine : Engine) (steps : ℕ) (r : Replay) (start : ℕ) → Tells pages → IsRun r pages engine [] start steps → IsHalted r status.Memory None None start steps
-count_waits pages engine steps r start told run =
-    drive_lost pages pages engine engine steps steps None None [] (goes_none pages engine steps None [] refl) refl r start told run 0 0 None status.Memory (lost_at_once None []) (inl refl)
+pub count_waits : (honest : Bool) (pages : Option Pages) (engine : Engine) (steps : ℕ) (r : Replay) (start : ℕ) → Tells pages → IsRun r pages engine [] start steps
+    → IsHalted honest r status.Memory None None start steps
+count_waits honest pages engine steps r start told run =
+    drive_lost pages pages engine engine steps steps None None [] (goes_none pages engine steps None [] refl) r start run honest told 0 0 None status.Memory (lost_at_once None []) (inl refl)
 
 -- where nothing is written, nothing else may wait
-silent_stop : (was : Option Pages) (from : Engine) (begun now : ℕ) (waits : List ℕ) (s : Status) → Stops was from begun now None [] None s → Stops was from begun now None waits None s
-silent_stop was from begun now waits s stops r history start told run =
+silent_stop : (was is : Option Pages) (honest : Bool) (from : Engine) (begun now : ℕ) (waits : List ℕ) (s : Status) → Stops was is honest from begun now None [] None s
+    → Stops was is honest from begun now None waits None s
+silent_stop was is honest from begun now waits s stops r history start told run =
     let stop = stops r history start told run in
     record {
       events = stop.events;
@@ -96,10 +97,11 @@ module _ (was mid : Option Pages) (from via : Engine) (begun now : ℕ) (none co
 
   module _ (r : Replay) (start : ℕ) (run : IsRun r was from [] start begun) where
     -- it stops
-    pub count_stops : is_some mid ≡ is_some was → Tells was → (later : ℕ) (s : Status) → Stops mid via now later None [] None s → IsHalted r s None None start later
-    count_stops tells told later s stops =
-        drive_stops was mid from via begun now None None (history_text from.network first.events) silent tells r start told run later None s
-        (silent_stop mid via now later (history_text from.network first.events) s stops)
+    pub count_stops : (is : Option Pages) (honest still : Bool) → Tells is → still ≡ honest → (later : ℕ) (s : Status) → Stops mid is still via now later None [] None s
+        → IsHalted honest r s None None start later
+    count_stops is honest still told same later s stops =
+        drive_stops was mid from via begun now None None (history_text from.network first.events) silent r start run is honest still told same later None s
+        (silent_stop mid is still via now later (history_text from.network first.events) s stops)
 
     -- nothing is left
     pub count_ends : HasRoom from.network none → AreCounts [] none

@@ -1,6 +1,6 @@
 -- How an engine goes on, step by step, to its end, or stops on the way.
-use Rattle.std.proofs.Common.{◌≡◌, inl, inr, ℕ, ◌<◌, ◌≤◌, ◌^◌, List, [], ◌++◌, length, ap, sym, ◌∙◌, subst, arith, append_assoc, append-nil, Option}
-use Rattle.std.specs.Prelude.{is_some, Result, Ok, Err, OnErr, IfErr}
+use Rattle.std.proofs.Common.{◌≡◌, inl, inr, ℕ, ◌<◌, ◌≤◌, ◌^◌, Bool, List, [], ◌++◌, length, ap, sym, ◌∙◌, subst, arith, append_assoc, append-nil, Option}
+use Rattle.std.specs.Prelude.{Result, Ok, Err, OnErr, IfErr}
 use Rattle.std.specs.List.{AllByRecursion}
 use Rattle.std.proofs.lemmas.Grind.{flat_map-append}
 use Rattle.sq_value.specs.Lists.{IsPrefixOf}
@@ -15,7 +15,7 @@ use Rattle.sq_points.specs.Points.{points_of}
 use Rattle.sq_model.specs.Shedding.{Replay}
 use Rattle.sq_start.specs.Nets.{drop_decisions}
 use Rattle.sq_model.proofs.StreamTypes.{some-at}
-use Rattle.sq_paged.specs.Fronts.{Tells}
+use Rattle.sq_pool.specs.Trust.{Tells}
 use Rattle.sq_flow.specs.declared.errors.RunErr.{RunErr}
 use Rattle.sq_flow.specs.Events.{drops_of}
 use Rattle.sq_core.specs.declared.engine.Engine.{Engine}
@@ -110,37 +110,37 @@ module _ (was : Option Pages) (from : Engine) (begun now : ℕ) (cleared shown :
     }
 
     -- its lines are lost
-    pub step_lost : (before after : Option (List ℕ)) (waited : List ℕ) (faults faults' : ℕ) (s : Status) → is_some is ≡ is_some was
-        → AppendsPrefix before after (waited ++ history_text to.network shown) → IsLost faults faults' s → Stops was from begun now before waited after s
-    step_lost before after waited faults faults' s tells written lost r history start told run =
+    pub step_lost : (honest : Bool) (before after : Option (List ℕ)) (waited : List ℕ) (faults faults' : ℕ) (s : Status)
+        → AppendsPrefix before after (waited ++ history_text to.network shown) → IsLost faults faults' s → Stops was is honest from begun now before waited after s
+    step_lost honest before after waited faults faults' s written lost r history start told run =
         let run_on = goes r history start (run_here r history start run) in
-        let far = so_far r is to (history ++ shown) start now run_on (tells ∙ told) in
+        let far = so_far r is to (history ++ shown) start now run_on told in
         let there = same ∙ run.network in
         record {
           events = shown;
           shown = subst (λ m. AllByRecursion (IsEventAt m) shown) there step_lines;
-          first = begins_run r is to (history ++ shown) start now run_on (tells ∙ told);
+          first = begins_run r is to (history ++ shown) start now run_on told;
           written = subst (λ m. AppendsPrefix before after (waited ++ history_text m shown)) there written;
           work = far.work;
-          unchanged = lost_unchanged faults faults' s lost;
+          unchanged = λ is-honest. lost_unchanged faults faults' s lost;
           too_much = not_too_much (2 ^ 62 ≤ turns_in r) faults faults' s lost;
         }
 
   -- it failed
-  pub step_stops : (before : Option (List ℕ)) (waited : List ℕ) (e : RunErr) (s : Status) → s ≡ status_of e
-      → (Tells was → (r : Replay) (history : List Event) (start : ℕ) → IsRun r was from (history ++ cleared) start begun
-      → Stopped r (history ++ shown) start now e)
-      → Stops was from begun now before waited before s
-  step_stops before waited e s is stopped r history start told run =
+  pub step_stops : (is : Option Pages) (honest : Bool) → (Tells is → Tells was) → (before : Option (List ℕ)) (waited : List ℕ) (e : RunErr) (s : Status) → s ≡ status_of e
+      → (Tells is → (r : Replay) (history : List Event) (start : ℕ) → IsRun r was from (history ++ cleared) start begun
+      → Stopped honest r (history ++ shown) start now e)
+      → Stops was is honest from begun now before waited before s
+  step_stops is honest tells before waited e s same stopped r history start told run =
       let halt = stopped told r history start (run_here r history start run) in
       record {
         events = [];
         shown = tt;
-        first = subst (Begins r.network (answer_in r)) (sym (append-nil history)) (begins_run r was from history start begun run told);
+        first = subst (Begins r.network (answer_in r)) (sym (append-nil history)) (begins_run r was from history start begun run (tells told));
         written = lost_at_once before (waited ++ []);
         work = halt.so_far.work;
-        unchanged = ap is_changed is ∙ step_unchanged e halt.named;
-        too_much = λ much. halt.turns (step_much e (sym is ∙ much));
+        unchanged = λ is-honest. ap is_changed same ∙ step_unchanged e (halt.named is-honest);
+        too_much = λ much. halt.turns (step_much e (sym same ∙ much));
       }
 
 -- an engine that hasn't begun
@@ -173,8 +173,7 @@ module _ (was mid : Option Pages) (from via : Engine) (begun now : ℕ) (before 
       }
 
 module _ (was mid : Option Pages) (from via : Engine) (begun now : ℕ) (before between : Option (List ℕ)) (waits : List ℕ)
-    (first : GoesOn was mid from via begun now before [] between waits) (tells : is_some mid ≡ is_some was)
-    (r : Replay) (start : ℕ) (told : Tells was) (run : IsRun r was from [] start begun) where
+    (first : GoesOn was mid from via begun now before [] between waits) (r : Replay) (start : ℕ) (run : IsRun r was from [] start begun) where
   run_now : IsRun r mid via first.events start now
   run_now = first.goes r [] start run
 
@@ -185,9 +184,10 @@ module _ (was mid : Option Pages) (from via : Engine) (begun now : ℕ) (before 
   moves_now = subst (λ m. Moves before [] between waits (history_text m first.events)) run.network first.moves
 
   -- it stops
-  pub drive_stops : (later : ℕ) (after : Option (List ℕ)) (s : Status) → Stops mid via now later between waits after s → IsHalted r s before after start later
-  drive_stops later after s stops =
-      let stop = stops r first.events start (tells ∙ told) run_now in
+  pub drive_stops : (is : Option Pages) (honest still : Bool) → Tells is → still ≡ honest → (later : ℕ) (after : Option (List ℕ)) (s : Status)
+      → Stops mid is still via now later between waits after s → IsHalted honest r s before after start later
+  drive_stops is honest still told same later after s stops =
+      let stop = stops r first.events start told run_now in
       record {
         history = first.events ++ stop.events;
         shown = all_append (IsEventAt r.network) first.events stop.events shown_now stop.shown;
@@ -195,22 +195,23 @@ module _ (was mid : Option Pages) (from via : Engine) (begun now : ℕ) (before 
         written = subst (AppendsPrefix before after) (sym (flat_map-append (event_line r.network) first.events stop.events))
             (moves-lost before between after [] waits (history_text r.network first.events) (history_text r.network stop.events) moves_now stop.written);
         work = stop.work;
-        unchanged = stop.unchanged;
+        unchanged = λ is-honest. stop.unchanged (same ∙ is-honest);
         too_much = stop.too_much;
       }
 
   -- the last lines are lost
-  pub drive_lost : (faults faults' : ℕ) (after : Option (List ℕ)) (s : Status) → AppendsPrefix between after waits → IsLost faults faults' s → IsHalted r s before after start now
-  drive_lost faults faults' after s written lost =
-      let far = so_far r mid via first.events start now run_now (tells ∙ told) in
+  pub drive_lost : (honest : Bool) → Tells mid → (faults faults' : ℕ) (after : Option (List ℕ)) (s : Status) → AppendsPrefix between after waits → IsLost faults faults' s
+      → IsHalted honest r s before after start now
+  drive_lost honest told faults faults' after s written lost =
+      let far = so_far r mid via first.events start now run_now told in
       record {
         history = first.events;
         shown = shown_now;
-        first = begins_run r mid via first.events start now run_now (tells ∙ told);
+        first = begins_run r mid via first.events start now run_now told;
         written = subst (AppendsPrefix before after) (append-nil (history_text r.network first.events))
             (moves-lost before between after [] waits (history_text r.network first.events) [] moves_now (subst (AppendsPrefix between after) (sym (append-nil waits)) written));
         work = far.work;
-        unchanged = lost_unchanged faults faults' s lost;
+        unchanged = λ is-honest. lost_unchanged faults faults' s lost;
         too_much = not_too_much (2 ^ 62 ≤ turns_in r) faults faults' s lost;
       }
 

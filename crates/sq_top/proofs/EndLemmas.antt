@@ -1,5 +1,5 @@
 -- How a run ends.
-use Rattle.std.proofs.Common.{◌≡◌, ◌≢◌, ◌⊎◌, inl, inr, ℕ, zero, suc, ◌+◌, ◌^◌, ◌<◌, ◌≤◌, Bool, true, false, not, ◌&&◌, List, [], ◌∷◌, ◌++◌, length, refl, ap, sym, ◌∙◌, subst, arith, append_assoc, append-nil, length-append, Option, None, Some}
+use Rattle.std.proofs.Common.{◌≡◌, ◌≢◌, ◌⊎◌, inl, inr, ℕ, zero, suc, ◌+◌, ◌^◌, ◌<◌, ◌≤◌, Bool, true, false, not, ◌&&◌, List, [], ◌∷◌, ◌++◌, length, drop, refl, ap, sym, ◌∙◌, subst, arith, append_assoc, append-nil, length-append, Option, None, Some}
 use Rattle.std.specs.Prelude.{map, nat_lt, if◌then◌else◌, IsSome, codes}
 use Rattle.std.specs.Fmt.{decimal}
 use Rattle.std.specs.List.{AllByRecursion, flat_map, list_all, list_any, range_with_len, zip}
@@ -15,13 +15,11 @@ use Rattle.sq_value.proofs.RowLemmas.{first_field-line_of, is_line-line_of}
 use Rattle.sq_outside.specs.Faults.{Rose}
 use Rattle.sq_outside.specs.Folders.{Files}
 use Rattle.sq_outside.specs.Sinks.{AppendsPrefix, appended}
-use Rattle.sq_net.specs.declared.NetErr.TheVariants as net
 use Rattle.sq_net.specs.declared.Network.{Network}
 use Rattle.sq_net.specs.declared.Node.{Node}
 use Rattle.sq_net.specs.declared.Output.{Output}
 use Rattle.sq_net.specs.Names.{has_name_form, is_lower, is_name, may_follow, reserved}
 use Rattle.sq_net.specs.Sound.{IsSound}
-use Rattle.sq_reader.proofs.SoundLemmas.{network_sound}
 use Rattle.sq_model.specs.Shedding as model
 use Rattle.sq_plan.specs.declared.closing.Shown.{Shown as ShownPlan}
 use Rattle.sq_oper.specs.declared.outs.Decision.{Decision}
@@ -30,7 +28,7 @@ use Rattle.sq_top.specs.declared.Command.TheVariants as command
 use Rattle.sq_top.specs.declared.Status.{Status}
 use Rattle.sq_top.specs.declared.Status.TheVariants as status
 use Rattle.sq_top.specs.Commands.{command_in, runs_engine}
-use Rattle.sq_replay.specs.Shown.{end_lines, fed_line, is_sorter, late_lines}
+use Rattle.sq_replay.specs.Shown.{boxes_from, end_lines, fed_line, is_sorter, late_lines}
 use Rattle.sq_csv.proofs.NumberLemmas.{decimal_bare}
 use Rattle.std.proofs.lemmas.List.{length-map}
 use Rattle.sq_place.specs.Points.{point_at}
@@ -49,9 +47,9 @@ use Rattle.sq_top.specs.Driving.{IsCutShort}
 use Rattle.sq_top.specs.declared.RunArgs.{RunArgs}
 use Rattle.sq_top.specs.Scripts.{Replay, Script, Reads, Done, Stops, after_words, made_script, script_of}
 use Rattle.sq_top.specs.Reads.{GoesBy, IfAccepted, Leads, network_read}
-use Rattle.sq_paged.specs.Fronts.{Tells}
+use Rattle.sq_pool.specs.Trust.{Tells}
 use Rattle.sq_top.specs.Stopping.{StopHasCause, is_changed}
-use Rattle.sq_top.specs.Causes.{AppendsSuch, BeginsSummary, BeginsText, Ends, IsEngineOf, IsPrefixOfDue, IsRefusedAt, IsStopped, IsWholeOf, NamesSource, TellsFor, TellsStatus, World, is_refusal, turns_for, verdict_of, work_for}
+use Rattle.sq_top.specs.Causes.{AppendsSuch, BeginsSummary, BeginsText, Ends, IsEngineOf, IsPrefixOfDue, IsRefusedAt, IsStopped, IsWholeOf, NamesSource, TellsFor, TellsStatus, World, hides_memory, is_refusal, turns_for, verdict_of, work_for}
 use Rattle.sq_top.proofs.SortedLines.{and-true}
 use Rattle.sq_top.proofs.ReadsLemmas.{leads_self, left_holds, none_given}
 use Rattle.sq_top.proofs.StoppedLemmas.{memory_at, some_none, stopped_memory, stopped_rule}
@@ -186,15 +184,14 @@ few_drops n is =
     let count : length (points_of n) ≡ length (drop_places_of n.wires (windows_of n)) = length-map (drop_places_of n.wires (windows_of n)) (point_at n.wires (windows_of n) n.batch) in
     omega (arith, count, drops-few n.wires (windows_of n), few_places n is)
 
-pub replay_tells_classes : (r : model.Replay) → IsSound r.network → TellsClasses (due_in r)
-replay_tells_classes r is =
-    due_tells_classes r.network (answer_in r) (ended_in r)
-    (all_ended r.network (map (fed_in r) (numbers_to (length r.network.boxes))) (map (late_in r) (numbers_to (length r.network.boxes)))) (few_drops r.network is) is
+pub replay_tells_classes : (r : model.Replay) (first : ℕ) → IsSound r.network → TellsClasses (due_in r first)
+replay_tells_classes r first is =
+    due_tells_classes r.network (answer_in r) (ended_in r first)
+    (all_ended (boxes_from first r.network) (drop first (map (fed_in r) (numbers_to (length r.network.boxes)))) (drop first (map (late_in r) (numbers_to (length r.network.boxes)))))
+    (few_drops r.network is) is
 
-pub left_tells_classes : (told : Option Files) (words read : List (List ℕ)) (r : Replay) → GoesBy told read (script_of words) (Done r) → TellsClasses (due_of r)
-left_tells_classes told words read r goes =
-    let f = left_holds told words read (Done r) goes in
-    replay_tells_classes (replayed r) (network_sound f.0 r.network f.1)
+pub left_tells_classes : (told : Option Files) (words : List (List ℕ)) (read : List (List ℕ × List ℕ)) (r : Replay) → GoesBy told read (script_of words) (Done r) → TellsClasses (due_of r)
+left_tells_classes told words read r goes = replay_tells_classes (replayed r) r.first (left_holds told words read (Done r) goes)
 
 no_text : (d : Due) → TellsClasses d → IsPrefixText d []
 no_text d s = prefix_text d [] [] s tt ([], refl)
@@ -238,6 +235,15 @@ pub prefix_of_run : (c : Option Command) (args : RunArgs) (r : Replay) (s : Stat
     → AppendsSuch before now (IsPrefixText (due_of r)) → AppendsSuch before now (IsPrefixOfDue c r s)
 prefix_of_run c args r s before now e a = subst (λ o. AppendsSuch before now (IsPrefixOfDue o r s)) (sym e) a
 
+-- those of a tap
+pub whole_of_tap : (c : Option Command) (net stream : List ℕ) (tick history : ℕ) (query : List ℕ) (r : Replay) (before now : Option (List ℕ)) → c ≡ Some (command.Tap net stream tick history query)
+    → AppendsSuch before now (IsWholeText (due_of r)) → AppendsSuch before now (IsWholeOf c r)
+whole_of_tap c net stream tick history query r before now e a = subst (λ o. AppendsSuch before now (IsWholeOf o r)) (sym e) a
+
+pub prefix_of_tap : (c : Option Command) (net stream : List ℕ) (tick history : ℕ) (query : List ℕ) (r : Replay) (s : Status) (before now : Option (List ℕ))
+    → c ≡ Some (command.Tap net stream tick history query) → AppendsSuch before now (IsPrefixText (due_of r)) → AppendsSuch before now (IsPrefixOfDue c r s)
+prefix_of_tap c net stream tick history query r s before now e a = subst (λ o. AppendsSuch before now (IsPrefixOfDue o r s)) (sym e) a
+
 -- and of what is made
 pub whole_of_made : (c : Option Command) (number rows : ℕ) (r : Replay) (before now : Option (List ℕ)) → c ≡ Some (command.Gen number rows)
     → AppendsSuch before now (λ text. text ≡ summary_of number rows (replayed r)) → AppendsSuch before now (IsWholeOf c r)
@@ -252,6 +258,7 @@ no_due None r s tells = no_text (due_of r) tells
 no_due (Some (command.Run args)) r s tells = no_text (due_of r) tells
 no_due (Some (command.Gen number rows)) r s tells = ((summary_of number rows (replayed r), refl), λ other. refl)
 no_due (Some (command.Audit net text)) r s tells = ((verdict_of r, refl), λ other. refl)
+no_due (Some (command.Tap net stream tick history query)) r s tells = no_text (due_of r) tells
 
 -- what is written at a status but that of the sink's may be at want of memory
 due_memory : (c : Option Command) (r : Replay) (s : Status) → s ≢ status.SinkFault → (text : List ℕ) → IsPrefixOfDue c r s text → IsPrefixOfDue c r status.Memory text
@@ -259,6 +266,7 @@ due_memory None r s other text p = p
 due_memory (Some (command.Run args)) r s other text p = p
 due_memory (Some (command.Gen number rows)) r s other text p = (p.0, λ memory. p.1 other)
 due_memory (Some (command.Audit net out)) r s other text p = (p.0, λ memory. p.1 other)
+due_memory (Some (command.Tap net stream tick history query)) r s other text p = p
 
 -- each script that is left has its fact
 pub if_accepted : (left : Script) (P : Replay → Type 0) (Q : Type 0) → ((r : Replay) → left ≡ Done r → P r) → Q → IfAccepted left P Q
@@ -285,7 +293,7 @@ pub begun_nothing : (words : List (List ℕ)) (w : World) (s : Status) (r : Repl
 begun_nothing words w s r out steps tells pages =
     (nothing_appended w.out_before w.out_now (IsPrefixOfDue (command_in words) r s) out (no_due (command_in words) r s tells), omega (arith, steps))
 
-nothing_written : (words : List (List ℕ)) (w : World) (s : Status) (read : List (List ℕ)) (left : Script) → GoesBy w.told read (script_of words) left
+nothing_written : (words : List (List ℕ)) (w : World) (s : Status) (read : List (List ℕ × List ℕ)) (left : Script) → GoesBy w.told read (script_of words) left
     → w.out_now ≡ w.out_before → w.steps_now ≡ w.steps_before → Begun words w s left
 nothing_written words w s read left goes out steps = if_accepted left _ _
     (λ r e. begun_nothing words w s r out steps (left_tells_classes w.told words read r (subst (GoesBy w.told read (script_of words)) e goes)))
@@ -310,13 +318,20 @@ not_much : (s : Status) → (is_refusal s ≡ true) ⊎ (s ≡ status.Memory) �
 not_much s (inl refused) e = let r : is_refusal status.TooMuch ≡ true = subst (λ x. is_refusal x ≡ true) e refused in cc
 not_much s (inr memory) e = cc
 
+-- what is no refusal hides no want of memory
+not_hidden : (s : Status) → is_refusal s ≡ false → hides_memory s ≡ false
+not_hidden (status.BadNetwork e) is = absurd (cc)
+not_hidden (status.BadQuery e) is = absurd (cc)
+not_hidden (status.BadTap e) is = absurd (cc)
+not_hidden s is = refl
+
 -- where all was accepted no refusal comes
 not_refused : (told : Option Files) (fb fn tb tn : ℕ) (s : Status) (left : Script) (r : Replay) → (is_refusal s ≡ true) ⊎ (s ≡ status.Memory) → IsRefusedAt told fb fn tb tn s left → left ≡ Done r
-    → (s ≡ status.Ok) ⊎ (s ≡ status.Memory)
+    → (s ≡ status.Ok) ⊎ (s ≡ status.Memory) ⊎ (is_changed s ≡ true)
 not_refused told fb fn tb tn s left r (inl refused) why e =
     let not : is_refusal s ≡ false = subst (IsRefusedAt told fb fn tb tn s) e why in
     let both : true ≡ false = sym refused ∙ not in absurd (cc)
-not_refused told fb fn tb tn s left r (inr memory) why e = inr memory
+not_refused told fb fn tb tn s left r (inr memory) why e = inr (inl memory)
 
 -- a run that stops before anything is replayed
 pub stopped_ends : (words : List (List ℕ)) (w : World) (s : Status) (source : List ℕ) → IsStopped words w.told w.folder_before w.folder_now w.taken_before w.taken_now w.read_before w.read_now s source
@@ -333,7 +348,7 @@ stopped_ends words w s source h out steps = record {
   refusal = h.refusal;
   no_memory = h.no_memory;
   stopped = refused_stop _ _ _ s h.ends;
-  unchanged = λ pages. refused_unchanged s h.ends;
+  unchanged = λ is-honest. refused_unchanged s h.ends;
   sink = λ e. absurd (not_sink s h.ends e);
   too_much = λ e. absurd (not_much s h.ends e);
   complete = λ sound dry. if_accepted h.left _ _
@@ -363,9 +378,9 @@ module _ (words : List (List ℕ)) (w : World) (r : Replay) (source : List ℕ) 
     refused_early = λ e. absurd (cc);
     usage = record { only = λ e. absurd (cc); when = λ e. absurd (some_none (command_in words) some e) };
     refusal = refl;
-    no_memory = λ e. absurd (cc);
+    no_memory = refl;
     stopped = tt;
-    unchanged = λ pages. refl;
+    unchanged = λ is-honest. refl;
     sink = λ e. absurd (cc);
     too_much = λ e. absurd (cc);
     complete = λ sound dry pages few. inl refl;
@@ -380,24 +395,25 @@ module _ (words : List (List ℕ)) (w : World) (r : Replay) (source : List ℕ) 
   names_none (status.BadStream number line why) is = absurd (cc)
   names_none s is = tt
 
-  -- without a fault, and over a disk that changes no page, it is want of memory, or too much
-  ends_ok : (s : Status) → IsCutShort w.sink_before w.sink_now s → StopHasCause (λ e. e.network ≡ r.network) w.disk_before w.disk_now s → is_changed s ≡ false
-      → (s ≡ status.TooMuch → 2 ^ 62 ≤ turns) → ¬ (Rose w.disk_before w.disk_now) → ¬ (Rose w.sink_before w.sink_now) → turns < 2 ^ 62 → (s ≡ status.Ok) ⊎ (s ≡ status.Memory)
-  ends_ok status.Ok cut stop same much sound dry few = inl refl
-  ends_ok status.Memory cut stop same much sound dry few = inr refl
-  ends_ok status.SinkFault cut stop same much sound dry few = absurd (dry (cut.sink refl))
-  ends_ok status.DiskFault cut stop same much sound dry few = absurd (sound stop)
-  ends_ok status.TooMuch cut stop same much sound dry few = let most = much refl in absurd (omega (arith, most, few))
-  ends_ok (status.Garbled page kept got) cut stop same much sound dry few = absurd (cc)
-  ends_ok (status.NotAPage page bytes) cut stop same much sound dry few = absurd (cc)
-  ends_ok (status.Strange arc item) cut stop same much sound dry few = absurd (cc)
-  ends_ok s cut stop same much sound dry few = let no = cut.begun in absurd (cc)
+  -- without a fault it is want of memory, or too much, or a page that came back changed
+  ends_ok : (s : Status) → IsCutShort w.sink_before w.sink_now s → StopHasCause (λ e. e.network ≡ r.network) w.disk_before w.disk_now s
+      → (s ≡ status.TooMuch → 2 ^ 62 ≤ turns) → ¬ (Rose w.disk_before w.disk_now) → ¬ (Rose w.sink_before w.sink_now) → turns < 2 ^ 62
+      → (s ≡ status.Ok) ⊎ (s ≡ status.Memory) ⊎ (is_changed s ≡ true)
+  ends_ok status.Ok cut stop much sound dry few = inl refl
+  ends_ok status.Memory cut stop much sound dry few = inr (inl refl)
+  ends_ok status.SinkFault cut stop much sound dry few = absurd (dry (cut.sink refl))
+  ends_ok status.DiskFault cut stop much sound dry few = absurd (sound stop)
+  ends_ok status.TooMuch cut stop much sound dry few = let most = much refl in absurd (omega (arith, most, few))
+  ends_ok (status.Garbled page kept got) cut stop much sound dry few = inr (inr refl)
+  ends_ok (status.NotAPage page bytes) cut stop much sound dry few = inr (inr refl)
+  ends_ok (status.Strange arc item) cut stop much sound dry few = inr (inr refl)
+  ends_ok s cut stop much sound dry few = let no = cut.begun in absurd (cc)
 
   -- the answer is cut short
   pub answered_cut : (s : Status) → IsCutShort w.sink_before w.sink_now s → StopHasCause (λ e. e.network ≡ r.network) w.disk_before w.disk_now s
-      → (Tells w.pages → is_changed s ≡ false) → (Told → is_changed s ≡ false) → (Told → s ≡ status.TooMuch → 2 ^ 62 ≤ turns)
+      → (w.honest ≡ true → is_changed s ≡ false) → (Told → s ≡ status.TooMuch → 2 ^ 62 ≤ turns)
       → (Told → AppendsSuch w.out_before w.out_now (IsPrefixOfDue (command_in words) r s) × (w.steps_now ≤ w.steps_before + work)) → Ends words w s source
-  answered_cut s cut stop same kept much first = record {
+  answered_cut s cut stop same much first = record {
     read = came.0;
     given = came.2;
     left = Done r;
@@ -407,12 +423,12 @@ module _ (words : List (List ℕ)) (w : World) (r : Replay) (source : List ℕ) 
     refused_early = λ e. let both : true ≡ false = sym e ∙ cut.begun in absurd (cc);
     usage = record { only = λ e. absurd (begun s status.Usage cut.begun refl e); when = λ e. absurd (some_none (command_in words) some e) };
     refusal = cut.begun;
-    no_memory = λ e. begun s (status.BadNetwork net.Memory) cut.begun refl e;
+    no_memory = not_hidden s cut.begun;
     stopped = stop_map _ (IsEngineOf (Done r)) _ _ _ _ s (λ rose. rose) (λ e is. is) stop;
     unchanged = same;
     sink = cut.sink;
     too_much = λ e pages. much pages e;
-    complete = λ sound dry pages few. ends_ok s cut stop (kept pages) (much pages) sound dry few;
+    complete = λ sound dry pages few. ends_ok s cut stop (much pages) sound dry few;
     named = names_none s cut.begun;
   }
 
@@ -430,10 +446,10 @@ module _ (words : List (List ℕ)) (w : World) (r : Replay) (source : List ℕ) 
         (λ told. let all = whole (told engine) in (all.0, subst (λ k. w.steps_now ≡ w.steps_before + k) work_is all.1))
 
     pub driven_cut : (s : Status) → IsCutShort w.sink_before w.sink_now s → StopHasCause (λ e. e.network ≡ r.network) w.disk_before w.disk_now s
-        → (Tells w.pages → is_changed s ≡ false) → (Tells w.pages → s ≡ status.TooMuch → 2 ^ 62 ≤ turns_in (replayed r))
+        → (w.honest ≡ true → is_changed s ≡ false) → (Tells w.pages → s ≡ status.TooMuch → 2 ^ 62 ≤ turns_in (replayed r))
         → (Tells w.pages → AppendsSuch w.out_before w.out_now (IsPrefixOfDue (command_in words) r s) × (w.steps_now ≤ w.steps_before + work_in (replayed r)))
         → Ends words w s source
-    driven_cut s cut stop same much first = answered_cut s cut stop same (λ told. same (told engine))
+    driven_cut s cut stop same much first = answered_cut s cut stop same
         (λ told is. subst (λ k. 2 ^ 62 ≤ k) turns_are (much (told engine) is))
         (λ told. let part = first (told engine) in (part.0, subst (λ k. w.steps_now ≤ w.steps_before + k) work_is part.1))
 
@@ -450,12 +466,12 @@ memory_ends words w s source other differs dry' h = record {
   refused_early = λ e. absurd (cc);
   usage = record { only = λ e. absurd (cc); when = λ e. inr refl };
   refusal = memory_at w.told w.folder_before w.folder_now w.taken_before w.taken_now h.left;
-  no_memory = λ e. absurd (cc);
+  no_memory = refl;
   stopped = tt;
-  unchanged = λ pages. refl;
+  unchanged = λ is-honest. refl;
   sink = λ e. absurd (cc);
   too_much = λ e. absurd (cc);
-  complete = λ sound dry. if_accepted h.left _ _ (λ r e pages few. inr refl) tt;
+  complete = λ sound dry. if_accepted h.left _ _ (λ r e pages few. inr (inl refl)) tt;
   named = tt;
 }
 
@@ -473,10 +489,10 @@ module _ (words : List (List ℕ)) (number rows : ℕ) (asked : command_in words
   pub is_made : IsSome (command_in words)
   is_made = rw asked refl
 
-  pub accepted_made : (reads : List (List ℕ)) (r : Replay) → made_script number (made_of number rows) ≡ Done r → Leads told reads reads (script_of words) (Done r)
+  pub accepted_made : (reads : List (List ℕ × List ℕ)) (r : Replay) → made_script number (made_of number rows) ≡ Done r → Leads told reads reads (script_of words) (Done r)
   accepted_made reads r e = ([], script_made (Done r) e, none_given reads reads refl)
 
-  pub stopped_made : (fb fn tb tn : ℕ) (reads : List (List ℕ)) (s : Status) (source : List ℕ) → HasBadMade number rows s source
+  pub stopped_made : (fb fn tb tn : ℕ) (reads : List (List ℕ × List ℕ)) (s : Status) (source : List ℕ) → HasBadMade number rows s source
       → IsStopped words told fb fn tb tn reads reads s source
   stopped_made fb fn tb tn reads s source (inl memory) =
       subst (λ x. IsStopped words told fb fn tb tn reads reads x source) (sym memory)

@@ -24,3 +24,6 @@ pub mod CountingLemmas
 pub mod MadeLemmas
 pub mod SummaryLemmas
 pub mod AuditLemmas
+pub mod JoinLemmas
+pub mod TapLemmas
+pub mod PartLemmas

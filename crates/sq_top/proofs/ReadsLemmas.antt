@@ -1,14 +1,19 @@
 -- How the script of a run goes on by what is read, and what each step of it keeps.
 use Rattle.std.proofs.Common.{◌≡◌, ℕ, true, false, List, [], ◌∷◌, ◌++◌, length, refl, ap, sym, ◌∙◌, subst, append_assoc, append-nil, Option, None, Some}
-use Rattle.std.specs.Prelude.{Result, Ok, Err, Bool}
+use Rattle.std.specs.Prelude.{Result, Ok, Err, Bool, ◌||◌}
 use Rattle.sq_value.specs.declared.Tuple.{Tuple}
 use Rattle.sq_value.proofs.ListLemmas.{same_bytes-refl}
 use Rattle.sq_outside.specs.Folders.{Files}
 use Rattle.sq_net.specs.declared.NetErr.{NetErr}
 use Rattle.sq_net.specs.declared.Network.{Network}
 use Rattle.sq_net.specs.declared.Source.{Source}
+use Rattle.sq_net.specs.Sound.{IsSound}
 use Rattle.sq_plan.specs.Plans.{Entries}
 use Rattle.sq_reader.specs.Networks.{network_in}
+use Rattle.sq_reader.proofs.SoundLemmas.{network_sound}
+use Rattle.sq_value.specs.Lists.{same_bytes}
+use Rattle.sq_tap.specs.declared.TapErr.{TapErr}
+use Rattle.sq_tap.specs.Names.{stream_named}
 use Rattle.sq_replay.specs.declared.why.Why.{Why}
 use Rattle.sq_replay.specs.Entries.{capacities_in, picks_in}
 use Rattle.sq_replay.specs.Streams.{stream_in}
@@ -20,47 +25,51 @@ use Rattle.sq_top.specs.declared.RunArgs.{RunArgs}
 use Rattle.sq_top.specs.declared.Status.{Status}
 use Rattle.sq_top.specs.declared.Status.TheVariants as status
 use Rattle.sq_top.specs.Commands.{command_in, reads_folder, runs_engine}
-use Rattle.sq_top.specs.Scripts.{Replay, Script, Reads, Done, Stops, after_capacities, after_network, after_picks, after_stream, after_streams, after_words, audit_script, capacities_script, followed_by, made_limits, made_sources, made_streams, made_unread, picks_script, plain_args, run_script, script_of, text_script, unread, with_sources}
+use Rattle.sq_top.specs.Taps.{Tapped, first_tick, tapped}
+use Rattle.sq_top.specs.Scripts.{Replay, Script, Reads, Done, Stops, after_capacities, after_network, after_picks, after_stream, after_query, after_streams, after_tap, after_tapped, after_words, audit_script, capacities_script, followed_by, made_limits, made_sources, made_streams, made_unread, picks_script, plain_args, run_script, script_of, tap_script, tap_unread, text_script, unread, with_sources}
 use Rattle.sq_top.specs.Reads.{GoesBy, IsRead, Leads, LeadsWith, network_read}
 use Rattle.sq_top.specs.Causes.{is_plain_end}
+use Rattle.sq_top.proofs.JoinLemmas.{tapped_sound}
 use Rattle.sq_top.specs.Told.{FilePart, NetworkFile, CapacityFile, PicksFile, StreamFile, TextFile, is_named, limit_of, may_be}
 
-pub goes_then : (told : Option Files) (read more : List (List ℕ)) (a b c : Script) → GoesBy told read a b → GoesBy told more b c → GoesBy told (read ++ more) a c
+pub goes_then : (told : Option Files) (read more : List (List ℕ × List ℕ)) (a b c : Script) → GoesBy told read a b → GoesBy told more b c → GoesBy told (read ++ more) a c
 goes_then told [] more a b c ab bc = subst (λ x. GoesBy told more x c) (sym ab) bc
-goes_then told (bytes ∷ read) more (Reads name limit next) b c ab bc = (ab.0, goes_then told read more (next bytes) b c ab.1 bc)
-goes_then told (bytes ∷ read) more (Done r) b c ab bc = absurd ab
-goes_then told (bytes ∷ read) more (Stops s) b c ab bc = absurd ab
+goes_then told (given ∷ read) more (Reads name limit next) b c ab bc = (ab.0, ab.1, goes_then told read more (next given.1) b c ab.2 bc)
+goes_then told (given ∷ read) more (Done r) b c ab bc = absurd ab
+goes_then told (given ∷ read) more (Stops s) b c ab bc = absurd ab
 
 -- where no read gave anything since
-pub none_given : (before now : List (List ℕ)) → now ≡ before → now ≡ before ++ []
+pub none_given : (before now : List (List ℕ × List ℕ)) → now ≡ before → now ≡ before ++ []
 none_given before now same = same ∙ sym (append-nil before)
 
-pub given_then : (before mid now read more : List (List ℕ)) → mid ≡ before ++ read → now ≡ mid ++ more → now ≡ before ++ (read ++ more)
-given_then before mid now read more first next = next ∙ ap (λ (xs : List (List ℕ)). xs ++ more) first ∙ append_assoc before read more
+pub given_then : (before mid now read more : List (List ℕ × List ℕ)) → mid ≡ before ++ read → now ≡ mid ++ more → now ≡ before ++ (read ++ more)
+given_then before mid now read more first next = next ∙ ap (λ (xs : List (List ℕ × List ℕ)). xs ++ more) first ∙ append_assoc before read more
 
-pub leads_self : (told : Option Files) (before : List (List ℕ)) (s : Script) → Leads told before before s s
+pub leads_self : (told : Option Files) (before : List (List ℕ × List ℕ)) (s : Script) → Leads told before before s s
 leads_self told before s = ([], refl, none_given before before refl)
 
-pub leads_still : (told : Option Files) (before mid now : List (List ℕ)) (a b : Script) → Leads told before mid a b → now ≡ mid → Leads told before now a b
+pub leads_still : (told : Option Files) (before mid now : List (List ℕ × List ℕ)) (a b : Script) → Leads told before mid a b → now ≡ mid → Leads told before now a b
 leads_still told before mid now a b ab same = (ab.0, ab.1, same ∙ ab.2)
 
-pub leads_then : (told : Option Files) (before mid now : List (List ℕ)) (a b c : Script) → Leads told before mid a b → Leads told mid now b c → Leads told before now a c
+pub leads_then : (told : Option Files) (before mid now : List (List ℕ × List ℕ)) (a b c : Script) → Leads told before mid a b → Leads told mid now b c → Leads told before now a c
 leads_then told before mid now a b c ab bc = (ab.0 ++ bc.0, goes_then told ab.0 bc.0 a b c ab.1 bc.1, given_then before mid now ab.0 bc.0 ab.2 bc.2)
 
-pub leads_read : (told : Option Files) (name : List ℕ) (limit : ℕ) (more : List ℕ → Script) (before now : List (List ℕ)) (bytes : List ℕ)
+pub leads_read : (told : Option Files) (name : List ℕ) (limit : ℕ) (more : List ℕ → Script) (before now : List (List ℕ × List ℕ)) (bytes : List ℕ)
     → IsRead told name limit before now bytes → Leads told before now (Reads name limit more) (more bytes)
-leads_read told name limit more before now bytes got = (bytes ∷ [], (got.0, refl), got.1)
+leads_read told name limit more before now bytes got = ((name, bytes) ∷ [], (refl, got.0, refl), got.1)
 
 -- the network was read first
-network_stays : (c : Option Command) (n : Network) (read more : List (List ℕ)) → network_read c read ≡ Some n → network_read c (read ++ more) ≡ Some n
+network_stays : (c : Option Command) (n : Network) (read more : List (List ℕ × List ℕ)) → network_read c read ≡ Some n → network_read c (read ++ more) ≡ Some n
 network_stays None n read more e = absurd (cc)
 network_stays (Some (command.Run args)) n [] more e = absurd (cc)
-network_stays (Some (command.Run args)) n (bytes ∷ read) more e = e
+network_stays (Some (command.Run args)) n (given ∷ read) more e = e
 network_stays (Some (command.Gen number rows)) n read more e = e
 network_stays (Some (command.Audit net text)) n [] more e = absurd (cc)
-network_stays (Some (command.Audit net text)) n (bytes ∷ read) more e = e
+network_stays (Some (command.Audit net text)) n (given ∷ read) more e = e
+network_stays (Some (command.Tap net stream tick history query)) n [] more e = absurd (cc)
+network_stays (Some (command.Tap net stream tick history query)) n (given ∷ read) more e = e
 
-pub with_then : (told : Option Files) (words : List (List ℕ)) (n : Network) (before mid now : List (List ℕ)) (a b : Script) → LeadsWith told before mid words n a → Leads told mid now a b
+pub with_then : (told : Option Files) (words : List (List ℕ)) (n : Network) (before mid now : List (List ℕ × List ℕ)) (a b : Script) → LeadsWith told before mid words n a → Leads told mid now a b
     → LeadsWith told before now words n b
 with_then told words n before mid now a b wa ab = (
   wa.0 ++ ab.0,
@@ -70,7 +79,7 @@ with_then told words n before mid now a b wa ab = (
 )
 
 -- the words lead there, whatever the network is
-pub words_lead : (told : Option Files) (words : List (List ℕ)) (n : Network) (before now : List (List ℕ)) (a : Script) → LeadsWith told before now words n a
+pub words_lead : (told : Option Files) (words : List (List ℕ)) (n : Network) (before now : List (List ℕ × List ℕ)) (a : Script) → LeadsWith told before now words n a
     → Leads told before now (script_of words) a
 words_lead told words n before now a wa = (wa.0, wa.1, wa.3)
 
@@ -80,12 +89,12 @@ Holds P Q R (Reads name limit more) = R name limit × ((bytes : List ℕ) → Ho
 Holds P Q R (Done r) = P r
 Holds P Q R (Stops s) = Q s
 
-pub goes_holds : (P : Replay → Type 0) (Q : Status → Type 0) (R : List ℕ → ℕ → Type 0) (told : Option Files) (read : List (List ℕ)) (from to : Script)
+pub goes_holds : (P : Replay → Type 0) (Q : Status → Type 0) (R : List ℕ → ℕ → Type 0) (told : Option Files) (read : List (List ℕ × List ℕ)) (from to : Script)
     → GoesBy told read from to → Holds P Q R from → Holds P Q R to
 goes_holds P Q R told [] from to goes holds = subst (Holds P Q R) goes holds
-goes_holds P Q R told (bytes ∷ read) (Reads name limit more) to goes holds = goes_holds P Q R told read (more bytes) to goes.1 (holds.1 bytes)
-goes_holds P Q R told (bytes ∷ read) (Done r) to goes holds = absurd goes
-goes_holds P Q R told (bytes ∷ read) (Stops s) to goes holds = absurd goes
+goes_holds P Q R told (given ∷ read) (Reads name limit more) to goes holds = goes_holds P Q R told read (more given.1) to goes.2 (holds.1 given.1)
+goes_holds P Q R told (given ∷ read) (Done r) to goes holds = absurd goes
+goes_holds P Q R told (given ∷ read) (Stops s) to goes holds = absurd goes
 
 -- a script and what comes behind it
 pub holds_then : (P : Replay → Type 0) (Q : Status → Type 0) (R : List ℕ → ℕ → Type 0) (next : Replay → Script) → ((r : Replay) → P r → Holds P Q R (next r)) → (s : Script)
@@ -94,10 +103,6 @@ holds_then P Q R next rest (Reads name limit more) holds = (holds.0, λ bytes. h
 holds_then P Q R next rest (Done r) holds = rest r holds
 holds_then P Q R next rest (Stops s) holds = holds
 
--- what is accepted is the network of a file
-abbrev pub IsFileOf : Network → Type 0
-IsFileOf n = (bytes : List ℕ) × (network_in bytes ≡ Ok n)
-
 -- the rules that words and files may break
 abbrev pub is_rule : Status → Bool
 is_rule status.Usage = true
@@ -105,6 +110,8 @@ is_rule (status.BadNetwork e) = true
 is_rule (status.BadCapacities line) = true
 is_rule (status.BadPicks line) = true
 is_rule (status.BadStream number line why) = true
+is_rule (status.BadQuery e) = true
+is_rule (status.BadTap e) = true
 is_rule s = false
 
 -- and those that a command may break: of capacities and picks a run alone
@@ -116,14 +123,14 @@ abbrev pub IsPartOf : Option Command → List ℕ → ℕ → Type 0
 IsPartOf c name limit = (p : FilePart) × (may_be c p name ≡ true) × (limit ≡ limit_of p)
 
 abbrev pub HoldsFor : Option Command → Script → Type 0
-HoldsFor c s = Holds (λ r. IsFileOf r.network) (IsRuleOf c) (IsPartOf c) s
+HoldsFor c s = Holds (λ r. IsSound r.network) (IsRuleOf c) (IsPartOf c) s
 
 stream_holds : (c : Option Command) (number : ℕ) (more : List Tuple → Script) (o : Result (List Tuple) (ℕ × Why)) → ((xs : List Tuple) → HoldsFor c (more xs))
     → HoldsFor c (after_stream number more o)
 stream_holds c number more (Ok xs) rest = rest xs
 stream_holds c number more (Err e) rest = (refl, λ plain. refl)
 
-streams_hold : (c : Option Command) → reads_folder c ≡ true → (p : Replay) (left : List Source) → IsFileOf p.network → HoldsFor c (after_streams p left)
+streams_hold : (c : Option Command) → reads_folder c ≡ true → (p : Replay) (left : List Source) → IsSound p.network → HoldsFor c (after_streams p left)
 streams_hold c run p [] f = f
 streams_hold c run p (s ∷ left) f = (
   (StreamFile, run, refl),
@@ -131,7 +138,7 @@ streams_hold c run p (s ∷ left) f = (
       (λ xs. streams_hold c run (with_sources p (p.sources ++ xs ∷ [])) left f),
 )
 
-module _ (args : RunArgs) (n : Network) (f : IsFileOf n) where
+module _ (args : RunArgs) (n : Network) (f : IsSound n) where
   abbrev asked : Option Command
   asked = Some (command.Run args)
 
@@ -155,11 +162,11 @@ module _ (args : RunArgs) (n : Network) (f : IsFileOf n) where
   limited_hold (Some name) is = ((CapacityFile, named_self args.capacities name is, refl), λ bytes. capacities_hold (capacities_in bytes))
 
 network_holds : (args : RunArgs) (bytes : List ℕ) (o : Result Network NetErr) → network_in bytes ≡ o → HoldsFor (Some (command.Run args)) (after_network args o)
-network_holds args bytes (Ok n) said = limited_hold args n (bytes, said) args.capacities refl
+network_holds args bytes (Ok n) said = limited_hold args n (network_sound bytes n said) args.capacities refl
 network_holds args bytes (Err e) said = (refl, λ plain. refl)
 
 -- and what is made
-made_streams_hold : (c : Option Command) (stream : List ℕ) (p : Replay) (left : List Source) → IsFileOf p.network → HoldsFor c (made_streams stream p left)
+made_streams_hold : (c : Option Command) (stream : List ℕ) (p : Replay) (left : List Source) → IsSound p.network → HoldsFor c (made_streams stream p left)
 made_streams_hold c stream p [] f = f
 made_streams_hold c stream p (s ∷ left) f =
     stream_holds c (length p.sources) (λ xs. made_streams stream (with_sources p (p.sources ++ xs ∷ [])) left) (stream_in s.schema stream)
@@ -169,12 +176,12 @@ module _ (c : Option Command) (engine : runs_engine c ≡ true) where
   not_plain : (s : Status) → runs_engine c ≡ false → is_plain_end s ≡ true
   not_plain s plain = let both : true ≡ false = sym engine ∙ plain in absurd (cc)
 
-  made_sources_hold : (number : ℕ) (stream : List ℕ) (n : Network) (o : Result Entries ℕ) → IsFileOf n → HoldsFor c (made_sources number stream n o)
+  made_sources_hold : (number : ℕ) (stream : List ℕ) (n : Network) (o : Result Entries ℕ) → IsSound n → HoldsFor c (made_sources number stream n o)
   made_sources_hold number stream n (Ok entries) f = made_streams_hold c stream (made_unread number n entries) n.sources f
   made_sources_hold number stream n (Err line) f = (refl, not_plain (status.BadCapacities line))
 
   made_holds : (number : ℕ) (made : Made) (o : Result Network NetErr) → network_in made.net ≡ o → HoldsFor c (made_limits number made o)
-  made_holds number made (Ok n) said = made_sources_hold number made.stream n (capacities_in made.capacities) (made.net, said)
+  made_holds number made (Ok n) said = made_sources_hold number made.stream n (capacities_in made.capacities) (network_sound made.net n said)
   made_holds number made (Err e) said = (refl, λ plain. refl)
 
 -- an audit reads no capacities and no picks, and the text last
@@ -183,24 +190,63 @@ module _ (net text : List ℕ) where
   audited = Some (command.Audit net text)
 
   plain_holds : (bytes : List ℕ) (o : Result Network NetErr) → network_in bytes ≡ o → HoldsFor audited (after_network (plain_args net) o)
-  plain_holds bytes (Ok n) said = streams_hold audited refl (unread (plain_args net) n [] []) n.sources (bytes, said)
+  plain_holds bytes (Ok n) said = streams_hold audited refl (unread (plain_args net) n [] []) n.sources (network_sound bytes n said)
   plain_holds bytes (Err e) said = (refl, λ plain. refl)
 
   audit_holds : HoldsFor audited (audit_script net text)
-  audit_holds = holds_then (λ r. IsFileOf r.network) (IsRuleOf audited) (IsPartOf audited) (text_script text)
-      (λ r file. ((TextFile, same_bytes-refl text, refl), λ bytes. file)) (run_script (plain_args net))
+  audit_holds = holds_then (λ r. IsSound r.network) (IsRuleOf audited) (IsPartOf audited) (text_script text)
+      (λ r sound. ((TextFile, same_bytes-refl text, refl), λ bytes. sound)) (run_script (plain_args net))
       ((NetworkFile, same_bytes-refl net, refl), λ bytes. plain_holds bytes (network_in bytes) refl)
+
+or_first : (a b : Bool) → a ≡ true → (a || b) ≡ true
+or_first true b h = refl
+or_first false b h = absurd (cc)
+
+or_later : (a b : Bool) → b ≡ true → (a || b) ≡ true
+or_later true b h = refl
+or_later false b h = h
+
+-- a tap reads two networks, and the sources last
+module _ (net stream : List ℕ) (tick history : ℕ) (query : List ℕ) where
+  abbrev joining : Option Command
+  joining = Some (command.Tap net stream tick history query)
+
+  abbrev from : ℕ
+  from = first_tick tick history
+
+  joined_holds : (o : Result Tapped TapErr) → ((t : Tapped) → o ≡ Ok t → IsSound t.network) → HoldsFor joining (after_tap o)
+  joined_holds (Ok t) sound = streams_hold joining refl (tap_unread t) t.network.sources (sound t refl)
+  joined_holds (Err e) sound = (refl, not_plain joining refl (status.BadTap e))
+
+  query_holds : (n : Network) → IsSound n → (bytes : List ℕ) (o : Result Network NetErr) → network_in bytes ≡ o → HoldsFor joining (after_query n stream from o)
+  query_holds n sound bytes (Ok q) said =
+      joined_holds (tapped n (stream_named n stream) from q) (λ t is. tapped_sound n stream from q t sound (network_sound bytes q said) is)
+  query_holds n sound bytes (Err e) said = (refl, not_plain joining refl (status.BadQuery e))
+
+  named_holds : (bytes : List ℕ) (o : Result Network NetErr) → network_in bytes ≡ o → HoldsFor joining (after_tapped stream from query o)
+  named_holds bytes (Ok n) said = (
+    (NetworkFile, or_later (same_bytes net query) (same_bytes query query) (same_bytes-refl query), refl),
+    λ more. query_holds n (network_sound bytes n said) more (network_in more) refl,
+  )
+  named_holds bytes (Err e) said = (refl, λ plain. refl)
+
+  tap_holds : HoldsFor joining (tap_script net stream from query)
+  tap_holds = (
+    (NetworkFile, or_first (same_bytes net net) (same_bytes query net) (same_bytes-refl net), refl),
+    λ bytes. named_holds bytes (network_in bytes) refl,
+  )
 
 command_holds : (c : Option Command) → HoldsFor c (after_words c)
 command_holds None = (refl, λ plain. refl)
 command_holds (Some (command.Run args)) = ((NetworkFile, same_bytes-refl args.net, refl), λ bytes. network_holds args bytes (network_in bytes) refl)
 command_holds (Some (command.Gen number rows)) = made_holds (Some (command.Gen number rows)) refl number (made_of number rows) (network_in (made_of number rows).net) refl
 command_holds (Some (command.Audit net text)) = audit_holds net text
+command_holds (Some (command.Tap net stream tick history query)) = tap_holds net stream tick history query
 
 pub script_holds : (words : List (List ℕ)) → HoldsFor (command_in words) (script_of words)
 script_holds words = command_holds (command_in words)
 
 -- what is left of a script of words
-pub left_holds : (told : Option Files) (words read : List (List ℕ)) (left : Script) → GoesBy told read (script_of words) left → HoldsFor (command_in words) left
+pub left_holds : (told : Option Files) (words : List (List ℕ)) (read : List (List ℕ × List ℕ)) (left : Script) → GoesBy told read (script_of words) left → HoldsFor (command_in words) left
 left_holds told words read left goes =
-    goes_holds (λ r. IsFileOf r.network) (IsRuleOf (command_in words)) (IsPartOf (command_in words)) told read (script_of words) left goes (script_holds words)
+    goes_holds (λ r. IsSound r.network) (IsRuleOf (command_in words)) (IsPartOf (command_in words)) told read (script_of words) left goes (script_holds words)

@@ -1,5 +1,5 @@
 -- What a replay has written: the text of a history, and the end lines behind it.
-use Rattle.std.proofs.Common.{◌≡◌, ℕ, zero, suc, ◌+◌, ◌<◌, ◌^◌, List, [], ◌∷◌, ◌++◌, length, map, refl, ap, ap₂, sym, ◌∙◌, arith, append_assoc, Option, None, Some}
+use Rattle.std.proofs.Common.{◌≡◌, ℕ, zero, suc, ◌+◌, ◌<◌, ◌^◌, Bool, List, [], ◌∷◌, ◌++◌, length, map, refl, ap, ap₂, sym, ◌∙◌, arith, append_assoc, Option, None, Some, drop}
 use Rattle.std.specs.Prelude.{slice_get}
 use Rattle.std.specs.List.{AllByRecursion, range_with_len}
 use Rattle.sq_value.specs.Lists.{IsPrefixOf, numbers_to}
@@ -10,7 +10,7 @@ use Rattle.sq_net.specs.declared.Network.{Network}
 use Rattle.sq_net.specs.Sound.{IsSound}
 use Rattle.sq_oper.specs.declared.outs.Event.{Event}
 use Rattle.sq_oper.specs.declared.outs.Decision.{Decision}
-use Rattle.sq_replay.specs.Shown.{end_lines, text_of}
+use Rattle.sq_replay.specs.Shown.{boxes_from, end_lines_from, text_of}
 use Rattle.sq_place.specs.declared.DropPoint.{DropPoint}
 use Rattle.sq_points.specs.Points.{points_of, drops_in}
 use Rattle.sq_model.specs.Shedding.{Replay, record_of}
@@ -37,9 +37,9 @@ same_below f g from (suc many) same =
 pub same_numbers : (f g : ℕ → ℕ) (many : ℕ) → ((at : ℕ) → at < many → f at ≡ g at) → map f (numbers_to many) ≡ map g (numbers_to many)
 same_numbers f g many same = same_below f g 0 many (λ at below. same at (omega (arith, below)))
 
-module _ (r : Replay) (sound : IsSound r.network) where
+module _ (r : Replay) (first : ℕ) (sound : IsSound r.network) where
   abbrev due : Due
-  due = due_in r
+  due = due_in r first
 
   -- the decisions of a drop are its own
   own : (w : ℕ) → AllByRecursion (λ (d : Decision). d.drop ≡ w) ((answer_in r).decisions w)
@@ -53,8 +53,9 @@ module _ (r : Replay) (sound : IsSound r.network) where
       by None = tt
       by (Some p) = each p (record_of r w p)
 
-  ends : AllByRecursion (IsLineOf Ended) (ended_in r)
-  ends = all_ended r.network (map (fed_in r) (numbers_to (length r.network.boxes))) (map (late_in r) (numbers_to (length r.network.boxes)))
+  ends : AllByRecursion (IsLineOf Ended) (ended_in r first)
+  ends =
+      all_ended (boxes_from first r.network) (drop first (map (fed_in r) (numbers_to (length r.network.boxes)))) (drop first (map (late_in r) (numbers_to (length r.network.boxes))))
 
   few : drops_in r.network < 2 ^ 64
   few = few_drops r.network sound
@@ -62,7 +63,7 @@ module _ (r : Replay) (sound : IsSound r.network) where
   prefix_due : (history : List Event) → AllByRecursion (IsEventAt r.network) history → Begins r.network (answer_in r) history
       → (text : List ℕ) → IsPrefixOf text (history_text r.network history) → IsPrefixText due text
   prefix_due history shown begins text part =
-      prefix_of_history r.network (answer_in r) own history sound (ended_in r) ends few shown begins text part
+      prefix_of_history r.network (answer_in r) own history sound (ended_in r first) ends few shown begins text part
 
   -- nothing is written yet
   pub replay_waits : (before : Option (List ℕ)) → AppendsSuch before before (IsPrefixText due)
@@ -72,31 +73,31 @@ module _ (r : Replay) (sound : IsSound r.network) where
       appends_all before before [] (IsPrefixText due) (sym (appended-nil before)) (prefix_due [] tt nothing [] ([], refl))
 
   -- the run stopped on its way
-  pub replay_halts : (s : Status) (before now : Option (List ℕ)) (begun steps : ℕ) → IsHalted r s before now begun steps → AppendsSuch before now (IsPrefixText due)
-  replay_halts s before now begun steps halted =
+  pub replay_halts : (honest : Bool) (s : Status) (before now : Option (List ℕ)) (begun steps : ℕ) → IsHalted honest r s before now begun steps → AppendsSuch before now (IsPrefixText due)
+  replay_halts honest s before now begun steps halted =
       let part = halted.written in
       appends_all before now part.0 (IsPrefixText due) part.2 (prefix_due halted.history halted.shown halted.first part.0 part.1)
 
   module _ (engine : Engine) (same : engine.network ≡ r.network) (before mid : Option (List ℕ)) (begun steps : ℕ) (driven : IsDriven r engine before mid begun steps) where
-    ends_are : ends_text engine ≡ text_of due.ended
+    ends_are : ends_text first engine ≡ text_of due.ended
     ends_are =
-        ap (λ (m : Network). text_of (end_lines m (map (fed_at engine) (numbers_to (length m.boxes))) (map (late_at engine) (numbers_to (length m.boxes))))) same
-        ∙ ap₂ (λ fed late. text_of (end_lines r.network fed late))
+        ap (λ (m : Network). text_of (end_lines_from m first (map (fed_at engine) (numbers_to (length m.boxes))) (map (late_at engine) (numbers_to (length m.boxes))))) same
+        ∙ ap₂ (λ fed late. text_of (end_lines_from r.network first fed late))
         (same_numbers (fed_at engine) (fed_in r) (length r.network.boxes) driven.fed) (same_numbers (late_at engine) (late_in r) (length r.network.boxes) driven.late)
 
     -- its lines are all written
-    pub replay_ends : (now : Option (List ℕ)) → now ≡ appended mid (ends_text engine) → AppendsSuch before now (IsWholeText due)
+    pub replay_ends : (now : Option (List ℕ)) → now ≡ appended mid (ends_text first engine) → AppendsSuch before now (IsWholeText due)
     replay_ends now written =
         let lines = history_text r.network driven.history in
         appends_all before now (lines ++ text_of due.ended) (IsWholeText due)
         (written ∙ ap₂ appended driven.written ends_are ∙ appended-append before lines (text_of due.ended))
-        (whole_of_history r.network sound (answer_in r) (ended_in r) ends few driven.history driven.shown driven.all)
+        (whole_of_history r.network sound (answer_in r) (ended_in r first) ends few driven.history driven.shown driven.all)
 
     -- a part of the end lines is lost
-    pub replay_cut : (now : Option (List ℕ)) → AppendsPrefix mid now (ends_text engine) → AppendsSuch before now (IsPrefixText due)
+    pub replay_cut : (now : Option (List ℕ)) → AppendsPrefix mid now (ends_text first engine) → AppendsSuch before now (IsPrefixText due)
     replay_cut now part =
         let lines = history_text r.network driven.history in
         appends_all before now (lines ++ part.0) (IsPrefixText due)
         (part.2 ∙ ap (λ o. appended o part.0) driven.written ∙ appended-append before lines part.0)
-        (beginning_of_history r.network sound (answer_in r) (ended_in r) ends few driven.history driven.shown driven.all (lines ++ part.0)
+        (beginning_of_history r.network sound (answer_in r) (ended_in r first) ends few driven.history driven.shown driven.all (lines ++ part.0)
         (part.1.0, ap (λ text. lines ++ text) (sym ends_are ∙ part.1.1) ∙ sym (append_assoc lines part.0 part.1.0)))

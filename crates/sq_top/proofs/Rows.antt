@@ -97,6 +97,16 @@ words_all : command_in (codes "run" ∷ codes "--picks=-p" ∷ codes "--train" �
     ≡ Some (command.Run (record (defaults (codes "a")) { rule = rule.Picks; picks = Some (codes "-p"); train = 1 }))
 words_all = refl
 
+words_tap : command_in (codes "tap" ∷ codes "c.toml" ∷ codes "a1" ∷ codes "8" ∷ codes "0004" ∷ codes "q.toml" ∷ [])
+    ≡ Some (command.Tap (codes "c.toml") (codes "a1") 8 4 (codes "q.toml"))
+words_tap = refl
+
+words_tap_wide : command_in (codes "tap" ∷ codes "c.toml" ∷ codes "a1" ∷ codes "1099511627776" ∷ codes "0" ∷ codes "q.toml" ∷ []) ≡ None
+words_tap_wide = refl
+
+words_tap_short : command_in (codes "tap" ∷ codes "c.toml" ∷ codes "a1" ∷ codes "8" ∷ codes "0" ∷ []) ≡ None
+words_tap_short = refl
+
 words_audit : command_in (codes "audit" ∷ codes "a.toml" ∷ codes "t" ∷ []) ≡ Some (command.Audit (codes "a.toml") (codes "t"))
 words_audit = refl
 

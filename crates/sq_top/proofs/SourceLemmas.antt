@@ -8,7 +8,7 @@ use Rattle.sq_value.specs.declared.Tuple.{Tuple}
 use Rattle.sq_value.specs.Values.{Columns, IsStream, IsTuple, fields_fit}
 use Rattle.sq_net.specs.declared.Network.{Network}
 use Rattle.sq_net.specs.declared.Source.{Source}
-use Rattle.sq_net.specs.Sound.{is_between, source_within}
+use Rattle.sq_net.specs.Sound.{is_between, network_within, source_within}
 use Rattle.sq_oper.specs.Streams.{IsSoundTuple}
 use Rattle.sq_model.specs.Fit.{FitsOption, SourcesFit}
 use Rattle.sq_model.specs.Full.{nth}
@@ -25,6 +25,14 @@ pub text_is_recorded : (s : Source) (bytes : List ℕ) (xs : List Tuple) → sou
 text_is_recorded s bytes xs within read =
     let few = between 1 16 (length s.schema) (and-true (is_between 1 255 (length s.file)) (is_between 1 16 (length s.schema)) within).1 in
     streams_fit s.schema bytes xs few.0 few.1 read
+
+pub sources_within : (n : Network) → network_within n ≡ true → list_all source_within n.sources ≡ true
+sources_within n h = (and-true _ _ (and-true _ _ (and-true _ _ (and-true _ _ h).0).0).0).1
+
+-- one stream more
+pub streams_more : (xss : List (List Tuple)) (xs : List Tuple) → AllByRecursion IsStream xss → IsStream xs → AllByRecursion IsStream (xss ++ xs ∷ [])
+streams_more [] xs h one = (one, tt)
+streams_more (ys ∷ xss) xs h one = (h.0, streams_more xss xs h.1 one)
 
 recorded_both : (ss : List Source) (xss : List (List Tuple)) (s : Source) (xs : List Tuple) → AreRecorded ss xss → ReadsStreams s.schema xs → AreRecorded (ss ++ s ∷ []) (xss ++ xs ∷ [])
 recorded_both [] [] s xs before one = (one, tt)

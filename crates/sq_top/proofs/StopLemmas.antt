@@ -1,5 +1,5 @@
 -- Why engines stop, and what is cut short.
-use Rattle.std.proofs.Common.{◌≡◌, ◌≢◌, ◌⊎◌, inl, inr, ℕ, ◌+◌, ◌^◌, ◌≤◌, true, false, refl, ap, sym, ◌∙◌, subst}
+use Rattle.std.proofs.Common.{◌≡◌, ◌≢◌, ◌⊎◌, inl, inr, ℕ, ◌+◌, ◌^◌, ◌≤◌, true, false, refl, ap, sym, ◌∙◌, subst, ◌<◌, arith, zero, suc, Bool}
 use Rattle.sq_outside.specs.Faults.{Rose}
 use Rattle.sq_actor.specs.declared.actor.Actor.{Actor}
 use Rattle.sq_flow.specs.declared.flow.Flow.{Flow}
@@ -15,6 +15,7 @@ use Rattle.sq_top.specs.Driving.{IsCutShort}
 use Rattle.sq_top.specs.Stopping.{FailedIn, StopHasCause, is_changed, status_of}
 use Rattle.sq_top.specs.Writing.{IsLost}
 use Rattle.sq_top.proofs.StoppedLemmas.{rose_later}
+use Rattle.sq_flow.specs.Readiness.{FallsBy}
 
 failed_map : (P Q : Engine → Type 0) (X : Flow Actor → Type 0) → ((e : Engine) → P e → Q e) → FailedIn P X → FailedIn Q X
 failed_map P Q X of f = record { engine = f.engine; of_run = of f.engine f.of_run; failed = f.failed; shows = f.shows }
@@ -113,3 +114,10 @@ told_refused s told (inr memory) refused = let both : is_refusal status.Memory �
 pub told_plain : (s told : Status) → (told ≡ s) ⊎ ((told ≡ status.Memory) × (s ≢ status.SinkFault)) → is_plain_end s ≡ true → is_plain_end told ≡ true
 told_plain s told (inl same) plain = ap is_plain_end same ∙ plain
 told_plain s told (inr memory) plain = ap is_plain_end memory.0
+
+-- a step that feeds or finishes lowers the measure
+pub falls_lower : (fed : ℕ) (finished : Bool) (before after : ℕ) → FallsBy fed finished before after → (fed ≡ 0 → finished ≡ true) → after < before
+falls_lower zero true before after falls works = omega (arith, falls)
+falls_lower zero false before after falls works = absurd (let e : false ≡ true = works refl in cc)
+falls_lower (suc fed) true before after falls works = omega (arith, falls)
+falls_lower (suc fed) false before after falls works = omega (arith, falls)

@@ -19,6 +19,8 @@ use Rattle.sq_net.specs.declared.Source.{Source}
 use Rattle.sq_net.specs.Sound.{IsSound, is_between}
 use Rattle.sq_reader.specs.Networks.{network_in}
 use Rattle.sq_tables.specs.Refusals.{is_memory}
+use Rattle.sq_tap.specs.declared.TapErr.{TapErr}
+use Rattle.sq_tap.specs.declared.TapErr.TheVariants as tap
 use Rattle.sq_replay.specs.declared.why.Why.{Why}
 use Rattle.sq_plan.specs.Plans.{Entries}
 use Rattle.sq_replay.specs.Entries.{capacities_in, picks_in}
@@ -26,8 +28,8 @@ use Rattle.sq_replay.specs.Streams.{stream_in}
 use Rattle.sq_top.specs.Commands.{command_in}
 use Rattle.sq_top.specs.Messages.{name_at, name_in, network_of}
 use Rattle.sq_top.specs.Scripts.{Script, Reads, Done, Stops, Replay, after_capacities, after_network, after_picks, after_stream, after_streams, after_words, capacities_script, picks_script, script_of, settings_limit, stream_limit, unread, with_sources}
-use Rattle.sq_top.specs.Reads.{GoesBy, IsRead, Leads, LeadsWith, network_read}
-use Rattle.sq_top.specs.Causes.{AreCapacitiesOf, ArePicksOf, HasNoCapacities, HasNoPicks, HasNoStream, HasNoStreams, IsRefusedAt, IsRefusedBy, IsRule, IsStopped, IsStreamOf, IsUnread, NamesSource, is_refusal}
+use Rattle.sq_top.specs.Reads.{AreBytesOf, GoesBy, IsRead, Leads, LeadsWith, network_read}
+use Rattle.sq_top.specs.Causes.{AreCapacitiesOf, ArePicksOf, HasNoCapacities, HasNoPicks, HasNoStream, HasNoStreams, IsNetworkFile, IsRefusedAt, IsRefusedBy, IsRule, IsStopped, IsStreamOf, IsUnread, NamesSource, hides_memory, is_refusal}
 use Rattle.sq_top.proofs.ReadsLemmas.{leads_read, leads_still, leads_then, none_given, with_then, words_lead}
 use Rattle.sq_top.proofs.SortedLines.{and-true}
 
@@ -35,13 +37,21 @@ pub some_none : (o : Option Command) → IsSome o → o ≡ None → ⊥
 some_none None some e = absurd (cc)
 some_none (Some c) some e = cc
 
+pub not_memory : (e : NetErr) → e ≢ net.Memory → is_memory e ≡ false
+not_memory net.Memory h = absurd (h refl)
+not_memory e h = refl
+
+pub not_hidden_tap : (e : TapErr) → e ≢ tap.Memory → hides_memory (status.BadTap e) ≡ false
+not_hidden_tap tap.Memory h = absurd (h refl)
+not_hidden_tap e h = refl
+
 -- memory may run out wherever a run is
 pub memory_at : (told : Option Files) (fb fn tb tn : ℕ) (left : Script) → IsRefusedAt told fb fn tb tn status.Memory left
 memory_at told fb fn tb tn (Done r) = refl
 memory_at told fb fn tb tn (Stops s) = inr refl
 memory_at told fb fn tb tn (Reads name limit more) = inl refl
 
-module _ (words : List (List ℕ)) (told : Option Files) (fb fn tb tn : ℕ) (rb rn : List (List ℕ)) (source : List ℕ) where
+module _ (words : List (List ℕ)) (told : Option Files) (fb fn tb tn : ℕ) (rb rn : List (List ℕ × List ℕ)) (source : List ℕ) where
   pub stopped_memory : (left : Script) → Leads told rb rn (script_of words) left → IsStopped words told fb fn tb tn rb rn status.Memory source
   stopped_memory left leads = record {
     read = leads.0;
@@ -52,7 +62,7 @@ module _ (words : List (List ℕ)) (told : Option Files) (fb fn tb tn : ℕ) (rb
     usage = record { only = λ e. absurd (cc); when = λ e. inr refl };
     named = tt;
     ends = inr refl;
-    no_memory = λ e. absurd (cc);
+    no_memory = refl;
   }
 
   is_usage : command_in words ≡ None → script_of words ≡ Stops status.Usage
@@ -68,11 +78,11 @@ module _ (words : List (List ℕ)) (told : Option Files) (fb fn tb tn : ℕ) (rb
     usage = record { only = λ e. none; when = λ e. inl refl };
     named = tt;
     ends = inl refl;
-    no_memory = λ e. absurd (cc);
+    no_memory = refl;
   }
 
   -- any refusal but that the words are no command
-  refused_at : (s : Status) → is_refusal s ≡ true → s ≢ status.Usage → s ≢ status.BadNetwork net.Memory → IsSome (command_in words)
+  refused_at : (s : Status) → is_refusal s ≡ true → s ≢ status.Usage → hides_memory s ≡ false → IsSome (command_in words)
       → (left : Script) (leads : Leads told rb rn (script_of words) left) → IsRefusedAt told fb fn tb tn s left → NamesSource words leads.0 s source
       → IsStopped words told fb fn tb tn rb rn s source
   refused_at s refused other rule some left leads why named = record {
@@ -87,28 +97,29 @@ module _ (words : List (List ℕ)) (told : Option Files) (fb fn tb tn : ℕ) (rb
     no_memory = rule;
   }
 
-  same_error : (e : NetErr) → status.BadNetwork e ≡ status.BadNetwork net.Memory → e ≡ net.Memory
-  same_error e h = cc
-
   pub stopped_rule : (s : Status) → IsRule s → IsSome (command_in words) → (leads : Leads told rb rn (script_of words) (Stops s))
       → NamesSource words leads.0 s source → IsStopped words told fb fn tb tn rb rn s source
   stopped_rule (status.BadNetwork rule) is some leads named =
-      refused_at (status.BadNetwork rule) refl (λ e. cc) (λ h. is (same_error rule h)) some (Stops (status.BadNetwork rule)) leads (inl refl) named
+      refused_at (status.BadNetwork rule) refl (λ e. cc) (not_memory rule is) some (Stops (status.BadNetwork rule)) leads (inl refl) named
+  stopped_rule (status.BadQuery rule) is some leads named =
+      refused_at (status.BadQuery rule) refl (λ e. cc) (not_memory rule is) some (Stops (status.BadQuery rule)) leads (inl refl) named
+  stopped_rule (status.BadTap rule) is some leads named =
+      refused_at (status.BadTap rule) refl (λ e. cc) (not_hidden_tap rule is) some (Stops (status.BadTap rule)) leads (inl refl) named
   stopped_rule (status.BadCapacities line) is some leads named =
-      refused_at (status.BadCapacities line) refl (λ e. cc) (λ e. cc) some (Stops (status.BadCapacities line)) leads (inl refl) named
+      refused_at (status.BadCapacities line) refl (λ e. cc) refl some (Stops (status.BadCapacities line)) leads (inl refl) named
   stopped_rule (status.BadPicks line) is some leads named =
-      refused_at (status.BadPicks line) refl (λ e. cc) (λ e. cc) some (Stops (status.BadPicks line)) leads (inl refl) named
+      refused_at (status.BadPicks line) refl (λ e. cc) refl some (Stops (status.BadPicks line)) leads (inl refl) named
   stopped_rule (status.BadStream number line why) is some leads named =
-      refused_at (status.BadStream number line why) refl (λ e. cc) (λ e. cc) some (Stops (status.BadStream number line why)) leads (inl refl) named
+      refused_at (status.BadStream number line why) refl (λ e. cc) refl some (Stops (status.BadStream number line why)) leads (inl refl) named
   stopped_rule s is some leads named = absurd is
 
   pub stopped_unread : (name : List ℕ) (limit : ℕ) (more : List ℕ → Script) → IsSome (command_in words) → Leads told rb rn (script_of words) (Reads name limit more)
       → (s : Status) → IsUnread told name limit fb fn tb tn s → IsStopped words told fb fn tb tn rb rn s source
   stopped_unread name limit more some leads s (inl e) = subst (λ x. IsStopped words told fb fn tb tn rb rn x source) (sym e) (stopped_memory (Reads name limit more) leads)
   stopped_unread name limit more some leads s (inr (inl fault)) = subst (λ x. IsStopped words told fb fn tb tn rb rn x source) (sym fault.0)
-      (refused_at (status.FolderFault name) refl (λ e. cc) (λ e. cc) some (Reads name limit more) leads (inr (inl (refl, fault.1))) tt)
+      (refused_at (status.FolderFault name) refl (λ e. cc) refl some (Reads name limit more) leads (inr (inl (refl, fault.1))) tt)
   stopped_unread name limit more some leads s (inr (inr long)) = subst (λ x. IsStopped words told fb fn tb tn rb rn x source) (sym long.0)
-      (refused_at (status.TooLong name) refl (λ e. cc) (λ e. cc) some (Reads name limit more) leads (inr (inr (refl, long.1, long.2))) tt)
+      (refused_at (status.TooLong name) refl (λ e. cc) refl some (Reads name limit more) leads (inr (inr (refl, long.1, long.2))) tt)
 
 pub rose_later : (n before mid now : ℕ) → before ≤ mid → RoseBy n mid now → RoseBy n before now
 rose_later n before mid now le (inl up) = inl (omega arith)
@@ -121,46 +132,46 @@ unread_later told name limit fb mid fn tb between tn s f t (inr (inl (e, inl ros
 unread_later told name limit fb mid fn tb between tn s f t (inr (inl (e, inr none))) = inr (inl (e, inr none))
 unread_later told name limit fb mid fn tb between tn s f t (inr (inr l)) = inr (inr (l.0, rose_later (limit + 1) tb between tn t l.1, l.2))
 
--- the network file
+-- the network's file, which is read first
+module _ (words : List (List ℕ)) (told : Option Files) (name : List ℕ) (next : Result Network NetErr → Script) (some : IsSome (command_in words))
+    (script_is : script_of words ≡ Reads name settings_limit (λ bytes. next (network_in bytes))) (refuses : (e : NetErr) → next (Err e) ≡ Stops (status.BadNetwork e))
+    (reads : (bytes : List ℕ) → network_read (command_in words) ((name, bytes) ∷ []) ≡ network_of (network_in bytes)) where
+  pub first_unread : (fb fn tb tn : ℕ) (rb rn : List (List ℕ × List ℕ)) (s : Status) (source : List ℕ) → rn ≡ rb → IsUnread told name settings_limit fb fn tb tn s
+      → IsStopped words told fb fn tb tn rb rn s source
+  first_unread fb fn tb tn rb rn s source same unread =
+      stopped_unread words told fb fn tb tn rb rn source name settings_limit (λ bytes. next (network_in bytes)) some ([], script_is, none_given rb rn same) s unread
+
+  -- what the file's bytes say comes next
+  after_bytes : (bytes : List ℕ) → AreBytesOf told name settings_limit bytes → (r : Result Network NetErr) → network_in bytes ≡ r
+      → GoesBy told ((name, bytes) ∷ []) (script_of words) (next r)
+  after_bytes bytes are r e = subst (λ x. GoesBy told ((name, bytes) ∷ []) x (next r)) (sym script_is) (refl, are, ap next e)
+
+  pub first_leads : (rb rn : List (List ℕ × List ℕ)) (n : Network) → IsNetworkFile told name rb rn (Ok n) → LeadsWith told rb rn words n (next (Ok n))
+  first_leads rb rn n (bytes, got, said) = ((name, bytes) ∷ [], after_bytes bytes got.0 (Ok n) said, reads bytes ∙ ap network_of said, got.1)
+
+  pub first_refused : (fb fn tb tn : ℕ) (rb rn : List (List ℕ × List ℕ)) (e : NetErr) (result : Status) (source : List ℕ) → IsNetworkFile told name rb rn (Err e) → IsRefusedBy e result
+      → IsStopped words told fb fn tb tn rb rn result source
+  first_refused fb fn tb tn rb rn e result source (bytes, got, said) (inl memory) =
+      subst (λ x. IsStopped words told fb fn tb tn rb rn x source) (sym memory.1)
+      (stopped_memory words told fb fn tb tn rb rn source (next (network_in bytes)) ((name, bytes) ∷ [], after_bytes bytes got.0 (network_in bytes) refl, got.1))
+  first_refused fb fn tb tn rb rn e result source (bytes, got, said) (inr rule) =
+      subst (λ x. IsStopped words told fb fn tb tn rb rn x source) (sym rule.1)
+      (stopped_rule words told fb fn tb tn rb rn source (status.BadNetwork e) rule.0 some
+      ((name, bytes) ∷ [], subst (GoesBy told ((name, bytes) ∷ []) (script_of words)) (refuses e) (after_bytes bytes got.0 (Err e) (said (not_memory e rule.0))), got.1) tt)
+
+-- what a run reads
 module _ (words : List (List ℕ)) (args : RunArgs) (command : command_in words ≡ Some (command.Run args)) (told : Option Files) where
   pub is_command : IsSome (command_in words)
   is_command = rw command refl
 
-  script_is : script_of words ≡ Reads args.net settings_limit (λ bytes. after_network args (network_in bytes))
-  script_is = ap after_words command
+  pub run_reads : script_of words ≡ Reads args.net settings_limit (λ bytes. after_network args (network_in bytes))
+  run_reads = ap after_words command
 
-  pub stopped_network : (fb fn tb tn : ℕ) (rb rn : List (List ℕ)) (s : Status) (source : List ℕ) → rn ≡ rb → IsUnread told args.net settings_limit fb fn tb tn s
-      → IsStopped words told fb fn tb tn rb rn s source
-  stopped_network fb fn tb tn rb rn s source same unread =
-      stopped_unread words told fb fn tb tn rb rn source args.net settings_limit (λ bytes. after_network args (network_in bytes)) is_command
-      ([], script_is, none_given rb rn same) s unread
-
-  module _ (rb rn : List (List ℕ)) (bytes : List ℕ) (got : IsRead told args.net settings_limit rb rn bytes) where
-    -- what the file's bytes say comes next
-    after_bytes : (r : Result Network NetErr) → network_in bytes ≡ r → GoesBy told (bytes ∷ []) (script_of words) (after_network args r)
-    after_bytes r e = subst (λ x. GoesBy told (bytes ∷ []) x (after_network args r)) (sym script_is) (got.0, ap (after_network args) e)
-
-    read_is : (r : Result Network NetErr) → network_in bytes ≡ r → network_read (command_in words) (bytes ∷ []) ≡ network_of r
-    read_is r e = ap (λ c. network_read c (bytes ∷ [])) command ∙ ap network_of e
-
-    pub network_leads : (n : Network) → network_in bytes ≡ Ok n → LeadsWith told rb rn words n (capacities_script args n args.capacities)
-    network_leads n e = (bytes ∷ [], after_bytes (Ok n) e, read_is (Ok n) e, got.1)
-
-    not_memory : (e : NetErr) → e ≢ net.Memory → is_memory e ≡ false
-    not_memory net.Memory h = absurd (h refl)
-    not_memory e h = refl
-
-    pub stopped_refused : (fb fn tb tn : ℕ) (e : NetErr) (result : Status) (source : List ℕ) → IsRefusedBy e result → (is_memory e ≡ false → network_in bytes ≡ Err e)
-        → IsStopped words told fb fn tb tn rb rn result source
-    stopped_refused fb fn tb tn e result source (inl memory) said =
-        subst (λ x. IsStopped words told fb fn tb tn rb rn x source) (sym memory.1)
-        (stopped_memory words told fb fn tb tn rb rn source (after_network args (network_in bytes)) (bytes ∷ [], after_bytes (network_in bytes) refl, got.1))
-    stopped_refused fb fn tb tn e result source (inr rule) said =
-        subst (λ x. IsStopped words told fb fn tb tn rb rn x source) (sym rule.1)
-        (stopped_rule words told fb fn tb tn rb rn source (status.BadNetwork e) rule.0 is_command (bytes ∷ [], after_bytes (Err e) (said (not_memory e rule.0)), got.1) tt)
+  pub run_named : (bytes : List ℕ) → network_read (command_in words) ((args.net, bytes) ∷ []) ≡ network_of (network_in bytes)
+  run_named bytes = ap (λ c. network_read c ((args.net, bytes) ∷ [])) command
 
   -- the capacity file: what reads gave before the run, before this file and now
-  module _ (n : Network) (rb rm rn : List (List ℕ)) (leads : LeadsWith told rb rm words n (capacities_script args n args.capacities)) where
+  module _ (n : Network) (rb rm rn : List (List ℕ × List ℕ)) (leads : LeadsWith told rb rm words n (capacities_script args n args.capacities)) where
     -- what the file's bytes say comes next
     after_capacity_file : (name bytes : List ℕ) (r : Result Entries ℕ) → capacities_in bytes ≡ r → IsRead told name settings_limit rm rn bytes
         → Leads told rm rn (capacities_script args n (Some name)) (after_capacities args n r)
@@ -200,7 +211,7 @@ module _ (words : List (List ℕ)) (args : RunArgs) (command : command_in words 
             (stopped_rule words told fb fn tb tn rb rn source (status.BadCapacities line) tt is_command (after name to bytes (Err line) said got) tt)
 
   -- the picks file
-  module _ (n : Network) (entries : Entries) (rb rm rn : List (List ℕ)) (leads : LeadsWith told rb rm words n (picks_script args n entries args.picks)) where
+  module _ (n : Network) (entries : Entries) (rb rm rn : List (List ℕ × List ℕ)) (leads : LeadsWith told rb rm words n (picks_script args n entries args.picks)) where
     -- what the file's bytes say comes next
     after_picks_file : (name bytes : List ℕ) (r : Result (List ℕ) ℕ) → picks_in bytes ≡ r → IsRead told name settings_limit rm rn bytes
         → Leads told rm rn (picks_script args n entries (Some name)) (after_picks args n entries r)
@@ -247,7 +258,7 @@ few_sources n sound =
     at_most k h = grind (arith, nat_tests)
 
 -- the next source, behind those that were read: what reads gave before it and now
-module _ (told : Option Files) (rm rn : List (List ℕ)) (r : Replay) (s : Source) (left : List Source) where
+module _ (told : Option Files) (rm rn : List (List ℕ × List ℕ)) (r : Replay) (s : Source) (left : List Source) where
   abbrev after_source : List Tuple → Script
   after_source xs = after_streams (with_sources r (r.sources ++ xs ∷ [])) left
 
@@ -262,7 +273,7 @@ module _ (told : Option Files) (rm rn : List (List ℕ)) (r : Replay) (s : Sourc
   source_leads xs is = after_file is.0 (Ok xs) is.1 is.2
 
   -- a source whose tuples aren't there stops the reading
-  pub no_streams : (start : Replay) (all : List Source) (fb fn tb tn : ℕ) (rb : List (List ℕ)) (result : Status) (source : List ℕ)
+  pub no_streams : (start : Replay) (all : List Source) (fb fn tb tn : ℕ) (rb : List (List ℕ × List ℕ)) (result : Status) (source : List ℕ)
       → Leads told rb rm (after_streams start all) (after_streams r (s ∷ left)) → slice_get all (length r.sources) ≡ Some s
       → HasNoStream told (length r.sources) s fb fn tb tn rm rn result source → HasNoStreams told start all fb fn tb tn rb rn result source
   no_streams start all fb fn tb tn rb result source leads at (inl missed) =
@@ -276,14 +287,14 @@ module _ (told : Option Files) (rm rn : List (List ℕ)) (r : Replay) (s : Sourc
   no_streams start all fb fn tb tn rb result source leads at (inr (bytes, got, inr (line, why, said, bad))) =
       inr (inl (length r.sources, s, line, why, at, leads_then told rb rm rn _ _ _ leads (after_file bytes (Err (line, why)) said got), bad))
 
-pub no_streams_later : (told : Option Files) (r : Replay) (all : List Source) (fb mid fn tb between tn : ℕ) (rb rn : List (List ℕ)) (result : Status) (source : List ℕ) → fb ≤ mid → tb ≤ between
+pub no_streams_later : (told : Option Files) (r : Replay) (all : List Source) (fb mid fn tb between tn : ℕ) (rb rn : List (List ℕ × List ℕ)) (result : Status) (source : List ℕ) → fb ≤ mid → tb ≤ between
     → HasNoStreams told r all mid fn between tn rb rn result source → HasNoStreams told r all fb fn tb tn rb rn result source
 no_streams_later told r all fb mid fn tb between tn rb rn result source f t (inl (s, more, leads, missed)) =
     inl (s, more, leads, unread_later told s.file stream_limit fb mid fn tb between tn result f t missed)
 no_streams_later told r all fb mid fn tb between tn rb rn result source f t (inr bad) = inr bad
 
 -- the source at a place, where those before it were read
-module _ (told : Option Files) (rb rm rn : List (List ℕ)) (r : Replay) (all : List Source) (vs : List (List Tuple)) (i : ℕ) (s : Source)
+module _ (told : Option Files) (rb rm rn : List (List ℕ × List ℕ)) (r : Replay) (all : List Source) (vs : List (List Tuple)) (i : ℕ) (s : Source)
     (inside : i < length all) (at : s ≡ get_or all i s) (counted : length vs ≡ i)
     (leads : Leads told rb rm (after_streams (with_sources r []) all) (after_streams (with_sources r vs) (drop i all))) where
   left_is : drop i all ≡ s ∷ drop (i + 1) all
@@ -311,39 +322,40 @@ module _ (told : Option Files) (rb rm rn : List (List ℕ)) (r : Replay) (all : 
       (no_streams told rm rn (with_sources r vs) s (drop (i + 1) all) (with_sources r []) all mid fn between tn rb result source leads_here source_at
       (subst (λ k. HasNoStream told k s mid fn between tn rm rn result source) (same ∙ sym counted) none))
 
--- the sources of a network
-module _ (words : List (List ℕ)) (told : Option Files) (rb rm rn : List (List ℕ)) (r : Replay) (some : IsSome (command_in words))
-    (leads : LeadsWith told rb rm words r.network (after_streams (with_sources r []) r.network.sources)) where
-  names_source : (read : List (List ℕ)) (number : ℕ) (s : Source) (line : ℕ) (why : Why) (source : List ℕ) → network_read (command_in words) read ≡ Some r.network
+-- the sources of a network, which are those of the network that was read
+module _ (words : List (List ℕ)) (told : Option Files) (rb rm rn : List (List ℕ × List ℕ)) (r : Replay) (n : Network) (own : r.network.sources ≡ n.sources) (some : IsSome (command_in words))
+    (leads : LeadsWith told rb rm words n (after_streams (with_sources r []) r.network.sources)) where
+  names_source : (read : List (List ℕ × List ℕ)) (number : ℕ) (s : Source) (line : ℕ) (why : Why) (source : List ℕ) → network_read (command_in words) read ≡ Some n
       → slice_get r.network.sources number ≡ Some s → source ≡ s.name → NamesSource words read (status.BadStream number line why) source
-  names_source read number s line why source is at e = e ∙ sym (ap (name_at number) is ∙ ap name_in at)
+  names_source read number s line why source is at e =
+      e ∙ sym (ap (name_at number) is ∙ ap (λ (ss : List Source). name_in (slice_get ss number)) (sym own) ∙ ap name_in at)
 
   pub stopped_streams : (fb fn tb tn : ℕ) (result : Status) (source : List ℕ) → HasNoStreams told (with_sources r []) r.network.sources fb fn tb tn rm rn result source
       → IsStopped words told fb fn tb tn rb rn result source
   stopped_streams fb fn tb tn result source (inl (s, more, to, missed)) =
-      let l = with_then told words r.network rb rm rn _ _ leads to in
-      stopped_unread words told fb fn tb tn rb rn source s.file stream_limit more some (words_lead told words r.network rb rn _ l) result missed
+      let l = with_then told words n rb rm rn _ _ leads to in
+      stopped_unread words told fb fn tb tn rb rn source s.file stream_limit more some (words_lead told words n rb rn _ l) result missed
   stopped_streams fb fn tb tn result source (inr (inl (number, s, line, why, at, to, bad))) =
-      let l = with_then told words r.network rb rm rn _ _ leads to in
+      let l = with_then told words n rb rm rn _ _ leads to in
       subst (λ x. IsStopped words told fb fn tb tn rb rn x source) (sym bad.0)
       (stopped_rule words told fb fn tb tn rb rn source (status.BadStream number line why) tt some (l.0, l.1, l.3)
       (names_source l.0 number s line why source l.2 at bad.1))
   stopped_streams fb fn tb tn result source (inr (inr (left, to, memory))) =
-      let l = with_then told words r.network rb rm rn _ _ leads to in
+      let l = with_then told words n rb rm rn _ _ leads to in
       subst (λ x. IsStopped words told fb fn tb tn rb rn x source) (sym memory)
-      (stopped_memory words told fb fn tb tn rb rn source left (words_lead told words r.network rb rn _ l))
+      (stopped_memory words told fb fn tb tn rb rn source left (words_lead told words n rb rn _ l))
 
   pub accepted_streams : Leads told rm rn (after_streams (with_sources r []) r.network.sources) (Done r) → Leads told rb rn (script_of words) (Done r)
-  accepted_streams to = leads_then told rb rm rn _ _ _ (words_lead told words r.network rb rm _ leads) to
+  accepted_streams to = leads_then told rb rm rn _ _ _ (words_lead told words n rb rm _ leads) to
 
-pub no_picks_later : (told : Option Files) (fb mid fn tb between tn : ℕ) (rb rn : List (List ℕ)) (s : Status) (o : Option (List ℕ)) → fb ≤ mid → tb ≤ between
+pub no_picks_later : (told : Option Files) (fb mid fn tb between tn : ℕ) (rb rn : List (List ℕ × List ℕ)) (s : Status) (o : Option (List ℕ)) → fb ≤ mid → tb ≤ between
     → HasNoPicks told o mid fn between tn rb rn s → HasNoPicks told o fb fn tb tn rb rn s
 no_picks_later told fb mid fn tb between tn rb rn s None f t none = none
 no_picks_later told fb mid fn tb between tn rb rn s (Some name) f t (inl missed) =
     inl (unread_later told name settings_limit fb mid fn tb between tn s f t missed.0, missed.1)
 no_picks_later told fb mid fn tb between tn rb rn s (Some name) f t (inr bad) = inr bad
 
-pub no_capacities_later : (told : Option Files) (fb mid fn tb between tn : ℕ) (rb rn : List (List ℕ)) (s : Status) (o : Option (List ℕ)) → fb ≤ mid → tb ≤ between
+pub no_capacities_later : (told : Option Files) (fb mid fn tb between tn : ℕ) (rb rn : List (List ℕ × List ℕ)) (s : Status) (o : Option (List ℕ)) → fb ≤ mid → tb ≤ between
     → HasNoCapacities told o mid fn between tn rb rn s → HasNoCapacities told o fb fn tb tn rb rn s
 no_capacities_later told fb mid fn tb between tn rb rn s None f t none = none
 no_capacities_later told fb mid fn tb between tn rb rn s (Some name) f t (inl missed) =

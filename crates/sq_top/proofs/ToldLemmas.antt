@@ -8,7 +8,7 @@ use Rattle.sq_value.proofs.ListLemmas.{same_bytes-refl}
 use Rattle.sq_outside.specs.Faults.{Rose, RoseBy}
 use Rattle.sq_outside.specs.Folders.{Files, file}
 use Rattle.sq_reader.specs.Networks.{network_in}
-use Rattle.sq_reader.proofs.SoundLemmas.{network_sound}
+use Rattle.sq_net.specs.Sound.{IsSound}
 use Rattle.sq_replay.specs.declared.why.Why.{Why}
 use Rattle.sq_top.specs.declared.Command.{Command}
 use Rattle.sq_top.specs.declared.Command.TheVariants as command
@@ -19,11 +19,12 @@ use Rattle.sq_top.specs.Messages.{name_at, network_of}
 use Rattle.sq_top.specs.Scripts.{Lookup, Replay, Script, Reads, Done, Stops, accepted, after_words, go_on, outcome_of, readable, reads_of, script_of, settings_limit}
 use Rattle.sq_top.specs.Due.{due_of, replayed}
 use Rattle.sq_top.specs.Reads.{GoesBy, IfAccepted, network_read}
+use Rattle.sq_top.specs.Stopping.{is_changed}
 use Rattle.sq_top.specs.Causes.{AppendsSuch, Ends, IsEngineOf, IsPrefixOfDue, IsRefusedAt, IsUnread, IsWholeOf, NamesSource, TellsFor, World, is_refusal, turns_for, work_for}
 use Rattle.sq_top.specs.Told.{EndsOver, FilePart, NetworkFile, CapacityFile, PicksFile, StreamFile, TextFile, FolderHasCause, HasFailedAt, MatchAccepted, NamesTold, limit_of, looked_at, may_be, network_named}
 use Rattle.sq_top.proofs.ClassLemmas.{TellsClasses}
 use Rattle.sq_top.proofs.EndLemmas.{begun_nothing, replay_tells_classes}
-use Rattle.sq_top.proofs.ReadsLemmas.{Holds, HoldsFor, IsFileOf, IsPartOf, IsRuleOf, is_rule, left_holds, script_holds}
+use Rattle.sq_top.proofs.ReadsLemmas.{Holds, HoldsFor, IsPartOf, IsRuleOf, is_rule, left_holds, script_holds}
 use Rattle.sq_top.proofs.StopLemmas.{stop_map}
 
 readable-none : (name : List ℕ) (limit : ℕ) (o : Option (List ℕ)) → o ≡ None → readable name limit o ≡ Err (status.FolderFault name)
@@ -53,16 +54,16 @@ record Agrees (files : Lookup) (from to : Script) : Type 0 where
   outcome : outcome_of files from ≡ outcome_of files to
   reads : (name : List ℕ) → contains_bytes name (reads_of files to) ≡ true → contains_bytes name (reads_of files from) ≡ true
 
-goes_agrees : (files : Files) (read : List (List ℕ)) (from to : Script) → GoesBy (Some files) read from to → Agrees (file files) from to
+goes_agrees : (files : Files) (read : List (List ℕ × List ℕ)) (from to : Script) → GoesBy (Some files) read from to → Agrees (file files) from to
 goes_agrees files [] from to e = record { outcome = ap (outcome_of (file files)) e; reads = λ name h. subst (λ s. contains_bytes name (reads_of (file files) s) ≡ true) (sym e) h }
-goes_agrees files (bytes ∷ read) (Reads name limit more) to goes =
-    let rest = goes_agrees files read (more bytes) to goes.1 in
+goes_agrees files (given ∷ read) (Reads name limit more) to goes =
+    let rest = goes_agrees files read (more given.1) to goes.2 in
     record {
-      outcome = rw goes.0.1 rest.outcome;
-      reads = λ other h. or_later (same_bytes other name) _ (rw goes.0.1 (rest.reads other h));
+      outcome = rw goes.1.1 rest.outcome;
+      reads = λ other h. or_later (same_bytes other name) _ (rw goes.1.1 (rest.reads other h));
     }
-goes_agrees files (bytes ∷ read) (Done r) to goes = absurd goes
-goes_agrees files (bytes ∷ read) (Stops s) to goes = absurd goes
+goes_agrees files (given ∷ read) (Done r) to goes = absurd goes
+goes_agrees files (given ∷ read) (Stops s) to goes = absurd goes
 
 -- of what a number makes no file is read
 no_part : (number rows : ℕ) (name : List ℕ) (limit : ℕ) → IsPartOf (Some (command.Gen number rows)) name limit → ⊥
@@ -72,20 +73,22 @@ no_part number rows name limit (PicksFile, is, at) = cc
 no_part number rows name limit (StreamFile, is, at) = cc
 no_part number rows name limit (TextFile, is, at) = cc
 
-goes_told : (c : Option Command) (told : Option Files) (files : Files) → looked_at c told ≡ Some files → (read : List (List ℕ)) (from to : Script) → HoldsFor c from → GoesBy told read from to
+goes_told : (c : Option Command) (told : Option Files) (files : Files) → looked_at c told ≡ Some files → (read : List (List ℕ × List ℕ)) (from to : Script) → HoldsFor c from → GoesBy told read from to
     → GoesBy (Some files) read from to
 goes_told None told files e read from to holds goes = subst (λ t. GoesBy t read from to) e goes
 goes_told (Some (command.Run args)) told files e read from to holds goes = subst (λ t. GoesBy t read from to) e goes
 goes_told (Some (command.Audit net text)) told files e read from to holds goes = subst (λ t. GoesBy t read from to) e goes
+goes_told (Some (command.Tap net stream tick history query)) told files e read from to holds goes = subst (λ t. GoesBy t read from to) e goes
 goes_told (Some (command.Gen number rows)) told files e [] from to holds goes = goes
-goes_told (Some (command.Gen number rows)) told files e (bytes ∷ read) (Reads name limit more) to holds goes = absurd (no_part number rows name limit holds.0)
-goes_told (Some (command.Gen number rows)) told files e (bytes ∷ read) (Done r) to holds goes = absurd goes
-goes_told (Some (command.Gen number rows)) told files e (bytes ∷ read) (Stops s) to holds goes = absurd goes
+goes_told (Some (command.Gen number rows)) told files e (given ∷ read) (Reads name limit more) to holds goes = absurd (no_part number rows name limit holds.0)
+goes_told (Some (command.Gen number rows)) told files e (given ∷ read) (Done r) to holds goes = absurd goes
+goes_told (Some (command.Gen number rows)) told files e (given ∷ read) (Stops s) to holds goes = absurd goes
 
 told_at : (c : Option Command) (told : Option Files) (files : Files) (name : List ℕ) (limit : ℕ) → looked_at c told ≡ Some files → IsPartOf c name limit → told ≡ Some files
 told_at None told files name limit e part = e
 told_at (Some (command.Run args)) told files name limit e part = e
 told_at (Some (command.Audit net text)) told files name limit e part = e
+told_at (Some (command.Tap net stream tick history query)) told files name limit e part = e
 told_at (Some (command.Gen number rows)) told files name limit e part = absurd (no_part number rows name limit part)
 
 -- what is accepted over files is told by its classes
@@ -102,8 +105,8 @@ outcome_holds files P Q R (Stops s) r holds e = absurd (cc)
 
 pub accepted_tells_classes : (files : Lookup) (words : List (List ℕ)) (r : Replay) → accepted files words ≡ Ok r → TellsClasses (due_of r)
 accepted_tells_classes files words r e =
-    let f = outcome_holds files (λ x. IsFileOf x.network) (IsRuleOf (command_in words)) (IsPartOf (command_in words)) (script_of words) r (script_holds words) e in
-    replay_tells_classes (replayed r) (network_sound f.0 r.network f.1)
+    let sound = outcome_holds files (λ x. IsSound x.network) (IsRuleOf (command_in words)) (IsPartOf (command_in words)) (script_of words) r (script_holds words) e in
+    replay_tells_classes (replayed r) r.first sound
 
 -- by what is left of a script
 match_any : (o : Result Replay Status) (P : Replay → Type 0) (Q : Status → Type 0) → ((r : Replay) → o ≡ Ok r → P r) → ((s : Status) → o ≡ Err s → Q s) → MatchAccepted o P Q
@@ -237,16 +240,16 @@ module _ (files : Files) (words : List (List ℕ)) (w : World) (result : Status)
       by (Reads name limit more) is none = match_any _ First _ (λ r e. begun_nothing words w result r none.0 none.1 (accepted_tells_classes (file files) words r e)) (λ s e. none)
 
   complete_told : ¬ (Rose w.folder_before w.folder_now) → ¬ (Rose w.disk_before w.disk_now) → ¬ (Rose w.sink_before w.sink_now)
-      → MatchAccepted (accepted (file files) words) (λ r. TellsFor (command_in words) w.pages → turns_for (command_in words) r < 2 ^ 62 → (result ≡ status.Ok) ⊎ (result ≡ status.Memory)) (λ s. ⊤)
+      → MatchAccepted (accepted (file files) words) (λ r. TellsFor (command_in words) w.pages → turns_for (command_in words) r < 2 ^ 62 → (result ≡ status.Ok) ⊎ (result ≡ status.Memory) ⊎ (is_changed result ≡ true)) (λ s. ⊤)
   complete_told quiet sound dry = ends_each _ _
-      (λ r is not. subst (λ s. IfAccepted s (λ x. TellsFor (command_in words) w.pages → turns_for (command_in words) x < 2 ^ 62 → (result ≡ status.Ok) ⊎ (result ≡ status.Memory)) ⊤) is (h.complete sound dry))
+      (λ r is not. subst (λ s. IfAccepted s (λ x. TellsFor (command_in words) w.pages → turns_for (command_in words) x < 2 ^ 62 → (result ≡ status.Ok) ⊎ (result ≡ status.Memory) ⊎ (is_changed result ≡ true)) ⊤) is (h.complete sound dry))
       (λ s is rule why. tt) (λ name limit more is. by name limit more (unread name limit more is))
     where
       by : (name : List ℕ) (limit : ℕ) (more : List ℕ → Script)
           → (result ≡ status.Memory) ⊎ ((result ≡ status.FolderFault name) × Rose w.folder_before w.folder_now) ⊎ (outcome_of (file files) (Reads name limit more) ≡ Err result)
-          → MatchAccepted (outcome_of (file files) (Reads name limit more)) (λ r. TellsFor (command_in words) w.pages → turns_for (command_in words) r < 2 ^ 62 → (result ≡ status.Ok) ⊎ (result ≡ status.Memory)) (λ s. ⊤)
+          → MatchAccepted (outcome_of (file files) (Reads name limit more)) (λ r. TellsFor (command_in words) w.pages → turns_for (command_in words) r < 2 ^ 62 → (result ≡ status.Ok) ⊎ (result ≡ status.Memory) ⊎ (is_changed result ≡ true)) (λ s. ⊤)
       by name limit more (inl memory) =
-          match_any _ (λ r. TellsFor (command_in words) w.pages → turns_for (command_in words) r < 2 ^ 62 → (result ≡ status.Ok) ⊎ (result ≡ status.Memory)) _ (λ r e pages few. inr memory) (λ s e. tt)
+          match_any _ (λ r. TellsFor (command_in words) w.pages → turns_for (command_in words) r < 2 ^ 62 → (result ≡ status.Ok) ⊎ (result ≡ status.Memory) ⊎ (is_changed result ≡ true)) _ (λ r e pages few. inr (inl memory)) (λ s e. tt)
       by name limit more (inr (inl (fault, rose))) = absurd (quiet rose)
       by name limit more (inr (inr broken)) = match_err _ _ _ result broken tt
 
@@ -256,20 +259,25 @@ module _ (files : Files) (words : List (List ℕ)) (w : World) (result : Status)
   not_unread name limit number line why (inr (inr long)) = let e = long.0 in cc
 
   -- where a line of a source is bad the network was read, which is that of the file
-  same_network : (c : Option Command) (read : List (List ℕ)) (left : Script) (number line : ℕ) (why : Why) → GoesBy (Some files) read (after_words c) left
+  same_network : (c : Option Command) (read : List (List ℕ × List ℕ)) (left : Script) (number line : ℕ) (why : Why) → GoesBy (Some files) read (after_words c) left
       → IsRefusedAt w.told w.folder_before w.folder_now w.taken_before w.taken_now (status.BadStream number line why) left → network_read c read ≡ network_named (file files) c
   same_network None read left number line why by refused = refl
   same_network (Some (command.Gen number rows)) read left at line why by refused = refl
   same_network (Some (command.Run args)) [] left number line why by refused =
       absurd (not_unread args.net settings_limit number line why
       (subst (IsRefusedAt w.told w.folder_before w.folder_now w.taken_before w.taken_now (status.BadStream number line why)) (sym by) refused))
-  same_network (Some (command.Run args)) (bytes ∷ read) left number line why by refused =
-      sym (ap (option_and_then (λ x. network_of (network_in x))) (readable-ok args.net settings_limit (file files args.net) bytes by.0.1))
+  same_network (Some (command.Run args)) (given ∷ read) left number line why by refused =
+      sym (ap (option_and_then (λ x. network_of (network_in x))) (readable-ok args.net settings_limit (file files args.net) given.1 by.1.1))
   same_network (Some (command.Audit net text)) [] left number line why by refused =
       absurd (not_unread net settings_limit number line why
       (subst (IsRefusedAt w.told w.folder_before w.folder_now w.taken_before w.taken_now (status.BadStream number line why)) (sym by) refused))
-  same_network (Some (command.Audit net text)) (bytes ∷ read) left number line why by refused =
-      sym (ap (option_and_then (λ x. network_of (network_in x))) (readable-ok net settings_limit (file files net) bytes by.0.1))
+  same_network (Some (command.Audit net text)) (given ∷ read) left number line why by refused =
+      sym (ap (option_and_then (λ x. network_of (network_in x))) (readable-ok net settings_limit (file files net) given.1 by.1.1))
+  same_network (Some (command.Tap net stream tick history query)) [] left number line why by refused =
+      absurd (not_unread net settings_limit number line why
+      (subst (IsRefusedAt w.told w.folder_before w.folder_now w.taken_before w.taken_now (status.BadStream number line why)) (sym by) refused))
+  same_network (Some (command.Tap net stream tick history query)) (given ∷ read) left number line why by refused =
+      sym (ap (option_and_then (λ x. network_of (network_in x))) (readable-ok net settings_limit (file files net) given.1 by.1.1))
 
   named_told : (s : Status) → IsRefusedAt w.told w.folder_before w.folder_now w.taken_before w.taken_now s h.left → NamesSource words h.read s source → NamesTold files words s source
   named_told (status.BadStream number line why) refused named =

@@ -1,6 +1,6 @@
 -- A train is at least one step, frames are at least two, and rows are 1 to 1,000,000.
-use Rattle.std.proofs.Common.{◌≡◌, ℕ, ◌-◌, ◌^◌, ◌≤◌, Bool, true, false, ◌&&◌, List, [], ◌∷◌, refl, subst, arith, Option, Some, None}
-use Rattle.std.specs.Prelude.{nat_le, codes}
+use Rattle.std.proofs.Common.{◌≡◌, ℕ, ◌-◌, ◌^◌, ◌<◌, ◌≤◌, Bool, true, false, ◌&&◌, List, [], ◌∷◌, refl, subst, arith, Option, Some, None}
+use Rattle.std.specs.Prelude.{nat_le, nat_lt, codes, if◌then◌else◌}
 use Rattle.std.specs.Option.{option_map, option_and_then}
 use Rattle.std.specs.List.{list_all}
 use Rattle.std.proofs.lemmas.Bool.Decides.{nat_tests}
@@ -9,7 +9,7 @@ use Rattle.sq_value.specs.Texts.{are_digits, number_in}
 use Rattle.sq_top.specs.declared.RunArgs.{RunArgs}
 use Rattle.sq_top.specs.declared.Command.{Command}
 use Rattle.sq_top.specs.declared.Command.TheVariants as command
-use Rattle.sq_top.specs.Commands.{Given, Word, args_of, audit_args, command_in, gen_args, given_from, is_known, known_args, lone, may_name, number_or, number_within, rule_of, run_args, values_of}
+use Rattle.sq_top.specs.Commands.{Given, Word, args_of, audit_args, command_in, gen_args, given_from, is_known, known_args, lone, may_name, number_or, number_within, rule_of, run_args, tap_args, tick_in, values_of}
 use Rattle.sq_top.proofs.SortedLines.{and-true}
 
 within_least : (t : Bool) (low high : ℕ) (w : Word) (k : ℕ) → (are_digits 20 w && (nat_le low (number_in w) && nat_le (number_in w) high)) ≡ t → number_within low high w ≡ Some k → low ≤ k
@@ -54,12 +54,14 @@ known_least false gs e = rw e tt
 run_least : (ws : List Word) → HasLeast (run_args ws)
 run_least ws = bounded _ (given_from ws None) (λ gs e. known_least (list_all (λ g. is_known g.0) gs) gs refl)
 
--- a train is at least one step and frames are two, rows are within their limits, and the network of an audit may be that of a run
+-- a train is at least one step and frames are two, rows are within their limits, the network of an audit may be that of a run, and a
+-- tick is one
 abbrev IsWithin : Option Command → Type 0
 IsWithin None = Unit {0}
 IsWithin (Some (command.Run a)) = (1 ≤ a.train) × (2 ≤ a.frames)
 IsWithin (Some (command.Gen number rows)) = (1 ≤ rows) × (rows ≤ 1000000)
 IsWithin (Some (command.Audit net text)) = may_name net ≡ true
+IsWithin (Some (command.Tap net stream tick history query)) = tick < 2 ^ 40
 
 of_run : (o : Option RunArgs) → HasLeast o → IsWithin (option_map command.Run o)
 of_run None has = tt
@@ -98,16 +100,44 @@ audit_within (net ∷ []) = tt
 audit_within (net ∷ text ∷ []) = audit_by (may_name net && may_name text) net text refl
 audit_within (net ∷ text ∷ w ∷ ws) = tt
 
-command_by : (run audit gen : Bool) (w : Word) (ws : List Word) → same_bytes w (codes "run") ≡ run → same_bytes w (codes "audit") ≡ audit → same_bytes w (codes "gen") ≡ gen
-    → IsWithin (command_in (w ∷ ws))
-command_by true audit gen w ws e f h = rw e (of_run (run_args ws) (run_least ws))
-command_by false true gen w ws e f h = rw (e, f) (audit_within ws)
-command_by false false true w ws e f h = rw (e, f, h) (gen_within ws)
-command_by false false false w ws e f h = rw (e, f, h) tt
+tick_low : (w : Word) (t : ℕ) → tick_in w ≡ Some t → t < 2 ^ 40
+tick_low w t h = by (are_digits 13 w && nat_lt (number_in w) (2 ^ 40)) refl h
+  where
+    by : (b : Bool) → (are_digits 13 w && nat_lt (number_in w) (2 ^ 40)) ≡ b → tick_in w ≡ Some t → t < 2 ^ 40
+    by true e h' =
+        let is : number_in w ≡ t = let both : Some (number_in w) ≡ Some t = rw e at h' in cc in
+        let low = (and-true (are_digits 13 w) (nat_lt (number_in w) (2 ^ 40)) e).1 in
+        subst (λ k. k < 2 ^ 40) is (grind (arith, nat_tests))
+    by false e h' = let both : ◌≡◌ {A = Option ℕ} None (Some t) = rw e at h' in cc
+
+tap_by : (named : Bool) (net stream : List ℕ) (tick history : ℕ) (query : List ℕ) → tick < 2 ^ 40
+    → IsWithin (if named then Some (command.Tap net stream tick history query) else None)
+tap_by true net stream tick history query low = low
+tap_by false net stream tick history query low = tt
+
+tap_within : (ws : List Word) → IsWithin (tap_args ws)
+tap_within [] = tt
+tap_within (net ∷ []) = tt
+tap_within (net ∷ stream ∷ []) = tt
+tap_within (net ∷ stream ∷ tick ∷ []) = tt
+tap_within (net ∷ stream ∷ tick ∷ history ∷ []) = tt
+tap_within (net ∷ stream ∷ tick ∷ history ∷ query ∷ []) =
+    of_gen _ (tick_in tick)
+    (λ t e. of_gen _ (tick_in history)
+    (λ h e1. tap_by (may_name net && (may_name stream && may_name query)) net stream t h query (tick_low tick t e)))
+tap_within (net ∷ stream ∷ tick ∷ history ∷ query ∷ w ∷ ws) = tt
+
+command_by : (run audit gen tap : Bool) (w : Word) (ws : List Word) → same_bytes w (codes "run") ≡ run → same_bytes w (codes "audit") ≡ audit → same_bytes w (codes "gen") ≡ gen
+    → same_bytes w (codes "tap") ≡ tap → IsWithin (command_in (w ∷ ws))
+command_by true audit gen tap w ws e f h i = rw e (of_run (run_args ws) (run_least ws))
+command_by false true gen tap w ws e f h i = rw (e, f) (audit_within ws)
+command_by false false true tap w ws e f h i = rw (e, f, h) (gen_within ws)
+command_by false false false true w ws e f h i = rw (e, f, h, i) (tap_within ws)
+command_by false false false false w ws e f h i = rw (e, f, h, i) tt
 
 command_within : (ws : List Word) → IsWithin (command_in ws)
 command_within [] = tt
-command_within (w ∷ ws) = command_by (same_bytes w (codes "run")) (same_bytes w (codes "audit")) (same_bytes w (codes "gen")) w ws refl refl refl
+command_within (w ∷ ws) = command_by (same_bytes w (codes "run")) (same_bytes w (codes "audit")) (same_bytes w (codes "gen")) (same_bytes w (codes "tap")) w ws refl refl refl refl
 
 pub command_least : (ws : List Word) (args : RunArgs) → command_in ws ≡ Some (command.Run args) → (1 ≤ args.train) × (2 ≤ args.frames)
 command_least ws args h = subst IsWithin h (command_within ws)
@@ -117,3 +147,6 @@ gen_rows ws number rows h = subst IsWithin h (command_within ws)
 
 pub audit_named : (ws : List Word) (net text : List ℕ) → command_in ws ≡ Some (command.Audit net text) → may_name net ≡ true
 audit_named ws net text h = subst IsWithin h (command_within ws)
+
+pub tap_tick : (ws : List Word) (net stream : List ℕ) (tick history : ℕ) (query : List ℕ) → command_in ws ≡ Some (command.Tap net stream tick history query) → tick < 2 ^ 40
+tap_tick ws net stream tick history query h = subst IsWithin h (command_within ws)

@@ -3,7 +3,7 @@ use Rattle.std.specs.Prelude.{ℕ, ◌-◌, ◌^◌, Bool, true, false, not, ◌
 use Rattle.std.specs.List.{list_all, list_any, before_first, after_first}
 use Rattle.std.specs.Option.{option_map, option_and_then}
 use Rattle.sq_value.specs.Lists.{contains_bytes, same_bytes}
-use Rattle.sq_value.specs.Texts.{are_digits, number_in}
+use Rattle.sq_value.specs.Texts.{are_digits, number_in, read_number}
 use Rattle.sq_sched.specs.declared.policy.Rule.{Rule}
 use Rattle.sq_sched.specs.declared.policy.Rule.TheVariants as rule
 use Rattle.sq_top.specs.declared.RunArgs.{RunArgs}
@@ -150,12 +150,27 @@ abbrev pub audit_args : List Word → Option Command
 audit_args (net ∷ text ∷ []) = if may_name net && may_name text then Some (command.Audit net text) else None
 audit_args ws = None
 
+-- 1 to 13 digits of a number below 2^40
+abbrev pub tick_in : Word → Option ℕ
+tick_in w = read_number 13 (2 ^ 40) w
+
+-- what the words behind `tap` ask for: the file of a network, a stream of it, a tick, how far back from it, and the file of a query
+abbrev pub tap_args : List Word → Option Command
+tap_args (net ∷ stream ∷ tick ∷ history ∷ query ∷ []) = do
+  tick_is ← tick_in tick
+  history_is ← tick_in history
+  if may_name net && (may_name stream && may_name query) then Some (command.Tap net stream tick_is history_is query) else None
+tap_args ws = None
+
+abbrev pub tap_or_none : Word → List Word → Option Command
+tap_or_none w ws = if same_bytes w (codes "tap") then tap_args ws else None
+
 -- what the words ask for, where they are a command
 abbrev pub command_in : List Word → Option Command
 command_in [] = None
 command_in (w ∷ ws) =
     if same_bytes w (codes "run") then option_map command.Run (run_args ws)
-    else (if same_bytes w (codes "audit") then audit_args ws else (if same_bytes w (codes "gen") then gen_args ws else None))
+    else (if same_bytes w (codes "audit") then audit_args ws else (if same_bytes w (codes "gen") then gen_args ws else tap_or_none w ws))
 
 -- whether a command reads the folder
 abbrev pub reads_folder : Option Command → Bool
@@ -163,6 +178,7 @@ reads_folder None = false
 reads_folder (Some (command.Run args)) = true
 reads_folder (Some (command.Gen number rows)) = false
 reads_folder (Some (command.Audit net text)) = true
+reads_folder (Some (command.Tap net stream tick history query)) = true
 
 -- whether it runs an engine, which alone calls the disk and takes steps
 abbrev pub runs_engine : Option Command → Bool
@@ -170,3 +186,4 @@ runs_engine None = false
 runs_engine (Some (command.Run args)) = true
 runs_engine (Some (command.Gen number rows)) = true
 runs_engine (Some (command.Audit net text)) = false
+runs_engine (Some (command.Tap net stream tick history query)) = true

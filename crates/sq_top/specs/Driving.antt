@@ -1,5 +1,5 @@
 -- What a run shows on its way: a history of events, whose lines are written one after another.
-use Rattle.std.specs.Prelude.{◌≡◌, ◌≢◌, ℕ, ◌+◌, ◌^◌, ◌<◌, ◌≤◌, false, List, ◌++◌, length, map, Option}
+use Rattle.std.specs.Prelude.{◌≡◌, ◌≢◌, ℕ, ◌+◌, ◌^◌, ◌<◌, ◌≤◌, Bool, true, false, List, ◌++◌, length, map, Option}
 use Rattle.std.specs.List.{AllByRecursion, flat_map}
 use Rattle.sq_value.specs.Lists.{IsPrefixOf, numbers_to}
 use Rattle.sq_outside.specs.Disks.{Pages}
@@ -7,9 +7,9 @@ use Rattle.sq_outside.specs.Faults.{Rose}
 use Rattle.sq_outside.specs.Sinks.{AppendsPrefix, appended}
 use Rattle.sq_net.specs.declared.Network.{Network}
 use Rattle.sq_oper.specs.declared.outs.Event.{Event}
-use Rattle.sq_replay.specs.Shown.{end_lines, event_line, text_of}
+use Rattle.sq_replay.specs.Shown.{end_lines_from, event_line, text_of}
 use Rattle.sq_model.specs.Shedding.{Replay}
-use Rattle.sq_paged.specs.Fronts.{Tells}
+use Rattle.sq_pool.specs.Trust.{Tells}
 use Rattle.sq_flow.specs.Events.{IsEventIn, drops_of, lines_of}
 use Rattle.sq_flow.specs.Plans.{plans_of}
 use Rattle.sq_core.specs.declared.engine.Engine.{Engine}
@@ -53,20 +53,22 @@ pub record IsDriven (r : Replay) (engine : Engine) (before now : Option (List �
   pub late : (at : ℕ) → at < length r.network.boxes → late_at engine at ≡ late_in r at
   pub work : steps ≡ begun + work_in r
 
--- a run stopped on its way, over a disk that told its pages and so changed none: what was written begins the text of a history that
--- shows the first of the answer, the steps are no more than the work, and too much was to be fed only where the turns are too many
-pub record IsHalted (r : Replay) (result : Status) (before now : Option (List ℕ)) (begun steps : ℕ) : Type 0 where
+-- a run stopped on its way, over a disk that is known now: what was written begins the text of a history that shows the first of the
+-- answer, the steps are no more than the work, an honest disk changed no page, and too much was to be fed only where the turns are too
+-- many
+pub record IsHalted (honest : Bool) (r : Replay) (result : Status) (before now : Option (List ℕ)) (begun steps : ℕ) : Type 0 where
   pub history : List Event
   pub shown : AllByRecursion (IsEventAt r.network) history
   pub first : Begins r.network (answer_in r) history
   pub written : AppendsPrefix before now (history_text r.network history)
   pub work : steps ≤ begun + work_in r
-  pub unchanged : is_changed result ≡ false
+  pub unchanged : honest ≡ true → is_changed result ≡ false
   pub too_much : result ≡ status.TooMuch → 2 ^ 62 ≤ turns_in r
 
--- the end lines by what the boxes of an engine were fed
-abbrev pub ends_text : Engine → List ℕ
-ends_text e = text_of (end_lines e.network (map (fed_at e) (numbers_to (length e.network.boxes))) (map (late_at e) (numbers_to (length e.network.boxes))))
+-- the end lines from a box on, by what the boxes of an engine were fed
+abbrev pub ends_text : ℕ → Engine → List ℕ
+ends_text first e =
+    text_of (end_lines_from e.network first (map (fed_at e) (numbers_to (length e.network.boxes))) (map (late_at e) (numbers_to (length e.network.boxes))))
 
 -- what was begun is cut short: by no refusal, and by a fault of the sink only where its count rose
 pub record IsCutShort (faults_before faults_now : ℕ) (result : Status) : Type 0 where
@@ -82,16 +84,17 @@ pub record GoesOn (was is : Option Pages) (from to : Engine) (begun now : ℕ) (
   pub goes : (r : Replay) (history : List Event) (start : ℕ) → IsRun r was from history start begun → IsRun r is to (history ++ events) start now
 
 -- it stopped behind a history: of the events more that it showed a part of the lines was written
-pub record StopsBehind (r : Replay) (history : List Event) (start now : ℕ) (before : Option (List ℕ)) (waited : List ℕ) (after : Option (List ℕ)) (result : Status) : Type 0 where
+pub record StopsBehind (honest : Bool) (r : Replay) (history : List Event) (start now : ℕ) (before : Option (List ℕ)) (waited : List ℕ) (after : Option (List ℕ)) (result : Status) : Type 0 where
   pub events : List Event
   pub shown : AllByRecursion (IsEventAt r.network) events
   pub first : Begins r.network (answer_in r) (history ++ events)
   pub written : AppendsPrefix before after (waited ++ history_text r.network events)
   pub work : now ≤ start + work_in r
-  pub unchanged : is_changed result ≡ false
+  pub unchanged : honest ≡ true → is_changed result ≡ false
   pub too_much : result ≡ status.TooMuch → 2 ^ 62 ≤ turns_in r
 
-abbrev pub Stops : Option Pages → Engine → ℕ → ℕ → Option (List ℕ) → List ℕ → Option (List ℕ) → Status → Type 0
-Stops was from begun now before waited after result =
-    (r : Replay) (history : List Event) (start : ℕ) → Tells was → IsRun r was from history start begun
-    → StopsBehind r history start now before waited after result
+-- where the disk is known then
+abbrev pub Stops : Option Pages → Option Pages → Bool → Engine → ℕ → ℕ → Option (List ℕ) → List ℕ → Option (List ℕ) → Status → Type 0
+Stops was is honest from begun now before waited after result =
+    (r : Replay) (history : List Event) (start : ℕ) → Tells is → IsRun r was from history start begun
+    → StopsBehind honest r history start now before waited after result

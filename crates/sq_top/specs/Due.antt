@@ -8,7 +8,7 @@ use Rattle.sq_net.specs.declared.Network.{Network}
 use Rattle.sq_net.specs.declared.Output.{Output}
 use Rattle.sq_oper.specs.declared.outs.Decision.{Decision}
 use Rattle.sq_plan.specs.declared.closing.Shown.{Shown}
-use Rattle.sq_replay.specs.Shown.{end_lines, text_of}
+use Rattle.sq_replay.specs.Shown.{end_lines_from, text_of}
 use Rattle.sq_points.specs.Points.{points_of, drops_in}
 use Rattle.sq_model.specs.Fed.{late_of}
 use Rattle.sq_model.specs.Kept.{fed_of, turns_of, work_of}
@@ -78,8 +78,9 @@ module _ (r : model.Replay) where
   abbrev pub late_in : ℕ → ℕ
   late_in at = late_of r.network r.sources at
 
-  abbrev pub ended_in : List (List ℕ)
-  ended_in = end_lines r.network (map fed_in (numbers_to (length r.network.boxes))) (map late_in (numbers_to (length r.network.boxes)))
+  -- the end lines of the boxes from one on
+  abbrev pub ended_in : ℕ → List (List ℕ)
+  ended_in first = end_lines_from r.network first (map fed_in (numbers_to (length r.network.boxes))) (map late_in (numbers_to (length r.network.boxes)))
 
   -- how many tuples are fed in all
   abbrev pub work_in : ℕ
@@ -89,9 +90,9 @@ module _ (r : model.Replay) where
   abbrev pub turns_in : ℕ
   turns_in = turns_of r
 
-  abbrev pub due_in : Due
-  due_in = due_from r.network answer_in ended_in
+  abbrev pub due_in : ℕ → Due
+  due_in first = due_from r.network answer_in (ended_in first)
 
 -- what is due of a replay
 abbrev pub due_of : Replay → Due
-due_of r = due_in (replayed r)
+due_of r = due_in (replayed r) r.first

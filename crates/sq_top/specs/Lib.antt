@@ -1,7 +1,9 @@
 pub mod Commands
+pub mod Taps
 pub mod Scripts
 pub mod Views
 pub mod Due
+pub mod Parts
 pub mod Summaries
 pub mod Answers
 pub mod Writing

@@ -4,6 +4,8 @@ use Rattle.sq_value.specs.declared.Tuple.{Tuple}
 use Rattle.sq_net.specs.declared.NetErr.{NetErr}
 use Rattle.sq_net.specs.declared.Network.{Network}
 use Rattle.sq_net.specs.declared.Source.{Source}
+use Rattle.sq_tap.specs.declared.TapErr.{TapErr}
+use Rattle.sq_tap.specs.Names.{stream_named}
 use Rattle.sq_reader.specs.Networks.{network_in}
 use Rattle.sq_replay.specs.declared.why.Why.{Why}
 use Rattle.sq_plan.specs.Plans.{Entries}
@@ -19,10 +21,11 @@ use Rattle.sq_top.specs.declared.Command.TheVariants as command
 use Rattle.sq_top.specs.declared.Status.{Status}
 use Rattle.sq_top.specs.declared.Status.TheVariants as status
 use Rattle.sq_top.specs.Commands.{command_in}
+use Rattle.sq_top.specs.Taps.{Tapped, first_tick, tapped}
 
 -- what was accepted: a network, the tuples of each of its sources, the capacities, how the next actor is chosen: by which rule,
 -- seed and picks, for how many steps, and how many pages may be in memory. What is drawn goes by the seed, too. An audit has a text
--- beside them, and a run has none
+-- beside them, and a run has none. Of the boxes from the first that is shown on there are lines at the end: of a tap those of the query
 pub record Replay : Type 0 where
   pub network : Network
   pub sources : List (List Tuple)
@@ -33,6 +36,7 @@ pub record Replay : Type 0 where
   pub train : ℕ
   pub frames : ℕ
   pub text : List ℕ
+  pub first : ℕ
 
 -- a file is read and its bytes say what comes next; or all was read; or a rule is broken
 pub data Script : Type 0 where
@@ -69,7 +73,7 @@ after_streams r (s ∷ left) =
 -- what the words, the network file, the capacities and the picks say; no source is read yet
 abbrev pub unread : RunArgs → Network → Entries → List ℕ → Replay
 unread args n entries picks =
-    record { network = n; sources = []; entries = entries; seed = args.seed; rule = args.rule; picks = picks; train = args.train; frames = args.frames; text = [] }
+    record { network = n; sources = []; entries = entries; seed = args.seed; rule = args.rule; picks = picks; train = args.train; frames = args.frames; text = []; first = 0 }
 
 abbrev pub after_picks : RunArgs → Network → Entries → Result (List ℕ) ℕ → Script
 after_picks args n entries (Ok picks) = after_streams (unread args n entries picks) n.sources
@@ -102,7 +106,7 @@ made_streams bytes r (s ∷ left) =
 -- the run of what a number makes: the number is its seed, and its actors take turns
 abbrev pub made_unread : ℕ → Network → Entries → Replay
 made_unread number n entries =
-    record { network = n; sources = []; entries = entries; seed = number; rule = rule.RoundRobin; picks = []; train = 16; frames = 256; text = [] }
+    record { network = n; sources = []; entries = entries; seed = number; rule = rule.RoundRobin; picks = []; train = 16; frames = 256; text = []; first = 0 }
 
 abbrev pub made_sources : ℕ → List ℕ → Network → Result Entries ℕ → Script
 made_sources number stream n (Ok entries) = made_streams stream (made_unread number n entries) n.sources
@@ -139,14 +143,40 @@ text_script text r = Reads text text_limit (λ bytes. Done (with_text r bytes))
 abbrev pub audit_script : List ℕ → List ℕ → Script
 audit_script net text = followed_by (run_script (plain_args net)) (text_script text)
 
+-- a joined network runs without capacities, and its actors take turns
+abbrev pub tap_unread : Tapped → Replay
+tap_unread t =
+    record { network = t.network; sources = []; entries = []; seed = 0; rule = rule.RoundRobin; picks = []; train = 16; frames = 256; text = []; first = t.first }
+
+abbrev pub after_tap : Result Tapped TapErr → Script
+after_tap (Ok t) = after_streams (tap_unread t) t.network.sources
+after_tap (Err e) = Stops (status.BadTap e)
+
+-- the query's own file of tuples isn't read: the sources of the joined network are the network's
+abbrev pub after_query : Network → List ℕ → ℕ → Result Network NetErr → Script
+after_query n stream from (Ok q) = after_tap (tapped n (stream_named n stream) from q)
+after_query n stream from (Err e) = Stops (status.BadQuery e)
+
+abbrev pub query_script : List ℕ → ℕ → List ℕ → Network → Script
+query_script stream from query n = Reads query settings_limit (λ bytes. after_query n stream from (network_in bytes))
+
+abbrev pub after_tapped : List ℕ → ℕ → List ℕ → Result Network NetErr → Script
+after_tapped stream from query (Ok n) = query_script stream from query n
+after_tapped stream from query (Err e) = Stops (status.BadNetwork e)
+
+-- the network, then the query, then the rules of joining, and then the sources
+abbrev pub tap_script : List ℕ → List ℕ → ℕ → List ℕ → Script
+tap_script net stream from query = Reads net settings_limit (λ bytes. after_tapped stream from query (network_in bytes))
+
 abbrev pub after_words : Option Command → Script
 after_words None = Stops status.Usage
 after_words (Some (command.Run args)) = run_script args
 after_words (Some (command.Gen number rows)) = made_script number (made_of number rows)
 after_words (Some (command.Audit net text)) = audit_script net text
+after_words (Some (command.Tap net stream tick history query)) = tap_script net stream (first_tick tick history) query
 
 -- the words, then the network file, the capacity file, the picks file, and the sources in their order, and a text that is audited;
--- or what a number makes
+-- or what a number makes; or the network file, the query's and the sources
 abbrev pub script_of : List (List ℕ) → Script
 script_of words = after_words (command_in words)
 

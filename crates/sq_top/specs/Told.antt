@@ -1,5 +1,5 @@
 -- What a run answers for the files of a folder that tells them: what the ends of runs come to there.
-use Rattle.std.specs.Prelude.{◌≡◌, ◌≢◌, ◌⊎◌, ℕ, ◌+◌, ◌^◌, ◌<◌, ◌≤◌, Bool, true, false, ⊤, List, Option, Some, None, IsSome, Result, Ok, Err}
+use Rattle.std.specs.Prelude.{◌≡◌, ◌≢◌, ◌⊎◌, ℕ, ◌+◌, ◌^◌, ◌<◌, ◌≤◌, Bool, true, false, ◌||◌, ⊤, List, Option, Some, None, IsSome, Result, Ok, Err}
 use Rattle.std.specs.Option.{option_and_then}
 use Rattle.std.specs.FinMap as map
 use Rattle.sq_value.specs.Lists.{contains_bytes, same_bytes}
@@ -15,15 +15,16 @@ use Rattle.sq_top.specs.declared.Status.TheVariants as status
 use Rattle.sq_top.specs.Commands.{command_in, reads_folder}
 use Rattle.sq_top.specs.Scripts.{Lookup, Replay, accepted, reads_of, script_of, settings_limit, stream_limit, text_limit}
 use Rattle.sq_top.specs.Messages.{name_at, network_of}
-use Rattle.sq_top.specs.Stopping.{StopHasCause}
+use Rattle.sq_top.specs.Stopping.{StopHasCause, is_changed}
 use Rattle.sq_top.specs.Causes.{AppendsSuch, IsPrefixOfDue, IsWholeOf, TellsFor, World, is_refusal, turns_for, work_for}
 
--- whether this is the name of the network's file
+-- whether this is the name of the network's file, or of the query's
 abbrev pub is_network : Option Command → List ℕ → Bool
 is_network None name = false
 is_network (Some (command.Run args)) name = same_bytes args.net name
 is_network (Some (command.Gen number rows)) name = false
 is_network (Some (command.Audit net text)) name = same_bytes net name
+is_network (Some (command.Tap net stream tick history query)) name = same_bytes net name || same_bytes query name
 
 abbrev pub is_named : Option (List ℕ) → List ℕ → Bool
 is_named None name = false
@@ -35,6 +36,7 @@ is_capacities None name = false
 is_capacities (Some (command.Run args)) name = is_named args.capacities name
 is_capacities (Some (command.Gen number rows)) name = false
 is_capacities (Some (command.Audit net text)) name = false
+is_capacities (Some (command.Tap net stream tick history query)) name = false
 
 -- whether this is the name of the picks' file
 abbrev pub is_picks : Option Command → List ℕ → Bool
@@ -42,6 +44,7 @@ is_picks None name = false
 is_picks (Some (command.Run args)) name = is_named args.picks name
 is_picks (Some (command.Gen number rows)) name = false
 is_picks (Some (command.Audit net text)) name = false
+is_picks (Some (command.Tap net stream tick history query)) name = false
 
 -- whether this is the name of the text that is audited
 abbrev pub is_text : Option Command → List ℕ → Bool
@@ -49,8 +52,9 @@ is_text None name = false
 is_text (Some (command.Run args)) name = false
 is_text (Some (command.Gen number rows)) name = false
 is_text (Some (command.Audit net text)) name = same_bytes text name
+is_text (Some (command.Tap net stream tick history query)) name = false
 
--- what a file is to a command: its network, its capacities, its picks, a source's stream, or the text that is audited
+-- what a file is to a command: its network or its query, its capacities, its picks, a source's stream, or the text that is audited
 pub data FilePart : Type 0 where
   NetworkFile : FilePart
   CapacityFile : FilePart
@@ -90,6 +94,7 @@ looked_at None told = told
 looked_at (Some (command.Run args)) told = told
 looked_at (Some (command.Gen number rows)) told = Some no_files
 looked_at (Some (command.Audit net text)) told = told
+looked_at (Some (command.Tap net stream tick history query)) told = told
 
 -- P of what was accepted, and Q of the status of the rule that is broken
 abbrev pub MatchAccepted : Result Replay Status → (Replay → Type 0) → (Status → Type 0) → Type 0
@@ -115,6 +120,7 @@ network_named files None = None
 network_named files (Some (command.Run args)) = option_and_then (λ bytes. network_of (network_in bytes)) (files args.net)
 network_named files (Some (command.Gen number rows)) = network_of (network_in (made_of number rows).net)
 network_named files (Some (command.Audit net text)) = option_and_then (λ bytes. network_of (network_in bytes)) (files net)
+network_named files (Some (command.Tap net stream tick history query)) = option_and_then (λ bytes. network_of (network_in bytes)) (files net)
 
 -- the source's name is that in the network file, where a line of the source is bad
 abbrev pub NamesTold : Files → List (List ℕ) → Status → List ℕ → Type 0
@@ -133,5 +139,5 @@ pub record EndsOver (files : Files) (words : List (List ℕ)) (w : World) (resul
   pub stopped : StopHasCause (λ engine. MatchAccepted (accepted (file files) words) (λ r. engine.network ≡ r.network) (λ s. ⊥)) w.disk_before w.disk_now result
   pub too_much : result ≡ status.TooMuch → MatchAccepted (accepted (file files) words) (λ r. TellsFor (command_in words) w.pages → 2 ^ 62 ≤ turns_for (command_in words) r) (λ s. ⊥)
   pub complete : ¬ (Rose w.folder_before w.folder_now) → ¬ (Rose w.disk_before w.disk_now) → ¬ (Rose w.sink_before w.sink_now)
-      → MatchAccepted (accepted (file files) words) (λ r. TellsFor (command_in words) w.pages → turns_for (command_in words) r < 2 ^ 62 → (result ≡ status.Ok) ⊎ (result ≡ status.Memory)) (λ s. ⊤)
+      → MatchAccepted (accepted (file files) words) (λ r. TellsFor (command_in words) w.pages → turns_for (command_in words) r < 2 ^ 62 → (result ≡ status.Ok) ⊎ (result ≡ status.Memory) ⊎ (is_changed result ≡ true)) (λ s. ⊤)
   pub named : NamesTold files words result source

@@ -1,5 +1,5 @@
 -- What code reads, in the terms in which commands and what was accepted are told.
-use Rattle.std.specs.Prelude.{ℕ, List, [], map, Option}
+use Rattle.std.specs.Prelude.{◌≡◌, ℕ, List, [], map, Option, Some}
 use Rattle.std.specs.Borrow.{Bor}
 use Rattle.std.specs.Option.{option_map}
 use Rattle.sq_top.specs.declared.RunArgs.{RunArgs}
@@ -8,8 +8,11 @@ use Rattle.sq_top.specs.declared.words.Given.{Given as GivenRead}
 use Rattle.sq_top.specs.declared.words.Piece.{Piece as PieceRead}
 use Rattle.sq_top.specs.declared.words.Piece.TheVariants as read
 use Rattle.sq_top.specs.declared.reading.Accepted.{Accepted}
+use Rattle.sq_top.specs.declared.tapping.Asked.{Asked}
+use Rattle.sq_top.specs.declared.Command.TheVariants as command
+use Rattle.sq_top.specs.Taps.{first_tick}
 use Rattle.sq_top.specs.Scripts.{Replay}
-use Rattle.sq_top.specs.Commands.{Word, Given, Piece, Plain, Whole, Opens, Bad}
+use Rattle.sq_top.specs.Commands.{Word, Given, Piece, Plain, Whole, Opens, Bad, command_in}
 
 abbrev pub text_view : Option (Bor (List ℕ)) → Option Word
 text_view o = option_map (λ t. t.now) o
@@ -37,4 +40,9 @@ replay_of a = record {
   train = a.train;
   frames = a.frames;
   text = [];
+  first = a.first;
 }
+
+-- the words ask for this tap
+abbrev pub IsAskedBy : Asked → List Word → Type 0
+IsAskedBy a words = (tick : ℕ) × (history : ℕ) × (command_in words ≡ Some (command.Tap a.net a.stream tick history a.query)) × (a.from ≡ first_tick tick history)

@@ -1,10 +1,10 @@
 // A run, driven to its end, of which the lines are counted and not written.
-ghost use Rattle.std.specs.Prelude.{◌≡◌, ℕ, ◌+◌, ◌≤◌, ◌<◌, [], ◌∷◌, None, IfErr, IfOk, OnOk, is_some, length, replicate, slice_index, slice_set};
+ghost use Rattle.std.specs.Prelude.{◌≡◌, ℕ, ◌+◌, ◌≤◌, ◌<◌, [], ◌∷◌, None, IfErr, IfOk, OnOk, length, replicate, slice_index, slice_set};
 ghost use Rattle.std.specs.List.{AllByRecursion};
 ghost use Rattle.sq_net.specs.Sound.{IsSound};
 ghost use Rattle.sq_model.specs.Shedding.{Replay};
 ghost use Rattle.sq_oper.specs.declared.outs.Event.{Event};
-ghost use Rattle.sq_paged.specs.Fronts.{Tells};
+ghost use Rattle.sq_pool.specs.Trust.{IsLater, Tells, known};
 ghost use Rattle.sq_queue.specs.Faces.{Together};
 ghost use Rattle.sq_flow.specs.Events.{IsEventIn};
 ghost use Rattle.sq_flow.specs.Flows.{measure_of};
@@ -88,19 +88,19 @@ fn count_step<D: PageDisk, L: Ledger>(
     steps: &mut Steps<L>,
 ) -> Result<(), Status>
     requires sound { IsSoundEngine engine.old }
-    requires together { Together engine.old.engine.flow.queues (D.pages disk.old) }
+    requires together { Together engine.old.engine.flow.queues (known (D.log disk.old)) }
     requires runs { 0 < length engine.old.engine.ready.list }
     requires room { HasRoom engine.old.network counts.old }
     ensures sound { OnOk result (IsSoundEngine engine.new) }
-    ensures together { OnOk result (Together engine.new.engine.flow.queues (D.pages disk.new)) }
+    ensures together { OnOk result (Together engine.new.engine.flow.queues (known (D.log disk.new))) }
     ensures network { engine.new.network ≡ engine.old.network }
-    ensures tells { is_some (D.pages disk.new) ≡ is_some (D.pages disk.old) }
+    ensures later { IsLater (D.log disk.old) (D.log disk.new) }
     ensures falls { OnOk result (measure_of engine.new.engine.flow < measure_of engine.old.engine.flow) }
-    ensures ok { OnOk result (CountsOn (D.pages disk.old) (D.pages disk.new) engine.old engine.new steps.old steps.new counts.old counts.new) }
-    ensures err { IfErr result (λ s. Stops (D.pages disk.old) engine.old steps.old steps.new None [] None s) }
+    ensures ok { OnOk result (CountsOn (known (D.log disk.old)) (known (D.log disk.new)) engine.old engine.new steps.old steps.new counts.old counts.new) }
+    ensures err { IfErr result (λ s. Stops (known (D.log disk.old)) (known (D.log disk.new)) (D.log disk.old).honest engine.old steps.old steps.new None [] None s) }
     ensures cut { IfErr result (λ s. (before now : ℕ) → IsCutShort before now s) }
     ensures stopped { IfErr result (StopHasCause (λ e. e.network ≡ engine.old.network) (D.faults disk.old) (D.faults disk.new)) }
-    ensures later { D.faults disk.old ≤ D.faults disk.new }
+    ensures faults { D.faults disk.old ≤ D.faults disk.new }
 {
     let pick = policy.next(engine.ready(), engine.waits());
     events.clear();
@@ -140,18 +140,18 @@ fn count_to_end<D: PageDisk, L: Ledger>(
     steps: &mut Steps<L>,
 ) -> Result<Counts, Status>
     requires sound { IsSoundEngine engine.old }
-    requires together { Together engine.old.engine.flow.queues (D.pages disk.old) }
+    requires together { Together engine.old.engine.flow.queues (known (D.log disk.old)) }
     ensures sound { OnOk result (IsSoundEngine engine.new) }
     ensures network { OnOk result (engine.new.network ≡ engine.old.network) }
     ensures room { IfOk result (λ c. HasRoom engine.new.network c) }
-    ensures ok { IfOk result (λ c. (r : Replay) (begun : ℕ) → Tells (D.pages disk.old) → IsRun r (D.pages disk.old) engine.old [] begun steps.old
+    ensures ok { IfOk result (λ c. (r : Replay) (begun : ℕ) → Tells (known (D.log disk.new)) → IsRun r (known (D.log disk.old)) engine.old [] begun steps.old
         → IsSummed r engine.new c begun steps.new) }
-    ensures err { IfErr result (λ s. (r : Replay) (begun : ℕ) → Tells (D.pages disk.old) → IsRun r (D.pages disk.old) engine.old [] begun steps.old
-        → IsHalted r s None None begun steps.new) }
+    ensures err { IfErr result (λ s. (r : Replay) (begun : ℕ) → Tells (known (D.log disk.new)) → IsRun r (known (D.log disk.old)) engine.old [] begun steps.old
+        → IsHalted (D.log disk.old).honest r s None None begun steps.new) }
     ensures cut { IfErr result (λ s. (before now : ℕ) → IsCutShort before now s) }
     ensures stopped { IfErr result (StopHasCause (λ e. e.network ≡ engine.old.network) (D.faults disk.old) (D.faults disk.new)) }
-    ensures later { D.faults disk.old ≤ D.faults disk.new }
-    ensures tells { is_some (D.pages disk.new) ≡ is_some (D.pages disk.old) }
+    ensures faults { D.faults disk.old ≤ D.faults disk.new }
+    ensures later { IsLater (D.log disk.old) (D.log disk.new) }
 {
     let mut counts = match no_counts(alloc, engine) {
         Ok(counts) => counts,
@@ -177,18 +177,18 @@ pub fn count<D: PageDisk, L: Ledger>(
     steps: &mut Steps<L>,
 ) -> Result<(Engine, Counts), Status>
     requires sound { IsSoundEngine engine }
-    requires together { Together engine.engine.flow.queues (D.pages disk.old) }
+    requires together { Together engine.engine.flow.queues (known (D.log disk.old)) }
     ensures sound { IfOk result (λ c. IsSoundEngine c.0) }
     ensures network { IfOk result (λ c. (c.0).network ≡ engine.network) }
     ensures room { IfOk result (λ c. HasRoom (c.0).network c.1) }
-    ensures ok { IfOk result (λ c. (r : Replay) (begun : ℕ) → Tells (D.pages disk.old) → IsRun r (D.pages disk.old) engine [] begun steps.old
+    ensures ok { IfOk result (λ c. (r : Replay) (begun : ℕ) → Tells (known (D.log disk.new)) → IsRun r (known (D.log disk.old)) engine [] begun steps.old
         → IsSummed r c.0 c.1 begun steps.new) }
-    ensures err { IfErr result (λ s. (r : Replay) (begun : ℕ) → Tells (D.pages disk.old) → IsRun r (D.pages disk.old) engine [] begun steps.old
-        → IsHalted r s None None begun steps.new) }
+    ensures err { IfErr result (λ s. (r : Replay) (begun : ℕ) → Tells (known (D.log disk.new)) → IsRun r (known (D.log disk.old)) engine [] begun steps.old
+        → IsHalted (D.log disk.old).honest r s None None begun steps.new) }
     ensures cut { IfErr result (λ s. (before now : ℕ) → IsCutShort before now s) }
     ensures stopped { IfErr result (StopHasCause (λ e. e.network ≡ engine.network) (D.faults disk.old) (D.faults disk.new)) }
-    ensures later { D.faults disk.old ≤ D.faults disk.new }
-    ensures tells { is_some (D.pages disk.new) ≡ is_some (D.pages disk.old) }
+    ensures faults { D.faults disk.old ≤ D.faults disk.new }
+    ensures later { IsLater (D.log disk.old) (D.log disk.new) }
 {
     match count_to_end(alloc, &mut engine, &mut policy, disk, steps) {
         Ok(counts) => Ok((engine, counts)),

@@ -1,11 +1,11 @@
 // A run, driven to its end.
-ghost use Rattle.std.specs.Prelude.{◌≡◌, ℕ, ◌+◌, ◌≤◌, ◌<◌, ◌++◌, [], IfErr, IfOk, OnErr, OnOk, is_some, length};
+ghost use Rattle.std.specs.Prelude.{◌≡◌, ℕ, ◌+◌, ◌≤◌, ◌<◌, ◌++◌, [], IfErr, IfOk, OnErr, OnOk, length};
 ghost use Rattle.std.specs.List.{AllByRecursion};
 ghost use Rattle.sq_model.specs.Shedding.{Replay};
 ghost use Rattle.sq_oper.specs.declared.outs.Event.{Event};
 ghost use Rattle.sq_replay.specs.Shown.{event_line};
 ghost use Rattle.sq_outside.specs.Sinks.{AppendsPrefix};
-ghost use Rattle.sq_paged.specs.Fronts.{Tells};
+ghost use Rattle.sq_pool.specs.Trust.{IsLater, Tells, known};
 ghost use Rattle.sq_queue.specs.Faces.{Together};
 ghost use Rattle.sq_flow.specs.Flows.{measure_of};
 ghost use Rattle.sq_flow.specs.Engines.{AllDone};
@@ -100,18 +100,18 @@ fn step_once<D: PageDisk, S: Sink, L: Ledger>(
     steps: &mut Steps<L>,
 ) -> Result<(), Status>
     requires sound { IsSoundEngine engine.old }
-    requires together { Together engine.old.engine.flow.queues (D.pages disk.old) }
+    requires together { Together engine.old.engine.flow.queues (known (D.log disk.old)) }
     requires runs { 0 < length engine.old.engine.ready.list }
     ensures sound { OnOk result (IsSoundEngine engine.new) }
-    ensures together { OnOk result (Together engine.new.engine.flow.queues (D.pages disk.new)) }
+    ensures together { OnOk result (Together engine.new.engine.flow.queues (known (D.log disk.new))) }
     ensures network { engine.new.network ≡ engine.old.network }
-    ensures tells { is_some (D.pages disk.new) ≡ is_some (D.pages disk.old) }
+    ensures later { IsLater (D.log disk.old) (D.log disk.new) }
     ensures falls { OnOk result (measure_of engine.new.engine.flow < measure_of engine.old.engine.flow) }
-    ensures ok { OnOk result (GoesOn (D.pages disk.old) (D.pages disk.new) engine.old engine.new steps.old steps.new (S.written out.old) held.old.text.items (S.written out.new) held.new.text.items) }
-    ensures err { IfErr result (λ s. Stops (D.pages disk.old) engine.old steps.old steps.new (S.written out.old) held.old.text.items (S.written out.new) s) }
+    ensures ok { OnOk result (GoesOn (known (D.log disk.old)) (known (D.log disk.new)) engine.old engine.new steps.old steps.new (S.written out.old) held.old.text.items (S.written out.new) held.new.text.items) }
+    ensures err { IfErr result (λ s. Stops (known (D.log disk.old)) (known (D.log disk.new)) (D.log disk.old).honest engine.old steps.old steps.new (S.written out.old) held.old.text.items (S.written out.new) s) }
     ensures cut { IfErr result (IsCutShort (S.faults out.old) (S.faults out.new)) }
     ensures stopped { IfErr result (StopHasCause (λ e. e.network ≡ engine.old.network) (D.faults disk.old) (D.faults disk.new)) }
-    ensures later { (D.faults disk.old ≤ D.faults disk.new) × (S.faults out.old ≤ S.faults out.new) }
+    ensures faults { (D.faults disk.old ≤ D.faults disk.new) × (S.faults out.old ≤ S.faults out.new) }
 {
     let pick = policy.next(engine.ready(), engine.waits());
     held.events.clear();
@@ -131,18 +131,18 @@ fn step_to_end<D: PageDisk, S: Sink, L: Ledger>(
     steps: &mut Steps<L>,
 ) -> Result<(), Status>
     requires sound { IsSoundEngine engine.old }
-    requires together { Together engine.old.engine.flow.queues (D.pages disk.old) }
+    requires together { Together engine.old.engine.flow.queues (known (D.log disk.old)) }
     ensures sound { OnOk result (IsSoundEngine engine.new) }
     ensures done { OnOk result (AllDone engine.new.engine.flow) }
     ensures network { OnOk result (engine.new.network ≡ engine.old.network) }
-    ensures ok { OnOk result ((r : Replay) (begun : ℕ) → Tells (D.pages disk.old) → IsRun r (D.pages disk.old) engine.old [] begun steps.old
+    ensures ok { OnOk result ((r : Replay) (begun : ℕ) → Tells (known (D.log disk.new)) → IsRun r (known (D.log disk.old)) engine.old [] begun steps.old
         → IsDriven r engine.new (S.written out.old) (S.written out.new) begun steps.new) }
-    ensures err { IfErr result (λ s. (r : Replay) (begun : ℕ) → Tells (D.pages disk.old) → IsRun r (D.pages disk.old) engine.old [] begun steps.old
-        → IsHalted r s (S.written out.old) (S.written out.new) begun steps.new) }
+    ensures err { IfErr result (λ s. (r : Replay) (begun : ℕ) → Tells (known (D.log disk.new)) → IsRun r (known (D.log disk.old)) engine.old [] begun steps.old
+        → IsHalted (D.log disk.old).honest r s (S.written out.old) (S.written out.new) begun steps.new) }
     ensures cut { IfErr result (IsCutShort (S.faults out.old) (S.faults out.new)) }
     ensures stopped { IfErr result (StopHasCause (λ e. e.network ≡ engine.old.network) (D.faults disk.old) (D.faults disk.new)) }
-    ensures later { (D.faults disk.old ≤ D.faults disk.new) × (S.faults out.old ≤ S.faults out.new) }
-    ensures tells { is_some (D.pages disk.new) ≡ is_some (D.pages disk.old) }
+    ensures faults { (D.faults disk.old ≤ D.faults disk.new) × (S.faults out.old ≤ S.faults out.new) }
+    ensures later { IsLater (D.log disk.old) (D.log disk.new) }
 {
     let mut held = Held {
         events: Vec::new(alloc),
@@ -165,8 +165,8 @@ fn step_to_end<D: PageDisk, S: Sink, L: Ledger>(
 ///
 /// # Errors
 /// `DiskFault` where the disk had a fault, `Garbled`, `NotAPage` and `Strange` where a page came back that isn't the one which was
-/// put, `SinkFault` where the output failed, `TooMuch` where more is to be fed than is counted, `Memory`. Where the disk tells its
-/// pages, what was written by then begins the lines of such a run.
+/// put, `SinkFault` where the output failed, `TooMuch` where more is to be fed than is counted, `Memory`. Where the disk is
+/// honest, or no page came back changed with the digest of what was put, what was written by then begins the lines of such a run.
 pub fn drive<D: PageDisk, S: Sink, L: Ledger>(
     alloc: Global,
     mut engine: Engine,
@@ -176,18 +176,18 @@ pub fn drive<D: PageDisk, S: Sink, L: Ledger>(
     steps: &mut Steps<L>,
 ) -> Result<Engine, Status>
     requires sound { IsSoundEngine engine }
-    requires together { Together engine.engine.flow.queues (D.pages disk.old) }
+    requires together { Together engine.engine.flow.queues (known (D.log disk.old)) }
     ensures sound { IfOk result (λ e. IsSoundEngine e) }
     ensures done { IfOk result (λ e. AllDone e.engine.flow) }
     ensures network { IfOk result (λ e. e.network ≡ engine.network) }
-    ensures ok { IfOk result (λ e. (r : Replay) (begun : ℕ) → Tells (D.pages disk.old) → IsRun r (D.pages disk.old) engine [] begun steps.old
+    ensures ok { IfOk result (λ e. (r : Replay) (begun : ℕ) → Tells (known (D.log disk.new)) → IsRun r (known (D.log disk.old)) engine [] begun steps.old
         → IsDriven r e (S.written out.old) (S.written out.new) begun steps.new) }
-    ensures err { IfErr result (λ s. (r : Replay) (begun : ℕ) → Tells (D.pages disk.old) → IsRun r (D.pages disk.old) engine [] begun steps.old
-        → IsHalted r s (S.written out.old) (S.written out.new) begun steps.new) }
+    ensures err { IfErr result (λ s. (r : Replay) (begun : ℕ) → Tells (known (D.log disk.new)) → IsRun r (known (D.log disk.old)) engine [] begun steps.old
+        → IsHalted (D.log disk.old).honest r s (S.written out.old) (S.written out.new) begun steps.new) }
     ensures cut { IfErr result (IsCutShort (S.faults out.old) (S.faults out.new)) }
     ensures stopped { IfErr result (StopHasCause (λ e. e.network ≡ engine.network) (D.faults disk.old) (D.faults disk.new)) }
-    ensures later { (D.faults disk.old ≤ D.faults disk.new) × (S.faults out.old ≤ S.faults out.new) }
-    ensures tells { is_some (D.pages disk.new) ≡ is_some (D.pages disk.old) }
+    ensures faults { (D.faults disk.old ≤ D.faults disk.new) × (S.faults out.old ≤ S.faults out.new) }
+    ensures later { IsLater (D.log disk.old) (D.log disk.new) }
 {
     match step_to_end(alloc, &mut engine, &mut policy, disk, out, steps) {
         Ok(()) => Ok(engine),

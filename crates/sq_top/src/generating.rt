@@ -25,10 +25,10 @@ use sq_value::Tuple;
 use std::alloc::Global;
 
 /// How many atomic steps an actor does in a row.
-const TRAIN: u32 = 16;
+pub(crate) const TRAIN: u32 = 16;
 
 /// How many pages the queues keep in memory.
-const FRAMES: u32 = 256;
+pub(crate) const FRAMES: u32 = 256;
 
 /// The network that was made, or the status of a run that has none.
 fn made_network(alloc: Global, bytes: &[u8]) -> Result<Network, Status>
@@ -112,6 +112,7 @@ pub fn prepare_made(alloc: Global, number: u64, rows: u32) -> Result<Accepted, S
             picks: Vec::new(alloc),
             train: TRAIN,
             frames: FRAMES,
+            first: 0,
         }),
         Err(stopped) => Err(stopped),
     }

@@ -4,6 +4,7 @@ ghost use Rattle.sq_outside.specs.Folders.{Files};
 ghost use Rattle.sq_top.specs.declared.Status.{Status};
 ghost use Rattle.sq_top.specs.Causes.{Ends, World};
 ghost use Rattle.sq_top.specs.Commands.{command_in};
+ghost use Rattle.sq_top.specs.Parts.{TapsShowParts};
 ghost use Rattle.sq_top.specs.Told.{EndsOver, FolderHasCause, looked_at};
 
 /// Over a folder that tells its files a run ends as they say: what it reads is what is told.
@@ -16,4 +17,10 @@ pub fn told_files_decide()
 pub fn folders_have_causes()
     ensures { (words : List (List ℕ)) (w : World) (result : Status) (source : List ℕ) → Ends words w result source
         → FolderHasCause words w.told w.folder_before w.folder_now w.taken_before w.taken_now result }
+{}
+
+/// What is due of a tap whose files were read shows, for each output of the query, what the query alone shows over the part of the
+/// stream from the tick on, and neither a drop nor a plan.
+pub fn taps_show_parts()
+    ensures { TapsShowParts }
 {}

@@ -1,23 +1,24 @@
 //! The top call: what the words ask for, done over a folder, a disk and two sinks.
 //!
-//! `run_words` carries the promise of the whole engine, by the bytes that the folder's reads gave in that run, and
-//! over a disk and sinks that tell what they hold: a run that ends Ok has written exactly the lines that belong to
-//! each class and taken exactly the steps of its work; any other end leaves a prefix of each class and has a cause of
-//! its own, whatever the schedule and however few pages stay in memory. Where a folder tells its files, they decide
+//! `run_words` carries the promise of the whole engine, by the names and the bytes that the folder's reads gave in
+//! that run, over sinks that tell what they hold, and where the disk is honest, or no page came back changed with the
+//! digest of what was put: a run that ends Ok has written exactly the lines that belong to each class and taken
+//! exactly the steps of its work; any other end leaves a prefix of each class and has a cause of its own, whatever the
+//! schedule and however few pages stay in memory. Where a folder tells its files, they decide
 //! (`told_files_decide`). `drive` carries the part of it that an engine does. A run of what a number makes is a
 //! replay as any other, of which the numbers of lines are written in their place. An audit runs no engine: it reads a
-//! network, the streams of its sources and a text, and writes the verdict on the text as one line. Below stand
+//! network, the streams of its sources and a text, and writes the verdict on the text as one line. A tap is a run of
+//! the network that `sq_tap` joins of two, of which at the end the query's boxes are shown. Below stand
 //! `sq_gen` for what a number makes, `sq_reader` and `sq_replay` for texts, `sq_core` for the engine, `sq_sched` for
 //! schedules, `sq_model` for the answers, the records of what is dropped and the plans, `sq_audit` for verdicts, and
 //! `sq_outside` for the objects.
 #![tactic(auto)]
 
-ghost use Rattle.std.specs.Prelude.{◌≡◌, ◌≢◌, ◌≤◌, List, ℕ, false, is_some, map, true};
+ghost use Rattle.std.specs.Prelude.{◌≡◌, ◌≢◌, ◌≤◌, List, ℕ, false, map, true};
 ghost use Rattle.std.specs.String.{string_bytes};
 ghost use Rattle.sq_outside.specs.Faults.{Rose};
-ghost use Rattle.sq_net.specs.declared.NetErr.TheVariants as net;
-ghost use Rattle.sq_paged.specs.Fronts.{Tells};
-ghost use Rattle.sq_top.specs.Causes.{AppendsSuch, Ends, TellsStatus, UsageHasCause, is_plain_end, is_refusal};
+ghost use Rattle.sq_pool.specs.Trust.{IsLater, known};
+ghost use Rattle.sq_top.specs.Causes.{AppendsSuch, Ends, TellsStatus, UsageHasCause, hides_memory, is_plain_end, is_refusal};
 ghost use Rattle.sq_top.specs.Commands.{command_in, reads_folder, runs_engine};
 ghost use Rattle.sq_top.specs.Stopping.{is_changed};
 ghost use Rattle.sq_top.specs.Messages.{code_of};
@@ -31,11 +32,12 @@ mod messages;
 mod reading;
 mod running;
 mod summing;
+mod tapping;
 mod words;
 mod writing;
 
 pub use driving::drive;
-pub use laws::{folders_have_causes, told_files_decide};
+pub use laws::{folders_have_causes, taps_show_parts, told_files_decide};
 use running::{run, tell};
 use sq_item::Item;
 use sq_net::NetErr;
@@ -43,6 +45,7 @@ use sq_outside::{Folder, PageDisk, Sink, Steps};
 use sq_pool::Digest;
 use sq_replay::Why;
 use sq_sched::Rule;
+use sq_tap::TapErr;
 use sq_value::Name;
 use std::alloc::Global;
 use std::sync::ledger::Ledger;
@@ -84,6 +87,17 @@ pub enum Command {
         net: Name,
         /// The text's file.
         text: Name,
+    },
+    /// A run of a query that is joined to a stream of a network's files, from so far back before a tick on.
+    Tap {
+        /// The network's file.
+        net: Name,
+        /// The stream's name: a source's, or a port's of a box.
+        stream: Name,
+        tick: u64,
+        history: u64,
+        /// The query's file.
+        query: Name,
     },
 }
 
@@ -151,6 +165,10 @@ pub enum Status {
     Memory,
     /// More tuples would be fed than are counted.
     TooMuch,
+    /// The query's file breaks this rule of network files, the first in their order.
+    BadQuery(NetErr),
+    /// The query can't be joined to the stream: this rule is the first that is broken.
+    BadTap(TapErr),
 }
 
 impl Status {
@@ -171,6 +189,8 @@ impl Status {
             Status::SinkFault => 10,
             Status::TooLong { .. } => 11,
             Status::Memory => 12,
+            Status::BadQuery(_) => 13,
+            Status::BadTap(_) => 14,
             Status::TooMuch => 15,
             Status::NotAPage { .. } => 16,
             Status::Strange { .. } => 17,
@@ -188,9 +208,10 @@ pub fn run_words<F: Folder, D: PageDisk, S: Sink, E: Sink, L: Ledger>(
     err: &mut E,
     steps: &mut Steps<L>,
 ) -> Status
-    // By the bytes that the folder's reads gave in this run, in order and no others, which are those of its files where it tells them,
-    // the run came to what is left of the script of its words: all was accepted, a rule is broken, or a file isn't read. By that it
-    // ends, and tells its status.
+    // By the names and the bytes of the files that the folder's reads gave in this run, in order and no others, which are those of its
+    // files where it tells them, the run came to what is left of the script of its words: all was accepted, a rule is broken, or a file
+    // isn't read. By that it ends, and tells its status. What it wrote and its steps are as due where the disk is honest, or no page came
+    // back changed with the digest of what was put.
     ensures ends { (source : List ℕ) × Ends (map string_bytes words.now.items) (record {
       told = F.files folder.old;
       folder_before = F.faults folder.old;
@@ -199,7 +220,8 @@ pub fn run_words<F: Folder, D: PageDisk, S: Sink, E: Sink, L: Ledger>(
       taken_now = F.taken folder.new;
       read_before = F.read folder.old;
       read_now = F.read folder.new;
-      pages = D.pages disk.old;
+      pages = known (D.log disk.new);
+      honest = (D.log disk.old).honest;
       disk_before = D.faults disk.old;
       disk_now = D.faults disk.new;
       out_before = S.written out.old;
@@ -212,24 +234,25 @@ pub fn run_words<F: Folder, D: PageDisk, S: Sink, E: Sink, L: Ledger>(
         result source
         × AppendsSuch (E.written err.old) (E.written err.new) (TellsStatus source (E.faults err.old) (E.faults err.new) result) }
 
-    // Of that, what needs no file: a refusal writes nothing and takes no step; the words; the disk; the output.
+    // Of that, what needs no file: a refusal writes nothing and takes no step; the words; the disk, which changes no page if it is
+    // honest; the output.
     ensures refused_early { is_refusal result ≡ true → (S.written out.new ≡ S.written out.old) × (steps.new ≡ steps.old) }
     ensures usage { UsageHasCause (map string_bytes words.now.items) result }
-    ensures no_memory { result ≢ Status.BadNetwork net.Memory }
-    ensures unchanged { Tells (D.pages disk.old) → is_changed result ≡ false }
+    ensures no_memory { hides_memory result ≡ false }
+    ensures unchanged { (D.log disk.old).honest ≡ true → is_changed result ≡ false }
     ensures sink { result ≡ Status.SinkFault → Rose (S.faults out.old) (S.faults out.new) }
 
-    // The files stay, and so does whether the disk tells its pages; a refusal doesn't call the disk, nor do words call the folder that
-    // don't ask for a network's files. Words that ask for no engine don't call the disk and take no step, and no status of an engine,
-    // of capacities or of picks comes. No count falls.
+    // The files stay, and so does what the disk promises; it is known at the end only where it was before. A refusal doesn't call the
+    // disk, nor do words call the folder that don't ask for a network's files. Words that ask for no engine don't call the disk and
+    // take no step, and no status of an engine, of capacities, of picks or of a query comes. No count falls.
     ensures same_files { F.files folder.new ≡ F.files folder.old }
     ensures unread { reads_folder (command_in (map string_bytes words.now.items)) ≡ false → (F.faults folder.new ≡ F.faults folder.old)
         × (F.taken folder.new ≡ F.taken folder.old) × (F.read folder.new ≡ F.read folder.old) }
-    ensures same_disk { is_refusal result ≡ true → (D.pages disk.new ≡ D.pages disk.old) × (D.faults disk.new ≡ D.faults disk.old) }
+    ensures same_disk { is_refusal result ≡ true → (D.log disk.new ≡ D.log disk.old) × (D.faults disk.new ≡ D.faults disk.old) }
     ensures no_engine { runs_engine (command_in (map string_bytes words.now.items)) ≡ false → (is_plain_end result ≡ true)
-        × (D.pages disk.new ≡ D.pages disk.old) × (D.faults disk.new ≡ D.faults disk.old) × (steps.new ≡ steps.old) }
-    ensures tells { is_some (D.pages disk.new) ≡ is_some (D.pages disk.old) }
-    ensures later { (F.faults folder.old ≤ F.faults folder.new) × (F.taken folder.old ≤ F.taken folder.new)
+        × (D.log disk.new ≡ D.log disk.old) × (D.faults disk.new ≡ D.faults disk.old) × (steps.new ≡ steps.old) }
+    ensures later { IsLater (D.log disk.old) (D.log disk.new) }
+    ensures counts { (F.faults folder.old ≤ F.faults folder.new) × (F.taken folder.old ≤ F.taken folder.new)
         × (D.faults disk.old ≤ D.faults disk.new) × (S.faults out.old ≤ S.faults out.new) × (E.faults err.old ≤ E.faults err.new) }
 {
     let stopped = run(alloc, words, folder, disk, out, steps);

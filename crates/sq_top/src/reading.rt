@@ -6,9 +6,9 @@ ghost use Rattle.sq_replay.specs.Laws.{ReadsStreams};
 ghost use Rattle.sq_replay.specs.Streams.{stream_in};
 ghost use Rattle.sq_top.specs.declared.Command.TheVariants as Command;
 ghost use Rattle.sq_top.specs.Commands.{command_in};
-ghost use Rattle.sq_top.specs.Scripts.{Done, Replay, after_streams, capacities_script, picks_script, script_of, with_sources};
+ghost use Rattle.sq_top.specs.Scripts.{Done, Replay, after_streams, capacities_script, picks_script, script_of, settings_limit, with_sources};
 ghost use Rattle.sq_top.specs.Reads.{AreBytesOf, Leads, LeadsWith};
-ghost use Rattle.sq_top.specs.Causes.{AreCapacitiesOf, ArePicksOf, HasNoCapacities, HasNoPicks, HasBadLine, HasNoStream, HasNoStreams, IsBadLine, IsRefusedBy, IsStopped, IsStreamOf, IsUnread, source_of};
+ghost use Rattle.sq_top.specs.Causes.{AreCapacitiesOf, ArePicksOf, HasNoCapacities, HasNoPicks, HasBadLine, HasNoStream, HasNoStreams, IsBadLine, IsNetworkFile, IsRefusedBy, IsStopped, IsStreamOf, IsUnread, source_of};
 ghost use Rattle.sq_top.specs.Views.{replay_of};
 ghost use Rattle.sq_top.specs.Recorded.{AreRecorded};
 
@@ -38,7 +38,7 @@ pub(crate) fn read_file<F: Folder>(
     ensures whole { IfOk result (λ bytes. AreBytesOf (F.files folder.old) name.now limit bytes.items) }
     ensures within { IfOk result (λ bytes. length bytes.items ≤ limit) }
     ensures unread { IfErr result (λ s. IsUnread (F.files folder.old) name.now limit (F.faults folder.old) (F.faults folder.new) (F.taken folder.old) (F.taken folder.new) s) }
-    ensures gives { IfOk result (λ bytes. F.read folder.new ≡ F.read folder.old ++ bytes.items ∷ []) }
+    ensures gives { IfOk result (λ bytes. F.read folder.new ≡ F.read folder.old ++ (name.now, bytes.items) ∷ []) }
     ensures refuses { OnErr result (F.read folder.new ≡ F.read folder.old) }
     ensures files { F.files folder.new ≡ F.files folder.old }
     ensures later { (F.faults folder.old ≤ F.faults folder.new) × (F.taken folder.old ≤ F.taken folder.new) }
@@ -67,6 +67,27 @@ pub(crate) fn refused_by(e: NetErr) -> Status
     }
 }
 
+/// What the file with this name says as a network's, or the status of a command that doesn't get it.
+pub(crate) fn network_file<F: Folder>(
+    alloc: Global,
+    name: &Name,
+    folder: &mut F,
+) -> Result<Result<Network, NetErr>, Status>
+    ensures sound { IfOk result (λ r. IfOk r IsSound) }
+    ensures limits { IfOk result (λ r. IfOk r KeepsDropLimits) }
+    ensures file { IfOk result (λ r. IsNetworkFile (F.files folder.old) name.now (F.read folder.old) (F.read folder.new) r) }
+    ensures unread { IfErr result (λ s. IsUnread (F.files folder.old) name.now settings_limit (F.faults folder.old) (F.faults folder.new) (F.taken folder.old) (F.taken folder.new) s) }
+    ensures refuses { OnErr result (F.read folder.new ≡ F.read folder.old) }
+    ensures files { F.files folder.new ≡ F.files folder.old }
+    ensures later { (F.faults folder.old ≤ F.faults folder.new) × (F.taken folder.old ≤ F.taken folder.new) }
+{
+    let bytes = match read_file(alloc, folder, name, SETTINGS_LIMIT) {
+        Ok(bytes) => bytes,
+        Err(status) => return Err(status),
+    };
+    Ok(read_network(alloc, bytes.as_slice()))
+}
+
 /// The network that is named, or the status of a run that has none.
 fn network_for<F: Folder>(alloc: Global, args: &RunArgs, folder: &mut F) -> Result<Network, Status>
     ensures sound { IfOk result IsSound }
@@ -78,13 +99,10 @@ fn network_for<F: Folder>(alloc: Global, args: &RunArgs, folder: &mut F) -> Resu
     ensures files { F.files folder.new ≡ F.files folder.old }
     ensures later { (F.faults folder.old ≤ F.faults folder.new) × (F.taken folder.old ≤ F.taken folder.new) }
 {
-    let bytes = match read_file(alloc, folder, &args.net, SETTINGS_LIMIT) {
-        Ok(bytes) => bytes,
-        Err(status) => return Err(status),
-    };
-    match read_network(alloc, bytes.as_slice()) {
-        Ok(network) => Ok(network),
-        Err(e) => Err(refused_by(e)),
+    match network_file(alloc, &args.net, folder) {
+        Ok(Ok(network)) => Ok(network),
+        Ok(Err(e)) => Err(refused_by(e)),
+        Err(status) => Err(status),
     }
 }
 
@@ -263,7 +281,7 @@ fn stream_of<F: Folder>(
 }
 
 /// The tuples of each source, in the order of the network file.
-fn streams_of<F: Folder>(
+pub(crate) fn streams_of<F: Folder>(
     alloc: Global,
     network: &Network,
     folder: &mut F,
@@ -301,6 +319,8 @@ pub struct Accepted {
     pub picks: Vec<u32>,
     pub train: u32,
     pub frames: u32,
+    /// The first box of which lines are shown at the end.
+    pub first: u32,
 }
 
 /// What the files come to that are asked for, or the status of a run that stops at them.
@@ -312,6 +332,7 @@ pub fn prepare<F: Folder>(alloc: Global, args: RunArgs, folder: &mut F) -> Resul
     ensures recorded { IfOk result (λ a. AreRecorded a.network.sources (map (λ xs. xs.items) a.sources.items)) }
     ensures train { IfOk result (λ a. 1 ≤ a.train) }
     ensures frames { IfOk result (λ a. 2 ≤ a.frames) }
+    ensures first { IfOk result (λ a. a.first ≡ 0) }
     ensures accepted { IfOk result (λ a. (words : List (List ℕ)) → command_in words ≡ Some (Command.Run args)
         → Leads (F.files folder.old) (F.read folder.old) (F.read folder.new) (script_of words) (Done (replay_of a))) }
     ensures stopped { IfErr result (λ s. (words : List (List ℕ)) → command_in words ≡ Some (Command.Run args)
@@ -337,6 +358,7 @@ pub fn prepare<F: Folder>(alloc: Global, args: RunArgs, folder: &mut F) -> Resul
             picks,
             train: args.train,
             frames: args.frames,
+            first: 0,
         }),
         Err(stopped) => Err(stopped),
     }

@@ -1,5 +1,5 @@
 // A run, but for its message, and the message.
-ghost use Rattle.std.specs.Prelude.{◌≡◌, ◌≢◌, ◌⊎◌, ℕ, ◌+◌, ◌^◌, ◌≤◌, [], IfErr, IfOk, List, OnErr, OnOk, Option, Some, false, is_some, map, true};
+ghost use Rattle.std.specs.Prelude.{◌≡◌, ◌≢◌, ◌⊎◌, ℕ, ◌+◌, ◌^◌, ◌<◌, ◌≤◌, [], IfErr, IfOk, List, OnErr, OnOk, Option, Some, false, length, map, true};
 ghost use Rattle.std.specs.String.{string_bytes};
 ghost use Rattle.sq_outside.specs.Faults.{Rose};
 ghost use Rattle.sq_outside.specs.Folders.{Files};
@@ -7,7 +7,7 @@ ghost use Rattle.sq_value.specs.Lists.{IsPrefixOf};
 ghost use Rattle.sq_net.specs.Sound.{IsSound};
 ghost use Rattle.sq_points.specs.Limits.{KeepsDropLimits};
 ghost use Rattle.sq_outside.specs.Disks.{Pages};
-ghost use Rattle.sq_paged.specs.Fronts.{Tells};
+ghost use Rattle.sq_pool.specs.Trust.{IsLater, Tells, known};
 ghost use Rattle.sq_core.specs.Runs.{IsRun, IsSoundEngine};
 ghost use Rattle.sq_top.specs.Answers.{IsPrefixText, IsWholeText};
 ghost use Rattle.sq_top.specs.Commands.{command_in, reads_folder, runs_engine};
@@ -17,7 +17,7 @@ ghost use Rattle.sq_top.specs.Stopping.{StopHasCause, is_changed};
 ghost use Rattle.sq_top.specs.Driving.{IsCutShort};
 ghost use Rattle.sq_top.specs.Due.{due_of, replayed, turns_in, work_in};
 ghost use Rattle.sq_top.specs.Recorded.{AreRecorded};
-ghost use Rattle.sq_top.specs.Views.{replay_of};
+ghost use Rattle.sq_top.specs.Views.{IsAskedBy, replay_of};
 
 use crate::auditing::audit_files;
 use crate::counting::count;
@@ -26,6 +26,7 @@ use crate::generating::prepare_made;
 use crate::messages::message;
 use crate::reading::{Accepted, Stopped, prepare, stopped_by};
 use crate::summing::write_summary;
+use crate::tapping::{Asked, first_tick, prepare_tap};
 use crate::words::read_words;
 use crate::writing::write_ends;
 use crate::{Command, RunArgs, Status, WordsErr};
@@ -55,6 +56,7 @@ pub(crate) fn start(alloc: Global, accepted: Accepted) -> Result<(Engine, Policy
         picks,
         train,
         frames,
+        first: _,
     } = accepted;
     match Engine::new(alloc, network, sources, capacities, seed, frames) {
         Ok(engine) => Ok((engine, Policy::new(rule, picks, seed, train))),
@@ -62,7 +64,7 @@ pub(crate) fn start(alloc: Global, accepted: Accepted) -> Result<(Engine, Policy
     }
 }
 
-/// Replays what was accepted under its schedule, and writes all lines of it.
+/// Replays what was accepted under its schedule, and writes all lines of it: at the end those of the boxes from the first on.
 fn replay<D: PageDisk, S: Sink, L: Ledger>(
     alloc: Global,
     accepted: Accepted,
@@ -75,23 +77,25 @@ fn replay<D: PageDisk, S: Sink, L: Ledger>(
     requires recorded { AreRecorded accepted.network.sources (map (λ xs. xs.items) accepted.sources.items) }
     requires train { 1 ≤ accepted.train }
     requires frames { 2 ≤ accepted.frames }
-    ensures ok { OnOk result (Tells (D.pages disk.old) → AppendsSuch (S.written out.old) (S.written out.new) (IsWholeText (due_of (replay_of accepted)))) }
-    ensures err { OnErr result (Tells (D.pages disk.old) → AppendsSuch (S.written out.old) (S.written out.new) (IsPrefixText (due_of (replay_of accepted)))) }
-    ensures steps { OnOk result (Tells (D.pages disk.old) → steps.new ≡ steps.old + work_in (replayed (replay_of accepted))) }
-    ensures fewer { OnErr result (Tells (D.pages disk.old) → steps.new ≤ steps.old + work_in (replayed (replay_of accepted))) }
+    requires first { accepted.first ≤ length accepted.network.boxes }
+    ensures ok { OnOk result (Tells (known (D.log disk.new)) → AppendsSuch (S.written out.old) (S.written out.new) (IsWholeText (due_of (replay_of accepted)))) }
+    ensures err { OnErr result (Tells (known (D.log disk.new)) → AppendsSuch (S.written out.old) (S.written out.new) (IsPrefixText (due_of (replay_of accepted)))) }
+    ensures steps { OnOk result (Tells (known (D.log disk.new)) → steps.new ≡ steps.old + work_in (replayed (replay_of accepted))) }
+    ensures fewer { OnErr result (Tells (known (D.log disk.new)) → steps.new ≤ steps.old + work_in (replayed (replay_of accepted))) }
     ensures cut { IfErr result (IsCutShort (S.faults out.old) (S.faults out.new)) }
     ensures stopped { IfErr result (StopHasCause (λ e. e.network ≡ accepted.network) (D.faults disk.old) (D.faults disk.new)) }
-    ensures unchanged { IfErr result (λ s. Tells (D.pages disk.old) → is_changed s ≡ false) }
-    ensures too_much { IfErr result (λ s. Tells (D.pages disk.old) → s ≡ Status.TooMuch → 2 ^ 62 ≤ turns_in (replayed (replay_of accepted))) }
-    ensures tells { is_some (D.pages disk.new) ≡ is_some (D.pages disk.old) }
-    ensures later { (D.faults disk.old ≤ D.faults disk.new) × (S.faults out.old ≤ S.faults out.new) }
+    ensures unchanged { IfErr result (λ s. (D.log disk.old).honest ≡ true → is_changed s ≡ false) }
+    ensures too_much { IfErr result (λ s. Tells (known (D.log disk.new)) → s ≡ Status.TooMuch → 2 ^ 62 ≤ turns_in (replayed (replay_of accepted))) }
+    ensures later { IsLater (D.log disk.old) (D.log disk.new) }
+    ensures faults { (D.faults disk.old ≤ D.faults disk.new) × (S.faults out.old ≤ S.faults out.new) }
 {
+    let first = accepted.first;
     let (engine, policy) = match start(alloc, accepted) {
         Ok(started) => started,
         Err(status) => return Err(status),
     };
     match drive(alloc, engine, policy, disk, out, steps) {
-        Ok(engine) => write_ends(alloc, &engine, out),
+        Ok(engine) => write_ends(alloc, &engine, first, out),
         Err(status) => Err(status),
     }
 }
@@ -111,16 +115,16 @@ fn sum_up<D: PageDisk, S: Sink, L: Ledger>(
     requires recorded { AreRecorded accepted.network.sources (map (λ xs. xs.items) accepted.sources.items) }
     requires train { 1 ≤ accepted.train }
     requires frames { 2 ≤ accepted.frames }
-    ensures ok { OnOk result (Tells (D.pages disk.old) → AppendsSuch (S.written out.old) (S.written out.new) (λ text. text ≡ summary_of number rows (replayed (replay_of accepted)))) }
-    ensures err { IfErr result (λ s. Tells (D.pages disk.old) → AppendsSuch (S.written out.old) (S.written out.new) (BeginsSummary number rows (replayed (replay_of accepted)) s)) }
-    ensures steps { OnOk result (Tells (D.pages disk.old) → steps.new ≡ steps.old + work_in (replayed (replay_of accepted))) }
-    ensures fewer { OnErr result (Tells (D.pages disk.old) → steps.new ≤ steps.old + work_in (replayed (replay_of accepted))) }
+    ensures ok { OnOk result (Tells (known (D.log disk.new)) → AppendsSuch (S.written out.old) (S.written out.new) (λ text. text ≡ summary_of number rows (replayed (replay_of accepted)))) }
+    ensures err { IfErr result (λ s. Tells (known (D.log disk.new)) → AppendsSuch (S.written out.old) (S.written out.new) (BeginsSummary number rows (replayed (replay_of accepted)) s)) }
+    ensures steps { OnOk result (Tells (known (D.log disk.new)) → steps.new ≡ steps.old + work_in (replayed (replay_of accepted))) }
+    ensures fewer { OnErr result (Tells (known (D.log disk.new)) → steps.new ≤ steps.old + work_in (replayed (replay_of accepted))) }
     ensures cut { IfErr result (IsCutShort (S.faults out.old) (S.faults out.new)) }
     ensures stopped { IfErr result (StopHasCause (λ e. e.network ≡ accepted.network) (D.faults disk.old) (D.faults disk.new)) }
-    ensures unchanged { IfErr result (λ s. Tells (D.pages disk.old) → is_changed s ≡ false) }
-    ensures too_much { IfErr result (λ s. Tells (D.pages disk.old) → s ≡ Status.TooMuch → 2 ^ 62 ≤ turns_in (replayed (replay_of accepted))) }
-    ensures tells { is_some (D.pages disk.new) ≡ is_some (D.pages disk.old) }
-    ensures later { (D.faults disk.old ≤ D.faults disk.new) × (S.faults out.old ≤ S.faults out.new) }
+    ensures unchanged { IfErr result (λ s. (D.log disk.old).honest ≡ true → is_changed s ≡ false) }
+    ensures too_much { IfErr result (λ s. Tells (known (D.log disk.new)) → s ≡ Status.TooMuch → 2 ^ 62 ≤ turns_in (replayed (replay_of accepted))) }
+    ensures later { IsLater (D.log disk.old) (D.log disk.new) }
+    ensures faults { (D.faults disk.old ≤ D.faults disk.new) × (S.faults out.old ≤ S.faults out.new) }
 {
     let (engine, policy) = match start(alloc, accepted) {
         Ok(started) => started,
@@ -151,7 +155,8 @@ fn run_files<F: Folder, D: PageDisk, S: Sink, L: Ledger>(
       taken_now = F.taken folder.new;
       read_before = F.read folder.old;
       read_now = F.read folder.new;
-      pages = D.pages disk.old;
+      pages = known (D.log disk.new);
+      honest = (D.log disk.old).honest;
       disk_before = D.faults disk.old;
       disk_now = D.faults disk.new;
       out_before = S.written out.old;
@@ -163,9 +168,9 @@ fn run_files<F: Folder, D: PageDisk, S: Sink, L: Ledger>(
     })
         result.status (source_of result.source) }
     ensures files { F.files folder.new ≡ F.files folder.old }
-    ensures disk { is_refusal result.status ≡ true → (D.pages disk.new ≡ D.pages disk.old) × (D.faults disk.new ≡ D.faults disk.old) }
-    ensures tells { is_some (D.pages disk.new) ≡ is_some (D.pages disk.old) }
-    ensures later { (F.faults folder.old ≤ F.faults folder.new) × (F.taken folder.old ≤ F.taken folder.new)
+    ensures disk { is_refusal result.status ≡ true → (D.log disk.new ≡ D.log disk.old) × (D.faults disk.new ≡ D.faults disk.old) }
+    ensures later { IsLater (D.log disk.old) (D.log disk.new) }
+    ensures counts { (F.faults folder.old ≤ F.faults folder.new) × (F.taken folder.old ≤ F.taken folder.new)
         × (D.faults disk.old ≤ D.faults disk.new) × (S.faults out.old ≤ S.faults out.new) }
 {
     let accepted = match prepare(alloc, args, folder) {
@@ -195,7 +200,7 @@ fn run_made<D: PageDisk, S: Sink, L: Ledger>(
 ) -> Stopped
     requires some { 1 ≤ rows }
     requires bound { rows ≤ 1000000 }
-    ensures ends { (words : List (List ℕ)) (told : Option Files) (faults taken : ℕ) (reads : List (List ℕ)) → command_in words ≡ Some (Command.Gen number rows) → Ends words (record {
+    ensures ends { (words : List (List ℕ)) (told : Option Files) (faults taken : ℕ) (reads : List (List ℕ × List ℕ)) → command_in words ≡ Some (Command.Gen number rows) → Ends words (record {
       told = told;
       folder_before = faults;
       folder_now = faults;
@@ -203,7 +208,8 @@ fn run_made<D: PageDisk, S: Sink, L: Ledger>(
       taken_now = taken;
       read_before = reads;
       read_now = reads;
-      pages = D.pages disk.old;
+      pages = known (D.log disk.new);
+      honest = (D.log disk.old).honest;
       disk_before = D.faults disk.old;
       disk_now = D.faults disk.new;
       out_before = S.written out.old;
@@ -214,9 +220,9 @@ fn run_made<D: PageDisk, S: Sink, L: Ledger>(
       steps_now = steps.new;
     })
         result.status (source_of result.source) }
-    ensures disk { is_refusal result.status ≡ true → (D.pages disk.new ≡ D.pages disk.old) × (D.faults disk.new ≡ D.faults disk.old) }
-    ensures tells { is_some (D.pages disk.new) ≡ is_some (D.pages disk.old) }
-    ensures later { (D.faults disk.old ≤ D.faults disk.new) × (S.faults out.old ≤ S.faults out.new) }
+    ensures disk { is_refusal result.status ≡ true → (D.log disk.new ≡ D.log disk.old) × (D.faults disk.new ≡ D.faults disk.old) }
+    ensures later { IsLater (D.log disk.old) (D.log disk.new) }
+    ensures faults { (D.faults disk.old ≤ D.faults disk.new) × (S.faults out.old ≤ S.faults out.new) }
 {
     let accepted = match prepare_made(alloc, number, rows) {
         Ok(accepted) => accepted,
@@ -231,6 +237,52 @@ fn run_made<D: PageDisk, S: Sink, L: Ledger>(
             status,
             source: None,
         },
+    }
+}
+
+/// Does what a tap asks for, and says how it ended.
+fn tap_files<F: Folder, D: PageDisk, S: Sink, L: Ledger>(
+    alloc: Global,
+    asked: &Asked,
+    folder: &mut F,
+    disk: &mut D,
+    out: &mut S,
+    steps: &mut Steps<L>,
+) -> Stopped
+    requires { asked.now.from < 2 ^ 40 }
+    ensures ends { (words : List (List ℕ)) → IsAskedBy asked.now words → Ends words (record {
+      told = F.files folder.old;
+      folder_before = F.faults folder.old;
+      folder_now = F.faults folder.new;
+      taken_before = F.taken folder.old;
+      taken_now = F.taken folder.new;
+      read_before = F.read folder.old;
+      read_now = F.read folder.new;
+      pages = known (D.log disk.new);
+      honest = (D.log disk.old).honest;
+      disk_before = D.faults disk.old;
+      disk_now = D.faults disk.new;
+      out_before = S.written out.old;
+      out_now = S.written out.new;
+      sink_before = S.faults out.old;
+      sink_now = S.faults out.new;
+      steps_before = steps.old;
+      steps_now = steps.new;
+    })
+        result.status (source_of result.source) }
+    ensures files { F.files folder.new ≡ F.files folder.old }
+    ensures disk { is_refusal result.status ≡ true → (D.log disk.new ≡ D.log disk.old) × (D.faults disk.new ≡ D.faults disk.old) }
+    ensures later { IsLater (D.log disk.old) (D.log disk.new) }
+    ensures counts { (F.faults folder.old ≤ F.faults folder.new) × (F.taken folder.old ≤ F.taken folder.new)
+        × (D.faults disk.old ≤ D.faults disk.new) × (S.faults out.old ≤ S.faults out.new) }
+{
+    let accepted = match prepare_tap(alloc, asked, folder) {
+        Ok(accepted) => accepted,
+        Err(stopped) => return stopped,
+    };
+    match replay(alloc, accepted, disk, out, steps) {
+        Ok(()) => stopped_by(Status::Ok),
+        Err(status) => stopped_by(status),
     }
 }
 
@@ -251,7 +303,8 @@ pub fn run<F: Folder, D: PageDisk, S: Sink, L: Ledger>(
       taken_now = F.taken folder.new;
       read_before = F.read folder.old;
       read_now = F.read folder.new;
-      pages = D.pages disk.old;
+      pages = known (D.log disk.new);
+      honest = (D.log disk.old).honest;
       disk_before = D.faults disk.old;
       disk_now = D.faults disk.new;
       out_before = S.written out.old;
@@ -266,16 +319,34 @@ pub fn run<F: Folder, D: PageDisk, S: Sink, L: Ledger>(
     ensures unread { reads_folder (command_in (map string_bytes words.now.items)) ≡ false → (F.faults folder.new ≡ F.faults folder.old)
         × (F.taken folder.new ≡ F.taken folder.old) × (F.read folder.new ≡ F.read folder.old) }
     ensures no_engine { runs_engine (command_in (map string_bytes words.now.items)) ≡ false → (is_plain_end result.status ≡ true)
-        × (D.pages disk.new ≡ D.pages disk.old) × (D.faults disk.new ≡ D.faults disk.old) × (steps.new ≡ steps.old) }
-    ensures disk { is_refusal result.status ≡ true → (D.pages disk.new ≡ D.pages disk.old) × (D.faults disk.new ≡ D.faults disk.old) }
-    ensures tells { is_some (D.pages disk.new) ≡ is_some (D.pages disk.old) }
-    ensures later { (F.faults folder.old ≤ F.faults folder.new) × (F.taken folder.old ≤ F.taken folder.new)
+        × (D.log disk.new ≡ D.log disk.old) × (D.faults disk.new ≡ D.faults disk.old) × (steps.new ≡ steps.old) }
+    ensures disk { is_refusal result.status ≡ true → (D.log disk.new ≡ D.log disk.old) × (D.faults disk.new ≡ D.faults disk.old) }
+    ensures later { IsLater (D.log disk.old) (D.log disk.new) }
+    ensures counts { (F.faults folder.old ≤ F.faults folder.new) × (F.taken folder.old ≤ F.taken folder.new)
         × (D.faults disk.old ≤ D.faults disk.new) × (S.faults out.old ≤ S.faults out.new) }
 {
     match read_words(alloc, words) {
         Ok(Command::Run(args)) => run_files(alloc, args, folder, disk, out, steps),
         Ok(Command::Gen { number, rows }) => run_made(alloc, number, rows, disk, out, steps),
         Ok(Command::Audit { net, text }) => audit_files(alloc, net, &text, folder, out),
+        Ok(
+            Command::Tap {
+                net,
+                stream,
+                tick,
+                history,
+                query,
+            },
+        ) => {
+            let from = first_tick(tick, history);
+            let asked = Asked {
+                net,
+                stream,
+                from,
+                query,
+            };
+            tap_files(alloc, &asked, folder, disk, out, steps)
+        }
         Err(WordsErr::Usage) => stopped_by(Status::Usage),
         Err(WordsErr::Memory) => stopped_by(Status::Memory),
     }

@@ -4,12 +4,12 @@ ghost use Rattle.std.specs.List.{list_all};
 ghost use Rattle.std.specs.Option.{option_map};
 ghost use Rattle.std.specs.String.{string_bytes};
 ghost use Rattle.sq_value.specs.Texts.{is_digit, read_number};
-ghost use Rattle.sq_top.specs.Commands.{args_of, audit_args, command_in, dashed_piece, gen_args, given_from, is_known, lone, may_name, named_piece, number_or, number_within, piece_of, rule_named, rule_of, run_args, same_option, values_of, whole_piece};
+ghost use Rattle.sq_top.specs.Commands.{args_of, audit_args, command_in, dashed_piece, gen_args, given_from, is_known, lone, may_name, named_piece, number_or, number_within, piece_of, rule_named, rule_of, run_args, same_option, tap_args, tick_in, values_of, whole_piece};
 ghost use Rattle.sq_top.specs.Views.{wanted_view, given_view, piece_view, text_view};
 
 use crate::{Command, RunArgs, WordsErr};
 use sq_sched::Rule;
-use sq_value::{Name, same_text};
+use sq_value::{Name, read_short_number, same_text};
 use std::alloc::{AllocError, Global};
 
 /// A word by itself.
@@ -356,10 +356,61 @@ fn audit_args(alloc: Global, words: &[String]) -> Result<Command, WordsErr>
     }
 }
 
+/// 1 to 13 digits of a number below 2^40.
+fn tick_in(text: &str) -> Option<u64>
+    ensures { result ≡ tick_in text.now }
+{
+    read_short_number(text.as_bytes(), 13, 1 << 40)
+}
+
+fn tap_of(
+    alloc: Global,
+    net: &str,
+    stream: &str,
+    tick: u64,
+    history: u64,
+    query: &str,
+) -> Result<Command, AllocError>
+    ensures { IfOk result (λ c. c ≡ Command.Tap net.now stream.now tick history query.now) }
+{
+    Ok(Command::Tap {
+        net: Name::new(alloc, net)?,
+        stream: Name::new(alloc, stream)?,
+        tick,
+        history,
+        query: Name::new(alloc, query)?,
+    })
+}
+
+/// What the words behind `tap` ask for.
+fn tap_args(alloc: Global, words: &[String]) -> Result<Command, WordsErr>
+    ensures command { IfOk result (λ c. tap_args (map string_bytes words.now) ≡ Some c) }
+    ensures usage { result ≡ Err WordsErr.Usage → tap_args (map string_bytes words.now) ≡ None }
+{
+    let [net, stream, tick, history, query] = words else {
+        return Err(WordsErr::Usage);
+    };
+    let (net, stream, query) = (net.as_str(), stream.as_str(), query.as_str());
+    let Some(tick) = tick_in(tick.as_str()) else {
+        return Err(WordsErr::Usage);
+    };
+    let Some(history) = tick_in(history.as_str()) else {
+        return Err(WordsErr::Usage);
+    };
+    if !may_name(net) || !may_name(stream) || !may_name(query) {
+        return Err(WordsErr::Usage);
+    }
+    match tap_of(alloc, net, stream, tick, history, query) {
+        Ok(command) => Ok(command),
+        Err(_) => Err(WordsErr::Memory),
+    }
+}
+
 /// What words ask for: `run NET [--capacities FILE] [--seed N] [--policy rr|long|seeded] [--picks FILE] [--train N] [--frames N]`,
 /// where each option stands once at most, as `--name value` or `--name=value`, and a policy excludes picks. A seed has 64 bits,
 /// a train is 1 to 4096, frames are 2 to 16,384. Or `gen NUMBER ROWS`, where the number has 64 bits and the rows are 1 to 1,000,000.
-/// Or `audit NET OUT`, where neither is empty or begins with a dash.
+/// Or `audit NET OUT`, where neither is empty or begins with a dash. Or `tap NET STREAM TICK HISTORY QUERY`, of which each name is such a
+/// word, and TICK and HISTORY are 1 to 13 digits of numbers below 2^40.
 pub fn read_words(alloc: Global, words: &Vec<String>) -> Result<Command, WordsErr>
     ensures command { IfOk result (λ c. command_in (map string_bytes words.now.items) ≡ Some c) }
     ensures usage { result ≡ Err WordsErr.Usage → command_in (map string_bytes words.now.items) ≡ None }
@@ -376,11 +427,14 @@ pub fn read_words(alloc: Global, words: &Vec<String>) -> Result<Command, WordsEr
     if same_text(first.as_str(), "audit") {
         return audit_args(alloc, rest);
     }
-    if !same_text(first.as_str(), "gen") {
+    if same_text(first.as_str(), "gen") {
+        return match gen_args(rest) {
+            Some(command) => Ok(command),
+            None => Err(WordsErr::Usage),
+        };
+    }
+    if !same_text(first.as_str(), "tap") {
         return Err(WordsErr::Usage);
     }
-    match gen_args(rest) {
-        Some(command) => Ok(command),
-        None => Err(WordsErr::Usage),
-    }
+    tap_args(alloc, rest)
 }

@@ -11,7 +11,7 @@ use crate::Status;
 use sq_core::Engine;
 use sq_net::Network;
 use sq_outside::{Failed, Sink, write_all};
-use sq_replay::end_lines;
+use sq_replay::end_lines_from;
 use std::alloc::{AllocError, Global};
 
 /// How many bytes are gathered before they are written.
@@ -80,26 +80,38 @@ pub(crate) fn count_late(alloc: Global, engine: &Engine) -> Result<Vec<u64>, All
     Ok(late)
 }
 
-/// Appends the end lines by what the boxes of an engine were fed.
-fn append_ends(alloc: Global, engine: &Engine, text: &mut Vec<u8>) -> Result<(), AllocError>
-    requires { IsSoundEngine engine.now }
-    ensures ok { OnOk result (text.new.items ≡ text.old.items ++ ends_text engine.now) }
+/// Appends the end lines of the boxes from one on, by what the boxes of an engine were fed.
+fn append_ends(
+    alloc: Global,
+    engine: &Engine,
+    first: u32,
+    text: &mut Vec<u8>,
+) -> Result<(), AllocError>
+    requires sound { IsSoundEngine engine.now }
+    requires first { first ≤ length engine.now.network.boxes }
+    ensures ok { OnOk result (text.new.items ≡ text.old.items ++ ends_text first engine.now) }
 {
     let fed = count_fed(alloc, engine)?;
     let late = count_late(alloc, engine)?;
-    end_lines(&engine.network, &fed, &late, text)
+    end_lines_from(&engine.network, first, &fed, &late, text)
 }
 
-/// Writes the end lines by what the boxes of an engine were fed.
-pub fn write_ends<S: Sink>(alloc: Global, engine: &Engine, out: &mut S) -> Result<(), Status>
-    requires { IsSoundEngine engine.now }
-    ensures ok { OnOk result (S.written out.new ≡ appended (S.written out.old) (ends_text engine.now)) }
-    ensures err { OnErr result (AppendsPrefix (S.written out.old) (S.written out.new) (ends_text engine.now)) }
+/// Writes the end lines of the boxes from one on, by what the boxes of an engine were fed.
+pub fn write_ends<S: Sink>(
+    alloc: Global,
+    engine: &Engine,
+    first: u32,
+    out: &mut S,
+) -> Result<(), Status>
+    requires sound { IsSoundEngine engine.now }
+    requires first { first ≤ length engine.now.network.boxes }
+    ensures ok { OnOk result (S.written out.new ≡ appended (S.written out.old) (ends_text first engine.now)) }
+    ensures err { OnErr result (AppendsPrefix (S.written out.old) (S.written out.new) (ends_text first engine.now)) }
     ensures lost { IfErr result (λ s. IsLost (S.faults out.old) (S.faults out.new) s) }
     ensures later { S.faults out.old ≤ S.faults out.new }
 {
     let mut text = Vec::new(alloc);
-    match append_ends(alloc, engine, &mut text) {
+    match append_ends(alloc, engine, first, &mut text) {
         Ok(()) => send(&mut text, out),
         Err(_) => Err(Status::Memory),
     }

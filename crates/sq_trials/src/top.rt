@@ -5,6 +5,7 @@ ghost use Rattle.sq_outside.specs.Disks.{Pages};
 ghost use Rattle.sq_queue.specs.Faces.{Together};
 ghost use Rattle.sq_core.specs.Runs.{IsSoundEngine};
 ghost use Rattle.sq_flow.specs.Flows.{measure_of};
+ghost use Rattle.sq_pool.specs.Trust.{known};
 
 use crate::given::read_given;
 use sq_core::Engine;
@@ -162,10 +163,10 @@ fn step_picked<D: PageDisk, L: Ledger>(
     steps: &mut Steps<L>,
 ) -> Result<(), RunErr>
     requires sound { IsSoundEngine engine.old }
-    requires together { Together engine.old.engine.flow.queues (D.pages disk.old) }
+    requires together { Together engine.old.engine.flow.queues (known (D.log disk.old)) }
     requires runs { 0 < length engine.old.engine.ready.list }
     ensures sound { OnOk result (IsSoundEngine engine.new) }
-    ensures together { OnOk result (Together engine.new.engine.flow.queues (D.pages disk.new)) }
+    ensures together { OnOk result (Together engine.new.engine.flow.queues (known (D.log disk.new))) }
     ensures falls { OnOk result (measure_of engine.new.engine.flow < measure_of engine.old.engine.flow) }
 {
     let pick = policy.next(engine.ready(), engine.waits());

@@ -20,6 +20,6 @@ returns g c =
       unread = c.run-stopped.ensures.unread;
       same_disk = λ refused. c.run-stopped.ensures.disk (told_refused _ _ c.tell.ensures.status refused);
       no_engine = λ plain. let own = c.run-stopped.ensures.no_engine plain in (told_plain _ _ c.tell.ensures.status own.0, own.1, own.2, own.3);
-      tells = c.run-stopped.ensures.tells;
-      later = (c.run-stopped.ensures.later.0, c.run-stopped.ensures.later.1, c.run-stopped.ensures.later.2, c.run-stopped.ensures.later.3, c.tell.ensures.later);
+      later = c.run-stopped.ensures.later;
+      counts = (c.run-stopped.ensures.counts.0, c.run-stopped.ensures.counts.1, c.run-stopped.ensures.counts.2, c.run-stopped.ensures.counts.3, c.tell.ensures.later);
     }

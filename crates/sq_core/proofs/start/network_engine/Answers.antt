@@ -71,7 +71,7 @@ returns-clause-answers c =
     let new = is-new c.args.n.now c.requires.sound (places-of c.early_drop_is_sound.ensures.points c.args.n.now c.requires.sound) c.in_ok-wires.wires c.in_ok-wires.ensures.measured
     c.args.seed c.in_ok-seats.seats.items c.in_ok-seats.ensures.seated c.in_ok-seats.ensures.count c.arcs_may_come.ensures.fed
     (record { network = c.args.n.now; sources = map (λ v. v.items) c.args.sources.items; entries = c.args.capacities.now; seed = c.args.seed }) read refl refl
-    c.in_ok-seats.seats refl c.in_ok-queues.queues c.in_ok-queues.ensures _ _ e.flow h c.in_ok-wires.ensures.shaped.replay_is pages in
+    c.in_ok-seats.seats refl c.in_ok-queues.queues c.in_ok-queues.ensures _ _ _ e.flow h c.in_ok-wires.ensures.shaped.replay_is pages in
     new-answers (record { network = c.args.n.now; sources = map (λ v. v.items) c.args.sources.items; entries = c.args.capacities.now; seed = c.args.seed })
     read c.starts_as_replayed.ensures e.flow (items_in e.flow pages) (λ arc. h.empty pages arc) new
     (subst (λ w. IsShaped w (ops_of c.args.n.now)) (sym h.wires_are) c.in_ok-wires.ensures.shaped) (ap (λ w. w.sheds) h.wires_are ∙ c.in_ok-wires.ensures.sheds)
@@ -82,3 +82,6 @@ returns-clause-ready c =
     if-both c.new.result _ _ _ (λ e is h.
     starts-ready actors IsValid c.args.n.now c.requires.sound e is (subst (IsMeasured c.args.n.now) (sym h.wires_are) c.in_ok-wires.ensures.measured)
     (ap (λ v. length v.items) h.seats_are ∙ c.in_ok-seats.ensures.count) h.runs h.bare) c.new.ensures.engine c.new.ensures.flow
+
+pub returns-clause-frames : goal.returns-clause-frames
+returns-clause-frames c = IfOk-weaker c.new.result _ _ (λ e h. h.framed) c.new.ensures.flow

@@ -16,6 +16,7 @@ loop-arc-preserved c =
     let from = sym (ap from_of c.arc.ensures) in
     record {
       size = told.size ∙ inv.size;
+      framed = told.frames ∙ inv.framed;
       ended = below_more _ i
           (λ arc h. let ne : arc ≢ i = omega (arith, h) in ap (λ (f : Face). f.ended) (told.others arc ne) ∙ inv.ended arc h)
           (told.ended ∙ ap (λ b. b || (c.arc.result.from == c.args.actor)) (inv.later i (omega arith)) ∙ ap (λ n. (face c.args.queues.now i).ended || (n == c.args.actor)) from);

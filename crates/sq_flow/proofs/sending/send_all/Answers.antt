@@ -1,5 +1,6 @@
 use Rattle.std.proofs.Common.{◌++◌, ap, sym, ◌∙◌, arith}
 use Rattle.std.proofs.lemmas.Result.{err_from_is_err_and}
+use Rattle.sq_pool.proofs.TrustLemmas.{IsLater-trans}
 use Rattle.sq_flow.proofs.CauseLemmas.{queue-cause-since}
 use Rattle.sq_flow.proofs.EventLemmas.{moved-on}
 use Rattle.sq_flow.proofs.SendLemmas.{pushes-both, sent-append, outs-in, sound-in, apart-arcs}
@@ -23,6 +24,7 @@ loop-port-preserved g c =
           (λ time u. (u, outs-in time c.loop-port.yielded _ c.args.items.now.items (c.in-Some.port, c.in-Some.item) whole u))
           (λ arc. sent-append c.args.wires.now c.args.actor c.loop-port.yielded (c.in-Some.port, c.in-Some.item) arc)
           (λ arc away. (away, apart-arcs c.args.wires.now c.args.actor c.in-Some.port arc (c.requires.joined c.in-Some.port arc) away));
+      later = IsLater-trans _ _ _ c.loop-port.invariant.later c.in_ok-send_one.ensures.later;
       faults = omega (arith, c.loop-port.invariant.faults, c.in_ok-send_one.ensures.faults);
     }
 
@@ -31,7 +33,7 @@ returns-in_err-send_one-clause-cause g c =
     let p = err_from_is_err_and c.from_residual.result c.from_residual.ensures.1 in
     rw (p.1, p.2) (queue-cause-since _ _ _ _ _ c.loop-port.invariant.faults c.in_err-send_one.ensures.cause)
 
-pub returns-in_err-send_one-clause-told : goal.returns-in_err-send_one-clause-told
-returns-in_err-send_one-clause-told g c =
+pub returns-in_err-send_one-clause-honest : goal.returns-in_err-send_one-clause-honest
+returns-in_err-send_one-clause-honest g c =
     let p = err_from_is_err_and c.from_residual.result c.from_residual.ensures.1 in
-    rw (p.1, p.2) (λ told. c.in_err-send_one.ensures.told (c.loop-port.invariant.pushes.tells ∙ told))
+    rw (p.1, p.2) (λ honest. c.in_err-send_one.ensures.honest (c.loop-port.invariant.later.honest ∙ honest))

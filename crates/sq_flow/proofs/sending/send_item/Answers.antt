@@ -1,6 +1,7 @@
 use Rattle.std.proofs.Common.{◌++◌, ◌∷◌, [], get_or, take, ap, sym, ◌∙◌, add-one, ◌≤◌, arith}
 use Rattle.std.proofs.Math.Seq.{take-suc}
 use Rattle.std.proofs.lemmas.List.{take_all}
+use Rattle.sq_pool.proofs.TrustLemmas.{IsLater-trans}
 use Rattle.sq_item.specs.Things.{spread}
 use Rattle.sq_flow.specs.Wiring.{times_in}
 use Rattle.sq_flow.specs.Sends.{many}
@@ -27,12 +28,13 @@ loop-arc-preserved g c =
     let faults : g.D.PageDisk.faults c.args.disk.now ≤ g.D.PageDisk.faults c.push.new.disk = omega (arith, c.loop-arc.invariant.faults, told.faults) in
     record {
       pushes = pushes-both _ _ _ _ _ _ _ _ _ _ _ _ _ _ _ c.loop-arc.invariant.pushes
-          (pushes-one _ _ _ _ at c.args.item c.requires.sound told.face told.faces told.size told.items told.others told.together told.tells)
+          (pushes-one _ _ _ _ at c.args.item c.requires.sound told.face told.faces told.size told.frames told.items told.others told.together told.later.known)
           (λ time le. (le, le))
           (λ arc. ap (λ l. many (times_in arc l) (spread c.args.item))
           (ap (λ n. take n c.in-Some.others.now) (add-one c.loop-arc.arc-index) ∙ take-suc c.in-Some.others.now c.loop-arc.arc-index 0 c.loop-arc-test.true)
           ∙ many-next (take c.loop-arc.arc-index c.in-Some.others.now) at (spread c.args.item) arc)
           (λ arc away. (away, not-in c.args.arcs.now at arc (contains-get c.args.arcs.now c.loop-arc.arc-index at here) away));
+      later = IsLater-trans _ _ _ c.loop-arc.invariant.later told.later;
       faults = faults;
     }
 
@@ -52,7 +54,7 @@ returns-clause-sent g c =
     let told = c.in_ok-send.ensures in
     let here = at-last arcs c.in-Some.others.now c.in-Some.last.now c.in-Some.ensures.cases.0 in
     pushes-both _ _ _ _ _ _ _ _ _ _ _ _ _ _ _ c.loop-arc.invariant.pushes
-    (pushes-one _ _ _ _ c.in-Some.last.now c.args.item c.requires.sound told.face told.faces told.size told.items told.others told.together told.tells)
+    (pushes-one _ _ _ _ c.in-Some.last.now c.args.item c.requires.sound told.face told.faces told.size told.frames told.items told.others told.together told.later.known)
     (λ time le. (le, le))
     (λ arc. ap (λ l. many (times_in arc l) (spread c.args.item))
     (c.in-Some.ensures.cases.0 ∙ ap (λ l. l ++ c.in-Some.last.now ∷ []) (sym (take_all c.loop-arc.arc-index c.in-Some.others.now c.loop-arc-test.false)))
@@ -65,10 +67,10 @@ returns-in_err-push-clause-cause g c =
     rw (p.1, p.2)
     (queue-cause-since _ _ _ _ _ c.loop-arc.invariant.faults (cause-of c.loop-arc.queues _ _ _ _ _ c.in_err-push.ensures.disk c.in_err-push.ensures.cause))
 
-pub returns-in_err-push-clause-told : goal.returns-in_err-push-clause-told
-returns-in_err-push-clause-told g c =
+pub returns-in_err-push-clause-honest : goal.returns-in_err-push-clause-honest
+returns-in_err-push-clause-honest g c =
     let p = err_from_is_err_and c.from_residual.result c.from_residual.ensures.1 in
-    rw (p.1, p.2) (λ told. told-of _ (c.in_err-push.ensures.told (c.loop-arc.invariant.pushes.tells ∙ told)))
+    rw (p.1, p.2) (λ honest. told-of _ (c.in_err-push.ensures.honest (c.loop-arc.invariant.later.honest ∙ honest)))
 
 pub returns-in_err-send-clause-cause : goal.returns-in_err-send-clause-cause
 returns-in_err-send-clause-cause g c =
@@ -76,7 +78,7 @@ returns-in_err-send-clause-cause g c =
     rw (p.1, p.2)
     (queue-cause-since _ _ _ _ _ c.loop-arc.invariant.faults (cause-of c.loop-arc.queues _ _ _ _ _ c.in_err-send.ensures.disk c.in_err-send.ensures.cause))
 
-pub returns-in_err-send-clause-told : goal.returns-in_err-send-clause-told
-returns-in_err-send-clause-told g c =
+pub returns-in_err-send-clause-honest : goal.returns-in_err-send-clause-honest
+returns-in_err-send-clause-honest g c =
     let p = err_from_is_err_and c.from_residual-in_err-send.result c.from_residual-in_err-send.ensures.1 in
-    rw (p.1, p.2) (λ told. told-of _ (c.in_err-send.ensures.told (c.loop-arc.invariant.pushes.tells ∙ told)))
+    rw (p.1, p.2) (λ honest. told-of _ (c.in_err-send.ensures.honest (c.loop-arc.invariant.later.honest ∙ honest)))

@@ -5,6 +5,7 @@ use Rattle.std.proofs.lemmas.Option.{slice_get_read, slice_get_past}
 use Rattle.sq_item.specs.declared.Item.{Item}
 use Rattle.sq_item.specs.Things.{spread}
 use Rattle.sq_outside.specs.Disks.{Pages}
+use Rattle.sq_pool.specs.Trust.{known}
 use Rattle.sq_queue.specs.declared.Queues.{Queues}
 use Rattle.sq_queue.specs.Faces.{Together}
 use Rattle.sq_flow.specs.declared.wires.Wires.{Wires}
@@ -40,9 +41,9 @@ returns-clause-sent g c =
           (let low : c.args.port < length c.index-rows.result.now.items = omega (arith, w.if-port-len.true, c.len.ensures, c.index-rows.result.now.ok.0) in
           let here = slice_get_read c.index-rows.result.now.items _ c.args.port w.index.result.now refl low w.index.ensures in
           let is = ap (λ o. numbers_in (slice_get (rows_in o) c.args.port)) row ∙ ap numbers_in here in
-          subst (λ (l : List ℕ). Pushes c.args.queues.now w.send_item.new.queues (g.D.PageDisk.pages c.args.disk.now) (g.D.PageDisk.pages w.send_item.new.disk) (λ arc. many (times_in arc l) (spread c.args.item)) (λ time. c.args.item.time ≤ time) (λ arc. contains l arc))
+          subst (λ (l : List ℕ). Pushes c.args.queues.now w.send_item.new.queues (known (g.D.PageDisk.log c.args.disk.now)) (known (g.D.PageDisk.log w.send_item.new.disk)) (λ arc. many (times_in arc l) (spread c.args.item)) (λ time. c.args.item.time ≤ time) (λ arc. contains l arc))
           (w.deref.ensures.value ∙ sym is) w.in_ok-send_item.ensures.sent)
       | else-port-len w ↦
           let past : length c.index-rows.result.now.items ≤ c.args.port = omega (arith, w.if-port-len.false, c.len.ensures, c.index-rows.result.now.ok.0) in
-          rw (w.queues-is, w.disk-is) (pushes-beyond c.args.wires.now c.args.actor c.args.port c.index-rows.result.now c.args.queues.now (g.D.PageDisk.pages c.args.disk.now) c.args.item row past c.requires.together)
+          rw (w.queues-is, w.disk-is) (pushes-beyond c.args.wires.now c.args.actor c.args.port c.index-rows.result.now c.args.queues.now (known (g.D.PageDisk.log c.args.disk.now)) c.args.item row past c.requires.together)
     ]

@@ -2,7 +2,7 @@ use Rattle.std.proofs.Common.{ap, ◌∙◌}
 use Rattle.std.proofs.lemmas.Result.{err_from_is_err_and}
 use Rattle.std.specs.Vec.Iter.{drain_items}
 use Rattle.sq_flow.specs.Events.{lines_of}
-use Rattle.sq_flow.proofs.EventLemmas.{shown-next, shown-front, moved-on}
+use Rattle.sq_flow.proofs.EventLemmas.{shown-next, shown-front, moved-on, stays-both}
 use Rattle.sq_flow.proofs.sending.show_all.Goals as goal
 
 pub loop-port-preserved : goal.loop-port-preserved
@@ -13,6 +13,7 @@ loop-port-preserved c =
       below = λ outputs drops low h. c.in_ok-show_one.ensures.below outputs drops low (c.loop-port.invariant.below outputs drops low h);
       drops = λ w. c.in_ok-show_one.ensures.drops w ∙ c.loop-port.invariant.drops w;
       plans = c.in_ok-show_one.ensures.plans ∙ c.loop-port.invariant.plans;
+      stay = stays-both _ _ _ c.loop-port.invariant.stay c.in_ok-show_one.ensures.stay;
     }
 
 pub returns-in_err-show_one-clause-prefix : goal.returns-in_err-show_one-clause-prefix
@@ -25,3 +26,6 @@ returns-in_err-show_one-clause-below c = λ outputs drops low h. c.in_err-show_o
 
 pub returns-in_err-show_one-clause-drops : goal.returns-in_err-show_one-clause-drops
 returns-in_err-show_one-clause-drops c = λ w. c.in_err-show_one.ensures.drops w ∙ c.loop-port.invariant.drops w
+
+pub returns-in_err-show_one-clause-stay : goal.returns-in_err-show_one-clause-stay
+returns-in_err-show_one-clause-stay c = stays-both _ _ _ c.loop-port.invariant.stay c.in_err-show_one.ensures.stay

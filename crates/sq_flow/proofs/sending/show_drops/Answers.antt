@@ -3,7 +3,7 @@ use Rattle.std.specs.List.{AllByRecursion}
 use Rattle.std.proofs.lemmas.Result.{err_from_is_err_and}
 use Rattle.std.specs.Vec.Iter.{drain_items}
 use Rattle.sq_flow.specs.Events.{drops_of}
-use Rattle.sq_flow.proofs.EventLemmas.{moved-on}
+use Rattle.sq_flow.proofs.EventLemmas.{moved-on, stays-both}
 use Rattle.sq_flow.proofs.DropLemmas.{all-split, decided-next, decided-front}
 use Rattle.sq_flow.proofs.sending.show_drops.Goals as goal
 
@@ -15,6 +15,7 @@ loop-decision-preserved c =
       shown = λ w. decided-next w c.loop-decision.yielded c.in-Some.decision _ _ _ (c.loop-decision.invariant.shown w) (c.in_ok-show_drop.ensures.shown w);
       lines = λ o. c.in_ok-show_drop.ensures.lines o ∙ c.loop-decision.invariant.lines o;
       plans = c.in_ok-show_drop.ensures.plans ∙ c.loop-decision.invariant.plans;
+      stay = stays-both _ _ _ c.loop-decision.invariant.stay c.in_ok-show_drop.ensures.stay;
       below = λ outputs drops all h.
           let low = (all-split (λ d. d.drop < drops) c.loop-decision.yielded _ (subst (AllByRecursion (λ d. d.drop < drops)) (sym whole) all)).1.0 in
           c.in_ok-show_drop.ensures.below outputs drops low (c.loop-decision.invariant.below outputs drops all h);
@@ -36,3 +37,6 @@ returns-in_err-show_drop-clause-below c = λ outputs drops all h.
     let whole = ap (λ l. c.loop-decision.yielded ++ l) (sym c.in-Some.ensures.steps.0) ∙ c.loop-decision.invariant.all in
     let low = (all-split (λ d. d.drop < drops) c.loop-decision.yielded _ (subst (AllByRecursion (λ d. d.drop < drops)) (sym whole) all)).1.0 in
     c.in_err-show_drop.ensures.below outputs drops low (c.loop-decision.invariant.below outputs drops all h)
+
+pub returns-in_err-show_drop-clause-stay : goal.returns-in_err-show_drop-clause-stay
+returns-in_err-show_drop-clause-stay c = stays-both _ _ _ c.loop-decision.invariant.stay c.in_err-show_drop.ensures.stay

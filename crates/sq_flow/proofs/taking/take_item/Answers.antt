@@ -6,7 +6,7 @@ use Rattle.sq_flow.proofs.taking.take_item.Goals as goal
 pub returns-in_err-item-clause-strange : goal.returns-in_err-item-clause-strange
 returns-in_err-item-clause-strange g c =
     let p = err_from_is_err_and c.from_residual.result c.from_residual.ensures.1 in
-    rw (p.1, p.2) (λ told front. told-of _ (c.in_err-item.ensures.told told))
+    rw (p.1, p.2) (λ honest front. told-of _ (c.in_err-item.ensures.honest honest))
 
 pub returns-in_err-item-clause-memory : goal.returns-in_err-item-clause-memory
 returns-in_err-item-clause-memory g c =

@@ -1,6 +1,7 @@
 use Rattle.std.proofs.Common.{◌<◌, ◌≤◌, refl}
 use Rattle.std.specs.Prelude.{length}
 use Rattle.std.proofs.lemmas.Option.{slice_get_read}
+use Rattle.sq_pool.specs.Trust.{known}
 use Rattle.sq_paged.specs.Faces.{kept_at}
 use Rattle.sq_paged.specs.Steps.{StartsAt, Adds}
 use Rattle.sq_paged.proofs.TouchLemmas.{alone-by}
@@ -24,8 +25,8 @@ with_room-requires-clause-ends g c =
 pub returns-in_default-clause-ok : goal.returns-in_default-clause-ok
 returns-in_default-clause-ok g c =
     let alone = alone-by c.args.self.now c.requires.together.nodes c.one_place_each.ensures in
-    if-ok (λ node. StartsAt c.args.self.now (g.D.PageDisk.pages c.args.disk.now) c.push_page.new.self (g.D.PageDisk.pages c.push_page.new.disk) c.args.arc node c.args.item.now)
-    (λ node. Adds c.args.self.now (g.D.PageDisk.pages c.args.disk.now) c.push_page.new.self (g.D.PageDisk.pages c.push_page.new.disk) c.args.arc node c.args.item.now) c.push_page.result
+    if-ok (λ node. StartsAt c.args.self.now (known (g.D.PageDisk.log c.args.disk.now)) c.push_page.new.self (known (g.D.PageDisk.log c.push_page.new.disk)) c.args.arc node c.args.item.now)
+    (λ node. Adds c.args.self.now (known (g.D.PageDisk.log c.args.disk.now)) c.push_page.new.self (known (g.D.PageDisk.log c.push_page.new.disk)) c.args.arc node c.args.item.now) c.push_page.result
     (λ node s. start-adds c.args.self.now _ c.push_page.new.self _ c.args.arc node c.args.item.now c.requires.together alone (inside c.args.self.now _ c.args.arc c.requires.together c.requires.there) s) c.push_page.ensures.ok
 
 pub push_into-requires-clause-node : goal.push_into-requires-clause-node

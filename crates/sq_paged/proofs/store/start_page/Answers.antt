@@ -8,4 +8,4 @@ append_item-end-requires-clause-page g c bytes e = zeros-end bytes (sym (made-th
 pub returns-clause-ok : goal.returns-clause-ok
 returns-clause-ok g c =
     let w = c.append_item-end.ensures.pool in
-    started _ _ _ _ _ _ c.args.item.now w.0 c.append_item-end.result c.make.ensures.tells c.in-Ok.ensures.pool c.in-Ok.ensures.map c.in-Ok.ensures.agree c.in-Ok.ensures.frames w.1 w.2 c.append_item-end.ensures.end refl
+    started _ _ _ _ _ _ c.args.item.now w.0 c.append_item-end.result c.make.ensures.later.known c.in-Ok.ensures.pool c.in-Ok.ensures.map c.in-Ok.ensures.agree c.in-Ok.ensures.frames w.1 w.2 c.append_item-end.ensures.end refl

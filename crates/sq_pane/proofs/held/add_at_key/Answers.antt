@@ -1,14 +1,14 @@
 use Rattle.std.proofs.Common.{◌≡◌, ◌+◌, List, sym, ap, subst, ◌∙◌, arith}
 use Rattle.std.specs.Ordering.{is_eq}
 use Rattle.std.specs.BTreeMap.{insert_entry}
-use Rattle.std.proofs.lemmas.Result.{on_ok_weaker}
+use Rattle.std.proofs.lemmas.Result.{on_ok_weaker, on_err_weaker}
 use Rattle.sq_value.specs.declared.Value.{Value}
 use Rattle.sq_value.specs.Values.{fields_cmp}
 use Rattle.sq_value.proofs.ValueOrder.{fields_order}
 use Rattle.sq_aggfn.proofs.KeyedLemmas.{ascends}
 use Rattle.sq_pane.specs.Panes.{total, AllAreMade}
 use Rattle.sq_pane.specs.States.{states_of}
-use Rattle.sq_pane.proofs.StateLemmas.{states_set, states_insert, made_found, made_states_set, made_states_insert, total_found, total_states_set, total_states_insert}
+use Rattle.sq_pane.proofs.StateLemmas.{states_set, states_same, states_insert, made_found, made_states_set, made_states_insert, total_found, total_states_set, total_states_insert}
 use Rattle.sq_pane.proofs.held.add_at_key.Goals as goal
 
 pub add_to_line-requires-clause-made : goal.add_to_line-requires-clause-made
@@ -48,6 +48,13 @@ returns-in-Some-clause-total g c =
     (λ e. ap (λ l. total number (states_of l)) (c.get_mut.follows.holds c.add_to_line.new.line).0
     ∙ total_states_set number (λ (q : List Value). is_eq (fields_cmp c.args.key.1 q)) ls c.in-Some.line.now c.add_to_line.new.line 1 (sym c.in-Some.ensures.value) e)
     c.add_to_line.ensures.total
+
+pub returns-in-Some-clause-err : goal.returns-in-Some-clause-err
+returns-in-Some-clause-err g c =
+    on_err_weaker c.add_to_line.result
+    (λ e. ap states_of (c.get_mut.follows.holds c.add_to_line.new.line).0
+    ∙ states_same (λ (q : List Value). is_eq (fields_cmp c.args.key.1 q)) c.args.held.now.entries c.in-Some.line.now c.add_to_line.new.line (sym c.in-Some.ensures.value) e)
+    c.add_to_line.ensures.err
 
 pub returns-clause-added : goal.returns-clause-added
 returns-clause-added g c =

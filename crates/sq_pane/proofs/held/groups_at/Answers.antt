@@ -1,5 +1,4 @@
-use Rattle.std.proofs.Common.{◌≡◌, ℕ, ◌*◌, ◌^◌, ◌<◌, List, ◌++◌, None, sym, ap, ap₂, subst, ◌∙◌, append_assoc, append-nil, arith}
-use Rattle.std.specs.List.{AllByRecursion}
+use Rattle.std.proofs.Common.{◌≡◌, List, ◌++◌, None, sym, ap, ap₂, subst, ◌∙◌, append_assoc, append-nil, arith}
 use Rattle.sq_value.specs.declared.Value.{Value}
 use Rattle.sq_value.specs.Values.{fields_cmp}
 use Rattle.sq_value.proofs.ValueOrder.{fields_order}
@@ -7,7 +6,7 @@ use Rattle.sq_aggfn.proofs.KeyedLemmas.{ascends}
 use Rattle.sq_pane.specs.declared.line.Line.{Line}
 use Rattle.sq_pane.specs.Panes.{entry_of, joined_within, total, AllAreMade}
 use Rattle.sq_pane.specs.States.{states_of, groups_within}
-use Rattle.sq_pane.proofs.StateLemmas.{window_is_groups, made_parts, total_parts, all_parts, pushed_made, pushed_total}
+use Rattle.sq_pane.proofs.StateLemmas.{window_is_groups, made_parts, total_parts, pushed_made, pushed_total}
 use Rattle.sq_pane.proofs.held.groups_at.Goals as goal
 
 pub loop-group-init : goal.loop-group-init
@@ -19,15 +18,8 @@ loop-group-init g c =
       value = ap₂ (λ gs ls. gs ++ groups_within (g.F.Fold.none fold) (g.F.Fold.joined fold) c.args.window c.args.width c.args.start ls) none all;
       made = subst (AllAreMade (g.F.Fold.made fold)) (sym none) tt;
       left = subst (λ (ls : List (List Value × Line g.row.F-State.Denot)). AllAreMade (g.F.Fold.made fold) (states_of ls)) (sym all) c.requires.made;
-      ticks = subst (λ (ls : List (List Value × Line g.row.F-State.Denot)). AllByRecursion (λ e. e.0.0 * c.args.width < 2 ^ 64) (states_of ls)) (sym all) c.requires.ticks;
       few = (let a = ap (total (g.F.Fold.number fold)) none in let b = ap (λ (ls : List (List Value × Line g.row.F-State.Denot)). total (g.F.Fold.number fold) (states_of ls)) all in omega (arith, a, b));
     }
-
-pub joined_in-requires-clause-ticks : goal.joined_in-requires-clause-ticks
-joined_in-requires-clause-ticks g c =
-    let ticks = subst (λ (ls : List (List Value × Line g.row.F-State.Denot)). AllByRecursion (λ e. e.0.0 * c.args.width < 2 ^ 64) (states_of ls)) c.in-Some.ensures.steps c.loop-group.invariant.ticks in
-    let own = (all_parts (λ n (m : g.row.F-State.Denot). n * c.args.width < 2 ^ 64) c.in-Some.group.now (states_of c.next.new.self) c.in-Some.line.now.states.items ticks).0 in
-    subst (λ (es : List (ℕ × g.row.F-State.Denot)). AllByRecursion (λ e. e.0 * c.args.width < 2 ^ 64) es) (sym c.deref.ensures.value) own
 
 pub joined_in-requires-clause-made : goal.joined_in-requires-clause-made
 joined_in-requires-clause-made g c =
@@ -71,8 +63,6 @@ loop-group-preserved g c =
           ∙ c.loop-group.invariant.value;
       made = subst (AllAreMade made) (sym pushed) (pushed_made made number group o gs c.loop-group.invariant.made c.in_ok-joined.ensures.made);
       left = (made_parts made group (states_of rest) line.states.items (subst (λ (ls : List (List Value × Line g.row.F-State.Denot)). AllAreMade made (states_of ls)) steps c.loop-group.invariant.left)).1;
-      ticks = (all_parts (λ n (m : g.row.F-State.Denot). n * c.args.width < 2 ^ 64) group (states_of rest) line.states.items
-          (subst (λ (ls : List (List Value × Line g.row.F-State.Denot)). AllByRecursion (λ e. e.0.0 * c.args.width < 2 ^ 64) (states_of ls)) steps c.loop-group.invariant.ticks)).1;
       few = omega (arith, all, parts, le, less, same, sum);
     }
 

@@ -1,5 +1,4 @@
-use Rattle.std.proofs.Common.{◌≡◌, ◌+◌, ◌*◌, ◌^◌, ◌<◌, ◌≤◌, ◌++◌}
-use Rattle.std.specs.List.{AllByRecursion}
+use Rattle.std.proofs.Common.{◌≡◌, ◌+◌, ◌≤◌, ◌++◌}
 use Rattle.sq_pane.specs.Panes.{total, AllAreMade}
 use Rattle.sq_pane.specs.States.{states_of, groups_within}
 use Rattle.sq_pane.proofs.held.groups_at.Given as goal
@@ -10,6 +9,5 @@ invariant-loop-group g l = record {
       ≡ groups_within (g.F.Fold.none l.fold) (g.F.Fold.joined l.fold) l.window l.width l.start l.held.entries;
   made : AllAreMade (g.F.Fold.made l.fold) l.groups.items;
   left : AllAreMade (g.F.Fold.made l.fold) (states_of l.group-iterator);
-  ticks : AllByRecursion (λ e. e.0.0 * l.width < 2 ^ 64) (states_of l.group-iterator);
   few : total (g.F.Fold.number l.fold) l.groups.items + total (g.F.Fold.number l.fold) (states_of l.group-iterator) ≤ total (g.F.Fold.number l.fold) (states_of l.held.entries);
 }

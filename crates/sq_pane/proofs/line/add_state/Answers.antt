@@ -1,8 +1,8 @@
 use Rattle.std.proofs.Common.{◌≡◌, ℕ, ◌+◌, ◌-◌, ◌<◌, ◌≤◌, ◌⊎◌, inl, inr, List, length, drop, get_or, set, ap, sym, subst, ◌∙◌, arith}
 use Rattle.std.specs.List.{AllByRecursion, insert}
-use Rattle.std.proofs.lemmas.Result.{on_ok_weaker}
+use Rattle.std.proofs.lemmas.Result.{on_ok_weaker, on_err_weaker}
 use Rattle.sq_pane.specs.Panes.{Rises, total, AllAreMade}
-use Rattle.sq_pane.proofs.LineLemmas.{same_at, rises_set, rises_put, made_set, made_insert, made_at, total_at, total_set, total_insert, set_is_put, insert_is_put}
+use Rattle.sq_pane.proofs.LineLemmas.{same_at, set_same, rises_set, rises_put, made_set, made_insert, made_at, total_at, total_set, total_insert, set_is_put, insert_is_put}
 use Rattle.sq_pane.proofs.line.add_state.Goals as goal
 use Rattle.sq_pane.proofs.line.add_state.Goals.{else-count-gt0-via-then-count-gt0+else-index-pane, else-count-gt0-via-else-count-gt0}
 
@@ -66,6 +66,16 @@ returns-then-index-pane-clause-total g c =
     let some = c.if-count-gt0.true in
     let x = c.index_mut.result.now in
     on_ok_weaker c.add.result (λ e. total_set (g.F.Fold.number c.args.fold.now) es i x (x.0, c.add.new.s) 1 (omega (arith, within, long, some)) c.index_mut.ensures.value e.1) c.add.ensures.made
+
+pub returns-then-index-pane-clause-err : goal.returns-then-index-pane-clause-err
+returns-then-index-pane-clause-err g c =
+    let es = c.args.states.now.items in
+    let i : ℕ = c.count_up_to-count.result - 1 in
+    let within = c.count_up_to-count.ensures.within in
+    let long = ap length c.deref.ensures.value in
+    let some = c.if-count-gt0.true in
+    let x = c.index_mut.result.now in
+    on_err_weaker c.add.result (λ e. ap (λ s. set es i (x.0, s)) e ∙ set_same es i x (omega (arith, within, long, some)) c.index_mut.ensures.value) c.add.ensures.err
 
 pub returns-clause-added : goal.returns-clause-added
 returns-clause-added g c =

@@ -1,5 +1,4 @@
-use Rattle.std.proofs.Common.{◌≡◌, ◌+◌, ◌*◌, ◌^◌, ◌<◌, ◌≤◌, drop, None}
-use Rattle.std.specs.List.{AllByRecursion}
+use Rattle.std.proofs.Common.{◌≡◌, ◌+◌, ◌≤◌, drop, None}
 use Rattle.sq_pane.specs.Panes.{joined_within, total, AllAreMade, IsMadeIf, number_if}
 use Rattle.sq_pane.proofs.line.joined_in.Given as goal
 
@@ -9,6 +8,5 @@ invariant-loop-pane g l = record {
       ≡ joined_within (g.F.Fold.none l.fold) (g.F.Fold.joined l.fold) l.window l.width l.start None l.states;
   made : IsMadeIf (g.F.Fold.made l.fold) l.joined;
   left : AllAreMade (g.F.Fold.made l.fold) (drop l.pane-index l.states);
-  ticks : AllByRecursion (λ e. e.0 * l.width < 2 ^ 64) (drop l.pane-index l.states);
   few : number_if (g.F.Fold.number l.fold) l.joined + total (g.F.Fold.number l.fold) (drop l.pane-index l.states) ≤ total (g.F.Fold.number l.fold) l.states;
 }

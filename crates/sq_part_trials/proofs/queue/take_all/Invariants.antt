@@ -1,11 +1,12 @@
 use Rattle.std.proofs.Common.{◌≡◌}
+use Rattle.sq_pool.specs.Trust.{known}
 use Rattle.sq_queue.specs.Faces.{face, size, Together}
 use Rattle.sq_part_trials.proofs.queue.take_all.Given as goal
 
 abbrev pub invariant-queues : goal.invariant-queues
 invariant-queues g l = record {
   size : size l.queues ≡ 1;
-  together : Together l.queues (g.D.PageDisk.pages l.disk);
+  together : Together l.queues (known (g.D.PageDisk.log l.disk));
 }
 
 abbrev pub decreases-queues : goal.decreases-queues

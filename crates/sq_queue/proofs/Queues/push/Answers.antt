@@ -3,6 +3,7 @@ use Rattle.std.specs.Vec.{with_item}
 use Rattle.std.proofs.lemmas.Option.{slice_get_read}
 use Rattle.std.proofs.lemmas.Result.{on_ok_weaker}
 use Rattle.sq_item.specs.declared.Item.{Item}
+use Rattle.sq_pool.specs.Trust.{known}
 use Rattle.sq_paged.specs.Faces as pages
 use Rattle.sq_queue.specs.Faces.{items_on}
 use Rattle.sq_queue.specs.declared.Queues.{Queues}
@@ -14,7 +15,7 @@ pub returns-then-has_room-clause-items : goal.returns-then-has_room-clause-items
 returns-then-has_room-clause-items g c =
     let q = c.args.self.now in
     let arc = c.args.arc in
-    let told = g.D.PageDisk.pages c.args.disk.now in
+    let told = known (g.D.PageDisk.log c.args.disk.now) in
     let lane = c.index_mut-lane.result.now in
     let new = c.append.new.self in
     let r : Queues = record q { lanes = with_item q.lanes arc new } in
@@ -28,7 +29,7 @@ returns-then-has_room-clause-items g c =
 pub returns-then-has_room-clause-others : goal.returns-then-has_room-clause-others
 returns-then-has_room-clause-others g c =
     let q = c.args.self.now in
-    let told = g.D.PageDisk.pages c.args.disk.now in
+    let told = known (g.D.PageDisk.log c.args.disk.now) in
     let r : Queues = record q { lanes = with_item q.lanes c.args.arc c.append.new.self } in
     on_ok_weaker c.append.result (λ front tells other differ. other-items q told r told c.args.arc other c.append.new.self refl differ refl) c.append.ensures.front
 

@@ -2,6 +2,7 @@ use Rattle.std.proofs.Common.{ℕ, List, [], ◌∷◌, ◌++◌, Some, refl, sy
 use Rattle.std.specs.Vec.{with_item}
 use Rattle.std.proofs.lemmas.Option.{slice_get_read}
 use Rattle.sq_item.specs.declared.Item.{Item}
+use Rattle.sq_pool.specs.Trust.{known}
 use Rattle.sq_paged.specs.Faces as pages
 use Rattle.sq_queue.specs.declared.Lane.{Lane}
 use Rattle.sq_queue.specs.declared.Queues.{Queues}
@@ -17,15 +18,15 @@ returns-clause-items g c tells =
     let new : Lane = record lane { count = c.in-Some.count; behind = Some c.unwrap_or.result } in
     let r : Queues = record { lanes = with_item q.lanes arc new; paged = c.push.new.self } in
     let more : List Item = c.args.item.now ∷ [] in
-    written-items q (g.D.PageDisk.pages c.args.disk.now) r (g.D.PageDisk.pages c.push.new.disk) arc lane new more c.requires.there (slice_get_read q.lanes.items _ arc lane refl c.requires.there c.index_mut-lane.ensures.value) refl
-    (ap (λ (xs : List Item). lane.front.items ++ xs) (c.in-Ok.ensures.items tells) ∙ sym (append_assoc lane.front.items (pages.items_on q.paged (g.D.PageDisk.pages c.args.disk.now) arc) more))
+    written-items q (known (g.D.PageDisk.log c.args.disk.now)) r (known (g.D.PageDisk.log c.push.new.disk)) arc lane new more c.requires.there (slice_get_read q.lanes.items _ arc lane refl c.requires.there c.index_mut-lane.ensures.value) refl
+    (ap (λ (xs : List Item). lane.front.items ++ xs) (c.in-Ok.ensures.items tells) ∙ sym (append_assoc lane.front.items (pages.items_on q.paged (known (g.D.PageDisk.log c.args.disk.now)) arc) more))
 
 pub returns-clause-others : goal.returns-clause-others
 returns-clause-others g c tells other differ =
     let q = c.args.self.now in
     let new : Lane = record c.index_mut-lane.result.now { count = c.in-Some.count; behind = Some c.unwrap_or.result } in
     let r : Queues = record { lanes = with_item q.lanes c.args.arc new; paged = c.push.new.self } in
-    other-items q (g.D.PageDisk.pages c.args.disk.now) r (g.D.PageDisk.pages c.push.new.disk) c.args.arc other new refl differ (c.in-Ok.ensures.others tells other differ)
+    other-items q (known (g.D.PageDisk.log c.args.disk.now)) r (known (g.D.PageDisk.log c.push.new.disk)) c.args.arc other new refl differ (c.in-Ok.ensures.others tells other differ)
 
 pub returns-clause-together : goal.returns-clause-together
 returns-clause-together g c =

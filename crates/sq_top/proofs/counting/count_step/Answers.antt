@@ -1,9 +1,10 @@
 use Rattle.std.proofs.Common.{◌≡◌, arith, inl, ℕ, refl, subst, sym, None, []}
+use Rattle.sq_pool.specs.Trust.{known}
 use Rattle.sq_top.specs.Driving.{IsCutShort, Stops}
 use Rattle.sq_top.specs.Stopping.{StopHasCause}
 use Rattle.sq_top.proofs.CountingLemmas.{events_here, step_counts, there_all}
 use Rattle.sq_top.proofs.DrivingLemmas.{if_err, step_lost, step_stops}
-use Rattle.sq_top.proofs.StopLemmas.{lost_cut, lost_stop, step_cause, step_cut}
+use Rattle.sq_top.proofs.StopLemmas.{falls_lower, lost_cut, lost_stop, step_cause, step_cut}
 use Rattle.sq_top.proofs.WritingLemmas.{lost_at_once, on_ok}
 use Rattle.sq_top.proofs.counting.count_step.Goals as goal
 
@@ -17,15 +18,18 @@ returns-in-Ok-clause-ok g c =
     on_ok c.count_events.result (rw c.as_slice.ensures.value at c.count_events.ensures.ok)
     (λ counted. step_counts _ _ _ _ _ _ _ _ _ _ c.clear.ensures.items c.in-Ok.ensures.shows c.in-Ok.ensures.run counted)
 
+pub returns-in-Ok-clause-falls : goal.returns-in-Ok-clause-falls
+returns-in-Ok-clause-falls g c = on_ok c.count_events.result c.count_events.ensures.ok (λ counted. falls_lower _ _ _ _ c.in-Ok.ensures.measure c.in-Ok.ensures.works)
+
 pub returns-in-Ok-clause-err : goal.returns-in-Ok-clause-err
 returns-in-Ok-clause-err g c =
     if_err
-    (Stops (g.D.PageDisk.pages c.args.disk.now) c.args.engine.now c.args.steps.now c.step.new.steps None [] None)
+    (Stops (known (g.D.PageDisk.log c.args.disk.now)) (known (g.D.PageDisk.log c.step.new.disk)) (g.D.PageDisk.log c.args.disk.now).honest c.args.engine.now c.args.steps.now c.step.new.steps None [] None)
     c.count_events.result c.count_events.ensures.memory
-    (λ s memory. step_lost _ _ _ _ _ _ c.clear.ensures.items _ _ c.in-Ok.ensures.shows c.in-Ok.ensures.run c.step.ensures.network None None [] 0 0 s c.step.ensures.tells (lost_at_once None _) (inl memory))
+    (λ s memory. step_lost _ _ _ _ _ _ c.clear.ensures.items _ _ c.in-Ok.ensures.shows c.in-Ok.ensures.run c.step.ensures.network _ None None [] 0 0 s (lost_at_once None _) (inl memory))
 
 pub returns-in-Err-clause-err : goal.returns-in-Err-clause-err
-returns-in-Err-clause-err g c = step_stops _ _ _ _ _ _ c.clear.ensures.items _ _ _ _ c.status_of.ensures c.in-Err.ensures.stopped
+returns-in-Err-clause-err g c = step_stops _ _ _ _ _ _ c.clear.ensures.items _ _ c.step.ensures.later.known _ _ _ _ c.status_of.ensures c.in-Err.ensures.stopped
 
 pub returns-in-Err-clause-cut : goal.returns-in-Err-clause-cut
 returns-in-Err-clause-cut g c before now = subst (IsCutShort before now) (sym c.status_of.ensures) (step_cut before now c.in-Err.e)

@@ -1,11 +1,16 @@
 use Rattle.std.proofs.Common.{refl, arith, inl, ◌∙◌}
+use Rattle.sq_pool.specs.Trust.{known}
+use Rattle.sq_pool.proofs.TrustLemmas.{IsLater-refl, IsLater-trans}
 use Rattle.sq_top.proofs.CountingLemmas.{count_ends, count_stops, count_waits, counts_none, counts_then, same_room}
 use Rattle.sq_top.proofs.StopLemmas.{lost_cut, stop_map}
 use Rattle.sq_top.proofs.StoppedLemmas.{rose_later}
 use Rattle.sq_top.proofs.counting.count_to_end.Goals as goal
 
 pub returns-in-Err-clause-err : goal.returns-in-Err-clause-err
-returns-in-Err-clause-err g c r begun told run = count_waits _ _ _ r begun told run
+returns-in-Err-clause-err g c r begun told run = count_waits _ _ _ _ r begun told run
+
+pub returns-in-Err-clause-later : goal.returns-in-Err-clause-later
+returns-in-Err-clause-later g c = IsLater-refl _
 
 pub returns-in-Err-clause-cut : goal.returns-in-Err-clause-cut
 returns-in-Err-clause-cut g c before now = lost_cut before before now _ (omega arith) (inl refl)
@@ -15,9 +20,9 @@ steps-init g c = record {
   sound = c.requires.sound;
   together = c.requires.together;
   network = refl;
-  tells = refl;
+  later = IsLater-refl _;
   goes = counts_none _ _ _ _;
-  later = omega arith;
+  faults = omega arith;
 }
 
 pub count_step-requires-clause-room : goal.count_step-requires-clause-room
@@ -31,19 +36,22 @@ steps-preserved g c =
       sound = c.in-Ok-count_step.ensures.sound;
       together = c.in-Ok-count_step.ensures.together;
       network = c.count_step.ensures.network ∙ before.network;
-      tells = c.count_step.ensures.tells ∙ before.tells;
+      later = IsLater-trans _ _ _ before.later c.count_step.ensures.later;
       goes = counts_then _ _ _ _ _ _ _ _ _ _ _ _ before.goes before.network c.in-Ok-count_step.ensures.ok;
-      later = omega (arith, before.later, c.count_step.ensures.later);
+      faults = omega (arith, before.faults, c.count_step.ensures.faults);
     }
 
 pub returns-in-Err-count_step-clause-err : goal.returns-in-Err-count_step-clause-err
 returns-in-Err-count_step-clause-err g c r begun told run =
-    let before = c.steps.invariant in count_stops _ _ _ _ _ _ _ _ before.goes r begun run before.tells told _ _ c.in-Err-count_step.ensures.err
+    let before = c.steps.invariant in count_stops _ _ _ _ _ _ _ _ before.goes r begun run _ _ _ told before.later.honest _ _ c.in-Err-count_step.ensures.err
+
+pub returns-in-Err-count_step-clause-later : goal.returns-in-Err-count_step-clause-later
+returns-in-Err-count_step-clause-later g c = IsLater-trans _ _ _ c.steps.invariant.later c.count_step.ensures.later
 
 pub returns-in-Err-count_step-clause-stopped : goal.returns-in-Err-count_step-clause-stopped
 returns-in-Err-count_step-clause-stopped g c =
     let before = c.steps.invariant in
-    stop_map _ _ _ _ _ _ c.in-Err-count_step.status (rose_later 1 _ _ _ before.later) (λ e same. same ∙ before.network) c.in-Err-count_step.ensures.stopped
+    stop_map _ _ _ _ _ _ c.in-Err-count_step.status (rose_later 1 _ _ _ before.faults) (λ e same. same ∙ before.network) c.in-Err-count_step.ensures.stopped
 
 pub all_shown-requires-clause-done : goal.all_shown-requires-clause-done
 all_shown-requires-clause-done g c = c.steps-test.ensures.done c.steps.invariant.sound.engine.running refl
@@ -55,4 +63,4 @@ pub returns-clause-ok : goal.returns-clause-ok
 returns-clause-ok g c r begun told run =
     let before = c.steps.invariant in
     count_ends _ _ _ _ _ _ _ _ before.goes r begun run c.in-Ok.ensures.room c.in-Ok.ensures.none
-    (λ history now. c.all_shown.ensures r (g.D.PageDisk.pages c.steps.disk) history begun c.steps.steps (before.tells ∙ told) now)
+    (λ history now. c.all_shown.ensures r (known (g.D.PageDisk.log c.steps.disk)) history begun c.steps.steps told now)

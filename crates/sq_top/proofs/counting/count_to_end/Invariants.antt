@@ -1,5 +1,5 @@
 use Rattle.std.proofs.Common.{◌≡◌, ◌≤◌}
-use Rattle.std.specs.Prelude.{is_some}
+use Rattle.sq_pool.specs.Trust.{IsLater, known}
 use Rattle.sq_queue.specs.Faces.{Together}
 use Rattle.sq_flow.specs.Flows.{measure_of}
 use Rattle.sq_core.specs.Runs.{IsSoundEngine}
@@ -9,11 +9,11 @@ use Rattle.sq_top.proofs.counting.count_to_end.Given as goal
 abbrev pub invariant-steps : goal.invariant-steps
 invariant-steps g l = record {
   sound : IsSoundEngine l.engine;
-  together : Together l.engine.engine.flow.queues (g.D.PageDisk.pages l.disk);
+  together : Together l.engine.engine.flow.queues (known (g.D.PageDisk.log l.disk));
   network : l.engine.network ≡ l.fn.engine.network;
-  tells : is_some (g.D.PageDisk.pages l.disk) ≡ is_some (g.D.PageDisk.pages l.fn.disk);
-  goes : CountsOn (g.D.PageDisk.pages l.fn.disk) (g.D.PageDisk.pages l.disk) l.fn.engine l.engine l.fn.steps l.steps l.initial.counts l.counts;
-  later : g.D.PageDisk.faults l.fn.disk ≤ g.D.PageDisk.faults l.disk;
+  later : IsLater (g.D.PageDisk.log l.fn.disk) (g.D.PageDisk.log l.disk);
+  goes : CountsOn (known (g.D.PageDisk.log l.fn.disk)) (known (g.D.PageDisk.log l.disk)) l.fn.engine l.engine l.fn.steps l.steps l.initial.counts l.counts;
+  faults : g.D.PageDisk.faults l.fn.disk ≤ g.D.PageDisk.faults l.disk;
 }
 
 abbrev pub decreases-steps : goal.decreases-steps

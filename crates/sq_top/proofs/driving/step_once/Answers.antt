@@ -1,4 +1,5 @@
 use Rattle.std.proofs.Common.{◌≡◌, arith, subst, sym}
+use Rattle.sq_pool.specs.Trust.{known}
 use Rattle.sq_top.specs.Driving.{IsCutShort, Stops}
 use Rattle.sq_top.specs.Stopping.{StopHasCause}
 use Rattle.sq_top.proofs.WritingLemmas.{on_ok}
@@ -19,12 +20,12 @@ returns-in-Ok-clause-ok g c =
 pub returns-in-Ok-clause-err : goal.returns-in-Ok-clause-err
 returns-in-Ok-clause-err g c =
     if_err_both
-    (Stops (g.D.PageDisk.pages c.args.disk.now) c.args.engine.now c.args.steps.now c.step.new.steps (g.S.Sink.written c.args.out.now) c.args.held.now.text.items (g.S.Sink.written c.show_events.new.out))
+    (Stops (known (g.D.PageDisk.log c.args.disk.now)) (known (g.D.PageDisk.log c.step.new.disk)) (g.D.PageDisk.log c.args.disk.now).honest c.args.engine.now c.args.steps.now c.step.new.steps (g.S.Sink.written c.args.out.now) c.args.held.now.text.items (g.S.Sink.written c.show_events.new.out))
     c.show_events.result (rw c.as_slice.ensures.value at c.show_events.ensures.err) c.show_events.ensures.lost
-    (λ s written lost. step_lost _ _ _ _ _ _ c.clear.ensures.items _ _ c.in-Ok.ensures.shows c.in-Ok.ensures.run c.step.ensures.network _ _ _ _ _ s c.step.ensures.tells written lost)
+    (λ s written lost. step_lost _ _ _ _ _ _ c.clear.ensures.items _ _ c.in-Ok.ensures.shows c.in-Ok.ensures.run c.step.ensures.network _ _ _ _ _ _ s written lost)
 
 pub returns-in-Err-clause-err : goal.returns-in-Err-clause-err
-returns-in-Err-clause-err g c = step_stops _ _ _ _ _ _ c.clear.ensures.items _ _ _ _ c.status_of.ensures c.in-Err.ensures.stopped
+returns-in-Err-clause-err g c = step_stops _ _ _ _ _ _ c.clear.ensures.items _ _ c.step.ensures.later.known _ _ _ _ c.status_of.ensures c.in-Err.ensures.stopped
 
 pub returns-in-Err-clause-cut : goal.returns-in-Err-clause-cut
 returns-in-Err-clause-cut g c = subst (IsCutShort _ _) (sym c.status_of.ensures) (step_cut _ _ c.in-Err.e)

@@ -1,4 +1,6 @@
 use Rattle.std.proofs.Common.{refl, arith, ◌∙◌}
+use Rattle.sq_pool.specs.Trust.{known}
+use Rattle.sq_pool.proofs.TrustLemmas.{IsLater-refl, IsLater-trans}
 use Rattle.sq_top.proofs.DrivingLemmas.{drive_ends, drive_lost, drive_stops, goes_none, goes_then}
 use Rattle.sq_top.proofs.StopLemmas.{cut_later, lost_cut, lost_stop, stop_map}
 use Rattle.sq_top.proofs.StoppedLemmas.{rose_later}
@@ -9,10 +11,10 @@ steps-init g c = record {
   sound = c.requires.sound;
   together = c.requires.together;
   network = refl;
-  tells = refl;
+  later = IsLater-refl _;
   goes = goes_none _ _ _ _ _ c.new-2.ensures.items;
-  disk_later = omega arith;
-  later = omega arith;
+  disk_faults = omega arith;
+  sink_faults = omega arith;
 }
 
 pub steps-preserved : goal.steps-preserved
@@ -22,26 +24,29 @@ steps-preserved g c =
       sound = c.in-Ok.ensures.sound;
       together = c.in-Ok.ensures.together;
       network = c.step_once.ensures.network ∙ before.network;
-      tells = c.step_once.ensures.tells ∙ before.tells;
+      later = IsLater-trans _ _ _ before.later c.step_once.ensures.later;
       goes = goes_then _ _ _ _ _ _ _ _ _ _ before.goes before.network _ _ _ _ _ c.in-Ok.ensures.ok;
-      disk_later = omega (arith, before.disk_later, c.step_once.ensures.later.0);
-      later = omega (arith, before.later, c.step_once.ensures.later.1);
+      disk_faults = omega (arith, before.disk_faults, c.step_once.ensures.faults.0);
+      sink_faults = omega (arith, before.sink_faults, c.step_once.ensures.faults.1);
     }
 
 pub returns-in-Err-clause-err : goal.returns-in-Err-clause-err
 returns-in-Err-clause-err g c r begun told run =
-    let before = c.steps.invariant in drive_stops _ _ _ _ _ _ _ _ _ before.goes before.tells r begun told run _ _ _ c.in-Err.ensures.err
+    let before = c.steps.invariant in drive_stops _ _ _ _ _ _ _ _ _ before.goes r begun run _ _ _ told before.later.honest _ _ _ c.in-Err.ensures.err
+
+pub returns-in-Err-clause-later : goal.returns-in-Err-clause-later
+returns-in-Err-clause-later g c = IsLater-trans _ _ _ c.steps.invariant.later c.step_once.ensures.later
 
 pub returns-in-Err-clause-cut : goal.returns-in-Err-clause-cut
-returns-in-Err-clause-cut g c = cut_later _ _ _ _ c.steps.invariant.later c.in-Err.ensures.cut
+returns-in-Err-clause-cut g c = cut_later _ _ _ _ c.steps.invariant.sink_faults c.in-Err.ensures.cut
 
 pub returns-in-Err-clause-stopped : goal.returns-in-Err-clause-stopped
 returns-in-Err-clause-stopped g c =
     let before = c.steps.invariant in
-    stop_map _ _ _ _ _ _ c.in-Err.status (rose_later 1 _ _ _ before.disk_later) (λ e same. same ∙ before.network) c.in-Err.ensures.stopped
+    stop_map _ _ _ _ _ _ c.in-Err.status (rose_later 1 _ _ _ before.disk_faults) (λ e same. same ∙ before.network) c.in-Err.ensures.stopped
 
 pub returns-clause-cut : goal.returns-clause-cut
-returns-clause-cut g c = lost_cut _ _ _ _ c.steps.invariant.later c.in-Err-send.ensures.lost
+returns-clause-cut g c = lost_cut _ _ _ _ c.steps.invariant.sink_faults c.in-Err-send.ensures.lost
 
 pub returns-clause-stopped : goal.returns-clause-stopped
 returns-clause-stopped g c = lost_stop _ _ _ _ _ _ c.in-Err-send.ensures.lost
@@ -49,13 +54,13 @@ returns-clause-stopped g c = lost_stop _ _ _ _ _ _ c.in-Err-send.ensures.lost
 pub returns-in-Ok-send-clause-ok : goal.returns-in-Ok-send-clause-ok
 returns-in-Ok-send-clause-ok g c r begun told run =
     let before = c.steps.invariant in
-    drive_ends _ _ _ _ _ _ _ _ _ before.goes before.tells r begun told run _ _ c.in-Ok-send.ensures.ok c.in-Ok-send.ensures.none_waits
-    (λ history now. c.all_shown.ensures r (g.D.PageDisk.pages c.steps.disk) history begun c.steps.steps (before.tells ∙ told) now)
+    drive_ends _ _ _ _ _ _ _ _ _ before.goes r begun run _ _ c.in-Ok-send.ensures.ok c.in-Ok-send.ensures.none_waits
+    (λ history now. c.all_shown.ensures r (known (g.D.PageDisk.log c.steps.disk)) history begun c.steps.steps told now)
 
 pub returns-clause-err : goal.returns-clause-err
 returns-clause-err g c r begun told run =
     let before = c.steps.invariant in
-    drive_lost _ _ _ _ _ _ _ _ _ before.goes before.tells r begun told run _ _ _ _ c.in-Err-send.ensures.err c.in-Err-send.ensures.lost
+    drive_lost _ _ _ _ _ _ _ _ _ before.goes r begun run _ told _ _ _ _ c.in-Err-send.ensures.err c.in-Err-send.ensures.lost
 
 pub all_shown-requires-clause-done : goal.all_shown-requires-clause-done
 all_shown-requires-clause-done g c = c.steps-test.ensures.done c.steps.invariant.sound.engine.running refl

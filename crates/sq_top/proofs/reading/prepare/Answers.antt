@@ -1,4 +1,4 @@
-use Rattle.std.proofs.Common.{arith, map, ◌∙◌, ◌≤◌}
+use Rattle.std.proofs.Common.{arith, map, refl, ◌∙◌, ◌≤◌}
 use Rattle.sq_top.specs.Scripts.{unread, with_sources}
 use Rattle.sq_top.proofs.StoppedLemmas.{accepted_streams, is_command, no_picks_later, no_streams_later, picks_leads, stopped_picks, stopped_streams}
 use Rattle.sq_top.proofs.reading.prepare.Goals as goal
@@ -24,7 +24,7 @@ returns-in-Ok-streams_of-clause-accepted g c words asked =
     let same = c.in-Ok-picks_for.ensures.files ∙ c.in-Ok.ensures.files in
     let leads = picks_leads words args asked told n c.in-Ok.named.1 rb (g.F.Folder.read c.limits_for.new.folder) rm (c.in-Ok.ensures.leads words asked)
     c.in-Ok-picks_for.picks.items (rw c.in-Ok.ensures.files at c.in-Ok-picks_for.ensures.picks) in
-    accepted_streams words told rb rm rn r (is_command words args asked told) leads (rw same at (c.in-Ok-streams_of.ensures.leads start))
+    accepted_streams words told rb rm rn r n refl (is_command words args asked told) leads (rw same at (c.in-Ok-streams_of.ensures.leads start))
 
 pub returns-clause-stopped : goal.returns-clause-stopped
 returns-clause-stopped g c words asked =
@@ -40,5 +40,5 @@ returns-clause-stopped g c words asked =
     c.in-Ok-picks_for.picks.items (rw c.in-Ok.ensures.files at c.in-Ok-picks_for.ensures.picks) in
     let faults : g.F.Folder.faults c.args.folder.now ≤ g.F.Folder.faults c.picks_for.new.folder = omega (arith, c.in-Ok.ensures.later.0, c.in-Ok-picks_for.ensures.later.0) in
     let taken : g.F.Folder.taken c.args.folder.now ≤ g.F.Folder.taken c.picks_for.new.folder = omega (arith, c.in-Ok.ensures.later.1, c.in-Ok-picks_for.ensures.later.1) in
-    stopped_streams words told rb rm rn r (is_command words args asked told) leads _ _ _ _ c.in-Err-streams_of.stopped.status _
+    stopped_streams words told rb rm rn r n refl (is_command words args asked told) leads _ _ _ _ c.in-Err-streams_of.stopped.status _
     (no_streams_later told r n.sources _ _ _ _ _ _ _ _ _ _ faults taken (rw same at (c.in-Err-streams_of.ensures.stopped r)))

@@ -1,12 +1,14 @@
-use Rattle.std.proofs.Common.{◌≡◌, None, ap, map, refl, rules, ◌∙◌, Some}
+use Rattle.std.proofs.Common.{◌≡◌, None, ap, arith, map, refl, rules, ◌∙◌, Some}
 use Rattle.std.specs.String.{string_bytes}
+use Rattle.sq_pool.specs.Trust.{known}
+use Rattle.sq_pool.proofs.TrustLemmas.{IsLater-refl}
 use Rattle.sq_top.specs.declared.Command.{Command}
 use Rattle.sq_top.specs.Commands.{command_in}
 use Rattle.sq_top.specs.Scripts.{script_of}
 use Rattle.sq_top.proofs.EndLemmas.{stopped_ends}
 use Rattle.sq_top.proofs.ReadsLemmas.{leads_self}
 use Rattle.sq_top.proofs.StoppedLemmas.{stopped_memory, stopped_usage}
-use Rattle.sq_top.proofs.TrainLemmas.{audit_named, command_least, gen_rows}
+use Rattle.sq_top.proofs.TrainLemmas.{audit_named, command_least, gen_rows, tap_tick}
 use Rattle.sq_top.proofs.running.run.Goals as goal
 
 pub run_files-requires-clause-train : goal.run_files-requires-clause-train
@@ -48,9 +50,29 @@ audit_files-requires g c =
 
 pub returns-in-Ok-Audit-clause-ends : goal.returns-in-Ok-Audit-clause-ends
 returns-in-Ok-Audit-clause-ends g c =
-    c.audit_files.ensures.ends (map string_bytes c.args.words.now.items) (g.D.PageDisk.pages c.args.disk.now) (g.D.PageDisk.faults c.args.disk.now) c.args.steps.now
+    c.audit_files.ensures.ends (map string_bytes c.args.words.now.items) (known (g.D.PageDisk.log c.args.disk.now)) (g.D.PageDisk.log c.args.disk.now).honest (g.D.PageDisk.faults c.args.disk.now) c.args.steps.now
     (c.in-Ok-Audit.ensures.command ∙ ap (λ (x : Command). Some x) c.in-Ok-Audit.field-0-is)
 
 pub returns-in-Ok-Audit-clause-no_engine : goal.returns-in-Ok-Audit-clause-no_engine
 returns-in-Ok-Audit-clause-no_engine g c plain =
     (c.audit_files.ensures.plain (map string_bytes c.args.words.now.items) (c.in-Ok-Audit.ensures.command ∙ ap (λ (x : Command). Some x) c.in-Ok-Audit.field-0-is), refl, refl, refl)
+
+pub returns-in-Ok-Audit-clause-later : goal.returns-in-Ok-Audit-clause-later
+returns-in-Ok-Audit-clause-later g c = IsLater-refl _
+
+pub returns-in-Err-Usage-clause-later : goal.returns-in-Err-Usage-clause-later
+returns-in-Err-Usage-clause-later g c = IsLater-refl _
+
+pub returns-in-Err-Memory-clause-later : goal.returns-in-Err-Memory-clause-later
+returns-in-Err-Memory-clause-later g c = IsLater-refl _
+
+pub tap_files-requires : goal.tap_files-requires
+tap_files-requires g c =
+    let low = tap_tick (map string_bytes c.args.words.now.items) c.in-Ok-Tap.net c.in-Ok-Tap.stream c.in-Ok-Tap.tick c.in-Ok-Tap.history c.in-Ok-Tap.query
+    (c.in-Ok-Tap.ensures.command ∙ ap (λ (x : Command). Some x) c.in-Ok-Tap.field-0-is) in
+    let is = c.first_tick-from.ensures in omega (arith, low, is)
+
+pub returns-in-Ok-Tap-clause-ends : goal.returns-in-Ok-Tap-clause-ends
+returns-in-Ok-Tap-clause-ends g c =
+    c.tap_files.ensures.ends (map string_bytes c.args.words.now.items)
+    (c.in-Ok-Tap.tick, c.in-Ok-Tap.history, c.in-Ok-Tap.ensures.command ∙ ap (λ (x : Command). Some x) c.in-Ok-Tap.field-0-is, c.first_tick-from.ensures)

@@ -1,4 +1,5 @@
 use Rattle.std.proofs.Common.{◌≡◌, true, false, refl, ap, sym, ◌∙◌}
+use Rattle.sq_pool.proofs.TrustLemmas.{IsLater-refl}
 use Rattle.sq_top.specs.Commands.{runs_engine}
 use Rattle.sq_top.specs.Views.{replay_of}
 use Rattle.sq_top.proofs.EndLemmas.{driven_cut, driven_ok, prefix_of_run, stopped_ends, whole_of_run}
@@ -24,3 +25,6 @@ returns-in-Err-replay-clause-ends g c words asked =
 
 pub returns-in-Err-replay-clause-disk : goal.returns-in-Err-replay-clause-disk
 returns-in-Err-replay-clause-disk g c refused = let both : true ≡ false = sym refused ∙ c.in-Err-replay.ensures.cut.begun in absurd (cc)
+
+pub returns-in-Err-clause-later : goal.returns-in-Err-clause-later
+returns-in-Err-clause-later g c = IsLater-refl _

@@ -1,4 +1,5 @@
 use Rattle.std.proofs.Common.{◌≡◌, true, false, refl, ap, sym, ◌∙◌}
+use Rattle.sq_pool.proofs.TrustLemmas.{IsLater-refl}
 use Rattle.sq_top.specs.Commands.{runs_engine}
 use Rattle.sq_top.specs.Views.{replay_of}
 use Rattle.sq_top.proofs.EndLemmas.{accepted_made, driven_cut, driven_ok, is_made, prefix_of_made, stopped_ends, stopped_made, whole_of_made}
@@ -23,3 +24,6 @@ returns-in-Err-sum_up-clause-ends g c words told faults taken reads asked =
 
 pub returns-in-Err-sum_up-clause-disk : goal.returns-in-Err-sum_up-clause-disk
 returns-in-Err-sum_up-clause-disk g c refused = let both : true ≡ false = sym refused ∙ c.in-Err-sum_up.ensures.cut.begun in absurd (cc)
+
+pub returns-in-Err-clause-later : goal.returns-in-Err-clause-later
+returns-in-Err-clause-later g c = IsLater-refl _

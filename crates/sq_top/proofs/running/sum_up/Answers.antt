@@ -1,5 +1,6 @@
-use Rattle.std.proofs.Common.{◌≡◌, ◌≤◌, ◌^◌, arith, false, ◌∙◌}
-use Rattle.sq_paged.specs.Fronts.{Tells}
+use Rattle.std.proofs.Common.{◌≡◌, ◌≤◌, ◌^◌, arith, true, false, ◌∙◌}
+use Rattle.sq_pool.specs.Trust.{Tells, known}
+use Rattle.sq_pool.proofs.TrustLemmas.{IsLater-refl, honest-tells}
 use Rattle.sq_top.specs.Views.{replay_of}
 use Rattle.sq_top.specs.declared.Status.TheVariants as status
 use Rattle.sq_top.specs.Causes.{AppendsSuch, BeginsSummary}
@@ -11,6 +12,9 @@ use Rattle.sq_top.proofs.StopLemmas.{lost_cut, lost_stop, lost_unchanged, stop_m
 use Rattle.sq_top.proofs.SummaryLemmas.{summary_cut, summary_ends, summary_waits}
 use Rattle.sq_top.proofs.WritingLemmas.{on_err, on_ok}
 use Rattle.sq_top.proofs.running.sum_up.Goals as goal
+
+pub returns-in-Err-clause-later : goal.returns-in-Err-clause-later
+returns-in-Err-clause-later g c = IsLater-refl _
 
 pub returns-in-Err-clause-err : goal.returns-in-Err-clause-err
 returns-in-Err-clause-err g c told =
@@ -31,7 +35,7 @@ pub returns-in-Ok-count-clause-err : goal.returns-in-Ok-count-clause-err
 returns-in-Ok-count-clause-err g c =
     let r = replayed (replay_of c.args.accepted) in
     let run = c.in-Ok.ensures.run _ c.args.steps.now in
-    if_err_both (λ s. Tells (g.D.PageDisk.pages c.args.disk.now) → AppendsSuch (g.S.Sink.written c.args.out.now) (g.S.Sink.written c.write_summary.new.out) (BeginsSummary c.args.number c.args.rows r s))
+    if_err_both (λ s. Tells (known (g.D.PageDisk.log c.count.new.disk)) → AppendsSuch (g.S.Sink.written c.args.out.now) (g.S.Sink.written c.write_summary.new.out) (BeginsSummary c.args.number c.args.rows r s))
     c.write_summary.result c.write_summary.ensures.err c.write_summary.ensures.alone
     (λ s written alone told. summary_cut c.args.number c.args.rows r c.in-Ok-count.engine (c.in-Ok-count.ensures.network ∙ run.network) c.in-Ok-count.counts _ _
     (c.in-Ok-count.ensures.ok r c.args.steps.now told run) _ _ s written alone)
@@ -61,15 +65,16 @@ returns-in-Err-count-clause-too_much g c told =
     (c.in-Err-count.ensures.err (replayed (replay_of c.args.accepted)) c.args.steps.now told (c.in-Ok.ensures.run _ c.args.steps.now)).too_much
 
 pub returns-in-Err-count-clause-unchanged : goal.returns-in-Err-count-clause-unchanged
-returns-in-Err-count-clause-unchanged g c told =
-    (c.in-Err-count.ensures.err (replayed (replay_of c.args.accepted)) c.args.steps.now told (c.in-Ok.ensures.run _ c.args.steps.now)).unchanged
+returns-in-Err-count-clause-unchanged g c is-honest =
+    let told = honest-tells (g.D.PageDisk.log c.count.new.disk) (c.count.ensures.later.honest ∙ is-honest) in
+    (c.in-Err-count.ensures.err (replayed (replay_of c.args.accepted)) c.args.steps.now told (c.in-Ok.ensures.run _ c.args.steps.now)).unchanged is-honest
 
 pub returns-in-Err-count-clause-cut : goal.returns-in-Err-count-clause-cut
 returns-in-Err-count-clause-cut g c = c.in-Err-count.ensures.cut _ _
 
 pub returns-in-Err-count-clause-stopped : goal.returns-in-Err-count-clause-stopped
 returns-in-Err-count-clause-stopped g c =
-    stop_map _ _ _ _ _ _ c.in-Err-count.status (λ rose. rose) (λ e same. same ∙ (c.in-Ok.ensures.run (g.D.PageDisk.pages c.args.disk.now) c.args.steps.now).network) c.in-Err-count.ensures.stopped
+    stop_map _ _ _ _ _ _ c.in-Err-count.status (λ rose. rose) (λ e same. same ∙ (c.in-Ok.ensures.run (known (g.D.PageDisk.log c.args.disk.now)) c.args.steps.now).network) c.in-Err-count.ensures.stopped
 
 pub returns-in-Ok-count-clause-cut : goal.returns-in-Ok-count-clause-cut
 returns-in-Ok-count-clause-cut g c =
@@ -83,10 +88,10 @@ returns-in-Ok-count-clause-stopped g c =
 
 pub returns-in-Ok-count-clause-unchanged : goal.returns-in-Ok-count-clause-unchanged
 returns-in-Ok-count-clause-unchanged g c =
-    if_err (λ s. Tells (g.D.PageDisk.pages c.args.disk.now) → is_changed s ≡ false) c.write_summary.result c.write_summary.ensures.lost
-    (λ s lost told. lost_unchanged _ _ s lost)
+    if_err (λ s. (g.D.PageDisk.log c.args.disk.now).honest ≡ true → is_changed s ≡ false) c.write_summary.result c.write_summary.ensures.lost
+    (λ s lost is-honest. lost_unchanged _ _ s lost)
 
 pub returns-in-Ok-count-clause-too_much : goal.returns-in-Ok-count-clause-too_much
 returns-in-Ok-count-clause-too_much g c =
-    if_err (λ s. Tells (g.D.PageDisk.pages c.args.disk.now) → s ≡ status.TooMuch → 2 ^ 62 ≤ turns_in (replayed (replay_of c.args.accepted))) c.write_summary.result
+    if_err (λ s. Tells (known (g.D.PageDisk.log c.count.new.disk)) → s ≡ status.TooMuch → 2 ^ 62 ≤ turns_in (replayed (replay_of c.args.accepted))) c.write_summary.result
     c.write_summary.ensures.lost (λ s lost told. not_too_much (2 ^ 62 ≤ turns_in (replayed (replay_of c.args.accepted))) _ _ s lost)

@@ -1,3 +1,4 @@
+use Rattle.sq_pool.specs.Trust.{known}
 use Rattle.sq_queue.specs.Faces.{Together}
 use Rattle.sq_flow.specs.Flows.{measure_of}
 use Rattle.sq_core.specs.Runs.{IsSoundEngine}
@@ -6,7 +7,7 @@ use Rattle.sq_trials.proofs.top.step_all.Given as goal
 abbrev pub invariant-steps : goal.invariant-steps
 invariant-steps g l = record {
   sound : IsSoundEngine l.engine;
-  together : Together l.engine.engine.flow.queues (g.D.PageDisk.pages l.disk);
+  together : Together l.engine.engine.flow.queues (known (g.D.PageDisk.log l.disk));
 }
 
 abbrev pub decreases-steps : goal.decreases-steps

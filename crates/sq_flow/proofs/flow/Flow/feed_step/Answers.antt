@@ -1,7 +1,9 @@
-use Rattle.std.proofs.Common.{◌-◌, length, length-set, refl, sym, ◌∙◌, arith, subst}
+use Rattle.std.proofs.Common.{◌-◌, length, length-set, refl, sym, ◌∙◌, arith, subst, false}
 use Rattle.std.specs.Vec.{with_item}
 use Rattle.std.proofs.lemmas.Option.{slice_get_read, same_Some}
 use Rattle.std.proofs.lemmas.Result.{err_from_is_err_and}
+use Rattle.sq_pool.specs.Trust.{known}
+use Rattle.sq_pool.proofs.TrustLemmas.{honest-tells}
 use Rattle.sq_flow.specs.Takes.{MayBeFed}
 use Rattle.sq_queue.specs.Faces.{items_on}
 use Rattle.sq_flow.proofs.WireLemmas.{arcs-open, comes-from}
@@ -9,17 +11,18 @@ use Rattle.sq_flow.proofs.CauseLemmas.{cause-in, refused-in, too-much-in, queue-
 use Rattle.sq_flow.proofs.FutureLemmas.{slice_get-set_same, slice_get-set_other}
 use Rattle.sq_flow.proofs.Measures.{weighs, open-same}
 use Rattle.sq_flow.proofs.FedFlow.{seat-fine, may-come, runs, own-drops, passes-front, fed-prefix, fed-stepped, fed-touches, costs-none, costs-front, costs-fed, too-much-front}
-use Rattle.sq_flow.proofs.EventLemmas.{below-outputs}
+use Rattle.sq_flow.proofs.EventLemmas.{below-outputs, stays-same}
+use Rattle.sq_flow.proofs.TookLemmas.{fed-sum, operator-took, goes-on}
 use Rattle.sq_flow.proofs.flow.Flow.feed_step.Goals as goal
 
 pub returns-in-Err-clause-strange : goal.returns-in-Err-clause-strange
 returns-in-Err-clause-strange g c =
     let is = slice_get_read c.args.self.now.seats.items _ c.args.actor c.index.result.now refl c.requires.actor_in c.index.ensures in
-    λ told table agrees holds.
-    c.in-Err.ensures.strange told
+    λ honest table agrees holds.
+    c.in-Err.ensures.strange honest
     (λ item more front.
     passes-front _ _ c.args.self.now c.requires.flow c.args.actor c.requires.head.0 c.args.port c.args.arc c.arc-at.result item c.requires.actor_in c.requires.head.1
-    c.index.result.now is c.arc-at.ensures table agrees (items_on c.args.self.now.queues (g.D.PageDisk.pages c.args.disk.now)) holds (c.requires.together.faces told) more front)
+    c.index.result.now is c.arc-at.ensures table agrees (items_on c.args.self.now.queues (known (g.D.PageDisk.log c.args.disk.now))) holds (c.requires.together.faces (honest-tells (g.D.PageDisk.log c.args.disk.now) honest)) more front)
 
 pub feed_seat-requires-clause-is_valid : goal.feed_seat-requires-clause-is_valid
 feed_seat-requires-clause-is_valid g c =
@@ -61,8 +64,8 @@ returns-in_err-give-clause-prefix g c =
     let same = same_Some c.index.result.now c.index_mut.result.now (sym was ∙ is) in
     rw p.1
     (fed-prefix _ _ c.args.self.now c.requires.flow c.args.actor c.requires.head.0 c.args.port c.args.arc c.arc-at.result c.in-Ok.item c.requires.actor_in c.requires.head.1 c.index_mut.result.now is c.arc-at.ensures
-    (g.D.PageDisk.pages c.args.disk.now) (g.D.PageDisk.pages c.take_item.new.disk) c.take_item.new.queues c.feed_seat.new.seat c.feed_seat.new.out.items.items c.feed_seat.new.out.drops.items c.args.events.now.items c.give.new.events.items
-    c.requires.together c.in-Ok.ensures.items c.in-Ok.ensures.others c.in_ok-feed_seat.ensures.fed c.in_err-give.ensures.prefix
+    (known (g.D.PageDisk.log c.args.disk.now)) (known (g.D.PageDisk.log c.take_item.new.disk)) (known (g.D.PageDisk.log c.give.new.disk)) c.take_item.new.queues c.feed_seat.new.seat c.feed_seat.new.out.items.items c.feed_seat.new.out.drops.items c.args.events.now.items c.give.new.events.items
+    c.requires.together c.in-Ok.ensures.later.known c.in_err-give.ensures.later.known c.in-Ok.ensures.items c.in-Ok.ensures.others c.in_ok-feed_seat.ensures.fed c.in_err-give.ensures.prefix
     (subst (λ z. MayBeFed c.arc-at.result c.args.port z.tally.place c.args.self.now.clock c.in-Ok.item) same c.in-Ok.ensures.may_be_fed) c.requires.running c.in_err-give.ensures.drops_prefix)
 
 pub returns-clause-ok : goal.returns-clause-ok
@@ -72,11 +75,11 @@ returns-clause-ok g c =
     let same = same_Some c.index.result.now c.index_mut.result.now (sym was ∙ is) in
     let may = subst (λ z. MayBeFed c.arc-at.result c.args.port z.tally.place c.args.self.now.clock c.in-Ok.item) same c.in-Ok.ensures.may_be_fed in
     fed-stepped _ _ c.args.self.now c.requires.flow c.args.actor c.requires.head.0 c.args.port c.args.arc c.arc-at.result c.in-Ok.item c.requires.actor_in c.requires.head.1 c.index_mut.result.now is c.arc-at.ensures
-    (g.D.PageDisk.pages c.args.disk.now) (g.D.PageDisk.pages c.give.new.disk) (g.D.PageDisk.pages c.take_item.new.disk) c.take_item.new.queues c.give.new.queues _ c.in-Ok-count_item.taken
+    (known (g.D.PageDisk.log c.args.disk.now)) (known (g.D.PageDisk.log c.give.new.disk)) (known (g.D.PageDisk.log c.take_item.new.disk)) c.take_item.new.queues c.give.new.queues _ c.in-Ok-count_item.taken
     c.feed_seat.new.seat c.feed_seat.new.out.items.items c.feed_seat.new.out.drops.items c.args.events.now.items c.give.new.events.items
     c.requires.together
     may
-    c.in-Ok.ensures.ended c.in-Ok.ensures.size c.in-Ok.ensures.items c.in-Ok.ensures.others c.in-Ok.ensures.tells c.in-Ok-count_item.ensures.ok.0 c.in-Ok-count_item.ensures.ok.1
+    c.in-Ok.ensures.ended c.in-Ok.ensures.size c.in-Ok.ensures.frames c.in-Ok.ensures.items c.in-Ok.ensures.others c.in-Ok.ensures.later.known c.in-Ok-count_item.ensures.ok.0 c.in-Ok-count_item.ensures.ok.1
     c.in_ok-feed_seat.ensures.fed
     (slice_get-set_same c.args.self.now.seats.items c.args.actor c.feed_seat.new.seat c.requires.actor_in)
     (λ other ne. slice_get-set_other c.args.self.now.seats.items c.args.actor other c.feed_seat.new.seat ne)
@@ -97,16 +100,16 @@ returns-clause-measure g c =
     omega (arith, same, weight, more, low)
 
 pub returns-in-Err-clause-cost_err : goal.returns-in-Err-clause-cost_err
-returns-in-Err-clause-cost_err g c = costs-none _ _ c.args.self.now c.requires.flow (g.D.PageDisk.pages c.args.disk.now) c.args.self.now.levels c.args.steps.now c.args.steps.now refl
+returns-in-Err-clause-cost_err g c = costs-none _ _ c.args.self.now c.requires.flow (known (g.D.PageDisk.log c.args.disk.now)) (known (g.D.PageDisk.log c.take_item.new.disk)) c.args.self.now.levels c.args.steps.now c.args.steps.now refl
 
 pub returns-in-Err-count_item-clause-cost_err : goal.returns-in-Err-count_item-clause-cost_err
-returns-in-Err-count_item-clause-cost_err g c = costs-none _ _ c.args.self.now c.requires.flow (g.D.PageDisk.pages c.args.disk.now) c.args.self.now.levels c.args.steps.now c.args.steps.now refl
+returns-in-Err-count_item-clause-cost_err g c = costs-none _ _ c.args.self.now c.requires.flow (known (g.D.PageDisk.log c.args.disk.now)) (known (g.D.PageDisk.log c.take_item.new.disk)) c.args.self.now.levels c.args.steps.now c.args.steps.now refl
 
 pub returns-in-Err-count_item-clause-too_much : goal.returns-in-Err-count_item-clause-too_much
 returns-in-Err-count_item-clause-too_much g c =
     let is = slice_get_read c.args.self.now.seats.items _ c.args.actor c.index.result.now refl c.requires.actor_in c.index.ensures in
     too-much-front _ _ c.args.self.now c.requires.flow c.args.actor c.requires.head.0 c.args.port c.args.arc c.arc-at.result c.in-Ok.item c.requires.actor_in c.requires.head.1 c.index.result.now is c.arc-at.ensures
-    (g.D.PageDisk.pages c.args.disk.now) (g.D.PageDisk.pages c.take_item.new.disk) c.take_item.new.queues _ c.in-Err-count_item.e c.requires.together c.in-Ok.ensures.items c.in-Ok.ensures.others
+    (known (g.D.PageDisk.log c.args.disk.now)) (known (g.D.PageDisk.log c.take_item.new.disk)) c.take_item.new.queues _ c.in-Err-count_item.e c.requires.together c.in-Ok.ensures.later.known c.in-Ok.ensures.items c.in-Ok.ensures.others
     c.in-Err-count_item.ensures.too_much c.in-Err-count_item.ensures.few refl refl
 
 pub feed_seat-requires-clause-has_epoch : goal.feed_seat-requires-clause-has_epoch
@@ -118,7 +121,7 @@ feed_seat-requires-clause-has_epoch g c =
 pub returns-in_err-feed_seat-clause-cost_err : goal.returns-in_err-feed_seat-clause-cost_err
 returns-in_err-feed_seat-clause-cost_err g c =
     let p = err_from_is_err_and c.from_residual.result c.from_residual.ensures.1 in
-    rw p.1 (costs-none _ _ c.args.self.now c.requires.flow (g.D.PageDisk.pages c.args.disk.now) c.args.self.now.levels c.args.steps.now c.feed_seat.new.steps c.in_err-feed_seat.ensures.no_cost)
+    rw p.1 (costs-none _ _ c.args.self.now c.requires.flow (known (g.D.PageDisk.log c.args.disk.now)) (known (g.D.PageDisk.log c.take_item.new.disk)) c.args.self.now.levels c.args.steps.now c.feed_seat.new.steps c.in_err-feed_seat.ensures.no_cost)
 
 pub give-requires-clause-joined : goal.give-requires-clause-joined
 give-requires-clause-joined g c = comes-from c.args.self.now.wires (length c.args.self.now.seats.items) c.requires.flow.shaped c.args.actor
@@ -129,14 +132,14 @@ returns-in_err-give-clause-cost_err g c =
     let is = slice_get_read c.args.self.now.seats.items _ c.args.actor c.index_mut.result.now refl c.requires.actor_in c.index_mut.ensures.value in
     rw p.1
     (costs-front _ _ c.args.self.now c.requires.flow c.args.actor c.requires.head.0 c.args.port c.args.arc c.arc-at.result c.in-Ok.item c.requires.actor_in c.requires.head.1 c.index_mut.result.now is c.arc-at.ensures
-    (g.D.PageDisk.pages c.args.disk.now) (g.D.PageDisk.pages c.take_item.new.disk) c.take_item.new.queues c.args.steps.now c.feed_seat.new.steps
-    c.requires.together c.in-Ok.ensures.items c.in-Ok.ensures.others c.in_ok-feed_seat.ensures.cost)
+    (known (g.D.PageDisk.log c.args.disk.now)) (known (g.D.PageDisk.log c.take_item.new.disk)) (known (g.D.PageDisk.log c.give.new.disk)) c.take_item.new.queues c.args.steps.now c.feed_seat.new.steps
+    c.requires.together c.in-Ok.ensures.later.known c.in_err-give.ensures.later.known c.in-Ok.ensures.items c.in-Ok.ensures.others c.in_ok-feed_seat.ensures.cost)
 
 pub returns-clause-touches : goal.returns-clause-touches
 returns-clause-touches g c =
     let is = slice_get_read c.args.self.now.seats.items _ c.args.actor c.index_mut.result.now refl c.requires.actor_in c.index_mut.ensures.value in
     fed-touches _ _ c.args.self.now c.requires.flow c.args.actor c.requires.head.0 c.args.port c.args.arc c.arc-at.result c.in-Ok.item c.requires.actor_in c.requires.head.1 c.index_mut.result.now is c.arc-at.ensures
-    (g.D.PageDisk.pages c.give.new.disk) (g.D.PageDisk.pages c.take_item.new.disk) c.take_item.new.queues c.give.new.queues _ c.in-Ok-count_item.taken c.feed_seat.new.seat c.feed_seat.new.out.items.items
+    (known (g.D.PageDisk.log c.give.new.disk)) (known (g.D.PageDisk.log c.take_item.new.disk)) c.take_item.new.queues c.give.new.queues _ c.in-Ok-count_item.taken c.feed_seat.new.seat c.feed_seat.new.out.items.items
     c.in-Ok.ensures.faces c.in_ok-feed_seat.ensures.fed.open_still
     (slice_get-set_same c.args.self.now.seats.items c.args.actor c.feed_seat.new.seat c.requires.actor_in)
     (λ other ne. slice_get-set_other c.args.self.now.seats.items c.args.actor other c.feed_seat.new.seat ne) c.in_ok-give.ensures.sent
@@ -166,9 +169,27 @@ returns-in_err-give-clause-cause g c =
 pub returns-in_err-give-clause-strange : goal.returns-in_err-give-clause-strange
 returns-in_err-give-clause-strange g c =
     let p = err_from_is_err_and c.from_residual-in_err-give.result c.from_residual-in_err-give.ensures.1 in
-    rw (p.1, p.2) (λ told table agrees holds. c.in_err-give.ensures.told (c.in-Ok.ensures.tells ∙ told))
+    rw (p.1, p.2) (λ honest table agrees holds. c.in_err-give.ensures.honest (c.in-Ok.ensures.later.honest ∙ honest))
 
 pub returns-in_err-give-clause-too_much : goal.returns-in_err-give-clause-too_much
 returns-in_err-give-clause-too_much g c =
     let p = err_from_is_err_and c.from_residual-in_err-give.result c.from_residual-in_err-give.ensures.1 in
-    rw (p.1, p.2) (none-too-much _ _ _ _ _ (counts-none _ _ _ _ c.in_err-give.ensures.cause))
+    rw (p.1, p.2) (none-too-much _ _ _ _ _ _ (counts-none _ _ _ _ c.in_err-give.ensures.cause))
+
+pub returns-in-Err-clause-stay : goal.returns-in-Err-clause-stay
+returns-in-Err-clause-stay g c = stays-same c.args.events.now.items
+
+pub returns-in-Err-count_item-clause-stay : goal.returns-in-Err-count_item-clause-stay
+returns-in-Err-count_item-clause-stay g c = stays-same c.args.events.now.items
+
+pub returns-in_err-feed_seat-clause-stay : goal.returns-in_err-feed_seat-clause-stay
+returns-in_err-feed_seat-clause-stay g c = stays-same c.args.events.now.items
+
+pub returns-clause-took : goal.returns-clause-took
+returns-clause-took g c =
+    let is = slice_get_read c.args.self.now.seats.items _ c.args.actor c.index_mut.result.now refl c.requires.actor_in c.index_mut.ensures.value in
+    let after = slice_get-set_same c.args.self.now.seats.items c.args.actor c.feed_seat.new.seat c.requires.actor_in in
+    operator-took c.args.self.now _ c.args.actor 1 false c.requires.actor_in (length-set c.args.self.now.seats.items c.args.actor c.feed_seat.new.seat)
+    (fed-sum c.args.self.now.wires (length c.args.self.now.seats.items) c.requires.flow.shaped c.args.actor c.requires.actor_in c.args.self.now.queues c.take_item.new.queues c.give.new.queues c.args.port c.args.arc
+    c.requires.head.1.1 c.in-Ok.ensures.popped c.in-Ok.ensures.faces c.in_ok-give.ensures.sent.apart)
+    (goes-on c.args.self.now.over _ _ c.index_mut.result.now c.feed_seat.new.seat is after c.in_ok-feed_seat.ensures.fed.open_still c.requires.running)

@@ -1,19 +1,21 @@
-use Rattle.std.proofs.Common.{ℕ, ◌+◌, ◌-◌, ◌/◌, ◌<◌, length, set, refl, ap, sym, subst, arith}
+use Rattle.std.proofs.Common.{ℕ, ◌+◌, ◌-◌, ◌/◌, ◌<◌, length, set, refl, ap, sym, subst, arith, false}
 use Rattle.std.specs.Vec.{with_item}
 use Rattle.std.proofs.lemmas.Option.{slice_get_read, get_or_from_slice_get}
 use Rattle.std.proofs.lemmas.Result.{err_from_is_err_and}
 use Rattle.sq_road.specs.Levels.{Agrees}
 use Rattle.sq_plan.specs.Shown.{level_for, Ended}
+use Rattle.sq_pool.specs.Trust.{known}
 use Rattle.sq_flow.proofs.WireLemmas.{arcs-open}
 use Rattle.sq_flow.proofs.CauseLemmas.{cause-in, counts-none}
 use Rattle.sq_flow.proofs.ReleasedPlans.{ClosedBefore, mid-len, plans-front, plans-none}
 use Rattle.sq_flow.proofs.ReplayFlow.{replay-open, replay-runs, item-sound, released-stepped, released-touches, lines-stay, count-less}
+use Rattle.sq_flow.proofs.TookLemmas.{replay-took}
 use Rattle.sq_flow.proofs.flow.Flow.release_step.Goals as goal
 
 pub returns-in_err-close_before-clause-prefix : goal.returns-in_err-close_before-clause-prefix
 returns-in_err-close_before-clause-prefix g c =
     let p = err_from_is_err_and c.from_residual.result c.from_residual.ensures.1 in
-    rw p.1 (lines-stay _ (g.D.PageDisk.pages c.args.disk.now) c.args.self.now c.close_before.new.levels c.args.events.now.items c.close_before.new.events.items c.in_err-close_before.ensures.lines c.in_err-close_before.ensures.drops)
+    rw p.1 (lines-stay _ (known (g.D.PageDisk.log c.args.disk.now)) (known (g.D.PageDisk.log c.args.disk.now)) c.args.self.now c.close_before.new.levels c.args.events.now.items c.close_before.new.events.items c.in_err-close_before.ensures.lines c.in_err-close_before.ensures.drops)
 
 pub returns-in_err-close_before-clause-plans : goal.returns-in_err-close_before-clause-plans
 returns-in_err-close_before-clause-plans g c =
@@ -46,7 +48,7 @@ send_one-requires-clause-sound g c =
 pub returns-in_err-send_one-clause-prefix : goal.returns-in_err-send_one-clause-prefix
 returns-in_err-send_one-clause-prefix g c =
     let p = err_from_is_err_and c.from_residual-in_err-send_one.result c.from_residual-in_err-send_one.ensures.1 in
-    rw p.1 (lines-stay _ (g.D.PageDisk.pages c.args.disk.now) c.args.self.now c.close_before.new.levels c.args.events.now.items c.close_before.new.events.items c.in_ok-close_before.ensures.lines c.in_ok-close_before.ensures.drops)
+    rw p.1 (lines-stay _ (known (g.D.PageDisk.log c.args.disk.now)) (known (g.D.PageDisk.log c.send_one.new.disk)) c.args.self.now c.close_before.new.levels c.args.events.now.items c.close_before.new.events.items c.in_ok-close_before.ensures.lines c.in_ok-close_before.ensures.drops)
 
 pub returns-in_err-send_one-clause-plans : goal.returns-in_err-send_one-clause-plans
 returns-in_err-send_one-clause-plans g c =
@@ -105,7 +107,7 @@ returns-clause-ok g c =
     let counted = ap (λ n. set c.close_before.new.counts.items c.args.source (n + 1)) (sym read) in
     released-stepped _ _ c.args.self.now c.requires.flow pos c.args.source c.index_mut.result.now c.first_of-tuple.new.tuples c.first_of-tuple.result c.requires.next at c.first_of-tuple.ensures _ _ _ _ _ did
     (with_item c.args.self.now.sources c.args.source c.first_of-tuple.new.tuples) (with_item c.close_before.new.counts c.args.source (c.index_mut-2.result.now + 1)) refl counted
-    (g.D.PageDisk.pages c.args.disk.now) (g.D.PageDisk.pages c.send_one.new.disk) c.send_one.new.queues c.requires.together (rw (c.none.ensures, c.some.ensures) at c.in_ok-send_one.ensures.sent)
+    (known (g.D.PageDisk.log c.args.disk.now)) (known (g.D.PageDisk.log c.send_one.new.disk)) c.send_one.new.queues c.requires.together (rw (c.none.ensures, c.some.ensures) at c.in_ok-send_one.ensures.sent)
 
 pub returns-clause-touches : goal.returns-clause-touches
 returns-clause-touches g c =
@@ -113,7 +115,7 @@ returns-clause-touches g c =
     let at = slice_get_read sources _ c.args.source c.index_mut.result.now refl c.requires.next.there c.index_mut.ensures.value in
     let pos : 0 < c.args.self.now.levels.epoch = omega (arith, c.epoch.ensures.epoch, c.epoch.ensures.lasts) in
     released-touches _ _ c.args.self.now c.requires.flow pos c.args.source c.index_mut.result.now c.first_of-tuple.new.tuples c.first_of-tuple.result c.requires.next at c.first_of-tuple.ensures
-    (g.D.PageDisk.pages c.args.disk.now) (g.D.PageDisk.pages c.send_one.new.disk) c.send_one.new.queues (with_item c.args.self.now.sources c.args.source c.first_of-tuple.new.tuples) c.close_before.new.planner c.close_before.new.levels
+    (known (g.D.PageDisk.log c.args.disk.now)) (known (g.D.PageDisk.log c.send_one.new.disk)) c.send_one.new.queues (with_item c.args.self.now.sources c.args.source c.first_of-tuple.new.tuples) c.close_before.new.planner c.close_before.new.levels
     (with_item c.close_before.new.counts c.args.source (c.index_mut-2.result.now + 1)) (rw (c.none.ensures, c.some.ensures) at c.in_ok-send_one.ensures.sent)
 
 pub returns-clause-measure : goal.returns-clause-measure
@@ -131,9 +133,17 @@ returns-in_err-send_one-clause-cause g c =
 pub returns-in_err-send_one-clause-strange : goal.returns-in_err-send_one-clause-strange
 returns-in_err-send_one-clause-strange g c =
     let p = err_from_is_err_and c.from_residual-in_err-send_one.result c.from_residual-in_err-send_one.ensures.1 in
-    rw (p.1, p.2) (λ told table agrees holds. c.in_err-send_one.ensures.told told)
+    rw (p.1, p.2) (λ honest table agrees holds. c.in_err-send_one.ensures.honest honest)
 
 pub returns-in_err-send_one-clause-memory : goal.returns-in_err-send_one-clause-memory
 returns-in_err-send_one-clause-memory g c =
     let p = err_from_is_err_and c.from_residual-in_err-send_one.result c.from_residual-in_err-send_one.ensures.1 in
     rw (p.1, p.2) (counts-none _ _ _ _ c.in_err-send_one.ensures.cause)
+
+pub returns-clause-took : goal.returns-clause-took
+returns-clause-took g c =
+    let sources = c.args.self.now.sources.items in
+    let at = slice_get_read sources _ c.args.source c.index_mut.result.now refl c.requires.next.there c.index_mut.ensures.value in
+    let pos : 0 < c.args.self.now.levels.epoch = omega (arith, c.epoch.ensures.epoch, c.epoch.ensures.lasts) in
+    replay-took c.args.self.now _ 1 false refl (count-less sources c.args.source c.index_mut.result.now c.first_of-tuple.new.tuples c.first_of-tuple.result at c.first_of-tuple.ensures)
+    (sym (replay-runs _ _ c.args.self.now c.requires.flow pos c.args.source c.index_mut.result.now c.first_of-tuple.new.tuples c.first_of-tuple.result c.requires.next at c.first_of-tuple.ensures))

@@ -1,14 +1,18 @@
-use Rattle.std.proofs.Common.{◌≡◌, subst, arith, inr}
+use Rattle.std.proofs.Common.{◌≡◌, subst, arith, inr, sym, true, false}
+use Rattle.sq_pool.specs.Trust.{known}
+use Rattle.sq_pool.proofs.TrustLemmas.{honest-tells, IsLater-trans}
 use Rattle.sq_flow.specs.Flows.{Lowers, measure_of}
-use Rattle.sq_flow.specs.Readiness.{IsReady, WaitsOnly}
+use Rattle.sq_flow.specs.Readiness.{IsReady, WaitsOnly, Took, TookBy}
 use Rattle.sq_flow.proofs.StepLemmas.{stepped-both, prefix-after, plans-after, none-strange-after, costs-after, costs-most-after, too-much-after}
 use Rattle.sq_flow.proofs.CauseLemmas.{cause-since}
 use Rattle.sq_flow.proofs.TouchLemmas.{touches-both}
+use Rattle.sq_flow.proofs.EventLemmas.{stays-both}
+use Rattle.sq_flow.proofs.TookLemmas.{took-both, took-last}
 use Rattle.sq_flow.proofs.flow.Flow.train.Goals as goal
 
 pub returns-in-Err-clause-prefix : goal.returns-in-Err-clause-prefix
 returns-in-Err-clause-prefix g c =
-    prefix-after _ _ _ _ _ _ _ _ c.steps.invariant.stepped c.one_step.new.self.levels c.one_step.new.events.items c.in-Err.ensures.closes c.in-Err.ensures.prefix
+    prefix-after _ _ _ _ _ _ _ _ c.steps.invariant.stepped (known (g.D.PageDisk.log c.one_step.new.disk)) c.one_step.new.self.levels c.one_step.new.events.items c.in-Err.ensures.later.known c.in-Err.ensures.closes c.in-Err.ensures.prefix
 
 pub returns-in-Err-clause-plans : goal.returns-in-Err-clause-plans
 returns-in-Err-clause-plans g c = plans-after _ _ _ _ _ _ _ _ c.steps.invariant.stepped c.one_step.new.self.levels c.one_step.new.events.items c.in-Err.ensures.plans
@@ -17,7 +21,9 @@ pub returns-in-Err-clause-closes : goal.returns-in-Err-clause-closes
 returns-in-Err-clause-closes g c = λ table agrees. c.steps.invariant.stepped.closes table (c.in-Err.ensures.closes table agrees)
 
 pub returns-in-Err-clause-strange : goal.returns-in-Err-clause-strange
-returns-in-Err-clause-strange g c = none-strange-after _ _ _ _ _ _ _ _ c.steps.invariant.stepped c.one_step.new.self.levels c.in-Err.e c.in-Err.ensures.closes c.in-Err.ensures.strange
+returns-in-Err-clause-strange g c =
+    none-strange-after _ _ _ _ _ _ _ _ c.steps.invariant.stepped (g.D.PageDisk.log c.args.disk.now).honest (g.D.PageDisk.log c.steps.disk).honest c.one_step.new.self.levels c.in-Err.e
+    c.steps.invariant.later.honest (honest-tells (g.D.PageDisk.log c.steps.disk)) c.in-Err.ensures.closes c.in-Err.ensures.strange
 
 pub returns-in-Err-clause-cause : goal.returns-in-Err-clause-cause
 returns-in-Err-clause-cause g c =
@@ -25,10 +31,11 @@ returns-in-Err-clause-cause g c =
 
 pub returns-in-Err-clause-cost_err : goal.returns-in-Err-clause-cost_err
 returns-in-Err-clause-cost_err g c =
-    costs-most-after _ _ _ _ _ _ _ _ c.steps.invariant.stepped c.one_step.new.self.levels c.args.steps.now c.steps.steps c.one_step.new.steps c.in-Err.ensures.closes c.steps.invariant.cost c.in-Err.ensures.cost_err
+    costs-most-after _ _ _ _ _ _ _ _ c.steps.invariant.stepped (known (g.D.PageDisk.log c.one_step.new.disk)) c.one_step.new.self.levels c.args.steps.now c.steps.steps c.one_step.new.steps c.in-Err.ensures.later.known c.in-Err.ensures.closes c.steps.invariant.cost c.in-Err.ensures.cost_err
 
 pub returns-in-Err-clause-too_much : goal.returns-in-Err-clause-too_much
-returns-in-Err-clause-too_much g c = too-much-after _ _ _ _ _ _ _ _ c.steps.invariant.stepped c.one_step.new.self c.in-Err.e c.in-Err.ensures.closes c.in-Err.ensures.too_much
+returns-in-Err-clause-too_much g c =
+    too-much-after _ _ _ _ _ _ _ _ c.steps.invariant.stepped (known (g.D.PageDisk.log c.one_step.new.disk)) c.one_step.new.self c.in-Err.e c.in-Err.ensures.later.known c.in-Err.ensures.closes c.in-Err.ensures.too_much
 
 pub returns-in-Waits-clause-ok : goal.returns-in-Waits-clause-ok
 returns-in-Waits-clause-ok g c = stepped-both _ _ _ _ _ _ _ _ c.steps.invariant.stepped _ _ _ c.in-Ok.ensures.ok
@@ -71,6 +78,30 @@ steps-preserved g c =
       falls = omega (arith, falls, less);
       begun = λ none. absurd (omega (arith, none));
       none = c.in-Ok.ensures.none;
+      stay = stays-both _ _ _ c.steps.invariant.stay c.in-Ok.ensures.stay;
+      took = λ running.
+          took-both c.args.actor c.args.self.now c.steps.self c.one_step.new.self c.steps.fed 1 false false (c.steps.invariant.took running)
+          (subst (λ d. TookBy c.args.actor d c.steps.self c.one_step.new.self) c.in-Fed.is c.in-Ok.ensures.took);
       few = omega arith;
+      later = IsLater-trans _ _ _ c.steps.invariant.later c.in-Ok.ensures.later;
       faults = omega (arith, c.steps.invariant.faults, c.in-Ok.ensures.faults);
     }
+
+pub returns-in-Err-clause-stay : goal.returns-in-Err-clause-stay
+returns-in-Err-clause-stay g c = stays-both _ _ _ c.steps.invariant.stay c.in-Err.ensures.stay
+
+pub returns-in-Waits-clause-stay : goal.returns-in-Waits-clause-stay
+returns-in-Waits-clause-stay g c = stays-both _ _ _ c.steps.invariant.stay c.in-Ok.ensures.stay
+
+pub returns-in-Finished-clause-stay : goal.returns-in-Finished-clause-stay
+returns-in-Finished-clause-stay g c = stays-both _ _ _ c.steps.invariant.stay c.in-Ok.ensures.stay
+
+pub returns-in-Waits-clause-took : goal.returns-in-Waits-clause-took
+returns-in-Waits-clause-took g c =
+    let stays = subst (λ d. WaitsOnly d (c.one_step.new.self ≡ c.steps.self)) c.in-Waits.is c.in-Ok.ensures.stays in
+    λ running. subst (Took c.args.actor c.steps.fed false c.args.self.now) (sym stays) (c.steps.invariant.took running)
+
+pub returns-in-Finished-clause-took : goal.returns-in-Finished-clause-took
+returns-in-Finished-clause-took g c =
+    let last = subst (λ d. TookBy c.args.actor d c.steps.self c.one_step.new.self) c.in-Finished.is c.in-Ok.ensures.took in
+    λ running. took-last c.args.actor c.args.self.now c.steps.self c.one_step.new.self c.steps.fed false true (c.steps.invariant.took running) last

@@ -1,4 +1,5 @@
 use Rattle.std.proofs.Common.{sym, ap, ◌∙◌, arith}
+use Rattle.sq_pool.specs.Trust.{known}
 use Rattle.sq_pool.specs.Slots.{without_page}
 use Rattle.sq_pool.specs.Pools.{Pooled, frame_at, filled, CameBack}
 use Rattle.sq_pool.proofs.PoolLemmas.{held-inside, touched, out-of-frames, not-held, length-touched}
@@ -21,7 +22,7 @@ fetch-requires-clause-out g c = rw (← c.self.view_is) (out-of-frames c.self.in
 
 pub returns-in-Resident-clause-map : goal.returns-in-Resident-clause-map
 returns-in-Resident-clause-map g c =
-    rw (c.touch.ensures, ← c.self.view_is) (keeps-touch c.self.inside.slots c.self.inside.frames (g.D.PageDisk.pages c.args.disk.now) c.args.page c.in-Resident.frame c.in-Resident.ensures.frame)
+    rw (c.touch.ensures, ← c.self.view_is) (keeps-touch c.self.inside.slots c.self.inside.frames (known (g.D.PageDisk.log c.args.disk.now)) c.args.page c.in-Resident.frame c.in-Resident.ensures.frame)
 
 pub returns-in-Resident-clause-last : goal.returns-in-Resident-clause-last
 returns-in-Resident-clause-last g c = (
@@ -46,7 +47,7 @@ returns-in_ok-fetch-in-Spilled-clause-agree g c =
 
 pub returns-in-Resident-clause-pool : goal.returns-in-Resident-clause-pool
 returns-in-Resident-clause-pool g c =
-    rw (c.touch.ensures, ← c.self.view_is) (touches c.self.inside.slots c.self.inside.frames (g.D.PageDisk.pages c.args.disk.now) c.args.page c.in-Resident.frame c.in-Resident.ensures.frame)
+    rw (c.touch.ensures, ← c.self.view_is) (touches c.self.inside.slots c.self.inside.frames (known (g.D.PageDisk.log c.args.disk.now)) c.args.page c.in-Resident.frame c.in-Resident.ensures.frame)
 
 pub returns-in_ok-fetch-in-Spilled-clause-pool : goal.returns-in_ok-fetch-in-Spilled-clause-pool
 returns-in_ok-fetch-in-Spilled-clause-pool g c = CameBack c.in-Spilled.kept.0 (rw (← c.self.view_is) (out-of-frames c.self.inside.slots c.self.inside.frames c.args.page c.in-Spilled.ensures.frame)) (rw (← c.self.view_is) c.in-Spilled.ensures.kept) c.in_ok-fetch-in-Spilled.ensures.ok

@@ -1,8 +1,9 @@
 use Rattle.std.proofs.Common.{true, false, ◌≡◌, ℕ, List, Option, Some, refl, sym, ap, ◌∙◌}
 use Rattle.sha2.specs.Sha256.{sha256}
+use Rattle.sq_pool.specs.Trust.{known}
 use Rattle.sq_pool.specs.Pools.{Pooled, bytes_in, with_bytes}
 use Rattle.sq_pool.proofs.PoolLemmas.{is-some}
-use Rattle.sq_pool.proofs.MapLemmas.{room-out, room-told, holds_page, same_digest, room-tells, is-told, written, loaded-bytes}
+use Rattle.sq_pool.proofs.MapLemmas.{room-out, room-told, holds_page, same_digest, came_back, stays_known, written, loaded-bytes}
 use Rattle.sq_pool.proofs.pool.Pool.fetch.Goals as goal
 
 pub open_frame-requires-clause-out : goal.open_frame-requires-clause-out
@@ -15,7 +16,7 @@ page_mut-requires g c =
 
 pub get-requires-clause-held : goal.get-requires-clause-held
 get-requires-clause-held g c =
-    holds_page _ c.args.page c.args.kept.0 (room-told _ _ _ _ c.args.page c.args.kept.0 c.in_ok-make_room.ensures.ok c.requires.agree c.requires.out c.requires.kept)
+    holds_page (g.D.PageDisk.log c.make_room.new.disk) c.args.page c.args.kept.0 (room-told _ _ _ _ c.args.page c.args.kept.0 c.in_ok-make_room.ensures.ok c.requires.agree c.requires.out c.requires.kept)
 
 pub page-requires : goal.page-requires
 page-requires g c =
@@ -27,18 +28,17 @@ page-requires g c =
 got_bytes : {o : Option (List ℕ)} (a b : List ℕ) → o ≡ Some a → o ≡ Some b → a ≡ b
 got_bytes {o} a b e f = let same : Some a ≡ Some b = sym e ∙ f in cc
 
-pub returns-then-not-are_same-clause-told : goal.returns-then-not-are_same-clause-told
-returns-then-not-are_same-clause-told g c =
+pub returns-then-not-are_same-clause-honest : goal.returns-then-not-are_same-clause-honest
+returns-then-not-are_same-clause-honest g c = λ honest.
     let mid = c.make_room.new.self in
     let out = room-out _ _ _ _ c.args.page c.in_ok-make_room.ensures.ok c.requires.out in
     let now = ap (λ (x : Pooled). record x { resident = with_bytes c.args.page c.get.new.into x.resident }) c.open_frame.ensures.1 ∙ written mid c.args.page c.open_frame.ensures.0 c.get.new.into out in
     let read = got_bytes c.page.result.now c.get.new.into c.page.ensures.value (ap (λ (x : Pooled). bytes_in c.args.page x.resident) now ∙ loaded-bytes mid c.args.page c.get.new.into out) in
-    is-told (g.D.PageDisk.pages c.args.disk.now) (λ t.
-    let digest = same_digest _ c.args.page c.args.kept.0 c.get.new.into (room-told _ _ _ _ c.args.page c.args.kept.0 c.in_ok-make_room.ensures.ok c.requires.agree c.requires.out c.requires.kept) c.in-Ok.ensures.ok
-    (room-tells _ _ _ _ c.in_ok-make_room.ensures.ok ∙ t) in
+    let still = c.make_room.ensures.later.honest ∙ honest in
+    let digest = same_digest (g.D.PageDisk.log c.make_room.new.disk) c.args.page c.args.kept.0 c.get.new.into
+    (room-told _ _ _ _ c.args.page c.args.kept.0 c.in_ok-make_room.ensures.ok c.requires.agree c.requires.out c.requires.kept) still (c.in-Ok.ensures.honest still) in
     let same : c.args.kept.0 ≡ c.digest_of-got.result.0 = sym digest ∙ ap sha256 (sym read) ∙ sym c.digest_of-got.ensures in
-    let yes_same = c.are_same.ensures.1 same in
-    absurd (true_false (sym yes_same ∙ c.if-not-are_same.true)))
+    absurd (true_false (sym (c.are_same.ensures.1 same) ∙ c.if-not-are_same.true))
   where
     true_false : true ≡ false → ⊥
     true_false e = cc
@@ -56,11 +56,16 @@ returns-clause-ok g c =
     let out = room-out _ _ _ _ c.args.page c.in_ok-make_room.ensures.ok c.requires.out in
     let now = ap (λ (x : Pooled). record x { resident = with_bytes c.args.page c.get.new.into x.resident }) c.open_frame.ensures.1 ∙ written mid c.args.page c.open_frame.ensures.0 c.get.new.into out in
     let read = got_bytes c.page.result.now c.get.new.into c.page.ensures.value (ap (λ (x : Pooled). bytes_in c.args.page x.resident) now ∙ loaded-bytes mid c.args.page c.get.new.into out) in
+    let same = ap sha256 (sym read) ∙ sym c.digest_of-got.ensures ∙ sym (c.are_same.ensures.0 c.if-not-are_same.false) in
+    let before = g.D.PageDisk.log c.make_room.new.disk in
     record {
       mid = mid;
-      room = rw c.in-Ok.ensures.pages c.in_ok-make_room.ensures.ok;
+      between = known before;
+      room = c.in_ok-make_room.ensures.ok;
+      stays = rw c.in-Ok.ensures.ok (stays_known before c.args.page c.get.new.into);
       bytes = c.get.new.into;
-      same = ap sha256 (sym read) ∙ sym c.digest_of-got.ensures ∙ sym (c.are_same.ensures.0 c.if-not-are_same.false);
-      disk = rw c.in-Ok.ensures.pages c.in-Ok.ensures.ok;
+      same = same;
+      disk = rw c.in-Ok.ensures.ok (came_back before c.args.page c.args.kept.0 c.get.new.into
+          (room-told _ _ _ _ c.args.page c.args.kept.0 c.in_ok-make_room.ensures.ok c.requires.agree c.requires.out c.requires.kept) c.in-Ok.ensures.honest same);
       pool = now;
     }

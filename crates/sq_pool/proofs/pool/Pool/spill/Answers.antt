@@ -1,9 +1,10 @@
 use Rattle.std.proofs.Common.{sym, ap, ◌∙◌, arith}
-use Rattle.sq_outside.specs.Disks.{with_page}
+use Rattle.sq_pool.specs.Trust.{known, pages_with}
 use Rattle.sq_pool.specs.Slots.{without_page}
 use Rattle.sq_pool.specs.Pools.{frame_at}
 use Rattle.sha2.specs.Sha256.{sha256}
 use Rattle.sq_pool.proofs.PoolLemmas.{first-frame, first-filled, length-without_page, spilled, length-filled}
+use Rattle.sq_pool.proofs.TrustLemmas.{known-put}
 use Rattle.sq_pool.proofs.pool.Pool.spill.Goals as goal
 
 pub frame-bytes-requires : goal.frame-bytes-requires
@@ -28,7 +29,7 @@ returns-in-Ok-clause-ok g c =
       oldest = first-filled c.self.inside.frames c.self.inside.slots.order (c.in-Some.page, c.in-Some.frame) (sym c.in-Some.ensures);
       inside = (c.sound.ensures.own c.in-Some.page c.in-Some.frame (first-frame c.self.inside.slots.order (c.in-Some.page, c.in-Some.frame) (sym c.in-Some.ensures)).0).1;
       pool = spilled c.self.inside.slots c.self.inside.frames (c.in-Some.page, c.in-Some.frame) c.digest_of-digest.result.0 (c.digest_of-digest.ensures ∙ ap sha256 c.frame-bytes.ensures.value);
-      disk = c.in-Ok.ensures.ok ∙ ap (with_page (g.D.PageDisk.pages c.args.disk.now) c.in-Some.page) c.frame-bytes.ensures.value;
+      disk = ap known c.in-Ok.ensures.ok ∙ known-put (g.D.PageDisk.log c.args.disk.now) c.in-Some.page c.frame-bytes.result.now ∙ ap (pages_with (known (g.D.PageDisk.log c.args.disk.now)) c.in-Some.page) c.frame-bytes.ensures.value;
     })
 
 pub returns-in-Ok-clause-room : goal.returns-in-Ok-clause-room

@@ -1,0 +1,125 @@
+use Rattle.std.proofs.Common.{ℕ, ◌+◌, ◌-◌, ◌<◌, ◌≤◌, ◌++◌, subst, ap, ap₂, sym, ◌∙◌, append_assoc, arith}
+use Rattle.std.proofs.lemmas.Result.{on_ok_weaker, on_err_weaker}
+use Rattle.std.specs.List.{AllByRecursion, flat_map, range_with_len}
+use Rattle.sq_value.specs.Lists.{IsPrefixOf}
+use Rattle.sq_aggfn.specs.Windows.{start_of}
+use Rattle.sq_aggfn.proofs.StartLemmas.{starts_rise}
+use Rattle.sq_oper.proofs.GivenLemmas.{OnErr-from, IsPrefixOf-trans, IsPrefixOf-longer}
+use Rattle.sq_oper.proofs.StreamLemmas.{at_zero-append}
+use Rattle.sq_oper.specs.Given.{given}
+use Rattle.sq_oper.specs.Streams.{at_zero}
+use Rattle.sq_pane.specs.States.{states_of}
+use Rattle.sq_agg.specs.Held.{Bounds, IsSoundMark, bound_for, bounds_of, closed_at, due_before, ended, marks_from}
+use Rattle.sq_agg.proofs.DueLemmas.{closed_twice, All_from}
+use Rattle.sq_agg.proofs.EndedLemmas.{ended_same, next_windows, no_windows, window_first}
+use Rattle.sq_agg.proofs.FeedLemmas.{closed_bound}
+use Rattle.sq_agg.proofs.ending.give_windows.Goals as goal
+
+pub loop-k-preserved : goal.loop-k-preserved
+loop-k-preserved g c =
+    let p = c.args.panes.now in
+    let w = p.window in
+    let moves = c.requires.window.moves in
+    let none = g.F.Fold.none p.fold in
+    let joined = g.F.Fold.joined p.fold in
+    let told = g.F.Fold.told p.fold in
+    let es = states_of p.held.entries in
+    let first = bounds_of c.args.waiting.now in
+    let one = ended none joined w p.width first es in
+    let k : ℕ = c.loop-k.k in
+    let end : ℕ = c.args.end in
+    let mid : ℕ = c.args.mid in
+    let at : ℕ = start_of w k + 1 in
+    let x = bounds_of c.loop-k.waiting in
+    let out = c.loop-k.out.items.items in
+    let lt : k < end = c.loop-k-test.true in
+    let inv = c.loop-k.invariant in
+    let e = c.in_ok-give_window.ensures in
+    let before = c.requires.before k lt in
+    let same = ended_same none joined w p.width x first es k (inv.allowed k (omega arith)) in
+    let rest = flat_map one (range_with_len (k + 1) (end - (k + 1))) in
+    let now = due_before told at x.waiting (one k) in
+    let later = due_before told mid (marks_from at x.waiting) rest in
+    let all = ap (due_before told mid x.waiting) (next_windows one k end lt) ∙ window_first none joined w moves p.width first es told mid k (end - (k + 1)) before x.waiting in
+    record {
+      given = λ q.
+          ap (λ l. l ++ at_zero q (due_before told mid (bounds_of c.give_window.new.waiting).waiting rest)) (e.given q)
+          ∙ ap₂ (λ (y : Bounds) l. (given q out ++ at_zero q (due_before told at x.waiting l)) ++ at_zero q (due_before told mid y.waiting rest)) e.bounds same
+          ∙ append_assoc (given q out) (at_zero q now) (at_zero q later)
+          ∙ ap (λ l. given q out ++ l) (sym (at_zero-append q now later) ∙ ap (at_zero q) (sym all))
+          ∙ inv.given q;
+      none = e.none;
+      closed = ap (closed_at mid) e.bounds ∙ closed_twice mid at (omega (arith, before)) x ∙ inv.closed;
+      allowed = λ j lo.
+          let rise = starts_rise w moves k j (omega (arith, lo)) in
+          ap (λ (y : Bounds). bound_for y (start_of w j)) e.bounds ∙ sym (closed_bound (start_of w j) at (omega (arith, rise)) x) ∙ inv.allowed j (omega (arith, lo));
+      marks = subst (λ (y : Bounds). AllByRecursion IsSoundMark y.waiting) (sym e.bounds) (All_from IsSoundMark at x.waiting inv.marks);
+      sound = λ h. e.sound (inv.sound h);
+      extends = IsPrefixOf-trans _ _ _ inv.extends e.extends;
+      drops = e.drops ∙ inv.drops;
+    }
+
+pub returns-in_err-give_window-clause-prefix : goal.returns-in_err-give_window-clause-prefix
+returns-in_err-give_window-clause-prefix g c =
+    let p = c.args.panes.now in
+    let w = p.window in
+    let moves = c.requires.window.moves in
+    let none = g.F.Fold.none p.fold in
+    let joined = g.F.Fold.joined p.fold in
+    let told = g.F.Fold.told p.fold in
+    let es = states_of p.held.entries in
+    let first = bounds_of c.args.waiting.now in
+    let one = ended none joined w p.width first es in
+    let k : ℕ = c.loop-k.k in
+    let end : ℕ = c.args.end in
+    let mid : ℕ = c.args.mid in
+    let at : ℕ = start_of w k + 1 in
+    let x = bounds_of c.loop-k.waiting in
+    let out = c.loop-k.out.items.items in
+    let lt : k < end = c.loop-k-test.true in
+    let inv = c.loop-k.invariant in
+    let before = c.requires.before k lt in
+    let same = ended_same none joined w p.width x first es k (inv.allowed k (omega arith)) in
+    let rest = flat_map one (range_with_len (k + 1) (end - (k + 1))) in
+    let now = due_before told at x.waiting (one k) in
+    let later = due_before told mid (marks_from at x.waiting) rest in
+    let all = ap (due_before told mid x.waiting) (next_windows one k end lt) ∙ window_first none joined w moves p.width first es told mid k (end - (k + 1)) before x.waiting in
+    OnErr-from c.from_residual.result (λ q.
+    let gave = c.give_window.new.out.items.items in
+    subst (IsPrefixOf (given q gave)) (ap (λ l. given q out ++ l) (sym (at_zero-append q now later) ∙ ap (at_zero q) (sym all)) ∙ inv.given q)
+    (IsPrefixOf-longer (given q gave) (given q out) (at_zero q now) (at_zero q later)
+    (subst (λ l. IsPrefixOf (given q gave) (given q out ++ at_zero q (due_before told at x.waiting l))) same (c.in_err-give_window.ensures.prefix q))))
+
+pub returns-in_err-give_window-clause-extends : goal.returns-in_err-give_window-clause-extends
+returns-in_err-give_window-clause-extends g c = IsPrefixOf-trans _ _ _ c.loop-k.invariant.extends c.give_window.ensures.extends
+
+pub returns-clause-bounds : goal.returns-clause-bounds
+returns-clause-bounds g c = on_ok_weaker c.give_before.result (λ e. e ∙ c.loop-k.invariant.closed) c.give_before.ensures.bounds
+
+pub returns-clause-given : goal.returns-clause-given
+returns-clause-given g c =
+    let p = c.args.panes.now in
+    let one = ended (g.F.Fold.none p.fold) (g.F.Fold.joined p.fold) p.window p.width (bounds_of c.args.waiting.now) (states_of p.held.entries) in
+    let k : ℕ = c.loop-k.k in
+    let end : ℕ = c.args.end in
+    let far : end ≤ k = omega arith in
+    let over = c.loop-k.invariant.none ∙ sym (no_windows one k end far) in
+    on_ok_weaker c.give_before.result
+    (λ e q. e q ∙ ap (λ l. given q c.loop-k.out.items.items ++ at_zero q (due_before (g.F.Fold.told p.fold) c.args.mid (bounds_of c.loop-k.waiting).waiting l)) over ∙ c.loop-k.invariant.given q)
+    c.give_before.ensures.given
+
+pub returns-clause-prefix : goal.returns-clause-prefix
+returns-clause-prefix g c =
+    let p = c.args.panes.now in
+    let one = ended (g.F.Fold.none p.fold) (g.F.Fold.joined p.fold) p.window p.width (bounds_of c.args.waiting.now) (states_of p.held.entries) in
+    let k : ℕ = c.loop-k.k in
+    let end : ℕ = c.args.end in
+    let far : end ≤ k = omega arith in
+    let over = c.loop-k.invariant.none ∙ sym (no_windows one k end far) in
+    on_err_weaker c.give_before.result
+    (λ e q. subst (IsPrefixOf (given q c.give_before.new.out.items.items))
+    (ap (λ l. given q c.loop-k.out.items.items ++ at_zero q (due_before (g.F.Fold.told p.fold) c.args.mid (bounds_of c.loop-k.waiting).waiting l)) over ∙ c.loop-k.invariant.given q) (e q))
+    c.give_before.ensures.prefix
+
+pub returns-clause-extends : goal.returns-clause-extends
+returns-clause-extends g c = IsPrefixOf-trans _ _ _ c.loop-k.invariant.extends c.give_before.ensures.extends

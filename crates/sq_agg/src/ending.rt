@@ -1,0 +1,168 @@
+//! Giving the windows that end, one after another: only one window's groups are held for it at a time.
+
+ghost use Rattle.std.specs.Prelude.{◌≡◌, ℕ, ◌+◌, ◌-◌, ◌*◌, ◌^◌, ◌<◌, ◌≤◌, ◌++◌, [], OnOk, OnErr};
+ghost use Rattle.std.specs.List.{AllByRecursion, flat_map, range_with_len};
+ghost use Rattle.sq_value.specs.Lists.{IsPrefixOf};
+ghost use Rattle.sq_aggfn.specs.Windows.{IsWindow, start_of};
+ghost use Rattle.sq_oper.specs.Given.{given, ItemsSound};
+ghost use Rattle.sq_oper.specs.Streams.{at_zero};
+ghost use Rattle.sq_pane.specs.Panes.{shift_of, total, AllAreMade};
+ghost use Rattle.sq_pane.specs.States.{states_of};
+ghost use Rattle.sq_agg.specs.Positions.{open_at};
+ghost use Rattle.sq_agg.specs.Held.{FitsResult, IsFirstEnd, IsSoundMark, MarksWait, bounds_of, closed_at, due_before, ended, folding_of, told_open};
+
+use crate::held::{Held, give_before};
+use crate::waiting::Waiting;
+use crate::windows::{filled_before, push_window};
+use sq_aggfn::Fold;
+use sq_oper::Outs;
+use sq_pane::Panes;
+use std::alloc::AllocError;
+use std::collections::VecDeque;
+
+/// Gives the results of a window, if the marks allow it, behind all marks up to its start.
+fn give_window<F: Fold + Drop>(
+    panes: &Panes<F>,
+    waiting: &mut Waiting,
+    k: u64,
+    due: &mut Held<F::State>,
+    out: &mut Outs,
+) -> Result<(), AllocError>
+    requires window { IsWindow panes.now.window }
+    requires wide { 1 ≤ panes.now.width }
+    requires narrow { panes.now.width ≤ panes.now.window.size }
+    requires tick { start_of panes.now.window k < 2 ^ 40 }
+    requires ticks { AllByRecursion (λ e. e.0.0 * panes.now.width < 2 ^ 64) (states_of panes.now.held.entries) }
+    requires made { AllAreMade (F.made panes.now.fold) (states_of panes.now.held.entries) }
+    requires few { total (F.number panes.now.fold) (states_of panes.now.held.entries) < 2 ^ 62 }
+    requires fit { AllByRecursion (λ e. FitsResult (F.width panes.now.fold) e.0.1) (states_of panes.now.held.entries) }
+    requires marks { AllByRecursion IsSoundMark (bounds_of waiting.old).waiting }
+    requires none { due.old.items ≡ [] }
+    ensures none { OnOk result (due.new.items ≡ []) }
+    ensures bounds { OnOk result (bounds_of waiting.new ≡ closed_at (start_of panes.now.window k + 1) (bounds_of waiting.old)) }
+    ensures given { OnOk result ((q : ℕ) → given q out.new.items.items
+        ≡ given q out.old.items.items ++ at_zero q (due_before (F.told panes.now.fold) (start_of panes.now.window k + 1) (bounds_of waiting.old).waiting
+        (ended (F.none panes.now.fold) (F.joined panes.now.fold) panes.now.window panes.now.width (bounds_of waiting.old) (states_of panes.now.held.entries) k))) }
+    ensures prefix { OnErr result ((q : ℕ) → IsPrefixOf (given q out.new.items.items)
+        (given q out.old.items.items ++ at_zero q (due_before (F.told panes.now.fold) (start_of panes.now.window k + 1) (bounds_of waiting.old).waiting
+        (ended (F.none panes.now.fold) (F.joined panes.now.fold) panes.now.window panes.now.width (bounds_of waiting.old) (states_of panes.now.held.entries) k)))) }
+    ensures sound { ItemsSound out.old.items.items → ItemsSound out.new.items.items }
+    ensures extends { IsPrefixOf out.old.items.items out.new.items.items }
+    ensures drops { out.new.drops.items ≡ out.old.drops.items }
+{
+    push_window(panes, waiting, k, due)?;
+    let start = panes.window.start_of(k);
+    give_before(&panes.fold, due, waiting, start + 1, out)
+}
+
+/// Gives the results of some windows that begin before a tick, and all marks before it, by time, a mark first.
+fn give_windows<F: Fold + Drop>(
+    panes: &Panes<F>,
+    waiting: &mut Waiting,
+    from: u64,
+    end: u64,
+    mid: u64,
+    out: &mut Outs,
+) -> Result<(), AllocError>
+    requires window { IsWindow panes.now.window }
+    requires wide { 1 ≤ panes.now.width }
+    requires narrow { panes.now.width ≤ panes.now.window.size }
+    requires tick { (k : ℕ) → k < end → start_of panes.now.window k < 2 ^ 40 }
+    requires before { (k : ℕ) → k < end → start_of panes.now.window k < mid }
+    requires ticks { AllByRecursion (λ e. e.0.0 * panes.now.width < 2 ^ 64) (states_of panes.now.held.entries) }
+    requires made { AllAreMade (F.made panes.now.fold) (states_of panes.now.held.entries) }
+    requires few { total (F.number panes.now.fold) (states_of panes.now.held.entries) < 2 ^ 62 }
+    requires fit { AllByRecursion (λ e. FitsResult (F.width panes.now.fold) e.0.1) (states_of panes.now.held.entries) }
+    requires marks { AllByRecursion IsSoundMark (bounds_of waiting.old).waiting }
+    ensures bounds { OnOk result (bounds_of waiting.new ≡ closed_at mid (bounds_of waiting.old)) }
+    ensures given { OnOk result ((q : ℕ) → given q out.new.items.items
+        ≡ given q out.old.items.items ++ at_zero q (due_before (F.told panes.now.fold) mid (bounds_of waiting.old).waiting
+        (flat_map (ended (F.none panes.now.fold) (F.joined panes.now.fold) panes.now.window panes.now.width (bounds_of waiting.old) (states_of panes.now.held.entries)) (range_with_len from (end - from))))) }
+    ensures prefix { OnErr result ((q : ℕ) → IsPrefixOf (given q out.new.items.items)
+        (given q out.old.items.items ++ at_zero q (due_before (F.told panes.now.fold) mid (bounds_of waiting.old).waiting
+        (flat_map (ended (F.none panes.now.fold) (F.joined panes.now.fold) panes.now.window panes.now.width (bounds_of waiting.old) (states_of panes.now.held.entries)) (range_with_len from (end - from)))))) }
+    ensures sound { ItemsSound out.old.items.items → ItemsSound out.new.items.items }
+    ensures extends { IsPrefixOf out.old.items.items out.new.items.items }
+    ensures drops { out.new.drops.items ≡ out.old.drops.items }
+{
+    let mut due = VecDeque::new(panes.alloc);
+    for k in from..end {
+        give_window(panes, waiting, k, &mut due, out)?;
+    }
+    give_before(&panes.fold, &mut due, waiting, mid, out)
+}
+
+/// Gives the results of all windows that begin before a tick and end after the time of the last item, and all marks
+/// before the tick, by time, a mark first.
+pub fn give_open<F: Fold + Drop>(
+    panes: &Panes<F>,
+    waiting: &mut Waiting,
+    now: u64,
+    mid: u64,
+    out: &mut Outs,
+) -> Result<(), AllocError>
+    requires window { IsWindow panes.now.window }
+    requires tick { now < 2 ^ 40 }
+    requires wide { 1 ≤ panes.now.width }
+    requires narrow { panes.now.width ≤ panes.now.window.size }
+    requires begun { AllByRecursion (λ e. e.0.0 * panes.now.width ≤ now + shift_of panes.now.window panes.now.width) (states_of panes.now.held.entries) }
+    requires made { AllAreMade (F.made panes.now.fold) (states_of panes.now.held.entries) }
+    requires few { total (F.number panes.now.fold) (states_of panes.now.held.entries) < 2 ^ 62 }
+    requires fit { AllByRecursion (λ e. FitsResult (F.width panes.now.fold) e.0.1) (states_of panes.now.held.entries) }
+    requires waits { MarksWait panes.now.window.size now (bounds_of waiting.old).waiting }
+    requires later { open_at panes.now.window.size now ≤ mid }
+    ensures bounds { OnOk result (bounds_of waiting.new ≡ closed_at mid (bounds_of waiting.old)) }
+    ensures given { OnOk result ((q : ℕ) → given q out.new.items.items
+        ≡ given q out.old.items.items ++ at_zero q (told_open (folding_of [] (F.none panes.now.fold) (F.joined panes.now.fold) (F.unit panes.now.fold) (F.told panes.now.fold))
+        panes.now.window panes.now.width now mid (bounds_of waiting.old) (states_of panes.now.held.entries))) }
+    ensures prefix { OnErr result ((q : ℕ) → IsPrefixOf (given q out.new.items.items)
+        (given q out.old.items.items ++ at_zero q (told_open (folding_of [] (F.none panes.now.fold) (F.joined panes.now.fold) (F.unit panes.now.fold) (F.told panes.now.fold))
+        panes.now.window panes.now.width now mid (bounds_of waiting.old) (states_of panes.now.held.entries)))) }
+    ensures sound { ItemsSound out.old.items.items → ItemsSound out.new.items.items }
+    ensures extends { IsPrefixOf out.old.items.items out.new.items.items }
+    ensures drops { out.new.drops.items ≡ out.old.drops.items }
+{
+    let from = panes.window.first_covering(now);
+    let end = filled_before(panes.window, now, mid);
+    give_windows(panes, waiting, from, end, mid, out)
+}
+
+/// The same after an item of a time, which gives marks alone where no window ends before it.
+pub fn give_ended<F: Fold + Drop>(
+    panes: &Panes<F>,
+    waiting: &mut Waiting,
+    now: u64,
+    ends: u64,
+    time: u64,
+    mid: u64,
+    out: &mut Outs,
+) -> Result<(), AllocError>
+    requires window { IsWindow panes.now.window }
+    requires tick { now < 2 ^ 40 }
+    requires wide { 1 ≤ panes.now.width }
+    requires narrow { panes.now.width ≤ panes.now.window.size }
+    requires begun { AllByRecursion (λ e. e.0.0 * panes.now.width ≤ now + shift_of panes.now.window panes.now.width) (states_of panes.now.held.entries) }
+    requires made { AllAreMade (F.made panes.now.fold) (states_of panes.now.held.entries) }
+    requires few { total (F.number panes.now.fold) (states_of panes.now.held.entries) < 2 ^ 62 }
+    requires fit { AllByRecursion (λ e. FitsResult (F.width panes.now.fold) e.0.1) (states_of panes.now.held.entries) }
+    requires waits { MarksWait panes.now.window.size now (bounds_of waiting.old).waiting }
+    requires ends { IsFirstEnd panes.now.window now ends }
+    requires later { now ≤ time }
+    requires mid { mid ≡ open_at panes.now.window.size time }
+    ensures bounds { OnOk result (bounds_of waiting.new ≡ closed_at mid (bounds_of waiting.old)) }
+    ensures given { OnOk result ((q : ℕ) → given q out.new.items.items
+        ≡ given q out.old.items.items ++ at_zero q (told_open (folding_of [] (F.none panes.now.fold) (F.joined panes.now.fold) (F.unit panes.now.fold) (F.told panes.now.fold))
+        panes.now.window panes.now.width now mid (bounds_of waiting.old) (states_of panes.now.held.entries))) }
+    ensures prefix { OnErr result ((q : ℕ) → IsPrefixOf (given q out.new.items.items)
+        (given q out.old.items.items ++ at_zero q (told_open (folding_of [] (F.none panes.now.fold) (F.joined panes.now.fold) (F.unit panes.now.fold) (F.told panes.now.fold))
+        panes.now.window panes.now.width now mid (bounds_of waiting.old) (states_of panes.now.held.entries)))) }
+    ensures sound { ItemsSound out.old.items.items → ItemsSound out.new.items.items }
+    ensures extends { IsPrefixOf out.old.items.items out.new.items.items }
+    ensures drops { out.new.drops.items ≡ out.old.drops.items }
+{
+    if time < ends {
+        let mut due = VecDeque::new(panes.alloc);
+        return give_before(&panes.fold, &mut due, waiting, mid, out);
+    }
+    give_open(panes, waiting, now, mid, out)
+}

@@ -1,0 +1,127 @@
+// What words ask for, done over a folder and a sink.
+ghost use Rattle.std.specs.Prelude.{◌≡◌, ◌≢◌, ◌≤◌, ◌<◌, ◌^◌, IfErr, IfOk, OnErr, Some, length, map};
+ghost use Rattle.std.specs.String.{string_bytes};
+ghost use Rattle.sq_net.specs.declared.NetErr.TheVariants as net;
+ghost use Rattle.sq_keys.specs.Answers.{status_of};
+ghost use Rattle.sq_keys.specs.Ends.{Ends, IsReadAs, IsUnreadAs, WritesText};
+ghost use Rattle.sq_keys.specs.Words.{asked_in};
+
+use crate::answers::answer;
+use crate::words::read_words;
+use crate::{Asked, Status, WordsErr};
+use sq_outside::{Failed, Folder, FolderErr, Sink, write_all};
+use sq_value::{Name, copy_name};
+use std::alloc::Global;
+
+/// How many bytes a network file may have.
+const NETWORK_LIMIT: u64 = 1_048_576;
+
+// The bytes of the network file, or the status of a call that doesn't get them.
+fn read_file<F: Folder>(alloc: Global, folder: &mut F, name: &Name) -> Result<Vec<u8>, Status>
+    ensures read { IfOk result (λ bytes. IsReadAs (F.files folder.old) (F.read folder.old) (F.read folder.new) name.now bytes.items) }
+    ensures unread { IfErr result (λ s. IsUnreadAs (F.files folder.old) (F.faults folder.old) (F.faults folder.new) (F.taken folder.old) (F.taken folder.new) name.now s) }
+    ensures refuses { OnErr result (F.read folder.new ≡ F.read folder.old) }
+    ensures no_memory { IfErr result (λ s. s ≢ Status.BadNetwork net.Memory) }
+    ensures files { F.files folder.new ≡ F.files folder.old }
+    ensures later { (F.faults folder.old ≤ F.faults folder.new) × (F.taken folder.old ≤ F.taken folder.new) }
+{
+    match folder.read_whole(alloc, name.as_str(), NETWORK_LIMIT) {
+        Ok(bytes) => Ok(bytes),
+        Err(FolderErr::Memory) => Err(Status::Memory),
+        Err(FolderErr::Failed) => match copy_name(name) {
+            Ok(name) => Err(Status::FolderFault { name }),
+            Err(_) => Err(Status::Memory),
+        },
+        Err(FolderErr::TooLong) => match copy_name(name) {
+            Ok(name) => Err(Status::TooLong { name }),
+            Err(_) => Err(Status::Memory),
+        },
+    }
+}
+
+// The status of a text.
+fn status_of(lost: bool) -> Status
+    ensures { result ≡ status_of lost }
+{
+    if lost { Status::Lost } else { Status::Ok }
+}
+
+// Writes the text: all of it at once, when it is whole.
+fn write_text<S: Sink>(text: &[u8], lost: bool, out: &mut S) -> Status
+    ensures ends { WritesText text.now lost (S.written out.old) (S.written out.new) (S.faults out.old) (S.faults out.new) result }
+    ensures no_memory { result ≢ Status.BadNetwork net.Memory }
+    ensures later { S.faults out.old ≤ S.faults out.new }
+{
+    match write_all(out, text) {
+        Ok(()) => status_of(lost),
+        Err(Failed) => Status::SinkFault,
+    }
+}
+
+// Does what was asked for, and says how it ended.
+fn run_asked<F: Folder, S: Sink>(
+    alloc: Global,
+    asked: &Asked,
+    folder: &mut F,
+    out: &mut S,
+) -> Status
+    requires few { length asked.now.pairs < 2 ^ 32 }
+    ensures ends { Ends (Some asked.now) (record {
+      told = F.files folder.old;
+      folder_before = F.faults folder.old;
+      folder_now = F.faults folder.new;
+      taken_before = F.taken folder.old;
+      taken_now = F.taken folder.new;
+      read_before = F.read folder.old;
+      read_now = F.read folder.new;
+      out_before = S.written out.old;
+      out_now = S.written out.new;
+      sink_before = S.faults out.old;
+      sink_now = S.faults out.new;
+    })
+        result }
+    ensures no_memory { result ≢ Status.BadNetwork net.Memory }
+    ensures files { F.files folder.new ≡ F.files folder.old }
+    ensures later { (F.faults folder.old ≤ F.faults folder.new) × (F.taken folder.old ≤ F.taken folder.new) × (S.faults out.old ≤ S.faults out.new) }
+{
+    let bytes = match read_file(alloc, folder, &asked.net) {
+        Ok(bytes) => bytes,
+        Err(status) => return status,
+    };
+    match answer(alloc, asked, bytes.as_slice()) {
+        Ok((text, lost)) => write_text(text.as_slice(), lost, out),
+        Err(status) => status,
+    }
+}
+
+// Does what the words ask for, and says how it ended.
+pub(crate) fn run<F: Folder, S: Sink>(
+    alloc: Global,
+    words: &Vec<String>,
+    folder: &mut F,
+    out: &mut S,
+) -> Status
+    ensures ends { Ends (asked_in (map string_bytes words.now.items)) (record {
+      told = F.files folder.old;
+      folder_before = F.faults folder.old;
+      folder_now = F.faults folder.new;
+      taken_before = F.taken folder.old;
+      taken_now = F.taken folder.new;
+      read_before = F.read folder.old;
+      read_now = F.read folder.new;
+      out_before = S.written out.old;
+      out_now = S.written out.new;
+      sink_before = S.faults out.old;
+      sink_now = S.faults out.new;
+    })
+        result }
+    ensures no_memory { result ≢ Status.BadNetwork net.Memory }
+    ensures files { F.files folder.new ≡ F.files folder.old }
+    ensures later { (F.faults folder.old ≤ F.faults folder.new) × (F.taken folder.old ≤ F.taken folder.new) × (S.faults out.old ≤ S.faults out.new) }
+{
+    match read_words(alloc, words) {
+        Ok(asked) => run_asked(alloc, &asked, folder, out),
+        Err(WordsErr::Usage) => Status::Usage,
+        Err(WordsErr::Memory) => Status::Memory,
+    }
+}
