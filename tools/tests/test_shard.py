@@ -98,7 +98,9 @@ class Parts(unittest.TestCase):
 
     def shard(self, *words, **more):
         words = [f"{TOP}/tools/shard", "--program", PROGRAM, "--keys", KEYS, *words]
-        return subprocess.run(words, cwd=self.room, capture_output=True, text=True, env={**os.environ, **more})
+        # As a service runs it: without a SHELL, and at home in a folder of its own.
+        asked = {name: value for name, value in os.environ.items() if name != "SHELL"}
+        return subprocess.run(words, cwd=self.room, capture_output=True, text=True, env={**asked, "HOME": self.room, **more})
 
     def refused(self, why, status, *words):
         said = self.shard(*words)
@@ -201,7 +203,7 @@ class Parts(unittest.TestCase):
         os.chmod(f"{self.room}/login", 0o755)
         os.mkdir(f"{self.room}/one")
         os.mkdir(f"{self.room}/two")
-        said = self.shard("--sshlogin", "1/:,1/one,1/two", "net.toml", "trades=symbol", "4", PARALLEL_SSH=f"{self.room}/login", HOME=self.room)
+        said = self.shard("--sshlogin", "1/:,1/one,1/two", "net.toml", "trades=symbol", "4", PARALLEL_SSH=f"{self.room}/login")
         self.compare(said, self.whole())
         with open(f"{self.room}/asked", encoding="utf-8") as names:
             self.assertEqual(set(names), {"one\n", "two\n"})
