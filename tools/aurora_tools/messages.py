@@ -1,4 +1,4 @@
-"""The messages of `aurora run`: which file each is about, and what is found out there."""
+"""The messages of `aurora run` and `aurora tap`: which file each is about, and what is found out there."""
 import os
 import re
 
@@ -7,6 +7,7 @@ from .finding import Finding, article, near
 from .network import KINDS, Network
 from .places import VALUE, line_and_column
 from .run_words import Words
+from .tap_rules import TapWords, tap_finding
 
 RULES = {
     "Version": shape_rules.version, "Shape": shape_rules.shape, "Limit": shape_rules.limit, "NoName": shape_rules.no_name,
@@ -41,14 +42,18 @@ FIXED = {
 
 
 def findings(words, message):
-    """Yields what is found out of a message of a run with these words."""
-    given = Words(words)
+    """Yields what is found out of a message of a run with these words, or of a tap where the first is `tap`."""
+    given = TapWords(words[1:]) if words[:1] == ["tap"] else Words(words)
     said = message.removeprefix("aurora: ")
     if said.startswith("usage: "):
         for fault in given.faults:
             yield Finding(fault)
     elif match := re.fullmatch(r"network: (\w+)(?: (\w+) (\d+) (\d+))?((?: \S+)*)", said):
         yield from of_network(Network(given.nets[0]), match)
+    elif match := re.fullmatch(r"query: (\w+)(?: (\w+) (\d+) (\d+))?((?: \S+)*)", said):
+        yield from of_network(Network(given.query), match)
+    elif match := re.fullmatch(r"tap: (\w+)", said):
+        yield tap_finding(given, match[1])
     elif match := re.fullmatch(r"(capacities|picks): line (\d+)", said):
         rule = line_rules.capacities_finding if match[1] == "capacities" else line_rules.picks_finding
         yield rule(given.options[f"--{match[1]}"], int(match[2]))
@@ -150,7 +155,7 @@ def stood_before(lines, line):
 def who_names(name, given):
     """Returns the line of the network file that names a file, and who names it, as far as these are known."""
     if name in given.nets:
-        return "", 0, None, "the network file "
+        return "", 0, None, "the network file " if name == given.nets[0] else "the query's file "
     for option, value in given.options.items():
         if value == name:
             return "", 0, None, f"the file of `{option}`, "

@@ -252,6 +252,28 @@ class Mistakes(unittest.TestCase):
                 self.assertEqual(told, "aurora: usage: aurora run NET [options]")
                 self.assertIn(said, below)
 
+    def test_taps(self):
+        query = 'version = 1\n[[source]]\nname = "part"\nfile = "none.csv"\nfields = ["a:text", "b:int", "c:bool"]\n[[output]]\nname = "all"\nfrom = "part"\n'
+        twice = query.replace("[[output]]", '[[source]]\nname = "more"\nfile = "none.csv"\nfields = ["a:int"]\n[[output]]')
+        for stream, tick, text, told, words in (
+                ("sort.1", "0", query, "", ""),
+                ("sort", "0", query, "aurora: tap: NoStream\n", "sort.1 or sort.2"),
+                ("raedings", "0", query, "aurora: tap: NoStream\n", "`readings` meant"),
+                ("readings", "0", twice, "aurora: tap: Sources\n", "query.toml:6: a query has one source"),
+                ("readings", "0", query.replace("b:int", "b:bool"), "aurora: tap: Schema\n", "query.toml:5:1: the stream `readings` has unit:text, value:int"),
+                ("readings", "0", query.replace('from = "part"', 'from = "prt"'), "aurora: query: Unknown output 0 0\n", "query.toml:8: output 0, `all`: there is no stream `prt`"),
+                ("readings", "x", query, "aurora: usage: aurora run NET [options]\n", "TICK is `x`"),
+                ("readings", "0", None, "aurora: cannot read query.toml\n", "the query's file query.toml isn't there")):
+            with self.subTest(words):
+                self.write("query.toml", text or "")
+                if text is None:
+                    os.remove("query.toml")
+                asked = ["tap", "plant.toml", stream, tick, "0", "query.toml"]
+                run = subprocess.run([f"{os.path.dirname(HERE)}/explain", "--program", PROGRAM, *asked], capture_output=True, encoding="utf-8")
+                self.assertEqual(run.stderr[:len(told)], told)
+                self.assertEqual(bool(run.stderr), bool(told))
+                self.assertIn(words, run.stderr)
+
     def test_files_that_are_not_there(self):
         os.remove("others.csv")
         self.assertIn("plant.toml:12: source 1, `others`: its file others.csv isn't there", self.refused("plant.toml")[1])
@@ -294,6 +316,10 @@ class Mistakes(unittest.TestCase):
             self.assertEqual(run.stdout, f"{says}\n")
 
     def test_messages_of_an_earlier_run(self):
+        self.write("query.toml", self.network)
+        tap = [f"{os.path.dirname(HERE)}/explain", "--messages", "-", "tap", "plant.toml", "readings", "0", "0", "query.toml"]
+        said = subprocess.run(tap, capture_output=True, encoding="utf-8", input="aurora: tap: Limit\n", check=True).stdout
+        self.assertIn("the query's 6 boxes are more than 128", said)
         self.write("messages", "aurora: network: Limit box 4 0\naurora: page 3 changed: aa bb\naurora: out of memory\nsomething else\n")
         self.write("plant.toml", self.network.replace("slack = 4", "slack = 40000"))
         command = [f"{os.path.dirname(HERE)}/explain", "--messages", "messages", "plant.toml"]

@@ -229,6 +229,12 @@ class Parts(unittest.TestCase):
         os.remove(f"{self.room}/rates.csv")
         self.refused("cannot read rates.csv", 7, "net.toml", "trades=symbol", "4")
 
+    def test_a_part_of_too_many_tuples_is_told_before_it_runs(self):
+        self.write("trades.csv", "2,h,3\n" + "3,h,4\n" * 1_000_000)
+        said = self.shard("net.toml", "trades=symbol", "4")
+        self.assertRegex(said.stderr, r"^shard: part \d would have 1,000,001 lines of source trades, and a run takes 1,000,000: ")
+        self.assertEqual((said.stdout, said.returncode, os.path.exists(f"{self.room}/parts")), ("", 6, False))
+
     @unittest.skipUnless(os.path.exists("/dev/full"), "there is no /dev/full")
     def test_an_answer_that_cannot_be_written_is_told(self):
         self.shard("net.toml", "trades=symbol", "2")
