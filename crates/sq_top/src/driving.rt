@@ -135,9 +135,11 @@ fn step_to_end<D: PageDisk, S: Sink, L: Ledger>(
     ensures sound { OnOk result (IsSoundEngine engine.new) }
     ensures done { OnOk result (AllDone engine.new.engine.flow) }
     ensures network { OnOk result (engine.new.network ≡ engine.old.network) }
-    ensures ok { OnOk result ((r : Replay) (history : List Event) (begun : ℕ) → Tells (known (D.log disk.new)) → IsRun r (known (D.log disk.old)) engine.old history begun steps.old
+    ensures ok { OnOk result ((r : Replay) (history : List Event) (begun : ℕ)
+        → Tells (known (D.log disk.new)) → IsRun r (known (D.log disk.old)) engine.old history begun steps.old
         → IsDriven r history engine.new (S.written out.old) (S.written out.new) begun steps.new) }
-    ensures err { IfErr result (λ s. (r : Replay) (history : List Event) (begun : ℕ) → Tells (known (D.log disk.new)) → IsRun r (known (D.log disk.old)) engine.old history begun steps.old
+    ensures err { IfErr result (λ s. (r : Replay) (history : List Event) (begun : ℕ)
+        → Tells (known (D.log disk.new)) → IsRun r (known (D.log disk.old)) engine.old history begun steps.old
         → IsHalted (D.log disk.old).honest r history s (S.written out.old) (S.written out.new) begun steps.new) }
     ensures cut { IfErr result (IsCutShort (S.faults out.old) (S.faults out.new)) }
     ensures stopped { IfErr result (StopHasCause (λ e. e.network ≡ engine.old.network) (D.faults disk.old) (D.faults disk.new)) }
@@ -181,9 +183,11 @@ pub fn drive<D: PageDisk, S: Sink, L: Ledger>(
     ensures sound { IfOk result (λ e. IsSoundEngine e) }
     ensures done { IfOk result (λ e. AllDone e.engine.flow) }
     ensures network { IfOk result (λ e. e.network ≡ engine.network) }
-    ensures ok { IfOk result (λ e. (r : Replay) (history : List Event) (begun : ℕ) → Tells (known (D.log disk.new)) → IsRun r (known (D.log disk.old)) engine history begun steps.old
+    ensures ok { IfOk result (λ e. (r : Replay) (history : List Event) (begun : ℕ)
+        → Tells (known (D.log disk.new)) → IsRun r (known (D.log disk.old)) engine history begun steps.old
         → IsDriven r history e (S.written out.old) (S.written out.new) begun steps.new) }
-    ensures err { IfErr result (λ s. (r : Replay) (history : List Event) (begun : ℕ) → Tells (known (D.log disk.new)) → IsRun r (known (D.log disk.old)) engine history begun steps.old
+    ensures err { IfErr result (λ s. (r : Replay) (history : List Event) (begun : ℕ)
+        → Tells (known (D.log disk.new)) → IsRun r (known (D.log disk.old)) engine history begun steps.old
         → IsHalted (D.log disk.old).honest r history s (S.written out.old) (S.written out.new) begun steps.new) }
     ensures cut { IfErr result (IsCutShort (S.faults out.old) (S.faults out.new)) }
     ensures stopped { IfErr result (StopHasCause (λ e. e.network ≡ engine.network) (D.faults disk.old) (D.faults disk.new)) }
