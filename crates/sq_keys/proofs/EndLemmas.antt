@@ -32,8 +32,8 @@ memory_told : (asked : Option Asked) (w : World) (result told : Status) → resu
     → told ≡ status.Memory → Ends asked w result → Ends asked w told
 memory_told None w result told ok lost sink m (s, uncalled, same) = (inr m, uncalled, same)
 memory_told (Some a) w result told ok lost sink m (inl (unread, read, same)) = inl (inl m, read, same)
-memory_told (Some a) w result told ok lost sink m (inr (bytes, read, ends)) =
-    inr (bytes, read, memory_ends (answer_of a bytes) w told m (untouched (answer_of a bytes) w result ok lost sink ends))
+memory_told (Some a) w result told ok lost sink m (inr (bytes, read, faultless, ends)) =
+    inr (bytes, read, faultless, memory_ends (answer_of a bytes) w told m (untouched (answer_of a bytes) w result ok lost sink ends))
 
 pub told_ends : (asked : Option Asked) (w : World) (result told : Status) → result ≢ status.Ok → result ≢ status.Lost → IsTold result told
     → Ends asked w result → Ends asked w told

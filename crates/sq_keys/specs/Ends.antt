@@ -74,7 +74,7 @@ abbrev pub Ends : Option Asked → World → Status → Type 0
 Ends None w result = ((result ≡ status.Usage) ⊎ (result ≡ status.Memory)) × IsUncalled w × (w.out_now ≡ w.out_before)
 Ends (Some a) w result =
     (IsUnread a.net w result × (w.read_now ≡ w.read_before) × (w.out_now ≡ w.out_before))
-    ⊎ ((bytes : List ℕ) × IsRead a.net bytes w × EndsBy (answer_of a bytes) w result)
+    ⊎ ((bytes : List ℕ) × IsRead a.net bytes w × (w.folder_now ≡ w.folder_before) × EndsBy (answer_of a bytes) w result)
 
 -- a sink that told what it held tells it still, with a text appended of which P holds
 abbrev pub AppendsSuch : Option (List ℕ) → Option (List ℕ) → (List ℕ → Type 0) → Type 0

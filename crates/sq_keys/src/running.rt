@@ -1,5 +1,5 @@
 // What words ask for, done over a folder and a sink.
-ghost use Rattle.std.specs.Prelude.{◌≡◌, ◌≢◌, ◌≤◌, ◌<◌, ◌^◌, IfErr, IfOk, OnErr, Some, length, map};
+ghost use Rattle.std.specs.Prelude.{◌≡◌, ◌≢◌, ◌≤◌, ◌<◌, ◌^◌, IfErr, IfOk, OnErr, OnOk, Some, length, map};
 ghost use Rattle.std.specs.String.{string_bytes};
 ghost use Rattle.sq_net.specs.declared.NetErr.TheVariants as net;
 ghost use Rattle.sq_keys.specs.Answers.{status_of};
@@ -20,6 +20,7 @@ const NETWORK_LIMIT: u64 = 1_048_576;
 fn read_file<F: Folder>(alloc: Global, folder: &mut F, name: &Name) -> Result<Vec<u8>, Status>
     ensures read { IfOk result (λ bytes. IsReadAs (F.files folder.old) (F.read folder.old) (F.read folder.new) name.now bytes.items) }
     ensures unread { IfErr result (λ s. IsUnreadAs (F.files folder.old) (F.faults folder.old) (F.faults folder.new) (F.taken folder.old) (F.taken folder.new) name.now s) }
+    ensures no_fault { OnOk result (F.faults folder.new ≡ F.faults folder.old) }
     ensures refuses { OnErr result (F.read folder.new ≡ F.read folder.old) }
     ensures no_memory { IfErr result (λ s. s ≢ Status.BadNetwork net.Memory) }
     ensures files { F.files folder.new ≡ F.files folder.old }

@@ -90,6 +90,7 @@ pub trait Operator {
             ≡ out.new.drops.items ++ decides self.new table future) }
         ensures loses { OnOk result ((future : List Entry) → lost self.old (entries port item ++ future) ≡ lost self.new future) }
         ensures extends { IsPrefixOf out.old.items.items out.new.items.items }
+        ensures keeps_decisions { IsPrefixOf out.old.drops.items out.new.drops.items }
 
         // What was given before an `Err` is a prefix.
         ensures prefix { OnErr result ((table : ℕ → ℕ → ℕ) (future : List Entry) → Agrees levels.now table
@@ -125,6 +126,7 @@ pub trait Operator {
         ensures decided { OnOk result ((table : ℕ → ℕ → ℕ) → out.old.drops.items ++ decides self.old table [] ≡ out.new.drops.items) }
         ensures loses { OnOk result (lost self.old [] ≡ lost self.new []) }
         ensures extends { IsPrefixOf out.old.items.items out.new.items.items }
+        ensures keeps_decisions { IsPrefixOf out.old.drops.items out.new.drops.items }
         ensures prefix { OnErr result ((table : ℕ → ℕ → ℕ) (q : ℕ) → IsPrefixOf (given q out.new.items.items) (given q out.old.items.items ++ rest self.old table [] q)) }
         ensures decided_prefix { OnErr result ((table : ℕ → ℕ → ℕ) → IsPrefixOf out.new.drops.items (out.old.drops.items ++ decides self.old table [])) }
         ensures sound { ItemsSound out.old.items.items → ItemsSound out.new.items.items }

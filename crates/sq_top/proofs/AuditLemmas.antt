@@ -130,13 +130,13 @@ lost_plain before now s (inr (sink, rose)) = ap is_plain_end sink
 
 -- how an audit ends whose files were read
 module _ (words : List (List ℕ)) (net text : List ℕ) (asked : command_in words ≡ Some (command.Audit net text)) (w : World) (r : Replay) (source : List ℕ)
-    (came : Leads w.told w.read_before w.read_now (script_of words) (Done r)) (still : w.steps_now ≡ w.steps_before) where
+    (came : Leads w.told w.read_before w.read_now (script_of words) (Done r)) (faultless : w.folder_now ≡ w.folder_before) (still : w.steps_now ≡ w.steps_before) where
   no_work : work_for (command_in words) r ≡ 0
   no_work = ap (λ c. work_for c r) asked
 
   pub audited_ok : w.out_now ≡ appended w.out_before (verdict_of r) → Ends words w status.Ok source
   audited_ok written =
-      answered_ok words w r source (is_audit words net text asked w.told) came
+      answered_ok words w r source (is_audit words net text asked w.told) came faultless
       (λ told. (
         subst (λ c. AppendsSuch w.out_before w.out_now (IsWholeOf c r)) (sym asked) (appends_all w.out_before w.out_now (verdict_of r) (λ said. said ≡ verdict_of r) written refl),
         omega (arith, still, no_work),
@@ -145,7 +145,7 @@ module _ (words : List (List ℕ)) (net text : List ℕ) (asked : command_in wor
   pub audited_cut : (s : Status) → IsLost w.sink_before w.sink_now s → AppendsPrefix w.out_before w.out_now (verdict_of r) → (s ≢ status.SinkFault → w.out_now ≡ w.out_before)
       → Ends words w s source
   audited_cut s lost part alone =
-      answered_cut words w r source (is_audit words net text asked w.told) came s (lost_cut w.sink_before w.sink_before w.sink_now s (omega arith) lost)
+      answered_cut words w r source (is_audit words net text asked w.told) came faultless s (lost_cut w.sink_before w.sink_before w.sink_now s (omega arith) lost)
       (lost_stop _ w.disk_before w.disk_now w.sink_before w.sink_now s lost) (λ is-honest. lost_unchanged w.sink_before w.sink_now s lost)
       (λ told. not_too_much _ w.sink_before w.sink_now s lost)
       (λ told. (

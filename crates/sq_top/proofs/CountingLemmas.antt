@@ -72,9 +72,9 @@ same_room n m before after events room same counted = subst (λ k. HasRoom k aft
 
 -- memory runs out before the first step
 pub count_waits : (honest : Bool) (pages : Option Pages) (engine : Engine) (steps : ℕ) (r : Replay) (start : ℕ) → Tells pages → IsRun r pages engine [] start steps
-    → IsHalted honest r status.Memory None None start steps
+    → IsHalted honest r [] status.Memory None None start steps
 count_waits honest pages engine steps r start told run =
-    drive_lost pages pages engine engine steps steps None None [] (goes_none pages engine steps None [] refl) r start run honest told 0 0 None status.Memory (lost_at_once None []) (inl refl)
+    drive_lost pages pages engine engine steps steps None None [] (goes_none pages engine steps None [] refl) r [] start run honest told 0 0 None status.Memory (lost_at_once None []) (inl refl)
 
 -- where nothing is written, nothing else may wait
 silent_stop : (was is : Option Pages) (honest : Bool) (from : Engine) (begun now : ℕ) (waits : List ℕ) (s : Status) → Stops was is honest from begun now None [] None s
@@ -98,9 +98,9 @@ module _ (was mid : Option Pages) (from via : Engine) (begun now : ℕ) (none co
   module _ (r : Replay) (start : ℕ) (run : IsRun r was from [] start begun) where
     -- it stops
     pub count_stops : (is : Option Pages) (honest still : Bool) → Tells is → still ≡ honest → (later : ℕ) (s : Status) → Stops mid is still via now later None [] None s
-        → IsHalted honest r s None None start later
+        → IsHalted honest r [] s None None start later
     count_stops is honest still told same later s stops =
-        drive_stops was mid from via begun now None None (history_text from.network first.events) silent r start run is honest still told same later None s
+        drive_stops was mid from via begun now None None (history_text from.network first.events) silent r [] start run is honest still told same later None s
         (silent_stop mid is still via now later (history_text from.network first.events) s stops)
 
     -- nothing is left

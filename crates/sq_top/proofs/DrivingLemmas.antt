@@ -173,9 +173,9 @@ module _ (was mid : Option Pages) (from via : Engine) (begun now : ℕ) (before 
       }
 
 module _ (was mid : Option Pages) (from via : Engine) (begun now : ℕ) (before between : Option (List ℕ)) (waits : List ℕ)
-    (first : GoesOn was mid from via begun now before [] between waits) (r : Replay) (start : ℕ) (run : IsRun r was from [] start begun) where
-  run_now : IsRun r mid via first.events start now
-  run_now = first.goes r [] start run
+    (first : GoesOn was mid from via begun now before [] between waits) (r : Replay) (history : List Event) (start : ℕ) (run : IsRun r was from history start begun) where
+  run_now : IsRun r mid via (history ++ first.events) start now
+  run_now = first.goes r history start run
 
   shown_now : AllByRecursion (IsEventAt r.network) first.events
   shown_now = subst (λ m. AllByRecursion (IsEventAt m) first.events) run.network first.shown
@@ -185,13 +185,13 @@ module _ (was mid : Option Pages) (from via : Engine) (begun now : ℕ) (before 
 
   -- it stops
   pub drive_stops : (is : Option Pages) (honest still : Bool) → Tells is → still ≡ honest → (later : ℕ) (after : Option (List ℕ)) (s : Status)
-      → Stops mid is still via now later between waits after s → IsHalted honest r s before after start later
+      → Stops mid is still via now later between waits after s → IsHalted honest r history s before after start later
   drive_stops is honest still told same later after s stops =
-      let stop = stops r first.events start told run_now in
+      let stop = stops r (history ++ first.events) start told run_now in
       record {
-        history = first.events ++ stop.events;
+        events = first.events ++ stop.events;
         shown = all_append (IsEventAt r.network) first.events stop.events shown_now stop.shown;
-        first = stop.first;
+        first = subst (Begins r.network (answer_in r)) (append_assoc history first.events stop.events) stop.first;
         written = subst (AppendsPrefix before after) (sym (flat_map-append (event_line r.network) first.events stop.events))
             (moves-lost before between after [] waits (history_text r.network first.events) (history_text r.network stop.events) moves_now stop.written);
         work = stop.work;
@@ -201,13 +201,13 @@ module _ (was mid : Option Pages) (from via : Engine) (begun now : ℕ) (before 
 
   -- the last lines are lost
   pub drive_lost : (honest : Bool) → Tells mid → (faults faults' : ℕ) (after : Option (List ℕ)) (s : Status) → AppendsPrefix between after waits → IsLost faults faults' s
-      → IsHalted honest r s before after start now
+      → IsHalted honest r history s before after start now
   drive_lost honest told faults faults' after s written lost =
-      let far = so_far r mid via first.events start now run_now told in
+      let far = so_far r mid via (history ++ first.events) start now run_now told in
       record {
-        history = first.events;
+        events = first.events;
         shown = shown_now;
-        first = begins_run r mid via first.events start now run_now told;
+        first = begins_run r mid via (history ++ first.events) start now run_now told;
         written = subst (AppendsPrefix before after) (append-nil (history_text r.network first.events))
             (moves-lost before between after [] waits (history_text r.network first.events) [] moves_now (subst (AppendsPrefix between after) (sym (append-nil waits)) written));
         work = far.work;
@@ -217,15 +217,15 @@ module _ (was mid : Option Pages) (from via : Engine) (begun now : ℕ) (before 
 
   -- nothing is left
   pub drive_ends : (after : Option (List ℕ)) (rest : List ℕ) → Moves between waits after rest [] → rest ≡ []
-      → ((history : List Event) → IsRun r mid via history start now → ShownAll r via history start now)
-      → IsDriven r via before after start now
+      → ((shown : List Event) → IsRun r mid via shown start now → ShownAll r via shown start now)
+      → IsDriven r history via before after start now
   drive_ends after rest last none all =
-      let whole = all first.events run_now in
+      let whole = all (history ++ first.events) run_now in
       let both = moves-then before between after [] waits rest (history_text r.network first.events) [] moves_now last in
       record {
-        history = first.events;
+        events = first.events;
         shown = shown_now;
-        all = completes r (sound_run r mid via first.events start now run_now) via first.events start now whole;
+        all = completes r (sound_run r mid via (history ++ first.events) start now run_now) via (history ++ first.events) start now whole;
         written = both.now_is ∙ ap (appended before) (sym (append-nil both.part) ∙ ap (λ xs. both.part ++ xs) (sym none) ∙ both.all ∙ append-nil (history_text r.network first.events));
         fed = whole.fed;
         late = whole.late;

@@ -344,6 +344,7 @@ stopped_ends words w s source h out steps = record {
   ok = λ e. absurd (not_ok s h.ends e);
   other = λ e. nothing_written words w s h.read h.left h.goes out steps;
   refused_early = λ e. (out, steps);
+  faulted = λ rose. (out, steps);
   usage = h.usage;
   refusal = h.refusal;
   no_memory = h.no_memory;
@@ -357,7 +358,7 @@ stopped_ends words w s source h out steps = record {
 }
 
 module _ (words : List (List ℕ)) (w : World) (r : Replay) (source : List ℕ) (some : IsSome (command_in words))
-    (came : Leads w.told w.read_before w.read_now (script_of words) (Done r)) where
+    (came : Leads w.told w.read_before w.read_now (script_of words) (Done r)) (faultless : w.folder_now ≡ w.folder_before) where
   abbrev work : ℕ
   work = work_for (command_in words) r
 
@@ -376,6 +377,7 @@ module _ (words : List (List ℕ)) (w : World) (r : Replay) (source : List ℕ) 
     ok = λ e. whole;
     other = λ e. absurd (e refl);
     refused_early = λ e. absurd (cc);
+    faulted = λ rose. absurd (omega (arith, rose, faultless));
     usage = record { only = λ e. absurd (cc); when = λ e. absurd (some_none (command_in words) some e) };
     refusal = refl;
     no_memory = refl;
@@ -421,6 +423,7 @@ module _ (words : List (List ℕ)) (w : World) (r : Replay) (source : List ℕ) 
     ok = λ e. absurd (cut.no_end e);
     other = λ e. first;
     refused_early = λ e. let both : true ≡ false = sym e ∙ cut.begun in absurd (cc);
+    faulted = λ rose. absurd (omega (arith, rose, faultless));
     usage = record { only = λ e. absurd (begun s status.Usage cut.begun refl e); when = λ e. absurd (some_none (command_in words) some e) };
     refusal = cut.begun;
     no_memory = not_hidden s cut.begun;
@@ -464,6 +467,7 @@ memory_ends words w s source other differs dry' h = record {
   ok = λ e. absurd (cc);
   other = λ e. prefix_memory words w s h.left dry' (h.other differs);
   refused_early = λ e. absurd (cc);
+  faulted = h.faulted;
   usage = record { only = λ e. absurd (cc); when = λ e. inr refl };
   refusal = memory_at w.told w.folder_before w.folder_now w.taken_before w.taken_now h.left;
   no_memory = refl;

@@ -73,12 +73,12 @@ module _ (r : Replay) (first : ℕ) (sound : IsSound r.network) where
       appends_all before before [] (IsPrefixText due) (sym (appended-nil before)) (prefix_due [] tt nothing [] ([], refl))
 
   -- the run stopped on its way
-  pub replay_halts : (honest : Bool) (s : Status) (before now : Option (List ℕ)) (begun steps : ℕ) → IsHalted honest r s before now begun steps → AppendsSuch before now (IsPrefixText due)
+  pub replay_halts : (honest : Bool) (s : Status) (before now : Option (List ℕ)) (begun steps : ℕ) → IsHalted honest r [] s before now begun steps → AppendsSuch before now (IsPrefixText due)
   replay_halts honest s before now begun steps halted =
       let part = halted.written in
-      appends_all before now part.0 (IsPrefixText due) part.2 (prefix_due halted.history halted.shown halted.first part.0 part.1)
+      appends_all before now part.0 (IsPrefixText due) part.2 (prefix_due halted.events halted.shown halted.first part.0 part.1)
 
-  module _ (engine : Engine) (same : engine.network ≡ r.network) (before mid : Option (List ℕ)) (begun steps : ℕ) (driven : IsDriven r engine before mid begun steps) where
+  module _ (engine : Engine) (same : engine.network ≡ r.network) (before mid : Option (List ℕ)) (begun steps : ℕ) (driven : IsDriven r [] engine before mid begun steps) where
     ends_are : ends_text first engine ≡ text_of due.ended
     ends_are =
         ap (λ (m : Network). text_of (end_lines_from m first (map (fed_at engine) (numbers_to (length m.boxes))) (map (late_at engine) (numbers_to (length m.boxes))))) same
@@ -88,16 +88,16 @@ module _ (r : Replay) (first : ℕ) (sound : IsSound r.network) where
     -- its lines are all written
     pub replay_ends : (now : Option (List ℕ)) → now ≡ appended mid (ends_text first engine) → AppendsSuch before now (IsWholeText due)
     replay_ends now written =
-        let lines = history_text r.network driven.history in
+        let lines = history_text r.network driven.events in
         appends_all before now (lines ++ text_of due.ended) (IsWholeText due)
         (written ∙ ap₂ appended driven.written ends_are ∙ appended-append before lines (text_of due.ended))
-        (whole_of_history r.network sound (answer_in r) (ended_in r first) ends few driven.history driven.shown driven.all)
+        (whole_of_history r.network sound (answer_in r) (ended_in r first) ends few driven.events driven.shown driven.all)
 
     -- a part of the end lines is lost
     pub replay_cut : (now : Option (List ℕ)) → AppendsPrefix mid now (ends_text first engine) → AppendsSuch before now (IsPrefixText due)
     replay_cut now part =
-        let lines = history_text r.network driven.history in
+        let lines = history_text r.network driven.events in
         appends_all before now (lines ++ part.0) (IsPrefixText due)
         (part.2 ∙ ap (λ o. appended o part.0) driven.written ∙ appended-append before lines part.0)
-        (beginning_of_history r.network sound (answer_in r) (ended_in r first) ends few driven.history driven.shown driven.all (lines ++ part.0)
+        (beginning_of_history r.network sound (answer_in r) (ended_in r first) ends few driven.events driven.shown driven.all (lines ++ part.0)
         (part.1.0, ap (λ text. lines ++ text) (sym ends_are ∙ part.1.1) ∙ sym (append_assoc lines part.0 part.1.0)))

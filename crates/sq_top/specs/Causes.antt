@@ -312,6 +312,8 @@ pub record Ends (words : List (List ℕ)) (w : World) (result : Status) (source 
       (λ r. TellsFor (command_in words) w.pages → AppendsSuch w.out_before w.out_now (IsPrefixOfDue (command_in words) r result) × (w.steps_now ≤ w.steps_before + work_for (command_in words) r))
       ((w.out_now ≡ w.out_before) × (w.steps_now ≡ w.steps_before))
   pub refused_early : is_refusal result ≡ true → (w.out_now ≡ w.out_before) × (w.steps_now ≡ w.steps_before)
+  -- and after a fault of the folder, whatever the status: no run goes on over it
+  pub faulted : w.folder_before < w.folder_now → (w.out_now ≡ w.out_before) × (w.steps_now ≡ w.steps_before)
   -- each status has its cause
   pub usage : UsageHasCause words result
   pub refusal : IsRefusedAt w.told w.folder_before w.folder_now w.taken_before w.taken_now result left

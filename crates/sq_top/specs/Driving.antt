@@ -42,25 +42,25 @@ pub record Begins (n : Network) (a : Answer) (history : List Event) : Type 0 whe
   pub drops : (w : ℕ) → w < drops_in n → IsPrefixOf (drops_of w history) (a.decisions w)
   pub plans : IsPrefixOf (plans_of history) a.plans
 
--- a run came to its end: what was written is the text of a history that shows the whole answer, each box was fed what it takes,
--- and the steps are the work
-pub record IsDriven (r : Replay) (engine : Engine) (before now : Option (List ℕ)) (begun steps : ℕ) : Type 0 where
-  pub history : List Event
-  pub shown : AllByRecursion (IsEventAt r.network) history
-  pub all : Completes r.network (answer_in r) history
-  pub written : now ≡ appended before (history_text r.network history)
+-- an engine that has shown a history came to its end: what was written is the text of the events that make the history the whole
+-- answer, each box was fed what it takes, and the steps are the work, both since nothing was fed
+pub record IsDriven (r : Replay) (history : List Event) (engine : Engine) (before now : Option (List ℕ)) (begun steps : ℕ) : Type 0 where
+  pub events : List Event
+  pub shown : AllByRecursion (IsEventAt r.network) events
+  pub all : Completes r.network (answer_in r) (history ++ events)
+  pub written : now ≡ appended before (history_text r.network events)
   pub fed : (at : ℕ) → at < length r.network.boxes → fed_at engine at ≡ fed_in r at
   pub late : (at : ℕ) → at < length r.network.boxes → late_at engine at ≡ late_in r at
   pub work : steps ≡ begun + work_in r
 
--- a run stopped on its way, over a disk that is known now: what was written begins the text of a history that shows the first of the
--- answer, the steps are no more than the work, an honest disk changed no page, and too much was to be fed only where the turns are too
--- many
-pub record IsHalted (honest : Bool) (r : Replay) (result : Status) (before now : Option (List ℕ)) (begun steps : ℕ) : Type 0 where
-  pub history : List Event
-  pub shown : AllByRecursion (IsEventAt r.network) history
-  pub first : Begins r.network (answer_in r) history
-  pub written : AppendsPrefix before now (history_text r.network history)
+-- it stopped on its way, over a disk that is known now: what was written begins the text of events behind which the history still
+-- shows the first of the answer, the steps are no more than the work, an honest disk changed no page, and too much was to be fed only
+-- where the turns are too many
+pub record IsHalted (honest : Bool) (r : Replay) (history : List Event) (result : Status) (before now : Option (List ℕ)) (begun steps : ℕ) : Type 0 where
+  pub events : List Event
+  pub shown : AllByRecursion (IsEventAt r.network) events
+  pub first : Begins r.network (answer_in r) (history ++ events)
+  pub written : AppendsPrefix before now (history_text r.network events)
   pub work : steps ≤ begun + work_in r
   pub unchanged : honest ≡ true → is_changed result ≡ false
   pub too_much : result ≡ status.TooMuch → 2 ^ 62 ≤ turns_in r

@@ -147,7 +147,7 @@ fn count_to_end<D: PageDisk, L: Ledger>(
     ensures ok { IfOk result (λ c. (r : Replay) (begun : ℕ) → Tells (known (D.log disk.new)) → IsRun r (known (D.log disk.old)) engine.old [] begun steps.old
         → IsSummed r engine.new c begun steps.new) }
     ensures err { IfErr result (λ s. (r : Replay) (begun : ℕ) → Tells (known (D.log disk.new)) → IsRun r (known (D.log disk.old)) engine.old [] begun steps.old
-        → IsHalted (D.log disk.old).honest r s None None begun steps.new) }
+        → IsHalted (D.log disk.old).honest r [] s None None begun steps.new) }
     ensures cut { IfErr result (λ s. (before now : ℕ) → IsCutShort before now s) }
     ensures stopped { IfErr result (StopHasCause (λ e. e.network ≡ engine.old.network) (D.faults disk.old) (D.faults disk.new)) }
     ensures faults { D.faults disk.old ≤ D.faults disk.new }
@@ -184,7 +184,7 @@ pub fn count<D: PageDisk, L: Ledger>(
     ensures ok { IfOk result (λ c. (r : Replay) (begun : ℕ) → Tells (known (D.log disk.new)) → IsRun r (known (D.log disk.old)) engine [] begun steps.old
         → IsSummed r c.0 c.1 begun steps.new) }
     ensures err { IfErr result (λ s. (r : Replay) (begun : ℕ) → Tells (known (D.log disk.new)) → IsRun r (known (D.log disk.old)) engine [] begun steps.old
-        → IsHalted (D.log disk.old).honest r s None None begun steps.new) }
+        → IsHalted (D.log disk.old).honest r [] s None None begun steps.new) }
     ensures cut { IfErr result (λ s. (before now : ℕ) → IsCutShort before now s) }
     ensures stopped { IfErr result (StopHasCause (λ e. e.network ≡ engine.network) (D.faults disk.old) (D.faults disk.new)) }
     ensures faults { D.faults disk.old ≤ D.faults disk.new }

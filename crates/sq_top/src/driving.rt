@@ -1,5 +1,5 @@
 // A run, driven to its end.
-ghost use Rattle.std.specs.Prelude.{◌≡◌, ℕ, ◌+◌, ◌≤◌, ◌<◌, ◌++◌, [], IfErr, IfOk, OnErr, OnOk, length};
+ghost use Rattle.std.specs.Prelude.{◌≡◌, ℕ, ◌+◌, ◌≤◌, ◌<◌, ◌++◌, IfErr, IfOk, List, OnErr, OnOk, length};
 ghost use Rattle.std.specs.List.{AllByRecursion};
 ghost use Rattle.sq_model.specs.Shedding.{Replay};
 ghost use Rattle.sq_oper.specs.declared.outs.Event.{Event};
@@ -135,10 +135,12 @@ fn step_to_end<D: PageDisk, S: Sink, L: Ledger>(
     ensures sound { OnOk result (IsSoundEngine engine.new) }
     ensures done { OnOk result (AllDone engine.new.engine.flow) }
     ensures network { OnOk result (engine.new.network ≡ engine.old.network) }
-    ensures ok { OnOk result ((r : Replay) (begun : ℕ) → Tells (known (D.log disk.new)) → IsRun r (known (D.log disk.old)) engine.old [] begun steps.old
-        → IsDriven r engine.new (S.written out.old) (S.written out.new) begun steps.new) }
-    ensures err { IfErr result (λ s. (r : Replay) (begun : ℕ) → Tells (known (D.log disk.new)) → IsRun r (known (D.log disk.old)) engine.old [] begun steps.old
-        → IsHalted (D.log disk.old).honest r s (S.written out.old) (S.written out.new) begun steps.new) }
+    ensures ok { OnOk result ((r : Replay) (history : List Event) (begun : ℕ)
+        → Tells (known (D.log disk.new)) → IsRun r (known (D.log disk.old)) engine.old history begun steps.old
+        → IsDriven r history engine.new (S.written out.old) (S.written out.new) begun steps.new) }
+    ensures err { IfErr result (λ s. (r : Replay) (history : List Event) (begun : ℕ)
+        → Tells (known (D.log disk.new)) → IsRun r (known (D.log disk.old)) engine.old history begun steps.old
+        → IsHalted (D.log disk.old).honest r history s (S.written out.old) (S.written out.new) begun steps.new) }
     ensures cut { IfErr result (IsCutShort (S.faults out.old) (S.faults out.new)) }
     ensures stopped { IfErr result (StopHasCause (λ e. e.network ≡ engine.old.network) (D.faults disk.old) (D.faults disk.new)) }
     ensures faults { (D.faults disk.old ≤ D.faults disk.new) × (S.faults out.old ≤ S.faults out.new) }
@@ -161,7 +163,8 @@ fn step_to_end<D: PageDisk, S: Sink, L: Ledger>(
     }
 }
 
-/// Steps an engine by the picks of a policy until it has ended, and writes the line of each event.
+/// Steps an engine by the picks of a policy until it has ended, and writes the line of each event. Whatever the engine has shown
+/// before, where the disk is known this is exactly what is left of its answers, its records and its plans.
 ///
 /// # Errors
 /// `DiskFault` where the disk had a fault, `Garbled`, `NotAPage` and `Strange` where a page came back that isn't the one which was
@@ -180,10 +183,12 @@ pub fn drive<D: PageDisk, S: Sink, L: Ledger>(
     ensures sound { IfOk result (λ e. IsSoundEngine e) }
     ensures done { IfOk result (λ e. AllDone e.engine.flow) }
     ensures network { IfOk result (λ e. e.network ≡ engine.network) }
-    ensures ok { IfOk result (λ e. (r : Replay) (begun : ℕ) → Tells (known (D.log disk.new)) → IsRun r (known (D.log disk.old)) engine [] begun steps.old
-        → IsDriven r e (S.written out.old) (S.written out.new) begun steps.new) }
-    ensures err { IfErr result (λ s. (r : Replay) (begun : ℕ) → Tells (known (D.log disk.new)) → IsRun r (known (D.log disk.old)) engine [] begun steps.old
-        → IsHalted (D.log disk.old).honest r s (S.written out.old) (S.written out.new) begun steps.new) }
+    ensures ok { IfOk result (λ e. (r : Replay) (history : List Event) (begun : ℕ)
+        → Tells (known (D.log disk.new)) → IsRun r (known (D.log disk.old)) engine history begun steps.old
+        → IsDriven r history e (S.written out.old) (S.written out.new) begun steps.new) }
+    ensures err { IfErr result (λ s. (r : Replay) (history : List Event) (begun : ℕ)
+        → Tells (known (D.log disk.new)) → IsRun r (known (D.log disk.old)) engine history begun steps.old
+        → IsHalted (D.log disk.old).honest r history s (S.written out.old) (S.written out.new) begun steps.new) }
     ensures cut { IfErr result (IsCutShort (S.faults out.old) (S.faults out.new)) }
     ensures stopped { IfErr result (StopHasCause (λ e. e.network ≡ engine.network) (D.faults disk.old) (D.faults disk.new)) }
     ensures faults { (D.faults disk.old ≤ D.faults disk.new) × (S.faults out.old ≤ S.faults out.new) }

@@ -1,5 +1,5 @@
 // The files of a run, read in the order of work.
-ghost use Rattle.std.specs.Prelude.{true, ◌≡◌, ◌⊎◌, ℕ, ◌+◌, ◌++◌, ◌∷◌, ◌^◌, ◌<◌, ◌≤◌, IfOk, IfErr, List, None, Ok, OnErr, Some, [], length, map};
+ghost use Rattle.std.specs.Prelude.{true, ◌≡◌, ◌⊎◌, ℕ, ◌+◌, ◌++◌, ◌∷◌, ◌^◌, ◌<◌, ◌≤◌, IfOk, IfErr, List, None, Ok, OnErr, OnOk, Some, [], length, map};
 ghost use Rattle.sq_net.specs.Sound.{IsSound, source_within};
 ghost use Rattle.sq_points.specs.Limits.{KeepsDropLimits};
 ghost use Rattle.sq_replay.specs.Laws.{ReadsStreams};
@@ -41,6 +41,7 @@ pub(crate) fn read_file<F: Folder>(
     ensures gives { IfOk result (λ bytes. F.read folder.new ≡ F.read folder.old ++ (name.now, bytes.items) ∷ []) }
     ensures refuses { OnErr result (F.read folder.new ≡ F.read folder.old) }
     ensures files { F.files folder.new ≡ F.files folder.old }
+    ensures no_fault { OnOk result (F.faults folder.new ≡ F.faults folder.old) }
     ensures later { (F.faults folder.old ≤ F.faults folder.new) × (F.taken folder.old ≤ F.taken folder.new) }
 {
     match folder.read_whole(alloc, name.as_str(), limit) {
@@ -79,6 +80,7 @@ pub(crate) fn network_file<F: Folder>(
     ensures unread { IfErr result (λ s. IsUnread (F.files folder.old) name.now settings_limit (F.faults folder.old) (F.faults folder.new) (F.taken folder.old) (F.taken folder.new) s) }
     ensures refuses { OnErr result (F.read folder.new ≡ F.read folder.old) }
     ensures files { F.files folder.new ≡ F.files folder.old }
+    ensures no_fault { OnOk result (F.faults folder.new ≡ F.faults folder.old) }
     ensures later { (F.faults folder.old ≤ F.faults folder.new) × (F.taken folder.old ≤ F.taken folder.new) }
 {
     let bytes = match read_file(alloc, folder, name, SETTINGS_LIMIT) {
@@ -97,6 +99,7 @@ fn network_for<F: Folder>(alloc: Global, args: &RunArgs, folder: &mut F) -> Resu
     ensures stopped { IfErr result (λ s. (words : List (List ℕ)) → command_in words ≡ Some (Command.Run args.now)
         → IsStopped words (F.files folder.old) (F.faults folder.old) (F.faults folder.new) (F.taken folder.old) (F.taken folder.new) (F.read folder.old) (F.read folder.new) s []) }
     ensures files { F.files folder.new ≡ F.files folder.old }
+    ensures no_fault { OnOk result (F.faults folder.new ≡ F.faults folder.old) }
     ensures later { (F.faults folder.old ≤ F.faults folder.new) × (F.taken folder.old ≤ F.taken folder.new) }
 {
     match network_file(alloc, &args.net, folder) {
@@ -115,6 +118,7 @@ fn capacities_in<F: Folder>(
     ensures capacities { IfOk result (λ c. AreCapacitiesOf (F.files folder.old) (F.read folder.old) (F.read folder.new) (Some name.now) c) }
     ensures missing { IfErr result (λ s. HasNoCapacities (F.files folder.old) (Some name.now) (F.faults folder.old) (F.faults folder.new) (F.taken folder.old) (F.taken folder.new) (F.read folder.old) (F.read folder.new) s) }
     ensures files { F.files folder.new ≡ F.files folder.old }
+    ensures no_fault { OnOk result (F.faults folder.new ≡ F.faults folder.old) }
     ensures later { (F.faults folder.old ≤ F.faults folder.new) × (F.taken folder.old ≤ F.taken folder.new) }
 {
     let bytes = match read_file(alloc, folder, name, SETTINGS_LIMIT) {
@@ -137,6 +141,7 @@ fn capacities_for<F: Folder>(
     ensures capacities { IfOk result (λ c. AreCapacitiesOf (F.files folder.old) (F.read folder.old) (F.read folder.new) name.now c) }
     ensures missing { IfErr result (λ s. HasNoCapacities (F.files folder.old) name.now (F.faults folder.old) (F.faults folder.new) (F.taken folder.old) (F.taken folder.new) (F.read folder.old) (F.read folder.new) s) }
     ensures files { F.files folder.new ≡ F.files folder.old }
+    ensures no_fault { OnOk result (F.faults folder.new ≡ F.faults folder.old) }
     ensures later { (F.faults folder.old ≤ F.faults folder.new) × (F.taken folder.old ≤ F.taken folder.new) }
 {
     match name {
@@ -158,6 +163,7 @@ fn limits_for<F: Folder>(
     ensures stopped { IfErr result (λ s. (words : List (List ℕ)) → command_in words ≡ Some (Command.Run args.now)
         → IsStopped words (F.files folder.old) (F.faults folder.old) (F.faults folder.new) (F.taken folder.old) (F.taken folder.new) (F.read folder.old) (F.read folder.new) s []) }
     ensures files { F.files folder.new ≡ F.files folder.old }
+    ensures no_fault { OnOk result (F.faults folder.new ≡ F.faults folder.old) }
     ensures later { (F.faults folder.old ≤ F.faults folder.new) × (F.taken folder.old ≤ F.taken folder.new) }
 {
     let network = match network_for(alloc, args, folder) {
@@ -175,6 +181,7 @@ fn picks_in<F: Folder>(alloc: Global, name: &Name, folder: &mut F) -> Result<Vec
     ensures picks { IfOk result (λ v. ArePicksOf (F.files folder.old) (F.read folder.old) (F.read folder.new) (Some name.now) v.items) }
     ensures missing { IfErr result (λ s. HasNoPicks (F.files folder.old) (Some name.now) (F.faults folder.old) (F.faults folder.new) (F.taken folder.old) (F.taken folder.new) (F.read folder.old) (F.read folder.new) s) }
     ensures files { F.files folder.new ≡ F.files folder.old }
+    ensures no_fault { OnOk result (F.faults folder.new ≡ F.faults folder.old) }
     ensures later { (F.faults folder.old ≤ F.faults folder.new) × (F.taken folder.old ≤ F.taken folder.new) }
 {
     let bytes = match read_file(alloc, folder, name, SETTINGS_LIMIT) {
@@ -197,6 +204,7 @@ fn picks_for<F: Folder>(
     ensures picks { IfOk result (λ v. ArePicksOf (F.files folder.old) (F.read folder.old) (F.read folder.new) name.now v.items) }
     ensures missing { IfErr result (λ s. HasNoPicks (F.files folder.old) name.now (F.faults folder.old) (F.faults folder.new) (F.taken folder.old) (F.taken folder.new) (F.read folder.old) (F.read folder.new) s) }
     ensures files { F.files folder.new ≡ F.files folder.old }
+    ensures no_fault { OnOk result (F.faults folder.new ≡ F.faults folder.old) }
     ensures later { (F.faults folder.old ≤ F.faults folder.new) × (F.taken folder.old ≤ F.taken folder.new) }
 {
     match name {
@@ -271,6 +279,7 @@ fn stream_of<F: Folder>(
     ensures recorded { IfOk result (λ xs. ReadsStreams source.now.schema xs.items) }
     ensures stopped { IfErr result (λ s. HasNoStream (F.files folder.old) number source.now (F.faults folder.old) (F.faults folder.new) (F.taken folder.old) (F.taken folder.new) (F.read folder.old) (F.read folder.new) s.status (source_of s.source)) }
     ensures files { F.files folder.new ≡ F.files folder.old }
+    ensures no_fault { OnOk result (F.faults folder.new ≡ F.faults folder.old) }
     ensures later { (F.faults folder.old ≤ F.faults folder.new) × (F.taken folder.old ≤ F.taken folder.new) }
 {
     let bytes = match read_file(alloc, folder, &source.file, STREAM_LIMIT) {
@@ -291,6 +300,7 @@ pub(crate) fn streams_of<F: Folder>(
     ensures recorded { IfOk result (λ v. AreRecorded network.now.sources (map (λ xs. xs.items) v.items)) }
     ensures stopped { IfErr result (λ s. (r : Replay) → HasNoStreams (F.files folder.old) (with_sources r []) network.now.sources (F.faults folder.old) (F.faults folder.new) (F.taken folder.old) (F.taken folder.new) (F.read folder.old) (F.read folder.new) s.status (source_of s.source)) }
     ensures files { F.files folder.new ≡ F.files folder.old }
+    ensures no_fault { OnOk result (F.faults folder.new ≡ F.faults folder.old) }
     ensures later { (F.faults folder.old ≤ F.faults folder.new) × (F.taken folder.old ≤ F.taken folder.new) }
 {
     let mut streams = Vec::new(alloc);
@@ -338,6 +348,7 @@ pub fn prepare<F: Folder>(alloc: Global, args: RunArgs, folder: &mut F) -> Resul
     ensures stopped { IfErr result (λ s. (words : List (List ℕ)) → command_in words ≡ Some (Command.Run args)
         → IsStopped words (F.files folder.old) (F.faults folder.old) (F.faults folder.new) (F.taken folder.old) (F.taken folder.new) (F.read folder.old) (F.read folder.new) s.status (source_of s.source)) }
     ensures files { F.files folder.new ≡ F.files folder.old }
+    ensures no_fault { OnOk result (F.faults folder.new ≡ F.faults folder.old) }
     ensures later { (F.faults folder.old ≤ F.faults folder.new) × (F.taken folder.old ≤ F.taken folder.new) }
 {
     let (network, capacities) = match limits_for(alloc, &args, folder) {

@@ -1,5 +1,5 @@
 // A tap: the network, the query, and the tuples of the network's sources.
-ghost use Rattle.std.specs.Prelude.{◌≡◌, ◌⊎◌, ℕ, ◌^◌, ◌<◌, ◌≤◌, [], Err, IfErr, IfOk, List, Ok, length, map};
+ghost use Rattle.std.specs.Prelude.{◌≡◌, ◌⊎◌, ℕ, ◌^◌, ◌<◌, ◌≤◌, [], Err, IfErr, IfOk, List, Ok, OnOk, length, map};
 ghost use Rattle.sq_net.specs.Sound.{IsSound};
 ghost use Rattle.sq_points.specs.Limits.{KeepsDropLimits};
 ghost use Rattle.sq_tap.specs.Names.{stream_named};
@@ -73,6 +73,7 @@ fn tapped_network<F: Folder>(
     ensures stopped { IfErr result (λ s. (words : List (List ℕ)) → IsAskedBy asked.now words
         → IsStopped words (F.files folder.old) (F.faults folder.old) (F.faults folder.new) (F.taken folder.old) (F.taken folder.new) (F.read folder.old) (F.read folder.new) s []) }
     ensures files { F.files folder.new ≡ F.files folder.old }
+    ensures no_fault { OnOk result (F.faults folder.new ≡ F.faults folder.old) }
     ensures later { (F.faults folder.old ≤ F.faults folder.new) × (F.taken folder.old ≤ F.taken folder.new) }
 {
     match network_file(alloc, &asked.net, folder) {
@@ -95,6 +96,7 @@ fn both_networks<F: Folder>(
     ensures stopped { IfErr result (λ s. (words : List (List ℕ)) → IsAskedBy asked.now words
         → IsStopped words (F.files folder.old) (F.faults folder.old) (F.faults folder.new) (F.taken folder.old) (F.taken folder.new) (F.read folder.old) (F.read folder.new) s []) }
     ensures files { F.files folder.new ≡ F.files folder.old }
+    ensures no_fault { OnOk result (F.faults folder.new ≡ F.faults folder.old) }
     ensures later { (F.faults folder.old ≤ F.faults folder.new) × (F.taken folder.old ≤ F.taken folder.new) }
 {
     let network = match tapped_network(alloc, asked, folder) {
@@ -153,6 +155,7 @@ pub(crate) fn prepare_tap<F: Folder>(
     ensures stopped { IfErr result (λ s. (words : List (List ℕ)) → IsAskedBy asked.now words
         → IsStopped words (F.files folder.old) (F.faults folder.old) (F.faults folder.new) (F.taken folder.old) (F.taken folder.new) (F.read folder.old) (F.read folder.new) s.status (source_of s.source)) }
     ensures files { F.files folder.new ≡ F.files folder.old }
+    ensures no_fault { OnOk result (F.faults folder.new ≡ F.faults folder.old) }
     ensures later { (F.faults folder.old ≤ F.faults folder.new) × (F.taken folder.old ≤ F.taken folder.new) }
 {
     let (network, query) = match both_networks(alloc, asked, folder) {

@@ -112,6 +112,7 @@ fn decide(
     ensures drops_err { OnErr result (out.new.drops.items ≡ out.old.drops.items) }
     ensures sound { ItemsSound out.old.items.items → ItemsSound out.new.items.items }
     ensures extends { IsPrefixOf out.old.items.items out.new.items.items }
+    ensures keeps { IsPrefixOf out.old.drops.items out.new.drops.items }
     ensures few { length out.new.items.items ≤ length out.old.items.items + 1 }
 {
     let start = batch * with.length;
@@ -153,6 +154,7 @@ fn touch(
         → IsPrefixOf out.new.drops.items (out.old.drops.items ++ decided with.now table (newly with.now batches.old.next time))) }
     ensures sound { ItemsSound out.old.items.items → ItemsSound out.new.items.items }
     ensures extends { IsPrefixOf out.old.items.items out.new.items.items }
+    ensures keeps { IsPrefixOf out.old.drops.items out.new.drops.items }
     ensures few { length out.new.items.items ≤ length out.old.items.items + 4097 }
 {
     let end = time / with.length + 1;
@@ -195,6 +197,7 @@ fn take(
         → IsPrefixOf out.new.drops.items (out.old.drops.items ++ decided_body with.now table batches.old time body)) }
     ensures sound { ItemsSound out.old.items.items → ItemsSound out.new.items.items }
     ensures extends { IsPrefixOf out.old.items.items out.new.items.items }
+    ensures keeps { IsPrefixOf out.old.drops.items out.new.drops.items }
     ensures few { length out.new.items.items ≤ length out.old.items.items + 4098 }
 {
     let Some(fields) = body.get() else {
@@ -284,6 +287,7 @@ impl Operator for WinDropBox {
             ≡ out.new.drops.items ++ drop_decides self.new.with table self.new.batches future) }
         ensures loses { OnOk result ((future : List Entry) → none_lost (entries port item ++ future) ≡ none_lost future) }
         ensures extends { IsPrefixOf out.old.items.items out.new.items.items }
+        ensures keeps_decisions { IsPrefixOf out.old.drops.items out.new.drops.items }
         ensures prefix { OnErr result ((table : ℕ → ℕ → ℕ) (future : List Entry) → Agrees levels.now table
             → IsFuture (unmarked) (port_fits) (self.old.tally.place) (entries port item ++ future)
             → (q : ℕ) → IsPrefixOf (given q out.new.items.items) (given q out.old.items.items ++ drop_rest self.old.with table self.old.batches (entries port item ++ future) q)) }

@@ -17,13 +17,13 @@ pub returns-in-Ok-write_verdict-clause-ends : goal.returns-in-Ok-write_verdict-c
 returns-in-Ok-write_verdict-clause-ends g c words pages honest disk steps asked =
     rw (c.stopped_by.ensures.0, c.stopped_by.ensures.1)
     (audited_ok words c.args.net c.args.text.now asked _ (with_text (replay_of c.in-Ok.prepared.0) c.in-Ok.prepared.1.items) _
-    (c.in-Ok.ensures.accepted words asked) refl (rw c.as_slice.ensures.value at c.in-Ok-write_verdict.ensures.ok))
+    (c.in-Ok.ensures.accepted words asked) c.in-Ok.ensures.no_fault refl (rw c.as_slice.ensures.value at c.in-Ok-write_verdict.ensures.ok))
 
 pub returns-clause-ends : goal.returns-clause-ends
 returns-clause-ends g c words pages honest disk steps asked =
     rw (c.stopped_by-in-Err-write_verdict.ensures.0, c.stopped_by-in-Err-write_verdict.ensures.1)
     (audited_cut words c.args.net c.args.text.now asked _ (with_text (replay_of c.in-Ok.prepared.0) c.in-Ok.prepared.1.items) _
-    (c.in-Ok.ensures.accepted words asked) refl c.in-Err-write_verdict.status
+    (c.in-Ok.ensures.accepted words asked) c.in-Ok.ensures.no_fault refl c.in-Err-write_verdict.status
     c.in-Err-write_verdict.ensures.lost (rw c.as_slice.ensures.value at c.in-Err-write_verdict.ensures.err) c.in-Err-write_verdict.ensures.alone)
 
 pub returns-clause-plain : goal.returns-clause-plain

@@ -31,8 +31,8 @@ steps-preserved g c =
     }
 
 pub returns-in-Err-clause-err : goal.returns-in-Err-clause-err
-returns-in-Err-clause-err g c r begun told run =
-    let before = c.steps.invariant in drive_stops _ _ _ _ _ _ _ _ _ before.goes r begun run _ _ _ told before.later.honest _ _ _ c.in-Err.ensures.err
+returns-in-Err-clause-err g c r history begun told run =
+    let before = c.steps.invariant in drive_stops _ _ _ _ _ _ _ _ _ before.goes r history begun run _ _ _ told before.later.honest _ _ _ c.in-Err.ensures.err
 
 pub returns-in-Err-clause-later : goal.returns-in-Err-clause-later
 returns-in-Err-clause-later g c = IsLater-trans _ _ _ c.steps.invariant.later c.step_once.ensures.later
@@ -52,15 +52,15 @@ pub returns-clause-stopped : goal.returns-clause-stopped
 returns-clause-stopped g c = lost_stop _ _ _ _ _ _ c.in-Err-send.ensures.lost
 
 pub returns-in-Ok-send-clause-ok : goal.returns-in-Ok-send-clause-ok
-returns-in-Ok-send-clause-ok g c r begun told run =
+returns-in-Ok-send-clause-ok g c r history begun told run =
     let before = c.steps.invariant in
-    drive_ends _ _ _ _ _ _ _ _ _ before.goes r begun run _ _ c.in-Ok-send.ensures.ok c.in-Ok-send.ensures.none_waits
-    (λ history now. c.all_shown.ensures r (known (g.D.PageDisk.log c.steps.disk)) history begun c.steps.steps told now)
+    drive_ends _ _ _ _ _ _ _ _ _ before.goes r history begun run _ _ c.in-Ok-send.ensures.ok c.in-Ok-send.ensures.none_waits
+    (λ shown now. c.all_shown.ensures r (known (g.D.PageDisk.log c.steps.disk)) shown begun c.steps.steps told now)
 
 pub returns-clause-err : goal.returns-clause-err
-returns-clause-err g c r begun told run =
+returns-clause-err g c r history begun told run =
     let before = c.steps.invariant in
-    drive_lost _ _ _ _ _ _ _ _ _ before.goes r begun run _ told _ _ _ _ c.in-Err-send.ensures.err c.in-Err-send.ensures.lost
+    drive_lost _ _ _ _ _ _ _ _ _ before.goes r history begun run _ told _ _ _ _ c.in-Err-send.ensures.err c.in-Err-send.ensures.lost
 
 pub all_shown-requires-clause-done : goal.all_shown-requires-clause-done
 all_shown-requires-clause-done g c = c.steps-test.ensures.done c.steps.invariant.sound.engine.running refl

@@ -31,6 +31,7 @@ sources-preserved g c = record {
       (rw c.as_slice-source-items.ensures at c.sources-test.true) (rw c.as_slice-source-items.ensures at c.source-item.is) c.sources.invariant.recorded c.in-Ok.ensures.recorded);
   counted = search rules;
   files = c.in-Ok.ensures.files ∙ c.sources.invariant.files;
+  no_fault = c.in-Ok.ensures.no_fault ∙ c.sources.invariant.no_fault;
   faults = omega (arith, c.sources.invariant.faults, c.in-Ok.ensures.later.0);
   taken = omega (arith, c.sources.invariant.taken, c.in-Ok.ensures.later.1);
 }

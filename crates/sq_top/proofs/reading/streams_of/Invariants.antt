@@ -11,6 +11,7 @@ invariant-sources g l = record {
   recorded : AreRecorded (take l.source-index l.network.sources) (map (λ xs. xs.items) l.streams.items);
   counted : length l.streams.items ≡ l.source-index;
   files : g.F.Folder.files l.folder ≡ g.F.Folder.files l.fn.folder;
+  no_fault : g.F.Folder.faults l.folder ≡ g.F.Folder.faults l.fn.folder;
   faults : g.F.Folder.faults l.fn.folder ≤ g.F.Folder.faults l.folder;
   taken : g.F.Folder.taken l.fn.folder ≤ g.F.Folder.taken l.folder;
 }

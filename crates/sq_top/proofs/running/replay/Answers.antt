@@ -1,4 +1,4 @@
-use Rattle.std.proofs.Common.{◌≡◌, ◌≤◌, ◌^◌, arith, true, false, length, sym, subst, ◌∙◌}
+use Rattle.std.proofs.Common.{◌≡◌, ◌≤◌, ◌^◌, [], arith, true, false, length, sym, subst, ◌∙◌}
 use Rattle.sq_net.specs.declared.Network.{Network}
 use Rattle.sq_pool.specs.Trust.{Tells, known}
 use Rattle.sq_pool.proofs.TrustLemmas.{IsLater-refl, honest-tells}
@@ -33,44 +33,44 @@ returns-in-Ok-drive-clause-ok g c =
     let r = replayed (replay_of c.args.accepted) in
     let run = c.in-Ok.ensures.run _ c.args.steps.now in
     on_ok c.write_ends.result c.write_ends.ensures.ok
-    (λ written told. replay_ends r c.args.accepted.first c.requires.sound c.in-Ok-drive.engine (c.in-Ok-drive.ensures.network ∙ run.network) _ _ _ _ (c.in-Ok-drive.ensures.ok r c.args.steps.now told run) _ written)
+    (λ written told. replay_ends r c.args.accepted.first c.requires.sound c.in-Ok-drive.engine (c.in-Ok-drive.ensures.network ∙ run.network) _ _ _ _ (c.in-Ok-drive.ensures.ok r [] c.args.steps.now told run) _ written)
 
 pub returns-in-Ok-drive-clause-err : goal.returns-in-Ok-drive-clause-err
 returns-in-Ok-drive-clause-err g c =
     let r = replayed (replay_of c.args.accepted) in
     let run = c.in-Ok.ensures.run _ c.args.steps.now in
     on_err c.write_ends.result c.write_ends.ensures.err
-    (λ written told. replay_cut r c.args.accepted.first c.requires.sound c.in-Ok-drive.engine (c.in-Ok-drive.ensures.network ∙ run.network) _ _ _ _ (c.in-Ok-drive.ensures.ok r c.args.steps.now told run) _ written)
+    (λ written told. replay_cut r c.args.accepted.first c.requires.sound c.in-Ok-drive.engine (c.in-Ok-drive.ensures.network ∙ run.network) _ _ _ _ (c.in-Ok-drive.ensures.ok r [] c.args.steps.now told run) _ written)
 
 pub returns-in-Ok-drive-clause-steps : goal.returns-in-Ok-drive-clause-steps
 returns-in-Ok-drive-clause-steps g c =
     let r = replayed (replay_of c.args.accepted) in
     on_ok c.write_ends.result c.write_ends.ensures.ok
-    (λ written told. (c.in-Ok-drive.ensures.ok r c.args.steps.now told (c.in-Ok.ensures.run _ c.args.steps.now)).work)
+    (λ written told. (c.in-Ok-drive.ensures.ok r [] c.args.steps.now told (c.in-Ok.ensures.run _ c.args.steps.now)).work)
 
 pub returns-in-Ok-drive-clause-fewer : goal.returns-in-Ok-drive-clause-fewer
 returns-in-Ok-drive-clause-fewer g c =
     let r = replayed (replay_of c.args.accepted) in
     on_err c.write_ends.result c.write_ends.ensures.err
-    (λ written told. (let work = (c.in-Ok-drive.ensures.ok r c.args.steps.now told (c.in-Ok.ensures.run _ c.args.steps.now)).work in omega (arith, work)))
+    (λ written told. (let work = (c.in-Ok-drive.ensures.ok r [] c.args.steps.now told (c.in-Ok.ensures.run _ c.args.steps.now)).work in omega (arith, work)))
 
 pub returns-in-Err-drive-clause-err : goal.returns-in-Err-drive-clause-err
 returns-in-Err-drive-clause-err g c told =
     let r = replayed (replay_of c.args.accepted) in
-    replay_halts r c.args.accepted.first c.requires.sound _ c.in-Err-drive.status _ _ _ _ (c.in-Err-drive.ensures.err r c.args.steps.now told (c.in-Ok.ensures.run _ c.args.steps.now))
+    replay_halts r c.args.accepted.first c.requires.sound _ c.in-Err-drive.status _ _ _ _ (c.in-Err-drive.ensures.err r [] c.args.steps.now told (c.in-Ok.ensures.run _ c.args.steps.now))
 
 pub returns-in-Err-drive-clause-fewer : goal.returns-in-Err-drive-clause-fewer
 returns-in-Err-drive-clause-fewer g c told =
-    (c.in-Err-drive.ensures.err (replayed (replay_of c.args.accepted)) c.args.steps.now told (c.in-Ok.ensures.run _ c.args.steps.now)).work
+    (c.in-Err-drive.ensures.err (replayed (replay_of c.args.accepted)) [] c.args.steps.now told (c.in-Ok.ensures.run _ c.args.steps.now)).work
 
 pub returns-in-Err-drive-clause-too_much : goal.returns-in-Err-drive-clause-too_much
 returns-in-Err-drive-clause-too_much g c told =
-    (c.in-Err-drive.ensures.err (replayed (replay_of c.args.accepted)) c.args.steps.now told (c.in-Ok.ensures.run _ c.args.steps.now)).too_much
+    (c.in-Err-drive.ensures.err (replayed (replay_of c.args.accepted)) [] c.args.steps.now told (c.in-Ok.ensures.run _ c.args.steps.now)).too_much
 
 pub returns-in-Err-drive-clause-unchanged : goal.returns-in-Err-drive-clause-unchanged
 returns-in-Err-drive-clause-unchanged g c is-honest =
     let told = honest-tells (g.D.PageDisk.log c.drive.new.disk) (c.drive.ensures.later.honest ∙ is-honest) in
-    (c.in-Err-drive.ensures.err (replayed (replay_of c.args.accepted)) c.args.steps.now told (c.in-Ok.ensures.run _ c.args.steps.now)).unchanged is-honest
+    (c.in-Err-drive.ensures.err (replayed (replay_of c.args.accepted)) [] c.args.steps.now told (c.in-Ok.ensures.run _ c.args.steps.now)).unchanged is-honest
 
 pub returns-in-Err-drive-clause-stopped : goal.returns-in-Err-drive-clause-stopped
 returns-in-Err-drive-clause-stopped g c =

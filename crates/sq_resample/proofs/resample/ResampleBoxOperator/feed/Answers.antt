@@ -89,3 +89,12 @@ hold-requires-clause-few g c =
     let room = c.requires.has_room (ap is_some (sym c.get.ensures ∙ c.in-Some.is)) in
     let same = ap (λ (l : List Tuple). length l) c.in_ok-give_ready.ensures.held in
     omega (arith, few, most, room, same)
+
+pub returns-in_err-give_ready-clause-keeps_decisions : goal.returns-in_err-give_ready-clause-keeps_decisions
+returns-in_err-give_ready-clause-keeps_decisions g c = ([], c.give_ready.ensures.drops ∙ sym (append-nil c.args.out.now.drops.items))
+
+pub returns-in_err-hold-clause-keeps_decisions : goal.returns-in_err-hold-clause-keeps_decisions
+returns-in_err-hold-clause-keeps_decisions g c = ([], c.give_ready.ensures.drops ∙ sym (append-nil c.args.out.now.drops.items))
+
+pub returns-in_ok-hold-clause-keeps_decisions : goal.returns-in_ok-hold-clause-keeps_decisions
+returns-in_ok-hold-clause-keeps_decisions g c = ([], c.give_ready.ensures.drops ∙ sym (append-nil c.args.out.now.drops.items))
