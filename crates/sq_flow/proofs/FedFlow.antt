@@ -37,7 +37,7 @@ use Rattle.sq_flow.specs.declared.wires.Arc.{Arc}
 use Rattle.sq_flow.specs.declared.seats.Seat.{Seat}
 use Rattle.sq_flow.specs.declared.flow.Flow.{Flow}
 use Rattle.sq_flow.specs.declared.heads.Next.TheVariants.{Feed}
-use Rattle.sq_flow.specs.Wiring.{net_of, arcs_read, arc_at, marked_of, wide_of, from_of, to_of, place_of, pushed_by, AllOutsFine, IsOwn}
+use Rattle.sq_flow.specs.Wiring.{net_of, arcs_read, arc_at, marked_of, fits_on, from_of, to_of, place_of, pushed_by, AllOutsFine, IsOwn}
 use Rattle.sq_flow.specs.Heads.{NextUpTo}
 use Rattle.sq_flow.specs.Seats as seat
 use Rattle.sq_flow.specs.Seats.{Meaning, rest_at, decides_at, lost_at, place_at, done_at, holds_at, IsSeat, Owns, FedSeat}
@@ -49,6 +49,7 @@ use Rattle.sq_flow.specs.declared.errors.RunErr.{RunErr}
 use Rattle.sq_flow.proofs.FutureLemmas.{future-weaker, future-port, ports-from-head, moves-fed, outs-fine, own-pushed, not-pushed, apart-from, fine-after, goes-on, prefix-chain}
 use Rattle.sq_flow.proofs.SendLemmas.{at_or_other}
 use Rattle.sq_flow.proofs.EventLemmas.{bodies-append}
+use Rattle.sq_flow.proofs.ArcLemmas.{arcs-left}
 use Rattle.sq_flow.proofs.DropLemmas.{all-split, of-own, own-front, future-both}
 
 one-body : (item : Item) (port : ℕ) → length (tuples_of (entries port item)) ≡ cond (is_some item.body) 1 0
@@ -87,7 +88,7 @@ module _ {O : Type 0} (m : Meaning O) (valid : O → Type 0) (e : Flow O) (flow 
   takes-is = ap (λ o. marked_of (arc_at e.wires o)) head.1 ∙ ap marked_of is_arc
 
   fits-is : (fields : List Value) → net.fits actor p fields ≡ fits_of a p fields
-  fits-is fields = ap (λ o. wide_of (arc_at e.wires o) fields) head.1 ∙ ap (λ o. wide_of o fields) is_arc
+  fits-is fields = ap (λ o. fits_on (arc_at e.wires o) fields) head.1 ∙ ap (λ o. fits_on o fields) is_arc
 
   -- what the tests say, in the words of the operator
   pub may-come : MayBeFed a p s.tally.place e.clock item → IsFuture (m.takes_marks s.op) (m.fits s.op) (m.place s.op) (entries p item)
@@ -461,6 +462,7 @@ module _ {O : Type 0} (m : Meaning O) (valid : O → Type 0) (e : Flow O) (flow 
                 let is = flow.shaped.replay_is in
                 let away : other ≢ net.replay = omega arith in
                 (k.told other (flow.shaped.ordered other low) away).lost;
+            arcs = arcs-left e.wires (length e.seats.items) flow.shaped was is (taken_at at (spread item)) (pushed_by actor outs) decided took holds.facts k moves-all;
             turns = turns-same more ∙ ap (λ n. taken' + sum_below (λ other. length (inputs net is e.wires.order.items other)) n) (sym seats_len);
           }
 

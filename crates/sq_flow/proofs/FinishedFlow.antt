@@ -40,6 +40,7 @@ use Rattle.sq_flow.specs.Plans.{plans_left, plans_of}
 use Rattle.sq_flow.specs.Flows.{world_of, IsFlow, HoldsItems, Goes, Stepped, ShowsPrefix, lines_left, decisions_left, sum_below, taken_in_all, turns_at_last}
 use Rattle.sq_flow.proofs.FutureLemmas.{outs-fine, own-pushed, not-pushed, goes-on, prefix-chain}
 use Rattle.sq_flow.proofs.SendLemmas.{at_or_other}
+use Rattle.sq_flow.proofs.ArcLemmas.{arcs-left}
 use Rattle.sq_flow.proofs.EventLemmas.{bodies-append}
 use Rattle.sq_flow.proofs.DropLemmas.{of-own, own-front}
 
@@ -284,6 +285,7 @@ module _ {O : Type 0} (m : Meaning O) (valid : O → Type 0) (e : Flow O) (flow 
                 let is = flow.shaped.replay_is in
                 let away : other ≢ net.replay = omega arith in
                 (k.told other (flow.shaped.ordered other low) away).lost;
+            arcs = arcs-left e.wires (length e.seats.items) flow.shaped was is (λ _. []) (pushed_by actor outs) decided (λ _. []) holds.facts k (λ arc within. sym (given_on arc within));
             turns = turns-same ∙ ap (λ n. e.taken + sum_below (λ other. length (inputs net is e.wires.order.items other)) n) (sym seats_len);
           }
 

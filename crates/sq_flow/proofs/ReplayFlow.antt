@@ -42,6 +42,7 @@ use Rattle.sq_flow.specs.Events.{bodies, lines_of, drops_of}
 use Rattle.sq_flow.specs.Flows.{world_of, IsFlow, HoldsItems, Goes, Stepped, ShowsPrefix, RiseFrom, to_release, tuples_at, lines_left, decisions_left, turns_at_last, count_all}
 use Rattle.sq_flow.proofs.SendLemmas.{at_or_other, apart-arcs}
 use Rattle.sq_flow.proofs.FutureLemmas.{slice_get-set_same, slice_get-set_other}
+use Rattle.sq_flow.proofs.ArcLemmas.{arcs-left}
 
 pub fine-later : (t u : ℕ) (its : List Item) → t ≤ u → AllFine t its → AllFine u its
 fine-later t u [] le h = tt
@@ -139,6 +140,7 @@ module _ {O : Type 0} (m : Meaning O) (valid : O → Type 0) (e : Flow O) (flow 
             let r = flow.shaped.replay_is in
             let away : other ≢ net.replay = omega (arith, r, low) in
             (k.told other (flow.shaped.ordered other low) away).lost;
+        arcs = arcs-left e.wires (length e.seats.items) flow.shaped was is (λ _. []) pushed (λ _. []) (λ _. []) holds.facts k (λ arc within. sym (given_on arc within));
         turns = turns-same;
       }
 

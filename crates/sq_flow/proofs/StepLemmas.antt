@@ -18,8 +18,9 @@ use Rattle.sq_flow.specs.Plans.{PlansPrefix, plans_of}
 use Rattle.sq_plan.specs.Plans.{Setting}
 use Rattle.sq_plan.specs.Shown.{level_for}
 use Rattle.sq_value.specs.Lists.{IsPrefixOf}
-use Rattle.sq_flow.specs.Flows.{HoldsItems, Stepped, ShowsPrefix, NoneStrange, CostsFed, CostsAtMost, TooMuchOnly, items_in, decisions_left, fed_at_last, sum_below, work_at_last}
+use Rattle.sq_flow.specs.Flows.{HoldsItems, Stepped, ShowsPrefix, NoneStrange, CostsFed, CostsAtMost, TooMuchOnly, items_in, decisions_left, left_on, fed_at_last, sum_below, work_at_last}
 use Rattle.sq_flow.proofs.SumLemmas.{sum-same}
+use Rattle.sq_flow.proofs.ArcLemmas.{ends-chain}
 use Rattle.sq_flow.specs.Readiness.{IsReady}
 
 module _ {O : Type 0} (m : Meaning O) (valid : O → Type 0) where
@@ -62,6 +63,9 @@ module _ {O : Type 0} (m : Meaning O) (valid : O → Type 0) where
                 fed = λ actor low. a.fed actor low ∙ b.fed actor (rw first.seats low);
                 lost = λ actor low. a.lost actor low ∙ b.lost actor (rw first.seats low);
                 turns = a.turns ∙ b.turns;
+                arcs = λ arc low.
+                    ends-chain (left_on m table (items_in f p) f arc) (left_on m table (items_in f1 p1) f1 arc) (left_on m table (items_in f2 p2) f2 arc) (a.arcs arc low)
+                    (b.arcs arc (subst (λ (w : Wires). arc < length w.arcs.items) (sym first.wires) low));
               };
         }
 

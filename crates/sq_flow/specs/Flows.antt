@@ -2,7 +2,7 @@
 use Rattle.std.specs.Prelude.{◌≡◌, ℕ, zero, suc, ◌+◌, ◌-◌, ◌^◌, ◌/◌, ◌≤◌, ◌<◌, Bool, true, List, [], ◌∷◌, ◌++◌, length, Option, Some, None, slice_get, slice_index, if◌then◌else◌}
 use Rattle.sq_value.specs.declared.Tuple.{Tuple}
 use Rattle.sq_item.specs.declared.Item.{Item}
-use Rattle.sq_item.specs.Things.{spread_all}
+use Rattle.sq_item.specs.Things.{Thing, spread_all}
 use Rattle.sq_outside.specs.Disks.{Pages}
 use Rattle.sq_road.specs.Levels.{LevelTable, Agrees}
 use Rattle.sq_value.specs.Lists.{IsPrefixOf}
@@ -12,7 +12,7 @@ use Rattle.sq_oper.specs.Given.{ThingsUpTo}
 use Rattle.sq_oper.specs.Streams.{things, IsSoundTuple}
 use Rattle.std.specs.declared.alloc.Global.{Global}
 use Rattle.std.specs.declared.collections.VecDeque.{VecDeque}
-use Rattle.sq_left.specs.Left.{World, Facts, coming, inputs, still_dropped, lost_in_all, fed_in_all}
+use Rattle.sq_left.specs.Left.{World, Facts, coming, inputs, left, still_dropped, lost_in_all, fed_in_all}
 use Rattle.sq_left.specs.Heads.{AllFine}
 use Rattle.sq_pool.specs.Trust.{Tells}
 use Rattle.sq_queue.specs.Faces.{face, size, frames, items_on, Together}
@@ -88,6 +88,14 @@ lines_left m table items flow output = bodies (coming (net_of flow.wires) (world
 abbrev pub decisions_left : {O : Type 0} → Meaning O → (ℕ → ℕ → ℕ) → (ℕ → List Item) → Flow O → ℕ → List Decision
 decisions_left m table items flow actor = still_dropped (net_of flow.wires) (world_of m table items flow) flow.wires.order.items actor
 
+-- what is still to be taken from an arc: what stands on it, and then what will still come
+abbrev pub left_on : {O : Type 0} → Meaning O → (ℕ → ℕ → ℕ) → (ℕ → List Item) → Flow O → ℕ → List Thing
+left_on m table items flow arc = left (net_of flow.wires) (world_of m table items flow) flow.wires.order.items arc
+
+-- the one ends the other: what stands before it was taken
+abbrev pub IsEndOf : {A : Type 0} → List A → List A → Type 0
+IsEndOf {A} xs ys = (taken : List A) × (ys ≡ taken ++ xs)
+
 -- how many tuples an operator will have been fed at the end, and how many of them it will have lost
 abbrev pub fed_at_last : {O : Type 0} → Meaning O → (ℕ → ℕ → ℕ) → (ℕ → List Item) → Flow O → ℕ → ℕ
 fed_at_last m table items flow actor = fed_in_all (net_of flow.wires) (world_of m table items flow) flow.wires.order.items actor
@@ -111,7 +119,8 @@ abbrev pub turns_at_last : {O : Type 0} → Meaning O → (ℕ → ℕ → ℕ) 
 turns_at_last m table items flow =
     flow.taken + sum_below (λ actor. length (inputs (net_of flow.wires) (world_of m table items flow) flow.wires.order.items actor)) (length flow.seats.items)
 
--- what was shown, and then what is left, stays the same, and so do the numbers of what is fed, lost and taken in all
+-- what was shown, and then what is left, stays the same, and so do the numbers of what is fed, lost and taken in all; of each
+-- arc things are taken from the front alone
 pub record Goes {O : Type 0} (m : Meaning O) (table : ℕ → ℕ → ℕ) (items items' : ℕ → List Item) (flow flow' : Flow O) (events events' : List Event) : Type 0 where
   pub lines : (output : ℕ) → flow.wires.shown + output < length flow.seats.items
       → lines_of output events ++ lines_left m table items flow output ≡ lines_of output events' ++ lines_left m table items' flow' output
@@ -120,6 +129,7 @@ pub record Goes {O : Type 0} (m : Meaning O) (table : ℕ → ℕ → ℕ) (item
   pub fed : (actor : ℕ) → actor < length flow.seats.items → fed_at_last m table items flow actor ≡ fed_at_last m table items' flow' actor
   pub lost : (actor : ℕ) → actor < length flow.seats.items → lost_at_last m table items flow actor ≡ lost_at_last m table items' flow' actor
   pub turns : turns_at_last m table items flow ≡ turns_at_last m table items' flow'
+  pub arcs : (arc : ℕ) → arc < length flow.wires.arcs.items → IsEndOf (left_on m table items' flow' arc) (left_on m table items flow arc)
 
 -- what falls with each step: what is to be released, what may still be taken, and the actors that aren't finished
 abbrev pub open_seats : {O : Type 0} → List (Seat O) → ℕ

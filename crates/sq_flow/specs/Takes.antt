@@ -1,6 +1,8 @@
 -- Which items may be fed.
-use Rattle.std.specs.Prelude.{ℕ, ◌==◌, ◌≤◌, ◌&&◌, ◌||◌, nat_lt, nat_le, Bool, true, List, length, Option, Some, None, if◌then◌else◌}
+use Rattle.std.specs.Prelude.{ℕ, ◌==◌, ◌≤◌, ◌&&◌, ◌||◌, nat_lt, nat_le, Bool, true, List, Option, Some, None, if◌then◌else◌}
+use Rattle.sq_value.specs.declared.Kind.{Kind}
 use Rattle.sq_value.specs.declared.Value.{Value}
+use Rattle.sq_value.specs.Values.{kinds_fit}
 use Rattle.sq_item.specs.declared.Item.{Item}
 use Rattle.sq_item.specs.declared.Mark.{Mark}
 use Rattle.sq_oper.specs.declared.tally.Place.{Place}
@@ -15,7 +17,7 @@ abbrev pub takes_of : Arc → ℕ → Bool
 takes_of at port = at.marked
 
 abbrev pub fits_of : Arc → ℕ → List Value → Bool
-fits_of at port fields = length fields == at.width
+fits_of at port fields = kinds_fit at.kinds fields
 
 -- an item may come from an arc to a port of an operator that stands at this place
 pub record MayBeFed (at : Arc) (port : ℕ) (place : Place) (clock : ℕ) (item : Item) : Type 0 where
@@ -32,9 +34,9 @@ abbrev pub mark_fits : Bool → Option Mark → Bool
 mark_fits marked None = true
 mark_fits marked (Some m) = marked
 
-abbrev pub body_fits : ℕ → Option (List Value) → Bool
-body_fits width None = true
-body_fits width (Some fields) = length fields == width
+abbrev pub body_fits : List Kind → Option (List Value) → Bool
+body_fits kinds None = true
+body_fits kinds (Some fields) = kinds_fit kinds fields
 
 -- an error that may come over an honest disk
 abbrev pub NotStrange : RunErr → Type 0

@@ -2,6 +2,7 @@
 use Rattle.std.specs.Prelude.{◌≡◌, ℕ, ◌+◌, ◌==◌, ◌≤◌, ◌<◌, ◌^◌, Bool, true, false, List, [], ◌∷◌, length, Option, Some, None, Vec, slice_get, if◌then◌else◌}
 use Rattle.std.specs.declared.alloc.Global.{Global}
 use Rattle.sq_value.specs.declared.Value.{Value}
+use Rattle.sq_value.specs.Values.{kinds_fit}
 use Rattle.sq_item.specs.declared.Item.{Item}
 use Rattle.sq_item.specs.Things.{Thing}
 use Rattle.sq_item.specs.Sound.{IsSound}
@@ -40,9 +41,10 @@ abbrev pub marked_of : Option Arc → Bool
 marked_of None = false
 marked_of (Some arc) = arc.marked
 
-abbrev pub wide_of : Option Arc → List Value → Bool
-wide_of None fields = false
-wide_of (Some arc) fields = length fields == arc.width
+-- as many values as kinds, each Null or of its kind
+abbrev pub fits_on : Option Arc → List Value → Bool
+fits_on None fields = false
+fits_on (Some arc) fields = kinds_fit arc.kinds fields
 
 -- the arcs that an operator reads, by port
 abbrev pub arcs_read : Wires → ℕ → List ℕ
@@ -76,7 +78,7 @@ net_of wires =
       from = λ arc. from_of (slice_get wires.arcs.items arc);
       port = λ arc. port_of (slice_get wires.arcs.items arc);
       takes = λ actor port. marked_of (arc_at wires (slice_get (arcs_read wires actor) port));
-      fits = λ actor port fields. wide_of (arc_at wires (slice_get (arcs_read wires actor) port)) fields;
+      fits = λ actor port fields. fits_on (arc_at wires (slice_get (arcs_read wires actor) port)) fields;
     }
 
 -- what an item that an actor gives at a port is on a stream

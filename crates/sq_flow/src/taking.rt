@@ -1,6 +1,7 @@
 //! Taking an item from an arc, and the tests that it passes.
 
 ghost use Rattle.std.specs.Prelude.{◌≡◌, ◌≢◌, ℕ, ◌+◌, ◌-◌, ◌^◌, ◌<◌, ◌≤◌, ◌∷◌, ◌⊎◌, true, is_some, length, List, Option, IfOk, IfErr, OnOk, OnErr};
+ghost use Rattle.sq_value.specs.Values.{is_of_kind, kinds_fit};
 ghost use Rattle.sq_item.specs.declared.Item.{Item};
 ghost use Rattle.sq_item.specs.Sound.{IsSound};
 ghost use Rattle.sq_item.specs.Things.{spread};
@@ -17,6 +18,7 @@ use sq_item::{Body, Item, Sign};
 use sq_oper::Place;
 use sq_outside::PageDisk;
 use sq_queue::Queues;
+use sq_value::{Kind, Value};
 
 #[inline(always)]
 fn mark_fits(marked: bool, mark: &Sign) -> bool
@@ -26,10 +28,39 @@ fn mark_fits(marked: bool, mark: &Sign) -> bool
 }
 
 #[inline(always)]
-fn body_fits(width: u32, body: &Body) -> bool
-    ensures { result ≡ body_fits width body.now }
+fn is_of(kind: Kind, value: &Value) -> bool
+    ensures { result ≡ is_of_kind kind value.now }
 {
-    !body.is_some() || body.as_slice().len() == width as usize
+    match value {
+        Value::Null => true,
+        Value::Int(_) => kind == Kind::Int,
+        Value::Bool(_) => kind == Kind::Bool,
+        Value::Text(_) => kind == Kind::Text,
+    }
+}
+
+/// As many values as kinds, each Null or of its kind: it is asked of each tuple that is fed, so it goes over both at once.
+#[tactic(auto, using(crate::proofs::KindLemmas::kind_lemmas))]
+#[inline]
+fn kinds_fit(kinds: &[Kind], values: &[Value]) -> bool
+    ensures { result ≡ kinds_fit kinds.now values.now }
+{
+    if values.len() != kinds.len() {
+        return false;
+    }
+    for at in 0..kinds.len() {
+        if !is_of(kinds[at], &values[at]) {
+            return false;
+        }
+    }
+    true
+}
+
+#[inline(always)]
+fn body_fits(kinds: &[Kind], body: &Body) -> bool
+    ensures { result ≡ body_fits kinds.now body.now }
+{
+    !body.is_some() || kinds_fit(kinds, body.as_slice())
 }
 
 /// What begins with a mark, or with a tuple, may stand behind this place.
@@ -56,13 +87,13 @@ fn may_stand(place: Place, port: u32, time: u64, mark: bool) -> bool
 /// An item may come from an arc to a port of an operator that stands at this place.
 #[tactic(auto, using(crate::proofs::TakeLemmas::take_lemmas))]
 #[inline(always)]
-fn may_be_fed(at: Arc, port: u32, place: Place, clock: u64, item: &Item) -> bool
+fn may_be_fed(at: &Arc, port: u32, place: Place, clock: u64, item: &Item) -> bool
     requires { IsSound item.now }
-    ensures yes { result ≡ true → MayBeFed at port place clock item.now }
-    ensures no { MayBeFed at port place clock item.now → result ≡ true }
+    ensures yes { result ≡ true → MayBeFed at.now port place clock item.now }
+    ensures no { MayBeFed at.now port place clock item.now → result ≡ true }
 {
     let stands = may_stand(place, port, item.time, item.mark.is_some());
-    let fits = mark_fits(at.marked, &item.mark) && body_fits(at.width, &item.body);
+    let fits = mark_fits(at.marked, &item.mark) && body_fits(at.kinds.as_slice(), &item.body);
     item.time <= clock && fits && stands
 }
 
@@ -83,7 +114,7 @@ pub(crate) const LIMIT: u64 = 0x3FFF_FFFF_FFFF_FFFF;
 pub(crate) fn take_item<D: PageDisk>(
     queues: &mut Queues,
     disk: &mut D,
-    at: Arc,
+    at: &Arc,
     arc: u32,
     port: u32,
     place: Place,
@@ -93,7 +124,7 @@ pub(crate) fn take_item<D: PageDisk>(
     requires some { is_some (face queues.old arc).first ≡ true }
     requires together { Together queues.old (known (D.log disk.old)) }
     ensures sound { IfOk result IsSound }
-    ensures may_be_fed { IfOk result (λ item. MayBeFed at port place clock item) }
+    ensures may_be_fed { IfOk result (λ item. MayBeFed at.now port place clock item) }
     ensures ended { OnOk result ((other : ℕ) → (face queues.new other).ended ≡ (face queues.old other).ended) }
     ensures faces { (other : ℕ) → other ≢ arc → face queues.new other ≡ face queues.old other }
     ensures size { size queues.new ≡ size queues.old }
@@ -102,10 +133,10 @@ pub(crate) fn take_item<D: PageDisk>(
     ensures together { OnOk result (Together queues.new (known (D.log disk.new))) }
     ensures later { IsLater (D.log disk.old) (D.log disk.new) }
     ensures strange { IfErr result (λ e. Honest (D.log disk.old)
-        → ((item : Item) (more : List Item) → items_on queues.old (known (D.log disk.old)) arc ≡ item ∷ more → MayBeFed at port place clock item) → NotStrange e) }
+        → ((item : Item) (more : List Item) → items_on queues.old (known (D.log disk.old)) arc ≡ item ∷ more → MayBeFed at.now port place clock item) → NotStrange e) }
     ensures memory { IfErr result (λ e. e ≢ RunErr.TooMuch) }
     ensures cause { IfErr result (λ e. IsQueueCause queues.new (D.faults disk.old) (D.faults disk.new) e
-        ⊎ ((item : Item) × (e ≡ RunErr.Strange arc item) × ¬ (MayBeFed at port place clock item))) }
+        ⊎ ((item : Item) × (e ≡ RunErr.Strange arc item) × ¬ (MayBeFed at.now port place clock item))) }
     ensures faults { D.faults disk.old ≤ D.faults disk.new }
     ensures popped { OnOk result (IsPopped (face queues.old arc) (face queues.new arc)) }
     ensures frames { OnOk result (frames queues.new ≡ frames queues.old) }

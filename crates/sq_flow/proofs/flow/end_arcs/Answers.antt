@@ -19,7 +19,7 @@ loop-arc-preserved c =
       framed = told.frames ∙ inv.framed;
       ended = below_more _ i
           (λ arc h. let ne : arc ≢ i = omega (arith, h) in ap (λ (f : Face). f.ended) (told.others arc ne) ∙ inv.ended arc h)
-          (told.ended ∙ ap (λ b. b || (c.arc.result.from == c.args.actor)) (inv.later i (omega arith)) ∙ ap (λ n. (face c.args.queues.now i).ended || (n == c.args.actor)) from);
+          (told.ended ∙ ap (λ b. b || (c.arc.result.now.from == c.args.actor)) (inv.later i (omega arith)) ∙ ap (λ n. (face c.args.queues.now i).ended || (n == c.args.actor)) from);
       later = λ arc h. let ne : arc ≢ i = omega (arith, h) in ap (λ (f : Face). f.ended) (told.others arc ne) ∙ inv.later arc (omega (arith, h));
       apart = at_or_other (λ arc. comes_from c.args.wires.now c.args.actor arc ≡ false → face c.end_if.new.queues arc ≡ face c.args.queues.now arc) i
           (λ away. told.none (ap (λ n. n == c.args.actor) from ∙ away) ∙ inv.apart i away)

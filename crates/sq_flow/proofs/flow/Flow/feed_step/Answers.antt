@@ -21,15 +21,15 @@ returns-in-Err-clause-strange g c =
     λ honest table agrees holds.
     c.in-Err.ensures.strange honest
     (λ item more front.
-    passes-front _ _ c.args.self.now c.requires.flow c.args.actor c.requires.head.0 c.args.port c.args.arc c.arc-at.result item c.requires.actor_in c.requires.head.1
+    passes-front _ _ c.args.self.now c.requires.flow c.args.actor c.requires.head.0 c.args.port c.args.arc c.arc-at.result.now item c.requires.actor_in c.requires.head.1
     c.index.result.now is c.arc-at.ensures table agrees (items_on c.args.self.now.queues (known (g.D.PageDisk.log c.args.disk.now))) holds (c.requires.together.faces (honest-tells (g.D.PageDisk.log c.args.disk.now) honest)) more front)
 
 pub feed_seat-requires-clause-is_valid : goal.feed_seat-requires-clause-is_valid
 feed_seat-requires-clause-is_valid g c =
     let is = slice_get_read c.args.self.now.seats.items _ c.args.actor c.index_mut.result.now refl c.requires.actor_in c.index_mut.ensures.value in
-    let fine = seat-fine _ _ c.args.self.now c.requires.flow c.args.actor c.requires.head.0 c.args.port c.args.arc c.arc-at.result c.in-Ok.item c.requires.actor_in c.requires.head.1 c.index_mut.result.now is c.arc-at.ensures in (
+    let fine = seat-fine _ _ c.args.self.now c.requires.flow c.args.actor c.requires.head.0 c.args.port c.args.arc c.arc-at.result.now c.in-Ok.item c.requires.actor_in c.requires.head.1 c.index_mut.result.now is c.arc-at.ensures in (
       fine.is_valid,
-      runs _ _ c.args.self.now c.requires.flow c.args.actor c.requires.head.0 c.args.port c.args.arc c.arc-at.result c.in-Ok.item c.requires.actor_in c.requires.head.1 c.index_mut.result.now is c.arc-at.ensures c.requires.running,
+      runs _ _ c.args.self.now c.requires.flow c.args.actor c.requires.head.0 c.args.port c.args.arc c.arc-at.result.now c.in-Ok.item c.requires.actor_in c.requires.head.1 c.index_mut.result.now is c.arc-at.ensures c.requires.running,
     )
 
 pub feed_seat-requires-clause-may_come : goal.feed_seat-requires-clause-may_come
@@ -37,13 +37,13 @@ feed_seat-requires-clause-may_come g c =
     let was = slice_get_read c.args.self.now.seats.items _ c.args.actor c.index.result.now refl c.requires.actor_in c.index.ensures in
     let is = slice_get_read c.args.self.now.seats.items _ c.args.actor c.index_mut.result.now refl c.requires.actor_in c.index_mut.ensures.value in
     let same = same_Some c.index.result.now c.index_mut.result.now (sym was ∙ is) in
-    may-come _ _ c.args.self.now c.requires.flow c.args.actor c.requires.head.0 c.args.port c.args.arc c.arc-at.result c.in-Ok.item c.requires.actor_in c.requires.head.1 c.index_mut.result.now is c.arc-at.ensures
-    (subst (λ z. MayBeFed c.arc-at.result c.args.port z.tally.place c.args.self.now.clock c.in-Ok.item) same c.in-Ok.ensures.may_be_fed)
+    may-come _ _ c.args.self.now c.requires.flow c.args.actor c.requires.head.0 c.args.port c.args.arc c.arc-at.result.now c.in-Ok.item c.requires.actor_in c.requires.head.1 c.index_mut.result.now is c.arc-at.ensures
+    (subst (λ z. MayBeFed c.arc-at.result.now c.args.port z.tally.place c.args.self.now.clock c.in-Ok.item) same c.in-Ok.ensures.may_be_fed)
 
 pub feed_seat-requires-clause-has_room : goal.feed_seat-requires-clause-has_room
 feed_seat-requires-clause-has_room g c =
     let is = slice_get_read c.args.self.now.seats.items _ c.args.actor c.index_mut.result.now refl c.requires.actor_in c.index_mut.ensures.value in
-    let fine = seat-fine _ _ c.args.self.now c.requires.flow c.args.actor c.requires.head.0 c.args.port c.args.arc c.arc-at.result c.in-Ok.item c.requires.actor_in c.requires.head.1 c.index_mut.result.now is c.arc-at.ensures in
+    let fine = seat-fine _ _ c.args.self.now c.requires.flow c.args.actor c.requires.head.0 c.args.port c.args.arc c.arc-at.result.now c.in-Ok.item c.requires.actor_in c.requires.head.1 c.index_mut.result.now is c.arc-at.ensures in
     let counted = fine.counted in
     let few = fine.few in
     let weight = weighs c.in-Ok.item c.in-Ok.ensures.sound in
@@ -63,18 +63,18 @@ returns-in_err-give-clause-prefix g c =
     let was = slice_get_read c.args.self.now.seats.items _ c.args.actor c.index.result.now refl c.requires.actor_in c.index.ensures in
     let same = same_Some c.index.result.now c.index_mut.result.now (sym was ∙ is) in
     rw p.1
-    (fed-prefix _ _ c.args.self.now c.requires.flow c.args.actor c.requires.head.0 c.args.port c.args.arc c.arc-at.result c.in-Ok.item c.requires.actor_in c.requires.head.1 c.index_mut.result.now is c.arc-at.ensures
+    (fed-prefix _ _ c.args.self.now c.requires.flow c.args.actor c.requires.head.0 c.args.port c.args.arc c.arc-at.result.now c.in-Ok.item c.requires.actor_in c.requires.head.1 c.index_mut.result.now is c.arc-at.ensures
     (known (g.D.PageDisk.log c.args.disk.now)) (known (g.D.PageDisk.log c.take_item.new.disk)) (known (g.D.PageDisk.log c.give.new.disk)) c.take_item.new.queues c.feed_seat.new.seat c.feed_seat.new.out.items.items c.feed_seat.new.out.drops.items c.args.events.now.items c.give.new.events.items
     c.requires.together c.in-Ok.ensures.later.known c.in_err-give.ensures.later.known c.in-Ok.ensures.items c.in-Ok.ensures.others c.in_ok-feed_seat.ensures.fed c.in_err-give.ensures.prefix
-    (subst (λ z. MayBeFed c.arc-at.result c.args.port z.tally.place c.args.self.now.clock c.in-Ok.item) same c.in-Ok.ensures.may_be_fed) c.requires.running c.in_err-give.ensures.drops_prefix)
+    (subst (λ z. MayBeFed c.arc-at.result.now c.args.port z.tally.place c.args.self.now.clock c.in-Ok.item) same c.in-Ok.ensures.may_be_fed) c.requires.running c.in_err-give.ensures.drops_prefix)
 
 pub returns-clause-ok : goal.returns-clause-ok
 returns-clause-ok g c =
     let was = slice_get_read c.args.self.now.seats.items _ c.args.actor c.index.result.now refl c.requires.actor_in c.index.ensures in
     let is = slice_get_read c.args.self.now.seats.items _ c.args.actor c.index_mut.result.now refl c.requires.actor_in c.index_mut.ensures.value in
     let same = same_Some c.index.result.now c.index_mut.result.now (sym was ∙ is) in
-    let may = subst (λ z. MayBeFed c.arc-at.result c.args.port z.tally.place c.args.self.now.clock c.in-Ok.item) same c.in-Ok.ensures.may_be_fed in
-    fed-stepped _ _ c.args.self.now c.requires.flow c.args.actor c.requires.head.0 c.args.port c.args.arc c.arc-at.result c.in-Ok.item c.requires.actor_in c.requires.head.1 c.index_mut.result.now is c.arc-at.ensures
+    let may = subst (λ z. MayBeFed c.arc-at.result.now c.args.port z.tally.place c.args.self.now.clock c.in-Ok.item) same c.in-Ok.ensures.may_be_fed in
+    fed-stepped _ _ c.args.self.now c.requires.flow c.args.actor c.requires.head.0 c.args.port c.args.arc c.arc-at.result.now c.in-Ok.item c.requires.actor_in c.requires.head.1 c.index_mut.result.now is c.arc-at.ensures
     (known (g.D.PageDisk.log c.args.disk.now)) (known (g.D.PageDisk.log c.give.new.disk)) (known (g.D.PageDisk.log c.take_item.new.disk)) c.take_item.new.queues c.give.new.queues _ c.in-Ok-count_item.taken
     c.feed_seat.new.seat c.feed_seat.new.out.items.items c.feed_seat.new.out.drops.items c.args.events.now.items c.give.new.events.items
     c.requires.together
@@ -85,9 +85,9 @@ returns-clause-ok g c =
     (λ other ne. slice_get-set_other c.args.self.now.seats.items c.args.actor other c.feed_seat.new.seat ne)
     (length-set c.args.self.now.seats.items c.args.actor c.feed_seat.new.seat) c.requires.running c.in_ok-give.ensures.sent c.in_ok-give.ensures.shown c.in_ok-give.ensures.drops
     (c.in_ok-give.ensures.below (length c.args.self.now.seats.items - c.args.self.now.wires.shown) (below-outputs c.args.actor (length c.args.self.now.seats.items) c.args.self.now.wires.shown c.requires.actor_in)
-    (own-drops _ _ c.args.self.now c.requires.flow c.args.actor c.requires.head.0 c.args.port c.args.arc c.arc-at.result c.in-Ok.item c.requires.actor_in c.requires.head.1 c.index_mut.result.now is c.arc-at.ensures
+    (own-drops _ _ c.args.self.now c.requires.flow c.args.actor c.requires.head.0 c.args.port c.args.arc c.arc-at.result.now c.in-Ok.item c.requires.actor_in c.requires.head.1 c.index_mut.result.now is c.arc-at.ensures
     c.feed_seat.new.seat c.feed_seat.new.out.items.items c.feed_seat.new.out.drops.items c.in_ok-feed_seat.ensures.fed may
-    (runs _ _ c.args.self.now c.requires.flow c.args.actor c.requires.head.0 c.args.port c.args.arc c.arc-at.result c.in-Ok.item c.requires.actor_in c.requires.head.1 c.index_mut.result.now is c.arc-at.ensures c.requires.running)))
+    (runs _ _ c.args.self.now c.requires.flow c.args.actor c.requires.head.0 c.args.port c.args.arc c.arc-at.result.now c.in-Ok.item c.requires.actor_in c.requires.head.1 c.index_mut.result.now is c.arc-at.ensures c.requires.running)))
     c.in_ok-give.ensures.plans
 
 pub returns-clause-measure : goal.returns-clause-measure
@@ -108,15 +108,15 @@ returns-in-Err-count_item-clause-cost_err g c = costs-none _ _ c.args.self.now c
 pub returns-in-Err-count_item-clause-too_much : goal.returns-in-Err-count_item-clause-too_much
 returns-in-Err-count_item-clause-too_much g c =
     let is = slice_get_read c.args.self.now.seats.items _ c.args.actor c.index.result.now refl c.requires.actor_in c.index.ensures in
-    too-much-front _ _ c.args.self.now c.requires.flow c.args.actor c.requires.head.0 c.args.port c.args.arc c.arc-at.result c.in-Ok.item c.requires.actor_in c.requires.head.1 c.index.result.now is c.arc-at.ensures
+    too-much-front _ _ c.args.self.now c.requires.flow c.args.actor c.requires.head.0 c.args.port c.args.arc c.arc-at.result.now c.in-Ok.item c.requires.actor_in c.requires.head.1 c.index.result.now is c.arc-at.ensures
     (known (g.D.PageDisk.log c.args.disk.now)) (known (g.D.PageDisk.log c.take_item.new.disk)) c.take_item.new.queues _ c.in-Err-count_item.e c.requires.together c.in-Ok.ensures.later.known c.in-Ok.ensures.items c.in-Ok.ensures.others
     c.in-Err-count_item.ensures.too_much c.in-Err-count_item.ensures.few refl refl
 
 pub feed_seat-requires-clause-has_epoch : goal.feed_seat-requires-clause-has_epoch
 feed_seat-requires-clause-has_epoch g c =
     let is = slice_get_read c.args.self.now.seats.items _ c.args.actor c.index_mut.result.now refl c.requires.actor_in c.index_mut.ensures.value in
-    let fine = seat-fine _ _ c.args.self.now c.requires.flow c.args.actor c.requires.head.0 c.args.port c.args.arc c.arc-at.result c.in-Ok.item c.requires.actor_in c.requires.head.1 c.index_mut.result.now is c.arc-at.ensures in
-    fine.reads (sym fine.running ∙ runs _ _ c.args.self.now c.requires.flow c.args.actor c.requires.head.0 c.args.port c.args.arc c.arc-at.result c.in-Ok.item c.requires.actor_in c.requires.head.1 c.index_mut.result.now is c.arc-at.ensures c.requires.running)
+    let fine = seat-fine _ _ c.args.self.now c.requires.flow c.args.actor c.requires.head.0 c.args.port c.args.arc c.arc-at.result.now c.in-Ok.item c.requires.actor_in c.requires.head.1 c.index_mut.result.now is c.arc-at.ensures in
+    fine.reads (sym fine.running ∙ runs _ _ c.args.self.now c.requires.flow c.args.actor c.requires.head.0 c.args.port c.args.arc c.arc-at.result.now c.in-Ok.item c.requires.actor_in c.requires.head.1 c.index_mut.result.now is c.arc-at.ensures c.requires.running)
 
 pub returns-in_err-feed_seat-clause-cost_err : goal.returns-in_err-feed_seat-clause-cost_err
 returns-in_err-feed_seat-clause-cost_err g c =
@@ -131,14 +131,14 @@ returns-in_err-give-clause-cost_err g c =
     let p = err_from_is_err_and c.from_residual-in_err-give.result c.from_residual-in_err-give.ensures.1 in
     let is = slice_get_read c.args.self.now.seats.items _ c.args.actor c.index_mut.result.now refl c.requires.actor_in c.index_mut.ensures.value in
     rw p.1
-    (costs-front _ _ c.args.self.now c.requires.flow c.args.actor c.requires.head.0 c.args.port c.args.arc c.arc-at.result c.in-Ok.item c.requires.actor_in c.requires.head.1 c.index_mut.result.now is c.arc-at.ensures
+    (costs-front _ _ c.args.self.now c.requires.flow c.args.actor c.requires.head.0 c.args.port c.args.arc c.arc-at.result.now c.in-Ok.item c.requires.actor_in c.requires.head.1 c.index_mut.result.now is c.arc-at.ensures
     (known (g.D.PageDisk.log c.args.disk.now)) (known (g.D.PageDisk.log c.take_item.new.disk)) (known (g.D.PageDisk.log c.give.new.disk)) c.take_item.new.queues c.args.steps.now c.feed_seat.new.steps
     c.requires.together c.in-Ok.ensures.later.known c.in_err-give.ensures.later.known c.in-Ok.ensures.items c.in-Ok.ensures.others c.in_ok-feed_seat.ensures.cost)
 
 pub returns-clause-touches : goal.returns-clause-touches
 returns-clause-touches g c =
     let is = slice_get_read c.args.self.now.seats.items _ c.args.actor c.index_mut.result.now refl c.requires.actor_in c.index_mut.ensures.value in
-    fed-touches _ _ c.args.self.now c.requires.flow c.args.actor c.requires.head.0 c.args.port c.args.arc c.arc-at.result c.in-Ok.item c.requires.actor_in c.requires.head.1 c.index_mut.result.now is c.arc-at.ensures
+    fed-touches _ _ c.args.self.now c.requires.flow c.args.actor c.requires.head.0 c.args.port c.args.arc c.arc-at.result.now c.in-Ok.item c.requires.actor_in c.requires.head.1 c.index_mut.result.now is c.arc-at.ensures
     (known (g.D.PageDisk.log c.give.new.disk)) (known (g.D.PageDisk.log c.take_item.new.disk)) c.take_item.new.queues c.give.new.queues _ c.in-Ok-count_item.taken c.feed_seat.new.seat c.feed_seat.new.out.items.items
     c.in-Ok.ensures.faces c.in_ok-feed_seat.ensures.fed.open_still
     (slice_get-set_same c.args.self.now.seats.items c.args.actor c.feed_seat.new.seat c.requires.actor_in)
@@ -147,7 +147,7 @@ returns-clause-touches g c =
 pub returns-clause-cost : goal.returns-clause-cost
 returns-clause-cost g c =
     let is = slice_get_read c.args.self.now.seats.items _ c.args.actor c.index_mut.result.now refl c.requires.actor_in c.index_mut.ensures.value in
-    costs-fed _ _ c.args.self.now c.requires.flow c.args.actor c.requires.head.0 c.args.port c.args.arc c.arc-at.result c.in-Ok.item c.requires.actor_in c.requires.head.1 c.index_mut.result.now is c.arc-at.ensures
+    costs-fed _ _ c.args.self.now c.requires.flow c.args.actor c.requires.head.0 c.args.port c.args.arc c.arc-at.result.now c.in-Ok.item c.requires.actor_in c.requires.head.1 c.index_mut.result.now is c.arc-at.ensures
     (with_item c.args.self.now.seats c.args.actor c.feed_seat.new.seat) c.give.new.queues c.in-Ok-count_item.taken c.feed_seat.new.seat c.args.steps.now c.feed_seat.new.steps
     (slice_get-set_same c.args.self.now.seats.items c.args.actor c.feed_seat.new.seat c.requires.actor_in)
     (λ other ne. slice_get-set_other c.args.self.now.seats.items c.args.actor other c.feed_seat.new.seat ne)
@@ -156,7 +156,7 @@ returns-clause-cost g c =
 pub returns-in-Err-clause-cause : goal.returns-in-Err-clause-cause
 returns-in-Err-clause-cause g c =
     let is = slice_get_read c.args.self.now.seats.items _ c.args.actor c.index.result.now refl c.requires.actor_in c.index.ensures in
-    refused-in _ c.args.actor c.args.port c.args.arc c.index.result.now c.arc-at.result _ _ _ c.requires.head.1.1 is c.arc-at.ensures c.in-Err.ensures.cause
+    refused-in _ c.args.actor c.args.port c.args.arc c.index.result.now c.arc-at.result.now _ _ _ c.requires.head.1.1 is c.arc-at.ensures c.in-Err.ensures.cause
 
 pub returns-in-Err-count_item-clause-cause : goal.returns-in-Err-count_item-clause-cause
 returns-in-Err-count_item-clause-cause g c = too-much-in _ _ _ _ c.in-Err-count_item.ensures.err
