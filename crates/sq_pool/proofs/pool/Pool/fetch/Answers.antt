@@ -75,8 +75,10 @@ returns-clause-came g c =
     let same = ap sha256 (sym read) ∙ sym c.digest_of-got.ensures ∙ sym (c.are_same.ensures.0 c.if-not-are_same.false) in
     (
       c.get.new.into,
-      record { there = there; came = came-got _ _ _ c.args.page c.get.new.into c.make_room.ensures.later c.in-Ok.ensures.ok },
-      c.requires.kept ∙ ap (λ (d : List ℕ). Some d) (sym same),
+      (
+        record { there = there; came = came-got _ _ _ c.args.page c.get.new.into c.make_room.ensures.later c.in-Ok.ensures.ok },
+        c.requires.kept ∙ ap (λ (d : List ℕ). Some d) (sym same),
+      ),
     )
 
 pub returns-clause-ok : goal.returns-clause-ok
