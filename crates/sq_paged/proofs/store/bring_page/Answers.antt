@@ -14,7 +14,7 @@ returns-clause-ok g c =
     c.test_page.ensures.ok
 
 pub returns-in-Err-clause-cause : goal.returns-in-Err-clause-cause
-returns-in-Err-clause-cause g c = rw c.failed.ensures (pool-cause _ _ _ _ c.args.kept.now c.in-Err.e c.in-Err.ensures.garbled)
+returns-in-Err-clause-cause g c = rw c.failed.ensures (pool-cause c.args.pool.now c.bring.new.self _ _ c.args.kept.now c.in-Err.e c.in-Err.ensures.garbled)
 
 pub returns-in-Err-clause-misfit : goal.returns-in-Err-clause-misfit
 returns-in-Err-clause-misfit g c = λ tells. rw c.failed.ensures (pool-fits c.in-Err.e)
@@ -22,7 +22,7 @@ returns-in-Err-clause-misfit g c = λ tells. rw c.failed.ensures (pool-fits c.in
 pub returns-clause-cause : goal.returns-clause-cause
 returns-clause-cause g c =
     let out = none-by _ c.if-there.ensures in
-    if-err c.test_page.result (λ e. misfit-cause _ _ _ _ c.args.kept.now c.page.result.now e out (c.in-Ok.ensures.came out) c.page.ensures.value) c.test_page.ensures.cause
+    if-err c.test_page.result (λ e. misfit-cause c.args.pool.now c.bring.new.self _ _ c.args.kept.now c.page.result.now e out (c.in-Ok.ensures.came out) c.page.ensures.value) c.test_page.ensures.cause
 
 pub returns-clause-misfit : goal.returns-clause-misfit
 returns-clause-misfit g c =
