@@ -2,10 +2,10 @@
 use Rattle.std.proofs.Common.{◌≡◌, ℕ, ◌<◌, true, false, List, [], ◌∷◌, Option, Some, None, length, refl, sym, ap, subst, ◌∙◌, inl, arith, get_or, get_or-set_same}
 use Rattle.std.specs.Prelude.{slice_get, IfSome, IfOk, Result, Ok, Err, is_some}
 use Rattle.sq_item.specs.declared.Item.{Item}
-use Rattle.sq_link.specs.Chained.{StandsIn, head_or}
-use Rattle.sq_outside.specs.Disks.{Pages}
+use Rattle.sq_link.specs.Chained.{Chained, StandsIn, head_or, list_at}
+use Rattle.sq_outside.specs.Disks.{DiskLog, Pages}
 use Rattle.sq_paged.specs.Kept.{IsCause, IsTold}
-use Rattle.sq_paged.specs.Faces.{face_at, nodes_on, kept_at, count_along, is_first, last_at, last_of, Together, IsRefusal}
+use Rattle.sq_paged.specs.Faces.{face_at, nodes_on, kept_at, count_along, is_first, last_at, last_of, Together, IsRefusal, SameTables}
 use Rattle.sq_paged.specs.Steps.{TakesAt}
 use Rattle.sq_paged.specs.declared.Lane.{Lane}
 use Rattle.sq_paged.specs.declared.store.Kept.{Kept}
@@ -33,17 +33,27 @@ pub last-in : (q : Queues) (told : Option Pages) (arc : ℕ) (lane : Lane) (node
 last-in q told arc lane node g is e = last-stands node (nodes_on q arc) (last-is q told arc lane node g is e)
 
 -- why a page of an arc is refused is why the arc is
-pub cause-refusal : (q r : Queues) (arc node : ℕ) (e : QueueErr) → StandsIn node (nodes_on q arc) → IsCause q.pool r.pool (kept_at q.kept.items node) e → IsRefusal q r arc e
-cause-refusal q r arc node error.Disk s h = tt
-cause-refusal q r arc node (error.Garbled page kept got) s h = (node, s, h)
-cause-refusal q r arc node (error.NotAPage page bytes) s h = (node, s, h)
-cause-refusal q r arc node error.Memory s h = tt
+pub cause-refusal : (q r : Queues) (before now : DiskLog) (arc node : ℕ) (e : QueueErr) → StandsIn node (nodes_on q arc) → IsCause q.pool r.pool before now (kept_at q.kept.items node) e → SameTables q r → IsRefusal q r before now arc e
+cause-refusal q r before now arc node error.Disk s h same = tt
+cause-refusal q r before now arc node (error.Garbled page kept got) s h same = (
+  node,
+  subst (λ (x : Chained). StandsIn node (list_at x.lists arc)) (sym same.chains) s,
+  subst (λ (x : List Kept). IsCause q.pool r.pool before now (kept_at x node) (error.Garbled page kept got)) (sym same.kept) h,
+  same,
+)
+cause-refusal q r before now arc node (error.NotAPage page bytes) s h same = (
+  node,
+  subst (λ (x : Chained). StandsIn node (list_at x.lists arc)) (sym same.chains) s,
+  subst (λ (x : List Kept). IsCause q.pool r.pool before now (kept_at x node) (error.NotAPage page bytes)) (sym same.kept) h,
+  same,
+)
+cause-refusal q r before now arc node error.Memory s h same = tt
 
-pub plain-refusal : (q r : Queues) (arc : ℕ) (e : QueueErr) → IsTold e → IsRefusal q r arc e
-plain-refusal q r arc error.Disk h = tt
-plain-refusal q r arc (error.Garbled page kept got) h = absurd h
-plain-refusal q r arc (error.NotAPage page bytes) h = absurd h
-plain-refusal q r arc error.Memory h = tt
+pub plain-refusal : (q r : Queues) (before now : DiskLog) (arc : ℕ) (e : QueueErr) → IsTold e → IsRefusal q r before now arc e
+plain-refusal q r before now arc error.Disk h = tt
+plain-refusal q r before now arc (error.Garbled page kept got) h = absurd h
+plain-refusal q r before now arc (error.NotAPage page bytes) h = absurd h
+plain-refusal q r before now arc error.Memory h = tt
 
 -- where something stands on an arc, a page does
 pub some-first : (q : Queues) (told : Option Pages) (arc : ℕ) → Together q told → is_some (face_at (slice_get q.lanes.items arc)).first ≡ true → head_or (nodes_on q arc) None ≡ None → ⊥

@@ -4,7 +4,7 @@ use Rattle.std.specs.Prelude.{◌≡◌, ◌≢◌, ⊤, ℕ, ◌+◌, ◌==◌,
 use Rattle.std.specs.List.{flat_map}
 use Rattle.sq_item.specs.declared.Item.{Item}
 use Rattle.sq_link.specs.Chained.{list_at, StandsIn}
-use Rattle.sq_outside.specs.Disks.{Pages}
+use Rattle.sq_outside.specs.Disks.{DiskLog, Pages}
 use Rattle.sq_pool.specs.Trust.{Tells}
 use Rattle.sq_pool.specs.Pools.{Pooled, is_held, Agree}
 use Rattle.sq_paged.specs.Fronts.{Face, first_time, IsFaceOf}
@@ -107,9 +107,17 @@ pub record Together (queues : Queues) (told : Option Pages) : Type 0 where
   pub standing : (page : ℕ) → is_held queues.pool page ≡ true → IsOfNode queues page
   pub faces : Tells told → (arc : ℕ) → IsFaceOf (face queues arc) (items_on queues told arc)
 
--- why an arc is refused: a page of it came back, and it is refused
-abbrev pub IsRefusal : Queues → Queues → ℕ → QueueErr → Type 0
-IsRefusal q r arc error.Disk = ⊤
-IsRefusal q r arc (error.Garbled page kept got) = (node : ℕ) × StandsIn node (nodes_on q arc) × IsCause q.pool r.pool (kept_at q.kept.items node) (error.Garbled page kept got)
-IsRefusal q r arc (error.NotAPage page bytes) = (node : ℕ) × StandsIn node (nodes_on q arc) × IsCause q.pool r.pool (kept_at q.kept.items node) (error.NotAPage page bytes)
-IsRefusal q r arc error.Memory = ⊤
+-- all that queues keep of arcs and of pages is as before
+pub record SameTables (q r : Queues) : Type 0 where
+  pub lanes : r.lanes.items ≡ q.lanes.items
+  pub kept : r.kept.items ≡ q.kept.items
+  pub chains : r.chains ≡ q.chains
+
+-- why an arc is refused: a page of it came back, and it is refused; what is kept of arcs and pages stayed
+abbrev pub IsRefusal : Queues → Queues → DiskLog → DiskLog → ℕ → QueueErr → Type 0
+IsRefusal q r before now arc error.Disk = ⊤
+IsRefusal q r before now arc (error.Garbled page kept got) =
+    (node : ℕ) × StandsIn node (nodes_on r arc) × IsCause q.pool r.pool before now (kept_at r.kept.items node) (error.Garbled page kept got) × SameTables q r
+IsRefusal q r before now arc (error.NotAPage page bytes) =
+    (node : ℕ) × StandsIn node (nodes_on r arc) × IsCause q.pool r.pool before now (kept_at r.kept.items node) (error.NotAPage page bytes) × SameTables q r
+IsRefusal q r before now arc error.Memory = ⊤

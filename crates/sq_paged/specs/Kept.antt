@@ -1,10 +1,10 @@
 -- What is kept of a page, and the pages of a pool as they are seen over a disk.
 use Rattle.std.specs.Prelude.{◌≡◌, ◌≢◌, ⊤, ℕ, ◌+◌, ◌≤◌, true, false, List, [], ◌∷◌, ◌++◌, Option, Some, None}
 use Rattle.sq_item.specs.declared.Item.{Item}
-use Rattle.sq_outside.specs.Disks.{Pages}
+use Rattle.sq_outside.specs.Disks.{DiskLog, Pages}
 use Rattle.sq_page.specs.Fitting.{Fits, items_from}
 use Rattle.sq_pool.specs.Pools.{Pooled, bytes_in, page_of, is_held, Agree}
-use Rattle.sq_pool.specs.Errors.{IsGarbling}
+use Rattle.sq_pool.specs.Errors.{IsGarbling, IsWhole}
 use Rattle.sq_pool.specs.Trust.{Tells}
 use Rattle.sq_pool.specs.declared.pool.PoolErr.{PoolErr}
 use Rattle.sq_pool.specs.declared.pool.PoolErr.TheVariants as pool
@@ -103,13 +103,14 @@ IsMisfit bytes kept (error.Garbled page old got) = ⊥
 IsMisfit bytes kept (error.NotAPage page got) = (page ≡ kept.page) × (got.items ≡ bytes) × (¬ (FitsKept bytes kept))
 IsMisfit bytes kept error.Memory = ⊤
 
--- why a page is refused, by the pool before and after: the digest that was kept isn't that of the bytes which came back, or
--- these came back and don't fit what is kept of the page
-abbrev pub IsCause : Pooled → Pooled → Kept → QueueErr → Type 0
-IsCause c d kept error.Disk = ⊤
-IsCause c d kept (error.Garbled page old got) = IsGarbling c d kept.page (pool.Garbled page old got)
-IsCause c d kept (error.NotAPage page bytes) = (page ≡ kept.page) × (bytes_in page c.resident ≡ None) × (bytes_in page d.resident ≡ Some bytes.items) × (¬ (FitsKept bytes.items kept))
-IsCause c d kept error.Memory = ⊤
+-- why a page is refused, by the pool and the disk's log before and after: the digest that was kept isn't that of the bytes which came
+-- back in this call, or these came back in it with the digest that was kept, and don't fit what is kept of the page
+abbrev pub IsCause : Pooled → Pooled → DiskLog → DiskLog → Kept → QueueErr → Type 0
+IsCause c d before now kept error.Disk = ⊤
+IsCause c d before now kept (error.Garbled page old got) = IsGarbling c d before now kept.page (pool.Garbled page old got)
+IsCause c d before now kept (error.NotAPage page bytes) =
+    (page ≡ kept.page) × (bytes_in page c.resident ≡ None) × IsWhole c d before now page bytes.items × (¬ (FitsKept bytes.items kept))
+IsCause c d before now kept error.Memory = ⊤
 
 -- a refusal that may come over an honest disk
 abbrev pub IsTold : QueueErr → Type 0
@@ -117,3 +118,10 @@ IsTold error.Disk = ⊤
 IsTold (error.Garbled page old got) = ⊥
 IsTold (error.NotAPage page bytes) = ⊥
 IsTold error.Memory = ⊤
+
+-- a refusal that may come over a disk that is known: a page that came back with its digest is the one that was put
+abbrev pub NoMisfit : QueueErr → Type 0
+NoMisfit error.Disk = ⊤
+NoMisfit (error.Garbled page old got) = ⊤
+NoMisfit (error.NotAPage page bytes) = ⊥
+NoMisfit error.Memory = ⊤

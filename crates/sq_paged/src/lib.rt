@@ -8,14 +8,14 @@
 //! of it is handed on. Below stand items, pages, linked lists, the pool and the disk.
 #![tactic(auto)]
 
-ghost use Rattle.std.specs.Prelude.{◌≡◌, ◌≢◌, ℕ, ◌+◌, ◌-◌, ◌<◌, ◌≤◌, ◌++◌, ◌∷◌, [], true, false, Option, Some, None, length, is_some, option_map, IfOk, OnOk, IfErr, IfSome, replicate};
+ghost use Rattle.std.specs.Prelude.{◌≡◌, ◌≢◌, ℕ, ◌+◌, ◌-◌, ◌<◌, ◌≤◌, ◌++◌, ◌∷◌, [], true, false, Option, Some, None, length, is_some, option_map, IfOk, OnOk, OnErr, IfErr, IfSome, replicate};
 ghost use Rattle.sq_item.specs.Sound.{IsSound};
 ghost use Rattle.sq_outside.specs.Disks.{Honest, Pages};
 ghost use Rattle.sq_outside.specs.Faults.{Rose};
 ghost use Rattle.sq_paged.specs.Fronts.{head_by, pushed, IsPopped};
 ghost use Rattle.sq_pool.specs.Trust.{IsLater, Tells, known};
-ghost use Rattle.sq_paged.specs.Kept.{IsTold, IsCause};
-ghost use Rattle.sq_paged.specs.Faces.{face, size, frames, frames as frames_of, resident_of, items_on, Together, no_items, last_if, IsKept, kept_at, IsRefusal};
+ghost use Rattle.sq_paged.specs.Kept.{IsTold, IsCause, NoMisfit};
+ghost use Rattle.sq_paged.specs.Faces.{face, size, frames, frames as frames_of, resident_of, items_on, Together, no_items, last_if, IsKept, kept_at, IsRefusal, SameTables};
 ghost use Rattle.sq_paged.specs.Steps.{AppendsAt, TakesAt, StartsAt, DropsAt, Adds, Removes};
 ghost use Rattle.sq_page.specs.Pages.{item_bytes};
 ghost use Rattle.sq_pool.specs.Pools.{Agree, is_held};
@@ -124,8 +124,9 @@ impl Queues {
 
         // Each refusal.
         ensures disk { IfErr result (λ e. e ≡ QueueErr.Disk → Rose (D.faults disk.old) (D.faults disk.new)) }
-        ensures cause { IfErr result (λ e. IsRefusal self.old self.new arc e) }
+        ensures cause { IfErr result (λ e. IsRefusal self.old self.new (D.log disk.old) (D.log disk.new) arc e) }
         ensures honest { IfErr result (λ e. Honest (D.log disk.old) → IsTold e) }
+        ensures misfit { IfErr result (λ e. Tells (known (D.log disk.new)) → NoMisfit e) }
         ensures faults { D.faults disk.old ≤ D.faults disk.new }
     {
         let lane = self.lanes[arc as usize];
@@ -162,8 +163,9 @@ impl Queues {
 
         // Each refusal.
         ensures disk { IfErr result (λ e. e ≡ QueueErr.Disk → Rose (D.faults disk.old) (D.faults disk.new)) }
-        ensures cause { IfErr result (λ e. IsRefusal self.old self.new arc e) }
+        ensures cause { IfErr result (λ e. IsRefusal self.old self.new (D.log disk.old) (D.log disk.new) arc e) }
         ensures honest { IfErr result (λ e. Honest (D.log disk.old) → IsTold e) }
+        ensures misfit { IfErr result (λ e. Tells (known (D.log disk.new)) → NoMisfit e) }
         ensures faults { D.faults disk.old ≤ D.faults disk.new }
     {
         self.push(disk, arc, &item)
@@ -187,8 +189,9 @@ impl Queues {
 
         // Each refusal.
         ensures disk { IfErr result (λ e. e ≡ QueueErr.Disk → Rose (D.faults disk.old) (D.faults disk.new)) }
-        ensures cause { IfErr result (λ e. IsRefusal self.old self.new arc e) }
+        ensures cause { IfErr result (λ e. IsRefusal self.old self.new (D.log disk.old) (D.log disk.new) arc e) }
         ensures honest { IfErr result (λ e. Honest (D.log disk.old) → IsTold e) }
+        ensures misfit { IfErr result (λ e. Tells (known (D.log disk.new)) → NoMisfit e) }
         ensures faults { D.faults disk.old ≤ D.faults disk.new }
     {
         let item = match self.take(disk, arc) {
@@ -249,8 +252,9 @@ impl Queues {
         ensures ok { IfOk result (λ node. Adds self.old (known (D.log disk.old)) self.new (known (D.log disk.new)) arc node item.now) }
         ensures lanes { self.new.lanes ≡ self.old.lanes }
         ensures disk { IfErr result (λ e. e ≡ QueueErr.Disk → Rose (D.faults disk.old) (D.faults disk.new)) }
-        ensures cause { IfErr result (λ e. IsRefusal self.old self.new arc e) }
+        ensures cause { IfErr result (λ e. IsRefusal self.old self.new (D.log disk.old) (D.log disk.new) arc e) }
         ensures honest { IfErr result (λ e. Honest (D.log disk.old) → IsTold e) }
+        ensures misfit { IfErr result (λ e. Tells (known (D.log disk.new)) → NoMisfit e) }
         ensures later { IsLater (D.log disk.old) (D.log disk.new) }
         ensures faults { D.faults disk.old ≤ D.faults disk.new }
     {
@@ -274,8 +278,9 @@ impl Queues {
         ensures sound { IfOk result IsSound }
         ensures lanes { self.new.lanes ≡ self.old.lanes }
         ensures disk { IfErr result (λ e. e ≡ QueueErr.Disk → Rose (D.faults disk.old) (D.faults disk.new)) }
-        ensures cause { IfErr result (λ e. IsRefusal self.old self.new arc e) }
+        ensures cause { IfErr result (λ e. IsRefusal self.old self.new (D.log disk.old) (D.log disk.new) arc e) }
         ensures honest { IfErr result (λ e. Honest (D.log disk.old) → IsTold e) }
+        ensures misfit { IfErr result (λ e. Tells (known (D.log disk.new)) → NoMisfit e) }
         ensures later { IsLater (D.log disk.old) (D.log disk.new) }
         ensures faults { D.faults disk.old ≤ D.faults disk.new }
     {
@@ -329,8 +334,10 @@ impl Queues {
         ensures page { OnOk result (IsKept self.new.pool (known (D.log disk.new)) (kept_at self.new.kept.items node)) }
         ensures lanes { self.new.lanes ≡ self.old.lanes }
         ensures disk { IfErr result (λ e. e ≡ QueueErr.Disk → Rose (D.faults disk.old) (D.faults disk.new)) }
-        ensures cause { IfErr result (λ e. IsCause self.old.pool self.new.pool (kept_at self.old.kept.items node) e) }
+        ensures cause { IfErr result (λ e. IsCause self.old.pool self.new.pool (D.log disk.old) (D.log disk.new) (kept_at self.old.kept.items node) e) }
+        ensures tables { OnErr result (SameTables self.old self.new) }
         ensures honest { IfErr result (λ e. Honest (D.log disk.old) → IsTold e) }
+        ensures misfit { IfErr result (λ e. Tells (known (D.log disk.new)) → NoMisfit e) }
         ensures later { IsLater (D.log disk.old) (D.log disk.new) }
         ensures faults { D.faults disk.old ≤ D.faults disk.new }
     {
@@ -407,8 +414,10 @@ impl Queues {
         ensures sound { IfOk result IsSound }
         ensures lanes { self.new.lanes ≡ self.old.lanes }
         ensures disk { IfErr result (λ e. e ≡ QueueErr.Disk → Rose (D.faults disk.old) (D.faults disk.new)) }
-        ensures cause { IfErr result (λ e. IsCause self.old.pool self.new.pool (kept_at self.old.kept.items node) e) }
+        ensures cause { IfErr result (λ e. IsCause self.old.pool self.new.pool (D.log disk.old) (D.log disk.new) (kept_at self.old.kept.items node) e) }
+        ensures tables { OnErr result (SameTables self.old self.new) }
         ensures honest { IfErr result (λ e. Honest (D.log disk.old) → IsTold e) }
+        ensures misfit { IfErr result (λ e. Tells (known (D.log disk.new)) → NoMisfit e) }
         ensures later { IsLater (D.log disk.old) (D.log disk.new) }
         ensures faults { D.faults disk.old ≤ D.faults disk.new }
     {

@@ -6,8 +6,8 @@ ghost use Rattle.sq_outside.specs.Disks.{Honest};
 ghost use Rattle.sq_outside.specs.Faults.{Rose};
 ghost use Rattle.sq_page.specs.Pages.{item_bytes, IsPageOf, EndsAt, BeginsAt, end_of};
 ghost use Rattle.sq_pool.specs.Pools.{Agree, bytes_in, is_held, with_bytes};
-ghost use Rattle.sq_pool.specs.Trust.{IsLater, known};
-ghost use Rattle.sq_paged.specs.Kept.{seen, FitsKept, IsFit, Brought, Spares, of_pool, IsMisfit, IsCause, IsTold, Appended, Taken, Started};
+ghost use Rattle.sq_pool.specs.Trust.{IsLater, Tells, known};
+ghost use Rattle.sq_paged.specs.Kept.{seen, FitsKept, IsFit, Brought, Spares, of_pool, IsMisfit, IsCause, IsTold, NoMisfit, Appended, Taken, Started};
 
 use sq_item::Item;
 use sq_outside::PageDisk;
@@ -100,8 +100,9 @@ pub fn bring_page<D: PageDisk>(
 
     // Each refusal.
     ensures disk { IfErr result (λ e. e ≡ QueueErr.Disk → Rose (D.faults disk.old) (D.faults disk.new)) }
-    ensures cause { IfErr result (λ e. IsCause pool.old pool.new kept.now e) }
+    ensures cause { IfErr result (λ e. IsCause pool.old pool.new (D.log disk.old) (D.log disk.new) kept.now e) }
     ensures honest { IfErr result (λ e. Honest (D.log disk.old) → IsTold e) }
+    ensures misfit { IfErr result (λ e. Tells (known (D.log disk.new)) → NoMisfit e) }
     ensures later { IsLater (D.log disk.old) (D.log disk.new) }
     ensures faults { D.faults disk.old ≤ D.faults disk.new }
 {
@@ -147,8 +148,9 @@ pub fn append_to_page<D: PageDisk>(
 
     // Each refusal.
     ensures disk { IfErr result (λ e. e ≡ QueueErr.Disk → Rose (D.faults disk.old) (D.faults disk.new)) }
-    ensures cause { IfErr result (λ e. IsCause pool.old pool.new kept.now e) }
+    ensures cause { IfErr result (λ e. IsCause pool.old pool.new (D.log disk.old) (D.log disk.new) kept.now e) }
     ensures honest { IfErr result (λ e. Honest (D.log disk.old) → IsTold e) }
+    ensures misfit { IfErr result (λ e. Tells (known (D.log disk.new)) → NoMisfit e) }
     ensures later { IsLater (D.log disk.old) (D.log disk.new) }
     ensures faults { D.faults disk.old ≤ D.faults disk.new }
 {
@@ -189,8 +191,9 @@ pub fn take_from_page<D: PageDisk>(
 
     // Each refusal.
     ensures disk { IfErr result (λ e. e ≡ QueueErr.Disk → Rose (D.faults disk.old) (D.faults disk.new)) }
-    ensures cause { IfErr result (λ e. IsCause pool.old pool.new kept.now e) }
+    ensures cause { IfErr result (λ e. IsCause pool.old pool.new (D.log disk.old) (D.log disk.new) kept.now e) }
     ensures honest { IfErr result (λ e. Honest (D.log disk.old) → IsTold e) }
+    ensures misfit { IfErr result (λ e. Tells (known (D.log disk.new)) → NoMisfit e) }
     ensures later { IsLater (D.log disk.old) (D.log disk.new) }
     ensures faults { D.faults disk.old ≤ D.faults disk.new }
 {

@@ -1,5 +1,5 @@
 -- What is known of a disk after each call, and what makes it known.
-use Rattle.std.proofs.Common.{◌≡◌, ℕ, Bool, true, false, not, cond, List, [], ◌∷◌, Option, Some, None, ◌⊎◌, inl, inr, refl, sym, ap, subst, ◌∙◌}
+use Rattle.std.proofs.Common.{◌≡◌, ℕ, Bool, true, false, not, cond, List, [], ◌∷◌, ◌++◌, Option, Some, None, ◌⊎◌, inl, inr, refl, sym, ap, subst, ◌∙◌, append_assoc, append-nil}
 use Rattle.std.specs.Prelude.{IfSome, option_map, ◌||◌, ◌&&◌}
 use Rattle.std.specs.List.{list_all}
 use Rattle.std.specs.Str.{bytes_eq}
@@ -8,7 +8,7 @@ use Rattle.std.proofs.lemmas.List.Folds.{list_all-append}
 use Rattle.std.proofs.lemmas.Slice.Eq.{bytes_eq-Decides}
 use Rattle.sha2.specs.Sha256.{sha256}
 use Rattle.sq_outside.specs.Disks.{DiskLog, Pages, Honest, MayLose, put_at, beside, after_put, after_give_up, after_get}
-use Rattle.sq_pool.specs.Trust.{AllAmong, DigestsApart, is_faithful, known, Tells, IsLater, pages_with, pages_without}
+use Rattle.sq_pool.specs.Trust.{AllAmong, DigestsApart, is_faithful, known, Tells, IsLater, CameLast, pages_with, pages_without}
 
 -- known from what the disk promises and what came back
 abbrev known_by : Bool → Bool → Pages → Option Pages
@@ -72,10 +72,14 @@ known-get log page bytes h =
 -- ---- later
 
 pub IsLater-refl : (log : DiskLog) → IsLater log log
-IsLater-refl log = record { known = λ h. h; honest = refl }
+IsLater-refl log = record { known = λ h. h; honest = refl; came = ([], sym (append-nil log.came)) }
 
 pub IsLater-trans : (before mid now : DiskLog) → IsLater before mid → IsLater mid now → IsLater before now
-IsLater-trans before mid now first then = record { known = λ h. first.known (then.known h); honest = then.honest ∙ first.honest }
+IsLater-trans before mid now first then = record {
+  known = λ h. first.known (then.known h);
+  honest = then.honest ∙ first.honest;
+  came = (first.came.0 ++ then.came.0, then.came.1 ∙ ap (λ (xs : List (List ℕ × List ℕ)). xs ++ then.came.0) first.came.1 ∙ append_assoc before.came first.came.0 then.came.0);
+}
 
 pub IsLater-same : (before now : DiskLog) → now ≡ before → IsLater before now
 IsLater-same before now same = subst (IsLater before) (sym same) (IsLater-refl before)
@@ -84,12 +88,14 @@ pub IsLater-put : (log : DiskLog) (page : ℕ) (bytes : List ℕ) → IsLater lo
 IsLater-put log page bytes = record {
   known = λ h. tells-with (known log) page bytes (subst Tells (known-put log page bytes) h);
   honest = refl;
+  came = ([], sym (append-nil log.came));
 }
 
 pub IsLater-give_up : (log : DiskLog) (page : ℕ) → IsLater log (after_give_up log page)
 IsLater-give_up log page = record {
   known = λ h. tells-without (known log) page (subst Tells (known-give_up log page) h);
   honest = refl;
+  came = ([], sym (append-nil log.came));
 }
 
 pub IsLater-lost : (before now : DiskLog) (page : ℕ) → MayLose before now page → IsLater before now
@@ -97,7 +103,25 @@ IsLater-lost before now page lost =
     elim lost [ inl same ↦ IsLater-same before now same | inr gone ↦ subst (IsLater before) (sym gone) (IsLater-give_up before page) ]
 
 pub IsLater-get : (log : DiskLog) (page : ℕ) (bytes : List ℕ) → IsLater log (after_get log page bytes)
-IsLater-get log page bytes = record { known = λ h. subst Tells (known-get log page bytes h) h; honest = refl }
+IsLater-get log page bytes = record { known = λ h. subst Tells (known-get log page bytes h) h; honest = refl; came = (beside (put_at log page) bytes, refl) }
+
+-- what came back last of a call came back last of a longer one
+pub came-since : (before mid now : DiskLog) (page : ℕ) (bytes : List ℕ) → IsLater before mid → CameLast mid now page bytes → CameLast before now page bytes
+came-since before mid now page bytes later came = go (put_at now page) came
+  where
+    go : (o : Option (List ℕ)) → IfSome o (λ put. (others : List (List ℕ × List ℕ)) × (now.came ≡ (mid.came ++ others) ++ (put, bytes) ∷ []))
+        → IfSome o (λ put. (others : List (List ℕ × List ℕ)) × (now.came ≡ (before.came ++ others) ++ (put, bytes) ∷ []))
+    go None h = tt
+    go (Some put) (others, is) = (later.came.0 ++ others, is ∙ ap (λ (xs : List (List ℕ × List ℕ)). (xs ++ others) ++ (put, bytes) ∷ []) later.came.1
+        ∙ ap (λ (xs : List (List ℕ × List ℕ)). xs ++ (put, bytes) ∷ []) (append_assoc before.came later.came.0 others))
+
+-- what a page's get gave came back last
+pub came-got : (before mid now : DiskLog) (page : ℕ) (bytes : List ℕ) → IsLater before mid → now ≡ after_get mid page bytes → CameLast before now page bytes
+came-got before mid now page bytes later got = came-since before mid now page bytes later (subst (λ (log : DiskLog). CameLast mid log page bytes) (sym got) (go (put_at mid page)))
+  where
+    go : (o : Option (List ℕ)) → IfSome o (λ put. (others : List (List ℕ × List ℕ)) × (mid.came ++ beside o bytes ≡ (mid.came ++ others) ++ (put, bytes) ∷ []))
+    go None = tt
+    go (Some put) = ([], ap (λ (xs : List (List ℕ × List ℕ)). xs ++ (put, bytes) ∷ []) (sym (append-nil mid.came)))
 
 -- ---- what came back
 

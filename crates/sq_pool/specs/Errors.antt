@@ -1,12 +1,29 @@
 -- Why a pool fails.
-use Rattle.std.specs.Prelude.{◌≡◌, ⊤, ℕ, Some}
+use Rattle.std.specs.Prelude.{◌≡◌, ⊤, ℕ, List, Some}
+use Rattle.sha2.specs.Sha256.{sha256}
+use Rattle.sq_outside.specs.Disks.{DiskLog}
 use Rattle.sq_pool.specs.declared.pool.PoolErr.{PoolErr}
 use Rattle.sq_pool.specs.declared.pool.PoolErr.TheVariants as error
 use Rattle.sq_pool.specs.Slots.{kept_at}
-use Rattle.sq_pool.specs.Pools.{Pooled, HasDigest, bytes_in}
+use Rattle.sq_pool.specs.Pools.{Pooled, bytes_in}
+use Rattle.sq_pool.specs.Trust.{CameLast}
 
--- the digest that was kept of the page isn't that of the bytes which came back and are in its frame now
-abbrev pub IsGarbling : Pooled → Pooled → ℕ → PoolErr → Type 0
-IsGarbling c d p error.Disk = ⊤
-IsGarbling c d p (error.Garbled page kept got) = (page ≡ p) × (kept_at c.kept p ≡ Some kept.0) × HasDigest (bytes_in p d.resident) got.0 × ¬ (kept.0 ≡ got.0)
-IsGarbling c d p error.Memory = ⊤
+-- these bytes came back last, in this call, and are in the page's frame
+pub record IsBack (d : Pooled) (before now : DiskLog) (page : ℕ) (bytes : List ℕ) : Type 0 where
+  pub there : bytes_in page d.resident ≡ Some bytes
+  pub came : CameLast before now page bytes
+
+-- they have the digest that was kept
+abbrev pub IsWhole : Pooled → Pooled → DiskLog → DiskLog → ℕ → List ℕ → Type 0
+IsWhole c d before now page bytes = IsBack d before now page bytes × (kept_at c.kept page ≡ Some (sha256 bytes))
+
+-- a page that was in no frame came back whole
+abbrev pub ComesBack : Pooled → Pooled → DiskLog → DiskLog → ℕ → Type 0
+ComesBack c d before now page = (bytes : List ℕ) × IsWhole c d before now page bytes
+
+-- the digest that was kept of the page isn't that of the bytes which came back in this call and are in its frame now
+abbrev pub IsGarbling : Pooled → Pooled → DiskLog → DiskLog → ℕ → PoolErr → Type 0
+IsGarbling c d before now p error.Disk = ⊤
+IsGarbling c d before now p (error.Garbled page kept got) =
+    (page ≡ p) × (kept_at c.kept p ≡ Some kept.0) × ((bytes : List ℕ) × IsBack d before now p bytes × (sha256 bytes ≡ got.0)) × ¬ (kept.0 ≡ got.0)
+IsGarbling c d before now p error.Memory = ⊤

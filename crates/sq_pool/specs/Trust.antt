@@ -1,10 +1,10 @@
 -- Which pages of a disk are to be relied on.
-use Rattle.std.specs.Prelude.{◌≡◌, ℕ, Bool, true, not, ◌||◌, if◌then◌else◌, List, [], ◌∷◌, Option, Some, None, IfSome, is_some, option_map}
+use Rattle.std.specs.Prelude.{◌≡◌, ℕ, Bool, true, not, ◌||◌, if◌then◌else◌, List, [], ◌∷◌, ◌++◌, Option, Some, None, IfSome, is_some, option_map}
 use Rattle.std.specs.List.{Contains, list_all}
 use Rattle.std.specs.Str.{bytes_eq}
 use Rattle.std.specs.FinMap as map
 use Rattle.sha2.specs.Sha256.{sha256}
-use Rattle.sq_outside.specs.Disks.{DiskLog, Pages}
+use Rattle.sq_outside.specs.Disks.{DiskLog, Pages, put_at}
 
 -- what came back is what was put, or its digest is another
 abbrev pub is_faithful : List ℕ × List ℕ → Bool
@@ -17,10 +17,16 @@ known log = if log.honest || list_all is_faithful log.came then Some log.pages e
 abbrev pub Tells : Option Pages → Type 0
 Tells pages = is_some pages ≡ true
 
--- what a call leaves of a disk: what is known behind it was known before it, and the disk promises what it promised
+-- what a call leaves of a disk: what is known behind it was known before it, the disk promises what it promised, and what came
+-- back before it stays noted
 pub record IsLater (before now : DiskLog) : Type 0 where
   pub known : Tells (known now) → Tells (known before)
   pub honest : now.honest ≡ before.honest
+  pub came : (more : List (List ℕ × List ℕ)) × (now.came ≡ before.came ++ more)
+
+-- these bytes came back last, in this call: they end what came back, beside what was put under the page's number
+abbrev pub CameLast : DiskLog → DiskLog → ℕ → List ℕ → Type 0
+CameLast before now page bytes = IfSome (put_at now page) (λ put. (others : List (List ℕ × List ℕ)) × (now.came ≡ (before.came ++ others) ++ (put, bytes) ∷ []))
 
 -- the pages, with these bytes at the number, and with none there
 abbrev pub pages_with : Option Pages → ℕ → List ℕ → Option Pages

@@ -70,7 +70,7 @@ fn clear(bytes: &mut [u8])
 impl Pool {
     ghost use Rattle.std.specs.Prelude.{◌≡◌, ℕ, ◌<◌, ◌≤◌, ◌+◌, if◌then◌else◌, IfOk, OnOk, IfErr, IfSome, IsSome, is_some, IsTrue, None, Some, Option, List, length, ◌⊎◌, []};
     ghost use Rattle.sq_pool.specs.Pools.{Agree, Spills, HasRoom, is_held, bytes_in, loaded, Fetches, Keeps, Makes, Drops, IsLast, Brings, IsMade, IsNumbered, LetsGo};
-    ghost use Rattle.sq_pool.specs.Errors.{IsGarbling};
+    ghost use Rattle.sq_pool.specs.Errors.{ComesBack, IsGarbling};
     ghost use Rattle.sq_pool.specs.Slots.{kept_at};
     ghost use Rattle.sq_outside.specs.Faults.{Rose};
     ghost use Rattle.sq_outside.specs.Disks.{after_give_up, Honest, Pages};
@@ -211,8 +211,9 @@ impl Pool {
         requires out { bytes_in page self.old.resident ≡ None }
         requires agree { Agree self.old (known (D.log disk.old)) }
         ensures ok { OnOk result (Fetches self.old (known (D.log disk.old)) self.new (known (D.log disk.new)) page kept.0) }
+        ensures came { OnOk result (ComesBack self.old self.new (D.log disk.old) (D.log disk.new) page) }
         ensures disk { IfErr result (λ e. e ≡ PoolErr.Disk → Rose (D.faults disk.old) (D.faults disk.new)) }
-        ensures garbled { IfErr result (λ e. IsGarbling self.old self.new page e) }
+        ensures garbled { IfErr result (λ e. IsGarbling self.old self.new (D.log disk.old) (D.log disk.new) page e) }
         ensures honest { IfErr result (λ e. Honest (D.log disk.old) → e ≡ PoolErr.Disk) }
         ensures faults { D.faults disk.old ≤ D.faults disk.new }
         ensures later { IsLater (D.log disk.old) (D.log disk.new) }
@@ -239,10 +240,11 @@ impl Pool {
         ensures last { OnOk result (IsLast page self.new) }
         ensures agree { OnOk result (Agree self.new (known (D.log disk.new))) }
         ensures frames { OnOk result (self.new.frames ≡ self.old.frames) }
+        ensures came { OnOk result (bytes_in page self.old.resident ≡ None → ComesBack self.old self.new (D.log disk.old) (D.log disk.new) page) }
 
         // Each refusal.
         ensures disk { IfErr result (λ e. e ≡ PoolErr.Disk → Rose (D.faults disk.old) (D.faults disk.new)) }
-        ensures garbled { IfErr result (λ e. IsGarbling self.old self.new page e) }
+        ensures garbled { IfErr result (λ e. IsGarbling self.old self.new (D.log disk.old) (D.log disk.new) page e) }
         ensures honest { IfErr result (λ e. Honest (D.log disk.old) → e ≡ PoolErr.Disk) }
         ensures faults { D.faults disk.old ≤ D.faults disk.new }
         ensures later { IsLater (D.log disk.old) (D.log disk.new) }

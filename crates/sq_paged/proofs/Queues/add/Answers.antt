@@ -50,5 +50,5 @@ returns-in-Ok-clause-ok g c =
 pub returns-in-Err-clause-cause : goal.returns-in-Err-clause-cause
 returns-in-Err-clause-cause g c =
     let is = slice_get_read c.args.self.now.lanes.items _ c.args.arc c.index.result.now refl c.requires.there c.index.ensures in
-    cause-refusal c.args.self.now c.push_into.new.self c.args.arc c.in-Some.node c.in-Err.e
-    (last-in c.args.self.now _ c.args.arc c.index.result.now c.in-Some.node c.requires.together is c.in-Some.ensures.last) c.in-Err.ensures.cause
+    cause-refusal c.args.self.now c.push_into.new.self _ _ c.args.arc c.in-Some.node c.in-Err.e
+    (last-in c.args.self.now _ c.args.arc c.index.result.now c.in-Some.node c.requires.together is c.in-Some.ensures.last) c.in-Err.ensures.cause c.in-Err.ensures.tables

@@ -1,5 +1,6 @@
 use Rattle.std.proofs.Common.{sym}
-use Rattle.sq_paged.proofs.StoreLemmas.{brought-there, brought-back, on-ok}
+use Rattle.sq_paged.proofs.StoreLemmas.{brought-there, brought-back, on-ok, told-fits}
+use Rattle.sq_paged.proofs.CauseLemmas.{if-err, none-by, pool-cause, pool-fits, told-fits-all, misfit-cause}
 use Rattle.sq_paged.proofs.store.bring_page.Goals as goal
 
 pub returns-then-there-clause-ok : goal.returns-then-there-clause-ok
@@ -11,3 +12,18 @@ returns-clause-ok g c =
     on-ok c.test_page.result
     (brought-back _ _ _ _ c.args.kept.now c.in-Ok.ensures.pool c.in-Ok.ensures.map c.bring.ensures.later.known c.in-Ok.ensures.agree c.in-Ok.ensures.frames c.requires.held c.page.result.now c.page.ensures.value)
     c.test_page.ensures.ok
+
+pub returns-in-Err-clause-cause : goal.returns-in-Err-clause-cause
+returns-in-Err-clause-cause g c = rw c.failed.ensures (pool-cause c.args.pool.now c.bring.new.self _ _ c.args.kept.now c.in-Err.e c.in-Err.ensures.garbled)
+
+pub returns-in-Err-clause-misfit : goal.returns-in-Err-clause-misfit
+returns-in-Err-clause-misfit g c = λ tells. rw c.failed.ensures (pool-fits c.in-Err.e)
+
+pub returns-clause-cause : goal.returns-clause-cause
+returns-clause-cause g c =
+    let out = none-by _ c.if-there.ensures in
+    if-err c.test_page.result (λ e. misfit-cause c.args.pool.now c.bring.new.self _ _ c.args.kept.now c.page.result.now e out (c.in-Ok.ensures.came out) c.page.ensures.value) c.test_page.ensures.cause
+
+pub returns-clause-misfit : goal.returns-clause-misfit
+returns-clause-misfit g c =
+    if-err c.test_page.result (λ e told tells. told-fits-all e (told (told-fits _ _ _ _ c.args.kept.now c.in-Ok.ensures.map c.bring.ensures.later.known c.requires.fits c.page.result.now c.page.ensures.value tells))) c.test_page.ensures.told

@@ -1,8 +1,8 @@
-use Rattle.std.proofs.Common.{sym, ap, ◌∙◌, arith}
+use Rattle.std.proofs.Common.{◌≡◌, ℕ, List, Option, Some, None, sym, ap, ◌∙◌, arith}
 use Rattle.sq_pool.specs.Trust.{known}
 use Rattle.sq_pool.specs.Slots.{without_page}
 use Rattle.sq_pool.specs.Pools.{Pooled, frame_at, filled, CameBack}
-use Rattle.sq_pool.proofs.PoolLemmas.{held-inside, touched, out-of-frames, not-held, length-touched}
+use Rattle.sq_pool.proofs.PoolLemmas.{bytes-frame, held-inside, touched, out-of-frames, not-held, length-touched}
 use Rattle.sq_pool.proofs.MapLemmas.{keeps-fetched}
 use Rattle.sq_pool.proofs.CallLemmas.{keeps-touch, touches}
 use Rattle.sq_pool.proofs.pool.Pool.bring.Goals as goal
@@ -54,4 +54,14 @@ returns-in_ok-fetch-in-Spilled-clause-pool g c = CameBack c.in-Spilled.kept.0 (r
 
 pub returns-in-Absent-clause-pool : goal.returns-in-Absent-clause-pool
 returns-in-Absent-clause-pool g c =
+    absurd (not-held c.self.inside.slots c.self.inside.frames c.args.page c.in-Absent.ensures.frame c.in-Absent.ensures.kept (rw (← c.self.view_is) at c.requires.held))
+
+pub returns-in-Resident-clause-came : goal.returns-in-Resident-clause-came
+returns-in-Resident-clause-came g c = λ out. absurd (no_bytes _ (bytes-frame c.self.inside.frames c.self.inside.slots.order c.args.page c.in-Resident.frame c.in-Resident.ensures.frame) (rw (← c.self.view_is) at out))
+  where
+    no_bytes : {o : Option (List ℕ)} (bytes : List ℕ) → o ≡ Some bytes → o ≡ None → ⊥
+    no_bytes {o} bytes some none = let both : Some bytes ≡ None = sym some ∙ none in cc
+
+pub returns-in-Absent-clause-came : goal.returns-in-Absent-clause-came
+returns-in-Absent-clause-came g c =
     absurd (not-held c.self.inside.slots c.self.inside.frames c.args.page c.in-Absent.ensures.frame c.in-Absent.ensures.kept (rw (← c.self.view_is) at c.requires.held))

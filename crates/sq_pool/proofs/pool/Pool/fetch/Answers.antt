@@ -1,9 +1,10 @@
-use Rattle.std.proofs.Common.{true, false, ◌≡◌, ℕ, List, Option, Some, refl, sym, ap, ◌∙◌}
+use Rattle.std.proofs.Common.{true, false, ◌≡◌, ℕ, List, Option, Some, refl, sym, ap, subst, ◌∙◌}
 use Rattle.sha2.specs.Sha256.{sha256}
-use Rattle.sq_pool.specs.Trust.{known}
+use Rattle.sq_pool.specs.Trust.{known, IsLater}
 use Rattle.sq_pool.specs.Pools.{Pooled, bytes_in, with_bytes}
 use Rattle.sq_pool.proofs.PoolLemmas.{is-some}
 use Rattle.sq_pool.proofs.MapLemmas.{room-out, room-told, holds_page, same_digest, came_back, stays_known, written, loaded-bytes}
+use Rattle.sq_pool.proofs.TrustLemmas.{came-got, IsLater-trans, IsLater-get}
 use Rattle.sq_pool.proofs.pool.Pool.fetch.Goals as goal
 
 pub open_frame-requires-clause-out : goal.open_frame-requires-clause-out
@@ -45,10 +46,40 @@ returns-then-not-are_same-clause-honest g c = λ honest.
 
 pub returns-then-not-are_same-clause-garbled : goal.returns-then-not-are_same-clause-garbled
 returns-then-not-are_same-clause-garbled g c =
-    (refl, c.requires.kept, rw c.page.ensures.value (sym c.digest_of-got.ensures), λ same. true_false (sym (c.are_same.ensures.1 same) ∙ c.if-not-are_same.true))
+    let mid = c.make_room.new.self in
+    let out = room-out _ _ _ _ c.args.page c.in_ok-make_room.ensures.ok c.requires.out in
+    let now = ap (λ (x : Pooled). record x { resident = with_bytes c.args.page c.get.new.into x.resident }) c.open_frame.ensures.1 ∙ written mid c.args.page c.open_frame.ensures.0 c.get.new.into out in
+    let there = ap (λ (x : Pooled). bytes_in c.args.page x.resident) now ∙ loaded-bytes mid c.args.page c.get.new.into out in
+    let read = got_bytes c.page.result.now c.get.new.into c.page.ensures.value there in
+    (
+      refl,
+      c.requires.kept,
+      (
+        c.get.new.into,
+        record { there = there; came = came-got _ _ _ c.args.page c.get.new.into c.make_room.ensures.later c.in-Ok.ensures.ok },
+        ap sha256 (sym read) ∙ sym c.digest_of-got.ensures,
+      ),
+      λ same. true_false (sym (c.are_same.ensures.1 same) ∙ c.if-not-are_same.true),
+    )
   where
     true_false : true ≡ false → ⊥
     true_false e = cc
+
+pub returns-clause-came : goal.returns-clause-came
+returns-clause-came g c =
+    let mid = c.make_room.new.self in
+    let out = room-out _ _ _ _ c.args.page c.in_ok-make_room.ensures.ok c.requires.out in
+    let now = ap (λ (x : Pooled). record x { resident = with_bytes c.args.page c.get.new.into x.resident }) c.open_frame.ensures.1 ∙ written mid c.args.page c.open_frame.ensures.0 c.get.new.into out in
+    let there = ap (λ (x : Pooled). bytes_in c.args.page x.resident) now ∙ loaded-bytes mid c.args.page c.get.new.into out in
+    let read = got_bytes c.page.result.now c.get.new.into c.page.ensures.value there in
+    let same = ap sha256 (sym read) ∙ sym c.digest_of-got.ensures ∙ sym (c.are_same.ensures.0 c.if-not-are_same.false) in
+    (
+      c.get.new.into,
+      (
+        record { there = there; came = came-got _ _ _ c.args.page c.get.new.into c.make_room.ensures.later c.in-Ok.ensures.ok },
+        c.requires.kept ∙ ap (λ (d : List ℕ). Some d) (sym same),
+      ),
+    )
 
 pub returns-clause-ok : goal.returns-clause-ok
 returns-clause-ok g c =
@@ -69,3 +100,9 @@ returns-clause-ok g c =
           (room-told _ _ _ _ c.args.page c.args.kept.0 c.in_ok-make_room.ensures.ok c.requires.agree c.requires.out c.requires.kept) c.in-Ok.ensures.honest same);
       pool = now;
     }
+
+pub returns-then-not-are_same-clause-later : goal.returns-then-not-are_same-clause-later
+returns-then-not-are_same-clause-later g c = IsLater-trans _ _ _ c.make_room.ensures.later (subst (IsLater _) (sym c.in-Ok.ensures.ok) (IsLater-get _ c.args.page c.get.new.into))
+
+pub returns-clause-later : goal.returns-clause-later
+returns-clause-later g c = IsLater-trans _ _ _ c.make_room.ensures.later (subst (IsLater _) (sym c.in-Ok.ensures.ok) (IsLater-get _ c.args.page c.get.new.into))
