@@ -243,7 +243,7 @@ module _ (was is : Option Pages) (from : Engine) (sound : IsSoundEngine from) wh
       let last = stop.last.engine.flow in
       let table = λ (all : ℕ → List ℕ). level_for from.engine.flow.planner all in
       let agrees = λ (all : ℕ → List ℕ) (planned : IsPlanned all from.engine.flow).
-          subst (λ (s : Setting). Agrees last.levels (level_for s all)) left.planner (left.planned all planned).agrees in
+      subst (λ (s : Setting). Agrees last.levels (level_for s all)) left.planner (left.planned all planned).agrees in
       record {
         events = stop.events;
         shown = stop.shown;
