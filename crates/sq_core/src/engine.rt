@@ -50,9 +50,11 @@ impl Drop for Engine {
 }
 
 impl Engine {
-    ghost use Rattle.sq_flow.specs.Flows.{measure_of};
+    ghost use Rattle.sq_flow.specs.Flows.{HoldsItems, Stepped, decisions_left, items_in, lines_left, measure_of};
+    ghost use Rattle.sq_flow.specs.Plans.{plans_left};
     ghost use Rattle.sq_flow.specs.Readiness.{IsReady, FallsBy, Took};
     ghost use Rattle.sq_flow.specs.Engines.{place_in, listed_after, AllDone};
+    ghost use Rattle.sq_core.specs.Meanings.{IsValid, actors};
     ghost use Rattle.sq_core.specs.Runs.{IsSoundEngine, IsRun, ShownSoFar, Stopped, ShownAll, fed_at, late_at};
 
     /// An engine that has released nothing yet of what the sources recorded, one list for each source. `seed` is that of the
@@ -108,6 +110,7 @@ impl Engine {
         ensures run { OnOk result ((r : Replay) (history : List Event) (begun : ℕ)
             → IsRun r (known (D.log disk.old)) self.old (history ++ events.old.items) begun steps.old
             → IsRun r (known (D.log disk.new)) self.new (history ++ events.new.items) begun steps.new) }
+        ensures goes { OnOk result (Stepped actors IsValid (known (D.log disk.old)) (known (D.log disk.new)) self.old.engine.flow self.new.engine.flow events.old.items events.new.items) }
         ensures stopped { IfErr result (λ e. Tells (known (D.log disk.new)) → (r : Replay) (history : List Event) (begun : ℕ)
             → IsRun r (known (D.log disk.old)) self.old (history ++ events.old.items) begun steps.old
             → Stopped (D.log disk.old).honest r (history ++ events.new.items) begun steps.new e) }
@@ -209,6 +212,21 @@ impl Engine {
         requires done { AllDone self.now.engine.flow }
         ensures { (r : Replay) (pages : Option Pages) (history : List Event) (begun steps : ℕ) → Tells pages
             → IsRun r pages self.now history begun steps → ShownAll r self.now history begun steps }
+    {
+        self.engine.nothing_left();
+    }
+
+    /// Where all actors are finished nothing is left to be shown or planned, whatever was shown before.
+    pub fn nothing_left(&self)
+        requires sound { IsSoundEngine self.now }
+        requires done { AllDone self.now.engine.flow }
+        ensures lines { (pages : Option Pages) (table : ℕ → ℕ → ℕ) → HoldsItems actors table (items_in self.now.engine.flow pages) self.now.engine.flow
+            → (output : ℕ) → self.now.engine.flow.wires.shown + output < length self.now.engine.flow.seats.items
+            → lines_left actors table (items_in self.now.engine.flow pages) self.now.engine.flow output ≡ [] }
+        ensures drops { (pages : Option Pages) (table : ℕ → ℕ → ℕ) → HoldsItems actors table (items_in self.now.engine.flow pages) self.now.engine.flow
+            → (actor : ℕ) → actor < length self.now.engine.flow.seats.items
+            → decisions_left actors table (items_in self.now.engine.flow pages) self.now.engine.flow actor ≡ [] }
+        ensures plans { plans_left self.now.engine.flow ≡ [] }
     {
         self.engine.nothing_left();
     }

@@ -8,6 +8,7 @@ pub mod NamedLemmas
 pub mod HistoryLemmas
 pub mod RestLemmas
 pub mod DrivingLemmas
+pub mod LeftLemmas
 pub mod ReplayLemmas
 mod Rows
 pub mod SortedLines

@@ -10,9 +10,13 @@ use Rattle.sq_oper.specs.declared.outs.Event.{Event}
 use Rattle.sq_replay.specs.Shown.{end_lines_from, event_line, text_of}
 use Rattle.sq_model.specs.Shedding.{Replay}
 use Rattle.sq_pool.specs.Trust.{Tells}
+use Rattle.sq_road.specs.Levels.{Agrees}
+use Rattle.sq_plan.specs.Shown.{level_for}
 use Rattle.sq_flow.specs.Events.{IsEventIn, drops_of, lines_of}
-use Rattle.sq_flow.specs.Plans.{plans_of}
+use Rattle.sq_flow.specs.Flows.{HoldsItems, Stepped, decisions_left, items_in, lines_left}
+use Rattle.sq_flow.specs.Plans.{IsPlanned, plans_left, plans_of}
 use Rattle.sq_core.specs.declared.engine.Engine.{Engine}
+use Rattle.sq_core.specs.Meanings.{IsValid, actors}
 use Rattle.sq_core.specs.Runs.{IsRun, fed_at, late_at}
 use Rattle.sq_top.specs.declared.Status.{Status}
 use Rattle.sq_top.specs.declared.Status.TheVariants as status
@@ -98,3 +102,47 @@ abbrev pub Stops : Option Pages → Option Pages → Bool → Engine → ℕ →
 Stops was is honest from begun now before waited after result =
     (r : Replay) (history : List Event) (start : ℕ) → Tells is → IsRun r was from history start begun
     → StopsBehind honest r history start now before waited after result
+
+-- whatever an engine has shown before: it went on, and showed the first of what was left of it, of which the lines were written or wait
+pub record ShowsOn (was is : Option Pages) (from to : Engine) (before : Option (List ℕ)) (waited : List ℕ) (after : Option (List ℕ)) (waits : List ℕ) : Type 0 where
+  pub events : List Event
+  pub shown : AllByRecursion (IsEventAt from.network) events
+  pub moves : Moves before waited after waits (history_text from.network events)
+  pub left : Stepped actors IsValid was is from.engine.flow to.engine.flow [] events
+
+-- it stopped behind the steps that ended well: of the lines of what they showed a part was written
+pub record StopsOn (was is : Option Pages) (from : Engine) (before : Option (List ℕ)) (waited : List ℕ) (after : Option (List ℕ)) : Type 0 where
+  pub mid : Option Pages
+  pub tells : Tells is → Tells mid
+  pub last : Engine
+  pub events : List Event
+  pub shown : AllByRecursion (IsEventAt from.network) events
+  pub left : Stepped actors IsValid was mid from.engine.flow last.engine.flow [] events
+  pub written : AppendsPrefix before after (waited ++ history_text from.network events)
+
+-- it came to its end: the text of events was written that show exactly what was left of it. Its plans over every disk; where the disk is
+-- known, at every table of levels that agrees with those of the closed epochs, the lines of each output and the decisions of each drop
+pub record WritesRest (was is : Option Pages) (from to : Engine) (before now : Option (List ℕ)) : Type 0 where
+  pub events : List Event
+  pub shown : AllByRecursion (IsEventAt from.network) events
+  pub written : now ≡ appended before (history_text from.network events)
+  pub plans : plans_of events ≡ plans_left from.engine.flow
+  pub lines : Tells is → (table : ℕ → ℕ → ℕ) → Agrees to.engine.flow.levels table → HoldsItems actors table (items_in from.engine.flow was) from.engine.flow
+      → (o : ℕ) → o < length from.network.outputs → lines_of o events ≡ lines_left actors table (items_in from.engine.flow was) from.engine.flow o
+  pub drops : Tells is → (table : ℕ → ℕ → ℕ) → Agrees to.engine.flow.levels table → HoldsItems actors table (items_in from.engine.flow was) from.engine.flow
+      → (w : ℕ) → w < drops_in from.network
+      → drops_of w events ≡ decisions_left actors table (items_in from.engine.flow was) from.engine.flow (from.engine.flow.wires.sheds + w)
+
+-- it stopped on its way: a beginning of the text of events was written that show the first of what was left of it, at the levels that
+-- the plans of all that arrives give
+pub record WritesFirst (was is : Option Pages) (from : Engine) (before now : Option (List ℕ)) : Type 0 where
+  pub events : List Event
+  pub shown : AllByRecursion (IsEventAt from.network) events
+  pub written : AppendsPrefix before now (history_text from.network events)
+  pub plans : IsPrefixOf (plans_of events) (plans_left from.engine.flow)
+  pub lines : Tells is → (all : ℕ → List ℕ) → IsPlanned all from.engine.flow
+      → HoldsItems actors (level_for from.engine.flow.planner all) (items_in from.engine.flow was) from.engine.flow → (o : ℕ) → o < length from.network.outputs
+      → IsPrefixOf (lines_of o events) (lines_left actors (level_for from.engine.flow.planner all) (items_in from.engine.flow was) from.engine.flow o)
+  pub drops : Tells is → (all : ℕ → List ℕ) → IsPlanned all from.engine.flow
+      → HoldsItems actors (level_for from.engine.flow.planner all) (items_in from.engine.flow was) from.engine.flow → (w : ℕ) → w < drops_in from.network
+      → IsPrefixOf (drops_of w events) (decisions_left actors (level_for from.engine.flow.planner all) (items_in from.engine.flow was) from.engine.flow (from.engine.flow.wires.sheds + w))

@@ -11,7 +11,7 @@ ghost use Rattle.sq_flow.specs.Flows.{measure_of};
 ghost use Rattle.sq_flow.specs.Engines.{AllDone};
 ghost use Rattle.sq_core.specs.Runs.{IsRun, IsSoundEngine};
 ghost use Rattle.sq_top.specs.Writing.{IsLost, Moves};
-ghost use Rattle.sq_top.specs.Driving.{GoesOn, IsCutShort, IsDriven, IsEventAt, IsHalted, Stops, history_text};
+ghost use Rattle.sq_top.specs.Driving.{GoesOn, IsCutShort, IsDriven, IsEventAt, IsHalted, ShowsOn, Stops, StopsOn, WritesFirst, WritesRest, history_text};
 ghost use Rattle.sq_top.specs.Stopping.{StopHasCause, status_of};
 
 use crate::Status;
@@ -109,6 +109,8 @@ fn step_once<D: PageDisk, S: Sink, L: Ledger>(
     ensures falls { OnOk result (measure_of engine.new.engine.flow < measure_of engine.old.engine.flow) }
     ensures ok { OnOk result (GoesOn (known (D.log disk.old)) (known (D.log disk.new)) engine.old engine.new steps.old steps.new (S.written out.old) held.old.text.items (S.written out.new) held.new.text.items) }
     ensures err { IfErr result (λ s. Stops (known (D.log disk.old)) (known (D.log disk.new)) (D.log disk.old).honest engine.old steps.old steps.new (S.written out.old) held.old.text.items (S.written out.new) s) }
+    ensures left { OnOk result (ShowsOn (known (D.log disk.old)) (known (D.log disk.new)) engine.old engine.new (S.written out.old) held.old.text.items (S.written out.new) held.new.text.items) }
+    ensures first { OnErr result (StopsOn (known (D.log disk.old)) (known (D.log disk.new)) engine.old (S.written out.old) held.old.text.items (S.written out.new)) }
     ensures cut { IfErr result (IsCutShort (S.faults out.old) (S.faults out.new)) }
     ensures stopped { IfErr result (StopHasCause (λ e. e.network ≡ engine.old.network) (D.faults disk.old) (D.faults disk.new)) }
     ensures faults { (D.faults disk.old ≤ D.faults disk.new) × (S.faults out.old ≤ S.faults out.new) }
@@ -141,6 +143,8 @@ fn step_to_end<D: PageDisk, S: Sink, L: Ledger>(
     ensures err { IfErr result (λ s. (r : Replay) (history : List Event) (begun : ℕ)
         → Tells (known (D.log disk.new)) → IsRun r (known (D.log disk.old)) engine.old history begun steps.old
         → IsHalted (D.log disk.old).honest r history s (S.written out.old) (S.written out.new) begun steps.new) }
+    ensures rest { OnOk result (WritesRest (known (D.log disk.old)) (known (D.log disk.new)) engine.old engine.new (S.written out.old) (S.written out.new)) }
+    ensures first { OnErr result (WritesFirst (known (D.log disk.old)) (known (D.log disk.new)) engine.old (S.written out.old) (S.written out.new)) }
     ensures cut { IfErr result (IsCutShort (S.faults out.old) (S.faults out.new)) }
     ensures stopped { IfErr result (StopHasCause (λ e. e.network ≡ engine.old.network) (D.faults disk.old) (D.faults disk.new)) }
     ensures faults { (D.faults disk.old ≤ D.faults disk.new) × (S.faults out.old ≤ S.faults out.new) }
@@ -157,6 +161,7 @@ fn step_to_end<D: PageDisk, S: Sink, L: Ledger>(
         }
     }
     engine.all_shown();
+    engine.nothing_left();
     match send(&mut held.text, out) {
         Ok(()) => Ok(()),
         Err(status) => Err(status),
@@ -189,6 +194,8 @@ pub fn drive<D: PageDisk, S: Sink, L: Ledger>(
     ensures err { IfErr result (λ s. (r : Replay) (history : List Event) (begun : ℕ)
         → Tells (known (D.log disk.new)) → IsRun r (known (D.log disk.old)) engine history begun steps.old
         → IsHalted (D.log disk.old).honest r history s (S.written out.old) (S.written out.new) begun steps.new) }
+    ensures rest { IfOk result (λ e. WritesRest (known (D.log disk.old)) (known (D.log disk.new)) engine e (S.written out.old) (S.written out.new)) }
+    ensures first { OnErr result (WritesFirst (known (D.log disk.old)) (known (D.log disk.new)) engine (S.written out.old) (S.written out.new)) }
     ensures cut { IfErr result (IsCutShort (S.faults out.old) (S.faults out.new)) }
     ensures stopped { IfErr result (StopHasCause (λ e. e.network ≡ engine.network) (D.faults disk.old) (D.faults disk.new)) }
     ensures faults { (D.faults disk.old ≤ D.faults disk.new) × (S.faults out.old ≤ S.faults out.new) }

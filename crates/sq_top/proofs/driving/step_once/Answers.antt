@@ -2,7 +2,8 @@ use Rattle.std.proofs.Common.{◌≡◌, arith, subst, sym}
 use Rattle.sq_pool.specs.Trust.{known}
 use Rattle.sq_top.specs.Driving.{IsCutShort, Stops}
 use Rattle.sq_top.specs.Stopping.{StopHasCause}
-use Rattle.sq_top.proofs.WritingLemmas.{on_ok}
+use Rattle.sq_top.proofs.WritingLemmas.{on_err, on_ok}
+use Rattle.sq_top.proofs.LeftLemmas.{step_fails, step_loses, step_shows}
 use Rattle.sq_top.proofs.DrivingLemmas.{if_err, if_err_both, step_goes, step_lines, step_lost, step_stops}
 use Rattle.sq_top.proofs.StopLemmas.{lost_cut, lost_stop, step_cause, step_cut}
 use Rattle.sq_top.proofs.driving.step_once.Goals as goal
@@ -44,3 +45,16 @@ pub returns-in-Ok-clause-stopped : goal.returns-in-Ok-clause-stopped
 returns-in-Ok-clause-stopped g c =
     if_err (StopHasCause (λ e. e.network ≡ c.args.engine.now.network) (g.D.PageDisk.faults c.args.disk.now) (g.D.PageDisk.faults c.step.new.disk)) c.show_events.result
     c.show_events.ensures.lost (λ s lost. lost_stop _ _ _ _ _ s lost)
+
+pub returns-in-Ok-clause-left : goal.returns-in-Ok-clause-left
+returns-in-Ok-clause-left g c =
+    on_ok c.show_events.result (rw c.as_slice.ensures.value at c.show_events.ensures.ok)
+    (λ moves. step_shows _ _ _ _ _ _ c.clear.ensures.items c.in-Ok.ensures.shows c.step.ensures.network c.in-Ok.ensures.goes _ _ _ _ moves)
+
+pub returns-in-Ok-clause-first : goal.returns-in-Ok-clause-first
+returns-in-Ok-clause-first g c =
+    on_err c.show_events.result (rw c.as_slice.ensures.value at c.show_events.ensures.err)
+    (λ written. step_loses _ _ _ _ _ _ c.clear.ensures.items c.in-Ok.ensures.shows c.step.ensures.network c.in-Ok.ensures.goes _ _ _ written)
+
+pub returns-in-Err-clause-first : goal.returns-in-Err-clause-first
+returns-in-Err-clause-first g c = step_fails _ _ _ c.requires.sound c.requires.together c.step.ensures.later.known _ _

@@ -2,6 +2,7 @@ use Rattle.std.proofs.Common.{refl, arith, ◌∙◌}
 use Rattle.sq_pool.specs.Trust.{known}
 use Rattle.sq_pool.proofs.TrustLemmas.{IsLater-refl, IsLater-trans}
 use Rattle.sq_top.proofs.DrivingLemmas.{drive_ends, drive_lost, drive_stops, goes_none, goes_then}
+use Rattle.sq_top.proofs.LeftLemmas.{shows_first, shows_lost, shows_none, shows_rest, shows_then, stops_then}
 use Rattle.sq_top.proofs.StopLemmas.{cut_later, lost_cut, lost_stop, stop_map}
 use Rattle.sq_top.proofs.StoppedLemmas.{rose_later}
 use Rattle.sq_top.proofs.driving.step_to_end.Goals as goal
@@ -13,6 +14,7 @@ steps-init g c = record {
   network = refl;
   later = IsLater-refl _;
   goes = goes_none _ _ _ _ _ c.new-2.ensures.items;
+  left = shows_none _ _ c.requires.sound c.requires.together _ _ c.new-2.ensures.items;
   disk_faults = omega arith;
   sink_faults = omega arith;
 }
@@ -26,6 +28,7 @@ steps-preserved g c =
       network = c.step_once.ensures.network ∙ before.network;
       later = IsLater-trans _ _ _ before.later c.step_once.ensures.later;
       goes = goes_then _ _ _ _ _ _ _ _ _ _ before.goes before.network _ _ _ _ _ c.in-Ok.ensures.ok;
+      left = shows_then _ _ _ _ _ _ _ _ before.left before.network _ _ _ _ c.in-Ok.ensures.left;
       disk_faults = omega (arith, before.disk_faults, c.step_once.ensures.faults.0);
       sink_faults = omega (arith, before.sink_faults, c.step_once.ensures.faults.1);
     }
@@ -67,3 +70,19 @@ all_shown-requires-clause-done g c = c.steps-test.ensures.done c.steps.invariant
 
 pub returns-in-Ok-send-clause-done : goal.returns-in-Ok-send-clause-done
 returns-in-Ok-send-clause-done g c = c.steps-test.ensures.done c.steps.invariant.sound.engine.running refl
+
+pub nothing_left-requires-clause-done : goal.nothing_left-requires-clause-done
+nothing_left-requires-clause-done g c = c.steps-test.ensures.done c.steps.invariant.sound.engine.running refl
+
+pub returns-in-Ok-send-clause-rest : goal.returns-in-Ok-send-clause-rest
+returns-in-Ok-send-clause-rest g c =
+    let none = c.nothing_left.ensures in
+    shows_rest _ _ _ c.requires.sound _ _ _ _ c.steps.invariant.left _ _ c.in-Ok-send.ensures.ok c.in-Ok-send.ensures.none_waits none.plans none.lines none.drops
+
+pub returns-in-Err-clause-first : goal.returns-in-Err-clause-first
+returns-in-Err-clause-first g c =
+    let before = c.steps.invariant in
+    shows_first _ _ _ c.requires.sound _ _ (stops_then _ _ _ _ _ _ _ _ before.left before.network _ _ c.in-Err.ensures.first)
+
+pub returns-clause-first : goal.returns-clause-first
+returns-clause-first g c = shows_first _ _ _ c.requires.sound _ _ (shows_lost _ _ _ _ _ _ _ _ c.steps.invariant.left _ c.in-Err-send.ensures.err)

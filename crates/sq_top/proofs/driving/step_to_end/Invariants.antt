@@ -3,7 +3,7 @@ use Rattle.sq_pool.specs.Trust.{IsLater, known}
 use Rattle.sq_queue.specs.Faces.{Together}
 use Rattle.sq_flow.specs.Flows.{measure_of}
 use Rattle.sq_core.specs.Runs.{IsSoundEngine}
-use Rattle.sq_top.specs.Driving.{GoesOn}
+use Rattle.sq_top.specs.Driving.{GoesOn, ShowsOn}
 use Rattle.sq_top.proofs.driving.step_to_end.Given as goal
 
 abbrev pub invariant-steps : goal.invariant-steps
@@ -13,6 +13,7 @@ invariant-steps g l = record {
   network : l.engine.network ≡ l.fn.engine.network;
   later : IsLater (g.D.PageDisk.log l.fn.disk) (g.D.PageDisk.log l.disk);
   goes : GoesOn (known (g.D.PageDisk.log l.fn.disk)) (known (g.D.PageDisk.log l.disk)) l.fn.engine l.engine l.fn.steps l.steps (g.S.Sink.written l.fn.out) [] (g.S.Sink.written l.out) l.held.text.items;
+  left : ShowsOn (known (g.D.PageDisk.log l.fn.disk)) (known (g.D.PageDisk.log l.disk)) l.fn.engine l.engine (g.S.Sink.written l.fn.out) [] (g.S.Sink.written l.out) l.held.text.items;
   disk_faults : g.D.PageDisk.faults l.fn.disk ≤ g.D.PageDisk.faults l.disk;
   sink_faults : g.S.Sink.faults l.fn.out ≤ g.S.Sink.faults l.out;
 }
