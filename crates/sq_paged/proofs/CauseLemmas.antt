@@ -45,8 +45,7 @@ pub misfit-cause : (c d : Pooled) (before now : DiskLog) (kept : Kept) (bytes : 
 misfit-cause c d before now kept bytes error.Disk out back there h = absurd h
 misfit-cause c d before now kept bytes (error.Garbled page old got) out back there h = absurd h
 misfit-cause c d before now kept bytes (error.NotAPage page got) out (b, whole) there (at, same, refused) =
-    let is : b ≡ got.items = one_is (bytes_in kept.page d.resident) b bytes whole.0.there there ∙ sym same in
-    (
+    let is : b ≡ got.items = one_is (bytes_in kept.page d.resident) b bytes whole.0.there there ∙ sym same in (
       at,
       subst (λ (p : ℕ). bytes_in p c.resident ≡ None) (sym at) out,
       subst (λ (p : ℕ). IsWhole c d before now p got.items) (sym at) (subst (λ (bs : List ℕ). IsWhole c d before now kept.page bs) is whole),

@@ -112,8 +112,11 @@ came-since before mid now page bytes later came = go (put_at now page) came
     go : (o : Option (List ℕ)) → IfSome o (λ put. (others : List (List ℕ × List ℕ)) × (now.came ≡ (mid.came ++ others) ++ (put, bytes) ∷ []))
         → IfSome o (λ put. (others : List (List ℕ × List ℕ)) × (now.came ≡ (before.came ++ others) ++ (put, bytes) ∷ []))
     go None h = tt
-    go (Some put) (others, is) = (later.came.0 ++ others, is ∙ ap (λ (xs : List (List ℕ × List ℕ)). (xs ++ others) ++ (put, bytes) ∷ []) later.came.1
-        ∙ ap (λ (xs : List (List ℕ × List ℕ)). xs ++ (put, bytes) ∷ []) (append_assoc before.came later.came.0 others))
+    go (Some put) (others, is) = (
+      later.came.0 ++ others,
+      is ∙ ap (λ (xs : List (List ℕ × List ℕ)). (xs ++ others) ++ (put, bytes) ∷ []) later.came.1
+          ∙ ap (λ (xs : List (List ℕ × List ℕ)). xs ++ (put, bytes) ∷ []) (append_assoc before.came later.came.0 others),
+    )
 
 -- what a page's get gave came back last
 pub came-got : (before mid now : DiskLog) (page : ℕ) (bytes : List ℕ) → IsLater before mid → now ≡ after_get mid page bytes → CameLast before now page bytes

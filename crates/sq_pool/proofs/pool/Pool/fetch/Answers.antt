@@ -50,8 +50,7 @@ returns-then-not-are_same-clause-garbled g c =
     let out = room-out _ _ _ _ c.args.page c.in_ok-make_room.ensures.ok c.requires.out in
     let now = ap (λ (x : Pooled). record x { resident = with_bytes c.args.page c.get.new.into x.resident }) c.open_frame.ensures.1 ∙ written mid c.args.page c.open_frame.ensures.0 c.get.new.into out in
     let there = ap (λ (x : Pooled). bytes_in c.args.page x.resident) now ∙ loaded-bytes mid c.args.page c.get.new.into out in
-    let read = got_bytes c.page.result.now c.get.new.into c.page.ensures.value there in
-    (
+    let read = got_bytes c.page.result.now c.get.new.into c.page.ensures.value there in (
       refl,
       c.requires.kept,
       (
@@ -72,8 +71,7 @@ returns-clause-came g c =
     let now = ap (λ (x : Pooled). record x { resident = with_bytes c.args.page c.get.new.into x.resident }) c.open_frame.ensures.1 ∙ written mid c.args.page c.open_frame.ensures.0 c.get.new.into out in
     let there = ap (λ (x : Pooled). bytes_in c.args.page x.resident) now ∙ loaded-bytes mid c.args.page c.get.new.into out in
     let read = got_bytes c.page.result.now c.get.new.into c.page.ensures.value there in
-    let same = ap sha256 (sym read) ∙ sym c.digest_of-got.ensures ∙ sym (c.are_same.ensures.0 c.if-not-are_same.false) in
-    (
+    let same = ap sha256 (sym read) ∙ sym c.digest_of-got.ensures ∙ sym (c.are_same.ensures.0 c.if-not-are_same.false) in (
       c.get.new.into,
       (
         record { there = there; came = came-got _ _ _ c.args.page c.get.new.into c.make_room.ensures.later c.in-Ok.ensures.ok },
