@@ -1,12 +1,11 @@
 -- Wires that are measured join the actors of a network, and what comes on them may come.
-use Rattle.std.proofs.Common.{◌≡◌, ℕ, zero, suc, ◌-◌, ◌<◌, ◌≤◌, eqb, true, false, List, [], ◌∷◌, map, length, Option, Some, None, slice_get, refl, ap, sym, ◌∙◌, subst, arith, inl, inr, ◌⊎◌}
+use Rattle.std.proofs.Common.{◌≡◌, ℕ, zero, suc, ◌-◌, ◌<◌, ◌≤◌, ◌&&◌, true, false, List, [], ◌∷◌, map, length, Option, Some, None, slice_get, refl, ap, sym, ◌∙◌, subst, arith, inl, inr, ◌⊎◌}
 use Rattle.std.specs.Prelude.{is_some}
 use Rattle.std.proofs.lemmas.Bool.Decides.{nat_tests}
 use Rattle.std.proofs.lemmas.List.{length-map}
 use Rattle.std.proofs.lemmas.List.FromFn.{length-map-range_with_len}
 use Rattle.sq_value.specs.declared.Value.{Value}
-use Rattle.sq_value.specs.Values.{Columns, fields_fit, is_of_kind}
-use Rattle.sq_left.proofs.MergeLemmas.{eqb-same}
+use Rattle.sq_value.specs.Values.{Columns, fields_fit, kinds_fit, kinds_of, is_of_kind}
 use Rattle.sq_graph.specs.declared.BoxKind.{BoxKind}
 use Rattle.sq_graph.specs.declared.BoxKind.TheVariants as kinds
 use Rattle.sq_graph.specs.declared.BoxWires.{BoxWires}
@@ -32,10 +31,10 @@ use Rattle.sq_start.specs.Comes.{arcs_to, point_streams, streams_to, TakesArcs, 
 use Rattle.sq_start.specs.Started.{actor_marks, actor_fits}
 use Rattle.sq_flow.specs.declared.wires.Arc.{Arc}
 use Rattle.sq_flow.specs.declared.wires.Wires.{Wires}
-use Rattle.sq_flow.specs.Wiring.{net_of, arcs_read, arc_at, from_of, port_of, marked_of, wide_of}
+use Rattle.sq_flow.specs.Wiring.{net_of, arcs_read, arc_at, from_of, port_of, marked_of, fits_on}
 use Rattle.sq_core.specs.declared.join.Feed.{Feed}
 use Rattle.sq_core.specs.Joining.{IsOf}
-use Rattle.sq_core.specs.Table.{width_of, arc_feed, place_feed, point_row, row_of, IsMeasured}
+use Rattle.sq_core.specs.Table.{kinds_on, arc_feed, place_feed, point_row, row_of, IsMeasured}
 use Rattle.sq_core.proofs.TableLemmas.{arc_stream_there, place_stream_there, input-low, row-box, row-drop, row-output}
 
 -- ---- lists
@@ -60,8 +59,12 @@ high [] i is = omega arith
 high (x ∷ xs) zero is = cc is
 high (x ∷ xs) (suc i) is = (let h = high xs i is in omega (arith, h))
 
-same-number : (a b : ℕ) → eqb a b ≡ true → a ≡ b
-same-number a b e = grind (arith, nat_tests)
+-- what fits the kinds of columns fits the columns
+kinds-are : (cs : Columns) (vs : List Value) → kinds_fit (kinds_of cs) vs ≡ fields_fit cs vs
+kinds-are [] [] = refl
+kinds-are [] (v ∷ vs) = refl
+kinds-are (c ∷ cs) [] = refl
+kinds-are (c ∷ cs) (v ∷ vs) = ap (λ b. is_of_kind c.1 v && b) (kinds-are cs vs)
 
 fields-count : (cs : Columns) (vs : List Value) → fields_fit cs vs ≡ true → length vs ≡ length cs
 fields-count [] [] h = refl
@@ -96,7 +99,7 @@ module _ (n : Network) where
     stream : ℕ
     there : slice_get (streams_to n x) port ≡ Some stream
     given : is_there (producer_of n.wires stream) ≡ true
-    wide : f.width ≡ width_of (columns_of_stream n stream)
+    typed : f.kinds ≡ kinds_on (columns_of_stream n stream)
 
   module _ (sound : IsSound n) (places : (w : ℕ) (p : DropPoint) → slice_get (points_of n) w ≡ Some p → IsAt n p.at) where
     row-stream : (x : Actor) → IsThere n x → (port : ℕ) (f : Feed) → slice_get (row_of n x) port ≡ Some f → OfStream x port f
@@ -108,7 +111,7 @@ module _ (n : Network) where
           stream = stream_on n.wires a.0;
           there = ap (λ l. slice_get l port) (sym (arcs-inputs n.wires b)) ∙ mapped (stream_on n.wires) (input_arcs_of n.wires b) port a.0 a.1;
           given = arc_stream_there n sound a.0 (input-low n b port a.0 (omega (arith, boxes, t)) a.1);
-          wide = ap (λ (g : Feed). g.width) (sym a.2);
+          typed = ap (λ (g : Feed). g.kinds) (sym a.2);
         }
     row-stream (Shedder w) t port f is = by (slice_get (points_of n) w) refl port is
       where
@@ -120,7 +123,7 @@ module _ (n : Network) where
               stream = place_stream n p.at;
               there = ap (λ o. slice_get (point_streams n o) 0) here;
               given = place_stream_there n sound p.at (places w p here);
-              wide = ap (λ (g : Feed). g.width) (sym e);
+              typed = ap (λ (g : Feed). g.kinds) (sym e);
             }
         by (Some p) here (suc port) is = cc is
     row-stream (Shower o) t zero f is =
@@ -129,22 +132,22 @@ module _ (n : Network) where
           stream = stream_on n.wires (output_arc_at n.wires o);
           there = refl;
           given = arc_stream_there n sound (output_arc_at n.wires o) (outputs-there n.wires o t);
-          wide = ap (λ (g : Feed). g.width) (sym e);
+          typed = ap (λ (g : Feed). g.kinds) (sym e);
         }
     row-stream (Shower o) t (suc port) f is = cc is
 
-  stream-row : (x : Actor) (port s : ℕ) → slice_get (streams_to n x) port ≡ Some s → (f : Feed) × (slice_get (row_of n x) port ≡ Some f) × (f.width ≡ width_of (columns_of_stream n s))
+  stream-row : (x : Actor) (port s : ℕ) → slice_get (streams_to n x) port ≡ Some s → (f : Feed) × (slice_get (row_of n x) port ≡ Some f) × (f.kinds ≡ kinds_on (columns_of_stream n s))
   stream-row Sources port s is = cc is
   stream-row (Box b) port s is =
       let a = unmapped (stream_on n.wires) (input_arcs_of n.wires b) port s (ap (λ l. slice_get l port) (arcs-inputs n.wires b) ∙ is) in
-      (arc_feed n a.0, mapped (arc_feed n) (input_arcs_of n.wires b) port a.0 a.1, ap (λ z. width_of (columns_of_stream n z)) a.2)
+      (arc_feed n a.0, mapped (arc_feed n) (input_arcs_of n.wires b) port a.0 a.1, ap (λ z. kinds_on (columns_of_stream n z)) a.2)
   stream-row (Shedder w) port s is = by (slice_get (points_of n) w) port is
     where
-      by : (o : Option DropPoint) (port : ℕ) → slice_get (point_streams n o) port ≡ Some s → (f : Feed) × (slice_get (point_row n o) port ≡ Some f) × (f.width ≡ width_of (columns_of_stream n s))
+      by : (o : Option DropPoint) (port : ℕ) → slice_get (point_streams n o) port ≡ Some s → (f : Feed) × (slice_get (point_row n o) port ≡ Some f) × (f.kinds ≡ kinds_on (columns_of_stream n s))
       by None port is = cc is
-      by (Some p) zero is = (let e : place_stream n p.at ≡ s = cc is in (place_feed n p, refl, ap (λ z. width_of (columns_of_stream n z)) e))
+      by (Some p) zero is = (let e : place_stream n p.at ≡ s = cc is in (place_feed n p, refl, ap (λ z. kinds_on (columns_of_stream n z)) e))
       by (Some p) (suc port) is = cc is
-  stream-row (Shower o) zero s is = (let e : stream_on n.wires (output_arc_at n.wires o) ≡ s = cc is in (arc_feed n (output_arc_at n.wires o), refl, ap (λ z. width_of (columns_of_stream n z)) e))
+  stream-row (Shower o) zero s is = (let e : stream_on n.wires (output_arc_at n.wires o) ≡ s = cc is in (arc_feed n (output_arc_at n.wires o), refl, ap (λ z. kinds_on (columns_of_stream n z)) e))
   stream-row (Shower o) (suc port) s is = cc is
 
 -- ---- what wires say of a port
@@ -153,9 +156,9 @@ takes-of : (o : Option Arc) (f : Feed) → IsOf o (Some f) → marked_of o ≡ f
 takes-of None f of = absurd of
 takes-of (Some a) f of = of.3
 
-fits-of : (o : Option Arc) (f : Feed) (fields : List Value) → IsOf o (Some f) → wide_of o fields ≡ eqb (length fields) f.width
+fits-of : (o : Option Arc) (f : Feed) (fields : List Value) → IsOf o (Some f) → fits_on o fields ≡ kinds_fit f.kinds fields
 fits-of None f fields of = absurd of
-fits-of (Some a) f fields of = ap (eqb (length fields)) of.2
+fits-of (Some a) f fields of = ap (λ ks. kinds_fit ks fields) of.2
 
 module _ (n : Network) (sound : IsSound n) (places : (w : ℕ) (p : DropPoint) → slice_get (points_of n) w ≡ Some p → IsAt n p.at) (w : Wires) (measured : IsMeasured n w) (actor : ℕ) (low : actor < ops_of n) (there : IsThere n (actor_at n actor)) where
   abbrev x : Actor
@@ -178,7 +181,7 @@ module _ (n : Network) (sound : IsSound n) (places : (w : ℕ) (p : DropPoint) �
         wide = λ port s cs fields is columns fit.
             let f = stream-row n x port s is in
             fits-of (on port) f.0 fields (measured.each actor port f.0 low f.1)
-            ∙ eqb-same (length fields) (f.0).width (fields-count cs fields fit ∙ sym (f.2 ∙ ap width_of columns));
+            ∙ ap (λ ks. kinds_fit ks fields) (f.2 ∙ ap kinds_on columns) ∙ kinds-are cs fields ∙ fit;
       }
 
   pub marks-come : MarksAreTaken → (port : ℕ) → (net_of w).takes actor port ≡ true → actor_marks n x port ≡ true
@@ -194,9 +197,10 @@ module _ (n : Network) (sound : IsSound n) (places : (w : ℕ) (p : DropPoint) �
         | inl f ↦ (
             let s = row-stream n sound places x there port f.0 f.1 in
             let typed = stream_typed n s.stream sound s.given in
-            let count = same-number (length fields) (f.0).width (sym (fits-of (on port) f.0 fields f.2) ∙ h) in
-            law n x port s.stream typed.0 fields sound there s.there typed.1 (count ∙ s.wide ∙ ap width_of typed.1))
-        | inr none ↦ (let bad : false ≡ true = ap (λ o. wide_of o fields) (sym none) ∙ h in cc bad)
+            let ks = ap (λ ks. kinds_fit ks fields) (s.typed ∙ ap kinds_on typed.1) in
+            let fit : fields_fit typed.0 fields ≡ true = sym (kinds-are typed.0 fields) ∙ sym ks ∙ sym (fits-of (on port) f.0 fields f.2) ∙ h in
+            law n x port s.stream typed.0 fields sound there s.there typed.1 (fields-count typed.0 fields fit))
+        | inr none ↦ (let bad : false ≡ true = ap (λ o. fits_on o fields) (sym none) ∙ h in cc bad)
       ]
 
 -- ---- how they join the actors

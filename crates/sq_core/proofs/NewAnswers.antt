@@ -1,5 +1,6 @@
 -- What is left of a new engine of a network, and which of its actors are ready.
-use Rattle.std.proofs.Common.{◌≡◌, ℕ, zero, suc, ◌+◌, ◌-◌, ◌<◌, ◌≤◌, eqb, cond, Bool, true, false, ◌||◌, List, [], ◌∷◌, map, length, Some, None, slice_get, refl, ap, sym, ◌∙◌, subst, arith, zero-le}
+use Rattle.std.proofs.Common.{◌≡◌, ℕ, zero, suc, ◌+◌, ◌-◌, ◌<◌, ◌≤◌, eqb, cond, Bool, true, false, ◌||◌, List, [], ◌∷◌, ◌++◌, map, length, Some, None, slice_get, refl, ap, sym, ◌∙◌, subst, arith, zero-le, inl, inr}
+use Rattle.std.proofs.lemmas.Bool.{cases_lt}
 use Rattle.std.specs.List.{AllByRecursion}
 use Rattle.std.specs.declared.alloc.Global.{Global}
 use Rattle.std.specs.declared.collections.VecDeque.{VecDeque}
@@ -13,7 +14,9 @@ use Rattle.sq_net.specs.Sound.{IsSound}
 use Rattle.sq_points.specs.Points.{points_of}
 use Rattle.sq_model.specs.Shedding.{Replay, level_of, answer_of}
 use Rattle.sq_left.proofs.MergeLemmas.{eqb-same, eqb-not}
-use Rattle.sq_left.specs.Left.{coming, inputs, still_dropped}
+use Rattle.sq_left.specs.Left.{Net, World, coming, inputs, inputs_by, left, still_dropped, IsWired}
+use Rattle.sq_below.specs.Actors as below
+use Rattle.sq_below.specs.Actors.{stream_of}
 use Rattle.sq_sched.specs.Ready.{contains, OnlyOnce}
 use Rattle.sq_queue.specs.Faces.{face}
 use Rattle.sq_actor.specs.declared.actor.Actor.{Actor}
@@ -25,11 +28,11 @@ use Rattle.sq_flow.specs.Wiring.{net_of, arcs_read, numbers_in, IsShaped}
 use Rattle.sq_flow.specs.Flows.{tuples_at, RiseFrom, world_of, fed_at_last, sum_below}
 use Rattle.sq_flow.specs.Readiness.{stands, IsReady}
 use Rattle.sq_flow.specs.Engines.{place_in, IsEngine}
-use Rattle.sq_start.specs.Numbers.{first_output, ops_of}
-use Rattle.sq_start.specs.Nets.{decided_by, drop_decisions, count_fed}
+use Rattle.sq_start.specs.Numbers.{IsThere, first_output, ops_of, number_of, actor_at, reads_of}
+use Rattle.sq_start.specs.Nets.{ComesFrom, AllCome, decided_by, drop_decisions, count_fed}
 use Rattle.sq_start.specs.Starts.{IsRead}
-use Rattle.sq_start.specs.Laws.{IsNew, StartsAsReplayed}
-use Rattle.sq_start.proofs.NumberLemmas.{box-at, drop-at}
+use Rattle.sq_start.specs.Laws.{IsNew, StartsAs, StartsAsReplayed}
+use Rattle.sq_start.proofs.NumberLemmas.{box-at, drop-at, replay-at, there-at, reads-there}
 use Rattle.sq_core.specs.Meanings.{actors}
 use Rattle.sq_core.specs.Table.{IsMeasured}
 use Rattle.sq_core.specs.Answers.{Answers}
@@ -41,6 +44,50 @@ use Rattle.sq_core.proofs.SumLemmas.{sum-numbers}
 bodies-things : (xs : List Tuple) → bodies (things xs) ≡ xs
 bodies-things [] = refl
 bodies-things (x ∷ xs) = ap (λ l. x ∷ l) (bodies-things xs)
+
+-- what is left of a source is what is to be released of it
+coming-sources : (net : Net) (w : World) (order : List ℕ) → IsWired net order → (port : ℕ) → coming net w order net.replay port ≡ w.source port
+coming-sources net w [] wired port = refl
+coming-sources net w (last ∷ earlier) wired port =
+    ap (λ b. cond b (w.rest last (inputs_by net w (coming net w earlier) last) port) (coming net w earlier net.replay port)) (eqb-not net.replay last (λ e. wired.0 (sym e)))
+    ∙ coming-sources net w earlier wired.2 port
+
+-- the arc at a port comes from what the actor reads there
+comes-at : (n : Network) (net : Net) (givers : List (below.Actor × ℕ)) (arcs : List ℕ) → AllCome n net givers arcs → (port : ℕ) (giver : below.Actor × ℕ) → slice_get givers port ≡ Some giver
+    → (arc : ℕ) × (slice_get arcs port ≡ Some arc) × ComesFrom n net giver arc
+comes-at n net [] arcs come port giver is = cc is
+comes-at n net (x ∷ givers) [] come port giver is = absurd come
+comes-at n net (x ∷ givers) (arc ∷ arcs) come zero giver is = (let e : x ≡ giver = cc is in (arc, refl, subst (λ (y : below.Actor × ℕ). ComesFrom n net y arc) e come.0))
+comes-at n net (x ∷ givers) (arc ∷ arcs) come (suc port) giver is = comes-at n net givers arcs come.1 port giver is
+
+at-place : {A : Type 0} (P : A → Type 0) (xs : List A) → AllByRecursion P xs → (i : ℕ) (x : A) → slice_get xs i ≡ Some x → P x
+at-place P [] h i x is = cc is
+at-place P (y ∷ xs) h zero x is = (let e : y ≡ x = cc is in subst P e h.0)
+at-place P (y ∷ xs) h (suc i) x is = at-place P xs h.1 i x is
+
+-- of a stream all is left
+module _ (r : Replay) (net : Net) (w : World) (order : List ℕ) (read : IsRead r) (new : IsNew r net w) (wired : IsWired net order) (starts : StartsAs r net w order) where
+  all-of : (giver : below.Actor × ℕ) → IsThere r.network giver.0 → coming net w order (number_of r.network giver.0) giver.1 ≡ stream_of r giver
+  all-of (x, port) there =
+      elim (cases_lt (number_of r.network x) (ops_of r.network)) [
+        | inl low ↦ starts.streams (number_of r.network x) low port ∙ ap (λ y. stream_of r (y, port)) (there-at r.network x there).1
+        | inr past ↦ (
+            let most = (there-at r.network x there).0 in
+            let is : number_of r.network x ≡ ops_of r.network = omega (arith, past, most) in
+            let replay : x ≡ below.Sources = sym (there-at r.network x there).1 ∙ ap (actor_at r.network) is ∙ replay-at r.network in
+            ap (λ k. coming net w order k port) (is ∙ sym new.joins.replay) ∙ coming-sources net w order wired port ∙ new.recorded port ∙ ap (λ y. stream_of r (y, port)) (sym replay))
+      ]
+
+  pub all-left : (actor port : ℕ) (giver : below.Actor × ℕ) → actor < ops_of r.network → slice_get (reads_of r.network (actor_at r.network actor)) port ≡ Some giver
+      → (arc : ℕ) × (slice_get (net.arcs actor) port ≡ Some arc) × (left net w order arc ≡ stream_of r giver)
+  all-left actor port giver low is =
+      let at = comes-at r.network net (reads_of r.network (actor_at r.network actor)) (net.arcs actor) (new.joins.arcs actor low) port giver is in
+      let there = at-place (λ (y : below.Actor × ℕ). IsThere r.network y.0) (reads_of r.network (actor_at r.network actor)) (reads-there r.network read.sound (actor_at r.network actor)) port giver is in (
+        at.0,
+        at.1,
+        ap (λ l. l ++ coming net w order (net.from at.0) (net.port at.0)) (new.empty at.0)
+            ∙ ap (λ k. coming net w order k (net.port at.0)) at.2.0 ∙ ap (coming net w order (number_of r.network giver.0)) at.2.1 ∙ all-of giver there,
+      )
 
 pub new-answers : (r : Replay) → IsRead r → StartsAsReplayed → (flow : Flow Actor) (items : ℕ → List Item) → ((arc : ℕ) → items arc ≡ []) → IsNew r (net_of flow.wires) (world_of actors (level_of r) items flow)
     → IsShaped flow.wires (ops_of r.network) → flow.wires.sheds ≡ length r.network.boxes → flow.wires.shown ≡ first_output r.network → length flow.seats.items ≡ ops_of r.network → flow.taken ≡ 0
@@ -64,6 +111,9 @@ new-answers r read law flow items none new shaped sheds shown many untaken =
           ∙ sym (sum-numbers (λ actor. length (inputs (net_of flow.wires) (world_of actors (level_of r) items flow) flow.wires.order.items actor)) (ops_of r.network)) in
           let most = starts.turns in
           omega (arith, sum, most, untaken);
+      arcs = λ actor port giver low is.
+          let whole = all-left r (net_of flow.wires) (world_of actors (level_of r) items flow) flow.wires.order.items read new shaped.wired starts actor port giver low is in
+          record { arc = whole.0; there = whole.1; is_end = ([], sym whole.2) };
     }
 
 -- ---- what is to be released

@@ -23,7 +23,11 @@ use Rattle.sq_actor.specs.declared.actor.Actor.{Actor}
 use Rattle.sq_flow.specs.declared.flow.Flow.{Flow}
 use Rattle.sq_flow.specs.declared.errors.RunErr.{RunErr}
 use Rattle.sq_flow.specs.Events.{line_of, lines_of, drop_in, drops_of, IsEventIn}
-use Rattle.sq_flow.specs.Flows.{items_in, lines_left, decisions_left, fed_at_last, Stepped, ShowsPrefix, NoneStrange, CostsFed, CostsAtMost, TooMuchOnly, sum_below}
+use Rattle.sq_flow.specs.declared.wires.Wires.{Wires}
+use Rattle.sq_flow.specs.Wiring.{arcs_read}
+use Rattle.sq_flow.proofs.ArcLemmas.{ends-chain}
+use Rattle.sq_below.specs.Actors.{stream_of}
+use Rattle.sq_flow.specs.Flows.{items_in, lines_left, decisions_left, left_on, fed_at_last, Stepped, ShowsPrefix, NoneStrange, CostsFed, CostsAtMost, TooMuchOnly, sum_below}
 use Rattle.sq_flow.specs.Plans.{plan_in, plans_of, plans_left, PlansPrefix}
 use Rattle.sq_flow.specs.Seats.{taken_at}
 use Rattle.sq_flow.specs.Engines.{IsEngine}
@@ -150,6 +154,15 @@ module _ (was is : Option Pages) (e e' : Engine) (events events' : List Event) (
               goes.fed)
               ∙ a.work;
           turns = (let same = goes.turns in let most = a.turns in omega (arith, same, most));
+          arcs = λ actor port giver low reads.
+              let left = a.arcs actor port giver low reads in
+              record {
+                arc = left.arc;
+                there = ap (λ (w : Wires). slice_get (arcs_read w actor) port) stepped.wires ∙ left.there;
+                is_end =
+                    ends-chain (stream_of r giver) (left_on actors (level_of r) (items_in e.engine.flow was) e.engine.flow left.arc) (left_on actors (level_of r) (items_in e'.engine.flow is) e'.engine.flow left.arc)
+                    left.is_end (goes.arcs left.arc (sound.engine.flow.shaped.arcs_in actor port left.arc left.there));
+              };
         }
 
     pub run-after : (before after : ℕ) → CostsFed actors e.engine.flow e'.engine.flow before after

@@ -40,7 +40,7 @@ use Rattle.sq_flow.specs.declared.wires.Wires.{Wires}
 use Rattle.sq_flow.specs.Wiring.{arcs_read, arc_at as wire_at}
 use Rattle.sq_core.specs.declared.join.Feed.{Feed}
 use Rattle.sq_core.specs.Joining.{feeds_of, IsGiver, AreFeeds, IsOf, IsJoined}
-use Rattle.sq_core.specs.Table.{width_of, arc_feed, place_feed, point_row, row_of, table_of, IsMeasured}
+use Rattle.sq_core.specs.Table.{kinds_on, arc_feed, place_feed, point_row, row_of, table_of, IsMeasured}
 use Rattle.sq_core.proofs.PointLemmas.{streams_are}
 use Rattle.sq_core.proofs.ShapeLemmas.{no-feeds}
 
@@ -239,13 +239,13 @@ module _ (n : Network) (sound : IsSound n) where
 
 -- ---- a feed, and a row, as it is made
 
-pub arc-feed-is : (n : Network) (a : ℕ) (f : Feed) (x : Actor × ℕ) → arc_from n a ≡ x → f.from ≡ number_of n x.0 → f.port ≡ x.1 → f.width ≡ width_of (columns_of_stream n (stream_on n.wires a))
+pub arc-feed-is : (n : Network) (a : ℕ) (f : Feed) (x : Actor × ℕ) → arc_from n a ≡ x → f.from ≡ number_of n x.0 → f.port ≡ x.1 → f.kinds ≡ kinds_on (columns_of_stream n (stream_on n.wires a))
     → f.marked ≡ is_some (drop_above_arc n a) → f ≡ arc_feed n a
-arc-feed-is n a f x from actor port width marked =
-    ap (λ k. record { from = k; port = f.port; width = f.width; marked = f.marked }) (actor ∙ ap (λ y. number_of n y.0) (sym from))
-    ∙ ap (λ k. record { from = number_of n (arc_from n a).0; port = k; width = f.width; marked = f.marked }) (port ∙ ap (λ y. y.1) (sym from))
-    ∙ ap (λ k. record { from = number_of n (arc_from n a).0; port = (arc_from n a).1; width = k; marked = f.marked }) width
-    ∙ ap (λ k. record { from = number_of n (arc_from n a).0; port = (arc_from n a).1; width = width_of (columns_of_stream n (stream_on n.wires a)); marked = k }) marked
+arc-feed-is n a f x from actor port kinds marked =
+    ap (λ k. record { from = k; port = f.port; kinds = f.kinds; marked = f.marked }) (actor ∙ ap (λ y. number_of n y.0) (sym from))
+    ∙ ap (λ k. record { from = number_of n (arc_from n a).0; port = k; kinds = f.kinds; marked = f.marked }) (port ∙ ap (λ y. y.1) (sym from))
+    ∙ ap (λ k. record { from = number_of n (arc_from n a).0; port = (arc_from n a).1; kinds = k; marked = f.marked }) kinds
+    ∙ ap (λ k. record { from = number_of n (arc_from n a).0; port = (arc_from n a).1; kinds = kinds_on (columns_of_stream n (stream_on n.wires a)); marked = k }) marked
 
 pub from-drop : (n : Network) (a k : ℕ) → Some k ≡ option_map (λ d. d.0) (drop_on_arc n a) → arc_from n a ≡ (Shedder k, 0)
 from-drop n a k = by (drop_on_arc n a)

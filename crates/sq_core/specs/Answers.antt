@@ -11,8 +11,12 @@ use Rattle.sq_model.specs.Shown.{plans_shown}
 use Rattle.sq_actor.specs.declared.actor.Actor.{Actor}
 use Rattle.sq_flow.specs.declared.flow.Flow.{Flow}
 use Rattle.sq_flow.specs.Events.{lines_of, drops_of}
-use Rattle.sq_flow.specs.Flows.{HoldsItems, lines_left, decisions_left, fed_at_last, lost_at_last, work_at_last, turns_at_last}
+use Rattle.sq_flow.specs.Wiring.{arcs_read}
+use Rattle.sq_flow.specs.Flows.{HoldsItems, lines_left, decisions_left, left_on, IsEndOf, fed_at_last, lost_at_last, work_at_last, turns_at_last}
 use Rattle.sq_flow.specs.Plans.{IsPlanned, plans_of, plans_left}
+use Rattle.sq_below.specs.Actors as below
+use Rattle.sq_below.specs.Actors.{stream_of}
+use Rattle.sq_start.specs.Numbers.{ops_of, actor_at, reads_of}
 use Rattle.sq_start.specs.Nets.{decisions_of}
 use Rattle.sq_core.specs.Meanings.{actors}
 
@@ -23,9 +27,17 @@ pub record Plans (r : Replay) (flow : Flow Actor) (history : List Event) : Type 
   pub planned : IsPlanned (counts_in r) flow
   pub shown : plans_of history ++ plans_left flow ≡ plans_shown r
 
+-- an arc leads to a port of an operator, and what is still to be taken from it, what stands on it and then what will still come,
+-- ends what the replay says is given there in all
+pub record ArcLeft (r : Replay) (items : ℕ → List Item) (flow : Flow Actor) (actor port : ℕ) (giver : below.Actor × ℕ) : Type 0 where
+  pub arc : ℕ
+  pub there : slice_get (arcs_read flow.wires actor) port ≡ Some arc
+  pub is_end : IsEndOf (left_on actors (level_of r) items flow arc) (stream_of r giver)
+
 -- the lines that were shown at an output, and then those that are left, are its answer; the decisions of a drop that were shown,
 -- and then those that are left, are its record with the levels; and what each box will have been fed and have lost at the end,
--- and what all operators will have taken, is what the replay says
+-- and what all operators will have taken, is what the replay says; and of what it says is given to a port of an operator, the
+-- last part is still to be taken from the arc there, and the rest was taken
 pub record Answers (r : Replay) (items : ℕ → List Item) (flow : Flow Actor) (history : List Event) : Type 0 where
   pub holds : HoldsItems actors (level_of r) items flow
   pub lines : (output : ℕ) → output < length r.network.wires.outputs → lines_of output history ++ lines_left actors (level_of r) items flow output ≡ answer_of r output
@@ -35,3 +47,5 @@ pub record Answers (r : Replay) (items : ℕ → List Item) (flow : Flow Actor) 
   pub late : (at : ℕ) → at < length r.network.boxes → lost_at_last actors (level_of r) items flow at ≡ late_of r.network r.sources at
   pub work : work_at_last actors (level_of r) items flow ≡ work_of r
   pub turns : turns_at_last actors (level_of r) items flow ≤ turns_of r
+  pub arcs : (actor port : ℕ) (giver : below.Actor × ℕ) → actor < ops_of r.network → slice_get (reads_of r.network (actor_at r.network actor)) port ≡ Some giver
+      → ArcLeft r items flow actor port giver

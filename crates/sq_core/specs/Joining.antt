@@ -50,7 +50,7 @@ pub record IsOrder (ops : ℕ) (feeds : List (Vec Feed Global)) (order : List �
 abbrev pub IsOf : Option Arc → Option Feed → Type 0
 IsOf None f = ⊥
 IsOf (Some arc) None = ⊥
-IsOf (Some arc) (Some f) = (arc.from ≡ f.from) × (arc.port ≡ f.port) × (arc.width ≡ f.width) × (arc.marked ≡ f.marked)
+IsOf (Some arc) (Some f) = (arc.from ≡ f.from) × (arc.port ≡ f.port) × (arc.kinds ≡ f.kinds) × (arc.marked ≡ f.marked)
 
 -- each operator reads as many arcs as the table says, and each is as it says
 pub record IsJoined (feeds : List (Vec Feed Global)) (wires : Wires) : Type 0 where

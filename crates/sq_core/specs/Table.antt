@@ -1,6 +1,7 @@
 -- What the boxes, drops and outputs of a network read, and an order of them.
 use Rattle.std.specs.Prelude.{◌≡◌, ℕ, zero, suc, ◌+◌, ◌<◌, ◌≤◌, ◌==◌, if◌then◌else◌, Bool, true, false, List, [], ◌∷◌, map, length, Option, Some, None, is_some, slice_get}
-use Rattle.sq_value.specs.Values.{Columns}
+use Rattle.sq_value.specs.declared.Kind.{Kind}
+use Rattle.sq_value.specs.Values.{Columns, kinds_of}
 use Rattle.sq_value.specs.Lists.{numbers_to}
 use Rattle.sq_graph.specs.Wires.{producer_of, input_arcs_of, output_arc_at}
 use Rattle.sq_graph.specs.Order.{order_of}
@@ -17,9 +18,10 @@ use Rattle.sq_flow.specs.Wiring.{arcs_read, arc_at}
 use Rattle.sq_core.specs.declared.join.Feed.{Feed}
 use Rattle.sq_core.specs.Joining.{IsOf}
 
-abbrev pub width_of : Option Columns → ℕ
-width_of None = 0
-width_of (Some cs) = length cs
+-- the kinds of the values of a stream's tuples, by its columns
+abbrev pub kinds_on : Option Columns → List Kind
+kinds_on None = []
+kinds_on (Some cs) = kinds_of cs
 
 -- the streams of the arcs, by number
 abbrev pub streams_on : Network → List ℕ
@@ -27,7 +29,7 @@ streams_on n = map (stream_on n.wires) (arc_numbers n.wires)
 
 -- the feed that takes a stream from a port of an actor
 abbrev pub feed_from : Network → ℕ → Bool → Actor × ℕ → Feed
-feed_from n stream marked x = record { from = number_of n x.0; port = x.1; width = width_of (columns_of_stream n stream); marked = marked }
+feed_from n stream marked x = record { from = number_of n x.0; port = x.1; kinds = kinds_on (columns_of_stream n stream); marked = marked }
 
 -- the feed of an arc: it comes from the drop that stands on it, or else from what gives its stream; below a drop marks come on it
 abbrev pub arc_feed : Network → ℕ → Feed

@@ -5,16 +5,26 @@ ghost use Rattle.sq_flow.specs.Wiring.{numbers_in, rows_in, IsShaped};
 ghost use Rattle.sq_core.specs.Joining.{Adds, AreFeeds, IsOrder, IsJoining, IsJoined, AddsIn, Fixed, once_more};
 
 use sq_flow::{Arc, Wires};
+use sq_value::{Kind, ListOf};
 use std::alloc::{AllocError, Global};
 
-/// What an operator reads at a port: which actor gives it at which port, how many values its tuples have, and whether marks
-/// come on it. The actors are the operators, and behind them the replay.
-#[derive(Clone, Copy, Drop)]
+/// What an operator reads at a port: which actor gives it at which port, of which kinds the values of its tuples are, and whether
+/// marks come on it. The actors are the operators, and behind them the replay.
+#[derive(Drop)]
 pub(crate) struct Feed {
     pub from: u32,
     pub port: u32,
-    pub width: u32,
+    pub kinds: ListOf<Kind>,
     pub marked: bool,
+}
+
+/// A copy of kinds.
+pub(crate) fn copy_kinds(alloc: Global, kinds: &[Kind]) -> Result<ListOf<Kind>, AllocError>
+    ensures { IfOk result (λ copy. copy ≡ kinds.now) }
+{
+    let mut copy = Vec::new(alloc);
+    copy.extend_from_slice(kinds)?;
+    Ok(ListOf::new(copy))
 }
 
 /// Adds a number to a row.
@@ -83,10 +93,13 @@ fn add_arc(alloc: Global, wires: &mut Wires, arc: Arc) -> Result<(), AllocError>
     ensures { OnOk result (Adds arc wires.old wires.new) }
 {
     let at = wires.arcs.len() as u32;
+    let from = arc.from;
+    let port = arc.port;
+    let to = arc.to;
     wires.arcs.push(arc)?;
-    add_at(&mut wires.inputs, arc.to, at)?;
-    add_in(alloc, &mut wires.readers, arc.from, arc.port, at)?;
-    add_follower(&mut wires.followers, arc.from, arc.to)
+    add_at(&mut wires.inputs, to, at)?;
+    add_in(alloc, &mut wires.readers, from, port, at)?;
+    add_follower(&mut wires.followers, from, to)
 }
 
 /// The arcs that an operator reads are added to wires.
@@ -105,13 +118,14 @@ fn join_all(
 {
     let row = &feeds[actor as usize];
     for place in 0..row.len() {
-        let feed = row[place];
+        let feed = &row[place];
+        let kinds = copy_kinds(alloc, feed.kinds.as_slice())?;
         let arc = Arc {
             from: feed.from,
             port: feed.port,
             to: actor,
             place: place as u32,
-            width: feed.width,
+            kinds,
             marked: feed.marked,
         };
         add_arc(alloc, wires, arc)?;

@@ -12,14 +12,15 @@ ghost use Rattle.sq_model.specs.Given.{IsAt};
 ghost use Rattle.sq_below.specs.Actors.{Box, giver};
 ghost use Rattle.sq_start.specs.Numbers.{first_output, ops_of, actor_at, place_stream};
 ghost use Rattle.sq_flow.specs.Wiring.{IsShaped};
-ghost use Rattle.sq_core.specs.Table.{width_of, streams_on, arc_feed, place_feed, feed_from, row_of, table_of, same_box, drops_behind, turned, with_outputs, actors_of, IsMeasured};
+ghost use Rattle.sq_core.specs.Table.{kinds_on, streams_on, arc_feed, place_feed, feed_from, row_of, table_of, same_box, drops_behind, turned, with_outputs, actors_of, IsMeasured};
 
-use crate::join::{Feed, wires_of};
+use crate::join::{Feed, copy_kinds, wires_of};
 use crate::points::{drop_on, is_below};
 use sq_flow::Wires;
 use sq_graph::{Giver, OrderErr, arc_of, given_by, order, output_arc};
 use sq_net::Network;
 use sq_place::{DropAt, DropPoint};
+use sq_value::{Kind, ListOf};
 use std::alloc::{AllocError, Global};
 
 /// The streams of the arcs, by number.
@@ -44,60 +45,77 @@ fn stream_on(n: &Network, streams: &[u32], arc: u32) -> u32
     streams[arc as usize]
 }
 
-fn width(n: &Network, stream: u32) -> u32
+/// The kinds of the values of a stream's tuples.
+fn kinds_on(alloc: Global, n: &Network, stream: u32) -> Result<ListOf<Kind>, AllocError>
     requires sound { IsSound n.now }
     requires there { is_there (producer_of n.now.wires stream) ≡ true }
-    ensures { result ≡ width_of (columns_of_stream n.now stream) }
+    ensures { IfOk result (λ kinds. kinds ≡ kinds_on (columns_of_stream n.now stream)) }
 {
-    n.stream_schema(stream).names().len() as u32
+    copy_kinds(alloc, n.stream_schema(stream).kinds())
 }
 
 /// The feed that takes a stream from what gives it.
 #[tactic(auto, using(crate::proofs::TableLemmas::boxes_low))]
-fn given_feed(n: &Network, replay: u32, stream: u32, marked: bool) -> Feed
+fn given_feed(
+    alloc: Global,
+    n: &Network,
+    replay: u32,
+    stream: u32,
+    marked: bool,
+) -> Result<Feed, AllocError>
     requires sound { IsSound n.now }
     requires there { is_there (producer_of n.now.wires stream) ≡ true }
     requires replay { replay ≡ ops_of n.now }
-    ensures { result ≡ feed_from n.now stream marked (giver (producer_of n.now.wires stream)) }
+    ensures { IfOk result (λ feed. feed ≡ feed_from n.now stream marked (giver (producer_of n.now.wires stream))) }
 {
-    let width = width(n, stream);
+    let kinds = kinds_on(alloc, n, stream)?;
     match given_by(&n.wires, stream) {
-        Some(Giver::Source { source }) => Feed {
+        Some(Giver::Source { source }) => Ok(Feed {
             from: replay,
             port: source,
-            width,
+            kinds,
             marked,
-        },
-        Some(Giver::Port { at, port }) => Feed {
+        }),
+        Some(Giver::Port { at, port }) => Ok(Feed {
             from: at,
             port,
-            width,
+            kinds,
             marked,
-        },
+        }),
         None => unreachable!(),
     }
 }
 
 /// The feed of an arc.
 #[tactic(auto, using(crate::proofs::TableLemmas::boxes_low, crate::proofs::TableLemmas::points_low, crate::proofs::TableLemmas::arc_stream_there))]
-fn arc_feed(n: &Network, points: &[DropPoint], streams: &[u32], replay: u32, arc: u32) -> Feed
+fn arc_feed(
+    alloc: Global,
+    n: &Network,
+    points: &[DropPoint],
+    streams: &[u32],
+    replay: u32,
+    arc: u32,
+) -> Result<Feed, AllocError>
     requires sound { IsSound n.now }
     requires points { points.now ≡ points_of n.now }
     requires streams { streams.now ≡ streams_on n.now }
     requires replay { replay ≡ ops_of n.now }
     requires there { arc < length (arcs_of n.now.wires) }
-    ensures { result ≡ arc_feed n.now arc }
+    ensures { IfOk result (λ feed. feed ≡ arc_feed n.now arc) }
 {
     let stream = stream_on(n, streams, arc);
     let marked = is_below(points, arc);
     match drop_on(n, points, stream, arc) {
-        Some(drop) => Feed {
-            from: n.boxes.as_slice().len() as u32 + drop,
-            port: 0,
-            width: width(n, stream),
-            marked,
-        },
-        None => given_feed(n, replay, stream, marked),
+        Some(drop) => {
+            let kinds = kinds_on(alloc, n, stream)?;
+            Ok(Feed {
+                from: n.boxes.as_slice().len() as u32 + drop,
+                port: 0,
+                kinds,
+                marked,
+            })
+        }
+        None => given_feed(alloc, n, replay, stream, marked),
     }
 }
 
@@ -115,14 +133,21 @@ fn place_stream(n: &Network, streams: &[u32], at: DropAt) -> u32
 
 /// The feed of a drop.
 #[tactic(auto, using(crate::proofs::TableLemmas::place_stream_there))]
-fn place_feed(n: &Network, streams: &[u32], replay: u32, point: &DropPoint) -> Feed
+fn place_feed(
+    alloc: Global,
+    n: &Network,
+    streams: &[u32],
+    replay: u32,
+    point: &DropPoint,
+) -> Result<Feed, AllocError>
     requires sound { IsSound n.now }
     requires streams { streams.now ≡ streams_on n.now }
     requires replay { replay ≡ ops_of n.now }
     requires there { IsAt n.now point.now.at }
-    ensures { result ≡ place_feed n.now point.now }
+    ensures { IfOk result (λ feed. feed ≡ place_feed n.now point.now) }
 {
-    given_feed(n, replay, place_stream(n, streams, point.at), false)
+    let stream = place_stream(n, streams, point.at);
+    given_feed(alloc, n, replay, stream, false)
 }
 
 /// The arcs that a box takes.
@@ -162,7 +187,8 @@ fn box_row(
     let mut row = Vec::new(alloc);
     for index in 0..arcs.len() {
         let arc = arcs[index];
-        row.push(arc_feed(n, points, streams, replay, arc))?;
+        let feed = arc_feed(alloc, n, points, streams, replay, arc)?;
+        row.push(feed)?;
     }
     Ok(row)
 }
@@ -198,10 +224,12 @@ fn row_at(
     }
     if actor < first {
         let point = &points[(actor - boxes) as usize];
-        return one_feed(alloc, place_feed(n, streams, replay, point));
+        let given = place_feed(alloc, n, streams, replay, point)?;
+        return one_feed(alloc, given);
     }
     let arc = output_arc(&n.wires, actor - first);
-    one_feed(alloc, arc_feed(n, points, streams, replay, arc))
+    let feed = arc_feed(alloc, n, points, streams, replay, arc)?;
+    one_feed(alloc, feed)
 }
 
 /// What each operator reads.

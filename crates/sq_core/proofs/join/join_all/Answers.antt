@@ -14,7 +14,7 @@ loop-place-preserved c =
     let len = c.len-place-end.ensures in
     let got = slice_get_read c.index-feeds-actor.result.items _ c.loop-place.place c.index-feed.result.now refl (omega (arith, low, len, many)) c.index-feed.ensures in (
       joining-more c.args.wires.now.shown c.args.feeds.now c.args.actor c.loop-place.place c.index-feed.result.now _ c.loop-place.wires c.add_arc.new.wires c.requires.feeds
-          (ap (λ o. slice_get (items_in o) c.loop-place.place) row ∙ got) (refl, refl, refl, refl) refl refl c.loop-place.invariant.0 c.in_ok-add_arc.ensures,
+          (ap (λ o. slice_get (items_in o) c.loop-place.place) row ∙ got) (refl, refl, c.in_ok-kinds.ensures ∙ c.as_slice.ensures, refl) refl refl c.loop-place.invariant.0 c.in_ok-add_arc.ensures,
       fixed-more c.args.wires.now c.loop-place.wires c.add_arc.new.wires c.loop-place.invariant.1 c.in_ok-add_arc.ensures.fixed,
     )
 

@@ -18,7 +18,7 @@ returns-then-actor-first c =
     let point = slice_get_read c.args.points.now _ _ c.index-points-actor.result refl (omega (arith, high, low)) c.index-points-actor.is in
     let k : c.args.actor - length c.as_slice.result.now ≡ c.args.actor - length c.args.n.now.boxes = omega (arith, boxes) in
     IfOk-weaker c.one_feed.result _ _
-    (λ v h. h ∙ ap (λ f. f ∷ []) c.place_feed.ensures
+    (λ v h. h ∙ ap (λ f. f ∷ []) c.in_ok-given.ensures
     ∙ sym (row-drop c.args.n.now c.args.actor c.index-points-actor.result (omega (arith, boxes, high)) (ap (slice_get (points_of c.args.n.now)) (sym k) ∙ ap (λ l. slice_get l (c.args.actor - length c.as_slice.result.now)) (sym c.requires.points) ∙ point))) c.one_feed.ensures
 
 pub output_arc-arc-requires : goal.output_arc-arc-requires
@@ -48,5 +48,5 @@ returns c =
     let high = c.if-actor-first.false in
     let k : c.args.actor - (length c.as_slice.result.now + length c.args.points.now) ≡ c.args.actor - first_output c.args.n.now = omega (arith, boxes, points) in
     IfOk-weaker c.one_feed-2.result _ _
-    (λ v h. h ∙ ap (λ f. f ∷ []) (c.arc_feed.ensures ∙ ap (arc_feed c.args.n.now) (c.output_arc-arc.ensures ∙ ap (output_arc_at c.args.n.now.wires) k))
+    (λ v h. h ∙ ap (λ f. f ∷ []) (c.in_ok-feed.ensures ∙ ap (arc_feed c.args.n.now) (c.output_arc-arc.ensures ∙ ap (output_arc_at c.args.n.now.wires) k))
     ∙ sym (row-output c.args.n.now c.args.actor (omega (arith, boxes, points, high)) c.requires.there)) c.one_feed-2.ensures
