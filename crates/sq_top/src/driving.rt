@@ -110,7 +110,7 @@ fn step_once<D: PageDisk, S: Sink, L: Ledger>(
     ensures ok { OnOk result (GoesOn (known (D.log disk.old)) (known (D.log disk.new)) engine.old engine.new steps.old steps.new (S.written out.old) held.old.text.items (S.written out.new) held.new.text.items) }
     ensures err { IfErr result (λ s. Stops (known (D.log disk.old)) (known (D.log disk.new)) (D.log disk.old).honest engine.old steps.old steps.new (S.written out.old) held.old.text.items (S.written out.new) s) }
     ensures cut { IfErr result (IsCutShort (S.faults out.old) (S.faults out.new)) }
-    ensures stopped { IfErr result (StopHasCause (λ e. e.network ≡ engine.old.network) (D.faults disk.old) (D.faults disk.new)) }
+    ensures stopped { IfErr result (StopHasCause (λ e. e.network ≡ engine.old.network) (D.log disk.old) (D.log disk.new) (D.faults disk.old) (D.faults disk.new)) }
     ensures faults { (D.faults disk.old ≤ D.faults disk.new) × (S.faults out.old ≤ S.faults out.new) }
 {
     let pick = policy.next(engine.ready(), engine.waits());
@@ -140,7 +140,7 @@ fn step_to_end<D: PageDisk, S: Sink, L: Ledger>(
     ensures err { IfErr result (λ s. (r : Replay) (begun : ℕ) → Tells (known (D.log disk.new)) → IsRun r (known (D.log disk.old)) engine.old [] begun steps.old
         → IsHalted (D.log disk.old).honest r s (S.written out.old) (S.written out.new) begun steps.new) }
     ensures cut { IfErr result (IsCutShort (S.faults out.old) (S.faults out.new)) }
-    ensures stopped { IfErr result (StopHasCause (λ e. e.network ≡ engine.old.network) (D.faults disk.old) (D.faults disk.new)) }
+    ensures stopped { IfErr result (StopHasCause (λ e. e.network ≡ engine.old.network) (D.log disk.old) (D.log disk.new) (D.faults disk.old) (D.faults disk.new)) }
     ensures faults { (D.faults disk.old ≤ D.faults disk.new) × (S.faults out.old ≤ S.faults out.new) }
     ensures later { IsLater (D.log disk.old) (D.log disk.new) }
 {
@@ -185,7 +185,7 @@ pub fn drive<D: PageDisk, S: Sink, L: Ledger>(
     ensures err { IfErr result (λ s. (r : Replay) (begun : ℕ) → Tells (known (D.log disk.new)) → IsRun r (known (D.log disk.old)) engine [] begun steps.old
         → IsHalted (D.log disk.old).honest r s (S.written out.old) (S.written out.new) begun steps.new) }
     ensures cut { IfErr result (IsCutShort (S.faults out.old) (S.faults out.new)) }
-    ensures stopped { IfErr result (StopHasCause (λ e. e.network ≡ engine.network) (D.faults disk.old) (D.faults disk.new)) }
+    ensures stopped { IfErr result (StopHasCause (λ e. e.network ≡ engine.network) (D.log disk.old) (D.log disk.new) (D.faults disk.old) (D.faults disk.new)) }
     ensures faults { (D.faults disk.old ≤ D.faults disk.new) × (S.faults out.old ≤ S.faults out.new) }
     ensures later { IsLater (D.log disk.old) (D.log disk.new) }
 {

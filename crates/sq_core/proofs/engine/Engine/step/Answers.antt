@@ -22,3 +22,6 @@ returns-clause-shows g c =
 
 pub returns-clause-frames : goal.returns-clause-frames
 returns-clause-frames g c = on_ok_weaker c.step.result (λ did. did.framed) c.step.ensures.ok
+
+pub returns-clause-feed : goal.returns-clause-feed
+returns-clause-feed g c = c.step.ensures.feed
