@@ -37,3 +37,6 @@ pub returns-in_err-send_one-clause-honest : goal.returns-in_err-send_one-clause-
 returns-in_err-send_one-clause-honest g c =
     let p = err_from_is_err_and c.from_residual.result c.from_residual.ensures.1 in
     rw (p.1, p.2) (λ told. changed-since _ _ _ c.loop-port.invariant.later.honest (c.in_err-send_one.ensures.honest told))
+
+pub returns-in_err-send_one-clause-later : goal.returns-in_err-send_one-clause-later
+returns-in_err-send_one-clause-later g c = IsLater-trans _ _ _ c.loop-port.invariant.later c.in_err-send_one.ensures.later

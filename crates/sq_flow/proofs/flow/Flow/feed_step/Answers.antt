@@ -3,6 +3,7 @@ use Rattle.std.specs.Vec.{with_item}
 use Rattle.std.proofs.lemmas.Option.{slice_get_read, same_Some}
 use Rattle.std.proofs.lemmas.Result.{err_from_is_err_and}
 use Rattle.sq_pool.specs.Trust.{known}
+use Rattle.sq_pool.proofs.TrustLemmas.{IsLater-trans}
 use Rattle.sq_flow.specs.Takes.{MayBeFed}
 use Rattle.sq_queue.specs.Faces.{items_on}
 use Rattle.sq_flow.proofs.WireLemmas.{arcs-open, comes-from}
@@ -206,3 +207,6 @@ returns-clause-took g c =
     (fed-sum c.args.self.now.wires (length c.args.self.now.seats.items) c.requires.flow.shaped c.args.actor c.requires.actor_in c.args.self.now.queues c.take_item.new.queues c.give.new.queues c.args.port c.args.arc
     c.requires.head.1.1 c.in-Ok.ensures.popped c.in-Ok.ensures.faces c.in_ok-give.ensures.sent.apart)
     (goes-on c.args.self.now.over _ _ c.index_mut.result.now c.feed_seat.new.seat is after c.in_ok-feed_seat.ensures.fed.open_still c.requires.running)
+
+pub returns-clause-later : goal.returns-clause-later
+returns-clause-later g c = IsLater-trans _ _ _ c.in-Ok.ensures.later c.in_ok-give.ensures.later

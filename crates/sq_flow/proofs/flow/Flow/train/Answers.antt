@@ -117,3 +117,12 @@ pub returns-in-Finished-clause-took : goal.returns-in-Finished-clause-took
 returns-in-Finished-clause-took g c =
     let last = subst (λ d. TookBy c.args.actor d c.steps.self c.one_step.new.self) c.in-Finished.is c.in-Ok.ensures.took in
     λ running. took-last c.args.actor c.args.self.now c.steps.self c.one_step.new.self c.steps.fed false true (c.steps.invariant.took running) last
+
+pub returns-in-Err-clause-later : goal.returns-in-Err-clause-later
+returns-in-Err-clause-later g c = IsLater-trans _ _ _ c.steps.invariant.later c.in-Err.ensures.later
+
+pub returns-in-Waits-clause-later : goal.returns-in-Waits-clause-later
+returns-in-Waits-clause-later g c = IsLater-trans _ _ _ c.steps.invariant.later c.in-Ok.ensures.later
+
+pub returns-in-Finished-clause-later : goal.returns-in-Finished-clause-later
+returns-in-Finished-clause-later g c = IsLater-trans _ _ _ c.steps.invariant.later c.in-Ok.ensures.later
