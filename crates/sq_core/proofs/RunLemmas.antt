@@ -193,7 +193,7 @@ module _ (was is : Option Pages) (e e' : Engine) (events events' : List Event) (
   -- ---- a step that failed
 
   pub stopped-after : (honest : Bool) → (Tells is → Tells was) → (before after : ℕ) (err : RunErr) → ShowsPrefix actors was is e.engine.flow e'.engine.flow.levels events events' → PlansPrefix e.engine.flow e'.engine.flow.levels events events'
-      → CostsAtMost actors was is e.engine.flow e'.engine.flow.levels before after → NoneStrange actors honest was e.engine.flow e'.engine.flow.levels err → TooMuchOnly actors was is e.engine.flow e'.engine.flow err
+      → CostsAtMost actors was is e.engine.flow e'.engine.flow.levels before after → NoneStrange actors honest was is e.engine.flow e'.engine.flow.levels err → TooMuchOnly actors was is e.engine.flow e'.engine.flow err
       → Tells is → (r : Replay) (history : List Event) (begun : ℕ) → IsRun r was e (history ++ events) begun before → Stopped honest r (history ++ events') begun after err
   stopped-after honest tells before after err prefix planned cost strange much told r history begun run =
       let a = run.answers (tells told) in
@@ -211,7 +211,7 @@ module _ (was is : Option Pages) (e e' : Engine) (events events' : List Event) (
           plans = subst (IsPrefixOf (plans_of (history ++ events'))) run.plans.shown (plans-prefix-in-front history events events' (plans_left e.engine.flow) planned.shown);
           work = (let most = cost told (level_of r) agrees a.holds in let all = a.work in let counted = run.counted in omega (arith, most, all, counted));
         };
-        named = λ is-honest. strange is-honest (level_of r) agrees a.holds;
+        named = strange told (level_of r) agrees a.holds;
         turns = λ is-much. (let most = much.turns is-much told (level_of r) agrees a.holds in let all = a.turns in omega (arith, most, all));
       }
 
@@ -238,14 +238,14 @@ module _ {T : Type 0} (was is : Option Pages) (e e' : Engine) (events events' : 
 
   pub stopped-clause : (honest : Bool) → (Tells is → Tells was) → OnErr answer (ShowsPrefix actors was is e.engine.flow e'.engine.flow.levels events events') → OnErr answer (PlansPrefix e.engine.flow e'.engine.flow.levels events events')
       → OnErr answer (CostsAtMost actors was is e.engine.flow e'.engine.flow.levels before after)
-      → IfErr answer (NoneStrange actors honest was e.engine.flow e'.engine.flow.levels) → IfErr answer (TooMuchOnly actors was is e.engine.flow e'.engine.flow)
+      → IfErr answer (NoneStrange actors honest was is e.engine.flow e'.engine.flow.levels) → IfErr answer (TooMuchOnly actors was is e.engine.flow e'.engine.flow)
       → IfErr answer (λ err. Tells is → (r : Replay) (history : List Event) (begun : ℕ) → IsRun r was e (history ++ events) begun before
       → Stopped honest r (history ++ events') begun after err)
   stopped-clause honest tells prefix planned cost strange much = by answer prefix planned cost strange much
     where
       by : (o : Result T RunErr) → OnErr o (ShowsPrefix actors was is e.engine.flow e'.engine.flow.levels events events') → OnErr o (PlansPrefix e.engine.flow e'.engine.flow.levels events events')
           → OnErr o (CostsAtMost actors was is e.engine.flow e'.engine.flow.levels before after)
-          → IfErr o (NoneStrange actors honest was e.engine.flow e'.engine.flow.levels) → IfErr o (TooMuchOnly actors was is e.engine.flow e'.engine.flow)
+          → IfErr o (NoneStrange actors honest was is e.engine.flow e'.engine.flow.levels) → IfErr o (TooMuchOnly actors was is e.engine.flow e'.engine.flow)
           → IfErr o (λ err. Tells is → (r : Replay) (history : List Event) (begun : ℕ) → IsRun r was e (history ++ events) begun before
           → Stopped honest r (history ++ events') begun after err)
       by (Ok p) prefix planned cost strange much = _

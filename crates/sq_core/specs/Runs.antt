@@ -22,7 +22,7 @@ use Rattle.sq_flow.specs.Seats.{taken_at}
 use Rattle.sq_flow.specs.Flows.{items_in, taken_in_all}
 use Rattle.sq_flow.specs.Engines.{IsEngine}
 use Rattle.sq_flow.specs.Plans.{plans_of}
-use Rattle.sq_flow.specs.Takes.{NotStrange}
+use Rattle.sq_flow.specs.Takes.{NotChanged}
 use Rattle.sq_core.specs.declared.engine.Engine.{Engine}
 use Rattle.sq_core.specs.Meanings.{actors, IsValid}
 use Rattle.sq_start.specs.Numbers.{first_output, ops_of}
@@ -54,10 +54,11 @@ pub record ShownSoFar (r : Replay) (history : List Event) (begun steps : ℕ) : 
   pub plans : IsPrefixOf (plans_of history) (plans_shown r)
   pub work : steps ≤ begun + work_of r
 
--- what a run that failed has shown, and why it may have failed: over an honest disk by no page that came back changed
+-- what a run that failed over a disk that is known then has shown, and why it may have failed: of all that a changed disk brings about
+-- only by a garbled page, and by none over an honest disk
 pub record Stopped (honest : Bool) (r : Replay) (history : List Event) (begun steps : ℕ) (e : RunErr) : Type 0 where
   pub so_far : ShownSoFar r history begun steps
-  pub named : honest ≡ true → NotStrange e
+  pub named : NotChanged honest e
   pub turns : e ≡ TooMuch → 2 ^ 62 ≤ turns_of r
 
 -- how many tuples a box was fed, and how many of them it has neither given nor holds, where it is a BSort

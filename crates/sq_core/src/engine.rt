@@ -50,7 +50,7 @@ impl Drop for Engine {
 }
 
 impl Engine {
-    ghost use Rattle.sq_flow.specs.Flows.{HoldsItems, Stepped, decisions_left, items_in, lines_left, measure_of};
+    ghost use Rattle.sq_flow.specs.Flows.{FailsAt, HoldsItems, Stepped, decisions_left, items_in, lines_left, measure_of};
     ghost use Rattle.sq_flow.specs.Plans.{plans_left};
     ghost use Rattle.sq_flow.specs.Readiness.{IsReady, FallsBy, Took};
     ghost use Rattle.sq_flow.specs.Engines.{place_in, listed_after, AllDone};
@@ -106,7 +106,8 @@ impl Engine {
         ensures together { OnOk result (Together self.new.engine.flow.queues (known (D.log disk.new))) }
         ensures later { IsLater (D.log disk.old) (D.log disk.new) }
         ensures faults { D.faults disk.old ≤ D.faults disk.new }
-        ensures cause { IfErr result (IsCauseIn self.new.engine.flow (D.faults disk.old) (D.faults disk.new)) }
+        ensures cause { IfErr result (IsCauseIn self.new.engine.flow (D.log disk.old) (D.log disk.new) (D.faults disk.old) (D.faults disk.new)) }
+        ensures feed { IfErr result (FailsAt actors IsValid (D.log disk.old) (D.log disk.new) self.old.engine.flow self.new.engine.flow events.old.items) }
         ensures run { OnOk result ((r : Replay) (history : List Event) (begun : ℕ)
             → IsRun r (known (D.log disk.old)) self.old (history ++ events.old.items) begun steps.old
             → IsRun r (known (D.log disk.new)) self.new (history ++ events.new.items) begun steps.new) }

@@ -19,6 +19,7 @@ use Rattle.sq_plan.specs.Plans.{Setting}
 use Rattle.sq_plan.specs.Shown.{level_for}
 use Rattle.sq_value.specs.Lists.{IsPrefixOf}
 use Rattle.sq_flow.specs.Flows.{HoldsItems, Stepped, ShowsPrefix, NoneStrange, CostsFed, CostsAtMost, TooMuchOnly, items_in, decisions_left, left_on, fed_at_last, sum_below, work_at_last}
+use Rattle.sq_flow.proofs.CauseLemmas.{changed-since}
 use Rattle.sq_flow.proofs.SumLemmas.{sum-same}
 use Rattle.sq_flow.proofs.ArcLemmas.{ends-chain}
 use Rattle.sq_flow.specs.Readiness.{IsReady}
@@ -112,9 +113,9 @@ module _ {O : Type 0} (m : Meaning O) (valid : O → Type 0) where
               rw ((first.goes (tells told) table (closes table agrees) h).turns) (only.turns is told table agrees (first.holds (tells told) table (closes table agrees) h));
         }
 
-    pub none-strange-after : (was now : Bool) (levels : LevelTable) (e2 : RunErr) → now ≡ was → (now ≡ true → Tells p1) → ((table : ℕ → ℕ → ℕ) → Agrees levels table → Agrees f1.levels table)
-        → NoneStrange m now p1 f1 levels e2 → NoneStrange m was p f levels e2
-    none-strange-after was now levels e2 same tells closes none = λ honest table agrees h. none (same ∙ honest) table agrees (first.holds (tells (same ∙ honest)) table (closes table agrees) h)
+    pub none-strange-after : (was now : Bool) (p2 : Option Pages) (levels : LevelTable) (e2 : RunErr) → now ≡ was → (Tells p2 → Tells p1) → ((table : ℕ → ℕ → ℕ) → Agrees levels table → Agrees f1.levels table)
+        → NoneStrange m now p1 p2 f1 levels e2 → NoneStrange m was p p2 f levels e2
+    none-strange-after was now p2 levels e2 same tells closes none = λ told table agrees h. changed-since was now e2 same (none told table agrees (first.holds (tells told) table (closes table agrees) h))
 
 -- an operator that waits for an arc isn't ready
 pub waits-not-ready : {O : Type 0} (f : Flow O) (actor : ℕ)

@@ -1,11 +1,15 @@
 -- Why a step failed, and what shows it.
-use Rattle.std.specs.Prelude.{◌≡◌, ℕ, ⊤, Some, slice_get}
+use Rattle.std.specs.Prelude.{◌≡◌, ◌≢◌, ℕ, ◌+◌, ◌^◌, ◌≤◌, ⊤, ◌∷◌, length, Option, Some, slice_get}
 use Rattle.sq_item.specs.declared.Item.{Item}
+use Rattle.sq_item.specs.Things.{spread}
+use Rattle.sq_outside.specs.Disks.{DiskLog, Pages}
 use Rattle.sq_outside.specs.Faults.{Rose}
+use Rattle.sq_pool.specs.Trust.{Tells}
+use Rattle.sq_paged.specs.Fronts.{IsPopped}
 use Rattle.sq_queue.specs.declared.Queues.{Queues}
 use Rattle.sq_paged.specs.declared.store.QueueErr.{QueueErr}
 use Rattle.sq_paged.specs.declared.store.QueueErr.TheVariants as queue
-use Rattle.sq_queue.specs.Faces.{IsRefusal}
+use Rattle.sq_queue.specs.Faces.{IsRefusal, face, items_on}
 use Rattle.sq_flow.specs.declared.wires.Arc.{Arc}
 use Rattle.sq_flow.specs.declared.seats.Seat.{Seat}
 use Rattle.sq_flow.specs.declared.flow.Flow.{Flow}
@@ -21,11 +25,41 @@ of_queue (queue.Garbled page kept got) = error.Garbled page kept got
 of_queue (queue.NotAPage page bytes) = error.NotAPage page bytes
 of_queue queue.Memory = error.Memory
 
--- a page of an arc came back to these queues, and it was refused
-pub record IsPageRefused (queues : Queues) (e : QueueErr) : Type 0 where
+-- a page of an arc came back to these queues in a call, by the disk's log before and after it, and it was refused
+pub record IsPageRefused (queues : Queues) (was is : DiskLog) (e : QueueErr) : Type 0 where
   pub before : Queues
   pub arc : ℕ
-  pub refusal : IsRefusal before queues arc e
+  pub refusal : IsRefusal before queues was is arc e
+
+-- the first item of an arc was taken, and the others stayed
+pub record HasTaken (was is : Option Pages) (before queues : Queues) (arc : ℕ) (item : Item) : Type 0 where
+  pub popped : IsPopped (face before arc) (face queues arc)
+  pub others : (other : ℕ) → other ≢ arc → face queues other ≡ face before other
+  pub first : Tells is → items_on before was arc ≡ item ∷ items_on queues is arc
+
+-- a feed took this item, the first of an arc that its operator reads, and did no more: the flow right before it and behind it
+pub record TakesOnly {O : Type 0} (before flow : Flow O) (was is : Option Pages) (arc : ℕ) (item : Item) : Type 0 where
+  pub actor : ℕ
+  pub port : ℕ
+  pub reads : slice_get (arcs_read before.wires actor) port ≡ Some arc
+  pub same : flow ≡ record before { queues = flow.queues }
+  pub taken : HasTaken was is before.queues flow.queues arc item
+
+-- the item that a feed took has more marks and tuples than can still be counted
+pub record IsFull {O : Type 0} (before flow : Flow O) (was is : Option Pages) : Type 0 where
+  pub arc : ℕ
+  pub item : Item
+  pub takes : TakesOnly before flow was is arc item
+  pub over : 2 ^ 62 ≤ before.taken + length (spread item)
+
+-- what shows why a feed failed that took an item: the flow right before it and behind it
+abbrev pub IsFeedCause : {O : Type 0} → Flow O → Flow O → Option Pages → Option Pages → RunErr → Type 0
+IsFeedCause before flow was is error.Disk = ⊤
+IsFeedCause before flow was is (error.Garbled page kept got) = ⊤
+IsFeedCause before flow was is (error.NotAPage page bytes) = ⊤
+IsFeedCause before flow was is (error.Strange arc item) = TakesOnly before flow was is arc item
+IsFeedCause before flow was is error.TooMuch = IsFull before flow was is
+IsFeedCause before flow was is error.Memory = ⊤
 
 -- the operator that reads this arc may not be fed this item
 pub record IsStrangeIn {O : Type 0} (flow : Flow O) (arc : ℕ) (item : Item) : Type 0 where
@@ -38,20 +72,20 @@ pub record IsStrangeIn {O : Type 0} (flow : Flow O) (arc : ℕ) (item : Item) : 
   pub wired : slice_get flow.wires.arcs.items arc ≡ Some at
   pub refused : ¬ (MayBeFed at port seat.tally.place flow.clock item)
 
--- what shows why a call over queues failed: the disk's faults before and after it, and the queues as they stand after it
-abbrev pub IsQueueCause : Queues → ℕ → ℕ → RunErr → Type 0
-IsQueueCause queues before now error.Disk = Rose before now
-IsQueueCause queues before now (error.Garbled page kept got) = IsPageRefused queues (queue.Garbled page kept got)
-IsQueueCause queues before now (error.NotAPage page bytes) = IsPageRefused queues (queue.NotAPage page bytes)
-IsQueueCause queues before now (error.Strange arc item) = ⊥
-IsQueueCause queues before now error.TooMuch = ⊥
-IsQueueCause queues before now error.Memory = ⊤
+-- what shows why a call over queues failed: the disk's log and its faults before and after it, and the queues as they stand after it
+abbrev pub IsQueueCause : Queues → DiskLog → DiskLog → ℕ → ℕ → RunErr → Type 0
+IsQueueCause queues was is before now error.Disk = Rose before now
+IsQueueCause queues was is before now (error.Garbled page kept got) = IsPageRefused queues was is (queue.Garbled page kept got)
+IsQueueCause queues was is before now (error.NotAPage page bytes) = IsPageRefused queues was is (queue.NotAPage page bytes)
+IsQueueCause queues was is before now (error.Strange arc item) = ⊥
+IsQueueCause queues was is before now error.TooMuch = ⊥
+IsQueueCause queues was is before now error.Memory = ⊤
 
--- what shows why a step failed: the disk's faults before and after it, and the flow as it stands after it
-abbrev pub IsCauseIn : {O : Type 0} → Flow O → ℕ → ℕ → RunErr → Type 0
-IsCauseIn flow before now error.Disk = Rose before now
-IsCauseIn flow before now (error.Garbled page kept got) = IsPageRefused flow.queues (queue.Garbled page kept got)
-IsCauseIn flow before now (error.NotAPage page bytes) = IsPageRefused flow.queues (queue.NotAPage page bytes)
-IsCauseIn flow before now (error.Strange arc item) = IsStrangeIn flow arc item
-IsCauseIn flow before now error.TooMuch = ⊤
-IsCauseIn flow before now error.Memory = ⊤
+-- what shows why a step failed: the disk's log and its faults before and after it, and the flow as it stands after it
+abbrev pub IsCauseIn : {O : Type 0} → Flow O → DiskLog → DiskLog → ℕ → ℕ → RunErr → Type 0
+IsCauseIn flow was is before now error.Disk = Rose before now
+IsCauseIn flow was is before now (error.Garbled page kept got) = IsPageRefused flow.queues was is (queue.Garbled page kept got)
+IsCauseIn flow was is before now (error.NotAPage page bytes) = IsPageRefused flow.queues was is (queue.NotAPage page bytes)
+IsCauseIn flow was is before now (error.Strange arc item) = IsStrangeIn flow arc item
+IsCauseIn flow was is before now error.TooMuch = ⊤
+IsCauseIn flow was is before now error.Memory = ⊤

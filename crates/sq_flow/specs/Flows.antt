@@ -3,7 +3,7 @@ use Rattle.std.specs.Prelude.{◌≡◌, ℕ, zero, suc, ◌+◌, ◌-◌, ◌^�
 use Rattle.sq_value.specs.declared.Tuple.{Tuple}
 use Rattle.sq_item.specs.declared.Item.{Item}
 use Rattle.sq_item.specs.Things.{Thing, spread_all}
-use Rattle.sq_outside.specs.Disks.{Pages}
+use Rattle.sq_outside.specs.Disks.{DiskLog, Pages}
 use Rattle.sq_road.specs.Levels.{LevelTable, Agrees}
 use Rattle.sq_value.specs.Lists.{IsPrefixOf}
 use Rattle.sq_oper.specs.declared.outs.Decision.{Decision}
@@ -14,7 +14,7 @@ use Rattle.std.specs.declared.alloc.Global.{Global}
 use Rattle.std.specs.declared.collections.VecDeque.{VecDeque}
 use Rattle.sq_left.specs.Left.{World, Facts, coming, inputs, left, still_dropped, lost_in_all, fed_in_all}
 use Rattle.sq_left.specs.Heads.{AllFine}
-use Rattle.sq_pool.specs.Trust.{Tells}
+use Rattle.sq_pool.specs.Trust.{IsLater, known, Tells}
 use Rattle.sq_queue.specs.Faces.{face, size, frames, items_on, Together}
 use Rattle.sq_flow.specs.declared.seats.Seat.{Seat}
 use Rattle.sq_flow.specs.declared.flow.Flow.{Flow}
@@ -22,7 +22,8 @@ use Rattle.sq_flow.specs.declared.errors.RunErr.{RunErr}
 use Rattle.sq_flow.specs.declared.errors.RunErr.TheVariants.{TooMuch}
 use Rattle.sq_flow.specs.declared.flow.Did.{Did}
 use Rattle.sq_flow.specs.declared.flow.Did.TheVariants.{Waits, Fed, Finished}
-use Rattle.sq_flow.specs.Takes.{NotStrange}
+use Rattle.sq_flow.specs.Takes.{NotChanged}
+use Rattle.sq_flow.specs.Causes.{IsFeedCause}
 use Rattle.sq_flow.specs.Wiring.{net_of, from_of, IsOwn, IsShaped}
 use Rattle.sq_flow.specs.Seats.{Meaning, rest_at, decides_at, lost_at, taken_at, place_at, done_at, holds_at, IsSeat, Owns}
 use Rattle.sq_flow.specs.Events.{bodies, lines_of, drops_of, ShowsIn}
@@ -172,9 +173,9 @@ abbrev pub ShowsPrefix : {O : Type 0} → Meaning O → Option Pages → Option 
 ShowsPrefix m was is flow levels events events' =
     Tells is → (table : ℕ → ℕ → ℕ) → Agrees levels table → HoldsItems m table (items_in flow was) flow → Begins m table (items_in flow was) flow events events'
 
--- and it names no item, where the disk is honest
-abbrev pub NoneStrange : {O : Type 0} → Meaning O → Bool → Option Pages → Flow O → LevelTable → RunErr → Type 0
-NoneStrange m honest was flow levels e = honest ≡ true → (table : ℕ → ℕ → ℕ) → Agrees levels table → HoldsItems m table (items_in flow was) flow → NotStrange e
+-- and over a disk that is known behind it, it names no item and no page but a garbled one, and none over an honest disk
+abbrev pub NoneStrange : {O : Type 0} → Meaning O → Bool → Option Pages → Option Pages → Flow O → LevelTable → RunErr → Type 0
+NoneStrange m honest was is flow levels e = Tells is → (table : ℕ → ℕ → ℕ) → Agrees levels table → HoldsItems m table (items_in flow was) flow → NotChanged honest e
 
 -- a step that does something lowers the measure
 abbrev pub Lowers : Did → ℕ → ℕ → Type 0
@@ -197,3 +198,13 @@ pub record TooMuchOnly {O : Type 0} (m : Meaning O) (was is : Option Pages) (flo
   pub counted : e ≡ TooMuch → 2 ^ 62 ≤ flow'.taken + 2
   pub turns : e ≡ TooMuch → Tells is → (table : ℕ → ℕ → ℕ) → Agrees flow'.levels table → HoldsItems m table (items_in flow was) flow
       → 2 ^ 62 ≤ turns_at_last m table (items_in flow was) flow
+
+-- the feed at which a run of steps failed, where one did: the flow right before it came of the first by steps
+pub record FailsAt {O : Type 0} (m : Meaning O) (valid : O → Type 0) (log now : DiskLog) (flow flow' : Flow O) (events : List Event) (e : RunErr) : Type 0 where
+  pub before : Flow O
+  pub mid : DiskLog
+  pub shown : List Event
+  pub stepped : Stepped m valid (known log) (known mid) flow before events shown
+  pub later : IsLater log mid
+  pub last : IsLater mid now
+  pub feed : IsFeedCause before flow' (known mid) (known now) e

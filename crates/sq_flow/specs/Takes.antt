@@ -1,5 +1,5 @@
 -- Which items may be fed.
-use Rattle.std.specs.Prelude.{ℕ, ◌==◌, ◌≤◌, ◌&&◌, ◌||◌, nat_lt, nat_le, Bool, true, List, Option, Some, None, if◌then◌else◌}
+use Rattle.std.specs.Prelude.{◌≡◌, ℕ, ◌==◌, ◌≤◌, ◌&&◌, ◌||◌, nat_lt, nat_le, Bool, true, false, List, Option, Some, None, if◌then◌else◌}
 use Rattle.sq_value.specs.declared.Kind.{Kind}
 use Rattle.sq_value.specs.declared.Value.{Value}
 use Rattle.sq_value.specs.Values.{kinds_fit}
@@ -38,11 +38,11 @@ abbrev pub body_fits : List Kind → Option (List Value) → Bool
 body_fits kinds None = true
 body_fits kinds (Some fields) = kinds_fit kinds fields
 
--- an error that may come over an honest disk
-abbrev pub NotStrange : RunErr → Type 0
-NotStrange error.Disk = Unit {0}
-NotStrange (error.Garbled page kept got) = ⊥
-NotStrange (error.NotAPage page bytes) = ⊥
-NotStrange (error.Strange arc item) = ⊥
-NotStrange error.TooMuch = Unit {0}
-NotStrange error.Memory = Unit {0}
+-- an error that may come over a disk that is known: a page that came back changed is garbled, and over an honest disk none is
+abbrev pub NotChanged : Bool → RunErr → Type 0
+NotChanged honest error.Disk = Unit {0}
+NotChanged honest (error.Garbled page kept got) = honest ≡ false
+NotChanged honest (error.NotAPage page bytes) = ⊥
+NotChanged honest (error.Strange arc item) = ⊥
+NotChanged honest error.TooMuch = Unit {0}
+NotChanged honest error.Memory = Unit {0}

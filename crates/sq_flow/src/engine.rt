@@ -106,7 +106,7 @@ impl<O: Operator + Drop> Flow<O> {
 }
 
 impl<O: Operator + Drop> Engine<O> {
-    ghost use Rattle.sq_flow.specs.Flows.{IsFlow, Stepped, ShowsPrefix, NoneStrange, measure_of, HoldsItems, items_in, lines_left, decisions_left, fed_at_last, RiseFrom, tuples_at, CostsFed, CostsAtMost, TooMuchOnly, lost_at_last, work_at_last, taken_in_all};
+    ghost use Rattle.sq_flow.specs.Flows.{IsFlow, Stepped, ShowsPrefix, NoneStrange, measure_of, HoldsItems, items_in, lines_left, decisions_left, fed_at_last, RiseFrom, tuples_at, CostsFed, CostsAtMost, TooMuchOnly, FailsAt, lost_at_last, work_at_last, taken_in_all};
     ghost use Rattle.sq_flow.specs.Plans.{PlansPrefix, IsPlanned, arrivals, last_arrival, plans_left};
     ghost use Rattle.sq_flow.specs.Causes.{IsCauseIn};
     ghost use Rattle.sq_flow.specs.Readiness.{IsReady, FallsBy, Took};
@@ -211,8 +211,9 @@ impl<O: Operator + Drop> Engine<O> {
         ensures order { OnOk result (self.new.ready.list ≡ listed_after self.new.flow self.old.ready.list pick.actor) }
         ensures prefix { OnErr result (ShowsPrefix (record { rest = O.rest; decides = O.decides; lost = O.lost; place = O.place; taken = O.taken; running = O.running; takes_marks = O.takes_marks; fits = O.fits; reads = O.reads }) (known (D.log disk.old)) (known (D.log disk.new)) self.old.flow self.new.flow.levels events.old.items events.new.items) }
         ensures plans { OnErr result (PlansPrefix self.old.flow self.new.flow.levels events.old.items events.new.items) }
-        ensures strange { IfErr result (λ e. NoneStrange (record { rest = O.rest; decides = O.decides; lost = O.lost; place = O.place; taken = O.taken; running = O.running; takes_marks = O.takes_marks; fits = O.fits; reads = O.reads }) (D.log disk.old).honest (known (D.log disk.old)) self.old.flow self.new.flow.levels e) }
-        ensures cause { IfErr result (IsCauseIn self.new.flow (D.faults disk.old) (D.faults disk.new)) }
+        ensures strange { IfErr result (λ e. NoneStrange (record { rest = O.rest; decides = O.decides; lost = O.lost; place = O.place; taken = O.taken; running = O.running; takes_marks = O.takes_marks; fits = O.fits; reads = O.reads }) (D.log disk.old).honest (known (D.log disk.old)) (known (D.log disk.new)) self.old.flow self.new.flow.levels e) }
+        ensures cause { IfErr result (IsCauseIn self.new.flow (D.log disk.old) (D.log disk.new) (D.faults disk.old) (D.faults disk.new)) }
+        ensures feed { IfErr result (FailsAt (record { rest = O.rest; decides = O.decides; lost = O.lost; place = O.place; taken = O.taken; running = O.running; takes_marks = O.takes_marks; fits = O.fits; reads = O.reads }) O.valid (D.log disk.old) (D.log disk.new) self.old.flow self.new.flow events.old.items) }
         ensures faults { D.faults disk.old ≤ D.faults disk.new }
         ensures later { IsLater (D.log disk.old) (D.log disk.new) }
         ensures failed { OnErr result (self.new.failed ≡ true) }

@@ -6,11 +6,10 @@ ghost use Rattle.sq_value.specs.Lists.{IsPrefixOf};
 ghost use Rattle.sq_item.specs.Sound.{IsSound};
 ghost use Rattle.sq_item.specs.Things.{spread};
 ghost use Rattle.sq_oper.specs.Given.{given, ItemsSound};
-ghost use Rattle.sq_outside.specs.Disks.{Honest};
-ghost use Rattle.sq_pool.specs.Trust.{IsLater, known};
+ghost use Rattle.sq_pool.specs.Trust.{IsLater, Tells, known};
 ghost use Rattle.sq_queue.specs.Faces.{face, size, Together};
 ghost use Rattle.sq_flow.specs.Causes.{of_queue, IsQueueCause};
-ghost use Rattle.sq_flow.specs.Takes.{NotStrange};
+ghost use Rattle.sq_flow.specs.Takes.{NotChanged};
 ghost use Rattle.sq_flow.specs.Wiring.{arcs_from, times_in, AllOutsFine, pushed_by, IsOwn};
 ghost use Rattle.std.specs.List.{AllByRecursion};
 ghost use Rattle.sq_flow.specs.Sends.{many, sent_to, comes_from, Pushes};
@@ -38,8 +37,8 @@ fn send_item<D: PageDisk>(
     requires sound { IsSound item }
     requires together { Together queues.old (known (D.log disk.old)) }
     ensures sent { OnOk result (Pushes queues.old queues.new (known (D.log disk.old)) (known (D.log disk.new)) (λ arc. many (times_in arc arcs.now) (spread item)) (λ time. item.time ≤ time) (λ arc. contains arcs.now arc)) }
-    ensures cause { IfErr result (λ e. IsQueueCause queues.new (D.faults disk.old) (D.faults disk.new) (of_queue e)) }
-    ensures honest { IfErr result (λ e. Honest (D.log disk.old) → NotStrange (of_queue e)) }
+    ensures cause { IfErr result (λ e. IsQueueCause queues.new (D.log disk.old) (D.log disk.new) (D.faults disk.old) (D.faults disk.new) (of_queue e)) }
+    ensures honest { IfErr result (λ e. Tells (known (D.log disk.new)) → NotChanged (D.log disk.old).honest (of_queue e)) }
     ensures faults { D.faults disk.old ≤ D.faults disk.new }
     ensures later { IsLater (D.log disk.old) (D.log disk.new) }
 {
@@ -68,8 +67,8 @@ pub(crate) fn send_one<D: PageDisk>(
     requires sound { IsSound item }
     requires together { Together queues.old (known (D.log disk.old)) }
     ensures sent { OnOk result (Pushes queues.old queues.new (known (D.log disk.old)) (known (D.log disk.new)) (λ arc. many (times_in arc (arcs_from wires.now actor port)) (spread item)) (λ time. item.time ≤ time) (λ arc. contains (arcs_from wires.now actor port) arc)) }
-    ensures cause { IfErr result (λ e. IsQueueCause queues.new (D.faults disk.old) (D.faults disk.new) (of_queue e)) }
-    ensures honest { IfErr result (λ e. Honest (D.log disk.old) → NotStrange (of_queue e)) }
+    ensures cause { IfErr result (λ e. IsQueueCause queues.new (D.log disk.old) (D.log disk.new) (D.faults disk.old) (D.faults disk.new) (of_queue e)) }
+    ensures honest { IfErr result (λ e. Tells (known (D.log disk.new)) → NotChanged (D.log disk.old).honest (of_queue e)) }
     ensures faults { D.faults disk.old ≤ D.faults disk.new }
     ensures later { IsLater (D.log disk.old) (D.log disk.new) }
 {
@@ -96,8 +95,8 @@ pub(crate) fn send_all<D: PageDisk>(
     requires together { Together queues.old (known (D.log disk.old)) }
     ensures sent { OnOk result (Pushes queues.old queues.new (known (D.log disk.old)) (known (D.log disk.new)) (sent_to wires.now actor items.old.items) (λ time. AllOutsFine time items.old.items) (comes_from wires.now actor)) }
     ensures none { OnOk result (items.new.items ≡ []) }
-    ensures cause { IfErr result (λ e. IsQueueCause queues.new (D.faults disk.old) (D.faults disk.new) (of_queue e)) }
-    ensures honest { IfErr result (λ e. Honest (D.log disk.old) → NotStrange (of_queue e)) }
+    ensures cause { IfErr result (λ e. IsQueueCause queues.new (D.log disk.old) (D.log disk.new) (D.faults disk.old) (D.faults disk.new) (of_queue e)) }
+    ensures honest { IfErr result (λ e. Tells (known (D.log disk.new)) → NotChanged (D.log disk.old).honest (of_queue e)) }
     ensures faults { D.faults disk.old ≤ D.faults disk.new }
     ensures later { IsLater (D.log disk.old) (D.log disk.new) }
 {
@@ -221,8 +220,8 @@ pub(crate) fn give<D: PageDisk>(
         → ShowsIn outputs (wires.now.shown - wires.now.sheds) events.old.items events.new.items }
     ensures plans { plans_of events.new.items ≡ plans_of events.old.items }
     ensures drops_prefix { OnErr result ((w : ℕ) → IsPrefixOf (drops_of w events.new.items) (drops_of w events.old.items ++ of_drop w outs.old.drops.items)) }
-    ensures cause { IfErr result (IsQueueCause queues.new (D.faults disk.old) (D.faults disk.new)) }
-    ensures honest { IfErr result (λ e. Honest (D.log disk.old) → NotStrange e) }
+    ensures cause { IfErr result (IsQueueCause queues.new (D.log disk.old) (D.log disk.new) (D.faults disk.old) (D.faults disk.new)) }
+    ensures honest { IfErr result (λ e. Tells (known (D.log disk.new)) → NotChanged (D.log disk.old).honest e) }
     ensures faults { D.faults disk.old ≤ D.faults disk.new }
     ensures later { IsLater (D.log disk.old) (D.log disk.new) }
     ensures stay { IsPrefixOf events.old.items events.new.items }

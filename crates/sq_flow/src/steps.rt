@@ -22,9 +22,9 @@ pub struct Progress {
 }
 
 impl<O: Operator + Drop> Flow<O> {
-    ghost use Rattle.sq_flow.specs.Flows.{IsFlow, Stepped, ShowsPrefix, NoneStrange, CostsFed, CostsAtMost, TooMuchOnly, taken_in_all, Lowers, measure_of};
+    ghost use Rattle.sq_flow.specs.Flows.{IsFlow, Stepped, ShowsPrefix, NoneStrange, CostsFed, CostsAtMost, TooMuchOnly, FailsAt, taken_in_all, Lowers, measure_of};
     ghost use Rattle.sq_flow.specs.Plans.{PlansPrefix};
-    ghost use Rattle.sq_flow.specs.Causes.{IsCauseIn};
+    ghost use Rattle.sq_flow.specs.Causes.{IsCauseIn, IsFeedCause};
     ghost use Rattle.sq_flow.specs.Readiness.{IsReady, TouchesOnly, WaitsOnly, FallsBy, Took, TookBy};
     ghost use Rattle.sq_flow.specs.Seats.{done_at};
 
@@ -52,8 +52,9 @@ impl<O: Operator + Drop> Flow<O> {
         ensures ok { OnOk result (Stepped (record { rest = O.rest; decides = O.decides; lost = O.lost; place = O.place; taken = O.taken; running = O.running; takes_marks = O.takes_marks; fits = O.fits; reads = O.reads }) O.valid (known (D.log disk.old)) (known (D.log disk.new)) self.old self.new events.old.items events.new.items) }
         ensures prefix { OnErr result (ShowsPrefix (record { rest = O.rest; decides = O.decides; lost = O.lost; place = O.place; taken = O.taken; running = O.running; takes_marks = O.takes_marks; fits = O.fits; reads = O.reads }) (known (D.log disk.old)) (known (D.log disk.new)) self.old self.new.levels events.old.items events.new.items) }
         ensures plans { OnErr result (PlansPrefix self.old self.new.levels events.old.items events.new.items) }
-        ensures strange { IfErr result (λ e. NoneStrange (record { rest = O.rest; decides = O.decides; lost = O.lost; place = O.place; taken = O.taken; running = O.running; takes_marks = O.takes_marks; fits = O.fits; reads = O.reads }) (D.log disk.old).honest (known (D.log disk.old)) self.old self.new.levels e) }
-        ensures cause { IfErr result (IsCauseIn self.new (D.faults disk.old) (D.faults disk.new)) }
+        ensures strange { IfErr result (λ e. NoneStrange (record { rest = O.rest; decides = O.decides; lost = O.lost; place = O.place; taken = O.taken; running = O.running; takes_marks = O.takes_marks; fits = O.fits; reads = O.reads }) (D.log disk.old).honest (known (D.log disk.old)) (known (D.log disk.new)) self.old self.new.levels e) }
+        ensures cause { IfErr result (IsCauseIn self.new (D.log disk.old) (D.log disk.new) (D.faults disk.old) (D.faults disk.new)) }
+        ensures feed { IfErr result (IsFeedCause self.old self.new (known (D.log disk.old)) (known (D.log disk.new))) }
         ensures faults { D.faults disk.old ≤ D.faults disk.new }
         ensures later { IsLater (D.log disk.old) (D.log disk.new) }
         ensures touches { OnOk result (TouchesOnly (length self.old.seats.items) self.old self.new) }
@@ -95,8 +96,9 @@ impl<O: Operator + Drop> Flow<O> {
         ensures ok { OnOk result (Stepped (record { rest = O.rest; decides = O.decides; lost = O.lost; place = O.place; taken = O.taken; running = O.running; takes_marks = O.takes_marks; fits = O.fits; reads = O.reads }) O.valid (known (D.log disk.old)) (known (D.log disk.new)) self.old self.new events.old.items events.new.items) }
         ensures prefix { OnErr result (ShowsPrefix (record { rest = O.rest; decides = O.decides; lost = O.lost; place = O.place; taken = O.taken; running = O.running; takes_marks = O.takes_marks; fits = O.fits; reads = O.reads }) (known (D.log disk.old)) (known (D.log disk.new)) self.old self.new.levels events.old.items events.new.items) }
         ensures plans { OnErr result (PlansPrefix self.old self.new.levels events.old.items events.new.items) }
-        ensures strange { IfErr result (λ e. NoneStrange (record { rest = O.rest; decides = O.decides; lost = O.lost; place = O.place; taken = O.taken; running = O.running; takes_marks = O.takes_marks; fits = O.fits; reads = O.reads }) (D.log disk.old).honest (known (D.log disk.old)) self.old self.new.levels e) }
-        ensures cause { IfErr result (IsCauseIn self.new (D.faults disk.old) (D.faults disk.new)) }
+        ensures strange { IfErr result (λ e. NoneStrange (record { rest = O.rest; decides = O.decides; lost = O.lost; place = O.place; taken = O.taken; running = O.running; takes_marks = O.takes_marks; fits = O.fits; reads = O.reads }) (D.log disk.old).honest (known (D.log disk.old)) (known (D.log disk.new)) self.old self.new.levels e) }
+        ensures cause { IfErr result (IsCauseIn self.new (D.log disk.old) (D.log disk.new) (D.faults disk.old) (D.faults disk.new)) }
+        ensures feed { IfErr result (IsFeedCause self.old self.new (known (D.log disk.old)) (known (D.log disk.new))) }
         ensures faults { D.faults disk.old ≤ D.faults disk.new }
         ensures later { IsLater (D.log disk.old) (D.log disk.new) }
         ensures none { OnOk result ((outs.new.items.items ≡ []) × (outs.new.drops.items ≡ [])) }
@@ -141,8 +143,9 @@ impl<O: Operator + Drop> Flow<O> {
         ensures ok { OnOk result (Stepped (record { rest = O.rest; decides = O.decides; lost = O.lost; place = O.place; taken = O.taken; running = O.running; takes_marks = O.takes_marks; fits = O.fits; reads = O.reads }) O.valid (known (D.log disk.old)) (known (D.log disk.new)) self.old self.new events.old.items events.new.items) }
         ensures prefix { OnErr result (ShowsPrefix (record { rest = O.rest; decides = O.decides; lost = O.lost; place = O.place; taken = O.taken; running = O.running; takes_marks = O.takes_marks; fits = O.fits; reads = O.reads }) (known (D.log disk.old)) (known (D.log disk.new)) self.old self.new.levels events.old.items events.new.items) }
         ensures plans { OnErr result (PlansPrefix self.old self.new.levels events.old.items events.new.items) }
-        ensures strange { IfErr result (λ e. NoneStrange (record { rest = O.rest; decides = O.decides; lost = O.lost; place = O.place; taken = O.taken; running = O.running; takes_marks = O.takes_marks; fits = O.fits; reads = O.reads }) (D.log disk.old).honest (known (D.log disk.old)) self.old self.new.levels e) }
-        ensures cause { IfErr result (IsCauseIn self.new (D.faults disk.old) (D.faults disk.new)) }
+        ensures strange { IfErr result (λ e. NoneStrange (record { rest = O.rest; decides = O.decides; lost = O.lost; place = O.place; taken = O.taken; running = O.running; takes_marks = O.takes_marks; fits = O.fits; reads = O.reads }) (D.log disk.old).honest (known (D.log disk.old)) (known (D.log disk.new)) self.old self.new.levels e) }
+        ensures cause { IfErr result (IsCauseIn self.new (D.log disk.old) (D.log disk.new) (D.faults disk.old) (D.faults disk.new)) }
+        ensures feed { IfErr result (IsFeedCause self.old self.new (known (D.log disk.old)) (known (D.log disk.new))) }
         ensures faults { D.faults disk.old ≤ D.faults disk.new }
         ensures later { IsLater (D.log disk.old) (D.log disk.new) }
         ensures none { OnOk result ((outs.new.items.items ≡ []) × (outs.new.drops.items ≡ [])) }
@@ -185,8 +188,9 @@ impl<O: Operator + Drop> Flow<O> {
         ensures ok { OnOk result (Stepped (record { rest = O.rest; decides = O.decides; lost = O.lost; place = O.place; taken = O.taken; running = O.running; takes_marks = O.takes_marks; fits = O.fits; reads = O.reads }) O.valid (known (D.log disk.old)) (known (D.log disk.new)) self.old self.new events.old.items events.new.items) }
         ensures prefix { OnErr result (ShowsPrefix (record { rest = O.rest; decides = O.decides; lost = O.lost; place = O.place; taken = O.taken; running = O.running; takes_marks = O.takes_marks; fits = O.fits; reads = O.reads }) (known (D.log disk.old)) (known (D.log disk.new)) self.old self.new.levels events.old.items events.new.items) }
         ensures plans { OnErr result (PlansPrefix self.old self.new.levels events.old.items events.new.items) }
-        ensures strange { IfErr result (λ e. NoneStrange (record { rest = O.rest; decides = O.decides; lost = O.lost; place = O.place; taken = O.taken; running = O.running; takes_marks = O.takes_marks; fits = O.fits; reads = O.reads }) (D.log disk.old).honest (known (D.log disk.old)) self.old self.new.levels e) }
-        ensures cause { IfErr result (IsCauseIn self.new (D.faults disk.old) (D.faults disk.new)) }
+        ensures strange { IfErr result (λ e. NoneStrange (record { rest = O.rest; decides = O.decides; lost = O.lost; place = O.place; taken = O.taken; running = O.running; takes_marks = O.takes_marks; fits = O.fits; reads = O.reads }) (D.log disk.old).honest (known (D.log disk.old)) (known (D.log disk.new)) self.old self.new.levels e) }
+        ensures cause { IfErr result (IsCauseIn self.new (D.log disk.old) (D.log disk.new) (D.faults disk.old) (D.faults disk.new)) }
+        ensures feed { IfErr result (FailsAt (record { rest = O.rest; decides = O.decides; lost = O.lost; place = O.place; taken = O.taken; running = O.running; takes_marks = O.takes_marks; fits = O.fits; reads = O.reads }) O.valid (D.log disk.old) (D.log disk.new) self.old self.new events.old.items) }
         ensures faults { D.faults disk.old ≤ D.faults disk.new }
         ensures later { IsLater (D.log disk.old) (D.log disk.new) }
         ensures touches { OnOk result (TouchesOnly actor self.old self.new) }

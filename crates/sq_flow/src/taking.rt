@@ -5,12 +5,11 @@ ghost use Rattle.sq_value.specs.Values.{is_of_kind, kinds_fit};
 ghost use Rattle.sq_item.specs.declared.Item.{Item};
 ghost use Rattle.sq_item.specs.Sound.{IsSound};
 ghost use Rattle.sq_item.specs.Things.{spread};
-ghost use Rattle.sq_outside.specs.Disks.{Honest};
 ghost use Rattle.sq_pool.specs.Trust.{IsLater, Tells, known};
 ghost use Rattle.sq_paged.specs.Fronts.{IsPopped};
 ghost use Rattle.sq_queue.specs.Faces.{face, size, frames, items_on, Together};
-ghost use Rattle.sq_flow.specs.Causes.{IsQueueCause};
-ghost use Rattle.sq_flow.specs.Takes.{MayBeFed, may_stand, mark_fits, body_fits, NotStrange};
+ghost use Rattle.sq_flow.specs.Causes.{HasTaken, IsQueueCause};
+ghost use Rattle.sq_flow.specs.Takes.{MayBeFed, may_stand, mark_fits, body_fits, NotChanged};
 
 use crate::errors::RunErr;
 use crate::wires::Arc;
@@ -132,11 +131,11 @@ pub(crate) fn take_item<D: PageDisk>(
     ensures others { OnOk result (Tells (known (D.log disk.new)) → (other : ℕ) → other ≢ arc → items_on queues.new (known (D.log disk.new)) other ≡ items_on queues.old (known (D.log disk.old)) other) }
     ensures together { OnOk result (Together queues.new (known (D.log disk.new))) }
     ensures later { IsLater (D.log disk.old) (D.log disk.new) }
-    ensures strange { IfErr result (λ e. Honest (D.log disk.old)
-        → ((item : Item) (more : List Item) → items_on queues.old (known (D.log disk.old)) arc ≡ item ∷ more → MayBeFed at.now port place clock item) → NotStrange e) }
+    ensures strange { IfErr result (λ e. Tells (known (D.log disk.new))
+        → ((item : Item) (more : List Item) → items_on queues.old (known (D.log disk.old)) arc ≡ item ∷ more → MayBeFed at.now port place clock item) → NotChanged (D.log disk.old).honest e) }
     ensures memory { IfErr result (λ e. e ≢ RunErr.TooMuch) }
-    ensures cause { IfErr result (λ e. IsQueueCause queues.new (D.faults disk.old) (D.faults disk.new) e
-        ⊎ ((item : Item) × (e ≡ RunErr.Strange arc item) × ¬ (MayBeFed at.now port place clock item))) }
+    ensures cause { IfErr result (λ e. IsQueueCause queues.new (D.log disk.old) (D.log disk.new) (D.faults disk.old) (D.faults disk.new) e
+        ⊎ ((item : Item) × (e ≡ RunErr.Strange arc item) × HasTaken (known (D.log disk.old)) (known (D.log disk.new)) queues.old queues.new arc item × ¬ (MayBeFed at.now port place clock item))) }
     ensures faults { D.faults disk.old ≤ D.faults disk.new }
     ensures popped { OnOk result (IsPopped (face queues.old arc) (face queues.new arc)) }
     ensures frames { OnOk result (frames queues.new ≡ frames queues.old) }

@@ -146,7 +146,7 @@ module _ (words : List (List ℕ)) (net text : List ℕ) (asked : command_in wor
       → Ends words w s source
   audited_cut s lost part alone =
       answered_cut words w r source (is_audit words net text asked w.told) came faultless s (lost_cut w.sink_before w.sink_before w.sink_now s (omega arith) lost)
-      (lost_stop _ w.disk_before w.disk_now w.sink_before w.sink_now s lost) (λ is-honest. lost_unchanged w.sink_before w.sink_now s lost)
+      (lost_stop _ w.log_before w.log_now w.disk_before w.disk_now w.sink_before w.sink_now s lost) (λ is-honest. lost_unchanged w.sink_before w.sink_now s lost)
       (λ told. not_too_much _ w.sink_before w.sink_now s lost)
       (λ told. (
         subst (λ c. AppendsSuch w.out_before w.out_now (IsPrefixOfDue c r s)) (sym asked) (appends_begun (verdict_of r) w.out_before w.out_now s part alone),

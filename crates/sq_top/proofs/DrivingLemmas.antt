@@ -139,7 +139,7 @@ module _ (was : Option Pages) (from : Engine) (begun now : ℕ) (cleared shown :
         first = subst (Begins r.network (answer_in r)) (sym (append-nil history)) (begins_run r was from history start begun run (tells told));
         written = lost_at_once before (waited ++ []);
         work = halt.so_far.work;
-        unchanged = λ is-honest. ap is_changed same ∙ step_unchanged e (halt.named is-honest);
+        unchanged = λ is-honest. ap is_changed same ∙ step_unchanged honest e halt.named is-honest;
         too_much = λ much. halt.turns (step_much e (sym same ∙ much));
       }
 

@@ -348,7 +348,7 @@ stopped_ends words w s source h out steps = record {
   usage = h.usage;
   refusal = h.refusal;
   no_memory = h.no_memory;
-  stopped = refused_stop _ _ _ s h.ends;
+  stopped = refused_stop _ _ _ _ _ s h.ends;
   unchanged = λ is-honest. refused_unchanged s h.ends;
   sink = λ e. absurd (not_sink s h.ends e);
   too_much = λ e. absurd (not_much s h.ends e);
@@ -398,7 +398,7 @@ module _ (words : List (List ℕ)) (w : World) (r : Replay) (source : List ℕ) 
   names_none s is = tt
 
   -- without a fault it is want of memory, or too much, or a page that came back changed
-  ends_ok : (s : Status) → IsCutShort w.sink_before w.sink_now s → StopHasCause (λ e. e.network ≡ r.network) w.disk_before w.disk_now s
+  ends_ok : (s : Status) → IsCutShort w.sink_before w.sink_now s → StopHasCause (λ e. e.network ≡ r.network) w.log_before w.log_now w.disk_before w.disk_now s
       → (s ≡ status.TooMuch → 2 ^ 62 ≤ turns) → ¬ (Rose w.disk_before w.disk_now) → ¬ (Rose w.sink_before w.sink_now) → turns < 2 ^ 62
       → (s ≡ status.Ok) ⊎ (s ≡ status.Memory) ⊎ (is_changed s ≡ true)
   ends_ok status.Ok cut stop much sound dry few = inl refl
@@ -412,7 +412,7 @@ module _ (words : List (List ℕ)) (w : World) (r : Replay) (source : List ℕ) 
   ends_ok s cut stop much sound dry few = let no = cut.begun in absurd (cc)
 
   -- the answer is cut short
-  pub answered_cut : (s : Status) → IsCutShort w.sink_before w.sink_now s → StopHasCause (λ e. e.network ≡ r.network) w.disk_before w.disk_now s
+  pub answered_cut : (s : Status) → IsCutShort w.sink_before w.sink_now s → StopHasCause (λ e. e.network ≡ r.network) w.log_before w.log_now w.disk_before w.disk_now s
       → (w.honest ≡ true → is_changed s ≡ false) → (Told → s ≡ status.TooMuch → 2 ^ 62 ≤ turns)
       → (Told → AppendsSuch w.out_before w.out_now (IsPrefixOfDue (command_in words) r s) × (w.steps_now ≤ w.steps_before + work)) → Ends words w s source
   answered_cut s cut stop same much first = record {
@@ -427,7 +427,7 @@ module _ (words : List (List ℕ)) (w : World) (r : Replay) (source : List ℕ) 
     usage = record { only = λ e. absurd (begun s status.Usage cut.begun refl e); when = λ e. absurd (some_none (command_in words) some e) };
     refusal = cut.begun;
     no_memory = not_hidden s cut.begun;
-    stopped = stop_map _ (IsEngineOf (Done r)) _ _ _ _ s (λ rose. rose) (λ e is. is) stop;
+    stopped = stop_map _ (IsEngineOf (Done r)) _ _ _ _ _ _ _ _ s (λ rose. rose) (λ queues e back. back) (λ e is. is) stop;
     unchanged = same;
     sink = cut.sink;
     too_much = λ e pages. much pages e;
@@ -448,7 +448,7 @@ module _ (words : List (List ℕ)) (w : World) (r : Replay) (source : List ℕ) 
     driven_ok whole = answered_ok
         (λ told. let all = whole (told engine) in (all.0, subst (λ k. w.steps_now ≡ w.steps_before + k) work_is all.1))
 
-    pub driven_cut : (s : Status) → IsCutShort w.sink_before w.sink_now s → StopHasCause (λ e. e.network ≡ r.network) w.disk_before w.disk_now s
+    pub driven_cut : (s : Status) → IsCutShort w.sink_before w.sink_now s → StopHasCause (λ e. e.network ≡ r.network) w.log_before w.log_now w.disk_before w.disk_now s
         → (w.honest ≡ true → is_changed s ≡ false) → (Tells w.pages → s ≡ status.TooMuch → 2 ^ 62 ≤ turns_in (replayed r))
         → (Tells w.pages → AppendsSuch w.out_before w.out_now (IsPrefixOfDue (command_in words) r s) × (w.steps_now ≤ w.steps_before + work_in (replayed r)))
         → Ends words w s source

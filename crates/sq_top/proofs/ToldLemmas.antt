@@ -290,7 +290,7 @@ module _ (files : Files) (words : List (List ℕ)) (w : World) (result : Status)
         (λ s. ⊥) (h.ok e));
     other = other_told;
     refusal = record { only = refusal_only; when = refusal_when; reached = reached };
-    stopped = stop_map (IsEngineOf h.left) _ _ _ _ _ result (λ rose. rose) (λ e is. at_left _ _ (match_left (file files) h.left (λ r. e.network ≡ r.network) (λ s. ⊥) is)) h.stopped;
+    stopped = stop_map (IsEngineOf h.left) _ _ _ _ _ _ _ _ _ result (λ rose. rose) (λ queues e back. back) (λ e is. at_left _ _ (match_left (file files) h.left (λ r. e.network ≡ r.network) (λ s. ⊥) is)) h.stopped;
     too_much = λ e. at_left _ _ (match_left (file files) h.left (λ r. TellsFor (command_in words) w.pages → 2 ^ 62 ≤ turns_for (command_in words) r) (λ s. ⊥) (h.too_much e));
     complete = complete_told;
     named = named_told result h.refusal h.named;

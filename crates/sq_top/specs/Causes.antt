@@ -3,7 +3,7 @@ use Rattle.std.specs.Prelude.{◌≡◌, ◌≢◌, ◌⊎◌, ℕ, ◌+◌, ◌
 use Rattle.sq_value.specs.Lists.{IsPrefixOf}
 use Rattle.sq_outside.specs.Faults.{Rose, RoseBy}
 use Rattle.sq_outside.specs.Folders.{Files, IsLonger, file}
-use Rattle.sq_outside.specs.Disks.{Pages}
+use Rattle.sq_outside.specs.Disks.{DiskLog, Pages}
 use Rattle.sq_top.specs.declared.Command.{Command}
 use Rattle.sq_top.specs.declared.Command.TheVariants as command
 use Rattle.sq_top.specs.declared.Status.{Status}
@@ -284,6 +284,8 @@ pub record World : Type 0 where
   pub read_now : List (List ℕ × List ℕ)
   pub pages : Option Pages
   pub honest : Bool
+  pub log_before : DiskLog
+  pub log_now : DiskLog
   pub disk_before : ℕ
   pub disk_now : ℕ
   pub out_before : Option (List ℕ)
@@ -318,7 +320,7 @@ pub record Ends (words : List (List ℕ)) (w : World) (result : Status) (source 
   pub usage : UsageHasCause words result
   pub refusal : IsRefusedAt w.told w.folder_before w.folder_now w.taken_before w.taken_now result left
   pub no_memory : hides_memory result ≡ false
-  pub stopped : StopHasCause (IsEngineOf left) w.disk_before w.disk_now result
+  pub stopped : StopHasCause (IsEngineOf left) w.log_before w.log_now w.disk_before w.disk_now result
   pub unchanged : w.honest ≡ true → is_changed result ≡ false
   pub sink : result ≡ status.SinkFault → Rose w.sink_before w.sink_now
   pub too_much : result ≡ status.TooMuch → IfAccepted left (λ r. TellsFor (command_in words) w.pages → 2 ^ 62 ≤ turns_for (command_in words) r) ⊥

@@ -136,7 +136,7 @@ pub record EndsOver (files : Files) (words : List (List ℕ)) (w : World) (resul
       (λ r. TellsFor (command_in words) w.pages → AppendsSuch w.out_before w.out_now (IsPrefixOfDue (command_in words) r result) × (w.steps_now ≤ w.steps_before + work_for (command_in words) r))
       (λ s. (w.out_now ≡ w.out_before) × (w.steps_now ≡ w.steps_before))
   pub refusal : RefusalHasCause files words w.folder_before w.folder_now result
-  pub stopped : StopHasCause (λ engine. MatchAccepted (accepted (file files) words) (λ r. engine.network ≡ r.network) (λ s. ⊥)) w.disk_before w.disk_now result
+  pub stopped : StopHasCause (λ engine. MatchAccepted (accepted (file files) words) (λ r. engine.network ≡ r.network) (λ s. ⊥)) w.log_before w.log_now w.disk_before w.disk_now result
   pub too_much : result ≡ status.TooMuch → MatchAccepted (accepted (file files) words) (λ r. TellsFor (command_in words) w.pages → 2 ^ 62 ≤ turns_for (command_in words) r) (λ s. ⊥)
   pub complete : ¬ (Rose w.folder_before w.folder_now) → ¬ (Rose w.disk_before w.disk_now) → ¬ (Rose w.sink_before w.sink_now)
       → MatchAccepted (accepted (file files) words) (λ r. TellsFor (command_in words) w.pages → turns_for (command_in words) r < 2 ^ 62 → (result ≡ status.Ok) ⊎ (result ≡ status.Memory) ⊎ (is_changed result ≡ true)) (λ s. ⊤)

@@ -1,6 +1,6 @@
 // An audit: what it reads, and the line that it writes.
 ghost use Rattle.std.specs.Prelude.{◌≡◌, ◌≢◌, ℕ, ◌≤◌, Bool, true, IfErr, IfOk, List, OnErr, OnOk, Option, Some, map};
-ghost use Rattle.sq_outside.specs.Disks.{Pages};
+ghost use Rattle.sq_outside.specs.Disks.{DiskLog, Pages};
 ghost use Rattle.sq_outside.specs.Sinks.{AppendsPrefix, appended};
 ghost use Rattle.sq_net.specs.Sound.{IsSound};
 ghost use Rattle.sq_points.specs.Limits.{KeepsDropLimits};
@@ -116,7 +116,7 @@ pub(crate) fn audit_files<F: Folder, S: Sink>(
     out: &mut S,
 ) -> Stopped
     requires { may_name net ≡ true }
-    ensures ends { (words : List (List ℕ)) (pages : Option Pages) (honest : Bool) (disk steps : ℕ) → command_in words ≡ Some (Command.Audit net text.now) → Ends words (record {
+    ensures ends { (words : List (List ℕ)) (pages : Option Pages) (honest : Bool) (log : DiskLog) (disk steps : ℕ) → command_in words ≡ Some (Command.Audit net text.now) → Ends words (record {
       told = F.files folder.old;
       folder_before = F.faults folder.old;
       folder_now = F.faults folder.new;
@@ -126,6 +126,8 @@ pub(crate) fn audit_files<F: Folder, S: Sink>(
       read_now = F.read folder.new;
       pages = pages;
       honest = honest;
+      log_before = log;
+      log_now = log;
       disk_before = disk;
       disk_now = disk;
       out_before = S.written out.old;

@@ -99,7 +99,7 @@ fn count_step<D: PageDisk, L: Ledger>(
     ensures ok { OnOk result (CountsOn (known (D.log disk.old)) (known (D.log disk.new)) engine.old engine.new steps.old steps.new counts.old counts.new) }
     ensures err { IfErr result (λ s. Stops (known (D.log disk.old)) (known (D.log disk.new)) (D.log disk.old).honest engine.old steps.old steps.new None [] None s) }
     ensures cut { IfErr result (λ s. (before now : ℕ) → IsCutShort before now s) }
-    ensures stopped { IfErr result (StopHasCause (λ e. e.network ≡ engine.old.network) (D.faults disk.old) (D.faults disk.new)) }
+    ensures stopped { IfErr result (StopHasCause (λ e. e.network ≡ engine.old.network) (D.log disk.old) (D.log disk.new) (D.faults disk.old) (D.faults disk.new)) }
     ensures faults { D.faults disk.old ≤ D.faults disk.new }
 {
     let pick = policy.next(engine.ready(), engine.waits());
@@ -149,7 +149,7 @@ fn count_to_end<D: PageDisk, L: Ledger>(
     ensures err { IfErr result (λ s. (r : Replay) (begun : ℕ) → Tells (known (D.log disk.new)) → IsRun r (known (D.log disk.old)) engine.old [] begun steps.old
         → IsHalted (D.log disk.old).honest r [] s None None begun steps.new) }
     ensures cut { IfErr result (λ s. (before now : ℕ) → IsCutShort before now s) }
-    ensures stopped { IfErr result (StopHasCause (λ e. e.network ≡ engine.old.network) (D.faults disk.old) (D.faults disk.new)) }
+    ensures stopped { IfErr result (StopHasCause (λ e. e.network ≡ engine.old.network) (D.log disk.old) (D.log disk.new) (D.faults disk.old) (D.faults disk.new)) }
     ensures faults { D.faults disk.old ≤ D.faults disk.new }
     ensures later { IsLater (D.log disk.old) (D.log disk.new) }
 {
@@ -186,7 +186,7 @@ pub fn count<D: PageDisk, L: Ledger>(
     ensures err { IfErr result (λ s. (r : Replay) (begun : ℕ) → Tells (known (D.log disk.new)) → IsRun r (known (D.log disk.old)) engine [] begun steps.old
         → IsHalted (D.log disk.old).honest r [] s None None begun steps.new) }
     ensures cut { IfErr result (λ s. (before now : ℕ) → IsCutShort before now s) }
-    ensures stopped { IfErr result (StopHasCause (λ e. e.network ≡ engine.network) (D.faults disk.old) (D.faults disk.new)) }
+    ensures stopped { IfErr result (StopHasCause (λ e. e.network ≡ engine.network) (D.log disk.old) (D.log disk.new) (D.faults disk.old) (D.faults disk.new)) }
     ensures faults { D.faults disk.old ≤ D.faults disk.new }
     ensures later { IsLater (D.log disk.old) (D.log disk.new) }
 {

@@ -112,7 +112,7 @@ fn step_once<D: PageDisk, S: Sink, L: Ledger>(
     ensures left { OnOk result (ShowsOn (known (D.log disk.old)) (known (D.log disk.new)) engine.old engine.new (S.written out.old) held.old.text.items (S.written out.new) held.new.text.items) }
     ensures first { OnErr result (StopsOn (known (D.log disk.old)) (known (D.log disk.new)) engine.old (S.written out.old) held.old.text.items (S.written out.new)) }
     ensures cut { IfErr result (IsCutShort (S.faults out.old) (S.faults out.new)) }
-    ensures stopped { IfErr result (StopHasCause (λ e. e.network ≡ engine.old.network) (D.faults disk.old) (D.faults disk.new)) }
+    ensures stopped { IfErr result (StopHasCause (λ e. e.network ≡ engine.old.network) (D.log disk.old) (D.log disk.new) (D.faults disk.old) (D.faults disk.new)) }
     ensures faults { (D.faults disk.old ≤ D.faults disk.new) × (S.faults out.old ≤ S.faults out.new) }
 {
     let pick = policy.next(engine.ready(), engine.waits());
@@ -146,7 +146,7 @@ fn step_to_end<D: PageDisk, S: Sink, L: Ledger>(
     ensures rest { OnOk result (WritesRest (known (D.log disk.old)) (known (D.log disk.new)) engine.old engine.new (S.written out.old) (S.written out.new)) }
     ensures first { OnErr result (WritesFirst (known (D.log disk.old)) (known (D.log disk.new)) engine.old (S.written out.old) (S.written out.new)) }
     ensures cut { IfErr result (IsCutShort (S.faults out.old) (S.faults out.new)) }
-    ensures stopped { IfErr result (StopHasCause (λ e. e.network ≡ engine.old.network) (D.faults disk.old) (D.faults disk.new)) }
+    ensures stopped { IfErr result (StopHasCause (λ e. e.network ≡ engine.old.network) (D.log disk.old) (D.log disk.new) (D.faults disk.old) (D.faults disk.new)) }
     ensures faults { (D.faults disk.old ≤ D.faults disk.new) × (S.faults out.old ≤ S.faults out.new) }
     ensures later { IsLater (D.log disk.old) (D.log disk.new) }
 {
@@ -197,7 +197,7 @@ pub fn drive<D: PageDisk, S: Sink, L: Ledger>(
     ensures rest { IfOk result (λ e. WritesRest (known (D.log disk.old)) (known (D.log disk.new)) engine e (S.written out.old) (S.written out.new)) }
     ensures first { OnErr result (WritesFirst (known (D.log disk.old)) (known (D.log disk.new)) engine (S.written out.old) (S.written out.new)) }
     ensures cut { IfErr result (IsCutShort (S.faults out.old) (S.faults out.new)) }
-    ensures stopped { IfErr result (StopHasCause (λ e. e.network ≡ engine.network) (D.faults disk.old) (D.faults disk.new)) }
+    ensures stopped { IfErr result (StopHasCause (λ e. e.network ≡ engine.network) (D.log disk.old) (D.log disk.new) (D.faults disk.old) (D.faults disk.new)) }
     ensures faults { (D.faults disk.old ≤ D.faults disk.new) × (S.faults out.old ≤ S.faults out.new) }
     ensures later { IsLater (D.log disk.old) (D.log disk.new) }
 {

@@ -222,6 +222,8 @@ pub fn run_words<F: Folder, D: PageDisk, S: Sink, E: Sink, L: Ledger>(
       read_now = F.read folder.new;
       pages = known (D.log disk.new);
       honest = (D.log disk.old).honest;
+      log_before = D.log disk.old;
+      log_now = D.log disk.new;
       disk_before = D.faults disk.old;
       disk_now = D.faults disk.new;
       out_before = S.written out.old;

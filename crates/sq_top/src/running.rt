@@ -83,7 +83,7 @@ fn replay<D: PageDisk, S: Sink, L: Ledger>(
     ensures steps { OnOk result (Tells (known (D.log disk.new)) → steps.new ≡ steps.old + work_in (replayed (replay_of accepted))) }
     ensures fewer { OnErr result (Tells (known (D.log disk.new)) → steps.new ≤ steps.old + work_in (replayed (replay_of accepted))) }
     ensures cut { IfErr result (IsCutShort (S.faults out.old) (S.faults out.new)) }
-    ensures stopped { IfErr result (StopHasCause (λ e. e.network ≡ accepted.network) (D.faults disk.old) (D.faults disk.new)) }
+    ensures stopped { IfErr result (StopHasCause (λ e. e.network ≡ accepted.network) (D.log disk.old) (D.log disk.new) (D.faults disk.old) (D.faults disk.new)) }
     ensures unchanged { IfErr result (λ s. (D.log disk.old).honest ≡ true → is_changed s ≡ false) }
     ensures too_much { IfErr result (λ s. Tells (known (D.log disk.new)) → s ≡ Status.TooMuch → 2 ^ 62 ≤ turns_in (replayed (replay_of accepted))) }
     ensures later { IsLater (D.log disk.old) (D.log disk.new) }
@@ -120,7 +120,7 @@ fn sum_up<D: PageDisk, S: Sink, L: Ledger>(
     ensures steps { OnOk result (Tells (known (D.log disk.new)) → steps.new ≡ steps.old + work_in (replayed (replay_of accepted))) }
     ensures fewer { OnErr result (Tells (known (D.log disk.new)) → steps.new ≤ steps.old + work_in (replayed (replay_of accepted))) }
     ensures cut { IfErr result (IsCutShort (S.faults out.old) (S.faults out.new)) }
-    ensures stopped { IfErr result (StopHasCause (λ e. e.network ≡ accepted.network) (D.faults disk.old) (D.faults disk.new)) }
+    ensures stopped { IfErr result (StopHasCause (λ e. e.network ≡ accepted.network) (D.log disk.old) (D.log disk.new) (D.faults disk.old) (D.faults disk.new)) }
     ensures unchanged { IfErr result (λ s. (D.log disk.old).honest ≡ true → is_changed s ≡ false) }
     ensures too_much { IfErr result (λ s. Tells (known (D.log disk.new)) → s ≡ Status.TooMuch → 2 ^ 62 ≤ turns_in (replayed (replay_of accepted))) }
     ensures later { IsLater (D.log disk.old) (D.log disk.new) }
@@ -157,6 +157,8 @@ fn run_files<F: Folder, D: PageDisk, S: Sink, L: Ledger>(
       read_now = F.read folder.new;
       pages = known (D.log disk.new);
       honest = (D.log disk.old).honest;
+      log_before = D.log disk.old;
+      log_now = D.log disk.new;
       disk_before = D.faults disk.old;
       disk_now = D.faults disk.new;
       out_before = S.written out.old;
@@ -210,6 +212,8 @@ fn run_made<D: PageDisk, S: Sink, L: Ledger>(
       read_now = reads;
       pages = known (D.log disk.new);
       honest = (D.log disk.old).honest;
+      log_before = D.log disk.old;
+      log_now = D.log disk.new;
       disk_before = D.faults disk.old;
       disk_now = D.faults disk.new;
       out_before = S.written out.old;
@@ -260,6 +264,8 @@ fn tap_files<F: Folder, D: PageDisk, S: Sink, L: Ledger>(
       read_now = F.read folder.new;
       pages = known (D.log disk.new);
       honest = (D.log disk.old).honest;
+      log_before = D.log disk.old;
+      log_now = D.log disk.new;
       disk_before = D.faults disk.old;
       disk_now = D.faults disk.new;
       out_before = S.written out.old;
@@ -305,6 +311,8 @@ pub fn run<F: Folder, D: PageDisk, S: Sink, L: Ledger>(
       read_now = F.read folder.new;
       pages = known (D.log disk.new);
       honest = (D.log disk.old).honest;
+      log_before = D.log disk.old;
+      log_now = D.log disk.new;
       disk_before = D.faults disk.old;
       disk_now = D.faults disk.new;
       out_before = S.written out.old;

@@ -1,7 +1,7 @@
 use Rattle.std.proofs.Common.{◌++◌, ap, sym, ◌∙◌, arith}
 use Rattle.std.proofs.lemmas.Result.{err_from_is_err_and}
 use Rattle.sq_pool.proofs.TrustLemmas.{IsLater-trans}
-use Rattle.sq_flow.proofs.CauseLemmas.{queue-cause-since}
+use Rattle.sq_flow.proofs.CauseLemmas.{changed-since, queue-cause-since}
 use Rattle.sq_flow.proofs.EventLemmas.{moved-on}
 use Rattle.sq_flow.proofs.SendLemmas.{pushes-both, sent-append, outs-in, sound-in, apart-arcs}
 use Rattle.sq_flow.proofs.sending.send_all.Goals as goal
@@ -31,9 +31,12 @@ loop-port-preserved g c =
 pub returns-in_err-send_one-clause-cause : goal.returns-in_err-send_one-clause-cause
 returns-in_err-send_one-clause-cause g c =
     let p = err_from_is_err_and c.from_residual.result c.from_residual.ensures.1 in
-    rw (p.1, p.2) (queue-cause-since _ _ _ _ _ c.loop-port.invariant.faults c.in_err-send_one.ensures.cause)
+    rw (p.1, p.2) (queue-cause-since _ _ _ _ _ _ _ _ c.loop-port.invariant.later c.loop-port.invariant.faults c.in_err-send_one.ensures.cause)
 
 pub returns-in_err-send_one-clause-honest : goal.returns-in_err-send_one-clause-honest
 returns-in_err-send_one-clause-honest g c =
     let p = err_from_is_err_and c.from_residual.result c.from_residual.ensures.1 in
-    rw (p.1, p.2) (λ honest. c.in_err-send_one.ensures.honest (c.loop-port.invariant.later.honest ∙ honest))
+    rw (p.1, p.2) (λ told. changed-since _ _ _ c.loop-port.invariant.later.honest (c.in_err-send_one.ensures.honest told))
+
+pub returns-in_err-send_one-clause-later : goal.returns-in_err-send_one-clause-later
+returns-in_err-send_one-clause-later g c = IsLater-trans _ _ _ c.loop-port.invariant.later c.in_err-send_one.ensures.later

@@ -7,7 +7,7 @@ use Rattle.sq_flow.specs.Wiring.{times_in}
 use Rattle.sq_flow.specs.Sends.{many}
 use Rattle.sq_flow.proofs.SendLemmas.{pushes-one, pushes-both, many-next, not-in, contains-get, at-front, at-last}
 use Rattle.std.proofs.lemmas.Result.{err_from_is_err_and}
-use Rattle.sq_flow.proofs.CauseLemmas.{cause-of, told-of, queue-cause-since}
+use Rattle.sq_flow.proofs.CauseLemmas.{changed-since, cause-of, told-of, queue-cause-since}
 use Rattle.sq_flow.proofs.sending.send_item.Goals as goal
 
 pub push-requires-clause-there : goal.push-requires-clause-there
@@ -65,20 +65,20 @@ pub returns-in_err-push-clause-cause : goal.returns-in_err-push-clause-cause
 returns-in_err-push-clause-cause g c =
     let p = err_from_is_err_and c.from_residual.result c.from_residual.ensures.1 in
     rw (p.1, p.2)
-    (queue-cause-since _ _ _ _ _ c.loop-arc.invariant.faults (cause-of c.loop-arc.queues _ _ _ _ _ c.in_err-push.ensures.disk c.in_err-push.ensures.cause))
+    (queue-cause-since _ _ _ _ _ _ _ _ c.loop-arc.invariant.later c.loop-arc.invariant.faults (cause-of c.loop-arc.queues _ _ _ _ _ _ _ c.in_err-push.ensures.disk c.in_err-push.ensures.cause))
 
 pub returns-in_err-push-clause-honest : goal.returns-in_err-push-clause-honest
 returns-in_err-push-clause-honest g c =
     let p = err_from_is_err_and c.from_residual.result c.from_residual.ensures.1 in
-    rw (p.1, p.2) (λ honest. told-of _ (c.in_err-push.ensures.honest (c.loop-arc.invariant.later.honest ∙ honest)))
+    rw (p.1, p.2) (λ told. changed-since _ _ _ c.loop-arc.invariant.later.honest (told-of _ _ c.in_err-push.ensures.honest (c.in_err-push.ensures.misfit told)))
 
 pub returns-in_err-send-clause-cause : goal.returns-in_err-send-clause-cause
 returns-in_err-send-clause-cause g c =
     let p = err_from_is_err_and c.from_residual-in_err-send.result c.from_residual-in_err-send.ensures.1 in
     rw (p.1, p.2)
-    (queue-cause-since _ _ _ _ _ c.loop-arc.invariant.faults (cause-of c.loop-arc.queues _ _ _ _ _ c.in_err-send.ensures.disk c.in_err-send.ensures.cause))
+    (queue-cause-since _ _ _ _ _ _ _ _ c.loop-arc.invariant.later c.loop-arc.invariant.faults (cause-of c.loop-arc.queues _ _ _ _ _ _ _ c.in_err-send.ensures.disk c.in_err-send.ensures.cause))
 
 pub returns-in_err-send-clause-honest : goal.returns-in_err-send-clause-honest
 returns-in_err-send-clause-honest g c =
     let p = err_from_is_err_and c.from_residual-in_err-send.result c.from_residual-in_err-send.ensures.1 in
-    rw (p.1, p.2) (λ honest. told-of _ (c.in_err-send.ensures.honest (c.loop-arc.invariant.later.honest ∙ honest)))
+    rw (p.1, p.2) (λ told. changed-since _ _ _ c.loop-arc.invariant.later.honest (told-of _ _ c.in_err-send.ensures.honest (c.in_err-send.ensures.misfit told)))

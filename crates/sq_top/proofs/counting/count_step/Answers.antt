@@ -4,7 +4,7 @@ use Rattle.sq_top.specs.Driving.{IsCutShort, Stops}
 use Rattle.sq_top.specs.Stopping.{StopHasCause}
 use Rattle.sq_top.proofs.CountingLemmas.{events_here, step_counts, there_all}
 use Rattle.sq_top.proofs.DrivingLemmas.{if_err, step_lost, step_stops}
-use Rattle.sq_top.proofs.StopLemmas.{falls_lower, lost_cut, lost_stop, step_cause, step_cut}
+use Rattle.sq_top.proofs.StopLemmas.{falls_lower, lost_cut, last_feed, lost_stop, step_cause, step_cut}
 use Rattle.sq_top.proofs.WritingLemmas.{lost_at_once, on_ok}
 use Rattle.sq_top.proofs.counting.count_step.Goals as goal
 
@@ -36,8 +36,8 @@ returns-in-Err-clause-cut g c before now = subst (IsCutShort before now) (sym c.
 
 pub returns-in-Err-clause-stopped : goal.returns-in-Err-clause-stopped
 returns-in-Err-clause-stopped g c =
-    subst (StopHasCause (λ e. e.network ≡ c.args.engine.now.network) _ _) (sym c.status_of.ensures)
-    (step_cause _ c.step.new.self _ _ c.in-Err.e c.step.ensures.network c.in-Err.ensures.failed c.in-Err.ensures.cause c.in-Err.ensures.counted)
+    subst (StopHasCause (λ e. e.network ≡ c.args.engine.now.network) _ _ _ _) (sym c.status_of.ensures)
+    (step_cause _ c.step.new.self _ _ _ _ c.in-Err.e c.step.ensures.network c.in-Err.ensures.failed c.in-Err.ensures.cause (last_feed _ _ _ _ _ _ c.in-Err.ensures.feed))
 
 pub returns-in-Ok-clause-cut : goal.returns-in-Ok-clause-cut
 returns-in-Ok-clause-cut g c =
@@ -46,5 +46,5 @@ returns-in-Ok-clause-cut g c =
 
 pub returns-in-Ok-clause-stopped : goal.returns-in-Ok-clause-stopped
 returns-in-Ok-clause-stopped g c =
-    if_err (StopHasCause (λ e. e.network ≡ c.args.engine.now.network) (g.D.PageDisk.faults c.args.disk.now) (g.D.PageDisk.faults c.step.new.disk)) c.count_events.result
-    c.count_events.ensures.memory (λ s memory. lost_stop _ _ _ 0 0 s (inl memory))
+    if_err (StopHasCause (λ e. e.network ≡ c.args.engine.now.network) (g.D.PageDisk.log c.args.disk.now) (g.D.PageDisk.log c.step.new.disk) (g.D.PageDisk.faults c.args.disk.now) (g.D.PageDisk.faults c.step.new.disk)) c.count_events.result
+    c.count_events.ensures.memory (λ s memory. lost_stop _ _ _ _ _ 0 0 s (inl memory))

@@ -2,6 +2,7 @@ use Rattle.std.proofs.Common.{refl, arith, inl, ◌∙◌}
 use Rattle.sq_pool.specs.Trust.{known}
 use Rattle.sq_pool.proofs.TrustLemmas.{IsLater-refl, IsLater-trans}
 use Rattle.sq_top.proofs.CountingLemmas.{count_ends, count_stops, count_waits, counts_none, counts_then, same_room}
+use Rattle.sq_flow.proofs.CauseLemmas.{page-since}
 use Rattle.sq_top.proofs.StopLemmas.{lost_cut, stop_map}
 use Rattle.sq_top.proofs.StoppedLemmas.{rose_later}
 use Rattle.sq_top.proofs.counting.count_to_end.Goals as goal
@@ -51,7 +52,7 @@ returns-in-Err-count_step-clause-later g c = IsLater-trans _ _ _ c.steps.invaria
 pub returns-in-Err-count_step-clause-stopped : goal.returns-in-Err-count_step-clause-stopped
 returns-in-Err-count_step-clause-stopped g c =
     let before = c.steps.invariant in
-    stop_map _ _ _ _ _ _ c.in-Err-count_step.status (rose_later 1 _ _ _ before.faults) (λ e same. same ∙ before.network) c.in-Err-count_step.ensures.stopped
+    stop_map _ _ _ _ _ _ _ _ _ _ c.in-Err-count_step.status (rose_later 1 _ _ _ before.faults) (λ queues e. page-since queues _ _ _ e before.later) (λ e same. same ∙ before.network) c.in-Err-count_step.ensures.stopped
 
 pub all_shown-requires-clause-done : goal.all_shown-requires-clause-done
 all_shown-requires-clause-done g c = c.steps-test.ensures.done c.steps.invariant.sound.engine.running refl

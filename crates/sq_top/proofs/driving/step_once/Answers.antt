@@ -5,7 +5,7 @@ use Rattle.sq_top.specs.Stopping.{StopHasCause}
 use Rattle.sq_top.proofs.WritingLemmas.{on_err, on_ok}
 use Rattle.sq_top.proofs.LeftLemmas.{step_fails, step_loses, step_shows}
 use Rattle.sq_top.proofs.DrivingLemmas.{if_err, if_err_both, step_goes, step_lines, step_lost, step_stops}
-use Rattle.sq_top.proofs.StopLemmas.{lost_cut, lost_stop, step_cause, step_cut}
+use Rattle.sq_top.proofs.StopLemmas.{lost_cut, last_feed, lost_stop, step_cause, step_cut}
 use Rattle.sq_top.proofs.driving.step_once.Goals as goal
 
 pub show_events-requires : goal.show_events-requires
@@ -33,8 +33,8 @@ returns-in-Err-clause-cut g c = subst (IsCutShort _ _) (sym c.status_of.ensures)
 
 pub returns-in-Err-clause-stopped : goal.returns-in-Err-clause-stopped
 returns-in-Err-clause-stopped g c =
-    subst (StopHasCause (λ e. e.network ≡ c.args.engine.now.network) _ _) (sym c.status_of.ensures)
-    (step_cause _ c.step.new.self _ _ c.in-Err.e c.step.ensures.network c.in-Err.ensures.failed c.in-Err.ensures.cause c.in-Err.ensures.counted)
+    subst (StopHasCause (λ e. e.network ≡ c.args.engine.now.network) _ _ _ _) (sym c.status_of.ensures)
+    (step_cause _ c.step.new.self _ _ _ _ c.in-Err.e c.step.ensures.network c.in-Err.ensures.failed c.in-Err.ensures.cause (last_feed _ _ _ _ _ _ c.in-Err.ensures.feed))
 
 pub returns-in-Ok-clause-cut : goal.returns-in-Ok-clause-cut
 returns-in-Ok-clause-cut g c =
@@ -43,8 +43,8 @@ returns-in-Ok-clause-cut g c =
 
 pub returns-in-Ok-clause-stopped : goal.returns-in-Ok-clause-stopped
 returns-in-Ok-clause-stopped g c =
-    if_err (StopHasCause (λ e. e.network ≡ c.args.engine.now.network) (g.D.PageDisk.faults c.args.disk.now) (g.D.PageDisk.faults c.step.new.disk)) c.show_events.result
-    c.show_events.ensures.lost (λ s lost. lost_stop _ _ _ _ _ s lost)
+    if_err (StopHasCause (λ e. e.network ≡ c.args.engine.now.network) (g.D.PageDisk.log c.args.disk.now) (g.D.PageDisk.log c.step.new.disk) (g.D.PageDisk.faults c.args.disk.now) (g.D.PageDisk.faults c.step.new.disk)) c.show_events.result
+    c.show_events.ensures.lost (λ s lost. lost_stop _ _ _ _ _ _ _ s lost)
 
 pub returns-in-Ok-clause-left : goal.returns-in-Ok-clause-left
 returns-in-Ok-clause-left g c =

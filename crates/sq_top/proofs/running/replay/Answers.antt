@@ -74,7 +74,7 @@ returns-in-Err-drive-clause-unchanged g c is-honest =
 
 pub returns-in-Err-drive-clause-stopped : goal.returns-in-Err-drive-clause-stopped
 returns-in-Err-drive-clause-stopped g c =
-    stop_map _ _ _ _ _ _ c.in-Err-drive.status (λ rose. rose) (λ e same. same ∙ (c.in-Ok.ensures.run (known (g.D.PageDisk.log c.args.disk.now)) c.args.steps.now).network) c.in-Err-drive.ensures.stopped
+    stop_map _ _ _ _ _ _ _ _ _ _ c.in-Err-drive.status (λ rose. rose) (λ queues e back. back) (λ e same. same ∙ (c.in-Ok.ensures.run (known (g.D.PageDisk.log c.args.disk.now)) c.args.steps.now).network) c.in-Err-drive.ensures.stopped
 
 pub returns-in-Ok-drive-clause-cut : goal.returns-in-Ok-drive-clause-cut
 returns-in-Ok-drive-clause-cut g c =
@@ -83,8 +83,8 @@ returns-in-Ok-drive-clause-cut g c =
 
 pub returns-in-Ok-drive-clause-stopped : goal.returns-in-Ok-drive-clause-stopped
 returns-in-Ok-drive-clause-stopped g c =
-    if_err (StopHasCause (λ e. e.network ≡ c.args.accepted.network) (g.D.PageDisk.faults c.args.disk.now) (g.D.PageDisk.faults c.drive.new.disk)) c.write_ends.result
-    c.write_ends.ensures.lost (λ s lost. lost_stop _ _ _ _ _ s lost)
+    if_err (StopHasCause (λ e. e.network ≡ c.args.accepted.network) (g.D.PageDisk.log c.args.disk.now) (g.D.PageDisk.log c.drive.new.disk) (g.D.PageDisk.faults c.args.disk.now) (g.D.PageDisk.faults c.drive.new.disk)) c.write_ends.result
+    c.write_ends.ensures.lost (λ s lost. lost_stop _ _ _ _ _ _ _ s lost)
 
 pub returns-in-Ok-drive-clause-unchanged : goal.returns-in-Ok-drive-clause-unchanged
 returns-in-Ok-drive-clause-unchanged g c =

@@ -50,7 +50,7 @@ audit_files-requires g c =
 
 pub returns-in-Ok-Audit-clause-ends : goal.returns-in-Ok-Audit-clause-ends
 returns-in-Ok-Audit-clause-ends g c =
-    c.audit_files.ensures.ends (map string_bytes c.args.words.now.items) (known (g.D.PageDisk.log c.args.disk.now)) (g.D.PageDisk.log c.args.disk.now).honest (g.D.PageDisk.faults c.args.disk.now) c.args.steps.now
+    c.audit_files.ensures.ends (map string_bytes c.args.words.now.items) (known (g.D.PageDisk.log c.args.disk.now)) (g.D.PageDisk.log c.args.disk.now).honest (g.D.PageDisk.log c.args.disk.now) (g.D.PageDisk.faults c.args.disk.now) c.args.steps.now
     (c.in-Ok-Audit.ensures.command ∙ ap (λ (x : Command). Some x) c.in-Ok-Audit.field-0-is)
 
 pub returns-in-Ok-Audit-clause-no_engine : goal.returns-in-Ok-Audit-clause-no_engine

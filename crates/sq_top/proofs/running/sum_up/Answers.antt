@@ -74,7 +74,7 @@ returns-in-Err-count-clause-cut g c = c.in-Err-count.ensures.cut _ _
 
 pub returns-in-Err-count-clause-stopped : goal.returns-in-Err-count-clause-stopped
 returns-in-Err-count-clause-stopped g c =
-    stop_map _ _ _ _ _ _ c.in-Err-count.status (λ rose. rose) (λ e same. same ∙ (c.in-Ok.ensures.run (known (g.D.PageDisk.log c.args.disk.now)) c.args.steps.now).network) c.in-Err-count.ensures.stopped
+    stop_map _ _ _ _ _ _ _ _ _ _ c.in-Err-count.status (λ rose. rose) (λ queues e back. back) (λ e same. same ∙ (c.in-Ok.ensures.run (known (g.D.PageDisk.log c.args.disk.now)) c.args.steps.now).network) c.in-Err-count.ensures.stopped
 
 pub returns-in-Ok-count-clause-cut : goal.returns-in-Ok-count-clause-cut
 returns-in-Ok-count-clause-cut g c =
@@ -83,8 +83,8 @@ returns-in-Ok-count-clause-cut g c =
 
 pub returns-in-Ok-count-clause-stopped : goal.returns-in-Ok-count-clause-stopped
 returns-in-Ok-count-clause-stopped g c =
-    if_err (StopHasCause (λ e. e.network ≡ c.args.accepted.network) (g.D.PageDisk.faults c.args.disk.now) (g.D.PageDisk.faults c.count.new.disk)) c.write_summary.result
-    c.write_summary.ensures.lost (λ s lost. lost_stop _ _ _ _ _ s lost)
+    if_err (StopHasCause (λ e. e.network ≡ c.args.accepted.network) (g.D.PageDisk.log c.args.disk.now) (g.D.PageDisk.log c.count.new.disk) (g.D.PageDisk.faults c.args.disk.now) (g.D.PageDisk.faults c.count.new.disk)) c.write_summary.result
+    c.write_summary.ensures.lost (λ s lost. lost_stop _ _ _ _ _ _ _ s lost)
 
 pub returns-in-Ok-count-clause-unchanged : goal.returns-in-Ok-count-clause-unchanged
 returns-in-Ok-count-clause-unchanged g c =

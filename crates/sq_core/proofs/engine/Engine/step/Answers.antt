@@ -25,3 +25,6 @@ returns-clause-frames g c = on_ok_weaker c.step.result (λ did. did.framed) c.st
 
 pub returns-clause-goes : goal.returns-clause-goes
 returns-clause-goes g c = c.step.ensures.ok
+
+pub returns-clause-feed : goal.returns-clause-feed
+returns-clause-feed g c = c.step.ensures.feed

@@ -1,5 +1,5 @@
 use Rattle.sq_pool.specs.Trust.{known}
-use Rattle.sq_pool.proofs.TrustLemmas.{honest-tells, IsLater-trans}
+use Rattle.sq_pool.proofs.TrustLemmas.{IsLater-trans}
 use Rattle.sq_flow.proofs.StepLemmas.{stepped-both, prefix-after, plans-after, none-strange-after}
 use Rattle.sq_flow.proofs.EventLemmas.{stays-both}
 use Rattle.sq_flow.proofs.engine.Engine.run.Goals as goal
@@ -13,8 +13,8 @@ returns-in-Err-clause-plans g c = plans-after _ _ _ _ _ _ _ _ c.loop-pick.invari
 
 pub returns-in-Err-clause-strange : goal.returns-in-Err-clause-strange
 returns-in-Err-clause-strange g c =
-    none-strange-after _ _ _ _ _ _ _ _ c.loop-pick.invariant.stepped (g.D.PageDisk.log c.args.disk.now).honest (g.D.PageDisk.log c.loop-pick.disk).honest c.pick.new.self.flow.levels c.in-Err.e
-    c.loop-pick.invariant.later.honest (honest-tells (g.D.PageDisk.log c.loop-pick.disk)) c.in-Err.ensures.closes c.in-Err.ensures.strange
+    none-strange-after _ _ _ _ _ _ _ _ c.loop-pick.invariant.stepped (g.D.PageDisk.log c.args.disk.now).honest (g.D.PageDisk.log c.loop-pick.disk).honest (known (g.D.PageDisk.log c.pick.new.disk)) c.pick.new.self.flow.levels c.in-Err.e
+    c.loop-pick.invariant.later.honest c.in-Err.ensures.later.known c.in-Err.ensures.closes c.in-Err.ensures.strange
 
 pub loop-pick-preserved : goal.loop-pick-preserved
 loop-pick-preserved g c =

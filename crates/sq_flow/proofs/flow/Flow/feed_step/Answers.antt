@@ -3,11 +3,11 @@ use Rattle.std.specs.Vec.{with_item}
 use Rattle.std.proofs.lemmas.Option.{slice_get_read, same_Some}
 use Rattle.std.proofs.lemmas.Result.{err_from_is_err_and}
 use Rattle.sq_pool.specs.Trust.{known}
-use Rattle.sq_pool.proofs.TrustLemmas.{honest-tells}
+use Rattle.sq_pool.proofs.TrustLemmas.{IsLater-trans}
 use Rattle.sq_flow.specs.Takes.{MayBeFed}
 use Rattle.sq_queue.specs.Faces.{items_on}
 use Rattle.sq_flow.proofs.WireLemmas.{arcs-open, comes-from}
-use Rattle.sq_flow.proofs.CauseLemmas.{cause-in, refused-in, too-much-in, queue-cause-since, counts-none, none-too-much}
+use Rattle.sq_flow.proofs.CauseLemmas.{cause-in, changed-since, feeds-none, full-feed, refused-feed, refused-in, too-much-in, queue-cause-since, counts-none, none-too-much}
 use Rattle.sq_flow.proofs.FutureLemmas.{slice_get-set_same, slice_get-set_other}
 use Rattle.sq_flow.proofs.Measures.{weighs, open-same}
 use Rattle.sq_flow.proofs.FedFlow.{seat-fine, may-come, runs, own-drops, passes-front, fed-prefix, fed-stepped, fed-touches, costs-none, costs-front, costs-fed, too-much-front}
@@ -18,11 +18,11 @@ use Rattle.sq_flow.proofs.flow.Flow.feed_step.Goals as goal
 pub returns-in-Err-clause-strange : goal.returns-in-Err-clause-strange
 returns-in-Err-clause-strange g c =
     let is = slice_get_read c.args.self.now.seats.items _ c.args.actor c.index.result.now refl c.requires.actor_in c.index.ensures in
-    λ honest table agrees holds.
-    c.in-Err.ensures.strange honest
+    λ told table agrees holds.
+    c.in-Err.ensures.strange told
     (λ item more front.
     passes-front _ _ c.args.self.now c.requires.flow c.args.actor c.requires.head.0 c.args.port c.args.arc c.arc-at.result.now item c.requires.actor_in c.requires.head.1
-    c.index.result.now is c.arc-at.ensures table agrees (items_on c.args.self.now.queues (known (g.D.PageDisk.log c.args.disk.now))) holds (c.requires.together.faces (honest-tells (g.D.PageDisk.log c.args.disk.now) honest)) more front)
+    c.index.result.now is c.arc-at.ensures table agrees (items_on c.args.self.now.queues (known (g.D.PageDisk.log c.args.disk.now))) holds (c.requires.together.faces (c.in-Err.ensures.later.known told)) more front)
 
 pub feed_seat-requires-clause-is_valid : goal.feed_seat-requires-clause-is_valid
 feed_seat-requires-clause-is_valid g c =
@@ -156,25 +156,39 @@ returns-clause-cost g c =
 pub returns-in-Err-clause-cause : goal.returns-in-Err-clause-cause
 returns-in-Err-clause-cause g c =
     let is = slice_get_read c.args.self.now.seats.items _ c.args.actor c.index.result.now refl c.requires.actor_in c.index.ensures in
-    refused-in _ c.args.actor c.args.port c.args.arc c.index.result.now c.arc-at.result.now _ _ _ c.requires.head.1.1 is c.arc-at.ensures c.in-Err.ensures.cause
+    refused-in _ c.args.actor c.args.port c.args.arc c.index.result.now c.arc-at.result.now _ _ _ _ _ _ c.requires.head.1.1 is c.arc-at.ensures c.in-Err.ensures.cause
 
 pub returns-in-Err-count_item-clause-cause : goal.returns-in-Err-count_item-clause-cause
-returns-in-Err-count_item-clause-cause g c = too-much-in _ _ _ _ c.in-Err-count_item.ensures.err
+returns-in-Err-count_item-clause-cause g c = too-much-in _ _ _ _ _ _ c.in-Err-count_item.ensures.err
 
 pub returns-in_err-give-clause-cause : goal.returns-in_err-give-clause-cause
 returns-in_err-give-clause-cause g c =
     let p = err_from_is_err_and c.from_residual-in_err-give.result c.from_residual-in_err-give.ensures.1 in
-    rw (p.1, p.2) (cause-in _ _ _ _ (queue-cause-since _ _ _ _ _ c.in-Ok.ensures.faults c.in_err-give.ensures.cause))
+    rw (p.1, p.2) (cause-in _ _ _ _ _ _ (queue-cause-since _ _ _ _ _ _ _ _ c.in-Ok.ensures.later c.in-Ok.ensures.faults c.in_err-give.ensures.cause))
+
+pub returns-in-Err-clause-feed : goal.returns-in-Err-clause-feed
+returns-in-Err-clause-feed g c =
+    refused-feed c.args.self.now (record c.args.self.now { queues = c.take_item.new.queues }) c.args.actor c.args.port c.args.arc _ _ _ _ _ _ _ _ c.requires.head.1.1 refl c.in-Err.ensures.cause
+
+pub returns-in-Err-count_item-clause-feed : goal.returns-in-Err-count_item-clause-feed
+returns-in-Err-count_item-clause-feed g c =
+    full-feed c.args.self.now (record c.args.self.now { queues = c.take_item.new.queues }) c.args.actor c.args.port c.args.arc c.in-Ok.item _ _ _ c.requires.head.1.1 refl
+    (record { popped = c.in-Ok.ensures.popped; others = c.in-Ok.ensures.faces; first = c.in-Ok.ensures.items }) c.in-Err-count_item.ensures.err c.in-Err-count_item.ensures.too_much
+
+pub returns-in_err-give-clause-feed : goal.returns-in_err-give-clause-feed
+returns-in_err-give-clause-feed g c =
+    let p = err_from_is_err_and c.from_residual-in_err-give.result c.from_residual-in_err-give.ensures.1 in
+    rw (p.1, p.2) (feeds-none _ _ _ _ _ _ _ _ _ _ c.in_err-give.ensures.cause)
 
 pub returns-in_err-give-clause-strange : goal.returns-in_err-give-clause-strange
 returns-in_err-give-clause-strange g c =
     let p = err_from_is_err_and c.from_residual-in_err-give.result c.from_residual-in_err-give.ensures.1 in
-    rw (p.1, p.2) (λ honest table agrees holds. c.in_err-give.ensures.honest (c.in-Ok.ensures.later.honest ∙ honest))
+    rw (p.1, p.2) (λ told table agrees holds. changed-since _ _ _ c.in-Ok.ensures.later.honest (c.in_err-give.ensures.honest told))
 
 pub returns-in_err-give-clause-too_much : goal.returns-in_err-give-clause-too_much
 returns-in_err-give-clause-too_much g c =
     let p = err_from_is_err_and c.from_residual-in_err-give.result c.from_residual-in_err-give.ensures.1 in
-    rw (p.1, p.2) (none-too-much _ _ _ _ _ _ (counts-none _ _ _ _ c.in_err-give.ensures.cause))
+    rw (p.1, p.2) (none-too-much _ _ _ _ _ _ (counts-none _ _ _ _ _ _ c.in_err-give.ensures.cause))
 
 pub returns-in-Err-clause-stay : goal.returns-in-Err-clause-stay
 returns-in-Err-clause-stay g c = stays-same c.args.events.now.items
@@ -193,3 +207,6 @@ returns-clause-took g c =
     (fed-sum c.args.self.now.wires (length c.args.self.now.seats.items) c.requires.flow.shaped c.args.actor c.requires.actor_in c.args.self.now.queues c.take_item.new.queues c.give.new.queues c.args.port c.args.arc
     c.requires.head.1.1 c.in-Ok.ensures.popped c.in-Ok.ensures.faces c.in_ok-give.ensures.sent.apart)
     (goes-on c.args.self.now.over _ _ c.index_mut.result.now c.feed_seat.new.seat is after c.in_ok-feed_seat.ensures.fed.open_still c.requires.running)
+
+pub returns-clause-later : goal.returns-clause-later
+returns-clause-later g c = IsLater-trans _ _ _ c.in-Ok.ensures.later c.in_ok-give.ensures.later

@@ -4,7 +4,7 @@ use Rattle.std.proofs.lemmas.Option.{slice_get_read}
 use Rattle.std.proofs.lemmas.Result.{err_from_is_err_and}
 use Rattle.sq_pool.specs.Trust.{known}
 use Rattle.sq_flow.proofs.WireLemmas.{arcs-open, comes-from}
-use Rattle.sq_flow.proofs.CauseLemmas.{cause-in, counts-none}
+use Rattle.sq_flow.proofs.CauseLemmas.{cause-in, counts-none, feeds-none}
 use Rattle.sq_flow.proofs.FutureLemmas.{slice_get-set_same, slice_get-set_other}
 use Rattle.sq_flow.proofs.Measures.{open-less}
 use Rattle.sq_flow.proofs.FinishedFlow.{seat-fine, runs, own-drops, finished-prefix, finished-stepped, finished-taken, finished-touches}
@@ -71,17 +71,22 @@ returns-clause-touches g c =
 pub returns-in_err-give-clause-cause : goal.returns-in_err-give-clause-cause
 returns-in_err-give-clause-cause g c =
     let p = err_from_is_err_and c.from_residual-in_err-give.result c.from_residual-in_err-give.ensures.1 in
-    rw (p.1, p.2) (cause-in _ _ _ _ c.in_err-give.ensures.cause)
+    rw (p.1, p.2) (cause-in _ _ _ _ _ _ c.in_err-give.ensures.cause)
+
+pub returns-in_err-give-clause-feed : goal.returns-in_err-give-clause-feed
+returns-in_err-give-clause-feed g c =
+    let p = err_from_is_err_and c.from_residual-in_err-give.result c.from_residual-in_err-give.ensures.1 in
+    rw (p.1, p.2) (feeds-none _ _ _ _ _ _ _ _ _ _ c.in_err-give.ensures.cause)
 
 pub returns-in_err-give-clause-strange : goal.returns-in_err-give-clause-strange
 returns-in_err-give-clause-strange g c =
     let p = err_from_is_err_and c.from_residual-in_err-give.result c.from_residual-in_err-give.ensures.1 in
-    rw (p.1, p.2) (λ honest table agrees holds. c.in_err-give.ensures.honest honest)
+    rw (p.1, p.2) (λ told table agrees holds. c.in_err-give.ensures.honest told)
 
 pub returns-in_err-give-clause-memory : goal.returns-in_err-give-clause-memory
 returns-in_err-give-clause-memory g c =
     let p = err_from_is_err_and c.from_residual-in_err-give.result c.from_residual-in_err-give.ensures.1 in
-    rw (p.1, p.2) (counts-none _ _ _ _ c.in_err-give.ensures.cause)
+    rw (p.1, p.2) (counts-none _ _ _ _ _ _ c.in_err-give.ensures.cause)
 
 pub returns-in_err-finish_seat-clause-stay : goal.returns-in_err-finish_seat-clause-stay
 returns-in_err-finish_seat-clause-stay g c = stays-same c.args.events.now.items

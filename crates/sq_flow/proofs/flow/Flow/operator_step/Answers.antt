@@ -20,3 +20,7 @@ returns-in_err-finish_step-in-Ended-clause-strange g c =
 
 pub returns-in-Waits-clause-stay : goal.returns-in-Waits-clause-stay
 returns-in-Waits-clause-stay g c = stays-same c.args.events.now.items
+
+pub returns-in_err-feed_step-in-Feed-clause-strange : goal.returns-in_err-feed_step-in-Feed-clause-strange
+returns-in_err-feed_step-in-Feed-clause-strange g c =
+    let p = err_from_is_err_and c.from_residual-in_err-feed_step-in-Feed.result c.from_residual-in_err-feed_step-in-Feed.ensures.1 in rw (p.1, p.2) c.in_err-feed_step-in-Feed.ensures.strange

@@ -6,7 +6,7 @@ use Rattle.sq_road.specs.Levels.{Agrees}
 use Rattle.sq_plan.specs.Shown.{level_for, Ended}
 use Rattle.sq_pool.specs.Trust.{known}
 use Rattle.sq_flow.proofs.WireLemmas.{arcs-open}
-use Rattle.sq_flow.proofs.CauseLemmas.{cause-in, counts-none}
+use Rattle.sq_flow.proofs.CauseLemmas.{cause-in, counts-none, feeds-none}
 use Rattle.sq_flow.proofs.ReleasedPlans.{ClosedBefore, mid-len, plans-front, plans-none}
 use Rattle.sq_flow.proofs.ReplayFlow.{replay-open, replay-runs, item-sound, released-stepped, released-touches, lines-stay, count-less}
 use Rattle.sq_flow.proofs.TookLemmas.{replay-took}
@@ -128,17 +128,22 @@ returns-clause-measure g c =
 pub returns-in_err-send_one-clause-cause : goal.returns-in_err-send_one-clause-cause
 returns-in_err-send_one-clause-cause g c =
     let p = err_from_is_err_and c.from_residual-in_err-send_one.result c.from_residual-in_err-send_one.ensures.1 in
-    rw (p.1, p.2) (cause-in _ _ _ _ c.in_err-send_one.ensures.cause)
+    rw (p.1, p.2) (cause-in _ _ _ _ _ _ c.in_err-send_one.ensures.cause)
+
+pub returns-in_err-send_one-clause-feed : goal.returns-in_err-send_one-clause-feed
+returns-in_err-send_one-clause-feed g c =
+    let p = err_from_is_err_and c.from_residual-in_err-send_one.result c.from_residual-in_err-send_one.ensures.1 in
+    rw (p.1, p.2) (feeds-none _ _ _ _ _ _ _ _ _ _ c.in_err-send_one.ensures.cause)
 
 pub returns-in_err-send_one-clause-strange : goal.returns-in_err-send_one-clause-strange
 returns-in_err-send_one-clause-strange g c =
     let p = err_from_is_err_and c.from_residual-in_err-send_one.result c.from_residual-in_err-send_one.ensures.1 in
-    rw (p.1, p.2) (λ honest table agrees holds. c.in_err-send_one.ensures.honest honest)
+    rw (p.1, p.2) (λ told table agrees holds. c.in_err-send_one.ensures.honest told)
 
 pub returns-in_err-send_one-clause-memory : goal.returns-in_err-send_one-clause-memory
 returns-in_err-send_one-clause-memory g c =
     let p = err_from_is_err_and c.from_residual-in_err-send_one.result c.from_residual-in_err-send_one.ensures.1 in
-    rw (p.1, p.2) (counts-none _ _ _ _ c.in_err-send_one.ensures.cause)
+    rw (p.1, p.2) (counts-none _ _ _ _ _ _ c.in_err-send_one.ensures.cause)
 
 pub returns-clause-took : goal.returns-clause-took
 returns-clause-took g c =

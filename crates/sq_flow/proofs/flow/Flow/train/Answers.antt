@@ -1,6 +1,6 @@
 use Rattle.std.proofs.Common.{◌≡◌, subst, arith, inr, sym, true, false}
 use Rattle.sq_pool.specs.Trust.{known}
-use Rattle.sq_pool.proofs.TrustLemmas.{honest-tells, IsLater-trans}
+use Rattle.sq_pool.proofs.TrustLemmas.{IsLater-trans}
 use Rattle.sq_flow.specs.Flows.{Lowers, measure_of}
 use Rattle.sq_flow.specs.Readiness.{IsReady, WaitsOnly, Took, TookBy}
 use Rattle.sq_flow.proofs.StepLemmas.{stepped-both, prefix-after, plans-after, none-strange-after, costs-after, costs-most-after, too-much-after}
@@ -22,12 +22,24 @@ returns-in-Err-clause-closes g c = λ table agrees. c.steps.invariant.stepped.cl
 
 pub returns-in-Err-clause-strange : goal.returns-in-Err-clause-strange
 returns-in-Err-clause-strange g c =
-    none-strange-after _ _ _ _ _ _ _ _ c.steps.invariant.stepped (g.D.PageDisk.log c.args.disk.now).honest (g.D.PageDisk.log c.steps.disk).honest c.one_step.new.self.levels c.in-Err.e
-    c.steps.invariant.later.honest (honest-tells (g.D.PageDisk.log c.steps.disk)) c.in-Err.ensures.closes c.in-Err.ensures.strange
+    none-strange-after _ _ _ _ _ _ _ _ c.steps.invariant.stepped (g.D.PageDisk.log c.args.disk.now).honest (g.D.PageDisk.log c.steps.disk).honest (known (g.D.PageDisk.log c.one_step.new.disk)) c.one_step.new.self.levels c.in-Err.e
+    c.steps.invariant.later.honest c.in-Err.ensures.later.known c.in-Err.ensures.closes c.in-Err.ensures.strange
 
 pub returns-in-Err-clause-cause : goal.returns-in-Err-clause-cause
 returns-in-Err-clause-cause g c =
-    cause-since c.one_step.new.self (g.D.PageDisk.faults c.args.disk.now) (g.D.PageDisk.faults c.steps.disk) (g.D.PageDisk.faults c.one_step.new.disk) c.in-Err.e c.steps.invariant.faults c.in-Err.ensures.cause
+    cause-since c.one_step.new.self (g.D.PageDisk.log c.args.disk.now) (g.D.PageDisk.log c.steps.disk) (g.D.PageDisk.log c.one_step.new.disk) (g.D.PageDisk.faults c.args.disk.now) (g.D.PageDisk.faults c.steps.disk) (g.D.PageDisk.faults c.one_step.new.disk) c.in-Err.e c.steps.invariant.later c.steps.invariant.faults c.in-Err.ensures.cause
+
+pub returns-in-Err-clause-feed : goal.returns-in-Err-clause-feed
+returns-in-Err-clause-feed g c =
+    record {
+      before = c.steps.self;
+      mid = g.D.PageDisk.log c.steps.disk;
+      shown = c.steps.events.items;
+      stepped = c.steps.invariant.stepped;
+      later = c.steps.invariant.later;
+      last = c.in-Err.ensures.later;
+      feed = c.in-Err.ensures.feed;
+    }
 
 pub returns-in-Err-clause-cost_err : goal.returns-in-Err-clause-cost_err
 returns-in-Err-clause-cost_err g c =
@@ -105,3 +117,12 @@ pub returns-in-Finished-clause-took : goal.returns-in-Finished-clause-took
 returns-in-Finished-clause-took g c =
     let last = subst (λ d. TookBy c.args.actor d c.steps.self c.one_step.new.self) c.in-Finished.is c.in-Ok.ensures.took in
     λ running. took-last c.args.actor c.args.self.now c.steps.self c.one_step.new.self c.steps.fed false true (c.steps.invariant.took running) last
+
+pub returns-in-Err-clause-later : goal.returns-in-Err-clause-later
+returns-in-Err-clause-later g c = IsLater-trans _ _ _ c.steps.invariant.later c.in-Err.ensures.later
+
+pub returns-in-Waits-clause-later : goal.returns-in-Waits-clause-later
+returns-in-Waits-clause-later g c = IsLater-trans _ _ _ c.steps.invariant.later c.in-Ok.ensures.later
+
+pub returns-in-Finished-clause-later : goal.returns-in-Finished-clause-later
+returns-in-Finished-clause-later g c = IsLater-trans _ _ _ c.steps.invariant.later c.in-Ok.ensures.later
