@@ -46,7 +46,7 @@ stepped_none pages e sound together = record {
   planned = λ all h. h;
   plans = refl;
   holds = λ told table agrees h. h;
-  goes = λ told table agrees h. record { lines = λ o low. refl; drops = λ w low. refl; fed = λ actor low. refl; lost = λ actor low. refl; turns = refl };
+  goes = λ told table agrees h. record { lines = λ o low. refl; drops = λ w low. refl; fed = λ actor low. refl; lost = λ actor low. refl; turns = refl; arcs = λ arc low. ([], refl) };
 }
 
 -- behind events that were shown
@@ -77,6 +77,7 @@ stepped_behind was is from to es xs s = record {
         fed = g.fed;
         lost = g.lost;
         turns = g.turns;
+        arcs = g.arcs;
       };
 }
 
