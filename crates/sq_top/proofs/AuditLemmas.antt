@@ -16,7 +16,7 @@ use Rattle.sq_top.proofs.DrivingLemmas.{not_too_much}
 use Rattle.sq_top.proofs.EndLemmas.{answered_cut, answered_ok, appends_all, appends_begun}
 use Rattle.sq_top.proofs.ReadsLemmas.{HoldsFor, leads_read, leads_still, leads_then, left_holds}
 use Rattle.sq_top.proofs.StoppedLemmas.{memory_at, some_none, stopped_unread}
-use Rattle.sq_top.proofs.StopLemmas.{lost_cut, lost_stop, lost_unchanged}
+use Rattle.sq_top.proofs.StopLemmas.{lost_cut, lost_garbled, lost_stop, lost_unchanged}
 
 -- by what leads through the first script the two go on
 goes_behind : (told : Option Files) (next : Replay → Script) (read : List (List ℕ × List ℕ)) (from to : Script) → GoesBy told read from to
@@ -147,6 +147,7 @@ module _ (words : List (List ℕ)) (net text : List ℕ) (asked : command_in wor
   audited_cut s lost part alone =
       answered_cut words w r source (is_audit words net text asked w.told) came faultless s (lost_cut w.sink_before w.sink_before w.sink_now s (omega arith) lost)
       (lost_stop _ w.log_before w.log_now w.disk_before w.disk_now w.sink_before w.sink_now s lost) (λ is-honest. lost_unchanged w.sink_before w.sink_now s lost)
+      (λ told. lost_garbled w.sink_before w.sink_now s lost)
       (λ told. not_too_much _ w.sink_before w.sink_now s lost)
       (λ told. (
         subst (λ c. AppendsSuch w.out_before w.out_now (IsPrefixOfDue c r s)) (sym asked) (appends_begun (verdict_of r) w.out_before w.out_now s part alone),

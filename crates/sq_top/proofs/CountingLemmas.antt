@@ -88,6 +88,7 @@ silent_stop was is honest from begun now waits s stops r history start told run 
       written = lost_at_once None (waits ++ history_text r.network stop.events);
       work = stop.work;
       unchanged = stop.unchanged;
+      garbled = stop.garbled;
       too_much = stop.too_much;
     }
 

@@ -1,5 +1,5 @@
 -- How an engine goes on, step by step, to its end, or stops on the way.
-use Rattle.std.proofs.Common.{◌≡◌, inl, inr, ℕ, ◌<◌, ◌≤◌, ◌^◌, Bool, List, [], ◌++◌, length, ap, sym, ◌∙◌, subst, arith, append_assoc, append-nil, Option}
+use Rattle.std.proofs.Common.{◌≡◌, inl, inr, ℕ, ◌<◌, ◌≤◌, ◌^◌, Bool, true, List, [], ◌++◌, length, ap, sym, ◌∙◌, subst, arith, append_assoc, append-nil, Option}
 use Rattle.std.specs.Prelude.{Result, Ok, Err, OnErr, IfErr}
 use Rattle.std.specs.List.{AllByRecursion}
 use Rattle.std.proofs.lemmas.Grind.{flat_map-append}
@@ -25,10 +25,10 @@ use Rattle.sq_top.specs.declared.Status.{Status}
 use Rattle.sq_top.specs.declared.Status.TheVariants as status
 use Rattle.sq_top.specs.Due.{answer_in, turns_in}
 use Rattle.sq_top.specs.Writing.{IsLost, Moves}
-use Rattle.sq_top.specs.Stopping.{is_changed, status_of}
+use Rattle.sq_top.specs.Stopping.{is_changed, is_garbled, status_of}
 use Rattle.sq_top.specs.Driving.{Begins, Completes, GoesOn, IsDriven, IsEventAt, IsHalted, Stops, history_text}
 use Rattle.sq_top.proofs.ClassLemmas.{all_append}
-use Rattle.sq_top.proofs.StopLemmas.{lost_unchanged, step_much, step_unchanged}
+use Rattle.sq_top.proofs.StopLemmas.{lost_garbled, lost_unchanged, step_garbled, step_much, step_unchanged}
 use Rattle.sq_top.proofs.WritingLemmas.{appended-nil, lost_at_once, moves-lost, moves-then}
 
 -- an event of the run has its text
@@ -123,6 +123,7 @@ module _ (was : Option Pages) (from : Engine) (begun now : ℕ) (cleared shown :
           written = subst (λ m. AppendsPrefix before after (waited ++ history_text m shown)) there written;
           work = far.work;
           unchanged = λ is-honest. lost_unchanged faults faults' s lost;
+          garbled = lost_garbled faults faults' s lost;
           too_much = not_too_much (2 ^ 62 ≤ turns_in r) faults faults' s lost;
         }
 
@@ -140,6 +141,7 @@ module _ (was : Option Pages) (from : Engine) (begun now : ℕ) (cleared shown :
         written = lost_at_once before (waited ++ []);
         work = halt.so_far.work;
         unchanged = λ is-honest. ap is_changed same ∙ step_unchanged honest e halt.named is-honest;
+        garbled = subst (λ x. is_changed x ≡ true → is_garbled x ≡ true) (sym same) (step_garbled honest e halt.named);
         too_much = λ much. halt.turns (step_much e (sym same ∙ much));
       }
 
@@ -196,6 +198,7 @@ module _ (was mid : Option Pages) (from via : Engine) (begun now : ℕ) (before 
             (moves-lost before between after [] waits (history_text r.network first.events) (history_text r.network stop.events) moves_now stop.written);
         work = stop.work;
         unchanged = λ is-honest. stop.unchanged (same ∙ is-honest);
+        garbled = stop.garbled;
         too_much = stop.too_much;
       }
 
@@ -212,6 +215,7 @@ module _ (was mid : Option Pages) (from via : Engine) (begun now : ℕ) (before 
             (moves-lost before between after [] waits (history_text r.network first.events) [] moves_now (subst (AppendsPrefix between after) (sym (append-nil waits)) written));
         work = far.work;
         unchanged = λ is-honest. lost_unchanged faults faults' s lost;
+        garbled = lost_garbled faults faults' s lost;
         too_much = not_too_much (2 ^ 62 ≤ turns_in r) faults faults' s lost;
       }
 

@@ -48,12 +48,12 @@ use Rattle.sq_top.specs.declared.RunArgs.{RunArgs}
 use Rattle.sq_top.specs.Scripts.{Replay, Script, Reads, Done, Stops, after_words, made_script, script_of}
 use Rattle.sq_top.specs.Reads.{GoesBy, IfAccepted, Leads, network_read}
 use Rattle.sq_pool.specs.Trust.{Tells}
-use Rattle.sq_top.specs.Stopping.{StopHasCause, is_changed}
+use Rattle.sq_top.specs.Stopping.{StopHasCause, is_changed, is_garbled}
 use Rattle.sq_top.specs.Causes.{AppendsSuch, BeginsSummary, BeginsText, Ends, IsEngineOf, IsPrefixOfDue, IsRefusedAt, IsStopped, IsWholeOf, NamesSource, TellsFor, TellsStatus, World, hides_memory, is_refusal, turns_for, verdict_of, work_for}
 use Rattle.sq_top.proofs.SortedLines.{and-true}
 use Rattle.sq_top.proofs.ReadsLemmas.{leads_self, left_holds, none_given}
 use Rattle.sq_top.proofs.StoppedLemmas.{memory_at, some_none, stopped_memory, stopped_rule}
-use Rattle.sq_top.proofs.StopLemmas.{refused_stop, refused_unchanged, stop_map}
+use Rattle.sq_top.proofs.StopLemmas.{refused_garbled, refused_stop, refused_unchanged, stop_map}
 use Rattle.sq_top.proofs.ClassLemmas.{IsLineOf, IsPlainName, TellsClasses, is_end_field}
 use Rattle.sq_top.proofs.OrderLemmas.{prefix_text}
 
@@ -327,7 +327,7 @@ not_hidden s is = refl
 
 -- where all was accepted no refusal comes
 not_refused : (told : Option Files) (fb fn tb tn : ℕ) (s : Status) (left : Script) (r : Replay) → (is_refusal s ≡ true) ⊎ (s ≡ status.Memory) → IsRefusedAt told fb fn tb tn s left → left ≡ Done r
-    → (s ≡ status.Ok) ⊎ (s ≡ status.Memory) ⊎ (is_changed s ≡ true)
+    → (s ≡ status.Ok) ⊎ (s ≡ status.Memory) ⊎ (is_garbled s ≡ true)
 not_refused told fb fn tb tn s left r (inl refused) why e =
     let not : is_refusal s ≡ false = subst (IsRefusedAt told fb fn tb tn s) e why in
     let both : true ≡ false = sym refused ∙ not in absurd (cc)
@@ -350,6 +350,7 @@ stopped_ends words w s source h out steps = record {
   no_memory = h.no_memory;
   stopped = refused_stop _ _ _ _ _ s h.ends;
   unchanged = λ is-honest. refused_unchanged s h.ends;
+  garbled = λ tells. refused_garbled s h.ends;
   sink = λ e. absurd (not_sink s h.ends e);
   too_much = λ e. absurd (not_much s h.ends e);
   complete = λ sound dry. if_accepted h.left _ _
@@ -383,6 +384,7 @@ module _ (words : List (List ℕ)) (w : World) (r : Replay) (source : List ℕ) 
     no_memory = refl;
     stopped = tt;
     unchanged = λ is-honest. refl;
+    garbled = λ tells is. absurd (cc);
     sink = λ e. absurd (cc);
     too_much = λ e. absurd (cc);
     complete = λ sound dry pages few. inl refl;
@@ -397,25 +399,25 @@ module _ (words : List (List ℕ)) (w : World) (r : Replay) (source : List ℕ) 
   names_none (status.BadStream number line why) is = absurd (cc)
   names_none s is = tt
 
-  -- without a fault it is want of memory, or too much, or a page that came back changed
+  -- without a fault it is want of memory, or too much, or a page that came back garbled
   ends_ok : (s : Status) → IsCutShort w.sink_before w.sink_now s → StopHasCause (λ e. e.network ≡ r.network) w.log_before w.log_now w.disk_before w.disk_now s
-      → (s ≡ status.TooMuch → 2 ^ 62 ≤ turns) → ¬ (Rose w.disk_before w.disk_now) → ¬ (Rose w.sink_before w.sink_now) → turns < 2 ^ 62
-      → (s ≡ status.Ok) ⊎ (s ≡ status.Memory) ⊎ (is_changed s ≡ true)
-  ends_ok status.Ok cut stop much sound dry few = inl refl
-  ends_ok status.Memory cut stop much sound dry few = inr (inl refl)
-  ends_ok status.SinkFault cut stop much sound dry few = absurd (dry (cut.sink refl))
-  ends_ok status.DiskFault cut stop much sound dry few = absurd (sound stop)
-  ends_ok status.TooMuch cut stop much sound dry few = let most = much refl in absurd (omega (arith, most, few))
-  ends_ok (status.Garbled page kept got) cut stop much sound dry few = inr (inr refl)
-  ends_ok (status.NotAPage page bytes) cut stop much sound dry few = inr (inr refl)
-  ends_ok (status.Strange arc item) cut stop much sound dry few = inr (inr refl)
-  ends_ok s cut stop much sound dry few = let no = cut.begun in absurd (cc)
+      → (is_changed s ≡ true → is_garbled s ≡ true) → (s ≡ status.TooMuch → 2 ^ 62 ≤ turns) → ¬ (Rose w.disk_before w.disk_now) → ¬ (Rose w.sink_before w.sink_now) → turns < 2 ^ 62
+      → (s ≡ status.Ok) ⊎ (s ≡ status.Memory) ⊎ (is_garbled s ≡ true)
+  ends_ok status.Ok cut stop garbled much sound dry few = inl refl
+  ends_ok status.Memory cut stop garbled much sound dry few = inr (inl refl)
+  ends_ok status.SinkFault cut stop garbled much sound dry few = absurd (dry (cut.sink refl))
+  ends_ok status.DiskFault cut stop garbled much sound dry few = absurd (sound stop)
+  ends_ok status.TooMuch cut stop garbled much sound dry few = let most = much refl in absurd (omega (arith, most, few))
+  ends_ok (status.Garbled page kept got) cut stop garbled much sound dry few = inr (inr (garbled refl))
+  ends_ok (status.NotAPage page bytes) cut stop garbled much sound dry few = inr (inr (garbled refl))
+  ends_ok (status.Strange arc item) cut stop garbled much sound dry few = inr (inr (garbled refl))
+  ends_ok s cut stop garbled much sound dry few = let no = cut.begun in absurd (cc)
 
   -- the answer is cut short
   pub answered_cut : (s : Status) → IsCutShort w.sink_before w.sink_now s → StopHasCause (λ e. e.network ≡ r.network) w.log_before w.log_now w.disk_before w.disk_now s
-      → (w.honest ≡ true → is_changed s ≡ false) → (Told → s ≡ status.TooMuch → 2 ^ 62 ≤ turns)
+      → (w.honest ≡ true → is_changed s ≡ false) → (Told → is_changed s ≡ true → is_garbled s ≡ true) → (Told → s ≡ status.TooMuch → 2 ^ 62 ≤ turns)
       → (Told → AppendsSuch w.out_before w.out_now (IsPrefixOfDue (command_in words) r s) × (w.steps_now ≤ w.steps_before + work)) → Ends words w s source
-  answered_cut s cut stop same much first = record {
+  answered_cut s cut stop same garbled much first = record {
     read = came.0;
     given = came.2;
     left = Done r;
@@ -429,9 +431,10 @@ module _ (words : List (List ℕ)) (w : World) (r : Replay) (source : List ℕ) 
     no_memory = not_hidden s cut.begun;
     stopped = stop_map _ (IsEngineOf (Done r)) _ _ _ _ _ _ _ _ s (λ rose. rose) (λ queues e back. back) (λ e is. is) stop;
     unchanged = same;
+    garbled = garbled;
     sink = cut.sink;
     too_much = λ e pages. much pages e;
-    complete = λ sound dry pages few. ends_ok s cut stop (much pages) sound dry few;
+    complete = λ sound dry pages few. ends_ok s cut stop (garbled pages) (much pages) sound dry few;
     named = names_none s cut.begun;
   }
 
@@ -449,10 +452,10 @@ module _ (words : List (List ℕ)) (w : World) (r : Replay) (source : List ℕ) 
         (λ told. let all = whole (told engine) in (all.0, subst (λ k. w.steps_now ≡ w.steps_before + k) work_is all.1))
 
     pub driven_cut : (s : Status) → IsCutShort w.sink_before w.sink_now s → StopHasCause (λ e. e.network ≡ r.network) w.log_before w.log_now w.disk_before w.disk_now s
-        → (w.honest ≡ true → is_changed s ≡ false) → (Tells w.pages → s ≡ status.TooMuch → 2 ^ 62 ≤ turns_in (replayed r))
+        → (w.honest ≡ true → is_changed s ≡ false) → (Tells w.pages → is_changed s ≡ true → is_garbled s ≡ true) → (Tells w.pages → s ≡ status.TooMuch → 2 ^ 62 ≤ turns_in (replayed r))
         → (Tells w.pages → AppendsSuch w.out_before w.out_now (IsPrefixOfDue (command_in words) r s) × (w.steps_now ≤ w.steps_before + work_in (replayed r)))
         → Ends words w s source
-    driven_cut s cut stop same much first = answered_cut s cut stop same
+    driven_cut s cut stop same garbled much first = answered_cut s cut stop same (λ told. garbled (told engine))
         (λ told is. subst (λ k. 2 ^ 62 ≤ k) turns_are (much (told engine) is))
         (λ told. let part = first (told engine) in (part.0, subst (λ k. w.steps_now ≤ w.steps_before + k) work_is part.1))
 
@@ -473,6 +476,7 @@ memory_ends words w s source other differs dry' h = record {
   no_memory = refl;
   stopped = tt;
   unchanged = λ is-honest. refl;
+  garbled = λ tells is. absurd (cc);
   sink = λ e. absurd (cc);
   too_much = λ e. absurd (cc);
   complete = λ sound dry. if_accepted h.left _ _ (λ r e pages few. inr (inl refl)) tt;

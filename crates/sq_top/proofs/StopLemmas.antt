@@ -20,7 +20,7 @@ use Rattle.sq_top.specs.declared.Status.{Status}
 use Rattle.sq_top.specs.declared.Status.TheVariants as status
 use Rattle.sq_top.specs.Causes.{is_plain_end, is_refusal}
 use Rattle.sq_top.specs.Driving.{IsCutShort}
-use Rattle.sq_top.specs.Stopping.{FailedIn, IsLastFeed, StopHasCause, is_changed, status_of}
+use Rattle.sq_top.specs.Stopping.{FailedIn, IsLastFeed, StopHasCause, is_changed, is_garbled, status_of}
 use Rattle.sq_top.specs.Writing.{IsLost}
 use Rattle.sq_top.proofs.StoppedLemmas.{rose_later}
 use Rattle.sq_flow.specs.Readiness.{FallsBy}
@@ -61,6 +61,18 @@ step_unchanged honest (run_err.Strange arc item) named is = absurd named
 step_unchanged honest run_err.TooMuch named is = refl
 step_unchanged honest run_err.Memory named is = refl
 
+-- what no disk changed is no page that came back changed
+unchanged_garbled : (s : Status) → is_changed s ≡ false → is_changed s ≡ true → is_garbled s ≡ true
+unchanged_garbled s not is = let no : true ≡ false = sym is ∙ not in absurd (cc)
+
+pub step_garbled : (honest : Bool) (e : RunErr) → NotChanged honest e → is_changed (status_of e) ≡ true → is_garbled (status_of e) ≡ true
+step_garbled honest run_err.Disk named is = absurd (cc)
+step_garbled honest (run_err.Garbled page kept got) named is = refl
+step_garbled honest (run_err.NotAPage page bytes) named is = absurd named
+step_garbled honest (run_err.Strange arc item) named is = absurd named
+step_garbled honest run_err.TooMuch named is = absurd (cc)
+step_garbled honest run_err.Memory named is = absurd (cc)
+
 pub step_much : (e : RunErr) → status_of e ≡ status.TooMuch → e ≡ run_err.TooMuch
 step_much run_err.Disk is = absurd (cc)
 step_much (run_err.Garbled page kept got) is = absurd (cc)
@@ -95,6 +107,9 @@ pub lost_unchanged : (faults faults' : ℕ) (s : Status) → IsLost faults fault
 lost_unchanged faults faults' s (inl memory) = ap is_changed memory
 lost_unchanged faults faults' s (inr (sink, rose)) = ap is_changed sink
 
+pub lost_garbled : (faults faults' : ℕ) (s : Status) → IsLost faults faults' s → is_changed s ≡ true → is_garbled s ≡ true
+lost_garbled faults faults' s lost = unchanged_garbled s (lost_unchanged faults faults' s lost)
+
 -- a refusal, and want of memory, stops no engine
 pub refused_stop : (P : Engine → Type 0) (was is : DiskLog) (before now : ℕ) (s : Status) → (is_refusal s ≡ true) ⊎ (s ≡ status.Memory) → StopHasCause P was is before now s
 refused_stop P was is before now s (inr memory) = subst (StopHasCause P was is before now) (sym memory) tt
@@ -117,6 +132,9 @@ refused_unchanged s (inl refused) = by s refused
     by (status.NotAPage page bytes) is = absurd (cc)
     by (status.Strange arc item) is = absurd (cc)
     by s is = refl
+
+pub refused_garbled : (s : Status) → (is_refusal s ≡ true) ⊎ (s ≡ status.Memory) → is_changed s ≡ true → is_garbled s ≡ true
+refused_garbled s why = unchanged_garbled s (refused_unchanged s why)
 
 -- of a status that is told the other that it may stand for is a refusal, too
 pub told_refused : (s told : Status) → (told ≡ s) ⊎ ((told ≡ status.Memory) × (s ≢ status.SinkFault)) → is_refusal told ≡ true → is_refusal s ≡ true

@@ -19,7 +19,7 @@ use Rattle.sq_top.specs.Messages.{name_at, network_of}
 use Rattle.sq_top.specs.Scripts.{Lookup, Replay, Script, Reads, Done, Stops, accepted, after_words, go_on, outcome_of, readable, reads_of, script_of, settings_limit}
 use Rattle.sq_top.specs.Due.{due_of, replayed}
 use Rattle.sq_top.specs.Reads.{GoesBy, IfAccepted, network_read}
-use Rattle.sq_top.specs.Stopping.{is_changed}
+use Rattle.sq_top.specs.Stopping.{is_garbled}
 use Rattle.sq_top.specs.Causes.{AppendsSuch, Ends, IsEngineOf, IsPrefixOfDue, IsRefusedAt, IsUnread, IsWholeOf, NamesSource, TellsFor, World, is_refusal, turns_for, work_for}
 use Rattle.sq_top.specs.Told.{EndsOver, FilePart, NetworkFile, CapacityFile, PicksFile, StreamFile, TextFile, FolderHasCause, HasFailedAt, MatchAccepted, NamesTold, limit_of, looked_at, may_be, network_named}
 use Rattle.sq_top.proofs.ClassLemmas.{TellsClasses}
@@ -240,16 +240,16 @@ module _ (files : Files) (words : List (List ℕ)) (w : World) (result : Status)
       by (Reads name limit more) is none = match_any _ First _ (λ r e. begun_nothing words w result r none.0 none.1 (accepted_tells_classes (file files) words r e)) (λ s e. none)
 
   complete_told : ¬ (Rose w.folder_before w.folder_now) → ¬ (Rose w.disk_before w.disk_now) → ¬ (Rose w.sink_before w.sink_now)
-      → MatchAccepted (accepted (file files) words) (λ r. TellsFor (command_in words) w.pages → turns_for (command_in words) r < 2 ^ 62 → (result ≡ status.Ok) ⊎ (result ≡ status.Memory) ⊎ (is_changed result ≡ true)) (λ s. ⊤)
+      → MatchAccepted (accepted (file files) words) (λ r. TellsFor (command_in words) w.pages → turns_for (command_in words) r < 2 ^ 62 → (result ≡ status.Ok) ⊎ (result ≡ status.Memory) ⊎ (is_garbled result ≡ true)) (λ s. ⊤)
   complete_told quiet sound dry = ends_each _ _
-      (λ r is not. subst (λ s. IfAccepted s (λ x. TellsFor (command_in words) w.pages → turns_for (command_in words) x < 2 ^ 62 → (result ≡ status.Ok) ⊎ (result ≡ status.Memory) ⊎ (is_changed result ≡ true)) ⊤) is (h.complete sound dry))
+      (λ r is not. subst (λ s. IfAccepted s (λ x. TellsFor (command_in words) w.pages → turns_for (command_in words) x < 2 ^ 62 → (result ≡ status.Ok) ⊎ (result ≡ status.Memory) ⊎ (is_garbled result ≡ true)) ⊤) is (h.complete sound dry))
       (λ s is rule why. tt) (λ name limit more is. by name limit more (unread name limit more is))
     where
       by : (name : List ℕ) (limit : ℕ) (more : List ℕ → Script)
           → (result ≡ status.Memory) ⊎ ((result ≡ status.FolderFault name) × Rose w.folder_before w.folder_now) ⊎ (outcome_of (file files) (Reads name limit more) ≡ Err result)
-          → MatchAccepted (outcome_of (file files) (Reads name limit more)) (λ r. TellsFor (command_in words) w.pages → turns_for (command_in words) r < 2 ^ 62 → (result ≡ status.Ok) ⊎ (result ≡ status.Memory) ⊎ (is_changed result ≡ true)) (λ s. ⊤)
+          → MatchAccepted (outcome_of (file files) (Reads name limit more)) (λ r. TellsFor (command_in words) w.pages → turns_for (command_in words) r < 2 ^ 62 → (result ≡ status.Ok) ⊎ (result ≡ status.Memory) ⊎ (is_garbled result ≡ true)) (λ s. ⊤)
       by name limit more (inl memory) =
-          match_any _ (λ r. TellsFor (command_in words) w.pages → turns_for (command_in words) r < 2 ^ 62 → (result ≡ status.Ok) ⊎ (result ≡ status.Memory) ⊎ (is_changed result ≡ true)) _ (λ r e pages few. inr (inl memory)) (λ s e. tt)
+          match_any _ (λ r. TellsFor (command_in words) w.pages → turns_for (command_in words) r < 2 ^ 62 → (result ≡ status.Ok) ⊎ (result ≡ status.Memory) ⊎ (is_garbled result ≡ true)) _ (λ r e pages few. inr (inl memory)) (λ s e. tt)
       by name limit more (inr (inl (fault, rose))) = absurd (quiet rose)
       by name limit more (inr (inr broken)) = match_err _ _ _ result broken tt
 

@@ -34,7 +34,7 @@ use Rattle.sq_top.specs.Due.{due_of, replayed, turns_in, work_in}
 use Rattle.sq_top.specs.Summaries.{summary_of}
 use Rattle.sq_top.specs.Messages.{message_of}
 use Rattle.sq_top.specs.Answers.{IsWholeText, IsPrefixText}
-use Rattle.sq_top.specs.Stopping.{StopHasCause, is_changed}
+use Rattle.sq_top.specs.Stopping.{StopHasCause, is_changed, is_garbled}
 
 -- the statuses of refusals: nothing was replayed
 abbrev pub is_refusal : Status → Bool
@@ -322,10 +322,12 @@ pub record Ends (words : List (List ℕ)) (w : World) (result : Status) (source 
   pub no_memory : hides_memory result ≡ false
   pub stopped : StopHasCause (IsEngineOf left) w.log_before w.log_now w.disk_before w.disk_now result
   pub unchanged : w.honest ≡ true → is_changed result ≡ false
+  -- where the disk is known no bytes are no page and no item is strange: a page that came back changed is garbled
+  pub garbled : TellsFor (command_in words) w.pages → is_changed result ≡ true → is_garbled result ≡ true
   pub sink : result ≡ status.SinkFault → Rose w.sink_before w.sink_now
   pub too_much : result ≡ status.TooMuch → IfAccepted left (λ r. TellsFor (command_in words) w.pages → 2 ^ 62 ≤ turns_for (command_in words) r) ⊥
   -- what is accepted, and isn't too much, ends Ok where nothing fails and the disk is known, but for want of memory, or where a page came
-  -- back changed, which no honest disk does
+  -- back garbled, which none of an honest disk does
   pub complete : ¬ (Rose w.disk_before w.disk_now) → ¬ (Rose w.sink_before w.sink_now)
-      → IfAccepted left (λ r. TellsFor (command_in words) w.pages → turns_for (command_in words) r < 2 ^ 62 → (result ≡ status.Ok) ⊎ (result ≡ status.Memory) ⊎ (is_changed result ≡ true)) ⊤
+      → IfAccepted left (λ r. TellsFor (command_in words) w.pages → turns_for (command_in words) r < 2 ^ 62 → (result ≡ status.Ok) ⊎ (result ≡ status.Memory) ⊎ (is_garbled result ≡ true)) ⊤
   pub named : NamesSource words read result source

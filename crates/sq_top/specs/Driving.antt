@@ -24,7 +24,7 @@ use Rattle.sq_points.specs.Points.{drops_in}
 use Rattle.sq_top.specs.Due.{Answer, answer_in, fed_in, late_in, turns_in, work_in}
 use Rattle.sq_top.specs.Writing.{Moves}
 use Rattle.sq_top.specs.Causes.{is_refusal}
-use Rattle.sq_top.specs.Stopping.{is_changed}
+use Rattle.sq_top.specs.Stopping.{is_changed, is_garbled}
 
 -- a tuple at an output that is there, a decision of a drop that is there, or a plan
 abbrev pub IsEventAt : Network → Event → Type 0
@@ -58,8 +58,8 @@ pub record IsDriven (r : Replay) (history : List Event) (engine : Engine) (befor
   pub work : steps ≡ begun + work_in r
 
 -- it stopped on its way, over a disk that is known now: what was written begins the text of events behind which the history still
--- shows the first of the answer, the steps are no more than the work, an honest disk changed no page, and too much was to be fed only
--- where the turns are too many
+-- shows the first of the answer, the steps are no more than the work, an honest disk changed no page, a page that came back changed was
+-- garbled, and too much was to be fed only where the turns are too many
 pub record IsHalted (honest : Bool) (r : Replay) (history : List Event) (result : Status) (before now : Option (List ℕ)) (begun steps : ℕ) : Type 0 where
   pub events : List Event
   pub shown : AllByRecursion (IsEventAt r.network) events
@@ -67,6 +67,7 @@ pub record IsHalted (honest : Bool) (r : Replay) (history : List Event) (result 
   pub written : AppendsPrefix before now (history_text r.network events)
   pub work : steps ≤ begun + work_in r
   pub unchanged : honest ≡ true → is_changed result ≡ false
+  pub garbled : is_changed result ≡ true → is_garbled result ≡ true
   pub too_much : result ≡ status.TooMuch → 2 ^ 62 ≤ turns_in r
 
 -- the end lines from a box on, by what the boxes of an engine were fed
@@ -95,6 +96,7 @@ pub record StopsBehind (honest : Bool) (r : Replay) (history : List Event) (star
   pub written : AppendsPrefix before after (waited ++ history_text r.network events)
   pub work : now ≤ start + work_in r
   pub unchanged : honest ≡ true → is_changed result ≡ false
+  pub garbled : is_changed result ≡ true → is_garbled result ≡ true
   pub too_much : result ≡ status.TooMuch → 2 ^ 62 ≤ turns_in r
 
 -- where the disk is known then

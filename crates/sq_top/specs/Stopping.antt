@@ -54,3 +54,8 @@ is_changed (status.Garbled page kept got) = true
 is_changed (status.NotAPage page bytes) = true
 is_changed (status.Strange arc item) = true
 is_changed result = false
+
+-- of these the one that a disk may bring about that is known: another page came back, whose digest is another
+abbrev pub is_garbled : Status → Bool
+is_garbled (status.Garbled page kept got) = true
+is_garbled result = false

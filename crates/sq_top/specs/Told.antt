@@ -15,7 +15,7 @@ use Rattle.sq_top.specs.declared.Status.TheVariants as status
 use Rattle.sq_top.specs.Commands.{command_in, reads_folder}
 use Rattle.sq_top.specs.Scripts.{Lookup, Replay, accepted, reads_of, script_of, settings_limit, stream_limit, text_limit}
 use Rattle.sq_top.specs.Messages.{name_at, network_of}
-use Rattle.sq_top.specs.Stopping.{StopHasCause, is_changed}
+use Rattle.sq_top.specs.Stopping.{StopHasCause, is_garbled}
 use Rattle.sq_top.specs.Causes.{AppendsSuch, IsPrefixOfDue, IsWholeOf, TellsFor, World, is_refusal, turns_for, work_for}
 
 -- whether this is the name of the network's file, or of the query's
@@ -139,5 +139,5 @@ pub record EndsOver (files : Files) (words : List (List ℕ)) (w : World) (resul
   pub stopped : StopHasCause (λ engine. MatchAccepted (accepted (file files) words) (λ r. engine.network ≡ r.network) (λ s. ⊥)) w.log_before w.log_now w.disk_before w.disk_now result
   pub too_much : result ≡ status.TooMuch → MatchAccepted (accepted (file files) words) (λ r. TellsFor (command_in words) w.pages → 2 ^ 62 ≤ turns_for (command_in words) r) (λ s. ⊥)
   pub complete : ¬ (Rose w.folder_before w.folder_now) → ¬ (Rose w.disk_before w.disk_now) → ¬ (Rose w.sink_before w.sink_now)
-      → MatchAccepted (accepted (file files) words) (λ r. TellsFor (command_in words) w.pages → turns_for (command_in words) r < 2 ^ 62 → (result ≡ status.Ok) ⊎ (result ≡ status.Memory) ⊎ (is_changed result ≡ true)) (λ s. ⊤)
+      → MatchAccepted (accepted (file files) words) (λ r. TellsFor (command_in words) w.pages → turns_for (command_in words) r < 2 ^ 62 → (result ≡ status.Ok) ⊎ (result ≡ status.Memory) ⊎ (is_garbled result ≡ true)) (λ s. ⊤)
   pub named : NamesTold files words result source

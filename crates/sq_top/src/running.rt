@@ -13,7 +13,7 @@ ghost use Rattle.sq_top.specs.Answers.{IsPrefixText, IsWholeText};
 ghost use Rattle.sq_top.specs.Commands.{command_in, reads_folder, runs_engine};
 ghost use Rattle.sq_top.specs.Causes.{AppendsSuch, BeginsSummary, Ends, TellsStatus, is_plain_end, is_refusal, source_of};
 ghost use Rattle.sq_top.specs.Summaries.{summary_of};
-ghost use Rattle.sq_top.specs.Stopping.{StopHasCause, is_changed};
+ghost use Rattle.sq_top.specs.Stopping.{StopHasCause, is_changed, is_garbled};
 ghost use Rattle.sq_top.specs.Driving.{IsCutShort};
 ghost use Rattle.sq_top.specs.Due.{due_of, replayed, turns_in, work_in};
 ghost use Rattle.sq_top.specs.Recorded.{AreRecorded};
@@ -85,6 +85,7 @@ fn replay<D: PageDisk, S: Sink, L: Ledger>(
     ensures cut { IfErr result (IsCutShort (S.faults out.old) (S.faults out.new)) }
     ensures stopped { IfErr result (StopHasCause (λ e. e.network ≡ accepted.network) (D.log disk.old) (D.log disk.new) (D.faults disk.old) (D.faults disk.new)) }
     ensures unchanged { IfErr result (λ s. (D.log disk.old).honest ≡ true → is_changed s ≡ false) }
+    ensures garbled { IfErr result (λ s. Tells (known (D.log disk.new)) → is_changed s ≡ true → is_garbled s ≡ true) }
     ensures too_much { IfErr result (λ s. Tells (known (D.log disk.new)) → s ≡ Status.TooMuch → 2 ^ 62 ≤ turns_in (replayed (replay_of accepted))) }
     ensures later { IsLater (D.log disk.old) (D.log disk.new) }
     ensures faults { (D.faults disk.old ≤ D.faults disk.new) × (S.faults out.old ≤ S.faults out.new) }
@@ -122,6 +123,7 @@ fn sum_up<D: PageDisk, S: Sink, L: Ledger>(
     ensures cut { IfErr result (IsCutShort (S.faults out.old) (S.faults out.new)) }
     ensures stopped { IfErr result (StopHasCause (λ e. e.network ≡ accepted.network) (D.log disk.old) (D.log disk.new) (D.faults disk.old) (D.faults disk.new)) }
     ensures unchanged { IfErr result (λ s. (D.log disk.old).honest ≡ true → is_changed s ≡ false) }
+    ensures garbled { IfErr result (λ s. Tells (known (D.log disk.new)) → is_changed s ≡ true → is_garbled s ≡ true) }
     ensures too_much { IfErr result (λ s. Tells (known (D.log disk.new)) → s ≡ Status.TooMuch → 2 ^ 62 ≤ turns_in (replayed (replay_of accepted))) }
     ensures later { IsLater (D.log disk.old) (D.log disk.new) }
     ensures faults { (D.faults disk.old ≤ D.faults disk.new) × (S.faults out.old ≤ S.faults out.new) }

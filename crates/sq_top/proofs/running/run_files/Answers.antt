@@ -20,7 +20,7 @@ pub returns-in-Err-replay-clause-ends : goal.returns-in-Err-replay-clause-ends
 returns-in-Err-replay-clause-ends g c words asked =
     let told = g.F.Folder.files c.args.folder.now in
     driven_cut _ _ (replay_of c.in-Ok.accepted) _ (is_command words c.args.args asked told) (c.in-Ok.ensures.accepted words asked) c.in-Ok.ensures.no_fault (ap runs_engine asked) c.in-Err-replay.status
-    c.in-Err-replay.ensures.cut c.in-Err-replay.ensures.stopped c.in-Err-replay.ensures.unchanged c.in-Err-replay.ensures.too_much
+    c.in-Err-replay.ensures.cut c.in-Err-replay.ensures.stopped c.in-Err-replay.ensures.unchanged c.in-Err-replay.ensures.garbled c.in-Err-replay.ensures.too_much
     (λ tells. (prefix_of_run _ c.args.args _ c.in-Err-replay.status _ _ asked (c.in-Err-replay.ensures.err tells), c.in-Err-replay.ensures.fewer tells))
 
 pub returns-in-Err-replay-clause-disk : goal.returns-in-Err-replay-clause-disk

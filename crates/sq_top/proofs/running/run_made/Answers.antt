@@ -19,7 +19,7 @@ pub returns-in-Err-sum_up-clause-ends : goal.returns-in-Err-sum_up-clause-ends
 returns-in-Err-sum_up-clause-ends g c words told faults taken reads asked =
     driven_cut _ _ (replay_of c.in-Ok.accepted) _ (is_made words c.args.number c.args.rows asked told) (accepted_made words c.args.number c.args.rows asked _ reads _ c.in-Ok.ensures.made) refl
     (ap runs_engine asked) c.in-Err-sum_up.status
-    c.in-Err-sum_up.ensures.cut c.in-Err-sum_up.ensures.stopped c.in-Err-sum_up.ensures.unchanged c.in-Err-sum_up.ensures.too_much
+    c.in-Err-sum_up.ensures.cut c.in-Err-sum_up.ensures.stopped c.in-Err-sum_up.ensures.unchanged c.in-Err-sum_up.ensures.garbled c.in-Err-sum_up.ensures.too_much
     (λ tells. (prefix_of_made _ c.args.number c.args.rows _ c.in-Err-sum_up.status _ _ asked (c.in-Err-sum_up.ensures.err tells), c.in-Err-sum_up.ensures.fewer tells))
 
 pub returns-in-Err-sum_up-clause-disk : goal.returns-in-Err-sum_up-clause-disk

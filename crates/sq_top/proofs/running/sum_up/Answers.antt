@@ -6,9 +6,9 @@ use Rattle.sq_top.specs.declared.Status.TheVariants as status
 use Rattle.sq_top.specs.Causes.{AppendsSuch, BeginsSummary}
 use Rattle.sq_top.specs.Driving.{IsCutShort}
 use Rattle.sq_top.specs.Due.{replayed, turns_in}
-use Rattle.sq_top.specs.Stopping.{StopHasCause, is_changed}
+use Rattle.sq_top.specs.Stopping.{StopHasCause, is_changed, is_garbled}
 use Rattle.sq_top.proofs.DrivingLemmas.{if_err, if_err_both, not_too_much}
-use Rattle.sq_top.proofs.StopLemmas.{lost_cut, lost_stop, lost_unchanged, stop_map}
+use Rattle.sq_top.proofs.StopLemmas.{lost_cut, lost_garbled, lost_stop, lost_unchanged, stop_map}
 use Rattle.sq_top.proofs.SummaryLemmas.{summary_cut, summary_ends, summary_waits}
 use Rattle.sq_top.proofs.WritingLemmas.{on_err, on_ok}
 use Rattle.sq_top.proofs.running.sum_up.Goals as goal
@@ -90,6 +90,15 @@ pub returns-in-Ok-count-clause-unchanged : goal.returns-in-Ok-count-clause-uncha
 returns-in-Ok-count-clause-unchanged g c =
     if_err (λ s. (g.D.PageDisk.log c.args.disk.now).honest ≡ true → is_changed s ≡ false) c.write_summary.result c.write_summary.ensures.lost
     (λ s lost is-honest. lost_unchanged _ _ s lost)
+
+pub returns-in-Err-count-clause-garbled : goal.returns-in-Err-count-clause-garbled
+returns-in-Err-count-clause-garbled g c told =
+    (c.in-Err-count.ensures.err (replayed (replay_of c.args.accepted)) c.args.steps.now told (c.in-Ok.ensures.run _ c.args.steps.now)).garbled
+
+pub returns-in-Ok-count-clause-garbled : goal.returns-in-Ok-count-clause-garbled
+returns-in-Ok-count-clause-garbled g c =
+    if_err (λ s. Tells (known (g.D.PageDisk.log c.count.new.disk)) → is_changed s ≡ true → is_garbled s ≡ true) c.write_summary.result c.write_summary.ensures.lost
+    (λ s lost told. lost_garbled _ _ s lost)
 
 pub returns-in-Ok-count-clause-too_much : goal.returns-in-Ok-count-clause-too_much
 returns-in-Ok-count-clause-too_much g c =

@@ -21,7 +21,7 @@ pub returns-in-Err-replay-clause-ends : goal.returns-in-Err-replay-clause-ends
 returns-in-Err-replay-clause-ends g c words asked =
     rw (c.stopped_by-in-Err-replay.ensures.0, c.stopped_by-in-Err-replay.ensures.1)
     (driven_cut _ _ (replay_of c.in-Ok.accepted) _ (is_tap words c.args.asked.now asked) (c.in-Ok.ensures.accepted words asked) c.in-Ok.ensures.no_fault (ap runs_engine asked.2) c.in-Err-replay.status
-    c.in-Err-replay.ensures.cut c.in-Err-replay.ensures.stopped c.in-Err-replay.ensures.unchanged c.in-Err-replay.ensures.too_much
+    c.in-Err-replay.ensures.cut c.in-Err-replay.ensures.stopped c.in-Err-replay.ensures.unchanged c.in-Err-replay.ensures.garbled c.in-Err-replay.ensures.too_much
     (λ tells. (prefix_of_tap _ _ _ _ _ _ _ c.in-Err-replay.status _ _ asked.2 (c.in-Err-replay.ensures.err tells), c.in-Err-replay.ensures.fewer tells)))
 
 pub returns-in-Err-replay-clause-disk : goal.returns-in-Err-replay-clause-disk
