@@ -50,7 +50,7 @@ stepped_none pages e sound together = record {
 }
 
 -- behind events that were shown
-stepped_behind : (was is : Option Pages) (from to : Flow Actor) (es xs : List Event) → Stepped actors IsValid was is from to [] xs
+pub stepped_behind : (was is : Option Pages) (from to : Flow Actor) (es xs : List Event) → Stepped actors IsValid was is from to [] xs
     → Stepped actors IsValid was is from to es (es ++ xs)
 stepped_behind was is from to es xs s = record {
   flow_after = s.flow_after;

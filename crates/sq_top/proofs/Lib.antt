@@ -9,6 +9,7 @@ pub mod HistoryLemmas
 pub mod RestLemmas
 pub mod DrivingLemmas
 pub mod LeftLemmas
+pub mod FailLemmas
 pub mod ReplayLemmas
 mod Rows
 pub mod SortedLines

@@ -8,6 +8,7 @@ pub mod Summaries
 pub mod Answers
 pub mod Writing
 pub mod Stopping
+pub mod Failing
 pub mod Driving
 pub mod Counting
 pub mod Recorded

@@ -13,6 +13,7 @@ ghost use Rattle.sq_core.specs.Runs.{IsRun, IsSoundEngine};
 ghost use Rattle.sq_top.specs.Writing.{IsLost, Moves};
 ghost use Rattle.sq_top.specs.Driving.{GoesOn, IsCutShort, IsDriven, IsEventAt, IsHalted, ShowsOn, Stops, StopsOn, WritesFirst, WritesRest, history_text};
 ghost use Rattle.sq_top.specs.Stopping.{StopHasCause, status_of};
+ghost use Rattle.sq_top.specs.Failing.{CameTo};
 
 use crate::Status;
 use crate::writing::{send, send_piece};
@@ -112,7 +113,8 @@ fn step_once<D: PageDisk, S: Sink, L: Ledger>(
     ensures left { OnOk result (ShowsOn (known (D.log disk.old)) (known (D.log disk.new)) engine.old engine.new (S.written out.old) held.old.text.items (S.written out.new) held.new.text.items) }
     ensures first { OnErr result (StopsOn (known (D.log disk.old)) (known (D.log disk.new)) engine.old (S.written out.old) held.old.text.items (S.written out.new)) }
     ensures cut { IfErr result (IsCutShort (S.faults out.old) (S.faults out.new)) }
-    ensures stopped { IfErr result (StopHasCause (λ e. e.network ≡ engine.old.network) (D.log disk.old) (D.log disk.new) (D.faults disk.old) (D.faults disk.new)) }
+    ensures stopped { IfErr result (λ s. StopHasCause (λ e. (e ≡ engine.new) × CameTo (D.log disk.old) (D.log disk.new) engine.old s e)
+        (D.log disk.old) (D.log disk.new) (D.faults disk.old) (D.faults disk.new) s) }
     ensures faults { (D.faults disk.old ≤ D.faults disk.new) × (S.faults out.old ≤ S.faults out.new) }
 {
     let pick = policy.next(engine.ready(), engine.waits());
@@ -146,7 +148,8 @@ fn step_to_end<D: PageDisk, S: Sink, L: Ledger>(
     ensures rest { OnOk result (WritesRest (known (D.log disk.old)) (known (D.log disk.new)) engine.old engine.new (S.written out.old) (S.written out.new)) }
     ensures first { OnErr result (WritesFirst (known (D.log disk.old)) (known (D.log disk.new)) engine.old (S.written out.old) (S.written out.new)) }
     ensures cut { IfErr result (IsCutShort (S.faults out.old) (S.faults out.new)) }
-    ensures stopped { IfErr result (StopHasCause (λ e. e.network ≡ engine.old.network) (D.log disk.old) (D.log disk.new) (D.faults disk.old) (D.faults disk.new)) }
+    ensures stopped { IfErr result (λ s. StopHasCause (λ e. (e ≡ engine.new) × CameTo (D.log disk.old) (D.log disk.new) engine.old s e)
+        (D.log disk.old) (D.log disk.new) (D.faults disk.old) (D.faults disk.new) s) }
     ensures faults { (D.faults disk.old ≤ D.faults disk.new) × (S.faults out.old ≤ S.faults out.new) }
     ensures later { IsLater (D.log disk.old) (D.log disk.new) }
 {
@@ -197,7 +200,8 @@ pub fn drive<D: PageDisk, S: Sink, L: Ledger>(
     ensures rest { IfOk result (λ e. WritesRest (known (D.log disk.old)) (known (D.log disk.new)) engine e (S.written out.old) (S.written out.new)) }
     ensures first { OnErr result (WritesFirst (known (D.log disk.old)) (known (D.log disk.new)) engine (S.written out.old) (S.written out.new)) }
     ensures cut { IfErr result (IsCutShort (S.faults out.old) (S.faults out.new)) }
-    ensures stopped { IfErr result (StopHasCause (λ e. e.network ≡ engine.network) (D.log disk.old) (D.log disk.new) (D.faults disk.old) (D.faults disk.new)) }
+    ensures stopped { IfErr result (λ s. StopHasCause (CameTo (D.log disk.old) (D.log disk.new) engine s)
+        (D.log disk.old) (D.log disk.new) (D.faults disk.old) (D.faults disk.new) s) }
     ensures faults { (D.faults disk.old ≤ D.faults disk.new) × (S.faults out.old ≤ S.faults out.new) }
     ensures later { IsLater (D.log disk.old) (D.log disk.new) }
 {

@@ -1,10 +1,12 @@
-use Rattle.std.proofs.Common.{◌≡◌, arith, subst, sym}
+use Rattle.std.proofs.Common.{◌≡◌, arith, refl, subst, sym}
 use Rattle.sq_pool.specs.Trust.{known}
 use Rattle.sq_top.specs.Driving.{IsCutShort, Stops}
+use Rattle.sq_top.specs.Failing.{CameTo}
 use Rattle.sq_top.specs.Stopping.{StopHasCause}
 use Rattle.sq_top.proofs.WritingLemmas.{on_err, on_ok}
 use Rattle.sq_top.proofs.LeftLemmas.{step_fails, step_loses, step_shows}
 use Rattle.sq_top.proofs.DrivingLemmas.{if_err, if_err_both, step_goes, step_lines, step_lost, step_stops}
+use Rattle.sq_top.proofs.FailLemmas.{came_at_once}
 use Rattle.sq_top.proofs.StopLemmas.{lost_cut, last_feed, lost_stop, step_cause, step_cut}
 use Rattle.sq_top.proofs.driving.step_once.Goals as goal
 
@@ -33,8 +35,11 @@ returns-in-Err-clause-cut g c = subst (IsCutShort _ _) (sym c.status_of.ensures)
 
 pub returns-in-Err-clause-stopped : goal.returns-in-Err-clause-stopped
 returns-in-Err-clause-stopped g c =
-    subst (StopHasCause (λ e. e.network ≡ c.args.engine.now.network) _ _ _ _) (sym c.status_of.ensures)
-    (step_cause _ c.step.new.self _ _ _ _ c.in-Err.e c.step.ensures.network c.in-Err.ensures.failed c.in-Err.ensures.cause (last_feed _ _ _ _ _ _ c.in-Err.ensures.feed))
+    subst
+    (λ s. StopHasCause (λ e. (e ≡ c.step.new.self) × CameTo (g.D.PageDisk.log c.args.disk.now) (g.D.PageDisk.log c.step.new.disk) c.args.engine.now s e)
+    (g.D.PageDisk.log c.args.disk.now) (g.D.PageDisk.log c.step.new.disk) (g.D.PageDisk.faults c.args.disk.now) (g.D.PageDisk.faults c.step.new.disk) s) (sym c.status_of.ensures)
+    (step_cause _ c.step.new.self _ _ _ _ c.in-Err.e (refl, came_at_once _ _ _ _ _ c.clear.ensures.items _ c.step.ensures.network c.in-Err.ensures.feed) c.in-Err.ensures.failed c.in-Err.ensures.cause
+    (last_feed _ _ _ _ _ _ c.in-Err.ensures.feed))
 
 pub returns-in-Ok-clause-cut : goal.returns-in-Ok-clause-cut
 returns-in-Ok-clause-cut g c =
@@ -43,7 +48,9 @@ returns-in-Ok-clause-cut g c =
 
 pub returns-in-Ok-clause-stopped : goal.returns-in-Ok-clause-stopped
 returns-in-Ok-clause-stopped g c =
-    if_err (StopHasCause (λ e. e.network ≡ c.args.engine.now.network) (g.D.PageDisk.log c.args.disk.now) (g.D.PageDisk.log c.step.new.disk) (g.D.PageDisk.faults c.args.disk.now) (g.D.PageDisk.faults c.step.new.disk)) c.show_events.result
+    if_err
+    (λ s. StopHasCause (λ e. (e ≡ c.step.new.self) × CameTo (g.D.PageDisk.log c.args.disk.now) (g.D.PageDisk.log c.step.new.disk) c.args.engine.now s e)
+    (g.D.PageDisk.log c.args.disk.now) (g.D.PageDisk.log c.step.new.disk) (g.D.PageDisk.faults c.args.disk.now) (g.D.PageDisk.faults c.step.new.disk) s) c.show_events.result
     c.show_events.ensures.lost (λ s lost. lost_stop _ _ _ _ _ _ _ s lost)
 
 pub returns-in-Ok-clause-left : goal.returns-in-Ok-clause-left

@@ -4,6 +4,7 @@ use Rattle.sq_pool.proofs.TrustLemmas.{IsLater-refl, IsLater-trans}
 use Rattle.sq_top.proofs.DrivingLemmas.{drive_ends, drive_lost, drive_stops, goes_none, goes_then}
 use Rattle.sq_top.proofs.LeftLemmas.{shows_first, shows_lost, shows_none, shows_rest, shows_then, stops_then}
 use Rattle.sq_flow.proofs.CauseLemmas.{page-since}
+use Rattle.sq_top.proofs.FailLemmas.{came_then}
 use Rattle.sq_top.proofs.StopLemmas.{cut_later, lost_cut, lost_stop, stop_map}
 use Rattle.sq_top.proofs.StoppedLemmas.{rose_later}
 use Rattle.sq_top.proofs.driving.step_to_end.Goals as goal
@@ -47,7 +48,7 @@ returns-in-Err-clause-cut g c = cut_later _ _ _ _ c.steps.invariant.sink_faults 
 pub returns-in-Err-clause-stopped : goal.returns-in-Err-clause-stopped
 returns-in-Err-clause-stopped g c =
     let before = c.steps.invariant in
-    stop_map _ _ _ _ _ _ _ _ _ _ c.in-Err.status (rose_later 1 _ _ _ before.disk_faults) (λ queues e. page-since queues _ _ _ e before.later) (λ e same. same ∙ before.network) c.in-Err.ensures.stopped
+    stop_map _ _ _ _ _ _ _ _ _ _ c.in-Err.status (rose_later 1 _ _ _ before.disk_faults) (λ queues e. page-since queues _ _ _ e before.later) (λ e both. (both.0, came_then _ _ _ _ _ _ _ _ _ _ _ before.later before.left before.network both.1)) c.in-Err.ensures.stopped
 
 pub returns-clause-cut : goal.returns-clause-cut
 returns-clause-cut g c = lost_cut _ _ _ _ c.steps.invariant.sink_faults c.in-Err-send.ensures.lost

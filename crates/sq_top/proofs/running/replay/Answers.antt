@@ -74,7 +74,7 @@ returns-in-Err-drive-clause-unchanged g c is-honest =
 
 pub returns-in-Err-drive-clause-stopped : goal.returns-in-Err-drive-clause-stopped
 returns-in-Err-drive-clause-stopped g c =
-    stop_map _ _ _ _ _ _ _ _ _ _ c.in-Err-drive.status (λ rose. rose) (λ queues e back. back) (λ e same. same ∙ (c.in-Ok.ensures.run (known (g.D.PageDisk.log c.args.disk.now)) c.args.steps.now).network) c.in-Err-drive.ensures.stopped
+    stop_map _ _ _ _ _ _ _ _ _ _ c.in-Err-drive.status (λ rose. rose) (λ queues e back. back) (λ e came. came.network ∙ (c.in-Ok.ensures.run (known (g.D.PageDisk.log c.args.disk.now)) c.args.steps.now).network) c.in-Err-drive.ensures.stopped
 
 pub returns-in-Ok-drive-clause-cut : goal.returns-in-Ok-drive-clause-cut
 returns-in-Ok-drive-clause-cut g c =
