@@ -47,11 +47,11 @@ total_split number (suc n) (e ∷ es) = (let s = total_split number n es in omeg
 -- none is after the last
 pub all_up_to : {M : Type 0} (n : ℕ) (es : List (ℕ × M)) → Rises es → ((d : ℕ × M) → 0 < length es → (get_or es (length es - 1) d).0 ≤ n) → AllByRecursion (λ e. e.0 ≤ n) es
 all_up_to n [] up last = tt
-all_up_to n (e ∷ []) up last = (last e (omega arith), tt)
-all_up_to {M} n (e ∷ h ∷ es) up last = (let low = up.0.0 in let le = rest.0 in omega (arith, low, le), rest)
-  where
-    rest : AllByRecursion (λ (e : ℕ × M). e.0 ≤ n) (h ∷ es)
-    rest = all_up_to n (h ∷ es) up.1 (λ d some. last d (omega arith))
+all_up_to n (e ∷ []) up last = (let z : length (e ∷ []) - 1 ≡ 0 = omega arith in subst (λ k. (get_or (e ∷ []) k e).0 ≤ n) z (last e (omega arith)), tt)
+all_up_to {M} n (e ∷ h ∷ es) up last =
+    let next : length (e ∷ h ∷ es) - 1 ≡ suc (length (h ∷ es) - 1) = omega arith in
+    let rest = all_up_to n (h ∷ es) up.1 (λ (d : ℕ × M) (some : 0 < length (h ∷ es)). subst (λ k. (get_or (e ∷ h ∷ es) k d).0 ≤ n) next (last d (omega arith))) in
+    (let low = up.0.0 in let le = rest.0 in omega (arith, low, le), rest)
 
 -- a state that is added to the last pane or behind it changes nothing before the last one
 module _ {M : Type 0} (none : M) (join : M → M → M) (n : ℕ) (u : M) where
@@ -116,21 +116,21 @@ pub some_before : {M : Type 0} (n : ℕ) (es : List (ℕ × M)) → begins_befor
 some_before n [] is = cc
 some_before n (e ∷ es) is = omega arith
 
+kept_all : {M : Type 0} (n : ℕ) (es : List (ℕ × M)) → AllByRecursion (λ h. n ≤ h.0) es → filter (λ e. nat_le n e.0) es ≡ es
+kept_all n [] all = refl
+kept_all n (e ∷ es) all = ap (λ b. cond b (e ∷ filter (λ e. nat_le n e.0) es) (filter (λ e. nat_le n e.0) es)) (yes n e.0 all.0) ∙ ap (λ l. e ∷ l) (kept_all n es all.1)
+  where
+    yes : (a b : ℕ) → a ≤ b → nat_le a b ≡ true
+    yes a b le = grind (arith, tests)
+
+at_least : (a b : ℕ) → nat_lt b a ≡ false → a ≤ b
+at_least a b no = grind (arith, tests)
+
 pub none_gone : {M : Type 0} (n : ℕ) (es : List (ℕ × M)) → Rises es → begins_before n es ≡ false → filter (λ e. nat_le n e.0) es ≡ es
 none_gone n [] up is = refl
-none_gone n (e ∷ es) up is =
-    let yes : nat_le n e.0 ≡ true = grind (arith, tests) in
-    ap (λ b. cond b (e ∷ filter (λ e. nat_le n e.0) es) (filter (λ e. nat_le n e.0) es)) yes ∙ ap (λ l. e ∷ l) (rest es up.1 up.0)
-  where
-    low : n ≤ e.0
-    low = grind (arith, tests)
-
-    later : (h : ℕ × M) → e.0 < h.0 → nat_lt h.0 n ≡ false
-    later h lt = grind (arith, tests)
-
-    rest : (hs : List (ℕ × M)) → Rises hs → AllByRecursion (λ h. e.0 < h.0) hs → filter (λ e. nat_le n e.0) hs ≡ hs
-    rest [] up all = none_gone n [] tt refl
-    rest (h ∷ hs) up all = none_gone n (h ∷ hs) up (later h all.0)
+none_gone {M} n (e ∷ es) up is =
+    let low = at_least n e.0 is in
+    kept_all n (e ∷ es) (low, all_mapped (λ (h : ℕ × M). e.0 < h.0) (λ (h : ℕ × M). n ≤ h.0) (λ h lt. omega (arith, low, lt)) es up.0)
 
 -- the next of a run
 pub run_next : {A : Type 0} (xs : List A) (i to : ℕ) (x : A) → i < to → i < length xs → x ≡ get_or xs i x → take (to - i) (drop i xs) ≡ x ∷ take (to - (i + 1)) (drop (i + 1) xs)
@@ -142,6 +142,10 @@ run_next xs i to x lt inside is =
 pub first_gone : {M : Type 0} (size : ℕ) (P : List (ℕ × M) → M → Type 0) (bs : List M) (es : List (ℕ × M)) → 1 ≤ size → AreBlocks size P bs es → AreBlocks size P (remove bs 0) (drop (size - 1) (drop 1 es))
 first_gone size P [] es some is = tt
 first_gone size P (b ∷ bs) es some is = subst (AreBlocks size P bs) (drop_add 1 (size - 1) size es (omega (arith, some))) is.2
+
+pub empty_blocks : {M : Type 0} (size : ℕ) (P : List (ℕ × M) → M → Type 0) (bs : List M) (es : List (ℕ × M)) → length bs ≡ 0 → AreBlocks size P bs es
+empty_blocks size P [] es none = tt
+empty_blocks size P (b ∷ bs) es none = absurd (omega (arith, none))
 
 pub no_blocks : {M : Type 0} (size : ℕ) (P : List (ℕ × M) → M → Type 0) (bs : List M) (es : List (ℕ × M)) → bs ≡ [] → AreBlocks size P bs es
 no_blocks size P bs es none = subst (λ (l : List _). AreBlocks size P l es) (sym none) tt
@@ -163,7 +167,10 @@ module _ {M : Type 0} (size : ℕ) (P : List (ℕ × M) → M → Type 0) where
       (at.0, at.1, blocks_more cs b (drop size es) (length cs * size) refl (subst (λ (l : List (ℕ × M)). size < length l) past lt) (subst (λ (l : List (ℕ × M)). P (take size l) b) past is) at.2)
 
 -- what stands between two states that a window covers is covered
-module _ {M : Type 0} (w : WindowSpec) (width start : ℕ) where
+times-le : (a b c : ℕ) → a < b → a * c ≤ b * c
+times-le a b c h = grind arith
+
+module _ (w : WindowSpec) (width start : ℕ) where
   abbrev low : ℕ
   low = start + shift_of w width
 
@@ -185,23 +192,20 @@ module _ {M : Type 0} (w : WindowSpec) (width start : ℕ) where
       other : (a b c : ℕ) → (nat_le a b && nat_lt b c) ≡ true → b < c
       other a b c x = grind (arith, tests)
 
-  times-le : (a b c : ℕ) → a < b → a * c ≤ b * c
-  times-le a b c h = grind arith
-
-  up-to : (n : ℕ) (es : List (ℕ × M)) (last : ℕ × M) → Rises es → n < length es → last ≡ get_or es n last → within w width start last.0 ≡ true → AllByRecursion (λ e. low ≤ e.0 * width) es
+  up-to : {M : Type 0} (n : ℕ) (es : List (ℕ × M)) (last : ℕ × M) → Rises es → n < length es → last ≡ get_or es n last → within w width start last.0 ≡ true → AllByRecursion (λ e. low ≤ e.0 * width) es
       → AllByRecursion (λ e. within w width start e.0 ≡ true) (take (suc n) es)
   up-to n [] last up lt is covered lows = absurd (omega (arith, lt))
-  up-to zero (e ∷ es) last up lt is covered lows = (subst (λ (z : ℕ × M). within w width start z.0 ≡ true) is covered, tt)
-  up-to (suc n) (e ∷ es) last up lt is covered lows =
+  up-to {M} zero (e ∷ es) last up lt is covered lows = (subst (λ (z : ℕ × M). within w width start z.0 ≡ true) is covered, tt)
+  up-to {M} (suc n) (e ∷ es) last up lt is covered lows =
       let less : e.0 < last.0 = subst (λ (z : ℕ × M). e.0 < z.0) (sym is) (all-at (λ (h : ℕ × M). e.0 < h.0) es n last up.0 (omega (arith, lt))) in
       let le = times-le e.0 last.0 width less in
       let high = within-high last.0 covered in
       (within-both e.0 lows.0 (omega (arith, le, high)), up-to n es last up.1 (omega (arith, lt)) is covered lows.1)
 
-  pub between : (n : ℕ) (es : List (ℕ × M)) (first last : ℕ × M) → Rises es → n < length es → first ≡ get_or es 0 first → last ≡ get_or es n last → within w width start first.0 ≡ true → within w width start last.0 ≡ true
+  pub between : {M : Type 0} (n : ℕ) (es : List (ℕ × M)) (first last : ℕ × M) → Rises es → n < length es → first ≡ get_or es 0 first → last ≡ get_or es n last → within w width start first.0 ≡ true → within w width start last.0 ≡ true
       → AllByRecursion (λ e. within w width start e.0 ≡ true) (take (suc n) es)
   between n [] first last up lt at is a b = absurd (omega (arith, lt))
-  between n (e ∷ es) first last up lt at is a b = up-to n (e ∷ es) last up lt is b (own, all_mapped (λ (h : ℕ × M). e.0 < h.0) (λ (h : ℕ × M). low ≤ h.0 * width) later es up.0)
+  between {M} n (e ∷ es) first last up lt at is a b = up-to n (e ∷ es) last up lt is b (own, all_mapped (λ (h : ℕ × M). e.0 < h.0) (λ (h : ℕ × M). low ≤ h.0 * width) later es up.0)
     where
       own : low ≤ e.0 * width
       own = within-low e.0 (subst (λ (z : ℕ × M). within w width start z.0 ≡ true) at a)

@@ -12,8 +12,8 @@ loop-line-preserved g c =
       blocks = λ is. c.drop_first.ensures.blocks (c.loop-line.invariant.blocks is);
     }
 
-pub loop-line-decreases : goal.loop-line-decreases
-loop-line-decreases g c =
+pub loop-line-smaller : goal.loop-line-smaller
+loop-line-smaller g c =
     let es = c.loop-line.line.states.items in
     let some = some_before c.args.pane es (sym c.begins_before.ensures ∙ c.loop-line-test.true) in
     let long = length-drop 1 es in

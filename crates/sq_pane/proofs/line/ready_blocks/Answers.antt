@@ -1,16 +1,23 @@
-use Rattle.std.proofs.Common.{◌≡◌, ℕ, ◌≤◌, List, drop, sym, subst, arith}
+use Rattle.std.proofs.Common.{◌≡◌, ℕ, ◌≤◌, List, drop, sym, subst, nat_cmp}
 use Rattle.std.specs.List.{AllByRecursion}
+use Rattle.sq_aggfn.specs.Keyed.{added}
 use Rattle.sq_pane.specs.Blocks.{IsJoin, AreBlocks}
-use Rattle.sq_pane.proofs.BlockLemmas.{no_blocks, all_up_to, blocks_added}
+use Rattle.sq_pane.proofs.BlockLemmas.{all_up_to, blocks_added}
 use Rattle.sq_pane.proofs.line.ready_blocks.Goals as goal
 
 pub returns-then-ends_past-clause-blocks : goal.returns-then-ends_past-clause-blocks
 returns-then-ends_past-clause-blocks g c =
-    λ is. no_blocks 64 _ _ _ c.clear.ensures.items
+    let fold = c.args.fold.now in
+    let join = IsJoin (g.F.Fold.none fold) (g.F.Fold.joined fold) (g.F.Fold.made fold) (g.F.Fold.number fold) in
+    let line = c.args.line.now in
+    λ is. subst (λ l. AreBlocks 64 join l (drop line.ahead line.states.items)) (sym c.clear.ensures.items) tt
 
 pub returns-then-ends_past-clause-added : goal.returns-then-ends_past-clause-added
 returns-then-ends_past-clause-added g c =
-    λ u is. no_blocks 64 _ _ _ c.clear.ensures.items
+    let fold = c.args.fold.now in
+    let join = IsJoin (g.F.Fold.none fold) (g.F.Fold.joined fold) (g.F.Fold.made fold) (g.F.Fold.number fold) in
+    let line = c.args.line.now in
+    λ u is. subst (λ l. AreBlocks 64 join l (drop line.ahead (added nat_cmp (g.F.Fold.none fold) (g.F.Fold.joined fold) c.args.pane u line.states.items))) (sym c.clear.ensures.items) tt
 
 pub returns-clause-added : goal.returns-clause-added
 returns-clause-added g c =

@@ -13,8 +13,8 @@ joined_if-requires-clause-few g c =
     let few = c.requires.few in
     omega (arith, run, count, few)
 
-pub returns-then-first-clause-value : goal.returns-then-first-clause-value
-returns-then-first-clause-value g c =
+pub returns-then-last-clause-value : goal.returns-then-last-clause-value
+returns-then-last-clause-value g c =
     let fold = c.args.fold.now in
     let laws = g.met.F.Fold in
     let es = c.args.states.now.items in
@@ -29,8 +29,8 @@ returns-then-first-clause-value g c =
     c.requires.rises c.requires.room all so c.index.ensures c.index-2.ensures c.if-first.true c.if-last.true c.requires.block.value)
     c.joined_if.ensures.value
 
-pub returns-then-first-clause-few : goal.returns-then-first-clause-few
-returns-then-first-clause-few g c =
+pub returns-then-last-clause-few : goal.returns-then-last-clause-few
+returns-then-last-clause-few g c =
     let number = g.F.Fold.number c.args.fold.now in
     let es = c.args.states.now.items in
     let at : ℕ = c.args.at in
