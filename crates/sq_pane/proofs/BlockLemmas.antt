@@ -124,7 +124,7 @@ kept_all n (e ∷ es) all = ap (λ b. cond b (e ∷ filter (λ e. nat_le n e.0) 
     yes a b le = grind (arith, tests)
 
 at_least : (a b : ℕ) → nat_lt b a ≡ false → a ≤ b
-at_least a b no = grind (arith, tests)
+at_least a b out = grind (arith, tests)
 
 pub none_gone : {M : Type 0} (n : ℕ) (es : List (ℕ × M)) → Rises es → begins_before n es ≡ false → filter (λ e. nat_le n e.0) es ≡ es
 none_gone n [] up is = refl

@@ -33,13 +33,13 @@ loop-k-preserved g c =
     let parts = next_block 64 join line.blocks.items c.loop-k.k c.index-block.result.now (drop at es) (omega arith) c.index-block.ensures c.loop-k.invariant.blocks in
     let room = parts.0 in
     let long = length-drop at es in
-    let less = c.in_ok-with_block.ensures.few in
+    let less = c.in_ok-joined-2.ensures.few in
     let few = c.loop-k.invariant.few in
     record {
       within = omega (arith, room, long);
       blocks = subst (AreBlocks 64 join (drop (c.loop-k.k + 1) line.blocks.items)) (sym (drop_add at 64 (at + 64) es refl)) parts.2;
-      value = c.in_ok-with_block.ensures.value ∙ c.loop-k.invariant.value;
-      made = c.in_ok-with_block.ensures.made;
+      value = c.in_ok-joined-2.ensures.value ∙ c.loop-k.invariant.value;
+      made = c.in_ok-joined-2.ensures.made;
       few = omega (arith, less, few);
     }
 

@@ -1,4 +1,4 @@
-use Rattle.std.proofs.Common.{◌≡◌, ℕ, ◌+◌, ◌<◌, ◌≤◌, take, drop, refl, ap, ◌∙◌, arith}
+use Rattle.std.proofs.Common.{◌≡◌, ℕ, ◌+◌, ◌<◌, ◌≤◌, take, drop, refl, ap, sym, ◌∙◌, arith}
 use Rattle.std.proofs.lemmas.Result.{IfOk-weaker}
 use Rattle.sq_pane.specs.Panes.{joined_within, total}
 use Rattle.sq_pane.proofs.BlockLemmas.{drop_add, all_mapped, total_split, block_covered, shaped_if}
@@ -26,7 +26,7 @@ returns-then-last-clause-value g c =
     IfOk-weaker c.joined_if.result _ _
     (λ o e. ap (λ z. joined_within none join c.args.window c.args.width c.args.start z (drop (at + 64) es)) e
     ∙ block_covered (g.F.Fold.shaped fold) none join (laws.shaped_joined fold) (laws.associates fold) (laws.none_first fold) c.args.window c.args.width c.args.start 63 at c.args.joined es c.index.result.now c.index-2.result.now c.args.block.now
-    c.requires.rises c.requires.room all so c.index.ensures c.index-2.ensures c.if-first.true c.if-last.true c.requires.block.value)
+    c.requires.rises c.requires.room all so c.index.ensures c.index-2.ensures (sym c.is_within-first.ensures ∙ c.if-first.true) (sym c.is_within-last.ensures ∙ c.if-last.true) c.requires.block.value)
     c.joined_if.ensures.value
 
 pub returns-then-last-clause-few : goal.returns-then-last-clause-few
