@@ -1,5 +1,5 @@
-use Rattle.std.proofs.Common.{◌≡◌, ℕ, ◌+◌, ◌-◌, ◌<◌, ◌≤◌, ◌⊎◌, inl, inr, List, length, drop, get_or, set, ap, sym, subst, ◌∙◌, arith}
-use Rattle.std.specs.List.{AllByRecursion, insert}
+use Rattle.std.proofs.Common.{◌≡◌, ℕ, ◌+◌, ◌-◌, ◌<◌, ◌≤◌, ◌⊎◌, inl, inr, length, get_or, set, ap, sym, subst, ◌∙◌, arith}
+use Rattle.std.specs.List.{insert}
 use Rattle.std.proofs.lemmas.Result.{on_ok_weaker, on_err_weaker}
 use Rattle.sq_pane.specs.Panes.{Rises, total, AllAreMade}
 use Rattle.sq_pane.proofs.LineLemmas.{same_at, set_same, rises_set, rises_put, made_set, made_insert, made_at, total_at, total_set, total_insert, set_is_put, insert_is_put}

@@ -1,4 +1,4 @@
-use Rattle.std.proofs.Common.{◌≡◌, ℕ, List, drop, sym, subst}
+use Rattle.std.proofs.Common.{ℕ, List, drop, sym, subst}
 use Rattle.sq_pane.specs.Blocks.{IsJoin, AreBlocks}
 use Rattle.sq_pane.proofs.BlockLemmas.{both_ends}
 use Rattle.sq_pane.proofs.line.add_to_line.Goals as goal

@@ -1,4 +1,4 @@
-use Rattle.std.proofs.Common.{◌≡◌, ℕ, ◌+◌, ◌-◌, ◌<◌, ◌∷◌, length, take, drop, ap, ap₂, sym, ◌∙◌, arith}
+use Rattle.std.proofs.Common.{◌≡◌, ℕ, ◌+◌, ◌-◌, ◌<◌, take, drop, ap, ap₂, sym, ◌∙◌, arith}
 use Rattle.sq_pane.specs.Panes.{total}
 use Rattle.sq_pane.specs.Blocks.{joined_onto}
 use Rattle.sq_pane.proofs.LineLemmas.{made_at}

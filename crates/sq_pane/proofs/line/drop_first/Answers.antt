@@ -1,8 +1,7 @@
-use Rattle.std.proofs.Common.{◌≡◌, ℕ, ◌-◌, List, length, drop, sym, subst, ◌∙◌, ap, arith, tests}
+use Rattle.std.proofs.Common.{◌≡◌, ℕ, ◌-◌, List, length, drop, sym, subst, arith, tests}
 use Rattle.std.specs.List.{remove}
-use Rattle.sq_pane.specs.Panes.{Rises}
 use Rattle.sq_pane.specs.Blocks.{IsJoin, AreBlocks}
-use Rattle.sq_pane.proofs.BlockLemmas.{drop_add, rises_drop, first_gone, empty_blocks}
+use Rattle.sq_pane.proofs.BlockLemmas.{drop_add, first_gone, empty_blocks}
 use Rattle.sq_pane.proofs.line.drop_first.Goals as goal
 
 pub returns-then-line-gt0-clause-blocks : goal.returns-then-line-gt0-clause-blocks

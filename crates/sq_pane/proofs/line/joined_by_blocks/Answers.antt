@@ -1,7 +1,7 @@
-use Rattle.std.proofs.Common.{◌≡◌, ℕ, ◌+◌, ◌<◌, ◌≤◌, ◌∷◌, List, length, length-drop, drop, refl, ap, sym, subst, ◌∙◌, arith}
-use Rattle.std.proofs.lemmas.List.{drop_more, drop_all}
+use Rattle.std.proofs.Common.{ℕ, ◌+◌, length-drop, drop, refl, ap, sym, subst, ◌∙◌, arith}
+use Rattle.std.proofs.lemmas.List.{drop_all}
 use Rattle.std.proofs.lemmas.Result.{IfOk-weaker}
-use Rattle.sq_pane.specs.Panes.{joined_within, total}
+use Rattle.sq_pane.specs.Panes.{joined_within}
 use Rattle.sq_pane.specs.Blocks.{IsJoin, AreBlocks}
 use Rattle.sq_pane.proofs.BlockLemmas.{drop_add, next_block}
 use Rattle.sq_pane.proofs.line.joined_by_blocks.Goals as goal

@@ -1,4 +1,4 @@
-use Rattle.std.proofs.Common.{◌≡◌, ℕ, ◌≤◌, List, drop, sym, subst, nat_cmp}
+use Rattle.std.proofs.Common.{ℕ, ◌≤◌, List, drop, sym, subst, nat_cmp}
 use Rattle.std.specs.List.{AllByRecursion}
 use Rattle.sq_aggfn.specs.Keyed.{added}
 use Rattle.sq_pane.specs.Blocks.{IsJoin, AreBlocks}
