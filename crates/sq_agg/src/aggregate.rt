@@ -12,7 +12,8 @@ ghost use Rattle.sq_oper.specs.Order.{IsFuture, time_of};
 ghost use Rattle.sq_oper.specs.Streams.{things, tuples_of, at_zero};
 ghost use Rattle.sq_tagged.specs.Tagged.{spread_of, tagged_of};
 ghost use Rattle.sq_tagged.specs.Boxes.{aggregate_tagged};
-ghost use Rattle.sq_pane.specs.States.{states_of};
+ghost use Rattle.sq_pane.specs.Blocks.{IsJoin};
+ghost use Rattle.sq_pane.specs.States.{states_of, HaveBlocks};
 ghost use Rattle.sq_agg.specs.Positions.{open_at};
 ghost use Rattle.sq_agg.specs.Held.{IsFirstEnd, KeepsNear, HoldsPanes, MarksWait, OnlyOpen, aggregate_rest, bounds_of, folding_of, makes_result, takes_marks_at};
 
@@ -105,7 +106,8 @@ impl<F: Fold + Drop> Operator for AggregateBox<F> {
     ghost valid = { λ s. IsWindow s.panes.window × (time_of s.tally.place < 2 ^ 40) × (IsGcd s.panes.window.size s.panes.window.advance s.panes.width × (1 ≤ s.panes.width))
         × HoldsPanes (F.made s.panes.fold) (F.number s.panes.fold) s.panes.window s.panes.width (F.width s.panes.fold) s.tally.taken s.tally.place (states_of s.panes.held.entries)
         × (s.tally.taken < 2 ^ 62) × (s.tally.running ≡ false → (states_of s.panes.held.entries) ≡ []) × MarksWait s.panes.window.size (time_of s.tally.place) (bounds_of s.waiting).waiting
-        × (s.time ≡ time_of s.tally.place) × IsFirstEnd s.panes.window s.time s.ends × KeepsNear s.panes.window s.panes.width s.ends (states_of s.panes.held.entries) };
+        × (s.time ≡ time_of s.tally.place) × IsFirstEnd s.panes.window s.time s.ends × KeepsNear s.panes.window s.panes.width s.ends (states_of s.panes.held.entries)
+        × HaveBlocks (IsJoin (F.none s.panes.fold) (F.joined s.panes.fold) (F.made s.panes.fold) (F.number s.panes.fold)) s.panes.held.entries };
 
     ghost running = { λ s. s.tally.running };
 

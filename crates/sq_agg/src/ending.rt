@@ -7,7 +7,8 @@ ghost use Rattle.sq_aggfn.specs.Windows.{IsWindow, start_of};
 ghost use Rattle.sq_oper.specs.Given.{given, ItemsSound};
 ghost use Rattle.sq_oper.specs.Streams.{at_zero};
 ghost use Rattle.sq_pane.specs.Panes.{shift_of, total, AllAreMade};
-ghost use Rattle.sq_pane.specs.States.{states_of};
+ghost use Rattle.sq_pane.specs.Blocks.{IsJoin};
+ghost use Rattle.sq_pane.specs.States.{states_of, HaveBlocks};
 ghost use Rattle.sq_agg.specs.Positions.{open_at};
 ghost use Rattle.sq_agg.specs.Held.{FitsResult, IsFirstEnd, IsSoundMark, MarksWait, bounds_of, closed_at, due_before, ended, folding_of, told_open};
 
@@ -33,6 +34,7 @@ fn give_window<F: Fold + Drop>(
     requires narrow { panes.now.width ≤ panes.now.window.size }
     requires tick { start_of panes.now.window k < 2 ^ 40 }
     requires ticks { AllByRecursion (λ e. e.0.0 * panes.now.width < 2 ^ 64) (states_of panes.now.held.entries) }
+    requires blocks { HaveBlocks (IsJoin (F.none panes.now.fold) (F.joined panes.now.fold) (F.made panes.now.fold) (F.number panes.now.fold)) panes.now.held.entries }
     requires made { AllAreMade (F.made panes.now.fold) (states_of panes.now.held.entries) }
     requires few { total (F.number panes.now.fold) (states_of panes.now.held.entries) < 2 ^ 62 }
     requires fit { AllByRecursion (λ e. FitsResult (F.width panes.now.fold) e.0.1) (states_of panes.now.held.entries) }
@@ -70,6 +72,7 @@ fn give_windows<F: Fold + Drop>(
     requires tick { (k : ℕ) → k < end → start_of panes.now.window k < 2 ^ 40 }
     requires before { (k : ℕ) → k < end → start_of panes.now.window k < mid }
     requires ticks { AllByRecursion (λ e. e.0.0 * panes.now.width < 2 ^ 64) (states_of panes.now.held.entries) }
+    requires blocks { HaveBlocks (IsJoin (F.none panes.now.fold) (F.joined panes.now.fold) (F.made panes.now.fold) (F.number panes.now.fold)) panes.now.held.entries }
     requires made { AllAreMade (F.made panes.now.fold) (states_of panes.now.held.entries) }
     requires few { total (F.number panes.now.fold) (states_of panes.now.held.entries) < 2 ^ 62 }
     requires fit { AllByRecursion (λ e. FitsResult (F.width panes.now.fold) e.0.1) (states_of panes.now.held.entries) }
@@ -106,6 +109,7 @@ pub fn give_open<F: Fold + Drop>(
     requires wide { 1 ≤ panes.now.width }
     requires narrow { panes.now.width ≤ panes.now.window.size }
     requires begun { AllByRecursion (λ e. e.0.0 * panes.now.width ≤ now + shift_of panes.now.window panes.now.width) (states_of panes.now.held.entries) }
+    requires blocks { HaveBlocks (IsJoin (F.none panes.now.fold) (F.joined panes.now.fold) (F.made panes.now.fold) (F.number panes.now.fold)) panes.now.held.entries }
     requires made { AllAreMade (F.made panes.now.fold) (states_of panes.now.held.entries) }
     requires few { total (F.number panes.now.fold) (states_of panes.now.held.entries) < 2 ^ 62 }
     requires fit { AllByRecursion (λ e. FitsResult (F.width panes.now.fold) e.0.1) (states_of panes.now.held.entries) }
@@ -142,6 +146,7 @@ pub fn give_ended<F: Fold + Drop>(
     requires wide { 1 ≤ panes.now.width }
     requires narrow { panes.now.width ≤ panes.now.window.size }
     requires begun { AllByRecursion (λ e. e.0.0 * panes.now.width ≤ now + shift_of panes.now.window panes.now.width) (states_of panes.now.held.entries) }
+    requires blocks { HaveBlocks (IsJoin (F.none panes.now.fold) (F.joined panes.now.fold) (F.made panes.now.fold) (F.number panes.now.fold)) panes.now.held.entries }
     requires made { AllAreMade (F.made panes.now.fold) (states_of panes.now.held.entries) }
     requires few { total (F.number panes.now.fold) (states_of panes.now.held.entries) < 2 ^ 62 }
     requires fit { AllByRecursion (λ e. FitsResult (F.width panes.now.fold) e.0.1) (states_of panes.now.held.entries) }

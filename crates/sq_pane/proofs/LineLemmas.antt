@@ -7,14 +7,14 @@ use Rattle.sq_aggfn.specs.Keyed.{added}
 use Rattle.sq_pane.specs.Panes.{Rises, total, AllAreMade}
 use Rattle.sq_pane.proofs.WindowLemmas.{itself}
 
-greater : (a b : ℕ) → b < a → nat_cmp a b ≡ Greater
+pub greater : (a b : ℕ) → b < a → nat_cmp a b ≡ Greater
 greater a b lt = grind (arith, tests)
 
 pub lesser : (a b : ℕ) → a < b → nat_cmp a b ≡ Less
 lesser a b lt = grind (arith, tests)
 
 module _ {A : Type 0} (P : A → Type 0) where
-  all-at : (xs : List A) (i : ℕ) (d : A) → AllByRecursion P xs → i < length xs → P (get_or xs i d)
+  pub all-at : (xs : List A) (i : ℕ) (d : A) → AllByRecursion P xs → i < length xs → P (get_or xs i d)
   all-at [] i d all lt = absurd (omega (arith, lt))
   all-at (x ∷ xs) zero d all lt = all.0
   all-at (x ∷ xs) (suc i) d all lt = all-at xs i d all.1 (omega (arith, lt))

@@ -317,3 +317,47 @@ module _ {M : Type 0} (test : List Value → Bool) where
   pub states_same : (ls : Lines M) (line new : Line M) → lookup test ls ≡ Some line → new.states.items ≡ line.states.items → states_of (set_value test ls new) ≡ states_of ls
   states_same [] line new is e = refl
   states_same (l ∷ ls) line new is e = same-by l ls line new e (test l.0) is (λ k. states_same ls line new k e)
+
+-- what holds of each line
+module _ {M : Type 0} (P : Line M → Type 0) where
+  abbrev pub AllLines : Lines M → Type 0
+  AllLines ls = AllByRecursion (λ l. P l.1) ls
+
+  pub line_found : (test : List Value → Bool) (ls : Lines M) (line : Line M) → lookup test ls ≡ Some line → AllLines ls → P line
+  line_found test [] line e all = cc
+  line_found test (l ∷ ls) line e all = by (test l.0) e (λ k. line_found test ls line k all.1)
+    where
+      inside : Some l.1 ≡ Some line → l.1 ≡ line
+      inside e = cc
+
+      by : (b : Bool) → cond b (Some l.1) (lookup test ls) ≡ Some line → (lookup test ls ≡ Some line → P line) → P line
+      by true e ih = subst P (inside e) all.0
+      by false e ih = ih e
+
+  pub lines_set : (test : List Value → Bool) (ls : Lines M) (new : Line M) → AllLines ls → P new → AllLines (set_value test ls new)
+  lines_set test [] new all p = tt
+  lines_set test (l ∷ ls) new all p = by (test l.0) (lines_set test ls new all.1 p)
+    where
+      by : (b : Bool) → AllLines (set_value test ls new) → AllLines (cond b ((l.0, new) ∷ ls) (l ∷ set_value test ls new))
+      by true ih = (p, all.1)
+      by false ih = (all.0, ih)
+
+  pub lines_insert : (g : List Value) (ls : Lines M) (new : Line M) → AllLines ls → P new → AllLines (insert_entry fields_cmp ls g new)
+  lines_insert g [] new all p = (p, tt)
+  lines_insert g (l ∷ ls) new all p = by (fields_cmp g l.0) (lines_insert g ls new all.1 p)
+    where
+      by : (o : Ordering) → AllLines (insert_entry fields_cmp ls g new) → AllLines (match_ordering o ((g, new) ∷ l ∷ ls) ((l.0, new) ∷ ls) (l ∷ insert_entry fields_cmp ls g new))
+      by Less ih = (p, all)
+      by Equal ih = (p, all.1)
+      by Greater ih = (all.0, ih)
+
+  pub lines_kept : {F : Type 0} (T : F → List Value → Line M → Bool → Line M → F → Type 0) (I : F → Type 0) → ((f : F) (k : List Value) (v : Line M) (b : Bool) (w : Line M) (f' : F) → I f → T f k v b w f' → (P v → P w) × I f')
+      → (f : F) (ls kept : Lines M) → I f → RetainsPairs T f ls kept → AllLines ls → AllLines kept
+  lines_kept T I says f [] kept i r all = subst AllLines (sym r) tt
+  lines_kept T I says f (l ∷ ls) kept i r all =
+      let said = says f l.0 l.1 r.0 r.1 r.2 i r.4 in
+      subst AllLines (sym r.6) (by r.0 (said.0 all.0) (lines_kept T I says r.2 ls r.3 said.1 r.5 all.1))
+    where
+      by : (b : Bool) → P r.1 → AllLines r.3 → AllLines (cond b ((l.0, r.1) ∷ r.3) r.3)
+      by true p ih = (p, ih)
+      by false p ih = ih

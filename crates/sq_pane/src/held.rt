@@ -1,11 +1,12 @@
 //! The states of panes, by group and pane.
 
-ghost use Rattle.std.specs.Prelude.{◌≡◌, ◌+◌, ◌^◌, ◌<◌, ◌≤◌, ◌++◌, [], OnOk, OnErr, IfOk};
+ghost use Rattle.std.specs.Prelude.{◌≡◌, ◌+◌, ◌^◌, ◌<◌, ◌≤◌, ◌++◌, true, [], OnOk, OnErr, IfOk};
 ghost use Rattle.sq_aggfn.specs.Keyed.{added};
 ghost use Rattle.sq_pane.specs.Panes.{key_cmp, from_pane, window_from, total, AllAreMade, entry_of};
-ghost use Rattle.sq_pane.specs.States.{states_of};
+ghost use Rattle.sq_pane.specs.Blocks.{IsJoin};
+ghost use Rattle.sq_pane.specs.States.{states_of, HaveBlocks};
 
-use crate::line::{Line, add_to_line, joined_in, line_of_one};
+use crate::line::{Line, add_to_line, joined_in, keep_from, line_of_one};
 use crate::width::pane_shift;
 use sq_aggfn::{Fold, Group, WindowSpec};
 use sq_value::Tuple;
@@ -29,6 +30,7 @@ pub fn add_at_key<F: Fold>(
     ensures made { OnOk result (AllAreMade (F.made fold.now) (states_of held.new.entries)) }
     ensures total { OnOk result (total (F.number fold.now) (states_of held.new.entries) ≡ total (F.number fold.now) (states_of held.old.entries) + 1) }
     ensures err { OnErr result (states_of held.new.entries ≡ states_of held.old.entries) }
+    ensures blocks { HaveBlocks (IsJoin (F.none fold.now) (F.joined fold.now) (F.made fold.now) (F.number fold.now)) held.old.entries → HaveBlocks (IsJoin (F.none fold.now) (F.joined fold.now) (F.made fold.now) (F.number fold.now)) held.new.entries }
 {
     let _count = held.len();
     if let Some(line) = held.get_mut(&key.1) {
@@ -40,10 +42,11 @@ pub fn add_at_key<F: Fold>(
 }
 
 /// Takes the states of all panes before a number out.
-pub fn forget_before<S: Drop>(held: &mut Held<S>, pane: u128)
-    ensures { states_of held.new.entries ≡ from_pane pane (states_of held.old.entries) }
+pub fn forget_before<F: Fold>(fold: &F, held: &mut Held<F::State>, pane: u128)
+    ensures states { states_of held.new.entries ≡ from_pane pane (states_of held.old.entries) }
+    ensures blocks { HaveBlocks (IsJoin (F.none fold.now) (F.joined fold.now) (F.made fold.now) (F.number fold.now)) held.old.entries → HaveBlocks (IsJoin (F.none fold.now) (F.joined fold.now) (F.made fold.now) (F.number fold.now)) held.new.entries }
 {
-    held.retain(|_, line| line.keep_from(pane));
+    held.retain(|_, line| keep_from(fold, line, pane));
 }
 
 /// Puts a group behind the others, where it has a state.
@@ -60,15 +63,17 @@ fn push_some<S: Drop>(
     Ok(())
 }
 
-/// The states of the groups of the window that begins at a tick, in the order of groups.
+/// The states of the groups of the window that begins at a tick, in the order of groups; by the blocks, if so told.
 pub fn groups_at<F: Fold>(
     alloc: Global,
     fold: &F,
     held: &Held<F::State>,
+    by_blocks: bool,
     window: WindowSpec,
     width: u64,
     start: u64,
 ) -> Result<Vec<(Group, F::State)>, AllocError>
+    requires blocks { by_blocks ≡ true → HaveBlocks (IsJoin (F.none fold.now) (F.joined fold.now) (F.made fold.now) (F.number fold.now)) held.now.entries }
     requires made { AllAreMade (F.made fold.now) (states_of held.now.entries) }
     requires few { total (F.number fold.now) (states_of held.now.entries) < 2 ^ 62 }
     ensures value { IfOk result (λ groups. groups.items ≡ window_from (F.none fold.now) (F.joined fold.now) window width start [] (states_of held.now.entries)) }
@@ -78,7 +83,7 @@ pub fn groups_at<F: Fold>(
     let mut groups = Vec::new(alloc);
     let shift = pane_shift(window, width);
     for (group, line) in held.iter() {
-        let joined = joined_in(fold, &line.states, window, width, shift, start)?;
+        let joined = joined_in(fold, line, by_blocks, window, width, shift, start)?;
         push_some(&mut groups, group, joined)?;
     }
     Ok(groups)

@@ -1,27 +1,36 @@
 //! The states of one group.
 
-ghost use Rattle.std.specs.Prelude.{◌≡◌, ℕ, ◌+◌, ◌-◌, ◌^◌, ◌<◌, ◌≤◌, nat_le, false, if◌then◌else◌, unwrap_or, [], length, drop, get_or, OnOk, OnErr, IfOk};
+ghost use Rattle.std.specs.Prelude.{◌≡◌, ℕ, ◌+◌, ◌-◌, ◌^◌, ◌<◌, ◌≤◌, nat_le, true, false, if◌then◌else◌, unwrap_or, [], length, take, drop, get_or, OnOk, OnErr, IfOk};
 ghost use Rattle.std.specs.Ordering.{nat_cmp};
 ghost use Rattle.std.specs.List.{AllByRecursion, filter};
 ghost use Rattle.sq_aggfn.specs.Keyed.{added};
+ghost use Rattle.sq_pane.specs.Blocks.{joined_onto, IsJoin, AreBlocks, begins_before};
 ghost use Rattle.sq_pane.specs.Panes.{Rises, Rises-prop, shift_of, within, joined_within, total, AllAreMade, IsMadeIf, number_if};
 
 use sq_aggfn::{Fold, WindowSpec};
 use sq_value::Tuple;
 use std::alloc::{AllocError, Global};
+use std::collections::VecDeque;
 
-/// The states of one group, each with the number of its pane. These rise.
+/// How many states a block joins.
+const BLOCK: usize = 64;
+
+/// The states of one group, each with the number of its pane. These rise. Behind the first `ahead` states each block is
+/// the join of the next 64, so that a window of many panes is joined of few states. No block joins the last state, which
+/// may still grow.
 #[derive(Drop)]
 pub struct Line<S> {
-    pub states: Vec<(u64, S)>,
+    pub states: VecDeque<(u64, S)>,
+    pub ahead: usize,
+    pub blocks: Vec<S>,
     ghost rises: { Rises states.items } by { Rises-prop states.items },
 }
 
 /// How many of the first states go up to the pane with a number.
-fn count_up_to<S>(states: &[(u64, S)], pane: u64) -> usize
-    ensures within { result ≤ length states.now }
-    ensures last { (d : ℕ × S) → 0 < result → (get_or states.now (result - 1) d).0 ≤ pane }
-    ensures after { AllByRecursion (λ e. pane < e.0) (drop result states.now) }
+fn count_up_to<S>(states: &VecDeque<(u64, S)>, pane: u64) -> usize
+    ensures within { result ≤ length states.now.items }
+    ensures last { (d : ℕ × S) → 0 < result → (get_or states.now.items (result - 1) d).0 ≤ pane }
+    ensures after { AllByRecursion (λ e. pane < e.0) (drop result states.now.items) }
 {
     let mut count = states.len();
     while count > 0 && states[count - 1].0 > pane {
@@ -33,7 +42,7 @@ fn count_up_to<S>(states: &[(u64, S)], pane: u64) -> usize
 /// The state of a pane becomes its join with that of a tuple, in place; after want of memory nothing changed.
 fn add_state<F: Fold>(
     fold: &F,
-    states: &mut Vec<(u64, F::State)>,
+    states: &mut VecDeque<(u64, F::State)>,
     pane: u64,
     t: &Tuple,
 ) -> Result<(), AllocError>
@@ -55,6 +64,69 @@ fn add_state<F: Fold>(
     Ok(())
 }
 
+/// Whether the last state is that of a pane after another.
+fn ends_past<S>(states: &VecDeque<(u64, S)>, pane: u64) -> bool
+    ensures { (d : ℕ × S) → result ≡ false → 0 < length states.now.items → (get_or states.now.items (length states.now.items - 1) d).0 ≤ pane }
+{
+    match states.back() {
+        Some(entry) => pane < entry.0,
+        None => false,
+    }
+}
+
+/// The join of the states of a block, from a place on.
+fn block_at<F: Fold>(
+    fold: &F,
+    states: &VecDeque<(u64, F::State)>,
+    at: usize,
+) -> Result<F::State, AllocError>
+    requires room { at + 64 < length states.now.items }
+    requires made { AllAreMade (F.made fold.now) states.now.items }
+    requires few { total (F.number fold.now) states.now.items < 2 ^ 62 }
+    ensures { IfOk result (IsJoin (F.none fold.now) (F.joined fold.now) (F.made fold.now) (F.number fold.now) (take 64 (drop at states.now.items))) }
+{
+    let mut block = fold.empty()?;
+    let end = at + BLOCK;
+    for i in at..end {
+        fold.take_in(&mut block, &states[i].1)?;
+    }
+    Ok(block)
+}
+
+/// Joins one more block, where enough states stand between the others and the last state.
+fn grow_blocks<F: Fold>(fold: &F, line: &mut Line<F::State>) -> Result<(), AllocError>
+    requires made { AllAreMade (F.made fold.now) line.old.states.items }
+    requires few { total (F.number fold.now) line.old.states.items < 2 ^ 62 }
+    ensures states { line.new.states.items ≡ line.old.states.items }
+    ensures blocks { AreBlocks 64 (IsJoin (F.none fold.now) (F.joined fold.now) (F.made fold.now) (F.number fold.now)) line.old.blocks.items (drop line.old.ahead line.old.states.items)
+        → AreBlocks 64 (IsJoin (F.none fold.now) (F.joined fold.now) (F.made fold.now) (F.number fold.now)) line.new.blocks.items (drop line.new.ahead line.new.states.items) }
+{
+    let at = line.blocks.len() as u128 * BLOCK as u128 + line.ahead as u128;
+    if line.states.len() as u128 <= at + BLOCK as u128 {
+        return Ok(());
+    }
+    let block = block_at(fold, &line.states, at as usize)?;
+    line.blocks.push(block)?;
+    Ok(())
+}
+
+/// Before a tuple is added to a pane: one more block is joined, and none stays where a later pane has a state.
+fn ready_blocks<F: Fold>(fold: &F, line: &mut Line<F::State>, pane: u64) -> Result<(), AllocError>
+    requires made { AllAreMade (F.made fold.now) line.old.states.items }
+    requires few { total (F.number fold.now) line.old.states.items < 2 ^ 62 }
+    ensures states { line.new.states.items ≡ line.old.states.items }
+    ensures blocks { AreBlocks 64 (IsJoin (F.none fold.now) (F.joined fold.now) (F.made fold.now) (F.number fold.now)) line.old.blocks.items (drop line.old.ahead line.old.states.items)
+        → AreBlocks 64 (IsJoin (F.none fold.now) (F.joined fold.now) (F.made fold.now) (F.number fold.now)) line.new.blocks.items (drop line.new.ahead line.new.states.items) }
+    ensures added { (u : F.State) → AreBlocks 64 (IsJoin (F.none fold.now) (F.joined fold.now) (F.made fold.now) (F.number fold.now)) line.old.blocks.items (drop line.old.ahead line.old.states.items)
+        → AreBlocks 64 (IsJoin (F.none fold.now) (F.joined fold.now) (F.made fold.now) (F.number fold.now)) line.new.blocks.items (drop line.new.ahead (added nat_cmp (F.none fold.now) (F.joined fold.now) pane u line.new.states.items)) }
+{
+    if ends_past(&line.states, pane) {
+        line.blocks.clear();
+        return Ok(());
+    }
+    grow_blocks(fold, line)
+}
+
 /// The state of a pane becomes its join with that of a tuple, in place; after want of memory nothing changed.
 pub fn add_to_line<F: Fold>(
     fold: &F,
@@ -68,7 +140,10 @@ pub fn add_to_line<F: Fold>(
     ensures made { OnOk result (AllAreMade (F.made fold.now) line.new.states.items) }
     ensures total { OnOk result (total (F.number fold.now) line.new.states.items ≡ total (F.number fold.now) line.old.states.items + 1) }
     ensures err { OnErr result (line.new.states.items ≡ line.old.states.items) }
+    ensures blocks { AreBlocks 64 (IsJoin (F.none fold.now) (F.joined fold.now) (F.made fold.now) (F.number fold.now)) line.old.blocks.items (drop line.old.ahead line.old.states.items)
+        → AreBlocks 64 (IsJoin (F.none fold.now) (F.joined fold.now) (F.made fold.now) (F.number fold.now)) line.new.blocks.items (drop line.new.ahead line.new.states.items) }
 {
+    ready_blocks(fold, line, pane)?;
     add_state(fold, &mut line.states, pane, t)
 }
 
@@ -82,22 +157,57 @@ pub fn line_of_one<F: Fold>(
     ensures value { IfOk result (λ line. line.states.items ≡ added nat_cmp (F.none fold.now) (F.joined fold.now) pane (F.unit fold.now t.now) []) }
     ensures made { IfOk result (λ line. AllAreMade (F.made fold.now) line.states.items) }
     ensures total { IfOk result (λ line. total (F.number fold.now) line.states.items ≡ 1) }
+    ensures blocks { IfOk result (λ line. line.blocks.items ≡ []) }
 {
-    let mut states = Vec::new(alloc);
+    let mut states = VecDeque::new(alloc);
     let one = fold.one(t)?;
-    states.push((pane, one))?;
-    Ok(Line { states })
+    states.push_back((pane, one))?;
+    Ok(Line {
+        states,
+        ahead: 0,
+        blocks: Vec::new(alloc),
+    })
 }
 
-impl<S: Drop> Line<S> {
-    /// Takes out the states of all panes before a number, and says whether others are left.
-    pub fn keep_from(&mut self, pane: u128) -> bool
-        ensures kept { self.new.states.items ≡ filter (λ e. nat_le pane e.0) self.old.states.items }
-        ensures none { result ≡ false → self.new.states.items ≡ [] }
-    {
-        self.states.retain(|entry| pane <= u128::from(entry.0));
-        !self.states.is_empty()
+/// Whether the first state is that of a pane before a number.
+fn begins_before<S>(states: &VecDeque<(u64, S)>, pane: u128) -> bool
+    ensures { result ≡ begins_before pane states.now.items }
+{
+    match states.front() {
+        Some(entry) => u128::from(entry.0) < pane,
+        None => false,
     }
+}
+
+/// Takes out the first state.
+fn drop_first<F: Fold>(fold: &F, line: &mut Line<F::State>)
+    ensures states { line.new.states.items ≡ drop 1 line.old.states.items }
+    ensures blocks { AreBlocks 64 (IsJoin (F.none fold.now) (F.joined fold.now) (F.made fold.now) (F.number fold.now)) line.old.blocks.items (drop line.old.ahead line.old.states.items)
+        → AreBlocks 64 (IsJoin (F.none fold.now) (F.joined fold.now) (F.made fold.now) (F.number fold.now)) line.new.blocks.items (drop line.new.ahead line.new.states.items) }
+{
+    line.states.pop_front();
+    if line.ahead > 0 {
+        line.ahead -= 1;
+        return;
+    }
+    if line.blocks.is_empty() {
+        return;
+    }
+    line.blocks.remove(0);
+    line.ahead = BLOCK - 1;
+}
+
+/// Takes out the states of all panes before a number, and says whether others are left.
+pub fn keep_from<F: Fold>(fold: &F, line: &mut Line<F::State>, pane: u128) -> bool
+    ensures kept { line.new.states.items ≡ filter (λ e. nat_le pane e.0) line.old.states.items }
+    ensures none { result ≡ false → line.new.states.items ≡ [] }
+    ensures blocks { AreBlocks 64 (IsJoin (F.none fold.now) (F.joined fold.now) (F.made fold.now) (F.number fold.now)) line.old.blocks.items (drop line.old.ahead line.old.states.items)
+        → AreBlocks 64 (IsJoin (F.none fold.now) (F.joined fold.now) (F.made fold.now) (F.number fold.now)) line.new.blocks.items (drop line.new.ahead line.new.states.items) }
+{
+    while begins_before(&line.states, pane) {
+        drop_first(fold, line);
+    }
+    !line.states.is_empty()
 }
 
 /// A state that may be there becomes its join with another, if a test holds.
@@ -136,26 +246,122 @@ fn is_within(window: WindowSpec, width: u64, shift: u64, start: u64, pane: u64) 
     first <= tick && tick < first + u128::from(window.size)
 }
 
-/// The join of the states that the window that starts at a tick covers, where there is one.
-pub fn joined_in<F: Fold>(
+/// Of some states in a row those that the window that starts at a tick covers, joined to one that may be there.
+fn joined_through<F: Fold>(
     fold: &F,
-    states: &[(u64, F::State)],
+    joined: Option<F::State>,
+    states: &VecDeque<(u64, F::State)>,
+    from: usize,
+    to: usize,
     window: WindowSpec,
     width: u64,
     shift: u64,
     start: u64,
 ) -> Result<Option<F::State>, AllocError>
     requires shift { shift ≡ shift_of window width }
-    requires made { AllAreMade (F.made fold.now) states.now }
-    requires few { total (F.number fold.now) states.now < 2 ^ 62 }
-    ensures value { IfOk result (λ o. o ≡ joined_within (F.none fold.now) (F.joined fold.now) window width start None states.now) }
+    requires order { from ≤ to }
+    requires room { to ≤ length states.now.items }
+    requires made { IsMadeIf (F.made fold.now) joined × AllAreMade (F.made fold.now) states.now.items }
+    requires few { number_if (F.number fold.now) joined + total (F.number fold.now) (drop from states.now.items) < 2 ^ 62 }
+    ensures value { IfOk result (λ o. joined_within (F.none fold.now) (F.joined fold.now) window width start o (drop to states.now.items)
+        ≡ joined_within (F.none fold.now) (F.joined fold.now) window width start joined (drop from states.now.items)) }
     ensures made { IfOk result (λ o. IsMadeIf (F.made fold.now) o) }
-    ensures few { IfOk result (λ o. number_if (F.number fold.now) o ≤ total (F.number fold.now) states.now) }
+    ensures few { IfOk result (λ o. number_if (F.number fold.now) o + total (F.number fold.now) (drop to states.now.items)
+        ≤ number_if (F.number fold.now) joined + total (F.number fold.now) (drop from states.now.items)) }
 {
-    let mut joined = None;
-    for (pane, state) in states {
-        let covered = is_within(window, width, shift, start, *pane);
-        joined = joined_if(fold, joined, covered, state)?;
+    let mut joined = joined;
+    for i in from..to {
+        let covered = is_within(window, width, shift, start, states[i].0);
+        joined = joined_if(fold, joined, covered, &states[i].1)?;
     }
     Ok(joined)
+}
+
+/// The same of the states of a block, from a place on.
+fn with_block<F: Fold>(
+    fold: &F,
+    joined: Option<F::State>,
+    block: &F::State,
+    states: &VecDeque<(u64, F::State)>,
+    at: usize,
+    window: WindowSpec,
+    width: u64,
+    shift: u64,
+    start: u64,
+) -> Result<Option<F::State>, AllocError>
+    requires shift { shift ≡ shift_of window width }
+    requires rises { Rises states.now.items }
+    requires room { at + 64 < length states.now.items }
+    requires block { IsJoin (F.none fold.now) (F.joined fold.now) (F.made fold.now) (F.number fold.now) (take 64 (drop at states.now.items)) block.now }
+    requires made { IsMadeIf (F.made fold.now) joined × AllAreMade (F.made fold.now) states.now.items }
+    requires few { number_if (F.number fold.now) joined + total (F.number fold.now) (drop at states.now.items) < 2 ^ 62 }
+    ensures value { IfOk result (λ o. joined_within (F.none fold.now) (F.joined fold.now) window width start o (drop (at + 64) states.now.items)
+        ≡ joined_within (F.none fold.now) (F.joined fold.now) window width start joined (drop at states.now.items)) }
+    ensures made { IfOk result (λ o. IsMadeIf (F.made fold.now) o) }
+    ensures few { IfOk result (λ o. number_if (F.number fold.now) o + total (F.number fold.now) (drop (at + 64) states.now.items)
+        ≤ number_if (F.number fold.now) joined + total (F.number fold.now) (drop at states.now.items)) }
+{
+    let first = is_within(window, width, shift, start, states[at].0);
+    let last = is_within(window, width, shift, start, states[at + (BLOCK - 1)].0);
+    if first && last {
+        return joined_if(fold, joined, true, block);
+    }
+    let end = at + BLOCK;
+    joined_through(fold, joined, states, at, end, window, width, shift, start)
+}
+
+/// The join of the states that the window that starts at a tick covers, where there is one, by the blocks.
+fn joined_by_blocks<F: Fold>(
+    fold: &F,
+    line: &Line<F::State>,
+    window: WindowSpec,
+    width: u64,
+    shift: u64,
+    start: u64,
+) -> Result<Option<F::State>, AllocError>
+    requires shift { shift ≡ shift_of window width }
+    requires within { line.now.ahead ≤ length line.now.states.items }
+    requires blocks { AreBlocks 64 (IsJoin (F.none fold.now) (F.joined fold.now) (F.made fold.now) (F.number fold.now)) line.now.blocks.items (drop line.now.ahead line.now.states.items) }
+    requires made { AllAreMade (F.made fold.now) line.now.states.items }
+    requires few { total (F.number fold.now) line.now.states.items < 2 ^ 62 }
+    ensures value { IfOk result (λ o. o ≡ joined_within (F.none fold.now) (F.joined fold.now) window width start None line.now.states.items) }
+    ensures made { IfOk result (λ o. IsMadeIf (F.made fold.now) o) }
+    ensures few { IfOk result (λ o. number_if (F.number fold.now) o ≤ total (F.number fold.now) line.now.states.items) }
+{
+    let states = &line.states;
+    let count = states.len();
+    let mut at = line.ahead;
+    let mut joined = joined_through(fold, None, states, 0, at, window, width, shift, start)?;
+    for k in 0..line.blocks.len() {
+        let block = &line.blocks[k];
+        joined = with_block(fold, joined, block, states, at, window, width, shift, start)?;
+        at += BLOCK;
+    }
+    joined_through(fold, joined, states, at, count, window, width, shift, start)
+}
+
+/// The join of the states that the window that starts at a tick covers, where there is one; by the blocks, if so told.
+pub fn joined_in<F: Fold>(
+    fold: &F,
+    line: &Line<F::State>,
+    by_blocks: bool,
+    window: WindowSpec,
+    width: u64,
+    shift: u64,
+    start: u64,
+) -> Result<Option<F::State>, AllocError>
+    requires shift { shift ≡ shift_of window width }
+    requires blocks { by_blocks ≡ true → AreBlocks 64 (IsJoin (F.none fold.now) (F.joined fold.now) (F.made fold.now) (F.number fold.now)) line.now.blocks.items (drop line.now.ahead line.now.states.items) }
+    requires made { AllAreMade (F.made fold.now) line.now.states.items }
+    requires few { total (F.number fold.now) line.now.states.items < 2 ^ 62 }
+    ensures value { IfOk result (λ o. o ≡ joined_within (F.none fold.now) (F.joined fold.now) window width start None line.now.states.items) }
+    ensures made { IfOk result (λ o. IsMadeIf (F.made fold.now) o) }
+    ensures few { IfOk result (λ o. number_if (F.number fold.now) o ≤ total (F.number fold.now) line.now.states.items) }
+{
+    let count = line.states.len();
+    if by_blocks && line.ahead < count {
+        return joined_by_blocks(fold, line, window, width, shift, start);
+    }
+    let states = &line.states;
+    joined_through(fold, None, states, 0, count, window, width, shift, start)
 }

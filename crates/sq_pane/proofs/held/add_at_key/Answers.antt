@@ -1,4 +1,4 @@
-use Rattle.std.proofs.Common.{◌≡◌, ◌+◌, List, sym, ap, subst, ◌∙◌, arith}
+use Rattle.std.proofs.Common.{◌≡◌, ◌+◌, List, drop, sym, ap, subst, ◌∙◌, arith}
 use Rattle.std.specs.Ordering.{is_eq}
 use Rattle.std.specs.BTreeMap.{insert_entry}
 use Rattle.std.proofs.lemmas.Result.{on_ok_weaker, on_err_weaker}
@@ -7,8 +7,10 @@ use Rattle.sq_value.specs.Values.{fields_cmp}
 use Rattle.sq_value.proofs.ValueOrder.{fields_order}
 use Rattle.sq_aggfn.proofs.KeyedLemmas.{ascends}
 use Rattle.sq_pane.specs.Panes.{total, AllAreMade}
-use Rattle.sq_pane.specs.States.{states_of}
-use Rattle.sq_pane.proofs.StateLemmas.{states_set, states_same, states_insert, made_found, made_states_set, made_states_insert, total_found, total_states_set, total_states_insert}
+use Rattle.sq_pane.specs.Blocks.{IsJoin, AreBlocks}
+use Rattle.sq_pane.specs.States.{states_of, HaveBlocks}
+use Rattle.sq_pane.proofs.BlockLemmas.{no_blocks}
+use Rattle.sq_pane.proofs.StateLemmas.{states_set, states_same, states_insert, line_found, lines_set, lines_insert, made_found, made_states_set, made_states_insert, total_found, total_states_set, total_states_insert}
 use Rattle.sq_pane.proofs.held.add_at_key.Goals as goal
 
 pub add_to_line-requires-clause-made : goal.add_to_line-requires-clause-made
@@ -82,3 +84,24 @@ returns-clause-total g c =
     ap (λ l. total number (states_of l)) (c.in_ok-insert.ensures.entries ∙ ap (λ m. insert_entry fields_cmp m.entries c.args.key.1 line) c.get_mut.follows.holds-at-none)
     ∙ total_states_insert number c.args.key.1 ls line (sym c.in_default.ensures.value)
     ∙ (let e : total number (states_of ls) + total number line.states.items ≡ total number (states_of ls) + 1 = omega (arith, one) in e)
+
+pub returns-in-Some-clause-blocks : goal.returns-in-Some-clause-blocks
+returns-in-Some-clause-blocks g c =
+    let fold = c.args.fold.now in
+    let join = IsJoin (g.F.Fold.none fold) (g.F.Fold.joined fold) (g.F.Fold.made fold) (g.F.Fold.number fold) in
+    let test = λ (q : List Value). is_eq (fields_cmp c.args.key.1 q) in
+    let ls = c.args.held.now.entries in
+    λ all.
+    subst (HaveBlocks join) (sym (c.get_mut.follows.holds c.add_to_line.new.line).0)
+    (lines_set (λ l. AreBlocks 64 join l.blocks.items (drop l.ahead l.states.items)) test ls c.add_to_line.new.line all
+    (c.add_to_line.ensures.blocks (line_found (λ l. AreBlocks 64 join l.blocks.items (drop l.ahead l.states.items)) test ls c.in-Some.line.now (sym c.in-Some.ensures.value) all)))
+
+pub returns-clause-blocks : goal.returns-clause-blocks
+returns-clause-blocks g c =
+    let fold = c.args.fold.now in
+    let join = IsJoin (g.F.Fold.none fold) (g.F.Fold.joined fold) (g.F.Fold.made fold) (g.F.Fold.number fold) in
+    let ls = c.args.held.now.entries in
+    let line = c.in_ok-line.line in
+    λ all.
+    subst (HaveBlocks join) (sym (c.in_ok-insert.ensures.entries ∙ ap (λ m. insert_entry fields_cmp m.entries c.args.key.1 line) c.get_mut.follows.holds-at-none))
+    (lines_insert (λ l. AreBlocks 64 join l.blocks.items (drop l.ahead l.states.items)) c.args.key.1 ls line all (no_blocks 64 join line.blocks.items (drop line.ahead line.states.items) c.in_ok-line.ensures.blocks))

@@ -1,6 +1,7 @@
-use Rattle.std.proofs.Common.{◌≡◌, ◌+◌, ◌≤◌, ◌++◌}
+use Rattle.std.proofs.Common.{◌≡◌, ◌+◌, ◌≤◌, ◌++◌, true}
 use Rattle.sq_pane.specs.Panes.{total, AllAreMade}
-use Rattle.sq_pane.specs.States.{states_of, groups_within}
+use Rattle.sq_pane.specs.Blocks.{IsJoin}
+use Rattle.sq_pane.specs.States.{states_of, groups_within, HaveBlocks}
 use Rattle.sq_pane.proofs.held.groups_at.Given as goal
 
 abbrev pub invariant-loop-group : goal.invariant-loop-group
@@ -8,6 +9,7 @@ invariant-loop-group g l = record {
   value : l.groups.items ++ groups_within (g.F.Fold.none l.fold) (g.F.Fold.joined l.fold) l.window l.width l.start l.group-iterator
       ≡ groups_within (g.F.Fold.none l.fold) (g.F.Fold.joined l.fold) l.window l.width l.start l.held.entries;
   made : AllAreMade (g.F.Fold.made l.fold) l.groups.items;
+  blocks : l.by_blocks ≡ true → HaveBlocks (IsJoin (g.F.Fold.none l.fold) (g.F.Fold.joined l.fold) (g.F.Fold.made l.fold) (g.F.Fold.number l.fold)) l.group-iterator;
   left : AllAreMade (g.F.Fold.made l.fold) (states_of l.group-iterator);
   few : total (g.F.Fold.number l.fold) l.groups.items + total (g.F.Fold.number l.fold) (states_of l.group-iterator) ≤ total (g.F.Fold.number l.fold) (states_of l.held.entries);
 }

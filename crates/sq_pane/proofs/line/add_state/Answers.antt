@@ -1,5 +1,5 @@
-use Rattle.std.proofs.Common.{◌≡◌, ℕ, ◌+◌, ◌-◌, ◌<◌, ◌≤◌, ◌⊎◌, inl, inr, List, length, drop, get_or, set, ap, sym, subst, ◌∙◌, arith}
-use Rattle.std.specs.List.{AllByRecursion, insert}
+use Rattle.std.proofs.Common.{◌≡◌, ℕ, ◌+◌, ◌-◌, ◌<◌, ◌≤◌, ◌⊎◌, inl, inr, length, get_or, set, ap, sym, subst, ◌∙◌, arith}
+use Rattle.std.specs.List.{insert}
 use Rattle.std.proofs.lemmas.Result.{on_ok_weaker, on_err_weaker}
 use Rattle.sq_pane.specs.Panes.{Rises, total, AllAreMade}
 use Rattle.sq_pane.proofs.LineLemmas.{same_at, set_same, rises_set, rises_put, made_set, made_insert, made_at, total_at, total_set, total_insert, set_is_put, insert_is_put}
@@ -11,18 +11,16 @@ add-requires-clause-made g c =
     let es = c.args.states.now.items in
     let i : ℕ = c.count_up_to-count.result - 1 in
     let within = c.count_up_to-count.ensures.within in
-    let long = ap length c.deref.ensures.value in
     let some = c.if-count-gt0.true in
-    made_at (g.F.Fold.made c.args.fold.now) es i c.index_mut.result.now (omega (arith, within, long, some)) c.index_mut.ensures.value c.requires.made
+    made_at (g.F.Fold.made c.args.fold.now) es i c.index_mut.result.now (omega (arith, within, some)) c.index_mut.ensures.value c.requires.made
 
 pub add-requires-clause-few : goal.add-requires-clause-few
 add-requires-clause-few g c =
     let es = c.args.states.now.items in
     let i : ℕ = c.count_up_to-count.result - 1 in
     let within = c.count_up_to-count.ensures.within in
-    let long = ap length c.deref.ensures.value in
     let some = c.if-count-gt0.true in
-    let le = total_at (g.F.Fold.number c.args.fold.now) es i c.index_mut.result.now (omega (arith, within, long, some)) c.index_mut.ensures.value in
+    let le = total_at (g.F.Fold.number c.args.fold.now) es i c.index_mut.result.now (omega (arith, within, some)) c.index_mut.ensures.value in
     let few = c.requires.few in
     omega (arith, le, few)
 
@@ -32,10 +30,9 @@ returns-then-index-pane-clause-added g c =
     let es = c.args.states.now.items in
     let i : ℕ = c.count_up_to-count.result - 1 in
     let within = c.count_up_to-count.ensures.within in
-    let long = ap length c.deref.ensures.value in
     let some = c.if-count-gt0.true in
     let x = c.index_mut.result.now in
-    let inside : i < length es = omega (arith, within, long, some) in
+    let inside : i < length es = omega (arith, within, some) in
     let same = ap (λ (z : ℕ × g.row.F-State.Denot). z.0) (same_at es i x c.index.result.now inside c.index_mut.ensures.value c.index.ensures) ∙ c.if-index-pane.true in
     on_ok_weaker c.add.result
     (λ e. ap (λ s. set es i (x.0, s)) e
@@ -47,9 +44,8 @@ returns-then-index-pane-clause-rises g c =
     let es = c.args.states.now.items in
     let i : ℕ = c.count_up_to-count.result - 1 in
     let within = c.count_up_to-count.ensures.within in
-    let long = ap length c.deref.ensures.value in
     let some = c.if-count-gt0.true in
-    rises_set es i c.index_mut.result.now c.add.new.s (omega (arith, within, long, some)) c.index_mut.ensures.value c.requires.rises
+    rises_set es i c.index_mut.result.now c.add.new.s (omega (arith, within, some)) c.index_mut.ensures.value c.requires.rises
 
 pub returns-then-index-pane-clause-made : goal.returns-then-index-pane-clause-made
 returns-then-index-pane-clause-made g c =
@@ -62,20 +58,18 @@ returns-then-index-pane-clause-total g c =
     let es = c.args.states.now.items in
     let i : ℕ = c.count_up_to-count.result - 1 in
     let within = c.count_up_to-count.ensures.within in
-    let long = ap length c.deref.ensures.value in
     let some = c.if-count-gt0.true in
     let x = c.index_mut.result.now in
-    on_ok_weaker c.add.result (λ e. total_set (g.F.Fold.number c.args.fold.now) es i x (x.0, c.add.new.s) 1 (omega (arith, within, long, some)) c.index_mut.ensures.value e.1) c.add.ensures.made
+    on_ok_weaker c.add.result (λ e. total_set (g.F.Fold.number c.args.fold.now) es i x (x.0, c.add.new.s) 1 (omega (arith, within, some)) c.index_mut.ensures.value e.1) c.add.ensures.made
 
 pub returns-then-index-pane-clause-err : goal.returns-then-index-pane-clause-err
 returns-then-index-pane-clause-err g c =
     let es = c.args.states.now.items in
     let i : ℕ = c.count_up_to-count.result - 1 in
     let within = c.count_up_to-count.ensures.within in
-    let long = ap length c.deref.ensures.value in
     let some = c.if-count-gt0.true in
     let x = c.index_mut.result.now in
-    on_err_weaker c.add.result (λ e. ap (λ s. set es i (x.0, s)) e ∙ set_same es i x (omega (arith, within, long, some)) c.index_mut.ensures.value) c.add.ensures.err
+    on_err_weaker c.add.result (λ e. ap (λ s. set es i (x.0, s)) e ∙ set_same es i x (omega (arith, within, some)) c.index_mut.ensures.value) c.add.ensures.err
 
 pub returns-clause-added : goal.returns-clause-added
 returns-clause-added g c =
@@ -84,9 +78,8 @@ returns-clause-added g c =
     let u = g.F.Fold.unit fold c.args.t.now in
     let n : ℕ = c.count_up_to-count.result in
     let first = g.met.F.Fold.none_first fold u (g.met.F.Fold.shaped_unit fold c.args.t.now) in
-    let long = ap length c.deref.ensures.value in
     let within = c.count_up_to-count.ensures.within in
-    let last = subst (λ (l : List (ℕ × g.row.F-State.Denot)). (d : ℕ × g.row.F-State.Denot) → 0 < n → (get_or l (n - 1) d).0 ≤ c.args.pane) c.deref.ensures.value c.count_up_to-count.ensures.last in
+    let last = c.count_up_to-count.ensures.last in
     let before : (n ≡ 0) ⊎ ((x : ℕ × g.row.F-State.Denot) × (0 < n) × (x ≡ get_or es (n - 1) x) × (x.0 < c.args.pane)) =
     elim c.else-count-gt0.branch [
       | else-count-gt0-via-then-count-gt0+else-index-pane w ↦
@@ -99,8 +92,8 @@ returns-clause-added g c =
       | else-count-gt0-via-else-count-gt0 w ↦ (let no = w.if-count-gt0.false in inl (omega (arith, no)))
     ] in
     c.in_ok-insert.ensures.items ∙ ap (λ m. insert es n (c.args.pane, m)) (c.in_ok-one.ensures.value ∙ sym first)
-    ∙ insert_is_put (g.F.Fold.none fold) (g.F.Fold.joined fold) c.args.pane u es n c.requires.rises (omega (arith, within, long)) before
-    (subst (λ (l : List (ℕ × g.row.F-State.Denot)). AllByRecursion (λ e. c.args.pane < e.0) (drop n l)) c.deref.ensures.value c.count_up_to-count.ensures.after)
+    ∙ insert_is_put (g.F.Fold.none fold) (g.F.Fold.joined fold) c.args.pane u es n c.requires.rises (omega (arith, within)) before
+    c.count_up_to-count.ensures.after
 
 pub returns-clause-rises : goal.returns-clause-rises
 returns-clause-rises g c =

@@ -4,8 +4,8 @@ use Rattle.sq_pane.proofs.line.count_up_to.Given as goal
 
 abbrev pub invariant-loop-count : goal.invariant-loop-count
 invariant-loop-count g l = record {
-  within : l.count ≤ length l.states;
-  after : AllByRecursion (λ e. l.pane < e.0) (drop l.count l.states);
+  within : l.count ≤ length l.states.items;
+  after : AllByRecursion (λ e. l.pane < e.0) (drop l.count l.states.items);
 }
 
 abbrev pub decreases-loop-count : goal.decreases-loop-count
