@@ -7,7 +7,7 @@ use Rattle.sq_top.proofs.WritingLemmas.{on_err, on_ok}
 use Rattle.sq_top.proofs.LeftLemmas.{step_fails, step_loses, step_shows}
 use Rattle.sq_top.proofs.DrivingLemmas.{if_err, if_err_both, step_goes, step_lines, step_lost, step_stops}
 use Rattle.sq_top.proofs.FailLemmas.{came_at_once}
-use Rattle.sq_top.proofs.StopLemmas.{lost_cut, last_feed, lost_stop, step_cause, step_cut}
+use Rattle.sq_top.proofs.StopLemmas.{falls_lower, lost_cut, last_feed, lost_stop, step_cause, step_cut}
 use Rattle.sq_top.proofs.driving.step_once.Goals as goal
 
 pub show_events-requires : goal.show_events-requires
@@ -61,7 +61,10 @@ returns-in-Ok-clause-left g c =
 pub returns-in-Ok-clause-first : goal.returns-in-Ok-clause-first
 returns-in-Ok-clause-first g c =
     on_err c.show_events.result (rw c.as_slice.ensures.value at c.show_events.ensures.err)
-    (λ written. step_loses _ _ _ _ _ _ c.clear.ensures.items c.in-Ok.ensures.shows c.step.ensures.network c.in-Ok.ensures.goes _ _ _ written)
+    (λ written. step_loses _ _ c.args.engine.now c.step.new.self _ _ c.clear.ensures.items c.in-Ok.ensures.shows c.step.ensures.network c.in-Ok.ensures.goes _ _ _ written)
 
 pub returns-in-Err-clause-first : goal.returns-in-Err-clause-first
 returns-in-Err-clause-first g c = step_fails _ _ _ c.requires.sound c.requires.together c.step.ensures.later.known _ _
+
+pub returns-in-Ok-clause-falls : goal.returns-in-Ok-clause-falls
+returns-in-Ok-clause-falls g c = on_ok c.show_events.result c.show_events.ensures.ok (λ shown. falls_lower _ _ _ _ c.in-Ok.ensures.measure c.in-Ok.ensures.works)
