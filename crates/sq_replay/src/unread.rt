@@ -1,0 +1,216 @@
+// The tuples of a text, line by line.
+ghost use Rattle.std.specs.Prelude.{◌≡◌, ◌+◌, ◌<◌, ◌≤◌, ◌⊎◌, ◌++◌, ◌∷◌, [], ℕ, List, IfOk, IfSome, MatchOption, OnErr, OnOk, drop, length};
+ghost use Rattle.sq_value.specs.declared.Kind.{Kind as K};
+ghost use Rattle.sq_replay.specs.FileLines.{pieces_of, without_mark};
+ghost use Rattle.sq_replay.specs.Recorded.{first_time, tuples_at, tuples_left};
+ghost use Rattle.sq_replay.specs.Unread.{IsAhead, unread_tuples};
+
+use crate::line::{TupleErr, read_tuple};
+use crate::stream::without_return;
+use sq_csv::cut_first;
+use sq_value::{Kind, Tuple};
+use std::alloc::{AllocError, Global};
+use std::collections::VecDeque;
+
+/// A text of which the lines from a place on are still to be read.
+#[derive(Drop)]
+pub(crate) struct Unread {
+    text: Vec<u8>,
+    at: usize,
+    kinds: Vec<Kind>,
+    latest: u64,
+    // Where a field that stands in quotes is put.
+    unquoted: Vec<u8>,
+}
+
+/// How many bytes a mark of byte order takes at the start.
+fn mark_length(bytes: &[u8]) -> usize
+    ensures { drop result bytes.now ≡ without_mark bytes.now }
+{
+    match bytes {
+        [0xEF, 0xBB, 0xBF, ..] => 3,
+        _ => 0,
+    }
+}
+
+impl Unread {
+    /// A stream file of which nothing is read yet.
+    fn new(alloc: Global, text: Vec<u8>, kinds: &[Kind]) -> Result<Unread, AllocError>
+        ensures { IfOk result (λ u. unread_tuples u ≡ tuples_left kinds.now 0 (pieces_of (without_mark text.items))) }
+    {
+        let at = mark_length(&text);
+        let kinds = Vec::from_slice(alloc, kinds)?;
+        Ok(Unread {
+            text,
+            at,
+            kinds,
+            latest: 0,
+            unquoted: Vec::new(alloc),
+        })
+    }
+
+    /// No text.
+    pub(crate) fn none(alloc: Global) -> Unread
+        ensures { unread_tuples result ≡ [] }
+    {
+        Unread {
+            text: Vec::new(alloc),
+            at: 0,
+            kinds: Vec::new(alloc),
+            latest: 0,
+            unquoted: Vec::new(alloc),
+        }
+    }
+}
+
+/// The piece of a text that begins at a place, and where the next one begins.
+fn piece_at(text: &[u8], at: usize) -> (&[u8], usize)
+    requires { at < length text.now }
+    ensures piece { (ks : List K) (latest : ℕ) → tuples_at ks latest text.now at ≡ tuples_left ks latest (result.0.now ∷ pieces_of (drop result.1 text.now)) }
+    ensures further { at < result.1 }
+    ensures within { result.1 ≤ length text.now }
+{
+    let left = &text[at..];
+    match cut_first(left, b'\n') {
+        Some((piece, _)) => (piece, at + piece.len() + 1),
+        None => (left, text.len()),
+    }
+}
+
+/// The first tuple of a text from a place on, and where the next line begins. At a bad line there is none.
+fn next_tuple(
+    alloc: Global,
+    kinds: &[Kind],
+    latest: u64,
+    text: &[u8],
+    at: usize,
+    unquoted: &mut Vec<u8>,
+) -> Result<Option<(Tuple, usize)>, AllocError>
+    ensures tuple { IfOk result (λ o. MatchOption o (tuples_at kinds.now latest text.now at ≡ [])
+        (λ p. tuples_at kinds.now latest text.now at ≡ p.0 ∷ tuples_at kinds.now p.0.time text.now p.1)) }
+    ensures further { IfOk result (λ o. IfSome o (λ p. (at < p.1) × (p.1 ≤ length text.now))) }
+{
+    let mut next = at;
+    while next < text.len() {
+        let (piece, behind) = piece_at(text, next);
+        next = behind;
+        let line = without_return(piece);
+        if line.is_empty() {
+            continue;
+        }
+        return match read_tuple(alloc, kinds, 0, latest, line, unquoted) {
+            Ok(tuple) => Ok(Some((tuple, next))),
+            Err(TupleErr::Bad(_)) => Ok(None),
+            Err(TupleErr::Memory) => Err(AllocError),
+        };
+    }
+    Ok(None)
+}
+
+/// Puts all tuples of a text from a place on behind others.
+pub(crate) fn read_rest(
+    alloc: Global,
+    kinds: &[Kind],
+    after: u64,
+    text: &[u8],
+    from: usize,
+    tuples: &mut Vec<Tuple>,
+) -> Result<(), AllocError>
+    ensures { OnOk result (tuples.new.items ≡ tuples.old.items ++ tuples_at kinds.now after text.now from) }
+{
+    let mut unquoted = Vec::new(alloc);
+    let (mut latest, mut at) = (after, from);
+    while let Some((tuple, next)) = next_tuple(alloc, kinds, latest, text, at, &mut unquoted)? {
+        latest = tuple.time;
+        at = next;
+        tuples.push(tuple)?;
+    }
+    Ok(())
+}
+
+/// Makes the next tuple ready, where there is one.
+fn read_ahead(ready: &mut VecDeque<Tuple>, unread: &mut Unread) -> Result<(), AllocError>
+    ensures same { ready.new.items ++ unread_tuples unread.new ≡ ready.old.items ++ unread_tuples unread.old }
+    ensures more { OnOk result ((unread_tuples unread.new ≡ []) ⊎ (length ready.new.items ≡ length ready.old.items + 1)) }
+    ensures err { OnErr result ((ready.new.items ≡ ready.old.items) × (unread_tuples unread.new ≡ unread_tuples unread.old)) }
+{
+    let alloc = *unread.text.allocator();
+    let next = next_tuple(
+        alloc,
+        &unread.kinds,
+        unread.latest,
+        &unread.text,
+        unread.at,
+        &mut unread.unquoted,
+    )?;
+    if let Some((tuple, at)) = next {
+        let latest = tuple.time;
+        ready.push_back(tuple)?;
+        unread.latest = latest;
+        unread.at = at;
+    }
+    Ok(())
+}
+
+/// The first tuple of a stream file, where there is one, and what stands behind it.
+pub(crate) fn begun(
+    alloc: Global,
+    text: Vec<u8>,
+    kinds: &[Kind],
+) -> Result<(VecDeque<Tuple>, Unread), AllocError>
+    ensures all { IfOk result (λ p. p.0.items ++ unread_tuples p.1 ≡ tuples_left kinds.now 0 (pieces_of (without_mark text.items))) }
+    ensures ahead { IfOk result (λ p. IsAhead p.0.items p.1) }
+{
+    let mut ready = VecDeque::new(alloc);
+    let mut unread = Unread::new(alloc, text, kinds)?;
+    read_ahead(&mut ready, &mut unread)?;
+    Ok((ready, unread))
+}
+
+/// Takes the next tuple, where there is one, and makes the one behind it ready.
+pub(crate) fn take_next(
+    ready: &mut VecDeque<Tuple>,
+    unread: &mut Unread,
+) -> Result<Option<Tuple>, AllocError>
+    requires { IsAhead ready.old.items unread.old }
+    ensures taken { IfOk result (λ o. MatchOption o
+        ((ready.old.items ++ unread_tuples unread.old ≡ []) × (ready.new.items ++ unread_tuples unread.new ≡ []))
+        (λ t. ready.old.items ++ unread_tuples unread.old ≡ t ∷ (ready.new.items ++ unread_tuples unread.new))) }
+    ensures ahead { IsAhead ready.new.items unread.new }
+    ensures err { OnErr result (ready.new.items ++ unread_tuples unread.new ≡ ready.old.items ++ unread_tuples unread.old) }
+{
+    if ready.len() == 1 {
+        read_ahead(ready, unread)?;
+    }
+    Ok(ready.pop_front())
+}
+
+/// The time of the first tuple, where there is one.
+pub(crate) fn first_time(ready: &VecDeque<Tuple>) -> Option<u64>
+    ensures { result ≡ first_time ready.now.items }
+{
+    match ready.front() {
+        Some(tuple) => Some(tuple.time),
+        None => None,
+    }
+}
+
+/// All tuples that are left, in order.
+pub(crate) fn all_left(
+    alloc: Global,
+    ready: VecDeque<Tuple>,
+    unread: Unread,
+) -> Result<Vec<Tuple>, AllocError>
+    ensures { IfOk result (λ v. v.items ≡ ready.items ++ unread_tuples unread) }
+{
+    let mut tuples = Vec::from(ready);
+    read_rest(
+        alloc,
+        &unread.kinds,
+        unread.latest,
+        &unread.text,
+        unread.at,
+        &mut tuples,
+    )?;
+    Ok(tuples)
+}
