@@ -2,8 +2,6 @@
 use Rattle.std.proofs.Common.{◌≡◌, ℕ, zero, suc, ◌+◌, ◌-◌, ◌<◌, ◌≤◌, eqb, cond, Bool, true, false, ◌||◌, List, [], ◌∷◌, ◌++◌, map, length, Some, None, slice_get, refl, ap, sym, ◌∙◌, subst, arith, zero-le, inl, inr}
 use Rattle.std.proofs.lemmas.Bool.{cases_lt}
 use Rattle.std.specs.List.{AllByRecursion}
-use Rattle.std.specs.declared.alloc.Global.{Global}
-use Rattle.std.specs.declared.collections.VecDeque.{VecDeque}
 use Rattle.std.proofs.lemmas.Option.{slice_get_within}
 use Rattle.sq_value.specs.declared.Tuple.{Tuple}
 use Rattle.sq_value.specs.Values.{IsStream}
@@ -20,6 +18,7 @@ use Rattle.sq_below.specs.Actors.{stream_of}
 use Rattle.sq_sched.specs.Ready.{contains, OnlyOnce}
 use Rattle.sq_queue.specs.Faces.{face}
 use Rattle.sq_actor.specs.declared.actor.Actor.{Actor}
+use Rattle.sq_replay.specs.Recorded.{Recorded}
 use Rattle.sq_flow.specs.declared.flow.Flow.{Flow}
 use Rattle.sq_flow.specs.declared.engine.Engine.{Engine}
 use Rattle.sq_flow.specs.Events.{bodies}
@@ -127,7 +126,7 @@ rise-from time [] s t f = _
 rise-from time (x ∷ []) s t f = (f, t.0, _)
 rise-from time (x ∷ y ∷ xs) s t f = (f, t.0, rise-from x.time (y ∷ xs) s.1 t.1 s.0)
 
-pub rising : (queues : List (VecDeque Tuple Global)) → AllByRecursion IsStream (map (λ q. q.items) queues) → AllByRecursion (AllByRecursion IsSoundTuple) (map (λ q. q.items) queues)
+pub rising : (queues : List Recorded) → AllByRecursion IsStream (map (λ q. q.items) queues) → AllByRecursion (AllByRecursion IsSoundTuple) (map (λ q. q.items) queues)
     → (source : ℕ) → RiseFrom 0 (tuples_at (slice_get queues source))
 rising [] s t source = _
 rising (q ∷ queues) s t zero = rise-from 0 q.items s.0 t.0 (first-zero q.items)
@@ -137,7 +136,7 @@ rising (q ∷ queues) s t zero = rise-from 0 q.items s.0 t.0 (first-zero q.items
     first-zero (x ∷ xs) = zero-le
 rising (q ∷ queues) s t (suc source) = rising queues s.1 t.1 source
 
-pub few-queued : (queues : List (VecDeque Tuple Global)) → AllByRecursion (λ xs. length xs ≤ 1000000) (map (λ q. q.items) queues) → (source : ℕ) → length (tuples_at (slice_get queues source)) ≤ 1000000
+pub few-queued : (queues : List Recorded) → AllByRecursion (λ xs. length xs ≤ 1000000) (map (λ q. q.items) queues) → (source : ℕ) → length (tuples_at (slice_get queues source)) ≤ 1000000
 few-queued [] few source = zero-le
 few-queued (q ∷ queues) few zero = few.0
 few-queued (q ∷ queues) few (suc source) = few-queued queues few.1 source

@@ -2,9 +2,7 @@
 use Rattle.std.proofs.Common.{◌≡◌, ℕ, zero, suc, ◌<◌, ◌≤◌, not, true, false, List, [], ◌∷◌, map, length, Option, Some, None, Vec, slice_get, refl, ap, sym, ◌∙◌, subst, arith, inl, inr}
 use Rattle.std.specs.List.{AllByRecursion}
 use Rattle.std.specs.declared.alloc.Global.{Global}
-use Rattle.std.specs.declared.collections.VecDeque.{VecDeque}
 use Rattle.std.proofs.lemmas.Option.{slice_get_within}
-use Rattle.sq_value.specs.declared.Tuple.{Tuple}
 use Rattle.sq_item.specs.Things.{spread_all}
 use Rattle.sq_outside.specs.Disks.{Pages}
 use Rattle.sq_road.specs.Levels.{LevelTable}
@@ -31,6 +29,7 @@ use Rattle.sq_start.specs.Comes.{TakesArcs, FedMayCome, MarksAreTaken, TuplesAre
 use Rattle.sq_start.specs.Laws.{IsNew}
 use Rattle.sq_start.proofs.NumberLemmas.{box-at, drop-at, output-at, which}
 use Rattle.sq_actor.specs.declared.actor.Actor as operator
+use Rattle.sq_replay.specs.Recorded.{Recorded}
 use Rattle.sq_flow.specs.declared.wires.Wires.{Wires}
 use Rattle.sq_flow.specs.declared.flow.Flow.{Flow}
 use Rattle.sq_flow.specs.declared.seats.Seat.{Seat}
@@ -45,7 +44,7 @@ use Rattle.sq_core.proofs.NetLemmas.{takes-arcs, marks-come, tuples-come, joins-
 use Rattle.sq_core.proofs.SumLemmas.{sum-none}
 
 -- what is to be released of a source is its stream
-released : (queues : List (VecDeque Tuple Global)) (source : ℕ) → tuples_at (slice_get queues source) ≡ nth (map (λ q. q.items) queues) source
+released : (queues : List Recorded) (source : ℕ) → tuples_at (slice_get queues source) ≡ nth (map (λ q. q.items) queues) source
 released [] source = refl
 released (q ∷ queues) zero = refl
 released (q ∷ queues) (suc source) = released queues source
@@ -156,7 +155,7 @@ module _ (n : Network) (sound : IsSound n) (places : (d : ℕ) (p : DropPoint) �
         let at : lost_at actors (slice_get seats b) (fed_to r (actor_at n b)) ≡ lost_by r (actor_at n b) = ap (λ o. lost_at actors o (fed_to r (actor_at n b))) s.1 ∙ s.2.loses r read network seed in
         subst (λ x. lost_at actors (slice_get seats b) (fed_to r x) ≡ lost_by r x) (box-at n b low) at
 
-    pub is-new : (seats-vec : Vec (Seat operator.Actor) Global) → seats-vec.items ≡ seats → (queues : Vec (VecDeque Tuple Global) Global) → map (λ q. q.items) queues.items ≡ r.sources
+    pub is-new : (seats-vec : Vec (Seat operator.Actor) Global) → seats-vec.items ≡ seats → (queues : Vec Recorded Global) → map (λ q. q.items) queues.items ≡ r.sources
         → (planner : Setting) (levels : LevelTable) (most : ℕ) (flow : Flow operator.Actor) → IsNewFlow w seats-vec queues planner levels most flow → w.replay ≡ ops_of n → (pages : Option Pages)
         → IsNew r (net_of flow.wires) (world_of actors (level_of r) (items_in flow pages) flow)
     is-new seats-vec same queues streams planner levels most flow new replay pages =

@@ -20,13 +20,14 @@ ghost use Rattle.sq_flow.specs.Causes.{IsCauseIn};
 ghost use Rattle.sq_flow.specs.Events.{IsEventIn};
 ghost use Rattle.sq_points.specs.Points.{drops_in};
 
-use crate::start::network_engine;
+use crate::start::{network_engine, queued};
 use sq_actor::Actor;
 use sq_flow::{Progress, RunErr, State};
 use sq_net::Network;
 use sq_oper::Event;
 use sq_outside::{PageDisk, Steps};
 use sq_plan::Capacities;
+use sq_replay::Stream;
 use sq_sched::{Pick, Ready};
 use sq_value::Tuple;
 use std::alloc::{AllocError, Global};
@@ -63,6 +64,33 @@ impl Engine {
         alloc: Global,
         network: Network,
         sources: Vec<Vec<Tuple>>,
+        capacities: Capacities,
+        seed: u64,
+        frames: u32,
+    ) -> Result<Engine, AllocError>
+        requires sound { IsSound network }
+        requires limits { KeepsDropLimits network }
+        requires lists { length sources.items ≡ length network.sources }
+        requires streams { AllByRecursion IsStream (map (λ v. v.items) sources.items) }
+        requires tuples { AllByRecursion (AllByRecursion IsSoundTuple) (map (λ v. v.items) sources.items) }
+        requires few { AllByRecursion (λ xs. length xs ≤ 1000000) (map (λ v. v.items) sources.items) }
+        requires fit { SourcesFit network (map (λ v. v.items) sources.items) }
+        requires frames { 2 ≤ frames }
+        ensures sound { IfOk result IsSoundEngine }
+        ensures run { IfOk result (λ e. (pages : Option Pages) (steps : ℕ)
+            → IsRun (record { network = network; sources = map (λ v. v.items) sources.items; entries = capacities; seed = seed }) pages e [] steps steps) }
+        ensures ready { IfOk result (λ e. e.engine.ready.list ≡ 0 ∷ []) }
+        ensures frames { IfOk result (λ e. faces.frames e.engine.flow.queues ≡ frames) }
+    {
+        let streams = queued(alloc, sources)?;
+        Engine::replaying(alloc, network, streams, capacities, seed, frames)
+    }
+
+    /// The same over streams, one for each source: a tuple is taken from its stream when it is released.
+    pub fn replaying(
+        alloc: Global,
+        network: Network,
+        sources: Vec<Stream>,
         capacities: Capacities,
         seed: u64,
         frames: u32,

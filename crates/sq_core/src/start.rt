@@ -26,21 +26,21 @@ use sq_net::Network;
 use sq_place::{DropPoint, PlaceErr};
 use sq_plan::Capacities;
 use sq_points::{network_planner, network_points};
+use sq_replay::Stream;
 use sq_road::Levels;
 use sq_start::{arcs_may_come, starts_as_replayed};
 use sq_value::Tuple;
 use std::alloc::{AllocError, Global};
-use std::collections::VecDeque;
 
-/// The tuples of each source, to be taken one after another.
-fn queued(alloc: Global, sources: Vec<Vec<Tuple>>) -> Result<Vec<VecDeque<Tuple>>, AllocError>
-    ensures { IfOk result (λ queues. map (λ q. q.items) queues.items ≡ map (λ v. v.items) sources.items) }
+/// What each source recorded, to be released a tuple at a time.
+pub(crate) fn queued(alloc: Global, sources: Vec<Vec<Tuple>>) -> Result<Vec<Stream>, AllocError>
+    ensures { IfOk result (λ streams. map (λ s. s.items) streams.items ≡ map (λ v. v.items) sources.items) }
 {
-    let mut queues = Vec::new(alloc);
+    let mut streams = Vec::new(alloc);
     for source in sources {
-        queues.push(VecDeque::from(source))?;
+        streams.push(Stream::listed(alloc, source))?;
     }
-    Ok(queues)
+    Ok(streams)
 }
 
 /// The drop points of a network that keeps their limits.
@@ -62,7 +62,7 @@ fn points_in(alloc: Global, n: &Network) -> Result<Vec<DropPoint>, AllocError>
 pub(crate) fn network_engine(
     alloc: Global,
     n: &Network,
-    sources: Vec<Vec<Tuple>>,
+    sources: Vec<Stream>,
     capacities: &Capacities,
     seed: u64,
     frames: u32,
@@ -93,8 +93,7 @@ pub(crate) fn network_engine(
     let points = points_in(alloc, n)?;
     let wires = network_wires(alloc, n, &points)?;
     let seats = network_seats(alloc, n, &points, seed)?;
-    let queues = queued(alloc, sources)?;
     let planner = network_planner(alloc, n, &points, capacities)?;
     let levels = Levels::new(alloc, n.epoch);
-    Engine::new(alloc, wires, seats, queues, planner, levels, frames)
+    Engine::new(alloc, wires, seats, sources, planner, levels, frames)
 }

@@ -7,8 +7,6 @@ use Rattle.std.proofs.lemmas.Nat.{le-div}
 use Rattle.std.proofs.lemmas.Option.{same_Some}
 use Rattle.std.proofs.lemmas.Grind.{flat_map-append}
 use Rattle.std.proofs.lemmas.List.Sums.{sum_by-cons}
-use Rattle.std.specs.declared.alloc.Global.{Global}
-use Rattle.std.specs.declared.collections.VecDeque.{VecDeque}
 use Rattle.sq_value.specs.declared.Tuple.{Tuple}
 use Rattle.sq_value.specs.Lists.{max_by}
 use Rattle.sq_left.proofs.MergeLemmas.{eqb-same, eqb-not}
@@ -16,6 +14,7 @@ use Rattle.sq_plan.specs.Flows.{AreCounts}
 use Rattle.sq_plan.specs.Shown.{is_quiet}
 use Rattle.sq_oper.specs.declared.outs.Event.{Event}
 use Rattle.sq_oper.specs.declared.outs.Event.TheVariants.{Plan}
+use Rattle.sq_replay.specs.Recorded.{Recorded}
 use Rattle.sq_flow.specs.Events.{lines_of}
 use Rattle.sq_flow.specs.Flows.{tuples_at, RiseFrom}
 use Rattle.sq_flow.specs.Plans.{arrivals, last_arrival, add_counts, plans_of}
@@ -79,7 +78,7 @@ rise-later from time [] h le = tt
 rise-later from time (x ∷ ts) h le = (le, h.1, h.2)
 
 -- counts
-abbrev pub streams : List (VecDeque Tuple Global) → List (List Tuple)
+abbrev pub streams : List Recorded → List (List Tuple)
 streams sources = map (λ tuples. tuples.items) sources
 
 count-cons : (p : Tuple → Bool) (x : Tuple) (xs : List Tuple) → count_by p (x ∷ xs) ≡ cond (p x) 1 0 + count_by p xs
@@ -102,7 +101,7 @@ zeros-more (x ∷ xs) (suc n) h = ap (λ k. k ∷ add_counts xs (replicate n 0))
     add-none : (k : ℕ) → k + 0 ≡ k
     add-none k = omega arith
 
-pub arrivals-len : (epoch e : ℕ) (sources : List (VecDeque Tuple Global)) → length (arrivals epoch (streams sources) e) ≡ length sources
+pub arrivals-len : (epoch e : ℕ) (sources : List Recorded) → length (arrivals epoch (streams sources) e) ≡ length sources
 arrivals-len epoch e [] = refl
 arrivals-len epoch e (s ∷ sources) = ap suc (arrivals-len epoch e sources)
 
@@ -126,7 +125,7 @@ module _ (epoch e : ℕ) (pos : 0 < epoch) where
       none-add : (k : ℕ) → 0 + k ≡ k
       none-add k = omega arith
 
-  pub none-arrive : (time : ℕ) (sources : List (VecDeque Tuple Global)) → e < time / epoch → ((source : ℕ) → RiseFrom time (tuples_at (slice_get sources source)))
+  pub none-arrive : (time : ℕ) (sources : List Recorded) → e < time / epoch → ((source : ℕ) → RiseFrom time (tuples_at (slice_get sources source)))
       → arrivals epoch (streams sources) e ≡ replicate (length sources) 0
   none-arrive time [] later rise = refl
   none-arrive time (s ∷ sources) later rise =
@@ -134,17 +133,17 @@ module _ (epoch e : ℕ) (pos : 0 < epoch) where
       ∙ ap (λ l. 0 ∷ l) (none-arrive time sources later (λ source. rise (suc source)))
 
 -- a source of which one tuple is taken
-module _ (epoch : ℕ) (v more : VecDeque Tuple Global) (x : Tuple) (front : v.items ≡ x ∷ more.items) where
+module _ (epoch : ℕ) (v more : Recorded) (x : Tuple) (front : v.items ≡ x ∷ more.items) where
   took : (e : ℕ) → count_by (λ y. eqb (y.time / epoch) e) v.items ≡ cond (eqb (x.time / epoch) e) 1 0 + count_by (λ y. eqb (y.time / epoch) e) more.items
   took e = ap (count_by (λ y. eqb (y.time / epoch) e)) front ∙ count-cons (λ y. eqb (y.time / epoch) e) x more.items
 
-  pub arrivals-other : (e : ℕ) (sources : List (VecDeque Tuple Global)) (port : ℕ) → slice_get sources port ≡ Some v → x.time / epoch ≢ e
+  pub arrivals-other : (e : ℕ) (sources : List Recorded) (port : ℕ) → slice_get sources port ≡ Some v → x.time / epoch ≢ e
       → arrivals epoch (streams (set sources port more)) e ≡ arrivals epoch (streams sources) e
   arrivals-other e [] port is apart = refl
   arrivals-other e (s ∷ sources) zero is apart =
       let same : s ≡ v = same_Some s v is in
       ap (λ k. k ∷ arrivals epoch (streams sources) e)
-      (sym (ap (λ (d : VecDeque Tuple Global). count_by (λ y. eqb (y.time / epoch) e) d.items) same ∙ took e
+      (sym (ap (λ (d : Recorded). count_by (λ y. eqb (y.time / epoch) e) d.items) same ∙ took e
       ∙ ap (λ b. cond b 1 0 + count_by (λ y. eqb (y.time / epoch) e) more.items) (eqb-not (x.time / epoch) e apart)
       ∙ none-add (count_by (λ y. eqb (y.time / epoch) e) more.items)))
     where
@@ -153,7 +152,7 @@ module _ (epoch : ℕ) (v more : VecDeque Tuple Global) (x : Tuple) (front : v.i
   arrivals-other e (s ∷ sources) (suc port) is apart = ap (λ l. count_by (λ y. eqb (y.time / epoch) e) s.items ∷ l) (arrivals-other e sources port is apart)
 
   -- it is counted where it was to arrive
-  pub counted-one : (e : ℕ) (sources : List (VecDeque Tuple Global)) (counts : List ℕ) (port : ℕ) → slice_get sources port ≡ Some v → x.time / epoch ≡ e → length counts ≡ length sources
+  pub counted-one : (e : ℕ) (sources : List Recorded) (counts : List ℕ) (port : ℕ) → slice_get sources port ≡ Some v → x.time / epoch ≡ e → length counts ≡ length sources
       → add_counts (set counts port (slice_index counts port + 1)) (arrivals epoch (streams (set sources port more)) e) ≡ add_counts counts (arrivals epoch (streams sources) e)
   counted-one e [] counts port is hit len = cc is
   counted-one e (s ∷ sources) [] port is hit len = absurd (omega (arith, len))
@@ -162,19 +161,19 @@ module _ (epoch : ℕ) (v more : VecDeque Tuple Global) (x : Tuple) (front : v.i
       ap (λ k. k ∷ add_counts counts (arrivals epoch (streams sources) e))
       (one-more c (count_by (λ y. eqb (y.time / epoch) e) more.items)
       ∙ ap (λ b. c + (cond b 1 0 + count_by (λ y. eqb (y.time / epoch) e) more.items)) (sym (eqb-same (x.time / epoch) e hit))
-      ∙ ap (λ k. c + k) (sym (ap (λ (d : VecDeque Tuple Global). count_by (λ y. eqb (y.time / epoch) e) d.items) same ∙ took e)))
+      ∙ ap (λ k. c + k) (sym (ap (λ (d : Recorded). count_by (λ y. eqb (y.time / epoch) e) d.items) same ∙ took e)))
     where
       one-more : (c k : ℕ) → c + 1 + k ≡ c + (1 + k)
       one-more c k = omega arith
   counted-one e (s ∷ sources) (c ∷ counts) (suc port) is hit len =
       ap (λ l. (c + count_by (λ y. eqb (y.time / epoch) e) s.items) ∷ l) (counted-one e sources counts port is hit (omega (arith, len)))
 
-  pub last-taken : (sources : List (VecDeque Tuple Global)) (port : ℕ) → slice_get sources port ≡ Some v
+  pub last-taken : (sources : List Recorded) (port : ℕ) → slice_get sources port ≡ Some v
       → last_arrival epoch (streams sources) ≡ max (x.time / epoch) (last_arrival epoch (streams (set sources port more)))
   last-taken [] port is = cc is
   last-taken (s ∷ sources) zero is =
       let same : s ≡ v = same_Some s v is in
-      let top = ap (λ (d : VecDeque Tuple Global). max_by (λ y. y.time / epoch) d.items) same ∙ ap (max_by (λ y. y.time / epoch)) front in
+      let top = ap (λ (d : Recorded). max_by (λ y. y.time / epoch) d.items) same ∙ ap (max_by (λ y. y.time / epoch)) front in
       ap (λ k. max k (last_arrival epoch (streams sources))) top
       ∙ both (x.time / epoch) (max_by (λ y. y.time / epoch) more.items) (last_arrival epoch (streams sources))
     where

@@ -4,7 +4,6 @@ use Rattle.std.specs.Prelude.{slice_get, slice_index, Vec}
 use Rattle.std.specs.List.{flat_map, range_with_len}
 use Rattle.std.proofs.lemmas.List.{length-replicate}
 use Rattle.std.specs.declared.alloc.Global.{Global}
-use Rattle.std.specs.declared.collections.VecDeque.{VecDeque}
 use Rattle.sq_value.specs.declared.Tuple.{Tuple}
 use Rattle.sq_left.proofs.MergeLemmas.{eqb-yes, eqb-no, eqb-same, eqb-not}
 use Rattle.sq_road.specs.Levels.{LevelTable, level_of, Agrees}
@@ -13,6 +12,7 @@ use Rattle.sq_plan.specs.Plans.{Setting}
 use Rattle.sq_plan.specs.Shown.{is_quiet, level_for, shown_from, shown_after, Ended}
 use Rattle.sq_oper.specs.declared.outs.Event.{Event}
 use Rattle.sq_queue.specs.declared.Queues.{Queues}
+use Rattle.sq_replay.specs.Recorded.{Recorded}
 use Rattle.sq_flow.specs.declared.flow.Flow.{Flow}
 use Rattle.sq_flow.specs.Seats.{Meaning}
 use Rattle.sq_flow.specs.Events.{lines_of, drops_of, ShowsIn}
@@ -41,7 +41,7 @@ pub agrees-before : (levels levels' : LevelTable) → ((x w : ℕ) → x < level
 agrees-before levels levels' keeps grows table h epoch drop low = h epoch drop (omega (arith, low, grows)) ∙ keeps epoch drop low
 
 module _ {O : Type 0} (m : Meaning O) (valid : O → Type 0) (e : Flow O) (flow : IsFlow m valid e) (pos : 0 < e.levels.epoch)
-    (port : ℕ) (v more : VecDeque Tuple Global) (x : Tuple) (least : IsNextSource e.sources.items port)
+    (port : ℕ) (v more : Recorded) (x : Tuple) (least : IsNextSource e.sources.items port)
     (at : slice_get e.sources.items port ≡ Some v) (front : v.items ≡ x ∷ more.items) where
   abbrev pub epoch_there : ℕ
   epoch_there = x.time / e.levels.epoch
@@ -116,7 +116,7 @@ module _ {O : Type 0} (m : Meaning O) (valid : O → Type 0) (e : Flow O) (flow 
         by true h = ap (λ l. add_counts l arrive) (sym h)
         by false h = sym (ap (λ l. add_counts l arrive) h ∙ add-zeros (length e.counts.items) arrive (arrivals-len e.levels.epoch epoch_there e.sources.items ∙ sym flow.counts))
 
-    module _ (queues' : Queues) (sources' : Vec (VecDeque Tuple Global) Global) (counts' : Vec ℕ Global)
+    module _ (queues' : Queues) (sources' : Vec Recorded Global) (counts' : Vec ℕ Global)
         (taken : sources'.items ≡ set e.sources.items port more) (counts_are : counts'.items ≡ set mid port (slice_index mid port + 1)) where
       abbrev pub flow-after : Flow O
       flow-after = record e { queues = queues'; sources = sources'; clock = x.time; planner = planner'; levels = levels'; counts = counts' }

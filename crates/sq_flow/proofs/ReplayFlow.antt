@@ -2,7 +2,6 @@
 use Rattle.std.proofs.Common.{◌≡◌, ◌≢◌, ℕ, zero, suc, ◌+◌, ◌/◌, ◌<◌, ◌≤◌, eqb, cond, Bool, true, false, not, ◌||◌, List, [], ◌∷◌, ◌++◌, length, set, Option, Some, None, refl, ap, sym, ◌∙◌, append-nil, arith, subst}
 use Rattle.std.specs.Prelude.{slice_get, slice_index, Vec}
 use Rattle.std.specs.declared.alloc.Global.{Global}
-use Rattle.std.specs.declared.collections.VecDeque.{VecDeque}
 use Rattle.std.proofs.lemmas.Option.{slice_get_past, same_Some}
 use Rattle.std.proofs.lemmas.List.{length-set, get_or-set_same, get_or-set_other}
 use Rattle.sq_value.specs.declared.Tuple.{Tuple}
@@ -25,6 +24,7 @@ use Rattle.sq_queue.specs.declared.Queues.{Queues}
 use Rattle.sq_outside.specs.Disks.{Pages}
 use Rattle.sq_pool.specs.Trust.{Tells}
 use Rattle.sq_queue.specs.Faces.{face, size, frames, items_on, Together}
+use Rattle.sq_replay.specs.Recorded.{Recorded}
 use Rattle.sq_flow.specs.Sends.{many, Pushes}
 use Rattle.sq_flow.specs.Sources.{BeginsLeast, IsNextSource}
 use Rattle.sq_flow.proofs.PlanLemmas.{rise-later}
@@ -61,7 +61,7 @@ replay-open m valid e flow open_now =
 
 -- a step of the replay that pushes what the source loses
 module _ {O : Type 0} (m : Meaning O) (valid : O → Type 0) (e : Flow O) (flow : IsFlow m valid e) (table : ℕ → ℕ → ℕ) (items items' : ℕ → List Item) (holds : HoldsItems m table items e)
-    (over' : Bool) (queues' : Queues) (sources' : Vec (VecDeque Tuple Global) Global) (clock' : ℕ) (planner' : Setting) (levels' : LevelTable) (counts' : Vec ℕ Global) (pushed : ℕ → ℕ → List Thing)
+    (over' : Bool) (queues' : Queues) (sources' : Vec Recorded Global) (clock' : ℕ) (planner' : Setting) (levels' : LevelTable) (counts' : Vec ℕ Global) (pushed : ℕ → ℕ → List Thing)
     (source : (q : ℕ) → things (to_release e q) ≡ pushed e.wires.replay q ++ things (tuples_at (slice_get sources'.items q)))
     (quiet : (other : ℕ) → other ≢ e.wires.replay → (q : ℕ) → pushed other q ≡ [])
     (ends : over' ≡ true → (q : ℕ) → tuples_at (slice_get sources'.items q) ≡ [])
@@ -155,7 +155,7 @@ module _ {O : Type 0} (m : Meaning O) (valid : O → Type 0) (e : Flow O) (flow 
   not-replay other low = let r = flow.shaped.replay_is in omega (arith, r, low)
 
   -- the whole of a release, from what its parts say
-  module _ (pos : 0 < e.levels.epoch) (port : ℕ) (v more : VecDeque Tuple Global) (x : Tuple) (next : IsNextSource e.sources.items port)
+  module _ (pos : 0 < e.levels.epoch) (port : ℕ) (v more : Recorded) (x : Tuple) (next : IsNextSource e.sources.items port)
       (at : slice_get e.sources.items port ≡ Some v) (held : v.items ≡ x ∷ more.items) where
     abbrev item : Item
     item = record { time = x.time; mark = None; body = Some x.fields }
@@ -179,7 +179,7 @@ module _ {O : Type 0} (m : Meaning O) (valid : O → Type 0) (e : Flow O) (flow 
 
     module _ (planner' : Setting) (levels' : LevelTable) (mid : List ℕ) (events events' : List Event)
         (did : ClosedBefore e.planner planner' e.levels levels' e.counts.items mid (epoch_there m valid e flow pos port v more x next at held) events events')
-        (sources' : Vec (VecDeque Tuple Global) Global) (counts' : Vec ℕ Global)
+        (sources' : Vec Recorded Global) (counts' : Vec ℕ Global)
         (taken : sources'.items ≡ set e.sources.items port more) (counts_are : counts'.items ≡ set mid port (slice_index mid port + 1)) where
       is_after : slice_get sources'.items port ≡ Some more
       is_after = ap (λ l. slice_get l port) taken ∙ slice_get-set_same e.sources.items port more next.there
@@ -188,7 +188,7 @@ module _ {O : Type 0} (m : Meaning O) (valid : O → Type 0) (e : Flow O) (flow 
       apart other ne = ap (λ l. slice_get l other) taken ∙ slice_get-set_other e.sources.items port other more ne
 
       sources_len : length sources'.items ≡ length e.sources.items
-      sources_len = ap (λ (l : List (VecDeque Tuple Global)). length l) taken ∙ length-set e.sources.items port more
+      sources_len = ap (λ (l : List Recorded). length l) taken ∙ length-set e.sources.items port more
 
       coming-after : (source : ℕ) → RiseFrom x.time (tuples_at (slice_get sources'.items source))
       coming-after = at_or_other (λ k. RiseFrom x.time (tuples_at (slice_get sources'.items k))) port (rw is_after first.2)
@@ -289,7 +289,7 @@ module _ {O : Type 0} (m : Meaning O) (valid : O → Type 0) (e : Flow O) (flow 
               → spread_all (items_on q' is k) ≡ spread_all (items_on e.queues was k) ++ sent e.wires.replay port (spread item) ((net_of e.wires).from k) ((net_of e.wires).port k)
           on told k low = pushes.items told k ∙ ap (λ z. spread_all (items_on e.queues was k) ++ z) (one-sent e.wires (length e.seats.items) flow.shaped e.wires.replay port k (spread item) low)
 
-    pub released-touches : (was is : Option Pages) (q' : Queues) (sources' : Vec (VecDeque Tuple Global) Global) (planner' : Setting) (levels' : LevelTable) (counts' : Vec ℕ Global)
+    pub released-touches : (was is : Option Pages) (q' : Queues) (sources' : Vec Recorded Global) (planner' : Setting) (levels' : LevelTable) (counts' : Vec ℕ Global)
         → Pushes e.queues q' was is (λ k. many (times_in k (arcs_from e.wires e.wires.replay port)) (spread item)) (λ time. x.time ≤ time) (contains (arcs_from e.wires e.wires.replay port))
         → TouchesOnly (length e.seats.items) e (record e { queues = q'; sources = sources'; clock = x.time; planner = planner'; levels = levels'; counts = counts' })
     released-touches was is q' sources' planner' levels' counts' pushes =
@@ -386,12 +386,12 @@ lines-stay m was _ e levels events events' same decides = λ told table agrees h
     }
 
 -- a source of which one tuple was taken
-pub count-less : (sources : List (VecDeque Tuple Global)) (i : ℕ) (v v' : VecDeque Tuple Global) (x : Tuple) → slice_get sources i ≡ Some v → v.items ≡ x ∷ v'.items
+pub count-less : (sources : List Recorded) (i : ℕ) (v v' : Recorded) (x : Tuple) → slice_get sources i ≡ Some v → v.items ≡ x ∷ v'.items
     → count_all (set sources i v') + 1 ≡ count_all sources
 count-less [] i v v' x is front = cc is
 count-less (s ∷ sources) zero v v' x is front =
     let same : s ≡ v = same_Some s v is in
-    let one : length s.items ≡ length v'.items + 1 = ap (λ (d : VecDeque Tuple Global). length d.items) same ∙ ap (λ (l : List Tuple). length l) front ∙ add-one-of (length v'.items) in omega (arith, one)
+    let one : length s.items ≡ length v'.items + 1 = ap (λ (d : Recorded). length d.items) same ∙ ap (λ (l : List Tuple). length l) front ∙ add-one-of (length v'.items) in omega (arith, one)
   where
     add-one-of : (n : ℕ) → suc n ≡ n + 1
     add-one-of n = omega arith

@@ -10,12 +10,11 @@ use Rattle.sq_oper.specs.declared.outs.Decision.{Decision}
 use Rattle.sq_oper.specs.declared.outs.Event.{Event}
 use Rattle.sq_oper.specs.Given.{ThingsUpTo}
 use Rattle.sq_oper.specs.Streams.{things, IsSoundTuple}
-use Rattle.std.specs.declared.alloc.Global.{Global}
-use Rattle.std.specs.declared.collections.VecDeque.{VecDeque}
 use Rattle.sq_left.specs.Left.{World, Facts, coming, inputs, left, still_dropped, lost_in_all, fed_in_all}
 use Rattle.sq_left.specs.Heads.{AllFine}
 use Rattle.sq_pool.specs.Trust.{IsLater, known, Tells}
 use Rattle.sq_queue.specs.Faces.{face, size, frames, items_on, Together}
+use Rattle.sq_replay.specs.Recorded.{Recorded}
 use Rattle.sq_flow.specs.declared.seats.Seat.{Seat}
 use Rattle.sq_flow.specs.declared.flow.Flow.{Flow}
 use Rattle.sq_flow.specs.declared.errors.RunErr.{RunErr}
@@ -29,7 +28,7 @@ use Rattle.sq_flow.specs.Seats.{Meaning, rest_at, decides_at, lost_at, taken_at,
 use Rattle.sq_flow.specs.Events.{bodies, lines_of, drops_of, ShowsIn}
 use Rattle.sq_flow.specs.Plans.{IsPlanned, plans_left, plans_of}
 
-abbrev pub tuples_at : Option (VecDeque Tuple Global) → List Tuple
+abbrev pub tuples_at : Option Recorded → List Tuple
 tuples_at None = []
 tuples_at (Some tuples) = tuples.items
 
@@ -137,7 +136,7 @@ abbrev pub open_seats : {O : Type 0} → List (Seat O) → ℕ
 open_seats [] = 0
 open_seats (seat ∷ seats) = (if seat.tally.running then 1 else 0) + open_seats seats
 
-abbrev pub count_all : List (VecDeque Tuple Global) → ℕ
+abbrev pub count_all : List Recorded → ℕ
 count_all [] = 0
 count_all (tuples ∷ sources) = length tuples.items + count_all sources
 

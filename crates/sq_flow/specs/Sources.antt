@@ -1,8 +1,7 @@
 -- Which source releases next.
 use Rattle.std.specs.Prelude.{ℕ, ◌≤◌, ◌<◌, List, [], ◌∷◌, length, slice_get}
-use Rattle.std.specs.declared.alloc.Global.{Global}
-use Rattle.std.specs.declared.collections.VecDeque.{VecDeque}
 use Rattle.sq_value.specs.declared.Tuple.{Tuple}
+use Rattle.sq_replay.specs.Recorded.{Recorded}
 use Rattle.sq_flow.specs.Flows.{tuples_at}
 
 -- the list begins at this time or later, if it begins
@@ -15,12 +14,12 @@ BeginsAfter time [] = Unit {0}
 BeginsAfter time (x ∷ xs) = time < x.time
 
 -- the list begins, and no source of these begins before it; those of a lesser number begin after it
-abbrev pub BeginsLeast : List (VecDeque Tuple Global) → ℕ → List Tuple → Type 0
+abbrev pub BeginsLeast : List Recorded → ℕ → List Tuple → Type 0
 BeginsLeast sources source [] = ⊥
 BeginsLeast sources source (x ∷ xs) =
     ((other : ℕ) → BeginsNotBefore x.time (tuples_at (slice_get sources other))) × ((other : ℕ) → other < source → BeginsAfter x.time (tuples_at (slice_get sources other)))
 
 -- the source that has the tuple of the least time left, and of these the one of the least number
-pub record IsNextSource (sources : List (VecDeque Tuple Global)) (source : ℕ) : Type 0 where
+pub record IsNextSource (sources : List Recorded) (source : ℕ) : Type 0 where
   pub there : source < length sources
   pub least : BeginsLeast sources source (tuples_at (slice_get sources source))

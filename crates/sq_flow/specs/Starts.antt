@@ -7,12 +7,11 @@ use Rattle.sq_oper.specs.declared.outs.Decision.{Decision}
 use Rattle.sq_oper.specs.Entries.{Entry}
 use Rattle.sq_oper.specs.Order.{IsFuture}
 use Rattle.std.specs.declared.alloc.Global.{Global}
-use Rattle.std.specs.declared.collections.VecDeque.{VecDeque}
-use Rattle.sq_value.specs.declared.Tuple.{Tuple}
 use Rattle.sq_outside.specs.Disks.{Pages}
 use Rattle.sq_road.specs.Levels.{LevelTable}
 use Rattle.sq_plan.specs.Plans.{Setting}
 use Rattle.sq_queue.specs.Faces.{face, frames, items_on, Together}
+use Rattle.sq_replay.specs.Recorded.{Recorded}
 use Rattle.sq_flow.specs.declared.wires.Wires.{Wires}
 use Rattle.sq_flow.specs.declared.flow.Flow.{Flow}
 use Rattle.sq_flow.specs.declared.seats.Seat.{Seat}
@@ -35,7 +34,7 @@ pub record IsNewSeat {O : Type 0} (m : Meaning O) (valid : O → Type 0) (takes 
   pub owns : (table : ℕ → ℕ → ℕ) (future : List Entry) → IsFuture (m.takes_marks seat.op) (m.fits seat.op) Start future → AllByRecursion own (m.decides seat.op table future)
 
 -- a flow of these parts that has released nothing, with so many pages in memory at most
-pub record IsNewFlow {O : Type 0} (wires : Wires) (seats : Vec (Seat O) Global) (sources : Vec (VecDeque Tuple Global) Global) (planner : Setting) (levels : LevelTable) (most : ℕ) (flow : Flow O) : Type 0 where
+pub record IsNewFlow {O : Type 0} (wires : Wires) (seats : Vec (Seat O) Global) (sources : Vec Recorded Global) (planner : Setting) (levels : LevelTable) (most : ℕ) (flow : Flow O) : Type 0 where
   pub wires_are : flow.wires ≡ wires
   pub seats_are : flow.seats ≡ seats
   pub sources_are : flow.sources ≡ sources

@@ -21,11 +21,10 @@ use sq_oper::{Event, Operator, Outs};
 use sq_outside::{PageDisk, Steps};
 use sq_plan::Planner;
 use sq_queue::Queues;
+use sq_replay::Stream;
 use sq_road::Levels;
 use sq_sched::{Pick, Ready};
-use sq_value::Tuple;
 use std::alloc::{AllocError, Global};
-use std::collections::VecDeque;
 use std::sync::ledger::Ledger;
 
 /// A flow, which actors are ready, and how many items wait for each. Actor 0 is the replay; operator k is actor k + 1.
@@ -69,7 +68,7 @@ impl<O: Operator + Drop> Flow<O> {
         alloc: Global,
         wires: Wires,
         seats: Vec<Seat<O>>,
-        sources: Vec<VecDeque<Tuple>>,
+        sources: Vec<Stream>,
         planner: Planner,
         levels: Levels,
         frames: u32,
@@ -121,7 +120,7 @@ impl<O: Operator + Drop> Engine<O> {
         alloc: Global,
         wires: Wires,
         seats: Vec<Seat<O>>,
-        sources: Vec<VecDeque<Tuple>>,
+        sources: Vec<Stream>,
         planner: Planner,
         levels: Levels,
         frames: u32,

@@ -1,7 +1,7 @@
 //! The run of operators, one atomic step at a time.
 
 ghost use Rattle.sq_value.specs.Lists.{IsPrefixOf};
-ghost use Rattle.std.specs.Prelude.{◌≡◌, ◌≢◌, ℕ, ◌+◌, ◌-◌, ◌^◌, ◌/◌, ◌<◌, ◌≤◌, ◌∷◌, ◌==◌, ◌||◌, true, false, List, [], Option, Some, None, OnOk, OnErr, IfErr, IfSome, length, slice_get, if◌then◌else◌};
+ghost use Rattle.std.specs.Prelude.{◌≡◌, ◌≢◌, ℕ, ◌+◌, ◌-◌, ◌^◌, ◌/◌, ◌<◌, ◌≤◌, ◌∷◌, ◌==◌, ◌||◌, true, false, List, [], Option, Some, None, OnOk, OnErr, IfOk, IfErr, IfSome, length, slice_get, if◌then◌else◌};
 ghost use Rattle.sq_oper.specs.declared.outs.Event.{Event};
 ghost use Rattle.sq_outside.specs.Disks.{Pages};
 ghost use Rattle.sq_road.specs.Levels.{Agrees};
@@ -24,9 +24,10 @@ use sq_oper::{Event, Operator, Outs};
 use sq_outside::{PageDisk, Steps};
 use sq_plan::Planner;
 use sq_queue::Queues;
+use sq_replay::Stream;
 use sq_road::Levels;
 use sq_value::Tuple;
-use std::collections::VecDeque;
+use std::alloc::AllocError;
 use std::sync::ledger::Ledger;
 
 /// Operators joined by queues, and a replay of what each source has still to release. The levels of the closed epochs are known;
@@ -37,7 +38,7 @@ pub struct Flow<O> {
     pub seats: Vec<Seat<O>>,
     pub over: bool,
     pub queues: Queues,
-    pub sources: Vec<VecDeque<Tuple>>,
+    pub sources: Vec<Stream>,
     pub clock: u64,
     pub planner: Planner,
     pub levels: Levels,
@@ -54,7 +55,7 @@ pub enum Did {
 }
 
 /// The source that releases next: that of the least time, and of these the first; none where nothing is left.
-pub(crate) fn next_source(sources: &Vec<VecDeque<Tuple>>) -> Option<u32>
+pub(crate) fn next_source(sources: &Vec<Stream>) -> Option<u32>
     requires { length sources.now.items < 2 ^ 32 }
     ensures none { result ≡ None → (source : ℕ) → tuples_at (slice_get sources.now.items source) ≡ [] }
     ensures some { IfSome result (λ source. IsNextSource sources.now.items source) }
@@ -62,23 +63,24 @@ pub(crate) fn next_source(sources: &Vec<VecDeque<Tuple>>) -> Option<u32>
     let mut best = None;
     let mut least = 0;
     for source in 0..sources.len() {
-        if let Some(tuple) = sources[source].front() {
-            if best.is_none() || tuple.time < least {
+        if let Some(time) = sources[source].time() {
+            if best.is_none() || time < least {
                 best = Some(source as u32);
-                least = tuple.time;
+                least = time;
             }
         }
     }
     best
 }
 
-/// Takes the first tuple of a source.
-fn first_of(tuples: &mut VecDeque<Tuple>) -> Tuple
-    requires { 0 < length tuples.old.items }
-    ensures { tuples.old.items ≡ result ∷ tuples.new.items }
+/// Takes the first tuple of a source that has one left.
+fn first_of(stream: &mut Stream) -> Result<Tuple, AllocError>
+    requires { 0 < length stream.old.items }
+    ensures ok { IfOk result (λ tuple. stream.old.items ≡ tuple ∷ stream.new.items) }
+    ensures err { OnErr result (stream.new ≡ stream.old) }
 {
-    match tuples.pop_front() {
-        Some(tuple) => tuple,
+    match stream.take()? {
+        Some(tuple) => Ok(tuple),
         None => unreachable!(),
     }
 }
@@ -248,7 +250,7 @@ impl<O: Operator + Drop> Flow<O> {
         ensures stay { IsPrefixOf events.old.items events.new.items }
         ensures took { OnOk result (Took (length self.old.seats.items) 1 false self.old self.new) }
     {
-        let tuple = first_of(&mut self.sources[source as usize]);
+        let tuple = first_of(&mut self.sources[source as usize])?;
         self.clock = tuple.time;
         let next = tuple.time / self.levels.epoch();
         close_before(

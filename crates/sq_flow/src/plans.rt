@@ -11,16 +11,12 @@ ghost use Rattle.sq_flow.specs.Plans.{plans_of};
 
 use sq_oper::Event;
 use sq_plan::{Planner, Shown, close_epochs};
+use sq_replay::Stream;
 use sq_road::Levels;
-use sq_value::Tuple;
 use std::alloc::{AllocError, Global};
-use std::collections::VecDeque;
 
 /// Nothing is counted of any source.
-pub(crate) fn no_counts(
-    alloc: Global,
-    sources: &Vec<VecDeque<Tuple>>,
-) -> Result<Vec<u64>, AllocError>
+pub(crate) fn no_counts(alloc: Global, sources: &Vec<Stream>) -> Result<Vec<u64>, AllocError>
     ensures { IfOk result (λ v. v.items ≡ replicate (length sources.now.items) 0) }
 {
     vec![in alloc; 0; sources.len()]

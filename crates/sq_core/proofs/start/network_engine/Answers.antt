@@ -1,10 +1,7 @@
-use Rattle.std.proofs.Common.{◌≤◌, ◌∙◌, refl, ap, sym, subst, map, length, arith}
-use Rattle.std.specs.List.{AllByRecursion}
-use Rattle.std.proofs.lemmas.List.{length-map}
+use Rattle.std.proofs.Common.{◌∙◌, refl, ap, sym, subst, map, length}
 use Rattle.std.proofs.lemmas.List.Elements.{All-from_recursion}
 use Rattle.std.proofs.lemmas.Result.{IfOk-weaker}
 use Rattle.sq_value.specs.Values.{IsStream}
-use Rattle.sq_oper.specs.Streams.{IsSoundTuple}
 use Rattle.sq_flow.specs.Flows.{items_in}
 use Rattle.sq_flow.specs.Wiring.{IsShaped}
 use Rattle.sq_start.specs.Numbers.{ops_of}
@@ -28,20 +25,10 @@ new-requires-clause-seats c =
     c.in_ok-wires.ensures.sheds c.in_ok-wires.ensures.shown c.new-levels.result.epoch (sym (ap (λ l. l.epoch) c.new-levels.ensures))
 
 pub new-requires-clause-coming : goal.new-requires-clause-coming
-new-requires-clause-coming c =
-    rising c.in_ok-queues.queues.items (subst (AllByRecursion IsStream) (sym c.in_ok-queues.ensures) c.requires.streams)
-    (subst (AllByRecursion (AllByRecursion IsSoundTuple)) (sym c.in_ok-queues.ensures) c.requires.tuples)
-
-pub new-requires-clause-few : goal.new-requires-clause-few
-new-requires-clause-few c =
-    let queues = length-map c.in_ok-queues.queues.items (λ q. q.items) in
-    let sources = length-map c.args.sources.items (λ v. v.items) in
-    let same = ap length c.in_ok-queues.ensures in
-    let few = c.requires.few in
-    omega (arith, queues, sources, same, few)
+new-requires-clause-coming c = rising c.args.sources.items c.requires.streams c.requires.tuples
 
 pub new-requires-clause-few_tuples : goal.new-requires-clause-few_tuples
-new-requires-clause-few_tuples c = few-queued c.in_ok-queues.queues.items (subst (AllByRecursion (λ xs. length xs ≤ 1000000)) (sym c.in_ok-queues.ensures) c.requires.few_tuples)
+new-requires-clause-few_tuples c = few-queued c.args.sources.items c.requires.few_tuples
 
 pub returns-clause-boxes : goal.returns-clause-boxes
 returns-clause-boxes c = IfOk-weaker c.new.result _ _ (λ e h. ap (λ w. w.sheds) h.wires_are ∙ c.in_ok-wires.ensures.sheds) c.new.ensures.flow
@@ -61,7 +48,7 @@ returns-clause-none_fed c =
 pub returns-clause-plans : goal.returns-clause-plans
 returns-clause-plans c =
     if-three c.new.result _ _ _ _ (λ e h planned left.
-    plans-start _ e.flow c.in_ok-planner.planner c.new-levels.result.epoch _ h.planner_is c.in_ok-planner.ensures (ap (λ l. l.epoch) c.new-levels.ensures) c.in_ok-queues.ensures planned left)
+    plans-start _ e.flow c.in_ok-planner.planner c.new-levels.result.epoch _ h.planner_is c.in_ok-planner.ensures (ap (λ l. l.epoch) c.new-levels.ensures) refl planned left)
     c.new.ensures.flow c.new.ensures.planned c.new.ensures.plans
 
 pub returns-clause-answers : goal.returns-clause-answers
@@ -71,7 +58,7 @@ returns-clause-answers c =
     let new = is-new c.args.n.now c.requires.sound (places-of c.early_drop_is_sound.ensures.points c.args.n.now c.requires.sound) c.in_ok-wires.wires c.in_ok-wires.ensures.measured
     c.args.seed c.in_ok-seats.seats.items c.in_ok-seats.ensures.seated c.in_ok-seats.ensures.count c.arcs_may_come.ensures.fed
     (record { network = c.args.n.now; sources = map (λ v. v.items) c.args.sources.items; entries = c.args.capacities.now; seed = c.args.seed }) read refl refl
-    c.in_ok-seats.seats refl c.in_ok-queues.queues c.in_ok-queues.ensures _ _ _ e.flow h c.in_ok-wires.ensures.shaped.replay_is pages in
+    c.in_ok-seats.seats refl c.args.sources refl _ _ _ e.flow h c.in_ok-wires.ensures.shaped.replay_is pages in
     new-answers (record { network = c.args.n.now; sources = map (λ v. v.items) c.args.sources.items; entries = c.args.capacities.now; seed = c.args.seed })
     read c.starts_as_replayed.ensures e.flow (items_in e.flow pages) (λ arc. h.empty pages arc) new
     (subst (λ w. IsShaped w (ops_of c.args.n.now)) (sym h.wires_are) c.in_ok-wires.ensures.shaped) (ap (λ w. w.sheds) h.wires_are ∙ c.in_ok-wires.ensures.sheds)

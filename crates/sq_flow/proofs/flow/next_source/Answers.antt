@@ -1,9 +1,10 @@
 use Rattle.std.proofs.Common.{◌<◌, not, length, refl, ap, sym, ◌∙◌, arith}
 use Rattle.std.proofs.lemmas.Option.{slice_get_read}
+use Rattle.sq_replay.specs.Recorded.{first_time}
 use Rattle.sq_flow.specs.Flows.{tuples_at}
-use Rattle.sq_flow.proofs.SourceLemmas.{none-of, front-is, best-past, best-stays, best-first, best-new, best-none, best-some}
+use Rattle.sq_flow.proofs.SourceLemmas.{none-of, best-past, best-stays, best-first, best-new, best-none, best-some}
 use Rattle.sq_flow.proofs.flow.next_source.Goals as goal
-use Rattle.sq_flow.proofs.flow.next_source.Goals.{in-Some+then-is_none, then-is_none-via-then-is_none, then-is_none-via-else-is_none+then-tuple-least, in-Some+else-is_none+else-tuple-least, in_default}
+use Rattle.sq_flow.proofs.flow.next_source.Goals.{in-Some+then-is_none, then-is_none-via-then-is_none, then-is_none-via-else-is_none+then-time-least, in-Some+else-is_none+else-time-least, in_default}
 
 pub loop-source-preserved : goal.loop-source-preserved
 loop-source-preserved c =
@@ -11,23 +12,20 @@ loop-source-preserved c =
     let sources = c.args.sources.now.items in
     let low : i < length sources = omega (arith, c.loop-source-test.true, c.len-source-end.ensures, c.args.sources.now.ok.0) in
     let at = ap tuples_at (slice_get_read sources _ i c.index.result.now refl low c.index.ensures) in
-    elim c.match-front.branch [
+    let begins = ap first_time at ∙ sym c.time.ensures in
+    elim c.match-time.branch [
       | in-Some+then-is_none w ↦
-          let x = w.in-Some.tuple.now in
-          let front = at ∙ front-is c.index.result.now.items x w.in-Some.ensures.item.3.0 w.in-Some.ensures.lookup in
           rw (w.best-is, w.least-is)
           (elim w.then-is_none.branch [
-            | then-is_none-via-then-is_none w' ↦ best-first sources i c.loop-source.least c.loop-source.best x _ front (w.is_none.ensures ∙ ap not w'.if-is_none.true) c.loop-source.invariant
-            | then-is_none-via-else-is_none+then-tuple-least w' ↦ best-new sources i c.loop-source.least c.loop-source.best x _ front w'.if-tuple-least.true c.loop-source.invariant
+            | then-is_none-via-then-is_none w' ↦ best-first sources i c.loop-source.least c.loop-source.best _ (begins ∙ w.in-Some.is) (w.is_none.ensures ∙ ap not w'.if-is_none.true) c.loop-source.invariant
+            | then-is_none-via-else-is_none+then-time-least w' ↦ best-new sources i c.loop-source.least c.loop-source.best _ (begins ∙ w.in-Some.is) w'.if-time-least.true c.loop-source.invariant
           ])
-      | in-Some+else-is_none+else-tuple-least w ↦
-          let x = w.in-Some.tuple.now in
-          let front = at ∙ front-is c.index.result.now.items x w.in-Some.ensures.item.3.0 w.in-Some.ensures.lookup in
+      | in-Some+else-is_none+else-time-least w ↦
           rw (w.best-is, w.least-is)
-          (best-stays sources i c.loop-source.least c.loop-source.best x _ front (w.is_none.ensures ∙ ap not w.if-is_none.false) w.if-tuple-least.false c.loop-source.invariant)
+          (best-stays sources i c.loop-source.least c.loop-source.best _ (begins ∙ w.in-Some.is) (w.is_none.ensures ∙ ap not w.if-is_none.false) w.if-time-least.false c.loop-source.invariant)
       | in_default w ↦
           rw (w.best-is, w.least-is)
-          (best-past sources i c.loop-source.least c.loop-source.best (at ∙ none-of c.index.result.now.items (sym w.in_default.ensures.item.0)) c.loop-source.invariant)
+          (best-past sources i c.loop-source.least c.loop-source.best (at ∙ none-of c.index.result.now.items (sym c.time.ensures ∙ w.in_default.is)) c.loop-source.invariant)
     ]
 
 pub returns-clause-none : goal.returns-clause-none

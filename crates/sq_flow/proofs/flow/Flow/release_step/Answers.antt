@@ -7,14 +7,28 @@ use Rattle.sq_plan.specs.Shown.{level_for, Ended}
 use Rattle.sq_pool.specs.Trust.{known}
 use Rattle.sq_flow.proofs.WireLemmas.{arcs-open}
 use Rattle.sq_flow.proofs.CauseLemmas.{cause-in, counts-none, feeds-none}
-use Rattle.sq_flow.proofs.ReleasedPlans.{ClosedBefore, mid-len, plans-front, plans-none}
+use Rattle.sq_flow.proofs.EventLemmas.{stays-same}
+use Rattle.sq_flow.proofs.ReleasedPlans.{ClosedBefore, mid-len, plans-front, plans-none, plans-stay}
 use Rattle.sq_flow.proofs.ReplayFlow.{replay-open, replay-runs, item-sound, released-stepped, released-touches, lines-stay, count-less}
 use Rattle.sq_flow.proofs.TookLemmas.{replay-took}
 use Rattle.sq_flow.proofs.flow.Flow.release_step.Goals as goal
 
+pub returns-in_err-tuple-clause-prefix : goal.returns-in_err-tuple-clause-prefix
+returns-in_err-tuple-clause-prefix g c =
+    let p = err_from_is_err_and c.from_residual.result c.from_residual.ensures.1 in
+    rw p.1 (lines-stay _ (known (g.D.PageDisk.log c.args.disk.now)) (known (g.D.PageDisk.log c.args.disk.now)) c.args.self.now c.args.self.now.levels c.args.events.now.items c.args.events.now.items (λ o. refl) (λ w. refl))
+
+pub returns-in_err-tuple-clause-plans : goal.returns-in_err-tuple-clause-plans
+returns-in_err-tuple-clause-plans g c =
+    let p = err_from_is_err_and c.from_residual.result c.from_residual.ensures.1 in
+    rw p.1 (plans-stay c.args.self.now c.args.events.now.items c.args.events.now.items refl)
+
+pub returns-in_err-tuple-clause-stay : goal.returns-in_err-tuple-clause-stay
+returns-in_err-tuple-clause-stay g c = stays-same c.args.events.now.items
+
 pub returns-in_err-close_before-clause-prefix : goal.returns-in_err-close_before-clause-prefix
 returns-in_err-close_before-clause-prefix g c =
-    let p = err_from_is_err_and c.from_residual.result c.from_residual.ensures.1 in
+    let p = err_from_is_err_and c.from_residual-in_err-close_before.result c.from_residual-in_err-close_before.ensures.1 in
     rw p.1 (lines-stay _ (known (g.D.PageDisk.log c.args.disk.now)) (known (g.D.PageDisk.log c.args.disk.now)) c.args.self.now c.close_before.new.levels c.args.events.now.items c.close_before.new.events.items c.in_err-close_before.ensures.lines c.in_err-close_before.ensures.drops)
 
 pub returns-in_err-close_before-clause-plans : goal.returns-in_err-close_before-clause-plans
@@ -22,10 +36,10 @@ returns-in_err-close_before-clause-plans g c =
     let sources = c.args.self.now.sources.items in
     let at = slice_get_read sources _ c.args.source c.index_mut.result.now refl c.requires.next.there c.index_mut.ensures.value in
     let pos : 0 < c.args.self.now.levels.epoch = omega (arith, c.epoch.ensures.epoch, c.epoch.ensures.lasts) in
-    let p = err_from_is_err_and c.from_residual.result c.from_residual.ensures.1 in
+    let p = err_from_is_err_and c.from_residual-in_err-close_before.result c.from_residual-in_err-close_before.ensures.1 in
     rw p.1
-    (plans-none _ _ c.args.self.now c.requires.flow pos c.args.source c.index_mut.result.now c.first_of-tuple.new.tuples c.first_of-tuple.result c.requires.next at c.first_of-tuple.ensures c.close_before.new.levels c.args.events.now.items c.close_before.new.events.items
-    (λ all. subst (λ (n : ℕ). (c.args.self.now.levels.closed < c.first_of-tuple.result.time / n + 1 → Ended all (c.args.self.now.levels.closed - 1) (c.first_of-tuple.result.time / n) c.args.self.now.counts.items)
+    (plans-none _ _ c.args.self.now c.requires.flow pos c.args.source c.index_mut.result.now c.first_of.new.stream c.in_ok-tuple.tuple c.requires.next at c.in_ok-tuple.ensures.ok c.close_before.new.levels c.args.events.now.items c.close_before.new.events.items
+    (λ all. subst (λ (n : ℕ). (c.args.self.now.levels.closed < c.in_ok-tuple.tuple.time / n + 1 → Ended all (c.args.self.now.levels.closed - 1) (c.in_ok-tuple.tuple.time / n) c.args.self.now.counts.items)
     → Agrees c.args.self.now.levels (level_for c.args.self.now.planner all) → Agrees c.close_before.new.levels (level_for c.args.self.now.planner all)) c.epoch.ensures.epoch (c.in_err-close_before.ensures.agrees all))
     c.in_err-close_before.ensures.err)
 
@@ -35,7 +49,7 @@ send_one-requires-clause-there g c =
     let at = slice_get_read sources _ c.args.source c.index_mut.result.now refl c.requires.next.there c.index_mut.ensures.value in
     let pos : 0 < c.args.self.now.levels.epoch = omega (arith, c.epoch.ensures.epoch, c.epoch.ensures.lasts) in
     arcs-open _ _ c.args.self.now c.requires.flow c.args.self.now.wires.replay
-    (replay-open _ _ c.args.self.now c.requires.flow (replay-runs _ _ c.args.self.now c.requires.flow pos c.args.source c.index_mut.result.now c.first_of-tuple.new.tuples c.first_of-tuple.result c.requires.next at c.first_of-tuple.ensures)) c.args.source
+    (replay-open _ _ c.args.self.now c.requires.flow (replay-runs _ _ c.args.self.now c.requires.flow pos c.args.source c.index_mut.result.now c.first_of.new.stream c.in_ok-tuple.tuple c.requires.next at c.in_ok-tuple.ensures.ok)) c.args.source
 
 pub send_one-requires-clause-sound : goal.send_one-requires-clause-sound
 send_one-requires-clause-sound g c =
@@ -43,7 +57,7 @@ send_one-requires-clause-sound g c =
     let at = slice_get_read sources _ c.args.source c.index_mut.result.now refl c.requires.next.there c.index_mut.ensures.value in
     let pos : 0 < c.args.self.now.levels.epoch = omega (arith, c.epoch.ensures.epoch, c.epoch.ensures.lasts) in
     rw (c.none.ensures, c.some.ensures)
-    (item-sound _ _ c.args.self.now c.requires.flow pos c.args.source c.index_mut.result.now c.first_of-tuple.new.tuples c.first_of-tuple.result c.requires.next at c.first_of-tuple.ensures)
+    (item-sound _ _ c.args.self.now c.requires.flow pos c.args.source c.index_mut.result.now c.first_of.new.stream c.in_ok-tuple.tuple c.requires.next at c.in_ok-tuple.ensures.ok)
 
 pub returns-in_err-send_one-clause-prefix : goal.returns-in_err-send_one-clause-prefix
 returns-in_err-send_one-clause-prefix g c =
@@ -57,7 +71,7 @@ returns-in_err-send_one-clause-plans g c =
     let pos : 0 < c.args.self.now.levels.epoch = omega (arith, c.epoch.ensures.epoch, c.epoch.ensures.lasts) in
     let done = c.in_ok-close_before.ensures in
     let did = subst (λ (n : ℕ). ClosedBefore c.args.self.now.planner c.close_before.new.planner c.args.self.now.levels c.close_before.new.levels c.args.self.now.counts.items c.close_before.new.counts.items
-    (c.first_of-tuple.result.time / n) c.args.events.now.items c.close_before.new.events.items) c.epoch.ensures.epoch
+    (c.in_ok-tuple.tuple.time / n) c.args.events.now.items c.close_before.new.events.items) c.epoch.ensures.epoch
     (record {
       same = done.same;
       epoch = done.epoch;
@@ -70,15 +84,15 @@ returns-in_err-send_one-clause-plans g c =
       drops = done.drops;
       within = done.within;
     }) in
-    let len = mid-len _ _ c.args.self.now c.requires.flow pos c.args.source c.index_mut.result.now c.first_of-tuple.new.tuples c.first_of-tuple.result c.requires.next at c.first_of-tuple.ensures _ _ _ _ _ did in
+    let len = mid-len _ _ c.args.self.now c.requires.flow pos c.args.source c.index_mut.result.now c.first_of.new.stream c.in_ok-tuple.tuple c.requires.next at c.in_ok-tuple.ensures.ok _ _ _ _ _ did in
     let within : c.args.source < length c.close_before.new.counts.items = omega (arith, len, c.requires.flow.counts, c.requires.next.there) in
     let read = get_or_from_slice_get c.close_before.new.counts.items c.args.source c.index_mut-2.result.now 0
     (slice_get_read c.close_before.new.counts.items _ c.args.source c.index_mut-2.result.now refl within c.index_mut-2.ensures.value) in
     let counted = ap (λ n. set c.close_before.new.counts.items c.args.source (n + 1)) (sym read) in
     let p = err_from_is_err_and c.from_residual-in_err-send_one.result c.from_residual-in_err-send_one.ensures.1 in
     rw p.1
-    (plans-front _ _ c.args.self.now c.requires.flow pos c.args.source c.index_mut.result.now c.first_of-tuple.new.tuples c.first_of-tuple.result c.requires.next at c.first_of-tuple.ensures _ _ _ _ _ did
-    c.send_one.new.queues (with_item c.args.self.now.sources c.args.source c.first_of-tuple.new.tuples) (with_item c.close_before.new.counts c.args.source (c.index_mut-2.result.now + 1)) refl counted)
+    (plans-front _ _ c.args.self.now c.requires.flow pos c.args.source c.index_mut.result.now c.first_of.new.stream c.in_ok-tuple.tuple c.requires.next at c.in_ok-tuple.ensures.ok _ _ _ _ _ did
+    c.send_one.new.queues (with_item c.args.self.now.sources c.args.source c.first_of.new.stream) (with_item c.close_before.new.counts c.args.source (c.index_mut-2.result.now + 1)) refl counted)
 
 pub returns-clause-ok : goal.returns-clause-ok
 returns-clause-ok g c =
@@ -87,7 +101,7 @@ returns-clause-ok g c =
     let pos : 0 < c.args.self.now.levels.epoch = omega (arith, c.epoch.ensures.epoch, c.epoch.ensures.lasts) in
     let done = c.in_ok-close_before.ensures in
     let did = subst (λ (n : ℕ). ClosedBefore c.args.self.now.planner c.close_before.new.planner c.args.self.now.levels c.close_before.new.levels c.args.self.now.counts.items c.close_before.new.counts.items
-    (c.first_of-tuple.result.time / n) c.args.events.now.items c.close_before.new.events.items) c.epoch.ensures.epoch
+    (c.in_ok-tuple.tuple.time / n) c.args.events.now.items c.close_before.new.events.items) c.epoch.ensures.epoch
     (record {
       same = done.same;
       epoch = done.epoch;
@@ -100,13 +114,13 @@ returns-clause-ok g c =
       drops = done.drops;
       within = done.within;
     }) in
-    let len = mid-len _ _ c.args.self.now c.requires.flow pos c.args.source c.index_mut.result.now c.first_of-tuple.new.tuples c.first_of-tuple.result c.requires.next at c.first_of-tuple.ensures _ _ _ _ _ did in
+    let len = mid-len _ _ c.args.self.now c.requires.flow pos c.args.source c.index_mut.result.now c.first_of.new.stream c.in_ok-tuple.tuple c.requires.next at c.in_ok-tuple.ensures.ok _ _ _ _ _ did in
     let within : c.args.source < length c.close_before.new.counts.items = omega (arith, len, c.requires.flow.counts, c.requires.next.there) in
     let read = get_or_from_slice_get c.close_before.new.counts.items c.args.source c.index_mut-2.result.now 0
     (slice_get_read c.close_before.new.counts.items _ c.args.source c.index_mut-2.result.now refl within c.index_mut-2.ensures.value) in
     let counted = ap (λ n. set c.close_before.new.counts.items c.args.source (n + 1)) (sym read) in
-    released-stepped _ _ c.args.self.now c.requires.flow pos c.args.source c.index_mut.result.now c.first_of-tuple.new.tuples c.first_of-tuple.result c.requires.next at c.first_of-tuple.ensures _ _ _ _ _ did
-    (with_item c.args.self.now.sources c.args.source c.first_of-tuple.new.tuples) (with_item c.close_before.new.counts c.args.source (c.index_mut-2.result.now + 1)) refl counted
+    released-stepped _ _ c.args.self.now c.requires.flow pos c.args.source c.index_mut.result.now c.first_of.new.stream c.in_ok-tuple.tuple c.requires.next at c.in_ok-tuple.ensures.ok _ _ _ _ _ did
+    (with_item c.args.self.now.sources c.args.source c.first_of.new.stream) (with_item c.close_before.new.counts c.args.source (c.index_mut-2.result.now + 1)) refl counted
     (known (g.D.PageDisk.log c.args.disk.now)) (known (g.D.PageDisk.log c.send_one.new.disk)) c.send_one.new.queues c.requires.together (rw (c.none.ensures, c.some.ensures) at c.in_ok-send_one.ensures.sent)
 
 pub returns-clause-touches : goal.returns-clause-touches
@@ -114,15 +128,15 @@ returns-clause-touches g c =
     let sources = c.args.self.now.sources.items in
     let at = slice_get_read sources _ c.args.source c.index_mut.result.now refl c.requires.next.there c.index_mut.ensures.value in
     let pos : 0 < c.args.self.now.levels.epoch = omega (arith, c.epoch.ensures.epoch, c.epoch.ensures.lasts) in
-    released-touches _ _ c.args.self.now c.requires.flow pos c.args.source c.index_mut.result.now c.first_of-tuple.new.tuples c.first_of-tuple.result c.requires.next at c.first_of-tuple.ensures
-    (known (g.D.PageDisk.log c.args.disk.now)) (known (g.D.PageDisk.log c.send_one.new.disk)) c.send_one.new.queues (with_item c.args.self.now.sources c.args.source c.first_of-tuple.new.tuples) c.close_before.new.planner c.close_before.new.levels
+    released-touches _ _ c.args.self.now c.requires.flow pos c.args.source c.index_mut.result.now c.first_of.new.stream c.in_ok-tuple.tuple c.requires.next at c.in_ok-tuple.ensures.ok
+    (known (g.D.PageDisk.log c.args.disk.now)) (known (g.D.PageDisk.log c.send_one.new.disk)) c.send_one.new.queues (with_item c.args.self.now.sources c.args.source c.first_of.new.stream) c.close_before.new.planner c.close_before.new.levels
     (with_item c.close_before.new.counts c.args.source (c.index_mut-2.result.now + 1)) (rw (c.none.ensures, c.some.ensures) at c.in_ok-send_one.ensures.sent)
 
 pub returns-clause-measure : goal.returns-clause-measure
 returns-clause-measure g c =
     let sources = c.args.self.now.sources.items in
     let at = slice_get_read sources _ c.args.source c.index_mut.result.now refl c.requires.next.there c.index_mut.ensures.value in
-    let less = count-less sources c.args.source c.index_mut.result.now c.first_of-tuple.new.tuples c.first_of-tuple.result at c.first_of-tuple.ensures in
+    let less = count-less sources c.args.source c.index_mut.result.now c.first_of.new.stream c.in_ok-tuple.tuple at c.in_ok-tuple.ensures.ok in
     omega (arith, less)
 
 pub returns-in_err-send_one-clause-cause : goal.returns-in_err-send_one-clause-cause
@@ -150,5 +164,5 @@ returns-clause-took g c =
     let sources = c.args.self.now.sources.items in
     let at = slice_get_read sources _ c.args.source c.index_mut.result.now refl c.requires.next.there c.index_mut.ensures.value in
     let pos : 0 < c.args.self.now.levels.epoch = omega (arith, c.epoch.ensures.epoch, c.epoch.ensures.lasts) in
-    replay-took c.args.self.now _ 1 false refl (count-less sources c.args.source c.index_mut.result.now c.first_of-tuple.new.tuples c.first_of-tuple.result at c.first_of-tuple.ensures)
-    (sym (replay-runs _ _ c.args.self.now c.requires.flow pos c.args.source c.index_mut.result.now c.first_of-tuple.new.tuples c.first_of-tuple.result c.requires.next at c.first_of-tuple.ensures))
+    replay-took c.args.self.now _ 1 false refl (count-less sources c.args.source c.index_mut.result.now c.first_of.new.stream c.in_ok-tuple.tuple at c.in_ok-tuple.ensures.ok)
+    (sym (replay-runs _ _ c.args.self.now c.requires.flow pos c.args.source c.index_mut.result.now c.first_of.new.stream c.in_ok-tuple.tuple c.requires.next at c.in_ok-tuple.ensures.ok))

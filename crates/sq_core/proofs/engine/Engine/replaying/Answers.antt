@@ -1,0 +1,15 @@
+use Rattle.std.proofs.Common.{refl, arith}
+use Rattle.sq_core.proofs.engine.Engine.replaying.Goals as goal
+
+pub returns-clause-run : goal.returns-clause-run
+returns-clause-run c = λ pages steps.
+    let made = c.in_ok-engine.ensures in
+    let none = made.none_fed in
+    record {
+      network = refl;
+      sound = record { network = c.requires.sound; boxes = made.boxes; drops = made.drops; operators = made.operators; engine = made.engine };
+      together = made.together pages;
+      counted = omega (arith, none);
+      plans = made.plans;
+      answers = λ told. made.answers pages;
+    }
