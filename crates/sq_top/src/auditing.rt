@@ -17,8 +17,9 @@ use crate::reading::{Accepted, Stopped, prepare, read_file, stopped_by};
 use crate::{RunArgs, Status};
 use sq_audit::{append_verdict_line, audit_text};
 use sq_outside::{Failed, Folder, Sink, write_all};
+use sq_replay::Stream;
 use sq_sched::Rule;
-use sq_value::Name;
+use sq_value::{Name, Tuple};
 use std::alloc::{AllocError, Global};
 
 /// How many bytes a text may have that is audited.
@@ -68,14 +69,31 @@ fn prepare_audit<F: Folder>(
     }
 }
 
-/// The line of the verdict on a text.
-fn verdict_line(alloc: Global, accepted: &Accepted, text: &[u8]) -> Result<Vec<u8>, AllocError>
-    requires sound { IsSound accepted.now.network }
-    requires limits { KeepsDropLimits accepted.now.network }
-    requires recorded { AreRecorded accepted.now.network.sources (map (λ xs. xs.items) accepted.now.sources.items) }
-    ensures { IfOk result (λ line. line.items ≡ verdict_of (with_text (replay_of accepted.now) text.now)) }
+/// The tuples of each stream, to its end.
+fn all_tuples(alloc: Global, streams: Vec<Stream>) -> Result<Vec<Vec<Tuple>>, AllocError>
+    ensures { IfOk result (λ v. map (λ xs. xs.items) v.items ≡ map (λ xs. xs.items) streams.items) }
 {
-    let verdict = audit_text(alloc, &accepted.network, accepted.sources.as_slice(), text)?;
+    let mut lists = Vec::new(alloc);
+    for stream in streams {
+        lists.push(stream.into_tuples(alloc)?)?;
+    }
+    Ok(lists)
+}
+
+/// The line of the verdict on a text.
+fn verdict_line(alloc: Global, accepted: Accepted, text: &[u8]) -> Result<Vec<u8>, AllocError>
+    requires sound { IsSound accepted.network }
+    requires limits { KeepsDropLimits accepted.network }
+    requires recorded { AreRecorded accepted.network.sources (map (λ xs. xs.items) accepted.sources.items) }
+    ensures { IfOk result (λ line. line.items ≡ verdict_of (with_text (replay_of accepted) text.now)) }
+{
+    let Accepted {
+        network,
+        sources,
+        ..
+    } = accepted;
+    let sources = all_tuples(alloc, sources)?;
+    let verdict = audit_text(alloc, &network, sources.as_slice(), text)?;
     let mut line = Vec::new(alloc);
     append_verdict_line(verdict, &mut line)?;
     Ok(line)
@@ -84,15 +102,15 @@ fn verdict_line(alloc: Global, accepted: &Accepted, text: &[u8]) -> Result<Vec<u
 /// Writes the line of the verdict on a text: all of it at once, when it is whole.
 fn write_verdict<S: Sink>(
     alloc: Global,
-    accepted: &Accepted,
+    accepted: Accepted,
     text: &[u8],
     out: &mut S,
 ) -> Result<(), Status>
-    requires sound { IsSound accepted.now.network }
-    requires limits { KeepsDropLimits accepted.now.network }
-    requires recorded { AreRecorded accepted.now.network.sources (map (λ xs. xs.items) accepted.now.sources.items) }
-    ensures ok { OnOk result (S.written out.new ≡ appended (S.written out.old) (verdict_of (with_text (replay_of accepted.now) text.now))) }
-    ensures err { OnErr result (AppendsPrefix (S.written out.old) (S.written out.new) (verdict_of (with_text (replay_of accepted.now) text.now))) }
+    requires sound { IsSound accepted.network }
+    requires limits { KeepsDropLimits accepted.network }
+    requires recorded { AreRecorded accepted.network.sources (map (λ xs. xs.items) accepted.sources.items) }
+    ensures ok { OnOk result (S.written out.new ≡ appended (S.written out.old) (verdict_of (with_text (replay_of accepted) text.now))) }
+    ensures err { OnErr result (AppendsPrefix (S.written out.old) (S.written out.new) (verdict_of (with_text (replay_of accepted) text.now))) }
     ensures alone { IfErr result (λ s. s ≢ Status.SinkFault → S.written out.new ≡ S.written out.old) }
     ensures lost { IfErr result (λ s. IsLost (S.faults out.old) (S.faults out.new) s) }
     ensures later { S.faults out.old ≤ S.faults out.new }
@@ -146,7 +164,7 @@ pub(crate) fn audit_files<F: Folder, S: Sink>(
         Ok(prepared) => prepared,
         Err(stopped) => return stopped,
     };
-    match write_verdict(alloc, &accepted, bytes.as_slice(), out) {
+    match write_verdict(alloc, accepted, bytes.as_slice(), out) {
         Ok(()) => stopped_by(Status::Ok),
         Err(status) => stopped_by(status),
     }

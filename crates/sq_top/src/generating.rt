@@ -1,13 +1,15 @@
 // What a number makes, read as the files of a run are.
-ghost use Rattle.std.specs.Prelude.{◌≡◌, ◌⊎◌, ℕ, ◌+◌, ◌^◌, ◌<◌, ◌≤◌, IfErr, IfOk, Ok, Err, [], false, length, map};
+ghost use Rattle.std.specs.Prelude.{◌≡◌, ◌⊎◌, ℕ, ◌+◌, ◌^◌, ◌<◌, ◌≤◌, IfErr, IfOk, Ok, Err, [], false, length, map, true};
 ghost use Rattle.sq_gen.specs.Files.{made_of};
-ghost use Rattle.sq_net.specs.Sound.{IsSound};
+ghost use Rattle.sq_net.specs.Sound.{IsSound, source_within};
 ghost use Rattle.sq_net.specs.declared.NetErr.{NetErr};
 ghost use Rattle.sq_points.specs.Limits.{KeepsDropLimits};
 ghost use Rattle.sq_reader.specs.Networks.{network_in};
 ghost use Rattle.sq_replay.specs.Entries.{capacities_in};
+ghost use Rattle.sq_replay.specs.Laws.{ReadsStreams};
+ghost use Rattle.sq_replay.specs.Streams.{stream_in};
 ghost use Rattle.sq_tables.specs.Refusals.{is_memory};
-ghost use Rattle.sq_top.specs.Causes.{IsRefusedBy, source_of};
+ghost use Rattle.sq_top.specs.Causes.{HasBadLine, IsRefusedBy, source_of};
 ghost use Rattle.sq_top.specs.Made.{HasBadMade, HasBadStreams};
 ghost use Rattle.sq_top.specs.Recorded.{AreRecorded};
 ghost use Rattle.sq_top.specs.Scripts.{Done, Replay, made_script, made_streams, with_sources};
@@ -16,12 +18,11 @@ ghost use Rattle.sq_top.specs.Views.{replay_of};
 use crate::Status;
 use crate::reading::{Accepted, Stopped, refused_by, stopped_by, tuples_of};
 use sq_gen::generate;
-use sq_net::Network;
+use sq_net::{Network, Source};
 use sq_plan::Capacities;
 use sq_reader::read_network;
-use sq_replay::{LineErr, read_capacities};
+use sq_replay::{LineErr, Stream, read_capacities};
 use sq_sched::Rule;
-use sq_value::Tuple;
 use std::alloc::Global;
 
 /// How many atomic steps an actor does in a row.
@@ -56,8 +57,22 @@ fn made_capacities(alloc: Global, bytes: &[u8]) -> Result<Capacities, Status>
     }
 }
 
+/// The tuples that the source with this number has of the stream that was made, of which it keeps a copy.
+fn made_stream(alloc: Global, number: u32, source: &Source, bytes: &[u8]) -> Result<Stream, Stopped>
+    requires within { source_within source.now ≡ true }
+    requires few { length bytes.now + 1 < 2 ^ 32 }
+    ensures tuples { IfOk result (λ xs. stream_in source.now.schema bytes.now ≡ Ok xs.items) }
+    ensures recorded { IfOk result (λ xs. ReadsStreams source.now.schema xs.items) }
+    ensures bad { IfErr result (λ s. HasBadLine number source.now bytes.now s.status (source_of s.source)) }
+{
+    match Vec::from_slice(alloc, bytes) {
+        Ok(copy) => tuples_of(alloc, number, source, copy),
+        Err(_) => Err(stopped_by(Status::Memory)),
+    }
+}
+
 /// The tuples of each source of a network that was made: those of the stream that was made.
-fn made_tuples(alloc: Global, network: &Network, bytes: &[u8]) -> Result<Vec<Vec<Tuple>>, Stopped>
+fn made_tuples(alloc: Global, network: &Network, bytes: &[u8]) -> Result<Vec<Stream>, Stopped>
     requires sound { IsSound network.now }
     requires few { length bytes.now + 1 < 2 ^ 32 }
     ensures made { IfOk result (λ v. (r : Replay) → made_streams bytes.now (with_sources r []) network.now.sources ≡ Done (with_sources r (map (λ xs. xs.items) v.items))) }
@@ -67,7 +82,7 @@ fn made_tuples(alloc: Global, network: &Network, bytes: &[u8]) -> Result<Vec<Vec
     let mut streams = Vec::new(alloc);
     'sources: for source in network.sources.as_slice() {
         let number = streams.len() as u32;
-        match tuples_of(alloc, number, source, bytes) {
+        match made_stream(alloc, number, source, bytes) {
             Ok(stream) => match streams.push(stream) {
                 Ok(()) => {}
                 Err(_) => return Err(stopped_by(Status::Memory)),

@@ -17,9 +17,9 @@ use sq_net::{NetErr, Network, Source};
 use sq_outside::{Folder, FolderErr};
 use sq_plan::Capacities;
 use sq_reader::read_network;
-use sq_replay::{LineErr, StreamErr, Why, read_capacities, read_picks, read_stream};
+use sq_replay::{LineErr, Stream, StreamErr, Why, read_capacities, read_picks};
 use sq_sched::Rule;
-use sq_value::{Name, Tuple, copy_name};
+use sq_value::{Name, copy_name};
 use std::alloc::Global;
 
 /// How many bytes a network, capacity or picks file may have.
@@ -252,15 +252,15 @@ pub(crate) fn tuples_of(
     alloc: Global,
     number: u32,
     source: &Source,
-    bytes: &[u8],
-) -> Result<Vec<Tuple>, Stopped>
+    bytes: Vec<u8>,
+) -> Result<Stream, Stopped>
     requires within { source_within source.now ≡ true }
-    requires few { length bytes.now + 1 < 2 ^ 32 }
-    ensures tuples { IfOk result (λ xs. stream_in source.now.schema bytes.now ≡ Ok xs.items) }
+    requires few { length bytes.items + 1 < 2 ^ 32 }
+    ensures tuples { IfOk result (λ xs. stream_in source.now.schema bytes.items ≡ Ok xs.items) }
     ensures recorded { IfOk result (λ xs. ReadsStreams source.now.schema xs.items) }
-    ensures bad { IfErr result (λ s. HasBadLine number source.now bytes.now s.status (source_of s.source)) }
+    ensures bad { IfErr result (λ s. HasBadLine number source.now bytes.items s.status (source_of s.source)) }
 {
-    match read_stream(alloc, bytes, &source.schema) {
+    match Stream::new(alloc, bytes, &source.schema) {
         Ok(tuples) => Ok(tuples),
         Err(StreamErr::Bad { line, why }) => Err(stopped_at(number, source, line, why)),
         Err(StreamErr::Memory) => Err(stopped_by(Status::Memory)),
@@ -273,7 +273,7 @@ fn stream_of<F: Folder>(
     number: u32,
     source: &Source,
     folder: &mut F,
-) -> Result<Vec<Tuple>, Stopped>
+) -> Result<Stream, Stopped>
     requires within { source_within source.now ≡ true }
     ensures stream { IfOk result (λ xs. IsStreamOf (F.files folder.old) (F.read folder.old) (F.read folder.new) source.now xs.items) }
     ensures recorded { IfOk result (λ xs. ReadsStreams source.now.schema xs.items) }
@@ -286,7 +286,7 @@ fn stream_of<F: Folder>(
         Ok(bytes) => bytes,
         Err(status) => return Err(stopped_by(status)),
     };
-    tuples_of(alloc, number, source, bytes.as_slice())
+    tuples_of(alloc, number, source, bytes)
 }
 
 /// The tuples of each source, in the order of the network file.
@@ -294,7 +294,7 @@ pub(crate) fn streams_of<F: Folder>(
     alloc: Global,
     network: &Network,
     folder: &mut F,
-) -> Result<Vec<Vec<Tuple>>, Stopped>
+) -> Result<Vec<Stream>, Stopped>
     requires { IsSound network.now }
     ensures leads { IfOk result (λ v. (r : Replay) → Leads (F.files folder.old) (F.read folder.old) (F.read folder.new) (after_streams (with_sources r []) network.now.sources) (Done (with_sources r (map (λ xs. xs.items) v.items)))) }
     ensures recorded { IfOk result (λ v. AreRecorded network.now.sources (map (λ xs. xs.items) v.items)) }
@@ -322,7 +322,7 @@ pub(crate) fn streams_of<F: Folder>(
 pub struct Accepted {
     pub network: Network,
     /// The tuples of each source.
-    pub sources: Vec<Vec<Tuple>>,
+    pub sources: Vec<Stream>,
     pub capacities: Capacities,
     pub seed: u64,
     pub rule: Rule,

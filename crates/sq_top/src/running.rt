@@ -58,7 +58,7 @@ pub(crate) fn start(alloc: Global, accepted: Accepted) -> Result<(Engine, Policy
         frames,
         first: _,
     } = accepted;
-    match Engine::new(alloc, network, sources, capacities, seed, frames) {
+    match Engine::replaying(alloc, network, sources, capacities, seed, frames) {
         Ok(engine) => Ok((engine, Policy::new(rule, picks, seed, train))),
         Err(_) => Err(Status::Memory),
     }
