@@ -21,7 +21,7 @@ FILES = {
     "crates/low/proofs/Sums.antt": "pub sum-zero : (n : ℕ) → n + 0 ≡ n\nsum-zero n = refl\n",
     "crates/high/src/lib.rt": "ghost use Rattle.low.specs.Words.{first};\nfn g(n: u32) -> u32\n    ensures { result ≡ first [] }\n{\n    n\n}\n",
     "crates/high/specs/Words.antt": "abbrev pub double : ℕ → ℕ\ndouble n = n + n\n\nabbrev pub wide : ℕ → ℕ\nwide n = 2\n",
-    "crates/high/proofs/Sums.antt": "pub plus-none : (m : ℕ) → m + 0 ≡ m\nplus-none m = refl\n\npub plus-one : (m : ℕ) → m + 1 ≡ suc m\nplus-one m = refl\n",
+    "crates/high/proofs/Sums.antt": "plus-none : (m : ℕ) → m + 0 ≡ m\nplus-none m = refl\n\npub plus-one : (m : ℕ) → m + 1 ≡ suc m\nplus-one m = refl\n",
 }
 
 
