@@ -2,7 +2,8 @@
 ghost use Rattle.std.specs.Prelude.{◌≡◌, ◌+◌, ◌<◌, ◌≤◌, ◌⊎◌, ◌++◌, ◌∷◌, [], ℕ, List, IfOk, IfSome, MatchOption, OnErr, OnOk, drop, length};
 ghost use Rattle.sq_value.specs.declared.Kind.{Kind as K};
 ghost use Rattle.sq_replay.specs.FileLines.{pieces_of, without_mark};
-ghost use Rattle.sq_replay.specs.Recorded.{first_time, tuples_at, tuples_left};
+ghost use Rattle.sq_replay.specs.Recorded.{and_then, first_time, tuples_at, tuples_left};
+ghost use Rattle.sq_replay.specs.Streams.{tuple_of_line};
 ghost use Rattle.sq_replay.specs.Unread.{IsAhead, unread_tuples};
 
 use crate::line::{TupleErr, read_tuple};
@@ -64,6 +65,7 @@ impl Unread {
 }
 
 /// The piece of a text that begins at a place, and where the next one begins.
+#[inline(always)]
 fn piece_at(text: &[u8], at: usize) -> (&[u8], usize)
     requires { at < length text.now }
     ensures piece { (ks : List K) (latest : ℕ) → tuples_at ks latest text.now at ≡ tuples_left ks latest (result.0.now ∷ pieces_of (drop result.1 text.now)) }
@@ -77,34 +79,23 @@ fn piece_at(text: &[u8], at: usize) -> (&[u8], usize)
     }
 }
 
-/// The first tuple of a text from a place on, and where the next line begins. At a bad line there is none.
-fn next_tuple(
-    alloc: Global,
-    kinds: &[Kind],
-    latest: u64,
-    text: &[u8],
-    at: usize,
-    unquoted: &mut Vec<u8>,
-) -> Result<Option<(Tuple, usize)>, AllocError>
-    ensures tuple { IfOk result (λ o. MatchOption o (tuples_at kinds.now latest text.now at ≡ [])
-        (λ p. tuples_at kinds.now latest text.now at ≡ p.0 ∷ tuples_at kinds.now p.0.time text.now p.1)) }
-    ensures further { IfOk result (λ o. IfSome o (λ p. (at < p.1) × (p.1 ≤ length text.now))) }
+/// The first line of a text from a place on that isn't empty, and where the next one begins.
+#[inline(always)]
+fn next_line(text: &[u8], at: usize) -> Option<(&[u8], usize)>
+    ensures line { MatchOption result ((ks : List K) (latest : ℕ) → tuples_at ks latest text.now at ≡ [])
+        (λ p. (ks : List K) (latest : ℕ) → tuples_at ks latest text.now at ≡ and_then (tuple_of_line ks latest p.0.now) (λ t. tuples_at ks t.time text.now p.1)) }
+    ensures further { IfSome result (λ p. (at < p.1) × (p.1 ≤ length text.now)) }
 {
     let mut next = at;
     while next < text.len() {
         let (piece, behind) = piece_at(text, next);
         next = behind;
         let line = without_return(piece);
-        if line.is_empty() {
-            continue;
+        if !line.is_empty() {
+            return Some((line, next));
         }
-        return match read_tuple(alloc, kinds, 0, latest, line, unquoted) {
-            Ok(tuple) => Ok(Some((tuple, next))),
-            Err(TupleErr::Bad(_)) => Ok(None),
-            Err(TupleErr::Memory) => Err(AllocError),
-        };
     }
-    Ok(None)
+    None
 }
 
 /// Puts all tuples of a text from a place on behind others.
@@ -120,36 +111,49 @@ pub(crate) fn read_rest(
 {
     let mut unquoted = Vec::new(alloc);
     let (mut latest, mut at) = (after, from);
-    while let Some((tuple, next)) = next_tuple(alloc, kinds, latest, text, at, &mut unquoted)? {
-        latest = tuple.time;
-        at = next;
-        tuples.push(tuple)?;
+    while let Some((line, next)) = next_line(text, at) {
+        match read_tuple(alloc, kinds, 0, latest, line, &mut unquoted) {
+            Ok(tuple) => {
+                latest = tuple.time;
+                at = next;
+                tuples.push(tuple)?;
+            }
+            Err(TupleErr::Bad(_)) => return Ok(()),
+            Err(TupleErr::Memory) => return Err(AllocError),
+        }
     }
     Ok(())
 }
 
 /// Makes the next tuple ready, where there is one.
+#[inline(always)]
 fn read_ahead(ready: &mut VecDeque<Tuple>, unread: &mut Unread) -> Result<(), AllocError>
     ensures same { ready.new.items ++ unread_tuples unread.new ≡ ready.old.items ++ unread_tuples unread.old }
     ensures more { OnOk result ((unread_tuples unread.new ≡ []) ⊎ (length ready.new.items ≡ length ready.old.items + 1)) }
     ensures err { OnErr result ((ready.new.items ≡ ready.old.items) × (unread_tuples unread.new ≡ unread_tuples unread.old)) }
 {
     let alloc = *unread.text.allocator();
-    let next = next_tuple(
+    let Some((line, next)) = next_line(&unread.text, unread.at) else {
+        return Ok(());
+    };
+    match read_tuple(
         alloc,
         &unread.kinds,
+        0,
         unread.latest,
-        &unread.text,
-        unread.at,
+        line,
         &mut unread.unquoted,
-    )?;
-    if let Some((tuple, at)) = next {
-        let latest = tuple.time;
-        ready.push_back(tuple)?;
-        unread.latest = latest;
-        unread.at = at;
+    ) {
+        Ok(tuple) => {
+            let latest = tuple.time;
+            ready.push_back(tuple)?;
+            unread.latest = latest;
+            unread.at = next;
+            Ok(())
+        }
+        Err(TupleErr::Bad(_)) => Ok(()),
+        Err(TupleErr::Memory) => Err(AllocError),
     }
-    Ok(())
 }
 
 /// The first tuple of a stream file, where there is one, and what stands behind it.
