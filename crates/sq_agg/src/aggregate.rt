@@ -23,7 +23,7 @@ use crate::waiting::Waiting;
 use crate::windows::{forget_ended, next_end};
 use sq_aggfn::{Fold, WindowSpec};
 use sq_item::Item;
-use sq_oper::{Decision, Operator, Outs, Place, Tally};
+use sq_oper::{Decision, Operator, Outlet, Place, Tally};
 use sq_outside::Steps;
 use sq_pane::Panes;
 use sq_road::Levels;
@@ -129,12 +129,12 @@ impl<F: Fold + Drop> Operator for AggregateBox<F> {
 
     ghost lost = { λ s future. 0 };
 
-    fn feed<L: Ledger>(
+    fn feed<L: Ledger, T: Outlet>(
         &mut self,
         _levels: &Levels,
         port: u32,
         item: Item,
-        out: &mut Outs,
+        out: &mut T,
         steps: &mut Steps<L>,
     ) -> Result<(), AllocError> {
         self.tally.note(port, &item);
@@ -162,7 +162,7 @@ impl<F: Fold + Drop> Operator for AggregateBox<F> {
         Ok(())
     }
 
-    fn finish(&mut self, out: &mut Outs) -> Result<(), AllocError> {
+    fn finish<T: Outlet>(&mut self, out: &mut T) -> Result<(), AllocError> {
         let _count = self.panes.held.len();
         give_open(
             &self.panes,

@@ -16,18 +16,18 @@ use crate::held::{Held, give_before};
 use crate::waiting::Waiting;
 use crate::windows::{filled_before, push_window};
 use sq_aggfn::Fold;
-use sq_oper::Outs;
+use sq_oper::Outlet;
 use sq_pane::Panes;
 use std::alloc::AllocError;
 use std::collections::VecDeque;
 
 /// Gives the results of a window, if the marks allow it, behind all marks up to its start.
-fn give_window<F: Fold + Drop>(
+fn give_window<F: Fold + Drop, T: Outlet>(
     panes: &Panes<F>,
     waiting: &mut Waiting,
     k: u64,
     due: &mut Held<F::State>,
-    out: &mut Outs,
+    out: &mut T,
 ) -> Result<(), AllocError>
     requires window { IsWindow panes.now.window }
     requires wide { 1 ≤ panes.now.width }
@@ -40,17 +40,20 @@ fn give_window<F: Fold + Drop>(
     requires fit { AllByRecursion (λ e. FitsResult (F.width panes.now.fold) e.0.1) (states_of panes.now.held.entries) }
     requires marks { AllByRecursion IsSoundMark (bounds_of waiting.old).waiting }
     requires none { due.old.items ≡ [] }
+    requires is_ready { T.ready out.old }
     ensures none { OnOk result (due.new.items ≡ []) }
     ensures bounds { OnOk result (bounds_of waiting.new ≡ closed_at (start_of panes.now.window k + 1) (bounds_of waiting.old)) }
-    ensures given { OnOk result ((q : ℕ) → given q out.new.items.items
-        ≡ given q out.old.items.items ++ at_zero q (due_before (F.told panes.now.fold) (start_of panes.now.window k + 1) (bounds_of waiting.old).waiting
+    ensures given { OnOk result ((q : ℕ) → given q (T.items out.new)
+        ≡ given q (T.items out.old) ++ at_zero q (due_before (F.told panes.now.fold) (start_of panes.now.window k + 1) (bounds_of waiting.old).waiting
         (ended (F.none panes.now.fold) (F.joined panes.now.fold) panes.now.window panes.now.width (bounds_of waiting.old) (states_of panes.now.held.entries) k))) }
-    ensures prefix { OnErr result ((q : ℕ) → IsPrefixOf (given q out.new.items.items)
-        (given q out.old.items.items ++ at_zero q (due_before (F.told panes.now.fold) (start_of panes.now.window k + 1) (bounds_of waiting.old).waiting
+    ensures prefix { OnErr result ((q : ℕ) → IsPrefixOf (given q (T.items out.new))
+        (given q (T.items out.old) ++ at_zero q (due_before (F.told panes.now.fold) (start_of panes.now.window k + 1) (bounds_of waiting.old).waiting
         (ended (F.none panes.now.fold) (F.joined panes.now.fold) panes.now.window panes.now.width (bounds_of waiting.old) (states_of panes.now.held.entries) k)))) }
-    ensures sound { ItemsSound out.old.items.items → ItemsSound out.new.items.items }
-    ensures extends { IsPrefixOf out.old.items.items out.new.items.items }
-    ensures drops { out.new.drops.items ≡ out.old.drops.items }
+    ensures sound { ItemsSound (T.items out.old) → ItemsSound (T.items out.new) }
+    ensures extends { IsPrefixOf (T.items out.old) (T.items out.new) }
+    ensures drops { T.drops out.new ≡ T.drops out.old }
+    ensures stays_ready { OnOk result (T.ready out.new) }
+    ensures came { (start : T) → T.came start out.old → T.came start out.new }
 {
     push_window(panes, waiting, k, due)?;
     let start = panes.window.start_of(k);
@@ -58,13 +61,13 @@ fn give_window<F: Fold + Drop>(
 }
 
 /// Gives the results of some windows that begin before a tick, and all marks before it, by time, a mark first.
-fn give_windows<F: Fold + Drop>(
+fn give_windows<F: Fold + Drop, T: Outlet>(
     panes: &Panes<F>,
     waiting: &mut Waiting,
     from: u64,
     end: u64,
     mid: u64,
-    out: &mut Outs,
+    out: &mut T,
 ) -> Result<(), AllocError>
     requires window { IsWindow panes.now.window }
     requires wide { 1 ≤ panes.now.width }
@@ -77,16 +80,19 @@ fn give_windows<F: Fold + Drop>(
     requires few { total (F.number panes.now.fold) (states_of panes.now.held.entries) < 2 ^ 62 }
     requires fit { AllByRecursion (λ e. FitsResult (F.width panes.now.fold) e.0.1) (states_of panes.now.held.entries) }
     requires marks { AllByRecursion IsSoundMark (bounds_of waiting.old).waiting }
+    requires is_ready { T.ready out.old }
     ensures bounds { OnOk result (bounds_of waiting.new ≡ closed_at mid (bounds_of waiting.old)) }
-    ensures given { OnOk result ((q : ℕ) → given q out.new.items.items
-        ≡ given q out.old.items.items ++ at_zero q (due_before (F.told panes.now.fold) mid (bounds_of waiting.old).waiting
+    ensures given { OnOk result ((q : ℕ) → given q (T.items out.new)
+        ≡ given q (T.items out.old) ++ at_zero q (due_before (F.told panes.now.fold) mid (bounds_of waiting.old).waiting
         (flat_map (ended (F.none panes.now.fold) (F.joined panes.now.fold) panes.now.window panes.now.width (bounds_of waiting.old) (states_of panes.now.held.entries)) (range_with_len from (end - from))))) }
-    ensures prefix { OnErr result ((q : ℕ) → IsPrefixOf (given q out.new.items.items)
-        (given q out.old.items.items ++ at_zero q (due_before (F.told panes.now.fold) mid (bounds_of waiting.old).waiting
+    ensures prefix { OnErr result ((q : ℕ) → IsPrefixOf (given q (T.items out.new))
+        (given q (T.items out.old) ++ at_zero q (due_before (F.told panes.now.fold) mid (bounds_of waiting.old).waiting
         (flat_map (ended (F.none panes.now.fold) (F.joined panes.now.fold) panes.now.window panes.now.width (bounds_of waiting.old) (states_of panes.now.held.entries)) (range_with_len from (end - from)))))) }
-    ensures sound { ItemsSound out.old.items.items → ItemsSound out.new.items.items }
-    ensures extends { IsPrefixOf out.old.items.items out.new.items.items }
-    ensures drops { out.new.drops.items ≡ out.old.drops.items }
+    ensures sound { ItemsSound (T.items out.old) → ItemsSound (T.items out.new) }
+    ensures extends { IsPrefixOf (T.items out.old) (T.items out.new) }
+    ensures drops { T.drops out.new ≡ T.drops out.old }
+    ensures stays_ready { OnOk result (T.ready out.new) }
+    ensures came { (start : T) → T.came start out.old → T.came start out.new }
 {
     let mut due = VecDeque::new(panes.alloc);
     for k in from..end {
@@ -97,12 +103,12 @@ fn give_windows<F: Fold + Drop>(
 
 /// Gives the results of all windows that begin before a tick and end after the time of the last item, and all marks
 /// before the tick, by time, a mark first.
-pub fn give_open<F: Fold + Drop>(
+pub fn give_open<F: Fold + Drop, T: Outlet>(
     panes: &Panes<F>,
     waiting: &mut Waiting,
     now: u64,
     mid: u64,
-    out: &mut Outs,
+    out: &mut T,
 ) -> Result<(), AllocError>
     requires window { IsWindow panes.now.window }
     requires tick { now < 2 ^ 40 }
@@ -115,16 +121,19 @@ pub fn give_open<F: Fold + Drop>(
     requires fit { AllByRecursion (λ e. FitsResult (F.width panes.now.fold) e.0.1) (states_of panes.now.held.entries) }
     requires waits { MarksWait panes.now.window.size now (bounds_of waiting.old).waiting }
     requires later { open_at panes.now.window.size now ≤ mid }
+    requires is_ready { T.ready out.old }
     ensures bounds { OnOk result (bounds_of waiting.new ≡ closed_at mid (bounds_of waiting.old)) }
-    ensures given { OnOk result ((q : ℕ) → given q out.new.items.items
-        ≡ given q out.old.items.items ++ at_zero q (told_open (folding_of [] (F.none panes.now.fold) (F.joined panes.now.fold) (F.unit panes.now.fold) (F.told panes.now.fold))
+    ensures given { OnOk result ((q : ℕ) → given q (T.items out.new)
+        ≡ given q (T.items out.old) ++ at_zero q (told_open (folding_of [] (F.none panes.now.fold) (F.joined panes.now.fold) (F.unit panes.now.fold) (F.told panes.now.fold))
         panes.now.window panes.now.width now mid (bounds_of waiting.old) (states_of panes.now.held.entries))) }
-    ensures prefix { OnErr result ((q : ℕ) → IsPrefixOf (given q out.new.items.items)
-        (given q out.old.items.items ++ at_zero q (told_open (folding_of [] (F.none panes.now.fold) (F.joined panes.now.fold) (F.unit panes.now.fold) (F.told panes.now.fold))
+    ensures prefix { OnErr result ((q : ℕ) → IsPrefixOf (given q (T.items out.new))
+        (given q (T.items out.old) ++ at_zero q (told_open (folding_of [] (F.none panes.now.fold) (F.joined panes.now.fold) (F.unit panes.now.fold) (F.told panes.now.fold))
         panes.now.window panes.now.width now mid (bounds_of waiting.old) (states_of panes.now.held.entries)))) }
-    ensures sound { ItemsSound out.old.items.items → ItemsSound out.new.items.items }
-    ensures extends { IsPrefixOf out.old.items.items out.new.items.items }
-    ensures drops { out.new.drops.items ≡ out.old.drops.items }
+    ensures sound { ItemsSound (T.items out.old) → ItemsSound (T.items out.new) }
+    ensures extends { IsPrefixOf (T.items out.old) (T.items out.new) }
+    ensures drops { T.drops out.new ≡ T.drops out.old }
+    ensures stays_ready { OnOk result (T.ready out.new) }
+    ensures came { (start : T) → T.came start out.old → T.came start out.new }
 {
     let from = panes.window.first_covering(now);
     let end = filled_before(panes.window, now, mid);
@@ -132,14 +141,14 @@ pub fn give_open<F: Fold + Drop>(
 }
 
 /// The same after an item of a time, which gives marks alone where no window ends before it.
-pub fn give_ended<F: Fold + Drop>(
+pub fn give_ended<F: Fold + Drop, T: Outlet>(
     panes: &Panes<F>,
     waiting: &mut Waiting,
     now: u64,
     ends: u64,
     time: u64,
     mid: u64,
-    out: &mut Outs,
+    out: &mut T,
 ) -> Result<(), AllocError>
     requires window { IsWindow panes.now.window }
     requires tick { now < 2 ^ 40 }
@@ -154,16 +163,19 @@ pub fn give_ended<F: Fold + Drop>(
     requires ends { IsFirstEnd panes.now.window now ends }
     requires later { now ≤ time }
     requires mid { mid ≡ open_at panes.now.window.size time }
+    requires is_ready { T.ready out.old }
     ensures bounds { OnOk result (bounds_of waiting.new ≡ closed_at mid (bounds_of waiting.old)) }
-    ensures given { OnOk result ((q : ℕ) → given q out.new.items.items
-        ≡ given q out.old.items.items ++ at_zero q (told_open (folding_of [] (F.none panes.now.fold) (F.joined panes.now.fold) (F.unit panes.now.fold) (F.told panes.now.fold))
+    ensures given { OnOk result ((q : ℕ) → given q (T.items out.new)
+        ≡ given q (T.items out.old) ++ at_zero q (told_open (folding_of [] (F.none panes.now.fold) (F.joined panes.now.fold) (F.unit panes.now.fold) (F.told panes.now.fold))
         panes.now.window panes.now.width now mid (bounds_of waiting.old) (states_of panes.now.held.entries))) }
-    ensures prefix { OnErr result ((q : ℕ) → IsPrefixOf (given q out.new.items.items)
-        (given q out.old.items.items ++ at_zero q (told_open (folding_of [] (F.none panes.now.fold) (F.joined panes.now.fold) (F.unit panes.now.fold) (F.told panes.now.fold))
+    ensures prefix { OnErr result ((q : ℕ) → IsPrefixOf (given q (T.items out.new))
+        (given q (T.items out.old) ++ at_zero q (told_open (folding_of [] (F.none panes.now.fold) (F.joined panes.now.fold) (F.unit panes.now.fold) (F.told panes.now.fold))
         panes.now.window panes.now.width now mid (bounds_of waiting.old) (states_of panes.now.held.entries)))) }
-    ensures sound { ItemsSound out.old.items.items → ItemsSound out.new.items.items }
-    ensures extends { IsPrefixOf out.old.items.items out.new.items.items }
-    ensures drops { out.new.drops.items ≡ out.old.drops.items }
+    ensures sound { ItemsSound (T.items out.old) → ItemsSound (T.items out.new) }
+    ensures extends { IsPrefixOf (T.items out.old) (T.items out.new) }
+    ensures drops { T.drops out.new ≡ T.drops out.old }
+    ensures stays_ready { OnOk result (T.ready out.new) }
+    ensures came { (start : T) → T.came start out.old → T.came start out.new }
 {
     if time < ends {
         let mut due = VecDeque::new(panes.alloc);

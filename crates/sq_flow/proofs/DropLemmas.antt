@@ -45,13 +45,6 @@ pub decided-next : (w : ℕ) (ds : List Decision) (d : Decision) (was mid is : L
 decided-next w ds d was mid is e f =
     f ∙ ap (λ z. z ++ of_drop w (d ∷ [])) e ∙ append_assoc was (of_drop w ds) (of_drop w (d ∷ [])) ∙ ap (λ z. was ++ z) (sym (of-drop-append w ds (d ∷ [])))
 
--- what was shown of the first is a prefix
-pub decided-front : (w : ℕ) (all first more was is : List Decision) → first ++ more ≡ all → is ≡ was ++ of_drop w first → IsPrefixOf is (was ++ of_drop w all)
-decided-front w all first more was is whole e = (
-  of_drop w more,
-  ap (λ l. was ++ of_drop w l) (sym whole) ∙ ap (λ z. was ++ z) (of-drop-append w first more) ∙ sym (append_assoc was (of_drop w first) (of_drop w more)) ∙ ap (λ z. z ++ of_drop w more) (sym e),
-)
-
 -- whose decisions they are
 pub own-below : (wires : Wires) (actor : ℕ) (ds : List Decision) → AllByRecursion (IsOwn wires actor) ds → AllByRecursion (λ d. d.drop < wires.shown - wires.sheds) ds
 own-below wires actor [] h = tt

@@ -196,7 +196,7 @@ module _ {O : Type 0} (m : Meaning O) (valid : O → Type 0) (a b c d : Engine O
     (here : place ≡ place_in a.flow.wires.replay actor) (flow : IsFlow m valid b.flow) (wires : b.flow.wires ≡ a.flow.wires)
     (seats : length b.flow.seats.items ≡ length a.flow.seats.items) (touched : TouchesOnly place a.flow b.flow)
     (removed : b.ready ≡ record a.ready { list = without actor a.ready.list }) (waits : b.waits.items ≡ a.waits.items)
-    (none : (b.outs.items.items ≡ []) × (b.outs.drops.items ≡ [])) (running : b.failed ≡ false)
+    (running : b.failed ≡ false)
     (first : Looked (actor ∷ []) b c) (looked : Looked (readers_of c.flow place) c d) where
   pub actor-low : actor ≤ length a.flow.seats.items
   actor-low = let l = engine.below actor listed in let r = engine.room.actors in omega (arith, l, r)
@@ -262,7 +262,6 @@ module _ {O : Type 0} (m : Meaning O) (valid : O → Type 0) (a b c d : Engine O
         once = subst OnlyOnce (sym list-is) (once-after a.flow b.flow engine.flow.shaped wires seats actor actor-low touches a.ready.list listed engine.once engine.exact);
         waits = λ x low.
             waits-are x (rw (← seats-are) low) ∙ ap (λ (f : Flow O). waiting f (place_in (length f.seats.items) x)) (sym flow-is);
-        none = rw (second.outs ∙ first.outs) none;
         running = second.failed ∙ first.failed ∙ running;
       }
     where
@@ -284,7 +283,7 @@ order-first a b empty looked = list-first a b empty looked ∙ ap (λ f. newly_r
 
 -- the engine after them
 module _ {O : Type 0} (m : Meaning O) (valid : O → Type 0) (a b : Engine O) (flow : IsFlow m valid a.flow) (room : HasRoom a) (empty : a.ready.list ≡ [])
-    (none : (a.outs.items.items ≡ []) × (a.outs.drops.items ≡ [])) (running : a.failed ≡ false)
+    (running : a.failed ≡ false)
     (looked : Looked (range_with_len 0 (length a.flow.seats.items + 1)) a b) where
   in-range : (x : ℕ) → x ≤ length a.flow.seats.items → contains (range_with_len 0 (length a.flow.seats.items + 1)) x ≡ true
   in-range x low = contains-range 0 (length a.flow.seats.items + 1) x ∙ grind (arith, nat_tests, low)
@@ -312,7 +311,6 @@ module _ {O : Type 0} (m : Meaning O) (valid : O → Type 0) (a b : Engine O) (f
             looked.waits x
             ∙ ap (λ b. cond b (waiting a.flow (place_in (length a.flow.seats.items) x)) (get_or a.waits.items x 0)) (in-range x (rw (← seats-are) low))
             ∙ ap (λ (f : Flow O). waiting f (place_in (length f.seats.items) x)) (sym looked.flow);
-        none = rw looked.outs none;
         running = looked.failed ∙ running;
       }
     where

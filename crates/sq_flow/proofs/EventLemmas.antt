@@ -2,8 +2,6 @@
 use Rattle.std.proofs.lemmas.Bool.Decides.{nat_tests}
 use Rattle.std.proofs.Common.{◌≡◌, ℕ, ◌+◌, ◌-◌, ◌<◌, ◌≤◌, arith, eqb, cond, Bool, true, false, List, [], ◌∷◌, ◌++◌, Option, Some, None, refl, ap, sym, ◌∙◌, append_assoc, append-nil}
 use Rattle.sq_value.specs.Lists.{IsPrefixOf}
-use Rattle.sq_oper.specs.Given.{given}
-use Rattle.sq_oper.proofs.GivenLemmas.{given-append}
 use Rattle.sq_value.specs.declared.Value.{Value}
 use Rattle.sq_value.specs.declared.Tuple.{Tuple}
 use Rattle.sq_item.specs.declared.Item.{Item}
@@ -77,38 +75,6 @@ nothing-more true xs ys e = rw e (sym (append-nil xs))
 nothing-more false xs ys e = sym (append-nil xs)
 
 pub ruleset event_lemmas = (lines-push, plans-line, drops-line, bodies-some, bodies-none, nothing-more, stays-same, stays-is, stays-push)
-
-cond-both : {A : Type 0} (b : Bool) (xs ys : List A) → cond b (xs ++ ys) [] ≡ cond b xs [] ++ cond b ys []
-cond-both true xs ys = refl
-cond-both false xs ys = refl
-
--- one more of what an output gives
-pub shown-next : (o output : ℕ) (outs : List (ℕ × Item)) (out : ℕ × Item) (was mid is : List Tuple)
-    → mid ≡ was ++ cond (eqb output o) (bodies (given 0 outs)) [] → is ≡ mid ++ cond (eqb output o) (bodies (given 0 (out ∷ []))) []
-    → is ≡ was ++ cond (eqb output o) (bodies (given 0 (outs ++ out ∷ []))) []
-shown-next o output outs out was mid is e f =
-    let both : bodies (given 0 (outs ++ out ∷ [])) ≡ bodies (given 0 outs) ++ bodies (given 0 (out ∷ [])) =
-    ap bodies (given-append 0 outs (out ∷ [])) ∙ bodies-append (given 0 outs) (given 0 (out ∷ [])) in
-    f ∙ ap (λ z. z ++ cond (eqb output o) (bodies (given 0 (out ∷ []))) []) e
-    ∙ append_assoc was (cond (eqb output o) (bodies (given 0 outs)) []) (cond (eqb output o) (bodies (given 0 (out ∷ []))) [])
-    ∙ ap (λ z. was ++ z) (sym (ap (λ l. cond (eqb output o) l []) both ∙ cond-both (eqb output o) (bodies (given 0 outs)) (bodies (given 0 (out ∷ [])))))
-
--- what was shown of the first is a prefix
-pub shown-front : (o output : ℕ) (outs first more : List (ℕ × Item)) (was is : List Tuple) → first ++ more ≡ outs
-    → is ≡ was ++ cond (eqb output o) (bodies (given 0 first)) [] → IsPrefixOf is (was ++ cond (eqb output o) (bodies (given 0 outs)) [])
-shown-front o output outs first more was is whole e =
-    let both : bodies (given 0 outs) ≡ bodies (given 0 first) ++ bodies (given 0 more) =
-    ap (λ l. bodies (given 0 l)) (sym whole) ∙ ap bodies (given-append 0 first more) ∙ bodies-append (given 0 first) (given 0 more) in (
-      cond (eqb output o) (bodies (given 0 more)) [],
-      ap (λ l. was ++ cond (eqb output o) l []) both
-          ∙ ap (λ z. was ++ z) (cond-both (eqb output o) (bodies (given 0 first)) (bodies (given 0 more)))
-          ∙ sym (append_assoc was (cond (eqb output o) (bodies (given 0 first)) []) (cond (eqb output o) (bodies (given 0 more)) []))
-          ∙ ap (λ z. z ++ cond (eqb output o) (bodies (given 0 more)) []) (sym e),
-    )
-
--- one more of what stood first
-pub moved-on : {A : Type 0} (first more rest all : List A) (x : A) → first ++ more ≡ all → more ≡ x ∷ rest → (first ++ x ∷ []) ++ rest ≡ all
-moved-on first more rest all x e f = append_assoc first (x ∷ []) rest ∙ ap (λ z. first ++ z) (sym f) ∙ e
 
 -- an output by its number among the outputs
 pub output-is : (shown actor o : ℕ) (xs : List Thing) → shown ≤ actor → cond (eqb (actor - shown) o) (bodies xs) [] ≡ bodies (cond (eqb actor (shown + o)) xs [])

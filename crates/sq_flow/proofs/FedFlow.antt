@@ -21,7 +21,7 @@ use Rattle.sq_left.specs.Left.{Net, World, coming, inputs, known}
 use Rattle.sq_left.specs.Heads.{AllFine}
 use Rattle.sq_left.proofs.MergeLemmas.{AllOfTime, eqb-yes, eqb-same, eqb-not}
 use Rattle.sq_left.proofs.Conserve.{Kept}
-use Rattle.sq_left.proofs.ActorSteps.{tuples-both, EachPort, PortFacts, taken_at, Moves, FedActor, SameActor}
+use Rattle.sq_left.proofs.ActorSteps.{EachPort, PortFacts, taken_at, Moves, FedActor, SameActor}
 use Rattle.sq_left.proofs.WorldSteps.{facts-at, next-is-future, next-is-first, spread-of-time, world-fed, replay-end}
 use Rattle.sq_queue.specs.declared.Queues.{Queues}
 use Rattle.sq_outside.specs.Disks.{Pages}
@@ -31,7 +31,7 @@ use Rattle.sq_queue.specs.Faces.{face, size, frames, items_on, Together}
 use Rattle.sq_flow.specs.Sends.{sent_to, comes_from, Pushes}
 use Rattle.sq_flow.specs.Readiness.{stands, TouchesOnly}
 use Rattle.sq_flow.proofs.TouchLemmas.{away-from, stands-pushed}
-use Rattle.sq_flow.proofs.SumLemmas.{sum-least, sum-most, sum-over, sum-more}
+use Rattle.sq_flow.proofs.SumLemmas.{sum-least, sum-most, sum-more}
 use Rattle.sq_flow.proofs.WireLemmas.{sent-is}
 use Rattle.sq_flow.specs.declared.wires.Arc.{Arc}
 use Rattle.sq_flow.specs.declared.seats.Seat.{Seat}
@@ -41,6 +41,7 @@ use Rattle.sq_flow.specs.Wiring.{net_of, arcs_read, arc_at, marked_of, fits_on, 
 use Rattle.sq_flow.specs.Heads.{NextUpTo}
 use Rattle.sq_flow.specs.Seats as seat
 use Rattle.sq_flow.specs.Seats.{Meaning, rest_at, decides_at, lost_at, place_at, done_at, holds_at, IsSeat, Owns, FedSeat}
+use Rattle.sq_flow.specs.Feeds.{FeedsPart}
 use Rattle.sq_flow.specs.Takes.{takes_of, fits_of, MayBeFed}
 use Rattle.sq_flow.specs.Events.{bodies, lines_of, of_drop, drops_of, ShowsIn}
 use Rattle.sq_flow.specs.Plans.{plans_left, plans_of}
@@ -48,7 +49,7 @@ use Rattle.sq_flow.specs.Flows.{world_of, IsFlow, HoldsItems, Goes, Stepped, Sho
 use Rattle.sq_flow.specs.declared.errors.RunErr.{RunErr}
 use Rattle.sq_flow.proofs.FutureLemmas.{future-weaker, future-port, ports-from-head, moves-fed, outs-fine, own-pushed, not-pushed, apart-from, fine-after, goes-on, prefix-chain}
 use Rattle.sq_flow.proofs.SendLemmas.{at_or_other}
-use Rattle.sq_flow.proofs.EventLemmas.{bodies-append}
+use Rattle.sq_flow.proofs.EventLemmas.{bodies-append, stays-is}
 use Rattle.sq_flow.proofs.ArcLemmas.{arcs-left}
 use Rattle.sq_flow.proofs.DropLemmas.{all-split, of-own, own-front, future-both}
 
@@ -301,14 +302,6 @@ module _ {O : Type 0} (m : Meaning O) (valid : O → Type 0) (e : Flow O) (flow 
         let own = ap (λ (l : List Entry). length l) first.3 ∙ length-append (entries p item) first.0 in
         let one = entries-length p (spread item) in omega (arith, least, own, one)
 
-    pub work-over : taken_in_all m e + cond (is_some item.body) 1 0 ≤ work_at_last m table items e
-    work-over =
-        let first = comes-first in
-        let own = ap (λ l. length (tuples_of l)) first.3 ∙ tuples-both (entries p item) first.0 in
-        let one = one-body item p in
-        sum-over (λ k. seat.taken_at m (slice_get e.seats.items k)) (fed_at_last m table items e) (length e.seats.items) actor (cond (is_some item.body) 1 0) actor_in
-        (λ k low. omega arith) (omega (arith, own, one))
-
     -- what a feed gives, or has given where it fails, is the beginning of what is left
     pub prefix-of-left : (outs : List (ℕ × Item))
         → ((future : List Entry) → IsFuture (m.takes_marks s.op) (m.fits s.op) (m.place s.op) (entries p item ++ future)
@@ -488,14 +481,6 @@ module _ {O : Type 0} (m : Meaning O) (valid : O → Type 0) (e : Flow O) (flow 
       }
 
   -- where the item was fed
-  pub costs-front : (was mid_pages is : Option Pages) (mid : Queues) (before after : ℕ) → Together e.queues was → (Tells mid_pages → Tells was) → (Tells is → Tells mid_pages)
-      → (Tells mid_pages → items_on e.queues was at ≡ item ∷ items_on mid mid_pages at)
-      → (Tells mid_pages → (other : ℕ) → other ≢ at → items_on mid mid_pages other ≡ items_on e.queues was other)
-      → after ≡ before + cond (is_some item.body) 1 0 → CostsAtMost m was is e e.levels before after
-  costs-front was mid_pages is mid before after together tells then front others more = λ told table agrees holds.
-      let most = work-over table agrees (items_on e.queues was) (items_on mid mid_pages) holds (together.faces (tells (then told))) (front (then told)) (others (then told)) in
-      omega (arith, most, more)
-
   pub costs-fed : (seats' : Vec (Seat O) Global) (queues' : Queues) (taken' : ℕ) (s' : Seat O) (before after : ℕ) → slice_get seats'.items actor ≡ Some s' → ((other : ℕ) → other ≢ actor → slice_get seats'.items other ≡ slice_get e.seats.items other)
       → length seats'.items ≡ length e.seats.items → m.taken s'.op ≡ m.taken s.op + cond (is_some item.body) 1 0 → after ≡ before + cond (is_some item.body) 1 0
       → CostsFed m e (record e { seats = seats'; queues = queues'; taken = taken' }) before after
@@ -520,26 +505,39 @@ module _ {O : Type 0} (m : Meaning O) (valid : O → Type 0) (e : Flow O) (flow 
       not-fed : (arc : ℕ) → to_of (slice_get e.wires.arcs.items arc) ≢ actor → arc ≢ at
       not-fed arc to same = to (ap (λ k. to_of (slice_get e.wires.arcs.items k)) same ∙ (flow.shaped.joined actor p at head.1).0)
 
-  -- what a feed has shown where giving failed
-  pub fed-prefix : (was mid_pages is : Option Pages) (mid : Queues) (s' : Seat O) (outs : List (ℕ × Item)) (drops : List Decision) (events events' : List Event)
+  -- what a feed that failed has decided is its own
+  own-part : (drops : List Decision) → ((table : ℕ → ℕ → ℕ) (future : List Entry) → Agrees e.levels table → IsFuture (m.takes_marks s.op) (m.fits s.op) (m.place s.op) (entries p item ++ future)
+      → IsPrefixOf drops (m.decides s.op table (entries p item ++ future)))
+      → MayBeFed a p s.tally.place e.clock item → m.running s.op ≡ true → AllByRecursion (IsOwn e.wires actor) drops
+  own-part drops decided may running =
+      let alone : entries p item ++ [] ≡ entries p item = append-nil (entries p item) in
+      let future : IsFuture (m.takes_marks s.op) (m.fits s.op) (m.place s.op) (entries p item ++ []) = rw alone (may-come may) in
+      let front = decided (level_of e.levels) [] (λ epoch drop h. refl) future in
+      (all-split (IsOwn e.wires actor) drops front.0
+      (subst (AllByRecursion (IsOwn e.wires actor)) front.1
+      (seat-owns running (level_of e.levels) (λ epoch drop h. refl) (entries p item ++ []) future))).0
+
+  -- what it has shown
+  pub fed-part : (was mid_pages is : Option Pages) (mid : Queues) (events events' : List Event)
       → Together e.queues was → (Tells mid_pages → Tells was) → (Tells is → Tells mid_pages)
       → (Tells mid_pages → items_on e.queues was at ≡ item ∷ items_on mid mid_pages at)
       → (Tells mid_pages → (other : ℕ) → other ≢ at → items_on mid mid_pages other ≡ items_on e.queues was other)
-      → FedSeat m valid e.levels p item outs drops s s'
-      → ((o : ℕ) → IsPrefixOf (lines_of o events') (lines_of o events ++ bodies (pushed_by actor outs (e.wires.shown + o) 0)))
+      → FeedsPart m e.levels p item e.wires actor s events events'
       → MayBeFed a p s.tally.place e.clock item → done_at e.over (slice_get e.seats.items actor) ≡ false
-      → ((w : ℕ) → IsPrefixOf (drops_of w events') (drops_of w events ++ of_drop w drops))
       → ShowsPrefix m was is e e.levels events events'
-  fed-prefix was mid_pages _ mid s' outs drops events events' together tells then front others fed pre may unfinished decides = λ told table agrees holds.
+  fed-part was mid_pages _ mid events events' together tells then front others part may unfinished = λ told table agrees holds.
       record {
         lines = λ output low.
-            prefix-chain (lines_of output events') (lines_of output events) (bodies (pushed_by actor outs (e.wires.shown + output) 0)) (lines_left m table (items_on e.queues was) e output) (pre output)
-            (prefix-of-left table agrees (items_on e.queues was) (items_on mid mid_pages) holds (together.faces (tells (then told))) (front (then told)) (others (then told)) outs
-            (λ future f q. (m.rest s'.op table future q, fed.law table future agrees f q)) (e.wires.shown + output));
+            prefix-chain (lines_of output events') (lines_of output events) (bodies (pushed_by actor part.items (e.wires.shown + output) 0)) (lines_left m table (items_on e.queues was) e output)
+            (stays-is (lines_of output events') _ (sym (part.shown.lines output)))
+            (prefix-of-left table agrees (items_on e.queues was) (items_on mid mid_pages) holds (together.faces (tells (then told))) (front (then told)) (others (then told)) part.items
+            (λ future f. part.law table future agrees f) (e.wires.shown + output));
         drops = λ w low.
-            prefix-chain (drops_of w events') (drops_of w events) (of_drop w drops) (decisions_left m table (items_on e.queues was) e (e.wires.sheds + w)) (decides w)
-            (drops-of-left table agrees (items_on e.queues was) (items_on mid mid_pages) holds (together.faces (tells (then told))) (front (then told)) (others (then told)) drops (own-drops s' outs drops fed may (runs unfinished))
-            (λ future f. (m.decides s'.op table future, fed.decided table future agrees f)) w);
+            prefix-chain (drops_of w events') (drops_of w events) (of_drop w part.drops) (decisions_left m table (items_on e.queues was) e (e.wires.sheds + w))
+            (stays-is (drops_of w events') _ (sym (part.shown.decided w)))
+            (drops-of-left table agrees (items_on e.queues was) (items_on mid mid_pages) holds (together.faces (tells (then told))) (front (then told)) (others (then told)) part.drops
+            (own-part part.drops part.decided may (runs unfinished))
+            (λ future f. part.decided table future agrees f) w);
       }
 
   -- the whole of a feed, from what its parts say

@@ -1,5 +1,5 @@
 -- What the end of an operator keeps.
-use Rattle.std.proofs.Common.{◌≡◌, ◌≢◌, ℕ, ◌+◌, ◌<◌, eqb, cond, Bool, true, false, not, ◌||◌, List, [], ◌∷◌, ◌++◌, length, Option, Some, None, refl, ap, sym, ◌∙◌, append-nil, arith, subst, ◌-◌}
+use Rattle.std.proofs.Common.{◌≡◌, ◌≢◌, ℕ, ◌+◌, ◌<◌, eqb, cond, Bool, true, false, not, ◌||◌, List, [], ◌∷◌, ◌++◌, length, Option, Some, None, refl, ap, sym, ◌∙◌, arith, subst, ◌-◌}
 use Rattle.std.specs.Prelude.{is_some, slice_get, Vec}
 use Rattle.std.specs.List.{AllByRecursion}
 use Rattle.std.specs.declared.alloc.Global.{Global}
@@ -33,6 +33,7 @@ use Rattle.sq_flow.specs.declared.flow.Flow.{Flow}
 use Rattle.sq_flow.specs.declared.heads.Next.TheVariants.{Ended}
 use Rattle.sq_flow.specs.Wiring.{net_of, arcs_read, from_of, pushed_by, AllOutsFine, IsOwn}
 use Rattle.sq_flow.specs.Heads.{NextUpTo}
+use Rattle.sq_flow.specs.Feeds.{EndsPart}
 use Rattle.sq_flow.specs.Seats as seat
 use Rattle.sq_flow.specs.Seats.{Meaning, rest_at, decides_at, lost_at, place_at, done_at, holds_at, IsSeat, Owns, FinishedSeat}
 use Rattle.sq_flow.specs.Events.{bodies, lines_of, of_drop, drops_of, ShowsIn}
@@ -41,8 +42,8 @@ use Rattle.sq_flow.specs.Flows.{world_of, IsFlow, HoldsItems, Goes, Stepped, Sho
 use Rattle.sq_flow.proofs.FutureLemmas.{outs-fine, own-pushed, not-pushed, goes-on, prefix-chain}
 use Rattle.sq_flow.proofs.SendLemmas.{at_or_other}
 use Rattle.sq_flow.proofs.ArcLemmas.{arcs-left}
-use Rattle.sq_flow.proofs.EventLemmas.{bodies-append}
-use Rattle.sq_flow.proofs.DropLemmas.{of-own, own-front}
+use Rattle.sq_flow.proofs.EventLemmas.{bodies-append, stays-is}
+use Rattle.sq_flow.proofs.DropLemmas.{all-split, of-own, own-front}
 
 module _ {O : Type 0} (m : Meaning O) (valid : O → Type 0) (e : Flow O) (flow : IsFlow m valid e) (actor : ℕ) (actor_in : actor < length e.seats.items)
     (head : NextUpTo (arcs_read e.wires actor) (λ k. (face e.queues k).first) (λ k. (face e.queues k).ended) (length (arcs_read e.wires actor)) Ended)
@@ -190,13 +191,13 @@ module _ {O : Type 0} (m : Meaning O) (valid : O → Type 0) (e : Flow O) (flow 
             subst (λ k. IsPrefixOf (bodies (given 0 outs)) (bodies (coming net was e.wires.order.items k 0))) same (cut (given 0 outs) (coming net was e.wires.order.items actor 0) here)
         by false t = (bodies (coming net was e.wires.order.items output 0), refl)
 
-    pub drops-of-end : (drops : List Decision) → AllByRecursion (IsOwn e.wires actor) drops → m.decides s.op table [] ≡ drops → (w : ℕ) → IsPrefixOf (of_drop w drops) (decisions_left m table items e (e.wires.sheds + w))
+    pub drops-of-end : (drops : List Decision) → AllByRecursion (IsOwn e.wires actor) drops → IsPrefixOf drops (m.decides s.op table []) → (w : ℕ) → IsPrefixOf (of_drop w drops) (decisions_left m table items e (e.wires.sheds + w))
     drops-of-end drops own law w =
         own-front e.wires actor w drops (decisions_left m table items e (e.wires.sheds + w)) own
         (λ same.
-        let is : decisions_left m table items e actor ≡ drops =
-        ap (λ z. decides_at m table (slice_get e.seats.items actor) z) ended-none ∙ ap (λ o. decides_at m table o []) is_seat ∙ law in
-        subst (λ k. IsPrefixOf drops (decisions_left m table items e k)) (sym same) ([], is ∙ sym (append-nil drops)))
+        let is : decisions_left m table items e actor ≡ m.decides s.op table [] =
+        ap (λ z. decides_at m table (slice_get e.seats.items actor) z) ended-none ∙ ap (λ o. decides_at m table o []) is_seat in
+        subst (λ k. IsPrefixOf drops (decisions_left m table items e k)) (sym same) (rw is law))
 
     module _ (seats' : Vec (Seat O) Global) (queues' : Queues) (s' : Seat O) (outs : List (ℕ × Item)) (drops : List Decision) (items' : ℕ → List Item)
         (fin : FinishedSeat m valid outs drops s s')
@@ -316,22 +317,30 @@ module _ {O : Type 0} (m : Meaning O) (valid : O → Type 0) (e : Flow O) (flow 
         others = λ other low ne. ap (done_at e.over) (apart other ne);
       }
 
-  -- what an end has shown where giving failed
-  pub finished-prefix : (was is : Option Pages) (s' : Seat O) (outs : List (ℕ × Item)) (drops : List Decision) (events events' : List Event)
-      → Together e.queues was → (Tells is → Tells was) → FinishedSeat m valid outs drops s s'
-      → ((o : ℕ) → IsPrefixOf (lines_of o events') (lines_of o events ++ bodies (pushed_by actor outs (e.wires.shown + o) 0)))
+  -- what an end that failed has decided is its own
+  own-part : (drops : List Decision) → ((table : ℕ → ℕ → ℕ) → IsPrefixOf drops (m.decides s.op table [])) → done_at e.over (slice_get e.seats.items actor) ≡ false → AllByRecursion (IsOwn e.wires actor) drops
+  own-part drops decided unfinished =
+      let owns : Owns m (IsOwn e.wires actor) e.levels s = subst (holds_at (Owns m (IsOwn e.wires actor) e.levels)) is_seat (flow.owned actor) in
+      let front = decided (level_of e.levels) in
+      (all-split (IsOwn e.wires actor) drops front.0
+      (subst (AllByRecursion (IsOwn e.wires actor)) front.1
+      (owns (runs unfinished) (level_of e.levels) (λ epoch drop h. refl) [] (record { in_order = tt; fitting = tt })))).0
+
+  -- what it has shown
+  pub finished-part : (was is : Option Pages) (events events' : List Event)
+      → Together e.queues was → (Tells is → Tells was) → EndsPart m e.wires actor s events events'
       → done_at e.over (slice_get e.seats.items actor) ≡ false
-      → ((w : ℕ) → IsPrefixOf (drops_of w events') (drops_of w events ++ of_drop w drops))
       → ShowsPrefix m was is e e.levels events events'
-  finished-prefix was _ s' outs drops events events' together tells fin pre unfinished decides = λ told table agrees holds.
+  finished-part was _ events events' together tells part unfinished = λ told table agrees holds.
       record {
         lines = λ output low.
-            prefix-chain (lines_of output events') (lines_of output events) (bodies (pushed_by actor outs (e.wires.shown + output) 0)) (lines_left m table (items_on e.queues was) e output) (pre output)
-            (prefix-of-end table agrees (items_on e.queues was) holds (together.faces (tells told)) outs
-            (λ q. ([], fin.law table q ∙ sym (append-nil (given q outs)))) (e.wires.shown + output));
+            prefix-chain (lines_of output events') (lines_of output events) (bodies (pushed_by actor part.items (e.wires.shown + output) 0)) (lines_left m table (items_on e.queues was) e output)
+            (stays-is (lines_of output events') _ (sym (part.shown.lines output)))
+            (prefix-of-end table agrees (items_on e.queues was) holds (together.faces (tells told)) part.items (λ q. part.law table q) (e.wires.shown + output));
         drops = λ w low.
-            prefix-chain (drops_of w events') (drops_of w events) (of_drop w drops) (decisions_left m table (items_on e.queues was) e (e.wires.sheds + w)) (decides w)
-            (drops-of-end table agrees (items_on e.queues was) holds (together.faces (tells told)) drops (own-drops s' outs drops fin unfinished) (fin.decided table) w);
+            prefix-chain (drops_of w events') (drops_of w events) (of_drop w part.drops) (decisions_left m table (items_on e.queues was) e (e.wires.sheds + w))
+            (stays-is (drops_of w events') _ (sym (part.shown.decided w)))
+            (drops-of-end table agrees (items_on e.queues was) holds (together.faces (tells told)) part.drops (own-part part.drops part.decided unfinished) (part.decided table) w);
       }
 
   -- the whole of an end, from what its parts say

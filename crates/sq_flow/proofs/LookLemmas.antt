@@ -20,7 +20,6 @@ pub looked-none : {O : Type 0} (engine : Engine O) → Looked [] engine engine
 looked-none engine =
     record {
       flow = refl;
-      outs = refl;
       failed = refl;
       actors = refl;
       list = sym (append-nil engine.ready.list);
@@ -33,7 +32,6 @@ pub looked-more : {O : Type 0} (seen : List ℕ) (x : ℕ) (a b c : Engine O) �
 looked-more seen x a b c apart first second =
     record {
       flow = second.flow ∙ first.flow;
-      outs = second.outs ∙ first.outs;
       failed = second.failed ∙ first.failed;
       actors = second.actors ∙ first.actors;
       list =

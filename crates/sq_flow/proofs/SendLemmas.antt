@@ -7,7 +7,6 @@ use Rattle.sq_item.specs.declared.Item.{Item}
 use Rattle.sq_item.specs.Sound.{IsSound}
 use Rattle.sq_item.specs.Things.{Thing, spread, spread_all}
 use Rattle.sq_outside.specs.Disks.{Pages}
-use Rattle.sq_oper.specs.Given.{ItemsSound}
 use Rattle.sq_left.specs.Heads.{AllFine}
 use Rattle.sq_left.proofs.MergeLemmas.{eqb-yes, eqb-no, eqb-same, eqb-not}
 use Rattle.sq_sched.specs.Ready.{contains}
@@ -16,7 +15,7 @@ use Rattle.sq_pool.specs.Trust.{Tells}
 use Rattle.sq_paged.specs.Fronts.{pushed, first_or}
 use Rattle.sq_queue.specs.Faces.{face, size, frames, items_on, Together}
 use Rattle.sq_flow.specs.declared.wires.Wires.{Wires}
-use Rattle.sq_flow.specs.Wiring.{arcs_from, times_in, AllOutsFine}
+use Rattle.sq_flow.specs.Wiring.{arcs_from, times_in}
 use Rattle.sq_flow.specs.Sends.{many, sent_to, comes_from, Pushes}
 
 pub spread_all-push : (xs : List Item) (i : Item) → spread_all (xs ++ i ∷ []) ≡ spread_all xs ++ spread i
@@ -126,20 +125,6 @@ sent-append wires actor (o ∷ outs) out arc =
     ap (λ z. many (times_in arc (arcs_from wires actor o.0)) (spread o.1) ++ z) (sent-append wires actor outs out arc)
     ∙ sym (append_assoc (many (times_in arc (arcs_from wires actor o.0)) (spread o.1)) (sent_to wires actor outs arc) (many (times_in arc (arcs_from wires actor out.0)) (spread out.1)))
 
-pub outs-in : (time : ℕ) (first rest outs : List (ℕ × Item)) (out : ℕ × Item) → first ++ out ∷ rest ≡ outs → AllOutsFine time outs → out.1.time ≤ time
-outs-in time first rest outs out e h = by first (subst (AllOutsFine time) (sym e) h)
-  where
-    by : (xs : List (ℕ × Item)) → AllOutsFine time (xs ++ out ∷ rest) → out.1.time ≤ time
-    by [] h = h.0
-    by (x ∷ xs) h = by xs h.2
-
-pub sound-in : (first rest outs : List (ℕ × Item)) (out : ℕ × Item) → first ++ out ∷ rest ≡ outs → ItemsSound outs → IsSound out.1
-sound-in first rest outs out e h = by first (subst ItemsSound (sym e) h)
-  where
-    by : (xs : List (ℕ × Item)) → ItemsSound (xs ++ out ∷ rest) → IsSound out.1
-    by [] h = h.0
-    by (x ∷ xs) h = by xs h.1
-
 -- an arc that isn't among these isn't one of them
 pub not-in : (arcs : List ℕ) (at arc : ℕ) → contains arcs at ≡ true → contains arcs arc ≡ false → eqb at arc ≡ false
 not-in arcs at arc there away = eqb-not at arc (λ e. cc (ap (contains arcs) e))
@@ -173,9 +158,3 @@ apart-arcs wires actor port arc joined away = by (contains (arcs_from wires acto
     by : (b : Bool) → contains (arcs_from wires actor port) arc ≡ b → b ≡ false
     by true e = cc (joined e, away)
     by false e = refl
-
--- nothing goes anywhere from an actor that no arc comes from
-pub sent-none : (wires : Wires) (actor : ℕ) (outs : List (ℕ × Item)) → ((port : ℕ) → arcs_from wires actor port ≡ []) → (arc : ℕ) → sent_to wires actor outs arc ≡ []
-sent-none wires actor [] none arc = refl
-sent-none wires actor (out ∷ outs) none arc =
-    ap (λ l. many (times_in arc l) (spread out.1) ++ sent_to wires actor outs arc) (none out.0) ∙ sent-none wires actor outs none arc

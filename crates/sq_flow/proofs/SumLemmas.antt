@@ -26,20 +26,6 @@ pub sum-most : (f g : ℕ → ℕ) (n : ℕ) → ((k : ℕ) → k < n → f k �
 sum-most f g zero most = omega arith
 sum-most f g (suc n) most = let r = sum-most f g n (λ k low. most k (omega arith)) in let last = most n (omega arith) in omega (arith, r, last)
 
-pub sum-over : (f g : ℕ → ℕ) (n i d : ℕ) → i < n → ((k : ℕ) → k < n → f k ≤ g k) → f i + d ≤ g i → sum_below f n + d ≤ sum_below g n
-sum-over f g zero i d low most over = absurd (omega arith)
-sum-over f g (suc n) i d low most over = by (λ below. sum-over f g n i d below (λ k k_below. most k (omega arith)) over) (eqb n i) refl
-  where
-    by : (i < n → sum_below f n + d ≤ sum_below g n) → (b : Bool) → eqb n i ≡ b → sum_below f (suc n) + d ≤ sum_below g (suc n)
-    by earlier true t =
-        let here : n ≡ i = eqb-yes n i t in
-        let last : f n + d ≤ g n = rw here over in
-        let rest = sum-most f g n (λ k below. most k (omega arith)) in omega (arith, rest, last)
-    by earlier false t =
-        let away : n ≢ i = eqb-no n i t in
-        let rest = earlier (omega (arith, away)) in
-        let last = most n (omega arith) in omega (arith, rest, last)
-
 pub sum-least : (f : ℕ → ℕ) (n i : ℕ) → i < n → f i ≤ sum_below f n
 sum-least f zero i low = absurd (omega arith)
 sum-least f (suc n) i low = by (sum-least f n i) (eqb n i) refl

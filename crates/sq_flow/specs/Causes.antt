@@ -1,5 +1,5 @@
 -- Why a step failed, and what shows it.
-use Rattle.std.specs.Prelude.{◌≡◌, ◌≢◌, ℕ, ◌+◌, ◌^◌, ◌≤◌, ⊤, ◌∷◌, length, Option, Some, slice_get}
+use Rattle.std.specs.Prelude.{◌≡◌, ◌≢◌, ℕ, ◌+◌, ◌^◌, ◌≤◌, ⊤, ◌∷◌, length, Option, Some, None, slice_get}
 use Rattle.sq_item.specs.declared.Item.{Item}
 use Rattle.sq_item.specs.Things.{spread}
 use Rattle.sq_outside.specs.Disks.{DiskLog, Pages}
@@ -24,6 +24,11 @@ of_queue queue.Disk = error.Disk
 of_queue (queue.Garbled page kept got) = error.Garbled page kept got
 of_queue (queue.NotAPage page bytes) = error.NotAPage page bytes
 of_queue queue.Memory = error.Memory
+
+-- why a call failed that kept the fault which it met: without one memory ran out
+abbrev pub fault_or : Option RunErr → RunErr
+fault_or None = error.Memory
+fault_or (Some e) = e
 
 -- a page of an arc came back to these queues in a call, by the disk's log before and after it, and it was refused
 pub record IsPageRefused (queues : Queues) (was is : DiskLog) (e : QueueErr) : Type 0 where

@@ -39,7 +39,6 @@ readers_of flow place = map (λ operator. operator + 1) (followers_of flow.wires
 -- wait for each is counted; nothing else changes
 pub record Looked {O : Type 0} (seen : List ℕ) (engine engine' : Engine O) : Type 0 where
   pub flow : engine'.flow ≡ engine.flow
-  pub outs : engine'.outs ≡ engine.outs
   pub failed : engine'.failed ≡ engine.failed
   pub actors : engine'.ready.actors ≡ engine.ready.actors
   pub list : engine'.ready.list ≡ engine.ready.list ++ filter (is_new engine.flow engine.ready.list) seen
@@ -60,7 +59,6 @@ pub record IsEngine {O : Type 0} (m : Meaning O) (valid : O → Type 0) (engine 
   pub once : OnlyOnce engine.ready.list
   pub waits : (actor : ℕ) → actor ≤ length engine.flow.seats.items
       → slice_index engine.waits.items actor ≡ waiting engine.flow (place_in (length engine.flow.seats.items) actor)
-  pub none : (engine.outs.items.items ≡ []) × (engine.outs.drops.items ≡ [])
   pub running : engine.failed ≡ false
 
 -- all actors are finished

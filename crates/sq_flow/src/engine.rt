@@ -17,7 +17,7 @@ use crate::plans::no_counts;
 use crate::seats::Seat;
 use crate::steps::Progress;
 use crate::wires::Wires;
-use sq_oper::{Event, Operator, Outs};
+use sq_oper::{Event, Operator};
 use sq_outside::{PageDisk, Steps};
 use sq_plan::Planner;
 use sq_queue::Queues;
@@ -34,8 +34,6 @@ pub struct Engine<O> {
     pub ready: Ready,
     /// Of each actor how many items wait for it; 0 for the replay.
     pub waits: Vec<u64>,
-    /// What operators give within a step: its memory is used again.
-    pub outs: Outs,
     pub failed: bool,
 }
 
@@ -146,7 +144,6 @@ impl<O: Operator + Drop> Engine<O> {
             flow,
             ready,
             waits,
-            outs: Outs::new(alloc),
             failed: false,
         };
         engine.look_at_all();
@@ -229,10 +226,7 @@ impl<O: Operator + Drop> Engine<O> {
     {
         let place = place_in(self.flow.wires.replay, pick.actor);
         self.ready.remove(pick.actor);
-        match self
-            .flow
-            .train(disk, place, pick.train, &mut self.outs, events, steps)
-        {
+        match self.flow.train(disk, place, pick.train, events, steps) {
             Err(e) => {
                 self.failed = true;
                 Err(e)

@@ -15,12 +15,12 @@ ghost use Rattle.sq_flow.specs.Sources.{IsNextSource};
 use crate::errors::RunErr;
 use crate::heads::{Next, next_of};
 use crate::plans::close_before;
-use crate::seats::{Seat, feed_seat, finish_seat};
-use crate::sending::{give, send_one};
+use crate::seats::{Seat, feed_into, finish_into};
+use crate::sending::send_one;
 use crate::taking::{count_item, take_item};
 use crate::wires::Wires;
 use sq_item::{Body, Item, Sign};
-use sq_oper::{Event, Operator, Outs};
+use sq_oper::{Event, Operator};
 use sq_outside::{PageDisk, Steps};
 use sq_plan::Planner;
 use sq_queue::Queues;
@@ -136,7 +136,6 @@ impl<O: Operator + Drop> Flow<O> {
         actor: u32,
         port: u32,
         arc: u32,
-        outs: &mut Outs,
         events: &mut Vec<Event>,
         steps: &mut Steps<L>,
     ) -> Result<(), RunErr>
@@ -145,7 +144,6 @@ impl<O: Operator + Drop> Flow<O> {
         requires actor_in { actor < length self.old.seats.items }
         requires head { (time : ℕ) × NextUpTo (arcs_read self.old.wires actor) (λ a. (face self.old.queues a).first) (λ a. (face self.old.queues a).ended) (length (arcs_read self.old.wires actor)) (Next.Feed time port arc) }
         requires running { done_at self.old.over (slice_get self.old.seats.items actor) ≡ false }
-        requires none { (outs.old.items.items ≡ []) × (outs.old.drops.items ≡ []) }
         ensures ok { OnOk result (Stepped (record { rest = O.rest; decides = O.decides; lost = O.lost; place = O.place; taken = O.taken; running = O.running; takes_marks = O.takes_marks; fits = O.fits; reads = O.reads }) O.valid (known (D.log disk.old)) (known (D.log disk.new)) self.old self.new events.old.items events.new.items) }
         ensures prefix { OnErr result (ShowsPrefix (record { rest = O.rest; decides = O.decides; lost = O.lost; place = O.place; taken = O.taken; running = O.running; takes_marks = O.takes_marks; fits = O.fits; reads = O.reads }) (known (D.log disk.old)) (known (D.log disk.new)) self.old self.new.levels events.old.items events.new.items) }
         ensures plans { OnErr result (PlansPrefix self.old self.new.levels events.old.items events.new.items) }
@@ -154,7 +152,6 @@ impl<O: Operator + Drop> Flow<O> {
         ensures feed { IfErr result (IsFeedCause self.old self.new (known (D.log disk.old)) (known (D.log disk.new))) }
         ensures faults { D.faults disk.old ≤ D.faults disk.new }
         ensures later { IsLater (D.log disk.old) (D.log disk.new) }
-        ensures none { OnOk result ((outs.new.items.items ≡ []) × (outs.new.drops.items ≡ [])) }
         ensures touches { OnOk result (TouchesOnly actor self.old self.new) }
         ensures cost { OnOk result (CostsFed (record { rest = O.rest; decides = O.decides; lost = O.lost; place = O.place; taken = O.taken; running = O.running; takes_marks = O.takes_marks; fits = O.fits; reads = O.reads }) self.old self.new steps.old steps.new) }
         ensures cost_err { OnErr result (CostsAtMost (record { rest = O.rest; decides = O.decides; lost = O.lost; place = O.place; taken = O.taken; running = O.running; takes_marks = O.takes_marks; fits = O.fits; reads = O.reads }) (known (D.log disk.old)) (known (D.log disk.new)) self.old self.new.levels steps.old steps.new) }
@@ -175,15 +172,18 @@ impl<O: Operator + Drop> Flow<O> {
             Ok(taken) => taken,
             Err(e) => return Err(e),
         };
-        feed_seat(
+        feed_into(
             &mut self.seats[actor as usize],
             &self.levels,
             port,
             item,
-            outs,
+            &self.wires,
+            &mut self.queues,
+            disk,
+            actor,
+            events,
             steps,
         )?;
-        give(&self.wires, &mut self.queues, disk, actor, outs, events)?;
         Ok(())
     }
 
@@ -192,7 +192,6 @@ impl<O: Operator + Drop> Flow<O> {
         &mut self,
         disk: &mut D,
         actor: u32,
-        outs: &mut Outs,
         events: &mut Vec<Event>,
     ) -> Result<(), RunErr>
         requires flow { IsFlow (record { rest = O.rest; decides = O.decides; lost = O.lost; place = O.place; taken = O.taken; running = O.running; takes_marks = O.takes_marks; fits = O.fits; reads = O.reads }) O.valid self.old }
@@ -200,7 +199,6 @@ impl<O: Operator + Drop> Flow<O> {
         requires actor_in { actor < length self.old.seats.items }
         requires head { NextUpTo (arcs_read self.old.wires actor) (λ a. (face self.old.queues a).first) (λ a. (face self.old.queues a).ended) (length (arcs_read self.old.wires actor)) Next.Ended }
         requires running { done_at self.old.over (slice_get self.old.seats.items actor) ≡ false }
-        requires none { (outs.old.items.items ≡ []) × (outs.old.drops.items ≡ []) }
         ensures ok { OnOk result (Stepped (record { rest = O.rest; decides = O.decides; lost = O.lost; place = O.place; taken = O.taken; running = O.running; takes_marks = O.takes_marks; fits = O.fits; reads = O.reads }) O.valid (known (D.log disk.old)) (known (D.log disk.new)) self.old self.new events.old.items events.new.items) }
         ensures prefix { OnErr result (ShowsPrefix (record { rest = O.rest; decides = O.decides; lost = O.lost; place = O.place; taken = O.taken; running = O.running; takes_marks = O.takes_marks; fits = O.fits; reads = O.reads }) (known (D.log disk.old)) (known (D.log disk.new)) self.old self.new.levels events.old.items events.new.items) }
         ensures plans { OnErr result (PlansPrefix self.old self.new.levels events.old.items events.new.items) }
@@ -210,7 +208,6 @@ impl<O: Operator + Drop> Flow<O> {
         ensures faults { D.faults disk.old ≤ D.faults disk.new }
         ensures later { IsLater (D.log disk.old) (D.log disk.new) }
         ensures memory { IfErr result (λ e. e ≢ RunErr.TooMuch) }
-        ensures none { OnOk result ((outs.new.items.items ≡ []) × (outs.new.drops.items ≡ [])) }
         ensures touches { OnOk result (TouchesOnly actor self.old self.new) }
         ensures taken { OnOk result (taken_in_all (record { rest = O.rest; decides = O.decides; lost = O.lost; place = O.place; taken = O.taken; running = O.running; takes_marks = O.takes_marks; fits = O.fits; reads = O.reads }) self.new ≡ taken_in_all (record { rest = O.rest; decides = O.decides; lost = O.lost; place = O.place; taken = O.taken; running = O.running; takes_marks = O.takes_marks; fits = O.fits; reads = O.reads }) self.old) }
         ensures closes { (table : ℕ → ℕ → ℕ) → Agrees self.new.levels table → Agrees self.old.levels table }
@@ -218,8 +215,14 @@ impl<O: Operator + Drop> Flow<O> {
         ensures stay { IsPrefixOf events.old.items events.new.items }
         ensures took { OnOk result (Took actor 0 true self.old self.new) }
     {
-        finish_seat(&mut self.seats[actor as usize], outs)?;
-        give(&self.wires, &mut self.queues, disk, actor, outs, events)?;
+        finish_into(
+            &mut self.seats[actor as usize],
+            &self.wires,
+            &mut self.queues,
+            disk,
+            actor,
+            events,
+        )?;
         end_arcs(&self.wires, &mut self.queues, actor);
         Ok(())
     }

@@ -1,19 +1,27 @@
 //! Operators in their seats.
 
-ghost use Rattle.std.specs.Prelude.{◌≡◌, ℕ, ◌+◌, List, ◌-◌, ◌^◌, ◌/◌, ◌<◌, ◌++◌, true, false, [], is_some, OnOk, OnErr, if◌then◌else◌};
+ghost use Rattle.std.specs.Prelude.{◌≡◌, ℕ, ◌+◌, ◌-◌, ◌^◌, ◌/◌, ◌<◌, ◌≤◌, true, false, [], Some, is_some, OnOk, OnErr, IfErr, length, slice_get, if◌then◌else◌};
+ghost use Rattle.sq_sched.specs.Ready.{contains};
 ghost use Rattle.sq_item.specs.Sound.{IsSound};
-ghost use Rattle.sq_road.specs.Levels.{Agrees};
-ghost use Rattle.sq_oper.specs.Entries.{Entry, entries};
-ghost use Rattle.sq_oper.specs.Given.{given};
+ghost use Rattle.sq_oper.specs.Entries.{entries};
 ghost use Rattle.sq_oper.specs.Order.{IsFuture};
-ghost use Rattle.sq_value.specs.Lists.{IsPrefixOf};
-ghost use Rattle.sq_flow.specs.Seats.{FedSeat, FinishedSeat};
+ghost use Rattle.sq_pool.specs.Trust.{IsLater, Tells, known};
+ghost use Rattle.sq_queue.specs.Faces.{face, size, Together};
+ghost use Rattle.sq_flow.specs.Causes.{IsQueueCause};
+ghost use Rattle.sq_flow.specs.Takes.{NotChanged};
+ghost use Rattle.sq_flow.specs.Wiring.{arcs_from};
+ghost use Rattle.sq_flow.specs.Sends.{comes_from};
+ghost use Rattle.sq_flow.specs.Feeds.{FeedsInto, FeedsPart, EndsInto, EndsPart};
 
+use crate::errors::RunErr;
+use crate::noted::Noted;
+use crate::onward::{Onward, fault_of};
+use crate::wires::Wires;
 use sq_item::Item;
-use sq_oper::{Operator, Outs, Tally};
-use sq_outside::Steps;
+use sq_oper::{Event, Operator, Tally};
+use sq_outside::{PageDisk, Steps};
+use sq_queue::Queues;
 use sq_road::Levels;
-use std::alloc::AllocError;
 use std::sync::ledger::Ledger;
 
 /// An operator, with what the run keeps of what it was fed.
@@ -23,43 +31,120 @@ pub struct Seat<O> {
     pub tally: Tally,
 }
 
-/// Feeds an operator one item.
+/// Feeds an operator one item. What it gives goes on at once.
 #[inline(always)]
-pub(crate) fn feed_seat<O: Operator, L: Ledger>(
+pub(crate) fn feed_into<O: Operator, D: PageDisk, L: Ledger>(
     seat: &mut Seat<O>,
     levels: &Levels,
     port: u32,
     item: Item,
-    out: &mut Outs,
+    wires: &Wires,
+    queues: &mut Queues,
+    disk: &mut D,
+    actor: u32,
+    events: &mut Vec<Event>,
     steps: &mut Steps<L>,
-) -> Result<(), AllocError>
+) -> Result<(), RunErr>
     requires is_valid { O.valid seat.old.op × (O.running seat.old.op ≡ true) }
     requires may_come { IsFuture (O.takes_marks seat.old.op) (O.fits seat.old.op) (O.place seat.old.op) (entries port item) }
     requires is_sound { IsSound item }
     requires has_epoch { O.reads seat.old.op levels.now.epoch ≡ true }
     requires has_level { item.time / levels.now.epoch < levels.now.closed }
     requires has_room { (O.taken seat.old.op < 2 ^ 62 - 1) × (seat.old.tally.taken < 2 ^ 62 - 1) }
-    requires none { (out.old.items.items ≡ []) × (out.old.drops.items ≡ []) }
-    ensures fed { OnOk result (FedSeat (record { rest = O.rest; decides = O.decides; lost = O.lost; place = O.place; taken = O.taken; running = O.running; takes_marks = O.takes_marks; fits = O.fits; reads = O.reads }) O.valid levels.now port item out.new.items.items out.new.drops.items seat.old seat.new) }
-    ensures prefix { OnErr result ((table : ℕ → ℕ → ℕ) (future : List Entry) → Agrees levels.now table
-        → IsFuture (O.takes_marks seat.old.op) (O.fits seat.old.op) (O.place seat.old.op) (entries port item ++ future)
-        → (q : ℕ) → IsPrefixOf (given q out.new.items.items) (O.rest seat.old.op table (entries port item ++ future) q)) }
+    requires within { actor < length wires.now.readers.items }
+    requires shown { wires.now.shown ≤ actor → (port : ℕ) → arcs_from wires.now actor port ≡ [] }
+    requires there { (port place arc : ℕ) → slice_get (arcs_from wires.now actor port) place ≡ Some arc → (arc < size queues.old) × ((face queues.old arc).ended ≡ false) }
+    requires joined { (port arc : ℕ) → contains (arcs_from wires.now actor port) arc ≡ true → comes_from wires.now actor arc ≡ true }
+    requires together { Together queues.old (known (D.log disk.old)) }
+    ensures fed { OnOk result (FeedsInto (record { rest = O.rest; decides = O.decides; lost = O.lost; place = O.place; taken = O.taken; running = O.running; takes_marks = O.takes_marks; fits = O.fits; reads = O.reads }) O.valid levels.now port item wires.now actor seat.old seat.new queues.old queues.new (known (D.log disk.old)) (known (D.log disk.new)) events.old.items events.new.items) }
+    ensures part { OnErr result (FeedsPart (record { rest = O.rest; decides = O.decides; lost = O.lost; place = O.place; taken = O.taken; running = O.running; takes_marks = O.takes_marks; fits = O.fits; reads = O.reads }) levels.now port item wires.now actor seat.old events.old.items events.new.items) }
+    ensures cause { IfErr result (IsQueueCause queues.new (D.log disk.old) (D.log disk.new) (D.faults disk.old) (D.faults disk.new)) }
+    ensures honest { IfErr result (λ e. Tells (known (D.log disk.new)) → NotChanged (D.log disk.old).honest e) }
+    ensures faults { D.faults disk.old ≤ D.faults disk.new }
+    ensures later { IsLater (D.log disk.old) (D.log disk.new) }
     ensures cost { OnOk result (steps.new ≡ steps.old + (if is_some item.body then 1 else 0)) }
     ensures no_cost { OnErr result (steps.new ≡ steps.old) }
 {
     seat.tally.note(port, &item);
-    seat.op.feed(levels, port, item, out, steps)?;
-    Ok(())
+    let mut onward = Onward {
+        wires,
+        queues,
+        disk,
+        events,
+        actor,
+        failed: None,
+        noted: Noted::new(),
+    };
+    let done = seat.op.feed(levels, port, item, &mut onward, steps);
+    let Onward {
+        wires: _,
+        queues,
+        disk,
+        events,
+        actor: _,
+        failed,
+        noted: _,
+    } = onward;
+    // No effect at run time. The proof reads what the arguments hold from these uses.
+    let _ = &*queues;
+    let _ = &*disk;
+    let _ = &*events;
+    match done {
+        Ok(()) => Ok(()),
+        Err(e) => Err(fault_of(failed, e)),
+    }
 }
 
-/// Finishes an operator.
-pub(crate) fn finish_seat<O: Operator>(seat: &mut Seat<O>, out: &mut Outs) -> Result<(), AllocError>
+/// Finishes an operator. What it gives goes on at once.
+pub(crate) fn finish_into<O: Operator, D: PageDisk>(
+    seat: &mut Seat<O>,
+    wires: &Wires,
+    queues: &mut Queues,
+    disk: &mut D,
+    actor: u32,
+    events: &mut Vec<Event>,
+) -> Result<(), RunErr>
     requires is_valid { O.valid seat.old.op × (O.running seat.old.op ≡ true) }
-    requires none { (out.old.items.items ≡ []) × (out.old.drops.items ≡ []) }
-    ensures finished { OnOk result (FinishedSeat (record { rest = O.rest; decides = O.decides; lost = O.lost; place = O.place; taken = O.taken; running = O.running; takes_marks = O.takes_marks; fits = O.fits; reads = O.reads }) O.valid out.new.items.items out.new.drops.items seat.old seat.new) }
-    ensures prefix { OnErr result ((table : ℕ → ℕ → ℕ) (q : ℕ) → IsPrefixOf (given q out.new.items.items) (O.rest seat.old.op table [] q)) }
+    requires within { actor < length wires.now.readers.items }
+    requires shown { wires.now.shown ≤ actor → (port : ℕ) → arcs_from wires.now actor port ≡ [] }
+    requires there { (port place arc : ℕ) → slice_get (arcs_from wires.now actor port) place ≡ Some arc → (arc < size queues.old) × ((face queues.old arc).ended ≡ false) }
+    requires joined { (port arc : ℕ) → contains (arcs_from wires.now actor port) arc ≡ true → comes_from wires.now actor arc ≡ true }
+    requires together { Together queues.old (known (D.log disk.old)) }
+    ensures finished { OnOk result (EndsInto (record { rest = O.rest; decides = O.decides; lost = O.lost; place = O.place; taken = O.taken; running = O.running; takes_marks = O.takes_marks; fits = O.fits; reads = O.reads }) O.valid wires.now actor seat.old seat.new queues.old queues.new (known (D.log disk.old)) (known (D.log disk.new)) events.old.items events.new.items) }
+    ensures part { OnErr result (EndsPart (record { rest = O.rest; decides = O.decides; lost = O.lost; place = O.place; taken = O.taken; running = O.running; takes_marks = O.takes_marks; fits = O.fits; reads = O.reads }) wires.now actor seat.old events.old.items events.new.items) }
+    ensures cause { IfErr result (IsQueueCause queues.new (D.log disk.old) (D.log disk.new) (D.faults disk.old) (D.faults disk.new)) }
+    ensures honest { IfErr result (λ e. Tells (known (D.log disk.new)) → NotChanged (D.log disk.old).honest e) }
+    ensures faults { D.faults disk.old ≤ D.faults disk.new }
+    ensures later { IsLater (D.log disk.old) (D.log disk.new) }
 {
-    seat.op.finish(out)?;
-    seat.tally.running = false;
-    Ok(())
+    let mut onward = Onward {
+        wires,
+        queues,
+        disk,
+        events,
+        actor,
+        failed: None,
+        noted: Noted::new(),
+    };
+    let done = seat.op.finish(&mut onward);
+    let Onward {
+        wires: _,
+        queues,
+        disk,
+        events,
+        actor: _,
+        failed,
+        noted: _,
+    } = onward;
+    // No effect at run time. The proof reads what the arguments hold from these uses.
+    let _ = &*queues;
+    let _ = &*disk;
+    let _ = &*events;
+    match done {
+        Ok(()) => {
+            seat.tally.running = false;
+            Ok(())
+        }
+        Err(e) => Err(fault_of(failed, e)),
+    }
 }

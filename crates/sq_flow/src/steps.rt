@@ -10,7 +10,7 @@ ghost use Rattle.sq_queue.specs.Faces.{Together};
 use crate::errors::RunErr;
 use crate::flow::{Did, Flow, next_source};
 use crate::heads::{Next, next_of};
-use sq_oper::{Event, Operator, Outs};
+use sq_oper::{Event, Operator};
 use sq_outside::{PageDisk, Steps};
 use std::sync::ledger::Ledger;
 
@@ -84,7 +84,6 @@ impl<O: Operator + Drop> Flow<O> {
         &mut self,
         disk: &mut D,
         actor: u32,
-        outs: &mut Outs,
         events: &mut Vec<Event>,
         steps: &mut Steps<L>,
     ) -> Result<Did, RunErr>
@@ -92,7 +91,6 @@ impl<O: Operator + Drop> Flow<O> {
         requires together { Together self.old.queues (known (D.log disk.old)) }
         requires actor_in { actor < length self.old.seats.items }
         requires running { done_at self.old.over (slice_get self.old.seats.items actor) ≡ false }
-        requires none { (outs.old.items.items ≡ []) × (outs.old.drops.items ≡ []) }
         ensures ok { OnOk result (Stepped (record { rest = O.rest; decides = O.decides; lost = O.lost; place = O.place; taken = O.taken; running = O.running; takes_marks = O.takes_marks; fits = O.fits; reads = O.reads }) O.valid (known (D.log disk.old)) (known (D.log disk.new)) self.old self.new events.old.items events.new.items) }
         ensures prefix { OnErr result (ShowsPrefix (record { rest = O.rest; decides = O.decides; lost = O.lost; place = O.place; taken = O.taken; running = O.running; takes_marks = O.takes_marks; fits = O.fits; reads = O.reads }) (known (D.log disk.old)) (known (D.log disk.new)) self.old self.new.levels events.old.items events.new.items) }
         ensures plans { OnErr result (PlansPrefix self.old self.new.levels events.old.items events.new.items) }
@@ -101,7 +99,6 @@ impl<O: Operator + Drop> Flow<O> {
         ensures feed { IfErr result (IsFeedCause self.old self.new (known (D.log disk.old)) (known (D.log disk.new))) }
         ensures faults { D.faults disk.old ≤ D.faults disk.new }
         ensures later { IsLater (D.log disk.old) (D.log disk.new) }
-        ensures none { OnOk result ((outs.new.items.items ≡ []) × (outs.new.drops.items ≡ [])) }
         ensures touches { OnOk result (TouchesOnly actor self.old self.new) }
         ensures cost { OnOk result (CostsFed (record { rest = O.rest; decides = O.decides; lost = O.lost; place = O.place; taken = O.taken; running = O.running; takes_marks = O.takes_marks; fits = O.fits; reads = O.reads }) self.old self.new steps.old steps.new) }
         ensures cost_err { OnErr result (CostsAtMost (record { rest = O.rest; decides = O.decides; lost = O.lost; place = O.place; taken = O.taken; running = O.running; takes_marks = O.takes_marks; fits = O.fits; reads = O.reads }) (known (D.log disk.old)) (known (D.log disk.new)) self.old self.new.levels steps.old steps.new) }
@@ -116,11 +113,11 @@ impl<O: Operator + Drop> Flow<O> {
         match next_of(&self.wires, &self.queues, actor) {
             Next::Waits => Ok(Did::Waits),
             Next::Ended => {
-                self.finish_step(disk, actor, outs, events)?;
+                self.finish_step(disk, actor, events)?;
                 Ok(Did::Finished)
             }
             Next::Feed { time: _, port, arc } => {
-                self.feed_step(disk, actor, port, arc, outs, events, steps)?;
+                self.feed_step(disk, actor, port, arc, events, steps)?;
                 Ok(Did::Fed)
             }
         }
@@ -132,14 +129,12 @@ impl<O: Operator + Drop> Flow<O> {
         &mut self,
         disk: &mut D,
         actor: u32,
-        outs: &mut Outs,
         events: &mut Vec<Event>,
         steps: &mut Steps<L>,
     ) -> Result<Did, RunErr>
         requires flow { IsFlow (record { rest = O.rest; decides = O.decides; lost = O.lost; place = O.place; taken = O.taken; running = O.running; takes_marks = O.takes_marks; fits = O.fits; reads = O.reads }) O.valid self.old }
         requires together { Together self.old.queues (known (D.log disk.old)) }
         requires actor_in { actor ≤ length self.old.seats.items }
-        requires none { (outs.old.items.items ≡ []) × (outs.old.drops.items ≡ []) }
         ensures ok { OnOk result (Stepped (record { rest = O.rest; decides = O.decides; lost = O.lost; place = O.place; taken = O.taken; running = O.running; takes_marks = O.takes_marks; fits = O.fits; reads = O.reads }) O.valid (known (D.log disk.old)) (known (D.log disk.new)) self.old self.new events.old.items events.new.items) }
         ensures prefix { OnErr result (ShowsPrefix (record { rest = O.rest; decides = O.decides; lost = O.lost; place = O.place; taken = O.taken; running = O.running; takes_marks = O.takes_marks; fits = O.fits; reads = O.reads }) (known (D.log disk.old)) (known (D.log disk.new)) self.old self.new.levels events.old.items events.new.items) }
         ensures plans { OnErr result (PlansPrefix self.old self.new.levels events.old.items events.new.items) }
@@ -148,7 +143,6 @@ impl<O: Operator + Drop> Flow<O> {
         ensures feed { IfErr result (IsFeedCause self.old self.new (known (D.log disk.old)) (known (D.log disk.new))) }
         ensures faults { D.faults disk.old ≤ D.faults disk.new }
         ensures later { IsLater (D.log disk.old) (D.log disk.new) }
-        ensures none { OnOk result ((outs.new.items.items ≡ []) × (outs.new.drops.items ≡ [])) }
         ensures touches { OnOk result (TouchesOnly actor self.old self.new) }
         ensures cost { OnOk result (CostsFed (record { rest = O.rest; decides = O.decides; lost = O.lost; place = O.place; taken = O.taken; running = O.running; takes_marks = O.takes_marks; fits = O.fits; reads = O.reads }) self.old self.new steps.old steps.new) }
         ensures cost_err { OnErr result (CostsAtMost (record { rest = O.rest; decides = O.decides; lost = O.lost; place = O.place; taken = O.taken; running = O.running; takes_marks = O.takes_marks; fits = O.fits; reads = O.reads }) (known (D.log disk.old)) (known (D.log disk.new)) self.old self.new.levels steps.old steps.new) }
@@ -166,7 +160,7 @@ impl<O: Operator + Drop> Flow<O> {
         if actor == self.wires.replay {
             self.replay_step(disk, events)
         } else {
-            self.operator_step(disk, actor, outs, events, steps)
+            self.operator_step(disk, actor, events, steps)
         }
     }
 
@@ -176,7 +170,6 @@ impl<O: Operator + Drop> Flow<O> {
         disk: &mut D,
         actor: u32,
         train: u32,
-        outs: &mut Outs,
         events: &mut Vec<Event>,
         steps: &mut Steps<L>,
     ) -> Result<Progress, RunErr>
@@ -184,7 +177,6 @@ impl<O: Operator + Drop> Flow<O> {
         requires together { Together self.old.queues (known (D.log disk.old)) }
         requires actor_in { actor ≤ length self.old.seats.items }
         requires some { 1 ≤ train }
-        requires none { (outs.old.items.items ≡ []) × (outs.old.drops.items ≡ []) }
         ensures ok { OnOk result (Stepped (record { rest = O.rest; decides = O.decides; lost = O.lost; place = O.place; taken = O.taken; running = O.running; takes_marks = O.takes_marks; fits = O.fits; reads = O.reads }) O.valid (known (D.log disk.old)) (known (D.log disk.new)) self.old self.new events.old.items events.new.items) }
         ensures prefix { OnErr result (ShowsPrefix (record { rest = O.rest; decides = O.decides; lost = O.lost; place = O.place; taken = O.taken; running = O.running; takes_marks = O.takes_marks; fits = O.fits; reads = O.reads }) (known (D.log disk.old)) (known (D.log disk.new)) self.old self.new.levels events.old.items events.new.items) }
         ensures plans { OnErr result (PlansPrefix self.old self.new.levels events.old.items events.new.items) }
@@ -197,7 +189,6 @@ impl<O: Operator + Drop> Flow<O> {
         ensures cost { OnOk result (CostsFed (record { rest = O.rest; decides = O.decides; lost = O.lost; place = O.place; taken = O.taken; running = O.running; takes_marks = O.takes_marks; fits = O.fits; reads = O.reads }) self.old self.new steps.old steps.new) }
         ensures cost_err { OnErr result (CostsAtMost (record { rest = O.rest; decides = O.decides; lost = O.lost; place = O.place; taken = O.taken; running = O.running; takes_marks = O.takes_marks; fits = O.fits; reads = O.reads }) (known (D.log disk.old)) (known (D.log disk.new)) self.old self.new.levels steps.old steps.new) }
         ensures too_much { IfErr result (λ e. TooMuchOnly (record { rest = O.rest; decides = O.decides; lost = O.lost; place = O.place; taken = O.taken; running = O.running; takes_marks = O.takes_marks; fits = O.fits; reads = O.reads }) (known (D.log disk.old)) (known (D.log disk.new)) self.old self.new e) }
-        ensures none { OnOk result ((outs.new.items.items ≡ []) × (outs.new.drops.items ≡ [])) }
         ensures stops { IfOk result (λ p. (p.fed ≡ train) ⊎ ((p.finished ≡ true) ⊎ (IsReady self.new actor → ⊥))) }
         ensures closes { (table : ℕ → ℕ → ℕ) → Agrees self.new.levels table → Agrees self.old.levels table }
         ensures measure { IfOk result (λ p. FallsBy p.fed p.finished (measure_of self.old) (measure_of self.new)) }
@@ -208,7 +199,7 @@ impl<O: Operator + Drop> Flow<O> {
     {
         let mut fed = 0;
         'steps: while fed < train {
-            let did = match self.one_step(disk, actor, outs, events, steps) {
+            let did = match self.one_step(disk, actor, events, steps) {
                 Ok(did) => did,
                 Err(e) => return Err(e),
             };

@@ -16,7 +16,7 @@ use crate::sides::take;
 use sq_expr::Typed;
 use sq_item::Item;
 use sq_lists::Sides;
-use sq_oper::{Decision, Operator, Outs, Place, Tally};
+use sq_oper::{Decision, Operator, Outlet, Place, Tally};
 use sq_outside::Steps;
 use sq_road::Levels;
 use sq_value::{Tuple, Value};
@@ -86,12 +86,12 @@ impl Operator for JoinBox {
     ghost lost = { λ s future. 0 };
 
     #[tactic(auto, using(crate::proofs::JoinLemmas::join_lemmas))]
-    fn feed<L: Ledger>(
+    fn feed<L: Ledger, T: Outlet>(
         &mut self,
         _levels: &Levels,
         port: u32,
         item: Item,
-        out: &mut Outs,
+        out: &mut T,
         steps: &mut Steps<L>,
     ) -> Result<(), AllocError> {
         self.tally.note(port, &item);
@@ -106,7 +106,7 @@ impl Operator for JoinBox {
     }
 
     #[tactic(auto, using(crate::proofs::JoinLemmas::join_lemmas))]
-    fn finish(&mut self, _out: &mut Outs) -> Result<(), AllocError> {
+    fn finish<T: Outlet>(&mut self, _out: &mut T) -> Result<(), AllocError> {
         self.tally.running = false;
         Ok(())
     }

@@ -10,27 +10,30 @@ ghost use Rattle.sq_oper.specs.Streams.{IsSoundTuple, things, at_zero};
 use sq_expr::Typed;
 use sq_item::{Body, Item, Sign};
 use sq_lists::{Sides, passing_pair};
-use sq_oper::Outs;
+use sq_oper::Outlet;
 use sq_value::Tuple;
 use std::alloc::{AllocError, Global};
 use std::collections::VecDeque;
 
 /// Gives the pair of a tuple with one of the other side, if it passes.
-fn give_pair(
+fn give_pair<T: Outlet>(
     alloc: Global,
     on: &Typed,
     side: u32,
     x: &Tuple,
     other: &Tuple,
-    out: &mut Outs,
+    out: &mut T,
 ) -> Result<(), AllocError>
-    requires { IsSoundTuple (pair_at side x.now other.now) }
-    ensures given { OnOk result ((q : ℕ) → given q out.new.items.items
-        ≡ given q out.old.items.items ++ at_zero q (things (pairs_with on.now.tree side x.now (other.now ∷ [])))) }
-    ensures err { OnErr result (out.new.items.items ≡ out.old.items.items) }
-    ensures sound { ItemsSound out.old.items.items → ItemsSound out.new.items.items }
-    ensures extends { IsPrefixOf out.old.items.items out.new.items.items }
-    ensures drops { out.new.drops.items ≡ out.old.drops.items }
+    requires sound { IsSoundTuple (pair_at side x.now other.now) }
+    requires is_ready { T.ready out.old }
+    ensures given { OnOk result ((q : ℕ) → given q (T.items out.new)
+        ≡ given q (T.items out.old) ++ at_zero q (things (pairs_with on.now.tree side x.now (other.now ∷ [])))) }
+    ensures err { OnErr result (T.items out.new ≡ T.items out.old) }
+    ensures sound { ItemsSound (T.items out.old) → ItemsSound (T.items out.new) }
+    ensures extends { IsPrefixOf (T.items out.old) (T.items out.new) }
+    ensures drops { T.drops out.new ≡ T.drops out.old }
+    ensures stays_ready { OnOk result (T.ready out.new) }
+    ensures came { (start : T) → T.came start out.old → T.came start out.new }
 {
     if let Some(pair) = passing_pair(alloc, on, side, x, other)? {
         let Tuple { time, fields } = pair;
@@ -47,21 +50,24 @@ fn give_pair(
 }
 
 /// Gives the pairs of a tuple with those of the other side, in their order.
-fn give_pairs(
+fn give_pairs<T: Outlet>(
     on: &Typed,
     side: u32,
     x: &Tuple,
     others: &VecDeque<Tuple>,
-    out: &mut Outs,
+    out: &mut T,
 ) -> Result<(), AllocError>
-    requires { AllByRecursion (λ y. IsSoundTuple (pair_at side x.now y)) others.now.items }
-    ensures given { OnOk result ((q : ℕ) → given q out.new.items.items
-        ≡ given q out.old.items.items ++ at_zero q (things (pairs_with on.now.tree side x.now others.now.items))) }
-    ensures prefix { OnErr result ((q : ℕ) → IsPrefixOf (given q out.new.items.items)
-        (given q out.old.items.items ++ at_zero q (things (pairs_with on.now.tree side x.now others.now.items)))) }
-    ensures sound { ItemsSound out.old.items.items → ItemsSound out.new.items.items }
-    ensures extends { IsPrefixOf out.old.items.items out.new.items.items }
-    ensures drops { out.new.drops.items ≡ out.old.drops.items }
+    requires sound { AllByRecursion (λ y. IsSoundTuple (pair_at side x.now y)) others.now.items }
+    requires is_ready { T.ready out.old }
+    ensures given { OnOk result ((q : ℕ) → given q (T.items out.new)
+        ≡ given q (T.items out.old) ++ at_zero q (things (pairs_with on.now.tree side x.now others.now.items))) }
+    ensures prefix { OnErr result ((q : ℕ) → IsPrefixOf (given q (T.items out.new))
+        (given q (T.items out.old) ++ at_zero q (things (pairs_with on.now.tree side x.now others.now.items)))) }
+    ensures sound { ItemsSound (T.items out.old) → ItemsSound (T.items out.new) }
+    ensures extends { IsPrefixOf (T.items out.old) (T.items out.new) }
+    ensures drops { T.drops out.new ≡ T.drops out.old }
+    ensures stays_ready { OnOk result (T.ready out.new) }
+    ensures came { (start : T) → T.came start out.old → T.came start out.new }
 {
     let alloc = *others.allocator();
     for i in 0..others.len() {
@@ -71,23 +77,26 @@ fn give_pairs(
 }
 
 /// Gives the pairs of a tuple that comes at a side with all that is held of the other side, and holds it.
-pub fn take(
+pub fn take<T: Outlet>(
     sides: &mut Sides,
     on: &Typed,
     side: u32,
     x: Tuple,
-    out: &mut Outs,
+    out: &mut T,
 ) -> Result<(), AllocError>
-    requires { AllByRecursion (λ y. IsSoundTuple (pair_at side x y)) (against side sides.old.left.items sides.old.right.items) }
+    requires sound { AllByRecursion (λ y. IsSoundTuple (pair_at side x y)) (against side sides.old.left.items sides.old.right.items) }
+    requires is_ready { T.ready out.old }
     ensures left { OnOk result (sides.new.left.items ≡ left_with side x sides.old.left.items) }
     ensures right { OnOk result (sides.new.right.items ≡ right_with side x sides.old.right.items) }
-    ensures given { OnOk result ((q : ℕ) → given q out.new.items.items
-        ≡ given q out.old.items.items ++ at_zero q (things (pairs_with on.now.tree side x (against side sides.old.left.items sides.old.right.items)))) }
-    ensures prefix { OnErr result ((q : ℕ) → IsPrefixOf (given q out.new.items.items)
-        (given q out.old.items.items ++ at_zero q (things (pairs_with on.now.tree side x (against side sides.old.left.items sides.old.right.items))))) }
-    ensures sound { ItemsSound out.old.items.items → ItemsSound out.new.items.items }
-    ensures extends { IsPrefixOf out.old.items.items out.new.items.items }
-    ensures drops { out.new.drops.items ≡ out.old.drops.items }
+    ensures given { OnOk result ((q : ℕ) → given q (T.items out.new)
+        ≡ given q (T.items out.old) ++ at_zero q (things (pairs_with on.now.tree side x (against side sides.old.left.items sides.old.right.items)))) }
+    ensures prefix { OnErr result ((q : ℕ) → IsPrefixOf (given q (T.items out.new))
+        (given q (T.items out.old) ++ at_zero q (things (pairs_with on.now.tree side x (against side sides.old.left.items sides.old.right.items))))) }
+    ensures sound { ItemsSound (T.items out.old) → ItemsSound (T.items out.new) }
+    ensures extends { IsPrefixOf (T.items out.old) (T.items out.new) }
+    ensures drops { T.drops out.new ≡ T.drops out.old }
+    ensures stays_ready { OnOk result (T.ready out.new) }
+    ensures came { (start : T) → T.came start out.old → T.came start out.new }
 {
     give_pairs(on, side, &x, sides.against(side), out)?;
     sides.hold(side, x)

@@ -9,10 +9,12 @@
 
 mod laws;
 mod operator;
+mod outlet;
 mod outs;
 mod tally;
 
 pub use laws::ports_have_their_streams;
 pub use operator::Operator;
+pub use outlet::Outlet;
 pub use outs::{Decision, Event, Outs};
 pub use tally::{Place, Tally};

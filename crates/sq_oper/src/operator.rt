@@ -12,7 +12,7 @@ ghost use Rattle.sq_oper.specs.Entries.{Entry, entries};
 ghost use Rattle.sq_oper.specs.Given.{given, ItemsSound, ThingsUpTo};
 ghost use Rattle.sq_oper.specs.Order.{IsFuture, after_all};
 
-use crate::{Decision, Outs, Place};
+use crate::{Decision, Outlet, Place};
 use sq_item::Item;
 use sq_outside::Steps;
 use sq_road::Levels;
@@ -63,12 +63,12 @@ pub trait Operator {
     ghost lost: { Self → List Entry → ℕ };
 
     /// Feeds one item at a port.
-    fn feed<L: Ledger>(
+    fn feed<L: Ledger, T: Outlet>(
         &mut self,
         levels: &Levels,
         port: u32,
         item: Item,
-        out: &mut Outs,
+        out: &mut T,
         steps: &mut Steps<L>,
     ) -> Result<(), AllocError>
         requires is_valid { valid self.old }
@@ -78,37 +78,40 @@ pub trait Operator {
         requires has_epoch { IsTrue (reads self.old levels.now.epoch) }
         requires has_level { item.time / levels.now.epoch < levels.now.closed }
         requires has_room { is_some item.body ≡ true → taken self.old < 2 ^ 62 - 1 }
+        requires is_ready { T.ready out.old }
 
         // What was given, and then the rest, stays the same.
         ensures law { OnOk result ((table : ℕ → ℕ → ℕ) (future : List Entry) → Agrees levels.now table
             → IsFuture (takes_marks self.old) (fits self.old) (place self.old) (entries port item ++ future)
-            → (q : ℕ) → given q out.old.items.items ++ rest self.old table (entries port item ++ future) q
-            ≡ given q out.new.items.items ++ rest self.new table future q) }
+            → (q : ℕ) → given q (T.items out.old) ++ rest self.old table (entries port item ++ future) q
+            ≡ given q (T.items out.new) ++ rest self.new table future q) }
         ensures decided { OnOk result ((table : ℕ → ℕ → ℕ) (future : List Entry) → Agrees levels.now table
             → IsFuture (takes_marks self.old) (fits self.old) (place self.old) (entries port item ++ future)
-            → out.old.drops.items ++ decides self.old table (entries port item ++ future)
-            ≡ out.new.drops.items ++ decides self.new table future) }
+            → (T.drops out.old) ++ decides self.old table (entries port item ++ future)
+            ≡ (T.drops out.new) ++ decides self.new table future) }
         ensures loses { OnOk result ((future : List Entry) → lost self.old (entries port item ++ future) ≡ lost self.new future) }
-        ensures extends { IsPrefixOf out.old.items.items out.new.items.items }
-        ensures keeps_decisions { IsPrefixOf out.old.drops.items out.new.drops.items }
+        ensures extends { IsPrefixOf (T.items out.old) (T.items out.new) }
+        ensures keeps_decisions { IsPrefixOf (T.drops out.old) (T.drops out.new) }
 
         // What was given before an `Err` is a prefix.
         ensures prefix { OnErr result ((table : ℕ → ℕ → ℕ) (future : List Entry) → Agrees levels.now table
             → IsFuture (takes_marks self.old) (fits self.old) (place self.old) (entries port item ++ future)
-            → (q : ℕ) → IsPrefixOf (given q out.new.items.items) (given q out.old.items.items ++ rest self.old table (entries port item ++ future) q)) }
+            → (q : ℕ) → IsPrefixOf (given q (T.items out.new)) (given q (T.items out.old) ++ rest self.old table (entries port item ++ future) q)) }
         ensures decided_prefix { OnErr result ((table : ℕ → ℕ → ℕ) (future : List Entry) → Agrees levels.now table
             → IsFuture (takes_marks self.old) (fits self.old) (place self.old) (entries port item ++ future)
-            → IsPrefixOf out.new.drops.items (out.old.drops.items ++ decides self.old table (entries port item ++ future))) }
+            → IsPrefixOf (T.drops out.new) ((T.drops out.old) ++ decides self.old table (entries port item ++ future))) }
 
         // What is given now, and what is held, has no later time than the item.
         ensures times { OnOk result ((table : ℕ → ℕ → ℕ) → Agrees levels.now table → (q : ℕ) → ThingsUpTo item.time (rest self.old table (entries port item) q)) }
-        ensures sound { ItemsSound out.old.items.items → ItemsSound out.new.items.items }
+        ensures sound { ItemsSound (T.items out.old) → ItemsSound (T.items out.new) }
 
         // No more is held back than may be, and no decision is.
         ensures held { OnOk result ((table : ℕ → ℕ → ℕ) (q : ℕ) → may_hold self.new item.time (rest self.new table [] q)) }
         ensures same_hold { OnOk result ((time : ℕ) (things : List Thing) → may_hold self.new time things → may_hold self.old time things) }
         ensures settled { OnOk result ((table : ℕ → ℕ → ℕ) → decides self.new table [] ≡ []) }
 
+        ensures stays_ready { OnOk result (T.ready out.new) }
+        ensures came { (start : T) → T.came start out.old → T.came start out.new }
         ensures stays_valid { OnOk result (valid self.new × IsTrue (running self.new)) }
         ensures moves { OnOk result (place self.new ≡ after_all (place self.old) (entries port item)) }
         ensures same { OnOk result ((takes_marks self.new ≡ takes_marks self.old) × (fits self.new ≡ fits self.old)) }
@@ -118,20 +121,23 @@ pub trait Operator {
         ensures no_cost { OnErr result (steps.new ≡ steps.old) };
 
     /// Says that nothing more comes: all that is held is given.
-    fn finish(&mut self, out: &mut Outs) -> Result<(), AllocError>
+    fn finish<T: Outlet>(&mut self, out: &mut T) -> Result<(), AllocError>
         requires is_valid { valid self.old }
         requires is_running { IsTrue (running self.old) }
+        requires is_ready { T.ready out.old }
 
-        ensures law { OnOk result ((table : ℕ → ℕ → ℕ) (q : ℕ) → given q out.old.items.items ++ rest self.old table [] q ≡ given q out.new.items.items) }
-        ensures decided { OnOk result ((table : ℕ → ℕ → ℕ) → out.old.drops.items ++ decides self.old table [] ≡ out.new.drops.items) }
+        ensures law { OnOk result ((table : ℕ → ℕ → ℕ) (q : ℕ) → given q (T.items out.old) ++ rest self.old table [] q ≡ given q (T.items out.new)) }
+        ensures decided { OnOk result ((table : ℕ → ℕ → ℕ) → (T.drops out.old) ++ decides self.old table [] ≡ (T.drops out.new)) }
         ensures loses { OnOk result (lost self.old [] ≡ lost self.new []) }
-        ensures extends { IsPrefixOf out.old.items.items out.new.items.items }
-        ensures keeps_decisions { IsPrefixOf out.old.drops.items out.new.drops.items }
-        ensures prefix { OnErr result ((table : ℕ → ℕ → ℕ) (q : ℕ) → IsPrefixOf (given q out.new.items.items) (given q out.old.items.items ++ rest self.old table [] q)) }
-        ensures decided_prefix { OnErr result ((table : ℕ → ℕ → ℕ) → IsPrefixOf out.new.drops.items (out.old.drops.items ++ decides self.old table [])) }
-        ensures sound { ItemsSound out.old.items.items → ItemsSound out.new.items.items }
+        ensures extends { IsPrefixOf (T.items out.old) (T.items out.new) }
+        ensures keeps_decisions { IsPrefixOf (T.drops out.old) (T.drops out.new) }
+        ensures prefix { OnErr result ((table : ℕ → ℕ → ℕ) (q : ℕ) → IsPrefixOf (given q (T.items out.new)) (given q (T.items out.old) ++ rest self.old table [] q)) }
+        ensures decided_prefix { OnErr result ((table : ℕ → ℕ → ℕ) → IsPrefixOf (T.drops out.new) ((T.drops out.old) ++ decides self.old table [])) }
+        ensures sound { ItemsSound (T.items out.old) → ItemsSound (T.items out.new) }
         ensures empty { OnOk result ((table : ℕ → ℕ → ℕ) (q : ℕ) → rest self.new table [] q ≡ []) }
         ensures settled { OnOk result ((table : ℕ → ℕ → ℕ) → decides self.new table [] ≡ []) }
+        ensures stays_ready { OnOk result (T.ready out.new) }
+        ensures came { (start : T) → T.came start out.old → T.came start out.new }
         ensures stays_valid { OnOk result (valid self.new × (running self.new ≡ false)) }
         ensures same { OnOk result ((place self.new ≡ place self.old) × (takes_marks self.new ≡ takes_marks self.old) × (fits self.new ≡ fits self.old) × (taken self.new ≡ taken self.old)) };
 }

@@ -1,14 +1,10 @@
 //! What operators give, and what a run shows.
 
-ghost use Rattle.std.specs.Prelude.{◌≡◌, ℕ, ◌==◌, ◌++◌, [], OnOk, OnErr, if◌then◌else◌};
-ghost use Rattle.sq_value.specs.Lists.{IsPrefixOf};
-ghost use Rattle.sq_item.specs.Sound.{IsSound};
-ghost use Rattle.sq_item.specs.Things.{spread};
-ghost use Rattle.sq_oper.specs.Given.{given, ItemsSound};
+ghost use Rattle.std.specs.Prelude.{◌≡◌, []};
 
 use sq_item::Item;
 use sq_value::Tuple;
-use std::alloc::{AllocError, Global};
+use std::alloc::Global;
 
 /// A batch of windows that a window drop threw away.
 #[derive(Clone, Copy, Debug, PartialEq, Eq, Drop)]
@@ -40,7 +36,7 @@ pub enum Event {
     },
 }
 
-/// What an operator gives: items with their ports, and the batches that it drops.
+/// What an operator gave: items with their ports, and the batches that it dropped.
 #[derive(Debug, Drop)]
 pub struct Outs {
     pub items: Vec<(u32, Item)>,
@@ -57,21 +53,5 @@ impl Outs {
             items: Vec::new(alloc),
             drops: Vec::new(alloc),
         }
-    }
-
-    /// An item goes out at a port. An `Err` changes nothing.
-    #[tactic(auto, using(crate::proofs::GivenLemmas::given_lemmas))]
-    #[inline(always)]
-    pub fn give(&mut self, port: u32, item: Item) -> Result<(), AllocError>
-        requires { IsSound item }
-        ensures given { OnOk result ((q : ℕ) → given q self.new.items.items ≡ given q self.old.items.items ++ (if port == q then spread item else [])) }
-        ensures err { OnErr result (self.new.items.items ≡ self.old.items.items) }
-        ensures sound { ItemsSound self.old.items.items → ItemsSound self.new.items.items }
-        ensures extends { IsPrefixOf self.old.items.items self.new.items.items }
-        ensures drops { self.new.drops.items ≡ self.old.drops.items }
-    {
-        self.items.reserve(1)?;
-        self.items.push_reserved((port, item));
-        Ok(())
     }
 }

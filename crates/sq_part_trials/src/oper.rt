@@ -1,6 +1,6 @@
 use crate::numbers::mark_at;
 use sq_item::Mark;
-use sq_oper::Outs;
+use sq_oper::{Outlet, Outs};
 use std::test::Fail;
 
 #[test]

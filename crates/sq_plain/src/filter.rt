@@ -20,7 +20,7 @@ use crate::give::{give_to_ports, give_tuple};
 use sq_expr::Typed;
 use sq_item::{Body, Item, Mark, Sign};
 use sq_lists::port_of_tuple;
-use sq_oper::{Decision, Operator, Outs, Place, Tally};
+use sq_oper::{Decision, Operator, Outlet, Place, Tally};
 use sq_outside::Steps;
 use sq_road::Levels;
 use sq_value::{Tuple, Value};
@@ -59,15 +59,18 @@ impl FilterBox {
         }
     }
 
-    fn send(&self, tuple: Tuple, out: &mut Outs) -> Result<(), AllocError>
+    fn send<T: Outlet>(&self, tuple: Tuple, out: &mut T) -> Result<(), AllocError>
         requires few { length self.now.preds.items < 2 ^ 32 }
         requires sound { IsSoundTuple tuple }
-        ensures given { OnOk result ((q : ℕ) → given q out.new.items.items
-            ≡ given q out.old.items.items ++ things (filter_list_of (trees self.now.preds.items) q (tuple ∷ []))) }
-        ensures err { OnErr result (out.new.items.items ≡ out.old.items.items) }
-        ensures sound { ItemsSound out.old.items.items → ItemsSound out.new.items.items }
-        ensures extends { IsPrefixOf out.old.items.items out.new.items.items }
-        ensures drops { out.new.drops.items ≡ out.old.drops.items }
+        requires is_ready { T.ready out.old }
+        ensures given { OnOk result ((q : ℕ) → given q (T.items out.new)
+            ≡ given q (T.items out.old) ++ things (filter_list_of (trees self.now.preds.items) q (tuple ∷ []))) }
+        ensures err { OnErr result ((T.items out.new) ≡ (T.items out.old)) }
+        ensures sound { ItemsSound (T.items out.old) → ItemsSound (T.items out.new) }
+        ensures extends { IsPrefixOf (T.items out.old) (T.items out.new) }
+        ensures drops { (T.drops out.new) ≡ (T.drops out.old) }
+        ensures stays_ready { OnOk result (T.ready out.new) }
+        ensures came { (start : T) → T.came start out.old → T.came start out.new }
     {
         let port = port_of_tuple(&self.preds, &tuple) as u32;
         give_tuple(port, tuple, out)?;
@@ -75,15 +78,23 @@ impl FilterBox {
     }
 
     // Hands a mark on to every port.
-    fn pass_mark(&self, time: u64, mark: Option<Mark>, out: &mut Outs) -> Result<(), AllocError>
+    fn pass_mark<T: Outlet>(
+        &self,
+        time: u64,
+        mark: Option<Mark>,
+        out: &mut T,
+    ) -> Result<(), AllocError>
         requires few { length self.now.preds.items < 2 ^ 32 }
         requires tick { time < 2 ^ 40 }
         requires mark { IsMark mark }
-        ensures given { OnOk result ((q : ℕ) → given q out.new.items.items ≡ given q out.old.items.items ++ for_mark (filter_gives self.now.preds.items q) time mark) }
-        ensures prefix { OnErr result ((q : ℕ) → IsPrefixOf (given q out.new.items.items) (given q out.old.items.items ++ for_mark (filter_gives self.now.preds.items q) time mark)) }
-        ensures sound { ItemsSound out.old.items.items → ItemsSound out.new.items.items }
-        ensures extends { IsPrefixOf out.old.items.items out.new.items.items }
-        ensures drops { out.new.drops.items ≡ out.old.drops.items }
+        requires is_ready { T.ready out.old }
+        ensures given { OnOk result ((q : ℕ) → given q (T.items out.new) ≡ given q (T.items out.old) ++ for_mark (filter_gives self.now.preds.items q) time mark) }
+        ensures prefix { OnErr result ((q : ℕ) → IsPrefixOf (given q (T.items out.new)) (given q (T.items out.old) ++ for_mark (filter_gives self.now.preds.items q) time mark)) }
+        ensures sound { ItemsSound (T.items out.old) → ItemsSound (T.items out.new) }
+        ensures extends { IsPrefixOf (T.items out.old) (T.items out.new) }
+        ensures drops { (T.drops out.new) ≡ (T.drops out.old) }
+        ensures stays_ready { OnOk result (T.ready out.new) }
+        ensures came { (start : T) → T.came start out.old → T.came start out.new }
     {
         match mark {
             None => Ok(()),
@@ -92,29 +103,35 @@ impl FilterBox {
     }
 
     // Hands an item's mark on to every port.
-    fn pass_on(&self, time: u64, mark: &Sign, out: &mut Outs) -> Result<(), AllocError>
+    fn pass_on<T: Outlet>(&self, time: u64, mark: &Sign, out: &mut T) -> Result<(), AllocError>
         requires few { length self.now.preds.items < 2 ^ 32 }
         requires tick { time < 2 ^ 40 }
         requires mark { IsMark mark.now }
-        ensures given { OnOk result ((q : ℕ) → given q out.new.items.items ≡ given q out.old.items.items ++ for_mark (filter_gives self.now.preds.items q) time mark.now) }
-        ensures prefix { OnErr result ((q : ℕ) → IsPrefixOf (given q out.new.items.items) (given q out.old.items.items ++ for_mark (filter_gives self.now.preds.items q) time mark.now)) }
-        ensures sound { ItemsSound out.old.items.items → ItemsSound out.new.items.items }
-        ensures extends { IsPrefixOf out.old.items.items out.new.items.items }
-        ensures drops { out.new.drops.items ≡ out.old.drops.items }
+        requires is_ready { T.ready out.old }
+        ensures given { OnOk result ((q : ℕ) → given q (T.items out.new) ≡ given q (T.items out.old) ++ for_mark (filter_gives self.now.preds.items q) time mark.now) }
+        ensures prefix { OnErr result ((q : ℕ) → IsPrefixOf (given q (T.items out.new)) (given q (T.items out.old) ++ for_mark (filter_gives self.now.preds.items q) time mark.now)) }
+        ensures sound { ItemsSound (T.items out.old) → ItemsSound (T.items out.new) }
+        ensures extends { IsPrefixOf (T.items out.old) (T.items out.new) }
+        ensures drops { (T.drops out.new) ≡ (T.drops out.old) }
+        ensures stays_ready { OnOk result (T.ready out.new) }
+        ensures came { (start : T) → T.came start out.old → T.came start out.new }
     {
         self.pass_mark(time, mark.get(), out)
     }
 
     // Sends an item's tuple to its port.
-    fn send_body(&self, time: u64, body: Body, out: &mut Outs) -> Result<(), AllocError>
+    fn send_body<T: Outlet>(&self, time: u64, body: Body, out: &mut T) -> Result<(), AllocError>
         requires few { length self.now.preds.items < 2 ^ 32 }
         requires tick { time < 2 ^ 40 }
         requires body { IsBody body }
-        ensures given { OnOk result ((q : ℕ) → given q out.new.items.items ≡ given q out.old.items.items ++ for_body (filter_gives self.now.preds.items q) time body) }
-        ensures err { OnErr result (out.new.items.items ≡ out.old.items.items) }
-        ensures sound { ItemsSound out.old.items.items → ItemsSound out.new.items.items }
-        ensures extends { IsPrefixOf out.old.items.items out.new.items.items }
-        ensures drops { out.new.drops.items ≡ out.old.drops.items }
+        requires is_ready { T.ready out.old }
+        ensures given { OnOk result ((q : ℕ) → given q (T.items out.new) ≡ given q (T.items out.old) ++ for_body (filter_gives self.now.preds.items q) time body) }
+        ensures err { OnErr result ((T.items out.new) ≡ (T.items out.old)) }
+        ensures sound { ItemsSound (T.items out.old) → ItemsSound (T.items out.new) }
+        ensures extends { IsPrefixOf (T.items out.old) (T.items out.new) }
+        ensures drops { (T.drops out.new) ≡ (T.drops out.old) }
+        ensures stays_ready { OnOk result (T.ready out.new) }
+        ensures came { (start : T) → T.came start out.old → T.came start out.new }
     {
         match body.get() {
             None => Ok(()),
@@ -146,12 +163,12 @@ impl Operator for FilterBox {
 
     ghost lost = { λ s future. 0 };
 
-    fn feed<L: Ledger>(
+    fn feed<L: Ledger, T: Outlet>(
         &mut self,
         _levels: &Levels,
         port: u32,
         item: Item,
-        out: &mut Outs,
+        out: &mut T,
         steps: &mut Steps<L>,
     ) -> Result<(), AllocError> {
         self.tally.note(port, &item);
@@ -164,7 +181,7 @@ impl Operator for FilterBox {
         Ok(())
     }
 
-    fn finish(&mut self, _out: &mut Outs) -> Result<(), AllocError> {
+    fn finish<T: Outlet>(&mut self, _out: &mut T) -> Result<(), AllocError> {
         self.tally.running = false;
         Ok(())
     }

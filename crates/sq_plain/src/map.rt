@@ -20,7 +20,7 @@ use crate::give::{give_mark, give_tuple};
 use sq_expr::Typed;
 use sq_item::{Body, Item, Sign};
 use sq_lists::map_tuple;
-use sq_oper::{Decision, Operator, Outs, Place, Tally};
+use sq_oper::{Decision, Operator, Outlet, Place, Tally};
 use sq_outside::Steps;
 use sq_road::Levels;
 use sq_value::{Tuple, Value};
@@ -58,15 +58,18 @@ impl MapBox {
         }
     }
 
-    fn send(&self, tuple: Tuple, out: &mut Outs) -> Result<(), AllocError>
+    fn send<T: Outlet>(&self, tuple: Tuple, out: &mut T) -> Result<(), AllocError>
         requires few { IsTrue (makes_tuple self.now.exprs.items) }
         requires sound { IsSoundTuple tuple }
-        ensures given { OnOk result ((q : ℕ) → given q out.new.items.items
-            ≡ given q out.old.items.items ++ at_zero q (things (map_list_of (trees self.now.exprs.items) (tuple ∷ [])))) }
-        ensures err { OnErr result (out.new.items.items ≡ out.old.items.items) }
-        ensures sound { ItemsSound out.old.items.items → ItemsSound out.new.items.items }
-        ensures extends { IsPrefixOf out.old.items.items out.new.items.items }
-        ensures drops { out.new.drops.items ≡ out.old.drops.items }
+        requires is_ready { T.ready out.old }
+        ensures given { OnOk result ((q : ℕ) → given q (T.items out.new)
+            ≡ given q (T.items out.old) ++ at_zero q (things (map_list_of (trees self.now.exprs.items) (tuple ∷ [])))) }
+        ensures err { OnErr result ((T.items out.new) ≡ (T.items out.old)) }
+        ensures sound { ItemsSound (T.items out.old) → ItemsSound (T.items out.new) }
+        ensures extends { IsPrefixOf (T.items out.old) (T.items out.new) }
+        ensures drops { (T.drops out.new) ≡ (T.drops out.old) }
+        ensures stays_ready { OnOk result (T.ready out.new) }
+        ensures came { (start : T) → T.came start out.old → T.came start out.new }
     {
         let made = map_tuple(*self.exprs.allocator(), &self.exprs, &tuple)?;
         give_tuple(0, made, out)?;
@@ -74,14 +77,17 @@ impl MapBox {
     }
 
     // Hands an item's mark on.
-    fn pass_on(&self, time: u64, mark: &Sign, out: &mut Outs) -> Result<(), AllocError>
+    fn pass_on<T: Outlet>(&self, time: u64, mark: &Sign, out: &mut T) -> Result<(), AllocError>
         requires tick { time < 2 ^ 40 }
         requires mark { IsMark mark.now }
-        ensures given { OnOk result ((q : ℕ) → given q out.new.items.items ≡ given q out.old.items.items ++ for_mark (map_gives self.now.exprs.items q) time mark.now) }
-        ensures err { OnErr result (out.new.items.items ≡ out.old.items.items) }
-        ensures sound { ItemsSound out.old.items.items → ItemsSound out.new.items.items }
-        ensures extends { IsPrefixOf out.old.items.items out.new.items.items }
-        ensures drops { out.new.drops.items ≡ out.old.drops.items }
+        requires is_ready { T.ready out.old }
+        ensures given { OnOk result ((q : ℕ) → given q (T.items out.new) ≡ given q (T.items out.old) ++ for_mark (map_gives self.now.exprs.items q) time mark.now) }
+        ensures err { OnErr result ((T.items out.new) ≡ (T.items out.old)) }
+        ensures sound { ItemsSound (T.items out.old) → ItemsSound (T.items out.new) }
+        ensures extends { IsPrefixOf (T.items out.old) (T.items out.new) }
+        ensures drops { (T.drops out.new) ≡ (T.drops out.old) }
+        ensures stays_ready { OnOk result (T.ready out.new) }
+        ensures came { (start : T) → T.came start out.old → T.came start out.new }
     {
         match mark.get() {
             None => Ok(()),
@@ -90,15 +96,18 @@ impl MapBox {
     }
 
     // Maps an item's tuple.
-    fn send_body(&self, time: u64, body: Body, out: &mut Outs) -> Result<(), AllocError>
+    fn send_body<T: Outlet>(&self, time: u64, body: Body, out: &mut T) -> Result<(), AllocError>
         requires few { is_some body ≡ true → IsTrue (makes_tuple self.now.exprs.items) }
         requires tick { time < 2 ^ 40 }
         requires body { IsBody body }
-        ensures given { OnOk result ((q : ℕ) → given q out.new.items.items ≡ given q out.old.items.items ++ for_body (map_gives self.now.exprs.items q) time body) }
-        ensures err { OnErr result (out.new.items.items ≡ out.old.items.items) }
-        ensures sound { ItemsSound out.old.items.items → ItemsSound out.new.items.items }
-        ensures extends { IsPrefixOf out.old.items.items out.new.items.items }
-        ensures drops { out.new.drops.items ≡ out.old.drops.items }
+        requires is_ready { T.ready out.old }
+        ensures given { OnOk result ((q : ℕ) → given q (T.items out.new) ≡ given q (T.items out.old) ++ for_body (map_gives self.now.exprs.items q) time body) }
+        ensures err { OnErr result ((T.items out.new) ≡ (T.items out.old)) }
+        ensures sound { ItemsSound (T.items out.old) → ItemsSound (T.items out.new) }
+        ensures extends { IsPrefixOf (T.items out.old) (T.items out.new) }
+        ensures drops { (T.drops out.new) ≡ (T.drops out.old) }
+        ensures stays_ready { OnOk result (T.ready out.new) }
+        ensures came { (start : T) → T.came start out.old → T.came start out.new }
     {
         match body.get() {
             None => Ok(()),
@@ -130,12 +139,12 @@ impl Operator for MapBox {
 
     ghost lost = { λ s future. 0 };
 
-    fn feed<L: Ledger>(
+    fn feed<L: Ledger, T: Outlet>(
         &mut self,
         _levels: &Levels,
         port: u32,
         item: Item,
-        out: &mut Outs,
+        out: &mut T,
         steps: &mut Steps<L>,
     ) -> Result<(), AllocError> {
         self.tally.note(port, &item);
@@ -148,7 +157,7 @@ impl Operator for MapBox {
         Ok(())
     }
 
-    fn finish(&mut self, _out: &mut Outs) -> Result<(), AllocError> {
+    fn finish<T: Outlet>(&mut self, _out: &mut T) -> Result<(), AllocError> {
         self.tally.running = false;
         Ok(())
     }

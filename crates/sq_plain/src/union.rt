@@ -21,7 +21,7 @@ ghost use Rattle.sq_plain.specs.Unions.{seen, union_next, union_gives, union_res
 
 use crate::give::{give_mark, give_tuple};
 use sq_item::{Body, Item, Mark, Sign};
-use sq_oper::{Decision, Operator, Outs, Place, Tally};
+use sq_oper::{Decision, Operator, Outlet, Place, Tally};
 use sq_outside::Steps;
 use sq_road::Levels;
 use sq_tagged::{bound_of, lessen};
@@ -80,23 +80,26 @@ impl UnionBox {
     }
 
     // Hands a mark on, if it is the first of its time.
-    fn hand_on(
+    fn hand_on<T: Outlet>(
         &mut self,
         port: u32,
         time: u64,
         mark: Mark,
-        out: &mut Outs,
+        out: &mut T,
     ) -> Result<(), AllocError>
         requires tick { time < 2 ^ 40 }
         requires mark { IsMark (Some mark) }
+        requires is_ready { T.ready out.old }
         ensures bounds { OnOk result (self.new.bounds ≡ next_all (union_next self.old.lags.items) self.old.bounds (at_port port (mark_part time (Some mark)))) }
-        ensures given { OnOk result ((q : ℕ) → given q out.new.items.items
-            ≡ given q out.old.items.items ++ gives_all (union_next self.old.lags.items) (union_gives self.old.marked self.old.lags.items) self.old.bounds (at_port port (mark_part time (Some mark))) q) }
-        ensures err { OnErr result (out.new.items.items ≡ out.old.items.items) }
+        ensures given { OnOk result ((q : ℕ) → given q (T.items out.new)
+            ≡ given q (T.items out.old) ++ gives_all (union_next self.old.lags.items) (union_gives self.old.marked self.old.lags.items) self.old.bounds (at_port port (mark_part time (Some mark))) q) }
+        ensures err { OnErr result ((T.items out.new) ≡ (T.items out.old)) }
         ensures same { self.new ≡ record self.old { bounds = self.new.bounds } }
-        ensures sound { ItemsSound out.old.items.items → ItemsSound out.new.items.items }
-        ensures extends { IsPrefixOf out.old.items.items out.new.items.items }
-        ensures drops { out.new.drops.items ≡ out.old.drops.items }
+        ensures sound { ItemsSound (T.items out.old) → ItemsSound (T.items out.new) }
+        ensures extends { IsPrefixOf (T.items out.old) (T.items out.new) }
+        ensures drops { (T.drops out.new) ≡ (T.drops out.old) }
+        ensures stays_ready { OnOk result (T.ready out.new) }
+        ensures came { (start : T) → T.came start out.old → T.came start out.new }
     {
         if is_seen(self.bounds.last, time) {
             return Ok(());
@@ -117,23 +120,26 @@ impl UnionBox {
     }
 
     // Hands an item's mark on.
-    fn pass_on(
+    fn pass_on<T: Outlet>(
         &mut self,
         port: u32,
         time: u64,
         mark: &Sign,
-        out: &mut Outs,
+        out: &mut T,
     ) -> Result<(), AllocError>
         requires tick { time < 2 ^ 40 }
         requires mark { IsMark mark.now }
+        requires is_ready { T.ready out.old }
         ensures bounds { OnOk result (self.new.bounds ≡ next_all (union_next self.old.lags.items) self.old.bounds (at_port port (mark_part time mark.now))) }
-        ensures given { OnOk result ((q : ℕ) → given q out.new.items.items
-            ≡ given q out.old.items.items ++ gives_all (union_next self.old.lags.items) (union_gives self.old.marked self.old.lags.items) self.old.bounds (at_port port (mark_part time mark.now)) q) }
-        ensures err { OnErr result (out.new.items.items ≡ out.old.items.items) }
+        ensures given { OnOk result ((q : ℕ) → given q (T.items out.new)
+            ≡ given q (T.items out.old) ++ gives_all (union_next self.old.lags.items) (union_gives self.old.marked self.old.lags.items) self.old.bounds (at_port port (mark_part time mark.now)) q) }
+        ensures err { OnErr result ((T.items out.new) ≡ (T.items out.old)) }
         ensures same { self.new ≡ record self.old { bounds = self.new.bounds } }
-        ensures sound { ItemsSound out.old.items.items → ItemsSound out.new.items.items }
-        ensures extends { IsPrefixOf out.old.items.items out.new.items.items }
-        ensures drops { out.new.drops.items ≡ out.old.drops.items }
+        ensures sound { ItemsSound (T.items out.old) → ItemsSound (T.items out.new) }
+        ensures extends { IsPrefixOf (T.items out.old) (T.items out.new) }
+        ensures drops { (T.drops out.new) ≡ (T.drops out.old) }
+        ensures stays_ready { OnOk result (T.ready out.new) }
+        ensures came { (start : T) → T.came start out.old → T.came start out.new }
     {
         match mark.get() {
             None => Ok(()),
@@ -142,15 +148,24 @@ impl UnionBox {
     }
 
     // Gives an item's tuple, if it is below the bound.
-    fn send_body(&self, port: u32, time: u64, body: Body, out: &mut Outs) -> Result<(), AllocError>
+    fn send_body<T: Outlet>(
+        &self,
+        port: u32,
+        time: u64,
+        body: Body,
+        out: &mut T,
+    ) -> Result<(), AllocError>
         requires tick { time < 2 ^ 40 }
         requires body { IsBody body }
-        ensures given { OnOk result ((q : ℕ) → given q out.new.items.items
-            ≡ given q out.old.items.items ++ gives_all (union_next self.now.lags.items) (union_gives self.now.marked self.now.lags.items) self.now.bounds (at_port port (body_part time body)) q) }
-        ensures err { OnErr result (out.new.items.items ≡ out.old.items.items) }
-        ensures sound { ItemsSound out.old.items.items → ItemsSound out.new.items.items }
-        ensures extends { IsPrefixOf out.old.items.items out.new.items.items }
-        ensures drops { out.new.drops.items ≡ out.old.drops.items }
+        requires is_ready { T.ready out.old }
+        ensures given { OnOk result ((q : ℕ) → given q (T.items out.new)
+            ≡ given q (T.items out.old) ++ gives_all (union_next self.now.lags.items) (union_gives self.now.marked self.now.lags.items) self.now.bounds (at_port port (body_part time body)) q) }
+        ensures err { OnErr result ((T.items out.new) ≡ (T.items out.old)) }
+        ensures sound { ItemsSound (T.items out.old) → ItemsSound (T.items out.new) }
+        ensures extends { IsPrefixOf (T.items out.old) (T.items out.new) }
+        ensures drops { (T.drops out.new) ≡ (T.drops out.old) }
+        ensures stays_ready { OnOk result (T.ready out.new) }
+        ensures came { (start : T) → T.came start out.old → T.came start out.new }
     {
         let _port = port;
         match body.get() {
@@ -198,12 +213,12 @@ impl Operator for UnionBox {
 
     ghost lost = { λ s future. 0 };
 
-    fn feed<L: Ledger>(
+    fn feed<L: Ledger, T: Outlet>(
         &mut self,
         _levels: &Levels,
         port: u32,
         item: Item,
-        out: &mut Outs,
+        out: &mut T,
         steps: &mut Steps<L>,
     ) -> Result<(), AllocError> {
         self.tally.note(port, &item);
@@ -216,7 +231,7 @@ impl Operator for UnionBox {
         Ok(())
     }
 
-    fn finish(&mut self, _out: &mut Outs) -> Result<(), AllocError> {
+    fn finish<T: Outlet>(&mut self, _out: &mut T) -> Result<(), AllocError> {
         self.tally.running = false;
         Ok(())
     }

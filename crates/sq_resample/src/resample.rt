@@ -15,7 +15,7 @@ use crate::rounds::{give_all, give_ready};
 use crate::running::{Held, hold};
 use sq_aggfn::Fold;
 use sq_item::Item;
-use sq_oper::{Decision, Operator, Outs, Place, Tally};
+use sq_oper::{Decision, Operator, Outlet, Place, Tally};
 use sq_outside::Steps;
 use sq_road::Levels;
 use sq_value::{Tuple, Value};
@@ -90,12 +90,12 @@ impl<F: Fold + Drop> Operator for ResampleBox<F> {
     ghost lost = { λ s future. 0 };
 
     #[tactic(auto, using(crate::proofs::FedLemmas::resample_lemmas))]
-    fn feed<L: Ledger>(
+    fn feed<L: Ledger, T: Outlet>(
         &mut self,
         _levels: &Levels,
         port: u32,
         item: Item,
-        out: &mut Outs,
+        out: &mut T,
         steps: &mut Steps<L>,
     ) -> Result<(), AllocError> {
         self.tally.note(port, &item);
@@ -117,7 +117,7 @@ impl<F: Fold + Drop> Operator for ResampleBox<F> {
     }
 
     #[tactic(auto, using(crate::proofs::FedLemmas::resample_lemmas))]
-    fn finish(&mut self, out: &mut Outs) -> Result<(), AllocError> {
+    fn finish<T: Outlet>(&mut self, out: &mut T) -> Result<(), AllocError> {
         give_all(
             &self.fold,
             self.size,

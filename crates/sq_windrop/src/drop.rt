@@ -17,7 +17,7 @@ ghost use Rattle.sq_windrop.specs.Drops.{IsDropping, dropping, is_dropped, drop_
 
 use crate::give::give_item;
 use sq_item::{Body, Item, Mark, Sign};
-use sq_oper::{Decision, Operator, Outs, Place, Tally};
+use sq_oper::{Decision, Operator, Outlet, Place, Tally};
 use sq_outside::Steps;
 use sq_road::{Levels, draw};
 use sq_value::Value;
@@ -91,36 +91,39 @@ impl WinDropBox {
 
 /// Decides on a batch that a tuple of this time touches: its mark goes out, and a decision where it is dropped. Answers
 /// the mark's bound.
-fn decide(
+fn decide<T: Outlet>(
     with: &Dropping,
     levels: &Levels,
     time: u64,
     batch: u64,
-    out: &mut Outs,
+    out: &mut T,
 ) -> Result<u64, AllocError>
     requires limits { IsDropping with.now }
     requires tick { time < 2 ^ 40 }
     requires begun { batch * with.now.length ≤ time }
     requires epoch { with.now.epoch ≡ levels.now.epoch }
     requires level { time / levels.now.epoch < levels.now.closed }
+    requires is_ready { T.ready out.old }
     ensures given { OnOk result ((table : ℕ → ℕ → ℕ) → Agrees levels.now table → (q : ℕ)
-        → given q out.new.items.items ≡ given q out.old.items.items ++ at_zero q (mark_thing (drop_mark with.now table batch) ∷ [])) }
+        → given q (T.items out.new) ≡ given q (T.items out.old) ++ at_zero q (mark_thing (drop_mark with.now table batch) ∷ [])) }
     ensures bound { IfOk result (λ bound. (table : ℕ → ℕ → ℕ) → Agrees levels.now table → bound ≡ bound_of (drop_mark with.now table batch)) }
-    ensures drops { OnOk result ((table : ℕ → ℕ → ℕ) → Agrees levels.now table → out.new.drops.items ≡ out.old.drops.items ++ decided with.now table (batch ∷ [])) }
+    ensures drops { OnOk result ((table : ℕ → ℕ → ℕ) → Agrees levels.now table → (T.drops out.new) ≡ (T.drops out.old) ++ decided with.now table (batch ∷ [])) }
     ensures prefix { OnErr result ((table : ℕ → ℕ → ℕ) → Agrees levels.now table → (q : ℕ)
-        → IsPrefixOf (given q out.new.items.items) (given q out.old.items.items ++ at_zero q (mark_thing (drop_mark with.now table batch) ∷ []))) }
-    ensures drops_err { OnErr result (out.new.drops.items ≡ out.old.drops.items) }
-    ensures sound { ItemsSound out.old.items.items → ItemsSound out.new.items.items }
-    ensures extends { IsPrefixOf out.old.items.items out.new.items.items }
-    ensures keeps { IsPrefixOf out.old.drops.items out.new.drops.items }
-    ensures few { length out.new.items.items ≤ length out.old.items.items + 1 }
+        → IsPrefixOf (given q (T.items out.new)) (given q (T.items out.old) ++ at_zero q (mark_thing (drop_mark with.now table batch) ∷ []))) }
+    ensures drops_err { OnErr result ((T.drops out.new) ≡ (T.drops out.old)) }
+    ensures sound { ItemsSound (T.items out.old) → ItemsSound (T.items out.new) }
+    ensures extends { IsPrefixOf (T.items out.old) (T.items out.new) }
+    ensures keeps { IsPrefixOf (T.drops out.old) (T.drops out.new) }
+    ensures few { length (T.items out.new) ≤ length (T.items out.old) + 1 }
+    ensures stays_ready { OnOk result (T.ready out.new) }
+    ensures came { (start : T) → T.came start out.old → T.came start out.new }
 {
     let start = batch * with.length;
     let level = levels.level(start / with.epoch, with.number);
     let drawn = draw(with.seed, with.number, batch);
     if drawn < level {
         give_mark(start, Mark::Closed, out)?;
-        out.drops.push(Decision {
+        out.decide(Decision {
             drop: with.number,
             batch,
             level,
@@ -133,29 +136,32 @@ fn decide(
 }
 
 /// Decides on each batch that a tuple of this time is the first to touch.
-fn touch(
+fn touch<T: Outlet>(
     with: &Dropping,
     levels: &Levels,
     time: u64,
     batches: &mut Batches,
-    out: &mut Outs,
+    out: &mut T,
 ) -> Result<(), AllocError>
     requires limits { IsDropping with.now }
     requires tick { time < 2 ^ 40 }
     requires epoch { with.now.epoch ≡ levels.now.epoch }
     requires level { time / levels.now.epoch < levels.now.closed }
+    requires is_ready { T.ready out.old }
     ensures given { OnOk result ((table : ℕ → ℕ → ℕ) → Agrees levels.now table → (q : ℕ)
-        → given q out.new.items.items ≡ given q out.old.items.items ++ at_zero q (map mark_thing (marks_for with.now table (newly with.now batches.old.next time)))) }
+        → given q (T.items out.new) ≡ given q (T.items out.old) ++ at_zero q (map mark_thing (marks_for with.now table (newly with.now batches.old.next time)))) }
     ensures batches { OnOk result ((table : ℕ → ℕ → ℕ) → Agrees levels.now table → batches.new ≡ after_tuple with.now table batches.old time) }
-    ensures drops { OnOk result ((table : ℕ → ℕ → ℕ) → Agrees levels.now table → out.new.drops.items ≡ out.old.drops.items ++ decided with.now table (newly with.now batches.old.next time)) }
+    ensures drops { OnOk result ((table : ℕ → ℕ → ℕ) → Agrees levels.now table → (T.drops out.new) ≡ (T.drops out.old) ++ decided with.now table (newly with.now batches.old.next time)) }
     ensures prefix { OnErr result ((table : ℕ → ℕ → ℕ) → Agrees levels.now table → (q : ℕ)
-        → IsPrefixOf (given q out.new.items.items) (given q out.old.items.items ++ at_zero q (map mark_thing (marks_for with.now table (newly with.now batches.old.next time))))) }
+        → IsPrefixOf (given q (T.items out.new)) (given q (T.items out.old) ++ at_zero q (map mark_thing (marks_for with.now table (newly with.now batches.old.next time))))) }
     ensures drops_prefix { OnErr result ((table : ℕ → ℕ → ℕ) → Agrees levels.now table
-        → IsPrefixOf out.new.drops.items (out.old.drops.items ++ decided with.now table (newly with.now batches.old.next time))) }
-    ensures sound { ItemsSound out.old.items.items → ItemsSound out.new.items.items }
-    ensures extends { IsPrefixOf out.old.items.items out.new.items.items }
-    ensures keeps { IsPrefixOf out.old.drops.items out.new.drops.items }
-    ensures few { length out.new.items.items ≤ length out.old.items.items + 4097 }
+        → IsPrefixOf (T.drops out.new) ((T.drops out.old) ++ decided with.now table (newly with.now batches.old.next time))) }
+    ensures sound { ItemsSound (T.items out.old) → ItemsSound (T.items out.new) }
+    ensures extends { IsPrefixOf (T.items out.old) (T.items out.new) }
+    ensures keeps { IsPrefixOf (T.drops out.old) (T.drops out.new) }
+    ensures few { length (T.items out.new) ≤ length (T.items out.old) + 4097 }
+    ensures stays_ready { OnOk result (T.ready out.new) }
+    ensures came { (start : T) → T.came start out.old → T.came start out.new }
 {
     let end = time / with.length + 1;
     let from = batches
@@ -174,31 +180,34 @@ fn touch(
 }
 
 /// Takes an item's tuple: the marks of the batches that it is the first to touch, and then itself, if it is needed.
-fn take(
+fn take<T: Outlet>(
     with: &Dropping,
     levels: &Levels,
     time: u64,
     body: Body,
     batches: &mut Batches,
-    out: &mut Outs,
+    out: &mut T,
 ) -> Result<(), AllocError>
     requires limits { IsDropping with.now }
     requires tick { time < 2 ^ 40 }
     requires body { IsBody body }
     requires epoch { with.now.epoch ≡ levels.now.epoch }
     requires level { time / levels.now.epoch < levels.now.closed }
+    requires is_ready { T.ready out.old }
     ensures given { OnOk result ((table : ℕ → ℕ → ℕ) → Agrees levels.now table → (q : ℕ)
-        → given q out.new.items.items ≡ given q out.old.items.items ++ at_zero q (gives_body with.now table batches.old time body)) }
+        → given q (T.items out.new) ≡ given q (T.items out.old) ++ at_zero q (gives_body with.now table batches.old time body)) }
     ensures batches { OnOk result ((table : ℕ → ℕ → ℕ) → Agrees levels.now table → batches.new ≡ next_body with.now table batches.old time body) }
-    ensures drops { OnOk result ((table : ℕ → ℕ → ℕ) → Agrees levels.now table → out.new.drops.items ≡ out.old.drops.items ++ decided_body with.now table batches.old time body) }
+    ensures drops { OnOk result ((table : ℕ → ℕ → ℕ) → Agrees levels.now table → (T.drops out.new) ≡ (T.drops out.old) ++ decided_body with.now table batches.old time body) }
     ensures prefix { OnErr result ((table : ℕ → ℕ → ℕ) → Agrees levels.now table → (q : ℕ)
-        → IsPrefixOf (given q out.new.items.items) (given q out.old.items.items ++ at_zero q (gives_body with.now table batches.old time body))) }
+        → IsPrefixOf (given q (T.items out.new)) (given q (T.items out.old) ++ at_zero q (gives_body with.now table batches.old time body))) }
     ensures drops_prefix { OnErr result ((table : ℕ → ℕ → ℕ) → Agrees levels.now table
-        → IsPrefixOf out.new.drops.items (out.old.drops.items ++ decided_body with.now table batches.old time body)) }
-    ensures sound { ItemsSound out.old.items.items → ItemsSound out.new.items.items }
-    ensures extends { IsPrefixOf out.old.items.items out.new.items.items }
-    ensures keeps { IsPrefixOf out.old.drops.items out.new.drops.items }
-    ensures few { length out.new.items.items ≤ length out.old.items.items + 4098 }
+        → IsPrefixOf (T.drops out.new) ((T.drops out.old) ++ decided_body with.now table batches.old time body)) }
+    ensures sound { ItemsSound (T.items out.old) → ItemsSound (T.items out.new) }
+    ensures extends { IsPrefixOf (T.items out.old) (T.items out.new) }
+    ensures keeps { IsPrefixOf (T.drops out.old) (T.drops out.new) }
+    ensures few { length (T.items out.new) ≤ length (T.items out.old) + 4098 }
+    ensures stays_ready { OnOk result (T.ready out.new) }
+    ensures came { (start : T) → T.came start out.old → T.came start out.new }
 {
     let Some(fields) = body.get() else {
         return Ok(());
@@ -218,17 +227,20 @@ fn take(
 }
 
 /// A mark goes out, with no tuple.
-fn give_mark(time: u64, mark: Mark, out: &mut Outs) -> Result<(), AllocError>
+fn give_mark<T: Outlet>(time: u64, mark: Mark, out: &mut T) -> Result<(), AllocError>
     requires tick { time < 2 ^ 40 }
     requires mark { IsMark (Some mark) }
-    ensures given { OnOk result ((q : ℕ) → given q out.new.items.items ≡ given q out.old.items.items ++ at_zero q (mark_thing (time, mark) ∷ [])) }
-    ensures err { OnErr result (out.new.items.items ≡ out.old.items.items) }
-    ensures sound { ItemsSound out.old.items.items → ItemsSound out.new.items.items }
-    ensures extends { IsPrefixOf out.old.items.items out.new.items.items }
-    ensures drops { out.new.drops.items ≡ out.old.drops.items }
-    ensures one { length out.new.items.items ≤ length out.old.items.items + 1 }
+    requires is_ready { T.ready out.old }
+    ensures given { OnOk result ((q : ℕ) → given q (T.items out.new) ≡ given q (T.items out.old) ++ at_zero q (mark_thing (time, mark) ∷ [])) }
+    ensures err { OnErr result ((T.items out.new) ≡ (T.items out.old)) }
+    ensures sound { ItemsSound (T.items out.old) → ItemsSound (T.items out.new) }
+    ensures extends { IsPrefixOf (T.items out.old) (T.items out.new) }
+    ensures drops { (T.drops out.new) ≡ (T.drops out.old) }
+    ensures one { length (T.items out.new) ≤ length (T.items out.old) + 1 }
+    ensures stays_ready { OnOk result (T.ready out.new) }
+    ensures came { (start : T) → T.came start out.old → T.came start out.new }
 {
-    let body = Body::none(*out.items.allocator());
+    let body = Body::none(out.alloc());
     give_item(
         Item {
             time,
@@ -262,12 +274,12 @@ impl Operator for WinDropBox {
 
     ghost lost = { λ s. none_lost };
 
-    fn feed<L: Ledger>(
+    fn feed<L: Ledger, T: Outlet>(
         &mut self,
         levels: &Levels,
         port: u32,
         item: Item,
-        out: &mut Outs,
+        out: &mut T,
         steps: &mut Steps<L>,
     ) -> Result<(), AllocError>
         requires is_valid { IsDropping self.old.with }
@@ -277,25 +289,26 @@ impl Operator for WinDropBox {
         requires has_epoch { IsTrue (drop_reads self.old.with levels.now.epoch) }
         requires has_level { item.time / levels.now.epoch < levels.now.closed }
         requires has_room { is_some item.body ≡ true → self.old.tally.taken < 2 ^ 62 - 1 }
+        requires is_ready { T.ready out.old }
         ensures law { OnOk result ((table : ℕ → ℕ → ℕ) (future : List Entry) → Agrees levels.now table
             → IsFuture (unmarked) (port_fits) (self.old.tally.place) (entries port item ++ future)
-            → (q : ℕ) → given q out.old.items.items ++ drop_rest self.old.with table self.old.batches (entries port item ++ future) q
-            ≡ given q out.new.items.items ++ drop_rest self.new.with table self.new.batches future q) }
+            → (q : ℕ) → given q (T.items out.old) ++ drop_rest self.old.with table self.old.batches (entries port item ++ future) q
+            ≡ given q (T.items out.new) ++ drop_rest self.new.with table self.new.batches future q) }
         ensures decided { OnOk result ((table : ℕ → ℕ → ℕ) (future : List Entry) → Agrees levels.now table
             → IsFuture (unmarked) (port_fits) (self.old.tally.place) (entries port item ++ future)
-            → out.old.drops.items ++ drop_decides self.old.with table self.old.batches (entries port item ++ future)
-            ≡ out.new.drops.items ++ drop_decides self.new.with table self.new.batches future) }
+            → (T.drops out.old) ++ drop_decides self.old.with table self.old.batches (entries port item ++ future)
+            ≡ (T.drops out.new) ++ drop_decides self.new.with table self.new.batches future) }
         ensures loses { OnOk result ((future : List Entry) → none_lost (entries port item ++ future) ≡ none_lost future) }
-        ensures extends { IsPrefixOf out.old.items.items out.new.items.items }
-        ensures keeps_decisions { IsPrefixOf out.old.drops.items out.new.drops.items }
+        ensures extends { IsPrefixOf (T.items out.old) (T.items out.new) }
+        ensures keeps_decisions { IsPrefixOf (T.drops out.old) (T.drops out.new) }
         ensures prefix { OnErr result ((table : ℕ → ℕ → ℕ) (future : List Entry) → Agrees levels.now table
             → IsFuture (unmarked) (port_fits) (self.old.tally.place) (entries port item ++ future)
-            → (q : ℕ) → IsPrefixOf (given q out.new.items.items) (given q out.old.items.items ++ drop_rest self.old.with table self.old.batches (entries port item ++ future) q)) }
+            → (q : ℕ) → IsPrefixOf (given q (T.items out.new)) (given q (T.items out.old) ++ drop_rest self.old.with table self.old.batches (entries port item ++ future) q)) }
         ensures decided_prefix { OnErr result ((table : ℕ → ℕ → ℕ) (future : List Entry) → Agrees levels.now table
             → IsFuture (unmarked) (port_fits) (self.old.tally.place) (entries port item ++ future)
-            → IsPrefixOf out.new.drops.items (out.old.drops.items ++ drop_decides self.old.with table self.old.batches (entries port item ++ future))) }
+            → IsPrefixOf (T.drops out.new) ((T.drops out.old) ++ drop_decides self.old.with table self.old.batches (entries port item ++ future))) }
         ensures times { OnOk result ((table : ℕ → ℕ → ℕ) → Agrees levels.now table → (q : ℕ) → ThingsUpTo item.time (drop_rest self.old.with table self.old.batches (entries port item) q)) }
-        ensures sound { ItemsSound out.old.items.items → ItemsSound out.new.items.items }
+        ensures sound { ItemsSound (T.items out.old) → ItemsSound (T.items out.new) }
         ensures held { OnOk result ((table : ℕ → ℕ → ℕ) (q : ℕ) → drop_rest self.new.with table self.new.batches [] q ≡ []) }
         ensures same_hold { OnOk result ((time : ℕ) (things : List Thing) → things ≡ [] → things ≡ []) }
         ensures settled { OnOk result ((table : ℕ → ℕ → ℕ) → drop_decides self.new.with table self.new.batches [] ≡ []) }
@@ -307,7 +320,9 @@ impl Operator for WinDropBox {
         ensures cost { OnOk result (steps.new ≡ steps.old + (if is_some item.body then 1 else 0)) }
         ensures no_cost { OnErr result (steps.new ≡ steps.old) }
         // A drop appends the marks of few batches at once.
-        ensures few { length out.new.items.items ≤ length out.old.items.items + 4098 }
+        ensures few { length (T.items out.new) ≤ length (T.items out.old) + 4098 }
+        ensures stays_ready { OnOk result (T.ready out.new) }
+        ensures came { (start : T) → T.came start out.old → T.came start out.new }
     {
         self.tally.note(port, &item);
         let fed = item.body.is_some();
@@ -325,7 +340,7 @@ impl Operator for WinDropBox {
         Ok(())
     }
 
-    fn finish(&mut self, _out: &mut Outs) -> Result<(), AllocError> {
+    fn finish<T: Outlet>(&mut self, _out: &mut T) -> Result<(), AllocError> {
         self.tally.running = false;
         Ok(())
     }

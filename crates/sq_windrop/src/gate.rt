@@ -15,7 +15,7 @@ ghost use Rattle.sq_windrop.specs.Gates.{IsLength, shows_at, shown, first_port, 
 
 use crate::give::give_item;
 use sq_item::{Body, Item, Mark, Sign};
-use sq_oper::{Decision, Operator, Outs, Place, Tally};
+use sq_oper::{Decision, Operator, Outlet, Place, Tally};
 use sq_outside::Steps;
 use sq_road::Levels;
 use sq_value::Value;
@@ -87,16 +87,25 @@ impl GateBox {
     }
 
     // Gives an item's tuple, if its batch is open.
-    fn show(&self, port: u32, time: u64, body: Body, out: &mut Outs) -> Result<(), AllocError>
+    fn show<T: Outlet>(
+        &self,
+        port: u32,
+        time: u64,
+        body: Body,
+        out: &mut T,
+    ) -> Result<(), AllocError>
         requires length { IsLength self.now.length }
         requires tick { time < 2 ^ 40 }
         requires body { IsBody body }
-        ensures given { OnOk result ((q : ℕ) → given q out.new.items.items
-            ≡ given q out.old.items.items ++ gives_all (gate_next self.now.length) (gate_gives self.now.length) self.now.opened (at_port port (body_part time body)) q) }
-        ensures err { OnErr result (out.new.items.items ≡ out.old.items.items) }
-        ensures sound { ItemsSound out.old.items.items → ItemsSound out.new.items.items }
-        ensures extends { IsPrefixOf out.old.items.items out.new.items.items }
-        ensures drops { out.new.drops.items ≡ out.old.drops.items }
+        requires is_ready { T.ready out.old }
+        ensures given { OnOk result ((q : ℕ) → given q (T.items out.new)
+            ≡ given q (T.items out.old) ++ gives_all (gate_next self.now.length) (gate_gives self.now.length) self.now.opened (at_port port (body_part time body)) q) }
+        ensures err { OnErr result ((T.items out.new) ≡ (T.items out.old)) }
+        ensures sound { ItemsSound (T.items out.old) → ItemsSound (T.items out.new) }
+        ensures extends { IsPrefixOf (T.items out.old) (T.items out.new) }
+        ensures drops { (T.drops out.new) ≡ (T.drops out.old) }
+        ensures stays_ready { OnOk result (T.ready out.new) }
+        ensures came { (start : T) → T.came start out.old → T.came start out.new }
     {
         let _port = port;
         if let Some(fields) = body.get() {
@@ -138,12 +147,12 @@ impl Operator for GateBox {
 
     ghost lost = { λ s future. 0 };
 
-    fn feed<L: Ledger>(
+    fn feed<L: Ledger, T: Outlet>(
         &mut self,
         _levels: &Levels,
         port: u32,
         item: Item,
-        out: &mut Outs,
+        out: &mut T,
         steps: &mut Steps<L>,
     ) -> Result<(), AllocError> {
         self.tally.note(port, &item);
@@ -156,7 +165,7 @@ impl Operator for GateBox {
         Ok(())
     }
 
-    fn finish(&mut self, _out: &mut Outs) -> Result<(), AllocError> {
+    fn finish<T: Outlet>(&mut self, _out: &mut T) -> Result<(), AllocError> {
         self.tally.running = false;
         Ok(())
     }

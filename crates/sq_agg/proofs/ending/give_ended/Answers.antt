@@ -33,7 +33,7 @@ returns-then-time-ends-clause-given g c =
     let told = closing_panes f w some p.width now mid x es [] (omega (arith, later, is)) c.requires.waits tt
     (λ t lo hi. nothing_ends none joined w moves p.width x es now c.args.ends c.args.time over c.if-time-ends.true t lo (subst (λ (m : ℕ). t < m) is hi)) in
     on_ok_weaker c.give_before.result
-    (λ e q. e q ∙ ap (λ l. given q c.args.out.now.items.items ++ at_zero q (due_before f.told mid x.waiting l)) c.new-due.ensures.items ∙ ap (λ l. given q c.args.out.now.items.items ++ at_zero q l) (sym told))
+    (λ e q. e q ∙ ap (λ l. given q (g.T.Outlet.items c.args.out.now) ++ at_zero q (due_before f.told mid x.waiting l)) c.new-due.ensures.items ∙ ap (λ l. given q (g.T.Outlet.items c.args.out.now) ++ at_zero q l) (sym told))
     c.give_before.ensures.given
 
 pub returns-then-time-ends-clause-prefix : goal.returns-then-time-ends-clause-prefix
@@ -56,6 +56,6 @@ returns-then-time-ends-clause-prefix g c =
     let told = closing_panes f w some p.width now mid x es [] (omega (arith, later, is)) c.requires.waits tt
     (λ t lo hi. nothing_ends none joined w moves p.width x es now c.args.ends c.args.time over c.if-time-ends.true t lo (subst (λ (m : ℕ). t < m) is hi)) in
     on_err_weaker c.give_before.result
-    (λ e q. subst (IsPrefixOf (given q c.give_before.new.out.items.items))
-    (ap (λ l. given q c.args.out.now.items.items ++ at_zero q (due_before f.told mid x.waiting l)) c.new-due.ensures.items ∙ ap (λ l. given q c.args.out.now.items.items ++ at_zero q l) (sym told)) (e q))
+    (λ e q. subst (IsPrefixOf (given q (g.T.Outlet.items c.give_before.new.out)))
+    (ap (λ l. given q (g.T.Outlet.items c.args.out.now) ++ at_zero q (due_before f.told mid x.waiting l)) c.new-due.ensures.items ∙ ap (λ l. given q (g.T.Outlet.items c.args.out.now) ++ at_zero q l) (sym told)) (e q))
     c.give_before.ensures.prefix

@@ -34,7 +34,7 @@ returns-clause-given g c =
     let rises = rises_from (open_at w.size now) now due (ended_rises none joined w moves p.width x es now from end c.first_covering-from.ensures.after c.filled_before-end.ensures.come) in
     let groups = ended_groups none joined w moves p.width x es now mid from end c.first_covering-from.ensures.before c.filled_before-end.ensures.after c.requires.begun in
     let told = closing_panes f w some p.width now mid x es due c.requires.later c.requires.waits rises groups in
-    on_ok_weaker c.give_windows.result (λ e q. e q ∙ ap (λ l. given q c.args.out.now.items.items ++ at_zero q l) (sym told)) c.give_windows.ensures.given
+    on_ok_weaker c.give_windows.result (λ e q. e q ∙ ap (λ l. given q (g.T.Outlet.items c.args.out.now) ++ at_zero q l) (sym told)) c.give_windows.ensures.given
 
 pub returns-clause-prefix : goal.returns-clause-prefix
 returns-clause-prefix g c =
@@ -56,4 +56,4 @@ returns-clause-prefix g c =
     let rises = rises_from (open_at w.size now) now due (ended_rises none joined w moves p.width x es now from end c.first_covering-from.ensures.after c.filled_before-end.ensures.come) in
     let groups = ended_groups none joined w moves p.width x es now mid from end c.first_covering-from.ensures.before c.filled_before-end.ensures.after c.requires.begun in
     let told = closing_panes f w some p.width now mid x es due c.requires.later c.requires.waits rises groups in
-    on_err_weaker c.give_windows.result (λ e q. subst (λ l. IsPrefixOf (given q c.give_windows.new.out.items.items) (given q c.args.out.now.items.items ++ at_zero q l)) (sym told) (e q)) c.give_windows.ensures.prefix
+    on_err_weaker c.give_windows.result (λ e q. subst (λ l. IsPrefixOf (given q (g.T.Outlet.items c.give_windows.new.out)) (given q (g.T.Outlet.items c.args.out.now) ++ at_zero q l)) (sym told) (e q)) c.give_windows.ensures.prefix

@@ -35,7 +35,7 @@ returns-in_err-push_window-clause-prefix g c =
     let p = c.args.panes.now in
     let x = bounds_of c.args.waiting.now in
     let one = ended (g.F.Fold.none p.fold) (g.F.Fold.joined p.fold) p.window p.width x (states_of p.held.entries) c.args.k in
-    OnErr-from c.from_residual.result (λ q. IsPrefixOf-append (given q c.args.out.now.items.items) (at_zero q (due_before (g.F.Fold.told p.fold) (start_of p.window c.args.k + 1) x.waiting one)))
+    OnErr-from c.from_residual.result (λ q. IsPrefixOf-append (given q (g.T.Outlet.items c.args.out.now)) (at_zero q (due_before (g.F.Fold.told p.fold) (start_of p.window c.args.k + 1) x.waiting one)))
 
 pub returns-clause-none : goal.returns-clause-none
 returns-clause-none g c =
@@ -63,7 +63,7 @@ returns-clause-given g c =
     let items = c.in_ok-push_window.ensures.value ∙ ap (λ l. l ++ one) c.requires.none in
     let behind = ap (λ (n : ℕ). n + 1) c.start_of-start.ensures in
     on_ok_weaker c.give_before.result
-    (λ e q. e q ∙ ap₂ (λ (n : ℕ) l. given q c.args.out.now.items.items ++ at_zero q (due_before (g.F.Fold.told p.fold) n x.waiting l)) behind items) c.give_before.ensures.given
+    (λ e q. e q ∙ ap₂ (λ (n : ℕ) l. given q (g.T.Outlet.items c.args.out.now) ++ at_zero q (due_before (g.F.Fold.told p.fold) n x.waiting l)) behind items) c.give_before.ensures.given
 
 pub returns-clause-prefix : goal.returns-clause-prefix
 returns-clause-prefix g c =
@@ -73,4 +73,4 @@ returns-clause-prefix g c =
     let items = c.in_ok-push_window.ensures.value ∙ ap (λ l. l ++ one) c.requires.none in
     let behind = ap (λ (n : ℕ). n + 1) c.start_of-start.ensures in
     on_err_weaker c.give_before.result
-    (λ e q. subst (IsPrefixOf (given q c.give_before.new.out.items.items)) (ap₂ (λ (n : ℕ) l. given q c.args.out.now.items.items ++ at_zero q (due_before (g.F.Fold.told p.fold) n x.waiting l)) behind items) (e q)) c.give_before.ensures.prefix
+    (λ e q. subst (IsPrefixOf (given q (g.T.Outlet.items c.give_before.new.out))) (ap₂ (λ (n : ℕ) l. given q (g.T.Outlet.items c.args.out.now) ++ at_zero q (due_before (g.F.Fold.told p.fold) n x.waiting l)) behind items) (e q)) c.give_before.ensures.prefix

@@ -31,7 +31,7 @@ loop-k-preserved g c =
     let mid : ℕ = c.args.mid in
     let at : ℕ = start_of w k + 1 in
     let x = bounds_of c.loop-k.waiting in
-    let out = c.loop-k.out.items.items in
+    let out = g.T.Outlet.items c.loop-k.out in
     let lt : k < end = c.loop-k-test.true in
     let inv = c.loop-k.invariant in
     let e = c.in_ok-give_window.ensures in
@@ -57,6 +57,8 @@ loop-k-preserved g c =
       sound = λ h. e.sound (inv.sound h);
       extends = IsPrefixOf-trans _ _ _ inv.extends e.extends;
       drops = e.drops ∙ inv.drops;
+      ready = e.stays_ready;
+      came = λ start h. e.came start (inv.came start h);
     }
 
 pub returns-in_err-give_window-clause-prefix : goal.returns-in_err-give_window-clause-prefix
@@ -75,7 +77,7 @@ returns-in_err-give_window-clause-prefix g c =
     let mid : ℕ = c.args.mid in
     let at : ℕ = start_of w k + 1 in
     let x = bounds_of c.loop-k.waiting in
-    let out = c.loop-k.out.items.items in
+    let out = g.T.Outlet.items c.loop-k.out in
     let lt : k < end = c.loop-k-test.true in
     let inv = c.loop-k.invariant in
     let before = c.requires.before k lt in
@@ -85,7 +87,7 @@ returns-in_err-give_window-clause-prefix g c =
     let later = due_before told mid (marks_from at x.waiting) rest in
     let all = ap (due_before told mid x.waiting) (next_windows one k end lt) ∙ window_first none joined w moves p.width first es told mid k (end - (k + 1)) before x.waiting in
     OnErr-from c.from_residual.result (λ q.
-    let gave = c.give_window.new.out.items.items in
+    let gave = g.T.Outlet.items c.give_window.new.out in
     subst (IsPrefixOf (given q gave)) (ap (λ l. given q out ++ l) (sym (at_zero-append q now later) ∙ ap (at_zero q) (sym all)) ∙ inv.given q)
     (IsPrefixOf-longer (given q gave) (given q out) (at_zero q now) (at_zero q later)
     (subst (λ l. IsPrefixOf (given q gave) (given q out ++ at_zero q (due_before told at x.waiting l))) same (c.in_err-give_window.ensures.prefix q))))
@@ -105,7 +107,7 @@ returns-clause-given g c =
     let far : end ≤ k = omega arith in
     let over = c.loop-k.invariant.none ∙ sym (no_windows one k end far) in
     on_ok_weaker c.give_before.result
-    (λ e q. e q ∙ ap (λ l. given q c.loop-k.out.items.items ++ at_zero q (due_before (g.F.Fold.told p.fold) c.args.mid (bounds_of c.loop-k.waiting).waiting l)) over ∙ c.loop-k.invariant.given q)
+    (λ e q. e q ∙ ap (λ l. given q (g.T.Outlet.items c.loop-k.out) ++ at_zero q (due_before (g.F.Fold.told p.fold) c.args.mid (bounds_of c.loop-k.waiting).waiting l)) over ∙ c.loop-k.invariant.given q)
     c.give_before.ensures.given
 
 pub returns-clause-prefix : goal.returns-clause-prefix
@@ -117,8 +119,8 @@ returns-clause-prefix g c =
     let far : end ≤ k = omega arith in
     let over = c.loop-k.invariant.none ∙ sym (no_windows one k end far) in
     on_err_weaker c.give_before.result
-    (λ e q. subst (IsPrefixOf (given q c.give_before.new.out.items.items))
-    (ap (λ l. given q c.loop-k.out.items.items ++ at_zero q (due_before (g.F.Fold.told p.fold) c.args.mid (bounds_of c.loop-k.waiting).waiting l)) over ∙ c.loop-k.invariant.given q) (e q))
+    (λ e q. subst (IsPrefixOf (given q (g.T.Outlet.items c.give_before.new.out)))
+    (ap (λ l. given q (g.T.Outlet.items c.loop-k.out) ++ at_zero q (due_before (g.F.Fold.told p.fold) c.args.mid (bounds_of c.loop-k.waiting).waiting l)) over ∙ c.loop-k.invariant.given q) (e q))
     c.give_before.ensures.prefix
 
 pub returns-clause-extends : goal.returns-clause-extends

@@ -6,7 +6,7 @@ use Rattle.sq_lists.specs.Sides.{pairs_with}
 use Rattle.sq_join.proofs.sides.give_pairs.Goals as goal
 
 pub returns-in_err-give_pair-clause-prefix : goal.returns-in_err-give_pair-clause-prefix
-returns-in_err-give_pair-clause-prefix c =
+returns-in_err-give_pair-clause-prefix g c =
     OnErr-from c.from_residual.result (λ q.
     let left = at_zero q (things (pairs_with c.args.on.now.tree c.args.side c.args.x.now (drop c.loop-i.i c.args.others.now.items))) in
     (left, sym (ap (λ l. given q l ++ left) c.in_err-give_pair.ensures.err ∙ c.loop-i.invariant.given q)))

@@ -7,11 +7,13 @@ use Rattle.sq_lists.specs.Sides.{pair_at, pairs_with}
 use Rattle.sq_join.proofs.sides.give_pairs.Given as goal
 
 abbrev pub invariant-loop-i : goal.invariant-loop-i
-invariant-loop-i l = record {
-  given : (q : ℕ) → given q l.out.items.items ++ at_zero q (things (pairs_with l.on.tree l.side l.x (drop l.i l.others.items)))
-      ≡ given q l.fn.out.items.items ++ at_zero q (things (pairs_with l.on.tree l.side l.x l.others.items));
+invariant-loop-i g l = record {
+  given : (q : ℕ) → given q (g.T.Outlet.items l.out) ++ at_zero q (things (pairs_with l.on.tree l.side l.x (drop l.i l.others.items)))
+      ≡ given q (g.T.Outlet.items l.fn.out) ++ at_zero q (things (pairs_with l.on.tree l.side l.x l.others.items));
   pairs : AllByRecursion (λ y. IsSoundTuple (pair_at l.side l.x y)) (drop l.i l.others.items);
-  sound : ItemsSound l.fn.out.items.items → ItemsSound l.out.items.items;
-  extends : IsPrefixOf l.fn.out.items.items l.out.items.items;
-  drops : l.out.drops.items ≡ l.fn.out.drops.items;
+  sound : ItemsSound (g.T.Outlet.items l.fn.out) → ItemsSound (g.T.Outlet.items l.out);
+  extends : IsPrefixOf (g.T.Outlet.items l.fn.out) (g.T.Outlet.items l.out);
+  drops : g.T.Outlet.drops l.out ≡ g.T.Outlet.drops l.fn.out;
+  ready : g.T.Outlet.ready l.out;
+  came : (start : g.row.T.Denot) → g.T.Outlet.came start l.fn.out → g.T.Outlet.came start l.out;
 }

@@ -22,15 +22,17 @@ loop-x-preserved g c =
     let can = subst (λ (l : List Tuple). CanGive width size l held) popped is.can in
     record {
       given = λ (q : ℕ).
-          ap (λ (l : List Tuple). given q c.give_round.new.out.items.items ++ at_zero q (things (resample_of table size ws l))) e.held
-          ∙ all-step table size q x ws held (given q c.loop-x.out.items.items) (given q c.give_round.new.out.items.items) can.waits.1 (e.given q)
-          ∙ ap (λ (l : List Tuple). given q c.loop-x.out.items.items ++ at_zero q (things (resample_of table size l held))) (sym popped)
+          ap (λ (l : List Tuple). given q (g.T.Outlet.items c.give_round.new.out) ++ at_zero q (things (resample_of table size ws l))) e.held
+          ∙ all-step table size q x ws held (given q (g.T.Outlet.items c.loop-x.out)) (given q (g.T.Outlet.items c.give_round.new.out)) can.waits.1 (e.given q)
+          ∙ ap (λ (l : List Tuple). given q (g.T.Outlet.items c.loop-x.out) ++ at_zero q (things (resample_of table size l held))) (sym popped)
           ∙ is.given q;
       can = subst (λ (l : List Tuple). CanGive width size ws l) (sym e.held) (can-step width size x ws held can);
       runs = e.runs;
       sound = search rules;
       extends = search (rules, IsPrefixOf-trans);
       drops = e.drops ∙ is.drops;
+      ready = e.stays_ready;
+      came = λ start h. e.came start (is.came start h);
     }
 
 pub returns-in_err-give_round-clause-prefix : goal.returns-in_err-give_round-clause-prefix

@@ -31,9 +31,9 @@ loop-x-preserved g c =
     ap (λ (b : Bool). if b then recent size now ws else x ∷ ws) (sym past) ∙ ap (recent size now) (sym popped) in
     record {
       given = λ (q : ℕ).
-          ap (λ (l : List Tuple). given q c.give_round.new.out.items.items ++ at_zero q (things (resample_of table size (passed size now ws) l))) e.held
-          ∙ round-step table size q now x ws held (given q c.loop-x.out.items.items) (given q c.give_round.new.out.items.items) past can.waits.1 (e.given q)
-          ∙ ap (λ (l : List Tuple). given q c.loop-x.out.items.items ++ at_zero q (things (resample_of table size (passed size now l) held))) (sym popped)
+          ap (λ (l : List Tuple). given q (g.T.Outlet.items c.give_round.new.out) ++ at_zero q (things (resample_of table size (passed size now ws) l))) e.held
+          ∙ round-step table size q now x ws held (given q (g.T.Outlet.items c.loop-x.out)) (given q (g.T.Outlet.items c.give_round.new.out)) past can.waits.1 (e.given q)
+          ∙ ap (λ (l : List Tuple). given q (g.T.Outlet.items c.loop-x.out) ++ at_zero q (things (resample_of table size (passed size now l) held))) (sym popped)
           ∙ is.given q;
       waits = same ∙ is.waits;
       keeps =
@@ -47,6 +47,8 @@ loop-x-preserved g c =
       sound = search rules;
       extends = search (rules, IsPrefixOf-trans);
       drops = e.drops ∙ is.drops;
+      ready = e.stays_ready;
+      came = λ start h. e.came start (is.came start h);
     }
 
 pub returns-in_err-give_round-clause-prefix : goal.returns-in_err-give_round-clause-prefix

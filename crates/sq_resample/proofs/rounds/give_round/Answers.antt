@@ -21,4 +21,4 @@ returns-clause-given g c =
     let gave = rw (c.none.ensures, c.some.ensures) at c.in_ok-give.ensures.given in
     λ q.
     gave q
-    ∙ (λ i. given q c.args.out.now.items.items ++ at_zero q (things (record { time = time i; fields = fields i } ∷ [])))
+    ∙ (λ i. given q (g.T.Outlet.items c.args.out.now) ++ at_zero q (things (record { time = time i; fields = fields i } ∷ [])))

@@ -10,17 +10,17 @@ pub returns-in-Ok-clause-engine : goal.returns-in-Ok-clause-engine
 returns-in-Ok-clause-engine g c =
     let a = c.args.self.now in
     let did = c.in-Ok.ensures in
-    engine-after _ _ a (record { flow = c.train.new.self; ready = c.remove.new.self; waits = a.waits; outs = c.train.new.outs; failed = a.failed })
+    engine-after _ _ a (record { flow = c.train.new.self; ready = c.remove.new.self; waits = a.waits; failed = a.failed })
     c.look_at.new.self c.look_at_readers.new.self c.args.pick.actor c.place_in-place.result c.requires.engine c.requires.ready c.place_in-place.ensures.place
-    did.ok.flow_after did.ok.wires did.ok.seats did.touches c.remove.ensures.list refl did.none c.requires.engine.running c.look_at.ensures c.look_at_readers.ensures
+    did.ok.flow_after did.ok.wires did.ok.seats did.touches c.remove.ensures.list refl c.requires.engine.running c.look_at.ensures c.look_at_readers.ensures
 
 pub returns-in-Ok-clause-order : goal.returns-in-Ok-clause-order
 returns-in-Ok-clause-order g c =
     let a = c.args.self.now in
     let did = c.in-Ok.ensures in
-    engine-order _ _ a (record { flow = c.train.new.self; ready = c.remove.new.self; waits = a.waits; outs = c.train.new.outs; failed = a.failed })
+    engine-order _ _ a (record { flow = c.train.new.self; ready = c.remove.new.self; waits = a.waits; failed = a.failed })
     c.look_at.new.self c.look_at_readers.new.self c.args.pick.actor c.place_in-place.result c.requires.engine c.requires.ready c.place_in-place.ensures.place
-    did.ok.flow_after did.ok.wires did.ok.seats did.touches c.remove.ensures.list refl did.none c.requires.engine.running c.look_at.ensures c.look_at_readers.ensures
+    did.ok.flow_after did.ok.wires did.ok.seats did.touches c.remove.ensures.list refl c.requires.engine.running c.look_at.ensures c.look_at_readers.ensures
 
 pub returns-in-Ok-clause-closes : goal.returns-in-Ok-clause-closes
 returns-in-Ok-clause-closes g c = λ table agrees.

@@ -10,7 +10,7 @@ use Rattle.sq_flow.proofs.WireLemmas.{arcs-open, comes-from}
 use Rattle.sq_flow.proofs.CauseLemmas.{cause-in, changed-since, feeds-none, full-feed, refused-feed, refused-in, too-much-in, queue-cause-since, counts-none, none-too-much}
 use Rattle.sq_flow.proofs.FutureLemmas.{slice_get-set_same, slice_get-set_other}
 use Rattle.sq_flow.proofs.Measures.{weighs, open-same}
-use Rattle.sq_flow.proofs.FedFlow.{seat-fine, may-come, runs, own-drops, passes-front, fed-prefix, fed-stepped, fed-touches, costs-none, costs-front, costs-fed, too-much-front}
+use Rattle.sq_flow.proofs.FedFlow.{seat-fine, may-come, runs, own-drops, passes-front, fed-part, fed-stepped, fed-touches, costs-none, costs-fed, too-much-front}
 use Rattle.sq_flow.proofs.EventLemmas.{below-outputs, stays-same}
 use Rattle.sq_flow.proofs.TookLemmas.{fed-sum, operator-took, goes-on}
 use Rattle.sq_flow.proofs.flow.Flow.feed_step.Goals as goal
@@ -24,24 +24,24 @@ returns-in-Err-clause-strange g c =
     passes-front _ _ c.args.self.now c.requires.flow c.args.actor c.requires.head.0 c.args.port c.args.arc c.arc-at.result.now item c.requires.actor_in c.requires.head.1
     c.index.result.now is c.arc-at.ensures table agrees (items_on c.args.self.now.queues (known (g.D.PageDisk.log c.args.disk.now))) holds (c.requires.together.faces (c.in-Err.ensures.later.known told)) more front)
 
-pub feed_seat-requires-clause-is_valid : goal.feed_seat-requires-clause-is_valid
-feed_seat-requires-clause-is_valid g c =
+pub feed_into-requires-clause-is_valid : goal.feed_into-requires-clause-is_valid
+feed_into-requires-clause-is_valid g c =
     let is = slice_get_read c.args.self.now.seats.items _ c.args.actor c.index_mut.result.now refl c.requires.actor_in c.index_mut.ensures.value in
     let fine = seat-fine _ _ c.args.self.now c.requires.flow c.args.actor c.requires.head.0 c.args.port c.args.arc c.arc-at.result.now c.in-Ok.item c.requires.actor_in c.requires.head.1 c.index_mut.result.now is c.arc-at.ensures in (
       fine.is_valid,
       runs _ _ c.args.self.now c.requires.flow c.args.actor c.requires.head.0 c.args.port c.args.arc c.arc-at.result.now c.in-Ok.item c.requires.actor_in c.requires.head.1 c.index_mut.result.now is c.arc-at.ensures c.requires.running,
     )
 
-pub feed_seat-requires-clause-may_come : goal.feed_seat-requires-clause-may_come
-feed_seat-requires-clause-may_come g c =
+pub feed_into-requires-clause-may_come : goal.feed_into-requires-clause-may_come
+feed_into-requires-clause-may_come g c =
     let was = slice_get_read c.args.self.now.seats.items _ c.args.actor c.index.result.now refl c.requires.actor_in c.index.ensures in
     let is = slice_get_read c.args.self.now.seats.items _ c.args.actor c.index_mut.result.now refl c.requires.actor_in c.index_mut.ensures.value in
     let same = same_Some c.index.result.now c.index_mut.result.now (sym was ∙ is) in
     may-come _ _ c.args.self.now c.requires.flow c.args.actor c.requires.head.0 c.args.port c.args.arc c.arc-at.result.now c.in-Ok.item c.requires.actor_in c.requires.head.1 c.index_mut.result.now is c.arc-at.ensures
     (subst (λ z. MayBeFed c.arc-at.result.now c.args.port z.tally.place c.args.self.now.clock c.in-Ok.item) same c.in-Ok.ensures.may_be_fed)
 
-pub feed_seat-requires-clause-has_room : goal.feed_seat-requires-clause-has_room
-feed_seat-requires-clause-has_room g c =
+pub feed_into-requires-clause-has_room : goal.feed_into-requires-clause-has_room
+feed_into-requires-clause-has_room g c =
     let is = slice_get_read c.args.self.now.seats.items _ c.args.actor c.index_mut.result.now refl c.requires.actor_in c.index_mut.ensures.value in
     let fine = seat-fine _ _ c.args.self.now c.requires.flow c.args.actor c.requires.head.0 c.args.port c.args.arc c.arc-at.result.now c.in-Ok.item c.requires.actor_in c.requires.head.1 c.index_mut.result.now is c.arc-at.ensures in
     let counted = fine.counted in
@@ -51,22 +51,10 @@ feed_seat-requires-clause-has_room g c =
     let low = c.in-Ok-count_item.ensures.ok.1 in
     (omega (arith, counted, few, weight, more, low), omega (arith, few, weight, more, low))
 
-pub give-requires-clause-there : goal.give-requires-clause-there
-give-requires-clause-there g c = λ port place arc is.
+pub feed_into-requires-clause-there : goal.feed_into-requires-clause-there
+feed_into-requires-clause-there g c = λ port place arc is.
     let r = arcs-open _ _ c.args.self.now c.requires.flow c.args.actor c.requires.running port place arc is in
     (rw c.in-Ok.ensures.size r.0, c.in-Ok.ensures.ended arc ∙ r.1)
-
-pub returns-in_err-give-clause-prefix : goal.returns-in_err-give-clause-prefix
-returns-in_err-give-clause-prefix g c =
-    let p = err_from_is_err_and c.from_residual-in_err-give.result c.from_residual-in_err-give.ensures.1 in
-    let is = slice_get_read c.args.self.now.seats.items _ c.args.actor c.index_mut.result.now refl c.requires.actor_in c.index_mut.ensures.value in
-    let was = slice_get_read c.args.self.now.seats.items _ c.args.actor c.index.result.now refl c.requires.actor_in c.index.ensures in
-    let same = same_Some c.index.result.now c.index_mut.result.now (sym was ∙ is) in
-    rw p.1
-    (fed-prefix _ _ c.args.self.now c.requires.flow c.args.actor c.requires.head.0 c.args.port c.args.arc c.arc-at.result.now c.in-Ok.item c.requires.actor_in c.requires.head.1 c.index_mut.result.now is c.arc-at.ensures
-    (known (g.D.PageDisk.log c.args.disk.now)) (known (g.D.PageDisk.log c.take_item.new.disk)) (known (g.D.PageDisk.log c.give.new.disk)) c.take_item.new.queues c.feed_seat.new.seat c.feed_seat.new.out.items.items c.feed_seat.new.out.drops.items c.args.events.now.items c.give.new.events.items
-    c.requires.together c.in-Ok.ensures.later.known c.in_err-give.ensures.later.known c.in-Ok.ensures.items c.in-Ok.ensures.others c.in_ok-feed_seat.ensures.fed c.in_err-give.ensures.prefix
-    (subst (λ z. MayBeFed c.arc-at.result.now c.args.port z.tally.place c.args.self.now.clock c.in-Ok.item) same c.in-Ok.ensures.may_be_fed) c.requires.running c.in_err-give.ensures.drops_prefix)
 
 pub returns-clause-ok : goal.returns-clause-ok
 returns-clause-ok g c =
@@ -75,25 +63,25 @@ returns-clause-ok g c =
     let same = same_Some c.index.result.now c.index_mut.result.now (sym was ∙ is) in
     let may = subst (λ z. MayBeFed c.arc-at.result.now c.args.port z.tally.place c.args.self.now.clock c.in-Ok.item) same c.in-Ok.ensures.may_be_fed in
     fed-stepped _ _ c.args.self.now c.requires.flow c.args.actor c.requires.head.0 c.args.port c.args.arc c.arc-at.result.now c.in-Ok.item c.requires.actor_in c.requires.head.1 c.index_mut.result.now is c.arc-at.ensures
-    (known (g.D.PageDisk.log c.args.disk.now)) (known (g.D.PageDisk.log c.give.new.disk)) (known (g.D.PageDisk.log c.take_item.new.disk)) c.take_item.new.queues c.give.new.queues _ c.in-Ok-count_item.taken
-    c.feed_seat.new.seat c.feed_seat.new.out.items.items c.feed_seat.new.out.drops.items c.args.events.now.items c.give.new.events.items
+    (known (g.D.PageDisk.log c.args.disk.now)) (known (g.D.PageDisk.log c.feed_into.new.disk)) (known (g.D.PageDisk.log c.take_item.new.disk)) c.take_item.new.queues c.feed_into.new.queues _ c.in-Ok-count_item.taken
+    c.feed_into.new.seat c.in_ok-feed_into.ensures.fed.items c.in_ok-feed_into.ensures.fed.drops c.args.events.now.items c.feed_into.new.events.items
     c.requires.together
     may
     c.in-Ok.ensures.ended c.in-Ok.ensures.size c.in-Ok.ensures.frames c.in-Ok.ensures.items c.in-Ok.ensures.others c.in-Ok.ensures.later.known c.in-Ok-count_item.ensures.ok.0 c.in-Ok-count_item.ensures.ok.1
-    c.in_ok-feed_seat.ensures.fed
-    (slice_get-set_same c.args.self.now.seats.items c.args.actor c.feed_seat.new.seat c.requires.actor_in)
-    (λ other ne. slice_get-set_other c.args.self.now.seats.items c.args.actor other c.feed_seat.new.seat ne)
-    (length-set c.args.self.now.seats.items c.args.actor c.feed_seat.new.seat) c.requires.running c.in_ok-give.ensures.sent c.in_ok-give.ensures.shown c.in_ok-give.ensures.drops
-    (c.in_ok-give.ensures.below (length c.args.self.now.seats.items - c.args.self.now.wires.shown) (below-outputs c.args.actor (length c.args.self.now.seats.items) c.args.self.now.wires.shown c.requires.actor_in)
+    c.in_ok-feed_into.ensures.fed.fed
+    (slice_get-set_same c.args.self.now.seats.items c.args.actor c.feed_into.new.seat c.requires.actor_in)
+    (λ other ne. slice_get-set_other c.args.self.now.seats.items c.args.actor other c.feed_into.new.seat ne)
+    (length-set c.args.self.now.seats.items c.args.actor c.feed_into.new.seat) c.requires.running c.in_ok-feed_into.ensures.fed.sent c.in_ok-feed_into.ensures.fed.shown.lines c.in_ok-feed_into.ensures.fed.shown.decided
+    (c.in_ok-feed_into.ensures.fed.shown.below (length c.args.self.now.seats.items - c.args.self.now.wires.shown) (below-outputs c.args.actor (length c.args.self.now.seats.items) c.args.self.now.wires.shown c.requires.actor_in)
     (own-drops _ _ c.args.self.now c.requires.flow c.args.actor c.requires.head.0 c.args.port c.args.arc c.arc-at.result.now c.in-Ok.item c.requires.actor_in c.requires.head.1 c.index_mut.result.now is c.arc-at.ensures
-    c.feed_seat.new.seat c.feed_seat.new.out.items.items c.feed_seat.new.out.drops.items c.in_ok-feed_seat.ensures.fed may
+    c.feed_into.new.seat c.in_ok-feed_into.ensures.fed.items c.in_ok-feed_into.ensures.fed.drops c.in_ok-feed_into.ensures.fed.fed may
     (runs _ _ c.args.self.now c.requires.flow c.args.actor c.requires.head.0 c.args.port c.args.arc c.arc-at.result.now c.in-Ok.item c.requires.actor_in c.requires.head.1 c.index_mut.result.now is c.arc-at.ensures c.requires.running)))
-    c.in_ok-give.ensures.plans
+    c.in_ok-feed_into.ensures.fed.shown.plans
 
 pub returns-clause-measure : goal.returns-clause-measure
 returns-clause-measure g c =
     let is = slice_get_read c.args.self.now.seats.items _ c.args.actor c.index_mut.result.now refl c.requires.actor_in c.index_mut.ensures.value in
-    let same = open-same c.args.self.now.seats.items c.args.actor c.index_mut.result.now c.feed_seat.new.seat is c.in_ok-feed_seat.ensures.fed.open_still in
+    let same = open-same c.args.self.now.seats.items c.args.actor c.index_mut.result.now c.feed_into.new.seat is c.in_ok-feed_into.ensures.fed.fed.open_still in
     let weight = weighs c.in-Ok.item c.in-Ok.ensures.sound in
     let more = c.in-Ok-count_item.ensures.ok.0 in
     let low = c.in-Ok-count_item.ensures.ok.1 in
@@ -112,46 +100,32 @@ returns-in-Err-count_item-clause-too_much g c =
     (known (g.D.PageDisk.log c.args.disk.now)) (known (g.D.PageDisk.log c.take_item.new.disk)) c.take_item.new.queues _ c.in-Err-count_item.e c.requires.together c.in-Ok.ensures.later.known c.in-Ok.ensures.items c.in-Ok.ensures.others
     c.in-Err-count_item.ensures.too_much c.in-Err-count_item.ensures.few refl refl
 
-pub feed_seat-requires-clause-has_epoch : goal.feed_seat-requires-clause-has_epoch
-feed_seat-requires-clause-has_epoch g c =
+pub feed_into-requires-clause-has_epoch : goal.feed_into-requires-clause-has_epoch
+feed_into-requires-clause-has_epoch g c =
     let is = slice_get_read c.args.self.now.seats.items _ c.args.actor c.index_mut.result.now refl c.requires.actor_in c.index_mut.ensures.value in
     let fine = seat-fine _ _ c.args.self.now c.requires.flow c.args.actor c.requires.head.0 c.args.port c.args.arc c.arc-at.result.now c.in-Ok.item c.requires.actor_in c.requires.head.1 c.index_mut.result.now is c.arc-at.ensures in
     fine.reads (sym fine.running ∙ runs _ _ c.args.self.now c.requires.flow c.args.actor c.requires.head.0 c.args.port c.args.arc c.arc-at.result.now c.in-Ok.item c.requires.actor_in c.requires.head.1 c.index_mut.result.now is c.arc-at.ensures c.requires.running)
 
-pub returns-in_err-feed_seat-clause-cost_err : goal.returns-in_err-feed_seat-clause-cost_err
-returns-in_err-feed_seat-clause-cost_err g c =
-    let p = err_from_is_err_and c.from_residual.result c.from_residual.ensures.1 in
-    rw p.1 (costs-none _ _ c.args.self.now c.requires.flow (known (g.D.PageDisk.log c.args.disk.now)) (known (g.D.PageDisk.log c.take_item.new.disk)) c.args.self.now.levels c.args.steps.now c.feed_seat.new.steps c.in_err-feed_seat.ensures.no_cost)
-
-pub give-requires-clause-joined : goal.give-requires-clause-joined
-give-requires-clause-joined g c = comes-from c.args.self.now.wires (length c.args.self.now.seats.items) c.requires.flow.shaped c.args.actor
-
-pub returns-in_err-give-clause-cost_err : goal.returns-in_err-give-clause-cost_err
-returns-in_err-give-clause-cost_err g c =
-    let p = err_from_is_err_and c.from_residual-in_err-give.result c.from_residual-in_err-give.ensures.1 in
-    let is = slice_get_read c.args.self.now.seats.items _ c.args.actor c.index_mut.result.now refl c.requires.actor_in c.index_mut.ensures.value in
-    rw p.1
-    (costs-front _ _ c.args.self.now c.requires.flow c.args.actor c.requires.head.0 c.args.port c.args.arc c.arc-at.result.now c.in-Ok.item c.requires.actor_in c.requires.head.1 c.index_mut.result.now is c.arc-at.ensures
-    (known (g.D.PageDisk.log c.args.disk.now)) (known (g.D.PageDisk.log c.take_item.new.disk)) (known (g.D.PageDisk.log c.give.new.disk)) c.take_item.new.queues c.args.steps.now c.feed_seat.new.steps
-    c.requires.together c.in-Ok.ensures.later.known c.in_err-give.ensures.later.known c.in-Ok.ensures.items c.in-Ok.ensures.others c.in_ok-feed_seat.ensures.cost)
+pub feed_into-requires-clause-joined : goal.feed_into-requires-clause-joined
+feed_into-requires-clause-joined g c = comes-from c.args.self.now.wires (length c.args.self.now.seats.items) c.requires.flow.shaped c.args.actor
 
 pub returns-clause-touches : goal.returns-clause-touches
 returns-clause-touches g c =
     let is = slice_get_read c.args.self.now.seats.items _ c.args.actor c.index_mut.result.now refl c.requires.actor_in c.index_mut.ensures.value in
     fed-touches _ _ c.args.self.now c.requires.flow c.args.actor c.requires.head.0 c.args.port c.args.arc c.arc-at.result.now c.in-Ok.item c.requires.actor_in c.requires.head.1 c.index_mut.result.now is c.arc-at.ensures
-    (known (g.D.PageDisk.log c.give.new.disk)) (known (g.D.PageDisk.log c.take_item.new.disk)) c.take_item.new.queues c.give.new.queues _ c.in-Ok-count_item.taken c.feed_seat.new.seat c.feed_seat.new.out.items.items
-    c.in-Ok.ensures.faces c.in_ok-feed_seat.ensures.fed.open_still
-    (slice_get-set_same c.args.self.now.seats.items c.args.actor c.feed_seat.new.seat c.requires.actor_in)
-    (λ other ne. slice_get-set_other c.args.self.now.seats.items c.args.actor other c.feed_seat.new.seat ne) c.in_ok-give.ensures.sent
+    (known (g.D.PageDisk.log c.feed_into.new.disk)) (known (g.D.PageDisk.log c.take_item.new.disk)) c.take_item.new.queues c.feed_into.new.queues _ c.in-Ok-count_item.taken c.feed_into.new.seat c.in_ok-feed_into.ensures.fed.items
+    c.in-Ok.ensures.faces c.in_ok-feed_into.ensures.fed.fed.open_still
+    (slice_get-set_same c.args.self.now.seats.items c.args.actor c.feed_into.new.seat c.requires.actor_in)
+    (λ other ne. slice_get-set_other c.args.self.now.seats.items c.args.actor other c.feed_into.new.seat ne) c.in_ok-feed_into.ensures.fed.sent
 
 pub returns-clause-cost : goal.returns-clause-cost
 returns-clause-cost g c =
     let is = slice_get_read c.args.self.now.seats.items _ c.args.actor c.index_mut.result.now refl c.requires.actor_in c.index_mut.ensures.value in
     costs-fed _ _ c.args.self.now c.requires.flow c.args.actor c.requires.head.0 c.args.port c.args.arc c.arc-at.result.now c.in-Ok.item c.requires.actor_in c.requires.head.1 c.index_mut.result.now is c.arc-at.ensures
-    (with_item c.args.self.now.seats c.args.actor c.feed_seat.new.seat) c.give.new.queues c.in-Ok-count_item.taken c.feed_seat.new.seat c.args.steps.now c.feed_seat.new.steps
-    (slice_get-set_same c.args.self.now.seats.items c.args.actor c.feed_seat.new.seat c.requires.actor_in)
-    (λ other ne. slice_get-set_other c.args.self.now.seats.items c.args.actor other c.feed_seat.new.seat ne)
-    (length-set c.args.self.now.seats.items c.args.actor c.feed_seat.new.seat) c.in_ok-feed_seat.ensures.fed.counted c.in_ok-feed_seat.ensures.cost
+    (with_item c.args.self.now.seats c.args.actor c.feed_into.new.seat) c.feed_into.new.queues c.in-Ok-count_item.taken c.feed_into.new.seat c.args.steps.now c.feed_into.new.steps
+    (slice_get-set_same c.args.self.now.seats.items c.args.actor c.feed_into.new.seat c.requires.actor_in)
+    (λ other ne. slice_get-set_other c.args.self.now.seats.items c.args.actor other c.feed_into.new.seat ne)
+    (length-set c.args.self.now.seats.items c.args.actor c.feed_into.new.seat) c.in_ok-feed_into.ensures.fed.fed.counted c.in_ok-feed_into.ensures.cost
 
 pub returns-in-Err-clause-cause : goal.returns-in-Err-clause-cause
 returns-in-Err-clause-cause g c =
@@ -161,10 +135,10 @@ returns-in-Err-clause-cause g c =
 pub returns-in-Err-count_item-clause-cause : goal.returns-in-Err-count_item-clause-cause
 returns-in-Err-count_item-clause-cause g c = too-much-in _ _ _ _ _ _ c.in-Err-count_item.ensures.err
 
-pub returns-in_err-give-clause-cause : goal.returns-in_err-give-clause-cause
-returns-in_err-give-clause-cause g c =
-    let p = err_from_is_err_and c.from_residual-in_err-give.result c.from_residual-in_err-give.ensures.1 in
-    rw (p.1, p.2) (cause-in _ _ _ _ _ _ (queue-cause-since _ _ _ _ _ _ _ _ c.in-Ok.ensures.later c.in-Ok.ensures.faults c.in_err-give.ensures.cause))
+pub returns-in_err-feed_into-clause-cause : goal.returns-in_err-feed_into-clause-cause
+returns-in_err-feed_into-clause-cause g c =
+    let p = err_from_is_err_and c.from_residual.result c.from_residual.ensures.1 in
+    rw (p.1, p.2) (cause-in _ _ _ _ _ _ (queue-cause-since _ _ _ _ _ _ _ _ c.in-Ok.ensures.later c.in-Ok.ensures.faults c.in_err-feed_into.ensures.cause))
 
 pub returns-in-Err-clause-feed : goal.returns-in-Err-clause-feed
 returns-in-Err-clause-feed g c =
@@ -175,20 +149,20 @@ returns-in-Err-count_item-clause-feed g c =
     full-feed c.args.self.now (record c.args.self.now { queues = c.take_item.new.queues }) c.args.actor c.args.port c.args.arc c.in-Ok.item _ _ _ c.requires.head.1.1 refl
     (record { popped = c.in-Ok.ensures.popped; others = c.in-Ok.ensures.faces; first = c.in-Ok.ensures.items }) c.in-Err-count_item.ensures.err c.in-Err-count_item.ensures.too_much
 
-pub returns-in_err-give-clause-feed : goal.returns-in_err-give-clause-feed
-returns-in_err-give-clause-feed g c =
-    let p = err_from_is_err_and c.from_residual-in_err-give.result c.from_residual-in_err-give.ensures.1 in
-    rw (p.1, p.2) (feeds-none _ _ _ _ _ _ _ _ _ _ c.in_err-give.ensures.cause)
+pub returns-in_err-feed_into-clause-feed : goal.returns-in_err-feed_into-clause-feed
+returns-in_err-feed_into-clause-feed g c =
+    let p = err_from_is_err_and c.from_residual.result c.from_residual.ensures.1 in
+    rw (p.1, p.2) (feeds-none _ _ _ _ _ _ _ _ _ _ c.in_err-feed_into.ensures.cause)
 
-pub returns-in_err-give-clause-strange : goal.returns-in_err-give-clause-strange
-returns-in_err-give-clause-strange g c =
-    let p = err_from_is_err_and c.from_residual-in_err-give.result c.from_residual-in_err-give.ensures.1 in
-    rw (p.1, p.2) (λ told table agrees holds. changed-since _ _ _ c.in-Ok.ensures.later.honest (c.in_err-give.ensures.honest told))
+pub returns-in_err-feed_into-clause-strange : goal.returns-in_err-feed_into-clause-strange
+returns-in_err-feed_into-clause-strange g c =
+    let p = err_from_is_err_and c.from_residual.result c.from_residual.ensures.1 in
+    rw (p.1, p.2) (λ told table agrees holds. changed-since _ _ _ c.in-Ok.ensures.later.honest (c.in_err-feed_into.ensures.honest told))
 
-pub returns-in_err-give-clause-too_much : goal.returns-in_err-give-clause-too_much
-returns-in_err-give-clause-too_much g c =
-    let p = err_from_is_err_and c.from_residual-in_err-give.result c.from_residual-in_err-give.ensures.1 in
-    rw (p.1, p.2) (none-too-much _ _ _ _ _ _ (counts-none _ _ _ _ _ _ c.in_err-give.ensures.cause))
+pub returns-in_err-feed_into-clause-too_much : goal.returns-in_err-feed_into-clause-too_much
+returns-in_err-feed_into-clause-too_much g c =
+    let p = err_from_is_err_and c.from_residual.result c.from_residual.ensures.1 in
+    rw (p.1, p.2) (none-too-much _ _ _ _ _ _ (counts-none _ _ _ _ _ _ c.in_err-feed_into.ensures.cause))
 
 pub returns-in-Err-clause-stay : goal.returns-in-Err-clause-stay
 returns-in-Err-clause-stay g c = stays-same c.args.events.now.items
@@ -196,17 +170,37 @@ returns-in-Err-clause-stay g c = stays-same c.args.events.now.items
 pub returns-in-Err-count_item-clause-stay : goal.returns-in-Err-count_item-clause-stay
 returns-in-Err-count_item-clause-stay g c = stays-same c.args.events.now.items
 
-pub returns-in_err-feed_seat-clause-stay : goal.returns-in_err-feed_seat-clause-stay
-returns-in_err-feed_seat-clause-stay g c = stays-same c.args.events.now.items
-
 pub returns-clause-took : goal.returns-clause-took
 returns-clause-took g c =
     let is = slice_get_read c.args.self.now.seats.items _ c.args.actor c.index_mut.result.now refl c.requires.actor_in c.index_mut.ensures.value in
-    let after = slice_get-set_same c.args.self.now.seats.items c.args.actor c.feed_seat.new.seat c.requires.actor_in in
-    operator-took c.args.self.now _ c.args.actor 1 false c.requires.actor_in (length-set c.args.self.now.seats.items c.args.actor c.feed_seat.new.seat)
-    (fed-sum c.args.self.now.wires (length c.args.self.now.seats.items) c.requires.flow.shaped c.args.actor c.requires.actor_in c.args.self.now.queues c.take_item.new.queues c.give.new.queues c.args.port c.args.arc
-    c.requires.head.1.1 c.in-Ok.ensures.popped c.in-Ok.ensures.faces c.in_ok-give.ensures.sent.apart)
-    (goes-on c.args.self.now.over _ _ c.index_mut.result.now c.feed_seat.new.seat is after c.in_ok-feed_seat.ensures.fed.open_still c.requires.running)
+    let after = slice_get-set_same c.args.self.now.seats.items c.args.actor c.feed_into.new.seat c.requires.actor_in in
+    operator-took c.args.self.now _ c.args.actor 1 false c.requires.actor_in (length-set c.args.self.now.seats.items c.args.actor c.feed_into.new.seat)
+    (fed-sum c.args.self.now.wires (length c.args.self.now.seats.items) c.requires.flow.shaped c.args.actor c.requires.actor_in c.args.self.now.queues c.take_item.new.queues c.feed_into.new.queues c.args.port c.args.arc
+    c.requires.head.1.1 c.in-Ok.ensures.popped c.in-Ok.ensures.faces c.in_ok-feed_into.ensures.fed.sent.apart)
+    (goes-on c.args.self.now.over _ _ c.index_mut.result.now c.feed_into.new.seat is after c.in_ok-feed_into.ensures.fed.fed.open_still c.requires.running)
 
 pub returns-clause-later : goal.returns-clause-later
-returns-clause-later g c = IsLater-trans _ _ _ c.in-Ok.ensures.later c.in_ok-give.ensures.later
+returns-clause-later g c = IsLater-trans _ _ _ c.in-Ok.ensures.later c.in_ok-feed_into.ensures.later
+
+pub returns-in_err-feed_into-clause-prefix : goal.returns-in_err-feed_into-clause-prefix
+returns-in_err-feed_into-clause-prefix g c =
+    let p = err_from_is_err_and c.from_residual.result c.from_residual.ensures.1 in
+    let is = slice_get_read c.args.self.now.seats.items _ c.args.actor c.index_mut.result.now refl c.requires.actor_in c.index_mut.ensures.value in
+    let was = slice_get_read c.args.self.now.seats.items _ c.args.actor c.index.result.now refl c.requires.actor_in c.index.ensures in
+    let same = same_Some c.index.result.now c.index_mut.result.now (sym was ∙ is) in
+    rw p.1
+    (fed-part _ _ c.args.self.now c.requires.flow c.args.actor c.requires.head.0 c.args.port c.args.arc c.arc-at.result.now c.in-Ok.item c.requires.actor_in c.requires.head.1 c.index_mut.result.now is c.arc-at.ensures
+    (known (g.D.PageDisk.log c.args.disk.now)) (known (g.D.PageDisk.log c.take_item.new.disk)) (known (g.D.PageDisk.log c.feed_into.new.disk)) c.take_item.new.queues c.args.events.now.items c.feed_into.new.events.items
+    c.requires.together c.in-Ok.ensures.later.known c.in_err-feed_into.ensures.later.known c.in-Ok.ensures.items c.in-Ok.ensures.others c.in_err-feed_into.ensures.part
+    (subst (λ z. MayBeFed c.arc-at.result.now c.args.port z.tally.place c.args.self.now.clock c.in-Ok.item) same c.in-Ok.ensures.may_be_fed) c.requires.running)
+
+pub returns-in_err-feed_into-clause-cost_err : goal.returns-in_err-feed_into-clause-cost_err
+returns-in_err-feed_into-clause-cost_err g c =
+    let p = err_from_is_err_and c.from_residual.result c.from_residual.ensures.1 in
+    rw p.1 (costs-none _ _ c.args.self.now c.requires.flow (known (g.D.PageDisk.log c.args.disk.now)) (known (g.D.PageDisk.log c.feed_into.new.disk)) c.args.self.now.levels c.args.steps.now c.feed_into.new.steps c.in_err-feed_into.ensures.no_cost)
+
+pub returns-in_err-feed_into-clause-stay : goal.returns-in_err-feed_into-clause-stay
+returns-in_err-feed_into-clause-stay g c = c.in_err-feed_into.ensures.part.shown.stay
+
+pub returns-clause-stay : goal.returns-clause-stay
+returns-clause-stay g c = c.in_ok-feed_into.ensures.fed.shown.stay

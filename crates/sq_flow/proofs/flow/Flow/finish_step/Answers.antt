@@ -7,94 +7,97 @@ use Rattle.sq_flow.proofs.WireLemmas.{arcs-open, comes-from}
 use Rattle.sq_flow.proofs.CauseLemmas.{cause-in, counts-none, feeds-none}
 use Rattle.sq_flow.proofs.FutureLemmas.{slice_get-set_same, slice_get-set_other}
 use Rattle.sq_flow.proofs.Measures.{open-less}
-use Rattle.sq_flow.proofs.FinishedFlow.{seat-fine, runs, own-drops, finished-prefix, finished-stepped, finished-taken, finished-touches}
-use Rattle.sq_flow.proofs.EventLemmas.{below-outputs, stays-same}
+use Rattle.sq_flow.proofs.FinishedFlow.{seat-fine, runs, own-drops, finished-part, finished-stepped, finished-taken, finished-touches}
+use Rattle.sq_flow.proofs.EventLemmas.{below-outputs}
 use Rattle.sq_flow.proofs.TookLemmas.{ended-sum, operator-took, is-closed}
 use Rattle.sq_flow.proofs.flow.Flow.finish_step.Goals as goal
 
-pub give-requires-clause-there : goal.give-requires-clause-there
-give-requires-clause-there g c = arcs-open _ _ c.args.self.now c.requires.flow c.args.actor c.requires.running
-
-pub returns-in_err-give-clause-prefix : goal.returns-in_err-give-clause-prefix
-returns-in_err-give-clause-prefix g c =
-    let p = err_from_is_err_and c.from_residual-in_err-give.result c.from_residual-in_err-give.ensures.1 in
-    let is = slice_get_read c.args.self.now.seats.items _ c.args.actor c.index_mut.result.now refl c.requires.actor_in c.index_mut.ensures.value in
-    rw p.1
-    (finished-prefix _ _ c.args.self.now c.requires.flow c.args.actor c.requires.actor_in c.requires.head c.index_mut.result.now is
-    (known (g.D.PageDisk.log c.args.disk.now)) (known (g.D.PageDisk.log c.give.new.disk)) c.finish_seat.new.seat c.finish_seat.new.out.items.items c.finish_seat.new.out.drops.items c.args.events.now.items c.give.new.events.items
-    c.requires.together c.in_err-give.ensures.later.known c.in_ok-finish_seat.ensures.finished c.in_err-give.ensures.prefix c.requires.running c.in_err-give.ensures.drops_prefix)
+pub finish_into-requires-clause-there : goal.finish_into-requires-clause-there
+finish_into-requires-clause-there g c = arcs-open _ _ c.args.self.now c.requires.flow c.args.actor c.requires.running
 
 pub returns-clause-ok : goal.returns-clause-ok
 returns-clause-ok g c =
     let is = slice_get_read c.args.self.now.seats.items _ c.args.actor c.index_mut.result.now refl c.requires.actor_in c.index_mut.ensures.value in
     finished-stepped _ _ c.args.self.now c.requires.flow c.args.actor c.requires.actor_in c.requires.head c.index_mut.result.now is
-    (known (g.D.PageDisk.log c.args.disk.now)) (known (g.D.PageDisk.log c.give.new.disk)) c.give.new.queues c.end_arcs.new.queues _
-    c.finish_seat.new.seat c.finish_seat.new.out.items.items c.finish_seat.new.out.drops.items c.args.events.now.items c.give.new.events.items
-    c.requires.together c.in_ok-finish_seat.ensures.finished
-    (slice_get-set_same c.args.self.now.seats.items c.args.actor c.finish_seat.new.seat c.requires.actor_in)
-    (λ other ne. slice_get-set_other c.args.self.now.seats.items c.args.actor other c.finish_seat.new.seat ne)
-    (length-set c.args.self.now.seats.items c.args.actor c.finish_seat.new.seat)
-    c.in_ok-give.ensures.sent c.end_arcs.ensures.size c.end_arcs.ensures.frames c.end_arcs.ensures.ended c.end_arcs.ensures.items c.end_arcs.ensures.together c.in_ok-give.ensures.shown c.requires.running c.in_ok-give.ensures.drops
-    (c.in_ok-give.ensures.below (length c.args.self.now.seats.items - c.args.self.now.wires.shown) (below-outputs c.args.actor (length c.args.self.now.seats.items) c.args.self.now.wires.shown c.requires.actor_in)
+    (known (g.D.PageDisk.log c.args.disk.now)) (known (g.D.PageDisk.log c.finish_into.new.disk)) c.finish_into.new.queues c.end_arcs.new.queues _
+    c.finish_into.new.seat c.in_ok-finish_into.ensures.finished.items c.in_ok-finish_into.ensures.finished.drops c.args.events.now.items c.finish_into.new.events.items
+    c.requires.together c.in_ok-finish_into.ensures.finished.finished
+    (slice_get-set_same c.args.self.now.seats.items c.args.actor c.finish_into.new.seat c.requires.actor_in)
+    (λ other ne. slice_get-set_other c.args.self.now.seats.items c.args.actor other c.finish_into.new.seat ne)
+    (length-set c.args.self.now.seats.items c.args.actor c.finish_into.new.seat)
+    c.in_ok-finish_into.ensures.finished.sent c.end_arcs.ensures.size c.end_arcs.ensures.frames c.end_arcs.ensures.ended c.end_arcs.ensures.items c.end_arcs.ensures.together c.in_ok-finish_into.ensures.finished.shown.lines c.requires.running c.in_ok-finish_into.ensures.finished.shown.decided
+    (c.in_ok-finish_into.ensures.finished.shown.below (length c.args.self.now.seats.items - c.args.self.now.wires.shown) (below-outputs c.args.actor (length c.args.self.now.seats.items) c.args.self.now.wires.shown c.requires.actor_in)
     (own-drops _ _ c.args.self.now c.requires.flow c.args.actor c.requires.actor_in c.requires.head c.index_mut.result.now is
-    c.finish_seat.new.seat c.finish_seat.new.out.items.items c.finish_seat.new.out.drops.items c.in_ok-finish_seat.ensures.finished c.requires.running))
-    c.in_ok-give.ensures.plans
+    c.finish_into.new.seat c.in_ok-finish_into.ensures.finished.items c.in_ok-finish_into.ensures.finished.drops c.in_ok-finish_into.ensures.finished.finished c.requires.running))
+    c.in_ok-finish_into.ensures.finished.shown.plans
 
 pub returns-clause-measure : goal.returns-clause-measure
 returns-clause-measure g c =
     let is = slice_get_read c.args.self.now.seats.items _ c.args.actor c.index_mut.result.now refl c.requires.actor_in c.index_mut.ensures.value in
     let fine = seat-fine _ _ c.args.self.now c.requires.flow c.args.actor c.requires.actor_in c.requires.head c.index_mut.result.now is in
     let ran = sym fine.running ∙ runs _ _ c.args.self.now c.requires.flow c.args.actor c.requires.actor_in c.requires.head c.index_mut.result.now is c.requires.running in
-    let less = open-less c.args.self.now.seats.items c.args.actor c.index_mut.result.now c.finish_seat.new.seat is ran c.in_ok-finish_seat.ensures.finished.closed in
+    let less = open-less c.args.self.now.seats.items c.args.actor c.index_mut.result.now c.finish_into.new.seat is ran c.in_ok-finish_into.ensures.finished.finished.closed in
     omega (arith, less)
 
-pub give-requires-clause-joined : goal.give-requires-clause-joined
-give-requires-clause-joined g c = comes-from c.args.self.now.wires (length c.args.self.now.seats.items) c.requires.flow.shaped c.args.actor
+pub finish_into-requires-clause-joined : goal.finish_into-requires-clause-joined
+finish_into-requires-clause-joined g c = comes-from c.args.self.now.wires (length c.args.self.now.seats.items) c.requires.flow.shaped c.args.actor
 
 pub returns-clause-taken : goal.returns-clause-taken
 returns-clause-taken g c =
     let is = slice_get_read c.args.self.now.seats.items _ c.args.actor c.index_mut.result.now refl c.requires.actor_in c.index_mut.ensures.value in
     finished-taken _ _ c.args.self.now c.requires.flow c.args.actor c.requires.actor_in c.requires.head c.index_mut.result.now is
-    (with_item c.args.self.now.seats c.args.actor c.finish_seat.new.seat) c.end_arcs.new.queues c.finish_seat.new.seat c.in_ok-finish_seat.ensures.finished.counted
-    (slice_get-set_same c.args.self.now.seats.items c.args.actor c.finish_seat.new.seat c.requires.actor_in)
-    (λ other ne. slice_get-set_other c.args.self.now.seats.items c.args.actor other c.finish_seat.new.seat ne)
-    (length-set c.args.self.now.seats.items c.args.actor c.finish_seat.new.seat)
+    (with_item c.args.self.now.seats c.args.actor c.finish_into.new.seat) c.end_arcs.new.queues c.finish_into.new.seat c.in_ok-finish_into.ensures.finished.finished.counted
+    (slice_get-set_same c.args.self.now.seats.items c.args.actor c.finish_into.new.seat c.requires.actor_in)
+    (λ other ne. slice_get-set_other c.args.self.now.seats.items c.args.actor other c.finish_into.new.seat ne)
+    (length-set c.args.self.now.seats.items c.args.actor c.finish_into.new.seat)
 
 pub returns-clause-touches : goal.returns-clause-touches
 returns-clause-touches g c =
     let is = slice_get_read c.args.self.now.seats.items _ c.args.actor c.index_mut.result.now refl c.requires.actor_in c.index_mut.ensures.value in
     finished-touches _ _ c.args.self.now c.requires.flow c.args.actor c.requires.actor_in c.requires.head c.index_mut.result.now is
-    (known (g.D.PageDisk.log c.args.disk.now)) (known (g.D.PageDisk.log c.give.new.disk)) c.give.new.queues c.end_arcs.new.queues _ c.finish_seat.new.out.items.items
-    (λ other ne. slice_get-set_other c.args.self.now.seats.items c.args.actor other c.finish_seat.new.seat ne)
-    c.in_ok-give.ensures.sent c.end_arcs.ensures.ended c.end_arcs.ensures.first c.end_arcs.ensures.apart
+    (known (g.D.PageDisk.log c.args.disk.now)) (known (g.D.PageDisk.log c.finish_into.new.disk)) c.finish_into.new.queues c.end_arcs.new.queues _ c.in_ok-finish_into.ensures.finished.items
+    (λ other ne. slice_get-set_other c.args.self.now.seats.items c.args.actor other c.finish_into.new.seat ne)
+    c.in_ok-finish_into.ensures.finished.sent c.end_arcs.ensures.ended c.end_arcs.ensures.first c.end_arcs.ensures.apart
 
-pub returns-in_err-give-clause-cause : goal.returns-in_err-give-clause-cause
-returns-in_err-give-clause-cause g c =
-    let p = err_from_is_err_and c.from_residual-in_err-give.result c.from_residual-in_err-give.ensures.1 in
-    rw (p.1, p.2) (cause-in _ _ _ _ _ _ c.in_err-give.ensures.cause)
+pub returns-in_err-finish_into-clause-cause : goal.returns-in_err-finish_into-clause-cause
+returns-in_err-finish_into-clause-cause g c =
+    let p = err_from_is_err_and c.from_residual.result c.from_residual.ensures.1 in
+    rw (p.1, p.2) (cause-in _ _ _ _ _ _ c.in_err-finish_into.ensures.cause)
 
-pub returns-in_err-give-clause-feed : goal.returns-in_err-give-clause-feed
-returns-in_err-give-clause-feed g c =
-    let p = err_from_is_err_and c.from_residual-in_err-give.result c.from_residual-in_err-give.ensures.1 in
-    rw (p.1, p.2) (feeds-none _ _ _ _ _ _ _ _ _ _ c.in_err-give.ensures.cause)
+pub returns-in_err-finish_into-clause-feed : goal.returns-in_err-finish_into-clause-feed
+returns-in_err-finish_into-clause-feed g c =
+    let p = err_from_is_err_and c.from_residual.result c.from_residual.ensures.1 in
+    rw (p.1, p.2) (feeds-none _ _ _ _ _ _ _ _ _ _ c.in_err-finish_into.ensures.cause)
 
-pub returns-in_err-give-clause-strange : goal.returns-in_err-give-clause-strange
-returns-in_err-give-clause-strange g c =
-    let p = err_from_is_err_and c.from_residual-in_err-give.result c.from_residual-in_err-give.ensures.1 in
-    rw (p.1, p.2) (λ told table agrees holds. c.in_err-give.ensures.honest told)
+pub returns-in_err-finish_into-clause-strange : goal.returns-in_err-finish_into-clause-strange
+returns-in_err-finish_into-clause-strange g c =
+    let p = err_from_is_err_and c.from_residual.result c.from_residual.ensures.1 in
+    rw (p.1, p.2) (λ told table agrees holds. c.in_err-finish_into.ensures.honest told)
 
-pub returns-in_err-give-clause-memory : goal.returns-in_err-give-clause-memory
-returns-in_err-give-clause-memory g c =
-    let p = err_from_is_err_and c.from_residual-in_err-give.result c.from_residual-in_err-give.ensures.1 in
-    rw (p.1, p.2) (counts-none _ _ _ _ _ _ c.in_err-give.ensures.cause)
-
-pub returns-in_err-finish_seat-clause-stay : goal.returns-in_err-finish_seat-clause-stay
-returns-in_err-finish_seat-clause-stay g c = stays-same c.args.events.now.items
+pub returns-in_err-finish_into-clause-memory : goal.returns-in_err-finish_into-clause-memory
+returns-in_err-finish_into-clause-memory g c =
+    let p = err_from_is_err_and c.from_residual.result c.from_residual.ensures.1 in
+    rw (p.1, p.2) (counts-none _ _ _ _ _ _ c.in_err-finish_into.ensures.cause)
 
 pub returns-clause-took : goal.returns-clause-took
 returns-clause-took g c =
-    let after = slice_get-set_same c.args.self.now.seats.items c.args.actor c.finish_seat.new.seat c.requires.actor_in in
+    let after = slice_get-set_same c.args.self.now.seats.items c.args.actor c.finish_into.new.seat c.requires.actor_in in
     let sums = ended-sum c.args.self.now.wires (length c.args.self.now.seats.items) c.requires.flow.shaped c.args.actor c.requires.actor_in c.args.self.now.queues c.end_arcs.new.queues
-    (λ arc away. c.end_arcs.ensures.apart arc away ∙ c.in_ok-give.ensures.sent.apart arc away) in
-    operator-took c.args.self.now _ c.args.actor 0 true c.requires.actor_in (length-set c.args.self.now.seats.items c.args.actor c.finish_seat.new.seat) (omega (arith, sums))
-    (is-closed c.args.self.now.over _ c.finish_seat.new.seat after c.in_ok-finish_seat.ensures.finished.closed)
+    (λ arc away. c.end_arcs.ensures.apart arc away ∙ c.in_ok-finish_into.ensures.finished.sent.apart arc away) in
+    operator-took c.args.self.now _ c.args.actor 0 true c.requires.actor_in (length-set c.args.self.now.seats.items c.args.actor c.finish_into.new.seat) (omega (arith, sums))
+    (is-closed c.args.self.now.over _ c.finish_into.new.seat after c.in_ok-finish_into.ensures.finished.finished.closed)
+
+pub returns-in_err-finish_into-clause-prefix : goal.returns-in_err-finish_into-clause-prefix
+returns-in_err-finish_into-clause-prefix g c =
+    let p = err_from_is_err_and c.from_residual.result c.from_residual.ensures.1 in
+    let is = slice_get_read c.args.self.now.seats.items _ c.args.actor c.index_mut.result.now refl c.requires.actor_in c.index_mut.ensures.value in
+    rw p.1
+    (finished-part _ _ c.args.self.now c.requires.flow c.args.actor c.requires.actor_in c.requires.head c.index_mut.result.now is
+    (known (g.D.PageDisk.log c.args.disk.now)) (known (g.D.PageDisk.log c.finish_into.new.disk)) c.args.events.now.items c.finish_into.new.events.items
+    c.requires.together c.in_err-finish_into.ensures.later.known c.in_err-finish_into.ensures.part c.requires.running)
+
+pub returns-in_err-finish_into-clause-stay : goal.returns-in_err-finish_into-clause-stay
+returns-in_err-finish_into-clause-stay g c = c.in_err-finish_into.ensures.part.shown.stay
+
+pub returns-clause-stay : goal.returns-clause-stay
+returns-clause-stay g c = c.in_ok-finish_into.ensures.finished.shown.stay

@@ -89,7 +89,6 @@ steps-preserved g c =
       cost = costs-after _ _ _ _ _ _ _ _ c.steps.invariant.stepped c.one_step.new.self c.args.steps.now c.steps.steps c.one_step.new.steps c.steps.invariant.cost c.in-Ok.ensures.cost;
       falls = omega (arith, falls, less);
       begun = λ none. absurd (omega (arith, none));
-      none = c.in-Ok.ensures.none;
       stay = stays-both _ _ _ c.steps.invariant.stay c.in-Ok.ensures.stay;
       took = λ running.
           took-both c.args.actor c.args.self.now c.steps.self c.one_step.new.self c.steps.fed 1 false false (c.steps.invariant.took running)

@@ -1,4 +1,4 @@
-use Rattle.std.proofs.Common.{◌≡◌, ◌≤◌, ◌+◌, ◌-◌, [], false}
+use Rattle.std.proofs.Common.{◌≡◌, ◌≤◌, ◌+◌, ◌-◌, false}
 use Rattle.sq_pool.specs.Trust.{IsLater, known}
 use Rattle.std.specs.Prelude.{slice_get}
 use Rattle.sq_flow.specs.Seats.{done_at}
@@ -17,7 +17,6 @@ invariant-steps g l =
       cost : CostsFed (record { rest = op.rest; decides = op.decides; lost = op.lost; place = op.place; taken = op.taken; running = op.running; takes_marks = op.takes_marks; fits = op.fits; reads = op.reads }) l.fn.self l.self l.fn.steps l.steps;
       falls : measure_of l.self + l.fed ≤ measure_of l.fn.self;
       begun : l.fed ≡ 0 → l.self ≡ l.fn.self;
-      none : (l.outs.items.items ≡ []) × (l.outs.drops.items ≡ []);
       stay : IsPrefixOf l.fn.events.items l.events.items;
       took : done_at l.fn.self.over (slice_get l.fn.self.seats.items l.actor) ≡ false → Took l.actor l.fed false l.fn.self l.self;
       few : l.fed ≤ l.train;

@@ -9,8 +9,8 @@ use Rattle.sq_join.specs.Sides.{join_rest}
 use Rattle.sq_join.proofs.JoinLemmas.{fed_sound, fed_prefix, fed_law, fed_times, fed_left, fed_right, near_left, near_right}
 use Rattle.sq_join.proofs.join.JoinBoxOperator.feed.Goals as goal
 
-pub take-requires : goal.take-requires
-take-requires g c =
+pub take-requires-clause-sound : goal.take-requires-clause-sound
+take-requires-clause-sound g c =
     let b = c.args.self.now in
     let v = c.requires.is_valid in
     rw (c.let_go.ensures.left, c.let_go.ensures.right)
@@ -23,7 +23,7 @@ returns-in_err-take-clause-prefix g c =
     let began = rw (c.let_go.ensures.left, c.let_go.ensures.right) at c.in_err-take.ensures.prefix in
     OnErr-from c.from_residual.result (λ table future agrees may q.
     fed_prefix b.size b.on.tree b.on.scope b.sides.left.items b.sides.right.items b.tally.place c.args.port c.args.item c.in-Some.fields (sym c.get.ensures ∙ c.in-Some.is) c.requires.is_sound c.requires.may_come v.0 v.1
-    future may q (given q c.args.out.now.items.items) (given q c.take.new.out.items.items) (began q))
+    future may q (given q (g.T.Outlet.items c.args.out.now)) (given q (g.T.Outlet.items c.take.new.out)) (began q))
 
 pub returns-in_ok-take-clause-law : goal.returns-in_ok-take-clause-law
 returns-in_ok-take-clause-law g c =
@@ -34,8 +34,8 @@ returns-in_ok-take-clause-law g c =
     let right = rw c.let_go.ensures.right at c.in_ok-take.ensures.right in
     λ table future agrees may q.
     fed_law b.size b.on.tree b.on.scope b.sides.left.items b.sides.right.items b.tally.place c.args.port c.args.item c.in-Some.fields (sym c.get.ensures ∙ c.in-Some.is) c.requires.is_sound c.requires.may_come v.0 v.1
-    future may q (given q c.args.out.now.items.items) (given q c.take.new.out.items.items) (gave q)
-    ∙ ap₂ (λ l r. given q c.take.new.out.items.items ++ join_rest b.size b.on.tree l r future q) (sym left) (sym right)
+    future may q (given q (g.T.Outlet.items c.args.out.now)) (given q (g.T.Outlet.items c.take.new.out)) (gave q)
+    ∙ ap₂ (λ l r. given q (g.T.Outlet.items c.take.new.out) ++ join_rest b.size b.on.tree l r future q) (sym left) (sym right)
 
 pub returns-in_ok-take-clause-times : goal.returns-in_ok-take-clause-times
 returns-in_ok-take-clause-times g c =

@@ -22,15 +22,15 @@ returns-in_err-give_ready-clause-prefix g c =
     let b = c.args.self.now in
     OnErr-from c.from_residual.result (λ table future agrees may q.
     fed_prefix (g.F.Fold.table b.fold) (g.F.Fold.width b.fold) b.size b.waiting.items b.held.tuples.items b.tally.place c.args.port c.args.item c.in-Some.fields (sym c.get.ensures ∙ c.in-Some.is) c.requires.is_sound c.requires.may_come c.requires.is_valid.0
-    future may q (given q c.args.out.now.items.items) (given q c.give_ready.new.out.items.items) (c.in_err-give_ready.ensures.prefix q))
+    future may q (given q (g.T.Outlet.items c.args.out.now)) (given q (g.T.Outlet.items c.give_ready.new.out)) (c.in_err-give_ready.ensures.prefix q))
 
 pub returns-in_err-hold-clause-prefix : goal.returns-in_err-hold-clause-prefix
 returns-in_err-hold-clause-prefix g c =
     let b = c.args.self.now in
     OnErr-from c.from_residual-in_err-hold.result (λ table future agrees may q.
     fed_prefix (g.F.Fold.table b.fold) (g.F.Fold.width b.fold) b.size b.waiting.items b.held.tuples.items b.tally.place c.args.port c.args.item c.in-Some.fields (sym c.get.ensures ∙ c.in-Some.is) c.requires.is_sound c.requires.may_come c.requires.is_valid.0
-    future may q (given q c.args.out.now.items.items) (given q c.give_ready.new.out.items.items)
-    ([], sym (c.in_ok-give_ready.ensures.given q) ∙ sym (append-nil (given q c.give_ready.new.out.items.items))))
+    future may q (given q (g.T.Outlet.items c.args.out.now)) (given q (g.T.Outlet.items c.give_ready.new.out))
+    ([], sym (c.in_ok-give_ready.ensures.given q) ∙ sym (append-nil (given q (g.T.Outlet.items c.give_ready.new.out)))))
 
 pub returns-in_ok-hold-clause-law : goal.returns-in_ok-hold-clause-law
 returns-in_ok-hold-clause-law g c =
@@ -39,8 +39,8 @@ returns-in_ok-hold-clause-law g c =
     let held = rw c.in_ok-give_ready.ensures.held at c.in_ok-hold.ensures.held in
     λ table future agrees may q.
     fed_law (g.F.Fold.table b.fold) (g.F.Fold.width b.fold) b.size b.waiting.items b.held.tuples.items b.tally.place c.args.port c.args.item c.in-Some.fields (sym c.get.ensures ∙ c.in-Some.is) c.requires.is_sound c.requires.may_come c.requires.is_valid.0
-    future may q (given q c.args.out.now.items.items) (given q c.give_ready.new.out.items.items) (c.in_ok-give_ready.ensures.given q)
-    ∙ ap₂ (λ (l r : List Tuple). given q c.give_ready.new.out.items.items ++ resample_rest (g.F.Fold.table b.fold) b.size l r future q) (sym waiting) (sym held)
+    future may q (given q (g.T.Outlet.items c.args.out.now)) (given q (g.T.Outlet.items c.give_ready.new.out)) (c.in_ok-give_ready.ensures.given q)
+    ∙ ap₂ (λ (l r : List Tuple). given q (g.T.Outlet.items c.give_ready.new.out) ++ resample_rest (g.F.Fold.table b.fold) b.size l r future q) (sym waiting) (sym held)
 
 pub returns-in_ok-hold-clause-times : goal.returns-in_ok-hold-clause-times
 returns-in_ok-hold-clause-times g c =
@@ -91,10 +91,10 @@ hold-requires-clause-few g c =
     omega (arith, few, most, room, same)
 
 pub returns-in_err-give_ready-clause-keeps_decisions : goal.returns-in_err-give_ready-clause-keeps_decisions
-returns-in_err-give_ready-clause-keeps_decisions g c = ([], c.give_ready.ensures.drops ∙ sym (append-nil c.args.out.now.drops.items))
+returns-in_err-give_ready-clause-keeps_decisions g c = ([], c.give_ready.ensures.drops ∙ sym (append-nil (g.T.Outlet.drops c.args.out.now)))
 
 pub returns-in_err-hold-clause-keeps_decisions : goal.returns-in_err-hold-clause-keeps_decisions
-returns-in_err-hold-clause-keeps_decisions g c = ([], c.give_ready.ensures.drops ∙ sym (append-nil c.args.out.now.drops.items))
+returns-in_err-hold-clause-keeps_decisions g c = ([], c.give_ready.ensures.drops ∙ sym (append-nil (g.T.Outlet.drops c.args.out.now)))
 
 pub returns-in_ok-hold-clause-keeps_decisions : goal.returns-in_ok-hold-clause-keeps_decisions
-returns-in_ok-hold-clause-keeps_decisions g c = ([], c.give_ready.ensures.drops ∙ sym (append-nil c.args.out.now.drops.items))
+returns-in_ok-hold-clause-keeps_decisions g c = ([], c.give_ready.ensures.drops ∙ sym (append-nil (g.T.Outlet.drops c.args.out.now)))

@@ -1,0 +1,122 @@
+use Rattle.std.proofs.Common.{rules, ◌≡◌, ◌++◌, refl, subst}
+use Rattle.sq_value.specs.Lists.{IsPrefixOf}
+use Rattle.sq_pool.specs.Trust.{Tells, known}
+use Rattle.sq_oper.specs.Given.{given}
+use Rattle.sq_oper.specs.Entries.{entries}
+use Rattle.sq_flow.specs.Causes.{IsQueueCause}
+use Rattle.sq_flow.specs.Takes.{NotChanged}
+use Rattle.sq_flow.proofs.OnwardLemmas.{came-open, feeds-into, was-shown, of-fault}
+use Rattle.sq_flow.proofs.seats.feed_into.Goals as goal
+
+pub feed-done-requires-clause-is_ready : goal.feed-done-requires-clause-is_ready
+feed-done-requires-clause-is_ready g c =
+    record { within = c.requires.within; shown = c.requires.shown; there = c.requires.there; joined = c.requires.joined; together = c.requires.together; whole = refl }
+
+pub returns-in-Ok-clause-fed : goal.returns-in-Ok-clause-fed
+returns-in-Ok-clause-fed g c =
+    let came =
+    came-open g.D.PageDisk.log g.D.PageDisk.faults _ _ c.requires.within c.requires.shown c.requires.there c.requires.joined c.requires.together refl c.new.ensures
+    c.feed-done.ensures.came in
+    let queues = came.holds.queues in
+    let disk = came.holds.disk in
+    let events = came.holds.events in
+    let told = c.in-Ok.ensures in
+    let none = c.new.ensures in
+    feeds-into g.D.PageDisk.log g.D.PageDisk.faults _ _ _ _ _ _ came _ _ _ (search rules) (search rules) (search rules) told.stays_ready.whole c.args.levels.now c.args.port c.args.item
+    (record {
+      law = λ table future agrees may q.
+          subst (λ items. given q items ++ g.O.Operator.rest c.args.seat.now.op table (entries c.args.port c.args.item ++ future) q ≡ given q c.feed-done.new.out.noted.items ++ g.O.Operator.rest c.feed-done.new.self table future q) none.0
+          (told.law table future agrees may q);
+      decided = λ table future agrees may.
+          subst (λ drops. drops ++ g.O.Operator.decides c.args.seat.now.op table (entries c.args.port c.args.item ++ future) ≡ c.feed-done.new.out.noted.drops ++ g.O.Operator.decides c.feed-done.new.self table future) none.1
+          (told.decided table future agrees may);
+      loses = told.loses;
+      times = told.times;
+      sound = told.sound (rw none.0 tt);
+      moves = told.moves;
+      counted = told.counted;
+      is_valid = told.stays_valid.0;
+      running = told.stays_valid.1;
+      marks = told.same.0;
+      fits = told.same.1;
+      reads = told.same_epoch;
+      place = c.note.ensures.place;
+      taken = c.note.ensures.taken;
+      open_still = c.note.ensures.running;
+    })
+
+pub returns-in-Err-clause-part : goal.returns-in-Err-clause-part
+returns-in-Err-clause-part g c =
+    let came =
+    came-open g.D.PageDisk.log g.D.PageDisk.faults _ _ c.requires.within c.requires.shown c.requires.there c.requires.joined c.requires.together refl c.new.ensures
+    c.feed-done.ensures.came in
+    let events = came.holds.events in
+    let told = c.in-Err.ensures in
+    let none = c.new.ensures in
+    record {
+      items = c.feed-done.new.out.noted.items;
+      drops = c.feed-done.new.out.noted.drops;
+      law = λ table future agrees may q.
+          subst (λ items. IsPrefixOf (given q c.feed-done.new.out.noted.items) (given q items ++ g.O.Operator.rest c.args.seat.now.op table (entries c.args.port c.args.item ++ future) q)) none.0
+          (told.prefix table future agrees may q);
+      decided = λ table future agrees may.
+          subst (λ drops. IsPrefixOf c.feed-done.new.out.noted.drops (drops ++ g.O.Operator.decides c.args.seat.now.op table (entries c.args.port c.args.item ++ future))) none.1
+          (told.decided_prefix table future agrees may);
+      shown = was-shown g.D.PageDisk.log g.D.PageDisk.faults _ _ came _ (search rules);
+    }
+
+pub returns-in-Ok-clause-faults : goal.returns-in-Ok-clause-faults
+returns-in-Ok-clause-faults g c =
+    let came =
+    came-open g.D.PageDisk.log g.D.PageDisk.faults _ _ c.requires.within c.requires.shown c.requires.there c.requires.joined c.requires.together refl c.new.ensures
+    c.feed-done.ensures.came in
+    let disk = came.holds.disk in
+    let rises = came.rises in search rules
+
+pub returns-in-Ok-clause-later : goal.returns-in-Ok-clause-later
+returns-in-Ok-clause-later g c =
+    let came =
+    came-open g.D.PageDisk.log g.D.PageDisk.faults _ _ c.requires.within c.requires.shown c.requires.there c.requires.joined c.requires.together refl c.new.ensures
+    c.feed-done.ensures.came in
+    let disk = came.holds.disk in
+    let later = came.later in search rules
+
+pub returns-in-Err-clause-faults : goal.returns-in-Err-clause-faults
+returns-in-Err-clause-faults g c =
+    let came =
+    came-open g.D.PageDisk.log g.D.PageDisk.faults _ _ c.requires.within c.requires.shown c.requires.there c.requires.joined c.requires.together refl c.new.ensures
+    c.feed-done.ensures.came in
+    let disk = came.holds.disk in
+    let rises = came.rises in search rules
+
+pub returns-in-Err-clause-later : goal.returns-in-Err-clause-later
+returns-in-Err-clause-later g c =
+    let came =
+    came-open g.D.PageDisk.log g.D.PageDisk.faults _ _ c.requires.within c.requires.shown c.requires.there c.requires.joined c.requires.together refl c.new.ensures
+    c.feed-done.ensures.came in
+    let disk = came.holds.disk in
+    let later = came.later in search rules
+
+pub returns-in-Err-clause-cause : goal.returns-in-Err-clause-cause
+returns-in-Err-clause-cause g c =
+    let came =
+    came-open g.D.PageDisk.log g.D.PageDisk.faults _ _ c.requires.within c.requires.shown c.requires.there c.requires.joined c.requires.together refl c.new.ensures
+    c.feed-done.ensures.came in
+    let queues = came.holds.queues in
+    let disk = came.holds.disk in
+    let told =
+    of-fault c.feed-done.new.out.failed
+    (IsQueueCause c.feed-done.new.out.queues.now (g.D.PageDisk.log c.args.disk.now) (g.D.PageDisk.log c.feed-done.new.out.disk.now) (g.D.PageDisk.faults c.args.disk.now) (g.D.PageDisk.faults c.feed-done.new.out.disk.now))
+    came.cause tt in
+    search rules
+
+pub returns-in-Err-clause-honest : goal.returns-in-Err-clause-honest
+returns-in-Err-clause-honest g c =
+    let came =
+    came-open g.D.PageDisk.log g.D.PageDisk.faults _ _ c.requires.within c.requires.shown c.requires.there c.requires.joined c.requires.together refl c.new.ensures
+    c.feed-done.ensures.came in
+    let disk = came.holds.disk in
+    let told =
+    of-fault c.feed-done.new.out.failed (λ e. Tells (known (g.D.PageDisk.log c.feed-done.new.out.disk.now)) → NotChanged (g.D.PageDisk.log c.args.disk.now).honest e) came.honest (λ known. tt)
+    in
+    search rules

@@ -1,0 +1,82 @@
+//! Where what an actor gives goes: on at once, so that no list of it stands anywhere.
+
+ghost use Rattle.std.specs.Prelude.{◌≡◌};
+ghost use Rattle.sq_flow.specs.Causes.{fault_or};
+
+use crate::errors::RunErr;
+use crate::noted::Noted;
+use crate::sending::{pass_on, show_drop};
+use crate::wires::Wires;
+use sq_item::Item;
+use sq_oper::{Decision, Event, Outlet};
+use sq_outside::PageDisk;
+use sq_queue::Queues;
+use std::alloc::{AllocError, Global};
+
+/// The outlet of an actor: its items go into the queues of the arcs that come from it, or are shown, and its decisions are shown.
+/// It keeps the fault that it met.
+pub(crate) struct Onward<'a, 'b, 'c, 'd, D: PageDisk> {
+    pub wires: &'a Wires,
+    pub queues: &'b mut Queues,
+    pub disk: &'c mut D,
+    pub events: &'d mut Vec<Event>,
+    pub actor: u32,
+    pub failed: Option<RunErr>,
+    pub noted: Noted,
+}
+
+impl<D: PageDisk> Outlet for Onward<'_, '_, '_, '_, D> {
+    ghost use Rattle.sq_flow.specs.Onwards.{IsOpen, Came};
+
+    ghost items = { λ s. s.noted.items };
+
+    ghost drops = { λ s. s.noted.drops };
+
+    ghost ready = { λ s. IsOpen D.log s };
+
+    ghost came = { λ start s. Came D.log D.faults start s };
+
+    fn alloc(&self) -> Global {
+        *self.events.allocator()
+    }
+
+    #[inline(always)]
+    fn give(&mut self, port: u32, item: Item) -> Result<(), AllocError> {
+        let noted = self.noted.with(port, &item);
+        match pass_on(
+            self.wires,
+            self.queues,
+            self.disk,
+            self.actor,
+            port,
+            item,
+            self.events,
+        ) {
+            Ok(()) => {
+                self.noted = noted;
+                Ok(())
+            }
+            Err(e) => {
+                self.failed = Some(e);
+                Err(AllocError)
+            }
+        }
+    }
+
+    fn decide(&mut self, decision: Decision) -> Result<(), AllocError> {
+        let noted = self.noted.with_drop(&decision);
+        show_drop(decision, self.events)?;
+        self.noted = noted;
+        Ok(())
+    }
+}
+
+/// Why an operator failed: the fault that its outlet met, or want of memory.
+pub(crate) fn fault_of(failed: Option<RunErr>, e: AllocError) -> RunErr
+    ensures { result ≡ fault_or failed }
+{
+    match failed {
+        Some(fault) => fault,
+        None => RunErr::from(e),
+    }
+}
