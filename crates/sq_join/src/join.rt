@@ -12,6 +12,7 @@ ghost use Rattle.sq_oper.specs.Streams.{things, at_zero};
 ghost use Rattle.sq_join.specs.Elements.{side_of, elements_of};
 ghost use Rattle.sq_join.specs.Sides.{join_rest, join_fits, most_at, IsSide};
 
+use crate::condition::Condition;
 use crate::sides::take;
 use sq_expr::Typed;
 use sq_item::Item;
@@ -29,7 +30,7 @@ use std::sync::ledger::Ledger;
 #[derive(Drop)]
 pub struct JoinBox {
     size: u64,
-    on: Typed,
+    on: Condition,
     sides: Sides,
     tally: Tally,
 }
@@ -53,7 +54,7 @@ impl JoinBox {
     {
         JoinBox {
             size,
-            on,
+            on: Condition::of(alloc, on),
             sides: Sides::new(alloc),
             tally: Tally::new(),
         }

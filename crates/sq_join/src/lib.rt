@@ -5,6 +5,7 @@
 //! state keeps only tuples that a later one can still meet. Below stand the law, the list functions and expressions.
 #![tactic(auto)]
 
+mod condition;
 mod join;
 mod sides;
 

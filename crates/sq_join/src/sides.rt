@@ -7,9 +7,9 @@ ghost use Rattle.sq_lists.specs.Sides.{against, left_with, pair_at, pairs_with, 
 ghost use Rattle.sq_oper.specs.Given.{given, ItemsSound};
 ghost use Rattle.sq_oper.specs.Streams.{IsSoundTuple, things, at_zero};
 
-use sq_expr::Typed;
+use crate::condition::Condition;
 use sq_item::{Body, Item, Sign};
-use sq_lists::{Sides, passing_pair};
+use sq_lists::Sides;
 use sq_oper::Outlet;
 use sq_value::Tuple;
 use std::alloc::{AllocError, Global};
@@ -18,7 +18,7 @@ use std::collections::VecDeque;
 /// Gives the pair of a tuple with one of the other side, if it passes.
 fn give_pair<T: Outlet>(
     alloc: Global,
-    on: &Typed,
+    on: &Condition,
     side: u32,
     x: &Tuple,
     other: &Tuple,
@@ -35,7 +35,7 @@ fn give_pair<T: Outlet>(
     ensures stays_ready { OnOk result (T.ready out.new) }
     ensures came { (start : T) → T.came start out.old → T.came start out.new }
 {
-    if let Some(pair) = passing_pair(alloc, on, side, x, other)? {
+    if let Some(pair) = on.passing_pair(alloc, side, x, other)? {
         let Tuple { time, fields } = pair;
         out.give(
             0,
@@ -51,7 +51,7 @@ fn give_pair<T: Outlet>(
 
 /// Gives the pairs of a tuple with those of the other side, in their order.
 fn give_pairs<T: Outlet>(
-    on: &Typed,
+    on: &Condition,
     side: u32,
     x: &Tuple,
     others: &VecDeque<Tuple>,
@@ -79,7 +79,7 @@ fn give_pairs<T: Outlet>(
 /// Gives the pairs of a tuple that comes at a side with all that is held of the other side, and holds it.
 pub fn take<T: Outlet>(
     sides: &mut Sides,
-    on: &Typed,
+    on: &Condition,
     side: u32,
     x: Tuple,
     out: &mut T,

@@ -1,0 +1,124 @@
+//! What a pair has to pass.
+
+ghost use Rattle.std.specs.Prelude.{◌≡◌, ◌++◌, ◌∷◌, [], IfOk, IfSome, false, true};
+ghost use Rattle.std.specs.Option.{option_to_list};
+ghost use Rattle.sq_value.specs.declared.Value.{Value as V};
+ghost use Rattle.sq_value.specs.Values.{field};
+ghost use Rattle.sq_expr.specs.Expressions.{holds_of, pair_of};
+ghost use Rattle.sq_lists.specs.Sides.{pairs_with};
+ghost use Rattle.sq_join.specs.Equal.{Equates};
+
+use sq_expr::{Typed, equated_fields};
+use sq_lists::passing_pair;
+use sq_value::{Tuple, Value};
+use std::alloc::{AllocError, Global};
+use std::marker::Model;
+
+/// A predicate on pairs, with two places of a pair, where it has some, whose values are the same in each pair that passes:
+/// where these are numbers that differ the predicate isn't asked. Contracts see the predicate.
+#[derive(Drop)]
+pub(crate) struct Condition {
+    on: Typed,
+    equal: Option<(usize, usize)>,
+}
+
+impl Model for Condition {
+    ghost use Rattle.std.specs.Prelude.{IfSome};
+    ghost use Rattle.sq_expr.specs.Trees.{Checked, checked_code};
+    ghost use Rattle.sq_join.specs.Equal.{Equates};
+
+    ghost Value = { Checked };
+
+    ghost coded = { checked_code };
+
+    ghost view = { λ a. a.on };
+
+    ghost invariant = { λ a. IfSome a.equal (Equates a.on.tree) };
+}
+
+/// The first two places that a predicate equates, where it equates any and there is memory to find them.
+fn first_equated(alloc: Global, on: &Typed) -> Option<(usize, usize)>
+    ensures { IfSome result (Equates on.now.tree) }
+{
+    let Ok(pairs) = equated_fields(alloc, on) else {
+        return None;
+    };
+    match pairs.first() {
+        Some(places) => Some(*places),
+        None => None,
+    }
+}
+
+/// The number at a place of a pair, where one stands there. The left fields stand first.
+#[inline(always)]
+fn number_at(left: &[Value], right: &[Value], place: usize) -> Option<i64>
+    ensures { IfSome result (λ number. field (left.now ++ right.now) place ≡ V.Int number) }
+{
+    let value = if place < left.len() {
+        left.get(place)
+    } else {
+        right.get(place - left.len())
+    };
+    match value {
+        Some(Value::Int(number)) => Some(*number),
+        _ => None,
+    }
+}
+
+/// Whether numbers stand at two places of a pair, and differ.
+#[inline(always)]
+fn differ(left: &Tuple, right: &Tuple, places: (usize, usize)) -> bool
+    ensures { result ≡ true → field (pair_of left.now right.now).fields places.0 ≡ field (pair_of left.now right.now).fields places.1 → ⊥ }
+{
+    let (first, second) = (left.fields.as_slice(), right.fields.as_slice());
+    match (
+        number_at(first, second, places.0),
+        number_at(first, second, places.1),
+    ) {
+        (Some(one), Some(other)) => one != other,
+        _ => false,
+    }
+}
+
+impl Condition {
+    /// The condition that a predicate is true of a pair.
+    pub(crate) fn of(alloc: Global, on: Typed) -> Condition
+        ensures { result ≡ on }
+    {
+        let equal = first_equated(alloc, &on);
+        Condition { on, equal }
+    }
+
+    /// Whether a pair may pass.
+    #[inline(always)]
+    fn may_pass(&self, left: &Tuple, right: &Tuple) -> bool
+        ensures { result ≡ false → holds_of self.now.tree (pair_of left.now right.now) ≡ false }
+    {
+        match self.equal {
+            Some(places) => !differ(left, right, places),
+            None => true,
+        }
+    }
+
+    /// A tuple that comes at a side in one with a tuple of the other side, if the pair passes. Side 0 is the left one.
+    #[inline(always)]
+    pub(crate) fn passing_pair(
+        &self,
+        alloc: Global,
+        side: u32,
+        x: &Tuple,
+        other: &Tuple,
+    ) -> Result<Option<Tuple>, AllocError>
+        ensures { IfOk result (λ o. option_to_list o ≡ pairs_with self.now.tree side x.now (other.now ∷ [])) }
+    {
+        let may_pass = if side == 0 {
+            self.may_pass(x, other)
+        } else {
+            self.may_pass(other, x)
+        };
+        if !may_pass {
+            return Ok(None);
+        }
+        passing_pair(alloc, &self.on, side, x, other)
+    }
+}
