@@ -6,6 +6,7 @@ ghost use Rattle.sq_pane.specs.Panes.{key_cmp, from_pane, window_from, total, Al
 ghost use Rattle.sq_pane.specs.Blocks.{IsJoin};
 ghost use Rattle.sq_pane.specs.States.{states_of, HaveBlocks};
 
+use crate::key::Key;
 use crate::line::{Line, add_to_line, joined_in, keep_from, line_of_one};
 use crate::width::pane_shift;
 use sq_aggfn::{Fold, Group, WindowSpec};
@@ -14,7 +15,7 @@ use std::alloc::{AllocError, Global};
 use std::collections::BTreeMap;
 
 /// For each group that has tuples a state for each pane where it has them.
-pub type Held<S> = BTreeMap<Group, Line<S>>;
+pub type Held<S> = BTreeMap<Key, Line<S>>;
 
 /// The state of a pane and group becomes its join with that of a tuple, in place; after want of memory nothing changed.
 pub fn add_at_key<F: Fold>(
@@ -32,12 +33,14 @@ pub fn add_at_key<F: Fold>(
     ensures err { OnErr result (states_of held.new.entries ≡ states_of held.old.entries) }
     ensures blocks { HaveBlocks (IsJoin (F.none fold.now) (F.joined fold.now) (F.made fold.now) (F.number fold.now)) held.old.entries → HaveBlocks (IsJoin (F.none fold.now) (F.joined fold.now) (F.made fold.now) (F.number fold.now)) held.new.entries }
 {
+    let (pane, group) = key;
+    let key = Key::new(group);
     let _count = held.len();
-    if let Some(line) = held.get_mut(&key.1) {
-        return add_to_line(fold, line, key.0, t);
+    if let Some(line) = held.get_mut(&key) {
+        return add_to_line(fold, line, pane, t);
     }
-    let line = line_of_one(alloc, fold, key.0, t)?;
-    held.insert(key.1, line)?;
+    let line = line_of_one(alloc, fold, pane, t)?;
+    held.insert(key, line)?;
     Ok(())
 }
 
@@ -82,9 +85,9 @@ pub fn groups_at<F: Fold>(
 {
     let mut groups = Vec::new(alloc);
     let shift = pane_shift(window, width);
-    for (group, line) in held.iter() {
+    for (key, line) in held.iter() {
         let joined = joined_in(fold, line, by_blocks, window, width, shift, start)?;
-        push_some(&mut groups, group, joined)?;
+        push_some(&mut groups, key.group(), joined)?;
     }
     Ok(groups)
 }

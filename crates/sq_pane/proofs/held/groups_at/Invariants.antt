@@ -4,12 +4,12 @@ use Rattle.sq_pane.specs.Blocks.{IsJoin}
 use Rattle.sq_pane.specs.States.{states_of, groups_within, HaveBlocks}
 use Rattle.sq_pane.proofs.held.groups_at.Given as goal
 
-abbrev pub invariant-loop-group : goal.invariant-loop-group
-invariant-loop-group g l = record {
-  value : l.groups.items ++ groups_within (g.F.Fold.none l.fold) (g.F.Fold.joined l.fold) l.window l.width l.start l.group-iterator
+abbrev pub invariant-loop-key : goal.invariant-loop-key
+invariant-loop-key g l = record {
+  value : l.groups.items ++ groups_within (g.F.Fold.none l.fold) (g.F.Fold.joined l.fold) l.window l.width l.start l.key-iterator
       ≡ groups_within (g.F.Fold.none l.fold) (g.F.Fold.joined l.fold) l.window l.width l.start l.held.entries;
   made : AllAreMade (g.F.Fold.made l.fold) l.groups.items;
-  blocks : l.by_blocks ≡ true → HaveBlocks (IsJoin (g.F.Fold.none l.fold) (g.F.Fold.joined l.fold) (g.F.Fold.made l.fold) (g.F.Fold.number l.fold)) l.group-iterator;
-  left : AllAreMade (g.F.Fold.made l.fold) (states_of l.group-iterator);
-  few : total (g.F.Fold.number l.fold) l.groups.items + total (g.F.Fold.number l.fold) (states_of l.group-iterator) ≤ total (g.F.Fold.number l.fold) (states_of l.held.entries);
+  blocks : l.by_blocks ≡ true → HaveBlocks (IsJoin (g.F.Fold.none l.fold) (g.F.Fold.joined l.fold) (g.F.Fold.made l.fold) (g.F.Fold.number l.fold)) l.key-iterator;
+  left : AllAreMade (g.F.Fold.made l.fold) (states_of l.key-iterator);
+  few : total (g.F.Fold.number l.fold) l.groups.items + total (g.F.Fold.number l.fold) (states_of l.key-iterator) ≤ total (g.F.Fold.number l.fold) (states_of l.held.entries);
 }

@@ -1,0 +1,135 @@
+//! The keys of the map of groups.
+
+ghost use Rattle.std.specs.Prelude.{◌≡◌};
+ghost use Rattle.std.specs.Ordering.{nat_cmp};
+ghost use Rattle.std.specs.Cmp.Lexicographic.{slice_cmp};
+ghost use Rattle.sq_value.specs.Values.{fields_cmp};
+
+use sq_aggfn::{Group, compare_fields};
+use sq_value::{Value, compare_bytes};
+use std::cmp::Ordering;
+use std::marker::Model;
+
+/// The order of texts by their bytes: the first eight as one number, since keys mostly differ there.
+#[inline(always)]
+fn compare_texts(a: &[u8], b: &[u8]) -> Ordering
+    ensures { result ≡ slice_cmp nat_cmp a.now b.now }
+{
+    match (a.split_first_chunk::<8>(), b.split_first_chunk::<8>()) {
+        (Some((x, xs)), Some((y, ys))) => {
+            let first = u64::from_be_bytes(*x);
+            let other = u64::from_be_bytes(*y);
+            if first < other {
+                return Ordering::Less;
+            }
+            if other < first {
+                return Ordering::Greater;
+            }
+            compare_bytes(xs, ys)
+        }
+        _ => compare_bytes(a, b),
+    }
+}
+
+/// The order of lists of values, found fast where both are one text.
+#[inline(always)]
+fn compare_keys(a: &[Value], b: &[Value]) -> Ordering
+    ensures { result ≡ fields_cmp a.now b.now }
+{
+    match (a, b) {
+        ([Value::Text(x)], [Value::Text(y)]) => compare_texts(x.as_bytes(), y.as_bytes()),
+        _ => compare_fields(a, b),
+    }
+}
+
+/// A group in the map of groups. Contracts see its list of values.
+#[derive(Drop)]
+pub struct Key {
+    group: Group,
+}
+
+impl Model for Key {
+    ghost use Rattle.std.specs.Prelude.{List};
+    ghost use Rattle.sq_value.specs.declared.Value.{Value as Datum};
+
+    ghost Value = { List Datum };
+
+    ghost view = { λ k. k.group };
+}
+
+impl Key {
+    /// The key of a group.
+    #[inline]
+    pub(crate) fn new(group: Group) -> Key
+        ensures { result ≡ group }
+    {
+        Key { group }
+    }
+
+    /// The group that it is the key of.
+    #[inline]
+    pub(crate) fn group(&self) -> &Group
+        ensures { result.now ≡ self.now }
+    {
+        &self.group
+    }
+}
+
+impl PartialEq for Key {
+    ghost use Rattle.std.specs.Ordering.{eq_by_cmp};
+    ghost use Rattle.std.specs.Cmp.{partial_equiv_from_equiv, eq_by_cmp_equiv};
+    ghost use Rattle.sq_value.specs.Values.{fields_cmp};
+    ghost use Rattle.sq_value.proofs.ValueOrder.{fields_order};
+
+    ghost eq = { eq_by_cmp fields_cmp };
+
+    ghost laws = { partial_equiv_from_equiv (eq_by_cmp_equiv fields_order) };
+
+    #[inline(always)]
+    fn eq(&self, other: &Key) -> bool {
+        self.cmp(other) == Ordering::Equal
+    }
+}
+
+impl Eq for Key {
+    ghost use Rattle.std.specs.Cmp.{eq_by_cmp_equiv};
+    ghost use Rattle.sq_value.proofs.ValueOrder.{fields_order};
+
+    ghost laws = { eq_by_cmp_equiv fields_order };
+}
+
+impl PartialOrd for Key {
+    ghost use Rattle.std.specs.Prelude.{refl};
+    ghost use Rattle.std.specs.Ordering.{as_partial_cmp};
+    ghost use Rattle.std.specs.Cmp.{po};
+    ghost use Rattle.sq_value.specs.Values.{fields_cmp};
+    ghost use Rattle.sq_value.proofs.ValueOrder.{fields_order};
+
+    ghost partial_cmp = { as_partial_cmp fields_cmp };
+
+    ghost laws = { po fields_order (λ x y. refl) };
+
+    #[inline(always)]
+    fn partial_cmp(&self, other: &Key) -> Option<Ordering> {
+        Some(self.cmp(other))
+    }
+}
+
+impl Ord for Key {
+    ghost use Rattle.std.proofs.Common.{rules};
+    ghost use Rattle.sq_value.specs.Values.{fields_cmp};
+    ghost use Rattle.sq_value.proofs.ValueOrder.{fields_order};
+
+    ghost cmp = { fields_cmp };
+
+    ghost total = { fields_order };
+
+    ghost matches_partial_cmp = { Prim.search rules };
+
+    ghost matches_eq = { Prim.search rules };
+
+    #[inline(always)]
+    fn cmp(&self, other: &Key) -> Ordering {
+        compare_keys(self.group.as_slice(), other.group.as_slice())
+    }
+}
