@@ -29,9 +29,9 @@ use Rattle.sq_model.proofs.PlacedLemmas.{placed_of}
 use Rattle.sq_model.proofs.ShedLemmas.{stream_ticks}
 use Rattle.sq_model.proofs.StreamLemmas.{full_are_streams, stream_at_number}
 use Rattle.sq_verdict.specs.declared.verdict.Verdict.TheVariants as verdict
-use Rattle.sq_verdict.specs.Faults.{batch_of, drop_in, recorded, rises, is_level, verdict_on}
+use Rattle.sq_verdict.specs.Faults.{batch_of, drop_told_in, recorded, batch_rises, is_level, verdict_on}
 use Rattle.sq_verdict.specs.Wanting.{is_left, shown_of, shown_one}
-use Rattle.sq_verdict.specs.Whole.{AreDrops, AreEnds, Due, IsSoundDue, IsWhole}
+use Rattle.sq_verdict.specs.Whole.{AreDrops, AreEnds, Expected, IsSoundDue, IsWhole}
 use Rattle.sq_verdict.proofs.Accepts.{recorded_of_class, whole_is_yes}
 use Rattle.sq_verdict.proofs.DropLines.{IsTick, drops_have_class, read_back}
 use Rattle.sq_audit.specs.Audits.{above_of, audit_of, wanted_of, wanted_one}
@@ -70,7 +70,7 @@ module _ (drops w : ℕ) (level_at : ℕ → ℕ) (inside : w < drops) (w_small 
   abbrev IsGood : ℕ → Type 0
   IsGood b = IsTick b × IsTick (level_at b) × (is_level (level_at b) ≡ true)
 
-  good_line : (b : ℕ) → IsGood b → drop_in drops (line_at b) ≡ Some (w, b)
+  good_line : (b : ℕ) → IsGood b → drop_told_in drops (line_at b) ≡ Some (w, b)
   good_line b g = read_back w b (level_at b) w_small g.0 g.1 drops inside g.2
 
   own_batch : (b : ℕ) → batch_of w (Some (w, b)) ≡ b ∷ []
@@ -88,11 +88,11 @@ module _ (drops w : ℕ) (level_at : ℕ → ℕ) (inside : w < drops) (w_small 
 
   recorded_one : (done : List (List ℕ)) (b : ℕ) → IsGood b → recorded drops (done ++ (line_at b ∷ [])) w ≡ recorded drops done w ++ (b ∷ [])
   recorded_one done b g =
-      flat_map-append (λ l. batch_of w (drop_in drops l)) done (line_at b ∷ [])
+      flat_map-append (λ l. batch_of w (drop_told_in drops l)) done (line_at b ∷ [])
       ∙ ap (λ x. recorded drops done w ++ x) (recorded_back (b ∷ []) (g, tt))
 
   abbrev Goal : List (List ℕ) → List (List ℕ) → List ℕ → Type 0
-  Goal done front l = (b : ℕ) × (drop_in drops l ≡ Some (w, b)) × (rises drops (done ++ front) (Some (w, b)) ≡ true)
+  Goal done front l = (b : ℕ) × (drop_told_in drops l ≡ Some (w, b)) × (batch_rises drops (done ++ front) (Some (w, b)) ≡ true)
 
   same_head : {X : Type 0} (x y : X) (xs ys : List X) → x ∷ xs ≡ y ∷ ys → (x ≡ y) × (xs ≡ ys)
   same_head x y xs ys e = (cc, cc)
@@ -105,8 +105,8 @@ module _ (drops w : ℕ) (level_at : ℕ → ℕ) (inside : w < drops) (w_small 
       let same = (same_head (line_at b) l (map line_at bs) back e).0 in
       let first = up.0 in (
         b,
-        ap (drop_in drops) (sym same) ∙ good_line b g.0,
-        ap (λ x. rises drops x (Some (w, b))) (append-nil done) ∙ nat_le-true (max_by (λ k. k + 1) (recorded drops done w)) b (omega (arith, le, first)),
+        ap (drop_told_in drops) (sym same) ∙ good_line b g.0,
+        ap (λ x. batch_rises drops x (Some (w, b))) (append-nil done) ∙ nat_le-true (max_by (λ k. k + 1) (recorded drops done w)) b (omega (arith, le, first)),
       )
   drops_from done low (b ∷ bs) g le up (x ∷ front) l back e =
       let same = same_head (line_at b) x (map line_at bs) (front ++ (l ∷ back)) e in
@@ -116,7 +116,7 @@ module _ (drops w : ℕ) (level_at : ℕ → ℕ) (inside : w < drops) (w_small 
       subst (λ y. Goal y l) (append_assoc done (line_at b ∷ []) front ∙ ap (λ y. done ++ (y ∷ front)) same.0) more
     where
       Goal : List (List ℕ) → List ℕ → Type 0
-      Goal y l = (b : ℕ) × (drop_in drops l ≡ Some (w, b)) × (rises drops y (Some (w, b)) ≡ true)
+      Goal y l = (b : ℕ) × (drop_told_in drops l ≡ Some (w, b)) × (batch_rises drops y (Some (w, b)) ≡ true)
 
   pub are_drops : (bs : List ℕ) → AllByRecursion IsGood bs → Rises 0 bs → AreDrops drops w (map line_at bs)
   are_drops bs g up front l back e = drops_from [] 0 bs g (omega arith) up front l back e
@@ -220,7 +220,7 @@ module _ (r : Replay) (sound : IsSound r.network) (limits : KeepsDropLimits r.ne
     lines_record = recorded_back drops w level_at inside w_small (record_of r w p) all_good
 
   module _ (ended : List (List ℕ)) (ends : AreEnds ended) where
-    abbrev d : Due
+    abbrev d : Expected
     d = due_for r ended
 
     drops_at : (w : ℕ) (o : Option DropPoint) → slice_get points w ≡ o → AreDrops drops w (record_lines r w o)

@@ -1,14 +1,14 @@
 // The line of a verdict.
 ghost use Rattle.std.specs.Prelude.{◌≡◌, ◌++◌, OnErr, OnOk};
-ghost use Rattle.sq_audit.specs.VerdictLines.{verdict_line, why_text};
+ghost use Rattle.sq_audit.specs.VerdictLines.{verdict_line, audit_why_text};
 
 use itoa::Buffer;
 use sq_csv::append_line;
 use sq_verdict::{AuditWhy, Verdict};
 use std::alloc::AllocError;
 
-fn why_text(why: AuditWhy) -> &'static [u8]
-    ensures { result.now ≡ why_text why }
+fn audit_why_text(why: AuditWhy) -> &'static [u8]
+    ensures { result.now ≡ audit_why_text why }
 {
     match why {
         AuditWhy::End => b"end",
@@ -29,7 +29,7 @@ pub fn append_verdict_line(verdict: Verdict, out: &mut Vec<u8>) -> Result<(), Al
         Verdict::No { line, why } => {
             let mut digits = Buffer::new();
             let number = digits.format(line);
-            append_line(&[b"no", number.as_bytes(), why_text(why)], out)
+            append_line(&[b"no", number.as_bytes(), audit_why_text(why)], out)
         }
     }
 }

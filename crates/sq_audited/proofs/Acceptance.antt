@@ -20,7 +20,7 @@ use Rattle.sq_net.specs.declared.Source.{Source}
 use Rattle.sq_net.specs.Sound.{IsSound, source_within}
 use Rattle.sq_points.specs.Limits.{KeepsDropLimits}
 use Rattle.sq_points.specs.Points.{points_of}
-use Rattle.sq_tables.specs.Places.{place_of}
+use Rattle.sq_tables.specs.Places.{part_place}
 use Rattle.sq_reader.specs.Drops.{drop_place, is_drop_within}
 use Rattle.sq_tables.specs.Rawly.{◌>>=◌, raw_of}
 use Rattle.sq_reader.specs.Networks.{limited_network, network_in, typed_network, unless_at}
@@ -40,7 +40,7 @@ use Rattle.sq_tap.specs.declared.TapErr.{TapErr}
 use Rattle.sq_tap.specs.Names.{stream_named}
 use Rattle.sq_top.specs.Commands.{command_in}
 use Rattle.sq_top.specs.Taps.{Tapped, first_tick, tapped}
-use Rattle.sq_top.specs.Scripts.{Lookup, Replay, Script, Reads, Done, Stops, after_capacities, after_network, after_picks, after_query, after_stream, after_streams, after_tap, after_tapped, after_words, capacities_script, followed_by, go_on, made_limits, made_sources, made_streams, made_unread, outcome_of, picks_script, plain_args, readable, run_script, settings_limit, stream_limit, tap_script, tap_unread, text_limit, text_script, unread, with_sources, with_text}
+use Rattle.sq_top.specs.Scripts.{Lookup, AcceptedReplay, Script, Reads, Done, Stops, after_capacities, after_network, after_picks, after_query, after_stream, after_streams, after_tap, after_tapped, after_words, capacities_script, followed_by, go_on, made_limits, made_sources, made_streams, made_unread, outcome_of, picks_script, plain_args, readable, run_script, settings_limit, stream_limit, tap_script, tap_unread, text_limit, text_script, unread, with_sources, with_text}
 use Rattle.sq_top.proofs.JoinLemmas.{tapped_limits, tapped_sound}
 use Rattle.sq_top.proofs.SourceLemmas.{sources_within, streams_more, text_is_recorded}
 use Rattle.sq_audited.specs.Laws.{AcceptsRuns}
@@ -66,7 +66,7 @@ all_fine d (p ∷ ps) h = by (λ none. all_fine (d + 1) ps none) (is_drop_within
     by more false e none = absurd (cc)
 
 -- a network that passes the last rule keeps it
-none_placed : (o : Option ℕ) → option_map (place_of part.Drop) o ≡ None → o ≡ None
+none_placed : (o : Option ℕ) → option_map (part_place part.Drop) o ≡ None → o ≡ None
 none_placed None h = refl
 none_placed (Some k) h = cc
 
@@ -87,11 +87,11 @@ network_limits bytes n h = limits_from (raw_of bytes >>= typed_network) limited_
 
 -- ---- the order of work
 
-record IsAuditable (n : Network) (r : Replay) : Type 0 where
+record IsAuditable (n : Network) (r : AcceptedReplay) : Type 0 where
   network : n ≡ r.network
   streams : AllByRecursion IsStream r.sources
 
-module _ (files : Lookup) (r : Replay) (Q : Type 0) where
+module _ (files : Lookup) (r : AcceptedReplay) (Q : Type 0) where
   file_ok : (read : Result (List ℕ) Status) (more : List ℕ → Script) → ((bytes : List ℕ) → outcome_of files (more bytes) ≡ Ok r → Q)
       → go_on (λ s. Err s) (λ bytes. outcome_of files (more bytes)) read ≡ Ok r → Q
   file_ok (Ok bytes) more rest e = rest bytes e
@@ -102,13 +102,13 @@ module _ (files : Lookup) (r : Replay) (Q : Type 0) where
   stream_ok s bytes number more (Ok xs) said rest e = rest xs said e
   stream_ok s bytes number more (Err w) said rest e = absurd (cc)
 
-own : (p r : Replay) → ◌≡◌ {A = Result Replay Status} (Ok p) (Ok r) → p ≡ r
+own : (p r : AcceptedReplay) → ◌≡◌ {A = Result AcceptedReplay Status} (Ok p) (Ok r) → p ≡ r
 own p r e = cc
 
-ended : (p r : Replay) → AllByRecursion IsStream p.sources → p ≡ r → IsAuditable p.network r
-ended p r h same = record { network = ap (λ (x : Replay). x.network) same; streams = subst (λ (x : Replay). AllByRecursion IsStream x.sources) same h }
+ended : (p r : AcceptedReplay) → AllByRecursion IsStream p.sources → p ≡ r → IsAuditable p.network r
+ended p r h same = record { network = ap (λ (x : AcceptedReplay). x.network) same; streams = subst (λ (x : AcceptedReplay). AllByRecursion IsStream x.sources) same h }
 
-streams_ok : (files : Lookup) (p : Replay) (left : List Source) (r : Replay) → list_all source_within left ≡ true → AllByRecursion IsStream p.sources
+streams_ok : (files : Lookup) (p : AcceptedReplay) (left : List Source) (r : AcceptedReplay) → list_all source_within left ≡ true → AllByRecursion IsStream p.sources
     → outcome_of files (after_streams p left) ≡ Ok r → IsAuditable p.network r
 streams_ok files p [] r within h e = ended p r h (own p r e)
 streams_ok files p (s ∷ left) r within h e =
@@ -118,7 +118,7 @@ streams_ok files p (s ∷ left) r within h e =
     (λ bytes. stream_ok files r (IsAuditable p.network r) s bytes (length p.sources) more (stream_in s.schema bytes) refl
     (λ xs said. streams_ok files (with_sources p (p.sources ++ xs ∷ [])) left r both.1 (streams_more p.sources xs h (text_is_recorded s bytes xs both.0 said).stream))) e
 
-made_ok : (files : Lookup) (stream : List ℕ) (p : Replay) (left : List Source) (r : Replay) → list_all source_within left ≡ true → AllByRecursion IsStream p.sources
+made_ok : (files : Lookup) (stream : List ℕ) (p : AcceptedReplay) (left : List Source) (r : AcceptedReplay) → list_all source_within left ≡ true → AllByRecursion IsStream p.sources
     → outcome_of files (made_streams stream p left) ≡ Ok r → IsAuditable p.network r
 made_ok files stream p [] r within h e = ended p r h (own p r e)
 made_ok files stream p (s ∷ left) r within h e =
@@ -127,7 +127,7 @@ made_ok files stream p (s ∷ left) r within h e =
     stream_ok files r (IsAuditable p.network r) s stream (length p.sources) more (stream_in s.schema stream) refl
     (λ xs said. made_ok files stream (with_sources p (p.sources ++ xs ∷ [])) left r both.1 (streams_more p.sources xs h (text_is_recorded s stream xs both.0 said).stream)) e
 
-module _ (files : Lookup) (n : Network) (within : list_all source_within n.sources ≡ true) (r : Replay) where
+module _ (files : Lookup) (n : Network) (within : list_all source_within n.sources ≡ true) (r : AcceptedReplay) where
   module _ (args : RunArgs) where
     picks_ok : (entries : Entries) (o : Result (List ℕ) ℕ) → outcome_of files (after_picks args n entries o) ≡ Ok r → IsAuditable n r
     picks_ok entries (Ok picks) e = streams_ok files (unread args n entries picks) n.sources r within tt e
@@ -152,7 +152,7 @@ module _ (files : Lookup) (n : Network) (within : list_all source_within n.sourc
   made_sources_ok number stream (Err line) e = absurd (cc)
 
 -- what is accepted can be audited
-record IsAccepted (r : Replay) : Type 0 where
+record IsAccepted (r : AcceptedReplay) : Type 0 where
   sound : IsSound r.network
   limits : KeepsDropLimits r.network
   streams : AllByRecursion IsStream r.sources
@@ -160,30 +160,30 @@ record IsAccepted (r : Replay) : Type 0 where
 file_within : (bytes : List ℕ) (n : Network) → network_in bytes ≡ Ok n → list_all source_within n.sources ≡ true
 file_within bytes n said = sources_within n (network_sound bytes n said).within
 
-accepted_of : (bytes : List ℕ) (n : Network) (r : Replay) → network_in bytes ≡ Ok n → IsAuditable n r → IsAccepted r
+accepted_of : (bytes : List ℕ) (n : Network) (r : AcceptedReplay) → network_in bytes ≡ Ok n → IsAuditable n r → IsAccepted r
 accepted_of bytes n r said a = record {
   sound = subst IsSound a.network (network_sound bytes n said);
   limits = subst KeepsDropLimits a.network (network_limits bytes n said);
   streams = a.streams;
 }
 
-network_ok : (files : Lookup) (args : RunArgs) (bytes : List ℕ) (o : Result Network NetErr) (r : Replay) → network_in bytes ≡ o → outcome_of files (after_network args o) ≡ Ok r → IsAccepted r
+network_ok : (files : Lookup) (args : RunArgs) (bytes : List ℕ) (o : Result Network NetErr) (r : AcceptedReplay) → network_in bytes ≡ o → outcome_of files (after_network args o) ≡ Ok r → IsAccepted r
 network_ok files args bytes (Ok n) r said e = accepted_of bytes n r said (named_ok files n (file_within bytes n said) r args args.capacities e)
 network_ok files args bytes (Err s) r said e = absurd (cc)
 
-made_limits_ok : (files : Lookup) (number : ℕ) (made : Made) (o : Result Network NetErr) (r : Replay) → network_in made.net ≡ o → outcome_of files (made_limits number made o) ≡ Ok r → IsAccepted r
+made_limits_ok : (files : Lookup) (number : ℕ) (made : Made) (o : Result Network NetErr) (r : AcceptedReplay) → network_in made.net ≡ o → outcome_of files (made_limits number made o) ≡ Ok r → IsAccepted r
 made_limits_ok files number made (Ok n) r said e =
     accepted_of made.net n r said (made_sources_ok files n (file_within made.net n said) r number made.stream (capacities_in made.capacities) e)
 made_limits_ok files number made (Err s) r said e = absurd (cc)
 
-run_ok : (files : Lookup) (args : RunArgs) (r : Replay) → outcome_of files (run_script args) ≡ Ok r → IsAccepted r
+run_ok : (files : Lookup) (args : RunArgs) (r : AcceptedReplay) → outcome_of files (run_script args) ≡ Ok r → IsAccepted r
 run_ok files args r e =
     file_ok files r (IsAccepted r) (readable args.net settings_limit (files args.net)) (λ bytes. after_network args (network_in bytes)) (λ bytes. network_ok files args bytes (network_in bytes) r refl) e
 
 -- a script that is followed by another accepts what comes of what it accepts itself
-module _ (files : Lookup) (next : Replay → Script) (r : Replay) where
-  abbrev Passes : Result Replay Status → Type 0
-  Passes o = (p : Replay) → o ≡ Ok p → outcome_of files (next p) ≡ Ok r → IsAccepted r
+module _ (files : Lookup) (next : AcceptedReplay → Script) (r : AcceptedReplay) where
+  abbrev Passes : Result AcceptedReplay Status → Type 0
+  Passes o = (p : AcceptedReplay) → o ≡ Ok p → outcome_of files (next p) ≡ Ok r → IsAccepted r
 
   read_on : (more : List ℕ → Script) → ((bytes : List ℕ) → outcome_of files (followed_by (more bytes) next) ≡ Ok r → Passes (outcome_of files (more bytes)) → IsAccepted r)
       → (read : Result (List ℕ) Status) → go_on (λ s. Err s) (λ bytes. outcome_of files (followed_by (more bytes) next)) read ≡ Ok r
@@ -197,15 +197,15 @@ module _ (files : Lookup) (next : Replay → Script) (r : Replay) where
   followed_ok (Stops s) e passes = absurd (cc)
 
 -- with a text it is what it was
-with_text_ok : (p r : Replay) (bytes : List ℕ) → IsAccepted p → with_text p bytes ≡ r → IsAccepted r
+with_text_ok : (p r : AcceptedReplay) (bytes : List ℕ) → IsAccepted p → with_text p bytes ≡ r → IsAccepted r
 with_text_ok p r bytes a same = subst IsAccepted same (record { sound = a.sound; limits = a.limits; streams = a.streams })
 
-text_ok : (files : Lookup) (text : List ℕ) (p r : Replay) → IsAccepted p → outcome_of files (text_script text p) ≡ Ok r → IsAccepted r
+text_ok : (files : Lookup) (text : List ℕ) (p r : AcceptedReplay) → IsAccepted p → outcome_of files (text_script text p) ≡ Ok r → IsAccepted r
 text_ok files text p r a e =
     file_ok files r (IsAccepted r) (readable text text_limit (files text)) (λ bytes. Done (with_text p bytes)) (λ bytes same. with_text_ok p r bytes a (own (with_text p bytes) r same)) e
 
 -- what is joined
-module _ (files : Lookup) (stream : List ℕ) (from : ℕ) (r : Replay) where
+module _ (files : Lookup) (stream : List ℕ) (from : ℕ) (r : AcceptedReplay) where
   joined_ok : (o : Result Tapped TapErr) → ((t : Tapped) → o ≡ Ok t → IsSound t.network × KeepsDropLimits t.network) → outcome_of files (after_tap o) ≡ Ok r → IsAccepted r
   joined_ok (Ok t) keeps e =
       let kept = keeps t refl in
@@ -230,7 +230,7 @@ module _ (files : Lookup) (stream : List ℕ) (from : ℕ) (r : Replay) where
       file_ok files r (IsAccepted r) (readable net settings_limit (files net)) (λ bytes. after_tapped stream from query (network_in bytes))
       (λ bytes. tapped_ok query bytes (network_in bytes) refl) e
 
-command_ok : (files : Lookup) (o : Option Command) (r : Replay) → outcome_of files (after_words o) ≡ Ok r → IsAccepted r
+command_ok : (files : Lookup) (o : Option Command) (r : AcceptedReplay) → outcome_of files (after_words o) ≡ Ok r → IsAccepted r
 command_ok files None r e = absurd (cc)
 command_ok files (Some (command.Run args)) r e = run_ok files args r e
 command_ok files (Some (command.Gen number rows)) r e = made_limits_ok files number (made_of number rows) (network_in (made_of number rows).net) r refl e

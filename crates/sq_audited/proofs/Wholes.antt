@@ -29,12 +29,12 @@ use Rattle.sq_verdict.proofs.Plain.{not_true}
 use Rattle.sq_audit.specs.Laws.{answer_lines, due_for, record_lines}
 use Rattle.sq_audit.proofs.AuditLemmas.{points_few}
 use Rattle.sq_audit.proofs.Replays.{accepts_whole}
-use Rattle.sq_top.specs.Due.{Due, answer_in, due_in, ended_in, replayed, shown_from}
+use Rattle.sq_top.specs.Due.{Due, answer_in, due_in, ended_in, replayed, shown_at_output}
 use Rattle.sq_top.specs.Answers.{IsWholeText, is_classed}
 use Rattle.sq_audited.specs.Laws.{AcceptsReplays}
 
 module _ (r : model.Replay) where
-  shown_same : (k : ℕ) (os : List Output) → map (shown_from (answer_in r)) (zip os (range_with_len k (length os))) ≡ map (answer_lines r) (enumerate_from k os)
+  shown_same : (k : ℕ) (os : List Output) → map (shown_at_output (answer_in r)) (zip os (range_with_len k (length os))) ≡ map (answer_lines r) (enumerate_from k os)
   shown_same k [] = refl
   shown_same k (o ∷ os) = ap (λ xs. answer_lines r (k, o) ∷ xs) (shown_same (k + 1) os)
 
@@ -144,7 +144,7 @@ module _ (r : model.Replay) (first : ℕ) (sound : IsSound r.network) (text : Li
   abbrev d : Due
   d = due_in r first
 
-  abbrev asked : whole.Due
+  abbrev asked : whole.Expected
   asked = due_for r (ended_in r first)
 
   same : d.shown ≡ asked.shown
@@ -167,7 +167,7 @@ module _ (r : model.Replay) (first : ℕ) (sound : IsSound r.network) (text : Li
       h.lines (Shown name) (subst (λ (ss : List (List ℕ × List (List ℕ))). IsTrue (list_any (λ o. same_bytes o.0 name) ss)) (sym same) there)
       ∙ ap (λ (ss : List (List ℕ × List (List ℕ))). flat_map (λ o. o.1) (filter (λ o. same_bytes o.0 name) ss)) same
 
-  class_same : (l : List ℕ) → is_classed d l ≡ whole.is_classed asked l
+  class_same : (l : List ℕ) → is_classed d l ≡ whole.is_expected asked l
   class_same l =
       ap (λ (ss : List (List ℕ × List (List ℕ))). list_any (λ o. is_of_class (Shown o.0) l) ss || list_any (λ (x : ℕ × List (List ℕ)). is_of_class (Dropped x.0) l) d.dropped
       || is_of_class Planned l || is_of_class Ended l) same
@@ -178,7 +178,7 @@ module _ (r : model.Replay) (first : ℕ) (sound : IsSound r.network) (text : Li
   is_whole = record {
     shown = shown_is;
     dropped = dropped_is;
-    classed = all_classed (is_classed d) (whole.is_classed asked) class_same (whole_lines text) h.classed;
+    classed = all_classed (is_classed d) (whole.is_expected asked) class_same (whole_lines text) h.classed;
     finished = h.finished;
     ends_last = h.ends_last;
   }

@@ -6,9 +6,9 @@ use Rattle.sq_left.proofs.MergeLemmas.{eqb-same, eqb-not}
 use Rattle.sq_sched.specs.Ready.{contains}
 use Rattle.sq_flow.specs.declared.wires.Arc.{Arc}
 use Rattle.sq_flow.specs.declared.wires.Wires.{Wires}
-use Rattle.sq_flow.specs.Wiring.{numbers_in, rows_in, arcs_read, arcs_from, followers_of, Climbs, from_of, port_of, to_of, place_of, times_in}
+use Rattle.sq_flow.specs.Wiring.{numbers_in, rows_in, arcs_read, arcs_from, followers_of, Climbs, from_of, arc_port, to_of, arc_place, times_in}
 use Rattle.sq_core.specs.declared.join.Feed.{Feed}
-use Rattle.sq_core.specs.Joining.{feeds_of, IsGiver, AreFeeds, IsOf, Adds, IsJoining, Fixed, once_more}
+use Rattle.sq_core.specs.Joining.{feeds_of, IsGiver, AreFeeds, IsOf, AddsArc, IsJoining, Fixed, once_more}
 
 -- the item at a place of a list with one more
 pub get-last : {A : Type 0} (xs : List A) (x : A) → slice_get (xs ++ x ∷ []) (length xs) ≡ Some x
@@ -138,7 +138,7 @@ once-climbs xs x h low = by (contains xs x) refl
 
 module _ (shown : ℕ) (feeds : List (Vec Feed Global)) (at place : ℕ) (f : Feed) (arc : Arc) (w w' : Wires)
     (are : AreFeeds shown feeds) (there : slice_get (feeds_of feeds at) place ≡ Some f) (of : IsOf (Some arc) (Some f)) (to : arc.to ≡ at) (stands : arc.place ≡ place)
-    (i : IsJoining shown feeds at place w) (adds : Adds arc w w') where
+    (i : IsJoining shown feeds at place w) (adds : AddsArc arc w w') where
   abbrev k : ℕ
   k = length w.arcs.items
 
@@ -188,12 +188,12 @@ module _ (shown : ℕ) (feeds : List (Vec Feed Global)) (at place : ℕ) (f : Fe
   from-in : (a : ℕ) → a < length w'.arcs.items → IsGiver shown (length feeds) (from_of (slice_get w'.arcs.items a))
   from-in a low = by-arc (λ b o. IsGiver shown (length feeds) (from_of o)) a low (i.from_in a) (subst (IsGiver shown (length feeds)) (sym of.0) (are.from_in at place f there))
 
-  joined : (actor port a : ℕ) → slice_get (arcs_read w' actor) port ≡ Some a → (to_of (slice_get w'.arcs.items a) ≡ actor) × (place_of (slice_get w'.arcs.items a) ≡ port)
+  joined : (actor port a : ℕ) → slice_get (arcs_read w' actor) port ≡ Some a → (to_of (slice_get w'.arcs.items a) ≡ actor) × (arc_place (slice_get w'.arcs.items a) ≡ port)
   joined actor port a is =
       elim (read-cases actor port a is) [
-        | inl old ↦ subst (λ o. (to_of o ≡ actor) × (place_of o ≡ port)) (sym (arc-old a (i.arcs_in actor port a old))) (i.joined actor port a old)
-        | inr new ↦ subst (λ b. (to_of (slice_get w'.arcs.items b) ≡ actor) × (place_of (slice_get w'.arcs.items b) ≡ port)) new.2
-            (subst (λ o. (to_of o ≡ actor) × (place_of o ≡ port)) (sym arc-new) (to ∙ sym new.0, stands ∙ sym new.1))
+        | inl old ↦ subst (λ o. (to_of o ≡ actor) × (arc_place o ≡ port)) (sym (arc-old a (i.arcs_in actor port a old))) (i.joined actor port a old)
+        | inr new ↦ subst (λ b. (to_of (slice_get w'.arcs.items b) ≡ actor) × (arc_place (slice_get w'.arcs.items b) ≡ port)) new.2
+            (subst (λ o. (to_of o ≡ actor) × (arc_place o ≡ port)) (sym arc-new) (to ∙ sym new.0, stands ∙ sym new.1))
       ]
 
   fed : (actor port a : ℕ) → slice_get (arcs_read w' actor) port ≡ Some a → IsOf (slice_get w'.arcs.items a) (slice_get (feeds_of feeds actor) port)
@@ -221,7 +221,7 @@ module _ (shown : ℕ) (feeds : List (Vec Feed Global)) (at place : ℕ) (f : Fe
       ∙ ap (λ b. cond b (arcs_from w actor port ++ k ∷ []) (arcs_from w actor port)) (eqb-not port arc.port ne)
 
   abbrev Said : ℕ → ℕ → Option Arc → ℕ
-  Said actor port o = cond (eqb actor (from_of o)) (cond (eqb port (port_of o)) 1 0) 0
+  Said actor port o = cond (eqb actor (from_of o)) (cond (eqb port (arc_port o)) 1 0) 0
 
   none-yet : (actor port : ℕ) → times_in k (arcs_from w actor port) ≡ 0
   none-yet actor port = times-none k (arcs_from w actor port) (λ p x is. i.readers_in actor port p x is)

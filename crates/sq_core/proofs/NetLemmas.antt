@@ -24,17 +24,17 @@ use Rattle.sq_points.proofs.Bounds.{at_least, passes_at, takes_all}
 use Rattle.sq_model.specs.Given.{IsAt}
 use Rattle.sq_model.specs.Shedding.{drop_above_arc}
 use Rattle.sq_below.specs.Actors.{Actor, Sources, Box, Shedder, Shower, arc_from}
-use Rattle.sq_start.specs.Numbers.{IsThere, ops_of, number_of, actor_at, place_stream, reads_of, drop_reads}
+use Rattle.sq_start.specs.Numbers.{IsThere, ops_of, number_of, actor_at, place_stream, reads_of, shedder_reads}
 use Rattle.sq_start.proofs.NumberLemmas.{which}
 use Rattle.sq_start.specs.Nets.{ComesFrom, AllCome, Joins}
 use Rattle.sq_start.specs.Comes.{arcs_to, point_streams, streams_to, TakesArcs, MarksAreTaken, TuplesAreTaken}
 use Rattle.sq_start.specs.Started.{actor_marks, actor_fits}
 use Rattle.sq_flow.specs.declared.wires.Arc.{Arc}
 use Rattle.sq_flow.specs.declared.wires.Wires.{Wires}
-use Rattle.sq_flow.specs.Wiring.{net_of, arcs_read, arc_at, from_of, port_of, marked_of, fits_on}
+use Rattle.sq_flow.specs.Wiring.{net_of, arcs_read, arc_wired, from_of, arc_port, marked_of, fits_on}
 use Rattle.sq_core.specs.declared.join.Feed.{Feed}
 use Rattle.sq_core.specs.Joining.{IsOf}
-use Rattle.sq_core.specs.Table.{kinds_on, arc_feed, place_feed, point_row, row_of, IsMeasured}
+use Rattle.sq_core.specs.Table.{kinds_on, arc_feed, place_feed, point_row, feeds_row, IsTabled}
 use Rattle.sq_core.proofs.TableLemmas.{arc_stream_there, place_stream_there, input-low, row-box, row-drop, row-output}
 
 -- ---- lists
@@ -76,7 +76,7 @@ fields-count (c ∷ cs) (v ∷ vs) h = ap suc (fields-count cs vs (and_parts (is
 
 module _ (n : Network) where
   -- a marked feed is of an arc below a drop
-  row-arc : (x : Actor) (port : ℕ) (f : Feed) → slice_get (row_of n x) port ≡ Some f → f.marked ≡ true → (a : ℕ) × (slice_get (arcs_to n x) port ≡ Some a) × (is_some (drop_above_arc n a) ≡ true)
+  row-arc : (x : Actor) (port : ℕ) (f : Feed) → slice_get (feeds_row n x) port ≡ Some f → f.marked ≡ true → (a : ℕ) × (slice_get (arcs_to n x) port ≡ Some a) × (is_some (drop_above_arc n a) ≡ true)
   row-arc Sources port f is marked = cc is
   row-arc (Box b) port f is marked = (let a = unmapped (arc_feed n) (input_arcs_of n.wires b) port f is in (a.0, a.1, ap (λ (g : Feed). g.marked) a.2 ∙ marked))
   row-arc (Shedder w) port f is marked = by (slice_get (points_of n) w) port is
@@ -88,7 +88,7 @@ module _ (n : Network) where
   row-arc (Shower o) zero f is marked = (let e : arc_feed n (output_arc_at n.wires o) ≡ f = cc is in (output_arc_at n.wires o, refl, ap (λ (g : Feed). g.marked) e ∙ marked))
   row-arc (Shower o) (suc port) f is marked = cc is
 
-  arc-row : (x : Actor) (port a : ℕ) → slice_get (arcs_to n x) port ≡ Some a → slice_get (row_of n x) port ≡ Some (arc_feed n a)
+  arc-row : (x : Actor) (port a : ℕ) → slice_get (arcs_to n x) port ≡ Some a → slice_get (feeds_row n x) port ≡ Some (arc_feed n a)
   arc-row Sources port a is = cc is
   arc-row (Box b) port a is = mapped (arc_feed n) (input_arcs_of n.wires b) port a is
   arc-row (Shedder w) port a is = cc is
@@ -102,7 +102,7 @@ module _ (n : Network) where
     typed : f.kinds ≡ kinds_on (columns_of_stream n stream)
 
   module _ (sound : IsSound n) (places : (w : ℕ) (p : DropPoint) → slice_get (points_of n) w ≡ Some p → IsAt n p.at) where
-    row-stream : (x : Actor) → IsThere n x → (port : ℕ) (f : Feed) → slice_get (row_of n x) port ≡ Some f → OfStream x port f
+    row-stream : (x : Actor) → IsThere n x → (port : ℕ) (f : Feed) → slice_get (feeds_row n x) port ≡ Some f → OfStream x port f
     row-stream Sources t port f is = cc is
     row-stream (Box b) t port f is =
         let a = unmapped (arc_feed n) (input_arcs_of n.wires b) port f is in
@@ -136,7 +136,7 @@ module _ (n : Network) where
         }
     row-stream (Shower o) t (suc port) f is = cc is
 
-  stream-row : (x : Actor) (port s : ℕ) → slice_get (streams_to n x) port ≡ Some s → (f : Feed) × (slice_get (row_of n x) port ≡ Some f) × (f.kinds ≡ kinds_on (columns_of_stream n s))
+  stream-row : (x : Actor) (port s : ℕ) → slice_get (streams_to n x) port ≡ Some s → (f : Feed) × (slice_get (feeds_row n x) port ≡ Some f) × (f.kinds ≡ kinds_on (columns_of_stream n s))
   stream-row Sources port s is = cc is
   stream-row (Box b) port s is =
       let a = unmapped (stream_on n.wires) (input_arcs_of n.wires b) port s (ap (λ l. slice_get l port) (arcs-inputs n.wires b) ∙ is) in
@@ -160,19 +160,19 @@ fits-of : (o : Option Arc) (f : Feed) (fields : List Value) → IsOf o (Some f) 
 fits-of None f fields of = absurd of
 fits-of (Some a) f fields of = ap (λ ks. kinds_fit ks fields) of.2
 
-module _ (n : Network) (sound : IsSound n) (places : (w : ℕ) (p : DropPoint) → slice_get (points_of n) w ≡ Some p → IsAt n p.at) (w : Wires) (measured : IsMeasured n w) (actor : ℕ) (low : actor < ops_of n) (there : IsThere n (actor_at n actor)) where
+module _ (n : Network) (sound : IsSound n) (places : (w : ℕ) (p : DropPoint) → slice_get (points_of n) w ≡ Some p → IsAt n p.at) (w : Wires) (measured : IsTabled n w) (actor : ℕ) (low : actor < ops_of n) (there : IsThere n (actor_at n actor)) where
   abbrev x : Actor
   x = actor_at n actor
 
   abbrev on : ℕ → Option Arc
-  on port = arc_at w (slice_get (arcs_read w actor) port)
+  on port = arc_wired w (slice_get (arcs_read w actor) port)
 
-  feed-or-none : (port : ℕ) → ((f : Feed) × (slice_get (row_of n x) port ≡ Some f) × IsOf (on port) (Some f)) ⊎ (on port ≡ None)
-  feed-or-none port = by (slice_get (row_of n x) port) refl
+  feed-or-none : (port : ℕ) → ((f : Feed) × (slice_get (feeds_row n x) port ≡ Some f) × IsOf (on port) (Some f)) ⊎ (on port ≡ None)
+  feed-or-none port = by (slice_get (feeds_row n x) port) refl
     where
-      by : (o : Option Feed) → slice_get (row_of n x) port ≡ o → ((f : Feed) × (slice_get (row_of n x) port ≡ Some f) × IsOf (on port) (Some f)) ⊎ (on port ≡ None)
+      by : (o : Option Feed) → slice_get (feeds_row n x) port ≡ o → ((f : Feed) × (slice_get (feeds_row n x) port ≡ Some f) × IsOf (on port) (Some f)) ⊎ (on port ≡ None)
       by (Some f) is = inl (f, is, measured.each actor port f low is)
-      by None is = (let far = high (row_of n x) port is in let m = measured.many actor low in inr (ap (arc_at w) (past (arcs_read w actor) port (omega (arith, far, m)))))
+      by None is = (let far = high (feeds_row n x) port is in let m = measured.many actor low in inr (ap (arc_wired w) (past (arcs_read w actor) port (omega (arith, far, m)))))
 
   pub takes-arcs : TakesArcs n x ((net_of w).takes actor) ((net_of w).fits actor)
   takes-arcs =
@@ -211,7 +211,7 @@ Same n [] (f ∷ fs) = ⊥
 Same n (y ∷ ys) [] = ⊥
 Same n (y ∷ ys) (f ∷ fs) = (f.from ≡ number_of n y.0) × (f.port ≡ y.1) × Same n ys fs
 
-rows-same : (n : Network) (x : Actor) → Same n (reads_of n x) (row_of n x)
+rows-same : (n : Network) (x : Actor) → Same n (reads_of n x) (feeds_row n x)
 rows-same n Sources = _
 rows-same n (Box b) = each (input_arcs_of n.wires b)
   where
@@ -220,17 +220,17 @@ rows-same n (Box b) = each (input_arcs_of n.wires b)
     each (a ∷ arcs) = (refl, refl, each arcs)
 rows-same n (Shedder w) = by (slice_get (points_of n) w)
   where
-    by : (o : Option DropPoint) → Same n (drop_reads n o) (point_row n o)
+    by : (o : Option DropPoint) → Same n (shedder_reads n o) (point_row n o)
     by None = _
     by (Some p) = (refl, refl, _)
 rows-same n (Shower o) = (refl, refl, _)
 
 comes : (n : Network) (w : Wires) (y : Actor × ℕ) (f : Feed) (arc : ℕ) (o : Option Arc) → slice_get w.arcs.items arc ≡ o → f.from ≡ number_of n y.0 → f.port ≡ y.1 → IsOf o (Some f) → ComesFrom n (net_of w) y arc
 comes n w y f arc None is from port of = absurd of
-comes n w y f arc (Some a) is from port of = (ap from_of is ∙ of.0 ∙ from, ap port_of is ∙ of.1 ∙ port)
+comes n w y f arc (Some a) is from port of = (ap from_of is ∙ of.0 ∙ from, ap arc_port is ∙ of.1 ∙ port)
 
 all-come : (n : Network) (w : Wires) (ys : List (Actor × ℕ)) (fs : List Feed) (arcs : List ℕ) → Same n ys fs → length arcs ≡ length fs
-    → ((port : ℕ) (f : Feed) → slice_get fs port ≡ Some f → IsOf (arc_at w (slice_get arcs port)) (Some f)) → AllCome n (net_of w) ys arcs
+    → ((port : ℕ) (f : Feed) → slice_get fs port ≡ Some f → IsOf (arc_wired w (slice_get arcs port)) (Some f)) → AllCome n (net_of w) ys arcs
 all-come n w [] [] [] same len of = _
 all-come n w [] [] (arc ∷ arcs) same len of = absurd (omega (arith, len))
 all-come n w [] (f ∷ fs) arcs same len of = absurd same
@@ -241,11 +241,11 @@ all-come n w (y ∷ ys) (f ∷ fs) (arc ∷ arcs) same len of = (
   all-come n w ys fs arcs same.2 (omega (arith, len)) (λ port g is. of (suc port) g is),
 )
 
-pub joins-all : (n : Network) (w : Wires) → IsMeasured n w → w.replay ≡ ops_of n → Joins n (net_of w)
+pub joins-all : (n : Network) (w : Wires) → IsTabled n w → w.replay ≡ ops_of n → Joins n (net_of w)
 joins-all n w measured replay =
     record {
       replay = replay;
-      arcs = λ actor low. all-come n w (reads_of n (actor_at n actor)) (row_of n (actor_at n actor)) (arcs_read w actor) (rows-same n (actor_at n actor)) (measured.many actor low) (λ port f is. measured.each actor port f low is);
+      arcs = λ actor low. all-come n w (reads_of n (actor_at n actor)) (feeds_row n (actor_at n actor)) (arcs_read w actor) (rows-same n (actor_at n actor)) (measured.many actor low) (λ port f is. measured.each actor port f low is);
       no_more = λ actor far. measured.no_more actor (omega (arith, far));
     }
 
@@ -260,16 +260,16 @@ takes-some kinds.Aggregate k h = grind (arith, nat_tests)
 takes-some kinds.Join k h = grind (arith, nat_tests)
 takes-some kinds.Resample k h = grind (arith, nat_tests)
 
-box-reads : (n : Network) → IsSound n → (b : ℕ) → b < length n.boxes → 1 ≤ length (row_of n (Box b))
+box-reads : (n : Network) → IsSound n → (b : ℕ) → b < length n.boxes → 1 ≤ length (feeds_row n (Box b))
 box-reads n sound b low = by (slice_get n.wires.boxes b) refl
   where
-    row : length (row_of n (Box b)) ≡ length (inputs_of n.wires b)
+    row : length (feeds_row n (Box b)) ≡ length (inputs_of n.wires b)
     row =
         let a = length-map (input_arcs_of n.wires b) (arc_feed n) in
         let c = length-map-range_with_len (graph_arc n.wires b) 0 (length (inputs_of n.wires b)) in
         omega (arith, a, c)
 
-    by : (o : Option BoxWires) → slice_get n.wires.boxes b ≡ o → 1 ≤ length (row_of n (Box b))
+    by : (o : Option BoxWires) → slice_get n.wires.boxes b ≡ o → 1 ≤ length (feeds_row n (Box b))
     by None is = (let far = high n.wires.boxes b is in let boxes = boxes_count n sound in absurd (omega (arith, far, boxes, low)))
     by (Some x) is =
         let some = takes-some x.kind (length x.inputs) (passes_at (λ (z : BoxWires). takes_within z.kind (length z.inputs)) n.wires.boxes b x (takes_all n sound.within) is) in
@@ -282,7 +282,7 @@ some-point [] w h = absurd (omega (arith, h))
 some-point (p ∷ ps) zero h = (p, refl)
 some-point (p ∷ ps) (suc w) h = some-point ps w (omega (arith, h))
 
-pub reads-some : (n : Network) → IsSound n → (actor : ℕ) → actor < ops_of n → 1 ≤ length (row_of n (actor_at n actor))
+pub reads-some : (n : Network) → IsSound n → (actor : ℕ) → actor < ops_of n → 1 ≤ length (feeds_row n (actor_at n actor))
 reads-some n sound actor low =
     elim (which n actor low) [
       | inl box ↦ subst (λ l. 1 ≤ length l) (sym (row-box n actor box)) (box-reads n sound actor box)

@@ -12,7 +12,7 @@ use Rattle.sq_net.specs.Sound.{IsSound}
 use Rattle.sq_points.specs.Points.{points_of}
 use Rattle.sq_model.specs.Shedding.{Replay, level_of, answer_of}
 use Rattle.sq_left.proofs.MergeLemmas.{eqb-same, eqb-not}
-use Rattle.sq_left.specs.Left.{Net, World, coming, inputs, inputs_by, left, still_dropped, IsWired}
+use Rattle.sq_left.specs.Left.{Net, Holding, coming, inputs, inputs_by, left, still_dropped, IsLaidOut}
 use Rattle.sq_below.specs.Actors as below
 use Rattle.sq_below.specs.Actors.{stream_of}
 use Rattle.sq_sched.specs.Ready.{contains, OnlyOnce}
@@ -24,17 +24,17 @@ use Rattle.sq_flow.specs.declared.engine.Engine.{Engine}
 use Rattle.sq_flow.specs.Events.{bodies}
 use Rattle.sq_flow.specs.Seats.{Meaning, done_at}
 use Rattle.sq_flow.specs.Wiring.{net_of, arcs_read, numbers_in, IsShaped}
-use Rattle.sq_flow.specs.Flows.{tuples_at, RiseFrom, world_of, fed_at_last, sum_below}
+use Rattle.sq_flow.specs.Flows.{tuples_to_come, RiseFrom, world_of, fed_at_last, sum_below}
 use Rattle.sq_flow.specs.Readiness.{stands, IsReady}
-use Rattle.sq_flow.specs.Engines.{place_in, IsEngine}
+use Rattle.sq_flow.specs.Engines.{seat_number, IsEngine}
 use Rattle.sq_start.specs.Numbers.{IsThere, first_output, ops_of, number_of, actor_at, reads_of}
 use Rattle.sq_start.specs.Nets.{ComesFrom, AllCome, decided_by, drop_decisions, count_fed}
-use Rattle.sq_start.specs.Starts.{IsRead}
+use Rattle.sq_start.specs.Starts.{IsReadReplay}
 use Rattle.sq_start.specs.Laws.{IsNew, StartsAs, StartsAsReplayed}
 use Rattle.sq_start.proofs.NumberLemmas.{box-at, drop-at, replay-at, there-at, reads-there}
 use Rattle.sq_core.specs.Meanings.{actors}
-use Rattle.sq_core.specs.Table.{IsMeasured}
-use Rattle.sq_core.specs.Answers.{Answers}
+use Rattle.sq_core.specs.Table.{IsTabled}
+use Rattle.sq_core.specs.Answers.{KeepsAnswers}
 use Rattle.sq_core.proofs.NetLemmas.{reads-some}
 use Rattle.sq_core.proofs.SumLemmas.{sum-numbers}
 
@@ -45,7 +45,7 @@ bodies-things [] = refl
 bodies-things (x ∷ xs) = ap (λ l. x ∷ l) (bodies-things xs)
 
 -- what is left of a source is what is to be released of it
-coming-sources : (net : Net) (w : World) (order : List ℕ) → IsWired net order → (port : ℕ) → coming net w order net.replay port ≡ w.source port
+coming-sources : (net : Net) (w : Holding) (order : List ℕ) → IsLaidOut net order → (port : ℕ) → coming net w order net.replay port ≡ w.source port
 coming-sources net w [] wired port = refl
 coming-sources net w (last ∷ earlier) wired port =
     ap (λ b. cond b (w.rest last (inputs_by net w (coming net w earlier) last) port) (coming net w earlier net.replay port)) (eqb-not net.replay last (λ e. wired.0 (sym e)))
@@ -65,7 +65,7 @@ at-place P (y ∷ xs) h zero x is = (let e : y ≡ x = cc is in subst P e h.0)
 at-place P (y ∷ xs) h (suc i) x is = at-place P xs h.1 i x is
 
 -- of a stream all is left
-module _ (r : Replay) (net : Net) (w : World) (order : List ℕ) (read : IsRead r) (new : IsNew r net w) (wired : IsWired net order) (starts : StartsAs r net w order) where
+module _ (r : Replay) (net : Net) (w : Holding) (order : List ℕ) (read : IsReadReplay r) (new : IsNew r net w) (wired : IsLaidOut net order) (starts : StartsAs r net w order) where
   all-of : (giver : below.Actor × ℕ) → IsThere r.network giver.0 → coming net w order (number_of r.network giver.0) giver.1 ≡ stream_of r giver
   all-of (x, port) there =
       elim (cases_lt (number_of r.network x) (ops_of r.network)) [
@@ -88,9 +88,9 @@ module _ (r : Replay) (net : Net) (w : World) (order : List ℕ) (read : IsRead 
             ∙ ap (λ k. coming net w order k (net.port at.0)) at.2.0 ∙ ap (coming net w order (number_of r.network giver.0)) at.2.1 ∙ all-of giver there,
       )
 
-pub new-answers : (r : Replay) → IsRead r → StartsAsReplayed → (flow : Flow Actor) (items : ℕ → List Item) → ((arc : ℕ) → items arc ≡ []) → IsNew r (net_of flow.wires) (world_of actors (level_of r) items flow)
+pub new-answers : (r : Replay) → IsReadReplay r → StartsAsReplayed → (flow : Flow Actor) (items : ℕ → List Item) → ((arc : ℕ) → items arc ≡ []) → IsNew r (net_of flow.wires) (world_of actors (level_of r) items flow)
     → IsShaped flow.wires (ops_of r.network) → flow.wires.sheds ≡ length r.network.boxes → flow.wires.shown ≡ first_output r.network → length flow.seats.items ≡ ops_of r.network → flow.taken ≡ 0
-    → Answers r items flow []
+    → KeepsAnswers r items flow []
 new-answers r read law flow items none new shaped sheds shown many untaken =
     let starts = law r (net_of flow.wires) (world_of actors (level_of r) items flow) flow.wires.order.items read new shaped.wired shaped.ordered in
     record {
@@ -127,7 +127,7 @@ rise-from time (x ∷ []) s t f = (f, t.0, _)
 rise-from time (x ∷ y ∷ xs) s t f = (f, t.0, rise-from x.time (y ∷ xs) s.1 t.1 s.0)
 
 pub rising : (queues : List Recorded) → AllByRecursion IsStream (map (λ q. q.items) queues) → AllByRecursion (AllByRecursion IsSoundTuple) (map (λ q. q.items) queues)
-    → (source : ℕ) → RiseFrom 0 (tuples_at (slice_get queues source))
+    → (source : ℕ) → RiseFrom 0 (tuples_to_come (slice_get queues source))
 rising [] s t source = _
 rising (q ∷ queues) s t zero = rise-from 0 q.items s.0 t.0 (first-zero q.items)
   where
@@ -136,7 +136,7 @@ rising (q ∷ queues) s t zero = rise-from 0 q.items s.0 t.0 (first-zero q.items
     first-zero (x ∷ xs) = zero-le
 rising (q ∷ queues) s t (suc source) = rising queues s.1 t.1 source
 
-pub few-queued : (queues : List Recorded) → AllByRecursion (λ xs. length xs ≤ 1000000) (map (λ q. q.items) queues) → (source : ℕ) → length (tuples_at (slice_get queues source)) ≤ 1000000
+pub few-queued : (queues : List Recorded) → AllByRecursion (λ xs. length xs ≤ 1000000) (map (λ q. q.items) queues) → (source : ℕ) → length (tuples_to_come (slice_get queues source)) ≤ 1000000
 few-queued [] few source = zero-le
 few-queued (q ∷ queues) few zero = few.0
 few-queued (q ∷ queues) few (suc source) = few-queued queues few.1 source
@@ -166,7 +166,7 @@ first-of [] h = absurd (omega (arith, h))
 first-of (x ∷ xs) h = (x, refl)
 
 module _ {O : Type 0} (m : Meaning O) (valid : O → Type 0) (n : Network) (sound : IsSound n) (e : Engine O) (is : IsEngine m valid e)
-    (measured : IsMeasured n e.flow.wires) (many : length e.flow.seats.items ≡ ops_of n) (runs : e.flow.over ≡ false)
+    (measured : IsTabled n e.flow.wires) (many : length e.flow.seats.items ≡ ops_of n) (runs : e.flow.over ≡ false)
     (bare : (arc : ℕ) → face e.flow.queues arc ≡ record { count = 0; first = None; ended = false }) where
   replay-ready : IsReady e.flow (length e.flow.seats.items)
   replay-ready =
@@ -192,7 +192,7 @@ module _ {O : Type 0} (m : Meaning O) (valid : O → Type 0) (n : Network) (soun
   only-replay (suc k) there =
       let low = is.below (suc k) there in
       let room = is.room.actors in
-      let here : place_in (length e.flow.seats.items) (suc k) ≡ k =
+      let here : seat_number (length e.flow.seats.items) (suc k) ≡ k =
       ap (λ b. cond b (length e.flow.seats.items) (suc k - 1)) (eqb-not (suc k) 0 (λ z. cc z)) ∙ (omega arith) in
       absurd (not-ready k (omega (arith, low, room, many)) (subst (IsReady e.flow) here ((is.exact (suc k) (omega (arith, low, room))).listed there)))
 

@@ -23,8 +23,8 @@ use Rattle.sq_below.specs.Actors.{Box, Shedder, Shower, stream_of}
 use Rattle.sq_below.specs.Standing.{box_fed}
 use Rattle.sq_start.specs.Numbers.{IsThere, first_output, ops_of, actor_at}
 use Rattle.sq_start.specs.Nets.{fed_to, decided_by, Joins}
-use Rattle.sq_start.specs.Starts.{IsRead}
-use Rattle.sq_start.specs.Started.{IsStarted, lost_by}
+use Rattle.sq_start.specs.Starts.{IsReadReplay}
+use Rattle.sq_start.specs.Started.{IsStarted, late_of_actor}
 use Rattle.sq_start.specs.Comes.{TakesArcs, FedMayCome, MarksAreTaken, TuplesAreTaken}
 use Rattle.sq_start.specs.Laws.{IsNew}
 use Rattle.sq_start.proofs.NumberLemmas.{box-at, drop-at, output-at, which}
@@ -33,18 +33,18 @@ use Rattle.sq_replay.specs.Recorded.{Recorded}
 use Rattle.sq_flow.specs.declared.wires.Wires.{Wires}
 use Rattle.sq_flow.specs.declared.flow.Flow.{Flow}
 use Rattle.sq_flow.specs.declared.seats.Seat.{Seat}
-use Rattle.sq_flow.specs.Seats.{rest_at, decides_at, lost_at, taken_at, place_at, done_at, holds_at}
+use Rattle.sq_flow.specs.Seats.{rest_at, decides_at, lost_at, taken_at, moment_at, done_at, holds_at}
 use Rattle.sq_flow.specs.Starts.{IsNewSeat, IsNewFlow}
-use Rattle.sq_flow.specs.Flows.{tuples_at, world_of, items_in, taken_in_all}
+use Rattle.sq_flow.specs.Flows.{tuples_to_come, world_of, items_in, taken_in_all}
 use Rattle.sq_flow.specs.Wiring.{net_of, IsOwn}
 use Rattle.sq_core.specs.Meanings.{actors, IsValid}
-use Rattle.sq_core.specs.Table.{IsMeasured}
+use Rattle.sq_core.specs.Table.{IsTabled}
 use Rattle.sq_core.specs.Seated.{IsSeated, AllSeated}
 use Rattle.sq_core.proofs.NetLemmas.{takes-arcs, marks-come, tuples-come, joins-all}
 use Rattle.sq_core.proofs.SumLemmas.{sum-none}
 
 -- what is to be released of a source is its stream
-released : (queues : List Recorded) (source : ℕ) → tuples_at (slice_get queues source) ≡ nth (map (λ q. q.items) queues) source
+released : (queues : List Recorded) (source : ℕ) → tuples_to_come (slice_get queues source) ≡ nth (map (λ q. q.items) queues) source
 released [] source = refl
 released (q ∷ queues) zero = refl
 released (q ∷ queues) (suc source) = released queues source
@@ -86,7 +86,7 @@ own-of n w sheds shown actor low d is =
       | inr (inr output) ↦ (let bad : Shower output.0 ≡ Shedder d.drop = sym (output-at n output.0 output.2) ∙ ap (actor_at n) (sym output.1) ∙ is in cc bad)
     ]
 
-module _ (n : Network) (sound : IsSound n) (places : (d : ℕ) (p : DropPoint) → slice_get (points_of n) d ≡ Some p → IsAt n p.at) (w : Wires) (measured : IsMeasured n w)
+module _ (n : Network) (sound : IsSound n) (places : (d : ℕ) (p : DropPoint) → slice_get (points_of n) d ≡ Some p → IsAt n p.at) (w : Wires) (measured : IsTabled n w)
     (number : ℕ) (seats : List (Seat operator.Actor)) (seated : AllSeated n number seats) (count : length seats ≡ ops_of n) where
   module _ (marks : MarksAreTaken) (tuples : TuplesAreTaken) (sheds : w.sheds ≡ length n.boxes) (shown : w.shown ≡ first_output n) (epoch : ℕ) (lasts : n.epoch ≡ epoch) where
     new-seat : (actor : ℕ) (seat : Seat operator.Actor) → actor < ops_of n → IsSeated n number actor seat → IsNewSeat actors IsValid ((net_of w).takes actor) ((net_of w).fits actor) (IsOwn w actor) epoch seat
@@ -124,10 +124,10 @@ module _ (n : Network) (sound : IsSound n) (places : (d : ℕ) (p : DropPoint) �
   none-fed flow here =
       sum-none (λ actor. taken_at actors (slice_get flow.seats.items actor)) (length flow.seats.items) (λ actor. ap (λ l. taken_at actors (slice_get l actor)) here ∙ taken-none actor)
 
-  place-start : (actor : ℕ) → place_at actors (slice_get seats actor) ≡ Start
+  place-start : (actor : ℕ) → moment_at actors (slice_get seats actor) ≡ Start
   place-start actor = by (slice_get seats actor) refl
     where
-      by : (o : Option (Seat operator.Actor)) → slice_get seats actor ≡ o → place_at actors o ≡ Start
+      by : (o : Option (Seat operator.Actor)) → slice_get seats actor ≡ o → moment_at actors o ≡ Start
       by None is = refl
       by (Some seat) is = (seated actor seat is).started.at_start
 
@@ -142,7 +142,7 @@ module _ (n : Network) (sound : IsSound n) (places : (d : ℕ) (p : DropPoint) �
   seat-of : (actor : ℕ) → actor < ops_of n → (seat : Seat operator.Actor) × (slice_get seats actor ≡ Some seat) × IsStarted n number (actor_at n actor) seat.op
   seat-of actor low = (let s = seat-some seats actor (omega (arith, low, count)) in (s.0, s.1, (seated actor s.0 s.1).started))
 
-  module _ (comes : FedMayCome) (r : Replay) (read : IsRead r) (network : r.network ≡ n) (seed : r.seed ≡ number) where
+  module _ (comes : FedMayCome) (r : Replay) (read : IsReadReplay r) (network : r.network ≡ n) (seed : r.seed ≡ number) where
     gives-at : (actor port : ℕ) → actor < ops_of n → rest_at actors (level_of r) (slice_get seats actor) (fed_to r (actor_at n actor)) port ≡ stream_of r (actor_at n actor, port)
     gives-at actor port low = (let s = seat-of actor low in ap (λ o. rest_at actors (level_of r) o (fed_to r (actor_at n actor)) port) s.1 ∙ s.2.gives r read network seed port)
 
@@ -152,8 +152,8 @@ module _ (n : Network) (sound : IsSound n) (places : (d : ℕ) (p : DropPoint) �
     loses-at : (b : ℕ) → b < length n.boxes → lost_at actors (slice_get seats b) (box_fed r b) ≡ late_of r.network r.sources b
     loses-at b low =
         let s = seat-of b (omega (arith, low)) in
-        let at : lost_at actors (slice_get seats b) (fed_to r (actor_at n b)) ≡ lost_by r (actor_at n b) = ap (λ o. lost_at actors o (fed_to r (actor_at n b))) s.1 ∙ s.2.loses r read network seed in
-        subst (λ x. lost_at actors (slice_get seats b) (fed_to r x) ≡ lost_by r x) (box-at n b low) at
+        let at : lost_at actors (slice_get seats b) (fed_to r (actor_at n b)) ≡ late_of_actor r (actor_at n b) = ap (λ o. lost_at actors o (fed_to r (actor_at n b))) s.1 ∙ s.2.loses r read network seed in
+        subst (λ x. lost_at actors (slice_get seats b) (fed_to r x) ≡ late_of_actor r x) (box-at n b low) at
 
     pub is-new : (seats-vec : Vec (Seat operator.Actor) Global) → seats-vec.items ≡ seats → (queues : Vec Recorded Global) → map (λ q. q.items) queues.items ≡ r.sources
         → (planner : Setting) (levels : LevelTable) (most : ℕ) (flow : Flow operator.Actor) → IsNewFlow w seats-vec queues planner levels most flow → w.replay ≡ ops_of n → (pages : Option Pages)
@@ -164,10 +164,10 @@ module _ (n : Network) (sound : IsSound n) (places : (d : ℕ) (p : DropPoint) �
         let to : (k : ℕ) → k < ops_of r.network → k < ops_of n = λ k low. subst (λ z. k < ops_of z) network low in
         record {
           joins = subst (λ v. Joins r.network (net_of v)) (sym wires) (subst (λ z. Joins z (net_of w)) (sym network) (joins-all n w measured replay));
-          recorded = λ port. ap (λ q. things (tuples_at (slice_get q.items port))) new.sources_are ∙ ap things (released queues.items port) ∙ ap (λ ss. things (nth ss port)) streams;
+          recorded = λ port. ap (λ q. things (tuples_to_come (slice_get q.items port))) new.sources_are ∙ ap things (released queues.items port) ∙ ap (λ ss. things (nth ss port)) streams;
           empty = λ arc. ap spread_all (new.empty pages arc);
           none_fed = λ actor. ap (λ l. taken_at actors (slice_get l actor)) here ∙ taken-none actor;
-          at_start = λ actor. ap (λ l. place_at actors (slice_get l actor)) here ∙ place-start actor;
+          at_start = λ actor. ap (λ l. moment_at actors (slice_get l actor)) here ∙ place-start actor;
           running = λ actor. ap (λ b. done_at b (slice_get flow.seats.items actor)) new.runs ∙ ap (λ l. done_at false (slice_get l actor)) here ∙ done-not actor;
           fit = λ actor low.
               subst (λ v. IsFuture ((net_of v).takes actor) ((net_of v).fits actor) Start (fed_to r (actor_at r.network actor))) (sym wires)

@@ -31,8 +31,8 @@ use Rattle.sq_start.specs.Numbers.{first_output, ops_of, number_of, actor_at, pl
 use Rattle.sq_start.proofs.NumberLemmas.{box-at, drop-at, output-at, which}
 use Rattle.sq_start.proofs.PointLemmas.{first-found}
 use Rattle.sq_core.specs.declared.join.Feed.{Feed}
-use Rattle.sq_core.specs.Joining.{feeds_of, known_by, AllKnown, ReadsEarlier, IsOrder}
-use Rattle.sq_core.specs.Table.{arc_feed, place_feed, point_row, row_of, table_of, turned, same_box, box_giving, drops_from, drops_behind, with_boxes, with_outputs, actors_of}
+use Rattle.sq_core.specs.Joining.{feeds_of, known_by, AllKnown, ReadsEarlier, IsActorOrder}
+use Rattle.sq_core.specs.Table.{arc_feed, place_feed, point_row, feeds_row, feed_table, turned, same_box, box_giving, drops_from, drops_behind, with_boxes, with_outputs, actors_of}
 use Rattle.sq_core.proofs.TableLemmas.{row-is, count-is}
 
 or-right : (a b : Bool) → b ≡ true → (a || b) ≡ true
@@ -97,7 +97,7 @@ abbrev is_ready : List ℕ → Option ℕ → Bool
 is_ready front None = true
 is_ready front (Some b) = contains_number front b
 
-module _ (n : Network) (sound : IsSound n) (feeds : List (Vec Feed Global)) (rows : (actor : ℕ) → actor < ops_of n → feeds_of feeds actor ≡ row_of n (actor_at n actor))
+module _ (n : Network) (sound : IsSound n) (feeds : List (Vec Feed Global)) (rows : (actor : ℕ) → actor < ops_of n → feeds_of feeds actor ≡ feeds_row n (actor_at n actor))
     (below : (x : ℕ) → contains_number (order_of n.wires) x ≡ true → x < length n.boxes)
     (has : (x : ℕ) → x < length n.boxes → contains_number (order_of n.wires) x ≡ true) where
   abbrev ops : ℕ
@@ -142,7 +142,7 @@ module _ (n : Network) (sound : IsSound n) (feeds : List (Vec Feed Global)) (row
 
       row : feeds_of feeds first ≡ place_feed n p ∷ []
       row =
-          rows first (omega (arith, is, low)) ∙ ap (λ x. row_of n (actor_at n x)) is ∙ ap (row_of n) (drop-at n k low)
+          rows first (omega (arith, is, low)) ∙ ap (λ x. feeds_row n (actor_at n x)) is ∙ ap (feeds_row n) (drop-at n k low)
           ∙ ap (point_row n) here
 
       by : (b : Bool) → same_box (box_giving n p) box ≡ b
@@ -264,7 +264,7 @@ module _ (n : Network) (sound : IsSound n) (feeds : List (Vec Feed Global)) (row
             ∙ (and_parts (not (contains_number front at)) (list_all (λ s. is_given front (producer_of n.wires s)) (inputs_of n.wires at)) next).1)
 
         known-rows : AllKnown ops done (feeds_of feeds at)
-        known-rows = subst (AllKnown ops done) (sym (rows at (omega (arith, low)) ∙ ap (row_of n) (box-at n at low))) (all-arcs (input_arcs_of n.wires at) givens)
+        known-rows = subst (AllKnown ops done) (sym (rows at (omega (arith, low)) ∙ ap (feeds_row n) (box-at n at low))) (all-arcs (input_arcs_of n.wires at) givens)
 
         in-front : (x : ℕ) → contains_number (front ++ at ∷ []) x ≡ true → (contains_number front x ≡ true) ⊎ (at ≡ x)
         in-front x h =
@@ -350,7 +350,7 @@ module _ (n : Network) (sound : IsSound n) (feeds : List (Vec Feed Global)) (row
   outputs-earlier zero low = whole.reads
   outputs-earlier (suc k) low = (
     (λ e. omega (arith, e, low)),
-    subst (AllKnown ops (with_outputs (first_output n) k placed-boxes)) (sym (rows (first_output n + k) (omega (arith, low)) ∙ ap (row_of n) (output-at n k (omega (arith, low)))))
+    subst (AllKnown ops (with_outputs (first_output n) k placed-boxes)) (sym (rows (first_output n + k) (omega (arith, low)) ∙ ap (feeds_row n) (output-at n k (omega (arith, low)))))
         (outputs-old k _ (any-known (output_arc_at n.wires k)), _),
     outputs-earlier k (omega (arith, low)),
   )
@@ -387,7 +387,7 @@ module _ (n : Network) (sound : IsSound n) (feeds : List (Vec Feed Global)) (row
         | inr (inr output) ↦ subst (λ x. known_by ops (actors_of n) x ≡ true) (sym output.1) (outputs-new (length n.wires.outputs) output.0 output.2)
       ]
 
-  pub order-all : IsOrder ops feeds (actors_of n)
+  pub order-all : IsActorOrder ops feeds (actors_of n)
   order-all =
       record {
         earlier = outputs-earlier (length n.wires.outputs) (omega arith);
@@ -395,9 +395,9 @@ module _ (n : Network) (sound : IsSound n) (feeds : List (Vec Feed Global)) (row
         ordered = all-ordered;
       }
 
-pub network-order : (n : Network) → IsSound n → (feeds : List (Vec Feed Global)) → map (λ f. f.items) feeds ≡ table_of n → IsOrder (length feeds) feeds (actors_of n)
+pub network-order : (n : Network) → IsSound n → (feeds : List (Vec Feed Global)) → map (λ f. f.items) feeds ≡ feed_table n → IsActorOrder (length feeds) feeds (actors_of n)
 network-order n sound feeds table =
-    subst (λ k. IsOrder k feeds (actors_of n)) (sym (count-is n sound feeds table))
+    subst (λ k. IsActorOrder k feeds (actors_of n)) (sym (count-is n sound feeds table))
     (order-all n sound feeds (row-is n sound feeds table)
     (λ x h. (let low = (order_placed n.wires).below x (sym (has_is (order_of n.wires) x) ∙ h) in let e = boxes_count n sound in omega (arith, low, e)))
     (λ x low. order_has n.wires sound.agrees.wired sound.acyclic x (let e = boxes_count n sound in omega (arith, low, e))))

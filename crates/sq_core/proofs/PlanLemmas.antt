@@ -15,7 +15,7 @@ use Rattle.sq_model.specs.Shedding.{Replay}
 use Rattle.sq_actor.specs.declared.actor.Actor.{Actor}
 use Rattle.sq_replay.specs.Recorded.{Recorded}
 use Rattle.sq_flow.specs.declared.flow.Flow.{Flow}
-use Rattle.sq_flow.specs.Flows.{tuples_at, to_release}
+use Rattle.sq_flow.specs.Flows.{tuples_to_come, to_release}
 use Rattle.sq_flow.specs.Plans.{arrivals, last_arrival, streams_left, counts_of, plans_left, IsPlanned}
 use Rattle.sq_core.specs.Answers.{Plans}
 
@@ -54,7 +54,7 @@ never-long ps fine e k names is = (none-names ps (recursion_from_All IsFine ps f
 pub never-wide : (ps : List DropPoint) → All IsFine ps → (e : PlaceErr) (k : ℕ) → NamesRefusal ps e → e ≡ WideExtent k → ⊥
 never-wide ps fine e k names is = (none-names ps (recursion_from_All IsFine ps fine) 0 k).1 (subst (NamesRefusal ps) is names)
 
-none-left : (sources : List Recorded) → ((source : ℕ) → tuples_at (slice_get sources source) ≡ []) → (epoch : ℕ) → last_arrival epoch (map (λ tuples. tuples.items) sources) ≡ 0
+none-left : (sources : List Recorded) → ((source : ℕ) → tuples_to_come (slice_get sources source) ≡ []) → (epoch : ℕ) → last_arrival epoch (map (λ tuples. tuples.items) sources) ≡ 0
 none-left [] none epoch = refl
 none-left (tuples ∷ sources) none epoch =
     ap (λ xs. max (max_by (λ (x : Tuple). x.time / epoch) xs) (last_arrival epoch (map (λ tuples. tuples.items) sources))) (none 0)

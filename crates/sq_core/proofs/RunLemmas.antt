@@ -9,7 +9,7 @@ use Rattle.sq_value.specs.Lists.{IsPrefixOf}
 use Rattle.sq_plan.specs.declared.closing.Shown.{Shown}
 use Rattle.sq_plan.specs.Shown.{level_for}
 use Rattle.sq_outside.specs.Disks.{Pages}
-use Rattle.sq_road.specs.Levels.{Agrees}
+use Rattle.sq_road.specs.Levels.{AgreesWith}
 use Rattle.sq_oper.specs.declared.outs.Event.{Event}
 use Rattle.sq_oper.specs.declared.outs.Decision.{Decision}
 use Rattle.sq_place.specs.declared.DropPoint.{DropPoint}
@@ -22,25 +22,25 @@ use Rattle.sq_pool.specs.Trust.{Tells}
 use Rattle.sq_actor.specs.declared.actor.Actor.{Actor}
 use Rattle.sq_flow.specs.declared.flow.Flow.{Flow}
 use Rattle.sq_flow.specs.declared.errors.RunErr.{RunErr}
-use Rattle.sq_flow.specs.Events.{line_of, lines_of, drop_in, drops_of, IsEventIn}
+use Rattle.sq_flow.specs.Events.{line_in, lines_of, drop_in, drops_of, IsEventIn}
 use Rattle.sq_flow.specs.declared.wires.Wires.{Wires}
 use Rattle.sq_flow.specs.Wiring.{arcs_read}
 use Rattle.sq_flow.proofs.ArcLemmas.{ends-chain}
 use Rattle.sq_below.specs.Actors.{stream_of}
-use Rattle.sq_flow.specs.Flows.{items_in, lines_left, decisions_left, left_on, fed_at_last, Stepped, ShowsPrefix, NoneStrange, CostsFed, CostsAtMost, TooMuchOnly, sum_below}
+use Rattle.sq_flow.specs.Flows.{items_in, lines_left, decisions_left, left_on, fed_at_last, Stepped, ShowsPrefix, NoneStrange, CostsFed, StepCosts, TooMuchOnly, sum_below}
 use Rattle.sq_flow.specs.Plans.{plan_in, plans_of, plans_left, PlansPrefix}
 use Rattle.sq_flow.specs.Seats.{taken_at}
 use Rattle.sq_flow.specs.Engines.{IsEngine}
 use Rattle.sq_core.specs.declared.engine.Engine.{Engine}
 use Rattle.sq_core.specs.Meanings.{actors, IsValid}
 use Rattle.sq_start.specs.Numbers.{first_output, ops_of}
-use Rattle.sq_core.specs.Answers.{Plans, Answers}
+use Rattle.sq_core.specs.Answers.{Plans, KeepsAnswers}
 use Rattle.sq_core.specs.Runs.{IsSoundEngine, IsRun, ShownSoFar, Stopped}
 use Rattle.sq_core.proofs.SumLemmas.{sum-same, sum-less}
 
 lines-append : (o : ℕ) (xs ys : List Event) → lines_of o (xs ++ ys) ≡ lines_of o xs ++ lines_of o ys
 lines-append o [] ys = refl
-lines-append o (x ∷ xs) ys = ap (λ l. line_of o x ++ l) (lines-append o xs ys) ∙ sym (append_assoc (line_of o x) (lines_of o xs) (lines_of o ys))
+lines-append o (x ∷ xs) ys = ap (λ l. line_in o x ++ l) (lines-append o xs ys) ∙ sym (append_assoc (line_in o x) (lines_of o xs) (lines_of o ys))
 
 plans-append : (xs ys : List Event) → plans_of (xs ++ ys) ≡ plans_of xs ++ plans_of ys
 plans-append [] ys = refl
@@ -88,8 +88,8 @@ plans-prefix-in-front history xs ys left h =
     (prefix-front (plans_of history) (plans_of ys) (plans_of xs ++ left) h))
 
 -- the levels of the closed epochs are those of the replay
-pub agrees-of : (r : Replay) (flow : Flow Actor) (history : List Event) → Plans r flow history → Agrees flow.levels (level_of r)
-agrees-of r flow history plans = subst (λ s. Agrees flow.levels (level_for s (counts_in r))) plans.setting plans.planned.agrees
+pub agrees-of : (r : Replay) (flow : Flow Actor) (history : List Event) → Plans r flow history → AgreesWith flow.levels (level_of r)
+agrees-of r flow history plans = subst (λ s. AgreesWith flow.levels (level_for s (counts_in r))) plans.setting plans.planned.agrees
 
 -- an output, a drop and a box is an operator
 pub shown-in : (e : Engine) (n : Network) → e.network ≡ n → IsSoundEngine e → (output : ℕ) → output < length n.wires.outputs → e.engine.flow.wires.shown + output < length e.engine.flow.seats.items
@@ -130,8 +130,8 @@ module _ (was is : Option Pages) (e e' : Engine) (events events' : List Event) (
           shown = sym (plans-in-front history events events' (plans_left e.engine.flow) (plans_left e'.engine.flow) stepped.plans) ∙ plans.shown;
         }
 
-    answers-after : (r : Replay) (history : List Event) → e.network ≡ r.network → IsSoundEngine e → Tells is → Agrees e'.engine.flow.levels (level_of r)
-        → Answers r (items_in e.engine.flow was) e.engine.flow (history ++ events) → Answers r (items_in e'.engine.flow is) e'.engine.flow (history ++ events')
+    answers-after : (r : Replay) (history : List Event) → e.network ≡ r.network → IsSoundEngine e → Tells is → AgreesWith e'.engine.flow.levels (level_of r)
+        → KeepsAnswers r (items_in e.engine.flow was) e.engine.flow (history ++ events) → KeepsAnswers r (items_in e'.engine.flow is) e'.engine.flow (history ++ events')
     answers-after r history given sound told agrees a =
         let goes = stepped.goes told (level_of r) agrees a.holds in
         record {
@@ -193,11 +193,11 @@ module _ (was is : Option Pages) (e e' : Engine) (events events' : List Event) (
   -- ---- a step that failed
 
   pub stopped-after : (honest : Bool) → (Tells is → Tells was) → (before after : ℕ) (err : RunErr) → ShowsPrefix actors was is e.engine.flow e'.engine.flow.levels events events' → PlansPrefix e.engine.flow e'.engine.flow.levels events events'
-      → CostsAtMost actors was is e.engine.flow e'.engine.flow.levels before after → NoneStrange actors honest was is e.engine.flow e'.engine.flow.levels err → TooMuchOnly actors was is e.engine.flow e'.engine.flow err
+      → StepCosts actors was is e.engine.flow e'.engine.flow.levels before after → NoneStrange actors honest was is e.engine.flow e'.engine.flow.levels err → TooMuchOnly actors was is e.engine.flow e'.engine.flow err
       → Tells is → (r : Replay) (history : List Event) (begun : ℕ) → IsRun r was e (history ++ events) begun before → Stopped honest r (history ++ events') begun after err
   stopped-after honest tells before after err prefix planned cost strange much told r history begun run =
       let a = run.answers (tells told) in
-      let agrees : Agrees e'.engine.flow.levels (level_of r) = subst (λ s. Agrees e'.engine.flow.levels (level_for s (counts_in r))) run.plans.setting (planned.agrees (counts_in r) run.plans.planned) in
+      let agrees : AgreesWith e'.engine.flow.levels (level_of r) = subst (λ s. AgreesWith e'.engine.flow.levels (level_for s (counts_in r))) run.plans.setting (planned.agrees (counts_in r) run.plans.planned) in
       let begins = prefix told (level_of r) agrees a.holds in
       record {
         so_far = record {
@@ -237,14 +237,14 @@ module _ {T : Type 0} (was is : Option Pages) (e e' : Engine) (events events' : 
       by (Err err) stepped engine = _
 
   pub stopped-clause : (honest : Bool) → (Tells is → Tells was) → OnErr answer (ShowsPrefix actors was is e.engine.flow e'.engine.flow.levels events events') → OnErr answer (PlansPrefix e.engine.flow e'.engine.flow.levels events events')
-      → OnErr answer (CostsAtMost actors was is e.engine.flow e'.engine.flow.levels before after)
+      → OnErr answer (StepCosts actors was is e.engine.flow e'.engine.flow.levels before after)
       → IfErr answer (NoneStrange actors honest was is e.engine.flow e'.engine.flow.levels) → IfErr answer (TooMuchOnly actors was is e.engine.flow e'.engine.flow)
       → IfErr answer (λ err. Tells is → (r : Replay) (history : List Event) (begun : ℕ) → IsRun r was e (history ++ events) begun before
       → Stopped honest r (history ++ events') begun after err)
   stopped-clause honest tells prefix planned cost strange much = by answer prefix planned cost strange much
     where
       by : (o : Result T RunErr) → OnErr o (ShowsPrefix actors was is e.engine.flow e'.engine.flow.levels events events') → OnErr o (PlansPrefix e.engine.flow e'.engine.flow.levels events events')
-          → OnErr o (CostsAtMost actors was is e.engine.flow e'.engine.flow.levels before after)
+          → OnErr o (StepCosts actors was is e.engine.flow e'.engine.flow.levels before after)
           → IfErr o (NoneStrange actors honest was is e.engine.flow e'.engine.flow.levels) → IfErr o (TooMuchOnly actors was is e.engine.flow e'.engine.flow)
           → IfErr o (λ err. Tells is → (r : Replay) (history : List Event) (begun : ℕ) → IsRun r was e (history ++ events) begun before
           → Stopped honest r (history ++ events') begun after err)

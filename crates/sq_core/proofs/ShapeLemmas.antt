@@ -3,13 +3,13 @@ use Rattle.std.proofs.Common.{◌≡◌, ◌≢◌, ℕ, zero, suc, ◌+◌, ◌
 use Rattle.std.specs.declared.alloc.Global.{Global}
 use Rattle.std.proofs.lemmas.Bool.{cases_lt, cases_eq}
 use Rattle.sq_sched.specs.Ready.{contains}
-use Rattle.sq_left.specs.Left.{Net, known, Each, IsWired}
+use Rattle.sq_left.specs.Left.{Net, is_known_actor, Each, IsLaidOut}
 use Rattle.sq_left.proofs.MergeLemmas.{eqb-same, eqb-not}
 use Rattle.sq_flow.specs.declared.wires.Arc.{Arc}
 use Rattle.sq_flow.specs.declared.wires.Wires.{Wires}
-use Rattle.sq_flow.specs.Wiring.{net_of, arcs_read, arcs_from, followers_of, Climbs, from_of, port_of, numbers_in, rows_in, times_in, IsShaped}
+use Rattle.sq_flow.specs.Wiring.{net_of, arcs_read, arcs_from, followers_of, Climbs, from_of, arc_port, numbers_in, rows_in, times_in, IsShaped}
 use Rattle.sq_core.specs.declared.join.Feed.{Feed}
-use Rattle.sq_core.specs.Joining.{feeds_of, IsGiver, AreFeeds, IsOf, IsJoining, IsJoined, IsOrder, ReadsEarlier, AllKnown, known_by, Fixed}
+use Rattle.sq_core.specs.Joining.{feeds_of, IsGiver, AreFeeds, IsOf, IsJoining, IsJoined, IsActorOrder, ReadsEarlier, AllKnown, known_by, Fixed}
 
 -- a table has nothing past its end
 pub no-feeds : (feeds : List (Vec Feed Global)) (actor : ℕ) → length feeds ≤ actor → feeds_of feeds actor ≡ []
@@ -17,7 +17,7 @@ no-feeds [] actor h = refl
 no-feeds (x ∷ xs) zero h = absurd (omega (arith, h))
 no-feeds (x ∷ xs) (suc actor) h = no-feeds xs actor (omega (arith, h))
 
-known-same : (net : Net) (order : List ℕ) (actor : ℕ) → known net order actor ≡ known_by net.replay order actor
+known-same : (net : Net) (order : List ℕ) (actor : ℕ) → is_known_actor net order actor ≡ known_by net.replay order actor
 known-same net [] actor = refl
 known-same net (last ∷ earlier) actor = ap (λ b. eqb actor last || b) (known-same net earlier actor)
 
@@ -49,7 +49,7 @@ no-giver shown ops actor high low (inl h) = omega (arith, high, h)
 no-giver shown ops actor high low (inr h) = omega (arith, low, h)
 
 module _ (shown : ℕ) (feeds : List (Vec Feed Global)) (w : Wires) (are : AreFeeds shown feeds) (i : IsJoining shown feeds (length feeds) 0 w) (replay : w.replay ≡ length feeds) where
-  wired : (order : List ℕ) → ReadsEarlier (length feeds) feeds order → IsWired (net_of w) order
+  wired : (order : List ℕ) → ReadsEarlier (length feeds) feeds order → IsLaidOut (net_of w) order
   wired [] h = _
   wired (last ∷ earlier) h = (
     λ e. h.0 (e ∙ replay),
@@ -79,9 +79,9 @@ module _ (shown : ℕ) (feeds : List (Vec Feed Global)) (w : Wires) (are : AreFe
   outputs-end actor port high low = none-from (arcs_from w actor port) (λ arc is.
       let there = i.readers_in actor port 0 arc is in
       let other : actor ≢ from_of (slice_get w.arcs.items arc) = λ e. no-giver shown (length feeds) actor high low (subst (IsGiver shown (length feeds)) (sym e) (i.from_in arc there)) in
-      i.read actor port arc there ∙ ap (λ b. cond b (cond (eqb port (port_of (slice_get w.arcs.items arc))) 1 0) 0) (eqb-not actor (from_of (slice_get w.arcs.items arc)) other))
+      i.read actor port arc there ∙ ap (λ b. cond b (cond (eqb port (arc_port (slice_get w.arcs.items arc))) 1 0) 0) (eqb-not actor (from_of (slice_get w.arcs.items arc)) other))
 
-  pub shaped-all : w.shown ≡ shown → w.sheds ≤ shown → shown ≤ length feeds → IsOrder (length feeds) feeds w.order.items → IsShaped w (length feeds)
+  pub shaped-all : w.shown ≡ shown → w.sheds ≤ shown → shown ≤ length feeds → IsActorOrder (length feeds) feeds w.order.items → IsShaped w (length feeds)
   shaped-all same sheds low order =
       record {
         replay_is = replay;
@@ -178,7 +178,7 @@ pub joined-done : (shown : ℕ) (feeds : List (Vec Feed Global)) (at : ℕ) (w :
 joined-done shown feeds at w are i is replay = joined-all shown feeds w are (subst (λ p. IsJoining shown feeds p 0 w) is i) replay
 
 pub shaped-done : (feeds : List (Vec Feed Global)) (at : ℕ) (first w : Wires) → AreFeeds first.shown feeds → IsJoining first.shown feeds at 0 w → Fixed first w → at ≡ length feeds
-    → first.replay ≡ length feeds → first.sheds ≤ first.shown → first.shown ≤ length feeds → IsOrder (length feeds) feeds first.order.items → IsShaped w (length feeds)
+    → first.replay ≡ length feeds → first.sheds ≤ first.shown → first.shown ≤ length feeds → IsActorOrder (length feeds) feeds first.order.items → IsShaped w (length feeds)
 shaped-done feeds at first w are i fixed is replay sheds low order =
     shaped-all first.shown feeds w are (subst (λ p. IsJoining first.shown feeds p 0 w) is i) (fixed.replay ∙ replay) fixed.shown (let same = fixed.sheds in omega (arith, same, sheds)) low
-    (subst (λ o. IsOrder (length feeds) feeds o.items) (sym fixed.order) order)
+    (subst (λ o. IsActorOrder (length feeds) feeds o.items) (sym fixed.order) order)

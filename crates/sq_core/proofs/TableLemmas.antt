@@ -37,10 +37,10 @@ use Rattle.sq_below.specs.Actors.{Actor, Sources, Box, Shedder, Shower, giver, f
 use Rattle.sq_start.specs.Numbers.{IsThere, first_output, ops_of, number_of, actor_at, place_stream}
 use Rattle.sq_start.proofs.NumberLemmas.{box-at, drop-at, output-at, giver-there, from-there}
 use Rattle.sq_flow.specs.declared.wires.Wires.{Wires}
-use Rattle.sq_flow.specs.Wiring.{arcs_read, arc_at as wire_at}
+use Rattle.sq_flow.specs.Wiring.{arcs_read, arc_wired as wire_at}
 use Rattle.sq_core.specs.declared.join.Feed.{Feed}
 use Rattle.sq_core.specs.Joining.{feeds_of, IsGiver, AreFeeds, IsOf, IsJoined}
-use Rattle.sq_core.specs.Table.{kinds_on, arc_feed, place_feed, point_row, row_of, table_of, IsMeasured}
+use Rattle.sq_core.specs.Table.{kinds_on, arc_feed, place_feed, point_row, feeds_row, feed_table, IsTabled}
 use Rattle.sq_core.proofs.PointLemmas.{streams_are}
 use Rattle.sq_core.proofs.ShapeLemmas.{no-feeds}
 
@@ -131,7 +131,7 @@ module _ (n : Network) (sound : IsSound n) where
   place_stream_there (at.Arc a) low = arc_stream_there a low
 
   -- a fact of all feeds
-  pub row-feeds : (P : Feed → Type 0) → ((a : ℕ) → P (arc_feed n a)) → ((p : DropPoint) → P (place_feed n p)) → (x : Actor) (port : ℕ) (f : Feed) → slice_get (row_of n x) port ≡ Some f → P f
+  pub row-feeds : (P : Feed → Type 0) → ((a : ℕ) → P (arc_feed n a)) → ((p : DropPoint) → P (place_feed n p)) → (x : Actor) (port : ℕ) (f : Feed) → slice_get (feeds_row n x) port ≡ Some f → P f
   row-feeds P arc place Sources port f is = cc is
   row-feeds P arc place (Box b) port f is = map-at (arc_feed n) P arc (input_arcs_of n.wires b) port f is
   row-feeds P arc place (Shedder w) port f is = by (slice_get (points_of n) w) port is
@@ -143,7 +143,7 @@ module _ (n : Network) (sound : IsSound n) where
   row-feeds P arc place (Shower o) zero f is = (let e : arc_feed n (output_arc_at n.wires o) ≡ f = cc is in subst P e (arc (output_arc_at n.wires o)))
   row-feeds P arc place (Shower o) (suc port) f is = cc is
 
-  few-in-row : (x : Actor) → length (row_of n x) ≤ 8
+  few-in-row : (x : Actor) → length (feeds_row n x) ≤ 8
   few-in-row Sources = omega arith
   few-in-row (Box b) =
       let a = length-map (input_arcs_of n.wires b) (arc_feed n) in
@@ -178,18 +178,18 @@ module _ (n : Network) (sound : IsSound n) where
       by None t = giver-gives (stream_on n.wires a)
       by (Some d) t = inl (omega (arith, t))
 
-  module _ (feeds : List (Vec Feed Global)) (table : map (λ f. f.items) feeds ≡ table_of n) where
-    pub row-is : (actor : ℕ) → actor < ops_of n → feeds_of feeds actor ≡ row_of n (actor_at n actor)
-    row-is actor low = rows-at feeds actor ∙ ap (λ t. list_in (slice_get t actor)) table ∙ ap list_in (range-get (λ k. row_of n (actor_at n k)) (ops_of n) actor low)
+  module _ (feeds : List (Vec Feed Global)) (table : map (λ f. f.items) feeds ≡ feed_table n) where
+    pub row-is : (actor : ℕ) → actor < ops_of n → feeds_of feeds actor ≡ feeds_row n (actor_at n actor)
+    row-is actor low = rows-at feeds actor ∙ ap (λ t. list_in (slice_get t actor)) table ∙ ap list_in (range-get (λ k. feeds_row n (actor_at n k)) (ops_of n) actor low)
 
     pub count-is : length feeds ≡ ops_of n
     count-is =
         let a = length-map feeds (λ f. f.items) in
         let t = ap (λ (l : List (List Feed)). length l) table in
-        let b = length-map-range_with_len (λ k. row_of n (actor_at n k)) 0 (ops_of n) in
+        let b = length-map-range_with_len (λ k. feeds_row n (actor_at n k)) 0 (ops_of n) in
         omega (arith, a, t, b)
 
-    by-row : (P : List Feed → Type 0) → ((x : Actor) → P (row_of n x)) → P [] → (actor : ℕ) → P (feeds_of feeds actor)
+    by-row : (P : List Feed → Type 0) → ((x : Actor) → P (feeds_row n x)) → P [] → (actor : ℕ) → P (feeds_of feeds actor)
     by-row P row none actor =
         elim (cases_lt actor (ops_of n)) [
           | inl low ↦ subst P (sym (row-is actor low)) (row (actor_at n actor))
@@ -207,7 +207,7 @@ module _ (n : Network) (sound : IsSound n) where
         }
 
     module _ (w : Wires) (joined : IsJoined feeds w) where
-      ports-many : (actor : ℕ) → actor < ops_of n → length (arcs_read w actor) ≡ length (row_of n (actor_at n actor))
+      ports-many : (actor : ℕ) → actor < ops_of n → length (arcs_read w actor) ≡ length (feeds_row n (actor_at n actor))
       ports-many actor low = joined.many actor ∙ ap (λ (l : List Feed). length l) (row-is actor low)
 
       within : (xs : List Feed) (i : ℕ) (x : Feed) → slice_get xs i ≡ Some x → i < length xs
@@ -224,12 +224,12 @@ module _ (n : Network) (sound : IsSound n) where
       none-in [] h = refl
       none-in (x ∷ xs) h = absurd (omega (arith, h))
 
-      pub measured-all : IsMeasured n w
+      pub measured-all : IsTabled n w
       measured-all =
           record {
             many = ports-many;
             each = λ actor port f low is.
-                let inside = within (row_of n (actor_at n actor)) port f is in
+                let inside = within (feeds_row n (actor_at n actor)) port f is in
                 let m = ports-many actor low in
                 let a = some-at (arcs_read w actor) port (omega (arith, inside, m)) in
                 let here : slice_get (feeds_of feeds actor) port ≡ Some f = ap (λ l. slice_get l port) (row-is actor low) ∙ is in
@@ -261,19 +261,19 @@ from-giver n a = by (drop_on_arc n a)
     by None is = refl
     by (Some d) is = cc is
 
-pub row-box : (n : Network) (actor : ℕ) → actor < length n.boxes → row_of n (actor_at n actor) ≡ row_of n (Box actor)
-row-box n actor low = ap (row_of n) (box-at n actor low)
+pub row-box : (n : Network) (actor : ℕ) → actor < length n.boxes → feeds_row n (actor_at n actor) ≡ feeds_row n (Box actor)
+row-box n actor low = ap (feeds_row n) (box-at n actor low)
 
-pub row-drop : (n : Network) (actor : ℕ) (p : DropPoint) → length n.boxes ≤ actor → slice_get (points_of n) (actor - length n.boxes) ≡ Some p → row_of n (actor_at n actor) ≡ place_feed n p ∷ []
+pub row-drop : (n : Network) (actor : ℕ) (p : DropPoint) → length n.boxes ≤ actor → slice_get (points_of n) (actor - length n.boxes) ≡ Some p → feeds_row n (actor_at n actor) ≡ place_feed n p ∷ []
 row-drop n actor p high there =
     let low = slice_get_within (points_of n) (actor - length n.boxes) p there in
     let e : actor ≡ length n.boxes + (actor - length n.boxes) = omega (arith, high) in
-    ap (λ k. row_of n (actor_at n k)) e ∙ ap (row_of n) (drop-at n (actor - length n.boxes) low) ∙ ap (point_row n) there
+    ap (λ k. feeds_row n (actor_at n k)) e ∙ ap (feeds_row n) (drop-at n (actor - length n.boxes) low) ∙ ap (point_row n) there
 
-pub row-output : (n : Network) (actor : ℕ) → first_output n ≤ actor → actor < ops_of n → row_of n (actor_at n actor) ≡ arc_feed n (output_arc_at n.wires (actor - first_output n)) ∷ []
+pub row-output : (n : Network) (actor : ℕ) → first_output n ≤ actor → actor < ops_of n → feeds_row n (actor_at n actor) ≡ arc_feed n (output_arc_at n.wires (actor - first_output n)) ∷ []
 row-output n actor high low =
     let e : actor ≡ first_output n + (actor - first_output n) = omega (arith, high) in
-    ap (λ k. row_of n (actor_at n k)) e ∙ ap (row_of n) (output-at n (actor - first_output n) (omega (arith, high, low)))
+    ap (λ k. feeds_row n (actor_at n k)) e ∙ ap (feeds_row n) (output-at n (actor - first_output n) (omega (arith, high, low)))
 
 pub row-more : (f : ℕ → List Feed) (k : ℕ) (row : Vec Feed Global) (old new : List (Vec Feed Global)) → new ≡ old ++ row ∷ [] → map (λ v. v.items) old ≡ map f (numbers_to k) → row.items ≡ f k → map (λ v. v.items) new ≡ map f (numbers_to (k + 1))
 row-more f k row old new more so-far is =

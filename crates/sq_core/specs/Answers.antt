@@ -38,7 +38,7 @@ pub record ArcLeft (r : Replay) (items : ℕ → List Item) (flow : Flow Actor) 
 -- and then those that are left, are its record with the levels; and what each box will have been fed and have lost at the end,
 -- and what all operators will have taken, is what the replay says; and of what it says is given to a port of an operator, the
 -- last part is still to be taken from the arc there, and the rest was taken
-pub record Answers (r : Replay) (items : ℕ → List Item) (flow : Flow Actor) (history : List Event) : Type 0 where
+pub record KeepsAnswers (r : Replay) (items : ℕ → List Item) (flow : Flow Actor) (history : List Event) : Type 0 where
   pub holds : HoldsItems actors (level_of r) items flow
   pub lines : (output : ℕ) → output < length r.network.wires.outputs → lines_of output history ++ lines_left actors (level_of r) items flow output ≡ answer_of r output
   pub drops : (w : ℕ) (p : DropPoint) → slice_get (points_of r.network) w ≡ Some p

@@ -4,16 +4,16 @@ use Rattle.std.specs.declared.alloc.Global.{Global}
 use Rattle.sq_flow.specs.declared.wires.Arc.{Arc}
 use Rattle.sq_flow.specs.declared.wires.Wires.{Wires}
 use Rattle.sq_sched.specs.Ready.{contains}
-use Rattle.sq_flow.specs.Wiring.{numbers_in, rows_in, arcs_read, arcs_from, followers_of, Climbs, from_of, port_of, to_of, place_of, times_in}
+use Rattle.sq_flow.specs.Wiring.{numbers_in, rows_in, arcs_read, arcs_from, followers_of, Climbs, from_of, arc_port, to_of, arc_place, times_in}
 use Rattle.sq_core.specs.declared.join.Feed.{Feed}
 
-abbrev pub items_in : Option (Vec Feed Global) → List Feed
-items_in None = []
-items_in (Some v) = v.items
+abbrev pub feeds_in : Option (Vec Feed Global) → List Feed
+feeds_in None = []
+feeds_in (Some v) = v.items
 
 -- what an operator reads, by port
 abbrev pub feeds_of : List (Vec Feed Global) → ℕ → List Feed
-feeds_of feeds actor = items_in (slice_get feeds actor)
+feeds_of feeds actor = feeds_in (slice_get feeds actor)
 
 -- an operator that isn't an output, or the replay
 abbrev pub IsGiver : ℕ → ℕ → ℕ → Type 0
@@ -41,7 +41,7 @@ ReadsEarlier replay feeds [] = Unit {0}
 ReadsEarlier replay feeds (last ∷ earlier) = (last ≢ replay) × AllKnown replay earlier (feeds_of feeds last) × ReadsEarlier replay feeds earlier
 
 -- an order of all operators, the last first
-pub record IsOrder (ops : ℕ) (feeds : List (Vec Feed Global)) (order : List ℕ) : Type 0 where
+pub record IsActorOrder (ops : ℕ) (feeds : List (Vec Feed Global)) (order : List ℕ) : Type 0 where
   pub earlier : ReadsEarlier ops feeds order
   pub listed : (actor : ℕ) → known_by ops order actor ≡ true → actor < ops + 1
   pub ordered : (actor : ℕ) → actor < ops → known_by ops order actor ≡ true
@@ -76,7 +76,7 @@ pub record Fixed (was is : Wires) : Type 0 where
   pub order : is.order ≡ was.order
 
 -- an arc is added
-pub record Adds (arc : Arc) (was is : Wires) : Type 0 where
+pub record AddsArc (arc : Arc) (was is : Wires) : Type 0 where
   pub arcs : is.arcs.items ≡ was.arcs.items ++ arc ∷ []
   pub inputs_len : length is.inputs.items ≡ length was.inputs.items
   pub readers_len : length is.readers.items ≡ length was.readers.items
@@ -97,11 +97,11 @@ pub record IsJoining (shown : ℕ) (feeds : List (Vec Feed Global)) (at place : 
   pub arcs_in : (actor port arc : ℕ) → slice_get (arcs_read wires actor) port ≡ Some arc → arc < length wires.arcs.items
   pub from_in : (arc : ℕ) → arc < length wires.arcs.items → IsGiver shown (length feeds) (from_of (slice_get wires.arcs.items arc))
   pub joined : (actor port arc : ℕ) → slice_get (arcs_read wires actor) port ≡ Some arc
-      → (to_of (slice_get wires.arcs.items arc) ≡ actor) × (place_of (slice_get wires.arcs.items arc) ≡ port)
+      → (to_of (slice_get wires.arcs.items arc) ≡ actor) × (arc_place (slice_get wires.arcs.items arc) ≡ port)
   pub fed : (actor port arc : ℕ) → slice_get (arcs_read wires actor) port ≡ Some arc → IsOf (slice_get wires.arcs.items arc) (slice_get (feeds_of feeds actor) port)
   pub read : (actor port arc : ℕ) → arc < length wires.arcs.items
       → times_in arc (arcs_from wires actor port)
-      ≡ (if actor == from_of (slice_get wires.arcs.items arc) then (if port == port_of (slice_get wires.arcs.items arc) then 1 else 0) else 0)
+      ≡ (if actor == from_of (slice_get wires.arcs.items arc) then (if port == arc_port (slice_get wires.arcs.items arc) then 1 else 0) else 0)
   pub readers_in : (actor port place arc : ℕ) → slice_get (arcs_from wires actor port) place ≡ Some arc → arc < length wires.arcs.items
   pub followers_len : length wires.followers.items ≡ length feeds + 1
   pub followed : (arc : ℕ) → arc < length wires.arcs.items

@@ -11,7 +11,7 @@ use Rattle.sq_model.specs.Shedding.{Replay, answer_of}
 use Rattle.sq_model.specs.Kept.{fed_of, work_of, turns_of}
 use Rattle.sq_model.specs.Shown.{plans_shown}
 use Rattle.sq_actor.specs.declared.actor.Actor.{Actor}
-use Rattle.sq_actor.specs.Late.{late_by}
+use Rattle.sq_actor.specs.Late.{late_by_actor}
 use Rattle.sq_pool.specs.Trust.{Tells}
 use Rattle.sq_queue.specs.Faces.{Together}
 use Rattle.sq_flow.specs.declared.seats.Seat.{Seat}
@@ -27,7 +27,7 @@ use Rattle.sq_core.specs.declared.engine.Engine.{Engine}
 use Rattle.sq_core.specs.Meanings.{actors, IsValid}
 use Rattle.sq_start.specs.Numbers.{first_output, ops_of}
 use Rattle.sq_start.specs.Nets.{decisions_of}
-use Rattle.sq_core.specs.Answers.{Plans, Answers}
+use Rattle.sq_core.specs.Answers.{Plans, KeepsAnswers}
 
 -- what each step keeps, over every disk: the network is sound, and the operators are its boxes, its window drops and its outputs
 pub record IsSoundEngine (e : Engine) : Type 0 where
@@ -45,7 +45,7 @@ pub record IsRun (r : Replay) (pages : Option Pages) (engine : Engine) (history 
   pub together : Together engine.engine.flow.queues pages
   pub counted : steps ≡ begun + taken_in_all actors engine.engine.flow
   pub plans : Plans r engine.engine.flow history
-  pub answers : Tells pages → Answers r (items_in engine.engine.flow pages) engine.engine.flow history
+  pub answers : Tells pages → KeepsAnswers r (items_in engine.engine.flow pages) engine.engine.flow history
 
 -- what a run has shown so far is a beginning of the answers, the records and the plans, and no more was fed than they take
 pub record ShownSoFar (r : Replay) (history : List Event) (begun steps : ℕ) : Type 0 where
@@ -67,10 +67,10 @@ fed_at engine at = taken_at actors (slice_get engine.engine.flow.seats.items at)
 
 abbrev pub late_in : Option (Seat Actor) → ℕ
 late_in None = 0
-late_in (Some seat) = late_by seat.op (actors.taken seat.op)
+late_in (Some seat) = late_by_actor seat.op (actors.taken seat.op)
 
-abbrev pub late_at : Engine → ℕ → ℕ
-late_at engine at = late_in (slice_get engine.engine.flow.seats.items at)
+abbrev pub late_at_seat : Engine → ℕ → ℕ
+late_at_seat engine at = late_in (slice_get engine.engine.flow.seats.items at)
 
 -- what a run that is done has shown, fed and lost
 pub record ShownAll (r : Replay) (engine : Engine) (history : List Event) (begun steps : ℕ) : Type 0 where
@@ -78,5 +78,5 @@ pub record ShownAll (r : Replay) (engine : Engine) (history : List Event) (begun
   pub drops : (w : ℕ) (p : DropPoint) → slice_get (points_of r.network) w ≡ Some p → drops_of w history ≡ decisions_of r w p
   pub plans : plans_of history ≡ plans_shown r
   pub fed : (at : ℕ) → at < length r.network.boxes → fed_at engine at ≡ fed_of r at
-  pub late : (at : ℕ) → at < length r.network.boxes → late_at engine at ≡ late_of r.network r.sources at
+  pub late : (at : ℕ) → at < length r.network.boxes → late_at_seat engine at ≡ late_of r.network r.sources at
   pub work : steps ≡ begun + work_of r

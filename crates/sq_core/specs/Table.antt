@@ -14,7 +14,7 @@ use Rattle.sq_model.specs.Shedding.{drop_above_arc}
 use Rattle.sq_below.specs.Actors.{Actor, Sources, Box, Shedder, Shower, giver, arc_from}
 use Rattle.sq_start.specs.Numbers.{first_output, ops_of, number_of, actor_at, place_stream}
 use Rattle.sq_flow.specs.declared.wires.Wires.{Wires}
-use Rattle.sq_flow.specs.Wiring.{arcs_read, arc_at}
+use Rattle.sq_flow.specs.Wiring.{arcs_read, arc_wired}
 use Rattle.sq_core.specs.declared.join.Feed.{Feed}
 use Rattle.sq_core.specs.Joining.{IsOf}
 
@@ -44,15 +44,15 @@ point_row n None = []
 point_row n (Some p) = place_feed n p ∷ []
 
 -- what an actor reads, by port
-abbrev pub row_of : Network → Actor → List Feed
-row_of n Sources = []
-row_of n (Box b) = map (arc_feed n) (input_arcs_of n.wires b)
-row_of n (Shedder w) = point_row n (slice_get (points_of n) w)
-row_of n (Shower o) = arc_feed n (output_arc_at n.wires o) ∷ []
+abbrev pub feeds_row : Network → Actor → List Feed
+feeds_row n Sources = []
+feeds_row n (Box b) = map (arc_feed n) (input_arcs_of n.wires b)
+feeds_row n (Shedder w) = point_row n (slice_get (points_of n) w)
+feeds_row n (Shower o) = arc_feed n (output_arc_at n.wires o) ∷ []
 
 -- what each operator reads
-abbrev pub table_of : Network → List (List Feed)
-table_of n = map (λ k. row_of n (actor_at n k)) (numbers_to (ops_of n))
+abbrev pub feed_table : Network → List (List Feed)
+feed_table n = map (λ k. feeds_row n (actor_at n k)) (numbers_to (ops_of n))
 
 -- these, and in front of them others, the last first
 abbrev pub turned : List ℕ → List ℕ → List ℕ
@@ -91,7 +91,7 @@ abbrev pub actors_of : Network → List ℕ
 actors_of n = with_outputs (first_output n) (length n.wires.outputs) (with_boxes n (order_of n.wires) (turned [] (drops_behind n None)))
 
 -- each operator reads an arc for each feed of its row, and it is as the feed says
-pub record IsMeasured (n : Network) (w : Wires) : Type 0 where
-  pub many : (actor : ℕ) → actor < ops_of n → length (arcs_read w actor) ≡ length (row_of n (actor_at n actor))
-  pub each : (actor port : ℕ) (f : Feed) → actor < ops_of n → slice_get (row_of n (actor_at n actor)) port ≡ Some f → IsOf (arc_at w (slice_get (arcs_read w actor) port)) (Some f)
+pub record IsTabled (n : Network) (w : Wires) : Type 0 where
+  pub many : (actor : ℕ) → actor < ops_of n → length (arcs_read w actor) ≡ length (feeds_row n (actor_at n actor))
+  pub each : (actor port : ℕ) (f : Feed) → actor < ops_of n → slice_get (feeds_row n (actor_at n actor)) port ≡ Some f → IsOf (arc_wired w (slice_get (arcs_read w actor) port)) (Some f)
   pub no_more : (actor : ℕ) → ops_of n ≤ actor → arcs_read w actor ≡ []

@@ -54,9 +54,9 @@ impl Engine {
     ghost use Rattle.sq_flow.specs.Flows.{FailsAt, HoldsItems, Stepped, decisions_left, items_in, lines_left, measure_of};
     ghost use Rattle.sq_flow.specs.Plans.{plans_left};
     ghost use Rattle.sq_flow.specs.Readiness.{IsReady, FallsBy, Took};
-    ghost use Rattle.sq_flow.specs.Engines.{place_in, listed_after, AllDone};
+    ghost use Rattle.sq_flow.specs.Engines.{seat_number, listed_after, AllDone};
     ghost use Rattle.sq_core.specs.Meanings.{IsValid, actors};
-    ghost use Rattle.sq_core.specs.Runs.{IsSoundEngine, IsRun, ShownSoFar, Stopped, ShownAll, fed_at, late_at};
+    ghost use Rattle.sq_core.specs.Runs.{IsSoundEngine, IsRun, ShownSoFar, Stopped, ShownAll, fed_at, late_at_seat};
 
     /// An engine that has released nothing yet of what the sources recorded, one list for each source. `seed` is that of the
     /// draws; `frames` is how many pages the queues may keep in memory.
@@ -150,9 +150,9 @@ impl Engine {
         ensures measure { IfOk result (λ p. FallsBy p.fed p.finished (measure_of self.old.engine.flow) (measure_of self.new.engine.flow)) }
         ensures works { IfOk result (λ p. (p.fed ≡ 0) → p.finished ≡ true) }
         ensures most { IfOk result (λ p. p.fed ≤ pick.train) }
-        ensures stops { IfOk result (λ p. (p.fed ≡ pick.train) ⊎ ((p.finished ≡ true) ⊎ (IsReady self.new.engine.flow (place_in (length self.new.engine.flow.seats.items) pick.actor) → ⊥))) }
+        ensures stops { IfOk result (λ p. (p.fed ≡ pick.train) ⊎ ((p.finished ≡ true) ⊎ (IsReady self.new.engine.flow (seat_number (length self.new.engine.flow.seats.items) pick.actor) → ⊥))) }
         ensures stay { IsPrefixOf events.old.items events.new.items }
-        ensures took { IfOk result (λ p. Took (place_in (length self.old.engine.flow.seats.items) pick.actor) p.fed p.finished self.old.engine.flow self.new.engine.flow) }
+        ensures took { IfOk result (λ p. Took (seat_number (length self.old.engine.flow.seats.items) pick.actor) p.fed p.finished self.old.engine.flow self.new.engine.flow) }
         ensures frames { OnOk result (faces.frames self.new.engine.flow.queues ≡ faces.frames self.old.engine.flow.queues) }
     {
         self.engine.step(pick, disk, events, steps)
@@ -215,7 +215,7 @@ impl Engine {
     pub fn late(&self, at: u32) -> u64
         requires sound { IsSoundEngine self.now }
         requires there { at < length self.now.network.boxes }
-        ensures { result ≡ late_at self.now at }
+        ensures { result ≡ late_at_seat self.now at }
     {
         self.engine.flow.seats[at as usize].op.late()
     }

@@ -2,7 +2,7 @@
 
 ghost use Rattle.std.specs.Prelude.{◌≡◌, ◌<◌, ◌≤◌, ◌^◌, ◌-◌, ◌+◌, ◌==◌, ℕ, [], ◌∷◌, ◌++◌, length, slice_get, IfOk, OnOk, if◌then◌else◌};
 ghost use Rattle.sq_flow.specs.Wiring.{numbers_in, rows_in, IsShaped};
-ghost use Rattle.sq_core.specs.Joining.{Adds, AreFeeds, IsOrder, IsJoining, IsJoined, AddsIn, Fixed, once_more};
+ghost use Rattle.sq_core.specs.Joining.{AddsArc, AreFeeds, IsActorOrder, IsJoining, IsJoined, AddsIn, Fixed, once_more};
 
 use sq_flow::{Arc, Wires};
 use sq_value::{Kind, ListOf};
@@ -90,7 +90,7 @@ fn add_arc(alloc: Global, wires: &mut Wires, arc: Arc) -> Result<(), AllocError>
     requires from { arc.from < length wires.old.readers.items }
     requires followed { arc.from < length wires.old.followers.items }
     requires few { length wires.old.arcs.items < 2 ^ 32 }
-    ensures { OnOk result (Adds arc wires.old wires.new) }
+    ensures { OnOk result (AddsArc arc wires.old wires.new) }
 {
     let at = wires.arcs.len() as u32;
     let from = arc.from;
@@ -170,7 +170,7 @@ pub(crate) fn wires_of(
     requires feeds { AreFeeds shown feeds.now }
     requires sheds { sheds ≤ shown }
     requires shown { shown ≤ length feeds.now }
-    requires order { IsOrder (length feeds.now) feeds.now order.items }
+    requires order { IsActorOrder (length feeds.now) feeds.now order.items }
     ensures shaped { IfOk result (λ w. IsShaped w (length feeds.now)) }
     ensures joined { IfOk result (λ w. IsJoined feeds.now w) }
     ensures sheds { IfOk result (λ w. w.sheds ≡ sheds) }

@@ -12,7 +12,7 @@ ghost use Rattle.sq_model.specs.Given.{IsAt};
 ghost use Rattle.sq_below.specs.Actors.{Box, giver};
 ghost use Rattle.sq_start.specs.Numbers.{first_output, ops_of, actor_at, place_stream};
 ghost use Rattle.sq_flow.specs.Wiring.{IsShaped};
-ghost use Rattle.sq_core.specs.Table.{kinds_on, streams_on, arc_feed, place_feed, feed_from, row_of, table_of, same_box, drops_behind, turned, with_outputs, actors_of, IsMeasured};
+ghost use Rattle.sq_core.specs.Table.{kinds_on, streams_on, arc_feed, place_feed, feed_from, feeds_row, feed_table, same_box, drops_behind, turned, with_outputs, actors_of, IsTabled};
 
 use crate::join::{Feed, copy_kinds, wires_of};
 use crate::points::{drop_on, is_below};
@@ -181,7 +181,7 @@ fn box_row(
     requires streams { streams.now ≡ streams_on n.now }
     requires replay { replay ≡ ops_of n.now }
     requires there { at < length n.now.wires.boxes }
-    ensures { IfOk result (λ v. v.items ≡ row_of n.now (Box at)) }
+    ensures { IfOk result (λ v. v.items ≡ feeds_row n.now (Box at)) }
 {
     let arcs = input_arcs(alloc, n, at)?;
     let mut row = Vec::new(alloc);
@@ -215,7 +215,7 @@ fn row_at(
     requires streams { streams.now ≡ streams_on n.now }
     requires replay { replay ≡ ops_of n.now }
     requires there { actor < ops_of n.now }
-    ensures { IfOk result (λ v. v.items ≡ row_of n.now (actor_at n.now actor)) }
+    ensures { IfOk result (λ v. v.items ≡ feeds_row n.now (actor_at n.now actor)) }
 {
     let boxes = n.boxes.as_slice().len() as u32;
     let first = boxes + points.len() as u32;
@@ -233,7 +233,7 @@ fn row_at(
 }
 
 /// What each operator reads.
-fn table_of(
+fn feed_table(
     alloc: Global,
     n: &Network,
     points: &[DropPoint],
@@ -245,7 +245,7 @@ fn table_of(
     requires places { All (λ p. IsAt n.now p.at) points.now }
     requires streams { streams.now ≡ streams_on n.now }
     requires replay { replay ≡ ops_of n.now }
-    ensures { IfOk result (λ v. map (λ f. f.items) v.items ≡ table_of n.now) }
+    ensures { IfOk result (λ v. map (λ f. f.items) v.items ≡ feed_table n.now) }
 {
     let mut table = Vec::new(alloc);
     for actor in 0..replay {
@@ -362,7 +362,7 @@ pub(crate) fn network_wires(
     requires points { points.now ≡ points_of n.now }
     requires places { All (λ p. IsAt n.now p.at) points.now }
     ensures shaped { IfOk result (λ w. IsShaped w (ops_of n.now)) }
-    ensures measured { IfOk result (λ w. IsMeasured n.now w) }
+    ensures measured { IfOk result (λ w. IsTabled n.now w) }
     ensures sheds { IfOk result (λ w. w.sheds ≡ length n.now.boxes) }
     ensures shown { IfOk result (λ w. w.shown ≡ first_output n.now) }
 {
@@ -370,7 +370,7 @@ pub(crate) fn network_wires(
     let first = boxes + points.len() as u32;
     let replay = first + n.wires.outputs.as_slice().len() as u32;
     let streams = arc_streams(alloc, n)?;
-    let table = table_of(alloc, n, points, &streams, replay)?;
+    let table = feed_table(alloc, n, points, &streams, replay)?;
     let order = actors_of(alloc, n, points, &streams)?;
     wires_of(alloc, boxes, first, &table, order)
 }

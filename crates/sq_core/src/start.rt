@@ -15,7 +15,7 @@ ghost use Rattle.sq_flow.specs.Engines.{IsEngine};
 ghost use Rattle.sq_flow.specs.Flows.{items_in, taken_in_all};
 ghost use Rattle.sq_core.specs.Meanings.{actors, IsValid};
 ghost use Rattle.sq_start.specs.Numbers.{first_output, ops_of};
-ghost use Rattle.sq_core.specs.Answers.{Plans, Answers};
+ghost use Rattle.sq_core.specs.Answers.{Plans, KeepsAnswers};
 
 use crate::network::network_wires;
 use crate::seated::network_seats;
@@ -83,7 +83,7 @@ pub(crate) fn network_engine(
     ensures none_fed { IfOk result (λ e. taken_in_all actors e.flow ≡ 0) }
     ensures plans { IfOk result (λ e. Plans (record { network = n.now; sources = map (λ v. v.items) sources.items; entries = capacities.now; seed = seed }) e.flow []) }
     ensures answers { IfOk result (λ e. (pages : Option Pages)
-        → Answers (record { network = n.now; sources = map (λ v. v.items) sources.items; entries = capacities.now; seed = seed }) (items_in e.flow pages) e.flow []) }
+        → KeepsAnswers (record { network = n.now; sources = map (λ v. v.items) sources.items; entries = capacities.now; seed = seed }) (items_in e.flow pages) e.flow []) }
     ensures ready { IfOk result (λ e. e.ready.list ≡ 0 ∷ []) }
     ensures frames { IfOk result (λ e. faces.frames e.flow.queues ≡ frames) }
 {

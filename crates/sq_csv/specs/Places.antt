@@ -26,8 +26,8 @@ ends step.Join = false
 ends step.EndField = false
 ends step.EndRecord = true
 
-abbrev pub items_of : List (Vec ℕ) → List (List ℕ)
-items_of fields = map (λ f. f.items) fields
+abbrev pub fields_of : List (Vec ℕ) → List (List ℕ)
+fields_of fields = map (λ f. f.items) fields
 
 -- the fields so far, the field at hand, and what comes
 abbrev pub gathered : List (List ℕ) → List ℕ → Fields → List (List ℕ)

@@ -4,7 +4,7 @@ use Rattle.std.proofs.lemmas.Bool.{cases_lt}
 use Rattle.sq_item.specs.Things.{Thing}
 use Rattle.sq_oper.specs.declared.outs.Decision.{Decision}
 use Rattle.sq_oper.specs.Entries.{Entry}
-use Rattle.sq_left.specs.Left.{Net, World, coming, left, known, Facts}
+use Rattle.sq_left.specs.Left.{Net, Holding, coming, left, is_known_actor, Facts}
 use Rattle.sq_left.proofs.MergeLemmas.{eqb-same}
 use Rattle.sq_left.proofs.Conserve.{Kept, ended-none}
 use Rattle.sq_left.proofs.ActorSteps.{Moves, left-moved}
@@ -12,7 +12,7 @@ use Rattle.sq_flow.specs.declared.wires.Wires.{Wires}
 use Rattle.sq_flow.specs.Wiring.{net_of, IsShaped}
 use Rattle.sq_flow.specs.Flows.{IsEndOf}
 
-known-replay : (net : Net) (order : List ℕ) → known net order net.replay ≡ true
+known-replay : (net : Net) (order : List ℕ) → is_known_actor net order net.replay ≡ true
 known-replay net [] = eqb-same net.replay net.replay refl
 known-replay net (last ∷ earlier) = or-true (eqb net.replay last) (known-replay net earlier)
   where
@@ -25,7 +25,7 @@ module _ (wires : Wires) (ops : ℕ) (shaped : IsShaped wires ops) where
   net = net_of wires
 
   -- what an arc comes from is the replay or an operator
-  giver-known : (arc : ℕ) → arc < length wires.arcs.items → known net wires.order.items (net.from arc) ≡ true
+  giver-known : (arc : ℕ) → arc < length wires.arcs.items → is_known_actor net wires.order.items (net.from arc) ≡ true
   giver-known arc low =
       elim (cases_lt (net.from arc) ops) [
         | inl op ↦ shaped.ordered (net.from arc) op
@@ -33,11 +33,11 @@ module _ (wires : Wires) (ops : ℕ) (shaped : IsShaped wires ops) where
             let below = shaped.from_in arc low in
             let replay = shaped.replay_is in
             let is : net.replay ≡ net.from arc = omega (arith, past, below, replay) in
-            subst (λ k. known net wires.order.items k ≡ true) is (known-replay net wires.order.items))
+            subst (λ k. is_known_actor net wires.order.items k ≡ true) is (known-replay net wires.order.items))
       ]
 
   -- where a step takes things from the fronts of arcs, what is left of each is an end of what was left
-  pub arcs-left : (w w' : World) (taken : ℕ → List Thing) (pushed : ℕ → ℕ → List Thing) (decided : ℕ → List Decision) (took : ℕ → List Entry)
+  pub arcs-left : (w w' : Holding) (taken : ℕ → List Thing) (pushed : ℕ → ℕ → List Thing) (decided : ℕ → List Decision) (took : ℕ → List Entry)
       → Facts net w wires.order.items → Kept net w w' pushed decided took wires.order.items → Moves net w w' taken pushed
       → (arc : ℕ) → arc < length wires.arcs.items → IsEndOf (left net w' wires.order.items arc) (left net w wires.order.items arc)
   arcs-left w w' taken pushed decided took facts kept moves arc low =

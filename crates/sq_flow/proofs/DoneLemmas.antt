@@ -4,7 +4,7 @@ use Rattle.std.specs.Prelude.{slice_get, is_some}
 use Rattle.std.proofs.lemmas.Option.{slice_get_past}
 use Rattle.sq_item.specs.declared.Item.{Item}
 use Rattle.sq_oper.specs.Streams.{tuples_of}
-use Rattle.sq_left.specs.Left.{Net, known, Each, IsWired}
+use Rattle.sq_left.specs.Left.{Net, is_known_actor, Each, IsLaidOut}
 use Rattle.sq_left.proofs.MergeLemmas.{eqb-yes, eqb-no, eqb-same}
 use Rattle.sq_left.proofs.Conserve.{ended-none, ended-settled}
 use Rattle.sq_queue.specs.Faces.{face}
@@ -15,7 +15,7 @@ use Rattle.sq_flow.specs.Events.{bodies}
 use Rattle.sq_flow.specs.Flows.{world_of, IsFlow, HoldsItems, lines_left, decisions_left, fed_at_last, lost_at_last, sum_below, work_at_last, taken_in_all}
 use Rattle.sq_flow.specs.Readiness.{IsReady, stands}
 use Rattle.sq_flow.specs.declared.engine.Engine.{Engine}
-use Rattle.sq_flow.specs.Engines.{AllDone, IsEngine, place_in}
+use Rattle.sq_flow.specs.Engines.{AllDone, IsEngine, seat_number}
 use Rattle.sq_flow.proofs.ReadyLemmas.{place-next, place-within}
 use Rattle.sq_sched.specs.Ready.{contains}
 
@@ -37,11 +37,11 @@ module _ {O : Type 0} (m : Meaning O) (valid : O → Type 0) (e : Flow O) (flow 
   done actor = done_at e.over (slice_get e.seats.items actor)
 
   -- of the actors of an order all are finished, or one is ready
-  some-ready : (order : List ℕ) → IsWired net order
-      → ((actor : ℕ) → known net order actor ≡ true → done actor ≡ true) ⊎ ((actor : ℕ) × ((known net order actor ≡ true) × IsReady e actor))
+  some-ready : (order : List ℕ) → IsLaidOut net order
+      → ((actor : ℕ) → is_known_actor net order actor ≡ true → done actor ≡ true) ⊎ ((actor : ℕ) × ((is_known_actor net order actor ≡ true) × IsReady e actor))
   some-ready [] wired = by (done net.replay) refl
     where
-      by : (b : Bool) → done net.replay ≡ b → ((actor : ℕ) → known net [] actor ≡ true → done actor ≡ true) ⊎ ((actor : ℕ) × ((known net [] actor ≡ true) × IsReady e actor))
+      by : (b : Bool) → done net.replay ≡ b → ((actor : ℕ) → is_known_actor net [] actor ≡ true → done actor ≡ true) ⊎ ((actor : ℕ) × ((is_known_actor net [] actor ≡ true) × IsReady e actor))
       by true d = inl (λ actor k. ap done (eqb-yes actor net.replay k) ∙ d)
       by false d = inr (net.replay, (eqb-same net.replay net.replay refl, record { running = d; standing = λ port arc is. absurd (none port arc is) }))
         where
@@ -57,49 +57,49 @@ module _ {O : Type 0} (m : Meaning O) (valid : O → Type 0) (e : Flow O) (flow 
       or-right true b h = refl
       or-right false b h = h
 
-      standing-of : ((actor : ℕ) → known net earlier actor ≡ true → done actor ≡ true) → (port arc : ℕ) → slice_get (arcs_read e.wires last) port ≡ Some arc → stands (face e.queues arc) ≡ true
+      standing-of : ((actor : ℕ) → is_known_actor net earlier actor ≡ true → done actor ≡ true) → (port arc : ℕ) → slice_get (arcs_read e.wires last) port ≡ Some arc → stands (face e.queues arc) ≡ true
       standing-of all port arc is =
-          let k = Each-at (λ a. (a < net.size) × IsTrue (known net earlier (net.from a))) (net.arcs last) port arc wired.1 is in
+          let k = Each-at (λ a. (a < net.size) × IsTrue (is_known_actor net earlier (net.from a))) (net.arcs last) port arc wired.1 is in
           or-right (is_some (face e.queues arc).first) (face e.queues arc).ended (flow.ended arc k.0 ∙ all (net.from arc) k.1)
 
-      here : ((actor : ℕ) → known net earlier actor ≡ true → done actor ≡ true) → (b : Bool) → done last ≡ b
-          → ((actor : ℕ) → known net (last ∷ earlier) actor ≡ true → done actor ≡ true) ⊎ ((actor : ℕ) × ((known net (last ∷ earlier) actor ≡ true) × IsReady e actor))
+      here : ((actor : ℕ) → is_known_actor net earlier actor ≡ true → done actor ≡ true) → (b : Bool) → done last ≡ b
+          → ((actor : ℕ) → is_known_actor net (last ∷ earlier) actor ≡ true → done actor ≡ true) ⊎ ((actor : ℕ) × ((is_known_actor net (last ∷ earlier) actor ≡ true) × IsReady e actor))
       here all true d = inl (λ actor k. by actor (eqb actor last) refl k)
         where
-          by : (actor : ℕ) (b : Bool) → eqb actor last ≡ b → (b || known net earlier actor) ≡ true → done actor ≡ true
+          by : (actor : ℕ) (b : Bool) → eqb actor last ≡ b → (b || is_known_actor net earlier actor) ≡ true → done actor ≡ true
           by actor true t k = ap done (eqb-yes actor last t) ∙ d
           by actor false t k = all actor k
       here all false d =
-          inr (last, (ap (λ b. b || known net earlier last) (eqb-same last last refl), record { running = d; standing = standing-of all }))
+          inr (last, (ap (λ b. b || is_known_actor net earlier last) (eqb-same last last refl), record { running = d; standing = standing-of all }))
 
-      before : ((actor : ℕ) → known net earlier actor ≡ true → done actor ≡ true) ⊎ ((actor : ℕ) × ((known net earlier actor ≡ true) × IsReady e actor))
-          → ((actor : ℕ) → known net (last ∷ earlier) actor ≡ true → done actor ≡ true) ⊎ ((actor : ℕ) × ((known net (last ∷ earlier) actor ≡ true) × IsReady e actor))
+      before : ((actor : ℕ) → is_known_actor net earlier actor ≡ true → done actor ≡ true) ⊎ ((actor : ℕ) × ((is_known_actor net earlier actor ≡ true) × IsReady e actor))
+          → ((actor : ℕ) → is_known_actor net (last ∷ earlier) actor ≡ true → done actor ≡ true) ⊎ ((actor : ℕ) × ((is_known_actor net (last ∷ earlier) actor ≡ true) × IsReady e actor))
       before (inl all) = here all (done last) refl
-      before (inr r) = inr (r.0, (or-right (eqb r.0 last) (known net earlier r.0) r.1.0, r.1.1))
+      before (inr r) = inr (r.0, (or-right (eqb r.0 last) (is_known_actor net earlier r.0) r.1.0, r.1.1))
 
   -- as long as some actor isn't finished, one is ready
   pub one-ready : (other : ℕ) → other ≤ length e.seats.items → done other ≡ false → (actor : ℕ) × ((actor ≤ length e.seats.items) × IsReady e actor)
   one-ready other low open_now = by (some-ready e.wires.order.items flow.shaped.wired)
     where
-      replay-known : (order : List ℕ) → known net order net.replay ≡ true
+      replay-known : (order : List ℕ) → is_known_actor net order net.replay ≡ true
       replay-known [] = eqb-same net.replay net.replay refl
-      replay-known (last ∷ earlier) = or (eqb net.replay last) (known net earlier net.replay) (replay-known earlier)
+      replay-known (last ∷ earlier) = or (eqb net.replay last) (is_known_actor net earlier net.replay) (replay-known earlier)
         where
           or : (a b : Bool) → b ≡ true → (a || b) ≡ true
           or true b h = refl
           or false b h = h
 
-      listed : known net e.wires.order.items other ≡ true
+      listed : is_known_actor net e.wires.order.items other ≡ true
       listed = at (eqb other net.replay) refl
         where
-          at : (b : Bool) → eqb other net.replay ≡ b → known net e.wires.order.items other ≡ true
-          at true t = subst (λ k. known net e.wires.order.items k ≡ true) (sym (eqb-yes other net.replay t)) (replay-known e.wires.order.items)
+          at : (b : Bool) → eqb other net.replay ≡ b → is_known_actor net e.wires.order.items other ≡ true
+          at true t = subst (λ k. is_known_actor net e.wires.order.items k ≡ true) (sym (eqb-yes other net.replay t)) (replay-known e.wires.order.items)
           at false t =
               let r = flow.shaped.replay_is in
               let ne : other ≢ net.replay = eqb-no other net.replay t in
               flow.shaped.ordered other (omega (arith, r, ne, low))
 
-      by : ((actor : ℕ) → known net e.wires.order.items actor ≡ true → done actor ≡ true) ⊎ ((actor : ℕ) × ((known net e.wires.order.items actor ≡ true) × IsReady e actor))
+      by : ((actor : ℕ) → is_known_actor net e.wires.order.items actor ≡ true → done actor ≡ true) ⊎ ((actor : ℕ) × ((is_known_actor net e.wires.order.items actor ≡ true) × IsReady e actor))
           → (actor : ℕ) × ((actor ≤ length e.seats.items) × IsReady e actor)
       by (inl all) = absurd (cc (sym open_now ∙ all other listed))
       by (inr r) = let low = flow.shaped.listed r.0 r.1.0 in (r.0, (omega (arith, low), r.1.1))
@@ -138,10 +138,10 @@ module _ {O : Type 0} (m : Meaning O) (valid : O → Type 0) (e : Flow O) (flow 
     all-work = sums-agree (fed_at_last m table items e) (λ actor. taken_at m (slice_get e.seats.items actor)) (length e.seats.items) all-fed
 
 -- each place in the flow is that of an actor
-actor-at : (ops k : ℕ) → k ≤ ops → (actor : ℕ) × ((actor ≤ ops) × (place_in ops actor ≡ k))
+actor-at : (ops k : ℕ) → k ≤ ops → (actor : ℕ) × ((actor ≤ ops) × (seat_number ops actor ≡ k))
 actor-at ops k low = by (eqb k ops) refl
   where
-    by : (b : Bool) → eqb k ops ≡ b → (actor : ℕ) × ((actor ≤ ops) × (place_in ops actor ≡ k))
+    by : (b : Bool) → eqb k ops ≡ b → (actor : ℕ) × ((actor ≤ ops) × (seat_number ops actor ≡ k))
     by true t = let same : k ≡ ops = eqb-yes k ops t in (0, (omega arith, sym same))
     by false t = let ne : k ≢ ops = eqb-no k ops t in (suc k, (omega (arith, low, ne), place-next ops k))
 
@@ -168,5 +168,5 @@ none-ready m valid engine is all = by engine.ready.list refl
         let below = is.below x listed in
         let room = is.room.actors in
         let low : x ≤ length engine.flow.seats.items = omega (arith, below, room) in
-        let done = all (place_in (length engine.flow.seats.items) x) (place-within (length engine.flow.seats.items) x low) in
+        let done = all (seat_number (length engine.flow.seats.items) x) (place-within (length engine.flow.seats.items) x low) in
         absurd (cc (sym done ∙ ((is.exact x low).listed listed).running))

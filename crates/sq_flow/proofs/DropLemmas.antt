@@ -4,13 +4,13 @@ use Rattle.std.specs.List.{AllByRecursion}
 use Rattle.sq_value.specs.declared.Value.{Value}
 use Rattle.sq_value.specs.Lists.{IsPrefixOf}
 use Rattle.sq_left.proofs.MergeLemmas.{eqb-yes, eqb-no, eqb-same, eqb-not}
-use Rattle.sq_road.specs.Levels.{LevelTable, Agrees}
+use Rattle.sq_road.specs.Levels.{LevelTable, AgreesWith}
 use Rattle.sq_oper.specs.declared.outs.Decision.{Decision}
 use Rattle.sq_oper.specs.declared.outs.Event.{Event}
 use Rattle.sq_oper.specs.declared.outs.Event.TheVariants.{Dropped, Plan}
 use Rattle.sq_oper.specs.declared.tally.Place.{Place}
 use Rattle.sq_oper.specs.Entries.{Entry}
-use Rattle.sq_oper.specs.Order.{after, after_all, InOrder, AllFit, IsFuture}
+use Rattle.sq_oper.specs.Order.{moment_after, after_all, InOrder, AllFit, IsFuture}
 use Rattle.sq_flow.specs.declared.seats.Seat.{Seat}
 use Rattle.sq_flow.specs.declared.wires.Wires.{Wires}
 use Rattle.sq_flow.specs.Wiring.{IsOwn}
@@ -81,7 +81,7 @@ own-front wires actor w ds left all front = by (eqb (wires.sheds + w) actor) ref
 -- a future behind what came
 order-both : (place : Place) (xs ys : List Entry) → InOrder place xs → InOrder (after_all place xs) ys → InOrder place (xs ++ ys)
 order-both place [] ys h k = k
-order-both place (x ∷ xs) ys h k = (h.0, order-both (after place x) xs ys h.1 k)
+order-both place (x ∷ xs) ys h k = (h.0, order-both (moment_after place x) xs ys h.1 k)
 
 fit-both : (marks : ℕ → Bool) (fits : ℕ → List Value → Bool) (xs ys : List Entry) → AllFit marks fits xs → AllFit marks fits ys → AllFit marks fits (xs ++ ys)
 fit-both marks fits [] ys h k = k
@@ -91,7 +91,7 @@ pub future-both : (marks : ℕ → Bool) (fits : ℕ → List Value → Bool) (p
 future-both marks fits place xs ys h k = record { in_order = order-both place xs ys h.in_order k.in_order; fitting = fit-both marks fits xs ys h.fitting k.fitting }
 
 -- with more levels an operator owns no less
-pub owns-later : {O : Type 0} (m : Meaning O) (own : Decision → Type 0) (levels levels' : LevelTable) → ((table : ℕ → ℕ → ℕ) → Agrees levels' table → Agrees levels table)
+pub owns-later : {O : Type 0} (m : Meaning O) (own : Decision → Type 0) (levels levels' : LevelTable) → ((table : ℕ → ℕ → ℕ) → AgreesWith levels' table → AgreesWith levels table)
     → (o : Option (Seat O)) → holds_at (Owns m own levels) o → holds_at (Owns m own levels') o
 owns-later m own levels levels' before None h = tt
 owns-later m own levels levels' before (Some s) h = λ running table agrees. h running table (before table agrees)

@@ -2,7 +2,7 @@
 use Rattle.std.proofs.Common.{◌≡◌, ◌≢◌, ℕ, ◌+◌, ◌<◌, ◌≤◌, eqb, ltb, leb, cond, Bool, true, false, not, ◌||◌, ◌&&◌, List, [], ◌∷◌, ◌++◌, length, get_or, refl, ap, sym, ◌∙◌, subst, arith}
 use Rattle.std.specs.List.{filter, range_with_len}
 use Rattle.std.proofs.lemmas.Bool.Decides.{nat_tests}
-use Rattle.sq_sched.specs.Ready.{contains, without, AreActors, OnlyOnce}
+use Rattle.sq_sched.specs.Ready.{contains, without_actor, AreActors, OnlyOnce}
 use Rattle.sq_sched.proofs.ReadyLemmas.{once-without, without-gone, without-others, actors-without}
 use Rattle.sq_left.proofs.MergeLemmas.{eqb-yes, eqb-no, eqb-same, eqb-not}
 use Rattle.sq_flow.specs.declared.flow.Flow.{Flow}
@@ -12,72 +12,72 @@ use Rattle.sq_flow.specs.Wiring.{followers_of, Climbs, IsShaped}
 use Rattle.sq_flow.specs.Seats.{Meaning}
 use Rattle.sq_flow.specs.Flows.{IsFlow}
 use Rattle.sq_flow.specs.Readiness.{is_ready, waiting, TouchesOnly}
-use Rattle.sq_flow.specs.Engines.{place_in, ExactFor, is_new, newly_ready, listed_after, readers_of, Looked, HasRoom, IsEngine}
+use Rattle.sq_flow.specs.Engines.{seat_number, ExactFor, is_new, newly_ready, listed_after, readers_of, Looked, HasSeats, IsEngine}
 use Rattle.sq_flow.proofs.ListLemmas.{contains-filter, contains-range, climbs-filter, climbs-range, climbs-next, climbs-same, once-climbs}
 use Rattle.sq_flow.proofs.ReadyLemmas.{exact-of, exact-test, place-within, place-apart, readers-at, readers-within, ready-same, waiting-same, ready-grows, looked-at, looked-once, looked-below}
 
 -- the list after looks at the actor of a step and at its readers
 module _ {O : Type 0} (e e' : Flow O) (shaped : IsShaped e.wires (length e.seats.items)) (wires : e'.wires ≡ e.wires) (seats : length e'.seats.items ≡ length e.seats.items)
-    (actor : ℕ) (low : actor ≤ length e.seats.items) (touches : TouchesOnly (place_in (length e.seats.items) actor) e e')
+    (actor : ℕ) (low : actor ≤ length e.seats.items) (touches : TouchesOnly (seat_number (length e.seats.items) actor) e e')
     (before : List ℕ) (listed : contains before actor ≡ true) (once : OnlyOnce before) (exact : (x : ℕ) → x ≤ length e.seats.items → ExactFor e before x) where
   abbrev ready : ℕ → Bool
-  ready x = is_ready e' (place_in (length e'.seats.items) x)
+  ready x = is_ready e' (seat_number (length e'.seats.items) x)
 
   abbrev readers : List ℕ
-  readers = readers_of e' (place_in (length e.seats.items) actor)
+  readers = readers_of e' (seat_number (length e.seats.items) actor)
 
   abbrev pub again : List ℕ
-  again = without actor before ++ filter (is_new e' (without actor before)) (actor ∷ [])
+  again = without_actor actor before ++ filter (is_new e' (without_actor actor before)) (actor ∷ [])
 
   abbrev pub after : List ℕ
   after = again ++ filter (is_new e' again) readers
 
-  same-place : (x : ℕ) → place_in (length e'.seats.items) x ≡ place_in (length e.seats.items) x
-  same-place x = ap (λ n. place_in n x) seats
+  same-place : (x : ℕ) → seat_number (length e'.seats.items) x ≡ seat_number (length e.seats.items) x
+  same-place x = ap (λ n. seat_number n x) seats
 
-  readers-follow : (x : ℕ) → x ≤ length e.seats.items → contains readers x ≡ contains (followers_of e.wires (place_in (length e.seats.items) actor)) (place_in (length e.seats.items) x)
+  readers-follow : (x : ℕ) → x ≤ length e.seats.items → contains readers x ≡ contains (followers_of e.wires (seat_number (length e.seats.items) actor)) (seat_number (length e.seats.items) x)
   readers-follow x in' =
-      ap (λ (w : Wires). contains (readers_of (record e { wires = w }) (place_in (length e.seats.items) actor)) x) wires
-      ∙ readers-at e shaped (place_in (length e.seats.items) actor) x in'
+      ap (λ (w : Wires). contains (readers_of (record e { wires = w }) (seat_number (length e.seats.items) actor)) x) wires
+      ∙ readers-at e shaped (seat_number (length e.seats.items) actor) x in'
 
   readers-low : (x : ℕ) → contains readers x ≡ true → x ≤ length e.seats.items
-  readers-low x is = readers-within e shaped (place_in (length e.seats.items) actor) x (subst (λ (w : Wires). contains (readers_of (record e { wires = w }) (place_in (length e.seats.items) actor)) x ≡ true) wires is)
+  readers-low x is = readers-within e shaped (seat_number (length e.seats.items) actor) x (subst (λ (w : Wires). contains (readers_of (record e { wires = w }) (seat_number (length e.seats.items) actor)) x ≡ true) wires is)
 
   pub readers-climb : Climbs readers
-  readers-climb = climbs-next (followers_of e'.wires (place_in (length e.seats.items) actor)) (subst (λ (w : Wires). Climbs (followers_of w (place_in (length e.seats.items) actor))) (sym wires) (shaped.followers_climb (place_in (length e.seats.items) actor)))
+  readers-climb = climbs-next (followers_of e'.wires (seat_number (length e.seats.items) actor)) (subst (λ (w : Wires). Climbs (followers_of w (seat_number (length e.seats.items) actor))) (sym wires) (shaped.followers_climb (seat_number (length e.seats.items) actor)))
 
   -- an actor that isn't the one of the step
   module _ (x : ℕ) (in' : x ≤ length e.seats.items) (ne : x ≢ actor) where
-    others-apart : place_in (length e.seats.items) x ≢ place_in (length e.seats.items) actor
+    others-apart : seat_number (length e.seats.items) x ≢ seat_number (length e.seats.items) actor
     others-apart = place-apart (length e.seats.items) x actor in' low ne
 
-    others-low : place_in (length e.seats.items) x ≤ length e.seats.items
+    others-low : seat_number (length e.seats.items) x ≤ length e.seats.items
     others-low = place-within (length e.seats.items) x in'
 
     grows : contains before x ≡ true → ready x ≡ true
     grows h =
         ap (is_ready e') (same-place x)
-        ∙ ready-grows e e' shaped wires (place_in (length e.seats.items) actor) touches (place_in (length e.seats.items) x) others-low others-apart (sym (exact-test e before x (exact x in')) ∙ h)
+        ∙ ready-grows e e' shaped wires (seat_number (length e.seats.items) actor) touches (seat_number (length e.seats.items) x) others-low others-apart (sym (exact-test e before x (exact x in')) ∙ h)
 
     stays : contains readers x ≡ false → ready x ≡ contains before x
     stays h =
         ap (is_ready e') (same-place x)
-        ∙ ready-same e e' shaped wires (place_in (length e.seats.items) actor) touches (place_in (length e.seats.items) x) others-low others-apart (sym (readers-follow x in') ∙ h)
+        ∙ ready-same e e' shaped wires (seat_number (length e.seats.items) actor) touches (seat_number (length e.seats.items) x) others-low others-apart (sym (readers-follow x in') ∙ h)
         ∙ sym (exact-test e before x (exact x in'))
 
-    pub waits-on : contains readers x ≡ false → waiting e' (place_in (length e'.seats.items) x) ≡ waiting e (place_in (length e.seats.items) x)
+    pub waits-on : contains readers x ≡ false → waiting e' (seat_number (length e'.seats.items) x) ≡ waiting e (seat_number (length e.seats.items) x)
     waits-on h =
         ap (waiting e') (same-place x)
-        ∙ waiting-same e e' shaped wires (place_in (length e.seats.items) actor) touches (place_in (length e.seats.items) x) others-apart (sym (readers-follow x in') ∙ h)
+        ∙ waiting-same e e' shaped wires (seat_number (length e.seats.items) actor) touches (seat_number (length e.seats.items) x) others-apart (sym (readers-follow x in') ∙ h)
 
-  gone : contains (without actor before) actor ≡ false
+  gone : contains (without_actor actor before) actor ≡ false
   gone = without-gone actor before once
 
   again-other : (x : ℕ) → x ≢ actor → contains again x ≡ contains before x
   again-other x ne =
-      looked-at e' (without actor before) (actor ∷ []) x
-      ∙ ap (λ b. contains (without actor before) x || ((b || false) && is_new e' (without actor before) x)) (eqb-not actor x (λ h. ne (sym h)))
-      ∙ or-false (contains (without actor before) x) ∙ without-others actor before x ne
+      looked-at e' (without_actor actor before) (actor ∷ []) x
+      ∙ ap (λ b. contains (without_actor actor before) x || ((b || false) && is_new e' (without_actor actor before) x)) (eqb-not actor x (λ h. ne (sym h)))
+      ∙ or-false (contains (without_actor actor before) x) ∙ without-others actor before x ne
     where
       or-false : (b : Bool) → (b || false) ≡ b
       or-false true = refl
@@ -85,8 +85,8 @@ module _ {O : Type 0} (e e' : Flow O) (shaped : IsShaped e.wires (length e.seats
 
   again-actor : contains again actor ≡ ready actor
   again-actor =
-      looked-at e' (without actor before) (actor ∷ []) actor
-      ∙ ap (λ b. contains (without actor before) actor || ((b || false) && is_new e' (without actor before) actor)) (eqb-same actor actor refl)
+      looked-at e' (without_actor actor before) (actor ∷ []) actor
+      ∙ ap (λ b. contains (without_actor actor before) actor || ((b || false) && is_new e' (without_actor actor before) actor)) (eqb-same actor actor refl)
       ∙ ap (λ b. b || (ready actor && not b)) gone ∙ and-true (ready actor)
     where
       and-true : (b : Bool) → (b && true) ≡ b
@@ -172,19 +172,19 @@ module _ {O : Type 0} (e e' : Flow O) (shaped : IsShaped e.wires (length e.seats
       ap (λ more. again ++ more)
       (climbs-same (filter (is_new e' again) readers) (newly_ready e' before) (climbs-filter (is_new e' again) readers readers-climb)
       (climbs-filter (is_new e' before) (range_with_len 0 (length e'.seats.items + 1)) (climbs-range 0 (length e'.seats.items + 1))) new-same)
-      ∙ ap (λ b. (without actor before ++ cond b (actor ∷ []) []) ++ newly_ready e' before) (ap (λ b. ready actor && not b) gone ∙ and-true (ready actor))
+      ∙ ap (λ b. (without_actor actor before ++ cond b (actor ∷ []) []) ++ newly_ready e' before) (ap (λ b. ready actor && not b) gone ∙ and-true (ready actor))
     where
       and-true : (b : Bool) → (b && true) ≡ b
       and-true true = refl
       and-true false = refl
 
   pub once-after : OnlyOnce after
-  once-after = looked-once e' again readers (looked-once e' (without actor before) (actor ∷ []) (once-without actor before once) ((λ y is. absurd (cc is)), tt)) readers-climb
+  once-after = looked-once e' again readers (looked-once e' (without_actor actor before) (actor ∷ []) (once-without actor before once) ((λ y is. absurd (cc is)), tt)) readers-climb
 
   pub below-after : (actors : ℕ) → length e.seats.items < actors → AreActors actors before → AreActors actors after
   below-after actors more below =
       looked-below e' again readers actors
-      (looked-below e' (without actor before) (actor ∷ []) actors (actors-without actors actor before below) (λ x is. one x (eqb actor x) refl is))
+      (looked-below e' (without_actor actor before) (actor ∷ []) actors (actors-without actors actor before below) (λ x is. one x (eqb actor x) refl is))
       (λ x is. let l = readers-low x is in omega (arith, l, more))
     where
       one : (x : ℕ) (b : Bool) → eqb actor x ≡ b → (b || false) ≡ true → x < actors
@@ -193,21 +193,21 @@ module _ {O : Type 0} (e e' : Flow O) (shaped : IsShaped e.wires (length e.seats
 
 -- the engine after looks at the actor of a step and at its readers
 module _ {O : Type 0} (m : Meaning O) (valid : O → Type 0) (a b c d : Engine O) (actor place : ℕ) (engine : IsEngine m valid a) (listed : contains a.ready.list actor ≡ true)
-    (here : place ≡ place_in a.flow.wires.replay actor) (flow : IsFlow m valid b.flow) (wires : b.flow.wires ≡ a.flow.wires)
+    (here : place ≡ seat_number a.flow.wires.replay actor) (flow : IsFlow m valid b.flow) (wires : b.flow.wires ≡ a.flow.wires)
     (seats : length b.flow.seats.items ≡ length a.flow.seats.items) (touched : TouchesOnly place a.flow b.flow)
-    (removed : b.ready ≡ record a.ready { list = without actor a.ready.list }) (waits : b.waits.items ≡ a.waits.items)
+    (removed : b.ready ≡ record a.ready { list = without_actor actor a.ready.list }) (waits : b.waits.items ≡ a.waits.items)
     (running : b.failed ≡ false)
     (first : Looked (actor ∷ []) b c) (looked : Looked (readers_of c.flow place) c d) where
   pub actor-low : actor ≤ length a.flow.seats.items
   actor-low = let l = engine.below actor listed in let r = engine.room.actors in omega (arith, l, r)
 
-  place-is : place ≡ place_in (length a.flow.seats.items) actor
-  place-is = here ∙ ap (λ n. place_in n actor) engine.flow.shaped.replay_is
+  place-is : place ≡ seat_number (length a.flow.seats.items) actor
+  place-is = here ∙ ap (λ n. seat_number n actor) engine.flow.shaped.replay_is
 
-  touches : TouchesOnly (place_in (length a.flow.seats.items) actor) a.flow b.flow
+  touches : TouchesOnly (seat_number (length a.flow.seats.items) actor) a.flow b.flow
   touches = subst (λ p. TouchesOnly p a.flow b.flow) place-is touched
 
-  second : Looked (readers_of c.flow (place_in (length a.flow.seats.items) actor)) c d
+  second : Looked (readers_of c.flow (seat_number (length a.flow.seats.items) actor)) c d
   second = subst (λ p. Looked (readers_of c.flow p) c d) place-is looked
 
   flow-is : d.flow ≡ b.flow
@@ -221,30 +221,30 @@ module _ {O : Type 0} (m : Meaning O) (valid : O → Type 0) (a b c d : Engine O
 
   list-is : d.ready.list ≡ listed-now
   list-is =
-      second.list ∙ ap (λ f. c.ready.list ++ filter (is_new f c.ready.list) (readers_of f (place_in (length a.flow.seats.items) actor))) first.flow
-      ∙ ap (λ xs. xs ++ filter (is_new b.flow xs) (readers_of b.flow (place_in (length a.flow.seats.items) actor))) (first.list ∙ ap (λ xs. xs ++ filter (is_new b.flow xs) (actor ∷ [])) (ap (λ r. r.list) removed))
+      second.list ∙ ap (λ f. c.ready.list ++ filter (is_new f c.ready.list) (readers_of f (seat_number (length a.flow.seats.items) actor))) first.flow
+      ∙ ap (λ xs. xs ++ filter (is_new b.flow xs) (readers_of b.flow (seat_number (length a.flow.seats.items) actor))) (first.list ∙ ap (λ xs. xs ++ filter (is_new b.flow xs) (actor ∷ [])) (ap (λ r. r.list) removed))
 
   pub engine-order : d.ready.list ≡ listed_after d.flow a.ready.list actor
   engine-order =
       list-is ∙ order-after a.flow b.flow engine.flow.shaped wires seats actor actor-low touches a.ready.list listed engine.once engine.exact
       ∙ ap (λ f. listed_after f a.ready.list actor) (sym flow-is)
 
-  waits-are : (x : ℕ) → x ≤ length a.flow.seats.items → get_or d.waits.items x 0 ≡ waiting b.flow (place_in (length b.flow.seats.items) x)
+  waits-are : (x : ℕ) → x ≤ length a.flow.seats.items → get_or d.waits.items x 0 ≡ waiting b.flow (seat_number (length b.flow.seats.items) x)
   waits-are x low =
       second.waits x
-      ∙ ap (λ (f : Flow O). cond (contains (readers_of f (place_in (length a.flow.seats.items) actor)) x) (waiting f (place_in (length f.seats.items) x)) (get_or c.waits.items x 0)) first.flow
-      ∙ by (contains (readers_of b.flow (place_in (length a.flow.seats.items) actor)) x) refl
+      ∙ ap (λ (f : Flow O). cond (contains (readers_of f (seat_number (length a.flow.seats.items) actor)) x) (waiting f (seat_number (length f.seats.items) x)) (get_or c.waits.items x 0)) first.flow
+      ∙ by (contains (readers_of b.flow (seat_number (length a.flow.seats.items) actor)) x) refl
     where
-      at : contains (readers_of b.flow (place_in (length a.flow.seats.items) actor)) x ≡ false → (t : Bool) → eqb actor x ≡ t
-          → cond (t || false) (waiting b.flow (place_in (length b.flow.seats.items) x)) (get_or b.waits.items x 0) ≡ waiting b.flow (place_in (length b.flow.seats.items) x)
+      at : contains (readers_of b.flow (seat_number (length a.flow.seats.items) actor)) x ≡ false → (t : Bool) → eqb actor x ≡ t
+          → cond (t || false) (waiting b.flow (seat_number (length b.flow.seats.items) x)) (get_or b.waits.items x 0) ≡ waiting b.flow (seat_number (length b.flow.seats.items) x)
       at apart true e = refl
       at apart false e =
           let ne : x ≢ actor = λ h. eqb-no actor x e (sym h) in
           ap (λ xs. get_or xs x 0) waits ∙ engine.waits x low
           ∙ sym (waits-on a.flow b.flow engine.flow.shaped wires seats actor actor-low touches a.ready.list listed engine.once engine.exact x low ne apart)
 
-      by : (t : Bool) → contains (readers_of b.flow (place_in (length a.flow.seats.items) actor)) x ≡ t
-          → cond t (waiting b.flow (place_in (length b.flow.seats.items) x)) (get_or c.waits.items x 0) ≡ waiting b.flow (place_in (length b.flow.seats.items) x)
+      by : (t : Bool) → contains (readers_of b.flow (seat_number (length a.flow.seats.items) actor)) x ≡ t
+          → cond t (waiting b.flow (seat_number (length b.flow.seats.items) x)) (get_or c.waits.items x 0) ≡ waiting b.flow (seat_number (length b.flow.seats.items) x)
       by true t = refl
       by false t = first.waits x ∙ at t (eqb actor x) refl
 
@@ -261,7 +261,7 @@ module _ {O : Type 0} (m : Meaning O) (valid : O → Type 0) (a b c d : Engine O
             d.ready.actors more (rw actors-same engine.below));
         once = subst OnlyOnce (sym list-is) (once-after a.flow b.flow engine.flow.shaped wires seats actor actor-low touches a.ready.list listed engine.once engine.exact);
         waits = λ x low.
-            waits-are x (rw (← seats-are) low) ∙ ap (λ (f : Flow O). waiting f (place_in (length f.seats.items) x)) (sym flow-is);
+            waits-are x (rw (← seats-are) low) ∙ ap (λ (f : Flow O). waiting f (seat_number (length f.seats.items) x)) (sym flow-is);
         running = second.failed ∙ first.failed ∙ running;
       }
     where
@@ -282,16 +282,16 @@ pub order-first : {O : Type 0} (a b : Engine O) → a.ready.list ≡ [] → Look
 order-first a b empty looked = list-first a b empty looked ∙ ap (λ f. newly_ready f []) (sym looked.flow)
 
 -- the engine after them
-module _ {O : Type 0} (m : Meaning O) (valid : O → Type 0) (a b : Engine O) (flow : IsFlow m valid a.flow) (room : HasRoom a) (empty : a.ready.list ≡ [])
+module _ {O : Type 0} (m : Meaning O) (valid : O → Type 0) (a b : Engine O) (flow : IsFlow m valid a.flow) (room : HasSeats a) (empty : a.ready.list ≡ [])
     (running : a.failed ≡ false)
     (looked : Looked (range_with_len 0 (length a.flow.seats.items + 1)) a b) where
   in-range : (x : ℕ) → x ≤ length a.flow.seats.items → contains (range_with_len 0 (length a.flow.seats.items + 1)) x ≡ true
   in-range x low = contains-range 0 (length a.flow.seats.items + 1) x ∙ grind (arith, nat_tests, low)
 
-  first-exact : (x : ℕ) → x ≤ length a.flow.seats.items → contains (newly_ready a.flow []) x ≡ is_ready a.flow (place_in (length a.flow.seats.items) x)
+  first-exact : (x : ℕ) → x ≤ length a.flow.seats.items → contains (newly_ready a.flow []) x ≡ is_ready a.flow (seat_number (length a.flow.seats.items) x)
   first-exact x low =
       contains-filter (is_new a.flow []) (range_with_len 0 (length a.flow.seats.items + 1)) x ∙ ap (λ b. b && is_new a.flow [] x) (in-range x low)
-      ∙ and-true (is_ready a.flow (place_in (length a.flow.seats.items) x))
+      ∙ and-true (is_ready a.flow (seat_number (length a.flow.seats.items) x))
     where
       and-true : (b : Bool) → (b && true) ≡ b
       and-true true = refl
@@ -309,8 +309,8 @@ module _ {O : Type 0} (m : Meaning O) (valid : O → Type 0) (a b : Engine O) (f
         once = subst OnlyOnce (sym (list-first a b empty looked)) (once-climbs (newly_ready a.flow []) (climbs-filter (is_new a.flow []) (range_with_len 0 (length a.flow.seats.items + 1)) (climbs-range 0 (length a.flow.seats.items + 1))));
         waits = λ x low.
             looked.waits x
-            ∙ ap (λ b. cond b (waiting a.flow (place_in (length a.flow.seats.items) x)) (get_or a.waits.items x 0)) (in-range x (rw (← seats-are) low))
-            ∙ ap (λ (f : Flow O). waiting f (place_in (length f.seats.items) x)) (sym looked.flow);
+            ∙ ap (λ b. cond b (waiting a.flow (seat_number (length a.flow.seats.items) x)) (get_or a.waits.items x 0)) (in-range x (rw (← seats-are) low))
+            ∙ ap (λ (f : Flow O). waiting f (seat_number (length f.seats.items) x)) (sym looked.flow);
         running = looked.failed ∙ running;
       }
     where

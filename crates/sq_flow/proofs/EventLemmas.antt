@@ -10,7 +10,7 @@ use Rattle.sq_item.specs.Things.{Thing, spread, mark_part, body_part}
 use Rattle.sq_oper.specs.declared.outs.Event.{Event}
 use Rattle.sq_oper.specs.declared.outs.Event.TheVariants.{Line}
 use Rattle.sq_oper.specs.Streams.{tuple_in}
-use Rattle.sq_flow.specs.Events.{bodies, line_of, lines_of, drop_in, drops_of, ShowsIn}
+use Rattle.sq_flow.specs.Events.{bodies, line_in, lines_of, drop_in, drops_of, ShowsIn}
 use Rattle.sq_flow.specs.Plans.{plan_in, plans_of}
 
 -- what was shown stays
@@ -32,7 +32,7 @@ bodies-append (x ∷ xs) ys = ap (λ z. tuple_in x.time x.load ++ z) (bodies-app
 
 pub lines-append : (o : ℕ) (xs ys : List Event) → lines_of o (xs ++ ys) ≡ lines_of o xs ++ lines_of o ys
 lines-append o [] ys = refl
-lines-append o (x ∷ xs) ys = ap (λ z. line_of o x ++ z) (lines-append o xs ys) ∙ sym (append_assoc (line_of o x) (lines_of o xs) (lines_of o ys))
+lines-append o (x ∷ xs) ys = ap (λ z. line_in o x ++ z) (lines-append o xs ys) ∙ sym (append_assoc (line_in o x) (lines_of o xs) (lines_of o ys))
 
 -- no plan is shown with a tuple
 pub plans-append : (xs ys : List Event) → plans_of (xs ++ ys) ≡ plans_of xs ++ plans_of ys

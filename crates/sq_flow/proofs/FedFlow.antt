@@ -9,7 +9,7 @@ use Rattle.sq_value.specs.Lists.{IsPrefixOf}
 use Rattle.sq_item.specs.declared.Item.{Item}
 use Rattle.sq_item.specs.declared.Mark.{Mark}
 use Rattle.sq_item.specs.Things.{Thing, spread, spread_all, mark_part, body_part}
-use Rattle.sq_road.specs.Levels.{LevelTable, Agrees, level_of}
+use Rattle.sq_road.specs.Levels.{LevelTable, AgreesWith, level_of}
 use Rattle.sq_oper.specs.declared.outs.Decision.{Decision}
 use Rattle.sq_oper.specs.declared.outs.Event.{Event}
 use Rattle.sq_oper.specs.Entries.{Entry, at_port, entries}
@@ -17,7 +17,7 @@ use Rattle.sq_oper.specs.Order.{IsFuture, after_all}
 use Rattle.sq_oper.specs.Given.{given, ThingsUpTo}
 use Rattle.sq_oper.specs.Streams.{tuples_of}
 use Rattle.sq_oper.proofs.GivenLemmas.{ThingsUpTo-split, ThingsUpTo-later}
-use Rattle.sq_left.specs.Left.{Net, World, coming, inputs, known}
+use Rattle.sq_left.specs.Left.{Net, Holding, coming, inputs, is_known_actor}
 use Rattle.sq_left.specs.Heads.{AllFine}
 use Rattle.sq_left.proofs.MergeLemmas.{AllOfTime, eqb-yes, eqb-same, eqb-not}
 use Rattle.sq_left.proofs.Conserve.{Kept}
@@ -28,7 +28,7 @@ use Rattle.sq_outside.specs.Disks.{Pages}
 use Rattle.sq_pool.specs.Trust.{Tells}
 use Rattle.sq_paged.specs.Fronts.{first_time, IsFaceOf}
 use Rattle.sq_queue.specs.Faces.{face, size, frames, items_on, Together}
-use Rattle.sq_flow.specs.Sends.{sent_to, comes_from, Pushes}
+use Rattle.sq_flow.specs.Sends.{sent_to, is_sent_by, Pushes}
 use Rattle.sq_flow.specs.Readiness.{stands, TouchesOnly}
 use Rattle.sq_flow.proofs.TouchLemmas.{away-from, stands-pushed}
 use Rattle.sq_flow.proofs.SumLemmas.{sum-least, sum-most, sum-more}
@@ -37,15 +37,15 @@ use Rattle.sq_flow.specs.declared.wires.Arc.{Arc}
 use Rattle.sq_flow.specs.declared.seats.Seat.{Seat}
 use Rattle.sq_flow.specs.declared.flow.Flow.{Flow}
 use Rattle.sq_flow.specs.declared.heads.Next.TheVariants.{Feed}
-use Rattle.sq_flow.specs.Wiring.{net_of, arcs_read, arc_at, marked_of, fits_on, from_of, to_of, place_of, pushed_by, AllOutsFine, IsOwn}
+use Rattle.sq_flow.specs.Wiring.{net_of, arcs_read, arc_wired, marked_of, fits_on, from_of, to_of, arc_place, pushed_by, AllOutsFine, IsOwn}
 use Rattle.sq_flow.specs.Heads.{NextUpTo}
 use Rattle.sq_flow.specs.Seats as seat
-use Rattle.sq_flow.specs.Seats.{Meaning, rest_at, decides_at, lost_at, place_at, done_at, holds_at, IsSeat, Owns, FedSeat}
+use Rattle.sq_flow.specs.Seats.{Meaning, rest_at, decides_at, lost_at, moment_at, done_at, holds_at, IsSeat, Owns, FedSeat}
 use Rattle.sq_flow.specs.Feeds.{FeedsPart}
 use Rattle.sq_flow.specs.Takes.{takes_of, fits_of, MayBeFed}
 use Rattle.sq_flow.specs.Events.{bodies, lines_of, of_drop, drops_of, ShowsIn}
 use Rattle.sq_flow.specs.Plans.{plans_left, plans_of}
-use Rattle.sq_flow.specs.Flows.{world_of, IsFlow, HoldsItems, Goes, Stepped, ShowsPrefix, CostsFed, CostsAtMost, TooMuchOnly, lines_left, decisions_left, fed_at_last, sum_below, taken_in_all, work_at_last, turns_at_last}
+use Rattle.sq_flow.specs.Flows.{world_of, IsFlow, HoldsItems, Goes, Stepped, ShowsPrefix, CostsFed, StepCosts, TooMuchOnly, lines_left, decisions_left, fed_at_last, sum_below, taken_in_all, work_at_last, turns_at_last}
 use Rattle.sq_flow.specs.declared.errors.RunErr.{RunErr}
 use Rattle.sq_flow.proofs.FutureLemmas.{future-weaker, future-port, ports-from-head, moves-fed, outs-fine, own-pushed, not-pushed, apart-from, fine-after, goes-on, prefix-chain}
 use Rattle.sq_flow.proofs.SendLemmas.{at_or_other}
@@ -72,7 +72,7 @@ work-least m table items e = sum-most (λ k. seat.taken_at m (slice_get e.seats.
 
 -- where nothing was fed
 pub costs-none : {O : Type 0} (m : Meaning O) (valid : O → Type 0) (e : Flow O) → IsFlow m valid e → (was is : Option Pages) (levels : LevelTable) (before after : ℕ) → after ≡ before
-    → CostsAtMost m was is e levels before after
+    → StepCosts m was is e levels before after
 costs-none m valid e flow was is levels before after same = λ told table agrees holds. let least = work-least m table (items_on e.queues was) e in omega (arith, least, same)
 
 module _ {O : Type 0} (m : Meaning O) (valid : O → Type 0) (e : Flow O) (flow : IsFlow m valid e) (actor tick p at : ℕ) (a : Arc) (item : Item)
@@ -86,10 +86,10 @@ module _ {O : Type 0} (m : Meaning O) (valid : O → Type 0) (e : Flow O) (flow 
   seat-fine = subst (holds_at (IsSeat m valid (net.takes actor) (net.fits actor) e.levels.epoch e.taken)) is_seat (flow.seats actor)
 
   takes-is : net.takes actor p ≡ a.marked
-  takes-is = ap (λ o. marked_of (arc_at e.wires o)) head.1 ∙ ap marked_of is_arc
+  takes-is = ap (λ o. marked_of (arc_wired e.wires o)) head.1 ∙ ap marked_of is_arc
 
   fits-is : (fields : List Value) → net.fits actor p fields ≡ fits_of a p fields
-  fits-is fields = ap (λ o. fits_on (arc_at e.wires o) fields) head.1 ∙ ap (λ o. fits_on o fields) is_arc
+  fits-is fields = ap (λ o. fits_on (arc_wired e.wires o) fields) head.1 ∙ ap (λ o. fits_on o fields) is_arc
 
   -- what the tests say, in the words of the operator
   pub may-come : MayBeFed a p s.tally.place e.clock item → IsFuture (m.takes_marks s.op) (m.fits s.op) (m.place s.op) (entries p item)
@@ -111,7 +111,7 @@ module _ {O : Type 0} (m : Meaning O) (valid : O → Type 0) (e : Flow O) (flow 
 
   -- what a feed gives and leaves, over every disk
   module _ (s' : Seat O) (outs : List (ℕ × Item)) (drops : List Decision) (fed : FedSeat m valid e.levels p item outs drops s s') (may : MayBeFed a p s.tally.place e.clock item) where
-    pub given-and-held : (table : ℕ → ℕ → ℕ) → Agrees e.levels table → (q : ℕ) → ThingsUpTo e.clock (given q outs) × ThingsUpTo e.clock (m.rest s'.op table [] q)
+    pub given-and-held : (table : ℕ → ℕ → ℕ) → AgreesWith e.levels table → (q : ℕ) → ThingsUpTo e.clock (given q outs) × ThingsUpTo e.clock (m.rest s'.op table [] q)
     given-and-held table agrees q =
         let alone : entries p item ++ [] ≡ entries p item = append-nil (entries p item) in
         let future : IsFuture (m.takes_marks s.op) (m.fits s.op) (m.place s.op) (entries p item ++ []) = rw alone (may-come may) in
@@ -228,15 +228,15 @@ module _ {O : Type 0} (m : Meaning O) (valid : O → Type 0) (e : Flow O) (flow 
               }
 
   -- where these items stand on the arcs
-  module _ (table : ℕ → ℕ → ℕ) (agrees : Agrees e.levels table) (items mid : ℕ → List Item) (holds : HoldsItems m table items e) (faces : (k : ℕ) → IsFaceOf (face e.queues k) (items k))
+  module _ (table : ℕ → ℕ → ℕ) (agrees : AgreesWith e.levels table) (items mid : ℕ → List Item) (holds : HoldsItems m table items e) (faces : (k : ℕ) → IsFaceOf (face e.queues k) (items k))
       (whole : items at ≡ item ∷ mid at) (others : (k : ℕ) → k ≢ at → mid k ≡ items k) where
-    abbrev was : World
+    abbrev was : Holding
     was = world_of m table items e
 
     not-replay : actor ≢ net.replay
     not-replay = let is = flow.shaped.replay_is in omega arith
 
-    in-order : known net e.wires.order.items actor ≡ true
+    in-order : is_known_actor net e.wires.order.items actor ≡ true
     in-order = flow.shaped.ordered actor actor_in
 
     time-is : item.time ≡ tick
@@ -247,19 +247,19 @@ module _ {O : Type 0} (m : Meaning O) (valid : O → Type 0) (e : Flow O) (flow 
 
     ports : EachPort (PortFacts net was tick p at) 0 (net.arcs actor)
     ports =
-        ports-from-head net was items (λ k. place_of (slice_get e.wires.arcs.items k)) (λ k. (face e.queues k).first) (λ k. (face e.queues k).ended) e.clock actor tick p at
+        ports-from-head net was items (λ k. arc_place (slice_get e.wires.arcs.items k)) (λ k. (face e.queues k).first) (λ k. (face e.queues k).ended) e.clock actor tick p at
         (λ k. refl) holds.queued (λ k. (faces k).first)
         (λ port arc is. flow.ended arc (flow.shaped.arcs_in actor port arc is))
         (λ port arc is. (flow.shaped.joined actor port arc is).1) head
 
     -- the world between the taking and the giving
-    abbrev between : World
+    abbrev between : Holding
     between = record was { queue = λ k. spread_all (mid k) }
 
     moves-between : Moves net was between (taken_at at (spread item)) (λ _ _. [])
     moves-between k within = moves-fed items mid (λ _. []) (λ j. spread_all (mid j)) at item whole others k (sym (append-nil (spread_all (mid k))))
 
-    pub next-may-come : IsFuture (net.takes actor) (net.fits actor) (place_at m (slice_get e.seats.items actor)) (entries p item)
+    pub next-may-come : IsFuture (net.takes actor) (net.fits actor) (moment_at m (slice_get e.seats.items actor)) (entries p item)
     next-may-come =
         next-is-future net was between actor tick p at (spread item) (coming net was e.wires.order.items actor) (inputs net was e.wires.order.items actor)
         (facts-at net was e.wires.order.items flow.shaped.wired holds.facts actor in-order not-replay)
@@ -269,8 +269,8 @@ module _ {O : Type 0} (m : Meaning O) (valid : O → Type 0) (e : Flow O) (flow 
     pub passes : MayBeFed a p s.tally.place e.clock item
     passes =
         let in_time : item.time ≤ e.clock = (subst (AllFine e.clock) whole (holds.queued at)).0 in
-        let here : IsFuture (net.takes actor) (net.fits actor) (place_at m (slice_get e.seats.items actor)) (entries p item) = next-may-come in
-        let place : place_at m (slice_get e.seats.items actor) ≡ s.tally.place = ap (place_at m) is_seat ∙ seat-fine.place in
+        let here : IsFuture (net.takes actor) (net.fits actor) (moment_at m (slice_get e.seats.items actor)) (entries p item) = next-may-come in
+        let place : moment_at m (slice_get e.seats.items actor) ≡ s.tally.place = ap (moment_at m) is_seat ∙ seat-fine.place in
         record {
           in_time = in_time;
           future = future-port (net.takes actor) (takes_of a) (net.fits actor) (fits_of a) s.tally.place p (spread item)
@@ -278,15 +278,15 @@ module _ {O : Type 0} (m : Meaning O) (valid : O → Type 0) (e : Flow O) (flow 
         }
 
     -- a future of what comes, in the words of the operator
-    op-future : (future : List Entry) → IsFuture (net.takes actor) (net.fits actor) (place_at m (slice_get e.seats.items actor)) (entries p item ++ future)
+    op-future : (future : List Entry) → IsFuture (net.takes actor) (net.fits actor) (moment_at m (slice_get e.seats.items actor)) (entries p item ++ future)
         → IsFuture (m.takes_marks s.op) (m.fits s.op) (m.place s.op) (entries p item ++ future)
     op-future future f =
-        let place : place_at m (slice_get e.seats.items actor) ≡ m.place s.op = ap (place_at m) is_seat in
+        let place : moment_at m (slice_get e.seats.items actor) ≡ m.place s.op = ap (moment_at m) is_seat in
         future-weaker (net.takes actor) (m.takes_marks s.op) (net.fits actor) (m.fits s.op) (m.place s.op) (entries p item ++ future)
         seat-fine.marks seat-fine.tuples (subst (λ z. IsFuture (net.takes actor) (net.fits actor) z (entries p item ++ future)) place f)
 
     -- what is still to be fed to the actor begins with the item
-    abbrev comes-first : (future : List Entry) × IsFuture (net.takes actor) (net.fits actor) (place_at m (slice_get e.seats.items actor)) (entries p item ++ future)
+    abbrev comes-first : (future : List Entry) × IsFuture (net.takes actor) (net.fits actor) (moment_at m (slice_get e.seats.items actor)) (entries p item ++ future)
         × ((port : ℕ) → coming net was e.wires.order.items actor port ≡ rest_at m table (slice_get e.seats.items actor) (entries p item ++ future) port)
         × (inputs net was e.wires.order.items actor ≡ entries p item ++ future)
     comes-first =
@@ -345,7 +345,7 @@ module _ {O : Type 0} (m : Meaning O) (valid : O → Type 0) (e : Flow O) (flow 
       abbrev e' : Flow O
       e' = record e { seats = seats'; queues = queues'; taken = taken' }
 
-      abbrev is : World
+      abbrev is : Holding
       is = world_of m table items' e'
 
       abbrev decided : ℕ → List Decision
@@ -379,7 +379,7 @@ module _ {O : Type 0} (m : Meaning O) (valid : O → Type 0) (e : Flow O) (flow 
                 ap (λ o. lost_at m o (entries p item ++ future)) is_seat ∙ fed.loses future ∙ ap (λ o. lost_at m o future) (sym is_after);
             counted =
                 ap (seat.taken_at m) is_after ∙ fed.counted ∙ ap (λ n. m.taken s.op + n) (sym (one-body item p)) ∙ ap (λ o. seat.taken_at m o + length (tuples_of (entries p item))) (sym is_seat);
-            place = ap (place_at m) is_after ∙ fed.moves ∙ ap (λ o. after_all (place_at m o) (entries p item)) (sym is_seat);
+            place = ap (moment_at m) is_after ∙ fed.moves ∙ ap (λ o. after_all (moment_at m o) (entries p item)) (sym is_seat);
             running = done-after;
           }
 
@@ -391,7 +391,7 @@ module _ {O : Type 0} (m : Meaning O) (valid : O → Type 0) (e : Flow O) (flow 
             decide = ap (decides_at m table) o;
             lost = ap (lost_at m) o;
             taken = ap (seat.taken_at m) o;
-            place = ap (place_at m) o;
+            place = ap (moment_at m) o;
             done = ap (done_at e.over) o;
           }
 
@@ -460,7 +460,7 @@ module _ {O : Type 0} (m : Meaning O) (valid : O → Type 0) (e : Flow O) (flow 
           }
 
   -- where the pages are known the tests pass, whatever stands behind the item
-  pub passes-front : (table : ℕ → ℕ → ℕ) → Agrees e.levels table → (items : ℕ → List Item) → HoldsItems m table items e → ((k : ℕ) → IsFaceOf (face e.queues k) (items k)) → (more : List Item) → items at ≡ item ∷ more
+  pub passes-front : (table : ℕ → ℕ → ℕ) → AgreesWith e.levels table → (items : ℕ → List Item) → HoldsItems m table items e → ((k : ℕ) → IsFaceOf (face e.queues k) (items k)) → (more : List Item) → items at ≡ item ∷ more
       → MayBeFed a p s.tally.place e.clock item
   passes-front table agrees items holds faces more whole =
       passes table agrees items (λ k. cond (eqb k at) more (items k)) holds faces
@@ -493,7 +493,7 @@ module _ {O : Type 0} (m : Meaning O) (valid : O → Type 0) (e : Flow O) (flow 
   pub fed-touches : (is mid_pages : Option Pages) (mid q' : Queues) (seats' : Vec (Seat O) Global) (taken' : ℕ) (s' : Seat O) (outs : List (ℕ × Item))
       → ((other : ℕ) → other ≢ at → face mid other ≡ face e.queues other) → s'.tally.running ≡ s.tally.running
       → slice_get seats'.items actor ≡ Some s' → ((other : ℕ) → other ≢ actor → slice_get seats'.items other ≡ slice_get e.seats.items other)
-      → Pushes mid q' mid_pages is (sent_to e.wires actor outs) (λ time. AllOutsFine time outs) (comes_from e.wires actor)
+      → Pushes mid q' mid_pages is (sent_to e.wires actor outs) (λ time. AllOutsFine time outs) (is_sent_by e.wires actor)
       → TouchesOnly actor e (record e { seats = seats'; queues = q'; taken = taken' })
   fed-touches is mid_pages mid q' seats' taken' s' outs faces open_still is_after apart sent =
       record {
@@ -506,7 +506,7 @@ module _ {O : Type 0} (m : Meaning O) (valid : O → Type 0) (e : Flow O) (flow 
       not-fed arc to same = to (ap (λ k. to_of (slice_get e.wires.arcs.items k)) same ∙ (flow.shaped.joined actor p at head.1).0)
 
   -- what a feed that failed has decided is its own
-  own-part : (drops : List Decision) → ((table : ℕ → ℕ → ℕ) (future : List Entry) → Agrees e.levels table → IsFuture (m.takes_marks s.op) (m.fits s.op) (m.place s.op) (entries p item ++ future)
+  own-part : (drops : List Decision) → ((table : ℕ → ℕ → ℕ) (future : List Entry) → AgreesWith e.levels table → IsFuture (m.takes_marks s.op) (m.fits s.op) (m.place s.op) (entries p item ++ future)
       → IsPrefixOf drops (m.decides s.op table (entries p item ++ future)))
       → MayBeFed a p s.tally.place e.clock item → m.running s.op ≡ true → AllByRecursion (IsOwn e.wires actor) drops
   own-part drops decided may running =
@@ -550,7 +550,7 @@ module _ {O : Type 0} (m : Meaning O) (valid : O → Type 0) (e : Flow O) (flow 
       → FedSeat m valid e.levels p item outs drops s s'
       → slice_get seats'.items actor ≡ Some s' → ((other : ℕ) → other ≢ actor → slice_get seats'.items other ≡ slice_get e.seats.items other)
       → length seats'.items ≡ length e.seats.items → done_at e.over (slice_get e.seats.items actor) ≡ false
-      → Pushes mid q' mid_pages is (sent_to e.wires actor outs) (λ time. AllOutsFine time outs) (comes_from e.wires actor)
+      → Pushes mid q' mid_pages is (sent_to e.wires actor outs) (λ time. AllOutsFine time outs) (is_sent_by e.wires actor)
       → ((o : ℕ) → lines_of o events' ≡ lines_of o events ++ bodies (pushed_by actor outs (e.wires.shown + o) 0))
       → ((w : ℕ) → drops_of w events' ≡ drops_of w events ++ of_drop w drops)
       → ShowsIn (length e.seats.items - e.wires.shown) (e.wires.shown - e.wires.sheds) events events' → plans_of events' ≡ plans_of events

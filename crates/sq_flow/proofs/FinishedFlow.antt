@@ -7,11 +7,11 @@ use Rattle.std.proofs.lemmas.Option.{slice_get_within}
 use Rattle.sq_value.specs.Lists.{IsPrefixOf}
 use Rattle.sq_item.specs.declared.Item.{Item}
 use Rattle.sq_item.specs.Things.{Thing, spread_all}
-use Rattle.sq_road.specs.Levels.{Agrees, level_of}
+use Rattle.sq_road.specs.Levels.{AgreesWith, level_of}
 use Rattle.sq_oper.specs.declared.outs.Decision.{Decision}
 use Rattle.sq_oper.specs.declared.outs.Event.{Event}
 use Rattle.sq_oper.specs.Given.{given, ThingsUpTo}
-use Rattle.sq_left.specs.Left.{Net, World, left_by, inputs_by, Each, coming, inputs}
+use Rattle.sq_left.specs.Left.{Net, Holding, left_by, inputs_by, Each, coming, inputs}
 use Rattle.sq_left.specs.Heads.{AllFine}
 use Rattle.sq_left.proofs.MergeLemmas.{eqb-yes, eqb-same, eqb-not}
 use Rattle.sq_left.proofs.Conserve.{Reads, Kept}
@@ -22,7 +22,7 @@ use Rattle.sq_outside.specs.Disks.{Pages}
 use Rattle.sq_pool.specs.Trust.{Tells}
 use Rattle.sq_paged.specs.Fronts.{first_time, IsFaceOf}
 use Rattle.sq_queue.specs.Faces.{face, size, frames, items_on, Together}
-use Rattle.sq_flow.specs.Sends.{sent_to, comes_from, Pushes}
+use Rattle.sq_flow.specs.Sends.{sent_to, is_sent_by, Pushes}
 use Rattle.sq_flow.specs.Readiness.{TouchesOnly}
 use Rattle.sq_flow.proofs.TouchLemmas.{away-from, stands-pushed, stands-grows}
 use Rattle.sq_flow.proofs.SumLemmas.{sum-same}
@@ -35,7 +35,7 @@ use Rattle.sq_flow.specs.Wiring.{net_of, arcs_read, from_of, pushed_by, AllOutsF
 use Rattle.sq_flow.specs.Heads.{NextUpTo}
 use Rattle.sq_flow.specs.Feeds.{EndsPart}
 use Rattle.sq_flow.specs.Seats as seat
-use Rattle.sq_flow.specs.Seats.{Meaning, rest_at, decides_at, lost_at, place_at, done_at, holds_at, IsSeat, Owns, FinishedSeat}
+use Rattle.sq_flow.specs.Seats.{Meaning, rest_at, decides_at, lost_at, moment_at, done_at, holds_at, IsSeat, Owns, FinishedSeat}
 use Rattle.sq_flow.specs.Events.{bodies, lines_of, of_drop, drops_of, ShowsIn}
 use Rattle.sq_flow.specs.Plans.{plans_left, plans_of}
 use Rattle.sq_flow.specs.Flows.{world_of, IsFlow, HoldsItems, Goes, Stepped, ShowsPrefix, lines_left, decisions_left, sum_below, taken_in_all, turns_at_last}
@@ -140,8 +140,8 @@ module _ {O : Type 0} (m : Meaning O) (valid : O → Type 0) (e : Flow O) (flow 
           nothing c xs h = rw h tt
 
   -- where these items stand on the arcs
-  module _ (table : ℕ → ℕ → ℕ) (agrees : Agrees e.levels table) (items : ℕ → List Item) (holds : HoldsItems m table items e) (faces : (k : ℕ) → IsFaceOf (face e.queues k) (items k)) where
-    abbrev was : World
+  module _ (table : ℕ → ℕ → ℕ) (agrees : AgreesWith e.levels table) (items : ℕ → List Item) (holds : HoldsItems m table items e) (faces : (k : ℕ) → IsFaceOf (face e.queues k) (items k)) where
+    abbrev was : Holding
     was = world_of m table items e
 
     not-replay : actor ≢ net.replay
@@ -207,7 +207,7 @@ module _ {O : Type 0} (m : Meaning O) (valid : O → Type 0) (e : Flow O) (flow 
       abbrev e' : Flow O
       e' = record e { seats = seats'; queues = queues' }
 
-      abbrev is : World
+      abbrev is : Holding
       is = world_of m table items' e'
 
       abbrev decided : ℕ → List Decision
@@ -221,7 +221,7 @@ module _ {O : Type 0} (m : Meaning O) (valid : O → Type 0) (e : Flow O) (flow 
             decide = ap (decides_at m table) o;
             lost = ap (lost_at m) o;
             taken = ap (seat.taken_at m) o;
-            place = ap (place_at m) o;
+            place = ap (moment_at m) o;
             done = ap (done_at e.over) o;
           }
 
@@ -302,10 +302,10 @@ module _ {O : Type 0} (m : Meaning O) (valid : O → Type 0) (e : Flow O) (flow 
 
   pub finished-touches : (was is : Option Pages) (mid q' : Queues) (seats' : Vec (Seat O) Global) (outs : List (ℕ × Item))
       → ((other : ℕ) → other ≢ actor → slice_get seats'.items other ≡ slice_get e.seats.items other)
-      → Pushes e.queues mid was is (sent_to e.wires actor outs) (λ time. AllOutsFine time outs) (comes_from e.wires actor)
+      → Pushes e.queues mid was is (sent_to e.wires actor outs) (λ time. AllOutsFine time outs) (is_sent_by e.wires actor)
       → ((k : ℕ) → k < length e.wires.arcs.items → (face q' k).ended ≡ ((face mid k).ended || eqb (from_of (slice_get e.wires.arcs.items k)) actor))
       → ((k : ℕ) → (face q' k).first ≡ (face mid k).first)
-      → ((k : ℕ) → comes_from e.wires actor k ≡ false → face q' k ≡ face mid k)
+      → ((k : ℕ) → is_sent_by e.wires actor k ≡ false → face q' k ≡ face mid k)
       → TouchesOnly actor e (record e { seats = seats'; queues = q' })
   finished-touches was is mid q' seats' outs apart sent ended first same =
       record {
@@ -348,7 +348,7 @@ module _ {O : Type 0} (m : Meaning O) (valid : O → Type 0) (e : Flow O) (flow 
       → Together e.queues was → FinishedSeat m valid outs drops s s'
       → slice_get seats'.items actor ≡ Some s' → ((other : ℕ) → other ≢ actor → slice_get seats'.items other ≡ slice_get e.seats.items other)
       → length seats'.items ≡ length e.seats.items
-      → Pushes e.queues mid was is (sent_to e.wires actor outs) (λ time. AllOutsFine time outs) (comes_from e.wires actor)
+      → Pushes e.queues mid was is (sent_to e.wires actor outs) (λ time. AllOutsFine time outs) (is_sent_by e.wires actor)
       → size q' ≡ size mid → frames q' ≡ frames mid
       → ((k : ℕ) → k < length e.wires.arcs.items → (face q' k).ended ≡ ((face mid k).ended || eqb (from_of (slice_get e.wires.arcs.items k)) actor))
       → ((pages : Option Pages) (k : ℕ) → items_on q' pages k ≡ items_on mid pages k)

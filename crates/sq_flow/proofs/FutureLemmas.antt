@@ -6,14 +6,14 @@ use Rattle.sq_value.specs.declared.Value.{Value}
 use Rattle.sq_value.specs.Lists.{IsPrefixOf}
 use Rattle.sq_item.specs.declared.Item.{Item}
 use Rattle.sq_item.specs.declared.Mark.{Mark}
-use Rattle.sq_item.specs.Sound.{IsSound}
+use Rattle.sq_item.specs.Sound.{IsSoundItem}
 use Rattle.sq_item.specs.Things.{Thing, Load, Sign, Body, spread, spread_all, mark_part, body_part}
 use Rattle.sq_oper.specs.declared.tally.Place.{Place}
 use Rattle.sq_oper.specs.Entries.{Entry, at_port}
 use Rattle.sq_oper.specs.Order.{load_fits, AllFit, IsFuture}
 use Rattle.sq_oper.specs.Given.{given, ItemsSound, ThingsUpTo}
 use Rattle.sq_oper.proofs.GivenLemmas.{ThingsUpTo-split}
-use Rattle.sq_left.specs.Left.{Net, World, Each}
+use Rattle.sq_left.specs.Left.{Net, Holding, Each}
 use Rattle.sq_left.specs.Heads.{ItemsNotBefore, AllFine}
 use Rattle.sq_left.proofs.MergeLemmas.{eqb-yes, eqb-no, eqb-same, eqb-not}
 use Rattle.sq_left.proofs.ActorSteps.{EachPort, PortFacts, taken_at}
@@ -64,7 +64,7 @@ slice_get-set_other (x ∷ xs) zero (suc j) v h = refl
 slice_get-set_other (x ∷ xs) (suc i) zero v h = refl
 slice_get-set_other (x ∷ xs) (suc i) (suc j) v h = slice_get-set_other xs i j v (λ e. h (ap suc e))
 
-pub ports-from-head : (net : Net) (w : World) (items : ℕ → List Item) (place : ℕ → ℕ) (first : ℕ → Option ℕ) (ended : ℕ → Bool) (clock actor t p at : ℕ)
+pub ports-from-head : (net : Net) (w : Holding) (items : ℕ → List Item) (place : ℕ → ℕ) (first : ℕ → Option ℕ) (ended : ℕ → Bool) (clock actor t p at : ℕ)
     → ((a : ℕ) → w.queue a ≡ spread_all (items a)) → ((a : ℕ) → AllFine clock (items a)) → ((a : ℕ) → first a ≡ first_time (items a))
     → ((port arc : ℕ) → slice_get (net.arcs actor) port ≡ Some arc → ended arc ≡ w.done (net.from arc))
     → ((port arc : ℕ) → slice_get (net.arcs actor) port ≡ Some arc → place arc ≡ port)
@@ -110,7 +110,7 @@ moves-fed items mid more new at item whole others a e = by (eqb a at) refl
         ap (λ z. spread_all z ++ more a) front ∙ append_assoc (spread item) (spread_all (mid a)) (more a) ∙ ap (λ z. spread item ++ z) (sym e)
     by false t = ap (λ z. spread_all z ++ more a) (sym (others a (eqb-no a at t))) ∙ sym e
 
-spread-time : (c : ℕ) (item : Item) → IsSound item → ThingsUpTo c (spread item) → item.time ≤ c
+spread-time : (c : ℕ) (item : Item) → IsSoundItem item → ThingsUpTo c (spread item) → item.time ≤ c
 spread-time c item s h = by item.mark item.body s.some h
   where
     by : (m : Option Mark) (b : Option (List Value)) → (is_some m || is_some b) ≡ true → ThingsUpTo c (mark_part item.time m ++ body_part item.time b) → item.time ≤ c

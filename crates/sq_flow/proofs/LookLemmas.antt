@@ -12,7 +12,7 @@ use Rattle.sq_flow.specs.declared.flow.Flow.{Flow}
 use Rattle.sq_flow.specs.declared.engine.Engine.{Engine}
 use Rattle.sq_flow.specs.Wiring.{Climbs, numbers_in, followers_of}
 use Rattle.sq_flow.specs.Readiness.{is_ready, waiting}
-use Rattle.sq_flow.specs.Engines.{place_in, is_new, readers_of, Looked}
+use Rattle.sq_flow.specs.Engines.{seat_number, is_new, readers_of, Looked}
 use Rattle.sq_flow.proofs.ListLemmas.{contains-append, contains-range, range-more, contains-at, climbs-front, at-next}
 use Rattle.sq_flow.proofs.ReadyLemmas.{looked-at}
 
@@ -40,10 +40,10 @@ looked-more seen x a b c apart first second =
           ∙ ap (λ new. a.ready.list ++ new) (sym (filter-append (is_new a.flow a.ready.list) seen (x ∷ [])));
       waits = λ actor.
           second.waits actor
-          ∙ ap (λ f. cond (eqb x actor || false) (waiting f (place_in (length f.seats.items) actor)) (get_or b.waits.items actor 0)) first.flow
-          ∙ ap (λ count. cond (eqb x actor || false) (waiting a.flow (place_in (length a.flow.seats.items) actor)) count) (first.waits actor)
-          ∙ one (contains seen actor) (eqb x actor) (waiting a.flow (place_in (length a.flow.seats.items) actor)) (get_or a.waits.items actor 0)
-          ∙ ap (λ t. cond t (waiting a.flow (place_in (length a.flow.seats.items) actor)) (get_or a.waits.items actor 0)) (sym (contains-append seen (x ∷ []) actor));
+          ∙ ap (λ f. cond (eqb x actor || false) (waiting f (seat_number (length f.seats.items) actor)) (get_or b.waits.items actor 0)) first.flow
+          ∙ ap (λ count. cond (eqb x actor || false) (waiting a.flow (seat_number (length a.flow.seats.items) actor)) count) (first.waits actor)
+          ∙ one (contains seen actor) (eqb x actor) (waiting a.flow (seat_number (length a.flow.seats.items) actor)) (get_or a.waits.items actor 0)
+          ∙ ap (λ t. cond t (waiting a.flow (seat_number (length a.flow.seats.items) actor)) (get_or a.waits.items actor 0)) (sym (contains-append seen (x ∷ []) actor));
       waits_len = second.waits_len ∙ first.waits_len;
     }
   where
@@ -55,7 +55,7 @@ looked-more seen x a b c apart first second =
     new-same : is_new b.flow b.ready.list x ≡ is_new a.flow a.ready.list x
     new-same =
         ap (λ f. is_new f b.ready.list x) first.flow
-        ∙ ap (λ t. is_ready a.flow (place_in (length a.flow.seats.items) x) && not t)
+        ∙ ap (λ t. is_ready a.flow (seat_number (length a.flow.seats.items) x) && not t)
         (ap (λ list. contains list x) first.list ∙ looked-at a.flow a.ready.list seen x ∙ or-none (contains a.ready.list x) (is_new a.flow a.ready.list x) (contains seen x) apart)
 
     one : (p q : Bool) (w v : ℕ) → cond (q || false) w (cond p w v) ≡ cond (p || (q || false)) w v

@@ -6,12 +6,12 @@ use Rattle.sq_value.specs.declared.Value.{Value}
 use Rattle.sq_item.specs.declared.Item.{Item}
 use Rattle.sq_item.specs.declared.Mark.{Mark}
 use Rattle.sq_item.specs.Things.{spread, mark_part, body_part}
-use Rattle.sq_item.specs.Sound.{IsSound}
+use Rattle.sq_item.specs.Sound.{IsSoundItem}
 use Rattle.sq_flow.specs.declared.seats.Seat.{Seat}
 use Rattle.sq_flow.specs.Flows.{open_seats}
 
 -- a sound item counts
-pub weighs : (item : Item) → IsSound item → 1 ≤ length (spread item)
+pub weighs : (item : Item) → IsSoundItem item → 1 ≤ length (spread item)
 weighs item s = by item.mark item.body s.some
   where
     by : (k : Option Mark) (b : Option (List Value)) → (is_some k || is_some b) ≡ true → 1 ≤ length (mark_part item.time k ++ body_part item.time b)

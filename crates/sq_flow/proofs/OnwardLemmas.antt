@@ -23,7 +23,7 @@ use Rattle.sq_flow.specs.declared.onward.Onward.{Onward}
 use Rattle.sq_flow.specs.Causes.{IsQueueCause, fault_or}
 use Rattle.sq_flow.specs.Takes.{NotChanged}
 use Rattle.sq_flow.specs.Wiring.{arcs_from, times_in, AllOutsFine}
-use Rattle.sq_flow.specs.Sends.{many, sent_to, comes_from, Pushes}
+use Rattle.sq_flow.specs.Sends.{many, sent_to, is_sent_by, Pushes}
 use Rattle.sq_flow.specs.Events.{lines_of, of_drop, drops_of, ShowsIn}
 use Rattle.sq_flow.specs.Plans.{plans_of}
 use Rattle.sq_flow.specs.Shows.{IsShown}
@@ -78,10 +78,10 @@ module _ {D : Type 0} (log : D → DiskLog) (faults : D → ℕ) where
   -- what went on, where the outlet was opened
   pub went-on : (start s : Onward D) → Came log faults start s → s.failed ≡ None
       → Pushes start.queues.now s.queues.now (known (log start.disk.now)) (known (log s.disk.now)) (sent_to start.wires.now start.actor s.noted.items) (λ time. AllOutsFine time s.noted.items)
-      (comes_from start.wires.now start.actor)
+      (is_sent_by start.wires.now start.actor)
   went-on start s came whole =
       subst₂ (λ (wires : Bor Wires) (actor : ℕ).
-      Pushes start.queues.now s.queues.now (known (log start.disk.now)) (known (log s.disk.now)) (sent_to wires.now actor s.noted.items) (λ time. AllOutsFine time s.noted.items) (comes_from wires.now actor))
+      Pushes start.queues.now s.queues.now (known (log start.disk.now)) (known (log s.disk.now)) (sent_to wires.now actor s.noted.items) (λ time. AllOutsFine time s.noted.items) (is_sent_by wires.now actor))
       came.holds.wires came.holds.actor (came.sent whole)
 
   pub was-shown : (start s : Onward D) → Came log faults start s → (events : List Event) → events ≡ s.events.now.items
@@ -93,7 +93,7 @@ module _ {D : Type 0} (log : D → DiskLog) (faults : D → ℕ) where
   -- what an outlet became that was opened
   pub came-open : (start s : Onward D) → s.actor < length s.wires.now.readers.items → (s.wires.now.shown ≤ s.actor → (port : ℕ) → arcs_from s.wires.now s.actor port ≡ [])
       → ((port place arc : ℕ) → slice_get (arcs_from s.wires.now s.actor port) place ≡ Some arc → (arc < size s.queues.now) × ((face s.queues.now arc).ended ≡ false))
-      → ((port arc : ℕ) → contains (arcs_from s.wires.now s.actor port) arc ≡ true → comes_from s.wires.now s.actor arc ≡ true)
+      → ((port arc : ℕ) → contains (arcs_from s.wires.now s.actor port) arc ≡ true → is_sent_by s.wires.now s.actor arc ≡ true)
       → Together s.queues.now (known (log s.disk.now)) → s.failed ≡ None → (s.noted.items ≡ []) × (s.noted.drops ≡ [])
       → ((before : Onward D) → Came log faults before s → Came log faults before start) → Came log faults s start
   came-open start s within shown there joined together whole none came =

@@ -16,7 +16,7 @@ use Rattle.sq_oper.specs.declared.outs.Event.{Event}
 use Rattle.sq_oper.specs.declared.outs.Event.TheVariants.{Plan}
 use Rattle.sq_replay.specs.Recorded.{Recorded}
 use Rattle.sq_flow.specs.Events.{lines_of}
-use Rattle.sq_flow.specs.Flows.{tuples_at, RiseFrom}
+use Rattle.sq_flow.specs.Flows.{tuples_to_come, RiseFrom}
 use Rattle.sq_flow.specs.Plans.{arrivals, last_arrival, add_counts, plans_of}
 use Rattle.sq_flow.specs.Sources.{BeginsNotBefore}
 use Rattle.sq_flow.proofs.EventLemmas.{lines-append, plans-append}
@@ -125,7 +125,7 @@ module _ (epoch e : ℕ) (pos : 0 < epoch) where
       none-add : (k : ℕ) → 0 + k ≡ k
       none-add k = omega arith
 
-  pub none-arrive : (time : ℕ) (sources : List Recorded) → e < time / epoch → ((source : ℕ) → RiseFrom time (tuples_at (slice_get sources source)))
+  pub none-arrive : (time : ℕ) (sources : List Recorded) → e < time / epoch → ((source : ℕ) → RiseFrom time (tuples_to_come (slice_get sources source)))
       → arrivals epoch (streams sources) e ≡ replicate (length sources) 0
   none-arrive time [] later rise = refl
   none-arrive time (s ∷ sources) later rise =

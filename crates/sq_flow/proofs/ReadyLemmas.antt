@@ -11,7 +11,7 @@ use Rattle.sq_flow.specs.declared.wires.Wires.{Wires}
 use Rattle.sq_flow.specs.Wiring.{arcs_read, from_of, to_of, followers_of, Climbs, IsShaped}
 use Rattle.sq_flow.specs.Seats.{done_at}
 use Rattle.sq_flow.specs.Readiness.{stands, IsReady, is_ready, waiting, TouchesOnly}
-use Rattle.sq_flow.specs.Engines.{place_in, ExactFor, is_new, readers_of}
+use Rattle.sq_flow.specs.Engines.{seat_number, ExactFor, is_new, readers_of}
 use Rattle.sq_flow.proofs.ListLemmas.{contains-append, contains-filter, contains-next, zero-next, climbs-filter, once-climbs, once-append, actors-append, both-true, all-agree, all-at, all-from, map-agree}
 
 not-true : (a : Bool) → not a ≡ true → a ≡ false
@@ -38,45 +38,45 @@ same-test false true f g = g refl
 same-test false false f g = refl
 
 -- the list is exact for an actor
-pub exact-of : {O : Type 0} (e : Flow O) (list : List ℕ) (actor : ℕ) → contains list actor ≡ is_ready e (place_in (length e.seats.items) actor) → ExactFor e list actor
+pub exact-of : {O : Type 0} (e : Flow O) (list : List ℕ) (actor : ℕ) → contains list actor ≡ is_ready e (seat_number (length e.seats.items) actor) → ExactFor e list actor
 exact-of e list actor same =
     record {
-      listed = λ h. ready-of e (place_in (length e.seats.items) actor) (sym same ∙ h);
-      ready = λ r. same ∙ test-of e (place_in (length e.seats.items) actor) r;
+      listed = λ h. ready-of e (seat_number (length e.seats.items) actor) (sym same ∙ h);
+      ready = λ r. same ∙ test-of e (seat_number (length e.seats.items) actor) r;
     }
 
-pub exact-test : {O : Type 0} (e : Flow O) (list : List ℕ) (actor : ℕ) → ExactFor e list actor → contains list actor ≡ is_ready e (place_in (length e.seats.items) actor)
+pub exact-test : {O : Type 0} (e : Flow O) (list : List ℕ) (actor : ℕ) → ExactFor e list actor → contains list actor ≡ is_ready e (seat_number (length e.seats.items) actor)
 exact-test e list actor exact =
-    same-test (contains list actor) (is_ready e (place_in (length e.seats.items) actor))
-    (λ h. test-of e (place_in (length e.seats.items) actor) (exact.listed h))
-    (λ h. exact.ready (ready-of e (place_in (length e.seats.items) actor) h))
+    same-test (contains list actor) (is_ready e (seat_number (length e.seats.items) actor))
+    (λ h. test-of e (seat_number (length e.seats.items) actor) (exact.listed h))
+    (λ h. exact.ready (ready-of e (seat_number (length e.seats.items) actor) h))
 
 -- places of actors
-pub place-0 : (ops : ℕ) → place_in ops 0 ≡ ops
+pub place-0 : (ops : ℕ) → seat_number ops 0 ≡ ops
 place-0 ops = refl
 
-pub place-next : (ops k : ℕ) → place_in ops (suc k) ≡ k
+pub place-next : (ops k : ℕ) → seat_number ops (suc k) ≡ k
 place-next ops k = ap (λ b. cond b ops (suc k - 1)) (eqb-not (suc k) 0 (omega arith)) ∙ less
   where
     less : suc k - 1 ≡ k
     less = omega arith
 
-pub place-within : (ops actor : ℕ) → actor ≤ ops → place_in ops actor ≤ ops
+pub place-within : (ops actor : ℕ) → actor ≤ ops → seat_number ops actor ≤ ops
 place-within ops zero low = omega arith
-place-within ops (suc k) low = let p : place_in ops (suc k) ≡ k = place-next ops k in omega (arith, p, low)
+place-within ops (suc k) low = let p : seat_number ops (suc k) ≡ k = place-next ops k in omega (arith, p, low)
 
-pub place-apart : (ops a b : ℕ) → a ≤ ops → b ≤ ops → a ≢ b → place_in ops a ≢ place_in ops b
+pub place-apart : (ops a b : ℕ) → a ≤ ops → b ≤ ops → a ≢ b → seat_number ops a ≢ seat_number ops b
 place-apart ops zero zero i j ne = λ h. ne refl
-place-apart ops zero (suc b) i j ne = λ h. let p : place_in ops (suc b) ≡ b = place-next ops b in omega (arith, h, p, j)
-place-apart ops (suc a) zero i j ne = λ h. let p : place_in ops (suc a) ≡ a = place-next ops a in omega (arith, h, p, i)
+place-apart ops zero (suc b) i j ne = λ h. let p : seat_number ops (suc b) ≡ b = place-next ops b in omega (arith, h, p, j)
+place-apart ops (suc a) zero i j ne = λ h. let p : seat_number ops (suc a) ≡ a = place-next ops a in omega (arith, h, p, i)
 place-apart ops (suc a) (suc b) i j ne = λ h.
-    let p : place_in ops (suc a) ≡ a = place-next ops a in
-    let q : place_in ops (suc b) ≡ b = place-next ops b in
+    let p : seat_number ops (suc a) ≡ a = place-next ops a in
+    let q : seat_number ops (suc b) ≡ b = place-next ops b in
     ne (omega (arith, h, p, q))
 
 -- an actor reads from the one at a place where its own place is among those that follow
 pub readers-at : {O : Type 0} (e : Flow O) (shaped : IsShaped e.wires (length e.seats.items)) (place actor : ℕ) → actor ≤ length e.seats.items
-    → contains (readers_of e place) actor ≡ contains (followers_of e.wires place) (place_in (length e.seats.items) actor)
+    → contains (readers_of e place) actor ≡ contains (followers_of e.wires place) (seat_number (length e.seats.items) actor)
 readers-at e shaped place zero low = zero-next (followers_of e.wires place) ∙ sym (at (contains (followers_of e.wires place) (length e.seats.items)) refl)
   where
     at : (b : Bool) → contains (followers_of e.wires place) (length e.seats.items) ≡ b → contains (followers_of e.wires place) (length e.seats.items) ≡ false
@@ -143,7 +143,7 @@ looked-once e list seen once climbs =
     (λ n is. apart n (contains seen n) (sym (contains-filter (is_new e list) seen n) ∙ is))
   where
     apart : (n : ℕ) (b : Bool) → (b && is_new e list n) ≡ true → contains list n ≡ false
-    apart n true h = not-true (contains list n) ((both-true (is_ready e (place_in (length e.seats.items) n)) (not (contains list n)) h).1)
+    apart n true h = not-true (contains list n) ((both-true (is_ready e (seat_number (length e.seats.items) n)) (not (contains list n)) h).1)
     apart n false h = absurd (cc h)
 
 pub looked-below : {O : Type 0} (e : Flow O) (list seen : List ℕ) (actors : ℕ) → AreActors actors list → AreActors actors seen → AreActors actors (list ++ filter (is_new e list) seen)

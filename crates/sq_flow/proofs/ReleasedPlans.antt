@@ -6,7 +6,7 @@ use Rattle.std.proofs.lemmas.List.{length-replicate}
 use Rattle.std.specs.declared.alloc.Global.{Global}
 use Rattle.sq_value.specs.declared.Tuple.{Tuple}
 use Rattle.sq_left.proofs.MergeLemmas.{eqb-yes, eqb-no, eqb-same, eqb-not}
-use Rattle.sq_road.specs.Levels.{LevelTable, level_of, Agrees}
+use Rattle.sq_road.specs.Levels.{LevelTable, level_of, AgreesWith}
 use Rattle.sq_plan.specs.declared.closing.Shown.{Shown}
 use Rattle.sq_plan.specs.Plans.{Setting}
 use Rattle.sq_plan.specs.Shown.{is_quiet, level_for, shown_from, shown_after, Ended}
@@ -16,7 +16,7 @@ use Rattle.sq_replay.specs.Recorded.{Recorded}
 use Rattle.sq_flow.specs.declared.flow.Flow.{Flow}
 use Rattle.sq_flow.specs.Seats.{Meaning}
 use Rattle.sq_flow.specs.Events.{lines_of, drops_of, ShowsIn}
-use Rattle.sq_flow.specs.Flows.{IsFlow, RiseFrom, tuples_at, to_release}
+use Rattle.sq_flow.specs.Flows.{IsFlow, RiseFrom, tuples_to_come, to_release}
 use Rattle.sq_flow.specs.Plans.{arrivals, last_arrival, add_counts, counts_of, IsPlanned, plans_left, plans_of, PlansPrefix}
 use Rattle.sq_flow.specs.Sources.{BeginsLeast, IsNextSource}
 use Rattle.sq_flow.proofs.PlanLemmas.{div-low, plans-cut, streams, rise-later, add-zeros, zeros-more, arrivals-len, quiet-zeros, none-arrive, arrivals-other, counted-one, last-taken, zeros-low}
@@ -28,7 +28,7 @@ pub record ClosedBefore (planner planner' : Setting) (levels levels' : LevelTabl
   pub closed : levels'.closed ≡ next + 1
   pub keeps : (x w : ℕ) → x < levels.closed → level_of levels' x w ≡ level_of levels x w
   pub counts : after ≡ cond (eqb (next + 1) levels.closed) before (replicate (length before) 0)
-  pub agrees : (all : ℕ → List ℕ) → (levels.closed < next + 1 → Ended all (levels.closed - 1) next before) → Agrees levels (level_for planner all) → Agrees levels' (level_for planner all)
+  pub agrees : (all : ℕ → List ℕ) → (levels.closed < next + 1 → Ended all (levels.closed - 1) next before) → AgreesWith levels (level_for planner all) → AgreesWith levels' (level_for planner all)
   pub plans : (all : ℕ → List ℕ) → (levels.closed < next + 1 → Ended all (levels.closed - 1) next before)
       → plans_of events' ≡ plans_of events ++ flat_map (shown_after planner all) (range_with_len (levels.closed - 1) (next - (levels.closed - 1)))
   pub lines : (o : ℕ) → lines_of o events' ≡ lines_of o events
@@ -37,7 +37,7 @@ pub record ClosedBefore (planner planner' : Setting) (levels levels' : LevelTabl
 
 -- a table that agrees with more closed levels agrees with fewer
 pub agrees-before : (levels levels' : LevelTable) → ((x w : ℕ) → x < levels.closed → level_of levels' x w ≡ level_of levels x w) → levels.closed ≤ levels'.closed
-    → (table : ℕ → ℕ → ℕ) → Agrees levels' table → Agrees levels table
+    → (table : ℕ → ℕ → ℕ) → AgreesWith levels' table → AgreesWith levels table
 agrees-before levels levels' keeps grows table h epoch drop low = h epoch drop (omega (arith, low, grows)) ∙ keeps epoch drop low
 
 module _ {O : Type 0} (m : Meaning O) (valid : O → Type 0) (e : Flow O) (flow : IsFlow m valid e) (pos : 0 < e.levels.epoch)
@@ -56,7 +56,7 @@ module _ {O : Type 0} (m : Meaning O) (valid : O → Type 0) (e : Flow O) (flow 
   arrive = arrivals e.levels.epoch (streams e.sources.items) epoch_there
 
   begins : to_release e port ≡ x ∷ more.items
-  begins = ap tuples_at at ∙ front
+  begins = ap tuples_to_come at ∙ front
 
   -- the tuple comes no earlier than what was released, and no later than all that is still to be
   pub in-time : (e.clock ≤ x.time) × (x.time < 2 ^ 40)
@@ -190,7 +190,7 @@ module _ {O : Type 0} (m : Meaning O) (valid : O → Type 0) (e : Flow O) (flow 
 
   -- where the epochs before it can't be closed
   pub plans-none : (levels' : LevelTable) (events events' : List Event)
-      → ((all : ℕ → List ℕ) → (e.levels.closed < epoch_there + 1 → Ended all (e.levels.closed - 1) epoch_there e.counts.items) → Agrees e.levels (level_for e.planner all) → Agrees levels' (level_for e.planner all))
+      → ((all : ℕ → List ℕ) → (e.levels.closed < epoch_there + 1 → Ended all (e.levels.closed - 1) epoch_there e.counts.items) → AgreesWith e.levels (level_for e.planner all) → AgreesWith levels' (level_for e.planner all))
       → plans_of events' ≡ plans_of events → PlansPrefix e levels' events events'
   plans-none levels' events events' agrees same =
       record {

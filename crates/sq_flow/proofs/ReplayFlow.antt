@@ -7,15 +7,15 @@ use Rattle.std.proofs.lemmas.List.{length-set, get_or-set_same, get_or-set_other
 use Rattle.sq_value.specs.declared.Tuple.{Tuple}
 use Rattle.sq_item.specs.declared.Item.{Item}
 use Rattle.sq_item.specs.Things.{Thing, spread, spread_all}
-use Rattle.sq_item.specs.Sound.{IsSound}
-use Rattle.sq_road.specs.Levels.{LevelTable, Agrees}
+use Rattle.sq_item.specs.Sound.{IsSoundItem}
+use Rattle.sq_road.specs.Levels.{LevelTable, AgreesWith}
 use Rattle.sq_plan.specs.Plans.{Setting}
 use Rattle.sq_oper.specs.declared.outs.Event.{Event}
 use Rattle.sq_oper.specs.Entries.{Entry}
 use Rattle.sq_oper.specs.Streams.{things, IsSoundTuple}
 use Rattle.sq_sched.specs.Ready.{contains}
 use Rattle.sq_oper.proofs.GivenLemmas.{ThingsUpTo-later}
-use Rattle.sq_left.specs.Left.{Net, World, coming, inputs, known}
+use Rattle.sq_left.specs.Left.{Net, Holding, coming, inputs, is_known_actor}
 use Rattle.sq_left.specs.Heads.{AllFine}
 use Rattle.sq_left.proofs.MergeLemmas.{eqb-yes, eqb-no, eqb-same, eqb-not}
 use Rattle.sq_left.proofs.Conserve.{Kept}
@@ -39,7 +39,7 @@ use Rattle.sq_flow.specs.declared.flow.Flow.{Flow}
 use Rattle.sq_flow.specs.Wiring.{net_of, arcs_from, times_in, from_of, sent, IsOwn}
 use Rattle.sq_flow.specs.Seats.{Meaning, done_at, holds_at, IsSeat}
 use Rattle.sq_flow.specs.Events.{bodies, lines_of, drops_of}
-use Rattle.sq_flow.specs.Flows.{world_of, IsFlow, HoldsItems, Goes, Stepped, ShowsPrefix, RiseFrom, to_release, tuples_at, lines_left, decisions_left, turns_at_last, count_all}
+use Rattle.sq_flow.specs.Flows.{world_of, IsFlow, HoldsItems, Goes, Stepped, ShowsPrefix, RiseFrom, to_release, tuples_to_come, lines_left, decisions_left, turns_at_last, count_all}
 use Rattle.sq_flow.proofs.SendLemmas.{at_or_other, apart-arcs}
 use Rattle.sq_flow.proofs.FutureLemmas.{slice_get-set_same, slice_get-set_other}
 use Rattle.sq_flow.proofs.ArcLemmas.{arcs-left}
@@ -62,9 +62,9 @@ replay-open m valid e flow open_now =
 -- a step of the replay that pushes what the source loses
 module _ {O : Type 0} (m : Meaning O) (valid : O → Type 0) (e : Flow O) (flow : IsFlow m valid e) (table : ℕ → ℕ → ℕ) (items items' : ℕ → List Item) (holds : HoldsItems m table items e)
     (over' : Bool) (queues' : Queues) (sources' : Vec Recorded Global) (clock' : ℕ) (planner' : Setting) (levels' : LevelTable) (counts' : Vec ℕ Global) (pushed : ℕ → ℕ → List Thing)
-    (source : (q : ℕ) → things (to_release e q) ≡ pushed e.wires.replay q ++ things (tuples_at (slice_get sources'.items q)))
+    (source : (q : ℕ) → things (to_release e q) ≡ pushed e.wires.replay q ++ things (tuples_to_come (slice_get sources'.items q)))
     (quiet : (other : ℕ) → other ≢ e.wires.replay → (q : ℕ) → pushed other q ≡ [])
-    (ends : over' ≡ true → (q : ℕ) → tuples_at (slice_get sources'.items q) ≡ [])
+    (ends : over' ≡ true → (q : ℕ) → tuples_to_come (slice_get sources'.items q) ≡ [])
     (given_on : (k : ℕ) → k < length e.wires.arcs.items → spread_all (items' k) ≡ spread_all (items k) ++ pushed ((net_of e.wires).from k) ((net_of e.wires).port k)) where
   abbrev net : Net
   net = net_of e.wires
@@ -72,10 +72,10 @@ module _ {O : Type 0} (m : Meaning O) (valid : O → Type 0) (e : Flow O) (flow 
   abbrev e' : Flow O
   e' = record e { over = over'; queues = queues'; sources = sources'; clock = clock'; planner = planner'; levels = levels'; counts = counts' }
 
-  abbrev was : World
+  abbrev was : Holding
   was = world_of m table items e
 
-  abbrev is : World
+  abbrev is : Holding
   is = world_of m table items' e'
 
   some-seat : (other : ℕ) → other < length e.seats.items → done_at over' (slice_get e.seats.items other) ≡ done_at e.over (slice_get e.seats.items other)
@@ -97,7 +97,7 @@ module _ {O : Type 0} (m : Meaning O) (valid : O → Type 0) (e : Flow O) (flow 
       behind : length e.seats.items ≤ e.wires.replay
       behind = let r = flow.shaped.replay_is in omega (arith, r)
 
-      done-same : (other : ℕ) → other ≢ net.replay → known net e.wires.order.items other ≡ true → done_at over' (slice_get e.seats.items other) ≡ done_at e.over (slice_get e.seats.items other)
+      done-same : (other : ℕ) → other ≢ net.replay → is_known_actor net e.wires.order.items other ≡ true → done_at over' (slice_get e.seats.items other) ≡ done_at e.over (slice_get e.seats.items other)
       done-same other ne k = let r = flow.shaped.replay_is in let low = flow.shaped.listed other k in some-seat other (omega (arith, r, low, ne))
 
   pub holds-after : ((k : ℕ) → AllFine clock' (items' k)) → HoldsItems m table items' e'
@@ -161,12 +161,12 @@ module _ {O : Type 0} (m : Meaning O) (valid : O → Type 0) (e : Flow O) (flow 
     item = record { time = x.time; mark = None; body = Some x.fields }
 
     front : to_release e port ≡ x ∷ more.items
-    front = ap tuples_at at ∙ held
+    front = ap tuples_to_come at ∙ held
 
     first : (e.clock ≤ x.time) × IsSoundTuple x × RiseFrom x.time more.items
     first = subst (RiseFrom e.clock) front (flow.coming port)
 
-    pub item-sound : IsSound item
+    pub item-sound : IsSoundItem item
     item-sound = record { tick = first.1.0; some = refl; mark = tt; body = first.1.1 }
 
     -- as long as something is to be released the replay isn't over
@@ -190,9 +190,9 @@ module _ {O : Type 0} (m : Meaning O) (valid : O → Type 0) (e : Flow O) (flow 
       sources_len : length sources'.items ≡ length e.sources.items
       sources_len = ap (λ (l : List Recorded). length l) taken ∙ length-set e.sources.items port more
 
-      coming-after : (source : ℕ) → RiseFrom x.time (tuples_at (slice_get sources'.items source))
-      coming-after = at_or_other (λ k. RiseFrom x.time (tuples_at (slice_get sources'.items k))) port (rw is_after first.2)
-          (λ k ne. subst (λ o. RiseFrom x.time (tuples_at o)) (sym (apart k ne)) (rise-later e.clock x.time (to_release e k) (flow.coming k) (least.0 k)))
+      coming-after : (source : ℕ) → RiseFrom x.time (tuples_to_come (slice_get sources'.items source))
+      coming-after = at_or_other (λ k. RiseFrom x.time (tuples_to_come (slice_get sources'.items k))) port (rw is_after first.2)
+          (λ k ne. subst (λ o. RiseFrom x.time (tuples_to_come o)) (sym (apart k ne)) (rise-later e.clock x.time (to_release e k) (flow.coming k) (least.0 k)))
         where
           least : BeginsLeast e.sources.items port (x ∷ more.items)
           least = subst (BeginsLeast e.sources.items port) front next.least
@@ -200,25 +200,25 @@ module _ {O : Type 0} (m : Meaning O) (valid : O → Type 0) (e : Flow O) (flow 
       grows : e.levels.closed ≤ levels'.closed
       grows = let low = not-before m valid e flow pos port v more x next at held in let c = did.closed in omega (arith, low, c)
 
-      before : (table : ℕ → ℕ → ℕ) → Agrees levels' table → Agrees e.levels table
+      before : (table : ℕ → ℕ → ℕ) → AgreesWith levels' table → AgreesWith e.levels table
       before = agrees-before e.levels levels' did.keeps grows
 
       counts-len : length counts'.items ≡ length sources'.items
       counts-len = ap (λ (l : List ℕ). length l) counts_are ∙ length-set mid port (slice_index mid port + 1)
           ∙ mid-len m valid e flow pos port v more x next at held planner' levels' mid events events' did ∙ flow.counts ∙ sym sources_len
 
-      few-after : (source : ℕ) → slice_index counts'.items source + length (tuples_at (slice_get sources'.items source)) ≤ 1000000
-      few-after = at_or_other (λ k. slice_index counts'.items k + length (tuples_at (slice_get sources'.items k)) ≤ 1000000) port
+      few-after : (source : ℕ) → slice_index counts'.items source + length (tuples_to_come (slice_get sources'.items source)) ≤ 1000000
+      few-after = at_or_other (λ k. slice_index counts'.items k + length (tuples_to_come (slice_get sources'.items k)) ≤ 1000000) port
           (let low = mid-low m valid e flow pos port v more x next at held planner' levels' mid events events' did port in
           let few = flow.few_tuples port in
-          let more-is = ap (λ o. length (tuples_at o)) is_after in
+          let more-is = ap (λ o. length (tuples_to_come o)) is_after in
           let was = ap (λ (l : List Tuple). length l) front in
           let counted = ap (λ l. slice_index l port) counts_are ∙ get_or-set_same mid port (slice_index mid port + 1) 0 within in
           omega (arith, low, few, more-is, was, counted))
           (λ k ne.
           let low = mid-low m valid e flow pos port v more x next at held planner' levels' mid events events' did k in
           let few = flow.few_tuples k in
-          let same = ap (λ o. length (tuples_at o)) (apart k ne) in
+          let same = ap (λ o. length (tuples_to_come o)) (apart k ne) in
           let counted = ap (λ l. slice_index l k) counts_are ∙ get_or-set_other mid port k (slice_index mid port + 1) 0 ne in
           omega (arith, low, few, same, counted))
         where
@@ -270,19 +270,19 @@ module _ {O : Type 0} (m : Meaning O) (valid : O → Type 0) (e : Flow O) (flow 
           sent-by : ℕ → ℕ → List Thing
           sent-by = sent e.wires.replay port (spread item)
 
-          given-there : (q : ℕ) → things (to_release e q) ≡ sent e.wires.replay port (spread item) e.wires.replay q ++ things (tuples_at (slice_get sources'.items q))
+          given-there : (q : ℕ) → things (to_release e q) ≡ sent e.wires.replay port (spread item) e.wires.replay q ++ things (tuples_to_come (slice_get sources'.items q))
           given-there q =
-              at_or_other (λ k. things (to_release e k) ≡ cond (eqb port k) (spread item) [] ++ things (tuples_at (slice_get sources'.items k))) port
-              (ap things front ∙ ap (λ o. spread item ++ things (tuples_at o)) (sym is_after)
-              ∙ ap (λ b. cond b (spread item) [] ++ things (tuples_at (slice_get sources'.items port))) (sym (eqb-same port port refl)))
-              (λ k ne. ap (λ o. things (tuples_at o)) (sym (apart k ne))
-              ∙ ap (λ b. cond b (spread item) [] ++ things (tuples_at (slice_get sources'.items k))) (sym (eqb-not port k (λ same. ne (sym same))))) q
-              ∙ ap (λ z. z ++ things (tuples_at (slice_get sources'.items q))) (sym (own-sent e.wires.replay port (spread item) q))
+              at_or_other (λ k. things (to_release e k) ≡ cond (eqb port k) (spread item) [] ++ things (tuples_to_come (slice_get sources'.items k))) port
+              (ap things front ∙ ap (λ o. spread item ++ things (tuples_to_come o)) (sym is_after)
+              ∙ ap (λ b. cond b (spread item) [] ++ things (tuples_to_come (slice_get sources'.items port))) (sym (eqb-same port port refl)))
+              (λ k ne. ap (λ o. things (tuples_to_come o)) (sym (apart k ne))
+              ∙ ap (λ b. cond b (spread item) [] ++ things (tuples_to_come (slice_get sources'.items k))) (sym (eqb-not port k (λ same. ne (sym same))))) q
+              ∙ ap (λ z. z ++ things (tuples_to_come (slice_get sources'.items q))) (sym (own-sent e.wires.replay port (spread item) q))
 
           quiet : (other : ℕ) → other ≢ e.wires.replay → (q : ℕ) → sent e.wires.replay port (spread item) other q ≡ []
           quiet = not-sent e.wires.replay port (spread item)
 
-          ends : e.over ≡ true → (q : ℕ) → tuples_at (slice_get sources'.items q) ≡ []
+          ends : e.over ≡ true → (q : ℕ) → tuples_to_come (slice_get sources'.items q) ≡ []
           ends o = absurd (cc (replay-runs, o))
 
           on : Tells is → (k : ℕ) → k < length e.wires.arcs.items

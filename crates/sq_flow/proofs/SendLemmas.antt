@@ -4,7 +4,7 @@ use Rattle.std.specs.Prelude.{is_some, slice_get}
 use Rattle.std.proofs.lemmas.Option.{slice_get_within, get_or_from_slice_get}
 use Rattle.std.proofs.lemmas.List.Folds.{list_any_at}
 use Rattle.sq_item.specs.declared.Item.{Item}
-use Rattle.sq_item.specs.Sound.{IsSound}
+use Rattle.sq_item.specs.Sound.{IsSoundItem}
 use Rattle.sq_item.specs.Things.{Thing, spread, spread_all}
 use Rattle.sq_outside.specs.Disks.{Pages}
 use Rattle.sq_left.specs.Heads.{AllFine}
@@ -12,17 +12,17 @@ use Rattle.sq_left.proofs.MergeLemmas.{eqb-yes, eqb-no, eqb-same, eqb-not}
 use Rattle.sq_sched.specs.Ready.{contains}
 use Rattle.sq_queue.specs.declared.Queues.{Queues}
 use Rattle.sq_pool.specs.Trust.{Tells}
-use Rattle.sq_paged.specs.Fronts.{pushed, first_or}
+use Rattle.sq_paged.specs.Fronts.{pushed, first_time_or}
 use Rattle.sq_queue.specs.Faces.{face, size, frames, items_on, Together}
 use Rattle.sq_flow.specs.declared.wires.Wires.{Wires}
 use Rattle.sq_flow.specs.Wiring.{arcs_from, times_in}
-use Rattle.sq_flow.specs.Sends.{many, sent_to, comes_from, Pushes}
+use Rattle.sq_flow.specs.Sends.{many, sent_to, is_sent_by, Pushes}
 
 pub spread_all-push : (xs : List Item) (i : Item) → spread_all (xs ++ i ∷ []) ≡ spread_all xs ++ spread i
 spread_all-push [] i = append-nil (spread i)
 spread_all-push (x ∷ xs) i = ap (λ z. spread x ++ z) (spread_all-push xs i) ∙ sym (append_assoc (spread x) (spread_all xs) (spread i))
 
-pub fine-push : (t : ℕ) (xs : List Item) (i : Item) → i.time ≤ t → IsSound i → AllFine t xs → AllFine t (xs ++ i ∷ [])
+pub fine-push : (t : ℕ) (xs : List Item) (i : Item) → i.time ≤ t → IsSoundItem i → AllFine t xs → AllFine t (xs ++ i ∷ [])
 fine-push t [] i le s h = (le, s, tt)
 fine-push t (x ∷ xs) i le s h = (h.0, h.1, fine-push t xs i le s h.2)
 
@@ -67,12 +67,12 @@ pushes-both q q1 q2 p p1 p2 m m1 m2 u u1 u2 n n1 n2 a b both joins far =
       fine = λ told time v f. let w = both time v in b.fine told time w.1 (a.fine (b.tells told) time w.0 f);
     }
 
-first-grows : (o : Option ℕ) (time : ℕ) → is_some (first_or o time) ≡ true
+first-grows : (o : Option ℕ) (time : ℕ) → is_some (first_time_or o time) ≡ true
 first-grows None time = refl
 first-grows (Some t) time = refl
 
 -- one item to one arc
-pub pushes-one : (q q' : Queues) (p p' : Option Pages) (at : ℕ) (item : Item) → IsSound item
+pub pushes-one : (q q' : Queues) (p p' : Option Pages) (at : ℕ) (item : Item) → IsSoundItem item
     → face q' at ≡ pushed (face q at) item.time → ((other : ℕ) → other ≢ at → face q' other ≡ face q other) → size q' ≡ size q → frames q' ≡ frames q
     → (Tells p' → items_on q' p' at ≡ items_on q p at ++ item ∷ []) → (Tells p' → (other : ℕ) → other ≢ at → items_on q' p' other ≡ items_on q p other)
     → Together q' p' → (Tells p' → Tells p)
@@ -151,8 +151,8 @@ at-last arcs front last e = ap (λ l. slice_get l (length front)) e ∙ by front
     by (x ∷ xs) = by xs
 
 -- an arc that comes from another actor isn't among those that come from a port of this one
-pub apart-arcs : (wires : Wires) (actor port arc : ℕ) → (contains (arcs_from wires actor port) arc ≡ true → comes_from wires actor arc ≡ true)
-    → comes_from wires actor arc ≡ false → contains (arcs_from wires actor port) arc ≡ false
+pub apart-arcs : (wires : Wires) (actor port arc : ℕ) → (contains (arcs_from wires actor port) arc ≡ true → is_sent_by wires actor arc ≡ true)
+    → is_sent_by wires actor arc ≡ false → contains (arcs_from wires actor port) arc ≡ false
 apart-arcs wires actor port arc joined away = by (contains (arcs_from wires actor port) arc) refl
   where
     by : (b : Bool) → contains (arcs_from wires actor port) arc ≡ b → b ≡ false

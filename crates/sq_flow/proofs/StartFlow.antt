@@ -16,7 +16,7 @@ use Rattle.sq_queue.specs.Faces.{face, size}
 use Rattle.sq_flow.specs.declared.seats.Seat.{Seat}
 use Rattle.sq_flow.specs.declared.flow.Flow.{Flow}
 use Rattle.sq_flow.specs.Wiring.{net_of, from_of, IsOwn, IsShaped}
-use Rattle.sq_flow.specs.Seats.{Meaning, rest_at, done_at, place_at, holds_at, IsSeat, Owns}
+use Rattle.sq_flow.specs.Seats.{Meaning, rest_at, done_at, moment_at, holds_at, IsSeat, Owns}
 use Rattle.sq_flow.specs.Flows.{world_of, IsFlow, HoldsItems, RiseFrom, to_release}
 use Rattle.sq_flow.specs.Starts.{IsNewSeat}
 use Rattle.sq_flow.specs.Plans.{arrivals, last_arrival, add_counts, streams_left, counts_of, IsPlanned, plans_left}
@@ -35,10 +35,10 @@ module _ {O : Type 0} (m : Meaning O) (valid : O → Type 0) (e : Flow O)
       by None h = runs
       by (Some s) h = ap not h.open_now
 
-  pub place-start : (actor : ℕ) → place_at m (slice_get e.seats.items actor) ≡ Start
+  pub place-start : (actor : ℕ) → moment_at m (slice_get e.seats.items actor) ≡ Start
   place-start actor = by (slice_get e.seats.items actor) (seats actor)
     where
-      by : (o : Option (Seat O)) → holds_at (IsNewSeat m valid ((net_of e.wires).takes actor) ((net_of e.wires).fits actor) (IsOwn e.wires actor) e.levels.epoch) o → place_at m o ≡ Start
+      by : (o : Option (Seat O)) → holds_at (IsNewSeat m valid ((net_of e.wires).takes actor) ((net_of e.wires).fits actor) (IsOwn e.wires actor) e.levels.epoch) o → moment_at m o ≡ Start
       by None h = refl
       by (Some s) h = h.place
 

@@ -2,7 +2,7 @@
 use Rattle.std.proofs.Common.{◌≡◌, ℕ, ◌+◌, ◌-◌, ◌<◌, ◌++◌, Bool, true, false, ◌||◌, List, length, Option, Some, None, refl, ap, sym, ◌∙◌, subst, arith}
 use Rattle.std.specs.Prelude.{is_some}
 use Rattle.sq_outside.specs.Disks.{Pages}
-use Rattle.sq_road.specs.Levels.{LevelTable, Agrees}
+use Rattle.sq_road.specs.Levels.{LevelTable, AgreesWith}
 use Rattle.sq_oper.specs.declared.outs.Event.{Event}
 use Rattle.sq_pool.specs.Trust.{Tells}
 use Rattle.sq_queue.specs.Faces.{face}
@@ -18,7 +18,7 @@ use Rattle.sq_flow.specs.Plans.{PlansPrefix, plans_of}
 use Rattle.sq_plan.specs.Plans.{Setting}
 use Rattle.sq_plan.specs.Shown.{level_for}
 use Rattle.sq_value.specs.Lists.{IsPrefixOf}
-use Rattle.sq_flow.specs.Flows.{HoldsItems, Stepped, ShowsPrefix, NoneStrange, CostsFed, CostsAtMost, TooMuchOnly, items_in, decisions_left, left_on, fed_at_last, sum_below, work_at_last}
+use Rattle.sq_flow.specs.Flows.{HoldsItems, Stepped, ShowsPrefix, NoneStrange, CostsFed, StepCosts, TooMuchOnly, items_in, decisions_left, left_on, fed_at_last, sum_below, work_at_last}
 use Rattle.sq_flow.proofs.CauseLemmas.{changed-since}
 use Rattle.sq_flow.proofs.SumLemmas.{sum-same}
 use Rattle.sq_flow.proofs.ArcLemmas.{ends-chain}
@@ -70,7 +70,7 @@ module _ {O : Type 0} (m : Meaning O) (valid : O → Type 0) where
               };
         }
 
-    pub prefix-after : (p2 : Option Pages) (levels : LevelTable) (e2 : List Event) → (Tells p2 → Tells p1) → ((table : ℕ → ℕ → ℕ) → Agrees levels table → Agrees f1.levels table)
+    pub prefix-after : (p2 : Option Pages) (levels : LevelTable) (e2 : List Event) → (Tells p2 → Tells p1) → ((table : ℕ → ℕ → ℕ) → AgreesWith levels table → AgreesWith f1.levels table)
         → ShowsPrefix m p1 p2 f1 levels e1 e2 → ShowsPrefix m p p2 f levels e e2
     prefix-after p2 levels e2 tells closes pre = λ told table agrees h.
         let a = first.goes (tells told) table (closes table agrees) h in
@@ -85,11 +85,11 @@ module _ {O : Type 0} (m : Meaning O) (valid : O → Type 0) where
     plans-after levels e2 pre =
         record {
           shown = subst (IsPrefixOf (plans_of e2)) (sym first.plans) pre.shown;
-          agrees = λ all h. subst (λ (s : Setting). Agrees levels (level_for s all)) first.planner (pre.agrees all (first.planned all h));
+          agrees = λ all h. subst (λ (s : Setting). AgreesWith levels (level_for s all)) first.planner (pre.agrees all (first.planned all h));
         }
 
     -- as much work is left in all as before
-    work-same : Tells p1 → (table : ℕ → ℕ → ℕ) → Agrees f1.levels table → HoldsItems m table (items_in f p) f
+    work-same : Tells p1 → (table : ℕ → ℕ → ℕ) → AgreesWith f1.levels table → HoldsItems m table (items_in f p) f
         → work_at_last m table (items_in f p) f ≡ work_at_last m table (items_in f1 p1) f1
     work-same told table agrees h =
         sum-same (fed_at_last m table (items_in f p) f) (fed_at_last m table (items_in f1 p1) f1) (length f.seats.items) ((first.goes told table agrees h).fed)
@@ -98,14 +98,14 @@ module _ {O : Type 0} (m : Meaning O) (valid : O → Type 0) where
     pub costs-after : (f2 : Flow O) (before mid after : ℕ) → CostsFed m f f1 before mid → CostsFed m f1 f2 mid after → CostsFed m f f2 before after
     costs-after f2 before mid after a b = omega (arith, a, b)
 
-    pub costs-most-after : (p2 : Option Pages) (levels : LevelTable) (before mid after : ℕ) → (Tells p2 → Tells p1) → ((table : ℕ → ℕ → ℕ) → Agrees levels table → Agrees f1.levels table)
-        → CostsFed m f f1 before mid → CostsAtMost m p1 p2 f1 levels mid after → CostsAtMost m p p2 f levels before after
+    pub costs-most-after : (p2 : Option Pages) (levels : LevelTable) (before mid after : ℕ) → (Tells p2 → Tells p1) → ((table : ℕ → ℕ → ℕ) → AgreesWith levels table → AgreesWith f1.levels table)
+        → CostsFed m f f1 before mid → StepCosts m p1 p2 f1 levels mid after → StepCosts m p p2 f levels before after
     costs-most-after p2 levels before mid after tells closes a b = λ told table agrees h.
         let same = work-same (tells told) table (closes table agrees) h in
         let most = b told table agrees (first.holds (tells told) table (closes table agrees) h) in
         omega (arith, a, same, most)
 
-    pub too-much-after : (p2 : Option Pages) (f2 : Flow O) (e2 : RunErr) → (Tells p2 → Tells p1) → ((table : ℕ → ℕ → ℕ) → Agrees f2.levels table → Agrees f1.levels table) → TooMuchOnly m p1 p2 f1 f2 e2 → TooMuchOnly m p p2 f f2 e2
+    pub too-much-after : (p2 : Option Pages) (f2 : Flow O) (e2 : RunErr) → (Tells p2 → Tells p1) → ((table : ℕ → ℕ → ℕ) → AgreesWith f2.levels table → AgreesWith f1.levels table) → TooMuchOnly m p1 p2 f1 f2 e2 → TooMuchOnly m p p2 f f2 e2
     too-much-after p2 f2 e2 tells closes only =
         record {
           counted = only.counted;
@@ -113,7 +113,7 @@ module _ {O : Type 0} (m : Meaning O) (valid : O → Type 0) where
               rw ((first.goes (tells told) table (closes table agrees) h).turns) (only.turns is told table agrees (first.holds (tells told) table (closes table agrees) h));
         }
 
-    pub none-strange-after : (was now : Bool) (p2 : Option Pages) (levels : LevelTable) (e2 : RunErr) → now ≡ was → (Tells p2 → Tells p1) → ((table : ℕ → ℕ → ℕ) → Agrees levels table → Agrees f1.levels table)
+    pub none-strange-after : (was now : Bool) (p2 : Option Pages) (levels : LevelTable) (e2 : RunErr) → now ≡ was → (Tells p2 → Tells p1) → ((table : ℕ → ℕ → ℕ) → AgreesWith levels table → AgreesWith f1.levels table)
         → NoneStrange m now p1 p2 f1 levels e2 → NoneStrange m was p p2 f levels e2
     none-strange-after was now p2 levels e2 same tells closes none = λ told table agrees h. changed-since was now e2 same (none told table agrees (first.holds (tells told) table (closes table agrees) h))
 

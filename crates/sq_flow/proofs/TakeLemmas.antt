@@ -4,14 +4,14 @@ use Rattle.std.specs.Prelude.{nat_lt, nat_le, ◌==◌, is_some}
 use Rattle.sq_value.specs.declared.Value.{Value}
 use Rattle.sq_item.specs.declared.Item.{Item}
 use Rattle.sq_item.specs.declared.Mark.{Mark}
-use Rattle.sq_item.specs.Sound.{IsSound}
+use Rattle.sq_item.specs.Sound.{IsSoundItem}
 use Rattle.sq_item.specs.Things.{Sign, Body, mark_part, body_part}
 use Rattle.sq_oper.specs.declared.tally.Place.{Place}
 use Rattle.sq_oper.specs.declared.tally.Place.TheVariants.{Start, At}
 use Rattle.sq_oper.specs.Entries.{Entry, at_port}
-use Rattle.sq_oper.specs.Order.{may_come, after, IsFuture}
+use Rattle.sq_oper.specs.Order.{may_come, moment_after, IsFuture}
 use Rattle.sq_flow.specs.declared.wires.Arc.{Arc}
-use Rattle.sq_flow.specs.Takes.{takes_of, fits_of, MayBeFed, may_stand, mark_fits, body_fits}
+use Rattle.sq_flow.specs.Takes.{takes_of, fits_of, MayBeFed, may_stand, mark_fits, kinds_take}
 
 entry : ℕ → ℕ → List Value → Entry
 entry port time f = record { port = port; thing = record { time = time; load = Body f } }
@@ -40,13 +40,13 @@ mark-stands (At last before marked) port time m = by (nat_lt last time) (last ==
 
 -- a tuple may follow a mark of its time and port
 follows : (place : Place) (port time : ℕ) (m : Mark) (f : List Value)
-    → may_come (after place (record { port = port; thing = record { time = time; load = Sign m } })) (record { port = port; thing = record { time = time; load = Body f } }) ≡ true
+    → may_come (moment_after place (record { port = port; thing = record { time = time; load = Sign m } })) (record { port = port; thing = record { time = time; load = Body f } }) ≡ true
 follows place port time m f = same time port
   where
     same : (t p : ℕ) → (nat_lt t t || (t == t && ((true && nat_le p p) || (false && true && nat_lt p p)))) ≡ true
     same t p = grind (arith, tests)
 
-pub stands-yes : (at : Arc) (port : ℕ) (place : Place) (time : ℕ) (m : Option Mark) (b : Option (List Value)) → mark_fits at.marked m ≡ true → body_fits at.kinds b ≡ true
+pub stands-yes : (at : Arc) (port : ℕ) (place : Place) (time : ℕ) (m : Option Mark) (b : Option (List Value)) → mark_fits at.marked m ≡ true → kinds_take at.kinds b ≡ true
     → may_stand place port time (is_some m) ≡ true → IsFuture (takes_of at) (fits_of at) place (at_port port (mark_part time m ++ body_part time b))
 stands-yes at port place time None None f g s = record { in_order = tt; fitting = tt }
 stands-yes at port place time None (Some b) f g s = record { in_order = (tuple-stands place port time b ∙ s, tt); fitting = (g, tt) }
@@ -55,18 +55,18 @@ stands-yes at port place time (Some m) (Some b) f g s = record { in_order = (mar
 
 pub stands-no : (at : Arc) (port : ℕ) (place : Place) (time : ℕ) (m : Option Mark) (b : Option (List Value)) → (is_some m || is_some b) ≡ true
     → IsFuture (takes_of at) (fits_of at) place (at_port port (mark_part time m ++ body_part time b))
-    → (mark_fits at.marked m ≡ true) × (body_fits at.kinds b ≡ true) × (may_stand place port time (is_some m) ≡ true)
+    → (mark_fits at.marked m ≡ true) × (kinds_take at.kinds b ≡ true) × (may_stand place port time (is_some m) ≡ true)
 stands-no at port place time None None s h = cc
 stands-no at port place time None (Some b) s h = (refl, h.fitting.0, sym (tuple-stands place port time b) ∙ h.in_order.0)
 stands-no at port place time (Some m) None s h = (h.fitting.0, refl, sym (mark-stands place port time m) ∙ h.in_order.0)
 stands-no at port place time (Some m) (Some b) s h = (h.fitting.0, h.fitting.1.0, sym (mark-stands place port time m) ∙ h.in_order.0)
 
-pub may-yes : (at : Arc) (port : ℕ) (place : Place) (clock : ℕ) (item : Item) → item.time ≤ clock → mark_fits at.marked item.mark ≡ true → body_fits at.kinds item.body ≡ true
+pub may-yes : (at : Arc) (port : ℕ) (place : Place) (clock : ℕ) (item : Item) → item.time ≤ clock → mark_fits at.marked item.mark ≡ true → kinds_take at.kinds item.body ≡ true
     → may_stand place port item.time (is_some item.mark) ≡ true → MayBeFed at port place clock item
 may-yes at port place clock item le f g s = record { in_time = le; future = stands-yes at port place item.time item.mark item.body f g s }
 
-pub may-no : (at : Arc) (port : ℕ) (place : Place) (clock : ℕ) (item : Item) → IsSound item → MayBeFed at port place clock item
-    → (item.time ≤ clock) × (mark_fits at.marked item.mark ≡ true) × (body_fits at.kinds item.body ≡ true) × (may_stand place port item.time (is_some item.mark) ≡ true)
+pub may-no : (at : Arc) (port : ℕ) (place : Place) (clock : ℕ) (item : Item) → IsSoundItem item → MayBeFed at port place clock item
+    → (item.time ≤ clock) × (mark_fits at.marked item.mark ≡ true) × (kinds_take at.kinds item.body ≡ true) × (may_stand place port item.time (is_some item.mark) ≡ true)
 may-no at port place clock item s h = let r = stands-no at port place item.time item.mark item.body s.some h.future in (h.in_time, r.0, r.1, r.2)
 
 pub ruleset take_lemmas = (may-yes, may-no)

@@ -4,7 +4,7 @@ use Rattle.std.specs.Prelude.{slice_get}
 use Rattle.std.specs.List.{sum_by}
 use Rattle.std.proofs.lemmas.List.Sums.{sum_by-cons}
 use Rattle.std.proofs.lemmas.Option.{same_Some, slice_get_past}
-use Rattle.sq_left.specs.Left.{Net, known, Each, IsWired}
+use Rattle.sq_left.specs.Left.{Net, is_known_actor, Each, IsLaidOut}
 use Rattle.sq_left.proofs.MergeLemmas.{eqb-yes, eqb-same, eqb-not}
 use Rattle.sq_paged.specs.Fronts.{Face, IsPopped}
 use Rattle.sq_queue.specs.declared.Queues.{Queues}
@@ -12,8 +12,8 @@ use Rattle.sq_queue.specs.Faces.{face}
 use Rattle.sq_flow.specs.declared.wires.Wires.{Wires}
 use Rattle.sq_flow.specs.declared.seats.Seat.{Seat}
 use Rattle.sq_flow.specs.declared.flow.Flow.{Flow}
-use Rattle.sq_flow.specs.Wiring.{net_of, arcs_read, place_of, IsShaped}
-use Rattle.sq_flow.specs.Sends.{comes_from}
+use Rattle.sq_flow.specs.Wiring.{net_of, arcs_read, arc_place, IsShaped}
+use Rattle.sq_flow.specs.Sends.{is_sent_by}
 use Rattle.sq_flow.specs.Seats.{done_at}
 use Rattle.sq_flow.specs.Flows.{count_all}
 use Rattle.sq_flow.specs.Readiness.{to_take, Took}
@@ -44,31 +44,31 @@ each-at P (y ∷ xs) zero x h is = subst P (same_Some y x is) h.0
 each-at P (y ∷ xs) (suc i) x h is = each-at P xs i x h.1 is
 
 -- no operator reads what it gives
-reads-others : (net : Net) (order : List ℕ) → IsWired net order → (actor : ℕ) → known net order actor ≡ true → actor ≢ net.replay
+reads-others : (net : Net) (order : List ℕ) → IsLaidOut net order → (actor : ℕ) → is_known_actor net order actor ≡ true → actor ≢ net.replay
     → (port arc : ℕ) → slice_get (net.arcs actor) port ≡ Some arc → net.from arc ≢ actor
 reads-others net [] wired actor k ne port arc is = absurd (ne (eqb-yes actor net.replay k))
-reads-others net (last ∷ earlier) wired actor k ne port arc is = by (λ e. reads-others net earlier wired.2 actor e ne port arc is) (known net earlier actor) refl
+reads-others net (last ∷ earlier) wired actor k ne port arc is = by (λ e. reads-others net earlier wired.2 actor e ne port arc is) (is_known_actor net earlier actor) refl
   where
     last-of : (b c : Bool) → c ≡ false → (b || c) ≡ true → b ≡ true
     last-of true c e h = refl
     last-of false c e h = cc (e, h)
 
-    by : (known net earlier actor ≡ true → net.from arc ≢ actor) → (b : Bool) → known net earlier actor ≡ b → net.from arc ≢ actor
+    by : (is_known_actor net earlier actor ≡ true → net.from arc ≢ actor) → (b : Bool) → is_known_actor net earlier actor ≡ b → net.from arc ≢ actor
     by sooner true e = sooner e
     by sooner false e = λ same.
-        let here : actor ≡ last = eqb-yes actor last (last-of (eqb actor last) (known net earlier actor) e k) in
-        let before = (each-at (λ a. (a < net.size) × (known net earlier (net.from a) ≡ true)) (net.arcs last) port arc wired.1 (ap (λ n. slice_get (net.arcs n) port) (sym here) ∙ is)).1 in
-        cc (sym e ∙ ap (known net earlier) (sym same) ∙ before)
+        let here : actor ≡ last = eqb-yes actor last (last-of (eqb actor last) (is_known_actor net earlier actor) e k) in
+        let before = (each-at (λ a. (a < net.size) × (is_known_actor net earlier (net.from a) ≡ true)) (net.arcs last) port arc wired.1 (ap (λ n. slice_get (net.arcs n) port) (sym here) ∙ is)).1 in
+        cc (sym e ∙ ap (is_known_actor net earlier) (sym same) ∙ before)
 
 module _ (wires : Wires) (ops : ℕ) (shaped : IsShaped wires ops) (actor : ℕ) (low : actor < ops) where
-  away : (port arc : ℕ) → slice_get (arcs_read wires actor) port ≡ Some arc → comes_from wires actor arc ≡ false
+  away : (port arc : ℕ) → slice_get (arcs_read wires actor) port ≡ Some arc → is_sent_by wires actor arc ≡ false
   away port arc is =
       let replay = shaped.replay_is in
       away-from wires actor arc (reads-others (net_of wires) wires.order.items shaped.wired actor (shaped.ordered actor low) (λ same. omega (arith, same, replay, low)) port arc is)
 
   -- one item was taken from an arc, and what was given went to others
   pub fed-sum : (q mid q' : Queues) (port at : ℕ) → slice_get (arcs_read wires actor) port ≡ Some at → IsPopped (face q at) (face mid at)
-      → ((other : ℕ) → other ≢ at → face mid other ≡ face q other) → ((arc : ℕ) → comes_from wires actor arc ≡ false → face q' arc ≡ face mid arc)
+      → ((other : ℕ) → other ≢ at → face mid other ≡ face q other) → ((arc : ℕ) → is_sent_by wires actor arc ≡ false → face q' arc ≡ face mid arc)
       → sum_by (λ arc. (face q' arc).count) (arcs_read wires actor) + 1 ≡ sum_by (λ arc. (face q arc).count) (arcs_read wires actor)
   fed-sum q mid q' port at is popped others apart =
       sums-less (arcs_read wires actor) (λ arc. (face q arc).count) (λ arc. (face q' arc).count) port at is
@@ -76,10 +76,10 @@ module _ (wires : Wires) (ops : ℕ) (shaped : IsShaped wires ops) (actor : ℕ)
       (λ p arc here ne. ap (λ (f : Face). f.count) (apart arc (away p arc here) ∙ others arc (λ same. ne (ports p arc here same))))
     where
       ports : (p arc : ℕ) → slice_get (arcs_read wires actor) p ≡ Some arc → arc ≡ at → p ≡ port
-      ports p arc here same = sym (shaped.joined actor p arc here).1 ∙ ap (λ k. place_of (slice_get wires.arcs.items k)) same ∙ (shaped.joined actor port at is).1
+      ports p arc here same = sym (shaped.joined actor p arc here).1 ∙ ap (λ k. arc_place (slice_get wires.arcs.items k)) same ∙ (shaped.joined actor port at is).1
 
   -- nothing was taken
-  pub ended-sum : (q q' : Queues) → ((arc : ℕ) → comes_from wires actor arc ≡ false → face q' arc ≡ face q arc)
+  pub ended-sum : (q q' : Queues) → ((arc : ℕ) → is_sent_by wires actor arc ≡ false → face q' arc ≡ face q arc)
       → sum_by (λ arc. (face q' arc).count) (arcs_read wires actor) ≡ sum_by (λ arc. (face q arc).count) (arcs_read wires actor)
   ended-sum q q' apart = sums-stay (arcs_read wires actor) (λ arc. (face q arc).count) (λ arc. (face q' arc).count) (λ p arc here. ap (λ (f : Face). f.count) (apart arc (away p arc here)))
 

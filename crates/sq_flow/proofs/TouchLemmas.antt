@@ -10,7 +10,7 @@ use Rattle.sq_left.proofs.MergeLemmas.{eqb-not}
 use Rattle.sq_flow.specs.declared.wires.Wires.{Wires}
 use Rattle.sq_flow.specs.declared.flow.Flow.{Flow}
 use Rattle.sq_flow.specs.Wiring.{from_of}
-use Rattle.sq_flow.specs.Sends.{comes_from, Pushes}
+use Rattle.sq_flow.specs.Sends.{is_sent_by, Pushes}
 use Rattle.sq_flow.specs.Readiness.{stands, TouchesOnly}
 
 pub stands-grows : (a b : Face) → (is_some a.first ≡ true → is_some b.first ≡ true) → (a.ended ≡ true → b.ended ≡ true) → stands a ≡ true → stands b ≡ true
@@ -25,7 +25,7 @@ stands-grows a b first ended h = by (is_some a.first) refl h
     by false e k = or-true (is_some b.first) b.ended (ended k)
 
 -- an arc that doesn't come from the actor
-pub away-from : (wires : Wires) (actor arc : ℕ) → from_of (slice_get wires.arcs.items arc) ≢ actor → comes_from wires actor arc ≡ false
+pub away-from : (wires : Wires) (actor arc : ℕ) → from_of (slice_get wires.arcs.items arc) ≢ actor → is_sent_by wires actor arc ≡ false
 away-from wires actor arc ne = eqb-not (from_of (slice_get wires.arcs.items arc)) actor ne
 
 pub stands-pushed : (q q' : Queues) (p p' : Option Pages) (more : ℕ → List Thing) (upto : ℕ → Type 0) (near : ℕ → Bool) → Pushes q q' p p' more upto near

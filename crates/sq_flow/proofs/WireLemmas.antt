@@ -9,9 +9,9 @@ use Rattle.sq_left.proofs.MergeLemmas.{eqb-yes, eqb-same}
 use Rattle.sq_queue.specs.Faces.{face, size}
 use Rattle.sq_flow.specs.declared.wires.Wires.{Wires}
 use Rattle.sq_flow.specs.declared.flow.Flow.{Flow}
-use Rattle.sq_flow.specs.Wiring.{arcs_from, times_in, from_of, port_of, sent, pushed_by, IsShaped}
+use Rattle.sq_flow.specs.Wiring.{arcs_from, times_in, from_of, arc_port, sent, pushed_by, IsShaped}
 use Rattle.sq_flow.specs.Seats.{Meaning, done_at}
-use Rattle.sq_flow.specs.Sends.{many, sent_to, comes_from}
+use Rattle.sq_flow.specs.Sends.{many, sent_to, is_sent_by}
 use Rattle.sq_sched.specs.Ready.{contains}
 use Rattle.sq_flow.specs.Flows.{IsFlow}
 
@@ -46,24 +46,24 @@ module _ (wires : Wires) (ops : ℕ) (shaped : IsShaped wires ops) where
       low = shaped.readers_in actor port place arc is
 
       by : (b : Bool) → eqb actor (from_of (slice_get wires.arcs.items arc)) ≡ b
-          → times_in arc (arcs_from wires actor port) ≡ cond b (cond (eqb port (port_of (slice_get wires.arcs.items arc))) 1 0) 0
+          → times_in arc (arcs_from wires actor port) ≡ cond b (cond (eqb port (arc_port (slice_get wires.arcs.items arc))) 1 0) 0
           → actor ≡ from_of (slice_get wires.arcs.items arc)
       by true e h = eqb-yes actor (from_of (slice_get wires.arcs.items arc)) e
       by false e h = absurd (times-some (arcs_from wires actor port) place arc is h)
 
-  pub comes-from : (actor port arc : ℕ) → contains (arcs_from wires actor port) arc ≡ true → comes_from wires actor arc ≡ true
+  pub comes-from : (actor port arc : ℕ) → contains (arcs_from wires actor port) arc ≡ true → is_sent_by wires actor arc ≡ true
   comes-from actor port arc there =
       let at = contains-place (arcs_from wires actor port) arc there in
       eqb-same (from_of (slice_get wires.arcs.items arc)) actor (sym (reads-from actor port at.0 arc at.1).1)
 
   pub one-sent : (actor port arc : ℕ) (xs : List Thing) → arc < length wires.arcs.items
-      → many (times_in arc (arcs_from wires actor port)) xs ≡ sent actor port xs (from_of (slice_get wires.arcs.items arc)) (port_of (slice_get wires.arcs.items arc))
+      → many (times_in arc (arcs_from wires actor port)) xs ≡ sent actor port xs (from_of (slice_get wires.arcs.items arc)) (arc_port (slice_get wires.arcs.items arc))
   one-sent actor port arc xs low =
-      many-sent (times_in arc (arcs_from wires actor port)) (eqb actor (from_of (slice_get wires.arcs.items arc))) (eqb port (port_of (slice_get wires.arcs.items arc))) xs
+      many-sent (times_in arc (arcs_from wires actor port)) (eqb actor (from_of (slice_get wires.arcs.items arc))) (eqb port (arc_port (slice_get wires.arcs.items arc))) xs
       (shaped.read actor port arc low)
 
   pub sent-is : (actor : ℕ) (outs : List (ℕ × Item)) (arc : ℕ) → arc < length wires.arcs.items
-      → sent_to wires actor outs arc ≡ pushed_by actor outs (from_of (slice_get wires.arcs.items arc)) (port_of (slice_get wires.arcs.items arc))
+      → sent_to wires actor outs arc ≡ pushed_by actor outs (from_of (slice_get wires.arcs.items arc)) (arc_port (slice_get wires.arcs.items arc))
   sent-is actor [] arc low = none (eqb actor (from_of (slice_get wires.arcs.items arc)))
     where
       none : (b : Bool) → [] ≡ cond {A = List Thing} b [] []
@@ -71,11 +71,11 @@ module _ (wires : Wires) (ops : ℕ) (shaped : IsShaped wires ops) where
       none false = refl
   sent-is actor (out ∷ outs) arc low =
       ap (λ z. z ++ sent_to wires actor outs arc) (one-sent actor out.0 arc (spread out.1) low)
-      ∙ ap (λ z. sent actor out.0 (spread out.1) (from_of (slice_get wires.arcs.items arc)) (port_of (slice_get wires.arcs.items arc)) ++ z) (sent-is actor outs arc low)
+      ∙ ap (λ z. sent actor out.0 (spread out.1) (from_of (slice_get wires.arcs.items arc)) (arc_port (slice_get wires.arcs.items arc)) ++ z) (sent-is actor outs arc low)
       ∙ joins (eqb actor (from_of (slice_get wires.arcs.items arc)))
     where
-      joins : (b : Bool) → cond b (cond (eqb out.0 (port_of (slice_get wires.arcs.items arc))) (spread out.1) []) [] ++ cond b (given (port_of (slice_get wires.arcs.items arc)) outs) []
-          ≡ cond b (cond (eqb out.0 (port_of (slice_get wires.arcs.items arc))) (spread out.1) [] ++ given (port_of (slice_get wires.arcs.items arc)) outs) []
+      joins : (b : Bool) → cond b (cond (eqb out.0 (arc_port (slice_get wires.arcs.items arc))) (spread out.1) []) [] ++ cond b (given (arc_port (slice_get wires.arcs.items arc)) outs) []
+          ≡ cond b (cond (eqb out.0 (arc_port (slice_get wires.arcs.items arc))) (spread out.1) [] ++ given (arc_port (slice_get wires.arcs.items arc)) outs) []
       joins true = refl
       joins false = refl
 

@@ -1,7 +1,7 @@
 -- An engine: a flow whose ready actors are listed.
 use Rattle.std.specs.Prelude.{◌≡◌, ℕ, ◌+◌, ◌-◌, ◌≤◌, ◌==◌, ◌&&◌, Bool, true, false, not, List, [], ◌∷◌, ◌++◌, map, length, slice_get, slice_index, if◌then◌else◌}
 use Rattle.std.specs.List.{filter, range_with_len}
-use Rattle.sq_sched.specs.Ready.{contains, without, AreActors, OnlyOnce}
+use Rattle.sq_sched.specs.Ready.{contains, without_actor, AreActors, OnlyOnce}
 use Rattle.sq_flow.specs.declared.flow.Flow.{Flow}
 use Rattle.sq_flow.specs.declared.engine.Engine.{Engine}
 use Rattle.sq_flow.specs.Wiring.{followers_of}
@@ -10,17 +10,17 @@ use Rattle.sq_flow.specs.Flows.{IsFlow}
 use Rattle.sq_flow.specs.Readiness.{IsReady, is_ready, waiting}
 
 -- an actor's place in the flow: the replay, which is actor 0, stands behind the operators
-abbrev pub place_in : ℕ → ℕ → ℕ
-place_in ops actor = if actor == 0 then ops else actor - 1
+abbrev pub seat_number : ℕ → ℕ → ℕ
+seat_number ops actor = if actor == 0 then ops else actor - 1
 
 -- an actor is listed exactly where it is ready
 pub record ExactFor {O : Type 0} (flow : Flow O) (list : List ℕ) (actor : ℕ) : Type 0 where
-  pub listed : contains list actor ≡ true → IsReady flow (place_in (length flow.seats.items) actor)
-  pub ready : IsReady flow (place_in (length flow.seats.items) actor) → contains list actor ≡ true
+  pub listed : contains list actor ≡ true → IsReady flow (seat_number (length flow.seats.items) actor)
+  pub ready : IsReady flow (seat_number (length flow.seats.items) actor) → contains list actor ≡ true
 
 -- an actor is ready and isn't listed
 abbrev pub is_new : {O : Type 0} → Flow O → List ℕ → ℕ → Bool
-is_new flow list actor = is_ready flow (place_in (length flow.seats.items) actor) && not (contains list actor)
+is_new flow list actor = is_ready flow (seat_number (length flow.seats.items) actor) && not (contains list actor)
 
 -- of all actors those that are ready and weren't listed before, ascending
 abbrev pub newly_ready : {O : Type 0} → Flow O → List ℕ → List ℕ
@@ -29,7 +29,7 @@ newly_ready flow before = filter (is_new flow before) (range_with_len 0 (length 
 -- the list after a step of an actor: without it, then the actor if it is still ready, then those that became ready, ascending
 abbrev pub listed_after : {O : Type 0} → Flow O → List ℕ → ℕ → List ℕ
 listed_after flow before actor =
-    without actor before ++ (if is_ready flow (place_in (length flow.seats.items) actor) then actor ∷ [] else []) ++ newly_ready flow before
+    without_actor actor before ++ (if is_ready flow (seat_number (length flow.seats.items) actor) then actor ∷ [] else []) ++ newly_ready flow before
 
 -- the actors that read from the one at a place
 abbrev pub readers_of : {O : Type 0} → Flow O → ℕ → List ℕ
@@ -43,22 +43,22 @@ pub record Looked {O : Type 0} (seen : List ℕ) (engine engine' : Engine O) : T
   pub actors : engine'.ready.actors ≡ engine.ready.actors
   pub list : engine'.ready.list ≡ engine.ready.list ++ filter (is_new engine.flow engine.ready.list) seen
   pub waits : (actor : ℕ) → slice_index engine'.waits.items actor
-      ≡ (if contains seen actor then waiting engine.flow (place_in (length engine.flow.seats.items) actor) else slice_index engine.waits.items actor)
+      ≡ (if contains seen actor then waiting engine.flow (seat_number (length engine.flow.seats.items) actor) else slice_index engine.waits.items actor)
   pub waits_len : length engine'.waits.items ≡ length engine.waits.items
 
 -- there is room for each actor of the flow
-pub record HasRoom {O : Type 0} (engine : Engine O) : Type 0 where
+pub record HasSeats {O : Type 0} (engine : Engine O) : Type 0 where
   pub actors : engine.ready.actors ≡ length engine.flow.seats.items + 1
   pub waits : length engine.waits.items ≡ length engine.flow.seats.items + 1
 
 pub record IsEngine {O : Type 0} (m : Meaning O) (valid : O → Type 0) (engine : Engine O) : Type 0 where
   pub flow : IsFlow m valid engine.flow
-  pub room : HasRoom engine
+  pub room : HasSeats engine
   pub exact : (actor : ℕ) → actor ≤ length engine.flow.seats.items → ExactFor engine.flow engine.ready.list actor
   pub below : AreActors engine.ready.actors engine.ready.list
   pub once : OnlyOnce engine.ready.list
   pub waits : (actor : ℕ) → actor ≤ length engine.flow.seats.items
-      → slice_index engine.waits.items actor ≡ waiting engine.flow (place_in (length engine.flow.seats.items) actor)
+      → slice_index engine.waits.items actor ≡ waiting engine.flow (seat_number (length engine.flow.seats.items) actor)
   pub running : engine.failed ≡ false
 
 -- all actors are finished

@@ -3,7 +3,7 @@ use Rattle.std.specs.Prelude.{ℕ, List, [], ◌++◌, Option}
 use Rattle.sq_value.specs.Lists.{IsPrefixOf}
 use Rattle.sq_item.specs.declared.Item.{Item}
 use Rattle.sq_outside.specs.Disks.{Pages}
-use Rattle.sq_road.specs.Levels.{LevelTable, Agrees}
+use Rattle.sq_road.specs.Levels.{LevelTable, AgreesWith}
 use Rattle.sq_oper.specs.declared.outs.Decision.{Decision}
 use Rattle.sq_oper.specs.declared.outs.Event.{Event}
 use Rattle.sq_oper.specs.Entries.{Entry, entries}
@@ -13,7 +13,7 @@ use Rattle.sq_queue.specs.declared.Queues.{Queues}
 use Rattle.sq_flow.specs.declared.wires.Wires.{Wires}
 use Rattle.sq_flow.specs.declared.seats.Seat.{Seat}
 use Rattle.sq_flow.specs.Wiring.{AllOutsFine}
-use Rattle.sq_flow.specs.Sends.{sent_to, comes_from, Pushes}
+use Rattle.sq_flow.specs.Sends.{sent_to, is_sent_by, Pushes}
 use Rattle.sq_flow.specs.Seats.{Meaning, FedSeat, FinishedSeat}
 use Rattle.sq_flow.specs.Shows.{IsShown}
 
@@ -23,17 +23,17 @@ pub record FeedsInto {O : Type 0} (m : Meaning O) (valid : O → Type 0) (levels
   pub items : List (ℕ × Item)
   pub drops : List Decision
   pub fed : FedSeat m valid levels port item items drops seat seat'
-  pub sent : Pushes queues queues' was is (sent_to wires actor items) (λ time. AllOutsFine time items) (comes_from wires actor)
+  pub sent : Pushes queues queues' was is (sent_to wires actor items) (λ time. AllOutsFine time items) (is_sent_by wires actor)
   pub shown : IsShown wires actor items drops events events'
 
 -- a feed that failed: what it gave before is the beginning of what the operator will give
 pub record FeedsPart {O : Type 0} (m : Meaning O) (levels : LevelTable) (port : ℕ) (item : Item) (wires : Wires) (actor : ℕ) (seat : Seat O) (events events' : List Event) : Type 0 where
   pub items : List (ℕ × Item)
   pub drops : List Decision
-  pub law : (table : ℕ → ℕ → ℕ) (future : List Entry) → Agrees levels table
+  pub law : (table : ℕ → ℕ → ℕ) (future : List Entry) → AgreesWith levels table
       → IsFuture (m.takes_marks seat.op) (m.fits seat.op) (m.place seat.op) (entries port item ++ future)
       → (q : ℕ) → IsPrefixOf (given q items) (m.rest seat.op table (entries port item ++ future) q)
-  pub decided : (table : ℕ → ℕ → ℕ) (future : List Entry) → Agrees levels table
+  pub decided : (table : ℕ → ℕ → ℕ) (future : List Entry) → AgreesWith levels table
       → IsFuture (m.takes_marks seat.op) (m.fits seat.op) (m.place seat.op) (entries port item ++ future)
       → IsPrefixOf drops (m.decides seat.op table (entries port item ++ future))
   pub shown : IsShown wires actor items drops events events'
@@ -44,7 +44,7 @@ pub record EndsInto {O : Type 0} (m : Meaning O) (valid : O → Type 0) (wires :
   pub items : List (ℕ × Item)
   pub drops : List Decision
   pub finished : FinishedSeat m valid items drops seat seat'
-  pub sent : Pushes queues queues' was is (sent_to wires actor items) (λ time. AllOutsFine time items) (comes_from wires actor)
+  pub sent : Pushes queues queues' was is (sent_to wires actor items) (λ time. AllOutsFine time items) (is_sent_by wires actor)
   pub shown : IsShown wires actor items drops events events'
 
 pub record EndsPart {O : Type 0} (m : Meaning O) (wires : Wires) (actor : ℕ) (seat : Seat O) (events events' : List Event) : Type 0 where

@@ -4,13 +4,13 @@ use Rattle.sq_value.specs.declared.Tuple.{Tuple}
 use Rattle.sq_item.specs.declared.Item.{Item}
 use Rattle.sq_item.specs.Things.{Thing, spread_all}
 use Rattle.sq_outside.specs.Disks.{DiskLog, Pages}
-use Rattle.sq_road.specs.Levels.{LevelTable, Agrees}
+use Rattle.sq_road.specs.Levels.{LevelTable, AgreesWith}
 use Rattle.sq_value.specs.Lists.{IsPrefixOf}
 use Rattle.sq_oper.specs.declared.outs.Decision.{Decision}
 use Rattle.sq_oper.specs.declared.outs.Event.{Event}
 use Rattle.sq_oper.specs.Given.{ThingsUpTo}
 use Rattle.sq_oper.specs.Streams.{things, IsSoundTuple}
-use Rattle.sq_left.specs.Left.{World, Facts, coming, inputs, left, still_dropped, lost_in_all, fed_in_all}
+use Rattle.sq_left.specs.Left.{Holding, Facts, coming, inputs, left, still_dropped, lost_in_all, fed_in_all}
 use Rattle.sq_left.specs.Heads.{AllFine}
 use Rattle.sq_pool.specs.Trust.{IsLater, known, Tells}
 use Rattle.sq_queue.specs.Faces.{face, size, frames, items_on, Together}
@@ -24,27 +24,27 @@ use Rattle.sq_flow.specs.declared.flow.Did.TheVariants.{Waits, Fed, Finished}
 use Rattle.sq_flow.specs.Takes.{NotChanged}
 use Rattle.sq_flow.specs.Causes.{IsFeedCause}
 use Rattle.sq_flow.specs.Wiring.{net_of, from_of, IsOwn, IsShaped}
-use Rattle.sq_flow.specs.Seats.{Meaning, rest_at, decides_at, lost_at, taken_at, place_at, done_at, holds_at, IsSeat, Owns}
+use Rattle.sq_flow.specs.Seats.{Meaning, rest_at, decides_at, lost_at, taken_at, moment_at, done_at, holds_at, IsSeat, Owns}
 use Rattle.sq_flow.specs.Events.{bodies, lines_of, drops_of, ShowsIn}
 use Rattle.sq_flow.specs.Plans.{IsPlanned, plans_left, plans_of}
 
-abbrev pub tuples_at : Option Recorded → List Tuple
-tuples_at None = []
-tuples_at (Some tuples) = tuples.items
+abbrev pub tuples_to_come : Option Recorded → List Tuple
+tuples_to_come None = []
+tuples_to_come (Some tuples) = tuples.items
 
 -- what is still to be released of a source
 abbrev pub to_release : {O : Type 0} → Flow O → ℕ → List Tuple
-to_release flow source = tuples_at (slice_get flow.sources.items source)
+to_release flow source = tuples_to_come (slice_get flow.sources.items source)
 
 -- what a run holds, in the words of the law of operators, where these items stand on the arcs
-abbrev pub world_of : {O : Type 0} → Meaning O → (ℕ → ℕ → ℕ) → (ℕ → List Item) → Flow O → World
+abbrev pub world_of : {O : Type 0} → Meaning O → (ℕ → ℕ → ℕ) → (ℕ → List Item) → Flow O → Holding
 world_of m table items flow =
     record {
       rest = λ actor. rest_at m table (slice_get flow.seats.items actor);
       decide = λ actor. decides_at m table (slice_get flow.seats.items actor);
       lost = λ actor. lost_at m (slice_get flow.seats.items actor);
       taken = λ actor. taken_at m (slice_get flow.seats.items actor);
-      place = λ actor. place_at m (slice_get flow.seats.items actor);
+      place = λ actor. moment_at m (slice_get flow.seats.items actor);
       done = λ actor. done_at flow.over (slice_get flow.seats.items actor);
       queue = λ arc. spread_all (items arc);
       source = λ port. things (to_release flow port);
@@ -66,7 +66,7 @@ pub record IsFlow {O : Type 0} (m : Meaning O) (valid : O → Type 0) (flow : Fl
       → (face flow.queues arc).ended ≡ done_at flow.over (slice_get flow.seats.items (from_of (slice_get flow.wires.arcs.items arc)))
   pub seats : (actor : ℕ) → holds_at (IsSeat m valid ((net_of flow.wires).takes actor) ((net_of flow.wires).fits actor) flow.levels.epoch flow.taken) (slice_get flow.seats.items actor)
   pub few : flow.taken < 2 ^ 62
-  pub held : (table : ℕ → ℕ → ℕ) → Agrees flow.levels table → (actor port : ℕ) → ThingsUpTo flow.clock (rest_at m table (slice_get flow.seats.items actor) [] port)
+  pub held : (table : ℕ → ℕ → ℕ) → AgreesWith flow.levels table → (actor port : ℕ) → ThingsUpTo flow.clock (rest_at m table (slice_get flow.seats.items actor) [] port)
   pub coming : (source : ℕ) → RiseFrom flow.clock (to_release flow source)
   pub few_sources : length flow.sources.items < 2 ^ 32
   pub levels : (flow.levels.closed ≡ flow.clock / flow.levels.epoch + 1) × (flow.clock < 2 ^ 40)
@@ -151,17 +151,17 @@ pub record Stepped {O : Type 0} (m : Meaning O) (valid : O → Type 0) (was is :
   pub wires : flow'.wires ≡ flow.wires
   pub framed : frames flow'.queues ≡ frames flow.queues
   pub seats : length flow'.seats.items ≡ length flow.seats.items
-  pub closes : (table : ℕ → ℕ → ℕ) → Agrees flow'.levels table → Agrees flow.levels table
+  pub closes : (table : ℕ → ℕ → ℕ) → AgreesWith flow'.levels table → AgreesWith flow.levels table
   pub shows : ShowsIn (length flow.seats.items - flow.wires.shown) (flow.wires.shown - flow.wires.sheds) events events'
   pub planner : flow'.planner ≡ flow.planner
   pub planned : (all : ℕ → List ℕ) → IsPlanned all flow → IsPlanned all flow'
   pub plans : plans_of events ++ plans_left flow ≡ plans_of events' ++ plans_left flow'
-  pub holds : Tells is → (table : ℕ → ℕ → ℕ) → Agrees flow'.levels table → HoldsItems m table (items_in flow was) flow → HoldsItems m table (items_in flow' is) flow'
-  pub goes : Tells is → (table : ℕ → ℕ → ℕ) → Agrees flow'.levels table → HoldsItems m table (items_in flow was) flow
+  pub holds : Tells is → (table : ℕ → ℕ → ℕ) → AgreesWith flow'.levels table → HoldsItems m table (items_in flow was) flow → HoldsItems m table (items_in flow' is) flow'
+  pub goes : Tells is → (table : ℕ → ℕ → ℕ) → AgreesWith flow'.levels table → HoldsItems m table (items_in flow was) flow
       → Goes m table (items_in flow was) (items_in flow' is) flow flow' events events'
 
 -- what was shown is a beginning of what was to be shown
-pub record Begins {O : Type 0} (m : Meaning O) (table : ℕ → ℕ → ℕ) (items : ℕ → List Item) (flow : Flow O) (events events' : List Event) : Type 0 where
+pub record BeginsLines {O : Type 0} (m : Meaning O) (table : ℕ → ℕ → ℕ) (items : ℕ → List Item) (flow : Flow O) (events events' : List Event) : Type 0 where
   pub lines : (output : ℕ) → flow.wires.shown + output < length flow.seats.items
       → IsPrefixOf (lines_of output events') (lines_of output events ++ lines_left m table items flow output)
   pub drops : (w : ℕ) → flow.wires.sheds + w < flow.wires.shown
@@ -170,11 +170,11 @@ pub record Begins {O : Type 0} (m : Meaning O) (table : ℕ → ℕ → ℕ) (it
 -- what a call that failed has shown
 abbrev pub ShowsPrefix : {O : Type 0} → Meaning O → Option Pages → Option Pages → Flow O → LevelTable → List Event → List Event → Type 0
 ShowsPrefix m was is flow levels events events' =
-    Tells is → (table : ℕ → ℕ → ℕ) → Agrees levels table → HoldsItems m table (items_in flow was) flow → Begins m table (items_in flow was) flow events events'
+    Tells is → (table : ℕ → ℕ → ℕ) → AgreesWith levels table → HoldsItems m table (items_in flow was) flow → BeginsLines m table (items_in flow was) flow events events'
 
 -- and over a disk that is known behind it, it names no item and no page but a garbled one, and none over an honest disk
 abbrev pub NoneStrange : {O : Type 0} → Meaning O → Bool → Option Pages → Option Pages → Flow O → LevelTable → RunErr → Type 0
-NoneStrange m honest was is flow levels e = Tells is → (table : ℕ → ℕ → ℕ) → Agrees levels table → HoldsItems m table (items_in flow was) flow → NotChanged honest e
+NoneStrange m honest was is flow levels e = Tells is → (table : ℕ → ℕ → ℕ) → AgreesWith levels table → HoldsItems m table (items_in flow was) flow → NotChanged honest e
 
 -- a step that does something lowers the measure
 abbrev pub Lowers : Did → ℕ → ℕ → Type 0
@@ -187,15 +187,15 @@ abbrev pub CostsFed : {O : Type 0} → Meaning O → Flow O → Flow O → ℕ �
 CostsFed m flow flow' before after = after + taken_in_all m flow ≡ before + taken_in_all m flow'
 
 -- a call that failed raises them by no more than is still to be fed
-abbrev pub CostsAtMost : {O : Type 0} → Meaning O → Option Pages → Option Pages → Flow O → LevelTable → ℕ → ℕ → Type 0
-CostsAtMost m was is flow levels before after =
-    Tells is → (table : ℕ → ℕ → ℕ) → Agrees levels table → HoldsItems m table (items_in flow was) flow
+abbrev pub StepCosts : {O : Type 0} → Meaning O → Option Pages → Option Pages → Flow O → LevelTable → ℕ → ℕ → Type 0
+StepCosts m was is flow levels before after =
+    Tells is → (table : ℕ → ℕ → ℕ) → AgreesWith levels table → HoldsItems m table (items_in flow was) flow
     → after + taken_in_all m flow ≤ before + work_at_last m table (items_in flow was) flow
 
 -- too much is taken only where as much is to be taken in all, and where the next item would bring the count past its end
 pub record TooMuchOnly {O : Type 0} (m : Meaning O) (was is : Option Pages) (flow flow' : Flow O) (e : RunErr) : Type 0 where
   pub counted : e ≡ TooMuch → 2 ^ 62 ≤ flow'.taken + 2
-  pub turns : e ≡ TooMuch → Tells is → (table : ℕ → ℕ → ℕ) → Agrees flow'.levels table → HoldsItems m table (items_in flow was) flow
+  pub turns : e ≡ TooMuch → Tells is → (table : ℕ → ℕ → ℕ) → AgreesWith flow'.levels table → HoldsItems m table (items_in flow was) flow
       → 2 ^ 62 ≤ turns_at_last m table (items_in flow was) flow
 
 -- the feed at which a run of steps failed, where one did: the flow right before it came of the first by steps

@@ -6,7 +6,7 @@ use Rattle.std.specs.Prelude.{◌≡◌, ℕ, ◌+◌, ◌-◌, ◌/◌, ◌≤�
 use Rattle.std.specs.List.{flat_map, range_with_len, count_by}
 use Rattle.sq_value.specs.declared.Tuple.{Tuple}
 use Rattle.sq_value.specs.Lists.{max_by, IsPrefixOf}
-use Rattle.sq_road.specs.Levels.{LevelTable, Agrees}
+use Rattle.sq_road.specs.Levels.{LevelTable, AgreesWith}
 use Rattle.sq_plan.specs.declared.closing.Shown.{Shown}
 use Rattle.sq_plan.specs.Shown.{level_for, shown_after}
 use Rattle.sq_oper.specs.declared.outs.Event.{Event}
@@ -32,14 +32,14 @@ abbrev pub streams_left : {O : Type 0} → Flow O → List (List Tuple)
 streams_left flow = map (λ tuples. tuples.items) flow.sources.items
 
 -- the tuples of an epoch that are counted: those of the epoch that is open
-abbrev pub counted : {O : Type 0} → Flow O → ℕ → List ℕ
-counted flow e = if e + 1 == flow.levels.closed then flow.counts.items else []
+abbrev pub counts_closing : {O : Type 0} → Flow O → ℕ → List ℕ
+counts_closing flow e = if e + 1 == flow.levels.closed then flow.counts.items else []
 
 abbrev pub counts_of : {O : Type 0} → Flow O → ℕ → List ℕ
-counts_of flow e = add_counts (counted flow e) (arrivals flow.levels.epoch (streams_left flow) e)
+counts_of flow e = add_counts (counts_closing flow e) (arrivals flow.levels.epoch (streams_left flow) e)
 
 pub record IsPlanned {O : Type 0} (all : ℕ → List ℕ) (flow : Flow O) : Type 0 where
-  pub agrees : Agrees flow.levels (level_for flow.planner all)
+  pub agrees : AgreesWith flow.levels (level_for flow.planner all)
   pub counts : (e : ℕ) → flow.levels.closed ≤ e + 1 → all e ≡ counts_of flow e
 
 -- the plans behind the epochs that aren't closed, up to the last in which a tuple is to be released
@@ -61,4 +61,4 @@ plans_of (e ∷ es) = plan_in e ++ plans_of es
 -- the plans that a call that failed has shown are a beginning, and the levels that it closed are planned
 pub record PlansPrefix {O : Type 0} (flow : Flow O) (levels : LevelTable) (events events' : List Event) : Type 0 where
   pub shown : IsPrefixOf (plans_of events') (plans_of events ++ plans_left flow)
-  pub agrees : (all : ℕ → List ℕ) → IsPlanned all flow → Agrees levels (level_for flow.planner all)
+  pub agrees : (all : ℕ → List ℕ) → IsPlanned all flow → AgreesWith levels (level_for flow.planner all)

@@ -8,7 +8,7 @@ use Rattle.sq_oper.specs.declared.tally.Place.TheVariants.{Start}
 use Rattle.sq_oper.specs.declared.outs.Decision.{Decision}
 use Rattle.sq_oper.specs.Entries.{Entry, entries}
 use Rattle.sq_item.specs.declared.Item.{Item}
-use Rattle.sq_road.specs.Levels.{LevelTable, Agrees}
+use Rattle.sq_road.specs.Levels.{LevelTable, AgreesWith}
 use Rattle.sq_oper.specs.Given.{given, ItemsSound, ThingsUpTo}
 use Rattle.sq_oper.specs.Order.{IsFuture, after_all}
 use Rattle.sq_flow.specs.declared.seats.Seat.{Seat}
@@ -42,9 +42,9 @@ abbrev pub taken_at : {O : Type 0} → Meaning O → Option (Seat O) → ℕ
 taken_at m None = 0
 taken_at m (Some seat) = m.taken seat.op
 
-abbrev pub place_at : {O : Type 0} → Meaning O → Option (Seat O) → Place
-place_at m None = Start
-place_at m (Some seat) = m.place seat.op
+abbrev pub moment_at : {O : Type 0} → Meaning O → Option (Seat O) → Place
+moment_at m None = Start
+moment_at m (Some seat) = m.place seat.op
 
 -- an operator is finished; behind the operators stands the replay
 abbrev pub done_at : {O : Type 0} → Bool → Option (Seat O) → Bool
@@ -70,20 +70,20 @@ pub record IsSeat {O : Type 0} (m : Meaning O) (valid : O → Type 0) (takes : �
 -- as long as the operator runs all that it may still decide is its own
 abbrev pub Owns : {O : Type 0} → Meaning O → (Decision → Type 0) → LevelTable → Seat O → Type 0
 Owns m own levels seat =
-    m.running seat.op ≡ true → (table : ℕ → ℕ → ℕ) → Agrees levels table → (future : List Entry) → IsFuture (m.takes_marks seat.op) (m.fits seat.op) (m.place seat.op) future
+    m.running seat.op ≡ true → (table : ℕ → ℕ → ℕ) → AgreesWith levels table → (future : List Entry) → IsFuture (m.takes_marks seat.op) (m.fits seat.op) (m.place seat.op) future
     → AllByRecursion own (m.decides seat.op table future)
 
 -- what a feed does to a seat: it gives these items and drops these batches
 pub record FedSeat {O : Type 0} (m : Meaning O) (valid : O → Type 0) (levels : LevelTable) (port : ℕ) (item : Item) (outs : List (ℕ × Item)) (drops : List Decision)
     (seat seat' : Seat O) : Type 0 where
-  pub law : (table : ℕ → ℕ → ℕ) (future : List Entry) → Agrees levels table
+  pub law : (table : ℕ → ℕ → ℕ) (future : List Entry) → AgreesWith levels table
       → IsFuture (m.takes_marks seat.op) (m.fits seat.op) (m.place seat.op) (entries port item ++ future)
       → (q : ℕ) → m.rest seat.op table (entries port item ++ future) q ≡ given q outs ++ m.rest seat'.op table future q
-  pub decided : (table : ℕ → ℕ → ℕ) (future : List Entry) → Agrees levels table
+  pub decided : (table : ℕ → ℕ → ℕ) (future : List Entry) → AgreesWith levels table
       → IsFuture (m.takes_marks seat.op) (m.fits seat.op) (m.place seat.op) (entries port item ++ future)
       → m.decides seat.op table (entries port item ++ future) ≡ drops ++ m.decides seat'.op table future
   pub loses : (future : List Entry) → m.lost seat.op (entries port item ++ future) ≡ m.lost seat'.op future
-  pub times : (table : ℕ → ℕ → ℕ) → Agrees levels table → (q : ℕ) → ThingsUpTo item.time (m.rest seat.op table (entries port item) q)
+  pub times : (table : ℕ → ℕ → ℕ) → AgreesWith levels table → (q : ℕ) → ThingsUpTo item.time (m.rest seat.op table (entries port item) q)
   pub sound : ItemsSound outs
   pub moves : m.place seat'.op ≡ after_all (m.place seat.op) (entries port item)
   pub counted : m.taken seat'.op ≡ m.taken seat.op + (if is_some item.body then 1 else 0)

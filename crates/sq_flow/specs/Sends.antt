@@ -20,8 +20,8 @@ sent_to wires actor [] arc = []
 sent_to wires actor (out ∷ outs) arc = many (times_in arc (arcs_from wires actor out.0)) (spread out.1) ++ sent_to wires actor outs arc
 
 -- the arc comes from an actor
-abbrev pub comes_from : Wires → ℕ → ℕ → Bool
-comes_from wires actor arc = from_of (slice_get wires.arcs.items arc) == actor
+abbrev pub is_sent_by : Wires → ℕ → ℕ → Bool
+is_sent_by wires actor arc = from_of (slice_get wires.arcs.items arc) == actor
 
 -- each arc gets more behind what stands there, as many pages are in memory at most, no arc ends, none loses its first item, and those that aren't near stay as they are
 pub record Pushes (before after : Queues) (was is : Option Pages) (more : ℕ → List Thing) (upto : ℕ → Type 0) (near : ℕ → Bool) : Type 0 where

@@ -2,7 +2,7 @@
 use Rattle.std.specs.Prelude.{ℕ, ◌≤◌, ◌<◌, List, [], ◌∷◌, length, slice_get}
 use Rattle.sq_value.specs.declared.Tuple.{Tuple}
 use Rattle.sq_replay.specs.Recorded.{Recorded}
-use Rattle.sq_flow.specs.Flows.{tuples_at}
+use Rattle.sq_flow.specs.Flows.{tuples_to_come}
 
 -- the list begins at this time or later, if it begins
 abbrev pub BeginsNotBefore : ℕ → List Tuple → Type 0
@@ -17,9 +17,9 @@ BeginsAfter time (x ∷ xs) = time < x.time
 abbrev pub BeginsLeast : List Recorded → ℕ → List Tuple → Type 0
 BeginsLeast sources source [] = ⊥
 BeginsLeast sources source (x ∷ xs) =
-    ((other : ℕ) → BeginsNotBefore x.time (tuples_at (slice_get sources other))) × ((other : ℕ) → other < source → BeginsAfter x.time (tuples_at (slice_get sources other)))
+    ((other : ℕ) → BeginsNotBefore x.time (tuples_to_come (slice_get sources other))) × ((other : ℕ) → other < source → BeginsAfter x.time (tuples_to_come (slice_get sources other)))
 
 -- the source that has the tuple of the least time left, and of these the one of the least number
 pub record IsNextSource (sources : List Recorded) (source : ℕ) : Type 0 where
   pub there : source < length sources
-  pub least : BeginsLeast sources source (tuples_at (slice_get sources source))
+  pub least : BeginsLeast sources source (tuples_to_come (slice_get sources source))

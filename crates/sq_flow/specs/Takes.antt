@@ -34,9 +34,9 @@ abbrev pub mark_fits : Bool → Option Mark → Bool
 mark_fits marked None = true
 mark_fits marked (Some m) = marked
 
-abbrev pub body_fits : List Kind → Option (List Value) → Bool
-body_fits kinds None = true
-body_fits kinds (Some fields) = kinds_fit kinds fields
+abbrev pub kinds_take : List Kind → Option (List Value) → Bool
+kinds_take kinds None = true
+kinds_take kinds (Some fields) = kinds_fit kinds fields
 
 -- an error that may come over a disk that is known: a page that came back changed is garbled, and over an honest disk none is
 abbrev pub NotChanged : Bool → RunErr → Type 0

@@ -5,10 +5,10 @@ use Rattle.sq_value.specs.declared.Value.{Value}
 use Rattle.sq_value.specs.Values.{kinds_fit}
 use Rattle.sq_item.specs.declared.Item.{Item}
 use Rattle.sq_item.specs.Things.{Thing}
-use Rattle.sq_item.specs.Sound.{IsSound}
+use Rattle.sq_item.specs.Sound.{IsSoundItem}
 use Rattle.sq_oper.specs.Given.{given}
 use Rattle.sq_oper.specs.declared.outs.Decision.{Decision}
-use Rattle.sq_left.specs.Left.{Net, known, IsWired}
+use Rattle.sq_left.specs.Left.{Net, is_known_actor, IsLaidOut}
 use Rattle.sq_sched.specs.Ready.{contains}
 use Rattle.sq_flow.specs.declared.wires.Arc.{Arc}
 use Rattle.sq_flow.specs.declared.wires.Wires.{Wires}
@@ -25,17 +25,17 @@ abbrev pub from_of : Option Arc → ℕ
 from_of None = 0
 from_of (Some arc) = arc.from
 
-abbrev pub port_of : Option Arc → ℕ
-port_of None = 0
-port_of (Some arc) = arc.port
+abbrev pub arc_port : Option Arc → ℕ
+arc_port None = 0
+arc_port (Some arc) = arc.port
 
 abbrev pub to_of : Option Arc → ℕ
 to_of None = 0
 to_of (Some arc) = arc.to
 
-abbrev pub place_of : Option Arc → ℕ
-place_of None = 0
-place_of (Some arc) = arc.place
+abbrev pub arc_place : Option Arc → ℕ
+arc_place None = 0
+arc_place (Some arc) = arc.place
 
 abbrev pub marked_of : Option Arc → Bool
 marked_of None = false
@@ -51,9 +51,9 @@ abbrev pub arcs_read : Wires → ℕ → List ℕ
 arcs_read wires actor = numbers_in (slice_get wires.inputs.items actor)
 
 -- the arc at a port
-abbrev pub arc_at : Wires → Option ℕ → Option Arc
-arc_at wires None = None
-arc_at wires (Some at) = slice_get wires.arcs.items at
+abbrev pub arc_wired : Wires → Option ℕ → Option Arc
+arc_wired wires None = None
+arc_wired wires (Some at) = slice_get wires.arcs.items at
 
 -- the arcs that come from a port of an actor
 abbrev pub arcs_from : Wires → ℕ → ℕ → List ℕ
@@ -76,9 +76,9 @@ net_of wires =
       size = length wires.arcs.items;
       arcs = arcs_read wires;
       from = λ arc. from_of (slice_get wires.arcs.items arc);
-      port = λ arc. port_of (slice_get wires.arcs.items arc);
-      takes = λ actor port. marked_of (arc_at wires (slice_get (arcs_read wires actor) port));
-      fits = λ actor port fields. fits_on (arc_at wires (slice_get (arcs_read wires actor) port)) fields;
+      port = λ arc. arc_port (slice_get wires.arcs.items arc);
+      takes = λ actor port. marked_of (arc_wired wires (slice_get (arcs_read wires actor) port));
+      fits = λ actor port fields. fits_on (arc_wired wires (slice_get (arcs_read wires actor) port)) fields;
     }
 
 -- what an item that an actor gives at a port is on a stream
@@ -91,7 +91,7 @@ pushed_by actor outs from to = if actor == from then given to outs else []
 
 abbrev pub AllOutsFine : ℕ → List (ℕ × Item) → Type 0
 AllOutsFine time [] = Unit {0}
-AllOutsFine time (out ∷ outs) = (out.1.time ≤ time) × IsSound out.1 × AllOutsFine time outs
+AllOutsFine time (out ∷ outs) = (out.1.time ≤ time) × IsSoundItem out.1 × AllOutsFine time outs
 
 -- how often a number stands in a list
 abbrev pub times_in : ℕ → List ℕ → ℕ
@@ -115,10 +115,10 @@ pub record IsShaped (wires : Wires) (ops : ℕ) : Type 0 where
   pub ports : (actor : ℕ) → length (arcs_read wires actor) < 2 ^ 32
   pub from_in : (arc : ℕ) → arc < length wires.arcs.items → from_of (slice_get wires.arcs.items arc) < ops + 1
   pub joined : (actor port arc : ℕ) → slice_get (arcs_read wires actor) port ≡ Some arc
-      → (to_of (slice_get wires.arcs.items arc) ≡ actor) × (place_of (slice_get wires.arcs.items arc) ≡ port)
+      → (to_of (slice_get wires.arcs.items arc) ≡ actor) × (arc_place (slice_get wires.arcs.items arc) ≡ port)
   pub read : (actor port arc : ℕ) → arc < length wires.arcs.items
       → times_in arc (arcs_from wires actor port)
-      ≡ (if actor == from_of (slice_get wires.arcs.items arc) then (if port == port_of (slice_get wires.arcs.items arc) then 1 else 0) else 0)
+      ≡ (if actor == from_of (slice_get wires.arcs.items arc) then (if port == arc_port (slice_get wires.arcs.items arc) then 1 else 0) else 0)
   pub readers_in : (actor port place arc : ℕ) → slice_get (arcs_from wires actor port) place ≡ Some arc → arc < length wires.arcs.items
   pub outputs_end : (actor port : ℕ) → wires.shown ≤ actor → actor < ops → arcs_from wires actor port ≡ []
   pub followers_len : length wires.followers.items ≡ ops + 1
@@ -126,6 +126,6 @@ pub record IsShaped (wires : Wires) (ops : ℕ) : Type 0 where
       → contains (followers_of wires (from_of (slice_get wires.arcs.items arc))) (to_of (slice_get wires.arcs.items arc)) ≡ true
   pub followers_in : (actor follower : ℕ) → contains (followers_of wires actor) follower ≡ true → follower < ops
   pub followers_climb : (actor : ℕ) → Climbs (followers_of wires actor)
-  pub wired : IsWired (net_of wires) wires.order.items
-  pub listed : (actor : ℕ) → known (net_of wires) wires.order.items actor ≡ true → actor < ops + 1
-  pub ordered : (actor : ℕ) → actor < ops → known (net_of wires) wires.order.items actor ≡ true
+  pub wired : IsLaidOut (net_of wires) wires.order.items
+  pub listed : (actor : ℕ) → is_known_actor (net_of wires) wires.order.items actor ≡ true → actor < ops + 1
+  pub ordered : (actor : ℕ) → actor < ops → is_known_actor (net_of wires) wires.order.items actor ≡ true

@@ -1,7 +1,7 @@
 //! The engine: a flow with its ready list.
 
 ghost use Rattle.std.specs.Prelude.{◌≡◌, ◌⊎◌, ◌-◌, ◌^◌, ℕ, ◌+◌, ◌≤◌, ◌<◌, true, false, [], ◌∷◌, Option, OnOk, OnErr, IfOk, IfErr, length, map, slice_get};
-ghost use Rattle.sq_road.specs.Levels.{Agrees};
+ghost use Rattle.sq_road.specs.Levels.{AgreesWith};
 ghost use Rattle.sq_outside.specs.Disks.{Pages};
 ghost use Rattle.sq_pool.specs.Trust.{IsLater, known};
 ghost use Rattle.sq_queue.specs.Faces.{Together};
@@ -9,7 +9,7 @@ ghost use Rattle.sq_sched.specs.Ready.{contains};
 ghost use Rattle.std.specs.List.{flat_map, range_with_len};
 ghost use Rattle.sq_value.specs.Lists.{IsPrefixOf, numbers_to};
 ghost use Rattle.sq_plan.specs.Shown.{shown_after};
-ghost use Rattle.sq_flow.specs.Engines.{place_in};
+ghost use Rattle.sq_flow.specs.Engines.{seat_number};
 
 use crate::errors::RunErr;
 use crate::flow::Flow;
@@ -46,16 +46,16 @@ pub enum State {
 }
 
 /// An actor's place in the flow: actor 0 is the replay, which stands behind the operators.
-fn place_in(ops: u32, actor: u32) -> u32
+fn seat_number(ops: u32, actor: u32) -> u32
     requires { actor ≤ ops }
-    ensures place { result ≡ place_in ops actor }
+    ensures place { result ≡ seat_number ops actor }
     ensures within { result ≤ ops }
 {
     if actor == 0 { ops } else { actor - 1 }
 }
 
 impl<O: Operator + Drop> Flow<O> {
-    ghost use Rattle.sq_flow.specs.Flows.{IsFlow, RiseFrom, tuples_at};
+    ghost use Rattle.sq_flow.specs.Flows.{IsFlow, RiseFrom, tuples_to_come};
     ghost use Rattle.sq_flow.specs.Starts.{IsNewSeat, IsNewFlow};
     ghost use Rattle.sq_flow.specs.Plans.{IsPlanned, arrivals, last_arrival, plans_left};
     ghost use Rattle.sq_flow.specs.Seats.{holds_at};
@@ -73,9 +73,9 @@ impl<O: Operator + Drop> Flow<O> {
     ) -> Result<Flow<O>, AllocError>
         requires shaped { IsShaped wires (length seats.items) }
         requires seats { (actor : ℕ) → holds_at (IsNewSeat (record { rest = O.rest; decides = O.decides; lost = O.lost; place = O.place; taken = O.taken; running = O.running; takes_marks = O.takes_marks; fits = O.fits; reads = O.reads }) O.valid ((net_of wires).takes actor) ((net_of wires).fits actor) (IsOwn wires actor) levels.epoch) (slice_get seats.items actor) }
-        requires coming { (source : ℕ) → RiseFrom 0 (tuples_at (slice_get sources.items source)) }
+        requires coming { (source : ℕ) → RiseFrom 0 (tuples_to_come (slice_get sources.items source)) }
         requires few { length sources.items < 2 ^ 32 }
-        requires few_tuples { (source : ℕ) → length (tuples_at (slice_get sources.items source)) ≤ 1000000 }
+        requires few_tuples { (source : ℕ) → length (tuples_to_come (slice_get sources.items source)) ≤ 1000000 }
         requires levels { levels.closed ≡ 1 }
         requires no_levels { levels.rows ≡ [] }
         requires frames { 2 ≤ frames }
@@ -103,11 +103,11 @@ impl<O: Operator + Drop> Flow<O> {
 }
 
 impl<O: Operator + Drop> Engine<O> {
-    ghost use Rattle.sq_flow.specs.Flows.{IsFlow, Stepped, ShowsPrefix, NoneStrange, measure_of, HoldsItems, items_in, lines_left, decisions_left, fed_at_last, RiseFrom, tuples_at, CostsFed, CostsAtMost, TooMuchOnly, FailsAt, lost_at_last, work_at_last, taken_in_all};
+    ghost use Rattle.sq_flow.specs.Flows.{IsFlow, Stepped, ShowsPrefix, NoneStrange, measure_of, HoldsItems, items_in, lines_left, decisions_left, fed_at_last, RiseFrom, tuples_to_come, CostsFed, StepCosts, TooMuchOnly, FailsAt, lost_at_last, work_at_last, taken_in_all};
     ghost use Rattle.sq_flow.specs.Plans.{PlansPrefix, IsPlanned, arrivals, last_arrival, plans_left};
     ghost use Rattle.sq_flow.specs.Causes.{IsCauseIn};
     ghost use Rattle.sq_flow.specs.Readiness.{IsReady, FallsBy, Took};
-    ghost use Rattle.sq_flow.specs.Engines.{IsEngine, HasRoom, Looked, AllDone, newly_ready, listed_after, readers_of};
+    ghost use Rattle.sq_flow.specs.Engines.{IsEngine, HasSeats, Looked, AllDone, newly_ready, listed_after, readers_of};
     ghost use Rattle.sq_flow.specs.Seats.{taken_at, lost_at, holds_at};
     ghost use Rattle.sq_flow.specs.Starts.{IsNewSeat, IsNewFlow};
     ghost use Rattle.sq_flow.specs.Wiring.{net_of, IsOwn, IsShaped};
@@ -125,9 +125,9 @@ impl<O: Operator + Drop> Engine<O> {
     ) -> Result<Engine<O>, AllocError>
         requires shaped { IsShaped wires (length seats.items) }
         requires seats { (actor : ℕ) → holds_at (IsNewSeat (record { rest = O.rest; decides = O.decides; lost = O.lost; place = O.place; taken = O.taken; running = O.running; takes_marks = O.takes_marks; fits = O.fits; reads = O.reads }) O.valid ((net_of wires).takes actor) ((net_of wires).fits actor) (IsOwn wires actor) levels.epoch) (slice_get seats.items actor) }
-        requires coming { (source : ℕ) → RiseFrom 0 (tuples_at (slice_get sources.items source)) }
+        requires coming { (source : ℕ) → RiseFrom 0 (tuples_to_come (slice_get sources.items source)) }
         requires few { length sources.items < 2 ^ 32 }
-        requires few_tuples { (source : ℕ) → length (tuples_at (slice_get sources.items source)) ≤ 1000000 }
+        requires few_tuples { (source : ℕ) → length (tuples_to_come (slice_get sources.items source)) ≤ 1000000 }
         requires levels { levels.closed ≡ 1 }
         requires no_levels { levels.rows ≡ [] }
         requires frames { 2 ≤ frames }
@@ -153,11 +153,11 @@ impl<O: Operator + Drop> Engine<O> {
     /// Looks at an actor: counts what waits for it, and lists it last where it is ready and isn't listed.
     fn look_at(&mut self, actor: u32)
         requires flow { IsFlow (record { rest = O.rest; decides = O.decides; lost = O.lost; place = O.place; taken = O.taken; running = O.running; takes_marks = O.takes_marks; fits = O.fits; reads = O.reads }) O.valid self.old.flow }
-        requires room { HasRoom self.old }
+        requires room { HasSeats self.old }
         requires there { actor ≤ length self.old.flow.seats.items }
         ensures { Looked (actor ∷ []) self.old self.new }
     {
-        let place = place_in(self.flow.wires.replay, actor);
+        let place = seat_number(self.flow.wires.replay, actor);
         self.waits[actor as usize] = self.flow.waiting(place);
         if !self.ready.has(actor) && self.flow.is_ready(place) {
             self.ready.push(actor);
@@ -167,7 +167,7 @@ impl<O: Operator + Drop> Engine<O> {
     /// Looks at each actor, in ascending number.
     fn look_at_all(&mut self)
         requires flow { IsFlow (record { rest = O.rest; decides = O.decides; lost = O.lost; place = O.place; taken = O.taken; running = O.running; takes_marks = O.takes_marks; fits = O.fits; reads = O.reads }) O.valid self.old.flow }
-        requires room { HasRoom self.old }
+        requires room { HasSeats self.old }
         ensures { Looked (range_with_len 0 (length self.old.flow.seats.items + 1)) self.old self.new }
     {
         for actor in 0..self.flow.wires.replay + 1 {
@@ -178,7 +178,7 @@ impl<O: Operator + Drop> Engine<O> {
     /// Looks at the operators that read from the actor at a place, in ascending number.
     fn look_at_readers(&mut self, place: u32)
         requires flow { IsFlow (record { rest = O.rest; decides = O.decides; lost = O.lost; place = O.place; taken = O.taken; running = O.running; takes_marks = O.takes_marks; fits = O.fits; reads = O.reads }) O.valid self.old.flow }
-        requires room { HasRoom self.old }
+        requires room { HasSeats self.old }
         requires there { place ≤ length self.old.flow.seats.items }
         ensures { Looked (readers_of self.old.flow place) self.old self.new }
     {
@@ -213,18 +213,18 @@ impl<O: Operator + Drop> Engine<O> {
         ensures faults { D.faults disk.old ≤ D.faults disk.new }
         ensures later { IsLater (D.log disk.old) (D.log disk.new) }
         ensures failed { OnErr result (self.new.failed ≡ true) }
-        ensures closes { (table : ℕ → ℕ → ℕ) → Agrees self.new.flow.levels table → Agrees self.old.flow.levels table }
+        ensures closes { (table : ℕ → ℕ → ℕ) → AgreesWith self.new.flow.levels table → AgreesWith self.old.flow.levels table }
         ensures cost { OnOk result (CostsFed (record { rest = O.rest; decides = O.decides; lost = O.lost; place = O.place; taken = O.taken; running = O.running; takes_marks = O.takes_marks; fits = O.fits; reads = O.reads }) self.old.flow self.new.flow steps.old steps.new) }
-        ensures cost_err { OnErr result (CostsAtMost (record { rest = O.rest; decides = O.decides; lost = O.lost; place = O.place; taken = O.taken; running = O.running; takes_marks = O.takes_marks; fits = O.fits; reads = O.reads }) (known (D.log disk.old)) (known (D.log disk.new)) self.old.flow self.new.flow.levels steps.old steps.new) }
+        ensures cost_err { OnErr result (StepCosts (record { rest = O.rest; decides = O.decides; lost = O.lost; place = O.place; taken = O.taken; running = O.running; takes_marks = O.takes_marks; fits = O.fits; reads = O.reads }) (known (D.log disk.old)) (known (D.log disk.new)) self.old.flow self.new.flow.levels steps.old steps.new) }
         ensures too_much { IfErr result (λ e. TooMuchOnly (record { rest = O.rest; decides = O.decides; lost = O.lost; place = O.place; taken = O.taken; running = O.running; takes_marks = O.takes_marks; fits = O.fits; reads = O.reads }) (known (D.log disk.old)) (known (D.log disk.new)) self.old.flow self.new.flow e) }
         ensures measure { IfOk result (λ p. FallsBy p.fed p.finished (measure_of self.old.flow) (measure_of self.new.flow)) }
         ensures works { IfOk result (λ p. (p.fed ≡ 0) → p.finished ≡ true) }
         ensures most { IfOk result (λ p. p.fed ≤ pick.train) }
-        ensures stops { IfOk result (λ p. (p.fed ≡ pick.train) ⊎ ((p.finished ≡ true) ⊎ (IsReady self.new.flow (place_in (length self.new.flow.seats.items) pick.actor) → ⊥))) }
+        ensures stops { IfOk result (λ p. (p.fed ≡ pick.train) ⊎ ((p.finished ≡ true) ⊎ (IsReady self.new.flow (seat_number (length self.new.flow.seats.items) pick.actor) → ⊥))) }
         ensures stay { IsPrefixOf events.old.items events.new.items }
-        ensures took { IfOk result (λ p. Took (place_in (length self.old.flow.seats.items) pick.actor) p.fed p.finished self.old.flow self.new.flow) }
+        ensures took { IfOk result (λ p. Took (seat_number (length self.old.flow.seats.items) pick.actor) p.fed p.finished self.old.flow self.new.flow) }
     {
-        let place = place_in(self.flow.wires.replay, pick.actor);
+        let place = seat_number(self.flow.wires.replay, pick.actor);
         self.ready.remove(pick.actor);
         match self.flow.train(disk, place, pick.train, events, steps) {
             Err(e) => {

@@ -4,12 +4,12 @@ ghost use Rattle.sq_value.specs.Lists.{IsPrefixOf};
 ghost use Rattle.std.specs.Prelude.{◌≡◌, ◌≢◌, ℕ, ◌+◌, ◌-◌, ◌^◌, ◌/◌, ◌<◌, ◌≤◌, ◌∷◌, ◌==◌, ◌||◌, true, false, List, [], Option, Some, None, OnOk, OnErr, IfOk, IfErr, IfSome, length, slice_get, if◌then◌else◌};
 ghost use Rattle.sq_oper.specs.declared.outs.Event.{Event};
 ghost use Rattle.sq_outside.specs.Disks.{Pages};
-ghost use Rattle.sq_road.specs.Levels.{Agrees};
+ghost use Rattle.sq_road.specs.Levels.{AgreesWith};
 ghost use Rattle.sq_pool.specs.Trust.{IsLater, known};
 ghost use Rattle.sq_queue.specs.Faces.{face, size, frames, items_on, Together};
 ghost use Rattle.sq_flow.specs.Wiring.{from_of};
-ghost use Rattle.sq_flow.specs.Sends.{comes_from};
-ghost use Rattle.sq_flow.specs.Flows.{tuples_at};
+ghost use Rattle.sq_flow.specs.Sends.{is_sent_by};
+ghost use Rattle.sq_flow.specs.Flows.{tuples_to_come};
 ghost use Rattle.sq_flow.specs.Sources.{IsNextSource};
 
 use crate::errors::RunErr;
@@ -57,7 +57,7 @@ pub enum Did {
 /// The source that releases next: that of the least time, and of these the first; none where nothing is left.
 pub(crate) fn next_source(sources: &Vec<Stream>) -> Option<u32>
     requires { length sources.now.items < 2 ^ 32 }
-    ensures none { result ≡ None → (source : ℕ) → tuples_at (slice_get sources.now.items source) ≡ [] }
+    ensures none { result ≡ None → (source : ℕ) → tuples_to_come (slice_get sources.now.items source) ≡ [] }
     ensures some { IfSome result (λ source. IsNextSource sources.now.items source) }
 {
     let mut best = None;
@@ -108,7 +108,7 @@ fn end_arcs(wires: &Wires, queues: &mut Queues, actor: u32)
     requires few { length wires.now.arcs.items < 2 ^ 32 }
     ensures size { size queues.new ≡ size queues.old }
     ensures ended { (arc : ℕ) → arc < length wires.now.arcs.items → (face queues.new arc).ended ≡ ((face queues.old arc).ended || (from_of (slice_get wires.now.arcs.items arc) == actor)) }
-    ensures apart { (arc : ℕ) → comes_from wires.now actor arc ≡ false → face queues.new arc ≡ face queues.old arc }
+    ensures apart { (arc : ℕ) → is_sent_by wires.now actor arc ≡ false → face queues.new arc ≡ face queues.old arc }
     ensures first { (arc : ℕ) → (face queues.new arc).first ≡ (face queues.old arc).first }
     ensures items { (pages : Option Pages) (arc : ℕ) → items_on queues.new pages arc ≡ items_on queues.old pages arc }
     ensures together { (pages : Option Pages) → Together queues.old pages → Together queues.new pages }
@@ -120,7 +120,7 @@ fn end_arcs(wires: &Wires, queues: &mut Queues, actor: u32)
 }
 
 impl<O: Operator + Drop> Flow<O> {
-    ghost use Rattle.sq_flow.specs.Flows.{IsFlow, Stepped, ShowsPrefix, NoneStrange, CostsFed, CostsAtMost, TooMuchOnly, taken_in_all, to_release, measure_of};
+    ghost use Rattle.sq_flow.specs.Flows.{IsFlow, Stepped, ShowsPrefix, NoneStrange, CostsFed, StepCosts, TooMuchOnly, taken_in_all, to_release, measure_of};
     ghost use Rattle.sq_flow.specs.Plans.{PlansPrefix};
     ghost use Rattle.sq_flow.specs.Causes.{IsCauseIn, IsFeedCause};
     ghost use Rattle.sq_flow.specs.Readiness.{TouchesOnly, Took};
@@ -154,9 +154,9 @@ impl<O: Operator + Drop> Flow<O> {
         ensures later { IsLater (D.log disk.old) (D.log disk.new) }
         ensures touches { OnOk result (TouchesOnly actor self.old self.new) }
         ensures cost { OnOk result (CostsFed (record { rest = O.rest; decides = O.decides; lost = O.lost; place = O.place; taken = O.taken; running = O.running; takes_marks = O.takes_marks; fits = O.fits; reads = O.reads }) self.old self.new steps.old steps.new) }
-        ensures cost_err { OnErr result (CostsAtMost (record { rest = O.rest; decides = O.decides; lost = O.lost; place = O.place; taken = O.taken; running = O.running; takes_marks = O.takes_marks; fits = O.fits; reads = O.reads }) (known (D.log disk.old)) (known (D.log disk.new)) self.old self.new.levels steps.old steps.new) }
+        ensures cost_err { OnErr result (StepCosts (record { rest = O.rest; decides = O.decides; lost = O.lost; place = O.place; taken = O.taken; running = O.running; takes_marks = O.takes_marks; fits = O.fits; reads = O.reads }) (known (D.log disk.old)) (known (D.log disk.new)) self.old self.new.levels steps.old steps.new) }
         ensures too_much { IfErr result (λ e. TooMuchOnly (record { rest = O.rest; decides = O.decides; lost = O.lost; place = O.place; taken = O.taken; running = O.running; takes_marks = O.takes_marks; fits = O.fits; reads = O.reads }) (known (D.log disk.old)) (known (D.log disk.new)) self.old self.new e) }
-        ensures closes { (table : ℕ → ℕ → ℕ) → Agrees self.new.levels table → Agrees self.old.levels table }
+        ensures closes { (table : ℕ → ℕ → ℕ) → AgreesWith self.new.levels table → AgreesWith self.old.levels table }
         ensures measure { OnOk result (measure_of self.new + 1 ≤ measure_of self.old) }
         ensures stay { IsPrefixOf events.old.items events.new.items }
         ensures took { OnOk result (Took actor 1 false self.old self.new) }
@@ -210,7 +210,7 @@ impl<O: Operator + Drop> Flow<O> {
         ensures memory { IfErr result (λ e. e ≢ RunErr.TooMuch) }
         ensures touches { OnOk result (TouchesOnly actor self.old self.new) }
         ensures taken { OnOk result (taken_in_all (record { rest = O.rest; decides = O.decides; lost = O.lost; place = O.place; taken = O.taken; running = O.running; takes_marks = O.takes_marks; fits = O.fits; reads = O.reads }) self.new ≡ taken_in_all (record { rest = O.rest; decides = O.decides; lost = O.lost; place = O.place; taken = O.taken; running = O.running; takes_marks = O.takes_marks; fits = O.fits; reads = O.reads }) self.old) }
-        ensures closes { (table : ℕ → ℕ → ℕ) → Agrees self.new.levels table → Agrees self.old.levels table }
+        ensures closes { (table : ℕ → ℕ → ℕ) → AgreesWith self.new.levels table → AgreesWith self.old.levels table }
         ensures measure { OnOk result (measure_of self.new + 1 ≤ measure_of self.old) }
         ensures stay { IsPrefixOf events.old.items events.new.items }
         ensures took { OnOk result (Took actor 0 true self.old self.new) }
@@ -248,7 +248,7 @@ impl<O: Operator + Drop> Flow<O> {
         ensures memory { IfErr result (λ e. e ≢ RunErr.TooMuch) }
         ensures touches { OnOk result (TouchesOnly (length self.old.seats.items) self.old self.new) }
         ensures taken { OnOk result (taken_in_all (record { rest = O.rest; decides = O.decides; lost = O.lost; place = O.place; taken = O.taken; running = O.running; takes_marks = O.takes_marks; fits = O.fits; reads = O.reads }) self.new ≡ taken_in_all (record { rest = O.rest; decides = O.decides; lost = O.lost; place = O.place; taken = O.taken; running = O.running; takes_marks = O.takes_marks; fits = O.fits; reads = O.reads }) self.old) }
-        ensures closes { (table : ℕ → ℕ → ℕ) → Agrees self.new.levels table → Agrees self.old.levels table }
+        ensures closes { (table : ℕ → ℕ → ℕ) → AgreesWith self.new.levels table → AgreesWith self.old.levels table }
         ensures measure { OnOk result (measure_of self.new + 1 ≤ measure_of self.old) }
         ensures stay { IsPrefixOf events.old.items events.new.items }
         ensures took { OnOk result (Took (length self.old.seats.items) 1 false self.old self.new) }
@@ -282,7 +282,7 @@ impl<O: Operator + Drop> Flow<O> {
         ensures ok { (pages : Option Pages) (events : List Event) → Together self.old.queues pages → Stepped (record { rest = O.rest; decides = O.decides; lost = O.lost; place = O.place; taken = O.taken; running = O.running; takes_marks = O.takes_marks; fits = O.fits; reads = O.reads }) O.valid pages pages self.old self.new events events }
         ensures touches { TouchesOnly (length self.old.seats.items) self.old self.new }
         ensures taken { taken_in_all (record { rest = O.rest; decides = O.decides; lost = O.lost; place = O.place; taken = O.taken; running = O.running; takes_marks = O.takes_marks; fits = O.fits; reads = O.reads }) self.new ≡ taken_in_all (record { rest = O.rest; decides = O.decides; lost = O.lost; place = O.place; taken = O.taken; running = O.running; takes_marks = O.takes_marks; fits = O.fits; reads = O.reads }) self.old }
-        ensures closes { (table : ℕ → ℕ → ℕ) → Agrees self.new.levels table → Agrees self.old.levels table }
+        ensures closes { (table : ℕ → ℕ → ℕ) → AgreesWith self.new.levels table → AgreesWith self.old.levels table }
         ensures measure { measure_of self.new + 1 ≤ measure_of self.old }
         ensures took { Took (length self.old.seats.items) 0 true self.old self.new }
     {

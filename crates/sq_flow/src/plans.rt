@@ -3,7 +3,7 @@
 ghost use Rattle.sq_value.specs.Lists.{IsPrefixOf};
 ghost use Rattle.std.specs.Prelude.{◌≡◌, ◌==◌, ℕ, ◌+◌, ◌-◌, ◌≤◌, ◌<◌, ◌++◌, ◌^◌, List, length, replicate, if◌then◌else◌, OnOk, OnErr, IfOk};
 ghost use Rattle.std.specs.List.{flat_map, range_with_len};
-ghost use Rattle.sq_road.specs.Levels.{level_of, Agrees};
+ghost use Rattle.sq_road.specs.Levels.{level_of, AgreesWith};
 ghost use Rattle.sq_plan.specs.Flows.{AreCounts};
 ghost use Rattle.sq_plan.specs.Shown.{listed, level_for, shown_after, Ended};
 ghost use Rattle.sq_flow.specs.Events.{lines_of, drops_of, ShowsIn};
@@ -61,7 +61,7 @@ pub(crate) fn close_before(
     ensures keeps { (x w : ℕ) → x < levels.old.closed → level_of levels.new x w ≡ level_of levels.old x w }
     ensures counts { OnOk result (counts.new.items ≡ (if next + 1 == levels.old.closed then counts.old.items else replicate (length counts.old.items) 0)) }
     ensures agrees { (all : ℕ → List ℕ) → (levels.old.closed < next + 1 → Ended all (levels.old.closed - 1) next counts.old.items)
-        → Agrees levels.old (level_for planner.old all) → Agrees levels.new (level_for planner.old all) }
+        → AgreesWith levels.old (level_for planner.old all) → AgreesWith levels.new (level_for planner.old all) }
     ensures plans { OnOk result ((all : ℕ → List ℕ) → (levels.old.closed < next + 1 → Ended all (levels.old.closed - 1) next counts.old.items)
         → plans_of events.new.items ≡ plans_of events.old.items ++ flat_map (shown_after planner.old all) (range_with_len (levels.old.closed - 1) (next - (levels.old.closed - 1)))) }
     ensures err { OnErr result (plans_of events.new.items ≡ plans_of events.old.items) }

@@ -3,7 +3,7 @@
 ghost use Rattle.std.specs.Prelude.{◌≡◌, ◌==◌, if◌then◌else◌, ℕ, ◌+◌, ◌-◌, ◌<◌, ◌≤◌, ◌++◌, ◌∷◌, [], true, false, Some, OnOk, OnErr, IfErr, length, slice_get};
 ghost use Rattle.sq_sched.specs.Ready.{contains};
 ghost use Rattle.sq_value.specs.Lists.{IsPrefixOf};
-ghost use Rattle.sq_item.specs.Sound.{IsSound};
+ghost use Rattle.sq_item.specs.Sound.{IsSoundItem};
 ghost use Rattle.sq_item.specs.Things.{spread};
 ghost use Rattle.sq_oper.specs.Given.{given};
 ghost use Rattle.sq_pool.specs.Trust.{IsLater, Tells, known};
@@ -34,7 +34,7 @@ fn send_item<D: PageDisk>(
     item: Item,
 ) -> Result<(), QueueErr>
     requires there { (place arc : ℕ) → slice_get arcs.now place ≡ Some arc → (arc < size queues.old) × ((face queues.old arc).ended ≡ false) }
-    requires sound { IsSound item }
+    requires sound { IsSoundItem item }
     requires together { Together queues.old (known (D.log disk.old)) }
     ensures sent { OnOk result (Pushes queues.old queues.new (known (D.log disk.old)) (known (D.log disk.new)) (λ arc. many (times_in arc arcs.now) (spread item)) (λ time. item.time ≤ time) (λ arc. contains arcs.now arc)) }
     ensures cause { IfErr result (λ e. IsQueueCause queues.new (D.log disk.old) (D.log disk.new) (D.faults disk.old) (D.faults disk.new) (of_queue e)) }
@@ -64,7 +64,7 @@ pub(crate) fn send_one<D: PageDisk>(
 ) -> Result<(), QueueErr>
     requires within { actor < length wires.now.readers.items }
     requires there { (place arc : ℕ) → slice_get (arcs_from wires.now actor port) place ≡ Some arc → (arc < size queues.old) × ((face queues.old arc).ended ≡ false) }
-    requires sound { IsSound item }
+    requires sound { IsSoundItem item }
     requires together { Together queues.old (known (D.log disk.old)) }
     ensures sent { OnOk result (Pushes queues.old queues.new (known (D.log disk.old)) (known (D.log disk.new)) (λ arc. many (times_in arc (arcs_from wires.now actor port)) (spread item)) (λ time. item.time ≤ time) (λ arc. contains (arcs_from wires.now actor port) arc)) }
     ensures cause { IfErr result (λ e. IsQueueCause queues.new (D.log disk.old) (D.log disk.new) (D.faults disk.old) (D.faults disk.new) (of_queue e)) }
@@ -142,7 +142,7 @@ pub(crate) fn pass_on<D: PageDisk>(
     requires within { actor < length wires.now.readers.items }
     requires shown { wires.now.shown ≤ actor → arcs_from wires.now actor port ≡ [] }
     requires there { (place arc : ℕ) → slice_get (arcs_from wires.now actor port) place ≡ Some arc → (arc < size queues.old) × ((face queues.old arc).ended ≡ false) }
-    requires sound { IsSound item }
+    requires sound { IsSoundItem item }
     requires together { Together queues.old (known (D.log disk.old)) }
     ensures sent { OnOk result (Pushes queues.old queues.new (known (D.log disk.old)) (known (D.log disk.new)) (λ arc. many (times_in arc (arcs_from wires.now actor port)) (spread item)) (λ time. item.time ≤ time) (λ arc. contains (arcs_from wires.now actor port) arc)) }
     ensures shown { OnOk result (IsShown wires.now actor (record { 0 = port; 1 = item } ∷ []) [] events.old.items events.new.items) }

@@ -3,7 +3,7 @@
 ghost use Rattle.sq_value.specs.Lists.{IsPrefixOf};
 ghost use Rattle.std.specs.Prelude.{◌≡◌, ◌≢◌, ◌⊎◌, ℕ, ◌+◌, ◌≤◌, ◌<◌, true, false, [], OnOk, OnErr, IfOk, IfErr, length, slice_get};
 ghost use Rattle.sq_oper.specs.declared.outs.Event.{Event};
-ghost use Rattle.sq_road.specs.Levels.{Agrees};
+ghost use Rattle.sq_road.specs.Levels.{AgreesWith};
 ghost use Rattle.sq_pool.specs.Trust.{IsLater, known};
 ghost use Rattle.sq_queue.specs.Faces.{Together};
 
@@ -22,7 +22,7 @@ pub struct Progress {
 }
 
 impl<O: Operator + Drop> Flow<O> {
-    ghost use Rattle.sq_flow.specs.Flows.{IsFlow, Stepped, ShowsPrefix, NoneStrange, CostsFed, CostsAtMost, TooMuchOnly, FailsAt, taken_in_all, Lowers, measure_of};
+    ghost use Rattle.sq_flow.specs.Flows.{IsFlow, Stepped, ShowsPrefix, NoneStrange, CostsFed, StepCosts, TooMuchOnly, FailsAt, taken_in_all, Lowers, measure_of};
     ghost use Rattle.sq_flow.specs.Plans.{PlansPrefix};
     ghost use Rattle.sq_flow.specs.Causes.{IsCauseIn, IsFeedCause};
     ghost use Rattle.sq_flow.specs.Readiness.{IsReady, TouchesOnly, WaitsOnly, FallsBy, Took, TookBy};
@@ -60,7 +60,7 @@ impl<O: Operator + Drop> Flow<O> {
         ensures touches { OnOk result (TouchesOnly (length self.old.seats.items) self.old self.new) }
         ensures memory { IfErr result (λ e. e ≢ RunErr.TooMuch) }
         ensures taken { OnOk result (taken_in_all (record { rest = O.rest; decides = O.decides; lost = O.lost; place = O.place; taken = O.taken; running = O.running; takes_marks = O.takes_marks; fits = O.fits; reads = O.reads }) self.new ≡ taken_in_all (record { rest = O.rest; decides = O.decides; lost = O.lost; place = O.place; taken = O.taken; running = O.running; takes_marks = O.takes_marks; fits = O.fits; reads = O.reads }) self.old) }
-        ensures closes { (table : ℕ → ℕ → ℕ) → Agrees self.new.levels table → Agrees self.old.levels table }
+        ensures closes { (table : ℕ → ℕ → ℕ) → AgreesWith self.new.levels table → AgreesWith self.old.levels table }
         ensures measure { IfOk result (λ did. Lowers did (measure_of self.old) (measure_of self.new)) }
         ensures works { IfOk result (λ did. WaitsOnly did ⊥) }
         ensures stay { IsPrefixOf events.old.items events.new.items }
@@ -101,9 +101,9 @@ impl<O: Operator + Drop> Flow<O> {
         ensures later { IsLater (D.log disk.old) (D.log disk.new) }
         ensures touches { OnOk result (TouchesOnly actor self.old self.new) }
         ensures cost { OnOk result (CostsFed (record { rest = O.rest; decides = O.decides; lost = O.lost; place = O.place; taken = O.taken; running = O.running; takes_marks = O.takes_marks; fits = O.fits; reads = O.reads }) self.old self.new steps.old steps.new) }
-        ensures cost_err { OnErr result (CostsAtMost (record { rest = O.rest; decides = O.decides; lost = O.lost; place = O.place; taken = O.taken; running = O.running; takes_marks = O.takes_marks; fits = O.fits; reads = O.reads }) (known (D.log disk.old)) (known (D.log disk.new)) self.old self.new.levels steps.old steps.new) }
+        ensures cost_err { OnErr result (StepCosts (record { rest = O.rest; decides = O.decides; lost = O.lost; place = O.place; taken = O.taken; running = O.running; takes_marks = O.takes_marks; fits = O.fits; reads = O.reads }) (known (D.log disk.old)) (known (D.log disk.new)) self.old self.new.levels steps.old steps.new) }
         ensures too_much { IfErr result (λ e. TooMuchOnly (record { rest = O.rest; decides = O.decides; lost = O.lost; place = O.place; taken = O.taken; running = O.running; takes_marks = O.takes_marks; fits = O.fits; reads = O.reads }) (known (D.log disk.old)) (known (D.log disk.new)) self.old self.new e) }
-        ensures closes { (table : ℕ → ℕ → ℕ) → Agrees self.new.levels table → Agrees self.old.levels table }
+        ensures closes { (table : ℕ → ℕ → ℕ) → AgreesWith self.new.levels table → AgreesWith self.old.levels table }
         ensures measure { IfOk result (λ did. Lowers did (measure_of self.old) (measure_of self.new)) }
         ensures works { IfOk result (λ did. WaitsOnly did (IsReady self.old actor → ⊥)) }
         ensures stays { IfOk result (λ did. WaitsOnly did (self.new ≡ self.old)) }
@@ -145,9 +145,9 @@ impl<O: Operator + Drop> Flow<O> {
         ensures later { IsLater (D.log disk.old) (D.log disk.new) }
         ensures touches { OnOk result (TouchesOnly actor self.old self.new) }
         ensures cost { OnOk result (CostsFed (record { rest = O.rest; decides = O.decides; lost = O.lost; place = O.place; taken = O.taken; running = O.running; takes_marks = O.takes_marks; fits = O.fits; reads = O.reads }) self.old self.new steps.old steps.new) }
-        ensures cost_err { OnErr result (CostsAtMost (record { rest = O.rest; decides = O.decides; lost = O.lost; place = O.place; taken = O.taken; running = O.running; takes_marks = O.takes_marks; fits = O.fits; reads = O.reads }) (known (D.log disk.old)) (known (D.log disk.new)) self.old self.new.levels steps.old steps.new) }
+        ensures cost_err { OnErr result (StepCosts (record { rest = O.rest; decides = O.decides; lost = O.lost; place = O.place; taken = O.taken; running = O.running; takes_marks = O.takes_marks; fits = O.fits; reads = O.reads }) (known (D.log disk.old)) (known (D.log disk.new)) self.old self.new.levels steps.old steps.new) }
         ensures too_much { IfErr result (λ e. TooMuchOnly (record { rest = O.rest; decides = O.decides; lost = O.lost; place = O.place; taken = O.taken; running = O.running; takes_marks = O.takes_marks; fits = O.fits; reads = O.reads }) (known (D.log disk.old)) (known (D.log disk.new)) self.old self.new e) }
-        ensures closes { (table : ℕ → ℕ → ℕ) → Agrees self.new.levels table → Agrees self.old.levels table }
+        ensures closes { (table : ℕ → ℕ → ℕ) → AgreesWith self.new.levels table → AgreesWith self.old.levels table }
         ensures measure { IfOk result (λ did. Lowers did (measure_of self.old) (measure_of self.new)) }
         ensures works { IfOk result (λ did. WaitsOnly did (IsReady self.old actor → ⊥)) }
         ensures stays { IfOk result (λ did. WaitsOnly did (self.new ≡ self.old)) }
@@ -187,10 +187,10 @@ impl<O: Operator + Drop> Flow<O> {
         ensures later { IsLater (D.log disk.old) (D.log disk.new) }
         ensures touches { OnOk result (TouchesOnly actor self.old self.new) }
         ensures cost { OnOk result (CostsFed (record { rest = O.rest; decides = O.decides; lost = O.lost; place = O.place; taken = O.taken; running = O.running; takes_marks = O.takes_marks; fits = O.fits; reads = O.reads }) self.old self.new steps.old steps.new) }
-        ensures cost_err { OnErr result (CostsAtMost (record { rest = O.rest; decides = O.decides; lost = O.lost; place = O.place; taken = O.taken; running = O.running; takes_marks = O.takes_marks; fits = O.fits; reads = O.reads }) (known (D.log disk.old)) (known (D.log disk.new)) self.old self.new.levels steps.old steps.new) }
+        ensures cost_err { OnErr result (StepCosts (record { rest = O.rest; decides = O.decides; lost = O.lost; place = O.place; taken = O.taken; running = O.running; takes_marks = O.takes_marks; fits = O.fits; reads = O.reads }) (known (D.log disk.old)) (known (D.log disk.new)) self.old self.new.levels steps.old steps.new) }
         ensures too_much { IfErr result (λ e. TooMuchOnly (record { rest = O.rest; decides = O.decides; lost = O.lost; place = O.place; taken = O.taken; running = O.running; takes_marks = O.takes_marks; fits = O.fits; reads = O.reads }) (known (D.log disk.old)) (known (D.log disk.new)) self.old self.new e) }
         ensures stops { IfOk result (λ p. (p.fed ≡ train) ⊎ ((p.finished ≡ true) ⊎ (IsReady self.new actor → ⊥))) }
-        ensures closes { (table : ℕ → ℕ → ℕ) → Agrees self.new.levels table → Agrees self.old.levels table }
+        ensures closes { (table : ℕ → ℕ → ℕ) → AgreesWith self.new.levels table → AgreesWith self.old.levels table }
         ensures measure { IfOk result (λ p. FallsBy p.fed p.finished (measure_of self.old) (measure_of self.new)) }
         ensures works { IfOk result (λ p. IsReady self.old actor → (p.fed ≡ 0) → p.finished ≡ true) }
         ensures most { IfOk result (λ p. p.fed ≤ train) }

@@ -3,13 +3,13 @@
 ghost use Rattle.std.specs.Prelude.{◌≡◌, ◌≢◌, ℕ, ◌+◌, ◌-◌, ◌^◌, ◌<◌, ◌≤◌, ◌∷◌, ◌⊎◌, true, is_some, length, List, Option, IfOk, IfErr, OnOk, OnErr};
 ghost use Rattle.sq_value.specs.Values.{is_of_kind, kinds_fit};
 ghost use Rattle.sq_item.specs.declared.Item.{Item};
-ghost use Rattle.sq_item.specs.Sound.{IsSound};
+ghost use Rattle.sq_item.specs.Sound.{IsSoundItem};
 ghost use Rattle.sq_item.specs.Things.{spread};
 ghost use Rattle.sq_pool.specs.Trust.{IsLater, Tells, known};
 ghost use Rattle.sq_paged.specs.Fronts.{IsPopped};
 ghost use Rattle.sq_queue.specs.Faces.{face, size, frames, items_on, Together};
 ghost use Rattle.sq_flow.specs.Causes.{HasTaken, IsQueueCause};
-ghost use Rattle.sq_flow.specs.Takes.{MayBeFed, may_stand, mark_fits, body_fits, NotChanged};
+ghost use Rattle.sq_flow.specs.Takes.{MayBeFed, may_stand, mark_fits, kinds_take, NotChanged};
 
 use crate::errors::RunErr;
 use crate::wires::Arc;
@@ -56,8 +56,8 @@ fn kinds_fit(kinds: &[Kind], values: &[Value]) -> bool
 }
 
 #[inline(always)]
-fn body_fits(kinds: &[Kind], body: &Body) -> bool
-    ensures { result ≡ body_fits kinds.now body.now }
+fn kinds_take(kinds: &[Kind], body: &Body) -> bool
+    ensures { result ≡ kinds_take kinds.now body.now }
 {
     !body.is_some() || kinds_fit(kinds, body.as_slice())
 }
@@ -87,12 +87,12 @@ fn may_stand(place: Place, port: u32, time: u64, mark: bool) -> bool
 #[tactic(auto, using(crate::proofs::TakeLemmas::take_lemmas))]
 #[inline(always)]
 fn may_be_fed(at: &Arc, port: u32, place: Place, clock: u64, item: &Item) -> bool
-    requires { IsSound item.now }
+    requires { IsSoundItem item.now }
     ensures yes { result ≡ true → MayBeFed at.now port place clock item.now }
     ensures no { MayBeFed at.now port place clock item.now → result ≡ true }
 {
     let stands = may_stand(place, port, item.time, item.mark.is_some());
-    let fits = mark_fits(at.marked, &item.mark) && body_fits(at.kinds.as_slice(), &item.body);
+    let fits = mark_fits(at.marked, &item.mark) && kinds_take(at.kinds.as_slice(), &item.body);
     item.time <= clock && fits && stands
 }
 
@@ -122,7 +122,7 @@ pub(crate) fn take_item<D: PageDisk>(
     requires there { arc < size queues.old }
     requires some { is_some (face queues.old arc).first ≡ true }
     requires together { Together queues.old (known (D.log disk.old)) }
-    ensures sound { IfOk result IsSound }
+    ensures sound { IfOk result IsSoundItem }
     ensures may_be_fed { IfOk result (λ item. MayBeFed at.now port place clock item) }
     ensures ended { OnOk result ((other : ℕ) → (face queues.new other).ended ≡ (face queues.old other).ended) }
     ensures faces { (other : ℕ) → other ≢ arc → face queues.new other ≡ face queues.old other }

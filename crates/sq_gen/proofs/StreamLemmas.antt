@@ -3,19 +3,19 @@ use Rattle.std.proofs.Common.{◌≡◌, ℕ, zero, suc, ◌+◌, List, [], ◌+
 use Rattle.std.specs.List.{flat_map, range_with_len}
 use Rattle.rand_pcg.specs.Lcg.{Lcg, advance, next, state_after}
 use Rattle.rand_pcg.specs.Pcg.{multiplier_64, output_xsh_rr, pcg32}
-use Rattle.sq_gen.specs.Files.{words_of, words_at, word_of, line_at, stream_of}
+use Rattle.sq_gen.specs.Files.{generator_words, words_at, word_of, line_at, stream_text}
 
 next-advance : (w m n : ℕ) (g : Lcg) → next w m (advance w m n g) ≡ advance w m (suc n) g
 unfolding state_after
 next-advance w m zero g = refl
 next-advance w m (suc n) g = next-advance w m n (next w m g)
 
-pub words_at-none : (number : ℕ) → words_at number 0 ≡ words_of number
+pub words_at-none : (number : ℕ) → words_at number 0 ≡ generator_words number
 unfolding state_after
 words_at-none number = refl
 
 words_at-more : (number k : ℕ) → next 64 multiplier_64 (words_at number k) ≡ words_at number (k + 1)
-words_at-more number k = rw add-one (next-advance 64 multiplier_64 k (words_of number))
+words_at-more number k = rw add-one (next-advance 64 multiplier_64 k (generator_words number))
 
 -- what the next word of a generator is, and what it leaves
 pub record Drawn (number k drawn : ℕ) (left : Lcg) : Type 0 where
@@ -34,11 +34,11 @@ flat_map-more f a (suc n) j e =
     ap (λ l. f a ++ l) (flat_map-more f (a + 1) n j (omega arith))
     ∙ sym (append_assoc (f a) (flat_map f (range_with_len (a + 1) n)) (f j))
 
-pub stream_of-none : (number : ℕ) → stream_of number 0 ≡ []
-unfolding stream_of
+pub stream_of-none : (number : ℕ) → stream_text number 0 ≡ []
+unfolding stream_text
 stream_of-none number = refl
 
-pub stream_of-more : (number i : ℕ) → stream_of number (i + 1) ≡ stream_of number i ++ line_at number i
-unfolding stream_of
+pub stream_of-more : (number i : ℕ) → stream_text number (i + 1) ≡ stream_text number i ++ line_at number i
+unfolding stream_text
 stream_of-more number i =
-    ap (stream_of number) (add-one i) ∙ flat_map-more (line_at number) 0 i i (omega arith)
+    ap (stream_text number) (add-one i) ∙ flat_map-more (line_at number) 0 i i (omega arith)

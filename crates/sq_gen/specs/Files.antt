@@ -9,12 +9,12 @@ use Rattle.sq_gen.specs.declared.Made.{Made}
 use Rattle.sq_gen.specs.Network.{net_text}
 
 -- the generator of a number, before its first word
-abbrev pub words_of : ℕ → Lcg
-words_of number = started 64 multiplier_64 number (increment_of 64 1000001)
+abbrev pub generator_words : ℕ → Lcg
+generator_words number = started 64 multiplier_64 number (increment_of 64 1000001)
 
 -- the generator before word k, from 0
 abbrev pub words_at : ℕ → ℕ → Lcg
-words_at number k = advance 64 multiplier_64 k (words_of number)
+words_at number k = advance 64 multiplier_64 k (generator_words number)
 
 abbrev pub word_of : ℕ → ℕ → ℕ
 word_of number k = output_xsh_rr (words_at number k).state
@@ -43,12 +43,12 @@ abbrev pub line_at : ℕ → ℕ → List ℕ
 line_at number i = trade_line i (word_of number (2 * i)) (word_of number (2 * i + 1))
 
 -- the lines 0, 1, .., rows - 1
-unfoldable pub stream_of : ℕ → ℕ → List ℕ
-stream_of number rows = flat_map (line_at number) (numbers_to rows)
+unfoldable pub stream_text : ℕ → ℕ → List ℕ
+stream_text number rows = flat_map (line_at number) (numbers_to rows)
 
 -- no limit in epoch 0, and one that is too small from epoch 1 on
 unfoldable pub capacities_text : List ℕ
 capacities_text = codes "1,12000000000\n"
 
 abbrev pub made_of : ℕ → ℕ → Made
-made_of number rows = record { net = net_text; stream = stream_of number rows; capacities = capacities_text }
+made_of number rows = record { net = net_text; stream = stream_text number rows; capacities = capacities_text }

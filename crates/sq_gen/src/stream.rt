@@ -1,7 +1,7 @@
 // The lines of the stream.
 ghost use Rattle.std.specs.Prelude.{◌≡◌, ◌≤◌, ◌<◌, ◌∷◌, ◌++◌, [], IfOk, OnOk, codes};
 ghost use Rattle.std.specs.Fmt.{decimal};
-ghost use Rattle.sq_gen.specs.Files.{stream_of, trade_line, two_digits};
+ghost use Rattle.sq_gen.specs.Files.{stream_text, trade_line, two_digits};
 
 use itoa::Buffer;
 use rand_core::utils::NextWord;
@@ -15,9 +15,9 @@ const STREAM: u64 = 1_000_001;
 const LINE: usize = 23;
 
 /// The lines of a number's stream.
-pub(crate) fn stream_of(alloc: Global, number: u64, rows: u32) -> Result<Vec<u8>, AllocError>
+pub(crate) fn stream_text(alloc: Global, number: u64, rows: u32) -> Result<Vec<u8>, AllocError>
     requires { rows ≤ 1000000 }
-    ensures { IfOk result (λ text. text.items ≡ stream_of number rows) }
+    ensures { IfOk result (λ text. text.items ≡ stream_text number rows) }
 {
     let mut words = Lcg64Xsh32::new(number, STREAM);
     let mut text = Vec::with_capacity(alloc, LINE * rows as usize)?;

@@ -17,7 +17,7 @@ IsBody None = Unit {0}
 IsBody (Some fields) = (1 ≤ length fields) × (length fields ≤ 16)
 
 -- its time is a tick, and it has a mark or a tuple
-pub record IsSound (item : Item) : Type 0 where
+pub record IsSoundItem (item : Item) : Type 0 where
   pub tick : item.time < 2 ^ 40
   pub some : (is_some item.mark || is_some item.body) ≡ true
   pub mark : IsMark item.mark

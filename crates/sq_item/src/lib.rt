@@ -7,7 +7,7 @@
 #![tactic(auto)]
 
 ghost use Rattle.std.specs.Prelude.{◌≡◌, ◌≤◌, IfOk, None, Some, is_some, length};
-ghost use Rattle.sq_item.specs.Sound.{IsSound, IsMark};
+ghost use Rattle.sq_item.specs.Sound.{IsSoundItem, IsMark};
 ghost use Rattle.sq_item.specs.Words.{values_of};
 
 use sq_value::{Fields, Value, copy_fields};
@@ -169,9 +169,9 @@ fn copy_body(body: &Body) -> Result<Body, AllocError>
 
 /// A copy of an item.
 pub fn copy_item(item: &Item) -> Result<Item, AllocError>
-    requires { IsSound item.now }
+    requires { IsSoundItem item.now }
     ensures copy { IfOk result (λ copy. copy ≡ item.now) }
-    ensures sound { IfOk result (λ copy. IsSound copy) }
+    ensures sound { IfOk result (λ copy. IsSoundItem copy) }
 {
     let body = copy_body(&item.body)?;
     Ok(Item {

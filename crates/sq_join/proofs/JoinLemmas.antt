@@ -11,7 +11,7 @@ use Rattle.sq_expr.specs.Trees.{Expr}
 use Rattle.sq_expr.specs.Expressions.{holds_of, pair_of}
 use Rattle.sq_item.specs.declared.Mark.{Mark}
 use Rattle.sq_item.specs.declared.Item.{Item}
-use Rattle.sq_item.specs.Sound.{IsSound}
+use Rattle.sq_item.specs.Sound.{IsSoundItem}
 use Rattle.sq_item.specs.Things.{Thing, mark_part, body_part}
 use Rattle.sq_lists.specs.Pairs.{pairs_from, join_list_of}
 use Rattle.sq_lists.specs.Sides.{held_of, recent, pair_at, pairs_with, against, left_with, right_with, AllNear}
@@ -88,7 +88,7 @@ times-with on side x (y ∷ ys) early =
 -- ---- a tuple is fed
 
 module _ (size : ℕ) (on : Expr) (columns : Columns) (left right : List Tuple) (place : Place) (port : ℕ) (item : Item) (fields : List Value) (is : item.body ≡ Some fields)
-    (sound : IsSound item) (may : IsFuture unmarked (join_fits columns) place (entries port item))
+    (sound : IsSoundItem item) (may : IsFuture unmarked (join_fits columns) place (entries port item))
     (held-left : IsSide (most_at columns 0) (time_of place) left) (held-right : IsSide (most_at columns 1) (time_of place) right) where
   abbrev fed : Tuple
   fed = tuple_at item.time fields

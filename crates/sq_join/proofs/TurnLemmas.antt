@@ -7,54 +7,54 @@ use Rattle.sq_value.specs.declared.Tuple.{Tuple}
 use Rattle.sq_value.specs.Lists.{insert_by, sort_by}
 use Rattle.sq_value.specs.Values.{Columns}
 use Rattle.sq_item.specs.Things.{Load, Sign, Body}
-use Rattle.sq_lists.specs.Merge.{earlier, merge}
+use Rattle.sq_lists.specs.Merge.{tuple_earlier, merge_tuples}
 use Rattle.sq_lists.specs.Sides.{on_side}
 use Rattle.sq_lists.proofs.AllLemmas.{All-weaker}
 use Rattle.sq_oper.specs.declared.tally.Place.{Place}
 use Rattle.sq_oper.specs.declared.tally.Place.TheVariants.{Start, At}
 use Rattle.sq_oper.specs.Entries.{Entry}
-use Rattle.sq_oper.specs.Order.{may_come, time_of, after, load_fits, InOrder, AllFit, unmarked, IsFuture}
+use Rattle.sq_oper.specs.Order.{may_come, time_of, moment_after, load_fits, InOrder, AllFit, unmarked, IsFuture}
 use Rattle.sq_oper.specs.Streams.{tuple_in}
 use Rattle.sq_oper.proofs.StreamLemmas.{may-come-time}
 use Rattle.sq_oper.proofs.FedLemmas.{tuple_entry}
-use Rattle.sq_join.specs.Elements.{Element, elements_of, side_of, TwoSides, InTurn, port_of}
+use Rattle.sq_join.specs.Elements.{Element, elements_of, side_of, TwoSides, InTurn, moment_port}
 use Rattle.sq_join.specs.Sides.{most_at, join_fits}
 
 -- ---- the merge
 
-swap-by : (a x y : Element) (ys : List Element) → (x.1).time < (a.1).time → insert_by earlier a (insert_by earlier x ys) ≡ insert_by earlier x (insert_by earlier a ys)
-    → (b c : Bool) → earlier y x ≡ b → earlier y a ≡ c
-    → insert_by earlier a (insert_by earlier x (y ∷ ys)) ≡ insert_by earlier x (insert_by earlier a (y ∷ ys))
+swap-by : (a x y : Element) (ys : List Element) → (x.1).time < (a.1).time → insert_by tuple_earlier a (insert_by tuple_earlier x ys) ≡ insert_by tuple_earlier x (insert_by tuple_earlier a ys)
+    → (b c : Bool) → tuple_earlier y x ≡ b → tuple_earlier y a ≡ c
+    → insert_by tuple_earlier a (insert_by tuple_earlier x (y ∷ ys)) ≡ insert_by tuple_earlier x (insert_by tuple_earlier a (y ∷ ys))
 swap-by a x y ys lt ih true true eb ec = simp (eb, ec, ih)
 swap-by a x y ys lt ih true false eb ec = absurd (grind (arith, tests))
 swap-by a x y ys lt ih false true eb ec =
-    let first : earlier x a ≡ true = grind (arith, tests) in
+    let first : tuple_earlier x a ≡ true = grind (arith, tests) in
     simp (eb, ec, first)
 swap-by a x y ys lt ih false false eb ec =
-    let first : earlier x a ≡ true = grind (arith, tests) in
-    let second : earlier a x ≡ false = grind (arith, tests) in
+    let first : tuple_earlier x a ≡ true = grind (arith, tests) in
+    let second : tuple_earlier a x ≡ false = grind (arith, tests) in
     simp (eb, ec, first, second)
 
 -- a later one may be put in before an earlier one
-swap : (a x : Element) (ys : List Element) → (x.1).time < (a.1).time → insert_by earlier a (insert_by earlier x ys) ≡ insert_by earlier x (insert_by earlier a ys)
+swap : (a x : Element) (ys : List Element) → (x.1).time < (a.1).time → insert_by tuple_earlier a (insert_by tuple_earlier x ys) ≡ insert_by tuple_earlier x (insert_by tuple_earlier a ys)
 swap a x [] lt =
-    let first : earlier x a ≡ true = grind (arith, tests) in
-    let second : earlier a x ≡ false = grind (arith, tests) in
+    let first : tuple_earlier x a ≡ true = grind (arith, tests) in
+    let second : tuple_earlier a x ≡ false = grind (arith, tests) in
     simp (first, second)
-swap a x (y ∷ ys) lt = swap-by a x y ys lt (swap a x ys lt) (earlier y x) (earlier y a) refl refl
+swap a x (y ∷ ys) lt = swap-by a x y ys lt (swap a x ys lt) (tuple_earlier y x) (tuple_earlier y a) refl refl
 
 put-behind : (left : List Tuple) (x : Element) (more : List Element) → AllByRecursion (λ a. (x.1).time < a.time) left
-    → sort_by earlier (on_side 0 left ++ x ∷ more) ≡ insert_by earlier x (sort_by earlier (on_side 0 left ++ more))
+    → sort_by tuple_earlier (on_side 0 left ++ x ∷ more) ≡ insert_by tuple_earlier x (sort_by tuple_earlier (on_side 0 left ++ more))
 put-behind [] x more all = refl
 put-behind (a ∷ left) x more all =
-    ap (insert_by earlier (0, a)) (put-behind left x more all.1) ∙ swap (0, a) x (sort_by earlier (on_side 0 left ++ more)) all.0
+    ap (insert_by tuple_earlier (0, a)) (put-behind left x more all.1) ∙ swap (0, a) x (sort_by tuple_earlier (on_side 0 left ++ more)) all.0
 
-insert-first : (side : ℕ) (x : Tuple) (es : List Element) → InTurn x.time side es → insert_by earlier (side, x) es ≡ (side, x) ∷ es
+insert-first : (side : ℕ) (x : Tuple) (es : List Element) → InTurn x.time side es → insert_by tuple_earlier (side, x) es ≡ (side, x) ∷ es
 insert-first side x [] turn = refl
 insert-first side x (e ∷ es) turn =
     let le = turn.0.0 in
-    let e' : earlier e (side, x) ≡ false = grind (arith, tests) in
-    ap (λ b. if b then e ∷ insert_by earlier (side, x) es else (side, x) ∷ e ∷ es) e'
+    let e' : tuple_earlier e (side, x) ≡ false = grind (arith, tests) in
+    ap (λ b. if b then e ∷ insert_by tuple_earlier (side, x) es else (side, x) ∷ e ∷ es) e'
 
 -- elements in turn come at a time or later
 pub turn-since : (t side : ℕ) (es : List Element) → InTurn t side es → AllByRecursion (λ (e : Element). t ≤ (e.1).time) es
@@ -99,20 +99,20 @@ left-later : (t : ℕ) (es : List Element) → InTurn t 1 es → TwoSides es →
 left-later t [] turn two = tt
 left-later t (e ∷ es) turn two = left-by t e es two.0 turn.0 turn.1 (left-later (e.1).time es) two.1
 
-merged-by : (side : ℕ) (x : Tuple) (es : List Element) → (side ≡ 0) ⊎ (side ≡ 1) → InTurn x.time side es → TwoSides es → merge (side_of 0 es ∷ side_of 1 es ∷ []) ≡ es
-    → merge (side_of 0 ((side, x) ∷ es) ∷ side_of 1 ((side, x) ∷ es) ∷ []) ≡ (side, x) ∷ es
+merged-by : (side : ℕ) (x : Tuple) (es : List Element) → (side ≡ 0) ⊎ (side ≡ 1) → InTurn x.time side es → TwoSides es → merge_tuples (side_of 0 es ∷ side_of 1 es ∷ []) ≡ es
+    → merge_tuples (side_of 0 ((side, x) ∷ es) ∷ side_of 1 ((side, x) ∷ es) ∷ []) ≡ (side, x) ∷ es
 merged-by side x es (inl is) more two ih =
     let more' : InTurn x.time 0 es = subst (λ (p : ℕ). InTurn x.time p es) is more in
-    rw is (ap (insert_by earlier (0, x)) ih ∙ insert-first 0 x es more')
+    rw is (ap (insert_by tuple_earlier (0, x)) ih ∙ insert-first 0 x es more')
 merged-by side x es (inr is) more two ih =
     let more' : InTurn x.time 1 es = subst (λ (p : ℕ). InTurn x.time p es) is more in
     rw is
     (put-behind (side_of 0 es) (1, x) (on_side 1 (side_of 1 es) ++ []) (left-later x.time es more' two)
-    ∙ ap (insert_by earlier (1, x)) ih
+    ∙ ap (insert_by tuple_earlier (1, x)) ih
     ∙ insert-first 1 x es more')
 
 -- elements in turn are the merge of their sides
-pub merged : (t p : ℕ) (es : List Element) → InTurn t p es → TwoSides es → merge (side_of 0 es ∷ side_of 1 es ∷ []) ≡ es
+pub merged : (t p : ℕ) (es : List Element) → InTurn t p es → TwoSides es → merge_tuples (side_of 0 es ∷ side_of 1 es ∷ []) ≡ es
 merged t p [] turn two = refl
 merged t p (e ∷ es) turn two = merged-by e.0 e.1 es two.0 turn.1 two.1 (merged (e.1).time e.0 es turn.1 two.1)
 
@@ -125,24 +125,24 @@ at-once t u p q false true false e e' e'' h same = cc
 at-once t u p q false false d e e' e'' h same = cc
 
 turn-of : (place : Place) (port time : ℕ) (fields : List Value) → IsTrue (may_come place (tuple_entry port time fields))
-    → (time_of place ≤ time) × (time_of place ≡ time → port_of place ≤ port)
+    → (time_of place ≤ time) × (time_of place ≡ time → moment_port place ≤ port)
 turn-of Start port time fields h = (zero-le, (λ same. zero-le))
 turn-of (At t p m) port time fields h =
     (may-come-time (At t p m) (tuple_entry port time fields) h, (λ same. at-once t time p port (nat_lt t time) (t == time) (nat_le p port) refl refl refl h same))
 
 load-turn : (fits : ℕ → List Value → Bool) (place : Place) (port time : ℕ) (load : Load) (es : List Element)
     → IsTrue (may_come place (record { port = port; thing = record { time = time; load = load } })) → IsTrue (load_fits unmarked fits port load) → InTurn time port es
-    → InTurn (time_of place) (port_of place) (on_side port (tuple_in time load) ++ es)
+    → InTurn (time_of place) (moment_port place) (on_side port (tuple_in time load) ++ es)
 load-turn fits place port time (Sign m) es may fit turn = absurd (let e : ⊥ = cc in e)
 load-turn fits place port time (Body fields) es may fit turn = (turn-of place port time fields may, turn)
 
-elements-turn : (fits : ℕ → List Value → Bool) (place : Place) (future : List Entry) → InOrder place future → AllFit unmarked fits future → InTurn (time_of place) (port_of place) (elements_of future)
+elements-turn : (fits : ℕ → List Value → Bool) (place : Place) (future : List Entry) → InOrder place future → AllFit unmarked fits future → InTurn (time_of place) (moment_port place) (elements_of future)
 elements-turn fits place [] order fit = tt
 elements-turn fits place (e ∷ es) order fit =
-    load-turn fits place e.port e.thing.time e.thing.load (elements_of es) order.0 fit.0 (elements-turn fits (after place e) es order.1 fit.1)
+    load-turn fits place e.port e.thing.time e.thing.load (elements_of es) order.0 fit.0 (elements-turn fits (moment_after place e) es order.1 fit.1)
 
 -- the elements of a future come in turn
-pub future-turn : (fits : ℕ → List Value → Bool) (place : Place) (future : List Entry) → IsFuture unmarked fits place future → InTurn (time_of place) (port_of place) (elements_of future)
+pub future-turn : (fits : ℕ → List Value → Bool) (place : Place) (future : List Entry) → IsFuture unmarked fits place future → InTurn (time_of place) (moment_port place) (elements_of future)
 future-turn fits place future h = elements-turn fits place future h.in_order h.fitting
 
 which-side : (port : ℕ) (b c : Bool) → nat_le port 1 ≡ b → IsTrue (b && c) → (port ≡ 0) ⊎ (port ≡ 1)

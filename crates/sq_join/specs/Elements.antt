@@ -11,7 +11,7 @@ use Rattle.sq_oper.specs.Streams.{tuple_in}
 
 -- a side and a tuple; side 0 is the left one
 abbrev pub Element : Type 0
-Element = whole.Entry
+Element = whole.PortTuple
 
 abbrev pub elements_of : List Entry → List Element
 elements_of [] = []
@@ -31,6 +31,6 @@ InTurn time side [] = Unit {0}
 InTurn time side (e ∷ es) = ((time ≤ (e.1).time) × (time ≡ (e.1).time → side ≤ e.0)) × InTurn (e.1).time e.0 es
 
 -- the port of the last item, 0 before the first
-abbrev pub port_of : Place → ℕ
-port_of Start = 0
-port_of (At time port marked) = port
+abbrev pub moment_port : Place → ℕ
+moment_port Start = 0
+moment_port (At time port marked) = port

@@ -9,7 +9,7 @@ use Rattle.sq_expr.specs.Trees.{Expr}
 use Rattle.sq_item.specs.Things.{Thing}
 use Rattle.sq_lists.specs.Pairs.{pairs_from}
 use Rattle.sq_lists.specs.Sides.{held_of}
-use Rattle.sq_lists.specs.WindowParts.{NotFalling}
+use Rattle.sq_lists.specs.WindowParts.{TimesNotFalling}
 use Rattle.sq_oper.specs.Entries.{Entry}
 use Rattle.sq_oper.specs.Streams.{things, at_zero}
 use Rattle.sq_join.specs.Elements.{elements_of}
@@ -31,7 +31,7 @@ join_fits columns port fields = nat_le port 1 && nat_le (length fields) (most_at
 
 -- what is held of a side: in order of time, none later than a time, each with at least one value and not too many
 pub record IsSide (most now : ℕ) (xs : List Tuple) : Type 0 where
-  pub rises : NotFalling 0 xs
+  pub rises : TimesNotFalling 0 xs
   pub early : AllByRecursion (λ x. x.time ≤ now) xs
   pub some : AllByRecursion (λ x. 1 ≤ length x.fields) xs
   pub few : AllByRecursion (λ x. length x.fields ≤ most) xs

@@ -22,7 +22,7 @@ use Rattle.sq_keys.specs.Words.{asked_in}
 use Rattle.sq_keys.specs.Keys.{cuts_asked}
 use Rattle.sq_keys.specs.Lines.{is_lost, keys_text}
 use Rattle.sq_keys.specs.Answers.{Says, Refuses, by_network}
-use Rattle.sq_keys.specs.Messages.{message_of}
+use Rattle.sq_keys.specs.Messages.{keys_message}
 
 abbrev pair : List ℕ → List ℕ → Pair
 pair source field = record { source = source; field = field }
@@ -147,9 +147,9 @@ answer_bad_key = refl
 answer_bad_network : by_network (record { on_time = true; net = codes "a"; pairs = [] }) (Err net.Toml) ≡ Refuses (status.BadNetwork net.Toml)
 answer_bad_network = refl
 
-message_key : message_of (status.BadKey 2 why.Twice) ≡ codes "aurora_keys: key 2: Twice\n"
+message_key : keys_message (status.BadKey 2 why.Twice) ≡ codes "aurora_keys: key 2: Twice\n"
 unfolding digits
 message_key = refl
 
-message_network : message_of (status.BadNetwork net.Version) ≡ codes "aurora_keys: network: Version\n"
+message_network : keys_message (status.BadNetwork net.Version) ≡ codes "aurora_keys: network: Version\n"
 message_network = refl

@@ -11,24 +11,24 @@ use Rattle.sq_keys.specs.Keys.{cuts_asked}
 use Rattle.sq_keys.specs.Lines.{is_lost, keys_text}
 
 -- a text, and whether an output is lost; or the status of the first rule that is broken
-pub data Answer : Type 0 where
-  Says : (text : List ℕ) (lost : Bool) → Answer
-  Refuses : (broken : Status) → Answer
+pub data Reply : Type 0 where
+  Says : (text : List ℕ) (lost : Bool) → Reply
+  Refuses : (broken : Status) → Reply
 
-abbrev pub by_cuts : Asked → Network → Result (List (Option ℕ)) (ℕ × KeyWhy) → Answer
+abbrev pub by_cuts : Asked → Network → Result (List (Option ℕ)) (ℕ × KeyWhy) → Reply
 by_cuts a n (Ok by) = Says (keys_text n by a.on_time) (is_lost n by a.on_time)
 by_cuts a n (Err bad) = Refuses (status.BadKey bad.0 bad.1)
 
-abbrev pub by_network : Asked → Result Network NetErr → Answer
+abbrev pub by_network : Asked → Result Network NetErr → Reply
 by_network a (Ok n) = by_cuts a n (cuts_asked n.sources a.pairs)
 by_network a (Err e) = Refuses (status.BadNetwork e)
 
-abbrev pub answer_of : Asked → List ℕ → Answer
-answer_of a bytes = by_network a (network_in bytes)
+abbrev pub reply_of : Asked → List ℕ → Reply
+reply_of a bytes = by_network a (network_in bytes)
 
-abbrev pub status_of : Bool → Status
-status_of lost = if lost then status.Lost else status.Ok
+abbrev pub lost_status : Bool → Status
+lost_status lost = if lost then status.Lost else status.Ok
 
 -- the status of a refusal, or memory ran out
-abbrev pub IsRefused : Answer → Status → Type 0
+abbrev pub IsRefused : Reply → Status → Type 0
 IsRefused answer result = (answer ≡ Refuses result) ⊎ (result ≡ status.Memory)

@@ -7,20 +7,20 @@ use Rattle.sq_outside.specs.Sinks.{AppendsPrefix, appended}
 use Rattle.sq_keys.specs.declared.Asked.{Asked}
 use Rattle.sq_keys.specs.declared.Status.{Status}
 use Rattle.sq_keys.specs.declared.Status.TheVariants as status
-use Rattle.sq_keys.specs.Answers.{Answer, Says, Refuses, answer_of, status_of}
-use Rattle.sq_keys.specs.Messages.{message_of}
+use Rattle.sq_keys.specs.Answers.{Reply, Says, Refuses, reply_of, lost_status}
+use Rattle.sq_keys.specs.Messages.{keys_message}
 
 -- how many bytes a network file may have
 abbrev pub network_limit : ℕ
 network_limit = 1048576
 
 -- P of the files, where they are told
-abbrev pub WhereTold : Option Files → (Files → Type 0) → Type 0
-WhereTold None P = ⊤
-WhereTold (Some files) P = P files
+abbrev pub WhereFilesTold : Option Files → (Files → Type 0) → Type 0
+WhereFilesTold None P = ⊤
+WhereFilesTold (Some files) P = P files
 
 -- the folder and the output, before a call and after it
-pub record World : Type 0 where
+pub record Surroundings : Type 0 where
   pub told : Option Files
   pub folder_before : ℕ
   pub folder_now : ℕ
@@ -36,23 +36,23 @@ pub record World : Type 0 where
 -- the file of this name was read, and nothing else, and these are its bytes
 abbrev pub IsReadAs : Option Files → List (List ℕ × List ℕ) → List (List ℕ × List ℕ) → List ℕ → List ℕ → Type 0
 IsReadAs told before now name bytes =
-    (length bytes ≤ network_limit) × WhereTold told (λ files. file files name ≡ Some bytes) × (now ≡ before ++ (name, bytes) ∷ [])
+    (length bytes ≤ network_limit) × WhereFilesTold told (λ files. file files name ≡ Some bytes) × (now ≡ before ++ (name, bytes) ∷ [])
 
 -- why the file of this name wasn't read
 abbrev pub IsUnreadAs : Option Files → ℕ → ℕ → ℕ → ℕ → List ℕ → Status → Type 0
 IsUnreadAs told faults_before faults_now taken_before taken_now name result =
     (result ≡ status.Memory)
     ⊎ ((result ≡ status.FolderFault name) × (Rose faults_before faults_now ⊎ IsSomeAnd told (λ files. file files name ≡ None)))
-    ⊎ ((result ≡ status.TooLong name) × RoseBy (network_limit + 1) taken_before taken_now × WhereTold told (λ files. IsLonger files name network_limit))
+    ⊎ ((result ≡ status.TooLong name) × RoseBy (network_limit + 1) taken_before taken_now × WhereFilesTold told (λ files. IsLonger files name network_limit))
 
-abbrev pub IsRead : List ℕ → List ℕ → World → Type 0
-IsRead name bytes w = IsReadAs w.told w.read_before w.read_now name bytes
+abbrev pub IsNetRead : List ℕ → List ℕ → Surroundings → Type 0
+IsNetRead name bytes w = IsReadAs w.told w.read_before w.read_now name bytes
 
-abbrev pub IsUnread : List ℕ → World → Status → Type 0
-IsUnread name w result = IsUnreadAs w.told w.folder_before w.folder_now w.taken_before w.taken_now name result
+abbrev pub IsNetUnread : List ℕ → Surroundings → Status → Type 0
+IsNetUnread name w result = IsUnreadAs w.told w.folder_before w.folder_now w.taken_before w.taken_now name result
 
 -- the folder isn't called
-pub record IsUncalled (w : World) : Type 0 where
+pub record IsUncalled (w : Surroundings) : Type 0 where
   pub faults : w.folder_now ≡ w.folder_before
   pub taken : w.taken_now ≡ w.taken_before
   pub read : w.read_now ≡ w.read_before
@@ -60,21 +60,21 @@ pub record IsUncalled (w : World) : Type 0 where
 -- a text is written whole, or a part of it where the output failed
 abbrev pub WritesText : List ℕ → Bool → Option (List ℕ) → Option (List ℕ) → ℕ → ℕ → Status → Type 0
 WritesText text lost before now faults_before faults_now result =
-    ((result ≡ status_of lost) × (now ≡ appended before text))
+    ((result ≡ lost_status lost) × (now ≡ appended before text))
     ⊎ ((result ≡ status.SinkFault) × Rose faults_before faults_now × AppendsPrefix before now text)
 
 -- how a call ends of which this is the answer: its text is written, or memory ran out; at a refusal nothing is written
-abbrev pub EndsBy : Answer → World → Status → Type 0
+abbrev pub EndsBy : Reply → Surroundings → Status → Type 0
 EndsBy (Says text lost) w result =
     WritesText text lost w.out_before w.out_now w.sink_before w.sink_now result
     ⊎ ((result ≡ status.Memory) × (w.out_now ≡ w.out_before))
 EndsBy (Refuses broken) w result = ((result ≡ broken) ⊎ (result ≡ status.Memory)) × (w.out_now ≡ w.out_before)
 
-abbrev pub Ends : Option Asked → World → Status → Type 0
-Ends None w result = ((result ≡ status.Usage) ⊎ (result ≡ status.Memory)) × IsUncalled w × (w.out_now ≡ w.out_before)
-Ends (Some a) w result =
-    (IsUnread a.net w result × (w.read_now ≡ w.read_before) × (w.out_now ≡ w.out_before))
-    ⊎ ((bytes : List ℕ) × IsRead a.net bytes w × (w.folder_now ≡ w.folder_before) × EndsBy (answer_of a bytes) w result)
+abbrev pub KeysEnds : Option Asked → Surroundings → Status → Type 0
+KeysEnds None w result = ((result ≡ status.Usage) ⊎ (result ≡ status.Memory)) × IsUncalled w × (w.out_now ≡ w.out_before)
+KeysEnds (Some a) w result =
+    (IsNetUnread a.net w result × (w.read_now ≡ w.read_before) × (w.out_now ≡ w.out_before))
+    ⊎ ((bytes : List ℕ) × IsNetRead a.net bytes w × (w.folder_now ≡ w.folder_before) × EndsBy (reply_of a bytes) w result)
 
 -- a sink that told what it held tells it still, with a text appended of which P holds
 abbrev pub AppendsSuch : Option (List ℕ) → Option (List ℕ) → (List ℕ → Type 0) → Type 0
@@ -82,5 +82,5 @@ AppendsSuch None now P = now ≡ None
 AppendsSuch (Some before) now P = (text : List ℕ) × (now ≡ Some (before ++ text)) × P text
 
 -- the message: whole, or a part of it where the sink for messages has failed
-abbrev pub TellsStatus : ℕ → ℕ → Status → List ℕ → Type 0
-TellsStatus before now result text = (text ≡ message_of result) ⊎ (Rose before now × IsPrefixOf text (message_of result))
+abbrev pub TellsKeysStatus : ℕ → ℕ → Status → List ℕ → Type 0
+TellsKeysStatus before now result text = (text ≡ keys_message result) ⊎ (Rose before now × IsPrefixOf text (keys_message result))

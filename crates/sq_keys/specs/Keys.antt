@@ -17,23 +17,23 @@ source_named sources name = find (λ s. same_bytes s.name name) sources
 abbrev pub column_named : Columns → List ℕ → Option ℕ
 column_named columns name = position (same_bytes name) (names_of columns)
 
-abbrev pub pair_of : List Pair → List ℕ → Option Pair
-pair_of pairs source = find (λ p. same_bytes p.source source) pairs
+abbrev pub pair_named : List Pair → List ℕ → Option Pair
+pair_named pairs source = find (λ p. same_bytes p.source source) pairs
 
-abbrev pub is_named : List Pair → List ℕ → Bool
-is_named pairs source = list_any (λ p. same_bytes p.source source) pairs
+abbrev pub is_paired : List Pair → List ℕ → Bool
+is_paired pairs source = list_any (λ p. same_bytes p.source source) pairs
 
 abbrev pub no_field : Option ℕ → Option KeyWhy
 no_field None = Some why.NoField
 no_field (Some column) = None
 
 -- the first rule that a pair breaks, where its source is this and these pairs stand before it
-abbrev pub why_of : Option Source → List Pair → Pair → Option KeyWhy
-why_of None before p = Some why.NoSource
-why_of (Some s) before p = if is_named before p.source then Some why.Twice else no_field (column_named s.schema p.field)
+abbrev pub key_why : Option Source → List Pair → Pair → Option KeyWhy
+key_why None before p = Some why.NoSource
+key_why (Some s) before p = if is_paired before p.source then Some why.Twice else no_field (column_named s.schema p.field)
 
 abbrev pub why_bad : List Source → List Pair → Pair → Option KeyWhy
-why_bad sources before p = why_of (source_named sources p.source) before p
+why_bad sources before p = key_why (source_named sources p.source) before p
 
 abbrev pub or_later : ℕ → Option KeyWhy → Option (ℕ × KeyWhy) → Option (ℕ × KeyWhy)
 or_later key None later = later
@@ -50,7 +50,7 @@ column_by s (Some p) = column_named s.schema p.field
 
 -- the column that the pairs name for a source, or none
 abbrev pub column_for : List Pair → Source → Option ℕ
-column_for pairs s = column_by s (pair_of pairs s.name)
+column_for pairs s = column_by s (pair_named pairs s.name)
 
 abbrev pub unless_bad : Option (ℕ × KeyWhy) → List (Option ℕ) → Result (List (Option ℕ)) (ℕ × KeyWhy)
 unless_bad None by = Ok by
@@ -61,6 +61,6 @@ abbrev pub cuts_asked : List Source → List Pair → Result (List (Option ℕ))
 cuts_asked sources pairs = unless_bad (first_bad sources [] pairs) (map (column_for pairs) sources)
 
 -- the first pair that breaks a rule, or memory ran out
-abbrev pub IsBad : Result (List (Option ℕ)) (ℕ × KeyWhy) → KeysErr → Type 0
-IsBad said (keys.Bad key w) = said ≡ Err (key, w)
-IsBad said keys.Memory = ⊤
+abbrev pub IsBadKey : Result (List (Option ℕ)) (ℕ × KeyWhy) → KeysErr → Type 0
+IsBadKey said (keys.Bad key w) = said ≡ Err (key, w)
+IsBadKey said keys.Memory = ⊤

@@ -11,7 +11,7 @@ use Rattle.sq_net.specs.declared.Output.{Output}
 use Rattle.sq_net.specs.Streams.{columns_of_stream}
 use Rattle.sq_shard.specs.declared.Cut.{Cut}
 use Rattle.sq_shard.specs.declared.Cut.TheVariants.{Whole, By}
-use Rattle.sq_shard.specs.Keys.{cut_at, cuts_of, is_known, loses_key}
+use Rattle.sq_shard.specs.Keys.{cut_at, cuts_of, is_known_cut, loses_key}
 
 abbrev pub names_given : Option Columns → List (List ℕ)
 names_given None = []
@@ -30,17 +30,17 @@ cut_text names (By []) = codes ",lost"
 cut_text names (By (c ∷ columns)) = codes ",cut" ++ flat_map (column_text names) (c ∷ columns)
 
 -- NAME,whole or NAME,cut,COL.. or NAME,lost
-abbrev pub output_line : Network → List Cut → Output → ℕ → List ℕ
-output_line n cuts o stream = o.name ++ (cut_text (names_at n stream) (cut_at cuts stream) ++ codes "\n")
+abbrev pub keys_line : Network → List Cut → Output → ℕ → List ℕ
+keys_line n cuts o stream = o.name ++ (cut_text (names_at n stream) (cut_at cuts stream) ++ codes "\n")
 
 abbrev pub output_lines : Network → List Cut → List Output → List ℕ → List ℕ
 output_lines n cuts [] streams = []
 output_lines n cuts (o ∷ os) [] = []
-output_lines n cuts (o ∷ os) (s ∷ ss) = output_line n cuts o s ++ output_lines n cuts os ss
+output_lines n cuts (o ∷ os) (s ∷ ss) = keys_line n cuts o s ++ output_lines n cuts os ss
 
 -- whether nothing is known of one of these streams in a part
 abbrev pub some_lost : List Cut → List ℕ → Bool
-some_lost cuts streams = list_any (λ s. not (is_known (cut_at cuts s))) streams
+some_lost cuts streams = list_any (λ s. not (is_known_cut (cut_at cuts s))) streams
 
 abbrev pub kind_text : Body → List ℕ
 kind_text (Filter preds) = codes "filter"

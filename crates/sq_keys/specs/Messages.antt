@@ -7,31 +7,31 @@ use Rattle.sq_keys.specs.declared.KeyWhy.TheVariants as why
 use Rattle.sq_keys.specs.declared.Status.{Status}
 use Rattle.sq_keys.specs.declared.Status.TheVariants as status
 
-abbrev pub why_text : KeyWhy → List ℕ
-why_text why.NoSource = codes "NoSource"
-why_text why.Twice = codes "Twice"
-why_text why.NoField = codes "NoField"
+abbrev pub key_why_text : KeyWhy → List ℕ
+key_why_text why.NoSource = codes "NoSource"
+key_why_text why.Twice = codes "Twice"
+key_why_text why.NoField = codes "NoField"
 
 -- the line of a status; Ok and Lost have none
-abbrev pub message_of : Status → List ℕ
-message_of status.Ok = []
-message_of status.Lost = []
-message_of status.Usage = codes "aurora_keys: usage: aurora_keys [--on-time] NET SOURCE=FIELD..\n"
-message_of (status.BadNetwork e) = codes "aurora_keys: network: " ++ (refusal_text e ++ codes "\n")
-message_of (status.FolderFault name) = codes "aurora_keys: cannot read " ++ (name ++ codes "\n")
-message_of status.SinkFault = codes "aurora_keys: output failed\n"
-message_of (status.TooLong name) = codes "aurora_keys: file too long: " ++ (name ++ codes "\n")
-message_of status.Memory = codes "aurora_keys: out of memory\n"
-message_of (status.BadKey key w) = codes "aurora_keys: key " ++ (decimal key ++ (codes ": " ++ (why_text w ++ codes "\n")))
+abbrev pub keys_message : Status → List ℕ
+keys_message status.Ok = []
+keys_message status.Lost = []
+keys_message status.Usage = codes "aurora_keys: usage: aurora_keys [--on-time] NET SOURCE=FIELD..\n"
+keys_message (status.BadNetwork e) = codes "aurora_keys: network: " ++ (refusal_text e ++ codes "\n")
+keys_message (status.FolderFault name) = codes "aurora_keys: cannot read " ++ (name ++ codes "\n")
+keys_message status.SinkFault = codes "aurora_keys: output failed\n"
+keys_message (status.TooLong name) = codes "aurora_keys: file too long: " ++ (name ++ codes "\n")
+keys_message status.Memory = codes "aurora_keys: out of memory\n"
+keys_message (status.BadKey key w) = codes "aurora_keys: key " ++ (decimal key ++ (codes ": " ++ (key_why_text w ++ codes "\n")))
 
 -- the number with which the program ends
-abbrev pub code_of : Status → ℕ
-code_of status.Ok = 0
-code_of status.Lost = 1
-code_of status.Usage = 2
-code_of (status.BadNetwork e) = 3
-code_of (status.FolderFault name) = 7
-code_of status.SinkFault = 10
-code_of (status.TooLong name) = 11
-code_of status.Memory = 12
-code_of (status.BadKey key w) = 18
+abbrev pub keys_code : Status → ℕ
+keys_code status.Ok = 0
+keys_code status.Lost = 1
+keys_code status.Usage = 2
+keys_code (status.BadNetwork e) = 3
+keys_code (status.FolderFault name) = 7
+keys_code status.SinkFault = 10
+keys_code (status.TooLong name) = 11
+keys_code status.Memory = 12
+keys_code (status.BadKey key w) = 18

@@ -2,7 +2,7 @@
 ghost use Rattle.std.specs.Prelude.{◌≡◌, ◌≢◌, ◌<◌, ◌^◌, Ok, IfErr, IfOk, length};
 ghost use Rattle.sq_net.specs.declared.NetErr.TheVariants as net;
 ghost use Rattle.sq_net.specs.Sound.{IsSound};
-ghost use Rattle.sq_keys.specs.Answers.{IsRefused, Says, answer_of, by_network};
+ghost use Rattle.sq_keys.specs.Answers.{IsRefused, Says, reply_of, by_network};
 
 use crate::keys::cuts_asked;
 use crate::lines::keys_text;
@@ -33,8 +33,8 @@ fn answer_for(alloc: Global, asked: &Asked, n: &Network) -> Result<(Vec<u8>, boo
 // What is answered where these are the bytes of the network file: a text, and whether an output is lost.
 pub(crate) fn answer(alloc: Global, asked: &Asked, bytes: &[u8]) -> Result<(Vec<u8>, bool), Status>
     requires few { length asked.now.pairs < 2 ^ 32 }
-    ensures says { IfOk result (λ r. answer_of asked.now bytes.now ≡ Says r.0.items r.1) }
-    ensures refused { IfErr result (λ s. IsRefused (answer_of asked.now bytes.now) s) }
+    ensures says { IfOk result (λ r. reply_of asked.now bytes.now ≡ Says r.0.items r.1) }
+    ensures refused { IfErr result (λ s. IsRefused (reply_of asked.now bytes.now) s) }
     ensures no_memory { IfErr result (λ s. s ≢ Status.BadNetwork net.Memory) }
 {
     match read_network(alloc, bytes) {

@@ -3,7 +3,7 @@ ghost use Rattle.std.specs.Prelude.{◌≡◌, ◌+◌, ◌^◌, ◌<◌, Err, I
 ghost use Rattle.std.specs.List.{position};
 ghost use Rattle.std.specs.Option.{option_copied};
 ghost use Rattle.sq_value.specs.Lists.{same_bytes};
-ghost use Rattle.sq_keys.specs.Keys.{IsBad, column_by, column_for, column_named, cuts_asked, first_bad, is_named, pair_of, source_named, why_bad, why_of};
+ghost use Rattle.sq_keys.specs.Keys.{IsBadKey, column_by, column_for, column_named, cuts_asked, first_bad, is_paired, pair_named, source_named, why_bad, key_why};
 
 use crate::{KeyWhy, KeysErr, Pair};
 use sq_net::Source;
@@ -32,14 +32,14 @@ fn column_named(schema: &Schema, name: &str) -> Option<u32>
     }
 }
 
-fn pair_of<'a>(pairs: &'a [Pair], source: &str) -> Option<&'a Pair>
-    ensures { option_copied result ≡ pair_of pairs.now source.now }
+fn pair_named<'a>(pairs: &'a [Pair], source: &str) -> Option<&'a Pair>
+    ensures { option_copied result ≡ pair_named pairs.now source.now }
 {
     pairs.iter().find(|p| same_text(p.source.as_str(), source))
 }
 
-fn is_named(pairs: &[Pair], source: &str) -> bool
-    ensures { result ≡ is_named pairs.now source.now }
+fn is_paired(pairs: &[Pair], source: &str) -> bool
+    ensures { result ≡ is_paired pairs.now source.now }
 {
     pairs.iter().any(|p| same_text(p.source.as_str(), source))
 }
@@ -51,7 +51,7 @@ fn why_bad(sources: &[Source], before: &[Pair], pair: &Pair) -> Option<KeyWhy>
     let Some(source) = source_named(sources, pair.source.as_str()) else {
         return Some(KeyWhy::NoSource);
     };
-    if is_named(before, pair.source.as_str()) {
+    if is_paired(before, pair.source.as_str()) {
         return Some(KeyWhy::Twice);
     }
     match column_named(&source.schema, pair.field.as_str()) {
@@ -76,7 +76,7 @@ fn first_bad(sources: &[Source], pairs: &[Pair]) -> Option<(u32, KeyWhy)>
 fn column_for(pairs: &[Pair], source: &Source) -> Option<u32>
     ensures { result ≡ column_for pairs.now source.now }
 {
-    match pair_of(pairs, source.name.as_str()) {
+    match pair_named(pairs, source.name.as_str()) {
         Some(pair) => column_named(&source.schema, pair.field.as_str()),
         None => None,
     }
@@ -104,7 +104,7 @@ pub fn cuts_asked(
 ) -> Result<Vec<Option<u32>>, KeysErr>
     requires few { length pairs.now < 2 ^ 32 }
     ensures cuts { IfOk result (λ v. cuts_asked sources.now pairs.now ≡ Ok v.items) }
-    ensures bad { IfErr result (λ e. IsBad (cuts_asked sources.now pairs.now) e) }
+    ensures bad { IfErr result (λ e. IsBadKey (cuts_asked sources.now pairs.now) e) }
 {
     if let Some((key, why)) = first_bad(sources, pairs) {
         return Err(KeysErr::Bad { key, why });

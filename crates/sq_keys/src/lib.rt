@@ -10,8 +10,8 @@
 ghost use Rattle.std.specs.Prelude.{◌≡◌, ◌≢◌, ◌≤◌, map};
 ghost use Rattle.std.specs.String.{string_bytes};
 ghost use Rattle.sq_net.specs.declared.NetErr.TheVariants as net;
-ghost use Rattle.sq_keys.specs.Ends.{AppendsSuch, Ends, TellsStatus};
-ghost use Rattle.sq_keys.specs.Messages.{code_of};
+ghost use Rattle.sq_keys.specs.Ends.{AppendsSuch, KeysEnds, TellsKeysStatus};
+ghost use Rattle.sq_keys.specs.Messages.{keys_code};
 ghost use Rattle.sq_keys.specs.Words.{asked_in};
 
 mod answers;
@@ -102,7 +102,7 @@ pub enum Status {
 impl Status {
     /// The status with which the program ends.
     pub fn code(&self) -> u8
-        ensures { result ≡ code_of self.now }
+        ensures { result ≡ keys_code self.now }
     {
         match self {
             Status::Ok => 0,
@@ -127,7 +127,7 @@ pub fn run_keys<F: Folder, S: Sink, E: Sink>(
     err: &mut E,
 ) -> Status
     // By the bytes that the folder gave: the one read of this call, of the file that the words name.
-    ensures ends { Ends (asked_in (map string_bytes words.now.items)) (record {
+    ensures ends { KeysEnds (asked_in (map string_bytes words.now.items)) (record {
       told = F.files folder.old;
       folder_before = F.faults folder.old;
       folder_now = F.faults folder.new;
@@ -141,7 +141,7 @@ pub fn run_keys<F: Folder, S: Sink, E: Sink>(
       sink_now = S.faults out.new;
     })
         result }
-    ensures tells { AppendsSuch (E.written err.old) (E.written err.new) (TellsStatus (E.faults err.old) (E.faults err.new) result) }
+    ensures tells { AppendsSuch (E.written err.old) (E.written err.new) (TellsKeysStatus (E.faults err.old) (E.faults err.new) result) }
     ensures no_memory { result ≢ Status.BadNetwork net.Memory }
     ensures same_files { F.files folder.new ≡ F.files folder.old }
     ensures later { (F.faults folder.old ≤ F.faults folder.new) × (F.taken folder.old ≤ F.taken folder.new)

@@ -2,8 +2,8 @@
 ghost use Rattle.std.specs.Prelude.{◌≡◌, ◌<◌, ◌^◌, ◌++◌, IfOk, OnOk, Some, not, length, slice_index_or, []};
 ghost use Rattle.std.specs.List.{flat_map};
 ghost use Rattle.sq_net.specs.Sound.{IsSound};
-ghost use Rattle.sq_shard.specs.Keys.{cut_at, is_known};
-ghost use Rattle.sq_keys.specs.Lines.{box_text, column_text, cut_text, is_lost, keys_text, kind_text, loss_line, names_at, output_line, output_lines, some_lost};
+ghost use Rattle.sq_shard.specs.Keys.{cut_at, is_known_cut};
+ghost use Rattle.sq_keys.specs.Lines.{box_text, column_text, cut_text, is_lost, keys_text, kind_text, loss_line, names_at, keys_line, output_lines, some_lost};
 
 use sq_graph::{Giver, given_by};
 use sq_net::{Body, Network, Node, Output};
@@ -90,7 +90,7 @@ fn put_output(
     text: &mut Vec<u8>,
 ) -> Result<(), AllocError>
     requires few { length n.now.wires.boxes < 2 ^ 32 }
-    ensures { OnOk result (text.new.items ≡ text.old.items ++ output_line n.now cuts.now output.now stream) }
+    ensures { OnOk result (text.new.items ≡ text.old.items ++ keys_line n.now cuts.now output.now stream) }
 {
     text.extend_from_slice(output.name.as_str().as_bytes())?;
     put_cut_of(n, cuts, stream, text)?;
@@ -118,7 +118,7 @@ fn put_outputs(
 }
 
 fn is_stream_lost(cuts: &[Cut], stream: u32) -> bool
-    ensures { result ≡ not (is_known (cut_at cuts.now stream)) }
+    ensures { result ≡ not (is_known_cut (cut_at cuts.now stream)) }
 {
     match cuts.get(stream as usize) {
         Some(Cut::Whole) => false,

@@ -2,8 +2,8 @@
 ghost use Rattle.std.specs.Prelude.{◌≡◌, ◌≢◌, ◌⊎◌, ◌≤◌, IfOk, string_bytes};
 ghost use Rattle.sq_outside.specs.Faults.{Rose};
 ghost use Rattle.sq_value.specs.Lists.{IsPrefixOf};
-ghost use Rattle.sq_keys.specs.Ends.{AppendsSuch, TellsStatus};
-ghost use Rattle.sq_keys.specs.Messages.{message_of, why_text};
+ghost use Rattle.sq_keys.specs.Ends.{AppendsSuch, TellsKeysStatus};
+ghost use Rattle.sq_keys.specs.Messages.{keys_message, key_why_text};
 
 use crate::{KeyWhy, Status};
 use sq_net::NetErr;
@@ -11,8 +11,8 @@ use sq_outside::{Sink, write_all};
 use sq_refusal::refusal_text;
 use std::alloc::{AllocError, Global};
 
-fn why_text(why: KeyWhy) -> &'static str
-    ensures { result.now ≡ why_text why }
+fn key_why_text(why: KeyWhy) -> &'static str
+    ensures { result.now ≡ key_why_text why }
 {
     match why {
         KeyWhy::NoSource => "NoSource",
@@ -22,7 +22,7 @@ fn why_text(why: KeyWhy) -> &'static str
 }
 
 fn network_message(alloc: Global, e: NetErr) -> Result<String, AllocError>
-    ensures { IfOk result (λ text. string_bytes text ≡ message_of (Status.BadNetwork e)) }
+    ensures { IfOk result (λ text. string_bytes text ≡ keys_message (Status.BadNetwork e)) }
 {
     let refusal = refusal_text(alloc, e)?;
     let said = refusal.as_str();
@@ -31,7 +31,7 @@ fn network_message(alloc: Global, e: NetErr) -> Result<String, AllocError>
 
 // The line of a status.
 fn message(alloc: Global, status: &Status) -> Result<String, AllocError>
-    ensures { IfOk result (λ text. string_bytes text ≡ message_of status.now) }
+    ensures { IfOk result (λ text. string_bytes text ≡ keys_message status.now) }
 {
     match status {
         Status::Ok | Status::Lost => String::from_str(alloc, ""),
@@ -51,7 +51,7 @@ fn message(alloc: Global, status: &Status) -> Result<String, AllocError>
         }
         Status::Memory => String::from_str(alloc, "aurora_keys: out of memory\n"),
         Status::BadKey { key, why } => {
-            let why = why_text(*why);
+            let why = key_why_text(*why);
             format!(in alloc; "aurora_keys: key {key}: {why}\n")
         }
     }
@@ -68,7 +68,7 @@ fn say<E: Sink>(err: &mut E, text: &[u8])
 // Tells a status, or that memory ran out where there is none for the message. That the output failed takes none.
 pub(crate) fn tell<E: Sink>(alloc: Global, status: Status, err: &mut E) -> Status
     ensures status { (result ≡ status) ⊎ ((result ≡ Status.Memory) × (status ≢ Status.SinkFault)) }
-    ensures told { AppendsSuch (E.written err.old) (E.written err.new) (TellsStatus (E.faults err.old) (E.faults err.new) result) }
+    ensures told { AppendsSuch (E.written err.old) (E.written err.new) (TellsKeysStatus (E.faults err.old) (E.faults err.new) result) }
     ensures later { E.faults err.old ≤ E.faults err.new }
 {
     if let Status::SinkFault = status {

@@ -2,8 +2,8 @@
 ghost use Rattle.std.specs.Prelude.{◌≡◌, ◌≢◌, ◌≤◌, ◌<◌, ◌^◌, IfErr, IfOk, OnErr, OnOk, Some, length, map};
 ghost use Rattle.std.specs.String.{string_bytes};
 ghost use Rattle.sq_net.specs.declared.NetErr.TheVariants as net;
-ghost use Rattle.sq_keys.specs.Answers.{status_of};
-ghost use Rattle.sq_keys.specs.Ends.{Ends, IsReadAs, IsUnreadAs, WritesText};
+ghost use Rattle.sq_keys.specs.Answers.{lost_status};
+ghost use Rattle.sq_keys.specs.Ends.{KeysEnds, IsReadAs, IsUnreadAs, WritesText};
 ghost use Rattle.sq_keys.specs.Words.{asked_in};
 
 use crate::answers::answer;
@@ -41,8 +41,8 @@ fn read_file<F: Folder>(alloc: Global, folder: &mut F, name: &Name) -> Result<Ve
 }
 
 // The status of a text.
-fn status_of(lost: bool) -> Status
-    ensures { result ≡ status_of lost }
+fn lost_status(lost: bool) -> Status
+    ensures { result ≡ lost_status lost }
 {
     if lost { Status::Lost } else { Status::Ok }
 }
@@ -54,7 +54,7 @@ fn write_text<S: Sink>(text: &[u8], lost: bool, out: &mut S) -> Status
     ensures later { S.faults out.old ≤ S.faults out.new }
 {
     match write_all(out, text) {
-        Ok(()) => status_of(lost),
+        Ok(()) => lost_status(lost),
         Err(Failed) => Status::SinkFault,
     }
 }
@@ -67,7 +67,7 @@ fn run_asked<F: Folder, S: Sink>(
     out: &mut S,
 ) -> Status
     requires few { length asked.now.pairs < 2 ^ 32 }
-    ensures ends { Ends (Some asked.now) (record {
+    ensures ends { KeysEnds (Some asked.now) (record {
       told = F.files folder.old;
       folder_before = F.faults folder.old;
       folder_now = F.faults folder.new;
@@ -102,7 +102,7 @@ pub(crate) fn run<F: Folder, S: Sink>(
     folder: &mut F,
     out: &mut S,
 ) -> Status
-    ensures ends { Ends (asked_in (map string_bytes words.now.items)) (record {
+    ensures ends { KeysEnds (asked_in (map string_bytes words.now.items)) (record {
       told = F.files folder.old;
       folder_before = F.faults folder.old;
       folder_now = F.faults folder.new;

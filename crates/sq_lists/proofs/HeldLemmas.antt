@@ -5,7 +5,7 @@ use Rattle.std.specs.Ordering.{ordering_then, match_ordering}
 use Rattle.std.specs.BTreeMap.{insert_entry}
 use Rattle.std.specs.List.{AllByRecursion}
 use Rattle.sq_value.specs.declared.Value.{Value}
-use Rattle.sq_lists.specs.Sorters.{Held, numbered, held_of, put_in}
+use Rattle.sq_lists.specs.Sorters.{Held, numbered_tuple, held_of, put_in}
 
 abbrev pub key_cmp : (ℕ × ℕ) → (ℕ × ℕ) → Ordering
 key_cmp x y = ordering_then (nat_cmp x.0 y.0) (nat_cmp x.1 y.1)
@@ -28,9 +28,9 @@ held-insert t n fields [] below = refl
 held-insert t n fields (e ∷ es) below =
     ap (λ o. held_of (match_ordering o (((t, n), fields) ∷ e ∷ es) ((e.0, fields) ∷ es) (e ∷ insert_entry key_cmp es (t, n) fields))) (newer t n e.0 below.0)
     ∙ (elim (nat_lt t e.0.0) as (λ b. held_of (match_ordering (if b then Less else Greater) (((t, n), fields) ∷ e ∷ es) ((e.0, fields) ∷ es) (e ∷ insert_entry key_cmp es (t, n) fields))
-    ≡ (if b then (n, record { time = t; fields = fields }) ∷ numbered e ∷ held_of es else numbered e ∷ put_in (n, record { time = t; fields = fields }) (held_of es))) [
+    ≡ (if b then (n, record { time = t; fields = fields }) ∷ numbered_tuple e ∷ held_of es else numbered_tuple e ∷ put_in (n, record { time = t; fields = fields }) (held_of es))) [
       | true ↦ refl
-      | false ↦ ap (λ l. numbered e ∷ l) (held-insert t n fields es below.1)
+      | false ↦ ap (λ l. numbered_tuple e ∷ l) (held-insert t n fields es below.1)
     ])
 
 pub held-length : (es : List Held) → length (held_of es) ≡ length es

@@ -15,15 +15,15 @@ use Rattle.sq_expr.specs.Trees.{Expr}
 use Rattle.sq_expr.specs.Expressions.{holds_of, pair_of}
 use Rattle.sq_aggfn.specs.Functions.{answers_of}
 use Rattle.sq_aggfn.specs.declared.WindowSpec.{WindowSpec}
-use Rattle.sq_lists.specs.Boxes.{port_of, map_list_of}
-use Rattle.sq_lists.specs.Merge.{Entry, earlier, merge, union}
+use Rattle.sq_lists.specs.Boxes.{port_taken, map_list_of}
+use Rattle.sq_lists.specs.Merge.{PortTuple, tuple_earlier, merge_tuples, union}
 use Rattle.sq_lists.specs.Pairs.{meets, paired, pairs_of, pairs_from, join_list_of}
-use Rattle.sq_lists.specs.Sorting.{Numbered, sooner, retimed, without, tuple_of, chosen, without_late, bsort_list_of}
+use Rattle.sq_lists.specs.Sorting.{Numbered, numbered_sooner, retimed, without_number, tuple_if, sorted_within, without_late, bsort_list_of}
 use Rattle.sq_lists.specs.Sorters.{timed}
 use Rattle.sq_aggfn.specs.Windows.{start_of, started}
 use Rattle.sq_aggfn.proofs.StartLemmas.{starts_before}
 use Rattle.sq_lists.specs.Windows.{groups_of, in_group, in_window, window_results, aggregate_of}
-use Rattle.sq_lists.specs.WindowParts.{NotFalling}
+use Rattle.sq_lists.specs.WindowParts.{TimesNotFalling}
 use Rattle.sq_lists.specs.Keeps.{KeepStreams}
 use Rattle.sq_lists.proofs.LeastLemmas.{holds-least}
 use Rattle.sq_lists.proofs.NearLemmas.{resample_keeps}
@@ -44,7 +44,7 @@ stream-is least [] h = tt
 stream-is least (x ∷ []) h = h.1
 stream-is least (x ∷ y ∷ rest) h = (h.2.0, stream-is x.time (y ∷ rest) h.2)
 
-stream-from : (least : ℕ) (xs : List Tuple) → NotFalling least xs → AllByRecursion IsTick xs → StreamFrom least xs
+stream-from : (least : ℕ) (xs : List Tuple) → TimesNotFalling least xs → AllByRecursion IsTick xs → StreamFrom least xs
 stream-from least [] up all = tt
 stream-from least (x ∷ xs) up all = (up.0, all.0, stream-from x.time xs up.1 all.1)
 
@@ -80,11 +80,11 @@ ports-ticks port (xs ∷ rest) all = onto xs (stream_ticks xs all.0) (ports-tick
     onto [] ticks more = more
     onto (x ∷ xs) ticks more = (ticks.0, onto xs ticks.1 more)
 
-entries-from : (least : ℕ) (es : List Entry) → AllByRecursion (λ e. least ≤ (e.1).time) es → AllByRecursion (λ e. IsTick e.1) es → Rising earlier es
+entries-from : (least : ℕ) (es : List PortTuple) → AllByRecursion (λ e. least ≤ (e.1).time) es → AllByRecursion (λ e. IsTick e.1) es → Rising tuple_earlier es
     → StreamFrom least (map (λ e. e.1) es)
 entries-from least [] low ticks up = tt
 entries-from least (e ∷ es) low ticks up =
-    let later = All-weaker (λ f. earlier f e ≡ false) (λ f. (e.1).time ≤ (f.1).time) (λ f h. not-before (f.1).time (e.1).time h) es up.0 in
+    let later = All-weaker (λ f. tuple_earlier f e ≡ false) (λ f. (e.1).time ≤ (f.1).time) (λ f h. not-before (f.1).time (e.1).time h) es up.0 in
     (low.0, ticks.0, entries-from (e.1).time es later ticks.1 up.1)
   where
     not-before : (a b : ℕ) → nat_lt a b ≡ false → b ≤ a
@@ -92,10 +92,10 @@ entries-from least (e ∷ es) low ticks up =
 
 merge-from : (ins : List (List Tuple)) → AllByRecursion IsStream ins → StreamFrom 0 (union ins)
 merge-from ins all =
-    let sorted = merge ins in
+    let sorted = merge_tuples ins in
     let any = All-weaker (λ e. IsTick e.1) (λ e. 0 ≤ (e.1).time) (λ e h. omega arith) in
-    let ticks = All-sort (λ e. IsTick e.1) earlier (ports_of ins) (ports-ticks 0 ins all) in
-    entries-from 0 sorted (any sorted ticks) ticks (sort_rising earlier (IsStrictWeakOrder-by_number (λ e. (e.1).time)) (ports_of ins))
+    let ticks = All-sort (λ e. IsTick e.1) tuple_earlier (ports_of ins) (ports-ticks 0 ins all) in
+    entries-from 0 sorted (any sorted ticks) ticks (sort_rising tuple_earlier (IsStrictWeakOrder-by_number (λ e. (e.1).time)) (ports_of ins))
 
 union_keeps : (ins : List (List Tuple)) → AllByRecursion IsStream ins → IsStream (union ins)
 union_keeps ins all = stream-is 0 (union ins) (merge-from ins all)
@@ -114,19 +114,19 @@ enumerate-ticks : (n : ℕ) (xs : List Tuple) → AllByRecursion IsTick xs → A
 enumerate-ticks n [] all = tt
 enumerate-ticks n (x ∷ xs) all = (all.0, enumerate-ticks (n + 1) xs all.1)
 
-All-without : (P : Numbered → Type 0) (o : Option Numbered) (rest : List Numbered) → AllByRecursion P rest → AllByRecursion P (without o rest)
+All-without : (P : Numbered → Type 0) (o : Option Numbered) (rest : List Numbered) → AllByRecursion P rest → AllByRecursion P (without_number o rest)
 All-without P None rest all = all
 All-without P (Some a) rest all = All-filter P _ rest all
 
-chosen-ticks : (slack j count : ℕ) (rest : List Numbered) → AllByRecursion (λ a. IsTick a.1) rest → AllByRecursion IsTick (chosen slack j count rest)
+chosen-ticks : (slack j count : ℕ) (rest : List Numbered) → AllByRecursion (λ a. IsTick a.1) rest → AllByRecursion IsTick (sorted_within slack j count rest)
 chosen-ticks slack j zero rest all = tt
 chosen-ticks slack j (suc count) rest all =
     let near = filter (λ a. nat_le a.0 (j + slack)) rest in
-    let next = least_by sooner near in
-    let least = holds-least sooner (λ a. IsTick a.1) near (All-filter (λ a. IsTick a.1) (λ a. nat_le a.0 (j + slack)) rest all) in
-    onto next (chosen slack (j + 1) count (without next rest)) least (chosen-ticks slack (j + 1) count (without next rest) (All-without (λ a. IsTick a.1) next rest all))
+    let next = least_by numbered_sooner near in
+    let least = holds-least numbered_sooner (λ a. IsTick a.1) near (All-filter (λ a. IsTick a.1) (λ a. nat_le a.0 (j + slack)) rest all) in
+    onto next (sorted_within slack (j + 1) count (without_number next rest)) least (chosen-ticks slack (j + 1) count (without_number next rest) (All-without (λ a. IsTick a.1) next rest all))
   where
-    onto : (o : Option Numbered) (more : List Tuple) → IfSome o (λ a. IsTick a.1) → AllByRecursion IsTick more → AllByRecursion IsTick (tuple_of o ++ more)
+    onto : (o : Option Numbered) (more : List Tuple) → IfSome o (λ a. IsTick a.1) → AllByRecursion IsTick more → AllByRecursion IsTick (tuple_if o ++ more)
     onto None more h all = all
     onto (Some a) more h all = (h, all)
 
@@ -146,7 +146,7 @@ bsort_keeps by slack xs h =
     let count = length found in
     let items = enumerate_from 0 found in
     let ticks = enumerate-ticks 0 found (retimed-ticks by xs (stream_ticks xs h)) in
-    stream-is 0 (bsort_list_of by slack xs) (late-from 0 (chosen slack 0 count items) (chosen-ticks slack 0 count items ticks))
+    stream-is 0 (bsort_list_of by slack xs) (late-from 0 (sorted_within slack 0 count items) (chosen-ticks slack 0 count items ticks))
 
 -- Aggregate
 max-tick : (xs : List Tuple) → AllByRecursion IsTick xs → max_by (λ x. x.time) xs < 2 ^ 40
@@ -185,15 +185,15 @@ module _ (answers : List Tuple → List Value) (by : List ℕ) (w : WindowSpec) 
           moving (suc a) e = let early : start_of w k ≤ last = starts_before w (omega (arith, e)) last k (omega (arith, few)) in omega (arith, early, tick)
 
 -- Join
-abbrev NoneAfter : ℕ → List Entry → Type 0
+abbrev NoneAfter : ℕ → List PortTuple → Type 0
 NoneAfter time before = AllByRecursion (λ b. (b.1).time ≤ time) before
 
-none-after : (time : ℕ) (before : List Entry) (now : Entry) → time ≤ (now.1).time → NoneAfter time before → NoneAfter (now.1).time (before ++ now ∷ [])
+none-after : (time : ℕ) (before : List PortTuple) (now : PortTuple) → time ≤ (now.1).time → NoneAfter time before → NoneAfter (now.1).time (before ++ now ∷ [])
 none-after time before now le all =
     All-push (λ b. (b.1).time ≤ (now.1).time) before now (All-weaker (λ b. (b.1).time ≤ time) (λ b. (b.1).time ≤ (now.1).time) (λ b h. omega (arith, h, le)) before all) (omega arith)
 
 -- a pair with an earlier one has the time of the later one
-paired-time : (now b : Entry) → (b.1).time ≤ (now.1).time → (paired now b).time ≡ (now.1).time
+paired-time : (now b : PortTuple) → (b.1).time ≤ (now.1).time → (paired now b).time ≡ (now.1).time
 paired-time now b le =
     elim (now.0 == 0) as (λ c. (if c then pair_of now.1 b.1 else pair_of b.1 now.1).time ≡ (now.1).time) [
       | true ↦ omega (arith, le)
@@ -201,11 +201,11 @@ paired-time now b le =
     ]
 
 module _ (size : ℕ) (on : Expr) where
-  paired-times : (time : ℕ) (now : Entry) (bs : List Entry) → time ≤ (now.1).time → NoneAfter time bs → AllByRecursion (λ p. p.time ≡ (now.1).time) (map (paired now) bs)
+  paired-times : (time : ℕ) (now : PortTuple) (bs : List PortTuple) → time ≤ (now.1).time → NoneAfter time bs → AllByRecursion (λ p. p.time ≡ (now.1).time) (map (paired now) bs)
   paired-times time now [] le all = tt
   paired-times time now (b ∷ bs) le all = (let early = all.0 in paired-time now b (omega (arith, early, le)), paired-times time now bs le all.1)
 
-  pairs-times : (time : ℕ) (now : Entry) (before : List Entry) → time ≤ (now.1).time → NoneAfter time before → AllByRecursion (λ p. p.time ≡ (now.1).time) (pairs_of size on before now)
+  pairs-times : (time : ℕ) (now : PortTuple) (before : List PortTuple) → time ≤ (now.1).time → NoneAfter time before → AllByRecursion (λ p. p.time ≡ (now.1).time) (pairs_of size on before now)
   pairs-times time now before le all =
       let met = filter (meets size now) before in
       All-filter (λ p. p.time ≡ (now.1).time) (holds_of on) (map (paired now) met)
@@ -218,7 +218,7 @@ module _ (size : ℕ) (on : Expr) where
       let is = same.0 in
       (omega (arith, is), omega (arith, is, tick), from-lower p.time time (ps ++ more) (omega (arith, is)) (same-time time ps more tick same.1 h))
 
-  pairs_from-from : (time : ℕ) (before es : List Entry) → NoneAfter time before → StreamFrom time (map (λ e. e.1) es) → StreamFrom time (pairs_from size on before es)
+  pairs_from-from : (time : ℕ) (before es : List PortTuple) → NoneAfter time before → StreamFrom time (map (λ e. e.1) es) → StreamFrom time (pairs_from size on before es)
   pairs_from-from time before [] early h = tt
   pairs_from-from time before (now ∷ later) early h =
       let le = h.0 in
@@ -230,11 +230,11 @@ module _ (size : ℕ) (on : Expr) where
   join_keeps : (left right : List Tuple) → IsStream left → IsStream right → IsStream (join_list_of size on left right)
   join_keeps left right l r =
       let both = left ∷ right ∷ [] in
-      stream-is 0 (join_list_of size on left right) (pairs_from-from 0 [] (merge both) tt (merge-from both (l, (r, tt))))
+      stream-is 0 (join_list_of size on left right) (pairs_from-from 0 [] (merge_tuples both) tt (merge-from both (l, (r, tt))))
 
 pub keep_streams : KeepStreams
 keep_streams = record {
-  filter = λ ps port xs h. filter_keeps (λ x. port_of ps x == port) xs h;
+  filter = λ ps port xs h. filter_keeps (λ x. port_taken ps x == port) xs h;
   map = map_keeps;
   union = union_keeps;
   bsort = bsort_keeps;

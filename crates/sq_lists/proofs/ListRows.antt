@@ -5,7 +5,7 @@ use Rattle.sq_value.specs.declared.Tuple.{Tuple}
 use Rattle.sq_expr.specs.declared.CompareOp.TheVariants as compare
 use Rattle.sq_expr.specs.declared.ArithmeticOp.TheVariants as arithmetic
 use Rattle.sq_expr.specs.Trees.{Expr, Literal, Time, Field, Arithmetic, Compare}
-use Rattle.sq_lists.specs.Merge.{merge, union}
+use Rattle.sq_lists.specs.Merge.{merge_tuples, union}
 use Rattle.sq_lists.specs.Boxes.{filter_list_of, map_list_of}
 use Rattle.sq_lists.specs.Sorting.{bsort_list_of}
 
@@ -23,7 +23,7 @@ number v = Literal (value.Int (pos v))
 merged : union ((at 1 10 ∷ at 3 11 ∷ at 3 12 ∷ []) ∷ (at 2 20 ∷ at 3 21 ∷ []) ∷ []) ≡ at 1 10 ∷ at 2 20 ∷ at 3 11 ∷ at 3 12 ∷ at 3 21 ∷ []
 merged = refl
 
-merged_with_ports : merge ((at 3 1 ∷ []) ∷ (at 2 2 ∷ at 3 3 ∷ []) ∷ []) ≡ (1, at 2 2) ∷ (0, at 3 1) ∷ (1, at 3 3) ∷ []
+merged_with_ports : merge_tuples ((at 3 1 ∷ []) ∷ (at 2 2 ∷ at 3 3 ∷ []) ∷ []) ≡ (1, at 2 2) ∷ (0, at 3 1) ∷ (1, at 3 3) ∷ []
 merged_with_ports = refl
 
 -- at least 10, at least 5, and the others; Null is neither

@@ -9,7 +9,7 @@ use Rattle.sq_value.specs.declared.Tuple.{Tuple}
 use Rattle.sq_value.specs.Values.{IsStream}
 use Rattle.sq_aggfn.specs.declared.Func.{Func}
 use Rattle.sq_lists.specs.Sides.{recent}
-use Rattle.sq_lists.specs.WindowParts.{NotFalling}
+use Rattle.sq_lists.specs.WindowParts.{TimesNotFalling}
 use Rattle.sq_lists.proofs.WindowLemmas.{lower}
 use Rattle.sq_lists.specs.Nearness.{reaching}
 use Rattle.sq_lists.specs.Resamples.{near, resample_of, resample_list_of}
@@ -41,14 +41,14 @@ in-reach size t x h = grind (arith, tests)
 -- ---- lists
 
 -- nothing of a stream that begins after the reach
-none-near : (size t a : ℕ) (xs : List Tuple) → nat_lt size (a - t) ≡ true → NotFalling a xs → near size t xs ≡ []
+none-near : (size t a : ℕ) (xs : List Tuple) → nat_lt size (a - t) ≡ true → TimesNotFalling a xs → near size t xs ≡ []
 none-near size t a [] far up = refl
 none-near size t a (x ∷ xs) far up =
     let next = still-after size t a x.time far up.0 in
     ap (λ b. cond b (x ∷ near size t xs) (near size t xs)) (after size t x.time next) ∙ none-near size t x.time xs next up.1
 
 -- of a stream of which nothing is past, what reaches
-near-reaching : (size t a : ℕ) (xs : List Tuple) → nat_lt size (t - a) ≡ false → NotFalling a xs → near size t xs ≡ reaching size t xs
+near-reaching : (size t a : ℕ) (xs : List Tuple) → nat_lt size (t - a) ≡ false → TimesNotFalling a xs → near size t xs ≡ reaching size t xs
 near-reaching size t a [] live up = refl
 near-reaching size t a (x ∷ xs) live up =
     by (nat_lt size (x.time - t)) refl (near-reaching size t x.time xs (not-before size t a x.time live up.0) up.1)
@@ -67,7 +67,7 @@ near-let_go size t u (x ∷ xs) le = by (nat_lt size (t - x.time)) refl (near-le
     by true e ih = ih ∙ ap (λ b. cond b (x ∷ near size u xs) (near size u xs)) (sym (before size t u x.time e le))
     by false e ih = refl
 
-recent-reaching : (size t a : ℕ) (xs : List Tuple) → NotFalling a xs → near size t (recent size t xs) ≡ reaching size t (recent size t xs)
+recent-reaching : (size t a : ℕ) (xs : List Tuple) → TimesNotFalling a xs → near size t (recent size t xs) ≡ reaching size t (recent size t xs)
 recent-reaching size t a [] up = refl
 recent-reaching size t a (x ∷ xs) up = by (nat_lt size (t - x.time)) refl (recent-reaching size t x.time xs up.1)
   where
@@ -76,7 +76,7 @@ recent-reaching size t a (x ∷ xs) up = by (nat_lt size (t - x.time)) refl (rec
     by false e ih = let le : x.time ≤ x.time = omega arith in near-reaching size t x.time (x ∷ xs) e (le, up.1)
 
 -- what is near a time in a stream
-pub near-is : (size t a : ℕ) (xs : List Tuple) → NotFalling a xs → near size t xs ≡ reaching size t (recent size t xs)
+pub near-is : (size t a : ℕ) (xs : List Tuple) → TimesNotFalling a xs → near size t xs ≡ reaching size t (recent size t xs)
 near-is size t a xs up = sym (near-let_go size t t xs (omega arith)) ∙ recent-reaching size t a xs up
 
 -- where each reaches
@@ -94,15 +94,15 @@ recent-again size t u (x ∷ xs) le = by (nat_lt size (t - x.time)) refl (recent
     by true e ih = ih ∙ ap (λ b. if b then recent size u xs else x ∷ xs) (sym (past-later size t u x.time e le))
     by false e ih = refl
 
-pub recent-rises : (size t a : ℕ) (xs : List Tuple) → NotFalling a xs → NotFalling a (recent size t xs)
+pub recent-rises : (size t a : ℕ) (xs : List Tuple) → TimesNotFalling a xs → TimesNotFalling a (recent size t xs)
 recent-rises size t a [] up = tt
 recent-rises size t a (x ∷ xs) up =
-    elim (nat_lt size (t - x.time)) as (λ b. NotFalling a (if b then recent size t xs else x ∷ xs)) [ true ↦ recent-rises size t a xs (lower a x.time xs up.0 up.1) | false ↦ up ]
+    elim (nat_lt size (t - x.time)) as (λ b. TimesNotFalling a (if b then recent size t xs else x ∷ xs)) [ true ↦ recent-rises size t a xs (lower a x.time xs up.0 up.1) | false ↦ up ]
 
 -- ---- a Resample
 
 -- right tuples that are alike near each left time
-pub resample-alike : (answers : List Tuple → List Value) (size t : ℕ) (left xs ys : List Tuple) → NotFalling t left
+pub resample-alike : (answers : List Tuple → List Value) (size t : ℕ) (left xs ys : List Tuple) → TimesNotFalling t left
     → ((u : ℕ) → t ≤ u → near size u xs ≡ near size u ys) → resample_of answers size left xs ≡ resample_of answers size left ys
 resample-alike answers size t [] xs ys up alike = refl
 resample-alike answers size t (x ∷ left) xs ys up alike =
@@ -111,7 +111,7 @@ resample-alike answers size t (x ∷ left) xs ys up alike =
     (resample-alike answers size x.time left xs ys up.1 (λ u le. alike u (omega (arith, le, first))))
 
 -- without those that are past at the first left time
-pub resample-recent : (answers : List Tuple → List Value) (size t : ℕ) (left right more : List Tuple) → NotFalling t left
+pub resample-recent : (answers : List Tuple → List Value) (size t : ℕ) (left right more : List Tuple) → TimesNotFalling t left
     → resample_of answers size left (recent size t right ++ more) ≡ resample_of answers size left (right ++ more)
 resample-recent answers size t left right more up =
     resample-alike answers size t left (recent size t right ++ more) (right ++ more) up (λ u le.
@@ -119,7 +119,7 @@ resample-recent answers size t left right more up =
     ∙ ap (λ l. l ++ near size u more) (near-let_go size t u right le)
     ∙ sym (filter-append (λ x. nat_le (abs_diff u x.time) size) right more))
 
-pub resample-let_go : (answers : List Tuple → List Value) (size t : ℕ) (left right : List Tuple) → NotFalling t left
+pub resample-let_go : (answers : List Tuple → List Value) (size t : ℕ) (left right : List Tuple) → TimesNotFalling t left
     → resample_of answers size left (recent size t right) ≡ resample_of answers size left right
 resample-let_go answers size t left right up = resample-alike answers size t left (recent size t right) right up (λ u le. near-let_go size t u right le)
 

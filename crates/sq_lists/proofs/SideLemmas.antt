@@ -12,15 +12,15 @@ use Rattle.sq_value.specs.Lists.{Rising, ports_of}
 use Rattle.sq_value.proofs.Sorting.{sort_rising}
 use Rattle.sq_expr.specs.Trees.{Expr}
 use Rattle.sq_expr.specs.Expressions.{holds_of}
-use Rattle.sq_lists.specs.Merge.{Entry, earlier, merge}
+use Rattle.sq_lists.specs.Merge.{PortTuple, tuple_earlier, merge_tuples}
 use Rattle.sq_lists.specs.Pairs.{meets, paired, pairs_of, pairs_from}
 use Rattle.sq_lists.specs.Sides.{on_side, held_of, recent, pair_at, pairs_with, against, left_with, right_with, AllNear}
-use Rattle.sq_lists.specs.WindowParts.{NotFalling}
+use Rattle.sq_lists.specs.WindowParts.{TimesNotFalling}
 use Rattle.sq_lists.proofs.AllLemmas.{All-weaker, All-append, All-push, All-sort}
 use Rattle.sq_lists.proofs.WindowLemmas.{lower}
 
 -- each comes at the left or at the right side
-abbrev pub TwoSides : List Entry → Type 0
+abbrev pub TwoSides : List PortTuple → Type 0
 TwoSides es = AllByRecursion (λ e. (e.0 ≡ 0) ⊎ (e.0 ≡ 1)) es
 
 itself : (n : ℕ) → (n == n) ≡ true
@@ -34,7 +34,7 @@ near : (size t x : ℕ) → x ≤ t → t ≤ x + size → nat_le (abs_diff t x)
 near size t x early le = grind (arith, tests)
 
 module _ (size : ℕ) (on : Expr) where
-  pairs-append : (xs ys : List Entry) (now : Entry) → pairs_of size on (xs ++ ys) now ≡ pairs_of size on xs now ++ pairs_of size on ys now
+  pairs-append : (xs ys : List PortTuple) (now : PortTuple) → pairs_of size on (xs ++ ys) now ≡ pairs_of size on xs now ++ pairs_of size on ys now
   pairs-append xs ys now =
       ap (λ l. filter (holds_of on) (map (paired now) l)) (filter-append (meets size now) xs ys)
       ∙ ap (filter (holds_of on)) (map-append (paired now) (filter (meets size now) xs) (filter (meets size now) ys))
@@ -48,7 +48,7 @@ module _ (size : ℕ) (on : Expr) where
       ∙ own-side side x ys
 
   -- those that are let go of
-  recent-by : (side : ℕ) (now : Entry) (t : ℕ) (y : Tuple) (ys : List Tuple) → t ≤ (now.1).time
+  recent-by : (side : ℕ) (now : PortTuple) (t : ℕ) (y : Tuple) (ys : List Tuple) → t ≤ (now.1).time
       → pairs_of size on (on_side side (recent size t ys)) now ≡ pairs_of size on (on_side side ys) now
       → (b : Bool) → nat_lt size (t - y.time) ≡ b
       → pairs_of size on (on_side side (if b then recent size t ys else y ∷ ys)) now ≡ pairs_of size on (on_side side (y ∷ ys)) now
@@ -57,7 +57,7 @@ module _ (size : ℕ) (on : Expr) where
       ih ∙ ap (λ b. filter (holds_of on) (map (paired now) (cond b ((side, y) ∷ filter (meets size now) (on_side side ys)) (filter (meets size now) (on_side side ys))))) (sym past)
   recent-by side now t y ys le ih false e = refl
 
-  recent-pairs : (side : ℕ) (now : Entry) (t : ℕ) (ys : List Tuple) → t ≤ (now.1).time
+  recent-pairs : (side : ℕ) (now : PortTuple) (t : ℕ) (ys : List Tuple) → t ≤ (now.1).time
       → pairs_of size on (on_side side (recent size t ys)) now ≡ pairs_of size on (on_side side ys) now
   recent-pairs side now t [] le = refl
   recent-pairs side now t (y ∷ ys) le = recent-by side now t y ys le (recent-pairs side now t ys le) (nat_lt size (t - y.time)) refl
@@ -72,14 +72,14 @@ module _ (size : ℕ) (on : Expr) where
       ∙ ap (λ l. cond (holds_of on (pair_at side x y)) (pair_at side x y ∷ l) l) (other-side side other x ys apart early.1 nears.1)
 
   -- earlier entries with which each later one has the same pairs
-  abbrev Alike : ℕ → List Entry → List Entry → Type 0
-  Alike t xs ys = (now : Entry) → (now.0 ≡ 0) ⊎ (now.0 ≡ 1) → t ≤ (now.1).time → pairs_of size on xs now ≡ pairs_of size on ys now
+  abbrev Alike : ℕ → List PortTuple → List PortTuple → Type 0
+  Alike t xs ys = (now : PortTuple) → (now.0 ≡ 0) ⊎ (now.0 ≡ 1) → t ≤ (now.1).time → pairs_of size on xs now ≡ pairs_of size on ys now
 
   -- each comes at a time or later
-  abbrev Since : ℕ → List Entry → Type 0
+  abbrev Since : ℕ → List PortTuple → Type 0
   Since t es = AllByRecursion (λ e. t ≤ (e.1).time) es
 
-  alike-from : (es : List Entry) (t : ℕ) (xs ys : List Entry) → Since t es → TwoSides es → Alike t xs ys → pairs_from size on xs es ≡ pairs_from size on ys es
+  alike-from : (es : List PortTuple) (t : ℕ) (xs ys : List PortTuple) → Since t es → TwoSides es → Alike t xs ys → pairs_from size on xs es ≡ pairs_from size on ys es
   alike-from [] t xs ys late two alike = refl
   alike-from (e ∷ es) t xs ys late two alike =
       ap₂ (λ a b. a ++ b) (alike e two.0 late.0)
@@ -101,7 +101,7 @@ module _ (size : ℕ) (on : Expr) where
 
   -- what is held once an entry came is as good as all before it and it
   module _ (x : Tuple) (left right : List Tuple) where
-    abbrev then-held : ℕ → List Entry
+    abbrev then-held : ℕ → List PortTuple
     then-held side = held_of (left_with side x (recent size x.time left)) (right_with side x (recent size x.time right))
 
     then-alike : (side : ℕ) → (side ≡ 0) ⊎ (side ≡ 1) → Alike x.time (held_of left right ++ (side, x) ∷ []) (then-held side)
@@ -158,7 +158,7 @@ module _ (size : ℕ) (on : Expr) where
         ∙ other-side 1 0 x (recent size x.time left) refl early-l near-l)
 
     -- what is given later
-    pub gives-later : (side : ℕ) → (side ≡ 0) ⊎ (side ≡ 1) → (es : List Entry) → Since x.time es → TwoSides es
+    pub gives-later : (side : ℕ) → (side ≡ 0) ⊎ (side ≡ 1) → (es : List PortTuple) → Since x.time es → TwoSides es
         → pairs_from size on (held_of left right ++ (side, x) ∷ []) es ≡ pairs_from size on (then-held side) es
     gives-later side is es late two = alike-from es x.time (held_of left right ++ (side, x) ∷ []) (then-held side) late two (then-alike side is)
 
@@ -169,40 +169,40 @@ All-recent P size t [] all = tt
 All-recent P size t (x ∷ xs) all =
     elim (nat_lt size (t - x.time)) as (λ b. AllByRecursion P (if b then recent size t xs else x ∷ xs)) [ true ↦ All-recent P size t xs all.1 | false ↦ all ]
 
-pub rises-recent : (size t : ℕ) (xs : List Tuple) → NotFalling 0 xs → NotFalling 0 (recent size t xs)
+pub rises-recent : (size t : ℕ) (xs : List Tuple) → TimesNotFalling 0 xs → TimesNotFalling 0 (recent size t xs)
 rises-recent size t [] h = tt
 rises-recent size t (x ∷ xs) h =
-    elim (nat_lt size (t - x.time)) as (λ b. NotFalling 0 (if b then recent size t xs else x ∷ xs)) [ true ↦ rises-recent size t xs (lower 0 x.time xs zero-le h.1) | false ↦ h ]
+    elim (nat_lt size (t - x.time)) as (λ b. TimesNotFalling 0 (if b then recent size t xs else x ∷ xs)) [ true ↦ rises-recent size t xs (lower 0 x.time xs zero-le h.1) | false ↦ h ]
 
-pub rises-push : (a : ℕ) (xs : List Tuple) (x : Tuple) → NotFalling a xs → AllByRecursion (λ y. y.time ≤ x.time) xs → a ≤ x.time → NotFalling a (xs ++ x ∷ [])
+pub rises-push : (a : ℕ) (xs : List Tuple) (x : Tuple) → TimesNotFalling a xs → AllByRecursion (λ y. y.time ≤ x.time) xs → a ≤ x.time → TimesNotFalling a (xs ++ x ∷ [])
 rises-push a [] x h all le = (le, tt)
 rises-push a (y ∷ ys) x h all le = (h.0, rises-push y.time ys x h.1 all.1 all.0)
 
-near-from : (size t a : ℕ) (xs : List Tuple) → t ≤ a + size → NotFalling a xs → AllNear size t xs
+near-from : (size t a : ℕ) (xs : List Tuple) → t ≤ a + size → TimesNotFalling a xs → AllNear size t xs
 near-from size t a [] le h = tt
 near-from size t a (x ∷ xs) le h = let up = h.0 in (omega (arith, le, up), near-from size t x.time xs (omega (arith, le, up)) h.1)
 
-near-by : (size t : ℕ) (x : Tuple) (xs : List Tuple) → NotFalling x.time xs → AllNear size t (recent size t xs) → (b : Bool) → nat_lt size (t - x.time) ≡ b
+near-by : (size t : ℕ) (x : Tuple) (xs : List Tuple) → TimesNotFalling x.time xs → AllNear size t (recent size t xs) → (b : Bool) → nat_lt size (t - x.time) ≡ b
     → AllNear size t (if b then recent size t xs else x ∷ xs)
 near-by size t x xs h ih true e = ih
 near-by size t x xs h ih false e = let le : t ≤ x.time + size = grind (arith, tests) in (le, near-from size t x.time xs le h)
 
 -- what isn't let go of can still meet a tuple of that time
-pub near-recent : (size t : ℕ) (xs : List Tuple) → NotFalling 0 xs → AllNear size t (recent size t xs)
+pub near-recent : (size t : ℕ) (xs : List Tuple) → TimesNotFalling 0 xs → AllNear size t (recent size t xs)
 near-recent size t [] h = tt
 near-recent size t (x ∷ xs) h = near-by size t x xs h.1 (near-recent size t xs (lower 0 x.time xs zero-le h.1)) (nat_lt size (t - x.time)) refl
 
 -- ---- a list of entries that come
 
 -- what is held of a side while these come: in order of time, none later than any of them
-pub record Held (xs : List Tuple) (coming : List Entry) : Type 0 where
-  pub rises : NotFalling 0 xs
+pub record Held (xs : List Tuple) (coming : List PortTuple) : Type 0 where
+  pub rises : TimesNotFalling 0 xs
   pub early : AllByRecursion (λ y. AllByRecursion (λ e. y.time ≤ (e.1).time) coming) xs
 
-since : (side : ℕ) (x : Tuple) (es : List Entry) → AllByRecursion (λ e. earlier e (side, x) ≡ false) es → AllByRecursion (λ e. x.time ≤ (e.1).time) es
-since side x es up = All-weaker (λ e. earlier e (side, x) ≡ false) (λ e. x.time ≤ (e.1).time) (λ e h. grind (arith, tests, h)) es up
+since : (side : ℕ) (x : Tuple) (es : List PortTuple) → AllByRecursion (λ e. tuple_earlier e (side, x) ≡ false) es → AllByRecursion (λ e. x.time ≤ (e.1).time) es
+since side x es up = All-weaker (λ e. tuple_earlier e (side, x) ≡ false) (λ e. x.time ≤ (e.1).time) (λ e h. grind (arith, tests, h)) es up
 
-module _ (size : ℕ) (on : Expr) (side : ℕ) (x : Tuple) (es : List Entry) (is : (side ≡ 0) ⊎ (side ≡ 1)) (rises : Rising earlier ((side, x) ∷ es)) where
+module _ (size : ℕ) (on : Expr) (side : ℕ) (x : Tuple) (es : List PortTuple) (is : (side ≡ 0) ⊎ (side ≡ 1)) (rises : Rising tuple_earlier ((side, x) ∷ es)) where
   at-now : (xs : List Tuple) → Held xs ((side, x) ∷ es) → AllByRecursion (λ y. y.time ≤ x.time) (recent size x.time xs)
   at-now xs h =
       All-recent (λ y. y.time ≤ x.time) size x.time xs
@@ -241,12 +241,12 @@ all-at : (side : ℕ) (xs : List Tuple) → (side ≡ 0) ⊎ (side ≡ 1) → Tw
 all-at side [] is = tt
 all-at side (x ∷ xs) is = (is, all-at side xs is)
 
-pub merge_rises : (ins : List (List Tuple)) → Rising earlier (merge ins)
-merge_rises ins = sort_rising earlier (IsStrictWeakOrder-by_number (λ e. (e.1).time)) (ports_of ins)
+pub merge_rises : (ins : List (List Tuple)) → Rising tuple_earlier (merge_tuples ins)
+merge_rises ins = sort_rising tuple_earlier (IsStrictWeakOrder-by_number (λ e. (e.1).time)) (ports_of ins)
 
 -- a merge of two streams has two sides
-pub merge_sides : (left right : List Tuple) → TwoSides (merge (left ∷ right ∷ []))
+pub merge_sides : (left right : List Tuple) → TwoSides (merge_tuples (left ∷ right ∷ []))
 merge_sides left right =
-    All-sort (λ e. (e.0 ≡ 0) ⊎ (e.0 ≡ 1)) earlier (ports_of (left ∷ right ∷ []))
+    All-sort (λ e. (e.0 ≡ 0) ⊎ (e.0 ≡ 1)) tuple_earlier (ports_of (left ∷ right ∷ []))
     (All-append (λ e. (e.0 ≡ 0) ⊎ (e.0 ≡ 1)) (on_side 0 left) (on_side 1 right ++ []) (all-at 0 left (inl refl))
     (All-append (λ e. (e.0 ≡ 0) ⊎ (e.0 ≡ 1)) (on_side 1 right) [] (all-at 1 right (inr refl)) tt))

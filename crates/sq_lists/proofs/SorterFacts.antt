@@ -7,8 +7,8 @@ use Rattle.sq_value.specs.declared.Value.{Value}
 use Rattle.sq_value.specs.declared.Value.TheVariants as value
 use Rattle.sq_value.specs.declared.Tuple.{Tuple}
 use Rattle.sq_value.specs.Values.{field}
-use Rattle.sq_lists.specs.Sorting.{Numbered, sooner, time_in, at_time, without_late}
-use Rattle.sq_lists.specs.Sorters.{put_in, first_of_all, after_first, latest_of, chosen_of, kept_of, SorterState, IsSorter, sort_next, sort_gives, sort_flush, sort_run, sort_first, sort_after, timed, next_with, gives_with}
+use Rattle.sq_lists.specs.Sorting.{Numbered, numbered_sooner, time_in, at_time, without_late}
+use Rattle.sq_lists.specs.Sorters.{put_in, first_of_all, after_first, latest_of, chosen_of, kept_back, SorterState, IsSorter, sort_next, sort_gives, sort_flush, sort_run, sort_first, sort_after, timed, next_with, gives_with}
 use Rattle.sq_lists.proofs.AllLemmas.{All-weaker}
 
 -- a tuple that is given the time of its field has at most the time that it had, and the same values
@@ -29,20 +29,20 @@ timed-is by x = of_value (field x.fields by)
 pub All-put : (P : Numbered → Type 0) (x : Numbered) (ys : List Numbered) → P x → AllByRecursion P ys → AllByRecursion P (put_in x ys)
 All-put P x [] p all = (p, tt)
 All-put P x (y ∷ ys) p all =
-    elim (sooner x y) as (λ b. AllByRecursion P (if b then x ∷ y ∷ ys else y ∷ put_in x ys)) [ true ↦ (p, all) | false ↦ (all.0, All-put P x ys p all.1) ]
+    elim (numbered_sooner x y) as (λ b. AllByRecursion P (if b then x ∷ y ∷ ys else y ∷ put_in x ys)) [ true ↦ (p, all) | false ↦ (all.0, All-put P x ys p all.1) ]
 
 pub All-after : (P : Numbered → Type 0) (xs : List Numbered) → AllByRecursion P xs → AllByRecursion P (after_first xs)
 All-after P [] all = tt
 All-after P (x ∷ xs) all = all.1
 
-pub All-kept : (P : Numbered → Type 0) (slack : ℕ) (xs : List Numbered) → AllByRecursion P xs → AllByRecursion P (kept_of slack xs)
+pub All-kept : (P : Numbered → Type 0) (slack : ℕ) (xs : List Numbered) → AllByRecursion P xs → AllByRecursion P (kept_back slack xs)
 All-kept P slack xs all =
     elim (nat_lt slack (length xs)) as (λ b. AllByRecursion P (if b then after_first xs else xs)) [ true ↦ All-after P xs all | false ↦ all ]
 
 pub length-put : (x : Numbered) (ys : List Numbered) → length (put_in x ys) ≡ length ys + 1
 length-put x [] = refl
 length-put x (y ∷ ys) =
-    elim (sooner x y) as (λ b. length (if b then x ∷ y ∷ ys else y ∷ put_in x ys) ≡ suc (length ys) + 1) [
+    elim (numbered_sooner x y) as (λ b. length (if b then x ∷ y ∷ ys else y ∷ put_in x ys) ≡ suc (length ys) + 1) [
       | true ↦ (let e : suc (suc (length ys)) ≡ suc (length ys) + 1 = omega arith in e)
       | false ↦ ap suc (length-put x ys) ∙ (let e : suc (length ys + 1) ≡ suc (length ys) + 1 = omega arith in e)
     ]
@@ -61,7 +61,7 @@ first-length latest [] = omega arith
 first-length latest (x ∷ xs) =
     elim (nat_lt (x.1).time latest) as (λ b. length ((if b then [] else x.1 ∷ []) ++ []) + length xs ≤ suc (length xs)) [ true ↦ omega arith | false ↦ omega arith ]
 
-chosen-length : (latest slack : ℕ) (xs : List Numbered) → length (without_late latest (chosen_of slack xs)) + length (kept_of slack xs) ≤ length xs
+chosen-length : (latest slack : ℕ) (xs : List Numbered) → length (without_late latest (chosen_of slack xs)) + length (kept_back slack xs) ≤ length xs
 chosen-length latest slack xs =
     elim (nat_lt slack (length xs)) as (λ b. length (without_late latest (if b then first_of_all xs else [])) + length (if b then after_first xs else xs) ≤ length xs) [
       | true ↦ first-length latest xs
@@ -116,7 +116,7 @@ pub put-full : (s : SorterState) (x : Tuple) (full held : List Numbered) (latest
 put-full s x full held latest more o is over eh el eo em =
     let F = put_in (s.number, x) s.held in
     let e : nat_lt s.slack (length (put_in (s.number, x) s.held)) ≡ true = rw (← is) (grind (arith, tests)) in
-    let h1 : held ≡ kept_of s.slack F = eh ∙ ap after_first is ∙ sym (ap (λ b. if b then after_first F else F) e) in
+    let h1 : held ≡ kept_back s.slack F = eh ∙ ap after_first is ∙ sym (ap (λ b. if b then after_first F else F) e) in
     let h2 : latest ≡ latest_of s.latest (chosen_of s.slack F) =
     el ∙ ap (λ l. latest_of s.latest (first_of_all l)) is ∙ sym (ap (λ b. latest_of s.latest (if b then first_of_all F else [])) e) in
     let h3 : option_to_list o ≡ sort_gives s x =

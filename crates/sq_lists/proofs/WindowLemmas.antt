@@ -20,7 +20,7 @@ use Rattle.sq_aggfn.specs.declared.WindowSpec.{WindowSpec}
 use Rattle.sq_lists.specs.Windows.{in_group, groups_of, in_window, window_results, aggregate_of}
 use Rattle.sq_lists.proofs.GroupLemmas.{keyed-list}
 use Rattle.sq_lists.proofs.AllLemmas.{All-weaker}
-use Rattle.sq_lists.specs.WindowParts.{leading, told_results, numbered_results, NotFalling}
+use Rattle.sq_lists.specs.WindowParts.{leading, told_results, numbered_results, TimesNotFalling}
 
 pub range-split : (a n m : ℕ) → range_with_len a (n + m) ≡ range_with_len a n ++ range_with_len (a + n) m
 range-split a zero m = ap (range_with_len a) (let e : 0 + m ≡ m = omega arith in e) ∙ ap (λ k. range_with_len k m) (let e : a ≡ a + 0 = omega arith in e)
@@ -41,26 +41,26 @@ flat_map-nothing f a zero h = refl
 flat_map-nothing f a (suc n) h = ap (λ l. l ++ flat_map f (range_with_len (a + 1) n)) (h a (omega arith) (omega arith)) ∙ flat_map-nothing f (a + 1) n (λ p lo hi. h p (omega arith) (omega arith))
 
 -- a stream
-stream-rises : (xs : List Tuple) (least : ℕ) → AllByRecursion (λ x. least ≤ x.time) (take 1 xs) → IsStream xs → NotFalling least xs
+stream-rises : (xs : List Tuple) (least : ℕ) → AllByRecursion (λ x. least ≤ x.time) (take 1 xs) → IsStream xs → TimesNotFalling least xs
 stream-rises [] least low h = tt
 stream-rises (x ∷ []) least low h = (low.0, tt)
 stream-rises (x ∷ y ∷ rest) least low h = (low.0, stream-rises (y ∷ rest) x.time (h.0, tt) h.1)
 
-pub stream_rises : (xs : List Tuple) → IsStream xs → NotFalling 0 xs
+pub stream_rises : (xs : List Tuple) → IsStream xs → TimesNotFalling 0 xs
 stream_rises [] h = tt
 stream_rises (x ∷ xs) h = stream-rises (x ∷ xs) 0 (omega arith, tt) h
 
-pub lower : (a b : ℕ) (xs : List Tuple) → a ≤ b → NotFalling b xs → NotFalling a xs
+pub lower : (a b : ℕ) (xs : List Tuple) → a ≤ b → TimesNotFalling b xs → TimesNotFalling a xs
 lower a b [] le h = tt
 lower a b (x ∷ xs) le h = (omega (arith, le, h.0), h.1)
 
-pub all-later : (least : ℕ) (xs : List Tuple) → NotFalling least xs → AllByRecursion (λ x. least ≤ x.time) xs
+pub all-later : (least : ℕ) (xs : List Tuple) → TimesNotFalling least xs → AllByRecursion (λ x. least ≤ x.time) xs
 all-later least [] h = tt
 all-later least (x ∷ xs) h = (h.0, all-later least xs (lower least x.time xs h.0 h.1))
 
 module _ (w : WindowSpec) where
   -- a window that ends before all tuples
-  pub none-inside : (start least : ℕ) (xs : List Tuple) → start + w.size ≤ least → NotFalling least xs → in_window w start xs ≡ []
+  pub none-inside : (start least : ℕ) (xs : List Tuple) → start + w.size ≤ least → TimesNotFalling least xs → in_window w start xs ≡ []
   none-inside start least [] h up = refl
   none-inside start least (x ∷ xs) h up =
       let out : (nat_le start x.time && nat_lt x.time (start + w.size)) ≡ false = later start w.size x.time (omega (arith, h, up.0)) in
@@ -77,7 +77,7 @@ module _ (w : WindowSpec) where
       early start size time h = grind (arith, tests)
 
   -- the tuples of a window that begins before all tuples stand first
-  pub leading_is : (start least : ℕ) (xs : List Tuple) → start ≤ least → NotFalling least xs → take (leading (start + w.size) xs) xs ≡ in_window w start xs
+  pub leading_is : (start least : ℕ) (xs : List Tuple) → start ≤ least → TimesNotFalling least xs → take (leading (start + w.size) xs) xs ≡ in_window w start xs
   leading_is start least [] h up = refl
   leading_is start least (x ∷ xs) h up = by (nat_lt x.time (start + w.size)) refl (leading_is start x.time xs (omega (arith, h, up.0)) up.1)
     where
@@ -156,7 +156,7 @@ module _ (w : WindowSpec) (moves : 0 < w.advance) where
     rest-after x xs = later-windows x xs (window_count w (x ∷ xs)) ∙ after-by x xs (max_by (λ x. x.time) xs) (nat_lt (max_by (λ x. x.time) xs) x.time) refl
 
     -- one tuple more
-    pub left_step : (x : Tuple) (xs : List Tuple) (from next : ℕ) → NotFalling x.time xs → next ≤ started w x.time
+    pub left_step : (x : Tuple) (xs : List Tuple) (from next : ℕ) → TimesNotFalling x.time xs → next ≤ started w x.time
         → ((k : ℕ) → k < from → start_of w k + w.size ≤ x.time) → from ≤ started w x.time
         → left_results answers by w (x ∷ xs) next ≡ numbered_results answers by w (x ∷ xs) (max from next) (started w x.time) ++ left_results answers by w xs (started w x.time)
     left_step x xs from next up few ended le =
@@ -171,7 +171,7 @@ module _ (w : WindowSpec) (moves : 0 < w.advance) where
         ∙ ap (λ l. numbered_results answers by w (x ∷ xs) mid end ++ l) (rest-after x xs)
 
     -- the later tuples are in no window that is gone over
-    pub begun_step : (x : Tuple) (xs : List Tuple) → NotFalling x.time xs → AllByRecursion (λ y. started w x.time ≤ started w y.time) xs
+    pub begun_step : (x : Tuple) (xs : List Tuple) → TimesNotFalling x.time xs → AllByRecursion (λ y. started w x.time ≤ started w y.time) xs
     begun_step x xs up = All-weaker (λ y. x.time ≤ y.time) (λ y. started w x.time ≤ started w y.time) (λ y le. started_more w moves x.time y.time le) xs (all-later x.time xs up)
 
 -- what is told of the groups is the results
@@ -203,7 +203,7 @@ module _ (w : WindowSpec) (window : IsWindow w) where
       let begins = window.begins in
       omega (arith, whole, bounded, covers, begins, tick)
 
-  pub early_start : (time : ℕ) (xs : List Tuple) → NotFalling time xs → (k : ℕ) → k < started w time → NotFalling (start_of w k) xs
+  pub early_start : (time : ℕ) (xs : List Tuple) → TimesNotFalling time xs → (k : ℕ) → k < started w time → TimesNotFalling (start_of w k) xs
   early_start time xs up k lt = lower (start_of w k) time xs (starts_before w window.moves time k lt) up
 
 -- all that is left of a list

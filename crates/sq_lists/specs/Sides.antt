@@ -4,14 +4,14 @@ use Rattle.std.specs.List.{AllByRecursion, filter}
 use Rattle.sq_value.specs.declared.Tuple.{Tuple}
 use Rattle.sq_expr.specs.Trees.{Expr}
 use Rattle.sq_expr.specs.Expressions.{holds_of, pair_of}
-use Rattle.sq_lists.specs.Merge.{Entry}
+use Rattle.sq_lists.specs.Merge.{PortTuple}
 
 -- tuples that come at one side
-abbrev pub on_side : ℕ → List Tuple → List Entry
+abbrev pub on_side : ℕ → List Tuple → List PortTuple
 on_side side xs = map (λ x. (side, x)) xs
 
 -- what is held, as entries that came earlier
-abbrev pub held_of : List Tuple → List Tuple → List Entry
+abbrev pub held_of : List Tuple → List Tuple → List PortTuple
 held_of left right = on_side 0 left ++ on_side 1 right
 
 -- those behind the first ones that are more than the size before a time

@@ -4,12 +4,12 @@ use Rattle.std.specs.List.{AllByRecursion}
 use Rattle.sq_value.specs.declared.Value.{Value}
 use Rattle.sq_value.specs.declared.Tuple.{Tuple}
 use Rattle.sq_value.specs.Values.{field}
-use Rattle.sq_lists.specs.Sorting.{Numbered, sooner, time_in, at_time, without_late}
+use Rattle.sq_lists.specs.Sorting.{Numbered, numbered_sooner, time_in, at_time, without_late}
 
 -- behind those that aren't later
 abbrev pub put_in : Numbered → List Numbered → List Numbered
 put_in x [] = x ∷ []
-put_in x (y ∷ ys) = if sooner x y then x ∷ y ∷ ys else y ∷ put_in x ys
+put_in x (y ∷ ys) = if numbered_sooner x y then x ∷ y ∷ ys else y ∷ put_in x ys
 
 abbrev pub first_of_all : List Numbered → List Tuple
 first_of_all [] = []
@@ -38,8 +38,8 @@ latest_of latest (x ∷ xs) = latest_of (max latest x.time) xs
 abbrev pub chosen_of : ℕ → List Numbered → List Tuple
 chosen_of slack full = if nat_lt slack (length full) then first_of_all full else []
 
-abbrev pub kept_of : ℕ → List Numbered → List Numbered
-kept_of slack full = if nat_lt slack (length full) then after_first full else full
+abbrev pub kept_back : ℕ → List Numbered → List Numbered
+kept_back slack full = if nat_lt slack (length full) then after_first full else full
 
 abbrev pub sort_gives : SorterState → Tuple → List Tuple
 sort_gives s x = without_late s.latest (chosen_of s.slack (put_in (s.number, x) s.held))
@@ -49,7 +49,7 @@ sort_next s x =
     let full = put_in (s.number, x) s.held in
     record {
       slack = s.slack;
-      held = kept_of s.slack full;
+      held = kept_back s.slack full;
       number = s.number + 1;
       latest = latest_of s.latest (chosen_of s.slack full);
       given = s.given + length (sort_gives s x);
@@ -98,8 +98,8 @@ pub record IsSorter (s : SorterState) : Type 0 where
 abbrev pub Held : Type 0
 Held = (ℕ × ℕ) × List Value
 
-abbrev pub numbered : Held → Numbered
-numbered e = (e.0.1, record { time = e.0.0; fields = e.1 })
+abbrev pub numbered_tuple : Held → Numbered
+numbered_tuple e = (e.0.1, record { time = e.0.0; fields = e.1 })
 
 abbrev pub held_of : List Held → List Numbered
-held_of es = map numbered es
+held_of es = map numbered_tuple es

@@ -22,6 +22,6 @@ numbered_results answers by w xs from to =
     flat_map (λ k. window_results answers by (start_of w k) (in_window w (start_of w k) xs)) (range_with_len from (to - from))
 
 -- no tuple has a time below that of one before it
-abbrev pub NotFalling : ℕ → List Tuple → Type 0
-NotFalling least [] = Unit {0}
-NotFalling least (x ∷ xs) = (least ≤ x.time) × NotFalling x.time xs
+abbrev pub TimesNotFalling : ℕ → List Tuple → Type 0
+TimesNotFalling least [] = Unit {0}
+TimesNotFalling least (x ∷ xs) = (least ≤ x.time) × TimesNotFalling x.time xs

@@ -2,7 +2,7 @@
 
 ghost use Rattle.std.specs.Prelude.{◌≡◌, ◌^◌, ◌<◌, ◌++◌, [], ◌∷◌, map, length, IfOk, OnOk};
 ghost use Rattle.sq_value.specs.Lists.{sort_by};
-ghost use Rattle.sq_lists.specs.Merge.{merge, earlier};
+ghost use Rattle.sq_lists.specs.Merge.{merge_tuples, tuple_earlier};
 
 use sq_value::{Tuple, copy_tuple};
 use std::alloc::{AllocError, Global};
@@ -17,7 +17,7 @@ fn push_stream(pairs: &mut Vec<(u32, Tuple)>, port: u32, tuples: &[Tuple]) -> Re
 }
 
 fn sort_pairs(pairs: &mut Vec<(u32, Tuple)>) -> Result<(), AllocError>
-    ensures { OnOk result (pairs.new.items ≡ sort_by earlier pairs.old.items) }
+    ensures { OnOk result (pairs.new.items ≡ sort_by tuple_earlier pairs.old.items) }
 {
     pairs.sort_by(|a, b| a.1.time.cmp(&b.1.time))
 }
@@ -26,7 +26,7 @@ fn sort_pairs(pairs: &mut Vec<(u32, Tuple)>) -> Result<(), AllocError>
 /// their place in it.
 pub fn merge(alloc: Global, ins: &[Vec<Tuple>]) -> Result<Vec<(u32, Tuple)>, AllocError>
     requires { length ins.now < 2 ^ 32 }
-    ensures { IfOk result (λ pairs. pairs.items ≡ merge (map (λ v. v.items) ins.now)) }
+    ensures { IfOk result (λ pairs. pairs.items ≡ merge_tuples (map (λ v. v.items) ins.now)) }
 {
     let mut pairs = Vec::new(alloc);
     for port in 0..ins.len() {
@@ -42,7 +42,7 @@ pub fn merge_two(
     left: &[Tuple],
     right: &[Tuple],
 ) -> Result<Vec<(u32, Tuple)>, AllocError>
-    ensures { IfOk result (λ pairs. pairs.items ≡ merge (left.now ∷ right.now ∷ [])) }
+    ensures { IfOk result (λ pairs. pairs.items ≡ merge_tuples (left.now ∷ right.now ∷ [])) }
 {
     let mut pairs = Vec::new(alloc);
     push_stream(&mut pairs, 0, left)?;

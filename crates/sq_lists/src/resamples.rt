@@ -3,7 +3,7 @@
 ghost use Rattle.std.specs.Prelude.{◌≡◌, ◌≤◌, ◌++◌, drop, take, length, IfOk, OnOk};
 ghost use Rattle.sq_value.specs.Values.{IsStream};
 ghost use Rattle.sq_lists.specs.Sides.{recent};
-ghost use Rattle.sq_lists.specs.WindowParts.{NotFalling};
+ghost use Rattle.sq_lists.specs.WindowParts.{TimesNotFalling};
 ghost use Rattle.sq_lists.specs.Nearness.{reaching};
 ghost use Rattle.sq_lists.specs.Resamples.{resampled, resample_of, resample_list_of};
 
@@ -65,7 +65,7 @@ fn reach(tuples: &[Tuple], size: u64, time: u64) -> usize
 
 /// A left tuple with the fold's answers over the right ones near it, of those of which none is past.
 fn sample<F: Fold>(fold: &F, size: u64, x: &Tuple, right: &[Tuple]) -> Result<Tuple, AllocError>
-    requires rises { NotFalling 0 right.now }
+    requires rises { TimesNotFalling 0 right.now }
     requires live { recent size x.now.time right.now ≡ right.now }
     ensures { IfOk result (λ y. y ≡ resampled (F.table fold.now) size right.now x.now) }
 {

@@ -1,7 +1,7 @@
 //! Filter and Map.
 
 ghost use Rattle.std.specs.Prelude.{◌≡◌, ◌≤◌, map, length, IfOk};
-ghost use Rattle.sq_lists.specs.Boxes.{port_of, filter_list_of, mapped, map_list_of};
+ghost use Rattle.sq_lists.specs.Boxes.{port_taken, filter_list_of, mapped, map_list_of};
 
 use sq_expr::{Typed, eval, holds};
 use sq_value::{ListOf, Tuple, copy_tuple};
@@ -9,7 +9,7 @@ use std::alloc::{AllocError, Global};
 
 /// The port of a tuple: the number of the first predicate that is true, else their number. Null is not true.
 pub fn port_of_tuple(preds: &[Typed], tuple: &Tuple) -> usize
-    ensures port { result ≡ port_of (map (λ e. e.tree) preds.now) tuple.now }
+    ensures port { result ≡ port_taken (map (λ e. e.tree) preds.now) tuple.now }
     ensures most { result ≤ length preds.now }
 {
     for (i, p) in preds.iter().enumerate() {

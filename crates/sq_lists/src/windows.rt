@@ -6,7 +6,7 @@ ghost use Rattle.sq_aggfn.specs.Groups.{group_of};
 ghost use Rattle.sq_aggfn.specs.Keyed.{keyed_from, AllMade};
 ghost use Rattle.sq_aggfn.specs.Windows.{IsWindow, start_of};
 ghost use Rattle.sq_lists.specs.Windows.{aggregate_of, aggregate_list_of};
-ghost use Rattle.sq_lists.specs.WindowParts.{leading, told_results, numbered_results, NotFalling};
+ghost use Rattle.sq_lists.specs.WindowParts.{leading, told_results, numbered_results, TimesNotFalling};
 
 use sq_aggfn::{Bundle, Fold, Func, Group, WindowSpec, add_at, group_of};
 use sq_value::{Fields, Tuple};
@@ -83,7 +83,7 @@ fn push_windows<F: Fold>(
     out: &mut Vec<Tuple>,
 ) -> Result<(), AllocError>
     requires window { IsWindow window }
-    requires rises { (k : ℕ) → k < to → NotFalling (start_of window k) rest.now }
+    requires rises { (k : ℕ) → k < to → TimesNotFalling (start_of window k) rest.now }
     requires small { start_of window to < 2 ^ 41 }
     ensures { OnOk result (out.new.items ≡ out.old.items ++ numbered_results (F.table fold.now) by.now window rest.now from to) }
 {

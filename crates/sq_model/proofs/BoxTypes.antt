@@ -19,10 +19,10 @@ use Rattle.sq_expr.specs.Kinds.{has_kind, kind_at, kind_in}
 use Rattle.sq_aggfn.specs.declared.Func.{Func}
 use Rattle.sq_aggfn.specs.declared.Func.TheVariants as func
 use Rattle.sq_aggfn.specs.declared.WindowSpec.{WindowSpec}
-use Rattle.sq_aggfn.specs.Functions.{known_values, numbers_of, sum_value, average_value, or_null, answer_of, answers_of, total_of}
+use Rattle.sq_aggfn.specs.Functions.{known_values, numbers_of, sum_value, average_value, or_null, function_answer, answers_of, total_of}
 use Rattle.sq_aggfn.specs.Groups.{group_of}
 use Rattle.sq_lists.specs.Boxes.{mapped}
-use Rattle.sq_lists.specs.Sorting.{Numbered, sooner, time_in, at_time, retimed, without, tuple_of, chosen, without_late, bsort_list_of}
+use Rattle.sq_lists.specs.Sorting.{Numbered, numbered_sooner, time_in, at_time, retimed, without_number, tuple_if, sorted_within, without_late, bsort_list_of}
 use Rattle.sq_lists.specs.Windows.{in_window, in_group, groups_of, window_results, aggregate_list_of, starts_of}
 use Rattle.sq_lists.specs.Pairs.{meets, paired, pairs_of, pairs_from}
 use Rattle.sq_lists.specs.Resamples.{near, resampled, resample_list_of}
@@ -103,34 +103,34 @@ module _ (P : List Value → Type 0) where
   IfThere None = Unit {0}
   IfThere (Some a) = P (a.1).fields
 
-  least-keeps : (xs : List Numbered) → EachNumbered xs → IfThere (least_by sooner xs)
+  least-keeps : (xs : List Numbered) → EachNumbered xs → IfThere (least_by numbered_sooner xs)
   least-keeps [] h = tt
-  least-keeps (x ∷ xs) h = put (least_by sooner xs) (least-keeps xs h.1)
+  least-keeps (x ∷ xs) h = put (least_by numbered_sooner xs) (least-keeps xs h.1)
     where
       both : (b : Numbered) → P (b.1).fields → (c : Bool) → P ((if c then b else x).1).fields
       both b p true = p
       both b p false = h.0
 
-      put : (o : Option Numbered) → IfThere o → P ((lesser sooner x o).1).fields
+      put : (o : Option Numbered) → IfThere o → P ((lesser numbered_sooner x o).1).fields
       put None p = h.0
-      put (Some b) p = both b p (sooner b x)
+      put (Some b) p = both b p (numbered_sooner b x)
 
-  chosen-one : (o : Option Numbered) → IfThere o → Each (tuple_of o)
+  chosen-one : (o : Option Numbered) → IfThere o → Each (tuple_if o)
   chosen-one None p = tt
   chosen-one (Some a) p = (p, tt)
 
-  without-keeps : (o : Option Numbered) (xs : List Numbered) → EachNumbered xs → EachNumbered (without o xs)
+  without-keeps : (o : Option Numbered) (xs : List Numbered) → EachNumbered xs → EachNumbered (without_number o xs)
   without-keeps None xs h = h
   without-keeps (Some a) xs h = All-kept (λ (a : Numbered). P (a.1).fields) (λ b. not (eqb b.0 a.0)) xs h
 
-  chosen-keeps : (slack j count : ℕ) (rest : List Numbered) → EachNumbered rest → Each (chosen slack j count rest)
+  chosen-keeps : (slack j count : ℕ) (rest : List Numbered) → EachNumbered rest → Each (sorted_within slack j count rest)
   chosen-keeps slack j zero rest h = tt
   chosen-keeps slack j (suc count) rest h =
       let early = filter (λ (a : Numbered). leb a.0 (j + slack)) rest in
-      let next = least_by sooner early in
-      All-append (λ x. P x.fields) (tuple_of next) (chosen slack (j + 1) count (without next rest))
+      let next = least_by numbered_sooner early in
+      All-append (λ x. P x.fields) (tuple_if next) (sorted_within slack (j + 1) count (without_number next rest))
       (chosen-one next (least-keeps early (All-kept (λ (a : Numbered). P (a.1).fields) (λ a. leb a.0 (j + slack)) rest h)))
-      (chosen-keeps slack (j + 1) count (without next rest) (without-keeps next rest h))
+      (chosen-keeps slack (j + 1) count (without_number next rest) (without-keeps next rest h))
 
   late-keeps : (latest : ℕ) (xs : List Tuple) → Each xs → Each (without_late latest xs)
   late-keeps latest [] h = tt
@@ -142,7 +142,7 @@ module _ (P : List Value → Type 0) where
 
   pub bsort-keeps : (by slack : ℕ) (xs : List Tuple) → Each xs → Each (bsort_list_of by slack xs)
   bsort-keeps by slack xs h =
-      late-keeps 0 (chosen slack 0 (length (retimed by xs)) (enumerate_from 0 (retimed by xs)))
+      late-keeps 0 (sorted_within slack 0 (length (retimed by xs)) (enumerate_from 0 (retimed by xs)))
       (chosen-keeps slack 0 (length (retimed by xs)) (enumerate_from 0 (retimed by xs)) (numbered-keeps 0 (retimed by xs) (retimed-keeps by xs h)))
 
 -- ---- Aggregate
@@ -222,7 +222,7 @@ only-int (Some kind.Int) k e = let same : kind.Int ≡ k = cc e in sym same
 only-int (Some kind.Bool) k e = let same : kind.Bool ≡ k = cc e in absurd (cc e)
 only-int (Some kind.Text) k e = absurd (cc e)
 
-answer-kind : (cs : Columns) (f : Func) (k : Kind) → kind_of_func cs f ≡ Some k → (xs : List Tuple) → FitsColumns cs xs → OfKind k (answer_of f xs)
+answer-kind : (cs : Columns) (f : Func) (k : Kind) → kind_of_func cs f ≡ Some k → (xs : List Tuple) → FitsColumns cs xs → OfKind k (function_answer f xs)
 answer-kind cs func.Count k e xs h = let same : kind.Int ≡ k = cc e in subst (λ z. OfKind z (int_or_null (pos (length xs)))) same (int-kind (pos (length xs)))
 answer-kind cs (func.Sum i) k e xs h = subst (λ z. OfKind z (sum_value (numbers_of i xs))) (sym (only-int (kind_at cs i) k e)) (sum-kind (numbers_of i xs))
 answer-kind cs (func.Avg i) k e xs h = subst (λ z. OfKind z (average_value (numbers_of i xs))) (sym (only-int (kind_at cs i) k e)) (average-kind (numbers_of i xs))
@@ -238,7 +238,7 @@ answers-fit cs [] (f ∷ fs) e xs h = absurd (cc e)
 answers-fit cs (c ∷ given) (f ∷ fs) e xs h =
     let first : kind_of_func cs f ≡ Some c.1 = cc e in
     let rest : map (kind_of_func cs) fs ≡ map Some (kinds_of given) = cc e in
-    and-both (is_of_kind c.1 (answer_of f xs)) (fields_fit given (answers_of fs xs)) (answer-kind cs f c.1 first xs h) (answers-fit cs given fs rest xs h)
+    and-both (is_of_kind c.1 (function_answer f xs)) (fields_fit given (answers_of fs xs)) (answer-kind cs f c.1 first xs h) (answers-fit cs given fs rest xs h)
 
 pub fits-append : (cs ds : Columns) (vs ws : List Value) → fields_fit cs vs ≡ true → fields_fit ds ws ≡ true → fields_fit (cs ++ ds) (vs ++ ws) ≡ true
 fits-append [] ds [] ws h k = k

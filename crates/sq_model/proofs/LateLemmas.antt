@@ -11,7 +11,7 @@ use Rattle.sq_value.specs.Lists.{least_by}
 use Rattle.sq_graph.specs.declared.BoxKind.TheVariants as boxes
 use Rattle.sq_graph.specs.declared.BoxWires.{BoxWires}
 use Rattle.sq_graph.specs.Wires.{Port, producer_of, inputs_of, stream_at}
-use Rattle.sq_lists.specs.Sorting.{Numbered, sooner, retimed, without, tuple_of, chosen, without_late, bsort_list_of}
+use Rattle.sq_lists.specs.Sorting.{Numbered, numbered_sooner, retimed, without_number, tuple_if, sorted_within, without_late, bsort_list_of}
 use Rattle.sq_lists.specs.Sorters.{timed}
 use Rattle.sq_net.specs.declared.Body.{Body}
 use Rattle.sq_net.specs.declared.Body.TheVariants.{Filter, Map, Union, BSort, Aggregate, Join, Resample}
@@ -36,13 +36,13 @@ retimed_few by (x ∷ xs) = onto (timed by x) (retimed_few by xs)
     onto None few = omega (arith, few)
     onto (Some y) few = omega (arith, few)
 
-chosen_few : (slack j count : ℕ) (rest : List Numbered) → length (chosen slack j count rest) ≤ count
+chosen_few : (slack j count : ℕ) (rest : List Numbered) → length (sorted_within slack j count rest) ≤ count
 chosen_few slack j zero rest = omega arith
 chosen_few slack j (suc count) rest =
-    let next = least_by sooner (filter (λ a. nat_le a.0 (j + slack)) rest) in
-    onto next (chosen slack (j + 1) count (without next rest)) (chosen_few slack (j + 1) count (without next rest))
+    let next = least_by numbered_sooner (filter (λ a. nat_le a.0 (j + slack)) rest) in
+    onto next (sorted_within slack (j + 1) count (without_number next rest)) (chosen_few slack (j + 1) count (without_number next rest))
   where
-    onto : (o : Option Numbered) (more : List Tuple) → length more ≤ count → length (tuple_of o ++ more) ≤ suc count
+    onto : (o : Option Numbered) (more : List Tuple) → length more ≤ count → length (tuple_if o ++ more) ≤ suc count
     onto None more few = omega (arith, few)
     onto (Some a) more few = omega (arith, few)
 
@@ -58,7 +58,7 @@ on_time_few latest (x ∷ xs) =
 bsort_few : (by slack : ℕ) (xs : List Tuple) → length (bsort_list_of by slack xs) ≤ length xs
 bsort_few by slack xs =
     let found = retimed by xs in
-    let given = chosen slack 0 (length found) (enumerate_from 0 found) in
+    let given = sorted_within slack 0 (length found) (enumerate_from 0 found) in
     let a = retimed_few by xs in
     let b = chosen_few slack 0 (length found) (enumerate_from 0 found) in
     let c = on_time_few 0 given in

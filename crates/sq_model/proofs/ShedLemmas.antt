@@ -23,7 +23,7 @@ use Rattle.sq_place.specs.Points.{until_of}
 use Rattle.sq_model.specs.Kept.{needed_until, distance_of, needed, kept_of}
 use Rattle.sq_model.specs.Given.{needed_by, kept_by, drops_at, record_by, AreTicks, LevelsAre, shown_without}
 use Rattle.sq_model.specs.declared.known.Known.{Known}
-use Rattle.sq_model.specs.Known.{streams_in, stream_or_none, arc_in, place_in, IsSafe, IsKnown}
+use Rattle.sq_model.specs.Known.{streams_in, stream_or_none, arc_in, stream_at_place, IsSafe, IsKnown}
 use Rattle.sq_model.proofs.PlacedLemmas.{placed_of}
 use Rattle.sq_model.proofs.BatchLemmas.{last_low, batch_begins, epochs_up}
 
@@ -103,12 +103,12 @@ arc_is_stream k safe a = by (slice_get k.arcs.items a)
 pub arc_ticks : (k : Known) → IsSafe k → (a : ℕ) → AreTicks (arc_in k a)
 arc_ticks k safe a = stream_ticks (arc_in k a) (arc_is_stream k safe a)
 
-pub place_stream : (k : Known) → IsSafe k → (at : DropAt) → IsStream (place_in k at)
+pub place_stream : (k : Known) → IsSafe k → (at : DropAt) → IsStream (stream_at_place k at)
 place_stream k safe (place.Stream s) = stream_is k safe s
 place_stream k safe (place.Arc a) = arc_is_stream k safe a
 
-pub place_ticks : (k : Known) → IsSafe k → (at : DropAt) → AreTicks (place_in k at)
-place_ticks k safe at = stream_ticks (place_in k at) (place_stream k safe at)
+pub place_ticks : (k : Known) → IsSafe k → (at : DropAt) → AreTicks (stream_at_place k at)
+place_ticks k safe at = stream_ticks (stream_at_place k at) (place_stream k safe at)
 
 module _ (k : Known) (r : Replay) (known : IsKnown k r) where
   pub arc_is : (a : ℕ) → arc_in k a ≡ full_arc r.network r.sources a
@@ -122,14 +122,14 @@ module _ (k : Known) (r : Replay) (known : IsKnown k r) where
       by None = refl
       by (Some x) = full_listed r.network r.sources (placed_of r.network known.sound) x.stream
 
-  pub place_is : (at : DropAt) → place_in k at ≡ full_at r at
+  pub place_is : (at : DropAt) → stream_at_place k at ≡ full_at r at
   place_is (place.Stream s) = ap (λ (ss : List (List Tuple)). nth ss s) known.streams ∙ full_listed r.network r.sources (placed_of r.network known.sound) s
   place_is (place.Arc a) = arc_is a
 
   module _ (safe : IsSafe k) (lasts : 1 ≤ k.levels.epoch) (w : ℕ) (p : DropPoint) where
-    pub record_known : record_by k.levels k.seed w p (place_in k p.at) ≡ record_of r w p
+    pub record_known : record_by k.levels k.seed w p (stream_at_place k p.at) ≡ record_of r w p
     record_known =
-        ap (λ s. record_by k.levels s w p (place_in k p.at)) known.seed
+        ap (λ s. record_by k.levels s w p (stream_at_place k p.at)) known.seed
         ∙ ap (record_by k.levels r.seed w p) (place_is p.at)
         ∙ record_is r k.levels known.levels safe.closed lasts w p (subst AreTicks (place_is p.at) (place_ticks k safe p.at))
 

@@ -89,9 +89,9 @@ box-fits (body.Aggregate fs group w) css xss ports q cs t h s =
     (aggregate-fits (first_columns css) t.0 fs group t.2 (recursion_from_All (λ i. i < length (first_columns css)) group t.4) w (nth xss 0) (first-fits css xss h))
 box-fits (body.Join size on) css xss ports q cs t h s =
     subst (λ z. FitsColumns z (box_list (body.Join size on) q xss)) (only-columns cs _ ports q t.1 s)
-    (join-fits (first_columns css) (second_columns css) (codes "l_") (codes "r_") size on.tree [] (whole.merge (nth xss 0 ∷ nth xss 1 ∷ []))
+    (join-fits (first_columns css) (second_columns css) (codes "l_") (codes "r_") size on.tree [] (whole.merge_tuples (nth xss 0 ∷ nth xss 1 ∷ []))
     tt
-    (All-sorted _ whole.earlier (ports_of (nth xss 0 ∷ nth xss 1 ∷ []))
+    (All-sorted _ whole.tuple_earlier (ports_of (nth xss 0 ∷ nth xss 1 ∷ []))
     (sided (first_columns css) (second_columns css) (codes "l_") (codes "r_") size on.tree (nth xss 0) (nth xss 1) (first-fits css xss h) (second-fits css xss h))))
 box-fits (body.Resample size fs) css xss ports q cs t h s =
     subst (λ z. FitsColumns z (box_list (body.Resample size fs) q xss)) (only-columns cs _ ports q t.1 s)

@@ -7,16 +7,16 @@ use Rattle.std.proofs.lemmas.Bool.Decides.{nat_tests}
 use Rattle.sq_value.specs.declared.Tuple.{Tuple}
 use Rattle.sq_value.specs.Lists.{ports_from, ports_of, sort_by}
 use Rattle.sq_value.proofs.Sorting.{sort_map}
-use Rattle.sq_lists.specs.Merge.{Entry, earlier, union}
-use Rattle.sq_model.specs.Unions.{sooner}
+use Rattle.sq_lists.specs.Merge.{PortTuple, tuple_earlier, union}
+use Rattle.sq_model.specs.Unions.{tuple_sooner}
 
-pub sooner_orders : IsStrictWeakOrder sooner
+pub sooner_orders : IsStrictWeakOrder tuple_sooner
 sooner_orders = record {
   one_way = λ x y h. grind (arith, nat_tests);
   chain = λ x y z p q. grind (arith, nat_tests);
 }
 
-abbrev tuple_of : Entry → Tuple
+abbrev tuple_of : PortTuple → Tuple
 tuple_of e = e.1
 
 unnumbered : (port : ℕ) (xs : List Tuple) → map tuple_of (map (λ x. (port, x)) xs) ≡ xs
@@ -30,6 +30,6 @@ all_unnumbered stream port (s ∷ inputs) =
     ∙ ap (λ xs. xs ++ map tuple_of (ports_from (port + 1) (map stream inputs))) (unnumbered port (stream s))
     ∙ ap (λ ys. stream s ++ ys) (all_unnumbered stream (port + 1) inputs)
 
-pub union_is_sorted : (stream : ℕ → List Tuple) (inputs : List ℕ) → sort_by sooner (flat_map stream inputs) ≡ union (map stream inputs)
+pub union_is_sorted : (stream : ℕ → List Tuple) (inputs : List ℕ) → sort_by tuple_sooner (flat_map stream inputs) ≡ union (map stream inputs)
 union_is_sorted stream inputs =
-    ap (sort_by sooner) (sym (all_unnumbered stream 0 inputs)) ∙ sort_map tuple_of earlier sooner (λ a b. refl) (ports_of (map stream inputs))
+    ap (sort_by tuple_sooner) (sym (all_unnumbered stream 0 inputs)) ∙ sort_map tuple_of tuple_earlier tuple_sooner (λ a b. refl) (ports_of (map stream inputs))

@@ -15,7 +15,7 @@ use Rattle.sq_model.specs.Kept.{kept_of, work_of}
 use Rattle.sq_model.proofs.ArcCounts.{arcs_count}
 use Rattle.sq_net.proofs.StreamLemmas.{boxes_count}
 use Rattle.sq_model.specs.declared.known.Known.{Known}
-use Rattle.sq_model.specs.Known.{place_in, IsKnown}
+use Rattle.sq_model.specs.Known.{stream_at_place, IsKnown}
 use Rattle.sq_model.proofs.ShedLemmas.{place_is}
 
 pub sum_map : {X : Type 0} (f : X → ℕ) (xs : List X) → sum_by (λ (k : ℕ). k) (map f xs) ≡ sum_by f xs
@@ -94,11 +94,11 @@ module _ (K : ℕ → ℕ) (w : Wiring) where
           ∙ sym (sum_by-cons (λ o. K (output_arc_at w o)) o os)
 
 module _ (k : Known) (r : Replay) (known : IsKnown k r) where
-  points_same : (ps : List DropPoint) → sum_by (λ (p : DropPoint). length (place_in k p.at)) ps ≡ sum_by (λ (p : DropPoint). length (full_at r p.at)) ps
+  points_same : (ps : List DropPoint) → sum_by (λ (p : DropPoint). length (stream_at_place k p.at)) ps ≡ sum_by (λ (p : DropPoint). length (full_at r p.at)) ps
   points_same [] = refl
   points_same (p ∷ ps) =
-      sum_by-cons (λ (p : DropPoint). length (place_in k p.at)) p ps
-      ∙ ap (λ (l : List Tuple). length l + sum_by (λ (p : DropPoint). length (place_in k p.at)) ps) (place_is k r known p.at)
+      sum_by-cons (λ (p : DropPoint). length (stream_at_place k p.at)) p ps
+      ∙ ap (λ (l : List Tuple). length l + sum_by (λ (p : DropPoint). length (stream_at_place k p.at)) ps) (place_is k r known p.at)
       ∙ ap (λ m. length (full_at r p.at) + m) (points_same ps)
       ∙ sym (sum_by-cons (λ (p : DropPoint). length (full_at r p.at)) p ps)
 
@@ -114,14 +114,14 @@ module _ (k : Known) (r : Replay) (known : IsKnown k r) where
   abbrev drops_fed : ℕ
   drops_fed = sum_by (λ (p : DropPoint). length (full_at r p.at)) (points_of r.network)
 
-  pub work_is : (kept given : List ℕ) → kept ≡ map (λ a. length (kept_of r a)) (numbers_to (length k.arcs.items)) → given ≡ map (λ (p : DropPoint). length (place_in k p.at)) k.points.items
+  pub work_is : (kept given : List ℕ) → kept ≡ map (λ a. length (kept_of r a)) (numbers_to (length k.arcs.items)) → given ≡ map (λ (p : DropPoint). length (stream_at_place k p.at)) k.points.items
       → sum_by (λ (k : ℕ). k) kept + sum_by (λ (k : ℕ). k) given ≡ work_of r
   work_is kept given one two =
       let arcs : length k.arcs.items ≡ length (arcs_of r.network.wires) = ap (λ (l : List ℕ). length l) known.arcs ∙ length-map (arcs_of r.network.wires) (λ (a : Arc). a.stream) in
       let first : sum_by (λ (k : ℕ). k) kept ≡ boxes_fed + outputs_fed =
       ap (sum_by (λ (k : ℕ). k)) one ∙ sum_map kept_at (numbers_to (length k.arcs.items)) ∙ ap (λ m. sum_by kept_at (numbers_to m)) arcs ∙ arcs_sum kept_at r.network.wires in
       let second : sum_by (λ (k : ℕ). k) given ≡ drops_fed =
-      ap (sum_by (λ (k : ℕ). k)) two ∙ sum_map (λ (p : DropPoint). length (place_in k p.at)) k.points.items ∙ points_same k.points.items
+      ap (sum_by (λ (k : ℕ). k)) two ∙ sum_map (λ (p : DropPoint). length (stream_at_place k p.at)) k.points.items ∙ points_same k.points.items
       ∙ ap (sum_by (λ (p : DropPoint). length (full_at r p.at))) known.points in
       let boxes = ap (λ m. sum_by (λ b. sum_by kept_at (input_arcs_of r.network.wires b)) (numbers_to m)) (boxes_count r.network known.sound) in
       let outputs = ap (λ m. sum_by (λ o. kept_at (output_arc_at r.network.wires o)) (numbers_to m)) known.sound.agrees.outputs in

@@ -8,7 +8,7 @@ use Rattle.sq_value.specs.declared.Tuple.{Tuple}
 use Rattle.sq_value.specs.Lists.{numbers_to, max_by}
 use Rattle.sq_graph.specs.Order.{contains_number}
 use Rattle.sq_graph.specs.Wires.{producers_of, arcs_of}
-use Rattle.sq_road.specs.Levels.{LevelTable, level_of, Agrees}
+use Rattle.sq_road.specs.Levels.{LevelTable, level_of, AgreesWith}
 use Rattle.sq_road.specs.Draws.{draw_of}
 use Rattle.sq_place.specs.declared.DropPoint.{DropPoint}
 use Rattle.sq_place.specs.Points.{until_of}
@@ -60,7 +60,7 @@ IsAt n (at.Arc a) = a < length (arcs_of n.wires)
 -- a table has the levels of a replay
 pub record LevelsAre (table : LevelTable) (r : Replay) : Type 0 where
   pub epoch : table.epoch ≡ r.network.epoch
-  pub agrees : Agrees table (shed.level_of r)
+  pub agrees : AgreesWith table (shed.level_of r)
 
 -- the first drop that passes a test, by its number
 abbrev pub found_at : Option ℕ → List DropPoint → Option (ℕ × DropPoint)

@@ -26,9 +26,9 @@ stream_or_none streams (Some s) = nth streams s
 abbrev pub arc_in : Known → ℕ → List Tuple
 arc_in k a = stream_or_none (streams_in k) (slice_get k.arcs.items a)
 
-abbrev pub place_in : Known → DropAt → List Tuple
-place_in k (at.Stream s) = nth (streams_in k) s
-place_in k (at.Arc a) = arc_in k a
+abbrev pub stream_at_place : Known → DropAt → List Tuple
+stream_at_place k (at.Stream s) = nth (streams_in k) s
+stream_at_place k (at.Arc a) = arc_in k a
 
 pub record IsSafe (k : Known) : Type 0 where
   pub streams : All IsStream (streams_in k)

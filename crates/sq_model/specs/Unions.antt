@@ -2,5 +2,5 @@
 use Rattle.std.specs.Prelude.{Bool, nat_lt}
 use Rattle.sq_value.specs.declared.Tuple.{Tuple}
 
-abbrev pub sooner : Tuple → Tuple → Bool
-sooner a b = nat_lt a.time b.time
+abbrev pub tuple_sooner : Tuple → Tuple → Bool
+tuple_sooner a b = nat_lt a.time b.time

@@ -11,7 +11,7 @@ ghost use Rattle.sq_points.specs.Points.{points_of};
 ghost use Rattle.sq_model.specs.Shedding.{Replay, first_drop, record_of, answer_of};
 ghost use Rattle.sq_model.specs.Kept.{distance_of, kept_of, work_of};
 ghost use Rattle.sq_model.specs.Given.{AreFew, found_at};
-ghost use Rattle.sq_model.specs.Known.{place_in, IsSafe, IsKnown};
+ghost use Rattle.sq_model.specs.Known.{stream_at_place, IsSafe, IsKnown};
 
 use crate::boxes::push_copies;
 use crate::drops::{dropped_batches, kept_number, shown_tuples};
@@ -142,7 +142,7 @@ fn kept_numbers(alloc: Global, known: &Known) -> Result<Vec<u64>, AllocError>
 
 // How many tuples each drop is fed.
 fn place_numbers(alloc: Global, known: &Known) -> Result<Vec<u64>, AllocError>
-    ensures { IfOk result (λ v. v.items ≡ map (λ p. length (place_in known.now p.at)) known.now.points.items) }
+    ensures { IfOk result (λ v. v.items ≡ map (λ p. length (stream_at_place known.now p.at)) known.now.points.items) }
 {
     let mut all = Vec::new(alloc);
     for p in &known.points {

@@ -6,7 +6,7 @@ ghost use Rattle.sq_value.specs.Values.{IsStream};
 ghost use Rattle.sq_lists.specs.Merge.{union};
 ghost use Rattle.sq_net.specs.Sound.{HasWindow};
 ghost use Rattle.sq_model.specs.Full.{nth, box_list};
-ghost use Rattle.sq_model.specs.Unions.{sooner};
+ghost use Rattle.sq_model.specs.Unions.{tuple_sooner};
 
 use sq_lists::{aggregate_list, bsort_list, filter_list, join_list, map_list, resample_list};
 use sq_net::Body;
@@ -55,7 +55,7 @@ fn joined(alloc: Global, streams: &[Vec<Tuple>], inputs: &[u32]) -> Result<Vec<T
 }
 
 fn sort_by_time(tuples: &mut Vec<Tuple>) -> Result<(), AllocError>
-    ensures { OnOk result (tuples.new.items ≡ sort_by sooner tuples.old.items) }
+    ensures { OnOk result (tuples.new.items ≡ sort_by tuple_sooner tuples.old.items) }
 {
     tuples.sort_by(|a, b| a.time.cmp(&b.time))
 }

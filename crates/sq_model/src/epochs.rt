@@ -1,7 +1,7 @@
 // The levels of all epochs of recorded streams.
 ghost use Rattle.std.specs.Prelude.{◌≡◌, ◌+◌, ◌/◌, ◌<◌, ◌≤◌, ◌^◌, map, IfOk};
 ghost use Rattle.sq_plan.specs.Shown.{level_for};
-ghost use Rattle.sq_road.specs.Levels.{Agrees};
+ghost use Rattle.sq_road.specs.Levels.{AgreesWith};
 ghost use Rattle.sq_model.specs.Given.{counted, AreFew};
 ghost use Rattle.sq_model.specs.Epochs.{count_in, NoneBetween, QuietBetween};
 
@@ -87,7 +87,7 @@ pub(crate) fn levels_of(
     requires few { AreFew (map (λ t. t.items) sources.now) }
     ensures epoch { IfOk result (λ l. l.epoch ≡ epoch) }
     ensures closed { IfOk result (λ l. l.closed ≡ 2 ^ 40 + 1) }
-    ensures agrees { IfOk result (λ l. Agrees l (level_for planner.old (counted epoch (map (λ t. t.items) sources.now)))) }
+    ensures agrees { IfOk result (λ l. AgreesWith l (level_for planner.old (counted epoch (map (λ t. t.items) sources.now)))) }
 {
     let mut levels = Levels::new(alloc, epoch);
     let mut ended = 0;

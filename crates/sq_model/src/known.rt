@@ -6,7 +6,7 @@ ghost use Rattle.sq_net.specs.Sound.{IsSound};
 ghost use Rattle.sq_points.specs.Limits.{KeepsDropLimits};
 ghost use Rattle.sq_points.specs.Points.{points_of};
 ghost use Rattle.sq_model.specs.Given.{AreFew, LevelsAre};
-ghost use Rattle.sq_model.specs.Known.{arc_in, place_in, IsSafe, IsKnown};
+ghost use Rattle.sq_model.specs.Known.{arc_in, stream_at_place, IsSafe, IsKnown};
 
 use crate::arcs::{copies, streams_on_arcs};
 use crate::boxes::stream_in;
@@ -101,7 +101,7 @@ impl Known {
 
     /// The full stream at a place.
     pub(crate) fn at_place(&self, at: DropAt) -> &[Tuple]
-        ensures { result.now ≡ place_in self.now at }
+        ensures { result.now ≡ stream_at_place self.now at }
     {
         match at {
             DropAt::Stream(stream) => stream_in(&self.streams, stream),

@@ -70,7 +70,7 @@ kind_of_body (Join size on) = boxes.Join
 kind_of_body (Resample size funcs) = boxes.Resample
 
 -- the lists and the wiring agree in number and in the kind and the ports of each box, and name only streams that exist
-pub record Agrees (n : Network) : Type 0 where
+pub record IsConsistent (n : Network) : Type 0 where
   pub sources : n.wires.sources ≡ length n.sources
   pub kinds : map (λ b. b.kind) n.wires.boxes ≡ map (λ b. kind_of_body b.body) n.boxes
   pub ports : map (λ b. b.ports) n.wires.boxes ≡ map (λ b. length b.schemas) n.boxes
@@ -133,7 +133,7 @@ input_columns n at = filter_map (columns_of_stream n) (inputs_of n.wires at)
 
 pub record IsSound (n : Network) : Type 0 where
   pub within : network_within n ≡ true
-  pub agrees : Agrees n
+  pub agrees : IsConsistent n
   pub acyclic : (at : ℕ) → LiesOnCycle n.wires at → ⊥
   pub named : All (λ o. is_name o.name ≡ true) n.outputs
   pub distinct : are_distinct (map (λ o. o.name) n.outputs) ≡ true

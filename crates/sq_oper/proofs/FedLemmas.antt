@@ -4,11 +4,11 @@ use Rattle.sq_value.specs.declared.Value.{Value}
 use Rattle.sq_value.specs.declared.Tuple.{Tuple}
 use Rattle.sq_item.specs.declared.Mark.{Mark}
 use Rattle.sq_item.specs.declared.Item.{Item}
-use Rattle.sq_item.specs.Sound.{IsSound}
+use Rattle.sq_item.specs.Sound.{IsSoundItem}
 use Rattle.sq_item.specs.Things.{Sign, Body, mark_part, body_part}
 use Rattle.sq_oper.specs.declared.tally.Place.{Place}
 use Rattle.sq_oper.specs.Entries.{Entry, at_port, entries}
-use Rattle.sq_oper.specs.Order.{may_come, time_of, after, after_all, unmarked, IsFuture}
+use Rattle.sq_oper.specs.Order.{may_come, time_of, moment_after, after_all, unmarked, IsFuture}
 use Rattle.sq_oper.specs.Streams.{tuples_of}
 use Rattle.sq_oper.proofs.StreamLemmas.{time-before, time-after}
 
@@ -75,7 +75,7 @@ unmarked-item fits place port item future may = by item.mark refl may
     by (Some m) e h = absurd (true≢false (sym h.fitting.0))
 
 -- nor an item without a tuple
-pub no_body : (fits : ℕ → List Value → Bool) (place : Place) (port : ℕ) (item : Item) → item.body ≡ None → IsSound item → IsFuture unmarked fits place (entries port item) → ⊥
+pub no_body : (fits : ℕ → List Value → Bool) (place : Place) (port : ℕ) (item : Item) → item.body ≡ None → IsSoundItem item → IsFuture unmarked fits place (entries port item) → ⊥
 no_body fits place port item is sound may =
     let no_mark = unmarked-item fits place port item [] (rw (append-nil (entries port item)) may) in
     neither item.mark item.body no_mark is sound.some
@@ -97,5 +97,5 @@ may-be-fed marks fits place port time v i is may fit = rw is (record { in_order 
 
 -- the place after it was fed
 pub place-after-tuple : (was p is : Place) (port time : ℕ) (v : Value) (i : Item) → i ≡ item_of time v → is ≡ after_all was (entries port i) → was ≡ p
-    → is ≡ after p (tuple_entry port time (v ∷ []))
+    → is ≡ moment_after p (tuple_entry port time (v ∷ []))
 place-after-tuple was p is port time v i e moves same = rw (moves, same, e) refl

@@ -3,7 +3,7 @@ use Rattle.std.proofs.Common.{◌≡◌, ℕ, ◌≤◌, eqb, cond, List, [], �
 use Rattle.sq_value.specs.Lists.{IsPrefixOf}
 use Rattle.sq_item.specs.declared.Item.{Item}
 use Rattle.sq_item.specs.Things.{Thing, spread}
-use Rattle.sq_item.specs.Sound.{IsSound}
+use Rattle.sq_item.specs.Sound.{IsSoundItem}
 use Rattle.sq_oper.specs.Given.{given, ItemsSound, ThingsUpTo}
 
 pub given-append : (q : ℕ) (xs ys : List (ℕ × Item)) → given q (xs ++ ys) ≡ given q xs ++ given q ys
@@ -31,7 +31,7 @@ pub OnErr-from : {T E A : Type 0} (r : Result T E) → A → OnErr r A
 OnErr-from (Ok x) a = tt
 OnErr-from (Err e) a = a
 
-pub ItemsSound-push : (p : ℕ) (xs : List (ℕ × Item)) (i : Item) → IsSound i → ItemsSound xs → ItemsSound (xs ++ (p, i) ∷ [])
+pub ItemsSound-push : (p : ℕ) (xs : List (ℕ × Item)) (i : Item) → IsSoundItem i → ItemsSound xs → ItemsSound (xs ++ (p, i) ∷ [])
 ItemsSound-push p [] i h k = (h, tt)
 ItemsSound-push p (x ∷ xs) i h k = (k.0, ItemsSound-push p xs i h k.1)
 

@@ -3,7 +3,7 @@ use Rattle.std.specs.Prelude.{ℕ, ◌==◌, ◌≤◌, List, [], ◌∷◌, ◌
 use Rattle.std.specs.List.{AllByRecursion}
 use Rattle.sq_item.specs.declared.Item.{Item}
 use Rattle.sq_item.specs.Things.{Thing, spread}
-use Rattle.sq_item.specs.Sound.{IsSound}
+use Rattle.sq_item.specs.Sound.{IsSoundItem}
 
 -- what was given at a port, of items that each name their port
 abbrev pub given : ℕ → List (ℕ × Item) → List Thing
@@ -11,7 +11,7 @@ given port [] = []
 given port (out ∷ outs) = (if out.0 == port then spread out.1 else []) ++ given port outs
 
 abbrev pub ItemsSound : List (ℕ × Item) → Type 0
-ItemsSound outs = AllByRecursion (λ out. IsSound out.1) outs
+ItemsSound outs = AllByRecursion (λ out. IsSoundItem out.1) outs
 
 -- no time is greater
 abbrev pub ThingsUpTo : ℕ → List Thing → Type 0

@@ -47,17 +47,17 @@ time_of Start = 0
 time_of (At time port marked) = time
 
 -- the place after an entry
-abbrev pub after : Place → Entry → Place
-after place entry = At entry.thing.time entry.port (not (is_body entry.thing.load) || marked_at place entry.thing.time)
+abbrev pub moment_after : Place → Entry → Place
+moment_after place entry = At entry.thing.time entry.port (not (is_body entry.thing.load) || marked_at place entry.thing.time)
 
 abbrev pub after_all : Place → List Entry → Place
 after_all place [] = place
-after_all place (entry ∷ entries) = after_all (after place entry) entries
+after_all place (entry ∷ entries) = after_all (moment_after place entry) entries
 
 -- each entry may come after the one before it
 abbrev pub InOrder : Place → List Entry → Type 0
 InOrder place [] = Unit {0}
-InOrder place (entry ∷ entries) = IsTrue (may_come place entry) × InOrder (after place entry) entries
+InOrder place (entry ∷ entries) = IsTrue (may_come place entry) × InOrder (moment_after place entry) entries
 
 -- each tuple fits its port, and marks come only at ports that take them
 abbrev pub load_fits : (ℕ → Bool) → (ℕ → List Value → Bool) → ℕ → Load → Bool

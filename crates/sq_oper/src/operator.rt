@@ -3,9 +3,9 @@
 ghost use Rattle.std.specs.Prelude.{◌≡◌, ℕ, ◌+◌, ◌-◌, ◌^◌, ◌/◌, ◌<◌, ◌++◌, Bool, true, false, List, [], is_some, OnOk, OnErr, IsTrue, if◌then◌else◌};
 ghost use Rattle.sq_value.specs.declared.Value.{Value};
 ghost use Rattle.sq_value.specs.Lists.{IsPrefixOf};
-ghost use Rattle.sq_item.specs.Sound.{IsSound};
+ghost use Rattle.sq_item.specs.Sound.{IsSoundItem};
 ghost use Rattle.sq_item.specs.Things.{Thing};
-ghost use Rattle.sq_road.specs.Levels.{Agrees};
+ghost use Rattle.sq_road.specs.Levels.{AgreesWith};
 ghost use Rattle.sq_oper.specs.declared.outs.Decision.{Decision};
 ghost use Rattle.sq_oper.specs.declared.tally.Place.{Place};
 ghost use Rattle.sq_oper.specs.Entries.{Entry, entries};
@@ -74,18 +74,18 @@ pub trait Operator {
         requires is_valid { valid self.old }
         requires is_running { IsTrue (running self.old) }
         requires may_come { IsFuture (takes_marks self.old) (fits self.old) (place self.old) (entries port item) }
-        requires is_sound { IsSound item }
+        requires is_sound { IsSoundItem item }
         requires has_epoch { IsTrue (reads self.old levels.now.epoch) }
         requires has_level { item.time / levels.now.epoch < levels.now.closed }
         requires has_room { is_some item.body ≡ true → taken self.old < 2 ^ 62 - 1 }
         requires is_ready { T.ready out.old }
 
         // What was given, and then the rest, stays the same.
-        ensures law { OnOk result ((table : ℕ → ℕ → ℕ) (future : List Entry) → Agrees levels.now table
+        ensures law { OnOk result ((table : ℕ → ℕ → ℕ) (future : List Entry) → AgreesWith levels.now table
             → IsFuture (takes_marks self.old) (fits self.old) (place self.old) (entries port item ++ future)
             → (q : ℕ) → given q (T.items out.old) ++ rest self.old table (entries port item ++ future) q
             ≡ given q (T.items out.new) ++ rest self.new table future q) }
-        ensures decided { OnOk result ((table : ℕ → ℕ → ℕ) (future : List Entry) → Agrees levels.now table
+        ensures decided { OnOk result ((table : ℕ → ℕ → ℕ) (future : List Entry) → AgreesWith levels.now table
             → IsFuture (takes_marks self.old) (fits self.old) (place self.old) (entries port item ++ future)
             → (T.drops out.old) ++ decides self.old table (entries port item ++ future)
             ≡ (T.drops out.new) ++ decides self.new table future) }
@@ -94,15 +94,15 @@ pub trait Operator {
         ensures keeps_decisions { IsPrefixOf (T.drops out.old) (T.drops out.new) }
 
         // What was given before an `Err` is a prefix.
-        ensures prefix { OnErr result ((table : ℕ → ℕ → ℕ) (future : List Entry) → Agrees levels.now table
+        ensures prefix { OnErr result ((table : ℕ → ℕ → ℕ) (future : List Entry) → AgreesWith levels.now table
             → IsFuture (takes_marks self.old) (fits self.old) (place self.old) (entries port item ++ future)
             → (q : ℕ) → IsPrefixOf (given q (T.items out.new)) (given q (T.items out.old) ++ rest self.old table (entries port item ++ future) q)) }
-        ensures decided_prefix { OnErr result ((table : ℕ → ℕ → ℕ) (future : List Entry) → Agrees levels.now table
+        ensures decided_prefix { OnErr result ((table : ℕ → ℕ → ℕ) (future : List Entry) → AgreesWith levels.now table
             → IsFuture (takes_marks self.old) (fits self.old) (place self.old) (entries port item ++ future)
             → IsPrefixOf (T.drops out.new) ((T.drops out.old) ++ decides self.old table (entries port item ++ future))) }
 
         // What is given now, and what is held, has no later time than the item.
-        ensures times { OnOk result ((table : ℕ → ℕ → ℕ) → Agrees levels.now table → (q : ℕ) → ThingsUpTo item.time (rest self.old table (entries port item) q)) }
+        ensures times { OnOk result ((table : ℕ → ℕ → ℕ) → AgreesWith levels.now table → (q : ℕ) → ThingsUpTo item.time (rest self.old table (entries port item) q)) }
         ensures sound { ItemsSound (T.items out.old) → ItemsSound (T.items out.new) }
 
         // No more is held back than may be, and no decision is.

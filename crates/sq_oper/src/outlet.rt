@@ -3,7 +3,7 @@
 ghost use Rattle.std.specs.Prelude.{◌≡◌, ℕ, ◌==◌, ◌++◌, ◌∷◌, List, [], OnOk, OnErr, if◌then◌else◌};
 ghost use Rattle.sq_value.specs.Lists.{IsPrefixOf};
 ghost use Rattle.sq_item.specs.declared.Item.{Item};
-ghost use Rattle.sq_item.specs.Sound.{IsSound};
+ghost use Rattle.sq_item.specs.Sound.{IsSoundItem};
 ghost use Rattle.sq_item.specs.Things.{spread};
 ghost use Rattle.sq_oper.specs.declared.outs.Decision.{Decision};
 ghost use Rattle.sq_oper.specs.Given.{given, ItemsSound};
@@ -34,7 +34,7 @@ pub trait Outlet {
     /// An item goes out at a port.
     fn give(&mut self, port: u32, item: Item) -> Result<(), AllocError>
         requires is_ready { ready self.old }
-        requires is_sound { IsSound item }
+        requires is_sound { IsSoundItem item }
         ensures one { OnOk result (items self.new ≡ items self.old ++ (record { 0 = port; 1 = item } ∷ [])) }
         ensures given { OnOk result ((q : ℕ) → given q (items self.new) ≡ given q (items self.old) ++ (if port == q then spread item else [])) }
         ensures err { OnErr result (items self.new ≡ items self.old) }

@@ -8,9 +8,9 @@ use Rattle.std.proofs.lemmas.Grind.{flat_map-append}
 use Rattle.std.proofs.lemmas.List.{length-append, length-take, length-drop, take-append-drop, drop_at, length-replicate, append-nil}
 use Rattle.sq_item.specs.declared.Item.{Item}
 use Rattle.sq_page.specs.Pages.{item_bytes, items_bytes, page_bytes, end_of, IsItem, IsPageOf, IsPage, mark_flag, body_flag, number, until_bytes, body_bytes}
-use Rattle.sq_page.specs.Reading.{many_in, item_in, byte_in, number_below}
-use Rattle.sq_page.specs.Skipping.{many_rest, item_rest, count_in}
-use Rattle.sq_page.specs.Fitting.{Fits, items_from, read_list, is_left_at}
+use Rattle.sq_page.specs.Reading.{take_many, take_item, take_byte, number_below}
+use Rattle.sq_page.specs.Skipping.{many_rest, item_rest, count_told}
+use Rattle.sq_page.specs.Fitting.{FitsPage, items_from, read_list, is_left_at}
 use Rattle.sq_page.proofs.ItemTakes.{many_again}
 use Rattle.sq_page.proofs.PageLemmas.{count-page}
 use Rattle.sq_page.proofs.Skips.{many-rest, item-rest, rest_in}
@@ -46,15 +46,15 @@ from-end bytes front back h =
 
 pub items-are-read : (bytes : List ℕ) (front back : List Item) → IsPageOf bytes (front ++ back) → items_from bytes (end_of front) (length back) ≡ back
 items-are-read bytes front back h =
-    ap (λ (bs : List ℕ). read_list (many_in item_in (length back) bs)) (from-end bytes front back h)
-    ∙ ap read_list (many_again item_in item_bytes IsItem item_again back (zeros (front ++ back)) (each-back front back h.each))
+    ap (λ (bs : List ℕ). read_list (take_many take_item (length back) bs)) (from-end bytes front back h)
+    ∙ ap read_list (many_again take_item item_bytes IsItem item_again back (zeros (front ++ back)) (each-back front back h.each))
 
 -- skipping so many items
 pub front-skipped : (bytes : List ℕ) (front back : List Item) → IsPageOf bytes (front ++ back) → many_rest item_rest (length front) (drop 2 bytes) ≡ Some (items_bytes back ++ zeros (front ++ back))
 front-skipped bytes front back h =
-    many-rest item_in item_rest item-rest (length front) (drop 2 bytes)
-    ∙ ap (λ (bs : List ℕ). rest_in (many_in item_in (length front) bs)) (behind-count bytes front back h)
-    ∙ ap rest_in (many_again item_in item_bytes IsItem item_again front (items_bytes back ++ zeros (front ++ back)) (each-front front back h.each))
+    many-rest take_item item_rest item-rest (length front) (drop 2 bytes)
+    ∙ ap (λ (bs : List ℕ). rest_in (take_many take_item (length front) bs)) (behind-count bytes front back h)
+    ∙ ap rest_in (many_again take_item item_bytes IsItem item_again front (items_bytes back ++ zeros (front ++ back)) (each-front front back h.each))
 
 rest-length : (front back : List Item) → length (items_bytes (front ++ back)) ≤ 8190 → length (items_bytes back ++ zeros (front ++ back)) + end_of front ≡ 8192
 rest-length front back room =
@@ -79,7 +79,7 @@ is-left bytes front back at h is =
     ∙ ap (λ (n : ℕ). eqb n 8192) (ap (λ (k : ℕ). length (items_bytes back ++ zeros (front ++ back)) + k) is ∙ rest-length front back h.room)
 
 pub makes-fit : (bytes : List ℕ) (items : List Item) (start count end : ℕ) → IsPageOf bytes items → count ≤ length items
-    → is_left_at start (many_rest item_rest (length items - count) (drop 2 bytes)) ≡ true → is_left_at end (many_rest item_rest (length items) (drop 2 bytes)) ≡ true → Fits bytes start count end
+    → is_left_at start (many_rest item_rest (length items - count) (drop 2 bytes)) ≡ true → is_left_at end (many_rest item_rest (length items) (drop 2 bytes)) ≡ true → FitsPage bytes start count end
 makes-fit bytes items start count end h few one two =
     let front : List Item = take (length items - count) items in
     let back : List Item = drop (length items - count) items in
@@ -104,10 +104,10 @@ pub record FitTests (bytes : List ℕ) (start count end many : ℕ) : Type 0 whe
   pub begins : is_left_at start (many_rest item_rest (many - count) (drop 2 bytes)) ≡ true
   pub stops : is_left_at end (many_rest item_rest many (drop 2 bytes)) ≡ true
 
-pub page-count : (bytes : List ℕ) (items : List Item) → IsPageOf bytes items → count_in bytes ≡ length items
-page-count bytes items h = ap count_in h.whole ∙ count-page items h.room
+pub page-count : (bytes : List ℕ) (items : List Item) → IsPageOf bytes items → count_told bytes ≡ length items
+page-count bytes items h = ap count_told h.whole ∙ count-page items h.room
 
-pub fit-tests : (bytes : List ℕ) (start count end many : ℕ) → Fits bytes start count end → many ≡ count_in bytes → FitTests bytes start count end many
+pub fit-tests : (bytes : List ℕ) (start count end many : ℕ) → FitsPage bytes start count end → many ≡ count_told bytes → FitTests bytes start count end many
 fit-tests bytes start count end many f is =
     let all : many ≡ length (f.front ++ f.back) = is ∙ page-count bytes (f.front ++ f.back) f.page in
     let fronts : many - count ≡ length f.front = omega (arith, all, f.counts, length-append f.front f.back) in
@@ -121,21 +121,21 @@ fit-tests bytes start count end many f is =
     }
 
 -- a page that passes the tests
-pub fit-of-tests : (bytes : List ℕ) (start count end many : ℕ) → IsPage bytes → many ≡ count_in bytes → count ≤ many
-    → is_left_at start (many_rest item_rest (many - count) (drop 2 bytes)) ≡ true → is_left_at end (many_rest item_rest many (drop 2 bytes)) ≡ true → Fits bytes start count end
+pub fit-of-tests : (bytes : List ℕ) (start count end many : ℕ) → IsPage bytes → many ≡ count_told bytes → count ≤ many
+    → is_left_at start (many_rest item_rest (many - count) (drop 2 bytes)) ≡ true → is_left_at end (many_rest item_rest many (drop 2 bytes)) ≡ true → FitsPage bytes start count end
 fit-of-tests bytes start count end many page is few one two =
     let all : many ≡ length page.0 = is ∙ page-count bytes page.0 page.1 in
     makes-fit bytes page.0 start count end page.1 (omega (arith, few, all))
     (ap (λ (n : ℕ). is_left_at start (many_rest item_rest (n - count) (drop 2 bytes))) (sym all) ∙ one)
     (ap (λ (n : ℕ). is_left_at end (many_rest item_rest n (drop 2 bytes))) (sym all) ∙ two)
 
-pub fit-is-page : (bytes : List ℕ) (start count end : ℕ) → Fits bytes start count end → IsPage bytes
+pub fit-is-page : (bytes : List ℕ) (start count end : ℕ) → FitsPage bytes start count end → IsPage bytes
 fit-is-page bytes start count end f = (f.front ++ f.back, f.page)
 
 -- the time of an item, read where the item begins
 pub record TimeRead (bytes : List ℕ) (item : Item) : Type 0 where
   pub first : ℕ × List ℕ
-  pub one : byte_in bytes ≡ Some first
+  pub one : take_byte bytes ≡ Some first
   pub second : ℕ × List ℕ
   pub two : number_below (2 ^ 40) first.1 ≡ Some second
   pub time : second.0 ≡ item.time

@@ -6,7 +6,7 @@ use Rattle.std.specs.List.{flat_map}
 use Rattle.std.proofs.lemmas.List.{append-nil}
 use Rattle.sq_item.specs.declared.Item.{Item}
 use Rattle.sq_link.specs.Chained.{StandsIn, Apart, head_or}
-use Rattle.sq_paged.specs.Faces.{last_of, count_along, kept_at, no_page}
+use Rattle.sq_paged.specs.Faces.{last_node, count_along, kept_at, no_page}
 use Rattle.sq_paged.specs.declared.store.Kept.{Kept}
 
 -- items along nodes that have the same
@@ -14,13 +14,13 @@ pub along-same : (f g : ℕ → List Item) (xs : List ℕ) → ((n : ℕ) → St
 along-same f g [] h = refl
 along-same f g (x ∷ xs) h = ap (λ (is : List Item). is ++ flat_map g xs) (h x (inl refl)) ∙ ap (λ (is : List Item). f x ++ is) (along-same f g xs (λ n s. h n (inr s)))
 
-pub last-stands : (n : ℕ) (ys : List ℕ) → last_of ys ≡ Some n → StandsIn n ys
+pub last-stands : (n : ℕ) (ys : List ℕ) → last_node ys ≡ Some n → StandsIn n ys
 last-stands n [] e = absurd cc
 last-stands n (z ∷ []) e = let is : z ≡ n = cc in inl (sym is)
 last-stands n (z ∷ w ∷ ys) e = inr (last-stands n (w ∷ ys) e)
 
 -- the last node gained something
-pub along-last : (f g : ℕ → List Item) (more : List Item) (node : ℕ) (xs : List ℕ) → Apart xs → last_of xs ≡ Some node → ((n : ℕ) → StandsIn n xs → n ≢ node → g n ≡ f n) → g node ≡ f node ++ more
+pub along-last : (f g : ℕ → List Item) (more : List Item) (node : ℕ) (xs : List ℕ) → Apart xs → last_node xs ≡ Some node → ((n : ℕ) → StandsIn n xs → n ≢ node → g n ≡ f n) → g node ≡ f node ++ more
     → flat_map g xs ≡ flat_map f xs ++ more
 along-last f g more node [] apart last h here = absurd cc
 along-last f g more node (x ∷ []) apart last h here =
@@ -48,7 +48,7 @@ along-more f g item node (x ∷ xs) h here =
     ∙ ap (λ (is : List Item). f x ++ is) (along-more f g item node xs (λ n s. h n (inr s)) here)
     ∙ sym (append_assoc (f x) (flat_map f xs) (item ∷ []))
 
-pub last-behind : (n : ℕ) (xs : List ℕ) → last_of (xs ++ n ∷ []) ≡ Some n
+pub last-behind : (n : ℕ) (xs : List ℕ) → last_node (xs ++ n ∷ []) ≡ Some n
 last-behind n [] = refl
 last-behind n (x ∷ []) = refl
 last-behind n (x ∷ y ∷ xs) = last-behind n (y ∷ xs)
@@ -85,7 +85,7 @@ pub kept-other : (kept : List Kept) (node other : ℕ) (after : Kept) → other 
 kept-other kept node other after h = get_or-set_other kept node other after no_page h
 
 -- one more stands at the last node
-pub count-last : (kept : List Kept) (node : ℕ) (after : Kept) (xs : List ℕ) → Apart xs → last_of xs ≡ Some node → node < length kept → after.count ≡ (kept_at kept node).count + 1 → count_along (set kept node after) xs ≡ count_along kept xs + 1
+pub count-last : (kept : List Kept) (node : ℕ) (after : Kept) (xs : List ℕ) → Apart xs → last_node xs ≡ Some node → node < length kept → after.count ≡ (kept_at kept node).count + 1 → count_along (set kept node after) xs ≡ count_along kept xs + 1
 count-last kept node after [] apart last h c = absurd cc
 count-last kept node after (x ∷ []) apart last h c =
     let is : x ≡ node = cc in

@@ -6,9 +6,9 @@ use Rattle.sq_item.specs.declared.Item.{Item}
 use Rattle.sq_link.specs.Chained.{Chained, list_at, StandsIn, Apart}
 use Rattle.sq_outside.specs.Disks.{Pages}
 use Rattle.sq_pool.specs.Pools.{is_held}
-use Rattle.sq_paged.specs.Kept.{items_in, Spares}
-use Rattle.sq_paged.specs.Faces.{nodes_on, items_along, IsKept, Together, kept_at, count_along, last_of}
-use Rattle.sq_paged.specs.Steps.{AppendsAt, TakesAt, StartsAt, DropsAt, Adds, Removes}
+use Rattle.sq_paged.specs.Kept.{items_kept, Spares}
+use Rattle.sq_paged.specs.Faces.{nodes_on, items_along, IsKeptPage, PagedTogether, kept_at, count_along, last_node}
+use Rattle.sq_paged.specs.Steps.{AppendsAt, TakesAt, StartsAt, DropsAt, AddsItem, Removes}
 use Rattle.sq_paged.specs.declared.store.Kept.{Kept}
 use Rattle.sq_paged.specs.declared.Queues.{Queues}
 use Rattle.sq_paged.proofs.StoreLemmas.{spares-then}
@@ -18,22 +18,22 @@ use Rattle.sq_paged.proofs.TouchLemmas.{AreAlone, Touches, touch-items, touch-re
 
 -- ---- an item behind the last of a page
 
-pub append-adds : (q : Queues) (told : Option Pages) (r : Queues) (now : Option Pages) (arc node : ℕ) (item : Item) → Together q told → AreAlone q → last_of (nodes_on q arc) ≡ Some node → AppendsAt q told r now node item → Adds q told r now arc node item
+pub append-adds : (q : Queues) (told : Option Pages) (r : Queues) (now : Option Pages) (arc node : ℕ) (item : Item) → PagedTogether q told → AreAlone q → last_node (nodes_on q arc) ≡ Some node → AppendsAt q told r now node item → AddsItem q told r now arc node item
 append-adds q told r now arc node item g alone last a =
     let s : StandsIn node (nodes_on q arc) = last-stands node (nodes_on q arc) last in
     let below = alone.below arc node s in
-    let after : IsKept r.pool now a.after = appended-kept q.pool told r.pool now (kept_at q.kept.items node) a.after item (g.pages arc node s) a.page in
+    let after : IsKeptPage r.pool now a.after = appended-kept q.pool told r.pool now (kept_at q.kept.items node) a.after item (g.pages arc node s) a.page in
     let t = change-touches q told r now arc node a.after g alone s a.state a.kept a.page.spares a.page.page after in
     let same : nodes_on r arc ≡ nodes_on q arc = ap (λ (c : Chained). list_at c.lists arc) a.state in
     let is : kept_at r.kept.items node ≡ a.after = ap (λ (ks : List Kept). kept_at ks node) a.kept ∙ kept-same q.kept.items node a.after below in
     record {
       rest = touch-rest q told r now arc node (kept_at q.kept.items node).page g t;
       count = ap (λ (xs : List ℕ). count_along r.kept.items xs) same ∙ ap (λ (ks : List Kept). count_along ks (nodes_on q arc)) a.kept ∙ count-last q.kept.items node a.after (nodes_on q arc) (alone.once arc) last below a.page.count;
-      last = ap last_of same ∙ last;
+      last = ap last_node same ∙ last;
       items = λ tells.
           ap (λ (ns : List ℕ). items_along r.pool now r.kept.items ns) same
-          ∙ along-last (λ n. items_in q.pool told (kept_at q.kept.items n)) (λ n. items_in r.pool now (kept_at r.kept.items n)) (item ∷ []) node (nodes_on q arc) (alone.once arc) last
-          (λ n h differ. touch-items q told r now arc node (kept_at q.kept.items node).page t tells arc n h differ) (ap (λ (k : Kept). items_in r.pool now k) is ∙ a.page.items tells);
+          ∙ along-last (λ n. items_kept q.pool told (kept_at q.kept.items n)) (λ n. items_kept r.pool now (kept_at r.kept.items n)) (item ∷ []) node (nodes_on q arc) (alone.once arc) last
+          (λ n h differ. touch-items q told r now arc node (kept_at q.kept.items node).page t tells arc n h differ) (ap (λ (k : Kept). items_kept r.pool now k) is ∙ a.page.items tells);
     }
 
 -- ---- an item in a new page
@@ -42,7 +42,7 @@ held-apart : (b : Bool) → b ≡ true → b ≡ false → ⊥
 held-apart true h k = absurd cc
 held-apart false h k = absurd cc
 
-start-touches : (q : Queues) (told : Option Pages) (r : Queues) (now : Option Pages) (arc node : ℕ) (item : Item) → Together q told → AreAlone q → arc < length q.chains.lists → StartsAt q told r now arc node item
+start-touches : (q : Queues) (told : Option Pages) (r : Queues) (now : Option Pages) (arc node : ℕ) (item : Item) → PagedTogether q told → AreAlone q → arc < length q.chains.lists → StartsAt q told r now arc node item
     → Touches q told r now arc node (kept_at r.kept.items node).page
 start-touches q told r now arc node item g alone inside s =
     let here : nodes_on r arc ≡ nodes_on q arc ++ node ∷ [] = ap (λ (ls : List (List ℕ)). list_at ls arc) s.lists ∙ get_or-set_same q.chains.lists arc (nodes_on q arc ++ node ∷ []) [] inside in
@@ -61,7 +61,7 @@ start-touches q told r now arc node item g alone inside s =
       held = λ h. subst (λ (xs : List ℕ). StandsIn node xs) (sym here) (last-stands node (nodes_on q arc ++ node ∷ []) (last-behind node (nodes_on q arc)));
     }
 
-pub start-adds : (q : Queues) (told : Option Pages) (r : Queues) (now : Option Pages) (arc node : ℕ) (item : Item) → Together q told → AreAlone q → arc < length q.chains.lists → StartsAt q told r now arc node item → Adds q told r now arc node item
+pub start-adds : (q : Queues) (told : Option Pages) (r : Queues) (now : Option Pages) (arc node : ℕ) (item : Item) → PagedTogether q told → AreAlone q → arc < length q.chains.lists → StartsAt q told r now arc node item → AddsItem q told r now arc node item
 start-adds q told r now arc node item g alone inside s =
     let t = start-touches q told r now arc node item g alone inside s in
     let here : nodes_on r arc ≡ nodes_on q arc ++ node ∷ [] = ap (λ (ls : List (List ℕ)). list_at ls arc) s.lists ∙ get_or-set_same q.chains.lists arc (nodes_on q arc ++ node ∷ []) [] inside in
@@ -71,10 +71,10 @@ start-adds q told r now arc node item g alone inside s =
       count = ap (λ (xs : List ℕ). count_along r.kept.items xs) here
           ∙ count-more q.kept.items r.kept.items node (nodes_on q arc) (λ n h. t.kept arc n h (off n h))
           ∙ ap (λ (n : ℕ). count_along q.kept.items (nodes_on q arc) + n) s.page.count;
-      last = ap last_of here ∙ last-behind node (nodes_on q arc);
+      last = ap last_node here ∙ last-behind node (nodes_on q arc);
       items = λ tells.
           ap (λ (ns : List ℕ). items_along r.pool now r.kept.items ns) here
-          ∙ along-more (λ n. items_in q.pool told (kept_at q.kept.items n)) (λ n. items_in r.pool now (kept_at r.kept.items n)) item node (nodes_on q arc)
+          ∙ along-more (λ n. items_kept q.pool told (kept_at q.kept.items n)) (λ n. items_kept r.pool now (kept_at r.kept.items n)) item node (nodes_on q arc)
           (λ n h. touch-items q told r now arc node (kept_at r.kept.items node).page t tells arc n h (off n h)) (s.page.items tells);
     }
 
@@ -83,12 +83,12 @@ start-adds q told r now arc node item g alone inside s =
 behind-off : (node : ℕ) (xs ys : List ℕ) → Apart xs → xs ≡ node ∷ ys → (n : ℕ) → StandsIn n ys → n ≢ node
 behind-off node xs ys apart is n h e = let one : Apart (node ∷ ys) = subst Apart is apart in one.0 (subst (λ (m : ℕ). StandsIn m ys) e h)
 
-pub take-removes : (q : Queues) (told : Option Pages) (r : Queues) (now : Option Pages) (arc node : ℕ) (item : Item) (ys : List ℕ) → Together q told → AreAlone q → nodes_on q arc ≡ node ∷ ys → (a : TakesAt q told r now node item) → 1 ≤ a.after.count
+pub take-removes : (q : Queues) (told : Option Pages) (r : Queues) (now : Option Pages) (arc node : ℕ) (item : Item) (ys : List ℕ) → PagedTogether q told → AreAlone q → nodes_on q arc ≡ node ∷ ys → (a : TakesAt q told r now node item) → 1 ≤ a.after.count
     → Removes q told r now arc item
 take-removes q told r now arc node item ys g alone first a some =
     let s : StandsIn node (nodes_on q arc) = subst (λ (xs : List ℕ). StandsIn node xs) (sym first) (inl refl) in
     let below = alone.below arc node s in
-    let after : IsKept r.pool now a.after = taken-kept q.pool told r.pool now (kept_at q.kept.items node) a.after item a.page some in
+    let after : IsKeptPage r.pool now a.after = taken-kept q.pool told r.pool now (kept_at q.kept.items node) a.after item a.page some in
     let t = change-touches q told r now arc node a.after g alone s a.state a.kept a.page.spares a.page.page after in
     let same : nodes_on r arc ≡ nodes_on q arc = ap (λ (c : Chained). list_at c.lists arc) a.state in
     let is : kept_at r.kept.items node ≡ a.after = ap (λ (ks : List Kept). kept_at ks node) a.kept ∙ kept-same q.kept.items node a.after below in
@@ -101,18 +101,18 @@ take-removes q told r now arc node item ys g alone first a some =
     record {
       rest = touch-rest q told r now arc node (kept_at q.kept.items node).page g t;
       count = omega (arith, was, will, one, more, a.page.count);
-      last = λ x xs e. ap last_of same;
+      last = λ x xs e. ap last_node same;
       items = λ tells.
           ap (λ (ns : List ℕ). items_along q.pool told q.kept.items ns) first
-          ∙ along-first (λ n. items_in q.pool told (kept_at q.kept.items n)) (λ n. items_in r.pool now (kept_at r.kept.items n)) item node ys
+          ∙ along-first (λ n. items_kept q.pool told (kept_at q.kept.items n)) (λ n. items_kept r.pool now (kept_at r.kept.items n)) item node ys
           (λ n h. touch-items q told r now arc node (kept_at q.kept.items node).page t tells arc n (stands n h) (off n h))
-          (a.page.items tells ∙ ap (λ (k : Kept). item ∷ items_in r.pool now k) (sym is))
+          (a.page.items tells ∙ ap (λ (k : Kept). item ∷ items_kept r.pool now k) (sym is))
           ∙ ap (λ (ns : List ℕ). item ∷ items_along r.pool now r.kept.items ns) (sym (same ∙ first));
     }
 
 -- ---- the last item of a page, which is let go
 
-gone-touches : (q : Queues) (told : Option Pages) (m : Queues) (mid : Option Pages) (r : Queues) (now : Option Pages) (arc node : ℕ) (item : Item) (ys : List ℕ) → Together q told → AreAlone q → arc < length q.chains.lists → nodes_on q arc ≡ node ∷ ys
+gone-touches : (q : Queues) (told : Option Pages) (m : Queues) (mid : Option Pages) (r : Queues) (now : Option Pages) (arc node : ℕ) (item : Item) (ys : List ℕ) → PagedTogether q told → AreAlone q → arc < length q.chains.lists → nodes_on q arc ≡ node ∷ ys
     → TakesAt q told m mid node item → DropsAt m mid r now arc node → nodes_on r arc ≡ ys → Touches q told r now arc node (kept_at q.kept.items node).page
 gone-touches q told m mid r now arc node item ys g alone inside first a d left =
     let s : StandsIn node (nodes_on q arc) = subst (λ (xs : List ℕ). StandsIn node xs) (sym first) (inl refl) in
@@ -135,11 +135,11 @@ gone-touches q told m mid r now arc node item ys g alone inside first a d left =
       held = λ h. absurd (held-apart (is_held r.pool (kept_at q.kept.items node).page) h (subst (λ (p : ℕ). is_held r.pool p ≡ false) page d.gone));
     }
 
-last-of-more : (n x : ℕ) (ys xs : List ℕ) → ys ≡ x ∷ xs → last_of ys ≡ last_of (n ∷ ys)
+last-of-more : (n x : ℕ) (ys xs : List ℕ) → ys ≡ x ∷ xs → last_node ys ≡ last_node (n ∷ ys)
 last-of-more n x [] xs e = absurd cc
 last-of-more n x (y ∷ ys) xs e = refl
 
-pub gone-removes : (q : Queues) (told : Option Pages) (m : Queues) (mid : Option Pages) (r : Queues) (now : Option Pages) (arc node : ℕ) (item : Item) (ys : List ℕ) → Together q told → AreAlone q → arc < length q.chains.lists → nodes_on q arc ≡ node ∷ ys
+pub gone-removes : (q : Queues) (told : Option Pages) (m : Queues) (mid : Option Pages) (r : Queues) (now : Option Pages) (arc node : ℕ) (item : Item) (ys : List ℕ) → PagedTogether q told → AreAlone q → arc < length q.chains.lists → nodes_on q arc ≡ node ∷ ys
     → (a : TakesAt q told m mid node item) → a.after.count ≡ 0 → DropsAt m mid r now arc node → Removes q told r now arc item
 gone-removes q told m mid r now arc node item ys g alone inside first a none d =
     let left : nodes_on r arc ≡ ys =
@@ -156,10 +156,10 @@ gone-removes q told m mid r now arc node item ys g alone inside first a none d =
     record {
       rest = touch-rest q told r now arc node (kept_at q.kept.items node).page g t;
       count = omega (arith, was, will, more, a.page.count, none);
-      last = λ x xs e. ap last_of left ∙ last-of-more node x ys xs (sym left ∙ e) ∙ ap last_of (sym first);
+      last = λ x xs e. ap last_node left ∙ last-of-more node x ys xs (sym left ∙ e) ∙ ap last_node (sym first);
       items = λ tells.
           ap (λ (ns : List ℕ). items_along q.pool told q.kept.items ns) first
-          ∙ along-gone (λ n. items_in q.pool told (kept_at q.kept.items n)) (λ n. items_in r.pool now (kept_at r.kept.items n)) item node ys
+          ∙ along-gone (λ n. items_kept q.pool told (kept_at q.kept.items n)) (λ n. items_kept r.pool now (kept_at r.kept.items n)) item node ys
           (λ n h. touch-items q told r now arc node (kept_at q.kept.items node).page t tells arc n (stands n h) (off n h))
           (taken-all q.pool told m.pool mid (kept_at q.kept.items node) a.after item a.page none (d.spares.tells tells))
           ∙ ap (λ (ns : List ℕ). item ∷ items_along r.pool now r.kept.items ns) (sym left);

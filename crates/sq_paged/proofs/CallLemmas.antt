@@ -5,7 +5,7 @@ use Rattle.sq_item.specs.declared.Item.{Item}
 use Rattle.sq_link.specs.Chained.{Chained, StandsIn, head_or, list_at}
 use Rattle.sq_outside.specs.Disks.{DiskLog, Pages}
 use Rattle.sq_paged.specs.Kept.{IsCause, IsTold}
-use Rattle.sq_paged.specs.Faces.{face_at, nodes_on, kept_at, count_along, is_first, last_at, last_of, Together, IsRefusal, SameTables}
+use Rattle.sq_paged.specs.Faces.{paged_face_at, nodes_on, kept_at, count_along, is_first, last_at, last_node, PagedTogether, IsPagedRefusal, SameTables}
 use Rattle.sq_paged.specs.Steps.{TakesAt}
 use Rattle.sq_paged.specs.declared.Lane.{Lane}
 use Rattle.sq_paged.specs.declared.store.Kept.{Kept}
@@ -22,18 +22,18 @@ pub if-ok : {A E : Type 0} (P Q : A → Type 0) (r : Result A E) → ((x : A) �
 if-ok P Q (Ok x) f h = f x h
 if-ok P Q (Err e) f h = tt
 
-pub inside : (q : Queues) (told : Option Pages) (arc : ℕ) → Together q told → arc < length q.lanes.items → arc < length q.chains.lists
+pub inside : (q : Queues) (told : Option Pages) (arc : ℕ) → PagedTogether q told → arc < length q.lanes.items → arc < length q.chains.lists
 inside q told arc g h = omega (arith, g.arcs, h)
 
 -- the last node of an arc is the one that its lane keeps
-pub last-is : (q : Queues) (told : Option Pages) (arc : ℕ) (lane : Lane) (node : ℕ) → Together q told → slice_get q.lanes.items arc ≡ Some lane → lane.last ≡ Some node → last_of (nodes_on q arc) ≡ Some node
+pub last-is : (q : Queues) (told : Option Pages) (arc : ℕ) (lane : Lane) (node : ℕ) → PagedTogether q told → slice_get q.lanes.items arc ≡ Some lane → lane.last ≡ Some node → last_node (nodes_on q arc) ≡ Some node
 last-is q told arc lane node g is e = let l = g.lanes arc in sym l.last ∙ ap last_at is ∙ e
 
-pub last-in : (q : Queues) (told : Option Pages) (arc : ℕ) (lane : Lane) (node : ℕ) → Together q told → slice_get q.lanes.items arc ≡ Some lane → lane.last ≡ Some node → StandsIn node (nodes_on q arc)
+pub last-in : (q : Queues) (told : Option Pages) (arc : ℕ) (lane : Lane) (node : ℕ) → PagedTogether q told → slice_get q.lanes.items arc ≡ Some lane → lane.last ≡ Some node → StandsIn node (nodes_on q arc)
 last-in q told arc lane node g is e = last-stands node (nodes_on q arc) (last-is q told arc lane node g is e)
 
 -- why a page of an arc is refused is why the arc is
-pub cause-refusal : (q r : Queues) (before now : DiskLog) (arc node : ℕ) (e : QueueErr) → StandsIn node (nodes_on q arc) → IsCause q.pool r.pool before now (kept_at q.kept.items node) e → SameTables q r → IsRefusal q r before now arc e
+pub cause-refusal : (q r : Queues) (before now : DiskLog) (arc node : ℕ) (e : QueueErr) → StandsIn node (nodes_on q arc) → IsCause q.pool r.pool before now (kept_at q.kept.items node) e → SameTables q r → IsPagedRefusal q r before now arc e
 cause-refusal q r before now arc node error.Disk s h same = tt
 cause-refusal q r before now arc node (error.Garbled page kept got) s h same = (
   node,
@@ -49,19 +49,19 @@ cause-refusal q r before now arc node (error.NotAPage page bytes) s h same = (
 )
 cause-refusal q r before now arc node error.Memory s h same = tt
 
-pub plain-refusal : (q r : Queues) (before now : DiskLog) (arc : ℕ) (e : QueueErr) → IsTold e → IsRefusal q r before now arc e
+pub plain-refusal : (q r : Queues) (before now : DiskLog) (arc : ℕ) (e : QueueErr) → IsTold e → IsPagedRefusal q r before now arc e
 plain-refusal q r before now arc error.Disk h = tt
 plain-refusal q r before now arc (error.Garbled page kept got) h = absurd h
 plain-refusal q r before now arc (error.NotAPage page bytes) h = absurd h
 plain-refusal q r before now arc error.Memory h = tt
 
 -- where something stands on an arc, a page does
-pub some-first : (q : Queues) (told : Option Pages) (arc : ℕ) → Together q told → is_some (face_at (slice_get q.lanes.items arc)).first ≡ true → head_or (nodes_on q arc) None ≡ None → ⊥
+pub some-first : (q : Queues) (told : Option Pages) (arc : ℕ) → PagedTogether q told → is_some (paged_face_at (slice_get q.lanes.items arc)).first ≡ true → head_or (nodes_on q arc) None ≡ None → ⊥
 some-first q told arc g some none =
     let l = g.lanes arc in
     empty (nodes_on q arc) none (sym l.first ∙ some) l.count
   where
-    empty : (xs : List ℕ) → head_or xs None ≡ None → is_first (face_at (slice_get q.lanes.items arc)).count ≡ true → (face_at (slice_get q.lanes.items arc)).count ≡ count_along q.kept.items xs → ⊥
+    empty : (xs : List ℕ) → head_or xs None ≡ None → is_first (paged_face_at (slice_get q.lanes.items arc)).count ≡ true → (paged_face_at (slice_get q.lanes.items arc)).count ≡ count_along q.kept.items xs → ⊥
     empty [] e f c = let no : false ≡ true = ap is_first (sym c) ∙ f in absurd cc
     empty (x ∷ xs) e f c = absurd cc
 

@@ -2,7 +2,7 @@
 use Rattle.std.proofs.Common.{◌≡◌, ℕ, true, false, List, Option, Some, None, refl, sym, ap, subst, ◌∙◌}
 use Rattle.std.specs.Prelude.{is_some, Result, Ok, Err, IfErr}
 use Rattle.sq_outside.specs.Disks.{DiskLog}
-use Rattle.sq_pool.specs.Errors.{IsGarbling, ComesBack, IsWhole}
+use Rattle.sq_pool.specs.Errors.{IsGarbling, ComesBack, IsWholePage}
 use Rattle.sq_pool.specs.Pools.{Pooled, bytes_in}
 use Rattle.sq_pool.specs.declared.pool.PoolErr.{PoolErr}
 use Rattle.sq_pool.specs.declared.pool.PoolErr.TheVariants as pool
@@ -48,7 +48,7 @@ misfit-cause c d before now kept bytes (error.NotAPage page got) out (b, whole) 
     let is : b ≡ got.items = one_is (bytes_in kept.page d.resident) b bytes whole.0.there there ∙ sym same in (
       at,
       subst (λ (p : ℕ). bytes_in p c.resident ≡ None) (sym at) out,
-      subst (λ (p : ℕ). IsWhole c d before now p got.items) (sym at) (subst (λ (bs : List ℕ). IsWhole c d before now kept.page bs) is whole),
+      subst (λ (p : ℕ). IsWholePage c d before now p got.items) (sym at) (subst (λ (bs : List ℕ). IsWholePage c d before now kept.page bs) is whole),
       subst (λ (bs : List ℕ). ¬ (FitsKept bs kept)) (sym same) refused,
     )
 misfit-cause c d before now kept bytes error.Memory out back there h = tt

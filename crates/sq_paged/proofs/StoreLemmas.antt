@@ -4,24 +4,24 @@ use Rattle.std.specs.Prelude.{is_some, ◌||◌, Result, Ok, Err, OnOk}
 use Rattle.std.proofs.lemmas.Bool.{cases_eq}
 use Rattle.std.specs.FinMap as finite
 use Rattle.sq_outside.specs.Disks.{Pages}
-use Rattle.sq_pool.specs.Slots.{without_page, kept_at}
-use Rattle.sq_pool.specs.Pools.{Pooled, bytes_in, is_held, if_none, if_kept, Agree, HasRoom, with_bytes, loaded, Keeps, Makes, Drops, Brings, Touched, CameBack, IsMade, zeros, LetsGo}
+use Rattle.sq_pool.specs.Slots.{without_page, digest_at}
+use Rattle.sq_pool.specs.Pools.{Pooled, bytes_in, is_held, if_none, if_kept, Agree, HasFrame, with_bytes, loaded, Keeps, Makes, Drops, Brings, Touched, CameBack, IsMade, zeros, LetsGo}
 use Rattle.sq_pool.specs.Trust.{Tells}
 use Rattle.sq_link.proofs.ListLemmas.{eqb-same, eqb-other}
 use Rattle.sq_pool.proofs.MapLemmas.{bytes-other, bytes-gone, bytes-last, bytes-before, room-out}
 use Rattle.std.proofs.lemmas.List.{length-append}
 use Rattle.sq_item.specs.declared.Item.{Item}
-use Rattle.sq_page.specs.Fitting.{Fits, items_from}
-use Rattle.sq_page.specs.Pages.{item_bytes, IsPageOf, EndsAt, BeginsAt, end_of}
+use Rattle.sq_page.specs.Fitting.{FitsPage, items_from}
+use Rattle.sq_page.specs.Pages.{item_bytes, IsPageOf, EndsAt, ItemBeginsAt, end_of}
 use Rattle.sq_page.proofs.FitLemmas.{items-are-read}
 use Rattle.sq_page.proofs.PageLemmas.{many-room}
 use Rattle.sq_page.proofs.Takes.{some_is}
 use Rattle.sq_page.proofs.WholeTakes.{item_at_end, empty_page}
-use Rattle.sq_paged.specs.Kept.{seen, FitsKept, IsFit, Brought, Written, Spares, Appended, Taken, Started, items_in, items_of}
+use Rattle.sq_paged.specs.Kept.{page_seen, FitsKept, IsFit, Brought, Written, Spares, Appended, Taken, Started, items_kept, items_of_bytes}
 use Rattle.sq_paged.specs.declared.store.Kept.{Kept}
 
 -- a page that is in a frame after one was spilled was there before
-pub room-known : (c : Pooled) (told : Option Pages) (d : Pooled) (now : Option Pages) → HasRoom c told d now → (q : ℕ) (b : List ℕ) → bytes_in q d.resident ≡ Some b → bytes_in q c.resident ≡ Some b
+pub room-known : (c : Pooled) (told : Option Pages) (d : Pooled) (now : Option Pages) → HasFrame c told d now → (q : ℕ) (b : List ℕ) → bytes_in q d.resident ≡ Some b → bytes_in q c.resident ≡ Some b
 room-known c told d now room q b e =
     elim room.how [
       | inl same ↦ sym (ap (λ (x : Pooled). bytes_in q x.resident) same.0) ∙ e
@@ -43,17 +43,17 @@ brings-known c told d now p (CameBack digest out kept f) q other b e =
     room-known c told f.mid f.between f.room q b (loaded-known f.mid d p f.bytes f.pool q other b e)
 
 -- the bytes of a page in a frame are those that are seen
-pub in-frame : (c : Pooled) (told : Option Pages) (p : ℕ) (b : List ℕ) → bytes_in p c.resident ≡ Some b → seen c told p ≡ Some b
+pub in-frame : (c : Pooled) (told : Option Pages) (p : ℕ) (b : List ℕ) → bytes_in p c.resident ≡ Some b → page_seen c told p ≡ Some b
 in-frame c None p b e = e
-in-frame c (Some t) p b e = ap (λ (o : Option (List ℕ)). if_none o (if_kept (kept_at c.kept p) (finite.get t p))) e
+in-frame c (Some t) p b e = ap (λ (o : Option (List ℕ)). if_none o (if_kept (digest_at c.kept p) (finite.get t p))) e
 
 known-by : (c : Pooled) (told : Option Pages) (d : Pooled) (now : Option Pages) → (Tells now → Tells told) → Keeps c told d now → (q : ℕ) (b : List ℕ)
-    → (bytes_in q d.resident ≡ Some b → bytes_in q c.resident ≡ Some b) → seen d now q ≡ Some b → seen c told q ≡ Some b
+    → (bytes_in q d.resident ≡ Some b → bytes_in q c.resident ≡ Some b) → page_seen d now q ≡ Some b → page_seen c told q ≡ Some b
 known-by c told d None tells k q b stays e = in-frame c told q b (stays e)
 known-by c None d (Some n) tells k q b stays e = let no : false ≡ true = tells refl in absurd cc
 known-by c (Some t) d (Some n) tells k q b stays e = sym (k.pages q) ∙ e
 
-pub same-by : (c : Pooled) (told : Option Pages) (d : Pooled) (now : Option Pages) → (Tells now → Tells told) → Keeps c told d now → Tells now → (q : ℕ) → seen d now q ≡ seen c told q
+pub same-by : (c : Pooled) (told : Option Pages) (d : Pooled) (now : Option Pages) → (Tells now → Tells told) → Keeps c told d now → Tells now → (q : ℕ) → page_seen d now q ≡ page_seen c told q
 same-by c told d None tells k t q = absurd cc
 same-by c None d (Some n) tells k t q = let no : false ≡ true = tells t in absurd cc
 same-by c (Some t) d (Some n) tells k s q = k.pages q
@@ -78,7 +78,7 @@ brings-there c told d now p (CameBack digest out kept f) there = let no : false 
 
 -- a page that was in a frame was brought
 pub brought-there : (c : Pooled) (told : Option Pages) (d : Pooled) (now : Option Pages) (kept : Kept) → Brings c told d now kept.page → Keeps c told d now → (Tells now → Tells told) → Agree d now → d.frames ≡ c.frames
-    → IsFit (seen c told kept.page) kept → is_held c kept.page ≡ true → is_some (bytes_in kept.page c.resident) ≡ true → Brought c told d now kept
+    → IsFit (page_seen c told kept.page) kept → is_held c kept.page ≡ true → is_some (bytes_in kept.page c.resident) ≡ true → Brought c told d now kept
 brought-there c told d now kept brings k tells agree frames fit held there =
     let b = brings-there c told d now kept.page brings there in
     record {
@@ -104,7 +104,7 @@ brought-back c told d now kept brings k tells agree frames held b there fits =
     }
 
 -- where the pages are known, what came back fits
-pub told-fits : (c : Pooled) (told : Option Pages) (d : Pooled) (now : Option Pages) (kept : Kept) → Keeps c told d now → (Tells now → Tells told) → IsFit (seen c told kept.page) kept → (b : List ℕ) → bytes_in kept.page d.resident ≡ Some b
+pub told-fits : (c : Pooled) (told : Option Pages) (d : Pooled) (now : Option Pages) (kept : Kept) → Keeps c told d now → (Tells now → Tells told) → IsFit (page_seen c told kept.page) kept → (b : List ℕ) → bytes_in kept.page d.resident ≡ Some b
     → Tells now → FitsKept b kept
 told-fits c told d now kept k tells fit b there t = fit b (sym (same-by c told d now tells k t kept.page) ∙ in-frame d now kept.page b there)
 
@@ -140,9 +140,9 @@ agree-rewritten : (c : Pooled) (told : Option Pages) (p : ℕ) (w : List ℕ) �
 agree-rewritten c None p w h = tt
 agree-rewritten c (Some t) p w h = h
 
-seen-other : (c : Pooled) (told : Option Pages) (p q : ℕ) (w : List ℕ) → q ≢ p → seen (rewritten c p w) told q ≡ seen c told q
+seen-other : (c : Pooled) (told : Option Pages) (p q : ℕ) (w : List ℕ) → q ≢ p → page_seen (rewritten c p w) told q ≡ page_seen c told q
 seen-other c None p q w other = with-other p q w c.resident other
-seen-other c (Some t) p q w other = ap (λ (o : Option (List ℕ)). if_none o (if_kept (kept_at c.kept q) (finite.get t q))) (with-other p q w c.resident other)
+seen-other c (Some t) p q w other = ap (λ (o : Option (List ℕ)). if_none o (if_kept (digest_at c.kept q) (finite.get t q))) (with-other p q w c.resident other)
 
 -- a page in a frame is written
 pub rewritten-written : (c : Pooled) (told : Option Pages) (p : ℕ) (b w : List ℕ) → bytes_in p c.resident ≡ Some b → Agree c told → Written c told (rewritten c p w) told p w
@@ -150,11 +150,11 @@ rewritten-written c told p b w there agree =
     let here : bytes_in p (with_bytes p w c.resident) ≡ Some w = with-here p w b c.resident there in
     record {
       there = here;
-      held = ap (λ (o : Option (List ℕ)). is_some o || is_some (kept_at c.kept p)) here;
+      held = ap (λ (o : Option (List ℕ)). is_some o || is_some (digest_at c.kept p)) here;
       spares = record {
         known = λ q other b e. sym (seen-other c told p q w other) ∙ e;
         same = λ t q other. seen-other c told p q w other;
-        held = λ q other. ap (λ (o : Option (List ℕ)). is_some o || is_some (kept_at c.kept q)) (with-other p q w c.resident other);
+        held = λ q other. ap (λ (o : Option (List ℕ)). is_some o || is_some (digest_at c.kept q)) (with-other p q w c.resident other);
         tells = λ t. t;
         agree = agree-rewritten c told p w agree;
         frames = refl;
@@ -174,17 +174,17 @@ spares-then c told d now e end p a b =
 
 -- ---- an item behind the last of a page
 
-pub items-seen : (c : Pooled) (told : Option Pages) (kept : Kept) (b : List ℕ) → seen c told kept.page ≡ Some b → (f : FitsKept b kept) → items_in c told kept ≡ f.back
+pub items-seen : (c : Pooled) (told : Option Pages) (kept : Kept) (b : List ℕ) → page_seen c told kept.page ≡ Some b → (f : FitsKept b kept) → items_kept c told kept ≡ f.back
 items-seen c told kept b is f =
-    ap (λ (o : Option (List ℕ)). items_of o kept) is
+    ap (λ (o : Option (List ℕ)). items_of_bytes o kept) is
     ∙ ap (λ (n : ℕ). items_from b n kept.count) f.starts
     ∙ ap (λ (n : ℕ). items_from b (end_of f.front) n) f.counts
     ∙ items-are-read b f.front f.back f.page
 
-pub fits-few : (bytes : List ℕ) (start count end : ℕ) → Fits bytes start count end → count ≤ 8190
+pub fits-few : (bytes : List ℕ) (start count end : ℕ) → FitsPage bytes start count end → count ≤ 8190
 fits-few bytes start count end f = omega (arith, f.counts, f.page.room, many-room (f.front ++ f.back), length-append f.front f.back)
 
-pub fits-low : (bytes : List ℕ) (start count end : ℕ) → Fits bytes start count end → end ≤ 8192
+pub fits-low : (bytes : List ℕ) (start count end : ℕ) → FitsPage bytes start count end → end ≤ 8192
 fits-low bytes start count end f = omega (arith, f.ends, f.page.room)
 
 pub fits-end : (bytes : List ℕ) (kept : Kept) → FitsKept bytes kept → EndsAt bytes kept.end
@@ -215,7 +215,7 @@ appended c told d now e kept after item w b pool page is =
     let g = appended-fits b.bytes w kept after item b.fits (λ items. page b.bytes items b.there) is in
     let at : after.page ≡ kept.page = ap (λ (k : Kept). k.page) is in
     let wrote : Written d now e now kept.page w = subst (λ (x : Pooled). Written d now x now kept.page w) (sym pool) (rewritten-written d now kept.page b.bytes w b.there b.spares.agree) in
-    let here : seen e now after.page ≡ Some w = ap (λ (n : ℕ). seen e now n) at ∙ in-frame e now kept.page w wrote.there in
+    let here : page_seen e now after.page ≡ Some w = ap (λ (n : ℕ). page_seen e now n) at ∙ in-frame e now kept.page w wrote.there in
     record {
       page = at;
       spares = spares-then c told d now e now kept.page b.spares wrote.spares;
@@ -259,7 +259,7 @@ first-left bytes kept f some =
       ends = f.ends ∙ ap end_of parts;
     }
 
-pub fits-begins : (bytes : List ℕ) (kept : Kept) → FitsKept bytes kept → 1 ≤ kept.count → BeginsAt bytes kept.start
+pub fits-begins : (bytes : List ℕ) (kept : Kept) → FitsKept bytes kept → 1 ≤ kept.count → ItemBeginsAt bytes kept.start
 fits-begins bytes kept f some = let l = first-left bytes kept f some in (l.front, l.item, l.rest, l.page, l.starts)
 
 -- the page behind its first item
@@ -267,7 +267,7 @@ behind : (bytes : List ℕ) (front : List Item) (item : Item) (rest : List Item)
 behind bytes front item rest h = subst (λ (xs : List Item). IsPageOf bytes xs) (sym (append_assoc front (item ∷ []) rest)) h
 
 pub next-begins : (bytes : List ℕ) (kept : Kept) (start : ℕ) → FitsKept bytes kept → 2 ≤ kept.count
-    → ((front : List Item) (item : Item) (back : List Item) → IsPageOf bytes (front ++ item ∷ back) → kept.start ≡ end_of front → start ≡ end_of (front ++ item ∷ [])) → BeginsAt bytes start
+    → ((front : List Item) (item : Item) (back : List Item) → IsPageOf bytes (front ++ item ∷ back) → kept.start ≡ end_of front → start ≡ end_of (front ++ item ∷ [])) → ItemBeginsAt bytes start
 next-begins bytes kept start f two ends =
     let l = first-left bytes kept f (omega (arith, two)) in
     let h = back-head l.rest (omega (arith, l.counts, two)) in
@@ -283,7 +283,7 @@ taken c told d now kept after item start time b some found timed is =
     let at = found l.front l.item l.rest l.page l.starts in
     let page : IsPageOf b.bytes ((l.front ++ l.item ∷ []) ++ l.rest) = behind b.bytes l.front l.item l.rest l.page in
     let one : after.page ≡ kept.page = ap (λ (k : Kept). k.page) is in
-    let here : seen d now after.page ≡ Some b.bytes = ap (λ (n : ℕ). seen d now n) one ∙ in-frame d now kept.page b.bytes b.there in
+    let here : page_seen d now after.page ≡ Some b.bytes = ap (λ (n : ℕ). page_seen d now n) one ∙ in-frame d now kept.page b.bytes b.there in
     let fit : FitsKept b.bytes after = record {
       front = l.front ++ l.item ∷ [];
       back = l.rest;
@@ -292,7 +292,7 @@ taken c told d now kept after item start time b some found timed is =
       counts = omega (arith, ap (λ (k : Kept). k.count) is, l.counts);
       ends = ap (λ (k : Kept). k.end) is ∙ l.ends ∙ ap end_of (sym (append_assoc l.front (l.item ∷ []) l.rest));
     } in
-    let left : items_in d now after ≡ l.rest = items-seen d now after b.bytes here fit in
+    let left : items_kept d now after ≡ l.rest = items-seen d now after b.bytes here fit in
     record {
       page = one;
       spares = b.spares;
@@ -330,12 +330,12 @@ made-known c told d now p m q other b e =
       | inr more ↦ sym (ap (λ (x : Pooled). bytes_in q x.resident) more) ∙ start
     ]
 
-made-same : (c : Pooled) (told : Option Pages) (d : Pooled) (now : Option Pages) (p : ℕ) → (Tells now → Tells told) → Makes c told d now p → Tells now → (q : ℕ) → q ≢ p → seen d now q ≡ seen c told q
+made-same : (c : Pooled) (told : Option Pages) (d : Pooled) (now : Option Pages) (p : ℕ) → (Tells now → Tells told) → Makes c told d now p → Tells now → (q : ℕ) → q ≢ p → page_seen d now q ≡ page_seen c told q
 made-same c told d None p tells k t q other = absurd cc
 made-same c None d (Some n) p tells k t q other = let no : false ≡ true = tells t in absurd cc
 made-same c (Some t) d (Some n) p tells k s q other = rw (eqb-other q p other) at (k.pages q)
 
-made-seen : (c : Pooled) (told : Option Pages) (d : Pooled) (now : Option Pages) (p : ℕ) → (Tells now → Tells told) → IsMade c told d now p → Makes c told d now p → (q : ℕ) → q ≢ p → (b : List ℕ) → seen d now q ≡ Some b → seen c told q ≡ Some b
+made-seen : (c : Pooled) (told : Option Pages) (d : Pooled) (now : Option Pages) (p : ℕ) → (Tells now → Tells told) → IsMade c told d now p → Makes c told d now p → (q : ℕ) → q ≢ p → (b : List ℕ) → page_seen d now q ≡ Some b → page_seen c told q ≡ Some b
 made-seen c told d None p tells m k q other b e = in-frame c told q b (made-known c told d None p m q other b e)
 made-seen c told d (Some n) p tells m k q other b e = sym (made-same c told d (Some n) p tells k refl q other) ∙ e
 
@@ -368,7 +368,7 @@ pub started : (c : Pooled) (told : Option Pages) (d : Pooled) (now : Option Page
 started c told d now e kept item w end tells m k agree frames pool page ends is =
     let there = made-there c told d now kept.page m in
     let wrote : Written d now e now kept.page w = subst (λ (x : Pooled). Written d now x now kept.page w) (sym pool) (rewritten-written d now kept.page zeros w there agree) in
-    let here : seen e now kept.page ≡ Some w = in-frame e now kept.page w wrote.there in
+    let here : page_seen e now kept.page ≡ Some w = in-frame e now kept.page w wrote.there in
     let one : IsPageOf w (item ∷ []) = page zeros [] there (empty_page zeros refl) refl in
     let fit : FitsKept w kept = record {
       front = [];
@@ -391,12 +391,12 @@ started c told d now e kept item w end tells m k agree frames pool page ends is 
 
 -- ---- a page is let go
 
-gone-same : (c : Pooled) (told : Option Pages) (d : Pooled) (now : Option Pages) (p : ℕ) → (Tells now → Tells told) → Drops c told d now p → Tells now → (q : ℕ) → q ≢ p → seen d now q ≡ seen c told q
+gone-same : (c : Pooled) (told : Option Pages) (d : Pooled) (now : Option Pages) (p : ℕ) → (Tells now → Tells told) → Drops c told d now p → Tells now → (q : ℕ) → q ≢ p → page_seen d now q ≡ page_seen c told q
 gone-same c told d None p tells k t q other = absurd cc
 gone-same c None d (Some n) p tells k t q other = let no : false ≡ true = tells t in absurd cc
 gone-same c (Some t) d (Some n) p tells k s q other = rw (eqb-other q p other) at (k.pages q)
 
-gone-seen : (c : Pooled) (told : Option Pages) (d : Pooled) (now : Option Pages) (p : ℕ) → (Tells now → Tells told) → LetsGo c d p → Drops c told d now p → (q : ℕ) → q ≢ p → (b : List ℕ) → seen d now q ≡ Some b → seen c told q ≡ Some b
+gone-seen : (c : Pooled) (told : Option Pages) (d : Pooled) (now : Option Pages) (p : ℕ) → (Tells now → Tells told) → LetsGo c d p → Drops c told d now p → (q : ℕ) → q ≢ p → (b : List ℕ) → page_seen d now q ≡ Some b → page_seen c told q ≡ Some b
 gone-seen c told d None p tells l k q other b e = in-frame c told q b (sym (rw (eqb-other q p other) at (l.bytes q)) ∙ e)
 gone-seen c told d (Some n) p tells l k q other b e = sym (gone-same c told d (Some n) p tells k refl q other) ∙ e
 

@@ -8,33 +8,33 @@ use Rattle.sq_outside.specs.Disks.{DiskLog, Pages}
 use Rattle.sq_pool.specs.Trust.{Tells}
 use Rattle.sq_pool.specs.Pools.{Pooled, is_held, Agree}
 use Rattle.sq_paged.specs.Fronts.{Face, first_time, IsFaceOf}
-use Rattle.sq_paged.specs.Kept.{seen, IsFit, items_in, IsCause}
+use Rattle.sq_paged.specs.Kept.{page_seen, IsFit, items_kept, IsCause}
 use Rattle.sq_paged.specs.declared.store.Kept.{Kept}
 use Rattle.sq_paged.specs.declared.Lane.{Lane}
 use Rattle.sq_paged.specs.declared.Queues.{Queues}
 use Rattle.sq_paged.specs.declared.store.QueueErr.{QueueErr}
 use Rattle.sq_paged.specs.declared.store.QueueErr.TheVariants as error
 
-abbrev pub face_at : Option Lane → Face
-face_at None = record { count = 0; first = None; ended = false }
-face_at (Some lane) = record { count = lane.count; first = lane.first; ended = lane.ended }
+abbrev pub paged_face_at : Option Lane → Face
+paged_face_at None = record { count = 0; first = None; ended = false }
+paged_face_at (Some lane) = record { count = lane.count; first = lane.first; ended = lane.ended }
 
 -- what is kept of an arc on which nothing stands
 abbrev pub no_items : Lane
 no_items = record { count = 0; first = None; last = None; ended = false }
 
 abbrev pub face : Queues → ℕ → Face
-face queues arc = face_at (slice_get queues.lanes.items arc)
+face queues arc = paged_face_at (slice_get queues.lanes.items arc)
 
 abbrev pub size : Queues → ℕ
 size queues = length queues.lanes.items
 
-abbrev pub frames : Queues → ℕ
-frames queues = queues.pool.frames
+abbrev pub paged_frames : Queues → ℕ
+paged_frames queues = queues.pool.frames
 
 -- how many pages are in memory
-abbrev pub resident_of : Queues → ℕ
-resident_of queues = length queues.pool.resident
+abbrev pub paged_resident_of : Queues → ℕ
+paged_resident_of queues = length queues.pool.resident
 
 -- the nodes of an arc, and what is kept of the page of a node
 abbrev pub nodes_on : Queues → ℕ → List ℕ
@@ -48,16 +48,16 @@ kept_at kept node = slice_index_or kept node no_page
 
 -- the items of the pages of some nodes, one page behind the other
 abbrev pub items_along : Pooled → Option Pages → List Kept → List ℕ → List Item
-items_along pool told kept nodes = flat_map (λ node. items_in pool told (kept_at kept node)) nodes
+items_along pool told kept nodes = flat_map (λ node. items_kept pool told (kept_at kept node)) nodes
 
 -- the items on an arc, in their order, by queues and what is known of the pages of a disk
-abbrev pub items_on : Queues → Option Pages → ℕ → List Item
-items_on queues told arc = items_along queues.pool told queues.kept.items (nodes_on queues arc)
+abbrev pub paged_items_on : Queues → Option Pages → ℕ → List Item
+paged_items_on queues told arc = items_along queues.pool told queues.kept.items (nodes_on queues arc)
 
-abbrev pub last_of : List ℕ → Option ℕ
-last_of [] = None
-last_of (node ∷ []) = Some node
-last_of (node ∷ next ∷ nodes) = last_of (next ∷ nodes)
+abbrev pub last_node : List ℕ → Option ℕ
+last_node [] = None
+last_node (node ∷ []) = Some node
+last_node (node ∷ next ∷ nodes) = last_node (next ∷ nodes)
 
 abbrev pub count_along : List Kept → List ℕ → ℕ
 count_along kept [] = 0
@@ -77,18 +77,18 @@ last_if None last = None
 last_if (Some first) last = last
 
 -- what an arc keeps is that of its pages
-pub record IsLane (lane : Option Lane) (kept : List Kept) (nodes : List ℕ) : Type 0 where
-  pub count : (face_at lane).count ≡ count_along kept nodes
-  pub first : is_some (face_at lane).first ≡ is_first (face_at lane).count
-  pub last : last_at lane ≡ last_of nodes
+pub record IsPagedLane (lane : Option Lane) (kept : List Kept) (nodes : List ℕ) : Type 0 where
+  pub count : (paged_face_at lane).count ≡ count_along kept nodes
+  pub first : is_some (paged_face_at lane).first ≡ is_first (paged_face_at lane).count
+  pub last : last_at lane ≡ last_node nodes
 
 -- a page of an arc: some of its items are left, and it is what is kept of it
-pub record IsKept (pool : Pooled) (told : Option Pages) (kept : Kept) : Type 0 where
+pub record IsKeptPage (pool : Pooled) (told : Option Pages) (kept : Kept) : Type 0 where
   pub held : is_held pool kept.page ≡ true
   pub some : 1 ≤ kept.count
   pub ends : kept.end ≤ 8192
-  pub fits : IsFit (seen pool told kept.page) kept
-  pub timed : Tells told → first_time (items_in pool told kept) ≡ Some kept.time
+  pub fits : IsFit (page_seen pool told kept.page) kept
+  pub timed : Tells told → first_time (items_kept pool told kept) ≡ Some kept.time
 
 -- a page is that of a node that stands on an arc
 abbrev pub IsOfNode : Queues → ℕ → Type 0
@@ -96,16 +96,16 @@ IsOfNode queues page = (arc : ℕ) × (node : ℕ) × StandsIn node (nodes_on qu
 
 -- queues and a disk stand together: pool and disk agree, each arc and each page is as is kept of it, no two nodes have one
 -- page, the pool holds no page but theirs, and where the pages are known each face is that of its items
-pub record Together (queues : Queues) (told : Option Pages) : Type 0 where
+pub record PagedTogether (queues : Queues) (told : Option Pages) : Type 0 where
   pub agree : Agree queues.pool told
   pub arcs : length queues.chains.lists ≡ length queues.lanes.items
   pub nodes : length queues.kept.items ≡ queues.chains.nodes
-  pub lanes : (arc : ℕ) → IsLane (slice_get queues.lanes.items arc) queues.kept.items (nodes_on queues arc)
-  pub pages : (arc node : ℕ) → StandsIn node (nodes_on queues arc) → IsKept queues.pool told (kept_at queues.kept.items node)
+  pub lanes : (arc : ℕ) → IsPagedLane (slice_get queues.lanes.items arc) queues.kept.items (nodes_on queues arc)
+  pub pages : (arc node : ℕ) → StandsIn node (nodes_on queues arc) → IsKeptPage queues.pool told (kept_at queues.kept.items node)
   pub apart : (arc node other_arc other : ℕ) → StandsIn node (nodes_on queues arc) → StandsIn other (nodes_on queues other_arc) → node ≢ other
       → (kept_at queues.kept.items node).page ≢ (kept_at queues.kept.items other).page
   pub standing : (page : ℕ) → is_held queues.pool page ≡ true → IsOfNode queues page
-  pub faces : Tells told → (arc : ℕ) → IsFaceOf (face queues arc) (items_on queues told arc)
+  pub faces : Tells told → (arc : ℕ) → IsFaceOf (face queues arc) (paged_items_on queues told arc)
 
 -- all that queues keep of arcs and of pages is as before
 pub record SameTables (q r : Queues) : Type 0 where
@@ -114,10 +114,10 @@ pub record SameTables (q r : Queues) : Type 0 where
   pub chains : r.chains ≡ q.chains
 
 -- why an arc is refused: a page of it came back, and it is refused; what is kept of arcs and pages stayed
-abbrev pub IsRefusal : Queues → Queues → DiskLog → DiskLog → ℕ → QueueErr → Type 0
-IsRefusal q r before now arc error.Disk = ⊤
-IsRefusal q r before now arc (error.Garbled page kept got) =
+abbrev pub IsPagedRefusal : Queues → Queues → DiskLog → DiskLog → ℕ → QueueErr → Type 0
+IsPagedRefusal q r before now arc error.Disk = ⊤
+IsPagedRefusal q r before now arc (error.Garbled page kept got) =
     (node : ℕ) × StandsIn node (nodes_on r arc) × IsCause q.pool r.pool before now (kept_at r.kept.items node) (error.Garbled page kept got) × SameTables q r
-IsRefusal q r before now arc (error.NotAPage page bytes) =
+IsPagedRefusal q r before now arc (error.NotAPage page bytes) =
     (node : ℕ) × StandsIn node (nodes_on r arc) × IsCause q.pool r.pool before now (kept_at r.kept.items node) (error.NotAPage page bytes) × SameTables q r
-IsRefusal q r before now arc error.Memory = ⊤
+IsPagedRefusal q r before now arc error.Memory = ⊤

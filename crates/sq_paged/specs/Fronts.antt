@@ -26,12 +26,12 @@ head_by false None = Empty
 head_by true None = Ended
 
 -- the face after an item of a time was pushed
-abbrev pub first_or : Option ℕ → ℕ → Option ℕ
-first_or None time = Some time
-first_or (Some first) time = Some first
+abbrev pub first_time_or : Option ℕ → ℕ → Option ℕ
+first_time_or None time = Some time
+first_time_or (Some first) time = Some first
 
 abbrev pub pushed : Face → ℕ → Face
-pushed f time = record f { count = f.count + 1; first = first_or f.first time }
+pushed f time = record f { count = f.count + 1; first = first_time_or f.first time }
 
 -- a face after its first item was popped: one less stands there, none only where none is left
 pub record IsPopped (before after : Face) : Type 0 where

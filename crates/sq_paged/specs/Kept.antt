@@ -2,9 +2,9 @@
 use Rattle.std.specs.Prelude.{◌≡◌, ◌≢◌, ⊤, ℕ, ◌+◌, ◌≤◌, true, false, List, [], ◌∷◌, ◌++◌, Option, Some, None}
 use Rattle.sq_item.specs.declared.Item.{Item}
 use Rattle.sq_outside.specs.Disks.{DiskLog, Pages}
-use Rattle.sq_page.specs.Fitting.{Fits, items_from}
+use Rattle.sq_page.specs.Fitting.{FitsPage, items_from}
 use Rattle.sq_pool.specs.Pools.{Pooled, bytes_in, page_of, is_held, Agree}
-use Rattle.sq_pool.specs.Errors.{IsGarbling, IsWhole}
+use Rattle.sq_pool.specs.Errors.{IsGarbling, IsWholePage}
 use Rattle.sq_pool.specs.Trust.{Tells}
 use Rattle.sq_pool.specs.declared.pool.PoolErr.{PoolErr}
 use Rattle.sq_pool.specs.declared.pool.PoolErr.TheVariants as pool
@@ -13,27 +13,27 @@ use Rattle.sq_paged.specs.declared.store.QueueErr.{QueueErr}
 use Rattle.sq_paged.specs.declared.store.QueueErr.TheVariants as error
 
 -- the bytes of a page, where they are known: in a frame, or on a disk of which the pages are known
-abbrev pub seen : Pooled → Option Pages → ℕ → Option (List ℕ)
-seen c None p = bytes_in p c.resident
-seen c (Some told) p = page_of c told p
+abbrev pub page_seen : Pooled → Option Pages → ℕ → Option (List ℕ)
+page_seen c None p = bytes_in p c.resident
+page_seen c (Some told) p = page_of c told p
 
 -- the bytes are a page that fits what is kept of it
 abbrev pub FitsKept : List ℕ → Kept → Type 0
-FitsKept bytes kept = Fits bytes kept.start kept.count kept.end
+FitsKept bytes kept = FitsPage bytes kept.start kept.count kept.end
 
 -- where its bytes are known, the page fits
 abbrev pub IsFit : Option (List ℕ) → Kept → Type 0
 IsFit known kept = (bytes : List ℕ) → known ≡ Some bytes → FitsKept bytes kept
 
-abbrev pub items_of : Option (List ℕ) → Kept → List Item
-items_of None kept = []
-items_of (Some bytes) kept = items_from bytes kept.start kept.count
+abbrev pub items_of_bytes : Option (List ℕ) → Kept → List Item
+items_of_bytes None kept = []
+items_of_bytes (Some bytes) kept = items_from bytes kept.start kept.count
 
 -- what a call leaves of all pages but one: what is seen behind it was seen before, and where the pages are known behind it
 -- they were known before
 pub record Spares (c : Pooled) (told : Option Pages) (d : Pooled) (now : Option Pages) (page : ℕ) : Type 0 where
-  pub known : (q : ℕ) → q ≢ page → (bytes : List ℕ) → seen d now q ≡ Some bytes → seen c told q ≡ Some bytes
-  pub same : Tells now → (q : ℕ) → q ≢ page → seen d now q ≡ seen c told q
+  pub known : (q : ℕ) → q ≢ page → (bytes : List ℕ) → page_seen d now q ≡ Some bytes → page_seen c told q ≡ Some bytes
+  pub same : Tells now → (q : ℕ) → q ≢ page → page_seen d now q ≡ page_seen c told q
   pub held : (q : ℕ) → q ≢ page → is_held d q ≡ is_held c q
   pub tells : Tells now → Tells told
   pub agree : Agree d now
@@ -45,7 +45,7 @@ pub record Brought (c : Pooled) (told : Option Pages) (d : Pooled) (now : Option
   pub there : bytes_in kept.page d.resident ≡ Some bytes
   pub fits : FitsKept bytes kept
   pub held : is_held d kept.page ≡ true
-  pub same : Tells now → seen c told kept.page ≡ Some bytes
+  pub same : Tells now → page_seen c told kept.page ≡ Some bytes
   pub spares : Spares c told d now kept.page
 
 -- a page is in a frame with these bytes
@@ -54,41 +54,41 @@ pub record Written (c : Pooled) (told : Option Pages) (d : Pooled) (now : Option
   pub held : is_held d page ≡ true
   pub spares : Spares c told d now page
 
-abbrev pub items_in : Pooled → Option Pages → Kept → List Item
-items_in pool told kept = items_of (seen pool told kept.page) kept
+abbrev pub items_kept : Pooled → Option Pages → Kept → List Item
+items_kept pool told kept = items_of_bytes (page_seen pool told kept.page) kept
 
 -- a page has one item more behind the others
 pub record Appended (c : Pooled) (told : Option Pages) (d : Pooled) (now : Option Pages) (kept after : Kept) (item : Item) : Type 0 where
   pub page : after.page ≡ kept.page
   pub spares : Spares c told d now kept.page
   pub held : is_held d kept.page ≡ true
-  pub fits : IsFit (seen d now after.page) after
+  pub fits : IsFit (page_seen d now after.page) after
   pub ends : after.end ≤ 8192
   pub count : after.count ≡ kept.count + 1
   pub time : after.time ≡ kept.time
-  pub items : Tells now → items_in d now after ≡ items_in c told kept ++ item ∷ []
+  pub items : Tells now → items_kept d now after ≡ items_kept c told kept ++ item ∷ []
 
 -- a page has one item less in front
 pub record Taken (c : Pooled) (told : Option Pages) (d : Pooled) (now : Option Pages) (kept after : Kept) (item : Item) : Type 0 where
   pub page : after.page ≡ kept.page
   pub spares : Spares c told d now kept.page
   pub held : is_held d kept.page ≡ true
-  pub fits : IsFit (seen d now after.page) after
+  pub fits : IsFit (page_seen d now after.page) after
   pub ends : after.end ≤ 8192
   pub count : kept.count ≡ after.count + 1
-  pub items : Tells now → items_in c told kept ≡ item ∷ items_in d now after
-  pub time : Tells now → (next : Item) (rest : List Item) → items_in d now after ≡ next ∷ rest → after.time ≡ next.time
+  pub items : Tells now → items_kept c told kept ≡ item ∷ items_kept d now after
+  pub time : Tells now → (next : Item) (rest : List Item) → items_kept d now after ≡ next ∷ rest → after.time ≡ next.time
 
 -- a new page has one item
 pub record Started (c : Pooled) (told : Option Pages) (d : Pooled) (now : Option Pages) (kept : Kept) (item : Item) : Type 0 where
   pub fresh : is_held c kept.page ≡ false
   pub spares : Spares c told d now kept.page
   pub held : is_held d kept.page ≡ true
-  pub fits : IsFit (seen d now kept.page) kept
+  pub fits : IsFit (page_seen d now kept.page) kept
   pub ends : kept.end ≤ 8192
   pub count : kept.count ≡ 1
   pub time : kept.time ≡ item.time
-  pub items : Tells now → items_in d now kept ≡ item ∷ []
+  pub items : Tells now → items_kept d now kept ≡ item ∷ []
 
 -- the error of a queue for that of its pool
 abbrev pub of_pool : PoolErr → QueueErr
@@ -109,7 +109,7 @@ abbrev pub IsCause : Pooled → Pooled → DiskLog → DiskLog → Kept → Queu
 IsCause c d before now kept error.Disk = ⊤
 IsCause c d before now kept (error.Garbled page old got) = IsGarbling c d before now kept.page (pool.Garbled page old got)
 IsCause c d before now kept (error.NotAPage page bytes) =
-    (page ≡ kept.page) × (bytes_in page c.resident ≡ None) × IsWhole c d before now page bytes.items × (¬ (FitsKept bytes.items kept))
+    (page ≡ kept.page) × (bytes_in page c.resident ≡ None) × IsWholePage c d before now page bytes.items × (¬ (FitsKept bytes.items kept))
 IsCause c d before now kept error.Memory = ⊤
 
 -- a refusal that may come over an honest disk

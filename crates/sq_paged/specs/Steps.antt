@@ -6,7 +6,7 @@ use Rattle.sq_outside.specs.Disks.{Pages}
 use Rattle.sq_pool.specs.Pools.{is_held, Agree}
 use Rattle.sq_pool.specs.Trust.{Tells}
 use Rattle.sq_paged.specs.Kept.{Appended, Taken, Started, Spares}
-use Rattle.sq_paged.specs.Faces.{nodes_on, kept_at, items_on, count_along, last_of, IsLane, IsKept, IsOfNode}
+use Rattle.sq_paged.specs.Faces.{nodes_on, kept_at, paged_items_on, count_along, last_node, IsPagedLane, IsKeptPage, IsOfNode}
 use Rattle.sq_paged.specs.declared.store.Kept.{Kept}
 use Rattle.sq_paged.specs.declared.Queues.{Queues}
 
@@ -45,24 +45,24 @@ pub record KeepsOthers (q : Queues) (told : Option Pages) (r : Queues) (now : Op
   pub agree : Agree r.pool now
   pub arcs : length r.chains.lists ≡ length q.chains.lists
   pub nodes : length r.kept.items ≡ r.chains.nodes
-  pub lanes : (l : ℕ) → l ≢ arc → IsLane (slice_get q.lanes.items l) r.kept.items (nodes_on r l)
-  pub pages : (l node : ℕ) → StandsIn node (nodes_on r l) → IsKept r.pool now (kept_at r.kept.items node)
+  pub lanes : (l : ℕ) → l ≢ arc → IsPagedLane (slice_get q.lanes.items l) r.kept.items (nodes_on r l)
+  pub pages : (l node : ℕ) → StandsIn node (nodes_on r l) → IsKeptPage r.pool now (kept_at r.kept.items node)
   pub apart : (l node m other : ℕ) → StandsIn node (nodes_on r l) → StandsIn other (nodes_on r m) → node ≢ other → (kept_at r.kept.items node).page ≢ (kept_at r.kept.items other).page
   pub standing : (page : ℕ) → is_held r.pool page ≡ true → IsOfNode r page
-  pub others : Tells now → (l : ℕ) → l ≢ arc → items_on r now l ≡ items_on q told l
+  pub others : Tells now → (l : ℕ) → l ≢ arc → paged_items_on r now l ≡ paged_items_on q told l
   pub tells : Tells now → Tells told
   pub frames : r.pool.frames ≡ q.pool.frames
 
 -- an item is behind the last of an arc, in the page of this node
-pub record Adds (q : Queues) (told : Option Pages) (r : Queues) (now : Option Pages) (arc node : ℕ) (item : Item) : Type 0 where
+pub record AddsItem (q : Queues) (told : Option Pages) (r : Queues) (now : Option Pages) (arc node : ℕ) (item : Item) : Type 0 where
   pub rest : KeepsOthers q told r now arc
   pub count : count_along r.kept.items (nodes_on r arc) ≡ count_along q.kept.items (nodes_on q arc) + 1
-  pub last : last_of (nodes_on r arc) ≡ Some node
-  pub items : Tells now → items_on r now arc ≡ items_on q told arc ++ item ∷ []
+  pub last : last_node (nodes_on r arc) ≡ Some node
+  pub items : Tells now → paged_items_on r now arc ≡ paged_items_on q told arc ++ item ∷ []
 
 -- the first item of an arc is taken; its last page stays, where one is left
 pub record Removes (q : Queues) (told : Option Pages) (r : Queues) (now : Option Pages) (arc : ℕ) (item : Item) : Type 0 where
   pub rest : KeepsOthers q told r now arc
   pub count : count_along q.kept.items (nodes_on q arc) ≡ count_along r.kept.items (nodes_on r arc) + 1
-  pub last : (first : ℕ) (behind : List ℕ) → nodes_on r arc ≡ first ∷ behind → last_of (nodes_on r arc) ≡ last_of (nodes_on q arc)
-  pub items : Tells now → items_on q told arc ≡ item ∷ items_on r now arc
+  pub last : (first : ℕ) (behind : List ℕ) → nodes_on r arc ≡ first ∷ behind → last_node (nodes_on r arc) ≡ last_node (nodes_on q arc)
+  pub items : Tells now → paged_items_on q told arc ≡ item ∷ paged_items_on r now arc

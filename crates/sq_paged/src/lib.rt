@@ -9,14 +9,14 @@
 #![tactic(auto)]
 
 ghost use Rattle.std.specs.Prelude.{◌≡◌, ◌≢◌, ℕ, ◌+◌, ◌-◌, ◌<◌, ◌≤◌, ◌++◌, ◌∷◌, [], true, false, Option, Some, None, length, is_some, option_map, IfOk, OnOk, OnErr, IfErr, IfSome, replicate};
-ghost use Rattle.sq_item.specs.Sound.{IsSound};
+ghost use Rattle.sq_item.specs.Sound.{IsSoundItem};
 ghost use Rattle.sq_outside.specs.Disks.{Honest, Pages};
 ghost use Rattle.sq_outside.specs.Faults.{Rose};
 ghost use Rattle.sq_paged.specs.Fronts.{head_by, pushed, IsPopped};
 ghost use Rattle.sq_pool.specs.Trust.{IsLater, Tells, known};
 ghost use Rattle.sq_paged.specs.Kept.{IsTold, IsCause, NoMisfit};
-ghost use Rattle.sq_paged.specs.Faces.{face, size, frames, frames as frames_of, resident_of, items_on, Together, no_items, last_if, IsKept, kept_at, IsRefusal, SameTables};
-ghost use Rattle.sq_paged.specs.Steps.{AppendsAt, TakesAt, StartsAt, DropsAt, Adds, Removes};
+ghost use Rattle.sq_paged.specs.Faces.{face, size, paged_frames, paged_frames as frames_of, paged_resident_of, paged_items_on, PagedTogether, no_items, last_if, IsKeptPage, kept_at, IsPagedRefusal, SameTables};
+ghost use Rattle.sq_paged.specs.Steps.{AppendsAt, TakesAt, StartsAt, DropsAt, AddsItem, Removes};
 ghost use Rattle.sq_page.specs.Pages.{item_bytes};
 ghost use Rattle.sq_pool.specs.Pools.{Agree, is_held};
 ghost use Rattle.sq_link.specs.Chained.{IsLoose, head_or, list_at};
@@ -93,8 +93,8 @@ impl Queues {
         ensures size { IfOk result (λ q. size q ≡ arcs) }
         ensures frames { IfOk result (λ q. frames_of q ≡ frames) }
         ensures faces { IfOk result (λ q. (arc : ℕ) → face q arc ≡ record { count = 0; first = None; ended = false }) }
-        ensures items { IfOk result (λ q. (pages : Option Pages) (arc : ℕ) → items_on q pages arc ≡ []) }
-        ensures together { IfOk result (λ q. (pages : Option Pages) → Together q pages) }
+        ensures items { IfOk result (λ q. (pages : Option Pages) (arc : ℕ) → paged_items_on q pages arc ≡ []) }
+        ensures together { IfOk result (λ q. (pages : Option Pages) → PagedTogether q pages) }
     {
         let lanes = empty_lanes(alloc, arcs as usize)?;
         Ok(Queues {
@@ -111,20 +111,20 @@ impl Queues {
     pub fn push<D: PageDisk>(&mut self, disk: &mut D, arc: u32, item: &Item) -> Result<(), QueueErr>
         requires there { arc < size self.old }
         requires open { (face self.old arc).ended ≡ false }
-        requires sound { IsSound item.now }
-        requires together { Together self.old (known (D.log disk.old)) }
+        requires sound { IsSoundItem item.now }
+        requires together { PagedTogether self.old (known (D.log disk.old)) }
         ensures face { OnOk result (face self.new arc ≡ pushed (face self.old arc) item.now.time) }
         ensures faces { (other : ℕ) → other ≢ arc → face self.new other ≡ face self.old other }
         ensures size { size self.new ≡ size self.old }
-        ensures frames { OnOk result (frames self.new ≡ frames self.old) }
-        ensures items { OnOk result (Tells (known (D.log disk.new)) → items_on self.new (known (D.log disk.new)) arc ≡ items_on self.old (known (D.log disk.old)) arc ++ item.now ∷ []) }
-        ensures others { OnOk result (Tells (known (D.log disk.new)) → (other : ℕ) → other ≢ arc → items_on self.new (known (D.log disk.new)) other ≡ items_on self.old (known (D.log disk.old)) other) }
-        ensures together { OnOk result (Together self.new (known (D.log disk.new))) }
+        ensures frames { OnOk result (paged_frames self.new ≡ paged_frames self.old) }
+        ensures items { OnOk result (Tells (known (D.log disk.new)) → paged_items_on self.new (known (D.log disk.new)) arc ≡ paged_items_on self.old (known (D.log disk.old)) arc ++ item.now ∷ []) }
+        ensures others { OnOk result (Tells (known (D.log disk.new)) → (other : ℕ) → other ≢ arc → paged_items_on self.new (known (D.log disk.new)) other ≡ paged_items_on self.old (known (D.log disk.old)) other) }
+        ensures together { OnOk result (PagedTogether self.new (known (D.log disk.new))) }
         ensures later { IsLater (D.log disk.old) (D.log disk.new) }
 
         // Each refusal.
         ensures disk { IfErr result (λ e. e ≡ QueueErr.Disk → Rose (D.faults disk.old) (D.faults disk.new)) }
-        ensures cause { IfErr result (λ e. IsRefusal self.old self.new (D.log disk.old) (D.log disk.new) arc e) }
+        ensures cause { IfErr result (λ e. IsPagedRefusal self.old self.new (D.log disk.old) (D.log disk.new) arc e) }
         ensures honest { IfErr result (λ e. Honest (D.log disk.old) → IsTold e) }
         ensures misfit { IfErr result (λ e. Tells (known (D.log disk.new)) → NoMisfit e) }
         ensures faults { D.faults disk.old ≤ D.faults disk.new }
@@ -150,20 +150,20 @@ impl Queues {
     pub fn send<D: PageDisk>(&mut self, disk: &mut D, arc: u32, item: Item) -> Result<(), QueueErr>
         requires there { arc < size self.old }
         requires open { (face self.old arc).ended ≡ false }
-        requires sound { IsSound item }
-        requires together { Together self.old (known (D.log disk.old)) }
+        requires sound { IsSoundItem item }
+        requires together { PagedTogether self.old (known (D.log disk.old)) }
         ensures face { OnOk result (face self.new arc ≡ pushed (face self.old arc) item.time) }
         ensures faces { (other : ℕ) → other ≢ arc → face self.new other ≡ face self.old other }
         ensures size { size self.new ≡ size self.old }
-        ensures frames { OnOk result (frames self.new ≡ frames self.old) }
-        ensures items { OnOk result (Tells (known (D.log disk.new)) → items_on self.new (known (D.log disk.new)) arc ≡ items_on self.old (known (D.log disk.old)) arc ++ item ∷ []) }
-        ensures others { OnOk result (Tells (known (D.log disk.new)) → (other : ℕ) → other ≢ arc → items_on self.new (known (D.log disk.new)) other ≡ items_on self.old (known (D.log disk.old)) other) }
-        ensures together { OnOk result (Together self.new (known (D.log disk.new))) }
+        ensures frames { OnOk result (paged_frames self.new ≡ paged_frames self.old) }
+        ensures items { OnOk result (Tells (known (D.log disk.new)) → paged_items_on self.new (known (D.log disk.new)) arc ≡ paged_items_on self.old (known (D.log disk.old)) arc ++ item ∷ []) }
+        ensures others { OnOk result (Tells (known (D.log disk.new)) → (other : ℕ) → other ≢ arc → paged_items_on self.new (known (D.log disk.new)) other ≡ paged_items_on self.old (known (D.log disk.old)) other) }
+        ensures together { OnOk result (PagedTogether self.new (known (D.log disk.new))) }
         ensures later { IsLater (D.log disk.old) (D.log disk.new) }
 
         // Each refusal.
         ensures disk { IfErr result (λ e. e ≡ QueueErr.Disk → Rose (D.faults disk.old) (D.faults disk.new)) }
-        ensures cause { IfErr result (λ e. IsRefusal self.old self.new (D.log disk.old) (D.log disk.new) arc e) }
+        ensures cause { IfErr result (λ e. IsPagedRefusal self.old self.new (D.log disk.old) (D.log disk.new) arc e) }
         ensures honest { IfErr result (λ e. Honest (D.log disk.old) → IsTold e) }
         ensures misfit { IfErr result (λ e. Tells (known (D.log disk.new)) → NoMisfit e) }
         ensures faults { D.faults disk.old ≤ D.faults disk.new }
@@ -176,20 +176,20 @@ impl Queues {
     pub fn pop<D: PageDisk>(&mut self, disk: &mut D, arc: u32) -> Result<Item, QueueErr>
         requires there { arc < size self.old }
         requires some { is_some (face self.old arc).first ≡ true }
-        requires together { Together self.old (known (D.log disk.old)) }
-        ensures sound { IfOk result IsSound }
+        requires together { PagedTogether self.old (known (D.log disk.old)) }
+        ensures sound { IfOk result IsSoundItem }
         ensures face { OnOk result (IsPopped (face self.old arc) (face self.new arc)) }
         ensures faces { (other : ℕ) → other ≢ arc → face self.new other ≡ face self.old other }
         ensures size { size self.new ≡ size self.old }
-        ensures frames { OnOk result (frames self.new ≡ frames self.old) }
-        ensures items { IfOk result (λ item. Tells (known (D.log disk.new)) → items_on self.old (known (D.log disk.old)) arc ≡ item ∷ items_on self.new (known (D.log disk.new)) arc) }
-        ensures others { OnOk result (Tells (known (D.log disk.new)) → (other : ℕ) → other ≢ arc → items_on self.new (known (D.log disk.new)) other ≡ items_on self.old (known (D.log disk.old)) other) }
-        ensures together { OnOk result (Together self.new (known (D.log disk.new))) }
+        ensures frames { OnOk result (paged_frames self.new ≡ paged_frames self.old) }
+        ensures items { IfOk result (λ item. Tells (known (D.log disk.new)) → paged_items_on self.old (known (D.log disk.old)) arc ≡ item ∷ paged_items_on self.new (known (D.log disk.new)) arc) }
+        ensures others { OnOk result (Tells (known (D.log disk.new)) → (other : ℕ) → other ≢ arc → paged_items_on self.new (known (D.log disk.new)) other ≡ paged_items_on self.old (known (D.log disk.old)) other) }
+        ensures together { OnOk result (PagedTogether self.new (known (D.log disk.new))) }
         ensures later { IsLater (D.log disk.old) (D.log disk.new) }
 
         // Each refusal.
         ensures disk { IfErr result (λ e. e ≡ QueueErr.Disk → Rose (D.faults disk.old) (D.faults disk.new)) }
-        ensures cause { IfErr result (λ e. IsRefusal self.old self.new (D.log disk.old) (D.log disk.new) arc e) }
+        ensures cause { IfErr result (λ e. IsPagedRefusal self.old self.new (D.log disk.old) (D.log disk.new) arc e) }
         ensures honest { IfErr result (λ e. Honest (D.log disk.old) → IsTold e) }
         ensures misfit { IfErr result (λ e. Tells (known (D.log disk.new)) → NoMisfit e) }
         ensures faults { D.faults disk.old ≤ D.faults disk.new }
@@ -221,9 +221,9 @@ impl Queues {
         ensures face { face self.new arc ≡ record (face self.old arc) { ended = true } }
         ensures faces { (other : ℕ) → other ≢ arc → face self.new other ≡ face self.old other }
         ensures size { size self.new ≡ size self.old }
-        ensures frames { frames self.new ≡ frames self.old }
-        ensures items { (pages : Option Pages) (other : ℕ) → items_on self.new pages other ≡ items_on self.old pages other }
-        ensures together { (pages : Option Pages) → Together self.old pages → Together self.new pages }
+        ensures frames { paged_frames self.new ≡ paged_frames self.old }
+        ensures items { (pages : Option Pages) (other : ℕ) → paged_items_on self.new pages other ≡ paged_items_on self.old pages other }
+        ensures together { (pages : Option Pages) → PagedTogether self.old pages → PagedTogether self.new pages }
     {
         self.lanes[arc as usize].ended = true;
     }
@@ -238,8 +238,8 @@ impl Queues {
 
     /// How many pages are in memory.
     pub fn resident(&self) -> u32
-        ensures value { result ≡ resident_of self.now }
-        ensures most { result ≤ frames self.now }
+        ensures value { result ≡ paged_resident_of self.now }
+        ensures most { result ≤ paged_frames self.now }
     {
         self.pool.resident()
     }
@@ -247,12 +247,12 @@ impl Queues {
     // Puts an item behind the last of an arc, into the last page or into a new one. Gives the node of that page.
     fn add<D: PageDisk>(&mut self, disk: &mut D, arc: u32, item: &Item) -> Result<u64, QueueErr>
         requires there { arc < size self.old }
-        requires sound { IsSound item.now }
-        requires together { Together self.old (known (D.log disk.old)) }
-        ensures ok { IfOk result (λ node. Adds self.old (known (D.log disk.old)) self.new (known (D.log disk.new)) arc node item.now) }
+        requires sound { IsSoundItem item.now }
+        requires together { PagedTogether self.old (known (D.log disk.old)) }
+        ensures ok { IfOk result (λ node. AddsItem self.old (known (D.log disk.old)) self.new (known (D.log disk.new)) arc node item.now) }
         ensures lanes { self.new.lanes ≡ self.old.lanes }
         ensures disk { IfErr result (λ e. e ≡ QueueErr.Disk → Rose (D.faults disk.old) (D.faults disk.new)) }
-        ensures cause { IfErr result (λ e. IsRefusal self.old self.new (D.log disk.old) (D.log disk.new) arc e) }
+        ensures cause { IfErr result (λ e. IsPagedRefusal self.old self.new (D.log disk.old) (D.log disk.new) arc e) }
         ensures honest { IfErr result (λ e. Honest (D.log disk.old) → IsTold e) }
         ensures misfit { IfErr result (λ e. Tells (known (D.log disk.new)) → NoMisfit e) }
         ensures later { IsLater (D.log disk.old) (D.log disk.new) }
@@ -273,12 +273,12 @@ impl Queues {
     fn take<D: PageDisk>(&mut self, disk: &mut D, arc: u32) -> Result<Item, QueueErr>
         requires there { arc < size self.old }
         requires some { is_some (face self.old arc).first ≡ true }
-        requires together { Together self.old (known (D.log disk.old)) }
+        requires together { PagedTogether self.old (known (D.log disk.old)) }
         ensures ok { IfOk result (λ item. Removes self.old (known (D.log disk.old)) self.new (known (D.log disk.new)) arc item) }
-        ensures sound { IfOk result IsSound }
+        ensures sound { IfOk result IsSoundItem }
         ensures lanes { self.new.lanes ≡ self.old.lanes }
         ensures disk { IfErr result (λ e. e ≡ QueueErr.Disk → Rose (D.faults disk.old) (D.faults disk.new)) }
-        ensures cause { IfErr result (λ e. IsRefusal self.old self.new (D.log disk.old) (D.log disk.new) arc e) }
+        ensures cause { IfErr result (λ e. IsPagedRefusal self.old self.new (D.log disk.old) (D.log disk.new) arc e) }
         ensures honest { IfErr result (λ e. Honest (D.log disk.old) → IsTold e) }
         ensures misfit { IfErr result (λ e. Tells (known (D.log disk.new)) → NoMisfit e) }
         ensures later { IsLater (D.log disk.old) (D.log disk.new) }
@@ -303,7 +303,7 @@ impl Queues {
 
     // The node of a page that has room for an item.
     fn with_room(&self, last: Option<u64>, item: &Item) -> Option<u64>
-        requires sound { IsSound item.now }
+        requires sound { IsSoundItem item.now }
         requires node { IfSome last (λ node. node < length self.now.kept.items) }
         requires ends { IfSome last (λ node. (kept_at self.now.kept.items node).end ≤ 8192) }
         ensures last { IfSome result (λ node. last ≡ Some node) }
@@ -327,11 +327,11 @@ impl Queues {
     ) -> Result<(), QueueErr>
         requires node { node < length self.old.kept.items }
         requires agree { Agree self.old.pool (known (D.log disk.old)) }
-        requires kept { IsKept self.old.pool (known (D.log disk.old)) (kept_at self.old.kept.items node) }
-        requires sound { IsSound item.now }
+        requires kept { IsKeptPage self.old.pool (known (D.log disk.old)) (kept_at self.old.kept.items node) }
+        requires sound { IsSoundItem item.now }
         requires room { (kept_at self.old.kept.items node).end + length (item_bytes item.now) ≤ 8192 }
         ensures ok { OnOk result (AppendsAt self.old (known (D.log disk.old)) self.new (known (D.log disk.new)) node item.now) }
-        ensures page { OnOk result (IsKept self.new.pool (known (D.log disk.new)) (kept_at self.new.kept.items node)) }
+        ensures page { OnOk result (IsKeptPage self.new.pool (known (D.log disk.new)) (kept_at self.new.kept.items node)) }
         ensures lanes { self.new.lanes ≡ self.old.lanes }
         ensures disk { IfErr result (λ e. e ≡ QueueErr.Disk → Rose (D.faults disk.old) (D.faults disk.new)) }
         ensures cause { IfErr result (λ e. IsCause self.old.pool self.new.pool (D.log disk.old) (D.log disk.new) (kept_at self.old.kept.items node) e) }
@@ -384,7 +384,7 @@ impl Queues {
         requires arc { arc < length self.old.chains.lists }
         requires nodes { length self.old.kept.items ≡ self.old.chains.nodes }
         requires agree { Agree self.old.pool (known (D.log disk.old)) }
-        requires sound { IsSound item.now }
+        requires sound { IsSoundItem item.now }
         ensures ok { IfOk result (λ node. StartsAt self.old (known (D.log disk.old)) self.new (known (D.log disk.new)) arc node item.now) }
         ensures lanes { self.new.lanes ≡ self.old.lanes }
         ensures disk { IfErr result (λ e. e ≡ QueueErr.Disk → Rose (D.faults disk.old) (D.faults disk.new)) }
@@ -409,9 +409,9 @@ impl Queues {
     fn take_first<D: PageDisk>(&mut self, disk: &mut D, node: u64) -> Result<Item, QueueErr>
         requires node { node < length self.old.kept.items }
         requires agree { Agree self.old.pool (known (D.log disk.old)) }
-        requires kept { IsKept self.old.pool (known (D.log disk.old)) (kept_at self.old.kept.items node) }
+        requires kept { IsKeptPage self.old.pool (known (D.log disk.old)) (kept_at self.old.kept.items node) }
         ensures ok { IfOk result (λ item. TakesAt self.old (known (D.log disk.old)) self.new (known (D.log disk.new)) node item) }
-        ensures sound { IfOk result IsSound }
+        ensures sound { IfOk result IsSoundItem }
         ensures lanes { self.new.lanes ≡ self.old.lanes }
         ensures disk { IfErr result (λ e. e ≡ QueueErr.Disk → Rose (D.faults disk.old) (D.faults disk.new)) }
         ensures cause { IfErr result (λ e. IsCause self.old.pool self.new.pool (D.log disk.old) (D.log disk.new) (kept_at self.old.kept.items node) e) }

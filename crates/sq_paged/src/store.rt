@@ -1,13 +1,13 @@
 // The pages of queues in their pool.
 ghost use Rattle.std.specs.Prelude.{◌≡◌, ℕ, ◌+◌, ◌<◌, ◌≤◌, ◌++◌, ◌∷◌, [], false, List, Some, length, IfOk, OnOk, IfErr, IsTrue, IsSome};
 ghost use Rattle.sq_item.specs.declared.Item.{Item};
-ghost use Rattle.sq_item.specs.Sound.{IsSound};
+ghost use Rattle.sq_item.specs.Sound.{IsSoundItem};
 ghost use Rattle.sq_outside.specs.Disks.{Honest};
 ghost use Rattle.sq_outside.specs.Faults.{Rose};
-ghost use Rattle.sq_page.specs.Pages.{item_bytes, IsPageOf, EndsAt, BeginsAt, end_of};
+ghost use Rattle.sq_page.specs.Pages.{item_bytes, IsPageOf, EndsAt, ItemBeginsAt, end_of};
 ghost use Rattle.sq_pool.specs.Pools.{Agree, bytes_in, is_held, with_bytes};
 ghost use Rattle.sq_pool.specs.Trust.{IsLater, Tells, known};
-ghost use Rattle.sq_paged.specs.Kept.{seen, FitsKept, IsFit, Brought, Spares, of_pool, IsMisfit, IsCause, IsTold, NoMisfit, Appended, Taken, Started};
+ghost use Rattle.sq_paged.specs.Kept.{page_seen, FitsKept, IsFit, Brought, Spares, of_pool, IsMisfit, IsCause, IsTold, NoMisfit, Appended, Taken, Started};
 
 use sq_item::Item;
 use sq_outside::PageDisk;
@@ -95,7 +95,7 @@ pub fn bring_page<D: PageDisk>(
 ) -> Result<(), QueueErr>
     requires held { IsTrue (is_held pool.old kept.now.page) }
     requires agree { Agree pool.old (known (D.log disk.old)) }
-    requires fits { IsFit (seen pool.old (known (D.log disk.old)) kept.now.page) kept.now }
+    requires fits { IsFit (page_seen pool.old (known (D.log disk.old)) kept.now.page) kept.now }
     ensures ok { OnOk result (Brought pool.old (known (D.log disk.old)) pool.new (known (D.log disk.new)) kept.now) }
 
     // Each refusal.
@@ -121,7 +121,7 @@ pub fn bring_page<D: PageDisk>(
 pub fn append_item(pool: &mut Pool, page: u64, end: u32, item: &Item) -> u32
     requires there { IsSome (bytes_in page pool.old.resident) }
     requires page { (bytes : List ℕ) → bytes_in page pool.old.resident ≡ Some bytes → EndsAt bytes end }
-    requires sound { IsSound item.now }
+    requires sound { IsSoundItem item.now }
     requires room { end + length (item_bytes item.now) ≤ 8192 }
     ensures end { result ≡ end + length (item_bytes item.now) }
     ensures pool { (bytes : List ℕ) × (pool.new ≡ record pool.old { resident = with_bytes page bytes pool.old.resident })
@@ -141,8 +141,8 @@ pub fn append_to_page<D: PageDisk>(
 ) -> Result<Kept, QueueErr>
     requires held { IsTrue (is_held pool.old kept.now.page) }
     requires agree { Agree pool.old (known (D.log disk.old)) }
-    requires fits { IsFit (seen pool.old (known (D.log disk.old)) kept.now.page) kept.now }
-    requires sound { IsSound item.now }
+    requires fits { IsFit (page_seen pool.old (known (D.log disk.old)) kept.now.page) kept.now }
+    requires sound { IsSoundItem item.now }
     requires room { kept.now.end + length (item_bytes item.now) ≤ 8192 }
     ensures ok { IfOk result (λ after. Appended pool.old (known (D.log disk.old)) pool.new (known (D.log disk.new)) kept.now after item.now) }
 
@@ -168,7 +168,7 @@ pub fn append_to_page<D: PageDisk>(
 
 // The time of the item that begins at a place, where another is left behind the one that is taken.
 fn next_time(bytes: &[u8], start: u32, count: u16) -> u64
-    requires { 2 ≤ count → BeginsAt bytes.now start }
+    requires { 2 ≤ count → ItemBeginsAt bytes.now start }
     ensures { 2 ≤ count → (front : List Item) (item : Item) (back : List Item) → IsPageOf bytes.now (front ++ item ∷ back) → start ≡ end_of front
         → result ≡ item.time }
 {
@@ -184,10 +184,10 @@ pub fn take_from_page<D: PageDisk>(
 ) -> Result<(Item, Kept), QueueErr>
     requires held { IsTrue (is_held pool.old kept.now.page) }
     requires agree { Agree pool.old (known (D.log disk.old)) }
-    requires fits { IsFit (seen pool.old (known (D.log disk.old)) kept.now.page) kept.now }
+    requires fits { IsFit (page_seen pool.old (known (D.log disk.old)) kept.now.page) kept.now }
     requires some { 1 ≤ kept.now.count }
     ensures ok { IfOk result (λ taken. Taken pool.old (known (D.log disk.old)) pool.new (known (D.log disk.new)) kept.now taken.1 taken.0) }
-    ensures sound { IfOk result (λ taken. IsSound taken.0) }
+    ensures sound { IfOk result (λ taken. IsSoundItem taken.0) }
 
     // Each refusal.
     ensures disk { IfErr result (λ e. e ≡ QueueErr.Disk → Rose (D.faults disk.old) (D.faults disk.new)) }
@@ -219,7 +219,7 @@ pub fn take_from_page<D: PageDisk>(
 /// Puts an item into a new page. Gives what is kept of the page.
 pub fn start_page<D: PageDisk>(pool: &mut Pool, disk: &mut D, item: &Item) -> Result<Kept, QueueErr>
     requires agree { Agree pool.old (known (D.log disk.old)) }
-    requires sound { IsSound item.now }
+    requires sound { IsSoundItem item.now }
     ensures ok { IfOk result (λ kept. Started pool.old (known (D.log disk.old)) pool.new (known (D.log disk.new)) kept item.now) }
 
     // Each refusal.

@@ -7,7 +7,7 @@ use Rattle.std.specs.Ordering.{match_ordering}
 use Rattle.std.specs.List.{AllByRecursion, filter, remove}
 use Rattle.sq_aggfn.specs.declared.WindowSpec.{WindowSpec}
 use Rattle.sq_aggfn.specs.Keyed.{added}
-use Rattle.sq_pane.specs.Panes.{Rises, total, shift_of, within, joined_within, IsMadeIf}
+use Rattle.sq_pane.specs.Panes.{NumbersRise, total, shift_of, within, joined_within, IsMadeIf}
 use Rattle.sq_pane.specs.Blocks.{joined_onto, AreBlocks, begins_before}
 use Rattle.sq_pane.proofs.LineLemmas.{all-at, greater}
 
@@ -33,7 +33,7 @@ module _ {A : Type 0} (P : A → Type 0) where
   all_mapped Q f [] all = tt
   all_mapped Q f (x ∷ xs) all = (f x all.0, all_mapped Q f xs all.1)
 
-pub rises_drop : {M : Type 0} (n : ℕ) (es : List (ℕ × M)) → Rises es → Rises (drop n es)
+pub rises_drop : {M : Type 0} (n : ℕ) (es : List (ℕ × M)) → NumbersRise es → NumbersRise (drop n es)
 rises_drop zero es up = up
 rises_drop (suc n) [] up = tt
 rises_drop (suc n) (e ∷ es) up = rises_drop n es up.1
@@ -44,7 +44,7 @@ total_split number (suc n) [] = refl
 total_split number (suc n) (e ∷ es) = (let s = total_split number n es in omega (arith, s))
 
 -- none is after the last
-pub all_up_to : {M : Type 0} (n : ℕ) (es : List (ℕ × M)) → Rises es → ((d : ℕ × M) → 0 < length es → (get_or es (length es - 1) d).0 ≤ n) → AllByRecursion (λ e. e.0 ≤ n) es
+pub all_up_to : {M : Type 0} (n : ℕ) (es : List (ℕ × M)) → NumbersRise es → ((d : ℕ × M) → 0 < length es → (get_or es (length es - 1) d).0 ≤ n) → AllByRecursion (λ e. e.0 ≤ n) es
 all_up_to n [] up last = tt
 all_up_to n (e ∷ []) up last = (let z : length (e ∷ []) - 1 ≡ 0 = omega arith in subst (λ k. (get_or (e ∷ []) k e).0 ≤ n) z (last e (omega arith)), tt)
 all_up_to {M} n (e ∷ h ∷ es) up last =
@@ -69,7 +69,7 @@ module _ {M : Type 0} (none : M) (join : M → M → M) (n : ℕ) (u : M) where
       by Equal ih = omega arith
       by Greater ih = omega (arith, ih)
 
-  added_drop : (k : ℕ) (es : List (ℕ × M)) → Rises es → AllByRecursion (λ e. e.0 ≤ n) es → k < length es → drop k (put es) ≡ put (drop k es)
+  added_drop : (k : ℕ) (es : List (ℕ × M)) → NumbersRise es → AllByRecursion (λ e. e.0 ≤ n) es → k < length es → drop k (put es) ≡ put (drop k es)
   added_drop zero es up all lt = refl
   added_drop (suc k) [] up all lt = absurd (omega (arith, lt))
   added_drop (suc k) (e ∷ []) up all lt = absurd (omega (arith, lt))
@@ -77,7 +77,7 @@ module _ {M : Type 0} (none : M) (join : M → M → M) (n : ℕ) (u : M) where
       let less : e.0 < n = (let low = up.0.0 in let le = all.1.0 in omega (arith, low, le)) in
       ap (λ o. drop (suc k) (choose o e (h ∷ es))) (greater n e.0 less) ∙ added_drop k (h ∷ es) up.1 all.1 (omega (arith, lt))
 
-  added_take : (k : ℕ) (es : List (ℕ × M)) → Rises es → AllByRecursion (λ e. e.0 ≤ n) es → k < length es → take k (put es) ≡ take k es
+  added_take : (k : ℕ) (es : List (ℕ × M)) → NumbersRise es → AllByRecursion (λ e. e.0 ≤ n) es → k < length es → take k (put es) ≡ take k es
   added_take zero es up all lt = refl
   added_take (suc k) [] up all lt = absurd (omega (arith, lt))
   added_take (suc k) (e ∷ []) up all lt = absurd (omega (arith, lt))
@@ -86,7 +86,7 @@ module _ {M : Type 0} (none : M) (join : M → M → M) (n : ℕ) (u : M) where
       ap (λ o. take (suc k) (choose o e (h ∷ es))) (greater n e.0 less) ∙ ap (λ l. e ∷ l) (added_take k (h ∷ es) up.1 all.1 (omega (arith, lt)))
 
   module _ (size : ℕ) (P : List (ℕ × M) → M → Type 0) where
-    blocks_put : (bs : List M) (es : List (ℕ × M)) → Rises es → AllByRecursion (λ e. e.0 ≤ n) es → AreBlocks size P bs es → AreBlocks size P bs (put es)
+    blocks_put : (bs : List M) (es : List (ℕ × M)) → NumbersRise es → AllByRecursion (λ e. e.0 ≤ n) es → AreBlocks size P bs es → AreBlocks size P bs (put es)
     blocks_put [] es up all is = tt
     blocks_put (b ∷ bs) es up all is = (
       let lt = is.0 in let longer = no_shorter es in omega (arith, lt, longer),
@@ -94,7 +94,7 @@ module _ {M : Type 0} (none : M) (join : M → M → M) (n : ℕ) (u : M) where
       subst (AreBlocks size P bs) (sym (added_drop size es up all is.0)) (blocks_put bs (drop size es) (rises_drop size es up) (all_drop (λ (e : ℕ × M). e.0 ≤ n) size es all) is.2),
     )
 
-    pub blocks_added : (bs : List M) (k : ℕ) (es : List (ℕ × M)) → Rises es → AllByRecursion (λ e. e.0 ≤ n) es → AreBlocks size P bs (drop k es) → AreBlocks size P bs (drop k (put es))
+    pub blocks_added : (bs : List M) (k : ℕ) (es : List (ℕ × M)) → NumbersRise es → AllByRecursion (λ e. e.0 ≤ n) es → AreBlocks size P bs (drop k es) → AreBlocks size P bs (drop k (put es))
     blocks_added [] k es up all is = tt
     blocks_added (b ∷ bs) k es up all is =
         let inside : k < length es = (let lt = is.0 in let long = length-drop k es in omega (arith, lt, long)) in
@@ -125,7 +125,7 @@ kept_all n (e ∷ es) all = ap (λ b. cond b (e ∷ filter (λ e. nat_le n e.0) 
 at_least : (a b : ℕ) → nat_lt b a ≡ false → a ≤ b
 at_least a b out = grind (arith, tests)
 
-pub none_gone : {M : Type 0} (n : ℕ) (es : List (ℕ × M)) → Rises es → begins_before n es ≡ false → filter (λ e. nat_le n e.0) es ≡ es
+pub none_gone : {M : Type 0} (n : ℕ) (es : List (ℕ × M)) → NumbersRise es → begins_before n es ≡ false → filter (λ e. nat_le n e.0) es ≡ es
 none_gone n [] up is = refl
 none_gone {M} n (e ∷ es) up is =
     let low = at_least n e.0 is in
@@ -191,7 +191,7 @@ module _ (w : WindowSpec) (width start : ℕ) where
       other : (a b c : ℕ) → (nat_le a b && nat_lt b c) ≡ true → b < c
       other a b c x = grind (arith, tests)
 
-  up-to : {M : Type 0} (n : ℕ) (es : List (ℕ × M)) (last : ℕ × M) → Rises es → n < length es → last ≡ get_or es n last → within w width start last.0 ≡ true → AllByRecursion (λ e. low ≤ e.0 * width) es
+  up-to : {M : Type 0} (n : ℕ) (es : List (ℕ × M)) (last : ℕ × M) → NumbersRise es → n < length es → last ≡ get_or es n last → within w width start last.0 ≡ true → AllByRecursion (λ e. low ≤ e.0 * width) es
       → AllByRecursion (λ e. within w width start e.0 ≡ true) (take (suc n) es)
   up-to n [] last up lt is covered lows = absurd (omega (arith, lt))
   up-to {M} zero (e ∷ es) last up lt is covered lows = (subst (λ (z : ℕ × M). within w width start z.0 ≡ true) is covered, tt)
@@ -201,7 +201,7 @@ module _ (w : WindowSpec) (width start : ℕ) where
       let high = within-high last.0 covered in
       (within-both e.0 lows.0 (omega (arith, le, high)), up-to n es last up.1 (omega (arith, lt)) is covered lows.1)
 
-  pub between : {M : Type 0} (n : ℕ) (es : List (ℕ × M)) (first last : ℕ × M) → Rises es → n < length es → first ≡ get_or es 0 first → last ≡ get_or es n last → within w width start first.0 ≡ true → within w width start last.0 ≡ true
+  pub between : {M : Type 0} (n : ℕ) (es : List (ℕ × M)) (first last : ℕ × M) → NumbersRise es → n < length es → first ≡ get_or es 0 first → last ≡ get_or es n last → within w width start first.0 ≡ true → within w width start last.0 ≡ true
       → AllByRecursion (λ e. within w width start e.0 ≡ true) (take (suc n) es)
   between n [] first last up lt at is a b = absurd (omega (arith, lt))
   between {M} n (e ∷ es) first last up lt at is a b = up-to n (e ∷ es) last up lt is b (own, all_mapped (λ (h : ℕ × M). e.0 < h.0) (λ (h : ℕ × M). low ≤ h.0 * width) later es up.0)
@@ -241,7 +241,7 @@ module _ {M : Type 0} (shaped : M → Type 0) (none : M) (join : M → M → M) 
         ∙ ap (λ x. taken (Some x) (drop n es))
         (sym (onto-join m e.1 (take n es) so all.0 (all_take (λ (e : ℕ × M). shaped e.1) n es all.1)) ∙ ap (λ x. join m (joined_onto join x (take n es))) (sym (first e.1 all.0)))
 
-    pub block_covered : (n at : ℕ) (o : Option M) (es : List (ℕ × M)) (x y : ℕ × M) (b : M) → Rises es → at + suc n < length es → AllByRecursion (λ e. shaped e.1) es → shaped (unwrap_or o none)
+    pub block_covered : (n at : ℕ) (o : Option M) (es : List (ℕ × M)) (x y : ℕ × M) (b : M) → NumbersRise es → at + suc n < length es → AllByRecursion (λ e. shaped e.1) es → shaped (unwrap_or o none)
         → x ≡ get_or es at x → y ≡ get_or es (at + n) y → within w width start x.0 ≡ true → within w width start y.0 ≡ true → b ≡ joined_onto join none (take (suc n) (drop at es))
         → taken (Some (join (unwrap_or o none) b)) (drop (at + suc n) es) ≡ taken o (drop at es)
     block_covered n at o es x y b up lt all so is end wx wy value =

@@ -4,7 +4,7 @@ use Rattle.std.specs.Ordering.{match_ordering}
 use Rattle.std.specs.Cmp.{nat_cmp_total}
 use Rattle.std.specs.List.{AllByRecursion, filter, insert}
 use Rattle.sq_aggfn.specs.Keyed.{added}
-use Rattle.sq_pane.specs.Panes.{Rises, total, AllAreMade}
+use Rattle.sq_pane.specs.Panes.{NumbersRise, total, AllAreMade}
 use Rattle.sq_pane.proofs.WindowLemmas.{itself}
 
 pub greater : (a b : ℕ) → b < a → nat_cmp a b ≡ Greater
@@ -47,13 +47,13 @@ set_same (y ∷ ys) zero x lt is = ap (λ z. z ∷ ys) is
 set_same (y ∷ ys) (suc i) x lt is = ap (λ l. y ∷ l) (set_same ys i x (omega (arith, lt)) is)
 
 -- what was kept rises
-pub rises_kept : {M : Type 0} (p : ℕ × M → Bool) (es : List (ℕ × M)) → Rises es → Rises (filter p es)
+pub rises_kept : {M : Type 0} (p : ℕ × M → Bool) (es : List (ℕ × M)) → NumbersRise es → NumbersRise (filter p es)
 rises_kept p [] up = tt
-rises_kept {M} p (e ∷ es) up = elim (p e) as (λ b. Rises (cond b (e ∷ filter p es) (filter p es))) [ true ↦ (all-kept (λ (h : ℕ × M). e.0 < h.0) p es up.0, rises_kept p es up.1) | false ↦ rises_kept p es up.1 ]
+rises_kept {M} p (e ∷ es) up = elim (p e) as (λ b. NumbersRise (cond b (e ∷ filter p es) (filter p es))) [ true ↦ (all-kept (λ (h : ℕ × M). e.0 < h.0) p es up.0, rises_kept p es up.1) | false ↦ rises_kept p es up.1 ]
 
 module _ {M : Type 0} where
   -- one of them is written anew
-  pub rises_set : (es : List (ℕ × M)) (i : ℕ) (x : ℕ × M) (m : M) → i < length es → x ≡ get_or es i x → Rises es → Rises (set es i (x.0, m))
+  pub rises_set : (es : List (ℕ × M)) (i : ℕ) (x : ℕ × M) (m : M) → i < length es → x ≡ get_or es i x → NumbersRise es → NumbersRise (set es i (x.0, m))
   rises_set [] i x m lt is up = tt
   rises_set (e ∷ es) zero x m lt is up = (subst (λ (z : ℕ × M). AllByRecursion (λ (h : ℕ × M). z.0 < h.0) es) (sym is) up.0, up.1)
   rises_set (e ∷ es) (suc i) x m lt is up =
@@ -104,16 +104,16 @@ module _ {M : Type 0} (none : M) (join : M → M → M) (n : ℕ) (u : M) where
   before-all k lt [] all = tt
   before-all k lt (e ∷ es) all = (let low = all.0 in omega (arith, lt, low), before-all k lt es all.1)
 
-  pub rises_put : (es : List (ℕ × M)) → Rises es → Rises (put es)
+  pub rises_put : (es : List (ℕ × M)) → NumbersRise es → NumbersRise (put es)
   rises_put [] up = (tt, tt)
   rises_put (e ∷ es) up = by (nat_cmp n e.0) refl (rises_put es up.1)
     where
-      by : (o : Ordering) → nat_cmp n e.0 ≡ o → Rises (put es) → Rises (match_ordering o ((n, join none u) ∷ e ∷ es) ((n, join e.1 u) ∷ es) (e ∷ put es))
+      by : (o : Ordering) → nat_cmp n e.0 ≡ o → NumbersRise (put es) → NumbersRise (match_ordering o ((n, join none u) ∷ e ∷ es) ((n, join e.1 u) ∷ es) (e ∷ put es))
       by Less k ih = (let lt : n < e.0 = grind (arith, tests) in ((lt, before-all e.0 lt es up.0), up))
       by Equal k ih = (let same : e.0 ≡ n = grind (arith, tests) in (subst (λ (z : ℕ). AllByRecursion (λ (h : ℕ × M). z < h.0) es) same up.0, up.1))
       by Greater k ih = (let lt : e.0 < n = grind (arith, tests) in (all-put (λ (h : ℕ × M). e.0 < h.0) (λ m. lt) es up.0, ih))
 
-  pub set_is_put : (es : List (ℕ × M)) (i : ℕ) (x : ℕ × M) → Rises es → i < length es → x ≡ get_or es i x → x.0 ≡ n → set es i (x.0, join x.1 u) ≡ put es
+  pub set_is_put : (es : List (ℕ × M)) (i : ℕ) (x : ℕ × M) → NumbersRise es → i < length es → x ≡ get_or es i x → x.0 ≡ n → set es i (x.0, join x.1 u) ≡ put es
   set_is_put [] i x up lt is same = absurd (omega (arith, lt))
   set_is_put (e ∷ es) zero x up lt is same =
       let equal : nat_cmp n e.0 ≡ Equal = ap (nat_cmp n) (sym (ap (λ (z : ℕ × M). z.0) is) ∙ same) ∙ itself nat_cmp nat_cmp_total n in
@@ -126,7 +126,7 @@ module _ {M : Type 0} (none : M) (join : M → M → M) (n : ℕ) (u : M) where
       ∙ sym (ap (λ o. match_ordering o ((n, join none u) ∷ e ∷ es) ((n, join e.1 u) ∷ es) (e ∷ put es)) (greater n e.0 less))
 
   -- those up to one are below what it is below
-  below-all : (es : List (ℕ × M)) (k : ℕ) (x : ℕ × M) → Rises es → k < length es → x ≡ get_or es k x → x.0 < n → AllByRecursion (λ h. h.0 < n) (take (suc k) es)
+  below-all : (es : List (ℕ × M)) (k : ℕ) (x : ℕ × M) → NumbersRise es → k < length es → x ≡ get_or es k x → x.0 < n → AllByRecursion (λ h. h.0 < n) (take (suc k) es)
   below-all [] k x up lt is less = absurd (omega (arith, lt))
   below-all (e ∷ es) zero x up lt is less = (subst (λ (z : ℕ × M). z.0 < n) is less, tt)
   below-all (e ∷ es) (suc k) x up lt is less =
@@ -141,7 +141,7 @@ module _ {M : Type 0} (none : M) (join : M → M → M) (n : ℕ) (u : M) where
   insert-is-put (e ∷ es) (suc i) low high =
       ap (λ l. e ∷ l) (insert-is-put es i low.1 high) ∙ sym (ap (λ o. match_ordering o ((n, join none u) ∷ e ∷ es) ((n, join e.1 u) ∷ es) (e ∷ put es)) (greater n e.0 low.0))
 
-  pub insert_is_put : (es : List (ℕ × M)) (i : ℕ) → Rises es → i ≤ length es → (i ≡ 0) ⊎ ((x : ℕ × M) × (0 < i) × (x ≡ get_or es (i - 1) x) × (x.0 < n)) → AllByRecursion (λ h. n < h.0) (drop i es)
+  pub insert_is_put : (es : List (ℕ × M)) (i : ℕ) → NumbersRise es → i ≤ length es → (i ≡ 0) ⊎ ((x : ℕ × M) × (0 < i) × (x ≡ get_or es (i - 1) x) × (x.0 < n)) → AllByRecursion (λ h. n < h.0) (drop i es)
       → insert es i (n, join none u) ≡ put es
   insert_is_put es i up le (inl none-before) high = insert-is-put es i (subst (λ (k : ℕ). AllByRecursion (λ (h : ℕ × M). h.0 < n) (take k es)) (sym none-before) tt) high
   insert_is_put es i up le (inr one) high =

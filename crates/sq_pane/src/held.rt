@@ -2,7 +2,7 @@
 
 ghost use Rattle.std.specs.Prelude.{◌≡◌, ◌+◌, ◌^◌, ◌<◌, ◌≤◌, ◌++◌, true, [], OnOk, OnErr, IfOk};
 ghost use Rattle.sq_aggfn.specs.Keyed.{added};
-ghost use Rattle.sq_pane.specs.Panes.{key_cmp, from_pane, window_from, total, AllAreMade, entry_of};
+ghost use Rattle.sq_pane.specs.Panes.{key_cmp, from_pane, window_from, total, AllAreMade, group_entry};
 ghost use Rattle.sq_pane.specs.Blocks.{IsJoin};
 ghost use Rattle.sq_pane.specs.States.{states_of, HaveBlocks};
 
@@ -58,7 +58,7 @@ fn push_some<S: Drop>(
     group: &Group,
     state: Option<S>,
 ) -> Result<(), AllocError>
-    ensures { OnOk result (groups.new.items ≡ groups.old.items ++ entry_of group.now state) }
+    ensures { OnOk result (groups.new.items ≡ groups.old.items ++ group_entry group.now state) }
 {
     if let Some(state) = state {
         groups.push((group.copied()?, state))?;

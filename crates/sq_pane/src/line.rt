@@ -5,7 +5,7 @@ ghost use Rattle.std.specs.Ordering.{nat_cmp};
 ghost use Rattle.std.specs.List.{AllByRecursion, filter};
 ghost use Rattle.sq_aggfn.specs.Keyed.{added};
 ghost use Rattle.sq_pane.specs.Blocks.{joined_onto, IsJoin, AreBlocks, begins_before};
-ghost use Rattle.sq_pane.specs.Panes.{Rises, Rises-prop, shift_of, within, joined_within, total, AllAreMade, IsMadeIf, number_if};
+ghost use Rattle.sq_pane.specs.Panes.{NumbersRise, Rises-prop, shift_of, within, joined_within, total, AllAreMade, IsMadeIf, number_if};
 
 use sq_aggfn::{Fold, WindowSpec};
 use sq_value::Tuple;
@@ -23,7 +23,7 @@ pub struct Line<S> {
     pub states: VecDeque<(u64, S)>,
     pub ahead: usize,
     pub blocks: Vec<S>,
-    ghost rises: { Rises states.items } by { Rises-prop states.items },
+    ghost rises: { NumbersRise states.items } by { Rises-prop states.items },
 }
 
 /// How many of the first states go up to the pane with a number.
@@ -46,11 +46,11 @@ fn add_state<F: Fold>(
     pane: u64,
     t: &Tuple,
 ) -> Result<(), AllocError>
-    requires rises { Rises states.old.items }
+    requires rises { NumbersRise states.old.items }
     requires made { AllAreMade (F.made fold.now) states.old.items }
     requires few { total (F.number fold.now) states.old.items + 1 < 2 ^ 62 }
     ensures added { OnOk result (states.new.items ≡ added nat_cmp (F.none fold.now) (F.joined fold.now) pane (F.unit fold.now t.now) states.old.items) }
-    ensures rises { Rises states.new.items }
+    ensures rises { NumbersRise states.new.items }
     ensures made { OnOk result (AllAreMade (F.made fold.now) states.new.items) }
     ensures total { OnOk result (total (F.number fold.now) states.new.items ≡ total (F.number fold.now) states.old.items + 1) }
     ensures err { OnErr result (states.new.items ≡ states.old.items) }
@@ -290,7 +290,7 @@ fn with_block<F: Fold>(
     start: u64,
 ) -> Result<Option<F::State>, AllocError>
     requires shift { shift ≡ shift_of window width }
-    requires rises { Rises states.now.items }
+    requires rises { NumbersRise states.now.items }
     requires room { at + 64 < length states.now.items }
     requires block { IsJoin (F.none fold.now) (F.joined fold.now) (F.made fold.now) (F.number fold.now) (take 64 (drop at states.now.items)) block.now }
     requires made { IsMadeIf (F.made fold.now) joined × AllAreMade (F.made fold.now) states.now.items }

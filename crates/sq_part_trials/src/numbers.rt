@@ -1,6 +1,6 @@
 // Tuples of one number, expressions over pairs of them, and marks.
 ghost use Rattle.std.specs.Prelude.{◌≡◌, ◌<◌, ◌≤◌, ◌^◌, ◌∷◌, [], None, Some, length, IfOk};
-ghost use Rattle.sq_item.specs.Sound.{IsMark, IsSound};
+ghost use Rattle.sq_item.specs.Sound.{IsMark, IsSoundItem};
 ghost use Rattle.sq_join.specs.Sides.{left_fields};
 
 use sq_expr::{Typed, check, parse};
@@ -43,7 +43,7 @@ pub fn over_pairs(alloc: Global, text: &str) -> Result<Typed, Fail>
 pub fn mark_at(alloc: Global, time: u64, mark: Mark) -> Item
     requires tick { time < 2 ^ 40 }
     requires mark { IsMark (Some mark) }
-    ensures sound { IsSound result }
+    ensures sound { IsSoundItem result }
     ensures value { result ≡ record { time = time; mark = Some mark; body = None } }
 {
     Item {

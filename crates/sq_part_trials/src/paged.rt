@@ -1,5 +1,5 @@
 ghost use Rattle.std.specs.Prelude.{◌≡◌, false, OnOk};
-ghost use Rattle.sq_paged.specs.Faces.{Together, face, size};
+ghost use Rattle.sq_paged.specs.Faces.{PagedTogether, face, size};
 ghost use Rattle.sq_pool.specs.Trust.{known};
 
 use crate::numbers::mark_at;
@@ -13,9 +13,9 @@ use std::test::Fail;
 fn fill<D: PageDisk>(alloc: Global, queues: &mut Queues, disk: &mut D) -> Result<(), QueueErr>
     requires size { size queues.old ≡ 2 }
     requires open { (face queues.old 1).ended ≡ false }
-    requires together { Together queues.old (known (D.log disk.old)) }
+    requires together { PagedTogether queues.old (known (D.log disk.old)) }
     ensures size { OnOk result (size queues.new ≡ 2) }
-    ensures together { OnOk result (Together queues.new (known (D.log disk.new))) }
+    ensures together { OnOk result (PagedTogether queues.new (known (D.log disk.new))) }
 {
     queues.push(disk, 1, &mark_at(alloc, 5, Mark::Closed))?;
     queues.send(disk, 1, mark_at(alloc, 7, Mark::Open { until: 9 }))?;
@@ -30,9 +30,9 @@ fn take<D: PageDisk>(
     disk: &mut D,
 ) -> Result<Option<(u64, Head, u64, u32)>, QueueErr>
     requires size { size queues.old ≡ 2 }
-    requires together { Together queues.old (known (D.log disk.old)) }
+    requires together { PagedTogether queues.old (known (D.log disk.old)) }
     ensures size { OnOk result (size queues.new ≡ 2) }
-    ensures together { OnOk result (Together queues.new (known (D.log disk.new))) }
+    ensures together { OnOk result (PagedTogether queues.new (known (D.log disk.new))) }
 {
     let Head::Time(_) = queues.head(1) else {
         return Ok(None);

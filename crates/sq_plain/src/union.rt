@@ -17,7 +17,7 @@ ghost use Rattle.sq_oper.specs.Order.{merge, IsFuture};
 ghost use Rattle.sq_oper.specs.Streams.{things, tuples_of, at_zero};
 ghost use Rattle.sq_tagged.specs.Tagged.{HasNoMarks, spread_of};
 ghost use Rattle.sq_tagged.specs.Boxes.{united_tagged};
-ghost use Rattle.sq_plain.specs.Unions.{seen, union_next, union_gives, union_rest, union_marks};
+ghost use Rattle.sq_plain.specs.Unions.{is_last_time, union_next, union_gives, union_rest, takes_union_mark};
 
 use crate::give::{give_mark, give_tuple};
 use sq_item::{Body, Item, Mark, Sign};
@@ -60,7 +60,7 @@ impl UnionBox {
             → IsFuture (⟦<UnionBox as Operator>⟧.takes_marks result) (⟦<UnionBox as Operator>⟧.fits result) Place.Start future
             → ⟦<UnionBox as Operator>⟧.rest result table future q ≡ at_zero q (spread_of (united_tagged lags.items future)) }
         ensures fits { (port : ℕ) (fields : List Value) → ⟦<UnionBox as Operator>⟧.fits result port fields ≡ nat_lt port (length lags.items) }
-        ensures takes_marks { (port : ℕ) → ⟦<UnionBox as Operator>⟧.takes_marks result port ≡ union_marks marked lags.items port }
+        ensures takes_marks { (port : ℕ) → ⟦<UnionBox as Operator>⟧.takes_marks result port ≡ takes_union_mark marked lags.items port }
         ensures reads { (epoch : ℕ) → ⟦<UnionBox as Operator>⟧.reads result epoch ≡ true }
         ensures holds { (time : ℕ) (things : List Thing) → ⟦<UnionBox as Operator>⟧.may_hold result time things → things ≡ [] }
         ensures decides { (table : ℕ → ℕ → ℕ) (future : List Entry) → ⟦<UnionBox as Operator>⟧.decides result table future ≡ [] }
@@ -182,7 +182,7 @@ impl UnionBox {
 
 /// Whether a mark of this time was handed on.
 fn is_seen(last: Option<u64>, time: u64) -> bool
-    ensures { result ≡ seen last time }
+    ensures { result ≡ is_last_time last time }
 {
     match last {
         None => false,
@@ -199,7 +199,7 @@ impl Operator for UnionBox {
 
     ghost place = { λ s. s.tally.place };
 
-    ghost takes_marks = { λ s. union_marks s.marked s.lags.items };
+    ghost takes_marks = { λ s. takes_union_mark s.marked s.lags.items };
 
     ghost fits = { λ s port fields. nat_lt port (length s.lags.items) };
 

@@ -1,7 +1,7 @@
 // What is closed at the release of a tuple of a later epoch.
 ghost use Rattle.std.specs.Prelude.{◌≡◌, ℕ, ◌+◌, ◌-◌, ◌≤◌, ◌<◌, ◌^◌, false, List, if◌then◌else◌, IfOk, OnOk, OnErr};
 ghost use Rattle.std.specs.List.{flat_map, range_with_len};
-ghost use Rattle.sq_road.specs.Levels.{level_of, Agrees};
+ghost use Rattle.sq_road.specs.Levels.{level_of, AgreesWith};
 ghost use Rattle.sq_road.specs.Roads.{level_in};
 ghost use Rattle.sq_plan.specs.Rates.{load_of_all};
 ghost use Rattle.sq_plan.specs.Settings.{row_for};
@@ -95,7 +95,7 @@ pub fn close_epochs(
     ensures epoch { levels.new.epoch ≡ levels.old.epoch }
     ensures closed { OnOk result (levels.new.closed ≡ next + 1) }
     ensures keeps { (x w : ℕ) → x < levels.old.closed → level_of levels.new x w ≡ level_of levels.old x w }
-    ensures agrees { OnOk result ((all : ℕ → List ℕ) → Ended all (levels.old.closed - 1) next counts.now.items → Agrees levels.old (level_for planner.old all) → Agrees levels.new (level_for planner.old all)) }
+    ensures agrees { OnOk result ((all : ℕ → List ℕ) → Ended all (levels.old.closed - 1) next counts.now.items → AgreesWith levels.old (level_for planner.old all) → AgreesWith levels.new (level_for planner.old all)) }
     ensures shown { IfOk result (λ p. (all : ℕ → List ℕ) → Ended all (levels.old.closed - 1) next counts.now.items
         → listed p ≡ flat_map (shown_after planner.old all) (range_with_len (levels.old.closed - 1) (next - (levels.old.closed - 1)))) }
     ensures err { OnErr result (levels.new ≡ levels.old) }

@@ -10,7 +10,7 @@ use Rattle.sq_qos.specs.Graphs.{loss_step, loss_steps_of}
 use Rattle.sq_net.specs.declared.Network.{Network}
 use Rattle.sq_net.specs.declared.Output.{Output}
 use Rattle.sq_points.specs.Points.{loss_at, loss_below, losses_below}
-use Rattle.sq_points.specs.Losses.{table_of, loss_in, losses_in, most_lost, IsFall, AreFalls}
+use Rattle.sq_points.specs.Losses.{loss_table, loss_in, losses_in, most_lost, IsFall, AreFalls}
 use Rattle.sq_points.proofs.Sharing.{sum-agree, sums-swapped}
 
 -- what is read of a table of falls is low
@@ -30,10 +30,10 @@ in-table [] o k lt = refl
 in-table (x ∷ xs) zero k lt = get_or-map-range_with_len (loss_step x.graph x.weight) 1 20 k (k + 1) 0 lt (omega arith)
 in-table (x ∷ xs) (suc o) k lt = in-table xs o k lt
 
-pub by-table : (n : Network) (os : List ℕ) → losses_in (table_of n) os ≡ losses_below n os
+pub by-table : (n : Network) (os : List ℕ) → losses_in (loss_table n) os ≡ losses_below n os
 unfolding losses_in
-by-table n os = sym (are-losses (table_of n) os (losses_below n os) (length-map-range_with_len (loss_below n os) 1 20)
-    (λ k lt. get_or-map-range_with_len (loss_below n os) 1 20 k (k + 1) 0 lt (omega arith) ∙ sym (sum-agree (loss_in (table_of n) k) (λ o. loss_at (slice_get n.outputs o) (k + 1)) os (λ o. in-table n.outputs o k lt))))
+by-table n os = sym (are-losses (loss_table n) os (losses_below n os) (length-map-range_with_len (loss_below n os) 1 20)
+    (λ k lt. get_or-map-range_with_len (loss_below n os) 1 20 k (k + 1) 0 lt (omega arith) ∙ sym (sum-agree (loss_in (loss_table n) k) (λ o. loss_at (slice_get n.outputs o) (k + 1)) os (λ o. in-table n.outputs o k lt))))
 
 -- ---- each output
 
@@ -52,9 +52,9 @@ fall-at [] h o = no-fall
 fall-at (x ∷ xs) h zero = h.0
 fall-at (x ∷ xs) h (suc o) = fall-at xs h.1 o
 
-module _ (n : Network) (falls : AreFalls (table_of n)) where
+module _ (n : Network) (falls : AreFalls (loss_table n)) where
   fall : (o : ℕ) → IsFall (falls_of (slice_get n.outputs o))
-  fall = fall-at n.outputs (recursion_from_All IsFall (table_of n) falls)
+  fall = fall-at n.outputs (recursion_from_All IsFall (loss_table n) falls)
 
   -- what an output loses by all steps
   abbrev pub lost_by : ℕ → ℕ

@@ -32,7 +32,7 @@ use Rattle.sq_net.specs.declared.Output.{Output}
 use Rattle.sq_net.specs.Sound.{IsSound, node_within, output_within}
 use Rattle.sq_net.proofs.StreamLemmas.{boxes_count}
 use Rattle.sq_points.specs.Points.{windows_of, points_of, tolls_of, losses_below, setting_of}
-use Rattle.sq_points.specs.Losses.{table_of, losses_in, most_lost, AreFalls}
+use Rattle.sq_points.specs.Losses.{loss_table, losses_in, most_lost, AreFalls}
 use Rattle.sq_points.proofs.Bounds.{at_most, all_take_few, takes_all, counts, few_outputs, few_streams, nodes_within}
 use Rattle.sq_points.proofs.Sharing.{IsAlone, shared, sum-mapped, sum-agree, sum-at-most, few-by-sum}
 use Rattle.sq_points.proofs.Falls.{lost_by, lost-low, in-order, all-lost, by-table}
@@ -130,7 +130,7 @@ module _ (n : Network) (sound : IsSound n) where
       let parts = and_parts (node_within b) (list_all node_within bs) h in
       (at_most 0 1000 b.cost (and_parts _ _ (and_parts _ _ parts.0).0).1, tolls-low bs parts.1)
 
-  module _ (falls : AreFalls (table_of n)) where
+  module _ (falls : AreFalls (loss_table n)) where
     together : sum_by sum (map (λ p. losses_below n p.outputs) (points_of n)) < 2 ^ 63
     together =
         let one = sum-mapped sum (λ (p : DropPoint). losses_below n p.outputs) (points_of n) in
@@ -176,10 +176,10 @@ weights n sound = All-from_recursion (λ (o : Output). o.weight ≤ 1000) n.outp
 -- ---- what is given to a planner is the setting of the network
 
 pub given-is : (n : Network) (tolls : List Toll) (points below : List DropPoint) (table losses : List (List ℕ)) (es : Entries)
-    → tolls ≡ tolls_of n → points ≡ points_of n → below ≡ points_of n → table ≡ table_of n → losses ≡ map (λ p. losses_in table p.outputs) below
+    → tolls ≡ tolls_of n → points ≡ points_of n → below ≡ points_of n → table ≡ loss_table n → losses ≡ map (λ p. losses_in table p.outputs) below
     → record { wires = n.wires; tolls = tolls; points = points; losses = losses; entries = es } ≡ setting_of n es
 given-is n tolls points below table losses es t p q b l =
     let all : losses ≡ map (λ p. losses_below n p.outputs) (points_of n) =
-    l ∙ ap (λ ts. map (λ (p : DropPoint). losses_in ts p.outputs) below) b ∙ ap (map (λ (p : DropPoint). losses_in (table_of n) p.outputs)) q
-    ∙ map-agree (λ (p : DropPoint). losses_in (table_of n) p.outputs) (λ p. losses_below n p.outputs) (points_of n) (All-every (λ (p : DropPoint). losses_in (table_of n) p.outputs ≡ losses_below n p.outputs) (λ p. by-table n p.outputs) (points_of n)) in
+    l ∙ ap (λ ts. map (λ (p : DropPoint). losses_in ts p.outputs) below) b ∙ ap (map (λ (p : DropPoint). losses_in (loss_table n) p.outputs)) q
+    ∙ map-agree (λ (p : DropPoint). losses_in (loss_table n) p.outputs) (λ p. losses_below n p.outputs) (points_of n) (All-every (λ (p : DropPoint). losses_in (loss_table n) p.outputs ≡ losses_below n p.outputs) (λ p. by-table n p.outputs) (points_of n)) in
     rw (t, p, all) refl

@@ -6,8 +6,8 @@ use Rattle.sq_value.specs.Lists.{numbers_to}
 use Rattle.sq_qos.specs.Graphs.{loss_steps_of}
 use Rattle.sq_net.specs.declared.Network.{Network}
 
-abbrev pub table_of : Network → List (List ℕ)
-table_of n = map (λ o. loss_steps_of o.graph o.weight) n.outputs
+abbrev pub loss_table : Network → List (List ℕ)
+loss_table n = map (λ o. loss_steps_of o.graph o.weight) n.outputs
 
 -- what an output loses by a step, both numbered from 0
 abbrev pub loss_in : List (List ℕ) → ℕ → ℕ → ℕ

@@ -3,7 +3,7 @@ ghost use Rattle.std.specs.Prelude.{◌≡◌, ◌≤◌, ◌<◌, ◌*◌, leng
 ghost use Rattle.std.specs.List.{All, sum_by};
 ghost use Rattle.sq_net.specs.Sound.{IsSound};
 ghost use Rattle.sq_points.specs.Points.{tolls_of, points_of, losses_below, setting_of};
-ghost use Rattle.sq_points.specs.Losses.{table_of, loss_in, losses_in, most_lost, AreFalls};
+ghost use Rattle.sq_points.specs.Losses.{loss_table, loss_in, losses_in, most_lost, AreFalls};
 
 use sq_net::{Network, Node};
 use sq_place::DropPoint;
@@ -31,9 +31,9 @@ fn tolls_of(alloc: Global, n: &Network) -> Result<Vec<Toll>, AllocError>
 }
 
 // What each output loses by each step.
-fn table_of(alloc: Global, n: &Network) -> Result<Vec<[u128; 20]>, AllocError>
+fn loss_table(alloc: Global, n: &Network) -> Result<Vec<[u128; 20]>, AllocError>
     requires { All (λ o. o.weight ≤ 1000) n.now.outputs }
-    ensures table { IfOk result (λ v. v.items ≡ table_of n.now) }
+    ensures table { IfOk result (λ v. v.items ≡ loss_table n.now) }
     ensures falls { IfOk result (λ v. AreFalls v.items) }
 {
     let mut table = Vec::new(alloc);
@@ -106,7 +106,7 @@ pub fn network_planner(
     ensures { IfOk result (λ p. p ≡ setting_of n.now capacities.now) }
 {
     let tolls = tolls_of(alloc, n)?;
-    let table = table_of(alloc, n)?;
+    let table = loss_table(alloc, n)?;
     let losses = losses_of(alloc, &table, points)?;
     Planner::new(alloc, &n.wires, &tolls, points, &losses, capacities)
 }

@@ -13,8 +13,8 @@ use Rattle.sha2.specs.Sha256.{sha256}
 use Rattle.sq_link.proofs.ListLemmas.{eqb-same, eqb-other}
 use Rattle.sq_outside.specs.Disks.{Pages, DiskLog, Honest, put_at, after_get}
 use Rattle.sq_pool.specs.Trust.{known, Tells, pages_with, pages_without, HasPage}
-use Rattle.sq_pool.specs.Slots.{without_page, kept_at}
-use Rattle.sq_pool.specs.Pools.{Pooled, bytes_in, is_held, page_of, if_none, if_kept, HasDigest, Agree, SameMap, Spills, HasRoom, with_bytes, loaded, Fetches, Keeps, Makes, Drops, zeros, numbered, IsNumbered, LetsGo}
+use Rattle.sq_pool.specs.Slots.{without_page, digest_at}
+use Rattle.sq_pool.specs.Pools.{Pooled, bytes_in, is_held, page_of, if_none, if_kept, HasDigest, Agree, SameMap, Spills, HasFrame, with_bytes, loaded, Fetches, Keeps, Makes, Drops, zeros, page_added, IsNumbered, LetsGo}
 use Rattle.sq_pool.proofs.PoolLemmas.{is-some}
 use Rattle.sq_pool.proofs.TrustLemmas.{if-tells, tells-with, tells-without, honest-tells, known-honest, known-pages, known-get, put-came}
 
@@ -83,7 +83,7 @@ loaded-bytes mid p b none = bytes-last p b mid.resident none
 
 -- ---- room
 
-pub room-out : (c : Pooled) (told : Option Pages) (d : Pooled) (now : Option Pages) (p : ℕ) → HasRoom c told d now → bytes_in p c.resident ≡ None → bytes_in p d.resident ≡ None
+pub room-out : (c : Pooled) (told : Option Pages) (d : Pooled) (now : Option Pages) (p : ℕ) → HasFrame c told d now → bytes_in p c.resident ≡ None → bytes_in p d.resident ≡ None
 room-out c told d now p room none =
     elim room.how [
       | inl same ↦ ap (λ (x : Pooled). bytes_in p x.resident) same.0 ∙ none
@@ -99,11 +99,11 @@ not-spilled : (c : Pooled) (told : Option Pages) (d : Pooled) (now : Option Page
 not-spilled c told d now p s none e =
     let b : Some s.bytes ≡ None = sym (first-bytes c.resident s.page s.bytes s.oldest) ∙ ap (λ (q : ℕ). bytes_in q c.resident) (sym e) ∙ none in cc
 
-pub room-kept : (c : Pooled) (told : Option Pages) (d : Pooled) (now : Option Pages) (p : ℕ) → HasRoom c told d now → bytes_in p c.resident ≡ None → kept_at d.kept p ≡ kept_at c.kept p
+pub room-kept : (c : Pooled) (told : Option Pages) (d : Pooled) (now : Option Pages) (p : ℕ) → HasFrame c told d now → bytes_in p c.resident ≡ None → digest_at d.kept p ≡ digest_at c.kept p
 room-kept c told d now p room none =
     elim room.how [
-      | inl same ↦ ap (λ (x : Pooled). kept_at x.kept p) same.0
-      | inr s ↦ ap (λ (x : Pooled). kept_at x.kept p) s.pool ∙ get_or-set_other c.kept s.page p (Some (sha256 s.bytes)) None (not-spilled c told d now p s none)
+      | inl same ↦ ap (λ (x : Pooled). digest_at x.kept p) same.0
+      | inr s ↦ ap (λ (x : Pooled). digest_at x.kept p) s.pool ∙ get_or-set_other c.kept s.page p (Some (sha256 s.bytes)) None (not-spilled c told d now p s none)
     ]
 
 unequal : (o : Ordering) → ¬ (o ≡ Equal) → is_eq o ≡ false
@@ -120,7 +120,7 @@ get-same : (t : Pages) (p : ℕ) (b : List ℕ) → finite.get (finite.insert t 
 get-same t p b = finite.get-insert nat_cmp_total t p b p ∙ ap (λ (x : Bool). cond x (Some b) (finite.get t p)) ((eq_by_cmp_equiv nat_cmp_total).refl p)
 
 -- where the pages are known once there is room, the disk holds the page with bytes of the kept digest
-pub room-told : (c : Pooled) (told : Option Pages) (d : Pooled) (now : Option Pages) (p : ℕ) (digest : List ℕ) → HasRoom c told d now → Agree c told → bytes_in p c.resident ≡ None → kept_at c.kept p ≡ Some digest
+pub room-told : (c : Pooled) (told : Option Pages) (d : Pooled) (now : Option Pages) (p : ℕ) (digest : List ℕ) → HasFrame c told d now → Agree c told → bytes_in p c.resident ≡ None → digest_at c.kept p ≡ Some digest
     → IfSome now (λ n. HasDigest (finite.get n p) digest)
 room-told c told d now p digest room agree none kept =
     elim room.how [
@@ -171,7 +171,7 @@ stays_known log p bytes = if-tells (known (after_get log p bytes)) (λ pages. kn
     itself None = tt
     itself (Some t) = refl
 
-pub room-tells : (c : Pooled) (told : Option Pages) (d : Pooled) (now : Option Pages) → HasRoom c told d now → Tells now → Tells told
+pub room-tells : (c : Pooled) (told : Option Pages) (d : Pooled) (now : Option Pages) → HasFrame c told d now → Tells now → Tells told
 room-tells c told d now room t =
     elim room.how [ inl same ↦ subst Tells same.1 t | inr s ↦ tells-with told s.page s.bytes (subst Tells s.disk t) ]
 
@@ -180,19 +180,19 @@ room-tells c told d now room t =
 at-page : {A : Type 0} (f g : ℕ → A) (p : ℕ) → f p ≡ g p → ((q : ℕ) → q ≢ p → f q ≡ g q) → (q : ℕ) → f q ≡ g q
 at-page f g p here other q = elim (cases_eq q p) [ inl e ↦ ap f e ∙ here ∙ ap g (sym e) | inr differ ↦ other q differ ]
 
-kept-cleared : (kept : List (Option (List ℕ))) (p : ℕ) → kept_at (set kept p None) p ≡ None
+kept-cleared : (kept : List (Option (List ℕ))) (p : ℕ) → digest_at (set kept p None) p ≡ None
 kept-cleared kept p =
     elim (cases_lt p (length kept)) [
       | inl inside ↦ get_or-set_same kept p None None inside
       | inr past ↦ get_or_past (set kept p None) p None (omega (arith, length-set kept p None))
     ]
 
-page-is : (c d : Pooled) (t n : Pages) (q : ℕ) → bytes_in q d.resident ≡ bytes_in q c.resident → kept_at d.kept q ≡ kept_at c.kept q → finite.get n q ≡ finite.get t q → page_of d n q ≡ page_of c t q
-page-is c d t n q a b e = ap (λ (o : Option (List ℕ)). if_none o (if_kept (kept_at d.kept q) (finite.get n q))) a ∙ ap (λ (o : Option (List ℕ)). if_none (bytes_in q c.resident) (if_kept o (finite.get n q))) b
-    ∙ ap (λ (o : Option (List ℕ)). if_none (bytes_in q c.resident) (if_kept (kept_at c.kept q) o)) e
+page-is : (c d : Pooled) (t n : Pages) (q : ℕ) → bytes_in q d.resident ≡ bytes_in q c.resident → digest_at d.kept q ≡ digest_at c.kept q → finite.get n q ≡ finite.get t q → page_of d n q ≡ page_of c t q
+page-is c d t n q a b e = ap (λ (o : Option (List ℕ)). if_none o (if_kept (digest_at d.kept q) (finite.get n q))) a ∙ ap (λ (o : Option (List ℕ)). if_none (bytes_in q c.resident) (if_kept o (finite.get n q))) b
+    ∙ ap (λ (o : Option (List ℕ)). if_none (bytes_in q c.resident) (if_kept (digest_at c.kept q) o)) e
 
-held-is : (c d : Pooled) (q : ℕ) → bytes_in q d.resident ≡ bytes_in q c.resident → kept_at d.kept q ≡ kept_at c.kept q → is_held d q ≡ is_held c q
-held-is c d q a b = ap (λ (o : Option (List ℕ)). is_some o || is_some (kept_at d.kept q)) a ∙ ap (λ (o : Option (List ℕ)). is_some (bytes_in q c.resident) || is_some o) b
+held-is : (c d : Pooled) (q : ℕ) → bytes_in q d.resident ≡ bytes_in q c.resident → digest_at d.kept q ≡ digest_at c.kept q → is_held d q ≡ is_held c q
+held-is c d q a b = ap (λ (o : Option (List ℕ)). is_some o || is_some (digest_at d.kept q)) a ∙ ap (λ (o : Option (List ℕ)). is_some (bytes_in q c.resident) || is_some o) b
 
 abbrev spilled_of : Pooled → ℕ → List ℕ → Pooled
 spilled_of c v b = record c { resident = without_page v c.resident; kept = set c.kept v (Some (sha256 b)) }
@@ -216,11 +216,11 @@ keeps-spilled c (Some t) v b is inside = record {
   numbers = spilled-held c v b is inside;
   agree = λ a q.
       elim (cases_eq q v) [
-        | inl e ↦ subst (λ (k : ℕ). IfSome (kept_at (spilled_of c v b).kept k) (HasDigest (finite.get (finite.insert t v b) k))) (sym e)
+        | inl e ↦ subst (λ (k : ℕ). IfSome (digest_at (spilled_of c v b).kept k) (HasDigest (finite.get (finite.insert t v b) k))) (sym e)
             (subst (λ (o : Option (List ℕ)). IfSome o (HasDigest (finite.get (finite.insert t v b) v))) (sym (get_or-set_same c.kept v (Some (sha256 b)) None inside))
             (subst (λ (o : Option (List ℕ)). HasDigest o (sha256 b)) (sym (get-same t v b)) refl))
         | inr other ↦ subst (λ (o : Option (List ℕ)). IfSome o (HasDigest (finite.get (finite.insert t v b) q))) (sym (get_or-set_other c.kept v q (Some (sha256 b)) None other))
-            (subst (λ (o : Option (List ℕ)). IfSome (kept_at c.kept q) (HasDigest o)) (sym (get-other t v q b other)) (a q))
+            (subst (λ (o : Option (List ℕ)). IfSome (digest_at c.kept q) (HasDigest o)) (sym (get-other t v q b other)) (a q))
       ];
 }
 
@@ -228,7 +228,7 @@ keeps-same : (c : Pooled) (told : Option Pages) → Keeps c told c told
 keeps-same c None = record { pages = tt; numbers = λ q. refl; agree = λ a. a }
 keeps-same c (Some t) = record { pages = λ q. refl; numbers = λ q. refl; agree = λ a. a }
 
-pub keeps-room : (c : Pooled) (told : Option Pages) (d : Pooled) (now : Option Pages) → HasRoom c told d now → Keeps c told d now
+pub keeps-room : (c : Pooled) (told : Option Pages) (d : Pooled) (now : Option Pages) → HasFrame c told d now → Keeps c told d now
 keeps-room c told d now room =
     elim room.how [
       | inl same ↦ subst (λ (x : Pooled). Keeps c told x now) (sym same.0) (subst (λ (o : Option Pages). Keeps c told c o) (sym same.1) (keeps-same c told))
@@ -236,13 +236,13 @@ keeps-room c told d now room =
           (keeps-spilled c told s.page s.bytes (first-bytes c.resident s.page s.bytes s.oldest) s.inside))
     ]
 
-loaded-map : (mid : Pooled) (n : Pages) (p : ℕ) (bytes digest : List ℕ) → bytes_in p mid.resident ≡ None → kept_at mid.kept p ≡ Some digest → finite.get n p ≡ Some bytes → (q : ℕ) → page_of (loaded mid p bytes) n q ≡ page_of mid n q
+loaded-map : (mid : Pooled) (n : Pages) (p : ℕ) (bytes digest : List ℕ) → bytes_in p mid.resident ≡ None → digest_at mid.kept p ≡ Some digest → finite.get n p ≡ Some bytes → (q : ℕ) → page_of (loaded mid p bytes) n q ≡ page_of mid n q
 loaded-map mid n p bytes digest none kept there =
     at-page (page_of (loaded mid p bytes) n) (page_of mid n) p
     (rw (bytes-last p bytes mid.resident none, none, kept) (sym there))
     (λ q other. page-is mid (loaded mid p bytes) n n q (bytes-before p q bytes mid.resident other) (get_or-set_other mid.kept p q None None other) refl)
 
-loaded-held : (mid : Pooled) (p : ℕ) (bytes digest : List ℕ) → bytes_in p mid.resident ≡ None → kept_at mid.kept p ≡ Some digest → (q : ℕ) → is_held (loaded mid p bytes) q ≡ is_held mid q
+loaded-held : (mid : Pooled) (p : ℕ) (bytes digest : List ℕ) → bytes_in p mid.resident ≡ None → digest_at mid.kept p ≡ Some digest → (q : ℕ) → is_held (loaded mid p bytes) q ≡ is_held mid q
 loaded-held mid p bytes digest none kept =
     at-page (is_held (loaded mid p bytes)) (is_held mid) p
     (rw (bytes-last p bytes mid.resident none, none, kept) refl)
@@ -252,11 +252,11 @@ pub agree-loaded : (mid : Pooled) (now : Option Pages) (p : ℕ) (bytes : List �
 agree-loaded mid None p bytes a = tt
 agree-loaded mid (Some n) p bytes a = λ q.
     elim (cases_eq q p) [
-      | inl e ↦ subst (λ (o : Option (List ℕ)). IfSome o (HasDigest (finite.get n q))) (sym (ap (λ (k : ℕ). kept_at (set mid.kept p None) k) e ∙ kept-cleared mid.kept p)) tt
+      | inl e ↦ subst (λ (o : Option (List ℕ)). IfSome o (HasDigest (finite.get n q))) (sym (ap (λ (k : ℕ). digest_at (set mid.kept p None) k) e ∙ kept-cleared mid.kept p)) tt
       | inr other ↦ subst (λ (o : Option (List ℕ)). IfSome o (HasDigest (finite.get n q))) (sym (get_or-set_other mid.kept p q None None other)) (a q)
     ]
 
-keeps-loaded : (mid : Pooled) (now : Option Pages) (p : ℕ) (bytes digest : List ℕ) → bytes_in p mid.resident ≡ None → kept_at mid.kept p ≡ Some digest → HasPage now p bytes → Keeps mid now (loaded mid p bytes) now
+keeps-loaded : (mid : Pooled) (now : Option Pages) (p : ℕ) (bytes digest : List ℕ) → bytes_in p mid.resident ≡ None → digest_at mid.kept p ≡ Some digest → HasPage now p bytes → Keeps mid now (loaded mid p bytes) now
 keeps-loaded mid None p bytes digest none kept there = record { pages = tt; numbers = loaded-held mid p bytes digest none kept; agree = λ a. a }
 keeps-loaded mid (Some n) p bytes digest none kept there = record {
   pages = loaded-map mid n p bytes digest none kept there;
@@ -290,7 +290,7 @@ known-stays : (told now : Option Pages) → IfSome now (λ pages. told ≡ Some 
 known-stays told None stays t = absurd cc
 known-stays told (Some n) stays t = subst Tells (sym stays) refl
 
-pub keeps-fetched : (c : Pooled) (told : Option Pages) (d : Pooled) (now : Option Pages) (p : ℕ) (digest : List ℕ) → Fetches c told d now p digest → bytes_in p c.resident ≡ None → kept_at c.kept p ≡ Some digest → Keeps c told d now
+pub keeps-fetched : (c : Pooled) (told : Option Pages) (d : Pooled) (now : Option Pages) (p : ℕ) (digest : List ℕ) → Fetches c told d now p digest → bytes_in p c.resident ≡ None → digest_at c.kept p ≡ Some digest → Keeps c told d now
 keeps-fetched c told d now p digest f none kept =
     let out = room-out c told f.mid f.between p f.room none in
     let mid-kept = room-kept c told f.mid f.between p f.room none ∙ kept in
@@ -309,22 +309,22 @@ keeps-touched c told p b is =
     mapped None h = tt
     mapped (Some t) h = λ q. page-is c (record c { resident = without_page p c.resident ++ (p, b) ∷ [] }) t t q (h q) refl refl
 
-kept-more : (kept : List (Option (List ℕ))) (q : ℕ) → kept_at (kept ++ None ∷ []) q ≡ kept_at kept q
+kept-more : (kept : List (Option (List ℕ))) (q : ℕ) → digest_at (kept ++ None ∷ []) q ≡ digest_at kept q
 kept-more [] zero = refl
 kept-more [] (suc q) = refl
 kept-more (k ∷ kept) zero = refl
 kept-more (k ∷ kept) (suc q) = kept-more kept q
 
-keeps-numbered : (c : Pooled) (told : Option Pages) → Keeps c told (numbered c) told
-keeps-numbered c None = record { pages = tt; numbers = λ q. held-is c (numbered c) q refl (kept-more c.kept q); agree = λ a. a }
+keeps-numbered : (c : Pooled) (told : Option Pages) → Keeps c told (page_added c) told
+keeps-numbered c None = record { pages = tt; numbers = λ q. held-is c (page_added c) q refl (kept-more c.kept q); agree = λ a. a }
 keeps-numbered c (Some t) = record {
-  pages = λ q. page-is c (numbered c) t t q refl (kept-more c.kept q) refl;
-  numbers = λ q. held-is c (numbered c) q refl (kept-more c.kept q);
+  pages = λ q. page-is c (page_added c) t t q refl (kept-more c.kept q) refl;
+  numbers = λ q. held-is c (page_added c) q refl (kept-more c.kept q);
   agree = λ a q. subst (λ (o : Option (List ℕ)). IfSome o (HasDigest (finite.get t q))) (sym (kept-more c.kept q)) (a q);
 }
 
 -- a page that was in no place is in a frame
-makes-loaded : (mid : Pooled) (now : Option Pages) (p : ℕ) → bytes_in p mid.resident ≡ None → kept_at mid.kept p ≡ None → Makes mid now (loaded mid p zeros) now p
+makes-loaded : (mid : Pooled) (now : Option Pages) (p : ℕ) → bytes_in p mid.resident ≡ None → digest_at mid.kept p ≡ None → Makes mid now (loaded mid p zeros) now p
 makes-loaded mid now p none gone = record {
   fresh = rw (none, gone) refl;
   pages = mapped now;
@@ -359,9 +359,9 @@ makes-after c told d now e p k m = record {
 pub record IsStart (c : Pooled) (told : Option Pages) (start : Pooled) (p : ℕ) : Type 0 where
   pub keeps : Keeps c told start told
   pub out : bytes_in p start.resident ≡ None
-  pub gone : kept_at start.kept p ≡ None
+  pub gone : digest_at start.kept p ≡ None
 
-pub started : (c : Pooled) (told : Option Pages) (start : Pooled) (p : ℕ) → IsNumbered c start → bytes_in p c.resident ≡ None → kept_at c.kept p ≡ None → IsStart c told start p
+pub started : (c : Pooled) (told : Option Pages) (start : Pooled) (p : ℕ) → IsNumbered c start → bytes_in p c.resident ≡ None → digest_at c.kept p ≡ None → IsStart c told start p
 started c told start p numbers none gone =
     elim numbers [
       | inl same ↦ subst (λ (x : Pooled). IsStart c told x p) (sym same) (record { keeps = keeps-same c told; out = none; gone = gone })
@@ -375,14 +375,14 @@ numbered-frames c start numbers some =
       | inr more ↦ subst (λ (x : Pooled). 0 < x.frames) (sym more) some
     ]
 
-pub makes : (c : Pooled) (told : Option Pages) (start mid : Pooled) (now : Option Pages) (p : ℕ) → IsStart c told start p → HasRoom start told mid now → Makes c told (loaded mid p zeros) now p
+pub makes : (c : Pooled) (told : Option Pages) (start mid : Pooled) (now : Option Pages) (p : ℕ) → IsStart c told start p → HasFrame start told mid now → Makes c told (loaded mid p zeros) now p
 makes c told start mid now p s room =
     let out = room-out start told mid now p room s.out in
-    let gone : kept_at mid.kept p ≡ None = room-kept start told mid now p room s.out ∙ s.gone in
+    let gone : digest_at mid.kept p ≡ None = room-kept start told mid now p room s.out ∙ s.gone in
     makes-after c told mid now (loaded mid p zeros) p
     (keeps-then c told start told mid now (room-tells start told mid now room) s.keeps (keeps-room start told mid now room)) (makes-loaded mid now p out gone)
 
-pub room-length : (c : Pooled) (told : Option Pages) (d : Pooled) (now : Option Pages) → HasRoom c told d now → length d.kept ≡ length c.kept
+pub room-length : (c : Pooled) (told : Option Pages) (d : Pooled) (now : Option Pages) → HasFrame c told d now → length d.kept ≡ length c.kept
 room-length c told d now room =
     elim room.how [
       | inl same ↦ ap (λ (x : Pooled). length x.kept) same.0
@@ -391,7 +391,7 @@ room-length c told d now room =
 
 -- a page is let go
 
-drops-at : (c d : Pooled) (told now : Option Pages) (p : ℕ) → bytes_in p d.resident ≡ None → kept_at d.kept p ≡ None → ((q : ℕ) → q ≢ p → (bytes_in q d.resident ≡ bytes_in q c.resident) × (kept_at d.kept q ≡ kept_at c.kept q))
+drops-at : (c d : Pooled) (told now : Option Pages) (p : ℕ) → bytes_in p d.resident ≡ None → digest_at d.kept p ≡ None → ((q : ℕ) → q ≢ p → (bytes_in q d.resident ≡ bytes_in q c.resident) × (digest_at d.kept q ≡ digest_at c.kept q))
     → IfSome told (λ t. IfSome now (λ n. (q : ℕ) → q ≢ p → finite.get n q ≡ finite.get t q)) → (Tells now → Tells told) → Drops c told d now p
 drops-at c d told now p none gone rest got tells = record {
   pages = mapped told now got;
@@ -414,9 +414,9 @@ drops-at c d told now p none gone rest got tells = record {
     agrees None (Some n) h s g = absurd (let no : false ≡ true = s refl in cc)
     agrees (Some t) (Some n) h s g = λ q.
         elim (cases_eq q p) [
-          | inl e ↦ subst (λ (o : Option (List ℕ)). IfSome o (HasDigest (finite.get n q))) (sym (ap (kept_at d.kept) e ∙ gone)) tt
+          | inl e ↦ subst (λ (o : Option (List ℕ)). IfSome o (HasDigest (finite.get n q))) (sym (ap (digest_at d.kept) e ∙ gone)) tt
           | inr other ↦ subst (λ (o : Option (List ℕ)). IfSome o (HasDigest (finite.get n q))) (sym (rest q other).1)
-              (subst (λ (o : Option (List ℕ)). IfSome (kept_at c.kept q) (HasDigest o)) (sym (h q other)) (g q))
+              (subst (λ (o : Option (List ℕ)). IfSome (digest_at c.kept q) (HasDigest o)) (sym (h q other)) (g q))
         ]
 
 same-gets : (told : Option Pages) (p : ℕ) → IfSome told (λ t. IfSome told (λ n. (q : ℕ) → q ≢ p → finite.get n q ≡ finite.get t q))
@@ -437,10 +437,10 @@ drops-spilled c told now p none is =
     subst (λ (o : Option Pages). Drops c told (record c { kept = set c.kept p None }) o p) (sym is)
     (drops-at c (record c { kept = set c.kept p None }) told (pages_without told p) p none (kept-cleared c.kept p) (λ q other. (refl, get_or-set_other c.kept p q None None other)) (less-gets told p) (tells-without told p))
 
-lets-go : (c d : Pooled) (p : ℕ) → bytes_in p d.resident ≡ None → kept_at d.kept p ≡ None → ((q : ℕ) → q ≢ p → (bytes_in q d.resident ≡ bytes_in q c.resident) × (kept_at d.kept q ≡ kept_at c.kept q)) → LetsGo c d p
+lets-go : (c d : Pooled) (p : ℕ) → bytes_in p d.resident ≡ None → digest_at d.kept p ≡ None → ((q : ℕ) → q ≢ p → (bytes_in q d.resident ≡ bytes_in q c.resident) × (digest_at d.kept q ≡ digest_at c.kept q)) → LetsGo c d p
 lets-go c d p none gone rest = record {
   bytes = at-page (λ q. bytes_in q d.resident) (λ q. cond (eqb q p) None (bytes_in q c.resident)) p (rw (none, eqb-same p) refl) (λ q other. (rest q other).0 ∙ sym (rw (eqb-other q p other) refl));
-  kept = at-page (λ q. kept_at d.kept q) (λ q. cond (eqb q p) None (kept_at c.kept q)) p (rw (gone, eqb-same p) refl) (λ q other. (rest q other).1 ∙ sym (rw (eqb-other q p other) refl));
+  kept = at-page (λ q. digest_at d.kept q) (λ q. cond (eqb q p) None (digest_at c.kept q)) p (rw (gone, eqb-same p) refl) (λ q other. (rest q other).1 ∙ sym (rw (eqb-other q p other) refl));
 }
 
 pub lets-resident-go : (c : Pooled) (p : ℕ) → LetsGo c (record c { resident = without_page p c.resident; kept = set c.kept p None }) p

@@ -4,7 +4,7 @@ use Rattle.sha2.specs.Sha256.{sha256}
 use Rattle.sq_outside.specs.Disks.{DiskLog}
 use Rattle.sq_pool.specs.declared.pool.PoolErr.{PoolErr}
 use Rattle.sq_pool.specs.declared.pool.PoolErr.TheVariants as error
-use Rattle.sq_pool.specs.Slots.{kept_at}
+use Rattle.sq_pool.specs.Slots.{digest_at}
 use Rattle.sq_pool.specs.Pools.{Pooled, bytes_in}
 use Rattle.sq_pool.specs.Trust.{CameLast}
 
@@ -14,16 +14,16 @@ pub record IsBack (d : Pooled) (before now : DiskLog) (page : ℕ) (bytes : List
   pub came : CameLast before now page bytes
 
 -- they have the digest that was kept
-abbrev pub IsWhole : Pooled → Pooled → DiskLog → DiskLog → ℕ → List ℕ → Type 0
-IsWhole c d before now page bytes = IsBack d before now page bytes × (kept_at c.kept page ≡ Some (sha256 bytes))
+abbrev pub IsWholePage : Pooled → Pooled → DiskLog → DiskLog → ℕ → List ℕ → Type 0
+IsWholePage c d before now page bytes = IsBack d before now page bytes × (digest_at c.kept page ≡ Some (sha256 bytes))
 
 -- a page that was in no frame came back whole
 abbrev pub ComesBack : Pooled → Pooled → DiskLog → DiskLog → ℕ → Type 0
-ComesBack c d before now page = (bytes : List ℕ) × IsWhole c d before now page bytes
+ComesBack c d before now page = (bytes : List ℕ) × IsWholePage c d before now page bytes
 
 -- the digest that was kept of the page isn't that of the bytes which came back in this call and are in its frame now
 abbrev pub IsGarbling : Pooled → Pooled → DiskLog → DiskLog → ℕ → PoolErr → Type 0
 IsGarbling c d before now p error.Disk = ⊤
 IsGarbling c d before now p (error.Garbled page kept got) =
-    (page ≡ p) × (kept_at c.kept p ≡ Some kept.0) × ((bytes : List ℕ) × IsBack d before now p bytes × (sha256 bytes ≡ got.0)) × ¬ (kept.0 ≡ got.0)
+    (page ≡ p) × (digest_at c.kept p ≡ Some kept.0) × ((bytes : List ℕ) × IsBack d before now p bytes × (sha256 bytes ≡ got.0)) × ¬ (kept.0 ≡ got.0)
 IsGarbling c d before now p error.Memory = ⊤

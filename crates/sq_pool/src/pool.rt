@@ -69,9 +69,9 @@ fn clear(bytes: &mut [u8])
 
 impl Pool {
     ghost use Rattle.std.specs.Prelude.{◌≡◌, ℕ, ◌<◌, ◌≤◌, ◌+◌, if◌then◌else◌, IfOk, OnOk, IfErr, IfSome, IsSome, is_some, IsTrue, None, Some, Option, List, length, ◌⊎◌, []};
-    ghost use Rattle.sq_pool.specs.Pools.{Agree, Spills, HasRoom, is_held, bytes_in, loaded, Fetches, Keeps, Makes, Drops, IsLast, Brings, IsMade, IsNumbered, LetsGo};
+    ghost use Rattle.sq_pool.specs.Pools.{Agree, Spills, HasFrame, is_held, bytes_in, loaded, Fetches, Keeps, Makes, Drops, IsLast, Brings, IsMade, IsNumbered, LetsGo};
     ghost use Rattle.sq_pool.specs.Errors.{ComesBack, IsGarbling};
-    ghost use Rattle.sq_pool.specs.Slots.{kept_at};
+    ghost use Rattle.sq_pool.specs.Slots.{digest_at};
     ghost use Rattle.sq_outside.specs.Faults.{Rose};
     ghost use Rattle.sq_outside.specs.Disks.{after_give_up, Honest, Pages};
     ghost use Rattle.sq_pool.specs.Trust.{known, IsLater};
@@ -143,7 +143,7 @@ impl Pool {
     // Makes a frame free, where none is.
     fn make_room<D: PageDisk>(&mut self, disk: &mut D) -> Result<(), PoolErr>
         requires { 0 < self.old.frames }
-        ensures ok { OnOk result (HasRoom self.old (known (D.log disk.old)) self.new (known (D.log disk.new))) }
+        ensures ok { OnOk result (HasFrame self.old (known (D.log disk.old)) self.new (known (D.log disk.new))) }
         ensures disk { IfErr result (λ e. (e ≡ PoolErr.Disk) × Rose (D.faults disk.old) (D.faults disk.new)) }
         ensures faults { D.faults disk.old ≤ D.faults disk.new }
         ensures later { IsLater (D.log disk.old) (D.log disk.new) }
@@ -207,7 +207,7 @@ impl Pool {
     // Takes a page back of the disk.
     fn fetch<D: PageDisk>(&mut self, disk: &mut D, page: u64, kept: Digest) -> Result<(), PoolErr>
         requires frames { 0 < self.old.frames }
-        requires kept { kept_at self.old.kept page ≡ Some kept.0 }
+        requires kept { digest_at self.old.kept page ≡ Some kept.0 }
         requires out { bytes_in page self.old.resident ≡ None }
         requires agree { Agree self.old (known (D.log disk.old)) }
         ensures ok { OnOk result (Fetches self.old (known (D.log disk.old)) self.new (known (D.log disk.new)) page kept.0) }
@@ -326,7 +326,7 @@ impl Pool {
         ensures page { IfOk result (λ page. page < length self.new.kept) }
         ensures numbers { OnOk result (IsNumbered self.old self.new) }
         ensures out { IfOk result (λ page. bytes_in page self.old.resident ≡ None) }
-        ensures gone { IfOk result (λ page. kept_at self.old.kept page ≡ None) }
+        ensures gone { IfOk result (λ page. digest_at self.old.kept page ≡ None) }
         ensures err { IfErr result (λ e. e ≡ PoolErr.Memory) }
     {
         let Ok(page) = self.slots.take_number() else {

@@ -44,7 +44,7 @@ impl Model for Slots {
 
 impl Slots {
     ghost use Rattle.std.specs.Prelude.{◌≡◌, ◌⊎◌, ◌<◌, ◌+◌, IfOk, OnOk, OnErr, IfSome, IsSome, IsTrue, ◌↔◌, None, Some, Option, length, slice_set, slice_get, ◌++◌, ◌∷◌, []};
-    ghost use Rattle.sq_pool.specs.Slots.{frame_in, without_page, kept_at, kept_of, frame_of, HasFrame, IsSlotted};
+    ghost use Rattle.sq_pool.specs.Slots.{frame_in, without_page, digest_at, digest_of, frame_of, HasFrame, IsSlotted};
 
     /// So many free frames, and no page.
     pub fn new(alloc: Global, frames: u32) -> Result<Slots, AllocError>
@@ -62,7 +62,7 @@ impl Slots {
     }
 
     fn is_absent(&self, page: u64) -> bool
-        ensures { IsTrue result → (page < length self.now.kept) × (kept_at self.now.kept page ≡ None)
+        ensures { IsTrue result → (page < length self.now.kept) × (digest_at self.now.kept page ≡ None)
             × (frame_in page self.now.order ≡ None) }
     {
         if !self.knows(page) {
@@ -78,7 +78,7 @@ impl Slots {
     // A number that was given up.
     fn old_number(&mut self) -> Option<u64>
         ensures same { self.new ≡ self.old }
-        ensures page { IfSome result (λ page. (page < length self.old.kept) × (kept_at self.old.kept page ≡ None)
+        ensures page { IfSome result (λ page. (page < length self.old.kept) × (digest_at self.old.kept page ≡ None)
             × (frame_in page self.old.order ≡ None)) }
     {
         let page = self.unused.pop()?;
@@ -103,7 +103,7 @@ impl Slots {
     /// A number of no page: one that was given up, or a new one.
     pub fn take_number(&mut self) -> Result<u64, AllocError>
         ensures page { IfOk result (λ page. page < length self.new.kept) }
-        ensures kept { IfOk result (λ page. kept_at self.old.kept page ≡ None) }
+        ensures kept { IfOk result (λ page. digest_at self.old.kept page ≡ None) }
         ensures out { IfOk result (λ page. frame_in page self.old.order ≡ None) }
         ensures numbers { OnOk result ((self.new ≡ self.old)
             ⊎ (self.new ≡ record self.old { kept = self.old.kept ++ None ∷ [] })) }
@@ -138,7 +138,7 @@ impl Slots {
     pub fn place(&self, page: u64) -> Place
         requires { page < length self.now.kept }
         ensures frame { frame_in page self.now.order ≡ frame_of result }
-        ensures kept { kept_at self.now.kept page ≡ kept_of result }
+        ensures kept { digest_at self.now.kept page ≡ digest_of result }
     {
         self.places[page as usize]
     }
@@ -177,7 +177,7 @@ impl Slots {
         requires place { frame_of place ≡ None }
         ensures { self.new ≡ record self.old {
           order = without_page page self.old.order;
-          kept = slice_set self.old.kept page (kept_of place);
+          kept = slice_set self.old.kept page (digest_of place);
         } }
     {
         self.chain.one_place_each();

@@ -2,13 +2,13 @@
 use Rattle.std.proofs.Common.{◌≡◌, ℕ, ◌+◌, ◌%◌, ◌≤◌, ◌∷◌, length, Bool, true, false, ◌&&◌, nat_le, nat_lt, ◌==◌, Option, None, refl, arith}
 use Rattle.std.proofs.lemmas.Bool.Decides.{nat_tests}
 use Rattle.sq_qos.specs.declared.GraphErr.{GraphErr}
-use Rattle.sq_qos.specs.Graphs.{Points, graph_error, is_on_grid, first_x, last_x, rises, is_concave, unless}
+use Rattle.sq_qos.specs.Graphs.{Points, graph_error, is_on_grid, first_x, last_x, rises, is_concave, unless_error}
 
 pub both : (a b : Bool) → (a && b) ≡ true → (a ≡ true) × (b ≡ true)
 both true b h = (refl, h)
 both false b h = cc
 
-pub unless_none : (b : Bool) (e : GraphErr) (more : Option GraphErr) → unless b e more ≡ None → (b ≡ true) × (more ≡ None)
+pub unless_none : (b : Bool) (e : GraphErr) (more : Option GraphErr) → unless_error b e more ≡ None → (b ≡ true) × (more ≡ None)
 unless_none true e more h = (refl, h)
 unless_none false e more h = cc
 

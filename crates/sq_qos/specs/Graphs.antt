@@ -92,15 +92,15 @@ is_concave (p ∷ []) = true
 is_concave (p ∷ q ∷ []) = true
 is_concave (p ∷ q ∷ r ∷ ps) = is_no_steeper p q r && is_concave (q ∷ r ∷ ps)
 
-abbrev pub unless : Bool → GraphErr → Option GraphErr → Option GraphErr
-unless true e more = more
-unless false e more = Some e
+abbrev pub unless_error : Bool → GraphErr → Option GraphErr → Option GraphErr
+unless_error true e more = more
+unless_error false e more = Some e
 
 -- why points are no graph, in this order
 abbrev pub graph_error : Points → Option GraphErr
 graph_error ps =
-    unless (nat_le (length ps) 21) error.TooMany
-    (unless (is_on_grid 0 ps) error.Grid
-    (unless (has_ends ps) error.Ends
-    (unless (rises ps) error.Falls
-    (unless (is_concave ps) error.NotConcave None))))
+    unless_error (nat_le (length ps) 21) error.TooMany
+    (unless_error (is_on_grid 0 ps) error.Grid
+    (unless_error (has_ends ps) error.Ends
+    (unless_error (rises ps) error.Falls
+    (unless_error (is_concave ps) error.NotConcave None))))

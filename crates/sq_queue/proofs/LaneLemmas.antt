@@ -5,10 +5,10 @@ use Rattle.std.specs.Prelude.{Result, Ok, Err, OnOk, is_some, unwrap_or}
 use Rattle.std.specs.List.{AllByRecursion}
 use Rattle.std.proofs.lemmas.List.{length-append, append-nil}
 use Rattle.sq_item.specs.declared.Item.{Item}
-use Rattle.sq_item.specs.Sound.{IsSound}
+use Rattle.sq_item.specs.Sound.{IsSoundItem}
 use Rattle.sq_paged.specs.Faces.{is_first}
-use Rattle.sq_paged.specs.Fronts.{Face, IsFaceOf, IsPopped, first_time, first_or, pushed}
-use Rattle.sq_queue.specs.Faces.{face_at, front_at, behind_at, first_of, IsLane}
+use Rattle.sq_paged.specs.Fronts.{Face, IsFaceOf, IsPopped, first_time, first_time_or, pushed}
+use Rattle.sq_queue.specs.Faces.{face_at, front_at, behind_at, first_time_of, IsLane}
 use Rattle.sq_queue.specs.declared.Lane.{Lane}
 
 pub on-ok-both : {T E P Q R : Type 0} (r : Result T E) → OnOk r P → OnOk r Q → (P → Q → R) → OnOk r R
@@ -17,11 +17,11 @@ on-ok-both (Err e) p q f = tt
 
 -- ---- the face of an arc is that of its items
 
-first-of-all : (front items : List Item) (behind : Option ℕ) → behind ≡ first_time items → first_of front behind ≡ first_time (front ++ items)
+first-of-all : (front items : List Item) (behind : Option ℕ) → behind ≡ first_time items → first_time_of front behind ≡ first_time (front ++ items)
 first-of-all [] items behind h = h
 first-of-all (x ∷ front) items behind h = refl
 
-face-first : (lane : Option Lane) → (face_at lane).first ≡ first_of (front_at lane) (behind_at lane)
+face-first : (lane : Option Lane) → (face_at lane).first ≡ first_time_of (front_at lane) (behind_at lane)
 face-first None = refl
 face-first (Some lane) = refl
 
@@ -38,7 +38,7 @@ none-behind paged (x ∷ items) f e = let no : Some x.time ≡ None = sym f.firs
 
 -- ---- an item behind the others in front
 
-sound-append : (items : List Item) (item : Item) → IsSound item → AllByRecursion IsSound items → AllByRecursion IsSound (items ++ item ∷ [])
+sound-append : (items : List Item) (item : Item) → IsSoundItem item → AllByRecursion IsSoundItem items → AllByRecursion IsSoundItem (items ++ item ∷ [])
 sound-append [] item s h = (s, tt)
 sound-append (x ∷ items) item s h = (h.0, sound-append items item s h.1)
 
@@ -48,7 +48,7 @@ pub record Appends (lane new : Lane) (item : Item) : Type 0 where
   pub count : new.count ≡ lane.count + 1
   pub behind : new.behind ≡ lane.behind
 
-pub appended-lane : (lane new : Lane) (item : Item) (paged : Face) → IsLane (Some lane) paged → Appends lane new item → IsSound item → length lane.front.items < 256 → IsLane (Some new) paged
+pub appended-lane : (lane new : Lane) (item : Item) (paged : Face) → IsLane (Some lane) paged → Appends lane new item → IsSoundItem item → length lane.front.items < 256 → IsLane (Some new) paged
 appended-lane lane new item paged l a sound room =
     let more : length new.front.items ≡ length lane.front.items + 1 = ap length a.front ∙ length-append lane.front.items (item ∷ []) in
     record {
@@ -56,7 +56,7 @@ appended-lane lane new item paged l a sound room =
       behind = a.behind ∙ l.behind;
       runs = l.runs;
       few = omega (arith, more, room);
-      sound = subst (λ (xs : List Item). AllByRecursion IsSound xs) (sym a.front) (sound-append lane.front.items item sound l.sound);
+      sound = subst (λ (xs : List Item). AllByRecursion IsSoundItem xs) (sym a.front) (sound-append lane.front.items item sound l.sound);
     }
 
 -- an item behind the front is behind all, where nothing else is there
@@ -66,7 +66,7 @@ appended-items front new items item e none =
 
 -- ---- an item behind the last in pages
 
-first-given : (o : Option ℕ) (time : ℕ) → Some (unwrap_or o time) ≡ first_or o time
+first-given : (o : Option ℕ) (time : ℕ) → Some (unwrap_or o time) ≡ first_time_or o time
 first-given None time = refl
 first-given (Some t) time = refl
 
@@ -77,10 +77,10 @@ pushed-behind lane new time paged after l e front count behind =
     let same : length new.front.items ≡ length lane.front.items = ap length front in
     record {
       count = omega (arith, l.count, more, count, same);
-      behind = behind ∙ first-given lane.behind time ∙ ap (λ (o : Option ℕ). first_or o time) l.behind ∙ sym (ap (λ (f : Face). f.first) e);
+      behind = behind ∙ first-given lane.behind time ∙ ap (λ (o : Option ℕ). first_time_or o time) l.behind ∙ sym (ap (λ (f : Face). f.first) e);
       runs = ap (λ (f : Face). f.ended) e ∙ l.runs;
       few = omega (arith, l.few, same);
-      sound = subst (λ (xs : List Item). AllByRecursion IsSound xs) (sym front) l.sound;
+      sound = subst (λ (xs : List Item). AllByRecursion IsSoundItem xs) (sym front) l.sound;
     }
 
 -- ---- the first item in front goes
@@ -91,8 +91,8 @@ pub record Takes (lane new : Lane) (item : Item) : Type 0 where
   pub behind : new.behind ≡ lane.behind
   pub ended : new.ended ≡ lane.ended
 
-pub taken-sound : (lane new : Lane) (item : Item) (paged : Face) → IsLane (Some lane) paged → Takes lane new item → IsSound item
-taken-sound lane new item paged l t = (subst (λ (xs : List Item). AllByRecursion IsSound xs) t.front l.sound).0
+pub taken-sound : (lane new : Lane) (item : Item) (paged : Face) → IsLane (Some lane) paged → Takes lane new item → IsSoundItem item
+taken-sound lane new item paged l t = (subst (λ (xs : List Item). AllByRecursion IsSoundItem xs) t.front l.sound).0
 
 pub taken-lane : (lane new : Lane) (item : Item) (paged : Face) → IsLane (Some lane) paged → Takes lane new item → IsLane (Some new) paged
 taken-lane lane new item paged l t =
@@ -102,14 +102,14 @@ taken-lane lane new item paged l t =
       behind = t.behind ∙ l.behind;
       runs = l.runs;
       few = omega (arith, l.few, less);
-      sound = (subst (λ (xs : List Item). AllByRecursion IsSound xs) t.front l.sound).1;
+      sound = (subst (λ (xs : List Item). AllByRecursion IsSoundItem xs) t.front l.sound).1;
     }
 
 is-first-suc : (n : ℕ) → is_first (suc n) ≡ true
 is-first-suc n = ap (λ (b : Bool). cond b false true) (eqb-suc-zero n)
 
 -- a first stands exactly where items do, in front or in pages
-some-of : (front : List Item) (behind : Option ℕ) (count paged : ℕ) → is_some behind ≡ is_first paged → count ≡ length front + paged → is_some (first_of front behind) ≡ is_first count
+some-of : (front : List Item) (behind : Option ℕ) (count paged : ℕ) → is_some behind ≡ is_first paged → count ≡ length front + paged → is_some (first_time_of front behind) ≡ is_first count
 some-of [] behind count paged h c = let same : count ≡ paged = omega (arith, c) in h ∙ ap is_first (sym same)
 some-of (x ∷ front) behind count paged h c = let more : count ≡ suc (length front + paged) = omega (arith, c) in sym (ap is_first more ∙ is-first-suc (length front + paged))
 

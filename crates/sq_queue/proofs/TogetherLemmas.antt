@@ -5,7 +5,7 @@ use Rattle.std.proofs.lemmas.Bool.{cases_eq}
 use Rattle.std.specs.Prelude.{slice_get}
 use Rattle.std.specs.List.{AllByRecursion}
 use Rattle.sq_item.specs.declared.Item.{Item}
-use Rattle.sq_item.specs.Sound.{IsSound}
+use Rattle.sq_item.specs.Sound.{IsSoundItem}
 use Rattle.sq_outside.specs.Disks.{Pages}
 use Rattle.sq_pool.specs.Trust.{Tells}
 use Rattle.sq_paged.specs.Fronts.{Face}
@@ -17,20 +17,20 @@ use Rattle.sq_queue.specs.declared.Queues.{Queues}
 use Rattle.sq_queue.proofs.LaneLemmas.{lane-face, none-behind}
 
 -- where pages and lanes are as they should be, all stands together
-pub together-by : (q : Queues) (told : Option Pages) → pages.Together q.paged told → pages.size q.paged ≡ size q → ((arc : ℕ) → IsLane (slice_get q.lanes.items arc) (pages.face q.paged arc)) → Together q told
+pub together-by : (q : Queues) (told : Option Pages) → pages.PagedTogether q.paged told → pages.size q.paged ≡ size q → ((arc : ℕ) → IsLane (slice_get q.lanes.items arc) (pages.face q.paged arc)) → Together q told
 together-by q told paged arcs lanes =
     record {
       paged = paged;
       arcs = arcs;
       lanes = lanes;
-      faces = λ tells arc. lane-face (slice_get q.lanes.items arc) (pages.face q.paged arc) (pages.items_on q.paged told arc) (lanes arc) (paged.faces tells arc);
+      faces = λ tells arc. lane-face (slice_get q.lanes.items arc) (pages.face q.paged arc) (pages.paged_items_on q.paged told arc) (lanes arc) (paged.faces tells arc);
     }
 
 pub own-lane : (q : Queues) (told : Option Pages) (arc : ℕ) (lane : Lane) → Together q told → slice_get q.lanes.items arc ≡ Some lane → IsLane (Some lane) (pages.face q.paged arc)
 own-lane q told arc lane g was = subst (λ (o : Option Lane). IsLane o (pages.face q.paged arc)) was (g.lanes arc)
 
 -- the lane of one arc was written, and what stands in its pages changed with it
-pub written-together : (q : Queues) (told : Option Pages) (r : Queues) (now : Option Pages) (arc : ℕ) (lane new : Lane) → Together q told → pages.Together r.paged now → pages.size r.paged ≡ pages.size q.paged → arc < size q
+pub written-together : (q : Queues) (told : Option Pages) (r : Queues) (now : Option Pages) (arc : ℕ) (lane new : Lane) → Together q told → pages.PagedTogether r.paged now → pages.size r.paged ≡ pages.size q.paged → arc < size q
     → slice_get q.lanes.items arc ≡ Some lane → r.lanes.items ≡ set q.lanes.items arc new → ((other : ℕ) → other ≢ arc → pages.face r.paged other ≡ pages.face q.paged other)
     → (IsLane (Some lane) (pages.face q.paged arc) → IsLane (Some new) (pages.face r.paged arc)) → Together r now
 written-together q told r now arc lane new g paged sizes inside was lanes others own =
@@ -47,22 +47,22 @@ written-together q told r now arc lane new g paged sizes inside was lanes others
 
 -- the items of the arc whose lane was written, and of the others
 pub written-items : (q : Queues) (told : Option Pages) (r : Queues) (now : Option Pages) (arc : ℕ) (lane new : Lane) (more : List Item) → arc < size q → slice_get q.lanes.items arc ≡ Some lane → r.lanes.items ≡ set q.lanes.items arc new
-    → new.front.items ++ pages.items_on r.paged now arc ≡ (lane.front.items ++ pages.items_on q.paged told arc) ++ more → items_on r now arc ≡ items_on q told arc ++ more
+    → new.front.items ++ pages.paged_items_on r.paged now arc ≡ (lane.front.items ++ pages.paged_items_on q.paged told arc) ++ more → items_on r now arc ≡ items_on q told arc ++ more
 written-items q told r now arc lane new more inside was lanes own =
     let here : slice_get r.lanes.items arc ≡ Some new = ap (λ (ls : List Lane). slice_get ls arc) lanes ∙ slice_get-set_same q.lanes.items arc new inside in
-    ap (λ (o : Option Lane). front_at o ++ pages.items_on r.paged now arc) here ∙ own ∙ ap (λ (o : Option Lane). (front_at o ++ pages.items_on q.paged told arc) ++ more) (sym was)
+    ap (λ (o : Option Lane). front_at o ++ pages.paged_items_on r.paged now arc) here ∙ own ∙ ap (λ (o : Option Lane). (front_at o ++ pages.paged_items_on q.paged told arc) ++ more) (sym was)
 
-pub other-items : (q : Queues) (told : Option Pages) (r : Queues) (now : Option Pages) (arc other : ℕ) (new : Lane) → r.lanes.items ≡ set q.lanes.items arc new → other ≢ arc → pages.items_on r.paged now other ≡ pages.items_on q.paged told other
+pub other-items : (q : Queues) (told : Option Pages) (r : Queues) (now : Option Pages) (arc other : ℕ) (new : Lane) → r.lanes.items ≡ set q.lanes.items arc new → other ≢ arc → pages.paged_items_on r.paged now other ≡ pages.paged_items_on q.paged told other
     → items_on r now other ≡ items_on q told other
 other-items q told r now arc other new lanes differ same =
     let there : slice_get r.lanes.items other ≡ slice_get q.lanes.items other = ap (λ (ls : List Lane). slice_get ls other) lanes ∙ slice_get-set_other q.lanes.items arc other new differ in
-    ap (λ (o : Option Lane). front_at o ++ pages.items_on r.paged now other) there ∙ ap (λ (xs : List Item). front_at (slice_get q.lanes.items other) ++ xs) same
+    ap (λ (o : Option Lane). front_at o ++ pages.paged_items_on r.paged now other) there ∙ ap (λ (xs : List Item). front_at (slice_get q.lanes.items other) ++ xs) same
 
 -- where nothing of an arc is said to be in pages, nothing is
-pub none-paged : (q : Queues) (told : Option Pages) (arc : ℕ) (lane : Lane) → Together q told → Tells told → slice_get q.lanes.items arc ≡ Some lane → lane.behind ≡ None → pages.items_on q.paged told arc ≡ []
+pub none-paged : (q : Queues) (told : Option Pages) (arc : ℕ) (lane : Lane) → Together q told → Tells told → slice_get q.lanes.items arc ≡ Some lane → lane.behind ≡ None → pages.paged_items_on q.paged told arc ≡ []
 none-paged q told arc lane g tells was none =
     let own = own-lane q told arc lane g was in
-    none-behind (pages.face q.paged arc) (pages.items_on q.paged told arc) (g.paged.faces tells arc) (sym own.behind ∙ none)
+    none-behind (pages.face q.paged arc) (pages.paged_items_on q.paged told arc) (g.paged.faces tells arc) (sym own.behind ∙ none)
 
 -- ---- new queues
 
@@ -81,8 +81,8 @@ empty-lane lane paged e p =
       behind = e.behind ∙ sym (ap (λ (f : Face). f.first) p);
       runs = ap (λ (f : Face). f.ended) p;
       few = omega (arith, none);
-      sound = subst (λ (xs : List Item). AllByRecursion IsSound xs) (sym e.front) tt;
+      sound = subst (λ (xs : List Item). AllByRecursion IsSoundItem xs) (sym e.front) tt;
     }
 
-pub new-together : (q : Queues) (told : Option Pages) → pages.Together q.paged told → pages.size q.paged ≡ size q → ((arc : ℕ) → IsEmpty (slice_get q.lanes.items arc)) → ((arc : ℕ) → pages.face q.paged arc ≡ no_face) → Together q told
+pub new-together : (q : Queues) (told : Option Pages) → pages.PagedTogether q.paged told → pages.size q.paged ≡ size q → ((arc : ℕ) → IsEmpty (slice_get q.lanes.items arc)) → ((arc : ℕ) → pages.face q.paged arc ≡ no_face) → Together q told
 new-together q told paged arcs empty faces = together-by q told paged arcs (λ arc. empty-lane (slice_get q.lanes.items arc) (pages.face q.paged arc) (empty arc) (faces arc))

@@ -30,13 +30,13 @@ use Rattle.sq_tables.specs.declared.raw.RawBody.TheVariants.{Filter, Map, Union,
 use Rattle.sq_tables.specs.declared.raw.RawBox.{RawBox}
 use Rattle.sq_tables.specs.Places.{place_at}
 use Rattle.sq_tables.specs.Rawly.{◌>>=◌, or_broken}
-use Rattle.sq_tables.specs.Shapes.{ports_of}
-use Rattle.sq_reader.specs.Limits.{body_within, first_failing, has_between, is_between, is_expression_long}
+use Rattle.sq_tables.specs.Shapes.{port_count}
+use Rattle.sq_reader.specs.Limits.{told_body_within, first_failing, has_between, is_int_between, is_expression_long}
 use Rattle.sq_reader.specs.Windows.{has_window}
 use Rattle.sq_reader.specs.Streaming as wires
 use Rattle.sq_reader.specs.Expressions.{may_be_predicate, may_be_set, predicate_of, typed_in}
 use Rattle.sq_reader.specs.Functions.{funcs_from, group_from, kinds_answered}
-use Rattle.sq_reader.specs.Columns.{TypedBody, aggregate_of, bad_given, bad_name, body_of, bsort_of, filter_of, give_names, int_place, join_of, kinds_set, map_of, nat_of, node_in, node_of, place_if, resample_of, same_columns, set_names, set_texts, too_many, union_of, unless_schema, window_of}
+use Rattle.sq_reader.specs.Columns.{TypedBody, typed_aggregate, bad_given, bad_name, typed_body, bsort_of, filter_of, give_names, int_place, join_of, kinds_set, map_of, nat_of, node_in, node_of, place_if, typed_resample, same_columns, set_names, set_texts, too_many, union_of, unless_schema, window_read}
 use Rattle.sq_tables.proofs.ShapedLemmas.{first_step}
 use Rattle.sq_reader.proofs.StepLemmas.{found_as}
 use Rattle.sq_reader.proofs.ListLemmas.{and_both, and_parts, each_passes, is_at_most, none_failing}
@@ -52,9 +52,9 @@ use Rattle.sq_reader.proofs.WindowLemmas.{window_is}
 -- a box of the file, and what it was typed as on these columns
 pub record IsBodyOf (raw : RawBody) (ins : List Columns) (t : TypedBody) : Type 0 where
   pub typed : IsTypedBody ins t.0 t.1
-  pub kind : wires.kind_of_body raw ≡ kind_of_body t.0
-  pub ports : ports_of raw ≡ length t.1
-  pub within : body_within raw ≡ true → sound.body_within t.0 ≡ true
+  pub kind : wires.kind_of_told_body raw ≡ kind_of_body t.0
+  pub ports : port_count raw ≡ length t.1
+  pub within : told_body_within raw ≡ true → sound.body_within t.0 ≡ true
   pub window : has_window raw ≡ true → HasWindow t.0
 
 filter_is : (n : ℕ) (preds : List (List ℕ)) (ins : List Columns) (t : TypedBody) → filter_of n preds (first_columns ins) ≡ Ok t → IsBodyOf (Filter preds) ins t
@@ -89,7 +89,7 @@ kinds_count cs set es each count =
     ∙ (ap (λ (os : List (Option Kind)). length os) (sym (kinds_are_set cs es each)) ∙ (length-map es (λ (e : Checked). kind_in e.scope e.tree) ∙ (count ∙ length-map set (λ e. e.text))))
 
 -- names that are good, and the kinds of the expressions, are a schema
-pub map_schema : (n : ℕ) (cs : Columns) (set : List Setting) (es : List Checked) → body_within (Map set) ≡ true → bad_name [] (set_names set) ≡ None
+pub map_schema : (n : ℕ) (cs : Columns) (set : List Setting) (es : List Checked) → told_body_within (Map set) ≡ true → bad_name [] (set_names set) ≡ None
     → typed_in n may_be_set cs (set_texts set) ≡ Ok es → schema_error (set_names set) (kinds_set es) ≡ None
 map_schema n cs set es within good typed =
     let limits = settings_of set within in
@@ -183,10 +183,10 @@ bsort_is n by slack ins t h =
     subst P same built
 
 aggregate_is : (n : ℕ) (size advance phase : ℤ) (group : List (List ℕ)) (give : List AnswerColumn) (ins : List Columns) (t : TypedBody)
-    → aggregate_of n (window_of size advance phase) group give (first_columns ins) ≡ Ok t → IsBodyOf (Aggregate size advance phase group give) ins t
+    → typed_aggregate n (window_read size advance phase) group give (first_columns ins) ≡ Ok t → IsBodyOf (Aggregate size advance phase group give) ins t
 aggregate_is n size advance phase group give ins t h =
     let cs : Columns = first_columns ins in
-    let window : WindowSpec = window_of size advance phase in
+    let window : WindowSpec = window_read size advance phase in
     let zero_step = unless_none n (bad_given group (give_names give)) (funcs_from n 0 cs give >>= λ fs. group_from n 0 cs [] group >>= λ ps.
     Ok (body.Aggregate fs ps window, (columns_at cs ps ++ zip (give_names give) (kinds_answered cs fs)) ∷ [])) t h in
     let one = first_step (funcs_from n 0 cs give) (λ fs. group_from n 0 cs [] group >>= λ ps.
@@ -236,7 +236,7 @@ join_is n size on ins t h =
       typed = (predicate_is n cs on one.0 one.1.0, refl, is_at_most (length cs) 16 (few_enough (length cs) zero_step.0));
       kind = refl;
       ports = refl;
-      within = λ w. (let parts = and_parts (is_between 0 (2 ^ 32) size) (is_expression_long on) w in
+      within = λ w. (let parts = and_parts (is_int_between 0 (2 ^ 32) size) (is_expression_long on) w in
           let low = and_parts (nat_le 0 (nat_of size)) (nat_le (nat_of size) (2 ^ 32)) (number_within 0 (2 ^ 32) size parts.0) in low.1);
       window = λ w. tt;
     } in
@@ -244,7 +244,7 @@ join_is n size on ins t h =
     let P : TypedBody → Type 0 = IsBodyOf (Join size on) ins in
     subst P same built
 
-resample_is : (n : ℕ) (size : ℤ) (give : List AnswerColumn) (ins : List Columns) (t : TypedBody) → resample_of n (nat_of size) give ins ≡ Ok t → IsBodyOf (Resample size give) ins t
+resample_is : (n : ℕ) (size : ℤ) (give : List AnswerColumn) (ins : List Columns) (t : TypedBody) → typed_resample n (nat_of size) give ins ≡ Ok t → IsBodyOf (Resample size give) ins t
 resample_is n size give ins t h =
     let left : Columns = left_columns ins in
     let right : Columns = second_columns ins in
@@ -271,7 +271,7 @@ resample_is n size give ins t h =
       );
       kind = refl;
       ports = refl;
-      within = λ w. (let parts = and_parts (is_between 0 (2 ^ 32) size) (has_between 1 16 give) w in
+      within = λ w. (let parts = and_parts (is_int_between 0 (2 ^ 32) size) (has_between 1 16 give) w in
           let low = and_parts (nat_le 0 (nat_of size)) (nat_le (nat_of size) (2 ^ 32)) (number_within 0 (2 ^ 32) size parts.0) in
           and_both (nat_le (nat_of size) (2 ^ 32)) (sound.is_between 1 16 (length one.0)) low.1 (rw count parts.1));
       window = λ w. tt;
@@ -280,7 +280,7 @@ resample_is n size give ins t h =
     let P : TypedBody → Type 0 = IsBodyOf (Resample size give) ins in
     subst P same built
 
-pub body_is : (n : ℕ) (raw : RawBody) (ins : List Columns) (t : TypedBody) → body_of n raw ins ≡ Ok t → IsBodyOf raw ins t
+pub body_is : (n : ℕ) (raw : RawBody) (ins : List Columns) (t : TypedBody) → typed_body n raw ins ≡ Ok t → IsBodyOf raw ins t
 body_is n (Filter preds) ins t h = filter_is n preds ins t h
 body_is n (Map set) ins t h = map_is n set ins t h
 body_is n Union ins t h = union_is n ins t h
@@ -297,7 +297,7 @@ pub record IsNodeOf (raw : RawBox) (ins : List Columns) (b : Node) : Type 0 wher
 
 pub node_is : (n : ℕ) (raw : RawBox) (ins : List Columns) (b : Node) → node_in n raw ins ≡ Ok b → IsNodeOf raw ins b
 node_is n raw ins b h =
-    let one = first_step (body_of n raw.body ins) (λ t. Ok (node_of raw t)) b h in
+    let one = first_step (typed_body n raw.body ins) (λ t. Ok (node_of raw t)) b h in
     let same : node_of raw one.0 ≡ b = (let last = one.1.1 in cc) in
     let P : Node → Type 0 = IsNodeOf raw ins in
     subst P same (record { body = body_is n raw.body ins one.0 one.1.0; cost = refl; selectivity = refl })

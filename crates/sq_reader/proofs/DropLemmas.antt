@@ -14,7 +14,7 @@ use Rattle.sq_net.specs.declared.Part.TheVariants as part
 use Rattle.sq_net.specs.declared.Place.{Place}
 use Rattle.sq_points.specs.Points.{points_of}
 use Rattle.sq_points.specs.Limits.{KeepsDropLimits}
-use Rattle.sq_tables.specs.Places.{place_of}
+use Rattle.sq_tables.specs.Places.{part_place}
 use Rattle.sq_reader.specs.Drops.{drop_place, is_drop_within}
 use Rattle.sq_reader.specs.Networks.{limited_network, unless_at}
 
@@ -32,22 +32,22 @@ wide_from d [] k h = absurd h
 wide_from d (p ∷ ps) k (inl (same, short, wide)) = rw (short, wide) (ap Some (sym same))
 wide_from d (p ∷ ps) k (inr (fine, more)) = rw (fine.0, fine.1) (wide_from (d + 1) ps k more)
 
-at_place : (n : Network) (o : Option ℕ) → position_from (λ p. not (is_drop_within p)) 0 (points_of n) ≡ o → drop_place n ≡ option_map (place_of part.Drop) o
-at_place n o e = ap (option_map (place_of part.Drop)) (position_from-zero (λ p. not (is_drop_within p)) (points_of n) ∙ e)
+at_place : (n : Network) (o : Option ℕ) → position_from (λ p. not (is_drop_within p)) 0 (points_of n) ≡ o → drop_place n ≡ option_map (part_place part.Drop) o
+at_place n o e = ap (option_map (part_place part.Drop)) (position_from-zero (λ p. not (is_drop_within p)) (points_of n) ∙ e)
 
 -- where all drop points keep the limits the network is accepted
 pub limits_kept : (n : Network) → KeepsDropLimits n → limited_network n ≡ Ok n
 limits_kept n keeps =
     ap (λ o. unless_at broken.Limit o (Ok n)) (at_place n None (none_from 0 (points_of n) (recursion_from_All IsFine (points_of n) keeps)))
 
-refused_at : (n : Network) (k : ℕ) → position_from (λ p. not (is_drop_within p)) 0 (points_of n) ≡ Some k → limited_network n ≡ Err (broken.Limit (place_of part.Drop k))
+refused_at : (n : Network) (k : ℕ) → position_from (λ p. not (is_drop_within p)) 0 (points_of n) ≡ Some k → limited_network n ≡ Err (broken.Limit (part_place part.Drop k))
 refused_at n k e = ap (λ o. unless_at broken.Limit o (Ok n)) (at_place n (Some k) e)
 
 -- and else the first that doesn't is told
-pub long_refused : (n : Network) (k : ℕ) → Names 0 (points_of n) (error.LongBatch k) → limited_network n ≡ Err (broken.Limit (place_of part.Drop k))
+pub long_refused : (n : Network) (k : ℕ) → Names 0 (points_of n) (error.LongBatch k) → limited_network n ≡ Err (broken.Limit (part_place part.Drop k))
 long_refused n k h = refused_at n k (long_from 0 (points_of n) k h)
 
-pub wide_refused : (n : Network) (k : ℕ) → Names 0 (points_of n) (error.WideExtent k) → limited_network n ≡ Err (broken.Limit (place_of part.Drop k))
+pub wide_refused : (n : Network) (k : ℕ) → Names 0 (points_of n) (error.WideExtent k) → limited_network n ≡ Err (broken.Limit (part_place part.Drop k))
 wide_refused n k h = refused_at n k (wide_from 0 (points_of n) k h)
 
 -- a network that is accepted is the one whose drop points were looked at

@@ -14,16 +14,16 @@ use Rattle.sq_tables.specs.declared.raw.RawBody.TheVariants.{Filter, Map, Union,
 use Rattle.sq_tables.specs.declared.raw.RawBox.{RawBox}
 use Rattle.sq_tables.specs.declared.raw.RawOutput.{RawOutput}
 use Rattle.sq_tables.specs.declared.raw.Raw.{Raw}
-use Rattle.sq_tables.specs.Places.{or_else, place_of}
+use Rattle.sq_tables.specs.Places.{or_else, part_place}
 use Rattle.sq_reader.specs.Limits as limits
-use Rattle.sq_reader.specs.Limits.{body_within, box_within, first_failing, has_between, inputs_within, is_between, is_expression_long, limit_place, output_within, source_within, top_within}
-use Rattle.sq_tables.specs.Shapes.{ports_of}
+use Rattle.sq_reader.specs.Limits.{told_body_within, box_within, first_failing, has_between, inputs_within, is_int_between, is_expression_long, limit_place, told_output_within, told_source_within, top_within}
+use Rattle.sq_tables.specs.Shapes.{port_count}
 use Rattle.sq_graph.specs.declared.BoxKind.{BoxKind}
 use Rattle.sq_graph.specs.declared.BoxKind.TheVariants as boxes
 use Rattle.sq_net.specs.Sound as sound
 use Rattle.sq_net.specs.Sound.{takes_within}
 use Rattle.sq_reader.specs.Columns.{give_names, nat_of, set_names, set_texts}
-use Rattle.sq_reader.specs.Streaming.{kind_of_body}
+use Rattle.sq_reader.specs.Streaming.{kind_of_told_body}
 use Rattle.sq_reader.proofs.ListLemmas.{and_parts, none_failing, nothing_mapped}
 
 pub neither : {A : Type 0} (a b : Option A) → or_else a b ≡ None → (a ≡ None) × (b ≡ None)
@@ -38,31 +38,31 @@ some low high xs h = grind (arith, nat_tests)
 
 pub record IsWithin (r : Raw) : Type 0 where
   pub top : top_within r ≡ true
-  pub sources : list_all limits.source_within r.sources ≡ true
+  pub sources : list_all limits.told_source_within r.sources ≡ true
   pub boxes : list_all box_within r.boxes ≡ true
-  pub outputs : list_all output_within r.outputs ≡ true
+  pub outputs : list_all told_output_within r.outputs ≡ true
 
 pub is_within : (r : Raw) → limit_place r ≡ None → IsWithin r
 is_within r h = by_test (top_within r) refl h
   where
     wide_source : Option Place
-    wide_source = option_map (place_of part.Source) (first_failing limits.source_within r.sources)
+    wide_source = option_map (part_place part.Source) (first_failing limits.told_source_within r.sources)
 
     wide_box : Option Place
-    wide_box = option_map (place_of part.Box) (first_failing box_within r.boxes)
+    wide_box = option_map (part_place part.Box) (first_failing box_within r.boxes)
 
     wide_output : Option Place
-    wide_output = option_map (place_of part.Output) (first_failing output_within r.outputs)
+    wide_output = option_map (part_place part.Output) (first_failing told_output_within r.outputs)
 
-    by_test : (b : Bool) → top_within r ≡ b → cond b (or_else wide_source (or_else wide_box wide_output)) (Some (place_of part.Top 0)) ≡ None → IsWithin r
+    by_test : (b : Bool) → top_within r ≡ b → cond b (or_else wide_source (or_else wide_box wide_output)) (Some (part_place part.Top 0)) ≡ None → IsWithin r
     by_test true is e =
         let parts = neither wide_source (or_else wide_box wide_output) e in
         let more = neither wide_box wide_output parts.1 in
         record {
           top = is;
-          sources = none_failing limits.source_within r.sources (nothing_mapped (place_of part.Source) (first_failing limits.source_within r.sources) parts.0);
-          boxes = none_failing box_within r.boxes (nothing_mapped (place_of part.Box) (first_failing box_within r.boxes) more.0);
-          outputs = none_failing output_within r.outputs (nothing_mapped (place_of part.Output) (first_failing output_within r.outputs) more.1);
+          sources = none_failing limits.told_source_within r.sources (nothing_mapped (part_place part.Source) (first_failing limits.told_source_within r.sources) parts.0);
+          boxes = none_failing box_within r.boxes (nothing_mapped (part_place part.Box) (first_failing box_within r.boxes) more.0);
+          outputs = none_failing told_output_within r.outputs (nothing_mapped (part_place part.Output) (first_failing told_output_within r.outputs) more.1);
         }
     by_test false is e = cc
 
@@ -71,9 +71,9 @@ pub record Counts (r : Raw) : Type 0 where
   pub sources : length r.sources ≤ 8
   pub boxes : length r.boxes ≤ 128
   pub outputs : length r.outputs ≤ 32
-  pub each_source : list_all source_within r.sources ≡ true
+  pub each_source : list_all told_source_within r.sources ≡ true
   pub each_box : list_all box_within r.boxes ≡ true
-  pub each_output : list_all output_within r.outputs ≡ true
+  pub each_output : list_all told_output_within r.outputs ≡ true
 
 pub counts_of : (r : Raw) → limit_place r ≡ None → Counts r
 counts_of r h =
@@ -91,7 +91,7 @@ counts_of r h =
       each_output = w.outputs;
     }
 
-pub number_within : (low high : ℕ) (z : ℤ) → is_between low high z ≡ true → sound.is_between low high (nat_of z) ≡ true
+pub number_within : (low high : ℕ) (z : ℤ) → is_int_between low high z ≡ true → sound.is_between low high (nat_of z) ≡ true
 number_within low high (pos n) h = h
 number_within low high (negsuc n) h = cc
 
@@ -101,12 +101,12 @@ pub record OutputWithin (o : RawOutput) : Type 0 where
   pub light : nat_of o.weight ≤ 1000
   pub few : length o.graph ≤ 1000
 
-pub output_of : (o : RawOutput) → output_within o ≡ true → OutputWithin o
+pub output_of : (o : RawOutput) → told_output_within o ≡ true → OutputWithin o
 output_of o h =
-    let parts = and_parts (is_between 0 1000 o.weight) (has_between 0 1000 o.graph) h in
+    let parts = and_parts (is_int_between 0 1000 o.weight) (has_between 0 1000 o.graph) h in
     record { light = number_few o.weight parts.0; few = few 0 1000 o.graph parts.1 }
   where
-    number_few : (z : ℤ) → is_between 0 1000 z ≡ true → nat_of z ≤ 1000
+    number_few : (z : ℤ) → is_int_between 0 1000 z ≡ true → nat_of z ≤ 1000
     number_few (pos n) h = grind (arith, nat_tests)
     number_few (negsuc n) h = omega arith
 
@@ -117,7 +117,7 @@ pub record FieldsWithin (s : RawSource) : Type 0 where
   pub some : 1 ≤ length s.fields
   pub few : length s.fields ≤ 16
 
-pub fields_of : (s : RawSource) → source_within s ≡ true → FieldsWithin s
+pub fields_of : (s : RawSource) → told_source_within s ≡ true → FieldsWithin s
 fields_of s h =
     let parts = and_parts (has_between 1 255 s.file) (has_between 1 16 s.fields) h in
     record { some = some 1 16 s.fields parts.1; few = few 1 16 s.fields parts.1 }
@@ -126,7 +126,7 @@ pub record PredicatesWithin (preds : List (List ℕ)) : Type 0 where
   pub few : length preds ≤ 15
   pub long : list_all is_expression_long preds ≡ true
 
-pub predicates_of : (preds : List (List ℕ)) → body_within (Filter preds) ≡ true → PredicatesWithin preds
+pub predicates_of : (preds : List (List ℕ)) → told_body_within (Filter preds) ≡ true → PredicatesWithin preds
 predicates_of preds h =
     let parts = and_parts (has_between 1 15 preds) (list_all is_expression_long preds) h in
     record { few = few 1 15 preds parts.0; long = parts.1 }
@@ -142,7 +142,7 @@ pub record SettingsWithin (set : List Setting) : Type 0 where
   pub names : length (set_names set) ≡ length set
   pub texts : length (set_texts set) ≡ length set
 
-pub settings_of : (set : List Setting) → body_within (Map set) ≡ true → SettingsWithin set
+pub settings_of : (set : List Setting) → told_body_within (Map set) ≡ true → SettingsWithin set
 settings_of set h =
     let parts = and_parts (has_between 1 16 set) (list_all (λ e. is_expression_long e.text) set) h in
     record {
@@ -153,7 +153,7 @@ settings_of set h =
       texts = length-map set (λ e. e.text);
     }
 
-pub slack_of : (by : List ℕ) (slack : ℤ) → body_within (BSort by slack) ≡ true → nat_of slack ≤ 10000
+pub slack_of : (by : List ℕ) (slack : ℤ) → told_body_within (BSort by slack) ≡ true → nat_of slack ≤ 10000
 slack_of by (pos n) h = grind (arith, nat_tests)
 slack_of by (negsuc n) h = omega arith
 
@@ -162,7 +162,7 @@ pub record AnswerColumnsWithin (group : List (List ℕ)) (give : List AnswerColu
   pub some : 1 ≤ length give
   pub few : length give ≤ 16
 
-pub answer_columns_of : (size advance phase : ℤ) (group : List (List ℕ)) (give : List AnswerColumn) → body_within (Aggregate size advance phase group give) ≡ true → AnswerColumnsWithin group give
+pub answer_columns_of : (size advance phase : ℤ) (group : List (List ℕ)) (give : List AnswerColumn) → told_body_within (Aggregate size advance phase group give) ≡ true → AnswerColumnsWithin group give
 answer_columns_of size advance phase group give h =
     let parts = and_parts (has_between 0 16 group) (has_between 1 16 give) h in
     record { few_groups = few 0 16 group parts.0; some = some 1 16 give parts.1; few = few 1 16 give parts.1 }
@@ -184,10 +184,10 @@ takes_few boxes.Aggregate n h = grind (arith, nat_tests)
 takes_few boxes.Join n h = grind (arith, nat_tests)
 takes_few boxes.Resample n h = grind (arith, nat_tests)
 
-pub takes_of : (b : RawBody) (n : ℕ) → takes_within (kind_of_body b) n ≡ true → TakesWithin n
-takes_of b n h = takes_few (kind_of_body b) n h
+pub takes_of : (b : RawBody) (n : ℕ) → takes_within (kind_of_told_body b) n ≡ true → TakesWithin n
+takes_of b n h = takes_few (kind_of_told_body b) n h
 
-pub ports_few : (b : RawBody) → body_within b ≡ true → ports_of b ≤ 16
+pub ports_few : (b : RawBody) → told_body_within b ≡ true → port_count b ≤ 16
 ports_few (Filter preds) h = let low = (predicates_of preds h).few in omega (arith, low)
 ports_few (Map set) h = omega arith
 ports_few Union h = omega arith
@@ -197,15 +197,15 @@ ports_few (Join size on) h = omega arith
 ports_few (Resample size give) h = omega arith
 
 pub record BoxWithin (b : RawBox) : Type 0 where
-  pub body : body_within b.body ≡ true
+  pub body : told_body_within b.body ≡ true
   pub some : 1 ≤ length b.ins
   pub few : length b.ins ≤ 8
 
 pub box_of : (b : RawBox) → box_within b ≡ true → BoxWithin b
 box_of b h =
-    let front = and_parts (body_within b.body && inputs_within b.body b.ins && is_between 0 1000 b.cost) (list_all (is_between 0 1000000) b.selectivity) h in
-    let middle = and_parts (body_within b.body && inputs_within b.body b.ins) (is_between 0 1000 b.cost) front.0 in
-    let parts = and_parts (body_within b.body) (inputs_within b.body b.ins) middle.0 in
+    let front = and_parts (told_body_within b.body && inputs_within b.body b.ins && is_int_between 0 1000 b.cost) (list_all (is_int_between 0 1000000) b.selectivity) h in
+    let middle = and_parts (told_body_within b.body && inputs_within b.body b.ins) (is_int_between 0 1000 b.cost) front.0 in
+    let parts = and_parts (told_body_within b.body) (inputs_within b.body b.ins) middle.0 in
     record { body = parts.0; some = (inputs b.body parts.1).0; few = (inputs b.body parts.1).1 }
   where
     inputs : (raw : RawBody) → inputs_within raw b.ins ≡ true → (1 ≤ length b.ins) × (length b.ins ≤ 8)

@@ -19,22 +19,22 @@ use Rattle.sq_net.specs.declared.NetErr.{NetErr}
 use Rattle.sq_net.specs.Streams.{columns_of_port}
 use Rattle.sq_tables.specs.declared.raw.RawBox.{RawBox}
 use Rattle.sq_tables.specs.declared.raw.Raw.{Raw}
-use Rattle.sq_tables.specs.Refusals.{Answers}
-use Rattle.sq_reader.specs.Columns.{columns_known, columns_taken, node_at, node_in, node_known, node_of_box, nodes_from}
+use Rattle.sq_tables.specs.Refusals.{IsAnswerOf}
+use Rattle.sq_reader.specs.Columns.{columns_known, columns_taken, typed_node, node_in, node_known, node_of_box, nodes_from}
 use Rattle.sq_reader.proofs.ListLemmas.{and_parts, get_set, get_set_other}
 use Rattle.sq_tables.proofs.ShapedLemmas.{first_step}
 
 -- a box by its number, on what it takes
 pub node_from : (r : Raw) (w : Wiring) (ss : List declared.Source) (nodes : List (Option Node)) (at : ℕ) (b : RawBox) (x : BoxWires) (ins : List Columns) (answer : Result Node NetErr)
-    → slice_get r.boxes at ≡ Some b → slice_get w.boxes at ≡ Some x → ins ≡ columns_taken w ss nodes x.inputs → Answers answer (node_in at b ins) → Answers answer (node_at r w ss nodes at)
+    → slice_get r.boxes at ≡ Some b → slice_get w.boxes at ≡ Some x → ins ≡ columns_taken w ss nodes x.inputs → IsAnswerOf answer (node_in at b ins) → IsAnswerOf answer (typed_node r w ss nodes at)
 node_from r w ss nodes at b x ins answer here wired same h =
-    let is : node_at r w ss nodes at ≡ node_in at b ins =
+    let is : typed_node r w ss nodes at ≡ node_in at b ins =
     ap (λ (o : Option RawBox). node_of_box at o (columns_taken w ss nodes (inputs_of w at))) here
     ∙ (ap (λ (o : Option BoxWires). node_in at b (columns_taken w ss nodes (inputs_at o))) wired ∙ ap (λ (cs : List Columns). node_in at b cs) (sym same)) in
-    subst (λ (said : Result Node NetErr). Answers answer said) (sym is) h
+    subst (λ (said : Result Node NetErr). IsAnswerOf answer said) (sym is) h
 
 pub nodes_more : (r : Raw) (w : Wiring) (ss : List declared.Source) (nodes : List (Option Node)) (at : ℕ) (ats rest : List ℕ) (node : Node)
-    → node_at r w ss nodes at ≡ Ok node → ats ≡ at ∷ rest → nodes_from r w ss (set nodes at (Some node)) rest ≡ nodes_from r w ss nodes ats
+    → typed_node r w ss nodes at ≡ Ok node → ats ≡ at ∷ rest → nodes_from r w ss (set nodes at (Some node)) rest ≡ nodes_from r w ss nodes ats
 nodes_more r w ss nodes at ats rest node typed is = rw (is, typed) refl
 
 -- each of these boxes can be next after those in front of it
@@ -80,7 +80,7 @@ same_taken w ss front nodes later kept (s ∷ ins) g =
 pub record IsSettled (r : Raw) (w : Wiring) (ss : List declared.Source) (nodes : List (Option Node)) (at : ℕ) : Type 0 where
   pub node : Node
   pub there : slice_get nodes at ≡ Some (Some node)
-  pub typed : node_at r w ss nodes at ≡ Ok node
+  pub typed : typed_node r w ss nodes at ≡ Ok node
 
 pub record AreSettled (r : Raw) (w : Wiring) (ss : List declared.Source) (front : List ℕ) (nodes : List (Option Node)) (ats : List ℕ) (later : List (Option Node)) : Type 0 where
   pub kept : AreKept front nodes later
@@ -100,7 +100,7 @@ settled r w ss front nodes [] later follow count h =
     let P : List (Option Node) → Type 0 = AreSettled r w ss front nodes [] in
     subst P same (record { kept = λ b g. refl; count = refl; each = λ at g. cc })
 settled r w ss front nodes (at ∷ ats) later follow count h =
-    let one = first_step (node_at r w ss nodes at) (λ node. nodes_from r w ss (set nodes at (Some node)) ats) later h in
+    let one = first_step (typed_node r w ss nodes at) (λ node. nodes_from r w ss (set nodes at (Some node)) ats) later h in
     let put : List (Option Node) = set nodes at (Some one.0) in
     let long : length put ≡ length w.boxes = length-set nodes at (Some one.0) ∙ count in
     let rest : AreSettled r w ss (front ++ at ∷ []) put ats later = settled r w ss (front ++ at ∷ []) put ats later follow.1.1 long one.1.1 in

@@ -8,7 +8,7 @@ use Rattle.std.proofs.lemmas.List.{drop_all}
 use Rattle.std.proofs.lemmas.Map.Text.{is_eq-slice_cmp}
 use Rattle.sq_value.specs.Lists.{same_bytes}
 use Rattle.sq_tables.specs.Places.{or_else}
-use Rattle.sq_reader.specs.Streaming.{Numbers, also_numbered, number_in, stream_named}
+use Rattle.sq_reader.specs.Streaming.{Numbers, also_numbered, number_named, told_stream_named}
 use Rattle.sq_reader.proofs.DistinctLemmas.{same_text}
 use Rattle.sq_tables.proofs.ShapedLemmas.{drop-at}
 
@@ -16,18 +16,18 @@ alone : (o : Option ℕ) → o ≡ or_else o None
 alone None = refl
 alone (Some n) = refl
 
-number_push : (es : List (Bor (List ℕ) × ℕ)) (key : Bor (List ℕ)) (n : ℕ) (w : List ℕ) → number_in (es ++ (key, n) ∷ []) w ≡ or_else (number_in es w) (number_in ((key, n) ∷ []) w)
+number_push : (es : List (Bor (List ℕ) × ℕ)) (key : Bor (List ℕ)) (n : ℕ) (w : List ℕ) → number_named (es ++ (key, n) ∷ []) w ≡ or_else (number_named es w) (number_named ((key, n) ∷ []) w)
 number_push [] key n w = refl
 number_push (e ∷ es) key n w = by_test (bytes_eq w (e.0).now) (number_push es key n w)
   where
-    by_test : (b : Bool) → number_in (es ++ (key, n) ∷ []) w ≡ or_else (number_in es w) (number_in ((key, n) ∷ []) w)
-        → cond b (Some e.1) (number_in (es ++ (key, n) ∷ []) w) ≡ or_else (cond b (Some e.1) (number_in es w)) (number_in ((key, n) ∷ []) w)
+    by_test : (b : Bool) → number_named (es ++ (key, n) ∷ []) w ≡ or_else (number_named es w) (number_named ((key, n) ∷ []) w)
+        → cond b (Some e.1) (number_named (es ++ (key, n) ∷ []) w) ≡ or_else (cond b (Some e.1) (number_named es w)) (number_named ((key, n) ∷ []) w)
     by_test true more = refl
     by_test false more = more
 
 -- a text more
-pub number_new : (es : List (Bor (List ℕ) × ℕ)) (key : Bor (List ℕ)) (n : ℕ) (w : List ℕ) → number_in (es ++ (key, n) ∷ []) w ≡ also_numbered (number_in es) key.now n w
-number_new es key n w = number_push es key n w ∙ ap (λ (b : Bool). or_else (number_in es w) (cond b (Some n) None)) (sym (is_eq-slice_cmp w key.now))
+pub number_new : (es : List (Bor (List ℕ) × ℕ)) (key : Bor (List ℕ)) (n : ℕ) (w : List ℕ) → number_named (es ++ (key, n) ∷ []) w ≡ also_numbered (number_named es) key.now n w
+number_new es key n w = number_push es key n w ∙ ap (λ (b : Bool). or_else (number_named es w) (cond b (Some n) None)) (sym (is_eq-slice_cmp w key.now))
 
 -- a text that has a number keeps it
 pub number_old : (number_of : Numbers) (x : List ℕ) (n : ℕ) (w : List ℕ) → is_some (number_of x) ≡ true → number_of w ≡ also_numbered number_of x n w
@@ -57,6 +57,6 @@ numbers_more old new names i x low is step w =
     first None true more = refl
     first None false more = refl
 
-pub numbers_all : (number_of : Numbers) (names : List (List ℕ)) (i : ℕ) → length names ≤ i → ((w : List ℕ) → numbered number_of names i w ≡ stream_named names w) → number_of ≡ stream_named names
+pub numbers_all : (number_of : Numbers) (names : List (List ℕ)) (i : ℕ) → length names ≤ i → ((w : List ℕ) → numbered number_of names i w ≡ told_stream_named names w) → number_of ≡ told_stream_named names
 numbers_all number_of names i all h =
     fun_ext (λ w. alone (number_of w) ∙ (ap (λ (ns : List (List ℕ)). or_else (number_of w) (position_from (same_bytes w) i ns)) (sym (drop_all i names all)) ∙ h w))

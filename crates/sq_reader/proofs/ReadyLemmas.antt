@@ -20,8 +20,8 @@ use Rattle.sq_net.specs.Streams.{columns_of_port}
 use Rattle.sq_tables.specs.declared.raw.RawBox.{RawBox}
 use Rattle.sq_tables.specs.declared.raw.Raw.{Raw}
 use Rattle.sq_reader.specs.Limits.{limit_place}
-use Rattle.sq_reader.specs.Streaming.{box_wires, kind_of_body, stream_named, stream_names, unknown_place, wiring_of}
-use Rattle.sq_reader.specs.Columns.{columns_known, columns_taken, no_nodes, node_at, node_known, node_of_box}
+use Rattle.sq_reader.specs.Streaming.{box_wires, kind_of_told_body, told_stream_named, told_stream_names, unknown_place, wiring_of}
+use Rattle.sq_reader.specs.Columns.{columns_known, columns_taken, no_nodes, typed_node, node_known, node_of_box}
 use Rattle.sq_reader.proofs.ListLemmas.{and_parts, get_set, get_set_other, passes_at}
 use Rattle.sq_reader.proofs.LimitLemmas.{counts_of}
 use Rattle.sq_reader.proofs.WiringLemmas.{wired_at}
@@ -83,11 +83,11 @@ taken_all w ss front nodes count typed (s ∷ ins) given =
 -- a box that can be next takes as many streams as its kind does
 pub ready_takes : (r : Raw) (w : Wiring) (ss : List declared.Source) (nodes : List (Option Node)) (at : ℕ) (ats : List ℕ) → limit_place r ≡ None → unknown_place r ≡ None
     → w ≡ wiring_of r → length ss ≡ length r.sources → AreReady w nodes (at ∷ ats)
-    → (b : RawBox) → slice_get r.boxes at ≡ Some b → takes_within (kind_of_body b.body) (length (columns_taken w ss nodes (inputs_of w at))) ≡ true
+    → (b : RawBox) → slice_get r.boxes at ≡ Some b → takes_within (kind_of_told_body b.body) (length (columns_taken w ss nodes (inputs_of w at))) ≡ true
 ready_takes r w ss nodes at ats h known same count ready b there =
-    let x : BoxWires = box_wires (stream_named (stream_names r)) b in
+    let x : BoxWires = box_wires (told_stream_named (told_stream_names r)) b in
     let wired : slice_get w.boxes at ≡ Some x = ap (λ (v : Wiring). slice_get v.boxes at) same ∙ wired_at r at b there in
-    let takes = takes_all (stream_named (stream_names r)) r known (counts_of r h).each_box in
+    let takes = takes_all (told_stream_named (told_stream_names r)) r known (counts_of r h).each_box in
     let fits : takes_within x.kind (length x.inputs) ≡ true = passes_at (λ (b : BoxWires). takes_within b.kind (length b.inputs)) (wiring_of r).boxes at x takes (wired_at r at b there) in
     let ins : inputs_of w at ≡ x.inputs = ap inputs_at wired in
     let tests = and_parts (not (contains_number ready.front at)) (list_all (λ s. is_given ready.front (producer_of w s)) (inputs_of w at)) ready.follow.1.0 in
@@ -104,7 +104,7 @@ other_number : (a b : ℕ) → (a == b) ≡ false → b ≡ a → ⊥
 other_number a b h e = grind (arith, nat_tests)
 
 -- a box that is typed has columns for each of its ports
-node_ports : (r : Raw) (w : Wiring) (ss : List declared.Source) (nodes : List (Option Node)) (at : ℕ) (node : Node) (x : BoxWires) → w ≡ wiring_of r → node_at r w ss nodes at ≡ Ok node
+node_ports : (r : Raw) (w : Wiring) (ss : List declared.Source) (nodes : List (Option Node)) (at : ℕ) (node : Node) (x : BoxWires) → w ≡ wiring_of r → typed_node r w ss nodes at ≡ Ok node
     → slice_get w.boxes at ≡ Some x → length node.schemas ≡ x.ports
 node_ports r w ss nodes at node x same h wired = by_box (slice_get r.boxes at) refl h
   where
@@ -113,11 +113,11 @@ node_ports r w ss nodes at node x same h wired = by_box (slice_get r.boxes at) r
     by_box (Some raw) there e =
         let is = node_is at raw (columns_taken w ss nodes (inputs_of w at)) node e in
         let mine : slice_get (wiring_of r).boxes at ≡ Some x = ap (λ (v : Wiring). slice_get v.boxes at) (sym same) ∙ wired in
-        let found : box_wires (stream_named (stream_names r)) raw ≡ x = (let its = wired_at r at raw there in cc) in
+        let found : box_wires (told_stream_named (told_stream_names r)) raw ≡ x = (let its = wired_at r at raw there in cc) in
         sym is.body.ports ∙ ap (λ (y : BoxWires). y.ports) found
 
 pub ready_next : (r : Raw) (w : Wiring) (ss : List declared.Source) (nodes : List (Option Node)) (at : ℕ) (ats : List ℕ) (node : Node) → w ≡ wiring_of r → AreReady w nodes (at ∷ ats)
-    → node_at r w ss nodes at ≡ Ok node → AreReady w (set nodes at (Some node)) ats
+    → typed_node r w ss nodes at ≡ Ok node → AreReady w (set nodes at (Some node)) ats
 ready_next r w ss nodes at ats node of_file ready h = record {
   front = ready.front ++ at ∷ [];
   follow = ready.follow.1.1;

@@ -17,7 +17,7 @@ use Rattle.sq_net.specs.declared.NetErr.TheVariants as broken
 use Rattle.sq_net.specs.declared.Part.TheVariants as part
 use Rattle.sq_tables.specs.declared.raw.AnswerColumn.{AnswerColumn}
 use Rattle.sq_tables.specs.Places.{place_at}
-use Rattle.sq_reader.specs.Columns.{bad_given, give_names, resample_of}
+use Rattle.sq_reader.specs.Columns.{bad_given, give_names, typed_resample}
 use Rattle.sq_reader.specs.Functions.{funcs_from, kinds_answered}
 use Rattle.sq_reader.proofs.ColumnLemmas.{zip_both}
 use Rattle.sq_reader.proofs.DistinctLemmas.{distinct_both, new_distinct, new_out}
@@ -62,17 +62,17 @@ as_left left given = ap (λ (ws : List (List ℕ)). bad_given ws given) (prefixe
 
 -- what is given breaks a rule on names
 pub names_at_fault : (n : ℕ) (size : ℕ) (give : List AnswerColumn) (ins : List Columns) (i : ℕ) → bad_given (left_names (names_of (first_columns ins))) (give_names give) ≡ Some i
-    → resample_of n size give ins ≡ Err (broken.Schema (place_at part.Box n i))
+    → typed_resample n size give ins ≡ Err (broken.Schema (place_at part.Box n i))
 names_at_fault n size give ins i bad = rw (sym (as_left (first_columns ins) (give_names give)) ∙ bad) refl
 
 -- a function is at fault
 pub funcs_at_fault : (n : ℕ) (size : ℕ) (give : List AnswerColumn) (ins : List Columns) (e : NetErr) → bad_given (left_names (names_of (first_columns ins))) (give_names give) ≡ None
-    → funcs_from n 0 (second_columns ins) give ≡ Err e → resample_of n size give ins ≡ Err e
+    → funcs_from n 0 (second_columns ins) give ≡ Err e → typed_resample n size give ins ≡ Err e
 funcs_at_fault n size give ins e good funcs = rw (sym (as_left (first_columns ins) (give_names give)) ∙ good, funcs) refl
 
 pub resampled : (n : ℕ) (size : ℕ) (give : List AnswerColumn) (ins : List Columns) (fs : List Func) → bad_given (left_names (names_of (first_columns ins))) (give_names give) ≡ None
     → funcs_from n 0 (second_columns ins) give ≡ Ok fs
-    → resample_of n size give ins
+    → typed_resample n size give ins
     ≡ Ok (body.Resample size fs, zip (left_names (names_of (first_columns ins)) ++ give_names give) (kinds_of (first_columns ins) ++ kinds_answered (second_columns ins) fs) ∷ [])
 resampled n size give ins fs good funcs =
     rw (sym (as_left (first_columns ins) (give_names give)) ∙ good, funcs, resampled_zip (first_columns ins) (give_names give) (kinds_answered (second_columns ins) fs)) refl

@@ -21,13 +21,13 @@ use Rattle.sq_tables.specs.declared.raw.RawBody.{RawBody}
 use Rattle.sq_tables.specs.declared.raw.RawBody.TheVariants.{Filter, Map, Union, BSort, Aggregate, Join, Resample}
 use Rattle.sq_tables.specs.declared.raw.RawBox.{RawBox}
 use Rattle.sq_tables.specs.declared.raw.Raw.{Raw}
-use Rattle.sq_tables.specs.Places.{or_else, place_at, place_of}
+use Rattle.sq_tables.specs.Places.{or_else, place_at, part_place}
 use Rattle.sq_tables.specs.Rawly.{◌>>=◌, or_broken}
 use Rattle.sq_reader.specs.Limits as limits
-use Rattle.sq_reader.specs.Limits.{body_within, box_within, first_failing, has_between, inputs_within}
+use Rattle.sq_reader.specs.Limits.{told_body_within, box_within, first_failing, has_between, inputs_within}
 use Rattle.sq_reader.specs.Naming.{first_repeat, name_place, place_in_space, space_names, twice_place}
-use Rattle.sq_reader.specs.Sources.{column_in, column_with, columns_from, is_colon, kind_named, source_of, sources_from}
-use Rattle.sq_reader.specs.Streaming.{Numbers, box_wires, is_stream, kind_of_body, unknown_among, unknown_in_boxes}
+use Rattle.sq_reader.specs.Sources.{column_in, column_with, columns_from, is_colon, kind_named, told_source, sources_from}
+use Rattle.sq_reader.specs.Streaming.{Numbers, box_wires, is_stream, kind_of_told_body, unknown_among, unknown_in_boxes}
 use Rattle.sq_reader.specs.Columns.{nat_of}
 use Rattle.sq_reader.proofs.LimitLemmas.{neither, number_within}
 use Rattle.sq_reader.proofs.ListLemmas.{all_given, and_both, and_parts, none_failing, nothing_mapped}
@@ -39,10 +39,10 @@ use Rattle.sq_reader.proofs.ColumnLemmas.{names_of_zip}
 
 -- ---- limits
 
-pub numbers_within : (low high : ℕ) (zs : List ℤ) → list_all (limits.is_between low high) zs ≡ true → list_all (is_between low high) (map nat_of zs) ≡ true
+pub numbers_within : (low high : ℕ) (zs : List ℤ) → list_all (limits.is_int_between low high) zs ≡ true → list_all (is_between low high) (map nat_of zs) ≡ true
 numbers_within low high [] h = refl
 numbers_within low high (z ∷ zs) h =
-    let parts = and_parts (limits.is_between low high z) (list_all (limits.is_between low high) zs) h in
+    let parts = and_parts (limits.is_int_between low high z) (list_all (limits.is_int_between low high) zs) h in
     and_both (is_between low high (nat_of z)) (list_all (is_between low high) (map nat_of zs)) (number_within low high z parts.0) (numbers_within low high zs parts.1)
 
 columns_length : (n i : ℕ) (before ws : List (List ℕ)) (cs : Columns) → columns_from n i before ws ≡ Ok cs → length cs ≡ length ws
@@ -90,41 +90,41 @@ fields_schema n fields names kinds some few even h =
     let distinct : are_distinct names ≡ true = ap are_distinct (sym named) ∙ new_distinct [] (names_of (zip names kinds)) (columns_new n 0 [] fields (zip names kinds) h) in
     schema_none names kinds even (omega (arith, long, some)) (omega (arith, long, few)) distinct
 
-pub sources_within : (n : ℕ) (raws : List RawSource) (ss : List Source) → sources_from n raws ≡ Ok ss → list_all limits.source_within raws ≡ true
+pub sources_within : (n : ℕ) (raws : List RawSource) (ss : List Source) → sources_from n raws ≡ Ok ss → list_all limits.told_source_within raws ≡ true
     → (list_all source_within ss ≡ true) × (length ss ≡ length raws)
 sources_within n [] ss h w = let same : [] ≡ ss = cc in subst (λ (xs : List Source). (list_all source_within xs ≡ true) × (length xs ≡ 0)) same (refl, refl)
 sources_within n (raw ∷ raws) ss h w =
-    let parts = and_parts (limits.source_within raw) (list_all limits.source_within raws) w in
+    let parts = and_parts (limits.told_source_within raw) (list_all limits.told_source_within raws) w in
     let here = and_parts (has_between 1 255 raw.file) (has_between 1 16 raw.fields) parts.0 in
-    let one = first_step (columns_from n 0 [] raw.fields) (λ cs. sources_from (n + 1) raws >>= λ rest. Ok (source_of raw cs ∷ rest)) ss h in
-    let two = first_step (sources_from (n + 1) raws) (λ rest. Ok (source_of raw one.0 ∷ rest)) ss one.1.1 in
-    let same : source_of raw one.0 ∷ two.0 ≡ ss = (let last = two.1.1 in cc) in
+    let one = first_step (columns_from n 0 [] raw.fields) (λ cs. sources_from (n + 1) raws >>= λ rest. Ok (told_source raw cs ∷ rest)) ss h in
+    let two = first_step (sources_from (n + 1) raws) (λ rest. Ok (told_source raw one.0 ∷ rest)) ss one.1.1 in
+    let same : told_source raw one.0 ∷ two.0 ≡ ss = (let last = two.1.1 in cc) in
     let more = sources_within (n + 1) raws two.0 two.1.0 parts.1 in
     let long : length one.0 ≡ length raw.fields = columns_length n 0 [] raw.fields one.0 one.1.0 in
     let fields : is_between 1 16 (length one.0) ≡ true = ap (λ (k : ℕ). is_between 1 16 k) long ∙ here.1 in
     subst (λ (xs : List Source). (list_all source_within xs ≡ true) × (length xs ≡ suc (length raws))) same
-    (and_both (source_within (source_of raw one.0)) (list_all source_within two.0) (and_both (is_between 1 255 (length raw.file)) (is_between 1 16 (length one.0)) here.0 fields) more.0, ap suc more.1)
+    (and_both (source_within (told_source raw one.0)) (list_all source_within two.0) (and_both (is_between 1 255 (length raw.file)) (is_between 1 16 (length one.0)) here.0 fields) more.0, ap suc more.1)
 
 -- ---- names
 
 pub outputs_named : (r : Raw) → name_place r ≡ None → list_all (λ o. is_name o.name) r.outputs ≡ true
 outputs_named r h =
-    let one = neither (option_map (place_of part.Source) (first_failing (λ s. is_name s.name) r.sources)) (or_else (option_map (place_of part.Box) (first_failing (λ b. is_name b.name) r.boxes)) (option_map (place_of part.Output) (first_failing (λ o. is_name o.name) r.outputs))) h in
-    let two = neither (option_map (place_of part.Box) (first_failing (λ b. is_name b.name) r.boxes)) (option_map (place_of part.Output) (first_failing (λ o. is_name o.name) r.outputs)) one.1 in
-    none_failing (λ o. is_name o.name) r.outputs (nothing_mapped (place_of part.Output) (first_failing (λ o. is_name o.name) r.outputs) two.1)
+    let one = neither (option_map (part_place part.Source) (first_failing (λ s. is_name s.name) r.sources)) (or_else (option_map (part_place part.Box) (first_failing (λ b. is_name b.name) r.boxes)) (option_map (part_place part.Output) (first_failing (λ o. is_name o.name) r.outputs))) h in
+    let two = neither (option_map (part_place part.Box) (first_failing (λ b. is_name b.name) r.boxes)) (option_map (part_place part.Output) (first_failing (λ o. is_name o.name) r.outputs)) one.1 in
+    none_failing (λ o. is_name o.name) r.outputs (nothing_mapped (part_place part.Output) (first_failing (λ o. is_name o.name) r.outputs) two.1)
 
 pub outputs_distinct : (r : Raw) → twice_place r ≡ None → are_distinct (map (λ o. o.name) r.outputs) ≡ true
 outputs_distinct r h =
-    let parts = neither (option_map (place_in_space r) (first_repeat (space_names r))) (option_map (place_of part.Output) (first_repeat (map (λ o. o.name) r.outputs))) h in
-    let none = nothing_mapped (place_of part.Output) (first_repeat (map (λ o. o.name) r.outputs)) parts.1 in
+    let parts = neither (option_map (place_in_space r) (first_repeat (space_names r))) (option_map (part_place part.Output) (first_repeat (map (λ o. o.name) r.outputs))) h in
+    let none = nothing_mapped (part_place part.Output) (first_repeat (map (λ o. o.name) r.outputs)) parts.1 in
     new_distinct [] (map (λ o. o.name) r.outputs) (none_repeated [] 0 (map (λ o. o.name) r.outputs) none)
 
 -- ---- streams
 
 pub outputs_known : (number_of : Numbers) (r : Raw) → unknown_among number_of r ≡ None → length (filter_map (λ o. number_of o.from) r.outputs) ≡ length r.outputs
 outputs_known number_of r h =
-    let parts = neither (unknown_in_boxes number_of 0 r.boxes) (option_map (place_of part.Output) (first_failing (λ o. is_stream number_of o.from) r.outputs)) h in
-    all_given (λ o. number_of o.from) r.outputs (none_failing (λ o. is_stream number_of o.from) r.outputs (nothing_mapped (place_of part.Output) (first_failing (λ o. is_stream number_of o.from) r.outputs) parts.1))
+    let parts = neither (unknown_in_boxes number_of 0 r.boxes) (option_map (part_place part.Output) (first_failing (λ o. is_stream number_of o.from) r.outputs)) h in
+    all_given (λ o. number_of o.from) r.outputs (none_failing (λ o. is_stream number_of o.from) r.outputs (nothing_mapped (part_place part.Output) (first_failing (λ o. is_stream number_of o.from) r.outputs) parts.1))
 
 takes_as : (number_of : Numbers) (b : RawBox) → length (filter_map (number_of) b.ins) ≡ length b.ins → inputs_within b.body b.ins ≡ true
     → takes_within (box_wires number_of b).kind (length (box_wires number_of b).inputs) ≡ true
@@ -136,7 +136,7 @@ takes_as number_of b long h = by_body b.body h
     two_only : (k : ℕ) → is_between 2 2 k ≡ true → (k == 2) ≡ true
     two_only k h = grind (arith, nat_tests)
 
-    by_body : (raw : RawBody) → inputs_within raw b.ins ≡ true → takes_within (kind_of_body raw) (length (filter_map (number_of) b.ins)) ≡ true
+    by_body : (raw : RawBody) → inputs_within raw b.ins ≡ true → takes_within (kind_of_told_body raw) (length (filter_map (number_of) b.ins)) ≡ true
     by_body (Filter preds) h = rw long (one_only (length b.ins) h)
     by_body (Map set) h = rw long (one_only (length b.ins) h)
     by_body Union h = rw long h
@@ -152,14 +152,14 @@ takes_from number_of n (b ∷ bs) h w =
     let known = neither (option_map (place_at part.Box n) (first_failing (is_stream number_of) b.ins)) (unknown_in_boxes number_of (n + 1) bs) h in
     let long = all_given (number_of) b.ins (none_failing (is_stream number_of) b.ins (nothing_mapped (place_at part.Box n) (first_failing (is_stream number_of) b.ins) known.0)) in
     let parts = and_parts (box_within b) (list_all box_within bs) w in
-    let front = and_parts (body_within b.body && inputs_within b.body b.ins && limits.is_between 0 1000 b.cost) (list_all (limits.is_between 0 1000000) b.selectivity) parts.0 in
-    let middle = and_parts (body_within b.body && inputs_within b.body b.ins) (limits.is_between 0 1000 b.cost) front.0 in
-    let ins = and_parts (body_within b.body) (inputs_within b.body b.ins) middle.0 in
+    let front = and_parts (told_body_within b.body && inputs_within b.body b.ins && limits.is_int_between 0 1000 b.cost) (list_all (limits.is_int_between 0 1000000) b.selectivity) parts.0 in
+    let middle = and_parts (told_body_within b.body && inputs_within b.body b.ins) (limits.is_int_between 0 1000 b.cost) front.0 in
+    let ins = and_parts (told_body_within b.body) (inputs_within b.body b.ins) middle.0 in
     and_both (takes_within (box_wires number_of b).kind (length (box_wires number_of b).inputs)) (list_all (λ (w : BoxWires). takes_within w.kind (length w.inputs)) (map (box_wires number_of) bs))
     (takes_as number_of b long ins.1) (takes_from number_of (n + 1) bs known.1 parts.1)
 
 pub takes_all : (number_of : Numbers) (r : Raw) → unknown_among number_of r ≡ None → list_all box_within r.boxes ≡ true
     → list_all (λ (w : BoxWires). takes_within w.kind (length w.inputs)) (map (box_wires number_of) r.boxes) ≡ true
 takes_all number_of r h w =
-    let parts = neither (unknown_in_boxes number_of 0 r.boxes) (option_map (place_of part.Output) (first_failing (λ o. is_stream number_of o.from) r.outputs)) h in
+    let parts = neither (unknown_in_boxes number_of 0 r.boxes) (option_map (part_place part.Output) (first_failing (λ o. is_stream number_of o.from) r.outputs)) h in
     takes_from number_of 0 r.boxes parts.0 w

@@ -28,12 +28,12 @@ use Rattle.sq_net.specs.declared.Part.TheVariants as part
 use Rattle.sq_net.specs.declared.Place.{Place}
 use Rattle.sq_net.specs.Names.{is_name}
 use Rattle.sq_net.specs.Streams.{columns_given, columns_of_port, columns_of_stream}
-use Rattle.sq_net.specs.Sound.{Agrees, HasWindow, IsSound, body_within, input_columns, is_between, kind_of_body, network_within, node_within, output_within}
+use Rattle.sq_net.specs.Sound.{IsConsistent, HasWindow, IsSound, body_within, input_columns, is_between, kind_of_body, network_within, node_within, output_within}
 use Rattle.sq_tables.specs.declared.raw.RawBox.{RawBox}
 use Rattle.sq_tables.specs.declared.raw.RawOutput.{RawOutput}
 use Rattle.sq_tables.specs.declared.raw.Raw.{Raw}
-use Rattle.sq_tables.specs.Places.{place_of}
-use Rattle.sq_tables.specs.Refusals.{Answers}
+use Rattle.sq_tables.specs.Places.{part_place}
+use Rattle.sq_tables.specs.Refusals.{IsAnswerOf}
 use Rattle.sq_tables.specs.Documents.{document_in}
 use Rattle.sq_tables.specs.Rawly.{◌>>=◌, or_broken, raw_from, raw_of}
 use Rattle.sq_tables.proofs.EvenLemmas.{answer_even}
@@ -41,14 +41,14 @@ use Rattle.sq_tables.specs.Shapes.{AreEven, IsEven}
 use Rattle.sq_reader.specs.Limits as limits
 use Rattle.sq_reader.specs.Limits.{box_within, first_failing, has_between, limit_place}
 use Rattle.sq_reader.specs.Naming.{name_place, twice_place}
-use Rattle.sq_tables.specs.Shapes.{ports_of}
+use Rattle.sq_tables.specs.Shapes.{port_count}
 use Rattle.sq_reader.specs.Streaming as wires
-use Rattle.sq_reader.specs.Streaming.{box_wires, cycle_in, stream_named, stream_names, unknown_place, wiring_of}
+use Rattle.sq_reader.specs.Streaming.{box_wires, cycle_in, told_stream_named, told_stream_names, unknown_place, wiring_of}
 use Rattle.sq_reader.specs.Sources.{sources_from}
 use Rattle.sq_reader.specs.Columns.{columns_known, columns_taken, nat_of, no_nodes, node_known, node_of_box, nodes_from}
 use Rattle.sq_reader.specs.Windows.{has_window, window_place}
 use Rattle.sq_reader.specs.Networks.{graphed_network, limited_network, named_network, network_in, network_of, ordered_network, single_network, streamed_network, typed_network, unless_at, unless_fault, windowed_network, wired_network}
-use Rattle.sq_reader.specs.Outputs.{graph_fault, output_of, points_of}
+use Rattle.sq_reader.specs.Outputs.{graph_fault, output_of, graph_points}
 use Rattle.sq_reader.proofs.DropLemmas.{limited_same}
 use Rattle.sq_reader.proofs.LimitLemmas.{is_within, number_within, output_of as output_limits}
 use Rattle.sq_reader.proofs.ListLemmas.{all_by_place, and_both, and_parts, each_passes, is_at_most, maps_same, none_failing, nothing_mapped, passes_at}
@@ -93,7 +93,7 @@ pub read_as : (r : Raw) (n : Network) → AreEven r → typed_network r ≡ Ok n
 read_as r n even h =
     let limited = none_broken broken.Limit (limit_place r) (named_network r) n h in
     let named = none_broken broken.NoName (name_place r) (single_network r) n limited.1 in
-    let single = none_broken broken.Twice (twice_place r) (streamed_network r (stream_named (stream_names r))) n named.1 in
+    let single = none_broken broken.Twice (twice_place r) (streamed_network r (told_stream_named (told_stream_names r))) n named.1 in
     let known = none_broken broken.Unknown (unknown_place r) (wired_network r (wiring_of r)) n single.1 in
     let acyclic = none_broken broken.Cycle (cycle_in (wiring_of r)) (windowed_network r (wiring_of r)) n known.1 in
     let windows = none_broken broken.Window (window_place r) (graphed_network r (wiring_of r)) n acyclic.1 in
@@ -126,7 +126,7 @@ read_as r n even h =
 
 pub none_on_cycle : (w : Wiring) → cycle_in w ≡ None → (at : ℕ) → LiesOnCycle w at → ⊥
 none_on_cycle w h at on =
-    let none : find (is_on_cycle w) (numbers_to (length w.boxes)) ≡ None = nothing_mapped (place_of part.Box) (find (is_on_cycle w) (numbers_to (length w.boxes))) h in
+    let none : find (is_on_cycle w) (numbers_to (length w.boxes)) ≡ None = nothing_mapped (part_place part.Box) (find (is_on_cycle w) (numbers_to (length w.boxes))) h in
     let off : is_on_cycle w at ≡ false = unfound (is_on_cycle w) (length w.boxes) none at (cycle_is_of_box w at on) in
     let lies : is_on_cycle w at ≡ true = on_cycle w at on in
     cc
@@ -147,11 +147,11 @@ pub record AreBoxes (r : Raw) (ss : List declared.Source) (nodes : List (Option 
 pub are_boxes : (r : Raw) (ss : List declared.Source) (nodes : List (Option Node)) → IsRead r ss nodes → AreBoxes r ss nodes (filter_map (λ o. o) nodes)
 are_boxes r ss nodes read =
     let w : Wiring = wiring_of r in
-    let boxes : length w.boxes ≡ length r.boxes = length-map r.boxes (box_wires (stream_named (stream_names r))) in
+    let boxes : length w.boxes ≡ length r.boxes = length-map r.boxes (box_wires (told_stream_named (told_stream_names r))) in
     let start : length (no_nodes (length r.boxes)) ≡ length w.boxes = length-replicate (length r.boxes) (none_yet r) ∙ sym boxes in
     let all : AreSettled r w ss [] (no_nodes (length r.boxes)) (order_of w) nodes = settled r w ss [] (no_nodes (length r.boxes)) (order_of w) nodes (follow_all w) start read.typed in
     let long : length nodes ≡ length w.boxes = all.count ∙ start in
-    let each : (at : ℕ) → at < length nodes → IsSettled r w ss nodes at = (λ at low. all.each at (all_ordered w (is_wired (stream_names r) r refl) (none_on_cycle w read.acyclic) at (omega (arith, low, long)))) in
+    let each : (at : ℕ) → at < length nodes → IsSettled r w ss nodes at = (λ at low. all.each at (all_ordered w (is_wired (told_stream_names r) r refl) (none_on_cycle w read.acyclic) at (omega (arith, low, long)))) in
     let known : nodes ≡ map Some (filter_map (λ o. o) nodes) = all_known nodes (λ at low. (let s = each at low in (s.node, s.there))) in
     let same : length nodes ≡ length (filter_map (λ o. o) nodes) = ap (λ (os : List (Option Node)). length os) known ∙ length-map (filter_map (λ (o : Option Node). o) nodes) (λ (b : Node). Some b) in
     record {
@@ -224,25 +224,25 @@ alike f g r ss nodes boxes same =
 
 node_fits : (raw : RawBox) (ins : List Columns) (b : Node) → IsNodeOf raw ins b → box_within raw ≡ true → node_within b ≡ true
 node_fits raw ins b is h =
-    let front = and_parts (limits.body_within raw.body && limits.inputs_within raw.body raw.ins && limits.is_between 0 1000 raw.cost) (list_all (limits.is_between 0 1000000) raw.selectivity) h in
-    let middle = and_parts (limits.body_within raw.body && limits.inputs_within raw.body raw.ins) (limits.is_between 0 1000 raw.cost) front.0 in
-    let body = and_parts (limits.body_within raw.body) (limits.inputs_within raw.body raw.ins) middle.0 in
+    let front = and_parts (limits.told_body_within raw.body && limits.inputs_within raw.body raw.ins && limits.is_int_between 0 1000 raw.cost) (list_all (limits.is_int_between 0 1000000) raw.selectivity) h in
+    let middle = and_parts (limits.told_body_within raw.body && limits.inputs_within raw.body raw.ins) (limits.is_int_between 0 1000 raw.cost) front.0 in
+    let body = and_parts (limits.told_body_within raw.body) (limits.inputs_within raw.body raw.ins) middle.0 in
     let cost : is_between 0 1000 b.cost ≡ true = ap (λ (k : ℕ). is_between 0 1000 k) is.cost ∙ number_within 0 1000 raw.cost middle.1 in
     let selectivity : list_all (is_between 0 1000000) b.selectivity ≡ true = ap (λ (ks : List ℕ). list_all (is_between 0 1000000) ks) is.selectivity ∙ numbers_within 0 1000000 raw.selectivity front.1 in
     and_both (body_within b.body && is_between 0 1000 b.cost) (list_all (is_between 0 1000000) b.selectivity)
     (and_both (body_within b.body) (is_between 0 1000 b.cost) (is.body.within body.0) cost) selectivity
 
-outputs_fit : (os : List RawOutput) → list_all limits.output_within os ≡ true → list_all output_within (map output_of os) ≡ true
+outputs_fit : (os : List RawOutput) → list_all limits.told_output_within os ≡ true → list_all output_within (map output_of os) ≡ true
 outputs_fit [] h = refl
 outputs_fit (o ∷ os) h =
-    let parts = and_parts (limits.output_within o) (list_all limits.output_within os) h in
+    let parts = and_parts (limits.told_output_within o) (list_all limits.told_output_within os) h in
     let within = output_limits o parts.0 in
     let light : nat_le (nat_of o.weight) 1000 ≡ true = is_at_most (nat_of o.weight) 1000 within.light in
-    let few : nat_le (length (points_of o.graph)) 1000 ≡ true = ap (λ (k : ℕ). nat_le k 1000) (points_length o.graph) ∙ is_at_most (length o.graph) 1000 within.few in
+    let few : nat_le (length (graph_points o.graph)) 1000 ≡ true = ap (λ (k : ℕ). nat_le k 1000) (points_length o.graph) ∙ is_at_most (length o.graph) 1000 within.few in
     and_both (output_within (output_of o)) (list_all output_within (map output_of os))
-    (and_both (nat_le (nat_of o.weight) 1000) (nat_le (length (points_of o.graph)) 1000) light few) (outputs_fit os parts.1)
+    (and_both (nat_le (nat_of o.weight) 1000) (nat_le (length (graph_points o.graph)) 1000) light few) (outputs_fit os parts.1)
   where
-    points_length : (ps : List (ℤ × ℤ)) → length (points_of ps) ≡ length ps
+    points_length : (ps : List (ℤ × ℤ)) → length (graph_points ps) ≡ length ps
     points_length [] = refl
     points_length (p ∷ ps) = ap suc (points_length ps)
 
@@ -251,8 +251,8 @@ all_within r ss nodes read =
     let w = is_within r read.limit in
     let boxes = are_boxes r ss nodes read in
     let given = sources_within 0 r.sources ss read.given w.sources in
-    let a = and_parts (has_between 1 8 r.sources && has_between 0 128 r.boxes && has_between 1 32 r.outputs && limits.is_between 1 (2 ^ 34) r.epoch) (limits.is_between 1 1000000 r.batch) w.top in
-    let b = and_parts (has_between 1 8 r.sources && has_between 0 128 r.boxes && has_between 1 32 r.outputs) (limits.is_between 1 (2 ^ 34) r.epoch) a.0 in
+    let a = and_parts (has_between 1 8 r.sources && has_between 0 128 r.boxes && has_between 1 32 r.outputs && limits.is_int_between 1 (2 ^ 34) r.epoch) (limits.is_int_between 1 1000000 r.batch) w.top in
+    let b = and_parts (has_between 1 8 r.sources && has_between 0 128 r.boxes && has_between 1 32 r.outputs) (limits.is_int_between 1 (2 ^ 34) r.epoch) a.0 in
     let c = and_parts (has_between 1 8 r.sources && has_between 0 128 r.boxes) (has_between 1 32 r.outputs) b.0 in
     let d = and_parts (has_between 1 8 r.sources) (has_between 0 128 r.boxes) c.0 in
     let sources : is_between 1 8 (length ss) ≡ true = ap (λ (k : ℕ). is_between 1 8 k) given.1 ∙ d.0 in
@@ -263,32 +263,32 @@ all_within r ss nodes read =
     let fit : list_all node_within (filter_map (λ o. o) nodes) ≡ true = all_by_place node_within (filter_map (λ o. o) nodes) (λ at node e.
     (let box = box_at r ss nodes boxes at node e in
     node_fits box.raw (input_columns (network_of r (wiring_of r) ss nodes) at) node box.is (passes_at box_within r.boxes at box.raw w.boxes box.there))) in
-    let takes = takes_all (stream_named (stream_names r)) r read.known w.boxes in
+    let takes = takes_all (told_stream_named (told_stream_names r)) r read.known w.boxes in
     and_both _ _ (and_both _ _ (and_both _ _ (and_both _ _ (and_both _ _ (and_both _ _ (and_both _ _ (and_both _ _ sources count) outputs) epoch) batch) given.0) fit) (outputs_fit r.outputs w.outputs)) takes
 
-evens : (bs : List RawBox) → AllByRecursion IsEven bs → map (λ b. length b.selectivity) bs ≡ map (λ b. ports_of b.body) bs
+evens : (bs : List RawBox) → AllByRecursion IsEven bs → map (λ b. length b.selectivity) bs ≡ map (λ b. port_count b.body) bs
 evens [] h = refl
 evens (b ∷ bs) h =
-    let here : length b.selectivity ≡ ports_of b.body = h.0 in
-    let more : map (λ (b : RawBox). length b.selectivity) bs ≡ map (λ (b : RawBox). ports_of b.body) bs = evens bs h.1 in
+    let here : length b.selectivity ≡ port_count b.body = h.0 in
+    let more : map (λ (b : RawBox). length b.selectivity) bs ≡ map (λ (b : RawBox). port_count b.body) bs = evens bs h.1 in
     cc
 
-all_agree : (r : Raw) (ss : List declared.Source) (nodes : List (Option Node)) → IsRead r ss nodes → Agrees (network_of r (wiring_of r) ss nodes)
+all_agree : (r : Raw) (ss : List declared.Source) (nodes : List (Option Node)) → IsRead r ss nodes → IsConsistent (network_of r (wiring_of r) ss nodes)
 all_agree r ss nodes read =
     let boxes = are_boxes r ss nodes read in
-    let names : List (List ℕ) = stream_names r in
+    let names : List (List ℕ) = told_stream_names r in
     let bs : List Node = filter_map (λ o. o) nodes in
     let given = sources_within 0 r.sources ss read.given (is_within r read.limit).sources in
-    let ports : map (λ (b : RawBox). ports_of b.body) r.boxes ≡ map (λ (b : Node). length b.schemas) bs =
-    alike (λ b. ports_of b.body) (λ b. length b.schemas) r ss nodes boxes (λ raw ins b is. is.body.ports) in
+    let ports : map (λ (b : RawBox). port_count b.body) r.boxes ≡ map (λ (b : Node). length b.schemas) bs =
+    alike (λ b. port_count b.body) (λ b. length b.schemas) r ss nodes boxes (λ raw ins b is. is.body.ports) in
     let tolls : map (λ (b : RawBox). length b.selectivity) r.boxes ≡ map (λ (b : Node). length b.selectivity) bs =
     alike (λ b. length b.selectivity) (λ b. length b.selectivity) r ss nodes boxes (λ raw ins b is. sym (ap (λ (ks : List ℕ). length ks) is.selectivity ∙ length-map raw.selectivity nat_of)) in
     record {
       sources = sym given.1;
-      kinds = map_twice (λ (b : BoxWires). b.kind) (box_wires (stream_named names)) r.boxes ∙ alike (λ b. wires.kind_of_body b.body) (λ b. kind_of_body b.body) r ss nodes boxes (λ raw ins b is. is.body.kind);
-      ports = map_twice (λ (b : BoxWires). b.ports) (box_wires (stream_named names)) r.boxes ∙ ports;
+      kinds = map_twice (λ (b : BoxWires). b.kind) (box_wires (told_stream_named names)) r.boxes ∙ alike (λ b. wires.kind_of_told_body b.body) (λ b. kind_of_body b.body) r ss nodes boxes (λ raw ins b is. is.body.kind);
+      ports = map_twice (λ (b : BoxWires). b.ports) (box_wires (told_stream_named names)) r.boxes ∙ ports;
       tolls = sym tolls ∙ (evens r.boxes (recursion_from_All IsEven r.boxes read.even) ∙ ports);
-      outputs = outputs_known (stream_named names) r read.known ∙ sym (length-map r.outputs output_of);
+      outputs = outputs_known (told_stream_named names) r read.known ∙ sym (length-map r.outputs output_of);
       wired = is_wired names r refl;
       shown = outputs_shown names r refl;
     }
@@ -296,7 +296,7 @@ all_agree r ss nodes read =
 -- each Aggregate has a window
 all_windows : (r : Raw) (ss : List declared.Source) (nodes : List (Option Node)) → IsRead r ss nodes → All (λ (b : Node). HasWindow b.body) (network_of r (wiring_of r) ss nodes).boxes
 all_windows r ss nodes read =
-    let rule : list_all (λ (b : RawBox). has_window b.body) r.boxes ≡ true = none_failing (λ (b : RawBox). has_window b.body) r.boxes (nothing_mapped (place_of part.Box) (first_failing (λ (b : RawBox). has_window b.body) r.boxes) read.windows) in
+    let rule : list_all (λ (b : RawBox). has_window b.body) r.boxes ≡ true = none_failing (λ (b : RawBox). has_window b.body) r.boxes (nothing_mapped (part_place part.Box) (first_failing (λ (b : RawBox). has_window b.body) r.boxes) read.windows) in
     let bs : List Node = filter_map (λ o. o) nodes in
     λ at d low. (let box = box_at r ss nodes (are_boxes r ss nodes read) at (get_or bs at d) (slice_get-get_or bs at d low) in box.is.body.window (passes_at (λ (b : RawBox). has_window b.body) r.boxes at box.raw rule box.there))
 
@@ -316,7 +316,7 @@ sound_of r ss nodes read = record {
 pub read_sound : (r : Raw) (n : Network) → AreEven r → typed_network r ≡ Ok n → IsSound n
 read_sound r n even h = let from = read_as r n even h in subst IsSound from.same (sound_of from.raw from.sources from.nodes from.read)
 
-pub answer_sound : (r : Raw) (answer : Result Network NetErr) → AreEven r → Answers answer (typed_network r) → IfOk answer IsSound
+pub answer_sound : (r : Raw) (answer : Result Network NetErr) → AreEven r → IsAnswerOf answer (typed_network r) → IfOk answer IsSound
 answer_sound r (Ok n) even h = read_sound r n even h
 answer_sound r (Err e) even h = tt
 

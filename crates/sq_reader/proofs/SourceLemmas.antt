@@ -7,7 +7,7 @@ use Rattle.sq_value.specs.Values.{Columns}
 use Rattle.sq_value.specs.declared.Kind.{Kind}
 use Rattle.sq_net.specs.declared.Source.{Source}
 use Rattle.sq_tables.specs.declared.raw.RawSource.{RawSource}
-use Rattle.sq_reader.specs.Sources.{column_in, columns_from, source_of, sources_from}
+use Rattle.sq_reader.specs.Sources.{column_in, columns_from, told_source, sources_from}
 use Rattle.sq_tables.proofs.ShapedLemmas.{joined, joined-cons, zip-push, drop-at}
 
 pub columns_more : (n i : ℕ) (before : List (List ℕ)) (kinds : List Kind) (fields : List (List ℕ)) (w name : List ℕ) (k : Kind)
@@ -24,6 +24,6 @@ columns_done n i names kinds fields all h = sym h ∙ rw (drop_all i fields all)
 
 pub sources_more : (i : ℕ) (front : List Source) (ss : List RawSource) (s : RawSource) (cs : Columns)
     → i < length ss → s ≡ get_or ss i s → columns_from i 0 [] s.fields ≡ Ok cs
-    → joined (front ++ source_of s cs ∷ []) (sources_from (i + 1) (drop (i + 1) ss)) ≡ joined front (sources_from i (drop i ss))
+    → joined (front ++ told_source s cs ∷ []) (sources_from (i + 1) (drop (i + 1) ss)) ≡ joined front (sources_from i (drop i ss))
 sources_more i front ss s cs low is e =
-    sym (joined-cons front (source_of s cs) (sources_from (i + 1) (drop (i + 1) ss))) ∙ rw (drop-at ss i s low is, e) refl
+    sym (joined-cons front (told_source s cs) (sources_from (i + 1) (drop (i + 1) ss))) ∙ rw (drop-at ss i s low is, e) refl

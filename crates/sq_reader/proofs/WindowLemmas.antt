@@ -3,11 +3,11 @@ use Rattle.std.proofs.Common.{◌≡◌, ℕ, ◌*◌, ◌<◌, ◌≤◌, ◌^�
 use Rattle.std.specs.Prelude.{nat_le, int_le, ◌*ℤ◌}
 use Rattle.std.proofs.lemmas.Bool.Decides.{nat_tests}
 use Rattle.sq_aggfn.specs.Windows.{IsWindow}
-use Rattle.sq_reader.specs.Columns.{window_of}
+use Rattle.sq_reader.specs.Columns.{window_read}
 use Rattle.sq_reader.specs.Windows.{is_span, is_window}
 use Rattle.sq_reader.proofs.ListLemmas.{and_parts}
 
-pub window_is : (size advance phase : ℤ) → is_window size advance phase ≡ true → IsWindow (window_of size advance phase)
+pub window_is : (size advance phase : ℤ) → is_window size advance phase ≡ true → IsWindow (window_read size advance phase)
 window_is size advance phase h =
     let whole = and_parts (is_span size advance && int_le (pos 0) phase) (not (int_le advance phase)) h in
     let start = and_parts (is_span size advance) (int_le (pos 0) phase) whole.0 in
@@ -26,7 +26,7 @@ window_is size advance phase h =
     no-size true b c e = cc
     no-size false b c e = cc
 
-    by : (size advance phase : ℤ) → is_span size advance ≡ true → int_le (pos 0) phase ≡ true → not (int_le advance phase) ≡ true → IsWindow (window_of size advance phase)
+    by : (size advance phase : ℤ) → is_span size advance ≡ true → int_le (pos 0) phase ≡ true → not (int_le advance phase) ≡ true → IsWindow (window_read size advance phase)
     by (pos size) (pos advance) (pos phase) span from less =
         let a = and_parts (int_le (pos 1) (pos advance) && int_le (pos advance) (pos size) && int_le (pos size) (pos (2 ^ 32))) (int_le (pos size) (pos 4096 *ℤ pos advance)) span in
         let b = and_parts (int_le (pos 1) (pos advance) && int_le (pos advance) (pos size)) (int_le (pos size) (pos (2 ^ 32))) a.0 in

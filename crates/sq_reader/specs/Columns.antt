@@ -27,7 +27,7 @@ use Rattle.sq_tables.specs.declared.raw.RawBody.{RawBody}
 use Rattle.sq_tables.specs.declared.raw.RawBody.TheVariants.{Filter, Map, Union, BSort, Aggregate, Join, Resample}
 use Rattle.sq_tables.specs.declared.raw.RawBox.{RawBox}
 use Rattle.sq_tables.specs.declared.raw.Raw.{Raw}
-use Rattle.sq_tables.specs.Places.{place_at, place_of, or_else}
+use Rattle.sq_tables.specs.Places.{place_at, part_place, or_else}
 use Rattle.sq_reader.specs.Limits.{first_failing}
 use Rattle.sq_tables.specs.Rawly.{◌>>=◌, or_broken}
 use Rattle.sq_reader.specs.Expressions.{may_be_predicate, may_be_set, predicate_of, typed_in}
@@ -116,11 +116,11 @@ abbrev pub bad_given : List (List ℕ) → List (List ℕ) → Option ℕ
 bad_given before given = or_else (too_many (length before + length given)) (bad_name before given)
 
 -- a window by its size, its advance and its phase
-abbrev pub window_of : ℤ → ℤ → ℤ → WindowSpec
-window_of size advance phase = record { size = nat_of size; advance = nat_of advance; phase = nat_of phase }
+abbrev pub window_read : ℤ → ℤ → ℤ → WindowSpec
+window_read size advance phase = record { size = nat_of size; advance = nat_of advance; phase = nat_of phase }
 
-abbrev pub aggregate_of : ℕ → WindowSpec → List (List ℕ) → List AnswerColumn → Columns → Result TypedBody NetErr
-aggregate_of n window group give cs =
+abbrev pub typed_aggregate : ℕ → WindowSpec → List (List ℕ) → List AnswerColumn → Columns → Result TypedBody NetErr
+typed_aggregate n window group give cs =
     unless_schema n (bad_given group (give_names give))
     (funcs_from n 0 cs give >>= λ fs. group_from n 0 cs [] group >>= λ ps.
     Ok (body.Aggregate fs ps window, (columns_at cs ps ++ zip (give_names give) (kinds_answered cs fs)) ∷ []))
@@ -130,27 +130,27 @@ join_of n size on ins =
     unless_schema n (too_many (length (pair_columns ins)))
     (predicate_of n (pair_columns ins) on >>= λ e. Ok (body.Join (nat_of size) e, pair_columns ins ∷ []))
 
-abbrev pub resample_of : ℕ → ℕ → List AnswerColumn → List Columns → Result TypedBody NetErr
-resample_of n size give ins =
+abbrev pub typed_resample : ℕ → ℕ → List AnswerColumn → List Columns → Result TypedBody NetErr
+typed_resample n size give ins =
     unless_schema n (bad_given (names_of (left_columns ins)) (give_names give))
     (funcs_from n 0 (second_columns ins) give >>= λ fs.
     Ok (body.Resample size fs, (left_columns ins ++ zip (give_names give) (kinds_answered (second_columns ins) fs)) ∷ []))
 
 -- a box on what it takes
-abbrev pub body_of : ℕ → RawBody → List Columns → Result TypedBody NetErr
-body_of n (Filter preds) ins = filter_of n preds (first_columns ins)
-body_of n (Map set) ins = map_of n set (first_columns ins)
-body_of n Union ins = union_of n ins
-body_of n (BSort by slack) ins = bsort_of n by slack (first_columns ins)
-body_of n (Aggregate size advance phase group give) ins = aggregate_of n (window_of size advance phase) group give (first_columns ins)
-body_of n (Join size on) ins = join_of n size on ins
-body_of n (Resample size give) ins = resample_of n (nat_of size) give ins
+abbrev pub typed_body : ℕ → RawBody → List Columns → Result TypedBody NetErr
+typed_body n (Filter preds) ins = filter_of n preds (first_columns ins)
+typed_body n (Map set) ins = map_of n set (first_columns ins)
+typed_body n Union ins = union_of n ins
+typed_body n (BSort by slack) ins = bsort_of n by slack (first_columns ins)
+typed_body n (Aggregate size advance phase group give) ins = typed_aggregate n (window_read size advance phase) group give (first_columns ins)
+typed_body n (Join size on) ins = join_of n size on ins
+typed_body n (Resample size give) ins = typed_resample n (nat_of size) give ins
 
 abbrev pub node_of : RawBox → TypedBody → Node
 node_of b t = record { name = b.name; body = t.0; schemas = t.1; cost = nat_of b.cost; selectivity = map nat_of b.selectivity }
 
 abbrev pub node_in : ℕ → RawBox → List Columns → Result Node NetErr
-node_in n b ins = body_of n b.body ins >>= λ t. Ok (node_of b t)
+node_in n b ins = typed_body n b.body ins >>= λ t. Ok (node_of b t)
 
 -- ---- the boxes in their order
 
@@ -169,17 +169,17 @@ columns_taken w ss nodes inputs = filter_map (λ s. columns_known ss nodes (prod
 
 -- a number with no box, which the order of the boxes doesn't have, is out of its limits
 abbrev pub node_of_box : ℕ → Option RawBox → List Columns → Result Node NetErr
-node_of_box at None ins = Err (broken.Limit (place_of part.Box at))
+node_of_box at None ins = Err (broken.Limit (part_place part.Box at))
 node_of_box at (Some b) ins = node_in at b ins
 
 -- the box of this number, on what is known so far
-abbrev pub node_at : Raw → Wiring → List declared.Source → List (Option Node) → ℕ → Result Node NetErr
-node_at r w ss nodes at = node_of_box at (slice_get r.boxes at) (columns_taken w ss nodes (inputs_of w at))
+abbrev pub typed_node : Raw → Wiring → List declared.Source → List (Option Node) → ℕ → Result Node NetErr
+typed_node r w ss nodes at = node_of_box at (slice_get r.boxes at) (columns_taken w ss nodes (inputs_of w at))
 
 -- the boxes of these numbers, one after another, each put at its place
 abbrev pub nodes_from : Raw → Wiring → List declared.Source → List (Option Node) → List ℕ → Result (List (Option Node)) NetErr
 nodes_from r w ss nodes [] = Ok nodes
-nodes_from r w ss nodes (at ∷ ats) = node_at r w ss nodes at >>= λ node. nodes_from r w ss (slice_set nodes at (Some node)) ats
+nodes_from r w ss nodes (at ∷ ats) = typed_node r w ss nodes at >>= λ node. nodes_from r w ss (slice_set nodes at (Some node)) ats
 
 abbrev pub no_nodes : ℕ → List (Option Node)
 no_nodes n = replicate n None

@@ -6,7 +6,7 @@ use Rattle.sq_net.specs.declared.Network.{Network}
 use Rattle.sq_net.specs.declared.Part.TheVariants as part
 use Rattle.sq_net.specs.declared.Place.{Place}
 use Rattle.sq_points.specs.Points.{points_of}
-use Rattle.sq_tables.specs.Places.{place_of}
+use Rattle.sq_tables.specs.Places.{part_place}
 use Rattle.sq_reader.specs.Limits.{first_failing}
 
 -- neither a batch that is too long nor an extent that is too wide
@@ -15,4 +15,4 @@ is_drop_within p = not (is_long_batch p) && not (is_wide_extent p)
 
 -- the first drop point that is out of the limits
 abbrev pub drop_place : Network → Option Place
-drop_place n = option_map (place_of part.Drop) (first_failing is_drop_within (points_of n))
+drop_place n = option_map (part_place part.Drop) (first_failing is_drop_within (points_of n))

@@ -6,15 +6,15 @@ use Rattle.sq_net.specs.declared.Part.TheVariants as part
 use Rattle.sq_net.specs.declared.Place.{Place}
 use Rattle.sq_net.specs.Names.{is_name}
 use Rattle.sq_tables.specs.declared.raw.Raw.{Raw}
-use Rattle.sq_tables.specs.Places.{place_of, or_else}
+use Rattle.sq_tables.specs.Places.{part_place, or_else}
 use Rattle.sq_reader.specs.Limits.{first_failing}
 
 abbrev pub name_place : Raw → Option Place
 name_place r = or_else
-    (option_map (place_of part.Source) (first_failing (λ s. is_name s.name) r.sources))
+    (option_map (part_place part.Source) (first_failing (λ s. is_name s.name) r.sources))
     (or_else
-    (option_map (place_of part.Box) (first_failing (λ b. is_name b.name) r.boxes))
-    (option_map (place_of part.Output) (first_failing (λ o. is_name o.name) r.outputs)))
+    (option_map (part_place part.Box) (first_failing (λ b. is_name b.name) r.boxes))
+    (option_map (part_place part.Output) (first_failing (λ o. is_name o.name) r.outputs)))
 
 -- the number, counted from n, of the first name that is one of `seen` or an earlier one
 abbrev pub repeat_after : List (List ℕ) → ℕ → List (List ℕ) → Option ℕ
@@ -30,10 +30,10 @@ abbrev pub space_names : Raw → List (List ℕ)
 space_names r = map (λ s. s.name) r.sources ++ map (λ b. b.name) r.boxes
 
 abbrev pub place_in_space : Raw → ℕ → Place
-place_in_space r n = if nat_lt n (length r.sources) then place_of part.Source n else place_of part.Box (n - length r.sources)
+place_in_space r n = if nat_lt n (length r.sources) then part_place part.Source n else part_place part.Box (n - length r.sources)
 
 -- outputs have a space of their own
 abbrev pub twice_place : Raw → Option Place
 twice_place r = or_else
     (option_map (place_in_space r) (first_repeat (space_names r)))
-    (option_map (place_of part.Output) (first_repeat (map (λ o. o.name) r.outputs)))
+    (option_map (part_place part.Output) (first_repeat (map (λ o. o.name) r.outputs)))

@@ -13,7 +13,7 @@ use Rattle.sq_tables.specs.declared.raw.Raw.{Raw}
 use Rattle.sq_tables.specs.Rawly.{◌>>=◌, raw_of}
 use Rattle.sq_reader.specs.Limits.{limit_place}
 use Rattle.sq_reader.specs.Naming.{name_place, twice_place}
-use Rattle.sq_reader.specs.Streaming.{Numbers, cycle_in, stream_named, stream_names, unknown_among, wiring_by}
+use Rattle.sq_reader.specs.Streaming.{Numbers, cycle_in, told_stream_named, told_stream_names, unknown_among, wiring_by}
 use Rattle.sq_reader.specs.Sources.{sources_from}
 use Rattle.sq_reader.specs.Windows.{window_place}
 use Rattle.sq_reader.specs.Outputs.{graph_fault, output_of}
@@ -60,7 +60,7 @@ abbrev pub streamed_network : Raw → Numbers → Result Network NetErr
 streamed_network r number_of = unless_at broken.Unknown (unknown_among number_of r) (wired_network r (wiring_by number_of r))
 
 abbrev pub single_network : Raw → Result Network NetErr
-single_network r = unless_at broken.Twice (twice_place r) (streamed_network r (stream_named (stream_names r)))
+single_network r = unless_at broken.Twice (twice_place r) (streamed_network r (told_stream_named (told_stream_names r)))
 
 abbrev pub named_network : Raw → Result Network NetErr
 named_network r = unless_at broken.NoName (name_place r) (single_network r)

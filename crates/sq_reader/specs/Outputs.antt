@@ -7,7 +7,7 @@ use Rattle.sq_net.specs.declared.NetErr.TheVariants as broken
 use Rattle.sq_net.specs.declared.Part.TheVariants as part
 use Rattle.sq_tables.specs.declared.raw.RawOutput.{RawOutput}
 use Rattle.sq_tables.specs.declared.raw.Raw.{Raw}
-use Rattle.sq_tables.specs.Places.{place_of, or_else}
+use Rattle.sq_tables.specs.Places.{part_place, or_else}
 use Rattle.sq_reader.specs.Columns.{nat_of}
 
 -- a number of a point; one that is negative, or 2^32 or more, counts as the greatest below 2^32, which is off the grid too
@@ -15,15 +15,15 @@ abbrev pub point_number : ℤ → ℕ
 point_number (pos n) = min n (2 ^ 32 - 1)
 point_number (negsuc n) = 2 ^ 32 - 1
 
-abbrev pub points_of : List (ℤ × ℤ) → Points
-points_of ps = map (λ p. (point_number p.0, point_number p.1)) ps
+abbrev pub graph_points : List (ℤ × ℤ) → Points
+graph_points ps = map (λ p. (point_number p.0, point_number p.1)) ps
 
 abbrev pub output_of : RawOutput → Output
-output_of o = record { name = o.name; weight = nat_of o.weight; graph = points_of o.graph }
+output_of o = record { name = o.name; weight = nat_of o.weight; graph = graph_points o.graph }
 
 -- why the points of the output of a number are no graph
 abbrev pub graph_fault_at : ℕ → List (ℤ × ℤ) → Option NetErr
-graph_fault_at n ps = option_map (broken.Graph (place_of part.Output n)) (graph_error (points_of ps))
+graph_fault_at n ps = option_map (broken.Graph (part_place part.Output n)) (graph_error (graph_points ps))
 
 abbrev pub graph_fault_from : ℕ → List RawOutput → Option NetErr
 graph_fault_from n [] = None

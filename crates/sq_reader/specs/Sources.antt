@@ -38,12 +38,12 @@ columns_from n i before (w ∷ ws) = do
   cs ← columns_from n (i + 1) (before ++ c.0 ∷ []) ws
   Ok (c ∷ cs)
 
-abbrev pub source_of : RawSource → Columns → Source
-source_of s cs = record { name = s.name; file = s.file; schema = cs }
+abbrev pub told_source : RawSource → Columns → Source
+told_source s cs = record { name = s.name; file = s.file; schema = cs }
 
 abbrev pub sources_from : ℕ → List RawSource → Result (List Source) NetErr
 sources_from n [] = Ok []
 sources_from n (s ∷ ss) = do
   cs ← columns_from n 0 [] s.fields
   rest ← sources_from (n + 1) ss
-  Ok (source_of s cs ∷ rest)
+  Ok (told_source s cs ∷ rest)

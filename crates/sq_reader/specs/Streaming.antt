@@ -17,34 +17,34 @@ use Rattle.sq_tables.specs.declared.raw.RawBody.{RawBody}
 use Rattle.sq_tables.specs.declared.raw.RawBody.TheVariants.{Filter, Map, Union, BSort, Aggregate, Join, Resample}
 use Rattle.sq_tables.specs.declared.raw.RawBox.{RawBox}
 use Rattle.sq_tables.specs.declared.raw.Raw.{Raw}
-use Rattle.sq_tables.specs.Places.{place_at, place_of, or_else}
+use Rattle.sq_tables.specs.Places.{place_at, part_place, or_else}
 use Rattle.sq_reader.specs.Limits.{first_failing}
-use Rattle.sq_tables.specs.Shapes.{ports_of}
+use Rattle.sq_tables.specs.Shapes.{port_count}
 
 -- the name of a port of a Filter; ports count from 1 in a file
 abbrev pub port_name : List ℕ → ℕ → List ℕ
 port_name name number = name ++ (46 ∷ decimal number)
 
 -- the streams of a box
-abbrev pub port_names : List ℕ → RawBody → List (List ℕ)
-port_names name (Filter preds) = map (λ i. port_name name (i + 1)) (numbers_to (length preds + 1))
-port_names name b = name ∷ []
+abbrev pub told_port_names : List ℕ → RawBody → List (List ℕ)
+told_port_names name (Filter preds) = map (λ i. port_name name (i + 1)) (numbers_to (length preds + 1))
+told_port_names name b = name ∷ []
 
 -- the streams: each source, then those of each box
-abbrev pub stream_names : Raw → List (List ℕ)
-stream_names r = map (λ s. s.name) r.sources ++ flat_map (λ b. port_names b.name b.body) r.boxes
+abbrev pub told_stream_names : Raw → List (List ℕ)
+told_stream_names r = map (λ s. s.name) r.sources ++ flat_map (λ b. told_port_names b.name b.body) r.boxes
 
 -- the number of a stream, by these names
-abbrev pub stream_named : List (List ℕ) → List ℕ → Option ℕ
-stream_named names w = position (same_bytes w) names
+abbrev pub told_stream_named : List (List ℕ) → List ℕ → Option ℕ
+told_stream_named names w = position (same_bytes w) names
 
 -- a way to number texts; what follows goes by any
 abbrev pub Numbers : Type 0
 Numbers = List ℕ → Option ℕ
 
 -- the number that a table has at a text
-abbrev pub number_in : List (Bor (List ℕ) × ℕ) → Numbers
-number_in es w = lookup (λ k. bytes_eq w k.now) es
+abbrev pub number_named : List (Bor (List ℕ) × ℕ) → Numbers
+number_named es w = lookup (λ k. bytes_eq w k.now) es
 
 -- the numbers once a text has this one, where it had none
 abbrev pub also_numbered : Numbers → List ℕ → ℕ → Numbers
@@ -62,22 +62,22 @@ unknown_in_boxes number_of n (b ∷ bs) =
 abbrev pub unknown_among : Numbers → Raw → Option Place
 unknown_among number_of r = or_else
     (unknown_in_boxes number_of 0 r.boxes)
-    (option_map (place_of part.Output) (first_failing (λ o. is_stream number_of o.from) r.outputs))
+    (option_map (part_place part.Output) (first_failing (λ o. is_stream number_of o.from) r.outputs))
 
 abbrev pub unknown_place : Raw → Option Place
-unknown_place r = unknown_among (stream_named (stream_names r)) r
+unknown_place r = unknown_among (told_stream_named (told_stream_names r)) r
 
-abbrev pub kind_of_body : RawBody → BoxKind
-kind_of_body (Filter preds) = boxes.Filter
-kind_of_body (Map set) = boxes.Map
-kind_of_body Union = boxes.Union
-kind_of_body (BSort by slack) = boxes.BSort
-kind_of_body (Aggregate size advance phase group give) = boxes.Aggregate
-kind_of_body (Join size on) = boxes.Join
-kind_of_body (Resample size give) = boxes.Resample
+abbrev pub kind_of_told_body : RawBody → BoxKind
+kind_of_told_body (Filter preds) = boxes.Filter
+kind_of_told_body (Map set) = boxes.Map
+kind_of_told_body Union = boxes.Union
+kind_of_told_body (BSort by slack) = boxes.BSort
+kind_of_told_body (Aggregate size advance phase group give) = boxes.Aggregate
+kind_of_told_body (Join size on) = boxes.Join
+kind_of_told_body (Resample size give) = boxes.Resample
 
 abbrev pub box_wires : Numbers → RawBox → BoxWires
-box_wires number_of b = record { kind = kind_of_body b.body; inputs = filter_map number_of b.ins; ports = ports_of b.body }
+box_wires number_of b = record { kind = kind_of_told_body b.body; inputs = filter_map number_of b.ins; ports = port_count b.body }
 
 abbrev pub wiring_by : Numbers → Raw → Wiring
 wiring_by number_of r = record {
@@ -87,8 +87,8 @@ wiring_by number_of r = record {
 }
 
 abbrev pub wiring_of : Raw → Wiring
-wiring_of r = wiring_by (stream_named (stream_names r)) r
+wiring_of r = wiring_by (told_stream_named (told_stream_names r)) r
 
 -- the least box on a cycle
 abbrev pub cycle_in : Wiring → Option Place
-cycle_in w = option_map (place_of part.Box) (find (is_on_cycle w) (numbers_to (length w.boxes)))
+cycle_in w = option_map (part_place part.Box) (find (is_on_cycle w) (numbers_to (length w.boxes)))

@@ -5,7 +5,7 @@ use Rattle.sq_net.specs.declared.Place.{Place}
 use Rattle.sq_tables.specs.declared.raw.RawBody.{RawBody}
 use Rattle.sq_tables.specs.declared.raw.RawBody.TheVariants.{Aggregate}
 use Rattle.sq_tables.specs.declared.raw.Raw.{Raw}
-use Rattle.sq_tables.specs.Places.{place_of}
+use Rattle.sq_tables.specs.Places.{part_place}
 use Rattle.sq_reader.specs.Limits.{first_failing}
 
 -- an advance of at least 1 and at most the size, which is at most 2^32 and at most 4096 advances
@@ -23,4 +23,4 @@ has_window b = true
 
 -- the first Aggregate whose size, advance and phase are no window
 abbrev pub window_place : Raw → Option Place
-window_place r = option_map (place_of part.Box) (first_failing (λ b. has_window b.body) r.boxes)
+window_place r = option_map (part_place part.Box) (first_failing (λ b. has_window b.body) r.boxes)

@@ -4,9 +4,9 @@ ghost use Rattle.sq_net.specs.Columns.{first_columns, second_columns};
 ghost use Rattle.sq_net.specs.Sound.{takes_within};
 ghost use Rattle.sq_tables.specs.declared.raw.RawBody.TheVariants as raw;
 ghost use Rattle.sq_tables.specs.Refusals.{is_memory};
-ghost use Rattle.sq_reader.specs.Columns.{aggregate_of, bad_given, body_of, bsort_of, filter_of, join_of, map_of, nat_of, resample_of, too_many, union_of, window_of};
-ghost use Rattle.sq_reader.specs.Limits.{body_within};
-ghost use Rattle.sq_reader.specs.Streaming.{kind_of_body};
+ghost use Rattle.sq_reader.specs.Columns.{typed_aggregate, bad_given, typed_body, bsort_of, filter_of, join_of, map_of, nat_of, typed_resample, too_many, union_of, window_read};
+ghost use Rattle.sq_reader.specs.Limits.{told_body_within};
+ghost use Rattle.sq_reader.specs.Streaming.{kind_of_told_body};
 
 use crate::boxes::{
     bad_name, copies_of, kinds_set, names_set, predicates_in, texts_set, unlike, values_in,
@@ -67,7 +67,7 @@ fn filter_of(
     scope: &Schema,
 ) -> Result<(Body, Vec<Schema>), NetErr>
     requires number { number < 2 ^ 32 }
-    requires within { body_within (raw.Filter preds.now) ≡ true }
+    requires within { told_body_within (raw.Filter preds.now) ≡ true }
     ensures ok { IfOk result (λ t. filter_of number preds.now scope.now ≡ Ok (t.0, t.1.items)) }
     ensures err { IfErr result (λ e. is_memory e ≡ false → filter_of number preds.now scope.now ≡ Err e) }
 {
@@ -89,7 +89,7 @@ fn map_of(
     scope: &Schema,
 ) -> Result<(Body, Vec<Schema>), NetErr>
     requires number { number < 2 ^ 32 }
-    requires within { body_within (raw.Map set.now) ≡ true }
+    requires within { told_body_within (raw.Map set.now) ≡ true }
     ensures ok { IfOk result (λ t. map_of number set.now scope.now ≡ Ok (t.0, t.1.items)) }
     ensures err { IfErr result (λ e. is_memory e ≡ false → map_of number set.now scope.now ≡ Err e) }
 {
@@ -132,7 +132,7 @@ fn bsort_of(
     scope: &Schema,
 ) -> Result<(Body, Vec<Schema>), NetErr>
     requires number { number < 2 ^ 32 }
-    requires within { body_within (raw.BSort by.now slack) ≡ true }
+    requires within { told_body_within (raw.BSort by.now slack) ≡ true }
     ensures ok { IfOk result (λ t. bsort_of number by.now slack scope.now ≡ Ok (t.0, t.1.items)) }
     ensures err { IfErr result (λ e. is_memory e ≡ false → bsort_of number by.now slack scope.now ≡ Err e) }
 {
@@ -168,7 +168,7 @@ fn bad_given(before: &[Name], given: &[Name]) -> Option<usize>
     }
 }
 
-fn aggregate_of(
+fn typed_aggregate(
     alloc: Global,
     number: usize,
     window: WindowSpec,
@@ -180,8 +180,8 @@ fn aggregate_of(
     requires group { length group.now ≤ 16 }
     requires some { 1 ≤ length give.now }
     requires few { length give.now ≤ 16 }
-    ensures ok { IfOk result (λ t. aggregate_of number window group.now give.now scope.now ≡ Ok (t.0, t.1.items)) }
-    ensures err { IfErr result (λ e. is_memory e ≡ false → aggregate_of number window group.now give.now scope.now ≡ Err e) }
+    ensures ok { IfOk result (λ t. typed_aggregate number window group.now give.now scope.now ≡ Ok (t.0, t.1.items)) }
+    ensures err { IfErr result (λ e. is_memory e ≡ false → typed_aggregate number window group.now give.now scope.now ≡ Err e) }
 {
     let given = give_names(alloc, give)?;
     if let Some(item) = bad_given(group, &given) {
@@ -210,7 +210,7 @@ fn join_of(
     ins: &[Schema],
 ) -> Result<(Body, Vec<Schema>), NetErr>
     requires number { number < 2 ^ 32 }
-    requires within { body_within (raw.Join size on.now) ≡ true }
+    requires within { told_body_within (raw.Join size on.now) ≡ true }
     requires two { length ins.now ≡ 2 }
     ensures ok { IfOk result (λ t. join_of number size on.now ins.now ≡ Ok (t.0, t.1.items)) }
     ensures err { IfErr result (λ e. is_memory e ≡ false → join_of number size on.now ins.now ≡ Err e) }
@@ -232,7 +232,7 @@ fn join_of(
     ))
 }
 
-fn resample_of(
+fn typed_resample(
     alloc: Global,
     number: usize,
     size: u64,
@@ -243,8 +243,8 @@ fn resample_of(
     requires some { 1 ≤ length give.now }
     requires few { length give.now ≤ 16 }
     requires two { length ins.now ≡ 2 }
-    ensures ok { IfOk result (λ t. resample_of number size give.now ins.now ≡ Ok (t.0, t.1.items)) }
-    ensures err { IfErr result (λ e. is_memory e ≡ false → resample_of number size give.now ins.now ≡ Err e) }
+    ensures ok { IfOk result (λ t. typed_resample number size give.now ins.now ≡ Ok (t.0, t.1.items)) }
+    ensures err { IfErr result (λ e. is_memory e ≡ false → typed_resample number size give.now ins.now ≡ Err e) }
 {
     let left = first_of(ins);
     let right = second_of(ins);
@@ -267,8 +267,8 @@ fn resample_of(
     ))
 }
 
-fn window_of(size: i64, advance: i64, phase: i64) -> WindowSpec
-    ensures { result ≡ window_of size advance phase }
+fn window_read(size: i64, advance: i64, phase: i64) -> WindowSpec
+    ensures { result ≡ window_read size advance phase }
 {
     WindowSpec {
         size: natural(size),
@@ -279,17 +279,17 @@ fn window_of(size: i64, advance: i64, phase: i64) -> WindowSpec
 
 /// What a box does on what it takes, and the schemas of its ports; or the first rule that it breaks.
 #[tactic(auto, using(crate::proofs::LimitLemmas::takes_of))]
-pub(crate) fn body_of(
+pub(crate) fn typed_body(
     alloc: Global,
     number: usize,
     body: &RawBody,
     ins: &[Schema],
 ) -> Result<(Body, Vec<Schema>), NetErr>
     requires number { number < 2 ^ 32 }
-    requires within { body_within body.now ≡ true }
-    requires takes { takes_within (kind_of_body body.now) (length ins.now) ≡ true }
-    ensures ok { IfOk result (λ t. body_of number body.now ins.now ≡ Ok (t.0, t.1.items)) }
-    ensures err { IfErr result (λ e. is_memory e ≡ false → body_of number body.now ins.now ≡ Err e) }
+    requires within { told_body_within body.now ≡ true }
+    requires takes { takes_within (kind_of_told_body body.now) (length ins.now) ≡ true }
+    ensures ok { IfOk result (λ t. typed_body number body.now ins.now ≡ Ok (t.0, t.1.items)) }
+    ensures err { IfErr result (λ e. is_memory e ≡ false → typed_body number body.now ins.now ≡ Err e) }
 {
     match body {
         RawBody::Filter { preds } => filter_of(alloc, number, preds.as_slice(), first_of(ins)),
@@ -302,17 +302,17 @@ pub(crate) fn body_of(
             phase,
             group,
             give,
-        } => aggregate_of(
+        } => typed_aggregate(
             alloc,
             number,
-            window_of(*size, *advance, *phase),
+            window_read(*size, *advance, *phase),
             group.as_slice(),
             give.as_slice(),
             first_of(ins),
         ),
         RawBody::Join { size, on } => join_of(alloc, number, *size, on, ins),
         RawBody::Resample { size, give } => {
-            resample_of(alloc, number, natural(*size), give.as_slice(), ins)
+            typed_resample(alloc, number, natural(*size), give.as_slice(), ins)
         }
     }
 }

@@ -3,7 +3,7 @@ ghost use Rattle.std.specs.Prelude.{IfOk};
 ghost use Rattle.sq_net.specs.Sound.{IsSound};
 ghost use Rattle.sq_points.specs.Limits.{KeepsDropLimits};
 ghost use Rattle.sq_reader.specs.Networks.{limited_network};
-ghost use Rattle.sq_tables.specs.Refusals.{Answers};
+ghost use Rattle.sq_tables.specs.Refusals.{IsAnswerOf};
 
 use crate::limits::whole;
 use sq_net::{NetErr, Network, Part};
@@ -15,7 +15,7 @@ use std::alloc::Global;
 #[tactic(auto, using(crate::proofs::DropLemmas::limits_kept, crate::proofs::DropLemmas::long_refused, crate::proofs::DropLemmas::wide_refused))]
 pub(crate) fn limited_network(alloc: Global, network: Network) -> Result<Network, NetErr>
     requires { IsSound network }
-    ensures answer { Answers result (limited_network network) }
+    ensures answer { IsAnswerOf result (limited_network network) }
     ensures sound { IfOk result IsSound }
     ensures limits { IfOk result KeepsDropLimits }
 {

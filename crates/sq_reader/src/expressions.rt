@@ -8,7 +8,7 @@ ghost use Rattle.sq_net.specs.declared.Part.TheVariants as part;
 ghost use Rattle.sq_reader.specs.Expressions.{allowed, may_be_predicate, may_be_set, or_no_expression, parsed_from, predicate_of};
 ghost use Rattle.sq_reader.specs.Limits.{is_expression_long};
 ghost use Rattle.sq_tables.specs.Places.{place_at};
-ghost use Rattle.sq_tables.specs.Refusals.{Answers, is_memory};
+ghost use Rattle.sq_tables.specs.Refusals.{IsAnswerOf, is_memory};
 
 use crate::limits::place_at;
 use crate::push;
@@ -21,7 +21,7 @@ fn expression_in(alloc: Global, number: usize, item: usize, text: &str) -> Resul
     requires number { number < 2 ^ 32 }
     requires item { item < 2 ^ 32 }
     requires length { length text.now ≤ 4096 }
-    ensures { Answers result (or_no_expression number item (parse_in text.now)) }
+    ensures { IsAnswerOf result (or_no_expression number item (parse_in text.now)) }
 {
     match parse(alloc, text) {
         Ok(ast) => Ok(ast),
@@ -75,7 +75,7 @@ pub(crate) fn predicate_in(
 ) -> Result<Typed, NetErr>
     requires number { number < 2 ^ 32 }
     requires item { item < 2 ^ 32 }
-    ensures { Answers result (allowed (broken.Typing (place_at part.Box number item)) may_be_predicate scope.now (check_in scope.now ast.now)) }
+    ensures { IsAnswerOf result (allowed (broken.Typing (place_at part.Box number item)) may_be_predicate scope.now (check_in scope.now ast.now)) }
 {
     match check(alloc, ast, scope) {
         Ok(e) => {
@@ -98,7 +98,7 @@ pub(crate) fn set_in(
 ) -> Result<Typed, NetErr>
     requires number { number < 2 ^ 32 }
     requires item { item < 2 ^ 32 }
-    ensures { Answers result (allowed (broken.Typing (place_at part.Box number item)) may_be_set scope.now (check_in scope.now ast.now)) }
+    ensures { IsAnswerOf result (allowed (broken.Typing (place_at part.Box number item)) may_be_set scope.now (check_in scope.now ast.now)) }
 {
     match check(alloc, ast, scope) {
         Ok(e) => {
@@ -121,7 +121,7 @@ pub(crate) fn predicate_of(
 ) -> Result<Typed, NetErr>
     requires number { number < 2 ^ 32 }
     requires long { is_expression_long text.now ≡ true }
-    ensures { Answers result (predicate_of number scope.now text.now) }
+    ensures { IsAnswerOf result (predicate_of number scope.now text.now) }
 {
     let ast = expression_in(alloc, number, 0, text.as_str())?;
     predicate_in(alloc, number, 0, &ast, scope)

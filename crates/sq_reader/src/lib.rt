@@ -9,7 +9,7 @@ ghost use Rattle.std.specs.Prelude.{◌≡◌, ◌++◌, ◌∷◌, [], IfOk, On
 ghost use Rattle.sq_net.specs.Sound.{IsSound};
 ghost use Rattle.sq_points.specs.Limits.{KeepsDropLimits};
 ghost use Rattle.sq_reader.specs.Networks.{network_in};
-ghost use Rattle.sq_tables.specs.Refusals.{Answers};
+ghost use Rattle.sq_tables.specs.Refusals.{IsAnswerOf};
 
 mod bodies;
 mod boxes;
@@ -41,7 +41,7 @@ pub(crate) fn push<T: Drop>(list: &mut Vec<T>, item: T) -> Result<(), AllocError
 /// with its first place.
 #[tactic(auto, using(crate::proofs::SoundLemmas::answer_sound))]
 pub fn read_network(alloc: Global, bytes: &[u8]) -> Result<Network, NetErr>
-    ensures answer { Answers result (network_in bytes.now) }
+    ensures answer { IsAnswerOf result (network_in bytes.now) }
     ensures sound { IfOk result IsSound }
     ensures limits { IfOk result KeepsDropLimits }
 {

@@ -2,8 +2,8 @@
 ghost use Rattle.std.specs.Prelude.{◌≡◌, ◌<◌, ◌^◌};
 ghost use Rattle.std.specs.List.{list_all};
 ghost use Rattle.sq_net.specs.declared.Part.TheVariants as part;
-ghost use Rattle.sq_reader.specs.Limits.{body_within, box_within, first_failing, has_between, inputs_within, is_between, is_expression_long, limit_place, output_within, source_within, top_within};
-ghost use Rattle.sq_tables.specs.Places.{place_at, place_of};
+ghost use Rattle.sq_reader.specs.Limits.{told_body_within, box_within, first_failing, has_between, inputs_within, is_int_between, is_expression_long, limit_place, told_output_within, told_source_within, top_within};
+ghost use Rattle.sq_tables.specs.Places.{place_at, part_place};
 
 use sq_net::{Part, Place};
 use sq_tables::{Raw, RawBody, RawBox, RawOutput, RawSource, Setting};
@@ -25,14 +25,14 @@ pub(crate) fn place_at(part: Part, number: usize, item: usize) -> Place
 /// The place of a part as a whole.
 pub(crate) fn whole(part: Part, number: usize) -> Place
     requires { number < 2 ^ 32 }
-    ensures { result ≡ place_of part number }
+    ensures { result ≡ part_place part number }
 {
     place_at(part, number, 0)
 }
 
-fn is_between(number: i64, low: u32, high: u64) -> bool
+fn is_int_between(number: i64, low: u32, high: u64) -> bool
     requires { high < 2 ^ 63 }
-    ensures { result ≡ is_between low high number }
+    ensures { result ≡ is_int_between low high number }
 {
     i64::from(low) <= number && number <= high as i64
 }
@@ -55,12 +55,12 @@ fn top_within(raw: &Raw) -> bool
     has_between(raw.sources.as_slice(), 1, 8)
         && has_between(raw.boxes.as_slice(), 0, 128)
         && has_between(raw.outputs.as_slice(), 1, 32)
-        && is_between(raw.epoch, 1, 1 << 34)
-        && is_between(raw.batch, 1, 1_000_000)
+        && is_int_between(raw.epoch, 1, 1 << 34)
+        && is_int_between(raw.batch, 1, 1_000_000)
 }
 
-fn source_within(source: &RawSource) -> bool
-    ensures { result ≡ source_within source.now }
+fn told_source_within(source: &RawSource) -> bool
+    ensures { result ≡ told_source_within source.now }
 {
     has_between(source.file.as_str().as_bytes(), 1, 255)
         && has_between(source.fields.as_slice(), 1, 16)
@@ -78,8 +78,8 @@ fn are_set_long(set: &[Setting]) -> bool
     set.iter().all(|setting| is_expression_long(&setting.text))
 }
 
-fn body_within(body: &RawBody) -> bool
-    ensures { result ≡ body_within body.now }
+fn told_body_within(body: &RawBody) -> bool
+    ensures { result ≡ told_body_within body.now }
 {
     match body {
         RawBody::Filter { preds } => {
@@ -87,13 +87,13 @@ fn body_within(body: &RawBody) -> bool
         }
         RawBody::Map { set } => has_between(set.as_slice(), 1, 16) && are_set_long(set.as_slice()),
         RawBody::Union => true,
-        RawBody::BSort { slack, .. } => is_between(*slack, 0, 10_000),
+        RawBody::BSort { slack, .. } => is_int_between(*slack, 0, 10_000),
         RawBody::Aggregate { group, give, .. } => {
             has_between(group.as_slice(), 0, 16) && has_between(give.as_slice(), 1, 16)
         }
-        RawBody::Join { size, on } => is_between(*size, 0, 1 << 32) && is_expression_long(on),
+        RawBody::Join { size, on } => is_int_between(*size, 0, 1 << 32) && is_expression_long(on),
         RawBody::Resample { size, give } => {
-            is_between(*size, 0, 1 << 32) && has_between(give.as_slice(), 1, 16)
+            is_int_between(*size, 0, 1 << 32) && has_between(give.as_slice(), 1, 16)
         }
     }
 }
@@ -112,32 +112,32 @@ fn inputs_within(body: &RawBody, ins: &[Name]) -> bool
 }
 
 fn are_permille(selectivity: &[i64]) -> bool
-    ensures { result ≡ list_all (is_between 0 1000000) selectivity.now }
+    ensures { result ≡ list_all (is_int_between 0 1000000) selectivity.now }
 {
     selectivity
         .iter()
-        .all(|number| is_between(*number, 0, 1_000_000))
+        .all(|number| is_int_between(*number, 0, 1_000_000))
 }
 
 fn box_within(b: &RawBox) -> bool
     ensures { result ≡ box_within b.now }
 {
-    body_within(&b.body)
+    told_body_within(&b.body)
         && inputs_within(&b.body, b.ins.as_slice())
-        && is_between(b.cost, 0, 1000)
+        && is_int_between(b.cost, 0, 1000)
         && are_permille(b.selectivity.as_slice())
 }
 
-fn output_within(output: &RawOutput) -> bool
-    ensures { result ≡ output_within output.now }
+fn told_output_within(output: &RawOutput) -> bool
+    ensures { result ≡ told_output_within output.now }
 {
-    is_between(output.weight, 0, 1000) && has_between(output.graph.as_slice(), 0, 1000)
+    is_int_between(output.weight, 0, 1000) && has_between(output.graph.as_slice(), 0, 1000)
 }
 
 fn wide_source(sources: &[RawSource]) -> Option<usize>
-    ensures { result ≡ first_failing source_within sources.now }
+    ensures { result ≡ first_failing told_source_within sources.now }
 {
-    sources.iter().position(|source| !source_within(source))
+    sources.iter().position(|source| !told_source_within(source))
 }
 
 fn wide_box(boxes: &[RawBox]) -> Option<usize>
@@ -147,9 +147,9 @@ fn wide_box(boxes: &[RawBox]) -> Option<usize>
 }
 
 fn wide_output(outputs: &[RawOutput]) -> Option<usize>
-    ensures { result ≡ first_failing output_within outputs.now }
+    ensures { result ≡ first_failing told_output_within outputs.now }
 {
-    outputs.iter().position(|output| !output_within(output))
+    outputs.iter().position(|output| !told_output_within(output))
 }
 
 /// The first place where a number or a length is out of its limits.

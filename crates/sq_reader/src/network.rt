@@ -6,9 +6,9 @@ ghost use Rattle.sq_net.specs.declared.NetErr.TheVariants as broken;
 ghost use Rattle.sq_net.specs.declared.Part.TheVariants as part;
 ghost use Rattle.sq_reader.specs.Limits.{limit_place};
 ghost use Rattle.sq_reader.specs.Networks.{graphed_network, named_network, single_network, streamed_network, typed_network, windowed_network, wired_network};
-ghost use Rattle.sq_tables.specs.Places.{place_of};
-ghost use Rattle.sq_tables.specs.Refusals.{Answers, is_memory};
-ghost use Rattle.sq_reader.specs.Streaming.{cycle_in, number_in, stream_named, stream_names, unknown_place, wiring_of};
+ghost use Rattle.sq_tables.specs.Places.{part_place};
+ghost use Rattle.sq_tables.specs.Refusals.{IsAnswerOf, is_memory};
+ghost use Rattle.sq_reader.specs.Streaming.{cycle_in, number_named, told_stream_named, told_stream_names, unknown_place, wiring_of};
 
 use crate::bodies::natural;
 use crate::limits::limit_place;
@@ -16,7 +16,7 @@ use crate::names::{name_place, twice_place};
 use crate::nodes::nodes_in;
 use crate::outputs::outputs_in;
 use crate::sources::sources_in;
-use crate::streams::{numbers_of, stream_names, unknown_place, wiring};
+use crate::streams::{numbers_of, told_stream_names, unknown_place, wiring};
 use crate::windows::window_place;
 use indexmap::IndexMap;
 use sq_graph::{OrderErr, Wiring, order};
@@ -37,7 +37,7 @@ fn order_in(alloc: Global, w: &Wiring) -> Result<Vec<u32>, NetErr>
     requires wired { IsWired w.now }
     ensures ok { IfOk result (λ v. v.items ≡ order_of w.now) }
     ensures acyclic { OnOk result (cycle_in w.now ≡ None) }
-    ensures err { IfErr result (λ e. is_memory e ≡ false → (at : ℕ) × (e ≡ broken.Cycle (place_of part.Box at)) × (cycle_in w.now ≡ Some (place_of part.Box at))) }
+    ensures err { IfErr result (λ e. is_memory e ≡ false → (at : ℕ) × (e ≡ broken.Cycle (part_place part.Box at)) × (cycle_in w.now ≡ Some (part_place part.Box at))) }
 {
     match order(alloc, w) {
         Ok(order) => Ok(order),
@@ -61,7 +61,7 @@ fn graphed_network(
     requires known { unknown_place raw.now ≡ None }
     requires wires { wires ≡ wiring_of raw.now }
     requires ordered { order.now ≡ order_of wires }
-    ensures { Answers result (graphed_network raw.now wires) }
+    ensures { IsAnswerOf result (graphed_network raw.now wires) }
 {
     let outputs = outputs_in(alloc, raw.outputs.as_slice())?;
     let sources = sources_in(alloc, raw.sources.as_slice())?;
@@ -88,7 +88,7 @@ fn windowed_network(
     requires known { unknown_place raw.now ≡ None }
     requires wires { wires ≡ wiring_of raw.now }
     requires ordered { order.now ≡ order_of wires }
-    ensures { Answers result (windowed_network raw.now wires) }
+    ensures { IsAnswerOf result (windowed_network raw.now wires) }
 {
     if let Some(place) = window_place(raw) {
         return Err(NetErr::Window(place));
@@ -100,7 +100,7 @@ fn wired_network(alloc: Global, raw: &Raw, wires: Wiring) -> Result<Network, Net
     requires within { limit_place raw.now ≡ None }
     requires known { unknown_place raw.now ≡ None }
     requires wires { wires ≡ wiring_of raw.now }
-    ensures { Answers result (wired_network raw.now wires) }
+    ensures { IsAnswerOf result (wired_network raw.now wires) }
 {
     let order = order_in(alloc, &wires)?;
     windowed_network(alloc, raw, wires, &order)
@@ -112,8 +112,8 @@ fn streamed_network(
     numbers: &IndexMap<&str, u32>,
 ) -> Result<Network, NetErr>
     requires within { limit_place raw.now ≡ None }
-    requires numbers { number_in numbers.now.entries ≡ stream_named (stream_names raw.now) }
-    ensures { Answers result (streamed_network raw.now (number_in numbers.now.entries)) }
+    requires numbers { number_named numbers.now.entries ≡ told_stream_named (told_stream_names raw.now) }
+    ensures { IsAnswerOf result (streamed_network raw.now (number_named numbers.now.entries)) }
 {
     if let Some(place) = unknown_place(numbers, raw) {
         return Err(NetErr::Unknown(place));
@@ -125,12 +125,12 @@ fn streamed_network(
 #[tactic(auto, using(crate::proofs::LimitLemmas::counts_of))]
 fn single_network(alloc: Global, raw: &Raw) -> Result<Network, NetErr>
     requires within { limit_place raw.now ≡ None }
-    ensures { Answers result (single_network raw.now) }
+    ensures { IsAnswerOf result (single_network raw.now) }
 {
     if let Some(place) = twice_place(alloc, raw)? {
         return Err(NetErr::Twice(place));
     }
-    let names = stream_names(alloc, raw)?;
+    let names = told_stream_names(alloc, raw)?;
     let numbers = numbers_of(alloc, &names)?;
     streamed_network(alloc, raw, &numbers)
 }
@@ -138,7 +138,7 @@ fn single_network(alloc: Global, raw: &Raw) -> Result<Network, NetErr>
 #[tactic(auto, using(crate::proofs::LimitLemmas::counts_of))]
 fn named_network(alloc: Global, raw: &Raw) -> Result<Network, NetErr>
     requires within { limit_place raw.now ≡ None }
-    ensures { Answers result (named_network raw.now) }
+    ensures { IsAnswerOf result (named_network raw.now) }
 {
     if let Some(place) = name_place(raw) {
         return Err(NetErr::NoName(place));
@@ -148,7 +148,7 @@ fn named_network(alloc: Global, raw: &Raw) -> Result<Network, NetErr>
 
 /// The network of a file's tables, or the first broken rule.
 pub(crate) fn typed_network(alloc: Global, raw: &Raw) -> Result<Network, NetErr>
-    ensures { Answers result (typed_network raw.now) }
+    ensures { IsAnswerOf result (typed_network raw.now) }
 {
     if let Some(place) = limit_place(raw) {
         return Err(NetErr::Limit(place));

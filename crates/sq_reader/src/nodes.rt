@@ -3,13 +3,13 @@ ghost use Rattle.std.specs.Prelude.{◌≡◌, ◌<◌, ◌^◌, true, false, Ok
 ghost use Rattle.sq_graph.specs.Order.{order_of};
 ghost use Rattle.sq_graph.specs.Wires.{inputs_of};
 ghost use Rattle.sq_net.specs.Sound.{takes_within};
-ghost use Rattle.sq_reader.specs.Columns.{columns_taken, nat_of, no_nodes, node_at, node_in, nodes_from};
+ghost use Rattle.sq_reader.specs.Columns.{columns_taken, nat_of, no_nodes, typed_node, node_in, nodes_from};
 ghost use Rattle.sq_reader.specs.Limits.{box_within, limit_place};
-ghost use Rattle.sq_reader.specs.Streaming.{kind_of_body, unknown_place, wiring_of};
+ghost use Rattle.sq_reader.specs.Streaming.{kind_of_told_body, unknown_place, wiring_of};
 ghost use Rattle.sq_tables.specs.declared.raw.RawBox.{RawBox};
-ghost use Rattle.sq_tables.specs.Refusals.{Answers, is_memory};
+ghost use Rattle.sq_tables.specs.Refusals.{IsAnswerOf, is_memory};
 
-use crate::bodies::{body_of, natural};
+use crate::bodies::{typed_body, natural};
 use crate::boxes::schemas_taken;
 use sq_graph::Wiring;
 use sq_net::{NetErr, Node, Source};
@@ -31,10 +31,10 @@ fn naturals(alloc: Global, numbers: &[i64]) -> Result<Vec<u64>, AllocError>
 fn node_in(alloc: Global, number: usize, b: &RawBox, ins: &[Schema]) -> Result<Node, NetErr>
     requires number { number < 2 ^ 32 }
     requires within { box_within b.now ≡ true }
-    requires takes { takes_within (kind_of_body b.now.body) (length ins.now) ≡ true }
-    ensures { Answers result (node_in number b.now ins.now) }
+    requires takes { takes_within (kind_of_told_body b.now.body) (length ins.now) ≡ true }
+    ensures { IsAnswerOf result (node_in number b.now ins.now) }
 {
-    let (body, schemas) = body_of(alloc, number, &b.body, ins)?;
+    let (body, schemas) = typed_body(alloc, number, &b.body, ins)?;
     let name = copy_name(&b.name)?;
     let selectivity = naturals(alloc, b.selectivity.as_slice())?;
     Ok(Node {
@@ -56,7 +56,7 @@ fn no_nodes(alloc: Global, count: usize) -> Result<Vec<Option<Node>>, AllocError
     Ok(nodes)
 }
 
-fn node_at(
+fn typed_node(
     alloc: Global,
     raw: &Raw,
     w: &Wiring,
@@ -67,8 +67,8 @@ fn node_at(
     requires within { limit_place raw.now ≡ None }
     requires wires { w.now ≡ wiring_of raw.now }
     requires there { at < length raw.now.boxes }
-    requires takes { (b : RawBox) → slice_get raw.now.boxes at ≡ Some b → takes_within (kind_of_body b.body) (length (columns_taken w.now sources.now nodes.now (inputs_of w.now at))) ≡ true }
-    ensures { Answers result (node_at raw.now w.now sources.now nodes.now at) }
+    requires takes { (b : RawBox) → slice_get raw.now.boxes at ≡ Some b → takes_within (kind_of_told_body b.body) (length (columns_taken w.now sources.now nodes.now (inputs_of w.now at))) ≡ true }
+    ensures { IsAnswerOf result (typed_node raw.now w.now sources.now nodes.now at) }
 {
     let b = &raw.boxes.as_slice()[at];
     let wires = &w.boxes.as_slice()[at];
@@ -102,7 +102,7 @@ pub(crate) fn nodes_in(
 {
     let mut nodes = no_nodes(alloc, raw.boxes.as_slice().len())?;
     for at in order {
-        let node = match node_at(alloc, raw, w, sources, &nodes, *at as usize) {
+        let node = match typed_node(alloc, raw, w, sources, &nodes, *at as usize) {
             Ok(node) => node,
             Err(e) => return Err(e),
         };

@@ -2,8 +2,8 @@
 ghost use Rattle.std.specs.Prelude.{◌≡◌, ◌≤◌, ◌<◌, ◌^◌, true, false, Some, None, IfOk, IfErr, length, map};
 ghost use Rattle.std.specs.List.{list_all};
 ghost use Rattle.sq_tables.specs.Refusals.{is_memory};
-ghost use Rattle.sq_reader.specs.Limits.{output_within};
-ghost use Rattle.sq_reader.specs.Outputs.{graph_fault_at, graph_fault_from, output_of, point_number, points_of};
+ghost use Rattle.sq_reader.specs.Limits.{told_output_within};
+ghost use Rattle.sq_reader.specs.Outputs.{graph_fault_at, graph_fault_from, output_of, point_number, graph_points};
 
 use crate::bodies::natural;
 use crate::limits::whole;
@@ -20,8 +20,8 @@ fn point_number(number: i64) -> u32
     u32::try_from(number).unwrap_or(u32::MAX)
 }
 
-fn points_of(alloc: Global, points: &[(i64, i64)]) -> Result<Vec<(u32, u32)>, AllocError>
-    ensures { IfOk result (λ v. v.items ≡ points_of points.now) }
+fn graph_points(alloc: Global, points: &[(i64, i64)]) -> Result<Vec<(u32, u32)>, AllocError>
+    ensures { IfOk result (λ v. v.items ≡ graph_points points.now) }
 {
     points
         .iter()
@@ -31,19 +31,19 @@ fn points_of(alloc: Global, points: &[(i64, i64)]) -> Result<Vec<(u32, u32)>, Al
 
 fn graph_in(alloc: Global, number: usize, points: &[(i64, i64)]) -> Result<Graph, NetErr>
     requires { number < 2 ^ 32 }
-    ensures graph { IfOk result (λ g. g ≡ points_of points.now) }
+    ensures graph { IfOk result (λ g. g ≡ graph_points points.now) }
     ensures ok { IfOk result (λ _. graph_fault_at number points.now ≡ None) }
     ensures err { IfErr result (λ e. is_memory e ≡ false → graph_fault_at number points.now ≡ Some e) }
 {
-    match Graph::new(points_of(alloc, points)?) {
+    match Graph::new(graph_points(alloc, points)?) {
         Ok(graph) => Ok(graph),
         Err(why) => Err(NetErr::Graph(whole(Part::Output, number), why)),
     }
 }
 
 fn output_of(output: &RawOutput, graph: Graph) -> Result<Output, AllocError>
-    requires within { output_within output.now ≡ true }
-    requires graph { graph ≡ points_of output.now.graph }
+    requires within { told_output_within output.now ≡ true }
+    requires graph { graph ≡ graph_points output.now.graph }
     ensures { IfOk result (λ o. o ≡ output_of output.now) }
 {
     let name = copy_name(&output.name)?;
@@ -57,7 +57,7 @@ fn output_of(output: &RawOutput, graph: Graph) -> Result<Output, AllocError>
 /// The outputs, or the first whose points are no graph.
 pub(crate) fn outputs_in(alloc: Global, outputs: &[RawOutput]) -> Result<Vec<Output>, NetErr>
     requires few { length outputs.now ≤ 32 }
-    requires within { list_all output_within outputs.now ≡ true }
+    requires within { list_all told_output_within outputs.now ≡ true }
     ensures outputs { IfOk result (λ v. v.items ≡ map output_of outputs.now) }
     ensures ok { IfOk result (λ _. graph_fault_from 0 outputs.now ≡ None) }
     ensures err { IfErr result (λ e. is_memory e ≡ false → graph_fault_from 0 outputs.now ≡ Some e) }

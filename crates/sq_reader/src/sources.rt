@@ -3,8 +3,8 @@ ghost use Rattle.std.specs.Prelude.{◌≡◌, ◌<◌, ◌≤◌, ◌^◌, [], 
 ghost use Rattle.std.specs.List.{list_all, zip};
 ghost use Rattle.sq_value.specs.Lists.{contains_bytes};
 ghost use Rattle.sq_value.specs.Schemas.{schema_error};
-ghost use Rattle.sq_reader.specs.Limits.{source_within};
-ghost use Rattle.sq_tables.specs.Refusals.{Answers, is_memory};
+ghost use Rattle.sq_reader.specs.Limits.{told_source_within};
+ghost use Rattle.sq_tables.specs.Refusals.{IsAnswerOf, is_memory};
 ghost use Rattle.sq_reader.specs.Sources.{column_in, columns_from, kind_named, sources_from};
 
 use crate::limits::place_at;
@@ -71,7 +71,7 @@ fn schema_in(alloc: Global, number: usize, fields: &[Name]) -> Result<Schema, Ne
     requires number { number < 2 ^ 32 }
     requires some { 1 ≤ length fields.now }
     requires few { length fields.now ≤ 16 }
-    ensures { Answers result (columns_from number 0 [] fields.now) }
+    ensures { IsAnswerOf result (columns_from number 0 [] fields.now) }
 {
     let mut names = Vec::new(alloc);
     let mut kinds = Vec::new(alloc);
@@ -90,7 +90,7 @@ fn schema_in(alloc: Global, number: usize, fields: &[Name]) -> Result<Schema, Ne
 /// The sources with their schemas, or the first field that is no column.
 pub(crate) fn sources_in(alloc: Global, sources: &[RawSource]) -> Result<Vec<Source>, NetErr>
     requires few { length sources.now ≤ 8 }
-    requires within { list_all source_within sources.now ≡ true }
+    requires within { list_all told_source_within sources.now ≡ true }
     ensures ok { IfOk result (λ v. sources_from 0 sources.now ≡ Ok v.items) }
     ensures err { IfErr result (λ e. is_memory e ≡ false → sources_from 0 sources.now ≡ Err e) }
 {

@@ -3,17 +3,17 @@ ghost use Rattle.std.specs.Prelude.{◌≡◌, ◌+◌, ◌<◌, ◌≤◌, ◌^
 ghost use Rattle.std.specs.List.{flat_map, filter_map, list_all};
 ghost use Rattle.sq_value.specs.Lists.{numbers_to};
 ghost use Rattle.sq_net.specs.declared.Part.TheVariants as part;
-ghost use Rattle.sq_reader.specs.Limits.{body_within, box_within, first_failing, limit_place};
+ghost use Rattle.sq_reader.specs.Limits.{told_body_within, box_within, first_failing, limit_place};
 ghost use Rattle.sq_tables.specs.Places.{place_at};
-ghost use Rattle.sq_tables.specs.Shapes.{ports_of};
-ghost use Rattle.sq_reader.specs.Streaming.{also_numbered, box_wires, is_stream, kind_of_body, number_in, port_name, port_names, stream_named, stream_names, unknown_among, unknown_in_boxes, wiring_by};
+ghost use Rattle.sq_tables.specs.Shapes.{port_count};
+ghost use Rattle.sq_reader.specs.Streaming.{also_numbered, box_wires, is_stream, kind_of_told_body, number_named, port_name, told_port_names, told_stream_named, told_stream_names, unknown_among, unknown_in_boxes, wiring_by};
 
 use crate::limits::{place_at, whole};
 use crate::names::source_names;
 use indexmap::IndexMap;
 use sq_graph::{BoxKind, BoxWires, Wiring};
 use sq_net::{Part, Place};
-use sq_tables::{Raw, RawBody, RawBox, RawOutput, ports_of};
+use sq_tables::{Raw, RawBody, RawBox, RawOutput, port_count};
 use sq_value::{ListOf, Name, copy_name};
 use std::alloc::{AllocError, Global};
 
@@ -42,8 +42,8 @@ fn push_filter_ports(
 
 #[tactic(auto, using(crate::proofs::LimitLemmas::ports_few))]
 fn push_ports(alloc: Global, names: &mut Vec<Name>, b: &RawBox) -> Result<(), AllocError>
-    requires { body_within b.now.body ≡ true }
-    ensures { OnOk result (names.new.items ≡ names.old.items ++ port_names b.now.name b.now.body) }
+    requires { told_body_within b.now.body ≡ true }
+    ensures { OnOk result (names.new.items ≡ names.old.items ++ told_port_names b.now.name b.now.body) }
 {
     match &b.body {
         RawBody::Filter { preds } => {
@@ -60,7 +60,7 @@ fn push_ports(alloc: Global, names: &mut Vec<Name>, b: &RawBox) -> Result<(), Al
 
 fn push_all_ports(alloc: Global, names: &mut Vec<Name>, boxes: &[RawBox]) -> Result<(), AllocError>
     requires { list_all box_within boxes.now ≡ true }
-    ensures { OnOk result (names.new.items ≡ names.old.items ++ flat_map (λ b. port_names b.name b.body) boxes.now) }
+    ensures { OnOk result (names.new.items ≡ names.old.items ++ flat_map (λ b. told_port_names b.name b.body) boxes.now) }
 {
     for b in boxes {
         push_ports(alloc, names, b)?;
@@ -70,9 +70,9 @@ fn push_all_ports(alloc: Global, names: &mut Vec<Name>, boxes: &[RawBox]) -> Res
 
 /// The names of the streams, by number.
 #[tactic(auto, using(crate::proofs::LimitLemmas::counts_of, crate::proofs::WiringLemmas::streams_few))]
-pub(crate) fn stream_names(alloc: Global, raw: &Raw) -> Result<Vec<Name>, AllocError>
+pub(crate) fn told_stream_names(alloc: Global, raw: &Raw) -> Result<Vec<Name>, AllocError>
     requires within { limit_place raw.now ≡ None }
-    ensures names { IfOk result (λ v. v.items ≡ stream_names raw.now) }
+    ensures names { IfOk result (λ v. v.items ≡ told_stream_names raw.now) }
     ensures few { IfOk result (λ v. length v.items < 2 ^ 32) }
 {
     let mut names = source_names(alloc, raw.sources.as_slice())?;
@@ -85,7 +85,7 @@ fn add_number<'a>(
     name: &'a str,
     number: u32,
 ) -> Result<(), AllocError>
-    ensures { OnOk result ((w : List ℕ) → number_in numbers.new.entries w ≡ also_numbered (number_in numbers.old.entries) name.now number w) }
+    ensures { OnOk result ((w : List ℕ) → number_named numbers.new.entries w ≡ also_numbered (number_named numbers.old.entries) name.now number w) }
 {
     if numbers.contains_key(name) {
         return Ok(());
@@ -100,7 +100,7 @@ pub(crate) fn numbers_of<'a>(
     names: &'a [Name],
 ) -> Result<IndexMap<&'a str, u32>, AllocError>
     requires { length names.now < 2 ^ 32 }
-    ensures { IfOk result (λ m. number_in m.entries ≡ stream_named names.now) }
+    ensures { IfOk result (λ m. number_named m.entries ≡ told_stream_named names.now) }
 {
     let mut numbers = IndexMap::new(alloc);
     for (number, name) in names.iter().enumerate() {
@@ -110,19 +110,19 @@ pub(crate) fn numbers_of<'a>(
 }
 
 fn number_of(numbers: &IndexMap<&str, u32>, name: &str) -> Option<u32>
-    ensures { result ≡ number_in numbers.now.entries name.now }
+    ensures { result ≡ number_named numbers.now.entries name.now }
 {
     numbers.get(name).copied()
 }
 
 fn is_stream(numbers: &IndexMap<&str, u32>, name: &str) -> bool
-    ensures { result ≡ is_stream (number_in numbers.now.entries) name.now }
+    ensures { result ≡ is_stream (number_named numbers.now.entries) name.now }
 {
     number_of(numbers, name).is_some()
 }
 
 fn unknown_input(numbers: &IndexMap<&str, u32>, ins: &[Name]) -> Option<usize>
-    ensures first { result ≡ first_failing (is_stream (number_in numbers.now.entries)) ins.now }
+    ensures first { result ≡ first_failing (is_stream (number_named numbers.now.entries)) ins.now }
     ensures within { IfSome result (λ i. i < length ins.now) }
 {
     ins.iter()
@@ -130,7 +130,7 @@ fn unknown_input(numbers: &IndexMap<&str, u32>, ins: &[Name]) -> Option<usize>
 }
 
 fn unknown_output(numbers: &IndexMap<&str, u32>, outputs: &[RawOutput]) -> Option<usize>
-    ensures { result ≡ first_failing (λ o. is_stream (number_in numbers.now.entries) o.from) outputs.now }
+    ensures { result ≡ first_failing (λ o. is_stream (number_named numbers.now.entries) o.from) outputs.now }
 {
     outputs
         .iter()
@@ -140,7 +140,7 @@ fn unknown_output(numbers: &IndexMap<&str, u32>, outputs: &[RawOutput]) -> Optio
 fn unknown_in_boxes(numbers: &IndexMap<&str, u32>, boxes: &[RawBox]) -> Option<Place>
     requires boxes { length boxes.now ≤ 128 }
     requires within { list_all box_within boxes.now ≡ true }
-    ensures { result ≡ unknown_in_boxes (number_in numbers.now.entries) 0 boxes.now }
+    ensures { result ≡ unknown_in_boxes (number_named numbers.now.entries) 0 boxes.now }
 {
     for (number, b) in boxes.iter().enumerate() {
         if let Some(item) = unknown_input(numbers, b.ins.as_slice()) {
@@ -154,7 +154,7 @@ fn unknown_in_boxes(numbers: &IndexMap<&str, u32>, boxes: &[RawBox]) -> Option<P
 #[tactic(auto, using(crate::proofs::LimitLemmas::counts_of))]
 pub(crate) fn unknown_place(numbers: &IndexMap<&str, u32>, raw: &Raw) -> Option<Place>
     requires within { limit_place raw.now ≡ None }
-    ensures { result ≡ unknown_among (number_in numbers.now.entries) raw.now }
+    ensures { result ≡ unknown_among (number_named numbers.now.entries) raw.now }
 {
     if let Some(place) = unknown_in_boxes(numbers, raw.boxes.as_slice()) {
         return Some(place);
@@ -170,7 +170,7 @@ fn inputs_of(
     numbers: &IndexMap<&str, u32>,
     ins: &[Name],
 ) -> Result<Vec<u32>, AllocError>
-    ensures { IfOk result (λ v. v.items ≡ filter_map (number_in numbers.now.entries) ins.now) }
+    ensures { IfOk result (λ v. v.items ≡ filter_map (number_named numbers.now.entries) ins.now) }
 {
     ins.iter()
         .filter_map(|name| number_of(numbers, name.as_str()))
@@ -182,7 +182,7 @@ fn outputs_of(
     numbers: &IndexMap<&str, u32>,
     outputs: &[RawOutput],
 ) -> Result<Vec<u32>, AllocError>
-    ensures { IfOk result (λ v. v.items ≡ filter_map (λ o. number_in numbers.now.entries o.from) outputs.now) }
+    ensures { IfOk result (λ v. v.items ≡ filter_map (λ o. number_named numbers.now.entries o.from) outputs.now) }
 {
     outputs
         .iter()
@@ -191,7 +191,7 @@ fn outputs_of(
 }
 
 fn kind_of(body: &RawBody) -> BoxKind
-    ensures { result ≡ kind_of_body body.now }
+    ensures { result ≡ kind_of_told_body body.now }
 {
     match body {
         RawBody::Filter { .. } => BoxKind::Filter,
@@ -210,14 +210,14 @@ fn box_wires(
     numbers: &IndexMap<&str, u32>,
     b: &RawBox,
 ) -> Result<BoxWires, AllocError>
-    requires { body_within b.now.body ≡ true }
-    ensures { IfOk result (λ w. w ≡ box_wires (number_in numbers.now.entries) b.now) }
+    requires { told_body_within b.now.body ≡ true }
+    ensures { IfOk result (λ w. w ≡ box_wires (number_named numbers.now.entries) b.now) }
 {
     let inputs = inputs_of(alloc, numbers, b.ins.as_slice())?;
     Ok(BoxWires {
         kind: kind_of(&b.body),
         inputs: ListOf::new(inputs),
-        ports: ports_of(&b.body) as u32,
+        ports: port_count(&b.body) as u32,
     })
 }
 
@@ -227,7 +227,7 @@ fn boxes_wired(
     boxes: &[RawBox],
 ) -> Result<Vec<BoxWires>, AllocError>
     requires { list_all box_within boxes.now ≡ true }
-    ensures { IfOk result (λ v. v.items ≡ map (box_wires (number_in numbers.now.entries)) boxes.now) }
+    ensures { IfOk result (λ v. v.items ≡ map (box_wires (number_named numbers.now.entries)) boxes.now) }
 {
     let mut wired = Vec::new(alloc);
     for b in boxes {
@@ -244,7 +244,7 @@ pub(crate) fn wiring(
     raw: &Raw,
 ) -> Result<Wiring, AllocError>
     requires within { limit_place raw.now ≡ None }
-    ensures { IfOk result (λ w. w ≡ wiring_by (number_in numbers.now.entries) raw.now) }
+    ensures { IfOk result (λ w. w ≡ wiring_by (number_named numbers.now.entries) raw.now) }
 {
     let boxes = boxes_wired(alloc, numbers, raw.boxes.as_slice())?;
     let outputs = outputs_of(alloc, numbers, raw.outputs.as_slice())?;

@@ -57,26 +57,26 @@ rule_text (net.Group p) = codes "Group"
 rule_text net.Memory = codes "Memory"
 
 -- where it is broken
-abbrev pub place_of : NetErr → Option Place
-place_of net.Toml = None
-place_of net.Version = None
-place_of (net.Shape p) = Some p
-place_of (net.Limit p) = Some p
-place_of (net.NoName p) = Some p
-place_of (net.Twice p) = Some p
-place_of (net.Unknown p) = Some p
-place_of (net.Cycle p) = Some p
-place_of (net.Window p) = Some p
-place_of (net.Graph p e) = Some p
-place_of (net.Schema p) = Some p
-place_of (net.Expr p e) = Some p
-place_of (net.Typing p) = Some p
-place_of (net.Group p) = Some p
-place_of net.Memory = None
+abbrev pub refusal_place : NetErr → Option Place
+refusal_place net.Toml = None
+refusal_place net.Version = None
+refusal_place (net.Shape p) = Some p
+refusal_place (net.Limit p) = Some p
+refusal_place (net.NoName p) = Some p
+refusal_place (net.Twice p) = Some p
+refusal_place (net.Unknown p) = Some p
+refusal_place (net.Cycle p) = Some p
+refusal_place (net.Window p) = Some p
+refusal_place (net.Graph p e) = Some p
+refusal_place (net.Schema p) = Some p
+refusal_place (net.Expr p e) = Some p
+refusal_place (net.Typing p) = Some p
+refusal_place (net.Group p) = Some p
+refusal_place net.Memory = None
 
-abbrev pub at_place : Option Place → List ℕ
-at_place None = []
-at_place (Some p) = codes " " ++ place_text p
+abbrev pub at_place_text : Option Place → List ℕ
+at_place_text None = []
+at_place_text (Some p) = codes " " ++ place_text p
 
 -- what else it says: why the points are no graph, or where and why the text is no expression
 abbrev pub detail_text : NetErr → List ℕ
@@ -86,4 +86,4 @@ detail_text e = []
 
 -- the rule, where it is broken, and what else is said
 abbrev pub refusal_text : NetErr → List ℕ
-refusal_text e = rule_text e ++ (at_place (place_of e) ++ detail_text e)
+refusal_text e = rule_text e ++ (at_place_text (refusal_place e) ++ detail_text e)

@@ -5,7 +5,7 @@
 #![tactic(auto)]
 
 ghost use Rattle.std.specs.Prelude.{◌≡◌, IfOk, string_bytes};
-ghost use Rattle.sq_refusal.specs.Refusals.{at_place, detail_text, graph_text, part_text, place_of, refusal_text, rule_text, what_text};
+ghost use Rattle.sq_refusal.specs.Refusals.{at_place_text, detail_text, graph_text, part_text, refusal_place, refusal_text, rule_text, what_text};
 
 use sq_expr::What;
 use sq_net::{NetErr, Part, Place};
@@ -74,8 +74,8 @@ fn rule_text(e: NetErr) -> &'static str
 }
 
 /// Where a rule is broken; some rules are those of the file as a whole.
-fn place_of(e: NetErr) -> Option<Place>
-    ensures { result ≡ place_of e }
+fn refusal_place(e: NetErr) -> Option<Place>
+    ensures { result ≡ refusal_place e }
 {
     match e {
         NetErr::Toml | NetErr::Version | NetErr::Memory => None,
@@ -95,7 +95,7 @@ fn place_of(e: NetErr) -> Option<Place>
 }
 
 fn place_text(alloc: Global, place: Option<Place>) -> Result<String, AllocError>
-    ensures { IfOk result (λ text. string_bytes text ≡ at_place place) }
+    ensures { IfOk result (λ text. string_bytes text ≡ at_place_text place) }
 {
     let Some(place) = place else {
         return String::from_str(alloc, "");
@@ -129,7 +129,7 @@ pub fn refusal_text(alloc: Global, e: NetErr) -> Result<String, AllocError>
     ensures { IfOk result (λ text. string_bytes text ≡ refusal_text e) }
 {
     let rule = rule_text(e);
-    let place = place_text(alloc, place_of(e))?;
+    let place = place_text(alloc, refusal_place(e))?;
     let detail = detail_text(alloc, e)?;
     format!(in alloc; "{rule}{place}{detail}")
 }

@@ -10,8 +10,8 @@ use Rattle.sq_value.specs.declared.Tuple.{Tuple}
 use Rattle.sq_replay.specs.declared.why.Why.{Why}
 use Rattle.sq_replay.specs.declared.why.Why.TheVariants as why
 use Rattle.sq_replay.specs.FileLines.{Line, lines_from, pieces_of}
-use Rattle.sq_replay.specs.Streams.{◌>>=◌, unless, tuple_in, tuple_of_line, tuples_from}
-use Rattle.sq_replay.specs.Recorded.{first_time, tuples_at, tuples_left}
+use Rattle.sq_replay.specs.Streams.{◌>>=◌, unless, tuple_on_line, tuple_of_line, tuples_from}
+use Rattle.sq_replay.specs.Recorded.{first_recorded, tuples_recorded, tuples_left}
 use Rattle.sq_replay.proofs.StreamLemmas.{empty_line, text_line}
 
 -- why there is no answer, where there is none
@@ -28,12 +28,12 @@ error_behind x (Ok xs) = refl
 error_behind x (Err e) = refl
 
 -- behind a good line
-pub error_step : (ks : List Kind) (count latest n : ℕ) (line : List ℕ) (ls : List Line) (x : Tuple) → tuple_in ks count latest line ≡ Ok x
+pub error_step : (ks : List Kind) (count latest n : ℕ) (line : List ℕ) (ls : List Line) (x : Tuple) → tuple_on_line ks count latest line ≡ Ok x
     → first_error (tuples_from ks count latest ((n, line) ∷ ls)) ≡ first_error (tuples_from ks (count + 1) x.time ls)
 error_step ks count latest n line ls x e = rw e (error_behind x (tuples_from ks (count + 1) x.time ls))
 
 -- at a bad line
-pub error_found : (ks : List Kind) (count latest n : ℕ) (line : List ℕ) (ls : List Line) (w : Why) → tuple_in ks count latest line ≡ Err w
+pub error_found : (ks : List Kind) (count latest n : ℕ) (line : List ℕ) (ls : List Line) (w : Why) → tuple_on_line ks count latest line ≡ Err w
     → first_error (tuples_from ks count latest ((n, line) ∷ ls)) ≡ Some (n, w)
 error_found ks count latest n line ls w e = rw e
 
@@ -66,7 +66,7 @@ not_none x h = cc
 
 good_line : (ks : List Kind) (piece : List ℕ) (pieces : List (List ℕ)) (n count latest : ℕ) → 0 < length (strip_carriage_return piece)
     → ((x : Tuple) → first_error (tuples_from ks (count + 1) x.time (lines_from (n + 1) pieces)) ≡ None → tuples_from ks (count + 1) x.time (lines_from (n + 1) pieces) ≡ Ok (tuples_left ks x.time pieces))
-    → (r : Result Tuple Why) → tuple_in ks count latest (strip_carriage_return piece) ≡ r
+    → (r : Result Tuple Why) → tuple_on_line ks count latest (strip_carriage_return piece) ≡ r
     → first_error (tuples_from ks count latest (lines_from n (piece ∷ pieces))) ≡ None
     → tuples_from ks count latest (lines_from n (piece ∷ pieces)) ≡ Ok (tuples_left ks latest (piece ∷ pieces))
 good_line ks piece pieces n count latest some behind (Ok x) read h =
@@ -86,7 +86,7 @@ pub good_stream : (ks : List Kind) (pieces : List (List ℕ)) (n count latest : 
 good_stream ks [] n count latest h = refl
 good_stream ks (piece ∷ pieces) n count latest h = elim (empty_or (length (strip_carriage_return piece))) [
   | inl none ↦ rw (empty_line n piece pieces none, left_empty ks latest piece pieces none) (good_stream ks pieces (n + 1) count latest (rw (empty_line n piece pieces none) at h))
-  | inr some ↦ good_line ks piece pieces n count latest some (λ x. good_stream ks pieces (n + 1) (count + 1) x.time) (tuple_in ks count latest (strip_carriage_return piece)) refl h
+  | inr some ↦ good_line ks piece pieces n count latest some (λ x. good_stream ks pieces (n + 1) (count + 1) x.time) (tuple_on_line ks count latest (strip_carriage_return piece)) refl h
 ]
 
 -- what stands behind a line feed
@@ -100,7 +100,7 @@ whole_rest text at = take_all (length text - at) (drop at text) (omega (arith, l
 
 -- at a piece with a line feed behind it
 pub at_piece : (ks : List Kind) (latest : ℕ) (text piece more : List ℕ) (at : ℕ) → pieces_of (take (length text - at) (drop at text)) ≡ piece ∷ pieces_of more
-    → take (length text - at) (drop at text) ≡ piece ++ 10 ∷ more → tuples_at ks latest text at ≡ tuples_left ks latest (piece ∷ pieces_of (drop (at + length piece + 1) text))
+    → take (length text - at) (drop at text) ≡ piece ++ 10 ∷ more → tuples_recorded ks latest text at ≡ tuples_left ks latest (piece ∷ pieces_of (drop (at + length piece + 1) text))
 at_piece ks latest text piece more at parts first =
     let is : drop at text ≡ piece ++ 10 ∷ more = rw (whole_rest text at) at first in
     let cut : pieces_of (drop at text) ≡ piece ∷ pieces_of more = rw (whole_rest text at) at parts in
@@ -108,16 +108,16 @@ at_piece ks latest text piece more at parts first =
 
 -- at the last piece: the empty one behind it counts for nothing
 pub at_last : (ks : List Kind) (latest : ℕ) (text : List ℕ) (at : ℕ) → pieces_of (take (length text - at) (drop at text)) ≡ take (length text - at) (drop at text) ∷ []
-    → tuples_at ks latest text at ≡ tuples_left ks latest (take (length text - at) (drop at text) ∷ pieces_of (drop (length text) text))
+    → tuples_recorded ks latest text at ≡ tuples_left ks latest (take (length text - at) (drop at text) ∷ pieces_of (drop (length text) text))
 at_last ks latest text at parts =
     let cut : pieces_of (drop at text) ≡ drop at text ∷ [] = rw (whole_rest text at) at parts in
     let over : drop (length text) text ≡ [] = drop_all (length text) text (omega arith) in
     rw (whole_rest text at, over, cut)
 
 -- behind the text is nothing
-pub at_end : (ks : List Kind) (latest : ℕ) (text : List ℕ) (at : ℕ) → length text ≤ at → tuples_at ks latest text at ≡ []
+pub at_end : (ks : List Kind) (latest : ℕ) (text : List ℕ) (at : ℕ) → length text ≤ at → tuples_recorded ks latest text at ≡ []
 at_end ks latest text at over = rw (drop_all at text over)
 
-pub time_ready : (ready unread : List Tuple) → (ready ≡ [] → unread ≡ []) → first_time (ready ++ unread) ≡ first_time ready
+pub time_ready : (ready unread : List Tuple) → (ready ≡ [] → unread ≡ []) → first_recorded (ready ++ unread) ≡ first_recorded ready
 time_ready [] unread ahead = rw (ahead refl)
 time_ready (x ∷ xs) unread ahead = refl

@@ -5,7 +5,7 @@ use Rattle.std.specs.List.{flat_map, zip}
 use Rattle.std.proofs.lemmas.Grind.{flat_map-append}
 use Rattle.sq_value.specs.LineTexts.{end_line}
 use Rattle.sq_net.specs.declared.Network.{Network}
-use Rattle.sq_replay.specs.Shown.{AppendsPart, end_lines, fed_line, late_lines, late_text, text_of}
+use Rattle.sq_replay.specs.Shown.{AppendsPart, end_lines, fed_line, late_lines, late_text, lines_text}
 
 -- the text of lines that a function gives
 pub text_of_map : {X : Type 0} (f : X → List ℕ) (xs : List X) → flat_map (λ l. l) (map f xs) ≡ flat_map f xs
@@ -49,35 +49,35 @@ module _ (n : Network) (fed late : List ℕ) (before : List ℕ) where
   abbrev lates : List ℕ
   lates = flat_map late_text (zip n.boxes late)
 
-  ends_are : text_of (end_lines n fed late) ≡ feds ++ (lates ++ end_line)
+  ends_are : lines_text (end_lines n fed late) ≡ feds ++ (lates ++ end_line)
   ends_are =
       flat_map-append (λ l. l) (map fed_line (zip n.boxes fed)) (flat_map late_lines (zip n.boxes late) ++ end_line ∷ [])
       ∙ ap₂ (λ y z. y ++ z) (text_of_map fed_line (zip n.boxes fed))
       (flat_map-append (λ l. l) (flat_map late_lines (zip n.boxes late)) (end_line ∷ []) ∙ ap₂ (λ y z. y ++ z) (text_of_lines late_lines (zip n.boxes late)) (append-nil end_line))
 
-  part_is : (now : List ℕ) → AppendsPart before now (feds ++ (lates ++ end_line)) → AppendsPart before now (text_of (end_lines n fed late))
+  part_is : (now : List ℕ) → AppendsPart before now (feds ++ (lates ++ end_line)) → AppendsPart before now (lines_text (end_lines n fed late))
   part_is now p = subst (λ y. AppendsPart before now y) (sym ends_are) p
 
-  pub boxes_lost : (now : List ℕ) → AppendsPart before now feds → AppendsPart before now (text_of (end_lines n fed late))
+  pub boxes_lost : (now : List ℕ) → AppendsPart before now feds → AppendsPart before now (lines_text (end_lines n fed late))
   boxes_lost now p = part_is now (part_longer before now feds (lates ++ end_line) p)
 
   module _ (mid : List ℕ) (boxes : mid ≡ before ++ feds) where
-    pub lates_lost : (now : List ℕ) → AppendsPart mid now lates → AppendsPart before now (text_of (end_lines n fed late))
+    pub lates_lost : (now : List ℕ) → AppendsPart mid now lates → AppendsPart before now (lines_text (end_lines n fed late))
     lates_lost now p = part_is now (part_behind before mid now feds (lates ++ end_line) boxes (part_longer mid now lates end_line p))
 
     module _ (waits : List ℕ) (sorters : waits ≡ mid ++ lates) where
-      end_lost : (now : List ℕ) → now ≡ waits → AppendsPart before now (text_of (end_lines n fed late))
+      end_lost : (now : List ℕ) → now ≡ waits → AppendsPart before now (lines_text (end_lines n fed late))
       end_lost now e = part_is now (part_behind before mid now feds (lates ++ end_line) boxes (part_behind mid waits now lates end_line sorters (part_none waits now end_line e)))
 
-      ends_whole : (now : List ℕ) → now ≡ waits ++ end_line → now ≡ before ++ text_of (end_lines n fed late)
+      ends_whole : (now : List ℕ) → now ≡ waits ++ end_line → now ≡ before ++ lines_text (end_lines n fed late)
       ends_whole now e =
           e ∙ ap (λ y. y ++ end_line) (sorters ∙ ap (λ y. y ++ lates) boxes ∙ append_assoc before feds lates) ∙ append_assoc before (feds ++ lates) end_line
           ∙ ap (λ y. before ++ y) (append_assoc feds lates end_line ∙ sym ends_are)
 
-      pub end_ok : {T E : Type 0} (r : Result T E) (now : List ℕ) → OnOk r (now ≡ waits ++ end_line) → OnOk r (now ≡ before ++ text_of (end_lines n fed late))
+      pub end_ok : {T E : Type 0} (r : Result T E) (now : List ℕ) → OnOk r (now ≡ waits ++ end_line) → OnOk r (now ≡ before ++ lines_text (end_lines n fed late))
       end_ok (Ok x) now h = ends_whole now h
       end_ok (Err e) now h = tt
 
-      pub end_err : {T E : Type 0} (r : Result T E) (now : List ℕ) → OnErr r (now ≡ waits) → OnErr r (AppendsPart before now (text_of (end_lines n fed late)))
+      pub end_err : {T E : Type 0} (r : Result T E) (now : List ℕ) → OnErr r (now ≡ waits) → OnErr r (AppendsPart before now (lines_text (end_lines n fed late)))
       end_err (Ok x) now h = tt
       end_err (Err e) now h = end_lost now h

@@ -12,9 +12,9 @@ pub record Recorded : Type 0 where
   pub items : List Tuple
 
 -- the time of the first tuple, where there is one
-abbrev pub first_time : List Tuple → Option ℕ
-first_time [] = None
-first_time (x ∷ xs) = Some x.time
+abbrev pub first_recorded : List Tuple → Option ℕ
+first_recorded [] = None
+first_recorded (x ∷ xs) = Some x.time
 
 -- a tuple and those behind it, and none where the line is bad
 abbrev pub and_then : Result Tuple Why → (Tuple → List Tuple) → List Tuple
@@ -29,5 +29,5 @@ tuples_left ks latest (piece ∷ pieces) =
     else and_then (tuple_of_line ks latest (strip_carriage_return piece)) (λ x. tuples_left ks x.time pieces)
 
 -- the tuples of a text from a place on
-abbrev pub tuples_at : List Kind → ℕ → List ℕ → ℕ → List Tuple
-tuples_at ks latest text at = tuples_left ks latest (pieces_of (drop at text))
+abbrev pub tuples_recorded : List Kind → ℕ → List ℕ → ℕ → List Tuple
+tuples_recorded ks latest text at = tuples_left ks latest (pieces_of (drop at text))

@@ -12,16 +12,16 @@ use Rattle.sq_oper.specs.declared.outs.Event.{Event}
 use Rattle.sq_oper.specs.declared.outs.Event.TheVariants.{Line, Dropped, Plan}
 
 -- the text of lines
-abbrev pub text_of : List (List ℕ) → List ℕ
-text_of lines = flat_map (λ line. line) lines
+abbrev pub lines_text : List (List ℕ) → List ℕ
+lines_text lines = flat_map (λ line. line) lines
 
 -- the name of the output with this number
-abbrev pub name_in : Option Output → List ℕ
-name_in None = []
-name_in (Some o) = o.name
+abbrev pub output_name_in : Option Output → List ℕ
+output_name_in None = []
+output_name_in (Some o) = o.name
 
 abbrev pub output_name : Network → ℕ → List ℕ
-output_name n output = name_in (slice_get n.outputs output)
+output_name n output = output_name_in (slice_get n.outputs output)
 
 -- whether what a plan leaves fits its capacity
 abbrev pub fits_text : Bool → List ℕ
@@ -52,7 +52,7 @@ abbrev pub late_lines : Node × ℕ → List (List ℕ)
 late_lines b = if is_sorter (b.0).body then late_line (b.0).name b.1 ∷ [] else []
 
 abbrev pub late_text : Node × ℕ → List ℕ
-late_text b = text_of (late_lines b)
+late_text b = lines_text (late_lines b)
 
 -- the lines of all boxes, then those of the BSorts, then the last one, where each box was fed so many tuples, of which so many were late
 abbrev pub end_lines : Network → List ℕ → List ℕ → List (List ℕ)

@@ -1,12 +1,12 @@
 // The tuples that a source recorded, one after another.
 ghost use Rattle.std.specs.Prelude.{◌≡◌, ◌+◌, ◌<◌, ◌∷◌, ◌^◌, [], IfErr, IfOk, MatchOption, OnErr, Ok, length};
-ghost use Rattle.sq_replay.specs.Answers.{IsBad};
-ghost use Rattle.sq_replay.specs.Recorded.{first_time};
+ghost use Rattle.sq_replay.specs.Answers.{IsBadStream};
+ghost use Rattle.sq_replay.specs.Recorded.{first_recorded};
 ghost use Rattle.sq_replay.specs.Streams.{stream_in};
 
 use crate::StreamErr;
 use crate::stream::test_lines;
-use crate::unread::{Unread, all_left, begun, first_time, take_next};
+use crate::unread::{Unread, all_left, begun, first_recorded, take_next};
 use sq_value::{Schema, Tuple};
 use std::alloc::{AllocError, Global};
 use std::collections::VecDeque;
@@ -49,7 +49,7 @@ impl Stream {
     pub fn new(alloc: Global, bytes: Vec<u8>, schema: &Schema) -> Result<Stream, StreamErr>
         requires { length bytes.items + 1 < 2 ^ 32 }
         ensures tuples { IfOk result (λ s. stream_in schema.now bytes.items ≡ Ok s.items) }
-        ensures bad { IfErr result (λ e. IsBad e (stream_in schema.now bytes.items)) }
+        ensures bad { IfErr result (λ e. IsBadStream e (stream_in schema.now bytes.items)) }
     {
         test_lines(alloc, &bytes, schema)?;
         match begun(alloc, bytes, schema.kinds()) {
@@ -60,9 +60,9 @@ impl Stream {
 
     /// The time of the next tuple, where there is one.
     pub fn time(&self) -> Option<u64>
-        ensures { result ≡ first_time self.now.items }
+        ensures { result ≡ first_recorded self.now.items }
     {
-        first_time(&self.ready)
+        first_recorded(&self.ready)
     }
 
     /// Takes the next tuple, where there is one. Where memory runs out nothing is taken.

@@ -2,7 +2,7 @@
 ghost use Rattle.std.specs.Prelude.{◌≤◌, ◌≡◌, ◌++◌, length, OnErr, OnOk};
 ghost use Rattle.std.specs.List.{flat_map, zip};
 ghost use Rattle.sq_value.specs.LineTexts.{drop_line, plan_line};
-ghost use Rattle.sq_replay.specs.Shown.{AppendsPart, IsEventOf, end_lines, end_lines_from, event_line, fed_line, fits_text, late_text, text_of};
+ghost use Rattle.sq_replay.specs.Shown.{AppendsPart, IsEventOf, end_lines, end_lines_from, event_line, fed_line, fits_text, late_text, lines_text};
 
 use itoa::Buffer;
 use sq_csv::{append_box_line, append_end_line, append_late_line, append_line, append_output_line};
@@ -132,8 +132,8 @@ pub fn end_lines(
 ) -> Result<(), AllocError>
     requires fed { length fed.now.items ≡ length n.now.boxes }
     requires late { length late.now.items ≡ length n.now.boxes }
-    ensures ok { OnOk result (out.new.items ≡ out.old.items ++ text_of (end_lines n.now fed.now.items late.now.items)) }
-    ensures err { OnErr result (AppendsPart out.old.items out.new.items (text_of (end_lines n.now fed.now.items late.now.items))) }
+    ensures ok { OnOk result (out.new.items ≡ out.old.items ++ lines_text (end_lines n.now fed.now.items late.now.items)) }
+    ensures err { OnErr result (AppendsPart out.old.items out.new.items (lines_text (end_lines n.now fed.now.items late.now.items))) }
 {
     append_boxes(n.boxes.as_slice(), fed.as_slice(), out)?;
     append_lates(n.boxes.as_slice(), late.as_slice(), out)?;
@@ -151,8 +151,8 @@ pub fn end_lines_from(
     requires fed { length fed.now.items ≡ length n.now.boxes }
     requires late { length late.now.items ≡ length n.now.boxes }
     requires first { first ≤ length n.now.boxes }
-    ensures ok { OnOk result (out.new.items ≡ out.old.items ++ text_of (end_lines_from n.now first fed.now.items late.now.items)) }
-    ensures err { OnErr result (AppendsPart out.old.items out.new.items (text_of (end_lines_from n.now first fed.now.items late.now.items))) }
+    ensures ok { OnOk result (out.new.items ≡ out.old.items ++ lines_text (end_lines_from n.now first fed.now.items late.now.items)) }
+    ensures err { OnErr result (AppendsPart out.old.items out.new.items (lines_text (end_lines_from n.now first fed.now.items late.now.items))) }
 {
     let boxes = n.boxes.as_slice();
     let left = &boxes[first as usize..];

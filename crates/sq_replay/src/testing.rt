@@ -3,7 +3,7 @@
 ghost use Rattle.std.specs.Prelude.{◌≡◌, ◌∷◌, IfOk, IfSome, List, Ok, false, true};
 ghost use Rattle.sq_csv.specs.Cuts.{begins_quoted};
 ghost use Rattle.sq_value.specs.declared.Value.{Value as V};
-ghost use Rattle.sq_replay.specs.Cuts.{AreLeft, BeginsWith, IsRead};
+ghost use Rattle.sq_replay.specs.Cuts.{AreLeft, BeginsWith, ReadsField};
 ghost use Rattle.sq_replay.specs.Streams.{tuple_of_line};
 
 use crate::plain::{cut_int, cut_tick, text_of};
@@ -35,7 +35,7 @@ fn behind_read(alloc: Global, kind: Kind, text: &[u8]) -> Option<Option<&[u8]>>
 /// Whether a field is a text value, or empty.
 #[inline(always)]
 fn is_text(field: &[u8]) -> bool
-    ensures { result ≡ true → (v : V) × IsRead Kind.Text field.now v }
+    ensures { result ≡ true → (v : V) × ReadsField Kind.Text field.now v }
 {
     if field.len() > TEXT_LENGTH {
         return false;

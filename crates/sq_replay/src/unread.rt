@@ -2,7 +2,7 @@
 ghost use Rattle.std.specs.Prelude.{◌≡◌, ◌+◌, ◌<◌, ◌≤◌, ◌⊎◌, ◌++◌, ◌∷◌, [], ℕ, List, IfOk, IfSome, MatchOption, OnErr, OnOk, drop, length};
 ghost use Rattle.sq_value.specs.declared.Kind.{Kind as K};
 ghost use Rattle.sq_replay.specs.FileLines.{pieces_of, without_mark};
-ghost use Rattle.sq_replay.specs.Recorded.{and_then, first_time, tuples_at, tuples_left};
+ghost use Rattle.sq_replay.specs.Recorded.{and_then, first_recorded, tuples_recorded, tuples_left};
 ghost use Rattle.sq_replay.specs.Streams.{tuple_of_line};
 ghost use Rattle.sq_replay.specs.Unread.{IsAhead, unread_tuples};
 
@@ -68,7 +68,7 @@ impl Unread {
 #[inline(always)]
 fn piece_at(text: &[u8], at: usize) -> (&[u8], usize)
     requires { at < length text.now }
-    ensures piece { (ks : List K) (latest : ℕ) → tuples_at ks latest text.now at ≡ tuples_left ks latest (result.0.now ∷ pieces_of (drop result.1 text.now)) }
+    ensures piece { (ks : List K) (latest : ℕ) → tuples_recorded ks latest text.now at ≡ tuples_left ks latest (result.0.now ∷ pieces_of (drop result.1 text.now)) }
     ensures further { at < result.1 }
     ensures within { result.1 ≤ length text.now }
 {
@@ -82,8 +82,8 @@ fn piece_at(text: &[u8], at: usize) -> (&[u8], usize)
 /// The first line of a text from a place on that isn't empty, and where the next one begins.
 #[inline(always)]
 fn next_line(text: &[u8], at: usize) -> Option<(&[u8], usize)>
-    ensures line { MatchOption result ((ks : List K) (latest : ℕ) → tuples_at ks latest text.now at ≡ [])
-        (λ p. (ks : List K) (latest : ℕ) → tuples_at ks latest text.now at ≡ and_then (tuple_of_line ks latest p.0.now) (λ t. tuples_at ks t.time text.now p.1)) }
+    ensures line { MatchOption result ((ks : List K) (latest : ℕ) → tuples_recorded ks latest text.now at ≡ [])
+        (λ p. (ks : List K) (latest : ℕ) → tuples_recorded ks latest text.now at ≡ and_then (tuple_of_line ks latest p.0.now) (λ t. tuples_recorded ks t.time text.now p.1)) }
     ensures further { IfSome result (λ p. (at < p.1) × (p.1 ≤ length text.now)) }
 {
     let mut next = at;
@@ -107,7 +107,7 @@ pub(crate) fn read_rest(
     from: usize,
     tuples: &mut Vec<Tuple>,
 ) -> Result<(), AllocError>
-    ensures { OnOk result (tuples.new.items ≡ tuples.old.items ++ tuples_at kinds.now after text.now from) }
+    ensures { OnOk result (tuples.new.items ≡ tuples.old.items ++ tuples_recorded kinds.now after text.now from) }
 {
     let mut unquoted = Vec::new(alloc);
     let (mut latest, mut at) = (after, from);
@@ -190,8 +190,8 @@ pub(crate) fn take_next(
 }
 
 /// The time of the first tuple, where there is one.
-pub(crate) fn first_time(ready: &VecDeque<Tuple>) -> Option<u64>
-    ensures { result ≡ first_time ready.now.items }
+pub(crate) fn first_recorded(ready: &VecDeque<Tuple>) -> Option<u64>
+    ensures { result ≡ first_recorded ready.now.items }
 {
     match ready.front() {
         Some(tuple) => Some(tuple.time),

@@ -7,10 +7,10 @@ use Rattle.sq_value.specs.declared.Tuple.{Tuple}
 use Rattle.sq_value.specs.Lists.{IsPrefixOf}
 use Rattle.sq_item.specs.declared.Mark.{Mark}
 use Rattle.sq_item.specs.declared.Item.{Item}
-use Rattle.sq_item.specs.Sound.{IsSound}
+use Rattle.sq_item.specs.Sound.{IsSoundItem}
 use Rattle.sq_item.specs.Things.{Load, Sign, Body, Thing, mark_part, body_part}
 use Rattle.sq_lists.specs.Sides.{AllNear, recent, left_with, right_with}
-use Rattle.sq_lists.specs.WindowParts.{NotFalling}
+use Rattle.sq_lists.specs.WindowParts.{TimesNotFalling}
 use Rattle.sq_lists.proofs.AllLemmas.{All-weaker, All-push}
 use Rattle.sq_lists.proofs.SideLemmas.{All-recent, rises-recent, rises-push, near-recent}
 use Rattle.sq_lists.proofs.WindowLemmas.{lower, all-later}
@@ -18,43 +18,43 @@ use Rattle.sq_lists.specs.Resamples.{resample_of}
 use Rattle.sq_oper.specs.declared.tally.Place.{Place}
 use Rattle.sq_oper.specs.Entries.{Entry, at_port, entries}
 use Rattle.sq_oper.specs.Given.{ThingsUpTo}
-use Rattle.sq_oper.specs.Order.{time_of, after, InOrder, unmarked, IsFuture}
+use Rattle.sq_oper.specs.Order.{time_of, moment_after, InOrder, unmarked, IsFuture}
 use Rattle.sq_oper.specs.Streams.{tuple_in, tuples_at, tuples_of, things, at_zero}
 use Rattle.sq_oper.proofs.GivenLemmas.{IsPrefixOf-append, IsPrefixOf-longer, ThingsUpTo-append}
 use Rattle.sq_oper.proofs.StreamLemmas.{things-append, at_zero-append, at_zero-nil, All-at_zero, UpTo-at_zero, may-come-time}
 use Rattle.sq_oper.proofs.FedLemmas.{tuple_at, tuple_entry, mark_entry, no_body, read-fed, time-before-item}
-use Rattle.sq_resample.specs.Rounds.{CanGive, HasRoom, first_time, passed}
+use Rattle.sq_resample.specs.Rounds.{CanGive, HasFieldRoom, first_time_from, passed}
 use Rattle.sq_resample.specs.Resampling.{IsHeld, OnlyNear, resample_fits, resample_rest}
 use Rattle.sq_resample.proofs.RoundLemmas.{All-passed, resample-parts}
 
 -- ---- what comes at a port
 
 -- it comes in order of time
-future-rises : (place : Place) (port : ℕ) (es : List Entry) → InOrder place es → NotFalling (time_of place) (tuples_at port es)
+future-rises : (place : Place) (port : ℕ) (es : List Entry) → InOrder place es → TimesNotFalling (time_of place) (tuples_at port es)
 future-rises place port [] order = tt
-future-rises place port (e ∷ es) order = by e.thing.load (future-rises (after place e) port es order.1) (may-come-time place e order.0)
+future-rises place port (e ∷ es) order = by e.thing.load (future-rises (moment_after place e) port es order.1) (may-come-time place e order.0)
   where
-    onto : (load : Load) (more : List Tuple) → NotFalling e.thing.time more → time_of place ≤ e.thing.time → NotFalling (time_of place) (tuple_in e.thing.time load ++ more)
+    onto : (load : Load) (more : List Tuple) → TimesNotFalling e.thing.time more → time_of place ≤ e.thing.time → TimesNotFalling (time_of place) (tuple_in e.thing.time load ++ more)
     onto (Sign m) more up le = lower (time_of place) e.thing.time more le up
     onto (Body f) more up le = (le, up)
 
-    by : (load : Load) → NotFalling e.thing.time (tuples_at port es) → time_of place ≤ e.thing.time → NotFalling (time_of place) (tuples_at port (e ∷ es))
+    by : (load : Load) → TimesNotFalling e.thing.time (tuples_at port es) → time_of place ≤ e.thing.time → TimesNotFalling (time_of place) (tuples_at port (e ∷ es))
     by load up le =
-        elim (e.port == port) as (λ b. NotFalling (time_of place) (tuples_of (cond b (e ∷ filter (λ e. e.port == port) es) (filter (λ e. e.port == port) es)))) [
+        elim (e.port == port) as (λ b. TimesNotFalling (time_of place) (tuples_of (cond b (e ∷ filter (λ e. e.port == port) es) (filter (λ e. e.port == port) es)))) [
           | true ↦ onto e.thing.load (tuples_at port es) up le
           | false ↦ lower (time_of place) e.thing.time (tuples_at port es) le up
         ]
 
 -- and after an item no earlier than it
 after-fed : (fits : ℕ → List Value → Bool) (place : Place) (port : ℕ) (item : Item) (fields : List Value) (future : List Entry) → item.body ≡ Some fields
-    → IsFuture unmarked fits place (entries port item ++ future) → (q : ℕ) → NotFalling item.time (tuples_at q future)
+    → IsFuture unmarked fits place (entries port item ++ future) → (q : ℕ) → TimesNotFalling item.time (tuples_at q future)
 after-fed fits place port item fields future is may q = by item.mark item.body is may
   where
     by : (m : Option Mark) (b : Option (List Value)) → b ≡ Some fields
-        → IsFuture unmarked fits place (at_port port (mark_part item.time m ++ body_part item.time b) ++ future) → NotFalling item.time (tuples_at q future)
+        → IsFuture unmarked fits place (at_port port (mark_part item.time m ++ body_part item.time b) ++ future) → TimesNotFalling item.time (tuples_at q future)
     by m None e h = cc
-    by None (Some f) e h = future-rises (after place (tuple_entry port item.time f)) q future h.in_order.1
-    by (Some k) (Some f) e h = future-rises (after (after place (mark_entry port item.time k)) (tuple_entry port item.time f)) q future h.in_order.1.1
+    by None (Some f) e h = future-rises (moment_after place (tuple_entry port item.time f)) q future h.in_order.1
+    by (Some k) (Some f) e h = future-rises (moment_after (moment_after place (mark_entry port item.time k)) (tuple_entry port item.time f)) q future h.in_order.1.1
 
 skips-mark : (q port time : ℕ) (m : Mark) (es : List Entry) → tuples_at q (mark_entry port time m ∷ es) ≡ tuples_at q es
 skips-mark q port time m es =
@@ -86,18 +86,18 @@ times-given : (answers : List Tuple → List Value) (size : ℕ) (P : ℕ → Ty
 times-given answers size P [] right all = tt
 times-given answers size P (x ∷ left) right all = (all.0, times-given answers size P left right all.1)
 
-first-early : (now : ℕ) (xs : List Tuple) → AllByRecursion (λ x. x.time ≤ now) xs → first_time now xs ≤ now
+first-early : (now : ℕ) (xs : List Tuple) → AllByRecursion (λ x. x.time ≤ now) xs → first_time_from now xs ≤ now
 first-early now [] early = omega arith
 first-early now (x ∷ xs) early = early.0
 
-first-pushed : (now : ℕ) (xs : List Tuple) (x : Tuple) → x.time ≡ now → first_time now (xs ++ x ∷ []) ≡ first_time now xs
+first-pushed : (now : ℕ) (xs : List Tuple) (x : Tuple) → x.time ≡ now → first_time_from now (xs ++ x ∷ []) ≡ first_time_from now xs
 first-pushed now [] x is = is
 first-pushed now (y ∷ xs) x is = refl
 
 -- ---- a box that is fed a tuple
 
 module _ (answers : List Tuple → List Value) (width size : ℕ) (waiting held : List Tuple) (place : Place) (port : ℕ) (item : Item) (fields : List Value)
-    (is : item.body ≡ Some fields) (sound : IsSound item) (may : IsFuture unmarked (resample_fits width) place (entries port item))
+    (is : item.body ≡ Some fields) (sound : IsSoundItem item) (may : IsFuture unmarked (resample_fits width) place (entries port item))
     (facts : IsHeld width size (time_of place) waiting held) where
   abbrev fed : Tuple
   fed = tuple_at item.time fields
@@ -106,7 +106,7 @@ module _ (answers : List Tuple → List Value) (width size : ℕ) (waiting held 
   on = recent size item.time waiting
 
   abbrev kept : List Tuple
-  kept = recent size (first_time item.time on) held
+  kept = recent size (first_time_from item.time on) held
 
   abbrev given-now : List Tuple
   given-now = resample_of answers size (passed size item.time waiting) held
@@ -150,10 +150,10 @@ module _ (answers : List Tuple → List Value) (width size : ℕ) (waiting held 
     waits = rises-recent size item.time waiting facts.waits;
     early = All-recent (λ x. x.time ≤ item.time) size item.time waiting fed_early;
     live = near-recent size item.time waiting facts.waits;
-    room = All-recent (HasRoom width) size item.time waiting facts.room;
-    rises = rises-recent size (first_time item.time on) held facts.rises;
-    past = All-recent (λ y. y.time ≤ item.time) size (first_time item.time on) held held-past;
-    needed = near-recent size (first_time item.time on) held facts.rises;
+    room = All-recent (HasFieldRoom width) size item.time waiting facts.room;
+    rises = rises-recent size (first_time_from item.time on) held facts.rises;
+    past = All-recent (λ y. y.time ≤ item.time) size (first_time_from item.time on) held held-past;
+    needed = near-recent size (first_time_from item.time on) held facts.rises;
   }
 
   -- the facts of what is held then
@@ -165,7 +165,7 @@ module _ (answers : List Tuple → List Value) (width size : ℕ) (waiting held 
         waits = rises-push 0 on fed facts-on.waits facts-on.early zero-le;
         early = All-push (λ x. x.time ≤ item.time) on fed facts-on.early (omega arith);
         live = All-push (λ x. item.time ≤ x.time + size) on fed facts-on.live (omega arith);
-        room = All-push (HasRoom width) on fed facts-on.room (record { tick = sound.tick; some = fed-some.0; few = at.1 });
+        room = All-push (HasFieldRoom width) on fed facts-on.room (record { tick = sound.tick; some = fed-some.0; few = at.1 });
         rises = facts-on.rises;
         past = facts-on.past;
         needed = subst (λ t. AllNear size t kept) (sym (first-pushed item.time on fed refl)) facts-on.needed;
@@ -177,7 +177,7 @@ module _ (answers : List Tuple → List Value) (width size : ℕ) (waiting held 
         room = facts-on.room;
         rises = rises-push 0 kept fed facts-on.rises facts-on.past zero-le;
         past = All-push (λ y. y.time ≤ item.time) kept fed facts-on.past (omega arith);
-        needed = (let le = first-early item.time on facts-on.early in All-push (λ y. first_time item.time on ≤ y.time + size) kept fed facts-on.needed (omega (arith, le)));
+        needed = (let le = first-early item.time on facts-on.early in All-push (λ y. first_time_from item.time on ≤ y.time + size) kept fed facts-on.needed (omega (arith, le)));
       })
 
   module _ (future : List Entry) (all : IsFuture unmarked (resample_fits width) place (entries port item ++ future)) where
@@ -192,7 +192,7 @@ module _ (answers : List Tuple → List Value) (width size : ℕ) (waiting held 
     list-fed =
         ap₂ (λ l r. resample_of answers size (waiting ++ l) (held ++ r)) (at-fed 0 port item fields future is) (at-fed 1 port item fields future is) ∙ by port fed-side
       where
-        coming : (q : ℕ) → NotFalling item.time (tuples_at q future)
+        coming : (q : ℕ) → TimesNotFalling item.time (tuples_at q future)
         coming q = after-fed (resample_fits width) place port item fields future is all q
 
         by : (port : ℕ) → ((port ≡ 0) × (length fields + width ≤ 16)) ⊎ (port ≡ 1)
@@ -213,17 +213,17 @@ module _ (answers : List Tuple → List Value) (width size : ℕ) (waiting held 
         let later = resample_of answers size (left_with port fed on ++ lefts) (right_with port fed kept ++ rights) in
         ap (λ l. at_zero q (things l)) list-fed ∙ ap (at_zero q) (things-append given-now later) ∙ at_zero-append q (things given-now) (things later)
 
-    pub fed_law : (q : ℕ) (before after : List Thing) → after ≡ before ++ at_zero q (things given-now)
+    pub fed_law : (q : ℕ) (before moment_after : List Thing) → moment_after ≡ before ++ at_zero q (things given-now)
         → before ++ resample_rest answers size waiting held (entries port item ++ future) q
-        ≡ after ++ resample_rest answers size (left_with port fed on) (right_with port fed kept) future q
-    fed_law q before after gave =
+        ≡ moment_after ++ resample_rest answers size (left_with port fed on) (right_with port fed kept) future q
+    fed_law q before moment_after gave =
         let rest = resample_rest answers size (left_with port fed on) (right_with port fed kept) future q in
         ap (λ l. before ++ l) (rest-fed q) ∙ sym (append_assoc before (at_zero q (things given-now)) rest) ∙ ap (λ l. l ++ rest) (sym gave)
 
-    pub fed_prefix : (q : ℕ) (before after : List Thing) → IsPrefixOf after (before ++ at_zero q (things given-now))
-        → IsPrefixOf after (before ++ resample_rest answers size waiting held (entries port item ++ future) q)
-    fed_prefix q before after h =
-        rw (rest-fed q) (IsPrefixOf-longer after before (at_zero q (things given-now)) (resample_rest answers size (left_with port fed on) (right_with port fed kept) future q) h)
+    pub fed_prefix : (q : ℕ) (before moment_after : List Thing) → IsPrefixOf moment_after (before ++ at_zero q (things given-now))
+        → IsPrefixOf moment_after (before ++ resample_rest answers size waiting held (entries port item ++ future) q)
+    fed_prefix q before moment_after h =
+        rw (rest-fed q) (IsPrefixOf-longer moment_after before (at_zero q (things given-now)) (resample_rest answers size (left_with port fed on) (right_with port fed kept) future q) h)
 
   whole : IsFuture unmarked (resample_fits width) place (entries port item ++ [])
   whole = rw (append-nil (entries port item)) may

@@ -9,7 +9,7 @@ use Rattle.sq_value.specs.declared.Value.{Value}
 use Rattle.sq_value.specs.declared.Tuple.{Tuple}
 use Rattle.sq_item.specs.Things.{Thing}
 use Rattle.sq_lists.specs.Sides.{recent}
-use Rattle.sq_lists.specs.WindowParts.{NotFalling}
+use Rattle.sq_lists.specs.WindowParts.{TimesNotFalling}
 use Rattle.sq_lists.proofs.AllLemmas.{All-weaker}
 use Rattle.sq_lists.proofs.SideLemmas.{All-recent, rises-recent}
 use Rattle.sq_lists.proofs.WindowLemmas.{lower}
@@ -17,7 +17,7 @@ use Rattle.sq_lists.specs.Resamples.{near, resampled, resample_of}
 use Rattle.sq_lists.proofs.NearLemmas.{near-is, reaching-all, resample-let_go, resample-recent}
 use Rattle.sq_oper.specs.Streams.{things, at_zero}
 use Rattle.sq_oper.proofs.StreamLemmas.{at_zero-append}
-use Rattle.sq_resample.specs.Rounds.{CanGive, first_time, passed}
+use Rattle.sq_resample.specs.Rounds.{CanGive, first_time_from, passed}
 
 -- ---- those that pass, and those that wait on
 
@@ -27,11 +27,11 @@ passed-recent size now (x ∷ xs) =
     let ih = passed-recent size now xs in
     elim (nat_lt size (now - x.time)) as (λ b. (if b then x ∷ passed size now xs else []) ++ (if b then recent size now xs else x ∷ xs) ≡ x ∷ xs) [ true ↦ ap (λ l. x ∷ l) ih | false ↦ refl ]
 
-pub passed-rises : (size now a : ℕ) (xs : List Tuple) → NotFalling a xs → NotFalling a (passed size now xs)
+pub passed-rises : (size now a : ℕ) (xs : List Tuple) → TimesNotFalling a xs → TimesNotFalling a (passed size now xs)
 passed-rises size now a [] up = tt
 passed-rises size now a (x ∷ xs) up =
     let ih = passed-rises size now x.time xs up.1 in
-    elim (nat_lt size (now - x.time)) as (λ b. NotFalling a (if b then x ∷ passed size now xs else [])) [ true ↦ (up.0, ih) | false ↦ tt ]
+    elim (nat_lt size (now - x.time)) as (λ b. TimesNotFalling a (if b then x ∷ passed size now xs else [])) [ true ↦ (up.0, ih) | false ↦ tt ]
 
 pub All-passed : (P : Tuple → Type 0) (size now : ℕ) (xs : List Tuple) → AllByRecursion P xs → AllByRecursion P (passed size now xs)
 All-passed P size now [] all = tt
@@ -40,21 +40,21 @@ All-passed P size now (x ∷ xs) all =
     elim (nat_lt size (now - x.time)) as (λ b. AllByRecursion P (if b then x ∷ passed size now xs else [])) [ true ↦ (all.0, ih) | false ↦ tt ]
 
 -- the first that waits on is no earlier than what is before all of them
-pub first-later : (size now a : ℕ) (xs : List Tuple) → NotFalling a xs → a ≤ now → a ≤ first_time now (recent size now xs)
+pub first-later : (size now a : ℕ) (xs : List Tuple) → TimesNotFalling a xs → a ≤ now → a ≤ first_time_from now (recent size now xs)
 first-later size now a [] up le = le
 first-later size now a (x ∷ xs) up le =
     let first = up.0 in by (nat_lt size (now - x.time)) refl (λ at. first-later size now x.time xs up.1 at) first
   where
-    by : (b : Bool) → nat_lt size (now - x.time) ≡ b → (x.time ≤ now → x.time ≤ first_time now (recent size now xs)) → a ≤ x.time → a ≤ first_time now (if b then recent size now xs else x ∷ xs)
+    by : (b : Bool) → nat_lt size (now - x.time) ≡ b → (x.time ≤ now → x.time ≤ first_time_from now (recent size now xs)) → a ≤ x.time → a ≤ first_time_from now (if b then recent size now xs else x ∷ xs)
     by true e ih first = let at : x.time ≤ now = grind (arith, tests) in let k = ih at in omega (arith, k, first)
     by false e ih first = first
 
 -- what comes after a stream
-rises-append : (a now : ℕ) (xs ys : List Tuple) → NotFalling a xs → AllByRecursion (λ x. x.time ≤ now) xs → a ≤ now → NotFalling now ys → NotFalling a (xs ++ ys)
+rises-append : (a now : ℕ) (xs ys : List Tuple) → TimesNotFalling a xs → AllByRecursion (λ x. x.time ≤ now) xs → a ≤ now → TimesNotFalling now ys → TimesNotFalling a (xs ++ ys)
 rises-append a now [] ys up all le more = lower a now ys le more
 rises-append a now (x ∷ xs) ys up all le more = (up.0, rises-append x.time now xs ys up.1 all.1 all.0 more)
 
-first-rises : (now : ℕ) (xs ys : List Tuple) → NotFalling 0 xs → AllByRecursion (λ x. x.time ≤ now) xs → NotFalling now ys → NotFalling (first_time now xs) (xs ++ ys)
+first-rises : (now : ℕ) (xs ys : List Tuple) → TimesNotFalling 0 xs → AllByRecursion (λ x. x.time ≤ now) xs → TimesNotFalling now ys → TimesNotFalling (first_time_from now xs) (xs ++ ys)
 first-rises now [] ys up all more = more
 first-rises now (x ∷ xs) ys up all more = (omega arith, rises-append x.time now xs ys up.1 all.1 all.0 more)
 
@@ -87,11 +87,11 @@ module _ (answers : List Tuple → List Value) (size : ℕ) where
           ap₂ (λ l rest. record { time = x.time; fields = x.fields ++ answers l } ∷ rest) same ih
 
   -- what a Resample gives once an item came, and what it gives later
-  pub resample-parts : (now : ℕ) (waiting held lefts rights : List Tuple) → NotFalling 0 waiting → AllByRecursion (λ x. x.time ≤ now) waiting
-      → NotFalling now lefts → AllByRecursion (λ y. now ≤ y.time) rights
+  pub resample-parts : (now : ℕ) (waiting held lefts rights : List Tuple) → TimesNotFalling 0 waiting → AllByRecursion (λ x. x.time ≤ now) waiting
+      → TimesNotFalling now lefts → AllByRecursion (λ y. now ≤ y.time) rights
       → resample_of answers size (waiting ++ lefts) (held ++ rights)
       ≡ resample_of answers size (passed size now waiting) held
-      ++ resample_of answers size (recent size now waiting ++ lefts) (recent size (first_time now (recent size now waiting)) held ++ rights)
+      ++ resample_of answers size (recent size now waiting ++ lefts) (recent size (first_time_from now (recent size now waiting)) held ++ rights)
   resample-parts now waiting held lefts rights up early more later =
       let gone = passed size now waiting in
       let on = recent size now waiting in
@@ -99,10 +99,10 @@ module _ (answers : List Tuple → List Value) (size : ℕ) where
       ap (λ l. resample_of answers size (l ++ lefts) (held ++ rights)) (sym (passed-recent size now waiting))
       ∙ ap (λ l. resample_of answers size l (held ++ rights)) (append_assoc gone on lefts)
       ∙ map-append (resampled answers size (held ++ rights)) gone (on ++ lefts)
-      ∙ ap₂ (λ a b. a ++ b) (passed-ready now waiting held rights later) (sym (resample-recent answers size (first_time now on) (on ++ lefts) held rights rises))
+      ∙ ap₂ (λ a b. a ++ b) (passed-ready now waiting held rights later) (sym (resample-recent answers size (first_time_from now on) (on ++ lefts) held rights rises))
 
   -- near a left tuple that goes out is all that is held and isn't past
-  pub round-near : (t : ℕ) (held : List Tuple) → NotFalling 0 held → AllByRecursion (λ y. y.time ≤ t + size) held → near size t held ≡ recent size t held
+  pub round-near : (t : ℕ) (held : List Tuple) → TimesNotFalling 0 held → AllByRecursion (λ y. y.time ≤ t + size) held → near size t held ≡ recent size t held
   round-near t held up all = near-is size t 0 held up ∙ reaching-all size t (recent size t held) (All-recent (λ y. y.time ≤ t + size) size t held all)
 
   -- one is given, and then the others
@@ -113,7 +113,7 @@ module _ (answers : List Tuple → List Value) (size : ℕ) where
       ∙ append_assoc before (at_zero q (things (x ∷ []))) (at_zero q (things xs))
       ∙ ap (λ l. before ++ l) (sym (at_zero-append q (things (x ∷ [])) (things xs)))
 
-  pub round-step : (q now : ℕ) (x : Tuple) (xs held : List Tuple) (before after : List Thing) → nat_lt size (now - x.time) ≡ true → NotFalling x.time xs
+  pub round-step : (q now : ℕ) (x : Tuple) (xs held : List Tuple) (before after : List Thing) → nat_lt size (now - x.time) ≡ true → TimesNotFalling x.time xs
       → after ≡ before ++ at_zero q (things (resampled answers size held x ∷ []))
       → after ++ at_zero q (things (resample_of answers size (passed size now xs) (recent size x.time held)))
       ≡ before ++ at_zero q (things (resample_of answers size (passed size now (x ∷ xs)) held))
@@ -122,7 +122,7 @@ module _ (answers : List Tuple → List Value) (size : ℕ) where
       ∙ one-given q (resampled answers size held x) (resample_of answers size (passed size now xs) held) before after gave
       ∙ ap (λ (b : Bool). before ++ at_zero q (things (resample_of answers size (if b then x ∷ passed size now xs else []) held))) (sym past)
 
-  pub all-step : (q : ℕ) (x : Tuple) (xs held : List Tuple) (before after : List Thing) → NotFalling x.time xs
+  pub all-step : (q : ℕ) (x : Tuple) (xs held : List Tuple) (before after : List Thing) → TimesNotFalling x.time xs
       → after ≡ before ++ at_zero q (things (resampled answers size held x ∷ []))
       → after ++ at_zero q (things (resample_of answers size xs (recent size x.time held))) ≡ before ++ at_zero q (things (resample_of answers size (x ∷ xs) held))
   all-step q x xs held before after up gave =

@@ -5,11 +5,11 @@ use Rattle.sq_value.specs.declared.Value.{Value}
 use Rattle.sq_value.specs.declared.Tuple.{Tuple}
 use Rattle.sq_item.specs.Things.{Thing}
 use Rattle.sq_lists.specs.Sides.{AllNear}
-use Rattle.sq_lists.specs.WindowParts.{NotFalling}
+use Rattle.sq_lists.specs.WindowParts.{TimesNotFalling}
 use Rattle.sq_lists.specs.Resamples.{resample_of}
 use Rattle.sq_oper.specs.Entries.{Entry}
 use Rattle.sq_oper.specs.Streams.{things, tuples_at, at_zero}
-use Rattle.sq_resample.specs.Rounds.{HasRoom, first_time}
+use Rattle.sq_resample.specs.Rounds.{HasFieldRoom, first_time_from}
 
 -- what a Resample with these left and right tuples will still give: its list function of them and of those that come
 abbrev pub resample_rest : (List Tuple → List Value) → ℕ → List Tuple → List Tuple → List Entry → ℕ → List Thing
@@ -27,10 +27,10 @@ OnlyNear size time things = AllByRecursion (λ thing. time ≤ thing.time + size
 -- both sides stand in order of time, none is later than a time, each left tuple may go out, and none is past; a right one is
 -- held only while the first left one that waits, or else one of that time, is no more than the size after it
 pub record IsHeld (width size now : ℕ) (waiting held : List Tuple) : Type 0 where
-  pub waits : NotFalling 0 waiting
+  pub waits : TimesNotFalling 0 waiting
   pub early : AllByRecursion (λ x. x.time ≤ now) waiting
   pub live : AllNear size now waiting
-  pub room : AllByRecursion (HasRoom width) waiting
-  pub rises : NotFalling 0 held
+  pub room : AllByRecursion (HasFieldRoom width) waiting
+  pub rises : TimesNotFalling 0 held
   pub past : AllByRecursion (λ y. y.time ≤ now) held
-  pub needed : AllNear size (first_time now waiting) held
+  pub needed : AllNear size (first_time_from now waiting) held

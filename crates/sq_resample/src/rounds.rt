@@ -4,11 +4,11 @@ ghost use Rattle.std.specs.Prelude.{◌≡◌, ℕ, ◌+◌, ◌≤◌, ◌++◌
 ghost use Rattle.std.specs.List.{AllByRecursion};
 ghost use Rattle.sq_value.specs.Lists.{IsPrefixOf};
 ghost use Rattle.sq_lists.specs.Sides.{recent};
-ghost use Rattle.sq_lists.specs.WindowParts.{NotFalling};
+ghost use Rattle.sq_lists.specs.WindowParts.{TimesNotFalling};
 ghost use Rattle.sq_lists.specs.Resamples.{resampled, resample_of};
 ghost use Rattle.sq_oper.specs.Given.{given, ItemsSound};
 ghost use Rattle.sq_oper.specs.Streams.{things, at_zero};
-ghost use Rattle.sq_resample.specs.Rounds.{CanGive, HasRoom, first_time, passed};
+ghost use Rattle.sq_resample.specs.Rounds.{CanGive, HasFieldRoom, first_time_from, passed};
 ghost use Rattle.sq_resample.specs.Running.{IsRunning, IsSum};
 
 use crate::held::{first_time, pop_past};
@@ -29,8 +29,8 @@ fn give_round<F: Fold, T: Outlet>(
     held: &mut Held<F::State>,
     out: &mut T,
 ) -> Result<(), AllocError>
-    requires room { HasRoom (F.width fold.now) x }
-    requires rises { NotFalling 0 held.old.tuples.items }
+    requires room { HasFieldRoom (F.width fold.now) x }
+    requires rises { TimesNotFalling 0 held.old.tuples.items }
     requires reaches { AllByRecursion (λ y. y.time ≤ x.time + size) held.old.tuples.items }
     requires runs { IsRunning (IsSum (F.joined fold.now) (F.unit fold.now) (F.none fold.now) (F.made fold.now) (F.number fold.now)) held.old.tuples.items held.old.heads.items held.old.tail }
     requires is_ready { T.ready out.old }
@@ -74,7 +74,7 @@ pub fn give_ready<F: Fold, T: Outlet>(
     requires runs { IsRunning (IsSum (F.joined fold.now) (F.unit fold.now) (F.none fold.now) (F.made fold.now) (F.number fold.now)) held.old.tuples.items held.old.heads.items held.old.tail }
     requires is_ready { T.ready out.old }
     ensures waiting { OnOk result (waiting.new.items ≡ recent size now waiting.old.items) }
-    ensures held { OnOk result (held.new.tuples.items ≡ recent size (first_time now (recent size now waiting.old.items)) held.old.tuples.items) }
+    ensures held { OnOk result (held.new.tuples.items ≡ recent size (first_time_from now (recent size now waiting.old.items)) held.old.tuples.items) }
     ensures runs { OnOk result (IsRunning (IsSum (F.joined fold.now) (F.unit fold.now) (F.none fold.now) (F.made fold.now) (F.number fold.now)) held.new.tuples.items held.new.heads.items held.new.tail) }
     ensures given { OnOk result ((q : ℕ) → given q (T.items out.new)
         ≡ given q (T.items out.old) ++ at_zero q (things (resample_of (F.table fold.now) size (passed size now waiting.old.items) held.old.tuples.items))) }

@@ -27,5 +27,5 @@ row_at rows e = unwrap_or (lookup (λ x. x == e) rows) []
 abbrev pub level_of : LevelTable → ℕ → ℕ → ℕ
 level_of table e w = slice_index (row_at table.rows e) w
 
-abbrev pub Agrees : LevelTable → (ℕ → ℕ → ℕ) → Type 0
-Agrees table levels = (e w : ℕ) → e < table.closed → levels e w ≡ level_of table e w
+abbrev pub AgreesWith : LevelTable → (ℕ → ℕ → ℕ) → Type 0
+AgreesWith table levels = (e w : ℕ) → e < table.closed → levels e w ≡ level_of table e w

@@ -5,8 +5,8 @@ use Rattle.std.specs.List.{range_with_len}
 use Rattle.std.proofs.Math.Seq.{drop-length}
 use Rattle.std.proofs.lemmas.List.{length-map}
 use Rattle.std.proofs.lemmas.List.FromFn.{length-range_with_len}
-use Rattle.sq_link.specs.Chained.{Chained, list_at, StandsIn, IsLoose, IsSound, without as all_but}
-use Rattle.sq_sched.specs.Ready.{contains, without, AreActors, OnlyOnce, ready_in, IsReadyList}
+use Rattle.sq_link.specs.Chained.{Chained, list_at, StandsIn, IsLoose, IsChained, without as all_but}
+use Rattle.sq_sched.specs.Ready.{contains, without_actor, AreActors, OnlyOnce, ready_in, IsReadyList}
 use Rattle.sq_sched.proofs.ReadyLemmas.{contained, not-contained, stands, once-apart, without-all, length-without, few, room}
 
 -- what stands in a list stands in the first, where there is one alone
@@ -20,19 +20,19 @@ first-without : (lists : List (List ℕ)) (a : ℕ) → list_at (map (all_but a)
 first-without [] a = refl
 first-without (xs ∷ lists) a = refl
 
-pub once-in : (chains : Chained) → IsSound chains → OnlyOnce (ready_in chains)
+pub once-in : (chains : Chained) → IsChained chains → OnlyOnce (ready_in chains)
 once-in chains sound = once-apart (ready_in chains) (sound.once 1)
 
-pub below-in : (n count : ℕ) (chains : Chained) (a : ℕ) → IsReadyList n chains count → IsSound chains → StandsIn a (ready_in chains) → a < n
+pub below-in : (n count : ℕ) (chains : Chained) (a : ℕ) → IsReadyList n chains count → IsChained chains → StandsIn a (ready_in chains) → a < n
 below-in n count chains a r sound there = rw (← r.each) (sound.below 1 a there)
 
-pub actors-in : (n count : ℕ) (chains : Chained) → IsReadyList n chains count → IsSound chains → AreActors n (ready_in chains)
+pub actors-in : (n count : ℕ) (chains : Chained) → IsReadyList n chains count → IsChained chains → AreActors n (ready_in chains)
 actors-in n count chains r sound x here = below-in n count chains x r sound (stands (ready_in chains) x here)
 
-pub few-in : (n count : ℕ) (chains : Chained) → IsReadyList n chains count → IsSound chains → length (ready_in chains) ≤ n
+pub few-in : (n count : ℕ) (chains : Chained) → IsReadyList n chains count → IsChained chains → length (ready_in chains) ≤ n
 few-in n count chains r sound = few n (ready_in chains) (once-in chains sound) (actors-in n count chains r sound)
 
-pub room-in : (n count : ℕ) (chains : Chained) (a : ℕ) → IsReadyList n chains count → IsSound chains → a < n → contains (ready_in chains) a ≡ false → count < n
+pub room-in : (n count : ℕ) (chains : Chained) (a : ℕ) → IsReadyList n chains count → IsChained chains → a < n → contains (ready_in chains) a ≡ false → count < n
 room-in n count chains a r sound low new =
     let fits = room n (ready_in chains) a low new (once-in chains sound) (actors-in n count chains r sound) in
     omega (arith, fits, r.counted)
@@ -53,7 +53,7 @@ pub listed-in : (n count : ℕ) (chains : Chained) (a : ℕ) (o : Option ℕ) �
 listed-in n count chains a None r h = sym (not-contained (ready_in chains) a (h 0))
 listed-in n count chains a (Some l) r h = sym (contained (ready_in chains) a (in-first chains.lists l a r.one h.1))
 
-pub none-above : (n count : ℕ) (chains : Chained) (a : ℕ) → IsReadyList n chains count → IsSound chains → n ≤ a → contains (ready_in chains) a ≡ false
+pub none-above : (n count : ℕ) (chains : Chained) (a : ℕ) → IsReadyList n chains count → IsChained chains → n ≤ a → contains (ready_in chains) a ≡ false
 none-above n count chains a r sound high = not-contained (ready_in chains) a (λ there. let low = below-in n count chains a r sound there in absurd (omega (arith, low, high)))
 
 pub ready-none : (n : ℕ) → IsReadyList n (record { lists = [] ∷ []; free = drop n (range_with_len 0 n); nodes = n }) 0
@@ -65,10 +65,10 @@ ready-none n = record { one = refl; none_free = none; each = refl; counted = ref
 abbrev pub taken : Chained → ℕ → Chained
 taken chains a = record chains { lists = map (all_but a) chains.lists }
 
-pub list-taken : (chains : Chained) (a : ℕ) → IsSound chains → ready_in (taken chains a) ≡ without a (ready_in chains)
+pub list-taken : (chains : Chained) (a : ℕ) → IsChained chains → ready_in (taken chains a) ≡ without_actor a (ready_in chains)
 list-taken chains a sound = first-without chains.lists a ∙ without-all a (ready_in chains) (sound.once 1)
 
-pub ready-taken : (n count : ℕ) (chains : Chained) (a : ℕ) → IsReadyList n chains count → IsSound chains → contains (ready_in chains) a ≡ true
+pub ready-taken : (n count : ℕ) (chains : Chained) (a : ℕ) → IsReadyList n chains count → IsChained chains → contains (ready_in chains) a ≡ true
     → IsReadyList n (taken chains a) (count - 1)
 ready-taken n count chains a r sound here = record {
   one = length-map chains.lists (all_but a) ∙ r.one;

@@ -26,7 +26,7 @@ use Rattle.sq_model.proofs.LateLemmas.{late_are_the_rest}
 use Rattle.sq_model.proofs.PlacedLemmas.{placed_of}
 use Rattle.sq_model.proofs.StreamTypes.{streams-fit}
 use Rattle.sq_shard.specs.declared.Cut.{Cut}
-use Rattle.sq_shard.specs.Cuts.{Class, IsPart, AreParts, kept, column_at}
+use Rattle.sq_shard.specs.Cuts.{KeyClass, IsShardOf, AreParts, kept, column_at}
 use Rattle.sq_shard.specs.Keys.{FollowsCuts, cut_given, box_cut_at, source_cut, input_widths, width_of}
 use Rattle.sq_shard.specs.Laws.{NoneLate, SameBody, SameNode, AreAlike}
 use Rattle.sq_shard.proofs.InOrder.{by-order}
@@ -45,7 +45,7 @@ wide-option : (o : Option Columns) (xs : List Tuple) → FitsOption o xs → All
 wide-option None xs h = subst (AllByRecursion (λ (x : Tuple). length x.fields ≡ 0)) (sym h) tt
 wide-option (Some cs) xs h = All-weaker (λ (x : Tuple). fields_fit cs x.fields ≡ true) (λ (x : Tuple). length x.fields ≡ length cs) (λ x k. fitting-length cs x.fields k) xs h
 
-source-part : (in_class : Class) (o : Option ℕ) (xs : List Tuple) → IsPart in_class (source_cut o) xs (kept in_class o xs)
+source-part : (in_class : KeyClass) (o : Option ℕ) (xs : List Tuple) → IsShardOf in_class (source_cut o) xs (kept in_class o xs)
 source-part in_class None xs = refl
 source-part in_class (Some c) xs = (refl, tt)
 
@@ -91,7 +91,7 @@ gives-all n sound sources none at b there (Join size on) is = tt
 gives-all n sound sources none at b there (Resample size funcs) is = tt
 
 module _ (n whole : Network) (sound : IsSound n) (sure : IsSound whole) (by : List (Option ℕ)) (on_time : Bool) (cuts : ℕ → Cut) (alike : AreAlike on_time n whole) (follows : FollowsCuts n by on_time cuts)
-    (in_class : Class) (sources part : List (List Tuple)) (fit : SourcesFit whole sources) (parts : AreParts in_class by sources part)
+    (in_class : KeyClass) (sources part : List (List Tuple)) (fit : SourcesFit whole sources) (parts : AreParts in_class by sources part)
     (late : on_time ≡ true → NoneLate whole sources × NoneLate n part) where
   abbrev full : ℕ → List Tuple
   full s = full_stream whole sources s
@@ -113,7 +113,7 @@ module _ (n whole : Network) (sound : IsSound n) (sure : IsSound whole) (by : Li
   first-wide (s ∷ inputs) = wide-option (columns_of_stream n s) (full s) (subst (λ o. FitsOption o (full s)) (alike.columns s) (streams-fit whole sure sources fit s))
 
   box-holds : (at port : ℕ) (o p : Option Node) → slice_get n.boxes at ≡ o → slice_get whole.boxes at ≡ p → AllByRecursion Holds (inputs_of n.wires at)
-      → IsPart in_class (box_cut_at on_time o (input_widths n (inputs_of n.wires at)) (map cuts (inputs_of n.wires at)))
+      → IsShardOf in_class (box_cut_at on_time o (input_widths n (inputs_of n.wires at)) (map cuts (inputs_of n.wires at)))
       (box_list_at p port (map full (inputs_of n.wires at))) (box_list_at o port (map answered (inputs_of n.wires at)))
   box-holds at port None p e f all = tt
   box-holds at port (Some b) None e f all = absurd (subst (λ q. SameNode (Some b) q on_time) f (subst (λ q. SameNode q (slice_get whole.boxes at) on_time) e (alike.boxes at)))
@@ -146,5 +146,5 @@ module _ (n whole : Network) (sound : IsSound n) (sure : IsSound whole) (by : Li
       (part-given s ∙ ap (produced n part answered) is)
       (box-holds at port (slice_get n.boxes at) (slice_get whole.boxes at) refl refl all)
 
-  pub parts-answer : (s : ℕ) → IsPart in_class (cuts s) (full_stream whole sources s) (full_stream n part s)
+  pub parts-answer : (s : ℕ) → IsShardOf in_class (cuts s) (full_stream whole sources s) (full_stream n part s)
   parts-answer s = by-order n (placed_of n sound) Holds by-none by-source by-port s

@@ -18,7 +18,7 @@ use Rattle.sq_expr.specs.declared.CompareOp.TheVariants as compare
 use Rattle.sq_expr.specs.declared.LogicOp.TheVariants as logic
 use Rattle.sq_expr.specs.Expressions.{compare_value, logic_value, is_true, holds_of, pair_of, value_of}
 use Rattle.sq_road.proofs.Parts.{filter_sort}
-use Rattle.sq_lists.specs.Merge.{Entry, earlier, merge}
+use Rattle.sq_lists.specs.Merge.{PortTuple, tuple_earlier, merge_tuples}
 use Rattle.sq_lists.specs.Pairs.{meets, paired, pairs_of, pairs_from, join_list_of}
 use Rattle.sq_model.proofs.Alls.{All-append, All-mapped, All-sorted, All-every, All-weaker}
 use Rattle.sq_shard.specs.Keys.{is_pair_of, joins_on}
@@ -39,10 +39,10 @@ filter-ports {X} q port (xs ∷ rest) =
     ∙ ap (λ l. l ++ filter (λ (e : ℕ × X). q e.0 e.1) (ports_from (port + 1) rest)) (filter-mapped (λ (e : ℕ × X). q e.0 e.1) (λ x. (port, x)) xs)
     ∙ ap (λ l. map (λ x. (port, x)) (filter (q port) xs) ++ l) (filter-ports q (port + 1) rest)
 
-pub filter-merge : (q : ℕ → Tuple → Bool) (ins : List (List Tuple)) → filter (λ (e : Entry). q e.0 e.1) (merge ins) ≡ merge (kept_from q 0 ins)
+pub filter-merge : (q : ℕ → Tuple → Bool) (ins : List (List Tuple)) → filter (λ (e : PortTuple). q e.0 e.1) (merge_tuples ins) ≡ merge_tuples (kept_from q 0 ins)
 filter-merge q ins =
-    filter_sort earlier (IsStrictWeakOrder-by_number (λ e. (e.1).time)) (λ (e : Entry). q e.0 e.1) (ports_of ins)
-    ∙ ap (sort_by earlier) (filter-ports q 0 ins)
+    filter_sort tuple_earlier (IsStrictWeakOrder-by_number (λ e. (e.1).time)) (λ (e : PortTuple). q e.0 e.1) (ports_of ins)
+    ∙ ap (sort_by tuple_earlier) (filter-ports q 0 ins)
 
 -- ---- filters of pairs
 
@@ -59,22 +59,22 @@ three {X} o h m k (x ∷ xs) all = by (three o h m k xs all.1) (m x) (h x) (k x)
     by more true true true ma hb kc = let oc : o x ≡ true = all.0 ma hb ∙ kc in rw (ma, hb, oc) (ap (λ zs. x ∷ zs) more)
     by more true true false ma hb kc = let oc : o x ≡ false = all.0 ma hb ∙ kc in rw (hb, oc) more
 
-module _ (E : Entry → Type 0) (keep : Entry → Bool) (out : Tuple → Bool) (size : ℕ) (on : Expr)
-    (agree : (now before : Entry) → E now → E before → meets size now before ≡ true → holds_of on (paired now before) ≡ true → out (paired now before) ≡ (keep now && keep before)) where
-  one-of : (before : List Entry) (now : Entry) → E now → AllByRecursion E before
+module _ (E : PortTuple → Type 0) (keep : PortTuple → Bool) (out : Tuple → Bool) (size : ℕ) (on : Expr)
+    (agree : (now before : PortTuple) → E now → E before → meets size now before ≡ true → holds_of on (paired now before) ≡ true → out (paired now before) ≡ (keep now && keep before)) where
+  one-of : (before : List PortTuple) (now : PortTuple) → E now → AllByRecursion E before
       → filter out (pairs_of size on before now) ≡ pairs_of size on (filter (λ b. keep now && keep b) before) now
   one-of before now e all =
-      let o : Entry → Bool = λ b. out (paired now b) in
-      let h : Entry → Bool = λ b. holds_of on (paired now b) in
+      let o : PortTuple → Bool = λ b. out (paired now b) in
+      let h : PortTuple → Bool = λ b. holds_of on (paired now b) in
       ap (filter out) (filter-mapped (holds_of on) (paired now) (filter (meets size now) before))
       ∙ filter-mapped out (paired now) (filter h (filter (meets size now) before))
       ∙ ap (map (paired now)) (three o h (meets size now) (λ b. keep now && keep b) before (All-weaker E (λ b. meets size now b ≡ true → h b ≡ true → o b ≡ (keep now && keep b)) (λ b k m t. agree now b e k m t) before all))
       ∙ sym (filter-mapped (holds_of on) (paired now) (filter (meets size now) (filter (λ b. keep now && keep b) before)))
 
-  none-kept : (before : List Entry) → filter (λ (b : Entry). false) before ≡ []
-  none-kept before = filter-none (λ (b : Entry). false) before (All-every (λ (b : Entry). false ≡ false) (λ b. refl) before)
+  none-kept : (before : List PortTuple) → filter (λ (b : PortTuple). false) before ≡ []
+  none-kept before = filter-none (λ (b : PortTuple). false) before (All-every (λ (b : PortTuple). false ≡ false) (λ b. refl) before)
 
-  pub pairs-taken : (before later : List Entry) → AllByRecursion E before → AllByRecursion E later
+  pub pairs-taken : (before later : List PortTuple) → AllByRecursion E before → AllByRecursion E later
       → filter out (pairs_from size on before later) ≡ pairs_from size on (filter keep before) (filter keep later)
   pairs-taken before [] b l = refl
   pairs-taken before (now ∷ later) b l =
@@ -98,13 +98,13 @@ module _ (pl pr out : Tuple → Bool) (width size : ℕ) (on : Expr)
   abbrev at_side : ℕ → Tuple → Bool
   at_side side x = if eqb side 0 then pl x else pr x
 
-  abbrev keep_entry : Entry → Bool
+  abbrev keep_entry : PortTuple → Bool
   keep_entry e = at_side e.0 e.1
 
-  abbrev Sided : Entry → Type 0
+  abbrev Sided : PortTuple → Type 0
   Sided e = ((e.0 ≡ 0) × (length (e.1).fields ≡ width)) ⊎ (e.0 ≡ 1)
 
-  not-met : (now before : Entry) → now.0 ≡ before.0 → meets size now before ≡ true → ⊥
+  not-met : (now before : PortTuple) → now.0 ≡ before.0 → meets size now before ≡ true → ⊥
   not-met now before same h =
       let e : eqb now.0 before.0 ≡ true = equal now.0 before.0 same in
       first (eqb now.0 before.0) _ e h
@@ -122,7 +122,7 @@ module _ (pl pr out : Tuple → Bool) (width size : ℕ) (on : Expr)
   swapped false true = refl
   swapped false false = refl
 
-  sides-agree : (now before : Entry) → Sided now → Sided before → meets size now before ≡ true → holds_of on (paired now before) ≡ true → out (paired now before) ≡ (keep_entry now && keep_entry before)
+  sides-agree : (now before : PortTuple) → Sided now → Sided before → meets size now before ≡ true → holds_of on (paired now before) ≡ true → out (paired now before) ≡ (keep_entry now && keep_entry before)
   sides-agree now before (inl a) (inl b) m t = absurd (not-met now before (a.0 ∙ sym b.0) m)
   sides-agree now before (inr a) (inr b) m t = absurd (not-met now before (a ∙ sym b) m)
   sides-agree now before (inl a) (inr b) m t =
@@ -146,7 +146,7 @@ module _ (pl pr out : Tuple → Bool) (width size : ℕ) (on : Expr)
   pub join-taken : (left right : List Tuple) → AllByRecursion (λ (x : Tuple). length x.fields ≡ width) left
       → filter out (join_list_of size on left right) ≡ join_list_of size on (filter pl left) (filter pr right)
   join-taken left right h =
-      pairs-taken Sided keep_entry out size on sides-agree [] (merge (left ∷ right ∷ [])) tt (All-sorted Sided earlier (ports_of (left ∷ right ∷ [])) (sided left right h))
+      pairs-taken Sided keep_entry out size on sides-agree [] (merge_tuples (left ∷ right ∷ [])) tt (All-sorted Sided tuple_earlier (ports_of (left ∷ right ∷ [])) (sided left right h))
       ∙ ap (λ es. pairs_from size on [] es) (filter-merge at_side (left ∷ right ∷ []))
 
 -- ---- what the predicate says

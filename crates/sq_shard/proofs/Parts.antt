@@ -13,8 +13,8 @@ use Rattle.sq_aggfn.specs.declared.Func.{Func}
 use Rattle.sq_aggfn.specs.declared.WindowSpec.{WindowSpec}
 use Rattle.sq_aggfn.specs.Functions.{answers_of}
 use Rattle.sq_graph.specs.Order.{contains_number}
-use Rattle.sq_lists.specs.Merge.{Entry, merge, union}
-use Rattle.sq_lists.specs.Boxes.{filter_list_of, map_list_of, mapped, port_of}
+use Rattle.sq_lists.specs.Merge.{PortTuple, merge_tuples, union}
+use Rattle.sq_lists.specs.Boxes.{filter_list_of, map_list_of, mapped, port_taken}
 use Rattle.sq_value.specs.Lists.{sort_by}
 use Rattle.sq_lists.specs.Sorting.{bsort_list_of, retimed}
 use Rattle.sq_lists.specs.Windows.{aggregate_list_of}
@@ -28,7 +28,7 @@ use Rattle.sq_model.specs.Unions as model
 use Rattle.sq_model.proofs.Alls.{All-append, All-mapped, All-weaker}
 use Rattle.sq_shard.specs.declared.Cut.{Cut}
 use Rattle.sq_shard.specs.declared.Cut.TheVariants.{Whole, By}
-use Rattle.sq_shard.specs.Cuts.{Class, of_class, IsPart}
+use Rattle.sq_shard.specs.Cuts.{KeyClass, is_in_class, IsShardOf}
 use Rattle.sq_shard.specs.Keys.{places, is_among, joins_on, through, own, cut_at, both_cut, union_cut, left_keys, right_keys, join_cut, resample_cut, box_cut}
 use Rattle.sq_place.proofs.Deciding.{filter-mapped}
 use Rattle.sq_shard.proofs.Lists.{filter-swap, filter-same}
@@ -100,32 +100,32 @@ abbrev pub GivesAll : Body → List Tuple → Type 0
 GivesAll (BSort by slack) xs = length (bsort_list_of by slack xs) ≡ length xs
 GivesAll b xs = ⊤
 
-module _ (in_class : Class) where
+module _ (in_class : KeyClass) where
   -- whether a tuple is of the class by a column
   abbrev of : ℕ → Tuple → Bool
-  of c x = of_class in_class c x
+  of c x = is_in_class in_class c x
 
   abbrev By' : List Tuple → List Tuple → ℕ → Type 0
   By' xs ys c = ys ≡ filter (of c) xs
 
-  pub moved : (a b : Cut) (xs vs ys ws : List Tuple) → a ≡ b → xs ≡ vs → ys ≡ ws → IsPart in_class b vs ws → IsPart in_class a xs ys
-  moved a b xs vs ys ws e f g h = subst (λ c. IsPart in_class c xs ys) (sym e) (subst (λ zs. IsPart in_class b zs ys) (sym f) (subst (IsPart in_class b vs) (sym g) h))
+  pub moved : (a b : Cut) (xs vs ys ws : List Tuple) → a ≡ b → xs ≡ vs → ys ≡ ws → IsShardOf in_class b vs ws → IsShardOf in_class a xs ys
+  moved a b xs vs ys ws e f g h = subst (λ c. IsShardOf in_class c xs ys) (sym e) (subst (λ zs. IsShardOf in_class b zs ys) (sym f) (subst (IsShardOf in_class b vs) (sym g) h))
 
   through-part : (f : List Tuple → List Tuple) (g : List ℕ → List ℕ) (c : Cut) (xs ys : List Tuple)
       → ((columns : List ℕ) → AllByRecursion (By' xs ys) columns → AllByRecursion (By' (f xs) (f ys)) (g columns))
-      → IsPart in_class c xs ys → IsPart in_class (through g c) (f xs) (f ys)
+      → IsShardOf in_class c xs ys → IsShardOf in_class (through g c) (f xs) (f ys)
   through-part f g Whole xs ys h is = ap f is
   through-part f g (By columns) xs ys h is = h columns is
 
-  own-part : (width : ℕ) (c : Cut) (xs ys : List Tuple) → IsPart in_class c xs ys → IsPart in_class (own width c) xs ys
+  own-part : (width : ℕ) (c : Cut) (xs ys : List Tuple) → IsShardOf in_class c xs ys → IsShardOf in_class (own width c) xs ys
   own-part width Whole xs ys is = is
   own-part width (By columns) xs ys is = all-kept (By' xs ys) (By' xs ys) (λ c. ltb c width) (λ c e h. e) columns is
 
-  filter-part : (ps : List Expr) (port : ℕ) (c : Cut) (xs ys : List Tuple) → IsPart in_class c xs ys → IsPart in_class c (filter_list_of ps port xs) (filter_list_of ps port ys)
+  filter-part : (ps : List Expr) (port : ℕ) (c : Cut) (xs ys : List Tuple) → IsShardOf in_class c xs ys → IsShardOf in_class c (filter_list_of ps port xs) (filter_list_of ps port ys)
   filter-part ps port Whole xs ys is = ap (filter_list_of ps port) is
   filter-part ps port (By columns) xs ys is =
       All-weaker (By' xs ys) (By' (filter_list_of ps port xs) (filter_list_of ps port ys))
-      (λ c e. ap (filter_list_of ps port) e ∙ filter-swap (λ x. eqb (port_of ps x) port) (of c) xs) columns is
+      (λ c e. ap (filter_list_of ps port) e ∙ filter-swap (λ x. eqb (port_taken ps x) port) (of c) xs) columns is
 
   map-part : (es : List Expr) (columns : List ℕ) (xs ys : List Tuple) → AllByRecursion (By' xs ys) columns
       → AllByRecursion (By' (map_list_of es xs) (map_list_of es ys)) (places (λ e. is_among columns (bare_of e)) 0 es)
@@ -214,7 +214,7 @@ module _ (in_class : Class) where
           ap (λ zs. join_list_of size on zs yr) found.1 ∙ ap (join_list_of size on (filter (of found.0) xl)) e
           ∙ sym (both-right found.0 r (below found.0 width parts.0) parts.1))) rs ra)
 
-      join-part : (a b : Cut) → IsPart in_class a xl yl → IsPart in_class b xr yr → IsPart in_class (join_cut width (equated on) a b) (join_list_of size on xl xr) (join_list_of size on yl yr)
+      join-part : (a b : Cut) → IsShardOf in_class a xl yl → IsShardOf in_class b xr yr → IsShardOf in_class (join_cut width (equated on) a b) (join_list_of size on xl xr) (join_list_of size on yl yr)
       join-part Whole Whole l r = ap (λ zs. join_list_of size on zs yr) l ∙ ap (join_list_of size on xl) r
       join-part (By ls) Whole l r = all-kept (By' xl yl) Given (λ l. ltb l width) (λ k e h.
           ap (λ zs. join_list_of size on zs yr) e ∙ ap (join_list_of size on (filter (of k) xl)) r ∙ sym (left-key k (below k width h))) ls l
@@ -237,7 +237,7 @@ module _ (in_class : Class) where
         filter-mapped (of l) (resampled (answers_of funcs) size xr) xl
         ∙ ap (map (resampled (answers_of funcs) size xr)) (filter-same (λ x. of l (resampled (answers_of funcs) size xr x)) (of l) xl (all-left l low xl wide))
 
-    resample-part : (a b : Cut) → IsPart in_class a xl yl → IsPart in_class b xr yr → IsPart in_class (resample_cut width a b) (resample_list_of funcs size xl xr) (resample_list_of funcs size yl yr)
+    resample-part : (a b : Cut) → IsShardOf in_class a xl yl → IsShardOf in_class b xr yr → IsShardOf in_class (resample_cut width a b) (resample_list_of funcs size xl xr) (resample_list_of funcs size yl yr)
     resample-part a (By rs) l r = tt
     resample-part Whole Whole l r = ap (λ zs. resample_list_of funcs size zs yr) l ∙ ap (resample_list_of funcs size xl) r
     resample-part (By ls) Whole l r = all-kept (By' xl yl) (By' (resample_list_of funcs size xl xr) (resample_list_of funcs size yl yr)) (λ l. ltb l width) (λ k e h.
@@ -247,13 +247,13 @@ module _ (in_class : Class) where
 
   module _ (cuts : ℕ → Cut) (full part : ℕ → List Tuple) where
     abbrev pub Law : ℕ → Type 0
-    Law s = IsPart in_class (cuts s) (full s) (part s)
+    Law s = IsShardOf in_class (cuts s) (full s) (part s)
 
-    first-part : (inputs : List ℕ) → AllByRecursion Law inputs → IsPart in_class (cut_at (map cuts inputs) 0) (nth (map full inputs) 0) (nth (map part inputs) 0)
+    first-part : (inputs : List ℕ) → AllByRecursion Law inputs → IsShardOf in_class (cut_at (map cuts inputs) 0) (nth (map full inputs) 0) (nth (map part inputs) 0)
     first-part [] all = tt
     first-part (s ∷ inputs) all = all.0
 
-    second-part : (inputs : List ℕ) → AllByRecursion Law inputs → IsPart in_class (cut_at (map cuts inputs) 1) (nth (map full inputs) 1) (nth (map part inputs) 1)
+    second-part : (inputs : List ℕ) → AllByRecursion Law inputs → IsShardOf in_class (cut_at (map cuts inputs) 1) (nth (map full inputs) 1) (nth (map part inputs) 1)
     second-part [] all = tt
     second-part (s ∷ inputs) all = first-part inputs all.1
 
@@ -262,7 +262,7 @@ module _ (in_class : Class) where
     Each Whole inputs = map part inputs ≡ map full inputs
     Each (By columns) inputs = AllByRecursion (λ c. map part inputs ≡ map (λ s. filter (of c) (full s)) inputs) columns
 
-    one-more : (a b : Cut) (s : ℕ) (rest : List ℕ) → IsPart in_class a (full s) (part s) → Each b rest → Each (both_cut a b) (s ∷ rest)
+    one-more : (a b : Cut) (s : ℕ) (rest : List ℕ) → IsShardOf in_class a (full s) (part s) → Each b rest → Each (both_cut a b) (s ∷ rest)
     one-more Whole Whole s rest e f = ap (λ x. x ∷ map part rest) e ∙ ap (λ xs. full s ∷ xs) f
     one-more Whole (By others) s rest e f = tt
     one-more (By columns) Whole s rest e f = tt
@@ -271,7 +271,7 @@ module _ (in_class : Class) where
         (λ c here there. ap (λ x. x ∷ map part rest) here ∙ ap (λ xs. filter (of c) (full s) ∷ xs)
         (contained (λ c. map part rest ≡ map (λ s. filter (of c) (full s)) rest) others c f there)) columns e
 
-    only : (a : Cut) (s : ℕ) → IsPart in_class a (full s) (part s) → Each a (s ∷ [])
+    only : (a : Cut) (s : ℕ) → IsShardOf in_class a (full s) (part s) → Each a (s ∷ [])
     only Whole s e = ap (λ x. x ∷ []) e
     only (By columns) s e = All-weaker (By' (full s) (part s)) (λ c. map part (s ∷ []) ≡ map (λ s. filter (of c) (full s)) (s ∷ [])) (λ c here. ap (λ x. x ∷ []) here) columns e
 
@@ -286,19 +286,19 @@ module _ (in_class : Class) where
 
     filter-union : (c : ℕ) (inputs : List ℕ) → filter (of c) (union (map full inputs)) ≡ union (map (λ s. filter (of c) (full s)) inputs)
     filter-union c inputs =
-        filter-mapped (of c) (λ (e : Entry). e.1) (merge (map full inputs))
-        ∙ ap (map (λ (e : Entry). e.1)) (filter-merge (λ port x. of c x) (map full inputs) ∙ ap merge (kept-of c 0 inputs))
+        filter-mapped (of c) (λ (e : PortTuple). e.1) (merge_tuples (map full inputs))
+        ∙ ap (map (λ (e : PortTuple). e.1)) (filter-merge (λ port x. of c x) (map full inputs) ∙ ap merge_tuples (kept-of c 0 inputs))
 
-    union-part : (a : Cut) (inputs : List ℕ) → Each a inputs → IsPart in_class a (union (map full inputs)) (union (map part inputs))
+    union-part : (a : Cut) (inputs : List ℕ) → Each a inputs → IsShardOf in_class a (union (map full inputs)) (union (map part inputs))
     union-part Whole inputs e = ap union e
     union-part (By columns) inputs e =
         All-weaker (λ c. map part inputs ≡ map (λ s. filter (of c) (full s)) inputs) (By' (union (map full inputs)) (union (map part inputs)))
         (λ c h. ap union h ∙ sym (filter-union c inputs)) columns e
 
     sort-part : (by slack other : ℕ) (c : Cut) (xs ys : List Tuple) → length (bsort_list_of by other xs) ≡ length xs → length (bsort_list_of by slack ys) ≡ length ys
-        → IsPart in_class c xs ys → IsPart in_class (through (λ columns. columns) c) (bsort_list_of by other xs) (bsort_list_of by slack ys)
+        → IsShardOf in_class c xs ys → IsShardOf in_class (through (λ columns. columns) c) (bsort_list_of by other xs) (bsort_list_of by slack ys)
     sort-part by slack other Whole xs ys whole mine is =
-        all-sorted by slack ys mine ∙ ap (λ zs. sort_by model.sooner (retimed by zs)) is ∙ sym (all-sorted by other xs whole)
+        all-sorted by slack ys mine ∙ ap (λ zs. sort_by model.tuple_sooner (retimed by zs)) is ∙ sym (all-sorted by other xs whole)
     sort-part by slack other (By columns) xs ys whole mine is =
         All-weaker (By' xs ys) (By' (bsort_list_of by other xs) (bsort_list_of by slack ys)) (λ c e.
         ap (bsort_list_of by slack) e
@@ -307,7 +307,7 @@ module _ (in_class : Class) where
     -- one box, the same in the whole and in the part
     same-part : (on_time : Bool) (b : Body) (port : ℕ) (widths : ℕ × ℕ) (inputs : List ℕ) → HasWindow b → AllByRecursion (λ (x : Tuple). length x.fields ≡ widths.0) (nth (map full inputs) 0) → AllByRecursion Law inputs
         → (on_time ≡ true → GivesAll b (nth (map full inputs) 0) × GivesAll b (nth (map part inputs) 0))
-        → IsPart in_class (box_cut on_time b widths (map cuts inputs)) (box_list b port (map full inputs)) (box_list b port (map part inputs))
+        → IsShardOf in_class (box_cut on_time b widths (map cuts inputs)) (box_list b port (map full inputs)) (box_list b port (map part inputs))
     same-part on_time (Filter preds) port widths inputs window wide all calm =
         filter-part (map (λ e. e.tree) preds) port (cut_at (map cuts inputs) 0) (nth (map full inputs) 0) (nth (map part inputs) 0) (first-part inputs all)
     same-part on_time (Map exprs) port widths inputs window wide all calm =
@@ -340,20 +340,20 @@ module _ (in_class : Class) where
     pub box-part : (on_time : Bool) (b c : Body) (port : ℕ) (widths : ℕ × ℕ) (inputs : List ℕ) → SameBody b c on_time → HasWindow b
         → AllByRecursion (λ (x : Tuple). length x.fields ≡ widths.0) (nth (map full inputs) 0) → AllByRecursion Law inputs
         → (on_time ≡ true → GivesAll c (nth (map full inputs) 0) × GivesAll b (nth (map part inputs) 0))
-        → IsPart in_class (box_cut on_time b widths (map cuts inputs)) (box_list c port (map full inputs)) (box_list b port (map part inputs))
+        → IsShardOf in_class (box_cut on_time b widths (map cuts inputs)) (box_list c port (map full inputs)) (box_list b port (map part inputs))
     box-part on_time b c port widths inputs same window wide all calm = by_kind b c on_time same window calm
       where
         alike : (on_time : Bool) (b c : Body) → b ≡ c → HasWindow b → (on_time ≡ true → GivesAll c (nth (map full inputs) 0) × GivesAll b (nth (map part inputs) 0))
-            → IsPart in_class (box_cut on_time b widths (map cuts inputs)) (box_list c port (map full inputs)) (box_list b port (map part inputs))
+            → IsShardOf in_class (box_cut on_time b widths (map cuts inputs)) (box_list c port (map full inputs)) (box_list b port (map part inputs))
         alike on_time b c e window calm =
-            subst (λ d. IsPart in_class (box_cut on_time b widths (map cuts inputs)) (box_list d port (map full inputs)) (box_list b port (map part inputs))) e
+            subst (λ d. IsShardOf in_class (box_cut on_time b widths (map cuts inputs)) (box_list d port (map full inputs)) (box_list b port (map part inputs))) e
             (same-part on_time b port widths inputs window wide all (λ on. let whole = calm on in (subst (λ d. GivesAll d (nth (map full inputs) 0)) (sym e) whole.0, whole.1)))
 
         by_kind : (b c : Body) (on_time : Bool) → SameBody b c on_time → HasWindow b → (on_time ≡ true → GivesAll c (nth (map full inputs) 0) × GivesAll b (nth (map part inputs) 0))
-            → IsPart in_class (box_cut on_time b widths (map cuts inputs)) (box_list c port (map full inputs)) (box_list b port (map part inputs))
+            → IsShardOf in_class (box_cut on_time b widths (map cuts inputs)) (box_list c port (map full inputs)) (box_list b port (map part inputs))
         by_kind (BSort by slack) (BSort key other) true same window calm =
             let whole = calm refl in
-            subst (λ k. IsPart in_class (through (λ columns. columns) (cut_at (map cuts inputs) 0)) (bsort_list_of k other (nth (map full inputs) 0)) (bsort_list_of by slack (nth (map part inputs) 0))) same
+            subst (λ k. IsShardOf in_class (through (λ columns. columns) (cut_at (map cuts inputs) 0)) (bsort_list_of k other (nth (map full inputs) 0)) (bsort_list_of by slack (nth (map part inputs) 0))) same
             (sort-part by slack other (cut_at (map cuts inputs) 0) (nth (map full inputs) 0) (nth (map part inputs) 0)
             (subst (λ k. length (bsort_list_of k other (nth (map full inputs) 0)) ≡ length (nth (map full inputs) 0)) (sym same) whole.0) whole.1 (first-part inputs all))
         by_kind b c on_time same window calm = alike on_time b c same window calm

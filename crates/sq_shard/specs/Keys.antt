@@ -134,13 +134,13 @@ abbrev pub cuts_of : Network → List (Option ℕ) → Bool → List Cut
 cuts_of n by on_time = map (cut_of n by on_time) (numbers_to (length (producers_of n.wires)))
 
 -- whether a part has the stream whole or by a key
-abbrev pub is_known : Cut → Bool
-is_known Whole = true
-is_known (By []) = false
-is_known (By (c ∷ columns)) = true
+abbrev pub is_known_cut : Cut → Bool
+is_known_cut Whole = true
+is_known_cut (By []) = false
+is_known_cut (By (c ∷ columns)) = true
 
 -- whether a box loses the key: what it takes has one, or is whole, and what it gives is neither
 abbrev pub loses_key : Network → Bool → (ℕ → Cut) → ℕ → Bool
 loses_key n on_time cuts at =
-    list_all (λ s. is_known (cuts s)) (inputs_of n.wires at)
-    && not (is_known (box_cut_at on_time (slice_get n.boxes at) (input_widths n (inputs_of n.wires at)) (map cuts (inputs_of n.wires at))))
+    list_all (λ s. is_known_cut (cuts s)) (inputs_of n.wires at)
+    && not (is_known_cut (box_cut_at on_time (slice_get n.boxes at) (input_widths n (inputs_of n.wires at)) (map cuts (inputs_of n.wires at))))

@@ -3,7 +3,7 @@ ghost use Rattle.std.specs.Prelude.{◌≡◌, length, IfOk};
 ghost use Rattle.std.specs.List.{find, list_all};
 ghost use Rattle.sq_value.specs.Lists.{numbers_to};
 ghost use Rattle.sq_net.specs.Sound.{IsSound};
-ghost use Rattle.sq_shard.specs.Keys.{cut_at, is_known, loses_key};
+ghost use Rattle.sq_shard.specs.Keys.{cut_at, is_known_cut, loses_key};
 
 use crate::Cut;
 use crate::boxes::cut_at;
@@ -11,8 +11,8 @@ use crate::cuts::{inputs_of, port_cut};
 use sq_net::Network;
 use std::alloc::{AllocError, Global};
 
-fn is_known(cut: &Cut) -> bool
-    ensures { result ≡ is_known cut.now }
+fn is_known_cut(cut: &Cut) -> bool
+    ensures { result ≡ is_known_cut cut.now }
 {
     match cut {
         Cut::Whole => true,
@@ -21,10 +21,10 @@ fn is_known(cut: &Cut) -> bool
 }
 
 fn are_known(alloc: Global, cuts: &[Cut], inputs: &[u32]) -> Result<bool, AllocError>
-    ensures { IfOk result (λ b. b ≡ list_all (λ s. is_known (cut_at cuts.now s)) inputs.now) }
+    ensures { IfOk result (λ b. b ≡ list_all (λ s. is_known_cut (cut_at cuts.now s)) inputs.now) }
 {
     for stream in inputs {
-        if !is_known(&cut_at(alloc, cuts, *stream as usize)?) {
+        if !is_known_cut(&cut_at(alloc, cuts, *stream as usize)?) {
             return Ok(false);
         }
     }
@@ -44,7 +44,7 @@ fn loses_key(
     if !are_known(alloc, cuts, inputs_of(&n.wires, at))? {
         return Ok(false);
     }
-    Ok(!is_known(&port_cut(alloc, n, on_time, cuts, at)?))
+    Ok(!is_known_cut(&port_cut(alloc, n, on_time, cuts, at)?))
 }
 
 /// The first box, by its number, that loses the key, where these are the cuts of all streams.

@@ -26,7 +26,7 @@ use Rattle.sq_points.specs.Points.{points_of}
 use Rattle.sq_model.specs.Fit.{SourcesFit}
 use Rattle.sq_model.specs.Shedding.{Replay, drop_above_arc, drop_above_output}
 use Rattle.sq_below.specs.Laws.{PointsMeasured}
-use Rattle.sq_below.specs.Ranks.{Fits, FitsAt}
+use Rattle.sq_below.specs.Ranks.{BodyFits, FitsAt}
 use Rattle.sq_below.specs.Standing.{Drop, drop_above_box, takes, fits_columns, fits_stream, fits_inputs, BoxesFit, DropsFit, OutputsFit, drop_fed}
 use Rattle.sq_below.specs.Actors.{Sources, Box, Shedder, Shower}
 use Rattle.sq_below.specs.Ports.{body_marks, may_be_below, AllReady, FuturesWiden}
@@ -34,7 +34,7 @@ use Rattle.sq_below.proofs.FromSound.{fits-at, ranks-of}
 use Rattle.sq_below.proofs.Feeding.{inputs-alike, output-alike}
 use Rattle.sq_start.specs.Numbers.{place_stream}
 use Rattle.sq_start.specs.Nets.{fed_to, drop_fed_at}
-use Rattle.sq_start.specs.Starts.{IsRead}
+use Rattle.sq_start.specs.Starts.{IsReadReplay}
 use Rattle.sq_start.specs.Started.{node_marks, actor_marks}
 use Rattle.sq_start.specs.Comes.{point_streams, streams_to, FedMayCome, MarksAreTaken}
 use Rattle.sq_start.proofs.BoxFacts.{Ready}
@@ -63,7 +63,7 @@ zero-only : (port : ℕ) → port < 1 → (port == 0) ≡ true
 zero-only port h = grind (arith, nat_tests)
 
 -- a kind that may lie below a drop takes marks at each of its ports
-port-marked : (k : Body) (w : BoxWires) (port : ℕ) → may_be_below k ≡ true → Fits k w → port < length w.inputs → body_marks k (length w.inputs) port ≡ true
+port-marked : (k : Body) (w : BoxWires) (port : ℕ) → may_be_below k ≡ true → BodyFits k w → port < length w.inputs → body_marks k (length w.inputs) port ≡ true
 port-marked (Filter ps) w port may fit low = (let one = fit.1 in zero-only port (omega (arith, one, low)))
 port-marked (Map es) w port may fit low = (let one = fit.1 in zero-only port (omega (arith, one, low)))
 port-marked Union w port may fit low = lower port (length w.inputs) low
@@ -93,7 +93,7 @@ module _ (readies : Ready) where
       by (Some x) None e f fit = (let bad : port < 0 = subst (λ z. port < length (inputs_at z)) f low in absurd (omega (arith, bad)))
       by (Some x) (Some w) e f fit =
           let may = ready.kinds b x d e below in
-          let fits : Fits x.body w = subst (λ z. FitsAt z (Some w)) e (subst (FitsAt (slice_get n.boxes b)) f fit) in
+          let fits : BodyFits x.body w = subst (λ z. FitsAt z (Some w)) e (subst (FitsAt (slice_get n.boxes b)) f fit) in
           let inside : port < length w.inputs = subst (λ z. port < length (inputs_at z)) f low in
           ap (λ o. node_marks o (length (inputs_of n.wires b)) port) e
           ∙ ap (λ z. body_marks x.body (length (inputs_at z)) port) f
@@ -136,7 +136,7 @@ module _ (widen : FuturesWiden)
     (drops : (r : Replay) → IsSound r.network → All IsStream r.sources → SourcesFit r.network r.sources → DropsFit r)
     (outputs : (r : Replay) → IsSound r.network → All IsStream r.sources → SourcesFit r.network r.sources → OutputsFit r)
     (measured : (r : Replay) → IsSound r.network → PointsMeasured r) where
-  drop-comes : (r : Replay) (w : ℕ) (p : DropPoint) (marks : ℕ → Bool) (fits : ℕ → List Value → Bool) → IsRead r → slice_get (points_of r.network) w ≡ Some p
+  drop-comes : (r : Replay) (w : ℕ) (p : DropPoint) (marks : ℕ → Bool) (fits : ℕ → List Value → Bool) → IsReadReplay r → slice_get (points_of r.network) w ≡ Some p
       → ((port s : ℕ) (cs : Columns) (fields : List Value) → slice_get (place_stream r.network p.at ∷ []) port ≡ Some s → columns_of_stream r.network s ≡ Some cs → fields_fit cs fields ≡ true → fits port fields ≡ true)
       → IsFuture marks fits Start (drop_fed r p)
   drop-comes r w p marks fits read there wide =

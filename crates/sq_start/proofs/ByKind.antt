@@ -32,7 +32,7 @@ use Rattle.sq_model.specs.Fed.{late_at, late_by, late_of, fed_of}
 use Rattle.sq_model.specs.Full.{nth, full_streams}
 use Rattle.sq_graph.specs.Wires.{stream_at}
 use Rattle.sq_model.specs.Shedding.{Replay, level_of}
-use Rattle.sq_below.specs.Standing.{pairs_in, box_fed}
+use Rattle.sq_below.specs.Standing.{port_tuples, box_fed}
 use Rattle.sq_below.specs.Ports.{FuturesWiden}
 use Rattle.sq_start.specs.Starts.{IsBox, BoxStarts}
 use Rattle.sq_start.proofs.BoxFacts.{Ready, box-future, box-stream, not-marked}
@@ -45,7 +45,7 @@ none-late r b kind lags marked h none n zero =
     let given = length (nth (full_streams r.network r.sources) (stream_at r.network.wires b 0)) in
     zero ∙ sym (ap (λ o. late_at o taken given) h.there ∙ ap (λ k. late_by k taken given) h.is ∙ none taken given)
 
-same-pairs : (es : List Entry) → elements_of es ≡ pairs_in es
+same-pairs : (es : List Entry) → elements_of es ≡ port_tuples es
 same-pairs [] = refl
 same-pairs (e ∷ es) = ap (λ l. map (λ x. (e.port, x)) (tuple_in e.thing.time e.thing.load) ++ l) (same-pairs es)
 

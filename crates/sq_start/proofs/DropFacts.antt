@@ -20,7 +20,7 @@ use Rattle.sq_net.specs.Sound.{IsSound}
 use Rattle.sq_model.specs.Fit.{SourcesFit}
 use Rattle.sq_model.specs.Shedding.{Replay, level_of, drop_above_output}
 use Rattle.sq_below.specs.Laws.{PointsMeasured}
-use Rattle.sq_below.specs.Standing.{Drop, drop_gives, drop_decides, gate_gives, drop_fed, output_fed, DropsFit}
+use Rattle.sq_below.specs.Standing.{Drop, drop_gives_all, drop_decides_all, gate_gives_all, drop_fed, output_fed, DropsFit}
 use Rattle.sq_below.specs.Actors.{drop_stream}
 use Rattle.sq_below.specs.Ports.{marks_where, first_port, first_alone, FuturesWiden}
 use Rattle.sq_start.specs.Nets.{decision_on}
@@ -40,14 +40,14 @@ own-decided d table bs = by (filter (is_dropped d table) bs)
 -- a drop of the replay in the words of its box
 gives-as : (r : Replay) (w : ℕ) (p : DropPoint) (epoch seed : ℕ) → r.network.epoch ≡ epoch → r.seed ≡ seed
     → spread_of (drop_tagged (is_dropped (dropping w p.length p.keep epoch seed) (level_of r)) (until_at p.length p.keep) p.length (touched_batches p.length p.keep (tuples_of (drop_fed r p))) (tuples_of (drop_fed r p)))
-    ≡ drop_gives r (w, p) (drop_fed r p)
+    ≡ drop_gives_all r (w, p) (drop_fed r p)
 gives-as r w p epoch seed e s =
     ap (λ z. spread_of (drop_tagged (is_dropped (dropping w p.length p.keep z seed) (level_of r)) (until_at p.length p.keep) p.length (touched_batches p.length p.keep (tuples_of (drop_fed r p))) (tuples_of (drop_fed r p)))) (sym e)
     ∙ ap (λ z. spread_of (drop_tagged (is_dropped (dropping w p.length p.keep r.network.epoch z) (level_of r)) (until_at p.length p.keep) p.length (touched_batches p.length p.keep (tuples_of (drop_fed r p))) (tuples_of (drop_fed r p)))) (sym s)
 
 decides-as : (r : Replay) (w : ℕ) (p : DropPoint) (epoch seed : ℕ) → r.network.epoch ≡ epoch → r.seed ≡ seed
     → decided (dropping w p.length p.keep epoch seed) (level_of r) (touched_batches p.length p.keep (tuples_of (drop_fed r p)))
-    ≡ map (decision_on r w p) (drop_decides r (w, p) (drop_fed r p))
+    ≡ map (decision_on r w p) (drop_decides_all r (w, p) (drop_fed r p))
 decides-as r w p epoch seed e s =
     ap (λ z. decided (dropping w p.length p.keep z seed) (level_of r) (touched_batches p.length p.keep (tuples_of (drop_fed r p)))) (sym e)
     ∙ ap (λ z. decided (dropping w p.length p.keep r.network.epoch z) (level_of r) (touched_batches p.length p.keep (tuples_of (drop_fed r p)))) (sym s)
@@ -80,7 +80,7 @@ module _ (readies : Ready) (widen : FuturesWiden) (marks : ℕ → Bool) (fits :
           (subst (IsFuture unmarked first_alone Start) (own-fed r (drops r h.read.sound h.read.streams h.read.fit) p o d.0 d.1) (all.drops d.0.0 d.0.1 o.arc o.there d.1))
 
   pub output-starts : (len : Option ℕ)
-      → ((table : ℕ → ℕ → ℕ) (future : List Entry) (q : ℕ) → IsFuture marks fits Start future → rest table future q ≡ at_zero q (things (gates.shown len future)))
+      → ((table : ℕ → ℕ → ℕ) (future : List Entry) (q : ℕ) → IsFuture marks fits Start future → rest table future q ≡ at_zero q (things (gates.gate_shown len future)))
       → ((port : ℕ) → marks port ≡ (port == 0)) → ((port : ℕ) (fields : List Value) → fits port fields ≡ true)
       → OutputStarts len marks fits rest
   output-starts len gives m f =
@@ -88,10 +88,10 @@ module _ (readies : Ready) (widen : FuturesWiden) (marks : ℕ → Bool) (fits :
         future = may;
         gives = λ r o h q.
             gives (level_of r) (output_fed r o) q (may r o h)
-            ∙ ap (λ z. at_zero q (things z)) (ap (λ l. gates.shown l (output_fed r o)) (sym h.told) ∙ shown-is (drop_above_output r.network o) (output_fed r o));
+            ∙ ap (λ z. at_zero q (things z)) (ap (λ l. gates.gate_shown l (output_fed r o)) (sym h.told) ∙ shown-is (drop_above_output r.network o) (output_fed r o));
       }
     where
-      shown-is : (o : Option Drop) (es : List Entry) → gates.shown (length_above o) es ≡ gate_gives o es
+      shown-is : (o : Option Drop) (es : List Entry) → gates.gate_shown (length_above o) es ≡ gate_gives_all o es
       shown-is None es = refl
       shown-is (Some d) es = refl
 

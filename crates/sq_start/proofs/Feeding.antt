@@ -14,14 +14,14 @@ use Rattle.sq_place.specs.declared.DropAt.TheVariants as at
 use Rattle.sq_place.proofs.Wires.{map-map}
 use Rattle.sq_points.specs.Points.{points_of}
 use Rattle.sq_model.specs.Shedding.{Replay}
-use Rattle.sq_left.specs.Left.{Net, World}
+use Rattle.sq_left.specs.Left.{Net, Holding}
 use Rattle.sq_left.specs.Streams.{fed_by, Follows, IsStart}
 use Rattle.sq_below.specs.Laws.{PointsMeasured}
 use Rattle.sq_below.specs.Standing.{drop_fed, DropsFit}
 use Rattle.sq_below.specs.Actors.{Actor, Box, Shedder, Shower, giver, arc_from, stream_of, StreamsFollow}
-use Rattle.sq_start.specs.Numbers.{IsThere, ops_of, number_of, actor_at, place_stream, drop_reads, reads_of}
+use Rattle.sq_start.specs.Numbers.{IsThere, ops_of, number_of, actor_at, place_stream, shedder_reads, reads_of}
 use Rattle.sq_start.specs.Nets.{AllCome, fed_to, drop_fed_at}
-use Rattle.sq_start.specs.Starts.{IsRead}
+use Rattle.sq_start.specs.Starts.{IsReadReplay}
 use Rattle.sq_start.specs.Laws.{IsNew}
 use Rattle.sq_start.proofs.PointLemmas.{own-arc, own-drop}
 use Rattle.sq_start.proofs.OwnArcs.{own-fed}
@@ -67,7 +67,7 @@ come r net (x ∷ xs) (arc ∷ arcs) there all =
     ap (λ k. streams_by r k (net.port arc)) all.0.0 ∙ ap (streams_by r (number_of r.network x.0)) all.0.1 ∙ stream-there r x.0 x.1 there.0 in
     ap (λ z. z ∷ map (λ a. streams_by r (net.from a) (net.port a)) arcs) here ∙ ap (λ l. stream_of r x ∷ l) (come r net xs arcs there.1 all.1)
 
-module _ (r : Replay) (read : IsRead r) (follow : StreamsFollow r) (drops : DropsFit r) (points : PointsMeasured r) where
+module _ (r : Replay) (read : IsReadReplay r) (follow : StreamsFollow r) (drops : DropsFit r) (points : PointsMeasured r) where
   -- what gives the stream of a point gives all that its drop is fed
   drop-follows : (w : ℕ) (p : DropPoint) → slice_get (points_of r.network) w ≡ Some p → merge (stream_of r (giver (producer_of r.network.wires (place_stream r.network p.at))) ∷ []) ≡ drop_fed r p
   drop-follows w p there =
@@ -77,7 +77,7 @@ module _ (r : Replay) (read : IsRead r) (follow : StreamsFollow r) (drops : Drop
       ∙ follow.drops d.0.0 d.0.1 o.arc o.there d.1
       ∙ own-fed r drops p o d.0 d.1
 
-  module _ (net : Net) (w : World) (new : IsNew r net w) where
+  module _ (net : Net) (w : Holding) (new : IsNew r net w) where
     -- what an operator reads
     reads : (k : ℕ) (x : Actor) → k < ops_of r.network → actor_at r.network k ≡ x → fed_by net (streams_by r) k ≡ merge (map (stream_of r) (reads_of r.network x))
     reads k x low is =
@@ -95,7 +95,7 @@ module _ (r : Replay) (read : IsRead r) (follow : StreamsFollow r) (drops : Drop
             let there = slice_get-get_or (points_of r.network) d no_point few in
             let p = get_or (points_of r.network) d no_point in
             reads k (Shedder d) low is
-            ∙ ap (λ o. merge (map (stream_of r) (drop_reads r.network o))) there
+            ∙ ap (λ o. merge (map (stream_of r) (shedder_reads r.network o))) there
             ∙ drop-follows d p there
             ∙ ap (drop_fed_at r) (sym there)
             ∙ ap (fed_to r) (sym is)

@@ -15,7 +15,7 @@ use Rattle.sq_place.specs.Places.{stream_on}
 use Rattle.sq_points.specs.Points.{points_of, drops_in}
 use Rattle.sq_below.specs.Standing.{Drop, drop_on_arc}
 use Rattle.sq_below.specs.Actors.{Actor, Sources, Box, Shedder, Shower, giver, from_drop, arc_from}
-use Rattle.sq_start.specs.Numbers.{IsThere, first_output, ops_of, number_of, actor_at, place_stream, drop_reads, reads_of}
+use Rattle.sq_start.specs.Numbers.{IsThere, first_output, ops_of, number_of, actor_at, place_stream, shedder_reads, reads_of}
 use Rattle.sq_start.proofs.PointLemmas.{first-found}
 
 less : (a b : ℕ) → a < b → nat_lt a b ≡ true
@@ -104,7 +104,7 @@ reads-there n sound (Box b) = each (input_arcs_of n.wires b)
     each (a ∷ arcs) = (from-there n sound a, each arcs)
 reads-there n sound (Shedder w) = by (slice_get (points_of n) w)
   where
-    by : (o : Option DropPoint) → AllByRecursion (λ (y : Actor × ℕ). IsThere n y.0) (drop_reads n o)
+    by : (o : Option DropPoint) → AllByRecursion (λ (y : Actor × ℕ). IsThere n y.0) (shedder_reads n o)
     by None = tt
     by (Some p) = (giver-there n sound (place_stream n p.at), tt)
 reads-there n sound (Shower o) = (from-there n sound (output_arc_at n.wires o), tt)

@@ -10,14 +10,14 @@ use Rattle.sq_net.proofs.StreamLemmas.{boxes_count}
 use Rattle.sq_points.specs.Points.{points_of, drops_in}
 use Rattle.sq_model.specs.Shedding.{Replay}
 use Rattle.sq_model.specs.Kept.{kept_of, fed_of, work_of, turns_of}
-use Rattle.sq_left.specs.Left.{Net, World, coming, inputs, IsWired, fed_in_all}
+use Rattle.sq_left.specs.Left.{Net, Holding, coming, inputs, IsLaidOut, fed_in_all}
 use Rattle.sq_left.proofs.NewEngine.{new-left, new-inputs, new-facts}
 use Rattle.sq_below.specs.Laws.{PointsMeasured}
 use Rattle.sq_below.specs.Standing.{DropsFit, OutputsFit, FedCounted}
 use Rattle.sq_below.specs.Actors.{Actor, Sources, Box, Shedder, Shower, stream_of, StreamsFollow}
 use Rattle.sq_start.specs.Numbers.{first_output, ops_of, actor_at}
-use Rattle.sq_start.specs.Nets.{fed_to, drop_fed_at, drop_count, count_fed}
-use Rattle.sq_start.specs.Starts.{IsRead}
+use Rattle.sq_start.specs.Nets.{fed_to, drop_fed_at, tuples_at_drop, count_fed}
+use Rattle.sq_start.specs.Starts.{IsReadReplay}
 use Rattle.sq_start.specs.Laws.{IsNew, StartsAs, HasAll}
 use Rattle.sq_start.proofs.NumberLemmas.{box-at, drop-at, output-at}
 use Rattle.sq_start.proofs.Sums.{total, total-same, total-added, total-split, total-items, sum-total}
@@ -26,7 +26,7 @@ use Rattle.sq_start.proofs.Feeding.{streams_by, stream-low, fed-is, start, follo
 
 -- ---- the numbers of all operators
 
-module _ (r : Replay) (read : IsRead r) where
+module _ (r : Replay) (read : IsReadReplay r) where
   -- what all boxes, drops and outputs count
   split : (f : ℕ → ℕ) → sum_by f (numbers_to (ops_of r.network))
       ≡ total f (length r.network.boxes) + total (λ w. f (length r.network.boxes + w)) (drops_in r.network) + total (λ o. f (first_output r.network + o)) (length r.network.wires.outputs)
@@ -38,11 +38,11 @@ module _ (r : Replay) (read : IsRead r) where
 
   -- the same sums as the replay's work has them
   work-parts : work_of r
-      ≡ total (fed_of r) (length r.network.boxes) + total (λ w. drop_count r (slice_get (points_of r.network) w)) (drops_in r.network)
+      ≡ total (fed_of r) (length r.network.boxes) + total (λ w. tuples_at_drop r (slice_get (points_of r.network) w)) (drops_in r.network)
       + total (λ o. length (kept_of r (output_arc_at r.network.wires o))) (length r.network.wires.outputs)
   work-parts =
       let a = sum-total (fed_of r) (length r.network.boxes) in
-      let b = total-items (drop_count r) (points_of r.network) in
+      let b = total-items (tuples_at_drop r) (points_of r.network) in
       let c = sum-total (λ o. length (kept_of r (output_arc_at r.network.wires o))) (length r.network.outputs) in
       let same = ap (total (λ o. length (kept_of r (output_arc_at r.network.wires o)))) read.sound.agrees.outputs in
       omega (arith, a, b, c, same)
@@ -52,13 +52,13 @@ module _ (r : Replay) (read : IsRead r) where
       let all = split f in
       let parts = work-parts in
       let a = total-same f (fed_of r) (length r.network.boxes) (λ b low. is b (omega (arith, low)) ∙ ap (count_fed r) (box-at r.network b low)) in
-      let b = total-same (λ w. f (length r.network.boxes + w)) (λ w. drop_count r (slice_get (points_of r.network) w)) (drops_in r.network)
+      let b = total-same (λ w. f (length r.network.boxes + w)) (λ w. tuples_at_drop r (slice_get (points_of r.network) w)) (drops_in r.network)
       (λ w low. is (length r.network.boxes + w) (omega (arith, low)) ∙ ap (count_fed r) (drop-at r.network w low)) in
       let c = total-same (λ o. f (first_output r.network + o)) (λ o. length (kept_of r (output_arc_at r.network.wires o))) (length r.network.wires.outputs)
       (λ o low. is (first_output r.network + o) (omega (arith, low)) ∙ ap (count_fed r) (output-at r.network o low)) in
       omega (arith, all, parts, a, b, c)
 
-  drop-all : (o : Option DropPoint) → length (drop_fed_at r o) ≡ drop_count r o
+  drop-all : (o : Option DropPoint) → length (drop_fed_at r o) ≡ tuples_at_drop r o
   drop-all None = refl
   drop-all (Some p) = drop-takes r p
 
@@ -68,7 +68,7 @@ module _ (r : Replay) (read : IsRead r) where
       let parts = work-parts in
       let w = r.network.wires in
       let a = total-same f (λ b. fed_of r b + sum_by (marks_on r) (input_arcs_of w b)) (length r.network.boxes) (λ b low. is b (omega (arith, low)) ∙ ap (λ x. length (fed_to r x)) (box-at r.network b low) ∙ box-takes r b) in
-      let b = total-same (λ d. f (length r.network.boxes + d)) (λ d. drop_count r (slice_get (points_of r.network) d)) (drops_in r.network)
+      let b = total-same (λ d. f (length r.network.boxes + d)) (λ d. tuples_at_drop r (slice_get (points_of r.network) d)) (drops_in r.network)
       (λ d low. is (length r.network.boxes + d) (omega (arith, low)) ∙ ap (λ x. length (fed_to r x)) (drop-at r.network d low) ∙ drop-all (slice_get (points_of r.network) d)) in
       let c = total-same (λ o. f (first_output r.network + o)) (λ o. length (kept_of r (output_arc_at w o)) + marks_on r (output_arc_at w o)) (length w.outputs)
       (λ o low. is (first_output r.network + o) (omega (arith, low)) ∙ ap (λ x. length (fed_to r x)) (output-at r.network o low) ∙ output-takes r o) in
@@ -81,8 +81,8 @@ module _ (r : Replay) (read : IsRead r) where
 
 -- ---- the law
 
-module _ (r : Replay) (read : IsRead r) (follow : StreamsFollow r) (drops : DropsFit r) (outputs : OutputsFit r) (fed : FedCounted r) (points : PointsMeasured r)
-    (net : Net) (w : World) (order : List ℕ) (new : IsNew r net w) (wired : IsWired net order) (has : HasAll r net order) where
+module _ (r : Replay) (read : IsReadReplay r) (follow : StreamsFollow r) (drops : DropsFit r) (outputs : OutputsFit r) (fed : FedCounted r) (points : PointsMeasured r)
+    (net : Net) (w : Holding) (order : List ℕ) (new : IsNew r net w) (wired : IsLaidOut net order) (has : HasAll r net order) where
   away : (k : ℕ) → k < ops_of r.network → k ≢ net.replay
   away k low = λ same. let is = new.joins.replay in let bad : ops_of r.network < ops_of r.network = subst (λ z. z < ops_of r.network) (same ∙ is) low in absurd (omega (arith, bad))
 
@@ -96,7 +96,7 @@ module _ (r : Replay) (read : IsRead r) (follow : StreamsFollow r) (drops : Drop
       new-left net w (streams_by r) (start r read follow drops points net w new) (follows r read follow drops points net w new) order wired k port (has k low)
       ∙ stream-low r k port (omega (arith, low))
 
-  count-drop : (o : Option DropPoint) → length (tuples_of (drop_fed_at r o)) ≡ drop_count r o
+  count-drop : (o : Option DropPoint) → length (tuples_of (drop_fed_at r o)) ≡ tuples_at_drop r o
   count-drop None = refl
   count-drop (Some p) = fed.drops p
 

@@ -25,7 +25,7 @@ use Rattle.sq_below.specs.Standing.{Drop, drop_above_box}
 use Rattle.sq_below.specs.Actors.{Box, Shedder, Shower}
 use Rattle.sq_below.specs.Ports.{body_fits, body_marks}
 use Rattle.sq_start.specs.Nets.{fed_to, drop_fed_at, drop_decisions}
-use Rattle.sq_start.specs.Starts.{IsRead, IsDropAbove, AreLags, IsBox, IsDrop, length_above, BoxStarts, DropStarts, OutputStarts}
+use Rattle.sq_start.specs.Starts.{IsReadReplay, IsDropAbove, AreLags, IsBox, IsDrop, length_above, BoxStarts, DropStarts, OutputStarts}
 use Rattle.sq_start.specs.Started.{node_marks, node_fits, actor_marks, IsStarted}
 
 pub lags-many : (n : Network) (b : ℕ) (lags : List ℕ) (o : Option Drop) → AreLags n b lags o → length lags ≡ length (inputs_of n.wires b)
@@ -63,7 +63,7 @@ box-started n b x lags marked a there above are starts none fits takes reads fre
       running = fresh.is_valid.1;
     }
   where
-    box : (r : Replay) → IsRead r → r.network ≡ n → IsBox r b x.body lags marked
+    box : (r : Replay) → IsReadReplay r → r.network ≡ n → IsBox r b x.body lags marked
     box r read is = record {
       read = read;
       node = x;
@@ -108,7 +108,7 @@ drop-started n w p number a there starts own none fits reads fresh =
     known : (r : Replay) → r.network ≡ n → slice_get (points_of r.network) w ≡ Some p
     known r is = ap (λ (m : Network). slice_get (points_of m) w) is ∙ there
 
-    of : (r : Replay) → IsRead r → r.network ≡ n → r.seed ≡ number → IsDrop r w p n.epoch number
+    of : (r : Replay) → IsReadReplay r → r.network ≡ n → r.seed ≡ number → IsDrop r w p n.epoch number
     of r read is same = record { read = read; there = known r is; epochs = ap (λ (m : Network). m.epoch) is; seed = same }
 
 pub output-started : (n : Network) (o : ℕ) (len : Option ℕ) (a : operator.Actor) → length_above (drop_above_output n o) ≡ len

@@ -10,7 +10,7 @@ use Rattle.sq_item.specs.Things.{Thing}
 use Rattle.sq_oper.specs.Entries.{Entry, at_port}
 use Rattle.sq_oper.specs.Order.{earlier, merge_under, merge_two, merge_from}
 use Rattle.sq_oper.specs.Streams.{thing_of, things}
-use Rattle.sq_tagged.specs.Tagged.{Timed, Tagged, mark_thing, sooner, spread_of, lessened}
+use Rattle.sq_tagged.specs.Tagged.{Timed, Tagged, mark_thing, thing_sooner, spread_of, lessened}
 use Rattle.sq_graph.specs.declared.BoxWires.{BoxWires}
 use Rattle.sq_graph.specs.declared.Wiring.{Wiring}
 use Rattle.sq_graph.specs.Wires.{inputs_at, inputs_of, arc_at, input_arcs_of, output_arc_at}
@@ -76,7 +76,7 @@ length-sorted before (x ∷ xs) = length-inserted before x (sort_by before xs) �
 
 length-spread : (x : Tagged) → length (spread_of x) ≡ length x.marks + length x.tuples
 length-spread x =
-    length-sorted sooner (map mark_thing x.marks ++ things x.tuples)
+    length-sorted thing_sooner (map mark_thing x.marks ++ things x.tuples)
     ∙ length-append (map mark_thing x.marks) (things x.tuples)
     ∙ (let a = length-mapped mark_thing x.marks in let b = length-mapped thing_of x.tuples in omega (arith, a, b))
 

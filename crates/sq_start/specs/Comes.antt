@@ -15,7 +15,7 @@ use Rattle.sq_model.specs.Shedding.{Replay, drop_above_arc}
 use Rattle.sq_below.specs.Actors.{Actor, Sources, Box, Shedder, Shower}
 use Rattle.sq_start.specs.Numbers.{IsThere, place_stream}
 use Rattle.sq_start.specs.Nets.{fed_to}
-use Rattle.sq_start.specs.Starts.{IsRead}
+use Rattle.sq_start.specs.Starts.{IsReadReplay}
 use Rattle.sq_start.specs.Started.{actor_marks, actor_fits}
 
 -- the arcs of a box and of an output, by port
@@ -43,7 +43,7 @@ pub record TakesArcs (n : Network) (x : Actor) (marks : ℕ → Bool) (fits : �
 
 -- so all that an actor is fed may come
 abbrev pub FedMayCome : Type 0
-FedMayCome = (r : Replay) (x : Actor) (marks : ℕ → Bool) (fits : ℕ → List Value → Bool) → IsRead r → IsThere r.network x → TakesArcs r.network x marks fits → IsFuture marks fits Start (fed_to r x)
+FedMayCome = (r : Replay) (x : Actor) (marks : ℕ → Bool) (fits : ℕ → List Value → Bool) → IsReadReplay r → IsThere r.network x → TakesArcs r.network x marks fits → IsFuture marks fits Start (fed_to r x)
 
 -- and an actor takes marks wherever an arc of its own lies below a drop
 abbrev pub MarksAreTaken : Type 0

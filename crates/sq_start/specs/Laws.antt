@@ -9,16 +9,16 @@ use Rattle.sq_model.specs.Full.{nth}
 use Rattle.sq_model.specs.Fed.{late_of}
 use Rattle.sq_model.specs.Shedding.{Replay, answer_of}
 use Rattle.sq_model.specs.Kept.{work_of, turns_of}
-use Rattle.sq_left.specs.Left.{Net, World, coming, inputs, known, IsWired, Facts, fed_in_all, lost_in_all, still_dropped}
+use Rattle.sq_left.specs.Left.{Net, Holding, coming, inputs, is_known_actor, IsLaidOut, Facts, fed_in_all, lost_in_all, still_dropped}
 use Rattle.sq_below.specs.Actors.{Shower, stream_of}
 use Rattle.sq_below.specs.Standing.{box_fed}
 use Rattle.sq_start.specs.Numbers.{ops_of, number_of, actor_at}
 use Rattle.sq_start.specs.Nets.{Joins, fed_to, decided_by, count_fed}
-use Rattle.sq_start.specs.Starts.{IsRead}
+use Rattle.sq_start.specs.Starts.{IsReadReplay}
 
 -- a world in which nothing was released, of new actors of the network of a replay, at the levels of the replay: what each may be
 -- fed, gives, decides and loses for all that comes to it is what the replay says
-pub record IsNew (r : Replay) (net : Net) (w : World) : Type 0 where
+pub record IsNew (r : Replay) (net : Net) (w : Holding) : Type 0 where
   pub joins : Joins r.network net
   pub recorded : (port : ℕ) → w.source port ≡ things (nth r.sources port)
   pub empty : (arc : ℕ) → w.queue arc ≡ []
@@ -32,7 +32,7 @@ pub record IsNew (r : Replay) (net : Net) (w : World) : Type 0 where
   pub no_more : (actor : ℕ) → ops_of r.network < actor → (port : ℕ) → w.rest actor [] port ≡ []
 
 -- the facts of such a world hold, and what is left of each stream, answer and record, and of each number, is what the replay says
-pub record StartsAs (r : Replay) (net : Net) (w : World) (order : List ℕ) : Type 0 where
+pub record StartsAs (r : Replay) (net : Net) (w : Holding) (order : List ℕ) : Type 0 where
   pub facts : Facts net w order
   pub streams : (actor : ℕ) → actor < ops_of r.network → (port : ℕ) → coming net w order actor port ≡ stream_of r (actor_at r.network actor, port)
   pub lines : (o : ℕ) → o < length r.network.wires.outputs → coming net w order (number_of r.network (Shower o)) 0 ≡ things (answer_of r o)
@@ -44,8 +44,8 @@ pub record StartsAs (r : Replay) (net : Net) (w : World) (order : List ℕ) : Ty
 
 -- the order has each operator
 abbrev pub HasAll : Replay → Net → List ℕ → Type 0
-HasAll r net order = (actor : ℕ) → actor < ops_of r.network → known net order actor ≡ true
+HasAll r net order = (actor : ℕ) → actor < ops_of r.network → is_known_actor net order actor ≡ true
 
 -- so it is wherever a replay was read
 abbrev pub StartsAsReplayed : Type 0
-StartsAsReplayed = (r : Replay) (net : Net) (w : World) (order : List ℕ) → IsRead r → IsNew r net w → IsWired net order → HasAll r net order → StartsAs r net w order
+StartsAsReplayed = (r : Replay) (net : Net) (w : Holding) (order : List ℕ) → IsReadReplay r → IsNew r net w → IsLaidOut net order → HasAll r net order → StartsAs r net w order

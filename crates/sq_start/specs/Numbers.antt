@@ -44,12 +44,12 @@ place_stream n (at.Stream s) = s
 place_stream n (at.Arc a) = stream_on n.wires a
 
 -- what an actor reads, by port: the actor and the port that give it. A drop reads the stream of its place from its own giver
-abbrev pub drop_reads : Network → Option DropPoint → List (Actor × ℕ)
-drop_reads n None = []
-drop_reads n (Some p) = giver (producer_of n.wires (place_stream n p.at)) ∷ []
+abbrev pub shedder_reads : Network → Option DropPoint → List (Actor × ℕ)
+shedder_reads n None = []
+shedder_reads n (Some p) = giver (producer_of n.wires (place_stream n p.at)) ∷ []
 
 abbrev pub reads_of : Network → Actor → List (Actor × ℕ)
 reads_of n Sources = []
 reads_of n (Box b) = map (arc_from n) (input_arcs_of n.wires b)
-reads_of n (Shedder w) = drop_reads n (slice_get (points_of n) w)
+reads_of n (Shedder w) = shedder_reads n (slice_get (points_of n) w)
 reads_of n (Shower o) = arc_from n (output_arc_at n.wires o) ∷ []

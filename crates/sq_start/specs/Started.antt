@@ -17,14 +17,14 @@ use Rattle.sq_below.specs.Actors.{Actor, Sources, Box, Shedder, Shower, stream_o
 use Rattle.sq_below.specs.Ports.{body_fits, body_marks}
 use Rattle.sq_start.specs.Numbers.{actor_at}
 use Rattle.sq_start.specs.Nets.{fed_to, decided_by}
-use Rattle.sq_start.specs.Starts.{IsRead}
+use Rattle.sq_start.specs.Starts.{IsReadReplay}
 
 -- how many tuples an actor loses
-abbrev pub lost_by : Replay → Actor → ℕ
-lost_by r Sources = 0
-lost_by r (Box b) = late_of r.network r.sources b
-lost_by r (Shedder w) = 0
-lost_by r (Shower o) = 0
+abbrev pub late_of_actor : Replay → Actor → ℕ
+late_of_actor r Sources = 0
+late_of_actor r (Box b) = late_of r.network r.sources b
+late_of_actor r (Shedder w) = 0
+late_of_actor r (Shower o) = 0
 
 -- where an actor of a network takes marks, and the values that it takes
 abbrev pub node_marks : Option Node → ℕ → ℕ → Bool
@@ -49,9 +49,9 @@ actor_fits n (Shower o) port fields = true
 
 -- a new operator of a network stands for this actor of it, where the draws have this seed
 pub record IsStarted (n : Network) (number : ℕ) (x : Actor) (a : operator.Actor) : Type 0 where
-  pub gives : (r : Replay) → IsRead r → r.network ≡ n → r.seed ≡ number → (q : ℕ) → ghosts.rest a (level_of r) (fed_to r x) q ≡ stream_of r (x, q)
-  pub decides : (r : Replay) → IsRead r → r.network ≡ n → r.seed ≡ number → ghosts.decides a (level_of r) (fed_to r x) ≡ decided_by r x
-  pub loses : (r : Replay) → IsRead r → r.network ≡ n → r.seed ≡ number → ghosts.lost a (fed_to r x) ≡ lost_by r x
+  pub gives : (r : Replay) → IsReadReplay r → r.network ≡ n → r.seed ≡ number → (q : ℕ) → ghosts.rest a (level_of r) (fed_to r x) q ≡ stream_of r (x, q)
+  pub decides : (r : Replay) → IsReadReplay r → r.network ≡ n → r.seed ≡ number → ghosts.decides a (level_of r) (fed_to r x) ≡ decided_by r x
+  pub loses : (r : Replay) → IsReadReplay r → r.network ≡ n → r.seed ≡ number → ghosts.lost a (fed_to r x) ≡ late_of_actor r x
   pub owns : (table : ℕ → ℕ → ℕ) (future : List Entry) → IsFuture (ghosts.takes_marks a) (ghosts.fits a) Start future
       → AllByRecursion (λ d. x ≡ Shedder d.drop) (ghosts.decides a table future)
   pub marks : (port : ℕ) → actor_marks n x port ≡ true → ghosts.takes_marks a port ≡ true

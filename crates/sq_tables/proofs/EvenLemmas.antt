@@ -14,9 +14,9 @@ use Rattle.sq_tables.specs.declared.raw.Raw.{Raw}
 use Rattle.sq_tables.specs.declared.raw.Version.{Version}
 use Rattle.sq_tables.specs.Documents as option
 use Rattle.sq_tables.specs.Documents.{list_in, optional, required, when}
-use Rattle.sq_tables.specs.Places.{place_of}
-use Rattle.sq_tables.specs.Shapes.{IsEven, AreEven, body_in, box_in, default_selectivity, output_in, ports_of, source_in, top_in}
-use Rattle.sq_tables.specs.Refusals.{Answers}
+use Rattle.sq_tables.specs.Places.{part_place}
+use Rattle.sq_tables.specs.Shapes.{IsEven, AreEven, body_in, box_in, default_selectivity, output_in, port_count, source_in, top_in}
+use Rattle.sq_tables.specs.Refusals.{IsAnswerOf}
 use Rattle.sq_tables.specs.Rawly.{◌>>=◌, version_in, or_broken, raw_from, raw_in, shaped_from}
 use Rattle.sq_tables.proofs.ShapedLemmas.{first_step}
 
@@ -24,10 +24,10 @@ first_part : {A B : Type 0} (o : Option A) (f : A → Option B) (y : B) → opti
 first_part None f y e = cc
 first_part (Some x) f y e = (x, (refl, e))
 
-when_even : (b raw : RawBox) → when (length b.selectivity == ports_of b.body) b ≡ Some raw → IsEven raw
-when_even b raw h = by_test (length b.selectivity == ports_of b.body) refl h
+when_even : (b raw : RawBox) → when (length b.selectivity == port_count b.body) b ≡ Some raw → IsEven raw
+when_even b raw h = by_test (length b.selectivity == port_count b.body) refl h
   where
-    by_test : (t : Bool) → (length b.selectivity == ports_of b.body) ≡ t → when t b ≡ Some raw → IsEven raw
+    by_test : (t : Bool) → (length b.selectivity == port_count b.body) ≡ t → when t b ≡ Some raw → IsEven raw
     by_test true is e =
         let same : b ≡ raw = cc in
         let even : IsEven b = grind (arith, nat_tests) in
@@ -39,8 +39,8 @@ boxed name body ins cost selectivity = record { name = name; body = body; ins = 
 
 abbrev weighed : Members → List ℕ → RawBody → List (List ℕ) → ℤ → Option RawBox
 weighed ms name body ins cost =
-    option.◌>>=◌ (optional (default_selectivity (ports_of body)) (list_in as_integer) (get_member (codes "selectivity") ms))
-    (λ selectivity. when (length selectivity == ports_of body) (boxed name body ins cost selectivity))
+    option.◌>>=◌ (optional (default_selectivity (port_count body)) (list_in as_integer) (get_member (codes "selectivity") ms))
+    (λ selectivity. when (length selectivity == port_count body) (boxed name body ins cost selectivity))
 
 abbrev priced : Members → List ℕ → RawBody → List (List ℕ) → Option RawBox
 priced ms name body ins = option.◌>>=◌ (optional (pos 1) as_integer (get_member (codes "cost") ms)) (weighed ms name body ins)
@@ -58,7 +58,7 @@ box_even v ms raw h =
     let name = first_part (required as_str (get_member (codes "name") ms)) (fed ms body.0) raw body.1.1 in
     let ins = first_part (required (list_in as_str) (get_member (codes "in") ms)) (priced ms name.0 body.0) raw name.1.1 in
     let cost = first_part (optional (pos 1) as_integer (get_member (codes "cost") ms)) (weighed ms name.0 body.0 ins.0) raw ins.1.1 in
-    let last = first_part (optional (default_selectivity (ports_of body.0)) (list_in as_integer) (get_member (codes "selectivity") ms)) (λ selectivity. when (length selectivity == ports_of body.0) (boxed name.0 body.0 ins.0 cost.0 selectivity)) raw cost.1.1 in
+    let last = first_part (optional (default_selectivity (port_count body.0)) (list_in as_integer) (get_member (codes "selectivity") ms)) (λ selectivity. when (length selectivity == port_count body.0) (boxed name.0 body.0 ins.0 cost.0 selectivity)) raw cost.1.1 in
     when_even (boxed name.0 body.0 ins.0 cost.0 last.0) raw last.1.1
 
 read_as : {A : Type 0} (b : NetErr) (o : Option A) (x : A) → or_broken b o ≡ Ok x → o ≡ Some x
@@ -68,7 +68,7 @@ read_as b (Some y) x e = let same : y ≡ x = cc in ap Some same
 boxes_even : (v : Version) (n : ℕ) (ts : List Members) (boxes : List RawBox) → shaped_from part.Box (box_in v) n ts ≡ Ok boxes → AllByRecursion IsEven boxes
 boxes_even v n [] boxes h = let same : [] ≡ boxes = cc in subst (λ (bs : List RawBox). AllByRecursion IsEven bs) same tt
 boxes_even v n (t ∷ ts) boxes h =
-    let fault : NetErr = broken.Shape (place_of part.Box n) in
+    let fault : NetErr = broken.Shape (part_place part.Box n) in
     let one = first_step (or_broken fault (box_in v t)) (λ b. shaped_from part.Box (box_in v) (n + 1) ts >>= λ bs. Ok (b ∷ bs)) boxes h in
     let two = first_step (shaped_from part.Box (box_in v) (n + 1) ts) (λ bs. Ok (one.0 ∷ bs)) boxes one.1.1 in
     let same : one.0 ∷ two.0 ≡ boxes = (let last = two.1.1 in cc) in
@@ -82,7 +82,7 @@ same_even raw r e even = let same : raw ≡ r = cc in subst (λ (x : Raw). AllBy
 
 in_even : (v : Version) (ms : Members) (r : Raw) → raw_in v ms ≡ Ok r → AllByRecursion IsEven r.boxes
 in_even v ms r h =
-    let top = first_step (or_broken (broken.Shape (place_of part.Top 0)) (top_in ms)) (λ t.
+    let top = first_step (or_broken (broken.Shape (part_place part.Top 0)) (top_in ms)) (λ t.
     shaped_from part.Source source_in 0 t.sources >>= λ sources.
     shaped_from part.Box (box_in v) 0 t.boxes >>= λ boxes.
     shaped_from part.Output output_in 0 t.outputs >>= λ outputs.
@@ -106,6 +106,6 @@ from_even ms r h = by_version (version_in ms) h
     by_version (Some v) h = in_even v ms r h
     by_version None h = cc
 
-pub answer_even : (ms : Members) (answer : Result Raw NetErr) → Answers answer (raw_from ms) → IfOk answer AreEven
+pub answer_even : (ms : Members) (answer : Result Raw NetErr) → IsAnswerOf answer (raw_from ms) → IfOk answer AreEven
 answer_even ms (Ok r) h = All-from_recursion IsEven r.boxes (from_even ms r h)
 answer_even ms (Err e) h = tt

@@ -7,7 +7,7 @@ use Rattle.toml.specs.Data.{Members}
 use Rattle.sq_net.specs.declared.Part.{Part}
 use Rattle.sq_net.specs.declared.NetErr.{NetErr}
 use Rattle.sq_net.specs.declared.NetErr.TheVariants as broken
-use Rattle.sq_tables.specs.Places.{place_of}
+use Rattle.sq_tables.specs.Places.{part_place}
 use Rattle.sq_tables.specs.Rawly.{◌>>=◌, shaped_from}
 
 -- where two steps succeed, each does
@@ -37,7 +37,7 @@ pub shaped_more : {A : Type 0} (p : Part) (f : Members → Option A) (n : ℕ) (
 shaped_more p f n front t ts x e = rw e (sym (joined-cons front x (shaped_from p f (n + 1) ts)))
 
 pub shaped_stop : {A : Type 0} (p : Part) (f : Members → Option A) (n : ℕ) (front : List A) (t : Members) (ts : List Members) → f t ≡ None
-    → joined front (shaped_from p f n (t ∷ ts)) ≡ Err (broken.Shape (place_of p n))
+    → joined front (shaped_from p f n (t ∷ ts)) ≡ Err (broken.Shape (part_place p n))
 shaped_stop p f n front t ts e = rw e refl
 
 -- one pair more

@@ -7,8 +7,8 @@ abbrev pub place_at : Part → ℕ → ℕ → Place
 place_at p n i = record { part = p; number = n; item = i }
 
 -- the place of a part as a whole
-abbrev pub place_of : Part → ℕ → Place
-place_of p n = place_at p n 0
+abbrev pub part_place : Part → ℕ → Place
+part_place p n = place_at p n 0
 
 abbrev pub or_else : {A : Type 0} → Option A → Option A → Option A
 or_else (Some x) more = Some x

@@ -11,7 +11,7 @@ use Rattle.sq_tables.specs.declared.raw.Raw.{Raw}
 use Rattle.sq_tables.specs.declared.raw.Version.{Version}
 use Rattle.sq_tables.specs.declared.raw.Version.TheVariants.{One, Two}
 use Rattle.sq_tables.specs.Documents.{document_in}
-use Rattle.sq_tables.specs.Places.{place_of}
+use Rattle.sq_tables.specs.Places.{part_place}
 use Rattle.sq_tables.specs.Shapes.{top_in, source_in, box_in, output_in}
 
 infixl 10 ◌>>=◌
@@ -27,13 +27,13 @@ or_broken e (Some x) = Ok x
 abbrev pub shaped_from : {A : Type 0} → Part → (Members → Option A) → ℕ → List Members → Result (List A) NetErr
 shaped_from p f n [] = Ok []
 shaped_from p f n (t ∷ ts) = do
-  x ← or_broken (broken.Shape (place_of p n)) (f t)
+  x ← or_broken (broken.Shape (part_place p n)) (f t)
   xs ← shaped_from p f (n + 1) ts
   Ok (x ∷ xs)
 
 abbrev pub raw_in : Version → Members → Result Raw NetErr
 raw_in version ms = do
-  t ← or_broken (broken.Shape (place_of part.Top 0)) (top_in ms)
+  t ← or_broken (broken.Shape (part_place part.Top 0)) (top_in ms)
   sources ← shaped_from part.Source source_in 0 t.sources
   boxes ← shaped_from part.Box (box_in version) 0 t.boxes
   outputs ← shaped_from part.Output output_in 0 t.outputs

@@ -4,10 +4,10 @@ use Rattle.sq_tables.specs.declared.document.Unread.{Unread}
 use Rattle.sq_tables.specs.declared.document.Unread.TheVariants as unread
 
 -- nothing, unless memory ran out
-abbrev pub IsUnread : {A : Type 0} → Unread → Option A → Type 0
-IsUnread e said = e ≡ unread.Shape → said ≡ None
+abbrev pub IsUnreadTable : {A : Type 0} → Unread → Option A → Type 0
+IsUnreadTable e said = e ≡ unread.Shape → said ≡ None
 
 -- what there is to read, unless memory ran out
 abbrev pub Reads : {A : Type 0} → Result A Unread → Option A → Type 0
 Reads (Ok x) said = said ≡ Some x
-Reads (Err e) said = IsUnread e said
+Reads (Err e) said = IsUnreadTable e said

@@ -8,6 +8,6 @@ is_memory broken.Memory = true
 is_memory e = false
 
 -- what a call answered is what the rules say, unless memory ran out
-abbrev pub Answers : {A : Type 0} → Result A NetErr → Result A NetErr → Type 0
-Answers (Ok x) said = said ≡ Ok x
-Answers (Err e) said = is_memory e ≡ false → said ≡ Err e
+abbrev pub IsAnswerOf : {A : Type 0} → Result A NetErr → Result A NetErr → Type 0
+IsAnswerOf (Ok x) said = said ≡ Ok x
+IsAnswerOf (Err e) said = is_memory e ≡ false → said ≡ Err e

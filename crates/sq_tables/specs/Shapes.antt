@@ -172,9 +172,9 @@ body_in version kind ms =
     else (if same_bytes kind (codes "join") then join_in ms
     else (if same_bytes kind (codes "resample") then resample_in ms else None))))))
 
-abbrev pub ports_of : RawBody → ℕ
-ports_of (Filter preds) = length preds + 1
-ports_of b = 1
+abbrev pub port_count : RawBody → ℕ
+port_count (Filter preds) = length preds + 1
+port_count b = 1
 
 -- each port lets all tuples through
 abbrev pub default_selectivity : ℕ → List ℤ
@@ -187,12 +187,12 @@ box_in version ms = do
   name ← required as_str (get_member (codes "name") ms)
   ins ← required (list_in as_str) (get_member (codes "in") ms)
   cost ← optional (pos 1) as_integer (get_member (codes "cost") ms)
-  selectivity ← optional (default_selectivity (ports_of body)) (list_in as_integer) (get_member (codes "selectivity") ms)
-  when (length selectivity == ports_of body) (record { name = name; body = body; ins = ins; cost = cost; selectivity = selectivity })
+  selectivity ← optional (default_selectivity (port_count body)) (list_in as_integer) (get_member (codes "selectivity") ms)
+  when (length selectivity == port_count body) (record { name = name; body = body; ins = ins; cost = cost; selectivity = selectivity })
 
 -- a selectivity for each port
 abbrev pub IsEven : RawBox → Type 0
-IsEven b = length b.selectivity ≡ ports_of b.body
+IsEven b = length b.selectivity ≡ port_count b.body
 
 abbrev pub AreEven : Raw → Type 0
 AreEven r = All IsEven r.boxes

@@ -7,7 +7,7 @@ ghost use Rattle.sq_net.specs.declared.NetErr.TheVariants as broken;
 ghost use Rattle.toml.specs.Data.{get_member, as_str, as_integer, as_table};
 ghost use Rattle.toml.specs.View.{view, table_view, array_view};
 ghost use Rattle.sq_tables.specs.Documents.{document_in, each_item, has_only, list_in, optional, required};
-ghost use Rattle.sq_tables.specs.Readings.{IsUnread, Reads};
+ghost use Rattle.sq_tables.specs.Readings.{IsUnreadTable, Reads};
 ghost use Rattle.sq_tables.specs.Shapes.{default_selectivity, setting_in};
 ghost use Rattle.sq_tables.specs.Refusals.{is_memory};
 
@@ -272,7 +272,7 @@ fn tables_among<'a>(alloc: Global, items: &'a Array) -> Result<Option<Vec<&'a Ta
 
 fn tables_in<'a>(alloc: Global, value: &'a Value) -> Result<Vec<&'a Table>, Unread>
     ensures ok { IfOk result (λ v. list_in as_table (view value.now) ≡ Some (map (λ t. table_view t.now) v.items)) }
-    ensures err { IfErr result (λ e. IsUnread e (list_in as_table (view value.now))) }
+    ensures err { IfErr result (λ e. IsUnreadTable e (list_in as_table (view value.now))) }
 {
     let Some(items) = value.as_array() else {
         return Err(Unread::Shape);
@@ -287,7 +287,7 @@ pub(crate) fn tables_at<'a>(
     key: &str,
 ) -> Result<Vec<&'a Table>, Unread>
     ensures ok { IfOk result (λ v. required (list_in as_table) (get_member key.now (table_view table.now)) ≡ Some (map (λ t. table_view t.now) v.items)) }
-    ensures err { IfErr result (λ e. IsUnread e (required (list_in as_table) (get_member key.now (table_view table.now)))) }
+    ensures err { IfErr result (λ e. IsUnreadTable e (required (list_in as_table) (get_member key.now (table_view table.now)))) }
 {
     match value_at(table, key) {
         Some(value) => tables_in(alloc, value),
@@ -302,7 +302,7 @@ pub(crate) fn any_tables_at<'a>(
     key: &str,
 ) -> Result<Vec<&'a Table>, Unread>
     ensures ok { IfOk result (λ v. optional [] (list_in as_table) (get_member key.now (table_view table.now)) ≡ Some (map (λ t. table_view t.now) v.items)) }
-    ensures err { IfErr result (λ e. IsUnread e (optional [] (list_in as_table) (get_member key.now (table_view table.now)))) }
+    ensures err { IfErr result (λ e. IsUnreadTable e (optional [] (list_in as_table) (get_member key.now (table_view table.now)))) }
 {
     match value_at(table, key) {
         Some(value) => tables_in(alloc, value),

@@ -8,7 +8,7 @@
 ghost use Rattle.std.specs.Prelude.{◌≡◌, IfOk};
 ghost use Rattle.toml.specs.View.{table_view};
 ghost use Rattle.sq_tables.specs.Rawly.{version_numbered, version_in, raw_from, raw_of};
-ghost use Rattle.sq_tables.specs.Refusals.{Answers};
+ghost use Rattle.sq_tables.specs.Refusals.{IsAnswerOf};
 ghost use Rattle.sq_tables.specs.Shapes.{AreEven};
 
 mod answer_columns;
@@ -22,7 +22,7 @@ use document::{Table, value_at};
 pub use raw::{
     Answer, AnswerColumn, Over, Raw, RawBody, RawBox, RawOutput, RawSource, Setting, Version,
 };
-pub use shape::ports_of;
+pub use shape::port_count;
 use sq_net::NetErr;
 use std::alloc::Global;
 
@@ -51,7 +51,7 @@ fn version_in(table: &Table) -> Option<Version>
 }
 
 fn raw_from(alloc: Global, table: &Table) -> Result<Raw, NetErr>
-    ensures { Answers result (raw_from (table_view table.now)) }
+    ensures { IsAnswerOf result (raw_from (table_view table.now)) }
 {
     match version_in(table) {
         Some(version) => reading::raw_in(alloc, version, table),
@@ -61,7 +61,7 @@ fn raw_from(alloc: Global, table: &Table) -> Result<Raw, NetErr>
 
 /// The tables that a file's bytes say, or the first rule that they break, with its first place.
 pub fn raw_of(alloc: Global, bytes: &[u8]) -> Result<Raw, NetErr>
-    ensures answer { Answers result (raw_of bytes.now) }
+    ensures answer { IsAnswerOf result (raw_of bytes.now) }
     ensures even { IfOk result AreEven }
 {
     let table = document::document_in(alloc, bytes)?;

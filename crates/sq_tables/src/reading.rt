@@ -4,9 +4,9 @@ ghost use Rattle.sq_net.specs.declared.NetErr.TheVariants as broken;
 ghost use Rattle.sq_net.specs.declared.Part.TheVariants as part;
 ghost use Rattle.toml.specs.View.{table_view};
 ghost use Rattle.sq_tables.specs.declared.document.Unread.TheVariants as unread;
-ghost use Rattle.sq_tables.specs.Places.{place_of};
+ghost use Rattle.sq_tables.specs.Places.{part_place};
 ghost use Rattle.sq_tables.specs.Rawly.{raw_in, shaped_from};
-ghost use Rattle.sq_tables.specs.Refusals.{Answers, is_memory};
+ghost use Rattle.sq_tables.specs.Refusals.{IsAnswerOf, is_memory};
 ghost use Rattle.sq_tables.specs.Shapes.{box_in, output_in, source_in};
 
 use crate::document::{Table, Unread};
@@ -25,8 +25,8 @@ pub(crate) fn push<T: Drop>(list: &mut Vec<T>, item: T) -> Result<(), AllocError
 
 /// The place of a part, by its number; a number past 32 bits, which no file that fits in memory has, counts as want of
 /// memory.
-fn place_of(part: Part, number: usize) -> Result<Place, NetErr>
-    ensures ok { IfOk result (λ p. p ≡ place_of part number) }
+fn part_place(part: Part, number: usize) -> Result<Place, NetErr>
+    ensures ok { IfOk result (λ p. p ≡ part_place part number) }
     ensures err { IfErr result (λ e. e ≡ broken.Memory) }
 {
     match u32::try_from(number) {
@@ -40,11 +40,11 @@ fn place_of(part: Part, number: usize) -> Result<Place, NetErr>
 }
 
 fn unshaped(e: Unread, part: Part, number: usize) -> NetErr
-    ensures { is_memory result ≡ false → (e ≡ unread.Shape) × (result ≡ broken.Shape (place_of part number)) }
+    ensures { is_memory result ≡ false → (e ≡ unread.Shape) × (result ≡ broken.Shape (part_place part number)) }
 {
     match e {
         Unread::Memory => NetErr::Memory,
-        Unread::Shape => match place_of(part, number) {
+        Unread::Shape => match part_place(part, number) {
             Ok(place) => NetErr::Shape(place),
             Err(e) => e,
         },
@@ -95,7 +95,7 @@ fn outputs_in(alloc: Global, tables: &[&Table]) -> Result<Vec<RawOutput>, NetErr
 
 /// A document by its tables, or the first table that is out of shape.
 pub(crate) fn raw_in(alloc: Global, version: Version, table: &Table) -> Result<Raw, NetErr>
-    ensures { Answers result (raw_in version (table_view table.now)) }
+    ensures { IsAnswerOf result (raw_in version (table_view table.now)) }
 {
     let top = match top_in(alloc, table) {
         Ok(top) => top,

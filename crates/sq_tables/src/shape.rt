@@ -2,8 +2,8 @@
 ghost use Rattle.std.specs.Prelude.{◌≡◌, ◌∷◌, IfOk, IfErr, map, codes};
 ghost use Rattle.sq_tables.specs.Documents.{has_only};
 ghost use Rattle.toml.specs.View.{table_view};
-ghost use Rattle.sq_tables.specs.Readings.{IsUnread, Reads};
-ghost use Rattle.sq_tables.specs.Shapes.{aggregate_in, aggregate_keys, body_in, box_in, bsort_in, filter_in, join_in, map_in, output_in, ports_of, resample_in, source_in, top_in, union_in, window_keys};
+ghost use Rattle.sq_tables.specs.Readings.{IsUnreadTable, Reads};
+ghost use Rattle.sq_tables.specs.Shapes.{aggregate_in, aggregate_keys, body_in, box_in, bsort_in, filter_in, join_in, map_in, output_in, port_count, resample_in, source_in, top_in, union_in, window_keys};
 ghost use Rattle.sq_tables.specs.ShapesSeen.{tables_seen};
 
 use crate::answer_columns::answer_columns_at;
@@ -28,7 +28,7 @@ pub(crate) struct TopTables<'a> {
 
 pub(crate) fn top_in<'a>(alloc: Global, table: &'a Table) -> Result<TopTables<'a>, Unread>
     ensures ok { IfOk result (λ t. top_in (table_view table.now) ≡ Some (tables_seen t)) }
-    ensures err { IfErr result (λ e. IsUnread e (top_in (table_view table.now))) }
+    ensures err { IfErr result (λ e. IsUnreadTable e (top_in (table_view table.now))) }
 {
     if !has_only(
         table,
@@ -250,8 +250,8 @@ fn body_in(alloc: Global, version: Version, table: &Table, kind: &str) -> Result
 }
 
 /// How many ports a box has.
-pub fn ports_of(body: &RawBody) -> usize
-    ensures { result ≡ ports_of body.now }
+pub fn port_count(body: &RawBody) -> usize
+    ensures { result ≡ port_count body.now }
 {
     match body {
         RawBody::Filter { preds } => preds.as_slice().len() + 1,
@@ -272,7 +272,7 @@ pub(crate) fn box_in(alloc: Global, version: Version, table: &Table) -> Result<R
     let name = text_at(alloc, table, "name")?;
     let ins = texts_at(alloc, table, "in")?;
     let cost = number_or(table, "cost", 1)?;
-    let ports = ports_of(&body);
+    let ports = port_count(&body);
     let selectivity = selectivity_at(alloc, table, ports)?;
     if selectivity.as_slice().len() != ports {
         return Err(Unread::Shape);

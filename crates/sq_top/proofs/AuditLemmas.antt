@@ -7,10 +7,10 @@ use Rattle.sq_top.specs.declared.Command.TheVariants as command
 use Rattle.sq_top.specs.declared.Status.{Status}
 use Rattle.sq_top.specs.declared.Status.TheVariants as status
 use Rattle.sq_top.specs.Commands.{command_in, may_name, runs_engine}
-use Rattle.sq_top.specs.Scripts.{Replay, Script, Reads, Done, Stops, after_words, followed_by, plain_args, script_of, text_limit, text_script, with_text}
+use Rattle.sq_top.specs.Scripts.{AcceptedReplay, Script, Reads, Done, Stops, after_words, followed_by, plain_args, script_of, text_limit, text_script, with_text}
 use Rattle.sq_top.specs.Messages.{name_at}
-use Rattle.sq_top.specs.Reads.{GoesBy, IsRead, Leads, network_read}
-use Rattle.sq_top.specs.Causes.{AppendsSuch, Ends, IsPrefixOfDue, IsRefusedAt, IsStopped, IsUnread, IsWholeOf, NamesSource, World, is_plain_end, is_refusal, verdict_of, work_for}
+use Rattle.sq_top.specs.Reads.{GoesBy, IsFileRead, ScriptLeads, network_read}
+use Rattle.sq_top.specs.Causes.{AppendsSuch, Ends, IsPrefixOfDue, IsRefusedAt, IsStopped, IsUnread, IsWholeOf, NamesSource, Outside, is_plain_end, is_refusal, verdict_text, work_for}
 use Rattle.sq_top.specs.Writing.{IsLost}
 use Rattle.sq_top.proofs.DrivingLemmas.{not_too_much}
 use Rattle.sq_top.proofs.EndLemmas.{answered_cut, answered_ok, appends_all, appends_begun}
@@ -19,7 +19,7 @@ use Rattle.sq_top.proofs.StoppedLemmas.{memory_at, some_none, stopped_unread}
 use Rattle.sq_top.proofs.StopLemmas.{lost_cut, lost_garbled, lost_stop, lost_unchanged}
 
 -- by what leads through the first script the two go on
-goes_behind : (told : Option Files) (next : Replay → Script) (read : List (List ℕ × List ℕ)) (from to : Script) → GoesBy told read from to
+goes_behind : (told : Option Files) (next : AcceptedReplay → Script) (read : List (List ℕ × List ℕ)) (from to : Script) → GoesBy told read from to
     → GoesBy told read (followed_by from next) (followed_by to next)
 goes_behind told next [] from to goes = ap (λ s. followed_by s next) goes
 goes_behind told next (given ∷ read) (Reads name limit more) to goes = (goes.0, goes.1, goes_behind told next read (more given.1) to goes.2)
@@ -27,7 +27,7 @@ goes_behind told next (given ∷ read) (Done r) to goes = absurd goes
 goes_behind told next (given ∷ read) (Stops s) to goes = absurd goes
 
 -- and where the first stops, they stop alike
-refused_behind : (told : Option Files) (fb fn tb tn : ℕ) (s : Status) (next : Replay → Script) (left : Script) → (is_refusal s ≡ true) ⊎ (s ≡ status.Memory)
+refused_behind : (told : Option Files) (fb fn tb tn : ℕ) (s : Status) (next : AcceptedReplay → Script) (left : Script) → (is_refusal s ≡ true) ⊎ (s ≡ status.Memory)
     → IsRefusedAt told fb fn tb tn s left → IsRefusedAt told fb fn tb tn s (followed_by left next)
 refused_behind told fb fn tb tn s next (Reads name limit more) ends why = why
 refused_behind told fb fn tb tn s next (Stops t) ends why = why
@@ -96,8 +96,8 @@ module _ (words : List (List ℕ)) (net text : List ℕ) (asked : command_in wor
     }
 
     -- where the run goes on to its replay, the audit goes on to the text
-    module _ (rb rm rn : List (List ℕ × List ℕ)) (r : Replay) (leads : Leads told rb rm (script_of run) (Done r)) where
-      text_leads : Leads told rb rm (script_of words) (text_script text r)
+    module _ (rb rm rn : List (List ℕ × List ℕ)) (r : AcceptedReplay) (leads : ScriptLeads told rb rm (script_of run) (Done r)) where
+      text_leads : ScriptLeads told rb rm (script_of words) (text_script text r)
       text_leads = (leads.0, goes_on leads.0 (Done r) leads.1, leads.2)
 
       pub stopped_text : (fb fn tb tn : ℕ) (s : Status) (source : List ℕ) → rn ≡ rm → IsUnread told text text_limit fb fn tb tn s
@@ -106,7 +106,7 @@ module _ (words : List (List ℕ)) (net text : List ℕ) (asked : command_in wor
           stopped_unread words told fb fn tb tn rb rn source text text_limit (λ bytes. Done (with_text r bytes)) is_audit
           (leads_still told rb rm rn (script_of words) (text_script text r) text_leads same) s unread
 
-      pub accepted_text : (bytes : List ℕ) → IsRead told text text_limit rm rn bytes → Leads told rb rn (script_of words) (Done (with_text r bytes))
+      pub accepted_text : (bytes : List ℕ) → IsFileRead told text text_limit rm rn bytes → ScriptLeads told rb rn (script_of words) (Done (with_text r bytes))
       accepted_text bytes got =
           leads_then told rb rm rn (script_of words) (text_script text r) (Done (with_text r bytes)) text_leads
           (leads_read told text text_limit (λ xs. Done (with_text r xs)) rm rn bytes got)
@@ -129,20 +129,20 @@ lost_plain before now s (inl memory) = ap is_plain_end memory
 lost_plain before now s (inr (sink, rose)) = ap is_plain_end sink
 
 -- how an audit ends whose files were read
-module _ (words : List (List ℕ)) (net text : List ℕ) (asked : command_in words ≡ Some (command.Audit net text)) (w : World) (r : Replay) (source : List ℕ)
-    (came : Leads w.told w.read_before w.read_now (script_of words) (Done r)) (faultless : w.folder_now ≡ w.folder_before) (still : w.steps_now ≡ w.steps_before) where
+module _ (words : List (List ℕ)) (net text : List ℕ) (asked : command_in words ≡ Some (command.Audit net text)) (w : Outside) (r : AcceptedReplay) (source : List ℕ)
+    (came : ScriptLeads w.told w.read_before w.read_now (script_of words) (Done r)) (faultless : w.folder_now ≡ w.folder_before) (still : w.steps_now ≡ w.steps_before) where
   no_work : work_for (command_in words) r ≡ 0
   no_work = ap (λ c. work_for c r) asked
 
-  pub audited_ok : w.out_now ≡ appended w.out_before (verdict_of r) → Ends words w status.Ok source
+  pub audited_ok : w.out_now ≡ appended w.out_before (verdict_text r) → Ends words w status.Ok source
   audited_ok written =
       answered_ok words w r source (is_audit words net text asked w.told) came faultless
       (λ told. (
-        subst (λ c. AppendsSuch w.out_before w.out_now (IsWholeOf c r)) (sym asked) (appends_all w.out_before w.out_now (verdict_of r) (λ said. said ≡ verdict_of r) written refl),
+        subst (λ c. AppendsSuch w.out_before w.out_now (IsWholeOf c r)) (sym asked) (appends_all w.out_before w.out_now (verdict_text r) (λ said. said ≡ verdict_text r) written refl),
         omega (arith, still, no_work),
       ))
 
-  pub audited_cut : (s : Status) → IsLost w.sink_before w.sink_now s → AppendsPrefix w.out_before w.out_now (verdict_of r) → (s ≢ status.SinkFault → w.out_now ≡ w.out_before)
+  pub audited_cut : (s : Status) → IsLost w.sink_before w.sink_now s → AppendsPrefix w.out_before w.out_now (verdict_text r) → (s ≢ status.SinkFault → w.out_now ≡ w.out_before)
       → Ends words w s source
   audited_cut s lost part alone =
       answered_cut words w r source (is_audit words net text asked w.told) came faultless s (lost_cut w.sink_before w.sink_before w.sink_now s (omega arith) lost)
@@ -150,6 +150,6 @@ module _ (words : List (List ℕ)) (net text : List ℕ) (asked : command_in wor
       (λ told. lost_garbled w.sink_before w.sink_now s lost)
       (λ told. not_too_much _ w.sink_before w.sink_now s lost)
       (λ told. (
-        subst (λ c. AppendsSuch w.out_before w.out_now (IsPrefixOfDue c r s)) (sym asked) (appends_begun (verdict_of r) w.out_before w.out_now s part alone),
+        subst (λ c. AppendsSuch w.out_before w.out_now (IsPrefixOfDue c r s)) (sym asked) (appends_begun (verdict_text r) w.out_before w.out_now s part alone),
         omega (arith, still, no_work),
       ))

@@ -8,7 +8,7 @@ use Rattle.sq_value.specs.Classes.{Class, Shown, Dropped, Planned, Ended, first_
 use Rattle.sq_value.proofs.ListLemmas.{same_bytes-true, same_bytes-refl}
 use Rattle.sq_value.proofs.LineLemmas.{is_line}
 use Rattle.sq_top.specs.Due.{Due}
-use Rattle.sq_top.specs.Answers.{IsClassIn, is_classed, lines_of}
+use Rattle.sq_top.specs.Answers.{IsClassIn, is_classed, class_lines}
 
 -- a name that doesn't begin with `@`
 abbrev pub IsPlainName : List ℕ → Type 0
@@ -74,7 +74,7 @@ is_end Ended h = refl
 
 -- two classes with the same lines
 pub record AreAlike (d : Due) (c k : Class) : Type 0 where
-  pub lines : lines_of d c ≡ lines_of d k
+  pub lines : class_lines d c ≡ class_lines d k
   pub test : (l : List ℕ) → is_of_class c l ≡ is_of_class k l
   pub ended : is_ended c ≡ is_ended k
 
@@ -278,7 +278,7 @@ module _ (d : Due) (s : TellsClasses d) where
   )
 
   -- each line of a class is one line, of the class
-  pub lines_due : (c : Class) → AllByRecursion (IsDueLine d c) (lines_of d c)
+  pub lines_due : (c : Class) → AllByRecursion (IsDueLine d c) (class_lines d c)
   lines_due (Shown name) = picked_outputs (IsDueLine d (Shown name)) (λ n. same_bytes n name) d.shown (shown_due name d.shown (own_names d.shown) s.shown)
   lines_due (Dropped w) = picked_drops (IsDueLine d (Dropped w)) (λ v. same_bytes (decimal v) (decimal w)) d.dropped (dropped_due w d.dropped (own_numbers d.dropped) s.dropped)
   lines_due Planned = all_map {P = IsLineOf Planned} (λ l h. (h.0, h.1, classed_planned l h.1)) d.planned s.planned

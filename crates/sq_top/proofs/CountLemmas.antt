@@ -15,7 +15,7 @@ use Rattle.sq_flow.specs.Events.{IsEventIn, drops_of, lines_of}
 use Rattle.sq_flow.proofs.DropLemmas.{drops-drop, drops-plan, lines-drop}
 use Rattle.sq_flow.proofs.EventLemmas.{drops-line, lines-append, lines-push}
 use Rattle.sq_top.specs.declared.counting.Counts.{Counts}
-use Rattle.sq_top.specs.Counting.{AreCounts, Counted}
+use Rattle.sq_top.specs.Counting.{AreCountsOf, Counted}
 
 -- these are f of 0, 1, ..
 abbrev AreOf : (ℕ → ℕ) → List ℕ → Type 0
@@ -137,14 +137,14 @@ pub none_counted : (counts : Counts) → Counted [] counts counts
 none_counted counts = record {
   lines = refl;
   drops = refl;
-  more = λ history are. subst (λ xs. AreCounts xs counts) (sym (append-nil history)) are;
+  more = λ history are. subst (λ xs. AreCountsOf xs counts) (sym (append-nil history)) are;
 }
 
 pub both_counted : (xs ys : List Event) (before mid now : Counts) → Counted xs before mid → Counted ys mid now → Counted (xs ++ ys) before now
 both_counted xs ys before mid now first second = record {
   lines = second.lines ∙ first.lines;
   drops = second.drops ∙ first.drops;
-  more = λ history are. subst (λ zs. AreCounts zs now) (append_assoc history xs ys) (second.more (history ++ xs) (first.more history are));
+  more = λ history are. subst (λ zs. AreCountsOf zs now) (append_assoc history xs ys) (second.more (history ++ xs) (first.more history are));
 }
 
 all_at : {X : Type 0} (P : X → Type 0) (xs : List X) (i : ℕ) (d : X) → i < length xs → AllByRecursion P xs → P (get_or xs i d)

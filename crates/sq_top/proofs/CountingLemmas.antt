@@ -15,7 +15,7 @@ use Rattle.sq_core.specs.Runs.{IsRun, ShownAll}
 use Rattle.sq_top.specs.declared.Status.{Status}
 use Rattle.sq_top.specs.declared.Status.TheVariants as status
 use Rattle.sq_top.specs.declared.counting.Counts.{Counts}
-use Rattle.sq_top.specs.Counting.{AreCounts, Counted, CountsOn, HasRoom, IsSummed}
+use Rattle.sq_top.specs.Counting.{AreCountsOf, Counted, CountsOn, HasCounts, IsSummed}
 use Rattle.sq_top.specs.Driving.{GoesOn, IsEventAt, IsHalted, Stops, history_text}
 use Rattle.sq_points.specs.Points.{drops_in}
 use Rattle.sq_top.specs.Due.{answer_in}
@@ -62,13 +62,13 @@ counts_then was mid is from via to begun now later before between after first sa
 }
 
 -- each event of a step has its count
-pub there_all : (from to : Network) (counts : Counts) (shown : List Event) → to ≡ from → HasRoom from counts → AllByRecursion (IsEventAt from) shown
+pub there_all : (from to : Network) (counts : Counts) (shown : List Event) → to ≡ from → HasCounts from counts → AllByRecursion (IsEventAt from) shown
     → AllByRecursion (IsEventIn (length counts.lines.items) (length counts.drops.items)) shown
 there_all from to counts shown same room there = rw (room.lines, room.drops) there
 
 -- there is room as before
-pub same_room : (n m : Network) (before after : Counts) (events : List Event) → HasRoom n before → m ≡ n → Counted events before after → HasRoom m after
-same_room n m before after events room same counted = subst (λ k. HasRoom k after) (sym same) (record { lines = counted.lines ∙ room.lines; drops = counted.drops ∙ room.drops })
+pub same_room : (n m : Network) (before after : Counts) (events : List Event) → HasCounts n before → m ≡ n → Counted events before after → HasCounts m after
+same_room n m before after events room same counted = subst (λ k. HasCounts k after) (sym same) (record { lines = counted.lines ∙ room.lines; drops = counted.drops ∙ room.drops })
 
 -- memory runs out before the first step
 pub count_waits : (honest : Bool) (pages : Option Pages) (engine : Engine) (steps : ℕ) (r : Replay) (start : ℕ) → Tells pages → IsRun r pages engine [] start steps
@@ -105,7 +105,7 @@ module _ (was mid : Option Pages) (from via : Engine) (begun now : ℕ) (none co
         (silent_stop mid is still via now later (history_text from.network first.events) s stops)
 
     -- nothing is left
-    pub count_ends : HasRoom from.network none → AreCounts [] none
+    pub count_ends : HasCounts from.network none → AreCountsOf [] none
         → ((history : List Event) → IsRun r mid via history start now → ShownAll r via history start now) → IsSummed r via counts start now
     count_ends room zero all =
         let on = first.goes r [] start run in

@@ -26,7 +26,7 @@ use Rattle.sq_top.specs.declared.Status.TheVariants as status
 use Rattle.sq_top.specs.Due.{answer_in, turns_in}
 use Rattle.sq_top.specs.Writing.{IsLost, Moves}
 use Rattle.sq_top.specs.Stopping.{is_changed, is_garbled, status_of}
-use Rattle.sq_top.specs.Driving.{Begins, Completes, GoesOn, IsDriven, IsEventAt, IsHalted, Stops, history_text}
+use Rattle.sq_top.specs.Driving.{BeginsAnswer, Completes, GoesOn, IsDriven, IsEventAt, IsHalted, Stops, history_text}
 use Rattle.sq_top.proofs.ClassLemmas.{all_append}
 use Rattle.sq_top.proofs.StopLemmas.{lost_garbled, lost_unchanged, step_garbled, step_much, step_unchanged}
 use Rattle.sq_top.proofs.WritingLemmas.{appended-nil, lost_at_once, moves-lost, moves-then}
@@ -41,7 +41,7 @@ line_event n (Plan epoch load capacity saved fits) there = tt
 wired : (r : Replay) → IsSound r.network → (o : ℕ) → o < length r.network.outputs → o < length r.network.wires.outputs
 wired r sound o low = omega (arith, low, sound.agrees.outputs)
 
-begins_so_far : (r : Replay) → IsSound r.network → (history : List Event) (begun steps : ℕ) → ShownSoFar r history begun steps → Begins r.network (answer_in r) history
+begins_so_far : (r : Replay) → IsSound r.network → (history : List Event) (begun steps : ℕ) → ShownSoFar r history begun steps → BeginsAnswer r.network (answer_in r) history
 begins_so_far r sound history begun steps far = record {
   lines = λ o low. far.lines o (wired r sound o low);
   drops = λ w low.
@@ -79,7 +79,7 @@ sound_run r pages engine history begun steps run = subst IsSound run.network run
 
 -- what was shown so far begins the answer
 begins_run : (r : Replay) (pages : Option Pages) (engine : Engine) (history : List Event) (begun steps : ℕ) → IsRun r pages engine history begun steps → Tells pages
-    → Begins r.network (answer_in r) history
+    → BeginsAnswer r.network (answer_in r) history
 begins_run r pages engine history begun steps run tells =
     begins_so_far r (sound_run r pages engine history begun steps run) history begun steps (so_far r pages engine history begun steps run tells)
 
@@ -137,7 +137,7 @@ module _ (was : Option Pages) (from : Engine) (begun now : ℕ) (cleared shown :
       record {
         events = [];
         shown = tt;
-        first = subst (Begins r.network (answer_in r)) (sym (append-nil history)) (begins_run r was from history start begun run (tells told));
+        first = subst (BeginsAnswer r.network (answer_in r)) (sym (append-nil history)) (begins_run r was from history start begun run (tells told));
         written = lost_at_once before (waited ++ []);
         work = halt.so_far.work;
         unchanged = λ is-honest. ap is_changed same ∙ step_unchanged honest e halt.named is-honest;
@@ -193,7 +193,7 @@ module _ (was mid : Option Pages) (from via : Engine) (begun now : ℕ) (before 
       record {
         events = first.events ++ stop.events;
         shown = all_append (IsEventAt r.network) first.events stop.events shown_now stop.shown;
-        first = subst (Begins r.network (answer_in r)) (append_assoc history first.events stop.events) stop.first;
+        first = subst (BeginsAnswer r.network (answer_in r)) (append_assoc history first.events stop.events) stop.first;
         written = subst (AppendsPrefix before after) (sym (flat_map-append (event_line r.network) first.events stop.events))
             (moves-lost before between after [] waits (history_text r.network first.events) (history_text r.network stop.events) moves_now stop.written);
         work = stop.work;

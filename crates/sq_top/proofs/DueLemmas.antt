@@ -10,8 +10,8 @@ use Rattle.sq_value.specs.Lists.{same_bytes, IsPrefixOf}
 use Rattle.sq_value.specs.Classes.{Class, Shown, Dropped, Planned, Ended, first_field, second_field, is_of_class}
 use Rattle.sq_value.proofs.ListLemmas.{same_bytes-true, same_bytes-refl}
 use Rattle.sq_top.specs.Due.{Due, all_lines}
-use Rattle.sq_top.specs.Answers.{AreOthersAll, IsClassIn, is_classed, lines_of}
-use Rattle.sq_top.specs.Orders.{AreAll, EachIsNext, IsNextOf, IsOrder}
+use Rattle.sq_top.specs.Answers.{AreOthersAll, IsClassIn, is_classed, class_lines}
+use Rattle.sq_top.specs.Orders.{AreAll, EachIsNext, IsNextOf, IsLineOrder}
 use Rattle.sq_top.proofs.ClassLemmas.{Drops, IsLineOf, IsPlainClass, IsPlainName, Outputs, TellsClasses, alike, all_map, and_true, classed_dropped, classed_ended, classed_planned, classed_shown, end_field-plain, is_end_field, not_ended, not_true, or_true, own_names, own_numbers, plain_class, plain_differs, same_bytes-plain}
 use Rattle.sq_top.proofs.SortedLines.{InBack, InFront, cut_twice, filter_same, list_all-back}
 
@@ -95,7 +95,7 @@ module _ (d : Due) (s : TellsClasses d) (ls : List (List ℕ)) (whole : IsWholeL
     class_here : HasClass d l
     class_here = class_of d l (all_first (is_classed d) l rest (list_all-back (is_classed d) before (l ∷ rest) (subst (λ xs. list_all (is_classed d) xs ≡ true) at whole.classed)))
 
-    prefix_here : IsPrefixOf (filter (is_of_class class_here.class) before ++ l ∷ []) (lines_of d class_here.class)
+    prefix_here : IsPrefixOf (filter (is_of_class class_here.class) before ++ l ∷ []) (class_lines d class_here.class)
     prefix_here =
         let p = is_of_class class_here.class in (
           filter p rest,
@@ -133,7 +133,7 @@ module _ (d : Due) (s : TellsClasses d) (ls : List (List ℕ)) (whole : IsWholeL
   walk before (l ∷ rest) at = (next_here before l rest at, walk (before ++ l ∷ []) rest (at ∙ sym (append_assoc before (l ∷ []) rest)))
 
   -- such a list is an order of writing
-  pub whole_order : IsOrder d ls
+  pub whole_order : IsLineOrder d ls
   whole_order = walk [] ls refl
 
 -- how the test of a class answers for the lines of another
@@ -262,7 +262,7 @@ module _ (d : Due) (s : TellsClasses d) where
         (filter-append p dropped_lines (d.planned ++ d.ended)
         ∙ ap₂ (λ xs ys. xs ++ ys) filter_dropped (filter-append p d.planned d.ended ∙ ap₂ (λ xs ys. xs ++ ys) filter_planned filter_ended))
 
-  lines_are : (c : Class) → IsPlainClass c → filter (is_of_class c) (all_lines d) ≡ lines_of d c
+  lines_are : (c : Class) → IsPlainClass c → filter (is_of_class c) (all_lines d) ≡ class_lines d c
   lines_are (Shown name) plain =
       filter_all (Shown name) plain ∙ rw (picked_none (λ w. false) d.dropped (λ w. refl)) (append-nil (picked (λ n. same_bytes n name) d.shown))
   lines_are (Dropped w) plain =
@@ -314,5 +314,5 @@ module _ (d : Due) (s : TellsClasses d) where
   }
 
   -- the outputs one after another, then the drops, the plans and the end
-  pub all_order : IsOrder d (all_lines d)
+  pub all_order : IsLineOrder d (all_lines d)
   all_order = whole_order d s (all_lines d) all_whole

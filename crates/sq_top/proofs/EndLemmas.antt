@@ -37,7 +37,7 @@ use Rattle.sq_place.proofs.Final.{drops-few}
 use Rattle.sq_points.specs.Points.{points_of, windows_of, drops_in}
 use Rattle.sq_points.proofs.Bounds.{few_places}
 use Rattle.std.proofs.lemmas.Fmt.{decimal_nonempty}
-use Rattle.sq_top.specs.Due.{Answer, Due, answer_in, dropped_from, due_from, due_in, due_of, ended_in, fed_in, late_in, plan_text, replayed, shown_from, turns_in, work_in}
+use Rattle.sq_top.specs.Due.{Answer, Due, answer_in, dropped_from, due_from, due_in, due_of, ended_in, fed_in, late_in, plan_text, replayed, shown_at_output, turns_in, work_in}
 use Rattle.sq_top.specs.Answers.{IsPrefixText, IsWholeText}
 use Rattle.sq_gen.specs.Files.{made_of}
 use Rattle.sq_top.specs.Made.{HasBadMade, NamesMade}
@@ -45,11 +45,11 @@ use Rattle.sq_top.specs.Messages.{name_at}
 use Rattle.sq_top.specs.Summaries.{summary_of}
 use Rattle.sq_top.specs.Driving.{IsCutShort}
 use Rattle.sq_top.specs.declared.RunArgs.{RunArgs}
-use Rattle.sq_top.specs.Scripts.{Replay, Script, Reads, Done, Stops, after_words, made_script, script_of}
-use Rattle.sq_top.specs.Reads.{GoesBy, IfAccepted, Leads, network_read}
+use Rattle.sq_top.specs.Scripts.{AcceptedReplay, Script, Reads, Done, Stops, after_words, made_script, script_of}
+use Rattle.sq_top.specs.Reads.{GoesBy, IfAccepted, ScriptLeads, network_read}
 use Rattle.sq_pool.specs.Trust.{Tells}
 use Rattle.sq_top.specs.Stopping.{StopHasCause, is_changed, is_garbled}
-use Rattle.sq_top.specs.Causes.{AppendsSuch, BeginsSummary, BeginsText, Ends, IsEngineOf, IsPrefixOfDue, IsRefusedAt, IsStopped, IsWholeOf, NamesSource, TellsFor, TellsStatus, World, hides_memory, is_refusal, turns_for, verdict_of, work_for}
+use Rattle.sq_top.specs.Causes.{AppendsSuch, BeginsSummary, BeginsText, Ends, IsEngineOf, IsPrefixOfDue, IsRefusedAt, IsStopped, IsWholeOf, NamesSource, TellsFor, TellsStatus, Outside, hides_memory, is_refusal, turns_for, verdict_text, work_for}
 use Rattle.sq_top.proofs.SortedLines.{and-true}
 use Rattle.sq_top.proofs.ReadsLemmas.{leads_self, left_holds, none_given}
 use Rattle.sq_top.proofs.StoppedLemmas.{memory_at, some_none, stopped_memory, stopped_rule}
@@ -119,13 +119,13 @@ line_planned epoch load capacity saved fits =
     (is_line-line_of (codes "@plan" ∷ fields), subst (λ f. same_bytes f (codes "@plan") ≡ true) (sym (first_field-line_of 64 (codes "plan") fields refl)) refl)
 
 module _ (a : Answer) where
-  names_plain : (os : List Output) (ss : List ℕ) → AllByRecursion (λ o. is_name o.name ≡ true) os → AllByRecursion (λ o. IsPlainName o.0) (map (shown_from a) (zip os ss))
+  names_plain : (os : List Output) (ss : List ℕ) → AllByRecursion (λ o. is_name o.name ≡ true) os → AllByRecursion (λ o. IsPlainName o.0) (map (shown_at_output a) (zip os ss))
   names_plain [] ss named = tt
   names_plain (o ∷ os) [] named = tt
   names_plain (o ∷ os) (s ∷ ss) named = (plain_name o.name named.0, names_plain os ss named.1)
 
   outputs_shown : (os : List Output) (ss : List ℕ) → AllByRecursion (λ o. is_name o.name ≡ true) os
-      → AllByRecursion (λ o. AllByRecursion (IsLineOf (Shown o.0)) o.1) (map (shown_from a) (zip os ss))
+      → AllByRecursion (λ o. AllByRecursion (IsLineOf (Shown o.0)) o.1) (map (shown_at_output a) (zip os ss))
   outputs_shown [] ss named = tt
   outputs_shown (o ∷ os) [] named = tt
   outputs_shown (o ∷ os) (s ∷ ss) named = (lines_shown o.name (a.tuples s) named.0, outputs_shown os ss named.1)
@@ -190,7 +190,7 @@ replay_tells_classes r first is =
     (all_ended (boxes_from first r.network) (drop first (map (fed_in r) (numbers_to (length r.network.boxes)))) (drop first (map (late_in r) (numbers_to (length r.network.boxes)))))
     (few_drops r.network is) is
 
-pub left_tells_classes : (told : Option Files) (words : List (List ℕ)) (read : List (List ℕ × List ℕ)) (r : Replay) → GoesBy told read (script_of words) (Done r) → TellsClasses (due_of r)
+pub left_tells_classes : (told : Option Files) (words : List (List ℕ)) (read : List (List ℕ × List ℕ)) (r : AcceptedReplay) → GoesBy told read (script_of words) (Done r) → TellsClasses (due_of r)
 left_tells_classes told words read r goes = replay_tells_classes (replayed r) r.first (left_holds told words read (Done r) goes)
 
 no_text : (d : Due) → TellsClasses d → IsPrefixText d []
@@ -227,41 +227,41 @@ appends_begun whole (Some before) now s part alone =
     (part.0, part.2, (part.1, λ other. nothing_more before part.0 (let both : Some (before ++ part.0) ≡ Some before = sym part.2 ∙ alone other in cc)))
 
 -- the texts of a run
-pub whole_of_run : (c : Option Command) (args : RunArgs) (r : Replay) (before now : Option (List ℕ)) → c ≡ Some (command.Run args)
+pub whole_of_run : (c : Option Command) (args : RunArgs) (r : AcceptedReplay) (before now : Option (List ℕ)) → c ≡ Some (command.Run args)
     → AppendsSuch before now (IsWholeText (due_of r)) → AppendsSuch before now (IsWholeOf c r)
 whole_of_run c args r before now e a = subst (λ o. AppendsSuch before now (IsWholeOf o r)) (sym e) a
 
-pub prefix_of_run : (c : Option Command) (args : RunArgs) (r : Replay) (s : Status) (before now : Option (List ℕ)) → c ≡ Some (command.Run args)
+pub prefix_of_run : (c : Option Command) (args : RunArgs) (r : AcceptedReplay) (s : Status) (before now : Option (List ℕ)) → c ≡ Some (command.Run args)
     → AppendsSuch before now (IsPrefixText (due_of r)) → AppendsSuch before now (IsPrefixOfDue c r s)
 prefix_of_run c args r s before now e a = subst (λ o. AppendsSuch before now (IsPrefixOfDue o r s)) (sym e) a
 
 -- those of a tap
-pub whole_of_tap : (c : Option Command) (net stream : List ℕ) (tick history : ℕ) (query : List ℕ) (r : Replay) (before now : Option (List ℕ)) → c ≡ Some (command.Tap net stream tick history query)
+pub whole_of_tap : (c : Option Command) (net stream : List ℕ) (tick history : ℕ) (query : List ℕ) (r : AcceptedReplay) (before now : Option (List ℕ)) → c ≡ Some (command.Tap net stream tick history query)
     → AppendsSuch before now (IsWholeText (due_of r)) → AppendsSuch before now (IsWholeOf c r)
 whole_of_tap c net stream tick history query r before now e a = subst (λ o. AppendsSuch before now (IsWholeOf o r)) (sym e) a
 
-pub prefix_of_tap : (c : Option Command) (net stream : List ℕ) (tick history : ℕ) (query : List ℕ) (r : Replay) (s : Status) (before now : Option (List ℕ))
+pub prefix_of_tap : (c : Option Command) (net stream : List ℕ) (tick history : ℕ) (query : List ℕ) (r : AcceptedReplay) (s : Status) (before now : Option (List ℕ))
     → c ≡ Some (command.Tap net stream tick history query) → AppendsSuch before now (IsPrefixText (due_of r)) → AppendsSuch before now (IsPrefixOfDue c r s)
 prefix_of_tap c net stream tick history query r s before now e a = subst (λ o. AppendsSuch before now (IsPrefixOfDue o r s)) (sym e) a
 
 -- and of what is made
-pub whole_of_made : (c : Option Command) (number rows : ℕ) (r : Replay) (before now : Option (List ℕ)) → c ≡ Some (command.Gen number rows)
+pub whole_of_made : (c : Option Command) (number rows : ℕ) (r : AcceptedReplay) (before now : Option (List ℕ)) → c ≡ Some (command.Gen number rows)
     → AppendsSuch before now (λ text. text ≡ summary_of number rows (replayed r)) → AppendsSuch before now (IsWholeOf c r)
 whole_of_made c number rows r before now e a = subst (λ o. AppendsSuch before now (IsWholeOf o r)) (sym e) a
 
-pub prefix_of_made : (c : Option Command) (number rows : ℕ) (r : Replay) (s : Status) (before now : Option (List ℕ)) → c ≡ Some (command.Gen number rows)
+pub prefix_of_made : (c : Option Command) (number rows : ℕ) (r : AcceptedReplay) (s : Status) (before now : Option (List ℕ)) → c ≡ Some (command.Gen number rows)
     → AppendsSuch before now (BeginsSummary number rows (replayed r) s) → AppendsSuch before now (IsPrefixOfDue c r s)
 prefix_of_made c number rows r s before now e a = subst (λ o. AppendsSuch before now (IsPrefixOfDue o r s)) (sym e) a
 
-no_due : (c : Option Command) (r : Replay) (s : Status) → TellsClasses (due_of r) → IsPrefixOfDue c r s []
+no_due : (c : Option Command) (r : AcceptedReplay) (s : Status) → TellsClasses (due_of r) → IsPrefixOfDue c r s []
 no_due None r s tells = no_text (due_of r) tells
 no_due (Some (command.Run args)) r s tells = no_text (due_of r) tells
 no_due (Some (command.Gen number rows)) r s tells = ((summary_of number rows (replayed r), refl), λ other. refl)
-no_due (Some (command.Audit net text)) r s tells = ((verdict_of r, refl), λ other. refl)
+no_due (Some (command.Audit net text)) r s tells = ((verdict_text r, refl), λ other. refl)
 no_due (Some (command.Tap net stream tick history query)) r s tells = no_text (due_of r) tells
 
 -- what is written at a status but that of the sink's may be at want of memory
-due_memory : (c : Option Command) (r : Replay) (s : Status) → s ≢ status.SinkFault → (text : List ℕ) → IsPrefixOfDue c r s text → IsPrefixOfDue c r status.Memory text
+due_memory : (c : Option Command) (r : AcceptedReplay) (s : Status) → s ≢ status.SinkFault → (text : List ℕ) → IsPrefixOfDue c r s text → IsPrefixOfDue c r status.Memory text
 due_memory None r s other text p = p
 due_memory (Some (command.Run args)) r s other text p = p
 due_memory (Some (command.Gen number rows)) r s other text p = (p.0, λ memory. p.1 other)
@@ -269,18 +269,18 @@ due_memory (Some (command.Audit net out)) r s other text p = (p.0, λ memory. p.
 due_memory (Some (command.Tap net stream tick history query)) r s other text p = p
 
 -- each script that is left has its fact
-pub if_accepted : (left : Script) (P : Replay → Type 0) (Q : Type 0) → ((r : Replay) → left ≡ Done r → P r) → Q → IfAccepted left P Q
+pub if_accepted : (left : Script) (P : AcceptedReplay → Type 0) (Q : Type 0) → ((r : AcceptedReplay) → left ≡ Done r → P r) → Q → IfAccepted left P Q
 if_accepted (Done r) P Q p q = p r refl
 if_accepted (Stops s) P Q p q = q
 if_accepted (Reads name limit more) P Q p q = q
 
-accepted_map : (left : Script) (P P' : Replay → Type 0) (Q : Type 0) → ((r : Replay) → P r → P' r) → IfAccepted left P Q → IfAccepted left P' Q
+accepted_map : (left : Script) (P P' : AcceptedReplay → Type 0) (Q : Type 0) → ((r : AcceptedReplay) → P r → P' r) → IfAccepted left P Q → IfAccepted left P' Q
 accepted_map (Done r) P P' Q f m = f r m
 accepted_map (Stops s) P P' Q f m = m
 accepted_map (Reads name limit more) P P' Q f m = m
 
 -- a beginning of the answer, and nothing where there is none
-abbrev Begun : List (List ℕ) → World → Status → Script → Type 0
+abbrev Begun : List (List ℕ) → Outside → Status → Script → Type 0
 Begun words w s left = IfAccepted left
     (λ r. TellsFor (command_in words) w.pages → AppendsSuch w.out_before w.out_now (IsPrefixOfDue (command_in words) r s) × (w.steps_now ≤ w.steps_before + work_for (command_in words) r))
     ((w.out_now ≡ w.out_before) × (w.steps_now ≡ w.steps_before))
@@ -288,18 +288,18 @@ Begun words w s left = IfAccepted left
 nothing_appended : (before now : Option (List ℕ)) (P : List ℕ → Type 0) → now ≡ before → P [] → AppendsSuch before now P
 nothing_appended before now P e p = subst (λ o. AppendsSuch before o P) (sym e) (appends_none before P p)
 
-pub begun_nothing : (words : List (List ℕ)) (w : World) (s : Status) (r : Replay) → w.out_now ≡ w.out_before → w.steps_now ≡ w.steps_before → TellsClasses (due_of r)
+pub begun_nothing : (words : List (List ℕ)) (w : Outside) (s : Status) (r : AcceptedReplay) → w.out_now ≡ w.out_before → w.steps_now ≡ w.steps_before → TellsClasses (due_of r)
     → TellsFor (command_in words) w.pages → AppendsSuch w.out_before w.out_now (IsPrefixOfDue (command_in words) r s) × (w.steps_now ≤ w.steps_before + work_for (command_in words) r)
 begun_nothing words w s r out steps tells pages =
     (nothing_appended w.out_before w.out_now (IsPrefixOfDue (command_in words) r s) out (no_due (command_in words) r s tells), omega (arith, steps))
 
-nothing_written : (words : List (List ℕ)) (w : World) (s : Status) (read : List (List ℕ × List ℕ)) (left : Script) → GoesBy w.told read (script_of words) left
+nothing_written : (words : List (List ℕ)) (w : Outside) (s : Status) (read : List (List ℕ × List ℕ)) (left : Script) → GoesBy w.told read (script_of words) left
     → w.out_now ≡ w.out_before → w.steps_now ≡ w.steps_before → Begun words w s left
 nothing_written words w s read left goes out steps = if_accepted left _ _
     (λ r e. begun_nothing words w s r out steps (left_tells_classes w.told words read r (subst (GoesBy w.told read (script_of words)) e goes)))
     (out, steps)
 
-prefix_memory : (words : List (List ℕ)) (w : World) (s : Status) (left : Script) → s ≢ status.SinkFault → Begun words w s left → Begun words w status.Memory left
+prefix_memory : (words : List (List ℕ)) (w : Outside) (s : Status) (left : Script) → s ≢ status.SinkFault → Begun words w s left → Begun words w status.Memory left
 prefix_memory words w s left other = accepted_map left _ _ _
     (λ r prefix pages. (
       appends_map w.out_before w.out_now (IsPrefixOfDue (command_in words) r s) (IsPrefixOfDue (command_in words) r status.Memory) (due_memory (command_in words) r s other) (prefix pages).0,
@@ -326,7 +326,7 @@ not_hidden (status.BadTap e) is = absurd (cc)
 not_hidden s is = refl
 
 -- where all was accepted no refusal comes
-not_refused : (told : Option Files) (fb fn tb tn : ℕ) (s : Status) (left : Script) (r : Replay) → (is_refusal s ≡ true) ⊎ (s ≡ status.Memory) → IsRefusedAt told fb fn tb tn s left → left ≡ Done r
+not_refused : (told : Option Files) (fb fn tb tn : ℕ) (s : Status) (left : Script) (r : AcceptedReplay) → (is_refusal s ≡ true) ⊎ (s ≡ status.Memory) → IsRefusedAt told fb fn tb tn s left → left ≡ Done r
     → (s ≡ status.Ok) ⊎ (s ≡ status.Memory) ⊎ (is_garbled s ≡ true)
 not_refused told fb fn tb tn s left r (inl refused) why e =
     let not : is_refusal s ≡ false = subst (IsRefusedAt told fb fn tb tn s) e why in
@@ -334,7 +334,7 @@ not_refused told fb fn tb tn s left r (inl refused) why e =
 not_refused told fb fn tb tn s left r (inr memory) why e = inr (inl memory)
 
 -- a run that stops before anything is replayed
-pub stopped_ends : (words : List (List ℕ)) (w : World) (s : Status) (source : List ℕ) → IsStopped words w.told w.folder_before w.folder_now w.taken_before w.taken_now w.read_before w.read_now s source
+pub stopped_ends : (words : List (List ℕ)) (w : Outside) (s : Status) (source : List ℕ) → IsStopped words w.told w.folder_before w.folder_now w.taken_before w.taken_now w.read_before w.read_now s source
     → w.out_now ≡ w.out_before → w.steps_now ≡ w.steps_before → Ends words w s source
 stopped_ends words w s source h out steps = record {
   read = h.read;
@@ -358,8 +358,8 @@ stopped_ends words w s source h out steps = record {
   named = h.named;
 }
 
-module _ (words : List (List ℕ)) (w : World) (r : Replay) (source : List ℕ) (some : IsSome (command_in words))
-    (came : Leads w.told w.read_before w.read_now (script_of words) (Done r)) (faultless : w.folder_now ≡ w.folder_before) where
+module _ (words : List (List ℕ)) (w : Outside) (r : AcceptedReplay) (source : List ℕ) (some : IsSome (command_in words))
+    (came : ScriptLeads w.told w.read_before w.read_now (script_of words) (Done r)) (faultless : w.folder_now ≡ w.folder_before) where
   abbrev work : ℕ
   work = work_for (command_in words) r
 
@@ -460,7 +460,7 @@ module _ (words : List (List ℕ)) (w : World) (r : Replay) (source : List ℕ) 
         (λ told. let part = first (told engine) in (part.0, subst (λ k. w.steps_now ≤ w.steps_before + k) work_is part.1))
 
 -- any end but Ok and that of the sink may be one for want of memory
-pub memory_ends : (words : List (List ℕ)) (w : World) (s : Status) (source other : List ℕ) → s ≢ status.Ok → s ≢ status.SinkFault → Ends words w s source
+pub memory_ends : (words : List (List ℕ)) (w : Outside) (s : Status) (source other : List ℕ) → s ≢ status.Ok → s ≢ status.SinkFault → Ends words w s source
     → Ends words w status.Memory other
 memory_ends words w s source other differs dry' h = record {
   read = h.read;
@@ -484,7 +484,7 @@ memory_ends words w s source other differs dry' h = record {
 }
 
 -- an end that is told stays, or is one for want of memory
-pub told_ends : (words : List (List ℕ)) (w : World) (s told : Status) (source : List ℕ) → s ≢ status.Ok → (told ≡ s) ⊎ ((told ≡ status.Memory) × (s ≢ status.SinkFault))
+pub told_ends : (words : List (List ℕ)) (w : Outside) (s told : Status) (source : List ℕ) → s ≢ status.Ok → (told ≡ s) ⊎ ((told ≡ status.Memory) × (s ≢ status.SinkFault))
     → Ends words w s source → Ends words w told source
 told_ends words w s told source differs (inl same) h = subst (λ x. Ends words w x source) (sym same) h
 told_ends words w s told source differs (inr memory) h = subst (λ x. Ends words w x source) (sym memory.0) (memory_ends words w s source source differs memory.1 h)
@@ -497,7 +497,7 @@ module _ (words : List (List ℕ)) (number rows : ℕ) (asked : command_in words
   pub is_made : IsSome (command_in words)
   is_made = rw asked refl
 
-  pub accepted_made : (reads : List (List ℕ × List ℕ)) (r : Replay) → made_script number (made_of number rows) ≡ Done r → Leads told reads reads (script_of words) (Done r)
+  pub accepted_made : (reads : List (List ℕ × List ℕ)) (r : AcceptedReplay) → made_script number (made_of number rows) ≡ Done r → ScriptLeads told reads reads (script_of words) (Done r)
   accepted_made reads r e = ([], script_made (Done r) e, none_given reads reads refl)
 
   pub stopped_made : (fb fn tb tn : ℕ) (reads : List (List ℕ × List ℕ)) (s : Status) (source : List ℕ) → HasBadMade number rows s source

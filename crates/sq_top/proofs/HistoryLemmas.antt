@@ -21,12 +21,12 @@ use Rattle.sq_oper.specs.declared.outs.Decision.{Decision}
 use Rattle.sq_oper.specs.declared.outs.Event.TheVariants.{Line, Dropped as Decided, Plan}
 use Rattle.sq_model.proofs.Alls.{holds-at}
 use Rattle.sq_model.proofs.StreamTypes.{some-at}
-use Rattle.sq_replay.specs.Shown.{event_line, name_in, text_of}
+use Rattle.sq_replay.specs.Shown.{event_line, output_name_in, lines_text}
 use Rattle.sq_flow.specs.Events.{drops_of, lines_of}
 use Rattle.sq_flow.specs.Plans.{plans_of}
 use Rattle.sq_points.specs.Points.{drops_in}
 use Rattle.sq_top.specs.Due.{Answer, Due, due_from, plan_text}
-use Rattle.sq_top.specs.Answers.{IsClassIn, IsPrefixText, IsWholeText, is_classed, lines_of as due_lines}
+use Rattle.sq_top.specs.Answers.{IsClassIn, IsPrefixText, IsWholeText, is_classed, class_lines as due_lines}
 use Rattle.sq_top.specs.Driving.{Completes, IsEventAt, history_text}
 use Rattle.sq_top.proofs.SortedLines.{filter_same}
 use Rattle.sq_top.proofs.ClassLemmas.{IsLineOf, IsPlainClass, TellsClasses, all_map, classed_dropped, classed_ended, classed_planned, classed_shown, not_true, plain_class}
@@ -77,7 +77,7 @@ module _ (n : Network) (sound : IsSound n) (a : Answer) (ended : List (List ℕ)
   -- an event that is a line, with its output
   module _ (p : ℕ) (t : Tuple) (q : Output) (at : slice_get n.outputs p ≡ Some q) where
     line_is : event_line n (Line p t) ≡ output_line q.name t
-    line_is = ap (λ o. output_line (name_in o) t) at
+    line_is = ap (λ o. output_line (output_name_in o) t) at
 
     named : is_name q.name ≡ true
     named = holds-at (λ (o : Output). is_name o.name ≡ true) n.outputs p q (recursion_from_All (λ (o : Output). is_name o.name ≡ true) n.outputs sound.named) at
@@ -139,7 +139,7 @@ module _ (n : Network) (sound : IsSound n) (a : Answer) (ended : List (List ℕ)
         → filter of_out (lines es) ≡ map (output_line out.name) (lines_of o es)
         → filter of_out (lines (Line p t ∷ es)) ≡ map (output_line out.name) (lines_of o (Line p t ∷ es))
     one_shown true p t es q at e rest =
-        let is : event_line n (Line p t) ≡ output_line out.name t = ap (λ x. output_line (name_in x) t) (ap (slice_get n.outputs) (eqb-true p o e) ∙ there) in
+        let is : event_line n (Line p t) ≡ output_line out.name t = ap (λ x. output_line (output_name_in x) t) (ap (slice_get n.outputs) (eqb-true p o e) ∙ there) in
         filter_kept of_out (event_line n (Line p t)) (lines es) (line_test p t q at (Shown out.name) ∙ name_test n.outputs p o q out sound.distinct at there true e)
         ∙ ap₂ (λ l ls. l ∷ ls) is rest
         ∙ sym (ap (map (output_line out.name)) (line_kept p o t es e))
@@ -248,13 +248,13 @@ module _ (n : Network) (sound : IsSound n) (a : Answer) (ended : List (List ℕ)
           (all_map {P = λ l. is_of_class Ended l ≡ false} (λ l h. ap not h) (lines history) (none_ended history shown));
     }
 
-    text_is : text_of whole_list ≡ history_text n history ++ text_of due.ended
-    text_is = flat_map-append (λ l. l) (lines history) due.ended ∙ ap (λ text. text ++ text_of due.ended) (text_of_lines (event_line n) history)
+    text_is : lines_text whole_list ≡ history_text n history ++ lines_text due.ended
+    text_is = flat_map-append (λ l. l) (lines history) due.ended ∙ ap (λ text. text ++ lines_text due.ended) (text_of_lines (event_line n) history)
 
     -- with the end lines behind, its text is whole, and each beginning of it is one of such a text
-    pub whole_of_history : IsWholeText due (history_text n history ++ text_of due.ended)
+    pub whole_of_history : IsWholeText due (history_text n history ++ lines_text due.ended)
     whole_of_history = subst (IsWholeText due) text_is (whole_text due whole_list told (whole_order due told whole_list history_whole) history_whole.all)
 
-    pub beginning_of_history : (text : List ℕ) → IsPrefixOf text (history_text n history ++ text_of due.ended) → IsPrefixText due text
+    pub beginning_of_history : (text : List ℕ) → IsPrefixOf text (history_text n history ++ lines_text due.ended) → IsPrefixText due text
     beginning_of_history text begins =
         prefix_text due whole_list text told (whole_order due told whole_list history_whole) (subst (λ whole. IsPrefixOf text whole) (sym text_is) begins)

@@ -4,7 +4,7 @@ use Rattle.std.specs.List.{AllByRecursion}
 use Rattle.std.proofs.lemmas.Grind.{flat_map-append}
 use Rattle.sq_outside.specs.Disks.{Pages}
 use Rattle.sq_outside.specs.Sinks.{AppendsPrefix, appended}
-use Rattle.sq_road.specs.Levels.{Agrees}
+use Rattle.sq_road.specs.Levels.{AgreesWith}
 use Rattle.sq_oper.specs.declared.outs.Event.{Event}
 use Rattle.sq_plan.specs.Plans.{Setting}
 use Rattle.sq_plan.specs.Shown.{level_for}
@@ -244,7 +244,7 @@ module _ (was is : Option Pages) (from : Engine) (sound : IsSoundEngine from) wh
       let last = stop.last.engine.flow in
       let table = λ (all : ℕ → List ℕ). level_for from.engine.flow.planner all in
       let agrees = λ (all : ℕ → List ℕ) (planned : IsPlanned all from.engine.flow).
-      subst (λ (s : Setting). Agrees last.levels (level_for s all)) left.planner (left.planned all planned).agrees in
+      subst (λ (s : Setting). AgreesWith last.levels (level_for s all)) left.planner (left.planned all planned).agrees in
       record {
         events = stop.events;
         shown = stop.shown;

@@ -20,22 +20,22 @@ use Rattle.sq_top.specs.declared.Status.{Status}
 use Rattle.sq_top.specs.declared.Status.TheVariants as status
 use Rattle.sq_top.specs.Causes.{HasBadLine, IsRefusedBy}
 use Rattle.sq_top.specs.Made.{HasBadMade, HasBadStreams}
-use Rattle.sq_top.specs.Messages.{name_at, name_in, network_of}
-use Rattle.sq_top.specs.Scripts.{Done, Replay, Script, Stops, after_stream, made_limits, made_script, made_sources, made_streams, made_unread, with_sources}
+use Rattle.sq_top.specs.Messages.{name_at, source_name_in, network_if_ok}
+use Rattle.sq_top.specs.Scripts.{Done, AcceptedReplay, Script, Stops, after_stream, made_limits, made_script, made_sources, made_streams, made_unread, with_sources}
 
 -- the source at a place, where those before it were read
 module _ (bytes : List ℕ) (all : List Source) (vs : List (List Tuple)) (i : ℕ) (s : Source) (inside : i < length all) (at : s ≡ get_or all i s) (counted : length vs ≡ i)
-    (leads : (r : Replay) → made_streams bytes (with_sources r []) all ≡ made_streams bytes (with_sources r vs) (drop i all)) where
-  abbrev made_next : Replay → List Tuple → Script
+    (leads : (r : AcceptedReplay) → made_streams bytes (with_sources r []) all ≡ made_streams bytes (with_sources r vs) (drop i all)) where
+  abbrev made_next : AcceptedReplay → List Tuple → Script
   made_next r xs = made_streams bytes (with_sources r (vs ++ xs ∷ [])) (drop (i + 1) all)
 
-  made_here : (r : Replay) (e : Result (List Tuple) (ℕ × Why)) → stream_in s.schema bytes ≡ e
+  made_here : (r : AcceptedReplay) (e : Result (List Tuple) (ℕ × Why)) → stream_in s.schema bytes ≡ e
       → made_streams bytes (with_sources r []) all ≡ after_stream (length vs) (made_next r) e
   made_here r e said =
       let left : drop i all ≡ s ∷ drop (i + 1) all = drop_more all i s inside ∙ ap (λ (x : Source). x ∷ drop (i + 1) all) (sym at) in
       leads r ∙ ap (made_streams bytes (with_sources r vs)) left ∙ ap (after_stream (length vs) (made_next r)) said
 
-  pub made_on : (xs : List Tuple) → stream_in s.schema bytes ≡ Ok xs → (r : Replay)
+  pub made_on : (xs : List Tuple) → stream_in s.schema bytes ≡ Ok xs → (r : AcceptedReplay)
       → made_streams bytes (with_sources r []) all ≡ made_streams bytes (with_sources r (vs ++ xs ∷ [])) (drop (i + 1) all)
   made_on xs said r = made_here r (Ok xs) said
 
@@ -80,12 +80,12 @@ module _ (number rows : ℕ) (made : Made) (is : made ≡ made_of number rows) w
       bad_streams result source (inl memory) = inl memory
       bad_streams result source (inr (at, s, line, why, there, leads, bad)) =
           let found : network_in (made_of number rows).net ≡ Ok n = ap (λ (m : Made). network_in m.net) (sym is) ∙ named in
-          let name : source ≡ name_at at (network_of (network_in (made_of number rows).net)) = bad.1 ∙ sym (ap (λ o. name_at at (network_of o)) found ∙ ap name_in there) in
+          let name : source ≡ name_at at (network_if_ok (network_in (made_of number rows).net)) = bad.1 ∙ sym (ap (λ o. name_at at (network_if_ok o)) found ∙ ap source_name_in there) in
           made_refused (status.BadStream at line why) source (inr (tt, script_then ∙ leads (made_unread number n entries), name)) result bad.0
 
       -- or it is accepted
       pub made_accepted : (vs : List (List Tuple)) (picks : List ℕ) → picks ≡ []
-          → ((r : Replay) → made_streams made.stream (with_sources r []) n.sources ≡ Done (with_sources r vs))
+          → ((r : AcceptedReplay) → made_streams made.stream (with_sources r []) n.sources ≡ Done (with_sources r vs))
           → made_script number (made_of number rows) ≡ Done (record (with_sources (made_unread number n entries) vs) { picks = picks })
       made_accepted vs picks none leads =
           script_then ∙ leads (made_unread number n entries) ∙ ap (λ ps. Done (record (with_sources (made_unread number n entries) vs) { picks = ps })) (sym none)

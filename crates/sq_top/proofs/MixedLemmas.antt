@@ -9,7 +9,7 @@ use Rattle.sq_value.specs.Classes.{Class, Shown, Dropped, Planned, Ended, is_of_
 use Rattle.sq_value.proofs.ListLemmas.{same_bytes-refl, same_bytes-true}
 use Rattle.sq_top.specs.Due.{Due}
 use Rattle.sq_top.specs.Answers.{is_classed}
-use Rattle.sq_top.specs.Orders.{IsOrder}
+use Rattle.sq_top.specs.Orders.{IsLineOrder}
 use Rattle.sq_top.proofs.ClassLemmas.{IsLineOf, TellsClasses, all_map, and_true}
 use Rattle.sq_top.proofs.DueLemmas.{IsWholeList, all_other, all_whole, shown_test, tells, whole_order}
 use Rattle.sq_top.proofs.SortedLines.{filter_same, list_all-back, list_all-front}
@@ -112,5 +112,5 @@ module _ (a b : List ℕ) (xs ys ended : List (List ℕ)) (differ : same_bytes a
         }
 
     -- each way to mix them is an order of writing
-    pub mixed_order : IsOrder two (lines ++ ended)
+    pub mixed_order : IsLineOrder two (lines ++ ended)
     mixed_order = whole_order two s (lines ++ ended) mixed_whole

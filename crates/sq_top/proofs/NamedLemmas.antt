@@ -9,7 +9,7 @@ use Rattle.sq_value.specs.Lists.{are_distinct, contains_bytes, numbers_to, same_
 use Rattle.sq_value.specs.LineTexts.{output_line}
 use Rattle.sq_value.proofs.ListLemmas.{same_bytes-true, same_bytes-refl}
 use Rattle.sq_net.specs.declared.Output.{Output}
-use Rattle.sq_top.specs.Due.{Answer, dropped_from, shown_from}
+use Rattle.sq_top.specs.Due.{Answer, dropped_from, shown_at_output}
 use Rattle.sq_top.proofs.SortedLines.{and-true}
 use Rattle.sq_top.proofs.ClassLemmas.{not_true, or_first, or_true}
 
@@ -60,11 +60,11 @@ picked_one false name x os e = rw e refl
 
 module _ (a : Answer) where
   -- of the outputs with this name none has lines
-  none_picked : (os : List Output) (ss : List ℕ) (name : List ℕ) → contains_bytes name (map (λ x. x.name) os) ≡ false → picked name (map (shown_from a) (zip os ss)) ≡ []
+  none_picked : (os : List Output) (ss : List ℕ) (name : List ℕ) → contains_bytes name (map (λ x. x.name) os) ≡ false → picked name (map (shown_at_output a) (zip os ss)) ≡ []
   none_picked [] ss name none = refl
   none_picked (x ∷ os) [] name none = refl
   none_picked (x ∷ os) (s ∷ ss) name none =
-      picked_one false name (shown_from a (x, s)) (map (shown_from a) (zip os ss))
+      picked_one false name (shown_at_output a (x, s)) (map (shown_at_output a) (zip os ss))
       (not_true (same_bytes x.name name)
       (λ h. let e : same_bytes name x.name ≡ true = ap (same_bytes name) (same_bytes-true x.name name h) ∙ same_bytes-refl name in
       let some = or_first (same_bytes name x.name) (contains_bytes name (map (λ y. y.name) os)) e in
@@ -76,7 +76,7 @@ module _ (a : Answer) where
 
   -- the lines of the outputs with a name are those of the one that has it
   pub picked_at : (os : List Output) (ss : List ℕ) (o s : ℕ) (out : Output) → are_distinct (map (λ x. x.name) os) ≡ true → slice_get os o ≡ Some out → slice_get ss o ≡ Some s
-      → picked out.name (map (shown_from a) (zip os ss)) ≡ map (output_line out.name) (a.tuples s)
+      → picked out.name (map (shown_at_output a) (zip os ss)) ≡ map (output_line out.name) (a.tuples s)
   picked_at [] ss o s out d at there = absurd (cc)
   picked_at (x ∷ os) [] o s out d at there = absurd (cc)
   picked_at (x ∷ os) (r ∷ ss) zero s out d at there =
@@ -85,13 +85,13 @@ module _ (a : Answer) where
       let others = not_true (contains_bytes x.name (map (λ y. y.name) os))
       (λ h. let other = (and-true (not (contains_bytes x.name (map (λ y. y.name) os))) (are_distinct (map (λ y. y.name) os)) d).0 in
       let both : not true ≡ true = ap not (sym h) ∙ other in cc) in
-      subst (λ (y : Output). picked y.name (map (shown_from a) (zip (x ∷ os) (r ∷ ss))) ≡ map (output_line y.name) (a.tuples s)) is
-      (picked_one true x.name (shown_from a (x, r)) (map (shown_from a) (zip os ss)) (same_bytes-refl x.name)
+      subst (λ (y : Output). picked y.name (map (shown_at_output a) (zip (x ∷ os) (r ∷ ss))) ≡ map (output_line y.name) (a.tuples s)) is
+      (picked_one true x.name (shown_at_output a (x, r)) (map (shown_at_output a) (zip os ss)) (same_bytes-refl x.name)
       ∙ ap (λ ls. map (output_line x.name) (a.tuples r) ++ ls) (none_picked os ss x.name others)
       ∙ append-nil (map (output_line x.name) (a.tuples r))
       ∙ ap (λ k. map (output_line x.name) (a.tuples k)) same)
   picked_at (x ∷ os) (r ∷ ss) (suc o) s out d at there =
-      picked_one false out.name (shown_from a (x, r)) (map (shown_from a) (zip os ss))
+      picked_one false out.name (shown_at_output a (x, r)) (map (shown_at_output a) (zip os ss))
       (not_true (same_bytes x.name out.name) (λ h. none_named os x out o d at (same_bytes-true x.name out.name h)))
       ∙ picked_at os ss o s out (and-true (not (contains_bytes x.name (map (λ y. y.name) os))) (are_distinct (map (λ y. y.name) os)) d).1 at there
 
@@ -105,13 +105,13 @@ pub record HasOutput (os : List Output) (ss : List ℕ) (name : List ℕ) : Type
   pub same : output.name ≡ name
 
 output_first : (t : Bool) (a : Answer) (x : Output) (r : ℕ) (os : List Output) (ss : List ℕ) (name : List ℕ) → same_bytes x.name name ≡ t
-    → (list_any (λ y. same_bytes y.0 name) (map (shown_from a) (zip os ss)) ≡ true → HasOutput os ss name)
-    → list_any (λ y. same_bytes y.0 name) (map (shown_from a) (zip (x ∷ os) (r ∷ ss))) ≡ true → HasOutput (x ∷ os) (r ∷ ss) name
+    → (list_any (λ y. same_bytes y.0 name) (map (shown_at_output a) (zip os ss)) ≡ true → HasOutput os ss name)
+    → list_any (λ y. same_bytes y.0 name) (map (shown_at_output a) (zip (x ∷ os) (r ∷ ss))) ≡ true → HasOutput (x ∷ os) (r ∷ ss) name
 output_first true a x r os ss name e more h = record { at = 0; stream = r; output = x; there = refl; shows = refl; same = same_bytes-true x.name name e }
 output_first false a x r os ss name e more h =
     let m = more (rw e at h) in record { at = suc m.at; stream = m.stream; output = m.output; there = m.there; shows = m.shows; same = m.same }
 
-pub output_of : (a : Answer) (os : List Output) (ss : List ℕ) (name : List ℕ) → list_any (λ y. same_bytes y.0 name) (map (shown_from a) (zip os ss)) ≡ true
+pub output_of : (a : Answer) (os : List Output) (ss : List ℕ) (name : List ℕ) → list_any (λ y. same_bytes y.0 name) (map (shown_at_output a) (zip os ss)) ≡ true
     → HasOutput os ss name
 output_of a [] ss name h = absurd (cc)
 output_of a (x ∷ os) [] name h = absurd (cc)
@@ -119,15 +119,15 @@ output_of a (x ∷ os) (r ∷ ss) name h = output_first (same_bytes x.name name)
 
 -- each output that is there is one of those that are due
 pub due_at : (a : Answer) (os : List Output) (ss : List ℕ) (o : ℕ) (out : Output) → length ss ≡ length os → slice_get os o ≡ Some out
-    → list_any (λ y. same_bytes out.name y.0) (map (shown_from a) (zip os ss)) ≡ true
+    → list_any (λ y. same_bytes out.name y.0) (map (shown_at_output a) (zip os ss)) ≡ true
 due_at a [] ss o out even at = absurd (cc)
 due_at a (x ∷ os) [] o out even at = absurd (omega (arith, even))
 due_at a (x ∷ os) (r ∷ ss) zero out even at =
     let is : x ≡ out = cc in
-    or_first (same_bytes out.name x.name) (list_any (λ y. same_bytes out.name y.0) (map (shown_from a) (zip os ss)))
+    or_first (same_bytes out.name x.name) (list_any (λ y. same_bytes out.name y.0) (map (shown_at_output a) (zip os ss)))
     (ap (λ (y : Output). same_bytes out.name y.name) is ∙ same_bytes-refl out.name)
 due_at a (x ∷ os) (r ∷ ss) (suc o) out even at =
-    or_true (same_bytes out.name x.name) (list_any (λ y. same_bytes out.name y.0) (map (shown_from a) (zip os ss)))
+    or_true (same_bytes out.name x.name) (list_any (λ y. same_bytes out.name y.0) (map (shown_at_output a) (zip os ss)))
     (due_at a os ss o out (omega (arith, even)) at)
 
 -- what stands among the numbers from one on

@@ -9,9 +9,9 @@ use Rattle.sq_value.specs.Lists.{IsPrefixOf}
 use Rattle.sq_value.specs.Classes.{Class, Ended, is_of_class, of_class, whole_lines, unfinished}
 use Rattle.sq_value.proofs.LineLemmas.{AreLines, Cut, IsFront, cut_prefix, is_line, unfinished-cut, whole_lines-cut, whole_lines-lines, unfinished-lines}
 use Rattle.sq_top.specs.Due.{Due}
-use Rattle.sq_top.specs.Answers.{AreOthersAll, AreOthersWhole, BeginsNext, IsClassIn, IsPrefixText, IsWholeText, is_classed, lines_of}
-use Rattle.sq_replay.specs.Shown.{text_of}
-use Rattle.sq_top.specs.Orders.{AreAll, EachIsNext, IsNextOf, IsOrder}
+use Rattle.sq_top.specs.Answers.{AreOthersAll, AreOthersWhole, BeginsNext, IsClassIn, IsPrefixText, IsWholeText, is_classed, class_lines}
+use Rattle.sq_replay.specs.Shown.{lines_text}
+use Rattle.sq_top.specs.Orders.{AreAll, EachIsNext, IsNextOf, IsLineOrder}
 use Rattle.sq_top.proofs.ClassLemmas.{AreAlike, IsDueLine, TellsClasses, alike, all_append, all_middle, is_end, is_ended, lines_due, not_ended, plain_class}
 use Rattle.sq_top.proofs.SortedLines.{slice_get-next}
 
@@ -40,7 +40,7 @@ pub record EndsBehind (d : Due) (ls : List (List ℕ)) : Type 0 where
 
 -- what lines that were written have of each class
 pub record HaveSoFar (d : Due) (ls : List (List ℕ)) : Type 0 where
-  pub each : (k : Class) → IsClassIn d k → IsPrefixOf (filter (is_of_class k) ls) (lines_of d k)
+  pub each : (k : Class) → IsClassIn d k → IsPrefixOf (filter (is_of_class k) ls) (class_lines d k)
   pub classed : list_all (is_classed d) ls ≡ true
   pub lines : AreLines ls
   pub ends : (filter (is_of_class Ended) ls ≡ []) ⊎ AreOthersAll d ls
@@ -48,7 +48,7 @@ pub record HaveSoFar (d : Due) (ls : List (List ℕ)) : Type 0 where
 
 none_so_far : (d : Due) → HaveSoFar d []
 none_so_far d = record {
-  each = λ k here. (lines_of d k, refl);
+  each = λ k here. (class_lines d k, refl);
   classed = refl;
   lines = tt;
   ends = inl refl;
@@ -65,7 +65,7 @@ module _ (d : Due) (s : TellsClasses d) (ls : List (List ℕ)) (has : HaveSoFar 
   same_class : (k : Class) → IsClassIn d k → is_of_class k l ≡ true → AreAlike d c k
   same_class k here of = alike d c k l (plain_class d c s next.0) (plain_class d k s here) due.1 of
 
-  each_by : (t : Bool) (k : Class) → IsClassIn d k → is_of_class k l ≡ t → IsPrefixOf (filter (is_of_class k) (ls ++ l ∷ [])) (lines_of d k)
+  each_by : (t : Bool) (k : Class) → IsClassIn d k → is_of_class k l ≡ t → IsPrefixOf (filter (is_of_class k) (ls ++ l ∷ [])) (class_lines d k)
   each_by true k here of =
       let a = same_class k here of in (
         next.1.0,
@@ -149,7 +149,7 @@ all_so_far d s before (l ∷ ls) has order =
     subst (HaveSoFar d) (append_assoc before (l ∷ []) ls)
     (all_so_far d s (before ++ l ∷ []) ls (one_more d s before has l order.0.0 order.0.1) order.1)
 
-pub so_far : (d : Due) → TellsClasses d → (ls : List (List ℕ)) → IsOrder d ls → HaveSoFar d ls
+pub so_far : (d : Due) → TellsClasses d → (ls : List (List ℕ)) → IsLineOrder d ls → HaveSoFar d ls
 so_far d s ls order = all_so_far d s [] ls (none_so_far d) order
 
 -- an order up to a place, and from there on
@@ -167,13 +167,13 @@ order_both d before (x ∷ xs) ys first second =
     (first.0, order_both d (before ++ x ∷ []) xs ys first.1 (subst (λ b. EachIsNext d b ys) (sym (append_assoc before (x ∷ []) xs)) second))
 
 -- the step of a writer: an order goes on with the next line of a class
-pub order_more : (d : Due) (ls : List (List ℕ)) (l : List ℕ) (c : Class) → IsOrder d ls → IsNextOf d ls l c → IsOrder d (ls ++ l ∷ [])
+pub order_more : (d : Due) (ls : List (List ℕ)) (l : List ℕ) (c : Class) → IsLineOrder d ls → IsNextOf d ls l c → IsLineOrder d (ls ++ l ∷ [])
 order_more d ls l c order next = order_both d [] ls (l ∷ []) order ((c, next), tt)
 
 -- a text that begins the text of such lines
-module _ (d : Due) (s : TellsClasses d) (ls : List (List ℕ)) (order : IsOrder d ls) (text : List ℕ) (cut : Cut ls text) where
-  order_is : IsOrder d (cut.done ++ cut.rest)
-  order_is = subst (IsOrder d) cut.lines_are order
+module _ (d : Due) (s : TellsClasses d) (ls : List (List ℕ)) (order : IsLineOrder d ls) (text : List ℕ) (cut : Cut ls text) where
+  order_is : IsLineOrder d (cut.done ++ cut.rest)
+  order_is = subst (IsLineOrder d) cut.lines_are order
 
   done : HaveSoFar d cut.done
   done = so_far d s cut.done (order_front d [] cut.done cut.rest order_is)
@@ -206,7 +206,7 @@ module _ (d : Due) (s : TellsClasses d) (ls : List (List ℕ)) (order : IsOrder 
       sym (take-append-drop f.size f.next) ∙ ap (λ x. x ++ drop f.size f.next) (sym f.part_is ∙ sym unfinished_is),
     )
 
-    next_line : slice_get (lines_of d next.0) (length (of_class next.0 text)) ≡ Some f.next
+    next_line : slice_get (class_lines d next.0) (length (of_class next.0 text)) ≡ Some f.next
     next_line =
         let p = is_of_class next.0 in
         let prefix = next.1.1 in
@@ -219,7 +219,7 @@ module _ (d : Due) (s : TellsClasses d) (ls : List (List ℕ)) (order : IsOrder 
 
   prefix_of_order : IsPrefixText d text
   prefix_of_order = record {
-    lines = λ k here. subst (λ xs. IsPrefixOf xs (lines_of d k)) (sym (class_is k)) (done.each k here);
+    lines = λ k here. subst (λ xs. IsPrefixOf xs (class_lines d k)) (sym (class_is k)) (done.each k here);
     classed = rw whole_is done.classed;
     begun = elim cut.part_is [
       | inl none ↦ inl (unfinished_is ∙ none)
@@ -229,18 +229,18 @@ module _ (d : Due) (s : TellsClasses d) (ls : List (List ℕ)) (order : IsOrder 
   }
 
 -- each beginning of their text has a prefix of each class
-pub prefix_text : (d : Due) (ls : List (List ℕ)) (text : List ℕ) → TellsClasses d → IsOrder d ls → IsPrefixOf text (text_of ls) → IsPrefixText d text
+pub prefix_text : (d : Due) (ls : List (List ℕ)) (text : List ℕ) → TellsClasses d → IsLineOrder d ls → IsPrefixOf text (lines_text ls) → IsPrefixText d text
 prefix_text d ls text s order prefix = prefix_of_order d s ls order text (cut_prefix ls text prefix)
 
 -- where they are all, their text is whole
-pub whole_text : (d : Due) (ls : List (List ℕ)) → TellsClasses d → IsOrder d ls → AreAll d ls → IsWholeText d (text_of ls)
+pub whole_text : (d : Due) (ls : List (List ℕ)) → TellsClasses d → IsLineOrder d ls → AreAll d ls → IsWholeText d (lines_text ls)
 whole_text d ls s order all =
     let has = so_far d s ls order in
-    let lines_is : whole_lines (text_of ls) ≡ ls = sym (ap whole_lines (append-nil (text_of ls))) ∙ whole_lines-lines ls [] has.lines refl in
+    let lines_is : whole_lines (lines_text ls) ≡ ls = sym (ap whole_lines (append-nil (lines_text ls))) ∙ whole_lines-lines ls [] has.lines refl in
     let behind = has.behind in
     record {
       lines = λ k here. ap (filter (is_of_class k)) lines_is ∙ all k here;
       classed = rw lines_is has.classed;
-      finished = sym (ap unfinished (append-nil (text_of ls))) ∙ unfinished-lines ls [] has.lines refl;
+      finished = sym (ap unfinished (append-nil (lines_text ls))) ∙ unfinished-lines ls [] has.lines refl;
       ends_last = (behind.front, lines_is ∙ behind.lines_are ∙ ap (λ xs. behind.front ++ xs) (all Ended tt), behind.others);
     }

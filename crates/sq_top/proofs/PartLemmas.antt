@@ -32,15 +32,15 @@ use Rattle.sq_tap.specs.declared.TapErr.{TapErr}
 use Rattle.sq_tap.specs.declared.TapErr.TheVariants as error
 use Rattle.sq_tap.specs.Joining.{joined}
 use Rattle.sq_tap.specs.Names.{stream_named}
-use Rattle.sq_tap.specs.Parts.{full_output, part_of}
+use Rattle.sq_tap.specs.Parts.{full_output, stream_from}
 use Rattle.sq_tap.proofs.Grafts.{answers_joined}
 use Rattle.sq_tap.proofs.Naming.{named_there}
-use Rattle.sq_top.specs.Due.{answer_in, dropped_from, outputs_of, shown_from}
+use Rattle.sq_top.specs.Due.{answer_in, dropped_from, outputs_of, shown_at_output}
 use Rattle.sq_top.specs.Parts.{ShowsPart, ShowsRead, TapsShowParts}
 use Rattle.sq_top.specs.Reads.{GoesBy}
 use Rattle.sq_top.specs.declared.Status.{Status}
 use Rattle.sq_top.specs.declared.Status.TheVariants as status
-use Rattle.sq_top.specs.Scripts.{Done, Replay, Script, Stops, after_query, after_stream, after_streams, after_tap, after_tapped, after_words, tap_script, tap_unread, with_sources}
+use Rattle.sq_top.specs.Scripts.{Done, AcceptedReplay, Script, Stops, after_query, after_stream, after_streams, after_tap, after_tapped, after_words, tap_script, tap_unread, with_sources}
 use Rattle.sq_top.specs.Taps.{Tapped, first_tick, tapped}
 use Rattle.sq_top.proofs.JoinLemmas.{kept_at, kept_few, kept_kinds_of, kept_one, tapped_sound}
 use Rattle.sq_top.proofs.SortedLines.{and-true}
@@ -117,15 +117,15 @@ module _ (n : Network) (sources : List (List Tuple)) (seed : ℕ) where
 -- outputs whose full answers are the same show the same
 same_shown : (net : Network) (sources : List (List Tuple)) (seed : ℕ) (q : Network) (part : List Tuple) → ((o : ℕ) → full_output net sources o ≡ full_output q (part ∷ []) o)
     → (os : List (Output × ℕ))
-    → map (shown_from (answer_in (record { network = net; sources = sources; entries = []; seed = seed }))) os ≡ map (λ o. ((o.0).name, map (output_line (o.0).name) (full_output q (part ∷ []) o.1))) os
+    → map (shown_at_output (answer_in (record { network = net; sources = sources; entries = []; seed = seed }))) os ≡ map (λ o. ((o.0).name, map (output_line (o.0).name) (full_output q (part ∷ []) o.1))) os
 same_shown net sources seed q part same [] = refl
 same_shown net sources seed q part same (o ∷ os) =
     ap₂ (λ ts rest. ((o.0).name, map (output_line (o.0).name) ts) ∷ rest) (answer_full net sources seed o.1 ∙ same o.1) (same_shown net sources seed q part same os)
 
-module _ (n q : Network) (stream from : ℕ) (sources : List (List Tuple)) (answers : (o : ℕ) → full_output (joined n stream from q) sources o ≡ full_output q (part_of n sources stream from ∷ []) o) where
+module _ (n q : Network) (stream from : ℕ) (sources : List (List Tuple)) (answers : (o : ℕ) → full_output (joined n stream from q) sources o ≡ full_output q (stream_from n sources stream from ∷ []) o) where
   joined_shows : (first : ℕ) → ShowsPart n q stream from (with_sources (tap_unread (record { network = joined n stream from q; first = first })) sources)
   joined_shows first = record {
-    shown = same_shown (joined n stream from q) sources 0 q (part_of n sources stream from) answers (outputs_of q);
+    shown = same_shown (joined n stream from q) sources 0 q (stream_from n sources stream from) answers (outputs_of q);
     dropped = no_drop_lines (joined n stream from q) sources 0 (numbers_to (drops_in (joined n stream from q)));
     planned = ap (map _) (no_plans (joined n stream from q) sources 0 _);
   }
@@ -141,28 +141,28 @@ shows_part n q name stream from t sources sound asked recorded named said =
 
 -- ---- what is accepted of a tap
 
-none_stops : (told : Option Files) (read : List (List ℕ × List ℕ)) (s : Status) (r : Replay) → GoesBy told read (Stops s) (Done r) → ⊥
+none_stops : (told : Option Files) (read : List (List ℕ × List ℕ)) (s : Status) (r : AcceptedReplay) → GoesBy told read (Stops s) (Done r) → ⊥
 none_stops told [] s r goes = absurd (cc)
 none_stops told (given ∷ read) s r goes = goes
 
 -- what comes of the sources are their streams
-record AreStreamsOf (p r : Replay) : Type 0 where
+record AreStreamsOf (p r : AcceptedReplay) : Type 0 where
   is : with_sources p r.sources ≡ r
   streams : AllByRecursion IsStream r.sources
 
-all_read : (p r : Replay) → AllByRecursion IsStream p.sources → p ≡ r → AreStreamsOf p r
+all_read : (p r : AcceptedReplay) → AllByRecursion IsStream p.sources → p ≡ r → AreStreamsOf p r
 all_read p r h same = subst (AreStreamsOf p) same (record { is = refl; streams = h })
 
-own : (p r : Replay) → Done p ≡ Done r → p ≡ r
+own : (p r : AcceptedReplay) → Done p ≡ Done r → p ≡ r
 own p r e = cc
 
-module _ (told : Option Files) (r : Replay) where
+module _ (told : Option Files) (r : AcceptedReplay) where
   stream_read : (s : Source) (bytes : List ℕ) (number : ℕ) (more : List Tuple → Script) (read : List (List ℕ × List ℕ)) (Q : Type 0) (o : Result (List Tuple) (ℕ × Why)) → stream_in s.schema bytes ≡ o
       → ((xs : List Tuple) → stream_in s.schema bytes ≡ Ok xs → GoesBy told read (more xs) (Done r) → Q) → GoesBy told read (after_stream number more o) (Done r) → Q
   stream_read s bytes number more read Q (Ok xs) said rest goes = rest xs said goes
   stream_read s bytes number more read Q (Err w) said rest goes = absurd (none_stops told read (status.BadStream number w.0 w.1) r goes)
 
-  streams_read : (read : List (List ℕ × List ℕ)) (p : Replay) (left : List Source) → list_all source_within left ≡ true → AllByRecursion IsStream p.sources
+  streams_read : (read : List (List ℕ × List ℕ)) (p : AcceptedReplay) (left : List Source) → list_all source_within left ≡ true → AllByRecursion IsStream p.sources
       → GoesBy told read (after_streams p left) (Done r) → AreStreamsOf p r
   streams_read [] p [] within h goes = all_read p r h (own p r goes)
   streams_read [] p (s ∷ left) within h goes = absurd (cc)

@@ -26,11 +26,11 @@ use Rattle.sq_top.specs.declared.Status.{Status}
 use Rattle.sq_top.specs.declared.Status.TheVariants as status
 use Rattle.sq_top.specs.Commands.{command_in, reads_folder, runs_engine}
 use Rattle.sq_top.specs.Taps.{Tapped, first_tick, tapped}
-use Rattle.sq_top.specs.Scripts.{Replay, Script, Reads, Done, Stops, after_capacities, after_network, after_picks, after_stream, after_query, after_streams, after_tap, after_tapped, after_words, audit_script, capacities_script, followed_by, made_limits, made_sources, made_streams, made_unread, picks_script, plain_args, run_script, script_of, tap_script, tap_unread, text_script, unread, with_sources}
-use Rattle.sq_top.specs.Reads.{GoesBy, IsRead, Leads, LeadsWith, network_read}
+use Rattle.sq_top.specs.Scripts.{AcceptedReplay, Script, Reads, Done, Stops, after_capacities, after_network, after_picks, after_stream, after_query, after_streams, after_tap, after_tapped, after_words, audit_script, capacities_script, followed_by, made_limits, made_sources, made_streams, made_unread, picks_script, plain_args, run_script, script_of, tap_script, tap_unread, text_script, unread, with_sources}
+use Rattle.sq_top.specs.Reads.{GoesBy, IsFileRead, ScriptLeads, LeadsWith, network_read}
 use Rattle.sq_top.specs.Causes.{is_plain_end}
 use Rattle.sq_top.proofs.JoinLemmas.{tapped_sound}
-use Rattle.sq_top.specs.Told.{FilePart, NetworkFile, CapacityFile, PicksFile, StreamFile, TextFile, is_named, limit_of, may_be}
+use Rattle.sq_top.specs.Told.{FilePart, NetworkFile, CapacityFile, PicksFile, StreamFile, TextFile, is_named_file, limit_of, may_be}
 
 pub goes_then : (told : Option Files) (read more : List (List ℕ × List ℕ)) (a b c : Script) → GoesBy told read a b → GoesBy told more b c → GoesBy told (read ++ more) a c
 goes_then told [] more a b c ab bc = subst (λ x. GoesBy told more x c) (sym ab) bc
@@ -45,17 +45,17 @@ none_given before now same = same ∙ sym (append-nil before)
 pub given_then : (before mid now read more : List (List ℕ × List ℕ)) → mid ≡ before ++ read → now ≡ mid ++ more → now ≡ before ++ (read ++ more)
 given_then before mid now read more first next = next ∙ ap (λ (xs : List (List ℕ × List ℕ)). xs ++ more) first ∙ append_assoc before read more
 
-pub leads_self : (told : Option Files) (before : List (List ℕ × List ℕ)) (s : Script) → Leads told before before s s
+pub leads_self : (told : Option Files) (before : List (List ℕ × List ℕ)) (s : Script) → ScriptLeads told before before s s
 leads_self told before s = ([], refl, none_given before before refl)
 
-pub leads_still : (told : Option Files) (before mid now : List (List ℕ × List ℕ)) (a b : Script) → Leads told before mid a b → now ≡ mid → Leads told before now a b
+pub leads_still : (told : Option Files) (before mid now : List (List ℕ × List ℕ)) (a b : Script) → ScriptLeads told before mid a b → now ≡ mid → ScriptLeads told before now a b
 leads_still told before mid now a b ab same = (ab.0, ab.1, same ∙ ab.2)
 
-pub leads_then : (told : Option Files) (before mid now : List (List ℕ × List ℕ)) (a b c : Script) → Leads told before mid a b → Leads told mid now b c → Leads told before now a c
+pub leads_then : (told : Option Files) (before mid now : List (List ℕ × List ℕ)) (a b c : Script) → ScriptLeads told before mid a b → ScriptLeads told mid now b c → ScriptLeads told before now a c
 leads_then told before mid now a b c ab bc = (ab.0 ++ bc.0, goes_then told ab.0 bc.0 a b c ab.1 bc.1, given_then before mid now ab.0 bc.0 ab.2 bc.2)
 
 pub leads_read : (told : Option Files) (name : List ℕ) (limit : ℕ) (more : List ℕ → Script) (before now : List (List ℕ × List ℕ)) (bytes : List ℕ)
-    → IsRead told name limit before now bytes → Leads told before now (Reads name limit more) (more bytes)
+    → IsFileRead told name limit before now bytes → ScriptLeads told before now (Reads name limit more) (more bytes)
 leads_read told name limit more before now bytes got = ((name, bytes) ∷ [], (refl, got.0, refl), got.1)
 
 -- the network was read first
@@ -69,7 +69,7 @@ network_stays (Some (command.Audit net text)) n (given ∷ read) more e = e
 network_stays (Some (command.Tap net stream tick history query)) n [] more e = absurd (cc)
 network_stays (Some (command.Tap net stream tick history query)) n (given ∷ read) more e = e
 
-pub with_then : (told : Option Files) (words : List (List ℕ)) (n : Network) (before mid now : List (List ℕ × List ℕ)) (a b : Script) → LeadsWith told before mid words n a → Leads told mid now a b
+pub with_then : (told : Option Files) (words : List (List ℕ)) (n : Network) (before mid now : List (List ℕ × List ℕ)) (a b : Script) → LeadsWith told before mid words n a → ScriptLeads told mid now a b
     → LeadsWith told before now words n b
 with_then told words n before mid now a b wa ab = (
   wa.0 ++ ab.0,
@@ -80,16 +80,16 @@ with_then told words n before mid now a b wa ab = (
 
 -- the words lead there, whatever the network is
 pub words_lead : (told : Option Files) (words : List (List ℕ)) (n : Network) (before now : List (List ℕ × List ℕ)) (a : Script) → LeadsWith told before now words n a
-    → Leads told before now (script_of words) a
+    → ScriptLeads told before now (script_of words) a
 words_lead told words n before now a wa = (wa.0, wa.1, wa.3)
 
 -- P of what is accepted in the end, Q of each rule and R of each file, whatever is read
-abbrev pub Holds : (Replay → Type 0) → (Status → Type 0) → (List ℕ → ℕ → Type 0) → Script → Type 0
+abbrev pub Holds : (AcceptedReplay → Type 0) → (Status → Type 0) → (List ℕ → ℕ → Type 0) → Script → Type 0
 Holds P Q R (Reads name limit more) = R name limit × ((bytes : List ℕ) → Holds P Q R (more bytes))
 Holds P Q R (Done r) = P r
 Holds P Q R (Stops s) = Q s
 
-pub goes_holds : (P : Replay → Type 0) (Q : Status → Type 0) (R : List ℕ → ℕ → Type 0) (told : Option Files) (read : List (List ℕ × List ℕ)) (from to : Script)
+pub goes_holds : (P : AcceptedReplay → Type 0) (Q : Status → Type 0) (R : List ℕ → ℕ → Type 0) (told : Option Files) (read : List (List ℕ × List ℕ)) (from to : Script)
     → GoesBy told read from to → Holds P Q R from → Holds P Q R to
 goes_holds P Q R told [] from to goes holds = subst (Holds P Q R) goes holds
 goes_holds P Q R told (given ∷ read) (Reads name limit more) to goes holds = goes_holds P Q R told read (more given.1) to goes.2 (holds.1 given.1)
@@ -97,7 +97,7 @@ goes_holds P Q R told (given ∷ read) (Done r) to goes holds = absurd goes
 goes_holds P Q R told (given ∷ read) (Stops s) to goes holds = absurd goes
 
 -- a script and what comes behind it
-pub holds_then : (P : Replay → Type 0) (Q : Status → Type 0) (R : List ℕ → ℕ → Type 0) (next : Replay → Script) → ((r : Replay) → P r → Holds P Q R (next r)) → (s : Script)
+pub holds_then : (P : AcceptedReplay → Type 0) (Q : Status → Type 0) (R : List ℕ → ℕ → Type 0) (next : AcceptedReplay → Script) → ((r : AcceptedReplay) → P r → Holds P Q R (next r)) → (s : Script)
     → Holds P Q R s → Holds P Q R (followed_by s next)
 holds_then P Q R next rest (Reads name limit more) holds = (holds.0, λ bytes. holds_then P Q R next rest (more bytes) (holds.1 bytes))
 holds_then P Q R next rest (Done r) holds = rest r holds
@@ -130,7 +130,7 @@ stream_holds : (c : Option Command) (number : ℕ) (more : List Tuple → Script
 stream_holds c number more (Ok xs) rest = rest xs
 stream_holds c number more (Err e) rest = (refl, λ plain. refl)
 
-streams_hold : (c : Option Command) → reads_folder c ≡ true → (p : Replay) (left : List Source) → IsSound p.network → HoldsFor c (after_streams p left)
+streams_hold : (c : Option Command) → reads_folder c ≡ true → (p : AcceptedReplay) (left : List Source) → IsSound p.network → HoldsFor c (after_streams p left)
 streams_hold c run p [] f = f
 streams_hold c run p (s ∷ left) f = (
   (StreamFile, run, refl),
@@ -142,8 +142,8 @@ module _ (args : RunArgs) (n : Network) (f : IsSound n) where
   abbrev asked : Option Command
   asked = Some (command.Run args)
 
-  named_self : (o : Option (List ℕ)) (name : List ℕ) → o ≡ Some name → is_named o name ≡ true
-  named_self o name is = subst (λ x. is_named x name ≡ true) (sym is) (same_bytes-refl name)
+  named_self : (o : Option (List ℕ)) (name : List ℕ) → o ≡ Some name → is_named_file o name ≡ true
+  named_self o name is = subst (λ x. is_named_file x name ≡ true) (sym is) (same_bytes-refl name)
 
   picks_hold : (entries : Entries) (o : Result (List ℕ) ℕ) → HoldsFor asked (after_picks args n entries o)
   picks_hold entries (Ok picks) = streams_hold asked refl (unread args n entries picks) n.sources f
@@ -166,7 +166,7 @@ network_holds args bytes (Ok n) said = limited_hold args n (network_sound bytes 
 network_holds args bytes (Err e) said = (refl, λ plain. refl)
 
 -- and what is made
-made_streams_hold : (c : Option Command) (stream : List ℕ) (p : Replay) (left : List Source) → IsSound p.network → HoldsFor c (made_streams stream p left)
+made_streams_hold : (c : Option Command) (stream : List ℕ) (p : AcceptedReplay) (left : List Source) → IsSound p.network → HoldsFor c (made_streams stream p left)
 made_streams_hold c stream p [] f = f
 made_streams_hold c stream p (s ∷ left) f =
     stream_holds c (length p.sources) (λ xs. made_streams stream (with_sources p (p.sources ++ xs ∷ [])) left) (stream_in s.schema stream)

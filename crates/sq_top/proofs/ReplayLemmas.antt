@@ -10,18 +10,18 @@ use Rattle.sq_net.specs.declared.Network.{Network}
 use Rattle.sq_net.specs.Sound.{IsSound}
 use Rattle.sq_oper.specs.declared.outs.Event.{Event}
 use Rattle.sq_oper.specs.declared.outs.Decision.{Decision}
-use Rattle.sq_replay.specs.Shown.{boxes_from, end_lines_from, text_of}
+use Rattle.sq_replay.specs.Shown.{boxes_from, end_lines_from, lines_text}
 use Rattle.sq_place.specs.declared.DropPoint.{DropPoint}
 use Rattle.sq_points.specs.Points.{points_of, drops_in}
 use Rattle.sq_model.specs.Shedding.{Replay, record_of}
 use Rattle.sq_start.specs.Nets.{decision_on, drop_decisions}
 use Rattle.sq_core.specs.declared.engine.Engine.{Engine}
-use Rattle.sq_core.specs.Runs.{fed_at, late_at}
+use Rattle.sq_core.specs.Runs.{fed_at, late_at_seat}
 use Rattle.sq_top.specs.declared.Status.{Status}
 use Rattle.sq_top.specs.Due.{Due, answer_in, due_in, ended_in, fed_in, late_in}
 use Rattle.sq_top.specs.Answers.{IsPrefixText, IsWholeText}
 use Rattle.sq_top.specs.Causes.{AppendsSuch}
-use Rattle.sq_top.specs.Driving.{Begins, IsDriven, IsEventAt, IsHalted, ends_text, history_text}
+use Rattle.sq_top.specs.Driving.{BeginsAnswer, IsDriven, IsEventAt, IsHalted, ends_text, history_text}
 use Rattle.sq_top.proofs.ClassLemmas.{IsLineOf}
 use Rattle.sq_top.proofs.EndLemmas.{all_ended, appends_all, few_drops}
 use Rattle.sq_top.proofs.HistoryLemmas.{beginning_of_history, whole_of_history}
@@ -60,7 +60,7 @@ module _ (r : Replay) (first : ℕ) (sound : IsSound r.network) where
   few : drops_in r.network < 2 ^ 64
   few = few_drops r.network sound
 
-  prefix_due : (history : List Event) → AllByRecursion (IsEventAt r.network) history → Begins r.network (answer_in r) history
+  prefix_due : (history : List Event) → AllByRecursion (IsEventAt r.network) history → BeginsAnswer r.network (answer_in r) history
       → (text : List ℕ) → IsPrefixOf text (history_text r.network history) → IsPrefixText due text
   prefix_due history shown begins text part =
       prefix_of_history r.network (answer_in r) own history sound (ended_in r first) ends few shown begins text part
@@ -69,7 +69,7 @@ module _ (r : Replay) (first : ℕ) (sound : IsSound r.network) where
   pub replay_waits : (before : Option (List ℕ)) → AppendsSuch before before (IsPrefixText due)
   replay_waits before =
       let a = answer_in r in
-      let nothing : Begins r.network a [] = record { lines = λ o low. (a.tuples o, refl); drops = λ w low. (a.decisions w, refl); plans = (a.plans, refl) } in
+      let nothing : BeginsAnswer r.network a [] = record { lines = λ o low. (a.tuples o, refl); drops = λ w low. (a.decisions w, refl); plans = (a.plans, refl) } in
       appends_all before before [] (IsPrefixText due) (sym (appended-nil before)) (prefix_due [] tt nothing [] ([], refl))
 
   -- the run stopped on its way
@@ -79,18 +79,18 @@ module _ (r : Replay) (first : ℕ) (sound : IsSound r.network) where
       appends_all before now part.0 (IsPrefixText due) part.2 (prefix_due halted.events halted.shown halted.first part.0 part.1)
 
   module _ (engine : Engine) (same : engine.network ≡ r.network) (before mid : Option (List ℕ)) (begun steps : ℕ) (driven : IsDriven r [] engine before mid begun steps) where
-    ends_are : ends_text first engine ≡ text_of due.ended
+    ends_are : ends_text first engine ≡ lines_text due.ended
     ends_are =
-        ap (λ (m : Network). text_of (end_lines_from m first (map (fed_at engine) (numbers_to (length m.boxes))) (map (late_at engine) (numbers_to (length m.boxes))))) same
-        ∙ ap₂ (λ fed late. text_of (end_lines_from r.network first fed late))
-        (same_numbers (fed_at engine) (fed_in r) (length r.network.boxes) driven.fed) (same_numbers (late_at engine) (late_in r) (length r.network.boxes) driven.late)
+        ap (λ (m : Network). lines_text (end_lines_from m first (map (fed_at engine) (numbers_to (length m.boxes))) (map (late_at_seat engine) (numbers_to (length m.boxes))))) same
+        ∙ ap₂ (λ fed late. lines_text (end_lines_from r.network first fed late))
+        (same_numbers (fed_at engine) (fed_in r) (length r.network.boxes) driven.fed) (same_numbers (late_at_seat engine) (late_in r) (length r.network.boxes) driven.late)
 
     -- its lines are all written
     pub replay_ends : (now : Option (List ℕ)) → now ≡ appended mid (ends_text first engine) → AppendsSuch before now (IsWholeText due)
     replay_ends now written =
         let lines = history_text r.network driven.events in
-        appends_all before now (lines ++ text_of due.ended) (IsWholeText due)
-        (written ∙ ap₂ appended driven.written ends_are ∙ appended-append before lines (text_of due.ended))
+        appends_all before now (lines ++ lines_text due.ended) (IsWholeText due)
+        (written ∙ ap₂ appended driven.written ends_are ∙ appended-append before lines (lines_text due.ended))
         (whole_of_history r.network sound (answer_in r) (ended_in r first) ends few driven.events driven.shown driven.all)
 
     -- a part of the end lines is lost

@@ -15,13 +15,13 @@ use Rattle.sq_oper.specs.declared.outs.Event.{Event}
 use Rattle.sq_oper.specs.declared.outs.Decision.{Decision}
 use Rattle.sq_oper.specs.declared.outs.Event.TheVariants.{Line, Dropped as Decided, Plan}
 use Rattle.sq_plan.specs.declared.closing.Shown.{Shown as ShownPlan}
-use Rattle.sq_replay.specs.Shown.{event_line, text_of}
-use Rattle.sq_flow.specs.Events.{drop_in, drops_of, line_of, lines_of}
+use Rattle.sq_replay.specs.Shown.{event_line, lines_text}
+use Rattle.sq_flow.specs.Events.{drop_in, drops_of, line_in, lines_of}
 use Rattle.sq_flow.specs.Plans.{plan_in, plans_of}
 use Rattle.sq_points.specs.Points.{drops_in}
 use Rattle.sq_top.specs.Due.{Answer, due_from}
 use Rattle.sq_top.specs.Answers.{IsPrefixText}
-use Rattle.sq_top.specs.Driving.{Begins, Completes, IsEventAt, history_text}
+use Rattle.sq_top.specs.Driving.{BeginsAnswer, Completes, IsEventAt, history_text}
 use Rattle.sq_top.proofs.ClassLemmas.{IsLineOf, all_append, not_true}
 use Rattle.sq_top.proofs.HistoryLemmas.{beginning_of_history, drop_kept, drop_left, line_kept, line_left}
 
@@ -32,7 +32,7 @@ record Reads {X : Type 0} (read : List Event → List X) : Type 0 where
 
 lines_joined : (o : ℕ) (xs ys : List Event) → lines_of o (xs ++ ys) ≡ lines_of o xs ++ lines_of o ys
 lines_joined o [] ys = refl
-lines_joined o (x ∷ xs) ys = ap (λ ts. line_of o x ++ ts) (lines_joined o xs ys) ∙ sym (append_assoc (line_of o x) (lines_of o xs) (lines_of o ys))
+lines_joined o (x ∷ xs) ys = ap (λ ts. line_in o x ++ ts) (lines_joined o xs ys) ∙ sym (append_assoc (line_in o x) (lines_of o xs) (lines_of o ys))
 
 drops_joined : (w : ℕ) (xs ys : List Event) → drops_of w (xs ++ ys) ≡ drops_of w xs ++ drops_of w ys
 drops_joined w [] ys = refl
@@ -225,7 +225,7 @@ module _ (n : Network) (a : Answer) (own : (w : ℕ) → AllByRecursion (λ d. d
       (parts_blind dropped_part plans_of reads_plans (λ w. plans_of_drops (drops_left w)) (drops_in n))
       (plans_own plans_left)
 
-  made_whole : Begins n a history → Completes n a (history ++ still)
+  made_whole : BeginsAnswer n a history → Completes n a (history ++ still)
   made_whole begins = record {
     lines = λ o low. lines_joined o history still ∙ ap (λ xs. lines_of o history ++ xs) (still_lines o low) ∙ rest_is (lines_of o history) (a.tuples o) (begins.lines o low);
     drops = λ w low. drops_joined w history still ∙ ap (λ xs. drops_of w history ++ xs) (still_drops w low) ∙ rest_is (drops_of w history) (a.decisions w) (begins.drops w low);
@@ -234,9 +234,9 @@ module _ (n : Network) (a : Answer) (own : (w : ℕ) → AllByRecursion (λ d. d
 
   -- where the first of an answer was shown, each beginning of the text is one of a whole text
   pub prefix_of_history : IsSound n → (ended : List (List ℕ)) → AllByRecursion (IsLineOf Ended) ended → drops_in n < 2 ^ 64
-      → AllByRecursion (IsEventAt n) history → Begins n a history → (text : List ℕ) → IsPrefixOf text (history_text n history) → IsPrefixText (due_from n a ended) text
+      → AllByRecursion (IsEventAt n) history → BeginsAnswer n a history → (text : List ℕ) → IsPrefixOf text (history_text n history) → IsPrefixText (due_from n a ended) text
   prefix_of_history sound ended ends few shown begins text part =
-      let behind = text_of ended in
+      let behind = lines_text ended in
       beginning_of_history n sound a ended ends few (history ++ still) (all_append (IsEventAt n) history still shown still_shown) (made_whole begins) text (
         part.0 ++ (history_text n still ++ behind),
         ap (λ whole. whole ++ behind) (flat_map-append (event_line n) history still) ∙ append_assoc (history_text n history) (history_text n still) behind

@@ -28,9 +28,9 @@ use Rattle.sq_top.specs.declared.Command.TheVariants as command
 use Rattle.sq_top.specs.declared.Status.TheVariants as status
 use Rattle.sq_top.specs.Commands.{command_in}
 use Rattle.sq_top.specs.Due.{all_text, due_of, replayed, work_in}
-use Rattle.sq_top.specs.Answers.{lines_of}
+use Rattle.sq_top.specs.Answers.{class_lines}
 use Rattle.sq_top.specs.Messages.{message_of}
-use Rattle.sq_top.specs.Scripts.{Replay, accepted, after_network, followed_by, outcome_of, plain_args, text_script, unread, with_sources, with_text}
+use Rattle.sq_top.specs.Scripts.{AcceptedReplay, accepted, after_network, followed_by, outcome_of, plain_args, text_script, unread, with_sources, with_text}
 
 abbrev defaults : List ℕ → RunArgs
 defaults net = record { net = net; capacities = None; seed = 0; rule = rule.RoundRobin; picks = None; train = 16; frames = 256 }
@@ -146,21 +146,21 @@ abbrev at : ℕ → ℕ → Tuple
 at t v = record { time = t; fields = value.Int (pos v) ∷ [] }
 
 -- a network and the tuples of its sources, under what words say by default
-abbrev of_tuples : Network → List (List Tuple) → Replay
+abbrev of_tuples : Network → List (List Tuple) → AcceptedReplay
 of_tuples n sources = with_sources (unread (defaults (codes "a.toml")) n [] []) sources
 
-abbrev replay : Replay
+abbrev replay : AcceptedReplay
 replay = of_tuples network ((at 1 10 ∷ at 3 11 ∷ at 3 12 ∷ []) ∷ (at 2 20 ∷ at 3 21 ∷ []) ∷ [])
 
 text_is : all_text (due_of replay) ≡ codes "o,1,10\no,2,20\no,3,11\no,3,12\no,3,21\n@box,u,5\n@end\n"
 unfolding digits
 text_is = refl
 
-shown_is : of_class (Shown (codes "o")) (all_text (due_of replay)) ≡ lines_of (due_of replay) (Shown (codes "o"))
+shown_is : of_class (Shown (codes "o")) (all_text (due_of replay)) ≡ class_lines (due_of replay) (Shown (codes "o"))
 unfolding digits
 shown_is = refl
 
-ended_is : of_class Ended (all_text (due_of replay)) ≡ lines_of (due_of replay) Ended
+ended_is : of_class Ended (all_text (due_of replay)) ≡ class_lines (due_of replay) Ended
 unfolding digits
 ended_is = refl
 
@@ -172,7 +172,7 @@ work_is = refl
 abbrev sort_box : Node
 sort_box = record { name = codes "bs"; body = BSort 0 0; schemas = ((codes "at", kind.Int) ∷ []) ∷ []; cost = 1; selectivity = 1000 ∷ [] }
 
-abbrev sorted : Replay
+abbrev sorted : AcceptedReplay
 sorted =
     of_tuples (record {
       epoch = 1000;
@@ -211,7 +211,7 @@ nested = record {
   outputs = output ∷ [];
 }
 
-abbrev fed : Replay
+abbrev fed : AcceptedReplay
 fed = of_tuples nested (map (λ t. at t t) (numbers_to 16) ∷ [])
 
 nested_work : work_in (replayed fed) ≡ 44
@@ -219,7 +219,7 @@ unfolding state_after
 nested_work = refl
 
 -- and where capacity lacks for two epochs
-abbrev short : Replay
+abbrev short : AcceptedReplay
 short = record fed { entries = (1, Some 0) ∷ (3, None) ∷ [] }
 
 short_text : all_text (due_of short)

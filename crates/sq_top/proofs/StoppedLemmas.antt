@@ -26,9 +26,9 @@ use Rattle.sq_plan.specs.Plans.{Entries}
 use Rattle.sq_replay.specs.Entries.{capacities_in, picks_in}
 use Rattle.sq_replay.specs.Streams.{stream_in}
 use Rattle.sq_top.specs.Commands.{command_in}
-use Rattle.sq_top.specs.Messages.{name_at, name_in, network_of}
-use Rattle.sq_top.specs.Scripts.{Script, Reads, Done, Stops, Replay, after_capacities, after_network, after_picks, after_stream, after_streams, after_words, capacities_script, picks_script, script_of, settings_limit, stream_limit, unread, with_sources}
-use Rattle.sq_top.specs.Reads.{AreBytesOf, GoesBy, IsRead, Leads, LeadsWith, network_read}
+use Rattle.sq_top.specs.Messages.{name_at, source_name_in, network_if_ok}
+use Rattle.sq_top.specs.Scripts.{Script, Reads, Done, Stops, AcceptedReplay, after_capacities, after_network, after_picks, after_stream, after_streams, after_words, capacities_script, picks_script, script_of, settings_limit, stream_limit, unread, with_sources}
+use Rattle.sq_top.specs.Reads.{AreBytesOf, GoesBy, IsFileRead, ScriptLeads, LeadsWith, network_read}
 use Rattle.sq_top.specs.Causes.{AreCapacitiesOf, ArePicksOf, HasNoCapacities, HasNoPicks, HasNoStream, HasNoStreams, IsNetworkFile, IsRefusedAt, IsRefusedBy, IsRule, IsStopped, IsStreamOf, IsUnread, NamesSource, hides_memory, is_refusal}
 use Rattle.sq_top.proofs.ReadsLemmas.{leads_read, leads_still, leads_then, none_given, with_then, words_lead}
 use Rattle.sq_top.proofs.SortedLines.{and-true}
@@ -52,7 +52,7 @@ memory_at told fb fn tb tn (Stops s) = inr refl
 memory_at told fb fn tb tn (Reads name limit more) = inl refl
 
 module _ (words : List (List ℕ)) (told : Option Files) (fb fn tb tn : ℕ) (rb rn : List (List ℕ × List ℕ)) (source : List ℕ) where
-  pub stopped_memory : (left : Script) → Leads told rb rn (script_of words) left → IsStopped words told fb fn tb tn rb rn status.Memory source
+  pub stopped_memory : (left : Script) → ScriptLeads told rb rn (script_of words) left → IsStopped words told fb fn tb tn rb rn status.Memory source
   stopped_memory left leads = record {
     read = leads.0;
     given = leads.2;
@@ -83,7 +83,7 @@ module _ (words : List (List ℕ)) (told : Option Files) (fb fn tb tn : ℕ) (rb
 
   -- any refusal but that the words are no command
   refused_at : (s : Status) → is_refusal s ≡ true → s ≢ status.Usage → hides_memory s ≡ false → IsSome (command_in words)
-      → (left : Script) (leads : Leads told rb rn (script_of words) left) → IsRefusedAt told fb fn tb tn s left → NamesSource words leads.0 s source
+      → (left : Script) (leads : ScriptLeads told rb rn (script_of words) left) → IsRefusedAt told fb fn tb tn s left → NamesSource words leads.0 s source
       → IsStopped words told fb fn tb tn rb rn s source
   refused_at s refused other rule some left leads why named = record {
     read = leads.0;
@@ -97,7 +97,7 @@ module _ (words : List (List ℕ)) (told : Option Files) (fb fn tb tn : ℕ) (rb
     no_memory = rule;
   }
 
-  pub stopped_rule : (s : Status) → IsRule s → IsSome (command_in words) → (leads : Leads told rb rn (script_of words) (Stops s))
+  pub stopped_rule : (s : Status) → IsRule s → IsSome (command_in words) → (leads : ScriptLeads told rb rn (script_of words) (Stops s))
       → NamesSource words leads.0 s source → IsStopped words told fb fn tb tn rb rn s source
   stopped_rule (status.BadNetwork rule) is some leads named =
       refused_at (status.BadNetwork rule) refl (λ e. cc) (not_memory rule is) some (Stops (status.BadNetwork rule)) leads (inl refl) named
@@ -113,7 +113,7 @@ module _ (words : List (List ℕ)) (told : Option Files) (fb fn tb tn : ℕ) (rb
       refused_at (status.BadStream number line why) refl (λ e. cc) refl some (Stops (status.BadStream number line why)) leads (inl refl) named
   stopped_rule s is some leads named = absurd is
 
-  pub stopped_unread : (name : List ℕ) (limit : ℕ) (more : List ℕ → Script) → IsSome (command_in words) → Leads told rb rn (script_of words) (Reads name limit more)
+  pub stopped_unread : (name : List ℕ) (limit : ℕ) (more : List ℕ → Script) → IsSome (command_in words) → ScriptLeads told rb rn (script_of words) (Reads name limit more)
       → (s : Status) → IsUnread told name limit fb fn tb tn s → IsStopped words told fb fn tb tn rb rn s source
   stopped_unread name limit more some leads s (inl e) = subst (λ x. IsStopped words told fb fn tb tn rb rn x source) (sym e) (stopped_memory (Reads name limit more) leads)
   stopped_unread name limit more some leads s (inr (inl fault)) = subst (λ x. IsStopped words told fb fn tb tn rb rn x source) (sym fault.0)
@@ -135,7 +135,7 @@ unread_later told name limit fb mid fn tb between tn s f t (inr (inr l)) = inr (
 -- the network's file, which is read first
 module _ (words : List (List ℕ)) (told : Option Files) (name : List ℕ) (next : Result Network NetErr → Script) (some : IsSome (command_in words))
     (script_is : script_of words ≡ Reads name settings_limit (λ bytes. next (network_in bytes))) (refuses : (e : NetErr) → next (Err e) ≡ Stops (status.BadNetwork e))
-    (reads : (bytes : List ℕ) → network_read (command_in words) ((name, bytes) ∷ []) ≡ network_of (network_in bytes)) where
+    (reads : (bytes : List ℕ) → network_read (command_in words) ((name, bytes) ∷ []) ≡ network_if_ok (network_in bytes)) where
   pub first_unread : (fb fn tb tn : ℕ) (rb rn : List (List ℕ × List ℕ)) (s : Status) (source : List ℕ) → rn ≡ rb → IsUnread told name settings_limit fb fn tb tn s
       → IsStopped words told fb fn tb tn rb rn s source
   first_unread fb fn tb tn rb rn s source same unread =
@@ -147,7 +147,7 @@ module _ (words : List (List ℕ)) (told : Option Files) (name : List ℕ) (next
   after_bytes bytes are r e = subst (λ x. GoesBy told ((name, bytes) ∷ []) x (next r)) (sym script_is) (refl, are, ap next e)
 
   pub first_leads : (rb rn : List (List ℕ × List ℕ)) (n : Network) → IsNetworkFile told name rb rn (Ok n) → LeadsWith told rb rn words n (next (Ok n))
-  first_leads rb rn n (bytes, got, said) = ((name, bytes) ∷ [], after_bytes bytes got.0 (Ok n) said, reads bytes ∙ ap network_of said, got.1)
+  first_leads rb rn n (bytes, got, said) = ((name, bytes) ∷ [], after_bytes bytes got.0 (Ok n) said, reads bytes ∙ ap network_if_ok said, got.1)
 
   pub first_refused : (fb fn tb tn : ℕ) (rb rn : List (List ℕ × List ℕ)) (e : NetErr) (result : Status) (source : List ℕ) → IsNetworkFile told name rb rn (Err e) → IsRefusedBy e result
       → IsStopped words told fb fn tb tn rb rn result source
@@ -167,16 +167,16 @@ module _ (words : List (List ℕ)) (args : RunArgs) (command : command_in words 
   pub run_reads : script_of words ≡ Reads args.net settings_limit (λ bytes. after_network args (network_in bytes))
   run_reads = ap after_words command
 
-  pub run_named : (bytes : List ℕ) → network_read (command_in words) ((args.net, bytes) ∷ []) ≡ network_of (network_in bytes)
+  pub run_named : (bytes : List ℕ) → network_read (command_in words) ((args.net, bytes) ∷ []) ≡ network_if_ok (network_in bytes)
   run_named bytes = ap (λ c. network_read c ((args.net, bytes) ∷ [])) command
 
   -- the capacity file: what reads gave before the run, before this file and now
   module _ (n : Network) (rb rm rn : List (List ℕ × List ℕ)) (leads : LeadsWith told rb rm words n (capacities_script args n args.capacities)) where
     -- what the file's bytes say comes next
-    after_capacity_file : (name bytes : List ℕ) (r : Result Entries ℕ) → capacities_in bytes ≡ r → IsRead told name settings_limit rm rn bytes
-        → Leads told rm rn (capacities_script args n (Some name)) (after_capacities args n r)
+    after_capacity_file : (name bytes : List ℕ) (r : Result Entries ℕ) → capacities_in bytes ≡ r → IsFileRead told name settings_limit rm rn bytes
+        → ScriptLeads told rm rn (capacities_script args n (Some name)) (after_capacities args n r)
     after_capacity_file name bytes r said got =
-        subst (λ x. Leads told rm rn (capacities_script args n (Some name)) (after_capacities args n x)) said
+        subst (λ x. ScriptLeads told rm rn (capacities_script args n (Some name)) (after_capacities args n x)) said
         (leads_read told name settings_limit (λ x. after_capacities args n (capacities_in x)) rm rn bytes got)
 
     capacities_lead : (o : Option (List ℕ)) (entries : Entries) → LeadsWith told rb rm words n (capacities_script args n o) → AreCapacitiesOf told rm rn o entries
@@ -194,7 +194,7 @@ module _ (words : List (List ℕ)) (args : RunArgs) (command : command_in words 
     stopped_capacities fb fn tb tn s source missing = by args.capacities leads missing
       where
         after : (name : List ℕ) → LeadsWith told rb rm words n (capacities_script args n (Some name)) → (bytes : List ℕ) (r : Result Entries ℕ) → capacities_in bytes ≡ r
-            → IsRead told name settings_limit rm rn bytes → Leads told rb rn (script_of words) (after_capacities args n r)
+            → IsFileRead told name settings_limit rm rn bytes → ScriptLeads told rb rn (script_of words) (after_capacities args n r)
         after name to bytes r said got = words_lead told words n rb rn _ (with_then told words n rb rm rn _ _ to (after_capacity_file name bytes r said got))
 
         by : (o : Option (List ℕ)) → LeadsWith told rb rm words n (capacities_script args n o) → HasNoCapacities told o fb fn tb tn rm rn s
@@ -213,10 +213,10 @@ module _ (words : List (List ℕ)) (args : RunArgs) (command : command_in words 
   -- the picks file
   module _ (n : Network) (entries : Entries) (rb rm rn : List (List ℕ × List ℕ)) (leads : LeadsWith told rb rm words n (picks_script args n entries args.picks)) where
     -- what the file's bytes say comes next
-    after_picks_file : (name bytes : List ℕ) (r : Result (List ℕ) ℕ) → picks_in bytes ≡ r → IsRead told name settings_limit rm rn bytes
-        → Leads told rm rn (picks_script args n entries (Some name)) (after_picks args n entries r)
+    after_picks_file : (name bytes : List ℕ) (r : Result (List ℕ) ℕ) → picks_in bytes ≡ r → IsFileRead told name settings_limit rm rn bytes
+        → ScriptLeads told rm rn (picks_script args n entries (Some name)) (after_picks args n entries r)
     after_picks_file name bytes r said got =
-        subst (λ x. Leads told rm rn (picks_script args n entries (Some name)) (after_picks args n entries x)) said
+        subst (λ x. ScriptLeads told rm rn (picks_script args n entries (Some name)) (after_picks args n entries x)) said
         (leads_read told name settings_limit (λ x. after_picks args n entries (picks_in x)) rm rn bytes got)
 
     picks_lead : (o : Option (List ℕ)) (picks : List ℕ) → LeadsWith told rb rm words n (picks_script args n entries o) → ArePicksOf told rm rn o picks
@@ -233,7 +233,7 @@ module _ (words : List (List ℕ)) (args : RunArgs) (command : command_in words 
     stopped_picks fb fn tb tn s source missing = by args.picks leads missing
       where
         after : (name : List ℕ) → LeadsWith told rb rm words n (picks_script args n entries (Some name)) → (bytes : List ℕ) (r : Result (List ℕ) ℕ) → picks_in bytes ≡ r
-            → IsRead told name settings_limit rm rn bytes → Leads told rb rn (script_of words) (after_picks args n entries r)
+            → IsFileRead told name settings_limit rm rn bytes → ScriptLeads told rb rn (script_of words) (after_picks args n entries r)
         after name to bytes r said got = words_lead told words n rb rn _ (with_then told words n rb rm rn _ _ to (after_picks_file name bytes r said got))
 
         by : (o : Option (List ℕ)) → LeadsWith told rb rm words n (picks_script args n entries o) → HasNoPicks told o fb fn tb tn rm rn s
@@ -258,23 +258,23 @@ few_sources n sound =
     at_most k h = grind (arith, nat_tests)
 
 -- the next source, behind those that were read: what reads gave before it and now
-module _ (told : Option Files) (rm rn : List (List ℕ × List ℕ)) (r : Replay) (s : Source) (left : List Source) where
+module _ (told : Option Files) (rm rn : List (List ℕ × List ℕ)) (r : AcceptedReplay) (s : Source) (left : List Source) where
   abbrev after_source : List Tuple → Script
   after_source xs = after_streams (with_sources r (r.sources ++ xs ∷ [])) left
 
-  after_file : (bytes : List ℕ) (e : Result (List Tuple) (ℕ × Why)) → stream_in s.schema bytes ≡ e → IsRead told s.file stream_limit rm rn bytes
-      → Leads told rm rn (after_streams r (s ∷ left)) (after_stream (length r.sources) after_source e)
+  after_file : (bytes : List ℕ) (e : Result (List Tuple) (ℕ × Why)) → stream_in s.schema bytes ≡ e → IsFileRead told s.file stream_limit rm rn bytes
+      → ScriptLeads told rm rn (after_streams r (s ∷ left)) (after_stream (length r.sources) after_source e)
   after_file bytes e said got =
-      subst (λ x. Leads told rm rn (after_streams r (s ∷ left)) (after_stream (length r.sources) after_source x)) said
+      subst (λ x. ScriptLeads told rm rn (after_streams r (s ∷ left)) (after_stream (length r.sources) after_source x)) said
       (leads_read told s.file stream_limit (λ x. after_stream (length r.sources) after_source (stream_in s.schema x)) rm rn bytes got)
 
   pub source_leads : (xs : List Tuple) → IsStreamOf told rm rn s xs
-      → Leads told rm rn (after_streams r (s ∷ left)) (after_streams (with_sources r (r.sources ++ xs ∷ [])) left)
+      → ScriptLeads told rm rn (after_streams r (s ∷ left)) (after_streams (with_sources r (r.sources ++ xs ∷ [])) left)
   source_leads xs is = after_file is.0 (Ok xs) is.1 is.2
 
   -- a source whose tuples aren't there stops the reading
-  pub no_streams : (start : Replay) (all : List Source) (fb fn tb tn : ℕ) (rb : List (List ℕ × List ℕ)) (result : Status) (source : List ℕ)
-      → Leads told rb rm (after_streams start all) (after_streams r (s ∷ left)) → slice_get all (length r.sources) ≡ Some s
+  pub no_streams : (start : AcceptedReplay) (all : List Source) (fb fn tb tn : ℕ) (rb : List (List ℕ × List ℕ)) (result : Status) (source : List ℕ)
+      → ScriptLeads told rb rm (after_streams start all) (after_streams r (s ∷ left)) → slice_get all (length r.sources) ≡ Some s
       → HasNoStream told (length r.sources) s fb fn tb tn rm rn result source → HasNoStreams told start all fb fn tb tn rb rn result source
   no_streams start all fb fn tb tn rb result source leads at (inl missed) =
       inl (s, (λ bytes. after_stream (length r.sources) after_source (stream_in s.schema bytes)), leads_still told rb rm rn _ _ leads missed.1, missed.0)
@@ -287,24 +287,24 @@ module _ (told : Option Files) (rm rn : List (List ℕ × List ℕ)) (r : Replay
   no_streams start all fb fn tb tn rb result source leads at (inr (bytes, got, inr (line, why, said, bad))) =
       inr (inl (length r.sources, s, line, why, at, leads_then told rb rm rn _ _ _ leads (after_file bytes (Err (line, why)) said got), bad))
 
-pub no_streams_later : (told : Option Files) (r : Replay) (all : List Source) (fb mid fn tb between tn : ℕ) (rb rn : List (List ℕ × List ℕ)) (result : Status) (source : List ℕ) → fb ≤ mid → tb ≤ between
+pub no_streams_later : (told : Option Files) (r : AcceptedReplay) (all : List Source) (fb mid fn tb between tn : ℕ) (rb rn : List (List ℕ × List ℕ)) (result : Status) (source : List ℕ) → fb ≤ mid → tb ≤ between
     → HasNoStreams told r all mid fn between tn rb rn result source → HasNoStreams told r all fb fn tb tn rb rn result source
 no_streams_later told r all fb mid fn tb between tn rb rn result source f t (inl (s, more, leads, missed)) =
     inl (s, more, leads, unread_later told s.file stream_limit fb mid fn tb between tn result f t missed)
 no_streams_later told r all fb mid fn tb between tn rb rn result source f t (inr bad) = inr bad
 
 -- the source at a place, where those before it were read
-module _ (told : Option Files) (rb rm rn : List (List ℕ × List ℕ)) (r : Replay) (all : List Source) (vs : List (List Tuple)) (i : ℕ) (s : Source)
+module _ (told : Option Files) (rb rm rn : List (List ℕ × List ℕ)) (r : AcceptedReplay) (all : List Source) (vs : List (List Tuple)) (i : ℕ) (s : Source)
     (inside : i < length all) (at : s ≡ get_or all i s) (counted : length vs ≡ i)
-    (leads : Leads told rb rm (after_streams (with_sources r []) all) (after_streams (with_sources r vs) (drop i all))) where
+    (leads : ScriptLeads told rb rm (after_streams (with_sources r []) all) (after_streams (with_sources r vs) (drop i all))) where
   left_is : drop i all ≡ s ∷ drop (i + 1) all
   left_is = drop_more all i s inside ∙ ap (λ (x : Source). x ∷ drop (i + 1) all) (sym at)
 
-  leads_here : Leads told rb rm (after_streams (with_sources r []) all) (after_streams (with_sources r vs) (s ∷ drop (i + 1) all))
-  leads_here = subst (λ xs. Leads told rb rm (after_streams (with_sources r []) all) (after_streams (with_sources r vs) xs)) left_is leads
+  leads_here : ScriptLeads told rb rm (after_streams (with_sources r []) all) (after_streams (with_sources r vs) (s ∷ drop (i + 1) all))
+  leads_here = subst (λ xs. ScriptLeads told rb rm (after_streams (with_sources r []) all) (after_streams (with_sources r vs) xs)) left_is leads
 
   pub leads_on : (xs : List Tuple) → IsStreamOf told rm rn s xs
-      → Leads told rb rn (after_streams (with_sources r []) all) (after_streams (with_sources r (vs ++ xs ∷ [])) (drop (i + 1) all))
+      → ScriptLeads told rb rn (after_streams (with_sources r []) all) (after_streams (with_sources r (vs ++ xs ∷ [])) (drop (i + 1) all))
   leads_on xs is = leads_then told rb rm rn _ _ _ leads_here (source_leads told rm rn (with_sources r vs) s (drop (i + 1) all) xs is)
 
   -- memory ran out for what was read
@@ -323,12 +323,12 @@ module _ (told : Option Files) (rb rm rn : List (List ℕ × List ℕ)) (r : Rep
       (subst (λ k. HasNoStream told k s mid fn between tn rm rn result source) (same ∙ sym counted) none))
 
 -- the sources of a network, which are those of the network that was read
-module _ (words : List (List ℕ)) (told : Option Files) (rb rm rn : List (List ℕ × List ℕ)) (r : Replay) (n : Network) (own : r.network.sources ≡ n.sources) (some : IsSome (command_in words))
+module _ (words : List (List ℕ)) (told : Option Files) (rb rm rn : List (List ℕ × List ℕ)) (r : AcceptedReplay) (n : Network) (own : r.network.sources ≡ n.sources) (some : IsSome (command_in words))
     (leads : LeadsWith told rb rm words n (after_streams (with_sources r []) r.network.sources)) where
   names_source : (read : List (List ℕ × List ℕ)) (number : ℕ) (s : Source) (line : ℕ) (why : Why) (source : List ℕ) → network_read (command_in words) read ≡ Some n
       → slice_get r.network.sources number ≡ Some s → source ≡ s.name → NamesSource words read (status.BadStream number line why) source
   names_source read number s line why source is at e =
-      e ∙ sym (ap (name_at number) is ∙ ap (λ (ss : List Source). name_in (slice_get ss number)) (sym own) ∙ ap name_in at)
+      e ∙ sym (ap (name_at number) is ∙ ap (λ (ss : List Source). source_name_in (slice_get ss number)) (sym own) ∙ ap source_name_in at)
 
   pub stopped_streams : (fb fn tb tn : ℕ) (result : Status) (source : List ℕ) → HasNoStreams told (with_sources r []) r.network.sources fb fn tb tn rm rn result source
       → IsStopped words told fb fn tb tn rb rn result source
@@ -345,7 +345,7 @@ module _ (words : List (List ℕ)) (told : Option Files) (rb rm rn : List (List 
       subst (λ x. IsStopped words told fb fn tb tn rb rn x source) (sym memory)
       (stopped_memory words told fb fn tb tn rb rn source left (words_lead told words n rb rn _ l))
 
-  pub accepted_streams : Leads told rm rn (after_streams (with_sources r []) r.network.sources) (Done r) → Leads told rb rn (script_of words) (Done r)
+  pub accepted_streams : ScriptLeads told rm rn (after_streams (with_sources r []) r.network.sources) (Done r) → ScriptLeads told rb rn (script_of words) (Done r)
   accepted_streams to = leads_then told rb rm rn _ _ _ (words_lead told words n rb rm _ leads) to
 
 pub no_picks_later : (told : Option Files) (fb mid fn tb between tn : ℕ) (rb rn : List (List ℕ × List ℕ)) (s : Status) (o : Option (List ℕ)) → fb ≤ mid → tb ≤ between

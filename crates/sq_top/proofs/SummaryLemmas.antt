@@ -5,7 +5,7 @@ use Rattle.sq_outside.specs.Sinks.{AppendsPrefix, appended}
 use Rattle.sq_net.specs.declared.Network.{Network}
 use Rattle.sq_model.specs.Shedding.{Replay}
 use Rattle.sq_core.specs.declared.engine.Engine.{Engine}
-use Rattle.sq_core.specs.Runs.{fed_at, late_at}
+use Rattle.sq_core.specs.Runs.{fed_at, late_at_seat}
 use Rattle.sq_top.specs.declared.Status.{Status}
 use Rattle.sq_top.specs.declared.Status.TheVariants as status
 use Rattle.sq_top.specs.declared.counting.Counts.{Counts}
@@ -25,16 +25,16 @@ module _ (number rows : ℕ) (r : Replay) where
   module _ (engine : Engine) (same : engine.network ≡ r.network) (counts : Counts) (begun steps : ℕ) (summed : IsSummed r engine counts begun steps) where
     summary_is : engine_summary number rows engine counts ≡ summary_of number rows r
     summary_is =
-        ap (λ (n : Network). summary_text number rows n counts.lines.items counts.drops.items (map (fed_at engine) (numbers_to (length n.boxes))) (map (late_at engine) (numbers_to (length n.boxes)))) same
-        ∙ ap (λ xs. summary_text number rows r.network xs counts.drops.items (map (fed_at engine) (numbers_to (length r.network.boxes))) (map (late_at engine) (numbers_to (length r.network.boxes)))) summed.lines
+        ap (λ (n : Network). summary_text number rows n counts.lines.items counts.drops.items (map (fed_at engine) (numbers_to (length n.boxes))) (map (late_at_seat engine) (numbers_to (length n.boxes)))) same
+        ∙ ap (λ xs. summary_text number rows r.network xs counts.drops.items (map (fed_at engine) (numbers_to (length r.network.boxes))) (map (late_at_seat engine) (numbers_to (length r.network.boxes)))) summed.lines
         ∙ ap (λ xs. summary_text number rows r.network (map (λ o. length ((answer_in r).tuples o)) (numbers_to (length r.network.outputs))) xs
-        (map (fed_at engine) (numbers_to (length r.network.boxes))) (map (late_at engine) (numbers_to (length r.network.boxes)))) summed.drops
+        (map (fed_at engine) (numbers_to (length r.network.boxes))) (map (late_at_seat engine) (numbers_to (length r.network.boxes)))) summed.drops
         ∙ ap (λ xs. summary_text number rows r.network (map (λ o. length ((answer_in r).tuples o)) (numbers_to (length r.network.outputs)))
-        (map (λ w. length ((answer_in r).decisions w)) (numbers_to (drops_in r.network))) xs (map (late_at engine) (numbers_to (length r.network.boxes))))
+        (map (λ w. length ((answer_in r).decisions w)) (numbers_to (drops_in r.network))) xs (map (late_at_seat engine) (numbers_to (length r.network.boxes))))
         (same_numbers (fed_at engine) (fed_in r) (length r.network.boxes) summed.fed)
         ∙ ap (λ xs. summary_text number rows r.network (map (λ o. length ((answer_in r).tuples o)) (numbers_to (length r.network.outputs)))
         (map (λ w. length ((answer_in r).decisions w)) (numbers_to (drops_in r.network))) (map (fed_in r) (numbers_to (length r.network.boxes))) xs)
-        (same_numbers (late_at engine) (late_in r) (length r.network.boxes) summed.late)
+        (same_numbers (late_at_seat engine) (late_in r) (length r.network.boxes) summed.late)
 
     -- it is all written
     pub summary_ends : (before now : Option (List ℕ)) → now ≡ appended before (engine_summary number rows engine counts)

@@ -12,9 +12,9 @@ use Rattle.sq_top.specs.declared.Status.{Status}
 use Rattle.sq_top.specs.declared.Status.TheVariants as status
 use Rattle.sq_top.specs.Commands.{command_in}
 use Rattle.sq_top.specs.Taps.{Tapped, tapped}
-use Rattle.sq_top.specs.Messages.{network_of}
-use Rattle.sq_top.specs.Scripts.{Done, Replay, Reads, after_query, after_streams, after_tap, after_tapped, after_words, query_script, script_of, settings_limit, tap_script, tap_unread}
-use Rattle.sq_top.specs.Reads.{IsRead, Leads, LeadsWith, network_read}
+use Rattle.sq_top.specs.Messages.{network_if_ok}
+use Rattle.sq_top.specs.Scripts.{Done, AcceptedReplay, Reads, after_query, after_streams, after_tap, after_tapped, after_words, query_script, script_of, settings_limit, tap_script, tap_unread}
+use Rattle.sq_top.specs.Reads.{IsFileRead, ScriptLeads, LeadsWith, network_read}
 use Rattle.sq_top.specs.Causes.{IsBadTap, IsNetworkFile, IsQueryRefused, IsStopped, IsUnread}
 use Rattle.sq_top.specs.Views.{IsAskedBy}
 use Rattle.sq_top.proofs.ReadsLemmas.{leads_read, leads_still, with_then, words_lead}
@@ -27,7 +27,7 @@ module _ (words : List (List ℕ)) (a : Asked) (asked : IsAskedBy a words) where
   pub tap_reads : script_of words ≡ Reads a.net settings_limit (λ bytes. after_tapped a.stream a.from a.query (network_in bytes))
   tap_reads = ap after_words asked.2 ∙ ap (λ k. tap_script a.net a.stream k a.query) (sym asked.3)
 
-  pub tap_named : (bytes : List ℕ) → network_read (command_in words) ((a.net, bytes) ∷ []) ≡ network_of (network_in bytes)
+  pub tap_named : (bytes : List ℕ) → network_read (command_in words) ((a.net, bytes) ∷ []) ≡ network_if_ok (network_in bytes)
   tap_named bytes = ap (λ c. network_read c ((a.net, bytes) ∷ [])) asked.2
 
 -- the query's file: what reads gave before the tap, before this file and now
@@ -39,11 +39,11 @@ module _ (words : List (List ℕ)) (told : Option Files) (stream : List ℕ) (fr
       (leads_still told rb rm rn _ _ (words_lead told words n rb rm _ leads) same) s unread
 
   -- what the file's bytes say comes next
-  after_file : (bytes : List ℕ) (r : Result Network NetErr) → network_in bytes ≡ r → IsRead told query settings_limit rm rn bytes
+  after_file : (bytes : List ℕ) (r : Result Network NetErr) → network_in bytes ≡ r → IsFileRead told query settings_limit rm rn bytes
       → LeadsWith told rb rn words n (after_query n stream from r)
   after_file bytes r said got =
       with_then told words n rb rm rn _ _ leads
-      (subst (λ x. Leads told rm rn (query_script stream from query n) (after_query n stream from x)) said
+      (subst (λ x. ScriptLeads told rm rn (query_script stream from query n) (after_query n stream from x)) said
       (leads_read told query settings_limit (λ x. after_query n stream from (network_in x)) rm rn bytes got))
 
   pub query_leads : (q : Network) → IsNetworkFile told query rm rn (Ok q) → LeadsWith told rb rn words n (after_query n stream from (Ok q))
@@ -76,8 +76,8 @@ module _ (words : List (List ℕ)) (told : Option Files) (stream : List ℕ) (fr
       (words_lead told words n rb rn _ (subst (λ x. LeadsWith told rb rn words n (after_tap x)) said leads)) tt)
 
 -- what was accepted, by the lists that the body made of nothing
-pub tap_accepted : (words : List (List ℕ)) (told : Option Files) (rb rn : List (List ℕ × List ℕ)) (r : Replay) (entries : Entries) (picks : List ℕ) → entries ≡ r.entries → picks ≡ r.picks
-    → Leads told rb rn (script_of words) (Done r) → Leads told rb rn (script_of words) (Done (record r { entries = entries; picks = picks }))
+pub tap_accepted : (words : List (List ℕ)) (told : Option Files) (rb rn : List (List ℕ × List ℕ)) (r : AcceptedReplay) (entries : Entries) (picks : List ℕ) → entries ≡ r.entries → picks ≡ r.picks
+    → ScriptLeads told rb rn (script_of words) (Done r) → ScriptLeads told rb rn (script_of words) (Done (record r { entries = entries; picks = picks }))
 tap_accepted words told rb rn r entries picks no-entries no-picks leads =
-    subst (λ (es : Entries). Leads told rb rn (script_of words) (Done (record r { entries = es; picks = picks }))) (sym no-entries)
-    (subst (λ (ps : List ℕ). Leads told rb rn (script_of words) (Done (record r { picks = ps }))) (sym no-picks) leads)
+    subst (λ (es : Entries). ScriptLeads told rb rn (script_of words) (Done (record r { entries = es; picks = picks }))) (sym no-entries)
+    (subst (λ (ps : List ℕ). ScriptLeads told rb rn (script_of words) (Done (record r { picks = ps }))) (sym no-picks) leads)

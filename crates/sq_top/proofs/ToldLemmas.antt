@@ -15,12 +15,12 @@ use Rattle.sq_top.specs.declared.Command.TheVariants as command
 use Rattle.sq_top.specs.declared.Status.{Status}
 use Rattle.sq_top.specs.declared.Status.TheVariants as status
 use Rattle.sq_top.specs.Commands.{command_in}
-use Rattle.sq_top.specs.Messages.{name_at, network_of}
-use Rattle.sq_top.specs.Scripts.{Lookup, Replay, Script, Reads, Done, Stops, accepted, after_words, go_on, outcome_of, readable, reads_of, script_of, settings_limit}
+use Rattle.sq_top.specs.Messages.{name_at, network_if_ok}
+use Rattle.sq_top.specs.Scripts.{Lookup, AcceptedReplay, Script, Reads, Done, Stops, accepted, after_words, go_on, outcome_of, readable, file_reads, script_of, settings_limit}
 use Rattle.sq_top.specs.Due.{due_of, replayed}
 use Rattle.sq_top.specs.Reads.{GoesBy, IfAccepted, network_read}
 use Rattle.sq_top.specs.Stopping.{is_garbled}
-use Rattle.sq_top.specs.Causes.{AppendsSuch, Ends, IsEngineOf, IsPrefixOfDue, IsRefusedAt, IsUnread, IsWholeOf, NamesSource, TellsFor, World, is_refusal, turns_for, work_for}
+use Rattle.sq_top.specs.Causes.{AppendsSuch, Ends, IsEngineOf, IsPrefixOfDue, IsRefusedAt, IsUnread, IsWholeOf, NamesSource, TellsFor, Outside, is_refusal, turns_for, work_for}
 use Rattle.sq_top.specs.Told.{EndsOver, FilePart, NetworkFile, CapacityFile, PicksFile, StreamFile, TextFile, FolderHasCause, HasFailedAt, MatchAccepted, NamesTold, limit_of, looked_at, may_be, network_named}
 use Rattle.sq_top.proofs.ClassLemmas.{TellsClasses}
 use Rattle.sq_top.proofs.EndLemmas.{begun_nothing, replay_tells_classes}
@@ -52,10 +52,10 @@ or_later false b h = h
 -- over these files a script comes to the same as what is left of it, and reads each file that that reads
 record Agrees (files : Lookup) (from to : Script) : Type 0 where
   outcome : outcome_of files from ≡ outcome_of files to
-  reads : (name : List ℕ) → contains_bytes name (reads_of files to) ≡ true → contains_bytes name (reads_of files from) ≡ true
+  reads : (name : List ℕ) → contains_bytes name (file_reads files to) ≡ true → contains_bytes name (file_reads files from) ≡ true
 
 goes_agrees : (files : Files) (read : List (List ℕ × List ℕ)) (from to : Script) → GoesBy (Some files) read from to → Agrees (file files) from to
-goes_agrees files [] from to e = record { outcome = ap (outcome_of (file files)) e; reads = λ name h. subst (λ s. contains_bytes name (reads_of (file files) s) ≡ true) (sym e) h }
+goes_agrees files [] from to e = record { outcome = ap (outcome_of (file files)) e; reads = λ name h. subst (λ s. contains_bytes name (file_reads (file files) s) ≡ true) (sym e) h }
 goes_agrees files (given ∷ read) (Reads name limit more) to goes =
     let rest = goes_agrees files read (more given.1) to goes.2 in
     record {
@@ -92,31 +92,31 @@ told_at (Some (command.Tap net stream tick history query)) told files name limit
 told_at (Some (command.Gen number rows)) told files name limit e part = absurd (no_part number rows name limit part)
 
 -- what is accepted over files is told by its classes
-read_holds : (files : Lookup) (P : Replay → Type 0) (more : List ℕ → Script) (r : Replay) → ((bytes : List ℕ) → outcome_of files (more bytes) ≡ Ok r → P r) → (o : Result (List ℕ) Status)
+read_holds : (files : Lookup) (P : AcceptedReplay → Type 0) (more : List ℕ → Script) (r : AcceptedReplay) → ((bytes : List ℕ) → outcome_of files (more bytes) ≡ Ok r → P r) → (o : Result (List ℕ) Status)
     → go_on (λ s. Err s) (λ bytes. outcome_of files (more bytes)) o ≡ Ok r → P r
 read_holds files P more r rest (Ok bytes) e = rest bytes e
 read_holds files P more r rest (Err s) e = absurd (cc)
 
-outcome_holds : (files : Lookup) (P : Replay → Type 0) (Q : Status → Type 0) (R : List ℕ → ℕ → Type 0) (s : Script) (r : Replay) → Holds P Q R s → outcome_of files s ≡ Ok r → P r
+outcome_holds : (files : Lookup) (P : AcceptedReplay → Type 0) (Q : Status → Type 0) (R : List ℕ → ℕ → Type 0) (s : Script) (r : AcceptedReplay) → Holds P Q R s → outcome_of files s ≡ Ok r → P r
 outcome_holds files P Q R (Reads name limit more) r holds e =
     read_holds files P more r (λ bytes. outcome_holds files P Q R (more bytes) r (holds.1 bytes)) (readable name limit (files name)) e
 outcome_holds files P Q R (Done x) r holds e = let same : x ≡ r = cc in subst P same holds
 outcome_holds files P Q R (Stops s) r holds e = absurd (cc)
 
-pub accepted_tells_classes : (files : Lookup) (words : List (List ℕ)) (r : Replay) → accepted files words ≡ Ok r → TellsClasses (due_of r)
+pub accepted_tells_classes : (files : Lookup) (words : List (List ℕ)) (r : AcceptedReplay) → accepted files words ≡ Ok r → TellsClasses (due_of r)
 accepted_tells_classes files words r e =
     let sound = outcome_holds files (λ x. IsSound x.network) (IsRuleOf (command_in words)) (IsPartOf (command_in words)) (script_of words) r (script_holds words) e in
     replay_tells_classes (replayed r) r.first sound
 
 -- by what is left of a script
-match_any : (o : Result Replay Status) (P : Replay → Type 0) (Q : Status → Type 0) → ((r : Replay) → o ≡ Ok r → P r) → ((s : Status) → o ≡ Err s → Q s) → MatchAccepted o P Q
+match_any : (o : Result AcceptedReplay Status) (P : AcceptedReplay → Type 0) (Q : Status → Type 0) → ((r : AcceptedReplay) → o ≡ Ok r → P r) → ((s : Status) → o ≡ Err s → Q s) → MatchAccepted o P Q
 match_any (Ok r) P Q p q = p r refl
 match_any (Err s) P Q p q = q s refl
 
-match_err : (o : Result Replay Status) (P : Replay → Type 0) (Q : Status → Type 0) (s : Status) → o ≡ Err s → Q s → MatchAccepted o P Q
+match_err : (o : Result AcceptedReplay Status) (P : AcceptedReplay → Type 0) (Q : Status → Type 0) (s : Status) → o ≡ Err s → Q s → MatchAccepted o P Q
 match_err o P Q s e q = subst (λ x. MatchAccepted x P Q) (sym e) q
 
-match_left : (files : Lookup) (left : Script) (P : Replay → Type 0) (Q : Status → Type 0) → IfAccepted left P ⊥ → MatchAccepted (outcome_of files left) P Q
+match_left : (files : Lookup) (left : Script) (P : AcceptedReplay → Type 0) (Q : Status → Type 0) → IfAccepted left P ⊥ → MatchAccepted (outcome_of files left) P Q
 match_left files (Done r) P Q h = h
 match_left files (Stops s) P Q h = absurd h
 match_left files (Reads name limit more) P Q h = absurd h
@@ -137,7 +137,7 @@ is_fault a b e = cc
 contains_first : (a b : List ℕ) (more : List (List ℕ)) → a ≡ b → contains_bytes b (a ∷ more) ≡ true
 contains_first a b more e = let same : same_bytes b a ≡ true = subst (λ x. same_bytes b x ≡ true) (sym e) (same_bytes-refl b) in rw same refl
 
-module _ (files : Files) (words : List (List ℕ)) (w : World) (result : Status) (source : List ℕ) (told : looked_at (command_in words) w.told ≡ Some files) (h : Ends words w result source) where
+module _ (files : Files) (words : List (List ℕ)) (w : Outside) (result : Status) (source : List ℕ) (told : looked_at (command_in words) w.told ≡ Some files) (h : Ends words w result source) where
   goes : GoesBy (Some files) h.read (script_of words) h.left
   goes = goes_told (command_in words) w.told files told h.read (script_of words) h.left (script_holds words) h.goes
 
@@ -147,7 +147,7 @@ module _ (files : Files) (words : List (List ℕ)) (w : World) (result : Status)
   holds : HoldsFor (command_in words) h.left
   holds = left_holds w.told words h.read h.left h.goes
 
-  at_left : (P : Replay → Type 0) (Q : Status → Type 0) → MatchAccepted (outcome_of (file files) h.left) P Q → MatchAccepted (accepted (file files) words) P Q
+  at_left : (P : AcceptedReplay → Type 0) (Q : Status → Type 0) → MatchAccepted (outcome_of (file files) h.left) P Q → MatchAccepted (accepted (file files) words) P Q
   at_left P Q m = subst (λ o. MatchAccepted o P Q) (sym agrees.outcome) m
 
   -- of a file that isn't read
@@ -161,7 +161,7 @@ module _ (files : Files) (words : List (List ℕ)) (w : World) (result : Status)
       (subst (λ t. IsUnread t name limit w.folder_before w.folder_now w.taken_before w.taken_now result) (told_at (command_in words) w.told files name limit told part) why)
 
   -- each way in which a run ends: all was accepted, a rule is broken, a file isn't read
-  ends_each : (P : Replay → Type 0) (Q : Status → Type 0) → ((r : Replay) → h.left ≡ Done r → is_refusal result ≡ false → P r)
+  ends_each : (P : AcceptedReplay → Type 0) (Q : Status → Type 0) → ((r : AcceptedReplay) → h.left ≡ Done r → is_refusal result ≡ false → P r)
       → ((s : Status) → h.left ≡ Stops s → is_rule s ≡ true → (result ≡ s) ⊎ (result ≡ status.Memory) → Q s)
       → ((name : List ℕ) (limit : ℕ) (more : List ℕ → Script) → h.left ≡ Reads name limit more → MatchAccepted (outcome_of (file files) (Reads name limit more)) P Q)
       → MatchAccepted (accepted (file files) words) P Q
@@ -210,22 +210,22 @@ module _ (files : Files) (words : List (List ℕ)) (w : World) (result : Status)
       by name limit more (inr (inl (fault, rose))) = match_any _ _ _ (λ r e. tt) (λ s e. inr (inr rose))
       by name limit more (inr (inr broken)) = match_err _ _ _ result broken (inl refl)
 
-  reached : (name : List ℕ) → result ≡ status.FolderFault name → contains_bytes name (reads_of (file files) (script_of words)) ≡ true
+  reached : (name : List ℕ) → result ≡ status.FolderFault name → contains_bytes name (file_reads (file files) (script_of words)) ≡ true
   reached name fault = by h.left refl (subst (λ x. IsRefusedAt w.told w.folder_before w.folder_now w.taken_before w.taken_now x h.left) fault h.refusal) holds
     where
       by : (left : Script) → h.left ≡ left → IsRefusedAt w.told w.folder_before w.folder_now w.taken_before w.taken_now (status.FolderFault name) left → HoldsFor (command_in words) left
-          → contains_bytes name (reads_of (file files) (script_of words)) ≡ true
+          → contains_bytes name (file_reads (file files) (script_of words)) ≡ true
       by (Done r) is why hold = absurd (cc)
       by (Stops s) is (inl same) hold = let both : is_rule (status.FolderFault name) ≡ true = ap is_rule same ∙ hold.0 in absurd (cc)
       by (Stops s) is (inr memory) hold = absurd (cc)
       by (Reads other limit more) is (inl memory) hold = absurd (cc)
       by (Reads other limit more) is (inr (inl why)) hold =
-          agrees.reads name (subst (λ s. contains_bytes name (reads_of (file files) s) ≡ true) (sym is)
-          (contains_first other name (go_on (λ s. []) (λ bytes. reads_of (file files) (more bytes)) (readable other limit (file files other))) (sym (is_fault name other why.0))))
+          agrees.reads name (subst (λ s. contains_bytes name (file_reads (file files) s) ≡ true) (sym is)
+          (contains_first other name (go_on (λ s. []) (λ bytes. file_reads (file files) (more bytes)) (readable other limit (file files other))) (sym (is_fault name other why.0))))
       by (Reads other limit more) is (inr (inr why)) hold = let no = why.0 in absurd (cc)
 
   -- a beginning of the answer, and nothing
-  abbrev First : Replay → Type 0
+  abbrev First : AcceptedReplay → Type 0
   First r = TellsFor (command_in words) w.pages → AppendsSuch w.out_before w.out_now (IsPrefixOfDue (command_in words) r result) × (w.steps_now ≤ w.steps_before + work_for (command_in words) r)
 
   abbrev Nothing : Type 0
@@ -267,17 +267,17 @@ module _ (files : Files) (words : List (List ℕ)) (w : World) (result : Status)
       absurd (not_unread args.net settings_limit number line why
       (subst (IsRefusedAt w.told w.folder_before w.folder_now w.taken_before w.taken_now (status.BadStream number line why)) (sym by) refused))
   same_network (Some (command.Run args)) (given ∷ read) left number line why by refused =
-      sym (ap (option_and_then (λ x. network_of (network_in x))) (readable-ok args.net settings_limit (file files args.net) given.1 by.1.1))
+      sym (ap (option_and_then (λ x. network_if_ok (network_in x))) (readable-ok args.net settings_limit (file files args.net) given.1 by.1.1))
   same_network (Some (command.Audit net text)) [] left number line why by refused =
       absurd (not_unread net settings_limit number line why
       (subst (IsRefusedAt w.told w.folder_before w.folder_now w.taken_before w.taken_now (status.BadStream number line why)) (sym by) refused))
   same_network (Some (command.Audit net text)) (given ∷ read) left number line why by refused =
-      sym (ap (option_and_then (λ x. network_of (network_in x))) (readable-ok net settings_limit (file files net) given.1 by.1.1))
+      sym (ap (option_and_then (λ x. network_if_ok (network_in x))) (readable-ok net settings_limit (file files net) given.1 by.1.1))
   same_network (Some (command.Tap net stream tick history query)) [] left number line why by refused =
       absurd (not_unread net settings_limit number line why
       (subst (IsRefusedAt w.told w.folder_before w.folder_now w.taken_before w.taken_now (status.BadStream number line why)) (sym by) refused))
   same_network (Some (command.Tap net stream tick history query)) (given ∷ read) left number line why by refused =
-      sym (ap (option_and_then (λ x. network_of (network_in x))) (readable-ok net settings_limit (file files net) given.1 by.1.1))
+      sym (ap (option_and_then (λ x. network_if_ok (network_in x))) (readable-ok net settings_limit (file files net) given.1 by.1.1))
 
   named_told : (s : Status) → IsRefusedAt w.told w.folder_before w.folder_now w.taken_before w.taken_now s h.left → NamesSource words h.read s source → NamesTold files words s source
   named_told (status.BadStream number line why) refused named =
@@ -297,7 +297,7 @@ module _ (files : Files) (words : List (List ℕ)) (w : World) (result : Status)
   }
 
 -- over every folder
-module _ (words : List (List ℕ)) (w : World) (result : Status) (source : List ℕ) (h : Ends words w result source) where
+module _ (words : List (List ℕ)) (w : Outside) (result : Status) (source : List ℕ) (h : Ends words w result source) where
   is_there : (o : Option Files) (name : List ℕ) → IsSomeAnd o (λ x. file x name ≡ None) → IsSome o
   is_there None name e = absurd e
   is_there (Some files) name e = refl

@@ -9,7 +9,7 @@ use Rattle.sq_value.specs.Texts.{are_digits, number_in}
 use Rattle.sq_top.specs.declared.RunArgs.{RunArgs}
 use Rattle.sq_top.specs.declared.Command.{Command}
 use Rattle.sq_top.specs.declared.Command.TheVariants as command
-use Rattle.sq_top.specs.Commands.{Given, Word, args_of, audit_args, command_in, gen_args, given_from, is_known, known_args, lone, may_name, number_or, number_within, rule_of, run_args, tap_args, tick_in, values_of}
+use Rattle.sq_top.specs.Commands.{Given, Word, args_of, audit_args, command_in, gen_args, given_from, is_known_option, known_args, lone, may_name, number_or, number_within, rule_of, run_args, tap_args, tick_in, option_values}
 use Rattle.sq_top.proofs.SortedLines.{and-true}
 
 within_least : (t : Bool) (low high : ℕ) (w : Word) (k : ℕ) → (are_digits 20 w && (nat_le low (number_in w) && nat_le (number_in w) high)) ≡ t → number_within low high w ≡ Some k → low ≤ k
@@ -33,26 +33,26 @@ bounded f (Some x) all = all x refl
 
 given_least : (gs : List Given) → HasLeast (args_of gs)
 given_least gs =
-    bounded _ (lone (values_of None gs))
+    bounded _ (lone (option_values None gs))
     (λ net e. bounded _ net
-    (λ file e2. bounded _ (lone (values_of (Some (codes "capacities")) gs))
-    (λ capacities e0. bounded _ (lone (values_of (Some (codes "seed")) gs))
-    (λ seed e3. bounded _ (lone (values_of (Some (codes "policy")) gs))
-    (λ policy e4. bounded _ (lone (values_of (Some (codes "picks")) gs))
-    (λ picks e5. bounded _ (lone (values_of (Some (codes "train")) gs))
-    (λ train e6. bounded _ (lone (values_of (Some (codes "frames")) gs))
+    (λ file e2. bounded _ (lone (option_values (Some (codes "capacities")) gs))
+    (λ capacities e0. bounded _ (lone (option_values (Some (codes "seed")) gs))
+    (λ seed e3. bounded _ (lone (option_values (Some (codes "policy")) gs))
+    (λ policy e4. bounded _ (lone (option_values (Some (codes "picks")) gs))
+    (λ picks e5. bounded _ (lone (option_values (Some (codes "train")) gs))
+    (λ train e6. bounded _ (lone (option_values (Some (codes "frames")) gs))
     (λ frames e1. bounded _ (number_or 0 0 (2 ^ 64 - 1) seed)
     (λ seed_is e7. bounded _ (number_or 16 1 4096 train)
     (λ train_is e8. bounded _ (number_or 256 2 16384 frames)
     (λ frames_is e10. bounded _ (rule_of policy picks)
     (λ rule_is e9. (number_least 16 1 4096 train train_is (omega arith) e8, number_least 256 2 16384 frames frames_is (omega arith) e10)))))))))))))
 
-known_least : (t : Bool) (gs : List Given) → list_all (λ g. is_known g.0) gs ≡ t → HasLeast (known_args gs)
+known_least : (t : Bool) (gs : List Given) → list_all (λ g. is_known_option g.0) gs ≡ t → HasLeast (known_args gs)
 known_least true gs e = rw e (given_least gs)
 known_least false gs e = rw e tt
 
 run_least : (ws : List Word) → HasLeast (run_args ws)
-run_least ws = bounded _ (given_from ws None) (λ gs e. known_least (list_all (λ g. is_known g.0) gs) gs refl)
+run_least ws = bounded _ (given_from ws None) (λ gs e. known_least (list_all (λ g. is_known_option g.0) gs) gs refl)
 
 -- a train is at least one step and frames are two, rows are within their limits, the network of an audit may be that of a run, and a
 -- tick is one

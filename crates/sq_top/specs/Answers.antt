@@ -7,11 +7,11 @@ use Rattle.sq_value.specs.Classes.{Class, Shown, Dropped, Planned, Ended, is_of_
 use Rattle.sq_top.specs.Due.{Due}
 
 -- the lines that belong to a class
-abbrev pub lines_of : Due → Class → List (List ℕ)
-lines_of d (Shown name) = flat_map (λ o. o.1) (filter (λ o. same_bytes o.0 name) d.shown)
-lines_of d (Dropped w) = flat_map (λ x. x.1) (filter (λ x. same_bytes (decimal x.0) (decimal w)) d.dropped)
-lines_of d Planned = d.planned
-lines_of d Ended = d.ended
+abbrev pub class_lines : Due → Class → List (List ℕ)
+class_lines d (Shown name) = flat_map (λ o. o.1) (filter (λ o. same_bytes o.0 name) d.shown)
+class_lines d (Dropped w) = flat_map (λ x. x.1) (filter (λ x. same_bytes (decimal x.0) (decimal w)) d.dropped)
+class_lines d Planned = d.planned
+class_lines d Ended = d.ended
 
 -- the classes of a run: one for each output, one for each drop, the plans and the end
 abbrev pub IsClassIn : Due → Class → Type 0
@@ -33,11 +33,11 @@ EndsLast d text =
 
 -- of each class but that of the end lines these lines are all
 abbrev pub AreOthersAll : Due → List (List ℕ) → Type 0
-AreOthersAll d lines = (c : Class) → IsClassIn d c → c ≢ Ended → filter (is_of_class c) lines ≡ lines_of d c
+AreOthersAll d lines = (c : Class) → IsClassIn d c → c ≢ Ended → filter (is_of_class c) lines ≡ class_lines d c
 
 -- the text has exactly the lines of each class, and nothing else
 pub record IsWholeText (d : Due) (text : List ℕ) : Type 0 where
-  pub lines : (c : Class) → IsClassIn d c → of_class c text ≡ lines_of d c
+  pub lines : (c : Class) → IsClassIn d c → of_class c text ≡ class_lines d c
   pub classed : list_all (is_classed d) (whole_lines text) ≡ true
   pub finished : unfinished text ≡ []
   pub ends_last : EndsLast d text
@@ -45,7 +45,7 @@ pub record IsWholeText (d : Due) (text : List ℕ) : Type 0 where
 -- what follows the last whole line begins the next line of a class
 abbrev pub BeginsNext : Due → List ℕ → Class → Type 0
 BeginsNext d text c =
-    IsClassIn d c × IsSomeAnd (slice_get (lines_of d c) (length (of_class c text))) (λ next. IsPrefixOf (unfinished text) next)
+    IsClassIn d c × IsSomeAnd (slice_get (class_lines d c) (length (of_class c text))) (λ next. IsPrefixOf (unfinished text) next)
 
 -- all classes but that of the end lines are whole
 abbrev pub AreOthersWhole : Due → List ℕ → Type 0
@@ -53,7 +53,7 @@ AreOthersWhole d text = AreOthersAll d (whole_lines text)
 
 -- the text has a prefix of the lines of each class, and maybe a part of one line
 pub record IsPrefixText (d : Due) (text : List ℕ) : Type 0 where
-  pub lines : (c : Class) → IsClassIn d c → IsPrefixOf (of_class c text) (lines_of d c)
+  pub lines : (c : Class) → IsClassIn d c → IsPrefixOf (of_class c text) (class_lines d c)
   pub classed : list_all (is_classed d) (whole_lines text) ≡ true
   pub begun : (unfinished text ≡ []) ⊎ ((c : Class) × BeginsNext d text c × (c ≡ Ended → AreOthersWhole d text))
   pub ends_last : of_class Ended text ≢ [] → AreOthersWhole d text

@@ -12,7 +12,7 @@ use Rattle.sq_value.specs.declared.Tuple.{Tuple}
 use Rattle.sq_net.specs.declared.NetErr.{NetErr}
 use Rattle.sq_net.specs.declared.NetErr.TheVariants as net
 use Rattle.sq_net.specs.declared.Network.{Network}
-use Rattle.sq_tables.specs.Refusals.{Answers, is_memory}
+use Rattle.sq_tables.specs.Refusals.{IsAnswerOf, is_memory}
 use Rattle.sq_reader.specs.Networks.{network_in}
 use Rattle.sq_tap.specs.declared.TapErr.{TapErr}
 use Rattle.sq_tap.specs.declared.TapErr.TheVariants as tap
@@ -27,9 +27,9 @@ use Rattle.sq_core.specs.declared.engine.Engine.{Engine}
 use Rattle.sq_audit.specs.Audits.{audit_of}
 use Rattle.sq_audit.specs.VerdictLines.{verdict_line}
 use Rattle.sq_top.specs.Commands.{command_in, runs_engine}
-use Rattle.sq_top.specs.Scripts.{Replay, Script, Reads, Done, Stops, after_streams, script_of, settings_limit, stream_limit}
+use Rattle.sq_top.specs.Scripts.{AcceptedReplay, Script, Reads, Done, Stops, after_streams, script_of, settings_limit, stream_limit}
 use Rattle.sq_top.specs.Taps.{Tapped}
-use Rattle.sq_top.specs.Reads.{WhereTold, GoesBy, IfAccepted, IsRead, Leads, source_read}
+use Rattle.sq_top.specs.Reads.{WhereTold, GoesBy, IfAccepted, IsFileRead, ScriptLeads, source_read}
 use Rattle.sq_top.specs.Due.{due_of, replayed, turns_in, work_in}
 use Rattle.sq_top.specs.Summaries.{summary_of}
 use Rattle.sq_top.specs.Messages.{message_of}
@@ -108,15 +108,15 @@ abbrev pub IsEngineOf : Script → Engine → Type 0
 IsEngineOf left engine = IfAccepted left (λ r. engine.network ≡ r.network) ⊥
 
 -- the line of the verdict on the text
-abbrev pub verdict_of : Replay → List ℕ
-verdict_of r = verdict_line (audit_of r.network r.sources r.text)
+abbrev pub verdict_text : AcceptedReplay → List ℕ
+verdict_text r = verdict_line (audit_of r.network r.sources r.text)
 
 -- the whole text of a command: the lines of each class, or the summary, or the line of the verdict
-abbrev pub IsWholeOf : Option Command → Replay → List ℕ → Type 0
+abbrev pub IsWholeOf : Option Command → AcceptedReplay → List ℕ → Type 0
 IsWholeOf None r text = IsWholeText (due_of r) text
 IsWholeOf (Some (command.Run args)) r text = IsWholeText (due_of r) text
 IsWholeOf (Some (command.Gen number rows)) r text = text ≡ summary_of number rows (replayed r)
-IsWholeOf (Some (command.Audit net out)) r text = text ≡ verdict_of r
+IsWholeOf (Some (command.Audit net out)) r text = text ≡ verdict_text r
 IsWholeOf (Some (command.Tap net stream tick history query)) r text = IsWholeText (due_of r) text
 
 -- a beginning of what is written at once: nothing, unless the output failed
@@ -127,11 +127,11 @@ abbrev pub BeginsSummary : ℕ → ℕ → model.Replay → Status → List ℕ 
 BeginsSummary number rows r result text = BeginsText (summary_of number rows r) result text
 
 -- what a command has written at this status: a prefix of the lines of each class, or a beginning of the summary or of the verdict
-abbrev pub IsPrefixOfDue : Option Command → Replay → Status → List ℕ → Type 0
+abbrev pub IsPrefixOfDue : Option Command → AcceptedReplay → Status → List ℕ → Type 0
 IsPrefixOfDue None r result text = IsPrefixText (due_of r) text
 IsPrefixOfDue (Some (command.Run args)) r result text = IsPrefixText (due_of r) text
 IsPrefixOfDue (Some (command.Gen number rows)) r result text = BeginsSummary number rows (replayed r) result text
-IsPrefixOfDue (Some (command.Audit net out)) r result text = BeginsText (verdict_of r) result text
+IsPrefixOfDue (Some (command.Audit net out)) r result text = BeginsText (verdict_text r) result text
 IsPrefixOfDue (Some (command.Tap net stream tick history query)) r result text = IsPrefixText (due_of r) text
 
 -- the disk is known at the end, where a command runs an engine: it is honest, or no page came back changed with the digest of what
@@ -140,10 +140,10 @@ abbrev pub TellsFor : Option Command → Option Pages → Type 0
 TellsFor c pages = runs_engine c ≡ true → Tells pages
 
 -- how many tuples an engine is fed for a command, each a step of the run, and how many items
-abbrev pub work_for : Option Command → Replay → ℕ
+abbrev pub work_for : Option Command → AcceptedReplay → ℕ
 work_for c r = if runs_engine c then work_in (replayed r) else 0
 
-abbrev pub turns_for : Option Command → Replay → ℕ
+abbrev pub turns_for : Option Command → AcceptedReplay → ℕ
 turns_for c r = if runs_engine c then turns_in (replayed r) else 0
 
 -- the message: whole, or a part of it where the sink for messages has failed
@@ -167,7 +167,7 @@ IsUnread told name limit faults_before faults_now taken_before taken_now result 
 abbrev pub IsUnreadOr : Option Files → List ℕ → ℕ → ℕ → ℕ → ℕ → ℕ → List (List ℕ × List ℕ) → List (List ℕ × List ℕ) → Status → (List ℕ → Type 0) → Type 0
 IsUnreadOr told name limit faults_before faults_now taken_before taken_now read_before read_now result P =
     (IsUnread told name limit faults_before faults_now taken_before taken_now result × (read_now ≡ read_before))
-    ⊎ ((bytes : List ℕ) × IsRead told name limit read_before read_now bytes × P bytes)
+    ⊎ ((bytes : List ℕ) × IsFileRead told name limit read_before read_now bytes × P bytes)
 
 -- which refusal comes, by what is left of a script: none where all was accepted; the status of the rule that is broken; or that of the
 -- file that isn't read. Memory may run out in place of each
@@ -207,17 +207,17 @@ IsBadTap said result = (result ≡ status.Memory) ⊎ ((e : TapErr) × (e ≢ ta
 -- the file was read, and this is what its bytes say, but for want of memory
 abbrev pub IsNetworkFile : Option Files → List ℕ → List (List ℕ × List ℕ) → List (List ℕ × List ℕ) → Result Network NetErr → Type 0
 IsNetworkFile told name read_before read_now r =
-    (bytes : List ℕ) × IsRead told name settings_limit read_before read_now bytes × Answers r (network_in bytes)
+    (bytes : List ℕ) × IsFileRead told name settings_limit read_before read_now bytes × IsAnswerOf r (network_in bytes)
 
-abbrev pub source_of : Option (List ℕ) → List ℕ
-source_of None = []
-source_of (Some name) = name
+abbrev pub source_told : Option (List ℕ) → List ℕ
+source_told None = []
+source_told (Some name) = name
 
 -- these are the capacities of the file that is named, or none where none is
 abbrev pub AreCapacitiesOf : Option Files → List (List ℕ × List ℕ) → List (List ℕ × List ℕ) → Option (List ℕ) → Entries → Type 0
 AreCapacitiesOf told read_before read_now None entries = (entries ≡ []) × (read_now ≡ read_before)
 AreCapacitiesOf told read_before read_now (Some name) entries =
-    (bytes : List ℕ) × (capacities_in bytes ≡ Ok entries) × IsRead told name settings_limit read_before read_now bytes
+    (bytes : List ℕ) × (capacities_in bytes ≡ Ok entries) × IsFileRead told name settings_limit read_before read_now bytes
 
 -- why a text has no capacities: memory ran out, or a line of it is bad
 abbrev pub HasBadCapacity : List ℕ → Status → Type 0
@@ -232,7 +232,7 @@ HasNoCapacities told (Some name) faults_before faults_now taken_before taken_now
 -- these are the picks of the file that is named, or none where none is
 abbrev pub ArePicksOf : Option Files → List (List ℕ × List ℕ) → List (List ℕ × List ℕ) → Option (List ℕ) → List ℕ → Type 0
 ArePicksOf told read_before read_now None picks = (picks ≡ []) × (read_now ≡ read_before)
-ArePicksOf told read_before read_now (Some name) picks = (bytes : List ℕ) × (picks_in bytes ≡ Ok picks) × IsRead told name settings_limit read_before read_now bytes
+ArePicksOf told read_before read_now (Some name) picks = (bytes : List ℕ) × (picks_in bytes ≡ Ok picks) × IsFileRead told name settings_limit read_before read_now bytes
 
 -- why a text has no picks: memory ran out, or a line of it is bad
 abbrev pub HasBadPick : List ℕ → Status → Type 0
@@ -247,16 +247,16 @@ HasNoPicks told (Some name) faults_before faults_now taken_before taken_now read
 -- these are the tuples of the source's file
 abbrev pub IsStreamOf : Option Files → List (List ℕ × List ℕ) → List (List ℕ × List ℕ) → Source → List Tuple → Type 0
 IsStreamOf told read_before read_now s xs =
-    (bytes : List ℕ) × (stream_in s.schema bytes ≡ Ok xs) × IsRead told s.file stream_limit read_before read_now bytes
+    (bytes : List ℕ) × (stream_in s.schema bytes ≡ Ok xs) × IsFileRead told s.file stream_limit read_before read_now bytes
 
 -- a line of the source with this number is bad, and its name is told
-abbrev pub IsBadLine : ℕ → Source → ℕ → Why → Status → List ℕ → Type 0
-IsBadLine number s line why result source = (result ≡ status.BadStream number line why) × (source ≡ s.name)
+abbrev pub EndsAtBadLine : ℕ → Source → ℕ → Why → Status → List ℕ → Type 0
+EndsAtBadLine number s line why result source = (result ≡ status.BadStream number line why) × (source ≡ s.name)
 
 -- why the stream's text of the source with this number has no tuples: memory ran out, or a line of it is bad
 abbrev pub HasBadLine : ℕ → Source → List ℕ → Status → List ℕ → Type 0
 HasBadLine number s bytes result source =
-    (result ≡ status.Memory) ⊎ ((line : ℕ) × (why : Why) × (stream_in s.schema bytes ≡ Err (line, why)) × IsBadLine number s line why result source)
+    (result ≡ status.Memory) ⊎ ((line : ℕ) × (why : Why) × (stream_in s.schema bytes ≡ Err (line, why)) × EndsAtBadLine number s line why result source)
 
 -- why the tuples of the source with this number aren't there
 abbrev pub HasNoStream : Option Files → ℕ → Source → ℕ → ℕ → ℕ → ℕ → List (List ℕ × List ℕ) → List (List ℕ × List ℕ) → Status → List ℕ → Type 0
@@ -264,17 +264,17 @@ HasNoStream told number s faults_before faults_now taken_before taken_now read_b
     IsUnreadOr told s.file stream_limit faults_before faults_now taken_before taken_now read_before read_now result (λ bytes. HasBadLine number s bytes result source)
 
 -- how reading these sources, behind those that were read, stops: at a file that was to be read, at a bad line, or where memory ran out
-abbrev pub HasNoStreams : Option Files → Replay → List Source → ℕ → ℕ → ℕ → ℕ → List (List ℕ × List ℕ) → List (List ℕ × List ℕ) → Status → List ℕ → Type 0
+abbrev pub HasNoStreams : Option Files → AcceptedReplay → List Source → ℕ → ℕ → ℕ → ℕ → List (List ℕ × List ℕ) → List (List ℕ × List ℕ) → Status → List ℕ → Type 0
 HasNoStreams told r sources faults_before faults_now taken_before taken_now read_before read_now result source =
-    ((s : Source) × (more : List ℕ → Script) × Leads told read_before read_now (after_streams r sources) (Reads s.file stream_limit more)
+    ((s : Source) × (more : List ℕ → Script) × ScriptLeads told read_before read_now (after_streams r sources) (Reads s.file stream_limit more)
     × IsUnread told s.file stream_limit faults_before faults_now taken_before taken_now result)
     ⊎ ((number : ℕ) × (s : Source) × (line : ℕ) × (why : Why) × (slice_get sources number ≡ Some s)
-    × Leads told read_before read_now (after_streams r sources) (Stops (status.BadStream number line why)) × IsBadLine number s line why result source)
-    ⊎ ((left : Script) × Leads told read_before read_now (after_streams r sources) left × (result ≡ status.Memory))
+    × ScriptLeads told read_before read_now (after_streams r sources) (Stops (status.BadStream number line why)) × EndsAtBadLine number s line why result source)
+    ⊎ ((left : Script) × ScriptLeads told read_before read_now (after_streams r sources) left × (result ≡ status.Memory))
 
 -- the folder, with what each read of it gave, the disk, the output and the steps before a run and after it; of the disk the pages that
 -- are known at the end, and whether it promises to give back what was put
-pub record World : Type 0 where
+pub record Outside : Type 0 where
   pub told : Option Files
   pub folder_before : ℕ
   pub folder_now : ℕ
@@ -297,7 +297,7 @@ pub record World : Type 0 where
 
 -- how a run ends, but for its message. By the names and the bytes that the folder's reads gave in it, it came to what is left of the
 -- script of its words: all was accepted, a rule is broken, or a file isn't read
-pub record Ends (words : List (List ℕ)) (w : World) (result : Status) (source : List ℕ) : Type 0 where
+pub record Ends (words : List (List ℕ)) (w : Outside) (result : Status) (source : List ℕ) : Type 0 where
   -- the name and the bytes of each file that was read, in order: all that the folder's reads gave in this run, none made up and none left
   -- out, and each of the file that was to be read next
   pub read : List (List ℕ × List ℕ)

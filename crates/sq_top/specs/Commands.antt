@@ -61,9 +61,9 @@ abbrev pub options : List Word
 options = codes "capacities" ∷ codes "seed" ∷ codes "policy" ∷ codes "picks" ∷ codes "train" ∷ codes "frames" ∷ []
 
 -- whether there is such an option
-abbrev pub is_known : Option Word → Bool
-is_known None = true
-is_known (Some n) = contains_bytes n options
+abbrev pub is_known_option : Option Word → Bool
+is_known_option None = true
+is_known_option (Some n) = contains_bytes n options
 
 abbrev pub same_option : Option Word → Option Word → Bool
 same_option None None = true
@@ -71,9 +71,9 @@ same_option (Some m) (Some n) = same_bytes m n
 same_option m n = false
 
 -- the values that an option is given, or those of the words that stand by themselves
-abbrev pub values_of : Option Word → List Given → List Word
-values_of option [] = []
-values_of option (g ∷ gs) = if same_option g.0 option then g.1 ∷ values_of option gs else values_of option gs
+abbrev pub option_values : Option Word → List Given → List Word
+option_values option [] = []
+option_values option (g ∷ gs) = if same_option g.0 option then g.1 ∷ option_values option gs else option_values option gs
 
 -- at most one value
 abbrev pub lone : List Word → Option (Option Word)
@@ -109,14 +109,14 @@ o >>= f = option_and_then f o
 -- what is given asks for a run of the one network that is named, where each option is known and given at most once
 abbrev pub args_of : List Given → Option RunArgs
 args_of gs = do
-  net ← lone (values_of None gs)
+  net ← lone (option_values None gs)
   file ← net
-  capacities ← lone (values_of (Some (codes "capacities")) gs)
-  seed ← lone (values_of (Some (codes "seed")) gs)
-  policy ← lone (values_of (Some (codes "policy")) gs)
-  picks ← lone (values_of (Some (codes "picks")) gs)
-  train ← lone (values_of (Some (codes "train")) gs)
-  frames ← lone (values_of (Some (codes "frames")) gs)
+  capacities ← lone (option_values (Some (codes "capacities")) gs)
+  seed ← lone (option_values (Some (codes "seed")) gs)
+  policy ← lone (option_values (Some (codes "policy")) gs)
+  picks ← lone (option_values (Some (codes "picks")) gs)
+  train ← lone (option_values (Some (codes "train")) gs)
+  frames ← lone (option_values (Some (codes "frames")) gs)
   seed_is ← number_or 0 0 (2 ^ 64 - 1) seed
   train_is ← number_or 16 1 4096 train
   frames_is ← number_or 256 2 16384 frames
@@ -124,7 +124,7 @@ args_of gs = do
   Some (record { net = file; capacities = capacities; seed = seed_is; rule = rule_is; picks = picks; train = train_is; frames = frames_is })
 
 abbrev pub known_args : List Given → Option RunArgs
-known_args gs = if list_all (λ g. is_known g.0) gs then args_of gs else None
+known_args gs = if list_all (λ g. is_known_option g.0) gs then args_of gs else None
 
 -- what the words behind `run` ask for
 abbrev pub run_args : List Word → Option RunArgs

@@ -7,17 +7,17 @@ use Rattle.sq_outside.specs.Faults.{Rose}
 use Rattle.sq_outside.specs.Sinks.{AppendsPrefix, appended}
 use Rattle.sq_net.specs.declared.Network.{Network}
 use Rattle.sq_oper.specs.declared.outs.Event.{Event}
-use Rattle.sq_replay.specs.Shown.{end_lines_from, event_line, text_of}
+use Rattle.sq_replay.specs.Shown.{end_lines_from, event_line, lines_text}
 use Rattle.sq_model.specs.Shedding.{Replay}
 use Rattle.sq_pool.specs.Trust.{Tells}
-use Rattle.sq_road.specs.Levels.{Agrees}
+use Rattle.sq_road.specs.Levels.{AgreesWith}
 use Rattle.sq_plan.specs.Shown.{level_for}
 use Rattle.sq_flow.specs.Events.{IsEventIn, drops_of, lines_of}
 use Rattle.sq_flow.specs.Flows.{HoldsItems, Stepped, decisions_left, items_in, lines_left}
 use Rattle.sq_flow.specs.Plans.{IsPlanned, plans_left, plans_of}
 use Rattle.sq_core.specs.declared.engine.Engine.{Engine}
 use Rattle.sq_core.specs.Meanings.{IsValid, actors}
-use Rattle.sq_core.specs.Runs.{IsRun, fed_at, late_at}
+use Rattle.sq_core.specs.Runs.{IsRun, fed_at, late_at_seat}
 use Rattle.sq_top.specs.declared.Status.{Status}
 use Rattle.sq_top.specs.declared.Status.TheVariants as status
 use Rattle.sq_points.specs.Points.{drops_in}
@@ -41,7 +41,7 @@ pub record Completes (n : Network) (a : Answer) (history : List Event) : Type 0 
   pub plans : plans_of history ≡ a.plans
 
 -- and of each it has the first
-pub record Begins (n : Network) (a : Answer) (history : List Event) : Type 0 where
+pub record BeginsAnswer (n : Network) (a : Answer) (history : List Event) : Type 0 where
   pub lines : (o : ℕ) → o < length n.outputs → IsPrefixOf (lines_of o history) (a.tuples o)
   pub drops : (w : ℕ) → w < drops_in n → IsPrefixOf (drops_of w history) (a.decisions w)
   pub plans : IsPrefixOf (plans_of history) a.plans
@@ -54,7 +54,7 @@ pub record IsDriven (r : Replay) (history : List Event) (engine : Engine) (befor
   pub all : Completes r.network (answer_in r) (history ++ events)
   pub written : now ≡ appended before (history_text r.network events)
   pub fed : (at : ℕ) → at < length r.network.boxes → fed_at engine at ≡ fed_in r at
-  pub late : (at : ℕ) → at < length r.network.boxes → late_at engine at ≡ late_in r at
+  pub late : (at : ℕ) → at < length r.network.boxes → late_at_seat engine at ≡ late_in r at
   pub work : steps ≡ begun + work_in r
 
 -- it stopped on its way, over a disk that is known now: what was written begins the text of events behind which the history still
@@ -63,7 +63,7 @@ pub record IsDriven (r : Replay) (history : List Event) (engine : Engine) (befor
 pub record IsHalted (honest : Bool) (r : Replay) (history : List Event) (result : Status) (before now : Option (List ℕ)) (begun steps : ℕ) : Type 0 where
   pub events : List Event
   pub shown : AllByRecursion (IsEventAt r.network) events
-  pub first : Begins r.network (answer_in r) (history ++ events)
+  pub first : BeginsAnswer r.network (answer_in r) (history ++ events)
   pub written : AppendsPrefix before now (history_text r.network events)
   pub work : steps ≤ begun + work_in r
   pub unchanged : honest ≡ true → is_changed result ≡ false
@@ -73,7 +73,7 @@ pub record IsHalted (honest : Bool) (r : Replay) (history : List Event) (result 
 -- the end lines from a box on, by what the boxes of an engine were fed
 abbrev pub ends_text : ℕ → Engine → List ℕ
 ends_text first e =
-    text_of (end_lines_from e.network first (map (fed_at e) (numbers_to (length e.network.boxes))) (map (late_at e) (numbers_to (length e.network.boxes))))
+    lines_text (end_lines_from e.network first (map (fed_at e) (numbers_to (length e.network.boxes))) (map (late_at_seat e) (numbers_to (length e.network.boxes))))
 
 -- what was begun is cut short: by no refusal, and by a fault of the sink only where its count rose
 pub record IsCutShort (faults_before faults_now : ℕ) (result : Status) : Type 0 where
@@ -92,7 +92,7 @@ pub record GoesOn (was is : Option Pages) (from to : Engine) (begun now : ℕ) (
 pub record StopsBehind (honest : Bool) (r : Replay) (history : List Event) (start now : ℕ) (before : Option (List ℕ)) (waited : List ℕ) (after : Option (List ℕ)) (result : Status) : Type 0 where
   pub events : List Event
   pub shown : AllByRecursion (IsEventAt r.network) events
-  pub first : Begins r.network (answer_in r) (history ++ events)
+  pub first : BeginsAnswer r.network (answer_in r) (history ++ events)
   pub written : AppendsPrefix before after (waited ++ history_text r.network events)
   pub work : now ≤ start + work_in r
   pub unchanged : honest ≡ true → is_changed result ≡ false
@@ -129,9 +129,9 @@ pub record WritesRest (was is : Option Pages) (from to : Engine) (before now : O
   pub shown : AllByRecursion (IsEventAt from.network) events
   pub written : now ≡ appended before (history_text from.network events)
   pub plans : plans_of events ≡ plans_left from.engine.flow
-  pub lines : Tells is → (table : ℕ → ℕ → ℕ) → Agrees to.engine.flow.levels table → HoldsItems actors table (items_in from.engine.flow was) from.engine.flow
+  pub lines : Tells is → (table : ℕ → ℕ → ℕ) → AgreesWith to.engine.flow.levels table → HoldsItems actors table (items_in from.engine.flow was) from.engine.flow
       → (o : ℕ) → o < length from.network.outputs → lines_of o events ≡ lines_left actors table (items_in from.engine.flow was) from.engine.flow o
-  pub drops : Tells is → (table : ℕ → ℕ → ℕ) → Agrees to.engine.flow.levels table → HoldsItems actors table (items_in from.engine.flow was) from.engine.flow
+  pub drops : Tells is → (table : ℕ → ℕ → ℕ) → AgreesWith to.engine.flow.levels table → HoldsItems actors table (items_in from.engine.flow was) from.engine.flow
       → (w : ℕ) → w < drops_in from.network
       → drops_of w events ≡ decisions_left actors table (items_in from.engine.flow was) from.engine.flow (from.engine.flow.wires.sheds + w)
 

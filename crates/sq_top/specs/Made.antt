@@ -6,20 +6,20 @@ use Rattle.sq_gen.specs.Files.{made_of}
 use Rattle.sq_replay.specs.declared.why.Why.{Why}
 use Rattle.sq_top.specs.declared.Status.{Status}
 use Rattle.sq_top.specs.declared.Status.TheVariants as status
-use Rattle.sq_top.specs.Scripts.{Replay, Stops, made_script, made_streams, with_sources}
-use Rattle.sq_top.specs.Messages.{name_at, network_of}
-use Rattle.sq_top.specs.Causes.{IsBadLine, IsRule}
+use Rattle.sq_top.specs.Scripts.{AcceptedReplay, Stops, made_script, made_streams, with_sources}
+use Rattle.sq_top.specs.Messages.{name_at, network_if_ok}
+use Rattle.sq_top.specs.Causes.{EndsAtBadLine, IsRule}
 
 -- memory ran out, or a line of the stream is bad for a source
 abbrev pub HasBadStreams : List ℕ → List Source → Status → List ℕ → Type 0
 HasBadStreams bytes sources result source =
     (result ≡ status.Memory)
     ⊎ ((number : ℕ) × (s : Source) × (line : ℕ) × (why : Why) × (slice_get sources number ≡ Some s)
-    × ((r : Replay) → made_streams bytes (with_sources r []) sources ≡ Stops (status.BadStream number line why)) × IsBadLine number s line why result source)
+    × ((r : AcceptedReplay) → made_streams bytes (with_sources r []) sources ≡ Stops (status.BadStream number line why)) × EndsAtBadLine number s line why result source)
 
 -- the name that is told is that of the source of which a line is bad
 abbrev pub NamesMade : ℕ → ℕ → Status → List ℕ → Type 0
-NamesMade number rows (status.BadStream at line why) source = source ≡ name_at at (network_of (network_in (made_of number rows).net))
+NamesMade number rows (status.BadStream at line why) source = source ≡ name_at at (network_if_ok (network_in (made_of number rows).net))
 NamesMade number rows result source = Unit {0}
 
 -- memory ran out, or what is made breaks a rule

@@ -82,15 +82,15 @@ code_of (status.NotAPage page bytes) = 16
 code_of (status.Strange arc item) = 17
 
 -- the network of a text, where there is one
-abbrev pub network_of : Result Network NetErr → Option Network
-network_of (Ok n) = Some n
-network_of (Err e) = None
+abbrev pub network_if_ok : Result Network NetErr → Option Network
+network_if_ok (Ok n) = Some n
+network_if_ok (Err e) = None
 
 -- the name of the source with this number
-abbrev pub name_in : Option Source → List ℕ
-name_in None = []
-name_in (Some s) = s.name
+abbrev pub source_name_in : Option Source → List ℕ
+source_name_in None = []
+source_name_in (Some s) = s.name
 
 abbrev pub name_at : ℕ → Option Network → List ℕ
 name_at number None = []
-name_at number (Some n) = name_in (slice_get n.sources number)
+name_at number (Some n) = source_name_in (slice_get n.sources number)

@@ -4,12 +4,12 @@ use Rattle.std.specs.List.{filter}
 use Rattle.sq_value.specs.Lists.{IsPrefixOf}
 use Rattle.sq_value.specs.Classes.{Class, Ended, is_of_class}
 use Rattle.sq_top.specs.Due.{Due}
-use Rattle.sq_top.specs.Answers.{AreOthersAll, IsClassIn, lines_of}
+use Rattle.sq_top.specs.Answers.{AreOthersAll, IsClassIn, class_lines}
 
 -- after these lines comes the next one of a class; of the end lines only where the other classes are whole
 abbrev pub IsNextOf : Due → List (List ℕ) → List ℕ → Class → Type 0
 IsNextOf d before line c =
-    IsClassIn d c × IsPrefixOf (filter (is_of_class c) before ++ line ∷ []) (lines_of d c) × (c ≡ Ended → AreOthersAll d before)
+    IsClassIn d c × IsPrefixOf (filter (is_of_class c) before ++ line ∷ []) (class_lines d c) × (c ≡ Ended → AreOthersAll d before)
 
 -- each of these lines, after those before, is the next of its class
 abbrev pub EachIsNext : Due → List (List ℕ) → List (List ℕ) → Type 0
@@ -17,9 +17,9 @@ EachIsNext d before [] = ⊤
 EachIsNext d before (line ∷ lines) = ((c : Class) × IsNextOf d before line c) × EachIsNext d (before ++ line ∷ []) lines
 
 -- lines that may be written in this order
-abbrev pub IsOrder : Due → List (List ℕ) → Type 0
-IsOrder d lines = EachIsNext d [] lines
+abbrev pub IsLineOrder : Due → List (List ℕ) → Type 0
+IsLineOrder d lines = EachIsNext d [] lines
 
 -- of each class these lines are all
 abbrev pub AreAll : Due → List (List ℕ) → Type 0
-AreAll d lines = (c : Class) → IsClassIn d c → filter (is_of_class c) lines ≡ lines_of d c
+AreAll d lines = (c : Class) → IsClassIn d c → filter (is_of_class c) lines ≡ class_lines d c

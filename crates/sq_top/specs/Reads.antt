@@ -7,8 +7,8 @@ use Rattle.sq_gen.specs.Files.{made_of}
 use Rattle.sq_top.specs.declared.Command.{Command}
 use Rattle.sq_top.specs.declared.Command.TheVariants as command
 use Rattle.sq_top.specs.Commands.{command_in}
-use Rattle.sq_top.specs.Messages.{name_at, network_of}
-use Rattle.sq_top.specs.Scripts.{Replay, Script, Reads, Done, Stops, readable, script_of}
+use Rattle.sq_top.specs.Messages.{name_at, network_if_ok}
+use Rattle.sq_top.specs.Scripts.{AcceptedReplay, Script, Reads, Done, Stops, readable, script_of}
 
 -- P of the content, where it is told
 abbrev pub WhereTold : {X : Type 0} → Option X → (X → Type 0) → Type 0
@@ -20,8 +20,8 @@ abbrev pub AreBytesOf : Option Files → List ℕ → ℕ → List ℕ → Type 
 AreBytesOf told name limit bytes = (length bytes ≤ limit) × WhereTold told (λ files. readable name limit (file files name) ≡ Ok bytes)
 
 -- a file was read, and these are its bytes: with its name they came behind what the folder's reads gave before
-abbrev pub IsRead : Option Files → List ℕ → ℕ → List (List ℕ × List ℕ) → List (List ℕ × List ℕ) → List ℕ → Type 0
-IsRead told name limit before now bytes = AreBytesOf told name limit bytes × (now ≡ before ++ (name, bytes) ∷ [])
+abbrev pub IsFileRead : Option Files → List ℕ → ℕ → List (List ℕ × List ℕ) → List (List ℕ × List ℕ) → List ℕ → Type 0
+IsFileRead told name limit before now bytes = AreBytesOf told name limit bytes × (now ≡ before ++ (name, bytes) ∷ [])
 
 -- by these names and bytes, of one file after another that it reads, a script comes to what is left of it
 abbrev pub GoesBy : Option Files → List (List ℕ × List ℕ) → Script → Script → Type 0
@@ -31,19 +31,19 @@ GoesBy told (given ∷ read) (Done r) to = ⊥
 GoesBy told (given ∷ read) (Stops s) to = ⊥
 
 -- by all that the folder's reads gave since it comes to that
-abbrev pub Leads : Option Files → List (List ℕ × List ℕ) → List (List ℕ × List ℕ) → Script → Script → Type 0
-Leads told before now from to = (read : List (List ℕ × List ℕ)) × GoesBy told read from to × (now ≡ before ++ read)
+abbrev pub ScriptLeads : Option Files → List (List ℕ × List ℕ) → List (List ℕ × List ℕ) → Script → Script → Type 0
+ScriptLeads told before now from to = (read : List (List ℕ × List ℕ)) × GoesBy told read from to × (now ≡ before ++ read)
 
 -- the network of a command: in the first file that was read, or made
 abbrev pub network_read : Option Command → List (List ℕ × List ℕ) → Option Network
 network_read None read = None
 network_read (Some (command.Run args)) [] = None
-network_read (Some (command.Run args)) (given ∷ read) = network_of (network_in given.1)
-network_read (Some (command.Gen number rows)) read = network_of (network_in (made_of number rows).net)
+network_read (Some (command.Run args)) (given ∷ read) = network_if_ok (network_in given.1)
+network_read (Some (command.Gen number rows)) read = network_if_ok (network_in (made_of number rows).net)
 network_read (Some (command.Audit net text)) [] = None
-network_read (Some (command.Audit net text)) (given ∷ read) = network_of (network_in given.1)
+network_read (Some (command.Audit net text)) (given ∷ read) = network_if_ok (network_in given.1)
 network_read (Some (command.Tap net stream tick history query)) [] = None
-network_read (Some (command.Tap net stream tick history query)) (given ∷ read) = network_of (network_in given.1)
+network_read (Some (command.Tap net stream tick history query)) (given ∷ read) = network_if_ok (network_in given.1)
 
 -- the name that the network gives to the source with this number
 abbrev pub source_read : List (List ℕ) → List (List ℕ × List ℕ) → ℕ → List ℕ
@@ -55,7 +55,7 @@ LeadsWith told before now words n to =
     (read : List (List ℕ × List ℕ)) × GoesBy told read (script_of words) to × (network_read (command_in words) read ≡ Some n) × (now ≡ before ++ read)
 
 -- P of what was accepted, and else Q: a rule is broken, or a file isn't read
-abbrev pub IfAccepted : Script → (Replay → Type 0) → Type 0 → Type 0
+abbrev pub IfAccepted : Script → (AcceptedReplay → Type 0) → Type 0 → Type 0
 IfAccepted (Done r) P Q = P r
 IfAccepted (Stops s) P Q = Q
 IfAccepted (Reads name limit more) P Q = Q

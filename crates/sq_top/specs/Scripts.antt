@@ -26,7 +26,7 @@ use Rattle.sq_top.specs.Taps.{Tapped, first_tick, tapped}
 -- what was accepted: a network, the tuples of each of its sources, the capacities, how the next actor is chosen: by which rule,
 -- seed and picks, for how many steps, and how many pages may be in memory. What is drawn goes by the seed, too. An audit has a text
 -- beside them, and a run has none. Of the boxes from the first that is shown on there are lines at the end: of a tap those of the query
-pub record Replay : Type 0 where
+pub record AcceptedReplay : Type 0 where
   pub network : Network
   pub sources : List (List Tuple)
   pub entries : Entries
@@ -41,7 +41,7 @@ pub record Replay : Type 0 where
 -- a file is read and its bytes say what comes next; or all was read; or a rule is broken
 pub data Script : Type 0 where
   Reads : (name : List ℕ) (limit : ℕ) → (List ℕ → Script) → Script
-  Done : Replay → Script
+  Done : AcceptedReplay → Script
   Stops : Status → Script
 
 -- how many bytes a network, capacity or picks file may have, a stream, and a text that is audited
@@ -55,7 +55,7 @@ abbrev pub text_limit : ℕ
 text_limit = 268435456
 
 -- what was accepted, with these sources
-abbrev pub with_sources : Replay → List (List Tuple) → Replay
+abbrev pub with_sources : AcceptedReplay → List (List Tuple) → AcceptedReplay
 with_sources r sources = record r { sources = sources }
 
 -- what comes of a source's stream, the source with this number: the rest, or its first bad line
@@ -64,14 +64,14 @@ after_stream number more (Ok xs) = more xs
 after_stream number more (Err e) = Stops (status.BadStream number e.0 e.1)
 
 -- the sources that are left, behind those that were read: each source's file is read and kept before the next is read
-abbrev pub after_streams : Replay → List Source → Script
+abbrev pub after_streams : AcceptedReplay → List Source → Script
 after_streams r [] = Done r
 after_streams r (s ∷ left) =
     Reads s.file stream_limit
     (λ bytes. after_stream (length r.sources) (λ xs. after_streams (with_sources r (r.sources ++ xs ∷ [])) left) (stream_in s.schema bytes))
 
 -- what the words, the network file, the capacities and the picks say; no source is read yet
-abbrev pub unread : RunArgs → Network → Entries → List ℕ → Replay
+abbrev pub unread : RunArgs → Network → Entries → List ℕ → AcceptedReplay
 unread args n entries picks =
     record { network = n; sources = []; entries = entries; seed = args.seed; rule = args.rule; picks = picks; train = args.train; frames = args.frames; text = []; first = 0 }
 
@@ -98,13 +98,13 @@ after_network args (Err e) = Stops (status.BadNetwork e)
 after_network args (Ok n) = capacities_script args n args.capacities
 
 -- the sources that are left of a network that was made, behind those that were read: each has the stream that was made
-abbrev pub made_streams : List ℕ → Replay → List Source → Script
+abbrev pub made_streams : List ℕ → AcceptedReplay → List Source → Script
 made_streams bytes r [] = Done r
 made_streams bytes r (s ∷ left) =
     after_stream (length r.sources) (λ xs. made_streams bytes (with_sources r (r.sources ++ xs ∷ [])) left) (stream_in s.schema bytes)
 
 -- the run of what a number makes: the number is its seed, and its actors take turns
-abbrev pub made_unread : ℕ → Network → Entries → Replay
+abbrev pub made_unread : ℕ → Network → Entries → AcceptedReplay
 made_unread number n entries =
     record { network = n; sources = []; entries = entries; seed = number; rule = rule.RoundRobin; picks = []; train = 16; frames = 256; text = []; first = 0 }
 
@@ -124,7 +124,7 @@ abbrev pub run_script : RunArgs → Script
 run_script args = Reads args.net settings_limit (λ bytes. after_network args (network_in bytes))
 
 -- a script, and behind it what comes of what it accepts
-abbrev pub followed_by : Script → (Replay → Script) → Script
+abbrev pub followed_by : Script → (AcceptedReplay → Script) → Script
 followed_by (Reads name limit more) next = Reads name limit (λ bytes. followed_by (more bytes) next)
 followed_by (Done r) next = next r
 followed_by (Stops s) next = Stops s
@@ -133,18 +133,18 @@ followed_by (Stops s) next = Stops s
 abbrev pub plain_args : List ℕ → RunArgs
 plain_args net = record { net = net; capacities = None; seed = 0; rule = rule.RoundRobin; picks = None; train = 16; frames = 256 }
 
-abbrev pub with_text : Replay → List ℕ → Replay
+abbrev pub with_text : AcceptedReplay → List ℕ → AcceptedReplay
 with_text r text = record r { text = text }
 
 -- and then the text
-abbrev pub text_script : List ℕ → Replay → Script
+abbrev pub text_script : List ℕ → AcceptedReplay → Script
 text_script text r = Reads text text_limit (λ bytes. Done (with_text r bytes))
 
 abbrev pub audit_script : List ℕ → List ℕ → Script
 audit_script net text = followed_by (run_script (plain_args net)) (text_script text)
 
 -- a joined network runs without capacities, and its actors take turns
-abbrev pub tap_unread : Tapped → Replay
+abbrev pub tap_unread : Tapped → AcceptedReplay
 tap_unread t =
     record { network = t.network; sources = []; entries = []; seed = 0; rule = rule.RoundRobin; picks = []; train = 16; frames = 256; text = []; first = t.first }
 
@@ -194,17 +194,17 @@ go_on stop more (Ok bytes) = more bytes
 go_on stop more (Err s) = stop s
 
 -- what a script comes to over these files: what was accepted, or the status of the first broken rule
-abbrev pub outcome_of : Lookup → Script → Result Replay Status
+abbrev pub outcome_of : Lookup → Script → Result AcceptedReplay Status
 outcome_of files (Reads name limit more) = go_on (λ s. Err s) (λ bytes. outcome_of files (more bytes)) (readable name limit (files name))
 outcome_of files (Done r) = Ok r
 outcome_of files (Stops s) = Err s
 
 -- the files that it reads, up to the first that is broken
-abbrev pub reads_of : Lookup → Script → List (List ℕ)
-reads_of files (Reads name limit more) = name ∷ go_on (λ s. []) (λ bytes. reads_of files (more bytes)) (readable name limit (files name))
-reads_of files (Done r) = []
-reads_of files (Stops s) = []
+abbrev pub file_reads : Lookup → Script → List (List ℕ)
+file_reads files (Reads name limit more) = name ∷ go_on (λ s. []) (λ bytes. file_reads files (more bytes)) (readable name limit (files name))
+file_reads files (Done r) = []
+file_reads files (Stops s) = []
 
 -- what words and files come to
-abbrev pub accepted : Lookup → List (List ℕ) → Result Replay Status
+abbrev pub accepted : Lookup → List (List ℕ) → Result AcceptedReplay Status
 accepted files words = outcome_of files (script_of words)

@@ -18,8 +18,8 @@ count_line word name count = word ++ (codes "," ++ (name ++ (codes "," ++ (decim
 abbrev pub output_count : Output × ℕ → List ℕ
 output_count o = count_line (codes "lines") (o.0).name o.1
 
-abbrev pub drop_count : ℕ × ℕ → List ℕ
-drop_count w = count_line (codes "drops") (decimal w.0) w.1
+abbrev pub drop_count_line : ℕ × ℕ → List ℕ
+drop_count_line w = count_line (codes "drops") (decimal w.0) w.1
 
 abbrev pub fed_count : Node × ℕ → List ℕ
 fed_count b = count_line (codes "fed") (b.0).name b.1
@@ -33,7 +33,7 @@ abbrev pub summary_text : ℕ → ℕ → Network → List ℕ → List ℕ → 
 summary_text number rows n lines drops fed late =
     count_line (codes "gen") (decimal number) rows
     ++ (flat_map output_count (zip n.outputs lines)
-    ++ (flat_map drop_count (zip (numbers_to (length drops)) drops)
+    ++ (flat_map drop_count_line (zip (numbers_to (length drops)) drops)
     ++ (flat_map fed_count (zip n.boxes fed)
     ++ (flat_map late_count (zip n.boxes late) ++ codes "end\n"))))
 

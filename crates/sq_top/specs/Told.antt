@@ -13,10 +13,10 @@ use Rattle.sq_top.specs.declared.Command.TheVariants as command
 use Rattle.sq_top.specs.declared.Status.{Status}
 use Rattle.sq_top.specs.declared.Status.TheVariants as status
 use Rattle.sq_top.specs.Commands.{command_in, reads_folder}
-use Rattle.sq_top.specs.Scripts.{Lookup, Replay, accepted, reads_of, script_of, settings_limit, stream_limit, text_limit}
-use Rattle.sq_top.specs.Messages.{name_at, network_of}
+use Rattle.sq_top.specs.Scripts.{Lookup, AcceptedReplay, accepted, file_reads, script_of, settings_limit, stream_limit, text_limit}
+use Rattle.sq_top.specs.Messages.{name_at, network_if_ok}
 use Rattle.sq_top.specs.Stopping.{StopHasCause, is_garbled}
-use Rattle.sq_top.specs.Causes.{AppendsSuch, IsPrefixOfDue, IsWholeOf, TellsFor, World, is_refusal, turns_for, work_for}
+use Rattle.sq_top.specs.Causes.{AppendsSuch, IsPrefixOfDue, IsWholeOf, TellsFor, Outside, is_refusal, turns_for, work_for}
 
 -- whether this is the name of the network's file, or of the query's
 abbrev pub is_network : Option Command → List ℕ → Bool
@@ -26,14 +26,14 @@ is_network (Some (command.Gen number rows)) name = false
 is_network (Some (command.Audit net text)) name = same_bytes net name
 is_network (Some (command.Tap net stream tick history query)) name = same_bytes net name || same_bytes query name
 
-abbrev pub is_named : Option (List ℕ) → List ℕ → Bool
-is_named None name = false
-is_named (Some file) name = same_bytes file name
+abbrev pub is_named_file : Option (List ℕ) → List ℕ → Bool
+is_named_file None name = false
+is_named_file (Some file) name = same_bytes file name
 
 -- whether this is the name of the capacity file
 abbrev pub is_capacities : Option Command → List ℕ → Bool
 is_capacities None name = false
-is_capacities (Some (command.Run args)) name = is_named args.capacities name
+is_capacities (Some (command.Run args)) name = is_named_file args.capacities name
 is_capacities (Some (command.Gen number rows)) name = false
 is_capacities (Some (command.Audit net text)) name = false
 is_capacities (Some (command.Tap net stream tick history query)) name = false
@@ -41,18 +41,18 @@ is_capacities (Some (command.Tap net stream tick history query)) name = false
 -- whether this is the name of the picks' file
 abbrev pub is_picks : Option Command → List ℕ → Bool
 is_picks None name = false
-is_picks (Some (command.Run args)) name = is_named args.picks name
+is_picks (Some (command.Run args)) name = is_named_file args.picks name
 is_picks (Some (command.Gen number rows)) name = false
 is_picks (Some (command.Audit net text)) name = false
 is_picks (Some (command.Tap net stream tick history query)) name = false
 
 -- whether this is the name of the text that is audited
-abbrev pub is_text : Option Command → List ℕ → Bool
-is_text None name = false
-is_text (Some (command.Run args)) name = false
-is_text (Some (command.Gen number rows)) name = false
-is_text (Some (command.Audit net text)) name = same_bytes text name
-is_text (Some (command.Tap net stream tick history query)) name = false
+abbrev pub is_text_file : Option Command → List ℕ → Bool
+is_text_file None name = false
+is_text_file (Some (command.Run args)) name = false
+is_text_file (Some (command.Gen number rows)) name = false
+is_text_file (Some (command.Audit net text)) name = same_bytes text name
+is_text_file (Some (command.Tap net stream tick history query)) name = false
 
 -- what a file is to a command: its network or its query, its capacities, its picks, a source's stream, or the text that is audited
 pub data FilePart : Type 0 where
@@ -76,7 +76,7 @@ may_be c NetworkFile name = is_network c name
 may_be c CapacityFile name = is_capacities c name
 may_be c PicksFile name = is_picks c name
 may_be c StreamFile name = reads_folder c
-may_be c TextFile name = is_text c name
+may_be c TextFile name = is_text_file c name
 
 -- over every folder: it is at fault only where its count rose, or where it tells its files; a file is too long only where more was
 -- taken than a file of its part may have
@@ -97,7 +97,7 @@ looked_at (Some (command.Audit net text)) told = told
 looked_at (Some (command.Tap net stream tick history query)) told = told
 
 -- P of what was accepted, and Q of the status of the rule that is broken
-abbrev pub MatchAccepted : Result Replay Status → (Replay → Type 0) → (Status → Type 0) → Type 0
+abbrev pub MatchAccepted : Result AcceptedReplay Status → (AcceptedReplay → Type 0) → (Status → Type 0) → Type 0
 MatchAccepted (Ok r) P Q = P r
 MatchAccepted (Err s) P Q = Q s
 
@@ -112,15 +112,15 @@ pub record RefusalHasCause (files : Files) (words : List (List ℕ)) (faults_bef
       (λ s. (result ≡ s) ⊎ HasFailedAt faults_before faults_now result)
   pub when : MatchAccepted (accepted (file files) words) (λ r. ⊤)
       (λ s. (result ≡ s) ⊎ (result ≡ status.Memory) ⊎ Rose faults_before faults_now)
-  pub reached : (name : List ℕ) → result ≡ status.FolderFault name → contains_bytes name (reads_of (file files) (script_of words)) ≡ true
+  pub reached : (name : List ℕ) → result ≡ status.FolderFault name → contains_bytes name (file_reads (file files) (script_of words)) ≡ true
 
 -- the network that the words and the files lead to, where there is one
 abbrev pub network_named : Lookup → Option Command → Option Network
 network_named files None = None
-network_named files (Some (command.Run args)) = option_and_then (λ bytes. network_of (network_in bytes)) (files args.net)
-network_named files (Some (command.Gen number rows)) = network_of (network_in (made_of number rows).net)
-network_named files (Some (command.Audit net text)) = option_and_then (λ bytes. network_of (network_in bytes)) (files net)
-network_named files (Some (command.Tap net stream tick history query)) = option_and_then (λ bytes. network_of (network_in bytes)) (files net)
+network_named files (Some (command.Run args)) = option_and_then (λ bytes. network_if_ok (network_in bytes)) (files args.net)
+network_named files (Some (command.Gen number rows)) = network_if_ok (network_in (made_of number rows).net)
+network_named files (Some (command.Audit net text)) = option_and_then (λ bytes. network_if_ok (network_in bytes)) (files net)
+network_named files (Some (command.Tap net stream tick history query)) = option_and_then (λ bytes. network_if_ok (network_in bytes)) (files net)
 
 -- the source's name is that in the network file, where a line of the source is bad
 abbrev pub NamesTold : Files → List (List ℕ) → Status → List ℕ → Type 0
@@ -128,7 +128,7 @@ NamesTold files words (status.BadStream number line why) source = source ≡ nam
 NamesTold files words result source = ⊤
 
 -- how a run ends over these files, by what words and files come to
-pub record EndsOver (files : Files) (words : List (List ℕ)) (w : World) (result : Status) (source : List ℕ) : Type 0 where
+pub record EndsOver (files : Files) (words : List (List ℕ)) (w : Outside) (result : Status) (source : List ℕ) : Type 0 where
   pub ok : result ≡ status.Ok → MatchAccepted (accepted (file files) words)
       (λ r. TellsFor (command_in words) w.pages → AppendsSuch w.out_before w.out_now (IsWholeOf (command_in words) r) × (w.steps_now ≡ w.steps_before + work_for (command_in words) r))
       (λ s. ⊥)

@@ -11,7 +11,7 @@ use Rattle.sq_top.specs.declared.reading.Accepted.{Accepted}
 use Rattle.sq_top.specs.declared.tapping.Asked.{Asked}
 use Rattle.sq_top.specs.declared.Command.TheVariants as command
 use Rattle.sq_top.specs.Taps.{first_tick}
-use Rattle.sq_top.specs.Scripts.{Replay}
+use Rattle.sq_top.specs.Scripts.{AcceptedReplay}
 use Rattle.sq_top.specs.Commands.{Word, Given, Piece, Plain, Whole, Opens, Bad, command_in}
 
 abbrev pub text_view : Option (Bor (List ℕ)) → Option Word
@@ -29,7 +29,7 @@ given_view g = (text_view g.option, g.value.now)
 abbrev pub wanted_view : Wanted → RunArgs
 wanted_view a = record { net = a.net.now; capacities = text_view a.capacities; seed = a.seed; rule = a.rule; picks = text_view a.picks; train = a.train; frames = a.frames }
 
-abbrev pub replay_of : Accepted → Replay
+abbrev pub replay_of : Accepted → AcceptedReplay
 replay_of a = record {
   network = a.network;
   sources = map (λ xs. xs.items) a.sources.items;

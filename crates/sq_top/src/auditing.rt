@@ -7,8 +7,8 @@ ghost use Rattle.sq_points.specs.Limits.{KeepsDropLimits};
 ghost use Rattle.sq_top.specs.declared.Command.TheVariants as Command;
 ghost use Rattle.sq_top.specs.Commands.{command_in, may_name};
 ghost use Rattle.sq_top.specs.Scripts.{Done, plain_args, script_of, with_text};
-ghost use Rattle.sq_top.specs.Reads.{Leads};
-ghost use Rattle.sq_top.specs.Causes.{Ends, IsStopped, is_plain_end, source_of, verdict_of};
+ghost use Rattle.sq_top.specs.Reads.{ScriptLeads};
+ghost use Rattle.sq_top.specs.Causes.{Ends, IsStopped, is_plain_end, source_told, verdict_text};
 ghost use Rattle.sq_top.specs.Views.{replay_of};
 ghost use Rattle.sq_top.specs.Recorded.{AreRecorded};
 ghost use Rattle.sq_top.specs.Writing.{IsLost};
@@ -52,9 +52,9 @@ fn prepare_audit<F: Folder>(
     ensures limits { IfOk result (λ a. KeepsDropLimits a.0.network) }
     ensures recorded { IfOk result (λ a. AreRecorded a.0.network.sources (map (λ xs. xs.items) a.0.sources.items)) }
     ensures accepted { IfOk result (λ a. (words : List (List ℕ)) → command_in words ≡ Some (Command.Audit net text.now)
-        → Leads (F.files folder.old) (F.read folder.old) (F.read folder.new) (script_of words) (Done (with_text (replay_of a.0) a.1.items))) }
+        → ScriptLeads (F.files folder.old) (F.read folder.old) (F.read folder.new) (script_of words) (Done (with_text (replay_of a.0) a.1.items))) }
     ensures stopped { IfErr result (λ s. (words : List (List ℕ)) → command_in words ≡ Some (Command.Audit net text.now)
-        → IsStopped words (F.files folder.old) (F.faults folder.old) (F.faults folder.new) (F.taken folder.old) (F.taken folder.new) (F.read folder.old) (F.read folder.new) s.status (source_of s.source)) }
+        → IsStopped words (F.files folder.old) (F.faults folder.old) (F.faults folder.new) (F.taken folder.old) (F.taken folder.new) (F.read folder.old) (F.read folder.new) s.status (source_told s.source)) }
     ensures files { F.files folder.new ≡ F.files folder.old }
     ensures no_fault { OnOk result (F.faults folder.new ≡ F.faults folder.old) }
     ensures later { (F.faults folder.old ≤ F.faults folder.new) × (F.taken folder.old ≤ F.taken folder.new) }
@@ -85,7 +85,7 @@ fn verdict_line(alloc: Global, accepted: Accepted, text: &[u8]) -> Result<Vec<u8
     requires sound { IsSound accepted.network }
     requires limits { KeepsDropLimits accepted.network }
     requires recorded { AreRecorded accepted.network.sources (map (λ xs. xs.items) accepted.sources.items) }
-    ensures { IfOk result (λ line. line.items ≡ verdict_of (with_text (replay_of accepted) text.now)) }
+    ensures { IfOk result (λ line. line.items ≡ verdict_text (with_text (replay_of accepted) text.now)) }
 {
     let Accepted {
         network,
@@ -109,8 +109,8 @@ fn write_verdict<S: Sink>(
     requires sound { IsSound accepted.network }
     requires limits { KeepsDropLimits accepted.network }
     requires recorded { AreRecorded accepted.network.sources (map (λ xs. xs.items) accepted.sources.items) }
-    ensures ok { OnOk result (S.written out.new ≡ appended (S.written out.old) (verdict_of (with_text (replay_of accepted) text.now))) }
-    ensures err { OnErr result (AppendsPrefix (S.written out.old) (S.written out.new) (verdict_of (with_text (replay_of accepted) text.now))) }
+    ensures ok { OnOk result (S.written out.new ≡ appended (S.written out.old) (verdict_text (with_text (replay_of accepted) text.now))) }
+    ensures err { OnErr result (AppendsPrefix (S.written out.old) (S.written out.new) (verdict_text (with_text (replay_of accepted) text.now))) }
     ensures alone { IfErr result (λ s. s ≢ Status.SinkFault → S.written out.new ≡ S.written out.old) }
     ensures lost { IfErr result (λ s. IsLost (S.faults out.old) (S.faults out.new) s) }
     ensures later { S.faults out.old ≤ S.faults out.new }
@@ -155,7 +155,7 @@ pub(crate) fn audit_files<F: Folder, S: Sink>(
       steps_before = steps;
       steps_now = steps;
     })
-        result.status (source_of result.source) }
+        result.status (source_told result.source) }
     ensures plain { (words : List (List ℕ)) → command_in words ≡ Some (Command.Audit net text.now) → is_plain_end result.status ≡ true }
     ensures files { F.files folder.new ≡ F.files folder.old }
     ensures later { (F.faults folder.old ≤ F.faults folder.new) × (F.taken folder.old ≤ F.taken folder.new) × (S.faults out.old ≤ S.faults out.new) }

@@ -9,7 +9,7 @@ ghost use Rattle.sq_queue.specs.Faces.{Together};
 ghost use Rattle.sq_flow.specs.Events.{IsEventIn};
 ghost use Rattle.sq_flow.specs.Flows.{measure_of};
 ghost use Rattle.sq_core.specs.Runs.{IsRun, IsSoundEngine};
-ghost use Rattle.sq_top.specs.Counting.{Counted, CountsOn, AreCounts, HasRoom, IsSummed};
+ghost use Rattle.sq_top.specs.Counting.{Counted, CountsOn, AreCountsOf, HasCounts, IsSummed};
 ghost use Rattle.sq_top.specs.Driving.{IsCutShort, IsHalted, Stops};
 ghost use Rattle.sq_top.specs.Stopping.{StopHasCause};
 
@@ -90,7 +90,7 @@ fn count_step<D: PageDisk, L: Ledger>(
     requires sound { IsSoundEngine engine.old }
     requires together { Together engine.old.engine.flow.queues (known (D.log disk.old)) }
     requires runs { 0 < length engine.old.engine.ready.list }
-    requires room { HasRoom engine.old.network counts.old }
+    requires room { HasCounts engine.old.network counts.old }
     ensures sound { OnOk result (IsSoundEngine engine.new) }
     ensures together { OnOk result (Together engine.new.engine.flow.queues (known (D.log disk.new))) }
     ensures network { engine.new.network ≡ engine.old.network }
@@ -122,8 +122,8 @@ fn count_outputs(network: &Network) -> u32
 /// No lines yet of each output and of each drop of an engine.
 fn no_counts(alloc: Global, engine: &Engine) -> Result<Counts, AllocError>
     requires { IsSoundEngine engine.now }
-    ensures room { IfOk result (HasRoom engine.now.network) }
-    ensures none { IfOk result (AreCounts []) }
+    ensures room { IfOk result (HasCounts engine.now.network) }
+    ensures none { IfOk result (AreCountsOf []) }
 {
     let wires = &engine.engine.flow.wires;
     let lines = zeros(alloc, count_outputs(&engine.network))?;
@@ -143,7 +143,7 @@ fn count_to_end<D: PageDisk, L: Ledger>(
     requires together { Together engine.old.engine.flow.queues (known (D.log disk.old)) }
     ensures sound { OnOk result (IsSoundEngine engine.new) }
     ensures network { OnOk result (engine.new.network ≡ engine.old.network) }
-    ensures room { IfOk result (λ c. HasRoom engine.new.network c) }
+    ensures room { IfOk result (λ c. HasCounts engine.new.network c) }
     ensures ok { IfOk result (λ c. (r : Replay) (begun : ℕ) → Tells (known (D.log disk.new)) → IsRun r (known (D.log disk.old)) engine.old [] begun steps.old
         → IsSummed r engine.new c begun steps.new) }
     ensures err { IfErr result (λ s. (r : Replay) (begun : ℕ) → Tells (known (D.log disk.new)) → IsRun r (known (D.log disk.old)) engine.old [] begun steps.old
@@ -180,7 +180,7 @@ pub fn count<D: PageDisk, L: Ledger>(
     requires together { Together engine.engine.flow.queues (known (D.log disk.old)) }
     ensures sound { IfOk result (λ c. IsSoundEngine c.0) }
     ensures network { IfOk result (λ c. (c.0).network ≡ engine.network) }
-    ensures room { IfOk result (λ c. HasRoom (c.0).network c.1) }
+    ensures room { IfOk result (λ c. HasCounts (c.0).network c.1) }
     ensures ok { IfOk result (λ c. (r : Replay) (begun : ℕ) → Tells (known (D.log disk.new)) → IsRun r (known (D.log disk.old)) engine [] begun steps.old
         → IsSummed r c.0 c.1 begun steps.new) }
     ensures err { IfErr result (λ s. (r : Replay) (begun : ℕ) → Tells (known (D.log disk.new)) → IsRun r (known (D.log disk.old)) engine [] begun steps.old

@@ -9,10 +9,10 @@ ghost use Rattle.sq_replay.specs.Entries.{capacities_in};
 ghost use Rattle.sq_replay.specs.Laws.{ReadsStreams};
 ghost use Rattle.sq_replay.specs.Streams.{stream_in};
 ghost use Rattle.sq_tables.specs.Refusals.{is_memory};
-ghost use Rattle.sq_top.specs.Causes.{HasBadLine, IsRefusedBy, source_of};
+ghost use Rattle.sq_top.specs.Causes.{HasBadLine, IsRefusedBy, source_told};
 ghost use Rattle.sq_top.specs.Made.{HasBadMade, HasBadStreams};
 ghost use Rattle.sq_top.specs.Recorded.{AreRecorded};
-ghost use Rattle.sq_top.specs.Scripts.{Done, Replay, made_script, made_streams, with_sources};
+ghost use Rattle.sq_top.specs.Scripts.{Done, AcceptedReplay, made_script, made_streams, with_sources};
 ghost use Rattle.sq_top.specs.Views.{replay_of};
 
 use crate::Status;
@@ -63,7 +63,7 @@ fn made_stream(alloc: Global, number: u32, source: &Source, bytes: &[u8]) -> Res
     requires few { length bytes.now + 1 < 2 ^ 32 }
     ensures tuples { IfOk result (λ xs. stream_in source.now.schema bytes.now ≡ Ok xs.items) }
     ensures recorded { IfOk result (λ xs. ReadsStreams source.now.schema xs.items) }
-    ensures bad { IfErr result (λ s. HasBadLine number source.now bytes.now s.status (source_of s.source)) }
+    ensures bad { IfErr result (λ s. HasBadLine number source.now bytes.now s.status (source_told s.source)) }
 {
     match Vec::from_slice(alloc, bytes) {
         Ok(copy) => tuples_of(alloc, number, source, copy),
@@ -75,9 +75,9 @@ fn made_stream(alloc: Global, number: u32, source: &Source, bytes: &[u8]) -> Res
 fn made_tuples(alloc: Global, network: &Network, bytes: &[u8]) -> Result<Vec<Stream>, Stopped>
     requires sound { IsSound network.now }
     requires few { length bytes.now + 1 < 2 ^ 32 }
-    ensures made { IfOk result (λ v. (r : Replay) → made_streams bytes.now (with_sources r []) network.now.sources ≡ Done (with_sources r (map (λ xs. xs.items) v.items))) }
+    ensures made { IfOk result (λ v. (r : AcceptedReplay) → made_streams bytes.now (with_sources r []) network.now.sources ≡ Done (with_sources r (map (λ xs. xs.items) v.items))) }
     ensures recorded { IfOk result (λ v. AreRecorded network.now.sources (map (λ xs. xs.items) v.items)) }
-    ensures bad { IfErr result (λ s. HasBadStreams bytes.now network.now.sources s.status (source_of s.source)) }
+    ensures bad { IfErr result (λ s. HasBadStreams bytes.now network.now.sources s.status (source_told s.source)) }
 {
     let mut streams = Vec::new(alloc);
     'sources: for source in network.sources.as_slice() {
@@ -103,7 +103,7 @@ pub fn prepare_made(alloc: Global, number: u64, rows: u32) -> Result<Accepted, S
     ensures train { IfOk result (λ a. 1 ≤ a.train) }
     ensures frames { IfOk result (λ a. 2 ≤ a.frames) }
     ensures made { IfOk result (λ a. made_script number (made_of number rows) ≡ Done (replay_of a)) }
-    ensures bad { IfErr result (λ s. HasBadMade number rows s.status (source_of s.source)) }
+    ensures bad { IfErr result (λ s. HasBadMade number rows s.status (source_told s.source)) }
 {
     let made = match generate(alloc, number, rows) {
         Ok(made) => made,

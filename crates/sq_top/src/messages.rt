@@ -1,6 +1,6 @@
 // The message of each status.
 ghost use Rattle.std.specs.Prelude.{◌≡◌, [], IfOk, string_bytes};
-ghost use Rattle.sq_top.specs.Causes.{source_of};
+ghost use Rattle.sq_top.specs.Causes.{source_told};
 ghost use Rattle.sq_top.specs.Messages.{hex_byte, hex_text, message_of, tap_text, why_text};
 
 use crate::Status;
@@ -89,7 +89,7 @@ fn changed_message(
 
 /// The name of a source, or nothing.
 fn name_text(source: &Option<Name>) -> &str
-    ensures { result.now ≡ source_of source.now }
+    ensures { result.now ≡ source_told source.now }
 {
     match source {
         Some(name) => name.as_str(),
@@ -99,7 +99,7 @@ fn name_text(source: &Option<Name>) -> &str
 
 /// The line of a status, where the source has this name.
 pub fn message(alloc: Global, source: &Option<Name>, status: &Status) -> Result<String, AllocError>
-    ensures { IfOk result (λ text. string_bytes text ≡ message_of (source_of source.now) status.now) }
+    ensures { IfOk result (λ text. string_bytes text ≡ message_of (source_told source.now) status.now) }
 {
     match status {
         Status::Ok => String::from_str(alloc, ""),

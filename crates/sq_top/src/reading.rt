@@ -6,9 +6,9 @@ ghost use Rattle.sq_replay.specs.Laws.{ReadsStreams};
 ghost use Rattle.sq_replay.specs.Streams.{stream_in};
 ghost use Rattle.sq_top.specs.declared.Command.TheVariants as Command;
 ghost use Rattle.sq_top.specs.Commands.{command_in};
-ghost use Rattle.sq_top.specs.Scripts.{Done, Replay, after_streams, capacities_script, picks_script, script_of, settings_limit, with_sources};
-ghost use Rattle.sq_top.specs.Reads.{AreBytesOf, Leads, LeadsWith};
-ghost use Rattle.sq_top.specs.Causes.{AreCapacitiesOf, ArePicksOf, HasNoCapacities, HasNoPicks, HasBadLine, HasNoStream, HasNoStreams, IsBadLine, IsNetworkFile, IsRefusedBy, IsStopped, IsStreamOf, IsUnread, source_of};
+ghost use Rattle.sq_top.specs.Scripts.{Done, AcceptedReplay, after_streams, capacities_script, picks_script, script_of, settings_limit, with_sources};
+ghost use Rattle.sq_top.specs.Reads.{AreBytesOf, ScriptLeads, LeadsWith};
+ghost use Rattle.sq_top.specs.Causes.{AreCapacitiesOf, ArePicksOf, HasNoCapacities, HasNoPicks, HasBadLine, HasNoStream, HasNoStreams, EndsAtBadLine, IsNetworkFile, IsRefusedBy, IsStopped, IsStreamOf, IsUnread, source_told};
 ghost use Rattle.sq_top.specs.Views.{replay_of};
 ghost use Rattle.sq_top.specs.Recorded.{AreRecorded};
 
@@ -232,7 +232,7 @@ pub(crate) fn stopped_by(status: Status) -> Stopped
 
 /// A run that stops at a line of a source.
 fn stopped_at(number: u32, source: &Source, line: u32, why: Why) -> Stopped
-    ensures { IsBadLine number source.now line why result.status (source_of result.source) ⊎ (result.status ≡ Status.Memory) }
+    ensures { EndsAtBadLine number source.now line why result.status (source_told result.source) ⊎ (result.status ≡ Status.Memory) }
 {
     match copy_name(&source.name) {
         Ok(name) => Stopped {
@@ -258,7 +258,7 @@ pub(crate) fn tuples_of(
     requires few { length bytes.items + 1 < 2 ^ 32 }
     ensures tuples { IfOk result (λ xs. stream_in source.now.schema bytes.items ≡ Ok xs.items) }
     ensures recorded { IfOk result (λ xs. ReadsStreams source.now.schema xs.items) }
-    ensures bad { IfErr result (λ s. HasBadLine number source.now bytes.items s.status (source_of s.source)) }
+    ensures bad { IfErr result (λ s. HasBadLine number source.now bytes.items s.status (source_told s.source)) }
 {
     match Stream::new(alloc, bytes, &source.schema) {
         Ok(tuples) => Ok(tuples),
@@ -277,7 +277,7 @@ fn stream_of<F: Folder>(
     requires within { source_within source.now ≡ true }
     ensures stream { IfOk result (λ xs. IsStreamOf (F.files folder.old) (F.read folder.old) (F.read folder.new) source.now xs.items) }
     ensures recorded { IfOk result (λ xs. ReadsStreams source.now.schema xs.items) }
-    ensures stopped { IfErr result (λ s. HasNoStream (F.files folder.old) number source.now (F.faults folder.old) (F.faults folder.new) (F.taken folder.old) (F.taken folder.new) (F.read folder.old) (F.read folder.new) s.status (source_of s.source)) }
+    ensures stopped { IfErr result (λ s. HasNoStream (F.files folder.old) number source.now (F.faults folder.old) (F.faults folder.new) (F.taken folder.old) (F.taken folder.new) (F.read folder.old) (F.read folder.new) s.status (source_told s.source)) }
     ensures files { F.files folder.new ≡ F.files folder.old }
     ensures no_fault { OnOk result (F.faults folder.new ≡ F.faults folder.old) }
     ensures later { (F.faults folder.old ≤ F.faults folder.new) × (F.taken folder.old ≤ F.taken folder.new) }
@@ -296,9 +296,9 @@ pub(crate) fn streams_of<F: Folder>(
     folder: &mut F,
 ) -> Result<Vec<Stream>, Stopped>
     requires { IsSound network.now }
-    ensures leads { IfOk result (λ v. (r : Replay) → Leads (F.files folder.old) (F.read folder.old) (F.read folder.new) (after_streams (with_sources r []) network.now.sources) (Done (with_sources r (map (λ xs. xs.items) v.items)))) }
+    ensures leads { IfOk result (λ v. (r : AcceptedReplay) → ScriptLeads (F.files folder.old) (F.read folder.old) (F.read folder.new) (after_streams (with_sources r []) network.now.sources) (Done (with_sources r (map (λ xs. xs.items) v.items)))) }
     ensures recorded { IfOk result (λ v. AreRecorded network.now.sources (map (λ xs. xs.items) v.items)) }
-    ensures stopped { IfErr result (λ s. (r : Replay) → HasNoStreams (F.files folder.old) (with_sources r []) network.now.sources (F.faults folder.old) (F.faults folder.new) (F.taken folder.old) (F.taken folder.new) (F.read folder.old) (F.read folder.new) s.status (source_of s.source)) }
+    ensures stopped { IfErr result (λ s. (r : AcceptedReplay) → HasNoStreams (F.files folder.old) (with_sources r []) network.now.sources (F.faults folder.old) (F.faults folder.new) (F.taken folder.old) (F.taken folder.new) (F.read folder.old) (F.read folder.new) s.status (source_told s.source)) }
     ensures files { F.files folder.new ≡ F.files folder.old }
     ensures no_fault { OnOk result (F.faults folder.new ≡ F.faults folder.old) }
     ensures later { (F.faults folder.old ≤ F.faults folder.new) × (F.taken folder.old ≤ F.taken folder.new) }
@@ -344,9 +344,9 @@ pub fn prepare<F: Folder>(alloc: Global, args: RunArgs, folder: &mut F) -> Resul
     ensures frames { IfOk result (λ a. 2 ≤ a.frames) }
     ensures first { IfOk result (λ a. a.first ≡ 0) }
     ensures accepted { IfOk result (λ a. (words : List (List ℕ)) → command_in words ≡ Some (Command.Run args)
-        → Leads (F.files folder.old) (F.read folder.old) (F.read folder.new) (script_of words) (Done (replay_of a))) }
+        → ScriptLeads (F.files folder.old) (F.read folder.old) (F.read folder.new) (script_of words) (Done (replay_of a))) }
     ensures stopped { IfErr result (λ s. (words : List (List ℕ)) → command_in words ≡ Some (Command.Run args)
-        → IsStopped words (F.files folder.old) (F.faults folder.old) (F.faults folder.new) (F.taken folder.old) (F.taken folder.new) (F.read folder.old) (F.read folder.new) s.status (source_of s.source)) }
+        → IsStopped words (F.files folder.old) (F.faults folder.old) (F.faults folder.new) (F.taken folder.old) (F.taken folder.new) (F.read folder.old) (F.read folder.new) s.status (source_told s.source)) }
     ensures files { F.files folder.new ≡ F.files folder.old }
     ensures no_fault { OnOk result (F.faults folder.new ≡ F.faults folder.old) }
     ensures later { (F.faults folder.old ≤ F.faults folder.new) × (F.taken folder.old ≤ F.taken folder.new) }

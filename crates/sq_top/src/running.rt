@@ -11,7 +11,7 @@ ghost use Rattle.sq_pool.specs.Trust.{IsLater, Tells, known};
 ghost use Rattle.sq_core.specs.Runs.{IsRun, IsSoundEngine};
 ghost use Rattle.sq_top.specs.Answers.{IsPrefixText, IsWholeText};
 ghost use Rattle.sq_top.specs.Commands.{command_in, reads_folder, runs_engine};
-ghost use Rattle.sq_top.specs.Causes.{AppendsSuch, BeginsSummary, Ends, TellsStatus, is_plain_end, is_refusal, source_of};
+ghost use Rattle.sq_top.specs.Causes.{AppendsSuch, BeginsSummary, Ends, TellsStatus, is_plain_end, is_refusal, source_told};
 ghost use Rattle.sq_top.specs.Summaries.{summary_of};
 ghost use Rattle.sq_top.specs.Stopping.{StopHasCause, is_changed, is_garbled};
 ghost use Rattle.sq_top.specs.Driving.{IsCutShort};
@@ -170,7 +170,7 @@ fn run_files<F: Folder, D: PageDisk, S: Sink, L: Ledger>(
       steps_before = steps.old;
       steps_now = steps.new;
     })
-        result.status (source_of result.source) }
+        result.status (source_told result.source) }
     ensures files { F.files folder.new ≡ F.files folder.old }
     ensures disk { is_refusal result.status ≡ true → (D.log disk.new ≡ D.log disk.old) × (D.faults disk.new ≡ D.faults disk.old) }
     ensures later { IsLater (D.log disk.old) (D.log disk.new) }
@@ -225,7 +225,7 @@ fn run_made<D: PageDisk, S: Sink, L: Ledger>(
       steps_before = steps.old;
       steps_now = steps.new;
     })
-        result.status (source_of result.source) }
+        result.status (source_told result.source) }
     ensures disk { is_refusal result.status ≡ true → (D.log disk.new ≡ D.log disk.old) × (D.faults disk.new ≡ D.faults disk.old) }
     ensures later { IsLater (D.log disk.old) (D.log disk.new) }
     ensures faults { (D.faults disk.old ≤ D.faults disk.new) × (S.faults out.old ≤ S.faults out.new) }
@@ -277,7 +277,7 @@ fn tap_files<F: Folder, D: PageDisk, S: Sink, L: Ledger>(
       steps_before = steps.old;
       steps_now = steps.new;
     })
-        result.status (source_of result.source) }
+        result.status (source_told result.source) }
     ensures files { F.files folder.new ≡ F.files folder.old }
     ensures disk { is_refusal result.status ≡ true → (D.log disk.new ≡ D.log disk.old) × (D.faults disk.new ≡ D.faults disk.old) }
     ensures later { IsLater (D.log disk.old) (D.log disk.new) }
@@ -324,7 +324,7 @@ pub fn run<F: Folder, D: PageDisk, S: Sink, L: Ledger>(
       steps_before = steps.old;
       steps_now = steps.new;
     })
-        result.status (source_of result.source) }
+        result.status (source_told result.source) }
     ensures files { F.files folder.new ≡ F.files folder.old }
     ensures unread { reads_folder (command_in (map string_bytes words.now.items)) ≡ false → (F.faults folder.new ≡ F.faults folder.old)
         × (F.taken folder.new ≡ F.taken folder.old) × (F.read folder.new ≡ F.read folder.old) }
@@ -373,8 +373,8 @@ fn say<E: Sink>(err: &mut E, text: &[u8])
 /// Tells the status of a run, or that memory ran out where there is none for the message. That the output failed takes none.
 pub fn tell<E: Sink>(alloc: Global, stopped: Stopped, err: &mut E) -> Stopped
     ensures status { (result.status ≡ stopped.status) ⊎ ((result.status ≡ Status.Memory) × (stopped.status ≢ Status.SinkFault)) }
-    ensures source { source_of result.source ≡ source_of stopped.source }
-    ensures told { AppendsSuch (E.written err.old) (E.written err.new) (TellsStatus (source_of result.source) (E.faults err.old) (E.faults err.new) result.status) }
+    ensures source { source_told result.source ≡ source_told stopped.source }
+    ensures told { AppendsSuch (E.written err.old) (E.written err.new) (TellsStatus (source_told result.source) (E.faults err.old) (E.faults err.new) result.status) }
     ensures later { E.faults err.old ≤ E.faults err.new }
 {
     if let Status::SinkFault = stopped.status {

@@ -5,8 +5,8 @@ ghost use Rattle.sq_value.specs.Lists.{numbers_to};
 ghost use Rattle.sq_net.specs.declared.Node.{Node};
 ghost use Rattle.sq_outside.specs.Sinks.{AppendsPrefix, appended};
 ghost use Rattle.sq_core.specs.Runs.{IsSoundEngine};
-ghost use Rattle.sq_top.specs.Counting.{HasRoom, engine_summary};
-ghost use Rattle.sq_top.specs.Summaries.{count_line, drop_count, fed_count, late_count, output_count};
+ghost use Rattle.sq_top.specs.Counting.{HasCounts, engine_summary};
+ghost use Rattle.sq_top.specs.Summaries.{count_line, drop_count_line, fed_count, late_count, output_count};
 ghost use Rattle.sq_top.specs.Writing.{IsLost};
 
 use crate::Status;
@@ -63,7 +63,7 @@ fn put_outputs(
 
 /// Puts how many batches each drop left out.
 fn put_drops(alloc: Global, drops: &[u64], text: &mut Vec<u8>) -> Result<(), AllocError>
-    ensures { OnOk result (text.new.items ≡ text.old.items ++ flat_map drop_count (zip (numbers_to (length drops.now)) drops.now)) }
+    ensures { OnOk result (text.new.items ≡ text.old.items ++ flat_map drop_count_line (zip (numbers_to (length drops.now)) drops.now)) }
 {
     'drops: for (w, count) in drops.iter().enumerate() {
         put_numbered(alloc, "drops", w as u64, *count, text)?;
@@ -117,7 +117,7 @@ fn summary(
     counts: &Counts,
 ) -> Result<Vec<u8>, AllocError>
     requires sound { IsSoundEngine engine.now }
-    requires room { HasRoom engine.now.network counts.now }
+    requires room { HasCounts engine.now.network counts.now }
     ensures { IfOk result (λ text. text.items ≡ engine_summary number rows engine.now counts.now) }
 {
     let fed = count_fed(alloc, engine)?;
@@ -148,7 +148,7 @@ pub fn write_summary<S: Sink>(
     out: &mut S,
 ) -> Result<(), Status>
     requires sound { IsSoundEngine engine.now }
-    requires room { HasRoom engine.now.network counts.now }
+    requires room { HasCounts engine.now.network counts.now }
     ensures ok { OnOk result (S.written out.new ≡ appended (S.written out.old) (engine_summary number rows engine.now counts.now)) }
     ensures err { OnErr result (AppendsPrefix (S.written out.old) (S.written out.new) (engine_summary number rows engine.now counts.now)) }
     ensures alone { IfErr result (λ s. s ≢ Status.SinkFault → S.written out.new ≡ S.written out.old) }

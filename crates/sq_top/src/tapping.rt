@@ -3,8 +3,8 @@ ghost use Rattle.std.specs.Prelude.{◌≡◌, ◌⊎◌, ℕ, ◌^◌, ◌<◌,
 ghost use Rattle.sq_net.specs.Sound.{IsSound};
 ghost use Rattle.sq_points.specs.Limits.{KeepsDropLimits};
 ghost use Rattle.sq_tap.specs.Names.{stream_named};
-ghost use Rattle.sq_top.specs.Causes.{IsBadTap, IsQueryRefused, IsStopped, IsTapRefused, source_of};
-ghost use Rattle.sq_top.specs.Reads.{Leads, LeadsWith};
+ghost use Rattle.sq_top.specs.Causes.{IsBadTap, IsQueryRefused, IsStopped, IsTapRefused, source_told};
+ghost use Rattle.sq_top.specs.Reads.{ScriptLeads, LeadsWith};
 ghost use Rattle.sq_top.specs.Recorded.{AreRecorded};
 ghost use Rattle.sq_top.specs.Scripts.{Done, after_query, query_script, script_of};
 ghost use Rattle.sq_top.specs.Taps.{first_tick, tapped};
@@ -151,9 +151,9 @@ pub(crate) fn prepare_tap<F: Folder>(
     ensures frames { IfOk result (λ a. 2 ≤ a.frames) }
     ensures first { IfOk result (λ a. a.first ≤ length a.network.boxes) }
     ensures accepted { IfOk result (λ a. (words : List (List ℕ)) → IsAskedBy asked.now words
-        → Leads (F.files folder.old) (F.read folder.old) (F.read folder.new) (script_of words) (Done (replay_of a))) }
+        → ScriptLeads (F.files folder.old) (F.read folder.old) (F.read folder.new) (script_of words) (Done (replay_of a))) }
     ensures stopped { IfErr result (λ s. (words : List (List ℕ)) → IsAskedBy asked.now words
-        → IsStopped words (F.files folder.old) (F.faults folder.old) (F.faults folder.new) (F.taken folder.old) (F.taken folder.new) (F.read folder.old) (F.read folder.new) s.status (source_of s.source)) }
+        → IsStopped words (F.files folder.old) (F.faults folder.old) (F.faults folder.new) (F.taken folder.old) (F.taken folder.new) (F.read folder.old) (F.read folder.new) s.status (source_told s.source)) }
     ensures files { F.files folder.new ≡ F.files folder.old }
     ensures no_fault { OnOk result (F.faults folder.new ≡ F.faults folder.old) }
     ensures later { (F.faults folder.old ≤ F.faults folder.new) × (F.taken folder.old ≤ F.taken folder.new) }

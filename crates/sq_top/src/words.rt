@@ -4,7 +4,7 @@ ghost use Rattle.std.specs.List.{list_all};
 ghost use Rattle.std.specs.Option.{option_map};
 ghost use Rattle.std.specs.String.{string_bytes};
 ghost use Rattle.sq_value.specs.Texts.{is_digit, read_number};
-ghost use Rattle.sq_top.specs.Commands.{args_of, audit_args, command_in, dashed_piece, gen_args, given_from, is_known, lone, may_name, named_piece, number_or, number_within, piece_of, rule_named, rule_of, run_args, same_option, tap_args, tick_in, values_of, whole_piece};
+ghost use Rattle.sq_top.specs.Commands.{args_of, audit_args, command_in, dashed_piece, gen_args, given_from, is_known_option, lone, may_name, named_piece, number_or, number_within, piece_of, rule_named, rule_of, run_args, same_option, tap_args, tick_in, option_values, whole_piece};
 ghost use Rattle.sq_top.specs.Views.{wanted_view, given_view, piece_view, text_view};
 
 use crate::{Command, RunArgs, WordsErr};
@@ -116,8 +116,8 @@ fn read_given(alloc: Global, words: &[String]) -> Result<Vec<Given<'_>>, WordsEr
     }
 }
 
-fn is_known(option: Option<&str>) -> bool
-    ensures { result ≡ is_known (text_view option.entry) }
+fn is_known_option(option: Option<&str>) -> bool
+    ensures { result ≡ is_known_option (text_view option.entry) }
 {
     match option {
         None => true,
@@ -133,10 +133,10 @@ fn is_known(option: Option<&str>) -> bool
 }
 
 fn all_known(given: &[Given<'_>]) -> bool
-    ensures { result ≡ list_all (λ g. is_known g.0) (map given_view given.now) }
+    ensures { result ≡ list_all (λ g. is_known_option g.0) (map given_view given.now) }
 {
     for one in given {
-        if !is_known(one.option) {
+        if !is_known_option(one.option) {
             return false;
         }
     }
@@ -155,7 +155,7 @@ fn same_option(a: Option<&str>, b: Option<&str>) -> bool
 
 /// The value that an option is given, if any. The answer is None where it is given twice.
 fn value_of<'a>(given: &[Given<'a>], option: Option<&str>) -> Option<Option<&'a str>>
-    ensures { option_map text_view result ≡ lone (values_of (text_view option.entry) (map given_view given.now)) }
+    ensures { option_map text_view result ≡ lone (option_values (text_view option.entry) (map given_view given.now)) }
 {
     let mut found = None;
     for one in given {

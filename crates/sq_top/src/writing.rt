@@ -3,7 +3,7 @@ ghost use Rattle.std.specs.Prelude.{◌≡◌, ◌≤◌, ◌++◌, [], IfErr, I
 ghost use Rattle.sq_value.specs.Lists.{numbers_to};
 ghost use Rattle.sq_net.specs.Sound.{IsSound};
 ghost use Rattle.sq_outside.specs.Sinks.{AppendsPrefix, appended};
-ghost use Rattle.sq_core.specs.Runs.{IsSoundEngine, fed_at, late_at};
+ghost use Rattle.sq_core.specs.Runs.{IsSoundEngine, fed_at, late_at_seat};
 ghost use Rattle.sq_top.specs.Writing.{IsLost, Moves};
 ghost use Rattle.sq_top.specs.Driving.{ends_text};
 
@@ -71,7 +71,7 @@ pub(crate) fn count_fed(alloc: Global, engine: &Engine) -> Result<Vec<u64>, Allo
 /// How many of them each box has neither given nor holds, in file order.
 pub(crate) fn count_late(alloc: Global, engine: &Engine) -> Result<Vec<u64>, AllocError>
     requires { IsSoundEngine engine.now }
-    ensures { IfOk result (λ v. v.items ≡ map (late_at engine.now) (numbers_to (length engine.now.network.boxes))) }
+    ensures { IfOk result (λ v. v.items ≡ map (late_at_seat engine.now) (numbers_to (length engine.now.network.boxes))) }
 {
     let mut late = Vec::new(alloc);
     for at in 0..count_boxes(&engine.network) {

@@ -12,9 +12,9 @@ use Rattle.std.proofs.lemmas.Option.{same_Some}
 use Rattle.sq_value.specs.Classes.{Class, Shown, Dropped, Planned, Ended, first_field, second_field, is_of_class, of_class, whole_lines, unfinished}
 use Rattle.sq_value.proofs.ListLemmas.{same_bytes-true, same_bytes-refl}
 use Rattle.sq_verdict.specs.declared.verdict.Verdict.TheVariants as verdict
-use Rattle.sq_verdict.specs.Faults.{Lines, drop_in, batch_of, recorded, rises, has_first, is_end, has_word, output_in, is_next, is_line_at, count_of, word_fault, class_fault, fault_of, ends_with_end, is_short, verdict_from, verdict_on}
+use Rattle.sq_verdict.specs.Faults.{Lines, drop_told_in, batch_of, recorded, batch_rises, has_first, is_end, has_word, output_told_in, is_next, is_line_at, count_of, word_fault, class_fault, fault_of, ends_with_end, is_short, verdict_from, verdict_on}
 use Rattle.sq_verdict.proofs.Plain.{not_true}
-use Rattle.sq_verdict.specs.Whole.{Due, IsSoundDue, IsWhole, is_classed}
+use Rattle.sq_verdict.specs.Whole.{Expected, IsSoundDue, IsWhole, is_expected}
 
 -- ---- outputs, of which each name stands once
 
@@ -115,11 +115,11 @@ slice_get-next (z ∷ xs) x ys = slice_get-next xs x ys
 
 -- a line that records a batch of a drop is of the drop's class
 abbrev pub DropsHaveClass : ℕ → Type 0
-DropsHaveClass drops = (l : List ℕ) (w b : ℕ) → drop_in drops l ≡ Some (w, b) → is_of_class (Dropped w) l ≡ true
+DropsHaveClass drops = (l : List ℕ) (w b : ℕ) → drop_told_in drops l ≡ Some (w, b) → is_of_class (Dropped w) l ≡ true
 
 -- ---- what is recorded of a drop stands in the lines of its class
 module _ (drops : ℕ) (classes : DropsHaveClass drops) (w : ℕ) where
-  none_of_drop : (o : Option (ℕ × ℕ)) (l : List ℕ) → drop_in drops l ≡ o → is_of_class (Dropped w) l ≡ false → batch_of w o ≡ []
+  none_of_drop : (o : Option (ℕ × ℕ)) (l : List ℕ) → drop_told_in drops l ≡ o → is_of_class (Dropped w) l ≡ false → batch_of w o ≡ []
   none_of_drop None l e h = refl
   none_of_drop (Some d) l e h = elim (cases_Bool (d.0 == w)) [
     | inl holds ↦ let same : d.0 ≡ w = grind (arith, nat_tests, holds) in
@@ -130,8 +130,8 @@ module _ (drops : ℕ) (classes : DropsHaveClass drops) (w : ℕ) where
   pub recorded_of_class : (ls : List (List ℕ)) → recorded drops (filter (is_of_class (Dropped w)) ls) w ≡ recorded drops ls w
   recorded_of_class [] = refl
   recorded_of_class (l ∷ ls) = elim (cases_Bool (is_of_class (Dropped w) l)) [
-    | inl holds ↦ rw holds (ap (λ bs. batch_of w (drop_in drops l) ++ bs) (recorded_of_class ls))
-    | inr fails ↦ rw (fails, none_of_drop (drop_in drops l) l refl fails) (recorded_of_class ls)
+    | inl holds ↦ rw holds (ap (λ bs. batch_of w (drop_told_in drops l) ++ bs) (recorded_of_class ls))
+    | inr fails ↦ rw (fails, none_of_drop (drop_told_in drops l) l refl fails) (recorded_of_class ls)
   ]
 
 -- ---- where a line stands among those that end with the last one
@@ -204,7 +204,7 @@ first_is word l h = same_bytes-true (first_field l) word h
 other_word : (a b l : List ℕ) → has_first a l ≡ true → same_bytes a b ≡ false → has_first b l ≡ false
 other_word a b l h e = rw (first_is a l h) e
 
-module _ (d : Due) (text : List ℕ) (classes : DropsHaveClass d.drops) (s : IsSoundDue d) (h : IsWhole d text) where
+module _ (d : Expected) (text : List ℕ) (classes : DropsHaveClass d.drops) (s : IsSoundDue d) (h : IsWhole d text) where
   abbrev drops : ℕ
   drops = d.drops
 
@@ -241,15 +241,15 @@ module _ (d : Due) (text : List ℕ) (classes : DropsHaveClass d.drops) (s : IsS
         let next : slice_get o.1 (count_of before o.0) ≡ Some l = ap (λ x. slice_get x (count_of before o.0)) all ∙ slice_get-next (filter (is_of_class (Shown o.0)) before) l (filter (is_of_class (Shown o.0)) rest) in
         ap (λ n. is_line_at n l) next ∙ same_bytes-refl l
 
-    line_classed : is_classed d l ≡ true
-    line_classed = all_at (is_classed d) before l rest (subst (λ x. list_all (is_classed d) x ≡ true) e h.classed)
+    line_classed : is_expected d l ≡ true
+    line_classed = all_at (is_expected d) before l rest (subst (λ x. list_all (is_expected d) x ≡ true) e h.classed)
 
     -- a line of a drop goes on
-    drop_rises : (w : ℕ) → w < drops → is_of_class (Dropped w) l ≡ true → rises drops before (drop_in drops l) ≡ true
+    drop_rises : (w : ℕ) → w < drops → is_of_class (Dropped w) l ≡ true → batch_rises drops before (drop_told_in drops l) ≡ true
     drop_rises w low of =
         let p = is_of_class (Dropped w) in
         let r = s.dropped w low (filter p before) l (filter p rest) (sym (h.dropped w low) ∙ class_split (Dropped w) of) in
-        ap (rises drops before) r.1 ∙ ap (λ bs. nat_le (max_by (λ b. b + 1) bs) r.0) (sym (recorded_of_class drops classes w before)) ∙ r.2
+        ap (batch_rises drops before) r.1 ∙ ap (λ bs. nat_le (max_by (λ b. b + 1) bs) r.0) (sym (recorded_of_class drops classes w before)) ∙ r.2
 
     module _ (none : list_any (λ o. has_first o.0 l) d.shown ≡ false) where
       abbrev dropped_one : Bool
@@ -300,7 +300,7 @@ module _ (d : Due) (text : List ℕ) (classes : DropsHaveClass d.drops) (s : IsS
       ]
 
       -- a line with the word of a drop is of the class of one
-      drop_line_rises : has_first (codes "@drop") l ≡ true → rises drops before (drop_in drops l) ≡ true
+      drop_line_rises : has_first (codes "@drop") l ≡ true → batch_rises drops before (drop_told_in drops l) ≡ true
       drop_line_rises first =
           let plan = other_word (codes "@drop") (codes "@plan") l first refl in
           let box = other_word (codes "@drop") (codes "@box") l first refl in
@@ -322,12 +322,12 @@ module _ (d : Due) (text : List ℕ) (classes : DropsHaveClass d.drops) (s : IsS
         | inr fails ↦ rw (has_some_word, fails) refl
       ]
 
-    no_class_fault : (o : Option (List ℕ × List (List ℕ))) → output_in d.shown l ≡ o → class_fault drops before l o ≡ None
+    no_class_fault : (o : Option (List ℕ × List (List ℕ))) → output_told_in d.shown l ≡ o → class_fault drops before l o ≡ None
     no_class_fault None at = no_word_fault (any_none (λ o. has_first o.0 l) d.shown at)
     no_class_fault (Some o) at = rw (own_line o (found (λ x. has_first x.0 l) d.shown o at)) refl
 
     pub no_fault : fault_of d.shown drops before l ≡ None
-    no_fault = rw (none_end before where_it_stands.none) (no_class_fault (output_in d.shown l) refl)
+    no_fault = rw (none_end before where_it_stands.none) (no_class_fault (output_told_in d.shown l) refl)
 
   enough : (front back : Lines) → d.shown ≡ front ++ back → list_any (λ o. nat_lt (count_of ls o.0) (length o.1)) back ≡ false
   enough front [] e = refl

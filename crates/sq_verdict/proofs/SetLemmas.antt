@@ -6,7 +6,7 @@ use Rattle.std.specs.BTreeSet.{BTreeSet, contains}
 use Rattle.std.proofs.lemmas.Bool.{cases_Bool}
 use Rattle.std.proofs.lemmas.Bool.Decides.{nat_tests}
 use Rattle.sq_graph.specs.Order.{contains_number}
-use Rattle.sq_verdict.specs.Faults.{batch_of, drop_in, recorded}
+use Rattle.sq_verdict.specs.Faults.{batch_of, drop_told_in, recorded}
 use Rattle.sq_verdict.specs.Walking.{HoldRecord, IsPut}
 
 -- what all lines record of each drop is in the sets or recorded by the lines that are left
@@ -27,14 +27,14 @@ hold_all drops sets left all none h w s at b = sym (h w s b at ∙ ap (λ ls. co
     or_none false = refl
 
 module _ (drops : ℕ) (sets now : List (BTreeSet ℕ)) (line : List ℕ) (rest left all : List (List ℕ)) (cut : left ≡ line ∷ rest) (h : HoldFront drops sets left all) where
-  first : (w : ℕ) → recorded drops left w ≡ batch_of w (drop_in drops line) ++ recorded drops rest w
+  first : (w : ℕ) → recorded drops left w ≡ batch_of w (drop_told_in drops line) ++ recorded drops rest w
   first w = ap (λ ls. recorded drops ls w) cut
 
-  pub hold_same : drop_in drops line ≡ None → HoldFront drops sets rest all
+  pub hold_same : drop_told_in drops line ≡ None → HoldFront drops sets rest all
   hold_same none w s b at =
       h w s b at ∙ ap (λ bs. contains nat_cmp s b || contains_number bs b) (first w ∙ ap (λ o. batch_of w o ++ recorded drops rest w) none)
 
-  module _ (v c : ℕ) (is : drop_in drops line ≡ Some (v, c)) where
+  module _ (v c : ℕ) (is : drop_told_in drops line ≡ Some (v, c)) where
     none_of : (w : ℕ) → (v == w) ≡ false → batch_of w (Some (v, c)) ≡ []
     none_of w e = rw e refl
 

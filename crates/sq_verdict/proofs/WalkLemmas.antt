@@ -17,7 +17,7 @@ use Rattle.sq_verdict.specs.declared.verdict.Verdict.{Verdict}
 use Rattle.sq_verdict.specs.declared.verdict.Verdict.TheVariants as verdict
 use Rattle.sq_verdict.specs.declared.verdict.Wanted.{Wanted}
 use Rattle.sq_verdict.specs.Cutting.{IsCut, IsRest}
-use Rattle.sq_verdict.specs.Faults.{Lines, batch_of, drop_in, recorded, has_first, output_in, count_of, is_end, is_short, class_fault, fault_of, at_line, verdict_from, verdict_on}
+use Rattle.sq_verdict.specs.Faults.{Lines, batch_of, drop_told_in, recorded, has_first, output_told_in, count_of, is_end, is_short, class_fault, fault_of, fault_at_line, verdict_from, verdict_on}
 use Rattle.sq_verdict.specs.Wanting.{shown_of, shown_one}
 use Rattle.sq_verdict.specs.Walking.{IsAfter, AreAtPlaces, IsAtPlace, IsMost}
 use Rattle.sq_verdict.proofs.Accepts.{found, any_none, ends_last-is}
@@ -82,11 +82,11 @@ module _ (record_at : ℕ → List ℕ) (streams : List (List Tuple)) (line : Li
       let parts = or_parts (has_first o.name line) (list_any (λ o. has_first o.0 line) (shown_of record_at streams os)) h in
       rw parts.0 (named_none os parts.1)
 
-  pub none_found : (os : List Wanted) → output_in (shown_of record_at streams os) line ≡ None → list_any (λ (o : Wanted). has_first o.name line) os ≡ false
+  pub none_found : (os : List Wanted) → output_told_in (shown_of record_at streams os) line ≡ None → list_any (λ (o : Wanted). has_first o.name line) os ≡ false
   none_found os e = named_none os (any_none (λ o. has_first o.0 line) (shown_of record_at streams os) e)
 
-  pub one_found : (os : List Wanted) (i : ℕ) (o : Wanted) → slice_get os i ≡ Some o → output_in (shown_of record_at streams os) line ≡ slice_get (shown_of record_at streams os) i
-      → (output_in (shown_of record_at streams os) line ≡ Some (shown_one record_at streams o)) × (has_first o.name line ≡ true)
+  pub one_found : (os : List Wanted) (i : ℕ) (o : Wanted) → slice_get os i ≡ Some o → output_told_in (shown_of record_at streams os) line ≡ slice_get (shown_of record_at streams os) i
+      → (output_told_in (shown_of record_at streams os) line ≡ Some (shown_one record_at streams o)) × (has_first o.name line ≡ true)
   one_found os i o at e =
       let is = e ∙ slice_get-map (shown_one record_at streams) os i ∙ ap (option_map (shown_one record_at streams)) at in
       (is, (found (λ o. has_first o.0 line) (shown_of record_at streams os) (shown_one record_at streams o) is).passes)
@@ -97,15 +97,15 @@ max_one : (bs : List ℕ) (b : ℕ) → max_by (λ k. k + 1) (bs ++ (b ∷ [])) 
 max_one [] b = omega arith
 max_one (c ∷ bs) b = let more = max_one bs b in omega (arith, more)
 
-recorded_more : (drops : ℕ) (before : List (List ℕ)) (line : List ℕ) (w : ℕ) → recorded drops (before ++ (line ∷ [])) w ≡ recorded drops before w ++ batch_of w (drop_in drops line)
+recorded_more : (drops : ℕ) (before : List (List ℕ)) (line : List ℕ) (w : ℕ) → recorded drops (before ++ (line ∷ [])) w ≡ recorded drops before w ++ batch_of w (drop_told_in drops line)
 recorded_more drops before line w =
-    flat_map-append (λ l. batch_of w (drop_in drops l)) before (line ∷ []) ∙ ap (λ x. recorded drops before w ++ x) (append-nil (batch_of w (drop_in drops line)))
+    flat_map-append (λ l. batch_of w (drop_told_in drops l)) before (line ∷ []) ∙ ap (λ x. recorded drops before w ++ x) (append-nil (batch_of w (drop_told_in drops line)))
 
-pub most_same : (drops : ℕ) (most : List ℕ) (before : List (List ℕ)) (line : List ℕ) → drop_in drops line ≡ None → IsMost drops most before → IsMost drops most (before ++ (line ∷ []))
+pub most_same : (drops : ℕ) (most : List ℕ) (before : List (List ℕ)) (line : List ℕ) → drop_told_in drops line ≡ None → IsMost drops most before → IsMost drops most (before ++ (line ∷ []))
 most_same drops most before line none h w inside =
     h w inside ∙ sym (ap (max_by (λ b. b + 1)) (recorded_more drops before line w ∙ ap (λ o. recorded drops before w ++ batch_of w o) none ∙ append-nil (recorded drops before w)))
 
-pub most_after : (drops : ℕ) (most now : List ℕ) (before : List (List ℕ)) (line : List ℕ) (v b : ℕ) → drop_in drops line ≡ Some (v, b) → slice_index now v ≡ max (slice_index most v) (b + 1)
+pub most_after : (drops : ℕ) (most now : List ℕ) (before : List (List ℕ)) (line : List ℕ) (v b : ℕ) → drop_told_in drops line ≡ Some (v, b) → slice_index now v ≡ max (slice_index most v) (b + 1)
     → ((j : ℕ) → j ≢ v → slice_index now j ≡ slice_index most j) → IsMost drops most before → IsMost drops now (before ++ (line ∷ []))
 most_after drops most now before line v b is hit miss h w inside =
     elim (cases_Bool (v == w)) [
@@ -121,7 +121,7 @@ most_after drops most now before line v b is hit miss h w inside =
     ]
 
 -- where no end came before, a fault is that of the line's class
-pub unended_fault : (shown : Lines) (drops : ℕ) (before : List (List ℕ)) (line : List ℕ) → list_any is_end before ≡ false → class_fault drops before line (output_in shown line) ≡ fault_of shown drops before line
+pub unended_fault : (shown : Lines) (drops : ℕ) (before : List (List ℕ)) (line : List ℕ) → list_any is_end before ≡ false → class_fault drops before line (output_told_in shown line) ≡ fault_of shown drops before line
 unended_fault shown drops before line e = rw e refl
 
 -- ---- one line more
@@ -175,14 +175,14 @@ module _ (record_at : ℕ → List ℕ) (streams : List (List Tuple)) (os : List
       before = h.before ++ (line ∷ []);
       after = after;
       number_is = ap (λ k. k + 1) h.number_is ∙ sym (length-append h.before (line ∷ []));
-      verdict_is = sym (ap (λ o. at_line (length h.before) o (verdict_from shown drops (unfinished text) (h.before ++ (line ∷ [])) (whole_lines rest))) none) ∙ next_verdict;
+      verdict_is = sym (ap (λ o. fault_at_line (length h.before) o (verdict_from shown drops (unfinished text) (h.before ++ (line ∷ [])) (whole_lines rest))) none) ∙ next_verdict;
       left_is = sym cut.left ∙ h.left_is;
     }
 
     pub walked_fault : (y : AuditWhy) → fault_of shown drops h.before line ≡ Some y → verdict.No (number + 1) y ≡ verdict_on shown drops text
     walked_fault y some =
         ap (λ k. verdict.No (k + 1) y) h.number_is
-        ∙ sym (ap (λ o. at_line (length h.before) o (verdict_from shown drops (unfinished text) (h.before ++ (line ∷ [])) (whole_lines rest))) some) ∙ next_verdict
+        ∙ sym (ap (λ o. fault_at_line (length h.before) o (verdict_from shown drops (unfinished text) (h.before ++ (line ∷ [])) (whole_lines rest))) some) ∙ next_verdict
 
 -- the end of a walk
 abbrev pub ending : Bool → ℕ → Verdict

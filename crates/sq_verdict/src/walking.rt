@@ -3,12 +3,12 @@ ghost use Rattle.std.specs.Prelude.{◌≡◌, ◌≢◌, ◌<◌, ◌+◌, ◌^
 ghost use Rattle.std.specs.List.{All, find, list_any};
 ghost use Rattle.sq_value.specs.Lists.{are_distinct, same_bytes};
 ghost use Rattle.sq_value.specs.Classes.{first_field, whole_lines};
-ghost use Rattle.sq_verdict.specs.Faults.{Lines, class_fault, count_of, drop_in, fault_of, has_first, has_word, is_end, is_next, output_in, recorded, rises, word_fault};
+ghost use Rattle.sq_verdict.specs.Faults.{Lines, class_fault, count_of, drop_told_in, fault_of, has_first, has_word, is_end, is_next, output_told_in, recorded, batch_rises, word_fault};
 ghost use Rattle.sq_verdict.specs.Wanting.{IsBelow, nth, shown_of, shown_one, verdict_of};
 ghost use Rattle.sq_verdict.specs.Walking.{AreAtPlaces, HoldRecord, IsAfter, IsAtPlace, IsMost, found_in, is_line_of, line_fault};
 
 use crate::cutting::{cut_field, cut_line};
-use crate::dropping::drop_in;
+use crate::dropping::drop_told_in;
 use crate::recording::recorded_in;
 use crate::skipping::next_place;
 use crate::{AuditWhy, Verdict, Wanted};
@@ -36,9 +36,9 @@ fn has_word(field: &[u8], line: &[u8]) -> bool
 }
 
 /// Whether what a line records is above what was recorded of its drop.
-fn rises(most: &Vec<u64>, found: Option<(u64, u64)>) -> bool
+fn batch_rises(most: &Vec<u64>, found: Option<(u64, u64)>) -> bool
     requires { IfSome found (λ d. d.0 < length most.now.items) }
-    ensures { (before : List (List ℕ)) → IsMost (length most.now.items) most.now.items before → result ≡ rises (length most.now.items) before found }
+    ensures { (before : List (List ℕ)) → IsMost (length most.now.items) most.now.items before → result ≡ batch_rises (length most.now.items) before found }
 {
     match found {
         None => false,
@@ -54,14 +54,14 @@ fn word_fault(
     line: &[u8],
 ) -> Option<AuditWhy>
     requires field { field.now ≡ first_field line.now }
-    requires found { found ≡ drop_in (length most.now.items) line.now }
+    requires found { found ≡ drop_told_in (length most.now.items) line.now }
     requires inside { IfSome found (λ d. d.0 < length most.now.items) }
     ensures { (before : List (List ℕ)) → IsMost (length most.now.items) most.now.items before → result ≡ word_fault (length most.now.items) before line.now }
 {
     if !has_word(field, line) {
         return Some(AuditWhy::Form);
     }
-    if !same_bytes(field, b"@drop") || rises(most, found) {
+    if !same_bytes(field, b"@drop") || batch_rises(most, found) {
         return None;
     }
     Some(AuditWhy::Drop)
@@ -186,7 +186,7 @@ fn class_fault(
     line: &[u8],
     buffer: &mut Vec<u8>,
 ) -> Result<Option<AuditWhy>, AllocError>
-    requires found { found ≡ drop_in (length most.now.items) line.now }
+    requires found { found ≡ drop_told_in (length most.now.items) line.now }
     requires inside { IfSome found (λ d. d.0 < length most.now.items) }
     requires below { All (IsBelow (length sets.now)) outputs.now }
     requires counted { length places.old.items ≡ length outputs.now }
@@ -194,7 +194,7 @@ fn class_fault(
     ensures length { length places.new.items ≡ length places.old.items }
     ensures fault { IfOk result (λ v. (record_at : ℕ → List ℕ) (before : List (List ℕ)) → HoldRecord sets.now record_at → IsMost (length most.now.items) most.now.items before
         → AreAtPlaces record_at (map (λ t. t.items) streams.now) outputs.now places.old.items before
-        → v ≡ class_fault (length most.now.items) before line.now (output_in (shown_of record_at (map (λ t. t.items) streams.now) outputs.now) line.now)) }
+        → v ≡ class_fault (length most.now.items) before line.now (output_told_in (shown_of record_at (map (λ t. t.items) streams.now) outputs.now) line.now)) }
     ensures places { IfOk result (λ v. v ≡ None → (record_at : ℕ → List ℕ) (before : List (List ℕ)) → HoldRecord sets.now record_at
         → AreAtPlaces record_at (map (λ t. t.items) streams.now) outputs.now places.old.items before
         → AreAtPlaces record_at (map (λ t. t.items) streams.now) outputs.now places.new.items (before ++ line.now ∷ [])) }
@@ -222,7 +222,7 @@ fn raise(most: &mut Vec<u64>, w: u64, b: u64)
 fn note_drop(most: &mut Vec<u64>, found: Option<(u64, u64)>)
     requires inside { IfSome found (λ d. (d.0 < length most.old.items) × (d.1 < 2 ^ 40)) }
     ensures length { length most.new.items ≡ length most.old.items }
-    ensures most { (drops : ℕ) (before : List (List ℕ)) (line : List ℕ) → found ≡ drop_in drops line → IsMost drops most.old.items before → IsMost drops most.new.items (before ++ line ∷ []) }
+    ensures most { (drops : ℕ) (before : List (List ℕ)) (line : List ℕ) → found ≡ drop_told_in drops line → IsMost drops most.old.items before → IsMost drops most.new.items (before ++ line ∷ []) }
 {
     if let Some((w, b)) = found {
         raise(most, w, b);
@@ -254,7 +254,7 @@ fn step(
     if walk.ended {
         return Ok(Some(AuditWhy::End));
     }
-    let found = drop_in(sets.len() as u64, line, buffer)?;
+    let found = drop_told_in(sets.len() as u64, line, buffer)?;
     let fault = class_fault(
         sets,
         streams,

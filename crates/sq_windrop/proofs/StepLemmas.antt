@@ -22,7 +22,7 @@ use Rattle.sq_tagged.specs.Tagged.{Timed, mark_thing}
 use Rattle.sq_oper.proofs.PartLemmas.{at_port-append, item_law, body_prefix}
 use Rattle.sq_windrop.specs.declared.drop.Dropping.{Dropping}
 use Rattle.sq_windrop.specs.declared.drop.Batches.{Batches}
-use Rattle.sq_windrop.specs.Drops.{is_dropped, drop_mark, marks_for, decided, decision, greatest, bound_of, newly, after_tuple, for_tuple, drop_next, drop_gives, drop_rest, holds_none, decided_load, drop_decides, next_body, gives_body, decided_body}
+use Rattle.sq_windrop.specs.Drops.{is_dropped, drop_mark, marks_for, decided, decision, greatest_bound, bound_of, newly, after_tuple, for_tuple, drop_next, drop_gives, drop_rest, drop_holds, decided_load, drop_decides, next_body, gives_body, decided_body}
 use Rattle.sq_windrop.proofs.DropLemmas.{newly-early}
 
 -- the epoch of an earlier tick is closed too
@@ -56,13 +56,13 @@ module _ (d : Dropping) (table : ℕ → ℕ → ℕ) where
   pub decided-push : (before : List Decision) (bs : List ℕ) (b : ℕ) → (before ++ decided d table bs) ++ decided d table (b ∷ []) ≡ before ++ decided d table (bs ++ b ∷ [])
   decided-push before bs b = append_assoc before (decided d table bs) (decided d table (b ∷ [])) ∙ ap (λ l. before ++ l) (sym (decided-append bs (b ∷ [])))
 
-  greatest-append : (ms ns : List Timed) → greatest (ms ++ ns) ≡ max (greatest ms) (greatest ns)
+  greatest-append : (ms ns : List Timed) → greatest_bound (ms ++ ns) ≡ max (greatest_bound ms) (greatest_bound ns)
   greatest-append [] ns = omega arith
   greatest-append (m ∷ ms) ns = let r = greatest-append ms ns in omega (arith, r)
 
-  pub bound-push : (bound : ℕ) (bs : List ℕ) (b : ℕ) → max (max bound (greatest (marks_for d table bs))) (bound_of (drop_mark d table b)) ≡ max bound (greatest (marks_for d table (bs ++ b ∷ [])))
+  pub bound-push : (bound : ℕ) (bs : List ℕ) (b : ℕ) → max (max bound (greatest_bound (marks_for d table bs))) (bound_of (drop_mark d table b)) ≡ max bound (greatest_bound (marks_for d table (bs ++ b ∷ [])))
   bound-push bound bs b =
-      let e = ap greatest (map-append (drop_mark d table) bs (b ∷ [])) ∙ greatest-append (marks_for d table bs) (marks_for d table (b ∷ [])) in
+      let e = ap greatest_bound (map-append (drop_mark d table) bs (b ∷ [])) ∙ greatest-append (marks_for d table bs) (marks_for d table (b ∷ [])) in
       omega (arith, e)
 
   -- what is a prefix of the marks of some batches is one of those of more
@@ -162,7 +162,7 @@ module _ (d : Dropping) (table : ℕ → ℕ → ℕ) (port : ℕ) (item : Item)
   pub drop_law : (future : List Entry) (q : ℕ) (s s2 : Batches) (before after : List Thing) → s2 ≡ next_body d table s item.time item.body → after ≡ before ++ at_zero q (gives_body d table s item.time item.body)
       → before ++ drop_rest d table s (entries port item ++ future) q ≡ after ++ drop_rest d table s2 future q
   drop_law future q s s2 before after is gave =
-      item_law (drop_next d table) (drop_gives d table) holds_none port item future q s s s2 before before after
+      item_law (drop_next d table) (drop_gives d table) drop_holds port item future q s s s2 before before after
       (sym (mark-same s item.mark))
       (sym (ap (λ l. before ++ l) (mark-gives s q item.mark) ∙ append-nil before))
       (is ∙ sym (body-next s item.body))
@@ -171,7 +171,7 @@ module _ (d : Dropping) (table : ℕ → ℕ → ℕ) (port : ℕ) (item : Item)
   pub drop_prefix : (future : List Entry) (q : ℕ) (s : Batches) (before after : List Thing) → IsPrefixOf after (before ++ at_zero q (gives_body d table s item.time item.body))
       → IsPrefixOf after (before ++ drop_rest d table s (entries port item ++ future) q)
   drop_prefix future q s before after h =
-      body_prefix (drop_next d table) (drop_gives d table) holds_none port item future q s s before before after
+      body_prefix (drop_next d table) (drop_gives d table) drop_holds port item future q s s before before after
       (sym (mark-same s item.mark))
       (sym (ap (λ l. before ++ l) (mark-gives s q item.mark) ∙ append-nil before))
       (subst (λ l. IsPrefixOf after (before ++ l)) (sym (body-gives s q item.body)) h)

@@ -47,8 +47,8 @@ decided d table bs = map (decision d table) (filter (is_dropped d table) bs)
 abbrev pub bound_of : Timed → ℕ
 bound_of m = bound_in m.1
 
-abbrev pub greatest : List Timed → ℕ
-greatest ms = max_by bound_of ms
+abbrev pub greatest_bound : List Timed → ℕ
+greatest_bound ms = max_by bound_of ms
 
 -- the first batch that a tick touches or a later one can touch
 abbrev pub first_touched : Dropping → ℕ → ℕ
@@ -62,7 +62,7 @@ abbrev pub newly : Dropping → ℕ → ℕ → List ℕ
 newly d next time = range_with_len (first_new d next time) (time / d.length + 1 - first_new d next time)
 
 abbrev pub after_tuple : Dropping → (ℕ → ℕ → ℕ) → Batches → ℕ → Batches
-after_tuple d table s time = record { next = max s.next (time / d.length + 1); bound = max s.bound (greatest (marks_for d table (newly d s.next time))) }
+after_tuple d table s time = record { next = max s.next (time / d.length + 1); bound = max s.bound (greatest_bound (marks_for d table (newly d s.next time))) }
 
 -- what is given for a tuple
 abbrev pub for_tuple : Dropping → (ℕ → ℕ → ℕ) → Batches → ℕ → List Value → List Thing
@@ -70,13 +70,13 @@ for_tuple d table s time fields =
     map mark_thing (marks_for d table (newly d s.next time))
     ++ (if nat_lt time (after_tuple d table s time).bound then record { time = time; load = Body fields } ∷ [] else [])
 
-abbrev pub next_load : Dropping → (ℕ → ℕ → ℕ) → Batches → ℕ → Load → Batches
-next_load d table s time (Sign m) = s
-next_load d table s time (Body fields) = after_tuple d table s time
+abbrev pub drop_next_load : Dropping → (ℕ → ℕ → ℕ) → Batches → ℕ → Load → Batches
+drop_next_load d table s time (Sign m) = s
+drop_next_load d table s time (Body fields) = after_tuple d table s time
 
-abbrev pub gives_load : Dropping → (ℕ → ℕ → ℕ) → Batches → ℕ → Load → List Thing
-gives_load d table s time (Sign m) = []
-gives_load d table s time (Body fields) = for_tuple d table s time fields
+abbrev pub drop_gives_load : Dropping → (ℕ → ℕ → ℕ) → Batches → ℕ → Load → List Thing
+drop_gives_load d table s time (Sign m) = []
+drop_gives_load d table s time (Body fields) = for_tuple d table s time fields
 
 -- of an item's tuple
 abbrev pub next_body : Dropping → (ℕ → ℕ → ℕ) → Batches → ℕ → Option (List Value) → Batches
@@ -92,16 +92,16 @@ decided_body d table s time None = []
 decided_body d table s time (Some fields) = decided d table (newly d s.next time)
 
 abbrev pub drop_next : Dropping → (ℕ → ℕ → ℕ) → Batches → Entry → Batches
-drop_next d table s e = next_load d table s e.thing.time e.thing.load
+drop_next d table s e = drop_next_load d table s e.thing.time e.thing.load
 
 abbrev pub drop_gives : Dropping → (ℕ → ℕ → ℕ) → Batches → Entry → ℕ → List Thing
-drop_gives d table s e q = at_zero q (gives_load d table s e.thing.time e.thing.load)
+drop_gives d table s e q = at_zero q (drop_gives_load d table s e.thing.time e.thing.load)
 
-abbrev pub holds_none : Batches → ℕ → List Thing
-holds_none s q = []
+abbrev pub drop_holds : Batches → ℕ → List Thing
+drop_holds s q = []
 
 abbrev pub drop_rest : Dropping → (ℕ → ℕ → ℕ) → Batches → List Entry → ℕ → List Thing
-drop_rest d table s future q = run_of (drop_next d table) (drop_gives d table) holds_none s future q
+drop_rest d table s future q = run_of (drop_next d table) (drop_gives d table) drop_holds s future q
 
 abbrev pub decided_load : Dropping → (ℕ → ℕ → ℕ) → Batches → ℕ → Load → List Decision
 decided_load d table s time (Sign m) = []

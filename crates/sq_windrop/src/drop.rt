@@ -3,9 +3,9 @@
 ghost use Rattle.std.specs.Prelude.{◌≡◌, ℕ, ◌+◌, ◌-◌, ◌*◌, ◌/◌, ◌^◌, ◌<◌, ◌≤◌, ◌==◌, ◌++◌, ◌∷◌, true, false, List, [], Some, map, length, is_some, IsTrue, IfOk, OnOk, OnErr, if◌then◌else◌};
 ghost use Rattle.sq_value.specs.declared.Value.{Value};
 ghost use Rattle.sq_value.specs.Lists.{IsPrefixOf};
-ghost use Rattle.sq_item.specs.Sound.{IsBody, IsMark, IsSound};
+ghost use Rattle.sq_item.specs.Sound.{IsBody, IsMark, IsSoundItem};
 ghost use Rattle.sq_item.specs.Things.{Thing};
-ghost use Rattle.sq_road.specs.Levels.{Agrees};
+ghost use Rattle.sq_road.specs.Levels.{AgreesWith};
 ghost use Rattle.sq_oper.specs.declared.tally.Place.{Place};
 ghost use Rattle.sq_oper.specs.Entries.{Entry, entries};
 ghost use Rattle.sq_oper.specs.Given.{given, ItemsSound, ThingsUpTo};
@@ -104,11 +104,11 @@ fn decide<T: Outlet>(
     requires epoch { with.now.epoch ≡ levels.now.epoch }
     requires level { time / levels.now.epoch < levels.now.closed }
     requires is_ready { T.ready out.old }
-    ensures given { OnOk result ((table : ℕ → ℕ → ℕ) → Agrees levels.now table → (q : ℕ)
+    ensures given { OnOk result ((table : ℕ → ℕ → ℕ) → AgreesWith levels.now table → (q : ℕ)
         → given q (T.items out.new) ≡ given q (T.items out.old) ++ at_zero q (mark_thing (drop_mark with.now table batch) ∷ [])) }
-    ensures bound { IfOk result (λ bound. (table : ℕ → ℕ → ℕ) → Agrees levels.now table → bound ≡ bound_of (drop_mark with.now table batch)) }
-    ensures drops { OnOk result ((table : ℕ → ℕ → ℕ) → Agrees levels.now table → (T.drops out.new) ≡ (T.drops out.old) ++ decided with.now table (batch ∷ [])) }
-    ensures prefix { OnErr result ((table : ℕ → ℕ → ℕ) → Agrees levels.now table → (q : ℕ)
+    ensures bound { IfOk result (λ bound. (table : ℕ → ℕ → ℕ) → AgreesWith levels.now table → bound ≡ bound_of (drop_mark with.now table batch)) }
+    ensures drops { OnOk result ((table : ℕ → ℕ → ℕ) → AgreesWith levels.now table → (T.drops out.new) ≡ (T.drops out.old) ++ decided with.now table (batch ∷ [])) }
+    ensures prefix { OnErr result ((table : ℕ → ℕ → ℕ) → AgreesWith levels.now table → (q : ℕ)
         → IsPrefixOf (given q (T.items out.new)) (given q (T.items out.old) ++ at_zero q (mark_thing (drop_mark with.now table batch) ∷ []))) }
     ensures drops_err { OnErr result ((T.drops out.new) ≡ (T.drops out.old)) }
     ensures sound { ItemsSound (T.items out.old) → ItemsSound (T.items out.new) }
@@ -148,13 +148,13 @@ fn touch<T: Outlet>(
     requires epoch { with.now.epoch ≡ levels.now.epoch }
     requires level { time / levels.now.epoch < levels.now.closed }
     requires is_ready { T.ready out.old }
-    ensures given { OnOk result ((table : ℕ → ℕ → ℕ) → Agrees levels.now table → (q : ℕ)
+    ensures given { OnOk result ((table : ℕ → ℕ → ℕ) → AgreesWith levels.now table → (q : ℕ)
         → given q (T.items out.new) ≡ given q (T.items out.old) ++ at_zero q (map mark_thing (marks_for with.now table (newly with.now batches.old.next time)))) }
-    ensures batches { OnOk result ((table : ℕ → ℕ → ℕ) → Agrees levels.now table → batches.new ≡ after_tuple with.now table batches.old time) }
-    ensures drops { OnOk result ((table : ℕ → ℕ → ℕ) → Agrees levels.now table → (T.drops out.new) ≡ (T.drops out.old) ++ decided with.now table (newly with.now batches.old.next time)) }
-    ensures prefix { OnErr result ((table : ℕ → ℕ → ℕ) → Agrees levels.now table → (q : ℕ)
+    ensures batches { OnOk result ((table : ℕ → ℕ → ℕ) → AgreesWith levels.now table → batches.new ≡ after_tuple with.now table batches.old time) }
+    ensures drops { OnOk result ((table : ℕ → ℕ → ℕ) → AgreesWith levels.now table → (T.drops out.new) ≡ (T.drops out.old) ++ decided with.now table (newly with.now batches.old.next time)) }
+    ensures prefix { OnErr result ((table : ℕ → ℕ → ℕ) → AgreesWith levels.now table → (q : ℕ)
         → IsPrefixOf (given q (T.items out.new)) (given q (T.items out.old) ++ at_zero q (map mark_thing (marks_for with.now table (newly with.now batches.old.next time))))) }
-    ensures drops_prefix { OnErr result ((table : ℕ → ℕ → ℕ) → Agrees levels.now table
+    ensures drops_prefix { OnErr result ((table : ℕ → ℕ → ℕ) → AgreesWith levels.now table
         → IsPrefixOf (T.drops out.new) ((T.drops out.old) ++ decided with.now table (newly with.now batches.old.next time))) }
     ensures sound { ItemsSound (T.items out.old) → ItemsSound (T.items out.new) }
     ensures extends { IsPrefixOf (T.items out.old) (T.items out.new) }
@@ -194,13 +194,13 @@ fn take<T: Outlet>(
     requires epoch { with.now.epoch ≡ levels.now.epoch }
     requires level { time / levels.now.epoch < levels.now.closed }
     requires is_ready { T.ready out.old }
-    ensures given { OnOk result ((table : ℕ → ℕ → ℕ) → Agrees levels.now table → (q : ℕ)
+    ensures given { OnOk result ((table : ℕ → ℕ → ℕ) → AgreesWith levels.now table → (q : ℕ)
         → given q (T.items out.new) ≡ given q (T.items out.old) ++ at_zero q (gives_body with.now table batches.old time body)) }
-    ensures batches { OnOk result ((table : ℕ → ℕ → ℕ) → Agrees levels.now table → batches.new ≡ next_body with.now table batches.old time body) }
-    ensures drops { OnOk result ((table : ℕ → ℕ → ℕ) → Agrees levels.now table → (T.drops out.new) ≡ (T.drops out.old) ++ decided_body with.now table batches.old time body) }
-    ensures prefix { OnErr result ((table : ℕ → ℕ → ℕ) → Agrees levels.now table → (q : ℕ)
+    ensures batches { OnOk result ((table : ℕ → ℕ → ℕ) → AgreesWith levels.now table → batches.new ≡ next_body with.now table batches.old time body) }
+    ensures drops { OnOk result ((table : ℕ → ℕ → ℕ) → AgreesWith levels.now table → (T.drops out.new) ≡ (T.drops out.old) ++ decided_body with.now table batches.old time body) }
+    ensures prefix { OnErr result ((table : ℕ → ℕ → ℕ) → AgreesWith levels.now table → (q : ℕ)
         → IsPrefixOf (given q (T.items out.new)) (given q (T.items out.old) ++ at_zero q (gives_body with.now table batches.old time body))) }
-    ensures drops_prefix { OnErr result ((table : ℕ → ℕ → ℕ) → Agrees levels.now table
+    ensures drops_prefix { OnErr result ((table : ℕ → ℕ → ℕ) → AgreesWith levels.now table
         → IsPrefixOf (T.drops out.new) ((T.drops out.old) ++ decided_body with.now table batches.old time body)) }
     ensures sound { ItemsSound (T.items out.old) → ItemsSound (T.items out.new) }
     ensures extends { IsPrefixOf (T.items out.old) (T.items out.new) }
@@ -285,29 +285,29 @@ impl Operator for WinDropBox {
         requires is_valid { IsDropping self.old.with }
         requires is_running { IsTrue self.old.tally.running }
         requires may_come { IsFuture unmarked port_fits self.old.tally.place (entries port item) }
-        requires is_sound { IsSound item }
+        requires is_sound { IsSoundItem item }
         requires has_epoch { IsTrue (drop_reads self.old.with levels.now.epoch) }
         requires has_level { item.time / levels.now.epoch < levels.now.closed }
         requires has_room { is_some item.body ≡ true → self.old.tally.taken < 2 ^ 62 - 1 }
         requires is_ready { T.ready out.old }
-        ensures law { OnOk result ((table : ℕ → ℕ → ℕ) (future : List Entry) → Agrees levels.now table
+        ensures law { OnOk result ((table : ℕ → ℕ → ℕ) (future : List Entry) → AgreesWith levels.now table
             → IsFuture (unmarked) (port_fits) (self.old.tally.place) (entries port item ++ future)
             → (q : ℕ) → given q (T.items out.old) ++ drop_rest self.old.with table self.old.batches (entries port item ++ future) q
             ≡ given q (T.items out.new) ++ drop_rest self.new.with table self.new.batches future q) }
-        ensures decided { OnOk result ((table : ℕ → ℕ → ℕ) (future : List Entry) → Agrees levels.now table
+        ensures decided { OnOk result ((table : ℕ → ℕ → ℕ) (future : List Entry) → AgreesWith levels.now table
             → IsFuture (unmarked) (port_fits) (self.old.tally.place) (entries port item ++ future)
             → (T.drops out.old) ++ drop_decides self.old.with table self.old.batches (entries port item ++ future)
             ≡ (T.drops out.new) ++ drop_decides self.new.with table self.new.batches future) }
         ensures loses { OnOk result ((future : List Entry) → none_lost (entries port item ++ future) ≡ none_lost future) }
         ensures extends { IsPrefixOf (T.items out.old) (T.items out.new) }
         ensures keeps_decisions { IsPrefixOf (T.drops out.old) (T.drops out.new) }
-        ensures prefix { OnErr result ((table : ℕ → ℕ → ℕ) (future : List Entry) → Agrees levels.now table
+        ensures prefix { OnErr result ((table : ℕ → ℕ → ℕ) (future : List Entry) → AgreesWith levels.now table
             → IsFuture (unmarked) (port_fits) (self.old.tally.place) (entries port item ++ future)
             → (q : ℕ) → IsPrefixOf (given q (T.items out.new)) (given q (T.items out.old) ++ drop_rest self.old.with table self.old.batches (entries port item ++ future) q)) }
-        ensures decided_prefix { OnErr result ((table : ℕ → ℕ → ℕ) (future : List Entry) → Agrees levels.now table
+        ensures decided_prefix { OnErr result ((table : ℕ → ℕ → ℕ) (future : List Entry) → AgreesWith levels.now table
             → IsFuture (unmarked) (port_fits) (self.old.tally.place) (entries port item ++ future)
             → IsPrefixOf (T.drops out.new) ((T.drops out.old) ++ drop_decides self.old.with table self.old.batches (entries port item ++ future))) }
-        ensures times { OnOk result ((table : ℕ → ℕ → ℕ) → Agrees levels.now table → (q : ℕ) → ThingsUpTo item.time (drop_rest self.old.with table self.old.batches (entries port item) q)) }
+        ensures times { OnOk result ((table : ℕ → ℕ → ℕ) → AgreesWith levels.now table → (q : ℕ) → ThingsUpTo item.time (drop_rest self.old.with table self.old.batches (entries port item) q)) }
         ensures sound { ItemsSound (T.items out.old) → ItemsSound (T.items out.new) }
         ensures held { OnOk result ((table : ℕ → ℕ → ℕ) (q : ℕ) → drop_rest self.new.with table self.new.batches [] q ≡ []) }
         ensures same_hold { OnOk result ((time : ℕ) (things : List Thing) → things ≡ [] → things ≡ []) }

@@ -11,7 +11,7 @@ ghost use Rattle.sq_oper.specs.Given.{given, ItemsSound};
 ghost use Rattle.sq_oper.specs.Machine.{next_all, gives_all};
 ghost use Rattle.sq_oper.specs.Order.{IsFuture};
 ghost use Rattle.sq_oper.specs.Streams.{at_zero, things};
-ghost use Rattle.sq_windrop.specs.Gates.{IsLength, shows_at, shown, first_port, gate_next, gate_gives, gate_rest};
+ghost use Rattle.sq_windrop.specs.Gates.{IsLength, shows_at, gate_shown, first_port, gate_next, gate_gives, gate_rest};
 
 use crate::give::give_item;
 use sq_item::{Body, Item, Mark, Sign};
@@ -38,7 +38,7 @@ impl GateBox {
         requires { IsLength length }
         ensures marked { (table : ℕ → ℕ → ℕ) (future : List Entry) (q : ℕ)
             → IsFuture (⟦<GateBox as Operator>⟧.takes_marks result) (⟦<GateBox as Operator>⟧.fits result) Place.Start future
-            → ⟦<GateBox as Operator>⟧.rest result table future q ≡ at_zero q (things (shown length future)) }
+            → ⟦<GateBox as Operator>⟧.rest result table future q ≡ at_zero q (things (gate_shown length future)) }
         ensures fits { (port : ℕ) (fields : List Value) → ⟦<GateBox as Operator>⟧.fits result port fields ≡ true }
         ensures takes_marks { (port : ℕ) → ⟦<GateBox as Operator>⟧.takes_marks result port ≡ first_port port }
         ensures reads { (epoch : ℕ) → ⟦<GateBox as Operator>⟧.reads result epoch ≡ true }

@@ -1,16 +1,16 @@
-use Rattle.sq_top.specs.Causes.{source_of}
+use Rattle.sq_top.specs.Causes.{source_told}
 use Rattle.sq_top.proofs.EndLemmas.{told_ends, told_nothing}
 use Rattle.sq_top.proofs.StopLemmas.{told_plain, told_refused}
 use Rattle.sq_top.proofs.run_words.Goals as goal
 
 pub returns-in-Ok-clause-ends : goal.returns-in-Ok-clause-ends
-returns-in-Ok-clause-ends g c = (source_of c.run-stopped.result.source, rw c.in-Ok.is at c.run-stopped.ensures.ends, told_nothing (source_of c.run-stopped.result.source) (g.E.Sink.written c.args.err.now) _)
+returns-in-Ok-clause-ends g c = (source_told c.run-stopped.result.source, rw c.in-Ok.is at c.run-stopped.ensures.ends, told_nothing (source_told c.run-stopped.result.source) (g.E.Sink.written c.args.err.now) _)
 
 pub returns : goal.returns
 returns g c =
     let e = told_ends _ _ c.run-stopped.result.status c.tell.result.status _ c.in_default.not-Ok c.tell.ensures.status c.run-stopped.ensures.ends in
     record {
-      ends = (source_of c.run-stopped.result.source, e, rw c.tell.ensures.source at c.tell.ensures.told);
+      ends = (source_told c.run-stopped.result.source, e, rw c.tell.ensures.source at c.tell.ensures.told);
       refused_early = e.refused_early;
       usage = e.usage;
       no_memory = e.no_memory;

@@ -2,7 +2,7 @@ use Rattle.std.proofs.Common.{◌≡◌, ◌+◌, ◌∙◌, ap, sym, arith, len
 use Rattle.std.proofs.lemmas.Result.{IfOk-weaker}
 use Rattle.sq_flow.specs.Wiring.{IsShaped}
 use Rattle.sq_start.specs.Numbers.{first_output}
-use Rattle.sq_core.specs.Joining.{AreFeeds, IsOrder}
+use Rattle.sq_core.specs.Joining.{AreFeeds, IsActorOrder}
 use Rattle.sq_core.proofs.PointLemmas.{streams_are}
 use Rattle.sq_core.proofs.TableLemmas.{are-feeds, count-is, measured-all}
 use Rattle.sq_core.proofs.OrderLemmas.{network-order}
@@ -31,7 +31,7 @@ wires_of-requires-clause-shown c =
 
 pub wires_of-requires-clause-order : goal.wires_of-requires-clause-order
 wires_of-requires-clause-order c =
-    subst (IsOrder (length c.deref-3.result.now) c.deref-3.result.now) (sym c.in_ok-order.ensures)
+    subst (IsActorOrder (length c.deref-3.result.now) c.deref-3.result.now) (sym c.in_ok-order.ensures)
     (network-order c.args.n.now c.requires.sound c.deref-3.result.now (ap (map (λ f. f.items)) c.deref-3.ensures.value ∙ c.in_ok-table.ensures))
 
 pub returns-clause-shaped : goal.returns-clause-shaped

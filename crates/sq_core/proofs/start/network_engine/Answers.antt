@@ -5,9 +5,9 @@ use Rattle.sq_value.specs.Values.{IsStream}
 use Rattle.sq_flow.specs.Flows.{items_in}
 use Rattle.sq_flow.specs.Wiring.{IsShaped}
 use Rattle.sq_start.specs.Numbers.{ops_of}
-use Rattle.sq_start.specs.Starts.{IsRead}
+use Rattle.sq_start.specs.Starts.{IsReadReplay}
 use Rattle.sq_core.specs.Meanings.{actors, IsValid}
-use Rattle.sq_core.specs.Table.{IsMeasured}
+use Rattle.sq_core.specs.Table.{IsTabled}
 use Rattle.sq_core.proofs.TableLemmas.{if-both, if-three}
 use Rattle.sq_core.proofs.NewFlow.{new-seats, is-new, none-fed}
 use Rattle.sq_core.proofs.PlanLemmas.{plans-start}
@@ -54,7 +54,7 @@ returns-clause-plans c =
 pub returns-clause-answers : goal.returns-clause-answers
 returns-clause-answers c =
     IfOk-weaker c.new.result _ _ (λ e h pages.
-    let read : IsRead (record { network = c.args.n.now; sources = map (λ v. v.items) c.args.sources.items; entries = c.args.capacities.now; seed = c.args.seed }) = record { sound = c.requires.sound; streams = All-from_recursion IsStream _ c.requires.streams; fit = c.requires.fit } in
+    let read : IsReadReplay (record { network = c.args.n.now; sources = map (λ v. v.items) c.args.sources.items; entries = c.args.capacities.now; seed = c.args.seed }) = record { sound = c.requires.sound; streams = All-from_recursion IsStream _ c.requires.streams; fit = c.requires.fit } in
     let new = is-new c.args.n.now c.requires.sound (places-of c.early_drop_is_sound.ensures.points c.args.n.now c.requires.sound) c.in_ok-wires.wires c.in_ok-wires.ensures.measured
     c.args.seed c.in_ok-seats.seats.items c.in_ok-seats.ensures.seated c.in_ok-seats.ensures.count c.arcs_may_come.ensures.fed
     (record { network = c.args.n.now; sources = map (λ v. v.items) c.args.sources.items; entries = c.args.capacities.now; seed = c.args.seed }) read refl refl
@@ -67,7 +67,7 @@ returns-clause-answers c =
 pub returns-clause-ready : goal.returns-clause-ready
 returns-clause-ready c =
     if-both c.new.result _ _ _ (λ e is h.
-    starts-ready actors IsValid c.args.n.now c.requires.sound e is (subst (IsMeasured c.args.n.now) (sym h.wires_are) c.in_ok-wires.ensures.measured)
+    starts-ready actors IsValid c.args.n.now c.requires.sound e is (subst (IsTabled c.args.n.now) (sym h.wires_are) c.in_ok-wires.ensures.measured)
     (ap (λ v. length v.items) h.seats_are ∙ c.in_ok-seats.ensures.count) h.runs h.bare) c.new.ensures.engine c.new.ensures.flow
 
 pub returns-clause-frames : goal.returns-clause-frames

@@ -4,7 +4,7 @@ use borrow.Author.Count.{below_more}
 use Rattle.sq_paged.specs.Fronts.{Face}
 use Rattle.sq_queue.specs.Faces.{face}
 use Rattle.sq_flow.specs.Wiring.{from_of}
-use Rattle.sq_flow.specs.Sends.{comes_from}
+use Rattle.sq_flow.specs.Sends.{is_sent_by}
 use Rattle.sq_flow.proofs.SendLemmas.{at_or_other}
 use Rattle.sq_flow.proofs.flow.end_arcs.Goals as goal
 
@@ -21,7 +21,7 @@ loop-arc-preserved c =
           (λ arc h. let ne : arc ≢ i = omega (arith, h) in ap (λ (f : Face). f.ended) (told.others arc ne) ∙ inv.ended arc h)
           (told.ended ∙ ap (λ b. b || (c.arc.result.now.from == c.args.actor)) (inv.later i (omega arith)) ∙ ap (λ n. (face c.args.queues.now i).ended || (n == c.args.actor)) from);
       later = λ arc h. let ne : arc ≢ i = omega (arith, h) in ap (λ (f : Face). f.ended) (told.others arc ne) ∙ inv.later arc (omega (arith, h));
-      apart = at_or_other (λ arc. comes_from c.args.wires.now c.args.actor arc ≡ false → face c.end_if.new.queues arc ≡ face c.args.queues.now arc) i
+      apart = at_or_other (λ arc. is_sent_by c.args.wires.now c.args.actor arc ≡ false → face c.end_if.new.queues arc ≡ face c.args.queues.now arc) i
           (λ away. told.none (ap (λ n. n == c.args.actor) from ∙ away) ∙ inv.apart i away)
           (λ arc ne away. told.others arc ne ∙ inv.apart arc away);
       first = λ arc. told.first arc ∙ inv.first arc;

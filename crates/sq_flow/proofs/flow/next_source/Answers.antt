@@ -1,7 +1,7 @@
 use Rattle.std.proofs.Common.{◌<◌, not, length, refl, ap, sym, ◌∙◌, arith}
 use Rattle.std.proofs.lemmas.Option.{slice_get_read}
-use Rattle.sq_replay.specs.Recorded.{first_time}
-use Rattle.sq_flow.specs.Flows.{tuples_at}
+use Rattle.sq_replay.specs.Recorded.{first_recorded}
+use Rattle.sq_flow.specs.Flows.{tuples_to_come}
 use Rattle.sq_flow.proofs.SourceLemmas.{none-of, best-past, best-stays, best-first, best-new, best-none, best-some}
 use Rattle.sq_flow.proofs.flow.next_source.Goals as goal
 use Rattle.sq_flow.proofs.flow.next_source.Goals.{in-Some+then-is_none, then-is_none-via-then-is_none, then-is_none-via-else-is_none+then-time-least, in-Some+else-is_none+else-time-least, in_default}
@@ -11,8 +11,8 @@ loop-source-preserved c =
     let i = c.loop-source.source in
     let sources = c.args.sources.now.items in
     let low : i < length sources = omega (arith, c.loop-source-test.true, c.len-source-end.ensures, c.args.sources.now.ok.0) in
-    let at = ap tuples_at (slice_get_read sources _ i c.index.result.now refl low c.index.ensures) in
-    let begins = ap first_time at ∙ sym c.time.ensures in
+    let at = ap tuples_to_come (slice_get_read sources _ i c.index.result.now refl low c.index.ensures) in
+    let begins = ap first_recorded at ∙ sym c.time.ensures in
     elim c.match-time.branch [
       | in-Some+then-is_none w ↦
           rw (w.best-is, w.least-is)

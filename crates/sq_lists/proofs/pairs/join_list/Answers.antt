@@ -1,5 +1,5 @@
 use Rattle.std.proofs.Common.{◌≡◌, ◌++◌, [], ◌∷◌, refl, sym, ap, ap₂, ◌∙◌, append_assoc}
-use Rattle.sq_lists.specs.Merge.{merge}
+use Rattle.sq_lists.specs.Merge.{merge_tuples}
 use Rattle.sq_lists.specs.Pairs.{pairs_from}
 use Rattle.sq_lists.specs.Sides.{held_of, pairs_with, against, recent, left_with, right_with}
 use Rattle.sq_lists.proofs.SideLemmas.{merge_rises, merge_sides, next_entry, held_left, held_right}
@@ -8,7 +8,7 @@ use Rattle.sq_lists.proofs.pairs.join_list.Goals as goal
 pub loop-side-init : goal.loop-side-init
 loop-side-init c =
     let both = c.args.left.now ∷ c.args.right.now ∷ [] in
-    let whole : c.from-coming.result.items ≡ merge both = c.from-coming.ensures.0 ∙ c.in_ok-merge_two.ensures in
+    let whole : c.from-coming.result.items ≡ merge_tuples both = c.from-coming.ensures.0 ∙ c.in_ok-merge_two.ensures in
     record {
       pairs = rw (whole, c.new-out.ensures.items, c.new-sides.ensures.0, c.new-sides.ensures.1) refl;
       rises = rw whole (merge_rises both);

@@ -2,7 +2,7 @@ use Rattle.std.proofs.Common.{◌≡◌, ℕ, ◌+◌, ◌-◌, ◌<◌, ◌≤�
 use Rattle.std.proofs.lemmas.List.{drop_more, drop-drop}
 use Rattle.sq_value.specs.declared.Tuple.{Tuple}
 use Rattle.sq_lists.specs.Sides.{recent}
-use Rattle.sq_lists.specs.WindowParts.{NotFalling}
+use Rattle.sq_lists.specs.WindowParts.{TimesNotFalling}
 use Rattle.sq_lists.proofs.WindowLemmas.{lower, rest_is, stream_rises}
 use Rattle.sq_lists.specs.Resamples.{resampled, resample_of}
 use Rattle.sq_lists.proofs.NearLemmas.{recent-again, recent-rises, resample-let_go}
@@ -31,7 +31,7 @@ sample-requires g c =
     let over = left-over size t from c.past.result right c.past.ensures.rest in
     let is = rest_is right (from + c.past.result) ∙ over in
     record {
-      rises = subst (NotFalling 0) (sym is) (recent-rises size t 0 (drop from right) c.loop-x.invariant.rises);
+      rises = subst (TimesNotFalling 0) (sym is) (recent-rises size t 0 (drop from right) c.loop-x.invariant.rises);
       live = ap (recent size t) is ∙ recent-again size t t (drop from right) (omega arith) ∙ sym is;
     }
 
@@ -49,8 +49,8 @@ loop-x-preserved g c =
     let held = drop from right in
     let lt : i < length left = c.loop-x-test.true in
     let coming : drop i left ≡ x ∷ more = drop_more left i x lt ∙ ap (λ y. y ∷ more) (sym c.x-item.is) in
-    let up = subst (NotFalling 0) coming c.loop-x.invariant.coming in
-    let first : NotFalling t (x ∷ more) = (omega arith, up.1) in
+    let up = subst (TimesNotFalling 0) coming c.loop-x.invariant.coming in
+    let first : TimesNotFalling t (x ∷ more) = (omega arith, up.1) in
     let over = left-over size t from c.past.result right c.past.ensures.rest in
     let made : c.in_ok-sample.field-0 ≡ resampled table size (recent size t held) x =
     c.in_ok-sample.ensures ∙ ap (λ (l : List Tuple). resampled table size l x) (rest_is right (from + c.past.result) ∙ over) in
@@ -62,7 +62,7 @@ loop-x-preserved g c =
           ∙ ap (λ l. c.loop-x.out.items ++ l) (resample-let_go table size t (x ∷ more) held first ∙ ap (λ (l : List Tuple). resample_of table size l held) (sym coming))
           ∙ c.loop-x.invariant.given;
       coming = lower 0 t more zero-le up.1;
-      rises = subst (NotFalling 0) (sym over) (recent-rises size t 0 held c.loop-x.invariant.rises);
+      rises = subst (TimesNotFalling 0) (sym over) (recent-rises size t 0 held c.loop-x.invariant.rises);
       most = within right from c.past.result c.loop-x.invariant.most c.past.ensures.most;
     }
   where

@@ -4,7 +4,7 @@ use Rattle.std.proofs.lemmas.List.{drop_more, drop_all}
 use Rattle.sq_value.specs.declared.Tuple.{Tuple}
 use Rattle.sq_aggfn.specs.declared.WindowSpec.{WindowSpec}
 use Rattle.sq_aggfn.specs.Windows.{started}
-use Rattle.sq_lists.specs.WindowParts.{numbered_results, NotFalling}
+use Rattle.sq_lists.specs.WindowParts.{numbered_results, TimesNotFalling}
 use Rattle.sq_lists.proofs.WindowLemmas.{left_results, left_first, left_last, left_step, begun_step, stream_rises, stream_ticks, lower, next_small, early_start, rest_is}
 use Rattle.sq_lists.proofs.windows.aggregate.Goals as goal
 
@@ -36,7 +36,7 @@ push_windows-requires-clause-rises g c =
     let x = get_or t i c.index-tuples-i.result in
     let whole = drop_more t i c.index-tuples-i.result c.loop-i-test.true in
     let rises = rw whole at c.loop-i.invariant.rises in
-    let up : NotFalling x.time (x ∷ drop (i + 1) t) = (omega arith, rises.1) in
+    let up : TimesNotFalling x.time (x ∷ drop (i + 1) t) = (omega arith, rises.1) in
     λ k lt. rw (rest_is t i, whole) (early_start c.args.window c.requires.window x.time (x ∷ drop (i + 1) t) up k (rw c.started-end.ensures.count at lt))
 
 pub push_windows-requires-clause-small : goal.push_windows-requires-clause-small

@@ -1,7 +1,7 @@
 use Rattle.std.proofs.Common.{rules}
 use Rattle.std.proofs.lemmas.List.Sorted.{answers_always}
 use Rattle.sq_value.proofs.Sorting.{sorted_is, on_ok_map}
-use Rattle.sq_model.specs.Unions.{sooner}
+use Rattle.sq_model.specs.Unions.{tuple_sooner}
 use Rattle.sq_model.proofs.UnionLemmas.{sooner_orders}
 use Rattle.sq_model.proofs.boxes.sort_by_time.Goals as goal
 
@@ -9,7 +9,7 @@ pub returns : goal.returns
 returns c =
     on_ok_map c.sort_by.result
     (λ up.
-    sorted_is sooner sooner_orders c.args.tuples.now.items c.sort_by.new.self.items
-    (up sooner sooner_orders (answers_always _ _ _ (λ f a r g h. search rules)))
-    (c.sort_by.ensures.stable sooner sooner_orders (answers_always _ _ _ (λ f a r g h. search rules))))
+    sorted_is tuple_sooner sooner_orders c.args.tuples.now.items c.sort_by.new.self.items
+    (up tuple_sooner sooner_orders (answers_always _ _ _ (λ f a r g h. search rules)))
+    (c.sort_by.ensures.stable tuple_sooner sooner_orders (answers_always _ _ _ (λ f a r g h. search rules))))
     c.sort_by.ensures.sorted

@@ -1,6 +1,6 @@
 use Rattle.std.proofs.Common.{◌≡◌, ◌+◌, ◌-◌, ◌≤◌, ◌^◌, map}
 use Rattle.sq_plan.specs.Shown.{level_for}
-use Rattle.sq_road.specs.Levels.{Agrees}
+use Rattle.sq_road.specs.Levels.{AgreesWith}
 use Rattle.sq_model.specs.Given.{counted}
 use Rattle.sq_model.proofs.epochs.levels_of.Given as goal
 
@@ -10,7 +10,7 @@ invariant-loop-ended l = record {
   epoch : l.levels.epoch ≡ l.epoch;
   low : l.ended ≤ 2 ^ 40;
   same : l.planner ≡ l.fn.planner;
-  agrees : Agrees l.levels (level_for l.fn.planner (counted l.epoch (map (λ t. t.items) l.sources)));
+  agrees : AgreesWith l.levels (level_for l.fn.planner (counted l.epoch (map (λ t. t.items) l.sources)));
 }
 
 abbrev pub decreases-loop-ended : goal.decreases-loop-ended

@@ -3,7 +3,7 @@ use Rattle.std.specs.Prelude.{length}
 use Rattle.std.proofs.lemmas.Option.{slice_get_read}
 use Rattle.sq_pool.specs.Trust.{known}
 use Rattle.sq_paged.specs.Faces.{kept_at}
-use Rattle.sq_paged.specs.Steps.{StartsAt, Adds}
+use Rattle.sq_paged.specs.Steps.{StartsAt, AddsItem}
 use Rattle.sq_paged.proofs.TouchLemmas.{alone-by}
 use Rattle.sq_paged.proofs.ArcLemmas.{append-adds, start-adds}
 use Rattle.sq_paged.proofs.CallLemmas.{if-some, if-ok, inside, last-is, last-in, cause-refusal}
@@ -26,7 +26,7 @@ pub returns-in_default-clause-ok : goal.returns-in_default-clause-ok
 returns-in_default-clause-ok g c =
     let alone = alone-by c.args.self.now c.requires.together.nodes c.one_place_each.ensures in
     if-ok (λ node. StartsAt c.args.self.now (known (g.D.PageDisk.log c.args.disk.now)) c.push_page.new.self (known (g.D.PageDisk.log c.push_page.new.disk)) c.args.arc node c.args.item.now)
-    (λ node. Adds c.args.self.now (known (g.D.PageDisk.log c.args.disk.now)) c.push_page.new.self (known (g.D.PageDisk.log c.push_page.new.disk)) c.args.arc node c.args.item.now) c.push_page.result
+    (λ node. AddsItem c.args.self.now (known (g.D.PageDisk.log c.args.disk.now)) c.push_page.new.self (known (g.D.PageDisk.log c.push_page.new.disk)) c.args.arc node c.args.item.now) c.push_page.result
     (λ node s. start-adds c.args.self.now _ c.push_page.new.self _ c.args.arc node c.args.item.now c.requires.together alone (inside c.args.self.now _ c.args.arc c.requires.together c.requires.there) s) c.push_page.ensures.ok
 
 pub push_into-requires-clause-node : goal.push_into-requires-clause-node

@@ -2,13 +2,13 @@ use Rattle.std.proofs.Common.{◌∙◌, ap, List}
 use Rattle.std.specs.Prelude.{slice_get}
 use Rattle.sq_link.specs.Chained.{Chained}
 use Rattle.sq_pool.specs.Pools.{Pooled, is_held}
-use Rattle.sq_paged.specs.Faces.{face_at}
+use Rattle.sq_paged.specs.Faces.{paged_face_at}
 use Rattle.sq_paged.specs.declared.Lane.{Lane}
 use Rattle.sq_paged.proofs.TogetherLemmas.{none-face, new-together}
 use Rattle.sq_paged.proofs.Queues.new.Goals as goal
 
 pub returns-clause-faces : goal.returns-clause-faces
-returns-clause-faces c arc = ap (λ (ls : List Lane). face_at (slice_get ls arc)) c.in_ok-lanes.ensures ∙ none-face c.args.arcs arc
+returns-clause-faces c arc = ap (λ (ls : List Lane). paged_face_at (slice_get ls arc)) c.in_ok-lanes.ensures ∙ none-face c.args.arcs arc
 
 pub returns-clause-together : goal.returns-clause-together
 returns-clause-together c told =

@@ -4,7 +4,7 @@ use Rattle.sq_value.specs.Values.{fields_cmp}
 use Rattle.sq_value.proofs.ValueOrder.{fields_order}
 use Rattle.sq_aggfn.proofs.KeyedLemmas.{ascends}
 use Rattle.sq_pane.specs.declared.line.Line.{Line}
-use Rattle.sq_pane.specs.Panes.{entry_of, joined_within, total, AllAreMade}
+use Rattle.sq_pane.specs.Panes.{group_entry, joined_within, total, AllAreMade}
 use Rattle.sq_pane.specs.Blocks.{IsJoin}
 use Rattle.sq_pane.specs.States.{states_of, groups_within, HaveBlocks}
 use Rattle.sq_pane.proofs.StateLemmas.{window_is_groups, made_parts, total_parts, pushed_made, pushed_total}
@@ -58,15 +58,15 @@ loop-key-preserved g c =
     let gs = c.loop-key.groups.items in
     let steps = c.in-Some.ensures.steps in
     let within = λ (ls : List (List Value × Line g.row.F-State.Denot)). groups_within (g.F.Fold.none fold) (g.F.Fold.joined fold) c.args.window c.args.width c.args.start ls in
-    let pushed = c.in_ok-push_some.ensures ∙ ap (λ k. gs ++ entry_of k o) c.group.ensures in
+    let pushed = c.in_ok-push_some.ensures ∙ ap (λ k. gs ++ group_entry k o) c.group.ensures in
     let all = ap (λ (ls : List (List Value × Line g.row.F-State.Denot)). total number (states_of ls)) steps in
     let parts = total_parts number group (states_of rest) line.states.items in
     let le = c.loop-key.invariant.few in
     let less = c.in_ok-joined.ensures.few in
     let sum = ap (total number) pushed ∙ pushed_total made number group o gs in
     record {
-      value = ap (λ l. l ++ within rest) (pushed ∙ ap (λ x. gs ++ entry_of group x) c.in_ok-joined.ensures.value)
-          ∙ append_assoc gs (entry_of group (joined_within (g.F.Fold.none fold) (g.F.Fold.joined fold) c.args.window c.args.width c.args.start None line.states.items)) (within rest)
+      value = ap (λ l. l ++ within rest) (pushed ∙ ap (λ x. gs ++ group_entry group x) c.in_ok-joined.ensures.value)
+          ∙ append_assoc gs (group_entry group (joined_within (g.F.Fold.none fold) (g.F.Fold.joined fold) c.args.window c.args.width c.args.start None line.states.items)) (within rest)
           ∙ ap (λ (ls : List (List Value × Line g.row.F-State.Denot)). gs ++ within ls) (sym steps)
           ∙ c.loop-key.invariant.value;
       made = subst (AllAreMade made) (sym pushed) (pushed_made made number group o gs c.loop-key.invariant.made c.in_ok-joined.ensures.made);

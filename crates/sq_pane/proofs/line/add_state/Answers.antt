@@ -1,7 +1,7 @@
 use Rattle.std.proofs.Common.{◌≡◌, ℕ, ◌+◌, ◌-◌, ◌<◌, ◌≤◌, ◌⊎◌, inl, inr, length, get_or, set, ap, sym, subst, ◌∙◌, arith}
 use Rattle.std.specs.List.{insert}
 use Rattle.std.proofs.lemmas.Result.{on_ok_weaker, on_err_weaker}
-use Rattle.sq_pane.specs.Panes.{Rises, total, AllAreMade}
+use Rattle.sq_pane.specs.Panes.{NumbersRise, total, AllAreMade}
 use Rattle.sq_pane.proofs.LineLemmas.{same_at, set_same, rises_set, rises_put, made_set, made_insert, made_at, total_at, total_set, total_insert, set_is_put, insert_is_put}
 use Rattle.sq_pane.proofs.line.add_state.Goals as goal
 use Rattle.sq_pane.proofs.line.add_state.Goals.{else-count-gt0-via-then-count-gt0+else-index-pane, else-count-gt0-via-else-count-gt0}
@@ -99,7 +99,7 @@ pub returns-clause-rises : goal.returns-clause-rises
 returns-clause-rises g c =
     let fold = c.args.fold.now in
     let es = c.args.states.now.items in
-    subst Rises (sym (returns-clause-added g c)) (rises_put (g.F.Fold.none fold) (g.F.Fold.joined fold) c.args.pane (g.F.Fold.unit fold c.args.t.now) es c.requires.rises)
+    subst NumbersRise (sym (returns-clause-added g c)) (rises_put (g.F.Fold.none fold) (g.F.Fold.joined fold) c.args.pane (g.F.Fold.unit fold c.args.t.now) es c.requires.rises)
 
 pub returns-clause-made : goal.returns-clause-made
 returns-clause-made g c =

@@ -23,7 +23,7 @@ returns-then-has_room-clause-items g c =
     let room = c.has_room.ensures.0 c.if-has_room.true in
     on_ok_weaker c.append.result (λ front tells.
     written-items q told r told arc lane new (c.in_ok-copy.copy ∷ []) c.requires.there was refl
-    (appended-items lane.front.items new.front.items (pages.items_on q.paged told arc) c.in_ok-copy.copy front (none-paged q told arc lane c.requires.together tells was room.0))
+    (appended-items lane.front.items new.front.items (pages.paged_items_on q.paged told arc) c.in_ok-copy.copy front (none-paged q told arc lane c.requires.together tells was room.0))
     ∙ ap (λ (item : Item). items_on q told arc ++ item ∷ []) c.in_ok-copy.ensures.copy) c.append.ensures.front
 
 pub returns-then-has_room-clause-others : goal.returns-then-has_room-clause-others

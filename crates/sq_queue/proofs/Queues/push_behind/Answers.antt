@@ -19,7 +19,7 @@ returns-clause-items g c tells =
     let r : Queues = record { lanes = with_item q.lanes arc new; paged = c.push.new.self } in
     let more : List Item = c.args.item.now ∷ [] in
     written-items q (known (g.D.PageDisk.log c.args.disk.now)) r (known (g.D.PageDisk.log c.push.new.disk)) arc lane new more c.requires.there (slice_get_read q.lanes.items _ arc lane refl c.requires.there c.index_mut-lane.ensures.value) refl
-    (ap (λ (xs : List Item). lane.front.items ++ xs) (c.in-Ok.ensures.items tells) ∙ sym (append_assoc lane.front.items (pages.items_on q.paged (known (g.D.PageDisk.log c.args.disk.now)) arc) more))
+    (ap (λ (xs : List Item). lane.front.items ++ xs) (c.in-Ok.ensures.items tells) ∙ sym (append_assoc lane.front.items (pages.paged_items_on q.paged (known (g.D.PageDisk.log c.args.disk.now)) arc) more))
 
 pub returns-clause-others : goal.returns-clause-others
 returns-clause-others g c tells other differ =

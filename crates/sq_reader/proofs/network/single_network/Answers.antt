@@ -6,23 +6,23 @@ use Rattle.sq_net.specs.declared.NetErr.TheVariants as broken
 use Rattle.sq_tables.specs.declared.raw.Raw.{Raw}
 use Rattle.sq_reader.specs.Naming.{twice_place}
 use Rattle.sq_reader.specs.Networks.{single_network, streamed_network, unless_at}
-use Rattle.sq_tables.specs.Refusals.{Answers}
-use Rattle.sq_reader.specs.Streaming.{Numbers, number_in, stream_named, stream_names}
+use Rattle.sq_tables.specs.Refusals.{IsAnswerOf}
+use Rattle.sq_reader.specs.Streaming.{Numbers, number_named, told_stream_named, told_stream_names}
 use Rattle.sq_reader.proofs.network.single_network.Goals as goal
 
-single_from : (r : Raw) (number_of : Numbers) (answer : Result Network NetErr) → twice_place r ≡ None → number_of ≡ stream_named (stream_names r)
-    → Answers answer (streamed_network r number_of) → Answers answer (single_network r)
+single_from : (r : Raw) (number_of : Numbers) (answer : Result Network NetErr) → twice_place r ≡ None → number_of ≡ told_stream_named (told_stream_names r)
+    → IsAnswerOf answer (streamed_network r number_of) → IsAnswerOf answer (single_network r)
 single_from r number_of answer none same h =
-    subst (λ p. Answers answer (unless_at broken.Twice p (streamed_network r (stream_named (stream_names r))))) (sym none)
-    (subst (λ (f : Numbers). Answers answer (streamed_network r f)) same h)
+    subst (λ p. IsAnswerOf answer (unless_at broken.Twice p (streamed_network r (told_stream_named (told_stream_names r))))) (sym none)
+    (subst (λ (f : Numbers). IsAnswerOf answer (streamed_network r f)) same h)
 
 pub streamed_network-requires-clause-numbers : goal.streamed_network-requires-clause-numbers
 streamed_network-requires-clause-numbers c =
-    c.in_ok-numbers.ensures ∙ ap (λ (names : List (List ℕ)). stream_named names) (c.deref.ensures.value ∙ c.in_ok-names.ensures.names)
+    c.in_ok-numbers.ensures ∙ ap (λ (names : List (List ℕ)). told_stream_named names) (c.deref.ensures.value ∙ c.in_ok-names.ensures.names)
 
 pub returns : goal.returns
 returns c =
-    single_from c.args.raw.now (number_in c.in_ok-numbers.numbers.entries) c.streamed_network.result
+    single_from c.args.raw.now (number_named c.in_ok-numbers.numbers.entries) c.streamed_network.result
     (sym c.in_ok-place.ensures ∙ c.in_default.is)
-    (c.in_ok-numbers.ensures ∙ ap (λ (names : List (List ℕ)). stream_named names) (c.deref.ensures.value ∙ c.in_ok-names.ensures.names))
+    (c.in_ok-numbers.ensures ∙ ap (λ (names : List (List ℕ)). told_stream_named names) (c.deref.ensures.value ∙ c.in_ok-names.ensures.names))
     c.streamed_network.ensures

@@ -1,7 +1,7 @@
 use Rattle.std.proofs.Common.{sym, subst, refl, ◌<◌, ◌^◌, length}
 use Rattle.sq_graph.specs.declared.Wiring.{Wiring}
 use Rattle.sq_graph.specs.Order.{IsWired}
-use Rattle.sq_reader.specs.Streaming.{stream_names}
+use Rattle.sq_reader.specs.Streaming.{told_stream_names}
 use Rattle.sq_reader.proofs.WiringLemmas.{is_wired, wired_few}
 use Rattle.sq_reader.proofs.network.wired_network.Goals as goal
 
@@ -9,4 +9,4 @@ pub order_in-requires-clause-few : goal.order_in-requires-clause-few
 order_in-requires-clause-few c = subst (λ (w : Wiring). length w.boxes < 2 ^ 32) (sym c.requires.wires) (wired_few c.args.raw.now c.requires.within)
 
 pub order_in-requires-clause-wired : goal.order_in-requires-clause-wired
-order_in-requires-clause-wired c = subst IsWired (sym c.requires.wires) (is_wired (stream_names c.args.raw.now) c.args.raw.now refl)
+order_in-requires-clause-wired c = subst IsWired (sym c.requires.wires) (is_wired (told_stream_names c.args.raw.now) c.args.raw.now refl)

@@ -2,7 +2,7 @@ use Rattle.std.proofs.Common.{◌≡◌, ◌∙◌, ◌∷◌, ◌+◌, ℕ, Lis
 use Rattle.std.specs.Prelude.{Ok}
 use Rattle.std.proofs.lemmas.List.{drop_more}
 use Rattle.sq_graph.specs.declared.Wiring.{Wiring}
-use Rattle.sq_reader.specs.Columns.{node_at}
+use Rattle.sq_reader.specs.Columns.{typed_node}
 use Rattle.sq_reader.proofs.WiringLemmas.{wired_length}
 use Rattle.sq_reader.proofs.NodeLemmas.{nodes_more}
 use Rattle.sq_reader.proofs.ReadyLemmas.{AreReady, ready_first, ready_next, ready_takes}
@@ -30,7 +30,7 @@ loop-at-preserved c =
     let at : ℕ = get_or c.args.order.now c.loop-at.at-index 0 in
     let rest : List ℕ = drop (c.loop-at.at-index + 1) c.args.order.now in
     let more : drop c.loop-at.at-index c.args.order.now ≡ at ∷ rest = drop_more c.args.order.now c.loop-at.at-index 0 c.loop-at-test.true in
-    let typed : node_at c.args.raw.now c.args.w.now c.args.sources.now c.loop-at.nodes.items at ≡ Ok c.in-Ok.node = rw c.deref.ensures.value at c.in-Ok.ensures in
+    let typed : typed_node c.args.raw.now c.args.w.now c.args.sources.now c.loop-at.nodes.items at ≡ Ok c.in-Ok.node = rw c.deref.ensures.value at c.in-Ok.ensures in
     let front : AreReady c.args.w.now c.loop-at.nodes.items (at ∷ rest) = subst (λ (ats : List ℕ). AreReady c.args.w.now c.loop-at.nodes.items ats) more c.loop-at.invariant.ready in
     rw c.put.ensures
     (record {

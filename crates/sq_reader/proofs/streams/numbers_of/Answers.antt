@@ -1,7 +1,7 @@
 use Rattle.std.proofs.Common.{◌∙◌, sym, arith}
 use Rattle.std.proofs.lemmas.Iterator.Adapters.{position_from-zero}
 use Rattle.sq_value.specs.Lists.{same_bytes}
-use Rattle.sq_reader.specs.Streaming.{number_in}
+use Rattle.sq_reader.specs.Streaming.{number_named}
 use Rattle.sq_reader.proofs.NumberLemmas.{numbers_all, numbers_more}
 use Rattle.sq_reader.proofs.streams.numbers_of.Goals as goal
 
@@ -12,8 +12,8 @@ pub loop-number-preserved : goal.loop-number-preserved
 loop-number-preserved c =
     let step = rw c.as_str.ensures at c.in_ok-add_number.ensures in
     λ w.
-    numbers_more (number_in c.loop-number.numbers.entries) (number_in c.add_number.new.numbers.entries) c.args.names.now c.loop-number.number c.index-names-number.result c.loop-number-test.true c.index-names-number.is step w
+    numbers_more (number_named c.loop-number.numbers.entries) (number_named c.add_number.new.numbers.entries) c.args.names.now c.loop-number.number c.index-names-number.result c.loop-number-test.true c.index-names-number.is step w
     ∙ c.loop-number.invariant w
 
 pub returns : goal.returns
-returns c = numbers_all (number_in c.loop-number.numbers.entries) c.args.names.now c.loop-number.number (omega arith) c.loop-number.invariant
+returns c = numbers_all (number_named c.loop-number.numbers.entries) c.args.names.now c.loop-number.number (omega arith) c.loop-number.invariant

@@ -4,7 +4,7 @@ use Rattle.std.proofs.lemmas.Bool.Decides.{nat_tests}
 use Rattle.sq_value.specs.Values.{kinds_of}
 use Rattle.sq_replay.specs.FileLines.{lines_from, pieces_left, pieces_of, without_mark}
 use Rattle.sq_replay.specs.Answers.{IsTimeOf}
-use Rattle.sq_replay.specs.Streams.{tuple_in}
+use Rattle.sq_replay.specs.Streams.{tuple_on_line}
 use Rattle.sq_replay.proofs.StreamLemmas.{text_line}
 use Rattle.sq_replay.proofs.RecordedLemmas.{error_step, good_stream}
 use Rattle.sq_replay.proofs.stream.test_lines.Goals as goal
@@ -17,7 +17,7 @@ loop-rest-preserved c =
     let pieces = pieces_left c.next_piece.result.1 in
     let line = strip_carriage_return piece in
     let some : 0 < length line = grind (arith, nat_tests, c.without_return-line.ensures, c.is_empty.ensures, c.if-is_empty.false) in
-    let told : IsTimeOf c.in-Ok.time (tuple_in ks l.count l.latest line) = rw (c.kinds-kinds.ensures, c.without_return-line.ensures) at c.in-Ok.ensures.tuple in
+    let told : IsTimeOf c.in-Ok.time (tuple_on_line ks l.count l.latest line) = rw (c.kinds-kinds.ensures, c.without_return-line.ensures) at c.in-Ok.ensures.tuple in
     let one = error_step ks l.count l.latest (l.number + 1) line (lines_from (l.number + 1 + 1) pieces) told.0 told.1 in
     let step = rw told.2 at one in
     let so_far = rw (c.in-Some.is, c.next_piece.ensures.pieces, text_line (l.number + 1) piece pieces some) at l.invariant.so_far in

@@ -1,9 +1,9 @@
 use Rattle.std.proofs.Common.{◌≡◌, ◌-◌, ◌++◌, length}
-use Rattle.sq_replay.specs.Recorded.{tuples_at}
+use Rattle.sq_replay.specs.Recorded.{tuples_recorded}
 use Rattle.sq_replay.proofs.unread.read_rest.Given as goal
 
 abbrev pub invariant-loop-line : goal.invariant-loop-line
-invariant-loop-line l = l.tuples.items ++ tuples_at l.kinds l.latest l.text l.at ≡ l.fn.tuples.items ++ tuples_at l.kinds l.fn.after l.text l.fn.from
+invariant-loop-line l = l.tuples.items ++ tuples_recorded l.kinds l.latest l.text l.at ≡ l.fn.tuples.items ++ tuples_recorded l.kinds l.fn.after l.text l.fn.from
 
 abbrev pub decreases-loop-line : goal.decreases-loop-line
 decreases-loop-line l = length l.text - l.at

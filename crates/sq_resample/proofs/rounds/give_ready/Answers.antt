@@ -8,7 +8,7 @@ use Rattle.sq_lists.proofs.NearLemmas.{recent-again}
 use Rattle.sq_oper.specs.Given.{given}
 use Rattle.sq_oper.specs.Streams.{things, at_zero}
 use Rattle.sq_oper.proofs.GivenLemmas.{IsPrefixOf-trans, OnErr-from}
-use Rattle.sq_resample.specs.Rounds.{CanGive, first_time, passed}
+use Rattle.sq_resample.specs.Rounds.{CanGive, first_time_from, passed}
 use Rattle.sq_resample.proofs.RoundLemmas.{can-step, first-later, round-step}
 use Rattle.sq_resample.proofs.rounds.give_ready.Goals as goal
 
@@ -37,9 +37,9 @@ loop-x-preserved g c =
           ∙ is.given q;
       waits = same ∙ is.waits;
       keeps =
-          ap (recent size (first_time now (recent size now ws))) e.held
-          ∙ recent-again size x.time (first_time now (recent size now ws)) held (first-later size now x.time ws can.waits.1 early.0)
-          ∙ ap (λ (l : List Tuple). recent size (first_time now l) held) same
+          ap (recent size (first_time_from now (recent size now ws))) e.held
+          ∙ recent-again size x.time (first_time_from now (recent size now ws)) held (first-later size now x.time ws can.waits.1 early.0)
+          ∙ ap (λ (l : List Tuple). recent size (first_time_from now l) held) same
           ∙ is.keeps;
       can = subst (λ (l : List Tuple). CanGive width size ws l) (sym e.held) (can-step width size x ws held can);
       early = early.1;

@@ -1,6 +1,6 @@
 use Rattle.std.proofs.Common.{◌≡◌, arith, inl, map, ap, length, ◌∙◌, List, ℕ}
 use Rattle.sq_gen.specs.declared.Made.{Made}
-use Rattle.sq_gen.specs.Files.{capacities_text, stream_of}
+use Rattle.sq_gen.specs.Files.{capacities_text, stream_text}
 use Rattle.sq_gen.proofs.Lengths.{capacities_short, stream_short}
 use Rattle.sq_top.proofs.MadeLemmas.{bad_capacities, bad_network, bad_streams, made_accepted}
 use Rattle.sq_top.proofs.generating.prepare_made.Goals as goal
@@ -15,7 +15,7 @@ made_capacities-requires c =
 
 pub made_tuples-requires-clause-few : goal.made_tuples-requires-clause-few
 made_tuples-requires-clause-few c =
-    let few : length c.as_slice-3.result.now ≡ length (stream_of c.args.number c.args.rows) = ap (λ (xs : List ℕ). length xs) (c.as_slice-3.ensures ∙ ap (λ (m : Made). m.stream) c.in-Ok.ensures) in
+    let few : length c.as_slice-3.result.now ≡ length (stream_text c.args.number c.args.rows) = ap (λ (xs : List ℕ). length xs) (c.as_slice-3.ensures ∙ ap (λ (m : Made). m.stream) c.in-Ok.ensures) in
     omega (arith, few, stream_short c.args.number c.args.rows c.requires.bound)
 
 pub returns-in-Err-made_network-clause-bad : goal.returns-in-Err-made_network-clause-bad

@@ -1,12 +1,12 @@
 use Rattle.std.proofs.Common.{◌≡◌, ◌≤◌, [], length, map, drop, take}
 use Rattle.sq_top.specs.Recorded.{AreRecorded}
-use Rattle.sq_top.specs.Scripts.{Replay, after_streams, with_sources}
-use Rattle.sq_top.specs.Reads.{Leads}
+use Rattle.sq_top.specs.Scripts.{AcceptedReplay, after_streams, with_sources}
+use Rattle.sq_top.specs.Reads.{ScriptLeads}
 use Rattle.sq_top.proofs.reading.streams_of.Given as goal
 
 abbrev pub invariant-sources : goal.invariant-sources
 invariant-sources g l = record {
-  leads : (r : Replay) → Leads (g.F.Folder.files l.fn.folder) (g.F.Folder.read l.fn.folder) (g.F.Folder.read l.folder) (after_streams (with_sources r []) l.network.sources)
+  leads : (r : AcceptedReplay) → ScriptLeads (g.F.Folder.files l.fn.folder) (g.F.Folder.read l.fn.folder) (g.F.Folder.read l.folder) (after_streams (with_sources r []) l.network.sources)
       (after_streams (with_sources r (map (λ xs. xs.items) l.streams.items)) (drop l.source-index l.network.sources));
   recorded : AreRecorded (take l.source-index l.network.sources) (map (λ xs. xs.items) l.streams.items);
   counted : length l.streams.items ≡ l.source-index;

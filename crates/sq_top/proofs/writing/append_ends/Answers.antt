@@ -1,6 +1,6 @@
 use Rattle.std.proofs.Common.{ap, length, ◌∙◌}
 use Rattle.std.proofs.lemmas.List.FromFn.{length-map-range_with_len}
-use Rattle.sq_core.specs.Runs.{fed_at, late_at}
+use Rattle.sq_core.specs.Runs.{fed_at, late_at_seat}
 use Rattle.sq_top.proofs.writing.append_ends.Goals as goal
 
 pub end_lines_from-requires-clause-fed : goal.end_lines_from-requires-clause-fed
@@ -9,4 +9,4 @@ end_lines_from-requires-clause-fed c =
 
 pub end_lines_from-requires-clause-late : goal.end_lines_from-requires-clause-late
 end_lines_from-requires-clause-late c =
-    ap (λ ks. length ks) c.in_ok-late.ensures ∙ length-map-range_with_len (late_at c.args.engine.now) 0 (length c.args.engine.now.network.boxes)
+    ap (λ ks. length ks) c.in_ok-late.ensures ∙ length-map-range_with_len (late_at_seat c.args.engine.now) 0 (length c.args.engine.now.network.boxes)

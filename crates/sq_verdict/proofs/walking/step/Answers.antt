@@ -1,5 +1,5 @@
 use Rattle.std.proofs.Common.{◌∙◌, ap, sym, subst, map, length}
-use Rattle.sq_verdict.specs.Faults.{class_fault, output_in}
+use Rattle.sq_verdict.specs.Faults.{class_fault, output_told_in}
 use Rattle.sq_verdict.specs.Wanting.{shown_of}
 use Rattle.sq_verdict.specs.Walking.{IsMost}
 use Rattle.sq_verdict.proofs.WalkLemmas.{after_step, unended_fault}
@@ -12,7 +12,7 @@ returns-clause-fault c =
     let most = c.args.walk.now.most.items in
     let shown = shown_of record_at (map (λ t. t.items) c.args.streams.now) c.args.outputs.now in
     c.in_ok-fault.ensures.fault record_at before hold (subst (λ k. IsMost k most before) (sym c.requires.most) h.most_is) h.places_are
-    ∙ ap (λ k. class_fault k before line (output_in shown line)) c.requires.most
+    ∙ ap (λ k. class_fault k before line (output_told_in shown line)) c.requires.most
     ∙ unended_fault shown (length c.args.sets.now) before line (h.any ∙ c.if-walk.false)
 
 pub returns-clause-after : goal.returns-clause-after

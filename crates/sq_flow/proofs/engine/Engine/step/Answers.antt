@@ -1,8 +1,8 @@
 use Rattle.std.proofs.Common.{◌≡◌, ◌<◌, length, refl, sym, ◌∙◌, subst, arith, ◌⊎◌, true, ap}
 use Rattle.sq_flow.specs.Readiness.{IsReady, Took}
-use Rattle.sq_road.specs.Levels.{Agrees}
+use Rattle.sq_road.specs.Levels.{AgreesWith}
 use Rattle.sq_flow.specs.declared.flow.Flow.{Flow}
-use Rattle.sq_flow.specs.Engines.{place_in}
+use Rattle.sq_flow.specs.Engines.{seat_number}
 use Rattle.sq_flow.proofs.EngineLemmas.{engine-after, engine-order}
 use Rattle.sq_flow.proofs.engine.Engine.step.Goals as goal
 
@@ -24,25 +24,25 @@ returns-in-Ok-clause-order g c =
 
 pub returns-in-Ok-clause-closes : goal.returns-in-Ok-clause-closes
 returns-in-Ok-clause-closes g c = λ table agrees.
-    c.in-Ok.ensures.closes table (subst (λ (f : Flow g.row.O.Denot). Agrees f.levels table) (c.look_at_readers.ensures.flow ∙ c.look_at.ensures.flow) agrees)
+    c.in-Ok.ensures.closes table (subst (λ (f : Flow g.row.O.Denot). AgreesWith f.levels table) (c.look_at_readers.ensures.flow ∙ c.look_at.ensures.flow) agrees)
 
 pub returns-in-Ok-clause-works : goal.returns-in-Ok-clause-works
 returns-in-Ok-clause-works g c =
     let low : c.args.pick.actor < c.args.self.now.ready.actors = c.requires.engine.below c.args.pick.actor c.requires.ready in
     let many = c.requires.engine.room.actors in
     let listed = (c.requires.engine.exact c.args.pick.actor (omega (arith, low, many))).listed c.requires.ready in
-    let place_is : place_in (length c.args.self.now.flow.seats.items) c.args.pick.actor ≡ c.place_in-place.result =
-    subst (λ n. place_in n c.args.pick.actor ≡ c.place_in-place.result) c.requires.engine.flow.shaped.replay_is (sym c.place_in-place.ensures.place)
+    let place_is : seat_number (length c.args.self.now.flow.seats.items) c.args.pick.actor ≡ c.place_in-place.result =
+    subst (λ n. seat_number n c.args.pick.actor ≡ c.place_in-place.result) c.requires.engine.flow.shaped.replay_is (sym c.place_in-place.ensures.place)
     in
     c.in-Ok.ensures.works (subst (IsReady c.args.self.now.flow) place_is listed)
 
 pub returns-in-Ok-clause-stops : goal.returns-in-Ok-clause-stops
 returns-in-Ok-clause-stops g c =
-    let place_is : place_in (length c.args.self.now.flow.seats.items) c.args.pick.actor ≡ c.place_in-place.result =
-    subst (λ n. place_in n c.args.pick.actor ≡ c.place_in-place.result) c.requires.engine.flow.shaped.replay_is (sym c.place_in-place.ensures.place)
+    let place_is : seat_number (length c.args.self.now.flow.seats.items) c.args.pick.actor ≡ c.place_in-place.result =
+    subst (λ n. seat_number n c.args.pick.actor ≡ c.place_in-place.result) c.requires.engine.flow.shaped.replay_is (sym c.place_in-place.ensures.place)
     in
-    let here = ap (λ n. place_in n c.args.pick.actor) c.in-Ok.ensures.ok.seats ∙ place_is in
-    subst (λ (f : Flow g.row.O.Denot). (c.in-Ok.progress.fed ≡ c.args.pick.train) ⊎ ((c.in-Ok.progress.finished ≡ true) ⊎ (IsReady f (place_in (length f.seats.items) c.args.pick.actor) → ⊥)))
+    let here = ap (λ n. seat_number n c.args.pick.actor) c.in-Ok.ensures.ok.seats ∙ place_is in
+    subst (λ (f : Flow g.row.O.Denot). (c.in-Ok.progress.fed ≡ c.args.pick.train) ⊎ ((c.in-Ok.progress.finished ≡ true) ⊎ (IsReady f (seat_number (length f.seats.items) c.args.pick.actor) → ⊥)))
     (sym (c.look_at_readers.ensures.flow ∙ c.look_at.ensures.flow))
     (subst (λ n. (c.in-Ok.progress.fed ≡ c.args.pick.train) ⊎ ((c.in-Ok.progress.finished ≡ true) ⊎ (IsReady c.train.new.self n → ⊥))) (sym here) c.in-Ok.ensures.stops)
 
@@ -51,10 +51,10 @@ returns-in-Ok-clause-took g c =
     let low : c.args.pick.actor < c.args.self.now.ready.actors = c.requires.engine.below c.args.pick.actor c.requires.ready in
     let many = c.requires.engine.room.actors in
     let listed = (c.requires.engine.exact c.args.pick.actor (omega (arith, low, many))).listed c.requires.ready in
-    let place_is : place_in (length c.args.self.now.flow.seats.items) c.args.pick.actor ≡ c.place_in-place.result =
-    subst (λ n. place_in n c.args.pick.actor ≡ c.place_in-place.result) c.requires.engine.flow.shaped.replay_is (sym c.place_in-place.ensures.place)
+    let place_is : seat_number (length c.args.self.now.flow.seats.items) c.args.pick.actor ≡ c.place_in-place.result =
+    subst (λ n. seat_number n c.args.pick.actor ≡ c.place_in-place.result) c.requires.engine.flow.shaped.replay_is (sym c.place_in-place.ensures.place)
     in
     let took = c.in-Ok.ensures.took (subst (IsReady c.args.self.now.flow) place_is listed).running in
-    subst (λ (f : Flow g.row.O.Denot). Took (place_in (length c.args.self.now.flow.seats.items) c.args.pick.actor) c.in-Ok.progress.fed c.in-Ok.progress.finished c.args.self.now.flow f)
+    subst (λ (f : Flow g.row.O.Denot). Took (seat_number (length c.args.self.now.flow.seats.items) c.args.pick.actor) c.in-Ok.progress.fed c.in-Ok.progress.finished c.args.self.now.flow f)
     (sym (c.look_at_readers.ensures.flow ∙ c.look_at.ensures.flow))
     (subst (λ n. Took n c.in-Ok.progress.fed c.in-Ok.progress.finished c.args.self.now.flow c.train.new.self) (sym place_is) took)

@@ -2,7 +2,7 @@ use Rattle.std.proofs.Common.{ℕ, ◌+◌, ◌-◌, ◌/◌, ◌<◌, length, s
 use Rattle.std.specs.Vec.{with_item}
 use Rattle.std.proofs.lemmas.Option.{slice_get_read, get_or_from_slice_get}
 use Rattle.std.proofs.lemmas.Result.{err_from_is_err_and}
-use Rattle.sq_road.specs.Levels.{Agrees}
+use Rattle.sq_road.specs.Levels.{AgreesWith}
 use Rattle.sq_plan.specs.Shown.{level_for, Ended}
 use Rattle.sq_pool.specs.Trust.{known}
 use Rattle.sq_flow.proofs.WireLemmas.{arcs-open}
@@ -40,7 +40,7 @@ returns-in_err-close_before-clause-plans g c =
     rw p.1
     (plans-none _ _ c.args.self.now c.requires.flow pos c.args.source c.index_mut.result.now c.first_of.new.stream c.in_ok-tuple.tuple c.requires.next at c.in_ok-tuple.ensures.ok c.close_before.new.levels c.args.events.now.items c.close_before.new.events.items
     (λ all. subst (λ (n : ℕ). (c.args.self.now.levels.closed < c.in_ok-tuple.tuple.time / n + 1 → Ended all (c.args.self.now.levels.closed - 1) (c.in_ok-tuple.tuple.time / n) c.args.self.now.counts.items)
-    → Agrees c.args.self.now.levels (level_for c.args.self.now.planner all) → Agrees c.close_before.new.levels (level_for c.args.self.now.planner all)) c.epoch.ensures.epoch (c.in_err-close_before.ensures.agrees all))
+    → AgreesWith c.args.self.now.levels (level_for c.args.self.now.planner all) → AgreesWith c.close_before.new.levels (level_for c.args.self.now.planner all)) c.epoch.ensures.epoch (c.in_err-close_before.ensures.agrees all))
     c.in_err-close_before.ensures.err)
 
 pub send_one-requires-clause-there : goal.send_one-requires-clause-there

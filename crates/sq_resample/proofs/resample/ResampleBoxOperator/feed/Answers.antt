@@ -7,7 +7,7 @@ use Rattle.sq_oper.specs.Given.{given}
 use Rattle.sq_oper.specs.Order.{time_of}
 use Rattle.sq_oper.proofs.GivenLemmas.{OnErr-from}
 use Rattle.sq_oper.proofs.FedLemmas.{tuple_at, time-after-item}
-use Rattle.sq_resample.specs.Rounds.{first_time}
+use Rattle.sq_resample.specs.Rounds.{first_time_from}
 use Rattle.sq_resample.specs.Resampling.{resample_rest}
 use Rattle.sq_resample.proofs.FedLemmas.{fed_early, fed_prefix, fed_law, fed_times, fed_held, fed_facts, length-recent, length-right}
 use Rattle.sq_resample.proofs.resample.ResampleBoxOperator.feed.Goals as goal
@@ -66,9 +66,9 @@ returns-in_ok-hold-clause-stays_valid g c =
     let one = ap {B = ℕ} (λ (o : Option (List Value)). if is_some o then 1 else 0) (sym c.get.ensures ∙ c.in-Some.is) in
     let taken : c.note.new.self.taken ≡ b.tally.taken + 1 = c.note.ensures.taken ∙ ap (λ n. b.tally.taken + n) one in
     let on = recent b.size c.args.item.time b.waiting.items in
-    let kept = recent b.size (first_time c.args.item.time on) b.held.tuples.items in
+    let kept = recent b.size (first_time_from c.args.item.time on) b.held.tuples.items in
     let longer = length-right c.args.port (tuple_at c.args.item.time c.in-Some.fields) kept in
-    let few = length-recent b.size (first_time c.args.item.time on) b.held.tuples.items in
+    let few = length-recent b.size (first_time_from c.args.item.time on) b.held.tuples.items in
     let most = c.requires.is_valid.2 in
     let same = ap (λ (l : List Tuple). length l) held in (
       (
@@ -84,7 +84,7 @@ pub hold-requires-clause-few : goal.hold-requires-clause-few
 hold-requires-clause-few g c =
     let b = c.args.self.now in
     let on = recent b.size c.args.item.time b.waiting.items in
-    let few = length-recent b.size (first_time c.args.item.time on) b.held.tuples.items in
+    let few = length-recent b.size (first_time_from c.args.item.time on) b.held.tuples.items in
     let most = c.requires.is_valid.2 in
     let room = c.requires.has_room (ap is_some (sym c.get.ensures ∙ c.in-Some.is)) in
     let same = ap (λ (l : List Tuple). length l) c.in_ok-give_ready.ensures.held in

@@ -1,4 +1,4 @@
-use Rattle.sq_reader.proofs.bodies.body_of.Goals as goal
+use Rattle.sq_reader.proofs.bodies.typed_body.Goals as goal
 
 pub returns-in-Map-clause-err : goal.returns-in-Map-clause-err
 returns-in-Map-clause-err c =

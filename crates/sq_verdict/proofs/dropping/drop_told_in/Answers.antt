@@ -2,7 +2,7 @@ use Rattle.std.proofs.Common.{◌∙◌, sym, ap}
 use Rattle.std.specs.Prelude.{codes}
 use Rattle.sq_value.specs.Lists.{same_bytes}
 use Rattle.sq_verdict.proofs.DropLines.{no_drop}
-use Rattle.sq_verdict.proofs.dropping.drop_in.Goals as goal
+use Rattle.sq_verdict.proofs.dropping.drop_told_in.Goals as goal
 
 pub returns-then-not-same_bytes-clause-found : goal.returns-then-not-same_bytes-clause-found
 returns-then-not-same_bytes-clause-found c =

@@ -1,7 +1,7 @@
 use Rattle.std.proofs.Common.{◌≡◌, ◌+◌, ◌*◌, ◌∙◌, ap, sym, refl, arith}
 use Rattle.sq_gen.specs.Files.{trade_line, line_at, words_at}
 use Rattle.sq_gen.proofs.StreamLemmas.{words_at-none, word-drawn, stream_of-none, stream_of-more}
-use Rattle.sq_gen.proofs.stream.stream_of.Goals as goal
+use Rattle.sq_gen.proofs.stream.stream_text.Goals as goal
 
 pub loop-i-init : goal.loop-i-init
 loop-i-init c = record {

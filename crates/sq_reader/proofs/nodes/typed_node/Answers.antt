@@ -5,7 +5,7 @@ use Rattle.sq_reader.proofs.LimitLemmas.{counts_of}
 use Rattle.sq_reader.proofs.ListLemmas.{item_passes, item_there}
 use Rattle.sq_reader.proofs.WiringLemmas.{wired_there}
 use Rattle.sq_reader.proofs.NodeLemmas.{node_from}
-use Rattle.sq_reader.proofs.nodes.node_at.Goals as goal
+use Rattle.sq_reader.proofs.nodes.typed_node.Goals as goal
 
 pub node_in-requires-clause-within : goal.node_in-requires-clause-within
 node_in-requires-clause-within c =

@@ -8,13 +8,13 @@ use Rattle.sq_aggfn.specs.declared.WindowSpec.{WindowSpec}
 use Rattle.sq_net.specs.declared.Body.TheVariants as body
 use Rattle.sq_tables.specs.declared.raw.AnswerColumn.{AnswerColumn}
 use Rattle.sq_reader.specs.Functions.{funcs_from, group_from, kinds_answered}
-use Rattle.sq_reader.specs.Columns.{aggregate_of, bad_given, give_names}
+use Rattle.sq_reader.specs.Columns.{typed_aggregate, bad_given, give_names}
 use Rattle.sq_reader.proofs.FunctionLemmas.{shown_columns, shown_schema}
-use Rattle.sq_reader.proofs.bodies.aggregate_of.Goals as goal
+use Rattle.sq_reader.proofs.bodies.typed_aggregate.Goals as goal
 
 typed : (n : ℕ) (window : WindowSpec) (group : List (List ℕ)) (give : List AnswerColumn) (cs : Columns) (fs : List Func) (ps : List ℕ) → bad_given group (give_names give) ≡ None
     → funcs_from n 0 cs give ≡ Ok fs → group_from n 0 cs [] group ≡ Ok ps
-    → aggregate_of n window group give cs ≡ Ok (body.Aggregate fs ps window, zip (group ++ give_names give) (filter_map (kind_at cs) ps ++ kinds_answered cs fs) ∷ [])
+    → typed_aggregate n window group give cs ≡ Ok (body.Aggregate fs ps window, zip (group ++ give_names give) (filter_map (kind_at cs) ps ++ kinds_answered cs fs) ∷ [])
 typed n window group give cs fs ps good funcs places =
     rw (good, funcs, places, shown_columns n cs group ps (give_names give) (kinds_answered cs fs) places) refl
 

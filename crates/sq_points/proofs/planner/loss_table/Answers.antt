@@ -4,7 +4,7 @@ use Rattle.std.proofs.lemmas.List.{map_more}
 use Rattle.sq_net.specs.declared.Output.{Output}
 use Rattle.sq_qos.specs.Graphs.{loss_steps_of}
 use Rattle.sq_points.specs.Losses.{IsFall, AreFalls}
-use Rattle.sq_points.proofs.planner.table_of.Goals as goal
+use Rattle.sq_points.proofs.planner.loss_table.Goals as goal
 
 one-more : {X Y : Type 0} (f : X → Y) (xs : List X) (i : ℕ) (x : X) (old new : List Y) (y : Y)
     → i < length xs → x ≡ get_or xs i x → old ≡ map f (take i xs) → new ≡ old ++ y ∷ [] → y ≡ f x → new ≡ map f (take (i + 1) xs)

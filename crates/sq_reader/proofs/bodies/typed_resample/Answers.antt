@@ -5,7 +5,7 @@ use Rattle.sq_net.specs.Columns.{first_columns}
 use Rattle.sq_reader.specs.Columns.{bad_given, give_names}
 use Rattle.sq_reader.proofs.PairLemmas.{left_length, left_names}
 use Rattle.sq_reader.proofs.ResampleLemmas.{funcs_at_fault, names_at_fault, resampled, resampled_schema}
-use Rattle.sq_reader.proofs.bodies.resample_of.Goals as goal
+use Rattle.sq_reader.proofs.bodies.typed_resample.Goals as goal
 
 pub bad_given-requires-clause-before : goal.bad_given-requires-clause-before
 bad_given-requires-clause-before c =

@@ -1,8 +1,0 @@
-use Rattle.sq_start.specs.Numbers.{actor_at}
-use Rattle.sq_core.specs.Table.{row_of}
-use Rattle.sq_core.proofs.TableLemmas.{row-more}
-use Rattle.sq_core.proofs.network.table_of.Goals as goal
-
-pub loop-actor-preserved : goal.loop-actor-preserved
-loop-actor-preserved c =
-    row-more (λ k. row_of c.args.n.now (actor_at c.args.n.now k)) c.loop-actor.actor c.in_ok-row_at.field-0 c.loop-actor.table.items c.push.new.self.items c.in_ok-push.ensures.items c.loop-actor.invariant c.in_ok-row_at.ensures
