@@ -7,9 +7,8 @@ use Rattle.std.proofs.lemmas.List.Sums.{sum_by-cons}
 use Rattle.std.proofs.lemmas.List.Elements.{All-from_recursion, recursion_from_All}
 use Rattle.std.proofs.lemmas.Option.{same_Some, slice_get-get_or, slice_get-map, slice_get_within}
 use Rattle.sq_value.specs.declared.Tuple.{Tuple}
-use Rattle.sq_value.specs.Lists.{are_distinct}
+use Rattle.sq_value.specs.Lists.{are_distinct, contains_number, nth}
 use Rattle.sq_graph.specs.declared.BoxWires.{BoxWires}
-use Rattle.sq_graph.specs.Order.{contains_number}
 use Rattle.sq_graph.specs.Wires.{Arc, arcs_of, output_arc_at}
 use Rattle.sq_place.specs.declared.DropPoint.{DropPoint}
 use Rattle.sq_place.specs.Points.{point_at}
@@ -22,7 +21,7 @@ use Rattle.sq_net.specs.Sound.{IsSound}
 use Rattle.sq_points.specs.Limits.{KeepsDropLimits}
 use Rattle.sq_points.specs.Points.{drops_in, points_of, windows_of}
 use Rattle.sq_points.proofs.Bounds.{few_outputs, few_places}
-use Rattle.sq_model.specs.Full.{nth, full_arc, full_on, full_stream, full_streams}
+use Rattle.sq_model.specs.Full.{full_arc, full_on, full_stream, full_streams}
 use Rattle.sq_model.specs.Given.{IsMeasured}
 use Rattle.sq_model.specs.Shedding.{drop_above_output, first_drop}
 use Rattle.sq_model.proofs.Alls.{holds-at}

@@ -2,12 +2,12 @@
 ghost use Rattle.std.specs.Prelude.{◌≡◌, ◌<◌, ◌^◌, length, map, IfOk};
 ghost use Rattle.std.specs.List.{All};
 ghost use Rattle.sq_value.specs.Values.{IsStream};
-ghost use Rattle.sq_graph.specs.Order.{contains_number};
 ghost use Rattle.sq_net.specs.Sound.{IsSound};
 ghost use Rattle.sq_points.specs.Limits.{KeepsDropLimits};
 ghost use Rattle.sq_points.specs.Points.{points_of};
 ghost use Rattle.sq_model.specs.Shedding.{first_drop};
 ghost use Rattle.sq_audit.specs.Audits.{above_of, audit_of, wanted_of, wanted_one};
+ghost use Rattle.sq_value.specs.Lists.{contains_number};
 
 use sq_model::{full_streams, sound_is_placed};
 use sq_net::{Network, Output};

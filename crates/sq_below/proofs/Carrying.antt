@@ -2,7 +2,6 @@
 use Rattle.std.proofs.Common.{◌≡◌, ℕ, cond, length, refl, ap, arith}
 use Rattle.std.specs.Prelude.{slice_get}
 use Rattle.sq_graph.specs.Wires.{input_arcs_of}
-use Rattle.sq_graph.specs.Order.{contains_number}
 use Rattle.sq_place.specs.declared.DropPoint.{DropPoint}
 use Rattle.sq_place.specs.Places.{own_arcs}
 use Rattle.sq_model.specs.Shedding.{Replay}
@@ -11,6 +10,7 @@ use Rattle.sq_below.specs.Ranks.{HasRanks}
 use Rattle.sq_place.proofs.Lists.{map-agree}
 use Rattle.sq_place.proofs.Climbs.{producer_at, fixed}
 use Rattle.sq_place.proofs.Wires.{arcs-rise}
+use Rattle.sq_value.specs.Lists.{contains_number}
 
 -- what is carried, as an equation along the boxes
 pub carried-fixed : (r : Replay) (sound : HasRanks r.network) (d : ℕ) (p : DropPoint) (a : ℕ)

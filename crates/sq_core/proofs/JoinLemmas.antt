@@ -3,12 +3,12 @@ use Rattle.std.proofs.Common.{◌≡◌, ◌≢◌, ℕ, zero, suc, ◌+◌, ◌
 use Rattle.std.specs.declared.alloc.Global.{Global}
 use Rattle.std.proofs.lemmas.Bool.{cases_lt, cases_eq}
 use Rattle.sq_left.proofs.MergeLemmas.{eqb-same, eqb-not}
-use Rattle.sq_sched.specs.Ready.{contains}
 use Rattle.sq_flow.specs.declared.wires.Arc.{Arc}
 use Rattle.sq_flow.specs.declared.wires.Wires.{Wires}
 use Rattle.sq_flow.specs.Wiring.{numbers_in, rows_in, arcs_read, arcs_from, followers_of, Climbs, from_of, arc_port, to_of, arc_place, times_in}
 use Rattle.sq_core.specs.declared.join.Feed.{Feed}
 use Rattle.sq_core.specs.Joining.{feeds_of, IsGiver, AreFeeds, IsOf, AddsArc, IsJoining, Fixed, once_more}
+use Rattle.sq_value.specs.Lists.{contains_number}
 
 -- the item at a place of a list with one more
 pub get-last : {A : Type 0} (xs : List A) (x : A) → slice_get (xs ++ x ∷ []) (length xs) ≡ Some x
@@ -61,7 +61,7 @@ rows_bare (x ∷ xs) v is (suc r) = rows_bare xs v is r
 
 -- ---- a list with one more number, once
 
-is-there : (xs : List ℕ) (x : ℕ) → contains (xs ++ x ∷ []) x ≡ true
+is-there : (xs : List ℕ) (x : ℕ) → contains_number (xs ++ x ∷ []) x ≡ true
 is-there [] x = ap (λ b. b || false) (eqb-same x x refl)
 is-there (y ∷ xs) x = ap (λ b. eqb y x || b) (is-there xs x) ∙ or-true (eqb y x)
   where
@@ -69,32 +69,32 @@ is-there (y ∷ xs) x = ap (λ b. eqb y x || b) (is-there xs x) ∙ or-true (eqb
     or-true true = refl
     or-true false = refl
 
-stays-there : (xs : List ℕ) (x y : ℕ) → contains xs y ≡ true → contains (xs ++ x ∷ []) y ≡ true
+stays-there : (xs : List ℕ) (x y : ℕ) → contains_number xs y ≡ true → contains_number (xs ++ x ∷ []) y ≡ true
 stays-there [] x y h = cc h
 stays-there (z ∷ xs) x y h = by (λ k. stays-there xs x y k) (eqb z y) h
   where
-    by : (contains xs y ≡ true → contains (xs ++ x ∷ []) y ≡ true) → (b : Bool) → (b || contains xs y) ≡ true → (b || contains (xs ++ x ∷ []) y) ≡ true
+    by : (contains_number xs y ≡ true → contains_number (xs ++ x ∷ []) y ≡ true) → (b : Bool) → (b || contains_number xs y) ≡ true → (b || contains_number (xs ++ x ∷ []) y) ≡ true
     by later true k = refl
     by later false k = later k
 
-there-cases : (xs : List ℕ) (x y : ℕ) → contains (xs ++ x ∷ []) y ≡ true → (contains xs y ≡ true) ⊎ (x ≡ y)
+there-cases : (xs : List ℕ) (x y : ℕ) → contains_number (xs ++ x ∷ []) y ≡ true → (contains_number xs y ≡ true) ⊎ (x ≡ y)
 there-cases [] x y h =
     elim (cases_eq x y) [
       | inl same ↦ inr same
-      | inr other ↦ (let no : contains (x ∷ []) y ≡ false = ap (λ b. b || false) (eqb-not x y other) in cc (no, h))
+      | inr other ↦ (let no : contains_number (x ∷ []) y ≡ false = ap (λ b. b || false) (eqb-not x y other) in cc (no, h))
     ]
 there-cases (z ∷ xs) x y h = by (λ k. there-cases xs x y k) (eqb z y) h
   where
-    by : (contains (xs ++ x ∷ []) y ≡ true → (contains xs y ≡ true) ⊎ (x ≡ y)) → (b : Bool) → (b || contains (xs ++ x ∷ []) y) ≡ true → ((b || contains xs y) ≡ true) ⊎ (x ≡ y)
+    by : (contains_number (xs ++ x ∷ []) y ≡ true → (contains_number xs y ≡ true) ⊎ (x ≡ y)) → (b : Bool) → (b || contains_number (xs ++ x ∷ []) y) ≡ true → ((b || contains_number xs y) ≡ true) ⊎ (x ≡ y)
     by later true k = inl refl
     by later false k = later k
 
-climbs-more : (xs : List ℕ) (x : ℕ) → Climbs xs → ((y : ℕ) → contains xs y ≡ true → y < x) → Climbs (xs ++ x ∷ [])
+climbs-more : (xs : List ℕ) (x : ℕ) → Climbs xs → ((y : ℕ) → contains_number xs y ≡ true → y < x) → Climbs (xs ++ x ∷ [])
 climbs-more [] x h low = (λ y is. cc is, _)
 climbs-more (z ∷ xs) x h low = (
   λ y is. elim (there-cases xs x y is) [
     | inl old ↦ h.0 y old
-    | inr new ↦ (let l = low z (ap (λ b. b || contains xs z) (eqb-same z z refl)) in omega (arith, l, new))
+    | inr new ↦ (let l = low z (ap (λ b. b || contains_number xs z) (eqb-same z z refl)) in omega (arith, l, new))
   ],
   climbs-more xs x h.1 (λ y is. low y (or-right (eqb z y) is)),
 )
@@ -103,36 +103,36 @@ climbs-more (z ∷ xs) x h low = (
     or-right true h = refl
     or-right false h = h
 
-once-there : (xs : List ℕ) (x : ℕ) → contains (once_more x xs) x ≡ true
-once-there xs x = by (contains xs x) refl
+once-there : (xs : List ℕ) (x : ℕ) → contains_number (once_more x xs) x ≡ true
+once-there xs x = by (contains_number xs x) refl
   where
-    by : (b : Bool) → contains xs x ≡ b → contains (cond b xs (xs ++ x ∷ [])) x ≡ true
+    by : (b : Bool) → contains_number xs x ≡ b → contains_number (cond b xs (xs ++ x ∷ [])) x ≡ true
     by true is = is
     by false is = is-there xs x
 
-once-stays : (xs : List ℕ) (x y : ℕ) → contains xs y ≡ true → contains (once_more x xs) y ≡ true
-once-stays xs x y h = by (contains xs x)
+once-stays : (xs : List ℕ) (x y : ℕ) → contains_number xs y ≡ true → contains_number (once_more x xs) y ≡ true
+once-stays xs x y h = by (contains_number xs x)
   where
-    by : (b : Bool) → contains (cond b xs (xs ++ x ∷ [])) y ≡ true
+    by : (b : Bool) → contains_number (cond b xs (xs ++ x ∷ [])) y ≡ true
     by true = h
     by false = stays-there xs x y h
 
-once-cases : (xs : List ℕ) (x y : ℕ) → contains (once_more x xs) y ≡ true → (contains xs y ≡ true) ⊎ (x ≡ y)
-once-cases xs x y = by (contains xs x)
+once-cases : (xs : List ℕ) (x y : ℕ) → contains_number (once_more x xs) y ≡ true → (contains_number xs y ≡ true) ⊎ (x ≡ y)
+once-cases xs x y = by (contains_number xs x)
   where
-    by : (b : Bool) → contains (cond b xs (xs ++ x ∷ [])) y ≡ true → (contains xs y ≡ true) ⊎ (x ≡ y)
+    by : (b : Bool) → contains_number (cond b xs (xs ++ x ∷ [])) y ≡ true → (contains_number xs y ≡ true) ⊎ (x ≡ y)
     by true h = inl h
     by false h = there-cases xs x y h
 
-once-climbs : (xs : List ℕ) (x : ℕ) → Climbs xs → ((y : ℕ) → contains xs y ≡ true → y ≤ x) → Climbs (once_more x xs)
-once-climbs xs x h low = by (contains xs x) refl
+once-climbs : (xs : List ℕ) (x : ℕ) → Climbs xs → ((y : ℕ) → contains_number xs y ≡ true → y ≤ x) → Climbs (once_more x xs)
+once-climbs xs x h low = by (contains_number xs x) refl
   where
-    by : (b : Bool) → contains xs x ≡ b → Climbs (cond b xs (xs ++ x ∷ []))
+    by : (b : Bool) → contains_number xs x ≡ b → Climbs (cond b xs (xs ++ x ∷ []))
     by true is = h
     by false is = climbs-more xs x h (λ y there.
         let l = low y there in
         elim (cases_eq y x) [
-          | inl same ↦ (let no : true ≡ false = sym there ∙ ap (contains xs) same ∙ is in cc no)
+          | inl same ↦ (let no : true ≡ false = sym there ∙ ap (contains_number xs) same ∙ is in cc no)
           | inr other ↦ omega (arith, l, other)
         ])
 
@@ -289,15 +289,15 @@ module _ (shown : ℕ) (feeds : List (Vec Feed Global)) (at place : ℕ) (f : Fe
         | inr other ↦ subst P (sym (adds.followers actor ∙ ap (λ b. cond b (once_more arc.to (followers_of w actor)) (followers_of w actor)) (eqb-not actor arc.from other))) old
       ]
 
-  followed : (a : ℕ) → a < length w'.arcs.items → contains (followers_of w' (from_of (slice_get w'.arcs.items a))) (to_of (slice_get w'.arcs.items a)) ≡ true
-  followed a low = by-arc (λ b o. contains (followers_of w' (from_of o)) (to_of o) ≡ true) a low
-      (λ less. by-follower (λ l. contains l (to_of (slice_get w.arcs.items a)) ≡ true) (from_of (slice_get w.arcs.items a)) (i.followed a less)
+  followed : (a : ℕ) → a < length w'.arcs.items → contains_number (followers_of w' (from_of (slice_get w'.arcs.items a))) (to_of (slice_get w'.arcs.items a)) ≡ true
+  followed a low = by-arc (λ b o. contains_number (followers_of w' (from_of o)) (to_of o) ≡ true) a low
+      (λ less. by-follower (λ l. contains_number l (to_of (slice_get w.arcs.items a)) ≡ true) (from_of (slice_get w.arcs.items a)) (i.followed a less)
       (λ same. once-stays (followers_of w (from_of (slice_get w.arcs.items a))) arc.to (to_of (slice_get w.arcs.items a)) (i.followed a less)))
-      (ap (λ l. contains l arc.to) (adds.followers arc.from ∙ ap (λ b. cond b (once_more arc.to (followers_of w arc.from)) (followers_of w arc.from)) (eqb-same arc.from arc.from refl))
+      (ap (λ l. contains_number l arc.to) (adds.followers arc.from ∙ ap (λ b. cond b (once_more arc.to (followers_of w arc.from)) (followers_of w arc.from)) (eqb-same arc.from arc.from refl))
       ∙ once-there (followers_of w arc.from) arc.to)
 
-  followers-low : (actor follower : ℕ) → contains (followers_of w' actor) follower ≡ true → 8 * follower < 8 * at + (place + 1)
-  followers-low actor follower = by-follower (λ l. contains l follower ≡ true → 8 * follower < 8 * at + (place + 1)) actor
+  followers-low : (actor follower : ℕ) → contains_number (followers_of w' actor) follower ≡ true → 8 * follower < 8 * at + (place + 1)
+  followers-low actor follower = by-follower (λ l. contains_number l follower ≡ true → 8 * follower < 8 * at + (place + 1)) actor
       (λ h. let low = i.followers_low actor follower h in omega (arith, low))
       (λ same h. elim (once-cases (followers_of w actor) arc.to follower h) [
         | inl old ↦ (let low = i.followers_low actor follower old in omega (arith, low))
@@ -305,7 +305,7 @@ module _ (shown : ℕ) (feeds : List (Vec Feed Global)) (at place : ℕ) (f : Fe
       ])
 
   -- a follower that stands already isn't behind this operator
-  upto-here : (actor follower : ℕ) → contains (followers_of w actor) follower ≡ true → follower ≤ arc.to
+  upto-here : (actor follower : ℕ) → contains_number (followers_of w actor) follower ≡ true → follower ≤ arc.to
   upto-here actor follower h = (let low = i.followers_low actor follower h in let few = place-few in omega (arith, low, few, to))
     where
       within : (fs : List Feed) (p : ℕ) → slice_get fs p ≡ Some f → p < length fs

@@ -6,7 +6,7 @@ use Rattle.std.proofs.lemmas.Option.{slice_get_within}
 use Rattle.sq_value.specs.declared.Tuple.{Tuple}
 use Rattle.sq_value.specs.Values.{IsStream}
 use Rattle.sq_item.specs.declared.Item.{Item}
-use Rattle.sq_oper.specs.Streams.{IsSoundTuple, things}
+use Rattle.sq_oper.specs.Streams.{IsSoundTuple, things, tuples_in}
 use Rattle.sq_net.specs.declared.Network.{Network}
 use Rattle.sq_net.specs.Sound.{IsSound}
 use Rattle.sq_points.specs.Points.{points_of}
@@ -15,13 +15,12 @@ use Rattle.sq_left.proofs.MergeLemmas.{eqb-same, eqb-not}
 use Rattle.sq_left.specs.Left.{Net, Holding, coming, inputs, inputs_by, left, still_dropped, IsLaidOut}
 use Rattle.sq_below.specs.Actors as below
 use Rattle.sq_below.specs.Actors.{stream_of}
-use Rattle.sq_sched.specs.Ready.{contains, OnlyOnce}
+use Rattle.sq_sched.specs.Ready.{OnlyOnce}
 use Rattle.sq_queue.specs.Faces.{face}
 use Rattle.sq_actor.specs.declared.actor.Actor.{Actor}
 use Rattle.sq_replay.specs.Recorded.{Recorded}
 use Rattle.sq_flow.specs.declared.flow.Flow.{Flow}
 use Rattle.sq_flow.specs.declared.engine.Engine.{Engine}
-use Rattle.sq_flow.specs.Events.{bodies}
 use Rattle.sq_flow.specs.Seats.{Meaning, done_at}
 use Rattle.sq_flow.specs.Wiring.{net_of, arcs_read, numbers_in, IsShaped}
 use Rattle.sq_flow.specs.Flows.{tuples_to_come, RiseFrom, world_of, fed_at_last, sum_below}
@@ -37,10 +36,11 @@ use Rattle.sq_core.specs.Table.{IsTabled}
 use Rattle.sq_core.specs.Answers.{KeepsAnswers}
 use Rattle.sq_core.proofs.NetLemmas.{reads-some}
 use Rattle.sq_core.proofs.SumLemmas.{sum-numbers}
+use Rattle.sq_value.specs.Lists.{contains_number}
 
 -- ---- what is left
 
-bodies-things : (xs : List Tuple) → bodies (things xs) ≡ xs
+bodies-things : (xs : List Tuple) → tuples_in (things xs) ≡ xs
 bodies-things [] = refl
 bodies-things (x ∷ xs) = ap (λ l. x ∷ l) (bodies-things xs)
 
@@ -96,8 +96,8 @@ new-answers r read law flow items none new shaped sheds shown many untaken =
     record {
       holds = record { facts = starts.facts; queued = λ arc. rw (none arc) _ };
       lines = λ output low.
-          ap (λ k. bodies (coming (net_of flow.wires) (world_of actors (level_of r) items flow) flow.wires.order.items (k + output) 0)) shown
-          ∙ ap bodies (starts.lines output low) ∙ bodies-things (answer_of r output);
+          ap (λ k. tuples_in (coming (net_of flow.wires) (world_of actors (level_of r) items flow) flow.wires.order.items (k + output) 0)) shown
+          ∙ ap tuples_in (starts.lines output low) ∙ bodies-things (answer_of r output);
       drops = λ w p there.
           let low = slice_get_within (points_of r.network) w p there in
           ap (λ k. still_dropped (net_of flow.wires) (world_of actors (level_of r) items flow) flow.wires.order.items (k + w)) sheds
@@ -143,13 +143,13 @@ few-queued (q ∷ queues) few (suc source) = few-queued queues few.1 source
 
 -- ---- which actors are ready
 
-only-zero : (xs : List ℕ) → OnlyOnce xs → contains xs 0 ≡ true → ((y : ℕ) → contains xs y ≡ true → y ≡ 0) → xs ≡ 0 ∷ []
+only-zero : (xs : List ℕ) → OnlyOnce xs → contains_number xs 0 ≡ true → ((y : ℕ) → contains_number xs y ≡ true → y ≡ 0) → xs ≡ 0 ∷ []
 only-zero [] once there zero-only = cc there
 only-zero (x ∷ []) once there zero-only = ap (λ y. y ∷ []) (zero-only x (ap (λ b. b || false) (eqb-same x x refl)))
 only-zero (x ∷ y ∷ ys) once there zero-only =
-    let first : x ≡ 0 = zero-only x (ap (λ b. b || contains (y ∷ ys) x) (eqb-same x x refl)) in
-    let next : y ≡ 0 = zero-only y (or-true (eqb x y) (ap (λ b. b || contains ys y) (eqb-same y y refl))) in
-    let twice : contains (y ∷ ys) x ≡ true = ap (λ b. b || contains ys x) (eqb-same y x (next ∙ sym first)) in
+    let first : x ≡ 0 = zero-only x (ap (λ b. b || contains_number (y ∷ ys) x) (eqb-same x x refl)) in
+    let next : y ≡ 0 = zero-only y (or-true (eqb x y) (ap (λ b. b || contains_number ys y) (eqb-same y y refl))) in
+    let twice : contains_number (y ∷ ys) x ≡ true = ap (λ b. b || contains_number ys x) (eqb-same y x (next ∙ sym first)) in
     cc (once.0, twice)
   where
     or-true : (b : Bool) {c : Bool} → c ≡ true → (b || c) ≡ true
@@ -187,7 +187,7 @@ module _ {O : Type 0} (m : Meaning O) (valid : O → Type 0) (n : Network) (soun
       let no : false ≡ true = ap stands (sym (bare arc.0)) ∙ ready.standing 0 arc.0 arc.1 in
       cc no
 
-  only-replay : (actor : ℕ) → contains e.ready.list actor ≡ true → actor ≡ 0
+  only-replay : (actor : ℕ) → contains_number e.ready.list actor ≡ true → actor ≡ 0
   only-replay zero there = refl
   only-replay (suc k) there =
       let low = is.below (suc k) there in

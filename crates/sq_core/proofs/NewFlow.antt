@@ -15,7 +15,6 @@ use Rattle.sq_oper.specs.Streams.{things}
 use Rattle.sq_net.specs.declared.Network.{Network}
 use Rattle.sq_net.specs.Sound.{IsSound}
 use Rattle.sq_points.specs.Points.{points_of}
-use Rattle.sq_model.specs.Full.{nth}
 use Rattle.sq_model.specs.Fed.{late_of}
 use Rattle.sq_model.specs.Given.{IsAt}
 use Rattle.sq_model.specs.Shedding.{Replay, level_of}
@@ -42,6 +41,7 @@ use Rattle.sq_core.specs.Table.{IsTabled}
 use Rattle.sq_core.specs.Seated.{IsSeated, AllSeated}
 use Rattle.sq_core.proofs.NetLemmas.{takes-arcs, marks-come, tuples-come, joins-all}
 use Rattle.sq_core.proofs.SumLemmas.{sum-none}
+use Rattle.sq_value.specs.Lists.{nth}
 
 -- what is to be released of a source is its stream
 released : (queues : List Recorded) (source : ℕ) → tuples_to_come (slice_get queues source) ≡ nth (map (λ q. q.items) queues) source

@@ -8,7 +8,7 @@ use Rattle.std.proofs.lemmas.List.Folds.{list_any-append}
 use Rattle.std.proofs.lemmas.Option.{slice_get_within}
 use Rattle.sq_left.proofs.MergeLemmas.{eqb-same}
 use Rattle.sq_graph.specs.Wires.{Producer, Source, Port, producer_of, inputs_of, input_arcs_of, output_arc_at}
-use Rattle.sq_graph.specs.Order.{is_given, contains_number, can_be_next, order_of}
+use Rattle.sq_graph.specs.Order.{is_given, can_be_next, order_of}
 use Rattle.sq_graph.proofs.Producers.{producer_is}
 use Rattle.sq_graph.proofs.Reach.{and_parts}
 use Rattle.sq_graph.proofs.Cycles.{or_cases, has_is}
@@ -34,6 +34,7 @@ use Rattle.sq_core.specs.declared.join.Feed.{Feed}
 use Rattle.sq_core.specs.Joining.{feeds_of, known_by, AllKnown, ReadsEarlier, IsActorOrder}
 use Rattle.sq_core.specs.Table.{arc_feed, place_feed, point_row, feeds_row, feed_table, turned, same_box, box_giving, drops_from, drops_behind, with_boxes, with_outputs, actors_of}
 use Rattle.sq_core.proofs.TableLemmas.{row-is, count-is}
+use Rattle.sq_value.specs.Lists.{contains_number}
 
 or-right : (a b : Bool) → b ≡ true → (a || b) ≡ true
 or-right true b h = refl

@@ -5,13 +5,13 @@ use Rattle.std.specs.List.{flat_map}
 use Rattle.std.proofs.lemmas.List.FromFn.{length-map-range_with_len, get_or-map-range_with_len}
 use Rattle.sq_graph.specs.declared.Wiring.{Wiring}
 use Rattle.sq_graph.specs.Wires.{arcs_of}
-use Rattle.sq_graph.specs.Order.{contains_number}
 use Rattle.sq_place.specs.declared.DropAt.TheVariants as at
 use Rattle.sq_place.specs.Places.{stream_on, arc_numbers, own_arcs}
 use Rattle.sq_place.proofs.Lists.{contains-filter, contains-range}
 use Rattle.sq_place.proofs.Numbering.{streams-are}
 use Rattle.sq_net.specs.declared.Network.{Network}
 use Rattle.sq_core.specs.Table.{streams_on}
+use Rattle.sq_value.specs.Lists.{contains_number}
 
 -- all arcs of a stream are its own
 pub owns_stream : (w : Wiring) (s a : ℕ) → a < length (arcs_of w) → contains_number (own_arcs w (at.Stream s)) a ≡ eqb (stream_on w a) s

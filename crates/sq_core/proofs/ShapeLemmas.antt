@@ -2,7 +2,6 @@
 use Rattle.std.proofs.Common.{◌≡◌, ◌≢◌, ℕ, zero, suc, ◌+◌, ◌<◌, ◌≤◌, eqb, cond, true, false, ◌||◌, List, [], ◌∷◌, length, Option, Some, None, Vec, slice_get, refl, ap, sym, ◌∙◌, subst, arith, inl, inr}
 use Rattle.std.specs.declared.alloc.Global.{Global}
 use Rattle.std.proofs.lemmas.Bool.{cases_lt, cases_eq}
-use Rattle.sq_sched.specs.Ready.{contains}
 use Rattle.sq_left.specs.Left.{Net, is_known_actor, Each, IsLaidOut}
 use Rattle.sq_left.proofs.MergeLemmas.{eqb-same, eqb-not}
 use Rattle.sq_flow.specs.declared.wires.Arc.{Arc}
@@ -10,6 +9,7 @@ use Rattle.sq_flow.specs.declared.wires.Wires.{Wires}
 use Rattle.sq_flow.specs.Wiring.{net_of, arcs_read, arcs_from, followers_of, Climbs, from_of, arc_port, numbers_in, rows_in, times_in, IsShaped}
 use Rattle.sq_core.specs.declared.join.Feed.{Feed}
 use Rattle.sq_core.specs.Joining.{feeds_of, IsGiver, AreFeeds, IsOf, IsJoining, IsJoined, IsActorOrder, ReadsEarlier, AllKnown, known_by, Fixed}
+use Rattle.sq_value.specs.Lists.{contains_number}
 
 -- a table has nothing past its end
 pub no-feeds : (feeds : List (Vec Feed Global)) (actor : ℕ) → length feeds ≤ actor → feeds_of feeds actor ≡ []
@@ -140,8 +140,8 @@ joining-none shown feeds w inputs readers none rows bare followers unfollowed =
     no-read : {P : Type 0} (actor port arc : ℕ) → slice_get (arcs_read w actor) port ≡ Some arc → P
     no-read actor port arc is = (let h : slice_get (no-numbers) port ≡ Some arc = ap (λ xs. slice_get xs port) (sym (rows actor)) ∙ is in cc h)
 
-    no-follower : {P : Type 0} (actor follower : ℕ) → contains (followers_of w actor) follower ≡ true → P
-    no-follower actor follower h = (let no : false ≡ true = ap (λ xs. contains xs follower) (sym (unfollowed actor)) ∙ h in cc no)
+    no-follower : {P : Type 0} (actor follower : ℕ) → contains_number (followers_of w actor) follower ≡ true → P
+    no-follower actor follower h = (let no : false ≡ true = ap (λ xs. contains_number xs follower) (sym (unfollowed actor)) ∙ h in cc no)
 
     no-from : {P : Type 0} (actor port place arc : ℕ) → slice_get (arcs_from w actor port) place ≡ Some arc → P
     no-from actor port place arc is = (let h : slice_get (no-numbers) place ≡ Some arc = ap (λ vs. slice_get (numbers_in (slice_get vs port)) place) (sym (bare actor)) ∙ is in cc h)

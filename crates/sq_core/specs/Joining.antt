@@ -3,9 +3,9 @@ use Rattle.std.specs.Prelude.{◌≡◌, ◌≢◌, ◌⊎◌, ℕ, ◌+◌, ◌
 use Rattle.std.specs.declared.alloc.Global.{Global}
 use Rattle.sq_flow.specs.declared.wires.Arc.{Arc}
 use Rattle.sq_flow.specs.declared.wires.Wires.{Wires}
-use Rattle.sq_sched.specs.Ready.{contains}
 use Rattle.sq_flow.specs.Wiring.{numbers_in, rows_in, arcs_read, arcs_from, followers_of, Climbs, from_of, arc_port, to_of, arc_place, times_in}
 use Rattle.sq_core.specs.declared.join.Feed.{Feed}
+use Rattle.sq_value.specs.Lists.{contains_number}
 
 abbrev pub feeds_in : Option (Vec Feed Global) → List Feed
 feeds_in None = []
@@ -66,7 +66,7 @@ AddsIn to place at was is = (actor port : ℕ)
 
 -- a number behind these, where it isn't among them
 abbrev pub once_more : ℕ → List ℕ → List ℕ
-once_more x xs = if contains xs x then xs else xs ++ x ∷ []
+once_more x xs = if contains_number xs x then xs else xs ++ x ∷ []
 
 -- what no arc changes
 pub record Fixed (was is : Wires) : Type 0 where
@@ -105,6 +105,6 @@ pub record IsJoining (shown : ℕ) (feeds : List (Vec Feed Global)) (at place : 
   pub readers_in : (actor port place arc : ℕ) → slice_get (arcs_from wires actor port) place ≡ Some arc → arc < length wires.arcs.items
   pub followers_len : length wires.followers.items ≡ length feeds + 1
   pub followed : (arc : ℕ) → arc < length wires.arcs.items
-      → contains (followers_of wires (from_of (slice_get wires.arcs.items arc))) (to_of (slice_get wires.arcs.items arc)) ≡ true
-  pub followers_low : (actor follower : ℕ) → contains (followers_of wires actor) follower ≡ true → 8 * follower < 8 * at + place
+      → contains_number (followers_of wires (from_of (slice_get wires.arcs.items arc))) (to_of (slice_get wires.arcs.items arc)) ≡ true
+  pub followers_low : (actor follower : ℕ) → contains_number (followers_of wires actor) follower ≡ true → 8 * follower < 8 * at + place
   pub climbs : (actor : ℕ) → Climbs (followers_of wires actor)

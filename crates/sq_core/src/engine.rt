@@ -3,7 +3,7 @@
 ghost use Rattle.std.specs.Prelude.{◌≡◌, ◌⊎◌, ◌^◌, ℕ, ◌+◌, ◌-◌, ◌<◌, ◌≤◌, ◌++◌, [], ◌∷◌, List, Option, OnOk, OnErr, IfOk, IfErr, true, false, length, map};
 ghost use Rattle.std.specs.List.{AllByRecursion};
 ghost use Rattle.sq_value.specs.declared.Tuple.{Tuple};
-ghost use Rattle.sq_value.specs.Lists.{IsPrefixOf};
+ghost use Rattle.sq_value.specs.Lists.{IsPrefixOf, contains_number};
 ghost use Rattle.sq_value.specs.Values.{IsStream};
 ghost use Rattle.sq_oper.specs.declared.outs.Event.{Event};
 ghost use Rattle.sq_oper.specs.Streams.{IsSoundTuple};
@@ -15,7 +15,7 @@ ghost use Rattle.sq_model.specs.Shedding.{Replay};
 ghost use Rattle.sq_pool.specs.Trust.{IsLater, Tells, known};
 ghost use Rattle.sq_queue.specs.Faces as faces;
 ghost use Rattle.sq_queue.specs.Faces.{Together};
-ghost use Rattle.sq_sched.specs.Ready.{contains, AreActors};
+ghost use Rattle.sq_sched.specs.Ready.{AreActors};
 ghost use Rattle.sq_flow.specs.Causes.{IsCauseIn};
 ghost use Rattle.sq_flow.specs.Events.{IsEventIn};
 ghost use Rattle.sq_points.specs.Points.{drops_in};
@@ -127,7 +127,7 @@ impl Engine {
     ) -> Result<Progress, RunErr>
         requires sound { IsSoundEngine self.old }
         requires together { Together self.old.engine.flow.queues (known (D.log disk.old)) }
-        requires ready { contains self.old.engine.ready.list pick.actor ≡ true }
+        requires ready { contains_number self.old.engine.ready.list pick.actor ≡ true }
         requires some { 1 ≤ pick.train }
         ensures network { self.new.network ≡ self.old.network }
         ensures sound { OnOk result (IsSoundEngine self.new) }

@@ -3,7 +3,7 @@ use Rattle.std.proofs.Common.{◌≡◌, ◌≢◌, ℕ, zero, suc, ◌+◌, ◌
 use Rattle.std.specs.Prelude.{slice_get, is_some}
 use Rattle.std.proofs.lemmas.Option.{slice_get_past}
 use Rattle.sq_item.specs.declared.Item.{Item}
-use Rattle.sq_oper.specs.Streams.{tuples_of}
+use Rattle.sq_oper.specs.Streams.{tuples_of, tuples_in}
 use Rattle.sq_left.specs.Left.{Net, is_known_actor, Each, IsLaidOut}
 use Rattle.sq_left.proofs.MergeLemmas.{eqb-yes, eqb-no, eqb-same}
 use Rattle.sq_left.proofs.Conserve.{ended-none, ended-settled}
@@ -11,13 +11,12 @@ use Rattle.sq_queue.specs.Faces.{face}
 use Rattle.sq_flow.specs.declared.flow.Flow.{Flow}
 use Rattle.sq_flow.specs.Wiring.{net_of, arcs_read, numbers_in}
 use Rattle.sq_flow.specs.Seats.{Meaning, done_at, taken_at, lost_at}
-use Rattle.sq_flow.specs.Events.{bodies}
 use Rattle.sq_flow.specs.Flows.{world_of, IsFlow, HoldsItems, lines_left, decisions_left, fed_at_last, lost_at_last, sum_below, work_at_last, taken_in_all}
 use Rattle.sq_flow.specs.Readiness.{IsReady, stands}
 use Rattle.sq_flow.specs.declared.engine.Engine.{Engine}
 use Rattle.sq_flow.specs.Engines.{AllDone, IsEngine, seat_number}
 use Rattle.sq_flow.proofs.ReadyLemmas.{place-next, place-within}
-use Rattle.sq_sched.specs.Ready.{contains}
+use Rattle.sq_value.specs.Lists.{contains_number}
 
 Each-at : (P : ℕ → Type 0) (xs : List ℕ) (i x : ℕ) → Each P xs → slice_get xs i ≡ Some x → P x
 Each-at P [] i x h is = absurd (cc is)
@@ -108,7 +107,7 @@ module _ {O : Type 0} (m : Meaning O) (valid : O → Type 0) (e : Flow O) (flow 
   module _ (all : AllDone e) (table : ℕ → ℕ → ℕ) (items : ℕ → List Item) (holds : HoldsItems m table items e) where
     pub none-left : (output : ℕ) → e.wires.shown + output < length e.seats.items → lines_left m table items e output ≡ []
     none-left output low =
-        ap bodies (ended-none net (world_of m table items e) e.wires.order.items holds.facts (e.wires.shown + output) 0 (flow.shaped.ordered (e.wires.shown + output) low)
+        ap tuples_in (ended-none net (world_of m table items e) e.wires.order.items holds.facts (e.wires.shown + output) 0 (flow.shaped.ordered (e.wires.shown + output) low)
         (all (e.wires.shown + output) (omega (arith, low))))
 
     pub all-fed : (actor : ℕ) → actor < length e.seats.items → fed_at_last m table items e actor ≡ taken_at m (slice_get e.seats.items actor)
@@ -154,8 +153,8 @@ none-listed m valid engine is none actor low = by (done_at engine.flow.over (sli
     by false d =
         let r = one-ready m valid engine.flow is.flow actor low d in
         let a = actor-at (length engine.flow.seats.items) r.0 r.1.0 in
-        let listed : contains engine.ready.list a.0 ≡ true = (is.exact a.0 a.1.0).ready (subst (IsReady engine.flow) (sym a.1.1) r.1.1) in
-        absurd (cc (sym (ap (λ xs. contains xs a.0) none) ∙ listed))
+        let listed : contains_number engine.ready.list a.0 ≡ true = (is.exact a.0 a.1.0).ready (subst (IsReady engine.flow) (sym a.1.1) r.1.1) in
+        absurd (cc (sym (ap (λ xs. contains_number xs a.0) none) ∙ listed))
 
 -- where all are finished no actor is listed
 pub none-ready : {O : Type 0} (m : Meaning O) (valid : O → Type 0) (engine : Engine O) → IsEngine m valid engine → AllDone engine.flow → engine.ready.list ≡ []
@@ -164,7 +163,7 @@ none-ready m valid engine is all = by engine.ready.list refl
     by : (xs : List ℕ) → engine.ready.list ≡ xs → xs ≡ []
     by [] e = refl
     by (x ∷ xs) e =
-        let listed : contains engine.ready.list x ≡ true = ap (λ ys. contains ys x) e ∙ ap (λ b. b || contains xs x) (eqb-same x x refl) in
+        let listed : contains_number engine.ready.list x ≡ true = ap (λ ys. contains_number ys x) e ∙ ap (λ b. b || contains_number xs x) (eqb-same x x refl) in
         let below = is.below x listed in
         let room = is.room.actors in
         let low : x ≤ length engine.flow.seats.items = omega (arith, below, room) in

@@ -2,7 +2,7 @@
 use Rattle.std.proofs.Common.{◌≡◌, ◌≢◌, ℕ, ◌+◌, ◌<◌, ◌≤◌, eqb, ltb, leb, cond, Bool, true, false, not, ◌||◌, ◌&&◌, List, [], ◌∷◌, ◌++◌, length, get_or, refl, ap, sym, ◌∙◌, subst, arith}
 use Rattle.std.specs.List.{filter, range_with_len}
 use Rattle.std.proofs.lemmas.Bool.Decides.{nat_tests}
-use Rattle.sq_sched.specs.Ready.{contains, without_actor, AreActors, OnlyOnce}
+use Rattle.sq_sched.specs.Ready.{without_actor, AreActors, OnlyOnce}
 use Rattle.sq_sched.proofs.ReadyLemmas.{once-without, without-gone, without-others, actors-without}
 use Rattle.sq_left.proofs.MergeLemmas.{eqb-yes, eqb-no, eqb-same, eqb-not}
 use Rattle.sq_flow.specs.declared.flow.Flow.{Flow}
@@ -15,11 +15,12 @@ use Rattle.sq_flow.specs.Readiness.{is_ready, waiting, TouchesOnly}
 use Rattle.sq_flow.specs.Engines.{seat_number, ExactFor, is_new, newly_ready, listed_after, readers_of, Looked, HasSeats, IsEngine}
 use Rattle.sq_flow.proofs.ListLemmas.{contains-filter, contains-range, climbs-filter, climbs-range, climbs-next, climbs-same, once-climbs}
 use Rattle.sq_flow.proofs.ReadyLemmas.{exact-of, exact-test, place-within, place-apart, readers-at, readers-within, ready-same, waiting-same, ready-grows, looked-at, looked-once, looked-below}
+use Rattle.sq_value.specs.Lists.{contains_number}
 
 -- the list after looks at the actor of a step and at its readers
 module _ {O : Type 0} (e e' : Flow O) (shaped : IsShaped e.wires (length e.seats.items)) (wires : e'.wires ≡ e.wires) (seats : length e'.seats.items ≡ length e.seats.items)
     (actor : ℕ) (low : actor ≤ length e.seats.items) (touches : TouchesOnly (seat_number (length e.seats.items) actor) e e')
-    (before : List ℕ) (listed : contains before actor ≡ true) (once : OnlyOnce before) (exact : (x : ℕ) → x ≤ length e.seats.items → ExactFor e before x) where
+    (before : List ℕ) (listed : contains_number before actor ≡ true) (once : OnlyOnce before) (exact : (x : ℕ) → x ≤ length e.seats.items → ExactFor e before x) where
   abbrev ready : ℕ → Bool
   ready x = is_ready e' (seat_number (length e'.seats.items) x)
 
@@ -35,13 +36,13 @@ module _ {O : Type 0} (e e' : Flow O) (shaped : IsShaped e.wires (length e.seats
   same-place : (x : ℕ) → seat_number (length e'.seats.items) x ≡ seat_number (length e.seats.items) x
   same-place x = ap (λ n. seat_number n x) seats
 
-  readers-follow : (x : ℕ) → x ≤ length e.seats.items → contains readers x ≡ contains (followers_of e.wires (seat_number (length e.seats.items) actor)) (seat_number (length e.seats.items) x)
+  readers-follow : (x : ℕ) → x ≤ length e.seats.items → contains_number readers x ≡ contains_number (followers_of e.wires (seat_number (length e.seats.items) actor)) (seat_number (length e.seats.items) x)
   readers-follow x in' =
-      ap (λ (w : Wires). contains (readers_of (record e { wires = w }) (seat_number (length e.seats.items) actor)) x) wires
+      ap (λ (w : Wires). contains_number (readers_of (record e { wires = w }) (seat_number (length e.seats.items) actor)) x) wires
       ∙ readers-at e shaped (seat_number (length e.seats.items) actor) x in'
 
-  readers-low : (x : ℕ) → contains readers x ≡ true → x ≤ length e.seats.items
-  readers-low x is = readers-within e shaped (seat_number (length e.seats.items) actor) x (subst (λ (w : Wires). contains (readers_of (record e { wires = w }) (seat_number (length e.seats.items) actor)) x ≡ true) wires is)
+  readers-low : (x : ℕ) → contains_number readers x ≡ true → x ≤ length e.seats.items
+  readers-low x is = readers-within e shaped (seat_number (length e.seats.items) actor) x (subst (λ (w : Wires). contains_number (readers_of (record e { wires = w }) (seat_number (length e.seats.items) actor)) x ≡ true) wires is)
 
   pub readers-climb : Climbs readers
   readers-climb = climbs-next (followers_of e'.wires (seat_number (length e.seats.items) actor)) (subst (λ (w : Wires). Climbs (followers_of w (seat_number (length e.seats.items) actor))) (sym wires) (shaped.followers_climb (seat_number (length e.seats.items) actor)))
@@ -54,46 +55,46 @@ module _ {O : Type 0} (e e' : Flow O) (shaped : IsShaped e.wires (length e.seats
     others-low : seat_number (length e.seats.items) x ≤ length e.seats.items
     others-low = place-within (length e.seats.items) x in'
 
-    grows : contains before x ≡ true → ready x ≡ true
+    grows : contains_number before x ≡ true → ready x ≡ true
     grows h =
         ap (is_ready e') (same-place x)
         ∙ ready-grows e e' shaped wires (seat_number (length e.seats.items) actor) touches (seat_number (length e.seats.items) x) others-low others-apart (sym (exact-test e before x (exact x in')) ∙ h)
 
-    stays : contains readers x ≡ false → ready x ≡ contains before x
+    stays : contains_number readers x ≡ false → ready x ≡ contains_number before x
     stays h =
         ap (is_ready e') (same-place x)
         ∙ ready-same e e' shaped wires (seat_number (length e.seats.items) actor) touches (seat_number (length e.seats.items) x) others-low others-apart (sym (readers-follow x in') ∙ h)
         ∙ sym (exact-test e before x (exact x in'))
 
-    pub waits-on : contains readers x ≡ false → waiting e' (seat_number (length e'.seats.items) x) ≡ waiting e (seat_number (length e.seats.items) x)
+    pub waits-on : contains_number readers x ≡ false → waiting e' (seat_number (length e'.seats.items) x) ≡ waiting e (seat_number (length e.seats.items) x)
     waits-on h =
         ap (waiting e') (same-place x)
         ∙ waiting-same e e' shaped wires (seat_number (length e.seats.items) actor) touches (seat_number (length e.seats.items) x) others-apart (sym (readers-follow x in') ∙ h)
 
-  gone : contains (without_actor actor before) actor ≡ false
+  gone : contains_number (without_actor actor before) actor ≡ false
   gone = without-gone actor before once
 
-  again-other : (x : ℕ) → x ≢ actor → contains again x ≡ contains before x
+  again-other : (x : ℕ) → x ≢ actor → contains_number again x ≡ contains_number before x
   again-other x ne =
       looked-at e' (without_actor actor before) (actor ∷ []) x
-      ∙ ap (λ b. contains (without_actor actor before) x || ((b || false) && is_new e' (without_actor actor before) x)) (eqb-not actor x (λ h. ne (sym h)))
-      ∙ or-false (contains (without_actor actor before) x) ∙ without-others actor before x ne
+      ∙ ap (λ b. contains_number (without_actor actor before) x || ((b || false) && is_new e' (without_actor actor before) x)) (eqb-not actor x (λ h. ne (sym h)))
+      ∙ or-false (contains_number (without_actor actor before) x) ∙ without-others actor before x ne
     where
       or-false : (b : Bool) → (b || false) ≡ b
       or-false true = refl
       or-false false = refl
 
-  again-actor : contains again actor ≡ ready actor
+  again-actor : contains_number again actor ≡ ready actor
   again-actor =
       looked-at e' (without_actor actor before) (actor ∷ []) actor
-      ∙ ap (λ b. contains (without_actor actor before) actor || ((b || false) && is_new e' (without_actor actor before) actor)) (eqb-same actor actor refl)
+      ∙ ap (λ b. contains_number (without_actor actor before) actor || ((b || false) && is_new e' (without_actor actor before) actor)) (eqb-same actor actor refl)
       ∙ ap (λ b. b || (ready actor && not b)) gone ∙ and-true (ready actor)
     where
       and-true : (b : Bool) → (b && true) ≡ b
       and-true true = refl
       and-true false = refl
 
-  exact-bool : (x : ℕ) → x ≤ length e.seats.items → contains after x ≡ ready x
+  exact-bool : (x : ℕ) → x ≤ length e.seats.items → contains_number after x ≡ ready x
   exact-bool x in' = looked-at e' again readers x ∙ by (eqb x actor) refl
     where
       itself : (r b : Bool) → (r || (b && (r && not r))) ≡ r
@@ -107,18 +108,18 @@ module _ {O : Type 0} (e e' : Flow O) (shaped : IsShaped e.wires (length e.seats
       other false true false up same = refl
       other false false r up same = sym (same refl)
 
-      by : (t : Bool) → eqb x actor ≡ t → (contains again x || (contains readers x && (ready x && not (contains again x)))) ≡ ready x
+      by : (t : Bool) → eqb x actor ≡ t → (contains_number again x || (contains_number readers x && (ready x && not (contains_number again x)))) ≡ ready x
       by true t =
           let same : x ≡ actor = eqb-yes x actor t in
-          ap (λ c. c || (contains readers x && (ready x && not c))) (ap (contains again) same ∙ again-actor ∙ ap ready (sym same)) ∙ itself (ready x) (contains readers x)
+          ap (λ c. c || (contains_number readers x && (ready x && not c))) (ap (contains_number again) same ∙ again-actor ∙ ap ready (sym same)) ∙ itself (ready x) (contains_number readers x)
       by false t =
           let ne : x ≢ actor = eqb-no x actor t in
-          ap (λ c. c || (contains readers x && (ready x && not c))) (again-other x ne) ∙ other (contains before x) (contains readers x) (ready x) (grows x in' ne) (stays x in' ne)
+          ap (λ c. c || (contains_number readers x && (ready x && not c))) (again-other x ne) ∙ other (contains_number before x) (contains_number readers x) (ready x) (grows x in' ne) (stays x in' ne)
 
   pub exact-after : (x : ℕ) → x ≤ length e'.seats.items → ExactFor e' after x
   exact-after x in' = exact-of e' after x (exact-bool x (rw (← seats) in'))
 
-  new-same : (x : ℕ) → contains (filter (is_new e' again) readers) x ≡ contains (newly_ready e' before) x
+  new-same : (x : ℕ) → contains_number (filter (is_new e' again) readers) x ≡ contains_number (newly_ready e' before) x
   new-same x =
       contains-filter (is_new e' again) readers x ∙ by (leb x (length e.seats.items)) refl
       ∙ sym (contains-filter (is_new e' before) (range_with_len 0 (length e'.seats.items + 1)) x)
@@ -139,33 +140,33 @@ module _ {O : Type 0} (e e' : Flow O) (shaped : IsShaped e.wires (length e.seats
       not-one true = refl
       not-one false = refl
 
-      in-range : x ≤ length e.seats.items → contains (range_with_len 0 (length e'.seats.items + 1)) x ≡ true
+      in-range : x ≤ length e.seats.items → contains_number (range_with_len 0 (length e'.seats.items + 1)) x ≡ true
       in-range in' = contains-range 0 (length e'.seats.items + 1) x ∙ grind (arith, nat_tests, seats, in')
 
-      out-range : leb x (length e.seats.items) ≡ false → contains (range_with_len 0 (length e'.seats.items + 1)) x ≡ false
+      out-range : leb x (length e.seats.items) ≡ false → contains_number (range_with_len 0 (length e'.seats.items + 1)) x ≡ false
       out-range out = contains-range 0 (length e'.seats.items + 1) x ∙ grind (arith, nat_tests, seats, out)
 
-      out-readers : leb x (length e.seats.items) ≡ false → (b : Bool) → contains readers x ≡ b → b ≡ false
+      out-readers : leb x (length e.seats.items) ≡ false → (b : Bool) → contains_number readers x ≡ b → b ≡ false
       out-readers out false h = refl
       out-readers out true h = let in' = readers-low x h in absurd (grind (arith, nat_tests, in', out))
 
       at : x ≤ length e.seats.items → (t : Bool) → eqb x actor ≡ t
-          → (contains readers x && (ready x && not (contains again x))) ≡ (ready x && not (contains before x))
+          → (contains_number readers x && (ready x && not (contains_number again x))) ≡ (ready x && not (contains_number before x))
       at in' true t =
           let same : x ≡ actor = eqb-yes x actor t in
-          ap (λ c. contains readers x && (ready x && not c)) (ap (contains again) same ∙ again-actor ∙ ap ready (sym same)) ∙ never (ready x) (contains readers x)
-          ∙ sym (ap (λ c. ready x && not c) (ap (contains before) same ∙ listed) ∙ not-one (ready x))
+          ap (λ c. contains_number readers x && (ready x && not c)) (ap (contains_number again) same ∙ again-actor ∙ ap ready (sym same)) ∙ never (ready x) (contains_number readers x)
+          ∙ sym (ap (λ c. ready x && not c) (ap (contains_number before) same ∙ listed) ∙ not-one (ready x))
       at in' false t =
           let ne : x ≢ actor = eqb-no x actor t in
-          ap (λ c. contains readers x && (ready x && not c)) (again-other x ne) ∙ only (contains before x) (contains readers x) (ready x) (stays x in' ne)
+          ap (λ c. contains_number readers x && (ready x && not c)) (again-other x ne) ∙ only (contains_number before x) (contains_number readers x) (ready x) (stays x in' ne)
 
       by : (t : Bool) → leb x (length e.seats.items) ≡ t
-          → (contains readers x && is_new e' again x) ≡ (contains (range_with_len 0 (length e'.seats.items + 1)) x && is_new e' before x)
+          → (contains_number readers x && is_new e' again x) ≡ (contains_number (range_with_len 0 (length e'.seats.items + 1)) x && is_new e' before x)
       by true t =
           let in' : x ≤ length e.seats.items = grind (arith, nat_tests, t) in
           at in' (eqb x actor) refl ∙ ap (λ b. b && is_new e' before x) (sym (in-range in'))
       by false t =
-          ap (λ b. b && is_new e' again x) (out-readers t (contains readers x) refl) ∙ ap (λ b. b && is_new e' before x) (sym (out-range t))
+          ap (λ b. b && is_new e' again x) (out-readers t (contains_number readers x) refl) ∙ ap (λ b. b && is_new e' before x) (sym (out-range t))
 
   pub order-after : after ≡ listed_after e' before actor
   order-after =
@@ -192,7 +193,7 @@ module _ {O : Type 0} (e e' : Flow O) (shaped : IsShaped e.wires (length e.seats
       one x false e h = absurd (cc h)
 
 -- the engine after looks at the actor of a step and at its readers
-module _ {O : Type 0} (m : Meaning O) (valid : O → Type 0) (a b c d : Engine O) (actor place : ℕ) (engine : IsEngine m valid a) (listed : contains a.ready.list actor ≡ true)
+module _ {O : Type 0} (m : Meaning O) (valid : O → Type 0) (a b c d : Engine O) (actor place : ℕ) (engine : IsEngine m valid a) (listed : contains_number a.ready.list actor ≡ true)
     (here : place ≡ seat_number a.flow.wires.replay actor) (flow : IsFlow m valid b.flow) (wires : b.flow.wires ≡ a.flow.wires)
     (seats : length b.flow.seats.items ≡ length a.flow.seats.items) (touched : TouchesOnly place a.flow b.flow)
     (removed : b.ready ≡ record a.ready { list = without_actor actor a.ready.list }) (waits : b.waits.items ≡ a.waits.items)
@@ -232,10 +233,10 @@ module _ {O : Type 0} (m : Meaning O) (valid : O → Type 0) (a b c d : Engine O
   waits-are : (x : ℕ) → x ≤ length a.flow.seats.items → get_or d.waits.items x 0 ≡ waiting b.flow (seat_number (length b.flow.seats.items) x)
   waits-are x low =
       second.waits x
-      ∙ ap (λ (f : Flow O). cond (contains (readers_of f (seat_number (length a.flow.seats.items) actor)) x) (waiting f (seat_number (length f.seats.items) x)) (get_or c.waits.items x 0)) first.flow
-      ∙ by (contains (readers_of b.flow (seat_number (length a.flow.seats.items) actor)) x) refl
+      ∙ ap (λ (f : Flow O). cond (contains_number (readers_of f (seat_number (length a.flow.seats.items) actor)) x) (waiting f (seat_number (length f.seats.items) x)) (get_or c.waits.items x 0)) first.flow
+      ∙ by (contains_number (readers_of b.flow (seat_number (length a.flow.seats.items) actor)) x) refl
     where
-      at : contains (readers_of b.flow (seat_number (length a.flow.seats.items) actor)) x ≡ false → (t : Bool) → eqb actor x ≡ t
+      at : contains_number (readers_of b.flow (seat_number (length a.flow.seats.items) actor)) x ≡ false → (t : Bool) → eqb actor x ≡ t
           → cond (t || false) (waiting b.flow (seat_number (length b.flow.seats.items) x)) (get_or b.waits.items x 0) ≡ waiting b.flow (seat_number (length b.flow.seats.items) x)
       at apart true e = refl
       at apart false e =
@@ -243,7 +244,7 @@ module _ {O : Type 0} (m : Meaning O) (valid : O → Type 0) (a b c d : Engine O
           ap (λ xs. get_or xs x 0) waits ∙ engine.waits x low
           ∙ sym (waits-on a.flow b.flow engine.flow.shaped wires seats actor actor-low touches a.ready.list listed engine.once engine.exact x low ne apart)
 
-      by : (t : Bool) → contains (readers_of b.flow (seat_number (length a.flow.seats.items) actor)) x ≡ t
+      by : (t : Bool) → contains_number (readers_of b.flow (seat_number (length a.flow.seats.items) actor)) x ≡ t
           → cond t (waiting b.flow (seat_number (length b.flow.seats.items) x)) (get_or c.waits.items x 0) ≡ waiting b.flow (seat_number (length b.flow.seats.items) x)
       by true t = refl
       by false t = first.waits x ∙ at t (eqb actor x) refl
@@ -285,10 +286,10 @@ order-first a b empty looked = list-first a b empty looked ∙ ap (λ f. newly_r
 module _ {O : Type 0} (m : Meaning O) (valid : O → Type 0) (a b : Engine O) (flow : IsFlow m valid a.flow) (room : HasSeats a) (empty : a.ready.list ≡ [])
     (running : a.failed ≡ false)
     (looked : Looked (range_with_len 0 (length a.flow.seats.items + 1)) a b) where
-  in-range : (x : ℕ) → x ≤ length a.flow.seats.items → contains (range_with_len 0 (length a.flow.seats.items + 1)) x ≡ true
+  in-range : (x : ℕ) → x ≤ length a.flow.seats.items → contains_number (range_with_len 0 (length a.flow.seats.items + 1)) x ≡ true
   in-range x low = contains-range 0 (length a.flow.seats.items + 1) x ∙ grind (arith, nat_tests, low)
 
-  first-exact : (x : ℕ) → x ≤ length a.flow.seats.items → contains (newly_ready a.flow []) x ≡ is_ready a.flow (seat_number (length a.flow.seats.items) x)
+  first-exact : (x : ℕ) → x ≤ length a.flow.seats.items → contains_number (newly_ready a.flow []) x ≡ is_ready a.flow (seat_number (length a.flow.seats.items) x)
   first-exact x low =
       contains-filter (is_new a.flow []) (range_with_len 0 (length a.flow.seats.items + 1)) x ∙ ap (λ b. b && is_new a.flow [] x) (in-range x low)
       ∙ and-true (is_ready a.flow (seat_number (length a.flow.seats.items) x))
@@ -305,7 +306,7 @@ module _ {O : Type 0} (m : Meaning O) (valid : O → Type 0) (a b : Engine O) (f
         exact = λ x low.
             subst (λ f. ExactFor f b.ready.list x) (sym looked.flow) (subst (λ xs. ExactFor a.flow xs x) (sym (list-first a b empty looked))
             (exact-of a.flow (newly_ready a.flow []) x (first-exact x (rw (← seats-are) low))));
-        below = subst (AreActors b.ready.actors) (sym (list-first a b empty looked)) (λ x is. within x (contains (range_with_len 0 (length a.flow.seats.items + 1)) x) refl (sym (contains-filter (is_new a.flow []) (range_with_len 0 (length a.flow.seats.items + 1)) x) ∙ is));
+        below = subst (AreActors b.ready.actors) (sym (list-first a b empty looked)) (λ x is. within x (contains_number (range_with_len 0 (length a.flow.seats.items + 1)) x) refl (sym (contains-filter (is_new a.flow []) (range_with_len 0 (length a.flow.seats.items + 1)) x) ∙ is));
         once = subst OnlyOnce (sym (list-first a b empty looked)) (once-climbs (newly_ready a.flow []) (climbs-filter (is_new a.flow []) (range_with_len 0 (length a.flow.seats.items + 1)) (climbs-range 0 (length a.flow.seats.items + 1))));
         waits = λ x low.
             looked.waits x
@@ -320,7 +321,7 @@ module _ {O : Type 0} (m : Meaning O) (valid : O → Type 0) (a b : Engine O) (f
       actors-are : b.ready.actors ≡ length b.flow.seats.items + 1
       actors-are = looked.actors ∙ room.actors ∙ ap (λ n. n + 1) (sym seats-are)
 
-      within : (x : ℕ) (t : Bool) → contains (range_with_len 0 (length a.flow.seats.items + 1)) x ≡ t → (t && is_new a.flow [] x) ≡ true → x < b.ready.actors
+      within : (x : ℕ) (t : Bool) → contains_number (range_with_len 0 (length a.flow.seats.items + 1)) x ≡ t → (t && is_new a.flow [] x) ≡ true → x < b.ready.actors
       within x true e h =
           let tests : (leb 0 x && ltb x (0 + (length a.flow.seats.items + 1))) ≡ true = sym (contains-range 0 (length a.flow.seats.items + 1) x) ∙ e in
           let low : x < length a.flow.seats.items + 1 = grind (arith, nat_tests, tests) in

@@ -9,8 +9,8 @@ use Rattle.sq_item.specs.declared.Mark.{Mark}
 use Rattle.sq_item.specs.Things.{Thing, spread, mark_part, body_part}
 use Rattle.sq_oper.specs.declared.outs.Event.{Event}
 use Rattle.sq_oper.specs.declared.outs.Event.TheVariants.{Line}
-use Rattle.sq_oper.specs.Streams.{tuple_in}
-use Rattle.sq_flow.specs.Events.{bodies, line_in, lines_of, drop_in, drops_of, ShowsIn}
+use Rattle.sq_oper.specs.Streams.{tuple_in, tuples_in}
+use Rattle.sq_flow.specs.Events.{line_in, lines_of, drop_in, drops_of, ShowsIn}
 use Rattle.sq_flow.specs.Plans.{plan_in, plans_of}
 
 -- what was shown stays
@@ -26,9 +26,9 @@ stays-push xs x = (x ∷ [], refl)
 pub stays-both : {A : Type 0} (xs ys zs : List A) → IsPrefixOf xs ys → IsPrefixOf ys zs → IsPrefixOf xs zs
 stays-both xs ys zs a b = (a.0 ++ b.0, b.1 ∙ ap (λ l. l ++ b.0) a.1 ∙ append_assoc xs a.0 b.0)
 
-pub bodies-append : (xs ys : List Thing) → bodies (xs ++ ys) ≡ bodies xs ++ bodies ys
+pub bodies-append : (xs ys : List Thing) → tuples_in (xs ++ ys) ≡ tuples_in xs ++ tuples_in ys
 bodies-append [] ys = refl
-bodies-append (x ∷ xs) ys = ap (λ z. tuple_in x.time x.load ++ z) (bodies-append xs ys) ∙ sym (append_assoc (tuple_in x.time x.load) (bodies xs) (bodies ys))
+bodies-append (x ∷ xs) ys = ap (λ z. tuple_in x.time x.load ++ z) (bodies-append xs ys) ∙ sym (append_assoc (tuple_in x.time x.load) (tuples_in xs) (tuples_in ys))
 
 pub lines-append : (o : ℕ) (xs ys : List Event) → lines_of o (xs ++ ys) ≡ lines_of o xs ++ lines_of o ys
 lines-append o [] ys = refl
@@ -51,18 +51,18 @@ pub drops-line : (w : ℕ) (events : List Event) (output : ℕ) (tuple : Tuple) 
 drops-line w events output tuple = drops-append w events (Line output tuple ∷ []) ∙ append-nil (drops_of w events)
 
 -- the tuple of an item
-pub bodies-some : (item : Item) (f : List Value) → item.body ≡ Some f → bodies (spread item) ≡ record { time = item.time; fields = f } ∷ []
+pub bodies-some : (item : Item) (f : List Value) → item.body ≡ Some f → tuples_in (spread item) ≡ record { time = item.time; fields = f } ∷ []
 bodies-some item f is = by item.mark item.body is
   where
-    by : (m : Option Mark) (b : Option (List Value)) → b ≡ Some f → bodies (mark_part item.time m ++ body_part item.time b) ≡ record { time = item.time; fields = f } ∷ []
+    by : (m : Option Mark) (b : Option (List Value)) → b ≡ Some f → tuples_in (mark_part item.time m ++ body_part item.time b) ≡ record { time = item.time; fields = f } ∷ []
     by m None e = cc
     by None (Some g) e = let same : g ≡ f = cc in rw same refl
     by (Some k) (Some g) e = let same : g ≡ f = cc in rw same refl
 
-pub bodies-none : (item : Item) → item.body ≡ None → bodies (spread item) ≡ []
+pub bodies-none : (item : Item) → item.body ≡ None → tuples_in (spread item) ≡ []
 bodies-none item is = by item.mark item.body is
   where
-    by : (m : Option Mark) (b : Option (List Value)) → b ≡ None → bodies (mark_part item.time m ++ body_part item.time b) ≡ []
+    by : (m : Option Mark) (b : Option (List Value)) → b ≡ None → tuples_in (mark_part item.time m ++ body_part item.time b) ≡ []
     by m (Some g) e = cc
     by None None e = refl
     by (Some k) None e = refl
@@ -77,10 +77,10 @@ nothing-more false xs ys e = sym (append-nil xs)
 pub ruleset event_lemmas = (lines-push, plans-line, drops-line, bodies-some, bodies-none, nothing-more, stays-same, stays-is, stays-push)
 
 -- an output by its number among the outputs
-pub output-is : (shown actor o : ℕ) (xs : List Thing) → shown ≤ actor → cond (eqb (actor - shown) o) (bodies xs) [] ≡ bodies (cond (eqb actor (shown + o)) xs [])
+pub output-is : (shown actor o : ℕ) (xs : List Thing) → shown ≤ actor → cond (eqb (actor - shown) o) (tuples_in xs) [] ≡ tuples_in (cond (eqb actor (shown + o)) xs [])
 output-is shown actor o xs le = by (eqb (actor - shown) o) (eqb actor (shown + o)) refl refl
   where
-    by : (a b : Bool) → eqb (actor - shown) o ≡ a → eqb actor (shown + o) ≡ b → cond a (bodies xs) [] ≡ bodies (cond b xs [])
+    by : (a b : Bool) → eqb (actor - shown) o ≡ a → eqb actor (shown + o) ≡ b → cond a (tuples_in xs) [] ≡ tuples_in (cond b xs [])
     by true true e f = refl
     by false false e f = refl
     by true false e f = absurd (grind (arith, nat_tests, le, e, f))

@@ -15,7 +15,7 @@ use Rattle.sq_oper.specs.declared.outs.Event.{Event}
 use Rattle.sq_oper.specs.Entries.{Entry, at_port, entries}
 use Rattle.sq_oper.specs.Order.{IsFuture, after_all}
 use Rattle.sq_oper.specs.Given.{given, ThingsUpTo}
-use Rattle.sq_oper.specs.Streams.{tuples_of}
+use Rattle.sq_oper.specs.Streams.{tuples_of, tuples_in}
 use Rattle.sq_oper.proofs.GivenLemmas.{ThingsUpTo-split, ThingsUpTo-later}
 use Rattle.sq_left.specs.Left.{Net, Holding, coming, inputs, is_known_actor}
 use Rattle.sq_left.specs.Heads.{AllFine}
@@ -43,7 +43,7 @@ use Rattle.sq_flow.specs.Seats as seat
 use Rattle.sq_flow.specs.Seats.{Meaning, rest_at, decides_at, lost_at, moment_at, done_at, holds_at, IsSeat, Owns, FedSeat}
 use Rattle.sq_flow.specs.Feeds.{FeedsPart}
 use Rattle.sq_flow.specs.Takes.{takes_of, fits_of, MayBeFed}
-use Rattle.sq_flow.specs.Events.{bodies, lines_of, of_drop, drops_of, ShowsIn}
+use Rattle.sq_flow.specs.Events.{lines_of, of_drop, drops_of, ShowsIn}
 use Rattle.sq_flow.specs.Plans.{plans_left, plans_of}
 use Rattle.sq_flow.specs.Flows.{world_of, IsFlow, HoldsItems, Goes, Stepped, ShowsPrefix, CostsFed, StepCosts, TooMuchOnly, lines_left, decisions_left, fed_at_last, sum_below, taken_in_all, work_at_last, turns_at_last}
 use Rattle.sq_flow.specs.declared.errors.RunErr.{RunErr}
@@ -306,21 +306,21 @@ module _ {O : Type 0} (m : Meaning O) (valid : O → Type 0) (e : Flow O) (flow 
     pub prefix-of-left : (outs : List (ℕ × Item))
         → ((future : List Entry) → IsFuture (m.takes_marks s.op) (m.fits s.op) (m.place s.op) (entries p item ++ future)
         → (q : ℕ) → IsPrefixOf (given q outs) (m.rest s.op table (entries p item ++ future) q))
-        → (output : ℕ) → IsPrefixOf (bodies (pushed_by actor outs output 0)) (bodies (coming net was e.wires.order.items output 0))
+        → (output : ℕ) → IsPrefixOf (tuples_in (pushed_by actor outs output 0)) (tuples_in (coming net was e.wires.order.items output 0))
     prefix-of-left outs law output = by (eqb actor output) refl
       where
-        cut : (xs ys : List Thing) → IsPrefixOf xs ys → IsPrefixOf (bodies xs) (bodies ys)
-        cut xs ys (more, e) = (bodies more, ap bodies e ∙ bodies-append xs more)
+        cut : (xs ys : List Thing) → IsPrefixOf xs ys → IsPrefixOf (tuples_in xs) (tuples_in ys)
+        cut xs ys (more, e) = (tuples_in more, ap tuples_in e ∙ bodies-append xs more)
 
-        by : (b : Bool) → eqb actor output ≡ b → IsPrefixOf (bodies (cond b (given 0 outs) [])) (bodies (coming net was e.wires.order.items output 0))
+        by : (b : Bool) → eqb actor output ≡ b → IsPrefixOf (tuples_in (cond b (given 0 outs) [])) (tuples_in (coming net was e.wires.order.items output 0))
         by true t =
             let same : actor ≡ output = eqb-yes actor output t in
             let first = comes-first in
             let is : coming net was e.wires.order.items actor 0 ≡ m.rest s.op table (entries p item ++ first.0) 0 =
             first.2 0 ∙ ap (λ o. rest_at m table o (entries p item ++ first.0) 0) is_seat in
             let here : IsPrefixOf (given 0 outs) (coming net was e.wires.order.items actor 0) = rw is (law first.0 (op-future first.0 first.1) 0) in
-            subst (λ k. IsPrefixOf (bodies (given 0 outs)) (bodies (coming net was e.wires.order.items k 0))) same (cut (given 0 outs) (coming net was e.wires.order.items actor 0) here)
-        by false t = (bodies (coming net was e.wires.order.items output 0), refl)
+            subst (λ k. IsPrefixOf (tuples_in (given 0 outs)) (tuples_in (coming net was e.wires.order.items k 0))) same (cut (given 0 outs) (coming net was e.wires.order.items actor 0) here)
+        by false t = (tuples_in (coming net was e.wires.order.items output 0), refl)
 
     -- and so is what it decides
     pub drops-of-left : (drops : List Decision) → AllByRecursion (IsOwn e.wires actor) drops
@@ -428,15 +428,15 @@ module _ {O : Type 0} (m : Meaning O) (valid : O → Type 0) (e : Flow O) (flow 
           omega (arith, sums, more)
 
       pub goes-after : (events events' : List Event) → length seats'.items ≡ length e.seats.items → taken' ≡ e.taken + length (spread item)
-          → ((output : ℕ) → lines_of output events' ≡ lines_of output events ++ bodies (pushed_by actor outs (e.wires.shown + output) 0))
+          → ((output : ℕ) → lines_of output events' ≡ lines_of output events ++ tuples_in (pushed_by actor outs (e.wires.shown + output) 0))
           → ((w : ℕ) → drops_of w events' ≡ drops_of w events ++ of_drop w drops)
           → Goes m table items items' e e' events events'
       goes-after events events' seats_len more shown decides =
           let k = kept in
           record {
             lines = λ output low.
-                goes-on (lines_of output events) (bodies (pushed_by actor outs (e.wires.shown + output) 0)) (lines_left m table items e output) (lines_left m table items' e' output) (lines_of output events')
-                (ap bodies (k.streams (e.wires.shown + output) 0 (flow.shaped.ordered (e.wires.shown + output) low))
+                goes-on (lines_of output events) (tuples_in (pushed_by actor outs (e.wires.shown + output) 0)) (lines_left m table items e output) (lines_left m table items' e' output) (lines_of output events')
+                (ap tuples_in (k.streams (e.wires.shown + output) 0 (flow.shaped.ordered (e.wires.shown + output) low))
                 ∙ bodies-append (pushed_by actor outs (e.wires.shown + output) 0) (coming net is e.wires.order.items (e.wires.shown + output) 0))
                 (shown output);
             drops = λ w low.
@@ -528,7 +528,7 @@ module _ {O : Type 0} (m : Meaning O) (valid : O → Type 0) (e : Flow O) (flow 
   fed-part was mid_pages _ mid events events' together tells then front others part may unfinished = λ told table agrees holds.
       record {
         lines = λ output low.
-            prefix-chain (lines_of output events') (lines_of output events) (bodies (pushed_by actor part.items (e.wires.shown + output) 0)) (lines_left m table (items_on e.queues was) e output)
+            prefix-chain (lines_of output events') (lines_of output events) (tuples_in (pushed_by actor part.items (e.wires.shown + output) 0)) (lines_left m table (items_on e.queues was) e output)
             (stays-is (lines_of output events') _ (sym (part.shown.lines output)))
             (prefix-of-left table agrees (items_on e.queues was) (items_on mid mid_pages) holds (together.faces (tells (then told))) (front (then told)) (others (then told)) part.items
             (λ future f. part.law table future agrees f) (e.wires.shown + output));
@@ -551,7 +551,7 @@ module _ {O : Type 0} (m : Meaning O) (valid : O → Type 0) (e : Flow O) (flow 
       → slice_get seats'.items actor ≡ Some s' → ((other : ℕ) → other ≢ actor → slice_get seats'.items other ≡ slice_get e.seats.items other)
       → length seats'.items ≡ length e.seats.items → done_at e.over (slice_get e.seats.items actor) ≡ false
       → Pushes mid q' mid_pages is (sent_to e.wires actor outs) (λ time. AllOutsFine time outs) (is_sent_by e.wires actor)
-      → ((o : ℕ) → lines_of o events' ≡ lines_of o events ++ bodies (pushed_by actor outs (e.wires.shown + o) 0))
+      → ((o : ℕ) → lines_of o events' ≡ lines_of o events ++ tuples_in (pushed_by actor outs (e.wires.shown + o) 0))
       → ((w : ℕ) → drops_of w events' ≡ drops_of w events ++ of_drop w drops)
       → ShowsIn (length e.seats.items - e.wires.shown) (e.wires.shown - e.wires.sheds) events events' → plans_of events' ≡ plans_of events
       → Stepped m valid was is e (record e { seats = seats'; queues = q'; taken = taken' }) events events'

@@ -36,7 +36,7 @@ use Rattle.sq_flow.specs.Heads.{NextUpTo}
 use Rattle.sq_flow.specs.Feeds.{EndsPart}
 use Rattle.sq_flow.specs.Seats as seat
 use Rattle.sq_flow.specs.Seats.{Meaning, rest_at, decides_at, lost_at, moment_at, done_at, holds_at, IsSeat, Owns, FinishedSeat}
-use Rattle.sq_flow.specs.Events.{bodies, lines_of, of_drop, drops_of, ShowsIn}
+use Rattle.sq_flow.specs.Events.{lines_of, of_drop, drops_of, ShowsIn}
 use Rattle.sq_flow.specs.Plans.{plans_left, plans_of}
 use Rattle.sq_flow.specs.Flows.{world_of, IsFlow, HoldsItems, Goes, Stepped, ShowsPrefix, lines_left, decisions_left, sum_below, taken_in_all, turns_at_last}
 use Rattle.sq_flow.proofs.FutureLemmas.{outs-fine, own-pushed, not-pushed, goes-on, prefix-chain}
@@ -44,6 +44,7 @@ use Rattle.sq_flow.proofs.SendLemmas.{at_or_other}
 use Rattle.sq_flow.proofs.ArcLemmas.{arcs-left}
 use Rattle.sq_flow.proofs.EventLemmas.{bodies-append, stays-is}
 use Rattle.sq_flow.proofs.DropLemmas.{all-split, of-own, own-front}
+use Rattle.sq_oper.specs.Streams.{tuples_in}
 
 module _ {O : Type 0} (m : Meaning O) (valid : O → Type 0) (e : Flow O) (flow : IsFlow m valid e) (actor : ℕ) (actor_in : actor < length e.seats.items)
     (head : NextUpTo (arcs_read e.wires actor) (λ k. (face e.queues k).first) (λ k. (face e.queues k).ended) (length (arcs_read e.wires actor)) Ended)
@@ -177,19 +178,19 @@ module _ {O : Type 0} (m : Meaning O) (valid : O → Type 0) (e : Flow O) (flow 
     ended-none = before.fed_is ∙ no-inputs
 
     pub prefix-of-end : (outs : List (ℕ × Item)) → ((q : ℕ) → IsPrefixOf (given q outs) (m.rest s.op table [] q))
-        → (output : ℕ) → IsPrefixOf (bodies (pushed_by actor outs output 0)) (bodies (coming net was e.wires.order.items output 0))
+        → (output : ℕ) → IsPrefixOf (tuples_in (pushed_by actor outs output 0)) (tuples_in (coming net was e.wires.order.items output 0))
     prefix-of-end outs law output = by (eqb actor output) refl
       where
-        cut : (xs ys : List Thing) → IsPrefixOf xs ys → IsPrefixOf (bodies xs) (bodies ys)
-        cut xs ys (more, e) = (bodies more, ap bodies e ∙ bodies-append xs more)
+        cut : (xs ys : List Thing) → IsPrefixOf xs ys → IsPrefixOf (tuples_in xs) (tuples_in ys)
+        cut xs ys (more, e) = (tuples_in more, ap tuples_in e ∙ bodies-append xs more)
 
-        by : (b : Bool) → eqb actor output ≡ b → IsPrefixOf (bodies (cond b (given 0 outs) [])) (bodies (coming net was e.wires.order.items output 0))
+        by : (b : Bool) → eqb actor output ≡ b → IsPrefixOf (tuples_in (cond b (given 0 outs) [])) (tuples_in (coming net was e.wires.order.items output 0))
         by true t =
             let same : actor ≡ output = eqb-yes actor output t in
             let is : coming net was e.wires.order.items actor 0 ≡ m.rest s.op table [] 0 = ended-left 0 ∙ ap (λ o. rest_at m table o [] 0) is_seat in
             let here : IsPrefixOf (given 0 outs) (coming net was e.wires.order.items actor 0) = rw is (law 0) in
-            subst (λ k. IsPrefixOf (bodies (given 0 outs)) (bodies (coming net was e.wires.order.items k 0))) same (cut (given 0 outs) (coming net was e.wires.order.items actor 0) here)
-        by false t = (bodies (coming net was e.wires.order.items output 0), refl)
+            subst (λ k. IsPrefixOf (tuples_in (given 0 outs)) (tuples_in (coming net was e.wires.order.items k 0))) same (cut (given 0 outs) (coming net was e.wires.order.items actor 0) here)
+        by false t = (tuples_in (coming net was e.wires.order.items output 0), refl)
 
     pub drops-of-end : (drops : List Decision) → AllByRecursion (IsOwn e.wires actor) drops → IsPrefixOf drops (m.decides s.op table []) → (w : ℕ) → IsPrefixOf (of_drop w drops) (decisions_left m table items e (e.wires.sheds + w))
     drops-of-end drops own law w =
@@ -259,15 +260,15 @@ module _ {O : Type 0} (m : Meaning O) (valid : O → Type 0) (e : Flow O) (flow 
           ap (λ n. e.taken + n) sums
 
       pub goes-after : (events events' : List Event) → length seats'.items ≡ length e.seats.items
-          → ((output : ℕ) → lines_of output events' ≡ lines_of output events ++ bodies (pushed_by actor outs (e.wires.shown + output) 0))
+          → ((output : ℕ) → lines_of output events' ≡ lines_of output events ++ tuples_in (pushed_by actor outs (e.wires.shown + output) 0))
           → AllByRecursion (IsOwn e.wires actor) drops → ((w : ℕ) → drops_of w events' ≡ drops_of w events ++ of_drop w drops)
           → Goes m table items items' e e' events events'
       goes-after events events' seats_len shown own decides =
           let k = kept in
           record {
             lines = λ output low.
-                goes-on (lines_of output events) (bodies (pushed_by actor outs (e.wires.shown + output) 0)) (lines_left m table items e output) (lines_left m table items' e' output) (lines_of output events')
-                (ap bodies (k.streams (e.wires.shown + output) 0 (flow.shaped.ordered (e.wires.shown + output) low))
+                goes-on (lines_of output events) (tuples_in (pushed_by actor outs (e.wires.shown + output) 0)) (lines_left m table items e output) (lines_left m table items' e' output) (lines_of output events')
+                (ap tuples_in (k.streams (e.wires.shown + output) 0 (flow.shaped.ordered (e.wires.shown + output) low))
                 ∙ bodies-append (pushed_by actor outs (e.wires.shown + output) 0) (coming net is e.wires.order.items (e.wires.shown + output) 0))
                 (shown output);
             drops = λ w low.
@@ -334,7 +335,7 @@ module _ {O : Type 0} (m : Meaning O) (valid : O → Type 0) (e : Flow O) (flow 
   finished-part was _ events events' together tells part unfinished = λ told table agrees holds.
       record {
         lines = λ output low.
-            prefix-chain (lines_of output events') (lines_of output events) (bodies (pushed_by actor part.items (e.wires.shown + output) 0)) (lines_left m table (items_on e.queues was) e output)
+            prefix-chain (lines_of output events') (lines_of output events) (tuples_in (pushed_by actor part.items (e.wires.shown + output) 0)) (lines_left m table (items_on e.queues was) e output)
             (stays-is (lines_of output events') _ (sym (part.shown.lines output)))
             (prefix-of-end table agrees (items_on e.queues was) holds (together.faces (tells told)) part.items (λ q. part.law table q) (e.wires.shown + output));
         drops = λ w low.
@@ -353,7 +354,7 @@ module _ {O : Type 0} (m : Meaning O) (valid : O → Type 0) (e : Flow O) (flow 
       → ((k : ℕ) → k < length e.wires.arcs.items → (face q' k).ended ≡ ((face mid k).ended || eqb (from_of (slice_get e.wires.arcs.items k)) actor))
       → ((pages : Option Pages) (k : ℕ) → items_on q' pages k ≡ items_on mid pages k)
       → ((pages : Option Pages) → Together mid pages → Together q' pages)
-      → ((o : ℕ) → lines_of o events' ≡ lines_of o events ++ bodies (pushed_by actor outs (e.wires.shown + o) 0))
+      → ((o : ℕ) → lines_of o events' ≡ lines_of o events ++ tuples_in (pushed_by actor outs (e.wires.shown + o) 0))
       → done_at e.over (slice_get e.seats.items actor) ≡ false → ((w : ℕ) → drops_of w events' ≡ drops_of w events ++ of_drop w drops)
       → ShowsIn (length e.seats.items - e.wires.shown) (e.wires.shown - e.wires.sheds) events events' → plans_of events' ≡ plans_of events
       → Stepped m valid was is e (record e { seats = seats'; queues = q' }) events events'

@@ -4,14 +4,15 @@ use Rattle.std.specs.List.{filter, range_with_len, list_all}
 use Rattle.std.specs.Prelude.{slice_get, Some}
 use Rattle.std.proofs.lemmas.Bool.Decides.{nat_tests}
 use Rattle.std.proofs.lemmas.List.Folds.{list_any-append}
-use Rattle.sq_sched.specs.Ready.{contains, AreActors, OnlyOnce}
+use Rattle.sq_sched.specs.Ready.{AreActors, OnlyOnce}
 use Rattle.sq_left.proofs.MergeLemmas.{eqb-yes, eqb-no, eqb-same, eqb-not}
 use Rattle.sq_flow.specs.Wiring.{Climbs}
+use Rattle.sq_value.specs.Lists.{contains_number}
 
-pub contains-append : (xs ys : List ℕ) (n : ℕ) → contains (xs ++ ys) n ≡ (contains xs n || contains ys n)
+pub contains-append : (xs ys : List ℕ) (n : ℕ) → contains_number (xs ++ ys) n ≡ (contains_number xs n || contains_number ys n)
 contains-append xs ys n = list_any-append (λ x. eqb x n) xs ys
 
-pub contains-filter : (p : ℕ → Bool) (xs : List ℕ) (n : ℕ) → contains (filter p xs) n ≡ (contains xs n && p n)
+pub contains-filter : (p : ℕ → Bool) (xs : List ℕ) (n : ℕ) → contains_number (filter p xs) n ≡ (contains_number xs n && p n)
 contains-filter p [] n = refl
 contains-filter p (x ∷ xs) n = by (p x) (eqb x n) refl refl (contains-filter p xs n)
   where
@@ -19,14 +20,14 @@ contains-filter p (x ∷ xs) n = by (p x) (eqb x n) refl refl (contains-filter p
     none true c h = refl
     none false c h = sym h
 
-    by : (kept same : Bool) → p x ≡ kept → eqb x n ≡ same → contains (filter p xs) n ≡ (contains xs n && p n)
-        → contains (cond kept (x ∷ filter p xs) (filter p xs)) n ≡ ((same || contains xs n) && p n)
-    by true true k e more = ap (λ b. b || contains (filter p xs) n) e ∙ sym (ap p (sym (eqb-yes x n e)) ∙ k)
-    by true false k e more = ap (λ b. b || contains (filter p xs) n) e ∙ more
-    by false true k e more = more ∙ none (contains xs n) (p n) (ap p (sym (eqb-yes x n e)) ∙ k)
+    by : (kept same : Bool) → p x ≡ kept → eqb x n ≡ same → contains_number (filter p xs) n ≡ (contains_number xs n && p n)
+        → contains_number (cond kept (x ∷ filter p xs) (filter p xs)) n ≡ ((same || contains_number xs n) && p n)
+    by true true k e more = ap (λ b. b || contains_number (filter p xs) n) e ∙ sym (ap p (sym (eqb-yes x n e)) ∙ k)
+    by true false k e more = ap (λ b. b || contains_number (filter p xs) n) e ∙ more
+    by false true k e more = more ∙ none (contains_number xs n) (p n) (ap p (sym (eqb-yes x n e)) ∙ k)
     by false false k e more = more
 
-pub contains-range : (from many n : ℕ) → contains (range_with_len from many) n ≡ (leb from n && ltb n (from + many))
+pub contains-range : (from many n : ℕ) → contains_number (range_with_len from many) n ≡ (leb from n && ltb n (from + many))
 contains-range from zero n = grind (arith, nat_tests)
 contains-range from (suc many) n = ap (λ b. eqb from n || b) (contains-range (from + 1) many n) ∙ grind (arith, nat_tests)
 
@@ -39,13 +40,13 @@ range-more from (suc many) =
 next-eqb : (a b : ℕ) → eqb (a + 1) (suc b) ≡ eqb a b
 next-eqb a b = grind (arith, nat_tests)
 
-pub contains-next : (xs : List ℕ) (n : ℕ) → contains (map (λ x. x + 1) xs) (suc n) ≡ contains xs n
+pub contains-next : (xs : List ℕ) (n : ℕ) → contains_number (map (λ x. x + 1) xs) (suc n) ≡ contains_number xs n
 contains-next [] n = refl
-contains-next (x ∷ xs) n = ap (λ b. b || contains (map (λ x. x + 1) xs) (suc n)) (next-eqb x n) ∙ ap (λ b. eqb x n || b) (contains-next xs n)
+contains-next (x ∷ xs) n = ap (λ b. b || contains_number (map (λ x. x + 1) xs) (suc n)) (next-eqb x n) ∙ ap (λ b. eqb x n || b) (contains-next xs n)
 
-pub zero-next : (xs : List ℕ) → contains (map (λ x. x + 1) xs) 0 ≡ false
+pub zero-next : (xs : List ℕ) → contains_number (map (λ x. x + 1) xs) 0 ≡ false
 zero-next [] = refl
-zero-next (x ∷ xs) = ap (λ b. b || contains (map (λ x. x + 1) xs) 0) (eqb-not (x + 1) 0 (omega arith)) ∙ zero-next xs
+zero-next (x ∷ xs) = ap (λ b. b || contains_number (map (λ x. x + 1) xs) 0) (eqb-not (x + 1) 0 (omega arith)) ∙ zero-next xs
 
 pub at-next : (xs : List ℕ) (i x : ℕ) → i < length xs → x ≡ get_or xs i x → x + 1 ≡ get_or (map (λ x. x + 1) xs) i 0
 at-next [] i x low is = absurd (omega arith)
@@ -61,7 +62,7 @@ climbs-filter p (x ∷ xs) h = by (p x) (climbs-filter p xs h.1)
     left false c k = k
 
     by : (kept : Bool) → Climbs (filter p xs) → Climbs (cond kept (x ∷ filter p xs) (filter p xs))
-    by true more = (λ y is. h.0 y (left (contains xs y) (p y) (sym (contains-filter p xs y) ∙ is)), more)
+    by true more = (λ y is. h.0 y (left (contains_number xs y) (p y) (sym (contains-filter p xs y) ∙ is)), more)
     by false more = more
 
 pub climbs-range : (from many : ℕ) → Climbs (range_with_len from many)
@@ -75,31 +76,31 @@ pub climbs-next : (xs : List ℕ) → Climbs xs → Climbs (map (λ x. x + 1) xs
 climbs-next [] h = tt
 climbs-next (x ∷ xs) h = (later, climbs-next xs h.1)
   where
-    later : (y : ℕ) → contains (map (λ x. x + 1) xs) y ≡ true → x + 1 < y
+    later : (y : ℕ) → contains_number (map (λ x. x + 1) xs) y ≡ true → x + 1 < y
     later zero is = absurd (cc (zero-next xs, is))
     later (suc y) is =
         let below : x < y = h.0 y (sym (contains-next xs y) ∙ is) in
         omega (arith, below)
 
-pub contains-at : (xs : List ℕ) (i x d : ℕ) → i < length xs → x ≡ get_or xs i d → contains xs x ≡ true
+pub contains-at : (xs : List ℕ) (i x d : ℕ) → i < length xs → x ≡ get_or xs i d → contains_number xs x ≡ true
 contains-at [] i x d low is = absurd (omega arith)
-contains-at (y ∷ xs) zero x d low is = ap (λ b. b || contains xs x) (eqb-same y x (sym is))
-contains-at (y ∷ xs) (suc i) x d low is = right (eqb y x) (contains xs x) (contains-at xs i x d (omega arith) is)
+contains-at (y ∷ xs) zero x d low is = ap (λ b. b || contains_number xs x) (eqb-same y x (sym is))
+contains-at (y ∷ xs) (suc i) x d low is = right (eqb y x) (contains_number xs x) (contains-at xs i x d (omega arith) is)
   where
     right : (b c : Bool) → c ≡ true → (b || c) ≡ true
     right true c h = refl
     right false c h = h
 
 -- what stands in a climbing list stands nowhere before its place
-pub climbs-front : (xs : List ℕ) (i x : ℕ) → Climbs xs → i < length xs → x ≡ get_or xs i 0 → contains (take i xs) x ≡ false
+pub climbs-front : (xs : List ℕ) (i x : ℕ) → Climbs xs → i < length xs → x ≡ get_or xs i 0 → contains_number (take i xs) x ≡ false
 climbs-front xs zero x h low is = refl
 climbs-front [] (suc i) x h low is = refl
 climbs-front (y ∷ xs) (suc i) x h low is =
     let within : i < length xs = omega arith in
     let below : y < x = h.0 x (contains-at xs i x 0 within is) in
-    ap (λ b. b || contains (take i xs) x) (eqb-not y x (omega (arith, below))) ∙ climbs-front xs i x h.1 within is
+    ap (λ b. b || contains_number (take i xs) x) (eqb-not y x (omega (arith, below))) ∙ climbs-front xs i x h.1 within is
 
-pub climbs-same : (xs ys : List ℕ) → Climbs xs → Climbs ys → ((n : ℕ) → contains xs n ≡ contains ys n) → xs ≡ ys
+pub climbs-same : (xs ys : List ℕ) → Climbs xs → Climbs ys → ((n : ℕ) → contains_number xs n ≡ contains_number ys n) → xs ≡ ys
 climbs-same [] [] h k same = refl
 climbs-same [] (y ∷ ys) h k same = absurd (cc (same y, eqb-same y y refl))
 climbs-same (x ∷ xs) [] h k same = absurd (cc (same x, eqb-same x x refl))
@@ -107,24 +108,24 @@ climbs-same (x ∷ xs) (y ∷ ys) h k same =
     let one : x ≡ y = omega (arith, no-less x y xs ys k (same x), no-less y x ys xs h (sym (same y))) in
     ap (λ z. z ∷ xs) one ∙ ap (λ zs. y ∷ zs) (climbs-same xs ys h.1 k.1 (tails one))
   where
-    no-less : (a b : ℕ) (us vs : List ℕ) → Climbs (b ∷ vs) → contains (a ∷ us) a ≡ contains (b ∷ vs) a → b ≤ a
-    no-less a b us vs up e = by (eqb b a) refl (sym e ∙ ap (λ t. t || contains us a) (eqb-same a a refl))
+    no-less : (a b : ℕ) (us vs : List ℕ) → Climbs (b ∷ vs) → contains_number (a ∷ us) a ≡ contains_number (b ∷ vs) a → b ≤ a
+    no-less a b us vs up e = by (eqb b a) refl (sym e ∙ ap (λ t. t || contains_number us a) (eqb-same a a refl))
       where
-        by : (t : Bool) → eqb b a ≡ t → (t || contains vs a) ≡ true → b ≤ a
+        by : (t : Bool) → eqb b a ≡ t → (t || contains_number vs a) ≡ true → b ≤ a
         by true t is = let s : b ≡ a = eqb-yes b a t in omega (arith, s)
         by false t is = let l : b < a = up.0 a is in omega (arith, l)
 
-    tails : x ≡ y → (n : ℕ) → contains xs n ≡ contains ys n
+    tails : x ≡ y → (n : ℕ) → contains_number xs n ≡ contains_number ys n
     tails one n = by (eqb x n) (eqb y n) refl refl (same n)
       where
-        not-in : (a : ℕ) (us : List ℕ) → Climbs (a ∷ us) → a ≡ n → contains us n ≡ false
-        not-in a us up e = at (contains us n) refl
+        not-in : (a : ℕ) (us : List ℕ) → Climbs (a ∷ us) → a ≡ n → contains_number us n ≡ false
+        not-in a us up e = at (contains_number us n) refl
           where
-            at : (t : Bool) → contains us n ≡ t → t ≡ false
+            at : (t : Bool) → contains_number us n ≡ t → t ≡ false
             at false t = refl
             at true t = let l : a < n = up.0 n t in absurd (omega (arith, l, e))
 
-        by : (b c : Bool) → eqb x n ≡ b → eqb y n ≡ c → (b || contains xs n) ≡ (c || contains ys n) → contains xs n ≡ contains ys n
+        by : (b c : Bool) → eqb x n ≡ b → eqb y n ≡ c → (b || contains_number xs n) ≡ (c || contains_number ys n) → contains_number xs n ≡ contains_number ys n
         by true true e f s = not-in x xs h (eqb-yes x n e) ∙ sym (not-in y ys k (eqb-yes y n f))
         by true false e f s = absurd (eqb-no y n f (sym one ∙ eqb-yes x n e))
         by false true e f s = absurd (eqb-no x n e (one ∙ eqb-yes y n f))
@@ -132,16 +133,16 @@ climbs-same (x ∷ xs) (y ∷ ys) h k same =
 
 pub once-climbs : (xs : List ℕ) → Climbs xs → OnlyOnce xs
 once-climbs [] h = tt
-once-climbs (x ∷ xs) h = (by (contains xs x) refl, once-climbs xs h.1)
+once-climbs (x ∷ xs) h = (by (contains_number xs x) refl, once-climbs xs h.1)
   where
-    by : (t : Bool) → contains xs x ≡ t → t ≡ false
+    by : (t : Bool) → contains_number xs x ≡ t → t ≡ false
     by false t = refl
     by true t = let l : x < x = h.0 x t in absurd (omega (arith, l))
 
-pub once-append : (xs ys : List ℕ) → OnlyOnce xs → OnlyOnce ys → ((n : ℕ) → contains ys n ≡ true → contains xs n ≡ false) → OnlyOnce (xs ++ ys)
+pub once-append : (xs ys : List ℕ) → OnlyOnce xs → OnlyOnce ys → ((n : ℕ) → contains_number ys n ≡ true → contains_number xs n ≡ false) → OnlyOnce (xs ++ ys)
 once-append [] ys h k apart = k
 once-append (x ∷ xs) ys h k apart =
-    (contains-append xs ys x ∙ neither (contains xs x) (contains ys x) h.0 (away (contains ys x) refl), once-append xs ys h.1 k (λ n is. right (eqb x n) (contains xs n) (apart n is)))
+    (contains-append xs ys x ∙ neither (contains_number xs x) (contains_number ys x) h.0 (away (contains_number ys x) refl), once-append xs ys h.1 k (λ n is. right (eqb x n) (contains_number xs n) (apart n is)))
   where
     neither : (b c : Bool) → b ≡ false → c ≡ false → (b || c) ≡ false
     neither true c e f = e
@@ -151,14 +152,14 @@ once-append (x ∷ xs) ys h k apart =
     right true c e = absurd (cc e)
     right false c e = e
 
-    away : (t : Bool) → contains ys x ≡ t → t ≡ false
+    away : (t : Bool) → contains_number ys x ≡ t → t ≡ false
     away false t = refl
     away true t = absurd (cc (apart x t, eqb-same x x refl))
 
 pub actors-append : (n : ℕ) (xs ys : List ℕ) → AreActors n xs → AreActors n ys → AreActors n (xs ++ ys)
-actors-append n xs ys h k x is = by (contains xs x) refl (sym (contains-append xs ys x) ∙ is)
+actors-append n xs ys h k x is = by (contains_number xs x) refl (sym (contains-append xs ys x) ∙ is)
   where
-    by : (b : Bool) → contains xs x ≡ b → (b || contains ys x) ≡ true → x < n
+    by : (b : Bool) → contains_number xs x ≡ b → (b || contains_number ys x) ≡ true → x < n
     by true e f = h x e
     by false e f = k x f
 

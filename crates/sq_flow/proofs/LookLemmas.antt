@@ -7,7 +7,6 @@ use Rattle.std.specs.List.{filter, range_with_len}
 use Rattle.std.proofs.lemmas.List.{take_more, length-map}
 use Rattle.std.proofs.lemmas.Bool.Decides.{nat_tests}
 use Rattle.std.proofs.lemmas.List.Elements.{filter-append}
-use Rattle.sq_sched.specs.Ready.{contains}
 use Rattle.sq_flow.specs.declared.flow.Flow.{Flow}
 use Rattle.sq_flow.specs.declared.engine.Engine.{Engine}
 use Rattle.sq_flow.specs.Wiring.{Climbs, numbers_in, followers_of}
@@ -15,6 +14,7 @@ use Rattle.sq_flow.specs.Readiness.{is_ready, waiting}
 use Rattle.sq_flow.specs.Engines.{seat_number, is_new, readers_of, Looked}
 use Rattle.sq_flow.proofs.ListLemmas.{contains-append, contains-range, range-more, contains-at, climbs-front, at-next}
 use Rattle.sq_flow.proofs.ReadyLemmas.{looked-at}
+use Rattle.sq_value.specs.Lists.{contains_number}
 
 pub looked-none : {O : Type 0} (engine : Engine O) → Looked [] engine engine
 looked-none engine =
@@ -27,7 +27,7 @@ looked-none engine =
       waits_len = refl;
     }
 
-pub looked-more : {O : Type 0} (seen : List ℕ) (x : ℕ) (a b c : Engine O) → contains seen x ≡ false → Looked seen a b → Looked (x ∷ []) b c
+pub looked-more : {O : Type 0} (seen : List ℕ) (x : ℕ) (a b c : Engine O) → contains_number seen x ≡ false → Looked seen a b → Looked (x ∷ []) b c
     → Looked (seen ++ x ∷ []) a c
 looked-more seen x a b c apart first second =
     record {
@@ -42,7 +42,7 @@ looked-more seen x a b c apart first second =
           second.waits actor
           ∙ ap (λ f. cond (eqb x actor || false) (waiting f (seat_number (length f.seats.items) actor)) (get_or b.waits.items actor 0)) first.flow
           ∙ ap (λ count. cond (eqb x actor || false) (waiting a.flow (seat_number (length a.flow.seats.items) actor)) count) (first.waits actor)
-          ∙ one (contains seen actor) (eqb x actor) (waiting a.flow (seat_number (length a.flow.seats.items) actor)) (get_or a.waits.items actor 0)
+          ∙ one (contains_number seen actor) (eqb x actor) (waiting a.flow (seat_number (length a.flow.seats.items) actor)) (get_or a.waits.items actor 0)
           ∙ ap (λ t. cond t (waiting a.flow (seat_number (length a.flow.seats.items) actor)) (get_or a.waits.items actor 0)) (sym (contains-append seen (x ∷ []) actor));
       waits_len = second.waits_len ∙ first.waits_len;
     }
@@ -56,7 +56,7 @@ looked-more seen x a b c apart first second =
     new-same =
         ap (λ f. is_new f b.ready.list x) first.flow
         ∙ ap (λ t. is_ready a.flow (seat_number (length a.flow.seats.items) x) && not t)
-        (ap (λ list. contains list x) first.list ∙ looked-at a.flow a.ready.list seen x ∙ or-none (contains a.ready.list x) (is_new a.flow a.ready.list x) (contains seen x) apart)
+        (ap (λ list. contains_number list x) first.list ∙ looked-at a.flow a.ready.list seen x ∙ or-none (contains_number a.ready.list x) (is_new a.flow a.ready.list x) (contains_number seen x) apart)
 
     one : (p q : Bool) (w v : ℕ) → cond (q || false) w (cond p w v) ≡ cond (p || (q || false)) w v
     one true true w v = refl
@@ -76,13 +76,13 @@ pub looked-all : {O : Type 0} (actor : ℕ) (a b c : Engine O) → Looked (range
 looked-all actor a b c first second =
     let same : 0 + actor ≡ actor = omega arith in
     let more : range_with_len 0 (actor + 1) ≡ range_with_len 0 actor ++ actor ∷ [] = ap (range_with_len 0) (add-one actor) ∙ range-more 0 actor ∙ ap (λ x. range_with_len 0 actor ++ x ∷ []) same in
-    let apart : contains (range_with_len 0 actor) actor ≡ false = contains-range 0 actor actor ∙ grind (arith, nat_tests) in
+    let apart : contains_number (range_with_len 0 actor) actor ≡ false = contains-range 0 actor actor ∙ grind (arith, nat_tests) in
     subst (λ seen. Looked seen a c) (sym more) (looked-more (range_with_len 0 actor) actor a b c apart first second)
 
 -- one of those that follow an actor, read in its row
 pub reader-read : {O : Type 0} (e : Flow O) (place index reader : ℕ) (row : Vec ℕ Global) → place < length e.wires.followers.items
     → row ≡ get_or e.wires.followers.items place row → index < length (readers_of e place) → reader ≡ get_or row.items index reader
-    → (contains (followers_of e.wires place) reader ≡ true) × (reader + 1 ≡ get_or (readers_of e place) index 0)
+    → (contains_number (followers_of e.wires place) reader ≡ true) × (reader + 1 ≡ get_or (readers_of e place) index 0)
 reader-read e place index reader row low row_is within reader_is =
     let row_of : followers_of e.wires place ≡ row.items = ap numbers_in (slice_get_read e.wires.followers.items (length e.wires.followers.items) place row refl low row_is) in
     let is = subst (λ xs. reader ≡ get_or xs index reader) (sym row_of) reader_is in

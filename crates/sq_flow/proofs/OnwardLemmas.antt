@@ -3,7 +3,7 @@ use Rattle.std.proofs.Common.{◌≡◌, ℕ, ◌≤◌, ◌<◌, Bool, true, fa
 use Rattle.std.specs.Prelude.{IfSome, Vec, slice_get}
 use Rattle.std.specs.declared.alloc.Global.{Global}
 use Rattle.sq_item.specs.declared.Item.{Item}
-use Rattle.sq_value.specs.Lists.{IsPrefixOf}
+use Rattle.sq_value.specs.Lists.{IsPrefixOf, contains_number}
 use Rattle.sq_item.specs.Things.{Thing, spread}
 use Rattle.sq_oper.specs.declared.outs.Decision.{Decision}
 use Rattle.sq_outside.specs.Disks.{DiskLog}
@@ -13,7 +13,6 @@ use Rattle.sq_pool.proofs.TrustLemmas.{IsLater-refl, IsLater-trans}
 use Rattle.sq_queue.specs.declared.Queues.{Queues}
 use Rattle.sq_queue.specs.Faces.{face, size, Together}
 use Rattle.sq_road.specs.Levels.{LevelTable}
-use Rattle.sq_sched.specs.Ready.{contains}
 use Rattle.sq_flow.specs.declared.errors.RunErr.{RunErr}
 use Rattle.sq_flow.specs.declared.errors.RunErr.TheVariants as error
 use Rattle.sq_flow.specs.declared.noted.Noted.{Noted}
@@ -93,7 +92,7 @@ module _ {D : Type 0} (log : D → DiskLog) (faults : D → ℕ) where
   -- what an outlet became that was opened
   pub came-open : (start s : Onward D) → s.actor < length s.wires.now.readers.items → (s.wires.now.shown ≤ s.actor → (port : ℕ) → arcs_from s.wires.now s.actor port ≡ [])
       → ((port place arc : ℕ) → slice_get (arcs_from s.wires.now s.actor port) place ≡ Some arc → (arc < size s.queues.now) × ((face s.queues.now arc).ended ≡ false))
-      → ((port arc : ℕ) → contains (arcs_from s.wires.now s.actor port) arc ≡ true → is_sent_by s.wires.now s.actor arc ≡ true)
+      → ((port arc : ℕ) → contains_number (arcs_from s.wires.now s.actor port) arc ≡ true → is_sent_by s.wires.now s.actor arc ≡ true)
       → Together s.queues.now (known (log s.disk.now)) → s.failed ≡ None → (s.noted.items ≡ []) × (s.noted.drops ≡ [])
       → ((before : Onward D) → Came log faults before s → Came log faults before start) → Came log faults s start
   came-open start s within shown there joined together whole none came =
@@ -131,7 +130,7 @@ module _ {D : Type 0} (log : D → DiskLog) (faults : D → ℕ) where
     -- one item more went on
     pub came-item : (noted : Noted) (port : ℕ) (item : Item) → noted.items ≡ s.noted.items ++ (port, item) ∷ [] → noted.drops ≡ s.noted.drops
         → Pushes s.queues.now q (known (log s.disk.now)) (known (log d)) (λ arc. many (times_in arc (arcs_from s.wires.now s.actor port)) (spread item)) (λ time. item.time ≤ time)
-        (λ arc. contains (arcs_from s.wires.now s.actor port) arc)
+        (λ arc. contains_number (arcs_from s.wires.now s.actor port) arc)
         → IsShown s.wires.now s.actor ((port, item) ∷ []) [] s.events.now.items events.items
         → Came log faults start (behind s.failed noted)
     came-item noted port item items drops sent shown =

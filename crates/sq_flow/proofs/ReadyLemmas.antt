@@ -2,7 +2,7 @@
 use Rattle.std.proofs.Common.{◌≡◌, ◌≢◌, ℕ, zero, suc, ◌-◌, ◌^◌, ◌<◌, ◌≤◌, cond, Bool, true, false, not, ◌||◌, ◌&&◌, List, ◌++◌, length, map, Some, refl, ap, sym, ◌∙◌, subst, arith}
 use Rattle.std.specs.Prelude.{slice_get, min, sum}
 use Rattle.std.specs.List.{filter, list_all}
-use Rattle.sq_sched.specs.Ready.{contains, AreActors, OnlyOnce}
+use Rattle.sq_sched.specs.Ready.{AreActors, OnlyOnce}
 use Rattle.sq_left.proofs.MergeLemmas.{eqb-not}
 use Rattle.sq_paged.specs.Fronts.{Face}
 use Rattle.sq_queue.specs.Faces.{face}
@@ -13,6 +13,7 @@ use Rattle.sq_flow.specs.Seats.{done_at}
 use Rattle.sq_flow.specs.Readiness.{stands, IsReady, is_ready, waiting, TouchesOnly}
 use Rattle.sq_flow.specs.Engines.{seat_number, ExactFor, is_new, readers_of}
 use Rattle.sq_flow.proofs.ListLemmas.{contains-append, contains-filter, contains-next, zero-next, climbs-filter, once-climbs, once-append, actors-append, both-true, all-agree, all-at, all-from, map-agree}
+use Rattle.sq_value.specs.Lists.{contains_number}
 
 not-true : (a : Bool) → not a ≡ true → a ≡ false
 not-true true h = absurd (cc h)
@@ -38,16 +39,16 @@ same-test false true f g = g refl
 same-test false false f g = refl
 
 -- the list is exact for an actor
-pub exact-of : {O : Type 0} (e : Flow O) (list : List ℕ) (actor : ℕ) → contains list actor ≡ is_ready e (seat_number (length e.seats.items) actor) → ExactFor e list actor
+pub exact-of : {O : Type 0} (e : Flow O) (list : List ℕ) (actor : ℕ) → contains_number list actor ≡ is_ready e (seat_number (length e.seats.items) actor) → ExactFor e list actor
 exact-of e list actor same =
     record {
       listed = λ h. ready-of e (seat_number (length e.seats.items) actor) (sym same ∙ h);
       ready = λ r. same ∙ test-of e (seat_number (length e.seats.items) actor) r;
     }
 
-pub exact-test : {O : Type 0} (e : Flow O) (list : List ℕ) (actor : ℕ) → ExactFor e list actor → contains list actor ≡ is_ready e (seat_number (length e.seats.items) actor)
+pub exact-test : {O : Type 0} (e : Flow O) (list : List ℕ) (actor : ℕ) → ExactFor e list actor → contains_number list actor ≡ is_ready e (seat_number (length e.seats.items) actor)
 exact-test e list actor exact =
-    same-test (contains list actor) (is_ready e (seat_number (length e.seats.items) actor))
+    same-test (contains_number list actor) (is_ready e (seat_number (length e.seats.items) actor))
     (λ h. test-of e (seat_number (length e.seats.items) actor) (exact.listed h))
     (λ h. exact.ready (ready-of e (seat_number (length e.seats.items) actor) h))
 
@@ -76,16 +77,16 @@ place-apart ops (suc a) (suc b) i j ne = λ h.
 
 -- an actor reads from the one at a place where its own place is among those that follow
 pub readers-at : {O : Type 0} (e : Flow O) (shaped : IsShaped e.wires (length e.seats.items)) (place actor : ℕ) → actor ≤ length e.seats.items
-    → contains (readers_of e place) actor ≡ contains (followers_of e.wires place) (seat_number (length e.seats.items) actor)
-readers-at e shaped place zero low = zero-next (followers_of e.wires place) ∙ sym (at (contains (followers_of e.wires place) (length e.seats.items)) refl)
+    → contains_number (readers_of e place) actor ≡ contains_number (followers_of e.wires place) (seat_number (length e.seats.items) actor)
+readers-at e shaped place zero low = zero-next (followers_of e.wires place) ∙ sym (at (contains_number (followers_of e.wires place) (length e.seats.items)) refl)
   where
-    at : (b : Bool) → contains (followers_of e.wires place) (length e.seats.items) ≡ b → contains (followers_of e.wires place) (length e.seats.items) ≡ false
+    at : (b : Bool) → contains_number (followers_of e.wires place) (length e.seats.items) ≡ b → contains_number (followers_of e.wires place) (length e.seats.items) ≡ false
     at false h = h
     at true h = let l : length e.seats.items < length e.seats.items = shaped.followers_in place (length e.seats.items) h in absurd (omega (arith, l))
 readers-at e shaped place (suc k) low =
-    contains-next (followers_of e.wires place) k ∙ ap (contains (followers_of e.wires place)) (sym (place-next (length e.seats.items) k))
+    contains-next (followers_of e.wires place) k ∙ ap (contains_number (followers_of e.wires place)) (sym (place-next (length e.seats.items) k))
 
-pub readers-within : {O : Type 0} (e : Flow O) (shaped : IsShaped e.wires (length e.seats.items)) (place actor : ℕ) → contains (readers_of e place) actor ≡ true → actor ≤ length e.seats.items
+pub readers-within : {O : Type 0} (e : Flow O) (shaped : IsShaped e.wires (length e.seats.items)) (place actor : ℕ) → contains_number (readers_of e place) actor ≡ true → actor ≤ length e.seats.items
 readers-within e shaped place zero h = omega arith
 readers-within e shaped place (suc k) h =
     let low : k < length e.seats.items = shaped.followers_in place k (sym (contains-next (followers_of e.wires place) k) ∙ h) in
@@ -96,7 +97,7 @@ module _ {O : Type 0} (e e' : Flow O) (shaped : IsShaped e.wires (length e.seats
   arcs-same : (other : ℕ) → arcs_read e'.wires other ≡ arcs_read e.wires other
   arcs-same other = ap (λ (w : Wires). arcs_read w other) wires
 
-  face-same : (other : ℕ) → other ≢ step → contains (followers_of e.wires step) other ≡ false
+  face-same : (other : ℕ) → other ≢ step → contains_number (followers_of e.wires step) other ≡ false
       → (port arc : ℕ) → slice_get (arcs_read e.wires other) port ≡ Some arc → face e'.queues arc ≡ face e.queues arc
   face-same other ne none port arc is =
       let low = shaped.arcs_in other port arc is in
@@ -104,17 +105,17 @@ module _ {O : Type 0} (e e' : Flow O) (shaped : IsShaped e.wires (length e.seats
       touches.apart arc low (λ h. ne (sym to_is ∙ h)) (λ h. absurd (cc (none, followed low to_is h)))
     where
       followed : arc < length e.wires.arcs.items → to_of (slice_get e.wires.arcs.items arc) ≡ other → from_of (slice_get e.wires.arcs.items arc) ≡ step
-          → contains (followers_of e.wires step) other ≡ true
-      followed low t f = subst (λ a. contains (followers_of e.wires step) a ≡ true) t (subst (λ a. contains (followers_of e.wires a) (to_of (slice_get e.wires.arcs.items arc)) ≡ true) f (shaped.followed arc low))
+          → contains_number (followers_of e.wires step) other ≡ true
+      followed low t f = subst (λ a. contains_number (followers_of e.wires step) a ≡ true) t (subst (λ a. contains_number (followers_of e.wires a) (to_of (slice_get e.wires.arcs.items arc)) ≡ true) f (shaped.followed arc low))
 
-  pub ready-same : (other : ℕ) → other ≤ length e.seats.items → other ≢ step → contains (followers_of e.wires step) other ≡ false → is_ready e' other ≡ is_ready e other
+  pub ready-same : (other : ℕ) → other ≤ length e.seats.items → other ≢ step → contains_number (followers_of e.wires step) other ≡ false → is_ready e' other ≡ is_ready e other
   ready-same other low ne none =
       ap (λ b. not b && list_all (λ arc. stands (face e'.queues arc)) (arcs_read e'.wires other)) (touches.others other low ne)
       ∙ ap (λ arcs. not (done_at e.over (slice_get e.seats.items other)) && list_all (λ arc. stands (face e'.queues arc)) arcs) (arcs-same other)
       ∙ ap (λ b. not (done_at e.over (slice_get e.seats.items other)) && b)
       (all-agree (λ arc. stands (face e'.queues arc)) (λ arc. stands (face e.queues arc)) (arcs_read e.wires other) (λ port arc is. ap stands (face-same other ne none port arc is)))
 
-  pub waiting-same : (other : ℕ) → other ≢ step → contains (followers_of e.wires step) other ≡ false → waiting e' other ≡ waiting e other
+  pub waiting-same : (other : ℕ) → other ≢ step → contains_number (followers_of e.wires step) other ≡ false → waiting e' other ≡ waiting e other
   waiting-same other ne none =
       ap (λ arcs. min (2 ^ 64 - 1) (sum (map (λ arc. (face e'.queues arc).count) arcs))) (arcs-same other)
       ∙ ap (λ counts. min (2 ^ 64 - 1) (sum counts))
@@ -134,22 +135,22 @@ module _ {O : Type 0} (e e' : Flow O) (shaped : IsShaped e.wires (length e.seats
           touches.grows arc low (λ h. ne (sym (shaped.joined other port arc is).0 ∙ h)) (r.standing port arc is)
 
 -- the list after looks at climbing actors
-pub looked-at : {O : Type 0} (e : Flow O) (list seen : List ℕ) (x : ℕ) → contains (list ++ filter (is_new e list) seen) x ≡ (contains list x || (contains seen x && is_new e list x))
-looked-at e list seen x = contains-append list (filter (is_new e list) seen) x ∙ ap (λ b. contains list x || b) (contains-filter (is_new e list) seen x)
+pub looked-at : {O : Type 0} (e : Flow O) (list seen : List ℕ) (x : ℕ) → contains_number (list ++ filter (is_new e list) seen) x ≡ (contains_number list x || (contains_number seen x && is_new e list x))
+looked-at e list seen x = contains-append list (filter (is_new e list) seen) x ∙ ap (λ b. contains_number list x || b) (contains-filter (is_new e list) seen x)
 
 pub looked-once : {O : Type 0} (e : Flow O) (list seen : List ℕ) → OnlyOnce list → Climbs seen → OnlyOnce (list ++ filter (is_new e list) seen)
 looked-once e list seen once climbs =
     once-append list (filter (is_new e list) seen) once (once-climbs (filter (is_new e list) seen) (climbs-filter (is_new e list) seen climbs))
-    (λ n is. apart n (contains seen n) (sym (contains-filter (is_new e list) seen n) ∙ is))
+    (λ n is. apart n (contains_number seen n) (sym (contains-filter (is_new e list) seen n) ∙ is))
   where
-    apart : (n : ℕ) (b : Bool) → (b && is_new e list n) ≡ true → contains list n ≡ false
-    apart n true h = not-true (contains list n) ((both-true (is_ready e (seat_number (length e.seats.items) n)) (not (contains list n)) h).1)
+    apart : (n : ℕ) (b : Bool) → (b && is_new e list n) ≡ true → contains_number list n ≡ false
+    apart n true h = not-true (contains_number list n) ((both-true (is_ready e (seat_number (length e.seats.items) n)) (not (contains_number list n)) h).1)
     apart n false h = absurd (cc h)
 
 pub looked-below : {O : Type 0} (e : Flow O) (list seen : List ℕ) (actors : ℕ) → AreActors actors list → AreActors actors seen → AreActors actors (list ++ filter (is_new e list) seen)
 looked-below e list seen actors below more =
-    actors-append actors list (filter (is_new e list) seen) below (λ x is. more x (left x (contains seen x) refl (sym (contains-filter (is_new e list) seen x) ∙ is)))
+    actors-append actors list (filter (is_new e list) seen) below (λ x is. more x (left x (contains_number seen x) refl (sym (contains-filter (is_new e list) seen x) ∙ is)))
   where
-    left : (x : ℕ) (b : Bool) → contains seen x ≡ b → (b && is_new e list x) ≡ true → contains seen x ≡ true
+    left : (x : ℕ) (b : Bool) → contains_number seen x ≡ b → (b && is_new e list x) ≡ true → contains_number seen x ≡ true
     left x true h k = h
     left x false h k = absurd (cc k)

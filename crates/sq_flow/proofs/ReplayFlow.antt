@@ -12,8 +12,7 @@ use Rattle.sq_road.specs.Levels.{LevelTable, AgreesWith}
 use Rattle.sq_plan.specs.Plans.{Setting}
 use Rattle.sq_oper.specs.declared.outs.Event.{Event}
 use Rattle.sq_oper.specs.Entries.{Entry}
-use Rattle.sq_oper.specs.Streams.{things, IsSoundTuple}
-use Rattle.sq_sched.specs.Ready.{contains}
+use Rattle.sq_oper.specs.Streams.{things, IsSoundTuple, tuples_in}
 use Rattle.sq_oper.proofs.GivenLemmas.{ThingsUpTo-later}
 use Rattle.sq_left.specs.Left.{Net, Holding, coming, inputs, is_known_actor}
 use Rattle.sq_left.specs.Heads.{AllFine}
@@ -38,11 +37,12 @@ use Rattle.sq_flow.specs.declared.seats.Seat.{Seat}
 use Rattle.sq_flow.specs.declared.flow.Flow.{Flow}
 use Rattle.sq_flow.specs.Wiring.{net_of, arcs_from, times_in, from_of, sent, IsOwn}
 use Rattle.sq_flow.specs.Seats.{Meaning, done_at, holds_at, IsSeat}
-use Rattle.sq_flow.specs.Events.{bodies, lines_of, drops_of}
+use Rattle.sq_flow.specs.Events.{lines_of, drops_of}
 use Rattle.sq_flow.specs.Flows.{world_of, IsFlow, HoldsItems, Goes, Stepped, ShowsPrefix, RiseFrom, to_release, tuples_to_come, lines_left, decisions_left, turns_at_last, count_all}
 use Rattle.sq_flow.proofs.SendLemmas.{at_or_other, apart-arcs}
 use Rattle.sq_flow.proofs.FutureLemmas.{slice_get-set_same, slice_get-set_other}
 use Rattle.sq_flow.proofs.ArcLemmas.{arcs-left}
+use Rattle.sq_value.specs.Lists.{contains_number}
 
 pub fine-later : (t u : ℕ) (its : List Item) → t ≤ u → AllFine t its → AllFine u its
 fine-later t u [] le h = tt
@@ -121,7 +121,7 @@ module _ {O : Type 0} (m : Meaning O) (valid : O → Type 0) (e : Flow O) (flow 
       let k = kept in
       record {
         lines = λ output low.
-            ap (λ z. lines_of output events ++ bodies z)
+            ap (λ z. lines_of output events ++ tuples_in z)
             (k.streams (e.wires.shown + output) 0 (flow.shaped.ordered (e.wires.shown + output) low)
             ∙ ap (λ z. z ++ coming net is e.wires.order.items (e.wires.shown + output) 0) (none (e.wires.shown + output) low 0))
             ∙ ap (λ z. z ++ lines_left m table items' e' output) (sym (shown output));
@@ -226,7 +226,7 @@ module _ {O : Type 0} (m : Meaning O) (valid : O → Type 0) (e : Flow O) (flow 
           within = let l = mid-len m valid e flow pos port v more x next at held planner' levels' mid events events' did in let n = next.there in let c = flow.counts in omega (arith, l, n, c)
 
       pub released-stepped : (was is : Option Pages) (q' : Queues) → Together e.queues was
-          → Pushes e.queues q' was is (λ k. many (times_in k (arcs_from e.wires e.wires.replay port)) (spread item)) (λ time. x.time ≤ time) (contains (arcs_from e.wires e.wires.replay port))
+          → Pushes e.queues q' was is (λ k. many (times_in k (arcs_from e.wires e.wires.replay port)) (spread item)) (λ time. x.time ≤ time) (contains_number (arcs_from e.wires e.wires.replay port))
           → Stepped m valid was is e (record e { queues = q'; sources = sources'; clock = x.time; planner = planner'; levels = levels'; counts = counts' }) events events'
       released-stepped was is q' together pushes =
           record {
@@ -290,7 +290,7 @@ module _ {O : Type 0} (m : Meaning O) (valid : O → Type 0) (e : Flow O) (flow 
           on told k low = pushes.items told k ∙ ap (λ z. spread_all (items_on e.queues was k) ++ z) (one-sent e.wires (length e.seats.items) flow.shaped e.wires.replay port k (spread item) low)
 
     pub released-touches : (was is : Option Pages) (q' : Queues) (sources' : Vec Recorded Global) (planner' : Setting) (levels' : LevelTable) (counts' : Vec ℕ Global)
-        → Pushes e.queues q' was is (λ k. many (times_in k (arcs_from e.wires e.wires.replay port)) (spread item)) (λ time. x.time ≤ time) (contains (arcs_from e.wires e.wires.replay port))
+        → Pushes e.queues q' was is (λ k. many (times_in k (arcs_from e.wires e.wires.replay port)) (spread item)) (λ time. x.time ≤ time) (contains_number (arcs_from e.wires e.wires.replay port))
         → TouchesOnly (length e.seats.items) e (record e { queues = q'; sources = sources'; clock = x.time; planner = planner'; levels = levels'; counts = counts' })
     released-touches was is q' sources' planner' levels' counts' pushes =
         record {

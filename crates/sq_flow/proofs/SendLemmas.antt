@@ -9,7 +9,6 @@ use Rattle.sq_item.specs.Things.{Thing, spread, spread_all}
 use Rattle.sq_outside.specs.Disks.{Pages}
 use Rattle.sq_left.specs.Heads.{AllFine}
 use Rattle.sq_left.proofs.MergeLemmas.{eqb-yes, eqb-no, eqb-same, eqb-not}
-use Rattle.sq_sched.specs.Ready.{contains}
 use Rattle.sq_queue.specs.declared.Queues.{Queues}
 use Rattle.sq_pool.specs.Trust.{Tells}
 use Rattle.sq_paged.specs.Fronts.{pushed, first_time_or}
@@ -17,6 +16,7 @@ use Rattle.sq_queue.specs.Faces.{face, size, frames, items_on, Together}
 use Rattle.sq_flow.specs.declared.wires.Wires.{Wires}
 use Rattle.sq_flow.specs.Wiring.{arcs_from, times_in}
 use Rattle.sq_flow.specs.Sends.{many, sent_to, is_sent_by, Pushes}
+use Rattle.sq_value.specs.Lists.{contains_number}
 
 pub spread_all-push : (xs : List Item) (i : Item) → spread_all (xs ++ i ∷ []) ≡ spread_all xs ++ spread i
 spread_all-push [] i = append-nil (spread i)
@@ -126,10 +126,10 @@ sent-append wires actor (o ∷ outs) out arc =
     ∙ sym (append_assoc (many (times_in arc (arcs_from wires actor o.0)) (spread o.1)) (sent_to wires actor outs arc) (many (times_in arc (arcs_from wires actor out.0)) (spread out.1)))
 
 -- an arc that isn't among these isn't one of them
-pub not-in : (arcs : List ℕ) (at arc : ℕ) → contains arcs at ≡ true → contains arcs arc ≡ false → eqb at arc ≡ false
-not-in arcs at arc there away = eqb-not at arc (λ e. cc (ap (contains arcs) e))
+pub not-in : (arcs : List ℕ) (at arc : ℕ) → contains_number arcs at ≡ true → contains_number arcs arc ≡ false → eqb at arc ≡ false
+not-in arcs at arc there away = eqb-not at arc (λ e. cc (ap (contains_number arcs) e))
 
-pub contains-get : (xs : List ℕ) (i x : ℕ) → slice_get xs i ≡ Some x → contains xs x ≡ true
+pub contains-get : (xs : List ℕ) (i x : ℕ) → slice_get xs i ≡ Some x → contains_number xs x ≡ true
 contains-get xs i x e =
     let low = slice_get_within xs i x e in
     list_any_at (λ y. eqb y x) xs i 0 low (ap (λ y. eqb y x) (get_or_from_slice_get xs i x 0 e) ∙ eqb-same x x refl)
@@ -151,10 +151,10 @@ at-last arcs front last e = ap (λ l. slice_get l (length front)) e ∙ by front
     by (x ∷ xs) = by xs
 
 -- an arc that comes from another actor isn't among those that come from a port of this one
-pub apart-arcs : (wires : Wires) (actor port arc : ℕ) → (contains (arcs_from wires actor port) arc ≡ true → is_sent_by wires actor arc ≡ true)
-    → is_sent_by wires actor arc ≡ false → contains (arcs_from wires actor port) arc ≡ false
-apart-arcs wires actor port arc joined away = by (contains (arcs_from wires actor port) arc) refl
+pub apart-arcs : (wires : Wires) (actor port arc : ℕ) → (contains_number (arcs_from wires actor port) arc ≡ true → is_sent_by wires actor arc ≡ true)
+    → is_sent_by wires actor arc ≡ false → contains_number (arcs_from wires actor port) arc ≡ false
+apart-arcs wires actor port arc joined away = by (contains_number (arcs_from wires actor port) arc) refl
   where
-    by : (b : Bool) → contains (arcs_from wires actor port) arc ≡ b → b ≡ false
+    by : (b : Bool) → contains_number (arcs_from wires actor port) arc ≡ b → b ≡ false
     by true e = cc (joined e, away)
     by false e = refl

@@ -9,12 +9,13 @@ use Rattle.sq_oper.specs.Given.{given}
 use Rattle.sq_oper.proofs.GivenLemmas.{given-append}
 use Rattle.sq_flow.specs.declared.wires.Wires.{Wires}
 use Rattle.sq_flow.specs.Wiring.{pushed_by}
-use Rattle.sq_flow.specs.Events.{bodies, lines_of, of_drop, drops_of, ShowsIn}
+use Rattle.sq_flow.specs.Events.{lines_of, of_drop, drops_of, ShowsIn}
 use Rattle.sq_flow.specs.Plans.{plans_of}
 use Rattle.sq_flow.specs.Shows.{IsShown}
 use Rattle.sq_flow.proofs.EventLemmas.{bodies-append, output-is, output-below, stays-both, stays-same}
 use Rattle.sq_flow.proofs.DropLemmas.{all-split, decided-next, own-below}
 use Rattle.sq_flow.proofs.FutureLemmas.{not-pushed}
+use Rattle.sq_oper.specs.Streams.{tuples_in}
 
 pushed-append : (actor : ℕ) (xs ys : List (ℕ × Item)) (from to : ℕ) → pushed_by actor (xs ++ ys) from to ≡ pushed_by actor xs from to ++ pushed_by actor ys from to
 pushed-append actor xs ys from to = by (eqb actor from)
@@ -34,7 +35,7 @@ pushed-none actor from to = by (eqb actor from)
 pub shown-first : (wires : Wires) (actor : ℕ) (events : List Event) → IsShown wires actor [] [] events events
 shown-first wires actor events =
     record {
-      lines = λ o. sym (ap (λ z. lines_of o events ++ bodies z) (pushed-none actor (wires.shown + o) 0) ∙ append-nil (lines_of o events));
+      lines = λ o. sym (ap (λ z. lines_of o events ++ tuples_in z) (pushed-none actor (wires.shown + o) 0) ∙ append-nil (lines_of o events));
       decided = λ w. sym (append-nil (drops_of w events));
       plans = refl;
       below = λ outputs low own h. h;
@@ -43,7 +44,7 @@ shown-first wires actor events =
 
 -- an item of an output
 pub shown-one : (wires : Wires) (actor : ℕ) (out : ℕ × Item) (events events' : List Event) → wires.shown ≤ actor
-    → ((o : ℕ) → lines_of o events' ≡ lines_of o events ++ cond (eqb (actor - wires.shown) o) (bodies (given 0 (out ∷ []))) [])
+    → ((o : ℕ) → lines_of o events' ≡ lines_of o events ++ cond (eqb (actor - wires.shown) o) (tuples_in (given 0 (out ∷ []))) [])
     → ((outputs drops : ℕ) → actor - wires.shown < outputs → ShowsIn outputs drops events events')
     → ((w : ℕ) → drops_of w events' ≡ drops_of w events) → plans_of events' ≡ plans_of events → IsPrefixOf events events'
     → IsShown wires actor (out ∷ []) [] events events'
@@ -60,7 +61,7 @@ shown-one wires actor out events events' shows lines below drops plans stay =
 pub shown-none : (wires : Wires) (actor : ℕ) (out : ℕ × Item) (events : List Event) → actor < wires.shown → IsShown wires actor (out ∷ []) [] events events
 shown-none wires actor out events low =
     record {
-      lines = λ o. sym (ap (λ z. lines_of o events ++ bodies z) (not-pushed actor (wires.shown + o) (out ∷ []) (λ e. absurd (omega (arith, low, e))) 0) ∙ append-nil (lines_of o events));
+      lines = λ o. sym (ap (λ z. lines_of o events ++ tuples_in z) (not-pushed actor (wires.shown + o) (out ∷ []) (λ e. absurd (omega (arith, low, e))) 0) ∙ append-nil (lines_of o events));
       decided = λ w. sym (append-nil (drops_of w events));
       plans = refl;
       below = λ outputs is own h. h;
@@ -74,10 +75,10 @@ shown-item wires actor items drops out events mid events' first next =
     record {
       lines = λ o.
           let more : ℕ → List Thing = λ from. pushed_by actor (out ∷ []) from 0 in
-          next.lines o ∙ ap (λ z. z ++ bodies (more (wires.shown + o))) (first.lines o)
-          ∙ append_assoc (lines_of o events) (bodies (pushed_by actor items (wires.shown + o) 0)) (bodies (more (wires.shown + o)))
+          next.lines o ∙ ap (λ z. z ++ tuples_in (more (wires.shown + o))) (first.lines o)
+          ∙ append_assoc (lines_of o events) (tuples_in (pushed_by actor items (wires.shown + o) 0)) (tuples_in (more (wires.shown + o)))
           ∙ ap (λ z. lines_of o events ++ z)
-          (sym (ap bodies (pushed-append actor items (out ∷ []) (wires.shown + o) 0) ∙ bodies-append (pushed_by actor items (wires.shown + o) 0) (more (wires.shown + o))));
+          (sym (ap tuples_in (pushed-append actor items (out ∷ []) (wires.shown + o) 0) ∙ bodies-append (pushed_by actor items (wires.shown + o) 0) (more (wires.shown + o))));
       decided = λ w. next.decided w ∙ append-nil (drops_of w mid) ∙ first.decided w;
       plans = next.plans ∙ first.plans;
       below = λ outputs low own h. next.below outputs low tt (first.below outputs low own h);

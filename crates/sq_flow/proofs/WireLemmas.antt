@@ -12,8 +12,8 @@ use Rattle.sq_flow.specs.declared.flow.Flow.{Flow}
 use Rattle.sq_flow.specs.Wiring.{arcs_from, times_in, from_of, arc_port, sent, pushed_by, IsShaped}
 use Rattle.sq_flow.specs.Seats.{Meaning, done_at}
 use Rattle.sq_flow.specs.Sends.{many, sent_to, is_sent_by}
-use Rattle.sq_sched.specs.Ready.{contains}
 use Rattle.sq_flow.specs.Flows.{IsFlow}
+use Rattle.sq_value.specs.Lists.{contains_number}
 
 times-some : (xs : List ℕ) (place x : ℕ) → slice_get xs place ≡ Some x → times_in x xs ≢ 0
 times-some [] place x is = λ h. cc is
@@ -23,11 +23,11 @@ times-some (y ∷ xs) zero x is = λ h.
     omega (arith, one, h)
 times-some (y ∷ xs) (suc place) x is = λ h. let r = times-some xs place x is in r (omega (arith, h))
 
-contains-place : (xs : List ℕ) (x : ℕ) → contains xs x ≡ true → (place : ℕ) × (slice_get xs place ≡ Some x)
+contains-place : (xs : List ℕ) (x : ℕ) → contains_number xs x ≡ true → (place : ℕ) × (slice_get xs place ≡ Some x)
 contains-place [] x h = cc h
 contains-place (y ∷ xs) x h = by (contains-place xs x) (eqb y x) refl h
   where
-    by : (contains xs x ≡ true → (place : ℕ) × (slice_get xs place ≡ Some x)) → (b : Bool) → eqb y x ≡ b → (b || contains xs x) ≡ true → (place : ℕ) × (slice_get (y ∷ xs) place ≡ Some x)
+    by : (contains_number xs x ≡ true → (place : ℕ) × (slice_get xs place ≡ Some x)) → (b : Bool) → eqb y x ≡ b → (b || contains_number xs x) ≡ true → (place : ℕ) × (slice_get (y ∷ xs) place ≡ Some x)
     by later true e k = (0, ap Some (eqb-yes y x e))
     by later false e k = let r = later k in (suc r.0, r.1)
 
@@ -51,7 +51,7 @@ module _ (wires : Wires) (ops : ℕ) (shaped : IsShaped wires ops) where
       by true e h = eqb-yes actor (from_of (slice_get wires.arcs.items arc)) e
       by false e h = absurd (times-some (arcs_from wires actor port) place arc is h)
 
-  pub comes-from : (actor port arc : ℕ) → contains (arcs_from wires actor port) arc ≡ true → is_sent_by wires actor arc ≡ true
+  pub comes-from : (actor port arc : ℕ) → contains_number (arcs_from wires actor port) arc ≡ true → is_sent_by wires actor arc ≡ true
   comes-from actor port arc there =
       let at = contains-place (arcs_from wires actor port) arc there in
       eqb-same (from_of (slice_get wires.arcs.items arc)) actor (sym (reads-from actor port at.0 arc at.1).1)

@@ -1,13 +1,14 @@
 -- An engine: a flow whose ready actors are listed.
 use Rattle.std.specs.Prelude.{◌≡◌, ℕ, ◌+◌, ◌-◌, ◌≤◌, ◌==◌, ◌&&◌, Bool, true, false, not, List, [], ◌∷◌, ◌++◌, map, length, slice_get, slice_index, if◌then◌else◌}
 use Rattle.std.specs.List.{filter, range_with_len}
-use Rattle.sq_sched.specs.Ready.{contains, without_actor, AreActors, OnlyOnce}
+use Rattle.sq_sched.specs.Ready.{without_actor, AreActors, OnlyOnce}
 use Rattle.sq_flow.specs.declared.flow.Flow.{Flow}
 use Rattle.sq_flow.specs.declared.engine.Engine.{Engine}
 use Rattle.sq_flow.specs.Wiring.{followers_of}
 use Rattle.sq_flow.specs.Seats.{Meaning, done_at}
 use Rattle.sq_flow.specs.Flows.{IsFlow}
 use Rattle.sq_flow.specs.Readiness.{IsReady, is_ready, waiting}
+use Rattle.sq_value.specs.Lists.{contains_number}
 
 -- an actor's place in the flow: the replay, which is actor 0, stands behind the operators
 abbrev pub seat_number : ℕ → ℕ → ℕ
@@ -15,12 +16,12 @@ seat_number ops actor = if actor == 0 then ops else actor - 1
 
 -- an actor is listed exactly where it is ready
 pub record ExactFor {O : Type 0} (flow : Flow O) (list : List ℕ) (actor : ℕ) : Type 0 where
-  pub listed : contains list actor ≡ true → IsReady flow (seat_number (length flow.seats.items) actor)
-  pub ready : IsReady flow (seat_number (length flow.seats.items) actor) → contains list actor ≡ true
+  pub listed : contains_number list actor ≡ true → IsReady flow (seat_number (length flow.seats.items) actor)
+  pub ready : IsReady flow (seat_number (length flow.seats.items) actor) → contains_number list actor ≡ true
 
 -- an actor is ready and isn't listed
 abbrev pub is_new : {O : Type 0} → Flow O → List ℕ → ℕ → Bool
-is_new flow list actor = is_ready flow (seat_number (length flow.seats.items) actor) && not (contains list actor)
+is_new flow list actor = is_ready flow (seat_number (length flow.seats.items) actor) && not (contains_number list actor)
 
 -- of all actors those that are ready and weren't listed before, ascending
 abbrev pub newly_ready : {O : Type 0} → Flow O → List ℕ → List ℕ
@@ -43,7 +44,7 @@ pub record Looked {O : Type 0} (seen : List ℕ) (engine engine' : Engine O) : T
   pub actors : engine'.ready.actors ≡ engine.ready.actors
   pub list : engine'.ready.list ≡ engine.ready.list ++ filter (is_new engine.flow engine.ready.list) seen
   pub waits : (actor : ℕ) → slice_index engine'.waits.items actor
-      ≡ (if contains seen actor then waiting engine.flow (seat_number (length engine.flow.seats.items) actor) else slice_index engine.waits.items actor)
+      ≡ (if contains_number seen actor then waiting engine.flow (seat_number (length engine.flow.seats.items) actor) else slice_index engine.waits.items actor)
   pub waits_len : length engine'.waits.items ≡ length engine.waits.items
 
 -- there is room for each actor of the flow

@@ -9,7 +9,7 @@ use Rattle.sq_value.specs.Lists.{IsPrefixOf}
 use Rattle.sq_oper.specs.declared.outs.Decision.{Decision}
 use Rattle.sq_oper.specs.declared.outs.Event.{Event}
 use Rattle.sq_oper.specs.Given.{ThingsUpTo}
-use Rattle.sq_oper.specs.Streams.{things, IsSoundTuple}
+use Rattle.sq_oper.specs.Streams.{things, IsSoundTuple, tuples_in}
 use Rattle.sq_left.specs.Left.{Holding, Facts, coming, inputs, left, still_dropped, lost_in_all, fed_in_all}
 use Rattle.sq_left.specs.Heads.{AllFine}
 use Rattle.sq_pool.specs.Trust.{IsLater, known, Tells}
@@ -25,7 +25,7 @@ use Rattle.sq_flow.specs.Takes.{NotChanged}
 use Rattle.sq_flow.specs.Causes.{IsFeedCause}
 use Rattle.sq_flow.specs.Wiring.{net_of, from_of, IsOwn, IsShaped}
 use Rattle.sq_flow.specs.Seats.{Meaning, rest_at, decides_at, lost_at, taken_at, moment_at, done_at, holds_at, IsSeat, Owns}
-use Rattle.sq_flow.specs.Events.{bodies, lines_of, drops_of, ShowsIn}
+use Rattle.sq_flow.specs.Events.{lines_of, drops_of, ShowsIn}
 use Rattle.sq_flow.specs.Plans.{IsPlanned, plans_left, plans_of}
 
 abbrev pub tuples_to_come : Option Recorded → List Tuple
@@ -82,7 +82,7 @@ pub record HoldsItems {O : Type 0} (m : Meaning O) (table : ℕ → ℕ → ℕ)
 
 -- the tuples that an output will still show
 abbrev pub lines_left : {O : Type 0} → Meaning O → (ℕ → ℕ → ℕ) → (ℕ → List Item) → Flow O → ℕ → List Tuple
-lines_left m table items flow output = bodies (coming (net_of flow.wires) (world_of m table items flow) flow.wires.order.items (flow.wires.shown + output) 0)
+lines_left m table items flow output = tuples_in (coming (net_of flow.wires) (world_of m table items flow) flow.wires.order.items (flow.wires.shown + output) 0)
 
 -- the batches that an operator will still drop
 abbrev pub decisions_left : {O : Type 0} → Meaning O → (ℕ → ℕ → ℕ) → (ℕ → List Item) → Flow O → ℕ → List Decision

@@ -9,9 +9,9 @@ use Rattle.sq_item.specs.Sound.{IsSoundItem}
 use Rattle.sq_oper.specs.Given.{given}
 use Rattle.sq_oper.specs.declared.outs.Decision.{Decision}
 use Rattle.sq_left.specs.Left.{Net, is_known_actor, IsLaidOut}
-use Rattle.sq_sched.specs.Ready.{contains}
 use Rattle.sq_flow.specs.declared.wires.Arc.{Arc}
 use Rattle.sq_flow.specs.declared.wires.Wires.{Wires}
+use Rattle.sq_value.specs.Lists.{contains_number}
 
 abbrev pub numbers_in : Option (Vec ℕ Global) → List ℕ
 numbers_in None = []
@@ -66,7 +66,7 @@ followers_of wires actor = numbers_in (slice_get wires.followers.items actor)
 -- each number is greater than the one before
 abbrev pub Climbs : List ℕ → Type 0
 Climbs [] = Unit {0}
-Climbs (x ∷ xs) = ((y : ℕ) → contains xs y ≡ true → x < y) × Climbs xs
+Climbs (x ∷ xs) = ((y : ℕ) → contains_number xs y ≡ true → x < y) × Climbs xs
 
 -- how these wires join the actors
 abbrev pub net_of : Wires → Net
@@ -123,8 +123,8 @@ pub record IsShaped (wires : Wires) (ops : ℕ) : Type 0 where
   pub outputs_end : (actor port : ℕ) → wires.shown ≤ actor → actor < ops → arcs_from wires actor port ≡ []
   pub followers_len : length wires.followers.items ≡ ops + 1
   pub followed : (arc : ℕ) → arc < length wires.arcs.items
-      → contains (followers_of wires (from_of (slice_get wires.arcs.items arc))) (to_of (slice_get wires.arcs.items arc)) ≡ true
-  pub followers_in : (actor follower : ℕ) → contains (followers_of wires actor) follower ≡ true → follower < ops
+      → contains_number (followers_of wires (from_of (slice_get wires.arcs.items arc))) (to_of (slice_get wires.arcs.items arc)) ≡ true
+  pub followers_in : (actor follower : ℕ) → contains_number (followers_of wires actor) follower ≡ true → follower < ops
   pub followers_climb : (actor : ℕ) → Climbs (followers_of wires actor)
   pub wired : IsLaidOut (net_of wires) wires.order.items
   pub listed : (actor : ℕ) → is_known_actor (net_of wires) wires.order.items actor ≡ true → actor < ops + 1

@@ -5,9 +5,8 @@ ghost use Rattle.sq_road.specs.Levels.{AgreesWith};
 ghost use Rattle.sq_outside.specs.Disks.{Pages};
 ghost use Rattle.sq_pool.specs.Trust.{IsLater, known};
 ghost use Rattle.sq_queue.specs.Faces.{Together};
-ghost use Rattle.sq_sched.specs.Ready.{contains};
 ghost use Rattle.std.specs.List.{flat_map, range_with_len};
-ghost use Rattle.sq_value.specs.Lists.{IsPrefixOf, numbers_to};
+ghost use Rattle.sq_value.specs.Lists.{IsPrefixOf, numbers_to, contains_number};
 ghost use Rattle.sq_plan.specs.Shown.{shown_after};
 ghost use Rattle.sq_flow.specs.Engines.{seat_number};
 
@@ -200,7 +199,7 @@ impl<O: Operator + Drop> Engine<O> {
     ) -> Result<Progress, RunErr>
         requires engine { IsEngine (record { rest = O.rest; decides = O.decides; lost = O.lost; place = O.place; taken = O.taken; running = O.running; takes_marks = O.takes_marks; fits = O.fits; reads = O.reads }) O.valid self.old }
         requires together { Together self.old.flow.queues (known (D.log disk.old)) }
-        requires ready { contains self.old.ready.list pick.actor ≡ true }
+        requires ready { contains_number self.old.ready.list pick.actor ≡ true }
         requires some { 1 ≤ pick.train }
         ensures ok { OnOk result (Stepped (record { rest = O.rest; decides = O.decides; lost = O.lost; place = O.place; taken = O.taken; running = O.running; takes_marks = O.takes_marks; fits = O.fits; reads = O.reads }) O.valid (known (D.log disk.old)) (known (D.log disk.new)) self.old.flow self.new.flow events.old.items events.new.items) }
         ensures engine { OnOk result (IsEngine (record { rest = O.rest; decides = O.decides; lost = O.lost; place = O.place; taken = O.taken; running = O.running; takes_marks = O.takes_marks; fits = O.fits; reads = O.reads }) O.valid self.new) }

@@ -1,7 +1,6 @@
 //! Operators in their seats.
 
 ghost use Rattle.std.specs.Prelude.{◌≡◌, ℕ, ◌+◌, ◌-◌, ◌^◌, ◌/◌, ◌<◌, ◌≤◌, true, false, [], Some, is_some, OnOk, OnErr, IfErr, length, slice_get, if◌then◌else◌};
-ghost use Rattle.sq_sched.specs.Ready.{contains};
 ghost use Rattle.sq_item.specs.Sound.{IsSoundItem};
 ghost use Rattle.sq_oper.specs.Entries.{entries};
 ghost use Rattle.sq_oper.specs.Order.{IsFuture};
@@ -12,6 +11,7 @@ ghost use Rattle.sq_flow.specs.Takes.{NotChanged};
 ghost use Rattle.sq_flow.specs.Wiring.{arcs_from};
 ghost use Rattle.sq_flow.specs.Sends.{is_sent_by};
 ghost use Rattle.sq_flow.specs.Feeds.{FeedsInto, FeedsPart, EndsInto, EndsPart};
+ghost use Rattle.sq_value.specs.Lists.{contains_number};
 
 use crate::errors::RunErr;
 use crate::noted::Noted;
@@ -54,7 +54,7 @@ pub(crate) fn feed_into<O: Operator, D: PageDisk, L: Ledger>(
     requires within { actor < length wires.now.readers.items }
     requires shown { wires.now.shown ≤ actor → (port : ℕ) → arcs_from wires.now actor port ≡ [] }
     requires there { (port place arc : ℕ) → slice_get (arcs_from wires.now actor port) place ≡ Some arc → (arc < size queues.old) × ((face queues.old arc).ended ≡ false) }
-    requires joined { (port arc : ℕ) → contains (arcs_from wires.now actor port) arc ≡ true → is_sent_by wires.now actor arc ≡ true }
+    requires joined { (port arc : ℕ) → contains_number (arcs_from wires.now actor port) arc ≡ true → is_sent_by wires.now actor arc ≡ true }
     requires together { Together queues.old (known (D.log disk.old)) }
     ensures fed { OnOk result (FeedsInto (record { rest = O.rest; decides = O.decides; lost = O.lost; place = O.place; taken = O.taken; running = O.running; takes_marks = O.takes_marks; fits = O.fits; reads = O.reads }) O.valid levels.now port item wires.now actor seat.old seat.new queues.old queues.new (known (D.log disk.old)) (known (D.log disk.new)) events.old.items events.new.items) }
     ensures part { OnErr result (FeedsPart (record { rest = O.rest; decides = O.decides; lost = O.lost; place = O.place; taken = O.taken; running = O.running; takes_marks = O.takes_marks; fits = O.fits; reads = O.reads }) levels.now port item wires.now actor seat.old events.old.items events.new.items) }
@@ -108,7 +108,7 @@ pub(crate) fn finish_into<O: Operator, D: PageDisk>(
     requires within { actor < length wires.now.readers.items }
     requires shown { wires.now.shown ≤ actor → (port : ℕ) → arcs_from wires.now actor port ≡ [] }
     requires there { (port place arc : ℕ) → slice_get (arcs_from wires.now actor port) place ≡ Some arc → (arc < size queues.old) × ((face queues.old arc).ended ≡ false) }
-    requires joined { (port arc : ℕ) → contains (arcs_from wires.now actor port) arc ≡ true → is_sent_by wires.now actor arc ≡ true }
+    requires joined { (port arc : ℕ) → contains_number (arcs_from wires.now actor port) arc ≡ true → is_sent_by wires.now actor arc ≡ true }
     requires together { Together queues.old (known (D.log disk.old)) }
     ensures finished { OnOk result (EndsInto (record { rest = O.rest; decides = O.decides; lost = O.lost; place = O.place; taken = O.taken; running = O.running; takes_marks = O.takes_marks; fits = O.fits; reads = O.reads }) O.valid wires.now actor seat.old seat.new queues.old queues.new (known (D.log disk.old)) (known (D.log disk.new)) events.old.items events.new.items) }
     ensures part { OnErr result (EndsPart (record { rest = O.rest; decides = O.decides; lost = O.lost; place = O.place; taken = O.taken; running = O.running; takes_marks = O.takes_marks; fits = O.fits; reads = O.reads }) wires.now actor seat.old events.old.items events.new.items) }

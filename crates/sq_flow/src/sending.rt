@@ -1,8 +1,7 @@
 //! What an actor gives goes to the arcs that come from it, or is shown.
 
 ghost use Rattle.std.specs.Prelude.{◌≡◌, ◌==◌, if◌then◌else◌, ℕ, ◌+◌, ◌-◌, ◌<◌, ◌≤◌, ◌++◌, ◌∷◌, [], true, false, Some, OnOk, OnErr, IfErr, length, slice_get};
-ghost use Rattle.sq_sched.specs.Ready.{contains};
-ghost use Rattle.sq_value.specs.Lists.{IsPrefixOf};
+ghost use Rattle.sq_value.specs.Lists.{IsPrefixOf, contains_number};
 ghost use Rattle.sq_item.specs.Sound.{IsSoundItem};
 ghost use Rattle.sq_item.specs.Things.{spread};
 ghost use Rattle.sq_oper.specs.Given.{given};
@@ -12,9 +11,10 @@ ghost use Rattle.sq_flow.specs.Causes.{of_queue, IsQueueCause};
 ghost use Rattle.sq_flow.specs.Takes.{NotChanged};
 ghost use Rattle.sq_flow.specs.Wiring.{arcs_from, times_in};
 ghost use Rattle.sq_flow.specs.Sends.{many, Pushes};
-ghost use Rattle.sq_flow.specs.Events.{bodies, lines_of, drops_of, of_drop, ShowsIn};
+ghost use Rattle.sq_flow.specs.Events.{lines_of, drops_of, of_drop, ShowsIn};
 ghost use Rattle.sq_flow.specs.Shows.{IsShown};
 ghost use Rattle.sq_flow.specs.Plans.{plans_of};
+ghost use Rattle.sq_oper.specs.Streams.{tuples_in};
 
 use crate::errors::RunErr;
 use crate::wires::Wires;
@@ -36,7 +36,7 @@ fn send_item<D: PageDisk>(
     requires there { (place arc : ℕ) → slice_get arcs.now place ≡ Some arc → (arc < size queues.old) × ((face queues.old arc).ended ≡ false) }
     requires sound { IsSoundItem item }
     requires together { Together queues.old (known (D.log disk.old)) }
-    ensures sent { OnOk result (Pushes queues.old queues.new (known (D.log disk.old)) (known (D.log disk.new)) (λ arc. many (times_in arc arcs.now) (spread item)) (λ time. item.time ≤ time) (λ arc. contains arcs.now arc)) }
+    ensures sent { OnOk result (Pushes queues.old queues.new (known (D.log disk.old)) (known (D.log disk.new)) (λ arc. many (times_in arc arcs.now) (spread item)) (λ time. item.time ≤ time) (λ arc. contains_number arcs.now arc)) }
     ensures cause { IfErr result (λ e. IsQueueCause queues.new (D.log disk.old) (D.log disk.new) (D.faults disk.old) (D.faults disk.new) (of_queue e)) }
     ensures honest { IfErr result (λ e. Tells (known (D.log disk.new)) → NotChanged (D.log disk.old).honest (of_queue e)) }
     ensures faults { D.faults disk.old ≤ D.faults disk.new }
@@ -66,7 +66,7 @@ pub(crate) fn send_one<D: PageDisk>(
     requires there { (place arc : ℕ) → slice_get (arcs_from wires.now actor port) place ≡ Some arc → (arc < size queues.old) × ((face queues.old arc).ended ≡ false) }
     requires sound { IsSoundItem item }
     requires together { Together queues.old (known (D.log disk.old)) }
-    ensures sent { OnOk result (Pushes queues.old queues.new (known (D.log disk.old)) (known (D.log disk.new)) (λ arc. many (times_in arc (arcs_from wires.now actor port)) (spread item)) (λ time. item.time ≤ time) (λ arc. contains (arcs_from wires.now actor port) arc)) }
+    ensures sent { OnOk result (Pushes queues.old queues.new (known (D.log disk.old)) (known (D.log disk.new)) (λ arc. many (times_in arc (arcs_from wires.now actor port)) (spread item)) (λ time. item.time ≤ time) (λ arc. contains_number (arcs_from wires.now actor port) arc)) }
     ensures cause { IfErr result (λ e. IsQueueCause queues.new (D.log disk.old) (D.log disk.new) (D.faults disk.old) (D.faults disk.new) (of_queue e)) }
     ensures honest { IfErr result (λ e. Tells (known (D.log disk.new)) → NotChanged (D.log disk.old).honest (of_queue e)) }
     ensures faults { D.faults disk.old ≤ D.faults disk.new }
@@ -83,7 +83,7 @@ pub(crate) fn send_one<D: PageDisk>(
 #[tactic(auto, using(crate::proofs::EventLemmas::event_lemmas))]
 #[inline(always)]
 fn show_item(output: u32, item: Item, events: &mut Vec<Event>) -> Result<(), AllocError>
-    ensures shown { OnOk result ((o : ℕ) → lines_of o events.new.items ≡ lines_of o events.old.items ++ (if output == o then bodies (spread item) else [])) }
+    ensures shown { OnOk result ((o : ℕ) → lines_of o events.new.items ≡ lines_of o events.old.items ++ (if output == o then tuples_in (spread item) else [])) }
     ensures err { OnErr result (events.new.items ≡ events.old.items) }
     ensures below { (outputs drops : ℕ) → output < outputs → ShowsIn outputs drops events.old.items events.new.items }
     ensures drops { (w : ℕ) → drops_of w events.new.items ≡ drops_of w events.old.items }
@@ -102,7 +102,7 @@ fn show_item(output: u32, item: Item, events: &mut Vec<Event>) -> Result<(), All
 /// Shows what an output gives at its port 0.
 #[inline(always)]
 fn show_one(output: u32, port: u32, item: Item, events: &mut Vec<Event>) -> Result<(), AllocError>
-    ensures shown { OnOk result ((o : ℕ) → lines_of o events.new.items ≡ lines_of o events.old.items ++ (if output == o then bodies (given 0 (record { 0 = port; 1 = item } ∷ [])) else [])) }
+    ensures shown { OnOk result ((o : ℕ) → lines_of o events.new.items ≡ lines_of o events.old.items ++ (if output == o then tuples_in (given 0 (record { 0 = port; 1 = item } ∷ [])) else [])) }
     ensures err { OnErr result (events.new.items ≡ events.old.items) }
     ensures below { (outputs drops : ℕ) → output < outputs → ShowsIn outputs drops events.old.items events.new.items }
     ensures drops { (w : ℕ) → drops_of w events.new.items ≡ drops_of w events.old.items }
@@ -144,7 +144,7 @@ pub(crate) fn pass_on<D: PageDisk>(
     requires there { (place arc : ℕ) → slice_get (arcs_from wires.now actor port) place ≡ Some arc → (arc < size queues.old) × ((face queues.old arc).ended ≡ false) }
     requires sound { IsSoundItem item }
     requires together { Together queues.old (known (D.log disk.old)) }
-    ensures sent { OnOk result (Pushes queues.old queues.new (known (D.log disk.old)) (known (D.log disk.new)) (λ arc. many (times_in arc (arcs_from wires.now actor port)) (spread item)) (λ time. item.time ≤ time) (λ arc. contains (arcs_from wires.now actor port) arc)) }
+    ensures sent { OnOk result (Pushes queues.old queues.new (known (D.log disk.old)) (known (D.log disk.new)) (λ arc. many (times_in arc (arcs_from wires.now actor port)) (spread item)) (λ time. item.time ≤ time) (λ arc. contains_number (arcs_from wires.now actor port) arc)) }
     ensures shown { OnOk result (IsShown wires.now actor (record { 0 = port; 1 = item } ∷ []) [] events.old.items events.new.items) }
     ensures err { OnErr result (events.new.items ≡ events.old.items) }
     ensures cause { IfErr result (IsQueueCause queues.new (D.log disk.old) (D.log disk.new) (D.faults disk.old) (D.faults disk.new)) }

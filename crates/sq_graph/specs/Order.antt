@@ -1,13 +1,10 @@
 -- The order of the boxes, and cycles.
 use Rattle.std.specs.Prelude.{◌≡◌, ◌<◌, ℕ, zero, suc, Bool, true, false, not, ◌&&◌, ◌||◌, ◌==◌, List, [], ◌∷◌, ◌++◌, length, Option, Some, None, slice_get}
 use Rattle.std.specs.List.{find, list_all, list_any, All}
-use Rattle.sq_value.specs.Lists.{numbers_to}
+use Rattle.sq_value.specs.Lists.{numbers_to, contains_number}
 use Rattle.sq_graph.specs.declared.BoxWires.{BoxWires}
 use Rattle.sq_graph.specs.declared.Wiring.{Wiring}
 use Rattle.sq_graph.specs.Wires.{Producer, Source, Port, producer_of, inputs_at, inputs_of}
-
-abbrev pub contains_number : List ℕ → ℕ → Bool
-contains_number xs n = list_any (λ x. x == n) xs
 
 -- whether a stream is a source's or one of these boxes'
 abbrev pub is_given : List ℕ → Option Producer → Bool

@@ -1,13 +1,12 @@
 -- Join: what it still gives, and the facts that it keeps.
-use Rattle.std.specs.Prelude.{ℕ, ◌-◌, ◌≤◌, ◌==◌, ◌&&◌, nat_le, Bool, if◌then◌else◌, List, [], ◌∷◌, length, take}
-use Rattle.std.specs.List.{AllByRecursion, filter}
+use Rattle.std.specs.Prelude.{ℕ, ◌-◌, ◌≤◌, ◌==◌, ◌&&◌, nat_le, Bool, if◌then◌else◌, List, [], ◌∷◌, length}
+use Rattle.std.specs.List.{AllByRecursion}
 use Rattle.sq_value.specs.declared.Value.{Value}
 use Rattle.sq_value.specs.declared.Tuple.{Tuple}
-use Rattle.sq_value.specs.Lists.{same_bytes}
 use Rattle.sq_value.specs.Values.{Columns}
 use Rattle.sq_expr.specs.Trees.{Expr}
 use Rattle.sq_item.specs.Things.{Thing}
-use Rattle.sq_lists.specs.Pairs.{pairs_from}
+use Rattle.sq_lists.specs.Pairs.{pairs_from, left_fields}
 use Rattle.sq_lists.specs.Sides.{held_of}
 use Rattle.sq_lists.specs.WindowParts.{TimesNotFalling}
 use Rattle.sq_oper.specs.Entries.{Entry}
@@ -17,10 +16,6 @@ use Rattle.sq_join.specs.Elements.{elements_of}
 -- what a Join that holds these will still give: the pairs of those that come with those before them
 abbrev pub join_rest : ℕ → Expr → List Tuple → List Tuple → List Entry → ℕ → List Thing
 join_rest size on left right future q = at_zero q (things (pairs_from size on (held_of left right) (elements_of future)))
-
--- the number of left fields: their names begin with `l_`
-abbrev pub left_fields : Columns → ℕ
-left_fields columns = length (filter (λ c. same_bytes (take 2 c.0) (108 ∷ 95 ∷ [])) columns)
 
 -- how many values a tuple of a side may have: a left one as many as there are left fields, a right one what is left of 16
 abbrev pub most_at : Columns → ℕ → ℕ

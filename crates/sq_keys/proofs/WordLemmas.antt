@@ -4,7 +4,8 @@ use Rattle.std.specs.List.{list_any, position_or_len}
 use Rattle.std.specs.Option.{option_map}
 use Rattle.std.proofs.lemmas.Bool.{cases_Bool}
 use Rattle.sq_keys.specs.declared.Pair.{Pair}
-use Rattle.sq_keys.specs.Words.{Word, is_equals, pair_in, pairs_in}
+use Rattle.sq_keys.specs.Words.{pair_in, pairs_in}
+use Rattle.sq_value.specs.CommandWords.{Word, is_equals}
 
 -- where no element passes none is first
 none_first : {X : Type 0} (p : X → Bool) (xs : List X) → position_or_len p xs ≡ length xs → list_any p xs ≡ false

@@ -9,10 +9,7 @@ use Rattle.sq_keys.specs.declared.Status.{Status}
 use Rattle.sq_keys.specs.declared.Status.TheVariants as status
 use Rattle.sq_keys.specs.Answers.{Reply, Says, Refuses, reply_of, lost_status}
 use Rattle.sq_keys.specs.Messages.{keys_message}
-
--- how many bytes a network file may have
-abbrev pub network_limit : ℕ
-network_limit = 1048576
+use Rattle.sq_reader.specs.Limits.{settings_limit}
 
 -- P of the files, where they are told
 abbrev pub WhereFilesTold : Option Files → (Files → Type 0) → Type 0
@@ -36,14 +33,14 @@ pub record Surroundings : Type 0 where
 -- the file of this name was read, and nothing else, and these are its bytes
 abbrev pub IsReadAs : Option Files → List (List ℕ × List ℕ) → List (List ℕ × List ℕ) → List ℕ → List ℕ → Type 0
 IsReadAs told before now name bytes =
-    (length bytes ≤ network_limit) × WhereFilesTold told (λ files. file files name ≡ Some bytes) × (now ≡ before ++ (name, bytes) ∷ [])
+    (length bytes ≤ settings_limit) × WhereFilesTold told (λ files. file files name ≡ Some bytes) × (now ≡ before ++ (name, bytes) ∷ [])
 
 -- why the file of this name wasn't read
 abbrev pub IsUnreadAs : Option Files → ℕ → ℕ → ℕ → ℕ → List ℕ → Status → Type 0
 IsUnreadAs told faults_before faults_now taken_before taken_now name result =
     (result ≡ status.Memory)
     ⊎ ((result ≡ status.FolderFault name) × (Rose faults_before faults_now ⊎ IsSomeAnd told (λ files. file files name ≡ None)))
-    ⊎ ((result ≡ status.TooLong name) × RoseBy (network_limit + 1) taken_before taken_now × WhereFilesTold told (λ files. IsLonger files name network_limit))
+    ⊎ ((result ≡ status.TooLong name) × RoseBy (settings_limit + 1) taken_before taken_now × WhereFilesTold told (λ files. IsLonger files name settings_limit))
 
 abbrev pub IsNetRead : List ℕ → List ℕ → Surroundings → Type 0
 IsNetRead name bytes w = IsReadAs w.told w.read_before w.read_now name bytes
@@ -75,11 +72,6 @@ KeysEnds None w result = ((result ≡ status.Usage) ⊎ (result ≡ status.Memor
 KeysEnds (Some a) w result =
     (IsNetUnread a.net w result × (w.read_now ≡ w.read_before) × (w.out_now ≡ w.out_before))
     ⊎ ((bytes : List ℕ) × IsNetRead a.net bytes w × (w.folder_now ≡ w.folder_before) × EndsBy (reply_of a bytes) w result)
-
--- a sink that told what it held tells it still, with a text appended of which P holds
-abbrev pub AppendsSuch : Option (List ℕ) → Option (List ℕ) → (List ℕ → Type 0) → Type 0
-AppendsSuch None now P = now ≡ None
-AppendsSuch (Some before) now P = (text : List ℕ) × (now ≡ Some (before ++ text)) × P text
 
 -- the message: whole, or a part of it where the sink for messages has failed
 abbrev pub TellsKeysStatus : ℕ → ℕ → Status → List ℕ → Type 0

@@ -1,16 +1,11 @@
 -- What words ask for.
-use Rattle.std.specs.Prelude.{ℕ, Bool, true, false, not, ◌&&◌, ◌==◌, nat_le, if◌then◌else◌, List, [], ◌∷◌, length, Option, Some, None, codes}
+use Rattle.std.specs.Prelude.{Bool, true, false, ◌&&◌, ◌==◌, nat_le, if◌then◌else◌, List, [], ◌∷◌, length, Option, Some, None, codes}
 use Rattle.std.specs.List.{list_any, before_first, after_first}
 use Rattle.std.specs.Option.{option_map}
 use Rattle.sq_value.specs.Lists.{same_bytes}
 use Rattle.sq_keys.specs.declared.Pair.{Pair}
 use Rattle.sq_keys.specs.declared.Asked.{Asked}
-
-abbrev pub Word : Type 0
-Word = List ℕ
-
-abbrev pub is_equals : ℕ → Bool
-is_equals b = b == 61
+use Rattle.sq_value.specs.CommandWords.{Word, is_equals, may_name}
 
 -- both sides have something
 abbrev pub whole_pair : Word → Word → Option Pair
@@ -29,11 +24,6 @@ with_pair (Some p) more = option_map (λ ps. p ∷ ps) more
 abbrev pub pairs_in : List Word → Option (List Pair)
 pairs_in [] = Some []
 pairs_in (w ∷ ws) = with_pair (pair_in w) (pairs_in ws)
-
--- whether a word may name a file: it isn't empty and doesn't begin with a dash
-abbrev pub may_name : Word → Bool
-may_name [] = false
-may_name (b ∷ bs) = not (b == 45)
 
 abbrev pub asked_by : Bool → Word → Option (List Pair) → Option Asked
 asked_by on_time net pairs = option_map (λ ps. record { on_time = on_time; net = net; pairs = ps }) pairs

@@ -10,9 +10,10 @@
 ghost use Rattle.std.specs.Prelude.{◌≡◌, ◌≢◌, ◌≤◌, map};
 ghost use Rattle.std.specs.String.{string_bytes};
 ghost use Rattle.sq_net.specs.declared.NetErr.TheVariants as net;
-ghost use Rattle.sq_keys.specs.Ends.{AppendsSuch, KeysEnds, TellsKeysStatus};
+ghost use Rattle.sq_keys.specs.Ends.{KeysEnds, TellsKeysStatus};
 ghost use Rattle.sq_keys.specs.Messages.{keys_code};
 ghost use Rattle.sq_keys.specs.Words.{asked_in};
+ghost use Rattle.sq_outside.specs.Sinks.{AppendsSuch};
 
 mod answers;
 mod keys;

@@ -2,8 +2,9 @@
 ghost use Rattle.std.specs.Prelude.{◌≡◌, ◌≢◌, ◌⊎◌, ◌≤◌, IfOk, string_bytes};
 ghost use Rattle.sq_outside.specs.Faults.{Rose};
 ghost use Rattle.sq_value.specs.Lists.{IsPrefixOf};
-ghost use Rattle.sq_keys.specs.Ends.{AppendsSuch, TellsKeysStatus};
+ghost use Rattle.sq_keys.specs.Ends.{TellsKeysStatus};
 ghost use Rattle.sq_keys.specs.Messages.{keys_message, key_why_text};
+ghost use Rattle.sq_outside.specs.Sinks.{AppendsSuch};
 
 use crate::{KeyWhy, Status};
 use sq_net::NetErr;

@@ -1,7 +1,8 @@
 // What words ask for.
 ghost use Rattle.std.specs.Prelude.{◌≡◌, ◌≤◌, Err, IfOk, None, Some, length, map};
 ghost use Rattle.std.specs.String.{string_bytes};
-ghost use Rattle.sq_keys.specs.Words.{asked_behind, asked_in, may_name, pair_in, pairs_in, whole_pair};
+ghost use Rattle.sq_keys.specs.Words.{asked_behind, asked_in, pair_in, pairs_in, whole_pair};
+ghost use Rattle.sq_value.specs.CommandWords.{may_name};
 
 use crate::{Asked, Pair, WordsErr};
 use sq_value::{ListOf, Name, same_text};

@@ -1,11 +1,13 @@
 -- Join.
-use Rattle.std.specs.Prelude.{ℕ, Bool, not, ◌&&◌, ◌==◌, if◌then◌else◌, nat_le, List, [], ◌∷◌, ◌++◌, map}
+use Rattle.std.specs.Prelude.{ℕ, Bool, not, ◌&&◌, ◌==◌, if◌then◌else◌, nat_le, List, [], ◌∷◌, ◌++◌, map, length, take}
 use Rattle.std.specs.Int.{abs_diff}
 use Rattle.std.specs.List.{filter}
 use Rattle.sq_value.specs.declared.Tuple.{Tuple}
 use Rattle.sq_expr.specs.Trees.{Expr}
 use Rattle.sq_expr.specs.Expressions.{holds_of, pair_of}
 use Rattle.sq_lists.specs.Merge.{PortTuple, merge_tuples}
+use Rattle.sq_value.specs.Values.{Columns}
+use Rattle.sq_value.specs.Lists.{same_bytes}
 
 -- whether an entry and an earlier one are of two sides, and their times differ by at most the size
 abbrev pub meets : ℕ → PortTuple → PortTuple → Bool
@@ -27,3 +29,7 @@ pairs_from size on before (now ∷ later) = pairs_of size on before now ++ pairs
 -- what a Join gives
 abbrev pub join_list_of : ℕ → Expr → List Tuple → List Tuple → List Tuple
 join_list_of size on left right = pairs_from size on [] (merge_tuples (left ∷ right ∷ []))
+
+-- the number of left fields: their names begin with `l_`
+abbrev pub left_fields : Columns → ℕ
+left_fields columns = length (filter (λ c. same_bytes (take 2 c.0) (108 ∷ 95 ∷ [])) columns)

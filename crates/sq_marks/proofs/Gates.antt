@@ -4,7 +4,6 @@ use Rattle.std.proofs.lemmas.Bool.Decides.{nat_tests}
 use Rattle.std.proofs.Math.Nat.{div-mul-le_self}
 use Rattle.std.specs.List.{filter, list_any, AllByRecursion}
 use Rattle.sq_value.specs.declared.Tuple.{Tuple}
-use Rattle.sq_graph.specs.Order.{contains_number}
 use Rattle.sq_item.specs.declared.Mark.TheVariants as mark
 use Rattle.sq_tagged.specs.Tagged.{bound_at, lessened, lessened_by}
 use Rattle.sq_tagged.specs.Boxes.{is_open, opens, gate_of}
@@ -14,6 +13,7 @@ use Rattle.sq_marks.proofs.Lists.{filter-same}
 use Rattle.sq_marks.proofs.Bounds.{bound-less}
 use Rattle.sq_marks.proofs.Nearness.{All-weaker, Somewhere-weaker}
 use Rattle.sq_marks.proofs.Keeping.{marks_of, bound-reaches}
+use Rattle.sq_value.specs.Lists.{contains_number}
 
 filter-both : {X : Type 0} (p q : X → Bool) (xs : List X) → filter q (filter p xs) ≡ filter (λ x. p x && q x) xs
 filter-both p q [] = refl

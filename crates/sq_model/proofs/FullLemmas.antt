@@ -7,14 +7,15 @@ use Rattle.std.proofs.lemmas.List.FromFn.{get_or-map-range_with_len, length-map-
 use Rattle.std.proofs.lemmas.Option.{slice_get_past}
 use Rattle.sq_value.specs.declared.Tuple.{Tuple}
 use Rattle.sq_graph.specs.Wires.{Producer, Source, Port, producers_of, producer_of, inputs_of}
-use Rattle.sq_graph.specs.Order.{can_be_next, contains_number, is_given, order_of}
+use Rattle.sq_graph.specs.Order.{can_be_next, is_given, order_of}
 use Rattle.sq_graph.proofs.Following.{order_follows}
 use Rattle.sq_graph.proofs.Reach.{and_parts, port_is_box}
 use Rattle.sq_net.specs.declared.Network.{Network}
-use Rattle.sq_model.specs.Full.{nth, box_list_at, produced, full_within, full_stream, full_streams}
+use Rattle.sq_model.specs.Full.{box_list_at, produced, full_within, full_stream, full_streams}
 use Rattle.sq_model.specs.Placed.{IsPlaced}
 use Rattle.sq_model.specs.Laws.{FollowsBoxes, AreFull}
 use Rattle.sq_model.proofs.OrderLemmas.{order_counts, order_has, parts_around}
+use Rattle.sq_value.specs.Lists.{contains_number, nth}
 
 -- each round is worked out from the one before
 abbrev Rounds : Network → List (List Tuple) → (ℕ → ℕ → List Tuple) → Type 0

@@ -7,7 +7,7 @@ use Rattle.std.proofs.lemmas.List.Sums.{sum_by-cons}
 use Rattle.std.proofs.lemmas.Option.{slice_get-get_or, slice_get-map, slice_get_within}
 use Rattle.sq_value.specs.declared.Tuple.{Tuple}
 use Rattle.sq_value.specs.Values.{Columns}
-use Rattle.sq_value.specs.Lists.{least_by}
+use Rattle.sq_value.specs.Lists.{least_by, nth}
 use Rattle.sq_graph.specs.declared.BoxKind.TheVariants as boxes
 use Rattle.sq_graph.specs.declared.BoxWires.{BoxWires}
 use Rattle.sq_graph.specs.Wires.{Port, producer_of, inputs_of, stream_at}
@@ -19,7 +19,7 @@ use Rattle.sq_net.specs.declared.Node.{Node}
 use Rattle.sq_net.specs.declared.Network.{Network}
 use Rattle.sq_net.specs.Sound.{IsSound, IsTypedBody, input_columns}
 use Rattle.sq_net.proofs.StreamLemmas.{boxes_count}
-use Rattle.sq_model.specs.Full.{nth, box_list, box_list_at, produced, full_stream, full_streams}
+use Rattle.sq_model.specs.Full.{box_list, box_list_at, produced, full_stream, full_streams}
 use Rattle.sq_model.specs.Fed.{fed_of, late_at, late_by, late_of}
 use Rattle.sq_model.specs.Laws.{LateAreTheRest}
 use Rattle.sq_model.proofs.NumberLemmas.{producer_at}

@@ -5,7 +5,7 @@ use Rattle.std.proofs.lemmas.Bool.{cases_lt}
 use Rattle.std.proofs.lemmas.List.{get_or_past}
 use Rattle.std.proofs.lemmas.List.Elements.{All-from_recursion}
 use Rattle.sq_value.specs.declared.Tuple.{Tuple}
-use Rattle.sq_value.specs.Lists.{numbers_to}
+use Rattle.sq_value.specs.Lists.{numbers_to, nth}
 use Rattle.sq_value.specs.Values.{IsStream}
 use Rattle.sq_graph.specs.Wires.{Producer, Source, Port, producers_of, producer_of, inputs_of}
 use Rattle.sq_lists.proofs.KeepLemmas.{keep_streams}
@@ -13,7 +13,7 @@ use Rattle.sq_net.specs.declared.Body.{Body}
 use Rattle.sq_net.specs.declared.Body.TheVariants.{Filter, Map, Union, BSort, Aggregate, Join, Resample}
 use Rattle.sq_net.specs.declared.Node.{Node}
 use Rattle.sq_net.specs.declared.Network.{Network}
-use Rattle.sq_model.specs.Full.{nth, box_list, box_list_at, produced, full_within, full_stream, full_streams}
+use Rattle.sq_model.specs.Full.{box_list, box_list_at, produced, full_within, full_stream, full_streams}
 
 -- a stream that isn't there is one of no tuples
 pub stream_at_number : (streams : List (List Tuple)) (s : ℕ) → All IsStream streams → IsStream (nth streams s)

@@ -6,7 +6,7 @@ use Rattle.std.specs.List.{All, filter_map, cons_option, AllByRecursion}
 use Rattle.std.proofs.lemmas.List.Elements.{recursion_from_All}
 use Rattle.sq_value.specs.declared.Tuple.{Tuple}
 use Rattle.sq_value.specs.Values.{Columns, fields_fit, kinds_of}
-use Rattle.sq_value.specs.Lists.{ports_of}
+use Rattle.sq_value.specs.Lists.{ports_of, nth}
 use Rattle.sq_expr.specs.Trees.{Checked}
 use Rattle.sq_graph.specs.declared.BoxWires.{BoxWires}
 use Rattle.sq_graph.specs.Wires.{Producer, Source, Port, producer_of, inputs_of, inputs_at}
@@ -22,7 +22,7 @@ use Rattle.sq_net.specs.Columns.{first_columns, second_columns}
 use Rattle.sq_net.specs.Sound.{IsSound, IsOver, IsTypedBody, input_columns}
 use Rattle.sq_net.specs.Streams.{columns_of_port, columns_given, columns_of_stream}
 use Rattle.sq_net.proofs.StreamLemmas.{stream_typed}
-use Rattle.sq_model.specs.Full.{nth, box_list, box_list_at, produced, full_within}
+use Rattle.sq_model.specs.Full.{box_list, box_list_at, produced, full_within}
 use Rattle.sq_model.proofs.NumberLemmas.{producer_has_number}
 use Rattle.sq_model.proofs.Alls.{time_of, union-sorted}
 use Rattle.sq_model.proofs.Alls.{by_key}

@@ -2,13 +2,13 @@
 use Rattle.std.specs.Prelude.{ℕ, ◌+◌, ◌-◌, List, length, Option, None, Some, slice_get}
 use Rattle.std.specs.List.{sum_by}
 use Rattle.sq_value.specs.declared.Tuple.{Tuple}
-use Rattle.sq_value.specs.Lists.{numbers_to}
+use Rattle.sq_value.specs.Lists.{numbers_to, nth}
 use Rattle.sq_graph.specs.Wires.{inputs_of, stream_at}
 use Rattle.sq_net.specs.declared.Network.{Network}
 use Rattle.sq_net.specs.declared.Node.{Node}
 use Rattle.sq_net.specs.declared.Body.{Body}
 use Rattle.sq_net.specs.declared.Body.TheVariants.{BSort}
-use Rattle.sq_model.specs.Full.{nth, full_streams}
+use Rattle.sq_model.specs.Full.{full_streams}
 
 -- how many tuples a box is fed over all its inputs, where these are the streams by number
 abbrev pub fed_from : Network → List (List Tuple) → ℕ → ℕ

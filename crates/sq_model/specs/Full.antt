@@ -1,7 +1,7 @@
 -- The full answer: what the boxes give on whole streams.
-use Rattle.std.specs.Prelude.{ℕ, zero, suc, ◌+◌, List, [], map, length, Option, Some, None, slice_get, slice_index_or}
+use Rattle.std.specs.Prelude.{ℕ, zero, suc, ◌+◌, List, [], map, length, Option, Some, None, slice_get}
 use Rattle.sq_value.specs.declared.Tuple.{Tuple}
-use Rattle.sq_value.specs.Lists.{numbers_to}
+use Rattle.sq_value.specs.Lists.{numbers_to, nth}
 use Rattle.sq_graph.specs.Wires.{Arc, Producer, Source, Port, producers_of, producer_of, arcs_of, inputs_of}
 use Rattle.sq_lists.specs.Merge.{union}
 use Rattle.sq_lists.specs.Boxes.{filter_list_of, map_list_of}
@@ -13,10 +13,6 @@ use Rattle.sq_net.specs.declared.Network.{Network}
 use Rattle.sq_net.specs.declared.Node.{Node}
 use Rattle.sq_net.specs.declared.Body.{Body}
 use Rattle.sq_net.specs.declared.Body.TheVariants.{Filter, Map, Union, BSort, Aggregate, Join, Resample}
-
--- the stream of this number among some streams
-abbrev pub nth : List (List Tuple) → ℕ → List Tuple
-nth streams i = slice_index_or streams i []
 
 -- what a box gives at a port, numbered from 0, for the streams of its inputs
 abbrev pub box_list : Body → ℕ → List (List Tuple) → List Tuple

@@ -12,9 +12,10 @@ use Rattle.sq_place.specs.declared.DropAt.TheVariants as at
 use Rattle.sq_net.specs.Sound.{IsSound}
 use Rattle.sq_points.specs.Points.{points_of}
 use Rattle.sq_model.specs.declared.known.Known.{Known}
-use Rattle.sq_model.specs.Full.{nth, full_streams}
+use Rattle.sq_model.specs.Full.{full_streams}
 use Rattle.sq_model.specs.Shedding.{Replay}
 use Rattle.sq_model.specs.Given.{IsMeasured, LevelsAre}
+use Rattle.sq_value.specs.Lists.{nth}
 
 abbrev pub streams_in : Known → List (List Tuple)
 streams_in k = map (λ t. t.items) k.streams.items

@@ -1,9 +1,8 @@
 // What is dropped, shown and fed in a replay.
 ghost use Rattle.std.specs.Prelude.{◌≡◌, ◌+◌, ◌<◌, ◌^◌, ◌==◌, map, length, Some, slice_get, IfOk, IfSome};
 ghost use Rattle.std.specs.List.{All, list_any, sum_by};
-ghost use Rattle.sq_value.specs.Lists.{numbers_to};
+ghost use Rattle.sq_value.specs.Lists.{numbers_to, contains_number};
 ghost use Rattle.sq_value.specs.Values.{IsStream};
-ghost use Rattle.sq_graph.specs.Order.{contains_number};
 ghost use Rattle.sq_graph.specs.Wires.{output_arc_at};
 ghost use Rattle.sq_net.specs.Sound.{IsSound};
 ghost use Rattle.sq_points.specs.Limits.{KeepsDropLimits};

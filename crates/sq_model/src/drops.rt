@@ -1,9 +1,9 @@
 // What is dropped, shown and kept, where the drop points and the levels are given.
 ghost use Rattle.std.specs.Prelude.{◌≡◌, ℕ, ◌&&◌, not, length, nat_lt, ◌+◌, ◌-◌, ◌*◌, ◌/◌, ◌<◌, ◌≤◌, ◌^◌, ◌++◌, ◌∷◌, [], if◌then◌else◌, false, IfOk, OnOk};
 ghost use Rattle.sq_value.specs.Values.{IsStream};
-ghost use Rattle.sq_graph.specs.Order.{contains_number};
 ghost use Rattle.sq_model.specs.Shedding.{is_touched, last_of};
 ghost use Rattle.sq_model.specs.Given.{drops_at, record_by, needed_by, needs_at, kept_by, shown_without, IsMeasured, AreTicks};
+ghost use Rattle.sq_value.specs.Lists.{contains_number};
 
 use sq_place::DropPoint;
 use sq_road::{Levels, draw};

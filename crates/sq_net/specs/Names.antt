@@ -1,18 +1,17 @@
 -- What a name is.
-use Rattle.std.specs.Prelude.{ℕ, Bool, false, not, ◌&&◌, ◌||◌, ◌==◌, nat_lt, nat_le, List, [], ◌∷◌, length, codes}
+use Rattle.std.specs.Prelude.{ℕ, Bool, false, not, ◌&&◌, ◌||◌, ◌==◌, nat_lt, List, [], ◌∷◌, length, codes, ◌++◌}
 use Rattle.std.specs.List.{list_all}
 use Rattle.sq_value.specs.Lists.{contains_bytes}
 use Rattle.sq_value.specs.Texts.{is_digit}
-
-abbrev pub is_lower : ℕ → Bool
-is_lower b = nat_le 97 b && nat_le b 122
+use Rattle.sq_expr.specs.Tokens.{is_letter}
+use Rattle.std.specs.Fmt.{decimal}
 
 abbrev pub may_follow : ℕ → Bool
-may_follow b = is_lower b || is_digit b || (b == 95)
+may_follow b = is_letter b || is_digit b || (b == 95)
 
 abbrev pub has_name_form : List ℕ → Bool
 has_name_form [] = false
-has_name_form (b ∷ bs) = is_lower b && list_all may_follow bs && nat_lt (length bs) 32
+has_name_form (b ∷ bs) = is_letter b && list_all may_follow bs && nat_lt (length bs) 32
 
 -- the words of expressions that are no names
 abbrev pub reserved : List (List ℕ)
@@ -21,3 +20,7 @@ reserved = codes "and" ∷ codes "or" ∷ codes "not" ∷ codes "is" ∷ codes "
 -- a lower-case letter, then lower-case letters, digits and `_`, at most 32 in all, and none of the reserved words
 abbrev pub is_name : List ℕ → Bool
 is_name w = has_name_form w && not (contains_bytes w reserved)
+
+-- the name of a port of a Filter; ports count from 1 in a file
+abbrev pub port_name : List ℕ → ℕ → List ℕ
+port_name name number = name ++ (46 ∷ decimal number)

@@ -1,10 +1,11 @@
 -- Tuples as they stand in tagged lists.
-use Rattle.std.specs.Prelude.{ℕ, ◌^◌, ◌<◌, ◌==◌, if◌then◌else◌, List, [], ◌∷◌, ◌++◌, map, Some}
+use Rattle.std.specs.Prelude.{ℕ, ◌^◌, ◌<◌, ◌==◌, if◌then◌else◌, List, [], ◌∷◌, ◌++◌, map, Some, nat_lt, Bool}
 use Rattle.std.specs.List.{filter}
 use Rattle.sq_value.specs.declared.Tuple.{Tuple}
 use Rattle.sq_item.specs.Sound.{IsBody}
 use Rattle.sq_item.specs.Things.{Load, Sign, Body, Thing}
 use Rattle.sq_oper.specs.Entries.{Entry}
+use Rattle.sq_value.specs.declared.Value.{Value}
 
 -- a tuple that an item may carry: its time is a tick, and it has 1 to 16 values
 abbrev pub IsSoundTuple : Tuple → Type 0
@@ -32,3 +33,19 @@ things xs = map thing_of xs
 -- what a box with one port gives there
 abbrev pub at_zero : {A : Type 0} → ℕ → List A → List A
 at_zero q xs = if 0 == q then xs else []
+
+abbrev pub tuples_in : List Thing → List Tuple
+tuples_in [] = []
+tuples_in (x ∷ xs) = tuple_in x.time x.load ++ tuples_in xs
+
+-- what stands at each of the first ports
+abbrev pub at_ports_below : {A : Type 0} → ℕ → ℕ → List A → List A
+at_ports_below ports q xs = if nat_lt q ports then xs else []
+
+-- marks come at port 0 alone
+abbrev pub first_port : ℕ → Bool
+first_port port = port == 0
+
+-- tuples come at port 0
+abbrev pub port_fits : ℕ → List Value → Bool
+port_fits port fields = port == 0

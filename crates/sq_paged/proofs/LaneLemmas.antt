@@ -12,7 +12,7 @@ use Rattle.sq_pool.specs.Pools.{Pooled}
 use Rattle.sq_pool.specs.Trust.{Tells}
 use Rattle.sq_paged.specs.Fronts.{Face, IsFaceOf, IsPopped, first_time, first_time_or, pushed}
 use Rattle.sq_paged.specs.Kept.{items_kept}
-use Rattle.sq_paged.specs.Faces.{face, paged_face_at, nodes_on, paged_items_on, items_along, IsKeptPage, IsPagedLane, PagedTogether, kept_at, count_along, is_first, last_node, last_at, last_if}
+use Rattle.sq_paged.specs.Faces.{paged_face, paged_face_at, nodes_on, paged_items_on, items_along, IsKeptPage, IsPagedLane, PagedTogether, kept_at, count_along, is_first, last_node, last_at, last_if}
 use Rattle.sq_paged.specs.Steps.{AddsItem, Removes}
 use Rattle.sq_paged.specs.declared.Lane.{Lane}
 use Rattle.sq_paged.specs.declared.store.Kept.{Kept}
@@ -104,14 +104,14 @@ popped-together q told m now r arc item lane new g p inside was lanes is =
     })
 
 pub popped-face : (q : Queues) (told : Option Pages) (m : Queues) (now : Option Pages) (r : Queues) (arc : ℕ) (item : Item) (lane new : Lane) → PagedTogether q told → Removes q told m now arc item → arc < length q.lanes.items
-    → slice_get q.lanes.items arc ≡ Some lane → r.lanes.items ≡ set q.lanes.items arc new → new ≡ popped lane (front_of m.kept.items (nodes_on m arc)) → IsPopped (face q arc) (face r arc)
+    → slice_get q.lanes.items arc ≡ Some lane → r.lanes.items ≡ set q.lanes.items arc new → new ≡ popped lane (front_of m.kept.items (nodes_on m arc)) → IsPopped (paged_face q arc) (paged_face r arc)
 popped-face q told m now r arc item lane new g p inside was lanes is =
     let l = popped-lane q told m now arc item lane g p was in
     let own = g.lanes arc in
     let wasc : (paged_face_at (slice_get q.lanes.items arc)).count ≡ lane.count = ap (λ (o : Option Lane). (paged_face_at o).count) was in
     let front = front_of m.kept.items (nodes_on m arc) in
-    let will : face r arc ≡ paged_face_at (Some (popped lane front)) = ap (λ (ls : List Lane). paged_face_at (slice_get ls arc)) lanes ∙ ap paged_face_at (slice_get-set_same q.lanes.items arc new inside) ∙ ap (λ (x : Lane). paged_face_at (Some x)) is in
-    subst (λ (f : Face). IsPopped (face q arc) f) (sym will) (record {
+    let will : paged_face r arc ≡ paged_face_at (Some (popped lane front)) = ap (λ (ls : List Lane). paged_face_at (slice_get ls arc)) lanes ∙ ap paged_face_at (slice_get-set_same q.lanes.items arc new inside) ∙ ap (λ (x : Lane). paged_face_at (Some x)) is in
+    subst (λ (f : Face). IsPopped (paged_face q arc) f) (sym will) (record {
       count = omega (arith, wasc, own.count, p.count);
       first = l.first;
       ended = ap (λ (o : Option Lane). (paged_face_at o).ended) (sym was);

@@ -7,7 +7,7 @@ use Rattle.sq_link.specs.Chained.{list_at, StandsIn}
 use Rattle.sq_outside.specs.Disks.{Pages}
 use Rattle.sq_pool.specs.Pools.{is_held, Agree}
 use Rattle.sq_paged.specs.Fronts.{Face, IsFaceOf}
-use Rattle.sq_paged.specs.Faces.{paged_face_at, face, nodes_on, paged_items_on, items_along, IsPagedLane, PagedTogether, no_items}
+use Rattle.sq_paged.specs.Faces.{paged_face_at, paged_face, nodes_on, paged_items_on, items_along, IsPagedLane, PagedTogether, no_items}
 use Rattle.sq_paged.specs.declared.store.Kept.{Kept}
 use Rattle.sq_paged.specs.declared.Lane.{Lane}
 use Rattle.sq_paged.specs.declared.Queues.{Queues}
@@ -39,7 +39,7 @@ new-items q arcs told arc lists = ap (λ (ls : List (List ℕ)). items_along q.p
 pub new-together : (q : Queues) (arcs : ℕ) (told : Option Pages) → Agree q.pool told → ((page : ℕ) → is_held q.pool page ≡ false) → q.chains.lists ≡ replicate arcs [] → q.chains.nodes ≡ 0 → q.kept.items ≡ [] → q.lanes.items ≡ replicate arcs no_items → PagedTogether q told
 new-together q arcs told agree held lists nodes kept lanes =
     let none : (arc : ℕ) → nodes_on q arc ≡ [] = λ arc. ap (λ (ls : List (List ℕ)). list_at ls arc) lists ∙ none-listed arcs arc in
-    let empty : (arc : ℕ) → face q arc ≡ no_face = λ arc. ap (λ (ls : List Lane). paged_face_at (slice_get ls arc)) lanes ∙ none-face arcs arc in
+    let empty : (arc : ℕ) → paged_face q arc ≡ no_face = λ arc. ap (λ (ls : List Lane). paged_face_at (slice_get ls arc)) lanes ∙ none-face arcs arc in
     record {
       agree = agree;
       arcs = ap length lists ∙ length-replicate {A = List ℕ} arcs [] ∙ sym (ap length lanes ∙ length-replicate {A = Lane} arcs no_items);

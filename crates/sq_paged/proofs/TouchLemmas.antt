@@ -10,7 +10,7 @@ use Rattle.sq_pool.specs.Pools.{is_held}
 use Rattle.sq_pool.specs.Trust.{Tells}
 use Rattle.sq_paged.specs.Fronts.{Face, IsFaceOf}
 use Rattle.sq_paged.specs.Kept.{items_kept, Spares}
-use Rattle.sq_paged.specs.Faces.{face, paged_face_at, nodes_on, paged_items_on, items_along, IsKeptPage, IsPagedLane, IsOfNode, PagedTogether, kept_at}
+use Rattle.sq_paged.specs.Faces.{paged_face, paged_face_at, nodes_on, paged_items_on, items_along, IsKeptPage, IsPagedLane, IsOfNode, PagedTogether, kept_at}
 use Rattle.sq_paged.specs.Steps.{KeepsOthers}
 use Rattle.sq_paged.specs.declared.Lane.{Lane}
 use Rattle.sq_paged.specs.declared.store.Kept.{Kept}
@@ -176,9 +176,9 @@ together-by q told m now r arc lane g k inside lanes own faced =
       standing = k.standing;
       faces = λ tells l.
           elim (cases_eq l arc) [
-            | inl same ↦ subst (λ (n : ℕ). IsFaceOf (face r n) (paged_items_on m now n)) (sym same) (subst (λ (f : Face). IsFaceOf f (paged_items_on m now arc)) (sym (ap paged_face_at here)) (faced tells))
+            | inl same ↦ subst (λ (n : ℕ). IsFaceOf (paged_face r n) (paged_items_on m now n)) (sym same) (subst (λ (f : Face). IsFaceOf f (paged_items_on m now arc)) (sym (ap paged_face_at here)) (faced tells))
             | inr away ↦
-                subst (λ (xs : List Item). IsFaceOf (face r l) xs) (sym (k.others tells l away)) (subst (λ (f : Face). IsFaceOf f (paged_items_on q told l)) (sym (ap paged_face_at (there l away))) (g.faces (k.tells tells) l))
+                subst (λ (xs : List Item). IsFaceOf (paged_face r l) xs) (sym (k.others tells l away)) (subst (λ (f : Face). IsFaceOf f (paged_items_on q told l)) (sym (ap paged_face_at (there l away))) (g.faces (k.tells tells) l))
           ];
     }
 

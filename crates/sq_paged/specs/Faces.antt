@@ -23,11 +23,11 @@ paged_face_at (Some lane) = record { count = lane.count; first = lane.first; end
 abbrev pub no_items : Lane
 no_items = record { count = 0; first = None; last = None; ended = false }
 
-abbrev pub face : Queues → ℕ → Face
-face queues arc = paged_face_at (slice_get queues.lanes.items arc)
+abbrev pub paged_face : Queues → ℕ → Face
+paged_face queues arc = paged_face_at (slice_get queues.lanes.items arc)
 
-abbrev pub size : Queues → ℕ
-size queues = length queues.lanes.items
+abbrev pub paged_size : Queues → ℕ
+paged_size queues = length queues.lanes.items
 
 abbrev pub paged_frames : Queues → ℕ
 paged_frames queues = queues.pool.frames
@@ -105,7 +105,7 @@ pub record PagedTogether (queues : Queues) (told : Option Pages) : Type 0 where
   pub apart : (arc node other_arc other : ℕ) → StandsIn node (nodes_on queues arc) → StandsIn other (nodes_on queues other_arc) → node ≢ other
       → (kept_at queues.kept.items node).page ≢ (kept_at queues.kept.items other).page
   pub standing : (page : ℕ) → is_held queues.pool page ≡ true → IsOfNode queues page
-  pub faces : Tells told → (arc : ℕ) → IsFaceOf (face queues arc) (paged_items_on queues told arc)
+  pub faces : Tells told → (arc : ℕ) → IsFaceOf (paged_face queues arc) (paged_items_on queues told arc)
 
 -- all that queues keep of arcs and of pages is as before
 pub record SameTables (q r : Queues) : Type 0 where

@@ -15,7 +15,7 @@ ghost use Rattle.sq_outside.specs.Faults.{Rose};
 ghost use Rattle.sq_paged.specs.Fronts.{head_by, pushed, IsPopped};
 ghost use Rattle.sq_pool.specs.Trust.{IsLater, Tells, known};
 ghost use Rattle.sq_paged.specs.Kept.{IsTold, IsCause, NoMisfit};
-ghost use Rattle.sq_paged.specs.Faces.{face, size, paged_frames, paged_frames as frames_of, paged_resident_of, paged_items_on, PagedTogether, no_items, last_if, IsKeptPage, kept_at, IsPagedRefusal, SameTables};
+ghost use Rattle.sq_paged.specs.Faces.{paged_face, paged_size, paged_frames, paged_frames as frames_of, paged_resident_of, paged_items_on, PagedTogether, no_items, last_if, IsKeptPage, kept_at, IsPagedRefusal, SameTables};
 ghost use Rattle.sq_paged.specs.Steps.{AppendsAt, TakesAt, StartsAt, DropsAt, AddsItem, Removes};
 ghost use Rattle.sq_page.specs.Pages.{item_bytes};
 ghost use Rattle.sq_pool.specs.Pools.{Agree, is_held};
@@ -90,9 +90,9 @@ impl Queues {
     /// Empty queues for so many arcs, none of which has ended, with `frames` pages in memory at most.
     pub fn new(alloc: Global, arcs: u32, frames: u32) -> Result<Queues, AllocError>
         requires { 2 ≤ frames }
-        ensures size { IfOk result (λ q. size q ≡ arcs) }
+        ensures size { IfOk result (λ q. paged_size q ≡ arcs) }
         ensures frames { IfOk result (λ q. frames_of q ≡ frames) }
-        ensures faces { IfOk result (λ q. (arc : ℕ) → face q arc ≡ record { count = 0; first = None; ended = false }) }
+        ensures faces { IfOk result (λ q. (arc : ℕ) → paged_face q arc ≡ record { count = 0; first = None; ended = false }) }
         ensures items { IfOk result (λ q. (pages : Option Pages) (arc : ℕ) → paged_items_on q pages arc ≡ []) }
         ensures together { IfOk result (λ q. (pages : Option Pages) → PagedTogether q pages) }
     {
@@ -109,13 +109,13 @@ impl Queues {
     /// Appends a copy of an item to an arc that hasn't ended. At an error all other arcs have the faces that they had, and the
     /// queues are done: no call is to follow.
     pub fn push<D: PageDisk>(&mut self, disk: &mut D, arc: u32, item: &Item) -> Result<(), QueueErr>
-        requires there { arc < size self.old }
-        requires open { (face self.old arc).ended ≡ false }
+        requires there { arc < paged_size self.old }
+        requires open { (paged_face self.old arc).ended ≡ false }
         requires sound { IsSoundItem item.now }
         requires together { PagedTogether self.old (known (D.log disk.old)) }
-        ensures face { OnOk result (face self.new arc ≡ pushed (face self.old arc) item.now.time) }
-        ensures faces { (other : ℕ) → other ≢ arc → face self.new other ≡ face self.old other }
-        ensures size { size self.new ≡ size self.old }
+        ensures face { OnOk result (paged_face self.new arc ≡ pushed (paged_face self.old arc) item.now.time) }
+        ensures faces { (other : ℕ) → other ≢ arc → paged_face self.new other ≡ paged_face self.old other }
+        ensures size { paged_size self.new ≡ paged_size self.old }
         ensures frames { OnOk result (paged_frames self.new ≡ paged_frames self.old) }
         ensures items { OnOk result (Tells (known (D.log disk.new)) → paged_items_on self.new (known (D.log disk.new)) arc ≡ paged_items_on self.old (known (D.log disk.old)) arc ++ item.now ∷ []) }
         ensures others { OnOk result (Tells (known (D.log disk.new)) → (other : ℕ) → other ≢ arc → paged_items_on self.new (known (D.log disk.new)) other ≡ paged_items_on self.old (known (D.log disk.old)) other) }
@@ -148,13 +148,13 @@ impl Queues {
 
     /// Appends an item to an arc that hasn't ended, as `push` does, and lets it go.
     pub fn send<D: PageDisk>(&mut self, disk: &mut D, arc: u32, item: Item) -> Result<(), QueueErr>
-        requires there { arc < size self.old }
-        requires open { (face self.old arc).ended ≡ false }
+        requires there { arc < paged_size self.old }
+        requires open { (paged_face self.old arc).ended ≡ false }
         requires sound { IsSoundItem item }
         requires together { PagedTogether self.old (known (D.log disk.old)) }
-        ensures face { OnOk result (face self.new arc ≡ pushed (face self.old arc) item.time) }
-        ensures faces { (other : ℕ) → other ≢ arc → face self.new other ≡ face self.old other }
-        ensures size { size self.new ≡ size self.old }
+        ensures face { OnOk result (paged_face self.new arc ≡ pushed (paged_face self.old arc) item.time) }
+        ensures faces { (other : ℕ) → other ≢ arc → paged_face self.new other ≡ paged_face self.old other }
+        ensures size { paged_size self.new ≡ paged_size self.old }
         ensures frames { OnOk result (paged_frames self.new ≡ paged_frames self.old) }
         ensures items { OnOk result (Tells (known (D.log disk.new)) → paged_items_on self.new (known (D.log disk.new)) arc ≡ paged_items_on self.old (known (D.log disk.old)) arc ++ item ∷ []) }
         ensures others { OnOk result (Tells (known (D.log disk.new)) → (other : ℕ) → other ≢ arc → paged_items_on self.new (known (D.log disk.new)) other ≡ paged_items_on self.old (known (D.log disk.old)) other) }
@@ -174,13 +174,13 @@ impl Queues {
     /// Takes the first item of an arc, where one stands. At an error all other arcs have the faces that they had, and the
     /// queues are done: no call is to follow.
     pub fn pop<D: PageDisk>(&mut self, disk: &mut D, arc: u32) -> Result<Item, QueueErr>
-        requires there { arc < size self.old }
-        requires some { is_some (face self.old arc).first ≡ true }
+        requires there { arc < paged_size self.old }
+        requires some { is_some (paged_face self.old arc).first ≡ true }
         requires together { PagedTogether self.old (known (D.log disk.old)) }
         ensures sound { IfOk result IsSoundItem }
-        ensures face { OnOk result (IsPopped (face self.old arc) (face self.new arc)) }
-        ensures faces { (other : ℕ) → other ≢ arc → face self.new other ≡ face self.old other }
-        ensures size { size self.new ≡ size self.old }
+        ensures face { OnOk result (IsPopped (paged_face self.old arc) (paged_face self.new arc)) }
+        ensures faces { (other : ℕ) → other ≢ arc → paged_face self.new other ≡ paged_face self.old other }
+        ensures size { paged_size self.new ≡ paged_size self.old }
         ensures frames { OnOk result (paged_frames self.new ≡ paged_frames self.old) }
         ensures items { IfOk result (λ item. Tells (known (D.log disk.new)) → paged_items_on self.old (known (D.log disk.old)) arc ≡ item ∷ paged_items_on self.new (known (D.log disk.new)) arc) }
         ensures others { OnOk result (Tells (known (D.log disk.new)) → (other : ℕ) → other ≢ arc → paged_items_on self.new (known (D.log disk.new)) other ≡ paged_items_on self.old (known (D.log disk.old)) other) }
@@ -205,8 +205,8 @@ impl Queues {
 
     /// What stands first on an arc.
     pub fn head(&self, arc: u32) -> Head
-        requires { arc < size self.now }
-        ensures { result ≡ head_by (face self.now arc).ended (face self.now arc).first }
+        requires { arc < paged_size self.now }
+        ensures { result ≡ head_by (paged_face self.now arc).ended (paged_face self.now arc).first }
     {
         let lane = self.lanes[arc as usize];
         match lane.first {
@@ -217,10 +217,10 @@ impl Queues {
 
     /// An arc has ended: nothing more is pushed there.
     pub fn end(&mut self, arc: u32)
-        requires { arc < size self.old }
-        ensures face { face self.new arc ≡ record (face self.old arc) { ended = true } }
-        ensures faces { (other : ℕ) → other ≢ arc → face self.new other ≡ face self.old other }
-        ensures size { size self.new ≡ size self.old }
+        requires { arc < paged_size self.old }
+        ensures face { paged_face self.new arc ≡ record (paged_face self.old arc) { ended = true } }
+        ensures faces { (other : ℕ) → other ≢ arc → paged_face self.new other ≡ paged_face self.old other }
+        ensures size { paged_size self.new ≡ paged_size self.old }
         ensures frames { paged_frames self.new ≡ paged_frames self.old }
         ensures items { (pages : Option Pages) (other : ℕ) → paged_items_on self.new pages other ≡ paged_items_on self.old pages other }
         ensures together { (pages : Option Pages) → PagedTogether self.old pages → PagedTogether self.new pages }
@@ -230,8 +230,8 @@ impl Queues {
 
     /// How many items stand on an arc.
     pub fn len(&self, arc: u32) -> u64
-        requires { arc < size self.now }
-        ensures { result ≡ (face self.now arc).count }
+        requires { arc < paged_size self.now }
+        ensures { result ≡ (paged_face self.now arc).count }
     {
         self.lanes[arc as usize].count
     }
@@ -246,7 +246,7 @@ impl Queues {
 
     // Puts an item behind the last of an arc, into the last page or into a new one. Gives the node of that page.
     fn add<D: PageDisk>(&mut self, disk: &mut D, arc: u32, item: &Item) -> Result<u64, QueueErr>
-        requires there { arc < size self.old }
+        requires there { arc < paged_size self.old }
         requires sound { IsSoundItem item.now }
         requires together { PagedTogether self.old (known (D.log disk.old)) }
         ensures ok { IfOk result (λ node. AddsItem self.old (known (D.log disk.old)) self.new (known (D.log disk.new)) arc node item.now) }
@@ -271,8 +271,8 @@ impl Queues {
 
     // Takes the first item of an arc. A page of which nothing is left is let go.
     fn take<D: PageDisk>(&mut self, disk: &mut D, arc: u32) -> Result<Item, QueueErr>
-        requires there { arc < size self.old }
-        requires some { is_some (face self.old arc).first ≡ true }
+        requires there { arc < paged_size self.old }
+        requires some { is_some (paged_face self.old arc).first ≡ true }
         requires together { PagedTogether self.old (known (D.log disk.old)) }
         ensures ok { IfOk result (λ item. Removes self.old (known (D.log disk.old)) self.new (known (D.log disk.new)) arc item) }
         ensures sound { IfOk result IsSoundItem }

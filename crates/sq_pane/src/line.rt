@@ -5,7 +5,8 @@ ghost use Rattle.std.specs.Ordering.{nat_cmp};
 ghost use Rattle.std.specs.List.{AllByRecursion, filter};
 ghost use Rattle.sq_aggfn.specs.Keyed.{added};
 ghost use Rattle.sq_pane.specs.Blocks.{joined_onto, IsJoin, AreBlocks, begins_before};
-ghost use Rattle.sq_pane.specs.Panes.{NumbersRise, Rises-prop, shift_of, within, joined_within, total, AllAreMade, IsMadeIf, number_if};
+ghost use Rattle.sq_pane.specs.Panes.{NumbersRise, Rises-prop, shift_of, within, joined_within, total, AllAreMade, IsMadeIf};
+ghost use Rattle.sq_aggfn.specs.Folds.{number_if};
 
 use sq_aggfn::{Fold, WindowSpec};
 use sq_value::Tuple;

@@ -1,5 +1,5 @@
 ghost use Rattle.std.specs.Prelude.{◌≡◌};
-ghost use Rattle.sq_join.specs.Sides.{left_fields};
+ghost use Rattle.sq_lists.specs.Pairs.{left_fields};
 
 use crate::feeding::outs_of;
 use crate::numbers::over_pairs;

@@ -1,7 +1,7 @@
 // Tuples of one number, expressions over pairs of them, and marks.
 ghost use Rattle.std.specs.Prelude.{◌≡◌, ◌<◌, ◌≤◌, ◌^◌, ◌∷◌, [], None, Some, length, IfOk};
 ghost use Rattle.sq_item.specs.Sound.{IsMark, IsSoundItem};
-ghost use Rattle.sq_join.specs.Sides.{left_fields};
+ghost use Rattle.sq_lists.specs.Pairs.{left_fields};
 
 use sq_expr::{Typed, check, parse};
 use sq_item::{Body, Item, Mark, Sign};

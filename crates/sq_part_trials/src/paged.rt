@@ -1,5 +1,5 @@
 ghost use Rattle.std.specs.Prelude.{◌≡◌, false, OnOk};
-ghost use Rattle.sq_paged.specs.Faces.{PagedTogether, face, size};
+ghost use Rattle.sq_paged.specs.Faces.{PagedTogether, paged_face, paged_size};
 ghost use Rattle.sq_pool.specs.Trust.{known};
 
 use crate::numbers::mark_at;
@@ -11,10 +11,10 @@ use std::test::Fail;
 
 // Pushes an item of time 5 on arc 1, sends one of time 7 there, and ends it.
 fn fill<D: PageDisk>(alloc: Global, queues: &mut Queues, disk: &mut D) -> Result<(), QueueErr>
-    requires size { size queues.old ≡ 2 }
-    requires open { (face queues.old 1).ended ≡ false }
+    requires size { paged_size queues.old ≡ 2 }
+    requires open { (paged_face queues.old 1).ended ≡ false }
     requires together { PagedTogether queues.old (known (D.log disk.old)) }
-    ensures size { OnOk result (size queues.new ≡ 2) }
+    ensures size { OnOk result (paged_size queues.new ≡ 2) }
     ensures together { OnOk result (PagedTogether queues.new (known (D.log disk.new))) }
 {
     queues.push(disk, 1, &mark_at(alloc, 5, Mark::Closed))?;
@@ -29,9 +29,9 @@ fn take<D: PageDisk>(
     queues: &mut Queues,
     disk: &mut D,
 ) -> Result<Option<(u64, Head, u64, u32)>, QueueErr>
-    requires size { size queues.old ≡ 2 }
+    requires size { paged_size queues.old ≡ 2 }
     requires together { PagedTogether queues.old (known (D.log disk.old)) }
-    ensures size { OnOk result (size queues.new ≡ 2) }
+    ensures size { OnOk result (paged_size queues.new ≡ 2) }
     ensures together { OnOk result (PagedTogether queues.new (known (D.log disk.new))) }
 {
     let Head::Time(_) = queues.head(1) else {

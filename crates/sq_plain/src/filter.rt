@@ -10,11 +10,12 @@ ghost use Rattle.sq_oper.specs.declared.tally.Place.{Place};
 ghost use Rattle.sq_oper.specs.Entries.{Entry};
 ghost use Rattle.sq_oper.specs.Given.{given, ItemsSound};
 ghost use Rattle.sq_oper.specs.Order.{IsFuture};
-ghost use Rattle.sq_oper.specs.Streams.{IsSoundTuple, things, tuples_of};
+ghost use Rattle.sq_oper.specs.Streams.{IsSoundTuple, things, tuples_of, at_ports_below, first_port};
 ghost use Rattle.sq_tagged.specs.Tagged.{HasNoMarks, spread_of, tagged_of};
 ghost use Rattle.sq_tagged.specs.Boxes.{filter_tagged};
 ghost use Rattle.sq_tagged.specs.Entrywise.{for_mark, for_body};
-ghost use Rattle.sq_plain.specs.Boxes.{trees, filter_gives, filter_rest, at_ports_below, first_port};
+ghost use Rattle.sq_plain.specs.Boxes.{filter_gives, filter_rest};
+ghost use Rattle.sq_expr.specs.Checking.{trees};
 
 use crate::give::{give_to_ports, give_tuple};
 use sq_expr::Typed;

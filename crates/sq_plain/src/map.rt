@@ -9,12 +9,13 @@ ghost use Rattle.sq_lists.specs.Boxes.{map_list_of};
 ghost use Rattle.sq_oper.specs.declared.tally.Place.{Place};
 ghost use Rattle.sq_oper.specs.Entries.{Entry};
 ghost use Rattle.sq_oper.specs.Given.{given, ItemsSound};
-ghost use Rattle.sq_oper.specs.Streams.{IsSoundTuple, things, tuples_of, at_zero};
+ghost use Rattle.sq_oper.specs.Streams.{IsSoundTuple, things, tuples_of, at_zero, first_port};
 ghost use Rattle.sq_oper.specs.Order.{IsFuture};
 ghost use Rattle.sq_tagged.specs.Tagged.{HasNoMarks, spread_of, tagged_of};
 ghost use Rattle.sq_tagged.specs.Boxes.{map_tagged};
 ghost use Rattle.sq_tagged.specs.Entrywise.{for_mark, for_body};
-ghost use Rattle.sq_plain.specs.Boxes.{trees, map_gives, map_rest, makes_tuple, first_port};
+ghost use Rattle.sq_plain.specs.Boxes.{map_gives, map_rest, makes_tuple};
+ghost use Rattle.sq_expr.specs.Checking.{trees};
 
 use crate::give::{give_mark, give_tuple};
 use sq_expr::Typed;

@@ -1,7 +1,6 @@
 -- The drop points of a network, and what its plans are made from.
 use Rattle.std.specs.Prelude.{ℕ, List, length, map, Option, Some, None, slice_get}
 use Rattle.std.specs.List.{sum_by, range_with_len}
-use Rattle.sq_expr.specs.Trees.{Checked, Expr}
 use Rattle.sq_aggfn.specs.declared.WindowSpec.{WindowSpec}
 use Rattle.sq_qos.specs.Graphs.{loss_step}
 use Rattle.sq_place.specs.declared.DropPoint.{DropPoint}
@@ -13,9 +12,6 @@ use Rattle.sq_net.specs.declared.Network.{Network}
 use Rattle.sq_net.specs.declared.Output.{Output}
 use Rattle.sq_net.specs.declared.Body.{Body}
 use Rattle.sq_net.specs.declared.Body.TheVariants as body
-
-abbrev pub trees : List Checked → List Expr
-trees es = map (λ e. e.tree) es
 
 abbrev pub window_in : Body → Option WindowSpec
 window_in (body.Aggregate funcs group window) = Some window

@@ -17,32 +17,32 @@ use Rattle.sq_queue.specs.declared.Queues.{Queues}
 use Rattle.sq_queue.proofs.LaneLemmas.{lane-face, none-behind}
 
 -- where pages and lanes are as they should be, all stands together
-pub together-by : (q : Queues) (told : Option Pages) → pages.PagedTogether q.paged told → pages.size q.paged ≡ size q → ((arc : ℕ) → IsLane (slice_get q.lanes.items arc) (pages.face q.paged arc)) → Together q told
+pub together-by : (q : Queues) (told : Option Pages) → pages.PagedTogether q.paged told → pages.paged_size q.paged ≡ size q → ((arc : ℕ) → IsLane (slice_get q.lanes.items arc) (pages.paged_face q.paged arc)) → Together q told
 together-by q told paged arcs lanes =
     record {
       paged = paged;
       arcs = arcs;
       lanes = lanes;
-      faces = λ tells arc. lane-face (slice_get q.lanes.items arc) (pages.face q.paged arc) (pages.paged_items_on q.paged told arc) (lanes arc) (paged.faces tells arc);
+      faces = λ tells arc. lane-face (slice_get q.lanes.items arc) (pages.paged_face q.paged arc) (pages.paged_items_on q.paged told arc) (lanes arc) (paged.faces tells arc);
     }
 
-pub own-lane : (q : Queues) (told : Option Pages) (arc : ℕ) (lane : Lane) → Together q told → slice_get q.lanes.items arc ≡ Some lane → IsLane (Some lane) (pages.face q.paged arc)
-own-lane q told arc lane g was = subst (λ (o : Option Lane). IsLane o (pages.face q.paged arc)) was (g.lanes arc)
+pub own-lane : (q : Queues) (told : Option Pages) (arc : ℕ) (lane : Lane) → Together q told → slice_get q.lanes.items arc ≡ Some lane → IsLane (Some lane) (pages.paged_face q.paged arc)
+own-lane q told arc lane g was = subst (λ (o : Option Lane). IsLane o (pages.paged_face q.paged arc)) was (g.lanes arc)
 
 -- the lane of one arc was written, and what stands in its pages changed with it
-pub written-together : (q : Queues) (told : Option Pages) (r : Queues) (now : Option Pages) (arc : ℕ) (lane new : Lane) → Together q told → pages.PagedTogether r.paged now → pages.size r.paged ≡ pages.size q.paged → arc < size q
-    → slice_get q.lanes.items arc ≡ Some lane → r.lanes.items ≡ set q.lanes.items arc new → ((other : ℕ) → other ≢ arc → pages.face r.paged other ≡ pages.face q.paged other)
-    → (IsLane (Some lane) (pages.face q.paged arc) → IsLane (Some new) (pages.face r.paged arc)) → Together r now
+pub written-together : (q : Queues) (told : Option Pages) (r : Queues) (now : Option Pages) (arc : ℕ) (lane new : Lane) → Together q told → pages.PagedTogether r.paged now → pages.paged_size r.paged ≡ pages.paged_size q.paged → arc < size q
+    → slice_get q.lanes.items arc ≡ Some lane → r.lanes.items ≡ set q.lanes.items arc new → ((other : ℕ) → other ≢ arc → pages.paged_face r.paged other ≡ pages.paged_face q.paged other)
+    → (IsLane (Some lane) (pages.paged_face q.paged arc) → IsLane (Some new) (pages.paged_face r.paged arc)) → Together r now
 written-together q told r now arc lane new g paged sizes inside was lanes others own =
     let here : slice_get r.lanes.items arc ≡ Some new = ap (λ (ls : List Lane). slice_get ls arc) lanes ∙ slice_get-set_same q.lanes.items arc new inside in
     together-by r now paged (sizes ∙ g.arcs ∙ sym (ap length lanes ∙ length-set q.lanes.items arc new)) (λ l.
     elim (cases_eq l arc) [
       | inl same ↦
-          subst (λ (n : ℕ). IsLane (slice_get r.lanes.items n) (pages.face r.paged n)) (sym same)
-          (subst (λ (o : Option Lane). IsLane o (pages.face r.paged arc)) (sym here) (own (own-lane q told arc lane g was)))
+          subst (λ (n : ℕ). IsLane (slice_get r.lanes.items n) (pages.paged_face r.paged n)) (sym same)
+          (subst (λ (o : Option Lane). IsLane o (pages.paged_face r.paged arc)) (sym here) (own (own-lane q told arc lane g was)))
       | inr away ↦
           let there : slice_get r.lanes.items l ≡ slice_get q.lanes.items l = ap (λ (ls : List Lane). slice_get ls l) lanes ∙ slice_get-set_other q.lanes.items arc l new away in
-          subst (λ (o : Option Lane). IsLane o (pages.face r.paged l)) (sym there) (subst (λ (f : Face). IsLane (slice_get q.lanes.items l) f) (sym (others l away)) (g.lanes l))
+          subst (λ (o : Option Lane). IsLane o (pages.paged_face r.paged l)) (sym there) (subst (λ (f : Face). IsLane (slice_get q.lanes.items l) f) (sym (others l away)) (g.lanes l))
     ])
 
 -- the items of the arc whose lane was written, and of the others
@@ -62,7 +62,7 @@ other-items q told r now arc other new lanes differ same =
 pub none-paged : (q : Queues) (told : Option Pages) (arc : ℕ) (lane : Lane) → Together q told → Tells told → slice_get q.lanes.items arc ≡ Some lane → lane.behind ≡ None → pages.paged_items_on q.paged told arc ≡ []
 none-paged q told arc lane g tells was none =
     let own = own-lane q told arc lane g was in
-    none-behind (pages.face q.paged arc) (pages.paged_items_on q.paged told arc) (g.paged.faces tells arc) (sym own.behind ∙ none)
+    none-behind (pages.paged_face q.paged arc) (pages.paged_items_on q.paged told arc) (g.paged.faces tells arc) (sym own.behind ∙ none)
 
 -- ---- new queues
 
@@ -84,5 +84,5 @@ empty-lane lane paged e p =
       sound = subst (λ (xs : List Item). AllByRecursion IsSoundItem xs) (sym e.front) tt;
     }
 
-pub new-together : (q : Queues) (told : Option Pages) → pages.PagedTogether q.paged told → pages.size q.paged ≡ size q → ((arc : ℕ) → IsEmpty (slice_get q.lanes.items arc)) → ((arc : ℕ) → pages.face q.paged arc ≡ no_face) → Together q told
-new-together q told paged arcs empty faces = together-by q told paged arcs (λ arc. empty-lane (slice_get q.lanes.items arc) (pages.face q.paged arc) (empty arc) (faces arc))
+pub new-together : (q : Queues) (told : Option Pages) → pages.PagedTogether q.paged told → pages.paged_size q.paged ≡ size q → ((arc : ℕ) → IsEmpty (slice_get q.lanes.items arc)) → ((arc : ℕ) → pages.paged_face q.paged arc ≡ no_face) → Together q told
+new-together q told paged arcs empty faces = together-by q told paged arcs (λ arc. empty-lane (slice_get q.lanes.items arc) (pages.paged_face q.paged arc) (empty arc) (faces arc))

@@ -7,9 +7,9 @@ use Rattle.sq_value.specs.Lists.{same_bytes}
 use Rattle.sq_value.specs.Values.{Columns, kinds_of, names_of}
 use Rattle.sq_value.specs.declared.Kind.{Kind}
 use Rattle.sq_value.specs.declared.Kind.TheVariants as kind
-use Rattle.sq_expr.specs.Kinds.{kind_at, same_kind}
+use Rattle.sq_expr.specs.Kinds.{kind_at, same_kind, same_kinds}
 use Rattle.sq_net.specs.Columns.{columns_at}
-use Rattle.sq_reader.specs.Columns.{same_columns, same_kinds, same_names}
+use Rattle.sq_reader.specs.Columns.{same_columns, same_names}
 use Rattle.sq_reader.proofs.ListLemmas.{and_parts}
 use Rattle.sq_reader.proofs.DistinctLemmas.{same_text}
 

@@ -4,12 +4,12 @@ use Rattle.std.specs.Prelude.{Result, Ok}
 use Rattle.std.specs.List.{cons_option, filter_map, find, list_all}
 use Rattle.std.proofs.lemmas.Bool.Decides.{nat_tests}
 use Rattle.std.proofs.lemmas.List.Folds.{list_any-append}
-use Rattle.sq_value.specs.Lists.{numbers_to}
+use Rattle.sq_value.specs.Lists.{numbers_to, contains_number}
 use Rattle.sq_value.specs.Values.{Columns}
 use Rattle.sq_graph.specs.declared.Wiring.{Wiring}
 use Rattle.sq_graph.specs.declared.BoxWires.{BoxWires}
 use Rattle.sq_graph.specs.Wires.{Producer, Source, Port, producer_of, inputs_at, inputs_of}
-use Rattle.sq_graph.specs.Order.{can_be_next, contains_number, is_given, order_after, order_of, then_place}
+use Rattle.sq_graph.specs.Order.{can_be_next, is_given, order_after, order_of, then_place}
 use Rattle.sq_graph.proofs.Cycles.{or_cases, or_left, or_right}
 use Rattle.sq_graph.proofs.Finding.{found}
 use Rattle.sq_graph.proofs.Reach.{not_true}

@@ -11,7 +11,7 @@ use Rattle.sq_value.specs.Values.{Columns}
 use Rattle.sq_graph.specs.declared.BoxWires.{BoxWires}
 use Rattle.sq_graph.specs.declared.Wiring.{Wiring}
 use Rattle.sq_graph.specs.Wires.{Producer, Source, Port, producer_of, inputs_at, inputs_of}
-use Rattle.sq_graph.specs.Order.{contains_number, is_given, order_of}
+use Rattle.sq_graph.specs.Order.{is_given, order_of}
 use Rattle.sq_graph.proofs.Producers.{IsProducer, producer_is}
 use Rattle.sq_net.specs.declared.Source as declared
 use Rattle.sq_net.specs.declared.Node.{Node}
@@ -28,6 +28,7 @@ use Rattle.sq_reader.proofs.WiringLemmas.{wired_at}
 use Rattle.sq_reader.proofs.BodyLemmas.{node_is}
 use Rattle.sq_reader.proofs.NodeLemmas.{Follow, follow_all}
 use Rattle.sq_reader.proofs.RuleLemmas.{takes_all}
+use Rattle.sq_value.specs.Lists.{contains_number}
 
 -- a box is typed, with columns for each of its ports
 abbrev pub IsTypedAt : Wiring → List (Option Node) → ℕ → Type 0

@@ -7,12 +7,12 @@ use Rattle.std.proofs.lemmas.Bool.{cases_lt}
 use Rattle.std.proofs.lemmas.List.{length-map, length-replicate}
 use Rattle.std.proofs.lemmas.List.Elements.{All-map, All-from_recursion, recursion_from_All}
 use Rattle.std.proofs.lemmas.Option.{slice_get-get_or, slice_get-map, slice_get_within}
-use Rattle.sq_value.specs.Lists.{are_distinct, numbers_to}
+use Rattle.sq_value.specs.Lists.{are_distinct, numbers_to, contains_number}
 use Rattle.sq_value.specs.Values.{Columns}
 use Rattle.sq_graph.specs.declared.BoxWires.{BoxWires}
 use Rattle.sq_graph.specs.declared.Wiring.{Wiring}
 use Rattle.sq_graph.specs.Wires.{Producer, Source, Port, producer_of, inputs_of}
-use Rattle.sq_graph.specs.Order.{contains_number, is_on_cycle, order_of, IsWired, LiesOnCycle}
+use Rattle.sq_graph.specs.Order.{is_on_cycle, order_of, IsWired, LiesOnCycle}
 use Rattle.sq_graph.proofs.Bounded.{on_cycle}
 use Rattle.sq_graph.proofs.Cycles.{has_is, none_missing}
 use Rattle.sq_graph.proofs.Finding.{unfound}

@@ -19,9 +19,10 @@ use Rattle.sq_tables.specs.declared.raw.RawSource.{RawSource}
 use Rattle.sq_tables.specs.declared.raw.Raw.{Raw}
 use Rattle.sq_tables.specs.Shapes.{port_count}
 use Rattle.sq_reader.specs.Limits.{box_within, limit_place}
-use Rattle.sq_reader.specs.Streaming.{box_wires, port_name, told_port_names, told_stream_named, told_stream_names, wiring_by, wiring_of}
+use Rattle.sq_reader.specs.Streaming.{box_wires, told_port_names, told_stream_named, told_stream_names, wiring_by, wiring_of}
 use Rattle.sq_reader.proofs.LimitLemmas.{box_of, counts_of, ports_few}
 use Rattle.sq_reader.proofs.ListLemmas.{and_parts, item_there}
+use Rattle.sq_net.specs.Names.{port_name}
 
 named_low : (names : List (List ℕ)) (w : List ℕ) (s : ℕ) → told_stream_named names w ≡ Some s → s < length names
 named_low [] w s e = cc

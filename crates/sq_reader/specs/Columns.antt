@@ -7,7 +7,7 @@ use Rattle.sq_value.specs.Values.{Columns, kinds_of, names_of}
 use Rattle.sq_value.specs.declared.Kind.{Kind}
 use Rattle.sq_expr.specs.Trees.{Checked}
 use Rattle.sq_expr.specs.Checking.{column_of}
-use Rattle.sq_expr.specs.Kinds.{kind_at, kind_in, same_kind}
+use Rattle.sq_expr.specs.Kinds.{kind_at, kind_in, same_kinds}
 use Rattle.sq_aggfn.specs.declared.WindowSpec.{WindowSpec}
 use Rattle.sq_graph.specs.declared.Wiring.{Wiring}
 use Rattle.sq_graph.specs.Wires.{Producer, Source, Port, producer_of, inputs_of}
@@ -38,12 +38,6 @@ same_names [] [] = true
 same_names [] (y ∷ ys) = false
 same_names (x ∷ xs) [] = false
 same_names (x ∷ xs) (y ∷ ys) = same_bytes x y && same_names xs ys
-
-abbrev pub same_kinds : List Kind → List Kind → Bool
-same_kinds [] [] = true
-same_kinds [] (l ∷ ls) = false
-same_kinds (k ∷ ks) [] = false
-same_kinds (k ∷ ks) (l ∷ ls) = same_kind k l && same_kinds ks ls
 
 -- the same names of the same kinds
 abbrev pub same_columns : Columns → Columns → Bool

@@ -64,3 +64,7 @@ limit_place r =
     (option_map (part_place part.Box) (first_failing box_within r.boxes))
     (option_map (part_place part.Output) (first_failing told_output_within r.outputs)))
     else Some (part_place part.Top 0)
+
+-- how many bytes a network, capacity or picks file may have, a stream, and a text that is audited
+abbrev pub settings_limit : ℕ
+settings_limit = 1048576

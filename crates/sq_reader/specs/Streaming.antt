@@ -2,7 +2,6 @@
 use Rattle.std.specs.Prelude.{ℕ, ◌+◌, Bool, is_some, if◌then◌else◌, List, [], ◌∷◌, ◌++◌, map, length, position, Option, Some, None, option_map}
 use Rattle.std.specs.List.{flat_map, filter_map, find}
 use Rattle.std.specs.Borrow.{Bor}
-use Rattle.std.specs.Fmt.{decimal}
 use Rattle.std.specs.Map.{lookup}
 use Rattle.std.specs.Str.{bytes_eq}
 use Rattle.sq_value.specs.Lists.{same_bytes, numbers_to}
@@ -20,10 +19,7 @@ use Rattle.sq_tables.specs.declared.raw.Raw.{Raw}
 use Rattle.sq_tables.specs.Places.{place_at, part_place, or_else}
 use Rattle.sq_reader.specs.Limits.{first_failing}
 use Rattle.sq_tables.specs.Shapes.{port_count}
-
--- the name of a port of a Filter; ports count from 1 in a file
-abbrev pub port_name : List ℕ → ℕ → List ℕ
-port_name name number = name ++ (46 ∷ decimal number)
+use Rattle.sq_net.specs.Names.{port_name}
 
 -- the streams of a box
 abbrev pub told_port_names : List ℕ → RawBody → List (List ℕ)

@@ -2,12 +2,12 @@
 ghost use Rattle.std.specs.Prelude.{◌≡◌, ◌<◌, ◌^◌, ◌++◌, ◌&&◌, not, true, false, Ok, Err, IfOk, IfErr, IfSome, length, option_map, replicate};
 ghost use Rattle.std.specs.List.{list_all};
 ghost use Rattle.sq_value.specs.Lists.{contains_bytes};
-ghost use Rattle.sq_expr.specs.Kinds.{same_kind};
+ghost use Rattle.sq_expr.specs.Kinds.{same_kind, same_kinds};
 ghost use Rattle.sq_graph.specs.Wires.{producer_of};
 ghost use Rattle.sq_net.specs.declared.NetErr.TheVariants as broken;
 ghost use Rattle.sq_net.specs.declared.Part.TheVariants as part;
 ghost use Rattle.sq_net.specs.Names.{is_name};
-ghost use Rattle.sq_reader.specs.Columns.{bad_name, columns_known, columns_taken, kinds_set, same_columns, same_kinds, same_names, set_names, set_texts};
+ghost use Rattle.sq_reader.specs.Columns.{bad_name, columns_known, columns_taken, kinds_set, same_columns, same_names, set_names, set_texts};
 ghost use Rattle.sq_reader.specs.Expressions.{may_be_predicate, may_be_set, typed_from, typed_in};
 ghost use Rattle.sq_reader.specs.Limits.{first_failing, is_expression_long};
 ghost use Rattle.sq_tables.specs.Refusals.{is_memory};

@@ -6,7 +6,8 @@ ghost use Rattle.sq_net.specs.declared.Part.TheVariants as part;
 ghost use Rattle.sq_reader.specs.Limits.{told_body_within, box_within, first_failing, limit_place};
 ghost use Rattle.sq_tables.specs.Places.{place_at};
 ghost use Rattle.sq_tables.specs.Shapes.{port_count};
-ghost use Rattle.sq_reader.specs.Streaming.{also_numbered, box_wires, is_stream, kind_of_told_body, number_named, port_name, told_port_names, told_stream_named, told_stream_names, unknown_among, unknown_in_boxes, wiring_by};
+ghost use Rattle.sq_reader.specs.Streaming.{also_numbered, box_wires, is_stream, kind_of_told_body, number_named, told_port_names, told_stream_named, told_stream_names, unknown_among, unknown_in_boxes, wiring_by};
+ghost use Rattle.sq_net.specs.Names.{port_name};
 
 use crate::limits::{place_at, whole};
 use crate::names::source_names;

@@ -6,8 +6,9 @@ use Rattle.std.proofs.Math.Seq.{drop-length}
 use Rattle.std.proofs.lemmas.List.{length-map}
 use Rattle.std.proofs.lemmas.List.FromFn.{length-range_with_len}
 use Rattle.sq_link.specs.Chained.{Chained, list_at, StandsIn, IsLoose, IsChained, without as all_but}
-use Rattle.sq_sched.specs.Ready.{contains, without_actor, AreActors, OnlyOnce, ready_in, IsReadyList}
+use Rattle.sq_sched.specs.Ready.{without_actor, AreActors, OnlyOnce, ready_in, IsReadyList}
 use Rattle.sq_sched.proofs.ReadyLemmas.{contained, not-contained, stands, once-apart, without-all, length-without, few, room}
+use Rattle.sq_value.specs.Lists.{contains_number}
 
 -- what stands in a list stands in the first, where there is one alone
 in-first : (lists : List (List ℕ)) (l n : ℕ) → length lists ≡ 1 → StandsIn n (list_at lists l) → StandsIn n (list_at lists 0)
@@ -32,12 +33,12 @@ actors-in n count chains r sound x here = below-in n count chains x r sound (sta
 pub few-in : (n count : ℕ) (chains : Chained) → IsReadyList n chains count → IsChained chains → length (ready_in chains) ≤ n
 few-in n count chains r sound = few n (ready_in chains) (once-in chains sound) (actors-in n count chains r sound)
 
-pub room-in : (n count : ℕ) (chains : Chained) (a : ℕ) → IsReadyList n chains count → IsChained chains → a < n → contains (ready_in chains) a ≡ false → count < n
+pub room-in : (n count : ℕ) (chains : Chained) (a : ℕ) → IsReadyList n chains count → IsChained chains → a < n → contains_number (ready_in chains) a ≡ false → count < n
 room-in n count chains a r sound low new =
     let fits = room n (ready_in chains) a low new (once-in chains sound) (actors-in n count chains r sound) in
     omega (arith, fits, r.counted)
 
-pub loose-in : (n count : ℕ) (chains : Chained) (a : ℕ) → IsReadyList n chains count → a < n → contains (ready_in chains) a ≡ false → IsLoose chains a
+pub loose-in : (n count : ℕ) (chains : Chained) (a : ℕ) → IsReadyList n chains count → a < n → contains_number (ready_in chains) a ≡ false → IsLoose chains a
 loose-in n count chains a r low new = record {
   outside = record {
     below = rw r.each low;
@@ -49,11 +50,11 @@ loose-in n count chains a r low new = record {
 -- an actor is ready where its node names a list
 pub listed-in : (n count : ℕ) (chains : Chained) (a : ℕ) (o : Option ℕ) → IsReadyList n chains count
     → MatchOption o ((l : ℕ) → ¬ (StandsIn a (list_at chains.lists l))) (λ l. (l < length chains.lists) × StandsIn a (list_at chains.lists l))
-    → is_some o ≡ contains (ready_in chains) a
+    → is_some o ≡ contains_number (ready_in chains) a
 listed-in n count chains a None r h = sym (not-contained (ready_in chains) a (h 0))
 listed-in n count chains a (Some l) r h = sym (contained (ready_in chains) a (in-first chains.lists l a r.one h.1))
 
-pub none-above : (n count : ℕ) (chains : Chained) (a : ℕ) → IsReadyList n chains count → IsChained chains → n ≤ a → contains (ready_in chains) a ≡ false
+pub none-above : (n count : ℕ) (chains : Chained) (a : ℕ) → IsReadyList n chains count → IsChained chains → n ≤ a → contains_number (ready_in chains) a ≡ false
 none-above n count chains a r sound high = not-contained (ready_in chains) a (λ there. let low = below-in n count chains a r sound there in absurd (omega (arith, low, high)))
 
 pub ready-none : (n : ℕ) → IsReadyList n (record { lists = [] ∷ []; free = drop n (range_with_len 0 n); nodes = n }) 0
@@ -68,7 +69,7 @@ taken chains a = record chains { lists = map (all_but a) chains.lists }
 pub list-taken : (chains : Chained) (a : ℕ) → IsChained chains → ready_in (taken chains a) ≡ without_actor a (ready_in chains)
 list-taken chains a sound = first-without chains.lists a ∙ without-all a (ready_in chains) (sound.once 1)
 
-pub ready-taken : (n count : ℕ) (chains : Chained) (a : ℕ) → IsReadyList n chains count → IsChained chains → contains (ready_in chains) a ≡ true
+pub ready-taken : (n count : ℕ) (chains : Chained) (a : ℕ) → IsReadyList n chains count → IsChained chains → contains_number (ready_in chains) a ≡ true
     → IsReadyList n (taken chains a) (count - 1)
 ready-taken n count chains a r sound here = record {
   one = length-map chains.lists (all_but a) ∙ r.one;

@@ -3,8 +3,8 @@ use Rattle.std.proofs.Common.{◌≡◌, ℕ, ◌+◌, ◌<◌, ◌≤◌, cond,
 use Rattle.std.specs.Prelude.{◌==◌, nat_lt, slice_index}
 use Rattle.std.proofs.Math.Seq.{drop-cons}
 use Rattle.std.proofs.lemmas.Bool.Decides.{nat_tests}
-use Rattle.sq_sched.specs.Ready.{contains}
 use Rattle.sq_sched.specs.Policies.{IsLongest, longer, longest_from, longest}
+use Rattle.sq_value.specs.Lists.{contains_number}
 
 -- no fewer items wait for one actor than for another, and where they have as many it isn't higher
 record Leads (waits : List ℕ) (actor other : ℕ) : Type 0 where
@@ -46,7 +46,7 @@ first-led waits first (actor ∷ actors) =
     let next = longer waits first actor in
     leads-on waits (longest_from waits next actors) next first (first-led waits next actors) (longer-leads waits first actor).0
 
-others-led : (waits : List ℕ) (first : ℕ) (actors : List ℕ) (other : ℕ) → contains actors other ≡ true → Leads waits (longest_from waits first actors) other
+others-led : (waits : List ℕ) (first : ℕ) (actors : List ℕ) (other : ℕ) → contains_number actors other ≡ true → Leads waits (longest_from waits first actors) other
 others-led waits first [] other h = absurd (cc h)
 others-led waits first (actor ∷ actors) other h = by (actor == other) refl h (others-led waits next actors other)
   where
@@ -56,14 +56,14 @@ others-led waits first (actor ∷ actors) other h = by (actor == other) refl h (
     end : ℕ
     end = longest_from waits next actors
 
-    by : (same : Bool) → (actor == other) ≡ same → (same || contains actors other) ≡ true → (contains actors other ≡ true → Leads waits end other) → Leads waits end other
+    by : (same : Bool) → (actor == other) ≡ same → (same || contains_number actors other) ≡ true → (contains_number actors other ≡ true → Leads waits end other) → Leads waits end other
     by true e h later = same-leads waits end actor other e (leads-on waits end next actor (first-led waits next actors) (longer-leads waits first actor).1)
     by false e h later = later h
 
-all-led : (waits : List ℕ) (first : ℕ) (actors : List ℕ) (other : ℕ) → contains (first ∷ actors) other ≡ true → Leads waits (longest_from waits first actors) other
+all-led : (waits : List ℕ) (first : ℕ) (actors : List ℕ) (other : ℕ) → contains_number (first ∷ actors) other ≡ true → Leads waits (longest_from waits first actors) other
 all-led waits first actors other h = by (first == other) refl h
   where
-    by : (same : Bool) → (first == other) ≡ same → (same || contains actors other) ≡ true → Leads waits (longest_from waits first actors) other
+    by : (same : Bool) → (first == other) ≡ same → (same || contains_number actors other) ≡ true → Leads waits (longest_from waits first actors) other
     by true e h = same-leads waits (longest_from waits first actors) first other e (first-led waits first actors)
     by false e h = others-led waits first actors other h
 
@@ -74,10 +74,10 @@ longest-is waits (actor ∷ actors) = record {
   lowest = λ other h. (all-led waits actor actors other h).lowest;
 }
 
-pub longer-ready : (waits ready : List ℕ) (best actor : ℕ) → contains ready best ≡ true → contains ready actor ≡ true → contains ready (longer waits best actor) ≡ true
+pub longer-ready : (waits ready : List ℕ) (best actor : ℕ) → contains_number ready best ≡ true → contains_number ready actor ≡ true → contains_number ready (longer waits best actor) ≡ true
 longer-ready waits ready best actor h k = by (nat_lt (slice_index waits best) (slice_index waits actor) || ((slice_index waits best == slice_index waits actor) && nat_lt actor best))
   where
-    by : (b : Bool) → contains ready (cond b actor best) ≡ true
+    by : (b : Bool) → contains_number ready (cond b actor best) ≡ true
     by true = k
     by false = h
 

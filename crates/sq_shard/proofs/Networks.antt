@@ -18,7 +18,7 @@ use Rattle.sq_net.specs.Sound.{IsSound, HasWindow}
 use Rattle.sq_net.specs.Streams.{columns_of_stream}
 use Rattle.sq_model.specs.Fit.{FitsOption, SourcesFit}
 use Rattle.sq_model.specs.Fed.{fed_of}
-use Rattle.sq_model.specs.Full.{nth, box_list, box_list_at, produced, full_stream, full_streams}
+use Rattle.sq_model.specs.Full.{box_list, box_list_at, produced, full_stream, full_streams}
 use Rattle.sq_model.specs.Laws.{FollowsBoxes}
 use Rattle.sq_model.proofs.Alls.{All-weaker, holds-at}
 use Rattle.sq_model.proofs.FullLemmas.{full_follows, full_listed}
@@ -33,6 +33,7 @@ use Rattle.sq_shard.proofs.InOrder.{by-order}
 use Rattle.sq_model.proofs.LateLemmas.{bsort_gives}
 use Rattle.sq_shard.proofs.Parts.{Law, GivesAll, moved, box-part}
 use Rattle.sq_shard.proofs.Sorted.{bsort-few}
+use Rattle.sq_value.specs.Lists.{nth}
 
 -- a tuple that fits columns has as many values
 fitting-length : (cs : Columns) (vs : List Value) → fields_fit cs vs ≡ true → length vs ≡ length cs

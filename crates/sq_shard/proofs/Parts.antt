@@ -12,10 +12,9 @@ use Rattle.sq_expr.specs.Expressions.{holds_of, pair_of, value_of}
 use Rattle.sq_aggfn.specs.declared.Func.{Func}
 use Rattle.sq_aggfn.specs.declared.WindowSpec.{WindowSpec}
 use Rattle.sq_aggfn.specs.Functions.{answers_of}
-use Rattle.sq_graph.specs.Order.{contains_number}
 use Rattle.sq_lists.specs.Merge.{PortTuple, merge_tuples, union}
 use Rattle.sq_lists.specs.Boxes.{filter_list_of, map_list_of, mapped, port_taken}
-use Rattle.sq_value.specs.Lists.{sort_by}
+use Rattle.sq_value.specs.Lists.{sort_by, contains_number, nth}
 use Rattle.sq_lists.specs.Sorting.{bsort_list_of, retimed}
 use Rattle.sq_lists.specs.Windows.{aggregate_list_of}
 use Rattle.sq_lists.specs.Pairs.{join_list_of}
@@ -23,7 +22,7 @@ use Rattle.sq_lists.specs.Resamples.{resampled, resample_list_of}
 use Rattle.sq_net.specs.Sound.{HasWindow}
 use Rattle.sq_net.specs.declared.Body.{Body}
 use Rattle.sq_net.specs.declared.Body.TheVariants.{Filter, Map, Union, BSort, Aggregate, Join, Resample}
-use Rattle.sq_model.specs.Full.{nth, box_list}
+use Rattle.sq_model.specs.Full.{box_list}
 use Rattle.sq_model.specs.Unions as model
 use Rattle.sq_model.proofs.Alls.{All-append, All-mapped, All-weaker}
 use Rattle.sq_shard.specs.declared.Cut.{Cut}

@@ -1,9 +1,9 @@
 // Lists of key columns.
 ghost use Rattle.std.specs.Prelude.{◌≡◌, ◌+◌, ◌<◌, ◌^◌, ◌&&◌, length, map, nat_lt, IfOk};
 ghost use Rattle.std.specs.List.{All, filter, list_any};
-ghost use Rattle.sq_graph.specs.Order.{contains_number};
 ghost use Rattle.sq_expr.specs.Keys.{bare_of};
 ghost use Rattle.sq_shard.specs.Keys.{is_among, is_pair_of, joins_on, left_keys, places, right_keys};
+ghost use Rattle.sq_value.specs.Lists.{contains_number};
 
 use sq_expr::{Typed, bare_field};
 use std::alloc::{AllocError, Global};

@@ -17,10 +17,10 @@ use Rattle.sq_lists.specs.Resamples.{resample_list_of}
 use Rattle.sq_oper.specs.declared.tally.Place.TheVariants.{Start}
 use Rattle.sq_oper.specs.Entries.{Entry}
 use Rattle.sq_oper.specs.Order.{IsFuture, unmarked}
-use Rattle.sq_oper.specs.Streams.{tuple_in, tuples_at, tuples_of, things, at_zero}
+use Rattle.sq_oper.specs.Streams.{tuple_in, tuples_at, tuples_of, things, at_zero, at_ports_below}
 use Rattle.sq_tagged.specs.Tagged.{HasNoMarks, spread_of, tagged_of, below_bounds}
 use Rattle.sq_tagged.specs.Boxes.{filter_tagged, map_tagged, united_tagged, aggregate_tagged}
-use Rattle.sq_plain.specs.Boxes.{trees, at_ports_below, makes_tuple}
+use Rattle.sq_plain.specs.Boxes.{makes_tuple}
 use Rattle.sq_agg.specs.Held.{makes_result}
 use Rattle.sq_join.specs.Elements.{elements_of, side_of}
 use Rattle.sq_join.specs.Sides.{join_fits}
@@ -29,7 +29,7 @@ use Rattle.sq_resample.specs.Resampling.{resample_fits}
 use Rattle.sq_net.specs.declared.Body.{Body}
 use Rattle.sq_net.specs.declared.Body.TheVariants.{Filter, Map, Union, BSort, Aggregate, Join, Resample}
 use Rattle.sq_model.specs.Fed.{late_at, late_by, late_of, fed_of}
-use Rattle.sq_model.specs.Full.{nth, full_streams}
+use Rattle.sq_model.specs.Full.{full_streams}
 use Rattle.sq_graph.specs.Wires.{stream_at}
 use Rattle.sq_model.specs.Shedding.{Replay, level_of}
 use Rattle.sq_below.specs.Standing.{port_tuples, box_fed}
@@ -37,6 +37,8 @@ use Rattle.sq_below.specs.Ports.{FuturesWiden}
 use Rattle.sq_start.specs.Starts.{IsBox, BoxStarts}
 use Rattle.sq_start.proofs.BoxFacts.{Ready, box-future, box-stream, not-marked}
 use Rattle.sq_start.proofs.Late.{late-sorted}
+use Rattle.sq_value.specs.Lists.{nth}
+use Rattle.sq_expr.specs.Checking.{trees}
 
 -- a box that loses nothing has no late tuples
 none-late : (r : Replay) (b : ℕ) (kind : Body) (lags : List ℕ) (marked : Bool) → IsBox r b kind lags marked → ((taken given : ℕ) → late_by kind taken given ≡ 0) → (n : ℕ) → n ≡ 0 → n ≡ late_of r.network r.sources b

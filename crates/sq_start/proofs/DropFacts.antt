@@ -9,7 +9,7 @@ use Rattle.sq_oper.specs.declared.tally.Place.TheVariants.{Start}
 use Rattle.sq_oper.specs.declared.outs.Decision.{Decision}
 use Rattle.sq_oper.specs.Entries.{Entry}
 use Rattle.sq_oper.specs.Order.{IsFuture, unmarked}
-use Rattle.sq_oper.specs.Streams.{tuples_of, things, at_zero}
+use Rattle.sq_oper.specs.Streams.{tuples_of, things, at_zero, first_port, port_fits}
 use Rattle.sq_tagged.specs.Tagged.{spread_of}
 use Rattle.sq_tagged.specs.Boxes.{drop_tagged, until_at, touched_batches}
 use Rattle.sq_windrop.specs.declared.drop.Dropping.{Dropping}
@@ -22,7 +22,7 @@ use Rattle.sq_model.specs.Shedding.{Replay, level_of, drop_above_output}
 use Rattle.sq_below.specs.Laws.{PointsMeasured}
 use Rattle.sq_below.specs.Standing.{Drop, drop_gives_all, drop_decides_all, gate_gives_all, drop_fed, output_fed, DropsFit}
 use Rattle.sq_below.specs.Actors.{drop_stream}
-use Rattle.sq_below.specs.Ports.{marks_where, first_port, first_alone, FuturesWiden}
+use Rattle.sq_below.specs.Ports.{marks_where, FuturesWiden}
 use Rattle.sq_start.specs.Nets.{decision_on}
 use Rattle.sq_start.specs.Starts.{IsDrop, length_above, IsOutput, DropStarts, OutputStarts}
 use Rattle.sq_start.proofs.BoxFacts.{Ready}
@@ -76,8 +76,8 @@ module _ (readies : Ready) (widen : FuturesWiden) (marks : ℕ → Bool) (fits :
           let all = readies r h.read.sound h.read.streams h.read.fit in
           let o = own-arc r.network w p h.there ((measured r h.read.sound).there p (w, h.there)) in
           let d = own-drop r.network w p h.there o in
-          widen unmarked marks first_alone fits Start (drop_fed r p) (λ port e. absurd (cc e)) (λ port fields e. f port fields ∙ e)
-          (subst (IsFuture unmarked first_alone Start) (own-fed r (drops r h.read.sound h.read.streams h.read.fit) p o d.0 d.1) (all.drops d.0.0 d.0.1 o.arc o.there d.1))
+          widen unmarked marks port_fits fits Start (drop_fed r p) (λ port e. absurd (cc e)) (λ port fields e. f port fields ∙ e)
+          (subst (IsFuture unmarked port_fits Start) (own-fed r (drops r h.read.sound h.read.streams h.read.fit) p o d.0 d.1) (all.drops d.0.0 d.0.1 o.arc o.there d.1))
 
   pub output-starts : (len : Option ℕ)
       → ((table : ℕ → ℕ → ℕ) (future : List Entry) (q : ℕ) → IsFuture marks fits Start future → rest table future q ≡ at_zero q (things (gates.gate_shown len future)))
@@ -97,7 +97,7 @@ module _ (readies : Ready) (widen : FuturesWiden) (marks : ℕ → Bool) (fits :
 
       may : (r : Replay) (o : ℕ) → IsOutput r o len → IsFuture marks fits Start (output_fed r o)
       may r o h =
-          widen (marks_where (drop_above_output r.network o) first_port) marks first_alone fits Start (output_fed r o)
+          widen (marks_where (drop_above_output r.network o) first_port) marks port_fits fits Start (output_fed r o)
           (λ port e. m port ∙ first (drop_above_output r.network o) port e)
           (λ port fields e. f port fields)
           ((readies r h.read.sound h.read.streams h.read.fit).outputs o)

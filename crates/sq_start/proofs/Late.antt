@@ -15,7 +15,6 @@ use Rattle.sq_oper.specs.Streams.{tuples_of, thing_of, things}
 use Rattle.sq_graph.specs.declared.BoxKind.TheVariants as kinds
 use Rattle.sq_graph.specs.declared.BoxWires.{BoxWires}
 use Rattle.sq_graph.specs.Wires.{Arc, Port, producers_of, producer_of, arcs_of, inputs_at, inputs_of, input_arcs_of, stream_at}
-use Rattle.sq_graph.specs.Order.{contains_number}
 use Rattle.sq_graph.proofs.Reach.{and_parts}
 use Rattle.sq_place.specs.Places.{stream_or, stream_on}
 use Rattle.sq_place.proofs.Wires.{map-map, length-mapped, arcs-inputs}
@@ -24,7 +23,7 @@ use Rattle.sq_net.specs.declared.Node.{Node}
 use Rattle.sq_net.specs.declared.Network.{Network}
 use Rattle.sq_net.specs.Sound.{IsSound, IsTypedBody, input_columns, kind_of_body, takes_within}
 use Rattle.sq_net.proofs.StreamLemmas.{boxes_count}
-use Rattle.sq_model.specs.Full.{nth, box_list, box_list_at, produced, full_on, full_arc, full_stream, full_streams}
+use Rattle.sq_model.specs.Full.{box_list, box_list_at, produced, full_on, full_arc, full_stream, full_streams}
 use Rattle.sq_model.specs.Fed.{fed_of, late_at, late_by, late_of}
 use Rattle.sq_model.specs.Shedding.{Replay}
 use Rattle.sq_model.proofs.NumberLemmas.{producer_at}
@@ -35,6 +34,7 @@ use Rattle.sq_below.specs.Ports.{FuturesWiden}
 use Rattle.sq_start.specs.Starts.{IsBox}
 use Rattle.sq_start.proofs.BoxFacts.{Ready, none-above}
 use Rattle.sq_start.proofs.PointLemmas.{arc-alone}
+use Rattle.sq_value.specs.Lists.{contains_number, nth}
 
 -- ---- one stream
 

@@ -5,7 +5,6 @@ use Rattle.std.proofs.lemmas.Option.{slice_get-get_or}
 use Rattle.sq_oper.specs.Order.{merge}
 use Rattle.sq_oper.specs.Streams.{things}
 use Rattle.sq_graph.specs.Wires.{Arc, Output, arcs_of, producers_of}
-use Rattle.sq_graph.specs.Order.{contains_number}
 use Rattle.sq_place.specs.declared.DropPoint.{DropPoint}
 use Rattle.sq_place.specs.declared.DropAt.{DropAt}
 use Rattle.sq_place.specs.declared.DropAt.TheVariants as at
@@ -16,6 +15,7 @@ use Rattle.sq_model.specs.Shedding.{Replay, full_at}
 use Rattle.sq_below.specs.Standing.{Drop, drop_on_arc, toward, drop_fed, DropsFit}
 use Rattle.sq_start.specs.Numbers.{place_stream}
 use Rattle.sq_start.proofs.PointLemmas.{OwnArc}
+use Rattle.sq_value.specs.Lists.{contains_number}
 
 no_arc : Arc
 no_arc = record { stream = 0; taker = Output 0 }

@@ -21,7 +21,6 @@ use Rattle.sq_net.specs.declared.Network.{Network}
 use Rattle.sq_net.specs.Columns.{prefixed, pair_columns}
 use Rattle.sq_net.specs.Sound.{IsSound, IsTypedBody, body_within, node_within, is_between, kind_of_body, takes_within}
 use Rattle.sq_net.specs.Streams.{columns_of_stream}
-use Rattle.sq_join.specs.Sides.{left_fields}
 use Rattle.sq_place.specs.declared.DropPoint.{DropPoint}
 use Rattle.sq_points.specs.Points.{points_of}
 use Rattle.sq_below.specs.Ports.{body_fits}
@@ -31,6 +30,7 @@ use Rattle.sq_start.specs.Numbers.{place_stream}
 use Rattle.sq_start.specs.Comes.{point_streams, TuplesAreTaken}
 use Rattle.sq_start.specs.Started.{node_fits}
 use Rattle.sq_model.proofs.BoxTypes.{and-both, and-first}
+use Rattle.sq_lists.specs.Pairs.{left_fields}
 
 -- how many streams a box takes
 abbrev Takes : Body → ℕ → Type 0

@@ -1,11 +1,10 @@
 -- What is left of a new engine of a replay, at the levels of the replay.
 use Rattle.std.specs.Prelude.{◌≡◌, ℕ, ◌<◌, ◌≤◌, true, false, List, [], length}
 use Rattle.std.specs.List.{sum_by}
-use Rattle.sq_value.specs.Lists.{numbers_to}
+use Rattle.sq_value.specs.Lists.{numbers_to, nth}
 use Rattle.sq_oper.specs.declared.tally.Place.TheVariants.{Start}
 use Rattle.sq_oper.specs.Order.{IsFuture}
 use Rattle.sq_oper.specs.Streams.{things}
-use Rattle.sq_model.specs.Full.{nth}
 use Rattle.sq_model.specs.Fed.{late_of}
 use Rattle.sq_model.specs.Shedding.{Replay, answer_of}
 use Rattle.sq_model.specs.Kept.{work_of, turns_of}

@@ -16,7 +16,7 @@ use Rattle.sq_net.specs.declared.Node.{Node}
 use Rattle.sq_net.specs.declared.Body.TheVariants as body
 use Rattle.sq_tap.specs.Staying.{needed_for}
 use Rattle.sq_tap.specs.Joining.{boxes_in_front, joined, joined_wires}
-use Rattle.sq_tap.specs.Parts.{full_output, stream_from}
+use Rattle.sq_tap.specs.Parts.{full_output, tuples_since}
 
 abbrev box : BoxKind → List ℕ → ℕ → BoxWires
 box kind inputs ports = record { kind = kind; inputs = inputs; ports = ports }
@@ -91,7 +91,7 @@ sums = network nested (aggregate (codes "a1") (func.Sum 0) 4 2 ∷ aggregate (co
 abbrev counts : Network
 counts = network counting (aggregate (codes "q") func.Count 4 4 ∷ [])
 
-sums_from_4 : stream_from sums ticks 1 4 ≡ at 4 22 ∷ at 6 30 ∷ at 8 38 ∷ at 10 46 ∷ at 12 54 ∷ at 14 29 ∷ []
+sums_from_4 : tuples_since sums ticks 1 4 ≡ at 4 22 ∷ at 6 30 ∷ at 8 38 ∷ at 10 46 ∷ at 12 54 ∷ at 14 29 ∷ []
 sums_from_4 = refl
 
 counted_from_4 : full_output (joined sums 1 4 counts) ticks 0 ≡ at 4 2 ∷ at 8 2 ∷ at 12 2 ∷ []

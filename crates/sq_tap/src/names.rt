@@ -6,7 +6,8 @@ ghost use Rattle.sq_value.specs.Lists.{same_bytes};
 ghost use Rattle.sq_graph.specs.Order.{is_there};
 ghost use Rattle.sq_graph.specs.Wires.{producer_of};
 ghost use Rattle.sq_net.specs.Sound.{IsSound};
-ghost use Rattle.sq_tap.specs.Names.{is_dotted, port_name, port_names, ports_named, stream_named};
+ghost use Rattle.sq_tap.specs.Names.{is_dotted, port_names, ports_named, stream_named};
+ghost use Rattle.sq_net.specs.Names.{port_name};
 
 use sq_net::{Body, Network, Node, Source};
 use sq_value::{same_bytes, same_text};

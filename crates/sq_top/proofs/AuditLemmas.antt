@@ -2,21 +2,22 @@
 use Rattle.std.proofs.Common.{◌≡◌, ◌≢◌, ◌⊎◌, inl, inr, ℕ, Bool, true, false, not, ◌==◌, List, [], ◌∷◌, refl, ap, sym, ◌∙◌, subst, arith, Option, None, Some}
 use Rattle.std.specs.Prelude.{codes, IsSome}
 use Rattle.sq_outside.specs.Folders.{Files}
-use Rattle.sq_outside.specs.Sinks.{AppendsPrefix, appended}
+use Rattle.sq_outside.specs.Sinks.{AppendsPrefix, appended, AppendsSuch}
 use Rattle.sq_top.specs.declared.Command.TheVariants as command
 use Rattle.sq_top.specs.declared.Status.{Status}
 use Rattle.sq_top.specs.declared.Status.TheVariants as status
-use Rattle.sq_top.specs.Commands.{command_in, may_name, runs_engine}
+use Rattle.sq_top.specs.Commands.{command_in, runs_engine}
 use Rattle.sq_top.specs.Scripts.{AcceptedReplay, Script, Reads, Done, Stops, after_words, followed_by, plain_args, script_of, text_limit, text_script, with_text}
 use Rattle.sq_top.specs.Messages.{name_at}
 use Rattle.sq_top.specs.Reads.{GoesBy, IsFileRead, ScriptLeads, network_read}
-use Rattle.sq_top.specs.Causes.{AppendsSuch, Ends, IsPrefixOfDue, IsRefusedAt, IsStopped, IsUnread, IsWholeOf, NamesSource, Outside, is_plain_end, is_refusal, verdict_text, work_for}
+use Rattle.sq_top.specs.Causes.{Ends, IsPrefixOfDue, IsRefusedAt, IsStopped, IsUnread, IsWholeOf, NamesSource, Outside, is_plain_end, is_refusal, verdict_text, work_for}
 use Rattle.sq_top.specs.Writing.{IsLost}
 use Rattle.sq_top.proofs.DrivingLemmas.{not_too_much}
 use Rattle.sq_top.proofs.EndLemmas.{answered_cut, answered_ok, appends_all, appends_begun}
 use Rattle.sq_top.proofs.ReadsLemmas.{HoldsFor, leads_read, leads_still, leads_then, left_holds}
 use Rattle.sq_top.proofs.StoppedLemmas.{memory_at, some_none, stopped_unread}
 use Rattle.sq_top.proofs.StopLemmas.{lost_cut, lost_garbled, lost_stop, lost_unchanged}
+use Rattle.sq_value.specs.CommandWords.{may_name}
 
 -- by what leads through the first script the two go on
 goes_behind : (told : Option Files) (next : AcceptedReplay → Script) (read : List (List ℕ × List ℕ)) (from to : Script) → GoesBy told read from to

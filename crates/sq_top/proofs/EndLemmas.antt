@@ -14,11 +14,11 @@ use Rattle.sq_value.specs.Texts.{text_of}
 use Rattle.sq_value.proofs.RowLemmas.{first_field-line_of, is_line-line_of}
 use Rattle.sq_outside.specs.Faults.{Rose}
 use Rattle.sq_outside.specs.Folders.{Files}
-use Rattle.sq_outside.specs.Sinks.{AppendsPrefix, appended}
+use Rattle.sq_outside.specs.Sinks.{AppendsPrefix, appended, AppendsSuch}
 use Rattle.sq_net.specs.declared.Network.{Network}
 use Rattle.sq_net.specs.declared.Node.{Node}
 use Rattle.sq_net.specs.declared.Output.{Output}
-use Rattle.sq_net.specs.Names.{has_name_form, is_lower, is_name, may_follow, reserved}
+use Rattle.sq_net.specs.Names.{has_name_form, is_name, may_follow, reserved}
 use Rattle.sq_net.specs.Sound.{IsSound}
 use Rattle.sq_model.specs.Shedding as model
 use Rattle.sq_plan.specs.declared.closing.Shown.{Shown as ShownPlan}
@@ -49,27 +49,28 @@ use Rattle.sq_top.specs.Scripts.{AcceptedReplay, Script, Reads, Done, Stops, aft
 use Rattle.sq_top.specs.Reads.{GoesBy, IfAccepted, ScriptLeads, network_read}
 use Rattle.sq_pool.specs.Trust.{Tells}
 use Rattle.sq_top.specs.Stopping.{StopHasCause, is_changed, is_garbled}
-use Rattle.sq_top.specs.Causes.{AppendsSuch, BeginsSummary, BeginsText, Ends, IsEngineOf, IsPrefixOfDue, IsRefusedAt, IsStopped, IsWholeOf, NamesSource, TellsFor, TellsStatus, Outside, hides_memory, is_refusal, turns_for, verdict_text, work_for}
+use Rattle.sq_top.specs.Causes.{BeginsSummary, BeginsText, Ends, IsEngineOf, IsPrefixOfDue, IsRefusedAt, IsStopped, IsWholeOf, NamesSource, TellsFor, TellsStatus, Outside, hides_memory, is_refusal, turns_for, verdict_text, work_for}
 use Rattle.sq_top.proofs.SortedLines.{and-true}
 use Rattle.sq_top.proofs.ReadsLemmas.{leads_self, left_holds, none_given}
 use Rattle.sq_top.proofs.StoppedLemmas.{memory_at, some_none, stopped_memory, stopped_rule}
 use Rattle.sq_top.proofs.StopLemmas.{refused_garbled, refused_stop, refused_unchanged, stop_map}
 use Rattle.sq_top.proofs.ClassLemmas.{IsLineOf, IsPlainName, TellsClasses, is_end_field}
 use Rattle.sq_top.proofs.OrderLemmas.{prefix_text}
+use Rattle.sq_expr.specs.Tokens.{is_letter}
 
 -- a name begins with a lower-case letter, and lower-case letters, digits and `_` follow
-name_parts : (b : ℕ) (bs : List ℕ) → is_name (b ∷ bs) ≡ true → (is_lower b ≡ true) × (list_all may_follow bs ≡ true)
+name_parts : (b : ℕ) (bs : List ℕ) → is_name (b ∷ bs) ≡ true → (is_letter b ≡ true) × (list_all may_follow bs ≡ true)
 name_parts b bs h =
     let form = (and-true (has_name_form (b ∷ bs)) (not (contains_bytes (b ∷ bs) reserved)) h).0 in
-    and-true (is_lower b) (list_all may_follow bs) (and-true (is_lower b && list_all may_follow bs) (nat_lt (length bs) 32) form).0
+    and-true (is_letter b) (list_all may_follow bs) (and-true (is_letter b && list_all may_follow bs) (nat_lt (length bs) 32) form).0
 
-lower_above : (b : ℕ) → is_lower b ≡ true → 97 ≤ b
+lower_above : (b : ℕ) → is_letter b ≡ true → 97 ≤ b
 lower_above b h = grind (arith, nat_tests)
 
-plain_lower : (b : ℕ) → is_lower b ≡ true → b ≢ 64
+plain_lower : (b : ℕ) → is_letter b ≡ true → b ≢ 64
 plain_lower b h e = absurd (omega (arith, e, lower_above b h))
 
-quoteless_lower : (b : ℕ) → is_lower b ≡ true → needs_quotes b ≡ false
+quoteless_lower : (b : ℕ) → is_letter b ≡ true → needs_quotes b ≡ false
 quoteless_lower b h = grind (arith, nat_tests)
 
 quoteless_follow : (b : ℕ) → may_follow b ≡ true → needs_quotes b ≡ false

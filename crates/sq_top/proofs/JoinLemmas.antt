@@ -19,7 +19,6 @@ use Rattle.sq_tap.specs.declared.TapErr.TheVariants as error
 use Rattle.sq_tap.specs.Joining.{boxes_in_front, columns, joined}
 use Rattle.sq_tap.specs.Names.{stream_named}
 use Rattle.sq_tap.specs.Rules.{BreaksFirst, HasOneSource, HasTheKinds, IsWithinLimits, KeepsRules}
-use Rattle.sq_tap.specs.Tables.{same_kinds}
 use Rattle.sq_tap.proofs.Grafts.{sound_joined}
 use Rattle.sq_tap.proofs.Naming.{named_there}
 use Rattle.sq_tap.proofs.Steps.{kinds_are, kinds_differ}
@@ -28,6 +27,7 @@ use Rattle.sq_top.specs.declared.Status.TheVariants as status
 use Rattle.sq_top.specs.Causes.{IsBadTap, IsTapRefused}
 use Rattle.sq_top.specs.Taps.{Tapped, is_within_limits, tapped, tapped_at, tapped_kinds, tapped_source, tapped_within}
 use Rattle.sq_top.proofs.SortedLines.{and-true}
+use Rattle.sq_expr.specs.Kinds.{same_kinds}
 
 true_by : (t : Bool) → (t ≡ false → ⊥) → t ≡ true
 true_by true h = refl

@@ -32,7 +32,7 @@ use Rattle.sq_tap.specs.declared.TapErr.{TapErr}
 use Rattle.sq_tap.specs.declared.TapErr.TheVariants as error
 use Rattle.sq_tap.specs.Joining.{joined}
 use Rattle.sq_tap.specs.Names.{stream_named}
-use Rattle.sq_tap.specs.Parts.{full_output, stream_from}
+use Rattle.sq_tap.specs.Parts.{full_output, tuples_since}
 use Rattle.sq_tap.proofs.Grafts.{answers_joined}
 use Rattle.sq_tap.proofs.Naming.{named_there}
 use Rattle.sq_top.specs.Due.{answer_in, dropped_from, outputs_of, shown_at_output}
@@ -122,10 +122,10 @@ same_shown net sources seed q part same [] = refl
 same_shown net sources seed q part same (o ∷ os) =
     ap₂ (λ ts rest. ((o.0).name, map (output_line (o.0).name) ts) ∷ rest) (answer_full net sources seed o.1 ∙ same o.1) (same_shown net sources seed q part same os)
 
-module _ (n q : Network) (stream from : ℕ) (sources : List (List Tuple)) (answers : (o : ℕ) → full_output (joined n stream from q) sources o ≡ full_output q (stream_from n sources stream from ∷ []) o) where
+module _ (n q : Network) (stream from : ℕ) (sources : List (List Tuple)) (answers : (o : ℕ) → full_output (joined n stream from q) sources o ≡ full_output q (tuples_since n sources stream from ∷ []) o) where
   joined_shows : (first : ℕ) → ShowsPart n q stream from (with_sources (tap_unread (record { network = joined n stream from q; first = first })) sources)
   joined_shows first = record {
-    shown = same_shown (joined n stream from q) sources 0 q (stream_from n sources stream from) answers (outputs_of q);
+    shown = same_shown (joined n stream from q) sources 0 q (tuples_since n sources stream from) answers (outputs_of q);
     dropped = no_drop_lines (joined n stream from q) sources 0 (numbers_to (drops_in (joined n stream from q)));
     planned = ap (map _) (no_plans (joined n stream from q) sources 0 _);
   }

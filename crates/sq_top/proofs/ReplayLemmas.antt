@@ -4,7 +4,7 @@ use Rattle.std.specs.Prelude.{slice_get}
 use Rattle.std.specs.List.{AllByRecursion, range_with_len}
 use Rattle.sq_value.specs.Lists.{IsPrefixOf, numbers_to}
 use Rattle.sq_value.specs.Classes.{Ended}
-use Rattle.sq_outside.specs.Sinks.{AppendsPrefix, appended}
+use Rattle.sq_outside.specs.Sinks.{AppendsPrefix, appended, AppendsSuch}
 use Rattle.sq_outside.proofs.SinkLemmas.{appended-append}
 use Rattle.sq_net.specs.declared.Network.{Network}
 use Rattle.sq_net.specs.Sound.{IsSound}
@@ -20,7 +20,6 @@ use Rattle.sq_core.specs.Runs.{fed_at, late_at_seat}
 use Rattle.sq_top.specs.declared.Status.{Status}
 use Rattle.sq_top.specs.Due.{Due, answer_in, due_in, ended_in, fed_in, late_in}
 use Rattle.sq_top.specs.Answers.{IsPrefixText, IsWholeText}
-use Rattle.sq_top.specs.Causes.{AppendsSuch}
 use Rattle.sq_top.specs.Driving.{BeginsAnswer, IsDriven, IsEventAt, IsHalted, ends_text, history_text}
 use Rattle.sq_top.proofs.ClassLemmas.{IsLineOf}
 use Rattle.sq_top.proofs.EndLemmas.{all_ended, appends_all, few_drops}

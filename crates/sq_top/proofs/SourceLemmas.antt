@@ -11,12 +11,12 @@ use Rattle.sq_net.specs.declared.Source.{Source}
 use Rattle.sq_net.specs.Sound.{is_between, network_within, source_within}
 use Rattle.sq_oper.specs.Streams.{IsSoundTuple}
 use Rattle.sq_model.specs.Fit.{FitsOption, SourcesFit}
-use Rattle.sq_model.specs.Full.{nth}
 use Rattle.sq_replay.specs.Laws.{ReadsStreams}
 use Rattle.sq_replay.specs.Streams.{stream_in}
 use Rattle.sq_replay.proofs.FitLemmas.{streams_fit}
 use Rattle.sq_top.specs.Recorded.{AreRecorded}
 use Rattle.sq_top.proofs.SortedLines.{and-true}
+use Rattle.sq_value.specs.Lists.{nth}
 
 between : (low high k : ℕ) → is_between low high k ≡ true → (low ≤ k) × (k ≤ high)
 between low high k h = (grind (arith, nat_tests), grind (arith, nat_tests))

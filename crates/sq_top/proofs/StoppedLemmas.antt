@@ -27,11 +27,12 @@ use Rattle.sq_replay.specs.Entries.{capacities_in, picks_in}
 use Rattle.sq_replay.specs.Streams.{stream_in}
 use Rattle.sq_top.specs.Commands.{command_in}
 use Rattle.sq_top.specs.Messages.{name_at, source_name_in, network_if_ok}
-use Rattle.sq_top.specs.Scripts.{Script, Reads, Done, Stops, AcceptedReplay, after_capacities, after_network, after_picks, after_stream, after_streams, after_words, capacities_script, picks_script, script_of, settings_limit, stream_limit, unread, with_sources}
+use Rattle.sq_top.specs.Scripts.{Script, Reads, Done, Stops, AcceptedReplay, after_capacities, after_network, after_picks, after_stream, after_streams, after_words, capacities_script, picks_script, script_of, stream_limit, unread, with_sources}
 use Rattle.sq_top.specs.Reads.{AreBytesOf, GoesBy, IsFileRead, ScriptLeads, LeadsWith, network_read}
 use Rattle.sq_top.specs.Causes.{AreCapacitiesOf, ArePicksOf, HasNoCapacities, HasNoPicks, HasNoStream, HasNoStreams, IsNetworkFile, IsRefusedAt, IsRefusedBy, IsRule, IsStopped, IsStreamOf, IsUnread, NamesSource, hides_memory, is_refusal}
 use Rattle.sq_top.proofs.ReadsLemmas.{leads_read, leads_still, leads_then, none_given, with_then, words_lead}
 use Rattle.sq_top.proofs.SortedLines.{and-true}
+use Rattle.sq_reader.specs.Limits.{settings_limit}
 
 pub some_none : (o : Option Command) → IsSome o → o ≡ None → ⊥
 some_none None some e = absurd (cc)

@@ -1,7 +1,7 @@
 -- The summary of a run is that of its replay.
 use Rattle.std.proofs.Common.{◌≡◌, ◌≢◌, ℕ, List, length, map, refl, ap, ◌∙◌, subst, Option}
 use Rattle.sq_value.specs.Lists.{numbers_to}
-use Rattle.sq_outside.specs.Sinks.{AppendsPrefix, appended}
+use Rattle.sq_outside.specs.Sinks.{AppendsPrefix, appended, AppendsSuch}
 use Rattle.sq_net.specs.declared.Network.{Network}
 use Rattle.sq_model.specs.Shedding.{Replay}
 use Rattle.sq_core.specs.declared.engine.Engine.{Engine}
@@ -9,7 +9,7 @@ use Rattle.sq_core.specs.Runs.{fed_at, late_at_seat}
 use Rattle.sq_top.specs.declared.Status.{Status}
 use Rattle.sq_top.specs.declared.Status.TheVariants as status
 use Rattle.sq_top.specs.declared.counting.Counts.{Counts}
-use Rattle.sq_top.specs.Causes.{AppendsSuch, BeginsSummary, BeginsText}
+use Rattle.sq_top.specs.Causes.{BeginsSummary, BeginsText}
 use Rattle.sq_top.specs.Counting.{IsSummed, engine_summary}
 use Rattle.sq_points.specs.Points.{drops_in}
 use Rattle.sq_top.specs.Due.{answer_in, fed_in, late_in}

@@ -13,12 +13,13 @@ use Rattle.sq_top.specs.declared.Status.TheVariants as status
 use Rattle.sq_top.specs.Commands.{command_in}
 use Rattle.sq_top.specs.Taps.{Tapped, tapped}
 use Rattle.sq_top.specs.Messages.{network_if_ok}
-use Rattle.sq_top.specs.Scripts.{Done, AcceptedReplay, Reads, after_query, after_streams, after_tap, after_tapped, after_words, query_script, script_of, settings_limit, tap_script, tap_unread}
+use Rattle.sq_top.specs.Scripts.{Done, AcceptedReplay, Reads, after_query, after_streams, after_tap, after_tapped, after_words, query_script, script_of, tap_script, tap_unread}
 use Rattle.sq_top.specs.Reads.{IsFileRead, ScriptLeads, LeadsWith, network_read}
 use Rattle.sq_top.specs.Causes.{IsBadTap, IsNetworkFile, IsQueryRefused, IsStopped, IsUnread}
 use Rattle.sq_top.specs.Views.{IsAskedBy}
 use Rattle.sq_top.proofs.ReadsLemmas.{leads_read, leads_still, with_then, words_lead}
 use Rattle.sq_top.proofs.StoppedLemmas.{not_memory, stopped_memory, stopped_rule, stopped_unread}
+use Rattle.sq_reader.specs.Limits.{settings_limit}
 
 module _ (words : List (List ℕ)) (a : Asked) (asked : IsAskedBy a words) where
   pub is_tap : IsSome (command_in words)

@@ -9,8 +9,9 @@ use Rattle.sq_value.specs.Texts.{are_digits, number_in}
 use Rattle.sq_top.specs.declared.RunArgs.{RunArgs}
 use Rattle.sq_top.specs.declared.Command.{Command}
 use Rattle.sq_top.specs.declared.Command.TheVariants as command
-use Rattle.sq_top.specs.Commands.{Given, Word, args_of, audit_args, command_in, gen_args, given_from, is_known_option, known_args, lone, may_name, number_or, number_within, rule_of, run_args, tap_args, tick_in, option_values}
+use Rattle.sq_top.specs.Commands.{Given, args_of, audit_args, command_in, gen_args, given_from, is_known_option, known_args, lone, number_or, number_within, rule_of, run_args, tap_args, tick_in, option_values}
 use Rattle.sq_top.proofs.SortedLines.{and-true}
+use Rattle.sq_value.specs.CommandWords.{Word, may_name}
 
 within_least : (t : Bool) (low high : ℕ) (w : Word) (k : ℕ) → (are_digits 20 w && (nat_le low (number_in w) && nat_le (number_in w) high)) ≡ t → number_within low high w ≡ Some k → low ≤ k
 within_least true low high w k e h =

@@ -10,7 +10,8 @@ use Rattle.std.proofs.lemmas.Bool.Decides.{nat_tests}
 use Rattle.std.proofs.lemmas.Str.Parse.{parse_digits}
 use Rattle.sq_value.specs.Texts.{are_digits, is_digit, number_in, read_number}
 use Rattle.sq_value.proofs.ReadBack.{own}
-use Rattle.sq_top.specs.Commands.{Bad, Plain, Whole, Opens, Word, Given, dashed_piece, given_from, is_equals, named_piece, piece_of}
+use Rattle.sq_top.specs.Commands.{Bad, Plain, Whole, Opens, Given, dashed_piece, given_from, named_piece, piece_of}
+use Rattle.sq_value.specs.CommandWords.{Word, is_equals}
 
 -- a byte that begins no word with a dash
 no_dash : (b : ℕ) (bs : Word) → ((rest : Word) → b ∷ bs ≢ 45 ∷ rest) → (b == 45) ≡ false

@@ -27,7 +27,7 @@ use Rattle.sq_core.specs.declared.engine.Engine.{Engine}
 use Rattle.sq_audit.specs.Audits.{audit_of}
 use Rattle.sq_audit.specs.VerdictLines.{verdict_line}
 use Rattle.sq_top.specs.Commands.{command_in, runs_engine}
-use Rattle.sq_top.specs.Scripts.{AcceptedReplay, Script, Reads, Done, Stops, after_streams, script_of, settings_limit, stream_limit}
+use Rattle.sq_top.specs.Scripts.{AcceptedReplay, Script, Reads, Done, Stops, after_streams, script_of, stream_limit}
 use Rattle.sq_top.specs.Taps.{Tapped}
 use Rattle.sq_top.specs.Reads.{WhereTold, GoesBy, IfAccepted, IsFileRead, ScriptLeads, source_read}
 use Rattle.sq_top.specs.Due.{due_of, replayed, turns_in, work_in}
@@ -35,6 +35,8 @@ use Rattle.sq_top.specs.Summaries.{summary_of}
 use Rattle.sq_top.specs.Messages.{message_of}
 use Rattle.sq_top.specs.Answers.{IsWholeText, IsPrefixText}
 use Rattle.sq_top.specs.Stopping.{StopHasCause, is_changed, is_garbled}
+use Rattle.sq_reader.specs.Limits.{settings_limit}
+use Rattle.sq_outside.specs.Sinks.{AppendsSuch}
 
 -- the statuses of refusals: nothing was replayed
 abbrev pub is_refusal : Status → Bool
@@ -92,11 +94,6 @@ IsRule (status.BadCapacities line) = ⊤
 IsRule (status.BadPicks line) = ⊤
 IsRule (status.BadStream number line why) = ⊤
 IsRule s = ⊥
-
--- a sink that told what it held tells it still, with a text appended of which P holds
-abbrev pub AppendsSuch : Option (List ℕ) → Option (List ℕ) → (List ℕ → Type 0) → Type 0
-AppendsSuch None now P = now ≡ None
-AppendsSuch (Some before) now P = (text : List ℕ) × (now ≡ Some (before ++ text)) × P text
 
 -- the words are no command exactly where the status is Usage, but for want of memory
 pub record UsageHasCause (words : List (List ℕ)) (result : Status) : Type 0 where

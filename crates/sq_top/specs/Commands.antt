@@ -1,5 +1,5 @@
 -- Which words are a command, and what it asks for.
-use Rattle.std.specs.Prelude.{ℕ, ◌-◌, ◌^◌, Bool, true, false, not, ◌&&◌, ◌==◌, nat_le, if◌then◌else◌, List, [], ◌∷◌, Option, Some, None, codes}
+use Rattle.std.specs.Prelude.{ℕ, ◌-◌, ◌^◌, Bool, true, false, ◌&&◌, ◌==◌, nat_le, if◌then◌else◌, List, [], ◌∷◌, Option, Some, None, codes}
 use Rattle.std.specs.List.{list_all, list_any, before_first, after_first}
 use Rattle.std.specs.Option.{option_map, option_and_then}
 use Rattle.sq_value.specs.Lists.{contains_bytes, same_bytes}
@@ -9,9 +9,7 @@ use Rattle.sq_sched.specs.declared.policy.Rule.TheVariants as rule
 use Rattle.sq_top.specs.declared.RunArgs.{RunArgs}
 use Rattle.sq_top.specs.declared.Command.{Command}
 use Rattle.sq_top.specs.declared.Command.TheVariants as command
-
-abbrev pub Word : Type 0
-Word = List ℕ
+use Rattle.sq_value.specs.CommandWords.{Word, is_equals, may_name}
 
 -- a word by itself: one that doesn't begin with a dash, `--name=value`, `--name`, or none of these
 pub data Piece : Type 0 where
@@ -19,9 +17,6 @@ pub data Piece : Type 0 where
   Whole : (name value : Word) → Piece
   Opens : (name : Word) → Piece
   Bad : Piece
-
-abbrev pub is_equals : ℕ → Bool
-is_equals b = b == 61
 
 -- a value isn't empty
 abbrev pub whole_piece : Word → Word → Piece
@@ -139,11 +134,6 @@ gen_args (number ∷ rows ∷ []) = do
   rows_are ← number_within 1 1000000 rows
   Some (command.Gen number_is rows_are)
 gen_args ws = None
-
--- a word that may name a file: it isn't empty and doesn't begin with a dash
-abbrev pub may_name : Word → Bool
-may_name [] = false
-may_name (b ∷ bs) = not (b == 45)
 
 -- what the words behind `audit` ask for: the file of a network, and that of a text
 abbrev pub audit_args : List Word → Option Command

@@ -7,7 +7,7 @@ use Rattle.sq_value.specs.LineTexts.{output_line}
 use Rattle.sq_net.specs.declared.Network.{Network}
 use Rattle.sq_reader.specs.Networks.{network_in}
 use Rattle.sq_tap.specs.Names.{stream_named}
-use Rattle.sq_tap.specs.Parts.{full_output, stream_from}
+use Rattle.sq_tap.specs.Parts.{full_output, tuples_since}
 use Rattle.sq_top.specs.declared.Command.TheVariants as command
 use Rattle.sq_top.specs.Commands.{command_in}
 use Rattle.sq_top.specs.Due.{due_of, outputs_of}
@@ -21,7 +21,7 @@ shown_over q part = map (λ o. ((o.0).name, map (output_line (o.0).name) (full_o
 
 -- these lines are due, and of drops and plans none
 pub record ShowsPart (n q : Network) (stream from : ℕ) (r : AcceptedReplay) : Type 0 where
-  pub shown : (due_of r).shown ≡ shown_over q (stream_from n r.sources stream from)
+  pub shown : (due_of r).shown ≡ shown_over q (tuples_since n r.sources stream from)
   pub dropped : flat_map (λ w. w.1) (due_of r).dropped ≡ []
   pub planned : (due_of r).planned ≡ []
 

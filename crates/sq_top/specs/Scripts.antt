@@ -22,6 +22,7 @@ use Rattle.sq_top.specs.declared.Status.{Status}
 use Rattle.sq_top.specs.declared.Status.TheVariants as status
 use Rattle.sq_top.specs.Commands.{command_in}
 use Rattle.sq_top.specs.Taps.{Tapped, first_tick, tapped}
+use Rattle.sq_reader.specs.Limits.{settings_limit}
 
 -- what was accepted: a network, the tuples of each of its sources, the capacities, how the next actor is chosen: by which rule,
 -- seed and picks, for how many steps, and how many pages may be in memory. What is drawn goes by the seed, too. An audit has a text
@@ -43,10 +44,6 @@ pub data Script : Type 0 where
   Reads : (name : List ℕ) (limit : ℕ) → (List ℕ → Script) → Script
   Done : AcceptedReplay → Script
   Stops : Status → Script
-
--- how many bytes a network, capacity or picks file may have, a stream, and a text that is audited
-abbrev pub settings_limit : ℕ
-settings_limit = 1048576
 
 abbrev pub stream_limit : ℕ
 stream_limit = 67108864

@@ -8,7 +8,7 @@ use Rattle.sq_reader.specs.Drops.{is_drop_within}
 use Rattle.sq_tap.specs.declared.TapErr.{TapErr}
 use Rattle.sq_tap.specs.declared.TapErr.TheVariants as error
 use Rattle.sq_tap.specs.Joining.{boxes_in_front, columns, joined}
-use Rattle.sq_tap.specs.Tables.{same_kinds}
+use Rattle.sq_expr.specs.Kinds.{same_kinds}
 
 -- the joined network, and how many boxes stand in front of the query's
 pub record Tapped : Type 0 where

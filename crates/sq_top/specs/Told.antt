@@ -13,10 +13,12 @@ use Rattle.sq_top.specs.declared.Command.TheVariants as command
 use Rattle.sq_top.specs.declared.Status.{Status}
 use Rattle.sq_top.specs.declared.Status.TheVariants as status
 use Rattle.sq_top.specs.Commands.{command_in, reads_folder}
-use Rattle.sq_top.specs.Scripts.{Lookup, AcceptedReplay, accepted, file_reads, script_of, settings_limit, stream_limit, text_limit}
+use Rattle.sq_top.specs.Scripts.{Lookup, AcceptedReplay, accepted, file_reads, script_of, stream_limit, text_limit}
 use Rattle.sq_top.specs.Messages.{name_at, network_if_ok}
 use Rattle.sq_top.specs.Stopping.{StopHasCause, is_garbled}
-use Rattle.sq_top.specs.Causes.{AppendsSuch, IsPrefixOfDue, IsWholeOf, TellsFor, Outside, is_refusal, turns_for, work_for}
+use Rattle.sq_top.specs.Causes.{IsPrefixOfDue, IsWholeOf, TellsFor, Outside, is_refusal, turns_for, work_for}
+use Rattle.sq_reader.specs.Limits.{settings_limit}
+use Rattle.sq_outside.specs.Sinks.{AppendsSuch}
 
 -- whether this is the name of the network's file, or of the query's
 abbrev pub is_network : Option Command → List ℕ → Bool

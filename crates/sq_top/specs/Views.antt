@@ -12,7 +12,8 @@ use Rattle.sq_top.specs.declared.tapping.Asked.{Asked}
 use Rattle.sq_top.specs.declared.Command.TheVariants as command
 use Rattle.sq_top.specs.Taps.{first_tick}
 use Rattle.sq_top.specs.Scripts.{AcceptedReplay}
-use Rattle.sq_top.specs.Commands.{Word, Given, Piece, Plain, Whole, Opens, Bad, command_in}
+use Rattle.sq_top.specs.Commands.{Given, Piece, Plain, Whole, Opens, Bad, command_in}
+use Rattle.sq_value.specs.CommandWords.{Word}
 
 abbrev pub text_view : Option (Bor (List ℕ)) → Option Word
 text_view o = option_map (λ t. t.now) o

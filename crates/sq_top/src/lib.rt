@@ -18,10 +18,11 @@ ghost use Rattle.std.specs.Prelude.{◌≡◌, ◌≢◌, ◌≤◌, List, ℕ, 
 ghost use Rattle.std.specs.String.{string_bytes};
 ghost use Rattle.sq_outside.specs.Faults.{Rose};
 ghost use Rattle.sq_pool.specs.Trust.{IsLater, known};
-ghost use Rattle.sq_top.specs.Causes.{AppendsSuch, Ends, TellsStatus, UsageHasCause, hides_memory, is_plain_end, is_refusal};
+ghost use Rattle.sq_top.specs.Causes.{Ends, TellsStatus, UsageHasCause, hides_memory, is_plain_end, is_refusal};
 ghost use Rattle.sq_top.specs.Commands.{command_in, reads_folder, runs_engine};
 ghost use Rattle.sq_top.specs.Stopping.{is_changed};
 ghost use Rattle.sq_top.specs.Messages.{code_of};
+ghost use Rattle.sq_outside.specs.Sinks.{AppendsSuch};
 
 mod auditing;
 mod counting;

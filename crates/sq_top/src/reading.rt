@@ -6,11 +6,12 @@ ghost use Rattle.sq_replay.specs.Laws.{ReadsStreams};
 ghost use Rattle.sq_replay.specs.Streams.{stream_in};
 ghost use Rattle.sq_top.specs.declared.Command.TheVariants as Command;
 ghost use Rattle.sq_top.specs.Commands.{command_in};
-ghost use Rattle.sq_top.specs.Scripts.{Done, AcceptedReplay, after_streams, capacities_script, picks_script, script_of, settings_limit, with_sources};
+ghost use Rattle.sq_top.specs.Scripts.{Done, AcceptedReplay, after_streams, capacities_script, picks_script, script_of, with_sources};
 ghost use Rattle.sq_top.specs.Reads.{AreBytesOf, ScriptLeads, LeadsWith};
 ghost use Rattle.sq_top.specs.Causes.{AreCapacitiesOf, ArePicksOf, HasNoCapacities, HasNoPicks, HasBadLine, HasNoStream, HasNoStreams, EndsAtBadLine, IsNetworkFile, IsRefusedBy, IsStopped, IsStreamOf, IsUnread, source_told};
 ghost use Rattle.sq_top.specs.Views.{replay_of};
 ghost use Rattle.sq_top.specs.Recorded.{AreRecorded};
+ghost use Rattle.sq_reader.specs.Limits.{settings_limit};
 
 use crate::{RunArgs, Status};
 use sq_net::{NetErr, Network, Source};

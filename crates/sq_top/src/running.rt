@@ -11,13 +11,14 @@ ghost use Rattle.sq_pool.specs.Trust.{IsLater, Tells, known};
 ghost use Rattle.sq_core.specs.Runs.{IsRun, IsSoundEngine};
 ghost use Rattle.sq_top.specs.Answers.{IsPrefixText, IsWholeText};
 ghost use Rattle.sq_top.specs.Commands.{command_in, reads_folder, runs_engine};
-ghost use Rattle.sq_top.specs.Causes.{AppendsSuch, BeginsSummary, Ends, TellsStatus, is_plain_end, is_refusal, source_told};
+ghost use Rattle.sq_top.specs.Causes.{BeginsSummary, Ends, TellsStatus, is_plain_end, is_refusal, source_told};
 ghost use Rattle.sq_top.specs.Summaries.{summary_of};
 ghost use Rattle.sq_top.specs.Stopping.{StopHasCause, is_changed, is_garbled};
 ghost use Rattle.sq_top.specs.Driving.{IsCutShort};
 ghost use Rattle.sq_top.specs.Due.{due_of, replayed, turns_in, work_in};
 ghost use Rattle.sq_top.specs.Recorded.{AreRecorded};
 ghost use Rattle.sq_top.specs.Views.{IsAskedBy, replay_of};
+ghost use Rattle.sq_outside.specs.Sinks.{AppendsSuch};
 
 use crate::auditing::audit_files;
 use crate::counting::count;

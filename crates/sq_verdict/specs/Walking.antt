@@ -4,14 +4,13 @@ use Rattle.std.specs.List.{filter, list_any}
 use Rattle.std.specs.BTreeSet.{BTreeSet, Updates, contains}
 use Rattle.std.specs.Ordering.{nat_cmp}
 use Rattle.sq_value.specs.declared.Tuple.{Tuple}
-use Rattle.sq_value.specs.Lists.{max_by, same_bytes}
+use Rattle.sq_value.specs.Lists.{max_by, same_bytes, contains_number, nth}
 use Rattle.sq_value.specs.LineTexts.{output_line}
-use Rattle.sq_graph.specs.Order.{contains_number}
 use Rattle.sq_verdict.specs.declared.verdict.Wanted.{Wanted}
 use Rattle.sq_verdict.specs.declared.verdict.AuditWhy.{AuditWhy}
 use Rattle.sq_verdict.specs.declared.verdict.AuditWhy.TheVariants as why
 use Rattle.sq_verdict.specs.Faults.{Lines, recorded, is_end, ends_with_end, count_of}
-use Rattle.sq_verdict.specs.Wanting.{is_left, left_of, nth}
+use Rattle.sq_verdict.specs.Wanting.{is_left, left_of}
 
 -- a set has these numbers
 abbrev pub HasNumbers : BTreeSet ℕ → List ℕ → Type 0

@@ -111,10 +111,6 @@ abbrev pub drop_decides : Dropping → (ℕ → ℕ → ℕ) → Batches → Lis
 drop_decides d table s [] = []
 drop_decides d table s (e ∷ es) = decided_load d table s e.thing.time e.thing.load ++ drop_decides d table (drop_next d table s e) es
 
--- tuples come at port 0
-abbrev pub port_fits : ℕ → List Value → Bool
-port_fits port fields = port == 0
-
 -- no tuple is late
 abbrev pub none_lost : List Entry → ℕ
 none_lost future = 0

@@ -10,10 +10,10 @@ ghost use Rattle.sq_oper.specs.declared.tally.Place.{Place};
 ghost use Rattle.sq_oper.specs.Entries.{Entry, entries};
 ghost use Rattle.sq_oper.specs.Given.{given, ItemsSound, ThingsUpTo};
 ghost use Rattle.sq_oper.specs.Order.{IsFuture, unmarked, after_all};
-ghost use Rattle.sq_oper.specs.Streams.{at_zero, tuples_of};
+ghost use Rattle.sq_oper.specs.Streams.{at_zero, tuples_of, port_fits};
 ghost use Rattle.sq_tagged.specs.Tagged.{mark_thing, spread_of};
 ghost use Rattle.sq_tagged.specs.Boxes.{drop_tagged, touched_batches, until_at};
-ghost use Rattle.sq_windrop.specs.Drops.{IsDropping, dropping, is_dropped, drop_mark, marks_for, decided, bound_of, newly, after_tuple, next_body, gives_body, decided_body, drop_rest, drop_decides, port_fits, drop_reads, none_lost};
+ghost use Rattle.sq_windrop.specs.Drops.{IsDropping, dropping, is_dropped, drop_mark, marks_for, decided, bound_of, newly, after_tuple, next_body, gives_body, decided_body, drop_rest, drop_decides, drop_reads, none_lost};
 
 use crate::give::give_item;
 use sq_item::{Body, Item, Mark, Sign};

@@ -10,8 +10,8 @@ ghost use Rattle.sq_oper.specs.Entries.{Entry, at_port};
 ghost use Rattle.sq_oper.specs.Given.{given, ItemsSound};
 ghost use Rattle.sq_oper.specs.Machine.{next_all, gives_all};
 ghost use Rattle.sq_oper.specs.Order.{IsFuture};
-ghost use Rattle.sq_oper.specs.Streams.{at_zero, things};
-ghost use Rattle.sq_windrop.specs.Gates.{IsLength, shows_at, gate_shown, first_port, gate_next, gate_gives, gate_rest};
+ghost use Rattle.sq_oper.specs.Streams.{at_zero, things, first_port};
+ghost use Rattle.sq_windrop.specs.Gates.{IsLength, shows_at, gate_shown, gate_next, gate_gives, gate_rest};
 
 use crate::give::give_item;
 use sq_item::{Body, Item, Mark, Sign};

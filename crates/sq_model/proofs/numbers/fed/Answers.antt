@@ -1,11 +1,11 @@
 use Rattle.std.proofs.Common.{◌≡◌, ◌∙◌, ap, length, map, sym}
 use Rattle.std.specs.List.{sum_by}
 use Rattle.sq_graph.specs.Wires.{inputs_at}
-use Rattle.sq_model.specs.Full.{nth}
 use Rattle.sq_model.specs.Fed.{fed_from}
 use Rattle.sq_model.proofs.NumberLemmas.{numbered_more}
 use Rattle.sq_model.proofs.StandingLemmas.{item_there}
 use Rattle.sq_model.proofs.numbers.fed.Goals as goal
+use Rattle.sq_value.specs.Lists.{nth}
 
 pub loop-wires-preserved : goal.loop-wires-preserved
 loop-wires-preserved c =

@@ -2,12 +2,12 @@ use Rattle.std.proofs.Common.{◌≡◌, ◌∙◌, ◌-◌, ◌<◌, List, ap, 
 use Rattle.sq_graph.specs.Wires.{inputs_at, stream_at}
 use Rattle.std.specs.List.{sum_by}
 use Rattle.sq_value.specs.declared.Tuple.{Tuple}
-use Rattle.sq_model.specs.Full.{nth}
 use Rattle.sq_model.specs.Fed.{fed_from, late_at, late_by}
 use Rattle.sq_model.proofs.LateLemmas.{late_other}
 use Rattle.sq_model.proofs.NumberLemmas.{stream_at_within}
 use Rattle.sq_model.proofs.StandingLemmas.{item_there}
 use Rattle.sq_model.proofs.numbers.late_at.Goals as goal
+use Rattle.sq_value.specs.Lists.{nth}
 
 pub stream_of-requires-clause-fits : goal.stream_of-requires-clause-fits
 stream_of-requires-clause-fits c =

@@ -1,7 +1,8 @@
 use Rattle.std.proofs.Common.{◌≡◌, ◌+◌, ◌≤◌, None, length, drop}
-use Rattle.sq_pane.specs.Panes.{joined_within, total, IsMadeIf, number_if}
+use Rattle.sq_pane.specs.Panes.{joined_within, total, IsMadeIf}
 use Rattle.sq_pane.specs.Blocks.{IsJoin, AreBlocks}
 use Rattle.sq_pane.proofs.line.joined_by_blocks.Given as goal
+use Rattle.sq_aggfn.specs.Folds.{number_if}
 
 abbrev pub invariant-loop-k : goal.invariant-loop-k
 invariant-loop-k g l = record {

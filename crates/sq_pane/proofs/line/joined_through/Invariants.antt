@@ -1,6 +1,7 @@
 use Rattle.std.proofs.Common.{◌≡◌, ◌+◌, ◌≤◌, drop}
-use Rattle.sq_pane.specs.Panes.{joined_within, total, IsMadeIf, number_if}
+use Rattle.sq_pane.specs.Panes.{joined_within, total, IsMadeIf}
 use Rattle.sq_pane.proofs.line.joined_through.Given as goal
+use Rattle.sq_aggfn.specs.Folds.{number_if}
 
 abbrev pub invariant-loop-i : goal.invariant-loop-i
 invariant-loop-i g l = record {

@@ -2,8 +2,9 @@ use Rattle.std.proofs.Common.{◌≡◌, ℕ, zero, suc, ◌<◌, ◌-◌, true,
 use Rattle.std.specs.Prelude.{nat_le}
 use Rattle.sq_value.specs.declared.Value.{Value}
 use Rattle.sq_value.specs.Values.{Columns}
-use Rattle.sq_join.specs.Sides.{left_fields, join_fits}
+use Rattle.sq_join.specs.Sides.{join_fits}
 use Rattle.sq_part_trials.proofs.join.pairs_on.Goals as goal
+use Rattle.sq_lists.specs.Pairs.{left_fields}
 
 both-fit : (columns : Columns) (v : Value) (port : ℕ) → left_fields columns ≡ 1 → port < 2 → join_fits columns port (v ∷ []) ≡ true
 both-fit columns v zero one low = ap (λ (w : ℕ). nat_le 1 w) one

@@ -19,7 +19,7 @@ returns-clause-face g c =
     let new = c.take_first.new.self in
     let was = slice_get_read q.lanes.items _ arc lane refl c.requires.there c.index_mut-lane.ensures.value in
     let takes : Takes lane new c.take_first.result = record { front = c.take_first.ensures.front; count = c.take_first.ensures.count; behind = c.take_first.ensures.behind; ended = c.take_first.ensures.ended } in
-    let popped = taken-face lane new c.take_first.result (pages.face q.paged arc) (own-lane q _ arc lane c.requires.together was) (c.requires.together.paged.lanes arc).first takes in
+    let popped = taken-face lane new c.take_first.result (pages.paged_face q.paged arc) (own-lane q _ arc lane c.requires.together was) (c.requires.together.paged.lanes arc).first takes in
     subst (λ (o : Option Lane). IsPopped (face q arc) (face_at o)) (sym (slice_get-set_same q.lanes.items arc new c.requires.there)) (subst (λ (o : Option Lane). IsPopped (face_at o) (face_at (Some new))) (sym was) popped)
 
 pub returns-clause-together : goal.returns-clause-together
@@ -32,4 +32,4 @@ returns-clause-together g c =
     let r : Queues = record q { lanes = with_item q.lanes arc new } in
     written-together q _ r _ arc lane new c.requires.together c.requires.together.paged refl c.requires.there
     (slice_get_read q.lanes.items _ arc lane refl c.requires.there c.index_mut-lane.ensures.value) refl (λ other differ. refl)
-    (λ own. taken-lane lane new c.take_first.result (pages.face q.paged arc) own takes)
+    (λ own. taken-lane lane new c.take_first.result (pages.paged_face q.paged arc) own takes)

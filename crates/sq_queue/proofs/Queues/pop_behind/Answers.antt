@@ -15,7 +15,7 @@ returns-clause-together g c =
     let behind = c.time_of-behind.result in
     let new = popped_lane lane behind in
     let r : Queues = record { lanes = with_item q.lanes arc new; paged = c.pop.new.self } in
-    let after = pages.face c.pop.new.self arc in
+    let after = pages.paged_face c.pop.new.self arc in
     written-together q _ r _ arc lane new c.requires.together c.in-Ok.ensures.together c.in-Ok.ensures.size c.requires.there
     (slice_get_read q.lanes.items _ arc lane refl c.requires.there c.index_mut-lane.ensures.value) refl c.in-Ok.ensures.faces
-    (λ own. popped-lane lane behind (pages.face q.paged arc) after own c.in-Ok.ensures.face (c.time_of-behind.ensures after.ended after.first c.head.ensures))
+    (λ own. popped-lane lane behind (pages.paged_face q.paged arc) after own c.in-Ok.ensures.face (c.time_of-behind.ensures after.ended after.first c.head.ensures))

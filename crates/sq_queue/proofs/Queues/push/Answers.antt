@@ -44,4 +44,4 @@ returns-then-has_room-clause-together g c =
     on-ok-both c.append.result c.append.ensures.front c.append.ensures.count (λ front count.
     written-together q _ r _ arc lane new c.requires.together c.requires.together.paged refl c.requires.there
     (slice_get_read q.lanes.items _ arc lane refl c.requires.there c.index_mut-lane.ensures.value) refl (λ other differ. refl)
-    (λ own. appended-lane lane new c.in_ok-copy.copy (pages.face q.paged arc) own (record { front = front; count = count; behind = c.append.ensures.behind }) c.in_ok-copy.ensures.sound room.1))
+    (λ own. appended-lane lane new c.in_ok-copy.copy (pages.paged_face q.paged arc) own (record { front = front; count = count; behind = c.append.ensures.behind }) c.in_ok-copy.ensures.sound room.1))

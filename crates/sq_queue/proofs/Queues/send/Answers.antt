@@ -41,7 +41,7 @@ returns-then-has_room-clause-together g c =
     on-ok-both c.append.result c.append.ensures.front c.append.ensures.count (λ front count.
     written-together q _ r _ arc lane new c.requires.together c.requires.together.paged refl c.requires.there
     (slice_get_read q.lanes.items _ arc lane refl c.requires.there c.index_mut-lane.ensures.value) refl (λ other differ. refl)
-    (λ own. appended-lane lane new c.args.item (pages.face q.paged arc) own (record { front = front; count = count; behind = c.append.ensures.behind }) c.requires.sound room.1))
+    (λ own. appended-lane lane new c.args.item (pages.paged_face q.paged arc) own (record { front = front; count = count; behind = c.append.ensures.behind }) c.requires.sound room.1))
 
 pub returns-clause-others : goal.returns-clause-others
 returns-clause-others g c =

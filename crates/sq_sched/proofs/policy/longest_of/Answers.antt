@@ -1,9 +1,9 @@
 use Rattle.std.proofs.Common.{◌≡◌, ◌+◌, ◌-◌, ◌∙◌, true, refl, arith}
 use Rattle.std.specs.Prelude.{slice_index}
-use Rattle.sq_sched.specs.Ready.{contains}
 use Rattle.sq_sched.proofs.ReadyLemmas.{contains-at, next-at, next-is}
 use Rattle.sq_sched.proofs.LongestLemmas.{longer-ready, longest-on}
 use Rattle.sq_sched.proofs.policy.longest_of.Goals as goal
+use Rattle.sq_value.specs.Lists.{contains_number}
 
 pub behind-actor-requires : goal.behind-actor-requires
 behind-actor-requires c =
@@ -22,7 +22,7 @@ loop-preserved c =
     let list = c.args.ready.now.list in
     let here : c.behind-actor.result ≡ slice_index list c.loop.counter =
     next-is list (c.loop.counter - 1) c.loop.counter c.loop.actor c.behind-actor.result c.len-end.ensures.once c.loop.invariant.there (omega arith) (omega arith) c.behind-actor.ensures in
-    let listed : contains list c.behind-actor.result ≡ true = rw here (contains-at list c.loop.counter (omega arith)) in
+    let listed : contains_number list c.behind-actor.result ≡ true = rw here (contains-at list c.loop.counter (omega arith)) in
     let same : c.loop.counter + 1 - 1 ≡ c.loop.counter = omega arith in
     record {
       there = rw same here;

@@ -3,7 +3,7 @@ use Rattle.sq_pool.specs.Trust.{Tells, known}
 use Rattle.sq_pool.proofs.TrustLemmas.{IsLater-refl, honest-tells}
 use Rattle.sq_top.specs.Views.{replay_of}
 use Rattle.sq_top.specs.declared.Status.TheVariants as status
-use Rattle.sq_top.specs.Causes.{AppendsSuch, BeginsSummary}
+use Rattle.sq_top.specs.Causes.{BeginsSummary}
 use Rattle.sq_top.specs.Driving.{IsCutShort}
 use Rattle.sq_top.specs.Due.{replayed, turns_in}
 use Rattle.sq_top.specs.Stopping.{StopHasCause, is_changed, is_garbled}
@@ -12,6 +12,7 @@ use Rattle.sq_top.proofs.StopLemmas.{lost_cut, lost_garbled, lost_stop, lost_unc
 use Rattle.sq_top.proofs.SummaryLemmas.{summary_cut, summary_ends, summary_waits}
 use Rattle.sq_top.proofs.WritingLemmas.{on_err, on_ok}
 use Rattle.sq_top.proofs.running.sum_up.Goals as goal
+use Rattle.sq_outside.specs.Sinks.{AppendsSuch}
 
 pub returns-in-Err-clause-later : goal.returns-in-Err-clause-later
 returns-in-Err-clause-later g c = IsLater-refl _

@@ -2,8 +2,8 @@ use Rattle.std.proofs.Common.{◌≡◌, ℕ, ◌+◌, ◌++◌, ◌∷◌, [], 
 use Rattle.sq_value.specs.Lists.{IsPrefixOf}
 use Rattle.sq_oper.specs.Given.{given}
 use Rattle.sq_tagged.specs.Tagged.{mark_thing}
-use Rattle.sq_plain.specs.Boxes.{at_ports_below}
 use Rattle.sq_plain.proofs.filter.FilterBox.pass_mark.Goals as goal
+use Rattle.sq_oper.specs.Streams.{at_ports_below}
 
 pub returns-in-Some-clause-prefix : goal.returns-in-Some-clause-prefix
 returns-in-Some-clause-prefix g c =
