@@ -22,7 +22,7 @@ use Rattle.sq_points.specs.Limits.{KeepsDropLimits}
 use Rattle.sq_points.specs.Points.{points_of}
 use Rattle.sq_tables.specs.Places.{part_place}
 use Rattle.sq_reader.specs.Drops.{drop_place, is_drop_within}
-use Rattle.sq_tables.specs.Rawly.{◌>>=◌, raw_of}
+use Rattle.sq_tables.specs.Rawly.{raw_of}
 use Rattle.sq_reader.specs.Networks.{limited_network, network_in, typed_network, unless_at}
 use Rattle.sq_reader.proofs.SoundLemmas.{network_sound}
 use Rattle.sq_reader.proofs.DropLemmas.{limited_same}
@@ -46,6 +46,7 @@ use Rattle.sq_top.proofs.SourceLemmas.{sources_within, streams_more, text_is_rec
 use Rattle.sq_audited.specs.Laws.{AcceptsRuns}
 use Rattle.sq_audited.proofs.Wholes.{accepts_replays}
 use Rattle.sq_reader.specs.Limits.{settings_limit}
+use Rattle.sq_value.specs.Results.{◌>>=◌}
 
 -- ---- the limits of drop points
 

@@ -29,7 +29,7 @@ use Rattle.sq_tables.specs.declared.raw.RawBody.{RawBody}
 use Rattle.sq_tables.specs.declared.raw.RawBody.TheVariants.{Filter, Map, Union, BSort, Aggregate, Join, Resample}
 use Rattle.sq_tables.specs.declared.raw.RawBox.{RawBox}
 use Rattle.sq_tables.specs.Places.{place_at}
-use Rattle.sq_tables.specs.Rawly.{◌>>=◌, or_broken}
+use Rattle.sq_tables.specs.Rawly.{or_broken}
 use Rattle.sq_tables.specs.Shapes.{port_count}
 use Rattle.sq_reader.specs.Limits.{told_body_within, first_failing, has_between, is_int_between, is_expression_long}
 use Rattle.sq_reader.specs.Windows.{has_window}
@@ -48,6 +48,7 @@ use Rattle.sq_reader.proofs.TypedLemmas.{IsAllowed, kinds_are_set, over_each, pr
 use Rattle.sq_reader.proofs.FunctionLemmas.{few_enough, funcs_kinded, good_given, group_fields, told_count}
 use Rattle.sq_reader.proofs.ResampleLemmas.{given_new, left_width}
 use Rattle.sq_reader.proofs.WindowLemmas.{window_is}
+use Rattle.sq_value.specs.Results.{◌>>=◌}
 
 -- a box of the file, and what it was typed as on these columns
 pub record IsBodyOf (raw : RawBody) (ins : List Columns) (t : TypedBody) : Type 0 where

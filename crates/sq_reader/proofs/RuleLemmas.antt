@@ -22,7 +22,7 @@ use Rattle.sq_tables.specs.declared.raw.RawBody.TheVariants.{Filter, Map, Union,
 use Rattle.sq_tables.specs.declared.raw.RawBox.{RawBox}
 use Rattle.sq_tables.specs.declared.raw.Raw.{Raw}
 use Rattle.sq_tables.specs.Places.{or_else, place_at, part_place}
-use Rattle.sq_tables.specs.Rawly.{◌>>=◌, or_broken}
+use Rattle.sq_tables.specs.Rawly.{or_broken}
 use Rattle.sq_reader.specs.Limits as limits
 use Rattle.sq_reader.specs.Limits.{told_body_within, box_within, first_failing, has_between, inputs_within}
 use Rattle.sq_reader.specs.Naming.{first_repeat, name_place, place_in_space, space_names, twice_place}
@@ -36,6 +36,7 @@ use Rattle.sq_reader.proofs.SchemaLemmas.{schema_none}
 use Rattle.sq_tables.proofs.ShapedLemmas.{first_step}
 use Rattle.sq_reader.proofs.StepLemmas.{found_as}
 use Rattle.sq_reader.proofs.ColumnLemmas.{names_of_zip}
+use Rattle.sq_value.specs.Results.{◌>>=◌}
 
 -- ---- limits
 

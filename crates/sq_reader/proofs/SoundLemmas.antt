@@ -35,7 +35,7 @@ use Rattle.sq_tables.specs.declared.raw.Raw.{Raw}
 use Rattle.sq_tables.specs.Places.{part_place}
 use Rattle.sq_tables.specs.Refusals.{IsAnswerOf}
 use Rattle.sq_tables.specs.Documents.{document_in}
-use Rattle.sq_tables.specs.Rawly.{◌>>=◌, or_broken, raw_from, raw_of}
+use Rattle.sq_tables.specs.Rawly.{or_broken, raw_from, raw_of}
 use Rattle.sq_tables.proofs.EvenLemmas.{answer_even}
 use Rattle.sq_tables.specs.Shapes.{AreEven, IsEven}
 use Rattle.sq_reader.specs.Limits as limits
@@ -57,6 +57,7 @@ use Rattle.sq_tables.proofs.ShapedLemmas.{first_step}
 use Rattle.sq_reader.proofs.BodyLemmas.{IsNodeOf, node_is}
 use Rattle.sq_reader.proofs.NodeLemmas.{AreSettled, IsSettled, all_known, follow_all, settled}
 use Rattle.sq_reader.proofs.RuleLemmas.{numbers_within, outputs_distinct, outputs_known, outputs_named, sources_within, takes_all}
+use Rattle.sq_value.specs.Results.{◌>>=◌}
 
 -- ---- the rules that the file keeps
 

@@ -10,7 +10,7 @@ use Rattle.sq_net.specs.declared.Place.{Place}
 use Rattle.sq_net.specs.declared.NetErr.{NetErr}
 use Rattle.sq_net.specs.declared.NetErr.TheVariants as broken
 use Rattle.sq_tables.specs.declared.raw.Raw.{Raw}
-use Rattle.sq_tables.specs.Rawly.{◌>>=◌, raw_of}
+use Rattle.sq_tables.specs.Rawly.{raw_of}
 use Rattle.sq_reader.specs.Limits.{limit_place}
 use Rattle.sq_reader.specs.Naming.{name_place, twice_place}
 use Rattle.sq_reader.specs.Streaming.{Numbers, cycle_in, told_stream_named, told_stream_names, unknown_among, wiring_by}
@@ -19,6 +19,7 @@ use Rattle.sq_reader.specs.Windows.{window_place}
 use Rattle.sq_reader.specs.Outputs.{graph_fault, output_of}
 use Rattle.sq_reader.specs.Drops.{drop_place}
 use Rattle.sq_reader.specs.Columns.{nat_of, no_nodes, nodes_from}
+use Rattle.sq_value.specs.Results.{◌>>=◌}
 
 -- go on where no place breaks a rule
 abbrev pub unless_at : {A : Type 0} → (Place → NetErr) → Option Place → Result A NetErr → Result A NetErr

@@ -12,7 +12,8 @@ use Rattle.sq_net.specs.declared.Source.{Source}
 use Rattle.sq_net.specs.Names.{is_name}
 use Rattle.sq_tables.specs.declared.raw.RawSource.{RawSource}
 use Rattle.sq_tables.specs.Places.{place_at}
-use Rattle.sq_tables.specs.Rawly.{◌>>=◌, or_broken}
+use Rattle.sq_tables.specs.Rawly.{or_broken}
+use Rattle.sq_value.specs.Results.{◌>>=◌}
 
 abbrev pub is_colon : ℕ → Bool
 is_colon b = b == 58

@@ -13,11 +13,7 @@ use Rattle.sq_tables.specs.declared.raw.Version.TheVariants.{One, Two}
 use Rattle.sq_tables.specs.Documents.{document_in}
 use Rattle.sq_tables.specs.Places.{part_place}
 use Rattle.sq_tables.specs.Shapes.{top_in, source_in, box_in, output_in}
-
-infixl 10 ◌>>=◌
-abbrev pub ◌>>=◌ : {A B : Type 0} → Result A NetErr → (A → Result B NetErr) → Result B NetErr
-(Ok x) >>= f = f x
-(Err e) >>= f = Err e
+use Rattle.sq_value.specs.Results.{◌>>=◌}
 
 abbrev pub or_broken : {A : Type 0} → NetErr → Option A → Result A NetErr
 or_broken e None = Err e

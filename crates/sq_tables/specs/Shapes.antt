@@ -17,7 +17,8 @@ use Rattle.sq_tables.specs.declared.raw.Version.{Version}
 use Rattle.sq_tables.specs.declared.raw.Version.TheVariants.{One, Two}
 use Rattle.sq_tables.specs.declared.raw.RawOutput.{RawOutput}
 use Rattle.sq_tables.specs.declared.raw.Raw.{Raw}
-use Rattle.sq_tables.specs.Documents.{◌>>=◌, when, list_in, has_only, required, optional}
+use Rattle.sq_tables.specs.Documents.{when, list_in, has_only, required, optional}
+use Rattle.sq_value.specs.Options.{◌>>=◌}
 
 -- the top of a file: its numbers, and its tables
 pub record Tables : Type 0 where

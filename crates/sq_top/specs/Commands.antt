@@ -1,7 +1,7 @@
 -- Which words are a command, and what it asks for.
 use Rattle.std.specs.Prelude.{ℕ, ◌-◌, ◌^◌, Bool, true, false, ◌&&◌, ◌==◌, nat_le, if◌then◌else◌, List, [], ◌∷◌, Option, Some, None, codes}
 use Rattle.std.specs.List.{list_all, list_any, before_first, after_first}
-use Rattle.std.specs.Option.{option_map, option_and_then}
+use Rattle.std.specs.Option.{option_map}
 use Rattle.sq_value.specs.Lists.{contains_bytes, same_bytes}
 use Rattle.sq_value.specs.Texts.{are_digits, number_in, read_number}
 use Rattle.sq_sched.specs.declared.policy.Rule.{Rule}
@@ -10,6 +10,7 @@ use Rattle.sq_top.specs.declared.RunArgs.{RunArgs}
 use Rattle.sq_top.specs.declared.Command.{Command}
 use Rattle.sq_top.specs.declared.Command.TheVariants as command
 use Rattle.sq_value.specs.CommandWords.{Word, is_equals, may_name}
+use Rattle.sq_value.specs.Options.{◌>>=◌}
 
 -- a word by itself: one that doesn't begin with a dash, `--name=value`, `--name`, or none of these
 pub data Piece : Type 0 where
@@ -96,10 +97,6 @@ rule_of None None = Some rule.RoundRobin
 rule_of None (Some file) = Some rule.Picks
 rule_of (Some policy) None = rule_named policy
 rule_of (Some policy) (Some file) = None
-
-infixl 10 ◌>>=◌
-abbrev pub ◌>>=◌ : {A B : Type 0} → Option A → (A → Option B) → Option B
-o >>= f = option_and_then f o
 
 -- what is given asks for a run of the one network that is named, where each option is known and given at most once
 abbrev pub args_of : List Given → Option RunArgs
