@@ -15,7 +15,7 @@ LOADER.exec_module(house)
 
 FILES = {
     "crates.txt": "low:\nhigh: low spare\n",
-    "crates/low/src/lib.rt": "fn f(n: u32) -> u32\n    ensures { result ≡ twice n }\n{\n    n + n\n}\n",
+    "crates/low/src/lib.rt": "ghost use Rattle.low.specs.Words.{twice};\nfn f(n: u32) -> u32\n    ensures { result ≡ twice n }\n{\n    n + n\n}\n",
     "crates/low/specs/Words.antt": "-- twice as much\nabbrev pub twice : ℕ → ℕ\ntwice n = n + n\n\nabbrev pub first : List ℕ → ℕ\nfirst xs = 0\n\n"
                                    "abbrev pub wide : ℕ → ℕ\nwide n = 1\n",
     "crates/low/proofs/Sums.antt": "pub sum-zero : (n : ℕ) → n + 0 ≡ n\nsum-zero n = refl\n",

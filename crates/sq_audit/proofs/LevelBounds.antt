@@ -9,11 +9,11 @@ use Rattle.sq_road.specs.declared.Step.{Step}
 use Rattle.sq_road.specs.Roads.{is_cheaper, steps_of, steps_of_drop, all_steps, level_in}
 use Rattle.sq_plan.specs.Plans.{gain_of}
 use Rattle.sq_plan.specs.Rates.{loads_of}
-use Rattle.sq_plan.specs.Shown.{taken_after}
 use Rattle.sq_place.specs.declared.DropPoint.{DropPoint}
 use Rattle.sq_net.specs.declared.Network.{Network}
 use Rattle.sq_points.specs.Points.{losses_below, loss_below, setting_of, points_of}
 use Rattle.sq_model.specs.Shedding.{Replay, counts_in, level_of}
+use Rattle.sq_plan.proofs.ShownWords.{taken_after}
 
 module _ (w : ℕ) where
   abbrev bit : Bool → ℕ

@@ -30,13 +30,14 @@ use Rattle.sq_model.proofs.StreamLemmas.{full_are_streams, stream_at_number}
 use Rattle.sq_verdict.specs.declared.verdict.Verdict.TheVariants as verdict
 use Rattle.sq_verdict.specs.Faults.{batch_of, drop_told_in, recorded, batch_rises, is_level, verdict_on}
 use Rattle.sq_verdict.specs.Wanting.{is_left, shown_of, shown_one}
-use Rattle.sq_verdict.specs.Whole.{AreDrops, AreEnds, Expected, IsSoundDue, IsWhole}
+use Rattle.sq_verdict.specs.Whole.{AreEnds, Expected, IsWhole}
 use Rattle.sq_verdict.proofs.Accepts.{recorded_of_class, whole_is_yes}
 use Rattle.sq_verdict.proofs.DropLines.{IsTick, drops_have_class, read_back}
 use Rattle.sq_audit.specs.Audits.{above_of, audit_of, wanted_of, wanted_one}
 use Rattle.sq_audit.specs.Laws.{AcceptsWhole, answer_lines, due_for, record_lines}
 use Rattle.sq_audit.proofs.AuditLemmas.{above_there, measured_at, outputs_even, points_few, stream_of_arc}
 use Rattle.sq_audit.proofs.LevelBounds.{levels-low, levels-whole}
+use Rattle.sq_verdict.proofs.WholeWords.{AreDrops, IsSoundDue}
 
 -- ---- numbers that rise
 

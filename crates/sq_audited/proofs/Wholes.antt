@@ -29,9 +29,10 @@ use Rattle.sq_verdict.proofs.Plain.{not_true}
 use Rattle.sq_audit.specs.Laws.{answer_lines, due_for, record_lines}
 use Rattle.sq_audit.proofs.AuditLemmas.{points_few}
 use Rattle.sq_audit.proofs.Replays.{accepts_whole}
-use Rattle.sq_top.specs.Due.{Due, answer_in, due_in, ended_in, replayed, shown_at_output}
+use Rattle.sq_top.specs.Due.{Due, answer_in, due_in, ended_in, replayed}
 use Rattle.sq_top.specs.Answers.{IsWholeText, is_classed}
 use Rattle.sq_audited.specs.Laws.{AcceptsReplays}
+use Rattle.sq_top.proofs.DueWords.{shown_at_output}
 
 module _ (r : model.Replay) where
   shown_same : (k : ℕ) (os : List Output) → map (shown_at_output (answer_in r)) (zip os (range_with_len k (length os))) ≡ map (answer_lines r) (enumerate_from k os)

@@ -5,12 +5,13 @@ use Rattle.sq_graph.specs.Wires.{input_arcs_of}
 use Rattle.sq_place.specs.declared.DropPoint.{DropPoint}
 use Rattle.sq_place.specs.Places.{own_arcs}
 use Rattle.sq_model.specs.Shedding.{Replay}
-use Rattle.sq_below.specs.Carried.{nothing_tagged, given, lags_at, box_tagged_at, carried_by, carried_within, carried}
-use Rattle.sq_below.specs.Ranks.{HasRanks}
+use Rattle.sq_below.specs.Carried.{nothing_tagged, given, lags_at, carried_by, carried_within, carried}
 use Rattle.sq_place.proofs.Lists.{map-agree}
 use Rattle.sq_place.proofs.Climbs.{producer_at, fixed}
 use Rattle.sq_place.proofs.Wires.{arcs-rise}
 use Rattle.sq_value.specs.Lists.{contains_number}
+use Rattle.sq_below.proofs.CarriedWords.{box_tagged_at}
+use Rattle.sq_below.proofs.RankWords.{HasRanks}
 
 -- what is carried, as an equation along the boxes
 pub carried-fixed : (r : Replay) (sound : HasRanks r.network) (d : ℕ) (p : DropPoint) (a : ℕ)

@@ -14,7 +14,7 @@ use Rattle.sq_oper.specs.Order.{load_fits, AllFit, IsFuture}
 use Rattle.sq_oper.specs.Given.{given, ItemsSound, ThingsUpTo}
 use Rattle.sq_oper.proofs.GivenLemmas.{ThingsUpTo-split}
 use Rattle.sq_left.specs.Left.{Net, Holding, Each}
-use Rattle.sq_left.specs.Heads.{ItemsNotBefore, AllFine}
+use Rattle.sq_left.specs.Heads.{AllFine}
 use Rattle.sq_left.proofs.MergeLemmas.{eqb-yes, eqb-no, eqb-same, eqb-not}
 use Rattle.sq_left.proofs.ActorSteps.{EachPort, PortFacts, taken_at}
 use Rattle.sq_left.proofs.WorldSteps.{EachPort-from, Each-from, spread-not-before}
@@ -22,6 +22,7 @@ use Rattle.sq_paged.specs.Fronts.{first_time}
 use Rattle.sq_flow.specs.Wiring.{pushed_by, AllOutsFine}
 use Rattle.sq_flow.specs.Heads.{FirstNotBefore, NextUpTo}
 use Rattle.sq_flow.specs.declared.heads.Next.TheVariants.{Feed}
+use Rattle.sq_left.proofs.HeadWords.{ItemsNotBefore}
 
 load-weaker : (marks marks' : ℕ → Bool) (fits fits' : ℕ → List Value → Bool) (port : ℕ) (load : Load)
     → (marks port ≡ true → marks' port ≡ true) → ((fields : List Value) → fits port fields ≡ true → fits' port fields ≡ true)

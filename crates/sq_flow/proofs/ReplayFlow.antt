@@ -35,7 +35,7 @@ use Rattle.sq_flow.proofs.SumLemmas.{sum-same}
 use Rattle.sq_flow.proofs.WireLemmas.{one-sent, comes-from}
 use Rattle.sq_flow.specs.declared.seats.Seat.{Seat}
 use Rattle.sq_flow.specs.declared.flow.Flow.{Flow}
-use Rattle.sq_flow.specs.Wiring.{net_of, arcs_from, times_in, from_of, sent, IsOwn}
+use Rattle.sq_flow.specs.Wiring.{net_of, arcs_from, times_in, from_of, IsOwn}
 use Rattle.sq_flow.specs.Seats.{Meaning, done_at, holds_at, IsSeat}
 use Rattle.sq_flow.specs.Events.{lines_of, drops_of}
 use Rattle.sq_flow.specs.Flows.{world_of, IsFlow, HoldsItems, Goes, Stepped, ShowsPrefix, RiseFrom, to_release, tuples_to_come, lines_left, decisions_left, turns_at_last, count_all}
@@ -43,6 +43,7 @@ use Rattle.sq_flow.proofs.SendLemmas.{at_or_other, apart-arcs}
 use Rattle.sq_flow.proofs.FutureLemmas.{slice_get-set_same, slice_get-set_other}
 use Rattle.sq_flow.proofs.ArcLemmas.{arcs-left}
 use Rattle.sq_value.specs.Lists.{contains_number}
+use Rattle.sq_flow.proofs.WiringWords.{sent}
 
 pub fine-later : (t u : ℕ) (its : List Item) → t ≤ u → AllFine t its → AllFine u its
 fine-later t u [] le h = tt

@@ -9,11 +9,12 @@ use Rattle.sq_left.proofs.MergeLemmas.{eqb-yes, eqb-same}
 use Rattle.sq_queue.specs.Faces.{face, size}
 use Rattle.sq_flow.specs.declared.wires.Wires.{Wires}
 use Rattle.sq_flow.specs.declared.flow.Flow.{Flow}
-use Rattle.sq_flow.specs.Wiring.{arcs_from, times_in, from_of, arc_port, sent, pushed_by, IsShaped}
+use Rattle.sq_flow.specs.Wiring.{arcs_from, times_in, from_of, arc_port, pushed_by, IsShaped}
 use Rattle.sq_flow.specs.Seats.{Meaning, done_at}
 use Rattle.sq_flow.specs.Sends.{many, sent_to, is_sent_by}
 use Rattle.sq_flow.specs.Flows.{IsFlow}
 use Rattle.sq_value.specs.Lists.{contains_number}
+use Rattle.sq_flow.proofs.WiringWords.{sent}
 
 times-some : (xs : List ℕ) (place x : ℕ) → slice_get xs place ≡ Some x → times_in x xs ≢ 0
 times-some [] place x is = λ h. cc is

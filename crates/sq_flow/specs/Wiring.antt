@@ -81,10 +81,6 @@ net_of wires =
       fits = λ actor port fields. fits_on (arc_wired wires (slice_get (arcs_read wires actor) port)) fields;
     }
 
--- what an item that an actor gives at a port is on a stream
-abbrev pub sent : ℕ → ℕ → List Thing → ℕ → ℕ → List Thing
-sent actor port things from to = if actor == from then (if port == to then things else []) else []
-
 -- what items that an actor gives are on a stream
 abbrev pub pushed_by : ℕ → List (ℕ × Item) → ℕ → ℕ → List Thing
 pushed_by actor outs from to = if actor == from then given to outs else []

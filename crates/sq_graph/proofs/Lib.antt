@@ -9,3 +9,4 @@ pub mod Following
 pub mod Streams
 pub mod FirstCycle
 pub mod Producers
+pub mod OrderWords

@@ -47,9 +47,6 @@ leads_to w (suc n) a b = feeds w a b || list_any (λ c. feeds w a c && leads_to 
 abbrev pub is_on_cycle : Wiring → ℕ → Bool
 is_on_cycle w at = leads_to w (length w.boxes) at at
 
-abbrev pub is_acyclic : Wiring → Bool
-is_acyclic w = list_all (λ at. not (is_on_cycle w at)) (numbers_to (length w.boxes))
-
 -- whether each stream that a box takes is there
 abbrev pub is_there : Option Producer → Bool
 is_there None = false

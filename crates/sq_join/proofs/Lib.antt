@@ -1,3 +1,4 @@
 pub mod EqualLemmas
 pub mod TurnLemmas
 pub mod JoinLemmas
+pub mod ElementWords

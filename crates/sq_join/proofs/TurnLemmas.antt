@@ -17,8 +17,9 @@ use Rattle.sq_oper.specs.Order.{may_come, time_of, moment_after, load_fits, InOr
 use Rattle.sq_oper.specs.Streams.{tuple_in}
 use Rattle.sq_oper.proofs.StreamLemmas.{may-come-time}
 use Rattle.sq_oper.proofs.FedLemmas.{tuple_entry}
-use Rattle.sq_join.specs.Elements.{Element, elements_of, side_of, TwoSides, InTurn, moment_port}
+use Rattle.sq_join.specs.Elements.{Element, elements_of, side_of}
 use Rattle.sq_join.specs.Sides.{most_at, join_fits}
+use Rattle.sq_join.proofs.ElementWords.{TwoSides, InTurn, moment_port}
 
 -- ---- the merge
 

@@ -1,11 +1,9 @@
 -- The elements of a tagged list: its tuples, each with the side that it comes at.
 use Rattle.std.specs.Prelude.{◌≡◌, ℕ, ◌⊎◌, ◌==◌, ◌≤◌, List, [], ◌∷◌, ◌++◌, map}
-use Rattle.std.specs.List.{AllByRecursion, filter}
+use Rattle.std.specs.List.{filter}
 use Rattle.sq_value.specs.declared.Tuple.{Tuple}
 use Rattle.sq_lists.specs.Merge as whole
 use Rattle.sq_lists.specs.Sides.{on_side}
-use Rattle.sq_oper.specs.declared.tally.Place.{Place}
-use Rattle.sq_oper.specs.declared.tally.Place.TheVariants.{Start, At}
 use Rattle.sq_oper.specs.Entries.{Entry}
 use Rattle.sq_oper.specs.Streams.{tuple_in}
 
@@ -20,17 +18,3 @@ elements_of (e ∷ es) = on_side e.port (tuple_in e.thing.time e.thing.load) ++ 
 -- the tuples of one side
 abbrev pub side_of : ℕ → List Element → List Tuple
 side_of side es = map (λ e. e.1) (filter (λ e. e.0 == side) es)
-
--- each is of one of two sides
-abbrev pub TwoSides : List Element → Type 0
-TwoSides es = AllByRecursion (λ e. (e.0 ≡ 0) ⊎ (e.0 ≡ 1)) es
-
--- each comes no earlier than the one before it, and at the same time at no lower side
-abbrev pub InTurn : ℕ → ℕ → List Element → Type 0
-InTurn time side [] = Unit {0}
-InTurn time side (e ∷ es) = ((time ≤ (e.1).time) × (time ≡ (e.1).time → side ≤ e.0)) × InTurn (e.1).time e.0 es
-
--- the port of the last item, 0 before the first
-abbrev pub moment_port : Place → ℕ
-moment_port Start = 0
-moment_port (At time port marked) = port

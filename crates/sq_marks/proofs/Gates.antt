@@ -8,12 +8,12 @@ use Rattle.sq_item.specs.declared.Mark.TheVariants as mark
 use Rattle.sq_tagged.specs.Tagged.{bound_at, lessened, lessened_by}
 use Rattle.sq_tagged.specs.Boxes.{is_open, opens, gate_of}
 use Rattle.sq_place.specs.Ranks.{Somewhere}
-use Rattle.sq_marks.specs.Arcs.{marked, AllTimes, IsNear}
 use Rattle.sq_marks.proofs.Lists.{filter-same}
 use Rattle.sq_marks.proofs.Bounds.{bound-less}
 use Rattle.sq_marks.proofs.Nearness.{All-weaker, Somewhere-weaker}
 use Rattle.sq_marks.proofs.Keeping.{marks_of, bound-reaches}
 use Rattle.sq_value.specs.Lists.{contains_number}
+use Rattle.sq_marks.proofs.ArcWords.{marked, AllTimes, IsNear}
 
 filter-both : {X : Type 0} (p q : X → Bool) (xs : List X) → filter q (filter p xs) ≡ filter (λ x. p x && q x) xs
 filter-both p q [] = refl

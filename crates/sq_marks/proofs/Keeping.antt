@@ -9,10 +9,10 @@ use Rattle.sq_item.specs.declared.Mark.TheVariants as mark
 use Rattle.sq_tagged.specs.Tagged.{Timed, bound_in, bound_at, lessened_by, below_bounds}
 use Rattle.sq_tagged.specs.Boxes.{mark_of}
 use Rattle.sq_place.specs.Ranks.{Somewhere}
-use Rattle.sq_marks.specs.Arcs.{AllTimes, IsNear}
 use Rattle.sq_marks.proofs.Lists.{filter-same}
 use Rattle.sq_marks.proofs.Bounds.{bound-less}
 use Rattle.sq_marks.proofs.Nearness.{All-weaker, Somewhere-weaker}
+use Rattle.sq_marks.proofs.ArcWords.{AllTimes, IsNear}
 
 bound-cons : (m : Timed) (ms : List Timed) (t : ℕ) → bound_at ms t ≤ bound_at (m ∷ ms) t
 bound-cons m ms t = by (leb m.0 t)

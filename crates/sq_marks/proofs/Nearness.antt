@@ -12,9 +12,9 @@ use Rattle.sq_lists.specs.Boxes.{mapped, map_list_of}
 use Rattle.sq_lists.specs.Merge.{union}
 use Rattle.sq_lists.specs.Windows.{in_window, in_group, groups_of, window_results, aggregate_of}
 use Rattle.sq_place.specs.Ranks.{Somewhere}
-use Rattle.sq_marks.specs.Arcs.{AllTimes, IsNear}
 use Rattle.sq_marks.proofs.Unions.{time_of, union-sorted}
 use Rattle.sq_marks.proofs.Orders.{by_key}
+use Rattle.sq_marks.proofs.ArcWords.{AllTimes, IsNear}
 
 module _ {X : Type 0} (P : X → Type 0) where
   pub All-append : (xs ys : List X) → AllByRecursion P xs → AllByRecursion P ys → AllByRecursion P (xs ++ ys)

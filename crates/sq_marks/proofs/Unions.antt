@@ -6,12 +6,12 @@ use Rattle.sq_value.specs.declared.Tuple.{Tuple}
 use Rattle.sq_value.specs.Lists.{insert_by, sort_by, ports_from}
 use Rattle.sq_lists.specs.Merge.{union}
 use Rattle.sq_tagged.specs.Tagged.{Timed, Tagged, same_time, first_marks, lessened_by, bound_at, below_bounds}
-use Rattle.sq_tagged.specs.Boxes.{lagging, union_marks, union_tagged}
 use Rattle.sq_place.specs.Ranks.{Somewhere}
-use Rattle.sq_marks.specs.Arcs.{marked, MarksRise}
 use Rattle.sq_marks.proofs.Lists.{filter-swap, filter-under, filter-flat_map, flat_map-map}
 use Rattle.sq_marks.proofs.Bounds.{bound-less, lessened-twice}
 use Rattle.sq_marks.proofs.Orders.{by_key, AtLeast, Ascends, insert-front, filter-insert, filter-sort, sort-ascends, AtLeast-weaker, AtLeast-filter}
+use Rattle.sq_marks.proofs.ArcWords.{marked, MarksRise}
+use Rattle.sq_tagged.proofs.UnionWords.{lagging, union_marks, union_tagged}
 
 -- a map that keeps the key, and sorting
 map-insert : {X Y : Type 0} (key : X → ℕ) (other : Y → ℕ) (f : Y → X) → ((y : Y) → key (f y) ≡ other y) → (y : Y) (ys : List Y)

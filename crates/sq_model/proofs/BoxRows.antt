@@ -24,8 +24,9 @@ use Rattle.sq_net.specs.declared.Output.{Output}
 use Rattle.sq_net.specs.declared.Network.{Network}
 use Rattle.sq_net.specs.Sound.{HasWindow, kind_of_body}
 use Rattle.sq_model.specs.Full.{full_arc}
-use Rattle.sq_model.specs.Fed.{fed_of, late_of, work_of}
+use Rattle.sq_model.specs.Fed.{fed_of, late_of}
 use Rattle.sq_model.specs.Placed.{IsPlaced}
+use Rattle.sq_model.proofs.FedWords.{work_of}
 
 abbrev at : ℕ → ℕ → Tuple
 at t v = record { time = t; fields = value.Int (pos v) ∷ [] }

@@ -11,11 +11,12 @@ use Rattle.sq_graph.specs.Order.{can_be_next, is_given, order_of}
 use Rattle.sq_graph.proofs.Following.{order_follows}
 use Rattle.sq_graph.proofs.Reach.{and_parts, port_is_box}
 use Rattle.sq_net.specs.declared.Network.{Network}
-use Rattle.sq_model.specs.Full.{box_list_at, produced, full_within, full_stream, full_streams}
+use Rattle.sq_model.specs.Full.{produced, full_within, full_stream, full_streams}
 use Rattle.sq_model.specs.Placed.{IsPlaced}
 use Rattle.sq_model.specs.Laws.{FollowsBoxes, AreFull}
 use Rattle.sq_model.proofs.OrderLemmas.{order_counts, order_has, parts_around}
 use Rattle.sq_value.specs.Lists.{contains_number, nth}
+use Rattle.sq_model.proofs.FullWords.{box_list_at}
 
 -- each round is worked out from the one before
 abbrev Rounds : Network → List (List Tuple) → (ℕ → ℕ → List Tuple) → Type 0

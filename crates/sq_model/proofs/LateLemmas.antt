@@ -19,12 +19,13 @@ use Rattle.sq_net.specs.declared.Node.{Node}
 use Rattle.sq_net.specs.declared.Network.{Network}
 use Rattle.sq_net.specs.Sound.{IsSound, IsTypedBody, input_columns}
 use Rattle.sq_net.proofs.StreamLemmas.{boxes_count}
-use Rattle.sq_model.specs.Full.{box_list, box_list_at, produced, full_stream, full_streams}
+use Rattle.sq_model.specs.Full.{box_list, produced, full_stream, full_streams}
 use Rattle.sq_model.specs.Fed.{fed_of, late_at, late_by, late_of}
 use Rattle.sq_model.specs.Laws.{LateAreTheRest}
 use Rattle.sq_model.proofs.NumberLemmas.{producer_at}
 use Rattle.sq_model.proofs.FullLemmas.{full_follows, full_listed}
 use Rattle.sq_model.proofs.PlacedLemmas.{placed_of}
+use Rattle.sq_model.proofs.FullWords.{box_list_at}
 
 -- ---- the list
 

@@ -21,3 +21,5 @@ pub mod FirstLemmas
 pub mod ShedLemmas
 pub mod WorkLemmas
 pub mod MeasuredLemmas
+pub mod FedWords
+pub mod FullWords

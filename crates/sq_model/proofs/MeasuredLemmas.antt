@@ -8,7 +8,6 @@ use Rattle.sq_graph.specs.Wires.{producers_of, arcs_of, output_arc_at}
 use Rattle.sq_place.specs.declared.DropAt.{DropAt}
 use Rattle.sq_place.specs.declared.DropAt.TheVariants as at
 use Rattle.sq_place.specs.declared.DropPoint.{DropPoint}
-use Rattle.sq_place.specs.Numbers.{lcm_of_all}
 use Rattle.sq_place.specs.Places.{stream_on, arc_numbers, arcs_leaving, is_reached, reached_arcs, outputs_below, places_of_stream, places_of, drop_places_of}
 use Rattle.sq_place.specs.Points.{point_at, dist_of, keep_for, last_advances}
 use Rattle.sq_place.specs.Refusals.{IsFine}
@@ -24,6 +23,7 @@ use Rattle.sq_points.specs.Limits.{KeepsDropLimits}
 use Rattle.sq_points.proofs.Bounds.{batch_low, small_windows}
 use Rattle.sq_model.specs.Given.{IsMeasured, IsAt}
 use Rattle.sq_model.proofs.Alls.{All-append, All-kept}
+use Rattle.sq_place.proofs.NumberWords.{lcm_of_all}
 
 flat-all : {X Y : Type 0} (P : Y → Type 0) (f : X → List Y) (xs : List X) → AllByRecursion (λ x. AllByRecursion P (f x)) xs → AllByRecursion P (flat_map f xs)
 flat-all P f [] all = tt

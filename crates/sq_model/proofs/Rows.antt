@@ -17,7 +17,8 @@ use Rattle.sq_net.specs.declared.Source.{Source}
 use Rattle.sq_net.specs.declared.Output.{Output}
 use Rattle.sq_net.specs.declared.Network.{Network}
 use Rattle.sq_model.specs.Full.{full_arc, full_streams}
-use Rattle.sq_model.specs.Fed.{fed_of, work_of}
+use Rattle.sq_model.specs.Fed.{fed_of}
+use Rattle.sq_model.proofs.FedWords.{work_of}
 
 abbrev at : ℕ → ℕ → Tuple
 at t v = record { time = t; fields = value.Int (pos v) ∷ [] }

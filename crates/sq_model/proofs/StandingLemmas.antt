@@ -13,12 +13,13 @@ use Rattle.sq_graph.proofs.Cycles.{or_cases}
 use Rattle.sq_graph.proofs.Producers.{producer_is}
 use Rattle.sq_net.specs.declared.Network.{Network}
 use Rattle.sq_net.specs.declared.Node.{Node}
-use Rattle.sq_model.specs.Full.{box_list, box_list_at, produced, full_stream, full_streams}
+use Rattle.sq_model.specs.Full.{box_list, produced, full_stream, full_streams}
 use Rattle.sq_model.specs.Placed.{IsPlaced}
 use Rattle.sq_model.specs.Standing.{Stands}
 use Rattle.sq_model.proofs.NumberLemmas.{producer_at, producer_has_number}
 use Rattle.sq_model.proofs.FullLemmas.{full_count, full_follows, full_listed, is_given_in_order, ports_alike}
 use Rattle.sq_value.specs.Lists.{contains_number, nth}
+use Rattle.sq_model.proofs.FullWords.{box_list_at}
 
 -- what is read at a place of a slice of these items is the item there
 pub item_there : {X : Type 0} (xs ys : List X) (i : ℕ) (x : X) → ys ≡ xs → i < length xs → x ≡ get_or ys i x → slice_get xs i ≡ Some x

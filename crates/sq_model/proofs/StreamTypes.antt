@@ -22,7 +22,7 @@ use Rattle.sq_net.specs.Columns.{first_columns, second_columns}
 use Rattle.sq_net.specs.Sound.{IsSound, IsOver, IsTypedBody, input_columns}
 use Rattle.sq_net.specs.Streams.{columns_of_port, columns_given, columns_of_stream}
 use Rattle.sq_net.proofs.StreamLemmas.{stream_typed}
-use Rattle.sq_model.specs.Full.{box_list, box_list_at, produced, full_within}
+use Rattle.sq_model.specs.Full.{box_list, produced, full_within}
 use Rattle.sq_model.proofs.NumberLemmas.{producer_has_number}
 use Rattle.sq_model.proofs.Alls.{time_of, union-sorted}
 use Rattle.sq_model.proofs.Alls.{by_key}
@@ -31,6 +31,7 @@ use Rattle.sq_model.specs.Fit.{FitsOption, SourcesFit, StreamsFit}
 use Rattle.sq_model.proofs.BoxTypes.{FitsColumns, same-kinds, map-fits, bsort-keeps, aggregate-fits, join-fits, resample-fits, sided}
 use Rattle.sq_model.proofs.Alls.{holds-at}
 use Rattle.sq_model.proofs.PortLow.{port-low}
+use Rattle.sq_model.proofs.FullWords.{box_list_at}
 
 -- what stands at a place in a list
 pub some-at : {X : Type 0} (xs : List X) (i : ℕ) → i < length xs → (x : X) × (slice_get xs i ≡ Some x)

@@ -2,7 +2,7 @@
 use Rattle.std.specs.Prelude.{ℕ, ◌+◌, ◌-◌, List, length, Option, None, Some, slice_get}
 use Rattle.std.specs.List.{sum_by}
 use Rattle.sq_value.specs.declared.Tuple.{Tuple}
-use Rattle.sq_value.specs.Lists.{numbers_to, nth}
+use Rattle.sq_value.specs.Lists.{nth}
 use Rattle.sq_graph.specs.Wires.{inputs_of, stream_at}
 use Rattle.sq_net.specs.declared.Network.{Network}
 use Rattle.sq_net.specs.declared.Node.{Node}
@@ -13,11 +13,6 @@ use Rattle.sq_model.specs.Full.{full_streams}
 -- how many tuples a box is fed over all its inputs, where these are the streams by number
 abbrev pub fed_from : Network → List (List Tuple) → ℕ → ℕ
 fed_from n streams at = sum_by (λ s. length (nth streams s)) (inputs_of n.wires at)
-
--- how many tuples all boxes and all outputs are fed
-abbrev pub work_from : Network → List (List Tuple) → ℕ
-work_from n streams =
-    sum_by (fed_from n streams) (numbers_to (length n.boxes)) + sum_by (λ s. length (nth streams s)) n.wires.outputs
 
 -- what a BSort takes less what it gives; no other box has late tuples
 abbrev pub late_by : Body → ℕ → ℕ → ℕ
@@ -35,9 +30,6 @@ late_from n streams at = late_at (slice_get n.boxes at) (fed_from n streams at) 
 -- the same of the full streams
 abbrev pub fed_of : Network → List (List Tuple) → ℕ → ℕ
 fed_of n sources at = fed_from n (full_streams n sources) at
-
-abbrev pub work_of : Network → List (List Tuple) → ℕ
-work_of n sources = work_from n (full_streams n sources)
 
 abbrev pub late_of : Network → List (List Tuple) → ℕ → ℕ
 late_of n sources at = late_from n (full_streams n sources) at

@@ -15,7 +15,6 @@ use Rattle.sq_place.specs.declared.DropAt.{DropAt}
 use Rattle.sq_place.specs.declared.DropAt.TheVariants as at
 use Rattle.sq_net.specs.declared.Network.{Network}
 use Rattle.sq_model.specs.Shedding.{Replay, touched_by}
-use Rattle.sq_model.specs.Kept.{distance_of}
 use Rattle.sq_model.specs.Shedding as shed
 
 abbrev pub drops_at : LevelTable → ℕ → ℕ → DropPoint → ℕ → Bool
@@ -65,11 +64,6 @@ pub record LevelsAre (table : LevelTable) (r : Replay) : Type 0 where
 abbrev pub found_at : Option ℕ → List DropPoint → Option (ℕ × DropPoint)
 found_at None ps = None
 found_at (Some w) ps = option_map (λ p. (w, p)) (slice_get ps w)
-
--- the tuples of an arc that some permitted batch may need, where these are all and the drop above the arc is one of these
-abbrev pub kept_for : LevelTable → ℕ → Option (ℕ × DropPoint) → ℕ → List Tuple → List Tuple
-kept_for table seed None a xs = xs
-kept_for table seed (Some d) a xs = kept_by table seed d.0 d.1 (distance_of d.1 a) xs
 
 -- how many tuples of each source arrive in an epoch of this length
 abbrev pub counted : ℕ → List (List Tuple) → ℕ → List ℕ

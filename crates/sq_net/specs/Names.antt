@@ -3,15 +3,12 @@ use Rattle.std.specs.Prelude.{ℕ, Bool, false, not, ◌&&◌, ◌||◌, ◌==�
 use Rattle.std.specs.List.{list_all}
 use Rattle.sq_value.specs.Lists.{contains_bytes}
 use Rattle.sq_value.specs.Texts.{is_digit}
-use Rattle.sq_expr.specs.Tokens.{is_letter}
+use Rattle.sq_expr.specs.Tokens.{is_letter, in_word}
 use Rattle.std.specs.Fmt.{decimal}
-
-abbrev pub may_follow : ℕ → Bool
-may_follow b = is_letter b || is_digit b || (b == 95)
 
 abbrev pub has_name_form : List ℕ → Bool
 has_name_form [] = false
-has_name_form (b ∷ bs) = is_letter b && list_all may_follow bs && nat_lt (length bs) 32
+has_name_form (b ∷ bs) = is_letter b && list_all in_word bs && nat_lt (length bs) 32
 
 -- the words of expressions that are no names
 abbrev pub reserved : List (List ℕ)

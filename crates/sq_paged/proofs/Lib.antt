@@ -7,3 +7,4 @@ pub mod ArcLemmas
 pub mod CallLemmas
 pub mod CauseLemmas
 pub mod LaneLemmas
+pub mod KeptWords

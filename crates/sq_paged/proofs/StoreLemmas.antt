@@ -17,8 +17,9 @@ use Rattle.sq_page.proofs.FitLemmas.{items-are-read}
 use Rattle.sq_page.proofs.PageLemmas.{many-room}
 use Rattle.sq_page.proofs.Takes.{some_is}
 use Rattle.sq_page.proofs.WholeTakes.{item_at_end, empty_page}
-use Rattle.sq_paged.specs.Kept.{page_seen, FitsKept, IsFit, Brought, Written, Spares, Appended, Taken, Started, items_kept, items_of_bytes}
+use Rattle.sq_paged.specs.Kept.{page_seen, FitsKept, IsFit, Brought, Spares, Appended, Taken, Started, items_kept, items_of_bytes}
 use Rattle.sq_paged.specs.declared.store.Kept.{Kept}
+use Rattle.sq_paged.proofs.KeptWords.{Written}
 
 -- a page that is in a frame after one was spilled was there before
 pub room-known : (c : Pooled) (told : Option Pages) (d : Pooled) (now : Option Pages) → HasFrame c told d now → (q : ℕ) (b : List ℕ) → bytes_in q d.resident ≡ Some b → bytes_in q c.resident ≡ Some b

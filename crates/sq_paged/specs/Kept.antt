@@ -48,12 +48,6 @@ pub record Brought (c : Pooled) (told : Option Pages) (d : Pooled) (now : Option
   pub same : Tells now → page_seen c told kept.page ≡ Some bytes
   pub spares : Spares c told d now kept.page
 
--- a page is in a frame with these bytes
-pub record Written (c : Pooled) (told : Option Pages) (d : Pooled) (now : Option Pages) (page : ℕ) (bytes : List ℕ) : Type 0 where
-  pub there : bytes_in page d.resident ≡ Some bytes
-  pub held : is_held d page ≡ true
-  pub spares : Spares c told d now page
-
 abbrev pub items_kept : Pooled → Option Pages → Kept → List Item
 items_kept pool told kept = items_of_bytes (page_seen pool told kept.page) kept
 

@@ -14,11 +14,12 @@ use Rattle.sq_aggfn.specs.Keyed.{added}
 use Rattle.sq_aggfn.proofs.KeyedLemmas.{Ascends}
 use Rattle.sq_pane.specs.declared.line.Line.{Line}
 use Rattle.sq_pane.specs.Panes.{Key, key_cmp, from_pane, under_group, within, window_from, joined_within, group_entry, NumbersRise, IsMadeIf, total, AllAreMade}
-use Rattle.sq_pane.specs.States.{states_of, groups_within}
+use Rattle.sq_pane.specs.States.{states_of}
 use Rattle.sq_pane.proofs.WindowLemmas.{itself}
 use Rattle.sq_pane.proofs.PaneLemmas.{key_order}
 use Rattle.sq_pane.proofs.LineLemmas.{lesser}
 use Rattle.sq_aggfn.specs.Folds.{number_if}
+use Rattle.sq_pane.proofs.StateWords.{groups_within}
 
 abbrev Lines : Type 0 → Type 0
 Lines M = List (List Value × Line M)

@@ -2,11 +2,11 @@
 use Rattle.std.proofs.Common.{◌≡◌, ℕ, ◌∷◌, ◌++◌, [], List, Option, Some, None, refl, sym, ap, subst, ◌∙◌}
 use Rattle.std.proofs.Math.ListN.{set}
 use Rattle.sq_outside.specs.Disks.{Pages}
-use Rattle.sq_pool.specs.Trust.{pages_without}
 use Rattle.sq_pool.specs.Slots.{Slotted, frame_in, without_page, digest_at}
 use Rattle.sq_pool.specs.Pools.{Pooled, frame_at, pooled, bytes_in, with_bytes, loaded, HasFrame, Fetches, Keeps, Makes, Drops, IsLast, zeros, IsNumbered, IsMade, Brings, Touched, LetsGo}
 use Rattle.sq_pool.proofs.PoolLemmas.{bytes-frame, touched, dropped, out-of-frames}
 use Rattle.sq_pool.proofs.MapLemmas.{keeps-touched, drops-resident, drops-spilled, makes, started, room-out, written, lets-resident-go, lets-spilled-go}
+use Rattle.sq_pool.proofs.TrustWords.{pages_without}
 
 pub keeps-touch : (slots : Slotted) (frames : List (List ℕ)) (told : Option Pages) (p f : ℕ) → frame_in p slots.order ≡ Some f
     → Keeps (pooled slots frames) told (pooled (record slots { order = without_page p slots.order ++ (p, f) ∷ [] }) frames) told

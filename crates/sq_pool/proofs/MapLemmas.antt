@@ -12,11 +12,12 @@ use Rattle.std.specs.Cmp.{nat_cmp_total, eq_by_cmp_equiv}
 use Rattle.sha2.specs.Sha256.{sha256}
 use Rattle.sq_link.proofs.ListLemmas.{eqb-same, eqb-other}
 use Rattle.sq_outside.specs.Disks.{Pages, DiskLog, Honest, put_at, after_get}
-use Rattle.sq_pool.specs.Trust.{known, Tells, pages_with, pages_without, HasPage}
+use Rattle.sq_pool.specs.Trust.{known, Tells, pages_with, HasPage}
 use Rattle.sq_pool.specs.Slots.{without_page, digest_at}
 use Rattle.sq_pool.specs.Pools.{Pooled, bytes_in, is_held, page_of, if_none, if_kept, HasDigest, Agree, SameMap, Spills, HasFrame, with_bytes, loaded, Fetches, Keeps, Makes, Drops, zeros, page_added, IsNumbered, LetsGo}
 use Rattle.sq_pool.proofs.PoolLemmas.{is-some}
 use Rattle.sq_pool.proofs.TrustLemmas.{if-tells, tells-with, tells-without, honest-tells, known-honest, known-pages, known-get, put-came}
+use Rattle.sq_pool.proofs.TrustWords.{pages_without}
 
 -- ---- lists of pages
 

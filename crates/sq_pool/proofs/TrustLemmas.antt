@@ -8,7 +8,8 @@ use Rattle.std.proofs.lemmas.List.Folds.{list_all-append}
 use Rattle.std.proofs.lemmas.Slice.Eq.{bytes_eq-Decides}
 use Rattle.sha2.specs.Sha256.{sha256}
 use Rattle.sq_outside.specs.Disks.{DiskLog, Pages, Honest, MayLose, put_at, beside, after_put, after_give_up, after_get}
-use Rattle.sq_pool.specs.Trust.{AllAmong, DigestsApart, is_faithful, known, Tells, IsLater, CameLast, pages_with, pages_without}
+use Rattle.sq_pool.specs.Trust.{AllAmong, DigestsApart, is_faithful, known, Tells, IsLater, CameLast, pages_with}
+use Rattle.sq_pool.proofs.TrustWords.{pages_without}
 
 -- known from what the disk promises and what came back
 abbrev known_by : Bool → Bool → Pages → Option Pages

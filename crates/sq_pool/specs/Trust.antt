@@ -32,9 +32,6 @@ CameLast before now page bytes = IfSome (put_at now page) (λ put. (others : Lis
 abbrev pub pages_with : Option Pages → ℕ → List ℕ → Option Pages
 pages_with pages page bytes = option_map (λ told. map.insert told page bytes) pages
 
-abbrev pub pages_without : Option Pages → ℕ → Option Pages
-pages_without pages page = option_map (λ told. map.remove told page) pages
-
 -- where pages are known, the one at the number has these bytes
 abbrev pub HasPage : Option Pages → ℕ → List ℕ → Type 0
 HasPage pages page bytes = IfSome pages (λ told. map.get told page ≡ Some bytes)

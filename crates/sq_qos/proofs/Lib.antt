@@ -5,3 +5,4 @@ pub mod Slopes
 pub mod Falling
 pub mod Losses
 pub mod Exact
+pub mod RatioWords

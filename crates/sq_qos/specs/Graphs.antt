@@ -15,9 +15,6 @@ pub record Ratio : Type 0 where
 abbrev pub ratio_lt : Ratio → Ratio → Bool
 ratio_lt a b = nat_lt (a.num * b.den) (b.num * a.den)
 
-abbrev pub ratio_eq : Ratio → Ratio → Bool
-ratio_eq a b = (a.num * b.den) == (b.num * a.den)
-
 -- the order of fractions; a denominator of 0, which no fraction has, counts as 1, so that this is an order of all pairs
 abbrev pub ratio_cmp : Ratio → Ratio → Ordering
 ratio_cmp a b = nat_cmp (a.num * max 1 b.den) (b.num * max 1 a.den)

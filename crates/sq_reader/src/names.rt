@@ -3,9 +3,10 @@ ghost use Rattle.std.specs.Prelude.{◌≡◌, ◌+◌, ◌<◌, ◌≤◌, ◌^
 ghost use Rattle.std.specs.List.{list_all, list_any};
 ghost use Rattle.sq_value.specs.Lists.{contains_bytes, same_bytes};
 ghost use Rattle.sq_net.specs.declared.Part.TheVariants as part;
-ghost use Rattle.sq_net.specs.Names.{has_name_form, is_name, may_follow, reserved};
+ghost use Rattle.sq_net.specs.Names.{has_name_form, is_name, reserved};
 ghost use Rattle.sq_reader.specs.Limits.{first_failing};
 ghost use Rattle.sq_reader.specs.Naming.{first_repeat, name_place, place_in_space, space_names, twice_place};
+ghost use Rattle.sq_expr.specs.Tokens.{in_word};
 
 use crate::limits::whole;
 use indexmap::IndexSet;
@@ -15,13 +16,13 @@ use sq_value::{Name, copy_name, same_text};
 use std::alloc::{AllocError, Global};
 
 fn may_follow(byte: u8) -> bool
-    ensures { result ≡ may_follow byte }
+    ensures { result ≡ in_word byte }
 {
     byte.is_ascii_lowercase() || byte.is_ascii_digit() || byte == b'_'
 }
 
 fn follow(bytes: &[u8]) -> bool
-    ensures { result ≡ list_all may_follow bytes.now }
+    ensures { result ≡ list_all in_word bytes.now }
 {
     bytes.iter().all(|byte| may_follow(*byte))
 }

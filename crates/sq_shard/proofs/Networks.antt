@@ -18,7 +18,7 @@ use Rattle.sq_net.specs.Sound.{IsSound, HasWindow}
 use Rattle.sq_net.specs.Streams.{columns_of_stream}
 use Rattle.sq_model.specs.Fit.{FitsOption, SourcesFit}
 use Rattle.sq_model.specs.Fed.{fed_of}
-use Rattle.sq_model.specs.Full.{box_list, box_list_at, produced, full_stream, full_streams}
+use Rattle.sq_model.specs.Full.{box_list, produced, full_stream, full_streams}
 use Rattle.sq_model.specs.Laws.{FollowsBoxes}
 use Rattle.sq_model.proofs.Alls.{All-weaker, holds-at}
 use Rattle.sq_model.proofs.FullLemmas.{full_follows, full_listed}
@@ -34,6 +34,7 @@ use Rattle.sq_model.proofs.LateLemmas.{bsort_gives}
 use Rattle.sq_shard.proofs.Parts.{Law, GivesAll, moved, box-part}
 use Rattle.sq_shard.proofs.Sorted.{bsort-few}
 use Rattle.sq_value.specs.Lists.{nth}
+use Rattle.sq_model.proofs.FullWords.{box_list_at}
 
 -- a tuple that fits columns has as many values
 fitting-length : (cs : Columns) (vs : List Value) → fields_fit cs vs ≡ true → length vs ≡ length cs

@@ -26,7 +26,6 @@ use Rattle.sq_points.specs.Points.{points_of}
 use Rattle.sq_model.specs.Fit.{SourcesFit}
 use Rattle.sq_model.specs.Shedding.{Replay, drop_above_arc, drop_above_output}
 use Rattle.sq_below.specs.Laws.{PointsMeasured}
-use Rattle.sq_below.specs.Ranks.{BodyFits, FitsAt}
 use Rattle.sq_below.specs.Standing.{Drop, drop_above_box, takes, fits_columns, fits_stream, fits_inputs, BoxesFit, DropsFit, OutputsFit, drop_fed}
 use Rattle.sq_below.specs.Actors.{Sources, Box, Shedder, Shower}
 use Rattle.sq_below.specs.Ports.{body_marks, may_be_below, AllReady, FuturesWiden}
@@ -40,6 +39,7 @@ use Rattle.sq_start.specs.Comes.{point_streams, streams_to, FedMayCome, MarksAre
 use Rattle.sq_start.proofs.BoxFacts.{Ready}
 use Rattle.sq_start.proofs.PointLemmas.{own-arc, own-drop}
 use Rattle.sq_start.proofs.OwnArcs.{own-fed}
+use Rattle.sq_below.proofs.RankWords.{BodyFits, FitsAt}
 
 -- a replay of which nothing was recorded
 abbrev bare : Network → Replay

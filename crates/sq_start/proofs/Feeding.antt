@@ -15,7 +15,6 @@ use Rattle.sq_place.proofs.Wires.{map-map}
 use Rattle.sq_points.specs.Points.{points_of}
 use Rattle.sq_model.specs.Shedding.{Replay}
 use Rattle.sq_left.specs.Left.{Net, Holding}
-use Rattle.sq_left.specs.Streams.{fed_by, Follows, IsStart}
 use Rattle.sq_below.specs.Laws.{PointsMeasured}
 use Rattle.sq_below.specs.Standing.{drop_fed, DropsFit}
 use Rattle.sq_below.specs.Actors.{Actor, Box, Shedder, Shower, giver, arc_from, stream_of, StreamsFollow}
@@ -26,6 +25,7 @@ use Rattle.sq_start.specs.Laws.{IsNew}
 use Rattle.sq_start.proofs.PointLemmas.{own-arc, own-drop}
 use Rattle.sq_start.proofs.OwnArcs.{own-fed}
 use Rattle.sq_start.proofs.NumberLemmas.{Which, which, box-at, drop-at, output-at, replay-at, there-at, reads-there}
+use Rattle.sq_left.proofs.StreamWords.{fed_by, Follows, IsStart}
 
 -- the streams of a replay by operator; behind the replay there is none
 abbrev pub streams_by : Replay → ℕ → ℕ → List Thing

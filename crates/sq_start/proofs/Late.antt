@@ -23,7 +23,7 @@ use Rattle.sq_net.specs.declared.Node.{Node}
 use Rattle.sq_net.specs.declared.Network.{Network}
 use Rattle.sq_net.specs.Sound.{IsSound, IsTypedBody, input_columns, kind_of_body, takes_within}
 use Rattle.sq_net.proofs.StreamLemmas.{boxes_count}
-use Rattle.sq_model.specs.Full.{box_list, box_list_at, produced, full_on, full_arc, full_stream, full_streams}
+use Rattle.sq_model.specs.Full.{box_list, produced, full_on, full_arc, full_stream, full_streams}
 use Rattle.sq_model.specs.Fed.{fed_of, late_at, late_by, late_of}
 use Rattle.sq_model.specs.Shedding.{Replay}
 use Rattle.sq_model.proofs.NumberLemmas.{producer_at}
@@ -35,6 +35,7 @@ use Rattle.sq_start.specs.Starts.{IsBox}
 use Rattle.sq_start.proofs.BoxFacts.{Ready, none-above}
 use Rattle.sq_start.proofs.PointLemmas.{arc-alone}
 use Rattle.sq_value.specs.Lists.{contains_number, nth}
+use Rattle.sq_model.proofs.FullWords.{box_list_at}
 
 -- ---- one stream
 

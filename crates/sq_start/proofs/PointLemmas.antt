@@ -12,7 +12,7 @@ use Rattle.sq_graph.specs.Wires.{arcs_of, input_arcs_of, output_arc_at}
 use Rattle.sq_place.specs.declared.DropAt.{DropAt}
 use Rattle.sq_place.specs.declared.DropAt.TheVariants as at
 use Rattle.sq_place.specs.declared.DropPoint.{DropPoint}
-use Rattle.sq_place.specs.Places.{Windows, window_at, reach_added, stream_on, own_arcs, arc_numbers, box_before, greatest, through, dist_within, is_reached, reached_arcs, outputs_below, is_candidate, candidates_of, places_of, lies_below, drop_places_of}
+use Rattle.sq_place.specs.Places.{Windows, window_at, stream_on, own_arcs, arc_numbers, box_before, through, dist_within, is_reached, reached_arcs, outputs_below, is_candidate, candidates_of, places_of, lies_below, drop_places_of}
 use Rattle.sq_place.specs.Points.{point_at, dist_of}
 use Rattle.sq_place.proofs.Lists.{and-left, and-right, any-map, contains-filter, contains-range, range-contains}
 use Rattle.sq_net.specs.declared.Network.{Network}
@@ -21,6 +21,7 @@ use Rattle.sq_model.specs.Shedding.{first_drop, drop_above_arc}
 use Rattle.sq_model.specs.Given.{IsAt}
 use Rattle.sq_below.specs.Standing.{Drop, drop_on_arc, drop_above_box}
 use Rattle.sq_start.specs.Numbers.{place_stream}
+use Rattle.sq_place.proofs.PlaceWords.{reach_added, greatest}
 
 -- ---- the first drop that passes a test
 

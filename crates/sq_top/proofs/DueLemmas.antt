@@ -9,11 +9,12 @@ use Rattle.std.proofs.lemmas.List.Folds.{list_all-append}
 use Rattle.sq_value.specs.Lists.{same_bytes, IsPrefixOf}
 use Rattle.sq_value.specs.Classes.{Class, Shown, Dropped, Planned, Ended, first_field, second_field, is_of_class}
 use Rattle.sq_value.proofs.ListLemmas.{same_bytes-true, same_bytes-refl}
-use Rattle.sq_top.specs.Due.{Due, all_lines}
+use Rattle.sq_top.specs.Due.{Due}
 use Rattle.sq_top.specs.Answers.{AreOthersAll, IsClassIn, is_classed, class_lines}
-use Rattle.sq_top.specs.Orders.{AreAll, EachIsNext, IsNextOf, IsLineOrder}
 use Rattle.sq_top.proofs.ClassLemmas.{Drops, IsLineOf, IsPlainClass, IsPlainName, Outputs, TellsClasses, alike, all_map, and_true, classed_dropped, classed_ended, classed_planned, classed_shown, end_field-plain, is_end_field, not_ended, not_true, or_true, own_names, own_numbers, plain_class, plain_differs, same_bytes-plain}
 use Rattle.sq_top.proofs.SortedLines.{InBack, InFront, cut_twice, filter_same, list_all-back}
+use Rattle.sq_top.proofs.DueWords.{all_lines}
+use Rattle.sq_top.proofs.OrderWords.{IsNextOf, EachIsNext, IsLineOrder, AreAll}
 
 -- a list that has each class whole, nothing else, and the end lines last
 pub record IsWholeList (d : Due) (ls : List (List ℕ)) : Type 0 where

@@ -18,7 +18,7 @@ use Rattle.sq_outside.specs.Sinks.{AppendsPrefix, appended, AppendsSuch}
 use Rattle.sq_net.specs.declared.Network.{Network}
 use Rattle.sq_net.specs.declared.Node.{Node}
 use Rattle.sq_net.specs.declared.Output.{Output}
-use Rattle.sq_net.specs.Names.{has_name_form, is_name, may_follow, reserved}
+use Rattle.sq_net.specs.Names.{has_name_form, is_name, reserved}
 use Rattle.sq_net.specs.Sound.{IsSound}
 use Rattle.sq_model.specs.Shedding as model
 use Rattle.sq_plan.specs.declared.closing.Shown.{Shown as ShownPlan}
@@ -37,7 +37,7 @@ use Rattle.sq_place.proofs.Final.{drops-few}
 use Rattle.sq_points.specs.Points.{points_of, windows_of, drops_in}
 use Rattle.sq_points.proofs.Bounds.{few_places}
 use Rattle.std.proofs.lemmas.Fmt.{decimal_nonempty}
-use Rattle.sq_top.specs.Due.{Answer, Due, answer_in, dropped_from, due_from, due_in, due_of, ended_in, fed_in, late_in, plan_text, replayed, shown_at_output, turns_in, work_in}
+use Rattle.sq_top.specs.Due.{Answer, Due, answer_in, due_in, due_of, ended_in, fed_in, late_in, replayed, turns_in, work_in}
 use Rattle.sq_top.specs.Answers.{IsPrefixText, IsWholeText}
 use Rattle.sq_gen.specs.Files.{made_of}
 use Rattle.sq_top.specs.Made.{HasBadMade, NamesMade}
@@ -56,13 +56,14 @@ use Rattle.sq_top.proofs.StoppedLemmas.{memory_at, some_none, stopped_memory, st
 use Rattle.sq_top.proofs.StopLemmas.{refused_garbled, refused_stop, refused_unchanged, stop_map}
 use Rattle.sq_top.proofs.ClassLemmas.{IsLineOf, IsPlainName, TellsClasses, is_end_field}
 use Rattle.sq_top.proofs.OrderLemmas.{prefix_text}
-use Rattle.sq_expr.specs.Tokens.{is_letter}
+use Rattle.sq_expr.specs.Tokens.{is_letter, in_word}
+use Rattle.sq_top.proofs.DueWords.{shown_at_output, dropped_from, plan_text, due_from}
 
 -- a name begins with a lower-case letter, and lower-case letters, digits and `_` follow
-name_parts : (b : ℕ) (bs : List ℕ) → is_name (b ∷ bs) ≡ true → (is_letter b ≡ true) × (list_all may_follow bs ≡ true)
+name_parts : (b : ℕ) (bs : List ℕ) → is_name (b ∷ bs) ≡ true → (is_letter b ≡ true) × (list_all in_word bs ≡ true)
 name_parts b bs h =
     let form = (and-true (has_name_form (b ∷ bs)) (not (contains_bytes (b ∷ bs) reserved)) h).0 in
-    and-true (is_letter b) (list_all may_follow bs) (and-true (is_letter b && list_all may_follow bs) (nat_lt (length bs) 32) form).0
+    and-true (is_letter b) (list_all in_word bs) (and-true (is_letter b && list_all in_word bs) (nat_lt (length bs) 32) form).0
 
 lower_above : (b : ℕ) → is_letter b ≡ true → 97 ≤ b
 lower_above b h = grind (arith, nat_tests)
@@ -73,12 +74,12 @@ plain_lower b h e = absurd (omega (arith, e, lower_above b h))
 quoteless_lower : (b : ℕ) → is_letter b ≡ true → needs_quotes b ≡ false
 quoteless_lower b h = grind (arith, nat_tests)
 
-quoteless_follow : (b : ℕ) → may_follow b ≡ true → needs_quotes b ≡ false
+quoteless_follow : (b : ℕ) → in_word b ≡ true → needs_quotes b ≡ false
 quoteless_follow b h = grind (arith, nat_tests)
 
-none_quoted : (bs : List ℕ) → list_all may_follow bs ≡ true → list_any needs_quotes bs ≡ false
+none_quoted : (bs : List ℕ) → list_all in_word bs ≡ true → list_any needs_quotes bs ≡ false
 none_quoted [] h = refl
-none_quoted (b ∷ bs) h = let both = and-true (may_follow b) (list_all may_follow bs) h in rw (quoteless_follow b both.0, none_quoted bs both.1) refl
+none_quoted (b ∷ bs) h = let both = and-true (in_word b) (list_all in_word bs) h in rw (quoteless_follow b both.0, none_quoted bs both.1) refl
 
 name_quoteless : (b : ℕ) (bs : List ℕ) → is_name (b ∷ bs) ≡ true → list_any needs_quotes (b ∷ bs) ≡ false
 name_quoteless b bs h = let parts = name_parts b bs h in rw (quoteless_lower b parts.0, none_quoted bs parts.1) refl

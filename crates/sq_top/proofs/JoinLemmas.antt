@@ -25,9 +25,10 @@ use Rattle.sq_tap.proofs.Steps.{kinds_are, kinds_differ}
 use Rattle.sq_top.specs.declared.Status.{Status}
 use Rattle.sq_top.specs.declared.Status.TheVariants as status
 use Rattle.sq_top.specs.Causes.{IsBadTap, IsTapRefused}
-use Rattle.sq_top.specs.Taps.{Tapped, is_within_limits, tapped, tapped_at, tapped_kinds, tapped_source, tapped_within}
+use Rattle.sq_top.specs.Taps.{Tapped, tapped, tapped_at, tapped_kinds, tapped_source, tapped_within}
 use Rattle.sq_top.proofs.SortedLines.{and-true}
 use Rattle.sq_expr.specs.Kinds.{same_kinds}
+use Rattle.sq_top.proofs.TapWords.{is_within_limits}
 
 true_by : (t : Bool) → (t ≡ false → ⊥) → t ≡ true
 true_by true h = refl

@@ -29,3 +29,6 @@ pub mod AuditLemmas
 pub mod JoinLemmas
 pub mod TapLemmas
 pub mod PartLemmas
+pub mod DueWords
+pub mod OrderWords
+pub mod TapWords

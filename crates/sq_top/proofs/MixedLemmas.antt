@@ -9,10 +9,10 @@ use Rattle.sq_value.specs.Classes.{Class, Shown, Dropped, Planned, Ended, is_of_
 use Rattle.sq_value.proofs.ListLemmas.{same_bytes-refl, same_bytes-true}
 use Rattle.sq_top.specs.Due.{Due}
 use Rattle.sq_top.specs.Answers.{is_classed}
-use Rattle.sq_top.specs.Orders.{IsLineOrder}
 use Rattle.sq_top.proofs.ClassLemmas.{IsLineOf, TellsClasses, all_map, and_true}
 use Rattle.sq_top.proofs.DueLemmas.{IsWholeList, all_other, all_whole, shown_test, tells, whole_order}
 use Rattle.sq_top.proofs.SortedLines.{filter_same, list_all-back, list_all-front}
+use Rattle.sq_top.proofs.OrderWords.{IsLineOrder}
 
 -- the next of the first list for each `true`, of the second for each `false`, and then what is left of both
 abbrev pub mixed : List Bool → List (List ℕ) → List (List ℕ) → List (List ℕ)

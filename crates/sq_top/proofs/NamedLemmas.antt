@@ -9,9 +9,10 @@ use Rattle.sq_value.specs.Lists.{are_distinct, contains_bytes, numbers_to, same_
 use Rattle.sq_value.specs.LineTexts.{output_line}
 use Rattle.sq_value.proofs.ListLemmas.{same_bytes-true, same_bytes-refl}
 use Rattle.sq_net.specs.declared.Output.{Output}
-use Rattle.sq_top.specs.Due.{Answer, dropped_from, shown_at_output}
+use Rattle.sq_top.specs.Due.{Answer}
 use Rattle.sq_top.proofs.SortedLines.{and-true}
 use Rattle.sq_top.proofs.ClassLemmas.{not_true, or_first, or_true}
+use Rattle.sq_top.proofs.DueWords.{shown_at_output, dropped_from}
 
 named_at : (os : List Output) (o : ℕ) (out : Output) → slice_get os o ≡ Some out → contains_bytes out.name (map (λ x. x.name) os) ≡ true
 named_at [] o out at = absurd (cc)

@@ -11,9 +11,9 @@ use Rattle.sq_value.proofs.LineLemmas.{AreLines, Cut, IsFront, cut_prefix, is_li
 use Rattle.sq_top.specs.Due.{Due}
 use Rattle.sq_top.specs.Answers.{AreOthersAll, AreOthersWhole, BeginsNext, IsClassIn, IsPrefixText, IsWholeText, is_classed, class_lines}
 use Rattle.sq_replay.specs.Shown.{lines_text}
-use Rattle.sq_top.specs.Orders.{AreAll, EachIsNext, IsNextOf, IsLineOrder}
 use Rattle.sq_top.proofs.ClassLemmas.{AreAlike, IsDueLine, TellsClasses, alike, all_append, all_middle, is_end, is_ended, lines_due, not_ended, plain_class}
 use Rattle.sq_top.proofs.SortedLines.{slice_get-next}
+use Rattle.sq_top.proofs.OrderWords.{IsNextOf, EachIsNext, IsLineOrder, AreAll}
 
 filter_one : (p : List ℕ → Bool) (t : Bool) (ls : List (List ℕ)) (l : List ℕ) → p l ≡ t → filter p (ls ++ l ∷ []) ≡ filter p ls ++ (if t then l ∷ [] else [])
 filter_one p true ls l e = filter-append p ls (l ∷ []) ∙ rw e refl

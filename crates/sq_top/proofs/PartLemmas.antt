@@ -12,7 +12,7 @@ use Rattle.sq_graph.specs.Wires.{output_arc_at}
 use Rattle.sq_road.specs.Draws.{draw_of}
 use Rattle.sq_place.specs.declared.DropPoint.{DropPoint}
 use Rattle.sq_plan.specs.Plans.{Setting}
-use Rattle.sq_plan.specs.Shown.{is_quiet, shown_after, taken_after}
+use Rattle.sq_plan.specs.Shown.{is_quiet, shown_after}
 use Rattle.sq_points.specs.Points.{drops_in, points_of, setting_of}
 use Rattle.sq_model.specs.Full.{full_arc}
 use Rattle.sq_model.specs.Shedding as model
@@ -35,7 +35,7 @@ use Rattle.sq_tap.specs.Names.{stream_named}
 use Rattle.sq_tap.specs.Parts.{full_output, tuples_since}
 use Rattle.sq_tap.proofs.Grafts.{answers_joined}
 use Rattle.sq_tap.proofs.Naming.{named_there}
-use Rattle.sq_top.specs.Due.{answer_in, dropped_from, outputs_of, shown_at_output}
+use Rattle.sq_top.specs.Due.{answer_in, outputs_of}
 use Rattle.sq_top.specs.Parts.{ShowsPart, ShowsRead, TapsShowParts}
 use Rattle.sq_top.specs.Reads.{GoesBy}
 use Rattle.sq_top.specs.declared.Status.{Status}
@@ -45,6 +45,8 @@ use Rattle.sq_top.specs.Taps.{Tapped, first_tick, tapped}
 use Rattle.sq_top.proofs.JoinLemmas.{kept_at, kept_few, kept_kinds_of, kept_one, tapped_sound}
 use Rattle.sq_top.proofs.SortedLines.{and-true}
 use Rattle.sq_top.proofs.SourceLemmas.{sources_within, streams_more, text_is_recorded}
+use Rattle.sq_plan.proofs.ShownWords.{taken_after}
+use Rattle.sq_top.proofs.DueWords.{shown_at_output, dropped_from}
 
 none_passes : {X : Type 0} (p : X → Bool) (xs : List X) → ((x : X) → p x ≡ false) → filter p xs ≡ []
 none_passes p [] none = refl

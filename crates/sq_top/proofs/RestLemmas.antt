@@ -19,11 +19,12 @@ use Rattle.sq_replay.specs.Shown.{event_line, lines_text}
 use Rattle.sq_flow.specs.Events.{drop_in, drops_of, line_in, lines_of}
 use Rattle.sq_flow.specs.Plans.{plan_in, plans_of}
 use Rattle.sq_points.specs.Points.{drops_in}
-use Rattle.sq_top.specs.Due.{Answer, due_from}
+use Rattle.sq_top.specs.Due.{Answer}
 use Rattle.sq_top.specs.Answers.{IsPrefixText}
 use Rattle.sq_top.specs.Driving.{BeginsAnswer, Completes, IsEventAt, history_text}
 use Rattle.sq_top.proofs.ClassLemmas.{IsLineOf, all_append, not_true}
 use Rattle.sq_top.proofs.HistoryLemmas.{beginning_of_history, drop_kept, drop_left, line_kept, line_left}
+use Rattle.sq_top.proofs.DueWords.{due_from}
 
 -- a way to read a history, event by event
 record Reads {X : Type 0} (read : List Event → List X) : Type 0 where

@@ -27,10 +27,11 @@ use Rattle.sq_top.specs.declared.RunArgs.{RunArgs}
 use Rattle.sq_top.specs.declared.Command.TheVariants as command
 use Rattle.sq_top.specs.declared.Status.TheVariants as status
 use Rattle.sq_top.specs.Commands.{command_in}
-use Rattle.sq_top.specs.Due.{all_text, due_of, replayed, work_in}
+use Rattle.sq_top.specs.Due.{due_of, replayed, work_in}
 use Rattle.sq_top.specs.Answers.{class_lines}
 use Rattle.sq_top.specs.Messages.{message_of}
 use Rattle.sq_top.specs.Scripts.{AcceptedReplay, accepted, after_network, followed_by, outcome_of, plain_args, text_script, unread, with_sources, with_text}
+use Rattle.sq_top.proofs.DueWords.{all_text}
 
 abbrev defaults : List ℕ → RunArgs
 defaults net = record { net = net; capacities = None; seed = 0; rule = rule.RoundRobin; picks = None; train = 16; frames = 256 }

@@ -1,15 +1,14 @@
 -- What a run is to write and the steps that it is to take.
 use Rattle.std.specs.Prelude.{ℕ, List, ◌++◌, map, length, slice_get}
-use Rattle.std.specs.List.{flat_map, zip}
+use Rattle.std.specs.List.{zip}
 use Rattle.sq_value.specs.declared.Tuple.{Tuple}
 use Rattle.sq_value.specs.Lists.{numbers_to}
-use Rattle.sq_value.specs.LineTexts.{drop_line, output_line, plan_line}
 use Rattle.sq_net.specs.declared.Network.{Network}
 use Rattle.sq_net.specs.declared.Output.{Output}
 use Rattle.sq_oper.specs.declared.outs.Decision.{Decision}
 use Rattle.sq_plan.specs.declared.closing.Shown.{Shown}
-use Rattle.sq_replay.specs.Shown.{end_lines_from, lines_text}
-use Rattle.sq_points.specs.Points.{points_of, drops_in}
+use Rattle.sq_replay.specs.Shown.{end_lines_from}
+use Rattle.sq_points.specs.Points.{points_of}
 use Rattle.sq_model.specs.Fed.{late_of}
 use Rattle.sq_model.specs.Kept.{fed_of, turns_of, work_of}
 use Rattle.sq_model.specs.Shedding as model
@@ -17,6 +16,7 @@ use Rattle.sq_model.specs.Shedding.{answer_of}
 use Rattle.sq_model.specs.Shown.{plans_shown}
 use Rattle.sq_start.specs.Nets.{drop_decisions}
 use Rattle.sq_top.specs.Scripts.{AcceptedReplay}
+use Rattle.sq_top.proofs.DueWords.{due_from}
 
 -- the lines of each output, by its name, those of each drop, by its number, those of the plans, and the end lines
 pub record Due : Type 0 where
@@ -24,13 +24,6 @@ pub record Due : Type 0 where
   pub dropped : List (ℕ × List (List ℕ))
   pub planned : List (List ℕ)
   pub ended : List (List ℕ)
-
--- all lines, class by class, and their text
-abbrev pub all_lines : Due → List (List ℕ)
-all_lines d = flat_map (λ o. o.1) d.shown ++ (flat_map (λ w. w.1) d.dropped ++ (d.planned ++ d.ended))
-
-abbrev pub all_text : Due → List ℕ
-all_text d = lines_text (all_lines d)
 
 -- what a run shows: of each output the tuples, of each drop the batches that it drops, and the plans
 pub record Answer : Type 0 where
@@ -41,26 +34,6 @@ pub record Answer : Type 0 where
 -- the outputs in file order, each with its number
 abbrev pub outputs_of : Network → List (Output × ℕ)
 outputs_of n = zip n.outputs (numbers_to (length n.outputs))
-
--- an output's name, and the lines of its tuples
-abbrev pub shown_at_output : Answer → Output × ℕ → List ℕ × List (List ℕ)
-shown_at_output a o = ((o.0).name, map (output_line (o.0).name) (a.tuples o.1))
-
--- a drop's number, and the lines of its batches
-abbrev pub dropped_from : Answer → ℕ → ℕ × List (List ℕ)
-dropped_from a w = (w, map (λ d. drop_line w d.batch d.level) (a.decisions w))
-
-abbrev pub plan_text : Shown → List ℕ
-plan_text p = plan_line p.epoch p.load p.capacity p.saved p.fits
-
--- the lines of an answer, and these at the end
-abbrev pub due_from : Network → Answer → List (List ℕ) → Due
-due_from n a ended = record {
-  shown = map (shown_at_output a) (outputs_of n);
-  dropped = map (dropped_from a) (numbers_to (drops_in n));
-  planned = map plan_text a.plans;
-  ended = ended;
-}
 
 -- what is replayed, whatever the schedule
 abbrev pub replayed : AcceptedReplay → model.Replay

@@ -13,7 +13,6 @@ pub mod Driving
 pub mod Counting
 pub mod Recorded
 pub mod Messages
-pub mod Orders
 pub mod Reads
 pub mod Told
 pub mod Causes

@@ -14,7 +14,8 @@ use Rattle.sq_value.proofs.ListLemmas.{same_bytes-true, same_bytes-refl}
 use Rattle.sq_verdict.specs.declared.verdict.Verdict.TheVariants as verdict
 use Rattle.sq_verdict.specs.Faults.{Lines, drop_told_in, batch_of, recorded, batch_rises, has_first, is_end, has_word, output_told_in, is_next, is_line_at, count_of, word_fault, class_fault, fault_of, ends_with_end, is_short, verdict_from, verdict_on}
 use Rattle.sq_verdict.proofs.Plain.{not_true}
-use Rattle.sq_verdict.specs.Whole.{Expected, IsSoundDue, IsWhole, is_expected}
+use Rattle.sq_verdict.specs.Whole.{Expected, IsWhole, is_expected}
+use Rattle.sq_verdict.proofs.WholeWords.{IsSoundDue}
 
 -- ---- outputs, of which each name stands once
 

@@ -6,9 +6,10 @@ use Rattle.sq_aggfn.proofs.KeyedLemmas.{ascends}
 use Rattle.sq_pane.specs.declared.line.Line.{Line}
 use Rattle.sq_pane.specs.Panes.{group_entry, joined_within, total, AllAreMade}
 use Rattle.sq_pane.specs.Blocks.{IsJoin}
-use Rattle.sq_pane.specs.States.{states_of, groups_within, HaveBlocks}
+use Rattle.sq_pane.specs.States.{states_of, HaveBlocks}
 use Rattle.sq_pane.proofs.StateLemmas.{window_is_groups, made_parts, total_parts, pushed_made, pushed_total}
 use Rattle.sq_pane.proofs.held.groups_at.Goals as goal
+use Rattle.sq_pane.proofs.StateWords.{groups_within}
 
 pub loop-key-init : goal.loop-key-init
 loop-key-init g c =

@@ -1,8 +1,9 @@
 use Rattle.std.proofs.Common.{◌≡◌, ◌+◌, ◌≤◌, ◌++◌, true}
 use Rattle.sq_pane.specs.Panes.{total, AllAreMade}
 use Rattle.sq_pane.specs.Blocks.{IsJoin}
-use Rattle.sq_pane.specs.States.{states_of, groups_within, HaveBlocks}
+use Rattle.sq_pane.specs.States.{states_of, HaveBlocks}
 use Rattle.sq_pane.proofs.held.groups_at.Given as goal
+use Rattle.sq_pane.proofs.StateWords.{groups_within}
 
 abbrev pub invariant-loop-key : goal.invariant-loop-key
 invariant-loop-key g l = record {

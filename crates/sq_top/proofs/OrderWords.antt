@@ -1,10 +1,10 @@
--- Orders in which the lines of a run may be written: line by line, each the next of its class.
-use Rattle.std.specs.Prelude.{◌≡◌, ℕ, ⊤, List, [], ◌∷◌, ◌++◌}
-use Rattle.std.specs.List.{filter}
-use Rattle.sq_value.specs.Lists.{IsPrefixOf}
+-- Orders in which the lines of a run may be written: line by line, each the next of its class: words of the proofs alone.
+use Rattle.sq_top.specs.Answers.{AreOthersAll, IsClassIn, class_lines}
 use Rattle.sq_value.specs.Classes.{Class, Ended, is_of_class}
 use Rattle.sq_top.specs.Due.{Due}
-use Rattle.sq_top.specs.Answers.{AreOthersAll, IsClassIn, class_lines}
+use Rattle.sq_value.specs.Lists.{IsPrefixOf}
+use Rattle.std.specs.Prelude.{List, ℕ, ⊤, [], ◌≡◌, ◌∷◌, ◌++◌}
+use Rattle.std.specs.List.{filter}
 
 -- after these lines comes the next one of a class; of the end lines only where the other classes are whole
 abbrev pub IsNextOf : Due → List (List ℕ) → List ℕ → Class → Type 0

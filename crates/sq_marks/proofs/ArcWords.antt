@@ -1,9 +1,9 @@
--- What the arcs below a window drop carry.
-use Rattle.std.specs.Prelude.{ℕ, ◌+◌, ◌≤◌, ◌<◌, List, [], ◌∷◌}
+-- What the arcs below a window drop carry: words of the proofs alone.
 use Rattle.std.specs.List.{AllByRecursion}
-use Rattle.sq_value.specs.declared.Tuple.{Tuple}
+use Rattle.std.specs.Prelude.{List, ℕ, [], ◌+◌, ◌≤◌, ◌<◌, ◌∷◌}
 use Rattle.sq_place.specs.Ranks.{Somewhere}
-use Rattle.sq_tagged.specs.Tagged.{Timed, Tagged, lessened_by, below_bounds}
+use Rattle.sq_tagged.specs.Tagged.{Tagged, Timed, below_bounds, lessened_by}
+use Rattle.sq_value.specs.declared.Tuple.{Tuple}
 
 -- at a distance from the drop: its marks with bounds that much less, and of a full list the tuples that are below them
 abbrev pub marked : List Timed → ℕ → List Tuple → Tagged

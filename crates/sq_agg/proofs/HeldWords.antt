@@ -1,0 +1,26 @@
+-- What an Aggregate holds: states by pane and group, and the windows that end, by start and group: words of the proofs alone.
+use Rattle.sq_agg.specs.Held.{Bounds, bound_for, marks_at}
+use Rattle.sq_pane.specs.Panes.{Key, window_from}
+use Rattle.std.specs.Prelude.{List, map, nat_lt, ℕ, [], ◌≤◌, ◌==◌, if◌then◌else◌, ◌∷◌}
+use Rattle.sq_agg.specs.Slots.{Slot}
+use Rattle.sq_value.specs.declared.Value.{Value}
+use Rattle.sq_aggfn.specs.declared.WindowSpec.{WindowSpec}
+use Rattle.std.specs.List.{filter}
+use Rattle.sq_aggfn.specs.Windows.{is_start}
+
+-- the groups of the window that begins at a tick
+abbrev pub groups_at : {M : Type 0} → ℕ → List (Key × M) → List (List Value × M)
+groups_at s es = map (λ e. (e.0.1, e.1)) (filter (λ e. e.0.0 == s) es)
+
+-- what marks and entries show at each tick
+abbrev pub slot_shown : {M : Type 0} → Bounds → List (Key × M) → ℕ → Slot M
+slot_shown b es p = record { bound = bound_for b p; marks = marks_at b.waiting p; groups = groups_at p es }
+
+-- the groups of the window that begins at a tick, from its panes, where the marks allow it
+abbrev pub pane_groups_of : {M : Type 0} → M → (M → M → M) → WindowSpec → ℕ → Bounds → List (Key × M) → ℕ → List (List Value × M)
+pane_groups_of none join w width b es p = if nat_lt p (bound_for b p) then (if is_start w p then window_from none join w width p [] es else []) else []
+
+-- starts from one tick on, up to another, that don't fall
+abbrev pub IsRising : {M : Type 0} → ℕ → ℕ → List (Key × M) → Type 0
+IsRising least most [] = Unit {0}
+IsRising least most (e ∷ es) = (least ≤ e.0.0) × (e.0.0 ≤ most) × IsRising e.0.0 most es
