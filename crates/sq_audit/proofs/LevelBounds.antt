@@ -4,7 +4,7 @@ use Rattle.std.proofs.lemmas.Bool.Decides.{nat_tests}
 use Rattle.std.proofs.lemmas.List.Sums.{sum_by-cons}
 use Rattle.std.proofs.lemmas.List.FromFn.{length-map-range_with_len}
 use Rattle.std.specs.List.{zip, enumerate_from, count_by, AllByRecursion}
-use Rattle.sq_value.specs.Lists.{insert_by, sort_by}
+use Rattle.sq_words.specs.Lists.{insert_by, sort_by}
 use Rattle.sq_road.specs.declared.Step.{Step}
 use Rattle.sq_road.specs.Roads.{is_cheaper, steps_of, steps_of_drop, all_steps, level_in}
 use Rattle.sq_plan.specs.Plans.{gain_of}

@@ -6,7 +6,7 @@ use Rattle.std.proofs.lemmas.Bool.Decides.{nat_tests}
 use Rattle.std.proofs.lemmas.Grind.{flat_map-append}
 use Rattle.std.proofs.lemmas.Option.{slice_get_within}
 use Rattle.sq_value.specs.declared.Tuple.{Tuple}
-use Rattle.sq_value.specs.Lists.{are_distinct, max_by, numbers_to, contains_number}
+use Rattle.sq_words.specs.Lists.{are_distinct, max_by, numbers_to, contains_number}
 use Rattle.sq_value.specs.Values.{IsStream}
 use Rattle.sq_value.specs.LineTexts.{drop_line, output_line}
 use Rattle.sq_value.specs.Classes.{whole_lines}

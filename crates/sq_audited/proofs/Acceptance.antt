@@ -46,7 +46,7 @@ use Rattle.sq_top.proofs.SourceLemmas.{sources_within, streams_more, text_is_rec
 use Rattle.sq_audited.specs.Laws.{AcceptsRuns}
 use Rattle.sq_audited.proofs.Wholes.{accepts_replays}
 use Rattle.sq_reader.specs.Limits.{settings_limit}
-use Rattle.sq_value.specs.Results.{◌>>=◌}
+use Rattle.sq_words.specs.Results.{◌>>=◌}
 
 -- ---- the limits of drop points
 

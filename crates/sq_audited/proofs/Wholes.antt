@@ -7,7 +7,7 @@ use Rattle.std.proofs.lemmas.Bool.{cases_Bool, and_parts}
 use Rattle.std.proofs.lemmas.Bool.Decides.{nat_tests}
 use Rattle.std.proofs.lemmas.Fmt.{decimal_injective}
 use Rattle.std.proofs.lemmas.List.Folds.{list_all-append}
-use Rattle.sq_value.specs.Lists.{same_bytes, numbers_to}
+use Rattle.sq_words.specs.Lists.{same_bytes, numbers_to}
 use Rattle.sq_value.specs.LineTexts.{box_line, drop_line, end_line, late_line}
 use Rattle.sq_value.specs.Classes.{Shown, Dropped, Planned, Ended, is_of_class, of_class, whole_lines}
 use Rattle.sq_value.proofs.ListLemmas.{same_bytes-true, same_bytes-refl}

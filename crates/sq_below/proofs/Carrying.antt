@@ -9,7 +9,7 @@ use Rattle.sq_below.specs.Carried.{nothing_tagged, given, lags_at, carried_by, c
 use Rattle.sq_place.proofs.Lists.{map-agree}
 use Rattle.sq_place.proofs.Climbs.{producer_at, fixed}
 use Rattle.sq_place.proofs.Wires.{arcs-rise}
-use Rattle.sq_value.specs.Lists.{contains_number}
+use Rattle.sq_words.specs.Lists.{contains_number}
 use Rattle.sq_below.proofs.CarriedWords.{box_tagged_at}
 use Rattle.sq_below.proofs.RankWords.{HasRanks}
 

@@ -36,7 +36,7 @@ use Rattle.sq_core.specs.Table.{IsTabled}
 use Rattle.sq_core.specs.Answers.{KeepsAnswers}
 use Rattle.sq_core.proofs.NetLemmas.{reads-some}
 use Rattle.sq_core.proofs.SumLemmas.{sum-numbers}
-use Rattle.sq_value.specs.Lists.{contains_number}
+use Rattle.sq_words.specs.Lists.{contains_number}
 
 -- ---- what is left
 

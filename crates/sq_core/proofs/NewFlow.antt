@@ -41,7 +41,7 @@ use Rattle.sq_core.specs.Table.{IsTabled}
 use Rattle.sq_core.specs.Seated.{IsSeated, AllSeated}
 use Rattle.sq_core.proofs.NetLemmas.{takes-arcs, marks-come, tuples-come, joins-all}
 use Rattle.sq_core.proofs.SumLemmas.{sum-none}
-use Rattle.sq_value.specs.Lists.{nth}
+use Rattle.sq_words.specs.Lists.{nth}
 
 -- what is to be released of a source is its stream
 released : (queues : List Recorded) (source : ℕ) → tuples_to_come (slice_get queues source) ≡ nth (map (λ q. q.items) queues) source

@@ -34,7 +34,7 @@ use Rattle.sq_core.specs.declared.join.Feed.{Feed}
 use Rattle.sq_core.specs.Joining.{feeds_of, known_by, AllKnown, ReadsEarlier, IsActorOrder}
 use Rattle.sq_core.specs.Table.{arc_feed, place_feed, point_row, feeds_row, feed_table, turned, same_box, box_giving, drops_from, drops_behind, with_boxes, with_outputs, actors_of}
 use Rattle.sq_core.proofs.TableLemmas.{row-is, count-is}
-use Rattle.sq_value.specs.Lists.{contains_number}
+use Rattle.sq_words.specs.Lists.{contains_number}
 
 or-right : (a b : Bool) → b ≡ true → (a || b) ≡ true
 or-right true b h = refl

@@ -3,7 +3,7 @@ use Rattle.std.proofs.Common.{◌≡◌, ℕ, suc, ◌+◌, ◌-◌, ◌/◌, ma
 use Rattle.std.specs.List.{flat_map, range_with_len, All, AllByRecursion}
 use Rattle.std.proofs.lemmas.List.Elements.{recursion_from_All}
 use Rattle.sq_value.specs.declared.Tuple.{Tuple}
-use Rattle.sq_value.specs.Lists.{max_by, numbers_to}
+use Rattle.sq_words.specs.Lists.{max_by, numbers_to}
 use Rattle.sq_place.specs.declared.DropPoint.{DropPoint}
 use Rattle.sq_place.specs.declared.PlaceErr.{PlaceErr}
 use Rattle.sq_place.specs.declared.PlaceErr.TheVariants.{LongBatch, WideExtent}

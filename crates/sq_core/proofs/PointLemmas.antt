@@ -11,7 +11,7 @@ use Rattle.sq_place.proofs.Lists.{contains-filter, contains-range}
 use Rattle.sq_place.proofs.Numbering.{streams-are}
 use Rattle.sq_net.specs.declared.Network.{Network}
 use Rattle.sq_core.specs.Table.{streams_on}
-use Rattle.sq_value.specs.Lists.{contains_number}
+use Rattle.sq_words.specs.Lists.{contains_number}
 
 -- all arcs of a stream are its own
 pub owns_stream : (w : Wiring) (s a : ℕ) → a < length (arcs_of w) → contains_number (own_arcs w (at.Stream s)) a ≡ eqb (stream_on w a) s

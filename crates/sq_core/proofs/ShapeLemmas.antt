@@ -9,7 +9,7 @@ use Rattle.sq_flow.specs.declared.wires.Wires.{Wires}
 use Rattle.sq_flow.specs.Wiring.{net_of, arcs_read, arcs_from, followers_of, Climbs, from_of, arc_port, numbers_in, rows_in, times_in, IsShaped}
 use Rattle.sq_core.specs.declared.join.Feed.{Feed}
 use Rattle.sq_core.specs.Joining.{feeds_of, IsGiver, AreFeeds, IsOf, IsJoining, IsJoined, IsActorOrder, ReadsEarlier, AllKnown, known_by, Fixed}
-use Rattle.sq_value.specs.Lists.{contains_number}
+use Rattle.sq_words.specs.Lists.{contains_number}
 
 -- a table has nothing past its end
 pub no-feeds : (feeds : List (Vec Feed Global)) (actor : ℕ) → length feeds ≤ actor → feeds_of feeds actor ≡ []

@@ -5,7 +5,7 @@ use Rattle.sq_flow.specs.declared.wires.Arc.{Arc}
 use Rattle.sq_flow.specs.declared.wires.Wires.{Wires}
 use Rattle.sq_flow.specs.Wiring.{numbers_in, rows_in, arcs_read, arcs_from, followers_of, Climbs, from_of, arc_port, to_of, arc_place, times_in}
 use Rattle.sq_core.specs.declared.join.Feed.{Feed}
-use Rattle.sq_value.specs.Lists.{contains_number}
+use Rattle.sq_words.specs.Lists.{contains_number}
 
 abbrev pub feeds_in : Option (Vec Feed Global) → List Feed
 feeds_in None = []

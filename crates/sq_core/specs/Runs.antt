@@ -1,6 +1,6 @@
 -- The engine of a network, and what a run of it shows.
 use Rattle.std.specs.Prelude.{◌≡◌, ℕ, ◌+◌, ◌^◌, ◌≤◌, ◌<◌, Bool, List, length, Option, Some, None, slice_get}
-use Rattle.sq_value.specs.Lists.{IsPrefixOf}
+use Rattle.sq_words.specs.Lists.{IsPrefixOf}
 use Rattle.sq_outside.specs.Disks.{Pages}
 use Rattle.sq_oper.specs.declared.outs.Event.{Event}
 use Rattle.sq_net.specs.Sound.{IsSound}

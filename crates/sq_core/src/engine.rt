@@ -3,7 +3,7 @@
 ghost use Rattle.std.specs.Prelude.{◌≡◌, ◌⊎◌, ◌^◌, ℕ, ◌+◌, ◌-◌, ◌<◌, ◌≤◌, ◌++◌, [], ◌∷◌, List, Option, OnOk, OnErr, IfOk, IfErr, true, false, length, map};
 ghost use Rattle.std.specs.List.{AllByRecursion};
 ghost use Rattle.sq_value.specs.declared.Tuple.{Tuple};
-ghost use Rattle.sq_value.specs.Lists.{IsPrefixOf, contains_number};
+ghost use Rattle.sq_words.specs.Lists.{IsPrefixOf, contains_number};
 ghost use Rattle.sq_value.specs.Values.{IsStream};
 ghost use Rattle.sq_oper.specs.declared.outs.Event.{Event};
 ghost use Rattle.sq_oper.specs.Streams.{IsSoundTuple};

@@ -9,7 +9,7 @@ ghost use Rattle.sq_net.specs.Sound.{IsSound};
 ghost use Rattle.sq_points.specs.Points.{points_of};
 ghost use Rattle.sq_model.specs.Shedding.{first_drop};
 ghost use Rattle.sq_below.specs.Standing.{drop_on_arc};
-ghost use Rattle.sq_value.specs.Lists.{contains_number};
+ghost use Rattle.sq_words.specs.Lists.{contains_number};
 
 use sq_net::Network;
 use sq_place::{DropAt, DropPoint};

@@ -16,7 +16,7 @@ use Rattle.sq_flow.specs.Readiness.{IsReady, stands}
 use Rattle.sq_flow.specs.declared.engine.Engine.{Engine}
 use Rattle.sq_flow.specs.Engines.{AllDone, IsEngine, seat_number}
 use Rattle.sq_flow.proofs.ReadyLemmas.{place-next, place-within}
-use Rattle.sq_value.specs.Lists.{contains_number}
+use Rattle.sq_words.specs.Lists.{contains_number}
 
 Each-at : (P : ℕ → Type 0) (xs : List ℕ) (i x : ℕ) → Each P xs → slice_get xs i ≡ Some x → P x
 Each-at P [] i x h is = absurd (cc is)

@@ -2,7 +2,7 @@
 use Rattle.std.proofs.Common.{◌≡◌, ◌≢◌, ℕ, ◌+◌, ◌-◌, ◌<◌, eqb, cond, Bool, true, false, List, [], ◌∷◌, ◌++◌, Option, Some, None, refl, ap, sym, ◌∙◌, subst, append_assoc, append-nil, arith}
 use Rattle.std.specs.List.{AllByRecursion}
 use Rattle.sq_value.specs.declared.Value.{Value}
-use Rattle.sq_value.specs.Lists.{IsPrefixOf}
+use Rattle.sq_words.specs.Lists.{IsPrefixOf}
 use Rattle.sq_left.proofs.MergeLemmas.{eqb-yes, eqb-no, eqb-same, eqb-not}
 use Rattle.sq_road.specs.Levels.{LevelTable, AgreesWith}
 use Rattle.sq_oper.specs.declared.outs.Decision.{Decision}

@@ -15,7 +15,7 @@ use Rattle.sq_flow.specs.Readiness.{is_ready, waiting, TouchesOnly}
 use Rattle.sq_flow.specs.Engines.{seat_number, ExactFor, is_new, newly_ready, listed_after, readers_of, Looked, HasSeats, IsEngine}
 use Rattle.sq_flow.proofs.ListLemmas.{contains-filter, contains-range, climbs-filter, climbs-range, climbs-next, climbs-same, once-climbs}
 use Rattle.sq_flow.proofs.ReadyLemmas.{exact-of, exact-test, place-within, place-apart, readers-at, readers-within, ready-same, waiting-same, ready-grows, looked-at, looked-once, looked-below}
-use Rattle.sq_value.specs.Lists.{contains_number}
+use Rattle.sq_words.specs.Lists.{contains_number}
 
 -- the list after looks at the actor of a step and at its readers
 module _ {O : Type 0} (e e' : Flow O) (shaped : IsShaped e.wires (length e.seats.items)) (wires : e'.wires ≡ e.wires) (seats : length e'.seats.items ≡ length e.seats.items)

@@ -7,7 +7,7 @@ use Rattle.std.proofs.lemmas.List.Folds.{list_any-append}
 use Rattle.sq_sched.specs.Ready.{AreActors, OnlyOnce}
 use Rattle.sq_left.proofs.MergeLemmas.{eqb-yes, eqb-no, eqb-same, eqb-not}
 use Rattle.sq_flow.specs.Wiring.{Climbs}
-use Rattle.sq_value.specs.Lists.{contains_number}
+use Rattle.sq_words.specs.Lists.{contains_number}
 
 pub contains-append : (xs ys : List ℕ) (n : ℕ) → contains_number (xs ++ ys) n ≡ (contains_number xs n || contains_number ys n)
 contains-append xs ys n = list_any-append (λ x. eqb x n) xs ys

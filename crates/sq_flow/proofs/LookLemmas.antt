@@ -14,7 +14,7 @@ use Rattle.sq_flow.specs.Readiness.{is_ready, waiting}
 use Rattle.sq_flow.specs.Engines.{seat_number, is_new, readers_of, Looked}
 use Rattle.sq_flow.proofs.ListLemmas.{contains-append, contains-range, range-more, contains-at, climbs-front, at-next}
 use Rattle.sq_flow.proofs.ReadyLemmas.{looked-at}
-use Rattle.sq_value.specs.Lists.{contains_number}
+use Rattle.sq_words.specs.Lists.{contains_number}
 
 pub looked-none : {O : Type 0} (engine : Engine O) → Looked [] engine engine
 looked-none engine =

@@ -3,7 +3,7 @@ use Rattle.std.proofs.Common.{◌≡◌, ℕ, ◌≤◌, ◌<◌, Bool, true, fa
 use Rattle.std.specs.Prelude.{IfSome, Vec, slice_get}
 use Rattle.std.specs.declared.alloc.Global.{Global}
 use Rattle.sq_item.specs.declared.Item.{Item}
-use Rattle.sq_value.specs.Lists.{IsPrefixOf, contains_number}
+use Rattle.sq_words.specs.Lists.{IsPrefixOf, contains_number}
 use Rattle.sq_item.specs.Things.{Thing, spread}
 use Rattle.sq_oper.specs.declared.outs.Decision.{Decision}
 use Rattle.sq_outside.specs.Disks.{DiskLog}

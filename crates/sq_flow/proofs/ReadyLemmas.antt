@@ -13,7 +13,7 @@ use Rattle.sq_flow.specs.Seats.{done_at}
 use Rattle.sq_flow.specs.Readiness.{stands, IsReady, is_ready, waiting, TouchesOnly}
 use Rattle.sq_flow.specs.Engines.{seat_number, ExactFor, is_new, readers_of}
 use Rattle.sq_flow.proofs.ListLemmas.{contains-append, contains-filter, contains-next, zero-next, climbs-filter, once-climbs, once-append, actors-append, both-true, all-agree, all-at, all-from, map-agree}
-use Rattle.sq_value.specs.Lists.{contains_number}
+use Rattle.sq_words.specs.Lists.{contains_number}
 
 not-true : (a : Bool) → not a ≡ true → a ≡ false
 not-true true h = absurd (cc h)

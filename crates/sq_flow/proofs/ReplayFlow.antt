@@ -42,7 +42,7 @@ use Rattle.sq_flow.specs.Flows.{world_of, IsFlow, HoldsItems, Goes, Stepped, Sho
 use Rattle.sq_flow.proofs.SendLemmas.{at_or_other, apart-arcs}
 use Rattle.sq_flow.proofs.FutureLemmas.{slice_get-set_same, slice_get-set_other}
 use Rattle.sq_flow.proofs.ArcLemmas.{arcs-left}
-use Rattle.sq_value.specs.Lists.{contains_number}
+use Rattle.sq_words.specs.Lists.{contains_number}
 use Rattle.sq_flow.proofs.WiringWords.{sent}
 
 pub fine-later : (t u : ℕ) (its : List Item) → t ≤ u → AllFine t its → AllFine u its

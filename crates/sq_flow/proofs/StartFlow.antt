@@ -2,7 +2,7 @@
 use Rattle.std.proofs.Common.{zero, suc, ◌+◌, ◌-◌, ◌≤◌, eqb, cond, true, replicate, ◌≡◌, ℕ, ◌/◌, ◌<◌, ◌^◌, Bool, false, not, List, [], length, Option, Some, None, refl, ap, sym, ◌∙◌, subst, arith}
 use Rattle.std.specs.Prelude.{slice_get, slice_index}
 use Rattle.std.specs.List.{flat_map, range_with_len}
-use Rattle.sq_value.specs.Lists.{numbers_to}
+use Rattle.sq_words.specs.Lists.{numbers_to}
 use Rattle.sq_road.specs.Levels.{Rows, level_of}
 use Rattle.sq_plan.specs.Shown.{level_for, shown_from, shown_after}
 use Rattle.sq_value.specs.declared.Value.{Value}

@@ -13,7 +13,7 @@ use Rattle.sq_flow.specs.Wiring.{arcs_from, times_in, from_of, arc_port, pushed_
 use Rattle.sq_flow.specs.Seats.{Meaning, done_at}
 use Rattle.sq_flow.specs.Sends.{many, sent_to, is_sent_by}
 use Rattle.sq_flow.specs.Flows.{IsFlow}
-use Rattle.sq_value.specs.Lists.{contains_number}
+use Rattle.sq_words.specs.Lists.{contains_number}
 use Rattle.sq_flow.proofs.WiringWords.{sent}
 
 times-some : (xs : List ℕ) (place x : ℕ) → slice_get xs place ≡ Some x → times_in x xs ≢ 0

@@ -8,7 +8,7 @@ use Rattle.sq_flow.specs.Wiring.{followers_of}
 use Rattle.sq_flow.specs.Seats.{Meaning, done_at}
 use Rattle.sq_flow.specs.Flows.{IsFlow}
 use Rattle.sq_flow.specs.Readiness.{IsReady, is_ready, waiting}
-use Rattle.sq_value.specs.Lists.{contains_number}
+use Rattle.sq_words.specs.Lists.{contains_number}
 
 -- an actor's place in the flow: the replay, which is actor 0, stands behind the operators
 abbrev pub seat_number : ℕ → ℕ → ℕ

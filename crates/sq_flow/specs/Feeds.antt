@@ -1,6 +1,6 @@
 -- What an operator in its seat gives onward.
 use Rattle.std.specs.Prelude.{ℕ, List, [], ◌++◌, Option}
-use Rattle.sq_value.specs.Lists.{IsPrefixOf}
+use Rattle.sq_words.specs.Lists.{IsPrefixOf}
 use Rattle.sq_item.specs.declared.Item.{Item}
 use Rattle.sq_outside.specs.Disks.{Pages}
 use Rattle.sq_road.specs.Levels.{LevelTable, AgreesWith}

@@ -5,7 +5,7 @@ use Rattle.sq_item.specs.declared.Item.{Item}
 use Rattle.sq_item.specs.Things.{Thing, spread_all}
 use Rattle.sq_outside.specs.Disks.{DiskLog, Pages}
 use Rattle.sq_road.specs.Levels.{LevelTable, AgreesWith}
-use Rattle.sq_value.specs.Lists.{IsPrefixOf}
+use Rattle.sq_words.specs.Lists.{IsPrefixOf}
 use Rattle.sq_oper.specs.declared.outs.Decision.{Decision}
 use Rattle.sq_oper.specs.declared.outs.Event.{Event}
 use Rattle.sq_oper.specs.Given.{ThingsUpTo}

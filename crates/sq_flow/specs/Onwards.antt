@@ -9,7 +9,7 @@ use Rattle.sq_flow.specs.Takes.{NotChanged}
 use Rattle.sq_flow.specs.Wiring.{arcs_from, AllOutsFine}
 use Rattle.sq_flow.specs.Sends.{sent_to, is_sent_by, Pushes}
 use Rattle.sq_flow.specs.Shows.{IsShown}
-use Rattle.sq_value.specs.Lists.{contains_number}
+use Rattle.sq_words.specs.Lists.{contains_number}
 
 -- it takes more: no arc of the actor has ended, none comes from an output, and no fault was met
 pub record IsOpen {D : Type 0} (log : D → DiskLog) (s : Onward D) : Type 0 where

@@ -11,7 +11,7 @@ use Rattle.sq_oper.specs.declared.outs.Decision.{Decision}
 use Rattle.sq_left.specs.Left.{Net, is_known_actor, IsLaidOut}
 use Rattle.sq_flow.specs.declared.wires.Arc.{Arc}
 use Rattle.sq_flow.specs.declared.wires.Wires.{Wires}
-use Rattle.sq_value.specs.Lists.{contains_number}
+use Rattle.sq_words.specs.Lists.{contains_number}
 
 abbrev pub numbers_in : Option (Vec ℕ Global) → List ℕ
 numbers_in None = []

@@ -11,7 +11,7 @@ ghost use Rattle.sq_flow.specs.Takes.{NotChanged};
 ghost use Rattle.sq_flow.specs.Wiring.{arcs_from};
 ghost use Rattle.sq_flow.specs.Sends.{is_sent_by};
 ghost use Rattle.sq_flow.specs.Feeds.{FeedsInto, FeedsPart, EndsInto, EndsPart};
-ghost use Rattle.sq_value.specs.Lists.{contains_number};
+ghost use Rattle.sq_words.specs.Lists.{contains_number};
 
 use crate::errors::RunErr;
 use crate::noted::Noted;

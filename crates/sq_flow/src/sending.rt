@@ -1,7 +1,7 @@
 //! What an actor gives goes to the arcs that come from it, or is shown.
 
 ghost use Rattle.std.specs.Prelude.{◌≡◌, ◌==◌, if◌then◌else◌, ℕ, ◌+◌, ◌-◌, ◌<◌, ◌≤◌, ◌++◌, ◌∷◌, [], true, false, Some, OnOk, OnErr, IfErr, length, slice_get};
-ghost use Rattle.sq_value.specs.Lists.{IsPrefixOf, contains_number};
+ghost use Rattle.sq_words.specs.Lists.{IsPrefixOf, contains_number};
 ghost use Rattle.sq_item.specs.Sound.{IsSoundItem};
 ghost use Rattle.sq_item.specs.Things.{spread};
 ghost use Rattle.sq_oper.specs.Given.{given};

@@ -1,6 +1,6 @@
 //! Steps of any actor, and trains of them.
 
-ghost use Rattle.sq_value.specs.Lists.{IsPrefixOf};
+ghost use Rattle.sq_words.specs.Lists.{IsPrefixOf};
 ghost use Rattle.std.specs.Prelude.{◌≡◌, ◌≢◌, ◌⊎◌, ℕ, ◌+◌, ◌≤◌, ◌<◌, true, false, [], OnOk, OnErr, IfOk, IfErr, length, slice_get};
 ghost use Rattle.sq_oper.specs.declared.outs.Event.{Event};
 ghost use Rattle.sq_road.specs.Levels.{AgreesWith};

@@ -1,7 +1,7 @@
 -- The least box on a cycle, by the test that computes.
 use Rattle.std.proofs.Common.{◌≡◌, sym, ℕ, zero, suc, ◌<◌, Bool, true, false, Some, None, refl, arith, length}
 use Rattle.std.specs.List.{find}
-use Rattle.sq_value.specs.Lists.{numbers_to}
+use Rattle.sq_words.specs.Lists.{numbers_to}
 use Rattle.sq_graph.specs.declared.Wiring.{Wiring}
 use Rattle.sq_graph.specs.Order.{is_on_cycle, Leads, LiesOnCycle, IsLeastOnCycle}
 use Rattle.sq_graph.proofs.Bounded.{on_cycle, on_cycle_from}

@@ -1,7 +1,7 @@
 -- In the order each box stands behind those that give what it takes.
 use Rattle.std.proofs.Common.{◌≡◌, ℕ, zero, suc, true, List, [], ◌∷◌, ◌++◌, Option, Some, None, length, append-nil, append_assoc}
 use Rattle.std.specs.List.{find}
-use Rattle.sq_value.specs.Lists.{numbers_to}
+use Rattle.sq_words.specs.Lists.{numbers_to}
 use Rattle.sq_graph.specs.declared.Wiring.{Wiring}
 use Rattle.sq_graph.specs.Order.{can_be_next, order_after, order_of, then_place, ComesAfterInputs}
 use Rattle.sq_graph.proofs.Finding.{found}

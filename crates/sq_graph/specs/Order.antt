@@ -1,7 +1,7 @@
 -- The order of the boxes, and cycles.
 use Rattle.std.specs.Prelude.{◌≡◌, ◌<◌, ℕ, zero, suc, Bool, true, false, not, ◌&&◌, ◌||◌, ◌==◌, List, [], ◌∷◌, ◌++◌, length, Option, Some, None, slice_get}
 use Rattle.std.specs.List.{find, list_all, list_any, All}
-use Rattle.sq_value.specs.Lists.{numbers_to, contains_number}
+use Rattle.sq_words.specs.Lists.{numbers_to, contains_number}
 use Rattle.sq_graph.specs.declared.BoxWires.{BoxWires}
 use Rattle.sq_graph.specs.declared.Wiring.{Wiring}
 use Rattle.sq_graph.specs.Wires.{Producer, Source, Port, producer_of, inputs_at, inputs_of}

@@ -8,7 +8,7 @@
 
 ghost use Rattle.std.specs.Prelude.{◌≡◌, ℕ, ◌+◌, ◌<◌, ◌≤◌, ◌^◌, ◌++◌, Some, None, Option, length, map, replicate, slice_get, IfOk, IfErr, OnOk, option_map, true, false};
 ghost use Rattle.std.specs.List.{list_all, list_any, find, sum_by};
-ghost use Rattle.sq_value.specs.Lists.{numbers_to};
+ghost use Rattle.sq_words.specs.Lists.{numbers_to};
 ghost use Rattle.sq_graph.specs.Wires.{producer_of, producers_of, stream_at, arc_at, output_arc_at};
 ghost use Rattle.sq_graph.specs.Givers.{producer_seen};
 ghost use Rattle.sq_graph.specs.Order.{giver_of, is_given_by, is_fed_by, could_be_next, could_be_reached, order_of, ComesAfterInputs, LiesOnCycle, IsLeastOnCycle, IsWired};

@@ -4,7 +4,7 @@ use Rattle.std.specs.Prelude.{if◌then◌else◌, nat_lt, nat_le, ◌==◌}
 use Rattle.std.specs.List.{AllByRecursion, filter}
 use Rattle.sq_value.specs.declared.Value.{Value}
 use Rattle.sq_value.specs.declared.Tuple.{Tuple}
-use Rattle.sq_value.specs.Lists.{insert_by, sort_by}
+use Rattle.sq_words.specs.Lists.{insert_by, sort_by}
 use Rattle.sq_value.specs.Values.{Columns}
 use Rattle.sq_item.specs.Things.{Load, Sign, Body}
 use Rattle.sq_lists.specs.Merge.{tuple_earlier, merge_tuples}

@@ -1,7 +1,7 @@
 -- By which columns the sources are cut that words name, or the first pair that names none.
 use Rattle.std.specs.Prelude.{◌≡◌, ⊤, ℕ, ◌+◌, Bool, if◌then◌else◌, List, [], ◌∷◌, ◌++◌, map, length, Option, Some, None, Result, Ok, Err}
 use Rattle.std.specs.List.{find, list_any, position}
-use Rattle.sq_value.specs.Lists.{same_bytes}
+use Rattle.sq_words.specs.Lists.{same_bytes}
 use Rattle.sq_value.specs.Values.{Columns, names_of}
 use Rattle.sq_net.specs.declared.Source.{Source}
 use Rattle.sq_keys.specs.declared.Pair.{Pair}

@@ -2,7 +2,7 @@
 ghost use Rattle.std.specs.Prelude.{◌≡◌, ◌+◌, ◌^◌, ◌<◌, Err, IfOk, IfErr, IfSome, Ok, length, map, []};
 ghost use Rattle.std.specs.List.{position};
 ghost use Rattle.std.specs.Option.{option_copied};
-ghost use Rattle.sq_value.specs.Lists.{same_bytes};
+ghost use Rattle.sq_words.specs.Lists.{same_bytes};
 ghost use Rattle.sq_keys.specs.Keys.{IsBadKey, column_by, column_for, column_named, cuts_asked, first_bad, is_paired, pair_named, source_named, why_bad};
 
 use crate::{KeyWhy, KeysErr, Pair};

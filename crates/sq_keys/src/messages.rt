@@ -1,7 +1,7 @@
 // The message of each status.
 ghost use Rattle.std.specs.Prelude.{◌≡◌, ◌≢◌, ◌⊎◌, ◌≤◌, IfOk, string_bytes};
 ghost use Rattle.sq_outside.specs.Faults.{Rose};
-ghost use Rattle.sq_value.specs.Lists.{IsPrefixOf};
+ghost use Rattle.sq_words.specs.Lists.{IsPrefixOf};
 ghost use Rattle.sq_keys.specs.Ends.{TellsKeysStatus};
 ghost use Rattle.sq_keys.specs.Messages.{keys_message, key_why_text};
 ghost use Rattle.sq_outside.specs.Sinks.{AppendsSuch};

@@ -2,7 +2,7 @@
 use Rattle.std.proofs.Common.{Bool, List, [], ◌∷◌, ◌++◌}
 use Rattle.std.specs.List.{AllByRecursion, filter}
 use Rattle.std.proofs.lemmas.List.Elements as each
-use Rattle.sq_value.specs.Lists.{sort_by}
+use Rattle.sq_words.specs.Lists.{sort_by}
 use Rattle.sq_value.proofs.Sorting.{insert_all}
 
 pub All-weaker : {X : Type 0} (P Q : X → Type 0) → ((x : X) → P x → Q x) → (xs : List X) → AllByRecursion P xs → AllByRecursion Q xs

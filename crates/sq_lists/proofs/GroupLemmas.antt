@@ -3,7 +3,7 @@ use Rattle.std.proofs.Common.{◌≡◌, Bool, true, false, cond, ◌||◌, List
 use Rattle.std.specs.Ordering.{match_ordering, is_eq, ordering_reverse}
 use Rattle.std.specs.Cmp.{IsTotalOrder}
 use Rattle.std.specs.List.{AllByRecursion, filter}
-use Rattle.sq_value.specs.Lists.{add_to, ascending}
+use Rattle.sq_words.specs.Lists.{add_to, ascending}
 use Rattle.sq_lists.proofs.AllLemmas.{All-weaker}
 use Rattle.sq_aggfn.specs.Folds.{joined_from}
 use Rattle.sq_aggfn.specs.Keyed.{added, keyed_from}

@@ -9,7 +9,7 @@ use Rattle.std.proofs.lemmas.List.MinMax.{IsStrictWeakOrder-by_number}
 use Rattle.sq_value.specs.declared.Value.{Value}
 use Rattle.sq_value.specs.declared.Tuple.{Tuple}
 use Rattle.sq_value.specs.Values.{IsStream}
-use Rattle.sq_value.specs.Lists.{Rising, ports_from, ports_of, least_by, max_by}
+use Rattle.sq_words.specs.Lists.{Rising, ports_from, ports_of, least_by, max_by}
 use Rattle.sq_value.proofs.Sorting.{sort_rising}
 use Rattle.sq_expr.specs.Trees.{Expr}
 use Rattle.sq_expr.specs.Expressions.{holds_of, pair_of}

@@ -3,7 +3,7 @@ use Rattle.std.proofs.Common.{◌≡◌, Bool, true, false, List, [], ◌∷◌,
 use Rattle.std.specs.Prelude.{if◌then◌else◌}
 use Rattle.std.specs.List.{AllByRecursion}
 use Rattle.std.specs.Option.{IfSome}
-use Rattle.sq_value.specs.Lists.{insert_by, sort_by, least_by, lesser}
+use Rattle.sq_words.specs.Lists.{insert_by, sort_by, least_by, lesser}
 
 abbrev pub first_option : {X : Type 0} → List X → Option X
 first_option [] = None

@@ -5,7 +5,7 @@ use Rattle.std.specs.List.{AllByRecursion, filter, enumerate_from}
 use Rattle.std.specs.Option.{IfSome}
 use Rattle.std.proofs.lemmas.List.Elements.{filter-append}
 use Rattle.sq_value.specs.declared.Tuple.{Tuple}
-use Rattle.sq_value.specs.Lists.{insert_by, sort_by, least_by, lesser}
+use Rattle.sq_words.specs.Lists.{insert_by, sort_by, least_by, lesser}
 use Rattle.sq_lists.specs.Sorting.{Numbered, numbered_sooner, without_number, tuple_if, sorted_within, without_late}
 use Rattle.sq_lists.specs.Sorters.{put_in, first_of_all, after_first, SorterState, new_sorter, latest_of, chosen_of, kept_back, sort_next, sort_gives, sort_run}
 use Rattle.sq_lists.proofs.AllLemmas.{All-weaker, All-push}

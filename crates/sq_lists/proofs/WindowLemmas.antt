@@ -9,7 +9,7 @@ use Rattle.std.specs.List.{AllByRecursion, flat_map, range_with_len}
 use Rattle.sq_value.specs.declared.Value.{Value}
 use Rattle.sq_value.specs.declared.Tuple.{Tuple}
 use Rattle.sq_value.specs.Values.{IsStream, fields_cmp}
-use Rattle.sq_value.specs.Lists.{max_by, numbers_to}
+use Rattle.sq_words.specs.Lists.{max_by, numbers_to}
 use Rattle.sq_value.proofs.ValueOrder.{fields_order, fields_same}
 use Rattle.sq_aggfn.specs.Windows.{IsWindow, start_of, started}
 use Rattle.sq_aggfn.proofs.StartLemmas.{starts_before, starts_after, started_more}

@@ -7,7 +7,7 @@ use Rattle.sq_expr.specs.Trees.{Expr}
 use Rattle.sq_expr.specs.Expressions.{holds_of, pair_of}
 use Rattle.sq_lists.specs.Merge.{PortTuple, merge_tuples}
 use Rattle.sq_value.specs.Values.{Columns}
-use Rattle.sq_value.specs.Lists.{same_bytes}
+use Rattle.sq_words.specs.Lists.{same_bytes}
 
 -- whether an entry and an earlier one are of two sides, and their times differ by at most the size
 abbrev pub meets : ℕ → PortTuple → PortTuple → Bool

@@ -5,7 +5,7 @@ use Rattle.std.specs.Ordering.{is_eq}
 use Rattle.sq_value.specs.declared.Value.{Value}
 use Rattle.sq_value.specs.declared.Tuple.{Tuple}
 use Rattle.sq_value.specs.Values.{fields_cmp}
-use Rattle.sq_value.specs.Lists.{ascending, numbers_to, max_by}
+use Rattle.sq_words.specs.Lists.{ascending, numbers_to, max_by}
 use Rattle.sq_aggfn.specs.declared.Func.{Func}
 use Rattle.sq_aggfn.specs.declared.WindowSpec.{WindowSpec}
 use Rattle.sq_aggfn.specs.Windows.{start_of, started, covers}

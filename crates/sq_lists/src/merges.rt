@@ -1,7 +1,7 @@
 //! The merge of streams.
 
 ghost use Rattle.std.specs.Prelude.{◌≡◌, ◌^◌, ◌<◌, ◌++◌, [], ◌∷◌, map, length, IfOk, OnOk};
-ghost use Rattle.sq_value.specs.Lists.{sort_by};
+ghost use Rattle.sq_words.specs.Lists.{sort_by};
 ghost use Rattle.sq_lists.specs.Merge.{merge_tuples, tuple_earlier};
 
 use sq_value::{Tuple, copy_tuple};

@@ -12,7 +12,7 @@ use Rattle.sq_marks.proofs.Lists.{filter-same}
 use Rattle.sq_marks.proofs.Bounds.{bound-less}
 use Rattle.sq_marks.proofs.Nearness.{All-weaker, Somewhere-weaker}
 use Rattle.sq_marks.proofs.Keeping.{marks_of, bound-reaches}
-use Rattle.sq_value.specs.Lists.{contains_number}
+use Rattle.sq_words.specs.Lists.{contains_number}
 use Rattle.sq_marks.proofs.ArcWords.{marked, AllTimes, IsNear}
 
 filter-both : {X : Type 0} (p q : X → Bool) (xs : List X) → filter q (filter p xs) ≡ filter (λ x. p x && q x) xs

@@ -4,7 +4,7 @@ use Rattle.std.proofs.lemmas.Bool.Decides.{nat_tests}
 use Rattle.std.proofs.Math.Nat.{div-lt_iff_lt-mul, div-mul-le_self}
 use Rattle.std.specs.List.{filter, range_with_len}
 use Rattle.sq_value.specs.declared.Tuple.{Tuple}
-use Rattle.sq_value.specs.Lists.{max_by, numbers_to, contains_number}
+use Rattle.sq_words.specs.Lists.{max_by, numbers_to, contains_number}
 use Rattle.sq_item.specs.declared.Mark.TheVariants as mark
 use Rattle.sq_tagged.specs.Tagged.{Timed, bound_in, bound_at, lessened_by, below_bounds}
 use Rattle.sq_tagged.specs.Boxes.{mark_of}

@@ -14,7 +14,7 @@ use Rattle.sq_net.specs.declared.Network.{Network}
 use Rattle.sq_model.specs.Full.{full_arc, full_on, full_stream, full_streams}
 use Rattle.sq_model.specs.Placed.{IsPlaced}
 use Rattle.sq_model.proofs.FullLemmas.{full_count, full_listed}
-use Rattle.sq_value.specs.Lists.{nth}
+use Rattle.sq_words.specs.Lists.{nth}
 
 abbrev stream_of : Arc → ℕ
 stream_of a = a.stream

@@ -10,7 +10,7 @@ use Rattle.sq_road.specs.Levels.{LevelTable}
 use Rattle.sq_place.specs.declared.DropPoint.{DropPoint}
 use Rattle.sq_place.specs.Points.{until_of}
 use Rattle.sq_value.specs.declared.Tuple.{Tuple}
-use Rattle.sq_value.specs.Lists.{numbers_to, max_by}
+use Rattle.sq_words.specs.Lists.{numbers_to, max_by}
 use Rattle.std.proofs.lemmas.List.FromFn.{map-range_with_len_more}
 use Rattle.sq_model.specs.Shedding.{last_of, is_touched}
 use Rattle.sq_model.specs.Given.{AreTicks, drops_at, needed_by, needs_at}

@@ -12,7 +12,7 @@ use Rattle.sq_value.specs.declared.Value.{Value}
 use Rattle.sq_value.specs.declared.Value.TheVariants as value
 use Rattle.sq_value.specs.declared.Tuple.{Tuple}
 use Rattle.sq_value.specs.Values.{Columns, field, fields_cmp, fields_fit, kinds_fit, kinds_of, is_of_kind, is_null, int_or_null, is_i64}
-use Rattle.sq_value.specs.Lists.{add_to, ascending, lesser, least_by, ports_from}
+use Rattle.sq_words.specs.Lists.{add_to, ascending, lesser, least_by, ports_from}
 use Rattle.sq_expr.specs.Trees.{Checked, Expr}
 use Rattle.sq_expr.specs.Expressions.{holds_of, pair_of, value_of}
 use Rattle.sq_expr.specs.Kinds.{has_kind, kind_at, kind_in}

@@ -4,7 +4,7 @@ use Rattle.sq_net.specs.declared.Network.{Network}
 use Rattle.sq_value.specs.declared.Tuple.{Tuple}
 use Rattle.sq_model.specs.Fed.{fed_from}
 use Rattle.sq_model.specs.Full.{full_streams}
-use Rattle.sq_value.specs.Lists.{nth, numbers_to}
+use Rattle.sq_words.specs.Lists.{nth, numbers_to}
 use Rattle.std.specs.List.{sum_by}
 
 -- how many tuples all boxes and all outputs are fed

@@ -15,7 +15,7 @@ use Rattle.sq_model.specs.Full.{produced, full_within, full_stream, full_streams
 use Rattle.sq_model.specs.Placed.{IsPlaced}
 use Rattle.sq_model.specs.Laws.{FollowsBoxes, AreFull}
 use Rattle.sq_model.proofs.OrderLemmas.{order_counts, order_has, parts_around}
-use Rattle.sq_value.specs.Lists.{contains_number, nth}
+use Rattle.sq_words.specs.Lists.{contains_number, nth}
 use Rattle.sq_model.proofs.FullWords.{box_list_at}
 
 -- each round is worked out from the one before

@@ -8,7 +8,7 @@ use Rattle.sq_graph.specs.Order.{can_be_next, order_of, IsWired, LiesOnCycle}
 use Rattle.sq_graph.proofs.Cycles.{has_is, none_missing, or_left, or_right}
 use Rattle.sq_graph.proofs.Following.{order_follows}
 use Rattle.sq_graph.proofs.Placing.{order_placed, order_length, short_on_cycle}
-use Rattle.sq_value.specs.Lists.{contains_number}
+use Rattle.sq_words.specs.Lists.{contains_number}
 
 order_full : (w : Wiring) → IsWired w → ((at : ℕ) → LiesOnCycle w at → ⊥) → length w.boxes ≤ length (order_of w)
 order_full w wired acyclic =

@@ -5,7 +5,7 @@ use Rattle.std.specs.List.{filter, list_any, range_with_len, AllByRecursion}
 use Rattle.std.specs.Option.{option_map}
 use Rattle.std.proofs.lemmas.Option.{slice_get-map}
 use Rattle.sq_value.specs.declared.Tuple.{Tuple}
-use Rattle.sq_value.specs.Lists.{numbers_to, contains_number, nth}
+use Rattle.sq_words.specs.Lists.{numbers_to, contains_number, nth}
 use Rattle.sq_value.specs.Values.{IsStream}
 use Rattle.sq_graph.specs.Wires.{Arc, arcs_of, output_arc_at}
 use Rattle.sq_place.specs.declared.DropAt.{DropAt}
@@ -17,7 +17,7 @@ use Rattle.sq_road.specs.Levels.{LevelTable}
 use Rattle.sq_road.specs.Draws.{draw_of}
 use Rattle.sq_place.specs.declared.DropPoint.{DropPoint}
 use Rattle.sq_model.specs.Shedding.{Replay, is_touched, last_of, first_drop, level_of, is_dropped, full_at, touched_batches, record_of, drop_above_arc, drop_above_output, shown, answer_of}
-use Rattle.sq_value.specs.Lists.{max_by}
+use Rattle.sq_words.specs.Lists.{max_by}
 use Rattle.sq_place.specs.Points.{until_of}
 use Rattle.sq_model.specs.Kept.{needed_until, distance_of, needed, kept_of}
 use Rattle.sq_model.specs.Given.{needed_by, kept_by, drops_at, record_by, AreTicks, LevelsAre, shown_without}

@@ -6,7 +6,7 @@ use Rattle.rand_pcg.specs.Lcg.{state_after}
 use Rattle.sq_value.specs.declared.Value.TheVariants as value
 use Rattle.sq_value.specs.declared.Kind.TheVariants as kind
 use Rattle.sq_value.specs.declared.Tuple.{Tuple}
-use Rattle.sq_value.specs.Lists.{numbers_to}
+use Rattle.sq_words.specs.Lists.{numbers_to}
 use Rattle.sq_aggfn.specs.declared.Func.{Func}
 use Rattle.sq_aggfn.specs.declared.Func.TheVariants as func
 use Rattle.sq_graph.specs.declared.BoxKind.TheVariants as boxes

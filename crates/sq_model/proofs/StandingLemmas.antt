@@ -18,7 +18,7 @@ use Rattle.sq_model.specs.Placed.{IsPlaced}
 use Rattle.sq_model.specs.Standing.{Stands}
 use Rattle.sq_model.proofs.NumberLemmas.{producer_at, producer_has_number}
 use Rattle.sq_model.proofs.FullLemmas.{full_count, full_follows, full_listed, is_given_in_order, ports_alike}
-use Rattle.sq_value.specs.Lists.{contains_number, nth}
+use Rattle.sq_words.specs.Lists.{contains_number, nth}
 use Rattle.sq_model.proofs.FullWords.{box_list_at}
 
 -- what is read at a place of a slice of these items is the item there

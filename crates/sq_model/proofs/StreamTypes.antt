@@ -6,7 +6,7 @@ use Rattle.std.specs.List.{All, filter_map, cons_option, AllByRecursion}
 use Rattle.std.proofs.lemmas.List.Elements.{recursion_from_All}
 use Rattle.sq_value.specs.declared.Tuple.{Tuple}
 use Rattle.sq_value.specs.Values.{Columns, fields_fit, kinds_of}
-use Rattle.sq_value.specs.Lists.{ports_of, nth}
+use Rattle.sq_words.specs.Lists.{ports_of, nth}
 use Rattle.sq_expr.specs.Trees.{Checked}
 use Rattle.sq_graph.specs.declared.BoxWires.{BoxWires}
 use Rattle.sq_graph.specs.Wires.{Producer, Source, Port, producer_of, inputs_of, inputs_at}

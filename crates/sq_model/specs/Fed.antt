@@ -2,7 +2,7 @@
 use Rattle.std.specs.Prelude.{ℕ, ◌+◌, ◌-◌, List, length, Option, None, Some, slice_get}
 use Rattle.std.specs.List.{sum_by}
 use Rattle.sq_value.specs.declared.Tuple.{Tuple}
-use Rattle.sq_value.specs.Lists.{nth}
+use Rattle.sq_words.specs.Lists.{nth}
 use Rattle.sq_graph.specs.Wires.{inputs_of, stream_at}
 use Rattle.sq_net.specs.declared.Network.{Network}
 use Rattle.sq_net.specs.declared.Node.{Node}

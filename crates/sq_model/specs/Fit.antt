@@ -7,7 +7,7 @@ use Rattle.sq_net.specs.declared.Network.{Network}
 use Rattle.sq_net.specs.declared.Source as source
 use Rattle.sq_net.specs.Streams.{columns_of_stream}
 use Rattle.sq_model.specs.Full.{full_stream}
-use Rattle.sq_value.specs.Lists.{nth}
+use Rattle.sq_words.specs.Lists.{nth}
 
 -- where there are columns each tuple fits them, and where there are none there is no tuple
 abbrev pub FitsOption : Option Columns → List Tuple → Type 0

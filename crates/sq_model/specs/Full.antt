@@ -1,7 +1,7 @@
 -- The full answer: what the boxes give on whole streams.
 use Rattle.std.specs.Prelude.{ℕ, zero, suc, ◌+◌, List, [], map, length, Option, Some, None, slice_get}
 use Rattle.sq_value.specs.declared.Tuple.{Tuple}
-use Rattle.sq_value.specs.Lists.{numbers_to, nth}
+use Rattle.sq_words.specs.Lists.{numbers_to, nth}
 use Rattle.sq_graph.specs.Wires.{Arc, Producer, Source, Port, producers_of, producer_of, arcs_of, inputs_of}
 use Rattle.sq_lists.specs.Merge.{union}
 use Rattle.sq_lists.specs.Boxes.{filter_list_of, map_list_of}

@@ -5,7 +5,7 @@ use Rattle.std.specs.Prelude.{◌≡◌, ℕ, ◌+◌, ◌-◌, ◌*◌, ◌/◌
 use Rattle.std.specs.Option.{option_map}
 use Rattle.std.specs.List.{filter, count_by, AllByRecursion}
 use Rattle.sq_value.specs.declared.Tuple.{Tuple}
-use Rattle.sq_value.specs.Lists.{numbers_to, max_by, contains_number}
+use Rattle.sq_words.specs.Lists.{numbers_to, max_by, contains_number}
 use Rattle.sq_graph.specs.Wires.{producers_of, arcs_of}
 use Rattle.sq_road.specs.Levels.{LevelTable, level_of, AgreesWith}
 use Rattle.sq_road.specs.Draws.{draw_of}

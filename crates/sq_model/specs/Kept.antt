@@ -3,7 +3,7 @@ use Rattle.std.specs.Prelude.{ℕ, ◌+◌, ◌-◌, ◌*◌, ◌/◌, not, ◌=
 use Rattle.std.specs.List.{filter, find, sum_by}
 use Rattle.std.specs.Option.{option_map}
 use Rattle.sq_value.specs.declared.Tuple.{Tuple}
-use Rattle.sq_value.specs.Lists.{numbers_to, max_by}
+use Rattle.sq_words.specs.Lists.{numbers_to, max_by}
 use Rattle.sq_graph.specs.Wires.{input_arcs_of, output_arc_at}
 use Rattle.sq_place.specs.declared.DropPoint.{DropPoint}
 use Rattle.sq_place.specs.Points.{until_of}

@@ -15,7 +15,7 @@ use Rattle.sq_model.specs.declared.known.Known.{Known}
 use Rattle.sq_model.specs.Full.{full_streams}
 use Rattle.sq_model.specs.Shedding.{Replay}
 use Rattle.sq_model.specs.Given.{IsMeasured, LevelsAre}
-use Rattle.sq_value.specs.Lists.{nth}
+use Rattle.sq_words.specs.Lists.{nth}
 
 abbrev pub streams_in : Known → List (List Tuple)
 streams_in k = map (λ t. t.items) k.streams.items

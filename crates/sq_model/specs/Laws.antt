@@ -7,7 +7,7 @@ use Rattle.sq_net.specs.declared.Node.{Node}
 use Rattle.sq_net.specs.declared.Body.TheVariants.{BSort}
 use Rattle.sq_model.specs.Full.{produced, full_stream, full_streams}
 use Rattle.sq_model.specs.Fed.{fed_of, late_of}
-use Rattle.sq_value.specs.Lists.{nth}
+use Rattle.sq_words.specs.Lists.{nth}
 
 -- each stream is what its producer gives for the streams that it takes
 abbrev pub FollowsBoxes : Network → List (List Tuple) → (ℕ → List Tuple) → Type 0

@@ -1,7 +1,7 @@
 -- The plans that a run shows, and the lines of drops and plans.
 use Rattle.std.specs.Prelude.{ℕ, ◌*◌, List, map}
 use Rattle.std.specs.List.{flat_map}
-use Rattle.sq_value.specs.Lists.{numbers_to, max_by}
+use Rattle.sq_words.specs.Lists.{numbers_to, max_by}
 use Rattle.sq_value.specs.LineTexts.{drop_line, plan_line}
 use Rattle.sq_place.specs.declared.DropPoint.{DropPoint}
 use Rattle.sq_plan.specs.declared.closing.Shown.{Shown}

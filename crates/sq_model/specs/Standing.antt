@@ -5,7 +5,7 @@ use Rattle.sq_graph.specs.Wires.{producer_of}
 use Rattle.sq_graph.specs.Order.{is_given}
 use Rattle.sq_net.specs.declared.Network.{Network}
 use Rattle.sq_model.specs.Full.{full_stream}
-use Rattle.sq_value.specs.Lists.{nth}
+use Rattle.sq_words.specs.Lists.{nth}
 
 -- each stream that a source or one of these boxes gives is its full stream
 abbrev pub Stands : Network → List (List Tuple) → List ℕ → List (List Tuple) → Type 0

@@ -1,7 +1,7 @@
 // What is dropped, shown and fed in a replay.
 ghost use Rattle.std.specs.Prelude.{◌≡◌, ◌+◌, ◌<◌, ◌^◌, ◌==◌, map, length, Some, slice_get, IfOk, IfSome};
 ghost use Rattle.std.specs.List.{All, list_any, sum_by};
-ghost use Rattle.sq_value.specs.Lists.{numbers_to, contains_number};
+ghost use Rattle.sq_words.specs.Lists.{numbers_to, contains_number};
 ghost use Rattle.sq_value.specs.Values.{IsStream};
 ghost use Rattle.sq_graph.specs.Wires.{output_arc_at};
 ghost use Rattle.sq_net.specs.Sound.{IsSound};

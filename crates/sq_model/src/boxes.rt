@@ -1,7 +1,7 @@
 // What a box gives for whole streams.
 ghost use Rattle.std.specs.Prelude.{◌≡◌, ◌++◌, map, IfOk, OnOk};
 ghost use Rattle.std.specs.List.{All, flat_map};
-ghost use Rattle.sq_value.specs.Lists.{sort_by, nth};
+ghost use Rattle.sq_words.specs.Lists.{sort_by, nth};
 ghost use Rattle.sq_value.specs.Values.{IsStream};
 ghost use Rattle.sq_lists.specs.Merge.{union};
 ghost use Rattle.sq_net.specs.Sound.{HasWindow};

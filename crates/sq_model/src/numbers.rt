@@ -1,7 +1,7 @@
 // How many tuples boxes are fed, and how many of them are late.
 ghost use Rattle.std.specs.Prelude.{◌≡◌, ◌<◌, ◌≤◌, ◌*◌, ◌^◌, map, length, IfOk};
 ghost use Rattle.std.specs.List.{sum_by};
-ghost use Rattle.sq_value.specs.Lists.{numbers_to, nth};
+ghost use Rattle.sq_words.specs.Lists.{numbers_to, nth};
 ghost use Rattle.sq_model.specs.Fed.{fed_from, late_from};
 ghost use Rattle.sq_model.specs.Placed.{IsPlaced};
 

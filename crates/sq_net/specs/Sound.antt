@@ -1,7 +1,7 @@
 -- What a sound network is.
 use Rattle.std.specs.Prelude.{⊤, ◌≡◌, ℕ, ◌+◌, ◌<◌, ◌^◌, Bool, true, false, ◌&&◌, ◌==◌, nat_le, List, [], ◌∷◌, ◌++◌, map, length, Some, slice_get}
 use Rattle.std.specs.List.{list_all, filter_map, All}
-use Rattle.sq_value.specs.Lists.{are_distinct, contains_bytes}
+use Rattle.sq_words.specs.Lists.{are_distinct, contains_bytes}
 use Rattle.sq_value.specs.Values.{Columns, kinds_of, names_of}
 use Rattle.sq_value.specs.declared.Kind.TheVariants as kind
 use Rattle.sq_expr.specs.Trees.{Checked}

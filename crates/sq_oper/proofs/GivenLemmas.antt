@@ -1,6 +1,6 @@
 -- What was given, and prefixes of it.
 use Rattle.std.proofs.Common.{◌≡◌, ℕ, ◌≤◌, eqb, cond, List, [], ◌∷◌, ◌++◌, Result, Ok, Err, OnErr, refl, ap, sym, ◌∙◌, append_assoc, append-nil, arith}
-use Rattle.sq_value.specs.Lists.{IsPrefixOf}
+use Rattle.sq_words.specs.Lists.{IsPrefixOf}
 use Rattle.sq_item.specs.declared.Item.{Item}
 use Rattle.sq_item.specs.Things.{Thing, spread}
 use Rattle.sq_item.specs.Sound.{IsSoundItem}

@@ -1,7 +1,7 @@
 use Rattle.std.proofs.Common.{◌≡◌, ℕ, List, [], ◌∷◌, ◌++◌, refl, ap, sym, ◌∙◌, append_assoc}
 use Rattle.sq_item.specs.Things.{Thing}
 use Rattle.sq_oper.specs.Entries.{Entry}
-use Rattle.sq_value.specs.Lists.{IsPrefixOf}
+use Rattle.sq_words.specs.Lists.{IsPrefixOf}
 use Rattle.sq_oper.specs.Machine.{run_of, next_all, gives_all}
 use Rattle.sq_oper.proofs.GivenLemmas.{IsPrefixOf-longer}
 

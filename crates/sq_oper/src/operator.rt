@@ -2,7 +2,7 @@
 
 ghost use Rattle.std.specs.Prelude.{◌≡◌, ℕ, ◌+◌, ◌-◌, ◌^◌, ◌/◌, ◌<◌, ◌++◌, Bool, true, false, List, [], is_some, OnOk, OnErr, IsTrue, if◌then◌else◌};
 ghost use Rattle.sq_value.specs.declared.Value.{Value};
-ghost use Rattle.sq_value.specs.Lists.{IsPrefixOf};
+ghost use Rattle.sq_words.specs.Lists.{IsPrefixOf};
 ghost use Rattle.sq_item.specs.Sound.{IsSoundItem};
 ghost use Rattle.sq_item.specs.Things.{Thing};
 ghost use Rattle.sq_road.specs.Levels.{AgreesWith};

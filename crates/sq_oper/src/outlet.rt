@@ -1,7 +1,7 @@
 //! Where what operators give goes.
 
 ghost use Rattle.std.specs.Prelude.{◌≡◌, ℕ, ◌==◌, ◌++◌, ◌∷◌, List, [], OnOk, OnErr, if◌then◌else◌};
-ghost use Rattle.sq_value.specs.Lists.{IsPrefixOf};
+ghost use Rattle.sq_words.specs.Lists.{IsPrefixOf};
 ghost use Rattle.sq_item.specs.declared.Item.{Item};
 ghost use Rattle.sq_item.specs.Sound.{IsSoundItem};
 ghost use Rattle.sq_item.specs.Things.{spread};

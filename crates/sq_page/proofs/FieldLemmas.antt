@@ -2,7 +2,7 @@
 use Rattle.std.proofs.Common.{◌≡◌, ◌≤◌, ℕ, zero, suc, List, [], ◌∷◌, length, Option, Some, subst, ap, refl, sym}
 use Rattle.sq_page.specs.Reading.{take_many}
 use Rattle.sq_page.proofs.Takes.{bind_some, some_is}
-use Rattle.sq_value.specs.Options.{◌>>=◌}
+use Rattle.sq_words.specs.Options.{◌>>=◌}
 
 pub many_counts : {X : Type 0} (one : List ℕ → Option (X × List ℕ)) (n : ℕ) (bytes : List ℕ) (xs : List X × List ℕ) → take_many one n bytes ≡ Some xs → length xs.0 ≡ n
 unfolding take_many

@@ -3,7 +3,7 @@ use Rattle.std.specs.List.{AllByRecursion, list_all}
 use Rattle.std.specs.Prelude.{List, Some, length, suc, true, ℕ, [], ◌≡◌, ◌<◌, ◌==◌, if◌then◌else◌, ◌∷◌}
 use Rattle.sq_graph.specs.Wires.{Port, inputs_of, producer_of}
 use Rattle.sq_graph.specs.declared.Wiring.{Wiring}
-use Rattle.sq_value.specs.Lists.{contains_number, numbers_to}
+use Rattle.sq_words.specs.Lists.{contains_number, numbers_to}
 use Rattle.sq_graph.specs.Order.{order_of}
 
 -- each box has a rank, above those of the boxes before it and below the number of boxes: its place in the order

@@ -4,7 +4,7 @@ ghost use Rattle.std.specs.Prelude.{◌≡◌, ℕ, ◌^◌, ◌<◌, ◌==◌, 
 ghost use Rattle.std.specs.List.{AllByRecursion};
 ghost use Rattle.sq_value.specs.declared.Tuple.{Tuple};
 ghost use Rattle.sq_value.specs.declared.Value.{Value};
-ghost use Rattle.sq_value.specs.Lists.{IsPrefixOf};
+ghost use Rattle.sq_words.specs.Lists.{IsPrefixOf};
 ghost use Rattle.sq_value.specs.Values.{IsStream};
 ghost use Rattle.sq_item.specs.Sound.{IsMark, IsBody};
 ghost use Rattle.sq_item.specs.Things.{Thing, mark_part, body_part};

@@ -2,7 +2,7 @@
 use Rattle.std.specs.Prelude.{ℕ, ◌≤◌, List, [], map, slice_index, slice_index_or}
 use Rattle.std.specs.List.{All, sum, sum_by}
 use Rattle.std.specs.List.Sorted.{IsNonDecreasing}
-use Rattle.sq_value.specs.Lists.{numbers_to}
+use Rattle.sq_words.specs.Lists.{numbers_to}
 use Rattle.sq_qos.specs.Graphs.{loss_steps_of}
 use Rattle.sq_net.specs.declared.Network.{Network}
 

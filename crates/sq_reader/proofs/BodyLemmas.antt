@@ -5,7 +5,7 @@ use Rattle.std.specs.Prelude.{Result, Ok, nat_le}
 use Rattle.std.specs.List.{All, AllByRecursion, list_all, zip}
 use Rattle.std.specs.Option.{option_and_then}
 use Rattle.std.proofs.lemmas.List.Elements.{All-from_recursion, All-replicate}
-use Rattle.sq_value.specs.Lists.{are_distinct}
+use Rattle.sq_words.specs.Lists.{are_distinct}
 use Rattle.sq_value.specs.Values.{Columns, kinds_of, names_of}
 use Rattle.sq_value.specs.declared.Kind.{Kind}
 use Rattle.sq_value.specs.declared.Kind.TheVariants as kind
@@ -48,7 +48,7 @@ use Rattle.sq_reader.proofs.TypedLemmas.{IsAllowed, kinds_are_set, over_each, pr
 use Rattle.sq_reader.proofs.FunctionLemmas.{few_enough, funcs_kinded, good_given, group_fields, told_count}
 use Rattle.sq_reader.proofs.ResampleLemmas.{given_new, left_width}
 use Rattle.sq_reader.proofs.WindowLemmas.{window_is}
-use Rattle.sq_value.specs.Results.{◌>>=◌}
+use Rattle.sq_words.specs.Results.{◌>>=◌}
 
 -- a box of the file, and what it was typed as on these columns
 pub record IsBodyOf (raw : RawBody) (ins : List Columns) (t : TypedBody) : Type 0 where

@@ -3,7 +3,7 @@ use Rattle.std.proofs.Common.{◌≡◌, ◌∙◌, sym, ap, refl, ℕ, true, Li
 use Rattle.std.specs.List.{AllByRecursion, cons_option, filter_map, zip}
 use Rattle.std.specs.Option.{option_map}
 use Rattle.std.proofs.lemmas.Option.{slice_get-map}
-use Rattle.sq_value.specs.Lists.{same_bytes}
+use Rattle.sq_words.specs.Lists.{same_bytes}
 use Rattle.sq_value.specs.Values.{Columns, kinds_of, names_of}
 use Rattle.sq_value.specs.declared.Kind.{Kind}
 use Rattle.sq_value.specs.declared.Kind.TheVariants as kind

@@ -5,7 +5,7 @@ use Rattle.std.specs.Str.{bytes_eq}
 use Rattle.std.proofs.lemmas.List.Folds.{list_any-append}
 use Rattle.std.proofs.lemmas.Map.Text.{is_eq-slice_cmp}
 use Rattle.std.proofs.lemmas.Slice.Eq.{bytes_eq-Decides}
-use Rattle.sq_value.specs.Lists.{same_bytes, contains_bytes, are_distinct}
+use Rattle.sq_words.specs.Lists.{same_bytes, contains_bytes, are_distinct}
 use Rattle.sq_graph.proofs.Cycles.{or_none}
 use Rattle.sq_net.specs.Names.{is_name}
 use Rattle.sq_reader.specs.Naming.{repeat_after}

@@ -7,7 +7,7 @@ use Rattle.std.proofs.lemmas.Bool.Decides.{nat_tests}
 use Rattle.std.proofs.lemmas.List.{length-map}
 use Rattle.std.proofs.lemmas.List.Quantifiers.{position-Some}
 use Rattle.std.proofs.lemmas.Option.{slice_get-get_or, slice_get-map, slice_get_within}
-use Rattle.sq_value.specs.Lists.{same_bytes, contains_bytes}
+use Rattle.sq_words.specs.Lists.{same_bytes, contains_bytes}
 use Rattle.sq_value.specs.Schemas.{schema_error}
 use Rattle.sq_value.specs.Values.{Columns, kinds_of, names_of}
 use Rattle.sq_value.specs.declared.Kind.{Kind}
@@ -31,7 +31,7 @@ use Rattle.sq_reader.proofs.LimitLemmas.{neither}
 use Rattle.sq_reader.proofs.DistinctLemmas.{IsNew, new_both, new_distinct, none_bad, same_text}
 use Rattle.sq_reader.proofs.SchemaLemmas.{schema_none}
 use Rattle.sq_reader.proofs.ColumnLemmas.{columns_of_parts, kinds_at_places, zip_both}
-use Rattle.sq_value.specs.Results.{◌>>=◌}
+use Rattle.sq_words.specs.Results.{◌>>=◌}
 
 -- ---- the functions
 

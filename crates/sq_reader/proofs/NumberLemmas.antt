@@ -6,7 +6,7 @@ use Rattle.std.specs.List.{position_from}
 use Rattle.std.specs.Str.{bytes_eq}
 use Rattle.std.proofs.lemmas.List.{drop_all}
 use Rattle.std.proofs.lemmas.Map.Text.{is_eq-slice_cmp}
-use Rattle.sq_value.specs.Lists.{same_bytes}
+use Rattle.sq_words.specs.Lists.{same_bytes}
 use Rattle.sq_tables.specs.Places.{or_else}
 use Rattle.sq_reader.specs.Streaming.{Numbers, also_numbered, number_named, told_stream_named}
 use Rattle.sq_reader.proofs.DistinctLemmas.{same_text}

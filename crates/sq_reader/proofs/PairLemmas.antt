@@ -4,7 +4,7 @@ use Rattle.std.specs.Prelude.{codes}
 use Rattle.std.specs.List.{zip}
 use Rattle.std.proofs.lemmas.List.{length-map}
 use Rattle.std.proofs.lemmas.List.Folds.{list_any-append}
-use Rattle.sq_value.specs.Lists.{same_bytes, are_distinct, contains_bytes}
+use Rattle.sq_words.specs.Lists.{same_bytes, are_distinct, contains_bytes}
 use Rattle.sq_value.specs.Schemas.{schema_error, AreColumns}
 use Rattle.sq_value.specs.Values.{Columns, kinds_of, names_of}
 use Rattle.sq_value.specs.declared.Kind.{Kind}

@@ -28,7 +28,7 @@ use Rattle.sq_reader.proofs.WiringLemmas.{wired_at}
 use Rattle.sq_reader.proofs.BodyLemmas.{node_is}
 use Rattle.sq_reader.proofs.NodeLemmas.{Follow, follow_all}
 use Rattle.sq_reader.proofs.RuleLemmas.{takes_all}
-use Rattle.sq_value.specs.Lists.{contains_number}
+use Rattle.sq_words.specs.Lists.{contains_number}
 
 -- a box is typed, with columns for each of its ports
 abbrev pub IsTypedAt : Wiring → List (Option Node) → ℕ → Type 0

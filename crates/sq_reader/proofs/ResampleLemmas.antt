@@ -4,7 +4,7 @@ use Rattle.std.specs.Prelude.{Ok, Err, codes}
 use Rattle.std.specs.List.{zip}
 use Rattle.std.proofs.lemmas.List.{length-map}
 use Rattle.std.proofs.lemmas.List.Elements.{All-from_recursion}
-use Rattle.sq_value.specs.Lists.{contains_bytes}
+use Rattle.sq_words.specs.Lists.{contains_bytes}
 use Rattle.sq_value.specs.Schemas.{schema_error, AreColumns}
 use Rattle.sq_value.specs.Values.{Columns, kinds_of, names_of}
 use Rattle.sq_value.specs.declared.Kind.{Kind}

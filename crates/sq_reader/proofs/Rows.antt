@@ -29,7 +29,7 @@ use Rattle.sq_tables.specs.declared.raw.Raw.{Raw}
 use Rattle.sq_tables.specs.Places.{place_at}
 use Rattle.sq_tables.specs.Shapes.{even_points}
 use Rattle.sq_reader.specs.Networks.{limited_network, typed_network}
-use Rattle.sq_value.specs.Results.{◌>>=◌}
+use Rattle.sq_words.specs.Results.{◌>>=◌}
 
 -- an output with the default weight and graph
 abbrev shown_of : List ℕ → RawOutput

@@ -5,7 +5,7 @@ use Rattle.std.specs.List.{after_first, before_first, filter_map, list_all, list
 use Rattle.std.specs.Option.{option_map}
 use Rattle.std.proofs.lemmas.Bool.Decides.{nat_tests}
 use Rattle.std.proofs.lemmas.List.{length-map}
-use Rattle.sq_value.specs.Lists.{are_distinct, contains_bytes}
+use Rattle.sq_words.specs.Lists.{are_distinct, contains_bytes}
 use Rattle.sq_value.specs.Schemas.{schema_error}
 use Rattle.sq_value.specs.Values.{Columns, names_of}
 use Rattle.sq_value.specs.declared.Kind.{Kind}
@@ -36,7 +36,7 @@ use Rattle.sq_reader.proofs.SchemaLemmas.{schema_none}
 use Rattle.sq_tables.proofs.ShapedLemmas.{first_step}
 use Rattle.sq_reader.proofs.StepLemmas.{found_as}
 use Rattle.sq_reader.proofs.ColumnLemmas.{names_of_zip}
-use Rattle.sq_value.specs.Results.{◌>>=◌}
+use Rattle.sq_words.specs.Results.{◌>>=◌}
 
 -- ---- limits
 

@@ -3,7 +3,7 @@ use Rattle.std.proofs.Common.{◌≡◌, refl, ℕ, ◌≤◌, true, ◌&&◌, �
 use Rattle.std.specs.Prelude.{nat_le}
 use Rattle.std.proofs.lemmas.Bool.Decides.{nat_tests}
 use Rattle.sq_value.specs.declared.Kind.{Kind}
-use Rattle.sq_value.specs.Lists.{are_distinct}
+use Rattle.sq_words.specs.Lists.{are_distinct}
 use Rattle.sq_value.specs.Schemas.{schema_error}
 
 pub schema_none : (names : List (List ℕ)) (kinds : List Kind) → length names ≡ length kinds → 1 ≤ length names → length names ≤ 16 → are_distinct names ≡ true → schema_error names kinds ≡ None

@@ -18,7 +18,7 @@ use Rattle.sq_tables.specs.Places.{place_at}
 use Rattle.sq_reader.specs.Expressions.{allowed, may_be_predicate, may_be_set, or_no_expression, parsed_from, predicate_of, typed_from, typed_in}
 use Rattle.sq_reader.specs.Columns.{kinds_set}
 use Rattle.sq_tables.proofs.ShapedLemmas.{first_step}
-use Rattle.sq_value.specs.Results.{◌>>=◌}
+use Rattle.sq_words.specs.Results.{◌>>=◌}
 
 -- an expression that was checked over these columns, of an allowed kind
 abbrev pub IsAllowed : (Option Kind → Bool) → Columns → Checked → Type 0

@@ -2,7 +2,7 @@
 use Rattle.std.specs.Prelude.{ℕ, ◌+◌, Bool, true, false, not, nat_le, ◌&&◌, if◌then◌else◌, List, [], ◌∷◌, ◌++◌, map, length, replicate, ℤ, pos, negsuc, Option, Some, None, Result, Ok, Err, option_map, slice_get, slice_set}
 use Rattle.std.specs.List.{filter_map, zip}
 use Rattle.std.specs.Option.{option_and_then}
-use Rattle.sq_value.specs.Lists.{same_bytes, contains_bytes}
+use Rattle.sq_words.specs.Lists.{same_bytes, contains_bytes}
 use Rattle.sq_value.specs.Values.{Columns, kinds_of, names_of}
 use Rattle.sq_value.specs.declared.Kind.{Kind}
 use Rattle.sq_expr.specs.Trees.{Checked}
@@ -32,7 +32,7 @@ use Rattle.sq_reader.specs.Limits.{first_failing}
 use Rattle.sq_tables.specs.Rawly.{or_broken}
 use Rattle.sq_reader.specs.Expressions.{may_be_predicate, may_be_set, predicate_of, typed_in}
 use Rattle.sq_reader.specs.Functions.{funcs_from, group_from, kinds_answered}
-use Rattle.sq_value.specs.Results.{◌>>=◌}
+use Rattle.sq_words.specs.Results.{◌>>=◌}
 
 abbrev pub same_names : List (List ℕ) → List (List ℕ) → Bool
 same_names [] [] = true

@@ -14,7 +14,7 @@ use Rattle.sq_net.specs.declared.NetErr.{NetErr}
 use Rattle.sq_net.specs.declared.NetErr.TheVariants as broken
 use Rattle.sq_net.specs.declared.Part.TheVariants as part
 use Rattle.sq_tables.specs.Places.{place_at}
-use Rattle.sq_value.specs.Results.{◌>>=◌}
+use Rattle.sq_words.specs.Results.{◌>>=◌}
 
 abbrev pub or_no_expression : ℕ → ℕ → Result Ast ParseErr → Result Ast NetErr
 or_no_expression n i (Ok a) = Ok a

@@ -19,7 +19,7 @@ use Rattle.sq_reader.specs.Windows.{window_place}
 use Rattle.sq_reader.specs.Outputs.{graph_fault, output_of}
 use Rattle.sq_reader.specs.Drops.{drop_place}
 use Rattle.sq_reader.specs.Columns.{nat_of, no_nodes, nodes_from}
-use Rattle.sq_value.specs.Results.{◌>>=◌}
+use Rattle.sq_words.specs.Results.{◌>>=◌}
 
 -- go on where no place breaks a rule
 abbrev pub unless_at : {A : Type 0} → (Place → NetErr) → Option Place → Result A NetErr → Result A NetErr

@@ -1,7 +1,7 @@
 -- The schemas of the sources.
 use Rattle.std.specs.Prelude.{ℕ, ◌+◌, Bool, not, ◌&&◌, ◌==◌, if◌then◌else◌, List, [], ◌∷◌, ◌++◌, Option, Some, None, Result, Ok, codes}
 use Rattle.std.specs.List.{list_any, before_first, after_first}
-use Rattle.sq_value.specs.Lists.{same_bytes, contains_bytes}
+use Rattle.sq_words.specs.Lists.{same_bytes, contains_bytes}
 use Rattle.sq_value.specs.Values.{Columns}
 use Rattle.sq_value.specs.declared.Kind.{Kind}
 use Rattle.sq_value.specs.declared.Kind.TheVariants as kind
@@ -13,7 +13,7 @@ use Rattle.sq_net.specs.Names.{is_name}
 use Rattle.sq_tables.specs.declared.raw.RawSource.{RawSource}
 use Rattle.sq_tables.specs.Places.{place_at}
 use Rattle.sq_tables.specs.Rawly.{or_broken}
-use Rattle.sq_value.specs.Results.{◌>>=◌}
+use Rattle.sq_words.specs.Results.{◌>>=◌}
 
 abbrev pub is_colon : ℕ → Bool
 is_colon b = b == 58

@@ -4,7 +4,7 @@ use Rattle.std.specs.List.{flat_map, filter_map, find}
 use Rattle.std.specs.Borrow.{Bor}
 use Rattle.std.specs.Map.{lookup}
 use Rattle.std.specs.Str.{bytes_eq}
-use Rattle.sq_value.specs.Lists.{same_bytes, numbers_to}
+use Rattle.sq_words.specs.Lists.{same_bytes, numbers_to}
 use Rattle.sq_graph.specs.declared.BoxKind.{BoxKind}
 use Rattle.sq_graph.specs.declared.BoxKind.TheVariants as boxes
 use Rattle.sq_graph.specs.declared.BoxWires.{BoxWires}

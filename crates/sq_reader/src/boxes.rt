@@ -1,7 +1,7 @@
 // The boxes by the columns of what they take.
 ghost use Rattle.std.specs.Prelude.{◌≡◌, ◌<◌, ◌^◌, ◌++◌, ◌&&◌, not, true, false, Ok, Err, IfOk, IfErr, IfSome, length, option_map, replicate};
 ghost use Rattle.std.specs.List.{list_all};
-ghost use Rattle.sq_value.specs.Lists.{contains_bytes};
+ghost use Rattle.sq_words.specs.Lists.{contains_bytes};
 ghost use Rattle.sq_expr.specs.Kinds.{same_kind, same_kinds};
 ghost use Rattle.sq_graph.specs.Wires.{producer_of};
 ghost use Rattle.sq_net.specs.declared.NetErr.TheVariants as broken;

@@ -1,7 +1,7 @@
 // What an Aggregate or a Resample answers, and what an Aggregate groups by, over columns that it takes.
 ghost use Rattle.std.specs.Prelude.{◌≡◌, ◌<◌, ◌^◌, ◌++◌, [], false, Ok, Err, IfOk, IfErr, IfSome, OnOk, length, position};
 ghost use Rattle.std.specs.List.{filter_map};
-ghost use Rattle.sq_value.specs.Lists.{same_bytes};
+ghost use Rattle.sq_words.specs.Lists.{same_bytes};
 ghost use Rattle.sq_expr.specs.Checking.{column_of};
 ghost use Rattle.sq_expr.specs.Kinds.{kind_at};
 ghost use Rattle.sq_net.specs.Columns.{if_int, kind_of_func};

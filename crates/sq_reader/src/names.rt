@@ -1,7 +1,7 @@
 // The rules on names.
 ghost use Rattle.std.specs.Prelude.{◌≡◌, ◌+◌, ◌<◌, ◌≤◌, ◌^◌, ◌++◌, IfOk, OnOk, IfSome, length, map};
 ghost use Rattle.std.specs.List.{list_all, list_any};
-ghost use Rattle.sq_value.specs.Lists.{contains_bytes, same_bytes};
+ghost use Rattle.sq_words.specs.Lists.{contains_bytes, same_bytes};
 ghost use Rattle.sq_net.specs.declared.Part.TheVariants as part;
 ghost use Rattle.sq_net.specs.Names.{has_name_form, is_name, reserved};
 ghost use Rattle.sq_reader.specs.Limits.{first_failing};

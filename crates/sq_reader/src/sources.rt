@@ -1,7 +1,7 @@
 // The schemas of the sources.
 ghost use Rattle.std.specs.Prelude.{◌≡◌, ◌<◌, ◌≤◌, ◌^◌, [], true, false, None, Ok, Err, IfOk, IfErr, length};
 ghost use Rattle.std.specs.List.{list_all, zip};
-ghost use Rattle.sq_value.specs.Lists.{contains_bytes};
+ghost use Rattle.sq_words.specs.Lists.{contains_bytes};
 ghost use Rattle.sq_value.specs.Schemas.{schema_error};
 ghost use Rattle.sq_reader.specs.Limits.{told_source_within};
 ghost use Rattle.sq_tables.specs.Refusals.{IsAnswerOf, is_memory};

@@ -1,7 +1,7 @@
 // The streams by name and number, and the wiring.
 ghost use Rattle.std.specs.Prelude.{◌≡◌, ◌+◌, ◌<◌, ◌≤◌, ◌^◌, ◌++◌, ℕ, List, true, None, IfOk, OnOk, IfSome, length, map};
 ghost use Rattle.std.specs.List.{flat_map, filter_map, list_all};
-ghost use Rattle.sq_value.specs.Lists.{numbers_to};
+ghost use Rattle.sq_words.specs.Lists.{numbers_to};
 ghost use Rattle.sq_net.specs.declared.Part.TheVariants as part;
 ghost use Rattle.sq_reader.specs.Limits.{told_body_within, box_within, first_failing, limit_place};
 ghost use Rattle.sq_tables.specs.Places.{place_at};

@@ -12,7 +12,7 @@ use Rattle.sq_plan.specs.Settings.{AreAscending}
 use Rattle.sq_replay.specs.FileLines.{Line, has_text, lines_from}
 use Rattle.sq_replay.specs.Entries.{good_or, capacity_text, is_later, with_capacity, entry_of, entry_fields, entry_in, entries_from}
 use Rattle.sq_replay.proofs.StreamLemmas.{with_front, front_cons}
-use Rattle.sq_value.specs.Results.{◌>>=◌}
+use Rattle.sq_words.specs.Results.{◌>>=◌}
 
 -- the lines of one piece more
 pub one_line : (n : ℕ) (piece : List ℕ) (pieces : List (List ℕ)) → lines_from n (piece ∷ pieces) ≡ filter has_text ((n, strip_carriage_return piece) ∷ []) ++ lines_from (n + 1) pieces

@@ -13,7 +13,7 @@ use Rattle.sq_replay.specs.FileLines.{Line, lines_from, pieces_of}
 use Rattle.sq_replay.specs.Streams.{unless, tuple_on_line, tuple_of_line, tuples_from}
 use Rattle.sq_replay.specs.Recorded.{first_recorded, tuples_recorded, tuples_left}
 use Rattle.sq_replay.proofs.StreamLemmas.{empty_line, text_line}
-use Rattle.sq_value.specs.Results.{◌>>=◌}
+use Rattle.sq_words.specs.Results.{◌>>=◌}
 
 -- why there is no answer, where there is none
 abbrev pub first_error : {A E : Type 0} → Result A E → Option E

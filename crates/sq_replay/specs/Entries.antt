@@ -7,7 +7,7 @@ use Rattle.sq_plan.specs.Plans.{Entries}
 use Rattle.sq_replay.specs.declared.entries.LineErr.{LineErr}
 use Rattle.sq_replay.specs.declared.entries.LineErr.TheVariants as error
 use Rattle.sq_replay.specs.FileLines.{Line, file_lines}
-use Rattle.sq_value.specs.Results.{◌>>=◌}
+use Rattle.sq_words.specs.Results.{◌>>=◌}
 
 -- this is the first bad line
 abbrev pub IsBadLine : {A : Type 0} → LineErr → Result A ℕ → Type 0

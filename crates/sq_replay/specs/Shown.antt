@@ -1,7 +1,7 @@
 -- The lines of a run: one for each event, and those at its end.
 use Rattle.std.specs.Prelude.{drop, ⊤, ◌≡◌, ℕ, ◌<◌, Bool, true, false, if◌then◌else◌, List, [], ◌∷◌, ◌++◌, map, length, Option, Some, None, slice_get, codes}
 use Rattle.std.specs.List.{flat_map, zip}
-use Rattle.sq_value.specs.Lists.{IsPrefixOf}
+use Rattle.sq_words.specs.Lists.{IsPrefixOf}
 use Rattle.sq_value.specs.LineTexts.{output_line, drop_line, plan_line, box_line, late_line, end_line}
 use Rattle.sq_net.specs.declared.Network.{Network}
 use Rattle.sq_net.specs.declared.Node.{Node}

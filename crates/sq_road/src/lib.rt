@@ -9,7 +9,7 @@
 ghost use Rattle.std.specs.Prelude.{◌≡◌, ◌*◌, ◌<◌, ◌≤◌, ◌^◌, ◌++◌, length, map, IfOk, OnOk};
 ghost use Rattle.std.specs.List.{sum, sum_by, zip, enumerate_from, All};
 ghost use Rattle.std.specs.List.Sorted.{IsNonDecreasing};
-ghost use Rattle.sq_value.specs.Lists.{sort_by};
+ghost use Rattle.sq_words.specs.Lists.{sort_by};
 ghost use Rattle.sq_road.specs.Roads.{steps_of_drop, all_steps, IsRoadOf};
 ghost use Rattle.sq_road.specs.Offers.{step_of, is_cheaper_offer};
 

@@ -8,7 +8,7 @@ use Rattle.std.proofs.lemmas.List.FromFn.{length-range_with_len}
 use Rattle.sq_link.specs.Chained.{Chained, list_at, StandsIn, IsLoose, IsChained, without as all_but}
 use Rattle.sq_sched.specs.Ready.{without_actor, AreActors, OnlyOnce, ready_in, IsReadyList}
 use Rattle.sq_sched.proofs.ReadyLemmas.{contained, not-contained, stands, once-apart, without-all, length-without, few, room}
-use Rattle.sq_value.specs.Lists.{contains_number}
+use Rattle.sq_words.specs.Lists.{contains_number}
 
 -- what stands in a list stands in the first, where there is one alone
 in-first : (lists : List (List ℕ)) (l n : ℕ) → length lists ≡ 1 → StandsIn n (list_at lists l) → StandsIn n (list_at lists 0)

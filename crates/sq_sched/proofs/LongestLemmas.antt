@@ -4,7 +4,7 @@ use Rattle.std.specs.Prelude.{◌==◌, nat_lt, slice_index}
 use Rattle.std.proofs.Math.Seq.{drop-cons}
 use Rattle.std.proofs.lemmas.Bool.Decides.{nat_tests}
 use Rattle.sq_sched.specs.Policies.{IsLongest, longer, longest_from, longest}
-use Rattle.sq_value.specs.Lists.{contains_number}
+use Rattle.sq_words.specs.Lists.{contains_number}
 
 -- no fewer items wait for one actor than for another, and where they have as many it isn't higher
 record Leads (waits : List ℕ) (actor other : ℕ) : Type 0 where

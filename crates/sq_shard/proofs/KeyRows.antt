@@ -4,7 +4,7 @@ use Rattle.std.specs.Prelude.{codes}
 use Rattle.std.specs.List.{find}
 use Rattle.sq_value.specs.declared.Value.TheVariants as value
 use Rattle.sq_value.specs.declared.Kind.TheVariants as kind
-use Rattle.sq_value.specs.Lists.{numbers_to}
+use Rattle.sq_words.specs.Lists.{numbers_to}
 use Rattle.sq_value.specs.Values.{Columns}
 use Rattle.sq_expr.specs.Keys.{bare_of, equated}
 use Rattle.sq_expr.specs.Trees.{Expr, Time, Field, Literal, Compare, Logic}

@@ -33,7 +33,7 @@ use Rattle.sq_shard.proofs.InOrder.{by-order}
 use Rattle.sq_model.proofs.LateLemmas.{bsort_gives}
 use Rattle.sq_shard.proofs.Parts.{Law, GivesAll, moved, box-part}
 use Rattle.sq_shard.proofs.Sorted.{bsort-few}
-use Rattle.sq_value.specs.Lists.{nth}
+use Rattle.sq_words.specs.Lists.{nth}
 use Rattle.sq_model.proofs.FullWords.{box_list_at}
 
 -- a tuple that fits columns has as many values

@@ -10,7 +10,7 @@ use Rattle.sq_value.specs.declared.Value.{Value}
 use Rattle.sq_value.specs.declared.Value.TheVariants as value
 use Rattle.sq_value.specs.declared.Tuple.{Tuple}
 use Rattle.sq_value.specs.Values.{field, is_null, value_cmp}
-use Rattle.sq_value.specs.Lists.{ports_from, ports_of, sort_by}
+use Rattle.sq_words.specs.Lists.{ports_from, ports_of, sort_by}
 use Rattle.sq_value.proofs.ValueOrder.{value-same}
 use Rattle.sq_expr.specs.Keys.{equated}
 use Rattle.sq_expr.specs.Trees.{Expr, Field, Compare, Logic}

@@ -14,7 +14,7 @@ use Rattle.sq_aggfn.specs.declared.WindowSpec.{WindowSpec}
 use Rattle.sq_aggfn.specs.Functions.{answers_of}
 use Rattle.sq_lists.specs.Merge.{PortTuple, merge_tuples, union}
 use Rattle.sq_lists.specs.Boxes.{filter_list_of, map_list_of, mapped, port_taken}
-use Rattle.sq_value.specs.Lists.{sort_by, contains_number, nth}
+use Rattle.sq_words.specs.Lists.{sort_by, contains_number, nth}
 use Rattle.sq_lists.specs.Sorting.{bsort_list_of, retimed}
 use Rattle.sq_lists.specs.Windows.{aggregate_list_of}
 use Rattle.sq_lists.specs.Pairs.{join_list_of}

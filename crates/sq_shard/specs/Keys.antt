@@ -5,7 +5,7 @@
 --     loses_key n on_time cuts at         a box gives neither a key nor a whole stream, though it takes them
 use Rattle.std.specs.Prelude.{◌≡◌, ℕ, zero, suc, ◌+◌, ◌==◌, ◌&&◌, ◌||◌, nat_lt, Bool, true, false, not, if◌then◌else◌, List, [], ◌∷◌, ◌++◌, map, length, Option, Some, None, slice_get, slice_index_or}
 use Rattle.std.specs.List.{filter, list_any, list_all}
-use Rattle.sq_value.specs.Lists.{numbers_to, contains_number}
+use Rattle.sq_words.specs.Lists.{numbers_to, contains_number}
 use Rattle.sq_value.specs.Values.{Columns}
 use Rattle.sq_expr.specs.Keys.{bare_of, equated}
 use Rattle.sq_graph.specs.Wires.{Producer, Source, Port, producers_of, producer_of, inputs_of}

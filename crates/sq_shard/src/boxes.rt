@@ -5,7 +5,7 @@ ghost use Rattle.sq_net.specs.Sound.{body_within};
 ghost use Rattle.sq_expr.specs.Keys.{bare_of};
 ghost use Rattle.sq_shard.specs.Keys.{both_cut, box_cut, cut_at, is_among, join_cut, left_keys, own, places, resample_cut, right_keys, through, union_cut};
 ghost use Rattle.sq_shard.specs.declared.Cut.TheVariants.{By, Whole};
-ghost use Rattle.sq_value.specs.Lists.{contains_number};
+ghost use Rattle.sq_words.specs.Lists.{contains_number};
 
 use crate::Cut;
 use crate::columns::{bare_places, below, common, group_places, left_keys, right_keys, shifted};

@@ -3,7 +3,7 @@ ghost use Rattle.std.specs.Prelude.{◌≡◌, ◌+◌, ◌<◌, ◌^◌, ◌&&�
 ghost use Rattle.std.specs.List.{All, filter, list_any};
 ghost use Rattle.sq_expr.specs.Keys.{bare_of};
 ghost use Rattle.sq_shard.specs.Keys.{is_among, is_pair_of, joins_on, left_keys, places, right_keys};
-ghost use Rattle.sq_value.specs.Lists.{contains_number};
+ghost use Rattle.sq_words.specs.Lists.{contains_number};
 
 use sq_expr::{Typed, bare_field};
 use std::alloc::{AllocError, Global};

@@ -1,7 +1,7 @@
 // The box at which a key is lost.
 ghost use Rattle.std.specs.Prelude.{◌≡◌, length, IfOk};
 ghost use Rattle.std.specs.List.{find, list_all};
-ghost use Rattle.sq_value.specs.Lists.{numbers_to};
+ghost use Rattle.sq_words.specs.Lists.{numbers_to};
 ghost use Rattle.sq_net.specs.Sound.{IsSound};
 ghost use Rattle.sq_shard.specs.Keys.{cut_at, is_known_cut, loses_key};
 

@@ -7,7 +7,7 @@ use Rattle.std.proofs.lemmas.List.Elements.{All-nil}
 use Rattle.std.proofs.lemmas.List.FromFn.{length-range_with_len}
 use Rattle.std.proofs.lemmas.Option.{slice_get-get_or, slice_get_within}
 use Rattle.sq_value.specs.declared.Value.{Value}
-use Rattle.sq_value.specs.Lists.{numbers_to}
+use Rattle.sq_words.specs.Lists.{numbers_to}
 use Rattle.sq_value.specs.Values.{Columns, IsStream, fields_fit}
 use Rattle.sq_oper.specs.declared.tally.Place.TheVariants.{Start}
 use Rattle.sq_oper.specs.Order.{unmarked, IsFuture}

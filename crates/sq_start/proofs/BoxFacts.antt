@@ -12,7 +12,7 @@ use Rattle.sq_oper.specs.Entries.{Entry}
 use Rattle.sq_oper.specs.Order.{load_fits, AllFit, IsFuture}
 use Rattle.sq_tagged.specs.Tagged.{HasNoMarks}
 use Rattle.sq_graph.specs.Wires.{inputs_of, input_arcs_of, arc_at}
-use Rattle.sq_value.specs.Lists.{numbers_to, max_by}
+use Rattle.sq_words.specs.Lists.{numbers_to, max_by}
 use Rattle.sq_net.specs.declared.Body.{Body}
 use Rattle.sq_net.specs.Sound.{IsSound}
 use Rattle.sq_model.specs.Fit.{SourcesFit}

@@ -37,7 +37,7 @@ use Rattle.sq_below.specs.Ports.{FuturesWiden}
 use Rattle.sq_start.specs.Starts.{IsBox, BoxStarts}
 use Rattle.sq_start.proofs.BoxFacts.{Ready, box-future, box-stream, not-marked}
 use Rattle.sq_start.proofs.Late.{late-sorted}
-use Rattle.sq_value.specs.Lists.{nth}
+use Rattle.sq_words.specs.Lists.{nth}
 use Rattle.sq_expr.specs.Checking.{trees}
 
 -- a box that loses nothing has no late tuples

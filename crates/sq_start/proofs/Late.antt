@@ -34,7 +34,7 @@ use Rattle.sq_below.specs.Ports.{FuturesWiden}
 use Rattle.sq_start.specs.Starts.{IsBox}
 use Rattle.sq_start.proofs.BoxFacts.{Ready, none-above}
 use Rattle.sq_start.proofs.PointLemmas.{arc-alone}
-use Rattle.sq_value.specs.Lists.{contains_number, nth}
+use Rattle.sq_words.specs.Lists.{contains_number, nth}
 use Rattle.sq_model.proofs.FullWords.{box_list_at}
 
 -- ---- one stream

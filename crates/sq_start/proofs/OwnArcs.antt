@@ -15,7 +15,7 @@ use Rattle.sq_model.specs.Shedding.{Replay, full_at}
 use Rattle.sq_below.specs.Standing.{Drop, drop_on_arc, toward, drop_fed, DropsFit}
 use Rattle.sq_start.specs.Numbers.{place_stream}
 use Rattle.sq_start.proofs.PointLemmas.{OwnArc}
-use Rattle.sq_value.specs.Lists.{contains_number}
+use Rattle.sq_words.specs.Lists.{contains_number}
 
 no_arc : Arc
 no_arc = record { stream = 0; taker = Output 0 }

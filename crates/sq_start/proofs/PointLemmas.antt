@@ -6,7 +6,7 @@ use Rattle.std.specs.Option.{option_map}
 use Rattle.std.proofs.lemmas.Bool.Decides.{nat_tests}
 use Rattle.std.proofs.lemmas.List.{drop_more}
 use Rattle.std.proofs.lemmas.Option.{slice_get-map, slice_get-get_or}
-use Rattle.sq_value.specs.Lists.{numbers_to, contains_number}
+use Rattle.sq_words.specs.Lists.{numbers_to, contains_number}
 use Rattle.sq_graph.specs.declared.Wiring.{Wiring}
 use Rattle.sq_graph.specs.Wires.{arcs_of, input_arcs_of, output_arc_at}
 use Rattle.sq_place.specs.declared.DropAt.{DropAt}

@@ -5,7 +5,7 @@ use Rattle.std.specs.Prelude.{slice_get}
 use Rattle.std.specs.List.{sum_by, list_any}
 use Rattle.std.proofs.lemmas.List.{take_all}
 use Rattle.std.proofs.lemmas.List.Sums.{sum_by-cons}
-use Rattle.sq_value.specs.Lists.{numbers_to, insert_by, sort_by}
+use Rattle.sq_words.specs.Lists.{numbers_to, insert_by, sort_by}
 use Rattle.sq_item.specs.Things.{Thing}
 use Rattle.sq_oper.specs.Entries.{Entry, at_port}
 use Rattle.sq_oper.specs.Order.{earlier, merge_under, merge_two, merge_from}

@@ -1,7 +1,7 @@
 -- What is left of a new engine of a replay, at the levels of the replay.
 use Rattle.std.specs.Prelude.{◌≡◌, ℕ, ◌<◌, ◌≤◌, true, false, List, [], length}
 use Rattle.std.specs.List.{sum_by}
-use Rattle.sq_value.specs.Lists.{numbers_to, nth}
+use Rattle.sq_words.specs.Lists.{numbers_to, nth}
 use Rattle.sq_oper.specs.declared.tally.Place.TheVariants.{Start}
 use Rattle.sq_oper.specs.Order.{IsFuture}
 use Rattle.sq_oper.specs.Streams.{things}

@@ -2,7 +2,7 @@
 
 ghost use Rattle.std.specs.Prelude.{◌≡◌, ◌<◌, ◌-◌, ◌==◌, IfOk, IfSome, length};
 ghost use Rattle.sq_graph.specs.Wires.{input_arcs_of};
-ghost use Rattle.sq_value.specs.Lists.{max_by, contains_number};
+ghost use Rattle.sq_words.specs.Lists.{max_by, contains_number};
 ghost use Rattle.sq_net.specs.Sound.{IsSound};
 ghost use Rattle.sq_points.specs.Points.{points_of};
 ghost use Rattle.sq_model.specs.Shedding.{first_drop};

@@ -12,14 +12,14 @@ use Rattle.sq_tables.specs.declared.raw.RawBody.{RawBody}
 use Rattle.sq_tables.specs.declared.raw.RawBox.{RawBox}
 use Rattle.sq_tables.specs.declared.raw.Raw.{Raw}
 use Rattle.sq_tables.specs.declared.raw.Version.{Version}
-use Rattle.sq_value.specs.Options as option
+use Rattle.sq_words.specs.Options as option
 use Rattle.sq_tables.specs.Documents.{list_in, optional, required, when}
 use Rattle.sq_tables.specs.Places.{part_place}
 use Rattle.sq_tables.specs.Shapes.{IsEven, AreEven, body_in, box_in, default_selectivity, output_in, port_count, source_in, top_in}
 use Rattle.sq_tables.specs.Refusals.{IsAnswerOf}
 use Rattle.sq_tables.specs.Rawly.{version_in, or_broken, raw_from, raw_in, shaped_from}
 use Rattle.sq_tables.proofs.ShapedLemmas.{first_step}
-use Rattle.sq_value.specs.Results.{◌>>=◌}
+use Rattle.sq_words.specs.Results.{◌>>=◌}
 
 first_part : {A B : Type 0} (o : Option A) (f : A → Option B) (y : B) → option.◌>>=◌ o f ≡ Some y → (x : A) × ((o ≡ Some x) × (f x ≡ Some y))
 first_part None f y e = cc

@@ -9,7 +9,7 @@ use Rattle.sq_net.specs.declared.NetErr.{NetErr}
 use Rattle.sq_net.specs.declared.NetErr.TheVariants as broken
 use Rattle.sq_tables.specs.Places.{part_place}
 use Rattle.sq_tables.specs.Rawly.{shaped_from}
-use Rattle.sq_value.specs.Results.{◌>>=◌}
+use Rattle.sq_words.specs.Results.{◌>>=◌}
 
 -- where two steps succeed, each does
 pub first_step : {A B : Type 0} (r : Result A NetErr) (f : A → Result B NetErr) (y : B) → (r >>= f) ≡ Ok y → (x : A) × ((r ≡ Ok x) × (f x ≡ Ok y))

@@ -2,10 +2,10 @@
 use Rattle.std.specs.Prelude.{ℕ, Bool, true, false, ◌&&◌, if◌then◌else◌, List, [], ◌∷◌, Option, Some, None}
 use Rattle.std.specs.Str.{is_utf8}
 use Rattle.std.specs.List.{list_any}
-use Rattle.sq_value.specs.Lists.{same_bytes}
+use Rattle.sq_words.specs.Lists.{same_bytes}
 use Rattle.toml.specs.Data.{Data, array, Items, no_items, item, Members, no_members, member}
 use Rattle.toml.specs.Parse.{parse_document}
-use Rattle.sq_value.specs.Options.{◌>>=◌}
+use Rattle.sq_words.specs.Options.{◌>>=◌}
 
 abbrev pub when : {A : Type 0} → Bool → A → Option A
 when true x = Some x

@@ -13,7 +13,7 @@ use Rattle.sq_tables.specs.declared.raw.Version.TheVariants.{One, Two}
 use Rattle.sq_tables.specs.Documents.{document_in}
 use Rattle.sq_tables.specs.Places.{part_place}
 use Rattle.sq_tables.specs.Shapes.{top_in, source_in, box_in, output_in}
-use Rattle.sq_value.specs.Results.{◌>>=◌}
+use Rattle.sq_words.specs.Results.{◌>>=◌}
 
 abbrev pub or_broken : {A : Type 0} → NetErr → Option A → Result A NetErr
 or_broken e None = Err e

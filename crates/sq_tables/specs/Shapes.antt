@@ -1,7 +1,7 @@
 -- A network file by its tables, before its names and numbers are checked. A table without a key that it needs, with
 -- one that it doesn't know, or with a value of another kind, gives nothing.
 use Rattle.std.specs.Prelude.{◌≡◌, ℕ, ◌+◌, true, ◌==◌, if◌then◌else◌, List, [], ◌∷◌, length, replicate, ℤ, pos, Option, Some, None, codes}
-use Rattle.sq_value.specs.Lists.{same_bytes}
+use Rattle.sq_words.specs.Lists.{same_bytes}
 use Rattle.std.specs.List.{All}
 use Rattle.toml.specs.Data.{Data, array, no_items, item, Members, get_member, as_str, as_integer, as_table}
 use Rattle.sq_tables.specs.declared.raw.RawSource.{RawSource}
@@ -18,7 +18,7 @@ use Rattle.sq_tables.specs.declared.raw.Version.TheVariants.{One, Two}
 use Rattle.sq_tables.specs.declared.raw.RawOutput.{RawOutput}
 use Rattle.sq_tables.specs.declared.raw.Raw.{Raw}
 use Rattle.sq_tables.specs.Documents.{when, list_in, has_only, required, optional}
-use Rattle.sq_value.specs.Options.{◌>>=◌}
+use Rattle.sq_words.specs.Options.{◌>>=◌}
 
 -- the top of a file: its numbers, and its tables
 pub record Tables : Type 0 where

@@ -2,7 +2,7 @@
 ghost use Rattle.std.specs.Prelude.{◌≡◌, [], false, Some, None, IfOk, IfErr, codes, map, option_map, string_bytes};
 ghost use Rattle.std.specs.List.{list_all, list_any};
 ghost use Rattle.std.specs.BTreeMap.{keys};
-ghost use Rattle.sq_value.specs.Lists.{same_bytes};
+ghost use Rattle.sq_words.specs.Lists.{same_bytes};
 ghost use Rattle.sq_net.specs.declared.NetErr.TheVariants as broken;
 ghost use Rattle.toml.specs.Data.{get_member, as_str, as_integer, as_table};
 ghost use Rattle.toml.specs.View.{view, table_view, array_view};

@@ -4,7 +4,7 @@ use Rattle.std.specs.Prelude.{codes}
 use Rattle.sq_value.specs.declared.Value.TheVariants as value
 use Rattle.sq_value.specs.declared.Kind.TheVariants as kind
 use Rattle.sq_value.specs.declared.Tuple.{Tuple}
-use Rattle.sq_value.specs.Lists.{numbers_to}
+use Rattle.sq_words.specs.Lists.{numbers_to}
 use Rattle.sq_aggfn.specs.declared.Func.{Func}
 use Rattle.sq_aggfn.specs.declared.Func.TheVariants as func
 use Rattle.sq_graph.specs.declared.BoxKind.{BoxKind}

@@ -2,7 +2,7 @@
 ghost use Rattle.std.specs.Prelude.{◌≡◌, ◌+◌, ◌<◌, ◌≤◌, ◌^◌, ℕ, length, map, true, IfSome, Some, None, if◌then◌else◌};
 ghost use Rattle.std.specs.Fmt.{decimal};
 ghost use Rattle.std.specs.List.{flat_map, position_from, All};
-ghost use Rattle.sq_value.specs.Lists.{same_bytes};
+ghost use Rattle.sq_words.specs.Lists.{same_bytes};
 ghost use Rattle.sq_graph.specs.Order.{is_there};
 ghost use Rattle.sq_graph.specs.Wires.{producer_of};
 ghost use Rattle.sq_net.specs.Sound.{IsSound};

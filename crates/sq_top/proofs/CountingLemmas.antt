@@ -2,7 +2,7 @@
 use Rattle.std.proofs.Common.{◌≡◌, inl, ℕ, Bool, List, [], ◌++◌, length, map, refl, ap, sym, ◌∙◌, subst, append_assoc, append-nil, Option, None}
 use Rattle.std.specs.List.{AllByRecursion}
 use Rattle.sq_value.specs.declared.Tuple.{Tuple}
-use Rattle.sq_value.specs.Lists.{numbers_to}
+use Rattle.sq_words.specs.Lists.{numbers_to}
 use Rattle.sq_outside.specs.Disks.{Pages}
 use Rattle.sq_net.specs.declared.Network.{Network}
 use Rattle.sq_oper.specs.declared.outs.Decision.{Decision}

@@ -8,7 +8,7 @@ use Rattle.sq_value.specs.LineTexts.{drop_line, output_line, plan_line}
 use Rattle.sq_points.specs.Points.{drops_in}
 use Rattle.std.specs.List.{flat_map}
 use Rattle.sq_replay.specs.Shown.{lines_text}
-use Rattle.sq_value.specs.Lists.{numbers_to}
+use Rattle.sq_words.specs.Lists.{numbers_to}
 
 -- all lines, class by class, and their text
 abbrev pub all_lines : Due → List (List ℕ)

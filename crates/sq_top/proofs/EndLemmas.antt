@@ -6,7 +6,7 @@ use Rattle.std.specs.List.{AllByRecursion, flat_map, list_all, list_any, range_w
 use Rattle.std.proofs.lemmas.Bool.Decides.{nat_tests}
 use Rattle.std.proofs.lemmas.List.Elements.{recursion_from_All}
 use Rattle.sq_value.specs.declared.Tuple.{Tuple}
-use Rattle.sq_value.specs.Lists.{contains_bytes, numbers_to, same_bytes}
+use Rattle.sq_words.specs.Lists.{contains_bytes, numbers_to, same_bytes}
 use Rattle.sq_value.specs.Classes.{Shown, Dropped, Planned, Ended, second_field}
 use Rattle.sq_value.proofs.ListLemmas.{same_bytes-refl}
 use Rattle.sq_value.specs.LineTexts.{drop_line, line_of, needs_quotes, output_line, plan_line, late_line, end_line}

@@ -9,7 +9,7 @@ use Rattle.std.proofs.lemmas.List.FromFn.{length-range_with_len}
 use Rattle.std.proofs.lemmas.Grind.{flat_map-append}
 use Rattle.std.proofs.lemmas.Option.{slice_get_within}
 use Rattle.sq_value.specs.declared.Tuple.{Tuple}
-use Rattle.sq_value.specs.Lists.{IsPrefixOf, numbers_to}
+use Rattle.sq_words.specs.Lists.{IsPrefixOf, numbers_to}
 use Rattle.sq_value.specs.Classes.{Class, Shown, Dropped, Planned, Ended, is_of_class}
 use Rattle.sq_value.specs.LineTexts.{drop_line, output_line}
 use Rattle.sq_net.specs.declared.Network.{Network}

@@ -5,7 +5,7 @@ use Rattle.std.specs.Fmt.{decimal}
 use Rattle.std.specs.List.{filter, flat_map, list_any, range_with_len, zip}
 use Rattle.std.proofs.lemmas.Bool.{eqb-true, eqb-false}
 use Rattle.std.proofs.lemmas.Fmt.{decimal_injective}
-use Rattle.sq_value.specs.Lists.{are_distinct, contains_bytes, numbers_to, same_bytes}
+use Rattle.sq_words.specs.Lists.{are_distinct, contains_bytes, numbers_to, same_bytes}
 use Rattle.sq_value.specs.LineTexts.{output_line}
 use Rattle.sq_value.proofs.ListLemmas.{same_bytes-true, same_bytes-refl}
 use Rattle.sq_net.specs.declared.Output.{Output}

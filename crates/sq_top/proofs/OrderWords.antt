@@ -2,7 +2,7 @@
 use Rattle.sq_top.specs.Answers.{AreOthersAll, IsClassIn, class_lines}
 use Rattle.sq_value.specs.Classes.{Class, Ended, is_of_class}
 use Rattle.sq_top.specs.Due.{Due}
-use Rattle.sq_value.specs.Lists.{IsPrefixOf}
+use Rattle.sq_words.specs.Lists.{IsPrefixOf}
 use Rattle.std.specs.Prelude.{List, ℕ, ⊤, [], ◌≡◌, ◌∷◌, ◌++◌}
 use Rattle.std.specs.List.{filter}
 

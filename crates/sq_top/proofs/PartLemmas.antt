@@ -5,7 +5,7 @@ use Rattle.std.specs.List.{AllByRecursion, filter, flat_map, list_all}
 use Rattle.std.proofs.lemmas.List.Elements.{All-from_recursion}
 use Rattle.sq_outside.specs.Folders.{Files}
 use Rattle.sq_value.specs.declared.Tuple.{Tuple}
-use Rattle.sq_value.specs.Lists.{numbers_to}
+use Rattle.sq_words.specs.Lists.{numbers_to}
 use Rattle.sq_value.specs.LineTexts.{output_line}
 use Rattle.sq_value.specs.Values.{IsStream}
 use Rattle.sq_graph.specs.Wires.{output_arc_at}

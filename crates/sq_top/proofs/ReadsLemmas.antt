@@ -11,7 +11,7 @@ use Rattle.sq_net.specs.Sound.{IsSound}
 use Rattle.sq_plan.specs.Plans.{Entries}
 use Rattle.sq_reader.specs.Networks.{network_in}
 use Rattle.sq_reader.proofs.SoundLemmas.{network_sound}
-use Rattle.sq_value.specs.Lists.{same_bytes}
+use Rattle.sq_words.specs.Lists.{same_bytes}
 use Rattle.sq_tap.specs.declared.TapErr.{TapErr}
 use Rattle.sq_tap.specs.Names.{stream_named}
 use Rattle.sq_replay.specs.declared.why.Why.{Why}

@@ -2,7 +2,7 @@
 use Rattle.std.proofs.Common.{◌≡◌, ℕ, zero, suc, ◌+◌, ◌<◌, ◌^◌, Bool, List, [], ◌∷◌, ◌++◌, length, map, refl, ap, ap₂, sym, ◌∙◌, arith, append_assoc, Option, None, Some, drop}
 use Rattle.std.specs.Prelude.{slice_get}
 use Rattle.std.specs.List.{AllByRecursion, range_with_len}
-use Rattle.sq_value.specs.Lists.{IsPrefixOf, numbers_to}
+use Rattle.sq_words.specs.Lists.{IsPrefixOf, numbers_to}
 use Rattle.sq_value.specs.Classes.{Ended}
 use Rattle.sq_outside.specs.Sinks.{AppendsPrefix, appended, AppendsSuch}
 use Rattle.sq_outside.proofs.SinkLemmas.{appended-append}

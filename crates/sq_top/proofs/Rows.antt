@@ -8,7 +8,7 @@ use Rattle.rand_pcg.specs.Lcg.{state_after}
 use Rattle.sq_value.specs.declared.Tuple.{Tuple}
 use Rattle.sq_value.specs.declared.Kind.TheVariants as kind
 use Rattle.sq_value.specs.declared.Value.TheVariants as value
-use Rattle.sq_value.specs.Lists.{numbers_to, same_bytes}
+use Rattle.sq_words.specs.Lists.{numbers_to, same_bytes}
 use Rattle.sq_value.specs.Classes.{Ended, Shown, of_class}
 use Rattle.sq_expr.specs.declared.What.TheVariants as what
 use Rattle.sq_graph.specs.declared.BoxKind.TheVariants as boxes

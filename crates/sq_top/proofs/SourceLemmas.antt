@@ -16,7 +16,7 @@ use Rattle.sq_replay.specs.Streams.{stream_in}
 use Rattle.sq_replay.proofs.FitLemmas.{streams_fit}
 use Rattle.sq_top.specs.Recorded.{AreRecorded}
 use Rattle.sq_top.proofs.SortedLines.{and-true}
-use Rattle.sq_value.specs.Lists.{nth}
+use Rattle.sq_words.specs.Lists.{nth}
 
 between : (low high k : ℕ) → is_between low high k ≡ true → (low ≤ k) × (k ≤ high)
 between low high k h = (grind (arith, nat_tests), grind (arith, nat_tests))

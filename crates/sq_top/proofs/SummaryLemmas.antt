@@ -1,6 +1,6 @@
 -- The summary of a run is that of its replay.
 use Rattle.std.proofs.Common.{◌≡◌, ◌≢◌, ℕ, List, length, map, refl, ap, ◌∙◌, subst, Option}
-use Rattle.sq_value.specs.Lists.{numbers_to}
+use Rattle.sq_words.specs.Lists.{numbers_to}
 use Rattle.sq_outside.specs.Sinks.{AppendsPrefix, appended, AppendsSuch}
 use Rattle.sq_net.specs.declared.Network.{Network}
 use Rattle.sq_model.specs.Shedding.{Replay}

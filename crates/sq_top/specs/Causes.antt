@@ -1,6 +1,6 @@
 -- Which status comes of which cause.
 use Rattle.std.specs.Prelude.{◌≡◌, ◌≢◌, ◌⊎◌, ℕ, ◌+◌, ◌^◌, ◌<◌, ◌≤◌, Bool, true, false, if◌then◌else◌, ⊤, List, [], ◌++◌, Option, Some, None, IsSomeAnd, slice_get, Result, Ok, Err}
-use Rattle.sq_value.specs.Lists.{IsPrefixOf}
+use Rattle.sq_words.specs.Lists.{IsPrefixOf}
 use Rattle.sq_outside.specs.Faults.{Rose, RoseBy}
 use Rattle.sq_outside.specs.Folders.{Files, IsLonger, file}
 use Rattle.sq_outside.specs.Disks.{DiskLog, Pages}

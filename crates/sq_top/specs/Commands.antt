@@ -2,7 +2,7 @@
 use Rattle.std.specs.Prelude.{ℕ, ◌-◌, ◌^◌, Bool, true, false, ◌&&◌, ◌==◌, nat_le, if◌then◌else◌, List, [], ◌∷◌, Option, Some, None, codes}
 use Rattle.std.specs.List.{list_all, list_any, before_first, after_first}
 use Rattle.std.specs.Option.{option_map}
-use Rattle.sq_value.specs.Lists.{contains_bytes, same_bytes}
+use Rattle.sq_words.specs.Lists.{contains_bytes, same_bytes}
 use Rattle.sq_value.specs.Texts.{are_digits, number_in, read_number}
 use Rattle.sq_sched.specs.declared.policy.Rule.{Rule}
 use Rattle.sq_sched.specs.declared.policy.Rule.TheVariants as rule
@@ -10,7 +10,7 @@ use Rattle.sq_top.specs.declared.RunArgs.{RunArgs}
 use Rattle.sq_top.specs.declared.Command.{Command}
 use Rattle.sq_top.specs.declared.Command.TheVariants as command
 use Rattle.sq_value.specs.CommandWords.{Word, is_equals, may_name}
-use Rattle.sq_value.specs.Options.{◌>>=◌}
+use Rattle.sq_words.specs.Options.{◌>>=◌}
 
 -- a word by itself: one that doesn't begin with a dash, `--name=value`, `--name`, or none of these
 pub data Piece : Type 0 where

@@ -1,7 +1,7 @@
 -- What a run shows on its way: a history of events, whose lines are written one after another.
 use Rattle.std.specs.Prelude.{◌≡◌, ◌≢◌, ℕ, ◌+◌, ◌^◌, ◌<◌, ◌≤◌, Bool, true, false, List, [], ◌++◌, length, map, Option}
 use Rattle.std.specs.List.{AllByRecursion, flat_map}
-use Rattle.sq_value.specs.Lists.{IsPrefixOf, numbers_to}
+use Rattle.sq_words.specs.Lists.{IsPrefixOf, numbers_to}
 use Rattle.sq_outside.specs.Disks.{Pages}
 use Rattle.sq_outside.specs.Faults.{Rose}
 use Rattle.sq_outside.specs.Sinks.{AppendsPrefix, appended}

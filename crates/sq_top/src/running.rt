@@ -3,7 +3,7 @@ ghost use Rattle.std.specs.Prelude.{◌≡◌, ◌≢◌, ◌⊎◌, ℕ, ◌+�
 ghost use Rattle.std.specs.String.{string_bytes};
 ghost use Rattle.sq_outside.specs.Faults.{Rose};
 ghost use Rattle.sq_outside.specs.Folders.{Files};
-ghost use Rattle.sq_value.specs.Lists.{IsPrefixOf};
+ghost use Rattle.sq_words.specs.Lists.{IsPrefixOf};
 ghost use Rattle.sq_net.specs.Sound.{IsSound};
 ghost use Rattle.sq_points.specs.Limits.{KeepsDropLimits};
 ghost use Rattle.sq_outside.specs.Disks.{Pages};

@@ -1,7 +1,7 @@
 // The summary of a run that counted its lines.
 ghost use Rattle.std.specs.Prelude.{◌≡◌, ◌≢◌, ◌≤◌, ◌++◌, IfErr, IfOk, OnErr, OnOk, decimal, length};
 ghost use Rattle.std.specs.List.{flat_map, zip};
-ghost use Rattle.sq_value.specs.Lists.{numbers_to};
+ghost use Rattle.sq_words.specs.Lists.{numbers_to};
 ghost use Rattle.sq_net.specs.declared.Node.{Node};
 ghost use Rattle.sq_outside.specs.Sinks.{AppendsPrefix, appended};
 ghost use Rattle.sq_core.specs.Runs.{IsSoundEngine};

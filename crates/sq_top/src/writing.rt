@@ -1,6 +1,6 @@
 // Text on its way to the output, in pieces, and the lines at the end of a run.
 ghost use Rattle.std.specs.Prelude.{◌≡◌, ◌≤◌, ◌++◌, [], IfErr, IfOk, OnErr, OnOk, length, map};
-ghost use Rattle.sq_value.specs.Lists.{numbers_to};
+ghost use Rattle.sq_words.specs.Lists.{numbers_to};
 ghost use Rattle.sq_net.specs.Sound.{IsSound};
 ghost use Rattle.sq_outside.specs.Sinks.{AppendsPrefix, appended};
 ghost use Rattle.sq_core.specs.Runs.{IsSoundEngine, fed_at, late_at_seat};

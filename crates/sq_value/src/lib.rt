@@ -259,7 +259,7 @@ pub struct Schema {
 impl Model for Schema {
     ghost use Rattle.std.specs.Prelude.{List, ℕ, length, true, ◌≡◌, ◌≤◌};
     ghost use Rattle.std.specs.List.{zip};
-    ghost use Rattle.sq_value.specs.Lists.{are_distinct};
+    ghost use Rattle.sq_words.specs.Lists.{are_distinct};
     ghost use Rattle.sq_value.specs.declared.Kind.{Kind};
 
     ghost Value = { List (List ℕ × Kind) };

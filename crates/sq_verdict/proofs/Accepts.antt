@@ -5,7 +5,7 @@ use Rattle.std.specs.List.{filter, find, flat_map, list_all, list_any, range_wit
 use Rattle.std.proofs.lemmas.Bool.{cases_Bool, and_parts, not-true, or_parts}
 use Rattle.std.proofs.lemmas.Bool.Decides.{nat_tests}
 use Rattle.std.proofs.lemmas.List.Folds.{list_all-append}
-use Rattle.sq_value.specs.Lists.{same_bytes, contains_bytes, are_distinct, numbers_to, max_by}
+use Rattle.sq_words.specs.Lists.{same_bytes, contains_bytes, are_distinct, numbers_to, max_by}
 use Rattle.sq_value.specs.LineTexts.{end_line}
 use Rattle.std.specs.Fmt.{decimal}
 use Rattle.std.proofs.lemmas.Option.{same_Some}

@@ -8,7 +8,7 @@ use Rattle.std.proofs.lemmas.List.{drop-drop, length-append}
 use Rattle.std.proofs.lemmas.List.Elements.{filter-append}
 use Rattle.std.proofs.lemmas.Option.{same_Some, slice_get-map}
 use Rattle.sq_value.specs.declared.Tuple.{Tuple}
-use Rattle.sq_value.specs.Lists.{same_bytes, are_distinct, contains_bytes, nth}
+use Rattle.sq_words.specs.Lists.{same_bytes, are_distinct, contains_bytes, nth}
 use Rattle.sq_value.specs.LineTexts.{output_line}
 use Rattle.sq_value.specs.Classes.{Shown, first_field, is_of_class}
 use Rattle.sq_value.proofs.ListLemmas.{same_bytes-true, same_bytes-refl}

@@ -7,7 +7,7 @@ use Rattle.std.proofs.lemmas.Bool.{cases_Bool}
 use Rattle.std.proofs.lemmas.Bool.Decides.{nat_tests}
 use Rattle.sq_verdict.specs.Faults.{batch_of, drop_told_in, recorded}
 use Rattle.sq_verdict.specs.Walking.{HoldRecord, IsPut}
-use Rattle.sq_value.specs.Lists.{contains_number}
+use Rattle.sq_words.specs.Lists.{contains_number}
 
 -- what all lines record of each drop is in the sets or recorded by the lines that are left
 abbrev pub HoldFront : ℕ → List (BTreeSet ℕ) → List (List ℕ) → List (List ℕ) → Type 0

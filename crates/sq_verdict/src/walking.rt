@@ -1,7 +1,7 @@
 // One walk over a text: the first fault, or what is missing.
 ghost use Rattle.std.specs.Prelude.{◌≡◌, ◌≢◌, ◌<◌, ◌+◌, ◌^◌, ◌∷◌, ◌++◌, [], ℕ, List, None, true, false, map, max, is_some, length, IfOk, IfSome, if◌then◌else◌, slice_get, slice_index, nat_lt, not, ◌||◌, ◌==◌, replicate};
 ghost use Rattle.std.specs.List.{All, find, list_any};
-ghost use Rattle.sq_value.specs.Lists.{are_distinct, same_bytes, nth};
+ghost use Rattle.sq_words.specs.Lists.{are_distinct, same_bytes, nth};
 ghost use Rattle.sq_value.specs.Classes.{first_field, whole_lines};
 ghost use Rattle.sq_verdict.specs.Faults.{Lines, class_fault, count_of, drop_told_in, fault_of, has_first, has_word, is_end, is_next, output_told_in, recorded, batch_rises, word_fault};
 ghost use Rattle.sq_verdict.specs.Wanting.{IsBelow, shown_of, shown_one, verdict_of};

@@ -2,7 +2,7 @@
 use Rattle.std.specs.Prelude.{ℕ, ◌+◌, ◌-◌, ◌*◌, ◌/◌, ◌^◌, ◌≤◌, ◌<◌, ◌==◌, nat_lt, max, Bool, if◌then◌else◌, List, [], ◌∷◌, ◌++◌, map, Option, Some, None}
 use Rattle.std.specs.List.{filter, range_with_len}
 use Rattle.sq_value.specs.declared.Value.{Value}
-use Rattle.sq_value.specs.Lists.{max_by}
+use Rattle.sq_words.specs.Lists.{max_by}
 use Rattle.sq_item.specs.Things.{Load, Sign, Body, Thing}
 use Rattle.sq_road.specs.Draws.{draw_of}
 use Rattle.sq_oper.specs.declared.outs.Decision.{Decision}

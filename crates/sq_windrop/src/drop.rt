@@ -2,7 +2,7 @@
 
 ghost use Rattle.std.specs.Prelude.{◌≡◌, ℕ, ◌+◌, ◌-◌, ◌*◌, ◌/◌, ◌^◌, ◌<◌, ◌≤◌, ◌==◌, ◌++◌, ◌∷◌, true, false, List, [], Some, map, length, is_some, IsTrue, IfOk, OnOk, OnErr, if◌then◌else◌};
 ghost use Rattle.sq_value.specs.declared.Value.{Value};
-ghost use Rattle.sq_value.specs.Lists.{IsPrefixOf};
+ghost use Rattle.sq_words.specs.Lists.{IsPrefixOf};
 ghost use Rattle.sq_item.specs.Sound.{IsBody, IsMark, IsSoundItem};
 ghost use Rattle.sq_item.specs.Things.{Thing};
 ghost use Rattle.sq_road.specs.Levels.{AgreesWith};

@@ -2,7 +2,7 @@
 
 ghost use Rattle.std.specs.Prelude.{◌≡◌, ℕ, ◌^◌, ◌*◌, ◌/◌, ◌<◌, ◌==◌, ◌++◌, true, false, List, [], None, Some, length, IsTrue, OnOk, OnErr};
 ghost use Rattle.sq_value.specs.declared.Value.{Value};
-ghost use Rattle.sq_value.specs.Lists.{IsPrefixOf};
+ghost use Rattle.sq_words.specs.Lists.{IsPrefixOf};
 ghost use Rattle.sq_item.specs.Sound.{IsBody};
 ghost use Rattle.sq_item.specs.Things.{Thing, mark_part, body_part};
 ghost use Rattle.sq_oper.specs.declared.tally.Place.{Place};

@@ -1,7 +1,7 @@
 use Rattle.std.proofs.Common.{ℕ, ◌+◌, ◌-◌, ◌^◌, ◌++◌, subst, ap, ap₂, sym, ◌∙◌}
 use Rattle.std.proofs.lemmas.Result.{on_ok_weaker, on_err_weaker}
 use Rattle.std.specs.List.{AllByRecursion}
-use Rattle.sq_value.specs.Lists.{IsPrefixOf}
+use Rattle.sq_words.specs.Lists.{IsPrefixOf}
 use Rattle.sq_aggfn.specs.Keyed.{AllMade}
 use Rattle.sq_aggfn.specs.Windows.{start_of}
 use Rattle.sq_oper.proofs.GivenLemmas.{OnErr-from, IsPrefixOf-append}

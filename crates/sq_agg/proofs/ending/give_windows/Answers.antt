@@ -1,7 +1,7 @@
 use Rattle.std.proofs.Common.{ℕ, ◌+◌, ◌-◌, ◌<◌, ◌≤◌, ◌++◌, subst, ap, ap₂, sym, ◌∙◌, append_assoc, arith}
 use Rattle.std.proofs.lemmas.Result.{on_ok_weaker, on_err_weaker}
 use Rattle.std.specs.List.{AllByRecursion, flat_map, range_with_len}
-use Rattle.sq_value.specs.Lists.{IsPrefixOf}
+use Rattle.sq_words.specs.Lists.{IsPrefixOf}
 use Rattle.sq_aggfn.specs.Windows.{start_of}
 use Rattle.sq_aggfn.proofs.StartLemmas.{starts_rise}
 use Rattle.sq_oper.proofs.GivenLemmas.{OnErr-from, IsPrefixOf-trans, IsPrefixOf-longer}

@@ -1,6 +1,6 @@
 use Rattle.std.proofs.Common.{ℕ, ◌≡◌, ◌-◌, ◌≤◌, ◌++◌, []}
 use Rattle.std.specs.List.{AllByRecursion, flat_map, range_with_len}
-use Rattle.sq_value.specs.Lists.{IsPrefixOf}
+use Rattle.sq_words.specs.Lists.{IsPrefixOf}
 use Rattle.sq_aggfn.specs.Windows.{start_of}
 use Rattle.sq_oper.specs.Given.{given, ItemsSound}
 use Rattle.sq_oper.specs.Streams.{at_zero}

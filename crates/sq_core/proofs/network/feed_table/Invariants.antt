@@ -1,5 +1,5 @@
 use Rattle.std.proofs.Common.{◌≡◌, map}
-use Rattle.sq_value.specs.Lists.{numbers_to}
+use Rattle.sq_words.specs.Lists.{numbers_to}
 use Rattle.sq_start.specs.Numbers.{actor_at}
 use Rattle.sq_core.specs.Table.{feeds_row}
 use Rattle.sq_core.proofs.network.feed_table.Given as goal

@@ -4,7 +4,7 @@ use Rattle.sq_pool.specs.Trust.{IsLater, known}
 use Rattle.sq_flow.specs.Wiring.{times_in}
 use Rattle.sq_flow.specs.Sends.{many, Pushes}
 use Rattle.sq_flow.proofs.sending.send_item.Given as goal
-use Rattle.sq_value.specs.Lists.{contains_number}
+use Rattle.sq_words.specs.Lists.{contains_number}
 
 abbrev pub invariant-loop-arc : goal.invariant-loop-arc
 invariant-loop-arc g l =

@@ -14,7 +14,7 @@ use Rattle.sq_flow.specs.Sends.{many, Pushes}
 use Rattle.sq_flow.proofs.SendLemmas.{pushes-none}
 use Rattle.sq_flow.proofs.sending.send_one.Goals as goal
 use Rattle.sq_flow.proofs.sending.send_one.Goals.{then-port-len+in_ok-send_item, else-port-len}
-use Rattle.sq_value.specs.Lists.{contains_number}
+use Rattle.sq_words.specs.Lists.{contains_number}
 
 -- nothing goes to ports beyond the last
 pushes-beyond : (wires : Wires) (actor port : ℕ) (rows : Vec (Vec ℕ Global) Global) (q : Queues) (was : Option Pages) (item : Item) → slice_get wires.readers.items actor ≡ Some rows

@@ -1,6 +1,6 @@
 use Rattle.std.proofs.Common.{◌≡◌, ℕ, ◌++◌, drop}
 use Rattle.std.specs.List.{AllByRecursion}
-use Rattle.sq_value.specs.Lists.{IsPrefixOf}
+use Rattle.sq_words.specs.Lists.{IsPrefixOf}
 use Rattle.sq_oper.specs.Given.{given, ItemsSound}
 use Rattle.sq_oper.specs.Streams.{IsSoundTuple, things, at_zero}
 use Rattle.sq_lists.specs.Sides.{pair_at, pairs_with}

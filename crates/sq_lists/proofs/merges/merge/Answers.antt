@@ -1,6 +1,6 @@
 use Rattle.std.proofs.Common.{◌+◌, ◌++◌, ◌∷◌, map, drop, sym, ap, ◌∙◌, append_assoc}
 use Rattle.std.proofs.lemmas.List.{drop_more}
-use Rattle.sq_value.specs.Lists.{ports_from}
+use Rattle.sq_words.specs.Lists.{ports_from}
 use Rattle.sq_lists.proofs.merges.merge.Goals as goal
 
 pub loop-port-preserved : goal.loop-port-preserved

@@ -1,5 +1,5 @@
 use Rattle.std.proofs.Common.{◌≡◌, ◌++◌, map, drop}
-use Rattle.sq_value.specs.Lists.{ports_from}
+use Rattle.sq_words.specs.Lists.{ports_from}
 use Rattle.sq_lists.proofs.merges.merge.Given as goal
 
 abbrev pub invariant-loop-port : goal.invariant-loop-port

@@ -1,5 +1,5 @@
 use Rattle.std.proofs.Common.{◌≡◌, ◌++◌, length}
-use Rattle.sq_value.specs.Lists.{Rising}
+use Rattle.sq_words.specs.Lists.{Rising}
 use Rattle.sq_lists.specs.Merge.{tuple_earlier}
 use Rattle.sq_lists.specs.Pairs.{pairs_from, join_list_of}
 use Rattle.sq_lists.specs.Sides.{held_of}

@@ -4,7 +4,7 @@ use Rattle.sq_place.specs.declared.DropPoint.{DropPoint}
 use Rattle.sq_model.specs.Shedding.{first_drop}
 use Rattle.sq_model.proofs.FirstLemmas.{first_step, there}
 use Rattle.sq_model.proofs.answers.drop_above.Goals as goal
-use Rattle.sq_value.specs.Lists.{contains_number}
+use Rattle.sq_words.specs.Lists.{contains_number}
 
 pub returns-then-is_above-clause-first : goal.returns-then-is_above-clause-first
 returns-then-is_above-clause-first c =

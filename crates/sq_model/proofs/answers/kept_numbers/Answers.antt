@@ -1,5 +1,5 @@
 use Rattle.std.proofs.Common.{◌∙◌, ◌++◌, ◌∷◌, [], length, map, ap, sym, length-append, arith, ℕ, List}
-use Rattle.sq_value.specs.Lists.{numbers_to}
+use Rattle.sq_words.specs.Lists.{numbers_to}
 use Rattle.sq_model.specs.Kept.{kept_of}
 use Rattle.sq_model.proofs.BatchLemmas.{map_more}
 use Rattle.sq_model.proofs.answers.kept_numbers.Goals as goal

@@ -1,5 +1,5 @@
 use Rattle.std.proofs.Common.{◌≡◌, map, length}
-use Rattle.sq_value.specs.Lists.{numbers_to}
+use Rattle.sq_words.specs.Lists.{numbers_to}
 use Rattle.sq_model.specs.Shedding.{Replay}
 use Rattle.sq_model.specs.Kept.{kept_of}
 use Rattle.sq_model.specs.Known.{IsKnown}

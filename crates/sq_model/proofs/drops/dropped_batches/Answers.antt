@@ -1,6 +1,6 @@
 use Rattle.std.proofs.Common.{◌≡◌, ◌&&◌, ◌+◌, ◌/◌, ◌++◌, ◌∷◌, [], ap, sym, ◌∙◌, subst, ◌≤◌, arith, if◌then◌else◌, ℕ}
 use Rattle.std.specs.List.{filter}
-use Rattle.sq_value.specs.Lists.{numbers_to}
+use Rattle.sq_words.specs.Lists.{numbers_to}
 use Rattle.sq_model.specs.Shedding.{is_touched}
 use Rattle.sq_model.specs.Shedding.{last_of}
 use Rattle.sq_model.specs.Given.{drops_at}

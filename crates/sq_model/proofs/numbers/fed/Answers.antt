@@ -5,7 +5,7 @@ use Rattle.sq_model.specs.Fed.{fed_from}
 use Rattle.sq_model.proofs.NumberLemmas.{numbered_more}
 use Rattle.sq_model.proofs.StandingLemmas.{item_there}
 use Rattle.sq_model.proofs.numbers.fed.Goals as goal
-use Rattle.sq_value.specs.Lists.{nth}
+use Rattle.sq_words.specs.Lists.{nth}
 
 pub loop-wires-preserved : goal.loop-wires-preserved
 loop-wires-preserved c =

@@ -1,5 +1,5 @@
 use Rattle.std.proofs.Common.{◌≡◌, map}
-use Rattle.sq_value.specs.Lists.{numbers_to}
+use Rattle.sq_words.specs.Lists.{numbers_to}
 use Rattle.sq_model.specs.Fed.{fed_from}
 use Rattle.sq_model.proofs.numbers.fed.Given as goal
 

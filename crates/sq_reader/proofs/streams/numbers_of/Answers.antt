@@ -1,6 +1,6 @@
 use Rattle.std.proofs.Common.{◌∙◌, sym, arith}
 use Rattle.std.proofs.lemmas.Iterator.Adapters.{position_from-zero}
-use Rattle.sq_value.specs.Lists.{same_bytes}
+use Rattle.sq_words.specs.Lists.{same_bytes}
 use Rattle.sq_reader.specs.Streaming.{number_named}
 use Rattle.sq_reader.proofs.NumberLemmas.{numbers_all, numbers_more}
 use Rattle.sq_reader.proofs.streams.numbers_of.Goals as goal

@@ -1,6 +1,6 @@
 use Rattle.std.proofs.Common.{◌∷◌, [], ◌+◌, map, arith, append_assoc}
 use Rattle.std.proofs.lemmas.List.FromFn.{map-range_with_len_more}
-use Rattle.sq_value.specs.Lists.{numbers_to}
+use Rattle.sq_words.specs.Lists.{numbers_to}
 use Rattle.sq_reader.specs.Streaming as streaming
 use Rattle.sq_reader.proofs.streams.push_filter_ports.Goals as goal
 use Rattle.sq_net.specs.Names.{port_name}

@@ -1,5 +1,5 @@
 use Rattle.std.proofs.Common.{◌≡◌, ◌++◌, ◌+◌, map}
-use Rattle.sq_value.specs.Lists.{numbers_to}
+use Rattle.sq_words.specs.Lists.{numbers_to}
 use Rattle.sq_reader.specs.Streaming as streaming
 use Rattle.sq_reader.proofs.streams.push_filter_ports.Given as goal
 use Rattle.sq_net.specs.Names.{port_name}

@@ -1,6 +1,6 @@
 use Rattle.std.proofs.Common.{◌≡◌, ℕ, ◌≤◌, ◌++◌, length}
 use Rattle.std.specs.List.{AllByRecursion}
-use Rattle.sq_value.specs.Lists.{IsPrefixOf}
+use Rattle.sq_words.specs.Lists.{IsPrefixOf}
 use Rattle.sq_lists.specs.Sides.{recent}
 use Rattle.sq_lists.specs.Resamples.{resample_of}
 use Rattle.sq_oper.specs.Given.{given, ItemsSound}

@@ -3,7 +3,7 @@ use Rattle.std.specs.Prelude.{slice_index}
 use Rattle.sq_sched.proofs.ReadyLemmas.{contains-at, next-at, next-is}
 use Rattle.sq_sched.proofs.LongestLemmas.{longer-ready, longest-on}
 use Rattle.sq_sched.proofs.policy.longest_of.Goals as goal
-use Rattle.sq_value.specs.Lists.{contains_number}
+use Rattle.sq_words.specs.Lists.{contains_number}
 
 pub behind-actor-requires : goal.behind-actor-requires
 behind-actor-requires c =

@@ -5,7 +5,7 @@ use Rattle.sq_start.specs.Starts.{length_above}
 use Rattle.sq_start.proofs.ToldLemmas.{length-fine}
 use Rattle.sq_start.proofs.StartedLemmas.{output-started}
 use Rattle.sq_start.proofs.actors.new_output.Goals as goal
-use Rattle.sq_value.specs.Lists.{contains_number}
+use Rattle.sq_words.specs.Lists.{contains_number}
 
 pub gate_actor-requires : goal.gate_actor-requires
 gate_actor-requires c =

@@ -1,5 +1,5 @@
 use Rattle.std.proofs.Common.{◌≡◌, ◌++◌, ◌∷◌, [], ap, sym, ◌∙◌, length, map, arith}
-use Rattle.sq_value.specs.Lists.{numbers_to}
+use Rattle.sq_words.specs.Lists.{numbers_to}
 use Rattle.sq_graph.specs.declared.BoxWires.{BoxWires}
 use Rattle.sq_graph.specs.Wires.{arc_at, inputs_at}
 use Rattle.sq_start.proofs.ToldLemmas.{port-low, numbers-more, item-there}

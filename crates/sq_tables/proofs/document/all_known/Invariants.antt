@@ -1,7 +1,7 @@
 use Rattle.std.proofs.Common.{◌≡◌, string_bytes}
 use Rattle.std.specs.List.{list_any, list_all}
 use Rattle.std.specs.BTreeMap.{keys}
-use Rattle.sq_value.specs.Lists.{same_bytes}
+use Rattle.sq_words.specs.Lists.{same_bytes}
 use Rattle.sq_tables.proofs.document.all_known.Given as goal
 
 abbrev pub invariant-loop-key : goal.invariant-loop-key

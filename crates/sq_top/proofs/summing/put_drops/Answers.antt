@@ -1,6 +1,6 @@
 use Rattle.std.proofs.Common.{◌++◌, append_assoc, ap, sym, ◌∙◌, length, take, get_or}
 use Rattle.std.specs.List.{flat_map, zip}
-use Rattle.sq_value.specs.Lists.{numbers_to}
+use Rattle.sq_words.specs.Lists.{numbers_to}
 use Rattle.sq_top.specs.Summaries.{drop_count_line}
 use Rattle.sq_top.proofs.TextLemmas.{numbers_all, numbers_text-more}
 use Rattle.sq_top.proofs.summing.put_drops.Goals as goal

@@ -1,5 +1,5 @@
 use Rattle.std.proofs.Common.{◌≡◌, map}
-use Rattle.sq_value.specs.Lists.{numbers_to}
+use Rattle.sq_words.specs.Lists.{numbers_to}
 use Rattle.sq_core.specs.Runs.{late_at_seat}
 use Rattle.sq_top.proofs.writing.count_late.Given as goal
 

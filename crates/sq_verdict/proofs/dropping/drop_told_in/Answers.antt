@@ -1,6 +1,6 @@
 use Rattle.std.proofs.Common.{◌∙◌, sym, ap}
 use Rattle.std.specs.Prelude.{codes}
-use Rattle.sq_value.specs.Lists.{same_bytes}
+use Rattle.sq_words.specs.Lists.{same_bytes}
 use Rattle.sq_verdict.proofs.DropLines.{no_drop}
 use Rattle.sq_verdict.proofs.dropping.drop_told_in.Goals as goal
 

@@ -4,7 +4,7 @@ use Rattle.std.specs.Prelude.{slice_get}
 use Rattle.sq_flow.specs.Seats.{done_at}
 use Rattle.sq_flow.specs.Flows.{Stepped, CostsFed, measure_of}
 use Rattle.sq_flow.specs.Readiness.{TouchesOnly, Took}
-use Rattle.sq_value.specs.Lists.{IsPrefixOf}
+use Rattle.sq_words.specs.Lists.{IsPrefixOf}
 use Rattle.sq_flow.proofs.flow.Flow.train.Given as goal
 
 abbrev pub invariant-steps : goal.invariant-steps
