@@ -14,7 +14,6 @@ use Rattle.sq_place.specs.declared.DropPoint.{DropPoint}
 use Rattle.sq_place.specs.Points.{point_at}
 use Rattle.sq_place.specs.Places.{drop_places_of}
 use Rattle.sq_place.proofs.Final.{drops-few}
-use Rattle.sq_place.proofs.Wires.{length-mapped}
 use Rattle.sq_net.specs.declared.Network.{Network}
 use Rattle.sq_net.specs.declared.Output.{Output}
 use Rattle.sq_net.specs.Sound.{IsSound}
@@ -24,7 +23,6 @@ use Rattle.sq_points.proofs.Bounds.{few_outputs, few_places}
 use Rattle.sq_model.specs.Full.{full_arc, full_on, full_stream, full_streams}
 use Rattle.sq_model.specs.Given.{IsMeasured}
 use Rattle.sq_model.specs.Shedding.{drop_above_output, first_drop}
-use Rattle.sq_model.proofs.Alls.{holds-at}
 use Rattle.sq_model.proofs.ArcLemmas.{arcs_carry}
 use Rattle.sq_model.proofs.FullLemmas.{full_listed}
 use Rattle.sq_model.proofs.MeasuredLemmas.{all-measured}
@@ -32,10 +30,12 @@ use Rattle.sq_model.proofs.PlacedLemmas.{placed_of}
 use Rattle.sq_verdict.specs.declared.verdict.Wanted.{Wanted}
 use Rattle.sq_verdict.specs.Wanting.{IsBelow}
 use Rattle.sq_audit.specs.Audits.{above_of, wanted_of, wanted_one}
+use Rattle.sq_words.proofs.Alls.{all_at}
+use Rattle.sq_words.proofs.Lists.{length_map}
 
 pub points_few : (n : Network) → IsSound n → length (points_of n) < 2 ^ 32
 points_few n sound =
-    let many = length-mapped (point_at n.wires (windows_of n) n.batch) (drop_places_of n.wires (windows_of n)) in
+    let many = length_map (point_at n.wires (windows_of n) n.batch) (drop_places_of n.wires (windows_of n)) in
     let few = drops-few n.wires (windows_of n) in
     let all = few_places n sound in
     omega (arith, many, few, all)
@@ -86,7 +86,7 @@ above_there n o d h =
 
 module _ (n : Network) (sound : IsSound n) (limits : KeepsDropLimits n) where
   pub measured_at : (w : ℕ) (p : DropPoint) → slice_get (points_of n) w ≡ Some p → IsMeasured p
-  measured_at w p there = holds-at IsMeasured (points_of n) w p (recursion_from_All IsMeasured (points_of n) (all-measured n sound limits)) there
+  measured_at w p there = all_at IsMeasured (points_of n) w p (recursion_from_All IsMeasured (points_of n) (all-measured n sound limits)) there
 
   abbrev IsFine : ℕ × ℕ → Type 0
   IsFine d = (d.0 < drops_in n) × (1 ≤ d.1)

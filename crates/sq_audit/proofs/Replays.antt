@@ -1,5 +1,5 @@
 -- What a run of a replay is to write is what the verdict asks for.
-use Rattle.std.proofs.Common.{◌≡◌, ℕ, zero, suc, ◌+◌, ◌*◌, ◌/◌, ◌%◌, ◌<◌, ◌≤◌, max, Bool, true, false, not, ◌&&◌, cond, List, [], ◌∷◌, ◌++◌, length, map, refl, ap, sym, ◌∙◌, subst, arith, append_assoc, append-nil, Option, Some, None}
+use Rattle.std.proofs.Common.{◌≡◌, ℕ, zero, suc, ◌+◌, ◌*◌, ◌/◌, ◌%◌, ◌<◌, ◌≤◌, Bool, true, false, not, ◌&&◌, cond, List, [], ◌∷◌, ◌++◌, length, map, refl, ap, sym, ◌∙◌, subst, arith, append_assoc, append-nil, Option, Some, None}
 use Rattle.std.specs.Prelude.{slice_get, nat_lt, nat_le}
 use Rattle.std.specs.List.{All, AllByRecursion, filter, enumerate_from, range_with_len}
 use Rattle.std.proofs.lemmas.Bool.Decides.{nat_tests}
@@ -22,7 +22,7 @@ use Rattle.sq_model.specs.Full.{full_arc, full_on, full_stream, full_streams}
 use Rattle.sq_model.specs.Given.{AreTicks}
 use Rattle.sq_model.specs.Shedding.{Replay, epoch_of, level_of, is_dropped, is_touched, full_at, last_of, record_of, drop_above_output, shown}
 use Rattle.sq_model.specs.Shown.{drop_lines}
-use Rattle.sq_model.proofs.BatchLemmas.{last_low, batch_small, filter_both}
+use Rattle.sq_model.proofs.BatchLemmas.{last_low, batch_small}
 use Rattle.sq_model.proofs.FullLemmas.{full_listed}
 use Rattle.sq_model.proofs.PlacedLemmas.{placed_of}
 use Rattle.sq_model.proofs.ShedLemmas.{stream_ticks}
@@ -38,6 +38,8 @@ use Rattle.sq_audit.specs.Laws.{AcceptsWhole, answer_lines, due_for, record_line
 use Rattle.sq_audit.proofs.AuditLemmas.{above_there, measured_at, outputs_even, points_few, stream_of_arc}
 use Rattle.sq_audit.proofs.LevelBounds.{levels-low, levels-whole}
 use Rattle.sq_verdict.proofs.WholeWords.{AreDrops, IsSoundDue}
+use Rattle.sq_words.proofs.Lists.{max_one, filter_both}
+use Rattle.sq_words.proofs.Bools.{and_second}
 
 -- ---- numbers that rise
 
@@ -56,12 +58,6 @@ rises_filter t low (suc n) = by (t low) (rises_filter t (low + 1) n)
     by : (c : Bool) → Rises (low + 1) (filter t (range_with_len (low + 1) n)) → Rises low (cond c (low ∷ filter t (range_with_len (low + 1) n)) (filter t (range_with_len (low + 1) n)))
     by true more = (omega arith, more)
     by false more = rises_lower low (low + 1) (filter t (range_with_len (low + 1) n)) (omega arith) more
-
-max_one : (bs : List ℕ) (b : ℕ) → max_by (λ k. k + 1) (bs ++ (b ∷ [])) ≡ max (max_by (λ k. k + 1) bs) (b + 1)
-max_one [] b = omega arith
-max_one (c ∷ bs) b = let more = max_one bs b in omega (arith, more)
-
--- ---- the lines of a drop
 
 module _ (drops w : ℕ) (level_at : ℕ → ℕ) (inside : w < drops) (w_small : IsTick w) where
   abbrev line_at : ℕ → List ℕ
@@ -140,10 +136,6 @@ kept_by P t m f a (suc n) h = by (t a) refl (kept_by P t m f (a + 1) n (omega (a
     by true e more = (f a (omega (arith, h)) e, more)
     by false e more = more
 
-and-right : (a b : Bool) → (a && b) ≡ true → b ≡ true
-and-right true b h = h
-and-right false b h = cc
-
 no_drops : (k w : ℕ) → AreDrops k w []
 no_drops k w [] l back e = cc
 no_drops k w (x ∷ front) l back e = cc
@@ -198,7 +190,7 @@ module _ (r : Replay) (sound : IsSound r.network) (limits : KeepsDropLimits r.ne
     good : (b : ℕ) → b ≤ last_of full / p.length → test b ≡ true → IsGood drops w level_at inside w_small b
     good b le passes =
         let low = last_low full (ticks_at p.at) in
-        let dropped = and-right (is_touched p full b) (is_dropped r w p b) passes in
+        let dropped = and_second (is_touched p full b) (is_dropped r w p b) passes in
         let most = levels-low r (epoch_of r (b * p.length)) w in (
           batch_small b (last_of full) p.length (measured_at r.network sound limits w p there).least le low,
           omega (arith, most),

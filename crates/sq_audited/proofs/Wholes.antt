@@ -3,14 +3,13 @@ use Rattle.std.proofs.Common.{◌≡◌, inl, inr, ℕ, zero, suc, ◌+◌, ◌*
 use Rattle.std.specs.Prelude.{IsTrue, slice_get, codes, if◌then◌else◌}
 use Rattle.std.specs.Fmt.{decimal}
 use Rattle.std.specs.List.{filter, flat_map, list_any, list_all, zip, enumerate_from, range_with_len}
-use Rattle.std.proofs.lemmas.Bool.{cases_Bool, and_parts}
+use Rattle.std.proofs.lemmas.Bool.{cases_Bool, and_parts, false_from_ne_true}
 use Rattle.std.proofs.lemmas.Bool.Decides.{nat_tests}
 use Rattle.std.proofs.lemmas.Fmt.{decimal_injective}
 use Rattle.std.proofs.lemmas.List.Folds.{list_all-append}
 use Rattle.sq_words.specs.Lists.{same_bytes, numbers_to}
 use Rattle.sq_value.specs.LineTexts.{box_line, drop_line, end_line, late_line}
 use Rattle.sq_value.specs.Classes.{Shown, Dropped, Planned, Ended, is_of_class, of_class, whole_lines}
-use Rattle.sq_value.proofs.ListLemmas.{same_bytes-true, same_bytes-refl}
 use Rattle.sq_value.proofs.RowLemmas.{first_field-line_of}
 use Rattle.sq_place.specs.declared.DropPoint.{DropPoint}
 use Rattle.sq_net.specs.declared.Network.{Network}
@@ -25,7 +24,6 @@ use Rattle.sq_replay.specs.Shown.{boxes_from, end_lines, fed_line, is_sorter, la
 use Rattle.sq_verdict.specs.Faults.{has_first}
 use Rattle.sq_verdict.specs.Whole as whole
 use Rattle.sq_verdict.specs.Whole.{AreEnds, IsWhole}
-use Rattle.sq_verdict.proofs.Plain.{not_true}
 use Rattle.sq_audit.specs.Laws.{answer_lines, due_for, record_lines}
 use Rattle.sq_audit.proofs.AuditLemmas.{points_few}
 use Rattle.sq_audit.proofs.Replays.{accepts_whole}
@@ -33,6 +31,7 @@ use Rattle.sq_top.specs.Due.{Due, answer_in, due_in, ended_in, replayed}
 use Rattle.sq_top.specs.Answers.{IsWholeText, is_classed}
 use Rattle.sq_audited.specs.Laws.{AcceptsReplays}
 use Rattle.sq_top.proofs.DueWords.{shown_at_output}
+use Rattle.sq_words.proofs.Lists.{same_bytes_true, same_bytes_itself}
 
 module _ (r : model.Replay) where
   shown_same : (k : ℕ) (os : List Output) → map (shown_at_output (answer_in r)) (zip os (range_with_len k (length os))) ≡ map (answer_lines r) (enumerate_from k os)
@@ -52,7 +51,7 @@ module _ (r : model.Replay) where
 -- ---- the lines of one drop among those of all
 
 differs : (a w : ℕ) → a < 2 ^ 64 → w < 2 ^ 64 → (a ≡ w → ⊥) → same_bytes (decimal a) (decimal w) ≡ false
-differs a w a_small w_small apart = not_true (same_bytes (decimal a) (decimal w)) (λ e. apart (decimal_injective a w a_small w_small (same_bytes-true (decimal a) (decimal w) e)))
+differs a w a_small w_small apart = false_from_ne_true (same_bytes (decimal a) (decimal w)) (λ e. apart (decimal_injective a w a_small w_small (same_bytes_true (decimal a) (decimal w) e)))
 
 module _ (g : ℕ → List (List ℕ)) (w : ℕ) (small : w < 2 ^ 64) where
   abbrev one : ℕ → ℕ × List (List ℕ)
@@ -81,7 +80,7 @@ module _ (g : ℕ → List (List ℕ)) (w : ℕ) (small : w < 2 ^ 64) where
   picked_one a (suc n) le lt few = elim (cases_Bool (eqb a w)) [
     | inl holds ↦
         let same : a ≡ w = grind (arith, nat_tests, holds) in
-        let here : test (one a) ≡ true = ap (λ k. same_bytes (decimal k) (decimal w)) same ∙ same_bytes-refl (decimal w) in
+        let here : test (one a) ≡ true = ap (λ k. same_bytes (decimal k) (decimal w)) same ∙ same_bytes_itself (decimal w) in
         taken (one a) (map one (range_with_len (a + 1) n)) here
         ∙ ap (λ xs. g a ++ xs) (picked_none (a + 1) n (omega (arith, same)) (omega (arith, few)))
         ∙ append-nil (g a) ∙ ap g same

@@ -1,5 +1,5 @@
 -- What a run that is done has shown, fed and lost.
-use Rattle.std.proofs.Common.{◌≡◌, ℕ, ◌+◌, ◌<◌, Bool, true, false, not, None, refl, List, [], ◌∷◌, ◌++◌, length, Option, Some, slice_get, ap, sym, ◌∙◌, arith, append-nil}
+use Rattle.std.proofs.Common.{◌≡◌, ℕ, ◌+◌, ◌<◌, true, None, refl, List, [], ◌∷◌, ◌++◌, length, Option, Some, slice_get, ap, sym, ◌∙◌, arith, append-nil}
 use Rattle.sq_outside.specs.Disks.{Pages}
 use Rattle.sq_oper.specs.declared.outs.Event.{Event}
 use Rattle.sq_model.specs.Shedding.{Replay, level_of}
@@ -19,6 +19,7 @@ use Rattle.sq_core.specs.Meanings.{actors, IsValid}
 use Rattle.sq_core.specs.Runs.{IsSoundEngine, IsRun, late_in, ShownAll}
 use Rattle.sq_core.proofs.PlanLemmas.{no-plans}
 use Rattle.sq_core.proofs.RunLemmas.{shown-in, shed-in, box-in}
+use Rattle.sq_words.proofs.Bools.{not_true}
 
 -- nothing is left of any output, and each operator was fed, and has lost, all that it is fed and loses in all
 pub record NothingLeft (e : Engine) : Type 0 where
@@ -34,17 +35,13 @@ pub record NothingLeft (e : Engine) : Type 0 where
       → work_at_last actors table (items_in e.engine.flow pages) e.engine.flow ≡ taken_in_all actors e.engine.flow
   pub plans : plans_left e.engine.flow ≡ []
 
-not-true : (b : Bool) → not b ≡ true → b ≡ false
-not-true true h = cc h
-not-true false h = refl
-
 -- a finished operator is late with all that it loses
 late-seat : (flow : Flow Actor) → IsFlow actors IsValid flow → AllDone flow → (actor : ℕ) → actor < length flow.seats.items → late_in (slice_get flow.seats.items actor) ≡ lost_at actors (slice_get flow.seats.items actor) []
 late-seat flow is done actor low = by (slice_get flow.seats.items actor) (is.seats actor) (done actor (omega (arith, low)))
   where
     by : (o : Option (Seat Actor)) → holds_at (IsSeat actors IsValid ((net_of flow.wires).takes actor) ((net_of flow.wires).fits actor) flow.levels.epoch flow.taken) o → done_at flow.over o ≡ true → late_in o ≡ lost_at actors o []
     by None h d = refl
-    by (Some seat) h d = late-lost seat.op h.is_valid (h.running ∙ not-true seat.tally.running d)
+    by (Some seat) h d = late-lost seat.op h.is_valid (h.running ∙ not_true seat.tally.running d)
 
 -- where all is done nothing is to be released, so nothing is planned
 pub nothing-planned : (e : Engine) → IsSoundEngine e → AllDone e.engine.flow → plans_left e.engine.flow ≡ []

@@ -2,13 +2,14 @@
 use Rattle.std.proofs.Common.{◌≡◌, ◌≢◌, ℕ, zero, suc, ◌+◌, ◌*◌, ◌<◌, ◌≤◌, eqb, cond, Bool, true, false, ◌||◌, List, [], ◌∷◌, ◌++◌, length, Option, Some, Vec, slice_get, refl, ap, sym, ◌∙◌, subst, arith, inl, inr, ◌⊎◌}
 use Rattle.std.specs.declared.alloc.Global.{Global}
 use Rattle.std.proofs.lemmas.Bool.{cases_lt, cases_eq}
-use Rattle.sq_left.proofs.MergeLemmas.{eqb-same, eqb-not}
+use Rattle.sq_left.proofs.MergeLemmas.{eqb-not}
 use Rattle.sq_flow.specs.declared.wires.Arc.{Arc}
 use Rattle.sq_flow.specs.declared.wires.Wires.{Wires}
 use Rattle.sq_flow.specs.Wiring.{numbers_in, rows_in, arcs_read, arcs_from, followers_of, Climbs, from_of, arc_port, to_of, arc_place, times_in}
 use Rattle.sq_core.specs.declared.join.Feed.{Feed}
 use Rattle.sq_core.specs.Joining.{feeds_of, IsGiver, AreFeeds, IsOf, AddsArc, IsJoining, Fixed, once_more}
 use Rattle.sq_words.specs.Lists.{contains_number}
+use Rattle.sq_words.proofs.Numbers.{eqb_true}
 
 -- the item at a place of a list with one more
 pub get-last : {A : Type 0} (xs : List A) (x : A) → slice_get (xs ++ x ∷ []) (length xs) ≡ Some x
@@ -62,7 +63,7 @@ rows_bare (x ∷ xs) v is (suc r) = rows_bare xs v is r
 -- ---- a list with one more number, once
 
 is-there : (xs : List ℕ) (x : ℕ) → contains_number (xs ++ x ∷ []) x ≡ true
-is-there [] x = ap (λ b. b || false) (eqb-same x x refl)
+is-there [] x = ap (λ b. b || false) (eqb_true x x refl)
 is-there (y ∷ xs) x = ap (λ b. eqb y x || b) (is-there xs x) ∙ or-true (eqb y x)
   where
     or-true : (b : Bool) → (b || true) ≡ true
@@ -94,7 +95,7 @@ climbs-more [] x h low = (λ y is. cc is, _)
 climbs-more (z ∷ xs) x h low = (
   λ y is. elim (there-cases xs x y is) [
     | inl old ↦ h.0 y old
-    | inr new ↦ (let l = low z (ap (λ b. b || contains_number xs z) (eqb-same z z refl)) in omega (arith, l, new))
+    | inr new ↦ (let l = low z (ap (λ b. b || contains_number xs z) (eqb_true z z refl)) in omega (arith, l, new))
   ],
   climbs-more xs x h.1 (λ y is. low y (or-right (eqb z y) is)),
 )
@@ -146,7 +147,7 @@ module _ (shown : ℕ) (feeds : List (Vec Feed Global)) (at place : ℕ) (f : Fe
   many = ap length adds.arcs ∙ length_more w.arcs.items arc
 
   row-same : (actor : ℕ) → actor ≡ at → arcs_read w' actor ≡ arcs_read w actor ++ k ∷ []
-  row-same actor is = adds.inputs actor ∙ ap (λ b. cond b (arcs_read w actor ++ k ∷ []) (arcs_read w actor)) (eqb-same actor arc.to (is ∙ sym to))
+  row-same actor is = adds.inputs actor ∙ ap (λ b. cond b (arcs_read w actor ++ k ∷ []) (arcs_read w actor)) (eqb_true actor arc.to (is ∙ sym to))
 
   row-other : (actor : ℕ) → actor ≢ at → arcs_read w' actor ≡ arcs_read w actor
   row-other actor ne = adds.inputs actor ∙ ap (λ b. cond b (arcs_read w actor ++ k ∷ []) (arcs_read w actor)) (eqb-not actor arc.to (λ e. ne (e ∙ to)))
@@ -208,8 +209,8 @@ module _ (shown : ℕ) (feeds : List (Vec Feed Global)) (at place : ℕ) (f : Fe
 
   from-same : (actor port : ℕ) → actor ≡ arc.from → port ≡ arc.port → arcs_from w' actor port ≡ arcs_from w actor port ++ k ∷ []
   from-same actor port e d = adds.readers actor port
-      ∙ ap (λ b. cond b (cond (eqb port arc.port) (arcs_from w actor port ++ k ∷ []) (arcs_from w actor port)) (arcs_from w actor port)) (eqb-same actor arc.from e)
-      ∙ ap (λ b. cond b (arcs_from w actor port ++ k ∷ []) (arcs_from w actor port)) (eqb-same port arc.port d)
+      ∙ ap (λ b. cond b (cond (eqb port arc.port) (arcs_from w actor port ++ k ∷ []) (arcs_from w actor port)) (arcs_from w actor port)) (eqb_true actor arc.from e)
+      ∙ ap (λ b. cond b (arcs_from w actor port ++ k ∷ []) (arcs_from w actor port)) (eqb_true port arc.port d)
 
   from-actor : (actor port : ℕ) → actor ≢ arc.from → arcs_from w' actor port ≡ arcs_from w actor port
   from-actor actor port ne = adds.readers actor port
@@ -217,7 +218,7 @@ module _ (shown : ℕ) (feeds : List (Vec Feed Global)) (at place : ℕ) (f : Fe
 
   from-port : (actor port : ℕ) → actor ≡ arc.from → port ≢ arc.port → arcs_from w' actor port ≡ arcs_from w actor port
   from-port actor port e ne = adds.readers actor port
-      ∙ ap (λ b. cond b (cond (eqb port arc.port) (arcs_from w actor port ++ k ∷ []) (arcs_from w actor port)) (arcs_from w actor port)) (eqb-same actor arc.from e)
+      ∙ ap (λ b. cond b (cond (eqb port arc.port) (arcs_from w actor port ++ k ∷ []) (arcs_from w actor port)) (arcs_from w actor port)) (eqb_true actor arc.from e)
       ∙ ap (λ b. cond b (arcs_from w actor port ++ k ∷ []) (arcs_from w actor port)) (eqb-not port arc.port ne)
 
   abbrev Said : ℕ → ℕ → Option Arc → ℕ
@@ -230,10 +231,10 @@ module _ (shown : ℕ) (feeds : List (Vec Feed Global)) (at place : ℕ) (f : Fe
   said-none actor port ne = ap (λ b. cond b (cond (eqb port arc.port) 1 0) 0) (eqb-not actor arc.from ne)
 
   said-other : (actor port : ℕ) → actor ≡ arc.from → port ≢ arc.port → Said actor port (Some arc) ≡ 0
-  said-other actor port e ne = ap (λ b. cond b (cond (eqb port arc.port) 1 0) 0) (eqb-same actor arc.from e) ∙ ap (λ b. cond b 1 0) (eqb-not port arc.port ne)
+  said-other actor port e ne = ap (λ b. cond b (cond (eqb port arc.port) 1 0) 0) (eqb_true actor arc.from e) ∙ ap (λ b. cond b 1 0) (eqb-not port arc.port ne)
 
   said-one : (actor port : ℕ) → actor ≡ arc.from → port ≡ arc.port → Said actor port (Some arc) ≡ 1
-  said-one actor port e d = ap (λ b. cond b (cond (eqb port arc.port) 1 0) 0) (eqb-same actor arc.from e) ∙ ap (λ b. cond b 1 0) (eqb-same port arc.port d)
+  said-one actor port e d = ap (λ b. cond b (cond (eqb port arc.port) 1 0) 0) (eqb_true actor arc.from e) ∙ ap (λ b. cond b 1 0) (eqb_true port arc.port d)
 
   -- of the new arc, and of an old one
   read-new : (actor port : ℕ) → times_in k (arcs_from w' actor port) ≡ Said actor port (Some arc)
@@ -243,7 +244,7 @@ module _ (shown : ℕ) (feeds : List (Vec Feed Global)) (at place : ℕ) (f : Fe
         | inl e ↦ elim (cases_eq port arc.port) [
           | inr ne ↦ ap (times_in k) (from-port actor port e ne) ∙ none-yet actor port ∙ sym (said-other actor port e ne)
           | inl d ↦ ap (times_in k) (from-same actor port e d) ∙ times-more k k (arcs_from w actor port)
-              ∙ ap (λ n. n + cond (eqb k k) 1 0) (none-yet actor port) ∙ ap (λ b. 0 + cond b 1 0) (eqb-same k k refl) ∙ sym (said-one actor port e d)
+              ∙ ap (λ n. n + cond (eqb k k) 1 0) (none-yet actor port) ∙ ap (λ b. 0 + cond b 1 0) (eqb_true k k refl) ∙ sym (said-one actor port e d)
         ]
       ]
 
@@ -285,7 +286,7 @@ module _ (shown : ℕ) (feeds : List (Vec Feed Global)) (at place : ℕ) (f : Fe
   by-follower : (P : List ℕ → Type 0) (actor : ℕ) → P (followers_of w actor) → (actor ≡ arc.from → P (once_more arc.to (followers_of w actor))) → P (followers_of w' actor)
   by-follower P actor old new =
       elim (cases_eq actor arc.from) [
-        | inl same ↦ subst P (sym (adds.followers actor ∙ ap (λ b. cond b (once_more arc.to (followers_of w actor)) (followers_of w actor)) (eqb-same actor arc.from same))) (new same)
+        | inl same ↦ subst P (sym (adds.followers actor ∙ ap (λ b. cond b (once_more arc.to (followers_of w actor)) (followers_of w actor)) (eqb_true actor arc.from same))) (new same)
         | inr other ↦ subst P (sym (adds.followers actor ∙ ap (λ b. cond b (once_more arc.to (followers_of w actor)) (followers_of w actor)) (eqb-not actor arc.from other))) old
       ]
 
@@ -293,7 +294,7 @@ module _ (shown : ℕ) (feeds : List (Vec Feed Global)) (at place : ℕ) (f : Fe
   followed a low = by-arc (λ b o. contains_number (followers_of w' (from_of o)) (to_of o) ≡ true) a low
       (λ less. by-follower (λ l. contains_number l (to_of (slice_get w.arcs.items a)) ≡ true) (from_of (slice_get w.arcs.items a)) (i.followed a less)
       (λ same. once-stays (followers_of w (from_of (slice_get w.arcs.items a))) arc.to (to_of (slice_get w.arcs.items a)) (i.followed a less)))
-      (ap (λ l. contains_number l arc.to) (adds.followers arc.from ∙ ap (λ b. cond b (once_more arc.to (followers_of w arc.from)) (followers_of w arc.from)) (eqb-same arc.from arc.from refl))
+      (ap (λ l. contains_number l arc.to) (adds.followers arc.from ∙ ap (λ b. cond b (once_more arc.to (followers_of w arc.from)) (followers_of w arc.from)) (eqb_true arc.from arc.from refl))
       ∙ once-there (followers_of w arc.from) arc.to)
 
   followers-low : (actor follower : ℕ) → contains_number (followers_of w' actor) follower ≡ true → 8 * follower < 8 * at + (place + 1)

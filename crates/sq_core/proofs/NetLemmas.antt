@@ -5,13 +5,12 @@ use Rattle.std.proofs.lemmas.Bool.Decides.{nat_tests}
 use Rattle.std.proofs.lemmas.List.{length-map}
 use Rattle.std.proofs.lemmas.List.FromFn.{length-map-range_with_len}
 use Rattle.sq_value.specs.declared.Value.{Value}
-use Rattle.sq_value.specs.Values.{Columns, fields_fit, kinds_fit, kinds_of, is_of_kind}
+use Rattle.sq_value.specs.Values.{fields_fit, kinds_fit}
 use Rattle.sq_graph.specs.declared.BoxKind.{BoxKind}
 use Rattle.sq_graph.specs.declared.BoxKind.TheVariants as kinds
 use Rattle.sq_graph.specs.declared.BoxWires.{BoxWires}
 use Rattle.sq_graph.specs.Wires.{producer_of, inputs_at, inputs_of, input_arcs_of, output_arc_at, arc_at as graph_arc}
 use Rattle.sq_graph.specs.Order.{is_there}
-use Rattle.sq_graph.proofs.Reach.{and_parts}
 use Rattle.sq_place.specs.declared.DropPoint.{DropPoint}
 use Rattle.sq_place.specs.Places.{stream_on}
 use Rattle.sq_place.proofs.Wires.{arcs-inputs, outputs-there}
@@ -20,7 +19,7 @@ use Rattle.sq_net.specs.Sound.{IsSound, takes_within}
 use Rattle.sq_net.specs.Streams.{columns_of_stream}
 use Rattle.sq_net.proofs.StreamLemmas.{stream_typed, boxes_count}
 use Rattle.sq_points.specs.Points.{points_of}
-use Rattle.sq_points.proofs.Bounds.{at_least, passes_at, takes_all}
+use Rattle.sq_points.proofs.Bounds.{at_least, takes_all}
 use Rattle.sq_model.specs.Given.{IsAt}
 use Rattle.sq_model.specs.Shedding.{drop_above_arc}
 use Rattle.sq_below.specs.Actors.{Actor, Sources, Box, Shedder, Shower, arc_from}
@@ -36,6 +35,9 @@ use Rattle.sq_core.specs.declared.join.Feed.{Feed}
 use Rattle.sq_core.specs.Joining.{IsOf}
 use Rattle.sq_core.specs.Table.{kinds_on, arc_feed, place_feed, point_row, feeds_row, IsTabled}
 use Rattle.sq_core.proofs.TableLemmas.{arc_stream_there, place_stream_there, input-low, row-box, row-drop, row-output}
+use Rattle.sq_value.proofs.FitLemmas.{fields_count, kinds_fit_is}
+use Rattle.std.proofs.lemmas.Option.{slice_get_past}
+use Rattle.sq_words.proofs.Lists.{list_all_at}
 
 -- ---- lists
 
@@ -49,30 +51,10 @@ unmapped F [] i y is = cc is
 unmapped F (x ∷ xs) zero y is = (x, refl, cc is)
 unmapped F (x ∷ xs) (suc i) y is = unmapped F xs i y is
 
-past : {A : Type 0} (xs : List A) (i : ℕ) → length xs ≤ i → slice_get xs i ≡ None
-past [] i h = refl
-past (x ∷ xs) zero h = absurd (omega (arith, h))
-past (x ∷ xs) (suc i) h = past xs i (omega (arith, h))
-
 high : {A : Type 0} (xs : List A) (i : ℕ) → slice_get xs i ≡ None → length xs ≤ i
 high [] i is = omega arith
 high (x ∷ xs) zero is = cc is
 high (x ∷ xs) (suc i) is = (let h = high xs i is in omega (arith, h))
-
--- what fits the kinds of columns fits the columns
-kinds-are : (cs : Columns) (vs : List Value) → kinds_fit (kinds_of cs) vs ≡ fields_fit cs vs
-kinds-are [] [] = refl
-kinds-are [] (v ∷ vs) = refl
-kinds-are (c ∷ cs) [] = refl
-kinds-are (c ∷ cs) (v ∷ vs) = ap (λ b. is_of_kind c.1 v && b) (kinds-are cs vs)
-
-fields-count : (cs : Columns) (vs : List Value) → fields_fit cs vs ≡ true → length vs ≡ length cs
-fields-count [] [] h = refl
-fields-count [] (v ∷ vs) h = absurd (cc h)
-fields-count (c ∷ cs) [] h = absurd (cc h)
-fields-count (c ∷ cs) (v ∷ vs) h = ap suc (fields-count cs vs (and_parts (is_of_kind c.1 v) (fields_fit cs vs) h).1)
-
--- ---- rows, arcs and streams
 
 module _ (n : Network) where
   -- a marked feed is of an arc below a drop
@@ -172,7 +154,7 @@ module _ (n : Network) (sound : IsSound n) (places : (w : ℕ) (p : DropPoint) �
     where
       by : (o : Option Feed) → slice_get (feeds_row n x) port ≡ o → ((f : Feed) × (slice_get (feeds_row n x) port ≡ Some f) × IsOf (on port) (Some f)) ⊎ (on port ≡ None)
       by (Some f) is = inl (f, is, measured.each actor port f low is)
-      by None is = (let far = high (feeds_row n x) port is in let m = measured.many actor low in inr (ap (arc_wired w) (past (arcs_read w actor) port (omega (arith, far, m)))))
+      by None is = (let far = high (feeds_row n x) port is in let m = measured.many actor low in inr (ap (arc_wired w) (slice_get_past (arcs_read w actor) port (omega (arith, far, m)))))
 
   pub takes-arcs : TakesArcs n x ((net_of w).takes actor) ((net_of w).fits actor)
   takes-arcs =
@@ -181,7 +163,7 @@ module _ (n : Network) (sound : IsSound n) (places : (w : ℕ) (p : DropPoint) �
         wide = λ port s cs fields is columns fit.
             let f = stream-row n x port s is in
             fits-of (on port) f.0 fields (measured.each actor port f.0 low f.1)
-            ∙ ap (λ ks. kinds_fit ks fields) (f.2 ∙ ap kinds_on columns) ∙ kinds-are cs fields ∙ fit;
+            ∙ ap (λ ks. kinds_fit ks fields) (f.2 ∙ ap kinds_on columns) ∙ kinds_fit_is cs fields ∙ fit;
       }
 
   pub marks-come : MarksAreTaken → (port : ℕ) → (net_of w).takes actor port ≡ true → actor_marks n x port ≡ true
@@ -198,8 +180,8 @@ module _ (n : Network) (sound : IsSound n) (places : (w : ℕ) (p : DropPoint) �
             let s = row-stream n sound places x there port f.0 f.1 in
             let typed = stream_typed n s.stream sound s.given in
             let ks = ap (λ ks. kinds_fit ks fields) (s.typed ∙ ap kinds_on typed.1) in
-            let fit : fields_fit typed.0 fields ≡ true = sym (kinds-are typed.0 fields) ∙ sym ks ∙ sym (fits-of (on port) f.0 fields f.2) ∙ h in
-            law n x port s.stream typed.0 fields sound there s.there typed.1 (fields-count typed.0 fields fit))
+            let fit : fields_fit typed.0 fields ≡ true = sym (kinds_fit_is typed.0 fields) ∙ sym ks ∙ sym (fits-of (on port) f.0 fields f.2) ∙ h in
+            law n x port s.stream typed.0 fields sound there s.there typed.1 (fields_count typed.0 fields fit))
         | inr none ↦ (let bad : false ≡ true = ap (λ o. fits_on o fields) (sym none) ∙ h in cc bad)
       ]
 
@@ -272,7 +254,7 @@ box-reads n sound b low = by (slice_get n.wires.boxes b) refl
     by : (o : Option BoxWires) → slice_get n.wires.boxes b ≡ o → 1 ≤ length (feeds_row n (Box b))
     by None is = (let far = high n.wires.boxes b is in let boxes = boxes_count n sound in absurd (omega (arith, far, boxes, low)))
     by (Some x) is =
-        let some = takes-some x.kind (length x.inputs) (passes_at (λ (z : BoxWires). takes_within z.kind (length z.inputs)) n.wires.boxes b x (takes_all n sound.within) is) in
+        let some = takes-some x.kind (length x.inputs) (list_all_at (λ (z : BoxWires). takes_within z.kind (length z.inputs)) n.wires.boxes b x (takes_all n sound.within) is) in
         let same = ap (λ o. length (inputs_at o)) is in
         let many = row in
         omega (arith, some, same, many)

@@ -2,16 +2,16 @@
 use Rattle.std.proofs.Common.{◌≡◌, ℕ, zero, suc, ◌+◌, ◌-◌, ◌<◌, ◌≤◌, eqb, cond, Bool, true, false, ◌||◌, List, [], ◌∷◌, ◌++◌, map, length, Some, None, slice_get, refl, ap, sym, ◌∙◌, subst, arith, zero-le, inl, inr}
 use Rattle.std.proofs.lemmas.Bool.{cases_lt}
 use Rattle.std.specs.List.{AllByRecursion}
-use Rattle.std.proofs.lemmas.Option.{slice_get_within}
+use Rattle.std.proofs.lemmas.Option.{slice_get_within, slice_get_past}
 use Rattle.sq_value.specs.declared.Tuple.{Tuple}
 use Rattle.sq_value.specs.Values.{IsStream}
 use Rattle.sq_item.specs.declared.Item.{Item}
-use Rattle.sq_oper.specs.Streams.{IsSoundTuple, things, tuples_in}
+use Rattle.sq_oper.specs.Streams.{IsSoundTuple, tuples_in}
 use Rattle.sq_net.specs.declared.Network.{Network}
 use Rattle.sq_net.specs.Sound.{IsSound}
 use Rattle.sq_points.specs.Points.{points_of}
 use Rattle.sq_model.specs.Shedding.{Replay, level_of, answer_of}
-use Rattle.sq_left.proofs.MergeLemmas.{eqb-same, eqb-not}
+use Rattle.sq_left.proofs.MergeLemmas.{eqb-not}
 use Rattle.sq_left.specs.Left.{Net, Holding, coming, inputs, inputs_by, left, still_dropped, IsLaidOut}
 use Rattle.sq_below.specs.Actors as below
 use Rattle.sq_below.specs.Actors.{stream_of}
@@ -37,12 +37,10 @@ use Rattle.sq_core.specs.Answers.{KeepsAnswers}
 use Rattle.sq_core.proofs.NetLemmas.{reads-some}
 use Rattle.sq_core.proofs.SumLemmas.{sum-numbers}
 use Rattle.sq_words.specs.Lists.{contains_number}
+use Rattle.sq_oper.proofs.StreamLemmas.{tuples_back}
+use Rattle.sq_words.proofs.Numbers.{eqb_true}
 
 -- ---- what is left
-
-bodies-things : (xs : List Tuple) → tuples_in (things xs) ≡ xs
-bodies-things [] = refl
-bodies-things (x ∷ xs) = ap (λ l. x ∷ l) (bodies-things xs)
 
 -- what is left of a source is what is to be released of it
 coming-sources : (net : Net) (w : Holding) (order : List ℕ) → IsLaidOut net order → (port : ℕ) → coming net w order net.replay port ≡ w.source port
@@ -97,7 +95,7 @@ new-answers r read law flow items none new shaped sheds shown many untaken =
       holds = record { facts = starts.facts; queued = λ arc. rw (none arc) _ };
       lines = λ output low.
           ap (λ k. tuples_in (coming (net_of flow.wires) (world_of actors (level_of r) items flow) flow.wires.order.items (k + output) 0)) shown
-          ∙ ap tuples_in (starts.lines output low) ∙ bodies-things (answer_of r output);
+          ∙ ap tuples_in (starts.lines output low) ∙ tuples_back (answer_of r output);
       drops = λ w p there.
           let low = slice_get_within (points_of r.network) w p there in
           ap (λ k. still_dropped (net_of flow.wires) (world_of actors (level_of r) items flow) flow.wires.order.items (k + w)) sheds
@@ -145,21 +143,16 @@ few-queued (q ∷ queues) few (suc source) = few-queued queues few.1 source
 
 only-zero : (xs : List ℕ) → OnlyOnce xs → contains_number xs 0 ≡ true → ((y : ℕ) → contains_number xs y ≡ true → y ≡ 0) → xs ≡ 0 ∷ []
 only-zero [] once there zero-only = cc there
-only-zero (x ∷ []) once there zero-only = ap (λ y. y ∷ []) (zero-only x (ap (λ b. b || false) (eqb-same x x refl)))
+only-zero (x ∷ []) once there zero-only = ap (λ y. y ∷ []) (zero-only x (ap (λ b. b || false) (eqb_true x x refl)))
 only-zero (x ∷ y ∷ ys) once there zero-only =
-    let first : x ≡ 0 = zero-only x (ap (λ b. b || contains_number (y ∷ ys) x) (eqb-same x x refl)) in
-    let next : y ≡ 0 = zero-only y (or-true (eqb x y) (ap (λ b. b || contains_number ys y) (eqb-same y y refl))) in
-    let twice : contains_number (y ∷ ys) x ≡ true = ap (λ b. b || contains_number ys x) (eqb-same y x (next ∙ sym first)) in
+    let first : x ≡ 0 = zero-only x (ap (λ b. b || contains_number (y ∷ ys) x) (eqb_true x x refl)) in
+    let next : y ≡ 0 = zero-only y (or-true (eqb x y) (ap (λ b. b || contains_number ys y) (eqb_true y y refl))) in
+    let twice : contains_number (y ∷ ys) x ≡ true = ap (λ b. b || contains_number ys x) (eqb_true y x (next ∙ sym first)) in
     cc (once.0, twice)
   where
     or-true : (b : Bool) {c : Bool} → c ≡ true → (b || c) ≡ true
     or-true true h = refl
     or-true false h = h
-
-none-past : {A : Type 0} (xs : List A) (i : ℕ) → length xs ≤ i → slice_get xs i ≡ None
-none-past [] i h = refl
-none-past (x ∷ xs) zero h = absurd (omega (arith, h))
-none-past (x ∷ xs) (suc i) h = none-past xs i (omega (arith, h))
 
 first-of : (xs : List ℕ) → 1 ≤ length xs → (x : ℕ) × (slice_get xs 0 ≡ Some x)
 first-of [] h = absurd (omega (arith, h))
@@ -171,10 +164,10 @@ module _ {O : Type 0} (m : Meaning O) (valid : O → Type 0) (n : Network) (soun
   replay-ready : IsReady e.flow (length e.flow.seats.items)
   replay-ready =
       record {
-        running = ap (done_at e.flow.over) (none-past e.flow.seats.items (length e.flow.seats.items) (omega arith)) ∙ runs;
+        running = ap (done_at e.flow.over) (slice_get_past e.flow.seats.items (length e.flow.seats.items) (omega arith)) ∙ runs;
         standing = λ port arc here.
             let len = is.flow.shaped.inputs_len in
-            let none : arcs_read e.flow.wires (length e.flow.seats.items) ≡ [] = ap numbers_in (none-past e.flow.wires.inputs.items (length e.flow.seats.items) (omega (arith, len))) in
+            let none : arcs_read e.flow.wires (length e.flow.seats.items) ≡ [] = ap numbers_in (slice_get_past e.flow.wires.inputs.items (length e.flow.seats.items) (omega (arith, len))) in
             let no : None ≡ Some arc = ap (λ l. slice_get l port) (sym none) ∙ here in
             cc no;
       }

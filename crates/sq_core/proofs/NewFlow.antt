@@ -2,7 +2,7 @@
 use Rattle.std.proofs.Common.{◌≡◌, ℕ, zero, suc, ◌<◌, ◌≤◌, not, true, false, List, [], ◌∷◌, map, length, Option, Some, None, Vec, slice_get, refl, ap, sym, ◌∙◌, subst, arith, inl, inr}
 use Rattle.std.specs.List.{AllByRecursion}
 use Rattle.std.specs.declared.alloc.Global.{Global}
-use Rattle.std.proofs.lemmas.Option.{slice_get_within}
+use Rattle.std.proofs.lemmas.Option.{slice_get_within, slice_get_past}
 use Rattle.sq_item.specs.Things.{spread_all}
 use Rattle.sq_outside.specs.Disks.{Pages}
 use Rattle.sq_road.specs.Levels.{LevelTable}
@@ -42,22 +42,13 @@ use Rattle.sq_core.specs.Seated.{IsSeated, AllSeated}
 use Rattle.sq_core.proofs.NetLemmas.{takes-arcs, marks-come, tuples-come, joins-all}
 use Rattle.sq_core.proofs.SumLemmas.{sum-none}
 use Rattle.sq_words.specs.Lists.{nth}
+use Rattle.sq_words.proofs.Lists.{has_item}
 
 -- what is to be released of a source is its stream
 released : (queues : List Recorded) (source : ℕ) → tuples_to_come (slice_get queues source) ≡ nth (map (λ q. q.items) queues) source
 released [] source = refl
 released (q ∷ queues) zero = refl
 released (q ∷ queues) (suc source) = released queues source
-
-seat-some : {A : Type 0} (xs : List A) (i : ℕ) → i < length xs → (x : A) × (slice_get xs i ≡ Some x)
-seat-some [] i h = absurd (omega (arith, h))
-seat-some (x ∷ xs) zero h = (x, refl)
-seat-some (x ∷ xs) (suc i) h = seat-some xs i (omega (arith, h))
-
-seat-none : {A : Type 0} (xs : List A) (i : ℕ) → length xs ≤ i → slice_get xs i ≡ None
-seat-none [] i h = refl
-seat-none (x ∷ xs) zero h = absurd (omega (arith, h))
-seat-none (x ∷ xs) (suc i) h = seat-none xs i (omega (arith, h))
 
 weaker : (P Q : Decision → Type 0) → ((d : Decision) → P d → Q d) → (ds : List Decision) → AllByRecursion P ds → AllByRecursion Q ds
 weaker P Q f [] h = _
@@ -140,7 +131,7 @@ module _ (n : Network) (sound : IsSound n) (places : (d : ℕ) (p : DropPoint) �
 
   -- the seat of an operator
   seat-of : (actor : ℕ) → actor < ops_of n → (seat : Seat operator.Actor) × (slice_get seats actor ≡ Some seat) × IsStarted n number (actor_at n actor) seat.op
-  seat-of actor low = (let s = seat-some seats actor (omega (arith, low, count)) in (s.0, s.1, (seated actor s.0 s.1).started))
+  seat-of actor low = (let s = has_item seats actor (omega (arith, low, count)) in (s.0, s.1, (seated actor s.0 s.1).started))
 
   module _ (comes : FedMayCome) (r : Replay) (read : IsReadReplay r) (network : r.network ≡ n) (seed : r.seed ≡ number) where
     gives-at : (actor port : ℕ) → actor < ops_of n → rest_at actors (level_of r) (slice_get seats actor) (fed_to r (actor_at n actor)) port ≡ stream_of r (actor_at n actor, port)
@@ -182,5 +173,5 @@ module _ (n : Network) (sound : IsSound n) (places : (d : ℕ) (p : DropPoint) �
           loses = λ b low. ap (λ l. lost_at actors (slice_get l b) (box_fed r b)) here ∙ loses-at b (subst (λ z. b < length z.boxes) network low);
           no_more = λ actor far port.
               ap (λ l. rest_at actors (level_of r) (slice_get l actor) [] port) here
-              ∙ ap (λ o. rest_at actors (level_of r) o [] port) (seat-none seats actor (let f = subst (λ z. ops_of z < actor) network far in omega (arith, f, count)));
+              ∙ ap (λ o. rest_at actors (level_of r) o [] port) (slice_get_past seats actor (let f = subst (λ z. ops_of z < actor) network far in omega (arith, f, count)));
         }

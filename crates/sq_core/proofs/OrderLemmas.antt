@@ -2,29 +2,24 @@
 use Rattle.std.proofs.Common.{◌≡◌, ◌≢◌, ℕ, zero, suc, ◌+◌, ◌<◌, ◌≤◌, eqb, cond, Bool, true, false, not, ◌||◌, List, [], ◌∷◌, ◌++◌, map, length, Option, Some, None, Vec, slice_get, refl, ap, sym, ◌∙◌, subst, arith, append_assoc, append-nil, inl, inr, ◌⊎◌}
 use Rattle.std.specs.List.{list_all, AllByRecursion}
 use Rattle.std.specs.declared.alloc.Global.{Global}
-use Rattle.std.proofs.lemmas.Bool.{cases_lt}
-use Rattle.std.proofs.lemmas.Bool.Decides.{nat_tests}
+use Rattle.std.proofs.lemmas.Bool.{cases_lt, or_right}
 use Rattle.std.proofs.lemmas.List.Folds.{list_any-append}
 use Rattle.std.proofs.lemmas.Option.{slice_get_within}
-use Rattle.sq_left.proofs.MergeLemmas.{eqb-same}
 use Rattle.sq_graph.specs.Wires.{Producer, Source, Port, producer_of, inputs_of, input_arcs_of, output_arc_at}
 use Rattle.sq_graph.specs.Order.{is_given, can_be_next, order_of}
 use Rattle.sq_graph.proofs.Producers.{producer_is}
-use Rattle.sq_graph.proofs.Reach.{and_parts}
-use Rattle.sq_graph.proofs.Cycles.{or_cases, has_is}
+use Rattle.sq_graph.proofs.Cycles.{has_is}
 use Rattle.sq_graph.proofs.Placing.{order_placed}
 use Rattle.sq_graph.proofs.Following.{order_follows}
 use Rattle.sq_place.specs.declared.DropPoint.{DropPoint}
 use Rattle.sq_place.specs.declared.DropAt.{DropAt}
 use Rattle.sq_place.specs.declared.DropAt.TheVariants as at
 use Rattle.sq_place.specs.Places.{stream_on, own_arcs, arc_numbers, box_of}
-use Rattle.sq_place.proofs.Lists.{contains-filter, and-right}
 use Rattle.sq_place.proofs.Wires.{arcs-inputs}
 use Rattle.sq_net.specs.declared.Network.{Network}
 use Rattle.sq_net.specs.Sound.{IsSound}
 use Rattle.sq_net.proofs.StreamLemmas.{boxes_count}
 use Rattle.sq_points.specs.Points.{points_of, drops_in}
-use Rattle.sq_model.proofs.OrderLemmas.{order_has}
 use Rattle.sq_below.specs.Standing.{Drop, drop_on_arc}
 use Rattle.sq_below.specs.Actors.{giver, from_drop}
 use Rattle.sq_start.specs.Numbers.{first_output, ops_of, number_of, actor_at, place_stream}
@@ -35,34 +30,32 @@ use Rattle.sq_core.specs.Joining.{feeds_of, known_by, AllKnown, ReadsEarlier, Is
 use Rattle.sq_core.specs.Table.{arc_feed, place_feed, point_row, feeds_row, feed_table, turned, same_box, box_giving, drops_from, drops_behind, with_boxes, with_outputs, actors_of}
 use Rattle.sq_core.proofs.TableLemmas.{row-is, count-is}
 use Rattle.sq_words.specs.Lists.{contains_number}
-
-or-right : (a b : Bool) → b ≡ true → (a || b) ≡ true
-or-right true b h = refl
-or-right false b h = h
+use Rattle.sq_words.proofs.Bools.{and_true, and_second, or_cases}
+use Rattle.std.proofs.lemmas.Map.Views.{exact_unsigned_eq}
+use Rattle.sq_words.proofs.Lists.{contains_filter}
+use Rattle.sq_words.proofs.Numbers.{eqb_true}
+use Rattle.sq_place.proofs.Ranks.{order-has}
 
 known-replay : (replay : ℕ) (order : List ℕ) → known_by replay order replay ≡ true
-known-replay replay [] = eqb-same replay replay refl
-known-replay replay (x ∷ order) = or-right (eqb replay x) _ (known-replay replay order)
+known-replay replay [] = eqb_true replay replay refl
+known-replay replay (x ∷ order) = or_right (eqb replay x) _ (known-replay replay order)
 
 known-here : (replay x : ℕ) (order : List ℕ) → known_by replay (x ∷ order) x ≡ true
-known-here replay x order = ap (λ b. b || known_by replay order x) (eqb-same x x refl)
+known-here replay x order = ap (λ b. b || known_by replay order x) (eqb_true x x refl)
 
 known-more : (replay x y : ℕ) (order : List ℕ) → known_by replay order x ≡ true → known_by replay (y ∷ order) x ≡ true
-known-more replay x y order h = or-right (eqb x y) _ h
+known-more replay x y order h = or_right (eqb x y) _ h
 
 -- what is known, or among the rest, is known once the rest is turned
 turned-old : (replay x : ℕ) (done rest : List ℕ) → known_by replay done x ≡ true → known_by replay (turned done rest) x ≡ true
 turned-old replay x done [] h = h
 turned-old replay x done (y ∷ rest) h = turned-old replay x (y ∷ done) rest (known-more replay x y done h)
 
-same-number : (a b : ℕ) → eqb a b ≡ true → a ≡ b
-same-number a b e = grind (arith, nat_tests)
-
 turned-new : (replay x : ℕ) (done rest : List ℕ) → contains_number rest x ≡ true → known_by replay (turned done rest) x ≡ true
 turned-new replay x done [] h = cc h
 turned-new replay x done (y ∷ rest) h =
     elim (or_cases (eqb y x) (contains_number rest x) h) [
-      | inl e ↦ turned-old replay x (y ∷ done) rest (subst (λ z. known_by replay (y ∷ done) z ≡ true) (same-number y x e) (known-here replay y done))
+      | inl e ↦ turned-old replay x (y ∷ done) rest (subst (λ z. known_by replay (y ∷ done) z ≡ true) (exact_unsigned_eq y x e) (known-here replay y done))
       | inr more ↦ turned-new replay x (y ∷ done) rest more
     ]
 
@@ -73,17 +66,17 @@ turned-only P replay done [] old new x k = old x k
 turned-only P replay done (y ∷ rest) old new x k =
     turned-only P replay (y ∷ done) rest
     (λ z h. elim (or_cases (eqb z y) (known_by replay done z) h) [
-      | inl e ↦ subst P (sym (same-number z y e)) (new y (ap (λ b. b || contains_number rest y) (eqb-same y y refl)))
+      | inl e ↦ subst P (sym (exact_unsigned_eq z y e)) (new y (ap (λ b. b || contains_number rest y) (eqb_true y y refl)))
       | inr more ↦ old z more
     ])
-    (λ z h. new z (or-right (eqb y z) _ h)) x k
+    (λ z h. new z (or_right (eqb y z) _ h)) x k
 
 -- a drop stands on arcs of its own stream
 own-stream : (n : Network) (place : DropAt) (a : ℕ) → contains_number (own_arcs n.wires place) a ≡ true → stream_on n.wires a ≡ place_stream n place
 own-stream n (at.Stream s) a own =
-    same-number (stream_on n.wires a) s
-    (and-right (contains_number (arc_numbers n.wires) a) (eqb (stream_on n.wires a) s) (sym (contains-filter (λ c. eqb (stream_on n.wires c) s) (arc_numbers n.wires) a) ∙ own))
-own-stream n (at.Arc x) a own = ap (stream_on n.wires) (sym (same-number x a (or-false (eqb x a) own)))
+    exact_unsigned_eq (stream_on n.wires a) s
+    (and_second (contains_number (arc_numbers n.wires) a) (eqb (stream_on n.wires a) s) (sym (contains_filter (λ c. eqb (stream_on n.wires c) s) (arc_numbers n.wires) a) ∙ own))
+own-stream n (at.Arc x) a own = ap (stream_on n.wires) (sym (exact_unsigned_eq x a (or-false (eqb x a) own)))
   where
     or-false : (b : Bool) → (b || false) ≡ true → b ≡ true
     or-false true h = refl
@@ -91,7 +84,7 @@ own-stream n (at.Arc x) a own = ap (stream_on n.wires) (sym (same-number x a (or
 
 all-mapped : (t : ℕ → Bool) (f : ℕ → ℕ) (xs : List ℕ) → list_all t (map f xs) ≡ true → AllByRecursion (λ x. t (f x) ≡ true) xs
 all-mapped t f [] h = _
-all-mapped t f (x ∷ xs) h = (let parts = and_parts (t (f x)) (list_all t (map f xs)) h in (parts.0, all-mapped t f xs parts.1))
+all-mapped t f (x ∷ xs) h = (let parts = and_true (t (f x)) (list_all t (map f xs)) h in (parts.0, all-mapped t f xs parts.1))
 
 -- a box that gives a stream is among these; a source is there from the start
 abbrev is_ready : List ℕ → Option ℕ → Bool
@@ -161,13 +154,13 @@ module _ (n : Network) (sound : IsSound n) (feeds : List (Vec Feed Global)) (row
       let e : q ≡ p = cc is in
       let z : first ≡ first + 0 = omega arith in
       ap (λ b. contains_number (cond b (first ∷ drops_from n box (first + 1) ps) (drops_from n box (first + 1) ps)) (first + 0)) (ap (λ x. same_box (box_giving n x) box) e ∙ same)
-      ∙ ap (λ b. b || contains_number (drops_from n box (first + 1) ps) (first + 0)) (eqb-same first (first + 0) z)
+      ∙ ap (λ b. b || contains_number (drops_from n box (first + 1) ps) (first + 0)) (eqb_true first (first + 0) z)
   drops-has box first (q ∷ ps) (suc i) p is same =
       let e : first + 1 + i ≡ first + suc i = omega arith in
       by (same_box (box_giving n q) box) (subst (λ x. contains_number (drops_from n box (first + 1) ps) x ≡ true) e (drops-has box (first + 1) ps i p is same))
     where
       by : (b : Bool) → contains_number (drops_from n box (first + 1) ps) (first + suc i) ≡ true → contains_number (cond b (first ∷ drops_from n box (first + 1) ps) (drops_from n box (first + 1) ps)) (first + suc i) ≡ true
-      by true h = or-right (eqb first (first + suc i)) _ h
+      by true h = or_right (eqb first (first + suc i)) _ h
       by false h = h
 
   drops-low : (box : Option ℕ) (first : ℕ) (ps : List DropPoint) (x : ℕ) → contains_number (drops_from n box first ps) x ≡ true → x < first + length ps
@@ -178,7 +171,7 @@ module _ (n : Network) (sound : IsSound n) (feeds : List (Vec Feed Global)) (row
           → contains_number (cond b (first ∷ drops_from n box (first + 1) ps) (drops_from n box (first + 1) ps)) x ≡ true → x < first + suc (length ps)
       by true more k =
           elim (or_cases (eqb first x) _ k) [
-            | inl e ↦ (let same = same-number first x e in omega (arith, same))
+            | inl e ↦ (let same = exact_unsigned_eq first x e in omega (arith, same))
             | inr later ↦ more later
           ]
       by false more k = more k
@@ -203,7 +196,7 @@ module _ (n : Network) (sound : IsSound n) (feeds : List (Vec Feed Global)) (row
         reads = behind-earlier None [] (λ b h. cc h) _;
         boxes = λ x h. cc h;
         drops = λ w p is h. behind-new None [] w p is (by (box_giving n p) h);
-        only = behind-only None [] (λ x k. (let e = same-number x ops k in omega (arith, e)));
+        only = behind-only None [] (λ x k. (let e = exact_unsigned_eq x ops k in omega (arith, e)));
       }
     where
       by : (o : Option ℕ) → is_ready [] o ≡ true → same_box o None ≡ true
@@ -239,11 +232,11 @@ module _ (n : Network) (sound : IsSound n) (feeds : List (Vec Feed Global)) (row
     next-placed : (at : ℕ) (rest : List ℕ) → order_of n.wires ≡ front ++ at ∷ rest → Placed (front ++ at ∷ []) (turned (at ∷ done) (drops_behind n (Some at)))
     next-placed at rest is =
         record {
-          reads = behind-earlier (Some at) (at ∷ done) (λ b h. subst (λ z. known_by ops (at ∷ done) z ≡ true) (sym (same-number b at h)) (known-here ops at done)) (away, known-rows, placed.reads);
+          reads = behind-earlier (Some at) (at ∷ done) (λ b h. subst (λ z. known_by ops (at ∷ done) z ≡ true) (sym (exact_unsigned_eq b at h)) (known-here ops at done)) (away, known-rows, placed.reads);
           boxes = λ x h. turned-old ops x (at ∷ done) (drops_behind n (Some at)) (known-front x h);
           drops = λ w p there h. drops-known w p there (box_giving n p) refl h;
           only = behind-only (Some at) (at ∷ done) (λ x k. elim (or_cases (eqb x at) (known_by ops done x) k) [
-            | inl e ↦ (let same = same-number x at e in omega (arith, same, low))
+            | inl e ↦ (let same = exact_unsigned_eq x at e in omega (arith, same, low))
             | inr more ↦ placed.only x more
           ]);
         }
@@ -253,7 +246,7 @@ module _ (n : Network) (sound : IsSound n) (feeds : List (Vec Feed Global)) (row
 
         low : at < length n.boxes
         low = below at (ap (λ l. contains_number l at) is ∙ list_any-append (λ z. eqb z at) front (at ∷ rest)
-            ∙ or-right (contains_number front at) _ (ap (λ b. b || contains_number rest at) (eqb-same at at refl)))
+            ∙ or_right (contains_number front at) _ (ap (λ b. b || contains_number rest at) (eqb_true at at refl)))
 
         away : at ≢ ops
         away e = omega (arith, low, e)
@@ -262,7 +255,7 @@ module _ (n : Network) (sound : IsSound n) (feeds : List (Vec Feed Global)) (row
         givens =
             all-mapped (λ s. is_given front (producer_of n.wires s)) (stream_on n.wires) (input_arcs_of n.wires at)
             (ap (list_all (λ s. is_given front (producer_of n.wires s))) (arcs-inputs n.wires at)
-            ∙ (and_parts (not (contains_number front at)) (list_all (λ s. is_given front (producer_of n.wires s)) (inputs_of n.wires at)) next).1)
+            ∙ (and_true (not (contains_number front at)) (list_all (λ s. is_given front (producer_of n.wires s)) (inputs_of n.wires at)) next).1)
 
         known-rows : AllKnown ops done (feeds_of feeds at)
         known-rows = subst (AllKnown ops done) (sym (rows at (omega (arith, low)) ∙ ap (feeds_row n) (box-at n at low))) (all-arcs (input_arcs_of n.wires at) givens)
@@ -272,7 +265,7 @@ module _ (n : Network) (sound : IsSound n) (feeds : List (Vec Feed Global)) (row
             elim (or_cases (contains_number front x) (eqb at x || false) (sym (list_any-append (λ z. eqb z x) front (at ∷ [])) ∙ h)) [
               | inl old ↦ inl old
               | inr new ↦ elim (or_cases (eqb at x) false new) [
-                | inl e ↦ inr (same-number at x e)
+                | inl e ↦ inr (exact_unsigned_eq at x e)
                 | inr f ↦ cc f
               ]
             ]
@@ -292,7 +285,7 @@ module _ (n : Network) (sound : IsSound n) (feeds : List (Vec Feed Global)) (row
             elim (in-front b (sym (ap (is_ready (front ++ at ∷ [])) is-box) ∙ h)) [
               | inl old ↦ turned-old ops (length n.boxes + w) (at ∷ done) (drops_behind n (Some at))
                   (known-more ops (length n.boxes + w) at done (placed.drops w p there (ap (is_ready front) is-box ∙ old)))
-              | inr same ↦ behind-new (Some at) (at ∷ done) w p there (ap (λ z. same_box z (Some at)) is-box ∙ eqb-same b at (sym same))
+              | inr same ↦ behind-new (Some at) (at ∷ done) w p there (ap (λ z. same_box z (Some at)) is-box ∙ eqb_true b at (sym same))
             ]
 
   all-placed : (done front rest : List ℕ) → order_of n.wires ≡ front ++ rest → Placed front done → Placed (order_of n.wires) (with_boxes n rest done)
@@ -360,7 +353,7 @@ module _ (n : Network) (sound : IsSound n) (feeds : List (Vec Feed Global)) (row
   outputs-only zero x low h = whole.only x h
   outputs-only (suc k) x low h =
       elim (or_cases (eqb x (first_output n + k)) _ h) [
-        | inl e ↦ (let s = same-number x (first_output n + k) e in omega (arith, s, low))
+        | inl e ↦ (let s = exact_unsigned_eq x (first_output n + k) e in omega (arith, s, low))
         | inr more ↦ outputs-only k x (omega (arith, low)) more
       ]
 
@@ -401,4 +394,4 @@ network-order n sound feeds table =
     subst (λ k. IsActorOrder k feeds (actors_of n)) (sym (count-is n sound feeds table))
     (order-all n sound feeds (row-is n sound feeds table)
     (λ x h. (let low = (order_placed n.wires).below x (sym (has_is (order_of n.wires) x) ∙ h) in let e = boxes_count n sound in omega (arith, low, e)))
-    (λ x low. order_has n.wires sound.agrees.wired sound.acyclic x (let e = boxes_count n sound in omega (arith, low, e))))
+    (λ x low. order-has n.wires sound.agrees.wired sound.acyclic x (let e = boxes_count n sound in omega (arith, low, e))))

@@ -7,15 +7,16 @@ use Rattle.sq_graph.specs.declared.Wiring.{Wiring}
 use Rattle.sq_graph.specs.Wires.{arcs_of}
 use Rattle.sq_place.specs.declared.DropAt.TheVariants as at
 use Rattle.sq_place.specs.Places.{stream_on, arc_numbers, own_arcs}
-use Rattle.sq_place.proofs.Lists.{contains-filter, contains-range}
+use Rattle.sq_place.proofs.Lists.{contains-range}
 use Rattle.sq_place.proofs.Numbering.{streams-are}
 use Rattle.sq_net.specs.declared.Network.{Network}
 use Rattle.sq_core.specs.Table.{streams_on}
 use Rattle.sq_words.specs.Lists.{contains_number}
+use Rattle.sq_words.proofs.Lists.{contains_filter}
 
 -- all arcs of a stream are its own
 pub owns_stream : (w : Wiring) (s a : ℕ) → a < length (arcs_of w) → contains_number (own_arcs w (at.Stream s)) a ≡ eqb (stream_on w a) s
-owns_stream w s a low = contains-filter (λ x. eqb (stream_on w x) s) (arc_numbers w) a ∙ ap (λ b. b && eqb (stream_on w a) s) (contains-range 0 (length (arcs_of w)) a zero-le (omega (arith, low)))
+owns_stream w s a low = contains_filter (λ x. eqb (stream_on w x) s) (arc_numbers w) a ∙ ap (λ b. b && eqb (stream_on w a) s) (contains-range 0 (length (arcs_of w)) a zero-le (omega (arith, low)))
 
 pub owns_arc : (w : Wiring) (x a : ℕ) → contains_number (own_arcs w (at.Arc x)) a ≡ eqb x a
 owns_arc w x a = or-false (eqb x a)

@@ -1,5 +1,5 @@
 -- A step of the engine of a network, by what it is over any operators.
-use Rattle.std.proofs.Common.{◌≡◌, ℕ, ◌+◌, ◌-◌, ◌<◌, Bool, List, [], ◌∷◌, ◌++◌, length, Option, Some, slice_get, refl, ap, sym, ◌∙◌, subst, arith, append_assoc}
+use Rattle.std.proofs.Common.{◌≡◌, ℕ, ◌+◌, ◌-◌, ◌<◌, Bool, List, [], ◌∷◌, ◌++◌, length, Option, Some, slice_get, ap, sym, ◌∙◌, subst, arith, append_assoc}
 use Rattle.std.specs.Prelude.{OnOk, OnErr, IfErr}
 use Rattle.std.specs.declared.result.Result.{Result}
 use Rattle.std.specs.declared.result.Result.TheVariants.{Ok, Err}
@@ -22,13 +22,13 @@ use Rattle.sq_pool.specs.Trust.{Tells}
 use Rattle.sq_actor.specs.declared.actor.Actor.{Actor}
 use Rattle.sq_flow.specs.declared.flow.Flow.{Flow}
 use Rattle.sq_flow.specs.declared.errors.RunErr.{RunErr}
-use Rattle.sq_flow.specs.Events.{line_in, lines_of, drop_in, drops_of, IsEventIn}
+use Rattle.sq_flow.specs.Events.{lines_of, drops_of, IsEventIn}
 use Rattle.sq_flow.specs.declared.wires.Wires.{Wires}
 use Rattle.sq_flow.specs.Wiring.{arcs_read}
 use Rattle.sq_flow.proofs.ArcLemmas.{ends-chain}
 use Rattle.sq_below.specs.Actors.{stream_of}
 use Rattle.sq_flow.specs.Flows.{items_in, lines_left, decisions_left, left_on, fed_at_last, Stepped, ShowsPrefix, NoneStrange, CostsFed, StepCosts, TooMuchOnly, sum_below}
-use Rattle.sq_flow.specs.Plans.{plan_in, plans_of, plans_left, PlansPrefix}
+use Rattle.sq_flow.specs.Plans.{plans_of, plans_left, PlansPrefix}
 use Rattle.sq_flow.specs.Seats.{taken_at}
 use Rattle.sq_flow.specs.Engines.{IsEngine}
 use Rattle.sq_core.specs.declared.engine.Engine.{Engine}
@@ -36,29 +36,19 @@ use Rattle.sq_core.specs.Meanings.{actors, IsValid}
 use Rattle.sq_start.specs.Numbers.{first_output, ops_of}
 use Rattle.sq_core.specs.Answers.{Plans, KeepsAnswers}
 use Rattle.sq_core.specs.Runs.{IsSoundEngine, IsRun, ShownSoFar, Stopped}
-use Rattle.sq_core.proofs.SumLemmas.{sum-same, sum-less}
-
-lines-append : (o : ℕ) (xs ys : List Event) → lines_of o (xs ++ ys) ≡ lines_of o xs ++ lines_of o ys
-lines-append o [] ys = refl
-lines-append o (x ∷ xs) ys = ap (λ l. line_in o x ++ l) (lines-append o xs ys) ∙ sym (append_assoc (line_in o x) (lines_of o xs) (lines_of o ys))
-
-plans-append : (xs ys : List Event) → plans_of (xs ++ ys) ≡ plans_of xs ++ plans_of ys
-plans-append [] ys = refl
-plans-append (x ∷ xs) ys = ap (λ l. plan_in x ++ l) (plans-append xs ys) ∙ sym (append_assoc (plan_in x) (plans_of xs) (plans_of ys))
+use Rattle.sq_core.proofs.SumLemmas.{sum-less}
+use Rattle.sq_flow.proofs.EventLemmas.{lines-append, plans-append, drops-append}
+use Rattle.sq_flow.proofs.DoneLemmas.{sums-agree}
 
 plans-in-front : (history xs ys : List Event) (left left' : List Shown) → plans_of xs ++ left ≡ plans_of ys ++ left' → plans_of (history ++ xs) ++ left ≡ plans_of (history ++ ys) ++ left'
 plans-in-front history xs ys left left' same =
     ap (λ l. l ++ left) (plans-append history xs) ∙ append_assoc (plans_of history) (plans_of xs) left ∙ ap (λ l. plans_of history ++ l) same
     ∙ sym (append_assoc (plans_of history) (plans_of ys) left') ∙ ap (λ l. l ++ left') (sym (plans-append history ys))
 
-decided-append : (w : ℕ) (xs ys : List Event) → drops_of w (xs ++ ys) ≡ drops_of w xs ++ drops_of w ys
-decided-append w [] ys = refl
-decided-append w (x ∷ xs) ys = ap (λ l. drop_in w x ++ l) (decided-append w xs ys) ∙ sym (append_assoc (drop_in w x) (drops_of w xs) (drops_of w ys))
-
 decided-in-front : (w : ℕ) (history xs ys : List Event) (left left' : List Decision) → drops_of w xs ++ left ≡ drops_of w ys ++ left' → drops_of w (history ++ xs) ++ left ≡ drops_of w (history ++ ys) ++ left'
 decided-in-front w history xs ys left left' same =
-    ap (λ l. l ++ left) (decided-append w history xs) ∙ append_assoc (drops_of w history) (drops_of w xs) left ∙ ap (λ l. drops_of w history ++ l) same
-    ∙ sym (append_assoc (drops_of w history) (drops_of w ys) left') ∙ ap (λ l. l ++ left') (sym (decided-append w history ys))
+    ap (λ l. l ++ left) (drops-append w history xs) ∙ append_assoc (drops_of w history) (drops_of w xs) left ∙ ap (λ l. drops_of w history ++ l) same
+    ∙ sym (append_assoc (drops_of w history) (drops_of w ys) left') ∙ ap (λ l. l ++ left') (sym (drops-append w history ys))
 
 -- what was shown before goes in front
 in-front : (o : ℕ) (history xs ys : List Event) (left left' : List Tuple) → lines_of o xs ++ left ≡ lines_of o ys ++ left' → lines_of o (history ++ xs) ++ left ≡ lines_of o (history ++ ys) ++ left'
@@ -77,8 +67,8 @@ prefix-in-front o history xs ys left h =
 
 decided-prefix-in-front : (w : ℕ) (history xs ys : List Event) (left : List Decision) → IsPrefixOf (drops_of w ys) (drops_of w xs ++ left) → IsPrefixOf (drops_of w (history ++ ys)) (drops_of w (history ++ xs) ++ left)
 decided-prefix-in-front w history xs ys left h =
-    subst (λ l. IsPrefixOf l (drops_of w (history ++ xs) ++ left)) (sym (decided-append w history ys))
-    (subst (λ l. IsPrefixOf (drops_of w history ++ drops_of w ys) l) (sym (ap (λ l. l ++ left) (decided-append w history xs) ∙ append_assoc (drops_of w history) (drops_of w xs) left))
+    subst (λ l. IsPrefixOf l (drops_of w (history ++ xs) ++ left)) (sym (drops-append w history ys))
+    (subst (λ l. IsPrefixOf (drops_of w history ++ drops_of w ys) l) (sym (ap (λ l. l ++ left) (drops-append w history xs) ∙ append_assoc (drops_of w history) (drops_of w xs) left))
     (prefix-front (drops_of w history) (drops_of w ys) (drops_of w xs ++ left) h))
 
 plans-prefix-in-front : (history xs ys : List Event) (left : List Shown) → IsPrefixOf (plans_of ys) (plans_of xs ++ left) → IsPrefixOf (plans_of (history ++ ys)) (plans_of (history ++ xs) ++ left)
@@ -150,7 +140,7 @@ module _ (was is : Option Pages) (e e' : Engine) (events events' : List Event) (
           late = λ at low. sym (goes.lost at (box-in e r.network given sound at low)) ∙ a.late at low;
           work =
               ap (sum_below (fed_at_last actors (level_of r) (items_in e'.engine.flow is) e'.engine.flow)) stepped.seats
-              ∙ sym (sum-same (fed_at_last actors (level_of r) (items_in e.engine.flow was) e.engine.flow) (fed_at_last actors (level_of r) (items_in e'.engine.flow is) e'.engine.flow) (length e.engine.flow.seats.items)
+              ∙ sym (sums-agree (fed_at_last actors (level_of r) (items_in e.engine.flow was) e.engine.flow) (fed_at_last actors (level_of r) (items_in e'.engine.flow is) e'.engine.flow) (length e.engine.flow.seats.items)
               goes.fed)
               ∙ a.work;
           turns = (let same = goes.turns in let most = a.turns in omega (arith, same, most));

@@ -2,14 +2,16 @@
 use Rattle.std.proofs.Common.{◌≡◌, ◌≢◌, ℕ, zero, suc, ◌+◌, ◌<◌, ◌≤◌, eqb, cond, true, false, ◌||◌, List, [], ◌∷◌, length, Option, Some, None, Vec, slice_get, refl, ap, sym, ◌∙◌, subst, arith, inl, inr}
 use Rattle.std.specs.declared.alloc.Global.{Global}
 use Rattle.std.proofs.lemmas.Bool.{cases_lt, cases_eq}
-use Rattle.sq_left.specs.Left.{Net, is_known_actor, Each, IsLaidOut}
-use Rattle.sq_left.proofs.MergeLemmas.{eqb-same, eqb-not}
+use Rattle.sq_left.specs.Left.{Net, is_known_actor, IsLaidOut}
+use Rattle.sq_left.proofs.MergeLemmas.{eqb-not}
 use Rattle.sq_flow.specs.declared.wires.Arc.{Arc}
 use Rattle.sq_flow.specs.declared.wires.Wires.{Wires}
 use Rattle.sq_flow.specs.Wiring.{net_of, arcs_read, arcs_from, followers_of, Climbs, from_of, arc_port, numbers_in, rows_in, times_in, IsShaped}
 use Rattle.sq_core.specs.declared.join.Feed.{Feed}
 use Rattle.sq_core.specs.Joining.{feeds_of, IsGiver, AreFeeds, IsOf, IsJoining, IsJoined, IsActorOrder, ReadsEarlier, AllKnown, known_by, Fixed}
 use Rattle.sq_words.specs.Lists.{contains_number}
+use Rattle.sq_left.proofs.WorldSteps.{Each-from}
+use Rattle.sq_words.proofs.Numbers.{eqb_true}
 
 -- a table has nothing past its end
 pub no-feeds : (feeds : List (Vec Feed Global)) (actor : ℕ) → length feeds ≤ actor → feeds_of feeds actor ≡ []
@@ -21,10 +23,6 @@ known-same : (net : Net) (order : List ℕ) (actor : ℕ) → is_known_actor net
 known-same net [] actor = refl
 known-same net (last ∷ earlier) actor = ap (λ b. eqb actor last || b) (known-same net earlier actor)
 
-each-by : (P : ℕ → Type 0) (xs : List ℕ) → ((port x : ℕ) → slice_get xs port ≡ Some x → P x) → Each P xs
-each-by P [] h = _
-each-by P (x ∷ xs) h = (h 0 x refl, each-by P xs (λ port y is. h (suc port) y is))
-
 of-known : (replay : ℕ) (order : List ℕ) (fs : List Feed) (port : ℕ) (o : Option Arc) → AllKnown replay order fs → IsOf o (slice_get fs port) → known_by replay order (from_of o) ≡ true
 of-known replay order fs port None all is = absurd is
 of-known replay order [] port (Some arc) all is = absurd is
@@ -35,7 +33,7 @@ of-known replay order (f ∷ fs) (suc port) (Some arc) all is = of-known replay 
 none-from : (arcs : List ℕ) → ((arc : ℕ) → slice_get arcs 0 ≡ Some arc → times_in arc arcs ≡ 0) → arcs ≡ []
 none-from [] h = refl
 none-from (arc ∷ arcs) h =
-    let one : ◌≡◌ {A = ℕ} (cond (eqb arc arc) 1 0) 1 = ap (λ b. cond b 1 0) (eqb-same arc arc refl) in
+    let one : ◌≡◌ {A = ℕ} (cond (eqb arc arc) 1 0) 1 = ap (λ b. cond b 1 0) (eqb_true arc arc refl) in
     let none = h arc refl in
     absurd (omega (arith, one, none))
 
@@ -53,7 +51,7 @@ module _ (shown : ℕ) (feeds : List (Vec Feed Global)) (w : Wires) (are : AreFe
   wired [] h = _
   wired (last ∷ earlier) h = (
     λ e. h.0 (e ∙ replay),
-    each-by _ (arcs_read w last) (λ port arc is. (
+    Each-from _ (arcs_read w last) (λ port arc is. (
       i.arcs_in last port arc is,
       known-same (net_of w) earlier (from_of (slice_get w.arcs.items arc))
           ∙ ap (λ r. known_by r earlier (from_of (slice_get w.arcs.items arc))) replay

@@ -4,13 +4,7 @@ use Rattle.std.specs.List.{sum_by, range_with_len}
 use Rattle.std.proofs.lemmas.List.Sums.{sum_by-cons}
 use Rattle.sq_words.specs.Lists.{numbers_to}
 use Rattle.sq_flow.specs.Flows.{sum_below}
-
-pub sum-same : (f g : ℕ → ℕ) (n : ℕ) → ((i : ℕ) → i < n → f i ≡ g i) → sum_below f n ≡ sum_below g n
-sum-same f g zero h = refl
-sum-same f g (suc n) h =
-    let here = h n (omega arith) in
-    let more = sum-same f g n (λ i low. h i (omega (arith, low))) in
-    omega (arith, here, more)
+use Rattle.sq_flow.proofs.DoneLemmas.{sums-agree}
 
 pub sum-none : (f : ℕ → ℕ) (n : ℕ) → ((i : ℕ) → f i ≡ 0) → sum_below f n ≡ 0
 sum-none f zero h = refl
@@ -29,7 +23,7 @@ sum-range f a zero = refl
 sum-range f a (suc k) =
     let cons = sum_by-cons f a (range_with_len (a + 1) k) in
     let more = sum-range f (a + 1) k in
-    let same = sum-same (λ i. f (a + 1 + i)) (λ i. f (a + suc i)) k (λ i low. (let e : a + 1 + i ≡ a + suc i = omega arith in ap f e)) in
+    let same = sums-agree (λ i. f (a + 1 + i)) (λ i. f (a + suc i)) k (λ i low. (let e : a + 1 + i ≡ a + suc i = omega arith in ap f e)) in
     let first : a + 0 ≡ a = omega arith in
     let here = ap f first in
     let front = sum-front (λ i. f (a + i)) k in
@@ -38,5 +32,5 @@ sum-range f a (suc k) =
 pub sum-numbers : (f : ℕ → ℕ) (n : ℕ) → sum_by f (numbers_to n) ≡ sum_below f n
 sum-numbers f n =
     let range = sum-range f 0 n in
-    let same = sum-same (λ i. f (0 + i)) f n (λ i low. (let e : 0 + i ≡ i = omega arith in ap f e)) in
+    let same = sums-agree (λ i. f (0 + i)) f n (λ i low. (let e : 0 + i ≡ i = omega arith in ap f e)) in
     omega (arith, range, same)

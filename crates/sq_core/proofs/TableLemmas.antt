@@ -8,7 +8,6 @@ use Rattle.std.specs.List.{All, AllByRecursion, flat_map, range_with_len}
 use Rattle.std.specs.declared.alloc.Global.{Global}
 use Rattle.std.proofs.lemmas.Bool.{cases_lt}
 use Rattle.std.proofs.lemmas.Option.{slice_get_within}
-use Rattle.std.proofs.lemmas.Bool.Decides.{nat_tests}
 use Rattle.std.proofs.lemmas.List.{length-map}
 use Rattle.std.proofs.lemmas.List.FromFn.{length-map-range_with_len}
 use Rattle.std.proofs.lemmas.List.Elements.{recursion_from_All}
@@ -16,14 +15,13 @@ use Rattle.sq_words.specs.Lists.{numbers_to}
 use Rattle.sq_graph.specs.declared.BoxWires.{BoxWires}
 use Rattle.sq_graph.specs.Wires.{Producer, Source, Port, producer_of, producers_of, arcs_of, arc_at, inputs_at, inputs_of, input_arcs_of, output_arc_at}
 use Rattle.sq_graph.specs.Order.{is_there}
-use Rattle.sq_graph.proofs.Reach.{and_parts}
 use Rattle.sq_place.specs.declared.DropAt.{DropAt}
 use Rattle.sq_place.specs.declared.DropAt.TheVariants as at
 use Rattle.sq_place.specs.declared.DropPoint.{DropPoint}
 use Rattle.sq_place.specs.Places.{stream_on}
 use Rattle.sq_place.proofs.Exact.{range-get}
 use Rattle.sq_place.proofs.Numbering.{numbered_more}
-use Rattle.sq_place.proofs.Wires.{map-append, arcs-there}
+use Rattle.sq_place.proofs.Wires.{arcs-there}
 use Rattle.sq_net.specs.declared.Network.{Network}
 use Rattle.sq_net.specs.Sound.{IsSound, is_between}
 use Rattle.sq_net.specs.Streams.{columns_of_stream}
@@ -43,21 +41,21 @@ use Rattle.sq_core.specs.Joining.{feeds_of, IsGiver, AreFeeds, IsOf, IsJoined}
 use Rattle.sq_core.specs.Table.{kinds_on, arc_feed, place_feed, point_row, feeds_row, feed_table, IsTabled}
 use Rattle.sq_core.proofs.PointLemmas.{streams_are}
 use Rattle.sq_core.proofs.ShapeLemmas.{no-feeds}
+use Rattle.sq_words.proofs.Bools.{and_true}
+use Rattle.sq_points.proofs.Bounds.{at_most}
+use Rattle.sq_words.proofs.Lists.{map_append}
 
 -- ---- how many
 
-at-most : (low high k : ℕ) → is_between low high k ≡ true → k ≤ high
-at-most low high k h = grind (arith, nat_tests)
-
 pub boxes_low : (n : Network) → IsSound n → length n.boxes ≤ 128
 boxes_low n sound =
-    let few : is_between 0 128 (length n.boxes) ≡ true = (and_parts _ _ (and_parts _ _ (and_parts _ _ (and_parts _ _ (and_parts _ _ (and_parts _ _ (and_parts _ _ (and_parts _ _ sound.within).0).0).0).0).0).0).0).1 in
-    at-most 0 128 (length n.boxes) few
+    let few : is_between 0 128 (length n.boxes) ≡ true = (and_true _ _ (and_true _ _ (and_true _ _ (and_true _ _ (and_true _ _ (and_true _ _ (and_true _ _ (and_true _ _ sound.within).0).0).0).0).0).0).0).1 in
+    at_most 0 128 (length n.boxes) few
 
 pub outputs_low : (n : Network) → IsSound n → length n.wires.outputs ≤ 32
 outputs_low n sound =
-    let few : is_between 1 32 (length n.outputs) ≡ true = (and_parts _ _ (and_parts _ _ (and_parts _ _ (and_parts _ _ (and_parts _ _ (and_parts _ _ (and_parts _ _ sound.within).0).0).0).0).0).0).1 in
-    let low : length n.outputs ≤ 32 = at-most 1 32 (length n.outputs) few in
+    let few : is_between 1 32 (length n.outputs) ≡ true = (and_true _ _ (and_true _ _ (and_true _ _ (and_true _ _ (and_true _ _ (and_true _ _ (and_true _ _ sound.within).0).0).0).0).0).0).1 in
+    let low : length n.outputs ≤ 32 = at_most 1 32 (length n.outputs) few in
     subst (λ k. k ≤ 32) (sym sound.agrees.outputs) low
 
 pub points_low : (n : Network) → IsSound n → length (points_of n) ≤ 32
@@ -277,7 +275,7 @@ row-output n actor high low =
 
 pub row-more : (f : ℕ → List Feed) (k : ℕ) (row : Vec Feed Global) (old new : List (Vec Feed Global)) → new ≡ old ++ row ∷ [] → map (λ v. v.items) old ≡ map f (numbers_to k) → row.items ≡ f k → map (λ v. v.items) new ≡ map f (numbers_to (k + 1))
 row-more f k row old new more so-far is =
-    numbered_more f k row.items (map (λ v. v.items) old) (map (λ v. v.items) new) (ap (map (λ v. v.items)) more ∙ map-append (λ (v : Vec Feed Global). v.items) old (row ∷ [])) so-far is
+    numbered_more f k row.items (map (λ v. v.items) old) (map (λ v. v.items) new) (ap (map (λ v. v.items)) more ∙ map_append (λ (v : Vec Feed Global). v.items) old (row ∷ [])) so-far is
 
 all-at : (P : ℕ → Type 0) (xs : List ℕ) (i x : ℕ) → AllByRecursion P xs → slice_get xs i ≡ Some x → P x
 all-at P [] i x h is = cc is
@@ -292,11 +290,6 @@ some-box (b ∷ bs) (suc at) h = some-box bs at (omega (arith, h))
 -- an input's arc is there
 pub input-low : (n : Network) (at port a : ℕ) → at < length n.wires.boxes → slice_get (input_arcs_of n.wires at) port ≡ Some a → a < length (arcs_of n.wires)
 input-low n at port a low is = (let b = some-box n.wires.boxes at low in all-at (λ x. x < length (arcs_of n.wires)) (input_arcs_of n.wires at) port a (arcs-there n.wires at b.0 b.1) is)
-
--- what follows of two facts of an answer, and of three
-pub if-both : {A E : Type 0} (r : Result A E) (P Q R : A → Type 0) → ((a : A) → P a → Q a → R a) → IfOk r P → IfOk r Q → IfOk r R
-if-both (Ok a) P Q R f p q = f a p q
-if-both (Err e) P Q R f p q = _
 
 pub if-three : {A E : Type 0} (r : Result A E) (P Q S R : A → Type 0) → ((a : A) → P a → Q a → S a → R a) → IfOk r P → IfOk r Q → IfOk r S → IfOk r R
 if-three (Ok a) P Q S R f p q s = f a p q s

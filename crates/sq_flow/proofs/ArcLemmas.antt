@@ -5,15 +5,15 @@ use Rattle.sq_item.specs.Things.{Thing}
 use Rattle.sq_oper.specs.declared.outs.Decision.{Decision}
 use Rattle.sq_oper.specs.Entries.{Entry}
 use Rattle.sq_left.specs.Left.{Net, Holding, coming, left, is_known_actor, Facts}
-use Rattle.sq_left.proofs.MergeLemmas.{eqb-same}
 use Rattle.sq_left.proofs.Conserve.{Kept, ended-none}
 use Rattle.sq_left.proofs.ActorSteps.{Moves, left-moved}
 use Rattle.sq_flow.specs.declared.wires.Wires.{Wires}
 use Rattle.sq_flow.specs.Wiring.{net_of, IsShaped}
 use Rattle.sq_flow.specs.Flows.{IsEndOf}
+use Rattle.sq_words.proofs.Numbers.{eqb_true}
 
 known-replay : (net : Net) (order : List ℕ) → is_known_actor net order net.replay ≡ true
-known-replay net [] = eqb-same net.replay net.replay refl
+known-replay net [] = eqb_true net.replay net.replay refl
 known-replay net (last ∷ earlier) = or-true (eqb net.replay last) (known-replay net earlier)
   where
     or-true : (a : Bool) {b : Bool} → b ≡ true → (a || b) ≡ true

@@ -1,5 +1,5 @@
 -- Why steps fail.
-use Rattle.std.proofs.Common.{◌≡◌, ◌≢◌, ℕ, ◌≤◌, ◌⊎◌, inl, inr, Bool, true, false, Option, Some, refl, sym, subst, arith}
+use Rattle.std.proofs.Common.{◌≡◌, ◌≢◌, ℕ, ◌≤◌, ◌⊎◌, inl, inr, Bool, true, Option, Some, refl, sym, subst, arith}
 use Rattle.std.specs.Prelude.{◌+◌, ◌^◌, length, slice_get}
 use Rattle.sq_item.specs.Things.{spread}
 use Rattle.sq_item.specs.declared.Item.{Item}
@@ -22,6 +22,7 @@ use Rattle.sq_flow.specs.Wiring.{arcs_read}
 use Rattle.sq_flow.specs.Seats.{Meaning}
 use Rattle.sq_flow.specs.Flows.{TooMuchOnly}
 use Rattle.sq_flow.specs.Causes.{of_queue, IsQueueCause, IsCauseIn, IsFeedCause, IsPageRefused, HasTaken}
+use Rattle.std.proofs.lemmas.Bool.{false_from_ne_true}
 
 -- what rose after a while rose since
 rose-since : (before mid now : ℕ) → before ≤ mid → Rose mid now → Rose before now
@@ -75,14 +76,10 @@ cause-of q r arc was is before now (queue.Garbled page kept got) rose h = record
 cause-of q r arc was is before now (queue.NotAPage page bytes) rose h = record { before = q; arc = arc; refusal = h }
 cause-of q r arc was is before now queue.Memory rose h = tt
 
-not-honest : (honest : Bool) → (honest ≡ true → ⊥) → honest ≡ false
-not-honest true h = absurd (h refl)
-not-honest false h = refl
-
 -- over a disk that is known the error of one call of the queues is none of a page, but for a garbled one where it isn't honest
 pub told-of : (honest : Bool) (e : QueueErr) → (honest ≡ true → IsTold e) → NoMisfit e → NotChanged honest (of_queue e)
 told-of honest queue.Disk told fits = tt
-told-of honest (queue.Garbled page kept got) told fits = not-honest honest told
+told-of honest (queue.Garbled page kept got) told fits = false_from_ne_true honest told
 told-of honest (queue.NotAPage page bytes) told fits = absurd fits
 told-of honest queue.Memory told fits = tt
 

@@ -5,7 +5,7 @@ use Rattle.std.proofs.lemmas.Option.{slice_get_past}
 use Rattle.sq_item.specs.declared.Item.{Item}
 use Rattle.sq_oper.specs.Streams.{tuples_of, tuples_in}
 use Rattle.sq_left.specs.Left.{Net, is_known_actor, Each, IsLaidOut}
-use Rattle.sq_left.proofs.MergeLemmas.{eqb-yes, eqb-no, eqb-same}
+use Rattle.sq_left.proofs.MergeLemmas.{eqb-no}
 use Rattle.sq_left.proofs.Conserve.{ended-none, ended-settled}
 use Rattle.sq_queue.specs.Faces.{face}
 use Rattle.sq_flow.specs.declared.flow.Flow.{Flow}
@@ -17,13 +17,15 @@ use Rattle.sq_flow.specs.declared.engine.Engine.{Engine}
 use Rattle.sq_flow.specs.Engines.{AllDone, IsEngine, seat_number}
 use Rattle.sq_flow.proofs.ReadyLemmas.{place-next, place-within}
 use Rattle.sq_words.specs.Lists.{contains_number}
+use Rattle.std.proofs.lemmas.Map.Views.{exact_unsigned_eq}
+use Rattle.sq_words.proofs.Numbers.{eqb_true}
 
 Each-at : (P : ℕ → Type 0) (xs : List ℕ) (i x : ℕ) → Each P xs → slice_get xs i ≡ Some x → P x
 Each-at P [] i x h is = absurd (cc is)
 Each-at P (y ∷ xs) zero x h is = let same : y ≡ x = cc is in subst P same h.0
 Each-at P (y ∷ xs) (suc i) x h is = Each-at P xs i x h.1 is
 
-sums-agree : (f g : ℕ → ℕ) (n : ℕ) → ((k : ℕ) → k < n → f k ≡ g k) → sum_below f n ≡ sum_below g n
+pub sums-agree : (f g : ℕ → ℕ) (n : ℕ) → ((k : ℕ) → k < n → f k ≡ g k) → sum_below f n ≡ sum_below g n
 sums-agree f g zero h = refl
 sums-agree f g (suc n) h =
     ap (λ k. k + f n) (sums-agree f g n (λ k low. h k (omega (arith, low)))) ∙ ap (λ k. sum_below g n + k) (h n (omega arith))
@@ -41,8 +43,8 @@ module _ {O : Type 0} (m : Meaning O) (valid : O → Type 0) (e : Flow O) (flow 
   some-ready [] wired = by (done net.replay) refl
     where
       by : (b : Bool) → done net.replay ≡ b → ((actor : ℕ) → is_known_actor net [] actor ≡ true → done actor ≡ true) ⊎ ((actor : ℕ) × ((is_known_actor net [] actor ≡ true) × IsReady e actor))
-      by true d = inl (λ actor k. ap done (eqb-yes actor net.replay k) ∙ d)
-      by false d = inr (net.replay, (eqb-same net.replay net.replay refl, record { running = d; standing = λ port arc is. absurd (none port arc is) }))
+      by true d = inl (λ actor k. ap done (exact_unsigned_eq actor net.replay k) ∙ d)
+      by false d = inr (net.replay, (eqb_true net.replay net.replay refl, record { running = d; standing = λ port arc is. absurd (none port arc is) }))
         where
           none : (port arc : ℕ) → slice_get (arcs_read e.wires e.wires.replay) port ≡ Some arc → ⊥
           none port arc is =
@@ -66,10 +68,10 @@ module _ {O : Type 0} (m : Meaning O) (valid : O → Type 0) (e : Flow O) (flow 
       here all true d = inl (λ actor k. by actor (eqb actor last) refl k)
         where
           by : (actor : ℕ) (b : Bool) → eqb actor last ≡ b → (b || is_known_actor net earlier actor) ≡ true → done actor ≡ true
-          by actor true t k = ap done (eqb-yes actor last t) ∙ d
+          by actor true t k = ap done (exact_unsigned_eq actor last t) ∙ d
           by actor false t k = all actor k
       here all false d =
-          inr (last, (ap (λ b. b || is_known_actor net earlier last) (eqb-same last last refl), record { running = d; standing = standing-of all }))
+          inr (last, (ap (λ b. b || is_known_actor net earlier last) (eqb_true last last refl), record { running = d; standing = standing-of all }))
 
       before : ((actor : ℕ) → is_known_actor net earlier actor ≡ true → done actor ≡ true) ⊎ ((actor : ℕ) × ((is_known_actor net earlier actor ≡ true) × IsReady e actor))
           → ((actor : ℕ) → is_known_actor net (last ∷ earlier) actor ≡ true → done actor ≡ true) ⊎ ((actor : ℕ) × ((is_known_actor net (last ∷ earlier) actor ≡ true) × IsReady e actor))
@@ -81,7 +83,7 @@ module _ {O : Type 0} (m : Meaning O) (valid : O → Type 0) (e : Flow O) (flow 
   one-ready other low open_now = by (some-ready e.wires.order.items flow.shaped.wired)
     where
       replay-known : (order : List ℕ) → is_known_actor net order net.replay ≡ true
-      replay-known [] = eqb-same net.replay net.replay refl
+      replay-known [] = eqb_true net.replay net.replay refl
       replay-known (last ∷ earlier) = or (eqb net.replay last) (is_known_actor net earlier net.replay) (replay-known earlier)
         where
           or : (a b : Bool) → b ≡ true → (a || b) ≡ true
@@ -92,7 +94,7 @@ module _ {O : Type 0} (m : Meaning O) (valid : O → Type 0) (e : Flow O) (flow 
       listed = at (eqb other net.replay) refl
         where
           at : (b : Bool) → eqb other net.replay ≡ b → is_known_actor net e.wires.order.items other ≡ true
-          at true t = subst (λ k. is_known_actor net e.wires.order.items k ≡ true) (sym (eqb-yes other net.replay t)) (replay-known e.wires.order.items)
+          at true t = subst (λ k. is_known_actor net e.wires.order.items k ≡ true) (sym (exact_unsigned_eq other net.replay t)) (replay-known e.wires.order.items)
           at false t =
               let r = flow.shaped.replay_is in
               let ne : other ≢ net.replay = eqb-no other net.replay t in
@@ -141,7 +143,7 @@ actor-at : (ops k : ℕ) → k ≤ ops → (actor : ℕ) × ((actor ≤ ops) × 
 actor-at ops k low = by (eqb k ops) refl
   where
     by : (b : Bool) → eqb k ops ≡ b → (actor : ℕ) × ((actor ≤ ops) × (seat_number ops actor ≡ k))
-    by true t = let same : k ≡ ops = eqb-yes k ops t in (0, (omega arith, sym same))
+    by true t = let same : k ≡ ops = exact_unsigned_eq k ops t in (0, (omega arith, sym same))
     by false t = let ne : k ≢ ops = eqb-no k ops t in (suc k, (omega (arith, low, ne), place-next ops k))
 
 -- where no actor is listed all are finished
@@ -163,7 +165,7 @@ none-ready m valid engine is all = by engine.ready.list refl
     by : (xs : List ℕ) → engine.ready.list ≡ xs → xs ≡ []
     by [] e = refl
     by (x ∷ xs) e =
-        let listed : contains_number engine.ready.list x ≡ true = ap (λ ys. contains_number ys x) e ∙ ap (λ b. b || contains_number xs x) (eqb-same x x refl) in
+        let listed : contains_number engine.ready.list x ≡ true = ap (λ ys. contains_number ys x) e ∙ ap (λ b. b || contains_number xs x) (eqb_true x x refl) in
         let below = is.below x listed in
         let room = is.room.actors in
         let low : x ≤ length engine.flow.seats.items = omega (arith, below, room) in

@@ -3,7 +3,7 @@ use Rattle.std.proofs.Common.{◌≡◌, ◌≢◌, ℕ, ◌+◌, ◌-◌, ◌<�
 use Rattle.std.specs.List.{AllByRecursion}
 use Rattle.sq_value.specs.declared.Value.{Value}
 use Rattle.sq_words.specs.Lists.{IsPrefixOf}
-use Rattle.sq_left.proofs.MergeLemmas.{eqb-yes, eqb-no, eqb-same, eqb-not}
+use Rattle.sq_left.proofs.MergeLemmas.{eqb-no, eqb-not}
 use Rattle.sq_road.specs.Levels.{LevelTable, AgreesWith}
 use Rattle.sq_oper.specs.declared.outs.Decision.{Decision}
 use Rattle.sq_oper.specs.declared.outs.Event.{Event}
@@ -18,6 +18,8 @@ use Rattle.sq_flow.specs.Seats.{Meaning, holds_at, Owns}
 use Rattle.sq_flow.specs.Events.{lines_of, of_drop, drops_of, ShowsIn}
 use Rattle.sq_flow.specs.Plans.{plans_of}
 use Rattle.sq_flow.proofs.EventLemmas.{lines-append, plans-append, drops-append}
+use Rattle.std.proofs.lemmas.Map.Views.{exact_unsigned_eq}
+use Rattle.sq_words.proofs.Numbers.{eqb_true}
 
 pub all-split : {A : Type 0} (P : A → Type 0) (xs ys : List A) → AllByRecursion P (xs ++ ys) → AllByRecursion P xs × AllByRecursion P ys
 all-split P [] ys h = (tt, h)
@@ -57,7 +59,7 @@ of-own wires actor w ds all = by (eqb (wires.sheds + w) actor) refl
     mine same [] h = refl
     mine same (d ∷ ds) h =
         let own = h.0.0 in
-        ap (λ b. cond b (d ∷ []) [] ++ of_drop w ds) (eqb-same d.drop w (omega (arith, own, same))) ∙ ap (λ z. d ∷ z) (mine same ds h.1)
+        ap (λ b. cond b (d ∷ []) [] ++ of_drop w ds) (eqb_true d.drop w (omega (arith, own, same))) ∙ ap (λ z. d ∷ z) (mine same ds h.1)
 
     none : wires.sheds + w ≢ actor → (ds : List Decision) → AllByRecursion (IsOwn wires actor) ds → of_drop w ds ≡ []
     none ne [] h = refl
@@ -67,7 +69,7 @@ of-own wires actor w ds all = by (eqb (wires.sheds + w) actor) refl
         ap (λ b. cond b (d ∷ []) [] ++ of_drop w ds) (eqb-not d.drop w apart) ∙ none ne ds h.1
 
     by : (b : Bool) → eqb (wires.sheds + w) actor ≡ b → of_drop w ds ≡ cond b ds []
-    by true h = mine (eqb-yes (wires.sheds + w) actor h) ds all
+    by true h = mine (exact_unsigned_eq (wires.sheds + w) actor h) ds all
     by false h = none (eqb-no (wires.sheds + w) actor h) ds all
 
 -- the decisions of one operator are all there is of its drop, and nothing of another
@@ -75,7 +77,7 @@ pub own-front : (wires : Wires) (actor w : ℕ) (ds left : List Decision) → Al
 own-front wires actor w ds left all front = by (eqb (wires.sheds + w) actor) refl
   where
     by : (b : Bool) → eqb (wires.sheds + w) actor ≡ b → IsPrefixOf (of_drop w ds) left
-    by true h = subst (λ z. IsPrefixOf z left) (sym (of-own wires actor w ds all ∙ ap (λ b. cond b ds []) h)) (front (eqb-yes (wires.sheds + w) actor h))
+    by true h = subst (λ z. IsPrefixOf z left) (sym (of-own wires actor w ds all ∙ ap (λ b. cond b ds []) h)) (front (exact_unsigned_eq (wires.sheds + w) actor h))
     by false h = subst (λ z. IsPrefixOf z left) (sym (of-own wires actor w ds all ∙ ap (λ b. cond b ds []) h)) (left, refl)
 
 -- a future behind what came

@@ -4,7 +4,7 @@ use Rattle.std.specs.List.{filter, range_with_len}
 use Rattle.std.proofs.lemmas.Bool.Decides.{nat_tests}
 use Rattle.sq_sched.specs.Ready.{without_actor, AreActors, OnlyOnce}
 use Rattle.sq_sched.proofs.ReadyLemmas.{once-without, without-gone, without-others, actors-without}
-use Rattle.sq_left.proofs.MergeLemmas.{eqb-yes, eqb-no, eqb-same, eqb-not}
+use Rattle.sq_left.proofs.MergeLemmas.{eqb-no, eqb-not}
 use Rattle.sq_flow.specs.declared.flow.Flow.{Flow}
 use Rattle.sq_flow.specs.declared.wires.Wires.{Wires}
 use Rattle.sq_flow.specs.declared.engine.Engine.{Engine}
@@ -13,9 +13,12 @@ use Rattle.sq_flow.specs.Seats.{Meaning}
 use Rattle.sq_flow.specs.Flows.{IsFlow}
 use Rattle.sq_flow.specs.Readiness.{is_ready, waiting, TouchesOnly}
 use Rattle.sq_flow.specs.Engines.{seat_number, ExactFor, is_new, newly_ready, listed_after, readers_of, Looked, HasSeats, IsEngine}
-use Rattle.sq_flow.proofs.ListLemmas.{contains-filter, contains-range, climbs-filter, climbs-range, climbs-next, climbs-same, once-climbs}
+use Rattle.sq_flow.proofs.ListLemmas.{contains-range, climbs-filter, climbs-range, climbs-next, climbs-same, once-climbs}
 use Rattle.sq_flow.proofs.ReadyLemmas.{exact-of, exact-test, place-within, place-apart, readers-at, readers-within, ready-same, waiting-same, ready-grows, looked-at, looked-once, looked-below}
 use Rattle.sq_words.specs.Lists.{contains_number}
+use Rattle.std.proofs.lemmas.Map.Views.{exact_unsigned_eq}
+use Rattle.sq_words.proofs.Lists.{contains_filter}
+use Rattle.sq_words.proofs.Numbers.{eqb_true}
 
 -- the list after looks at the actor of a step and at its readers
 module _ {O : Type 0} (e e' : Flow O) (shaped : IsShaped e.wires (length e.seats.items)) (wires : e'.wires ≡ e.wires) (seats : length e'.seats.items ≡ length e.seats.items)
@@ -87,7 +90,7 @@ module _ {O : Type 0} (e e' : Flow O) (shaped : IsShaped e.wires (length e.seats
   again-actor : contains_number again actor ≡ ready actor
   again-actor =
       looked-at e' (without_actor actor before) (actor ∷ []) actor
-      ∙ ap (λ b. contains_number (without_actor actor before) actor || ((b || false) && is_new e' (without_actor actor before) actor)) (eqb-same actor actor refl)
+      ∙ ap (λ b. contains_number (without_actor actor before) actor || ((b || false) && is_new e' (without_actor actor before) actor)) (eqb_true actor actor refl)
       ∙ ap (λ b. b || (ready actor && not b)) gone ∙ and-true (ready actor)
     where
       and-true : (b : Bool) → (b && true) ≡ b
@@ -110,7 +113,7 @@ module _ {O : Type 0} (e e' : Flow O) (shaped : IsShaped e.wires (length e.seats
 
       by : (t : Bool) → eqb x actor ≡ t → (contains_number again x || (contains_number readers x && (ready x && not (contains_number again x)))) ≡ ready x
       by true t =
-          let same : x ≡ actor = eqb-yes x actor t in
+          let same : x ≡ actor = exact_unsigned_eq x actor t in
           ap (λ c. c || (contains_number readers x && (ready x && not c))) (ap (contains_number again) same ∙ again-actor ∙ ap ready (sym same)) ∙ itself (ready x) (contains_number readers x)
       by false t =
           let ne : x ≢ actor = eqb-no x actor t in
@@ -121,8 +124,8 @@ module _ {O : Type 0} (e e' : Flow O) (shaped : IsShaped e.wires (length e.seats
 
   new-same : (x : ℕ) → contains_number (filter (is_new e' again) readers) x ≡ contains_number (newly_ready e' before) x
   new-same x =
-      contains-filter (is_new e' again) readers x ∙ by (leb x (length e.seats.items)) refl
-      ∙ sym (contains-filter (is_new e' before) (range_with_len 0 (length e'.seats.items + 1)) x)
+      contains_filter (is_new e' again) readers x ∙ by (leb x (length e.seats.items)) refl
+      ∙ sym (contains_filter (is_new e' before) (range_with_len 0 (length e'.seats.items + 1)) x)
     where
       never : (r b : Bool) → (b && (r && not r)) ≡ false
       never true true = refl
@@ -153,7 +156,7 @@ module _ {O : Type 0} (e e' : Flow O) (shaped : IsShaped e.wires (length e.seats
       at : x ≤ length e.seats.items → (t : Bool) → eqb x actor ≡ t
           → (contains_number readers x && (ready x && not (contains_number again x))) ≡ (ready x && not (contains_number before x))
       at in' true t =
-          let same : x ≡ actor = eqb-yes x actor t in
+          let same : x ≡ actor = exact_unsigned_eq x actor t in
           ap (λ c. contains_number readers x && (ready x && not c)) (ap (contains_number again) same ∙ again-actor ∙ ap ready (sym same)) ∙ never (ready x) (contains_number readers x)
           ∙ sym (ap (λ c. ready x && not c) (ap (contains_number before) same ∙ listed) ∙ not-one (ready x))
       at in' false t =
@@ -189,7 +192,7 @@ module _ {O : Type 0} (e e' : Flow O) (shaped : IsShaped e.wires (length e.seats
       (λ x is. let l = readers-low x is in omega (arith, l, more))
     where
       one : (x : ℕ) (b : Bool) → eqb actor x ≡ b → (b || false) ≡ true → x < actors
-      one x true e h = let same : actor ≡ x = eqb-yes actor x e in omega (arith, same, low, more)
+      one x true e h = let same : actor ≡ x = exact_unsigned_eq actor x e in omega (arith, same, low, more)
       one x false e h = absurd (cc h)
 
 -- the engine after looks at the actor of a step and at its readers
@@ -291,7 +294,7 @@ module _ {O : Type 0} (m : Meaning O) (valid : O → Type 0) (a b : Engine O) (f
 
   first-exact : (x : ℕ) → x ≤ length a.flow.seats.items → contains_number (newly_ready a.flow []) x ≡ is_ready a.flow (seat_number (length a.flow.seats.items) x)
   first-exact x low =
-      contains-filter (is_new a.flow []) (range_with_len 0 (length a.flow.seats.items + 1)) x ∙ ap (λ b. b && is_new a.flow [] x) (in-range x low)
+      contains_filter (is_new a.flow []) (range_with_len 0 (length a.flow.seats.items + 1)) x ∙ ap (λ b. b && is_new a.flow [] x) (in-range x low)
       ∙ and-true (is_ready a.flow (seat_number (length a.flow.seats.items) x))
     where
       and-true : (b : Bool) → (b && true) ≡ b
@@ -306,7 +309,7 @@ module _ {O : Type 0} (m : Meaning O) (valid : O → Type 0) (a b : Engine O) (f
         exact = λ x low.
             subst (λ f. ExactFor f b.ready.list x) (sym looked.flow) (subst (λ xs. ExactFor a.flow xs x) (sym (list-first a b empty looked))
             (exact-of a.flow (newly_ready a.flow []) x (first-exact x (rw (← seats-are) low))));
-        below = subst (AreActors b.ready.actors) (sym (list-first a b empty looked)) (λ x is. within x (contains_number (range_with_len 0 (length a.flow.seats.items + 1)) x) refl (sym (contains-filter (is_new a.flow []) (range_with_len 0 (length a.flow.seats.items + 1)) x) ∙ is));
+        below = subst (AreActors b.ready.actors) (sym (list-first a b empty looked)) (λ x is. within x (contains_number (range_with_len 0 (length a.flow.seats.items + 1)) x) refl (sym (contains_filter (is_new a.flow []) (range_with_len 0 (length a.flow.seats.items + 1)) x) ∙ is));
         once = subst OnlyOnce (sym (list-first a b empty looked)) (once-climbs (newly_ready a.flow []) (climbs-filter (is_new a.flow []) (range_with_len 0 (length a.flow.seats.items + 1)) (climbs-range 0 (length a.flow.seats.items + 1))));
         waits = λ x low.
             looked.waits x

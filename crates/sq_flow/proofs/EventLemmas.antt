@@ -9,26 +9,16 @@ use Rattle.sq_item.specs.declared.Mark.{Mark}
 use Rattle.sq_item.specs.Things.{Thing, spread, mark_part, body_part}
 use Rattle.sq_oper.specs.declared.outs.Event.{Event}
 use Rattle.sq_oper.specs.declared.outs.Event.TheVariants.{Line}
-use Rattle.sq_oper.specs.Streams.{tuple_in, tuples_in}
+use Rattle.sq_oper.specs.Streams.{tuples_in}
 use Rattle.sq_flow.specs.Events.{line_in, lines_of, drop_in, drops_of, ShowsIn}
 use Rattle.sq_flow.specs.Plans.{plan_in, plans_of}
-
--- what was shown stays
-pub stays-same : {A : Type 0} (xs : List A) → IsPrefixOf xs xs
-stays-same xs = ([], sym (append-nil xs))
+use Rattle.sq_words.proofs.Prefixes.{prefix_itself}
 
 pub stays-is : {A : Type 0} (xs ys : List A) → ys ≡ xs → IsPrefixOf xs ys
 stays-is xs ys same = ([], same ∙ sym (append-nil xs))
 
 pub stays-push : {A : Type 0} (xs : List A) (x : A) → IsPrefixOf xs (xs ++ x ∷ [])
 stays-push xs x = (x ∷ [], refl)
-
-pub stays-both : {A : Type 0} (xs ys zs : List A) → IsPrefixOf xs ys → IsPrefixOf ys zs → IsPrefixOf xs zs
-stays-both xs ys zs a b = (a.0 ++ b.0, b.1 ∙ ap (λ l. l ++ b.0) a.1 ∙ append_assoc xs a.0 b.0)
-
-pub bodies-append : (xs ys : List Thing) → tuples_in (xs ++ ys) ≡ tuples_in xs ++ tuples_in ys
-bodies-append [] ys = refl
-bodies-append (x ∷ xs) ys = ap (λ z. tuple_in x.time x.load ++ z) (bodies-append xs ys) ∙ sym (append_assoc (tuple_in x.time x.load) (tuples_in xs) (tuples_in ys))
 
 pub lines-append : (o : ℕ) (xs ys : List Event) → lines_of o (xs ++ ys) ≡ lines_of o xs ++ lines_of o ys
 lines-append o [] ys = refl
@@ -74,7 +64,7 @@ pub nothing-more : {A : Type 0} (b : Bool) (xs ys : List A) → ys ≡ [] → xs
 nothing-more true xs ys e = rw e (sym (append-nil xs))
 nothing-more false xs ys e = sym (append-nil xs)
 
-pub ruleset event_lemmas = (lines-push, plans-line, drops-line, bodies-some, bodies-none, nothing-more, stays-same, stays-is, stays-push)
+pub ruleset event_lemmas = (lines-push, plans-line, drops-line, bodies-some, bodies-none, nothing-more, prefix_itself, stays-is, stays-push)
 
 -- an output by its number among the outputs
 pub output-is : (shown actor o : ℕ) (xs : List Thing) → shown ≤ actor → cond (eqb (actor - shown) o) (tuples_in xs) [] ≡ tuples_in (cond (eqb actor (shown + o)) xs [])

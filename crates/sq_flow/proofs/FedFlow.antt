@@ -1,5 +1,5 @@
 -- What a feed keeps.
-use Rattle.std.proofs.Common.{◌≡◌, ◌≢◌, ℕ, suc, ◌+◌, ◌<◌, ◌≤◌, ◌^◌, eqb, cond, Bool, true, false, not, List, [], ◌∷◌, ◌++◌, length, Option, Some, None, refl, ap, sym, ◌∙◌, append-nil, length-append, arith, subst, ◌-◌}
+use Rattle.std.proofs.Common.{◌≡◌, ◌≢◌, ℕ, ◌+◌, ◌<◌, ◌≤◌, ◌^◌, eqb, cond, Bool, true, false, not, List, [], ◌∷◌, ◌++◌, length, Option, Some, None, refl, ap, sym, ◌∙◌, append-nil, length-append, arith, subst, ◌-◌}
 use Rattle.std.specs.Prelude.{is_some, slice_get, Vec}
 use Rattle.std.specs.List.{AllByRecursion}
 use Rattle.std.specs.declared.alloc.Global.{Global}
@@ -19,7 +19,7 @@ use Rattle.sq_oper.specs.Streams.{tuples_of, tuples_in}
 use Rattle.sq_oper.proofs.GivenLemmas.{ThingsUpTo-split, ThingsUpTo-later}
 use Rattle.sq_left.specs.Left.{Net, Holding, coming, inputs, is_known_actor}
 use Rattle.sq_left.specs.Heads.{AllFine}
-use Rattle.sq_left.proofs.MergeLemmas.{AllOfTime, eqb-yes, eqb-same, eqb-not}
+use Rattle.sq_left.proofs.MergeLemmas.{AllOfTime, eqb-not}
 use Rattle.sq_left.proofs.Conserve.{Kept}
 use Rattle.sq_left.proofs.ActorSteps.{EachPort, PortFacts, taken_at, Moves, FedActor, SameActor}
 use Rattle.sq_left.proofs.WorldSteps.{facts-at, next-is-future, next-is-first, spread-of-time, world-fed, replay-end}
@@ -49,9 +49,13 @@ use Rattle.sq_flow.specs.Flows.{world_of, IsFlow, HoldsItems, Goes, Stepped, Sho
 use Rattle.sq_flow.specs.declared.errors.RunErr.{RunErr}
 use Rattle.sq_flow.proofs.FutureLemmas.{future-weaker, future-port, ports-from-head, moves-fed, outs-fine, own-pushed, not-pushed, apart-from, fine-after, goes-on, prefix-chain}
 use Rattle.sq_flow.proofs.SendLemmas.{at_or_other}
-use Rattle.sq_flow.proofs.EventLemmas.{bodies-append, stays-is}
+use Rattle.sq_flow.proofs.EventLemmas.{stays-is}
 use Rattle.sq_flow.proofs.ArcLemmas.{arcs-left}
 use Rattle.sq_flow.proofs.DropLemmas.{all-split, of-own, own-front, future-both}
+use Rattle.std.proofs.lemmas.Map.Views.{exact_unsigned_eq}
+use Rattle.sq_oper.proofs.StreamLemmas.{tuples_append}
+use Rattle.sq_oper.proofs.PortLemmas.{entries_length}
+use Rattle.sq_words.proofs.Numbers.{eqb_true}
 
 one-body : (item : Item) (port : ℕ) → length (tuples_of (entries port item)) ≡ cond (is_some item.body) 1 0
 one-body item port = by item.mark item.body
@@ -61,10 +65,6 @@ one-body item port = by item.mark item.body
     by None (Some f) = refl
     by (Some k) None = refl
     by (Some k) (Some f) = refl
-
-entries-length : (port : ℕ) (xs : List Thing) → length (at_port port xs) ≡ length xs
-entries-length port [] = refl
-entries-length port (x ∷ xs) = ap suc (entries-length port xs)
 
 -- no less is fed in all than was fed
 pub work-least : {O : Type 0} (m : Meaning O) (table : ℕ → ℕ → ℕ) (items : ℕ → List Item) (e : Flow O) → taken_in_all m e ≤ work_at_last m table items e
@@ -300,7 +300,7 @@ module _ {O : Type 0} (m : Meaning O) (valid : O → Type 0) (e : Flow O) (flow 
         let ins = λ (k : ℕ). length (inputs net was e.wires.order.items k) in
         let least = sum-least ins (length e.seats.items) actor actor_in in
         let own = ap (λ (l : List Entry). length l) first.3 ∙ length-append (entries p item) first.0 in
-        let one = entries-length p (spread item) in omega (arith, least, own, one)
+        let one = entries_length p (spread item) in omega (arith, least, own, one)
 
     -- what a feed gives, or has given where it fails, is the beginning of what is left
     pub prefix-of-left : (outs : List (ℕ × Item))
@@ -310,11 +310,11 @@ module _ {O : Type 0} (m : Meaning O) (valid : O → Type 0) (e : Flow O) (flow 
     prefix-of-left outs law output = by (eqb actor output) refl
       where
         cut : (xs ys : List Thing) → IsPrefixOf xs ys → IsPrefixOf (tuples_in xs) (tuples_in ys)
-        cut xs ys (more, e) = (tuples_in more, ap tuples_in e ∙ bodies-append xs more)
+        cut xs ys (more, e) = (tuples_in more, ap tuples_in e ∙ tuples_append xs more)
 
         by : (b : Bool) → eqb actor output ≡ b → IsPrefixOf (tuples_in (cond b (given 0 outs) [])) (tuples_in (coming net was e.wires.order.items output 0))
         by true t =
-            let same : actor ≡ output = eqb-yes actor output t in
+            let same : actor ≡ output = exact_unsigned_eq actor output t in
             let first = comes-first in
             let is : coming net was e.wires.order.items actor 0 ≡ m.rest s.op table (entries p item ++ first.0) 0 =
             first.2 0 ∙ ap (λ o. rest_at m table o (entries p item ++ first.0) 0) is_seat in
@@ -373,7 +373,7 @@ module _ {O : Type 0} (m : Meaning O) (valid : O → Type 0) (e : Flow O) (flow 
             decisions = λ future f.
                 ap (λ o. decides_at m table o (entries p item ++ future)) is_seat
                 ∙ fed.decided table future agrees (op-future future f)
-                ∙ ap (λ b. cond b drops [] ++ m.decides s'.op table future) (sym (eqb-same actor actor refl))
+                ∙ ap (λ b. cond b drops [] ++ m.decides s'.op table future) (sym (eqb_true actor actor refl))
                 ∙ ap (λ o. decided actor ++ decides_at m table o future) (sym is_after);
             lost = λ future.
                 ap (λ o. lost_at m o (entries p item ++ future)) is_seat ∙ fed.loses future ∙ ap (λ o. lost_at m o future) (sym is_after);
@@ -399,7 +399,7 @@ module _ {O : Type 0} (m : Meaning O) (valid : O → Type 0) (e : Flow O) (flow 
       kept =
           let facts = holds.facts in
           world-fed net was is (pushed_by actor outs) decided took actor tick p at (spread item) e.wires.order.items flow.shaped.wired facts
-          moves-all of-time head.0 ports law-here (ap (λ b. cond b (entries p item) []) (eqb-same actor actor refl)) same-actor (λ other ne port. not-pushed actor other outs ne port)
+          moves-all of-time head.0 ports law-here (ap (λ b. cond b (entries p item) []) (eqb_true actor actor refl)) same-actor (λ other ne port. not-pushed actor other outs ne port)
           (λ other ne. ap (λ b. cond b drops []) (eqb-not other actor ne)) (λ other ne. ap (λ b. cond b (entries p item) []) (eqb-not other actor ne))
           (apart-from net (λ k. to_of (slice_get e.wires.arcs.items k)) actor at p (spread item) (λ other port arc k. (flow.shaped.joined other port arc k).0) head.1)
           not-replay (λ port. refl) (ap (done_at e.over) (apart net.replay (λ k. not-replay (sym k))))
@@ -419,9 +419,9 @@ module _ {O : Type 0} (m : Meaning O) (valid : O → Type 0) (e : Flow O) (flow 
           let is_replay = flow.shaped.replay_is in
           let comes = λ (other : ℕ) (low : other < length e.seats.items). (let away : other ≢ net.replay = omega (arith, is_replay, low) in (k.told other (flow.shaped.ordered other low) away).comes) in
           let own : length (inputs net was e.wires.order.items actor) ≡ length (inputs net is e.wires.order.items actor) + length (spread item) = (
-          let c = ap (λ (l : List Entry). length l) (comes actor actor_in ∙ ap (λ b. cond b (entries p item) [] ++ inputs net is e.wires.order.items actor) (eqb-same actor actor refl)) in
+          let c = ap (λ (l : List Entry). length l) (comes actor actor_in ∙ ap (λ b. cond b (entries p item) [] ++ inputs net is e.wires.order.items actor) (eqb_true actor actor refl)) in
           let both = length-append (entries p item) (inputs net is e.wires.order.items actor) in
-          let one = entries-length p (spread item) in omega (arith, c, both, one)
+          let one = entries_length p (spread item) in omega (arith, c, both, one)
           ) in
           let sums = sum-more (λ other. length (inputs net is e.wires.order.items other)) (λ other. length (inputs net was e.wires.order.items other)) (length e.seats.items) actor (length (spread item)) actor_in
           (λ other low ne. ap (λ (l : List Entry). length l) (comes other low ∙ ap (λ b. cond b (entries p item) [] ++ inputs net is e.wires.order.items other) (eqb-not other actor ne))) own in
@@ -437,7 +437,7 @@ module _ {O : Type 0} (m : Meaning O) (valid : O → Type 0) (e : Flow O) (flow 
             lines = λ output low.
                 goes-on (lines_of output events) (tuples_in (pushed_by actor outs (e.wires.shown + output) 0)) (lines_left m table items e output) (lines_left m table items' e' output) (lines_of output events')
                 (ap tuples_in (k.streams (e.wires.shown + output) 0 (flow.shaped.ordered (e.wires.shown + output) low))
-                ∙ bodies-append (pushed_by actor outs (e.wires.shown + output) 0) (coming net is e.wires.order.items (e.wires.shown + output) 0))
+                ∙ tuples_append (pushed_by actor outs (e.wires.shown + output) 0) (coming net is e.wires.order.items (e.wires.shown + output) 0))
                 (shown output);
             drops = λ w low.
                 let is_replay = flow.shaped.replay_is in
@@ -464,7 +464,7 @@ module _ {O : Type 0} (m : Meaning O) (valid : O → Type 0) (e : Flow O) (flow 
       → MayBeFed a p s.tally.place e.clock item
   passes-front table agrees items holds faces more whole =
       passes table agrees items (λ k. cond (eqb k at) more (items k)) holds faces
-      (whole ∙ ap (λ b. item ∷ cond b more (items at)) (sym (eqb-same at at refl)))
+      (whole ∙ ap (λ b. item ∷ cond b more (items at)) (sym (eqb_true at at refl)))
       (λ k ne. ap (λ b. cond b more (items k)) (eqb-not k at ne))
 
   -- where the item can't be counted

@@ -13,7 +13,7 @@ use Rattle.sq_oper.specs.declared.outs.Event.{Event}
 use Rattle.sq_oper.specs.Given.{given, ThingsUpTo}
 use Rattle.sq_left.specs.Left.{Net, Holding, left_by, inputs_by, Each, coming, inputs}
 use Rattle.sq_left.specs.Heads.{AllFine}
-use Rattle.sq_left.proofs.MergeLemmas.{eqb-yes, eqb-same, eqb-not}
+use Rattle.sq_left.proofs.MergeLemmas.{eqb-not}
 use Rattle.sq_left.proofs.Conserve.{Reads, Kept}
 use Rattle.sq_left.proofs.ActorSteps.{SameActor, Each-both, merge-none}
 use Rattle.sq_left.proofs.WorldSteps.{At, facts-at, world-finished, replay-end, Each-from}
@@ -25,7 +25,6 @@ use Rattle.sq_queue.specs.Faces.{face, size, frames, items_on, Together}
 use Rattle.sq_flow.specs.Sends.{sent_to, is_sent_by, Pushes}
 use Rattle.sq_flow.specs.Readiness.{TouchesOnly}
 use Rattle.sq_flow.proofs.TouchLemmas.{away-from, stands-pushed, stands-grows}
-use Rattle.sq_flow.proofs.SumLemmas.{sum-same}
 use Rattle.sq_oper.specs.Entries.{Entry}
 use Rattle.sq_flow.proofs.WireLemmas.{sent-is}
 use Rattle.sq_flow.specs.declared.seats.Seat.{Seat}
@@ -42,9 +41,13 @@ use Rattle.sq_flow.specs.Flows.{world_of, IsFlow, HoldsItems, Goes, Stepped, Sho
 use Rattle.sq_flow.proofs.FutureLemmas.{outs-fine, own-pushed, not-pushed, goes-on, prefix-chain}
 use Rattle.sq_flow.proofs.SendLemmas.{at_or_other}
 use Rattle.sq_flow.proofs.ArcLemmas.{arcs-left}
-use Rattle.sq_flow.proofs.EventLemmas.{bodies-append, stays-is}
+use Rattle.sq_flow.proofs.EventLemmas.{stays-is}
 use Rattle.sq_flow.proofs.DropLemmas.{all-split, of-own, own-front}
 use Rattle.sq_oper.specs.Streams.{tuples_in}
+use Rattle.std.proofs.lemmas.Map.Views.{exact_unsigned_eq}
+use Rattle.sq_flow.proofs.DoneLemmas.{sums-agree}
+use Rattle.sq_oper.proofs.StreamLemmas.{tuples_append}
+use Rattle.sq_words.proofs.Numbers.{eqb_true}
 
 module _ {O : Type 0} (m : Meaning O) (valid : O → Type 0) (e : Flow O) (flow : IsFlow m valid e) (actor : ℕ) (actor_in : actor < length e.seats.items)
     (head : NextUpTo (arcs_read e.wires actor) (λ k. (face e.queues k).first) (λ k. (face e.queues k).ended) (length (arcs_read e.wires actor)) Ended)
@@ -86,7 +89,7 @@ module _ {O : Type 0} (m : Meaning O) (valid : O → Type 0) (e : Flow O) (flow 
 
       done-is : (other : ℕ) → (done_at e.over (slice_get e.seats.items other) || eqb other actor) ≡ done_at e.over (slice_get seats'.items other)
       done-is = at_or_other (λ k. (done_at e.over (slice_get e.seats.items k) || eqb k actor) ≡ done_at e.over (slice_get seats'.items k)) actor
-          (ap (λ b. done_at e.over (slice_get e.seats.items actor) || b) (eqb-same actor actor refl) ∙ or-true (done_at e.over (slice_get e.seats.items actor)) ∙ sym done-here)
+          (ap (λ b. done_at e.over (slice_get e.seats.items actor) || b) (eqb_true actor actor refl) ∙ or-true (done_at e.over (slice_get e.seats.items actor)) ∙ sym done-here)
           (λ k ne. ap (λ b. done_at e.over (slice_get e.seats.items k) || b) (eqb-not k actor ne) ∙ or-false (done_at e.over (slice_get e.seats.items k)) ∙ sym (ap (done_at e.over) (apart k ne)))
         where
           or-true : (b : Bool) → (b || true) ≡ true
@@ -182,11 +185,11 @@ module _ {O : Type 0} (m : Meaning O) (valid : O → Type 0) (e : Flow O) (flow 
     prefix-of-end outs law output = by (eqb actor output) refl
       where
         cut : (xs ys : List Thing) → IsPrefixOf xs ys → IsPrefixOf (tuples_in xs) (tuples_in ys)
-        cut xs ys (more, e) = (tuples_in more, ap tuples_in e ∙ bodies-append xs more)
+        cut xs ys (more, e) = (tuples_in more, ap tuples_in e ∙ tuples_append xs more)
 
         by : (b : Bool) → eqb actor output ≡ b → IsPrefixOf (tuples_in (cond b (given 0 outs) [])) (tuples_in (coming net was e.wires.order.items output 0))
         by true t =
-            let same : actor ≡ output = eqb-yes actor output t in
+            let same : actor ≡ output = exact_unsigned_eq actor output t in
             let is : coming net was e.wires.order.items actor 0 ≡ m.rest s.op table [] 0 = ended-left 0 ∙ ap (λ o. rest_at m table o [] 0) is_seat in
             let here : IsPrefixOf (given 0 outs) (coming net was e.wires.order.items actor 0) = rw is (law 0) in
             subst (λ k. IsPrefixOf (tuples_in (given 0 outs)) (tuples_in (coming net was e.wires.order.items k 0))) same (cut (given 0 outs) (coming net was e.wires.order.items actor 0) here)
@@ -234,7 +237,7 @@ module _ {O : Type 0} (m : Meaning O) (valid : O → Type 0) (e : Flow O) (flow 
           (record {
             law = λ port. ap (λ o. rest_at m table o [] port) is_seat ∙ fin.law table port ∙ sym (own-pushed actor outs port);
             empty = λ port. ap (λ o. rest_at m table o [] port) is_after ∙ fin.empty table port;
-            decisions = ap (λ o. decides_at m table o []) is_seat ∙ fin.decided table ∙ ap (λ b. cond b drops []) (sym (eqb-same actor actor refl));
+            decisions = ap (λ o. decides_at m table o []) is_seat ∙ fin.decided table ∙ ap (λ b. cond b drops []) (sym (eqb_true actor actor refl));
             settled = ap (λ o. decides_at m table o []) is_after ∙ fin.settled table;
             lost = ap (λ o. lost_at m o []) is_seat ∙ fin.loses ∙ ap (λ o. lost_at m o []) (sym is_after);
             counted = ap (seat.taken_at m) is_after ∙ fin.counted ∙ ap (seat.taken_at m) (sym is_seat);
@@ -255,7 +258,7 @@ module _ {O : Type 0} (m : Meaning O) (valid : O → Type 0) (e : Flow O) (flow 
       turns-same =
           let k = kept in
           let is_replay = flow.shaped.replay_is in
-          let sums = sum-same (λ other. length (inputs net was e.wires.order.items other)) (λ other. length (inputs net is e.wires.order.items other)) (length e.seats.items)
+          let sums = sums-agree (λ other. length (inputs net was e.wires.order.items other)) (λ other. length (inputs net is e.wires.order.items other)) (length e.seats.items)
           (λ other low. let away : other ≢ net.replay = omega (arith, is_replay, low) in ap (λ (l : List Entry). length l) (k.told other (flow.shaped.ordered other low) away).comes) in
           ap (λ n. e.taken + n) sums
 
@@ -269,7 +272,7 @@ module _ {O : Type 0} (m : Meaning O) (valid : O → Type 0) (e : Flow O) (flow 
             lines = λ output low.
                 goes-on (lines_of output events) (tuples_in (pushed_by actor outs (e.wires.shown + output) 0)) (lines_left m table items e output) (lines_left m table items' e' output) (lines_of output events')
                 (ap tuples_in (k.streams (e.wires.shown + output) 0 (flow.shaped.ordered (e.wires.shown + output) low))
-                ∙ bodies-append (pushed_by actor outs (e.wires.shown + output) 0) (coming net is e.wires.order.items (e.wires.shown + output) 0))
+                ∙ tuples_append (pushed_by actor outs (e.wires.shown + output) 0) (coming net is e.wires.order.items (e.wires.shown + output) 0))
                 (shown output);
             drops = λ w low.
                 let is_replay = flow.shaped.replay_is in
@@ -297,7 +300,7 @@ module _ {O : Type 0} (m : Meaning O) (valid : O → Type 0) (e : Flow O) (flow 
       → length seats'.items ≡ length e.seats.items → taken_in_all m (record e { seats = seats'; queues = queues' }) ≡ taken_in_all m e
   finished-taken seats' queues' s' counted is_after apart seats_len =
       ap (sum_below (λ k. seat.taken_at m (slice_get seats'.items k))) seats_len
-      ∙ sum-same (λ k. seat.taken_at m (slice_get seats'.items k)) (λ k. seat.taken_at m (slice_get e.seats.items k)) (length e.seats.items)
+      ∙ sums-agree (λ k. seat.taken_at m (slice_get seats'.items k)) (λ k. seat.taken_at m (slice_get e.seats.items k)) (length e.seats.items)
       (λ k low. at_or_other (λ other. seat.taken_at m (slice_get seats'.items other) ≡ seat.taken_at m (slice_get e.seats.items other)) actor
       (ap (seat.taken_at m) is_after ∙ counted ∙ ap (seat.taken_at m) (sym is_seat)) (λ other ne. ap (seat.taken_at m) (apart other ne)) k)
 

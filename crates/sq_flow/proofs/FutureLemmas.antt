@@ -1,5 +1,5 @@
 -- Futures under weaker tests, and small facts of numbers and lists.
-use Rattle.std.proofs.Common.{◌≡◌, ◌≢◌, ℕ, zero, suc, ◌+◌, ◌<◌, ◌≤◌, eqb, cond, Bool, true, false, ◌||◌, List, [], ◌∷◌, ◌++◌, length, set, Option, Some, None, refl, ap, sym, ◌∙◌, subst, append_assoc, arith}
+use Rattle.std.proofs.Common.{◌≡◌, ◌≢◌, ℕ, ◌+◌, ◌<◌, ◌≤◌, eqb, cond, Bool, true, false, ◌||◌, List, [], ◌∷◌, ◌++◌, length, Option, Some, None, refl, ap, sym, ◌∙◌, subst, append_assoc, arith}
 use Rattle.std.specs.Prelude.{slice_get, is_some}
 use Rattle.std.proofs.lemmas.Option.{same_Some, slice_get_within}
 use Rattle.sq_value.specs.declared.Value.{Value}
@@ -15,7 +15,7 @@ use Rattle.sq_oper.specs.Given.{given, ItemsSound, ThingsUpTo}
 use Rattle.sq_oper.proofs.GivenLemmas.{ThingsUpTo-split}
 use Rattle.sq_left.specs.Left.{Net, Holding, Each}
 use Rattle.sq_left.specs.Heads.{AllFine}
-use Rattle.sq_left.proofs.MergeLemmas.{eqb-yes, eqb-no, eqb-same, eqb-not}
+use Rattle.sq_left.proofs.MergeLemmas.{eqb-no, eqb-not}
 use Rattle.sq_left.proofs.ActorSteps.{EachPort, PortFacts, taken_at}
 use Rattle.sq_left.proofs.WorldSteps.{EachPort-from, Each-from, spread-not-before}
 use Rattle.sq_paged.specs.Fronts.{first_time}
@@ -23,6 +23,8 @@ use Rattle.sq_flow.specs.Wiring.{pushed_by, AllOutsFine}
 use Rattle.sq_flow.specs.Heads.{FirstNotBefore, NextUpTo}
 use Rattle.sq_flow.specs.declared.heads.Next.TheVariants.{Feed}
 use Rattle.sq_left.proofs.HeadWords.{ItemsNotBefore}
+use Rattle.std.proofs.lemmas.Map.Views.{exact_unsigned_eq}
+use Rattle.sq_words.proofs.Numbers.{eqb_true}
 
 load-weaker : (marks marks' : ℕ → Bool) (fits fits' : ℕ → List Value → Bool) (port : ℕ) (load : Load)
     → (marks port ≡ true → marks' port ≡ true) → ((fields : List Value) → fits port fields ≡ true → fits' port fields ≡ true)
@@ -53,18 +55,6 @@ pub future-port : (marks marks' : ℕ → Bool) (fits fits' : ℕ → List Value
     → IsFuture marks fits place (at_port p xs) → IsFuture marks' fits' place (at_port p xs)
 future-port marks marks' fits fits' place p xs f g h = record { in_order = h.in_order; fitting = fit-port marks marks' fits fits' p xs f g h.fitting }
 
-pub slice_get-set_same : {X : Type 0} (xs : List X) (i : ℕ) (v : X) → i < length xs → slice_get (set xs i v) i ≡ Some v
-slice_get-set_same [] i v h = absurd (omega arith)
-slice_get-set_same (x ∷ xs) zero v h = refl
-slice_get-set_same (x ∷ xs) (suc i) v h = slice_get-set_same xs i v (omega arith)
-
-pub slice_get-set_other : {X : Type 0} (xs : List X) (i j : ℕ) (v : X) → j ≢ i → slice_get (set xs i v) j ≡ slice_get xs j
-slice_get-set_other [] i j v h = refl
-slice_get-set_other (x ∷ xs) zero zero v h = absurd (h refl)
-slice_get-set_other (x ∷ xs) zero (suc j) v h = refl
-slice_get-set_other (x ∷ xs) (suc i) zero v h = refl
-slice_get-set_other (x ∷ xs) (suc i) (suc j) v h = slice_get-set_other xs i j v (λ e. h (ap suc e))
-
 pub ports-from-head : (net : Net) (w : Holding) (items : ℕ → List Item) (place : ℕ → ℕ) (first : ℕ → Option ℕ) (ended : ℕ → Bool) (clock actor t p at : ℕ)
     → ((a : ℕ) → w.queue a ≡ spread_all (items a)) → ((a : ℕ) → AllFine clock (items a)) → ((a : ℕ) → first a ≡ first_time (items a))
     → ((port arc : ℕ) → slice_get (net.arcs actor) port ≡ Some arc → ended arc ≡ w.done (net.from arc))
@@ -93,8 +83,8 @@ ports-from-head net w items place first ended clock actor t p at queue fine begi
       where
         by : (b : Bool) → eqb port p ≡ b → eqb port p ≡ eqb arc at
         by true t =
-            let same : arc ≡ at = same_Some arc at (sym e ∙ ap (slice_get (net.arcs actor)) (eqb-yes port p t) ∙ h.1) in
-            t ∙ sym (eqb-same arc at same)
+            let same : arc ≡ at = same_Some arc at (sym e ∙ ap (slice_get (net.arcs actor)) (exact_unsigned_eq port p t) ∙ h.1) in
+            t ∙ sym (eqb_true arc at same)
         by false t =
             let ne : arc ≢ at = λ same. eqb-no port p t (sym (joined port arc e) ∙ ap place same ∙ joined p at h.1) in
             t ∙ sym (eqb-not arc at ne)
@@ -106,7 +96,7 @@ moves-fed items mid more new at item whole others a e = by (eqb a at) refl
   where
     by : (b : Bool) → eqb a at ≡ b → spread_all (items a) ++ more a ≡ cond b (spread item) [] ++ new a
     by true t =
-        let same : a ≡ at = eqb-yes a at t in
+        let same : a ≡ at = exact_unsigned_eq a at t in
         let front : items a ≡ item ∷ mid a = rw same whole in
         ap (λ z. spread_all z ++ more a) front ∙ append_assoc (spread item) (spread_all (mid a)) (more a) ∙ ap (λ z. spread item ++ z) (sym e)
     by false t = ap (λ z. spread_all z ++ more a) (sym (others a (eqb-no a at t))) ∙ sym e
@@ -124,14 +114,14 @@ pub outs-fine : (c : ℕ) (outs : List (ℕ × Item)) → ItemsSound outs → ((
 outs-fine c [] s h = tt
 outs-fine c (out ∷ outs) s h =
     let own : ThingsUpTo c (cond (eqb out.0 out.0) (spread out.1) []) = (ThingsUpTo-split c (cond (eqb out.0 out.0) (spread out.1) []) (given out.0 outs) (h out.0)).0 in
-    let own' : ThingsUpTo c (spread out.1) = rw (eqb-same out.0 out.0 refl) at own in (
+    let own' : ThingsUpTo c (spread out.1) = rw (eqb_true out.0 out.0 refl) at own in (
       spread-time c out.1 s.0 own',
       s.0,
       outs-fine c outs s.1 (λ q. (ThingsUpTo-split c (cond (eqb out.0 q) (spread out.1) []) (given q outs) (h q)).1),
     )
 
 pub own-pushed : (actor : ℕ) (outs : List (ℕ × Item)) (port : ℕ) → pushed_by actor outs actor port ≡ given port outs
-own-pushed actor outs port = ap (λ b. cond b (given port outs) []) (eqb-same actor actor refl)
+own-pushed actor outs port = ap (λ b. cond b (given port outs) []) (eqb_true actor actor refl)
 
 pub not-pushed : (actor other : ℕ) (outs : List (ℕ × Item)) → other ≢ actor → (port : ℕ) → pushed_by actor outs other port ≡ []
 not-pushed actor other outs ne port = ap (λ b. cond b (given port outs) []) (eqb-not actor other (λ e. ne (sym e)))
@@ -151,7 +141,7 @@ fine-after c at items mid item whole others fine a = by (eqb a at) refl
   where
     by : (b : Bool) → eqb a at ≡ b → AllFine c (mid a)
     by true t =
-        let same : a ≡ at = eqb-yes a at t in
+        let same : a ≡ at = exact_unsigned_eq a at t in
         let front : AllFine c (item ∷ mid at) = subst (AllFine c) whole (fine at) in
         rw same front.2
     by false t = subst (AllFine c) (sym (others a (eqb-no a at t))) (fine a)

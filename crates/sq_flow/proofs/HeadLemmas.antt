@@ -8,14 +8,15 @@ use Rattle.sq_flow.specs.declared.heads.Next.{Next}
 use Rattle.sq_flow.specs.declared.heads.Next.TheVariants.{Waits, Ended, Feed}
 use Rattle.sq_left.specs.Heads.{UpTo}
 use Rattle.sq_flow.specs.Heads.{FirstNotBefore, NextUpTo}
-use Rattle.sq_left.proofs.MergeLemmas.{eqb-yes, eqb-no}
+use Rattle.sq_left.proofs.MergeLemmas.{eqb-no}
+use Rattle.std.proofs.lemmas.Map.Views.{exact_unsigned_eq}
 
 pub UpTo-more : (arcs : List ℕ) (P : ℕ → ℕ → Type 0) (n arc : ℕ) → slice_get arcs n ≡ Some arc → P n arc → UpTo arcs P n → UpTo arcs P (n + 1)
 UpTo-more arcs P n arc is here before port at h e = by (eqb port n) refl
   where
     by : (b : Bool) → eqb port n ≡ b → P port at
     by true t =
-        let same : port ≡ n = eqb-yes port n t in
+        let same : port ≡ n = exact_unsigned_eq port n t in
         let at_is : arc ≡ at = same_Some arc at (sym is ∙ ap (slice_get arcs) (sym same) ∙ e) in
         subst (λ q. P q at) (sym same) (subst (P n) at_is here)
     by false t = let ne : port ≢ n = eqb-no port n t in before port at (omega arith) e

@@ -1,19 +1,16 @@
 -- As many values as kinds, each Null or of its kind, by a loop over both.
-use Rattle.std.proofs.Common.{◌≡◌, ◌≢◌, ℕ, zero, suc, Bool, true, false, ◌&&◌, List, [], ◌∷◌, length, drop, Some, slice_get, refl, ap, sym, ◌∙◌}
+use Rattle.std.proofs.Common.{◌≡◌, ◌≢◌, ℕ, zero, suc, true, false, ◌&&◌, List, [], ◌∷◌, length, drop, Some, slice_get, refl, ap, sym, ◌∙◌}
 use Rattle.sq_value.specs.declared.Kind.{Kind}
 use Rattle.sq_value.specs.declared.Value.{Value}
 use Rattle.sq_value.specs.Values.{is_of_kind, kinds_fit}
-
-no-more : (b c : Bool) → c ≡ false → (b && c) ≡ false
-no-more true c h = h
-no-more false c h = refl
+use Rattle.std.proofs.lemmas.Bool.{and_right}
 
 -- other than as many don't fit
 pub kinds_uneven : (kinds : List Kind) (values : List Value) → length values ≢ length kinds → kinds_fit kinds values ≡ false
 kinds_uneven [] [] ne = absurd (ne refl)
 kinds_uneven [] (v ∷ values) ne = refl
 kinds_uneven (k ∷ kinds) [] ne = refl
-kinds_uneven (k ∷ kinds) (v ∷ values) ne = no-more (is_of_kind k v) (kinds_fit kinds values) (kinds_uneven kinds values (λ e. ne (ap suc e)))
+kinds_uneven (k ∷ kinds) (v ∷ values) ne = and_right (is_of_kind k v) (kinds_fit kinds values) (kinds_uneven kinds values (λ e. ne (ap suc e)))
 
 -- one that fits is passed over
 pub kinds_step : (kinds : List Kind) (values : List Value) (at : ℕ) (k : Kind) (v : Value) → slice_get kinds at ≡ Some k → slice_get values at ≡ Some v → is_of_kind k v ≡ true

@@ -3,39 +3,18 @@ use Rattle.std.proofs.Common.{◌≡◌, ℕ, zero, suc, ◌+◌, ◌<◌, ◌�
 use Rattle.std.specs.List.{filter, range_with_len, list_all}
 use Rattle.std.specs.Prelude.{slice_get, Some}
 use Rattle.std.proofs.lemmas.Bool.Decides.{nat_tests}
-use Rattle.std.proofs.lemmas.List.Folds.{list_any-append}
 use Rattle.sq_sched.specs.Ready.{AreActors, OnlyOnce}
-use Rattle.sq_left.proofs.MergeLemmas.{eqb-yes, eqb-no, eqb-same, eqb-not}
+use Rattle.sq_left.proofs.MergeLemmas.{eqb-no, eqb-not}
 use Rattle.sq_flow.specs.Wiring.{Climbs}
 use Rattle.sq_words.specs.Lists.{contains_number}
-
-pub contains-append : (xs ys : List ℕ) (n : ℕ) → contains_number (xs ++ ys) n ≡ (contains_number xs n || contains_number ys n)
-contains-append xs ys n = list_any-append (λ x. eqb x n) xs ys
-
-pub contains-filter : (p : ℕ → Bool) (xs : List ℕ) (n : ℕ) → contains_number (filter p xs) n ≡ (contains_number xs n && p n)
-contains-filter p [] n = refl
-contains-filter p (x ∷ xs) n = by (p x) (eqb x n) refl refl (contains-filter p xs n)
-  where
-    none : (b c : Bool) → c ≡ false → (b && c) ≡ c
-    none true c h = refl
-    none false c h = sym h
-
-    by : (kept same : Bool) → p x ≡ kept → eqb x n ≡ same → contains_number (filter p xs) n ≡ (contains_number xs n && p n)
-        → contains_number (cond kept (x ∷ filter p xs) (filter p xs)) n ≡ ((same || contains_number xs n) && p n)
-    by true true k e more = ap (λ b. b || contains_number (filter p xs) n) e ∙ sym (ap p (sym (eqb-yes x n e)) ∙ k)
-    by true false k e more = ap (λ b. b || contains_number (filter p xs) n) e ∙ more
-    by false true k e more = more ∙ none (contains_number xs n) (p n) (ap p (sym (eqb-yes x n e)) ∙ k)
-    by false false k e more = more
+use Rattle.sq_words.proofs.Bools.{and_true}
+use Rattle.std.proofs.lemmas.Map.Views.{exact_unsigned_eq}
+use Rattle.sq_words.proofs.Lists.{contains_append, contains_filter}
+use Rattle.sq_words.proofs.Numbers.{eqb_true}
 
 pub contains-range : (from many n : ℕ) → contains_number (range_with_len from many) n ≡ (leb from n && ltb n (from + many))
 contains-range from zero n = grind (arith, nat_tests)
 contains-range from (suc many) n = ap (λ b. eqb from n || b) (contains-range (from + 1) many n) ∙ grind (arith, nat_tests)
-
-pub range-more : (from many : ℕ) → range_with_len from (suc many) ≡ range_with_len from many ++ (from + many) ∷ []
-range-more from zero = let e : from ≡ from + 0 = omega arith in ap (λ x. x ∷ []) e
-range-more from (suc many) =
-    let e : from + 1 + many ≡ from + suc many = omega arith in
-    ap (λ xs. from ∷ xs) (range-more (from + 1) many ∙ ap (λ x. range_with_len (from + 1) many ++ x ∷ []) e)
 
 next-eqb : (a b : ℕ) → eqb (a + 1) (suc b) ≡ eqb a b
 next-eqb a b = grind (arith, nat_tests)
@@ -62,7 +41,7 @@ climbs-filter p (x ∷ xs) h = by (p x) (climbs-filter p xs h.1)
     left false c k = k
 
     by : (kept : Bool) → Climbs (filter p xs) → Climbs (cond kept (x ∷ filter p xs) (filter p xs))
-    by true more = (λ y is. h.0 y (left (contains_number xs y) (p y) (sym (contains-filter p xs y) ∙ is)), more)
+    by true more = (λ y is. h.0 y (left (contains_number xs y) (p y) (sym (contains_filter p xs y) ∙ is)), more)
     by false more = more
 
 pub climbs-range : (from many : ℕ) → Climbs (range_with_len from many)
@@ -84,7 +63,7 @@ climbs-next (x ∷ xs) h = (later, climbs-next xs h.1)
 
 pub contains-at : (xs : List ℕ) (i x d : ℕ) → i < length xs → x ≡ get_or xs i d → contains_number xs x ≡ true
 contains-at [] i x d low is = absurd (omega arith)
-contains-at (y ∷ xs) zero x d low is = ap (λ b. b || contains_number xs x) (eqb-same y x (sym is))
+contains-at (y ∷ xs) zero x d low is = ap (λ b. b || contains_number xs x) (eqb_true y x (sym is))
 contains-at (y ∷ xs) (suc i) x d low is = right (eqb y x) (contains_number xs x) (contains-at xs i x d (omega arith) is)
   where
     right : (b c : Bool) → c ≡ true → (b || c) ≡ true
@@ -102,17 +81,17 @@ climbs-front (y ∷ xs) (suc i) x h low is =
 
 pub climbs-same : (xs ys : List ℕ) → Climbs xs → Climbs ys → ((n : ℕ) → contains_number xs n ≡ contains_number ys n) → xs ≡ ys
 climbs-same [] [] h k same = refl
-climbs-same [] (y ∷ ys) h k same = absurd (cc (same y, eqb-same y y refl))
-climbs-same (x ∷ xs) [] h k same = absurd (cc (same x, eqb-same x x refl))
+climbs-same [] (y ∷ ys) h k same = absurd (cc (same y, eqb_true y y refl))
+climbs-same (x ∷ xs) [] h k same = absurd (cc (same x, eqb_true x x refl))
 climbs-same (x ∷ xs) (y ∷ ys) h k same =
     let one : x ≡ y = omega (arith, no-less x y xs ys k (same x), no-less y x ys xs h (sym (same y))) in
     ap (λ z. z ∷ xs) one ∙ ap (λ zs. y ∷ zs) (climbs-same xs ys h.1 k.1 (tails one))
   where
     no-less : (a b : ℕ) (us vs : List ℕ) → Climbs (b ∷ vs) → contains_number (a ∷ us) a ≡ contains_number (b ∷ vs) a → b ≤ a
-    no-less a b us vs up e = by (eqb b a) refl (sym e ∙ ap (λ t. t || contains_number us a) (eqb-same a a refl))
+    no-less a b us vs up e = by (eqb b a) refl (sym e ∙ ap (λ t. t || contains_number us a) (eqb_true a a refl))
       where
         by : (t : Bool) → eqb b a ≡ t → (t || contains_number vs a) ≡ true → b ≤ a
-        by true t is = let s : b ≡ a = eqb-yes b a t in omega (arith, s)
+        by true t is = let s : b ≡ a = exact_unsigned_eq b a t in omega (arith, s)
         by false t is = let l : b < a = up.0 a is in omega (arith, l)
 
     tails : x ≡ y → (n : ℕ) → contains_number xs n ≡ contains_number ys n
@@ -126,9 +105,9 @@ climbs-same (x ∷ xs) (y ∷ ys) h k same =
             at true t = let l : a < n = up.0 n t in absurd (omega (arith, l, e))
 
         by : (b c : Bool) → eqb x n ≡ b → eqb y n ≡ c → (b || contains_number xs n) ≡ (c || contains_number ys n) → contains_number xs n ≡ contains_number ys n
-        by true true e f s = not-in x xs h (eqb-yes x n e) ∙ sym (not-in y ys k (eqb-yes y n f))
-        by true false e f s = absurd (eqb-no y n f (sym one ∙ eqb-yes x n e))
-        by false true e f s = absurd (eqb-no x n e (one ∙ eqb-yes y n f))
+        by true true e f s = not-in x xs h (exact_unsigned_eq x n e) ∙ sym (not-in y ys k (exact_unsigned_eq y n f))
+        by true false e f s = absurd (eqb-no y n f (sym one ∙ exact_unsigned_eq x n e))
+        by false true e f s = absurd (eqb-no x n e (one ∙ exact_unsigned_eq y n f))
         by false false e f s = s
 
 pub once-climbs : (xs : List ℕ) → Climbs xs → OnlyOnce xs
@@ -142,7 +121,7 @@ once-climbs (x ∷ xs) h = (by (contains_number xs x) refl, once-climbs xs h.1)
 pub once-append : (xs ys : List ℕ) → OnlyOnce xs → OnlyOnce ys → ((n : ℕ) → contains_number ys n ≡ true → contains_number xs n ≡ false) → OnlyOnce (xs ++ ys)
 once-append [] ys h k apart = k
 once-append (x ∷ xs) ys h k apart =
-    (contains-append xs ys x ∙ neither (contains_number xs x) (contains_number ys x) h.0 (away (contains_number ys x) refl), once-append xs ys h.1 k (λ n is. right (eqb x n) (contains_number xs n) (apart n is)))
+    (contains_append xs ys x ∙ neither (contains_number xs x) (contains_number ys x) h.0 (away (contains_number ys x) refl), once-append xs ys h.1 k (λ n is. right (eqb x n) (contains_number xs n) (apart n is)))
   where
     neither : (b c : Bool) → b ≡ false → c ≡ false → (b || c) ≡ false
     neither true c e f = e
@@ -154,18 +133,14 @@ once-append (x ∷ xs) ys h k apart =
 
     away : (t : Bool) → contains_number ys x ≡ t → t ≡ false
     away false t = refl
-    away true t = absurd (cc (apart x t, eqb-same x x refl))
+    away true t = absurd (cc (apart x t, eqb_true x x refl))
 
 pub actors-append : (n : ℕ) (xs ys : List ℕ) → AreActors n xs → AreActors n ys → AreActors n (xs ++ ys)
-actors-append n xs ys h k x is = by (contains_number xs x) refl (sym (contains-append xs ys x) ∙ is)
+actors-append n xs ys h k x is = by (contains_number xs x) refl (sym (contains_append xs ys x) ∙ is)
   where
     by : (b : Bool) → contains_number xs x ≡ b → (b || contains_number ys x) ≡ true → x < n
     by true e f = h x e
     by false e f = k x f
-
-pub both-true : (a b : Bool) → (a && b) ≡ true → (a ≡ true) × (b ≡ true)
-both-true true b h = (refl, h)
-both-true false b h = absurd (cc h)
 
 pub all-agree : (p q : ℕ → Bool) (xs : List ℕ) → ((i x : ℕ) → slice_get xs i ≡ Some x → p x ≡ q x) → list_all p xs ≡ list_all q xs
 all-agree p q [] h = refl
@@ -188,8 +163,8 @@ pub all-at : (p : ℕ → Bool) (xs : List ℕ) → list_all p xs ≡ true → (
 all-at p [] all i x is = absurd (cc is)
 all-at p (y ∷ xs) all zero x is =
     let same : y ≡ x = cc is in
-    ap p (sym same) ∙ (both-true (p y) (list_all p xs) all).0
-all-at p (y ∷ xs) all (suc i) x is = all-at p xs (both-true (p y) (list_all p xs) all).1 i x is
+    ap p (sym same) ∙ (and_true (p y) (list_all p xs) all).0
+all-at p (y ∷ xs) all (suc i) x is = all-at p xs (and_true (p y) (list_all p xs) all).1 i x is
 
 pub all-from : (p : ℕ → Bool) (xs : List ℕ) → ((i x : ℕ) → slice_get xs i ≡ Some x → p x ≡ true) → list_all p xs ≡ true
 all-from p [] h = refl

@@ -12,9 +12,11 @@ use Rattle.sq_flow.specs.declared.engine.Engine.{Engine}
 use Rattle.sq_flow.specs.Wiring.{Climbs, numbers_in, followers_of}
 use Rattle.sq_flow.specs.Readiness.{is_ready, waiting}
 use Rattle.sq_flow.specs.Engines.{seat_number, is_new, readers_of, Looked}
-use Rattle.sq_flow.proofs.ListLemmas.{contains-append, contains-range, range-more, contains-at, climbs-front, at-next}
+use Rattle.sq_flow.proofs.ListLemmas.{contains-range, contains-at, climbs-front, at-next}
 use Rattle.sq_flow.proofs.ReadyLemmas.{looked-at}
 use Rattle.sq_words.specs.Lists.{contains_number}
+use Rattle.sq_words.proofs.Lists.{contains_append}
+use Rattle.sq_words.proofs.Ranges.{range_more}
 
 pub looked-none : {O : Type 0} (engine : Engine O) → Looked [] engine engine
 looked-none engine =
@@ -43,7 +45,7 @@ looked-more seen x a b c apart first second =
           ∙ ap (λ f. cond (eqb x actor || false) (waiting f (seat_number (length f.seats.items) actor)) (get_or b.waits.items actor 0)) first.flow
           ∙ ap (λ count. cond (eqb x actor || false) (waiting a.flow (seat_number (length a.flow.seats.items) actor)) count) (first.waits actor)
           ∙ one (contains_number seen actor) (eqb x actor) (waiting a.flow (seat_number (length a.flow.seats.items) actor)) (get_or a.waits.items actor 0)
-          ∙ ap (λ t. cond t (waiting a.flow (seat_number (length a.flow.seats.items) actor)) (get_or a.waits.items actor 0)) (sym (contains-append seen (x ∷ []) actor));
+          ∙ ap (λ t. cond t (waiting a.flow (seat_number (length a.flow.seats.items) actor)) (get_or a.waits.items actor 0)) (sym (contains_append seen (x ∷ []) actor));
       waits_len = second.waits_len ∙ first.waits_len;
     }
   where
@@ -75,7 +77,7 @@ looked-next actors i x a b c climbs low is first second =
 pub looked-all : {O : Type 0} (actor : ℕ) (a b c : Engine O) → Looked (range_with_len 0 actor) a b → Looked (actor ∷ []) b c → Looked (range_with_len 0 (actor + 1)) a c
 looked-all actor a b c first second =
     let same : 0 + actor ≡ actor = omega arith in
-    let more : range_with_len 0 (actor + 1) ≡ range_with_len 0 actor ++ actor ∷ [] = ap (range_with_len 0) (add-one actor) ∙ range-more 0 actor ∙ ap (λ x. range_with_len 0 actor ++ x ∷ []) same in
+    let more : range_with_len 0 (actor + 1) ≡ range_with_len 0 actor ++ actor ∷ [] = ap (range_with_len 0) (add-one actor) ∙ range_more 0 actor ∙ ap (λ x. range_with_len 0 actor ++ x ∷ []) same in
     let apart : contains_number (range_with_len 0 actor) actor ≡ false = contains-range 0 actor actor ∙ grind (arith, nat_tests) in
     subst (λ seen. Looked seen a c) (sym more) (looked-more (range_with_len 0 actor) actor a b c apart first second)
 

@@ -9,7 +9,7 @@ use Rattle.std.proofs.lemmas.Grind.{flat_map-append}
 use Rattle.std.proofs.lemmas.List.Sums.{sum_by-cons}
 use Rattle.sq_value.specs.declared.Tuple.{Tuple}
 use Rattle.sq_words.specs.Lists.{max_by}
-use Rattle.sq_left.proofs.MergeLemmas.{eqb-same, eqb-not}
+use Rattle.sq_left.proofs.MergeLemmas.{eqb-not}
 use Rattle.sq_plan.specs.Flows.{AreCounts}
 use Rattle.sq_plan.specs.Shown.{is_quiet}
 use Rattle.sq_oper.specs.declared.outs.Event.{Event}
@@ -20,6 +20,8 @@ use Rattle.sq_flow.specs.Flows.{tuples_to_come, RiseFrom}
 use Rattle.sq_flow.specs.Plans.{arrivals, last_arrival, add_counts, plans_of}
 use Rattle.sq_flow.specs.Sources.{BeginsNotBefore}
 use Rattle.sq_flow.proofs.EventLemmas.{lines-append, plans-append}
+use Rattle.sq_words.proofs.Ranges.{range_split}
+use Rattle.sq_words.proofs.Numbers.{eqb_true}
 
 pub plans-plan : (events : List Event) (epoch load capacity saved : ℕ) (fits : Bool)
     → plans_of (events ++ Plan epoch load capacity saved fits ∷ []) ≡ plans_of events ++ record { epoch = epoch; load = load; capacity = capacity; saved = saved; fits = fits } ∷ []
@@ -31,22 +33,6 @@ lines-plan o events epoch load capacity saved fits = lines-append o events (Plan
 -- numbers
 pub div-low : (a b k : ℕ) → 0 < k → a ≤ b → a / k ≤ b / k
 div-low a b k pos le = le-div (a / k) b k pos (subst (λ v. v ≤ b) (mul_comm k (a / k)) (le_trans (mul-div-le a k) le))
-
-range-split : (a n m : ℕ) → range_with_len a (n + m) ≡ range_with_len a n ++ range_with_len (a + n) m
-range-split a zero m = ap (λ k. range_with_len k (0 + m)) (add-none a) ∙ ap (λ k. range_with_len (a + 0) k) (none-add m)
-  where
-    add-none : (k : ℕ) → k ≡ k + 0
-    add-none k = omega arith
-
-    none-add : (k : ℕ) → 0 + k ≡ k
-    none-add k = omega arith
-range-split a (suc n) m = ap (range_with_len a) (suc-add n m) ∙ ap (λ l. a ∷ l) (range-split (a + 1) n m ∙ ap (λ k. range_with_len (a + 1) n ++ range_with_len k m) (one-more a n))
-  where
-    suc-add : (n m : ℕ) → suc n + m ≡ suc (n + m)
-    suc-add n m = omega arith
-
-    one-more : (a n : ℕ) → a + 1 + n ≡ a + suc n
-    one-more a n = omega arith
 
 -- functions that agree from a number on
 pub flat-same : {A : Type 0} (f g : ℕ → List A) (a n : ℕ) → ((y : ℕ) → a ≤ y → f y ≡ g y) → flat_map f (range_with_len a n) ≡ flat_map g (range_with_len a n)
@@ -61,7 +47,7 @@ pub plans-cut : {A : Type 0} (f g : ℕ → List A) (open_epoch next last : ℕ)
     ≡ flat_map f (range_with_len open_epoch (next - open_epoch)) ++ flat_map g (range_with_len next (last - next))
 plans-cut f g open_epoch next last le h =
     ap (λ k. flat_map f (range_with_len open_epoch k)) parts
-    ∙ ap (flat_map f) (range-split open_epoch (next - open_epoch) (last - next))
+    ∙ ap (flat_map f) (range_split open_epoch (next - open_epoch) (last - next))
     ∙ flat_map-append f (range_with_len open_epoch (next - open_epoch)) (range_with_len (open_epoch + (next - open_epoch)) (last - next))
     ∙ ap (λ z. flat_map f (range_with_len open_epoch (next - open_epoch)) ++ z)
     (ap (λ k. flat_map f (range_with_len k (last - next))) there ∙ flat-same f g next (last - next) h)
@@ -160,7 +146,7 @@ module _ (epoch : ℕ) (v more : Recorded) (x : Tuple) (front : v.items ≡ x �
       let same : s ≡ v = same_Some s v is in
       ap (λ k. k ∷ add_counts counts (arrivals epoch (streams sources) e))
       (one-more c (count_by (λ y. eqb (y.time / epoch) e) more.items)
-      ∙ ap (λ b. c + (cond b 1 0 + count_by (λ y. eqb (y.time / epoch) e) more.items)) (sym (eqb-same (x.time / epoch) e hit))
+      ∙ ap (λ b. c + (cond b 1 0 + count_by (λ y. eqb (y.time / epoch) e) more.items)) (sym (eqb_true (x.time / epoch) e hit))
       ∙ ap (λ k. c + k) (sym (ap (λ (d : Recorded). count_by (λ y. eqb (y.time / epoch) e) d.items) same ∙ took e)))
     where
       one-more : (c k : ℕ) → c + 1 + k ≡ c + (1 + k)
@@ -189,8 +175,3 @@ module _ (epoch : ℕ) (v more : Recorded) (x : Tuple) (front : v.items ≡ x �
 pub few-each : (counts : List ℕ) → ((k : ℕ) → slice_index counts k ≤ 1000000) → AreCounts counts
 few-each [] h = tt
 few-each (c ∷ counts) h = (h 0, few-each counts (λ k. h (suc k)))
-
-pub zeros-low : (n k : ℕ) → slice_index (replicate n 0) k ≡ 0
-zeros-low zero k = refl
-zeros-low (suc n) zero = refl
-zeros-low (suc n) (suc k) = zeros-low n k

@@ -12,19 +12,17 @@ use Rattle.sq_flow.specs.Wiring.{arcs_read, from_of, to_of, followers_of, Climbs
 use Rattle.sq_flow.specs.Seats.{done_at}
 use Rattle.sq_flow.specs.Readiness.{stands, IsReady, is_ready, waiting, TouchesOnly}
 use Rattle.sq_flow.specs.Engines.{seat_number, ExactFor, is_new, readers_of}
-use Rattle.sq_flow.proofs.ListLemmas.{contains-append, contains-filter, contains-next, zero-next, climbs-filter, once-climbs, once-append, actors-append, both-true, all-agree, all-at, all-from, map-agree}
+use Rattle.sq_flow.proofs.ListLemmas.{contains-next, zero-next, climbs-filter, once-climbs, once-append, actors-append, all-agree, all-at, all-from, map-agree}
 use Rattle.sq_words.specs.Lists.{contains_number}
-
-not-true : (a : Bool) → not a ≡ true → a ≡ false
-not-true true h = absurd (cc h)
-not-true false h = refl
+use Rattle.sq_words.proofs.Bools.{and_true, not_true}
+use Rattle.sq_words.proofs.Lists.{contains_append, contains_filter}
 
 -- an actor is ready where the test says so
 pub ready-of : {O : Type 0} (e : Flow O) (place : ℕ) → is_ready e place ≡ true → IsReady e place
 ready-of e place h =
-    let both = both-true (not (done_at e.over (slice_get e.seats.items place))) (list_all (λ arc. stands (face e.queues arc)) (arcs_read e.wires place)) h in
+    let both = and_true (not (done_at e.over (slice_get e.seats.items place))) (list_all (λ arc. stands (face e.queues arc)) (arcs_read e.wires place)) h in
     record {
-      running = not-true (done_at e.over (slice_get e.seats.items place)) both.0;
+      running = not_true (done_at e.over (slice_get e.seats.items place)) both.0;
       standing = all-at (λ arc. stands (face e.queues arc)) (arcs_read e.wires place) both.1;
     }
 
@@ -136,20 +134,20 @@ module _ {O : Type 0} (e e' : Flow O) (shaped : IsShaped e.wires (length e.seats
 
 -- the list after looks at climbing actors
 pub looked-at : {O : Type 0} (e : Flow O) (list seen : List ℕ) (x : ℕ) → contains_number (list ++ filter (is_new e list) seen) x ≡ (contains_number list x || (contains_number seen x && is_new e list x))
-looked-at e list seen x = contains-append list (filter (is_new e list) seen) x ∙ ap (λ b. contains_number list x || b) (contains-filter (is_new e list) seen x)
+looked-at e list seen x = contains_append list (filter (is_new e list) seen) x ∙ ap (λ b. contains_number list x || b) (contains_filter (is_new e list) seen x)
 
 pub looked-once : {O : Type 0} (e : Flow O) (list seen : List ℕ) → OnlyOnce list → Climbs seen → OnlyOnce (list ++ filter (is_new e list) seen)
 looked-once e list seen once climbs =
     once-append list (filter (is_new e list) seen) once (once-climbs (filter (is_new e list) seen) (climbs-filter (is_new e list) seen climbs))
-    (λ n is. apart n (contains_number seen n) (sym (contains-filter (is_new e list) seen n) ∙ is))
+    (λ n is. apart n (contains_number seen n) (sym (contains_filter (is_new e list) seen n) ∙ is))
   where
     apart : (n : ℕ) (b : Bool) → (b && is_new e list n) ≡ true → contains_number list n ≡ false
-    apart n true h = not-true (contains_number list n) ((both-true (is_ready e (seat_number (length e.seats.items) n)) (not (contains_number list n)) h).1)
+    apart n true h = not_true (contains_number list n) ((and_true (is_ready e (seat_number (length e.seats.items) n)) (not (contains_number list n)) h).1)
     apart n false h = absurd (cc h)
 
 pub looked-below : {O : Type 0} (e : Flow O) (list seen : List ℕ) (actors : ℕ) → AreActors actors list → AreActors actors seen → AreActors actors (list ++ filter (is_new e list) seen)
 looked-below e list seen actors below more =
-    actors-append actors list (filter (is_new e list) seen) below (λ x is. more x (left x (contains_number seen x) refl (sym (contains-filter (is_new e list) seen x) ∙ is)))
+    actors-append actors list (filter (is_new e list) seen) below (λ x is. more x (left x (contains_number seen x) refl (sym (contains_filter (is_new e list) seen x) ∙ is)))
   where
     left : (x : ℕ) (b : Bool) → contains_number seen x ≡ b → (b && is_new e list x) ≡ true → contains_number seen x ≡ true
     left x true h k = h

@@ -5,7 +5,7 @@ use Rattle.std.specs.List.{flat_map, range_with_len}
 use Rattle.std.proofs.lemmas.List.{length-replicate}
 use Rattle.std.specs.declared.alloc.Global.{Global}
 use Rattle.sq_value.specs.declared.Tuple.{Tuple}
-use Rattle.sq_left.proofs.MergeLemmas.{eqb-yes, eqb-no, eqb-same, eqb-not}
+use Rattle.sq_left.proofs.MergeLemmas.{eqb-no, eqb-not}
 use Rattle.sq_road.specs.Levels.{LevelTable, level_of, AgreesWith}
 use Rattle.sq_plan.specs.declared.closing.Shown.{Shown}
 use Rattle.sq_plan.specs.Plans.{Setting}
@@ -19,7 +19,10 @@ use Rattle.sq_flow.specs.Events.{lines_of, drops_of, ShowsIn}
 use Rattle.sq_flow.specs.Flows.{IsFlow, RiseFrom, tuples_to_come, to_release}
 use Rattle.sq_flow.specs.Plans.{arrivals, last_arrival, add_counts, counts_of, IsPlanned, plans_left, plans_of, PlansPrefix}
 use Rattle.sq_flow.specs.Sources.{BeginsLeast, IsNextSource}
-use Rattle.sq_flow.proofs.PlanLemmas.{div-low, plans-cut, streams, rise-later, add-zeros, zeros-more, arrivals-len, quiet-zeros, none-arrive, arrivals-other, counted-one, last-taken, zeros-low}
+use Rattle.sq_flow.proofs.PlanLemmas.{div-low, plans-cut, streams, rise-later, add-zeros, zeros-more, arrivals-len, quiet-zeros, none-arrive, arrivals-other, counted-one, last-taken}
+use Rattle.std.proofs.lemmas.Map.Views.{exact_unsigned_eq}
+use Rattle.sq_words.proofs.Lists.{zeros_at}
+use Rattle.sq_words.proofs.Numbers.{eqb_true}
 
 -- what was closed before a tuple of this epoch, and what that showed
 pub record ClosedBefore (planner planner' : Setting) (levels levels' : LevelTable) (before after : List ℕ) (next : ℕ) (events events' : List Event) : Type 0 where
@@ -81,7 +84,7 @@ module _ {O : Type 0} (m : Meaning O) (valid : O → Type 0) (e : Flow O) (flow 
   pub is-ended : (all : ℕ → List ℕ) → ((y : ℕ) → e.levels.closed ≤ y + 1 → all y ≡ counts_of e y) → e.levels.closed < epoch_there + 1 → Ended all (e.levels.closed - 1) epoch_there e.counts.items
   is-ended all counts later =
       record {
-        last = counts open_epoch (omega arith) ∙ ap (λ b. add_counts (cond b e.counts.items []) (arrivals e.levels.epoch (streams e.sources.items) open_epoch)) (eqb-same (open_epoch + 1) e.levels.closed (omega (arith, some)))
+        last = counts open_epoch (omega arith) ∙ ap (λ b. add_counts (cond b e.counts.items []) (arrivals e.levels.epoch (streams e.sources.items) open_epoch)) (eqb_true (open_epoch + 1) e.levels.closed (omega (arith, some)))
             ∙ ap (add_counts e.counts.items) (none-between open_epoch (omega (arith, some, later))) ∙ zeros-more e.counts.items (length e.sources.items) flow.counts;
         between = λ y from upto.
             ap is_quiet (counts y (omega (arith, from)) ∙ ap (λ b. add_counts (cond b e.counts.items []) (arrivals e.levels.epoch (streams e.sources.items) y)) (eqb-not (y + 1) e.levels.closed (omega (arith, some, from)))
@@ -105,7 +108,7 @@ module _ {O : Type 0} (m : Meaning O) (valid : O → Type 0) (e : Flow O) (flow 
       where
         by : (b : Bool) → mid ≡ cond b e.counts.items (replicate (length e.counts.items) 0) → slice_index mid k ≤ slice_index e.counts.items k
         by true h = let same = ap (λ l. slice_index l k) h in omega (arith, same)
-        by false h = let none = ap (λ l. slice_index l k) h ∙ zeros-low (length e.counts.items) k in omega (arith, none)
+        by false h = let none = ap (λ l. slice_index l k) h ∙ zeros_at (length e.counts.items) k in omega (arith, none)
 
     -- the counts of the tuple's epoch are those with which it goes on
     mid-there : add_counts (cond (eqb (epoch_there + 1) e.levels.closed) e.counts.items []) (arrivals e.levels.epoch (streams e.sources.items) epoch_there)
@@ -133,10 +136,10 @@ module _ {O : Type 0} (m : Meaning O) (valid : O → Type 0) (e : Flow O) (flow 
           by : (b : Bool) → eqb y epoch_there ≡ b
               → counts_of e y ≡ add_counts (cond (eqb (y + 1) (epoch_there + 1)) counts'.items []) (arrivals e.levels.epoch (streams (set e.sources.items port more)) y)
           by true h =
-              let same : y ≡ epoch_there = eqb-yes y epoch_there h in
+              let same : y ≡ epoch_there = exact_unsigned_eq y epoch_there h in
               subst (λ k. counts_of e k ≡ add_counts (cond (eqb (k + 1) (epoch_there + 1)) counts'.items []) (arrivals e.levels.epoch (streams (set e.sources.items port more)) k)) (sym same)
               (mid-there
-              ∙ sym (ap (λ b. add_counts (cond b counts'.items []) (arrivals e.levels.epoch (streams (set e.sources.items port more)) epoch_there)) (eqb-same (epoch_there + 1) (epoch_there + 1) refl)
+              ∙ sym (ap (λ b. add_counts (cond b counts'.items []) (arrivals e.levels.epoch (streams (set e.sources.items port more)) epoch_there)) (eqb_true (epoch_there + 1) (epoch_there + 1) refl)
               ∙ ap (λ l. add_counts l (arrivals e.levels.epoch (streams (set e.sources.items port more)) epoch_there)) counts_are
               ∙ counted-one e.levels.epoch v more x front epoch_there e.sources.items mid port at refl (mid-len ∙ flow.counts)))
           by false h =

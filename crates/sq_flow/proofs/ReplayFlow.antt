@@ -16,7 +16,7 @@ use Rattle.sq_oper.specs.Streams.{things, IsSoundTuple, tuples_in}
 use Rattle.sq_oper.proofs.GivenLemmas.{ThingsUpTo-later}
 use Rattle.sq_left.specs.Left.{Net, Holding, coming, inputs, is_known_actor}
 use Rattle.sq_left.specs.Heads.{AllFine}
-use Rattle.sq_left.proofs.MergeLemmas.{eqb-yes, eqb-no, eqb-same, eqb-not}
+use Rattle.sq_left.proofs.MergeLemmas.{eqb-no, eqb-not}
 use Rattle.sq_left.proofs.Conserve.{Kept}
 use Rattle.sq_left.proofs.WorldSteps.{world-released}
 use Rattle.sq_queue.specs.declared.Queues.{Queues}
@@ -31,7 +31,6 @@ use Rattle.sq_flow.proofs.DropLemmas.{owns-later}
 use Rattle.sq_flow.proofs.ReleasedPlans.{ClosedBefore, agrees-before, epoch_there, not-before, mid-len, mid-low, planned-after, plans-go}
 use Rattle.sq_flow.specs.Readiness.{TouchesOnly}
 use Rattle.sq_flow.proofs.TouchLemmas.{away-from, stands-pushed}
-use Rattle.sq_flow.proofs.SumLemmas.{sum-same}
 use Rattle.sq_flow.proofs.WireLemmas.{one-sent, comes-from}
 use Rattle.sq_flow.specs.declared.seats.Seat.{Seat}
 use Rattle.sq_flow.specs.declared.flow.Flow.{Flow}
@@ -40,10 +39,13 @@ use Rattle.sq_flow.specs.Seats.{Meaning, done_at, holds_at, IsSeat}
 use Rattle.sq_flow.specs.Events.{lines_of, drops_of}
 use Rattle.sq_flow.specs.Flows.{world_of, IsFlow, HoldsItems, Goes, Stepped, ShowsPrefix, RiseFrom, to_release, tuples_to_come, lines_left, decisions_left, turns_at_last, count_all}
 use Rattle.sq_flow.proofs.SendLemmas.{at_or_other, apart-arcs}
-use Rattle.sq_flow.proofs.FutureLemmas.{slice_get-set_same, slice_get-set_other}
 use Rattle.sq_flow.proofs.ArcLemmas.{arcs-left}
 use Rattle.sq_words.specs.Lists.{contains_number}
 use Rattle.sq_flow.proofs.WiringWords.{sent}
+use Rattle.std.proofs.lemmas.Map.Views.{exact_unsigned_eq}
+use Rattle.sq_flow.proofs.DoneLemmas.{sums-agree}
+use Rattle.sq_words.proofs.Lists.{get_set_same, get_set_other}
+use Rattle.sq_words.proofs.Numbers.{eqb_true}
 
 pub fine-later : (t u : ℕ) (its : List Item) → t ≤ u → AllFine t its → AllFine u its
 fine-later t u [] le h = tt
@@ -112,7 +114,7 @@ module _ {O : Type 0} (m : Meaning O) (valid : O → Type 0) (e : Flow O) (flow 
   turns-same =
       let k = kept in
       let is_replay = flow.shaped.replay_is in
-      let sums = sum-same (λ other. length (inputs net was e.wires.order.items other)) (λ other. length (inputs net is e.wires.order.items other)) (length e.seats.items)
+      let sums = sums-agree (λ other. length (inputs net was e.wires.order.items other)) (λ other. length (inputs net is e.wires.order.items other)) (length e.seats.items)
       (λ other low. let away : other ≢ net.replay = omega (arith, is_replay, low) in ap (λ (l : List Entry). length l) (k.told other (flow.shaped.ordered other low) away).comes) in
       ap (λ n. e.taken + n) sums
 
@@ -146,7 +148,7 @@ module _ {O : Type 0} (m : Meaning O) (valid : O → Type 0) (e : Flow O) (flow 
       }
 
 own-sent : (replay port : ℕ) (xs : List Thing) (q : ℕ) → sent replay port xs replay q ≡ cond (eqb port q) xs []
-own-sent replay port xs q = ap (λ b. cond b (cond (eqb port q) xs []) []) (eqb-same replay replay refl)
+own-sent replay port xs q = ap (λ b. cond b (cond (eqb port q) xs []) []) (eqb_true replay replay refl)
 
 not-sent : (replay port : ℕ) (xs : List Thing) (other : ℕ) → other ≢ replay → (q : ℕ) → sent replay port xs other q ≡ []
 not-sent replay port xs other ne q = ap (λ b. cond b (cond (eqb port q) xs []) []) (eqb-not replay other (λ k. ne (sym k)))
@@ -183,10 +185,10 @@ module _ {O : Type 0} (m : Meaning O) (valid : O → Type 0) (e : Flow O) (flow 
         (sources' : Vec Recorded Global) (counts' : Vec ℕ Global)
         (taken : sources'.items ≡ set e.sources.items port more) (counts_are : counts'.items ≡ set mid port (slice_index mid port + 1)) where
       is_after : slice_get sources'.items port ≡ Some more
-      is_after = ap (λ l. slice_get l port) taken ∙ slice_get-set_same e.sources.items port more next.there
+      is_after = ap (λ l. slice_get l port) taken ∙ get_set_same e.sources.items port more next.there
 
       apart : (other : ℕ) → other ≢ port → slice_get sources'.items other ≡ slice_get e.sources.items other
-      apart other ne = ap (λ l. slice_get l other) taken ∙ slice_get-set_other e.sources.items port other more ne
+      apart other ne = ap (λ l. slice_get l other) taken ∙ get_set_other e.sources.items port other more ne
 
       sources_len : length sources'.items ≡ length e.sources.items
       sources_len = ap (λ (l : List Recorded). length l) taken ∙ length-set e.sources.items port more
@@ -275,7 +277,7 @@ module _ {O : Type 0} (m : Meaning O) (valid : O → Type 0) (e : Flow O) (flow 
           given-there q =
               at_or_other (λ k. things (to_release e k) ≡ cond (eqb port k) (spread item) [] ++ things (tuples_to_come (slice_get sources'.items k))) port
               (ap things front ∙ ap (λ o. spread item ++ things (tuples_to_come o)) (sym is_after)
-              ∙ ap (λ b. cond b (spread item) [] ++ things (tuples_to_come (slice_get sources'.items port))) (sym (eqb-same port port refl)))
+              ∙ ap (λ b. cond b (spread item) [] ++ things (tuples_to_come (slice_get sources'.items port))) (sym (eqb_true port port refl)))
               (λ k ne. ap (λ o. things (tuples_to_come o)) (sym (apart k ne))
               ∙ ap (λ b. cond b (spread item) [] ++ things (tuples_to_come (slice_get sources'.items k))) (sym (eqb-not port k (λ same. ne (sym same))))) q
               ∙ ap (λ z. z ++ things (tuples_to_come (slice_get sources'.items q))) (sym (own-sent e.wires.replay port (spread item) q))
@@ -368,7 +370,7 @@ module _ {O : Type 0} (m : Meaning O) (valid : O → Type 0) (e : Flow O) (flow 
           by : (b : Bool) → eqb actor e.wires.replay ≡ b → (done_at e.over (slice_get e.seats.items actor) || b) ≡ done_at true (slice_get e.seats.items actor)
           by true k =
               let r = flow.shaped.replay_is in
-              let here : actor ≡ e.wires.replay = eqb-yes actor e.wires.replay k in
+              let here : actor ≡ e.wires.replay = exact_unsigned_eq actor e.wires.replay k in
               let past : slice_get e.seats.items actor ≡ None = slice_get_past e.seats.items actor (omega (arith, r, here)) in
               rw past (or-true e.over)
           by false k =

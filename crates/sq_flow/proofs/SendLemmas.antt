@@ -1,5 +1,5 @@
 -- Pushes, one after another.
-use Rattle.std.proofs.Common.{◌≡◌, ◌≢◌, ℕ, zero, suc, ◌+◌, ◌<◌, ◌≤◌, eqb, cond, Bool, true, false, List, [], ◌∷◌, ◌++◌, length, get_or, Option, Some, None, refl, ap, sym, ◌∙◌, subst, append_assoc, append-nil, arith}
+use Rattle.std.proofs.Common.{◌≡◌, ◌≢◌, ℕ, zero, suc, ◌+◌, ◌<◌, ◌≤◌, eqb, cond, Bool, true, false, List, [], ◌∷◌, ◌++◌, length, get_or, Option, Some, refl, ap, sym, ◌∙◌, subst, append_assoc, append-nil, arith}
 use Rattle.std.specs.Prelude.{is_some, slice_get}
 use Rattle.std.proofs.lemmas.Option.{slice_get_within, get_or_from_slice_get}
 use Rattle.std.proofs.lemmas.List.Folds.{list_any_at}
@@ -8,15 +8,18 @@ use Rattle.sq_item.specs.Sound.{IsSoundItem}
 use Rattle.sq_item.specs.Things.{Thing, spread, spread_all}
 use Rattle.sq_outside.specs.Disks.{Pages}
 use Rattle.sq_left.specs.Heads.{AllFine}
-use Rattle.sq_left.proofs.MergeLemmas.{eqb-yes, eqb-no, eqb-same, eqb-not}
+use Rattle.sq_left.proofs.MergeLemmas.{eqb-no, eqb-not}
 use Rattle.sq_queue.specs.declared.Queues.{Queues}
 use Rattle.sq_pool.specs.Trust.{Tells}
-use Rattle.sq_paged.specs.Fronts.{pushed, first_time_or}
+use Rattle.sq_paged.specs.Fronts.{pushed}
 use Rattle.sq_queue.specs.Faces.{face, size, frames, items_on, Together}
 use Rattle.sq_flow.specs.declared.wires.Wires.{Wires}
 use Rattle.sq_flow.specs.Wiring.{arcs_from, times_in}
 use Rattle.sq_flow.specs.Sends.{many, sent_to, is_sent_by, Pushes}
 use Rattle.sq_words.specs.Lists.{contains_number}
+use Rattle.std.proofs.lemmas.Map.Views.{exact_unsigned_eq}
+use Rattle.sq_paged.proofs.LaneLemmas.{some-first}
+use Rattle.sq_words.proofs.Numbers.{eqb_true}
 
 pub spread_all-push : (xs : List Item) (i : Item) → spread_all (xs ++ i ∷ []) ≡ spread_all xs ++ spread i
 spread_all-push [] i = append-nil (spread i)
@@ -30,7 +33,7 @@ pub at_or_other : (P : ℕ → Type 0) (i : ℕ) → P i → ((j : ℕ) → j �
 at_or_other P i here others j = by (eqb j i) refl
   where
     by : (b : Bool) → eqb j i ≡ b → P j
-    by true e = subst P (sym (eqb-yes j i e)) here
+    by true e = subst P (sym (exact_unsigned_eq j i e)) here
     by false e = others j (eqb-no j i e)
 
 pub pushes-none : (q : Queues) (was : Option Pages) (more : ℕ → List Thing) (upto : ℕ → Type 0) (near : ℕ → Bool) → Together q was → ((arc : ℕ) → more arc ≡ []) → Pushes q q was was more upto near
@@ -67,10 +70,6 @@ pushes-both q q1 q2 p p1 p2 m m1 m2 u u1 u2 n n1 n2 a b both joins far =
       fine = λ told time v f. let w = both time v in b.fine told time w.1 (a.fine (b.tells told) time w.0 f);
     }
 
-first-grows : (o : Option ℕ) (time : ℕ) → is_some (first_time_or o time) ≡ true
-first-grows None time = refl
-first-grows (Some t) time = refl
-
 -- one item to one arc
 pub pushes-one : (q q' : Queues) (p p' : Option Pages) (at : ℕ) (item : Item) → IsSoundItem item
     → face q' at ≡ pushed (face q at) item.time → ((other : ℕ) → other ≢ at → face q' other ≡ face q other) → size q' ≡ size q → frames q' ≡ frames q
@@ -85,11 +84,11 @@ pushes-one q q' p p' at item sound here others lanes framed items apart together
       together = together;
       ended = at_or_other (λ arc. (face q' arc).ended ≡ (face q arc).ended) at (ap (λ f. f.ended) here) (λ arc ne. ap (λ f. f.ended) (others arc ne));
       grows = at_or_other (λ arc. is_some (face q arc).first ≡ true → is_some (face q' arc).first ≡ true) at
-          (λ h. ap (λ f. is_some f.first) here ∙ first-grows (face q at).first item.time)
+          (λ h. ap (λ f. is_some f.first) here ∙ some-first (face q at).first item.time)
           (λ arc ne h. ap (λ f. is_some f.first) (others arc ne) ∙ h);
       apart = λ arc h. others arc (λ e. eqb-no at arc h (sym e));
       items = λ told. at_or_other (λ arc. spread_all (items_on q' p' arc) ≡ spread_all (items_on q p arc) ++ cond (eqb at arc) (spread item) []) at
-          (ap spread_all (items told) ∙ spread_all-push (items_on q p at) item ∙ ap (λ b. spread_all (items_on q p at) ++ cond b (spread item) []) (sym (eqb-same at at refl)))
+          (ap spread_all (items told) ∙ spread_all-push (items_on q p at) item ∙ ap (λ b. spread_all (items_on q p at) ++ cond b (spread item) []) (sym (eqb_true at at refl)))
           (λ arc ne. ap spread_all (apart told arc ne) ∙ sym (append-nil (spread_all (items_on q p arc)))
           ∙ ap (λ b. spread_all (items_on q p arc) ++ cond b (spread item) []) (sym (eqb-not at arc (λ e. ne (sym e)))));
       fine = λ told time le f. at_or_other (λ arc. AllFine time (items_on q' p' arc)) at
@@ -132,7 +131,7 @@ not-in arcs at arc there away = eqb-not at arc (λ e. cc (ap (contains_number ar
 pub contains-get : (xs : List ℕ) (i x : ℕ) → slice_get xs i ≡ Some x → contains_number xs x ≡ true
 contains-get xs i x e =
     let low = slice_get_within xs i x e in
-    list_any_at (λ y. eqb y x) xs i 0 low (ap (λ y. eqb y x) (get_or_from_slice_get xs i x 0 e) ∙ eqb-same x x refl)
+    list_any_at (λ y. eqb y x) xs i 0 low (ap (λ y. eqb y x) (get_or_from_slice_get xs i x 0 e) ∙ eqb_true x x refl)
 
 -- the arcs but the last, and the last
 pub at-front : (arcs front : List ℕ) (last i : ℕ) → arcs ≡ front ++ last ∷ [] → i < length front → slice_get arcs i ≡ Some (get_or front i 0)

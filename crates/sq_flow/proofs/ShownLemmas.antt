@@ -12,10 +12,12 @@ use Rattle.sq_flow.specs.Wiring.{pushed_by}
 use Rattle.sq_flow.specs.Events.{lines_of, of_drop, drops_of, ShowsIn}
 use Rattle.sq_flow.specs.Plans.{plans_of}
 use Rattle.sq_flow.specs.Shows.{IsShown}
-use Rattle.sq_flow.proofs.EventLemmas.{bodies-append, output-is, output-below, stays-both, stays-same}
+use Rattle.sq_flow.proofs.EventLemmas.{output-is, output-below}
 use Rattle.sq_flow.proofs.DropLemmas.{all-split, decided-next, own-below}
 use Rattle.sq_flow.proofs.FutureLemmas.{not-pushed}
 use Rattle.sq_oper.specs.Streams.{tuples_in}
+use Rattle.sq_words.proofs.Prefixes.{prefix_itself, prefix_along}
+use Rattle.sq_oper.proofs.StreamLemmas.{tuples_append}
 
 pushed-append : (actor : ℕ) (xs ys : List (ℕ × Item)) (from to : ℕ) → pushed_by actor (xs ++ ys) from to ≡ pushed_by actor xs from to ++ pushed_by actor ys from to
 pushed-append actor xs ys from to = by (eqb actor from)
@@ -39,7 +41,7 @@ shown-first wires actor events =
       decided = λ w. sym (append-nil (drops_of w events));
       plans = refl;
       below = λ outputs low own h. h;
-      stay = stays-same events;
+      stay = prefix_itself events;
     }
 
 -- an item of an output
@@ -65,7 +67,7 @@ shown-none wires actor out events low =
       decided = λ w. sym (append-nil (drops_of w events));
       plans = refl;
       below = λ outputs is own h. h;
-      stay = stays-same events;
+      stay = prefix_itself events;
     }
 
 -- one item more
@@ -78,11 +80,11 @@ shown-item wires actor items drops out events mid events' first next =
           next.lines o ∙ ap (λ z. z ++ tuples_in (more (wires.shown + o))) (first.lines o)
           ∙ append_assoc (lines_of o events) (tuples_in (pushed_by actor items (wires.shown + o) 0)) (tuples_in (more (wires.shown + o)))
           ∙ ap (λ z. lines_of o events ++ z)
-          (sym (ap tuples_in (pushed-append actor items (out ∷ []) (wires.shown + o) 0) ∙ bodies-append (pushed_by actor items (wires.shown + o) 0) (more (wires.shown + o))));
+          (sym (ap tuples_in (pushed-append actor items (out ∷ []) (wires.shown + o) 0) ∙ tuples_append (pushed_by actor items (wires.shown + o) 0) (more (wires.shown + o))));
       decided = λ w. next.decided w ∙ append-nil (drops_of w mid) ∙ first.decided w;
       plans = next.plans ∙ first.plans;
       below = λ outputs low own h. next.below outputs low tt (first.below outputs low own h);
-      stay = stays-both events mid events' first.stay next.stay;
+      stay = prefix_along events mid events' first.stay next.stay;
     }
 
 -- one decision more
@@ -99,5 +101,5 @@ shown-drop wires actor items drops d events mid events' first decided lines plan
       below = λ outputs low own h.
           let each = all-split _ drops (d ∷ []) own in
           below outputs (wires.shown - wires.sheds) (own-below wires actor (d ∷ []) each.1).0 (first.below outputs low each.0 h);
-      stay = stays-both events mid events' first.stay stay;
+      stay = prefix_along events mid events' first.stay stay;
     }

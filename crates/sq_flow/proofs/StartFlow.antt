@@ -20,7 +20,8 @@ use Rattle.sq_flow.specs.Seats.{Meaning, rest_at, done_at, moment_at, holds_at, 
 use Rattle.sq_flow.specs.Flows.{world_of, IsFlow, HoldsItems, RiseFrom, to_release}
 use Rattle.sq_flow.specs.Starts.{IsNewSeat}
 use Rattle.sq_flow.specs.Plans.{arrivals, last_arrival, add_counts, streams_left, counts_of, IsPlanned, plans_left}
-use Rattle.sq_flow.proofs.PlanLemmas.{add-zeros, arrivals-len, flat-same, zeros-low}
+use Rattle.sq_flow.proofs.PlanLemmas.{add-zeros, arrivals-len, flat-same}
+use Rattle.sq_words.proofs.Lists.{zeros_at}
 
 module _ {O : Type 0} (m : Meaning O) (valid : O → Type 0) (e : Flow O)
     (shaped : IsShaped e.wires (length e.seats.items)) (lanes : size e.queues ≡ length e.wires.arcs.items)
@@ -128,4 +129,4 @@ module _ {O : Type 0} (e : Flow O) (closed : e.levels.closed ≡ 1) (rows : e.le
 
 -- at most a million tuples of each source, of which none is counted
 pub few-first : (n : ℕ) (counts : List ℕ) (source many : ℕ) → counts ≡ replicate n 0 → many ≤ 1000000 → slice_index counts source + many ≤ 1000000
-few-first n counts source many none few = let low = ap (λ l. slice_index l source) none ∙ zeros-low n source in omega (arith, low, few)
+few-first n counts source many none few = let low = ap (λ l. slice_index l source) none ∙ zeros_at n source in omega (arith, low, few)

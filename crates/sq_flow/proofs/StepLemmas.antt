@@ -20,9 +20,9 @@ use Rattle.sq_plan.specs.Shown.{level_for}
 use Rattle.sq_words.specs.Lists.{IsPrefixOf}
 use Rattle.sq_flow.specs.Flows.{HoldsItems, Stepped, ShowsPrefix, NoneStrange, CostsFed, StepCosts, TooMuchOnly, items_in, decisions_left, left_on, fed_at_last, sum_below, work_at_last}
 use Rattle.sq_flow.proofs.CauseLemmas.{changed-since}
-use Rattle.sq_flow.proofs.SumLemmas.{sum-same}
 use Rattle.sq_flow.proofs.ArcLemmas.{ends-chain}
 use Rattle.sq_flow.specs.Readiness.{IsReady}
+use Rattle.sq_flow.proofs.DoneLemmas.{sums-agree}
 
 module _ {O : Type 0} (m : Meaning O) (valid : O → Type 0) where
   module _ (p p1 : Option Pages) (f f1 : Flow O) (e e1 : List Event) (first : Stepped m valid p p1 f f1 e e1) where
@@ -92,7 +92,7 @@ module _ {O : Type 0} (m : Meaning O) (valid : O → Type 0) where
     work-same : Tells p1 → (table : ℕ → ℕ → ℕ) → AgreesWith f1.levels table → HoldsItems m table (items_in f p) f
         → work_at_last m table (items_in f p) f ≡ work_at_last m table (items_in f1 p1) f1
     work-same told table agrees h =
-        sum-same (fed_at_last m table (items_in f p) f) (fed_at_last m table (items_in f1 p1) f1) (length f.seats.items) ((first.goes told table agrees h).fed)
+        sums-agree (fed_at_last m table (items_in f p) f) (fed_at_last m table (items_in f1 p1) f1) (length f.seats.items) ((first.goes told table agrees h).fed)
         ∙ ap (sum_below (fed_at_last m table (items_in f1 p1) f1)) (sym first.seats)
 
     pub costs-after : (f2 : Flow O) (before mid after : ℕ) → CostsFed m f f1 before mid → CostsFed m f1 f2 mid after → CostsFed m f f2 before after

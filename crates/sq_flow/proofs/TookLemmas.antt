@@ -5,7 +5,7 @@ use Rattle.std.specs.List.{sum_by}
 use Rattle.std.proofs.lemmas.List.Sums.{sum_by-cons}
 use Rattle.std.proofs.lemmas.Option.{same_Some, slice_get_past}
 use Rattle.sq_left.specs.Left.{Net, is_known_actor, Each, IsLaidOut}
-use Rattle.sq_left.proofs.MergeLemmas.{eqb-yes, eqb-same, eqb-not}
+use Rattle.sq_left.proofs.MergeLemmas.{eqb-not}
 use Rattle.sq_paged.specs.Fronts.{Face, IsPopped}
 use Rattle.sq_queue.specs.declared.Queues.{Queues}
 use Rattle.sq_queue.specs.Faces.{face}
@@ -18,6 +18,8 @@ use Rattle.sq_flow.specs.Seats.{done_at}
 use Rattle.sq_flow.specs.Flows.{count_all}
 use Rattle.sq_flow.specs.Readiness.{to_take, Took}
 use Rattle.sq_flow.proofs.TouchLemmas.{away-from}
+use Rattle.std.proofs.lemmas.Map.Views.{exact_unsigned_eq}
+use Rattle.sq_words.proofs.Numbers.{eqb_true}
 
 sums-stay : (xs : List ℕ) (g h : ℕ → ℕ) → ((p x : ℕ) → slice_get xs p ≡ Some x → h x ≡ g x) → sum_by h xs ≡ sum_by g xs
 sums-stay [] g h same = refl
@@ -46,7 +48,7 @@ each-at P (y ∷ xs) (suc i) x h is = each-at P xs i x h.1 is
 -- no operator reads what it gives
 reads-others : (net : Net) (order : List ℕ) → IsLaidOut net order → (actor : ℕ) → is_known_actor net order actor ≡ true → actor ≢ net.replay
     → (port arc : ℕ) → slice_get (net.arcs actor) port ≡ Some arc → net.from arc ≢ actor
-reads-others net [] wired actor k ne port arc is = absurd (ne (eqb-yes actor net.replay k))
+reads-others net [] wired actor k ne port arc is = absurd (ne (exact_unsigned_eq actor net.replay k))
 reads-others net (last ∷ earlier) wired actor k ne port arc is = by (λ e. reads-others net earlier wired.2 actor e ne port arc is) (is_known_actor net earlier actor) refl
   where
     last-of : (b c : Bool) → c ≡ false → (b || c) ≡ true → b ≡ true
@@ -56,7 +58,7 @@ reads-others net (last ∷ earlier) wired actor k ne port arc is = by (λ e. rea
     by : (is_known_actor net earlier actor ≡ true → net.from arc ≢ actor) → (b : Bool) → is_known_actor net earlier actor ≡ b → net.from arc ≢ actor
     by sooner true e = sooner e
     by sooner false e = λ same.
-        let here : actor ≡ last = eqb-yes actor last (last-of (eqb actor last) (is_known_actor net earlier actor) e k) in
+        let here : actor ≡ last = exact_unsigned_eq actor last (last-of (eqb actor last) (is_known_actor net earlier actor) e k) in
         let before = (each-at (λ a. (a < net.size) × (is_known_actor net earlier (net.from a) ≡ true)) (net.arcs last) port arc wired.1 (ap (λ n. slice_get (net.arcs n) port) (sym here) ∙ is)).1 in
         cc (sym e ∙ ap (is_known_actor net earlier) (sym same) ∙ before)
 
@@ -108,7 +110,7 @@ replay-took e e' fed finished seats counts done =
   where
     by : {O : Type 0} (f : Flow O) (actor : ℕ) → actor ≡ length f.seats.items → to_take f actor ≡ count_all f.sources.items
     by f actor same =
-        ap (λ b. cond b (count_all f.sources.items) (sum_by (λ arc. (face f.queues arc).count) (arcs_read f.wires actor))) (eqb-same actor (length f.seats.items) same)
+        ap (λ b. cond b (count_all f.sources.items) (sum_by (λ arc. (face f.queues arc).count) (arcs_read f.wires actor))) (eqb_true actor (length f.seats.items) same)
 
 -- an operator that was fed goes on, and one that was finished doesn't
 pub goes-on : {O : Type 0} (over : Bool) (a b : Option (Seat O)) (s s' : Seat O) → a ≡ Some s → b ≡ Some s' → s'.tally.running ≡ s.tally.running → done_at over a ≡ false → false ≡ done_at over b

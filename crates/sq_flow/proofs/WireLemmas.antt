@@ -5,7 +5,6 @@ use Rattle.std.proofs.lemmas.Option.{same_Some}
 use Rattle.sq_item.specs.declared.Item.{Item}
 use Rattle.sq_item.specs.Things.{Thing, spread}
 use Rattle.sq_oper.specs.Given.{given}
-use Rattle.sq_left.proofs.MergeLemmas.{eqb-yes, eqb-same}
 use Rattle.sq_queue.specs.Faces.{face, size}
 use Rattle.sq_flow.specs.declared.wires.Wires.{Wires}
 use Rattle.sq_flow.specs.declared.flow.Flow.{Flow}
@@ -15,12 +14,14 @@ use Rattle.sq_flow.specs.Sends.{many, sent_to, is_sent_by}
 use Rattle.sq_flow.specs.Flows.{IsFlow}
 use Rattle.sq_words.specs.Lists.{contains_number}
 use Rattle.sq_flow.proofs.WiringWords.{sent}
+use Rattle.std.proofs.lemmas.Map.Views.{exact_unsigned_eq}
+use Rattle.sq_words.proofs.Numbers.{eqb_true}
 
 times-some : (xs : List ℕ) (place x : ℕ) → slice_get xs place ≡ Some x → times_in x xs ≢ 0
 times-some [] place x is = λ h. cc is
 times-some (y ∷ xs) zero x is = λ h.
     let same : y ≡ x = same_Some y x is in
-    let one : ◌≡◌ {A = ℕ} (cond (eqb y x) 1 0) 1 = ap (λ b. cond b 1 0) (eqb-same y x same) in
+    let one : ◌≡◌ {A = ℕ} (cond (eqb y x) 1 0) 1 = ap (λ b. cond b 1 0) (eqb_true y x same) in
     omega (arith, one, h)
 times-some (y ∷ xs) (suc place) x is = λ h. let r = times-some xs place x is in r (omega (arith, h))
 
@@ -29,7 +30,7 @@ contains-place [] x h = cc h
 contains-place (y ∷ xs) x h = by (contains-place xs x) (eqb y x) refl h
   where
     by : (contains_number xs x ≡ true → (place : ℕ) × (slice_get xs place ≡ Some x)) → (b : Bool) → eqb y x ≡ b → (b || contains_number xs x) ≡ true → (place : ℕ) × (slice_get (y ∷ xs) place ≡ Some x)
-    by later true e k = (0, ap Some (eqb-yes y x e))
+    by later true e k = (0, ap Some (exact_unsigned_eq y x e))
     by later false e k = let r = later k in (suc r.0, r.1)
 
 many-sent : (n : ℕ) (b c : Bool) (xs : List Thing) → n ≡ cond b (cond c 1 0) 0 → many n xs ≡ cond b (cond c xs []) []
@@ -49,13 +50,13 @@ module _ (wires : Wires) (ops : ℕ) (shaped : IsShaped wires ops) where
       by : (b : Bool) → eqb actor (from_of (slice_get wires.arcs.items arc)) ≡ b
           → times_in arc (arcs_from wires actor port) ≡ cond b (cond (eqb port (arc_port (slice_get wires.arcs.items arc))) 1 0) 0
           → actor ≡ from_of (slice_get wires.arcs.items arc)
-      by true e h = eqb-yes actor (from_of (slice_get wires.arcs.items arc)) e
+      by true e h = exact_unsigned_eq actor (from_of (slice_get wires.arcs.items arc)) e
       by false e h = absurd (times-some (arcs_from wires actor port) place arc is h)
 
   pub comes-from : (actor port arc : ℕ) → contains_number (arcs_from wires actor port) arc ≡ true → is_sent_by wires actor arc ≡ true
   comes-from actor port arc there =
       let at = contains-place (arcs_from wires actor port) arc there in
-      eqb-same (from_of (slice_get wires.arcs.items arc)) actor (sym (reads-from actor port at.0 arc at.1).1)
+      eqb_true (from_of (slice_get wires.arcs.items arc)) actor (sym (reads-from actor port at.0 arc at.1).1)
 
   pub one-sent : (actor port arc : ℕ) (xs : List Thing) → arc < length wires.arcs.items
       → many (times_in arc (arcs_from wires actor port)) xs ≡ sent actor port xs (from_of (slice_get wires.arcs.items arc)) (arc_port (slice_get wires.arcs.items arc))

@@ -6,7 +6,7 @@ use Rattle.sq_graph.specs.declared.BoxWires.{BoxWires}
 use Rattle.sq_graph.specs.declared.Wiring.{Wiring}
 use Rattle.sq_graph.specs.Wires.{Producer, Source, Port, producers_of, producer_of}
 use Rattle.sq_graph.proofs.Givers.{ports_of_box}
-use Rattle.sq_graph.proofs.Reach.{all_append, at_get}
+use Rattle.sq_words.proofs.Alls.{all_append, all_at}
 
 -- a source of this wiring, or a port of one of its boxes
 abbrev pub IsProducer : Wiring → Producer → Type 0
@@ -33,7 +33,7 @@ boxes_are w i (b ∷ boxes) h =
 
 pub producer_is : (w : Wiring) (s : ℕ) (p : Producer) → producer_of w s ≡ Some p → IsProducer w p
 producer_is w s p e =
-    at_get (IsProducer w) (producers_of w) s p
+    all_at (IsProducer w) (producers_of w) s p
     (all_append (IsProducer w) (map Source (numbers_to w.sources)) (flat_map ports_of_box (enumerate_from 0 w.boxes))
     (sources_are w 0 w.sources (omega arith))
     (boxes_are w 0 w.boxes (λ j b e. (let same : 0 + j ≡ j = omega arith in ap (λ (k : ℕ). slice_get w.boxes k) same ∙ e))))

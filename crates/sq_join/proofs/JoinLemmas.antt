@@ -15,7 +15,6 @@ use Rattle.sq_item.specs.Sound.{IsSoundItem}
 use Rattle.sq_item.specs.Things.{Thing, mark_part, body_part}
 use Rattle.sq_lists.specs.Pairs.{pairs_from, join_list_of}
 use Rattle.sq_lists.specs.Sides.{held_of, recent, pair_at, pairs_with, against, left_with, right_with, AllNear}
-use Rattle.sq_lists.proofs.AllLemmas.{All-weaker, All-push}
 use Rattle.sq_lists.proofs.WindowLemmas.{lower}
 use Rattle.sq_oper.specs.declared.tally.Place.{Place}
 use Rattle.sq_oper.specs.declared.tally.Place.TheVariants.{Start}
@@ -23,13 +22,15 @@ use Rattle.sq_oper.specs.Entries.{Entry, at_port, entries}
 use Rattle.sq_oper.specs.Given.{ThingsUpTo}
 use Rattle.sq_oper.specs.Order.{time_of, unmarked, IsFuture}
 use Rattle.sq_oper.specs.Streams.{IsSoundTuple, things, at_zero}
-use Rattle.sq_oper.proofs.GivenLemmas.{IsPrefixOf-append, IsPrefixOf-trans}
+use Rattle.sq_oper.proofs.GivenLemmas.{IsPrefixOf-append}
 use Rattle.sq_oper.proofs.StreamLemmas.{things-append, at_zero-append, at_zero-nil, UpTo-things, UpTo-at_zero}
 use Rattle.sq_oper.proofs.FedLemmas.{tuple_at, read-fed, time-before-item, no_body}
 use Rattle.sq_join.specs.Elements.{elements_of, side_of}
 use Rattle.sq_join.specs.Sides.{join_rest, most_at, join_fits, IsSide}
 use Rattle.sq_lists.proofs.SideLemmas.{All-recent, rises-recent, rises-push, near-recent, gives-now, gives-later}
 use Rattle.sq_join.proofs.TurnLemmas.{merged, turn-since, future-turn, future-sides, fit-side}
+use Rattle.sq_words.proofs.Prefixes.{prefix_along}
+use Rattle.sq_words.proofs.Alls.{all_weaker, all_push}
 
 pub join_nil : (size : ℕ) (on : Expr) (left right : List Tuple) (q : ℕ) → join_rest size on left right [] q ≡ []
 join_nil size on left right q = at_zero-nil q
@@ -50,7 +51,7 @@ elements-fed port item fields future is = read-fed elements_of (λ port time m e
 side-recent : (size most now t : ℕ) (xs : List Tuple) → IsSide most now xs → now ≤ t → IsSide most t (recent size t xs)
 side-recent size most now t xs h le = record {
   rises = rises-recent size t xs h.rises;
-  early = All-recent (λ x. x.time ≤ t) size t xs (All-weaker (λ x. x.time ≤ now) (λ x. x.time ≤ t) (λ x k. omega (arith, le, k)) xs h.early);
+  early = All-recent (λ x. x.time ≤ t) size t xs (all_weaker (λ x. x.time ≤ now) (λ x. x.time ≤ t) (λ x k. omega (arith, le, k)) xs h.early);
   some = All-recent (λ x. 1 ≤ length x.fields) size t xs h.some;
   few = All-recent (λ x. length x.fields ≤ most) size t xs h.few;
 }
@@ -58,9 +59,9 @@ side-recent size most now t xs h le = record {
 side-push : (most : ℕ) (xs : List Tuple) (x : Tuple) → IsSide most x.time xs → 1 ≤ length x.fields → length x.fields ≤ most → IsSide most x.time (xs ++ x ∷ [])
 side-push most xs x h some few = record {
   rises = rises-push 0 xs x h.rises h.early zero-le;
-  early = All-push (λ y. y.time ≤ x.time) xs x h.early (omega arith);
-  some = All-push (λ y. 1 ≤ length y.fields) xs x h.some some;
-  few = All-push (λ y. length y.fields ≤ most) xs x h.few few;
+  early = all_push (λ y. y.time ≤ x.time) xs x h.early (omega arith);
+  some = all_push (λ y. 1 ≤ length y.fields) xs x h.some some;
+  few = all_push (λ y. length y.fields ≤ most) xs x h.few few;
 }
 
 -- a pair may go out
@@ -158,7 +159,7 @@ module _ (size : ℕ) (on : Expr) (columns : Columns) (left right : List Tuple) 
   pub near_left : AllNear size item.time (left_with port fed kept-left)
   near_left =
       elim (port == 0) as (λ b. AllNear size item.time (if b then kept-left ++ fed ∷ [] else kept-left)) [
-        | true ↦ All-push (λ x. item.time ≤ x.time + size) kept-left fed left-near (omega arith)
+        | true ↦ all_push (λ x. item.time ≤ x.time + size) kept-left fed left-near (omega arith)
         | false ↦ left-near
       ]
 
@@ -166,7 +167,7 @@ module _ (size : ℕ) (on : Expr) (columns : Columns) (left right : List Tuple) 
   near_right =
       elim (port == 0) as (λ b. AllNear size item.time (if b then kept-right else kept-right ++ fed ∷ [])) [
         | true ↦ right-near
-        | false ↦ All-push (λ x. item.time ≤ x.time + size) kept-right fed right-near (omega arith)
+        | false ↦ all_push (λ x. item.time ≤ x.time + size) kept-right fed right-near (omega arith)
       ]
 
   -- each pair may go out
@@ -218,7 +219,7 @@ module _ (size : ℕ) (on : Expr) (columns : Columns) (left right : List Tuple) 
     fed_prefix q before after h =
         let rest = join_rest size on (left_with port fed kept-left) (right_with port fed kept-right) future q in
         let same = ap (λ l. before ++ l) (rest-fed q) ∙ sym (append_assoc before (at_zero q (things given-now)) rest) in
-        rw same (IsPrefixOf-trans after (before ++ at_zero q (things given-now)) ((before ++ at_zero q (things given-now)) ++ rest) h (IsPrefixOf-append (before ++ at_zero q (things given-now)) rest))
+        rw same (prefix_along after (before ++ at_zero q (things given-now)) ((before ++ at_zero q (things given-now)) ++ rest) h (IsPrefixOf-append (before ++ at_zero q (things given-now)) rest))
 
   against-early : AllByRecursion (λ y. y.time ≤ item.time) (against port kept-left kept-right)
   against-early = elim (port == 0) as (λ b. AllByRecursion (λ y. y.time ≤ item.time) (if b then kept-right else kept-left)) [ true ↦ right-side.early | false ↦ left-side.early ]

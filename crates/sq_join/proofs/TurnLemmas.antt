@@ -9,7 +9,6 @@ use Rattle.sq_value.specs.Values.{Columns}
 use Rattle.sq_item.specs.Things.{Load, Sign, Body}
 use Rattle.sq_lists.specs.Merge.{tuple_earlier, merge_tuples}
 use Rattle.sq_lists.specs.Sides.{on_side}
-use Rattle.sq_lists.proofs.AllLemmas.{All-weaker}
 use Rattle.sq_oper.specs.declared.tally.Place.{Place}
 use Rattle.sq_oper.specs.declared.tally.Place.TheVariants.{Start, At}
 use Rattle.sq_oper.specs.Entries.{Entry}
@@ -20,6 +19,7 @@ use Rattle.sq_oper.proofs.FedLemmas.{tuple_entry}
 use Rattle.sq_join.specs.Elements.{Element, elements_of, side_of}
 use Rattle.sq_join.specs.Sides.{most_at, join_fits}
 use Rattle.sq_join.proofs.ElementWords.{TwoSides, InTurn, moment_port}
+use Rattle.sq_words.proofs.Alls.{all_weaker}
 
 -- ---- the merge
 
@@ -62,7 +62,7 @@ pub turn-since : (t side : ℕ) (es : List Element) → InTurn t side es → All
 turn-since t side [] turn = tt
 turn-since t side (e ∷ es) turn =
     let le = turn.0.0 in
-    (le, All-weaker (λ (a : Element). (e.1).time ≤ (a.1).time) (λ (a : Element). t ≤ (a.1).time) (λ a h. omega (arith, le, h)) es (turn-since (e.1).time e.0 es turn.1))
+    (le, all_weaker (λ (a : Element). (e.1).time ≤ (a.1).time) (λ (a : Element). t ≤ (a.1).time) (λ a h. omega (arith, le, h)) es (turn-since (e.1).time e.0 es turn.1))
 
 all-if : (P : Tuple → Type 0) (b : Bool) (e : Element) (es : List Element) → P e.1 → AllByRecursion P (map (λ (e : Element). e.1) es)
     → AllByRecursion P (map (λ (e : Element). e.1) (cond b (e ∷ es) es))
@@ -74,7 +74,7 @@ not-earlier t p side [] turn = tt
 not-earlier t p side (e ∷ es) turn =
     let le = turn.0.0 in
     all-if (λ a. t ≤ a.time) (e.0 == side) e (filter (λ e. e.0 == side) es) le
-    (All-weaker (λ a. (e.1).time ≤ a.time) (λ a. t ≤ a.time) (λ a h. omega (arith, le, h)) (side_of side es) (not-earlier (e.1).time e.0 side es turn.1))
+    (all_weaker (λ a. (e.1).time ≤ a.time) (λ a. t ≤ a.time) (λ a h. omega (arith, le, h)) (side_of side es) (not-earlier (e.1).time e.0 side es turn.1))
 
 strictly : (a b : ℕ) → a ≤ b → (a ≡ b → 1 ≤ 0) → (c d : Bool) → nat_lt a b ≡ c → (a == b) ≡ d → a < b
 strictly a b le at true d e e' = grind (arith, tests)
@@ -87,13 +87,13 @@ left-by t e es (inl is) first more ih two =
     let at : t ≡ (e.1).time → 1 ≤ 0 = λ h. let k = first.1 h in omega (arith, is, k) in
     let lt : t < (e.1).time = strictly t (e.1).time first.0 at (nat_lt t (e.1).time) (t == (e.1).time) refl refl in
     all-if (λ a. t < a.time) (e.0 == 0) e (filter (λ e. e.0 == 0) es) lt
-    (All-weaker (λ a. (e.1).time ≤ a.time) (λ a. t < a.time) (λ a h. omega (arith, lt, h)) (side_of 0 es) (not-earlier (e.1).time e.0 0 es more))
+    (all_weaker (λ a. (e.1).time ≤ a.time) (λ a. t < a.time) (λ a h. omega (arith, lt, h)) (side_of 0 es) (not-earlier (e.1).time e.0 0 es more))
 left-by t e es (inr is) first more ih two =
     let le = first.0 in
     let skip : (e.0 == 0) ≡ false = grind (arith, tests) in
     let rest = ih (subst (λ (p : ℕ). InTurn (e.1).time p es) is more) two in
     subst (λ (b : Bool). AllByRecursion (λ a. t < a.time) (map (λ (e : Element). e.1) (cond b (e ∷ filter (λ e. e.0 == 0) es) (filter (λ e. e.0 == 0) es)))) (sym skip)
-    (All-weaker (λ a. (e.1).time < a.time) (λ a. t < a.time) (λ a h. omega (arith, le, h)) (side_of 0 es) rest)
+    (all_weaker (λ a. (e.1).time < a.time) (λ a. t < a.time) (λ a h. omega (arith, le, h)) (side_of 0 es) rest)
 
 -- after one on the right each on the left is later
 left-later : (t : ℕ) (es : List Element) → InTurn t 1 es → TwoSides es → AllByRecursion (λ a. t < a.time) (side_of 0 es)

@@ -1,19 +1,11 @@
 -- Words as they are read.
-use Rattle.std.proofs.Common.{◌≡◌, ◌+◌, Bool, false, List, [], ◌∷◌, ◌++◌, length, append_assoc, refl, ap, sym, arith, inl, inr, Option, None, Some}
-use Rattle.std.specs.List.{list_any, position_or_len}
+use Rattle.std.proofs.Common.{◌≡◌, ◌+◌, List, [], ◌∷◌, ◌++◌, length, append_assoc, refl, ap, sym, Option, None, Some}
+use Rattle.std.specs.List.{position_or_len}
 use Rattle.std.specs.Option.{option_map}
-use Rattle.std.proofs.lemmas.Bool.{cases_Bool}
 use Rattle.sq_keys.specs.declared.Pair.{Pair}
 use Rattle.sq_keys.specs.Words.{pair_in, pairs_in}
 use Rattle.sq_value.specs.CommandWords.{Word, is_equals}
-
--- where no element passes none is first
-none_first : {X : Type 0} (p : X → Bool) (xs : List X) → position_or_len p xs ≡ length xs → list_any p xs ≡ false
-none_first p [] e = refl
-none_first p (x ∷ xs) e = elim (cases_Bool (p x)) [
-  | inl passes ↦ let zero : 0 ≡ length (x ∷ xs) = rw passes at e in absurd (omega (arith, zero))
-  | inr fails ↦ let more : 1 + position_or_len p xs ≡ length (x ∷ xs) = rw fails at e in rw (fails, none_first p xs (omega (arith, more))) refl
-]
+use Rattle.sq_words.proofs.Lists.{none_first}
 
 pub no_pair : (w : Word) → position_or_len is_equals w ≡ length w → pair_in w ≡ None
 no_pair w e = rw (none_first is_equals w e) refl

@@ -4,9 +4,9 @@ use Rattle.std.specs.Ordering.{match_ordering, is_eq, ordering_reverse}
 use Rattle.std.specs.Cmp.{IsTotalOrder}
 use Rattle.std.specs.List.{AllByRecursion, filter}
 use Rattle.sq_words.specs.Lists.{add_to, ascending}
-use Rattle.sq_lists.proofs.AllLemmas.{All-weaker}
 use Rattle.sq_aggfn.specs.Folds.{joined_from}
 use Rattle.sq_aggfn.specs.Keyed.{added, keyed_from}
+use Rattle.sq_words.proofs.Alls.{all_weaker}
 
 module _ {G : Type 0} (cmp : G → G → Ordering) (order : IsTotalOrder cmp) (same : (x y : G) → cmp x y ≡ Equal → x ≡ y) where
   flip : (x y : G) (o : Ordering) → cmp x y ≡ o → cmp y x ≡ ordering_reverse o
@@ -58,7 +58,7 @@ module _ {G : Type 0} (cmp : G → G → Ordering) (order : IsTotalOrder cmp) (s
 
   Climbs-add-by : (x y : G) (ys : List G) → Climbs (y ∷ ys) → Climbs (add_to cmp x ys) → (o : Ordering) → cmp x y ≡ o
       → Climbs (match_ordering o (x ∷ y ∷ ys) (y ∷ ys) (y ∷ add_to cmp x ys))
-  Climbs-add-by x y ys h ih Less e = ((e, All-weaker (λ z. cmp y z ≡ Less) (λ z. cmp x z ≡ Less) (λ z k. order.trans x y z e k) ys h.0), h)
+  Climbs-add-by x y ys h ih Less e = ((e, all_weaker (λ z. cmp y z ≡ Less) (λ z. cmp x z ≡ Less) (λ z k. order.trans x y z e k) ys h.0), h)
   Climbs-add-by x y ys h ih Equal e = h
   Climbs-add-by x y ys h ih Greater e = (All-add (λ z. cmp y z ≡ Less) x ys (flip x y Greater e) h.0, ih)
 
@@ -119,13 +119,13 @@ module _ {G : Type 0} (cmp : G → G → Ordering) (order : IsTotalOrder cmp) (s
           → match_ordering o ((g, join none u) ∷ with f (h ∷ hs)) ((g, join (f h) u) ∷ with f hs) ((h, f h) ∷ added cmp none join g u (with f hs))
           ≡ with f' (match_ordering o (g ∷ h ∷ hs) (h ∷ hs) (h ∷ add_to cmp g hs))
       add-with-by h hs up absent ih Less e =
-          let above = All-weaker (λ y. cmp h y ≡ Less) (λ y. cmp g y ≡ Less) (λ y k. order.trans g h y e k) hs up.0 in
+          let above = all_weaker (λ y. cmp h y ≡ Less) (λ y. cmp g y ≡ Less) (λ y k. order.trans g h y e k) hs up.0 in
           ap (λ m. (g, m) ∷ with f (h ∷ hs)) (sym (absent (has-above g (h ∷ hs) (e, above))))
-          ∙ ap (λ l. (g, f' g) ∷ l) (with-same f f' (h ∷ hs) (sym (there h (ap is_eq e)), All-weaker (λ y. cmp g y ≡ Less) (λ y. f y ≡ f' y) (λ y k. sym (there y (ap is_eq k))) hs above))
+          ∙ ap (λ l. (g, f' g) ∷ l) (with-same f f' (h ∷ hs) (sym (there h (ap is_eq e)), all_weaker (λ y. cmp g y ≡ Less) (λ y. f y ≡ f' y) (λ y k. sym (there y (ap is_eq k))) hs above))
       add-with-by h hs up absent ih Equal e =
           ap (λ k. (k, join (f h) u) ∷ with f hs) (same g h e)
           ∙ ap (λ m. (h, m) ∷ with f hs) (sym (here h e))
-          ∙ ap (λ l. (h, f' h) ∷ l) (with-same f f' hs (All-weaker (λ y. cmp h y ≡ Less) (λ y. f y ≡ f' y) (λ y k. sym (there y (ap is_eq (order.congr g h y e ∙ k)))) hs up.0))
+          ∙ ap (λ l. (h, f' h) ∷ l) (with-same f f' hs (all_weaker (λ y. cmp h y ≡ Less) (λ y. f y ≡ f' y) (λ y k. sym (there y (ap is_eq (order.congr g h y e ∙ k)))) hs up.0))
       add-with-by h hs up absent ih Greater e =
           ap (λ m. (h, m) ∷ added cmp none join g u (with f hs)) (sym (there h (ap is_eq e)))
           ∙ ap (λ l. (h, f' h) ∷ l) (ih (λ k. absent (ap (λ o. is_eq o || has g hs) e ∙ k)))

@@ -10,7 +10,7 @@ use Rattle.sq_value.specs.declared.Value.{Value}
 use Rattle.sq_value.specs.declared.Tuple.{Tuple}
 use Rattle.sq_value.specs.Values.{IsStream}
 use Rattle.sq_words.specs.Lists.{Rising, ports_from, ports_of, least_by, max_by}
-use Rattle.sq_value.proofs.Sorting.{sort_rising}
+use Rattle.sq_words.proofs.Sorting.{sort_rising, all_sort}
 use Rattle.sq_expr.specs.Trees.{Expr}
 use Rattle.sq_expr.specs.Expressions.{holds_of, pair_of}
 use Rattle.sq_aggfn.specs.Functions.{answers_of}
@@ -28,8 +28,8 @@ use Rattle.sq_lists.specs.Keeps.{KeepStreams}
 use Rattle.sq_lists.proofs.LeastLemmas.{holds-least}
 use Rattle.sq_lists.proofs.NearLemmas.{resample_keeps}
 use Rattle.sq_lists.proofs.SorterFacts.{timed-is}
-use Rattle.sq_lists.proofs.AllLemmas.{All-weaker, All-filter, All-push, All-sort}
 use Rattle.sq_lists.proofs.WindowLemmas.{stream_rises, stream_ticks}
+use Rattle.sq_words.proofs.Alls.{all_weaker, all_push, all_filter}
 
 abbrev IsTick : Tuple → Type 0
 IsTick x = x.time < 2 ^ 40
@@ -84,7 +84,7 @@ entries-from : (least : ℕ) (es : List PortTuple) → AllByRecursion (λ e. lea
     → StreamFrom least (map (λ e. e.1) es)
 entries-from least [] low ticks up = tt
 entries-from least (e ∷ es) low ticks up =
-    let later = All-weaker (λ f. tuple_earlier f e ≡ false) (λ f. (e.1).time ≤ (f.1).time) (λ f h. not-before (f.1).time (e.1).time h) es up.0 in
+    let later = all_weaker (λ f. tuple_earlier f e ≡ false) (λ f. (e.1).time ≤ (f.1).time) (λ f h. not-before (f.1).time (e.1).time h) es up.0 in
     (low.0, ticks.0, entries-from (e.1).time es later ticks.1 up.1)
   where
     not-before : (a b : ℕ) → nat_lt a b ≡ false → b ≤ a
@@ -93,8 +93,8 @@ entries-from least (e ∷ es) low ticks up =
 merge-from : (ins : List (List Tuple)) → AllByRecursion IsStream ins → StreamFrom 0 (union ins)
 merge-from ins all =
     let sorted = merge_tuples ins in
-    let any = All-weaker (λ e. IsTick e.1) (λ e. 0 ≤ (e.1).time) (λ e h. omega arith) in
-    let ticks = All-sort (λ e. IsTick e.1) tuple_earlier (ports_of ins) (ports-ticks 0 ins all) in
+    let any = all_weaker (λ e. IsTick e.1) (λ e. 0 ≤ (e.1).time) (λ e h. omega arith) in
+    let ticks = all_sort (λ e. IsTick e.1) tuple_earlier (ports_of ins) (ports-ticks 0 ins all) in
     entries-from 0 sorted (any sorted ticks) ticks (sort_rising tuple_earlier (IsStrictWeakOrder-by_number (λ e. (e.1).time)) (ports_of ins))
 
 union_keeps : (ins : List (List Tuple)) → AllByRecursion IsStream ins → IsStream (union ins)
@@ -116,14 +116,14 @@ enumerate-ticks n (x ∷ xs) all = (all.0, enumerate-ticks (n + 1) xs all.1)
 
 All-without : (P : Numbered → Type 0) (o : Option Numbered) (rest : List Numbered) → AllByRecursion P rest → AllByRecursion P (without_number o rest)
 All-without P None rest all = all
-All-without P (Some a) rest all = All-filter P _ rest all
+All-without P (Some a) rest all = all_filter P _ rest all
 
 chosen-ticks : (slack j count : ℕ) (rest : List Numbered) → AllByRecursion (λ a. IsTick a.1) rest → AllByRecursion IsTick (sorted_within slack j count rest)
 chosen-ticks slack j zero rest all = tt
 chosen-ticks slack j (suc count) rest all =
     let near = filter (λ a. nat_le a.0 (j + slack)) rest in
     let next = least_by numbered_sooner near in
-    let least = holds-least numbered_sooner (λ a. IsTick a.1) near (All-filter (λ a. IsTick a.1) (λ a. nat_le a.0 (j + slack)) rest all) in
+    let least = holds-least numbered_sooner (λ a. IsTick a.1) near (all_filter (λ a. IsTick a.1) (λ a. nat_le a.0 (j + slack)) rest all) in
     onto next (sorted_within slack (j + 1) count (without_number next rest)) least (chosen-ticks slack (j + 1) count (without_number next rest) (All-without (λ a. IsTick a.1) next rest all))
   where
     onto : (o : Option Numbered) (more : List Tuple) → IfSome o (λ a. IsTick a.1) → AllByRecursion IsTick more → AllByRecursion IsTick (tuple_if o ++ more)
@@ -190,7 +190,7 @@ NoneAfter time before = AllByRecursion (λ b. (b.1).time ≤ time) before
 
 none-after : (time : ℕ) (before : List PortTuple) (now : PortTuple) → time ≤ (now.1).time → NoneAfter time before → NoneAfter (now.1).time (before ++ now ∷ [])
 none-after time before now le all =
-    All-push (λ b. (b.1).time ≤ (now.1).time) before now (All-weaker (λ b. (b.1).time ≤ time) (λ b. (b.1).time ≤ (now.1).time) (λ b h. omega (arith, h, le)) before all) (omega arith)
+    all_push (λ b. (b.1).time ≤ (now.1).time) before now (all_weaker (λ b. (b.1).time ≤ time) (λ b. (b.1).time ≤ (now.1).time) (λ b h. omega (arith, h, le)) before all) (omega arith)
 
 -- a pair with an earlier one has the time of the later one
 paired-time : (now b : PortTuple) → (b.1).time ≤ (now.1).time → (paired now b).time ≡ (now.1).time
@@ -208,8 +208,8 @@ module _ (size : ℕ) (on : Expr) where
   pairs-times : (time : ℕ) (now : PortTuple) (before : List PortTuple) → time ≤ (now.1).time → NoneAfter time before → AllByRecursion (λ p. p.time ≡ (now.1).time) (pairs_of size on before now)
   pairs-times time now before le all =
       let met = filter (meets size now) before in
-      All-filter (λ p. p.time ≡ (now.1).time) (holds_of on) (map (paired now) met)
-      (paired-times time now met le (All-filter (λ b. (b.1).time ≤ time) (meets size now) before all))
+      all_filter (λ p. p.time ≡ (now.1).time) (holds_of on) (map (paired now) met)
+      (paired-times time now met le (all_filter (λ b. (b.1).time ≤ time) (meets size now) before all))
 
   -- tuples of one time, and then later ones
   same-time : (time : ℕ) (ps more : List Tuple) → time < 2 ^ 40 → AllByRecursion (λ p. p.time ≡ time) ps → StreamFrom time more → StreamFrom time (ps ++ more)

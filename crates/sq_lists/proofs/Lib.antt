@@ -12,3 +12,4 @@ pub mod SideLemmas
 mod PairRows
 pub mod NearLemmas
 mod ResampleRows
+pub mod LateLemmas

@@ -9,22 +9,20 @@ use Rattle.std.proofs.lemmas.List.Elements.{filter-append}
 use Rattle.std.proofs.lemmas.List.MinMax.{IsStrictWeakOrder-by_number}
 use Rattle.sq_value.specs.declared.Tuple.{Tuple}
 use Rattle.sq_words.specs.Lists.{Rising, ports_of}
-use Rattle.sq_value.proofs.Sorting.{sort_rising}
+use Rattle.sq_words.proofs.Sorting.{sort_rising, all_sort}
 use Rattle.sq_expr.specs.Trees.{Expr}
 use Rattle.sq_expr.specs.Expressions.{holds_of}
 use Rattle.sq_lists.specs.Merge.{PortTuple, tuple_earlier, merge_tuples}
 use Rattle.sq_lists.specs.Pairs.{meets, paired, pairs_of, pairs_from}
 use Rattle.sq_lists.specs.Sides.{on_side, held_of, recent, pair_at, pairs_with, against, left_with, right_with, AllNear}
 use Rattle.sq_lists.specs.WindowParts.{TimesNotFalling}
-use Rattle.sq_lists.proofs.AllLemmas.{All-weaker, All-append, All-push, All-sort}
 use Rattle.sq_lists.proofs.WindowLemmas.{lower}
+use Rattle.sq_words.proofs.Alls.{all_append, all_weaker, all_push}
+use Rattle.sq_words.proofs.Numbers.{eq_itself}
 
 -- each comes at the left or at the right side
 abbrev pub TwoSides : List PortTuple → Type 0
 TwoSides es = AllByRecursion (λ e. (e.0 ≡ 0) ⊎ (e.0 ≡ 1)) es
-
-itself : (n : ℕ) → (n == n) ≡ true
-itself n = grind (arith, tests)
 
 -- what is more than the size before a time is so before each later time
 far : (size t u x : ℕ) → nat_lt size (t - x) ≡ true → t ≤ u → nat_le (abs_diff u x) size ≡ false
@@ -44,7 +42,7 @@ module _ (size : ℕ) (on : Expr) where
   own-side : (side : ℕ) (x : Tuple) (ys : List Tuple) → pairs_of size on (on_side side ys) (side, x) ≡ []
   own-side side x [] = refl
   own-side side x (y ∷ ys) =
-      ap (λ b. filter (holds_of on) (map (paired (side, x)) (cond (not b && nat_le (abs_diff x.time y.time) size) ((side, y) ∷ filter (meets size (side, x)) (on_side side ys)) (filter (meets size (side, x)) (on_side side ys))))) (itself side)
+      ap (λ b. filter (holds_of on) (map (paired (side, x)) (cond (not b && nat_le (abs_diff x.time y.time) size) ((side, y) ∷ filter (meets size (side, x)) (on_side side ys)) (filter (meets size (side, x)) (on_side side ys))))) (eq_itself side)
       ∙ own-side side x ys
 
   -- those that are let go of
@@ -200,25 +198,25 @@ pub record Held (xs : List Tuple) (coming : List PortTuple) : Type 0 where
   pub early : AllByRecursion (λ y. AllByRecursion (λ e. y.time ≤ (e.1).time) coming) xs
 
 since : (side : ℕ) (x : Tuple) (es : List PortTuple) → AllByRecursion (λ e. tuple_earlier e (side, x) ≡ false) es → AllByRecursion (λ e. x.time ≤ (e.1).time) es
-since side x es up = All-weaker (λ e. tuple_earlier e (side, x) ≡ false) (λ e. x.time ≤ (e.1).time) (λ e h. grind (arith, tests, h)) es up
+since side x es up = all_weaker (λ e. tuple_earlier e (side, x) ≡ false) (λ e. x.time ≤ (e.1).time) (λ e h. grind (arith, tests, h)) es up
 
 module _ (size : ℕ) (on : Expr) (side : ℕ) (x : Tuple) (es : List PortTuple) (is : (side ≡ 0) ⊎ (side ≡ 1)) (rises : Rising tuple_earlier ((side, x) ∷ es)) where
   at-now : (xs : List Tuple) → Held xs ((side, x) ∷ es) → AllByRecursion (λ y. y.time ≤ x.time) (recent size x.time xs)
   at-now xs h =
       All-recent (λ y. y.time ≤ x.time) size x.time xs
-      (All-weaker (λ y. AllByRecursion (λ e. y.time ≤ (e.1).time) ((side, x) ∷ es)) (λ y. y.time ≤ x.time) (λ y all. all.0) xs h.early)
+      (all_weaker (λ y. AllByRecursion (λ e. y.time ≤ (e.1).time) ((side, x) ∷ es)) (λ y. y.time ≤ x.time) (λ y all. all.0) xs h.early)
 
   held-on : (xs : List Tuple) → Held xs ((side, x) ∷ es) → Held (recent size x.time xs) es
   held-on xs h = record {
     rises = rises-recent size x.time xs h.rises;
     early = All-recent (λ y. AllByRecursion (λ e. y.time ≤ (e.1).time) es) size x.time xs
-        (All-weaker (λ y. AllByRecursion (λ e. y.time ≤ (e.1).time) ((side, x) ∷ es)) (λ y. AllByRecursion (λ e. y.time ≤ (e.1).time) es) (λ y all. all.1) xs h.early);
+        (all_weaker (λ y. AllByRecursion (λ e. y.time ≤ (e.1).time) ((side, x) ∷ es)) (λ y. AllByRecursion (λ e. y.time ≤ (e.1).time) es) (λ y all. all.1) xs h.early);
   }
 
   held-more : (xs : List Tuple) → Held xs ((side, x) ∷ es) → Held (recent size x.time xs ++ x ∷ []) es
   held-more xs h = record {
     rises = rises-push 0 (recent size x.time xs) x (rises-recent size x.time xs h.rises) (at-now xs h) zero-le;
-    early = All-push (λ y. AllByRecursion (λ e. y.time ≤ (e.1).time) es) (recent size x.time xs) x (held-on xs h).early (since side x es rises.0);
+    early = all_push (λ y. AllByRecursion (λ e. y.time ≤ (e.1).time) es) (recent size x.time xs) x (held-on xs h).early (since side x es rises.0);
   }
 
   pub held_left : (left : List Tuple) → Held left ((side, x) ∷ es) → Held (left_with side x (recent size x.time left)) es
@@ -247,6 +245,6 @@ merge_rises ins = sort_rising tuple_earlier (IsStrictWeakOrder-by_number (λ e. 
 -- a merge of two streams has two sides
 pub merge_sides : (left right : List Tuple) → TwoSides (merge_tuples (left ∷ right ∷ []))
 merge_sides left right =
-    All-sort (λ e. (e.0 ≡ 0) ⊎ (e.0 ≡ 1)) tuple_earlier (ports_of (left ∷ right ∷ []))
-    (All-append (λ e. (e.0 ≡ 0) ⊎ (e.0 ≡ 1)) (on_side 0 left) (on_side 1 right ++ []) (all-at 0 left (inl refl))
-    (All-append (λ e. (e.0 ≡ 0) ⊎ (e.0 ≡ 1)) (on_side 1 right) [] (all-at 1 right (inr refl)) tt))
+    all_sort (λ e. (e.0 ≡ 0) ⊎ (e.0 ≡ 1)) tuple_earlier (ports_of (left ∷ right ∷ []))
+    (all_append (λ e. (e.0 ≡ 0) ⊎ (e.0 ≡ 1)) (on_side 0 left) (on_side 1 right ++ []) (all-at 0 left (inl refl))
+    (all_append (λ e. (e.0 ≡ 0) ⊎ (e.0 ≡ 1)) (on_side 1 right) [] (all-at 1 right (inr refl)) tt))

@@ -9,7 +9,7 @@ use Rattle.sq_value.specs.declared.Tuple.{Tuple}
 use Rattle.sq_value.specs.Values.{field}
 use Rattle.sq_lists.specs.Sorting.{Numbered, numbered_sooner, time_in, at_time, without_late}
 use Rattle.sq_lists.specs.Sorters.{put_in, first_of_all, after_first, latest_of, chosen_of, kept_back, SorterState, IsSorter, sort_next, sort_gives, sort_flush, sort_run, sort_first, sort_after, timed, next_with, gives_with}
-use Rattle.sq_lists.proofs.AllLemmas.{All-weaker}
+use Rattle.sq_words.proofs.Alls.{all_weaker}
 
 -- a tuple that is given the time of its field has at most the time that it had, and the same values
 pub timed-is : (by : ℕ) (x : Tuple) → IfSome (timed by x) (λ y. (y.time ≤ x.time) × (y.fields ≡ x.fields))
@@ -73,7 +73,7 @@ next-keeps s x h =
     let full = put_in (s.number, x) s.held in
     record {
       below = All-kept (λ a. a.0 < s.number + 1) s.slack full
-          (All-put (λ a. a.0 < s.number + 1) (s.number, x) s.held (omega arith) (All-weaker (λ a. a.0 < s.number) (λ a. a.0 < s.number + 1) (λ a k. omega (arith, k)) s.held h.below));
+          (All-put (λ a. a.0 < s.number + 1) (s.number, x) s.held (omega arith) (all_weaker (λ a. a.0 < s.number) (λ a. a.0 < s.number + 1) (λ a k. omega (arith, k)) s.held h.below));
       few = length-kept-by s.slack full (rw (length-put (s.number, x) s.held) (omega (arith, h.few))) (nat_lt s.slack (length full)) refl;
       counted = omega (arith, chosen-length s.latest s.slack full, length-put (s.number, x) s.held, h.counted);
     }

@@ -8,8 +8,9 @@ use Rattle.sq_value.specs.declared.Tuple.{Tuple}
 use Rattle.sq_words.specs.Lists.{insert_by, sort_by, least_by, lesser}
 use Rattle.sq_lists.specs.Sorting.{Numbered, numbered_sooner, without_number, tuple_if, sorted_within, without_late}
 use Rattle.sq_lists.specs.Sorters.{put_in, first_of_all, after_first, SorterState, new_sorter, latest_of, chosen_of, kept_back, sort_next, sort_gives, sort_run}
-use Rattle.sq_lists.proofs.AllLemmas.{All-weaker, All-push}
 use Rattle.sq_lists.proofs.LeastLemmas.{first_option, rest_of, rem_with, rem_least, least-sort, rem-sort, holds-least, All-rem}
+use Rattle.sq_words.proofs.Alls.{all_weaker, all_push}
+use Rattle.sq_words.proofs.Numbers.{nat_le_true}
 
 -- the numbers ascend
 abbrev Ascend : List Numbered → Type 0
@@ -38,12 +39,12 @@ without-with : (x : Numbered) (l : Option Numbered) (xs less : List Numbered) �
     → without_number (Some (lesser numbered_sooner x l)) (x ∷ xs) ≡ rem_with numbered_sooner x l xs less
 without-with x None xs less later h eq =
     ap (λ b. cond b (x ∷ filter (λ b. not (b.0 == x.0)) xs) (filter (λ b. not (b.0 == x.0)) xs)) (same x.0)
-    ∙ filter-all (λ b. not (b.0 == x.0)) xs (All-weaker (λ b. x.0 < b.0) (λ b. not (b.0 == x.0) ≡ true) (λ b k. apart x.0 b.0 k) xs later)
+    ∙ filter-all (λ b. not (b.0 == x.0)) xs (all_weaker (λ b. x.0 < b.0) (λ b. not (b.0 == x.0) ≡ true) (λ b k. apart x.0 b.0 k) xs later)
 without-with x (Some y) xs less later h eq =
     elim (numbered_sooner y x) as (λ b. without_number (Some (if b then y else x)) (x ∷ xs) ≡ (if b then x ∷ less else xs)) [
       | true ↦ ap (λ b. cond b (x ∷ filter (λ b. not (b.0 == y.0)) xs) (filter (λ b. not (b.0 == y.0)) xs)) (apart' x.0 y.0 h) ∙ ap (λ l. x ∷ l) eq
       | false ↦ ap (λ b. cond b (x ∷ filter (λ b. not (b.0 == x.0)) xs) (filter (λ b. not (b.0 == x.0)) xs)) (same x.0)
-          ∙ filter-all (λ b. not (b.0 == x.0)) xs (All-weaker (λ b. x.0 < b.0) (λ b. not (b.0 == x.0) ≡ true) (λ b k. apart x.0 b.0 k) xs later)
+          ∙ filter-all (λ b. not (b.0 == x.0)) xs (all_weaker (λ b. x.0 < b.0) (λ b. not (b.0 == x.0) ≡ true) (λ b k. apart x.0 b.0 k) xs later)
     ]
 
 without-least : (xs : List Numbered) → Ascend xs → without_number (least_by numbered_sooner xs) xs ≡ rem_least numbered_sooner xs
@@ -63,7 +64,7 @@ Ascend-rem (x ∷ xs) up =
 
 Ascend-push : (k : ℕ) (x : Tuple) (xs : List Numbered) → AllByRecursion (λ b. b.0 < k) xs → Ascend xs → Ascend (xs ++ (k, x) ∷ [])
 Ascend-push k x [] below up = (tt, tt)
-Ascend-push k x (y ∷ ys) below up = (All-push (λ b. y.0 < b.0) ys (k, x) up.0 below.0, Ascend-push k x ys below.1 up.1)
+Ascend-push k x (y ∷ ys) below up = (all_push (λ b. y.0 < b.0) ys (k, x) up.0 below.0, Ascend-push k x ys below.1 up.1)
 
 length-rem : (x : Numbered) (xs : List Numbered) → length (rem_least numbered_sooner (x ∷ xs)) ≡ length xs
 length-rem x [] = refl
@@ -105,9 +106,6 @@ length-sort : (xs : List Numbered) → length (sort_by numbered_sooner xs) ≡ l
 length-sort [] = refl
 length-sort (x ∷ xs) = length-insert x (sort_by numbered_sooner xs) ∙ ap suc (length-sort xs)
 
-le-true : (a b : ℕ) → a ≤ b → nat_le a b ≡ true
-le-true a b h = grind (arith, tests)
-
 le-false : (a b : ℕ) → b < a → nat_le a b ≡ false
 le-false a b h = grind (arith, tests)
 
@@ -132,9 +130,9 @@ drain slack j (suc n) [] len up low = absurd (grind arith)
 drain slack j (suc n) (x ∷ xs) len up low =
     let all = x ∷ xs in
     let later = drain slack (j + 1) n (rem_least numbered_sooner all) (length-rem x xs ∙ grind arith) (Ascend-rem all up)
-    (All-weaker (λ b. b.0 ≤ j + slack) (λ b. b.0 ≤ j + 1 + slack) (λ b k. omega arith) (rem_least numbered_sooner all) (All-rem numbered_sooner (λ b. b.0 ≤ j + slack) all low)) in
+    (all_weaker (λ b. b.0 ≤ j + slack) (λ b. b.0 ≤ j + 1 + slack) (λ b k. omega arith) (rem_least numbered_sooner all) (All-rem numbered_sooner (λ b. b.0 ≤ j + slack) all low)) in
     let kept : filter (λ a. nat_le a.0 (j + slack)) all ≡ all =
-    filter-all (λ a. nat_le a.0 (j + slack)) all (All-weaker (λ b. b.0 ≤ j + slack) (λ b. nat_le b.0 (j + slack) ≡ true) (λ b k. le-true b.0 (j + slack) k) all low) in
+    filter-all (λ a. nat_le a.0 (j + slack)) all (all_weaker (λ b. b.0 ≤ j + slack) (λ b. nat_le b.0 (j + slack) ≡ true) (λ b k. nat_le_true b.0 (j + slack) k) all low) in
     ap (λ l. tuple_if (least_by numbered_sooner l) ++ sorted_within slack (j + 1) n (without_number (least_by numbered_sooner l) all)) kept
     ∙ ap (λ l. tuple_if (least_by numbered_sooner all) ++ sorted_within slack (j + 1) n l) (without-least all up)
     ∙ ap (λ o. tuple_if o ++ sorted_within slack (j + 1) n (rem_least numbered_sooner all)) (least-sort numbered_sooner all)
@@ -163,8 +161,8 @@ within-front : (m : ℕ) (within more : List Numbered) → AllByRecursion (λ b.
     → filter (λ a. nat_le a.0 m) (within ++ more) ≡ within
 within-front m within more low high =
     filter-append (λ a. nat_le a.0 m) within more
-    ∙ ap (λ l. l ++ filter (λ a. nat_le a.0 m) more) (filter-all (λ a. nat_le a.0 m) within (All-weaker (λ b. b.0 ≤ m) (λ b. nat_le b.0 m ≡ true) (λ b k. le-true b.0 m k) within low))
-    ∙ ap (λ l. within ++ l) (filter-none (λ a. nat_le a.0 m) more (All-weaker (λ b. m < b.0) (λ b. nat_le b.0 m ≡ false) (λ b k. le-false b.0 m k) more high))
+    ∙ ap (λ l. l ++ filter (λ a. nat_le a.0 m) more) (filter-all (λ a. nat_le a.0 m) within (all_weaker (λ b. b.0 ≤ m) (λ b. nat_le b.0 m ≡ true) (λ b k. nat_le_true b.0 m k) within low))
+    ∙ ap (λ l. within ++ l) (filter-none (λ a. nat_le a.0 m) more (all_weaker (λ b. m < b.0) (λ b. nat_le b.0 m ≡ false) (λ b k. le-false b.0 m k) more high))
     ∙ append-nil within
 
 without-append : (m : ℕ) (o : Option Numbered) (within more : List Numbered) → IfSome o (λ b. b.0 ≤ m) → AllByRecursion (λ b. m < b.0) more
@@ -173,7 +171,7 @@ without-append m None within more low high = refl
 without-append m (Some a) within more low high =
     filter-append (λ b. not (b.0 == a.0)) within more
     ∙ ap (λ l. filter (λ b. not (b.0 == a.0)) within ++ l)
-    (filter-all (λ b. not (b.0 == a.0)) more (All-weaker (λ b. m < b.0) (λ b. not (b.0 == a.0) ≡ true) (λ b k. apart a.0 b.0 (omega arith)) more high))
+    (filter-all (λ b. not (b.0 == a.0)) more (all_weaker (λ b. m < b.0) (λ b. not (b.0 == a.0) ≡ true) (λ b k. apart a.0 b.0 (omega arith)) more high))
 
 module _ (slack : ℕ) where
   -- one step, where the sorter is full
@@ -188,7 +186,7 @@ module _ (slack : ℕ) where
 
   below-push : (k : ℕ) (x : Tuple) (xs : List Numbered) → AllByRecursion (λ b. b.0 < k) xs → AllByRecursion (λ b. b.0 < k + 1) (xs ++ (k, x) ∷ [])
   below-push k x xs below =
-      All-push (λ b. b.0 < k + 1) xs (k, x) (All-weaker (λ b. b.0 < k) (λ b. b.0 < k + 1) (λ b h. omega arith) xs below) (omega arith)
+      all_push (λ b. b.0 < k + 1) xs (k, x) (all_weaker (λ b. b.0 < k) (λ b. b.0 < k + 1) (λ b h. omega arith) xs below) (omega arith)
 
   length-push : (k : ℕ) (x : Tuple) (xs : List Numbered) → length (xs ++ (k, x) ∷ []) ≡ length xs + 1
   length-push k x xs = length-append xs ((k, x) ∷ [])
@@ -212,7 +210,7 @@ module _ (slack : ℕ) where
       ap (λ l. first_of_all (sort_by numbered_sooner grown) ++ raw slack l (k + 1) xs) (after-of (sort_by numbered_sooner grown) ∙ sym (rem-sort numbered_sooner grown))
       ∙ ap (λ l. first_of_all (sort_by numbered_sooner grown) ++ l) (later ∙ ap (λ n. sorted_within slack (j + 1) (n + length xs) (rem_least numbered_sooner grown ++ enumerate_from (k + 1) xs)) (length-rem-push k x held))
       ∙ sym (step-full j k grown (enumerate_from (k + 1) xs) (length held + length xs) (Ascend-push k x held below up) (omega arith)
-      (All-weaker (λ b. b.0 < k + 1) (λ b. b.0 ≤ k) (λ b h. omega arith) grown (below-push k x held below)) (enumerate-above k (k + 1) xs (omega arith)))
+      (all_weaker (λ b. b.0 < k + 1) (λ b. b.0 ≤ k) (λ b h. omega arith) grown (below-push k x held below)) (enumerate-above k (k + 1) xs (omega arith)))
       ∙ ap (λ n. sorted_within slack j n (grown ++ enumerate_from (k + 1) xs)) (let e : suc (length held + length xs) ≡ length held + suc (length xs) = omega arith in e)
   raw-step x xs j k held up below at room ih false e =
       let grown = held ++ (k, x) ∷ [] in
@@ -224,7 +222,7 @@ module _ (slack : ℕ) where
       → raw slack (sort_by numbered_sooner held) k xs ≡ sorted_within slack j (length held + length xs) (held ++ enumerate_from k xs)
   raw-chosen [] j k held up below at room =
       sym (ap (λ l. sorted_within slack j (length held + 0) l) (append-nil held)
-      ∙ drain slack j (length held + 0) held (omega arith) up (All-weaker (λ b. b.0 < k) (λ b. b.0 ≤ j + slack) (λ b h. omega arith) held below))
+      ∙ drain slack j (length held + 0) held (omega arith) up (all_weaker (λ b. b.0 < k) (λ b. b.0 ≤ j + slack) (λ b h. omega arith) held below))
   raw-chosen (x ∷ xs) j k held up below at room =
       ap (λ full. chosen_of slack full ++ raw slack (kept_back slack full) (k + 1) xs) (sym (sort-push (k, x) held))
       ∙ raw-step x xs j k held up below at room (raw-chosen xs) (nat_lt slack (length (sort_by numbered_sooner (held ++ (k, x) ∷ [])))) refl

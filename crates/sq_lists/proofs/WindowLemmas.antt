@@ -19,14 +19,9 @@ use Rattle.sq_aggfn.specs.Keyed.{keyed_from}
 use Rattle.sq_aggfn.specs.declared.WindowSpec.{WindowSpec}
 use Rattle.sq_lists.specs.Windows.{in_group, groups_of, in_window, window_results, aggregate_of}
 use Rattle.sq_lists.proofs.GroupLemmas.{keyed-list}
-use Rattle.sq_lists.proofs.AllLemmas.{All-weaker}
 use Rattle.sq_lists.specs.WindowParts.{leading, told_results, numbered_results, TimesNotFalling}
-
-pub range-split : (a n m : ℕ) → range_with_len a (n + m) ≡ range_with_len a n ++ range_with_len (a + n) m
-range-split a zero m = ap (range_with_len a) (let e : 0 + m ≡ m = omega arith in e) ∙ ap (λ k. range_with_len k m) (let e : a ≡ a + 0 = omega arith in e)
-range-split a (suc n) m =
-    ap (λ k. range_with_len a k) (let e : suc n + m ≡ suc (n + m) = omega arith in e)
-    ∙ ap (λ l. a ∷ l) (range-split (a + 1) n m ∙ ap (λ k. range_with_len (a + 1) n ++ range_with_len k m) (let e : a + 1 + n ≡ a + suc n = omega arith in e))
+use Rattle.sq_words.proofs.Ranges.{range_split}
+use Rattle.sq_words.proofs.Alls.{all_weaker}
 
 -- two functions that agree on the numbers of a range
 pub flat_map-range : {A : Type 0} (f g : ℕ → List A) (a n : ℕ) → ((p : ℕ) → a ≤ p → p < a + n → f p ≡ g p) → flat_map f (range_with_len a n) ≡ flat_map g (range_with_len a n)
@@ -117,7 +112,7 @@ module _ (answers : List Tuple → List Value) (by : List ℕ) (w : WindowSpec) 
   parts : (xs : List Tuple) (a b c : ℕ) → a ≤ b → b ≤ c → numbered_results answers by w xs a c ≡ numbered_results answers by w xs a b ++ numbered_results answers by w xs b c
   parts xs a b c ab bc =
       ap (λ n. flat_map (numbered xs) (range_with_len a n)) (let e : c - a ≡ (b - a) + (c - b) = omega arith in e)
-      ∙ ap (flat_map (numbered xs)) (range-split a (b - a) (c - b))
+      ∙ ap (flat_map (numbered xs)) (range_split a (b - a) (c - b))
       ∙ flat_map-append (numbered xs) (range_with_len a (b - a)) (range_with_len (a + (b - a)) (c - b))
       ∙ ap (λ k. numbered_results answers by w xs a b ++ flat_map (numbered xs) (range_with_len k (c - b))) (let e : a + (b - a) ≡ b = omega arith in e)
 
@@ -172,7 +167,7 @@ module _ (w : WindowSpec) (moves : 0 < w.advance) where
 
     -- the later tuples are in no window that is gone over
     pub begun_step : (x : Tuple) (xs : List Tuple) → TimesNotFalling x.time xs → AllByRecursion (λ y. started w x.time ≤ started w y.time) xs
-    begun_step x xs up = All-weaker (λ y. x.time ≤ y.time) (λ y. started w x.time ≤ started w y.time) (λ y le. started_more w moves x.time y.time le) xs (all-later x.time xs up)
+    begun_step x xs up = all_weaker (λ y. x.time ≤ y.time) (λ y. started w x.time ≤ started w y.time) (λ y le. started_more w moves x.time y.time le) xs (all-later x.time xs up)
 
 -- what is told of the groups is the results
 module _ {M : Type 0} (none : M) (join : M → M → M) (one : Tuple → M) (told : M → List Value) (table : List Tuple → List Value) (tells : (xs : List Tuple) → told (joined_from join one none xs) ≡ table xs) where

@@ -10,43 +10,16 @@ use Rattle.sq_tagged.specs.Boxes.{is_open, opens, gate_of}
 use Rattle.sq_place.specs.Ranks.{Somewhere}
 use Rattle.sq_marks.proofs.Lists.{filter-same}
 use Rattle.sq_marks.proofs.Bounds.{bound-less}
-use Rattle.sq_marks.proofs.Nearness.{All-weaker, Somewhere-weaker}
+use Rattle.sq_marks.proofs.Nearness.{Somewhere-weaker}
 use Rattle.sq_marks.proofs.Keeping.{marks_of, bound-reaches}
 use Rattle.sq_words.specs.Lists.{contains_number}
 use Rattle.sq_marks.proofs.ArcWords.{marked, AllTimes, IsNear}
-
-filter-both : {X : Type 0} (p q : X → Bool) (xs : List X) → filter q (filter p xs) ≡ filter (λ x. p x && q x) xs
-filter-both p q [] = refl
-filter-both p q (x ∷ xs) = by (filter-both p q xs) (p x) (q x) refl
-  where
-    by : filter q (filter p xs) ≡ filter (λ x. p x && q x) xs → (a b : Bool) → q x ≡ b
-        → filter q (cond a (x ∷ filter p xs) (filter p xs)) ≡ cond (a && q x) (x ∷ filter (λ x. p x && q x) xs) (filter (λ x. p x && q x) xs)
-    by more true b e = ap (λ zs. cond (q x) (x ∷ zs) zs) more
-    by more false b e = more
+use Rattle.sq_words.proofs.Lists.{contains_filter, filter_both}
+use Rattle.sq_words.proofs.Alls.{all_weaker}
 
 All-both : {X : Type 0} (P Q : X → Type 0) (xs : List X) → AllByRecursion P xs → AllByRecursion Q xs → AllByRecursion (λ x. P x × Q x) xs
 All-both P Q [] p q = tt
 All-both P Q (x ∷ xs) p q = ((p.0, q.0), All-both P Q xs p.1 q.1)
-
-pub contains-filter : (p : ℕ → Bool) (bs : List ℕ) (b : ℕ) → contains_number (filter p bs) b ≡ (contains_number bs b && p b)
-contains-filter p [] b = refl
-contains-filter p (x ∷ xs) b = by (contains-filter p xs b) (p x) (eqb x b) refl refl
-  where
-    eq : (a k : ℕ) → eqb a k ≡ true → a ≡ k
-    eq a k h = grind (arith, nat_tests)
-
-    by : contains_number (filter p xs) b ≡ (contains_number xs b && p b) → (c d : Bool) → p x ≡ c → eqb x b ≡ d
-        → contains_number (cond c (x ∷ filter p xs) (filter p xs)) b ≡ ((d || contains_number xs b) && p b)
-    by more true true pc pd = rw pd (sym pc ∙ ap p (eq x b pd))
-    by more true false pc pd = rw pd more
-    by more false true pc pd =
-        let no : p b ≡ false = ap p (sym (eq x b pd)) ∙ pc in
-        more ∙ ap (λ z. contains_number xs b && z) no ∙ last (contains_number xs b) ∙ sym no
-      where
-        last : (c : Bool) → (c && false) ≡ false
-        last true = refl
-        last false = refl
-    by more false false pc pd = more
 
 module _ (dropped : ℕ → Bool) (until : ℕ → ℕ) (len : ℕ) (one : 1 ≤ len) where
   -- at the start of a batch stands an open mark exactly where it is touched and permitted
@@ -157,7 +130,7 @@ module _ (dropped : ℕ → Bool) (until : ℕ → ℕ) (len : ℕ) (one : 1 ≤
         shut = opened d touched (t / len) ∙ ap (λ z. z && not (dropped (t / len))) here
 
         recorded : contains_number (filter dropped touched) (t / len) ≡ dropped (t / len)
-        recorded = contains-filter dropped touched (t / len) ∙ ap (λ z. z && dropped (t / len)) here
+        recorded = contains_filter dropped touched (t / len) ∙ ap (λ z. z && dropped (t / len)) here
 
         by : (c : Bool) → dropped (t / len) ≡ c
             → (ltb t (bound_at (lessened_by d (marks_of dropped until len one touched)) t) && list_any (opens (t / len * len)) (lessened_by d (marks_of dropped until len one touched)))
@@ -173,10 +146,10 @@ module _ (dropped : ℕ → Bool) (until : ℕ → ℕ) (len : ℕ) (one : 1 ≤
     pub gate-shows : (full : List Tuple) → AllTimes (IsNear above d) full → AllTimes (λ t. t + least ≤ (t / len + 1) * len) full
         → gate_of len (marked (marks_of dropped until len one touched) d full) ≡ filter (λ x. not (contains_number (filter dropped touched) (x.time / len))) full
     gate-shows full near starts =
-        filter-both (λ x. ltb x.time (bound_at (lessened_by d (marks_of dropped until len one touched)) x.time)) (λ x. list_any (opens (x.time / len * len)) (lessened_by d (marks_of dropped until len one touched))) full
+        filter_both (λ x. ltb x.time (bound_at (lessened_by d (marks_of dropped until len one touched)) x.time)) (λ x. list_any (opens (x.time / len * len)) (lessened_by d (marks_of dropped until len one touched))) full
         ∙ filter-same (λ x. ltb x.time (bound_at (lessened_by d (marks_of dropped until len one touched)) x.time) && list_any (opens (x.time / len * len)) (lessened_by d (marks_of dropped until len one touched)))
         (λ x. not (contains_number (filter dropped touched) (x.time / len))) full
-        (All-weaker (λ x. IsNear above d x.time × (x.time + least ≤ (x.time / len + 1) * len))
+        (all_weaker (λ x. IsNear above d x.time × (x.time + least ≤ (x.time / len + 1) * len))
         (λ x. (ltb x.time (bound_at (lessened_by d (marks_of dropped until len one touched)) x.time) && list_any (opens (x.time / len * len)) (lessened_by d (marks_of dropped until len one touched)))
         ≡ not (contains_number (filter dropped touched) (x.time / len)))
         (λ x r. test-same x.time r) full (All-both (λ x. IsNear above d x.time) (λ x. x.time + least ≤ (x.time / len + 1) * len) full near starts))

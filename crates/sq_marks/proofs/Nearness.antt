@@ -15,6 +15,7 @@ use Rattle.sq_place.specs.Ranks.{Somewhere}
 use Rattle.sq_marks.proofs.Unions.{time_of, union-sorted}
 use Rattle.sq_marks.proofs.Orders.{by_key}
 use Rattle.sq_marks.proofs.ArcWords.{AllTimes, IsNear}
+use Rattle.sq_words.proofs.Alls.{all_weaker}
 
 module _ {X : Type 0} (P : X → Type 0) where
   pub All-append : (xs ys : List X) → AllByRecursion P xs → AllByRecursion P ys → AllByRecursion P (xs ++ ys)
@@ -56,10 +57,6 @@ module _ {X : Type 0} (P : X → Type 0) where
   pub All-flat_map : {Y : Type 0} (f : Y → List X) → ((y : Y) → AllByRecursion P (f y)) → (ys : List Y) → AllByRecursion P (flat_map f ys)
   All-flat_map f h [] = tt
   All-flat_map f h (y ∷ ys) = All-append (f y) (flat_map f ys) (h y) (All-flat_map f h ys)
-
-pub All-weaker : {X : Type 0} (P Q : X → Type 0) → ((x : X) → P x → Q x) → (xs : List X) → AllByRecursion P xs → AllByRecursion Q xs
-All-weaker P Q h [] all = tt
-All-weaker P Q h (x ∷ xs) all = (h x all.0, All-weaker P Q h xs all.1)
 
 pub Somewhere-weaker : {X : Type 0} (P Q : X → Type 0) → ((x : X) → P x → Q x) → (xs : List X) → Somewhere P xs → Somewhere Q xs
 Somewhere-weaker P Q h [] i = absurd i
@@ -128,7 +125,7 @@ near-itself above = every above (λ x i. i)
 
 pub near-farther : (above : List Tuple) (d e : ℕ) → d ≤ e → (xs : List Tuple) → AllTimes (IsNear above d) xs → AllTimes (IsNear above e) xs
 near-farther above d e le xs h =
-    All-weaker (λ x. IsNear above d x.time) (λ x. IsNear above e x.time)
+    all_weaker (λ x. IsNear above d x.time) (λ x. IsNear above e x.time)
     (λ x i. Somewhere-weaker (λ y. (x.time ≤ y.time) × (y.time ≤ x.time + d)) (λ y. (x.time ≤ y.time) × (y.time ≤ x.time + e)) (λ y p. let a = p.0 in let b = p.1 in (a, omega (arith, le, b))) above i) xs h
 
 -- the second fact, for an Aggregate

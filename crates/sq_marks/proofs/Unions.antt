@@ -12,6 +12,7 @@ use Rattle.sq_marks.proofs.Bounds.{bound-less, lessened-twice}
 use Rattle.sq_marks.proofs.Orders.{by_key, AtLeast, Ascends, insert-front, filter-insert, filter-sort, sort-ascends, AtLeast-weaker, AtLeast-filter}
 use Rattle.sq_marks.proofs.ArcWords.{marked, MarksRise}
 use Rattle.sq_tagged.proofs.UnionWords.{lagging, union_marks, union_tagged}
+use Rattle.sq_words.proofs.Sorting.{without_ports}
 
 -- a map that keeps the key, and sorting
 map-insert : {X Y : Type 0} (key : X → ℕ) (other : Y → ℕ) (f : Y → X) → ((y : Y) → key (f y) ≡ other y) → (y : Y) (ys : List Y)
@@ -32,28 +33,12 @@ pub map-sort : {X Y : Type 0} (key : X → ℕ) (other : Y → ℕ) (f : Y → X
 map-sort key other f same [] = refl
 map-sort key other f same (y ∷ ys) = map-insert key other f same y (sort_by (by_key other) ys) ∙ ap (insert_by (by_key key) (f y)) (map-sort key other f same ys)
 
-map-append : {X Y : Type 0} (f : X → Y) (xs ys : List X) → map f (xs ++ ys) ≡ map f xs ++ map f ys
-map-append f [] ys = refl
-map-append f (x ∷ xs) ys = ap (λ l. f x ∷ l) (map-append f xs ys)
-
-map-ported : {X : Type 0} (port : ℕ) (xs : List X) → map (λ (e : ℕ × X). e.1) (map (λ x. (port, x)) xs) ≡ xs
-map-ported port [] = refl
-map-ported port (x ∷ xs) = ap (λ l. x ∷ l) (map-ported port xs)
-
--- the items of all lists without their ports
-pub without-ports : {X : Type 0} (port : ℕ) (xss : List (List X)) → map (λ (e : ℕ × X). e.1) (ports_from port xss) ≡ flat_map (λ xs. xs) xss
-without-ports port [] = refl
-without-ports port (xs ∷ xss) =
-    map-append (λ e. e.1) (map (λ x. (port, x)) xs) (ports_from (port + 1) xss)
-    ∙ ap (λ l. l ++ map (λ e. e.1) (ports_from (port + 1) xss)) (map-ported port xs)
-    ∙ ap (λ l. xs ++ l) (without-ports (port + 1) xss)
-
 abbrev pub time_of : Tuple → ℕ
 time_of x = x.time
 
 -- a union is the items of all lists, sorted by time
 pub union-sorted : (ins : List (List Tuple)) → union ins ≡ sort_by (by_key time_of) (flat_map (λ xs. xs) ins)
-union-sorted ins = map-sort time_of (λ e. (e.1).time) (λ e. e.1) (λ e. refl) (ports_from 0 ins) ∙ ap (sort_by (by_key time_of)) (without-ports 0 ins)
+union-sorted ins = map-sort time_of (λ e. (e.1).time) (λ e. e.1) (λ e. refl) (ports_from 0 ins) ∙ ap (sort_by (by_key time_of)) (without_ports 0 ins)
 
 -- marks by their times
 abbrev pub mark_time : Timed → ℕ
@@ -223,7 +208,7 @@ module _ (ms : List Timed) (far : ℕ) where
   union-marks : (b : Branch) (bs : List Branch) → MarksRise ms → AllByRecursion (λ b. b.0 ≤ far) (b ∷ bs) → union_marks (lags_of (b ∷ bs)) (branches (b ∷ bs)) ≡ lessened_by far ms
   union-marks b bs rise h =
       ap first_marks (map-sort mark_time (λ (e : ℕ × Timed). (e.1).0) (λ e. e.1) (λ e. refl) (ports_from 0 (lagging (lags_of (b ∷ bs)) (branches (b ∷ bs)))))
-      ∙ ap (λ l. first_marks (sort_by (by_key mark_time) l)) (without-ports 0 (lagging (lags_of (b ∷ bs)) (branches (b ∷ bs))) ∙ lags-same (b ∷ bs) h)
+      ∙ ap (λ l. first_marks (sort_by (by_key mark_time) l)) (without_ports 0 (lagging (lags_of (b ∷ bs)) (branches (b ∷ bs))) ∙ lags-same (b ∷ bs) h)
       ∙ copies (lessened_by far ms) (rise-lessened far ms rise) b bs
 
   -- below the bounds of the result only tuples that are below those of their branch

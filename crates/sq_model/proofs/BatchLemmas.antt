@@ -1,5 +1,5 @@
 -- The numbers of batches stay small, and filters of ranges grow at their end.
-use Rattle.std.proofs.Common.{◌≡◌, ℕ, zero, suc, ◌+◌, ◌-◌, ◌*◌, ◌/◌, ◌≤◌, ◌<◌, ◌^◌, eqb, Bool, true, false, not, ◌&&◌, ◌||◌, cond, if◌then◌else◌, List, [], ◌∷◌, ◌++◌, max, map, length, get_or, refl, ap, ◌∙◌, arith}
+use Rattle.std.proofs.Common.{◌≡◌, ℕ, zero, suc, ◌+◌, ◌-◌, ◌*◌, ◌/◌, ◌≤◌, ◌<◌, ◌^◌, Bool, true, false, not, ◌&&◌, ◌||◌, cond, if◌then◌else◌, List, [], ◌∷◌, ◌++◌, max, length, get_or, refl, ap, ◌∙◌, arith}
 use Rattle.std.proofs.Math.Nat.{div-lt_iff_lt-mul, div-mul-le_self}
 use Rattle.std.proofs.lemmas.List.Elements.{filter-append}
 use Rattle.std.specs.Prelude.{nat_lt, nat_le}
@@ -11,16 +11,14 @@ use Rattle.sq_place.specs.declared.DropPoint.{DropPoint}
 use Rattle.sq_place.specs.Points.{until_of}
 use Rattle.sq_value.specs.declared.Tuple.{Tuple}
 use Rattle.sq_words.specs.Lists.{numbers_to, max_by}
-use Rattle.std.proofs.lemmas.List.FromFn.{map-range_with_len_more}
 use Rattle.sq_model.specs.Shedding.{last_of, is_touched}
 use Rattle.sq_model.specs.Given.{AreTicks, drops_at, needed_by, needs_at}
+use Rattle.sq_words.proofs.Ranges.{range_more}
+use Rattle.sq_words.proofs.Numbers.{times_up}
 
 pub last_low : (xs : List Tuple) → AreTicks xs → last_of xs < 2 ^ 40
 last_low [] h = omega arith
 last_low (x ∷ xs) h = let more = last_low xs h.1 in let first = h.0 in omega (arith, more, first)
-
-times_up : (a b c : ℕ) → a ≤ b → a * c ≤ b * c
-times_up a b c h = grind arith
 
 -- a batch that begins by the last tick
 pub batch_begins : (b last len : ℕ) → b ≤ last / len → b * len ≤ last
@@ -47,28 +45,10 @@ epochs_up a b n one h =
     let down : a / n < b / n + 1 = (div-lt_iff_lt-mul one).1 (omega (arith, low, h)) in
     omega (arith, down)
 
-range_more : (a n : ℕ) → range_with_len a (suc n) ≡ range_with_len a n ++ (a + n) ∷ []
-range_more a zero = let same : a ≡ a + 0 = omega arith in ap (λ k. k ∷ []) same
-range_more a (suc n) = let same : a + 1 + n ≡ a + suc n = omega arith in ap (λ l. a ∷ l) (range_more (a + 1) n ∙ ap (λ k. range_with_len (a + 1) n ++ k ∷ []) same)
-
 pub filter_more : (t : ℕ → Bool) (n : ℕ) → filter t (numbers_to (n + 1)) ≡ filter t (numbers_to n) ++ (if t n then n ∷ [] else [])
 filter_more t n =
     let same : n + 1 ≡ suc n = omega arith in
     ap (λ k. filter t (numbers_to k)) same ∙ ap (filter t) (range_more 0 n) ∙ filter-append t (numbers_to n) ((0 + n) ∷ []) ∙ (let flat : 0 + n ≡ n = omega arith in ap (λ k. filter t (numbers_to n) ++ filter t (k ∷ [])) flat)
-
-pub filter_both : {X : Type 0} (p q : X → Bool) (xs : List X) → filter q (filter p xs) ≡ filter (λ x. p x && q x) xs
-filter_both p q [] = refl
-filter_both p q (x ∷ xs) = by (filter_both p q xs) (p x) (q x) refl
-  where
-    by : filter q (filter p xs) ≡ filter (λ x. p x && q x) xs → (a b : Bool) → q x ≡ b
-        → filter q (cond a (x ∷ filter p xs) (filter p xs)) ≡ cond (a && q x) (x ∷ filter (λ x. p x && q x) xs) (filter (λ x. p x && q x) xs)
-    by more true b e = ap (λ zs. cond (q x) (x ∷ zs) zs) more
-    by more false b e = more
-
-pub map_more : (f : ℕ → ℕ) (n : ℕ) → map f (numbers_to (n + 1)) ≡ map f (numbers_to n) ++ f n ∷ []
-map_more f n = map-range_with_len_more f 0 n n (omega arith)
-
--- ---- which batches need a tick
 
 later_of : (t a b d : ℕ) → nat_lt t (max a b - d) ≡ (nat_lt t (a - d) || nat_lt t (b - d))
 later_of t a b d = grind (arith, nat_tests)
@@ -91,24 +71,6 @@ needed_any table seed w p d t = max_any (until_of p) (λ b. not (drops_at table 
 pub any_none : (test : ℕ → Bool) (a n : ℕ) → ((b : ℕ) → b < a + n → test b ≡ false) → list_any test (range_with_len a n) ≡ false
 any_none test a zero h = refl
 any_none test a (suc n) h = ap (λ z. z || list_any test (range_with_len (a + 1) n)) (h a (omega arith)) ∙ any_none test (a + 1) n (λ b lt. h b (omega (arith, lt)))
-
-pub any_some : (test : ℕ → Bool) (a n b : ℕ) → a ≤ b → b < a + n → test b ≡ true → list_any test (range_with_len a n) ≡ true
-any_some test a zero b low high passes = absurd (omega (arith, low, high))
-any_some test a (suc n) b low high passes = by (λ next. any_some test (a + 1) n b next (omega (arith, high)) passes) (eqb a b) refl
-  where
-    same : (a b : ℕ) → eqb a b ≡ true → a ≡ b
-    same a b h = grind (arith, nat_tests)
-
-    other : (a b : ℕ) → eqb a b ≡ false → a ≤ b → a + 1 ≤ b
-    other a b h low = grind (arith, nat_tests)
-
-    last : (z : Bool) → (z || true) ≡ true
-    last true = refl
-    last false = refl
-
-    by : (a + 1 ≤ b → list_any test (range_with_len (a + 1) n) ≡ true) → (c : Bool) → eqb a b ≡ c → (test a || list_any test (range_with_len (a + 1) n)) ≡ true
-    by more true e = ap (λ z. z || list_any test (range_with_len (a + 1) n)) (ap test (same a b e) ∙ passes)
-    by more false e = ap (λ z. test a || z) (more (other a b e low)) ∙ last (test a)
 
 -- a batch that ends, with what is kept for it, by a tick
 pub ends_by : (b t len keep : ℕ) → 1 ≤ len → b < (t - keep) / len → (b + 1) * len + keep ≤ t

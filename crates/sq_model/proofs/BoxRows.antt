@@ -1,6 +1,6 @@
 -- Networks of one box that takes the streams of all sources, worked out for the boxes with state.
 use Rattle.std.proofs.Common.{◌≡◌, ◌∙◌, ap, sym, subst, ℕ, ◌<◌, ◌≤◌, ◌^◌, true, List, [], ◌∷◌, length, lit<, lit≤, map, refl, pos}
-use Rattle.std.specs.Prelude.{codes, IfOk, Result, Ok, Err}
+use Rattle.std.specs.Prelude.{codes}
 use Rattle.std.specs.List.{All}
 use Rattle.std.proofs.lemmas.List.Elements.{All-from_recursion}
 use Rattle.sq_value.specs.declared.Value.TheVariants as value
@@ -160,8 +160,3 @@ placed_one kind b n =
     (All-from_recursion (λ (x : BoxWires). All Is x.inputs) w.boxes (All-from_recursion Is (0 ∷ []) (refl, tt), tt))
     (All-from_recursion Is (1 ∷ []) (refl, tt)) (lit≤ tt) refl (lit< tt)
     (All-from_recursion (λ (x : BoxWires). length x.inputs ≤ 8) w.boxes (lit≤ tt, tt))
-
--- what holds by two facts of a value, where there is one
-pub both_ok : {T E : Type 0} (r : Result T E) (P Q R : T → Type 0) → ((x : T) → P x → Q x → R x) → IfOk r P → IfOk r Q → IfOk r R
-both_ok (Ok x) P Q R from p q = from x p q
-both_ok (Err e) P Q R from p q = tt

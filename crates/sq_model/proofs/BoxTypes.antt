@@ -27,23 +27,14 @@ use Rattle.sq_lists.specs.Windows.{in_window, in_group, groups_of, window_result
 use Rattle.sq_lists.specs.Pairs.{meets, paired, pairs_of, pairs_from}
 use Rattle.sq_lists.specs.Resamples.{near, resampled, resample_list_of}
 use Rattle.sq_net.specs.Columns.{if_int, kind_of_func, prefixed, columns_at}
-use Rattle.sq_model.proofs.Alls.{All-append, All-kept, All-mapped, All-weaker, All-flat_map}
+use Rattle.sq_model.proofs.Alls.{All-append, All-kept, All-mapped, All-flat_map}
 use Rattle.sq_expr.proofs.KindLemmas.{field_has_kind, value_has_kind}
+use Rattle.sq_words.proofs.Bools.{and_second, and_first}
+use Rattle.std.proofs.lemmas.Bool.{and_from}
+use Rattle.sq_words.proofs.Alls.{all_weaker}
 
 abbrev pub FitsColumns : Columns → List Tuple → Type 0
 FitsColumns cs xs = AllByRecursion (λ (x : Tuple). fields_fit cs x.fields ≡ true) xs
-
-pub and-both : (x y : Bool) → x ≡ true → y ≡ true → (x && y) ≡ true
-and-both true y h k = k
-and-both false y h k = h
-
-pub and-first : (x y : Bool) → (x && y) ≡ true → x ≡ true
-and-first true y h = refl
-and-first false y h = absurd (cc h)
-
-pub and-second : (x y : Bool) → (x && y) ≡ true → y ≡ true
-and-second true y h = h
-and-second false y h = absurd (cc h)
 
 -- only the kinds count
 pub fits-kinds : (cs : Columns) (vs : List Value) → fields_fit cs vs ≡ kinds_fit (kinds_of cs) vs
@@ -54,7 +45,7 @@ fits-kinds (c ∷ cs) (v ∷ vs) = ap (λ b. is_of_kind c.1 v && b) (fits-kinds 
 
 pub same-kinds : (cs ds : Columns) → kinds_of cs ≡ kinds_of ds → (xs : List Tuple) → FitsColumns ds xs → FitsColumns cs xs
 same-kinds cs ds e xs h =
-    All-weaker (λ (x : Tuple). fields_fit ds x.fields ≡ true) (λ (x : Tuple). fields_fit cs x.fields ≡ true)
+    all_weaker (λ (x : Tuple). fields_fit ds x.fields ≡ true) (λ (x : Tuple). fields_fit cs x.fields ≡ true)
     (λ x k. fits-kinds cs x.fields ∙ ap (λ ks. kinds_fit ks x.fields) e ∙ sym (fits-kinds ds x.fields) ∙ k) xs h
 
 -- ---- Map
@@ -67,7 +58,7 @@ map-fields scope [] (t ∷ es) x over e h = absurd (cc e)
 map-fields scope (c ∷ cs) (t ∷ es) x over e h =
     let first : kind_in t.scope t.tree ≡ Some c.1 = cc e in
     let rest : map (λ (e : Checked). kind_in e.scope e.tree) es ≡ map Some (kinds_of cs) = cc e in
-    and-both (is_of_kind c.1 (value_of t.tree x)) (kinds_fit (kinds_of cs) (map (λ e. value_of e x) (map (λ (e : Checked). e.tree) es)))
+    and_from (is_of_kind c.1 (value_of t.tree x)) (kinds_fit (kinds_of cs) (map (λ e. value_of e x) (map (λ (e : Checked). e.tree) es)))
     (sym (ap (λ k. has_kind k (value_of t.tree x)) (ap (λ z. kind_in z t.tree) (sym over.0) ∙ first)) ∙ value_has_kind scope t.tree x h)
     (map-fields scope cs es x over.1 rest h)
 
@@ -75,7 +66,7 @@ pub map-fits : (scope cs : Columns) (es : List Checked) → AllByRecursion (λ (
     → FitsColumns cs (map (mapped (map (λ (e : Checked). e.tree) es)) xs)
 map-fits scope cs es over e xs h =
     All-mapped (λ (x : Tuple). fields_fit cs x.fields ≡ true) (mapped (map (λ (e : Checked). e.tree) es)) xs
-    (All-weaker (λ (x : Tuple). fields_fit scope x.fields ≡ true) (λ (x : Tuple). fields_fit cs (mapped (map (λ (e : Checked). e.tree) es) x).fields ≡ true)
+    (all_weaker (λ (x : Tuple). fields_fit scope x.fields ≡ true) (λ (x : Tuple). fields_fit cs (mapped (map (λ (e : Checked). e.tree) es) x).fields ≡ true)
     (λ x k. fits-kinds cs (mapped (map (λ (e : Checked). e.tree) es) x).fields ∙ map-fields scope cs es x over e k) xs h)
 
 -- ---- BSort: it only picks, and changes times
@@ -164,7 +155,7 @@ group-fits cs (i ∷ by) x low h = put (slice_get cs i) refl (group-fits cs by x
     put : (o : Option (List ℕ × Kind)) → slice_get cs i ≡ o → fields_fit (columns_at cs by) (group_of by x) ≡ true → fields_fit (cons_option o (columns_at cs by)) (field x.fields i ∷ group_of by x) ≡ true
     put None e more = absurd (past cs i low.0 e)
     put (Some c) e more =
-        and-both (is_of_kind c.1 (field x.fields i)) (fields_fit (columns_at cs by) (group_of by x))
+        and_from (is_of_kind c.1 (field x.fields i)) (fields_fit (columns_at cs by) (group_of by x))
         (sym (ap (λ k. has_kind k (field x.fields i)) (kind-is cs i c e)) ∙ field_has_kind cs x.fields i h) more
 
 abbrev OfKind : Kind → Value → Type 0
@@ -174,7 +165,7 @@ known-kinds : (cs : Columns) (i : ℕ) (k : Kind) → kind_at cs i ≡ Some k �
 known-kinds cs i k e xs h =
     All-kept (OfKind k) (λ v. not (is_null v)) (map (λ (x : Tuple). field x.fields i) xs)
     (All-mapped (OfKind k) (λ (x : Tuple). field x.fields i) xs
-    (All-weaker (λ (x : Tuple). fields_fit cs x.fields ≡ true) (λ (x : Tuple). OfKind k (field x.fields i)) (λ x f. sym (ap (λ z. has_kind z (field x.fields i)) e) ∙ field_has_kind cs x.fields i f) xs h))
+    (all_weaker (λ (x : Tuple). fields_fit cs x.fields ≡ true) (λ (x : Tuple). OfKind k (field x.fields i)) (λ x f. sym (ap (λ z. has_kind z (field x.fields i)) e) ∙ field_has_kind cs x.fields i f) xs h))
 
 null-kind : (k : Kind) → OfKind k value.Null
 null-kind kind.Int = refl
@@ -238,14 +229,14 @@ answers-fit cs [] (f ∷ fs) e xs h = absurd (cc e)
 answers-fit cs (c ∷ given) (f ∷ fs) e xs h =
     let first : kind_of_func cs f ≡ Some c.1 = cc e in
     let rest : map (kind_of_func cs) fs ≡ map Some (kinds_of given) = cc e in
-    and-both (is_of_kind c.1 (function_answer f xs)) (fields_fit given (answers_of fs xs)) (answer-kind cs f c.1 first xs h) (answers-fit cs given fs rest xs h)
+    and_from (is_of_kind c.1 (function_answer f xs)) (fields_fit given (answers_of fs xs)) (answer-kind cs f c.1 first xs h) (answers-fit cs given fs rest xs h)
 
 pub fits-append : (cs ds : Columns) (vs ws : List Value) → fields_fit cs vs ≡ true → fields_fit ds ws ≡ true → fields_fit (cs ++ ds) (vs ++ ws) ≡ true
 fits-append [] ds [] ws h k = k
 fits-append [] ds (v ∷ vs) ws h k = absurd (cc h)
 fits-append (c ∷ cs) ds [] ws h k = absurd (cc h)
 fits-append (c ∷ cs) ds (v ∷ vs) ws h k =
-    and-both (is_of_kind c.1 v) (fields_fit (cs ++ ds) (vs ++ ws)) (and-first (is_of_kind c.1 v) (fields_fit cs vs) h) (fits-append cs ds vs ws (and-second (is_of_kind c.1 v) (fields_fit cs vs) h) k)
+    and_from (is_of_kind c.1 v) (fields_fit (cs ++ ds) (vs ++ ws)) (and_first (is_of_kind c.1 v) (fields_fit cs vs) h) (fits-append cs ds vs ws (and_second (is_of_kind c.1 v) (fields_fit cs vs) h) k)
 
 ascending-keeps : (P : List Value → Type 0) (xs : List (List Value)) → AllByRecursion P xs → AllByRecursion P (ascending fields_cmp xs)
 ascending-keeps P [] h = tt
@@ -264,11 +255,11 @@ module _ (cs given : Columns) (fs : List Func) (by : List ℕ) (kinds : map (kin
   results-fit : (start : ℕ) (inside : List Tuple) → FitsColumns cs inside → FitsColumns (columns_at cs by ++ given) (window_results (answers_of fs) by start inside)
   results-fit start inside h =
       All-mapped (λ (x : Tuple). fields_fit (columns_at cs by ++ given) x.fields ≡ true) (λ (g : List Value). record { time = start; fields = g ++ answers_of fs (in_group by g inside) }) (groups_of by inside)
-      (All-weaker (λ (g : List Value). fields_fit (columns_at cs by) g ≡ true) (λ (g : List Value). fields_fit (columns_at cs by ++ given) (g ++ answers_of fs (in_group by g inside)) ≡ true)
+      (all_weaker (λ (g : List Value). fields_fit (columns_at cs by) g ≡ true) (λ (g : List Value). fields_fit (columns_at cs by ++ given) (g ++ answers_of fs (in_group by g inside)) ≡ true)
       (λ g k. fits-append (columns_at cs by) given g (answers_of fs (in_group by g inside)) k (answers-fit cs given fs kinds (in_group by g inside) (All-kept (λ (x : Tuple). fields_fit cs x.fields ≡ true) _ inside h)))
       (groups_of by inside)
       (ascending-keeps (λ g. fields_fit (columns_at cs by) g ≡ true) (map (group_of by) inside)
-      (All-mapped (λ g. fields_fit (columns_at cs by) g ≡ true) (group_of by) inside (All-weaker (λ (x : Tuple). fields_fit cs x.fields ≡ true) (λ (x : Tuple). fields_fit (columns_at cs by) (group_of by x) ≡ true) (λ x k. group-fits cs by x low k) inside h))))
+      (All-mapped (λ g. fields_fit (columns_at cs by) g ≡ true) (group_of by) inside (all_weaker (λ (x : Tuple). fields_fit cs x.fields ≡ true) (λ (x : Tuple). fields_fit (columns_at cs by) (group_of by x) ≡ true) (λ x k. group-fits cs by x low k) inside h))))
 
   pub aggregate-fits : (w : WindowSpec) (xs : List Tuple) → FitsColumns cs xs → FitsColumns (columns_at cs by ++ given) (aggregate_list_of fs by w xs)
   aggregate-fits w xs h =
@@ -282,7 +273,7 @@ prefixed-fits letters [] [] h = refl
 prefixed-fits letters [] (v ∷ vs) h = absurd (cc h)
 prefixed-fits letters (c ∷ cs) [] h = absurd (cc h)
 prefixed-fits letters (c ∷ cs) (v ∷ vs) h =
-    and-both (is_of_kind c.1 v) (fields_fit (prefixed letters cs) vs) (and-first (is_of_kind c.1 v) (fields_fit cs vs) h) (prefixed-fits letters cs vs (and-second (is_of_kind c.1 v) (fields_fit cs vs) h))
+    and_from (is_of_kind c.1 v) (fields_fit (prefixed letters cs) vs) (and_first (is_of_kind c.1 v) (fields_fit cs vs) h) (prefixed-fits letters cs vs (and_second (is_of_kind c.1 v) (fields_fit cs vs) h))
 
 module _ (left right : Columns) (l r : List ℕ) (size : ℕ) (on : Expr) where
   -- an entry of the left or of the right side
@@ -298,7 +289,7 @@ module _ (left right : Columns) (l r : List ℕ) (size : ℕ) (on : Expr) where
   not-met : (size : ℕ) (now before : ℕ × Tuple) → now.0 ≡ before.0 → meets size now before ≡ true → ⊥
   not-met size now before same h =
       let e : eqb now.0 before.0 ≡ true = equal now.0 before.0 same in
-      let first : not (eqb now.0 before.0) ≡ true = and-first (not (eqb now.0 before.0)) _ h in
+      let first : not (eqb now.0 before.0) ≡ true = and_first (not (eqb now.0 before.0)) _ h in
       let bad : false ≡ true = ap not (sym e) ∙ first in
       cc bad
     where
@@ -330,9 +321,9 @@ module _ (left right : Columns) (l r : List ℕ) (size : ℕ) (on : Expr) where
   pub sided : (xs ys : List Tuple) → FitsColumns left xs → FitsColumns right ys → AllByRecursion Sided (ports_from 0 (xs ∷ ys ∷ []))
   sided xs ys h k =
       All-append Sided (map (λ x. (0, x)) xs) (ports_from 1 (ys ∷ []))
-      (All-mapped Sided (λ x. (0, x)) xs (All-weaker (λ (x : Tuple). fields_fit left x.fields ≡ true) (λ x. Sided (0, x)) (λ x f. inl (refl, f)) xs h))
+      (All-mapped Sided (λ x. (0, x)) xs (all_weaker (λ (x : Tuple). fields_fit left x.fields ≡ true) (λ x. Sided (0, x)) (λ x f. inl (refl, f)) xs h))
       (All-append Sided (map (λ x. (1, x)) ys) []
-      (All-mapped Sided (λ x. (1, x)) ys (All-weaker (λ (x : Tuple). fields_fit right x.fields ≡ true) (λ x. Sided (1, x)) (λ x f. inr (refl, f)) ys k)) tt)
+      (All-mapped Sided (λ x. (1, x)) ys (all_weaker (λ (x : Tuple). fields_fit right x.fields ≡ true) (λ x. Sided (1, x)) (λ x f. inr (refl, f)) ys k)) tt)
 
 -- ---- Resample
 
@@ -340,6 +331,6 @@ pub resample-fits : (left right given : Columns) (letters : List ℕ) (fs : List
     → (xs : List Tuple) → FitsColumns left xs → FitsColumns (prefixed letters left ++ given) (resample_list_of fs size xs ys)
 resample-fits left right given letters fs kinds size ys k xs h =
     All-mapped (λ (x : Tuple). fields_fit (prefixed letters left ++ given) x.fields ≡ true) (resampled (answers_of fs) size ys) xs
-    (All-weaker (λ (x : Tuple). fields_fit left x.fields ≡ true) (λ (x : Tuple). fields_fit (prefixed letters left ++ given) (resampled (answers_of fs) size ys x).fields ≡ true)
+    (all_weaker (λ (x : Tuple). fields_fit left x.fields ≡ true) (λ (x : Tuple). fields_fit (prefixed letters left ++ given) (resampled (answers_of fs) size ys x).fields ≡ true)
     (λ x f. fits-append (prefixed letters left) given x.fields (answers_of fs (near size x.time ys)) (prefixed-fits letters left x.fields f)
     (answers-fit right given fs kinds (near size x.time ys) (All-kept (λ (y : Tuple). fields_fit right y.fields ≡ true) _ ys k))) xs h)

@@ -13,8 +13,8 @@ pub first_step : (t : DropPoint → Bool) (ps : List DropPoint) (w : ℕ) (p : D
     → first_drop t w (drop w ps) ≡ cond (t p) (Some (w, p)) (first_drop t (w + 1) (drop (w + 1) ps))
 first_step t ps w p low is = ap (first_drop t w) (drop_more ps w p low ∙ ap (λ x. x ∷ drop (w + 1) ps) (sym is))
 
-pub there : (ps : List DropPoint) (w : ℕ) (p : DropPoint) → w < length ps → p ≡ get_or ps w p → slice_get ps w ≡ Some p
-there ps w p low is = slice_get-get_or ps w p low ∙ ap Some (sym is)
+pub there-in : (ps : List DropPoint) (w : ℕ) (p : DropPoint) → w < length ps → p ≡ get_or ps w p → slice_get ps w ≡ Some p
+there-in ps w p low is = slice_get-get_or ps w p low ∙ ap Some (sym is)
 
 -- where every drop keeps the limits, none is refused
 none_long : (ps : List DropPoint) (d e : ℕ) → AllByRecursion IsFine ps → Names d ps (error.LongBatch e) → ⊥

@@ -9,14 +9,16 @@ use Rattle.sq_value.specs.declared.Tuple.{Tuple}
 use Rattle.sq_graph.specs.Wires.{Producer, Source, Port, producers_of, producer_of, inputs_of}
 use Rattle.sq_graph.specs.Order.{can_be_next, is_given, order_of}
 use Rattle.sq_graph.proofs.Following.{order_follows}
-use Rattle.sq_graph.proofs.Reach.{and_parts, port_is_box}
+use Rattle.sq_graph.proofs.Reach.{port_is_box}
 use Rattle.sq_net.specs.declared.Network.{Network}
 use Rattle.sq_model.specs.Full.{produced, full_within, full_stream, full_streams}
 use Rattle.sq_model.specs.Placed.{IsPlaced}
 use Rattle.sq_model.specs.Laws.{FollowsBoxes, AreFull}
-use Rattle.sq_model.proofs.OrderLemmas.{order_counts, order_has, parts_around}
+use Rattle.sq_model.proofs.OrderLemmas.{order_counts, parts_around}
 use Rattle.sq_words.specs.Lists.{contains_number, nth}
 use Rattle.sq_model.proofs.FullWords.{box_list_at}
+use Rattle.sq_words.proofs.Bools.{and_true}
+use Rattle.sq_place.proofs.Ranks.{order-has}
 
 -- each round is worked out from the one before
 abbrev Rounds : Network → List (List Tuple) → (ℕ → ℕ → List Tuple) → Type 0
@@ -27,14 +29,14 @@ taken_alike : (n : Network) (front : List ℕ) (f g : ℕ → List Tuple) → ((
     → (inputs : List ℕ) → list_all (λ s. is_given front (producer_of n.wires s)) inputs ≡ true → map f inputs ≡ map g inputs
 taken_alike n front f g alike [] given = refl
 taken_alike n front f g alike (s ∷ inputs) given =
-    let parts = and_parts (is_given front (producer_of n.wires s)) (list_all (λ s. is_given front (producer_of n.wires s)) inputs) given in
+    let parts = and_true (is_given front (producer_of n.wires s)) (list_all (λ s. is_given front (producer_of n.wires s)) inputs) given in
     ap (λ x. x ∷ map f inputs) (alike s parts.0) ∙ ap (λ xs. g s ∷ xs) (taken_alike n front f g alike inputs parts.1)
 
 pub ports_alike : (n : Network) (sources : List (List Tuple)) (front : List ℕ) (at port : ℕ) (f g : ℕ → List Tuple) → can_be_next n.wires front at ≡ true
     → ((s : ℕ) → is_given front (producer_of n.wires s) ≡ true → f s ≡ g s)
     → produced n sources f (Some (Port at port)) ≡ produced n sources g (Some (Port at port))
 ports_alike n sources front at port f g next alike =
-    let given = (and_parts (not (contains_number front at)) (list_all (λ s. is_given front (producer_of n.wires s)) (inputs_of n.wires at)) next).1 in
+    let given = (and_true (not (contains_number front at)) (list_all (λ s. is_given front (producer_of n.wires s)) (inputs_of n.wires at)) next).1 in
     ap (box_list_at (slice_get n.boxes at) port) (taken_alike n front f g alike (inputs_of n.wires at) given)
 
 -- two ways to work them out agree, as soon as there were as many rounds as boxes in front
@@ -69,7 +71,7 @@ rounds_alike n sources f g fs gs (suc most) front rest few order (suc k) (suc m)
 -- a stream that is there is given by the boxes in the order
 pub is_given_in_order : (n : Network) → IsPlaced n → (s : ℕ) (p : Producer) → producer_of n.wires s ≡ Some p → is_given (order_of n.wires) (Some p) ≡ true
 is_given_in_order n placed s (Source k) given = refl
-is_given_in_order n placed s (Port at port) given = order_has n.wires placed.wired placed.acyclic at (port_is_box n.wires s at port given)
+is_given_in_order n placed s (Port at port) given = order-has n.wires placed.wired placed.acyclic at (port_is_box n.wires s at port given)
 
 settled : (n : Network) (sources : List (List Tuple)) → IsPlaced n → (f g : ℕ → ℕ → List Tuple) → Rounds n sources f → Rounds n sources g
     → (k m s : ℕ) → length n.boxes < k → length n.boxes < m → f k s ≡ g m s

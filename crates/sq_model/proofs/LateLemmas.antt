@@ -1,8 +1,8 @@
 -- A BSort gives no more tuples than it is fed.
-use Rattle.std.proofs.Common.{◌≡◌, ◌∙◌, ap, refl, subst, ℕ, zero, suc, ◌+◌, ◌-◌, ◌<◌, ◌≤◌, max, true, false, List, [], ◌∷◌, ◌++◌, map, length, Option, Some, None, slice_get, get_or, arith}
-use Rattle.std.specs.Prelude.{if◌then◌else◌, nat_le, nat_lt}
+use Rattle.std.proofs.Common.{◌≡◌, ◌∙◌, ap, refl, subst, ℕ, zero, suc, ◌+◌, ◌-◌, ◌<◌, ◌≤◌, List, [], ◌∷◌, ◌++◌, map, length, Option, Some, None, slice_get, get_or, arith}
+use Rattle.std.specs.Prelude.{if◌then◌else◌, nat_le}
 use Rattle.std.specs.Option.{option_map}
-use Rattle.std.specs.List.{cons_option, enumerate_from, filter, sum_by}
+use Rattle.std.specs.List.{enumerate_from, filter, sum_by}
 use Rattle.std.proofs.lemmas.List.Sums.{sum_by-cons}
 use Rattle.std.proofs.lemmas.Option.{slice_get-get_or, slice_get-map, slice_get_within}
 use Rattle.sq_value.specs.declared.Tuple.{Tuple}
@@ -11,8 +11,7 @@ use Rattle.sq_words.specs.Lists.{least_by, nth}
 use Rattle.sq_graph.specs.declared.BoxKind.TheVariants as boxes
 use Rattle.sq_graph.specs.declared.BoxWires.{BoxWires}
 use Rattle.sq_graph.specs.Wires.{Port, producer_of, inputs_of, stream_at}
-use Rattle.sq_lists.specs.Sorting.{Numbered, numbered_sooner, retimed, without_number, tuple_if, sorted_within, without_late, bsort_list_of}
-use Rattle.sq_lists.specs.Sorters.{timed}
+use Rattle.sq_lists.specs.Sorting.{Numbered, numbered_sooner, retimed, without_number, tuple_if, sorted_within, bsort_list_of}
 use Rattle.sq_net.specs.declared.Body.{Body}
 use Rattle.sq_net.specs.declared.Body.TheVariants.{Filter, Map, Union, BSort, Aggregate, Join, Resample}
 use Rattle.sq_net.specs.declared.Node.{Node}
@@ -26,16 +25,9 @@ use Rattle.sq_model.proofs.NumberLemmas.{producer_at}
 use Rattle.sq_model.proofs.FullLemmas.{full_follows, full_listed}
 use Rattle.sq_model.proofs.PlacedLemmas.{placed_of}
 use Rattle.sq_model.proofs.FullWords.{box_list_at}
+use Rattle.sq_lists.proofs.LateLemmas.{retimed_few, on_time_few}
 
 -- ---- the list
-
-retimed_few : (by : ℕ) (xs : List Tuple) → length (retimed by xs) ≤ length xs
-retimed_few by [] = omega arith
-retimed_few by (x ∷ xs) = onto (timed by x) (retimed_few by xs)
-  where
-    onto : (o : Option Tuple) → length (retimed by xs) ≤ length xs → length (cons_option o (retimed by xs)) ≤ suc (length xs)
-    onto None few = omega (arith, few)
-    onto (Some y) few = omega (arith, few)
 
 chosen_few : (slack j count : ℕ) (rest : List Numbered) → length (sorted_within slack j count rest) ≤ count
 chosen_few slack j zero rest = omega arith
@@ -47,16 +39,7 @@ chosen_few slack j (suc count) rest =
     onto None more few = omega (arith, few)
     onto (Some a) more few = omega (arith, few)
 
-on_time_few : (latest : ℕ) (xs : List Tuple) → length (without_late latest xs) ≤ length xs
-on_time_few latest [] = omega arith
-on_time_few latest (x ∷ xs) =
-    let few = on_time_few (max latest x.time) xs in
-    elim (nat_lt x.time latest) as (λ b. length ((if b then [] else x ∷ []) ++ without_late (max latest x.time) xs) ≤ suc (length xs)) [
-      | true ↦ omega (arith, few)
-      | false ↦ omega (arith, few)
-    ]
-
-bsort_few : (by slack : ℕ) (xs : List Tuple) → length (bsort_list_of by slack xs) ≤ length xs
+pub bsort_few : (by slack : ℕ) (xs : List Tuple) → length (bsort_list_of by slack xs) ≤ length xs
 bsort_few by slack xs =
     let found = retimed by xs in
     let given = sorted_within slack 0 (length found) (enumerate_from 0 found) in

@@ -12,7 +12,7 @@ use Rattle.sq_place.specs.Places.{stream_on, arc_numbers, arcs_leaving, is_reach
 use Rattle.sq_place.specs.Points.{point_at, dist_of, keep_for, last_advances}
 use Rattle.sq_place.specs.Refusals.{IsFine}
 use Rattle.sq_place.specs.Windows.{IsAdvance}
-use Rattle.sq_place.proofs.Lists.{All-mapped, All-weaker, contains-filter, contains-range}
+use Rattle.sq_place.proofs.Lists.{All-mapped, contains-range}
 use Rattle.sq_place.proofs.Multiples.{lcm-all-positive, positive}
 use Rattle.sq_place.proofs.SeenLaws.{advances-small}
 use Rattle.sq_place.proofs.Wires.{outputs-there, range-below}
@@ -24,13 +24,16 @@ use Rattle.sq_points.proofs.Bounds.{batch_low, small_windows}
 use Rattle.sq_model.specs.Given.{IsMeasured, IsAt}
 use Rattle.sq_model.proofs.Alls.{All-append, All-kept}
 use Rattle.sq_place.proofs.NumberWords.{lcm_of_all}
+use Rattle.sq_words.proofs.Lists.{contains_filter}
+use Rattle.sq_words.proofs.Alls.{all_weaker}
+use Rattle.sq_words.proofs.Numbers.{ltb_not}
 
 flat-all : {X Y : Type 0} (P : Y → Type 0) (f : X → List Y) (xs : List X) → AllByRecursion (λ x. AllByRecursion P (f x)) xs → AllByRecursion P (flat_map f xs)
 flat-all P f [] all = tt
 flat-all P f (x ∷ xs) all = All-append P (f x) (flat_map f xs) all.0 (flat-all P f xs all.1)
 
 pub numbers-low : (n : ℕ) → AllByRecursion (λ k. k < n) (numbers_to n)
-numbers-low n = All-weaker (λ k. k < 0 + n) (λ k. k < n) (λ k lt. omega (arith, lt)) (numbers_to n) (range-below 0 n)
+numbers-low n = all_weaker (λ k. k < 0 + n) (λ k. k < n) (λ k lt. omega (arith, lt)) (numbers_to n) (range-below 0 n)
 
 -- ---- places
 
@@ -50,7 +53,7 @@ module _ (n : Network) where
   pub places-there : AllByRecursion (IsAt n) (places_of n.wires)
   places-there =
       flat-all (IsAt n) (places_of_stream n.wires) (numbers_to (length (producers_of n.wires)))
-      (All-weaker (λ s. s < length (producers_of n.wires)) (λ s. AllByRecursion (IsAt n) (places_of_stream n.wires s)) stream-there (numbers_to (length (producers_of n.wires)))
+      (all_weaker (λ s. s < length (producers_of n.wires)) (λ s. AllByRecursion (IsAt n) (places_of_stream n.wires s)) stream-there (numbers_to (length (producers_of n.wires)))
       (numbers-low (length (producers_of n.wires))))
 
 -- ---- numbers
@@ -82,9 +85,6 @@ filter-both t P (x ∷ xs) all = by (t x) refl (filter-both t P xs all.1)
     by true e more = ((all.0, e), more)
     by false e more = more
 
-pub not-less : (a b : ℕ) → ltb a b ≡ false → b ≤ a
-not-less a b h = grind (arith, nat_tests)
-
 module _ (n : Network) (sound : IsSound n) (place : DropAt) where
   abbrev point : DropPoint
   point = point_at n.wires (windows_of n) n.batch place
@@ -109,7 +109,7 @@ module _ (n : Network) (sound : IsSound n) (place : DropAt) where
       → keep_for n.wires (windows_of n) n.batch place o ≤ max_by far (reached_arcs n.wires (windows_of n) place) + 1
   near o low h =
       let there = outputs-there n.wires o low in
-      let in-list = contains-filter (is_reached n.wires (windows_of n) place) (arc_numbers n.wires) (output_arc_at n.wires o)
+      let in-list = contains_filter (is_reached n.wires (windows_of n) place) (arc_numbers n.wires) (output_arc_at n.wires o)
       ∙ ap (λ b. b && is_reached n.wires (windows_of n) place (output_arc_at n.wires o)) (contains-range 0 (length (arcs_of n.wires)) (output_arc_at n.wires o) (omega arith) (omega (arith, there))) ∙ h in
       let most = max-contains far (reached_arcs n.wires (windows_of n) place) (output_arc_at n.wires o) in-list in
       omega (arith, most)
@@ -118,15 +118,15 @@ module _ (n : Network) (sound : IsSound n) (place : DropAt) where
   keep-low =
       subst (λ m. point.keep ≤ m + 1) (sym (max-pairs far (reached_arcs n.wires (windows_of n) place)))
       (max-low (keep_for n.wires (windows_of n) n.batch place) (outputs_below n.wires (windows_of n) place) (max_by far (reached_arcs n.wires (windows_of n) place) + 1)
-      (All-weaker (λ o. (o < length n.wires.outputs) × (is_reached n.wires (windows_of n) place (output_arc_at n.wires o) ≡ true))
+      (all_weaker (λ o. (o < length n.wires.outputs) × (is_reached n.wires (windows_of n) place (output_arc_at n.wires o) ≡ true))
       (λ o. keep_for n.wires (windows_of n) n.batch place o ≤ max_by far (reached_arcs n.wires (windows_of n) place) + 1) (λ o h. near o h.0 h.1)
       (outputs_below n.wires (windows_of n) place)
       (filter-both (λ o. is_reached n.wires (windows_of n) place (output_arc_at n.wires o)) (λ o. o < length n.wires.outputs) (numbers_to (length n.wires.outputs)) (numbers-low (length n.wires.outputs)))))
 
   pub place-measured : IsFine point → IsMeasured point
   place-measured fine =
-      let long = not-less 17179869184 point.length fine.0 in
-      let wide = not-less (4096 * point.length) (max_by (λ (d : ℕ × ℕ). d.1) point.reach + 1) fine.1 in
+      let long = ltb_not 17179869184 point.length fine.0 in
+      let wide = ltb_not (4096 * point.length) (max_by (λ (d : ℕ × ℕ). d.1) point.reach + 1) fine.1 in
       let low = keep-low in
       record { least = length-positive; most = long; keep = omega (arith, long, wide, low) }
 

@@ -2,7 +2,6 @@
 use Rattle.std.proofs.Common.{◌≡◌, ◌∙◌, ap, sym, refl, subst, ℕ, zero, suc, ◌+◌, ◌-◌, ◌<◌, ◌≤◌, List, [], ◌∷◌, ◌++◌, map, length, take, Some, slice_get, arith, inl, inr, length-append}
 use Rattle.std.specs.List.{sum_by}
 use Rattle.std.proofs.lemmas.Bool.{cases_lt}
-use Rattle.std.proofs.lemmas.List.{take_all}
 use Rattle.std.proofs.lemmas.List.Sums.{sum_by-cons, sum_by-take-le}
 use Rattle.std.proofs.lemmas.List.FromFn.{length-map-range_with_len, map-range_with_len_more}
 use Rattle.std.proofs.lemmas.Option.{slice_get_within}
@@ -101,12 +100,6 @@ stream_at_within w at =
     let few = sum_by-take-le (λ (b : BoxWires). b.ports) w.boxes at in
     let count = streams_count w in
     omega (arith, few, count)
-
-pub stream_at_last : (w : Wiring) → stream_at w (length w.boxes) 0 ≡ length (producers_of w)
-stream_at_last w =
-    let all = ap (λ (bs : List BoxWires). sum_by (λ b. b.ports) bs) (take_all (length w.boxes) w.boxes (omega arith)) in
-    let count = streams_count w in
-    omega (arith, all, count)
 
 pub port_within : (w : Wiring) (at port : ℕ) (b : BoxWires) → slice_get w.boxes at ≡ Some b → port < b.ports → stream_at w at 0 + port < length (producers_of w)
 port_within w at port b there low =

@@ -1,30 +1,18 @@
 -- In a wiring without a cycle each box stands in the order, behind what it takes.
-use Rattle.std.proofs.Common.{◌≡◌, ◌∙◌, ap, refl, sym, ℕ, zero, suc, ◌+◌, ◌<◌, ◌≤◌, Bool, true, false, ◌||◌, ◌==◌, List, [], ◌∷◌, ◌++◌, length, take, drop, get_or, arith, inl, inr}
-use Rattle.std.proofs.lemmas.Bool.{cases_lt}
+use Rattle.std.proofs.Common.{◌≡◌, ◌∙◌, ap, refl, sym, ℕ, zero, suc, ◌+◌, ◌<◌, ◌≤◌, Bool, true, false, ◌||◌, ◌==◌, List, [], ◌∷◌, ◌++◌, length, take, drop, get_or, arith}
+use Rattle.std.proofs.lemmas.Bool.{or_right, or_left}
 use Rattle.std.proofs.lemmas.Bool.Decides.{nat_tests}
 use Rattle.std.proofs.lemmas.List.{drop_more, take-append-drop}
 use Rattle.sq_graph.specs.declared.Wiring.{Wiring}
 use Rattle.sq_graph.specs.Order.{can_be_next, order_of, IsWired, LiesOnCycle}
-use Rattle.sq_graph.proofs.Cycles.{has_is, none_missing, or_left, or_right}
+use Rattle.sq_graph.proofs.Cycles.{has_is}
 use Rattle.sq_graph.proofs.Following.{order_follows}
-use Rattle.sq_graph.proofs.Placing.{order_placed, order_length, short_on_cycle}
+use Rattle.sq_graph.proofs.Placing.{order_placed, order_length}
 use Rattle.sq_words.specs.Lists.{contains_number}
-
-order_full : (w : Wiring) → IsWired w → ((at : ℕ) → LiesOnCycle w at → ⊥) → length w.boxes ≤ length (order_of w)
-order_full w wired acyclic =
-    elim (cases_lt (length (order_of w)) (length w.boxes)) [
-      | inl short ↦ (let stuck = short_on_cycle w wired short in absurd (acyclic stuck.0 stuck.1.1))
-      | inr full ↦ full
-    ]
+use Rattle.sq_place.proofs.Ranks.{order-full}
 
 pub order_counts : (w : Wiring) → IsWired w → ((at : ℕ) → LiesOnCycle w at → ⊥) → length (order_of w) ≡ length w.boxes
-order_counts w wired acyclic = order_length w (order_full w wired acyclic)
-
-pub order_has : (w : Wiring) → IsWired w → ((at : ℕ) → LiesOnCycle w at → ⊥) → (at : ℕ) → at < length w.boxes → contains_number (order_of w) at ≡ true
-order_has w wired acyclic at low =
-    let placed = order_placed w in
-    has_is (order_of w) at
-    ∙ none_missing (order_of w) (length w.boxes) placed.distinct placed.below (order_full w wired acyclic) at low
+order_counts w wired acyclic = order_length w (order-full w wired acyclic)
 
 -- the boxes in front of one that is among these, and those behind it
 pub parts_around : (xs : List ℕ) (at : ℕ) → contains_number xs at ≡ true → (front rest : List ℕ) × (xs ≡ front ++ at ∷ rest)

@@ -25,16 +25,14 @@ use Rattle.sq_model.specs.declared.known.Known.{Known}
 use Rattle.sq_model.specs.Known.{streams_in, stream_or_none, arc_in, stream_at_place, IsSafe, IsKnown}
 use Rattle.sq_model.proofs.PlacedLemmas.{placed_of}
 use Rattle.sq_model.proofs.BatchLemmas.{last_low, batch_begins, epochs_up}
+use Rattle.sq_words.proofs.Alls.{all_weaker}
+use Rattle.sq_words.proofs.Lists.{filter_agree}
 
 -- a stream's times are ticks
 pub stream_ticks : (xs : List Tuple) → IsStream xs → AreTicks xs
 stream_ticks [] h = tt
 stream_ticks (x ∷ []) h = (h, tt)
 stream_ticks (x ∷ y ∷ rest) h = let more = stream_ticks (y ∷ rest) h.1 in (let low = h.0 in let next = more.0 in omega (arith, low, next), more)
-
-filter_same : {X : Type 0} (p q : X → Bool) (xs : List X) → AllByRecursion (λ x. p x ≡ q x) xs → filter p xs ≡ filter q xs
-filter_same p q [] h = refl
-filter_same p q (x ∷ xs) h = ap (λ b. cond b (x ∷ filter p xs) (filter p xs)) h.0 ∙ ap (λ zs. cond (q x) (x ∷ zs) zs) (filter_same p q xs h.1)
 
 -- what holds of the numbers up to one holds of those that pass a test
 up_to : (P : ℕ → Type 0) (t : ℕ → Bool) (m : ℕ) → ((b : ℕ) → b ≤ m → P b) → (a n : ℕ) → a + n ≤ m + 1 → AllByRecursion P (filter t (range_with_len a n))
@@ -54,7 +52,7 @@ module _ (r : Replay) (table : LevelTable) (levels : LevelsAre table r) (known :
 
   pub record_is : AreTicks (full_at r p.at) → record_by table r.seed w p (full_at r p.at) ≡ record_of r w p
   record_is ticks =
-      filter_same (drops_at table r.seed w p) (is_dropped r w p) (touched_batches r p)
+      filter_agree (drops_at table r.seed w p) (is_dropped r w p) (touched_batches r p)
       (up_to (λ b. drops_at table r.seed w p b ≡ is_dropped r w p b) (is_touched p (full_at r p.at)) (last_of (full_at r p.at) / p.length)
       (λ b le. let begins = batch_begins b (last_of (full_at r p.at)) p.length le in let low = last_low (full_at r p.at) ticks in drops_same b (omega (arith, begins, low)))
       0 (last_of (full_at r p.at) / p.length + 1) (omega arith))
@@ -64,10 +62,6 @@ known_by t epoch closed ticks lasts known = let low = last_low t ticks in let up
 
 -- ---- what is kept
 
-all_weaker : {X : Type 0} (P Q : X → Type 0) → ((x : X) → P x → Q x) → (xs : List X) → AllByRecursion P xs → AllByRecursion Q xs
-all_weaker P Q f [] h = tt
-all_weaker P Q f (x ∷ xs) h = (f x h.0, all_weaker P Q f xs h.1)
-
 up_to_all : (P : ℕ → Type 0) (m : ℕ) → ((b : ℕ) → b ≤ m → P b) → (a n : ℕ) → a + n ≤ m + 1 → AllByRecursion P (range_with_len a n)
 up_to_all P m f a zero h = tt
 up_to_all P m f a (suc n) h = (f a (omega (arith, h)), up_to_all P m f (a + 1) n (omega (arith, h)))
@@ -76,14 +70,14 @@ module _ (r : Replay) (table : LevelTable) (levels : LevelsAre table r) (known :
   needed_is : (t : ℕ) → t < 2 ^ 40 → needed_by table r.seed w p (t / p.length) ≡ needed_until r w p t
   needed_is t low =
       ap (max_by (until_of p))
-      (filter_same (λ b. not (drops_at table r.seed w p b)) (λ b. not (is_dropped r w p b)) (numbers_to (t / p.length + 1))
+      (filter_agree (λ b. not (drops_at table r.seed w p b)) (λ b. not (is_dropped r w p b)) (numbers_to (t / p.length + 1))
       (up_to_all (λ b. not (drops_at table r.seed w p b) ≡ not (is_dropped r w p b)) (t / p.length)
       (λ b le. let begins = batch_begins b t p.length le in ap not (drops_same r table levels known lasts w p b (omega (arith, begins, low))))
       0 (t / p.length + 1) (omega arith)))
 
   pub kept_is : (a : ℕ) (xs : List Tuple) → AreTicks xs → kept_by table r.seed w p (distance_of p a) xs ≡ needed r (Some (w, p)) a xs
   kept_is a xs ticks =
-      filter_same (λ x. nat_lt x.time (needed_by table r.seed w p (x.time / p.length) - distance_of p a)) (λ x. nat_lt x.time (needed_until r w p x.time - distance_of p a)) xs
+      filter_agree (λ x. nat_lt x.time (needed_by table r.seed w p (x.time / p.length) - distance_of p a)) (λ x. nat_lt x.time (needed_until r w p x.time - distance_of p a)) xs
       (all_weaker (λ (x : Tuple). x.time < 2 ^ 40) (λ (x : Tuple). nat_lt x.time (needed_by table r.seed w p (x.time / p.length) - distance_of p a) ≡ nat_lt x.time (needed_until r w p x.time - distance_of p a))
       (λ x low. ap (λ k. nat_lt x.time (k - distance_of p a)) (needed_is x.time low)) xs ticks)
 

@@ -1,15 +1,14 @@
 -- Streams that stand stay so while boxes are worked out, one port after another.
-use Rattle.std.proofs.Common.{◌≡◌, ◌∙◌, ap, sym, refl, subst, ℕ, ◌+◌, ◌<◌, true, ◌==◌, ◌||◌, false, List, [], ◌∷◌, ◌++◌, map, length, set, replicate, Option, Some, None, slice_get, get_or, arith, inl, inr}
+use Rattle.std.proofs.Common.{◌≡◌, ◌∙◌, ap, sym, refl, ℕ, ◌+◌, ◌<◌, true, ◌==◌, ◌||◌, false, List, [], ◌∷◌, ◌++◌, map, length, set, replicate, Option, Some, None, slice_get, get_or, arith, inl, inr}
 use Rattle.std.proofs.lemmas.Bool.{cases_lt, cases_eq}
 use Rattle.std.proofs.lemmas.Bool.Decides.{nat_tests}
 use Rattle.std.proofs.lemmas.List.{ext_get_or, get_or-set_same, get_or-set_other, get_or_append_left, set_past, length-set}
 use Rattle.std.proofs.lemmas.List.Folds.{list_any-append}
-use Rattle.std.proofs.lemmas.Option.{slice_get-get_or, slice_get_read, slice_get_within}
+use Rattle.std.proofs.lemmas.Option.{slice_get-get_or, slice_get_within}
 use Rattle.sq_value.specs.declared.Tuple.{Tuple}
 use Rattle.sq_graph.specs.declared.BoxWires.{BoxWires}
 use Rattle.sq_graph.specs.Wires.{Producer, Source, Port, producers_of, producer_of, inputs_at, inputs_of, stream_at}
 use Rattle.sq_graph.specs.Order.{can_be_next, is_given, order_of}
-use Rattle.sq_graph.proofs.Cycles.{or_cases}
 use Rattle.sq_graph.proofs.Producers.{producer_is}
 use Rattle.sq_net.specs.declared.Network.{Network}
 use Rattle.sq_net.specs.declared.Node.{Node}
@@ -20,10 +19,7 @@ use Rattle.sq_model.proofs.NumberLemmas.{producer_at, producer_has_number}
 use Rattle.sq_model.proofs.FullLemmas.{full_count, full_follows, full_listed, is_given_in_order, ports_alike}
 use Rattle.sq_words.specs.Lists.{contains_number, nth}
 use Rattle.sq_model.proofs.FullWords.{box_list_at}
-
--- what is read at a place of a slice of these items is the item there
-pub item_there : {X : Type 0} (xs ys : List X) (i : ℕ) (x : X) → ys ≡ xs → i < length xs → x ≡ get_or ys i x → slice_get xs i ≡ Some x
-item_there {X} xs ys i x same low is = slice_get_read xs (length xs) i x refl low (subst (λ (zs : List X). x ≡ get_or zs i x) same is)
+use Rattle.sq_words.proofs.Bools.{or_cases}
 
 -- a stream that is put in its place leaves what stands
 put_keeps : (streams : List (List Tuple)) (k s : ℕ) (v full : List Tuple) → (s ≡ k → v ≡ full) → nth streams s ≡ full → nth (set streams k v) s ≡ full

@@ -26,18 +26,13 @@ use Rattle.sq_model.specs.Full.{box_list, produced, full_within}
 use Rattle.sq_model.proofs.NumberLemmas.{producer_has_number}
 use Rattle.sq_model.proofs.Alls.{time_of, union-sorted}
 use Rattle.sq_model.proofs.Alls.{by_key}
-use Rattle.sq_model.proofs.Alls.{All-kept, All-sorted, All-joined, All-weaker}
+use Rattle.sq_model.proofs.Alls.{All-kept, All-sorted, All-joined}
 use Rattle.sq_model.specs.Fit.{FitsOption, SourcesFit, StreamsFit}
 use Rattle.sq_model.proofs.BoxTypes.{FitsColumns, same-kinds, map-fits, bsort-keeps, aggregate-fits, join-fits, resample-fits, sided}
-use Rattle.sq_model.proofs.Alls.{holds-at}
 use Rattle.sq_model.proofs.PortLow.{port-low}
 use Rattle.sq_model.proofs.FullWords.{box_list_at}
-
--- what stands at a place in a list
-pub some-at : {X : Type 0} (xs : List X) (i : ℕ) → i < length xs → (x : X) × (slice_get xs i ≡ Some x)
-some-at [] i h = absurd (omega (arith, h))
-some-at (x ∷ xs) zero h = (x, refl)
-some-at (x ∷ xs) (suc i) h = some-at xs i (omega (arith, h))
+use Rattle.sq_words.proofs.Lists.{has_item}
+use Rattle.sq_words.proofs.Alls.{all_at, all_weaker}
 
 -- each stream fits its columns
 abbrev Aligned : List Columns → List (List Tuple) → Type 0
@@ -71,12 +66,12 @@ only-columns cs ds ports (suc q) e s = let bad : None ≡ Some cs = ap (λ (l : 
 
 box-fits : (b : Body) (css : List Columns) (xss : List (List Tuple)) (ports : List Columns) (q : ℕ) (cs : Columns) → IsTypedBody css b ports → Aligned css xss → slice_get ports q ≡ Some cs → FitsColumns cs (box_list b q xss)
 box-fits (body.Filter ps) css xss ports q cs t h s =
-    same-kinds cs (first_columns css) (holds-at (λ ds. kinds_of ds ≡ kinds_of (first_columns css)) ports q cs (recursion_from_All (λ ds. kinds_of ds ≡ kinds_of (first_columns css)) ports t.2) s)
+    same-kinds cs (first_columns css) (all_at (λ ds. kinds_of ds ≡ kinds_of (first_columns css)) ports q cs (recursion_from_All (λ ds. kinds_of ds ≡ kinds_of (first_columns css)) ports t.2) s)
     (box_list (body.Filter ps) q xss) (All-kept (λ (x : Tuple). fields_fit (first_columns css) x.fields ≡ true) _ (nth xss 0) (first-fits css xss h))
 box-fits (body.Map es) css xss ports q cs t h s =
     subst (λ z. FitsColumns z (box_list (body.Map es) q xss)) (only-columns cs t.0 ports q t.1 s)
     (map-fits (first_columns css) t.0 es
-    (All-weaker (IsOver (first_columns css)) (λ (e : Checked). e.scope ≡ first_columns css) (λ e k. k.0) es (recursion_from_All (IsOver (first_columns css)) es t.2)) t.3 (nth xss 0) (first-fits css xss h))
+    (all_weaker (IsOver (first_columns css)) (λ (e : Checked). e.scope ≡ first_columns css) (λ e k. k.0) es (recursion_from_All (IsOver (first_columns css)) es t.2)) t.3 (nth xss 0) (first-fits css xss h))
 box-fits body.Union css xss ports q cs t h s =
     subst (λ z. FitsColumns z (union xss)) (only-columns cs (first_columns css) ports q t.1 s)
     (subst (FitsColumns (first_columns css)) (sym (union-sorted xss))
@@ -104,7 +99,7 @@ module _ (n : Network) (sound : IsSound n) (recorded : List (List Tuple)) (fit :
       let number = producer_has_number n.wires s (Source k) e in
       let count = sound.agrees.sources in
       let is = number.0 in let low = number.1 in
-      let found = some-at n.sources k (omega (arith, is, low, count)) in
+      let found = has_item n.sources k (omega (arith, is, low, count)) in
       subst (λ o. FitsOption (option_map (λ (x : source.Source). x.schema) o) (nth recorded k)) (sym found.1) (fit k found.0 found.1)
 
   aligned : (f : ℕ → List Tuple) → ((s : ℕ) → FitsOption (columns_of_stream n s) (f s)) → (ss : List ℕ) → AllByRecursion (λ s. is_there (producer_of n.wires s) ≡ true) ss
@@ -122,13 +117,13 @@ module _ (n : Network) (sound : IsSound n) (recorded : List (List Tuple)) (fit :
       by None e = tt
       by (Some x) e =
           recursion_from_All (λ s. is_there (producer_of n.wires s) ≡ true) x.inputs
-          (holds-at (λ (y : BoxWires). All (λ s. is_there (producer_of n.wires s) ≡ true) y.inputs) n.wires.boxes b x (recursion_from_All (λ (y : BoxWires). All (λ s. is_there (producer_of n.wires s) ≡ true) y.inputs) n.wires.boxes sound.agrees.wired) e)
+          (all_at (λ (y : BoxWires). All (λ s. is_there (producer_of n.wires s) ≡ true) y.inputs) n.wires.boxes b x (recursion_from_All (λ (y : BoxWires). All (λ s. is_there (producer_of n.wires s) ≡ true) y.inputs) n.wires.boxes sound.agrees.wired) e)
 
   port-fits : (f : ℕ → List Tuple) → ((s : ℕ) → FitsOption (columns_of_stream n s) (f s)) → (s b q : ℕ) → producer_of n.wires s ≡ Some (Port b q) → (o : Option Node) → slice_get n.boxes b ≡ o
       → FitsOption (columns_of_port o q) (box_list_at o q (map f (inputs_of n.wires b)))
   port-fits f each s b q e None there = refl
   port-fits f each s b q e (Some x) there =
-      let found = some-at x.schemas q (port-low n sound s b q x e there) in
+      let found = has_item x.schemas q (port-low n sound s b q x e there) in
       subst (λ z. FitsOption z (box_list x.body q (map f (inputs_of n.wires b)))) (sym found.1)
       (box-fits x.body (input_columns n b) (map f (inputs_of n.wires b)) x.schemas q found.0 (sound.typed b x there) (aligned f each (inputs_of n.wires b) (inputs-there b)) found.1)
 

@@ -6,7 +6,7 @@ use Rattle.std.specs.Cmp.{IsStrictWeakOrder}
 use Rattle.std.proofs.lemmas.Bool.Decides.{nat_tests}
 use Rattle.sq_value.specs.declared.Tuple.{Tuple}
 use Rattle.sq_words.specs.Lists.{ports_from, ports_of, sort_by}
-use Rattle.sq_value.proofs.Sorting.{sort_map}
+use Rattle.sq_words.proofs.Sorting.{sort_map}
 use Rattle.sq_lists.specs.Merge.{PortTuple, tuple_earlier, union}
 use Rattle.sq_model.specs.Unions.{tuple_sooner}
 

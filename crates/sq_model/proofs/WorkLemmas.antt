@@ -17,17 +17,11 @@ use Rattle.sq_net.proofs.StreamLemmas.{boxes_count}
 use Rattle.sq_model.specs.declared.known.Known.{Known}
 use Rattle.sq_model.specs.Known.{stream_at_place, IsKnown}
 use Rattle.sq_model.proofs.ShedLemmas.{place_is}
+use Rattle.sq_words.proofs.Ranges.{range_split}
 
 pub sum_map : {X : Type 0} (f : X → ℕ) (xs : List X) → sum_by (λ (k : ℕ). k) (map f xs) ≡ sum_by f xs
 sum_map f [] = refl
 sum_map f (x ∷ xs) = sum_by-cons (λ (k : ℕ). k) (f x) (map f xs) ∙ ap (λ n. f x + n) (sum_map f xs) ∙ sym (sum_by-cons f x xs)
-
-range_split : (a m n : ℕ) → range_with_len a (m + n) ≡ range_with_len a m ++ range_with_len (a + m) n
-range_split a zero n = let same : a ≡ a + 0 = omega arith in let flat : 0 + n ≡ n = omega arith in ap (range_with_len a) flat ∙ ap (λ k. range_with_len k n) same
-range_split a (suc m) n =
-    let next : suc m + n ≡ suc (m + n) = omega arith in
-    let same : a + 1 + m ≡ a + suc m = omega arith in
-    ap (range_with_len a) next ∙ ap (λ l. a ∷ l) (range_split (a + 1) m n ∙ ap (λ k. range_with_len (a + 1) m ++ range_with_len k n) same)
 
 moved_range : (base i m : ℕ) → map (λ p. base + p) (range_with_len i m) ≡ range_with_len (base + i) m
 moved_range base i zero = refl

@@ -1,25 +1,22 @@
 -- In a sound network each stream has columns.
-use Rattle.std.proofs.Common.{◌≡◌, ◌∙◌, sym, ap, refl, ℕ, ◌<◌, ◌≤◌, ◌^◌, true, List, [], ◌∷◌, map, length, Option, Some, None, slice_get, get_or, arith}
+use Rattle.std.proofs.Common.{◌≡◌, ◌∙◌, sym, ap, refl, ℕ, ◌<◌, ◌≤◌, ◌^◌, true, List, [], ◌∷◌, map, length, Option, Some, None, slice_get, arith}
 use Rattle.std.specs.Option.{option_map}
 use Rattle.std.proofs.lemmas.Bool.Decides.{nat_tests}
 use Rattle.std.proofs.lemmas.List.{length-map}
-use Rattle.std.proofs.lemmas.Option.{slice_get-get_or, slice_get-map, slice_get_within}
+use Rattle.std.proofs.lemmas.Option.{slice_get-map, slice_get_within}
 use Rattle.sq_value.specs.Values.{Columns}
 use Rattle.sq_graph.specs.declared.BoxKind.{BoxKind}
 use Rattle.sq_graph.specs.declared.BoxWires.{BoxWires}
 use Rattle.sq_graph.specs.Wires.{Producer, Source, Port, producer_of}
 use Rattle.sq_graph.specs.Order.{is_there}
 use Rattle.sq_graph.proofs.Producers.{IsProducer, producer_is}
-use Rattle.sq_graph.proofs.Reach.{and_parts}
 use Rattle.sq_net.specs.declared.Network.{Network}
 use Rattle.sq_net.specs.declared.Node.{Node}
 use Rattle.sq_net.specs.declared.Source as declared
 use Rattle.sq_net.specs.Sound.{IsSound, is_between, kind_of_body}
 use Rattle.sq_net.specs.Streams.{IsTyped, columns_given, columns_of_port}
-
-has_item : {A : Type 0} (xs : List A) (i : ℕ) → i < length xs → (x : A) × (slice_get xs i ≡ Some x)
-has_item [] i low = absurd (omega arith)
-has_item (x ∷ xs) i low = (get_or (x ∷ xs) i x, slice_get-get_or (x ∷ xs) i x low)
+use Rattle.sq_words.proofs.Bools.{and_true}
+use Rattle.sq_words.proofs.Lists.{has_item}
 
 -- as many wired boxes as boxes
 pub boxes_count : (n : Network) → IsSound n → length n.wires.boxes ≡ length n.boxes
@@ -30,7 +27,7 @@ boxes_count n sound =
 -- the boxes are few
 pub boxes_few : (n : Network) → IsSound n → length n.wires.boxes < 2 ^ 32
 boxes_few n sound =
-    let few : is_between 0 128 (length n.boxes) ≡ true = (and_parts _ _ (and_parts _ _ (and_parts _ _ (and_parts _ _ (and_parts _ _ (and_parts _ _ (and_parts _ _ (and_parts _ _ sound.within).0).0).0).0).0).0).0).1 in
+    let few : is_between 0 128 (length n.boxes) ≡ true = (and_true _ _ (and_true _ _ (and_true _ _ (and_true _ _ (and_true _ _ (and_true _ _ (and_true _ _ (and_true _ _ sound.within).0).0).0).0).0).0).0).1 in
     let count = boxes_count n sound in
     let low : length n.boxes ≤ 128 = at_most (length n.boxes) few in
     omega (arith, low, count)

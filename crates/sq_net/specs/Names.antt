@@ -2,7 +2,6 @@
 use Rattle.std.specs.Prelude.{ℕ, Bool, false, not, ◌&&◌, ◌||◌, ◌==◌, nat_lt, List, [], ◌∷◌, length, codes, ◌++◌}
 use Rattle.std.specs.List.{list_all}
 use Rattle.sq_words.specs.Lists.{contains_bytes}
-use Rattle.sq_value.specs.Texts.{is_digit}
 use Rattle.sq_expr.specs.Tokens.{is_letter, in_word}
 use Rattle.std.specs.Fmt.{decimal}
 

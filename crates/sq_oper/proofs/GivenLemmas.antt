@@ -1,10 +1,11 @@
 -- What was given, and prefixes of it.
-use Rattle.std.proofs.Common.{◌≡◌, ℕ, ◌≤◌, eqb, cond, List, [], ◌∷◌, ◌++◌, Result, Ok, Err, OnErr, refl, ap, sym, ◌∙◌, append_assoc, append-nil, arith}
+use Rattle.std.proofs.Common.{◌≡◌, ℕ, ◌≤◌, eqb, cond, List, [], ◌∷◌, ◌++◌, refl, ap, sym, ◌∙◌, append_assoc, append-nil, arith}
 use Rattle.sq_words.specs.Lists.{IsPrefixOf}
 use Rattle.sq_item.specs.declared.Item.{Item}
 use Rattle.sq_item.specs.Things.{Thing, spread}
 use Rattle.sq_item.specs.Sound.{IsSoundItem}
 use Rattle.sq_oper.specs.Given.{given, ItemsSound, ThingsUpTo}
+use Rattle.sq_words.proofs.Prefixes.{prefix_itself}
 
 pub given-append : (q : ℕ) (xs ys : List (ℕ × Item)) → given q (xs ++ ys) ≡ given q xs ++ given q ys
 given-append q [] ys = refl
@@ -14,22 +15,11 @@ given-append q (x ∷ xs) ys =
 pub given-push : (q p : ℕ) (xs : List (ℕ × Item)) (i : Item) → given q (xs ++ (p, i) ∷ []) ≡ given q xs ++ cond (eqb p q) (spread i) []
 given-push q p xs i = given-append q xs ((p, i) ∷ []) ∙ ap (λ zs. given q xs ++ zs) (append-nil (cond (eqb p q) (spread i) []))
 
-pub IsPrefixOf-refl : {A : Type 0} (xs : List A) → IsPrefixOf xs xs
-IsPrefixOf-refl xs = ([], sym (append-nil xs))
-
 pub IsPrefixOf-append : {A : Type 0} (xs ys : List A) → IsPrefixOf xs (xs ++ ys)
 IsPrefixOf-append xs ys = (ys, refl)
 
-pub IsPrefixOf-trans : {A : Type 0} (xs ys zs : List A) → IsPrefixOf xs ys → IsPrefixOf ys zs → IsPrefixOf xs zs
-IsPrefixOf-trans xs ys zs (m, e) (n, f) = (m ++ n, f ∙ ap (λ l. l ++ n) e ∙ append_assoc xs m n)
-
 pub IsPrefixOf-longer : {A : Type 0} (xs ys zs ws : List A) → IsPrefixOf xs (ys ++ zs) → IsPrefixOf xs (ys ++ (zs ++ ws))
 IsPrefixOf-longer xs ys zs ws (more, same) = (more ++ ws, sym (append_assoc ys zs ws) ∙ ap (λ l. l ++ ws) same ∙ append_assoc xs more ws)
-
--- what holds in any case holds where a call failed
-pub OnErr-from : {T E A : Type 0} (r : Result T E) → A → OnErr r A
-OnErr-from (Ok x) a = tt
-OnErr-from (Err e) a = a
 
 pub ItemsSound-push : (p : ℕ) (xs : List (ℕ × Item)) (i : Item) → IsSoundItem i → ItemsSound xs → ItemsSound (xs ++ (p, i) ∷ [])
 ItemsSound-push p [] i h k = (h, tt)
@@ -47,4 +37,4 @@ pub ThingsUpTo-later : (t u : ℕ) (xs : List Thing) → t ≤ u → ThingsUpTo 
 ThingsUpTo-later t u [] le h = tt
 ThingsUpTo-later t u (x ∷ xs) le h = (omega (arith, h.0), ThingsUpTo-later t u xs le h.1)
 
-pub ruleset given_lemmas = (given-push, ItemsSound-push, IsPrefixOf-refl, IsPrefixOf-append)
+pub ruleset given_lemmas = (given-push, ItemsSound-push, prefix_itself, IsPrefixOf-append)

@@ -1,5 +1,5 @@
 -- What comes at the two ports of a merge: the two streams that were merged.
-use Rattle.std.proofs.Common.{◌≡◌, ℕ, Bool, true, false, cond, List, [], ◌∷◌, refl, ap, ◌∙◌}
+use Rattle.std.proofs.Common.{◌≡◌, ℕ, Bool, true, false, cond, List, [], ◌∷◌, refl, ap, ◌∙◌, length, suc}
 use Rattle.std.specs.Prelude.{if◌then◌else◌, ◌==◌}
 use Rattle.std.specs.List.{AllByRecursion, filter}
 use Rattle.sq_value.specs.declared.Tuple.{Tuple}
@@ -62,7 +62,7 @@ at-its-port : (port q : ℕ) (b : Bool) (xs : List Thing) → (port == q) ≡ b 
 at-its-port port q b [] is = tt
 at-its-port port q b (x ∷ xs) is = (is, at-its-port port q b xs is)
 
-of-port : (port : ℕ) (xs : List Tuple) → tuples_of (at_port port (things xs)) ≡ xs
+pub of-port : (port : ℕ) (xs : List Tuple) → tuples_of (at_port port (things xs)) ≡ xs
 of-port port [] = refl
 of-port port (x ∷ xs) = ap (λ l. x ∷ l) (of-port port xs)
 
@@ -78,3 +78,7 @@ at-right left right =
     ap (λ l. tuples_of (filter (λ e. e.port == 1) (merge_two (at_port 0 (things left)) l))) (alone (at_port 1 (things right)))
     ∙ ap tuples_of (second-of-two (λ e. e.port == 1) (at_port 0 (things left)) (at_port 1 (things right)) (at-its-port 0 1 false (things left) refl) (at-its-port 1 1 true (things right) refl))
     ∙ of-port 1 right
+
+pub entries_length : (port : ℕ) (xs : List Thing) → length (at_port port xs) ≡ length xs
+entries_length port [] = refl
+entries_length port (x ∷ xs) = ap suc (entries_length port xs)

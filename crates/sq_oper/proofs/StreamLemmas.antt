@@ -1,5 +1,5 @@
 -- Tuples in tagged lists, and places.
-use Rattle.std.proofs.Common.{◌≡◌, ℕ, ◌≤◌, Bool, true, false, cond, ◌&&◌, ◌||◌, IsTrue, List, [], ◌∷◌, ◌++◌, Option, Some, None, refl, ap, zero-le, arith, tests}
+use Rattle.std.proofs.Common.{◌≡◌, ℕ, ◌≤◌, Bool, true, false, cond, ◌&&◌, ◌||◌, IsTrue, List, [], ◌∷◌, ◌++◌, Option, Some, None, refl, ap, zero-le, arith, tests, append_assoc, sym, ◌∙◌}
 use Rattle.std.specs.Prelude.{if◌then◌else◌, nat_lt, ◌==◌}
 use Rattle.std.specs.List.{AllByRecursion}
 use Rattle.sq_value.specs.declared.Value.{Value}
@@ -11,7 +11,7 @@ use Rattle.sq_oper.specs.declared.tally.Place.TheVariants.{Start, At}
 use Rattle.sq_oper.specs.Entries.{Entry, at_port}
 use Rattle.sq_oper.specs.Order.{may_come, time_of, after_all, InOrder}
 use Rattle.sq_oper.specs.Given.{ThingsUpTo}
-use Rattle.sq_oper.specs.Streams.{thing_of, things, at_zero}
+use Rattle.sq_oper.specs.Streams.{thing_of, things, at_zero, tuples_in, tuple_in}
 
 pub things-append : (xs ys : List Tuple) → things (xs ++ ys) ≡ things xs ++ things ys
 things-append [] ys = refl
@@ -53,3 +53,11 @@ pub time-before : (place : Place) (port time : ℕ) (mark : Option Mark) (fields
     → InOrder place (at_port port (mark_part time mark ++ body_part time (Some fields))) → time_of place ≤ time
 time-before place port time None fields h = may-come-time place (record { port = port; thing = record { time = time; load = Body fields } }) h.0
 time-before place port time (Some mark) fields h = may-come-time place (record { port = port; thing = record { time = time; load = Sign mark } }) h.0
+
+pub tuples_back : (ts : List Tuple) → tuples_in (things ts) ≡ ts
+tuples_back [] = refl
+tuples_back (t ∷ ts) = ap (λ l. t ∷ l) (tuples_back ts)
+
+pub tuples_append : (xs ys : List Thing) → tuples_in (xs ++ ys) ≡ tuples_in xs ++ tuples_in ys
+tuples_append [] ys = refl
+tuples_append (x ∷ xs) ys = ap (λ z. tuple_in x.time x.load ++ z) (tuples_append xs ys) ∙ sym (append_assoc (tuple_in x.time x.load) (tuples_in xs) (tuples_in ys))

@@ -1,7 +1,6 @@
 -- What stands along the nodes of an arc, where one node changed.
-use Rattle.std.proofs.Common.{◌≡◌, ◌≢◌, ℕ, zero, suc, ◌+◌, ◌<◌, List, [], ◌∷◌, ◌++◌, Some, None, length, refl, sym, ap, subst, ◌∙◌, append_assoc, inl, inr, arith, get_or-set_other, get_or-set_same}
+use Rattle.std.proofs.Common.{◌≡◌, ◌≢◌, ℕ, ◌+◌, ◌<◌, List, [], ◌∷◌, ◌++◌, Some, None, length, refl, sym, ap, subst, ◌∙◌, append_assoc, inl, inr, arith, get_or-set_other, get_or-set_same}
 use Rattle.std.proofs.Math.ListN.{set}
-use Rattle.std.specs.Prelude.{slice_get}
 use Rattle.std.specs.List.{flat_map}
 use Rattle.std.proofs.lemmas.List.{append-nil}
 use Rattle.sq_item.specs.declared.Item.{Item}
@@ -96,15 +95,3 @@ count-last kept node after (x ∷ y ∷ xs) apart last h c =
     let other : x ≢ node = λ e. apart.0 (subst (λ (n : ℕ). StandsIn n (y ∷ xs)) (sym e) (last-stands node (y ∷ xs) last)) in
     let one : (kept_at (set kept node after) x).count ≡ (kept_at kept x).count = ap (λ (k : Kept). k.count) (kept-other kept node x after other) in
     omega (arith, one, count-last kept node after (y ∷ xs) apart.1 last h c)
-
-pub slice_get-set_same : {X : Type 0} (xs : List X) (i : ℕ) (v : X) → i < length xs → slice_get (set xs i v) i ≡ Some v
-slice_get-set_same [] i v h = absurd (omega arith)
-slice_get-set_same (x ∷ xs) zero v h = refl
-slice_get-set_same (x ∷ xs) (suc i) v h = slice_get-set_same xs i v (omega arith)
-
-pub slice_get-set_other : {X : Type 0} (xs : List X) (i j : ℕ) (v : X) → j ≢ i → slice_get (set xs i v) j ≡ slice_get xs j
-slice_get-set_other [] i j v h = refl
-slice_get-set_other (x ∷ xs) zero zero v h = absurd (h refl)
-slice_get-set_other (x ∷ xs) zero (suc j) v h = refl
-slice_get-set_other (x ∷ xs) (suc i) zero v h = refl
-slice_get-set_other (x ∷ xs) (suc i) (suc j) v h = slice_get-set_other xs i j v (λ e. h (ap suc e))

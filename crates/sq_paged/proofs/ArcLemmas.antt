@@ -1,5 +1,5 @@
 -- The arc of which an item was pushed or popped.
-use Rattle.std.proofs.Common.{◌≡◌, ◌≢◌, ℕ, ◌+◌, ◌<◌, ◌≤◌, Bool, true, false, List, [], ◌∷◌, ◌++◌, Option, Some, length, refl, sym, ap, subst, ◌∙◌, inl, inr, arith, get_or-set_other, get_or-set_same}
+use Rattle.std.proofs.Common.{◌≡◌, ◌≢◌, ℕ, ◌+◌, ◌<◌, ◌≤◌, false, List, [], ◌∷◌, ◌++◌, Option, Some, length, refl, sym, ap, subst, ◌∙◌, inl, inr, arith, get_or-set_other, get_or-set_same}
 use Rattle.std.proofs.Math.ListN.{set, length-set}
 use Rattle.std.specs.Prelude.{drop}
 use Rattle.sq_item.specs.declared.Item.{Item}
@@ -15,6 +15,7 @@ use Rattle.sq_paged.proofs.StoreLemmas.{spares-then}
 use Rattle.sq_paged.proofs.KeptLemmas.{appended-kept, taken-kept, taken-all, started-kept}
 use Rattle.sq_paged.proofs.AlongLemmas.{along-last, along-first, along-gone, along-more, last-stands, last-behind, stands-behind, stands-before, behind-first, kept-same, kept-other, count-same, count-more, count-last}
 use Rattle.sq_paged.proofs.TouchLemmas.{AreAlone, Touches, touch-items, touch-rest, change-touches}
+use Rattle.sq_words.proofs.Bools.{true_is_not_false}
 
 -- ---- an item behind the last of a page
 
@@ -38,10 +39,6 @@ append-adds q told r now arc node item g alone last a =
 
 -- ---- an item in a new page
 
-held-apart : (b : Bool) → b ≡ true → b ≡ false → ⊥
-held-apart true h k = absurd cc
-held-apart false h k = absurd cc
-
 start-touches : (q : Queues) (told : Option Pages) (r : Queues) (now : Option Pages) (arc node : ℕ) (item : Item) → PagedTogether q told → AreAlone q → arc < length q.chains.lists → StartsAt q told r now arc node item
     → Touches q told r now arc node (kept_at r.kept.items node).page
 start-touches q told r now arc node item g alone inside s =
@@ -54,7 +51,7 @@ start-touches q told r now arc node item g alone inside s =
       left = λ other h differ. stands-behind other node (nodes_on q arc) (subst (λ (xs : List ℕ). StandsIn other xs) here h) differ;
       kept = λ l other h differ. let under = alone.below l other h in s.others other (omega (arith, g.nodes, under)) differ;
       here = λ h. (started-kept q.pool told r.pool now (kept_at r.kept.items node) item s.page, refl);
-      apart = λ l other h differ e. held-apart (is_held q.pool (kept_at q.kept.items other).page) (g.pages l other h).held (ap (λ (p : ℕ). is_held q.pool p) e ∙ s.page.fresh);
+      apart = λ l other h differ e. true_is_not_false (is_held q.pool (kept_at q.kept.items other).page) (g.pages l other h).held (ap (λ (p : ℕ). is_held q.pool p) e ∙ s.page.fresh);
       alone = λ l away h. s.outside l h;
       stays = λ other h differ. subst (λ (xs : List ℕ). StandsIn other xs) (sym here) (stands-before other node (nodes_on q arc) h);
       had = λ l h. absurd (s.outside l h);
@@ -132,7 +129,7 @@ gone-touches q told m mid r now arc node item ys g alone inside first a d left =
       alone = λ l away h. away (alone.one l arc node h s);
       stays = λ other h differ. subst (λ (xs : List ℕ). StandsIn other xs) (sym left) (behind-first other node ys (subst (λ (xs : List ℕ). StandsIn other xs) first h) differ);
       had = λ l h. refl;
-      held = λ h. absurd (held-apart (is_held r.pool (kept_at q.kept.items node).page) h (subst (λ (p : ℕ). is_held r.pool p ≡ false) page d.gone));
+      held = λ h. absurd (true_is_not_false (is_held r.pool (kept_at q.kept.items node).page) h (subst (λ (p : ℕ). is_held r.pool p ≡ false) page d.gone));
     }
 
 last-of-more : (n x : ℕ) (ys xs : List ℕ) → ys ≡ x ∷ xs → last_node ys ≡ last_node (n ∷ ys)

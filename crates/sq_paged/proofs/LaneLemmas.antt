@@ -18,8 +18,8 @@ use Rattle.sq_paged.specs.declared.Lane.{Lane}
 use Rattle.sq_paged.specs.declared.store.Kept.{Kept}
 use Rattle.sq_paged.specs.declared.Queues.{Queues}
 use Rattle.sq_paged.proofs.KeptLemmas.{first-behind}
-use Rattle.sq_paged.proofs.AlongLemmas.{slice_get-set_same, slice_get-set_other}
 use Rattle.sq_paged.proofs.TouchLemmas.{together-by}
+use Rattle.sq_words.proofs.Lists.{get_set_same, get_set_other}
 
 is-first-some : (n : ℕ) → 1 ≤ n → is_first n ≡ true
 is-first-some n h = ap (λ (b : Bool). cond b false true) (eqb-other n 0 (λ e. absurd (omega (arith, e, h))))
@@ -30,7 +30,7 @@ some-count (suc n) h = omega arith
 
 -- ---- a push
 
-some-first : (o : Option ℕ) (time : ℕ) → is_some (first_time_or o time) ≡ true
+pub some-first : (o : Option ℕ) (time : ℕ) → is_some (first_time_or o time) ≡ true
 some-first None time = refl
 some-first (Some t) time = refl
 
@@ -110,7 +110,7 @@ popped-face q told m now r arc item lane new g p inside was lanes is =
     let own = g.lanes arc in
     let wasc : (paged_face_at (slice_get q.lanes.items arc)).count ≡ lane.count = ap (λ (o : Option Lane). (paged_face_at o).count) was in
     let front = front_of m.kept.items (nodes_on m arc) in
-    let will : paged_face r arc ≡ paged_face_at (Some (popped lane front)) = ap (λ (ls : List Lane). paged_face_at (slice_get ls arc)) lanes ∙ ap paged_face_at (slice_get-set_same q.lanes.items arc new inside) ∙ ap (λ (x : Lane). paged_face_at (Some x)) is in
+    let will : paged_face r arc ≡ paged_face_at (Some (popped lane front)) = ap (λ (ls : List Lane). paged_face_at (slice_get ls arc)) lanes ∙ ap paged_face_at (get_set_same q.lanes.items arc new inside) ∙ ap (λ (x : Lane). paged_face_at (Some x)) is in
     subst (λ (f : Face). IsPopped (paged_face q arc) f) (sym will) (record {
       count = omega (arith, wasc, own.count, p.count);
       first = l.first;
@@ -123,9 +123,9 @@ pub lane-read : (xs ys : List Lane) (arc : ℕ) (lane : Lane) → ys ≡ xs → 
 lane-read xs ys arc lane same inside e = slice_get_read xs (length xs) arc lane refl inside (e ∙ ap (λ (ls : List Lane). get_or ls arc lane) same)
 
 pub other-face : (xs ys : List Lane) (arc other : ℕ) (new : Lane) → ys ≡ set xs arc new → other ≢ arc → paged_face_at (slice_get ys other) ≡ paged_face_at (slice_get xs other)
-other-face xs ys arc other new lanes differ = ap (λ (ls : List Lane). paged_face_at (slice_get ls other)) lanes ∙ ap paged_face_at (slice_get-set_other xs arc other new differ)
+other-face xs ys arc other new lanes differ = ap (λ (ls : List Lane). paged_face_at (slice_get ls other)) lanes ∙ ap paged_face_at (get_set_other xs arc other new differ)
 
-first-given : (o : Option ℕ) (time : ℕ) → Some (unwrap_or o time) ≡ first_time_or o time
+pub first-given : (o : Option ℕ) (time : ℕ) → Some (unwrap_or o time) ≡ first_time_or o time
 first-given None time = refl
 first-given (Some t) time = refl
 

@@ -1,13 +1,13 @@
 -- What a call of the pool leaves of the other pages.
 use Rattle.std.proofs.Common.{◌≡◌, ◌≢◌, ℕ, suc, ◌+◌, ◌-◌, ◌≤◌, true, false, cond, eqb, List, [], ◌∷◌, ◌++◌, Option, Some, None, length, refl, sym, ap, subst, ◌∙◌, append_assoc, inl, inr, arith}
-use Rattle.std.specs.Prelude.{is_some, ◌||◌, Result, Ok, Err, OnOk}
+use Rattle.std.specs.Prelude.{is_some, ◌||◌}
 use Rattle.std.proofs.lemmas.Bool.{cases_eq}
 use Rattle.std.specs.FinMap as finite
 use Rattle.sq_outside.specs.Disks.{Pages}
 use Rattle.sq_pool.specs.Slots.{without_page, digest_at}
 use Rattle.sq_pool.specs.Pools.{Pooled, bytes_in, is_held, if_none, if_kept, Agree, HasFrame, with_bytes, loaded, Keeps, Makes, Drops, Brings, Touched, CameBack, IsMade, zeros, LetsGo}
 use Rattle.sq_pool.specs.Trust.{Tells}
-use Rattle.sq_link.proofs.ListLemmas.{eqb-same, eqb-other}
+use Rattle.sq_link.proofs.ListLemmas.{eqb-other}
 use Rattle.sq_pool.proofs.MapLemmas.{bytes-other, bytes-gone, bytes-last, bytes-before, room-out}
 use Rattle.std.proofs.lemmas.List.{length-append}
 use Rattle.sq_item.specs.declared.Item.{Item}
@@ -20,6 +20,7 @@ use Rattle.sq_page.proofs.WholeTakes.{item_at_end, empty_page}
 use Rattle.sq_paged.specs.Kept.{page_seen, FitsKept, IsFit, Brought, Spares, Appended, Taken, Started, items_kept, items_of_bytes}
 use Rattle.sq_paged.specs.declared.store.Kept.{Kept}
 use Rattle.sq_paged.proofs.KeptWords.{Written}
+use Rattle.sq_words.proofs.Numbers.{eqb_itself}
 
 -- a page that is in a frame after one was spilled was there before
 pub room-known : (c : Pooled) (told : Option Pages) (d : Pooled) (now : Option Pages) → HasFrame c told d now → (q : ℕ) (b : List ℕ) → bytes_in q d.resident ≡ Some b → bytes_in q c.resident ≡ Some b
@@ -109,17 +110,11 @@ pub told-fits : (c : Pooled) (told : Option Pages) (d : Pooled) (now : Option Pa
     → Tells now → FitsKept b kept
 told-fits c told d now kept k tells fit b there t = fit b (sym (same-by c told d now tells k t kept.page) ∙ in-frame d now kept.page b there)
 
-pub on-ok : {A E P Q : Type 0} (r : Result A E) → (P → Q) → OnOk r P → OnOk r Q
-on-ok (Ok x) f h = f h
-on-ok (Err e) f h = tt
-
--- ---- writing
-
 with-here : (p : ℕ) (w b : List ℕ) (xs : List (ℕ × List ℕ)) → bytes_in p xs ≡ Some b → bytes_in p (with_bytes p w xs) ≡ Some w
 with-here p w b [] e = absurd cc
 with-here p w b (x ∷ xs) e =
     elim (cases_eq x.0 p) [
-      | inl at ↦ let here : eqb x.0 p ≡ true = rw (at) (eqb-same p) in rw (here, here) refl
+      | inl at ↦ let here : eqb x.0 p ≡ true = rw (at) (eqb_itself p) in rw (here, here) refl
       | inr other ↦ let apart : eqb x.0 p ≡ false = eqb-other x.0 p other in rw (apart, apart) (with-here p w b xs (rw (apart) at e))
     ]
 
@@ -128,7 +123,7 @@ with-other p q w [] other = refl
 with-other p q w (x ∷ xs) other =
     elim (cases_eq x.0 p) [
       | inl at ↦
-          let here : eqb x.0 p ≡ true = rw (at) (eqb-same p) in
+          let here : eqb x.0 p ≡ true = rw (at) (eqb_itself p) in
           let apart : eqb x.0 q ≡ false = eqb-other x.0 q (λ s. other (sym s ∙ at)) in
           rw (here, apart) (with-other p q w xs other)
       | inr differ ↦ let apart : eqb x.0 p ≡ false = eqb-other x.0 p differ in rw (apart) (ap (λ (o : Option (List ℕ)). cond (eqb x.0 q) (Some x.1) o) (with-other p q w xs other))
@@ -403,7 +398,7 @@ gone-seen c told d (Some n) p tells l k q other b e = sym (gone-same c told d (S
 
 -- no page is there that was let go
 pub gone-held : (c : Pooled) (told : Option Pages) (d : Pooled) (now : Option Pages) (p : ℕ) → Drops c told d now p → is_held d p ≡ false
-gone-held c told d now p k = rw (eqb-same p) at (k.numbers p)
+gone-held c told d now p k = rw (eqb_itself p) at (k.numbers p)
 
 pub gone-spares : (c : Pooled) (told : Option Pages) (d : Pooled) (now : Option Pages) (p : ℕ) → (Tells now → Tells told) → LetsGo c d p → Drops c told d now p → Agree d now → d.frames ≡ c.frames → Spares c told d now p
 gone-spares c told d now p tells l k agree frames =

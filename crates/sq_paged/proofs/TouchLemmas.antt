@@ -16,7 +16,8 @@ use Rattle.sq_paged.specs.declared.Lane.{Lane}
 use Rattle.sq_paged.specs.declared.store.Kept.{Kept}
 use Rattle.sq_paged.specs.declared.Queues.{Queues}
 use Rattle.sq_paged.proofs.KeptLemmas.{spared-kept, spared-items}
-use Rattle.sq_paged.proofs.AlongLemmas.{along-same, kept-same, kept-other, count-same, slice_get-set_same, slice_get-set_other}
+use Rattle.sq_paged.proofs.AlongLemmas.{along-same, kept-same, kept-other, count-same}
+use Rattle.sq_words.proofs.Lists.{get_set_same, get_set_other}
 
 -- where the nodes of queues stand
 pub record AreAlone (q : Queues) : Type 0 where
@@ -158,8 +159,8 @@ touch-rest q told r now arc node page g t =
 pub together-by : (q : Queues) (told : Option Pages) (m : Queues) (now : Option Pages) (r : Queues) (arc : ℕ) (lane : Lane) → PagedTogether q told → KeepsOthers q told m now arc → arc < length q.lanes.items → r.lanes.items ≡ set q.lanes.items arc lane
     → IsPagedLane (Some lane) m.kept.items (nodes_on m arc) → (Tells now → IsFaceOf (paged_face_at (Some lane)) (paged_items_on m now arc)) → PagedTogether (record m { lanes = r.lanes }) now
 together-by q told m now r arc lane g k inside lanes own faced =
-    let here : slice_get r.lanes.items arc ≡ Some lane = ap (λ (ls : List Lane). slice_get ls arc) lanes ∙ slice_get-set_same q.lanes.items arc lane inside in
-    let there : (l : ℕ) → l ≢ arc → slice_get r.lanes.items l ≡ slice_get q.lanes.items l = λ l away. ap (λ (ls : List Lane). slice_get ls l) lanes ∙ slice_get-set_other q.lanes.items arc l lane away in
+    let here : slice_get r.lanes.items arc ≡ Some lane = ap (λ (ls : List Lane). slice_get ls arc) lanes ∙ get_set_same q.lanes.items arc lane inside in
+    let there : (l : ℕ) → l ≢ arc → slice_get r.lanes.items l ≡ slice_get q.lanes.items l = λ l away. ap (λ (ls : List Lane). slice_get ls l) lanes ∙ get_set_other q.lanes.items arc l lane away in
     record {
       agree = k.agree;
       arcs = k.arcs ∙ g.arcs ∙ sym (ap length lanes ∙ length-set q.lanes.items arc lane);

@@ -1,5 +1,5 @@
 -- What the limits of a sound network bound: inputs, ports, streams, arcs and windows.
-use Rattle.std.proofs.Common.{◌≡◌, ap, refl, Bool, ℕ, zero, suc, ◌+◌, ◌*◌, ◌<◌, ◌≤◌, ◌^◌, true, List, [], ◌∷◌, map, length, Some, IfSome, slice_get, arith}
+use Rattle.std.proofs.Common.{◌≡◌, ap, refl, ℕ, zero, suc, ◌+◌, ◌*◌, ◌<◌, ◌≤◌, ◌^◌, true, List, [], ◌∷◌, map, length, Some, IfSome, slice_get, arith}
 use Rattle.std.specs.List.{AllByRecursion, list_all, sum_by}
 use Rattle.std.proofs.lemmas.List.{take_all}
 use Rattle.std.proofs.lemmas.Bool.Decides.{nat_tests}
@@ -12,7 +12,6 @@ use Rattle.sq_graph.specs.declared.BoxKind.{BoxKind}
 use Rattle.sq_graph.specs.declared.BoxKind.TheVariants as boxes
 use Rattle.sq_graph.specs.declared.BoxWires.{BoxWires}
 use Rattle.sq_graph.specs.Wires.{producers_of, arcs_of}
-use Rattle.sq_graph.proofs.Reach.{and_parts}
 use Rattle.sq_net.specs.declared.Body.{Body}
 use Rattle.sq_net.specs.declared.Body.TheVariants.{Filter, Map, Union, BSort, Aggregate, Join, Resample}
 use Rattle.sq_net.specs.declared.Node.{Node}
@@ -24,6 +23,8 @@ use Rattle.sq_place.proofs.Final.{streams_count}
 use Rattle.sq_place.proofs.Multiples.{lt-or}
 use Rattle.sq_place.proofs.Wires.{outputs-inside}
 use Rattle.sq_points.specs.Points.{window_in, windows_of}
+use Rattle.sq_words.proofs.Bools.{and_true}
+use Rattle.sq_words.proofs.Lists.{list_all_at}
 
 pub at_most : (low high k : ℕ) → is_between low high k ≡ true → k ≤ high
 at_most low high k h = grind (arith, nat_tests)
@@ -45,7 +46,7 @@ takes_few boxes.Resample k h = grind (arith, nat_tests)
 pub all_take_few : (ws : List BoxWires) → list_all (λ b. takes_within b.kind (length b.inputs)) ws ≡ true → AllByRecursion (λ (b : BoxWires). length b.inputs ≤ 8) ws
 all_take_few [] h = tt
 all_take_few (b ∷ ws) h =
-    let parts = and_parts (takes_within b.kind (length b.inputs)) (list_all (λ c. takes_within c.kind (length c.inputs)) ws) h in
+    let parts = and_true (takes_within b.kind (length b.inputs)) (list_all (λ c. takes_within c.kind (length c.inputs)) ws) h in
     (takes_few b.kind (length b.inputs) parts.0, all_take_few ws parts.1)
 
 -- ---- ports
@@ -58,11 +59,6 @@ body_gives_few ins (BSort by slack) ports h typed = (let one = ap (λ (cs : List
 body_gives_few ins (Aggregate funcs group window) ports h typed = (let one = ap (λ (cs : List Columns). length cs) typed.1 in omega (arith, one))
 body_gives_few ins (Join size on) ports h typed = (let one = ap (λ (cs : List Columns). length cs) typed.1 in omega (arith, one))
 body_gives_few ins (Resample size funcs) ports h typed = (let one = ap (λ (cs : List Columns). length cs) typed.1 in omega (arith, one))
-
-pub passes_at : {X : Type 0} (test : X → Bool) (xs : List X) (i : ℕ) (x : X) → list_all test xs ≡ true → slice_get xs i ≡ Some x → test x ≡ true
-passes_at test [] i x h there = cc
-passes_at test (y ∷ ys) zero x h there = let same : y ≡ x = cc in rw (← same) (and_parts (test y) (list_all test ys) h).0
-passes_at test (y ∷ ys) (suc i) x h there = passes_at test ys i x (and_parts (test y) (list_all test ys) h).1 there
 
 -- where each box gives at most 16 streams, they are few together
 sum_few : (ws : List BoxWires) (ds : List Node) → map (λ b. b.ports) ws ≡ map (λ b. length b.schemas) ds
@@ -80,18 +76,18 @@ sum_few (w ∷ ws) (d ∷ ds) same each =
 -- ---- the limits
 
 pub nodes_within : (n : Network) → network_within n ≡ true → list_all node_within n.boxes ≡ true
-nodes_within n h = (and_parts _ _ (and_parts _ _ (and_parts _ _ h).0).0).1
+nodes_within n h = (and_true _ _ (and_true _ _ (and_true _ _ h).0).0).1
 
 pub takes_all : (n : Network) → network_within n ≡ true → list_all (λ b. takes_within b.kind (length b.inputs)) n.wires.boxes ≡ true
-takes_all n h = (and_parts _ _ h).1
+takes_all n h = (and_true _ _ h).1
 
 pub counts : (n : Network) → network_within n ≡ true → (is_between 1 8 (length n.sources) ≡ true) × (is_between 0 128 (length n.boxes) ≡ true)
-counts n h = and_parts _ _ (and_parts _ _ (and_parts _ _ (and_parts _ _ (and_parts _ _ (and_parts _ _ (and_parts _ _ (and_parts _ _ h).0).0).0).0).0).0).0
+counts n h = and_true _ _ (and_true _ _ (and_true _ _ (and_true _ _ (and_true _ _ (and_true _ _ (and_true _ _ (and_true _ _ h).0).0).0).0).0).0).0
 
 gives_few : (n : Network) → IsSound n → (at : ℕ) (d : Node) → slice_get n.boxes at ≡ Some d → length d.schemas ≤ 16
 gives_few n sound at d there =
-    let within : node_within d ≡ true = passes_at node_within n.boxes at d (nodes_within n sound.within) there in
-    body_gives_few (input_columns n at) d.body d.schemas (and_parts _ _ (and_parts _ _ within).0).0 (sound.typed at d there)
+    let within : node_within d ≡ true = list_all_at node_within n.boxes at d (nodes_within n sound.within) there in
+    body_gives_few (input_columns n at) d.body d.schemas (and_true _ _ (and_true _ _ within).0).0 (sound.typed at d there)
 
 pub few_streams : (n : Network) → IsSound n → length (producers_of n.wires) < 2 ^ 20
 few_streams n sound =
@@ -115,7 +111,7 @@ inputs_few (w ∷ ws) h =
     omega (arith, here, more, sum)
 
 pub few_outputs : (n : Network) → IsSound n → length n.outputs ≤ 32
-few_outputs n sound = at_most 1 32 (length n.outputs) (and_parts _ _ (and_parts _ _ (and_parts _ _ (and_parts _ _ (and_parts _ _ (and_parts _ _ (and_parts _ _ sound.within).0).0).0).0).0).0).1
+few_outputs n sound = at_most 1 32 (length n.outputs) (and_true _ _ (and_true _ _ (and_true _ _ (and_true _ _ (and_true _ _ (and_true _ _ (and_true _ _ sound.within).0).0).0).0).0).0).1
 
 pub few_arcs : (n : Network) → IsSound n → length (arcs_of n.wires) < 2 ^ 20
 few_arcs n sound =
@@ -163,5 +159,5 @@ small_windows n sound = small_all n.boxes (recursion_from_All (λ (b : Node). Ha
 
 pub batch_low : (n : Network) → IsSound n → (1 ≤ n.batch) × (n.batch ≤ 1000000)
 batch_low n sound =
-    let within : is_between 1 1000000 n.batch ≡ true = (and_parts _ _ (and_parts _ _ (and_parts _ _ (and_parts _ _ (and_parts _ _ sound.within).0).0).0).0).1 in
+    let within : is_between 1 1000000 n.batch ≡ true = (and_true _ _ (and_true _ _ (and_true _ _ (and_true _ _ (and_true _ _ sound.within).0).0).0).0).1 in
     (at_least 1 1000000 n.batch within, at_most 1 1000000 n.batch within)

@@ -10,15 +10,13 @@ use Rattle.std.proofs.lemmas.List.FromFn.{length-range_with_len}
 use Rattle.sq_words.specs.Lists.{numbers_to, contains_number}
 use Rattle.sq_graph.specs.declared.Wiring.{Wiring}
 use Rattle.sq_graph.specs.Wires.{output_arc_at, input_arcs_of}
-use Rattle.sq_graph.proofs.Reach.{and_parts}
 use Rattle.sq_place.specs.declared.DropAt.{DropAt}
 use Rattle.sq_place.specs.declared.DropPoint.{DropPoint}
 use Rattle.sq_place.specs.Places.{Windows, is_reached, boxes_below, outputs_below, is_candidate, lies_below, places_of, candidates_of, drop_places_of}
 use Rattle.sq_place.specs.Points.{point_at}
 use Rattle.sq_place.specs.Ranks.{Somewhere}
 use Rattle.sq_place.specs.Laws.{AreApart}
-use Rattle.sq_place.proofs.Lists.{All-mapped, All-every, map-agree, and-left, contains-filter, contains-range}
-use Rattle.sq_place.proofs.Wires.{length-mapped}
+use Rattle.sq_place.proofs.Lists.{All-mapped, All-every, map-agree, contains-range}
 use Rattle.sq_place.proofs.ApartLaws.{are_apart}
 use Rattle.sq_place.proofs.Differing.{one_number}
 use Rattle.sq_plan.specs.declared.Toll.{Toll}
@@ -35,6 +33,9 @@ use Rattle.sq_points.specs.Losses.{loss_table, losses_in, most_lost, AreFalls}
 use Rattle.sq_points.proofs.Bounds.{at_most, all_take_few, takes_all, counts, few_outputs, few_streams, nodes_within}
 use Rattle.sq_points.proofs.Sharing.{IsAlone, shared, sum-mapped, sum-agree, sum-at-most, few-by-sum}
 use Rattle.sq_points.proofs.Falls.{lost_by, lost-low, in-order, all-lost, by-table}
+use Rattle.sq_words.proofs.Bools.{and_true, and_first}
+use Rattle.sq_words.proofs.Lists.{contains_filter, length_map}
+use Rattle.sq_words.proofs.Alls.{all_weaker}
 
 -- ---- places apart
 
@@ -49,7 +50,7 @@ module _ (w : Wiring) (ws : Windows) (apart : AreApart w ws) where
 
   stands : (p : DropAt) (o : ℕ) → o < length w.outputs → shows p o ≡ true → contains_number (outputs_below w ws p) o ≡ true
   stands p o lt e =
-      contains-filter (shows p) (numbers_to (length w.outputs)) o
+      contains_filter (shows p) (numbers_to (length w.outputs)) o
       ∙ ap (λ b. b && shows p o) (contains-range 0 (length w.outputs) o (omega arith) (omega (arith, lt))) ∙ e
 
   alone : (o : ℕ) → o < length w.outputs → IsAlone shows (λ x. x) (drop_places_of w ws) o
@@ -76,17 +77,11 @@ candidates-filtered w ws t (x ∷ xs) = by (candidates-filtered w ws t xs) (is_c
     by more false e = more
 
 some-output : (w : Wiring) (ws : Windows) (p : DropAt) → is_candidate w ws p ≡ true → 1 ≤ sum_by (λ o. 1) (outputs_below w ws p)
-some-output w ws p e = by (outputs_below w ws p) (and-left _ _ (and-left _ _ e))
+some-output w ws p e = by (outputs_below w ws p) (and_first _ _ (and_first _ _ e))
   where
     by : (os : List ℕ) → not (length os == 0) ≡ true → 1 ≤ sum_by (λ o. 1) os
     by [] h = absurd (cc h)
     by (o ∷ os) h = let all = sum_by-cons (λ o. 1) o os in omega (arith, all)
-
-all-weaker : {X : Type 0} (P Q : X → Type 0) → ((x : X) → P x → Q x) → (xs : List X) → AllByRecursion P xs → AllByRecursion Q xs
-all-weaker P Q h [] all = tt
-all-weaker P Q h (x ∷ xs) all = (h x all.0, all-weaker P Q h xs all.1)
-
--- ---- the parts
 
 module _ (n : Network) (sound : IsSound n) where
   abbrev places : List DropAt
@@ -101,7 +96,7 @@ module _ (n : Network) (sound : IsSound n) where
   few-places : length places ≤ 32
   few-places =
       let few = few-by-sum (λ p. sum_by (λ o. 1) (outputs_below n.wires (windows_of n) p)) places
-      (all-weaker (λ p. is_candidate n.wires (windows_of n) p ≡ true) (λ p. 1 ≤ sum_by (λ o. 1) (outputs_below n.wires (windows_of n) p)) (some-output n.wires (windows_of n)) places
+      (all_weaker (λ p. is_candidate n.wires (windows_of n) p ≡ true) (λ p. 1 ≤ sum_by (λ o. 1) (outputs_below n.wires (windows_of n) p)) (some-output n.wires (windows_of n)) places
       (candidates-filtered n.wires (windows_of n) (λ q. not (list_any (lies_below n.wires (windows_of n) q) (candidates_of n.wires (windows_of n)))) (places_of n.wires))) in
       let share = shared-outputs n.wires (windows_of n) apart (λ o. 1) in
       let all = sum-at-most (λ o. 1) 1 (numbers_to (length n.wires.outputs)) (λ o. omega arith) in
@@ -110,7 +105,7 @@ module _ (n : Network) (sound : IsSound n) where
 
   -- each drop point has an output of its own
   pub few-points : length (points_of n) ≤ 32
-  few-points = (let few = few-places in let same = length-mapped (point_at n.wires (windows_of n) n.batch) places in omega (arith, few, same))
+  few-points = (let few = few-places in let same = length_map (point_at n.wires (windows_of n) n.batch) places in omega (arith, few, same))
 
   boxes-low : length n.wires.boxes ≤ 128
   boxes-low = let low = at_most 0 128 (length n.boxes) (counts n sound.within).1 in let same = boxes_count n sound in omega (arith, low, same)
@@ -126,8 +121,8 @@ module _ (n : Network) (sound : IsSound n) where
   tolls-low : (bs : List Node) → list_all node_within bs ≡ true → AreTolls (map (λ b. record { cost = b.cost; selectivity = b.selectivity }) bs)
   tolls-low [] h = tt
   tolls-low (b ∷ bs) h =
-      let parts = and_parts (node_within b) (list_all node_within bs) h in
-      (at_most 0 1000 b.cost (and_parts _ _ (and_parts _ _ parts.0).0).1, tolls-low bs parts.1)
+      let parts = and_true (node_within b) (list_all node_within bs) h in
+      (at_most 0 1000 b.cost (and_true _ _ (and_true _ _ parts.0).0).1, tolls-low bs parts.1)
 
   module _ (falls : AreFalls (loss_table n)) where
     together : sum_by sum (map (λ p. losses_below n p.outputs) (points_of n)) < 2 ^ 63
@@ -149,7 +144,7 @@ module _ (n : Network) (sound : IsSound n) where
       wired = sound.agrees.wired;
       acyclic = sound.acyclic;
       tolls = tolls-low n.boxes (nodes_within n sound.within);
-      paired = sym (length-mapped (λ (p : DropPoint). losses_below n p.outputs) (points_of n));
+      paired = sym (length_map (λ (p : DropPoint). losses_below n p.outputs) (points_of n));
       few_points = (let few = few-points in omega (arith, few));
       few_below = All-from_recursion (λ (p : DropPoint). length p.boxes ≤ 128) (points_of n)
           (All-mapped (λ (p : DropPoint). length p.boxes ≤ 128) (point_at n.wires (windows_of n) n.batch) places (All-every (λ p. length (boxes_below n.wires (windows_of n) p) ≤ 128) below-low places));
@@ -163,14 +158,14 @@ module _ (n : Network) (sound : IsSound n) where
 weights-low : (os : List Output) → list_all output_within os ≡ true → AllByRecursion (λ (o : Output). o.weight ≤ 1000) os
 weights-low [] h = tt
 weights-low (o ∷ os) h =
-    let parts = and_parts (output_within o) (list_all output_within os) h in
-    (low o.weight (and_parts _ _ parts.0).0, weights-low os parts.1)
+    let parts = and_true (output_within o) (list_all output_within os) h in
+    (low o.weight (and_true _ _ parts.0).0, weights-low os parts.1)
   where
     low : (k : ℕ) → nat_le k 1000 ≡ true → k ≤ 1000
     low k h = grind (arith, nat_tests)
 
 pub weights : (n : Network) → IsSound n → All (λ (o : Output). o.weight ≤ 1000) n.outputs
-weights n sound = All-from_recursion (λ (o : Output). o.weight ≤ 1000) n.outputs (weights-low n.outputs (and_parts _ _ (and_parts _ _ sound.within).0).1)
+weights n sound = All-from_recursion (λ (o : Output). o.weight ≤ 1000) n.outputs (weights-low n.outputs (and_true _ _ (and_true _ _ sound.within).0).1)
 
 -- ---- what is given to a planner is the setting of the network
 

@@ -10,7 +10,7 @@ use Rattle.std.specs.declared.cmp.Ordering.{Ordering}
 use Rattle.std.specs.declared.cmp.Ordering.TheVariants.{Less, Equal, Greater}
 use Rattle.std.specs.Cmp.{nat_cmp_total, eq_by_cmp_equiv}
 use Rattle.sha2.specs.Sha256.{sha256}
-use Rattle.sq_link.proofs.ListLemmas.{eqb-same, eqb-other}
+use Rattle.sq_link.proofs.ListLemmas.{eqb-other}
 use Rattle.sq_outside.specs.Disks.{Pages, DiskLog, Honest, put_at, after_get}
 use Rattle.sq_pool.specs.Trust.{known, Tells, pages_with, HasPage}
 use Rattle.sq_pool.specs.Slots.{without_page, digest_at}
@@ -18,6 +18,7 @@ use Rattle.sq_pool.specs.Pools.{Pooled, bytes_in, is_held, page_of, if_none, if_
 use Rattle.sq_pool.proofs.PoolLemmas.{is-some}
 use Rattle.sq_pool.proofs.TrustLemmas.{if-tells, tells-with, tells-without, honest-tells, known-honest, known-pages, known-get, put-came}
 use Rattle.sq_pool.proofs.TrustWords.{pages_without}
+use Rattle.sq_words.proofs.Numbers.{eqb_itself}
 
 -- ---- lists of pages
 
@@ -33,7 +34,7 @@ bytes-other p q [] other = refl
 bytes-other p q (x ∷ xs) other =
     elim (cases_eq x.0 p) [
       | inl e ↦
-          let gone : eqb x.0 p ≡ true = rw (e) (eqb-same p) in
+          let gone : eqb x.0 p ≡ true = rw (e) (eqb_itself p) in
           let apart : eqb x.0 q ≡ false = eqb-other x.0 q (λ s. other (sym s ∙ e)) in
           rw (gone, apart) (bytes-other p q xs other)
       | inr differ ↦ rw (eqb-other x.0 p differ) (bytes-same x q (without_page p xs) xs (bytes-other p q xs other))
@@ -43,7 +44,7 @@ pub bytes-gone : (p : ℕ) (xs : List (ℕ × List ℕ)) → bytes_in p (without
 bytes-gone p [] = refl
 bytes-gone p (x ∷ xs) =
     elim (cases_eq x.0 p) [
-      | inl e ↦ let gone : eqb x.0 p ≡ true = rw (e) (eqb-same p) in rw (gone) (bytes-gone p xs)
+      | inl e ↦ let gone : eqb x.0 p ≡ true = rw (e) (eqb_itself p) in rw (gone) (bytes-gone p xs)
       | inr differ ↦ let apart = eqb-other x.0 p differ in rw (apart, apart) (bytes-gone p xs)
     ]
 
@@ -52,7 +53,7 @@ last-step true v o r b rest h = absurd cc
 last-step false v o r b rest h = rest h
 
 pub bytes-last : (p : ℕ) (b : List ℕ) (xs : List (ℕ × List ℕ)) → bytes_in p xs ≡ None → bytes_in p (xs ++ (p, b) ∷ []) ≡ Some b
-bytes-last p b [] h = rw (eqb-same p) refl
+bytes-last p b [] h = rw (eqb_itself p) refl
 bytes-last p b (x ∷ xs) h = last-step (eqb x.0 p) x.1 (bytes_in p xs) (bytes_in p (xs ++ (p, b) ∷ [])) b (bytes-last p b xs) h
 
 pub bytes-before : (p q : ℕ) (b : List ℕ) (xs : List (ℕ × List ℕ)) → q ≢ p → bytes_in q (xs ++ (p, b) ∷ []) ≡ bytes_in q xs
@@ -65,14 +66,14 @@ with-step x w true o ys zs h e = absurd cc
 with-step x w false o ys zs h e = ap (λ rest. x ∷ rest) (h e)
 
 with-last : (p : ℕ) (w b : List ℕ) (xs : List (ℕ × List ℕ)) → bytes_in p xs ≡ None → with_bytes p w (xs ++ (p, b) ∷ []) ≡ xs ++ (p, w) ∷ []
-with-last p w b [] h = rw (eqb-same p) refl
+with-last p w b [] h = rw (eqb_itself p) refl
 with-last p w b (x ∷ xs) h = with-step x w (eqb x.0 p) (bytes_in p xs) (with_bytes p w (xs ++ (p, b) ∷ [])) (xs ++ (p, w) ∷ []) (with-last p w b xs) h
 
 first-bytes : (xs : List (ℕ × List ℕ)) (p : ℕ) (b : List ℕ) → slice_get xs 0 ≡ Some (p, b) → bytes_in p xs ≡ Some b
 first-bytes [] p b e = absurd cc
 first-bytes (x ∷ xs) p b e =
     let same : x ≡ (p, b) = cc in
-    subst (λ (y : ℕ × List ℕ). bytes_in p (y ∷ xs) ≡ Some b) (sym same) (rw (eqb-same p) refl)
+    subst (λ (y : ℕ × List ℕ). bytes_in p (y ∷ xs) ≡ Some b) (sym same) (rw (eqb_itself p) refl)
 
 -- written bytes of a page that was just put into a frame
 pub written : (mid : Pooled) (p : ℕ) (b w : List ℕ) → bytes_in p mid.resident ≡ None
@@ -330,7 +331,7 @@ makes-loaded mid now p none gone = record {
   fresh = rw (none, gone) refl;
   pages = mapped now;
   numbers = at-page (is_held (loaded mid p zeros)) (λ q. eqb q p || is_held mid q) p
-      (rw (bytes-last p zeros mid.resident none, eqb-same p) refl)
+      (rw (bytes-last p zeros mid.resident none, eqb_itself p) refl)
       (λ q other. held-is mid (loaded mid p zeros) q (bytes-before p q zeros mid.resident other) (get_or-set_other mid.kept p q None None other) ∙ sym (rw (eqb-other q p other) refl));
   agree = agree-loaded mid now p zeros;
 }
@@ -339,7 +340,7 @@ makes-loaded mid now p none gone = record {
     mapped None = tt
     mapped (Some t) =
         at-page (page_of (loaded mid p zeros) t) (λ q. cond (eqb q p) (Some zeros) (page_of mid t q)) p
-        (rw (bytes-last p zeros mid.resident none, eqb-same p) refl)
+        (rw (bytes-last p zeros mid.resident none, eqb_itself p) refl)
         (λ q other. page-is mid (loaded mid p zeros) t t q (bytes-before p q zeros mid.resident other) (get_or-set_other mid.kept p q None None other) refl ∙ sym (rw (eqb-other q p other) refl))
 
 makes-after : (c : Pooled) (told : Option Pages) (d : Pooled) (now : Option Pages) (e : Pooled) (p : ℕ) → Keeps c told d now → Makes d now e now p → Makes c told e now p
@@ -397,7 +398,7 @@ drops-at : (c d : Pooled) (told now : Option Pages) (p : ℕ) → bytes_in p d.r
 drops-at c d told now p none gone rest got tells = record {
   pages = mapped told now got;
   numbers = at-page (is_held d) (λ q. not (eqb q p) && is_held c q) p
-      (rw (none, gone, eqb-same p) refl)
+      (rw (none, gone, eqb_itself p) refl)
       (λ q other. held-is c d q (rest q other).0 (rest q other).1 ∙ sym (rw (eqb-other q p other) refl));
   agree = λ a. agrees told now got tells a;
 }
@@ -407,7 +408,7 @@ drops-at c d told now p none gone rest got tells = record {
     mapped (Some t) None h = tt
     mapped (Some t) (Some n) h =
         at-page (page_of d n) (λ q. cond (eqb q p) None (page_of c t q)) p
-        (rw (none, gone, eqb-same p) refl)
+        (rw (none, gone, eqb_itself p) refl)
         (λ q other. page-is c d t n q (rest q other).0 (rest q other).1 (h q other) ∙ sym (rw (eqb-other q p other) refl))
 
     agrees : (a b : Option Pages) → IfSome a (λ t. IfSome b (λ n. (q : ℕ) → q ≢ p → finite.get n q ≡ finite.get t q)) → (Tells b → Tells a) → Agree c a → Agree d b
@@ -440,8 +441,8 @@ drops-spilled c told now p none is =
 
 lets-go : (c d : Pooled) (p : ℕ) → bytes_in p d.resident ≡ None → digest_at d.kept p ≡ None → ((q : ℕ) → q ≢ p → (bytes_in q d.resident ≡ bytes_in q c.resident) × (digest_at d.kept q ≡ digest_at c.kept q)) → LetsGo c d p
 lets-go c d p none gone rest = record {
-  bytes = at-page (λ q. bytes_in q d.resident) (λ q. cond (eqb q p) None (bytes_in q c.resident)) p (rw (none, eqb-same p) refl) (λ q other. (rest q other).0 ∙ sym (rw (eqb-other q p other) refl));
-  kept = at-page (λ q. digest_at d.kept q) (λ q. cond (eqb q p) None (digest_at c.kept q)) p (rw (gone, eqb-same p) refl) (λ q other. (rest q other).1 ∙ sym (rw (eqb-other q p other) refl));
+  bytes = at-page (λ q. bytes_in q d.resident) (λ q. cond (eqb q p) None (bytes_in q c.resident)) p (rw (none, eqb_itself p) refl) (λ q other. (rest q other).0 ∙ sym (rw (eqb-other q p other) refl));
+  kept = at-page (λ q. digest_at d.kept q) (λ q. cond (eqb q p) None (digest_at c.kept q)) p (rw (gone, eqb_itself p) refl) (λ q other. (rest q other).1 ∙ sym (rw (eqb-other q p other) refl));
 }
 
 pub lets-resident-go : (c : Pooled) (p : ℕ) → LetsGo c (record c { resident = without_page p c.resident; kept = set c.kept p None }) p

@@ -3,10 +3,8 @@ use Rattle.std.proofs.Common.{◌≡◌, ℕ, ◌+◌, ◌%◌, ◌≤◌, ◌�
 use Rattle.std.proofs.lemmas.Bool.Decides.{nat_tests}
 use Rattle.sq_qos.specs.declared.GraphErr.{GraphErr}
 use Rattle.sq_qos.specs.Graphs.{Points, graph_error, is_on_grid, first_x, last_x, rises, is_concave, unless_error}
-
-pub both : (a b : Bool) → (a && b) ≡ true → (a ≡ true) × (b ≡ true)
-both true b h = (refl, h)
-both false b h = cc
+use Rattle.sq_words.proofs.Bools.{and_true}
+use Rattle.sq_words.proofs.Numbers.{eq_from}
 
 pub unless_none : (b : Bool) (e : GraphErr) (more : Option GraphErr) → unless_error b e more ≡ None → (b ≡ true) × (more ≡ None)
 unless_none true e more h = (refl, h)
@@ -14,9 +12,6 @@ unless_none false e more h = cc
 
 pub le_from : (a b : ℕ) → nat_le a b ≡ true → a ≤ b
 le_from a b h = grind (arith, nat_tests)
-
-pub eq_from : (a b : ℕ) → (a == b) ≡ true → a ≡ b
-eq_from a b h = grind (arith, nat_tests)
 
 two_from : (n : ℕ) → nat_lt 1 n ≡ true → 2 ≤ n
 two_from n h = grind (arith, nat_tests)
@@ -36,8 +31,8 @@ graph_facts ps h =
     let c = unless_none _ _ _ b.1 in
     let d = unless_none _ _ _ c.1 in
     let e = unless_none _ _ _ d.1 in
-    let ends = both _ _ c.0 in
-    let start = both _ _ ends.0 in
+    let ends = and_true _ _ c.0 in
+    let start = and_true _ _ ends.0 in
     record {
       grid = b.0;
       first = eq_from _ _ start.1;
@@ -56,10 +51,10 @@ pub record OnGrid (least : ℕ) (p : ℕ × ℕ) (ps : Points) : Type 0 where
 
 pub on_grid : (least : ℕ) (p : ℕ × ℕ) (ps : Points) → is_on_grid least (p ∷ ps) ≡ true → OnGrid least p ps
 on_grid least p ps h =
-    let a = both _ _ h in
-    let b = both _ _ a.0 in
-    let c = both _ _ b.0 in
-    let d = both _ _ c.0 in
+    let a = and_true _ _ h in
+    let b = and_true _ _ a.0 in
+    let c = and_true _ _ b.0 in
+    let d = and_true _ _ c.0 in
     record {
       from = le_from _ _ d.0;
       wide = le_from _ _ d.1;

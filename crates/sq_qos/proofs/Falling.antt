@@ -4,8 +4,9 @@ use Rattle.std.proofs.Math.Nat.{le_of_mul-le-mul_left, mul-le-mul_left}
 use Rattle.std.proofs.lemmas.Bool.Decides.{nat_tests}
 use Rattle.std.proofs.lemmas.Bool.{cases_lt}
 use Rattle.sq_qos.specs.Graphs.{Points, scale, is_on_grid, first_x, last_x, rises, is_concave, is_no_steeper, scaled_value, loss_step}
-use Rattle.sq_qos.proofs.Facts.{GraphFacts, both, le_from}
+use Rattle.sq_qos.proofs.Facts.{GraphFacts, le_from}
 use Rattle.sq_qos.proofs.Slopes.{divides, slope, Line, Begins, begins, growth, grows}
+use Rattle.sq_words.proofs.Bools.{and_true}
 
 -- with s in place of the scale
 less_steep : (s n m u v a b : ℕ) → 1 ≤ n → 1 ≤ m → n * u ≡ s → m * v ≡ s → b * n ≤ a * m → v * b ≤ u * a
@@ -48,7 +49,7 @@ growth_below p q [] x grid rise concave =
 growth_below p q (r ∷ rest) x grid rise concave =
     let b : Begins p q (r ∷ rest) = begins p q (r ∷ rest) grid rise in
     let c : Begins q r rest = begins q r rest b.grid b.rise in
-    let bent = both (is_no_steeper p q r) (is_concave (q ∷ r ∷ rest)) concave in
+    let bent = and_true (is_no_steeper p q r) (is_concave (q ∷ r ∷ rest)) concave in
     let falls = slope_falls p q r b.line c.line bent.0 in
     let more = growth_below q r rest x b.grid b.rise bent.1 in
     elim (cases_lt x q.0) [
@@ -61,14 +62,14 @@ after_line p q [] x grid rise concave = omega arith
 after_line p q (r ∷ rest) x grid rise concave =
     let b : Begins p q (r ∷ rest) = begins p q (r ∷ rest) grid rise in
     let c : Begins q r rest = begins q r rest b.grid b.rise in
-    let bent = both (is_no_steeper p q r) (is_concave (q ∷ r ∷ rest)) concave in
+    let bent = and_true (is_no_steeper p q r) (is_concave (q ∷ r ∷ rest)) concave in
     let falls = slope_falls p q r b.line c.line bent.0 in
     let more = growth_below q r rest x b.grid b.rise bent.1 in
     omega (arith, falls, more)
 
 concave_rest : (p q : ℕ × ℕ) (rest : Points) → is_concave (p ∷ q ∷ rest) ≡ true → is_concave (q ∷ rest) ≡ true
 concave_rest p q [] h = refl
-concave_rest p q (r ∷ rest) h = (both (is_no_steeper p q r) (is_concave (q ∷ r ∷ rest)) h).1
+concave_rest p q (r ∷ rest) h = (and_true (is_no_steeper p q r) (is_concave (q ∷ r ∷ rest)) h).1
 
 growth_falls : (ps : Points) (x : ℕ) → is_on_grid 0 ps ≡ true → rises ps ≡ true → is_concave ps ≡ true → growth ps (x + 50) ≤ growth ps x
 growth_falls [] x grid rise concave = omega arith

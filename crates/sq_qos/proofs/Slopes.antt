@@ -4,7 +4,9 @@ use Rattle.std.proofs.Math.Nat.{mul-div_cancel_left}
 use Rattle.std.proofs.lemmas.Bool.Decides.{nat_tests}
 use Rattle.std.proofs.lemmas.Bool.{cases_lt}
 use Rattle.sq_qos.specs.Graphs.{Points, scale, on_line, scaled_value, is_on_grid, first_x, last_x, rises}
-use Rattle.sq_qos.proofs.Facts.{both, le_from, eq_from, OnGrid, on_grid}
+use Rattle.sq_qos.proofs.Facts.{le_from, OnGrid, on_grid}
+use Rattle.sq_words.proofs.Bools.{and_true}
+use Rattle.sq_words.proofs.Numbers.{eq_from}
 
 -- whether each number from 1 to n divides the scale
 abbrev divide_to : ℕ → Bool
@@ -17,7 +19,7 @@ all_divide = refl
 divides_at : (m n : ℕ) → divide_to m ≡ true → 1 ≤ n → n ≤ m → n * (scale / n) ≡ scale
 divides_at zero n all low high = absurd (omega arith)
 divides_at (suc m) n all low high =
-    let parts : (((suc m * (scale / suc m)) == scale) ≡ true) × (divide_to m ≡ true) = both _ _ all in
+    let parts : (((suc m * (scale / suc m)) == scale) ≡ true) × (divide_to m ≡ true) = and_true _ _ all in
     elim (cases_lt m n) [
       | inl above ↦ (let same : n ≡ suc m = omega arith in rw same (eq_from _ _ parts.0))
       | inr within ↦ divides_at m n parts.1 low within
@@ -107,7 +109,7 @@ pub begins : (p q : ℕ × ℕ) (rest : Points) → is_on_grid 0 (p ∷ q ∷ re
 begins p q rest grid rise =
     let a : OnGrid 0 p (q ∷ rest) = on_grid 0 p (q ∷ rest) grid in
     let b : OnGrid (p.0 + 1) q rest = on_grid (p.0 + 1) q rest a.rest in
-    let r = both (nat_le p.1 q.1) (rises (q ∷ rest)) rise in
+    let r = and_true (nat_le p.1 q.1) (rises (q ∷ rest)) rise in
     record {
       line = record {
         from = a.fifty;

@@ -10,6 +10,7 @@ use Rattle.sq_paged.specs.Faces.{is_first}
 use Rattle.sq_paged.specs.Fronts.{Face, IsFaceOf, IsPopped, first_time, first_time_or, pushed}
 use Rattle.sq_queue.specs.Faces.{face_at, front_at, behind_at, first_time_of, IsLane}
 use Rattle.sq_queue.specs.declared.Lane.{Lane}
+use Rattle.sq_paged.proofs.LaneLemmas.{first-given}
 
 pub on-ok-both : {T E P Q R : Type 0} (r : Result T E) → OnOk r P → OnOk r Q → (P → Q → R) → OnOk r R
 on-ok-both (Ok x) p q f = f p q
@@ -65,10 +66,6 @@ appended-items front new items item e none =
     ap (λ (xs : List Item). new ++ xs) none ∙ append-nil new ∙ e ∙ ap (λ (xs : List Item). xs ++ item ∷ []) (sym (append-nil front) ∙ ap (λ (xs : List Item). front ++ xs) (sym none))
 
 -- ---- an item behind the last in pages
-
-first-given : (o : Option ℕ) (time : ℕ) → Some (unwrap_or o time) ≡ first_time_or o time
-first-given None time = refl
-first-given (Some t) time = refl
 
 pub pushed-behind : (lane new : Lane) (time : ℕ) (paged after : Face) → IsLane (Some lane) paged → after ≡ pushed paged time → new.front.items ≡ lane.front.items → new.count ≡ lane.count + 1 → new.behind ≡ Some (unwrap_or lane.behind time)
     → IsLane (Some new) after

@@ -10,11 +10,11 @@ use Rattle.sq_outside.specs.Disks.{Pages}
 use Rattle.sq_pool.specs.Trust.{Tells}
 use Rattle.sq_paged.specs.Fronts.{Face}
 use Rattle.sq_paged.specs.Faces as pages
-use Rattle.sq_paged.proofs.AlongLemmas.{slice_get-set_same, slice_get-set_other}
 use Rattle.sq_queue.specs.Faces.{front_at, size, items_on, no_face, IsEmpty, IsLane, Together}
 use Rattle.sq_queue.specs.declared.Lane.{Lane}
 use Rattle.sq_queue.specs.declared.Queues.{Queues}
 use Rattle.sq_queue.proofs.LaneLemmas.{lane-face, none-behind}
+use Rattle.sq_words.proofs.Lists.{get_set_same, get_set_other}
 
 -- where pages and lanes are as they should be, all stands together
 pub together-by : (q : Queues) (told : Option Pages) → pages.PagedTogether q.paged told → pages.paged_size q.paged ≡ size q → ((arc : ℕ) → IsLane (slice_get q.lanes.items arc) (pages.paged_face q.paged arc)) → Together q told
@@ -34,14 +34,14 @@ pub written-together : (q : Queues) (told : Option Pages) (r : Queues) (now : Op
     → slice_get q.lanes.items arc ≡ Some lane → r.lanes.items ≡ set q.lanes.items arc new → ((other : ℕ) → other ≢ arc → pages.paged_face r.paged other ≡ pages.paged_face q.paged other)
     → (IsLane (Some lane) (pages.paged_face q.paged arc) → IsLane (Some new) (pages.paged_face r.paged arc)) → Together r now
 written-together q told r now arc lane new g paged sizes inside was lanes others own =
-    let here : slice_get r.lanes.items arc ≡ Some new = ap (λ (ls : List Lane). slice_get ls arc) lanes ∙ slice_get-set_same q.lanes.items arc new inside in
+    let here : slice_get r.lanes.items arc ≡ Some new = ap (λ (ls : List Lane). slice_get ls arc) lanes ∙ get_set_same q.lanes.items arc new inside in
     together-by r now paged (sizes ∙ g.arcs ∙ sym (ap length lanes ∙ length-set q.lanes.items arc new)) (λ l.
     elim (cases_eq l arc) [
       | inl same ↦
           subst (λ (n : ℕ). IsLane (slice_get r.lanes.items n) (pages.paged_face r.paged n)) (sym same)
           (subst (λ (o : Option Lane). IsLane o (pages.paged_face r.paged arc)) (sym here) (own (own-lane q told arc lane g was)))
       | inr away ↦
-          let there : slice_get r.lanes.items l ≡ slice_get q.lanes.items l = ap (λ (ls : List Lane). slice_get ls l) lanes ∙ slice_get-set_other q.lanes.items arc l new away in
+          let there : slice_get r.lanes.items l ≡ slice_get q.lanes.items l = ap (λ (ls : List Lane). slice_get ls l) lanes ∙ get_set_other q.lanes.items arc l new away in
           subst (λ (o : Option Lane). IsLane o (pages.paged_face r.paged l)) (sym there) (subst (λ (f : Face). IsLane (slice_get q.lanes.items l) f) (sym (others l away)) (g.lanes l))
     ])
 
@@ -49,13 +49,13 @@ written-together q told r now arc lane new g paged sizes inside was lanes others
 pub written-items : (q : Queues) (told : Option Pages) (r : Queues) (now : Option Pages) (arc : ℕ) (lane new : Lane) (more : List Item) → arc < size q → slice_get q.lanes.items arc ≡ Some lane → r.lanes.items ≡ set q.lanes.items arc new
     → new.front.items ++ pages.paged_items_on r.paged now arc ≡ (lane.front.items ++ pages.paged_items_on q.paged told arc) ++ more → items_on r now arc ≡ items_on q told arc ++ more
 written-items q told r now arc lane new more inside was lanes own =
-    let here : slice_get r.lanes.items arc ≡ Some new = ap (λ (ls : List Lane). slice_get ls arc) lanes ∙ slice_get-set_same q.lanes.items arc new inside in
+    let here : slice_get r.lanes.items arc ≡ Some new = ap (λ (ls : List Lane). slice_get ls arc) lanes ∙ get_set_same q.lanes.items arc new inside in
     ap (λ (o : Option Lane). front_at o ++ pages.paged_items_on r.paged now arc) here ∙ own ∙ ap (λ (o : Option Lane). (front_at o ++ pages.paged_items_on q.paged told arc) ++ more) (sym was)
 
 pub other-items : (q : Queues) (told : Option Pages) (r : Queues) (now : Option Pages) (arc other : ℕ) (new : Lane) → r.lanes.items ≡ set q.lanes.items arc new → other ≢ arc → pages.paged_items_on r.paged now other ≡ pages.paged_items_on q.paged told other
     → items_on r now other ≡ items_on q told other
 other-items q told r now arc other new lanes differ same =
-    let there : slice_get r.lanes.items other ≡ slice_get q.lanes.items other = ap (λ (ls : List Lane). slice_get ls other) lanes ∙ slice_get-set_other q.lanes.items arc other new differ in
+    let there : slice_get r.lanes.items other ≡ slice_get q.lanes.items other = ap (λ (ls : List Lane). slice_get ls other) lanes ∙ get_set_other q.lanes.items arc other new differ in
     ap (λ (o : Option Lane). front_at o ++ pages.paged_items_on r.paged now other) there ∙ ap (λ (xs : List Item). front_at (slice_get q.lanes.items other) ++ xs) same
 
 -- where nothing of an arc is said to be in pages, nothing is

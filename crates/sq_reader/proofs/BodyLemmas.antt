@@ -38,8 +38,7 @@ use Rattle.sq_reader.specs.Expressions.{may_be_predicate, may_be_set, predicate_
 use Rattle.sq_reader.specs.Functions.{funcs_from, group_from, kinds_answered}
 use Rattle.sq_reader.specs.Columns.{TypedBody, typed_aggregate, bad_given, bad_name, typed_body, bsort_of, filter_of, give_names, int_place, join_of, kinds_set, map_of, nat_of, node_in, node_of, place_if, typed_resample, same_columns, set_names, set_texts, too_many, union_of, unless_schema, window_read}
 use Rattle.sq_tables.proofs.ShapedLemmas.{first_step}
-use Rattle.sq_reader.proofs.StepLemmas.{found_as}
-use Rattle.sq_reader.proofs.ListLemmas.{and_both, and_parts, each_passes, is_at_most, none_failing}
+use Rattle.sq_reader.proofs.ListLemmas.{each_passes, none_failing}
 use Rattle.sq_reader.proofs.LimitLemmas.{given_length, answer_columns_of, number_within, settings_of, slack_of}
 use Rattle.sq_reader.proofs.DistinctLemmas.{new_both, new_distinct, none_bad}
 use Rattle.sq_reader.proofs.SchemaLemmas.{schema_none}
@@ -49,6 +48,10 @@ use Rattle.sq_reader.proofs.FunctionLemmas.{few_enough, funcs_kinded, good_given
 use Rattle.sq_reader.proofs.ResampleLemmas.{given_new, left_width}
 use Rattle.sq_reader.proofs.WindowLemmas.{window_is}
 use Rattle.sq_words.specs.Results.{◌>>=◌}
+use Rattle.sq_words.proofs.Bools.{and_true}
+use Rattle.std.proofs.lemmas.Bool.{and_from}
+use Rattle.sq_words.proofs.Numbers.{nat_le_true}
+use Rattle.sq_tables.proofs.EvenLemmas.{read_as}
 
 -- a box of the file, and what it was typed as on these columns
 pub record IsBodyOf (raw : RawBody) (ins : List Columns) (t : TypedBody) : Type 0 where
@@ -73,7 +76,7 @@ filter_is n preds ins t h =
       );
       kind = refl;
       ports = omega (arith, long);
-      within = λ w. (let parts = and_parts (has_between 1 15 preds) (list_all is_expression_long preds) w in rw count parts.0);
+      within = λ w. (let parts = and_true (has_between 1 15 preds) (list_all is_expression_long preds) w in rw count parts.0);
       window = λ w. tt;
     } in
     let same : (body.Filter one.0, replicate (length preds + 1) cs) ≡ t = (let last = one.1.1 in cc) in
@@ -130,7 +133,7 @@ map_is n set ins t h =
       );
       kind = refl;
       ports = refl;
-      within = λ w. (let parts = and_parts (has_between 1 16 set) (list_all (λ e. is_expression_long e.text) set) w in rw count parts.0);
+      within = λ w. (let parts = and_true (has_between 1 16 set) (list_all (λ e. is_expression_long e.text) set) w in rw count parts.0);
       window = λ w. tt;
     } in
     let same : (body.Map one.0, ports ∷ []) ≡ t = (let last = one.1.1 in cc) in
@@ -173,10 +176,10 @@ bsort_is n by slack ins t h =
     let fault : NetErr = broken.Typing (place_at part.Box n 0) in
     let one = first_step (or_broken fault (int_place cs by)) (λ i. Ok (body.BSort i (nat_of slack), cs ∷ [])) t h in
     let built : IsBodyOf (BSort by slack) ins (body.BSort one.0 (nat_of slack), cs ∷ []) = record {
-      typed = (int_there cs by one.0 (found_as fault (int_place cs by) one.0 one.1.0), refl);
+      typed = (int_there cs by one.0 (read_as fault (int_place cs by) one.0 one.1.0), refl);
       kind = refl;
       ports = refl;
-      within = λ w. (let low = slack_of by slack w in is_at_most (nat_of slack) 10000 low);
+      within = λ w. (let low = slack_of by slack w in nat_le_true (nat_of slack) 10000 low);
       window = λ w. tt;
     } in
     let same : (body.BSort one.0 (nat_of slack), cs ∷ []) ≡ t = (let last = one.1.1 in cc) in
@@ -214,14 +217,14 @@ aggregate_is n size advance phase group give ins t h =
         (let P : List (List ℕ) → Type 0 = λ ws. All (λ w. is_name w ≡ true) ws in subst P (sym names) (All-from_recursion (λ w. is_name w ≡ true) (give_names give) good.names)),
         All-from_recursion (λ i. i < length cs) two.0 fields.below,
         ap are_distinct shown ∙ new_distinct [] (group ++ give_names give) (new_both [] group (give_names give) fields.new good.new),
-        is_at_most (length two.0 + length one.0) 16 (omega (arith, places, count, few, long)),
+        nat_le_true (length two.0 + length one.0) 16 (omega (arith, places, count, few, long)),
       );
       kind = refl;
       ports = refl;
-      within = λ w. (let parts = and_parts (has_between 0 16 group) (has_between 1 16 give) w in
+      within = λ w. (let parts = and_true (has_between 0 16 group) (has_between 1 16 give) w in
           let low = answer_columns_of size advance phase group give w in
           let most = low.few_groups in
-          and_both (sound.is_between 1 16 (length one.0)) (nat_le (length two.0) 16) (rw count parts.1) (is_at_most (length two.0) 16 (omega (arith, places, most))));
+          and_from (sound.is_between 1 16 (length one.0)) (nat_le (length two.0) 16) (rw count parts.1) (nat_le_true (length two.0) 16 (omega (arith, places, most))));
       window = λ w. window_is size advance phase w;
     } in
     let same : (body.Aggregate one.0 two.0 window, (columns_at cs two.0 ++ given) ∷ []) ≡ t = (let last = two.1.1 in cc) in
@@ -234,11 +237,11 @@ join_is n size on ins t h =
     let zero_step = unless_none n (too_many (length cs)) (predicate_of n cs on >>= λ e. Ok (body.Join (nat_of size) e, cs ∷ [])) t h in
     let one = first_step (predicate_of n cs on) (λ e. Ok (body.Join (nat_of size) e, cs ∷ [])) t zero_step.1 in
     let built : IsBodyOf (Join size on) ins (body.Join (nat_of size) one.0, cs ∷ []) = record {
-      typed = (predicate_is n cs on one.0 one.1.0, refl, is_at_most (length cs) 16 (few_enough (length cs) zero_step.0));
+      typed = (predicate_is n cs on one.0 one.1.0, refl, nat_le_true (length cs) 16 (few_enough (length cs) zero_step.0));
       kind = refl;
       ports = refl;
-      within = λ w. (let parts = and_parts (is_int_between 0 (2 ^ 32) size) (is_expression_long on) w in
-          let low = and_parts (nat_le 0 (nat_of size)) (nat_le (nat_of size) (2 ^ 32)) (number_within 0 (2 ^ 32) size parts.0) in low.1);
+      within = λ w. (let parts = and_true (is_int_between 0 (2 ^ 32) size) (is_expression_long on) w in
+          let low = and_true (nat_le 0 (nat_of size)) (nat_le (nat_of size) (2 ^ 32)) (number_within 0 (2 ^ 32) size parts.0) in low.1);
       window = λ w. tt;
     } in
     let same : (body.Join (nat_of size) one.0, cs ∷ []) ≡ t = (let last = one.1.1 in cc) in
@@ -268,13 +271,13 @@ resample_is n size give ins t h =
         funcs.kinds ∙ ap (λ (ks : List Kind). map Some ks) (sym (kinds_of_zip (give_names give) (kinds_answered right one.0) (sym kinds))),
         (let P : List (List ℕ) → Type 0 = λ ws. All (λ w. is_name w ≡ true) ws in subst P (sym names) (All-from_recursion (λ w. is_name w ≡ true) (give_names give) good.names)),
         subst (AreNew (names_of left)) (sym names) (given_new (names_of left) (give_names give) good),
-        is_at_most (length (first_columns ins) + length one.0) 16 (omega (arith, width, count, few, long)),
+        nat_le_true (length (first_columns ins) + length one.0) 16 (omega (arith, width, count, few, long)),
       );
       kind = refl;
       ports = refl;
-      within = λ w. (let parts = and_parts (is_int_between 0 (2 ^ 32) size) (has_between 1 16 give) w in
-          let low = and_parts (nat_le 0 (nat_of size)) (nat_le (nat_of size) (2 ^ 32)) (number_within 0 (2 ^ 32) size parts.0) in
-          and_both (nat_le (nat_of size) (2 ^ 32)) (sound.is_between 1 16 (length one.0)) low.1 (rw count parts.1));
+      within = λ w. (let parts = and_true (is_int_between 0 (2 ^ 32) size) (has_between 1 16 give) w in
+          let low = and_true (nat_le 0 (nat_of size)) (nat_le (nat_of size) (2 ^ 32)) (number_within 0 (2 ^ 32) size parts.0) in
+          and_from (nat_le (nat_of size) (2 ^ 32)) (sound.is_between 1 16 (length one.0)) low.1 (rw count parts.1));
       window = λ w. tt;
     } in
     let same : (body.Resample (nat_of size) one.0, (left ++ given) ∷ []) ≡ t = (let last = one.1.1 in cc) in

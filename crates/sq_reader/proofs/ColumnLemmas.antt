@@ -7,11 +7,12 @@ use Rattle.sq_words.specs.Lists.{same_bytes}
 use Rattle.sq_value.specs.Values.{Columns, kinds_of, names_of}
 use Rattle.sq_value.specs.declared.Kind.{Kind}
 use Rattle.sq_value.specs.declared.Kind.TheVariants as kind
-use Rattle.sq_expr.specs.Kinds.{kind_at, same_kind, same_kinds}
+use Rattle.sq_expr.specs.Kinds.{kind_at, same_kinds}
 use Rattle.sq_net.specs.Columns.{columns_at}
 use Rattle.sq_reader.specs.Columns.{same_columns, same_names}
-use Rattle.sq_reader.proofs.ListLemmas.{and_parts}
-use Rattle.sq_reader.proofs.DistinctLemmas.{same_text}
+use Rattle.sq_words.proofs.Bools.{and_true}
+use Rattle.sq_expr.proofs.KindLemmas.{same_kinds_is}
+use Rattle.sq_words.proofs.Lists.{same_bytes_true}
 
 pub columns_of_parts : (cs : Columns) → zip (names_of cs) (kinds_of cs) ≡ cs
 columns_of_parts [] = refl
@@ -33,35 +34,14 @@ same_names_is [] [] h = refl
 same_names_is [] (y ∷ ys) h = cc
 same_names_is (x ∷ xs) [] h = cc
 same_names_is (x ∷ xs) (y ∷ ys) h =
-    let parts = and_parts (same_bytes x y) (same_names xs ys) h in
-    let here : x ≡ y = same_text x y parts.0 in
+    let parts = and_true (same_bytes x y) (same_names xs ys) h in
+    let here : x ≡ y = same_bytes_true x y parts.0 in
     let more : xs ≡ ys = same_names_is xs ys parts.1 in
-    cc
-
-same_kind_is : (k l : Kind) → same_kind k l ≡ true → k ≡ l
-same_kind_is kind.Int kind.Int h = refl
-same_kind_is kind.Bool kind.Bool h = refl
-same_kind_is kind.Text kind.Text h = refl
-same_kind_is kind.Int kind.Bool h = cc
-same_kind_is kind.Int kind.Text h = cc
-same_kind_is kind.Bool kind.Int h = cc
-same_kind_is kind.Bool kind.Text h = cc
-same_kind_is kind.Text kind.Int h = cc
-same_kind_is kind.Text kind.Bool h = cc
-
-same_kinds_is : (ks ls : List Kind) → same_kinds ks ls ≡ true → ks ≡ ls
-same_kinds_is [] [] h = refl
-same_kinds_is [] (l ∷ ls) h = cc
-same_kinds_is (k ∷ ks) [] h = cc
-same_kinds_is (k ∷ ks) (l ∷ ls) h =
-    let parts = and_parts (same_kind k l) (same_kinds ks ls) h in
-    let here : k ≡ l = same_kind_is k l parts.0 in
-    let more : ks ≡ ls = same_kinds_is ks ls parts.1 in
     cc
 
 pub same_columns_are : (cs ds : Columns) → same_columns cs ds ≡ true → cs ≡ ds
 same_columns_are cs ds h =
-    let parts = and_parts (same_names (names_of cs) (names_of ds)) (same_kinds (kinds_of cs) (kinds_of ds)) h in
+    let parts = and_true (same_names (names_of cs) (names_of ds)) (same_kinds (kinds_of cs) (kinds_of ds)) h in
     let names : names_of cs ≡ names_of ds = same_names_is (names_of cs) (names_of ds) parts.0 in
     let kinds : kinds_of cs ≡ kinds_of ds = same_kinds_is (kinds_of cs) (kinds_of ds) parts.1 in
     sym (columns_of_parts cs) ∙ (ap (λ (ws : List (List ℕ)). zip ws (kinds_of cs)) names ∙ (ap (λ (ks : List Kind). zip (names_of ds) ks) kinds ∙ columns_of_parts ds))

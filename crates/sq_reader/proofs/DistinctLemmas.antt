@@ -4,25 +4,12 @@ use Rattle.std.specs.List.{list_any, AllByRecursion}
 use Rattle.std.specs.Str.{bytes_eq}
 use Rattle.std.proofs.lemmas.List.Folds.{list_any-append}
 use Rattle.std.proofs.lemmas.Map.Text.{is_eq-slice_cmp}
-use Rattle.std.proofs.lemmas.Slice.Eq.{bytes_eq-Decides}
 use Rattle.sq_words.specs.Lists.{same_bytes, contains_bytes, are_distinct}
-use Rattle.sq_graph.proofs.Cycles.{or_none}
 use Rattle.sq_net.specs.Names.{is_name}
 use Rattle.sq_reader.specs.Naming.{repeat_after}
 use Rattle.sq_reader.specs.Columns.{bad_name_from}
-
-pub same_text : (a b : List ℕ) → same_bytes a b ≡ true → a ≡ b
-same_text a b h = (bytes_eq-Decides a b).0 (sym (is_eq-slice_cmp a b) ∙ h)
-
-itself : (a : List ℕ) → same_bytes a a ≡ true
-itself a = is_eq-slice_cmp a a ∙ (bytes_eq-Decides a a).1 refl
-
-turned : (a b : List ℕ) → same_bytes a b ≡ false → same_bytes b a ≡ false
-turned a b h = by_test (same_bytes b a) refl
-  where
-    by_test : (t : Bool) → same_bytes b a ≡ t → same_bytes b a ≡ false
-    by_test true e = let same : b ≡ a = same_text b a e in let all = rw same at h in let me = itself a in cc
-    by_test false e = e
+use Rattle.std.proofs.lemmas.Bool.{or_parts}
+use Rattle.sq_words.proofs.Lists.{same_bytes_turned}
 
 -- each name is none of these, and none of those in front of it
 abbrev pub IsNew : List (List ℕ) → List (List ℕ) → Type 0
@@ -35,9 +22,9 @@ split_out : (before : List (List ℕ)) (x : List ℕ) (ys : List (List ℕ)) →
 split_out before x [] h = (tt, refl)
 split_out before x (y ∷ ys) h =
     let more = split_out before x ys h.1 in
-    let parts = or_none (contains_bytes y before) (contains_bytes y (x ∷ [])) (sym (list_any-append (same_bytes y) before (x ∷ [])) ∙ h.0) in
-    let here = or_none (same_bytes y x) false parts.1 in
-    let apart = turned y x here.0 in
+    let parts = or_parts (contains_bytes y before) (contains_bytes y (x ∷ [])) (sym (list_any-append (same_bytes y) before (x ∷ [])) ∙ h.0) in
+    let here = or_parts (same_bytes y x) false parts.1 in
+    let apart = same_bytes_turned y x here.0 in
     ((parts.0, more.0), rw (apart, more.1) refl)
 
 pub new_out : (before xs : List (List ℕ)) → IsNew before xs → AllByRecursion (λ y. contains_bytes y before ≡ false) xs
@@ -57,8 +44,8 @@ split_front : (x : List ℕ) (before ys : List (List ℕ)) → AllByRecursion (�
 split_front x before [] h = (tt, refl)
 split_front x before (y ∷ ys) h =
     let more = split_front x before ys h.1 in
-    let parts = or_none (same_bytes y x) (contains_bytes y before) h.0 in
-    let apart = turned y x parts.0 in
+    let parts = or_parts (same_bytes y x) (contains_bytes y before) h.0 in
+    let apart = same_bytes_turned y x parts.0 in
     ((parts.1, more.0), rw (apart, more.1) refl)
 
 and_each : (b c : Bool) → (not b && c) ≡ true → (b ≡ false) × (c ≡ true)

@@ -26,12 +26,13 @@ use Rattle.sq_tables.specs.Rawly.{or_broken}
 use Rattle.sq_reader.specs.Columns.{bad_given, bad_name, give_names, too_many}
 use Rattle.sq_reader.specs.Functions.{func_in, func_for, funcs_from, group_from, group_place, if_kinded, kinds_answered}
 use Rattle.sq_tables.proofs.ShapedLemmas.{first_step}
-use Rattle.sq_reader.proofs.StepLemmas.{found_as}
 use Rattle.sq_reader.proofs.LimitLemmas.{neither}
-use Rattle.sq_reader.proofs.DistinctLemmas.{IsNew, new_both, new_distinct, none_bad, same_text}
+use Rattle.sq_reader.proofs.DistinctLemmas.{IsNew, new_both, new_distinct, none_bad}
 use Rattle.sq_reader.proofs.SchemaLemmas.{schema_none}
 use Rattle.sq_reader.proofs.ColumnLemmas.{columns_of_parts, kinds_at_places, zip_both}
 use Rattle.sq_words.specs.Results.{◌>>=◌}
+use Rattle.sq_words.proofs.Lists.{same_bytes_true}
+use Rattle.sq_tables.proofs.EvenLemmas.{read_as}
 
 -- ---- the functions
 
@@ -62,7 +63,7 @@ funcs_kinded n i cs (g ∷ gs) fs h =
     let two = first_step (funcs_from n (i + 1) cs gs) (λ rest. Ok (one.0 ∷ rest)) fs one.1.1 in
     let same : one.0 ∷ two.0 ≡ fs = (let last = two.1.1 in cc) in
     let more = funcs_kinded n (i + 1) cs gs two.0 two.1.0 in
-    let kinded = func_kinded cs g.answer one.0 (found_as fault (func_in cs g.answer) one.0 one.1.0) in
+    let kinded = func_kinded cs g.answer one.0 (read_as fault (func_in cs g.answer) one.0 one.1.0) in
     let P : List Func → Type 0 = AreKinded cs (g ∷ gs) in
     subst P same (record { kinds = by_kind (kind_of_func cs one.0) two.0 kinded more.kinds; count = ap suc more.count })
   where
@@ -91,7 +92,7 @@ column_there cs w p h = by_column (slice_get cs p) refl
     low = (position-Some (same_bytes w) (names_of cs) p w h).0
 
     same : w ≡ get_or (names_of cs) p w
-    same = same_text w (get_or (names_of cs) p w) (let is = position-Some (same_bytes w) (names_of cs) p w h in is.1)
+    same = same_bytes_true w (get_or (names_of cs) p w) (let is = position-Some (same_bytes w) (names_of cs) p w h in is.1)
 
     by_column : (o : Option (List ℕ × Kind)) → slice_get cs p ≡ o → (c : List ℕ × Kind) × ((slice_get cs p ≡ Some c) × (c.0 ≡ w))
     by_column None e =
@@ -128,7 +129,7 @@ group_fields n i cs before (w ∷ ws) ps h =
     let two = first_step (group_from n (i + 1) cs (before ++ w ∷ []) ws) (λ rest. Ok (one.0 ∷ rest)) ps one.1.1 in
     let same : one.0 ∷ two.0 ≡ ps = (let last = two.1.1 in cc) in
     let more = group_fields n (i + 1) cs (before ++ w ∷ []) ws two.0 two.1.0 in
-    let here = field_at cs before w one.0 (found_as fault (group_place cs before w) one.0 one.1.0) in
+    let here = field_at cs before w one.0 (read_as fault (group_place cs before w) one.0 one.1.0) in
     let front : names_of (columns_at cs (one.0 ∷ two.0)) ≡ w ∷ ws =
     ap (λ (o : Option (List ℕ × Kind)). names_of (cons_option o (columns_at cs two.0))) here.there
     ∙ (ap (λ (v : List ℕ). v ∷ names_of (columns_at cs two.0)) here.named ∙ ap (λ (vs : List (List ℕ)). w ∷ vs) more.names) in

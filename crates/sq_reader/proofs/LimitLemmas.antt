@@ -24,7 +24,8 @@ use Rattle.sq_net.specs.Sound as sound
 use Rattle.sq_net.specs.Sound.{takes_within}
 use Rattle.sq_reader.specs.Columns.{give_names, nat_of, set_names, set_texts}
 use Rattle.sq_reader.specs.Streaming.{kind_of_told_body}
-use Rattle.sq_reader.proofs.ListLemmas.{and_parts, none_failing, nothing_mapped}
+use Rattle.sq_reader.proofs.ListLemmas.{none_failing, nothing_mapped}
+use Rattle.sq_words.proofs.Bools.{and_true}
 
 pub neither : {A : Type 0} (a b : Option A) → or_else a b ≡ None → (a ≡ None) × (b ≡ None)
 neither None b h = (refl, h)
@@ -78,10 +79,10 @@ pub record Counts (r : Raw) : Type 0 where
 pub counts_of : (r : Raw) → limit_place r ≡ None → Counts r
 counts_of r h =
     let w = is_within r h in
-    let a = and_parts _ _ w.top in
-    let b = and_parts _ _ a.0 in
-    let d = and_parts _ _ b.0 in
-    let e = and_parts _ _ d.0 in
+    let a = and_true _ _ w.top in
+    let b = and_true _ _ a.0 in
+    let d = and_true _ _ b.0 in
+    let e = and_true _ _ d.0 in
     record {
       sources = few 1 8 r.sources e.0;
       boxes = few 0 128 r.boxes e.1;
@@ -103,7 +104,7 @@ pub record OutputWithin (o : RawOutput) : Type 0 where
 
 pub output_of : (o : RawOutput) → told_output_within o ≡ true → OutputWithin o
 output_of o h =
-    let parts = and_parts (is_int_between 0 1000 o.weight) (has_between 0 1000 o.graph) h in
+    let parts = and_true (is_int_between 0 1000 o.weight) (has_between 0 1000 o.graph) h in
     record { light = number_few o.weight parts.0; few = few 0 1000 o.graph parts.1 }
   where
     number_few : (z : ℤ) → is_int_between 0 1000 z ≡ true → nat_of z ≤ 1000
@@ -119,7 +120,7 @@ pub record FieldsWithin (s : RawSource) : Type 0 where
 
 pub fields_of : (s : RawSource) → told_source_within s ≡ true → FieldsWithin s
 fields_of s h =
-    let parts = and_parts (has_between 1 255 s.file) (has_between 1 16 s.fields) h in
+    let parts = and_true (has_between 1 255 s.file) (has_between 1 16 s.fields) h in
     record { some = some 1 16 s.fields parts.1; few = few 1 16 s.fields parts.1 }
 
 pub record PredicatesWithin (preds : List (List ℕ)) : Type 0 where
@@ -128,7 +129,7 @@ pub record PredicatesWithin (preds : List (List ℕ)) : Type 0 where
 
 pub predicates_of : (preds : List (List ℕ)) → told_body_within (Filter preds) ≡ true → PredicatesWithin preds
 predicates_of preds h =
-    let parts = and_parts (has_between 1 15 preds) (list_all is_expression_long preds) h in
+    let parts = and_true (has_between 1 15 preds) (list_all is_expression_long preds) h in
     record { few = few 1 15 preds parts.0; long = parts.1 }
 
 texts_long : (set : List Setting) → list_all is_expression_long (set_texts set) ≡ list_all (λ e. is_expression_long e.text) set
@@ -144,7 +145,7 @@ pub record SettingsWithin (set : List Setting) : Type 0 where
 
 pub settings_of : (set : List Setting) → told_body_within (Map set) ≡ true → SettingsWithin set
 settings_of set h =
-    let parts = and_parts (has_between 1 16 set) (list_all (λ e. is_expression_long e.text) set) h in
+    let parts = and_true (has_between 1 16 set) (list_all (λ e. is_expression_long e.text) set) h in
     record {
       some = some 1 16 set parts.0;
       few = few 1 16 set parts.0;
@@ -164,7 +165,7 @@ pub record AnswerColumnsWithin (group : List (List ℕ)) (give : List AnswerColu
 
 pub answer_columns_of : (size advance phase : ℤ) (group : List (List ℕ)) (give : List AnswerColumn) → told_body_within (Aggregate size advance phase group give) ≡ true → AnswerColumnsWithin group give
 answer_columns_of size advance phase group give h =
-    let parts = and_parts (has_between 0 16 group) (has_between 1 16 give) h in
+    let parts = and_true (has_between 0 16 group) (has_between 1 16 give) h in
     record { few_groups = few 0 16 group parts.0; some = some 1 16 give parts.1; few = few 1 16 give parts.1 }
 
 pub given_length : (give : List AnswerColumn) → length (give_names give) ≡ length give
@@ -203,9 +204,9 @@ pub record BoxWithin (b : RawBox) : Type 0 where
 
 pub box_of : (b : RawBox) → box_within b ≡ true → BoxWithin b
 box_of b h =
-    let front = and_parts (told_body_within b.body && inputs_within b.body b.ins && is_int_between 0 1000 b.cost) (list_all (is_int_between 0 1000000) b.selectivity) h in
-    let middle = and_parts (told_body_within b.body && inputs_within b.body b.ins) (is_int_between 0 1000 b.cost) front.0 in
-    let parts = and_parts (told_body_within b.body) (inputs_within b.body b.ins) middle.0 in
+    let front = and_true (told_body_within b.body && inputs_within b.body b.ins && is_int_between 0 1000 b.cost) (list_all (is_int_between 0 1000000) b.selectivity) h in
+    let middle = and_true (told_body_within b.body && inputs_within b.body b.ins) (is_int_between 0 1000 b.cost) front.0 in
+    let parts = and_true (told_body_within b.body) (inputs_within b.body b.ins) middle.0 in
     record { body = parts.0; some = (inputs b.body parts.1).0; few = (inputs b.body parts.1).1 }
   where
     inputs : (raw : RawBody) → inputs_within raw b.ins ≡ true → (1 ≤ length b.ins) × (length b.ins ≤ 8)

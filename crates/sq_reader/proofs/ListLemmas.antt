@@ -1,23 +1,13 @@
 -- Lists by the places of their items.
 use Rattle.std.proofs.Common.{◌≡◌, ◌∙◌, sym, ap, refl, ℕ, zero, suc, ◌+◌, ◌<◌, ◌≤◌, Bool, true, false, not, ◌&&◌, List, [], ◌∷◌, map, length, Option, Some, None, slice_get, get_or, set, cond, arith}
-use Rattle.std.specs.Prelude.{is_some, nat_le}
-use Rattle.std.proofs.lemmas.Bool.Decides.{nat_tests}
+use Rattle.std.specs.Prelude.{is_some}
 use Rattle.std.specs.List.{cons_option, filter_map, list_all, position_from, AllByRecursion}
 use Rattle.std.specs.Option.{option_map}
 use Rattle.std.proofs.lemmas.Iterator.Adapters.{position_from-zero}
 use Rattle.std.proofs.lemmas.Option.{slice_get-get_or}
 use Rattle.sq_reader.specs.Limits.{first_failing}
-
-pub and_parts : (a b : Bool) → (a && b) ≡ true → (a ≡ true) × (b ≡ true)
-and_parts true b h = (refl, h)
-and_parts false b h = cc
-
-pub and_both : (a b : Bool) → a ≡ true → b ≡ true → (a && b) ≡ true
-and_both true b h g = g
-and_both false b h g = cc
-
-pub is_at_most : (a b : ℕ) → a ≤ b → nat_le a b ≡ true
-is_at_most a b h = grind (arith, nat_tests)
+use Rattle.sq_words.proofs.Bools.{and_true}
+use Rattle.sq_words.proofs.Lists.{list_all_at}
 
 none_failing_from : {A : Type 0} (test : A → Bool) (n : ℕ) (xs : List A) → position_from (λ x. not (test x)) n xs ≡ None → list_all test xs ≡ true
 none_failing_from test n [] e = refl
@@ -38,19 +28,14 @@ nothing_mapped f (Some x) e = cc
 
 pub each_passes : {A : Type 0} (test : A → Bool) (xs : List A) → list_all test xs ≡ true → AllByRecursion (λ x. test x ≡ true) xs
 each_passes test [] h = tt
-each_passes test (x ∷ xs) h = let parts = and_parts (test x) (list_all test xs) h in (parts.0, each_passes test xs parts.1)
-
-pub passes_at : {A : Type 0} (test : A → Bool) (xs : List A) (i : ℕ) (x : A) → list_all test xs ≡ true → slice_get xs i ≡ Some x → test x ≡ true
-passes_at test [] i x h e = cc
-passes_at test (y ∷ ys) zero x h e = let same : y ≡ x = cc in rw (← same) (and_parts (test y) (list_all test ys) h).0
-passes_at test (y ∷ ys) (suc i) x h e = passes_at test ys i x (and_parts (test y) (list_all test ys) h).1 e
+each_passes test (x ∷ xs) h = let parts = and_true (test x) (list_all test xs) h in (parts.0, each_passes test xs parts.1)
 
 pub item_there : {A : Type 0} (xs : List A) (i : ℕ) (x : A) → i < length xs → x ≡ get_or xs i x → slice_get xs i ≡ Some x
 item_there xs i x low is = slice_get-get_or xs i x low ∙ ap Some (sym is)
 
 -- an item of a list in which all pass
 pub item_passes : {A : Type 0} (test : A → Bool) (xs : List A) (i : ℕ) (x : A) → list_all test xs ≡ true → i < length xs → x ≡ get_or xs i x → test x ≡ true
-item_passes test xs i x h low is = passes_at test xs i x h (item_there xs i x low is)
+item_passes test xs i x h low is = list_all_at test xs i x h (item_there xs i x low is)
 
 pub all_by_place : {A : Type 0} (test : A → Bool) (xs : List A) → ((i : ℕ) (x : A) → slice_get xs i ≡ Some x → test x ≡ true) → list_all test xs ≡ true
 all_by_place test [] h = refl
@@ -69,11 +54,6 @@ maps_same f g (x ∷ xs) (y ∷ ys) e h =
     let here : f x ≡ g y = h zero x y refl refl in
     let more : map f xs ≡ map g ys = maps_same f g xs ys (omega arith) (λ i a b p q. h (suc i) a b p q) in
     rw (here, more) refl
-
-pub get_set : {A : Type 0} (xs : List A) (i : ℕ) (x : A) → i < length xs → slice_get (set xs i x) i ≡ Some x
-get_set [] i x low = absurd (omega arith)
-get_set (y ∷ ys) zero x low = refl
-get_set (y ∷ ys) (suc i) x low = get_set ys i x (omega arith)
 
 pub get_set_other : {A : Type 0} (xs : List A) (i j : ℕ) (x : A) → (j ≡ i → ⊥) → slice_get (set xs i x) j ≡ slice_get xs j
 get_set_other [] i j x apart = refl
@@ -94,7 +74,7 @@ given_few {A} {B} f (x ∷ xs) = by_case (f x) (given_few f xs)
 pub all_given : {A B : Type 0} (f : A → Option B) (xs : List A) → list_all (λ x. is_some (f x)) xs ≡ true → length (filter_map f xs) ≡ length xs
 all_given f [] h = refl
 all_given {A} {B} f (x ∷ xs) h =
-    let parts = and_parts (is_some (f x)) (list_all (λ y. is_some (f y)) xs) h in
+    let parts = and_true (is_some (f x)) (list_all (λ y. is_some (f y)) xs) h in
     by_case (f x) parts.0 (all_given f xs parts.1)
   where
     by_case : (o : Option B) → is_some o ≡ true → length (filter_map f xs) ≡ length xs → length (cons_option o (filter_map f xs)) ≡ suc (length xs)

@@ -2,7 +2,6 @@
 use Rattle.std.proofs.Common.{◌≡◌, ◌∙◌, sym, ap, subst, refl, ℕ, zero, suc, ◌<◌, true, false, not, ◌==◌, List, [], ◌∷◌, ◌++◌, map, length, set, Option, Some, None, slice_get, arith, length-set, inl, inr}
 use Rattle.std.specs.Prelude.{Result, Ok}
 use Rattle.std.specs.List.{cons_option, filter_map, find, list_all}
-use Rattle.std.proofs.lemmas.Bool.Decides.{nat_tests}
 use Rattle.std.proofs.lemmas.List.Folds.{list_any-append}
 use Rattle.sq_words.specs.Lists.{numbers_to, contains_number}
 use Rattle.sq_value.specs.Values.{Columns}
@@ -10,9 +9,7 @@ use Rattle.sq_graph.specs.declared.Wiring.{Wiring}
 use Rattle.sq_graph.specs.declared.BoxWires.{BoxWires}
 use Rattle.sq_graph.specs.Wires.{Producer, Source, Port, producer_of, inputs_at, inputs_of}
 use Rattle.sq_graph.specs.Order.{can_be_next, is_given, order_after, order_of, then_place}
-use Rattle.sq_graph.proofs.Cycles.{or_cases, or_left, or_right}
 use Rattle.sq_graph.proofs.Finding.{found}
-use Rattle.sq_graph.proofs.Reach.{not_true}
 use Rattle.sq_net.specs.declared.Source as declared
 use Rattle.sq_net.specs.declared.Node.{Node}
 use Rattle.sq_net.specs.declared.NetErr.{NetErr}
@@ -21,8 +18,12 @@ use Rattle.sq_tables.specs.declared.raw.RawBox.{RawBox}
 use Rattle.sq_tables.specs.declared.raw.Raw.{Raw}
 use Rattle.sq_tables.specs.Refusals.{IsAnswerOf}
 use Rattle.sq_reader.specs.Columns.{columns_known, columns_taken, typed_node, node_in, node_known, node_of_box, nodes_from}
-use Rattle.sq_reader.proofs.ListLemmas.{and_parts, get_set, get_set_other}
+use Rattle.sq_reader.proofs.ListLemmas.{get_set_other}
 use Rattle.sq_tables.proofs.ShapedLemmas.{first_step}
+use Rattle.sq_words.proofs.Bools.{and_true, not_true, or_cases}
+use Rattle.std.proofs.lemmas.Bool.{or_right, or_left}
+use Rattle.sq_words.proofs.Lists.{get_set_same}
+use Rattle.sq_words.proofs.Numbers.{eq_itself, eq_from}
 
 -- a box by its number, on what it takes
 pub node_from : (r : Raw) (w : Wiring) (ss : List declared.Source) (nodes : List (Option Node)) (at : ℕ) (b : RawBox) (x : BoxWires) (ins : List Columns) (answer : Result Node NetErr)
@@ -70,7 +71,7 @@ same_taken : (w : Wiring) (ss : List declared.Source) (front : List ℕ) (nodes 
     → (ins : List ℕ) → list_all (λ s. is_given front (producer_of w s)) ins ≡ true → columns_taken w ss later ins ≡ columns_taken w ss nodes ins
 same_taken w ss front nodes later kept [] g = refl
 same_taken w ss front nodes later kept (s ∷ ins) g =
-    let parts = and_parts (is_given front (producer_of w s)) (list_all (λ s. is_given front (producer_of w s)) ins) g in
+    let parts = and_true (is_given front (producer_of w s)) (list_all (λ s. is_given front (producer_of w s)) ins) g in
     let here : columns_known ss later (producer_of w s) ≡ columns_known ss nodes (producer_of w s) = same_known ss front nodes later kept (producer_of w s) parts.0 in
     let more : columns_taken w ss later ins ≡ columns_taken w ss nodes ins = same_taken w ss front nodes later kept ins parts.1 in
     ap (λ (o : Option Columns). cons_option o (columns_taken w ss later ins)) here
@@ -87,12 +88,6 @@ pub record AreSettled (r : Raw) (w : Wiring) (ss : List declared.Source) (front 
   pub count : length later ≡ length nodes
   pub each : (at : ℕ) → contains_number ats at ≡ true → IsSettled r w ss later at
 
-same_number : (a b : ℕ) → (a == b) ≡ true → a ≡ b
-same_number a b h = grind (arith, nat_tests)
-
-own_number : (a : ℕ) → (a == a) ≡ true
-own_number a = grind (arith, nat_tests)
-
 pub settled : (r : Raw) (w : Wiring) (ss : List declared.Source) (front : List ℕ) (nodes : List (Option Node)) (ats : List ℕ) (later : List (Option Node))
     → Follow w front ats → length nodes ≡ length w.boxes → nodes_from r w ss nodes ats ≡ Ok later → AreSettled r w ss front nodes ats later
 settled r w ss front nodes [] later follow count h =
@@ -104,18 +99,18 @@ settled r w ss front nodes (at ∷ ats) later follow count h =
     let put : List (Option Node) = set nodes at (Some one.0) in
     let long : length put ≡ length w.boxes = length-set nodes at (Some one.0) ∙ count in
     let rest : AreSettled r w ss (front ++ at ∷ []) put ats later = settled r w ss (front ++ at ∷ []) put ats later follow.1.1 long one.1.1 in
-    let tests = and_parts (not (contains_number front at)) (list_all (λ s. is_given front (producer_of w s)) (inputs_of w at)) follow.1.0 in
+    let tests = and_true (not (contains_number front at)) (list_all (λ s. is_given front (producer_of w s)) (inputs_of w at)) follow.1.0 in
     let fresh : contains_number front at ≡ false = not_true (contains_number front at) tests.0 in
     let kept : AreKept front nodes later = (λ b g. rest.kept b (in_front b g) ∙ get_set_other nodes at b (Some one.0) (apart b fresh g)) in
     let low : at < length nodes = (let inside = follow.0 in omega (arith, inside, count)) in
-    let there : slice_get later at ≡ Some (Some one.0) = rest.kept at here ∙ get_set nodes at (Some one.0) low in
+    let there : slice_get later at ≡ Some (Some one.0) = rest.kept at here ∙ get_set_same nodes at (Some one.0) low in
     let ins : columns_taken w ss later (inputs_of w at) ≡ columns_taken w ss nodes (inputs_of w at) = same_taken w ss front nodes later kept (inputs_of w at) tests.1 in
     let mine : IsSettled r w ss later at = record { node = one.0; there = there; typed = ap (λ (cs : List Columns). node_of_box at (slice_get r.boxes at) cs) ins ∙ one.1.0 } in
     record {
       kept = kept;
       count = rest.count ∙ length-set nodes at (Some one.0);
       each = λ b g. elim (or_cases (at == b) (contains_number ats b) g) [
-        | inl now ↦ (let same : at ≡ b = same_number at b now in subst (λ (x : ℕ). IsSettled r w ss later x) same mine)
+        | inl now ↦ (let same : at ≡ b = eq_from at b now in subst (λ (x : ℕ). IsSettled r w ss later x) same mine)
         | inr after ↦ rest.each b after
       ];
     }
@@ -124,7 +119,7 @@ settled r w ss front nodes (at ∷ ats) later follow count h =
     in_front b g = list_any-append (λ x. x == b) front (at ∷ []) ∙ or_left (contains_number front b) (contains_number (at ∷ []) b) g
 
     here : contains_number (front ++ at ∷ []) at ≡ true
-    here = list_any-append (λ x. x == at) front (at ∷ []) ∙ or_right (contains_number front at) (contains_number (at ∷ []) at) (or_left (at == at) false (own_number at))
+    here = list_any-append (λ x. x == at) front (at ∷ []) ∙ or_right (contains_number front at) (contains_number (at ∷ []) at) (or_left (at == at) false (eq_itself at))
 
     apart : (b : ℕ) → contains_number front at ≡ false → contains_number front b ≡ true → b ≡ at → ⊥
     apart b fresh g e = let back : contains_number front at ≡ true = ap (contains_number front) (sym e) ∙ g in cc

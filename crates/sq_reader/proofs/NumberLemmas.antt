@@ -9,8 +9,8 @@ use Rattle.std.proofs.lemmas.Map.Text.{is_eq-slice_cmp}
 use Rattle.sq_words.specs.Lists.{same_bytes}
 use Rattle.sq_tables.specs.Places.{or_else}
 use Rattle.sq_reader.specs.Streaming.{Numbers, also_numbered, number_named, told_stream_named}
-use Rattle.sq_reader.proofs.DistinctLemmas.{same_text}
 use Rattle.sq_tables.proofs.ShapedLemmas.{drop-at}
+use Rattle.sq_words.proofs.Lists.{same_bytes_true}
 
 alone : (o : Option ℕ) → o ≡ or_else o None
 alone None = refl
@@ -38,7 +38,7 @@ number_old number_of x n w there = by_test (same_bytes w x) refl
     kept (Some m) more h = refl
 
     by_test : (b : Bool) → same_bytes w x ≡ b → number_of w ≡ or_else (number_of w) (cond b (Some n) None)
-    by_test true is = kept (number_of w) (Some n) (ap (λ (v : List ℕ). is_some (number_of v)) (same_text w x is) ∙ there)
+    by_test true is = kept (number_of w) (Some n) (ap (λ (v : List ℕ). is_some (number_of v)) (same_bytes_true w x is) ∙ there)
     by_test false is = alone (number_of w)
 
 -- the numbers so far, and then those of the names from place i on

@@ -11,6 +11,7 @@ use Rattle.sq_value.specs.declared.Kind.{Kind}
 use Rattle.sq_net.specs.Columns.{pair_columns, prefixed}
 use Rattle.sq_reader.proofs.SchemaLemmas.{schema_none}
 use Rattle.sq_reader.proofs.ColumnLemmas.{zip_both}
+use Rattle.sq_words.proofs.Bools.{or_false}
 
 abbrev pub left_names : List (List ℕ) → List (List ℕ)
 left_names ws = map (λ w. codes "l_" ++ w) ws
@@ -40,16 +41,12 @@ right_distinct : (ws : List (List ℕ)) → are_distinct (right_names ws) ≡ ar
 right_distinct [] = refl
 right_distinct (w ∷ ws) = rw (right_contained w ws, right_distinct ws) refl
 
-or_neither : (b : Bool) → (b || false) ≡ b
-or_neither true = refl
-or_neither false = refl
-
 pub pair_distinct : (ws vs : List (List ℕ)) → are_distinct ws ≡ true → are_distinct vs ≡ true → are_distinct (left_names ws ++ right_names vs) ≡ true
 pair_distinct [] vs h g = right_distinct vs ∙ g
 pair_distinct (w ∷ ws) vs h g = by_test (contains_bytes w ws) refl (λ e. pair_distinct ws vs e g) h
   where
     outside : contains_bytes (codes "l_" ++ w) (left_names ws ++ right_names vs) ≡ contains_bytes w ws
-    outside = list_any-append (same_bytes (codes "l_" ++ w)) (left_names ws) (right_names vs) ∙ rw (left_contained w ws, left_apart w vs) (or_neither (contains_bytes w ws))
+    outside = list_any-append (same_bytes (codes "l_" ++ w)) (left_names ws) (right_names vs) ∙ rw (left_contained w ws, left_apart w vs) (or_false (contains_bytes w ws))
 
     by_test : (b : Bool) → contains_bytes w ws ≡ b → (are_distinct ws ≡ true → are_distinct (left_names ws ++ right_names vs) ≡ true) → (not b && are_distinct ws) ≡ true → (not (contains_bytes (codes "l_" ++ w) (left_names ws ++ right_names vs)) && are_distinct (left_names ws ++ right_names vs)) ≡ true
     by_test true is rest e = cc

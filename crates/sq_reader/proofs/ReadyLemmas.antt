@@ -1,12 +1,11 @@
 -- A box that can be next takes streams of which all columns are known.
-use Rattle.std.proofs.Common.{◌≡◌, ◌∙◌, sym, ap, refl, ℕ, suc, ◌<◌, Bool, true, false, not, ◌||◌, ◌==◌, List, [], ◌∷◌, ◌++◌, length, set, Option, Some, None, slice_get, get_or, arith, length-set}
+use Rattle.std.proofs.Common.{◌≡◌, ◌∙◌, sym, ap, refl, ℕ, suc, ◌<◌, Bool, true, false, not, ◌||◌, ◌==◌, List, [], ◌∷◌, ◌++◌, length, set, Option, Some, None, slice_get, arith, length-set}
 use Rattle.std.specs.Prelude.{Ok}
 use Rattle.std.specs.List.{cons_option, list_all}
 use Rattle.std.specs.Option.{option_map}
 use Rattle.std.proofs.lemmas.Bool.Decides.{nat_tests}
 use Rattle.std.proofs.lemmas.List.{length-replicate}
 use Rattle.std.proofs.lemmas.List.Folds.{list_any-append}
-use Rattle.std.proofs.lemmas.Option.{slice_get-get_or}
 use Rattle.sq_value.specs.Values.{Columns}
 use Rattle.sq_graph.specs.declared.BoxWires.{BoxWires}
 use Rattle.sq_graph.specs.declared.Wiring.{Wiring}
@@ -22,13 +21,16 @@ use Rattle.sq_tables.specs.declared.raw.Raw.{Raw}
 use Rattle.sq_reader.specs.Limits.{limit_place}
 use Rattle.sq_reader.specs.Streaming.{box_wires, kind_of_told_body, told_stream_named, told_stream_names, unknown_place, wiring_of}
 use Rattle.sq_reader.specs.Columns.{columns_known, columns_taken, no_nodes, typed_node, node_known, node_of_box}
-use Rattle.sq_reader.proofs.ListLemmas.{and_parts, get_set, get_set_other, passes_at}
+use Rattle.sq_reader.proofs.ListLemmas.{get_set_other}
 use Rattle.sq_reader.proofs.LimitLemmas.{counts_of}
 use Rattle.sq_reader.proofs.WiringLemmas.{wired_at}
 use Rattle.sq_reader.proofs.BodyLemmas.{node_is}
 use Rattle.sq_reader.proofs.NodeLemmas.{Follow, follow_all}
 use Rattle.sq_reader.proofs.RuleLemmas.{takes_all}
 use Rattle.sq_words.specs.Lists.{contains_number}
+use Rattle.sq_words.proofs.Bools.{and_true}
+use Rattle.sq_words.proofs.Lists.{has_item, get_set_same, list_all_at}
+use Rattle.sq_words.proofs.Numbers.{eq_from}
 
 -- a box is typed, with columns for each of its ports
 abbrev pub IsTypedAt : Wiring → List (Option Node) → ℕ → Type 0
@@ -50,10 +52,6 @@ ready_first w n same = record {
 }
 
 -- ---- what it takes
-
-has_item : {A : Type 0} (xs : List A) (i : ℕ) → i < length xs → (x : A) × (slice_get xs i ≡ Some x)
-has_item [] i low = absurd (omega arith)
-has_item (x ∷ xs) i low = (get_or (x ∷ xs) i x, slice_get-get_or (x ∷ xs) i x low)
 
 known_given : (w : Wiring) (ss : List declared.Source) (front : List ℕ) (nodes : List (Option Node)) → length ss ≡ w.sources → ((b : ℕ) → contains_number front b ≡ true → IsTypedAt w nodes b)
     → (s : ℕ) → is_given front (producer_of w s) ≡ true → (cs : Columns) × (columns_known ss nodes (producer_of w s) ≡ Some cs)
@@ -77,7 +75,7 @@ taken_all : (w : Wiring) (ss : List declared.Source) (front : List ℕ) (nodes :
     → (ins : List ℕ) → list_all (λ s. is_given front (producer_of w s)) ins ≡ true → length (columns_taken w ss nodes ins) ≡ length ins
 taken_all w ss front nodes count typed [] given = refl
 taken_all w ss front nodes count typed (s ∷ ins) given =
-    let parts = and_parts (is_given front (producer_of w s)) (list_all (λ s. is_given front (producer_of w s)) ins) given in
+    let parts = and_true (is_given front (producer_of w s)) (list_all (λ s. is_given front (producer_of w s)) ins) given in
     let one = known_given w ss front nodes count typed s parts.0 in
     ap (λ (o : Option Columns). length (cons_option o (columns_taken w ss nodes ins))) one.1 ∙ ap suc (taken_all w ss front nodes count typed ins parts.1)
 
@@ -89,17 +87,14 @@ ready_takes r w ss nodes at ats h known same count ready b there =
     let x : BoxWires = box_wires (told_stream_named (told_stream_names r)) b in
     let wired : slice_get w.boxes at ≡ Some x = ap (λ (v : Wiring). slice_get v.boxes at) same ∙ wired_at r at b there in
     let takes = takes_all (told_stream_named (told_stream_names r)) r known (counts_of r h).each_box in
-    let fits : takes_within x.kind (length x.inputs) ≡ true = passes_at (λ (b : BoxWires). takes_within b.kind (length b.inputs)) (wiring_of r).boxes at x takes (wired_at r at b there) in
+    let fits : takes_within x.kind (length x.inputs) ≡ true = list_all_at (λ (b : BoxWires). takes_within b.kind (length b.inputs)) (wiring_of r).boxes at x takes (wired_at r at b there) in
     let ins : inputs_of w at ≡ x.inputs = ap inputs_at wired in
-    let tests = and_parts (not (contains_number ready.front at)) (list_all (λ s. is_given ready.front (producer_of w s)) (inputs_of w at)) ready.follow.1.0 in
+    let tests = and_true (not (contains_number ready.front at)) (list_all (λ s. is_given ready.front (producer_of w s)) (inputs_of w at)) ready.follow.1.0 in
     let all : length (columns_taken w ss nodes (inputs_of w at)) ≡ length (inputs_of w at) =
     taken_all w ss ready.front nodes (count ∙ sym (ap (λ (v : Wiring). v.sources) same)) ready.typed (inputs_of w at) tests.1 in
     ap (λ (k : ℕ). takes_within x.kind k) (all ∙ ap (λ (xs : List ℕ). length xs) ins) ∙ fits
 
 -- ---- once it is typed
-
-same_number : (a b : ℕ) → (a == b) ≡ true → a ≡ b
-same_number a b h = grind (arith, nat_tests)
 
 other_number : (a b : ℕ) → (a == b) ≡ false → b ≡ a → ⊥
 other_number a b h e = grind (arith, nat_tests)
@@ -132,9 +127,9 @@ ready_next r w ss nodes at ats node of_file ready h = record {
     by_test : (b : ℕ) (x : BoxWires) (t : Bool) → (at == b) ≡ t → (contains_number ready.front b || (t || false)) ≡ true → slice_get w.boxes b ≡ Some x
         → (n : Node) × ((slice_get (set nodes at (Some node)) b ≡ Some (Some n)) × (length n.schemas ≡ x.ports))
     by_test b x true is g wired =
-        let same : at ≡ b = same_number at b is in
+        let same : at ≡ b = eq_from at b is in
         let here : slice_get w.boxes at ≡ Some x = ap (λ (k : ℕ). slice_get w.boxes k) same ∙ wired in
-        (node, (ap (λ (k : ℕ). slice_get (set nodes at (Some node)) k) (sym same) ∙ get_set nodes at (Some node) low, node_ports r w ss nodes at node x of_file h here))
+        (node, (ap (λ (k : ℕ). slice_get (set nodes at (Some node)) k) (sym same) ∙ get_set_same nodes at (Some node) low, node_ports r w ss nodes at node x of_file h here))
     by_test b x false is g wired =
         let old = ready.typed b (in_front (contains_number ready.front b) g) x wired in
         (old.0, (get_set_other nodes at b (Some node) (other_number at b is) ∙ old.1.0, old.1.1))

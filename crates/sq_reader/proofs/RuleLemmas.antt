@@ -30,21 +30,23 @@ use Rattle.sq_reader.specs.Sources.{column_in, column_with, columns_from, is_col
 use Rattle.sq_reader.specs.Streaming.{Numbers, box_wires, is_stream, kind_of_told_body, unknown_among, unknown_in_boxes}
 use Rattle.sq_reader.specs.Columns.{nat_of}
 use Rattle.sq_reader.proofs.LimitLemmas.{neither, number_within}
-use Rattle.sq_reader.proofs.ListLemmas.{all_given, and_both, and_parts, none_failing, nothing_mapped}
+use Rattle.sq_reader.proofs.ListLemmas.{all_given, none_failing, nothing_mapped}
 use Rattle.sq_reader.proofs.DistinctLemmas.{IsNew, fresh_name, new_distinct, none_repeated}
 use Rattle.sq_reader.proofs.SchemaLemmas.{schema_none}
 use Rattle.sq_tables.proofs.ShapedLemmas.{first_step}
-use Rattle.sq_reader.proofs.StepLemmas.{found_as}
 use Rattle.sq_reader.proofs.ColumnLemmas.{names_of_zip}
 use Rattle.sq_words.specs.Results.{◌>>=◌}
+use Rattle.sq_words.proofs.Bools.{and_true}
+use Rattle.std.proofs.lemmas.Bool.{and_from}
+use Rattle.sq_tables.proofs.EvenLemmas.{read_as}
 
 -- ---- limits
 
 pub numbers_within : (low high : ℕ) (zs : List ℤ) → list_all (limits.is_int_between low high) zs ≡ true → list_all (is_between low high) (map nat_of zs) ≡ true
 numbers_within low high [] h = refl
 numbers_within low high (z ∷ zs) h =
-    let parts = and_parts (limits.is_int_between low high z) (list_all (limits.is_int_between low high) zs) h in
-    and_both (is_between low high (nat_of z)) (list_all (is_between low high) (map nat_of zs)) (number_within low high z parts.0) (numbers_within low high zs parts.1)
+    let parts = and_true (limits.is_int_between low high z) (list_all (limits.is_int_between low high) zs) h in
+    and_from (is_between low high (nat_of z)) (list_all (is_between low high) (map nat_of zs)) (number_within low high z parts.0) (numbers_within low high zs parts.1)
 
 columns_length : (n i : ℕ) (before ws : List (List ℕ)) (cs : Columns) → columns_from n i before ws ≡ Ok cs → length cs ≡ length ws
 columns_length n i before [] cs h = let same : [] ≡ cs = cc in rw (← same) refl
@@ -63,7 +65,7 @@ columns_new n i before (w ∷ ws) cs h =
     let one = first_step (or_broken fault (column_in before w)) (λ c. columns_from n (i + 1) (before ++ c.0 ∷ []) ws >>= λ rest. Ok (c ∷ rest)) cs h in
     let two = first_step (columns_from n (i + 1) (before ++ one.0.0 ∷ []) ws) (λ rest. Ok (one.0 ∷ rest)) cs one.1.1 in
     let same : one.0 ∷ two.0 ≡ cs = (let last = two.1.1 in cc) in
-    let here : contains_bytes one.0.0 before ≡ false = column_new before w one.0 (found_as fault (column_in before w) one.0 one.1.0) in
+    let here : contains_bytes one.0.0 before ≡ false = column_new before w one.0 (read_as fault (column_in before w) one.0 one.1.0) in
     subst (λ (ds : Columns). IsNew before (names_of ds)) same (here, columns_new n (i + 1) (before ++ one.0.0 ∷ []) ws two.0 two.1.0)
   where
     by_name : (name : List ℕ) (before : List (List ℕ)) (k : Kind) (b : Bool) (c : List ℕ × Kind) → (is_name name && not (contains_bytes name before)) ≡ b → cond b (Some (name, k)) None ≡ Some c → contains_bytes c.0 before ≡ false
@@ -95,8 +97,8 @@ pub sources_within : (n : ℕ) (raws : List RawSource) (ss : List Source) → so
     → (list_all source_within ss ≡ true) × (length ss ≡ length raws)
 sources_within n [] ss h w = let same : [] ≡ ss = cc in subst (λ (xs : List Source). (list_all source_within xs ≡ true) × (length xs ≡ 0)) same (refl, refl)
 sources_within n (raw ∷ raws) ss h w =
-    let parts = and_parts (limits.told_source_within raw) (list_all limits.told_source_within raws) w in
-    let here = and_parts (has_between 1 255 raw.file) (has_between 1 16 raw.fields) parts.0 in
+    let parts = and_true (limits.told_source_within raw) (list_all limits.told_source_within raws) w in
+    let here = and_true (has_between 1 255 raw.file) (has_between 1 16 raw.fields) parts.0 in
     let one = first_step (columns_from n 0 [] raw.fields) (λ cs. sources_from (n + 1) raws >>= λ rest. Ok (told_source raw cs ∷ rest)) ss h in
     let two = first_step (sources_from (n + 1) raws) (λ rest. Ok (told_source raw one.0 ∷ rest)) ss one.1.1 in
     let same : told_source raw one.0 ∷ two.0 ≡ ss = (let last = two.1.1 in cc) in
@@ -104,7 +106,7 @@ sources_within n (raw ∷ raws) ss h w =
     let long : length one.0 ≡ length raw.fields = columns_length n 0 [] raw.fields one.0 one.1.0 in
     let fields : is_between 1 16 (length one.0) ≡ true = ap (λ (k : ℕ). is_between 1 16 k) long ∙ here.1 in
     subst (λ (xs : List Source). (list_all source_within xs ≡ true) × (length xs ≡ suc (length raws))) same
-    (and_both (source_within (told_source raw one.0)) (list_all source_within two.0) (and_both (is_between 1 255 (length raw.file)) (is_between 1 16 (length one.0)) here.0 fields) more.0, ap suc more.1)
+    (and_from (source_within (told_source raw one.0)) (list_all source_within two.0) (and_from (is_between 1 255 (length raw.file)) (is_between 1 16 (length one.0)) here.0 fields) more.0, ap suc more.1)
 
 -- ---- names
 
@@ -152,11 +154,11 @@ takes_from number_of n [] h w = refl
 takes_from number_of n (b ∷ bs) h w =
     let known = neither (option_map (place_at part.Box n) (first_failing (is_stream number_of) b.ins)) (unknown_in_boxes number_of (n + 1) bs) h in
     let long = all_given (number_of) b.ins (none_failing (is_stream number_of) b.ins (nothing_mapped (place_at part.Box n) (first_failing (is_stream number_of) b.ins) known.0)) in
-    let parts = and_parts (box_within b) (list_all box_within bs) w in
-    let front = and_parts (told_body_within b.body && inputs_within b.body b.ins && limits.is_int_between 0 1000 b.cost) (list_all (limits.is_int_between 0 1000000) b.selectivity) parts.0 in
-    let middle = and_parts (told_body_within b.body && inputs_within b.body b.ins) (limits.is_int_between 0 1000 b.cost) front.0 in
-    let ins = and_parts (told_body_within b.body) (inputs_within b.body b.ins) middle.0 in
-    and_both (takes_within (box_wires number_of b).kind (length (box_wires number_of b).inputs)) (list_all (λ (w : BoxWires). takes_within w.kind (length w.inputs)) (map (box_wires number_of) bs))
+    let parts = and_true (box_within b) (list_all box_within bs) w in
+    let front = and_true (told_body_within b.body && inputs_within b.body b.ins && limits.is_int_between 0 1000 b.cost) (list_all (limits.is_int_between 0 1000000) b.selectivity) parts.0 in
+    let middle = and_true (told_body_within b.body && inputs_within b.body b.ins) (limits.is_int_between 0 1000 b.cost) front.0 in
+    let ins = and_true (told_body_within b.body) (inputs_within b.body b.ins) middle.0 in
+    and_from (takes_within (box_wires number_of b).kind (length (box_wires number_of b).inputs)) (list_all (λ (w : BoxWires). takes_within w.kind (length w.inputs)) (map (box_wires number_of) bs))
     (takes_as number_of b long ins.1) (takes_from number_of (n + 1) bs known.1 parts.1)
 
 pub takes_all : (number_of : Numbers) (r : Raw) → unknown_among number_of r ≡ None → list_all box_within r.boxes ≡ true

@@ -1,23 +1,21 @@
 -- A network that is read is sound.
-use Rattle.std.proofs.Common.{◌≡◌, ◌∙◌, sym, ap, subst, refl, ℕ, suc, ◌<◌, ◌^◌, true, false, ◌&&◌, List, [], ◌∷◌, map, length, Option, Some, None, slice_get, get_or, arith, inl, inr}
+use Rattle.std.proofs.Common.{◌≡◌, ◌∙◌, sym, ap, subst, refl, ℕ, suc, ◌<◌, ◌^◌, true, false, ◌&&◌, List, [], ◌∷◌, map, length, Option, Some, None, slice_get, get_or, arith}
 use Rattle.std.specs.Prelude.{nat_le, ℤ, Result, Ok, Err, IfOk}
 use Rattle.std.specs.List.{All, cons_option, filter_map, find, list_all, AllByRecursion}
 use Rattle.std.specs.Option.{option_map}
-use Rattle.std.proofs.lemmas.Bool.{cases_lt}
+use Rattle.std.proofs.lemmas.Bool.{and_from}
 use Rattle.std.proofs.lemmas.List.{length-map, length-replicate}
 use Rattle.std.proofs.lemmas.List.Elements.{All-map, All-from_recursion, recursion_from_All}
 use Rattle.std.proofs.lemmas.Option.{slice_get-get_or, slice_get-map, slice_get_within}
-use Rattle.sq_words.specs.Lists.{are_distinct, numbers_to, contains_number}
+use Rattle.sq_words.specs.Lists.{are_distinct, numbers_to}
 use Rattle.sq_value.specs.Values.{Columns}
 use Rattle.sq_graph.specs.declared.BoxWires.{BoxWires}
 use Rattle.sq_graph.specs.declared.Wiring.{Wiring}
 use Rattle.sq_graph.specs.Wires.{Producer, Source, Port, producer_of, inputs_of}
-use Rattle.sq_graph.specs.Order.{is_on_cycle, order_of, IsWired, LiesOnCycle}
+use Rattle.sq_graph.specs.Order.{is_on_cycle, order_of, LiesOnCycle}
 use Rattle.sq_graph.proofs.Bounded.{on_cycle}
-use Rattle.sq_graph.proofs.Cycles.{has_is, none_missing}
 use Rattle.sq_graph.proofs.Finding.{unfound}
 use Rattle.sq_graph.proofs.FirstCycle.{cycle_is_of_box}
-use Rattle.sq_graph.proofs.Placing.{order_placed, short_on_cycle}
 use Rattle.sq_net.specs.declared.Source as declared
 use Rattle.sq_net.specs.declared.Node.{Node}
 use Rattle.sq_net.specs.declared.Output.{Output}
@@ -51,13 +49,17 @@ use Rattle.sq_reader.specs.Networks.{graphed_network, limited_network, named_net
 use Rattle.sq_reader.specs.Outputs.{graph_fault, output_of, graph_points}
 use Rattle.sq_reader.proofs.DropLemmas.{limited_same}
 use Rattle.sq_reader.proofs.LimitLemmas.{is_within, number_within, output_of as output_limits}
-use Rattle.sq_reader.proofs.ListLemmas.{all_by_place, and_both, and_parts, each_passes, is_at_most, maps_same, none_failing, nothing_mapped, passes_at}
+use Rattle.sq_reader.proofs.ListLemmas.{all_by_place, each_passes, maps_same, none_failing, nothing_mapped}
 use Rattle.sq_reader.proofs.WiringLemmas.{is_wired, outputs_shown}
 use Rattle.sq_tables.proofs.ShapedLemmas.{first_step}
 use Rattle.sq_reader.proofs.BodyLemmas.{IsNodeOf, node_is}
 use Rattle.sq_reader.proofs.NodeLemmas.{AreSettled, IsSettled, all_known, follow_all, settled}
 use Rattle.sq_reader.proofs.RuleLemmas.{numbers_within, outputs_distinct, outputs_known, outputs_named, sources_within, takes_all}
 use Rattle.sq_words.specs.Results.{◌>>=◌}
+use Rattle.sq_words.proofs.Bools.{and_true}
+use Rattle.sq_words.proofs.Numbers.{nat_le_true}
+use Rattle.sq_place.proofs.Ranks.{order-has}
+use Rattle.sq_words.proofs.Lists.{map_map, list_all_at}
 
 -- ---- the rules that the file keeps
 
@@ -132,13 +134,6 @@ none_on_cycle w h at on =
     let lies : is_on_cycle w at ≡ true = on_cycle w at on in
     cc
 
-all_ordered : (w : Wiring) → IsWired w → ((at : ℕ) → LiesOnCycle w at → ⊥) → (at : ℕ) → at < length w.boxes → contains_number (order_of w) at ≡ true
-all_ordered w wired none at low =
-    elim (cases_lt (length (order_of w)) (length w.boxes)) [
-      | inl short ↦ (let one = short_on_cycle w wired short in absurd (none one.0 one.1.1))
-      | inr full ↦ (let p = order_placed w in has_is (order_of w) at ∙ none_missing (order_of w) (length w.boxes) p.distinct p.below full at low)
-    ]
-
 -- the nodes are those of the network
 pub record AreBoxes (r : Raw) (ss : List declared.Source) (nodes : List (Option Node)) (bs : List Node) : Type 0 where
   pub count : length bs ≡ length r.boxes
@@ -152,7 +147,7 @@ are_boxes r ss nodes read =
     let start : length (no_nodes (length r.boxes)) ≡ length w.boxes = length-replicate (length r.boxes) (none_yet r) ∙ sym boxes in
     let all : AreSettled r w ss [] (no_nodes (length r.boxes)) (order_of w) nodes = settled r w ss [] (no_nodes (length r.boxes)) (order_of w) nodes (follow_all w) start read.typed in
     let long : length nodes ≡ length w.boxes = all.count ∙ start in
-    let each : (at : ℕ) → at < length nodes → IsSettled r w ss nodes at = (λ at low. all.each at (all_ordered w (is_wired (told_stream_names r) r refl) (none_on_cycle w read.acyclic) at (omega (arith, low, long)))) in
+    let each : (at : ℕ) → at < length nodes → IsSettled r w ss nodes at = (λ at low. all.each at (order-has w (is_wired (told_stream_names r) r refl) (none_on_cycle w read.acyclic) at (omega (arith, low, long)))) in
     let known : nodes ≡ map Some (filter_map (λ o. o) nodes) = all_known nodes (λ at low. (let s = each at low in (s.node, s.there))) in
     let same : length nodes ≡ length (filter_map (λ o. o) nodes) = ap (λ (os : List (Option Node)). length os) known ∙ length-map (filter_map (λ (o : Option Node). o) nodes) (λ (b : Node). Some b) in
     record {
@@ -210,10 +205,6 @@ box_at r ss nodes boxes at b e =
 
 -- ---- the network
 
-map_twice : {A B C : Type 0} (f : B → C) (g : A → B) (xs : List A) → map f (map g xs) ≡ map (λ x. f (g x)) xs
-map_twice f g [] = refl
-map_twice {A} {B} {C} f g (x ∷ xs) = ap (λ (ys : List C). f (g x) ∷ ys) (map_twice f g xs)
-
 -- what boxes and nodes have alike
 alike : {A : Type 0} (f : RawBox → A) (g : Node → A) (r : Raw) (ss : List declared.Source) (nodes : List (Option Node)) → AreBoxes r ss nodes (filter_map (λ o. o) nodes)
     → ((raw : RawBox) (ins : List Columns) (b : Node) → IsNodeOf raw ins b → f raw ≡ g b) → map f r.boxes ≡ map g (filter_map (λ o. o) nodes)
@@ -225,23 +216,23 @@ alike f g r ss nodes boxes same =
 
 node_fits : (raw : RawBox) (ins : List Columns) (b : Node) → IsNodeOf raw ins b → box_within raw ≡ true → node_within b ≡ true
 node_fits raw ins b is h =
-    let front = and_parts (limits.told_body_within raw.body && limits.inputs_within raw.body raw.ins && limits.is_int_between 0 1000 raw.cost) (list_all (limits.is_int_between 0 1000000) raw.selectivity) h in
-    let middle = and_parts (limits.told_body_within raw.body && limits.inputs_within raw.body raw.ins) (limits.is_int_between 0 1000 raw.cost) front.0 in
-    let body = and_parts (limits.told_body_within raw.body) (limits.inputs_within raw.body raw.ins) middle.0 in
+    let front = and_true (limits.told_body_within raw.body && limits.inputs_within raw.body raw.ins && limits.is_int_between 0 1000 raw.cost) (list_all (limits.is_int_between 0 1000000) raw.selectivity) h in
+    let middle = and_true (limits.told_body_within raw.body && limits.inputs_within raw.body raw.ins) (limits.is_int_between 0 1000 raw.cost) front.0 in
+    let body = and_true (limits.told_body_within raw.body) (limits.inputs_within raw.body raw.ins) middle.0 in
     let cost : is_between 0 1000 b.cost ≡ true = ap (λ (k : ℕ). is_between 0 1000 k) is.cost ∙ number_within 0 1000 raw.cost middle.1 in
     let selectivity : list_all (is_between 0 1000000) b.selectivity ≡ true = ap (λ (ks : List ℕ). list_all (is_between 0 1000000) ks) is.selectivity ∙ numbers_within 0 1000000 raw.selectivity front.1 in
-    and_both (body_within b.body && is_between 0 1000 b.cost) (list_all (is_between 0 1000000) b.selectivity)
-    (and_both (body_within b.body) (is_between 0 1000 b.cost) (is.body.within body.0) cost) selectivity
+    and_from (body_within b.body && is_between 0 1000 b.cost) (list_all (is_between 0 1000000) b.selectivity)
+    (and_from (body_within b.body) (is_between 0 1000 b.cost) (is.body.within body.0) cost) selectivity
 
 outputs_fit : (os : List RawOutput) → list_all limits.told_output_within os ≡ true → list_all output_within (map output_of os) ≡ true
 outputs_fit [] h = refl
 outputs_fit (o ∷ os) h =
-    let parts = and_parts (limits.told_output_within o) (list_all limits.told_output_within os) h in
+    let parts = and_true (limits.told_output_within o) (list_all limits.told_output_within os) h in
     let within = output_limits o parts.0 in
-    let light : nat_le (nat_of o.weight) 1000 ≡ true = is_at_most (nat_of o.weight) 1000 within.light in
-    let few : nat_le (length (graph_points o.graph)) 1000 ≡ true = ap (λ (k : ℕ). nat_le k 1000) (points_length o.graph) ∙ is_at_most (length o.graph) 1000 within.few in
-    and_both (output_within (output_of o)) (list_all output_within (map output_of os))
-    (and_both (nat_le (nat_of o.weight) 1000) (nat_le (length (graph_points o.graph)) 1000) light few) (outputs_fit os parts.1)
+    let light : nat_le (nat_of o.weight) 1000 ≡ true = nat_le_true (nat_of o.weight) 1000 within.light in
+    let few : nat_le (length (graph_points o.graph)) 1000 ≡ true = ap (λ (k : ℕ). nat_le k 1000) (points_length o.graph) ∙ nat_le_true (length o.graph) 1000 within.few in
+    and_from (output_within (output_of o)) (list_all output_within (map output_of os))
+    (and_from (nat_le (nat_of o.weight) 1000) (nat_le (length (graph_points o.graph)) 1000) light few) (outputs_fit os parts.1)
   where
     points_length : (ps : List (ℤ × ℤ)) → length (graph_points ps) ≡ length ps
     points_length [] = refl
@@ -252,10 +243,10 @@ all_within r ss nodes read =
     let w = is_within r read.limit in
     let boxes = are_boxes r ss nodes read in
     let given = sources_within 0 r.sources ss read.given w.sources in
-    let a = and_parts (has_between 1 8 r.sources && has_between 0 128 r.boxes && has_between 1 32 r.outputs && limits.is_int_between 1 (2 ^ 34) r.epoch) (limits.is_int_between 1 1000000 r.batch) w.top in
-    let b = and_parts (has_between 1 8 r.sources && has_between 0 128 r.boxes && has_between 1 32 r.outputs) (limits.is_int_between 1 (2 ^ 34) r.epoch) a.0 in
-    let c = and_parts (has_between 1 8 r.sources && has_between 0 128 r.boxes) (has_between 1 32 r.outputs) b.0 in
-    let d = and_parts (has_between 1 8 r.sources) (has_between 0 128 r.boxes) c.0 in
+    let a = and_true (has_between 1 8 r.sources && has_between 0 128 r.boxes && has_between 1 32 r.outputs && limits.is_int_between 1 (2 ^ 34) r.epoch) (limits.is_int_between 1 1000000 r.batch) w.top in
+    let b = and_true (has_between 1 8 r.sources && has_between 0 128 r.boxes && has_between 1 32 r.outputs) (limits.is_int_between 1 (2 ^ 34) r.epoch) a.0 in
+    let c = and_true (has_between 1 8 r.sources && has_between 0 128 r.boxes) (has_between 1 32 r.outputs) b.0 in
+    let d = and_true (has_between 1 8 r.sources) (has_between 0 128 r.boxes) c.0 in
     let sources : is_between 1 8 (length ss) ≡ true = ap (λ (k : ℕ). is_between 1 8 k) given.1 ∙ d.0 in
     let count : is_between 0 128 (length (filter_map (λ o. o) nodes)) ≡ true = ap (λ (k : ℕ). is_between 0 128 k) boxes.count ∙ d.1 in
     let outputs : is_between 1 32 (length (map output_of r.outputs)) ≡ true = ap (λ (k : ℕ). is_between 1 32 k) (length-map r.outputs output_of) ∙ c.1 in
@@ -263,9 +254,9 @@ all_within r ss nodes read =
     let batch = number_within 1 1000000 r.batch a.1 in
     let fit : list_all node_within (filter_map (λ o. o) nodes) ≡ true = all_by_place node_within (filter_map (λ o. o) nodes) (λ at node e.
     (let box = box_at r ss nodes boxes at node e in
-    node_fits box.raw (input_columns (network_of r (wiring_of r) ss nodes) at) node box.is (passes_at box_within r.boxes at box.raw w.boxes box.there))) in
+    node_fits box.raw (input_columns (network_of r (wiring_of r) ss nodes) at) node box.is (list_all_at box_within r.boxes at box.raw w.boxes box.there))) in
     let takes = takes_all (told_stream_named (told_stream_names r)) r read.known w.boxes in
-    and_both _ _ (and_both _ _ (and_both _ _ (and_both _ _ (and_both _ _ (and_both _ _ (and_both _ _ (and_both _ _ sources count) outputs) epoch) batch) given.0) fit) (outputs_fit r.outputs w.outputs)) takes
+    and_from _ _ (and_from _ _ (and_from _ _ (and_from _ _ (and_from _ _ (and_from _ _ (and_from _ _ (and_from _ _ sources count) outputs) epoch) batch) given.0) fit) (outputs_fit r.outputs w.outputs)) takes
 
 evens : (bs : List RawBox) → AllByRecursion IsEven bs → map (λ b. length b.selectivity) bs ≡ map (λ b. port_count b.body) bs
 evens [] h = refl
@@ -286,8 +277,8 @@ all_agree r ss nodes read =
     alike (λ b. length b.selectivity) (λ b. length b.selectivity) r ss nodes boxes (λ raw ins b is. sym (ap (λ (ks : List ℕ). length ks) is.selectivity ∙ length-map raw.selectivity nat_of)) in
     record {
       sources = sym given.1;
-      kinds = map_twice (λ (b : BoxWires). b.kind) (box_wires (told_stream_named names)) r.boxes ∙ alike (λ b. wires.kind_of_told_body b.body) (λ b. kind_of_body b.body) r ss nodes boxes (λ raw ins b is. is.body.kind);
-      ports = map_twice (λ (b : BoxWires). b.ports) (box_wires (told_stream_named names)) r.boxes ∙ ports;
+      kinds = map_map (λ (b : BoxWires). b.kind) (box_wires (told_stream_named names)) r.boxes ∙ alike (λ b. wires.kind_of_told_body b.body) (λ b. kind_of_body b.body) r ss nodes boxes (λ raw ins b is. is.body.kind);
+      ports = map_map (λ (b : BoxWires). b.ports) (box_wires (told_stream_named names)) r.boxes ∙ ports;
       tolls = sym tolls ∙ (evens r.boxes (recursion_from_All IsEven r.boxes read.even) ∙ ports);
       outputs = outputs_known (told_stream_named names) r read.known ∙ sym (length-map r.outputs output_of);
       wired = is_wired names r refl;
@@ -299,7 +290,7 @@ all_windows : (r : Raw) (ss : List declared.Source) (nodes : List (Option Node))
 all_windows r ss nodes read =
     let rule : list_all (λ (b : RawBox). has_window b.body) r.boxes ≡ true = none_failing (λ (b : RawBox). has_window b.body) r.boxes (nothing_mapped (part_place part.Box) (first_failing (λ (b : RawBox). has_window b.body) r.boxes) read.windows) in
     let bs : List Node = filter_map (λ o. o) nodes in
-    λ at d low. (let box = box_at r ss nodes (are_boxes r ss nodes read) at (get_or bs at d) (slice_get-get_or bs at d low) in box.is.body.window (passes_at (λ (b : RawBox). has_window b.body) r.boxes at box.raw rule box.there))
+    λ at d low. (let box = box_at r ss nodes (are_boxes r ss nodes read) at (get_or bs at d) (slice_get-get_or bs at d low) in box.is.body.window (list_all_at (λ (b : RawBox). has_window b.body) r.boxes at box.raw rule box.there))
 
 sound_of : (r : Raw) (ss : List declared.Source) (nodes : List (Option Node)) → IsRead r ss nodes → IsSound (network_of r (wiring_of r) ss nodes)
 sound_of r ss nodes read = record {
@@ -309,7 +300,7 @@ sound_of r ss nodes read = record {
   named = All-map (λ (o : Output). is_name o.name ≡ true) output_of r.outputs
       (All-from_recursion (λ (o : RawOutput). is_name o.name ≡ true) r.outputs (each_passes (λ o. is_name o.name) r.outputs (outputs_named r read.named)));
   windows = all_windows r ss nodes read;
-  distinct = ap are_distinct (map_twice (λ (o : Output). o.name) output_of r.outputs) ∙ outputs_distinct r read.single;
+  distinct = ap are_distinct (map_map (λ (o : Output). o.name) output_of r.outputs) ∙ outputs_distinct r read.single;
   typed = λ at b e. (box_at r ss nodes (are_boxes r ss nodes read) at b e).is.body.typed;
 }
 

@@ -5,12 +5,12 @@ use Rattle.std.proofs.lemmas.Bool.Decides.{nat_tests}
 use Rattle.sq_aggfn.specs.Windows.{IsWindow}
 use Rattle.sq_reader.specs.Columns.{window_read}
 use Rattle.sq_reader.specs.Windows.{is_span, is_window}
-use Rattle.sq_reader.proofs.ListLemmas.{and_parts}
+use Rattle.sq_words.proofs.Bools.{and_true}
 
 pub window_is : (size advance phase : ℤ) → is_window size advance phase ≡ true → IsWindow (window_read size advance phase)
 window_is size advance phase h =
-    let whole = and_parts (is_span size advance && int_le (pos 0) phase) (not (int_le advance phase)) h in
-    let start = and_parts (is_span size advance) (int_le (pos 0) phase) whole.0 in
+    let whole = and_true (is_span size advance && int_le (pos 0) phase) (not (int_le advance phase)) h in
+    let start = and_true (is_span size advance) (int_le (pos 0) phase) whole.0 in
     by size advance phase start.0 start.1 whole.1
   where
     at_most : (m n : ℕ) → nat_le m n ≡ true → m ≤ n
@@ -28,9 +28,9 @@ window_is size advance phase h =
 
     by : (size advance phase : ℤ) → is_span size advance ≡ true → int_le (pos 0) phase ≡ true → not (int_le advance phase) ≡ true → IsWindow (window_read size advance phase)
     by (pos size) (pos advance) (pos phase) span from less =
-        let a = and_parts (int_le (pos 1) (pos advance) && int_le (pos advance) (pos size) && int_le (pos size) (pos (2 ^ 32))) (int_le (pos size) (pos 4096 *ℤ pos advance)) span in
-        let b = and_parts (int_le (pos 1) (pos advance) && int_le (pos advance) (pos size)) (int_le (pos size) (pos (2 ^ 32))) a.0 in
-        let c = and_parts (int_le (pos 1) (pos advance)) (int_le (pos advance) (pos size)) b.0 in
+        let a = and_true (int_le (pos 1) (pos advance) && int_le (pos advance) (pos size) && int_le (pos size) (pos (2 ^ 32))) (int_le (pos size) (pos 4096 *ℤ pos advance)) span in
+        let b = and_true (int_le (pos 1) (pos advance) && int_le (pos advance) (pos size)) (int_le (pos size) (pos (2 ^ 32))) a.0 in
+        let c = and_true (int_le (pos 1) (pos advance)) (int_le (pos advance) (pos size)) b.0 in
         record {
           moves = at_most 1 advance c.0;
           covers = at_most advance size c.1;

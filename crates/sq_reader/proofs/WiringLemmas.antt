@@ -21,8 +21,9 @@ use Rattle.sq_tables.specs.Shapes.{port_count}
 use Rattle.sq_reader.specs.Limits.{box_within, limit_place}
 use Rattle.sq_reader.specs.Streaming.{box_wires, told_port_names, told_stream_named, told_stream_names, wiring_by, wiring_of}
 use Rattle.sq_reader.proofs.LimitLemmas.{box_of, counts_of, ports_few}
-use Rattle.sq_reader.proofs.ListLemmas.{and_parts, item_there}
+use Rattle.sq_reader.proofs.ListLemmas.{item_there}
 use Rattle.sq_net.specs.Names.{port_name}
+use Rattle.sq_words.proofs.Bools.{and_true}
 
 named_low : (names : List (List ℕ)) (w : List ℕ) (s : ℕ) → told_stream_named names w ≡ Some s → s < length names
 named_low [] w s e = cc
@@ -100,7 +101,7 @@ outputs_shown names r same =
 ports_each : (bs : List RawBox) → list_all box_within bs ≡ true → length (flat_map (λ b. told_port_names b.name b.body) bs) ≤ 16 * length bs
 ports_each [] h = omega arith
 ports_each (b ∷ bs) h =
-    let parts = and_parts (box_within b) (list_all box_within bs) h in
+    let parts = and_true (box_within b) (list_all box_within bs) h in
     let here = ports_few b.body (box_of b parts.0).body in
     let more = ports_each bs parts.1 in
     let own = body_length b.name b.body in

@@ -6,11 +6,7 @@ use Rattle.std.proofs.lemmas.Grind.{flat_map-append}
 use Rattle.sq_value.specs.LineTexts.{end_line}
 use Rattle.sq_net.specs.declared.Network.{Network}
 use Rattle.sq_replay.specs.Shown.{AppendsPart, end_lines, fed_line, late_lines, late_text, lines_text}
-
--- the text of lines that a function gives
-pub text_of_map : {X : Type 0} (f : X → List ℕ) (xs : List X) → flat_map (λ l. l) (map f xs) ≡ flat_map f xs
-text_of_map f [] = refl
-text_of_map f (x ∷ xs) = ap (λ y. f x ++ y) (text_of_map f xs)
+use Rattle.sq_words.proofs.Lists.{flat_map_of_map}
 
 text_of_lines : {X : Type 0} (f : X → List (List ℕ)) (xs : List X) → flat_map (λ l. l) (flat_map f xs) ≡ flat_map (λ x. flat_map (λ l. l) (f x)) xs
 text_of_lines f [] = refl
@@ -32,10 +28,6 @@ part_none before now text e = ([], (text, refl), e ∙ sym (append-nil before))
 part_longer : (before now text more : List ℕ) → AppendsPart before now text → AppendsPart before now (text ++ more)
 part_longer before now text more p = (p.0, (p.1.0 ++ more, ap (λ y. y ++ more) p.1.1 ∙ append_assoc p.0 p.1.0 more), p.2)
 
-pub on_err_any : {T E P : Type 0} (r : Result T E) → P → OnErr r P
-on_err_any (Ok x) p = tt
-on_err_any (Err e) p = p
-
 -- where memory ran out nothing was appended
 pub err_none : {T E : Type 0} (r : Result T E) (before now text : List ℕ) → OnErr r (now ≡ before) → OnErr r (AppendsPart before now text)
 err_none (Ok x) before now text h = tt
@@ -52,7 +44,7 @@ module _ (n : Network) (fed late : List ℕ) (before : List ℕ) where
   ends_are : lines_text (end_lines n fed late) ≡ feds ++ (lates ++ end_line)
   ends_are =
       flat_map-append (λ l. l) (map fed_line (zip n.boxes fed)) (flat_map late_lines (zip n.boxes late) ++ end_line ∷ [])
-      ∙ ap₂ (λ y z. y ++ z) (text_of_map fed_line (zip n.boxes fed))
+      ∙ ap₂ (λ y z. y ++ z) (flat_map_of_map fed_line (zip n.boxes fed))
       (flat_map-append (λ l. l) (flat_map late_lines (zip n.boxes late)) (end_line ∷ []) ∙ ap₂ (λ y z. y ++ z) (text_of_lines late_lines (zip n.boxes late)) (append-nil end_line))
 
   part_is : (now : List ℕ) → AppendsPart before now (feds ++ (lates ++ end_line)) → AppendsPart before now (lines_text (end_lines n fed late))

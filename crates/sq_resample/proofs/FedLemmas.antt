@@ -11,7 +11,6 @@ use Rattle.sq_item.specs.Sound.{IsSoundItem}
 use Rattle.sq_item.specs.Things.{Load, Sign, Body, Thing, mark_part, body_part}
 use Rattle.sq_lists.specs.Sides.{AllNear, recent, left_with, right_with}
 use Rattle.sq_lists.specs.WindowParts.{TimesNotFalling}
-use Rattle.sq_lists.proofs.AllLemmas.{All-weaker, All-push}
 use Rattle.sq_lists.proofs.SideLemmas.{All-recent, rises-recent, rises-push, near-recent}
 use Rattle.sq_lists.proofs.WindowLemmas.{lower, all-later}
 use Rattle.sq_lists.specs.Resamples.{resample_of}
@@ -26,6 +25,7 @@ use Rattle.sq_oper.proofs.FedLemmas.{tuple_at, tuple_entry, mark_entry, no_body,
 use Rattle.sq_resample.specs.Rounds.{CanGive, HasFieldRoom, first_time_from, passed}
 use Rattle.sq_resample.specs.Resampling.{IsHeld, OnlyNear, resample_fits, resample_rest}
 use Rattle.sq_resample.proofs.RoundLemmas.{All-passed, resample-parts}
+use Rattle.sq_words.proofs.Alls.{all_weaker, all_push}
 
 -- ---- what comes at a port
 
@@ -135,15 +135,15 @@ module _ (answers : List Tuple → List Value) (width size : ℕ) (waiting held 
     waits = facts.waits;
     room = facts.room;
     rises = facts.rises;
-    reaches = All-weaker (λ x. time_of place ≤ x.time + size) (λ x. AllByRecursion (λ y. y.time ≤ x.time + size) held)
-        (λ x near. All-weaker (λ y. y.time ≤ time_of place) (λ y. y.time ≤ x.time + size) (λ y past. omega (arith, near, past)) held facts.past) waiting facts.live;
+    reaches = all_weaker (λ x. time_of place ≤ x.time + size) (λ x. AllByRecursion (λ y. y.time ≤ x.time + size) held)
+        (λ x near. all_weaker (λ y. y.time ≤ time_of place) (λ y. y.time ≤ x.time + size) (λ y past. omega (arith, near, past)) held facts.past) waiting facts.live;
   }
 
   pub fed_early : AllByRecursion (λ x. x.time ≤ item.time) waiting
-  fed_early = let le = fed-later in All-weaker (λ x. x.time ≤ time_of place) (λ x. x.time ≤ item.time) (λ x h. omega (arith, h, le)) waiting facts.early
+  fed_early = let le = fed-later in all_weaker (λ x. x.time ≤ time_of place) (λ x. x.time ≤ item.time) (λ x h. omega (arith, h, le)) waiting facts.early
 
   held-past : AllByRecursion (λ y. y.time ≤ item.time) held
-  held-past = let le = fed-later in All-weaker (λ y. y.time ≤ time_of place) (λ y. y.time ≤ item.time) (λ y h. omega (arith, h, le)) held facts.past
+  held-past = let le = fed-later in all_weaker (λ y. y.time ≤ time_of place) (λ y. y.time ≤ item.time) (λ y h. omega (arith, h, le)) held facts.past
 
   facts-on : IsHeld width size item.time on kept
   facts-on = record {
@@ -163,9 +163,9 @@ module _ (answers : List Tuple → List Value) (width size : ℕ) (waiting held 
       by : (port : ℕ) → ((port ≡ 0) × (length fields + width ≤ 16)) ⊎ (port ≡ 1) → IsHeld width size item.time (left_with port fed on) (right_with port fed kept)
       by port (inl at) = rw at.0 (record {
         waits = rises-push 0 on fed facts-on.waits facts-on.early zero-le;
-        early = All-push (λ x. x.time ≤ item.time) on fed facts-on.early (omega arith);
-        live = All-push (λ x. item.time ≤ x.time + size) on fed facts-on.live (omega arith);
-        room = All-push (HasFieldRoom width) on fed facts-on.room (record { tick = sound.tick; some = fed-some.0; few = at.1 });
+        early = all_push (λ x. x.time ≤ item.time) on fed facts-on.early (omega arith);
+        live = all_push (λ x. item.time ≤ x.time + size) on fed facts-on.live (omega arith);
+        room = all_push (HasFieldRoom width) on fed facts-on.room (record { tick = sound.tick; some = fed-some.0; few = at.1 });
         rises = facts-on.rises;
         past = facts-on.past;
         needed = subst (λ t. AllNear size t kept) (sym (first-pushed item.time on fed refl)) facts-on.needed;
@@ -176,8 +176,8 @@ module _ (answers : List Tuple → List Value) (width size : ℕ) (waiting held 
         live = facts-on.live;
         room = facts-on.room;
         rises = rises-push 0 kept fed facts-on.rises facts-on.past zero-le;
-        past = All-push (λ y. y.time ≤ item.time) kept fed facts-on.past (omega arith);
-        needed = (let le = first-early item.time on facts-on.early in All-push (λ y. first_time_from item.time on ≤ y.time + size) kept fed facts-on.needed (omega (arith, le)));
+        past = all_push (λ y. y.time ≤ item.time) kept fed facts-on.past (omega arith);
+        needed = (let le = first-early item.time on facts-on.early in all_push (λ y. first_time_from item.time on ≤ y.time + size) kept fed facts-on.needed (omega (arith, le)));
       })
 
   module _ (future : List Entry) (all : IsFuture unmarked (resample_fits width) place (entries port item ++ future)) where

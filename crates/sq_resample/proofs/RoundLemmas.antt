@@ -10,7 +10,6 @@ use Rattle.sq_value.specs.declared.Tuple.{Tuple}
 use Rattle.sq_item.specs.Things.{Thing}
 use Rattle.sq_lists.specs.Sides.{recent}
 use Rattle.sq_lists.specs.WindowParts.{TimesNotFalling}
-use Rattle.sq_lists.proofs.AllLemmas.{All-weaker}
 use Rattle.sq_lists.proofs.SideLemmas.{All-recent, rises-recent}
 use Rattle.sq_lists.proofs.WindowLemmas.{lower}
 use Rattle.sq_lists.specs.Resamples.{near, resampled, resample_of}
@@ -18,6 +17,7 @@ use Rattle.sq_lists.proofs.NearLemmas.{near-is, reaching-all, resample-let_go, r
 use Rattle.sq_oper.specs.Streams.{things, at_zero}
 use Rattle.sq_oper.proofs.StreamLemmas.{at_zero-append}
 use Rattle.sq_resample.specs.Rounds.{CanGive, first_time_from, passed}
+use Rattle.sq_words.proofs.Alls.{all_weaker}
 
 -- ---- those that pass, and those that wait on
 
@@ -135,6 +135,6 @@ can-step width size x xs held can = record {
   waits = lower 0 x.time xs zero-le can.waits.1;
   room = can.room.1;
   rises = rises-recent size x.time held can.rises;
-  reaches = All-weaker (λ w. AllByRecursion (λ y. y.time ≤ w.time + size) held) (λ w. AllByRecursion (λ y. y.time ≤ w.time + size) (recent size x.time held))
+  reaches = all_weaker (λ w. AllByRecursion (λ y. y.time ≤ w.time + size) held) (λ w. AllByRecursion (λ y. y.time ≤ w.time + size) (recent size x.time held))
       (λ w h. All-recent (λ y. y.time ≤ w.time + size) size x.time held h) xs can.reaches.1;
 }

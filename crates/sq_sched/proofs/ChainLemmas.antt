@@ -9,6 +9,7 @@ use Rattle.sq_link.specs.Chained.{Chained, list_at, StandsIn, IsLoose, IsChained
 use Rattle.sq_sched.specs.Ready.{without_actor, AreActors, OnlyOnce, ready_in, IsReadyList}
 use Rattle.sq_sched.proofs.ReadyLemmas.{contained, not-contained, stands, once-apart, without-all, length-without, few, room}
 use Rattle.sq_words.specs.Lists.{contains_number}
+use Rattle.sq_link.proofs.ChainLemmas.{first-without}
 
 -- what stands in a list stands in the first, where there is one alone
 in-first : (lists : List (List ℕ)) (l n : ℕ) → length lists ≡ 1 → StandsIn n (list_at lists l) → StandsIn n (list_at lists 0)
@@ -16,10 +17,6 @@ in-first [] l n one h = absurd (omega arith)
 in-first (xs ∷ []) zero n one h = h
 in-first (xs ∷ []) (suc l) n one h = absurd h
 in-first (xs ∷ ys ∷ lists) l n one h = absurd (omega arith)
-
-first-without : (lists : List (List ℕ)) (a : ℕ) → list_at (map (all_but a) lists) 0 ≡ all_but a (list_at lists 0)
-first-without [] a = refl
-first-without (xs ∷ lists) a = refl
 
 pub once-in : (chains : Chained) → IsChained chains → OnlyOnce (ready_in chains)
 once-in chains sound = once-apart (ready_in chains) (sound.once 1)

@@ -1,15 +1,12 @@
 -- Box after box, in the order in which each stands behind what it takes.
-use Rattle.std.proofs.Common.{◌≡◌, ℕ, suc, ◌≤◌, Bool, true, List, [], ◌∷◌, map, length, slice_get, Option, Some, None, refl, ap, sym, ◌∙◌, subst, arith}
+use Rattle.std.proofs.Common.{◌≡◌, ℕ, ◌≤◌, Bool, true, List, [], ◌∷◌, map, length, slice_get, Option, Some, None, refl, ap, sym, ◌∙◌, subst, arith}
 use Rattle.std.specs.List.{sum_by, AllByRecursion}
-use Rattle.std.proofs.lemmas.List.Sums.{sum_by-cons}
 use Rattle.std.proofs.lemmas.List.Elements.{recursion_from_All}
-use Rattle.sq_value.specs.declared.Value.{Value}
 use Rattle.sq_value.specs.declared.Tuple.{Tuple}
 use Rattle.sq_value.specs.Values.{Columns, fields_fit}
 use Rattle.sq_graph.specs.declared.Wiring.{Wiring}
 use Rattle.sq_graph.specs.Wires.{Source, Port, producer_of, inputs_of, stream_at}
 use Rattle.sq_lists.specs.Sorting.{bsort_list_of}
-use Rattle.sq_graph.proofs.Reach.{and_parts}
 use Rattle.sq_net.specs.declared.Network.{Network}
 use Rattle.sq_net.specs.declared.Node.{Node}
 use Rattle.sq_net.specs.declared.Body.{Body}
@@ -20,9 +17,8 @@ use Rattle.sq_model.specs.Fit.{FitsOption, SourcesFit}
 use Rattle.sq_model.specs.Fed.{fed_of}
 use Rattle.sq_model.specs.Full.{box_list, produced, full_stream, full_streams}
 use Rattle.sq_model.specs.Laws.{FollowsBoxes}
-use Rattle.sq_model.proofs.Alls.{All-weaker, holds-at}
 use Rattle.sq_model.proofs.FullLemmas.{full_follows, full_listed}
-use Rattle.sq_model.proofs.LateLemmas.{late_are_the_rest}
+use Rattle.sq_model.proofs.LateLemmas.{late_are_the_rest, bsort_few, first_few, same_sum}
 use Rattle.sq_model.proofs.PlacedLemmas.{placed_of}
 use Rattle.sq_model.proofs.StreamTypes.{streams-fit}
 use Rattle.sq_shard.specs.declared.Cut.{Cut}
@@ -32,38 +28,18 @@ use Rattle.sq_shard.specs.Laws.{NoneLate, SameBody, SameNode, AreAlike}
 use Rattle.sq_shard.proofs.InOrder.{by-order}
 use Rattle.sq_model.proofs.LateLemmas.{bsort_gives}
 use Rattle.sq_shard.proofs.Parts.{Law, GivesAll, moved, box-part}
-use Rattle.sq_shard.proofs.Sorted.{bsort-few}
 use Rattle.sq_words.specs.Lists.{nth}
 use Rattle.sq_model.proofs.FullWords.{box_list_at}
-
--- a tuple that fits columns has as many values
-fitting-length : (cs : Columns) (vs : List Value) → fields_fit cs vs ≡ true → length vs ≡ length cs
-fitting-length [] [] h = refl
-fitting-length [] (v ∷ vs) h = absurd (cc h)
-fitting-length (c ∷ cs) [] h = absurd (cc h)
-fitting-length (c ∷ cs) (v ∷ vs) h = ap suc (fitting-length cs vs (and_parts _ _ h).1)
+use Rattle.sq_value.proofs.FitLemmas.{fields_count}
+use Rattle.sq_words.proofs.Alls.{all_at, all_weaker}
 
 wide-option : (o : Option Columns) (xs : List Tuple) → FitsOption o xs → AllByRecursion (λ (x : Tuple). length x.fields ≡ width_of o) xs
 wide-option None xs h = subst (AllByRecursion (λ (x : Tuple). length x.fields ≡ 0)) (sym h) tt
-wide-option (Some cs) xs h = All-weaker (λ (x : Tuple). fields_fit cs x.fields ≡ true) (λ (x : Tuple). length x.fields ≡ length cs) (λ x k. fitting-length cs x.fields k) xs h
+wide-option (Some cs) xs h = all_weaker (λ (x : Tuple). fields_fit cs x.fields ≡ true) (λ (x : Tuple). length x.fields ≡ length cs) (λ x k. fields_count cs x.fields k) xs h
 
 source-part : (in_class : KeyClass) (o : Option ℕ) (xs : List Tuple) → IsShardOf in_class (source_cut o) xs (kept in_class o xs)
 source-part in_class None xs = refl
 source-part in_class (Some c) xs = (refl, tt)
-
--- a BSort that gives as many as all it is fed leaves out nothing of its input
-first-few : (stream : ℕ → List Tuple) (inputs : List ℕ) → length (nth (map stream inputs) 0) ≤ sum_by (λ s. length (stream s)) inputs
-first-few stream [] = omega arith
-first-few stream (s ∷ inputs) = (let sum = sum_by-cons (λ s. length (stream s)) s inputs in omega (arith, sum))
-
-same-sum : (f g : ℕ → List Tuple) → ((s : ℕ) → f s ≡ g s) → (inputs : List ℕ) → sum_by (λ s. length (f s)) inputs ≡ sum_by (λ s. length (g s)) inputs
-same-sum f g alike [] = refl
-same-sum f g alike (s ∷ inputs) =
-    let here = ap (λ (xs : List Tuple). length xs) (alike s) in
-    let later = same-sum f g alike inputs in
-    let a = sum_by-cons (λ s. length (f s)) s inputs in
-    let b = sum_by-cons (λ s. length (g s)) s inputs in
-    omega (arith, here, later, a, b)
 
 gives-all : (n : Network) (sound : IsSound n) (sources : List (List Tuple)) → NoneLate n sources → (at : ℕ) (b : Node) → slice_get n.boxes at ≡ Some b
     → (c : Body) → b.body ≡ c → GivesAll c (nth (map (full_stream n sources) (inputs_of n.wires at)) 0)
@@ -84,9 +60,9 @@ gives-all n sound sources none at b there (BSort by slack) is =
     let given = ap (λ (xs : List Tuple). length xs) gives in
     let rest = late_are_the_rest n sources sound at by slack b there is in
     let late = none at in
-    let fed : fed_of n sources at ≡ sum_by (λ s. length (stream s)) inputs = same-sum (nth (full_streams n sources)) stream (full_listed n sources placed) inputs in
-    let few = first-few stream inputs in
-    let most = bsort-few by slack first in
+    let fed : fed_of n sources at ≡ sum_by (λ s. length (stream s)) inputs = same_sum (nth (full_streams n sources)) stream (full_listed n sources placed) inputs in
+    let few = first_few stream inputs in
+    let most = bsort_few by slack first in
     omega (arith, given, rest, late, fed, few, most)
 gives-all n sound sources none at b there (Aggregate funcs group window) is = tt
 gives-all n sound sources none at b there (Join size on) is = tt
@@ -120,7 +96,7 @@ module _ (n whole : Network) (sound : IsSound n) (sure : IsSound whole) (by : Li
   box-holds at port None p e f all = tt
   box-holds at port (Some b) None e f all = absurd (subst (λ q. SameNode (Some b) q on_time) f (subst (λ q. SameNode q (slice_get whole.boxes at) on_time) e (alike.boxes at)))
   box-holds at port (Some b) (Some c) e f all =
-      let window = holds-at (λ (b : Node). HasWindow b.body) n.boxes at b (recursion_from_All (λ (b : Node). HasWindow b.body) n.boxes sound.windows) e in
+      let window = all_at (λ (b : Node). HasWindow b.body) n.boxes at b (recursion_from_All (λ (b : Node). HasWindow b.body) n.boxes sound.windows) e in
       let same : SameBody b.body c.body on_time = subst (λ q. SameNode (Some b) q on_time) f (subst (λ q. SameNode q (slice_get whole.boxes at) on_time) e (alike.boxes at)) in
       box-part in_class cuts full answered on_time b.body c.body port (input_widths n (inputs_of n.wires at)) (inputs_of n.wires at) same window (first-wide (inputs_of n.wires at)) all
       (λ on. let none = late on in (

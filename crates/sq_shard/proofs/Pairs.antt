@@ -4,26 +4,28 @@ use Rattle.std.proofs.lemmas.Bool.Decides.{nat_tests}
 use Rattle.std.proofs.lemmas.List.MinMax.{IsStrictWeakOrder-by_number}
 use Rattle.std.proofs.lemmas.List.Elements.{filter-append}
 use Rattle.std.specs.Prelude.{if◌then◌else◌}
-use Rattle.std.specs.Ordering.{is_eq}
 use Rattle.std.specs.List.{filter, AllByRecursion}
 use Rattle.sq_value.specs.declared.Value.{Value}
 use Rattle.sq_value.specs.declared.Value.TheVariants as value
 use Rattle.sq_value.specs.declared.Tuple.{Tuple}
-use Rattle.sq_value.specs.Values.{field, is_null, value_cmp}
+use Rattle.sq_value.specs.Values.{field}
 use Rattle.sq_words.specs.Lists.{ports_from, ports_of, sort_by}
-use Rattle.sq_value.proofs.ValueOrder.{value-same}
 use Rattle.sq_expr.specs.Keys.{equated}
 use Rattle.sq_expr.specs.Trees.{Expr, Field, Compare, Logic}
 use Rattle.sq_expr.specs.declared.CompareOp.TheVariants as compare
 use Rattle.sq_expr.specs.declared.LogicOp.TheVariants as logic
-use Rattle.sq_expr.specs.Expressions.{compare_value, logic_value, is_true, holds_of, pair_of, value_of}
+use Rattle.sq_expr.specs.Expressions.{holds_of, pair_of, value_of}
 use Rattle.sq_road.proofs.Parts.{filter_sort}
 use Rattle.sq_lists.specs.Merge.{PortTuple, tuple_earlier, merge_tuples}
 use Rattle.sq_lists.specs.Pairs.{meets, paired, pairs_of, pairs_from, join_list_of}
-use Rattle.sq_model.proofs.Alls.{All-append, All-mapped, All-sorted, All-every, All-weaker}
+use Rattle.sq_model.proofs.Alls.{All-append, All-mapped, All-sorted, All-every}
 use Rattle.sq_shard.specs.Keys.{is_pair_of, joins_on}
 use Rattle.sq_place.proofs.Deciding.{filter-mapped}
-use Rattle.sq_shard.proofs.Lists.{equal-of, filter-none}
+use Rattle.sq_shard.proofs.Lists.{filter-none}
+use Rattle.sq_words.proofs.Bools.{and_true, or_cases}
+use Rattle.std.proofs.lemmas.Map.Views.{exact_unsigned_eq}
+use Rattle.sq_expr.proofs.EqualLemmas.{compared-equal, both-true}
+use Rattle.sq_words.proofs.Alls.{all_weaker}
 
 -- ---- merges
 
@@ -68,7 +70,7 @@ module _ (E : PortTuple → Type 0) (keep : PortTuple → Bool) (out : Tuple →
       let h : PortTuple → Bool = λ b. holds_of on (paired now b) in
       ap (filter out) (filter-mapped (holds_of on) (paired now) (filter (meets size now) before))
       ∙ filter-mapped out (paired now) (filter h (filter (meets size now) before))
-      ∙ ap (map (paired now)) (three o h (meets size now) (λ b. keep now && keep b) before (All-weaker E (λ b. meets size now b ≡ true → h b ≡ true → o b ≡ (keep now && keep b)) (λ b k m t. agree now b e k m t) before all))
+      ∙ ap (map (paired now)) (three o h (meets size now) (λ b. keep now && keep b) before (all_weaker E (λ b. meets size now b ≡ true → h b ≡ true → o b ≡ (keep now && keep b)) (λ b k m t. agree now b e k m t) before all))
       ∙ sym (filter-mapped (holds_of on) (paired now) (filter (meets size now) (filter (λ b. keep now && keep b) before)))
 
   none-kept : (before : List PortTuple) → filter (λ (b : PortTuple). false) before ≡ []
@@ -140,7 +142,7 @@ module _ (pl pr out : Tuple → Bool) (width size : ℕ) (on : Expr)
   sided : (left right : List Tuple) → AllByRecursion (λ (x : Tuple). length x.fields ≡ width) left → AllByRecursion Sided (ports_from 0 (left ∷ right ∷ []))
   sided left right h =
       All-append Sided (map (λ x. (0, x)) left) (ports_from 1 (right ∷ []))
-      (All-mapped Sided (λ x. (0, x)) left (All-weaker (λ (x : Tuple). length x.fields ≡ width) (λ x. Sided (0, x)) (λ x f. inl (refl, f)) left h))
+      (All-mapped Sided (λ x. (0, x)) left (all_weaker (λ (x : Tuple). length x.fields ≡ width) (λ x. Sided (0, x)) (λ x f. inl (refl, f)) left h))
       (All-append Sided (map (λ x. (1, x)) right) [] (All-mapped Sided (λ x. (1, x)) right (All-every (λ x. Sided (1, x)) (λ x. inr refl) right)) tt)
 
   pub join-taken : (left right : List Tuple) → AllByRecursion (λ (x : Tuple). length x.fields ≡ width) left
@@ -151,35 +153,11 @@ module _ (pl pr out : Tuple → Bool) (width size : ℕ) (on : Expr)
 
 -- ---- what the predicate says
 
-and-parts : (v w : Value) → is_true (logic_value logic.And v w) ≡ true → (is_true v ≡ true) × (is_true w ≡ true)
-and-parts (value.Bool true) (value.Bool true) h = (refl, refl)
-and-parts (value.Bool true) (value.Bool false) h = absurd (cc h)
-and-parts (value.Bool false) (value.Bool b) h = absurd (cc h)
-and-parts v w h = absurd (cc h)
-
-compared-equal : (v w : Value) → is_true (compare_value compare.Equal v w) ≡ true → v ≡ w
-compared-equal v w h = value-same v w (equal-of (value_cmp v w) (test (is_null v || is_null w) (is_eq (value_cmp v w)) h))
-  where
-    test : (c b : Bool) → is_true (if c then value.Null else value.Bool b) ≡ true → b ≡ true
-    test true b h = absurd (cc h)
-    test false b h = h
-
-either : (a b : Bool) → (a || b) ≡ true → (a ≡ true) ⊎ (b ≡ true)
-either true b h = inl refl
-either false b h = inr h
-
-pub both : (a b : Bool) → (a && b) ≡ true → (a ≡ true) × (b ≡ true)
-both true b h = (refl, h)
-both false b h = absurd (cc h)
-
-pub same-from : (a b : ℕ) → eqb a b ≡ true → a ≡ b
-same-from a b e = grind (arith, nat_tests)
-
 fields-named : (i j a b : ℕ) (vs : List Value) → ((eqb a i && eqb b j) || (eqb a j && eqb b i)) ≡ true → field vs a ≡ field vs b → field vs i ≡ field vs j
 fields-named i j a b vs h e =
-    elim (either (eqb a i && eqb b j) (eqb a j && eqb b i) h) [
-      | inl t ↦ (let p = both (eqb a i) (eqb b j) t in ap (field vs) (sym (same-from a i p.0)) ∙ e ∙ ap (field vs) (same-from b j p.1))
-      | inr t ↦ (let p = both (eqb a j) (eqb b i) t in ap (field vs) (sym (same-from b i p.1)) ∙ sym e ∙ ap (field vs) (same-from a j p.0))
+    elim (or_cases (eqb a i && eqb b j) (eqb a j && eqb b i) h) [
+      | inl t ↦ (let p = and_true (eqb a i) (eqb b j) t in ap (field vs) (sym (exact_unsigned_eq a i p.0)) ∙ e ∙ ap (field vs) (exact_unsigned_eq b j p.1))
+      | inr t ↦ (let p = and_true (eqb a j) (eqb b i) t in ap (field vs) (sym (exact_unsigned_eq b i p.1)) ∙ sym e ∙ ap (field vs) (exact_unsigned_eq a j p.0))
     ]
 
 named-somewhere : (i j : ℕ) (xs ys : List (ℕ × ℕ)) → joins_on i j (xs ++ ys) ≡ true → (joins_on i j xs ≡ true) ⊎ (joins_on i j ys ≡ true)
@@ -201,7 +179,7 @@ one-named i j a b h = by (is_pair_of i j (a, b)) h
 pub joins-equal : (i j : ℕ) (on : Expr) (t : Tuple) → joins_on i j (equated on) ≡ true → holds_of on t ≡ true → field t.fields i ≡ field t.fields j
 joins-equal i j (Compare compare.Equal (Field a) (Field b)) t h k = fields-named i j a b t.fields (one-named i j a b h) (compared-equal (field t.fields a) (field t.fields b) k)
 joins-equal i j (Logic logic.And p q) t h k =
-    let parts = and-parts (value_of p t) (value_of q t) k in
+    let parts = both-true (value_of p t) (value_of q t) k in
     elim (named-somewhere i j (equated p) (equated q) h) [
       | inl g ↦ joins-equal i j p t g parts.0
       | inr g ↦ joins-equal i j q t g parts.1

@@ -24,7 +24,7 @@ use Rattle.sq_net.specs.declared.Body.{Body}
 use Rattle.sq_net.specs.declared.Body.TheVariants.{Filter, Map, Union, BSort, Aggregate, Join, Resample}
 use Rattle.sq_model.specs.Full.{box_list}
 use Rattle.sq_model.specs.Unions as model
-use Rattle.sq_model.proofs.Alls.{All-append, All-mapped, All-weaker}
+use Rattle.sq_model.proofs.Alls.{All-append, All-mapped}
 use Rattle.sq_shard.specs.declared.Cut.{Cut}
 use Rattle.sq_shard.specs.declared.Cut.TheVariants.{Whole, By}
 use Rattle.sq_shard.specs.Cuts.{KeyClass, is_in_class, IsShardOf}
@@ -34,7 +34,11 @@ use Rattle.sq_shard.proofs.Lists.{filter-swap, filter-same}
 use Rattle.sq_shard.specs.Laws.{SameBody}
 use Rattle.sq_shard.proofs.Windows.{aggregate-taken}
 use Rattle.sq_shard.proofs.Sorted.{all-sorted, bsort-taken}
-use Rattle.sq_shard.proofs.Pairs.{kept_from, filter-merge, join-taken, joins-equal, both, same-from}
+use Rattle.sq_shard.proofs.Pairs.{kept_from, filter-merge, join-taken, joins-equal}
+use Rattle.sq_words.proofs.Bools.{and_true}
+use Rattle.std.proofs.lemmas.Map.Views.{exact_unsigned_eq}
+use Rattle.sq_expr.proofs.RowLemmas.{field_left}
+use Rattle.sq_words.proofs.Alls.{all_weaker}
 
 -- ---- lists of columns
 
@@ -48,7 +52,7 @@ any-of {X} P f (x ∷ xs) all h = by (f x) refl h (any-of P f xs all.1)
     by false e h more = more h
 
 pub contained : (P : ℕ → Type 0) (xs : List ℕ) (n : ℕ) → AllByRecursion P xs → contains_number xs n ≡ true → P n
-contained P xs n all h = let found = any-of P (λ x. eqb x n) xs all h in subst P (same-from found.0 n found.2) found.1
+contained P xs n all h = let found = any-of P (λ x. eqb x n) xs all h in subst P (exact_unsigned_eq found.0 n found.2) found.1
 
 all-kept : {X : Type 0} (P Q : X → Type 0) (q : X → Bool) → ((x : X) → P x → q x ≡ true → Q x) → (xs : List X) → AllByRecursion P xs → AllByRecursion Q (filter q xs)
 all-kept P Q q h [] all = tt
@@ -81,11 +85,6 @@ bare-field columns e h = absurd (cc h)
 pub places-map : {X Y : Type 0} (passes : Y → Bool) (f : X → Y) (i : ℕ) (xs : List X) → places passes i (map f xs) ≡ places (λ x. passes (f x)) i xs
 places-map passes f i [] = refl
 places-map passes f i (x ∷ xs) = ap (λ ks. cond (passes (f x)) (i ∷ ks) ks) (places-map passes f (i + 1) xs)
-
-left-field : (vs ws : List Value) (l : ℕ) → l < length vs → field (vs ++ ws) l ≡ field vs l
-left-field [] ws l low = absurd (omega (arith, low))
-left-field (v ∷ vs) ws zero low = refl
-left-field (v ∷ vs) ws (suc l) low = left-field vs ws l (omega (arith, low))
 
 right-field : (vs ws : List Value) (r : ℕ) → field (vs ++ ws) (length vs + r) ≡ field ws r
 right-field [] ws r = ap (field ws) (let z : 0 + r ≡ r = omega arith in z)
@@ -123,7 +122,7 @@ module _ (in_class : KeyClass) where
   filter-part : (ps : List Expr) (port : ℕ) (c : Cut) (xs ys : List Tuple) → IsShardOf in_class c xs ys → IsShardOf in_class c (filter_list_of ps port xs) (filter_list_of ps port ys)
   filter-part ps port Whole xs ys is = ap (filter_list_of ps port) is
   filter-part ps port (By columns) xs ys is =
-      All-weaker (By' xs ys) (By' (filter_list_of ps port xs) (filter_list_of ps port ys))
+      all_weaker (By' xs ys) (By' (filter_list_of ps port xs) (filter_list_of ps port ys))
       (λ c e. ap (filter_list_of ps port) e ∙ filter-swap (λ x. eqb (port_taken ps x) port) (of c) xs) columns is
 
   map-part : (es : List Expr) (columns : List ℕ) (xs ys : List Tuple) → AllByRecursion (By' xs ys) columns
@@ -152,7 +151,7 @@ module _ (in_class : KeyClass) where
 
   module _ (width size : ℕ) (on : Expr) (xl xr : List Tuple) (wide : AllByRecursion (λ (x : Tuple). length x.fields ≡ width) xl) where
     left-of : (l : ℕ) (x y : Tuple) → l < width → length x.fields ≡ width → of l (pair_of x y) ≡ of l x
-    left-of l x y low len = ap in_class (left-field x.fields y.fields l (omega (arith, low, len)))
+    left-of l x y low len = ap in_class (field_left x.fields y.fields l (omega (arith, low, len)))
 
     right-of : (r : ℕ) (x y : Tuple) → length x.fields ≡ width → of (width + r) (pair_of x y) ≡ of r y
     right-of r x y len = ap in_class (ap (λ k. field (x.fields ++ y.fields) (k + r)) (sym len) ∙ right-field x.fields y.fields r)
@@ -200,7 +199,7 @@ module _ (in_class : KeyClass) where
 
       on-left : (ls rs : List ℕ) → AllByRecursion (By' xl yl) ls → AllByRecursion (By' xr yr) rs → AllByRecursion Given (left_keys width (equated on) ls rs)
       on-left ls rs la ra = all-kept (By' xl yl) Given (λ l. ltb l width && list_any (λ r. joins_on l (width + r) (equated on)) rs) (λ l e h. (
-          let parts = both (ltb l width) (list_any (λ r. joins_on l (width + r) (equated on)) rs) h in
+          let parts = and_true (ltb l width) (list_any (λ r. joins_on l (width + r) (equated on)) rs) h in
           let found = any-of (By' xr yr) (λ r. joins_on l (width + r) (equated on)) rs ra parts.1 in
           ap (λ zs. join_list_of size on zs yr) e ∙ ap (join_list_of size on (filter (of l) xl)) found.1
           ∙ sym (both-left l found.0 (below l width parts.0) found.2))) ls la
@@ -209,7 +208,7 @@ module _ (in_class : KeyClass) where
       on-right ls rs la ra = All-mapped Given (λ r. width + r) (right_keys width (equated on) ls rs)
           (all-kept (By' xr yr) (λ r. Given (width + r)) (λ r. list_any (λ l. ltb l width && joins_on l (width + r) (equated on)) ls) (λ r e h. (
           let found = any-of (By' xl yl) (λ l. ltb l width && joins_on l (width + r) (equated on)) ls la h in
-          let parts = both (ltb found.0 width) (joins_on found.0 (width + r) (equated on)) found.2 in
+          let parts = and_true (ltb found.0 width) (joins_on found.0 (width + r) (equated on)) found.2 in
           ap (λ zs. join_list_of size on zs yr) found.1 ∙ ap (join_list_of size on (filter (of found.0) xl)) e
           ∙ sym (both-right found.0 r (below found.0 width parts.0) parts.1))) rs ra)
 
@@ -217,7 +216,7 @@ module _ (in_class : KeyClass) where
       join-part Whole Whole l r = ap (λ zs. join_list_of size on zs yr) l ∙ ap (join_list_of size on xl) r
       join-part (By ls) Whole l r = all-kept (By' xl yl) Given (λ l. ltb l width) (λ k e h.
           ap (λ zs. join_list_of size on zs yr) e ∙ ap (join_list_of size on (filter (of k) xl)) r ∙ sym (left-key k (below k width h))) ls l
-      join-part Whole (By rs) l r = All-mapped Given (λ r. width + r) rs (All-weaker (By' xr yr) (λ r. Given (width + r)) (λ k e.
+      join-part Whole (By rs) l r = All-mapped Given (λ r. width + r) rs (all_weaker (By' xr yr) (λ r. Given (width + r)) (λ k e.
           ap (λ zs. join_list_of size on zs yr) l ∙ ap (join_list_of size on xl) e ∙ sym (right-key k)) rs r)
       join-part (By ls) (By rs) l r = All-append Given (left_keys width (equated on) ls rs) (map (λ r. width + r) (right_keys width (equated on) ls rs)) (on-left ls rs l r) (on-right ls rs l r)
 
@@ -229,7 +228,7 @@ module _ (in_class : KeyClass) where
     all-left l low [] all = tt
     all-left l low (x ∷ xs) all =
         let len = all.0 in
-        (ap in_class (left-field x.fields _ l (omega (arith, low, len))), all-left l low xs all.1)
+        (ap in_class (field_left x.fields _ l (omega (arith, low, len))), all-left l low xs all.1)
 
     sample-key : (l : ℕ) → l < width → filter (of l) (resample_list_of funcs size xl xr) ≡ resample_list_of funcs size (filter (of l) xl) xr
     sample-key l low =
@@ -272,7 +271,7 @@ module _ (in_class : KeyClass) where
 
     only : (a : Cut) (s : ℕ) → IsShardOf in_class a (full s) (part s) → Each a (s ∷ [])
     only Whole s e = ap (λ x. x ∷ []) e
-    only (By columns) s e = All-weaker (By' (full s) (part s)) (λ c. map part (s ∷ []) ≡ map (λ s. filter (of c) (full s)) (s ∷ [])) (λ c here. ap (λ x. x ∷ []) here) columns e
+    only (By columns) s e = all_weaker (By' (full s) (part s)) (λ c. map part (s ∷ []) ≡ map (λ s. filter (of c) (full s)) (s ∷ [])) (λ c here. ap (λ x. x ∷ []) here) columns e
 
     each : (inputs : List ℕ) → AllByRecursion Law inputs → Each (union_cut (map cuts inputs)) inputs
     each [] all = tt
@@ -291,7 +290,7 @@ module _ (in_class : KeyClass) where
     union-part : (a : Cut) (inputs : List ℕ) → Each a inputs → IsShardOf in_class a (union (map full inputs)) (union (map part inputs))
     union-part Whole inputs e = ap union e
     union-part (By columns) inputs e =
-        All-weaker (λ c. map part inputs ≡ map (λ s. filter (of c) (full s)) inputs) (By' (union (map full inputs)) (union (map part inputs)))
+        all_weaker (λ c. map part inputs ≡ map (λ s. filter (of c) (full s)) inputs) (By' (union (map full inputs)) (union (map part inputs)))
         (λ c h. ap union h ∙ sym (filter-union c inputs)) columns e
 
     sort-part : (by slack other : ℕ) (c : Cut) (xs ys : List Tuple) → length (bsort_list_of by other xs) ≡ length xs → length (bsort_list_of by slack ys) ≡ length ys
@@ -299,7 +298,7 @@ module _ (in_class : KeyClass) where
     sort-part by slack other Whole xs ys whole mine is =
         all-sorted by slack ys mine ∙ ap (λ zs. sort_by model.tuple_sooner (retimed by zs)) is ∙ sym (all-sorted by other xs whole)
     sort-part by slack other (By columns) xs ys whole mine is =
-        All-weaker (By' xs ys) (By' (bsort_list_of by other xs) (bsort_list_of by slack ys)) (λ c e.
+        all_weaker (By' xs ys) (By' (bsort_list_of by other xs) (bsort_list_of by slack ys)) (λ c e.
         ap (bsort_list_of by slack) e
         ∙ sym (bsort-taken in_class c by other slack xs whole (subst (λ zs. length (bsort_list_of by slack zs) ≡ length zs) e mine))) columns is
 

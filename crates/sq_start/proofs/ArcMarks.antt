@@ -1,7 +1,7 @@
 -- Marks and tuples on the arcs of a network, and the actors that they come to.
 use Rattle.std.proofs.Common.{◌≡◌, ℕ, zero, suc, ◌<◌, Bool, true, false, ◌&&◌, List, [], ◌∷◌, length, get_or, Option, Some, None, refl, ap, sym, ◌∙◌, subst, arith}
 use Rattle.std.specs.Prelude.{slice_get, is_some, nat_lt, ◌==◌}
-use Rattle.std.specs.List.{All, AllByRecursion}
+use Rattle.std.specs.List.{All}
 use Rattle.std.proofs.lemmas.Bool.Decides.{nat_tests}
 use Rattle.std.proofs.lemmas.List.Elements.{All-nil}
 use Rattle.std.proofs.lemmas.List.FromFn.{length-range_with_len}
@@ -15,7 +15,6 @@ use Rattle.sq_graph.specs.declared.BoxWires.{BoxWires}
 use Rattle.sq_graph.specs.Wires.{inputs_at, inputs_of, arc_at, input_arcs_of, output_arc_at}
 use Rattle.sq_place.specs.declared.DropPoint.{DropPoint}
 use Rattle.sq_place.specs.Places.{stream_on}
-use Rattle.sq_place.proofs.Wires.{length-mapped}
 use Rattle.sq_net.specs.declared.Network.{Network}
 use Rattle.sq_net.specs.declared.Node.{Node}
 use Rattle.sq_net.specs.declared.Body.{Body}
@@ -40,18 +39,15 @@ use Rattle.sq_start.proofs.BoxFacts.{Ready}
 use Rattle.sq_start.proofs.PointLemmas.{own-arc, own-drop}
 use Rattle.sq_start.proofs.OwnArcs.{own-fed}
 use Rattle.sq_below.proofs.RankWords.{BodyFits, FitsAt}
+use Rattle.sq_words.proofs.Alls.{all_at}
+use Rattle.sq_words.proofs.Lists.{length_map}
 
 -- a replay of which nothing was recorded
 abbrev bare : Network → Replay
 bare n = record { network = n; sources = []; entries = []; seed = 0 }
 
-holds-at : {X : Type 0} (P : X → Type 0) (xs : List X) (i : ℕ) (x : X) → AllByRecursion P xs → slice_get xs i ≡ Some x → P x
-holds-at P [] i x h there = absurd (cc there)
-holds-at P (y ∷ ys) zero x h there = (let same : y ≡ x = cc there in subst P same h.0)
-holds-at P (y ∷ ys) (suc i) x h there = holds-at P ys i x h.1 there
-
 arcs-many : (n : Network) (b : ℕ) → length (input_arcs_of n.wires b) ≡ length (inputs_of n.wires b)
-arcs-many n b = length-mapped (arc_at n.wires b) (numbers_to (length (inputs_of n.wires b))) ∙ length-range_with_len 0 (length (inputs_of n.wires b))
+arcs-many n b = length_map (arc_at n.wires b) (numbers_to (length (inputs_of n.wires b))) ∙ length-range_with_len 0 (length (inputs_of n.wires b))
 
 first-only : (x port a : ℕ) → slice_get (x ∷ []) port ≡ Some a → (port ≡ 0) × (x ≡ a)
 first-only x zero a e = (refl, cc e)
@@ -106,7 +102,7 @@ module _ (readies : Ready) where
   marks-taken n (Box b) port a sound there below = by (drop_above_box n b) refl
     where
       alike : (o : Option Drop) → drop_above_box n b ≡ o → drop_above_arc n a ≡ o
-      alike o e = holds-at (λ c. drop_above_arc n c ≡ o) (input_arcs_of n.wires b) port a (inputs-alike (bare n) (ranks-of n sound) (All-nil IsStream) b o e) there
+      alike o e = all_at (λ c. drop_above_arc n c ≡ o) (input_arcs_of n.wires b) port a (inputs-alike (bare n) (ranks-of n sound) (All-nil IsStream) b o e) there
 
       by : (o : Option Drop) → drop_above_box n b ≡ o → actor_marks n (Box b) port ≡ true
       by None e = (let bad : false ≡ true = sym (ap is_some (alike None e)) ∙ below in absurd (cc bad))
@@ -162,7 +158,7 @@ module _ (widen : FuturesWiden)
           let low : port < length (inputs_of r.network.wires b) = lower port (length (inputs_of r.network.wires b)) h in
           let a = get_or (input_arcs_of r.network.wires b) port 0 in
           let at = slice_get-get_or (input_arcs_of r.network.wires b) port 0 (omega (arith, low, many)) in
-          let below = holds-at (λ c. drop_above_arc r.network c ≡ Some d) (input_arcs_of r.network.wires b) port a (inputs-alike r (ranks-of r.network read.sound) read.streams b (Some d) e) at in
+          let below = all_at (λ c. drop_above_arc r.network c ≡ Some d) (input_arcs_of r.network.wires b) port a (inputs-alike r (ranks-of r.network read.sound) read.streams b (Some d) e) at in
           arcs.marked port a at (ap is_some below)
         where
           lower : (a b : ℕ) → nat_lt a b ≡ true → a < b

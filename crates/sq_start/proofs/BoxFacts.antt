@@ -2,7 +2,6 @@
 use Rattle.std.proofs.Common.{◌≡◌, ℕ, ◌-◌, Bool, true, false, List, [], ◌∷◌, length, Option, Some, None, refl, ap, sym, ◌∙◌, subst}
 use Rattle.std.specs.List.{All}
 use Rattle.std.proofs.lemmas.List.FromFn.{length-range_with_len}
-use Rattle.sq_place.proofs.Wires.{length-mapped}
 use Rattle.sq_value.specs.declared.Value.{Value}
 use Rattle.sq_value.specs.Values.{IsStream}
 use Rattle.sq_item.specs.Things.{Load, Sign, Thing}
@@ -22,6 +21,7 @@ use Rattle.sq_below.specs.Standing.{Drop, drop_above_box, plain_gives, marked_gi
 use Rattle.sq_below.specs.Actors.{Box, box_stream, stream_of}
 use Rattle.sq_below.specs.Ports.{body_fits, body_marks, marks_where, may_be_below, AllReady, FuturesWiden}
 use Rattle.sq_start.specs.Starts.{IsDropAbove, AreLags, IsBox}
+use Rattle.sq_words.proofs.Lists.{length_map}
 
 -- what is fed is ready, wherever a replay was read
 abbrev pub Ready : Type 0
@@ -50,8 +50,8 @@ module _ (readies : Ready) (widen : FuturesWiden) (r : Replay) (b : ℕ) (kind :
       by : (o : Option Drop) → AreLags r.network b lags o → length lags ≡ length (inputs_of r.network.wires b)
       by None e = e
       by (Some d) e =
-          ap (λ (l : List ℕ). length l) e ∙ length-mapped (λ a. max_by (distance_of d.1) (input_arcs_of r.network.wires b) - distance_of d.1 a) (input_arcs_of r.network.wires b)
-          ∙ length-mapped (arc_at r.network.wires b) (numbers_to (length (inputs_of r.network.wires b))) ∙ length-range_with_len 0 (length (inputs_of r.network.wires b))
+          ap (λ (l : List ℕ). length l) e ∙ length_map (λ a. max_by (distance_of d.1) (input_arcs_of r.network.wires b) - distance_of d.1 a) (input_arcs_of r.network.wires b)
+          ∙ length_map (arc_at r.network.wires b) (numbers_to (length (inputs_of r.network.wires b))) ∙ length-range_with_len 0 (length (inputs_of r.network.wires b))
 
   -- all that it is fed may come to what takes as much as the box
   pub box-future : (marks : ℕ → Bool) (fits : ℕ → List Value → Bool)

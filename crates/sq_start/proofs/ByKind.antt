@@ -1,5 +1,5 @@
 -- New boxes by kind: by the clauses of each box, what it does for all that it is fed.
-use Rattle.std.proofs.Common.{◌≡◌, ℕ, ◌+◌, eqb, cond, Bool, true, false, ◌&&◌, List, [], ◌∷◌, ◌++◌, map, length, refl, ap, sym, ◌∙◌}
+use Rattle.std.proofs.Common.{◌≡◌, ℕ, ◌+◌, Bool, true, false, ◌&&◌, List, [], ◌∷◌, ◌++◌, map, length, refl, ap, sym, ◌∙◌}
 use Rattle.std.specs.Prelude.{◌==◌, ◌-◌, nat_lt}
 use Rattle.std.specs.List.{flat_map}
 use Rattle.sq_value.specs.declared.Value.{Value}
@@ -39,6 +39,7 @@ use Rattle.sq_start.proofs.BoxFacts.{Ready, box-future, box-stream, not-marked}
 use Rattle.sq_start.proofs.Late.{late-sorted}
 use Rattle.sq_words.specs.Lists.{nth}
 use Rattle.sq_expr.specs.Checking.{trees}
+use Rattle.sq_oper.proofs.StreamLemmas.{at_zero-nil}
 
 -- a box that loses nothing has no late tuples
 none-late : (r : Replay) (b : ℕ) (kind : Body) (lags : List ℕ) (marked : Bool) → IsBox r b kind lags marked → ((taken given : ℕ) → late_by kind taken given ≡ 0) → (n : ℕ) → n ≡ 0 → n ≡ late_of r.network r.sources b
@@ -169,13 +170,6 @@ module _ (readies : Ready) (widen : FuturesWiden) (lags : List ℕ) (marked : Bo
 
 -- ---- an Aggregate that is fed nothing
 
-zero-none : {A : Type 0} (q : ℕ) → at_zero {A = A} q [] ≡ []
-zero-none {A} q = by (eqb 0 q)
-  where
-    by : (b : Bool) → cond {A = List A} b [] [] ≡ []
-    by true = refl
-    by false = refl
-
 flat-none : (f : ℕ → List Tuple) → ((s : ℕ) → f s ≡ []) → (ss : List ℕ) → flat_map f ss ≡ []
 flat-none f h [] = refl
 flat-none f h (s ∷ ss) = ap (λ xs. xs ++ flat_map f ss) (h s) ∙ flat-none f h ss
@@ -185,6 +179,6 @@ aggregate-none answers group w = flat-none (λ s. window_results answers group s
 
 pub none-by : (answers : List Tuple → List Value) (group : List ℕ) (w : WindowSpec) (marked : Bool) (port : ℕ) (xs : List Thing)
     → (marked ≡ false → xs ≡ at_zero port (things (aggregate_of answers group w []))) → (marked ≡ true → xs ≡ at_zero port (spread_of (aggregate_tagged answers group w (tagged_of [])))) → xs ≡ []
-none-by answers group w false port xs plain below = plain refl ∙ ap (λ l. at_zero port (things l)) (aggregate-none answers group w) ∙ zero-none port
+none-by answers group w false port xs plain below = plain refl ∙ ap (λ l. at_zero port (things l)) (aggregate-none answers group w) ∙ at_zero-nil port
 none-by answers group w true port xs plain below =
-    below refl ∙ ap (λ l. at_zero port (spread_of (record { marks = []; tuples = below_bounds [] l }))) (aggregate-none answers group w) ∙ zero-none port
+    below refl ∙ ap (λ l. at_zero port (spread_of (record { marks = []; tuples = below_bounds [] l }))) (aggregate-none answers group w) ∙ at_zero-nil port

@@ -11,7 +11,6 @@ use Rattle.sq_oper.specs.declared.tally.Place.TheVariants.{Start}
 use Rattle.sq_graph.specs.Wires.{producer_of, input_arcs_of}
 use Rattle.sq_place.specs.declared.DropPoint.{DropPoint}
 use Rattle.sq_place.specs.declared.DropAt.TheVariants as at
-use Rattle.sq_place.proofs.Wires.{map-map}
 use Rattle.sq_points.specs.Points.{points_of}
 use Rattle.sq_model.specs.Shedding.{Replay}
 use Rattle.sq_left.specs.Left.{Net, Holding}
@@ -26,6 +25,7 @@ use Rattle.sq_start.proofs.PointLemmas.{own-arc, own-drop}
 use Rattle.sq_start.proofs.OwnArcs.{own-fed}
 use Rattle.sq_start.proofs.NumberLemmas.{Which, which, box-at, drop-at, output-at, replay-at, there-at, reads-there}
 use Rattle.sq_left.proofs.StreamWords.{fed_by, Follows, IsStart}
+use Rattle.sq_words.proofs.Lists.{map_map}
 
 -- the streams of a replay by operator; behind the replay there is none
 abbrev pub streams_by : Replay → ℕ → ℕ → List Thing
@@ -89,7 +89,7 @@ module _ (r : Replay) (read : IsReadReplay r) (follow : StreamsFollow r) (drops 
         by : Which r.network k → fed_by net (streams_by r) k ≡ fed_to r (actor_at r.network k)
         by (inl b) =
             let is = box-at r.network k b in
-            reads k (Box k) low is ∙ ap merge (map-map (stream_of r) (arc_from r.network) (input_arcs_of r.network.wires k)) ∙ follow.boxes k ∙ ap (fed_to r) (sym is)
+            reads k (Box k) low is ∙ ap merge (map_map (stream_of r) (arc_from r.network) (input_arcs_of r.network.wires k)) ∙ follow.boxes k ∙ ap (fed_to r) (sym is)
         by (inr (inl (d, at, few))) =
             let is = ap (actor_at r.network) at ∙ drop-at r.network d few in
             let there = slice_get-get_or (points_of r.network) d no_point few in

@@ -1,12 +1,11 @@
 -- The late tuples of a BSort: it lies below no drop, so it is fed its full stream, and gives its box's.
-use Rattle.std.proofs.Common.{◌≡◌, ℕ, zero, suc, ◌-◌, ◌<◌, eqb, Bool, true, false, ◌||◌, List, [], ◌∷◌, map, length, get_or, Option, Some, None, refl, ap, sym, ◌∙◌, subst, arith}
+use Rattle.std.proofs.Common.{◌≡◌, ℕ, zero, suc, ◌-◌, ◌<◌, eqb, Bool, true, false, ◌||◌, List, [], ◌∷◌, map, length, Option, Some, None, refl, ap, sym, ◌∙◌, subst, arith}
 use Rattle.std.specs.Prelude.{slice_get}
 use Rattle.std.specs.List.{sum_by, list_all}
 use Rattle.std.proofs.lemmas.Bool.Decides.{nat_tests}
 use Rattle.std.proofs.lemmas.List.Sums.{sum_by-cons}
-use Rattle.std.proofs.lemmas.Option.{slice_get-get_or, slice_get_within, slice_get_past}
+use Rattle.std.proofs.lemmas.Option.{slice_get_within, slice_get_past}
 use Rattle.sq_value.specs.declared.Tuple.{Tuple}
-use Rattle.sq_value.specs.Values.{Columns}
 use Rattle.sq_lists.specs.Sorting.{bsort_list_of}
 use Rattle.sq_item.specs.Things.{Thing}
 use Rattle.sq_oper.specs.Entries.{at_port}
@@ -14,19 +13,17 @@ use Rattle.sq_oper.specs.Order.{merge, merge_two}
 use Rattle.sq_oper.specs.Streams.{tuples_of, thing_of, things}
 use Rattle.sq_graph.specs.declared.BoxKind.TheVariants as kinds
 use Rattle.sq_graph.specs.declared.BoxWires.{BoxWires}
-use Rattle.sq_graph.specs.Wires.{Arc, Port, producers_of, producer_of, arcs_of, inputs_at, inputs_of, input_arcs_of, stream_at}
-use Rattle.sq_graph.proofs.Reach.{and_parts}
+use Rattle.sq_graph.specs.Wires.{Arc, producers_of, arcs_of, inputs_at, inputs_of, input_arcs_of, stream_at}
 use Rattle.sq_place.specs.Places.{stream_or, stream_on}
-use Rattle.sq_place.proofs.Wires.{map-map, length-mapped, arcs-inputs}
+use Rattle.sq_place.proofs.Wires.{arcs-inputs}
 use Rattle.sq_net.specs.declared.Body.TheVariants.{BSort}
 use Rattle.sq_net.specs.declared.Node.{Node}
 use Rattle.sq_net.specs.declared.Network.{Network}
-use Rattle.sq_net.specs.Sound.{IsSound, IsTypedBody, input_columns, kind_of_body, takes_within}
+use Rattle.sq_net.specs.Sound.{IsSound, kind_of_body, takes_within}
 use Rattle.sq_net.proofs.StreamLemmas.{boxes_count}
 use Rattle.sq_model.specs.Full.{box_list, produced, full_on, full_arc, full_stream, full_streams}
 use Rattle.sq_model.specs.Fed.{fed_of, late_at, late_by, late_of}
 use Rattle.sq_model.specs.Shedding.{Replay}
-use Rattle.sq_model.proofs.NumberLemmas.{producer_at}
 use Rattle.sq_model.proofs.FullLemmas.{full_follows, full_listed}
 use Rattle.sq_model.proofs.PlacedLemmas.{placed_of}
 use Rattle.sq_below.specs.Standing.{standing, on_arc, drop_above_box, box_fed}
@@ -36,6 +33,10 @@ use Rattle.sq_start.proofs.BoxFacts.{Ready, none-above}
 use Rattle.sq_start.proofs.PointLemmas.{arc-alone}
 use Rattle.sq_words.specs.Lists.{contains_number, nth}
 use Rattle.sq_model.proofs.FullWords.{box_list_at}
+use Rattle.sq_words.proofs.Bools.{and_true}
+use Rattle.sq_model.proofs.LateLemmas.{same_sum, bsort_gives}
+use Rattle.sq_oper.proofs.PortLemmas.{of-port}
+use Rattle.sq_words.proofs.Lists.{map_map, length_map}
 
 -- ---- one stream
 
@@ -43,30 +44,15 @@ alone : (p : ℕ) (xs : List Tuple) → merge_two (at_port p (things xs)) [] ≡
 alone p [] = refl
 alone p (x ∷ xs) = ap (λ l. record { port = p; thing = thing_of x } ∷ l) (alone p xs)
 
-tuples-there : (p : ℕ) (xs : List Tuple) → tuples_of (at_port p (things xs)) ≡ xs
-tuples-there p [] = refl
-tuples-there p (x ∷ xs) = ap (λ l. x ∷ l) (tuples-there p xs)
-
 one-stream : (ins : List (List Tuple)) → length ins ≡ 1 → tuples_of (merge (map things ins)) ≡ nth ins 0
 one-stream [] h = absurd (omega (arith, h))
-one-stream (xs ∷ []) h = ap tuples_of (alone 0 xs) ∙ tuples-there 0 xs
+one-stream (xs ∷ []) h = ap tuples_of (alone 0 xs) ∙ of-port 0 xs
 one-stream (xs ∷ ys ∷ ins) h = absurd (omega (arith, h))
 
 one-sum : (f : ℕ → List Tuple) (ss : List ℕ) → length ss ≡ 1 → sum_by (λ s. length (f s)) ss ≡ length (nth (map f ss) 0)
 one-sum f [] h = absurd (omega (arith, h))
 one-sum f (s ∷ []) h = (let one = sum_by-cons (λ s. length (f s)) s [] in omega (arith, one))
 one-sum f (s ∷ t ∷ ss) h = absurd (omega (arith, h))
-
-sum-same : (f g : ℕ → List Tuple) → ((s : ℕ) → f s ≡ g s) → (ss : List ℕ) → sum_by (λ s. length (f s)) ss ≡ sum_by (λ s. length (g s)) ss
-sum-same f g same [] = refl
-sum-same f g same (s ∷ ss) =
-    let here = ap (λ (xs : List Tuple). length xs) (same s) in
-    let more = sum-same f g same ss in
-    let a = sum_by-cons (λ s. length (f s)) s ss in
-    let b = sum_by-cons (λ s. length (g s)) s ss in
-    omega (arith, here, more, a, b)
-
--- ---- a BSort has one input and one port
 
 one-of : (k : ℕ) → eqb k 1 ≡ true → k ≡ 1
 one-of k h = grind (arith, nat_tests)
@@ -79,36 +65,12 @@ takes-at (w ∷ ws) (y ∷ bs) zero by slack b same h there is =
     let e : y ≡ b = cc there in
     let k : w.kind ≡ kind_of_body y.body = cc same in
     let sort : w.kind ≡ kinds.BSort = k ∙ ap (λ (z : Node). kind_of_body z.body) e ∙ ap kind_of_body is in
-    one-of (length w.inputs) (subst (λ z. takes_within z (length w.inputs) ≡ true) sort (and_parts (takes_within w.kind (length w.inputs)) (list_all (λ w. takes_within w.kind (length w.inputs)) ws) h).0)
+    one-of (length w.inputs) (subst (λ z. takes_within z (length w.inputs) ≡ true) sort (and_true (takes_within w.kind (length w.inputs)) (list_all (λ w. takes_within w.kind (length w.inputs)) ws) h).0)
 takes-at (w ∷ ws) (y ∷ bs) (suc at) by slack b same h there is =
-    takes-at ws bs at by slack b (cc same) (and_parts (takes_within w.kind (length w.inputs)) (list_all (λ w. takes_within w.kind (length w.inputs)) ws) h).1 there is
-
-same-lengths : (ws : List BoxWires) (bs : List Node) (at : ℕ) (w : BoxWires) (b : Node) → map (λ x. x.ports) ws ≡ map (λ x. length x.schemas) bs
-    → slice_get ws at ≡ Some w → slice_get bs at ≡ Some b → w.ports ≡ length b.schemas
-same-lengths [] bs at w b same is there = cc is
-same-lengths (x ∷ ws) [] at w b same is there = cc there
-same-lengths (x ∷ ws) (y ∷ bs) zero w b same is there =
-    let e : x ≡ w = cc is in
-    let f : y ≡ b = cc there in
-    let h : x.ports ≡ length y.schemas = cc same in
-    ap (λ z. z.ports) (sym e) ∙ h ∙ ap (λ z. length z.schemas) f
-same-lengths (x ∷ ws) (y ∷ bs) (suc at) w b same is there = same-lengths ws bs at w b (cc same) is there
+    takes-at ws bs at by slack b (cc same) (and_true (takes_within w.kind (length w.inputs)) (list_all (λ w. takes_within w.kind (length w.inputs)) ws) h).1 there is
 
 no_wires : BoxWires
 no_wires = record { kind = kinds.BSort; inputs = []; ports = 0 }
-
-first-port : (n : Network) → IsSound n → (at by slack : ℕ) (b : Node) → slice_get n.boxes at ≡ Some b → b.body ≡ BSort by slack → producer_of n.wires (stream_at n.wires at 0) ≡ Some (Port at 0)
-first-port n sound at by slack b there is =
-    let w = get_or n.wires.boxes at no_wires in
-    let low = slice_get_within n.boxes at b there in
-    let count = boxes_count n sound in
-    let wired = slice_get-get_or n.wires.boxes at no_wires (omega (arith, low, count)) in
-    let ports = same-lengths n.wires.boxes n.boxes at w b sound.agrees.ports wired there in
-    let typed : IsTypedBody (input_columns n at) (BSort by slack) b.schemas = subst (λ body. IsTypedBody (input_columns n at) body b.schemas) is (sound.typed at b there) in
-    let one = ap (λ (cs : List Columns). length cs) typed.1 in
-    producer_at n.wires at 0 w wired (omega (arith, ports, one))
-
--- ---- what it is fed
 
 agree-on : (f g : ℕ → List Thing) (xs : List ℕ) → ((c : ℕ) → contains_number xs c ≡ true → f c ≡ g c) → map f xs ≡ map g xs
 agree-on f g [] same = refl
@@ -140,8 +102,8 @@ fed-alone r sound b low none =
     ap merge
     (agree-on (on_arc r) (λ c. things (full_stream r.network r.sources (stream_on r.network.wires c))) arcs
     (λ c has. ap (λ z. standing r z c) (arc-alone r.network b c low none has) ∙ ap things (full-arc-is r.network sound r.sources c))
-    ∙ sym (map-map things (λ c. full_stream r.network r.sources (stream_on r.network.wires c)) arcs)
-    ∙ ap (map things) (sym (map-map (full_stream r.network r.sources) (stream_on r.network.wires) arcs) ∙ ap (map (full_stream r.network r.sources)) (arcs-inputs r.network.wires b)))
+    ∙ sym (map_map things (λ c. full_stream r.network r.sources (stream_on r.network.wires c)) arcs)
+    ∙ ap (map things) (sym (map_map (full_stream r.network r.sources) (stream_on r.network.wires) arcs) ∙ ap (map (full_stream r.network r.sources)) (arcs-inputs r.network.wires b)))
 
 pub late-sorted : Ready → FuturesWiden → (r : Replay) (b by slack : ℕ) (lags : List ℕ) (marked : Bool) → IsBox r b (BSort by slack) lags marked
     → length (tuples_of (box_fed r b)) - length (bsort_list_of by slack (tuples_of (box_fed r b))) ≡ late_of r.network r.sources b
@@ -154,16 +116,16 @@ late-sorted readies widen r b by slack lags marked h =
     let within = slice_get_within n.boxes b h.node h.there in
     let count = boxes_count n sound in
     let none = none-above readies widen r b (BSort by slack) lags marked h refl in
-    let one : length ss ≡ 1 = takes-at n.wires.boxes n.boxes b by slack h.node sound.agrees.kinds (and_parts _ _ sound.within).1 h.there h.is in
-    let many : length (map full ss) ≡ 1 = length-mapped full ss ∙ one in
+    let one : length ss ≡ 1 = takes-at n.wires.boxes n.boxes b by slack h.node sound.agrees.kinds (and_true _ _ sound.within).1 h.there h.is in
+    let many : length (map full ss) ≡ 1 = length_map full ss ∙ one in
     let all : tuples_of (box_fed r b) ≡ nth (map full ss) 0 = ap tuples_of (fed-alone r sound b (omega (arith, within, count)) none) ∙ one-stream (map full ss) many in
     let taken : length (tuples_of (box_fed r b)) ≡ fed_of n r.sources b =
-    ap (λ (xs : List Tuple). length xs) all ∙ sym (sum-same (nth (full_streams n r.sources)) full (λ s. full_listed n r.sources placed s) ss ∙ one-sum full ss one) in
+    ap (λ (xs : List Tuple). length xs) all ∙ sym (same_sum (nth (full_streams n r.sources)) full (λ s. full_listed n r.sources placed s) ss ∙ one-sum full ss one) in
     let s = stream_at n.wires b 0 in
     let stream : nth (full_streams n r.sources) s ≡ bsort_list_of by slack (nth (map full ss) 0) =
     full_listed n r.sources placed s
     ∙ full_follows n r.sources placed s
-    ∙ ap (produced n r.sources full) (first-port n sound b by slack h.node h.there h.is)
+    ∙ ap (produced n r.sources full) (bsort_gives n sound b by slack h.node h.there h.is)
     ∙ ap (λ o. box_list_at o 0 (map full ss)) h.there
     ∙ ap (λ k. box_list k 0 (map full ss)) h.is in
     let given : length (bsort_list_of by slack (tuples_of (box_fed r b))) ≡ length (nth (full_streams n r.sources) s) =

@@ -1,5 +1,5 @@
 -- Operators by number, and that those that are read are there.
-use Rattle.std.proofs.Common.{◌≡◌, ℕ, ◌+◌, ◌-◌, ◌<◌, ◌≤◌, ◌⊎◌, true, false, List, [], ◌∷◌, map, length, Option, Some, None, refl, ap, inl, inr, arith}
+use Rattle.std.proofs.Common.{◌≡◌, ℕ, ◌+◌, ◌-◌, ◌<◌, ◌≤◌, ◌⊎◌, false, List, [], ◌∷◌, map, length, Option, Some, None, refl, ap, inl, inr, arith}
 use Rattle.std.specs.Prelude.{slice_get, nat_lt}
 use Rattle.std.specs.List.{AllByRecursion}
 use Rattle.std.proofs.lemmas.Bool.{cases_lt}
@@ -17,20 +17,18 @@ use Rattle.sq_below.specs.Standing.{Drop, drop_on_arc}
 use Rattle.sq_below.specs.Actors.{Actor, Sources, Box, Shedder, Shower, giver, from_drop, arc_from}
 use Rattle.sq_start.specs.Numbers.{IsThere, first_output, ops_of, number_of, actor_at, place_stream, shedder_reads, reads_of}
 use Rattle.sq_start.proofs.PointLemmas.{first-found}
-
-less : (a b : ℕ) → a < b → nat_lt a b ≡ true
-less a b h = grind (arith, nat_tests)
+use Rattle.sq_words.proofs.Numbers.{nat_lt_true}
 
 not-less : (a b : ℕ) → b ≤ a → nat_lt a b ≡ false
 not-less a b h = grind (arith, nat_tests)
 
 pub box-at : (n : Network) (b : ℕ) → b < length n.boxes → actor_at n b ≡ Box b
-box-at n b low = rw (less b (length n.boxes) low) refl
+box-at n b low = rw (nat_lt_true b (length n.boxes) low) refl
 
 pub drop-at : (n : Network) (w : ℕ) → w < drops_in n → actor_at n (length n.boxes + w) ≡ Shedder w
 drop-at n w low =
     let past = not-less (length n.boxes + w) (length n.boxes) (omega arith) in
-    let before = less (length n.boxes + w) (first_output n) (omega (arith, low)) in
+    let before = nat_lt_true (length n.boxes + w) (first_output n) (omega (arith, low)) in
     let place : length n.boxes + w - length n.boxes ≡ w = omega arith in
     rw (past, before) (ap Shedder place)
 
@@ -38,7 +36,7 @@ pub output-at : (n : Network) (o : ℕ) → o < length n.wires.outputs → actor
 output-at n o low =
     let past = not-less (first_output n + o) (length n.boxes) (omega arith) in
     let behind = not-less (first_output n + o) (first_output n) (omega arith) in
-    let before = less (first_output n + o) (ops_of n) (omega (arith, low)) in
+    let before = nat_lt_true (first_output n + o) (ops_of n) (omega (arith, low)) in
     let place : first_output n + o - first_output n ≡ o = omega arith in
     rw (past, behind, before) (ap Shower place)
 

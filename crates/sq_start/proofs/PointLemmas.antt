@@ -5,7 +5,7 @@ use Rattle.std.specs.List.{filter, filter_map, list_any, cons_option}
 use Rattle.std.specs.Option.{option_map}
 use Rattle.std.proofs.lemmas.Bool.Decides.{nat_tests}
 use Rattle.std.proofs.lemmas.List.{drop_more}
-use Rattle.std.proofs.lemmas.Option.{slice_get-map, slice_get-get_or}
+use Rattle.std.proofs.lemmas.Option.{slice_get-map}
 use Rattle.sq_words.specs.Lists.{numbers_to, contains_number}
 use Rattle.sq_graph.specs.declared.Wiring.{Wiring}
 use Rattle.sq_graph.specs.Wires.{arcs_of, input_arcs_of, output_arc_at}
@@ -14,7 +14,7 @@ use Rattle.sq_place.specs.declared.DropAt.TheVariants as at
 use Rattle.sq_place.specs.declared.DropPoint.{DropPoint}
 use Rattle.sq_place.specs.Places.{Windows, window_at, stream_on, own_arcs, arc_numbers, box_before, through, dist_within, is_reached, reached_arcs, outputs_below, is_candidate, candidates_of, places_of, lies_below, drop_places_of}
 use Rattle.sq_place.specs.Points.{point_at, dist_of}
-use Rattle.sq_place.proofs.Lists.{and-left, and-right, any-map, contains-filter, contains-range, range-contains}
+use Rattle.sq_place.proofs.Lists.{any-map, contains-range, range-contains}
 use Rattle.sq_net.specs.declared.Network.{Network}
 use Rattle.sq_points.specs.Points.{windows_of, points_of}
 use Rattle.sq_model.specs.Shedding.{first_drop, drop_above_arc}
@@ -22,6 +22,8 @@ use Rattle.sq_model.specs.Given.{IsAt}
 use Rattle.sq_below.specs.Standing.{Drop, drop_on_arc, drop_above_box}
 use Rattle.sq_start.specs.Numbers.{place_stream}
 use Rattle.sq_place.proofs.PlaceWords.{reach_added, greatest}
+use Rattle.sq_words.proofs.Bools.{and_second, and_first}
+use Rattle.sq_words.proofs.Lists.{contains_filter}
 
 -- ---- the first drop that passes a test
 
@@ -110,10 +112,10 @@ arc-alone n b c low none has = by (drop_above_arc n c) refl
         let p = place-of n f.place d.1 f.there in
         let listed : list_any (λ z. eqb z.0 c) (point_at n.wires ws n.batch p.place).reach ≡ true = subst (λ (x : DropPoint). list_any (λ z. eqb z.0 c) x.reach ≡ true) (sym p.is) f.passes in
         let inside : contains_number (reached_arcs n.wires ws p.place) c ≡ true = sym (any-map (dist_of n.wires ws n.batch p.place) (reached_arcs n.wires ws p.place) c) ∙ listed in
-        let reached : is_reached n.wires ws p.place c ≡ true = and-right (contains_number (arc_numbers n.wires) c) (is_reached n.wires ws p.place c) (sym (contains-filter (is_reached n.wires ws p.place) (arc_numbers n.wires) c) ∙ inside) in
+        let reached : is_reached n.wires ws p.place c ≡ true = and_second (contains_number (arc_numbers n.wires) c) (is_reached n.wires ws p.place c) (sym (contains_filter (is_reached n.wires ws p.place) (arc_numbers n.wires) c) ∙ inside) in
         let any = any-contains (is_reached n.wires ws p.place) (input_arcs_of n.wires b) c has reached in
         let below : contains_number (point_at n.wires ws n.batch p.place).boxes b ≡ true =
-        contains-filter (λ x. list_any (is_reached n.wires ws p.place) (input_arcs_of n.wires x)) (numbers_to (length n.wires.boxes)) b
+        contains_filter (λ x. list_any (is_reached n.wires ws p.place) (input_arcs_of n.wires x)) (numbers_to (length n.wires.boxes)) b
         ∙ ap (λ z. z && list_any (is_reached n.wires ws p.place) (input_arcs_of n.wires b)) (contains-range 0 (length n.wires.boxes) b (omega arith) (omega (arith, low))) ∙ any in
         let some = first-some (λ x. contains_number x.boxes b) 0 (points_of n) f.place d.1 f.there (subst (λ (x : DropPoint). contains_number x.boxes b ≡ true) p.is below) in
         let bad : Some some.0 ≡ None = sym some.1 ∙ none in
@@ -158,7 +160,7 @@ some-own : (w : Wiring) (ws : Windows) (p : DropAt) → is_candidate w ws p ≡ 
 some-own w ws p candidate = by (first-in (own_arcs w p))
   where
     first : not (eqb (length (outputs_below w ws p)) 0) ≡ true
-    first = and-left (not (eqb (length (outputs_below w ws p)) 0)) _ (and-left _ _ candidate)
+    first = and_first (not (eqb (length (outputs_below w ws p)) 0)) _ (and_first _ _ candidate)
 
     nothing : ((a : ℕ) → contains_number (own_arcs w p) a ≡ false) → (os : List ℕ) → filter (λ o. is_reached w ws p (output_arc_at w o)) os ≡ []
     nothing none [] = refl
@@ -188,9 +190,9 @@ own-arc n k p there fine =
 
     of : (place : DropAt) → IsAt n place → (a : ℕ) → contains_number (own_arcs n.wires place) a ≡ true → p.at ≡ place → OwnArc n p
     of (at.Stream s) fine a own is =
-        let both : (contains_number (arc_numbers n.wires) a && eqb (stream_on n.wires a) s) ≡ true = sym (contains-filter (λ c. eqb (stream_on n.wires c) s) (arc_numbers n.wires) a) ∙ own in
-        let low = range-contains 0 (length (arcs_of n.wires)) a (and-left (contains_number (arc_numbers n.wires) a) (eqb (stream_on n.wires a) s) both) in
-        let on = eq (stream_on n.wires a) s (and-right (contains_number (arc_numbers n.wires) a) (eqb (stream_on n.wires a) s) both) in
+        let both : (contains_number (arc_numbers n.wires) a && eqb (stream_on n.wires a) s) ≡ true = sym (contains_filter (λ c. eqb (stream_on n.wires c) s) (arc_numbers n.wires) a) ∙ own in
+        let low = range-contains 0 (length (arcs_of n.wires)) a (and_first (contains_number (arc_numbers n.wires) a) (eqb (stream_on n.wires a) s) both) in
+        let on = eq (stream_on n.wires a) s (and_second (contains_number (arc_numbers n.wires) a) (eqb (stream_on n.wires a) s) both) in
         record { arc = a; there = omega (arith, low); own = ap (λ z. contains_number (own_arcs n.wires z) a) is ∙ own; stream = on ∙ ap (place_stream n) (sym is) }
     of (at.Arc x) fine a own is =
         let same : x ≡ a = eq x a (or-false (eqb x a) own) in
@@ -201,9 +203,6 @@ pub own-drop : (n : Network) (k : ℕ) (p : DropPoint) → slice_get (points_of 
 own-drop n k p there o = first-some (λ q. contains_number (own_arcs n.wires q.at) o.arc) 0 (points_of n) k p there o.own
 
 -- ---- one drop after another
-
-pub there-in : (ps : List DropPoint) (w : ℕ) (p : DropPoint) → w < length ps → p ≡ get_or ps w p → slice_get ps w ≡ Some p
-there-in ps w p low is = slice_get-get_or ps w p low ∙ ap Some (sym is)
 
 pub first-step : (t : DropPoint → Bool) (ps : List DropPoint) (first w : ℕ) (p : DropPoint) → w < length ps → p ≡ get_or ps w p
     → first_drop t first (drop w ps) ≡ cond (t p) (Some (first, p)) (first_drop t (first + 1) (drop (w + 1) ps))

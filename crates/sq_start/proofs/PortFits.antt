@@ -1,7 +1,7 @@
 -- As many values as a stream has columns are what the box takes that reads the stream.
 use Rattle.std.proofs.Common.{◌≡◌, ℕ, zero, suc, ◌+◌, ◌-◌, ◌<◌, ◌≤◌, eqb, leb, Bool, true, ◌&&◌, if◌then◌else◌, List, [], ◌∷◌, ◌++◌, map, length, take, Option, Some, None, refl, ap, sym, ◌∙◌, subst, length-append, arith}
 use Rattle.std.proofs.lemmas.Bool.Decides.{nat_tests}
-use Rattle.std.specs.Prelude.{slice_get, codes, nat_lt, nat_le, ◌==◌}
+use Rattle.std.specs.Prelude.{slice_get, codes, nat_le, ◌==◌}
 use Rattle.std.specs.List.{list_all, filter, filter_map, cons_option, All, AllByRecursion}
 use Rattle.std.proofs.lemmas.List.Elements.{recursion_from_All}
 use Rattle.sq_value.specs.declared.Kind.{Kind}
@@ -12,7 +12,6 @@ use Rattle.sq_graph.specs.declared.BoxKind.{BoxKind}
 use Rattle.sq_graph.specs.declared.BoxWires.{BoxWires}
 use Rattle.sq_graph.specs.Wires.{producer_of, inputs_of, inputs_at}
 use Rattle.sq_graph.specs.Order.{is_there}
-use Rattle.sq_graph.proofs.Reach.{and_parts}
 use Rattle.sq_net.proofs.StreamLemmas.{stream_typed}
 use Rattle.sq_net.specs.declared.Body.{Body}
 use Rattle.sq_net.specs.declared.Body.TheVariants as body
@@ -25,12 +24,16 @@ use Rattle.sq_place.specs.declared.DropPoint.{DropPoint}
 use Rattle.sq_points.specs.Points.{points_of}
 use Rattle.sq_below.specs.Ports.{body_fits}
 use Rattle.sq_below.specs.Actors.{Sources, Box, Shedder, Shower}
-use Rattle.sq_below.proofs.PortTypes.{resample-takes}
+use Rattle.sq_below.proofs.PortTypes.{resample-takes, left-count, length-prefixed, side-fits}
 use Rattle.sq_start.specs.Numbers.{place_stream}
 use Rattle.sq_start.specs.Comes.{point_streams, TuplesAreTaken}
 use Rattle.sq_start.specs.Started.{node_fits}
-use Rattle.sq_model.proofs.BoxTypes.{and-both, and-first}
 use Rattle.sq_lists.specs.Pairs.{left_fields}
+use Rattle.sq_words.proofs.Bools.{and_true, and_first}
+use Rattle.sq_words.proofs.Lists.{number_there, has_item}
+use Rattle.sq_words.proofs.Numbers.{nat_lt_true, below_one, leb_from, leb_true}
+use Rattle.std.proofs.lemmas.Bool.{and_from}
+use Rattle.sq_points.proofs.Bounds.{at_least}
 
 -- how many streams a box takes
 abbrev Takes : Body → ℕ → Type 0
@@ -49,15 +52,6 @@ none-left : (cs : Columns) → length (filter is_left (prefixed (codes "r_") cs)
 none-left [] = refl
 none-left (c ∷ cs) = none-left cs
 
--- the left fields of a pair are those of the left tuple
-left-count : (ls rs : Columns) → left_fields (prefixed (codes "l_") ls ++ prefixed (codes "r_") rs) ≡ length ls
-left-count [] rs = none-left rs
-left-count (c ∷ ls) rs = ap suc (left-count ls rs)
-
-length-prefixed : (letters : List ℕ) (cs : Columns) → length (prefixed letters cs) ≡ length cs
-length-prefixed letters [] = refl
-length-prefixed letters (c ∷ cs) = ap suc (length-prefixed letters cs)
-
 -- a value list that is as long as the columns of an input
 record Fitting (n : Network) (ss : List ℕ) (port : ℕ) (fields : List Value) : Type 0 where
   stream : ℕ
@@ -65,32 +59,6 @@ record Fitting (n : Network) (ss : List ℕ) (port : ℕ) (fields : List Value) 
   columns : Columns
   are : columns_of_stream n stream ≡ Some columns
   fit : length fields ≡ length columns
-
-inside : (ss : List ℕ) (i s : ℕ) → slice_get ss i ≡ Some s → i < length ss
-inside [] i s e = absurd (cc e)
-inside (x ∷ ss) zero s e = omega arith
-inside (x ∷ ss) (suc i) s e = let m = inside ss i s e in omega (arith, m)
-
-low-test : (a b : ℕ) → a < b → nat_lt a b ≡ true
-low-test a b h = grind (arith, nat_tests)
-
-zero-test : (a : ℕ) → a < 1 → eqb a 0 ≡ true
-zero-test a h = grind (arith, nat_tests)
-
-at-most : (a b : ℕ) → leb a b ≡ true → a ≤ b
-at-most a b h = grind (arith, nat_tests)
-
-at-least : (low high k : ℕ) → is_between low high k ≡ true → low ≤ k
-at-least low high k h = grind (arith, nat_tests)
-
-within : (a b : ℕ) → a ≤ b → leb a b ≡ true
-within a b h = grind (arith, nat_tests)
-
--- the sizes of a Join's sides
-side-fits : (l r k port : ℕ) → l + r ≤ 16 → (port ≡ 0 → k ≤ l) → (port ≡ 1 → k ≤ r) → port < 2 → (nat_le port 1 && nat_le k (if eqb port 0 then l else 16 - l)) ≡ true
-side-fits l r k zero sum left right low = within k l (left refl)
-side-fits l r k (suc zero) sum left right low = within k (16 - l) (let x = right refl in omega (arith, sum, x))
-side-fits l r k (suc (suc port)) sum left right low = absurd (omega (arith, low))
 
 abbrev AllTyped : Network → List ℕ → Type 0
 AllTyped n ss = (i s : ℕ) → slice_get ss i ≡ Some s → (cs : Columns) × (columns_of_stream n s ≡ Some cs)
@@ -103,7 +71,7 @@ join-takes n (s ∷ t ∷ u ∷ ss) scope port fields two is most typed f = absu
 join-takes n (s ∷ t ∷ []) scope port fields two is most typed f = by (typed 0 s refl) (typed 1 t refl)
   where
     low : port < 2
-    low = inside (s ∷ t ∷ []) port f.stream f.there
+    low = number_there (s ∷ t ∷ []) port f.stream f.there
 
     count : length fields ≡ length f.columns
     count = f.fit
@@ -124,7 +92,7 @@ join-takes n (s ∷ t ∷ []) scope port fields two is most typed f = by (typed 
     by (cs, ea) (ds, eb) =
         let ins : filter_map (columns_of_stream n) (s ∷ t ∷ []) ≡ cs ∷ ds ∷ [] = ap (λ o. cons_option o (filter_map (columns_of_stream n) (t ∷ []))) ea ∙ ap (λ o. cs ∷ cons_option o []) eb in
         let left : left_fields scope ≡ length cs = ap left_fields (is ∙ ap pair_columns ins) ∙ left-count cs ds in
-        let sum = at-most (length (pair_columns (cs ∷ ds ∷ []))) 16 (subst (λ l. leb (length (pair_columns l)) 16 ≡ true) ins most) in
+        let sum = leb_from (length (pair_columns (cs ∷ ds ∷ []))) 16 (subst (λ l. leb (length (pair_columns l)) 16 ≡ true) ins most) in
         let all = length-append (prefixed (codes "l_") cs) (prefixed (codes "r_") ds) in
         let one = length-prefixed (codes "l_") cs in let other = length-prefixed (codes "r_") ds in
         subst (λ l. (nat_le port 1 && nat_le (length fields) (if eqb port 0 then l else 16 - l)) ≡ true) (sym left)
@@ -136,13 +104,13 @@ body-takes : (n : Network) (ss : List ℕ) (b : Body) (ports : List Columns) (po
     → AllTyped n ss → Fitting n ss port fields → body_fits b (length ss) port fields ≡ true
 body-takes n ss (body.Filter ps) ports port fields f inner t typed h = refl
 body-takes n ss (body.Map es) ports port fields f inner t typed h = inner
-body-takes n ss body.Union ports port fields f inner t typed h = low-test port (length ss) (inside ss port h.stream h.there)
+body-takes n ss body.Union ports port fields f inner t typed h = nat_lt_true port (length ss) (number_there ss port h.stream h.there)
 body-takes n ss (body.BSort by slack) ports port fields f inner t typed h = refl
 body-takes n ss (body.Aggregate fs group window) ports port fields f inner t typed h =
-    let low = inside ss port h.stream h.there in
-    let few = at-least 1 16 (length fs) (and-first (is_between 1 16 (length fs)) (nat_le (length group) 16) inner) in
-    and-both (eqb port 0) (nat_le 1 (length group + length fs) && nat_le (length group + length fs) 16) (zero-test port (omega (arith, f, low)))
-    (and-both (nat_le 1 (length group + length fs)) (nat_le (length group + length fs) 16) (within 1 (length group + length fs) (omega (arith, few))) t.6)
+    let low = number_there ss port h.stream h.there in
+    let few = at_least 1 16 (length fs) (and_first (is_between 1 16 (length fs)) (nat_le (length group) 16) inner) in
+    and_from (eqb port 0) (nat_le 1 (length group + length fs) && nat_le (length group + length fs) 16) (below_one port (omega (arith, f, low)))
+    (and_from (nat_le 1 (length group + length fs)) (nat_le (length group + length fs) 16) (leb_true 1 (length group + length fs) (omega (arith, few))) t.6)
 body-takes n ss (body.Join size on) ports port fields f inner t typed h = join-takes n ss on.scope port fields f t.0.0.0 t.2 typed h
 body-takes n ss (body.Resample size fs) ports port fields f inner t typed h = resample-takes n ss (length fs) port h.stream h.columns fields f h.there h.are h.fit t.5
 
@@ -157,7 +125,7 @@ two-of k h = grind (arith, nat_tests)
 takes-body : (b : Body) (kind : BoxKind) (k : ℕ) → kind ≡ kind_of_body b → takes_within kind k ≡ true → Takes b k
 takes-body (body.Filter ps) kind k is h = one-of k (subst (λ z. takes_within z k ≡ true) is h)
 takes-body (body.Map es) kind k is h = one-of k (subst (λ z. takes_within z k ≡ true) is h)
-takes-body body.Union kind k is h = (let within : is_between 1 8 k ≡ true = subst (λ z. takes_within z k ≡ true) is h in at-least 1 8 k within)
+takes-body body.Union kind k is h = (let leb_true : is_between 1 8 k ≡ true = subst (λ z. takes_within z k ≡ true) is h in at_least 1 8 k leb_true)
 takes-body (body.BSort by slack) kind k is h = one-of k (subst (λ z. takes_within z k ≡ true) is h)
 takes-body (body.Aggregate fs group window) kind k is h = one-of k (subst (λ z. takes_within z k ≡ true) is h)
 takes-body (body.Join size on) kind k is h = two-of k (subst (λ z. takes_within z k ≡ true) is h)
@@ -170,19 +138,19 @@ takes-at [] (y ∷ bs) at b same h there = cc same
 takes-at (w ∷ ws) (y ∷ bs) zero b same h there =
     let e : y ≡ b = cc there in
     let k : w.kind ≡ kind_of_body y.body = cc same in
-    subst (λ (z : Node). Takes z.body (length w.inputs)) e (takes-body y.body w.kind (length w.inputs) k (and_parts (takes_within w.kind (length w.inputs)) (list_all (λ w. takes_within w.kind (length w.inputs)) ws) h).0)
+    subst (λ (z : Node). Takes z.body (length w.inputs)) e (takes-body y.body w.kind (length w.inputs) k (and_true (takes_within w.kind (length w.inputs)) (list_all (λ w. takes_within w.kind (length w.inputs)) ws) h).0)
 takes-at (w ∷ ws) (y ∷ bs) (suc at) b same h there =
-    takes-at ws bs at b (cc same) (and_parts (takes_within w.kind (length w.inputs)) (list_all (λ w. takes_within w.kind (length w.inputs)) ws) h).1 there
+    takes-at ws bs at b (cc same) (and_true (takes_within w.kind (length w.inputs)) (list_all (λ w. takes_within w.kind (length w.inputs)) ws) h).1 there
 
 box-takes : (n : Network) → IsSound n → (at : ℕ) (b : Node) → slice_get n.boxes at ≡ Some b → Takes b.body (length (inputs_of n.wires at))
-box-takes n sound at b there = takes-at n.wires.boxes n.boxes at b sound.agrees.kinds (and_parts _ _ sound.within).1 there
+box-takes n sound at b there = takes-at n.wires.boxes n.boxes at b sound.agrees.kinds (and_true _ _ sound.within).1 there
 
 body-within-at : (bs : List Node) (at : ℕ) (b : Node) → list_all node_within bs ≡ true → slice_get bs at ≡ Some b → body_within b.body ≡ true
 body-within-at [] at b h there = cc there
 body-within-at (y ∷ bs) zero b h there =
     let e : y ≡ b = cc there in
-    subst (λ (z : Node). body_within z.body ≡ true) e (and_parts _ _ (and_parts _ _ (and_parts (node_within y) (list_all node_within bs) h).0).0).0
-body-within-at (y ∷ bs) (suc at) b h there = body-within-at bs at b (and_parts (node_within y) (list_all node_within bs) h).1 there
+    subst (λ (z : Node). body_within z.body ≡ true) e (and_true _ _ (and_true _ _ (and_true (node_within y) (list_all node_within bs) h).0).0).0
+body-within-at (y ∷ bs) (suc at) b h there = body-within-at bs at b (and_true (node_within y) (list_all node_within bs) h).1 there
 
 all-typed : (n : Network) → IsSound n → (ss : List ℕ) → AllByRecursion (λ s. is_there (producer_of n.wires s) ≡ true) ss → AllTyped n ss
 all-typed n sound [] h i s is = cc is
@@ -204,13 +172,8 @@ box-wide : (n : Network) → IsSound n → (at port s : ℕ) (b : Node) (fields 
     → columns_of_stream n s ≡ Some cs → length fields ≡ length cs → body_fits b.body (length (inputs_of n.wires at)) port fields ≡ true
 box-wide n sound at port s b fields cs there is are wide =
     body-takes n (inputs_of n.wires at) b.body b.schemas port fields (box-takes n sound at b there)
-    (body-within-at n.boxes at b (and_parts _ _ (and_parts _ _ (and_parts _ _ sound.within).0).0).1 there) (sound.typed at b there) (all-typed n sound (inputs_of n.wires at) (inputs-there n sound at))
+    (body-within-at n.boxes at b (and_true _ _ (and_true _ _ (and_true _ _ sound.within).0).0).1 there) (sound.typed at b there) (all-typed n sound (inputs_of n.wires at) (inputs-there n sound at))
     (record { stream = s; there = is; columns = cs; are = are; fit = wide })
-
-some-there : {X : Type 0} (xs : List X) (i : ℕ) → i < length xs → (x : X) × (slice_get xs i ≡ Some x)
-some-there [] i low = absurd (omega (arith, low))
-some-there (x ∷ xs) zero low = (x, refl)
-some-there (x ∷ xs) (suc i) low = some-there xs i (omega (arith, low))
 
 first-only : (x port s : ℕ) → slice_get (x ∷ []) port ≡ Some s → port ≡ 0
 first-only x zero s e = refl
@@ -219,7 +182,7 @@ first-only x (suc port) s e = absurd (cc e)
 pub tuples-taken : TuplesAreTaken
 tuples-taken n Sources port s cs fields sound low at are wide = absurd (cc at)
 tuples-taken n (Box b) port s cs fields sound low at are wide =
-    let x = some-there n.boxes b low in
+    let x = has_item n.boxes b low in
     ap (λ o. node_fits o (length (inputs_of n.wires b)) port fields) x.1 ∙ box-wide n sound b port s x.0 fields cs x.1 at are wide
 tuples-taken n (Shedder w) port s cs fields sound low at are wide = by (slice_get (points_of n) w) at
   where

@@ -12,8 +12,6 @@ use Rattle.sq_oper.specs.Entries.{Entry}
 use Rattle.sq_oper.specs.Order.{IsFuture}
 use Rattle.sq_graph.specs.Wires.{inputs_of, input_arcs_of, arc_at}
 use Rattle.sq_place.specs.declared.DropPoint.{DropPoint}
-use Rattle.sq_place.proofs.Lists.{and-left, and-right, All-weaker}
-use Rattle.sq_place.proofs.Wires.{length-mapped}
 use Rattle.sq_net.specs.declared.Network.{Network}
 use Rattle.sq_net.specs.declared.Node.{Node}
 use Rattle.sq_points.specs.Points.{points_of}
@@ -27,12 +25,15 @@ use Rattle.sq_below.specs.Ports.{body_fits, body_marks}
 use Rattle.sq_start.specs.Nets.{fed_to, drop_fed_at, drop_decisions}
 use Rattle.sq_start.specs.Starts.{IsReadReplay, IsDropAbove, AreLags, IsBox, IsDrop, length_above, BoxStarts, DropStarts, OutputStarts}
 use Rattle.sq_start.specs.Started.{node_marks, node_fits, actor_marks, IsStarted}
+use Rattle.sq_words.proofs.Bools.{and_second, and_first}
+use Rattle.sq_words.proofs.Alls.{all_weaker}
+use Rattle.sq_words.proofs.Lists.{length_map}
 
 pub lags-many : (n : Network) (b : ℕ) (lags : List ℕ) (o : Option Drop) → AreLags n b lags o → length lags ≡ length (inputs_of n.wires b)
 lags-many n b lags None e = e
 lags-many n b lags (Some d) e =
-    ap (λ (l : List ℕ). length l) e ∙ length-mapped (λ a. max_by (distance_of d.1) (input_arcs_of n.wires b) - distance_of d.1 a) (input_arcs_of n.wires b)
-    ∙ length-mapped (arc_at n.wires b) (numbers_to (length (inputs_of n.wires b))) ∙ length-range_with_len 0 (length (inputs_of n.wires b))
+    ap (λ (l : List ℕ). length l) e ∙ length_map (λ a. max_by (distance_of d.1) (input_arcs_of n.wires b) - distance_of d.1 a) (input_arcs_of n.wires b)
+    ∙ length_map (arc_at n.wires b) (numbers_to (length (inputs_of n.wires b))) ∙ length-range_with_len 0 (length (inputs_of n.wires b))
 
 -- what holds of each new operator
 pub record IsFresh (a : operator.Actor) : Type 0 where
@@ -79,8 +80,8 @@ box-started n b x lags marked a there above are starts none fits takes reads fre
 
     marks : (port : ℕ) → actor_marks n (Box b) port ≡ true → ghosts.takes_marks a port ≡ true
     marks port h =
-        let first = and-left (is_some (drop_above_box n b)) (node_marks (slice_get n.boxes b) (length (inputs_of n.wires b)) port) h in
-        let second = and-right (is_some (drop_above_box n b)) (node_marks (slice_get n.boxes b) (length (inputs_of n.wires b)) port) h in
+        let first = and_first (is_some (drop_above_box n b)) (node_marks (slice_get n.boxes b) (length (inputs_of n.wires b)) port) h in
+        let second = and_second (is_some (drop_above_box n b)) (node_marks (slice_get n.boxes b) (length (inputs_of n.wires b)) port) h in
         takes port (below (drop_above_box n b) above first)
         (ap (λ k. body_marks x.body k port) (lags-many n b lags (drop_above_box n b) are) ∙ sym (ap (λ o. node_marks o (length (inputs_of n.wires b)) port) there) ∙ second)
 
@@ -94,7 +95,7 @@ drop-started n w p number a there starts own none fits reads fresh =
       gives = λ r read is same q. (let k = known r is in ap (λ es. ghosts.rest a (level_of r) es q) (ap (drop_fed_at r) k) ∙ starts.gives r (of r read is same) q);
       decides = λ r read is same. (let k = known r is in ap (ghosts.decides a (level_of r)) (ap (drop_fed_at r) k) ∙ starts.decided r (of r read is same) ∙ sym (ap (drop_decisions r w) k));
       loses = λ r read is same. none (fed_to r (Shedder w));
-      owns = λ table future may. All-weaker (λ (d : Decision). d.drop ≡ w) (λ (d : Decision). Shedder w ≡ Shedder d.drop) (λ d e. ap Shedder (sym e)) (ghosts.decides a table future) (own table future may);
+      owns = λ table future may. all_weaker (λ (d : Decision). d.drop ≡ w) (λ (d : Decision). Shedder w ≡ Shedder d.drop) (λ d e. ap Shedder (sym e)) (ghosts.decides a table future) (own table future may);
       marks = λ port h. absurd (cc h);
       fits = λ port fields h. fits port fields ∙ h;
       reads = reads;

@@ -1,12 +1,9 @@
 -- Arcs and distances, one after another.
-use Rattle.std.proofs.Common.{◌≡◌, ℕ, zero, suc, ◌+◌, ◌*◌, ◌^◌, ◌<◌, ◌≤◌, max, eqb, true, false, take, List, [], ◌∷◌, ◌++◌, map, length, get_or, Option, Some, None, refl, ap, sym, ◌∙◌, subst, arith}
+use Rattle.std.proofs.Common.{◌≡◌, ℕ, zero, suc, ◌+◌, ◌*◌, ◌^◌, ◌<◌, ◌≤◌, max, true, false, take, List, [], ◌∷◌, ◌++◌, length, get_or, Option, Some, None, refl, ap, sym, ◌∙◌, subst, arith}
 use Rattle.std.specs.Prelude.{slice_get}
-use Rattle.std.specs.List.{range_with_len, AllByRecursion}
 use Rattle.std.specs.Option.{option_map}
 use Rattle.std.proofs.lemmas.List.Elements.{recursion_from_All}
 use Rattle.std.proofs.lemmas.List.FromFn.{length-range_with_len}
-use Rattle.std.proofs.lemmas.List.{map-append}
-use Rattle.std.proofs.lemmas.Bool.Decides.{nat_tests}
 use Rattle.std.proofs.Math.Seq.{take-suc}
 use Rattle.std.proofs.lemmas.Option.{slice_get-get_or}
 use Rattle.sq_words.specs.Lists.{max_by, numbers_to, contains_number}
@@ -15,7 +12,7 @@ use Rattle.sq_graph.specs.declared.BoxKind.TheVariants as kinds
 use Rattle.sq_graph.specs.Wires.{arc_at, inputs_at, inputs_of, input_arcs_of}
 use Rattle.sq_place.specs.declared.DropPoint.{DropPoint}
 use Rattle.sq_place.specs.Refusals.{IsFine}
-use Rattle.sq_place.proofs.Wires.{length-mapped, input-there}
+use Rattle.sq_place.proofs.Wires.{input-there}
 use Rattle.sq_net.specs.declared.Network.{Network}
 use Rattle.sq_net.specs.Sound.{IsSound}
 use Rattle.sq_points.specs.Points.{points_of}
@@ -28,6 +25,8 @@ use Rattle.sq_below.specs.Laws.{PointsMeasured}
 use Rattle.sq_below.specs.Standing.{Drop, drop_above_box}
 use Rattle.sq_start.specs.Starts.{IsDropAbove, AreLags, lags_below, length_above}
 use Rattle.sq_start.proofs.PointLemmas.{first-found}
+use Rattle.sq_words.proofs.Alls.{all_at}
+use Rattle.sq_words.proofs.Lists.{length_map}
 
 pub max-more : (f : ℕ → ℕ) (xs : List ℕ) (x : ℕ) → max_by f (xs ++ x ∷ []) ≡ max (max_by f xs) (f x)
 max-more f [] x = omega arith
@@ -44,25 +43,6 @@ max-step f xs i most here next low so_far is step =
     let one : i + 1 ≡ suc i = omega arith in
     let more = ap (λ k. max_by f (take k xs)) one ∙ ap (max_by f) (take-suc xs i 0 low) ∙ max-more f (take i xs) (get_or xs i 0) in
     omega (arith, so_far, is, step, more)
-
-pub self-equal : (k : ℕ) → eqb k k ≡ true
-self-equal k = grind (arith, nat_tests)
-
-range-more : (a n : ℕ) → range_with_len a (suc n) ≡ range_with_len a n ++ (a + n) ∷ []
-range-more a zero = ap (λ k. k ∷ []) (plus-zero a)
-  where
-    plus-zero : (a : ℕ) → a ≡ a + 0
-    plus-zero a = omega arith
-range-more a (suc n) = ap (λ l. a ∷ l) (range-more (a + 1) n ∙ ap (λ k. range_with_len (a + 1) n ++ k ∷ []) (plus-one a n))
-  where
-    plus-one : (a n : ℕ) → a + 1 + n ≡ a + suc n
-    plus-one a n = omega arith
-
-pub numbers-more : (f : ℕ → ℕ) (n : ℕ) → map f (numbers_to (n + 1)) ≡ map f (numbers_to n) ++ f n ∷ []
-numbers-more f n =
-    let one : n + 1 ≡ suc n = omega arith in
-    let same : 0 + n ≡ n = omega arith in
-    ap (λ k. map f (numbers_to k)) one ∙ ap (map f) (range-more 0 n ∙ ap (λ k. range_with_len 0 n ++ k ∷ []) same) ∙ map-append f (range_with_len 0 n) (n ∷ [])
 
 no_box : BoxWires
 no_box = record { kind = kinds.Map; inputs = []; ports = 0 }
@@ -86,11 +66,6 @@ port-low n sound b port x low there within =
 
 -- ---- what holds of the points
 
-holds-at : {X : Type 0} (P : X → Type 0) (xs : List X) (i : ℕ) (x : X) → AllByRecursion P xs → slice_get xs i ≡ Some x → P x
-holds-at P [] i x h there = absurd (cc there)
-holds-at P (y ∷ ys) zero x h there = (let same : y ≡ x = cc there in subst P same h.0)
-holds-at P (y ∷ ys) (suc i) x h there = holds-at P ys i x h.1 there
-
 -- any replay of a network
 abbrev some-replay : Network → Replay
 some-replay n = record { network = n; sources = []; entries = []; seed = 0 }
@@ -100,7 +75,7 @@ Measured = (r : Replay) → IsSound r.network → PointsMeasured r
 
 pub point-fine : Measured → (n : Network) → IsSound n → KeepsDropLimits n → (w : ℕ) (p : DropPoint) → slice_get (points_of n) w ≡ Some p → (1 ≤ p.length) × (p.keep < 4096 * p.length)
 point-fine law n sound limits w p there =
-    let fine : IsFine p = holds-at IsFine (points_of n) w p (recursion_from_All IsFine (points_of n) limits) there in
+    let fine : IsFine p = all_at IsFine (points_of n) w p (recursion_from_All IsFine (points_of n) limits) there in
     let points = law (some-replay n) sound in
     ((points.measured p (w, there) fine.0 fine.1).least, points.narrow p (w, there) fine.1)
 
@@ -127,7 +102,7 @@ pub none-told : (n : Network) (b : ℕ) (points : List DropPoint) (arcs lags : L
 none-told n b points arcs lags is none of many =
     let e = found-none n b points is none in
     let count : length (input_arcs_of n.wires b) ≡ length (inputs_of n.wires b) =
-    length-mapped (arc_at n.wires b) (numbers_to (length (inputs_of n.wires b))) ∙ length-range_with_len 0 (length (inputs_of n.wires b)) in
+    length_map (arc_at n.wires b) (numbers_to (length (inputs_of n.wires b))) ∙ length-range_with_len 0 (length (inputs_of n.wires b)) in
     (subst (IsDropAbove false) (sym e) refl, subst (AreLags n b lags) (sym e) (many ∙ ap (λ (l : List ℕ). length l) of ∙ count))
 
 pub some-told : (n : Network) (b w : ℕ) (p : DropPoint) (points : List DropPoint) (arcs lags : List ℕ) → points ≡ points_of n → first_drop (λ p. contains_number p.boxes b) 0 points ≡ found_at (Some w) points → slice_get points w ≡ Some p

@@ -5,7 +5,7 @@ use Rattle.std.specs.Prelude.{slice_get}
 use Rattle.std.specs.List.{sum_by, list_any}
 use Rattle.std.proofs.lemmas.List.{take_all}
 use Rattle.std.proofs.lemmas.List.Sums.{sum_by-cons}
-use Rattle.sq_words.specs.Lists.{numbers_to, insert_by, sort_by}
+use Rattle.sq_words.specs.Lists.{numbers_to}
 use Rattle.sq_item.specs.Things.{Thing}
 use Rattle.sq_oper.specs.Entries.{Entry, at_port}
 use Rattle.sq_oper.specs.Order.{earlier, merge_under, merge_two, merge_from}
@@ -15,7 +15,6 @@ use Rattle.sq_graph.specs.declared.BoxWires.{BoxWires}
 use Rattle.sq_graph.specs.declared.Wiring.{Wiring}
 use Rattle.sq_graph.specs.Wires.{inputs_at, inputs_of, arc_at, input_arcs_of, output_arc_at}
 use Rattle.sq_place.specs.declared.DropPoint.{DropPoint}
-use Rattle.sq_place.proofs.Wires.{length-mapped}
 use Rattle.sq_place.specs.Points.{until_of}
 use Rattle.sq_points.specs.Points.{points_of}
 use Rattle.sq_model.specs.Full.{full_arc}
@@ -25,6 +24,9 @@ use Rattle.sq_tagged.specs.Boxes.{mark_of}
 use Rattle.sq_below.specs.Carried.{drop_marks, marked_arc}
 use Rattle.sq_below.specs.Standing.{Drop, standing, on_arc, box_fed, drop_fed, output_fed}
 use Rattle.sq_start.proofs.Sums.{total, total-fewer, total-added, total-split, sum-total, total-once}
+use Rattle.sq_oper.proofs.PortLemmas.{entries_length}
+use Rattle.sq_words.proofs.Lists.{length_map}
+use Rattle.sq_words.proofs.Sorting.{length_sort}
 
 -- ---- the length of a merge
 
@@ -40,15 +42,11 @@ length-two : (xs ys : List Entry) → length (merge_two xs ys) ≡ length xs + l
 length-two [] ys = omega arith
 length-two (x ∷ xs) ys = (let e = length-under x (merge_two xs) (length xs) (λ zs. length-two xs zs) ys in omega (arith, e))
 
-length-at : (p : ℕ) (xs : List Thing) → length (at_port p xs) ≡ length xs
-length-at p [] = refl
-length-at p (x ∷ xs) = ap suc (length-at p xs)
-
 length-from : (p : ℕ) (ins : List (List Thing)) → length (merge_from p ins) ≡ sum_by (λ xs. length xs) ins
 length-from p [] = refl
 length-from p (xs ∷ ins) =
     let both = length-two (at_port p xs) (merge_from (p + 1) ins) in
-    let here = length-at p xs in
+    let here = entries_length p xs in
     let more = length-from (p + 1) ins in
     let sum = sum_by-cons (λ (ys : List Thing). length ys) xs ins in
     omega (arith, both, here, more, sum)
@@ -62,33 +60,21 @@ marks_below r (Some d) = length (touched_batches r d.1)
 abbrev pub marks_on : Replay → ℕ → ℕ
 marks_on r a = marks_below r (drop_above_arc r.network a)
 
-length-inserted : {X : Type 0} (before : X → X → Bool) (x : X) (ys : List X) → length (insert_by before x ys) ≡ suc (length ys)
-length-inserted before x [] = refl
-length-inserted before x (y ∷ ys) = by (before y x) (length-inserted before x ys)
-  where
-    by : (b : Bool) → length (insert_by before x ys) ≡ suc (length ys) → length (cond b (y ∷ insert_by before x ys) (x ∷ y ∷ ys)) ≡ suc (suc (length ys))
-    by true more = ap suc more
-    by false more = refl
-
-length-sorted : {X : Type 0} (before : X → X → Bool) (xs : List X) → length (sort_by before xs) ≡ length xs
-length-sorted before [] = refl
-length-sorted before (x ∷ xs) = length-inserted before x (sort_by before xs) ∙ ap suc (length-sorted before xs)
-
 length-spread : (x : Tagged) → length (spread_of x) ≡ length x.marks + length x.tuples
 length-spread x =
-    length-sorted thing_sooner (map mark_thing x.marks ++ things x.tuples)
+    length_sort thing_sooner (map mark_thing x.marks ++ things x.tuples)
     ∙ length-append (map mark_thing x.marks) (things x.tuples)
-    ∙ (let a = length-mapped mark_thing x.marks in let b = length-mapped thing_of x.tuples in omega (arith, a, b))
+    ∙ (let a = length_map mark_thing x.marks in let b = length_map thing_of x.tuples in omega (arith, a, b))
 
 length-on-by : (r : Replay) (a : ℕ) (o : Option Drop) → drop_above_arc r.network a ≡ o → length (standing r o a) ≡ length (kept_of r a) + marks_below r o
 length-on-by r a None e =
-    let all = length-mapped thing_of (full_arc r.network r.sources a) in
+    let all = length_map thing_of (full_arc r.network r.sources a) in
     let kept = ap (λ z. length (needed r z a (full_arc r.network r.sources a))) e in
     omega (arith, all, kept)
 length-on-by r a (Some d) e =
     let all = length-spread (marked_arc r d.0 d.1 a) in
-    let less = length-mapped {Y = Timed} (λ (m : Timed). (m.0, lessened (distance_of d.1 a) m.1)) (drop_marks r d.0 d.1) in
-    let marks = length-mapped (mark_of (is_dropped r d.0 d.1) (until_of d.1) (d.1).length) (touched_batches r d.1) in
+    let less = length_map {Y = Timed} (λ (m : Timed). (m.0, lessened (distance_of d.1 a) m.1)) (drop_marks r d.0 d.1) in
+    let marks = length_map (mark_of (is_dropped r d.0 d.1) (until_of d.1) (d.1).length) (touched_batches r d.1) in
     omega (arith, all, less, marks)
 
 pub length-on : (r : Replay) (a : ℕ) → length (on_arc r a) ≡ length (kept_of r a) + marks_on r a
@@ -113,7 +99,7 @@ pub drop-takes : (r : Replay) (p : DropPoint) → length (drop_fed r p) ≡ leng
 drop-takes r p =
     let all = length-from 0 (things (full_at r p.at) ∷ []) in
     let one = sum_by-cons (λ (xs : List Thing). length xs) (things (full_at r p.at)) [] in
-    let same = length-mapped thing_of (full_at r p.at) in
+    let same = length_map thing_of (full_at r p.at) in
     omega (arith, all, one, same)
 
 pub output-takes : (r : Replay) (o : ℕ) → length (output_fed r o) ≡ length (kept_of r (output_arc_at r.network.wires o)) + marks_on r (output_arc_at r.network.wires o)

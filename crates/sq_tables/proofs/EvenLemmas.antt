@@ -62,7 +62,7 @@ box_even v ms raw h =
     let last = first_part (optional (default_selectivity (port_count body.0)) (list_in as_integer) (get_member (codes "selectivity") ms)) (λ selectivity. when (length selectivity == port_count body.0) (boxed name.0 body.0 ins.0 cost.0 selectivity)) raw cost.1.1 in
     when_even (boxed name.0 body.0 ins.0 cost.0 last.0) raw last.1.1
 
-read_as : {A : Type 0} (b : NetErr) (o : Option A) (x : A) → or_broken b o ≡ Ok x → o ≡ Some x
+pub read_as : {A : Type 0} (b : NetErr) (o : Option A) (x : A) → or_broken b o ≡ Ok x → o ≡ Some x
 read_as b None x e = cc
 read_as b (Some y) x e = let same : y ≡ x = cc in ap Some same
 

@@ -4,17 +4,14 @@ use Rattle.std.specs.Prelude.{IfSome}
 use Rattle.std.proofs.lemmas.List.Elements.{All-from_recursion}
 use Rattle.sq_expr.specs.Trees.{Checked}
 use Rattle.std.specs.List.{All, AllByRecursion, flat_map, position_from, sum_by}
-use Rattle.std.proofs.lemmas.Bool.Decides.{nat_tests}
 use Rattle.std.proofs.lemmas.List.{length-append, length-map, take_all, drop_more}
 use Rattle.std.proofs.lemmas.List.Sums.{sum_by-cons}
 use Rattle.std.proofs.lemmas.List.FromFn.{length-map-range_with_len}
 use Rattle.sq_words.specs.Lists.{same_bytes}
 use Rattle.sq_value.specs.Values.{Columns}
-use Rattle.sq_value.proofs.ListLemmas.{same_bytes-true, same_bytes-refl}
 use Rattle.sq_graph.specs.declared.BoxWires.{BoxWires}
 use Rattle.sq_graph.specs.Wires.{Producer, producers_of, producer_of}
 use Rattle.sq_graph.specs.Order.{is_there}
-use Rattle.sq_graph.proofs.Reach.{and_parts}
 use Rattle.sq_place.proofs.Final.{streams_count}
 use Rattle.sq_net.specs.declared.Network.{Network}
 use Rattle.sq_net.specs.declared.Source as declared
@@ -22,31 +19,28 @@ use Rattle.sq_net.specs.declared.Node.{Node}
 use Rattle.sq_net.specs.declared.Body.{Body}
 use Rattle.sq_net.specs.declared.Body.TheVariants.{Filter, Map, Union, BSort, Aggregate, Join, Resample}
 use Rattle.sq_net.specs.Sound.{IsSound, IsTypedBody, input_columns, body_within, node_within}
-use Rattle.sq_points.proofs.Bounds.{at_most, nodes_within, passes_at, few_streams}
+use Rattle.sq_points.proofs.Bounds.{at_most, nodes_within, few_streams}
 use Rattle.sq_tap.specs.Names.{is_dotted, port_names, ports_named, stream_names, stream_named}
 use Rattle.sq_net.specs.Names.{port_name}
+use Rattle.sq_words.proofs.Bools.{and_true}
+use Rattle.sq_words.proofs.Numbers.{eq_itself, eq_from}
+use Rattle.sq_words.proofs.Lists.{list_all_at, same_bytes_true, same_bytes_itself}
 
 -- ---- dotted names
-
-same_from : (a b : ℕ) → (a == b) ≡ true → a ≡ b
-same_from a b e = grind (arith, nat_tests)
-
-same_to : (a : ℕ) → (a == a) ≡ true
-same_to a = grind (arith, nat_tests)
 
 dotted_true : (text name digits : List ℕ) → is_dotted text name digits ≡ true → text ≡ name ++ (46 ∷ digits)
 dotted_true [] [] digits h = cc
 dotted_true (b ∷ text) [] digits h =
-    let parts = and_parts (b == 46) (same_bytes text digits) h in
-    ap (λ k. k ∷ text) (same_from b 46 parts.0) ∙ ap (λ ts. 46 ∷ ts) (same_bytes-true text digits parts.1)
+    let parts = and_true (b == 46) (same_bytes text digits) h in
+    ap (λ k. k ∷ text) (eq_from b 46 parts.0) ∙ ap (λ ts. 46 ∷ ts) (same_bytes_true text digits parts.1)
 dotted_true [] (c ∷ name) digits h = cc
 dotted_true (b ∷ text) (c ∷ name) digits h =
-    let parts = and_parts (b == c) (is_dotted text name digits) h in
-    ap (λ k. k ∷ text) (same_from b c parts.0) ∙ ap (λ ts. c ∷ ts) (dotted_true text name digits parts.1)
+    let parts = and_true (b == c) (is_dotted text name digits) h in
+    ap (λ k. k ∷ text) (eq_from b c parts.0) ∙ ap (λ ts. c ∷ ts) (dotted_true text name digits parts.1)
 
 dotted_itself : (name digits : List ℕ) → is_dotted (name ++ (46 ∷ digits)) name digits ≡ true
-dotted_itself [] digits = same_bytes-refl digits
-dotted_itself (c ∷ name) digits = ap (λ b. b && is_dotted (name ++ (46 ∷ digits)) name digits) (same_to c) ∙ dotted_itself name digits
+dotted_itself [] digits = same_bytes_itself digits
+dotted_itself (c ∷ name) digits = ap (λ b. b && is_dotted (name ++ (46 ∷ digits)) name digits) (eq_itself c) ∙ dotted_itself name digits
 
 pub dotted_is : (text name digits : List ℕ) → is_dotted text name digits ≡ same_bytes text (name ++ (46 ∷ digits))
 dotted_is text name digits = by (is_dotted text name digits) (same_bytes text (name ++ (46 ∷ digits))) refl refl
@@ -56,9 +50,9 @@ dotted_is text name digits = by (is_dotted text name digits) (same_bytes text (n
     by false false e f = refl
     by true false e f =
         let is = dotted_true text name digits e in
-        let no : true ≡ false = sym (same_bytes-refl text) ∙ ap (same_bytes text) is ∙ f in cc
+        let no : true ≡ false = sym (same_bytes_itself text) ∙ ap (same_bytes text) is ∙ f in cc
     by false true e f =
-        let is = same_bytes-true text (name ++ (46 ∷ digits)) f in
+        let is = same_bytes_true text (name ++ (46 ∷ digits)) f in
         let no : false ≡ true = sym e ∙ ap (λ (t : List ℕ). is_dotted t name digits) is ∙ dotted_itself name digits in cc
 
 -- ---- places
@@ -123,7 +117,7 @@ each_from P (x ∷ xs) h = (h zero x refl, each_from P xs (λ i y there. h (suc 
 pub ports_few : (n : Network) → IsSound n → AllByRecursion (λ (b : Node). length (port_names b.name b.body) ≤ 16) n.boxes
 ports_few n sound =
     each_from (λ (b : Node). length (port_names b.name b.body) ≤ 16) n.boxes
-    (λ i b there. few_ports b.name b.body (and_parts _ _ (and_parts _ _ (passes_at node_within n.boxes i b (nodes_within n sound.within) there)).0).0)
+    (λ i b there. few_ports b.name b.body (and_true _ _ (and_true _ _ (list_all_at node_within n.boxes i b (nodes_within n sound.within) there)).0).0)
 
 count_names : (ws : List BoxWires) (ds : List Node) → map (λ b. b.ports) ws ≡ map (λ b. length b.schemas) ds → AllByRecursion (λ (b : Node). length (port_names b.name b.body) ≡ length b.schemas) ds
     → length (flat_map (λ (b : Node). port_names b.name b.body) ds) ≡ sum_by (λ b. b.ports) ws

@@ -1,5 +1,5 @@
 -- An audit reads what a run of the network's file reads that has no options, and then the text; how it ends.
-use Rattle.std.proofs.Common.{◌≡◌, ◌≢◌, ◌⊎◌, inl, inr, ℕ, Bool, true, false, not, ◌==◌, List, [], ◌∷◌, refl, ap, sym, ◌∙◌, subst, arith, Option, None, Some}
+use Rattle.std.proofs.Common.{◌≡◌, ◌≢◌, ◌⊎◌, inl, inr, ℕ, true, false, ◌==◌, List, [], ◌∷◌, refl, ap, sym, ◌∙◌, subst, arith, Option, None, Some}
 use Rattle.std.specs.Prelude.{codes, IsSome}
 use Rattle.sq_outside.specs.Folders.{Files}
 use Rattle.sq_outside.specs.Sinks.{AppendsPrefix, appended, AppendsSuch}
@@ -18,6 +18,7 @@ use Rattle.sq_top.proofs.ReadsLemmas.{HoldsFor, leads_read, leads_still, leads_t
 use Rattle.sq_top.proofs.StoppedLemmas.{memory_at, some_none, stopped_unread}
 use Rattle.sq_top.proofs.StopLemmas.{lost_cut, lost_garbled, lost_stop, lost_unchanged}
 use Rattle.sq_value.specs.CommandWords.{may_name}
+use Rattle.sq_words.proofs.Bools.{not_true}
 
 -- by what leads through the first script the two go on
 goes_behind : (told : Option Files) (next : AcceptedReplay → Script) (read : List (List ℕ × List ℕ)) (from to : Script) → GoesBy told read from to
@@ -39,13 +40,9 @@ refused_behind told fb fn tb tn s next (Done r) (inr memory) why = subst (λ x. 
 abbrev pub run_words : List ℕ → List (List ℕ)
 run_words net = codes "run" ∷ net ∷ []
 
-not-true : (b : Bool) → not b ≡ true → b ≡ false
-not-true true h = cc
-not-true false h = refl
-
 pub run_asked : (net : List ℕ) → may_name net ≡ true → command_in (run_words net) ≡ Some (command.Run (plain_args net))
 run_asked [] h = cc
-run_asked (b ∷ bs) h = rw (not-true (b == 45) h) refl
+run_asked (b ∷ bs) h = rw (not_true (b == 45) h) refl
 
 module _ (words : List (List ℕ)) (net text : List ℕ) (asked : command_in words ≡ Some (command.Audit net text)) (told : Option Files) where
   pub is_audit : IsSome (command_in words)

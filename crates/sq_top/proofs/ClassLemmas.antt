@@ -5,10 +5,13 @@ use Rattle.std.specs.Fmt.{decimal}
 use Rattle.std.specs.List.{AllByRecursion, filter, flat_map, list_any}
 use Rattle.sq_words.specs.Lists.{same_bytes}
 use Rattle.sq_value.specs.Classes.{Class, Shown, Dropped, Planned, Ended, first_field, second_field, is_of_class}
-use Rattle.sq_value.proofs.ListLemmas.{same_bytes-true, same_bytes-refl}
 use Rattle.sq_value.proofs.LineLemmas.{is_line}
 use Rattle.sq_top.specs.Due.{Due}
 use Rattle.sq_top.specs.Answers.{IsClassIn, is_classed, class_lines}
+use Rattle.sq_words.proofs.Bools.{and_true}
+use Rattle.std.proofs.lemmas.Bool.{or_right, false_from_ne_true, or_left}
+use Rattle.sq_words.proofs.Alls.{all_append}
+use Rattle.sq_words.proofs.Lists.{same_bytes_true, same_bytes_itself}
 
 -- a name that doesn't begin with `@`
 abbrev pub IsPlainName : List ℕ → Type 0
@@ -27,10 +30,6 @@ pub record TellsClasses (d : Due) : Type 0 where
   pub planned : AllByRecursion (IsLineOf Planned) d.planned
   pub ended : AllByRecursion (IsLineOf Ended) d.ended
 
-pub not_true : (b : Bool) → (b ≡ true → ⊥) → b ≡ false
-not_true true h = absurd (h refl)
-not_true false h = refl
-
 abbrev pub is_end_field : List ℕ → Bool
 is_end_field f = same_bytes f (codes "@box") || same_bytes f (codes "@late") || same_bytes f (codes "@end")
 
@@ -39,21 +38,10 @@ plain_differs [] bs plain e = plain
 plain_differs (b ∷ n) bs plain e = plain cc
 
 pub same_bytes-plain : (n bs : List ℕ) → IsPlainName n → same_bytes n (64 ∷ bs) ≡ false
-same_bytes-plain n bs plain = not_true (same_bytes n (64 ∷ bs)) (λ h. plain_differs n bs plain (same_bytes-true n (64 ∷ bs) h))
+same_bytes-plain n bs plain = false_from_ne_true (same_bytes n (64 ∷ bs)) (λ h. plain_differs n bs plain (same_bytes_true n (64 ∷ bs) h))
 
 pub end_field-plain : (n : List ℕ) → IsPlainName n → is_end_field n ≡ false
 end_field-plain n plain = rw (same_bytes-plain n (codes "box") plain, same_bytes-plain n (codes "late") plain, same_bytes-plain n (codes "end") plain) refl
-
-pub and_true : (a b : Bool) → (a && b) ≡ true → (a ≡ true) × (b ≡ true)
-and_true true b h = (refl, h)
-and_true false b h = cc
-
-pub or_true : (a b : Bool) → b ≡ true → (a || b) ≡ true
-or_true true b h = refl
-or_true false b h = h
-
-pub or_first : (a b : Bool) → a ≡ true → (a || b) ≡ true
-or_first a b h = rw h refl
 
 -- the end lines apart
 abbrev pub is_ended : Class → Bool
@@ -98,29 +86,29 @@ IsPlainClass c = ⊤
 
 module _ (f : List ℕ) where
   no_plain : (name bs : List ℕ) → IsPlainName name → same_bytes f name ≡ true → same_bytes f (64 ∷ bs) ≡ true → ⊥
-  no_plain name bs plain is other = plain_differs name bs plain (sym (same_bytes-true f name is) ∙ same_bytes-true f (64 ∷ bs) other)
+  no_plain name bs plain is other = plain_differs name bs plain (sym (same_bytes_true f name is) ∙ same_bytes_true f (64 ∷ bs) other)
 
   no_plain_end : (name : List ℕ) → IsPlainName name → same_bytes f name ≡ true → is_end_field f ≡ true → ⊥
   no_plain_end name plain is ends =
-      let e : is_end_field name ≡ true = subst (λ x. is_end_field x ≡ true) (same_bytes-true f name is) ends in
+      let e : is_end_field name ≡ true = subst (λ x. is_end_field x ≡ true) (same_bytes_true f name is) ends in
       let none = end_field-plain name plain in cc
 
   no_end : (bs : List ℕ) → is_end_field (64 ∷ bs) ≡ false → same_bytes f (64 ∷ bs) ≡ true → is_end_field f ≡ true → ⊥
-  no_end bs none is ends = let e : is_end_field (64 ∷ bs) ≡ true = subst (λ x. is_end_field x ≡ true) (same_bytes-true f (64 ∷ bs) is) ends in cc
+  no_end bs none is ends = let e : is_end_field (64 ∷ bs) ≡ true = subst (λ x. is_end_field x ≡ true) (same_bytes_true f (64 ∷ bs) is) ends in cc
 
   no_two : (a b : List ℕ) → same_bytes a b ≡ false → same_bytes f a ≡ true → same_bytes f b ≡ true → ⊥
   no_two a b differ is other =
-      let e : same_bytes a b ≡ true = subst (λ x. same_bytes x b ≡ true) (same_bytes-true f a is) other in cc
+      let e : same_bytes a b ≡ true = subst (λ x. same_bytes x b ≡ true) (same_bytes_true f a is) other in cc
 
 -- a line is of one class alone
 pub alike : (d : Due) (c k : Class) (l : List ℕ) → IsPlainClass c → IsPlainClass k → is_of_class c l ≡ true → is_of_class k l ≡ true → AreAlike d c k
-alike d (Shown a) (Shown b) l p q is other = alike_shown d a b (sym (same_bytes-true (first_field l) a is) ∙ same_bytes-true (first_field l) b other)
+alike d (Shown a) (Shown b) l p q is other = alike_shown d a b (sym (same_bytes_true (first_field l) a is) ∙ same_bytes_true (first_field l) b other)
 alike d (Shown a) (Dropped v) l p q is other = absurd (no_plain (first_field l) a (codes "drop") p is (and_true _ _ other).0)
 alike d (Shown a) Planned l p q is other = absurd (no_plain (first_field l) a (codes "plan") p is other)
 alike d (Shown a) Ended l p q is other = absurd (no_plain_end (first_field l) a p is other)
 alike d (Dropped w) (Shown b) l p q is other = absurd (no_plain (first_field l) b (codes "drop") q other (and_true _ _ is).0)
 alike d (Dropped w) (Dropped v) l p q is other =
-    alike_dropped d w v (sym (same_bytes-true (second_field l) (decimal w) (and_true _ _ is).1) ∙ same_bytes-true (second_field l) (decimal v) (and_true _ _ other).1)
+    alike_dropped d w v (sym (same_bytes_true (second_field l) (decimal w) (and_true _ _ is).1) ∙ same_bytes_true (second_field l) (decimal v) (and_true _ _ other).1)
 alike d (Dropped w) Planned l p q is other = absurd (no_two (first_field l) (codes "@drop") (codes "@plan") refl (and_true _ _ is).0 other)
 alike d (Dropped w) Ended l p q is other = absurd (no_end (first_field l) (codes "drop") refl (and_true _ _ is).0 other)
 alike d Planned (Shown b) l p q is other = absurd (no_plain (first_field l) b (codes "plan") q other is)
@@ -140,7 +128,7 @@ Drops = List (ℕ × List (List ℕ))
 
 plain_named : (t : Bool) (o : List ℕ × List (List ℕ)) (os : Outputs) (name : List ℕ) → same_bytes o.0 name ≡ t → IsPlainName o.0
     → (IsTrue (list_any (λ x. same_bytes x.0 name) os) → IsPlainName name) → IsTrue (list_any (λ x. same_bytes x.0 name) (o ∷ os)) → IsPlainName name
-plain_named true o os name e plain more h = subst IsPlainName (same_bytes-true o.0 name e) plain
+plain_named true o os name e plain more h = subst IsPlainName (same_bytes_true o.0 name e) plain
 plain_named false o os name e plain more h = more (rw e at h)
 
 plain_name : (os : Outputs) (name : List ℕ) → AllByRecursion (λ o. IsPlainName o.0) os → IsTrue (list_any (λ o. same_bytes o.0 name) os) → IsPlainName name
@@ -156,10 +144,6 @@ plain_class d Ended s here = tt
 pub all_map : {X : Type 0} {P Q : X → Type 0} (f : (x : X) → P x → Q x) (xs : List X) → AllByRecursion P xs → AllByRecursion Q xs
 all_map f [] all = tt
 all_map f (x ∷ xs) all = (f x all.0, all_map f xs all.1)
-
-pub all_append : {X : Type 0} (P : X → Type 0) (xs ys : List X) → AllByRecursion P xs → AllByRecursion P ys → AllByRecursion P (xs ++ ys)
-all_append P [] ys a b = b
-all_append P (x ∷ xs) ys a b = (a.0, all_append P xs ys a.1 b)
 
 pub all_middle : {X : Type 0} (P : X → Type 0) (xs : List X) (x : X) (ys : List X) → AllByRecursion P (xs ++ x ∷ ys) → P x
 all_middle P [] x ys all = all.0
@@ -194,23 +178,23 @@ picked_drops P p (w ∷ ws) all = picked_drop P p (p w.0) w ws refl all.0 (picke
 pub own_names : (os : Outputs) → AllByRecursion (λ o. list_any (λ x. same_bytes o.0 x.0) os ≡ true) os
 own_names [] = tt
 own_names (o ∷ os) = (
-  rw (same_bytes-refl o.0) refl,
-  all_map {P = λ y. list_any (λ x. same_bytes y.0 x.0) os ≡ true} (λ y h. or_true (same_bytes y.0 o.0) (list_any (λ x. same_bytes y.0 x.0) os) h) os (own_names os),
+  rw (same_bytes_itself o.0) refl,
+  all_map {P = λ y. list_any (λ x. same_bytes y.0 x.0) os ≡ true} (λ y h. or_right (same_bytes y.0 o.0) (list_any (λ x. same_bytes y.0 x.0) os) h) os (own_names os),
 )
 
 pub own_numbers : (ws : Drops) → AllByRecursion (λ w. list_any (λ x. same_bytes (decimal w.0) (decimal x.0)) ws ≡ true) ws
 own_numbers [] = tt
 own_numbers (w ∷ ws) = (
-  rw (same_bytes-refl (decimal w.0)) refl,
+  rw (same_bytes_itself (decimal w.0)) refl,
   all_map {P = λ y. list_any (λ x. same_bytes (decimal y.0) (decimal x.0)) ws ≡ true}
-      (λ y h. or_true (same_bytes (decimal y.0) (decimal w.0)) (list_any (λ x. same_bytes (decimal y.0) (decimal x.0)) ws) h) ws (own_numbers ws),
+      (λ y h. or_right (same_bytes (decimal y.0) (decimal w.0)) (list_any (λ x. same_bytes (decimal y.0) (decimal x.0)) ws) h) ws (own_numbers ws),
 )
 
 dropped_first : (t : Bool) (x : ℕ × List (List ℕ)) (ws : Drops) (l w : List ℕ) → same_bytes (first_field l) (codes "@drop") ≡ true → second_field l ≡ w → same_bytes w (decimal x.0) ≡ t
     → (list_any (λ y. same_bytes w (decimal y.0)) ws ≡ true → list_any (λ y. is_of_class (Dropped y.0) l) ws ≡ true)
     → list_any (λ y. same_bytes w (decimal y.0)) (x ∷ ws) ≡ true → list_any (λ y. is_of_class (Dropped y.0) l) (x ∷ ws) ≡ true
-dropped_first true x ws l w first second e more h = or_first (is_of_class (Dropped x.0) l) (list_any (λ y. is_of_class (Dropped y.0) l) ws) (rw (first, second, e) refl)
-dropped_first false x ws l w first second e more h = or_true (is_of_class (Dropped x.0) l) (list_any (λ y. is_of_class (Dropped y.0) l) ws) (more (rw e at h))
+dropped_first true x ws l w first second e more h = or_left (is_of_class (Dropped x.0) l) (list_any (λ y. is_of_class (Dropped y.0) l) ws) (rw (first, second, e) refl)
+dropped_first false x ws l w first second e more h = or_right (is_of_class (Dropped x.0) l) (list_any (λ y. is_of_class (Dropped y.0) l) ws) (more (rw e at h))
 
 any_dropped : (ws : Drops) (l w : List ℕ) → same_bytes (first_field l) (codes "@drop") ≡ true → second_field l ≡ w
     → list_any (λ x. same_bytes w (decimal x.0)) ws ≡ true → list_any (λ x. is_of_class (Dropped x.0) l) ws ≡ true
@@ -236,14 +220,14 @@ last_of_four false false false d h = h
 module _ (d : Due) (s : TellsClasses d) where
   pub classed_shown : (n l : List ℕ) → list_any (λ x. same_bytes n x.0) d.shown ≡ true → is_of_class (Shown n) l ≡ true → is_classed d l ≡ true
   classed_shown n l named is =
-      let first = same_bytes-true (first_field l) n is in
+      let first = same_bytes_true (first_field l) n is in
       let any : list_any (λ x. same_bytes (first_field l) x.0) d.shown ≡ true = rw first named in rw any refl
 
   pub classed_dropped : (w : ℕ) (l : List ℕ) → list_any (λ x. same_bytes (decimal w) (decimal x.0)) d.dropped ≡ true → is_of_class (Dropped w) l ≡ true → is_classed d l ≡ true
   classed_dropped w l named is =
       let both = and_true _ _ is in
       any_of_four (list_any (λ o. is_of_class (Shown o.0) l) d.shown) (list_any (λ x. is_of_class (Dropped x.0) l) d.dropped) (is_of_class Planned l) (is_of_class Ended l)
-      (any_dropped d.dropped l (decimal w) both.0 (same_bytes-true (second_field l) (decimal w) both.1) named)
+      (any_dropped d.dropped l (decimal w) both.0 (same_bytes_true (second_field l) (decimal w) both.1) named)
 
   pub classed_planned : (l : List ℕ) → is_of_class Planned l ≡ true → is_classed d l ≡ true
   classed_planned l is =
@@ -259,7 +243,7 @@ module _ (d : Due) (s : TellsClasses d) where
   shown_due name [] named all = tt
   shown_due name (o ∷ os) named all = (
     λ e. all_map {P = IsLineOf (Shown o.0)}
-        (λ l h. (h.0, subst (λ x. same_bytes (first_field l) x ≡ true) (same_bytes-true o.0 name e) h.1, classed_shown o.0 l named.0 h.1)) o.1 all.0,
+        (λ l h. (h.0, subst (λ x. same_bytes (first_field l) x ≡ true) (same_bytes_true o.0 name e) h.1, classed_shown o.0 l named.0 h.1)) o.1 all.0,
     shown_due name os named.1 all.1,
   )
 
@@ -271,7 +255,7 @@ module _ (d : Due) (s : TellsClasses d) where
     λ e. all_map {P = IsLineOf (Dropped v.0)}
         (λ l h. (
           h.0,
-          subst (λ t. (same_bytes (first_field l) (codes "@drop") && same_bytes (second_field l) t) ≡ true) (same_bytes-true (decimal v.0) (decimal w) e) h.1,
+          subst (λ t. (same_bytes (first_field l) (codes "@drop") && same_bytes (second_field l) t) ≡ true) (same_bytes_true (decimal v.0) (decimal w) e) h.1,
           classed_dropped v.0 l named.0 h.1,
         )) v.1 all.0,
     dropped_due w ws named.1 all.1,

@@ -7,7 +7,7 @@ use Rattle.std.proofs.lemmas.List.FromFn.{fill_by_all, get_or-map-range_with_len
 use Rattle.std.proofs.lemmas.Grind.{get_or-set_at}
 use Rattle.sq_value.specs.declared.Tuple.{Tuple}
 use Rattle.sq_words.specs.Lists.{numbers_to}
-use Rattle.sq_left.proofs.MergeLemmas.{eqb-not, eqb-same}
+use Rattle.sq_left.proofs.MergeLemmas.{eqb-not}
 use Rattle.sq_oper.specs.declared.outs.Decision.{Decision}
 use Rattle.sq_oper.specs.declared.outs.Event.{Event}
 use Rattle.sq_oper.specs.declared.outs.Event.TheVariants.{Line, Dropped, Plan}
@@ -16,6 +16,7 @@ use Rattle.sq_flow.proofs.DropLemmas.{drops-drop, drops-plan, lines-drop}
 use Rattle.sq_flow.proofs.EventLemmas.{drops-line, lines-append, lines-push}
 use Rattle.sq_top.specs.declared.counting.Counts.{Counts}
 use Rattle.sq_top.specs.Counting.{AreCountsOf, Counted}
+use Rattle.sq_words.proofs.Numbers.{eqb_true}
 
 -- these are f of 0, 1, ..
 abbrev AreOf : (ℕ → ℕ) → List ℕ → Type 0
@@ -65,7 +66,7 @@ module _ (history : List Event) (output : ℕ) (tuple : Tuple) where
   line_here =
       ap (λ (xs : List Tuple). length xs) (lines-push output output history tuple)
       ∙ length-append (lines_of output history) (cond (eqb output output) (tuple ∷ []) [])
-      ∙ ap (λ b. lines_in history output + length (cond b (tuple ∷ []) [])) (eqb-same output output refl)
+      ∙ ap (λ b. lines_in history output + length (cond b (tuple ∷ []) [])) (eqb_true output output refl)
 
   line_other : (o : ℕ) → o ≢ output → lines_in with_line o ≡ lines_in history o
   line_other o differs =
@@ -84,7 +85,7 @@ module _ (history : List Event) (d : Decision) where
       ∙ ap (λ t. drops_in history w + length (cond t (d ∷ []) [])) e
 
   drop_here : drops_in with_drop d.drop ≡ drops_in history d.drop + 1
-  drop_here = drop_is d.drop true (eqb-same d.drop d.drop refl)
+  drop_here = drop_is d.drop true (eqb_true d.drop d.drop refl)
 
   drop_other : (w : ℕ) → w ≢ d.drop → drops_in with_drop w ≡ drops_in history w
   drop_other w differs = let is = drop_is w false (eqb-not d.drop w (λ e. differs (sym e))) in omega (arith, is)

@@ -19,11 +19,11 @@ use Rattle.sq_top.specs.Counting.{AreCountsOf, Counted, CountsOn, HasCounts, IsS
 use Rattle.sq_top.specs.Driving.{GoesOn, IsEventAt, IsHalted, Stops, history_text}
 use Rattle.sq_points.specs.Points.{drops_in}
 use Rattle.sq_top.specs.Due.{answer_in}
-use Rattle.sq_top.proofs.ClassLemmas.{all_append}
 use Rattle.sq_top.proofs.CountLemmas.{both_counted, none_counted}
 use Rattle.sq_top.proofs.DrivingLemmas.{completes, drive_lost, drive_stops, goes_none, sound_run}
 use Rattle.sq_top.proofs.ReplayLemmas.{same_numbers}
 use Rattle.sq_top.proofs.WritingLemmas.{lost_at_once}
+use Rattle.sq_words.proofs.Alls.{all_append}
 
 -- the events of one step, of an engine that showed nothing before it
 pub events_here : (n : Network) (cleared shown : List Event) → cleared ≡ [] → (AllByRecursion (IsEventAt n) cleared → AllByRecursion (IsEventAt n) shown) → AllByRecursion (IsEventAt n) shown

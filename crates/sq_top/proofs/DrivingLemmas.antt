@@ -14,7 +14,6 @@ use Rattle.sq_replay.specs.Shown.{IsEventOf, event_line}
 use Rattle.sq_points.specs.Points.{points_of}
 use Rattle.sq_model.specs.Shedding.{Replay}
 use Rattle.sq_start.specs.Nets.{drop_decisions}
-use Rattle.sq_model.proofs.StreamTypes.{some-at}
 use Rattle.sq_pool.specs.Trust.{Tells}
 use Rattle.sq_flow.specs.declared.errors.RunErr.{RunErr}
 use Rattle.sq_flow.specs.Events.{drops_of}
@@ -27,9 +26,10 @@ use Rattle.sq_top.specs.Due.{answer_in, turns_in}
 use Rattle.sq_top.specs.Writing.{IsLost, Moves}
 use Rattle.sq_top.specs.Stopping.{is_changed, is_garbled, status_of}
 use Rattle.sq_top.specs.Driving.{BeginsAnswer, Completes, GoesOn, IsDriven, IsEventAt, IsHalted, Stops, history_text}
-use Rattle.sq_top.proofs.ClassLemmas.{all_append}
 use Rattle.sq_top.proofs.StopLemmas.{lost_garbled, lost_unchanged, step_garbled, step_much, step_unchanged}
 use Rattle.sq_top.proofs.WritingLemmas.{appended-nil, lost_at_once, moves-lost, moves-then}
+use Rattle.sq_words.proofs.Lists.{has_item}
+use Rattle.sq_words.proofs.Alls.{all_append}
 
 -- an event of the run has its text
 pub line_event : (n : Network) (e : Event) → IsEventAt n e → IsEventOf n e
@@ -45,7 +45,7 @@ begins_so_far : (r : Replay) → IsSound r.network → (history : List Event) (b
 begins_so_far r sound history begun steps far = record {
   lines = λ o low. far.lines o (wired r sound o low);
   drops = λ w low.
-      let p = some-at (points_of r.network) w low in
+      let p = has_item (points_of r.network) w low in
       subst (λ k. IsPrefixOf (drops_of w history) (drop_decisions r w k)) (sym p.1) (far.drops w p.0 p.1);
   plans = far.plans;
 }
@@ -53,7 +53,7 @@ begins_so_far r sound history begun steps far = record {
 pub completes : (r : Replay) → IsSound r.network → (engine : Engine) (history : List Event) (begun steps : ℕ) → ShownAll r engine history begun steps → Completes r.network (answer_in r) history
 completes r sound engine history begun steps all = record {
   lines = λ o low. all.lines o (wired r sound o low);
-  drops = λ w low. let p = some-at (points_of r.network) w low in all.drops w p.0 p.1 ∙ ap (drop_decisions r w) (sym p.1);
+  drops = λ w low. let p = has_item (points_of r.network) w low in all.drops w p.0 p.1 ∙ ap (drop_decisions r w) (sym p.1);
   plans = all.plans;
 }
 

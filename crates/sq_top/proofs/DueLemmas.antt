@@ -8,13 +8,15 @@ use Rattle.std.proofs.lemmas.List.Elements.{filter-append}
 use Rattle.std.proofs.lemmas.List.Folds.{list_all-append}
 use Rattle.sq_words.specs.Lists.{same_bytes, IsPrefixOf}
 use Rattle.sq_value.specs.Classes.{Class, Shown, Dropped, Planned, Ended, first_field, second_field, is_of_class}
-use Rattle.sq_value.proofs.ListLemmas.{same_bytes-true, same_bytes-refl}
 use Rattle.sq_top.specs.Due.{Due}
 use Rattle.sq_top.specs.Answers.{AreOthersAll, IsClassIn, is_classed, class_lines}
-use Rattle.sq_top.proofs.ClassLemmas.{Drops, IsLineOf, IsPlainClass, IsPlainName, Outputs, TellsClasses, alike, all_map, and_true, classed_dropped, classed_ended, classed_planned, classed_shown, end_field-plain, is_end_field, not_ended, not_true, or_true, own_names, own_numbers, plain_class, plain_differs, same_bytes-plain}
+use Rattle.sq_top.proofs.ClassLemmas.{Drops, IsLineOf, IsPlainClass, IsPlainName, Outputs, TellsClasses, alike, all_map, classed_dropped, classed_ended, classed_planned, classed_shown, end_field-plain, is_end_field, not_ended, own_names, own_numbers, plain_class, plain_differs, same_bytes-plain}
 use Rattle.sq_top.proofs.SortedLines.{InBack, InFront, cut_twice, filter_same, list_all-back}
 use Rattle.sq_top.proofs.DueWords.{all_lines}
 use Rattle.sq_top.proofs.OrderWords.{IsNextOf, EachIsNext, IsLineOrder, AreAll}
+use Rattle.sq_words.proofs.Bools.{and_true}
+use Rattle.std.proofs.lemmas.Bool.{or_right, false_from_ne_true}
+use Rattle.sq_words.proofs.Lists.{same_bytes_true, same_bytes_itself}
 
 -- a list that has each class whole, nothing else, and the end lines last
 pub record IsWholeList (d : Due) (ls : List (List ℕ)) : Type 0 where
@@ -37,10 +39,10 @@ record HasName (os : Outputs) (f : List ℕ) : Type 0 where
 
 name_first : (t : Bool) (o : List ℕ × List (List ℕ)) (os : Outputs) (f : List ℕ) → same_bytes f o.0 ≡ t
     → (list_any (λ x. same_bytes f x.0) os ≡ true → HasName os f) → list_any (λ x. same_bytes f x.0) (o ∷ os) ≡ true → HasName (o ∷ os) f
-name_first true o os f e more h = record { name = o.0; same = e; named = rw (same_bytes-refl o.0) refl }
+name_first true o os f e more h = record { name = o.0; same = e; named = rw (same_bytes_itself o.0) refl }
 name_first false o os f e more h =
     let m = more (rw e at h) in
-    record { name = m.name; same = m.same; named = or_true (same_bytes o.0 m.name) (list_any (λ x. same_bytes x.0 m.name) os) m.named }
+    record { name = m.name; same = m.same; named = or_right (same_bytes o.0 m.name) (list_any (λ x. same_bytes x.0 m.name) os) m.named }
 
 name_of : (os : Outputs) (f : List ℕ) → list_any (λ x. same_bytes f x.0) os ≡ true → HasName os f
 name_of [] f h = absurd (cc)
@@ -87,7 +89,7 @@ module _ (d : Due) (s : TellsClasses d) (ls : List (List ℕ)) (whole : IsWholeL
   -- no end line is of another class
   not_other : (k : Class) (l : List ℕ) → IsClassIn d k → k ≢ Ended → is_of_class Ended l ≡ true → is_of_class k l ≡ false
   not_other k l here other ends =
-      not_true (is_of_class k l) (λ of. let a = alike d Ended k l tt (plain_class d k s here) ends of in let e = a.ended ∙ not_ended k other in cc)
+      false_from_ne_true (is_of_class k l) (λ of. let a = alike d Ended k l tt (plain_class d k s here) ends of in let e = a.ended ∙ not_ended k other in cc)
 
   no_ended : (k : Class) → IsClassIn d k → k ≢ Ended → filter (is_of_class k) d.ended ≡ []
   no_ended k here other = filter_same (is_of_class k) false d.ended (all_map {P = IsLineOf Ended} (λ l h. not_other k l here other h.1) d.ended s.ended)
@@ -146,25 +148,25 @@ tells Ended Ended = true
 tells k c = false
 
 not_plain : (name bs : List ℕ) → IsPlainName name → same_bytes (64 ∷ bs) name ≡ false
-not_plain name bs plain = not_true (same_bytes (64 ∷ bs) name) (λ h. plain_differs name bs plain (sym (same_bytes-true (64 ∷ bs) name h)))
+not_plain name bs plain = false_from_ne_true (same_bytes (64 ∷ bs) name) (λ h. plain_differs name bs plain (sym (same_bytes_true (64 ∷ bs) name h)))
 
 -- an end line's first field is no other text
 end_field-other : (f other : List ℕ) → is_end_field f ≡ true → is_end_field other ≡ false → same_bytes f other ≡ false
 end_field-other f other ends differs =
-    not_true (same_bytes f other) (λ h. let e : is_end_field other ≡ true = subst (λ x. is_end_field x ≡ true) (same_bytes-true f other h) ends in cc)
+    false_from_ne_true (same_bytes f other) (λ h. let e : is_end_field other ≡ true = subst (λ x. is_end_field x ≡ true) (same_bytes_true f other h) ends in cc)
 
 pub shown_test : (c : Class) (n l : List ℕ) → IsPlainName n → is_of_class (Shown n) l ≡ true → is_of_class c l ≡ tells (Shown n) c
-shown_test (Shown name) n l plain is = rw (same_bytes-true (first_field l) n is) refl
-shown_test (Dropped w) n l plain is = rw (same_bytes-true (first_field l) n is, same_bytes-plain n (codes "drop") plain) refl
-shown_test Planned n l plain is = rw (same_bytes-true (first_field l) n is, same_bytes-plain n (codes "plan") plain) refl
-shown_test Ended n l plain is = rw (same_bytes-true (first_field l) n is) (end_field-plain n plain)
+shown_test (Shown name) n l plain is = rw (same_bytes_true (first_field l) n is) refl
+shown_test (Dropped w) n l plain is = rw (same_bytes_true (first_field l) n is, same_bytes-plain n (codes "drop") plain) refl
+shown_test Planned n l plain is = rw (same_bytes_true (first_field l) n is, same_bytes-plain n (codes "plan") plain) refl
+shown_test Ended n l plain is = rw (same_bytes_true (first_field l) n is) (end_field-plain n plain)
 
 module _ (w : ℕ) (l : List ℕ) (is : is_of_class (Dropped w) l ≡ true) where
   drop_field : first_field l ≡ codes "@drop"
-  drop_field = same_bytes-true (first_field l) (codes "@drop") (and_true (same_bytes (first_field l) (codes "@drop")) (same_bytes (second_field l) (decimal w)) is).0
+  drop_field = same_bytes_true (first_field l) (codes "@drop") (and_true (same_bytes (first_field l) (codes "@drop")) (same_bytes (second_field l) (decimal w)) is).0
 
   drop_number : second_field l ≡ decimal w
-  drop_number = same_bytes-true (second_field l) (decimal w) (and_true (same_bytes (first_field l) (codes "@drop")) (same_bytes (second_field l) (decimal w)) is).1
+  drop_number = same_bytes_true (second_field l) (decimal w) (and_true (same_bytes (first_field l) (codes "@drop")) (same_bytes (second_field l) (decimal w)) is).1
 
   pub dropped_test : (c : Class) → IsPlainClass c → is_of_class c l ≡ tells (Dropped w) c
   dropped_test (Shown name) plain = rw drop_field (not_plain name (codes "drop") plain)
@@ -173,10 +175,10 @@ module _ (w : ℕ) (l : List ℕ) (is : is_of_class (Dropped w) l ≡ true) wher
   dropped_test Ended plain = rw drop_field refl
 
 pub planned_test : (c : Class) (l : List ℕ) → IsPlainClass c → is_of_class Planned l ≡ true → is_of_class c l ≡ tells Planned c
-planned_test (Shown name) l plain is = rw (same_bytes-true (first_field l) (codes "@plan") is) (not_plain name (codes "plan") plain)
-planned_test (Dropped v) l plain is = rw (same_bytes-true (first_field l) (codes "@plan") is) refl
+planned_test (Shown name) l plain is = rw (same_bytes_true (first_field l) (codes "@plan") is) (not_plain name (codes "plan") plain)
+planned_test (Dropped v) l plain is = rw (same_bytes_true (first_field l) (codes "@plan") is) refl
 planned_test Planned l plain is = is
-planned_test Ended l plain is = rw (same_bytes-true (first_field l) (codes "@plan") is) refl
+planned_test Ended l plain is = rw (same_bytes_true (first_field l) (codes "@plan") is) refl
 
 ended_test : (c : Class) (l : List ℕ) → IsPlainClass c → is_of_class Ended l ≡ true → is_of_class c l ≡ tells Ended c
 ended_test (Shown name) l plain ends = end_field-other (first_field l) name ends (end_field-plain name plain)

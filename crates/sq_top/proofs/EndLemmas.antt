@@ -8,7 +8,6 @@ use Rattle.std.proofs.lemmas.List.Elements.{recursion_from_All}
 use Rattle.sq_value.specs.declared.Tuple.{Tuple}
 use Rattle.sq_words.specs.Lists.{contains_bytes, numbers_to, same_bytes}
 use Rattle.sq_value.specs.Classes.{Shown, Dropped, Planned, Ended, second_field}
-use Rattle.sq_value.proofs.ListLemmas.{same_bytes-refl}
 use Rattle.sq_value.specs.LineTexts.{drop_line, line_of, needs_quotes, output_line, plan_line, late_line, end_line}
 use Rattle.sq_value.specs.Texts.{text_of}
 use Rattle.sq_value.proofs.RowLemmas.{first_field-line_of, is_line-line_of}
@@ -50,7 +49,6 @@ use Rattle.sq_top.specs.Reads.{GoesBy, IfAccepted, ScriptLeads, network_read}
 use Rattle.sq_pool.specs.Trust.{Tells}
 use Rattle.sq_top.specs.Stopping.{StopHasCause, is_changed, is_garbled}
 use Rattle.sq_top.specs.Causes.{BeginsSummary, BeginsText, Ends, IsEngineOf, IsPrefixOfDue, IsRefusedAt, IsStopped, IsWholeOf, NamesSource, TellsFor, TellsStatus, Outside, hides_memory, is_refusal, turns_for, verdict_text, work_for}
-use Rattle.sq_top.proofs.SortedLines.{and-true}
 use Rattle.sq_top.proofs.ReadsLemmas.{leads_self, left_holds, none_given}
 use Rattle.sq_top.proofs.StoppedLemmas.{memory_at, some_none, stopped_memory, stopped_rule}
 use Rattle.sq_top.proofs.StopLemmas.{refused_garbled, refused_stop, refused_unchanged, stop_map}
@@ -58,12 +56,14 @@ use Rattle.sq_top.proofs.ClassLemmas.{IsLineOf, IsPlainName, TellsClasses, is_en
 use Rattle.sq_top.proofs.OrderLemmas.{prefix_text}
 use Rattle.sq_expr.specs.Tokens.{is_letter, in_word}
 use Rattle.sq_top.proofs.DueWords.{shown_at_output, dropped_from, plan_text, due_from}
+use Rattle.sq_words.proofs.Bools.{and_true}
+use Rattle.sq_words.proofs.Lists.{same_bytes_itself}
 
 -- a name begins with a lower-case letter, and lower-case letters, digits and `_` follow
 name_parts : (b : ℕ) (bs : List ℕ) → is_name (b ∷ bs) ≡ true → (is_letter b ≡ true) × (list_all in_word bs ≡ true)
 name_parts b bs h =
-    let form = (and-true (has_name_form (b ∷ bs)) (not (contains_bytes (b ∷ bs) reserved)) h).0 in
-    and-true (is_letter b) (list_all in_word bs) (and-true (is_letter b && list_all in_word bs) (nat_lt (length bs) 32) form).0
+    let form = (and_true (has_name_form (b ∷ bs)) (not (contains_bytes (b ∷ bs) reserved)) h).0 in
+    and_true (is_letter b) (list_all in_word bs) (and_true (is_letter b && list_all in_word bs) (nat_lt (length bs) 32) form).0
 
 lower_above : (b : ℕ) → is_letter b ≡ true → 97 ≤ b
 lower_above b h = grind (arith, nat_tests)
@@ -79,7 +79,7 @@ quoteless_follow b h = grind (arith, nat_tests)
 
 none_quoted : (bs : List ℕ) → list_all in_word bs ≡ true → list_any needs_quotes bs ≡ false
 none_quoted [] h = refl
-none_quoted (b ∷ bs) h = let both = and-true (in_word b) (list_all in_word bs) h in rw (quoteless_follow b both.0, none_quoted bs both.1) refl
+none_quoted (b ∷ bs) h = let both = and_true (in_word b) (list_all in_word bs) h in rw (quoteless_follow b both.0, none_quoted bs both.1) refl
 
 name_quoteless : (b : ℕ) (bs : List ℕ) → is_name (b ∷ bs) ≡ true → list_any needs_quotes (b ∷ bs) ≡ false
 name_quoteless b bs h = let parts = name_parts b bs h in rw (quoteless_lower b parts.0, none_quoted bs parts.1) refl
@@ -88,7 +88,7 @@ shown_lines : (b : ℕ) (bs : List ℕ) (ys : List Tuple) → list_any needs_quo
 shown_lines b bs [] h = tt
 shown_lines b bs (y ∷ ys) h =
     let fields = decimal y.time ∷ map text_of y.fields in
-    ((is_line-line_of ((b ∷ bs) ∷ fields), subst (λ f. same_bytes f (b ∷ bs) ≡ true) (sym (first_field-line_of b bs fields h)) (same_bytes-refl (b ∷ bs))), shown_lines b bs ys h)
+    ((is_line-line_of ((b ∷ bs) ∷ fields), subst (λ f. same_bytes f (b ∷ bs) ≡ true) (sym (first_field-line_of b bs fields h)) (same_bytes_itself (b ∷ bs))), shown_lines b bs ys h)
 
 end_line_of : (bs : List ℕ) (fields : List (List ℕ)) → list_any needs_quotes (64 ∷ bs) ≡ false → is_end_field (64 ∷ bs) ≡ true → IsLineOf Ended (line_of ((64 ∷ bs) ∷ fields))
 end_line_of bs fields plain ends =
@@ -112,7 +112,7 @@ line_dropped w b level small =
     let fields = decimal b ∷ decimal level ∷ [] in
     let second = second_is (decimal w) fields (decimal_nonempty w small) (decimal_bare w small) in (
       is_line-line_of (codes "@drop" ∷ decimal w ∷ fields),
-      subst (λ f. same_bytes f (decimal w) ≡ true) (sym second) (same_bytes-refl (decimal w)),
+      subst (λ f. same_bytes f (decimal w) ≡ true) (sym second) (same_bytes_itself (decimal w)),
     )
 
 pub line_planned : (epoch load capacity saved : ℕ) (fits : Bool) → IsLineOf Planned (plan_line epoch load capacity saved fits)

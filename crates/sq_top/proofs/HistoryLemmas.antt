@@ -1,8 +1,8 @@
 -- Histories: the lines of a run that has shown its whole answer, in whatever order, are an order of writing with the end lines behind.
 use Rattle.std.proofs.Common.{◌≡◌, ◌⊎◌, inl, inr, ℕ, ◌<◌, ◌^◌, arith, Bool, true, false, not, ◌&&◌, List, [], ◌∷◌, ◌++◌, length, refl, ap, ap₂, sym, ◌∙◌, subst, append-nil, Some}
 use Rattle.std.specs.Prelude.{◌==◌, map, if◌then◌else◌, slice_get}
-use Rattle.std.specs.List.{AllByRecursion, filter, flat_map, list_all}
-use Rattle.std.proofs.lemmas.Bool.{eqb-true, eqb-false}
+use Rattle.std.specs.List.{AllByRecursion, filter, list_all}
+use Rattle.std.proofs.lemmas.Bool.{eqb-true, eqb-false, false_from_ne_true}
 use Rattle.std.proofs.lemmas.List.Elements.{filter-append, recursion_from_All}
 use Rattle.std.proofs.lemmas.List.Folds.{list_all-append}
 use Rattle.std.proofs.lemmas.List.FromFn.{length-range_with_len}
@@ -19,8 +19,6 @@ use Rattle.sq_net.specs.Sound.{IsSound}
 use Rattle.sq_oper.specs.declared.outs.Event.{Event}
 use Rattle.sq_oper.specs.declared.outs.Decision.{Decision}
 use Rattle.sq_oper.specs.declared.outs.Event.TheVariants.{Line, Dropped as Decided, Plan}
-use Rattle.sq_model.proofs.Alls.{holds-at}
-use Rattle.sq_model.proofs.StreamTypes.{some-at}
 use Rattle.sq_replay.specs.Shown.{event_line, output_name_in, lines_text}
 use Rattle.sq_flow.specs.Events.{drops_of, lines_of}
 use Rattle.sq_flow.specs.Plans.{plans_of}
@@ -29,12 +27,14 @@ use Rattle.sq_top.specs.Due.{Answer, Due}
 use Rattle.sq_top.specs.Answers.{IsClassIn, IsPrefixText, IsWholeText, is_classed, class_lines as due_lines}
 use Rattle.sq_top.specs.Driving.{Completes, IsEventAt, history_text}
 use Rattle.sq_top.proofs.SortedLines.{filter_same}
-use Rattle.sq_top.proofs.ClassLemmas.{IsLineOf, IsPlainClass, TellsClasses, all_map, classed_dropped, classed_ended, classed_planned, classed_shown, not_true, plain_class}
+use Rattle.sq_top.proofs.ClassLemmas.{IsLineOf, IsPlainClass, TellsClasses, all_map, classed_dropped, classed_ended, classed_planned, classed_shown, plain_class}
 use Rattle.sq_top.proofs.DueLemmas.{IsWholeList, dropped_test, filter_ended, planned_test, shown_test, tells, whole_order}
 use Rattle.sq_top.proofs.OrderLemmas.{prefix_text, whole_text}
 use Rattle.sq_top.proofs.EndLemmas.{due_tells_classes, line_dropped, line_planned, lines_shown, plain_name}
 use Rattle.sq_top.proofs.NamedLemmas.{HasOutput, due_at, find_drop, is_numbered, name_test, none_numbered, number_at, number_listed, one_numbered, output_of, picked_at, same_number}
 use Rattle.sq_top.proofs.DueWords.{plan_text, due_from}
+use Rattle.sq_words.proofs.Lists.{has_item, flat_map_of_map}
+use Rattle.sq_words.proofs.Alls.{all_at}
 
 filter_kept : (p : List ℕ → Bool) (x : List ℕ) (xs : List (List ℕ)) → p x ≡ true → filter p (x ∷ xs) ≡ x ∷ filter p xs
 filter_kept p x xs h = rw h refl
@@ -61,10 +61,6 @@ all_listed p (x ∷ xs) all = rw (all.0, all_listed p xs all.1) refl
 both_listed : (p : List ℕ → Bool) (xs ys : List (List ℕ)) → list_all p xs ≡ true → list_all p ys ≡ true → list_all p (xs ++ ys) ≡ true
 both_listed p xs ys a b = list_all-append p xs ys ∙ ap (λ t. t && list_all p ys) a ∙ b
 
-text_of_lines : {X : Type 0} (f : X → List ℕ) (xs : List X) → flat_map (λ l. l) (map f xs) ≡ flat_map f xs
-text_of_lines f [] = refl
-text_of_lines f (x ∷ xs) = ap (λ y. f x ++ y) (text_of_lines f xs)
-
 module _ (n : Network) (sound : IsSound n) (a : Answer) (ended : List (List ℕ)) (ends : AllByRecursion (IsLineOf Ended) ended) (few : drops_in n < 2 ^ 64) where
   abbrev due : Due
   due = due_from n a ended
@@ -81,7 +77,7 @@ module _ (n : Network) (sound : IsSound n) (a : Answer) (ended : List (List ℕ)
     line_is = ap (λ o. output_line (output_name_in o) t) at
 
     named : is_name q.name ≡ true
-    named = holds-at (λ (o : Output). is_name o.name ≡ true) n.outputs p q (recursion_from_All (λ (o : Output). is_name o.name ≡ true) n.outputs sound.named) at
+    named = all_at (λ (o : Output). is_name o.name ≡ true) n.outputs p q (recursion_from_All (λ (o : Output). is_name o.name ≡ true) n.outputs sound.named) at
 
     of_output : is_of_class (Shown q.name) (event_line n (Line p t)) ≡ true
     of_output = ap (is_of_class (Shown q.name)) line_is ∙ (lines_shown q.name (t ∷ []) named).0.1
@@ -117,14 +113,14 @@ module _ (n : Network) (sound : IsSound n) (a : Answer) (ended : List (List ℕ)
 
   classed : (history : List Event) → AllByRecursion (IsEventAt n) history → AllByRecursion (λ l. is_classed due l ≡ true) (lines history)
   classed [] all = tt
-  classed (Line p t ∷ es) all = let q = some-at n.outputs p all.0 in (line_classed p t q.0 q.1, classed es all.1)
+  classed (Line p t ∷ es) all = let q = has_item n.outputs p all.0 in (line_classed p t q.0 q.1, classed es all.1)
   classed (Decided d ∷ es) all = (drop_classed d all.0, classed es all.1)
   classed (Plan epoch load capacity saved fits ∷ es) all = (plan_classed epoch load capacity saved fits, classed es all.1)
 
   -- none of them is an end line
   none_ended : (history : List Event) → AllByRecursion (IsEventAt n) history → AllByRecursion (λ l. is_of_class Ended l ≡ false) (lines history)
   none_ended [] all = tt
-  none_ended (Line p t ∷ es) all = let q = some-at n.outputs p all.0 in (line_test p t q.0 q.1 Ended, none_ended es all.1)
+  none_ended (Line p t ∷ es) all = let q = has_item n.outputs p all.0 in (line_test p t q.0 q.1 Ended, none_ended es all.1)
   none_ended (Decided d ∷ es) all = (drop_test d Ended all.0 tt, none_ended es all.1)
   none_ended (Plan epoch load capacity saved fits ∷ es) all = (plan_test epoch load capacity saved fits Ended tt, none_ended es all.1)
 
@@ -134,7 +130,7 @@ module _ (n : Network) (sound : IsSound n) (a : Answer) (ended : List (List ℕ)
     of_out = is_of_class (Shown out.name)
 
     out_plain : IsPlainClass (Shown out.name)
-    out_plain = plain_name out.name (holds-at (λ (x : Output). is_name x.name ≡ true) n.outputs o out (recursion_from_All (λ (x : Output). is_name x.name ≡ true) n.outputs sound.named) there)
+    out_plain = plain_name out.name (all_at (λ (x : Output). is_name x.name ≡ true) n.outputs o out (recursion_from_All (λ (x : Output). is_name x.name ≡ true) n.outputs sound.named) there)
 
     one_shown : (b : Bool) (p : ℕ) (t : Tuple) (es : List Event) (q : Output) → slice_get n.outputs p ≡ Some q → (p == o) ≡ b
         → filter of_out (lines es) ≡ map (output_line out.name) (lines_of o es)
@@ -151,7 +147,7 @@ module _ (n : Network) (sound : IsSound n) (a : Answer) (ended : List (List ℕ)
 
     shown_of : (history : List Event) → AllByRecursion (IsEventAt n) history → filter of_out (lines history) ≡ map (output_line out.name) (lines_of o history)
     shown_of [] all = refl
-    shown_of (Line p t ∷ es) all = let q = some-at n.outputs p all.0 in one_shown (p == o) p t es q.0 q.1 refl (shown_of es all.1)
+    shown_of (Line p t ∷ es) all = let q = has_item n.outputs p all.0 in one_shown (p == o) p t es q.0 q.1 refl (shown_of es all.1)
     shown_of (Decided d ∷ es) all = filter_left of_out (event_line n (Decided d)) (lines es) (drop_test d (Shown out.name) all.0 out_plain) ∙ shown_of es all.1
     shown_of (Plan epoch load capacity saved fits ∷ es) all =
         filter_left of_out (event_line n (Plan epoch load capacity saved fits)) (lines es) (plan_test epoch load capacity saved fits (Shown out.name) out_plain) ∙ shown_of es all.1
@@ -164,7 +160,7 @@ module _ (n : Network) (sound : IsSound n) (a : Answer) (ended : List (List ℕ)
     none_dropped : ((v : ℕ) → v < drops_in n → is_numbered w v ≡ false) → (history : List Event) → AllByRecursion (IsEventAt n) history
         → AllByRecursion (λ l. of_drop l ≡ false) (lines history)
     none_dropped none [] all = tt
-    none_dropped none (Line p t ∷ es) all = let q = some-at n.outputs p all.0 in (line_test p t q.0 q.1 (Dropped w), none_dropped none es all.1)
+    none_dropped none (Line p t ∷ es) all = let q = has_item n.outputs p all.0 in (line_test p t q.0 q.1 (Dropped w), none_dropped none es all.1)
     none_dropped none (Decided d ∷ es) all = (drop_test d (Dropped w) all.0 tt ∙ none d.drop all.0, none_dropped none es all.1)
     none_dropped none (Plan epoch load capacity saved fits ∷ es) all = (plan_test epoch load capacity saved fits (Dropped w) tt, none_dropped none es all.1)
 
@@ -181,13 +177,13 @@ module _ (n : Network) (sound : IsSound n) (a : Answer) (ended : List (List ℕ)
           ∙ sym (ap (map text_at) (drop_kept v d es e))
       one_dropped false d es there e rest =
           filter_left of_drop (event_line n (Decided d)) (lines es)
-          (drop_test d (Dropped w) there tt ∙ not_true (is_numbered w d.drop) (λ h. eqb-false d.drop v e (same_number w d.drop v (omega (arith, there, few)) (omega (arith, low, few)) h is)))
+          (drop_test d (Dropped w) there tt ∙ false_from_ne_true (is_numbered w d.drop) (λ h. eqb-false d.drop v e (same_number w d.drop v (omega (arith, there, few)) (omega (arith, low, few)) h is)))
           ∙ rest
           ∙ sym (ap (map text_at) (drop_left v d es e))
 
       dropped_of : (history : List Event) → AllByRecursion (IsEventAt n) history → filter of_drop (lines history) ≡ map text_at (drops_of v history)
       dropped_of [] all = refl
-      dropped_of (Line p t ∷ es) all = let q = some-at n.outputs p all.0 in filter_left of_drop (event_line n (Line p t)) (lines es) (line_test p t q.0 q.1 (Dropped w)) ∙ dropped_of es all.1
+      dropped_of (Line p t ∷ es) all = let q = has_item n.outputs p all.0 in filter_left of_drop (event_line n (Line p t)) (lines es) (line_test p t q.0 q.1 (Dropped w)) ∙ dropped_of es all.1
       dropped_of (Decided d ∷ es) all = one_dropped (d.drop == v) d es all.0 refl (dropped_of es all.1)
       dropped_of (Plan epoch load capacity saved fits ∷ es) all =
           filter_left of_drop (event_line n (Plan epoch load capacity saved fits)) (lines es) (plan_test epoch load capacity saved fits (Dropped w) tt) ∙ dropped_of es all.1
@@ -196,7 +192,7 @@ module _ (n : Network) (sound : IsSound n) (a : Answer) (ended : List (List ℕ)
   planned_of : (history : List Event) → AllByRecursion (IsEventAt n) history → filter (is_of_class Planned) (lines history) ≡ map plan_text (plans_of history)
   planned_of [] all = refl
   planned_of (Line p t ∷ es) all =
-      let q = some-at n.outputs p all.0 in filter_left (is_of_class Planned) (event_line n (Line p t)) (lines es) (line_test p t q.0 q.1 Planned) ∙ planned_of es all.1
+      let q = has_item n.outputs p all.0 in filter_left (is_of_class Planned) (event_line n (Line p t)) (lines es) (line_test p t q.0 q.1 Planned) ∙ planned_of es all.1
   planned_of (Decided d ∷ es) all = filter_left (is_of_class Planned) (event_line n (Decided d)) (lines es) (drop_test d Planned all.0 tt) ∙ planned_of es all.1
   planned_of (Plan epoch load capacity saved fits ∷ es) all =
       filter_kept (is_of_class Planned) (event_line n (Plan epoch load capacity saved fits)) (lines es) (plan_test epoch load capacity saved fits Planned tt)
@@ -250,7 +246,7 @@ module _ (n : Network) (sound : IsSound n) (a : Answer) (ended : List (List ℕ)
     }
 
     text_is : lines_text whole_list ≡ history_text n history ++ lines_text due.ended
-    text_is = flat_map-append (λ l. l) (lines history) due.ended ∙ ap (λ text. text ++ lines_text due.ended) (text_of_lines (event_line n) history)
+    text_is = flat_map-append (λ l. l) (lines history) due.ended ∙ ap (λ text. text ++ lines_text due.ended) (flat_map_of_map (event_line n) history)
 
     -- with the end lines behind, its text is whole, and each beginning of it is one of such a text
     pub whole_of_history : IsWholeText due (history_text n history ++ lines_text due.ended)

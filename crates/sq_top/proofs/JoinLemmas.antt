@@ -2,7 +2,7 @@
 use Rattle.std.proofs.Common.{◌≡◌, ◌≢◌, inl, inr, ℕ, ◌≤◌, ◌==◌, Bool, true, false, ◌&&◌, not, List, [], ◌∷◌, length, refl, sym, ◌∙◌, subst, arith, Option, None, Some}
 use Rattle.std.specs.Prelude.{nat_le, Ok, Err}
 use Rattle.std.specs.List.{AllByRecursion, list_all}
-use Rattle.std.proofs.lemmas.Bool.{eqb-true}
+use Rattle.std.proofs.lemmas.Bool.{eqb-true, false_from_ne_true, true_from_ne_false}
 use Rattle.std.proofs.lemmas.Bool.Decides.{nat_tests}
 use Rattle.std.proofs.lemmas.List.Elements.{All-from_recursion, recursion_from_All}
 use Rattle.sq_value.specs.Values.{kinds_of}
@@ -21,27 +21,15 @@ use Rattle.sq_tap.specs.Names.{stream_named}
 use Rattle.sq_tap.specs.Rules.{BreaksFirst, HasOneSource, HasTheKinds, IsWithinLimits, KeepsRules}
 use Rattle.sq_tap.proofs.Grafts.{sound_joined}
 use Rattle.sq_tap.proofs.Naming.{named_there}
-use Rattle.sq_tap.proofs.Steps.{kinds_are, kinds_differ}
+use Rattle.sq_tap.proofs.Steps.{kinds_differ}
 use Rattle.sq_top.specs.declared.Status.{Status}
 use Rattle.sq_top.specs.declared.Status.TheVariants as status
 use Rattle.sq_top.specs.Causes.{IsBadTap, IsTapRefused}
 use Rattle.sq_top.specs.Taps.{Tapped, tapped, tapped_at, tapped_kinds, tapped_source, tapped_within}
-use Rattle.sq_top.proofs.SortedLines.{and-true}
 use Rattle.sq_expr.specs.Kinds.{same_kinds}
 use Rattle.sq_top.proofs.TapWords.{is_within_limits}
-
-true_by : (t : Bool) → (t ≡ false → ⊥) → t ≡ true
-true_by true h = refl
-true_by false h = absurd (h refl)
-
-false_by : (t : Bool) → (t ≡ true → ⊥) → t ≡ false
-false_by true h = absurd (h refl)
-false_by false h = refl
-
-not_both : (t : Bool) → t ≡ true → t ≡ false → ⊥
-not_both t a b = let both : true ≡ false = sym a ∙ b in cc
-
--- ---- limits
+use Rattle.sq_words.proofs.Bools.{and_true}
+use Rattle.sq_expr.proofs.KindLemmas.{same_kinds_is}
 
 one_fine : (long wide : Bool) → (not long && not wide) ≡ true → (long ≡ false) × (wide ≡ false)
 one_fine true wide h = cc
@@ -55,7 +43,7 @@ fine_test (p ∷ ps) all = rw (all.0.0, all.0.1, fine_test ps all.1) refl
 fine_points : (ps : List DropPoint) → list_all is_drop_within ps ≡ true → AllByRecursion IsFine ps
 fine_points [] h = tt
 fine_points (p ∷ ps) h =
-    let both = and-true (is_drop_within p) (list_all is_drop_within ps) h in (one_fine (is_long_batch p) (is_wide_extent p) both.0, fine_points ps both.1)
+    let both = and_true (is_drop_within p) (list_all is_drop_within ps) h in (one_fine (is_long_batch p) (is_wide_extent p) both.0, fine_points ps both.1)
 
 within_test : (net : Network) → IsWithinLimits net → is_within_limits net ≡ true
 within_test net within =
@@ -67,7 +55,7 @@ few_within k h = grind (arith, nat_tests)
 
 within_of : (net : Network) → is_within_limits net ≡ true → IsWithinLimits net
 within_of net h =
-    let both = and-true (nat_le (length net.boxes) 128) (list_all is_drop_within (points_of net)) h in
+    let both = and_true (nat_le (length net.boxes) 128) (list_all is_drop_within (points_of net)) h in
     (few_within (length net.boxes) both.0, All-from_recursion IsFine (points_of net) (fine_points (points_of net) both.1))
 
 -- ---- one source
@@ -93,18 +81,18 @@ module _ (n : Network) (stream from : ℕ) (q : Network) where
   single_test h = one_test (length q.sources) h
 
   kinds_test : HasTheKinds n stream q → alike ≡ true
-  kinds_test h = true_by alike (λ differ. kinds_differ (kinds_of (columns q 0)) (kinds_of (columns n stream)) differ h)
+  kinds_test h = true_from_ne_false alike (λ differ. kinds_differ (kinds_of (columns q 0)) (kinds_of (columns n stream)) differ h)
 
   pub keeps_tapped : KeepsRules n stream from q → tapped_at n stream from q ≡ Ok joint
   keeps_tapped k = rw (single_test k.0, kinds_test k.1, within_test (joined n stream from q) k.2) refl
 
   pub breaks_tapped : (e : TapErr) → e ≢ error.Memory → BreaksFirst n stream from q e → tapped_at n stream from q ≡ Err e
   breaks_tapped error.NoStream other h = absurd h
-  breaks_tapped error.Sources other h = rw (false_by one (λ t. h (eqb-true (length q.sources) 1 t))) refl
+  breaks_tapped error.Sources other h = rw (false_from_ne_true one (λ t. h (eqb-true (length q.sources) 1 t))) refl
   breaks_tapped error.Schema other h =
-      rw (single_test h.0, false_by alike (λ t. h.1 (kinds_are (kinds_of (columns q 0)) (kinds_of (columns n stream)) t))) refl
+      rw (single_test h.0, false_from_ne_true alike (λ t. h.1 (same_kinds_is (kinds_of (columns q 0)) (kinds_of (columns n stream)) t))) refl
   breaks_tapped error.Limit other h =
-      rw (single_test h.0, kinds_test h.1, false_by within (λ t. h.2 (within_of (joined n stream from q) t))) refl
+      rw (single_test h.0, kinds_test h.1, false_from_ne_true within (λ t. h.2 (within_of (joined n stream from q) t))) refl
   breaks_tapped error.Memory other h = absurd (other refl)
 
   -- and what was joined kept them
@@ -130,7 +118,7 @@ module _ (n : Network) (stream from : ℕ) (q : Network) where
   kept_one t k = eqb-true (length q.sources) 1 k.single
 
   pub kept_kinds_of : (t : Tapped) → Kept t → HasTheKinds n stream q
-  kept_kinds_of t k = kinds_are (kinds_of (columns q 0)) (kinds_of (columns n stream)) k.kinds
+  kept_kinds_of t k = same_kinds_is (kinds_of (columns q 0)) (kinds_of (columns n stream)) k.kinds
 
   pub kept_limits : (t : Tapped) → Kept t → IsWithinLimits (joined n stream from q)
   kept_limits t k = within_of (joined n stream from q) k.limits

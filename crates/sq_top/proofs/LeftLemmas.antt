@@ -9,7 +9,6 @@ use Rattle.sq_oper.specs.declared.outs.Event.{Event}
 use Rattle.sq_plan.specs.Plans.{Setting}
 use Rattle.sq_plan.specs.Shown.{level_for}
 use Rattle.sq_points.specs.Points.{points_of, drops_in}
-use Rattle.sq_model.proofs.StreamTypes.{some-at}
 use Rattle.sq_replay.specs.Shown.{event_line}
 use Rattle.sq_pool.specs.Trust.{Tells}
 use Rattle.sq_queue.specs.Faces.{Together}
@@ -27,8 +26,9 @@ use Rattle.sq_core.specs.Runs.{IsSoundEngine}
 use Rattle.sq_core.proofs.RunLemmas.{shed-in, shown-in}
 use Rattle.sq_top.specs.Writing.{Moves}
 use Rattle.sq_top.specs.Driving.{IsEventAt, ShowsOn, StopsOn, WritesFirst, WritesRest, history_text}
-use Rattle.sq_top.proofs.ClassLemmas.{all_append}
 use Rattle.sq_top.proofs.WritingLemmas.{appended-nil, lost_at_once, moves-lost, moves-then}
+use Rattle.sq_words.proofs.Lists.{has_item}
+use Rattle.sq_words.proofs.Alls.{all_append}
 
 -- nothing was done
 stepped_none : (pages : Option Pages) (e : Engine) → IsSoundEngine e → Together e.engine.flow.queues pages
@@ -196,7 +196,7 @@ module _ (was is : Option Pages) (from : Engine) (sound : IsSoundEngine from) wh
   output_in o low = shown-in from from.network refl sound o (omega (arith, low, sound.network.agrees.outputs))
 
   dropper_in : (w : ℕ) → w < drops_in from.network → from.engine.flow.wires.sheds + w < from.engine.flow.wires.shown
-  dropper_in w low = let p = some-at (points_of from.network) w low in shed-in from from.network refl sound w p.0 p.1
+  dropper_in w low = let p = has_item (points_of from.network) w low in shed-in from from.network refl sound w p.0 p.1
 
   -- all was shown: nothing is left of the engine
   module _ (to : Engine) (before between : Option (List ℕ)) (waits : List ℕ) (first : ShowsOn was is from to before [] between waits) where

@@ -6,13 +6,14 @@ use Rattle.std.proofs.lemmas.List.Elements.{filter-append}
 use Rattle.std.proofs.lemmas.List.Folds.{list_all-append}
 use Rattle.sq_words.specs.Lists.{same_bytes}
 use Rattle.sq_value.specs.Classes.{Class, Shown, Dropped, Planned, Ended, is_of_class}
-use Rattle.sq_value.proofs.ListLemmas.{same_bytes-refl, same_bytes-true}
 use Rattle.sq_top.specs.Due.{Due}
 use Rattle.sq_top.specs.Answers.{is_classed}
-use Rattle.sq_top.proofs.ClassLemmas.{IsLineOf, TellsClasses, all_map, and_true}
+use Rattle.sq_top.proofs.ClassLemmas.{IsLineOf, TellsClasses, all_map}
 use Rattle.sq_top.proofs.DueLemmas.{IsWholeList, all_other, all_whole, shown_test, tells, whole_order}
-use Rattle.sq_top.proofs.SortedLines.{filter_same, list_all-back, list_all-front}
+use Rattle.sq_top.proofs.SortedLines.{filter_same, list_all-back}
 use Rattle.sq_top.proofs.OrderWords.{IsLineOrder}
+use Rattle.sq_words.proofs.Bools.{and_true}
+use Rattle.sq_words.proofs.Lists.{same_bytes_true, same_bytes_itself, list_all_front}
 
 -- the next of the first list for each `true`, of the second for each `false`, and then what is left of both
 abbrev pub mixed : List Bool → List (List ℕ) → List (List ℕ) → List (List ℕ)
@@ -67,8 +68,8 @@ module _ (a b : List ℕ) (xs ys ended : List (List ℕ)) (differ : same_bytes a
   not_same name false u e f = rw e refl
   not_same name true false e f = rw (e, f) refl
   not_same name true true e f =
-      let same : a ≡ b = same_bytes-true a name e ∙ sym (same_bytes-true b name f) in
-      let g : same_bytes a b ≡ true = subst (λ x. same_bytes a x ≡ true) same (same_bytes-refl a) in
+      let same : a ≡ b = same_bytes_true a name e ∙ sym (same_bytes_true b name f) in
+      let g : same_bytes a b ≡ true = subst (λ x. same_bytes a x ≡ true) same (same_bytes_itself a) in
       absurd (let h = sym differ ∙ g in cc)
 
   not_both : (c : Class) → (tells (Shown a) c && tells (Shown b) c) ≡ false
@@ -93,7 +94,7 @@ module _ (a b : List ℕ) (xs ys ended : List (List ℕ)) (differ : same_bytes a
 
     -- what passes for each line in file order passes for each in this order
     passes : (p : List ℕ → Bool) → list_all p (xs ++ (ys ++ [])) ≡ true → list_all p lines ≡ true
-    passes p h = all-mixed p picks xs ys (list_all-front p xs (ys ++ []) h) (list_all-front p ys [] (list_all-back p xs (ys ++ []) h))
+    passes p h = all-mixed p picks xs ys (list_all_front p xs (ys ++ []) h) (list_all_front p ys [] (list_all-back p xs (ys ++ []) h))
 
     mixed_whole : IsWholeList two (lines ++ ended)
     mixed_whole =
@@ -104,11 +105,11 @@ module _ (a b : List ℕ) (xs ys ended : List (List ℕ)) (differ : same_bytes a
           all = λ c here. filter-append (is_of_class c) lines ended ∙ ap (λ zs. zs ++ filter (is_of_class c) ended) (same_lines c)
               ∙ sym (filter-append (is_of_class c) (xs ++ (ys ++ [])) ended) ∙ w.all c here;
           classed = list_all-append p lines ended
-              ∙ ap (λ t. t && list_all p ended) (passes p (list_all-front p (xs ++ (ys ++ [])) ended w.classed))
+              ∙ ap (λ t. t && list_all p ended) (passes p (list_all_front p (xs ++ (ys ++ [])) ended w.classed))
               ∙ list_all-back p (xs ++ (ys ++ [])) ended w.classed;
           front = lines;
           lines_are = refl;
-          others = passes other (list_all-front other (xs ++ (ys ++ [])) [] (all_other two s));
+          others = passes other (list_all_front other (xs ++ (ys ++ [])) [] (all_other two s));
         }
 
     -- each way to mix them is an order of writing

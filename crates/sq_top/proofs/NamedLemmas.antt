@@ -3,28 +3,27 @@ use Rattle.std.proofs.Common.{◌≡◌, ◌≢◌, ◌⊎◌, inl, inr, ℕ, ze
 use Rattle.std.specs.Prelude.{◌==◌, map, if◌then◌else◌, slice_get}
 use Rattle.std.specs.Fmt.{decimal}
 use Rattle.std.specs.List.{filter, flat_map, list_any, range_with_len, zip}
-use Rattle.std.proofs.lemmas.Bool.{eqb-true, eqb-false}
+use Rattle.std.proofs.lemmas.Bool.{eqb-true, eqb-false, or_right, false_from_ne_true, or_left}
 use Rattle.std.proofs.lemmas.Fmt.{decimal_injective}
 use Rattle.sq_words.specs.Lists.{are_distinct, contains_bytes, numbers_to, same_bytes}
 use Rattle.sq_value.specs.LineTexts.{output_line}
-use Rattle.sq_value.proofs.ListLemmas.{same_bytes-true, same_bytes-refl}
 use Rattle.sq_net.specs.declared.Output.{Output}
 use Rattle.sq_top.specs.Due.{Answer}
-use Rattle.sq_top.proofs.SortedLines.{and-true}
-use Rattle.sq_top.proofs.ClassLemmas.{not_true, or_first, or_true}
 use Rattle.sq_top.proofs.DueWords.{shown_at_output, dropped_from}
+use Rattle.sq_words.proofs.Bools.{and_true}
+use Rattle.sq_words.proofs.Lists.{same_bytes_true, same_bytes_itself}
 
 named_at : (os : List Output) (o : ℕ) (out : Output) → slice_get os o ≡ Some out → contains_bytes out.name (map (λ x. x.name) os) ≡ true
 named_at [] o out at = absurd (cc)
 named_at (x ∷ os) zero out at =
     let is : x ≡ out = cc in
-    or_first (same_bytes out.name x.name) (contains_bytes out.name (map (λ y. y.name) os)) (ap (λ (y : Output). same_bytes out.name y.name) is ∙ same_bytes-refl out.name)
-named_at (x ∷ os) (suc o) out at = or_true (same_bytes out.name x.name) (contains_bytes out.name (map (λ y. y.name) os)) (named_at os o out at)
+    or_left (same_bytes out.name x.name) (contains_bytes out.name (map (λ y. y.name) os)) (ap (λ (y : Output). same_bytes out.name y.name) is ∙ same_bytes_itself out.name)
+named_at (x ∷ os) (suc o) out at = or_right (same_bytes out.name x.name) (contains_bytes out.name (map (λ y. y.name) os)) (named_at os o out at)
 
 none_named : (os : List Output) (x out : Output) (o : ℕ) → are_distinct (map (λ y. y.name) (x ∷ os)) ≡ true → slice_get os o ≡ Some out → x.name ≡ out.name → ⊥
 none_named os x out o d at same =
     let here : contains_bytes x.name (map (λ y. y.name) os) ≡ true = subst (λ w. contains_bytes w (map (λ y. y.name) os) ≡ true) (sym same) (named_at os o out at) in
-    let other = (and-true (not (contains_bytes x.name (map (λ y. y.name) os))) (are_distinct (map (λ y. y.name) os)) d).0 in
+    let other = (and_true (not (contains_bytes x.name (map (λ y. y.name) os))) (are_distinct (map (λ y. y.name) os)) d).0 in
     let both : not true ≡ true = ap not (sym here) ∙ other in cc
 
 -- where no name stands twice, one name stands at one place
@@ -37,16 +36,16 @@ one_place (x ∷ os) zero (suc o) q out d at at' same =
 one_place (x ∷ os) (suc p) zero q out d at at' same =
     let is : x ≡ out = cc in absurd (none_named os x q p d at (ap (λ (y : Output). y.name) is ∙ sym same))
 one_place (x ∷ os) (suc p) (suc o) q out d at at' same =
-    ap suc (one_place os p o q out (and-true (not (contains_bytes x.name (map (λ y. y.name) os))) (are_distinct (map (λ y. y.name) os)) d).1 at at' same)
+    ap suc (one_place os p o q out (and_true (not (contains_bytes x.name (map (λ y. y.name) os))) (are_distinct (map (λ y. y.name) os)) d).1 at at' same)
 
 -- the test of a name is the test of the place
 module _ (os : List Output) (p o : ℕ) (q out : Output) (distinct : are_distinct (map (λ x. x.name) os) ≡ true) (at : slice_get os p ≡ Some q) (there : slice_get os o ≡ Some out) where
   pub name_test : (t : Bool) → (p == o) ≡ t → same_bytes q.name out.name ≡ t
   name_test true e =
       let same : q ≡ out = let both : Some q ≡ Some out = sym at ∙ ap (slice_get os) (eqb-true p o e) ∙ there in cc in
-      ap (λ (y : Output). same_bytes y.name out.name) same ∙ same_bytes-refl out.name
+      ap (λ (y : Output). same_bytes y.name out.name) same ∙ same_bytes_itself out.name
   name_test false e =
-      not_true (same_bytes q.name out.name) (λ h. eqb-false p o e (one_place os p o q out distinct at there (same_bytes-true q.name out.name h)))
+      false_from_ne_true (same_bytes q.name out.name) (λ h. eqb-false p o e (one_place os p o q out distinct at there (same_bytes_true q.name out.name h)))
 
 abbrev Outputs : Type 0
 Outputs = List (List ℕ × List (List ℕ))
@@ -66,13 +65,13 @@ module _ (a : Answer) where
   none_picked (x ∷ os) [] name none = refl
   none_picked (x ∷ os) (s ∷ ss) name none =
       picked_one false name (shown_at_output a (x, s)) (map (shown_at_output a) (zip os ss))
-      (not_true (same_bytes x.name name)
-      (λ h. let e : same_bytes name x.name ≡ true = ap (same_bytes name) (same_bytes-true x.name name h) ∙ same_bytes-refl name in
-      let some = or_first (same_bytes name x.name) (contains_bytes name (map (λ y. y.name) os)) e in
+      (false_from_ne_true (same_bytes x.name name)
+      (λ h. let e : same_bytes name x.name ≡ true = ap (same_bytes name) (same_bytes_true x.name name h) ∙ same_bytes_itself name in
+      let some = or_left (same_bytes name x.name) (contains_bytes name (map (λ y. y.name) os)) e in
       let both : true ≡ false = sym some ∙ none in cc))
       ∙ none_picked os ss name
-      (not_true (contains_bytes name (map (λ y. y.name) os))
-      (λ h. let some = or_true (same_bytes name x.name) (contains_bytes name (map (λ y. y.name) os)) h in
+      (false_from_ne_true (contains_bytes name (map (λ y. y.name) os))
+      (λ h. let some = or_right (same_bytes name x.name) (contains_bytes name (map (λ y. y.name) os)) h in
       let both : true ≡ false = sym some ∙ none in cc))
 
   -- the lines of the outputs with a name are those of the one that has it
@@ -83,18 +82,18 @@ module _ (a : Answer) where
   picked_at (x ∷ os) (r ∷ ss) zero s out d at there =
       let is : x ≡ out = cc in
       let same : r ≡ s = cc in
-      let others = not_true (contains_bytes x.name (map (λ y. y.name) os))
-      (λ h. let other = (and-true (not (contains_bytes x.name (map (λ y. y.name) os))) (are_distinct (map (λ y. y.name) os)) d).0 in
+      let others = false_from_ne_true (contains_bytes x.name (map (λ y. y.name) os))
+      (λ h. let other = (and_true (not (contains_bytes x.name (map (λ y. y.name) os))) (are_distinct (map (λ y. y.name) os)) d).0 in
       let both : not true ≡ true = ap not (sym h) ∙ other in cc) in
       subst (λ (y : Output). picked y.name (map (shown_at_output a) (zip (x ∷ os) (r ∷ ss))) ≡ map (output_line y.name) (a.tuples s)) is
-      (picked_one true x.name (shown_at_output a (x, r)) (map (shown_at_output a) (zip os ss)) (same_bytes-refl x.name)
+      (picked_one true x.name (shown_at_output a (x, r)) (map (shown_at_output a) (zip os ss)) (same_bytes_itself x.name)
       ∙ ap (λ ls. map (output_line x.name) (a.tuples r) ++ ls) (none_picked os ss x.name others)
       ∙ append-nil (map (output_line x.name) (a.tuples r))
       ∙ ap (λ k. map (output_line x.name) (a.tuples k)) same)
   picked_at (x ∷ os) (r ∷ ss) (suc o) s out d at there =
       picked_one false out.name (shown_at_output a (x, r)) (map (shown_at_output a) (zip os ss))
-      (not_true (same_bytes x.name out.name) (λ h. none_named os x out o d at (same_bytes-true x.name out.name h)))
-      ∙ picked_at os ss o s out (and-true (not (contains_bytes x.name (map (λ y. y.name) os))) (are_distinct (map (λ y. y.name) os)) d).1 at there
+      (false_from_ne_true (same_bytes x.name out.name) (λ h. none_named os x out o d at (same_bytes_true x.name out.name h)))
+      ∙ picked_at os ss o s out (and_true (not (contains_bytes x.name (map (λ y. y.name) os))) (are_distinct (map (λ y. y.name) os)) d).1 at there
 
 -- an output with a name, and the stream that it shows
 pub record HasOutput (os : List Output) (ss : List ℕ) (name : List ℕ) : Type 0 where
@@ -108,7 +107,7 @@ pub record HasOutput (os : List Output) (ss : List ℕ) (name : List ℕ) : Type
 output_first : (t : Bool) (a : Answer) (x : Output) (r : ℕ) (os : List Output) (ss : List ℕ) (name : List ℕ) → same_bytes x.name name ≡ t
     → (list_any (λ y. same_bytes y.0 name) (map (shown_at_output a) (zip os ss)) ≡ true → HasOutput os ss name)
     → list_any (λ y. same_bytes y.0 name) (map (shown_at_output a) (zip (x ∷ os) (r ∷ ss))) ≡ true → HasOutput (x ∷ os) (r ∷ ss) name
-output_first true a x r os ss name e more h = record { at = 0; stream = r; output = x; there = refl; shows = refl; same = same_bytes-true x.name name e }
+output_first true a x r os ss name e more h = record { at = 0; stream = r; output = x; there = refl; shows = refl; same = same_bytes_true x.name name e }
 output_first false a x r os ss name e more h =
     let m = more (rw e at h) in record { at = suc m.at; stream = m.stream; output = m.output; there = m.there; shows = m.shows; same = m.same }
 
@@ -125,10 +124,10 @@ due_at a [] ss o out even at = absurd (cc)
 due_at a (x ∷ os) [] o out even at = absurd (omega (arith, even))
 due_at a (x ∷ os) (r ∷ ss) zero out even at =
     let is : x ≡ out = cc in
-    or_first (same_bytes out.name x.name) (list_any (λ y. same_bytes out.name y.0) (map (shown_at_output a) (zip os ss)))
-    (ap (λ (y : Output). same_bytes out.name y.name) is ∙ same_bytes-refl out.name)
+    or_left (same_bytes out.name x.name) (list_any (λ y. same_bytes out.name y.0) (map (shown_at_output a) (zip os ss)))
+    (ap (λ (y : Output). same_bytes out.name y.name) is ∙ same_bytes_itself out.name)
 due_at a (x ∷ os) (r ∷ ss) (suc o) out even at =
-    or_true (same_bytes out.name x.name) (list_any (λ y. same_bytes out.name y.0) (map (shown_at_output a) (zip os ss)))
+    or_right (same_bytes out.name x.name) (list_any (λ y. same_bytes out.name y.0) (map (shown_at_output a) (zip os ss)))
     (due_at a os ss o out (omega (arith, even)) at)
 
 -- what stands among the numbers from one on
@@ -161,7 +160,7 @@ find_drop w (suc many) = last (is_numbered w many) refl (find_drop w many)
 
 -- two small numbers that are written alike are the same
 pub same_number : (w u v : ℕ) → u < 2 ^ 64 → v < 2 ^ 64 → is_numbered w u ≡ true → is_numbered w v ≡ true → u ≡ v
-same_number w u v few many e f = decimal_injective u v few many (same_bytes-true (decimal u) (decimal w) e ∙ sym (same_bytes-true (decimal v) (decimal w) f))
+same_number w u v few many e f = decimal_injective u v few many (same_bytes_true (decimal u) (decimal w) e ∙ sym (same_bytes_true (decimal v) (decimal w) f))
 
 module _ (a : Answer) (w : ℕ) where
   abbrev pub numbered : List ℕ → List (List ℕ)
@@ -193,7 +192,7 @@ module _ (a : Answer) (w : ℕ) where
           let same : from ≡ v = alone from (omega arith) e in
           numbered_one true from (range_with_len (from + 1) many) e
           ∙ ap (λ ls. (dropped_from a from).1 ++ ls)
-          (none_from (from + 1) many (λ u later lower. not_true (is_numbered w u) (λ h. let other = alone u (omega (arith, lower)) h in absurd (omega (arith, other, same, later)))))
+          (none_from (from + 1) many (λ u later lower. false_from_ne_true (is_numbered w u) (λ h. let other = alone u (omega (arith, lower)) h in absurd (omega (arith, other, same, later)))))
           ∙ append-nil (dropped_from a from).1
           ∙ ap (λ k. (dropped_from a k).1) same
       by false e more =
@@ -213,9 +212,9 @@ listed_from a v from (suc many) least low =
     by : (t : Bool) → (v == from) ≡ t → (v ≢ from → list_any (λ x. is_numbered x.0 v) (map (dropped_from a) (range_with_len (from + 1) many)) ≡ true)
         → list_any (λ x. is_numbered x.0 v) (map (dropped_from a) (range_with_len from (suc many))) ≡ true
     by true e more =
-        or_first (is_numbered from v) (list_any (λ x. is_numbered x.0 v) (map (dropped_from a) (range_with_len (from + 1) many)))
-        (ap (λ k. is_numbered k v) (sym (eqb-true v from e)) ∙ same_bytes-refl (decimal v))
-    by false e more = or_true (is_numbered from v) (list_any (λ x. is_numbered x.0 v) (map (dropped_from a) (range_with_len (from + 1) many))) (more (eqb-false v from e))
+        or_left (is_numbered from v) (list_any (λ x. is_numbered x.0 v) (map (dropped_from a) (range_with_len (from + 1) many)))
+        (ap (λ k. is_numbered k v) (sym (eqb-true v from e)) ∙ same_bytes_itself (decimal v))
+    by false e more = or_right (is_numbered from v) (list_any (λ x. is_numbered x.0 v) (map (dropped_from a) (range_with_len (from + 1) many))) (more (eqb-false v from e))
 
 -- each drop that is there is one of those that are due
 pub number_listed : (a : Answer) (v many : ℕ) → v < many → list_any (λ x. is_numbered x.0 v) (map (dropped_from a) (numbers_to many)) ≡ true

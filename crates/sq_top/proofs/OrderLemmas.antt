@@ -11,9 +11,10 @@ use Rattle.sq_value.proofs.LineLemmas.{AreLines, Cut, IsFront, cut_prefix, is_li
 use Rattle.sq_top.specs.Due.{Due}
 use Rattle.sq_top.specs.Answers.{AreOthersAll, AreOthersWhole, BeginsNext, IsClassIn, IsPrefixText, IsWholeText, is_classed, class_lines}
 use Rattle.sq_replay.specs.Shown.{lines_text}
-use Rattle.sq_top.proofs.ClassLemmas.{AreAlike, IsDueLine, TellsClasses, alike, all_append, all_middle, is_end, is_ended, lines_due, not_ended, plain_class}
-use Rattle.sq_top.proofs.SortedLines.{slice_get-next}
+use Rattle.sq_top.proofs.ClassLemmas.{AreAlike, IsDueLine, TellsClasses, alike, all_middle, is_end, is_ended, lines_due, not_ended, plain_class}
 use Rattle.sq_top.proofs.OrderWords.{IsNextOf, EachIsNext, IsLineOrder, AreAll}
+use Rattle.sq_words.proofs.Alls.{all_append}
+use Rattle.sq_words.proofs.Lists.{get_next}
 
 filter_one : (p : List ℕ → Bool) (t : Bool) (ls : List (List ℕ)) (l : List ℕ) → p l ≡ t → filter p (ls ++ l ∷ []) ≡ filter p ls ++ (if t then l ∷ [] else [])
 filter_one p true ls l e = filter-append p ls (l ∷ []) ∙ rw e refl
@@ -212,7 +213,7 @@ module _ (d : Due) (s : TellsClasses d) (ls : List (List ℕ)) (order : IsLineOr
         let prefix = next.1.1 in
         ap (λ xs. slice_get xs (length (of_class next.0 text))) (prefix.1 ∙ append_assoc (filter p cut.done) (f.next ∷ []) prefix.0)
         ∙ ap (λ xs. slice_get (filter p cut.done ++ (f.next ∷ prefix.0)) (length xs)) (class_is next.0)
-        ∙ slice_get-next (filter p cut.done) f.next prefix.0
+        ∙ get_next (filter p cut.done) f.next prefix.0
 
     begins_next : BeginsNext d text next.0
     begins_next = (next.1.0, subst (λ o. IsSomeAnd o (λ x. IsPrefixOf (unfinished text) x)) (sym next_line) begins)

@@ -43,10 +43,10 @@ use Rattle.sq_top.specs.declared.Status.TheVariants as status
 use Rattle.sq_top.specs.Scripts.{Done, AcceptedReplay, Script, Stops, after_query, after_stream, after_streams, after_tap, after_tapped, after_words, tap_script, tap_unread, with_sources}
 use Rattle.sq_top.specs.Taps.{Tapped, first_tick, tapped}
 use Rattle.sq_top.proofs.JoinLemmas.{kept_at, kept_few, kept_kinds_of, kept_one, tapped_sound}
-use Rattle.sq_top.proofs.SortedLines.{and-true}
 use Rattle.sq_top.proofs.SourceLemmas.{sources_within, streams_more, text_is_recorded}
 use Rattle.sq_plan.proofs.ShownWords.{taken_after}
 use Rattle.sq_top.proofs.DueWords.{shown_at_output, dropped_from}
+use Rattle.sq_words.proofs.Bools.{and_true}
 
 none_passes : {X : Type 0} (p : X → Bool) (xs : List X) → ((x : X) → p x ≡ false) → filter p xs ≡ []
 none_passes p [] none = refl
@@ -170,7 +170,7 @@ module _ (told : Option Files) (r : AcceptedReplay) where
   streams_read [] p (s ∷ left) within h goes = absurd (cc)
   streams_read (given ∷ read) p [] within h goes = absurd goes
   streams_read (given ∷ read) p (s ∷ left) within h goes =
-      let both = and-true (source_within s) (list_all source_within left) within in
+      let both = and_true (source_within s) (list_all source_within left) within in
       stream_read s given.1 (length p.sources) (λ xs. after_streams (with_sources p (p.sources ++ xs ∷ [])) left) read (AreStreamsOf p r) (stream_in s.schema given.1) refl
       (λ xs said goes'. by (streams_read read (with_sources p (p.sources ++ xs ∷ [])) left both.1 (streams_more p.sources xs h (text_is_recorded s given.1 xs both.0 said).stream) goes')) goes.2
     where

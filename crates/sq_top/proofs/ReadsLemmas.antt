@@ -2,7 +2,6 @@
 use Rattle.std.proofs.Common.{◌≡◌, ℕ, true, false, List, [], ◌∷◌, ◌++◌, length, refl, ap, sym, ◌∙◌, subst, append_assoc, append-nil, Option, None, Some}
 use Rattle.std.specs.Prelude.{Result, Ok, Err, Bool, ◌||◌}
 use Rattle.sq_value.specs.declared.Tuple.{Tuple}
-use Rattle.sq_value.proofs.ListLemmas.{same_bytes-refl}
 use Rattle.sq_outside.specs.Folders.{Files}
 use Rattle.sq_net.specs.declared.NetErr.{NetErr}
 use Rattle.sq_net.specs.declared.Network.{Network}
@@ -31,6 +30,8 @@ use Rattle.sq_top.specs.Reads.{GoesBy, IsFileRead, ScriptLeads, LeadsWith, netwo
 use Rattle.sq_top.specs.Causes.{is_plain_end}
 use Rattle.sq_top.proofs.JoinLemmas.{tapped_sound}
 use Rattle.sq_top.specs.Told.{FilePart, NetworkFile, CapacityFile, PicksFile, StreamFile, TextFile, is_named_file, limit_of, may_be}
+use Rattle.std.proofs.lemmas.Bool.{or_right, or_left}
+use Rattle.sq_words.proofs.Lists.{same_bytes_itself}
 
 pub goes_then : (told : Option Files) (read more : List (List ℕ × List ℕ)) (a b c : Script) → GoesBy told read a b → GoesBy told more b c → GoesBy told (read ++ more) a c
 goes_then told [] more a b c ab bc = subst (λ x. GoesBy told more x c) (sym ab) bc
@@ -143,7 +144,7 @@ module _ (args : RunArgs) (n : Network) (f : IsSound n) where
   asked = Some (command.Run args)
 
   named_self : (o : Option (List ℕ)) (name : List ℕ) → o ≡ Some name → is_named_file o name ≡ true
-  named_self o name is = subst (λ x. is_named_file x name ≡ true) (sym is) (same_bytes-refl name)
+  named_self o name is = subst (λ x. is_named_file x name ≡ true) (sym is) (same_bytes_itself name)
 
   picks_hold : (entries : Entries) (o : Result (List ℕ) ℕ) → HoldsFor asked (after_picks args n entries o)
   picks_hold entries (Ok picks) = streams_hold asked refl (unread args n entries picks) n.sources f
@@ -195,18 +196,9 @@ module _ (net text : List ℕ) where
 
   audit_holds : HoldsFor audited (audit_script net text)
   audit_holds = holds_then (λ r. IsSound r.network) (IsRuleOf audited) (IsPartOf audited) (text_script text)
-      (λ r sound. ((TextFile, same_bytes-refl text, refl), λ bytes. sound)) (run_script (plain_args net))
-      ((NetworkFile, same_bytes-refl net, refl), λ bytes. plain_holds bytes (network_in bytes) refl)
+      (λ r sound. ((TextFile, same_bytes_itself text, refl), λ bytes. sound)) (run_script (plain_args net))
+      ((NetworkFile, same_bytes_itself net, refl), λ bytes. plain_holds bytes (network_in bytes) refl)
 
-or_first : (a b : Bool) → a ≡ true → (a || b) ≡ true
-or_first true b h = refl
-or_first false b h = absurd (cc)
-
-or_later : (a b : Bool) → b ≡ true → (a || b) ≡ true
-or_later true b h = refl
-or_later false b h = h
-
--- a tap reads two networks, and the sources last
 module _ (net stream : List ℕ) (tick history : ℕ) (query : List ℕ) where
   abbrev joining : Option Command
   joining = Some (command.Tap net stream tick history query)
@@ -225,20 +217,20 @@ module _ (net stream : List ℕ) (tick history : ℕ) (query : List ℕ) where
 
   named_holds : (bytes : List ℕ) (o : Result Network NetErr) → network_in bytes ≡ o → HoldsFor joining (after_tapped stream from query o)
   named_holds bytes (Ok n) said = (
-    (NetworkFile, or_later (same_bytes net query) (same_bytes query query) (same_bytes-refl query), refl),
+    (NetworkFile, or_right (same_bytes net query) (same_bytes query query) (same_bytes_itself query), refl),
     λ more. query_holds n (network_sound bytes n said) more (network_in more) refl,
   )
   named_holds bytes (Err e) said = (refl, λ plain. refl)
 
   tap_holds : HoldsFor joining (tap_script net stream from query)
   tap_holds = (
-    (NetworkFile, or_first (same_bytes net net) (same_bytes query net) (same_bytes-refl net), refl),
+    (NetworkFile, or_left (same_bytes net net) (same_bytes query net) (same_bytes_itself net), refl),
     λ bytes. named_holds bytes (network_in bytes) refl,
   )
 
 command_holds : (c : Option Command) → HoldsFor c (after_words c)
 command_holds None = (refl, λ plain. refl)
-command_holds (Some (command.Run args)) = ((NetworkFile, same_bytes-refl args.net, refl), λ bytes. network_holds args bytes (network_in bytes) refl)
+command_holds (Some (command.Run args)) = ((NetworkFile, same_bytes_itself args.net, refl), λ bytes. network_holds args bytes (network_in bytes) refl)
 command_holds (Some (command.Gen number rows)) = made_holds (Some (command.Gen number rows)) refl number (made_of number rows) (network_in (made_of number rows).net) refl
 command_holds (Some (command.Audit net text)) = audit_holds net text
 command_holds (Some (command.Tap net stream tick history query)) = tap_holds net stream tick history query

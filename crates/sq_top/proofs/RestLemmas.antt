@@ -3,7 +3,7 @@
 use Rattle.std.proofs.Common.{◌≡◌, ◌≢◌, ℕ, zero, suc, ◌<◌, ◌≤◌, ◌^◌, Bool, true, false, List, [], ◌∷◌, ◌++◌, length, drop, refl, ap, ap₂, sym, ◌∙◌, arith, append_assoc, append-nil}
 use Rattle.std.specs.Prelude.{◌==◌, map}
 use Rattle.std.specs.List.{AllByRecursion}
-use Rattle.std.proofs.lemmas.Bool.{eq-eqb, eqb-true, eqb-false}
+use Rattle.std.proofs.lemmas.Bool.{eq-eqb, eqb-true, eqb-false, false_from_ne_true}
 use Rattle.std.proofs.lemmas.Grind.{flat_map-append}
 use Rattle.std.proofs.Math.Seq.{drop-append_seam}
 use Rattle.sq_value.specs.declared.Tuple.{Tuple}
@@ -16,41 +16,31 @@ use Rattle.sq_oper.specs.declared.outs.Decision.{Decision}
 use Rattle.sq_oper.specs.declared.outs.Event.TheVariants.{Line, Dropped as Decided, Plan}
 use Rattle.sq_plan.specs.declared.closing.Shown.{Shown as ShownPlan}
 use Rattle.sq_replay.specs.Shown.{event_line, lines_text}
-use Rattle.sq_flow.specs.Events.{drop_in, drops_of, line_in, lines_of}
-use Rattle.sq_flow.specs.Plans.{plan_in, plans_of}
+use Rattle.sq_flow.specs.Events.{drops_of, lines_of}
+use Rattle.sq_flow.specs.Plans.{plans_of}
 use Rattle.sq_points.specs.Points.{drops_in}
 use Rattle.sq_top.specs.Due.{Answer}
 use Rattle.sq_top.specs.Answers.{IsPrefixText}
 use Rattle.sq_top.specs.Driving.{BeginsAnswer, Completes, IsEventAt, history_text}
-use Rattle.sq_top.proofs.ClassLemmas.{IsLineOf, all_append, not_true}
+use Rattle.sq_top.proofs.ClassLemmas.{IsLineOf}
 use Rattle.sq_top.proofs.HistoryLemmas.{beginning_of_history, drop_kept, drop_left, line_kept, line_left}
 use Rattle.sq_top.proofs.DueWords.{due_from}
+use Rattle.sq_flow.proofs.EventLemmas.{lines-append, plans-append, drops-append}
+use Rattle.sq_words.proofs.Alls.{all_append}
 
 -- a way to read a history, event by event
 record Reads {X : Type 0} (read : List Event → List X) : Type 0 where
   none : read [] ≡ []
   joined : (xs ys : List Event) → read (xs ++ ys) ≡ read xs ++ read ys
 
-lines_joined : (o : ℕ) (xs ys : List Event) → lines_of o (xs ++ ys) ≡ lines_of o xs ++ lines_of o ys
-lines_joined o [] ys = refl
-lines_joined o (x ∷ xs) ys = ap (λ ts. line_in o x ++ ts) (lines_joined o xs ys) ∙ sym (append_assoc (line_in o x) (lines_of o xs) (lines_of o ys))
-
-drops_joined : (w : ℕ) (xs ys : List Event) → drops_of w (xs ++ ys) ≡ drops_of w xs ++ drops_of w ys
-drops_joined w [] ys = refl
-drops_joined w (x ∷ xs) ys = ap (λ ds. drop_in w x ++ ds) (drops_joined w xs ys) ∙ sym (append_assoc (drop_in w x) (drops_of w xs) (drops_of w ys))
-
-plans_joined : (xs ys : List Event) → plans_of (xs ++ ys) ≡ plans_of xs ++ plans_of ys
-plans_joined [] ys = refl
-plans_joined (x ∷ xs) ys = ap (λ ps. plan_in x ++ ps) (plans_joined xs ys) ∙ sym (append_assoc (plan_in x) (plans_of xs) (plans_of ys))
-
 reads_lines : (o : ℕ) → Reads (lines_of o)
-reads_lines o = record { none = refl; joined = lines_joined o }
+reads_lines o = record { none = refl; joined = lines-append o }
 
 reads_drops : (w : ℕ) → Reads (drops_of w)
-reads_drops w = record { none = refl; joined = drops_joined w }
+reads_drops w = record { none = refl; joined = drops-append w }
 
 reads_plans : Reads plans_of
-reads_plans = record { none = refl; joined = plans_joined }
+reads_plans = record { none = refl; joined = plans-append }
 
 -- events part by part, those of part 0 first
 module _ (part : ℕ → List Event) where
@@ -91,7 +81,7 @@ lines_own o (t ∷ ts) = line_kept o o t (map (Line o) ts) (eq-eqb o o refl) ∙
 
 lines_other : (o p : ℕ) (ts : List Tuple) → p ≢ o → lines_of o (map (Line p) ts) ≡ []
 lines_other o p [] differ = refl
-lines_other o p (t ∷ ts) differ = line_left p o t (map (Line p) ts) (not_true (p == o) (λ h. differ (eqb-true p o h))) ∙ lines_other o p ts differ
+lines_other o p (t ∷ ts) differ = line_left p o t (map (Line p) ts) (false_from_ne_true (p == o) (λ h. differ (eqb-true p o h))) ∙ lines_other o p ts differ
 
 lines_of_drops : (o : ℕ) (ds : List Decision) → lines_of o (map Decided ds) ≡ []
 lines_of_drops o [] = refl
@@ -116,7 +106,7 @@ drops_own w (d ∷ ds) all = drop_kept w d (map Decided ds) (eq-eqb d.drop w all
 drops_other : (w v : ℕ) (ds : List Decision) → AllByRecursion (λ d. d.drop ≡ v) ds → v ≢ w → drops_of w (map Decided ds) ≡ []
 drops_other w v [] all differ = refl
 drops_other w v (d ∷ ds) all differ =
-    drop_left w d (map Decided ds) (not_true (d.drop == w) (λ h. differ (sym all.0 ∙ eqb-true d.drop w h))) ∙ drops_other w v ds all.1 differ
+    drop_left w d (map Decided ds) (false_from_ne_true (d.drop == w) (λ h. differ (sym all.0 ∙ eqb-true d.drop w h))) ∙ drops_other w v ds all.1 differ
 
 abbrev plan_event : ShownPlan → Event
 plan_event p = Plan p.epoch p.load p.capacity p.saved p.fits
@@ -228,9 +218,9 @@ module _ (n : Network) (a : Answer) (own : (w : ℕ) → AllByRecursion (λ d. d
 
   made_whole : BeginsAnswer n a history → Completes n a (history ++ still)
   made_whole begins = record {
-    lines = λ o low. lines_joined o history still ∙ ap (λ xs. lines_of o history ++ xs) (still_lines o low) ∙ rest_is (lines_of o history) (a.tuples o) (begins.lines o low);
-    drops = λ w low. drops_joined w history still ∙ ap (λ xs. drops_of w history ++ xs) (still_drops w low) ∙ rest_is (drops_of w history) (a.decisions w) (begins.drops w low);
-    plans = plans_joined history still ∙ ap (λ xs. plans_of history ++ xs) still_plans ∙ rest_is (plans_of history) a.plans begins.plans;
+    lines = λ o low. lines-append o history still ∙ ap (λ xs. lines_of o history ++ xs) (still_lines o low) ∙ rest_is (lines_of o history) (a.tuples o) (begins.lines o low);
+    drops = λ w low. drops-append w history still ∙ ap (λ xs. drops_of w history ++ xs) (still_drops w low) ∙ rest_is (drops_of w history) (a.decisions w) (begins.drops w low);
+    plans = plans-append history still ∙ ap (λ xs. plans_of history ++ xs) still_plans ∙ rest_is (plans_of history) a.plans begins.plans;
   }
 
   -- where the first of an answer was shown, each beginning of the text is one of a whole text

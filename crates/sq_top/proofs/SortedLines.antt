@@ -1,7 +1,9 @@
 -- Lists of lines, sorted out by a test.
-use Rattle.std.proofs.Common.{◌≡◌, ◌⊎◌, inl, inr, Bool, true, false, ◌&&◌, List, [], ◌∷◌, ◌++◌, length, refl, ap, sym, ◌∙◌, Some}
-use Rattle.std.specs.Prelude.{if◌then◌else◌, slice_get}
+use Rattle.std.proofs.Common.{◌≡◌, ◌⊎◌, inl, inr, Bool, true, false, ◌&&◌, List, [], ◌∷◌, ◌++◌, refl, ap, sym, ◌∙◌}
+use Rattle.std.specs.Prelude.{if◌then◌else◌}
 use Rattle.std.specs.List.{AllByRecursion, filter, list_all}
+use Rattle.sq_words.proofs.Bools.{and_true}
+use Rattle.sq_words.proofs.Lists.{cons_parts}
 
 -- a test that answers t for each element keeps all or none
 pub filter_same : {X : Type 0} (p : X → Bool) (t : Bool) (xs : List X) → AllByRecursion (λ x. p x ≡ t) xs → filter p xs ≡ (if t then xs else [])
@@ -10,22 +12,9 @@ filter_same p false [] all = refl
 filter_same p true (x ∷ xs) all = rw (all.0, filter_same p true xs all.1) refl
 filter_same p false (x ∷ xs) all = rw (all.0, filter_same p false xs all.1) refl
 
--- the element after those that pass in a front
-pub slice_get-next : {X : Type 0} (xs : List X) (x : X) (ys : List X) → slice_get (xs ++ (x ∷ ys)) (length xs) ≡ Some x
-slice_get-next [] x ys = refl
-slice_get-next (z ∷ xs) x ys = slice_get-next xs x ys
-
-pub and-true : (a b : Bool) → (a && b) ≡ true → (a ≡ true) × (b ≡ true)
-and-true true b h = (refl, h)
-and-true false b h = cc
-
 pub list_all-back : {X : Type 0} (p : X → Bool) (xs ys : List X) → list_all p (xs ++ ys) ≡ true → list_all p ys ≡ true
 list_all-back p [] ys h = h
-list_all-back p (x ∷ xs) ys h = list_all-back p xs ys (and-true (p x) (list_all p (xs ++ ys)) h).1
-
-pub list_all-front : {X : Type 0} (p : X → Bool) (xs ys : List X) → list_all p (xs ++ ys) ≡ true → list_all p xs ≡ true
-list_all-front p [] ys h = refl
-list_all-front p (x ∷ xs) ys h = let both = and-true (p x) (list_all p (xs ++ ys)) h in rw (both.0, list_all-front p xs ys both.1) refl
+list_all-back p (x ∷ xs) ys h = list_all-back p xs ys (and_true (p x) (list_all p (xs ++ ys)) h).1
 
 -- two ways to cut one list: the second cut lies in the back part or in the front part
 pub record InBack {X : Type 0} (front back done rest : List X) : Type 0 where
@@ -39,9 +28,6 @@ pub record InFront {X : Type 0} (front back done rest : List X) : Type 0 where
   pub front_is : front ≡ done ++ (next ∷ more)
   pub rest_is : rest ≡ next ∷ (more ++ back)
 
-cons_both : {X : Type 0} (x y : X) (xs ys : List X) → x ∷ xs ≡ y ∷ ys → (x ≡ y) × (xs ≡ ys)
-cons_both x y xs ys e = (cc, cc)
-
 cut_after : {X : Type 0} (x y : X) (front back done rest : List X) → x ≡ y → InBack front back done rest ⊎ InFront front back done rest
     → InBack (x ∷ front) back (y ∷ done) rest ⊎ InFront (x ∷ front) back (y ∷ done) rest
 cut_after x y front back done rest same (inl b) = inl (record { more = b.more; done_is = ap (λ l. y ∷ l) b.done_is ∙ ap (λ z. z ∷ (front ++ b.more)) (sym same); back_is = b.back_is })
@@ -52,4 +38,4 @@ pub cut_twice : {X : Type 0} (front back done rest : List X) → front ++ back �
 cut_twice [] back done rest e = inl (record { more = done; done_is = refl; back_is = e })
 cut_twice (x ∷ front) back [] rest e = inr (record { next = x; more = front; front_is = refl; rest_is = sym e })
 cut_twice (x ∷ front) back (y ∷ done) rest e =
-    let same = cons_both x y (front ++ back) (done ++ rest) e in cut_after x y front back done rest same.0 (cut_twice front back done rest same.1)
+    let same = cons_parts x y (front ++ back) (done ++ rest) e in cut_after x y front back done rest same.0 (cut_twice front back done rest same.1)

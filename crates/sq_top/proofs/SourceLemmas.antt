@@ -15,19 +15,19 @@ use Rattle.sq_replay.specs.Laws.{ReadsStreams}
 use Rattle.sq_replay.specs.Streams.{stream_in}
 use Rattle.sq_replay.proofs.FitLemmas.{streams_fit}
 use Rattle.sq_top.specs.Recorded.{AreRecorded}
-use Rattle.sq_top.proofs.SortedLines.{and-true}
 use Rattle.sq_words.specs.Lists.{nth}
+use Rattle.sq_words.proofs.Bools.{and_true}
 
 between : (low high k : ℕ) → is_between low high k ≡ true → (low ≤ k) × (k ≤ high)
 between low high k h = (grind (arith, nat_tests), grind (arith, nat_tests))
 
 pub text_is_recorded : (s : Source) (bytes : List ℕ) (xs : List Tuple) → source_within s ≡ true → stream_in s.schema bytes ≡ Ok xs → ReadsStreams s.schema xs
 text_is_recorded s bytes xs within read =
-    let few = between 1 16 (length s.schema) (and-true (is_between 1 255 (length s.file)) (is_between 1 16 (length s.schema)) within).1 in
+    let few = between 1 16 (length s.schema) (and_true (is_between 1 255 (length s.file)) (is_between 1 16 (length s.schema)) within).1 in
     streams_fit s.schema bytes xs few.0 few.1 read
 
 pub sources_within : (n : Network) → network_within n ≡ true → list_all source_within n.sources ≡ true
-sources_within n h = (and-true _ _ (and-true _ _ (and-true _ _ (and-true _ _ h).0).0).0).1
+sources_within n h = (and_true _ _ (and_true _ _ (and_true _ _ (and_true _ _ h).0).0).0).1
 
 -- one stream more
 pub streams_more : (xss : List (List Tuple)) (xs : List Tuple) → AllByRecursion IsStream xss → IsStream xs → AllByRecursion IsStream (xss ++ xs ∷ [])
@@ -78,7 +78,7 @@ recorded_tuples (s ∷ ss) (xs ∷ xss) all = (sound_tuples xs all.0.tuples, rec
 each_fits : (cs : Columns) (xs : List Tuple) → list_all (λ x. fields_fit cs x.fields) xs ≡ true → AllByRecursion (λ (x : Tuple). fields_fit cs x.fields ≡ true) xs
 each_fits cs [] all = tt
 each_fits cs (x ∷ xs) all =
-    let both = and-true (fields_fit cs x.fields) (list_all (λ y. fields_fit cs y.fields) xs) all in (both.0, each_fits cs xs both.1)
+    let both = and_true (fields_fit cs x.fields) (list_all (λ y. fields_fit cs y.fields) xs) all in (both.0, each_fits cs xs both.1)
 
 fit_at : (ss : List Source) (xss : List (List Tuple)) → AreRecorded ss xss → (i : ℕ) (s : Source) → slice_get ss i ≡ Some s → FitsOption (Some s.schema) (nth xss i)
 fit_at [] xss all i s at = absurd (cc)

@@ -31,8 +31,8 @@ use Rattle.sq_top.specs.Scripts.{Script, Reads, Done, Stops, AcceptedReplay, aft
 use Rattle.sq_top.specs.Reads.{AreBytesOf, GoesBy, IsFileRead, ScriptLeads, LeadsWith, network_read}
 use Rattle.sq_top.specs.Causes.{AreCapacitiesOf, ArePicksOf, HasNoCapacities, HasNoPicks, HasNoStream, HasNoStreams, IsNetworkFile, IsRefusedAt, IsRefusedBy, IsRule, IsStopped, IsStreamOf, IsUnread, NamesSource, hides_memory, is_refusal}
 use Rattle.sq_top.proofs.ReadsLemmas.{leads_read, leads_still, leads_then, none_given, with_then, words_lead}
-use Rattle.sq_top.proofs.SortedLines.{and-true}
 use Rattle.sq_reader.specs.Limits.{settings_limit}
+use Rattle.sq_words.proofs.Bools.{and_true}
 
 pub some_none : (o : Option Command) → IsSome o → o ≡ None → ⊥
 some_none None some e = absurd (cc)
@@ -253,7 +253,7 @@ module _ (words : List (List ℕ)) (args : RunArgs) (command : command_in words 
 -- the sources of a sound network are few
 pub few_sources : (n : Network) → IsSound n → length n.sources ≤ 8
 few_sources n sound =
-    at_most (length n.sources) (and-true _ _ (and-true _ _ (and-true _ _ (and-true _ _ (and-true _ _ (and-true _ _ (and-true _ _ (and-true _ _ sound.within).0).0).0).0).0).0).0).0
+    at_most (length n.sources) (and_true _ _ (and_true _ _ (and_true _ _ (and_true _ _ (and_true _ _ (and_true _ _ (and_true _ _ (and_true _ _ sound.within).0).0).0).0).0).0).0).0
   where
     at_most : (k : ℕ) → is_between 1 8 k ≡ true → k ≤ 8
     at_most k h = grind (arith, nat_tests)

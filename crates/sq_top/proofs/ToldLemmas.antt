@@ -4,7 +4,6 @@ use Rattle.std.specs.Prelude.{⊤, nat_lt, IsSome, IsSomeAnd, Result, Ok, Err}
 use Rattle.std.specs.Option.{option_and_then}
 use Rattle.std.proofs.lemmas.Bool.Decides.{nat_tests}
 use Rattle.sq_words.specs.Lists.{contains_bytes, same_bytes}
-use Rattle.sq_value.proofs.ListLemmas.{same_bytes-refl}
 use Rattle.sq_outside.specs.Faults.{Rose, RoseBy}
 use Rattle.sq_outside.specs.Folders.{Files, file}
 use Rattle.sq_reader.specs.Networks.{network_in}
@@ -28,6 +27,8 @@ use Rattle.sq_top.proofs.ReadsLemmas.{Holds, HoldsFor, IsPartOf, IsRuleOf, is_ru
 use Rattle.sq_top.proofs.StopLemmas.{stop_map}
 use Rattle.sq_reader.specs.Limits.{settings_limit}
 use Rattle.sq_outside.specs.Sinks.{AppendsSuch}
+use Rattle.std.proofs.lemmas.Bool.{or_right}
+use Rattle.sq_words.proofs.Lists.{same_bytes_itself}
 
 readable-none : (name : List ℕ) (limit : ℕ) (o : Option (List ℕ)) → o ≡ None → readable name limit o ≡ Err (status.FolderFault name)
 readable-none name limit o e = rw e refl
@@ -47,10 +48,6 @@ readable-ok name limit (Some found) bytes e = within (nat_lt limit (length found
     within true long h = let h' = rw long at h in cc
     within false short h = let h' = rw short at h in cc
 
-or_later : (a b : Bool) → b ≡ true → (a || b) ≡ true
-or_later true b h = refl
-or_later false b h = h
-
 -- over these files a script comes to the same as what is left of it, and reads each file that that reads
 record Agrees (files : Lookup) (from to : Script) : Type 0 where
   outcome : outcome_of files from ≡ outcome_of files to
@@ -62,7 +59,7 @@ goes_agrees files (given ∷ read) (Reads name limit more) to goes =
     let rest = goes_agrees files read (more given.1) to goes.2 in
     record {
       outcome = rw goes.1.1 rest.outcome;
-      reads = λ other h. or_later (same_bytes other name) _ (rw goes.1.1 (rest.reads other h));
+      reads = λ other h. or_right (same_bytes other name) _ (rw goes.1.1 (rest.reads other h));
     }
 goes_agrees files (given ∷ read) (Done r) to goes = absurd goes
 goes_agrees files (given ∷ read) (Stops s) to goes = absurd goes
@@ -137,7 +134,7 @@ is_fault : (a b : List ℕ) → status.FolderFault a ≡ status.FolderFault b �
 is_fault a b e = cc
 
 contains_first : (a b : List ℕ) (more : List (List ℕ)) → a ≡ b → contains_bytes b (a ∷ more) ≡ true
-contains_first a b more e = let same : same_bytes b a ≡ true = subst (λ x. same_bytes b x ≡ true) (sym e) (same_bytes-refl b) in rw same refl
+contains_first a b more e = let same : same_bytes b a ≡ true = subst (λ x. same_bytes b x ≡ true) (sym e) (same_bytes_itself b) in rw same refl
 
 module _ (files : Files) (words : List (List ℕ)) (w : Outside) (result : Status) (source : List ℕ) (told : looked_at (command_in words) w.told ≡ Some files) (h : Ends words w result source) where
   goes : GoesBy (Some files) h.read (script_of words) h.left

@@ -10,13 +10,13 @@ use Rattle.sq_top.specs.declared.RunArgs.{RunArgs}
 use Rattle.sq_top.specs.declared.Command.{Command}
 use Rattle.sq_top.specs.declared.Command.TheVariants as command
 use Rattle.sq_top.specs.Commands.{Given, args_of, audit_args, command_in, gen_args, given_from, is_known_option, known_args, lone, number_or, number_within, rule_of, run_args, tap_args, tick_in, option_values}
-use Rattle.sq_top.proofs.SortedLines.{and-true}
 use Rattle.sq_value.specs.CommandWords.{Word, may_name}
+use Rattle.sq_words.proofs.Bools.{and_true}
 
 within_least : (t : Bool) (low high : ℕ) (w : Word) (k : ℕ) → (are_digits 20 w && (nat_le low (number_in w) && nat_le (number_in w) high)) ≡ t → number_within low high w ≡ Some k → low ≤ k
 within_least true low high w k e h =
     let is : number_in w ≡ k = let both : Some (number_in w) ≡ Some k = rw e at h in cc in
-    let least = (and-true (nat_le low (number_in w)) (nat_le (number_in w) high) (and-true (are_digits 20 w) (nat_le low (number_in w) && nat_le (number_in w) high) e).1).0 in
+    let least = (and_true (nat_le low (number_in w)) (nat_le (number_in w) high) (and_true (are_digits 20 w) (nat_le low (number_in w) && nat_le (number_in w) high) e).1).0 in
     subst (λ m. low ≤ m) is (grind (arith, nat_tests))
 within_least false low high w k e h = let both : ◌≡◌ {A = Option ℕ} None (Some k) = rw e at h in cc
 
@@ -75,7 +75,7 @@ of_gen f (Some x) all = all x refl
 within_most : (t : Bool) (low high : ℕ) (w : Word) (k : ℕ) → (are_digits 20 w && (nat_le low (number_in w) && nat_le (number_in w) high)) ≡ t → number_within low high w ≡ Some k → k ≤ high
 within_most true low high w k e h =
     let is : number_in w ≡ k = let both : Some (number_in w) ≡ Some k = rw e at h in cc in
-    let most = (and-true (nat_le low (number_in w)) (nat_le (number_in w) high) (and-true (are_digits 20 w) (nat_le low (number_in w) && nat_le (number_in w) high) e).1).1 in
+    let most = (and_true (nat_le low (number_in w)) (nat_le (number_in w) high) (and_true (are_digits 20 w) (nat_le low (number_in w) && nat_le (number_in w) high) e).1).1 in
     subst (λ m. m ≤ high) is (grind (arith, nat_tests))
 within_most false low high w k e h = let both : ◌≡◌ {A = Option ℕ} None (Some k) = rw e at h in cc
 
@@ -92,7 +92,7 @@ gen_within (number ∷ rows ∷ []) =
 gen_within (number ∷ rows ∷ w ∷ ws) = tt
 
 audit_by : (t : Bool) (net text : Word) → (may_name net && may_name text) ≡ t → IsWithin (audit_args (net ∷ text ∷ []))
-audit_by true net text e = rw e ((and-true (may_name net) (may_name text) e).0)
+audit_by true net text e = rw e ((and_true (may_name net) (may_name text) e).0)
 audit_by false net text e = rw e tt
 
 audit_within : (ws : List Word) → IsWithin (audit_args ws)
@@ -107,7 +107,7 @@ tick_low w t h = by (are_digits 13 w && nat_lt (number_in w) (2 ^ 40)) refl h
     by : (b : Bool) → (are_digits 13 w && nat_lt (number_in w) (2 ^ 40)) ≡ b → tick_in w ≡ Some t → t < 2 ^ 40
     by true e h' =
         let is : number_in w ≡ t = let both : Some (number_in w) ≡ Some t = rw e at h' in cc in
-        let low = (and-true (are_digits 13 w) (nat_lt (number_in w) (2 ^ 40)) e).1 in
+        let low = (and_true (are_digits 13 w) (nat_lt (number_in w) (2 ^ 40)) e).1 in
         subst (λ k. k < 2 ^ 40) is (grind (arith, nat_tests))
     by false e h' = let both : ◌≡◌ {A = Option ℕ} None (Some t) = rw e at h' in cc
 

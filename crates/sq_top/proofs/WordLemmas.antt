@@ -12,6 +12,7 @@ use Rattle.sq_value.specs.Texts.{are_digits, is_digit, number_in, read_number}
 use Rattle.sq_value.proofs.ReadBack.{own}
 use Rattle.sq_top.specs.Commands.{Bad, Plain, Whole, Opens, Given, dashed_piece, given_from, named_piece, piece_of}
 use Rattle.sq_value.specs.CommandWords.{Word, is_equals}
+use Rattle.sq_words.proofs.Lists.{none_first}
 
 -- a byte that begins no word with a dash
 no_dash : (b : ℕ) (bs : Word) → ((rest : Word) → b ∷ bs ≢ 45 ∷ rest) → (b == 45) ≡ false
@@ -27,14 +28,6 @@ plain_piece (b ∷ bs) some none = rw (no_dash b bs none) refl
 pub bad_piece : (w : Word) → ((rest : Word) → w ≢ 45 ∷ rest) → Bad ≡ dashed_piece w
 bad_piece [] none = refl
 bad_piece (b ∷ bs) none = rw (no_dash b bs none) refl
-
--- where no element passes none is first
-none_first : {X : Type 0} (p : X → Bool) (xs : List X) → position_or_len p xs ≡ length xs → list_any p xs ≡ false
-none_first p [] e = refl
-none_first p (x ∷ xs) e = elim (cases_Bool (p x)) [
-  | inl passes ↦ let zero : 0 ≡ length (x ∷ xs) = rw passes at e in absurd (omega (arith, zero))
-  | inr fails ↦ let more : 1 + position_or_len p xs ≡ length (x ∷ xs) = rw fails at e in rw (fails, none_first p xs (omega (arith, more))) refl
-]
 
 pub opens_piece : (w : Word) → position_or_len is_equals w ≡ length w → Opens w ≡ named_piece w
 opens_piece w e = rw (none_first is_equals w e) refl

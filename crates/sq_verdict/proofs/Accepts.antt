@@ -2,7 +2,7 @@
 use Rattle.std.proofs.Common.{◌≡◌, ◌⊎◌, inl, inr, ℕ, zero, suc, ◌+◌, ◌<◌, Bool, true, false, not, ◌&&◌, ◌||◌, ◌==◌, List, [], ◌∷◌, ◌++◌, length, refl, ap, sym, ◌∙◌, subst, arith, append_assoc, append-nil, Option, Some, None}
 use Rattle.std.specs.Prelude.{slice_get, codes, map, nat_lt, nat_le}
 use Rattle.std.specs.List.{filter, find, flat_map, list_all, list_any, range_with_len}
-use Rattle.std.proofs.lemmas.Bool.{cases_Bool, and_parts, not-true, or_parts}
+use Rattle.std.proofs.lemmas.Bool.{cases_Bool, and_parts, not-true, or_parts, false_from_ne_true}
 use Rattle.std.proofs.lemmas.Bool.Decides.{nat_tests}
 use Rattle.std.proofs.lemmas.List.Folds.{list_all-append}
 use Rattle.sq_words.specs.Lists.{same_bytes, contains_bytes, are_distinct, numbers_to, max_by}
@@ -10,17 +10,14 @@ use Rattle.sq_value.specs.LineTexts.{end_line}
 use Rattle.std.specs.Fmt.{decimal}
 use Rattle.std.proofs.lemmas.Option.{same_Some}
 use Rattle.sq_value.specs.Classes.{Class, Shown, Dropped, Planned, Ended, first_field, second_field, is_of_class, of_class, whole_lines, unfinished}
-use Rattle.sq_value.proofs.ListLemmas.{same_bytes-true, same_bytes-refl}
 use Rattle.sq_verdict.specs.declared.verdict.Verdict.TheVariants as verdict
 use Rattle.sq_verdict.specs.Faults.{Lines, drop_told_in, batch_of, recorded, batch_rises, has_first, is_end, has_word, output_told_in, is_next, is_line_at, count_of, word_fault, class_fault, fault_of, ends_with_end, is_short, verdict_from, verdict_on}
-use Rattle.sq_verdict.proofs.Plain.{not_true}
 use Rattle.sq_verdict.specs.Whole.{Expected, IsWhole, is_expected}
 use Rattle.sq_verdict.proofs.WholeWords.{IsSoundDue}
+use Rattle.sq_words.proofs.Bools.{or_cases}
+use Rattle.sq_words.proofs.Lists.{same_bytes_true, same_bytes_itself, same_bytes_turned, get_next, cons_parts}
 
 -- ---- outputs, of which each name stands once
-
-differs : (a b : List ℕ) → same_bytes a b ≡ false → same_bytes b a ≡ false
-differs a b h = not_true (same_bytes b a) (λ e. let same = same_bytes-true b a e in let yes : same_bytes a b ≡ true = subst (λ x. same_bytes x b ≡ true) same (same_bytes-refl b) in cc)
 
 abbrev names : Lines → List (List ℕ)
 names os = map (λ o. o.0) os
@@ -29,7 +26,7 @@ none_picked : (name : List ℕ) (os : Lines) → contains_bytes name (names os) 
 none_picked name [] h = refl
 none_picked name (o ∷ os) h =
     let parts = or_parts (same_bytes name o.0) (contains_bytes name (names os)) h in
-    rw (differs name o.0 parts.0) (none_picked name os parts.1)
+    rw (same_bytes_turned name o.0 parts.0) (none_picked name os parts.1)
 
 not_contained : (name : List ℕ) (front : Lines) (o : List ℕ × List (List ℕ)) (back : Lines) → contains_bytes name (names (front ++ (o ∷ back))) ≡ false → same_bytes name o.0 ≡ false
 not_contained name [] o back h = (or_parts (same_bytes name o.0) (contains_bytes name (names back)) h).0
@@ -40,7 +37,7 @@ picked_one : (front : Lines) (o : List ℕ × List (List ℕ)) (back : Lines) �
     → filter (λ x. same_bytes x.0 o.0) (front ++ (o ∷ back)) ≡ o ∷ []
 picked_one [] o back h =
     let parts = and_parts (not (contains_bytes o.0 (names back))) (are_distinct (names back)) h in
-    rw (same_bytes-refl o.0) (ap (λ xs. o ∷ xs) (none_picked o.0 back (not-true (contains_bytes o.0 (names back)) parts.0)))
+    rw (same_bytes_itself o.0) (ap (λ xs. o ∷ xs) (none_picked o.0 back (not-true (contains_bytes o.0 (names back)) parts.0)))
 picked_one (x ∷ front) o back h =
     let all = names (front ++ (o ∷ back)) in
     let parts = and_parts (not (contains_bytes x.0 all)) (are_distinct all) h in
@@ -97,22 +94,12 @@ all_at : {X : Type 0} (p : X → Bool) (front : List X) (x : X) (back : List X) 
 all_at p [] x back h = (and_parts (p x) (list_all p back) h).0
 all_at p (y ∷ front) x back h = all_at p front x back (and_parts (p y) (list_all p (front ++ (x ∷ back))) h).1
 
-all_front : {X : Type 0} (p : X → Bool) (front back : List X) → list_all p (front ++ back) ≡ true → list_all p front ≡ true
-all_front p [] back h = refl
-all_front p (y ∷ front) back h = let both = and_parts (p y) (list_all p (front ++ back)) h in rw (both.0, all_front p front back both.1) refl
-
 filter_at : {X : Type 0} (p : X → Bool) (front : List X) (x : X) (back : List X) → p x ≡ true → filter p (front ++ (x ∷ back)) ≡ filter p front ++ (x ∷ filter p back)
 filter_at p [] x back h = rw h refl
 filter_at p (y ∷ front) x back h = elim (cases_Bool (p y)) [
   | inl holds ↦ rw (holds, filter_at p front x back h) refl
   | inr fails ↦ rw (fails, filter_at p front x back h) refl
 ]
-
-slice_get-next : {X : Type 0} (xs : List X) (x : X) (ys : List X) → slice_get (xs ++ (x ∷ ys)) (length xs) ≡ Some x
-slice_get-next [] x ys = refl
-slice_get-next (z ∷ xs) x ys = slice_get-next xs x ys
-
--- ---- what is recorded of a drop
 
 -- a line that records a batch of a drop is of the drop's class
 abbrev pub DropsHaveClass : ℕ → Type 0
@@ -143,24 +130,21 @@ record Stands (before : List (List ℕ)) (l : List ℕ) : Type 0 where
   none : list_all q before ≡ true
   here : (l ≡ end_line) ⊎ (q l ≡ true)
 
-head_same : {X : Type 0} (x y : X) (xs ys : List X) → x ∷ xs ≡ y ∷ ys → (x ≡ y) × (xs ≡ ys)
-head_same x y xs ys e = (cc, cc)
-
 stands : (xs before rest : List (List ℕ)) (l : List ℕ) → list_all q xs ≡ true → xs ++ (end_line ∷ []) ≡ before ++ (l ∷ rest) → Stands before l
-stands [] [] rest l all e = record { none = refl; here = inl (sym (head_same end_line l [] rest e).0) }
+stands [] [] rest l all e = record { none = refl; here = inl (sym (cons_parts end_line l [] rest e).0) }
 stands [] (y ∷ []) rest l all e = cc
 stands [] (y ∷ z ∷ before) rest l all e = cc
 stands (x ∷ xs) [] rest l all e =
-    let same = (head_same x l (xs ++ (end_line ∷ [])) rest e).0 in
+    let same = (cons_parts x l (xs ++ (end_line ∷ [])) rest e).0 in
     record { none = refl; here = inr (subst (λ z. q z ≡ true) same (and_parts (q x) (list_all q xs) all).0) }
 stands (x ∷ xs) (y ∷ before) rest l all e =
-    let same = head_same x y (xs ++ (end_line ∷ [])) (before ++ (l ∷ rest)) e in
+    let same = cons_parts x y (xs ++ (end_line ∷ [])) (before ++ (l ∷ rest)) e in
     let both = and_parts (q x) (list_all q xs) all in
     let more = stands xs before rest l both.1 same.1 in
     record { none = rw (subst (λ z. q z ≡ true) same.0 both.0, more.none) refl; here = more.here }
 
 not_end : (l : List ℕ) → q l ≡ true → is_end l ≡ false
-not_end l h = not_true (is_end l) (λ e. let same = same_bytes-true l end_line e in let no : q end_line ≡ true = subst (λ x. q x ≡ true) same h in cc)
+not_end l h = false_from_ne_true (is_end l) (λ e. let same = same_bytes_true l end_line e in let no : q end_line ≡ true = subst (λ x. q x ≡ true) same h in cc)
 
 none_end : (ls : List (List ℕ)) → list_all q ls ≡ true → list_any is_end ls ≡ false
 none_end [] h = refl
@@ -186,20 +170,8 @@ all_q (l ∷ ls) h = let both = and_parts (not (is_of_class Ended l)) (list_all 
 
 -- ---- the law
 
-or_true-left : (a b : Bool) → a ≡ true → (a || b) ≡ true
-or_true-left true b h = refl
-or_true-left false b h = cc
-
-or_true-right : (a b : Bool) → b ≡ true → (a || b) ≡ true
-or_true-right true b h = refl
-or_true-right false b h = h
-
-or_cases : (a b : Bool) → (a || b) ≡ true → (a ≡ true) ⊎ (b ≡ true)
-or_cases true b h = inl refl
-or_cases false b h = inr h
-
 first_is : (word : List ℕ) (l : List ℕ) → has_first word l ≡ true → first_field l ≡ word
-first_is word l h = same_bytes-true (first_field l) word h
+first_is word l h = same_bytes_true (first_field l) word h
 
 -- a line begins with one word alone
 other_word : (a b l : List ℕ) → has_first a l ≡ true → same_bytes a b ≡ false → has_first b l ≡ false
@@ -225,7 +197,7 @@ module _ (d : Expected) (text : List ℕ) (classes : DropsHaveClass d.drops) (s 
   -- the lines of an output
   lines_own : (o : List ℕ × List (List ℕ)) → Split d.shown o → of_class (Shown o.0) text ≡ o.1
   lines_own o at =
-      let here : list_any (λ x. same_bytes x.0 o.0) d.shown ≡ true = rw at.is (any_at (λ x. same_bytes x.0 o.0) at.front o at.back (same_bytes-refl o.0)) in
+      let here : list_any (λ x. same_bytes x.0 o.0) d.shown ≡ true = rw at.is (any_at (λ x. same_bytes x.0 o.0) at.front o at.back (same_bytes_itself o.0)) in
       let one : filter (λ x. same_bytes x.0 o.0) d.shown ≡ o ∷ [] = ap (filter (λ x. same_bytes x.0 o.0)) at.is ∙ picked_one at.front o at.back (subst (λ os. are_distinct (names os) ≡ true) at.is s.distinct) in
       h.shown o.0 here ∙ ap (flat_map (λ x. x.1)) one ∙ append-nil o.1
 
@@ -239,8 +211,8 @@ module _ (d : Expected) (text : List ℕ) (classes : DropsHaveClass d.drops) (s 
     own_line : (o : List ℕ × List (List ℕ)) → Found (λ x. has_first x.0 l) d.shown o → is_next before o l ≡ true
     own_line o f =
         let all = sym (lines_own o f.at) ∙ class_split (Shown o.0) f.passes in
-        let next : slice_get o.1 (count_of before o.0) ≡ Some l = ap (λ x. slice_get x (count_of before o.0)) all ∙ slice_get-next (filter (is_of_class (Shown o.0)) before) l (filter (is_of_class (Shown o.0)) rest) in
-        ap (λ n. is_line_at n l) next ∙ same_bytes-refl l
+        let next : slice_get o.1 (count_of before o.0) ≡ Some l = ap (λ x. slice_get x (count_of before o.0)) all ∙ get_next (filter (is_of_class (Shown o.0)) before) l (filter (is_of_class (Shown o.0)) rest) in
+        ap (λ n. is_line_at n l) next ∙ same_bytes_itself l
 
     line_classed : is_expected d l ≡ true
     line_classed = all_at (is_expected d) before l rest (subst (λ x. list_all (is_expected d) x ≡ true) e h.classed)
@@ -264,7 +236,7 @@ module _ (d : Expected) (text : List ℕ) (classes : DropsHaveClass d.drops) (s 
 
       end_word : has_first (codes "@end") l ≡ true → is_end l ≡ true
       end_word first = elim where_it_stands.here [
-        | inl same ↦ rw same (same_bytes-refl end_line)
+        | inl same ↦ rw same (same_bytes_itself end_line)
         | inr other ↦ let no_first = not-true (has_first (codes "@end") l) other in absurd (cc)
       ]
 
@@ -339,7 +311,7 @@ module _ (d : Expected) (text : List ℕ) (classes : DropsHaveClass d.drops) (s 
 
   not_short : is_short d.shown ls (unfinished text) ≡ false
   not_short =
-      let last : ends_with_end ls ≡ true = ap ends_with_end others_are ∙ ends_last-is others end_line ∙ same_bytes-refl end_line in
+      let last : ends_with_end ls ≡ true = ap ends_with_end others_are ∙ ends_last-is others end_line ∙ same_bytes_itself end_line in
       rw (h.finished, last, enough [] d.shown refl) refl
 
   walk : (before rest : List (List ℕ)) → ls ≡ before ++ rest → verdict_from d.shown drops (unfinished text) before rest ≡ verdict.Yes

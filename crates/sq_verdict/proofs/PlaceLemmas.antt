@@ -11,12 +11,12 @@ use Rattle.sq_value.specs.declared.Tuple.{Tuple}
 use Rattle.sq_words.specs.Lists.{same_bytes, are_distinct, contains_bytes, nth}
 use Rattle.sq_value.specs.LineTexts.{output_line}
 use Rattle.sq_value.specs.Classes.{Shown, first_field, is_of_class}
-use Rattle.sq_value.proofs.ListLemmas.{same_bytes-true, same_bytes-refl}
 use Rattle.sq_verdict.specs.declared.verdict.Wanted.{Wanted}
 use Rattle.sq_verdict.specs.Faults.{has_first, count_of, is_next, is_line_at}
 use Rattle.sq_verdict.specs.Wanting.{is_left, left_of, shown_of, shown_one}
 use Rattle.sq_verdict.specs.Walking.{AreAtPlaces, IsAtPlace, Skips, is_line_of}
 use Rattle.sq_verdict.proofs.Plain.{get-drop, drop-at, drop-past}
+use Rattle.sq_words.proofs.Lists.{same_bytes_true, same_bytes_itself}
 
 -- ---- what is left of a stream from a place on
 
@@ -164,12 +164,12 @@ one_name (y ∷ os) zero (suc j) a b d ia jb same =
     let first = not-true (contains_bytes y.name (names_of os)) (and_parts (not (contains_bytes y.name (names_of os))) (are_distinct (names_of os)) d).0 in
     let other = other_name y.name os j b first jb in
     let e : y.name ≡ b.name = ap (λ (z : Wanted). z.name) (same_Some y a ia) ∙ same in
-    let yes : same_bytes y.name b.name ≡ true = ap (λ n. same_bytes n b.name) e ∙ same_bytes-refl b.name in absurd (cc)
+    let yes : same_bytes y.name b.name ≡ true = ap (λ n. same_bytes n b.name) e ∙ same_bytes_itself b.name in absurd (cc)
 one_name (y ∷ os) (suc i) zero a b d ia jb same =
     let first = not-true (contains_bytes y.name (names_of os)) (and_parts (not (contains_bytes y.name (names_of os))) (are_distinct (names_of os)) d).0 in
     let other = other_name y.name os i a first ia in
     let e : y.name ≡ a.name = ap (λ (z : Wanted). z.name) (same_Some y b jb) ∙ sym same in
-    let yes : same_bytes y.name a.name ≡ true = ap (λ n. same_bytes n a.name) e ∙ same_bytes-refl a.name in absurd (cc)
+    let yes : same_bytes y.name a.name ≡ true = ap (λ n. same_bytes n a.name) e ∙ same_bytes_itself a.name in absurd (cc)
 one_name (y ∷ os) (suc i) (suc j) a b d ia jb same =
     ap suc (one_name os i j a b (and_parts (not (contains_bytes y.name (names_of os))) (are_distinct (names_of os)) d).1 ia jb same)
 
@@ -181,7 +181,7 @@ pub places_after : (record_at : ℕ → List ℕ) (streams : List (List Tuple)) 
 places_after record_at streams os places now before line i o d at first hit miss h j b there =
     elim (cases_Bool (has_first b.name line)) [
       | inl holds ↦
-          let same : o.name ≡ b.name = sym (same_bytes-true (first_field line) o.name first) ∙ same_bytes-true (first_field line) b.name holds in
+          let same : o.name ≡ b.name = sym (same_bytes_true (first_field line) o.name first) ∙ same_bytes_true (first_field line) b.name holds in
           let ij = one_name os i j o b d at there same in
           let both : o ≡ b = same_Some o b (sym at ∙ ap (slice_get os) ij ∙ there) in
           subst (λ k. IsAtPlace record_at streams b (slice_index now k) (before ++ (line ∷ []))) ij (subst (λ (z : Wanted). IsAtPlace record_at streams z (slice_index now i) (before ++ (line ∷ []))) both hit)

@@ -1,11 +1,7 @@
 -- Plain facts of truth values and lists.
-use Rattle.std.proofs.Common.{◌≡◌, ℕ, zero, suc, ◌+◌, Bool, true, false, List, [], ◌∷◌, drop, refl, ap, sym, ◌∙◌, arith, Some, None}
-use Rattle.std.specs.Prelude.{slice_get, slice_index, replicate}
+use Rattle.std.proofs.Common.{◌≡◌, ℕ, zero, suc, ◌+◌, List, [], ◌∷◌, drop, refl, ap, sym, ◌∙◌, arith, Some, None}
+use Rattle.std.specs.Prelude.{slice_get}
 use Rattle.std.proofs.lemmas.Option.{same_Some}
-
-pub not_true : (b : Bool) → (b ≡ true → ⊥) → b ≡ false
-not_true true h = absurd (h refl)
-not_true false h = refl
 
 -- what stands at a place is the first of what stands from there on
 pub get-drop : {X : Type 0} (xs : List X) (i : ℕ) → slice_get (drop i xs) 0 ≡ slice_get xs i
@@ -27,9 +23,3 @@ drop-past [] zero h = refl
 drop-past [] (suc i) h = refl
 drop-past (y ∷ xs) zero h = cc
 drop-past (y ∷ xs) (suc i) h = drop-past xs i h
-
-pub zero-at : (n i : ℕ) → slice_index (replicate n 0) i ≡ 0
-zero-at zero zero = refl
-zero-at zero (suc i) = refl
-zero-at (suc n) zero = refl
-zero-at (suc n) (suc i) = zero-at n i

@@ -22,6 +22,8 @@ use Rattle.sq_verdict.specs.Wanting.{shown_of, shown_one}
 use Rattle.sq_verdict.specs.Walking.{IsAfter, AreAtPlaces, IsAtPlace, IsMost}
 use Rattle.sq_verdict.proofs.Accepts.{found, any_none, ends_last-is}
 use Rattle.sq_verdict.proofs.PlaceLemmas.{names_of}
+use Rattle.sq_words.proofs.Lists.{max_one}
+use Rattle.sq_words.proofs.Bools.{or_false}
 
 -- ---- the output with a number, among lines by name
 pub record Named (shown : Lines) (i : ℕ) (name : List ℕ) : Type 0 where
@@ -93,10 +95,6 @@ module _ (record_at : ℕ → List ℕ) (streams : List (List Tuple)) (line : Li
 
 -- ---- what was recorded
 
-max_one : (bs : List ℕ) (b : ℕ) → max_by (λ k. k + 1) (bs ++ (b ∷ [])) ≡ max (max_by (λ k. k + 1) bs) (b + 1)
-max_one [] b = omega arith
-max_one (c ∷ bs) b = let more = max_one bs b in omega (arith, more)
-
 recorded_more : (drops : ℕ) (before : List (List ℕ)) (line : List ℕ) (w : ℕ) → recorded drops (before ++ (line ∷ [])) w ≡ recorded drops before w ++ batch_of w (drop_told_in drops line)
 recorded_more drops before line w =
     flat_map-append (λ l. batch_of w (drop_told_in drops l)) before (line ∷ []) ∙ ap (λ x. recorded drops before w ++ x) (append-nil (batch_of w (drop_told_in drops line)))
@@ -126,15 +124,11 @@ unended_fault shown drops before line e = rw e refl
 
 -- ---- one line more
 
-or_none : (b : Bool) → (b || false) ≡ b
-or_none true = refl
-or_none false = refl
-
 pub after_step : (record_at : ℕ → List ℕ) (streams : List (List Tuple)) (os : List Wanted) (drops : ℕ) (ended b : Bool) (most places now_most now_places : List ℕ) (before : List (List ℕ)) (line : List ℕ)
     → IsAfter record_at streams os drops ended most places before → ended ≡ false → b ≡ is_end line → IsMost drops now_most (before ++ (line ∷ []))
     → AreAtPlaces record_at streams os now_places (before ++ (line ∷ [])) → IsAfter record_at streams os drops b now_most now_places (before ++ (line ∷ []))
 after_step record_at streams os drops ended b most places now_most now_places before line h fails is reached placed = record {
-  any = list_any-append is_end before (line ∷ []) ∙ ap (λ t. t || (is_end line || false)) (h.any ∙ fails) ∙ or_none (is_end line) ∙ sym is;
+  any = list_any-append is_end before (line ∷ []) ∙ ap (λ t. t || (is_end line || false)) (h.any ∙ fails) ∙ or_false (is_end line) ∙ sym is;
   last = ends_last-is before line ∙ sym is;
   most_is = reached;
   places_are = placed;

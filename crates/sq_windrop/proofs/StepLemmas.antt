@@ -10,7 +10,6 @@ use Rattle.sq_item.specs.declared.Mark.{Mark}
 use Rattle.sq_item.specs.declared.Item.{Item}
 use Rattle.sq_item.specs.Things.{Body, Thing, mark_part, body_part}
 use Rattle.sq_road.specs.Draws.{draw_of}
-use Rattle.sq_lists.proofs.WindowLemmas.{range-split}
 use Rattle.sq_oper.specs.declared.outs.Decision.{Decision}
 use Rattle.sq_oper.specs.Entries.{Entry, at_port, entries}
 use Rattle.sq_oper.specs.Given.{ThingsUpTo}
@@ -24,6 +23,7 @@ use Rattle.sq_windrop.specs.declared.drop.Dropping.{Dropping}
 use Rattle.sq_windrop.specs.declared.drop.Batches.{Batches}
 use Rattle.sq_windrop.specs.Drops.{is_dropped, drop_mark, marks_for, decided, decision, greatest_bound, bound_of, newly, after_tuple, for_tuple, drop_next, drop_gives, drop_rest, drop_holds, decided_load, drop_decides, next_body, gives_body, decided_body}
 use Rattle.sq_windrop.proofs.DropLemmas.{newly-early}
+use Rattle.sq_words.proofs.Ranges.{range_split}
 
 -- the epoch of an earlier tick is closed too
 pub start-closed : (start time epoch closed : ℕ) → 1 ≤ epoch → start ≤ time → time / epoch < closed → start / epoch < closed
@@ -98,13 +98,13 @@ module _ (d : Dropping) (table : ℕ → ℕ → ℕ) where
 pub range-push : (from b : ℕ) → from ≤ b → range_with_len from (b + 1 - from) ≡ range_with_len from (b - from) ++ b ∷ []
 range-push from b le =
     ap (range_with_len from) (let e : b + 1 - from ≡ (b - from) + 1 = omega (arith, le) in e)
-    ∙ range-split from (b - from) 1
+    ∙ range_split from (b - from) 1
     ∙ ap (λ k. range_with_len from (b - from) ++ range_with_len k 1) (let e : from + (b - from) ≡ b = omega (arith, le) in e)
 
 pub range-more : (from b end : ℕ) → from ≤ b → b ≤ end → range_with_len from (end - from) ≡ range_with_len from (b - from) ++ range_with_len b (end - b)
 range-more from b end le le2 =
     ap (range_with_len from) (let e : end - from ≡ (b - from) + (end - b) = omega (arith, le, le2) in e)
-    ∙ range-split from (b - from) (end - b)
+    ∙ range_split from (b - from) (end - b)
     ∙ ap (λ k. range_with_len from (b - from) ++ range_with_len k (end - b)) (let e : from + (b - from) ≡ b = omega (arith, le) in e)
 
 -- a tick touches few batches at once

@@ -4,7 +4,7 @@ use Rattle.std.specs.List.{AllByRecursion}
 use Rattle.sq_words.specs.Lists.{IsPrefixOf}
 use Rattle.sq_aggfn.specs.Keyed.{AllMade}
 use Rattle.sq_aggfn.specs.Windows.{start_of}
-use Rattle.sq_oper.proofs.GivenLemmas.{OnErr-from, IsPrefixOf-append}
+use Rattle.sq_oper.proofs.GivenLemmas.{IsPrefixOf-append}
 use Rattle.sq_oper.specs.Given.{given}
 use Rattle.sq_oper.specs.Streams.{at_zero}
 use Rattle.sq_pane.specs.States.{states_of}
@@ -12,6 +12,7 @@ use Rattle.sq_agg.specs.Held.{IsSoundKey, back_of, bounds_of, closed_at, due_bef
 use Rattle.sq_agg.proofs.DueLemmas.{back_none}
 use Rattle.sq_agg.proofs.EndedLemmas.{ended_before, ended_sound}
 use Rattle.sq_agg.proofs.ending.give_window.Goals as goal
+use Rattle.sq_words.proofs.Results.{OnErr_from}
 
 pub give_before-requires-clause-sound : goal.give_before-requires-clause-sound
 give_before-requires-clause-sound g c =
@@ -35,7 +36,7 @@ returns-in_err-push_window-clause-prefix g c =
     let p = c.args.panes.now in
     let x = bounds_of c.args.waiting.now in
     let one = ended (g.F.Fold.none p.fold) (g.F.Fold.joined p.fold) p.window p.width x (states_of p.held.entries) c.args.k in
-    OnErr-from c.from_residual.result (λ q. IsPrefixOf-append (given q (g.T.Outlet.items c.args.out.now)) (at_zero q (due_before (g.F.Fold.told p.fold) (start_of p.window c.args.k + 1) x.waiting one)))
+    OnErr_from c.from_residual.result (λ q. IsPrefixOf-append (given q (g.T.Outlet.items c.args.out.now)) (at_zero q (due_before (g.F.Fold.told p.fold) (start_of p.window c.args.k + 1) x.waiting one)))
 
 pub returns-clause-none : goal.returns-clause-none
 returns-clause-none g c =

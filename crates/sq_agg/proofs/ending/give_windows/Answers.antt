@@ -4,7 +4,7 @@ use Rattle.std.specs.List.{AllByRecursion, flat_map, range_with_len}
 use Rattle.sq_words.specs.Lists.{IsPrefixOf}
 use Rattle.sq_aggfn.specs.Windows.{start_of}
 use Rattle.sq_aggfn.proofs.StartLemmas.{starts_rise}
-use Rattle.sq_oper.proofs.GivenLemmas.{OnErr-from, IsPrefixOf-trans, IsPrefixOf-longer}
+use Rattle.sq_oper.proofs.GivenLemmas.{IsPrefixOf-longer}
 use Rattle.sq_oper.proofs.StreamLemmas.{at_zero-append}
 use Rattle.sq_oper.specs.Given.{given}
 use Rattle.sq_oper.specs.Streams.{at_zero}
@@ -14,6 +14,8 @@ use Rattle.sq_agg.proofs.DueLemmas.{closed_twice, All_from}
 use Rattle.sq_agg.proofs.EndedLemmas.{ended_same, next_windows, no_windows, window_first}
 use Rattle.sq_agg.proofs.FeedLemmas.{closed_bound}
 use Rattle.sq_agg.proofs.ending.give_windows.Goals as goal
+use Rattle.sq_words.proofs.Prefixes.{prefix_along}
+use Rattle.sq_words.proofs.Results.{OnErr_from}
 
 pub loop-k-preserved : goal.loop-k-preserved
 loop-k-preserved g c =
@@ -55,7 +57,7 @@ loop-k-preserved g c =
           ap (λ (y : Bounds). bound_for y (start_of w j)) e.bounds ∙ sym (closed_bound (start_of w j) at (omega (arith, rise)) x) ∙ inv.allowed j (omega (arith, lo));
       marks = subst (λ (y : Bounds). AllByRecursion IsSoundMark y.waiting) (sym e.bounds) (All_from IsSoundMark at x.waiting inv.marks);
       sound = λ h. e.sound (inv.sound h);
-      extends = IsPrefixOf-trans _ _ _ inv.extends e.extends;
+      extends = prefix_along _ _ _ inv.extends e.extends;
       drops = e.drops ∙ inv.drops;
       ready = e.stays_ready;
       came = λ start h. e.came start (inv.came start h);
@@ -86,14 +88,14 @@ returns-in_err-give_window-clause-prefix g c =
     let now = due_before told at x.waiting (one k) in
     let later = due_before told mid (marks_from at x.waiting) rest in
     let all = ap (due_before told mid x.waiting) (next_windows one k end lt) ∙ window_first none joined w moves p.width first es told mid k (end - (k + 1)) before x.waiting in
-    OnErr-from c.from_residual.result (λ q.
+    OnErr_from c.from_residual.result (λ q.
     let gave = g.T.Outlet.items c.give_window.new.out in
     subst (IsPrefixOf (given q gave)) (ap (λ l. given q out ++ l) (sym (at_zero-append q now later) ∙ ap (at_zero q) (sym all)) ∙ inv.given q)
     (IsPrefixOf-longer (given q gave) (given q out) (at_zero q now) (at_zero q later)
     (subst (λ l. IsPrefixOf (given q gave) (given q out ++ at_zero q (due_before told at x.waiting l))) same (c.in_err-give_window.ensures.prefix q))))
 
 pub returns-in_err-give_window-clause-extends : goal.returns-in_err-give_window-clause-extends
-returns-in_err-give_window-clause-extends g c = IsPrefixOf-trans _ _ _ c.loop-k.invariant.extends c.give_window.ensures.extends
+returns-in_err-give_window-clause-extends g c = prefix_along _ _ _ c.loop-k.invariant.extends c.give_window.ensures.extends
 
 pub returns-clause-bounds : goal.returns-clause-bounds
 returns-clause-bounds g c = on_ok_weaker c.give_before.result (λ e. e ∙ c.loop-k.invariant.closed) c.give_before.ensures.bounds
@@ -124,4 +126,4 @@ returns-clause-prefix g c =
     c.give_before.ensures.prefix
 
 pub returns-clause-extends : goal.returns-clause-extends
-returns-clause-extends g c = IsPrefixOf-trans _ _ _ c.loop-k.invariant.extends c.give_before.ensures.extends
+returns-clause-extends g c = prefix_along _ _ _ c.loop-k.invariant.extends c.give_before.ensures.extends

@@ -4,8 +4,9 @@ use Rattle.sq_graph.specs.declared.BoxWires.{BoxWires}
 use Rattle.sq_graph.specs.Wires.{arc_at, inputs_at}
 use Rattle.sq_place.proofs.Wires.{input-there}
 use Rattle.sq_points.proofs.Bounds.{few_arcs}
-use Rattle.sq_place.proofs.Numbering.{item_there, numbered_more, inputs-few}
+use Rattle.sq_place.proofs.Numbering.{numbered_more, inputs-few}
 use Rattle.sq_core.proofs.network.input_arcs.Goals as goal
+use Rattle.sq_words.proofs.Lists.{item_there}
 
 pub overflow_cast-port-end : goal.overflow_cast-port-end
 overflow_cast-port-end c =

@@ -8,12 +8,13 @@ use Rattle.sq_start.specs.Numbers.{ops_of}
 use Rattle.sq_start.specs.Starts.{IsReadReplay}
 use Rattle.sq_core.specs.Meanings.{actors, IsValid}
 use Rattle.sq_core.specs.Table.{IsTabled}
-use Rattle.sq_core.proofs.TableLemmas.{if-both, if-three}
+use Rattle.sq_core.proofs.TableLemmas.{if-three}
 use Rattle.sq_core.proofs.NewFlow.{new-seats, is-new, none-fed}
 use Rattle.sq_core.proofs.PlanLemmas.{plans-start}
 use Rattle.sq_core.proofs.PlaceLemmas.{places-of, all-places}
 use Rattle.sq_core.proofs.NewAnswers.{new-answers, rising, few-queued, starts-ready}
 use Rattle.sq_core.proofs.start.network_engine.Goals as goal
+use Rattle.sq_words.proofs.Results.{IfOk_both}
 
 pub network_wires-requires-clause-places : goal.network_wires-requires-clause-places
 network_wires-requires-clause-places c = all-places c.early_drop_is_sound.ensures.points c.args.n.now c.requires.sound _ (c.deref.ensures.value ∙ c.in_ok-points.ensures)
@@ -66,7 +67,7 @@ returns-clause-answers c =
 
 pub returns-clause-ready : goal.returns-clause-ready
 returns-clause-ready c =
-    if-both c.new.result _ _ _ (λ e is h.
+    IfOk_both c.new.result _ _ _ (λ e is h.
     starts-ready actors IsValid c.args.n.now c.requires.sound e is (subst (IsTabled c.args.n.now) (sym h.wires_are) c.in_ok-wires.ensures.measured)
     (ap (λ v. length v.items) h.seats_are ∙ c.in_ok-seats.ensures.count) h.runs h.bare) c.new.ensures.engine c.new.ensures.flow
 

@@ -3,8 +3,9 @@ use Rattle.std.proofs.lemmas.List.Sorted.{answers_always}
 use Rattle.std.proofs.lemmas.Bool.Decides.{nat_tests}
 use Rattle.std.specs.Cmp.{IsStrictWeakOrder}
 use Rattle.sq_lists.specs.Merge.{tuple_earlier}
-use Rattle.sq_value.proofs.Sorting.{sorted_is, on_ok_map}
+use Rattle.sq_words.proofs.Sorting.{sorted_is}
 use Rattle.sq_lists.proofs.merges.sort_pairs.Goals as goal
+use Rattle.sq_words.proofs.Results.{on_ok_map}
 
 earlier_orders : IsStrictWeakOrder tuple_earlier
 earlier_orders = record {

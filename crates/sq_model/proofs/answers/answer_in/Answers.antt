@@ -5,7 +5,7 @@ use Rattle.sq_place.specs.declared.DropPoint.{DropPoint}
 use Rattle.sq_model.specs.Shedding.{drop_above_output}
 use Rattle.sq_model.specs.Given.{shown_without}
 use Rattle.sq_model.specs.Known.{arc_in}
-use Rattle.sq_model.proofs.FirstLemmas.{there}
+use Rattle.sq_model.proofs.FirstLemmas.{there-in}
 use Rattle.sq_model.proofs.ShedLemmas.{found_output, answer_plain, answer_shown}
 use Rattle.sq_model.proofs.answers.answer_in.Goals as goal
 
@@ -24,7 +24,7 @@ returns-in_ok-shown_tuples-in-Some c = let x = c.index.ensures in let y = c.show
     let p = c.index.result.now in
     let points = c.deref.ensures.value in
     let inside : w < length k.points.items = rw points at c.in-Some.ensures.inside in
-    let here = there k.points.items w p inside c.index.ensures in
+    let here = there-in k.points.items w p inside c.index.ensures in
     let lasts = subst (λ z. 1 ≤ z) c.epoch-epoch.ensures.epoch c.epoch-epoch.ensures.lasts in
     let above : drop_above_output r.network c.args.output ≡ Some (w, p) =
     found_output k r known c.deref.result.now c.args.output (Some (w, p)) points

@@ -2,7 +2,7 @@ use Rattle.std.proofs.Common.{◌+◌, cond, drop, Some, ap, sym, ◌∙◌}
 use Rattle.std.specs.Option.{option_map}
 use Rattle.sq_place.specs.declared.DropPoint.{DropPoint}
 use Rattle.sq_model.specs.Shedding.{first_drop}
-use Rattle.sq_model.proofs.FirstLemmas.{first_step, there}
+use Rattle.sq_model.proofs.FirstLemmas.{first_step, there-in}
 use Rattle.sq_model.proofs.answers.drop_above.Goals as goal
 use Rattle.sq_words.specs.Lists.{contains_number}
 
@@ -15,7 +15,7 @@ returns-then-is_above-clause-first c =
     c.loop-w.invariant
     ∙ first_step test c.args.points.now c.loop-w.w p c.loop-w-test.true c.index-points-w.is
     ∙ ap (λ b. cond b (Some (c.loop-w.w, p)) (first_drop test (c.loop-w.w + 1) (drop (c.loop-w.w + 1) c.args.points.now))) (sym yes ∙ passed)
-    ∙ sym (ap (option_map (λ (p : DropPoint). (c.loop-w.w, p))) (there c.args.points.now c.loop-w.w p c.loop-w-test.true c.index-points-w.is))
+    ∙ sym (ap (option_map (λ (p : DropPoint). (c.loop-w.w, p))) (there-in c.args.points.now c.loop-w.w p c.loop-w-test.true c.index-points-w.is))
 
 pub loop-w-preserved : goal.loop-w-preserved
 loop-w-preserved c =

@@ -3,7 +3,7 @@ use Rattle.std.proofs.lemmas.Result.{IfOk-weaker}
 use Rattle.sq_value.specs.Values.{IsStream}
 use Rattle.sq_model.specs.Shedding.{record_of}
 use Rattle.sq_model.specs.Given.{AreTicks, record_by}
-use Rattle.sq_model.proofs.FirstLemmas.{there}
+use Rattle.sq_model.proofs.FirstLemmas.{there-in}
 use Rattle.sq_model.proofs.ShedLemmas.{place_stream, place_ticks, known_by, record_known}
 use Rattle.sq_model.proofs.answers.dropped_in.Goals as goal
 
@@ -22,7 +22,7 @@ dropped_batches-requires-clause-known c =
 pub returns : goal.returns
 returns c =
     let k = c.args.known.now in
-    let here = there k.points.items c.args.w c.index-p.result.now c.requires.there c.index-p.ensures in
+    let here = there-in k.points.items c.args.w c.index-p.result.now c.requires.there c.index-p.ensures in
     let lasts = subst (λ z. 1 ≤ z) c.epoch-epoch.ensures.epoch c.epoch-epoch.ensures.lasts in
     IfOk-weaker c.dropped_batches.result _ _
     (λ v h r p known at.

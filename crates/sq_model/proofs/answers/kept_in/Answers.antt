@@ -3,7 +3,7 @@ use Rattle.std.specs.Option.{option_map}
 use Rattle.sq_value.specs.declared.Tuple.{Tuple}
 use Rattle.sq_place.specs.declared.DropPoint.{DropPoint}
 use Rattle.sq_model.specs.Shedding.{drop_above_arc}
-use Rattle.sq_model.proofs.FirstLemmas.{there}
+use Rattle.sq_model.proofs.FirstLemmas.{there-in}
 use Rattle.sq_model.specs.Kept.{distance_of}
 use Rattle.sq_model.specs.Given.{AreTicks, kept_by}
 use Rattle.sq_model.proofs.ShedLemmas.{arc_ticks, found_arc, kept_plain, kept_known}
@@ -24,7 +24,7 @@ returns-in-Some c = λ r known.
     let p = c.index-p.result.now in
     let points = c.deref.ensures.value in
     let inside : w < length k.points.items = rw points at c.in-Some.ensures.inside in
-    let here = there k.points.items w p inside c.index-p.ensures in
+    let here = there-in k.points.items w p inside c.index-p.ensures in
     let lasts = subst (λ z. 1 ≤ z) c.epoch-epoch.ensures.epoch c.epoch-epoch.ensures.lasts in
     let above : drop_above_arc r.network c.args.arc ≡ Some (w, p) =
     found_arc k r known c.deref.result.now c.args.arc (Some (w, p)) points

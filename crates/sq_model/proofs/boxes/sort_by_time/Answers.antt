@@ -1,9 +1,10 @@
 use Rattle.std.proofs.Common.{rules}
 use Rattle.std.proofs.lemmas.List.Sorted.{answers_always}
-use Rattle.sq_value.proofs.Sorting.{sorted_is, on_ok_map}
+use Rattle.sq_words.proofs.Sorting.{sorted_is}
 use Rattle.sq_model.specs.Unions.{tuple_sooner}
 use Rattle.sq_model.proofs.UnionLemmas.{sooner_orders}
 use Rattle.sq_model.proofs.boxes.sort_by_time.Goals as goal
+use Rattle.sq_words.proofs.Results.{on_ok_map}
 
 pub returns : goal.returns
 returns c =

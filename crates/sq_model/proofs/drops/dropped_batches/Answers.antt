@@ -4,8 +4,9 @@ use Rattle.sq_words.specs.Lists.{numbers_to}
 use Rattle.sq_model.specs.Shedding.{is_touched}
 use Rattle.sq_model.specs.Shedding.{last_of}
 use Rattle.sq_model.specs.Given.{drops_at}
-use Rattle.sq_model.proofs.BatchLemmas.{last_low, batch_small, filter_more, filter_both, filter_nothing}
+use Rattle.sq_model.proofs.BatchLemmas.{last_low, batch_small, filter_more, filter_nothing}
 use Rattle.sq_model.proofs.drops.dropped_batches.Goals as goal
+use Rattle.sq_words.proofs.Lists.{filter_both}
 
 pub overflow_add-b-end : goal.overflow_add-b-end
 overflow_add-b-end c =

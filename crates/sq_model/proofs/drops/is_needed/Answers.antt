@@ -1,7 +1,8 @@
 use Rattle.std.proofs.Common.{◌∙◌, ◌+◌, ◌/◌, ◌<◌, sym, subst, below_more, arith}
 use Rattle.sq_model.specs.Given.{needs_at}
-use Rattle.sq_model.proofs.BatchLemmas.{batch_small, needed_any, too_early, any_some, any_none}
+use Rattle.sq_model.proofs.BatchLemmas.{batch_small, needed_any, too_early, any_none}
 use Rattle.sq_model.proofs.drops.is_needed.Goals as goal
+use Rattle.sq_words.proofs.Ranges.{any_in_range}
 
 pub overflow_add-b-end : goal.overflow_add-b-end
 overflow_add-b-end c =
@@ -18,7 +19,7 @@ pub returns-then-needs : goal.returns-then-needs
 returns-then-needs c =
     sym
     (needed_any c.args.levels.now c.args.seed c.args.w c.args.p.now c.args.distance c.args.t
-    ∙ any_some (needs_at c.args.levels.now c.args.seed c.args.w c.args.p.now c.args.distance c.args.t) 0 (c.args.t / c.args.p.now.length + 1) c.loop-b.b (omega arith) (omega (arith, c.loop-b-test.true)) (sym c.needs.ensures ∙ c.if-needs.true))
+    ∙ any_in_range (needs_at c.args.levels.now c.args.seed c.args.w c.args.p.now c.args.distance c.args.t) 0 (c.args.t / c.args.p.now.length + 1) c.loop-b.b (omega arith) (omega (arith, c.loop-b-test.true)) (sym c.needs.ensures ∙ c.if-needs.true))
 
 pub returns : goal.returns
 returns c =

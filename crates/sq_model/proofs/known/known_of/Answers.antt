@@ -8,7 +8,6 @@ use Rattle.sq_place.specs.declared.DropPoint.{DropPoint}
 use Rattle.sq_place.specs.Points.{point_at}
 use Rattle.sq_place.specs.Places.{drop_places_of}
 use Rattle.sq_place.proofs.Final.{drops-few}
-use Rattle.sq_place.proofs.Wires.{length-mapped}
 use Rattle.sq_points.specs.Points.{windows_of}
 use Rattle.sq_points.proofs.Bounds.{few_arcs, few_places}
 use Rattle.sq_model.specs.Full.{full_streams}
@@ -17,6 +16,7 @@ use Rattle.sq_model.proofs.PlacedLemmas.{placed_of}
 use Rattle.sq_model.proofs.StreamLemmas.{full_are_streams}
 use Rattle.sq_model.proofs.MeasuredLemmas.{all-measured}
 use Rattle.sq_model.proofs.known.known_of.Goals as goal
+use Rattle.sq_words.proofs.Lists.{length_map}
 
 pub full_streams-requires-clause-placed : goal.full_streams-requires-clause-placed
 full_streams-requires-clause-placed c = placed_of c.args.n.now c.requires.sound
@@ -39,7 +39,7 @@ returns-clause-safe c =
       measured = subst (All IsMeasured) (sym c.in_ok-points.ensures) (all-measured n c.requires.sound c.requires.limits);
       few_points =
           (let same = ap (λ (ps : List DropPoint). length ps) c.in_ok-points.ensures in
-          let many = length-mapped (point_at n.wires (windows_of n) n.batch) (drop_places_of n.wires (windows_of n)) in
+          let many = length_map (point_at n.wires (windows_of n) n.batch) (drop_places_of n.wires (windows_of n)) in
           let few = drops-few n.wires (windows_of n) in
           let all = few_places n c.requires.sound in
           omega (arith, same, many, few, all));

@@ -3,9 +3,9 @@ use Rattle.std.specs.List.{sum_by}
 use Rattle.sq_graph.specs.Wires.{inputs_at}
 use Rattle.sq_model.specs.Fed.{fed_from}
 use Rattle.sq_model.proofs.NumberLemmas.{numbered_more}
-use Rattle.sq_model.proofs.StandingLemmas.{item_there}
 use Rattle.sq_model.proofs.numbers.fed.Goals as goal
 use Rattle.sq_words.specs.Lists.{nth}
+use Rattle.sq_words.proofs.Lists.{item_there}
 
 pub loop-wires-preserved : goal.loop-wires-preserved
 loop-wires-preserved c =

@@ -5,9 +5,9 @@ use Rattle.sq_value.specs.declared.Tuple.{Tuple}
 use Rattle.sq_model.specs.Fed.{fed_from, late_at, late_by}
 use Rattle.sq_model.proofs.LateLemmas.{late_other}
 use Rattle.sq_model.proofs.NumberLemmas.{stream_at_within}
-use Rattle.sq_model.proofs.StandingLemmas.{item_there}
 use Rattle.sq_model.proofs.numbers.late_at.Goals as goal
 use Rattle.sq_words.specs.Lists.{nth}
+use Rattle.sq_words.proofs.Lists.{item_there}
 
 pub stream_of-requires-clause-fits : goal.stream_of-requires-clause-fits
 stream_of-requires-clause-fits c =

@@ -5,10 +5,11 @@ use Rattle.sq_value.specs.declared.Tuple.{Tuple}
 use Rattle.sq_value.specs.Values.{IsStream}
 use Rattle.sq_graph.specs.Order.{order_of}
 use Rattle.sq_model.specs.Standing.{Stands}
-use Rattle.sq_model.proofs.NumberLemmas.{stream_at_last, stream_at_within}
+use Rattle.sq_model.proofs.NumberLemmas.{stream_at_within}
 use Rattle.sq_model.proofs.OrderLemmas.{order_inside, order_next}
 use Rattle.sq_model.proofs.StandingLemmas.{all_stand, sources_stand}
 use Rattle.sq_model.proofs.streams.full_streams.Goals as goal
+use Rattle.sq_place.proofs.Final.{streams_count}
 
 pub stream_of-requires-clause-fits : goal.stream_of-requires-clause-fits
 stream_of-requires-clause-fits c =
@@ -20,7 +21,7 @@ loop-at-init c =
     let sources = map (λ t. t.items) c.args.sources.items in
     let ports = c.stream_of.result - c.args.n.now.wires.sources in
     let few : length sources ≡ c.args.n.now.wires.sources = length-map c.args.sources.items (λ t. t.items) ∙ c.requires.sources in
-    let last = stream_at_last c.args.n.now.wires in
+    let last = streams_count c.args.n.now.wires in
     let count = rw c.as_slice.ensures at c.stream_of.ensures in
     let long = length-map c.push_empty.new.streams.items (λ t. t.items) in
     let is = c.in_ok-push_empty.ensures in

@@ -3,9 +3,10 @@ use Rattle.std.proofs.lemmas.List.{map-set}
 use Rattle.std.proofs.lemmas.List.Elements.{All-set}
 use Rattle.sq_value.specs.Values.{IsStream}
 use Rattle.sq_model.proofs.NumberLemmas.{port_within, stream_at_within}
-use Rattle.sq_model.proofs.StandingLemmas.{Giving, giving_all, giving_next, item_there}
+use Rattle.sq_model.proofs.StandingLemmas.{Giving, giving_all, giving_next}
 use Rattle.sq_model.proofs.StreamLemmas.{given_is_stream}
 use Rattle.sq_model.proofs.streams.give_ports.Goals as goal
+use Rattle.sq_words.proofs.Lists.{item_there}
 
 pub stream_of-first-requires-clause-fits : goal.stream_of-first-requires-clause-fits
 stream_of-first-requires-clause-fits c =

@@ -1,7 +1,8 @@
 use Rattle.std.proofs.Common.{sym}
-use Rattle.sq_paged.proofs.StoreLemmas.{brought-there, brought-back, on-ok, told-fits}
+use Rattle.sq_paged.proofs.StoreLemmas.{brought-there, brought-back, told-fits}
 use Rattle.sq_paged.proofs.CauseLemmas.{if-err, none-by, pool-cause, pool-fits, told-fits-all, misfit-cause}
 use Rattle.sq_paged.proofs.store.bring_page.Goals as goal
+use Rattle.sq_words.proofs.Results.{OnOk_weaker}
 
 pub returns-then-there-clause-ok : goal.returns-then-there-clause-ok
 returns-then-there-clause-ok g c =
@@ -9,7 +10,7 @@ returns-then-there-clause-ok g c =
 
 pub returns-clause-ok : goal.returns-clause-ok
 returns-clause-ok g c =
-    on-ok c.test_page.result
+    OnOk_weaker c.test_page.result
     (brought-back _ _ _ _ c.args.kept.now c.in-Ok.ensures.pool c.in-Ok.ensures.map c.bring.ensures.later.known c.in-Ok.ensures.agree c.in-Ok.ensures.frames c.requires.held c.page.result.now c.page.ensures.value)
     c.test_page.ensures.ok
 

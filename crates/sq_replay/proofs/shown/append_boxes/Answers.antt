@@ -1,12 +1,12 @@
 use Rattle.std.proofs.Common.{◌++◌, append_assoc, ap, sym, ◌∙◌, take, get_or}
 use Rattle.std.specs.List.{flat_map, zip}
 use Rattle.sq_replay.specs.Shown.{fed_line}
-use Rattle.sq_replay.proofs.ShownLemmas.{on_err_any}
 use Rattle.sq_replay.proofs.PairLemmas.{pairs_all, pairs_text-more, part_so_far}
 use Rattle.sq_replay.proofs.shown.append_boxes.Goals as goal
+use Rattle.sq_words.proofs.Results.{OnErr_from}
 
 pub returns-in_err-append_box_line-clause-err : goal.returns-in_err-append_box_line-clause-err
-returns-in_err-append_box_line-clause-err c = on_err_any c.from_residual.result (part_so_far fed_line (zip c.args.boxes.now c.args.fed.now) c.boxes.i _ _ _ c.boxes.invariant c.in_err-append_box_line.ensures.err)
+returns-in_err-append_box_line-clause-err c = OnErr_from c.from_residual.result (part_so_far fed_line (zip c.args.boxes.now c.args.fed.now) c.boxes.i _ _ _ c.boxes.invariant c.in_err-append_box_line.ensures.err)
 
 pub boxes-preserved : goal.boxes-preserved
 boxes-preserved c =

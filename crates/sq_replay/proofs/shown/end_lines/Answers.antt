@@ -1,16 +1,17 @@
-use Rattle.sq_replay.proofs.ShownLemmas.{boxes_lost, end_err, end_ok, lates_lost, on_err_any}
+use Rattle.sq_replay.proofs.ShownLemmas.{boxes_lost, end_err, end_ok, lates_lost}
 use Rattle.sq_replay.proofs.shown.end_lines.Goals as goal
+use Rattle.sq_words.proofs.Results.{OnErr_from}
 
 pub returns-in_err-append_boxes-clause-err : goal.returns-in_err-append_boxes-clause-err
 returns-in_err-append_boxes-clause-err c =
-    on_err_any c.from_residual.result
+    OnErr_from c.from_residual.result
     (boxes_lost c.args.n.now c.args.fed.now.items c.args.late.now.items _ _ (rw (c.as_slice.ensures, c.as_slice-2.ensures.value) at c.in_err-append_boxes.ensures.err))
 
 pub returns-in_err-append_lates-clause-err : goal.returns-in_err-append_lates-clause-err
 returns-in_err-append_lates-clause-err c =
     let fed = rw (c.as_slice.ensures, c.as_slice-2.ensures.value) at c.in_ok-append_boxes.ensures.ok in
     let late = rw (c.as_slice-3.ensures, c.as_slice-4.ensures.value) at c.in_err-append_lates.ensures.err in
-    on_err_any c.from_residual-in_err-append_lates.result (lates_lost c.args.n.now c.args.fed.now.items c.args.late.now.items _ _ fed _ late)
+    OnErr_from c.from_residual-in_err-append_lates.result (lates_lost c.args.n.now c.args.fed.now.items c.args.late.now.items _ _ fed _ late)
 
 pub returns-clause-ok : goal.returns-clause-ok
 returns-clause-ok c =

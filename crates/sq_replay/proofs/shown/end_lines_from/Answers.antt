@@ -1,20 +1,21 @@
 use Rattle.std.proofs.Common.{drop}
 use Rattle.std.proofs.lemmas.List.{take_rest}
 use Rattle.sq_replay.specs.Shown.{boxes_from}
-use Rattle.sq_replay.proofs.ShownLemmas.{boxes_lost, end_err, end_ok, lates_lost, on_err_any}
+use Rattle.sq_replay.proofs.ShownLemmas.{boxes_lost, end_err, end_ok, lates_lost}
 use Rattle.sq_replay.proofs.shown.end_lines_from.Goals as goal
+use Rattle.sq_words.proofs.Results.{OnErr_from}
 
 pub returns-in_err-append_boxes-clause-err : goal.returns-in_err-append_boxes-clause-err
 returns-in_err-append_boxes-clause-err c =
     let lost = simp (c.as_slice-boxes.ensures, c.as_slice.ensures.value, take_rest) at c.in_err-append_boxes.ensures.err in
-    on_err_any c.from_residual.result
+    OnErr_from c.from_residual.result
     (boxes_lost (boxes_from c.args.first c.args.n.now) (drop c.args.first c.args.fed.now.items) (drop c.args.first c.args.late.now.items) _ _ lost)
 
 pub returns-in_err-append_lates-clause-err : goal.returns-in_err-append_lates-clause-err
 returns-in_err-append_lates-clause-err c =
     let fed = simp (c.as_slice-boxes.ensures, c.as_slice.ensures.value, take_rest) at c.in_ok-append_boxes.ensures.ok in
     let late = simp (c.as_slice-boxes.ensures, c.as_slice-2.ensures.value, take_rest) at c.in_err-append_lates.ensures.err in
-    on_err_any c.from_residual-in_err-append_lates.result
+    OnErr_from c.from_residual-in_err-append_lates.result
     (lates_lost (boxes_from c.args.first c.args.n.now) (drop c.args.first c.args.fed.now.items) (drop c.args.first c.args.late.now.items) _ _ fed _ late)
 
 pub returns-clause-ok : goal.returns-clause-ok

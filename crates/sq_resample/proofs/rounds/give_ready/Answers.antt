@@ -7,10 +7,11 @@ use Rattle.sq_lists.specs.Resamples.{resample_of}
 use Rattle.sq_lists.proofs.NearLemmas.{recent-again}
 use Rattle.sq_oper.specs.Given.{given}
 use Rattle.sq_oper.specs.Streams.{things, at_zero}
-use Rattle.sq_oper.proofs.GivenLemmas.{IsPrefixOf-trans, OnErr-from}
 use Rattle.sq_resample.specs.Rounds.{CanGive, first_time_from, passed}
 use Rattle.sq_resample.proofs.RoundLemmas.{can-step, first-later, round-step}
 use Rattle.sq_resample.proofs.rounds.give_ready.Goals as goal
+use Rattle.sq_words.proofs.Prefixes.{prefix_along}
+use Rattle.sq_words.proofs.Results.{OnErr_from}
 
 pub loop-x-preserved : goal.loop-x-preserved
 loop-x-preserved g c =
@@ -45,7 +46,7 @@ loop-x-preserved g c =
       early = early.1;
       runs = e.runs;
       sound = search rules;
-      extends = search (rules, IsPrefixOf-trans);
+      extends = search (rules, prefix_along);
       drops = e.drops ∙ is.drops;
       ready = e.stays_ready;
       came = λ start h. e.came start (is.came start h);
@@ -53,12 +54,12 @@ loop-x-preserved g c =
 
 pub returns-in_err-give_round-clause-prefix : goal.returns-in_err-give_round-clause-prefix
 returns-in_err-give_round-clause-prefix g c =
-    OnErr-from c.from_residual.result (λ q.
+    OnErr_from c.from_residual.result (λ q.
     let left = at_zero q (things (resample_of (g.F.Fold.table c.args.fold.now) c.args.size (passed c.args.size c.args.now c.loop-x.waiting.items) c.loop-x.held.tuples.items)) in
     (left, sym (ap (λ l. given q l ++ left) c.in_err-give_round.ensures.err ∙ c.loop-x.invariant.given q)))
 
 pub returns-in_err-let_go-clause-prefix : goal.returns-in_err-let_go-clause-prefix
 returns-in_err-let_go-clause-prefix g c =
-    OnErr-from c.from_residual-in_err-let_go.result (λ q.
+    OnErr_from c.from_residual-in_err-let_go.result (λ q.
     let left = at_zero q (things (resample_of (g.F.Fold.table c.args.fold.now) c.args.size (passed c.args.size c.args.now c.loop-x.waiting.items) c.loop-x.held.tuples.items)) in
     (left, sym (c.loop-x.invariant.given q)))

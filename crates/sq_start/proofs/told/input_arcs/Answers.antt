@@ -2,8 +2,9 @@ use Rattle.std.proofs.Common.{◌≡◌, ◌++◌, ◌∷◌, [], ap, sym, ◌�
 use Rattle.sq_words.specs.Lists.{numbers_to}
 use Rattle.sq_graph.specs.declared.BoxWires.{BoxWires}
 use Rattle.sq_graph.specs.Wires.{arc_at, inputs_at}
-use Rattle.sq_start.proofs.ToldLemmas.{port-low, numbers-more, item-there}
+use Rattle.sq_start.proofs.ToldLemmas.{port-low, item-there}
 use Rattle.sq_start.proofs.told.input_arcs.Goals as goal
+use Rattle.sq_words.proofs.Ranges.{map_more}
 
 pub overflow_cast-port : goal.overflow_cast-port
 overflow_cast-port c =
@@ -27,7 +28,7 @@ pub loop-port-preserved : goal.loop-port-preserved
 loop-port-preserved c =
     c.in_ok-push.ensures.items ∙ ap (λ l. l ++ c.arc_of.result ∷ []) c.loop-port.invariant
     ∙ ap (λ x. map (arc_at c.args.n.now.wires c.args.b) (numbers_to c.loop-port.port) ++ x ∷ []) c.arc_of.ensures
-    ∙ sym (numbers-more (arc_at c.args.n.now.wires c.args.b) c.loop-port.port)
+    ∙ sym (map_more (arc_at c.args.n.now.wires c.args.b) c.loop-port.port)
 
 pub returns : goal.returns
 returns c =

@@ -5,7 +5,6 @@ use Rattle.std.proofs.lemmas.List.Elements.{All-from_recursion}
 use Rattle.sq_value.specs.Values.{IsStream}
 use Rattle.sq_place.proofs.Wires.{outputs-there}
 use Rattle.sq_points.proofs.Bounds.{few_arcs}
-use Rattle.sq_model.proofs.ArcCounts.{output_there}
 use Rattle.sq_model.proofs.PlacedLemmas.{placed_of}
 use Rattle.sq_top.proofs.SourceLemmas.{recorded_even, recorded_streams}
 use Rattle.sq_trials.proofs.model.counts.Goals as goal
@@ -35,7 +34,7 @@ full-requires-clause-streams c = rw c.deref.ensures.value (All-from_recursion Is
 
 pub full-requires-clause-arc : goal.full-requires-clause-arc
 full-requires-clause-arc c =
-    rw c.output_arc.ensures (output_there c.args.n.now.wires 0 (some c.args.n.now.wires.outputs (rw c.as_slice.ensures at c.if-is_empty.ensures)))
+    rw c.output_arc.ensures (outputs-there c.args.n.now.wires 0 (some c.args.n.now.wires.outputs (rw c.as_slice.ensures at c.if-is_empty.ensures)))
 
 pub full_streams-requires-clause-placed : goal.full_streams-requires-clause-placed
 full_streams-requires-clause-placed c = placed_of c.args.n.now c.requires.sound

@@ -3,9 +3,9 @@ use Rattle.std.specs.Prelude.{slice_index}
 use Rattle.std.proofs.lemmas.List.{length-replicate}
 use Rattle.sq_value.specs.Classes.{whole_lines}
 use Rattle.sq_verdict.specs.Faults.{recorded}
-use Rattle.sq_verdict.proofs.Plain.{zero-at}
 use Rattle.sq_verdict.proofs.WalkLemmas.{Walked, walked_all, walked_fault, walked_more, walked_none}
 use Rattle.sq_verdict.proofs.walking.walk_text.Goals as goal
+use Rattle.sq_words.proofs.Lists.{zeros_at}
 
 pub loop-line-init : goal.loop-line-init
 loop-line-init c =
@@ -19,8 +19,8 @@ loop-line-init c =
     record {
       walked = subst (λ t. Walked record_at streams os drops text text t walk.most.items walk.places.items 0) (sym new.ended)
           (walked_none record_at streams os drops text walk.most.items walk.places.items
-          (λ w. ap (λ xs. slice_index xs w) new.most ∙ zero-at _ w)
-          (λ i. ap (λ xs. slice_index xs i) new.places ∙ zero-at _ i));
+          (λ w. ap (λ xs. slice_index xs w) new.most ∙ zeros_at _ w)
+          (λ i. ap (λ xs. slice_index xs i) new.places ∙ zeros_at _ i));
       most = ap (λ xs. length xs) new.most ∙ length-replicate _ 0;
       places = ap (λ xs. length xs) new.places ∙ length-replicate _ 0;
       room = omega arith;

@@ -8,12 +8,13 @@ use Rattle.sq_flow.specs.Takes.{MayBeFed}
 use Rattle.sq_queue.specs.Faces.{items_on}
 use Rattle.sq_flow.proofs.WireLemmas.{arcs-open, comes-from}
 use Rattle.sq_flow.proofs.CauseLemmas.{cause-in, changed-since, feeds-none, full-feed, refused-feed, refused-in, too-much-in, queue-cause-since, counts-none, none-too-much}
-use Rattle.sq_flow.proofs.FutureLemmas.{slice_get-set_same, slice_get-set_other}
 use Rattle.sq_flow.proofs.Measures.{weighs, open-same}
 use Rattle.sq_flow.proofs.FedFlow.{seat-fine, may-come, runs, own-drops, passes-front, fed-part, fed-stepped, fed-touches, costs-none, costs-fed, too-much-front}
-use Rattle.sq_flow.proofs.EventLemmas.{below-outputs, stays-same}
+use Rattle.sq_flow.proofs.EventLemmas.{below-outputs}
 use Rattle.sq_flow.proofs.TookLemmas.{fed-sum, operator-took, goes-on}
 use Rattle.sq_flow.proofs.flow.Flow.feed_step.Goals as goal
+use Rattle.sq_words.proofs.Prefixes.{prefix_itself}
+use Rattle.sq_words.proofs.Lists.{get_set_same, get_set_other}
 
 pub returns-in-Err-clause-strange : goal.returns-in-Err-clause-strange
 returns-in-Err-clause-strange g c =
@@ -69,8 +70,8 @@ returns-clause-ok g c =
     may
     c.in-Ok.ensures.ended c.in-Ok.ensures.size c.in-Ok.ensures.frames c.in-Ok.ensures.items c.in-Ok.ensures.others c.in-Ok.ensures.later.known c.in-Ok-count_item.ensures.ok.0 c.in-Ok-count_item.ensures.ok.1
     c.in_ok-feed_into.ensures.fed.fed
-    (slice_get-set_same c.args.self.now.seats.items c.args.actor c.feed_into.new.seat c.requires.actor_in)
-    (λ other ne. slice_get-set_other c.args.self.now.seats.items c.args.actor other c.feed_into.new.seat ne)
+    (get_set_same c.args.self.now.seats.items c.args.actor c.feed_into.new.seat c.requires.actor_in)
+    (λ other ne. get_set_other c.args.self.now.seats.items c.args.actor other c.feed_into.new.seat ne)
     (length-set c.args.self.now.seats.items c.args.actor c.feed_into.new.seat) c.requires.running c.in_ok-feed_into.ensures.fed.sent c.in_ok-feed_into.ensures.fed.shown.lines c.in_ok-feed_into.ensures.fed.shown.decided
     (c.in_ok-feed_into.ensures.fed.shown.below (length c.args.self.now.seats.items - c.args.self.now.wires.shown) (below-outputs c.args.actor (length c.args.self.now.seats.items) c.args.self.now.wires.shown c.requires.actor_in)
     (own-drops _ _ c.args.self.now c.requires.flow c.args.actor c.requires.head.0 c.args.port c.args.arc c.arc-at.result.now c.in-Ok.item c.requires.actor_in c.requires.head.1 c.index_mut.result.now is c.arc-at.ensures
@@ -115,16 +116,16 @@ returns-clause-touches g c =
     fed-touches _ _ c.args.self.now c.requires.flow c.args.actor c.requires.head.0 c.args.port c.args.arc c.arc-at.result.now c.in-Ok.item c.requires.actor_in c.requires.head.1 c.index_mut.result.now is c.arc-at.ensures
     (known (g.D.PageDisk.log c.feed_into.new.disk)) (known (g.D.PageDisk.log c.take_item.new.disk)) c.take_item.new.queues c.feed_into.new.queues _ c.in-Ok-count_item.taken c.feed_into.new.seat c.in_ok-feed_into.ensures.fed.items
     c.in-Ok.ensures.faces c.in_ok-feed_into.ensures.fed.fed.open_still
-    (slice_get-set_same c.args.self.now.seats.items c.args.actor c.feed_into.new.seat c.requires.actor_in)
-    (λ other ne. slice_get-set_other c.args.self.now.seats.items c.args.actor other c.feed_into.new.seat ne) c.in_ok-feed_into.ensures.fed.sent
+    (get_set_same c.args.self.now.seats.items c.args.actor c.feed_into.new.seat c.requires.actor_in)
+    (λ other ne. get_set_other c.args.self.now.seats.items c.args.actor other c.feed_into.new.seat ne) c.in_ok-feed_into.ensures.fed.sent
 
 pub returns-clause-cost : goal.returns-clause-cost
 returns-clause-cost g c =
     let is = slice_get_read c.args.self.now.seats.items _ c.args.actor c.index_mut.result.now refl c.requires.actor_in c.index_mut.ensures.value in
     costs-fed _ _ c.args.self.now c.requires.flow c.args.actor c.requires.head.0 c.args.port c.args.arc c.arc-at.result.now c.in-Ok.item c.requires.actor_in c.requires.head.1 c.index_mut.result.now is c.arc-at.ensures
     (with_item c.args.self.now.seats c.args.actor c.feed_into.new.seat) c.feed_into.new.queues c.in-Ok-count_item.taken c.feed_into.new.seat c.args.steps.now c.feed_into.new.steps
-    (slice_get-set_same c.args.self.now.seats.items c.args.actor c.feed_into.new.seat c.requires.actor_in)
-    (λ other ne. slice_get-set_other c.args.self.now.seats.items c.args.actor other c.feed_into.new.seat ne)
+    (get_set_same c.args.self.now.seats.items c.args.actor c.feed_into.new.seat c.requires.actor_in)
+    (λ other ne. get_set_other c.args.self.now.seats.items c.args.actor other c.feed_into.new.seat ne)
     (length-set c.args.self.now.seats.items c.args.actor c.feed_into.new.seat) c.in_ok-feed_into.ensures.fed.fed.counted c.in_ok-feed_into.ensures.cost
 
 pub returns-in-Err-clause-cause : goal.returns-in-Err-clause-cause
@@ -165,15 +166,15 @@ returns-in_err-feed_into-clause-too_much g c =
     rw (p.1, p.2) (none-too-much _ _ _ _ _ _ (counts-none _ _ _ _ _ _ c.in_err-feed_into.ensures.cause))
 
 pub returns-in-Err-clause-stay : goal.returns-in-Err-clause-stay
-returns-in-Err-clause-stay g c = stays-same c.args.events.now.items
+returns-in-Err-clause-stay g c = prefix_itself c.args.events.now.items
 
 pub returns-in-Err-count_item-clause-stay : goal.returns-in-Err-count_item-clause-stay
-returns-in-Err-count_item-clause-stay g c = stays-same c.args.events.now.items
+returns-in-Err-count_item-clause-stay g c = prefix_itself c.args.events.now.items
 
 pub returns-clause-took : goal.returns-clause-took
 returns-clause-took g c =
     let is = slice_get_read c.args.self.now.seats.items _ c.args.actor c.index_mut.result.now refl c.requires.actor_in c.index_mut.ensures.value in
-    let after = slice_get-set_same c.args.self.now.seats.items c.args.actor c.feed_into.new.seat c.requires.actor_in in
+    let after = get_set_same c.args.self.now.seats.items c.args.actor c.feed_into.new.seat c.requires.actor_in in
     operator-took c.args.self.now _ c.args.actor 1 false c.requires.actor_in (length-set c.args.self.now.seats.items c.args.actor c.feed_into.new.seat)
     (fed-sum c.args.self.now.wires (length c.args.self.now.seats.items) c.requires.flow.shaped c.args.actor c.requires.actor_in c.args.self.now.queues c.take_item.new.queues c.feed_into.new.queues c.args.port c.args.arc
     c.requires.head.1.1 c.in-Ok.ensures.popped c.in-Ok.ensures.faces c.in_ok-feed_into.ensures.fed.sent.apart)

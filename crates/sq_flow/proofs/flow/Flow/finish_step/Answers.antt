@@ -5,12 +5,12 @@ use Rattle.std.proofs.lemmas.Result.{err_from_is_err_and}
 use Rattle.sq_pool.specs.Trust.{known}
 use Rattle.sq_flow.proofs.WireLemmas.{arcs-open, comes-from}
 use Rattle.sq_flow.proofs.CauseLemmas.{cause-in, counts-none, feeds-none}
-use Rattle.sq_flow.proofs.FutureLemmas.{slice_get-set_same, slice_get-set_other}
 use Rattle.sq_flow.proofs.Measures.{open-less}
 use Rattle.sq_flow.proofs.FinishedFlow.{seat-fine, runs, own-drops, finished-part, finished-stepped, finished-taken, finished-touches}
 use Rattle.sq_flow.proofs.EventLemmas.{below-outputs}
 use Rattle.sq_flow.proofs.TookLemmas.{ended-sum, operator-took, is-closed}
 use Rattle.sq_flow.proofs.flow.Flow.finish_step.Goals as goal
+use Rattle.sq_words.proofs.Lists.{get_set_same, get_set_other}
 
 pub finish_into-requires-clause-there : goal.finish_into-requires-clause-there
 finish_into-requires-clause-there g c = arcs-open _ _ c.args.self.now c.requires.flow c.args.actor c.requires.running
@@ -22,8 +22,8 @@ returns-clause-ok g c =
     (known (g.D.PageDisk.log c.args.disk.now)) (known (g.D.PageDisk.log c.finish_into.new.disk)) c.finish_into.new.queues c.end_arcs.new.queues _
     c.finish_into.new.seat c.in_ok-finish_into.ensures.finished.items c.in_ok-finish_into.ensures.finished.drops c.args.events.now.items c.finish_into.new.events.items
     c.requires.together c.in_ok-finish_into.ensures.finished.finished
-    (slice_get-set_same c.args.self.now.seats.items c.args.actor c.finish_into.new.seat c.requires.actor_in)
-    (λ other ne. slice_get-set_other c.args.self.now.seats.items c.args.actor other c.finish_into.new.seat ne)
+    (get_set_same c.args.self.now.seats.items c.args.actor c.finish_into.new.seat c.requires.actor_in)
+    (λ other ne. get_set_other c.args.self.now.seats.items c.args.actor other c.finish_into.new.seat ne)
     (length-set c.args.self.now.seats.items c.args.actor c.finish_into.new.seat)
     c.in_ok-finish_into.ensures.finished.sent c.end_arcs.ensures.size c.end_arcs.ensures.frames c.end_arcs.ensures.ended c.end_arcs.ensures.items c.end_arcs.ensures.together c.in_ok-finish_into.ensures.finished.shown.lines c.requires.running c.in_ok-finish_into.ensures.finished.shown.decided
     (c.in_ok-finish_into.ensures.finished.shown.below (length c.args.self.now.seats.items - c.args.self.now.wires.shown) (below-outputs c.args.actor (length c.args.self.now.seats.items) c.args.self.now.wires.shown c.requires.actor_in)
@@ -47,8 +47,8 @@ returns-clause-taken g c =
     let is = slice_get_read c.args.self.now.seats.items _ c.args.actor c.index_mut.result.now refl c.requires.actor_in c.index_mut.ensures.value in
     finished-taken _ _ c.args.self.now c.requires.flow c.args.actor c.requires.actor_in c.requires.head c.index_mut.result.now is
     (with_item c.args.self.now.seats c.args.actor c.finish_into.new.seat) c.end_arcs.new.queues c.finish_into.new.seat c.in_ok-finish_into.ensures.finished.finished.counted
-    (slice_get-set_same c.args.self.now.seats.items c.args.actor c.finish_into.new.seat c.requires.actor_in)
-    (λ other ne. slice_get-set_other c.args.self.now.seats.items c.args.actor other c.finish_into.new.seat ne)
+    (get_set_same c.args.self.now.seats.items c.args.actor c.finish_into.new.seat c.requires.actor_in)
+    (λ other ne. get_set_other c.args.self.now.seats.items c.args.actor other c.finish_into.new.seat ne)
     (length-set c.args.self.now.seats.items c.args.actor c.finish_into.new.seat)
 
 pub returns-clause-touches : goal.returns-clause-touches
@@ -56,7 +56,7 @@ returns-clause-touches g c =
     let is = slice_get_read c.args.self.now.seats.items _ c.args.actor c.index_mut.result.now refl c.requires.actor_in c.index_mut.ensures.value in
     finished-touches _ _ c.args.self.now c.requires.flow c.args.actor c.requires.actor_in c.requires.head c.index_mut.result.now is
     (known (g.D.PageDisk.log c.args.disk.now)) (known (g.D.PageDisk.log c.finish_into.new.disk)) c.finish_into.new.queues c.end_arcs.new.queues _ c.in_ok-finish_into.ensures.finished.items
-    (λ other ne. slice_get-set_other c.args.self.now.seats.items c.args.actor other c.finish_into.new.seat ne)
+    (λ other ne. get_set_other c.args.self.now.seats.items c.args.actor other c.finish_into.new.seat ne)
     c.in_ok-finish_into.ensures.finished.sent c.end_arcs.ensures.ended c.end_arcs.ensures.first c.end_arcs.ensures.apart
 
 pub returns-in_err-finish_into-clause-cause : goal.returns-in_err-finish_into-clause-cause
@@ -81,7 +81,7 @@ returns-in_err-finish_into-clause-memory g c =
 
 pub returns-clause-took : goal.returns-clause-took
 returns-clause-took g c =
-    let after = slice_get-set_same c.args.self.now.seats.items c.args.actor c.finish_into.new.seat c.requires.actor_in in
+    let after = get_set_same c.args.self.now.seats.items c.args.actor c.finish_into.new.seat c.requires.actor_in in
     let sums = ended-sum c.args.self.now.wires (length c.args.self.now.seats.items) c.requires.flow.shaped c.args.actor c.requires.actor_in c.args.self.now.queues c.end_arcs.new.queues
     (λ arc away. c.end_arcs.ensures.apart arc away ∙ c.in_ok-finish_into.ensures.finished.sent.apart arc away) in
     operator-took c.args.self.now _ c.args.actor 0 true c.requires.actor_in (length-set c.args.self.now.seats.items c.args.actor c.finish_into.new.seat) (omega (arith, sums))

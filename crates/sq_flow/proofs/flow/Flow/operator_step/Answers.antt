@@ -3,8 +3,8 @@ use Rattle.std.proofs.lemmas.Result.{err_from_is_err_and}
 use Rattle.sq_pool.specs.Trust.{known}
 use Rattle.sq_flow.proofs.FedFlow.{costs-none}
 use Rattle.sq_flow.proofs.StepLemmas.{waits-not-ready}
-use Rattle.sq_flow.proofs.EventLemmas.{stays-same}
 use Rattle.sq_flow.proofs.flow.Flow.operator_step.Goals as goal
+use Rattle.sq_words.proofs.Prefixes.{prefix_itself}
 
 pub returns-in-Waits-clause-works : goal.returns-in-Waits-clause-works
 returns-in-Waits-clause-works g c = waits-not-ready c.args.self.now c.args.actor c.in-Waits.ensures
@@ -19,7 +19,7 @@ returns-in_err-finish_step-in-Ended-clause-strange g c =
     let p = err_from_is_err_and c.from_residual.result c.from_residual.ensures.1 in rw (p.1, p.2) c.in_err-finish_step-in-Ended.ensures.strange
 
 pub returns-in-Waits-clause-stay : goal.returns-in-Waits-clause-stay
-returns-in-Waits-clause-stay g c = stays-same c.args.events.now.items
+returns-in-Waits-clause-stay g c = prefix_itself c.args.events.now.items
 
 pub returns-in_err-feed_step-in-Feed-clause-strange : goal.returns-in_err-feed_step-in-Feed-clause-strange
 returns-in_err-feed_step-in-Feed-clause-strange g c =

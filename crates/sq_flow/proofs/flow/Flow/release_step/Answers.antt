@@ -7,11 +7,11 @@ use Rattle.sq_plan.specs.Shown.{level_for, Ended}
 use Rattle.sq_pool.specs.Trust.{known}
 use Rattle.sq_flow.proofs.WireLemmas.{arcs-open}
 use Rattle.sq_flow.proofs.CauseLemmas.{cause-in, counts-none, feeds-none}
-use Rattle.sq_flow.proofs.EventLemmas.{stays-same}
 use Rattle.sq_flow.proofs.ReleasedPlans.{ClosedBefore, mid-len, plans-front, plans-none, plans-stay}
 use Rattle.sq_flow.proofs.ReplayFlow.{replay-open, replay-runs, item-sound, released-stepped, released-touches, lines-stay, count-less}
 use Rattle.sq_flow.proofs.TookLemmas.{replay-took}
 use Rattle.sq_flow.proofs.flow.Flow.release_step.Goals as goal
+use Rattle.sq_words.proofs.Prefixes.{prefix_itself}
 
 pub returns-in_err-tuple-clause-prefix : goal.returns-in_err-tuple-clause-prefix
 returns-in_err-tuple-clause-prefix g c =
@@ -24,7 +24,7 @@ returns-in_err-tuple-clause-plans g c =
     rw p.1 (plans-stay c.args.self.now c.args.events.now.items c.args.events.now.items refl)
 
 pub returns-in_err-tuple-clause-stay : goal.returns-in_err-tuple-clause-stay
-returns-in_err-tuple-clause-stay g c = stays-same c.args.events.now.items
+returns-in_err-tuple-clause-stay g c = prefix_itself c.args.events.now.items
 
 pub returns-in_err-close_before-clause-prefix : goal.returns-in_err-close_before-clause-prefix
 returns-in_err-close_before-clause-prefix g c =

@@ -6,9 +6,9 @@ use Rattle.sq_flow.specs.Readiness.{IsReady, WaitsOnly, Took, TookBy}
 use Rattle.sq_flow.proofs.StepLemmas.{stepped-both, prefix-after, plans-after, none-strange-after, costs-after, costs-most-after, too-much-after}
 use Rattle.sq_flow.proofs.CauseLemmas.{cause-since}
 use Rattle.sq_flow.proofs.TouchLemmas.{touches-both}
-use Rattle.sq_flow.proofs.EventLemmas.{stays-both}
 use Rattle.sq_flow.proofs.TookLemmas.{took-both, took-last}
 use Rattle.sq_flow.proofs.flow.Flow.train.Goals as goal
+use Rattle.sq_words.proofs.Prefixes.{prefix_along}
 
 pub returns-in-Err-clause-prefix : goal.returns-in-Err-clause-prefix
 returns-in-Err-clause-prefix g c =
@@ -89,7 +89,7 @@ steps-preserved g c =
       cost = costs-after _ _ _ _ _ _ _ _ c.steps.invariant.stepped c.one_step.new.self c.args.steps.now c.steps.steps c.one_step.new.steps c.steps.invariant.cost c.in-Ok.ensures.cost;
       falls = omega (arith, falls, less);
       begun = λ none. absurd (omega (arith, none));
-      stay = stays-both _ _ _ c.steps.invariant.stay c.in-Ok.ensures.stay;
+      stay = prefix_along _ _ _ c.steps.invariant.stay c.in-Ok.ensures.stay;
       took = λ running.
           took-both c.args.actor c.args.self.now c.steps.self c.one_step.new.self c.steps.fed 1 false false (c.steps.invariant.took running)
           (subst (λ d. TookBy c.args.actor d c.steps.self c.one_step.new.self) c.in-Fed.is c.in-Ok.ensures.took);
@@ -99,13 +99,13 @@ steps-preserved g c =
     }
 
 pub returns-in-Err-clause-stay : goal.returns-in-Err-clause-stay
-returns-in-Err-clause-stay g c = stays-both _ _ _ c.steps.invariant.stay c.in-Err.ensures.stay
+returns-in-Err-clause-stay g c = prefix_along _ _ _ c.steps.invariant.stay c.in-Err.ensures.stay
 
 pub returns-in-Waits-clause-stay : goal.returns-in-Waits-clause-stay
-returns-in-Waits-clause-stay g c = stays-both _ _ _ c.steps.invariant.stay c.in-Ok.ensures.stay
+returns-in-Waits-clause-stay g c = prefix_along _ _ _ c.steps.invariant.stay c.in-Ok.ensures.stay
 
 pub returns-in-Finished-clause-stay : goal.returns-in-Finished-clause-stay
-returns-in-Finished-clause-stay g c = stays-both _ _ _ c.steps.invariant.stay c.in-Ok.ensures.stay
+returns-in-Finished-clause-stay g c = prefix_along _ _ _ c.steps.invariant.stay c.in-Ok.ensures.stay
 
 pub returns-in-Waits-clause-took : goal.returns-in-Waits-clause-took
 returns-in-Waits-clause-took g c =

@@ -2,12 +2,12 @@ use Rattle.std.proofs.Common.{◌≡◌, ◌++◌, List, ap, ap₂, sym, subst, 
 use Rattle.sq_value.specs.declared.Tuple.{Tuple}
 use Rattle.sq_oper.specs.Given.{given}
 use Rattle.sq_oper.specs.Order.{time_of}
-use Rattle.sq_oper.proofs.GivenLemmas.{OnErr-from}
 use Rattle.sq_oper.proofs.FedLemmas.{time-after-item}
 use Rattle.sq_lists.specs.Sides.{AllNear}
 use Rattle.sq_join.specs.Sides.{join_rest}
 use Rattle.sq_join.proofs.JoinLemmas.{fed_sound, fed_prefix, fed_law, fed_times, fed_left, fed_right, near_left, near_right}
 use Rattle.sq_join.proofs.join.JoinBoxOperator.feed.Goals as goal
+use Rattle.sq_words.proofs.Results.{OnErr_from}
 
 pub take-requires-clause-sound : goal.take-requires-clause-sound
 take-requires-clause-sound g c =
@@ -21,7 +21,7 @@ returns-in_err-take-clause-prefix g c =
     let b = c.args.self.now in
     let v = c.requires.is_valid in
     let began = rw (c.let_go.ensures.left, c.let_go.ensures.right) at c.in_err-take.ensures.prefix in
-    OnErr-from c.from_residual.result (λ table future agrees may q.
+    OnErr_from c.from_residual.result (λ table future agrees may q.
     fed_prefix b.size b.on.tree b.on.scope b.sides.left.items b.sides.right.items b.tally.place c.args.port c.args.item c.in-Some.fields (sym c.get.ensures ∙ c.in-Some.is) c.requires.is_sound c.requires.may_come v.0 v.1
     future may q (given q (g.T.Outlet.items c.args.out.now)) (given q (g.T.Outlet.items c.take.new.out)) (began q))
 

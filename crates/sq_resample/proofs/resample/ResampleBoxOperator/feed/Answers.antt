@@ -5,12 +5,12 @@ use Rattle.sq_value.specs.declared.Tuple.{Tuple}
 use Rattle.sq_lists.specs.Sides.{recent}
 use Rattle.sq_oper.specs.Given.{given}
 use Rattle.sq_oper.specs.Order.{time_of}
-use Rattle.sq_oper.proofs.GivenLemmas.{OnErr-from}
 use Rattle.sq_oper.proofs.FedLemmas.{tuple_at, time-after-item}
 use Rattle.sq_resample.specs.Rounds.{first_time_from}
 use Rattle.sq_resample.specs.Resampling.{resample_rest}
 use Rattle.sq_resample.proofs.FedLemmas.{fed_early, fed_prefix, fed_law, fed_times, fed_held, fed_facts, length-recent, length-right}
 use Rattle.sq_resample.proofs.resample.ResampleBoxOperator.feed.Goals as goal
+use Rattle.sq_words.proofs.Results.{OnErr_from}
 
 pub give_ready-requires-clause-early : goal.give_ready-requires-clause-early
 give_ready-requires-clause-early g c =
@@ -20,14 +20,14 @@ give_ready-requires-clause-early g c =
 pub returns-in_err-give_ready-clause-prefix : goal.returns-in_err-give_ready-clause-prefix
 returns-in_err-give_ready-clause-prefix g c =
     let b = c.args.self.now in
-    OnErr-from c.from_residual.result (λ table future agrees may q.
+    OnErr_from c.from_residual.result (λ table future agrees may q.
     fed_prefix (g.F.Fold.table b.fold) (g.F.Fold.width b.fold) b.size b.waiting.items b.held.tuples.items b.tally.place c.args.port c.args.item c.in-Some.fields (sym c.get.ensures ∙ c.in-Some.is) c.requires.is_sound c.requires.may_come c.requires.is_valid.0
     future may q (given q (g.T.Outlet.items c.args.out.now)) (given q (g.T.Outlet.items c.give_ready.new.out)) (c.in_err-give_ready.ensures.prefix q))
 
 pub returns-in_err-hold-clause-prefix : goal.returns-in_err-hold-clause-prefix
 returns-in_err-hold-clause-prefix g c =
     let b = c.args.self.now in
-    OnErr-from c.from_residual-in_err-hold.result (λ table future agrees may q.
+    OnErr_from c.from_residual-in_err-hold.result (λ table future agrees may q.
     fed_prefix (g.F.Fold.table b.fold) (g.F.Fold.width b.fold) b.size b.waiting.items b.held.tuples.items b.tally.place c.args.port c.args.item c.in-Some.fields (sym c.get.ensures ∙ c.in-Some.is) c.requires.is_sound c.requires.may_come c.requires.is_valid.0
     future may q (given q (g.T.Outlet.items c.args.out.now)) (given q (g.T.Outlet.items c.give_ready.new.out))
     ([], sym (c.in_ok-give_ready.ensures.given q) ∙ sym (append-nil (given q (g.T.Outlet.items c.give_ready.new.out)))))
