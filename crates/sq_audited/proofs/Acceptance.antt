@@ -22,7 +22,7 @@ use Rattle.sq_points.specs.Limits.{KeepsDropLimits}
 use Rattle.sq_points.specs.Points.{points_of}
 use Rattle.sq_tables.specs.Places.{part_place}
 use Rattle.sq_reader.specs.Drops.{drop_place, is_drop_within}
-use Rattle.sq_tables.specs.Rawly.{raw_of}
+use Rattle.sq_tables.specs.Tables.{network_table_of}
 use Rattle.sq_reader.specs.Networks.{limited_network, network_in, typed_network, unless_at}
 use Rattle.sq_reader.proofs.SoundLemmas.{network_sound}
 use Rattle.sq_reader.proofs.DropLemmas.{limited_same}
@@ -85,7 +85,7 @@ limits_from (Ok m) next n h e = h m e
 limits_from (Err s) next n h e = absurd (cc)
 
 pub network_limits : (bytes : List ℕ) (n : Network) → network_in bytes ≡ Ok n → KeepsDropLimits n
-network_limits bytes n h = limits_from (raw_of bytes >>= typed_network) limited_network n (λ m e. subst KeepsDropLimits (limited_same m n e) (limits_of m n e)) h
+network_limits bytes n h = limits_from (network_table_of bytes >>= typed_network) limited_network n (λ m e. subst KeepsDropLimits (limited_same m n e) (limits_of m n e)) h
 
 -- ---- the order of work
 

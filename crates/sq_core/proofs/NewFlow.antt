@@ -9,7 +9,7 @@ use Rattle.sq_road.specs.Levels.{LevelTable}
 use Rattle.sq_plan.specs.Plans.{Setting}
 use Rattle.sq_place.specs.declared.DropPoint.{DropPoint}
 use Rattle.sq_oper.specs.declared.outs.Decision.{Decision}
-use Rattle.sq_oper.specs.declared.tally.Place.TheVariants.{Start}
+use Rattle.sq_oper.specs.declared.tally.Moment.TheVariants.{Start}
 use Rattle.sq_oper.specs.Order.{IsFuture}
 use Rattle.sq_oper.specs.Streams.{things}
 use Rattle.sq_net.specs.declared.Network.{Network}

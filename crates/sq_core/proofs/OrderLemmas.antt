@@ -5,7 +5,9 @@ use Rattle.std.specs.declared.alloc.Global.{Global}
 use Rattle.std.proofs.lemmas.Bool.{cases_lt, or_right}
 use Rattle.std.proofs.lemmas.List.Folds.{list_any-append}
 use Rattle.std.proofs.lemmas.Option.{slice_get_within}
-use Rattle.sq_graph.specs.Wires.{Producer, Source, Port, producer_of, inputs_of, input_arcs_of, output_arc_at}
+use Rattle.sq_graph.specs.Wires.{producer_of, inputs_of, input_arcs_of, output_arc_at}
+use Rattle.sq_graph.specs.declared.Producer.{Producer}
+use Rattle.sq_graph.specs.declared.Producer.TheVariants.{Source, Port}
 use Rattle.sq_graph.specs.Order.{is_given, can_be_next, order_of}
 use Rattle.sq_graph.proofs.Producers.{producer_is}
 use Rattle.sq_graph.proofs.Cycles.{has_is}

@@ -13,7 +13,9 @@ use Rattle.std.proofs.lemmas.List.FromFn.{length-map-range_with_len}
 use Rattle.std.proofs.lemmas.List.Elements.{recursion_from_All}
 use Rattle.sq_words.specs.Lists.{numbers_to}
 use Rattle.sq_graph.specs.declared.BoxWires.{BoxWires}
-use Rattle.sq_graph.specs.Wires.{Producer, Source, Port, producer_of, producers_of, arcs_of, arc_at, inputs_at, inputs_of, input_arcs_of, output_arc_at}
+use Rattle.sq_graph.specs.Wires.{producer_of, producers_of, arcs_of, arc_at, inputs_at, inputs_of, input_arcs_of, output_arc_at}
+use Rattle.sq_graph.specs.declared.Producer.{Producer}
+use Rattle.sq_graph.specs.declared.Producer.TheVariants.{Source, Port}
 use Rattle.sq_graph.specs.Order.{is_there}
 use Rattle.sq_place.specs.declared.DropAt.{DropAt}
 use Rattle.sq_place.specs.declared.DropAt.TheVariants as at

@@ -1,7 +1,7 @@
 -- The seats of a network: a new actor for each box, drop and output.
 use Rattle.std.specs.Prelude.{◌≡◌, ℕ, true, List, Some, slice_get}
 use Rattle.sq_oper.specs.declared.tally.Tally.{Tally}
-use Rattle.sq_oper.specs.declared.tally.Place.TheVariants.{Start}
+use Rattle.sq_oper.specs.declared.tally.Moment.TheVariants.{Start}
 use Rattle.sq_net.specs.declared.Network.{Network}
 use Rattle.sq_actor.specs.declared.actor.Actor as operator
 use Rattle.sq_flow.specs.declared.seats.Seat.{Seat}

@@ -17,7 +17,7 @@ ghost use Rattle.sq_core.specs.Table.{kinds_on, streams_on, arc_feed, place_feed
 use crate::join::{Feed, copy_kinds, wires_of};
 use crate::points::{drop_on, is_below};
 use sq_flow::Wires;
-use sq_graph::{Giver, OrderErr, arc_of, given_by, order, output_arc};
+use sq_graph::{Producer, OrderErr, arc_of, given_by, order, output_arc};
 use sq_net::Network;
 use sq_place::{DropAt, DropPoint};
 use sq_value::{Kind, ListOf};
@@ -70,13 +70,13 @@ fn given_feed(
 {
     let kinds = kinds_on(alloc, n, stream)?;
     match given_by(&n.wires, stream) {
-        Some(Giver::Source { source }) => Ok(Feed {
+        Some(Producer::Source { source }) => Ok(Feed {
             from: replay,
             port: source,
             kinds,
             marked,
         }),
-        Some(Giver::Port { at, port }) => Ok(Feed {
+        Some(Producer::Port { at, port }) => Ok(Feed {
             from: at,
             port,
             kinds,
@@ -272,8 +272,8 @@ fn box_giving(n: &Network, stream: u32) -> Option<u32>
     ensures { result ≡ box_of (producer_of n.now.wires stream) }
 {
     match given_by(&n.wires, stream) {
-        Some(Giver::Port { at, .. }) => Some(at),
-        Some(Giver::Source { .. }) => None,
+        Some(Producer::Port { at, .. }) => Some(at),
+        Some(Producer::Source { .. }) => None,
         None => None,
     }
 }

@@ -8,7 +8,7 @@ use Rattle.sq_road.specs.Levels.{LevelTable, AgreesWith}
 use Rattle.sq_oper.specs.declared.outs.Decision.{Decision}
 use Rattle.sq_oper.specs.declared.outs.Event.{Event}
 use Rattle.sq_oper.specs.declared.outs.Event.TheVariants.{Dropped, Plan}
-use Rattle.sq_oper.specs.declared.tally.Place.{Place}
+use Rattle.sq_oper.specs.declared.tally.Moment.{Moment}
 use Rattle.sq_oper.specs.Entries.{Entry}
 use Rattle.sq_oper.specs.Order.{moment_after, after_all, InOrder, AllFit, IsFuture}
 use Rattle.sq_flow.specs.declared.seats.Seat.{Seat}
@@ -81,7 +81,7 @@ own-front wires actor w ds left all front = by (eqb (wires.sheds + w) actor) ref
     by false h = subst (λ z. IsPrefixOf z left) (sym (of-own wires actor w ds all ∙ ap (λ b. cond b ds []) h)) (left, refl)
 
 -- a future behind what came
-order-both : (place : Place) (xs ys : List Entry) → InOrder place xs → InOrder (after_all place xs) ys → InOrder place (xs ++ ys)
+order-both : (place : Moment) (xs ys : List Entry) → InOrder place xs → InOrder (after_all place xs) ys → InOrder place (xs ++ ys)
 order-both place [] ys h k = k
 order-both place (x ∷ xs) ys h k = (h.0, order-both (moment_after place x) xs ys h.1 k)
 
@@ -89,7 +89,7 @@ fit-both : (marks : ℕ → Bool) (fits : ℕ → List Value → Bool) (xs ys : 
 fit-both marks fits [] ys h k = k
 fit-both marks fits (x ∷ xs) ys h k = (h.0, fit-both marks fits xs ys h.1 k)
 
-pub future-both : (marks : ℕ → Bool) (fits : ℕ → List Value → Bool) (place : Place) (xs ys : List Entry) → IsFuture marks fits place xs → IsFuture marks fits (after_all place xs) ys → IsFuture marks fits place (xs ++ ys)
+pub future-both : (marks : ℕ → Bool) (fits : ℕ → List Value → Bool) (place : Moment) (xs ys : List Entry) → IsFuture marks fits place xs → IsFuture marks fits (after_all place xs) ys → IsFuture marks fits place (xs ++ ys)
 future-both marks fits place xs ys h k = record { in_order = order-both place xs ys h.in_order k.in_order; fitting = fit-both marks fits xs ys h.fitting k.fitting }
 
 -- with more levels an operator owns no less

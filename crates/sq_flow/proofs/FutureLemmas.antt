@@ -7,10 +7,10 @@ use Rattle.sq_words.specs.Lists.{IsPrefixOf}
 use Rattle.sq_item.specs.declared.Item.{Item}
 use Rattle.sq_item.specs.declared.Mark.{Mark}
 use Rattle.sq_item.specs.Sound.{IsSoundItem}
-use Rattle.sq_item.specs.Things.{Thing, Load, Sign, Body, spread, spread_all, mark_part, body_part}
-use Rattle.sq_oper.specs.declared.tally.Place.{Place}
+use Rattle.sq_item.specs.Things.{Thing, Content, Sign, Body, spread, spread_all, mark_part, body_part}
+use Rattle.sq_oper.specs.declared.tally.Moment.{Moment}
 use Rattle.sq_oper.specs.Entries.{Entry, at_port}
-use Rattle.sq_oper.specs.Order.{load_fits, AllFit, IsFuture}
+use Rattle.sq_oper.specs.Order.{content_fits, AllFit, IsFuture}
 use Rattle.sq_oper.specs.Given.{given, ItemsSound, ThingsUpTo}
 use Rattle.sq_oper.proofs.GivenLemmas.{ThingsUpTo-split}
 use Rattle.sq_left.specs.Left.{Net, Holding, Each}
@@ -26,9 +26,9 @@ use Rattle.sq_left.proofs.HeadWords.{ItemsNotBefore}
 use Rattle.std.proofs.lemmas.Map.Views.{exact_unsigned_eq}
 use Rattle.sq_words.proofs.Numbers.{eqb_true}
 
-load-weaker : (marks marks' : ℕ → Bool) (fits fits' : ℕ → List Value → Bool) (port : ℕ) (load : Load)
+load-weaker : (marks marks' : ℕ → Bool) (fits fits' : ℕ → List Value → Bool) (port : ℕ) (content : Content)
     → (marks port ≡ true → marks' port ≡ true) → ((fields : List Value) → fits port fields ≡ true → fits' port fields ≡ true)
-    → load_fits marks fits port load ≡ true → load_fits marks' fits' port load ≡ true
+    → content_fits marks fits port content ≡ true → content_fits marks' fits' port content ≡ true
 load-weaker marks marks' fits fits' port (Sign mark) f g h = f h
 load-weaker marks marks' fits fits' port (Body fields) f g h = g fields h
 
@@ -37,9 +37,9 @@ pub fit-weaker : (marks marks' : ℕ → Bool) (fits fits' : ℕ → List Value 
     → AllFit marks fits es → AllFit marks' fits' es
 fit-weaker marks marks' fits fits' [] f g h = tt
 fit-weaker marks marks' fits fits' (e ∷ es) f g h =
-    (load-weaker marks marks' fits fits' e.port e.thing.load (f e.port) (g e.port) h.0, fit-weaker marks marks' fits fits' es f g h.1)
+    (load-weaker marks marks' fits fits' e.port e.thing.content (f e.port) (g e.port) h.0, fit-weaker marks marks' fits fits' es f g h.1)
 
-pub future-weaker : (marks marks' : ℕ → Bool) (fits fits' : ℕ → List Value → Bool) (place : Place) (es : List Entry)
+pub future-weaker : (marks marks' : ℕ → Bool) (fits fits' : ℕ → List Value → Bool) (place : Moment) (es : List Entry)
     → ((port : ℕ) → marks port ≡ true → marks' port ≡ true) → ((port : ℕ) (fields : List Value) → fits port fields ≡ true → fits' port fields ≡ true)
     → IsFuture marks fits place es → IsFuture marks' fits' place es
 future-weaker marks marks' fits fits' place es f g h = record { in_order = h.in_order; fitting = fit-weaker marks marks' fits fits' es f g h.fitting }
@@ -48,9 +48,9 @@ fit-port : (marks marks' : ℕ → Bool) (fits fits' : ℕ → List Value → Bo
     → (marks p ≡ true → marks' p ≡ true) → ((fields : List Value) → fits p fields ≡ true → fits' p fields ≡ true)
     → AllFit marks fits (at_port p xs) → AllFit marks' fits' (at_port p xs)
 fit-port marks marks' fits fits' p [] f g h = tt
-fit-port marks marks' fits fits' p (x ∷ xs) f g h = (load-weaker marks marks' fits fits' p x.load f g h.0, fit-port marks marks' fits fits' p xs f g h.1)
+fit-port marks marks' fits fits' p (x ∷ xs) f g h = (load-weaker marks marks' fits fits' p x.content f g h.0, fit-port marks marks' fits fits' p xs f g h.1)
 
-pub future-port : (marks marks' : ℕ → Bool) (fits fits' : ℕ → List Value → Bool) (place : Place) (p : ℕ) (xs : List Thing)
+pub future-port : (marks marks' : ℕ → Bool) (fits fits' : ℕ → List Value → Bool) (place : Moment) (p : ℕ) (xs : List Thing)
     → (marks p ≡ true → marks' p ≡ true) → ((fields : List Value) → fits p fields ≡ true → fits' p fields ≡ true)
     → IsFuture marks fits place (at_port p xs) → IsFuture marks' fits' place (at_port p xs)
 future-port marks marks' fits fits' place p xs f g h = record { in_order = h.in_order; fitting = fit-port marks marks' fits fits' p xs f g h.fitting }

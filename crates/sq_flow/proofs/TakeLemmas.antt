@@ -6,20 +6,20 @@ use Rattle.sq_item.specs.declared.Item.{Item}
 use Rattle.sq_item.specs.declared.Mark.{Mark}
 use Rattle.sq_item.specs.Sound.{IsSoundItem}
 use Rattle.sq_item.specs.Things.{Sign, Body, mark_part, body_part}
-use Rattle.sq_oper.specs.declared.tally.Place.{Place}
-use Rattle.sq_oper.specs.declared.tally.Place.TheVariants.{Start, At}
+use Rattle.sq_oper.specs.declared.tally.Moment.{Moment}
+use Rattle.sq_oper.specs.declared.tally.Moment.TheVariants.{Start, At}
 use Rattle.sq_oper.specs.Entries.{Entry, at_port}
 use Rattle.sq_oper.specs.Order.{may_come, moment_after, IsFuture}
 use Rattle.sq_flow.specs.declared.wires.Arc.{Arc}
 use Rattle.sq_flow.specs.Takes.{takes_of, fits_of, MayBeFed, may_stand, mark_fits, kinds_take}
 
 entry : ℕ → ℕ → List Value → Entry
-entry port time f = record { port = port; thing = record { time = time; load = Body f } }
+entry port time f = record { port = port; thing = record { time = time; content = Body f } }
 
 sign : ℕ → ℕ → Mark → Entry
-sign port time m = record { port = port; thing = record { time = time; load = Sign m } }
+sign port time m = record { port = port; thing = record { time = time; content = Sign m } }
 
-tuple-stands : (place : Place) (port time : ℕ) (f : List Value) → may_come place (record { port = port; thing = record { time = time; load = Body f } }) ≡ may_stand place port time false
+tuple-stands : (place : Moment) (port time : ℕ) (f : List Value) → may_come place (record { port = port; thing = record { time = time; content = Body f } }) ≡ may_stand place port time false
 tuple-stands Start port time f = refl
 tuple-stands (At last before marked) port time f = by (nat_lt last time) (last == time) (nat_le before port)
   where
@@ -29,7 +29,7 @@ tuple-stands (At last before marked) port time f = by (nat_lt last time) (last =
     by false true false = refl
     by false false c = refl
 
-mark-stands : (place : Place) (port time : ℕ) (m : Mark) → may_come place (record { port = port; thing = record { time = time; load = Sign m } }) ≡ may_stand place port time true
+mark-stands : (place : Moment) (port time : ℕ) (m : Mark) → may_come place (record { port = port; thing = record { time = time; content = Sign m } }) ≡ may_stand place port time true
 mark-stands Start port time m = refl
 mark-stands (At last before marked) port time m = by (nat_lt last time) (last == time) (nat_le before port) marked (nat_lt before port)
   where
@@ -39,21 +39,21 @@ mark-stands (At last before marked) port time m = by (nat_lt last time) (last ==
     by false false c d e = refl
 
 -- a tuple may follow a mark of its time and port
-follows : (place : Place) (port time : ℕ) (m : Mark) (f : List Value)
-    → may_come (moment_after place (record { port = port; thing = record { time = time; load = Sign m } })) (record { port = port; thing = record { time = time; load = Body f } }) ≡ true
+follows : (place : Moment) (port time : ℕ) (m : Mark) (f : List Value)
+    → may_come (moment_after place (record { port = port; thing = record { time = time; content = Sign m } })) (record { port = port; thing = record { time = time; content = Body f } }) ≡ true
 follows place port time m f = same time port
   where
     same : (t p : ℕ) → (nat_lt t t || (t == t && ((true && nat_le p p) || (false && true && nat_lt p p)))) ≡ true
     same t p = grind (arith, tests)
 
-pub stands-yes : (at : Arc) (port : ℕ) (place : Place) (time : ℕ) (m : Option Mark) (b : Option (List Value)) → mark_fits at.marked m ≡ true → kinds_take at.kinds b ≡ true
+pub stands-yes : (at : Arc) (port : ℕ) (place : Moment) (time : ℕ) (m : Option Mark) (b : Option (List Value)) → mark_fits at.marked m ≡ true → kinds_take at.kinds b ≡ true
     → may_stand place port time (is_some m) ≡ true → IsFuture (takes_of at) (fits_of at) place (at_port port (mark_part time m ++ body_part time b))
 stands-yes at port place time None None f g s = record { in_order = tt; fitting = tt }
 stands-yes at port place time None (Some b) f g s = record { in_order = (tuple-stands place port time b ∙ s, tt); fitting = (g, tt) }
 stands-yes at port place time (Some m) None f g s = record { in_order = (mark-stands place port time m ∙ s, tt); fitting = (f, tt) }
 stands-yes at port place time (Some m) (Some b) f g s = record { in_order = (mark-stands place port time m ∙ s, (follows place port time m b, tt)); fitting = (f, (g, tt)) }
 
-pub stands-no : (at : Arc) (port : ℕ) (place : Place) (time : ℕ) (m : Option Mark) (b : Option (List Value)) → (is_some m || is_some b) ≡ true
+pub stands-no : (at : Arc) (port : ℕ) (place : Moment) (time : ℕ) (m : Option Mark) (b : Option (List Value)) → (is_some m || is_some b) ≡ true
     → IsFuture (takes_of at) (fits_of at) place (at_port port (mark_part time m ++ body_part time b))
     → (mark_fits at.marked m ≡ true) × (kinds_take at.kinds b ≡ true) × (may_stand place port time (is_some m) ≡ true)
 stands-no at port place time None None s h = cc
@@ -61,11 +61,11 @@ stands-no at port place time None (Some b) s h = (refl, h.fitting.0, sym (tuple-
 stands-no at port place time (Some m) None s h = (h.fitting.0, refl, sym (mark-stands place port time m) ∙ h.in_order.0)
 stands-no at port place time (Some m) (Some b) s h = (h.fitting.0, h.fitting.1.0, sym (mark-stands place port time m) ∙ h.in_order.0)
 
-pub may-yes : (at : Arc) (port : ℕ) (place : Place) (clock : ℕ) (item : Item) → item.time ≤ clock → mark_fits at.marked item.mark ≡ true → kinds_take at.kinds item.body ≡ true
+pub may-yes : (at : Arc) (port : ℕ) (place : Moment) (clock : ℕ) (item : Item) → item.time ≤ clock → mark_fits at.marked item.mark ≡ true → kinds_take at.kinds item.body ≡ true
     → may_stand place port item.time (is_some item.mark) ≡ true → MayBeFed at port place clock item
 may-yes at port place clock item le f g s = record { in_time = le; future = stands-yes at port place item.time item.mark item.body f g s }
 
-pub may-no : (at : Arc) (port : ℕ) (place : Place) (clock : ℕ) (item : Item) → IsSoundItem item → MayBeFed at port place clock item
+pub may-no : (at : Arc) (port : ℕ) (place : Moment) (clock : ℕ) (item : Item) → IsSoundItem item → MayBeFed at port place clock item
     → (item.time ≤ clock) × (mark_fits at.marked item.mark ≡ true) × (kinds_take at.kinds item.body ≡ true) × (may_stand place port item.time (is_some item.mark) ≡ true)
 may-no at port place clock item s h = let r = stands-no at port place item.time item.mark item.body s.some h.future in (h.in_time, r.0, r.1, r.2)
 

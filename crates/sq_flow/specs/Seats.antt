@@ -3,8 +3,8 @@ use Rattle.std.specs.Prelude.{◌≡◌, ℕ, ◌+◌, ◌≤◌, Bool, true, fa
 use Rattle.std.specs.List.{AllByRecursion}
 use Rattle.sq_value.specs.declared.Value.{Value}
 use Rattle.sq_item.specs.Things.{Thing}
-use Rattle.sq_oper.specs.declared.tally.Place.{Place}
-use Rattle.sq_oper.specs.declared.tally.Place.TheVariants.{Start}
+use Rattle.sq_oper.specs.declared.tally.Moment.{Moment}
+use Rattle.sq_oper.specs.declared.tally.Moment.TheVariants.{Start}
 use Rattle.sq_oper.specs.declared.outs.Decision.{Decision}
 use Rattle.sq_oper.specs.Entries.{Entry, entries}
 use Rattle.sq_item.specs.declared.Item.{Item}
@@ -18,7 +18,7 @@ pub record Meaning (O : Type 0) : Type 0 where
   pub rest : O → (ℕ → ℕ → ℕ) → List Entry → ℕ → List Thing
   pub decides : O → (ℕ → ℕ → ℕ) → List Entry → List Decision
   pub lost : O → List Entry → ℕ
-  pub place : O → Place
+  pub place : O → Moment
   pub taken : O → ℕ
   pub running : O → Bool
   pub takes_marks : O → ℕ → Bool
@@ -42,7 +42,7 @@ abbrev pub taken_at : {O : Type 0} → Meaning O → Option (Seat O) → ℕ
 taken_at m None = 0
 taken_at m (Some seat) = m.taken seat.op
 
-abbrev pub moment_at : {O : Type 0} → Meaning O → Option (Seat O) → Place
+abbrev pub moment_at : {O : Type 0} → Meaning O → Option (Seat O) → Moment
 moment_at m None = Start
 moment_at m (Some seat) = m.place seat.op
 

@@ -14,7 +14,7 @@ ghost use Rattle.sq_flow.specs.Takes.{MayBeFed, may_stand, mark_fits, kinds_take
 use crate::errors::RunErr;
 use crate::wires::Arc;
 use sq_item::{Body, Item, Sign};
-use sq_oper::Place;
+use sq_oper::Moment;
 use sq_outside::PageDisk;
 use sq_queue::Queues;
 use sq_value::{Kind, Value};
@@ -64,12 +64,12 @@ fn kinds_take(kinds: &[Kind], body: &Body) -> bool
 
 /// What begins with a mark, or with a tuple, may stand behind this place.
 #[inline(always)]
-fn may_stand(place: Place, port: u32, time: u64, mark: bool) -> bool
+fn may_stand(place: Moment, port: u32, time: u64, mark: bool) -> bool
     ensures { result ≡ may_stand place port time mark }
 {
     match place {
-        Place::Start => true,
-        Place::At {
+        Moment::Start => true,
+        Moment::At {
             time: last,
             port: before,
             marked,
@@ -86,7 +86,7 @@ fn may_stand(place: Place, port: u32, time: u64, mark: bool) -> bool
 /// An item may come from an arc to a port of an operator that stands at this place.
 #[tactic(auto, using(crate::proofs::TakeLemmas::take_lemmas))]
 #[inline(always)]
-fn may_be_fed(at: &Arc, port: u32, place: Place, clock: u64, item: &Item) -> bool
+fn may_be_fed(at: &Arc, port: u32, place: Moment, clock: u64, item: &Item) -> bool
     requires { IsSoundItem item.now }
     ensures yes { result ≡ true → MayBeFed at.now port place clock item.now }
     ensures no { MayBeFed at.now port place clock item.now → result ≡ true }
@@ -116,7 +116,7 @@ pub(crate) fn take_item<D: PageDisk>(
     at: &Arc,
     arc: u32,
     port: u32,
-    place: Place,
+    place: Moment,
     clock: u64,
 ) -> Result<Item, RunErr>
     requires there { arc < size queues.old }

@@ -4,7 +4,9 @@ use Rattle.std.specs.List.{AllByRecursion, enumerate_from, flat_map, range_with_
 use Rattle.sq_words.specs.Lists.{numbers_to}
 use Rattle.sq_graph.specs.declared.BoxWires.{BoxWires}
 use Rattle.sq_graph.specs.declared.Wiring.{Wiring}
-use Rattle.sq_graph.specs.Wires.{Producer, Source, Port, producers_of, producer_of}
+use Rattle.sq_graph.specs.Wires.{producers_of, producer_of}
+use Rattle.sq_graph.specs.declared.Producer.{Producer}
+use Rattle.sq_graph.specs.declared.Producer.TheVariants.{Source, Port}
 use Rattle.sq_graph.proofs.Givers.{ports_of_box}
 use Rattle.sq_words.proofs.Alls.{all_append, all_at}
 

@@ -5,7 +5,9 @@ use Rattle.std.proofs.lemmas.List.{drop_more}
 use Rattle.sq_words.specs.Lists.{numbers_to}
 use Rattle.sq_graph.specs.declared.BoxWires.{BoxWires}
 use Rattle.sq_graph.specs.declared.Wiring.{Wiring}
-use Rattle.sq_graph.specs.Wires.{Producer, Source, Port, producer_of}
+use Rattle.sq_graph.specs.Wires.{producer_of}
+use Rattle.sq_graph.specs.declared.Producer.{Producer}
+use Rattle.sq_graph.specs.declared.Producer.TheVariants.{Source, Port}
 
 get_front_from : {X : Type 0} (f : ℕ → X) (a n s : ℕ) (rest : List X) → s < n → slice_get (map f (range_with_len a n) ++ rest) s ≡ Some (f (a + s))
 get_front_from f a zero s rest h = absurd (omega arith)

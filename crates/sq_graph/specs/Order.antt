@@ -4,7 +4,9 @@ use Rattle.std.specs.List.{find, list_all, list_any, All}
 use Rattle.sq_words.specs.Lists.{numbers_to, contains_number}
 use Rattle.sq_graph.specs.declared.BoxWires.{BoxWires}
 use Rattle.sq_graph.specs.declared.Wiring.{Wiring}
-use Rattle.sq_graph.specs.Wires.{Producer, Source, Port, producer_of, inputs_at, inputs_of}
+use Rattle.sq_graph.specs.Wires.{producer_of, inputs_at, inputs_of}
+use Rattle.sq_graph.specs.declared.Producer.{Producer}
+use Rattle.sq_graph.specs.declared.Producer.TheVariants.{Source, Port}
 
 -- whether a stream is a source's or one of these boxes'
 abbrev pub is_given : List ℕ → Option Producer → Bool

@@ -6,11 +6,10 @@
 //! a box back to itself, of any length. It stands on the lists of sq_value.
 #![tactic(auto)]
 
-ghost use Rattle.std.specs.Prelude.{◌≡◌, ℕ, ◌+◌, ◌<◌, ◌≤◌, ◌^◌, ◌++◌, Some, None, Option, length, map, replicate, slice_get, IfOk, IfErr, OnOk, option_map, true, false};
+ghost use Rattle.std.specs.Prelude.{◌≡◌, ℕ, ◌+◌, ◌<◌, ◌≤◌, ◌^◌, ◌++◌, Some, None, Option, length, map, replicate, slice_get, IfOk, IfErr, OnOk, true, false};
 ghost use Rattle.std.specs.List.{list_all, list_any, find, sum_by};
 ghost use Rattle.sq_words.specs.Lists.{numbers_to};
 ghost use Rattle.sq_graph.specs.Wires.{producer_of, producers_of, stream_at, arc_at, output_arc_at};
-ghost use Rattle.sq_graph.specs.Givers.{producer_seen};
 ghost use Rattle.sq_graph.specs.Order.{giver_of, is_given_by, is_fed_by, could_be_next, could_be_reached, order_of, ComesAfterInputs, LiesOnCycle, IsLeastOnCycle, IsWired};
 ghost use Rattle.sq_graph.specs.Errors.{NamesCycle};
 
@@ -246,23 +245,23 @@ pub fn stream_of(w: &Wiring, at: u32, port: u32) -> u32
 
 /// What gives a stream: a source, or a port of a box.
 #[derive(Clone, Copy, Debug, PartialEq, Eq, Drop)]
-pub enum Giver {
+pub enum Producer {
     Source { source: u32 },
     Port { at: u32, port: u32 },
 }
 
 /// What gives the stream of this number, where there is one.
-pub fn given_by(w: &Wiring, stream: u32) -> Option<Giver>
+pub fn given_by(w: &Wiring, stream: u32) -> Option<Producer>
     requires { length w.now.boxes < 2 ^ 32 }
-    ensures { option_map producer_seen result ≡ producer_of w.now stream }
+    ensures { result ≡ producer_of w.now stream }
 {
     if stream < w.sources {
-        return Some(Giver::Source { source: stream });
+        return Some(Producer::Source { source: stream });
     }
     let mut left = stream - w.sources;
     for (at, b) in w.boxes.as_slice().iter().enumerate() {
         if left < b.ports {
-            return Some(Giver::Port {
+            return Some(Producer::Port {
                 at: at as u32,
                 port: left,
             });

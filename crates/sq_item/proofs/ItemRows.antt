@@ -16,6 +16,6 @@ plain = record { time = 7; mark = None; body = Some (value.Null ∷ []) }
 
 -- a mark before its tuple, then a mark alone, then a tuple alone
 spread_of_items : spread_all (ridden ∷ alone ∷ plain ∷ [])
-    ≡ record { time = 5; load = Sign (mark.Open 9) } ∷ record { time = 5; load = Body (value.Int (pos 1) ∷ []) }
-    ∷ record { time = 7; load = Sign mark.Closed } ∷ record { time = 7; load = Body (value.Null ∷ []) } ∷ []
+    ≡ record { time = 5; content = Sign (mark.Open 9) } ∷ record { time = 5; content = Body (value.Int (pos 1) ∷ []) }
+    ∷ record { time = 7; content = Sign mark.Closed } ∷ record { time = 7; content = Body (value.Null ∷ []) } ∷ []
 spread_of_items = refl

@@ -6,26 +6,26 @@ use Rattle.sq_item.specs.declared.Mark.{Mark}
 use Rattle.sq_item.specs.declared.Item.{Item}
 
 -- what stands on an arc at a time: a mark, or the fields of a tuple
-pub data Load : Type 0 where
-  Sign : Mark → Load
-  Body : List Value → Load
+pub data Content : Type 0 where
+  Sign : Mark → Content
+  Body : List Value → Content
 
 -- a mark or a tuple with its time
 pub record Thing : Type 0 where
   pub time : ℕ
-  pub load : Load
+  pub content : Content
 
-abbrev pub is_body : Load → Bool
+abbrev pub is_body : Content → Bool
 is_body (Sign m) = false
 is_body (Body fields) = true
 
 abbrev pub mark_part : ℕ → Option Mark → List Thing
 mark_part time None = []
-mark_part time (Some mark) = record { time = time; load = Sign mark } ∷ []
+mark_part time (Some mark) = record { time = time; content = Sign mark } ∷ []
 
 abbrev pub body_part : ℕ → Option (List Value) → List Thing
 body_part time None = []
-body_part time (Some fields) = record { time = time; load = Body fields } ∷ []
+body_part time (Some fields) = record { time = time; content = Body fields } ∷ []
 
 -- an item is its mark and then its tuple
 abbrev pub spread : Item → List Thing

@@ -13,7 +13,7 @@ Element = whole.PortTuple
 
 abbrev pub elements_of : List Entry → List Element
 elements_of [] = []
-elements_of (e ∷ es) = on_side e.port (tuple_in e.thing.time e.thing.load) ++ elements_of es
+elements_of (e ∷ es) = on_side e.port (tuple_in e.thing.time e.thing.content) ++ elements_of es
 
 -- the tuples of one side
 abbrev pub side_of : ℕ → List Element → List Tuple

@@ -5,7 +5,7 @@ ghost use Rattle.sq_value.specs.declared.Value.{Value};
 ghost use Rattle.sq_item.specs.Things.{Thing};
 ghost use Rattle.sq_lists.specs.Pairs.{join_list_of};
 ghost use Rattle.sq_lists.specs.Sides.{AllNear};
-ghost use Rattle.sq_oper.specs.declared.tally.Place.{Place};
+ghost use Rattle.sq_oper.specs.declared.tally.Moment.{Moment};
 ghost use Rattle.sq_oper.specs.Entries.{Entry};
 ghost use Rattle.sq_oper.specs.Order.{IsFuture, time_of};
 ghost use Rattle.sq_oper.specs.Streams.{things, at_zero};
@@ -17,7 +17,7 @@ use crate::sides::take;
 use sq_expr::Typed;
 use sq_item::Item;
 use sq_lists::Sides;
-use sq_oper::{Decision, Operator, Outlet, Place, Tally};
+use sq_oper::{Decision, Operator, Outlet, Moment, Tally};
 use sq_outside::Steps;
 use sq_road::Levels;
 use sq_value::{Tuple, Value};
@@ -40,7 +40,7 @@ impl JoinBox {
     /// whose names begin with `l_`, and at port 1 each with which a pair has 16 values at most.
     pub fn new(alloc: Global, size: u64, on: Typed) -> JoinBox
         ensures list { (table : ℕ → ℕ → ℕ) (future : List Entry) (q : ℕ)
-            → IsFuture (⟦<JoinBox as Operator>⟧.takes_marks result) (⟦<JoinBox as Operator>⟧.fits result) Place.Start future
+            → IsFuture (⟦<JoinBox as Operator>⟧.takes_marks result) (⟦<JoinBox as Operator>⟧.fits result) Moment.Start future
             → ⟦<JoinBox as Operator>⟧.rest result table future q
             ≡ at_zero q (things (join_list_of size on.tree (side_of 0 (elements_of future)) (side_of 1 (elements_of future)))) }
         ensures none_lost { (future : List Entry) → ⟦<JoinBox as Operator>⟧.lost result future ≡ 0 }
@@ -49,7 +49,7 @@ impl JoinBox {
         ensures reads { (epoch : ℕ) → ⟦<JoinBox as Operator>⟧.reads result epoch ≡ true }
         ensures holds { (time : ℕ) (things : List Thing) → ⟦<JoinBox as Operator>⟧.may_hold result time things → things ≡ [] }
         ensures decides { (table : ℕ → ℕ → ℕ) (future : List Entry) → ⟦<JoinBox as Operator>⟧.decides result table future ≡ [] }
-        ensures start { (⟦<JoinBox as Operator>⟧.place result ≡ Place.Start) × (⟦<JoinBox as Operator>⟧.taken result ≡ 0) }
+        ensures start { (⟦<JoinBox as Operator>⟧.place result ≡ Moment.Start) × (⟦<JoinBox as Operator>⟧.taken result ≡ 0) }
         ensures valid { ⟦<JoinBox as Operator>⟧.valid result × IsTrue (⟦<JoinBox as Operator>⟧.running result) }
     {
         JoinBox {

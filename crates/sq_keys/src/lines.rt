@@ -5,7 +5,7 @@ ghost use Rattle.sq_net.specs.Sound.{IsSound};
 ghost use Rattle.sq_shard.specs.Keys.{cut_at, is_known_cut};
 ghost use Rattle.sq_keys.specs.Lines.{box_text, column_text, cut_text, is_lost, keys_text, kind_text, loss_line, names_at, keys_line, output_lines, some_lost};
 
-use sq_graph::{Giver, given_by};
+use sq_graph::{Producer, given_by};
 use sq_net::{Body, Network, Node, Output};
 use sq_shard::{Cut, first_loss, key_columns};
 use sq_value::Name;
@@ -18,11 +18,11 @@ fn names_at(n: &Network, stream: u32) -> &[Name]
 {
     match given_by(&n.wires, stream) {
         None => &[],
-        Some(Giver::Source { source }) => match n.sources.as_slice().get(source as usize) {
+        Some(Producer::Source { source }) => match n.sources.as_slice().get(source as usize) {
             None => &[],
             Some(source) => source.schema.names(),
         },
-        Some(Giver::Port { at, port }) => match n.boxes.as_slice().get(at as usize) {
+        Some(Producer::Port { at, port }) => match n.boxes.as_slice().get(at as usize) {
             None => &[],
             Some(node) => match node.schemas.as_slice().get(port as usize) {
                 None => &[],

@@ -6,7 +6,9 @@ use Rattle.std.proofs.lemmas.List.{get_or_past}
 use Rattle.std.proofs.lemmas.List.FromFn.{get_or-map-range_with_len, length-map-range_with_len}
 use Rattle.std.proofs.lemmas.Option.{slice_get_past}
 use Rattle.sq_value.specs.declared.Tuple.{Tuple}
-use Rattle.sq_graph.specs.Wires.{Producer, Source, Port, producers_of, producer_of, inputs_of}
+use Rattle.sq_graph.specs.Wires.{producers_of, producer_of, inputs_of}
+use Rattle.sq_graph.specs.declared.Producer.{Producer}
+use Rattle.sq_graph.specs.declared.Producer.TheVariants.{Source, Port}
 use Rattle.sq_graph.specs.Order.{can_be_next, is_given, order_of}
 use Rattle.sq_graph.proofs.Following.{order_follows}
 use Rattle.sq_graph.proofs.Reach.{port_is_box}

@@ -10,7 +10,8 @@ use Rattle.sq_value.specs.Values.{Columns}
 use Rattle.sq_words.specs.Lists.{least_by, nth}
 use Rattle.sq_graph.specs.declared.BoxKind.TheVariants as boxes
 use Rattle.sq_graph.specs.declared.BoxWires.{BoxWires}
-use Rattle.sq_graph.specs.Wires.{Port, producer_of, inputs_of, stream_at}
+use Rattle.sq_graph.specs.Wires.{producer_of, inputs_of, stream_at}
+use Rattle.sq_graph.specs.declared.Producer.TheVariants.{Port}
 use Rattle.sq_lists.specs.Sorting.{Numbered, numbered_sooner, retimed, without_number, tuple_if, sorted_within, bsort_list_of}
 use Rattle.sq_net.specs.declared.Body.{Body}
 use Rattle.sq_net.specs.declared.Body.TheVariants.{Filter, Map, Union, BSort, Aggregate, Join, Resample}

@@ -8,7 +8,9 @@ use Rattle.std.proofs.lemmas.Option.{slice_get_within}
 use Rattle.sq_words.specs.Lists.{numbers_to}
 use Rattle.sq_graph.specs.declared.BoxWires.{BoxWires}
 use Rattle.sq_graph.specs.declared.Wiring.{Wiring}
-use Rattle.sq_graph.specs.Wires.{Producer, Source, Port, producers_of, producer_of, stream_at}
+use Rattle.sq_graph.specs.Wires.{producers_of, producer_of, stream_at}
+use Rattle.sq_graph.specs.declared.Producer.{Producer}
+use Rattle.sq_graph.specs.declared.Producer.TheVariants.{Source, Port}
 use Rattle.sq_graph.proofs.Streams.{get_front, get_past, ports_from, stream_of_source, stream_of_box}
 
 abbrev ports_before : ℕ → List BoxWires → ℕ

@@ -7,7 +7,9 @@ use Rattle.std.proofs.lemmas.List.Folds.{list_any-append}
 use Rattle.std.proofs.lemmas.Option.{slice_get-get_or, slice_get_within}
 use Rattle.sq_value.specs.declared.Tuple.{Tuple}
 use Rattle.sq_graph.specs.declared.BoxWires.{BoxWires}
-use Rattle.sq_graph.specs.Wires.{Producer, Source, Port, producers_of, producer_of, inputs_at, inputs_of, stream_at}
+use Rattle.sq_graph.specs.Wires.{producers_of, producer_of, inputs_at, inputs_of, stream_at}
+use Rattle.sq_graph.specs.declared.Producer.{Producer}
+use Rattle.sq_graph.specs.declared.Producer.TheVariants.{Source, Port}
 use Rattle.sq_graph.specs.Order.{can_be_next, is_given, order_of}
 use Rattle.sq_graph.proofs.Producers.{producer_is}
 use Rattle.sq_net.specs.declared.Network.{Network}

@@ -9,7 +9,9 @@ use Rattle.sq_value.specs.Values.{Columns, fields_fit, kinds_of}
 use Rattle.sq_words.specs.Lists.{ports_of, nth}
 use Rattle.sq_expr.specs.Trees.{Checked}
 use Rattle.sq_graph.specs.declared.BoxWires.{BoxWires}
-use Rattle.sq_graph.specs.Wires.{Producer, Source, Port, producer_of, inputs_of, inputs_at}
+use Rattle.sq_graph.specs.Wires.{producer_of, inputs_of, inputs_at}
+use Rattle.sq_graph.specs.declared.Producer.{Producer}
+use Rattle.sq_graph.specs.declared.Producer.TheVariants.{Source, Port}
 use Rattle.sq_graph.specs.Order.{is_there}
 use Rattle.sq_lists.specs.Merge.{union}
 use Rattle.sq_lists.specs.Merge as whole

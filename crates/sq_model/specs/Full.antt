@@ -2,7 +2,9 @@
 use Rattle.std.specs.Prelude.{ℕ, zero, suc, ◌+◌, List, [], map, length, Option, Some, None, slice_get}
 use Rattle.sq_value.specs.declared.Tuple.{Tuple}
 use Rattle.sq_words.specs.Lists.{numbers_to, nth}
-use Rattle.sq_graph.specs.Wires.{Arc, Producer, Source, Port, producers_of, producer_of, arcs_of, inputs_of}
+use Rattle.sq_graph.specs.Wires.{Arc, producers_of, producer_of, arcs_of, inputs_of}
+use Rattle.sq_graph.specs.declared.Producer.{Producer}
+use Rattle.sq_graph.specs.declared.Producer.TheVariants.{Source, Port}
 use Rattle.sq_lists.specs.Merge.{union}
 use Rattle.sq_lists.specs.Boxes.{filter_list_of, map_list_of}
 use Rattle.sq_lists.specs.Sorting.{bsort_list_of}

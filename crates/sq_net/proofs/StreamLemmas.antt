@@ -7,7 +7,9 @@ use Rattle.std.proofs.lemmas.Option.{slice_get-map, slice_get_within}
 use Rattle.sq_value.specs.Values.{Columns}
 use Rattle.sq_graph.specs.declared.BoxKind.{BoxKind}
 use Rattle.sq_graph.specs.declared.BoxWires.{BoxWires}
-use Rattle.sq_graph.specs.Wires.{Producer, Source, Port, producer_of}
+use Rattle.sq_graph.specs.Wires.{producer_of}
+use Rattle.sq_graph.specs.declared.Producer.{Producer}
+use Rattle.sq_graph.specs.declared.Producer.TheVariants.{Source, Port}
 use Rattle.sq_graph.specs.Order.{is_there}
 use Rattle.sq_graph.proofs.Producers.{IsProducer, producer_is}
 use Rattle.sq_net.specs.declared.Network.{Network}

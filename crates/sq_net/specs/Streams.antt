@@ -1,7 +1,9 @@
 -- The columns of streams: those of the source, or of the port of a box, that gives the stream.
 use Rattle.std.specs.Prelude.{◌≡◌, ℕ, Option, Some, None, slice_get, option_map}
 use Rattle.sq_value.specs.Values.{Columns}
-use Rattle.sq_graph.specs.Wires.{Producer, Source, Port, producer_of}
+use Rattle.sq_graph.specs.Wires.{producer_of}
+use Rattle.sq_graph.specs.declared.Producer.{Producer}
+use Rattle.sq_graph.specs.declared.Producer.TheVariants.{Source, Port}
 use Rattle.sq_net.specs.declared.Network.{Network}
 use Rattle.sq_net.specs.declared.Node.{Node}
 

@@ -12,7 +12,7 @@ ghost use Rattle.sq_net.specs.Streams.{columns_of_stream, IsTyped};
 
 use sq_aggfn::{Func, WindowSpec};
 use sq_expr::{ParseErr, Typed};
-use sq_graph::{Giver, Wiring, given_by};
+use sq_graph::{Producer, Wiring, given_by};
 use sq_qos::{Graph, GraphErr};
 use sq_value::{ListOf, Name, Schema};
 use std::alloc::AllocError;
@@ -98,8 +98,8 @@ impl Network {
         ensures { columns_of_stream self.now stream ≡ Some result.now }
     {
         match given_by(&self.wires, stream) {
-            Some(Giver::Source { source }) => &self.sources.as_slice()[source as usize].schema,
-            Some(Giver::Port { at, port }) => {
+            Some(Producer::Source { source }) => &self.sources.as_slice()[source as usize].schema,
+            Some(Producer::Port { at, port }) => {
                 let node = &self.boxes.as_slice()[at as usize];
                 &node.schemas.as_slice()[port as usize]
             }

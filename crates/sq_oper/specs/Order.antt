@@ -1,8 +1,8 @@
 use Rattle.std.specs.Prelude.{ℕ, ◌+◌, ◌==◌, nat_lt, nat_le, Bool, true, false, ◌&&◌, ◌||◌, not, List, [], ◌∷◌, IsTrue, if◌then◌else◌}
 use Rattle.sq_value.specs.declared.Value.{Value}
-use Rattle.sq_oper.specs.declared.tally.Place.{Place}
-use Rattle.sq_oper.specs.declared.tally.Place.TheVariants.{Start, At}
-use Rattle.sq_item.specs.Things.{Load, Sign, Body, Thing, is_body}
+use Rattle.sq_oper.specs.declared.tally.Moment.{Moment}
+use Rattle.sq_oper.specs.declared.tally.Moment.TheVariants.{Start, At}
+use Rattle.sq_item.specs.Things.{Content, Sign, Body, Thing, is_body}
 use Rattle.sq_oper.specs.Entries.{Entry, at_port}
 
 -- x stands before y: by time, then by port
@@ -29,50 +29,50 @@ merge lists = merge_from 0 lists
 
 -- the entry may come next where the last one stands at this place: it stands after it, a mark stands before the
 -- tuples of its port and time and comes once there, and the first entry of a time that has marks is a mark
-abbrev pub may_come : Place → Entry → Bool
+abbrev pub may_come : Moment → Entry → Bool
 may_come Start entry = true
 may_come (At time port marked) entry =
     nat_lt time entry.thing.time
     || (time == entry.thing.time
-    && ((is_body entry.thing.load && nat_le port entry.port) || (not (is_body entry.thing.load) && marked && nat_lt port entry.port)))
+    && ((is_body entry.thing.content && nat_le port entry.port) || (not (is_body entry.thing.content) && marked && nat_lt port entry.port)))
 
 -- a mark of this time came already
-abbrev pub marked_at : Place → ℕ → Bool
+abbrev pub marked_at : Moment → ℕ → Bool
 marked_at Start time = false
 marked_at (At last port marked) time = last == time && marked
 
 -- the time of the last item, 0 before the first
-abbrev pub time_of : Place → ℕ
+abbrev pub time_of : Moment → ℕ
 time_of Start = 0
 time_of (At time port marked) = time
 
 -- the place after an entry
-abbrev pub moment_after : Place → Entry → Place
-moment_after place entry = At entry.thing.time entry.port (not (is_body entry.thing.load) || marked_at place entry.thing.time)
+abbrev pub moment_after : Moment → Entry → Moment
+moment_after place entry = At entry.thing.time entry.port (not (is_body entry.thing.content) || marked_at place entry.thing.time)
 
-abbrev pub after_all : Place → List Entry → Place
+abbrev pub after_all : Moment → List Entry → Moment
 after_all place [] = place
 after_all place (entry ∷ entries) = after_all (moment_after place entry) entries
 
 -- each entry may come after the one before it
-abbrev pub InOrder : Place → List Entry → Type 0
+abbrev pub InOrder : Moment → List Entry → Type 0
 InOrder place [] = Unit {0}
 InOrder place (entry ∷ entries) = IsTrue (may_come place entry) × InOrder (moment_after place entry) entries
 
 -- each tuple fits its port, and marks come only at ports that take them
-abbrev pub load_fits : (ℕ → Bool) → (ℕ → List Value → Bool) → ℕ → Load → Bool
-load_fits marks fits port (Sign mark) = marks port
-load_fits marks fits port (Body fields) = fits port fields
+abbrev pub content_fits : (ℕ → Bool) → (ℕ → List Value → Bool) → ℕ → Content → Bool
+content_fits marks fits port (Sign mark) = marks port
+content_fits marks fits port (Body fields) = fits port fields
 
 abbrev pub AllFit : (ℕ → Bool) → (ℕ → List Value → Bool) → List Entry → Type 0
 AllFit marks fits [] = Unit {0}
-AllFit marks fits (entry ∷ entries) = IsTrue (load_fits marks fits entry.port entry.thing.load) × AllFit marks fits entries
+AllFit marks fits (entry ∷ entries) = IsTrue (content_fits marks fits entry.port entry.thing.content) × AllFit marks fits entries
 
 -- no port takes marks
 abbrev pub unmarked : ℕ → Bool
 unmarked port = false
 
 -- a tagged list that may still come to a state which stands at this place
-pub record IsFuture (marks : ℕ → Bool) (fits : ℕ → List Value → Bool) (place : Place) (future : List Entry) : Type 0 where
+pub record IsFuture (marks : ℕ → Bool) (fits : ℕ → List Value → Bool) (place : Moment) (future : List Entry) : Type 0 where
   pub in_order : InOrder place future
   pub fitting : AllFit marks fits future

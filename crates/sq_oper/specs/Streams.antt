@@ -3,7 +3,7 @@ use Rattle.std.specs.Prelude.{ℕ, ◌^◌, ◌<◌, ◌==◌, if◌then◌else�
 use Rattle.std.specs.List.{filter}
 use Rattle.sq_value.specs.declared.Tuple.{Tuple}
 use Rattle.sq_item.specs.Sound.{IsBody}
-use Rattle.sq_item.specs.Things.{Load, Sign, Body, Thing}
+use Rattle.sq_item.specs.Things.{Content, Sign, Body, Thing}
 use Rattle.sq_oper.specs.Entries.{Entry}
 use Rattle.sq_value.specs.declared.Value.{Value}
 
@@ -11,21 +11,21 @@ use Rattle.sq_value.specs.declared.Value.{Value}
 abbrev pub IsSoundTuple : Tuple → Type 0
 IsSoundTuple x = (x.time < 2 ^ 40) × IsBody (Some x.fields)
 
-abbrev pub tuple_in : ℕ → Load → List Tuple
+abbrev pub tuple_in : ℕ → Content → List Tuple
 tuple_in time (Sign m) = []
 tuple_in time (Body fields) = record { time = time; fields = fields } ∷ []
 
 -- the tuples of a tagged list
 abbrev pub tuples_of : List Entry → List Tuple
 tuples_of [] = []
-tuples_of (e ∷ es) = tuple_in e.thing.time e.thing.load ++ tuples_of es
+tuples_of (e ∷ es) = tuple_in e.thing.time e.thing.content ++ tuples_of es
 
 -- those of them that come at a port
 abbrev pub tuples_at : ℕ → List Entry → List Tuple
 tuples_at port es = tuples_of (filter (λ e. e.port == port) es)
 
 abbrev pub thing_of : Tuple → Thing
-thing_of x = record { time = x.time; load = Body x.fields }
+thing_of x = record { time = x.time; content = Body x.fields }
 
 abbrev pub things : List Tuple → List Thing
 things xs = map thing_of xs
@@ -36,7 +36,7 @@ at_zero q xs = if 0 == q then xs else []
 
 abbrev pub tuples_in : List Thing → List Tuple
 tuples_in [] = []
-tuples_in (x ∷ xs) = tuple_in x.time x.load ++ tuples_in xs
+tuples_in (x ∷ xs) = tuple_in x.time x.content ++ tuples_in xs
 
 -- what stands at each of the first ports
 abbrev pub at_ports_below : {A : Type 0} → ℕ → ℕ → List A → List A

@@ -8,19 +8,19 @@ use sq_item::Item;
 
 /// The place of the last item that was fed, and whether a mark of its time was.
 #[derive(Clone, Copy, Debug, PartialEq, Eq, Drop)]
-pub enum Place {
+pub enum Moment {
     Start,
     At { time: u64, port: u32, marked: bool },
 }
 
-impl Place {
+impl Moment {
     /// Whether a mark of this time was fed.
     pub fn is_marked_at(self, time: u64) -> bool
         ensures { result ≡ marked_at self time }
     {
         match self {
-            Place::Start => false,
-            Place::At {
+            Moment::Start => false,
+            Moment::At {
                 time: last,
                 port: _,
                 marked,
@@ -32,7 +32,7 @@ impl Place {
 /// The place of the last item, how many tuples were fed, and whether the operator isn't finished.
 #[derive(Debug, Drop)]
 pub struct Tally {
-    pub place: Place,
+    pub place: Moment,
     pub taken: u64,
     pub running: bool,
 }
@@ -40,10 +40,10 @@ pub struct Tally {
 impl Tally {
     /// Nothing was fed.
     pub fn new() -> Tally
-        ensures { result ≡ record { place = Place.Start; taken = 0; running = true } }
+        ensures { result ≡ record { place = Moment.Start; taken = 0; running = true } }
     {
         Tally {
-            place: Place::Start,
+            place: Moment::Start,
             taken: 0,
             running: true,
         }
@@ -62,18 +62,18 @@ impl Tally {
             (false, false) => {}
             (false, true) => {
                 let marked = self.place.is_marked_at(time);
-                self.place = Place::At { time, port, marked };
+                self.place = Moment::At { time, port, marked };
                 self.taken += 1;
             }
             (true, false) => {
-                self.place = Place::At {
+                self.place = Moment::At {
                     time,
                     port,
                     marked: true,
                 };
             }
             (true, true) => {
-                self.place = Place::At {
+                self.place = Moment::At {
                     time,
                     port,
                     marked: true,

@@ -1,5 +1,5 @@
 // A file of every kind of box. Files that are refused are cases of the top call.
-use sq_tables::raw_of;
+use sq_tables::network_table_of;
 use std::test::Fail;
 
 const FILE: &str = "version = 1
@@ -17,7 +17,7 @@ box = [
 
 #[test]
 fn a_file_of_every_kind_of_box_is_read(rt: HostRuntime) -> Result<(), Fail> {
-    let raw = raw_of(rt.alloc(), FILE.as_bytes())?;
+    let raw = network_table_of(rt.alloc(), FILE.as_bytes())?;
     assert_eq!(rt; (raw.epoch, raw.batch), (4, 1));
     assert_eq!(rt;
         (raw.sources.as_slice().len(), raw.boxes.as_slice().len()),

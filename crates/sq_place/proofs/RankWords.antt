@@ -1,7 +1,8 @@
 -- Ranks of the boxes: each stands above those that it takes from: words of the proofs alone.
 use Rattle.std.specs.List.{AllByRecursion, list_all}
 use Rattle.std.specs.Prelude.{List, Some, length, suc, true, ℕ, [], ◌≡◌, ◌<◌, ◌==◌, if◌then◌else◌, ◌∷◌}
-use Rattle.sq_graph.specs.Wires.{Port, inputs_of, producer_of}
+use Rattle.sq_graph.specs.Wires.{inputs_of, producer_of}
+use Rattle.sq_graph.specs.declared.Producer.TheVariants.{Port}
 use Rattle.sq_graph.specs.declared.Wiring.{Wiring}
 use Rattle.sq_words.specs.Lists.{contains_number, numbers_to}
 use Rattle.sq_graph.specs.Order.{order_of}

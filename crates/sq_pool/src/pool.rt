@@ -4,7 +4,7 @@ ghost use Rattle.sha2.specs.Sha256.{sha256};
 ghost use Rattle.sq_pool.specs.Pools.{zeros};
 
 use crate::frames::Frames;
-use crate::slots::{Digest, Place, Slots};
+use crate::slots::{Digest, Whereabouts, Slots};
 use sha2::Sha256;
 use sq_outside::PageDisk;
 use std::alloc::{AllocError, Global};
@@ -109,9 +109,9 @@ impl Pool {
             return false;
         }
         match self.slots.place(page) {
-            Place::Resident(_) => true,
-            Place::Spilled(_) => true,
-            Place::Absent => false,
+            Whereabouts::Resident(_) => true,
+            Whereabouts::Spilled(_) => true,
+            Whereabouts::Absent => false,
         }
     }
 
@@ -132,7 +132,7 @@ impl Pool {
         let digest = digest_of(bytes);
         match disk.put(page, bytes) {
             Ok(()) => {
-                self.slots.release(page, frame, Place::Spilled(digest));
+                self.slots.release(page, frame, Whereabouts::Spilled(digest));
                 self.resident -= 1;
                 Ok(())
             }
@@ -163,9 +163,9 @@ impl Pool {
     {
         self.slots.sound();
         match self.slots.place(page) {
-            Place::Resident(_) => true,
-            Place::Absent => false,
-            Place::Spilled(_) => false,
+            Whereabouts::Resident(_) => true,
+            Whereabouts::Absent => false,
+            Whereabouts::Spilled(_) => false,
         }
     }
 
@@ -251,15 +251,15 @@ impl Pool {
     {
         self.slots.sound();
         match self.slots.place(page) {
-            Place::Resident(frame) => {
+            Whereabouts::Resident(frame) => {
                 self.slots.touch(page, frame);
                 Ok(())
             }
-            Place::Spilled(kept) => {
+            Whereabouts::Spilled(kept) => {
                 self.fetch(disk, page, kept)?;
                 Ok(())
             }
-            Place::Absent => Ok(()),
+            Whereabouts::Absent => Ok(()),
         }
     }
 
@@ -304,20 +304,20 @@ impl Pool {
     {
         self.slots.sound();
         match self.slots.place(page) {
-            Place::Resident(frame) => {
-                self.slots.release(page, frame, Place::Absent);
+            Whereabouts::Resident(frame) => {
+                self.slots.release(page, frame, Whereabouts::Absent);
                 self.slots.give_number(page);
                 self.resident -= 1;
                 Ok(())
             }
-            Place::Spilled(_) => match disk.give_up(page) {
+            Whereabouts::Spilled(_) => match disk.give_up(page) {
                 Ok(()) => {
                     self.slots.forget(page);
                     Ok(())
                 }
                 Err(_) => Err(PoolErr::Disk),
             },
-            Place::Absent => Ok(()),
+            Whereabouts::Absent => Ok(()),
         }
     }
 

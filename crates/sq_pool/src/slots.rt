@@ -11,7 +11,7 @@ pub struct Digest(pub [u8; 32]);
 
 /// Where the bytes of a page are.
 #[derive(Clone, Copy, Debug, Drop)]
-pub enum Place {
+pub enum Whereabouts {
     /// There is no page of this number.
     Absent,
     /// In a frame.
@@ -25,7 +25,7 @@ pub enum Place {
 pub struct Slots {
     chain: Chains,
     owners: Vec<u64>,
-    places: Vec<Place>,
+    places: Vec<Whereabouts>,
     // Numbers that were given up; one that has a page again by now is passed over.
     unused: Vec<u64>,
 }
@@ -69,9 +69,9 @@ impl Slots {
             return false;
         }
         match self.place(page) {
-            Place::Absent => true,
-            Place::Resident(_) => false,
-            Place::Spilled(_) => false,
+            Whereabouts::Absent => true,
+            Whereabouts::Resident(_) => false,
+            Whereabouts::Spilled(_) => false,
         }
     }
 
@@ -96,7 +96,7 @@ impl Slots {
         ensures err { OnErr result (self.new ≡ self.old) }
     {
         let page = self.places.len() as u64;
-        self.places.push(Place::Absent)?;
+        self.places.push(Whereabouts::Absent)?;
         Ok(page)
     }
 
@@ -135,7 +135,7 @@ impl Slots {
     }
 
     /// Where a page is.
-    pub fn place(&self, page: u64) -> Place
+    pub fn place(&self, page: u64) -> Whereabouts
         requires { page < length self.now.kept }
         ensures frame { frame_in page self.now.order ≡ frame_of result }
         ensures kept { digest_at self.now.kept page ≡ digest_of result }
@@ -157,7 +157,7 @@ impl Slots {
         ensures { frame_in page self.now.order ≡ Some result }
     {
         match self.place(page) {
-            Place::Resident(frame) => frame,
+            Whereabouts::Resident(frame) => frame,
             _ => 0,
         }
     }
@@ -172,7 +172,7 @@ impl Slots {
     }
 
     /// Takes the page out of its frame, which is free then. From now on the page is as the place says, in no frame.
-    pub fn release(&mut self, page: u64, frame: u64, place: Place)
+    pub fn release(&mut self, page: u64, frame: u64, place: Whereabouts)
         requires resident { frame_in page self.old.order ≡ Some frame }
         requires place { frame_of place ≡ None }
         ensures { self.new ≡ record self.old {
@@ -192,7 +192,7 @@ impl Slots {
         requires out { frame_in page self.old.order ≡ None }
         ensures { self.new ≡ record self.old { kept = slice_set self.old.kept page None } }
     {
-        self.places[page as usize] = Place::Absent;
+        self.places[page as usize] = Whereabouts::Absent;
         let _ = self.unused.push(page);
     }
 
@@ -213,7 +213,7 @@ impl Slots {
             return 0;
         };
         self.owners[frame as usize] = page;
-        self.places[page as usize] = Place::Resident(frame);
+        self.places[page as usize] = Whereabouts::Resident(frame);
         self.chain.push_back(0, frame);
         frame
     }

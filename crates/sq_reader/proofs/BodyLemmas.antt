@@ -25,11 +25,11 @@ use Rattle.sq_net.specs.Sound.{AreNew, HasWindow, IsOver, IsPredicate, IsTypedBo
 use Rattle.sq_net.specs.Sound as sound
 use Rattle.sq_tables.specs.declared.raw.AnswerColumn.{AnswerColumn}
 use Rattle.sq_tables.specs.declared.raw.Setting.{Setting}
-use Rattle.sq_tables.specs.declared.raw.RawBody.{RawBody}
-use Rattle.sq_tables.specs.declared.raw.RawBody.TheVariants.{Filter, Map, Union, BSort, Aggregate, Join, Resample}
-use Rattle.sq_tables.specs.declared.raw.RawBox.{RawBox}
+use Rattle.sq_tables.specs.declared.raw.BodyTable.{BodyTable}
+use Rattle.sq_tables.specs.declared.raw.BodyTable.TheVariants.{Filter, Map, Union, BSort, Aggregate, Join, Resample}
+use Rattle.sq_tables.specs.declared.raw.BoxTable.{BoxTable}
 use Rattle.sq_tables.specs.Places.{place_at}
-use Rattle.sq_tables.specs.Rawly.{or_broken}
+use Rattle.sq_tables.specs.Tables.{or_broken}
 use Rattle.sq_tables.specs.Shapes.{port_count}
 use Rattle.sq_reader.specs.Limits.{told_body_within, first_failing, has_between, is_int_between, is_expression_long}
 use Rattle.sq_reader.specs.Windows.{has_window}
@@ -54,7 +54,7 @@ use Rattle.sq_words.proofs.Numbers.{nat_le_true}
 use Rattle.sq_tables.proofs.EvenLemmas.{read_as}
 
 -- a box of the file, and what it was typed as on these columns
-pub record IsBodyOf (raw : RawBody) (ins : List Columns) (t : TypedBody) : Type 0 where
+pub record IsBodyOf (raw : BodyTable) (ins : List Columns) (t : TypedBody) : Type 0 where
   pub typed : IsTypedBody ins t.0 t.1
   pub kind : wires.kind_of_told_body raw ≡ kind_of_body t.0
   pub ports : port_count raw ≡ length t.1
@@ -284,7 +284,7 @@ resample_is n size give ins t h =
     let P : TypedBody → Type 0 = IsBodyOf (Resample size give) ins in
     subst P same built
 
-pub body_is : (n : ℕ) (raw : RawBody) (ins : List Columns) (t : TypedBody) → typed_body n raw ins ≡ Ok t → IsBodyOf raw ins t
+pub body_is : (n : ℕ) (raw : BodyTable) (ins : List Columns) (t : TypedBody) → typed_body n raw ins ≡ Ok t → IsBodyOf raw ins t
 body_is n (Filter preds) ins t h = filter_is n preds ins t h
 body_is n (Map set) ins t h = map_is n set ins t h
 body_is n Union ins t h = union_is n ins t h
@@ -294,12 +294,12 @@ body_is n (Join size on) ins t h = join_is n size on ins t h
 body_is n (Resample size give) ins t h = resample_is n size give ins t h
 
 -- a box of the file, and the node that it was typed as on these columns
-pub record IsNodeOf (raw : RawBox) (ins : List Columns) (b : Node) : Type 0 where
+pub record IsNodeOf (raw : BoxTable) (ins : List Columns) (b : Node) : Type 0 where
   pub body : IsBodyOf raw.body ins (b.body, b.schemas)
   pub cost : b.cost ≡ nat_of raw.cost
   pub selectivity : b.selectivity ≡ map nat_of raw.selectivity
 
-pub node_is : (n : ℕ) (raw : RawBox) (ins : List Columns) (b : Node) → node_in n raw ins ≡ Ok b → IsNodeOf raw ins b
+pub node_is : (n : ℕ) (raw : BoxTable) (ins : List Columns) (b : Node) → node_in n raw ins ≡ Ok b → IsNodeOf raw ins b
 node_is n raw ins b h =
     let one = first_step (typed_body n raw.body ins) (λ t. Ok (node_of raw t)) b h in
     let same : node_of raw one.0 ≡ b = (let last = one.1.1 in cc) in

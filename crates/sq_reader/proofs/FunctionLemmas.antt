@@ -22,7 +22,7 @@ use Rattle.sq_net.specs.declared.Part.TheVariants as part
 use Rattle.sq_tables.specs.declared.raw.Answer.{Answer}
 use Rattle.sq_tables.specs.declared.raw.AnswerColumn.{AnswerColumn}
 use Rattle.sq_tables.specs.Places.{place_at}
-use Rattle.sq_tables.specs.Rawly.{or_broken}
+use Rattle.sq_tables.specs.Tables.{or_broken}
 use Rattle.sq_reader.specs.Columns.{bad_given, bad_name, give_names, too_many}
 use Rattle.sq_reader.specs.Functions.{func_in, func_for, funcs_from, group_from, group_place, if_kinded, kinds_answered}
 use Rattle.sq_tables.proofs.ShapedLemmas.{first_step}

@@ -6,14 +6,14 @@ use Rattle.std.proofs.lemmas.Bool.Decides.{nat_tests}
 use Rattle.std.proofs.lemmas.List.{length-map}
 use Rattle.sq_net.specs.declared.Part.TheVariants as part
 use Rattle.sq_net.specs.declared.Place.{Place}
-use Rattle.sq_tables.specs.declared.raw.RawSource.{RawSource}
+use Rattle.sq_tables.specs.declared.raw.SourceTable.{SourceTable}
 use Rattle.sq_tables.specs.declared.raw.AnswerColumn.{AnswerColumn}
 use Rattle.sq_tables.specs.declared.raw.Setting.{Setting}
-use Rattle.sq_tables.specs.declared.raw.RawBody.{RawBody}
-use Rattle.sq_tables.specs.declared.raw.RawBody.TheVariants.{Filter, Map, Union, BSort, Aggregate, Join, Resample}
-use Rattle.sq_tables.specs.declared.raw.RawBox.{RawBox}
-use Rattle.sq_tables.specs.declared.raw.RawOutput.{RawOutput}
-use Rattle.sq_tables.specs.declared.raw.Raw.{Raw}
+use Rattle.sq_tables.specs.declared.raw.BodyTable.{BodyTable}
+use Rattle.sq_tables.specs.declared.raw.BodyTable.TheVariants.{Filter, Map, Union, BSort, Aggregate, Join, Resample}
+use Rattle.sq_tables.specs.declared.raw.BoxTable.{BoxTable}
+use Rattle.sq_tables.specs.declared.raw.OutputTable.{OutputTable}
+use Rattle.sq_tables.specs.declared.raw.NetworkTable.{NetworkTable}
 use Rattle.sq_tables.specs.Places.{or_else, part_place}
 use Rattle.sq_reader.specs.Limits as limits
 use Rattle.sq_reader.specs.Limits.{told_body_within, box_within, first_failing, has_between, inputs_within, is_int_between, is_expression_long, limit_place, told_output_within, told_source_within, top_within}
@@ -37,13 +37,13 @@ few low high xs h = grind (arith, nat_tests)
 some : {A : Type 0} (low high : ℕ) (xs : List A) → has_between low high xs ≡ true → low ≤ length xs
 some low high xs h = grind (arith, nat_tests)
 
-pub record IsWithin (r : Raw) : Type 0 where
+pub record IsWithin (r : NetworkTable) : Type 0 where
   pub top : top_within r ≡ true
   pub sources : list_all limits.told_source_within r.sources ≡ true
   pub boxes : list_all box_within r.boxes ≡ true
   pub outputs : list_all told_output_within r.outputs ≡ true
 
-pub is_within : (r : Raw) → limit_place r ≡ None → IsWithin r
+pub is_within : (r : NetworkTable) → limit_place r ≡ None → IsWithin r
 is_within r h = by_test (top_within r) refl h
   where
     wide_source : Option Place
@@ -68,7 +68,7 @@ is_within r h = by_test (top_within r) refl h
     by_test false is e = cc
 
 -- the counts of a file within its limits, and that its parts are within theirs
-pub record Counts (r : Raw) : Type 0 where
+pub record Counts (r : NetworkTable) : Type 0 where
   pub sources : length r.sources ≤ 8
   pub boxes : length r.boxes ≤ 128
   pub outputs : length r.outputs ≤ 32
@@ -76,7 +76,7 @@ pub record Counts (r : Raw) : Type 0 where
   pub each_box : list_all box_within r.boxes ≡ true
   pub each_output : list_all told_output_within r.outputs ≡ true
 
-pub counts_of : (r : Raw) → limit_place r ≡ None → Counts r
+pub counts_of : (r : NetworkTable) → limit_place r ≡ None → Counts r
 counts_of r h =
     let w = is_within r h in
     let a = and_true _ _ w.top in
@@ -98,11 +98,11 @@ number_within low high (negsuc n) h = cc
 
 -- ---- the parts
 
-pub record OutputWithin (o : RawOutput) : Type 0 where
+pub record OutputWithin (o : OutputTable) : Type 0 where
   pub light : nat_of o.weight ≤ 1000
   pub few : length o.graph ≤ 1000
 
-pub output_of : (o : RawOutput) → told_output_within o ≡ true → OutputWithin o
+pub output_of : (o : OutputTable) → told_output_within o ≡ true → OutputWithin o
 output_of o h =
     let parts = and_true (is_int_between 0 1000 o.weight) (has_between 0 1000 o.graph) h in
     record { light = number_few o.weight parts.0; few = few 0 1000 o.graph parts.1 }
@@ -114,11 +114,11 @@ output_of o h =
 pub expression_few : (text : List ℕ) → is_expression_long text ≡ true → length text ≤ 4096
 expression_few text h = few 1 4096 text h
 
-pub record FieldsWithin (s : RawSource) : Type 0 where
+pub record FieldsWithin (s : SourceTable) : Type 0 where
   pub some : 1 ≤ length s.fields
   pub few : length s.fields ≤ 16
 
-pub fields_of : (s : RawSource) → told_source_within s ≡ true → FieldsWithin s
+pub fields_of : (s : SourceTable) → told_source_within s ≡ true → FieldsWithin s
 fields_of s h =
     let parts = and_true (has_between 1 255 s.file) (has_between 1 16 s.fields) h in
     record { some = some 1 16 s.fields parts.1; few = few 1 16 s.fields parts.1 }
@@ -185,10 +185,10 @@ takes_few boxes.Aggregate n h = grind (arith, nat_tests)
 takes_few boxes.Join n h = grind (arith, nat_tests)
 takes_few boxes.Resample n h = grind (arith, nat_tests)
 
-pub takes_of : (b : RawBody) (n : ℕ) → takes_within (kind_of_told_body b) n ≡ true → TakesWithin n
+pub takes_of : (b : BodyTable) (n : ℕ) → takes_within (kind_of_told_body b) n ≡ true → TakesWithin n
 takes_of b n h = takes_few (kind_of_told_body b) n h
 
-pub ports_few : (b : RawBody) → told_body_within b ≡ true → port_count b ≤ 16
+pub ports_few : (b : BodyTable) → told_body_within b ≡ true → port_count b ≤ 16
 ports_few (Filter preds) h = let low = (predicates_of preds h).few in omega (arith, low)
 ports_few (Map set) h = omega arith
 ports_few Union h = omega arith
@@ -197,19 +197,19 @@ ports_few (Aggregate size advance phase group give) h = omega arith
 ports_few (Join size on) h = omega arith
 ports_few (Resample size give) h = omega arith
 
-pub record BoxWithin (b : RawBox) : Type 0 where
+pub record BoxWithin (b : BoxTable) : Type 0 where
   pub body : told_body_within b.body ≡ true
   pub some : 1 ≤ length b.ins
   pub few : length b.ins ≤ 8
 
-pub box_of : (b : RawBox) → box_within b ≡ true → BoxWithin b
+pub box_of : (b : BoxTable) → box_within b ≡ true → BoxWithin b
 box_of b h =
     let front = and_true (told_body_within b.body && inputs_within b.body b.ins && is_int_between 0 1000 b.cost) (list_all (is_int_between 0 1000000) b.selectivity) h in
     let middle = and_true (told_body_within b.body && inputs_within b.body b.ins) (is_int_between 0 1000 b.cost) front.0 in
     let parts = and_true (told_body_within b.body) (inputs_within b.body b.ins) middle.0 in
     record { body = parts.0; some = (inputs b.body parts.1).0; few = (inputs b.body parts.1).1 }
   where
-    inputs : (raw : RawBody) → inputs_within raw b.ins ≡ true → (1 ≤ length b.ins) × (length b.ins ≤ 8)
+    inputs : (raw : BodyTable) → inputs_within raw b.ins ≡ true → (1 ≤ length b.ins) × (length b.ins ≤ 8)
     inputs (Filter preds) g = (some 1 1 b.ins g, (let low = few 1 1 b.ins g in omega (arith, low)))
     inputs (Map set) g = (some 1 1 b.ins g, (let low = few 1 1 b.ins g in omega (arith, low)))
     inputs Union g = (some 1 8 b.ins g, few 1 8 b.ins g)

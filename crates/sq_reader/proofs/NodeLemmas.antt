@@ -7,15 +7,17 @@ use Rattle.sq_words.specs.Lists.{numbers_to, contains_number}
 use Rattle.sq_value.specs.Values.{Columns}
 use Rattle.sq_graph.specs.declared.Wiring.{Wiring}
 use Rattle.sq_graph.specs.declared.BoxWires.{BoxWires}
-use Rattle.sq_graph.specs.Wires.{Producer, Source, Port, producer_of, inputs_at, inputs_of}
+use Rattle.sq_graph.specs.Wires.{producer_of, inputs_at, inputs_of}
+use Rattle.sq_graph.specs.declared.Producer.{Producer}
+use Rattle.sq_graph.specs.declared.Producer.TheVariants.{Source, Port}
 use Rattle.sq_graph.specs.Order.{can_be_next, is_given, order_after, order_of, then_place}
 use Rattle.sq_graph.proofs.Finding.{found}
 use Rattle.sq_net.specs.declared.Source as declared
 use Rattle.sq_net.specs.declared.Node.{Node}
 use Rattle.sq_net.specs.declared.NetErr.{NetErr}
 use Rattle.sq_net.specs.Streams.{columns_of_port}
-use Rattle.sq_tables.specs.declared.raw.RawBox.{RawBox}
-use Rattle.sq_tables.specs.declared.raw.Raw.{Raw}
+use Rattle.sq_tables.specs.declared.raw.BoxTable.{BoxTable}
+use Rattle.sq_tables.specs.declared.raw.NetworkTable.{NetworkTable}
 use Rattle.sq_tables.specs.Refusals.{IsAnswerOf}
 use Rattle.sq_reader.specs.Columns.{columns_known, columns_taken, typed_node, node_in, node_known, node_of_box, nodes_from}
 use Rattle.sq_reader.proofs.ListLemmas.{get_set_other}
@@ -26,15 +28,15 @@ use Rattle.sq_words.proofs.Lists.{get_set_same}
 use Rattle.sq_words.proofs.Numbers.{eq_itself, eq_from}
 
 -- a box by its number, on what it takes
-pub node_from : (r : Raw) (w : Wiring) (ss : List declared.Source) (nodes : List (Option Node)) (at : ℕ) (b : RawBox) (x : BoxWires) (ins : List Columns) (answer : Result Node NetErr)
+pub node_from : (r : NetworkTable) (w : Wiring) (ss : List declared.Source) (nodes : List (Option Node)) (at : ℕ) (b : BoxTable) (x : BoxWires) (ins : List Columns) (answer : Result Node NetErr)
     → slice_get r.boxes at ≡ Some b → slice_get w.boxes at ≡ Some x → ins ≡ columns_taken w ss nodes x.inputs → IsAnswerOf answer (node_in at b ins) → IsAnswerOf answer (typed_node r w ss nodes at)
 node_from r w ss nodes at b x ins answer here wired same h =
     let is : typed_node r w ss nodes at ≡ node_in at b ins =
-    ap (λ (o : Option RawBox). node_of_box at o (columns_taken w ss nodes (inputs_of w at))) here
+    ap (λ (o : Option BoxTable). node_of_box at o (columns_taken w ss nodes (inputs_of w at))) here
     ∙ (ap (λ (o : Option BoxWires). node_in at b (columns_taken w ss nodes (inputs_at o))) wired ∙ ap (λ (cs : List Columns). node_in at b cs) (sym same)) in
     subst (λ (said : Result Node NetErr). IsAnswerOf answer said) (sym is) h
 
-pub nodes_more : (r : Raw) (w : Wiring) (ss : List declared.Source) (nodes : List (Option Node)) (at : ℕ) (ats rest : List ℕ) (node : Node)
+pub nodes_more : (r : NetworkTable) (w : Wiring) (ss : List declared.Source) (nodes : List (Option Node)) (at : ℕ) (ats rest : List ℕ) (node : Node)
     → typed_node r w ss nodes at ≡ Ok node → ats ≡ at ∷ rest → nodes_from r w ss (set nodes at (Some node)) rest ≡ nodes_from r w ss nodes ats
 nodes_more r w ss nodes at ats rest node typed is = rw (is, typed) refl
 
@@ -78,17 +80,17 @@ same_taken w ss front nodes later kept (s ∷ ins) g =
     ∙ ap (λ (cs : List Columns). cons_option (columns_known ss nodes (producer_of w s)) cs) more
 
 -- a box has its node, typed on what all have in the end
-pub record IsSettled (r : Raw) (w : Wiring) (ss : List declared.Source) (nodes : List (Option Node)) (at : ℕ) : Type 0 where
+pub record IsSettled (r : NetworkTable) (w : Wiring) (ss : List declared.Source) (nodes : List (Option Node)) (at : ℕ) : Type 0 where
   pub node : Node
   pub there : slice_get nodes at ≡ Some (Some node)
   pub typed : typed_node r w ss nodes at ≡ Ok node
 
-pub record AreSettled (r : Raw) (w : Wiring) (ss : List declared.Source) (front : List ℕ) (nodes : List (Option Node)) (ats : List ℕ) (later : List (Option Node)) : Type 0 where
+pub record AreSettled (r : NetworkTable) (w : Wiring) (ss : List declared.Source) (front : List ℕ) (nodes : List (Option Node)) (ats : List ℕ) (later : List (Option Node)) : Type 0 where
   pub kept : AreKept front nodes later
   pub count : length later ≡ length nodes
   pub each : (at : ℕ) → contains_number ats at ≡ true → IsSettled r w ss later at
 
-pub settled : (r : Raw) (w : Wiring) (ss : List declared.Source) (front : List ℕ) (nodes : List (Option Node)) (ats : List ℕ) (later : List (Option Node))
+pub settled : (r : NetworkTable) (w : Wiring) (ss : List declared.Source) (front : List ℕ) (nodes : List (Option Node)) (ats : List ℕ) (later : List (Option Node))
     → Follow w front ats → length nodes ≡ length w.boxes → nodes_from r w ss nodes ats ≡ Ok later → AreSettled r w ss front nodes ats later
 settled r w ss front nodes [] later follow count h =
     let same : nodes ≡ later = cc in

@@ -9,15 +9,17 @@ use Rattle.std.proofs.lemmas.List.Folds.{list_any-append}
 use Rattle.sq_value.specs.Values.{Columns}
 use Rattle.sq_graph.specs.declared.BoxWires.{BoxWires}
 use Rattle.sq_graph.specs.declared.Wiring.{Wiring}
-use Rattle.sq_graph.specs.Wires.{Producer, Source, Port, producer_of, inputs_at, inputs_of}
+use Rattle.sq_graph.specs.Wires.{producer_of, inputs_at, inputs_of}
+use Rattle.sq_graph.specs.declared.Producer.{Producer}
+use Rattle.sq_graph.specs.declared.Producer.TheVariants.{Source, Port}
 use Rattle.sq_graph.specs.Order.{is_given, order_of}
 use Rattle.sq_graph.proofs.Producers.{IsProducer, producer_is}
 use Rattle.sq_net.specs.declared.Source as declared
 use Rattle.sq_net.specs.declared.Node.{Node}
 use Rattle.sq_net.specs.Sound.{takes_within}
 use Rattle.sq_net.specs.Streams.{columns_of_port}
-use Rattle.sq_tables.specs.declared.raw.RawBox.{RawBox}
-use Rattle.sq_tables.specs.declared.raw.Raw.{Raw}
+use Rattle.sq_tables.specs.declared.raw.BoxTable.{BoxTable}
+use Rattle.sq_tables.specs.declared.raw.NetworkTable.{NetworkTable}
 use Rattle.sq_reader.specs.Limits.{limit_place}
 use Rattle.sq_reader.specs.Streaming.{box_wires, kind_of_told_body, told_stream_named, told_stream_names, unknown_place, wiring_of}
 use Rattle.sq_reader.specs.Columns.{columns_known, columns_taken, no_nodes, typed_node, node_known, node_of_box}
@@ -80,9 +82,9 @@ taken_all w ss front nodes count typed (s ∷ ins) given =
     ap (λ (o : Option Columns). length (cons_option o (columns_taken w ss nodes ins))) one.1 ∙ ap suc (taken_all w ss front nodes count typed ins parts.1)
 
 -- a box that can be next takes as many streams as its kind does
-pub ready_takes : (r : Raw) (w : Wiring) (ss : List declared.Source) (nodes : List (Option Node)) (at : ℕ) (ats : List ℕ) → limit_place r ≡ None → unknown_place r ≡ None
+pub ready_takes : (r : NetworkTable) (w : Wiring) (ss : List declared.Source) (nodes : List (Option Node)) (at : ℕ) (ats : List ℕ) → limit_place r ≡ None → unknown_place r ≡ None
     → w ≡ wiring_of r → length ss ≡ length r.sources → AreReady w nodes (at ∷ ats)
-    → (b : RawBox) → slice_get r.boxes at ≡ Some b → takes_within (kind_of_told_body b.body) (length (columns_taken w ss nodes (inputs_of w at))) ≡ true
+    → (b : BoxTable) → slice_get r.boxes at ≡ Some b → takes_within (kind_of_told_body b.body) (length (columns_taken w ss nodes (inputs_of w at))) ≡ true
 ready_takes r w ss nodes at ats h known same count ready b there =
     let x : BoxWires = box_wires (told_stream_named (told_stream_names r)) b in
     let wired : slice_get w.boxes at ≡ Some x = ap (λ (v : Wiring). slice_get v.boxes at) same ∙ wired_at r at b there in
@@ -100,11 +102,11 @@ other_number : (a b : ℕ) → (a == b) ≡ false → b ≡ a → ⊥
 other_number a b h e = grind (arith, nat_tests)
 
 -- a box that is typed has columns for each of its ports
-node_ports : (r : Raw) (w : Wiring) (ss : List declared.Source) (nodes : List (Option Node)) (at : ℕ) (node : Node) (x : BoxWires) → w ≡ wiring_of r → typed_node r w ss nodes at ≡ Ok node
+node_ports : (r : NetworkTable) (w : Wiring) (ss : List declared.Source) (nodes : List (Option Node)) (at : ℕ) (node : Node) (x : BoxWires) → w ≡ wiring_of r → typed_node r w ss nodes at ≡ Ok node
     → slice_get w.boxes at ≡ Some x → length node.schemas ≡ x.ports
 node_ports r w ss nodes at node x same h wired = by_box (slice_get r.boxes at) refl h
   where
-    by_box : (o : Option RawBox) → slice_get r.boxes at ≡ o → node_of_box at o (columns_taken w ss nodes (inputs_of w at)) ≡ Ok node → length node.schemas ≡ x.ports
+    by_box : (o : Option BoxTable) → slice_get r.boxes at ≡ o → node_of_box at o (columns_taken w ss nodes (inputs_of w at)) ≡ Ok node → length node.schemas ≡ x.ports
     by_box None there e = cc
     by_box (Some raw) there e =
         let is = node_is at raw (columns_taken w ss nodes (inputs_of w at)) node e in
@@ -112,7 +114,7 @@ node_ports r w ss nodes at node x same h wired = by_box (slice_get r.boxes at) r
         let found : box_wires (told_stream_named (told_stream_names r)) raw ≡ x = (let its = wired_at r at raw there in cc) in
         sym is.body.ports ∙ ap (λ (y : BoxWires). y.ports) found
 
-pub ready_next : (r : Raw) (w : Wiring) (ss : List declared.Source) (nodes : List (Option Node)) (at : ℕ) (ats : List ℕ) (node : Node) → w ≡ wiring_of r → AreReady w nodes (at ∷ ats)
+pub ready_next : (r : NetworkTable) (w : Wiring) (ss : List declared.Source) (nodes : List (Option Node)) (at : ℕ) (ats : List ℕ) (node : Node) → w ≡ wiring_of r → AreReady w nodes (at ∷ ats)
     → typed_node r w ss nodes at ≡ Ok node → AreReady w (set nodes at (Some node)) ats
 ready_next r w ss nodes at ats node of_file ready h = record {
   front = ready.front ++ at ∷ [];

@@ -17,29 +17,29 @@ use Rattle.sq_net.specs.declared.NetErr.{NetErr}
 use Rattle.sq_net.specs.declared.Part.TheVariants as part
 use Rattle.sq_net.specs.declared.NetErr.TheVariants as broken
 use Rattle.sq_net.specs.declared.Body.TheVariants as body
-use Rattle.sq_tables.specs.declared.raw.RawSource.{RawSource}
+use Rattle.sq_tables.specs.declared.raw.SourceTable.{SourceTable}
 use Rattle.sq_tables.specs.declared.raw.AnswerColumn.{AnswerColumn}
 use Rattle.sq_tables.specs.declared.raw.Over.TheVariants.{Sum, First}
 use Rattle.sq_tables.specs.declared.raw.Answer.TheVariants.{Count, Field as OfField}
-use Rattle.sq_tables.specs.declared.raw.RawBody.{RawBody}
-use Rattle.sq_tables.specs.declared.raw.RawBody.TheVariants.{Filter, BSort, Aggregate, Join, Resample}
-use Rattle.sq_tables.specs.declared.raw.RawBox.{RawBox}
-use Rattle.sq_tables.specs.declared.raw.RawOutput.{RawOutput}
-use Rattle.sq_tables.specs.declared.raw.Raw.{Raw}
+use Rattle.sq_tables.specs.declared.raw.BodyTable.{BodyTable}
+use Rattle.sq_tables.specs.declared.raw.BodyTable.TheVariants.{Filter, BSort, Aggregate, Join, Resample}
+use Rattle.sq_tables.specs.declared.raw.BoxTable.{BoxTable}
+use Rattle.sq_tables.specs.declared.raw.OutputTable.{OutputTable}
+use Rattle.sq_tables.specs.declared.raw.NetworkTable.{NetworkTable}
 use Rattle.sq_tables.specs.Places.{place_at}
 use Rattle.sq_tables.specs.Shapes.{even_points}
 use Rattle.sq_reader.specs.Networks.{limited_network, typed_network}
 use Rattle.sq_words.specs.Results.{◌>>=◌}
 
 -- an output with the default weight and graph
-abbrev shown_of : List ℕ → RawOutput
+abbrev shown_of : List ℕ → OutputTable
 shown_of stream = record { name = codes "o"; from = stream; weight = pos 1; graph = even_points }
 
-abbrev source_of : List ℕ → List (List ℕ) → RawSource
+abbrev source_of : List ℕ → List (List ℕ) → SourceTable
 source_of name fields = record { name = name; file = codes "s.csv"; fields = fields }
 
 -- the source s of numbers, a box b of it, and the output o of this stream
-abbrev file_of : RawBody → List ℤ → List ℕ → List ℕ → Raw
+abbrev file_of : BodyTable → List ℤ → List ℕ → List ℕ → NetworkTable
 file_of b tolls from shown = record {
   epoch = pos 4;
   batch = pos 1;
@@ -48,7 +48,7 @@ file_of b tolls from shown = record {
   outputs = shown_of shown ∷ [];
 }
 
-abbrev filter_file : List ℕ → List ℕ → Raw
+abbrev filter_file : List ℕ → List ℕ → NetworkTable
 filter_file pred from = file_of (Filter (pred ∷ [])) (pos 1000 ∷ pos 900 ∷ []) from (codes "b.1")
 
 abbrev v_int : Columns
@@ -85,7 +85,7 @@ abbrev boxes_in : Result Network NetErr → Result (List Node) NetErr
 boxes_in (Ok n) = Ok n.boxes
 boxes_in (Err e) = Err e
 
-abbrev sort_file : List ℕ → Raw
+abbrev sort_file : List ℕ → NetworkTable
 sort_file by = file_of (BSort by (pos 8)) (pos 1000 ∷ []) (codes "s") (codes "b")
 
 one_sort : boxes_in (typed_network (sort_file (codes "v"))) ≡ Ok (record { name = codes "b"; body = body.BSort 0 8; schemas = v_int ∷ []; cost = 1; selectivity = 1000 ∷ [] } ∷ [])
@@ -97,7 +97,7 @@ sort_by_nothing = refl
 abbrev counted : AnswerColumn
 counted = record { name = codes "n"; answer = Count }
 
-abbrev aggregate_file : ℕ → ℕ → List (List ℕ) → List AnswerColumn → Raw
+abbrev aggregate_file : ℕ → ℕ → List (List ℕ) → List AnswerColumn → NetworkTable
 aggregate_file size advance group give = record {
   epoch = pos 1000;
   batch = pos 1;
@@ -130,7 +130,7 @@ group_given_again = refl
 sum_of_text : typed_network (aggregate_file 5 5 (codes "w" ∷ []) (record { name = codes "f"; answer = OfField First (codes "k") } ∷ record { name = codes "t"; answer = OfField Sum (codes "k") } ∷ [])) ≡ Err (broken.Typing (place_at part.Box 0 1))
 sum_of_text = refl
 
-abbrev join_file : List ℕ → Raw
+abbrev join_file : List ℕ → NetworkTable
 join_file on = record {
   epoch = pos 1000;
   batch = pos 1;
@@ -156,7 +156,7 @@ join_on_number = refl
 
 -- ---- a Resample: the left v as `l_v`, then what is given
 
-abbrev resample_file : List (List ℕ) → ℤ → List AnswerColumn → Raw
+abbrev resample_file : List (List ℕ) → ℤ → List AnswerColumn → NetworkTable
 resample_file ins size give = record {
   epoch = pos 1000;
   batch = pos 1;
@@ -217,11 +217,11 @@ field_of_left = refl
 
 -- ---- weights and graphs
 
-abbrev output_of : List ℕ → ℤ → List (ℤ × ℤ) → RawOutput
+abbrev output_of : List ℕ → ℤ → List (ℤ × ℤ) → OutputTable
 output_of name weight points = record { name = name; from = codes "s"; weight = weight; graph = points }
 
 -- the source s with this field, and these outputs
-abbrev output_file : List ℕ → List RawOutput → Raw
+abbrev output_file : List ℕ → List OutputTable → NetworkTable
 output_file field outputs = record {
   epoch = pos 1000;
   batch = pos 1;
@@ -282,11 +282,11 @@ second_graph = refl
 
 -- ---- the limits on drop points: two Aggregates, of which the second has this size
 
-abbrev window_box : List ℕ → List ℕ → ℕ → RawBox
+abbrev window_box : List ℕ → List ℕ → ℕ → BoxTable
 window_box name from size =
     record { name = name; body = Aggregate (pos size) (pos 1) (pos 0) [] (counted ∷ []); ins = from ∷ []; cost = pos 1; selectivity = pos 1000 ∷ [] }
 
-abbrev two_windows : ℕ → Raw
+abbrev two_windows : ℕ → NetworkTable
 two_windows size = record {
   epoch = pos 1000;
   batch = pos 1;

@@ -16,13 +16,13 @@ use Rattle.sq_net.specs.declared.NetErr.TheVariants as broken
 use Rattle.sq_net.specs.declared.Part.TheVariants as part
 use Rattle.sq_net.specs.Names.{is_name}
 use Rattle.sq_net.specs.Sound.{is_between, source_within, takes_within}
-use Rattle.sq_tables.specs.declared.raw.RawSource.{RawSource}
-use Rattle.sq_tables.specs.declared.raw.RawBody.{RawBody}
-use Rattle.sq_tables.specs.declared.raw.RawBody.TheVariants.{Filter, Map, Union, BSort, Aggregate, Join, Resample}
-use Rattle.sq_tables.specs.declared.raw.RawBox.{RawBox}
-use Rattle.sq_tables.specs.declared.raw.Raw.{Raw}
+use Rattle.sq_tables.specs.declared.raw.SourceTable.{SourceTable}
+use Rattle.sq_tables.specs.declared.raw.BodyTable.{BodyTable}
+use Rattle.sq_tables.specs.declared.raw.BodyTable.TheVariants.{Filter, Map, Union, BSort, Aggregate, Join, Resample}
+use Rattle.sq_tables.specs.declared.raw.BoxTable.{BoxTable}
+use Rattle.sq_tables.specs.declared.raw.NetworkTable.{NetworkTable}
 use Rattle.sq_tables.specs.Places.{or_else, place_at, part_place}
-use Rattle.sq_tables.specs.Rawly.{or_broken}
+use Rattle.sq_tables.specs.Tables.{or_broken}
 use Rattle.sq_reader.specs.Limits as limits
 use Rattle.sq_reader.specs.Limits.{told_body_within, box_within, first_failing, has_between, inputs_within}
 use Rattle.sq_reader.specs.Naming.{first_repeat, name_place, place_in_space, space_names, twice_place}
@@ -93,7 +93,7 @@ fields_schema n fields names kinds some few even h =
     let distinct : are_distinct names ≡ true = ap are_distinct (sym named) ∙ new_distinct [] (names_of (zip names kinds)) (columns_new n 0 [] fields (zip names kinds) h) in
     schema_none names kinds even (omega (arith, long, some)) (omega (arith, long, few)) distinct
 
-pub sources_within : (n : ℕ) (raws : List RawSource) (ss : List Source) → sources_from n raws ≡ Ok ss → list_all limits.told_source_within raws ≡ true
+pub sources_within : (n : ℕ) (raws : List SourceTable) (ss : List Source) → sources_from n raws ≡ Ok ss → list_all limits.told_source_within raws ≡ true
     → (list_all source_within ss ≡ true) × (length ss ≡ length raws)
 sources_within n [] ss h w = let same : [] ≡ ss = cc in subst (λ (xs : List Source). (list_all source_within xs ≡ true) × (length xs ≡ 0)) same (refl, refl)
 sources_within n (raw ∷ raws) ss h w =
@@ -110,13 +110,13 @@ sources_within n (raw ∷ raws) ss h w =
 
 -- ---- names
 
-pub outputs_named : (r : Raw) → name_place r ≡ None → list_all (λ o. is_name o.name) r.outputs ≡ true
+pub outputs_named : (r : NetworkTable) → name_place r ≡ None → list_all (λ o. is_name o.name) r.outputs ≡ true
 outputs_named r h =
     let one = neither (option_map (part_place part.Source) (first_failing (λ s. is_name s.name) r.sources)) (or_else (option_map (part_place part.Box) (first_failing (λ b. is_name b.name) r.boxes)) (option_map (part_place part.Output) (first_failing (λ o. is_name o.name) r.outputs))) h in
     let two = neither (option_map (part_place part.Box) (first_failing (λ b. is_name b.name) r.boxes)) (option_map (part_place part.Output) (first_failing (λ o. is_name o.name) r.outputs)) one.1 in
     none_failing (λ o. is_name o.name) r.outputs (nothing_mapped (part_place part.Output) (first_failing (λ o. is_name o.name) r.outputs) two.1)
 
-pub outputs_distinct : (r : Raw) → twice_place r ≡ None → are_distinct (map (λ o. o.name) r.outputs) ≡ true
+pub outputs_distinct : (r : NetworkTable) → twice_place r ≡ None → are_distinct (map (λ o. o.name) r.outputs) ≡ true
 outputs_distinct r h =
     let parts = neither (option_map (place_in_space r) (first_repeat (space_names r))) (option_map (part_place part.Output) (first_repeat (map (λ o. o.name) r.outputs))) h in
     let none = nothing_mapped (part_place part.Output) (first_repeat (map (λ o. o.name) r.outputs)) parts.1 in
@@ -124,12 +124,12 @@ outputs_distinct r h =
 
 -- ---- streams
 
-pub outputs_known : (number_of : Numbers) (r : Raw) → unknown_among number_of r ≡ None → length (filter_map (λ o. number_of o.from) r.outputs) ≡ length r.outputs
+pub outputs_known : (number_of : Numbers) (r : NetworkTable) → unknown_among number_of r ≡ None → length (filter_map (λ o. number_of o.from) r.outputs) ≡ length r.outputs
 outputs_known number_of r h =
     let parts = neither (unknown_in_boxes number_of 0 r.boxes) (option_map (part_place part.Output) (first_failing (λ o. is_stream number_of o.from) r.outputs)) h in
     all_given (λ o. number_of o.from) r.outputs (none_failing (λ o. is_stream number_of o.from) r.outputs (nothing_mapped (part_place part.Output) (first_failing (λ o. is_stream number_of o.from) r.outputs) parts.1))
 
-takes_as : (number_of : Numbers) (b : RawBox) → length (filter_map (number_of) b.ins) ≡ length b.ins → inputs_within b.body b.ins ≡ true
+takes_as : (number_of : Numbers) (b : BoxTable) → length (filter_map (number_of) b.ins) ≡ length b.ins → inputs_within b.body b.ins ≡ true
     → takes_within (box_wires number_of b).kind (length (box_wires number_of b).inputs) ≡ true
 takes_as number_of b long h = by_body b.body h
   where
@@ -139,7 +139,7 @@ takes_as number_of b long h = by_body b.body h
     two_only : (k : ℕ) → is_between 2 2 k ≡ true → (k == 2) ≡ true
     two_only k h = grind (arith, nat_tests)
 
-    by_body : (raw : RawBody) → inputs_within raw b.ins ≡ true → takes_within (kind_of_told_body raw) (length (filter_map (number_of) b.ins)) ≡ true
+    by_body : (raw : BodyTable) → inputs_within raw b.ins ≡ true → takes_within (kind_of_told_body raw) (length (filter_map (number_of) b.ins)) ≡ true
     by_body (Filter preds) h = rw long (one_only (length b.ins) h)
     by_body (Map set) h = rw long (one_only (length b.ins) h)
     by_body Union h = rw long h
@@ -148,7 +148,7 @@ takes_as number_of b long h = by_body b.body h
     by_body (Join size on) h = rw long (two_only (length b.ins) h)
     by_body (Resample size give) h = rw long (two_only (length b.ins) h)
 
-takes_from : (number_of : Numbers) (n : ℕ) (boxes : List RawBox) → unknown_in_boxes number_of n boxes ≡ None → list_all box_within boxes ≡ true
+takes_from : (number_of : Numbers) (n : ℕ) (boxes : List BoxTable) → unknown_in_boxes number_of n boxes ≡ None → list_all box_within boxes ≡ true
     → list_all (λ (w : BoxWires). takes_within w.kind (length w.inputs)) (map (box_wires number_of) boxes) ≡ true
 takes_from number_of n [] h w = refl
 takes_from number_of n (b ∷ bs) h w =
@@ -161,7 +161,7 @@ takes_from number_of n (b ∷ bs) h w =
     and_from (takes_within (box_wires number_of b).kind (length (box_wires number_of b).inputs)) (list_all (λ (w : BoxWires). takes_within w.kind (length w.inputs)) (map (box_wires number_of) bs))
     (takes_as number_of b long ins.1) (takes_from number_of (n + 1) bs known.1 parts.1)
 
-pub takes_all : (number_of : Numbers) (r : Raw) → unknown_among number_of r ≡ None → list_all box_within r.boxes ≡ true
+pub takes_all : (number_of : Numbers) (r : NetworkTable) → unknown_among number_of r ≡ None → list_all box_within r.boxes ≡ true
     → list_all (λ (w : BoxWires). takes_within w.kind (length w.inputs)) (map (box_wires number_of) r.boxes) ≡ true
 takes_all number_of r h w =
     let parts = neither (unknown_in_boxes number_of 0 r.boxes) (option_map (part_place part.Output) (first_failing (λ o. is_stream number_of o.from) r.outputs)) h in

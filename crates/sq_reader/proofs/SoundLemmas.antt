@@ -11,7 +11,9 @@ use Rattle.sq_words.specs.Lists.{are_distinct, numbers_to}
 use Rattle.sq_value.specs.Values.{Columns}
 use Rattle.sq_graph.specs.declared.BoxWires.{BoxWires}
 use Rattle.sq_graph.specs.declared.Wiring.{Wiring}
-use Rattle.sq_graph.specs.Wires.{Producer, Source, Port, producer_of, inputs_of}
+use Rattle.sq_graph.specs.Wires.{producer_of, inputs_of}
+use Rattle.sq_graph.specs.declared.Producer.{Producer}
+use Rattle.sq_graph.specs.declared.Producer.TheVariants.{Source, Port}
 use Rattle.sq_graph.specs.Order.{is_on_cycle, order_of, LiesOnCycle}
 use Rattle.sq_graph.proofs.Bounded.{on_cycle}
 use Rattle.sq_graph.proofs.Finding.{unfound}
@@ -27,13 +29,13 @@ use Rattle.sq_net.specs.declared.Place.{Place}
 use Rattle.sq_net.specs.Names.{is_name}
 use Rattle.sq_net.specs.Streams.{columns_given, columns_of_port, columns_of_stream}
 use Rattle.sq_net.specs.Sound.{IsConsistent, HasWindow, IsSound, body_within, input_columns, is_between, kind_of_body, network_within, node_within, output_within}
-use Rattle.sq_tables.specs.declared.raw.RawBox.{RawBox}
-use Rattle.sq_tables.specs.declared.raw.RawOutput.{RawOutput}
-use Rattle.sq_tables.specs.declared.raw.Raw.{Raw}
+use Rattle.sq_tables.specs.declared.raw.BoxTable.{BoxTable}
+use Rattle.sq_tables.specs.declared.raw.OutputTable.{OutputTable}
+use Rattle.sq_tables.specs.declared.raw.NetworkTable.{NetworkTable}
 use Rattle.sq_tables.specs.Places.{part_place}
 use Rattle.sq_tables.specs.Refusals.{IsAnswerOf}
 use Rattle.sq_tables.specs.Documents.{document_in}
-use Rattle.sq_tables.specs.Rawly.{or_broken, raw_from, raw_of}
+use Rattle.sq_tables.specs.Tables.{or_broken, network_table_from, network_table_of}
 use Rattle.sq_tables.proofs.EvenLemmas.{answer_even}
 use Rattle.sq_tables.specs.Shapes.{AreEven, IsEven}
 use Rattle.sq_reader.specs.Limits as limits
@@ -64,7 +66,7 @@ use Rattle.sq_words.proofs.Lists.{map_map, list_all_at}
 -- ---- the rules that the file keeps
 
 -- a file's tables that keep every rule, and what they are as sources and boxes
-pub record IsRead (r : Raw) (ss : List declared.Source) (nodes : List (Option Node)) : Type 0 where
+pub record IsRead (r : NetworkTable) (ss : List declared.Source) (nodes : List (Option Node)) : Type 0 where
   pub even : AreEven r
   pub limit : limit_place r ≡ None
   pub named : name_place r ≡ None
@@ -86,13 +88,13 @@ none_at_fault (Some e) more x h = cc
 
 -- what a network is read from
 pub record IsReadAs (n : Network) : Type 0 where
-  pub raw : Raw
+  pub raw : NetworkTable
   pub sources : List declared.Source
   pub nodes : List (Option Node)
   pub read : IsRead raw sources nodes
   pub same : network_of raw (wiring_of raw) sources nodes ≡ n
 
-pub read_as : (r : Raw) (n : Network) → AreEven r → typed_network r ≡ Ok n → IsReadAs n
+pub read_as : (r : NetworkTable) (n : Network) → AreEven r → typed_network r ≡ Ok n → IsReadAs n
 read_as r n even h =
     let limited = none_broken broken.Limit (limit_place r) (named_network r) n h in
     let named = none_broken broken.NoName (name_place r) (single_network r) n limited.1 in
@@ -135,12 +137,12 @@ none_on_cycle w h at on =
     cc
 
 -- the nodes are those of the network
-pub record AreBoxes (r : Raw) (ss : List declared.Source) (nodes : List (Option Node)) (bs : List Node) : Type 0 where
+pub record AreBoxes (r : NetworkTable) (ss : List declared.Source) (nodes : List (Option Node)) (bs : List Node) : Type 0 where
   pub count : length bs ≡ length r.boxes
   pub known : nodes ≡ map Some bs
   pub settled : (at : ℕ) → at < length bs → IsSettled r (wiring_of r) ss nodes at
 
-pub are_boxes : (r : Raw) (ss : List declared.Source) (nodes : List (Option Node)) → IsRead r ss nodes → AreBoxes r ss nodes (filter_map (λ o. o) nodes)
+pub are_boxes : (r : NetworkTable) (ss : List declared.Source) (nodes : List (Option Node)) → IsRead r ss nodes → AreBoxes r ss nodes (filter_map (λ o. o) nodes)
 are_boxes r ss nodes read =
     let w : Wiring = wiring_of r in
     let boxes : length w.boxes ≡ length r.boxes = length-map r.boxes (box_wires (told_stream_named (told_stream_names r))) in
@@ -156,7 +158,7 @@ are_boxes r ss nodes read =
       settled = λ at low. each at (omega (arith, low, same));
     }
   where
-    none_yet : Raw → Option Node
+    none_yet : NetworkTable → Option Node
     none_yet r = None
 
 known_again : (o : Option Node) → node_known (option_map (λ b. Some b) o) ≡ o
@@ -164,7 +166,7 @@ known_again None = refl
 known_again (Some b) = refl
 
 -- what gives a stream has the columns that it has in the network
-known_given : (r : Raw) (w : Wiring) (ss : List declared.Source) (nodes : List (Option Node)) → nodes ≡ map Some (filter_map (λ o. o) nodes)
+known_given : (r : NetworkTable) (w : Wiring) (ss : List declared.Source) (nodes : List (Option Node)) → nodes ≡ map Some (filter_map (λ o. o) nodes)
     → (p : Option Producer) → columns_known ss nodes p ≡ columns_given (network_of r w ss nodes) p
 known_given r w ss nodes known None = refl
 known_given r w ss nodes known (Some (Source s)) = refl
@@ -173,7 +175,7 @@ known_given r w ss nodes known (Some (Port at port)) =
     ap (λ (os : List (Option Node)). slice_get os at) known ∙ slice_get-map (λ (b : Node). Some b) (filter_map (λ (o : Option Node). o) nodes) at in
     ap (λ (o : Option Node). columns_of_port o port) (ap node_known there ∙ known_again (slice_get (filter_map (λ (o : Option Node). o) nodes) at))
 
-taken_given : (r : Raw) (w : Wiring) (ss : List declared.Source) (nodes : List (Option Node)) → nodes ≡ map Some (filter_map (λ o. o) nodes)
+taken_given : (r : NetworkTable) (w : Wiring) (ss : List declared.Source) (nodes : List (Option Node)) → nodes ≡ map Some (filter_map (λ o. o) nodes)
     → (ins : List ℕ) → columns_taken w ss nodes ins ≡ filter_map (columns_of_stream (network_of r w ss nodes)) ins
 taken_given r w ss nodes known [] = refl
 taken_given r w ss nodes known (s ∷ ins) =
@@ -181,12 +183,12 @@ taken_given r w ss nodes known (s ∷ ins) =
     ∙ ap (λ (cs : List Columns). cons_option (columns_of_stream (network_of r w ss nodes) s) cs) (taken_given r w ss nodes known ins)
 
 -- a node of the network is that of the box of its number, on the columns that the network gives it
-pub record IsBoxAt (r : Raw) (n : Network) (at : ℕ) (b : Node) : Type 0 where
-  pub raw : RawBox
+pub record IsBoxAt (r : NetworkTable) (n : Network) (at : ℕ) (b : Node) : Type 0 where
+  pub raw : BoxTable
   pub there : slice_get r.boxes at ≡ Some raw
   pub is : IsNodeOf raw (input_columns n at) b
 
-pub box_at : (r : Raw) (ss : List declared.Source) (nodes : List (Option Node)) → AreBoxes r ss nodes (filter_map (λ o. o) nodes)
+pub box_at : (r : NetworkTable) (ss : List declared.Source) (nodes : List (Option Node)) → AreBoxes r ss nodes (filter_map (λ o. o) nodes)
     → (at : ℕ) (b : Node) → slice_get (filter_map (λ o. o) nodes) at ≡ Some b → IsBoxAt r (network_of r (wiring_of r) ss nodes) at b
 box_at r ss nodes boxes at b e =
     let low = slice_get_within (filter_map (λ o. o) nodes) at b e in
@@ -199,22 +201,22 @@ box_at r ss nodes boxes at b e =
     ∙ (one.typed ∙ ap (λ (x : Node). Ok x) node) in
     by_box (slice_get r.boxes at) refl typed
   where
-    by_box : (o : Option RawBox) → slice_get r.boxes at ≡ o → node_of_box at o (input_columns (network_of r (wiring_of r) ss nodes) at) ≡ Ok b → IsBoxAt r (network_of r (wiring_of r) ss nodes) at b
+    by_box : (o : Option BoxTable) → slice_get r.boxes at ≡ o → node_of_box at o (input_columns (network_of r (wiring_of r) ss nodes) at) ≡ Ok b → IsBoxAt r (network_of r (wiring_of r) ss nodes) at b
     by_box None there typed = cc
     by_box (Some raw) there typed = record { raw = raw; there = there; is = node_is at raw (input_columns (network_of r (wiring_of r) ss nodes) at) b typed }
 
 -- ---- the network
 
 -- what boxes and nodes have alike
-alike : {A : Type 0} (f : RawBox → A) (g : Node → A) (r : Raw) (ss : List declared.Source) (nodes : List (Option Node)) → AreBoxes r ss nodes (filter_map (λ o. o) nodes)
-    → ((raw : RawBox) (ins : List Columns) (b : Node) → IsNodeOf raw ins b → f raw ≡ g b) → map f r.boxes ≡ map g (filter_map (λ o. o) nodes)
+alike : {A : Type 0} (f : BoxTable → A) (g : Node → A) (r : NetworkTable) (ss : List declared.Source) (nodes : List (Option Node)) → AreBoxes r ss nodes (filter_map (λ o. o) nodes)
+    → ((raw : BoxTable) (ins : List Columns) (b : Node) → IsNodeOf raw ins b → f raw ≡ g b) → map f r.boxes ≡ map g (filter_map (λ o. o) nodes)
 alike f g r ss nodes boxes same =
     maps_same f g r.boxes (filter_map (λ o. o) nodes) (sym boxes.count) (λ at raw b here there.
     (let box = box_at r ss nodes boxes at b there in
     let found : box.raw ≡ raw = (let is = box.there in cc) in
     ap f (sym found) ∙ same box.raw (input_columns (network_of r (wiring_of r) ss nodes) at) b box.is))
 
-node_fits : (raw : RawBox) (ins : List Columns) (b : Node) → IsNodeOf raw ins b → box_within raw ≡ true → node_within b ≡ true
+node_fits : (raw : BoxTable) (ins : List Columns) (b : Node) → IsNodeOf raw ins b → box_within raw ≡ true → node_within b ≡ true
 node_fits raw ins b is h =
     let front = and_true (limits.told_body_within raw.body && limits.inputs_within raw.body raw.ins && limits.is_int_between 0 1000 raw.cost) (list_all (limits.is_int_between 0 1000000) raw.selectivity) h in
     let middle = and_true (limits.told_body_within raw.body && limits.inputs_within raw.body raw.ins) (limits.is_int_between 0 1000 raw.cost) front.0 in
@@ -224,7 +226,7 @@ node_fits raw ins b is h =
     and_from (body_within b.body && is_between 0 1000 b.cost) (list_all (is_between 0 1000000) b.selectivity)
     (and_from (body_within b.body) (is_between 0 1000 b.cost) (is.body.within body.0) cost) selectivity
 
-outputs_fit : (os : List RawOutput) → list_all limits.told_output_within os ≡ true → list_all output_within (map output_of os) ≡ true
+outputs_fit : (os : List OutputTable) → list_all limits.told_output_within os ≡ true → list_all output_within (map output_of os) ≡ true
 outputs_fit [] h = refl
 outputs_fit (o ∷ os) h =
     let parts = and_true (limits.told_output_within o) (list_all limits.told_output_within os) h in
@@ -238,7 +240,7 @@ outputs_fit (o ∷ os) h =
     points_length [] = refl
     points_length (p ∷ ps) = ap suc (points_length ps)
 
-all_within : (r : Raw) (ss : List declared.Source) (nodes : List (Option Node)) → IsRead r ss nodes → network_within (network_of r (wiring_of r) ss nodes) ≡ true
+all_within : (r : NetworkTable) (ss : List declared.Source) (nodes : List (Option Node)) → IsRead r ss nodes → network_within (network_of r (wiring_of r) ss nodes) ≡ true
 all_within r ss nodes read =
     let w = is_within r read.limit in
     let boxes = are_boxes r ss nodes read in
@@ -258,22 +260,22 @@ all_within r ss nodes read =
     let takes = takes_all (told_stream_named (told_stream_names r)) r read.known w.boxes in
     and_from _ _ (and_from _ _ (and_from _ _ (and_from _ _ (and_from _ _ (and_from _ _ (and_from _ _ (and_from _ _ sources count) outputs) epoch) batch) given.0) fit) (outputs_fit r.outputs w.outputs)) takes
 
-evens : (bs : List RawBox) → AllByRecursion IsEven bs → map (λ b. length b.selectivity) bs ≡ map (λ b. port_count b.body) bs
+evens : (bs : List BoxTable) → AllByRecursion IsEven bs → map (λ b. length b.selectivity) bs ≡ map (λ b. port_count b.body) bs
 evens [] h = refl
 evens (b ∷ bs) h =
     let here : length b.selectivity ≡ port_count b.body = h.0 in
-    let more : map (λ (b : RawBox). length b.selectivity) bs ≡ map (λ (b : RawBox). port_count b.body) bs = evens bs h.1 in
+    let more : map (λ (b : BoxTable). length b.selectivity) bs ≡ map (λ (b : BoxTable). port_count b.body) bs = evens bs h.1 in
     cc
 
-all_agree : (r : Raw) (ss : List declared.Source) (nodes : List (Option Node)) → IsRead r ss nodes → IsConsistent (network_of r (wiring_of r) ss nodes)
+all_agree : (r : NetworkTable) (ss : List declared.Source) (nodes : List (Option Node)) → IsRead r ss nodes → IsConsistent (network_of r (wiring_of r) ss nodes)
 all_agree r ss nodes read =
     let boxes = are_boxes r ss nodes read in
     let names : List (List ℕ) = told_stream_names r in
     let bs : List Node = filter_map (λ o. o) nodes in
     let given = sources_within 0 r.sources ss read.given (is_within r read.limit).sources in
-    let ports : map (λ (b : RawBox). port_count b.body) r.boxes ≡ map (λ (b : Node). length b.schemas) bs =
+    let ports : map (λ (b : BoxTable). port_count b.body) r.boxes ≡ map (λ (b : Node). length b.schemas) bs =
     alike (λ b. port_count b.body) (λ b. length b.schemas) r ss nodes boxes (λ raw ins b is. is.body.ports) in
-    let tolls : map (λ (b : RawBox). length b.selectivity) r.boxes ≡ map (λ (b : Node). length b.selectivity) bs =
+    let tolls : map (λ (b : BoxTable). length b.selectivity) r.boxes ≡ map (λ (b : Node). length b.selectivity) bs =
     alike (λ b. length b.selectivity) (λ b. length b.selectivity) r ss nodes boxes (λ raw ins b is. sym (ap (λ (ks : List ℕ). length ks) is.selectivity ∙ length-map raw.selectivity nat_of)) in
     record {
       sources = sym given.1;
@@ -286,36 +288,36 @@ all_agree r ss nodes read =
     }
 
 -- each Aggregate has a window
-all_windows : (r : Raw) (ss : List declared.Source) (nodes : List (Option Node)) → IsRead r ss nodes → All (λ (b : Node). HasWindow b.body) (network_of r (wiring_of r) ss nodes).boxes
+all_windows : (r : NetworkTable) (ss : List declared.Source) (nodes : List (Option Node)) → IsRead r ss nodes → All (λ (b : Node). HasWindow b.body) (network_of r (wiring_of r) ss nodes).boxes
 all_windows r ss nodes read =
-    let rule : list_all (λ (b : RawBox). has_window b.body) r.boxes ≡ true = none_failing (λ (b : RawBox). has_window b.body) r.boxes (nothing_mapped (part_place part.Box) (first_failing (λ (b : RawBox). has_window b.body) r.boxes) read.windows) in
+    let rule : list_all (λ (b : BoxTable). has_window b.body) r.boxes ≡ true = none_failing (λ (b : BoxTable). has_window b.body) r.boxes (nothing_mapped (part_place part.Box) (first_failing (λ (b : BoxTable). has_window b.body) r.boxes) read.windows) in
     let bs : List Node = filter_map (λ o. o) nodes in
-    λ at d low. (let box = box_at r ss nodes (are_boxes r ss nodes read) at (get_or bs at d) (slice_get-get_or bs at d low) in box.is.body.window (list_all_at (λ (b : RawBox). has_window b.body) r.boxes at box.raw rule box.there))
+    λ at d low. (let box = box_at r ss nodes (are_boxes r ss nodes read) at (get_or bs at d) (slice_get-get_or bs at d low) in box.is.body.window (list_all_at (λ (b : BoxTable). has_window b.body) r.boxes at box.raw rule box.there))
 
-sound_of : (r : Raw) (ss : List declared.Source) (nodes : List (Option Node)) → IsRead r ss nodes → IsSound (network_of r (wiring_of r) ss nodes)
+sound_of : (r : NetworkTable) (ss : List declared.Source) (nodes : List (Option Node)) → IsRead r ss nodes → IsSound (network_of r (wiring_of r) ss nodes)
 sound_of r ss nodes read = record {
   within = all_within r ss nodes read;
   agrees = all_agree r ss nodes read;
   acyclic = none_on_cycle (wiring_of r) read.acyclic;
   named = All-map (λ (o : Output). is_name o.name ≡ true) output_of r.outputs
-      (All-from_recursion (λ (o : RawOutput). is_name o.name ≡ true) r.outputs (each_passes (λ o. is_name o.name) r.outputs (outputs_named r read.named)));
+      (All-from_recursion (λ (o : OutputTable). is_name o.name ≡ true) r.outputs (each_passes (λ o. is_name o.name) r.outputs (outputs_named r read.named)));
   windows = all_windows r ss nodes read;
   distinct = ap are_distinct (map_map (λ (o : Output). o.name) output_of r.outputs) ∙ outputs_distinct r read.single;
   typed = λ at b e. (box_at r ss nodes (are_boxes r ss nodes read) at b e).is.body.typed;
 }
 
 -- a network that is read is sound
-pub read_sound : (r : Raw) (n : Network) → AreEven r → typed_network r ≡ Ok n → IsSound n
+pub read_sound : (r : NetworkTable) (n : Network) → AreEven r → typed_network r ≡ Ok n → IsSound n
 read_sound r n even h = let from = read_as r n even h in subst IsSound from.same (sound_of from.raw from.sources from.nodes from.read)
 
-pub answer_sound : (r : Raw) (answer : Result Network NetErr) → AreEven r → IsAnswerOf answer (typed_network r) → IfOk answer IsSound
+pub answer_sound : (r : NetworkTable) (answer : Result Network NetErr) → AreEven r → IsAnswerOf answer (typed_network r) → IfOk answer IsSound
 answer_sound r (Ok n) even h = read_sound r n even h
 answer_sound r (Err e) even h = tt
 
 -- so is the network of a file's bytes
 pub network_sound : (bytes : List ℕ) (n : Network) → network_in bytes ≡ Ok n → IsSound n
 network_sound bytes n h =
-    let typed = first_step (raw_of bytes >>= typed_network) limited_network n h in
-    let tables = first_step (raw_of bytes) typed_network typed.0 typed.1.0 in
-    let document = first_step (or_broken broken.Toml (document_in bytes)) raw_from tables.0 tables.1.0 in
+    let typed = first_step (network_table_of bytes >>= typed_network) limited_network n h in
+    let tables = first_step (network_table_of bytes) typed_network typed.0 typed.1.0 in
+    let document = first_step (or_broken broken.Toml (document_in bytes)) network_table_from tables.0 tables.1.0 in
     subst IsSound (limited_same typed.0 n typed.1.1) (read_sound tables.0 typed.0 (answer_even document.0 (Ok tables.0) document.1.1) tables.1.1)

@@ -6,7 +6,7 @@ use Rattle.std.proofs.lemmas.List.{drop_all}
 use Rattle.sq_value.specs.Values.{Columns}
 use Rattle.sq_value.specs.declared.Kind.{Kind}
 use Rattle.sq_net.specs.declared.Source.{Source}
-use Rattle.sq_tables.specs.declared.raw.RawSource.{RawSource}
+use Rattle.sq_tables.specs.declared.raw.SourceTable.{SourceTable}
 use Rattle.sq_reader.specs.Sources.{column_in, columns_from, told_source, sources_from}
 use Rattle.sq_tables.proofs.ShapedLemmas.{joined, joined-cons, zip-push, drop-at}
 
@@ -22,7 +22,7 @@ pub columns_done : (n i : ℕ) (names : List (List ℕ)) (kinds : List Kind) (fi
     → joined (zip names kinds) (columns_from n i names (drop i fields)) ≡ columns_from n 0 [] fields → columns_from n 0 [] fields ≡ Ok (zip names kinds)
 columns_done n i names kinds fields all h = sym h ∙ rw (drop_all i fields all) (ap (λ (cs : Columns). Ok cs) (append-nil (zip names kinds)))
 
-pub sources_more : (i : ℕ) (front : List Source) (ss : List RawSource) (s : RawSource) (cs : Columns)
+pub sources_more : (i : ℕ) (front : List Source) (ss : List SourceTable) (s : SourceTable) (cs : Columns)
     → i < length ss → s ≡ get_or ss i s → columns_from i 0 [] s.fields ≡ Ok cs
     → joined (front ++ told_source s cs ∷ []) (sources_from (i + 1) (drop (i + 1) ss)) ≡ joined front (sources_from i (drop i ss))
 sources_more i front ss s cs low is e =

@@ -10,13 +10,14 @@ use Rattle.std.proofs.lemmas.Option.{slice_get-get_or, slice_get-map}
 use Rattle.sq_words.specs.Lists.{same_bytes, numbers_to}
 use Rattle.sq_graph.specs.declared.BoxWires.{BoxWires}
 use Rattle.sq_graph.specs.declared.Wiring.{Wiring}
-use Rattle.sq_graph.specs.Wires.{Source, Port, producers_of, producer_of}
+use Rattle.sq_graph.specs.Wires.{producers_of, producer_of}
+use Rattle.sq_graph.specs.declared.Producer.TheVariants.{Source, Port}
 use Rattle.sq_graph.specs.Order.{is_there, IsWired}
-use Rattle.sq_tables.specs.declared.raw.RawBody.{RawBody}
-use Rattle.sq_tables.specs.declared.raw.RawBody.TheVariants.{Filter, Map, Union, BSort, Aggregate, Join, Resample}
-use Rattle.sq_tables.specs.declared.raw.RawBox.{RawBox}
-use Rattle.sq_tables.specs.declared.raw.RawSource.{RawSource}
-use Rattle.sq_tables.specs.declared.raw.Raw.{Raw}
+use Rattle.sq_tables.specs.declared.raw.BodyTable.{BodyTable}
+use Rattle.sq_tables.specs.declared.raw.BodyTable.TheVariants.{Filter, Map, Union, BSort, Aggregate, Join, Resample}
+use Rattle.sq_tables.specs.declared.raw.BoxTable.{BoxTable}
+use Rattle.sq_tables.specs.declared.raw.SourceTable.{SourceTable}
+use Rattle.sq_tables.specs.declared.raw.NetworkTable.{NetworkTable}
 use Rattle.sq_tables.specs.Shapes.{port_count}
 use Rattle.sq_reader.specs.Limits.{box_within, limit_place}
 use Rattle.sq_reader.specs.Streaming.{box_wires, told_port_names, told_stream_named, told_stream_names, wiring_by, wiring_of}
@@ -46,7 +47,7 @@ there_all : (w : Wiring) (n : ℕ) (xs : List ℕ) → n ≡ length (producers_o
 there_all w n [] e h = tt
 there_all w n (s ∷ xs) e h = (there_low w s (let low = h.0 in omega (arith, low, e)), there_all w n xs e h.1)
 
-body_length : (name : List ℕ) (b : RawBody) → length (told_port_names name b) ≡ port_count b
+body_length : (name : List ℕ) (b : BodyTable) → length (told_port_names name b) ≡ port_count b
 body_length name (Filter preds) = length-map-range_with_len (λ i. port_name name (i + 1)) 0 (length preds + 1)
 body_length name (Map set) = refl
 body_length name Union = refl
@@ -55,7 +56,7 @@ body_length name (Aggregate size advance phase group give) = refl
 body_length name (Join size on) = refl
 body_length name (Resample size give) = refl
 
-ports_length : (names : List (List ℕ)) (k : ℕ) (bs : List RawBox)
+ports_length : (names : List (List ℕ)) (k : ℕ) (bs : List BoxTable)
     → length (flat_map (λ b. map (Port b.0) (numbers_to (b.1).ports)) (enumerate_from k (map (box_wires (told_stream_named names)) bs))) ≡ length (flat_map (λ b. told_port_names b.name b.body) bs)
 ports_length names k [] = refl
 ports_length names k (b ∷ bs) =
@@ -64,17 +65,17 @@ ports_length names k (b ∷ bs) =
     ∙ (rw (length-map-range_with_len (Port k) 0 (port_count b.body), more, ← body_length b.name b.body) refl
     ∙ sym (length-append (told_port_names b.name b.body) (flat_map (λ b. told_port_names b.name b.body) bs)))
 
-sources_length : (ss : List RawSource) → length (map (λ (s : RawSource). s.name) ss) ≡ length ss
+sources_length : (ss : List SourceTable) → length (map (λ (s : SourceTable). s.name) ss) ≡ length ss
 sources_length [] = refl
 sources_length (s ∷ ss) = let more = sources_length ss in omega arith
 
-producers_length : (names : List (List ℕ)) (r : Raw) → length (producers_of (wiring_by (told_stream_named names) r)) ≡ length (told_stream_names r)
+producers_length : (names : List (List ℕ)) (r : NetworkTable) → length (producers_of (wiring_by (told_stream_named names) r)) ≡ length (told_stream_names r)
 producers_length names r =
     length-append (map Source (numbers_to (length r.sources))) (flat_map (λ b. map (Port b.0) (numbers_to (b.1).ports)) (enumerate_from 0 (map (box_wires (told_stream_named names)) r.boxes)))
     ∙ (rw (length-map-range_with_len Source 0 (length r.sources), ports_length names 0 r.boxes, ← sources_length r.sources) refl
-    ∙ sym (length-append (map (λ (s : RawSource). s.name) r.sources) (flat_map (λ b. told_port_names b.name b.body) r.boxes)))
+    ∙ sym (length-append (map (λ (s : SourceTable). s.name) r.sources) (flat_map (λ b. told_port_names b.name b.body) r.boxes)))
 
-wired_boxes : (w : Wiring) (names : List (List ℕ)) (bs : List RawBox) → length names ≡ length (producers_of w)
+wired_boxes : (w : Wiring) (names : List (List ℕ)) (bs : List BoxTable) → length names ≡ length (producers_of w)
     → AllByRecursion (λ (b : BoxWires). All (λ s. is_there (producer_of w s) ≡ true) b.inputs) (map (box_wires (told_stream_named names)) bs)
 wired_boxes w names [] e = tt
 wired_boxes w names (b ∷ bs) e = (
@@ -82,15 +83,15 @@ wired_boxes w names (b ∷ bs) e = (
   wired_boxes w names bs e,
 )
 
-names_count : (names : List (List ℕ)) (r : Raw) → names ≡ told_stream_names r → length names ≡ length (producers_of (wiring_by (told_stream_named names) r))
+names_count : (names : List (List ℕ)) (r : NetworkTable) → names ≡ told_stream_names r → length names ≡ length (producers_of (wiring_by (told_stream_named names) r))
 names_count names r same = ap length same ∙ sym (producers_length names r)
 
-pub is_wired : (names : List (List ℕ)) (r : Raw) → names ≡ told_stream_names r → IsWired (wiring_by (told_stream_named names) r)
+pub is_wired : (names : List (List ℕ)) (r : NetworkTable) → names ≡ told_stream_names r → IsWired (wiring_by (told_stream_named names) r)
 is_wired names r same =
     All-from_recursion (λ (b : BoxWires). All (λ s. is_there (producer_of (wiring_by (told_stream_named names) r) s) ≡ true) b.inputs) (map (box_wires (told_stream_named names)) r.boxes)
     (wired_boxes (wiring_by (told_stream_named names) r) names r.boxes (names_count names r same))
 
-pub outputs_shown : (names : List (List ℕ)) (r : Raw) → names ≡ told_stream_names r
+pub outputs_shown : (names : List (List ℕ)) (r : NetworkTable) → names ≡ told_stream_names r
     → All (λ s. is_there (producer_of (wiring_by (told_stream_named names) r) s) ≡ true) (filter_map (λ o. told_stream_named names o.from) r.outputs)
 outputs_shown names r same =
     All-from_recursion (λ s. is_there (producer_of (wiring_by (told_stream_named names) r) s) ≡ true) (filter_map (λ o. told_stream_named names o.from) r.outputs)
@@ -98,7 +99,7 @@ outputs_shown names r same =
 
 -- ---- the streams and the boxes are few
 
-ports_each : (bs : List RawBox) → list_all box_within bs ≡ true → length (flat_map (λ b. told_port_names b.name b.body) bs) ≤ 16 * length bs
+ports_each : (bs : List BoxTable) → list_all box_within bs ≡ true → length (flat_map (λ b. told_port_names b.name b.body) bs) ≤ 16 * length bs
 ports_each [] h = omega arith
 ports_each (b ∷ bs) h =
     let parts = and_true (box_within b) (list_all box_within bs) h in
@@ -108,28 +109,28 @@ ports_each (b ∷ bs) h =
     let both = length-append (told_port_names b.name b.body) (flat_map (λ b. told_port_names b.name b.body) bs) in
     omega (arith, here, more, own, both)
 
-pub streams_few : (r : Raw) → limit_place r ≡ None → length (told_stream_names r) < 2 ^ 32
+pub streams_few : (r : NetworkTable) → limit_place r ≡ None → length (told_stream_names r) < 2 ^ 32
 streams_few r h =
     let counts = counts_of r h in
     let ports = ports_each r.boxes counts.each_box in
     let sources = sources_length r.sources in
-    let both = length-append (map (λ (s : RawSource). s.name) r.sources) (flat_map (λ b. told_port_names b.name b.body) r.boxes) in
+    let both = length-append (map (λ (s : SourceTable). s.name) r.sources) (flat_map (λ b. told_port_names b.name b.body) r.boxes) in
     let few = counts.sources in
     let low = counts.boxes in
     omega (arith, ports, sources, both, few, low)
 
 -- as many wired boxes as boxes
-pub wired_length : (r : Raw) → length (wiring_of r).boxes ≡ length r.boxes
+pub wired_length : (r : NetworkTable) → length (wiring_of r).boxes ≡ length r.boxes
 wired_length r = length-map r.boxes (box_wires (told_stream_named (told_stream_names r)))
 
-pub wired_few : (r : Raw) → limit_place r ≡ None → length (wiring_of r).boxes < 2 ^ 32
+pub wired_few : (r : NetworkTable) → limit_place r ≡ None → length (wiring_of r).boxes < 2 ^ 32
 wired_few r h = let low = (counts_of r h).boxes in let same = wired_length r in omega (arith, low, same)
 
 -- what is wired as a box
-pub wired_at : (r : Raw) (at : ℕ) (b : RawBox) → slice_get r.boxes at ≡ Some b → slice_get (wiring_of r).boxes at ≡ Some (box_wires (told_stream_named (told_stream_names r)) b)
-wired_at r at b there = slice_get-map (box_wires (told_stream_named (told_stream_names r))) r.boxes at ∙ ap (λ (o : Option RawBox). option_map (box_wires (told_stream_named (told_stream_names r))) o) there
+pub wired_at : (r : NetworkTable) (at : ℕ) (b : BoxTable) → slice_get r.boxes at ≡ Some b → slice_get (wiring_of r).boxes at ≡ Some (box_wires (told_stream_named (told_stream_names r)) b)
+wired_at r at b there = slice_get-map (box_wires (told_stream_named (told_stream_names r))) r.boxes at ∙ ap (λ (o : Option BoxTable). option_map (box_wires (told_stream_named (told_stream_names r))) o) there
 
-pub wired_there : (r : Raw) (w : Wiring) (at : ℕ) (x : BoxWires) → w ≡ wiring_of r → at < length r.boxes → x ≡ get_or w.boxes at x → slice_get w.boxes at ≡ Some x
+pub wired_there : (r : NetworkTable) (w : Wiring) (at : ℕ) (x : BoxWires) → w ≡ wiring_of r → at < length r.boxes → x ≡ get_or w.boxes at x → slice_get w.boxes at ≡ Some x
 wired_there r w at x same low is =
     let count : length w.boxes ≡ length r.boxes = ap (λ (v : Wiring). length v.boxes) same ∙ wired_length r in
     item_there w.boxes at x (omega (arith, count, low)) is

@@ -10,7 +10,9 @@ use Rattle.sq_expr.specs.Checking.{column_of}
 use Rattle.sq_expr.specs.Kinds.{kind_at, kind_in, same_kinds}
 use Rattle.sq_aggfn.specs.declared.WindowSpec.{WindowSpec}
 use Rattle.sq_graph.specs.declared.Wiring.{Wiring}
-use Rattle.sq_graph.specs.Wires.{Producer, Source, Port, producer_of, inputs_of}
+use Rattle.sq_graph.specs.Wires.{producer_of, inputs_of}
+use Rattle.sq_graph.specs.declared.Producer.{Producer}
+use Rattle.sq_graph.specs.declared.Producer.TheVariants.{Source, Port}
 use Rattle.sq_net.specs.declared.Source as declared
 use Rattle.sq_net.specs.declared.Node.{Node}
 use Rattle.sq_net.specs.declared.Body.{Body}
@@ -23,13 +25,13 @@ use Rattle.sq_net.specs.Names.{is_name}
 use Rattle.sq_net.specs.Streams.{columns_of_port}
 use Rattle.sq_tables.specs.declared.raw.Setting.{Setting}
 use Rattle.sq_tables.specs.declared.raw.AnswerColumn.{AnswerColumn}
-use Rattle.sq_tables.specs.declared.raw.RawBody.{RawBody}
-use Rattle.sq_tables.specs.declared.raw.RawBody.TheVariants.{Filter, Map, Union, BSort, Aggregate, Join, Resample}
-use Rattle.sq_tables.specs.declared.raw.RawBox.{RawBox}
-use Rattle.sq_tables.specs.declared.raw.Raw.{Raw}
+use Rattle.sq_tables.specs.declared.raw.BodyTable.{BodyTable}
+use Rattle.sq_tables.specs.declared.raw.BodyTable.TheVariants.{Filter, Map, Union, BSort, Aggregate, Join, Resample}
+use Rattle.sq_tables.specs.declared.raw.BoxTable.{BoxTable}
+use Rattle.sq_tables.specs.declared.raw.NetworkTable.{NetworkTable}
 use Rattle.sq_tables.specs.Places.{place_at, part_place, or_else}
 use Rattle.sq_reader.specs.Limits.{first_failing}
-use Rattle.sq_tables.specs.Rawly.{or_broken}
+use Rattle.sq_tables.specs.Tables.{or_broken}
 use Rattle.sq_reader.specs.Expressions.{may_be_predicate, may_be_set, predicate_of, typed_in}
 use Rattle.sq_reader.specs.Functions.{funcs_from, group_from, kinds_answered}
 use Rattle.sq_words.specs.Results.{◌>>=◌}
@@ -132,7 +134,7 @@ typed_resample n size give ins =
     Ok (body.Resample size fs, (left_columns ins ++ zip (give_names give) (kinds_answered (second_columns ins) fs)) ∷ []))
 
 -- a box on what it takes
-abbrev pub typed_body : ℕ → RawBody → List Columns → Result TypedBody NetErr
+abbrev pub typed_body : ℕ → BodyTable → List Columns → Result TypedBody NetErr
 typed_body n (Filter preds) ins = filter_of n preds (first_columns ins)
 typed_body n (Map set) ins = map_of n set (first_columns ins)
 typed_body n Union ins = union_of n ins
@@ -141,10 +143,10 @@ typed_body n (Aggregate size advance phase group give) ins = typed_aggregate n (
 typed_body n (Join size on) ins = join_of n size on ins
 typed_body n (Resample size give) ins = typed_resample n (nat_of size) give ins
 
-abbrev pub node_of : RawBox → TypedBody → Node
+abbrev pub node_of : BoxTable → TypedBody → Node
 node_of b t = record { name = b.name; body = t.0; schemas = t.1; cost = nat_of b.cost; selectivity = map nat_of b.selectivity }
 
-abbrev pub node_in : ℕ → RawBox → List Columns → Result Node NetErr
+abbrev pub node_in : ℕ → BoxTable → List Columns → Result Node NetErr
 node_in n b ins = typed_body n b.body ins >>= λ t. Ok (node_of b t)
 
 -- ---- the boxes in their order
@@ -163,16 +165,16 @@ abbrev pub columns_taken : Wiring → List declared.Source → List (Option Node
 columns_taken w ss nodes inputs = filter_map (λ s. columns_known ss nodes (producer_of w s)) inputs
 
 -- a number with no box, which the order of the boxes doesn't have, is out of its limits
-abbrev pub node_of_box : ℕ → Option RawBox → List Columns → Result Node NetErr
+abbrev pub node_of_box : ℕ → Option BoxTable → List Columns → Result Node NetErr
 node_of_box at None ins = Err (broken.Limit (part_place part.Box at))
 node_of_box at (Some b) ins = node_in at b ins
 
 -- the box of this number, on what is known so far
-abbrev pub typed_node : Raw → Wiring → List declared.Source → List (Option Node) → ℕ → Result Node NetErr
+abbrev pub typed_node : NetworkTable → Wiring → List declared.Source → List (Option Node) → ℕ → Result Node NetErr
 typed_node r w ss nodes at = node_of_box at (slice_get r.boxes at) (columns_taken w ss nodes (inputs_of w at))
 
 -- the boxes of these numbers, one after another, each put at its place
-abbrev pub nodes_from : Raw → Wiring → List declared.Source → List (Option Node) → List ℕ → Result (List (Option Node)) NetErr
+abbrev pub nodes_from : NetworkTable → Wiring → List declared.Source → List (Option Node) → List ℕ → Result (List (Option Node)) NetErr
 nodes_from r w ss nodes [] = Ok nodes
 nodes_from r w ss nodes (at ∷ ats) = typed_node r w ss nodes at >>= λ node. nodes_from r w ss (slice_set nodes at (Some node)) ats
 

@@ -18,7 +18,7 @@ use Rattle.sq_tables.specs.declared.raw.Answer.{Answer}
 use Rattle.sq_tables.specs.declared.raw.Answer.TheVariants as answer
 use Rattle.sq_tables.specs.declared.raw.AnswerColumn.{AnswerColumn}
 use Rattle.sq_tables.specs.Places.{place_at}
-use Rattle.sq_tables.specs.Rawly.{or_broken}
+use Rattle.sq_tables.specs.Tables.{or_broken}
 use Rattle.sq_words.specs.Results.{◌>>=◌}
 
 -- a function over the field at a place

@@ -3,12 +3,12 @@ use Rattle.std.specs.Prelude.{ℕ, ◌^◌, Bool, true, not, ◌&&◌, nat_le, i
 use Rattle.std.specs.List.{list_all}
 use Rattle.sq_net.specs.declared.Part.TheVariants as part
 use Rattle.sq_net.specs.declared.Place.{Place}
-use Rattle.sq_tables.specs.declared.raw.RawSource.{RawSource}
-use Rattle.sq_tables.specs.declared.raw.RawBody.{RawBody}
-use Rattle.sq_tables.specs.declared.raw.RawBody.TheVariants.{Filter, Map, Union, BSort, Aggregate, Join, Resample}
-use Rattle.sq_tables.specs.declared.raw.RawBox.{RawBox}
-use Rattle.sq_tables.specs.declared.raw.RawOutput.{RawOutput}
-use Rattle.sq_tables.specs.declared.raw.Raw.{Raw}
+use Rattle.sq_tables.specs.declared.raw.SourceTable.{SourceTable}
+use Rattle.sq_tables.specs.declared.raw.BodyTable.{BodyTable}
+use Rattle.sq_tables.specs.declared.raw.BodyTable.TheVariants.{Filter, Map, Union, BSort, Aggregate, Join, Resample}
+use Rattle.sq_tables.specs.declared.raw.BoxTable.{BoxTable}
+use Rattle.sq_tables.specs.declared.raw.OutputTable.{OutputTable}
+use Rattle.sq_tables.specs.declared.raw.NetworkTable.{NetworkTable}
 use Rattle.sq_tables.specs.Places.{part_place, or_else}
 
 abbrev pub is_int_between : ℕ → ℕ → ℤ → Bool
@@ -20,15 +20,15 @@ has_between low high xs = nat_le low (length xs) && nat_le (length xs) high
 abbrev pub is_expression_long : List ℕ → Bool
 is_expression_long e = has_between 1 4096 e
 
-abbrev pub top_within : Raw → Bool
+abbrev pub top_within : NetworkTable → Bool
 top_within r =
     has_between 1 8 r.sources && has_between 0 128 r.boxes && has_between 1 32 r.outputs
     && is_int_between 1 (2 ^ 34) r.epoch && is_int_between 1 1000000 r.batch
 
-abbrev pub told_source_within : RawSource → Bool
+abbrev pub told_source_within : SourceTable → Bool
 told_source_within s = has_between 1 255 s.file && has_between 1 16 s.fields
 
-abbrev pub told_body_within : RawBody → Bool
+abbrev pub told_body_within : BodyTable → Bool
 told_body_within (Filter preds) = has_between 1 15 preds && list_all is_expression_long preds
 told_body_within (Map set) = has_between 1 16 set && list_all (λ e. is_expression_long e.text) set
 told_body_within Union = true
@@ -38,17 +38,17 @@ told_body_within (Join size on) = is_int_between 0 (2 ^ 32) size && is_expressio
 told_body_within (Resample size give) = is_int_between 0 (2 ^ 32) size && has_between 1 16 give
 
 -- a Union takes 1 to 8 streams, a Join and a Resample two, and each other box one
-abbrev pub inputs_within : RawBody → List (List ℕ) → Bool
+abbrev pub inputs_within : BodyTable → List (List ℕ) → Bool
 inputs_within Union ins = has_between 1 8 ins
 inputs_within (Join size on) ins = has_between 2 2 ins
 inputs_within (Resample size give) ins = has_between 2 2 ins
 inputs_within b ins = has_between 1 1 ins
 
-abbrev pub box_within : RawBox → Bool
+abbrev pub box_within : BoxTable → Bool
 box_within b =
     told_body_within b.body && inputs_within b.body b.ins && is_int_between 0 1000 b.cost && list_all (is_int_between 0 1000000) b.selectivity
 
-abbrev pub told_output_within : RawOutput → Bool
+abbrev pub told_output_within : OutputTable → Bool
 told_output_within o = is_int_between 0 1000 o.weight && has_between 0 1000 o.graph
 
 -- the number of the first item that fails a test
@@ -56,7 +56,7 @@ abbrev pub first_failing : {A : Type 0} → (A → Bool) → List A → Option �
 first_failing test xs = position (λ x. not (test x)) xs
 
 -- the file as a whole, then its sources, then its boxes, then its outputs
-abbrev pub limit_place : Raw → Option Place
+abbrev pub limit_place : NetworkTable → Option Place
 limit_place r =
     if top_within r then or_else
     (option_map (part_place part.Source) (first_failing told_source_within r.sources))

@@ -5,11 +5,11 @@ use Rattle.std.specs.Str.{bytes_eq}
 use Rattle.sq_net.specs.declared.Part.TheVariants as part
 use Rattle.sq_net.specs.declared.Place.{Place}
 use Rattle.sq_net.specs.Names.{is_name}
-use Rattle.sq_tables.specs.declared.raw.Raw.{Raw}
+use Rattle.sq_tables.specs.declared.raw.NetworkTable.{NetworkTable}
 use Rattle.sq_tables.specs.Places.{part_place, or_else}
 use Rattle.sq_reader.specs.Limits.{first_failing}
 
-abbrev pub name_place : Raw → Option Place
+abbrev pub name_place : NetworkTable → Option Place
 name_place r = or_else
     (option_map (part_place part.Source) (first_failing (λ s. is_name s.name) r.sources))
     (or_else
@@ -26,14 +26,14 @@ abbrev pub first_repeat : List (List ℕ) → Option ℕ
 first_repeat names = repeat_after [] 0 names
 
 -- sources and boxes share one space of names: the sources, then the boxes
-abbrev pub space_names : Raw → List (List ℕ)
+abbrev pub space_names : NetworkTable → List (List ℕ)
 space_names r = map (λ s. s.name) r.sources ++ map (λ b. b.name) r.boxes
 
-abbrev pub place_in_space : Raw → ℕ → Place
+abbrev pub place_in_space : NetworkTable → ℕ → Place
 place_in_space r n = if nat_lt n (length r.sources) then part_place part.Source n else part_place part.Box (n - length r.sources)
 
 -- outputs have a space of their own
-abbrev pub twice_place : Raw → Option Place
+abbrev pub twice_place : NetworkTable → Option Place
 twice_place r = or_else
     (option_map (place_in_space r) (first_repeat (space_names r)))
     (option_map (part_place part.Output) (first_repeat (map (λ o. o.name) r.outputs)))

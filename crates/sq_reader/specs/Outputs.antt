@@ -5,8 +5,8 @@ use Rattle.sq_net.specs.declared.Output.{Output}
 use Rattle.sq_net.specs.declared.NetErr.{NetErr}
 use Rattle.sq_net.specs.declared.NetErr.TheVariants as broken
 use Rattle.sq_net.specs.declared.Part.TheVariants as part
-use Rattle.sq_tables.specs.declared.raw.RawOutput.{RawOutput}
-use Rattle.sq_tables.specs.declared.raw.Raw.{Raw}
+use Rattle.sq_tables.specs.declared.raw.OutputTable.{OutputTable}
+use Rattle.sq_tables.specs.declared.raw.NetworkTable.{NetworkTable}
 use Rattle.sq_tables.specs.Places.{part_place, or_else}
 use Rattle.sq_reader.specs.Columns.{nat_of}
 
@@ -18,17 +18,17 @@ point_number (negsuc n) = 2 ^ 32 - 1
 abbrev pub graph_points : List (ℤ × ℤ) → Points
 graph_points ps = map (λ p. (point_number p.0, point_number p.1)) ps
 
-abbrev pub output_of : RawOutput → Output
+abbrev pub output_of : OutputTable → Output
 output_of o = record { name = o.name; weight = nat_of o.weight; graph = graph_points o.graph }
 
 -- why the points of the output of a number are no graph
 abbrev pub graph_fault_at : ℕ → List (ℤ × ℤ) → Option NetErr
 graph_fault_at n ps = option_map (broken.Graph (part_place part.Output n)) (graph_error (graph_points ps))
 
-abbrev pub graph_fault_from : ℕ → List RawOutput → Option NetErr
+abbrev pub graph_fault_from : ℕ → List OutputTable → Option NetErr
 graph_fault_from n [] = None
 graph_fault_from n (o ∷ os) = or_else (graph_fault_at n o.graph) (graph_fault_from (n + 1) os)
 
 -- the first output whose points are no graph, and why they are none
-abbrev pub graph_fault : Raw → Option NetErr
+abbrev pub graph_fault : NetworkTable → Option NetErr
 graph_fault r = graph_fault_from 0 r.outputs

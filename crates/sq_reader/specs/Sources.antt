@@ -10,9 +10,9 @@ use Rattle.sq_net.specs.declared.NetErr.TheVariants as broken
 use Rattle.sq_net.specs.declared.Part.TheVariants as part
 use Rattle.sq_net.specs.declared.Source.{Source}
 use Rattle.sq_net.specs.Names.{is_name}
-use Rattle.sq_tables.specs.declared.raw.RawSource.{RawSource}
+use Rattle.sq_tables.specs.declared.raw.SourceTable.{SourceTable}
 use Rattle.sq_tables.specs.Places.{place_at}
-use Rattle.sq_tables.specs.Rawly.{or_broken}
+use Rattle.sq_tables.specs.Tables.{or_broken}
 use Rattle.sq_words.specs.Results.{◌>>=◌}
 
 abbrev pub is_colon : ℕ → Bool
@@ -39,10 +39,10 @@ columns_from n i before (w ∷ ws) = do
   cs ← columns_from n (i + 1) (before ++ c.0 ∷ []) ws
   Ok (c ∷ cs)
 
-abbrev pub told_source : RawSource → Columns → Source
+abbrev pub told_source : SourceTable → Columns → Source
 told_source s cs = record { name = s.name; file = s.file; schema = cs }
 
-abbrev pub sources_from : ℕ → List RawSource → Result (List Source) NetErr
+abbrev pub sources_from : ℕ → List SourceTable → Result (List Source) NetErr
 sources_from n [] = Ok []
 sources_from n (s ∷ ss) = do
   cs ← columns_from n 0 [] s.fields

@@ -12,22 +12,22 @@ use Rattle.sq_graph.specs.declared.Wiring.{Wiring}
 use Rattle.sq_graph.specs.Order.{is_on_cycle}
 use Rattle.sq_net.specs.declared.Part.TheVariants as part
 use Rattle.sq_net.specs.declared.Place.{Place}
-use Rattle.sq_tables.specs.declared.raw.RawBody.{RawBody}
-use Rattle.sq_tables.specs.declared.raw.RawBody.TheVariants.{Filter, Map, Union, BSort, Aggregate, Join, Resample}
-use Rattle.sq_tables.specs.declared.raw.RawBox.{RawBox}
-use Rattle.sq_tables.specs.declared.raw.Raw.{Raw}
+use Rattle.sq_tables.specs.declared.raw.BodyTable.{BodyTable}
+use Rattle.sq_tables.specs.declared.raw.BodyTable.TheVariants.{Filter, Map, Union, BSort, Aggregate, Join, Resample}
+use Rattle.sq_tables.specs.declared.raw.BoxTable.{BoxTable}
+use Rattle.sq_tables.specs.declared.raw.NetworkTable.{NetworkTable}
 use Rattle.sq_tables.specs.Places.{place_at, part_place, or_else}
 use Rattle.sq_reader.specs.Limits.{first_failing}
 use Rattle.sq_tables.specs.Shapes.{port_count}
 use Rattle.sq_net.specs.Names.{port_name}
 
 -- the streams of a box
-abbrev pub told_port_names : List ℕ → RawBody → List (List ℕ)
+abbrev pub told_port_names : List ℕ → BodyTable → List (List ℕ)
 told_port_names name (Filter preds) = map (λ i. port_name name (i + 1)) (numbers_to (length preds + 1))
 told_port_names name b = name ∷ []
 
 -- the streams: each source, then those of each box
-abbrev pub told_stream_names : Raw → List (List ℕ)
+abbrev pub told_stream_names : NetworkTable → List (List ℕ)
 told_stream_names r = map (λ s. s.name) r.sources ++ flat_map (λ b. told_port_names b.name b.body) r.boxes
 
 -- the number of a stream, by these names
@@ -49,21 +49,21 @@ also_numbered number_of x n w = or_else (number_of w) (if same_bytes w x then So
 abbrev pub is_stream : Numbers → List ℕ → Bool
 is_stream number_of w = is_some (number_of w)
 
-abbrev pub unknown_in_boxes : Numbers → ℕ → List RawBox → Option Place
+abbrev pub unknown_in_boxes : Numbers → ℕ → List BoxTable → Option Place
 unknown_in_boxes number_of n [] = None
 unknown_in_boxes number_of n (b ∷ bs) =
     or_else (option_map (place_at part.Box n) (first_failing (is_stream number_of) b.ins)) (unknown_in_boxes number_of (n + 1) bs)
 
 -- the first name that is no stream's
-abbrev pub unknown_among : Numbers → Raw → Option Place
+abbrev pub unknown_among : Numbers → NetworkTable → Option Place
 unknown_among number_of r = or_else
     (unknown_in_boxes number_of 0 r.boxes)
     (option_map (part_place part.Output) (first_failing (λ o. is_stream number_of o.from) r.outputs))
 
-abbrev pub unknown_place : Raw → Option Place
+abbrev pub unknown_place : NetworkTable → Option Place
 unknown_place r = unknown_among (told_stream_named (told_stream_names r)) r
 
-abbrev pub kind_of_told_body : RawBody → BoxKind
+abbrev pub kind_of_told_body : BodyTable → BoxKind
 kind_of_told_body (Filter preds) = boxes.Filter
 kind_of_told_body (Map set) = boxes.Map
 kind_of_told_body Union = boxes.Union
@@ -72,17 +72,17 @@ kind_of_told_body (Aggregate size advance phase group give) = boxes.Aggregate
 kind_of_told_body (Join size on) = boxes.Join
 kind_of_told_body (Resample size give) = boxes.Resample
 
-abbrev pub box_wires : Numbers → RawBox → BoxWires
+abbrev pub box_wires : Numbers → BoxTable → BoxWires
 box_wires number_of b = record { kind = kind_of_told_body b.body; inputs = filter_map number_of b.ins; ports = port_count b.body }
 
-abbrev pub wiring_by : Numbers → Raw → Wiring
+abbrev pub wiring_by : Numbers → NetworkTable → Wiring
 wiring_by number_of r = record {
   sources = length r.sources;
   boxes = map (box_wires number_of) r.boxes;
   outputs = filter_map (λ o. number_of o.from) r.outputs;
 }
 
-abbrev pub wiring_of : Raw → Wiring
+abbrev pub wiring_of : NetworkTable → Wiring
 wiring_of r = wiring_by (told_stream_named (told_stream_names r)) r
 
 -- the least box on a cycle

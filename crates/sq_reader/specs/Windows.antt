@@ -2,9 +2,9 @@
 use Rattle.std.specs.Prelude.{◌*ℤ◌, ◌^◌, Bool, true, not, ◌&&◌, ℤ, pos, int_le, Option, option_map}
 use Rattle.sq_net.specs.declared.Part.TheVariants as part
 use Rattle.sq_net.specs.declared.Place.{Place}
-use Rattle.sq_tables.specs.declared.raw.RawBody.{RawBody}
-use Rattle.sq_tables.specs.declared.raw.RawBody.TheVariants.{Aggregate}
-use Rattle.sq_tables.specs.declared.raw.Raw.{Raw}
+use Rattle.sq_tables.specs.declared.raw.BodyTable.{BodyTable}
+use Rattle.sq_tables.specs.declared.raw.BodyTable.TheVariants.{Aggregate}
+use Rattle.sq_tables.specs.declared.raw.NetworkTable.{NetworkTable}
 use Rattle.sq_tables.specs.Places.{part_place}
 use Rattle.sq_reader.specs.Limits.{first_failing}
 
@@ -17,10 +17,10 @@ is_span size advance =
 abbrev pub is_window : ℤ → ℤ → ℤ → Bool
 is_window size advance phase = is_span size advance && int_le (pos 0) phase && not (int_le advance phase)
 
-abbrev pub has_window : RawBody → Bool
+abbrev pub has_window : BodyTable → Bool
 has_window (Aggregate size advance phase group give) = is_window size advance phase
 has_window b = true
 
 -- the first Aggregate whose size, advance and phase are no window
-abbrev pub window_place : Raw → Option Place
+abbrev pub window_place : NetworkTable → Option Place
 window_place r = option_map (part_place part.Box) (first_failing (λ b. has_window b.body) r.boxes)

@@ -2,7 +2,7 @@
 ghost use Rattle.std.specs.Prelude.{◌≡◌, ◌<◌, ◌≤◌, ◌^◌, ◌+◌, ◌∷◌, [], true, false, Ok, Err, IfOk, IfErr, IfSome, length};
 ghost use Rattle.sq_net.specs.Columns.{first_columns, second_columns};
 ghost use Rattle.sq_net.specs.Sound.{takes_within};
-ghost use Rattle.sq_tables.specs.declared.raw.RawBody.TheVariants as raw;
+ghost use Rattle.sq_tables.specs.declared.raw.BodyTable.TheVariants as raw;
 ghost use Rattle.sq_tables.specs.Refusals.{is_memory};
 ghost use Rattle.sq_reader.specs.Columns.{typed_aggregate, bad_given, typed_body, bsort_of, filter_of, join_of, map_of, nat_of, typed_resample, too_many, union_of, window_read};
 ghost use Rattle.sq_reader.specs.Limits.{told_body_within};
@@ -20,7 +20,7 @@ use crate::pairs::{kinds_of_both, left_names, pair_schema};
 use crate::sources::schema_of;
 use sq_aggfn::WindowSpec;
 use sq_net::{Body, NetErr, Part};
-use sq_tables::{AnswerColumn, RawBody, Setting};
+use sq_tables::{AnswerColumn, BodyTable, Setting};
 use sq_value::{ListOf, Name, Schema, copy_schema};
 use std::alloc::{AllocError, Global};
 
@@ -282,7 +282,7 @@ fn window_read(size: i64, advance: i64, phase: i64) -> WindowSpec
 pub(crate) fn typed_body(
     alloc: Global,
     number: usize,
-    body: &RawBody,
+    body: &BodyTable,
     ins: &[Schema],
 ) -> Result<(Body, Vec<Schema>), NetErr>
     requires number { number < 2 ^ 32 }
@@ -292,11 +292,11 @@ pub(crate) fn typed_body(
     ensures err { IfErr result (λ e. is_memory e ≡ false → typed_body number body.now ins.now ≡ Err e) }
 {
     match body {
-        RawBody::Filter { preds } => filter_of(alloc, number, preds.as_slice(), first_of(ins)),
-        RawBody::Map { set } => map_of(alloc, number, set.as_slice(), first_of(ins)),
-        RawBody::Union => union_of(alloc, number, ins),
-        RawBody::BSort { by, slack } => bsort_of(alloc, number, by, *slack, first_of(ins)),
-        RawBody::Aggregate {
+        BodyTable::Filter { preds } => filter_of(alloc, number, preds.as_slice(), first_of(ins)),
+        BodyTable::Map { set } => map_of(alloc, number, set.as_slice(), first_of(ins)),
+        BodyTable::Union => union_of(alloc, number, ins),
+        BodyTable::BSort { by, slack } => bsort_of(alloc, number, by, *slack, first_of(ins)),
+        BodyTable::Aggregate {
             size,
             advance,
             phase,
@@ -310,8 +310,8 @@ pub(crate) fn typed_body(
             give.as_slice(),
             first_of(ins),
         ),
-        RawBody::Join { size, on } => join_of(alloc, number, *size, on, ins),
-        RawBody::Resample { size, give } => {
+        BodyTable::Join { size, on } => join_of(alloc, number, *size, on, ins),
+        BodyTable::Resample { size, give } => {
             typed_resample(alloc, number, natural(*size), give.as_slice(), ins)
         }
     }

@@ -17,7 +17,7 @@ use crate::names::is_name;
 use crate::push;
 use crate::sources::is_among;
 use sq_expr::{Ast, Typed};
-use sq_graph::{Giver, Wiring, given_by};
+use sq_graph::{Producer, Wiring, given_by};
 use sq_net::{NetErr, Node, Source};
 use sq_tables::Setting;
 use sq_value::{Kind, Name, Schema, copy_name, copy_schema, same_text};
@@ -215,8 +215,8 @@ fn schema_known<'a>(
     ensures { option_map (λ s. s.now) result ≡ columns_known sources.now nodes.now (producer_of w.now stream) }
 {
     match given_by(w, stream)? {
-        Giver::Source { source } => Some(&sources.get(source as usize)?.schema),
-        Giver::Port { at, port } => {
+        Producer::Source { source } => Some(&sources.get(source as usize)?.schema),
+        Producer::Port { at, port } => {
             let node = nodes.get(at as usize)?.as_ref()?;
             node.schemas.as_slice().get(port as usize)
         }

@@ -27,7 +27,7 @@ mod streams;
 mod windows;
 
 use sq_net::{NetErr, Network};
-use sq_tables::raw_of;
+use sq_tables::network_table_of;
 use std::alloc::{AllocError, Global};
 
 pub(crate) fn push<T: Drop>(list: &mut Vec<T>, item: T) -> Result<(), AllocError>
@@ -45,7 +45,7 @@ pub fn read_network(alloc: Global, bytes: &[u8]) -> Result<Network, NetErr>
     ensures sound { IfOk result IsSound }
     ensures limits { IfOk result KeepsDropLimits }
 {
-    let raw = raw_of(alloc, bytes)?;
+    let raw = network_table_of(alloc, bytes)?;
     let network = network::typed_network(alloc, &raw)?;
     drops::limited_network(alloc, network)
 }

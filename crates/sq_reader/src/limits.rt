@@ -6,7 +6,7 @@ ghost use Rattle.sq_reader.specs.Limits.{told_body_within, box_within, first_fai
 ghost use Rattle.sq_tables.specs.Places.{place_at, part_place};
 
 use sq_net::{Part, Place};
-use sq_tables::{Raw, RawBody, RawBox, RawOutput, RawSource, Setting};
+use sq_tables::{NetworkTable, BodyTable, BoxTable, OutputTable, SourceTable, Setting};
 use sq_value::Name;
 
 /// An item of a list of a part.
@@ -49,7 +49,7 @@ fn is_expression_long(text: &Name) -> bool
     has_between(text.as_str().as_bytes(), 1, 4096)
 }
 
-fn top_within(raw: &Raw) -> bool
+fn top_within(raw: &NetworkTable) -> bool
     ensures { result ≡ top_within raw.now }
 {
     has_between(raw.sources.as_slice(), 1, 8)
@@ -59,7 +59,7 @@ fn top_within(raw: &Raw) -> bool
         && is_int_between(raw.batch, 1, 1_000_000)
 }
 
-fn told_source_within(source: &RawSource) -> bool
+fn told_source_within(source: &SourceTable) -> bool
     ensures { result ≡ told_source_within source.now }
 {
     has_between(source.file.as_str().as_bytes(), 1, 255)
@@ -78,36 +78,36 @@ fn are_set_long(set: &[Setting]) -> bool
     set.iter().all(|setting| is_expression_long(&setting.text))
 }
 
-fn told_body_within(body: &RawBody) -> bool
+fn told_body_within(body: &BodyTable) -> bool
     ensures { result ≡ told_body_within body.now }
 {
     match body {
-        RawBody::Filter { preds } => {
+        BodyTable::Filter { preds } => {
             has_between(preds.as_slice(), 1, 15) && are_long(preds.as_slice())
         }
-        RawBody::Map { set } => has_between(set.as_slice(), 1, 16) && are_set_long(set.as_slice()),
-        RawBody::Union => true,
-        RawBody::BSort { slack, .. } => is_int_between(*slack, 0, 10_000),
-        RawBody::Aggregate { group, give, .. } => {
+        BodyTable::Map { set } => has_between(set.as_slice(), 1, 16) && are_set_long(set.as_slice()),
+        BodyTable::Union => true,
+        BodyTable::BSort { slack, .. } => is_int_between(*slack, 0, 10_000),
+        BodyTable::Aggregate { group, give, .. } => {
             has_between(group.as_slice(), 0, 16) && has_between(give.as_slice(), 1, 16)
         }
-        RawBody::Join { size, on } => is_int_between(*size, 0, 1 << 32) && is_expression_long(on),
-        RawBody::Resample { size, give } => {
+        BodyTable::Join { size, on } => is_int_between(*size, 0, 1 << 32) && is_expression_long(on),
+        BodyTable::Resample { size, give } => {
             is_int_between(*size, 0, 1 << 32) && has_between(give.as_slice(), 1, 16)
         }
     }
 }
 
-fn inputs_within(body: &RawBody, ins: &[Name]) -> bool
+fn inputs_within(body: &BodyTable, ins: &[Name]) -> bool
     ensures { result ≡ inputs_within body.now ins.now }
 {
     match body {
-        RawBody::Union => has_between(ins, 1, 8),
-        RawBody::Join { .. } | RawBody::Resample { .. } => has_between(ins, 2, 2),
-        RawBody::Filter { .. }
-        | RawBody::Map { .. }
-        | RawBody::BSort { .. }
-        | RawBody::Aggregate { .. } => has_between(ins, 1, 1),
+        BodyTable::Union => has_between(ins, 1, 8),
+        BodyTable::Join { .. } | BodyTable::Resample { .. } => has_between(ins, 2, 2),
+        BodyTable::Filter { .. }
+        | BodyTable::Map { .. }
+        | BodyTable::BSort { .. }
+        | BodyTable::Aggregate { .. } => has_between(ins, 1, 1),
     }
 }
 
@@ -119,7 +119,7 @@ fn are_permille(selectivity: &[i64]) -> bool
         .all(|number| is_int_between(*number, 0, 1_000_000))
 }
 
-fn box_within(b: &RawBox) -> bool
+fn box_within(b: &BoxTable) -> bool
     ensures { result ≡ box_within b.now }
 {
     told_body_within(&b.body)
@@ -128,32 +128,32 @@ fn box_within(b: &RawBox) -> bool
         && are_permille(b.selectivity.as_slice())
 }
 
-fn told_output_within(output: &RawOutput) -> bool
+fn told_output_within(output: &OutputTable) -> bool
     ensures { result ≡ told_output_within output.now }
 {
     is_int_between(output.weight, 0, 1000) && has_between(output.graph.as_slice(), 0, 1000)
 }
 
-fn wide_source(sources: &[RawSource]) -> Option<usize>
+fn wide_source(sources: &[SourceTable]) -> Option<usize>
     ensures { result ≡ first_failing told_source_within sources.now }
 {
     sources.iter().position(|source| !told_source_within(source))
 }
 
-fn wide_box(boxes: &[RawBox]) -> Option<usize>
+fn wide_box(boxes: &[BoxTable]) -> Option<usize>
     ensures { result ≡ first_failing box_within boxes.now }
 {
     boxes.iter().position(|b| !box_within(b))
 }
 
-fn wide_output(outputs: &[RawOutput]) -> Option<usize>
+fn wide_output(outputs: &[OutputTable]) -> Option<usize>
     ensures { result ≡ first_failing told_output_within outputs.now }
 {
     outputs.iter().position(|output| !told_output_within(output))
 }
 
 /// The first place where a number or a length is out of its limits.
-pub(crate) fn limit_place(raw: &Raw) -> Option<Place>
+pub(crate) fn limit_place(raw: &NetworkTable) -> Option<Place>
     ensures { result ≡ limit_place raw.now }
 {
     if !top_within(raw) {

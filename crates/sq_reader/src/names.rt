@@ -11,7 +11,7 @@ ghost use Rattle.sq_expr.specs.Tokens.{in_word};
 use crate::limits::whole;
 use indexmap::IndexSet;
 use sq_net::{Part, Place};
-use sq_tables::{Raw, RawBox, RawOutput, RawSource};
+use sq_tables::{NetworkTable, BoxTable, OutputTable, SourceTable};
 use sq_value::{Name, copy_name, same_text};
 use std::alloc::{AllocError, Global};
 
@@ -58,7 +58,7 @@ pub(crate) fn is_name(text: &str) -> bool
     has_name_form(text.as_bytes()) && !is_reserved(text)
 }
 
-fn unnamed_source(sources: &[RawSource]) -> Option<usize>
+fn unnamed_source(sources: &[SourceTable]) -> Option<usize>
     ensures { result ≡ first_failing (λ s. is_name s.name) sources.now }
 {
     sources
@@ -66,13 +66,13 @@ fn unnamed_source(sources: &[RawSource]) -> Option<usize>
         .position(|source| !is_name(source.name.as_str()))
 }
 
-fn unnamed_box(boxes: &[RawBox]) -> Option<usize>
+fn unnamed_box(boxes: &[BoxTable]) -> Option<usize>
     ensures { result ≡ first_failing (λ b. is_name b.name) boxes.now }
 {
     boxes.iter().position(|b| !is_name(b.name.as_str()))
 }
 
-fn unnamed_output(outputs: &[RawOutput]) -> Option<usize>
+fn unnamed_output(outputs: &[OutputTable]) -> Option<usize>
     ensures { result ≡ first_failing (λ o. is_name o.name) outputs.now }
 {
     outputs
@@ -81,7 +81,7 @@ fn unnamed_output(outputs: &[RawOutput]) -> Option<usize>
 }
 
 /// The first source, box or output whose name is none.
-pub(crate) fn name_place(raw: &Raw) -> Option<Place>
+pub(crate) fn name_place(raw: &NetworkTable) -> Option<Place>
     requires sources { length raw.now.sources ≤ 8 }
     requires boxes { length raw.now.boxes ≤ 128 }
     requires outputs { length raw.now.outputs ≤ 32 }
@@ -113,7 +113,7 @@ fn first_repeat(alloc: Global, names: &[Name]) -> Result<Option<usize>, AllocErr
     Ok(None)
 }
 
-pub(crate) fn source_names(alloc: Global, sources: &[RawSource]) -> Result<Vec<Name>, AllocError>
+pub(crate) fn source_names(alloc: Global, sources: &[SourceTable]) -> Result<Vec<Name>, AllocError>
     ensures names { IfOk result (λ v. v.items ≡ map (λ x. x.name) sources.now) }
     ensures count { IfOk result (λ v. length v.items ≡ length sources.now) }
 {
@@ -124,7 +124,7 @@ pub(crate) fn source_names(alloc: Global, sources: &[RawSource]) -> Result<Vec<N
     Ok(names)
 }
 
-fn push_box_names(names: &mut Vec<Name>, boxes: &[RawBox]) -> Result<(), AllocError>
+fn push_box_names(names: &mut Vec<Name>, boxes: &[BoxTable]) -> Result<(), AllocError>
     ensures names { OnOk result (names.new.items ≡ names.old.items ++ map (λ x. x.name) boxes.now) }
     ensures count { OnOk result (length names.new.items ≡ length names.old.items + length boxes.now) }
 {
@@ -134,7 +134,7 @@ fn push_box_names(names: &mut Vec<Name>, boxes: &[RawBox]) -> Result<(), AllocEr
     Ok(())
 }
 
-fn output_names(alloc: Global, outputs: &[RawOutput]) -> Result<Vec<Name>, AllocError>
+fn output_names(alloc: Global, outputs: &[OutputTable]) -> Result<Vec<Name>, AllocError>
     ensures names { IfOk result (λ v. v.items ≡ map (λ x. x.name) outputs.now) }
     ensures count { IfOk result (λ v. length v.items ≡ length outputs.now) }
 {
@@ -145,7 +145,7 @@ fn output_names(alloc: Global, outputs: &[RawOutput]) -> Result<Vec<Name>, Alloc
     Ok(names)
 }
 
-fn space_names(alloc: Global, raw: &Raw) -> Result<Vec<Name>, AllocError>
+fn space_names(alloc: Global, raw: &NetworkTable) -> Result<Vec<Name>, AllocError>
     ensures names { IfOk result (λ v. v.items ≡ space_names raw.now) }
     ensures count { IfOk result (λ v. length v.items ≡ length raw.now.sources + length raw.now.boxes) }
 {
@@ -154,7 +154,7 @@ fn space_names(alloc: Global, raw: &Raw) -> Result<Vec<Name>, AllocError>
     Ok(names)
 }
 
-fn place_in_space(raw: &Raw, number: usize) -> Place
+fn place_in_space(raw: &NetworkTable, number: usize) -> Place
     requires { number < 2 ^ 32 }
     ensures { result ≡ place_in_space raw.now number }
 {
@@ -167,7 +167,7 @@ fn place_in_space(raw: &Raw, number: usize) -> Place
 }
 
 /// The first place whose name stands before in its space.
-pub(crate) fn twice_place(alloc: Global, raw: &Raw) -> Result<Option<Place>, AllocError>
+pub(crate) fn twice_place(alloc: Global, raw: &NetworkTable) -> Result<Option<Place>, AllocError>
     requires sources { length raw.now.sources ≤ 8 }
     requires boxes { length raw.now.boxes ≤ 128 }
     requires outputs { length raw.now.outputs ≤ 32 }

@@ -21,7 +21,7 @@ use crate::windows::window_place;
 use indexmap::IndexMap;
 use sq_graph::{OrderErr, Wiring, order};
 use sq_net::{NetErr, Network, Node, Part, Place};
-use sq_tables::Raw;
+use sq_tables::NetworkTable;
 use sq_value::ListOf;
 use std::alloc::{AllocError, Global};
 
@@ -53,7 +53,7 @@ fn order_in(alloc: Global, w: &Wiring) -> Result<Vec<u32>, NetErr>
 #[tactic(auto, using(crate::proofs::LimitLemmas::counts_of))]
 fn graphed_network(
     alloc: Global,
-    raw: &Raw,
+    raw: &NetworkTable,
     wires: Wiring,
     order: &[u32],
 ) -> Result<Network, NetErr>
@@ -80,7 +80,7 @@ fn graphed_network(
 #[tactic(auto, using(crate::proofs::LimitLemmas::counts_of))]
 fn windowed_network(
     alloc: Global,
-    raw: &Raw,
+    raw: &NetworkTable,
     wires: Wiring,
     order: &[u32],
 ) -> Result<Network, NetErr>
@@ -96,7 +96,7 @@ fn windowed_network(
     graphed_network(alloc, raw, wires, order)
 }
 
-fn wired_network(alloc: Global, raw: &Raw, wires: Wiring) -> Result<Network, NetErr>
+fn wired_network(alloc: Global, raw: &NetworkTable, wires: Wiring) -> Result<Network, NetErr>
     requires within { limit_place raw.now ≡ None }
     requires known { unknown_place raw.now ≡ None }
     requires wires { wires ≡ wiring_of raw.now }
@@ -108,7 +108,7 @@ fn wired_network(alloc: Global, raw: &Raw, wires: Wiring) -> Result<Network, Net
 
 fn streamed_network(
     alloc: Global,
-    raw: &Raw,
+    raw: &NetworkTable,
     numbers: &IndexMap<&str, u32>,
 ) -> Result<Network, NetErr>
     requires within { limit_place raw.now ≡ None }
@@ -123,7 +123,7 @@ fn streamed_network(
 }
 
 #[tactic(auto, using(crate::proofs::LimitLemmas::counts_of))]
-fn single_network(alloc: Global, raw: &Raw) -> Result<Network, NetErr>
+fn single_network(alloc: Global, raw: &NetworkTable) -> Result<Network, NetErr>
     requires within { limit_place raw.now ≡ None }
     ensures { IsAnswerOf result (single_network raw.now) }
 {
@@ -136,7 +136,7 @@ fn single_network(alloc: Global, raw: &Raw) -> Result<Network, NetErr>
 }
 
 #[tactic(auto, using(crate::proofs::LimitLemmas::counts_of))]
-fn named_network(alloc: Global, raw: &Raw) -> Result<Network, NetErr>
+fn named_network(alloc: Global, raw: &NetworkTable) -> Result<Network, NetErr>
     requires within { limit_place raw.now ≡ None }
     ensures { IsAnswerOf result (named_network raw.now) }
 {
@@ -147,7 +147,7 @@ fn named_network(alloc: Global, raw: &Raw) -> Result<Network, NetErr>
 }
 
 /// The network of a file's tables, or the first broken rule.
-pub(crate) fn typed_network(alloc: Global, raw: &Raw) -> Result<Network, NetErr>
+pub(crate) fn typed_network(alloc: Global, raw: &NetworkTable) -> Result<Network, NetErr>
     ensures { IsAnswerOf result (typed_network raw.now) }
 {
     if let Some(place) = limit_place(raw) {

@@ -6,14 +6,14 @@ ghost use Rattle.sq_net.specs.Sound.{takes_within};
 ghost use Rattle.sq_reader.specs.Columns.{columns_taken, nat_of, no_nodes, typed_node, node_in, nodes_from};
 ghost use Rattle.sq_reader.specs.Limits.{box_within, limit_place};
 ghost use Rattle.sq_reader.specs.Streaming.{kind_of_told_body, unknown_place, wiring_of};
-ghost use Rattle.sq_tables.specs.declared.raw.RawBox.{RawBox};
+ghost use Rattle.sq_tables.specs.declared.raw.BoxTable.{BoxTable};
 ghost use Rattle.sq_tables.specs.Refusals.{IsAnswerOf, is_memory};
 
 use crate::bodies::{typed_body, natural};
 use crate::boxes::schemas_taken;
 use sq_graph::Wiring;
 use sq_net::{NetErr, Node, Source};
-use sq_tables::{Raw, RawBox};
+use sq_tables::{NetworkTable, BoxTable};
 use sq_value::{ListOf, Schema, copy_name};
 use std::alloc::{AllocError, Global};
 
@@ -28,7 +28,7 @@ fn naturals(alloc: Global, numbers: &[i64]) -> Result<Vec<u64>, AllocError>
 }
 
 #[tactic(auto, using(crate::proofs::LimitLemmas::box_of))]
-fn node_in(alloc: Global, number: usize, b: &RawBox, ins: &[Schema]) -> Result<Node, NetErr>
+fn node_in(alloc: Global, number: usize, b: &BoxTable, ins: &[Schema]) -> Result<Node, NetErr>
     requires number { number < 2 ^ 32 }
     requires within { box_within b.now ≡ true }
     requires takes { takes_within (kind_of_told_body b.now.body) (length ins.now) ≡ true }
@@ -58,7 +58,7 @@ fn no_nodes(alloc: Global, count: usize) -> Result<Vec<Option<Node>>, AllocError
 
 fn typed_node(
     alloc: Global,
-    raw: &Raw,
+    raw: &NetworkTable,
     w: &Wiring,
     sources: &[Source],
     nodes: &[Option<Node>],
@@ -67,7 +67,7 @@ fn typed_node(
     requires within { limit_place raw.now ≡ None }
     requires wires { w.now ≡ wiring_of raw.now }
     requires there { at < length raw.now.boxes }
-    requires takes { (b : RawBox) → slice_get raw.now.boxes at ≡ Some b → takes_within (kind_of_told_body b.body) (length (columns_taken w.now sources.now nodes.now (inputs_of w.now at))) ≡ true }
+    requires takes { (b : BoxTable) → slice_get raw.now.boxes at ≡ Some b → takes_within (kind_of_told_body b.body) (length (columns_taken w.now sources.now nodes.now (inputs_of w.now at))) ≡ true }
     ensures { IsAnswerOf result (typed_node raw.now w.now sources.now nodes.now at) }
 {
     let b = &raw.boxes.as_slice()[at];
@@ -87,7 +87,7 @@ fn put(nodes: &mut Vec<Option<Node>>, at: usize, node: Node)
 /// The boxes, put at their places in this order, or the first that can't be typed.
 pub(crate) fn nodes_in(
     alloc: Global,
-    raw: &Raw,
+    raw: &NetworkTable,
     w: &Wiring,
     sources: &[Source],
     order: &[u32],

@@ -10,7 +10,7 @@ use crate::limits::whole;
 use crate::push;
 use sq_net::{NetErr, Output, Part};
 use sq_qos::Graph;
-use sq_tables::RawOutput;
+use sq_tables::OutputTable;
 use sq_value::copy_name;
 use std::alloc::{AllocError, Global};
 
@@ -41,7 +41,7 @@ fn graph_in(alloc: Global, number: usize, points: &[(i64, i64)]) -> Result<Graph
     }
 }
 
-fn output_of(output: &RawOutput, graph: Graph) -> Result<Output, AllocError>
+fn output_of(output: &OutputTable, graph: Graph) -> Result<Output, AllocError>
     requires within { told_output_within output.now ≡ true }
     requires graph { graph ≡ graph_points output.now.graph }
     ensures { IfOk result (λ o. o ≡ output_of output.now) }
@@ -55,7 +55,7 @@ fn output_of(output: &RawOutput, graph: Graph) -> Result<Output, AllocError>
 }
 
 /// The outputs, or the first whose points are no graph.
-pub(crate) fn outputs_in(alloc: Global, outputs: &[RawOutput]) -> Result<Vec<Output>, NetErr>
+pub(crate) fn outputs_in(alloc: Global, outputs: &[OutputTable]) -> Result<Vec<Output>, NetErr>
     requires few { length outputs.now ≤ 32 }
     requires within { list_all told_output_within outputs.now ≡ true }
     ensures outputs { IfOk result (λ v. v.items ≡ map output_of outputs.now) }

@@ -11,7 +11,7 @@ use crate::limits::place_at;
 use crate::names::is_name;
 use crate::push;
 use sq_net::{NetErr, Part, Source};
-use sq_tables::RawSource;
+use sq_tables::SourceTable;
 use sq_value::{Kind, Name, Schema, copy_name, same_text};
 use std::alloc::{AllocError, Global};
 
@@ -88,7 +88,7 @@ fn schema_in(alloc: Global, number: usize, fields: &[Name]) -> Result<Schema, Ne
 }
 
 /// The sources with their schemas, or the first field that is no column.
-pub(crate) fn sources_in(alloc: Global, sources: &[RawSource]) -> Result<Vec<Source>, NetErr>
+pub(crate) fn sources_in(alloc: Global, sources: &[SourceTable]) -> Result<Vec<Source>, NetErr>
     requires few { length sources.now ≤ 8 }
     requires within { list_all told_source_within sources.now ≡ true }
     ensures ok { IfOk result (λ v. sources_from 0 sources.now ≡ Ok v.items) }

@@ -14,7 +14,7 @@ use crate::names::source_names;
 use indexmap::IndexMap;
 use sq_graph::{BoxKind, BoxWires, Wiring};
 use sq_net::{Part, Place};
-use sq_tables::{Raw, RawBody, RawBox, RawOutput, port_count};
+use sq_tables::{NetworkTable, BodyTable, BoxTable, OutputTable, port_count};
 use sq_value::{ListOf, Name, copy_name};
 use std::alloc::{AllocError, Global};
 
@@ -42,24 +42,24 @@ fn push_filter_ports(
 }
 
 #[tactic(auto, using(crate::proofs::LimitLemmas::ports_few))]
-fn push_ports(alloc: Global, names: &mut Vec<Name>, b: &RawBox) -> Result<(), AllocError>
+fn push_ports(alloc: Global, names: &mut Vec<Name>, b: &BoxTable) -> Result<(), AllocError>
     requires { told_body_within b.now.body ≡ true }
     ensures { OnOk result (names.new.items ≡ names.old.items ++ told_port_names b.now.name b.now.body) }
 {
     match &b.body {
-        RawBody::Filter { preds } => {
+        BodyTable::Filter { preds } => {
             push_filter_ports(alloc, names, &b.name, preds.as_slice().len() + 1)
         }
-        RawBody::Map { .. }
-        | RawBody::Union
-        | RawBody::BSort { .. }
-        | RawBody::Aggregate { .. }
-        | RawBody::Join { .. }
-        | RawBody::Resample { .. } => Ok(names.push(copy_name(&b.name)?)?),
+        BodyTable::Map { .. }
+        | BodyTable::Union
+        | BodyTable::BSort { .. }
+        | BodyTable::Aggregate { .. }
+        | BodyTable::Join { .. }
+        | BodyTable::Resample { .. } => Ok(names.push(copy_name(&b.name)?)?),
     }
 }
 
-fn push_all_ports(alloc: Global, names: &mut Vec<Name>, boxes: &[RawBox]) -> Result<(), AllocError>
+fn push_all_ports(alloc: Global, names: &mut Vec<Name>, boxes: &[BoxTable]) -> Result<(), AllocError>
     requires { list_all box_within boxes.now ≡ true }
     ensures { OnOk result (names.new.items ≡ names.old.items ++ flat_map (λ b. told_port_names b.name b.body) boxes.now) }
 {
@@ -71,7 +71,7 @@ fn push_all_ports(alloc: Global, names: &mut Vec<Name>, boxes: &[RawBox]) -> Res
 
 /// The names of the streams, by number.
 #[tactic(auto, using(crate::proofs::LimitLemmas::counts_of, crate::proofs::WiringLemmas::streams_few))]
-pub(crate) fn told_stream_names(alloc: Global, raw: &Raw) -> Result<Vec<Name>, AllocError>
+pub(crate) fn told_stream_names(alloc: Global, raw: &NetworkTable) -> Result<Vec<Name>, AllocError>
     requires within { limit_place raw.now ≡ None }
     ensures names { IfOk result (λ v. v.items ≡ told_stream_names raw.now) }
     ensures few { IfOk result (λ v. length v.items < 2 ^ 32) }
@@ -130,7 +130,7 @@ fn unknown_input(numbers: &IndexMap<&str, u32>, ins: &[Name]) -> Option<usize>
         .position(|name| !is_stream(numbers, name.as_str()))
 }
 
-fn unknown_output(numbers: &IndexMap<&str, u32>, outputs: &[RawOutput]) -> Option<usize>
+fn unknown_output(numbers: &IndexMap<&str, u32>, outputs: &[OutputTable]) -> Option<usize>
     ensures { result ≡ first_failing (λ o. is_stream (number_named numbers.now.entries) o.from) outputs.now }
 {
     outputs
@@ -138,7 +138,7 @@ fn unknown_output(numbers: &IndexMap<&str, u32>, outputs: &[RawOutput]) -> Optio
         .position(|output| !is_stream(numbers, output.from.as_str()))
 }
 
-fn unknown_in_boxes(numbers: &IndexMap<&str, u32>, boxes: &[RawBox]) -> Option<Place>
+fn unknown_in_boxes(numbers: &IndexMap<&str, u32>, boxes: &[BoxTable]) -> Option<Place>
     requires boxes { length boxes.now ≤ 128 }
     requires within { list_all box_within boxes.now ≡ true }
     ensures { result ≡ unknown_in_boxes (number_named numbers.now.entries) 0 boxes.now }
@@ -153,7 +153,7 @@ fn unknown_in_boxes(numbers: &IndexMap<&str, u32>, boxes: &[RawBox]) -> Option<P
 
 /// The first place that names no stream.
 #[tactic(auto, using(crate::proofs::LimitLemmas::counts_of))]
-pub(crate) fn unknown_place(numbers: &IndexMap<&str, u32>, raw: &Raw) -> Option<Place>
+pub(crate) fn unknown_place(numbers: &IndexMap<&str, u32>, raw: &NetworkTable) -> Option<Place>
     requires within { limit_place raw.now ≡ None }
     ensures { result ≡ unknown_among (number_named numbers.now.entries) raw.now }
 {
@@ -181,7 +181,7 @@ fn inputs_of(
 fn outputs_of(
     alloc: Global,
     numbers: &IndexMap<&str, u32>,
-    outputs: &[RawOutput],
+    outputs: &[OutputTable],
 ) -> Result<Vec<u32>, AllocError>
     ensures { IfOk result (λ v. v.items ≡ filter_map (λ o. number_named numbers.now.entries o.from) outputs.now) }
 {
@@ -191,17 +191,17 @@ fn outputs_of(
         .collect(alloc)
 }
 
-fn kind_of(body: &RawBody) -> BoxKind
+fn kind_of(body: &BodyTable) -> BoxKind
     ensures { result ≡ kind_of_told_body body.now }
 {
     match body {
-        RawBody::Filter { .. } => BoxKind::Filter,
-        RawBody::Map { .. } => BoxKind::Map,
-        RawBody::Union => BoxKind::Union,
-        RawBody::BSort { .. } => BoxKind::BSort,
-        RawBody::Aggregate { .. } => BoxKind::Aggregate,
-        RawBody::Join { .. } => BoxKind::Join,
-        RawBody::Resample { .. } => BoxKind::Resample,
+        BodyTable::Filter { .. } => BoxKind::Filter,
+        BodyTable::Map { .. } => BoxKind::Map,
+        BodyTable::Union => BoxKind::Union,
+        BodyTable::BSort { .. } => BoxKind::BSort,
+        BodyTable::Aggregate { .. } => BoxKind::Aggregate,
+        BodyTable::Join { .. } => BoxKind::Join,
+        BodyTable::Resample { .. } => BoxKind::Resample,
     }
 }
 
@@ -209,7 +209,7 @@ fn kind_of(body: &RawBody) -> BoxKind
 fn box_wires(
     alloc: Global,
     numbers: &IndexMap<&str, u32>,
-    b: &RawBox,
+    b: &BoxTable,
 ) -> Result<BoxWires, AllocError>
     requires { told_body_within b.now.body ≡ true }
     ensures { IfOk result (λ w. w ≡ box_wires (number_named numbers.now.entries) b.now) }
@@ -225,7 +225,7 @@ fn box_wires(
 fn boxes_wired(
     alloc: Global,
     numbers: &IndexMap<&str, u32>,
-    boxes: &[RawBox],
+    boxes: &[BoxTable],
 ) -> Result<Vec<BoxWires>, AllocError>
     requires { list_all box_within boxes.now ≡ true }
     ensures { IfOk result (λ v. v.items ≡ map (box_wires (number_named numbers.now.entries)) boxes.now) }
@@ -242,7 +242,7 @@ fn boxes_wired(
 pub(crate) fn wiring(
     alloc: Global,
     numbers: &IndexMap<&str, u32>,
-    raw: &Raw,
+    raw: &NetworkTable,
 ) -> Result<Wiring, AllocError>
     requires within { limit_place raw.now ≡ None }
     ensures { IfOk result (λ w. w ≡ wiring_by (number_named numbers.now.entries) raw.now) }

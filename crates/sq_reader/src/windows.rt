@@ -6,7 +6,7 @@ ghost use Rattle.sq_reader.specs.Windows.{has_window, is_span, is_window, window
 
 use crate::limits::whole;
 use sq_net::{Part, Place};
-use sq_tables::{Raw, RawBody, RawBox};
+use sq_tables::{NetworkTable, BodyTable, BoxTable};
 
 fn is_span(size: i64, advance: i64) -> bool
     ensures { result ≡ is_span size advance }
@@ -20,33 +20,33 @@ fn is_window(size: i64, advance: i64, phase: i64) -> bool
     is_span(size, advance) && 0 <= phase && !(advance <= phase)
 }
 
-fn has_window(body: &RawBody) -> bool
+fn has_window(body: &BodyTable) -> bool
     ensures { result ≡ has_window body.now }
 {
     match body {
-        RawBody::Aggregate {
+        BodyTable::Aggregate {
             size,
             advance,
             phase,
             ..
         } => is_window(*size, *advance, *phase),
-        RawBody::Filter { .. }
-        | RawBody::Map { .. }
-        | RawBody::Union
-        | RawBody::BSort { .. }
-        | RawBody::Join { .. }
-        | RawBody::Resample { .. } => true,
+        BodyTable::Filter { .. }
+        | BodyTable::Map { .. }
+        | BodyTable::Union
+        | BodyTable::BSort { .. }
+        | BodyTable::Join { .. }
+        | BodyTable::Resample { .. } => true,
     }
 }
 
-fn box_without_window(boxes: &[RawBox]) -> Option<usize>
+fn box_without_window(boxes: &[BoxTable]) -> Option<usize>
     ensures { result ≡ first_failing (λ b. has_window b.body) boxes.now }
 {
     boxes.iter().position(|b| !has_window(&b.body))
 }
 
 /// The first Aggregate whose size, advance and phase are no window.
-pub(crate) fn window_place(raw: &Raw) -> Option<Place>
+pub(crate) fn window_place(raw: &NetworkTable) -> Option<Place>
     requires { length raw.now.boxes ≤ 128 }
     ensures { result ≡ window_place raw.now }
 {

@@ -8,13 +8,13 @@ use Rattle.sq_words.specs.Lists.{IsPrefixOf}
 use Rattle.sq_item.specs.declared.Mark.{Mark}
 use Rattle.sq_item.specs.declared.Item.{Item}
 use Rattle.sq_item.specs.Sound.{IsSoundItem}
-use Rattle.sq_item.specs.Things.{Load, Sign, Body, Thing, mark_part, body_part}
+use Rattle.sq_item.specs.Things.{Content, Sign, Body, Thing, mark_part, body_part}
 use Rattle.sq_lists.specs.Sides.{AllNear, recent, left_with, right_with}
 use Rattle.sq_lists.specs.WindowParts.{TimesNotFalling}
 use Rattle.sq_lists.proofs.SideLemmas.{All-recent, rises-recent, rises-push, near-recent}
 use Rattle.sq_lists.proofs.WindowLemmas.{lower, all-later}
 use Rattle.sq_lists.specs.Resamples.{resample_of}
-use Rattle.sq_oper.specs.declared.tally.Place.{Place}
+use Rattle.sq_oper.specs.declared.tally.Moment.{Moment}
 use Rattle.sq_oper.specs.Entries.{Entry, at_port, entries}
 use Rattle.sq_oper.specs.Given.{ThingsUpTo}
 use Rattle.sq_oper.specs.Order.{time_of, moment_after, InOrder, unmarked, IsFuture}
@@ -30,23 +30,23 @@ use Rattle.sq_words.proofs.Alls.{all_weaker, all_push}
 -- ---- what comes at a port
 
 -- it comes in order of time
-future-rises : (place : Place) (port : ℕ) (es : List Entry) → InOrder place es → TimesNotFalling (time_of place) (tuples_at port es)
+future-rises : (place : Moment) (port : ℕ) (es : List Entry) → InOrder place es → TimesNotFalling (time_of place) (tuples_at port es)
 future-rises place port [] order = tt
-future-rises place port (e ∷ es) order = by e.thing.load (future-rises (moment_after place e) port es order.1) (may-come-time place e order.0)
+future-rises place port (e ∷ es) order = by e.thing.content (future-rises (moment_after place e) port es order.1) (may-come-time place e order.0)
   where
-    onto : (load : Load) (more : List Tuple) → TimesNotFalling e.thing.time more → time_of place ≤ e.thing.time → TimesNotFalling (time_of place) (tuple_in e.thing.time load ++ more)
+    onto : (content : Content) (more : List Tuple) → TimesNotFalling e.thing.time more → time_of place ≤ e.thing.time → TimesNotFalling (time_of place) (tuple_in e.thing.time content ++ more)
     onto (Sign m) more up le = lower (time_of place) e.thing.time more le up
     onto (Body f) more up le = (le, up)
 
-    by : (load : Load) → TimesNotFalling e.thing.time (tuples_at port es) → time_of place ≤ e.thing.time → TimesNotFalling (time_of place) (tuples_at port (e ∷ es))
-    by load up le =
+    by : (content : Content) → TimesNotFalling e.thing.time (tuples_at port es) → time_of place ≤ e.thing.time → TimesNotFalling (time_of place) (tuples_at port (e ∷ es))
+    by content up le =
         elim (e.port == port) as (λ b. TimesNotFalling (time_of place) (tuples_of (cond b (e ∷ filter (λ e. e.port == port) es) (filter (λ e. e.port == port) es)))) [
-          | true ↦ onto e.thing.load (tuples_at port es) up le
+          | true ↦ onto e.thing.content (tuples_at port es) up le
           | false ↦ lower (time_of place) e.thing.time (tuples_at port es) le up
         ]
 
 -- and after an item no earlier than it
-after-fed : (fits : ℕ → List Value → Bool) (place : Place) (port : ℕ) (item : Item) (fields : List Value) (future : List Entry) → item.body ≡ Some fields
+after-fed : (fits : ℕ → List Value → Bool) (place : Moment) (port : ℕ) (item : Item) (fields : List Value) (future : List Entry) → item.body ≡ Some fields
     → IsFuture unmarked fits place (entries port item ++ future) → (q : ℕ) → TimesNotFalling item.time (tuples_at q future)
 after-fed fits place port item fields future is may q = by item.mark item.body is may
   where
@@ -96,7 +96,7 @@ first-pushed now (y ∷ xs) x is = refl
 
 -- ---- a box that is fed a tuple
 
-module _ (answers : List Tuple → List Value) (width size : ℕ) (waiting held : List Tuple) (place : Place) (port : ℕ) (item : Item) (fields : List Value)
+module _ (answers : List Tuple → List Value) (width size : ℕ) (waiting held : List Tuple) (place : Moment) (port : ℕ) (item : Item) (fields : List Value)
     (is : item.body ≡ Some fields) (sound : IsSoundItem item) (may : IsFuture unmarked (resample_fits width) place (entries port item))
     (facts : IsHeld width size (time_of place) waiting held) where
   abbrev fed : Tuple

@@ -8,7 +8,9 @@ use Rattle.std.specs.List.{filter, list_any, list_all}
 use Rattle.sq_words.specs.Lists.{numbers_to, contains_number}
 use Rattle.sq_value.specs.Values.{Columns}
 use Rattle.sq_expr.specs.Keys.{bare_of, equated}
-use Rattle.sq_graph.specs.Wires.{Producer, Source, Port, producers_of, producer_of, inputs_of}
+use Rattle.sq_graph.specs.Wires.{producers_of, producer_of, inputs_of}
+use Rattle.sq_graph.specs.declared.Producer.{Producer}
+use Rattle.sq_graph.specs.declared.Producer.TheVariants.{Source, Port}
 use Rattle.sq_net.specs.declared.Network.{Network}
 use Rattle.sq_net.specs.declared.Node.{Node}
 use Rattle.sq_net.specs.declared.Body.{Body}

@@ -10,7 +10,7 @@ ghost use Rattle.sq_shard.specs.declared.Cut.TheVariants.{By};
 
 use crate::Cut;
 use crate::boxes::{box_cut, by_columns, cut_at, no_cut};
-use sq_graph::{Giver, Wiring, given_by, stream_of};
+use sq_graph::{Producer, Wiring, given_by, stream_of};
 use sq_net::Network;
 use sq_value::Schema;
 use std::alloc::{AllocError, Global};
@@ -30,11 +30,11 @@ fn stream_width(n: &Network, stream: u32) -> u32
 {
     match given_by(&n.wires, stream) {
         None => 0,
-        Some(Giver::Source { source }) => match n.sources.as_slice().get(source as usize) {
+        Some(Producer::Source { source }) => match n.sources.as_slice().get(source as usize) {
             None => 0,
             Some(source) => schema_width(&source.schema),
         },
-        Some(Giver::Port { at, port }) => match n.boxes.as_slice().get(at as usize) {
+        Some(Producer::Port { at, port }) => match n.boxes.as_slice().get(at as usize) {
             None => 0,
             Some(node) => match node.schemas.as_slice().get(port as usize) {
                 None => 0,
@@ -122,8 +122,8 @@ fn cut_given(
 {
     match given_by(&n.wires, stream) {
         None => Ok(no_cut(alloc)),
-        Some(Giver::Source { source }) => source_cut(alloc, by, source),
-        Some(Giver::Port { at, .. }) => port_cut(alloc, n, on_time, cuts, at),
+        Some(Producer::Source { source }) => source_cut(alloc, by, source),
+        Some(Producer::Port { at, .. }) => port_cut(alloc, n, on_time, cuts, at),
     }
 }
 

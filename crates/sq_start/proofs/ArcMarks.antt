@@ -9,7 +9,7 @@ use Rattle.std.proofs.lemmas.Option.{slice_get-get_or, slice_get_within}
 use Rattle.sq_value.specs.declared.Value.{Value}
 use Rattle.sq_words.specs.Lists.{numbers_to}
 use Rattle.sq_value.specs.Values.{Columns, IsStream, fields_fit}
-use Rattle.sq_oper.specs.declared.tally.Place.TheVariants.{Start}
+use Rattle.sq_oper.specs.declared.tally.Moment.TheVariants.{Start}
 use Rattle.sq_oper.specs.Order.{unmarked, IsFuture}
 use Rattle.sq_graph.specs.declared.BoxWires.{BoxWires}
 use Rattle.sq_graph.specs.Wires.{inputs_at, inputs_of, arc_at, input_arcs_of, output_arc_at}

@@ -4,11 +4,11 @@ use Rattle.std.specs.List.{All}
 use Rattle.std.proofs.lemmas.List.FromFn.{length-range_with_len}
 use Rattle.sq_value.specs.declared.Value.{Value}
 use Rattle.sq_value.specs.Values.{IsStream}
-use Rattle.sq_item.specs.Things.{Load, Sign, Thing}
+use Rattle.sq_item.specs.Things.{Content, Sign, Thing}
 use Rattle.sq_item.specs.Things as item
-use Rattle.sq_oper.specs.declared.tally.Place.TheVariants.{Start}
+use Rattle.sq_oper.specs.declared.tally.Moment.TheVariants.{Start}
 use Rattle.sq_oper.specs.Entries.{Entry}
-use Rattle.sq_oper.specs.Order.{load_fits, AllFit, IsFuture}
+use Rattle.sq_oper.specs.Order.{content_fits, AllFit, IsFuture}
 use Rattle.sq_tagged.specs.Tagged.{HasNoMarks}
 use Rattle.sq_graph.specs.Wires.{inputs_of, input_arcs_of, arc_at}
 use Rattle.sq_words.specs.Lists.{numbers_to, max_by}
@@ -27,13 +27,13 @@ use Rattle.sq_words.proofs.Lists.{length_map}
 abbrev pub Ready : Type 0
 Ready = (r : Replay) → IsSound r.network → All IsStream r.sources → SourcesFit r.network r.sources → AllReady r
 
-load-plain : (marks : ℕ → Bool) (fits : ℕ → List Value → Bool) (port : ℕ) (load : Load) → (marks port ≡ true → ⊥) → load_fits marks fits port load ≡ true → item.is_body load ≡ true
+load-plain : (marks : ℕ → Bool) (fits : ℕ → List Value → Bool) (port : ℕ) (load : Content) → (marks port ≡ true → ⊥) → content_fits marks fits port load ≡ true → item.is_body load ≡ true
 load-plain marks fits port (Sign m) none h = absurd (none h)
 load-plain marks fits port (item.Body fields) none h = refl
 
 none-marked : (marks : ℕ → Bool) (fits : ℕ → List Value → Bool) (es : List Entry) → ((port : ℕ) → marks port ≡ true → ⊥) → AllFit marks fits es → HasNoMarks es
 none-marked marks fits [] none h = tt
-none-marked marks fits (e ∷ es) none h = (load-plain marks fits e.port e.thing.load (none e.port) h.0, none-marked marks fits es none h.1)
+none-marked marks fits (e ∷ es) none h = (load-plain marks fits e.port e.thing.content (none e.port) h.0, none-marked marks fits es none h.1)
 
 module _ (readies : Ready) (widen : FuturesWiden) (r : Replay) (b : ℕ) (kind : Body) (lags : List ℕ) (marked : Bool) (h : IsBox r b kind lags marked) where
   pub all-ready : AllReady r

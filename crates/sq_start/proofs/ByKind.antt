@@ -14,7 +14,7 @@ use Rattle.sq_lists.specs.Sorting.{bsort_list_of}
 use Rattle.sq_lists.specs.Windows.{aggregate_of, window_results, in_window, starts_of}
 use Rattle.sq_lists.specs.Pairs.{join_list_of, pairs_from}
 use Rattle.sq_lists.specs.Resamples.{resample_list_of}
-use Rattle.sq_oper.specs.declared.tally.Place.TheVariants.{Start}
+use Rattle.sq_oper.specs.declared.tally.Moment.TheVariants.{Start}
 use Rattle.sq_oper.specs.Entries.{Entry}
 use Rattle.sq_oper.specs.Order.{IsFuture, unmarked}
 use Rattle.sq_oper.specs.Streams.{tuple_in, tuples_at, tuples_of, things, at_zero, at_ports_below}
@@ -50,7 +50,7 @@ none-late r b kind lags marked h none n zero =
 
 same-pairs : (es : List Entry) → elements_of es ≡ port_tuples es
 same-pairs [] = refl
-same-pairs (e ∷ es) = ap (λ l. map (λ x. (e.port, x)) (tuple_in e.thing.time e.thing.load) ++ l) (same-pairs es)
+same-pairs (e ∷ es) = ap (λ l. map (λ x. (e.port, x)) (tuple_in e.thing.time e.thing.content) ++ l) (same-pairs es)
 
 module _ (readies : Ready) (widen : FuturesWiden) (lags : List ℕ) (marked : Bool) (marks : ℕ → Bool) (fits : ℕ → List Value → Bool)
     (rest : (ℕ → ℕ → ℕ) → List Entry → ℕ → List Thing) (lost : List Entry → ℕ) where

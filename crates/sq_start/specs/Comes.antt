@@ -2,7 +2,7 @@
 use Rattle.std.specs.Prelude.{◌≡◌, ℕ, Bool, true, List, [], ◌∷◌, length, Option, Some, None, is_some, slice_get}
 use Rattle.sq_value.specs.declared.Value.{Value}
 use Rattle.sq_value.specs.Values.{Columns, fields_fit}
-use Rattle.sq_oper.specs.declared.tally.Place.TheVariants.{Start}
+use Rattle.sq_oper.specs.declared.tally.Moment.TheVariants.{Start}
 use Rattle.sq_oper.specs.Order.{IsFuture}
 use Rattle.sq_graph.specs.Wires.{inputs_of, input_arcs_of, output_arc_at}
 use Rattle.sq_place.specs.declared.DropPoint.{DropPoint}

@@ -8,16 +8,16 @@ use Rattle.toml.specs.Data.{Members, get_member, as_str, as_integer}
 use Rattle.sq_net.specs.declared.NetErr.{NetErr}
 use Rattle.sq_net.specs.declared.NetErr.TheVariants as broken
 use Rattle.sq_net.specs.declared.Part.TheVariants as part
-use Rattle.sq_tables.specs.declared.raw.RawBody.{RawBody}
-use Rattle.sq_tables.specs.declared.raw.RawBox.{RawBox}
-use Rattle.sq_tables.specs.declared.raw.Raw.{Raw}
+use Rattle.sq_tables.specs.declared.raw.BodyTable.{BodyTable}
+use Rattle.sq_tables.specs.declared.raw.BoxTable.{BoxTable}
+use Rattle.sq_tables.specs.declared.raw.NetworkTable.{NetworkTable}
 use Rattle.sq_tables.specs.declared.raw.Version.{Version}
 use Rattle.sq_words.specs.Options as option
 use Rattle.sq_tables.specs.Documents.{list_in, optional, required, when}
 use Rattle.sq_tables.specs.Places.{part_place}
 use Rattle.sq_tables.specs.Shapes.{IsEven, AreEven, body_in, box_in, default_selectivity, output_in, port_count, source_in, top_in}
 use Rattle.sq_tables.specs.Refusals.{IsAnswerOf}
-use Rattle.sq_tables.specs.Rawly.{version_in, or_broken, raw_from, raw_in, shaped_from}
+use Rattle.sq_tables.specs.Tables.{version_in, or_broken, network_table_from, network_table_in, shaped_from}
 use Rattle.sq_tables.proofs.ShapedLemmas.{first_step}
 use Rattle.sq_words.specs.Results.{◌>>=◌}
 
@@ -25,7 +25,7 @@ first_part : {A B : Type 0} (o : Option A) (f : A → Option B) (y : B) → opti
 first_part None f y e = cc
 first_part (Some x) f y e = (x, (refl, e))
 
-when_even : (b raw : RawBox) → when (length b.selectivity == port_count b.body) b ≡ Some raw → IsEven raw
+when_even : (b raw : BoxTable) → when (length b.selectivity == port_count b.body) b ≡ Some raw → IsEven raw
 when_even b raw h = by_test (length b.selectivity == port_count b.body) refl h
   where
     by_test : (t : Bool) → (length b.selectivity == port_count b.body) ≡ t → when t b ≡ Some raw → IsEven raw
@@ -35,24 +35,24 @@ when_even b raw h = by_test (length b.selectivity == port_count b.body) refl h
         subst IsEven same even
     by_test false is e = cc
 
-abbrev boxed : List ℕ → RawBody → List (List ℕ) → ℤ → List ℤ → RawBox
+abbrev boxed : List ℕ → BodyTable → List (List ℕ) → ℤ → List ℤ → BoxTable
 boxed name body ins cost selectivity = record { name = name; body = body; ins = ins; cost = cost; selectivity = selectivity }
 
-abbrev weighed : Members → List ℕ → RawBody → List (List ℕ) → ℤ → Option RawBox
+abbrev weighed : Members → List ℕ → BodyTable → List (List ℕ) → ℤ → Option BoxTable
 weighed ms name body ins cost =
     option.◌>>=◌ (optional (default_selectivity (port_count body)) (list_in as_integer) (get_member (codes "selectivity") ms))
     (λ selectivity. when (length selectivity == port_count body) (boxed name body ins cost selectivity))
 
-abbrev priced : Members → List ℕ → RawBody → List (List ℕ) → Option RawBox
+abbrev priced : Members → List ℕ → BodyTable → List (List ℕ) → Option BoxTable
 priced ms name body ins = option.◌>>=◌ (optional (pos 1) as_integer (get_member (codes "cost") ms)) (weighed ms name body ins)
 
-abbrev fed : Members → RawBody → List ℕ → Option RawBox
+abbrev fed : Members → BodyTable → List ℕ → Option BoxTable
 fed ms body name = option.◌>>=◌ (required (list_in as_str) (get_member (codes "in") ms)) (priced ms name body)
 
-abbrev called : Members → RawBody → Option RawBox
+abbrev called : Members → BodyTable → Option BoxTable
 called ms body = option.◌>>=◌ (required as_str (get_member (codes "name") ms)) (fed ms body)
 
-box_even : (v : Version) (ms : Members) (raw : RawBox) → box_in v ms ≡ Some raw → IsEven raw
+box_even : (v : Version) (ms : Members) (raw : BoxTable) → box_in v ms ≡ Some raw → IsEven raw
 box_even v ms raw h =
     let kind = first_part (required as_str (get_member (codes "kind") ms)) (λ k. option.◌>>=◌ (body_in v k ms) (called ms)) raw h in
     let body = first_part (body_in v kind.0 ms) (called ms) raw kind.1.1 in
@@ -66,22 +66,22 @@ pub read_as : {A : Type 0} (b : NetErr) (o : Option A) (x : A) → or_broken b o
 read_as b None x e = cc
 read_as b (Some y) x e = let same : y ≡ x = cc in ap Some same
 
-boxes_even : (v : Version) (n : ℕ) (ts : List Members) (boxes : List RawBox) → shaped_from part.Box (box_in v) n ts ≡ Ok boxes → AllByRecursion IsEven boxes
-boxes_even v n [] boxes h = let same : [] ≡ boxes = cc in subst (λ (bs : List RawBox). AllByRecursion IsEven bs) same tt
+boxes_even : (v : Version) (n : ℕ) (ts : List Members) (boxes : List BoxTable) → shaped_from part.Box (box_in v) n ts ≡ Ok boxes → AllByRecursion IsEven boxes
+boxes_even v n [] boxes h = let same : [] ≡ boxes = cc in subst (λ (bs : List BoxTable). AllByRecursion IsEven bs) same tt
 boxes_even v n (t ∷ ts) boxes h =
     let fault : NetErr = broken.Shape (part_place part.Box n) in
     let one = first_step (or_broken fault (box_in v t)) (λ b. shaped_from part.Box (box_in v) (n + 1) ts >>= λ bs. Ok (b ∷ bs)) boxes h in
     let two = first_step (shaped_from part.Box (box_in v) (n + 1) ts) (λ bs. Ok (one.0 ∷ bs)) boxes one.1.1 in
     let same : one.0 ∷ two.0 ≡ boxes = (let last = two.1.1 in cc) in
-    subst (λ (bs : List RawBox). AllByRecursion IsEven bs) same (box_even v t one.0 (read_as fault (box_in v t) one.0 one.1.0), boxes_even v (n + 1) ts two.0 two.1.0)
+    subst (λ (bs : List BoxTable). AllByRecursion IsEven bs) same (box_even v t one.0 (read_as fault (box_in v t) one.0 one.1.0), boxes_even v (n + 1) ts two.0 two.1.0)
 
-abbrev read : Raw → Result Raw NetErr
+abbrev read : NetworkTable → Result NetworkTable NetErr
 read r = Ok r
 
-same_even : (raw r : Raw) → read raw ≡ read r → AllByRecursion IsEven raw.boxes → AllByRecursion IsEven r.boxes
-same_even raw r e even = let same : raw ≡ r = cc in subst (λ (x : Raw). AllByRecursion IsEven x.boxes) same even
+same_even : (raw r : NetworkTable) → read raw ≡ read r → AllByRecursion IsEven raw.boxes → AllByRecursion IsEven r.boxes
+same_even raw r e even = let same : raw ≡ r = cc in subst (λ (x : NetworkTable). AllByRecursion IsEven x.boxes) same even
 
-in_even : (v : Version) (ms : Members) (r : Raw) → raw_in v ms ≡ Ok r → AllByRecursion IsEven r.boxes
+in_even : (v : Version) (ms : Members) (r : NetworkTable) → network_table_in v ms ≡ Ok r → AllByRecursion IsEven r.boxes
 in_even v ms r h =
     let top = first_step (or_broken (broken.Shape (part_place part.Top 0)) (top_in ms)) (λ t.
     shaped_from part.Source source_in 0 t.sources >>= λ sources.
@@ -97,16 +97,16 @@ in_even v ms r h =
     Ok (record { epoch = top.0.epoch; batch = top.0.batch; sources = sources.0; boxes = boxes; outputs = outputs })) r sources.1.1 in
     let outputs = first_step (shaped_from part.Output output_in 0 top.0.outputs) (λ outputs.
     Ok (record { epoch = top.0.epoch; batch = top.0.batch; sources = sources.0; boxes = boxes.0; outputs = outputs })) r boxes.1.1 in
-    let raw : Raw = record { epoch = top.0.epoch; batch = top.0.batch; sources = sources.0; boxes = boxes.0; outputs = outputs.0 } in
+    let raw : NetworkTable = record { epoch = top.0.epoch; batch = top.0.batch; sources = sources.0; boxes = boxes.0; outputs = outputs.0 } in
     same_even raw r outputs.1.1 (boxes_even v 0 top.0.boxes boxes.0 boxes.1.0)
 
-from_even : (ms : Members) (r : Raw) → raw_from ms ≡ Ok r → AllByRecursion IsEven r.boxes
+from_even : (ms : Members) (r : NetworkTable) → network_table_from ms ≡ Ok r → AllByRecursion IsEven r.boxes
 from_even ms r h = by_version (version_in ms) h
   where
-    by_version : (o : Option Version) → (or_broken broken.Version o >>= λ v. raw_in v ms) ≡ Ok r → AllByRecursion IsEven r.boxes
+    by_version : (o : Option Version) → (or_broken broken.Version o >>= λ v. network_table_in v ms) ≡ Ok r → AllByRecursion IsEven r.boxes
     by_version (Some v) h = in_even v ms r h
     by_version None h = cc
 
-pub answer_even : (ms : Members) (answer : Result Raw NetErr) → IsAnswerOf answer (raw_from ms) → IfOk answer AreEven
+pub answer_even : (ms : Members) (answer : Result NetworkTable NetErr) → IsAnswerOf answer (network_table_from ms) → IfOk answer AreEven
 answer_even ms (Ok r) h = All-from_recursion IsEven r.boxes (from_even ms r h)
 answer_even ms (Err e) h = tt

@@ -4,8 +4,8 @@ use Rattle.std.specs.Prelude.{codes}
 use Rattle.toml.specs.Data.{Data, string, integer, array, Items, no_items, item, Members, no_members, member}
 use Rattle.sq_tables.specs.declared.raw.Over.TheVariants.{Avg, First}
 use Rattle.sq_tables.specs.declared.raw.Answer.TheVariants.{Count, Field}
-use Rattle.sq_tables.specs.declared.raw.RawBody.TheVariants.{Filter, Map, Union, BSort, Aggregate, Join, Resample}
-use Rattle.sq_tables.specs.declared.raw.RawOutput.{RawOutput}
+use Rattle.sq_tables.specs.declared.raw.BodyTable.TheVariants.{Filter, Map, Union, BSort, Aggregate, Join, Resample}
+use Rattle.sq_tables.specs.declared.raw.OutputTable.{OutputTable}
 use Rattle.sq_tables.specs.declared.raw.Version.TheVariants.{One, Two}
 use Rattle.sq_tables.specs.Shapes.{body_in, box_in, answer_column_in, output_in}
 
@@ -124,7 +124,7 @@ abbrev points : List (List ℤ) → Items
 points [] = no_items
 points (zs ∷ rest) = item (array (numbers zs)) (points rest)
 
-abbrev graphed : Items → Option RawOutput
+abbrev graphed : Items → Option OutputTable
 graphed entries = output_in (shown (member (codes "graph") (array entries) no_members))
 
 bare_row : output_in (shown no_members) ≡ Some (record { name = codes "o"; from = codes "b"; weight = pos 1; graph = (pos 0, pos 0) ∷ (pos 1000, pos 1000000) ∷ [] })

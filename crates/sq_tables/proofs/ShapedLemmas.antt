@@ -8,7 +8,7 @@ use Rattle.sq_net.specs.declared.Part.{Part}
 use Rattle.sq_net.specs.declared.NetErr.{NetErr}
 use Rattle.sq_net.specs.declared.NetErr.TheVariants as broken
 use Rattle.sq_tables.specs.Places.{part_place}
-use Rattle.sq_tables.specs.Rawly.{shaped_from}
+use Rattle.sq_tables.specs.Tables.{shaped_from}
 use Rattle.sq_words.specs.Results.{◌>>=◌}
 
 -- where two steps succeed, each does

@@ -4,4 +4,4 @@ pub mod Refusals
 pub mod Places
 pub mod Shapes
 pub mod ShapesSeen
-pub mod Rawly
+pub mod Tables

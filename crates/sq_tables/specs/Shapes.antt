@@ -4,19 +4,19 @@ use Rattle.std.specs.Prelude.{◌≡◌, ℕ, ◌+◌, true, ◌==◌, if◌then
 use Rattle.sq_words.specs.Lists.{same_bytes}
 use Rattle.std.specs.List.{All}
 use Rattle.toml.specs.Data.{Data, array, no_items, item, Members, get_member, as_str, as_integer, as_table}
-use Rattle.sq_tables.specs.declared.raw.RawSource.{RawSource}
+use Rattle.sq_tables.specs.declared.raw.SourceTable.{SourceTable}
 use Rattle.sq_tables.specs.declared.raw.Setting.{Setting}
 use Rattle.sq_tables.specs.declared.raw.Over.{Over}
 use Rattle.sq_tables.specs.declared.raw.Over.TheVariants.{Sum, Avg, Min, Max, First, Last}
 use Rattle.sq_tables.specs.declared.raw.Answer.TheVariants.{Count, Field}
 use Rattle.sq_tables.specs.declared.raw.AnswerColumn.{AnswerColumn}
-use Rattle.sq_tables.specs.declared.raw.RawBody.{RawBody}
-use Rattle.sq_tables.specs.declared.raw.RawBody.TheVariants.{Filter, Map, Union, BSort, Aggregate, Join, Resample}
-use Rattle.sq_tables.specs.declared.raw.RawBox.{RawBox}
+use Rattle.sq_tables.specs.declared.raw.BodyTable.{BodyTable}
+use Rattle.sq_tables.specs.declared.raw.BodyTable.TheVariants.{Filter, Map, Union, BSort, Aggregate, Join, Resample}
+use Rattle.sq_tables.specs.declared.raw.BoxTable.{BoxTable}
 use Rattle.sq_tables.specs.declared.raw.Version.{Version}
 use Rattle.sq_tables.specs.declared.raw.Version.TheVariants.{One, Two}
-use Rattle.sq_tables.specs.declared.raw.RawOutput.{RawOutput}
-use Rattle.sq_tables.specs.declared.raw.Raw.{Raw}
+use Rattle.sq_tables.specs.declared.raw.OutputTable.{OutputTable}
+use Rattle.sq_tables.specs.declared.raw.NetworkTable.{NetworkTable}
 use Rattle.sq_tables.specs.Documents.{when, list_in, has_only, required, optional}
 use Rattle.sq_words.specs.Options.{◌>>=◌}
 
@@ -41,7 +41,7 @@ top_in ms = do
   outputs ← required (list_in as_table) (get_member (codes "output") ms)
   Some (record { epoch = epoch; batch = batch; sources = sources; boxes = boxes; outputs = outputs })
 
-abbrev pub source_in : Members → Option RawSource
+abbrev pub source_in : Members → Option SourceTable
 source_in ms = do
   _keys ← when (has_only (codes "name" ∷ codes "file" ∷ codes "fields" ∷ []) ms) true
   name ← required as_str (get_member (codes "name") ms)
@@ -58,7 +58,7 @@ point_in d = None
 abbrev pub even_points : List (ℤ × ℤ)
 even_points = (pos 0, pos 0) ∷ (pos 1000, pos 1000000) ∷ []
 
-abbrev pub output_in : Members → Option RawOutput
+abbrev pub output_in : Members → Option OutputTable
 output_in ms = do
   _keys ← when (has_only (codes "name" ∷ codes "from" ∷ codes "weight" ∷ codes "graph" ∷ []) ms) true
   name ← required as_str (get_member (codes "name") ms)
@@ -106,24 +106,24 @@ answer_column_in d = None
 abbrev pub box_keys : List (List ℕ)
 box_keys = codes "name" ∷ codes "kind" ∷ codes "in" ∷ codes "cost" ∷ codes "selectivity" ∷ []
 
-abbrev pub filter_in : Members → Option RawBody
+abbrev pub filter_in : Members → Option BodyTable
 filter_in ms = do
   _keys ← when (has_only (codes "where" ∷ box_keys) ms) true
   preds ← required (list_in as_str) (get_member (codes "where") ms)
   Some (Filter preds)
 
-abbrev pub map_in : Members → Option RawBody
+abbrev pub map_in : Members → Option BodyTable
 map_in ms = do
   _keys ← when (has_only (codes "set" ∷ box_keys) ms) true
   set ← required (list_in setting_in) (get_member (codes "set") ms)
   Some (Map set)
 
-abbrev pub union_in : Members → Option RawBody
+abbrev pub union_in : Members → Option BodyTable
 union_in ms = do
   _keys ← when (has_only box_keys ms) true
   Some Union
 
-abbrev pub bsort_in : Members → Option RawBody
+abbrev pub bsort_in : Members → Option BodyTable
 bsort_in ms = do
   _keys ← when (has_only (codes "by" ∷ codes "slack" ∷ box_keys) ms) true
   by ← required as_str (get_member (codes "by") ms)
@@ -138,7 +138,7 @@ abbrev pub aggregate_keys : Version → List (List ℕ)
 aggregate_keys One = window_keys
 aggregate_keys Two = codes "phase" ∷ window_keys
 
-abbrev pub aggregate_in : Version → Members → Option RawBody
+abbrev pub aggregate_in : Version → Members → Option BodyTable
 aggregate_in version ms = do
   _keys ← when (has_only (aggregate_keys version) ms) true
   size ← required as_integer (get_member (codes "size") ms)
@@ -148,14 +148,14 @@ aggregate_in version ms = do
   give ← required (list_in answer_column_in) (get_member (codes "give") ms)
   Some (Aggregate size advance phase group give)
 
-abbrev pub join_in : Members → Option RawBody
+abbrev pub join_in : Members → Option BodyTable
 join_in ms = do
   _keys ← when (has_only (codes "size" ∷ codes "on" ∷ box_keys) ms) true
   size ← required as_integer (get_member (codes "size") ms)
   on ← required as_str (get_member (codes "on") ms)
   Some (Join size on)
 
-abbrev pub resample_in : Members → Option RawBody
+abbrev pub resample_in : Members → Option BodyTable
 resample_in ms = do
   _keys ← when (has_only (codes "size" ∷ codes "give" ∷ box_keys) ms) true
   size ← required as_integer (get_member (codes "size") ms)
@@ -163,7 +163,7 @@ resample_in ms = do
   Some (Resample size give)
 
 -- what a box of a kind does
-abbrev pub body_in : Version → List ℕ → Members → Option RawBody
+abbrev pub body_in : Version → List ℕ → Members → Option BodyTable
 body_in version kind ms =
     if same_bytes kind (codes "filter") then filter_in ms
     else (if same_bytes kind (codes "map") then map_in ms
@@ -173,7 +173,7 @@ body_in version kind ms =
     else (if same_bytes kind (codes "join") then join_in ms
     else (if same_bytes kind (codes "resample") then resample_in ms else None))))))
 
-abbrev pub port_count : RawBody → ℕ
+abbrev pub port_count : BodyTable → ℕ
 port_count (Filter preds) = length preds + 1
 port_count b = 1
 
@@ -181,7 +181,7 @@ port_count b = 1
 abbrev pub default_selectivity : ℕ → List ℤ
 default_selectivity ports = replicate ports (pos 1000)
 
-abbrev pub box_in : Version → Members → Option RawBox
+abbrev pub box_in : Version → Members → Option BoxTable
 box_in version ms = do
   kind ← required as_str (get_member (codes "kind") ms)
   body ← body_in version kind ms
@@ -192,8 +192,8 @@ box_in version ms = do
   when (length selectivity == port_count body) (record { name = name; body = body; ins = ins; cost = cost; selectivity = selectivity })
 
 -- a selectivity for each port
-abbrev pub IsEven : RawBox → Type 0
+abbrev pub IsEven : BoxTable → Type 0
 IsEven b = length b.selectivity ≡ port_count b.body
 
-abbrev pub AreEven : Raw → Type 0
+abbrev pub AreEven : NetworkTable → Type 0
 AreEven r = All IsEven r.boxes

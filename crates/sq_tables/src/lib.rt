@@ -7,7 +7,7 @@
 
 ghost use Rattle.std.specs.Prelude.{◌≡◌, IfOk};
 ghost use Rattle.toml.specs.View.{table_view};
-ghost use Rattle.sq_tables.specs.Rawly.{version_numbered, version_in, raw_from, raw_of};
+ghost use Rattle.sq_tables.specs.Tables.{version_numbered, version_in, network_table_from, network_table_of};
 ghost use Rattle.sq_tables.specs.Refusals.{IsAnswerOf};
 ghost use Rattle.sq_tables.specs.Shapes.{AreEven};
 
@@ -20,7 +20,7 @@ mod shape;
 
 use document::{Table, value_at};
 pub use raw::{
-    Answer, AnswerColumn, Over, Raw, RawBody, RawBox, RawOutput, RawSource, Setting, Version,
+    Answer, AnswerColumn, Over, NetworkTable, BodyTable, BoxTable, OutputTable, SourceTable, Setting, Version,
 };
 pub use shape::port_count;
 use sq_net::NetErr;
@@ -50,8 +50,8 @@ fn version_in(table: &Table) -> Option<Version>
     }
 }
 
-fn raw_from(alloc: Global, table: &Table) -> Result<Raw, NetErr>
-    ensures { IsAnswerOf result (raw_from (table_view table.now)) }
+fn raw_from(alloc: Global, table: &Table) -> Result<NetworkTable, NetErr>
+    ensures { IsAnswerOf result (network_table_from (table_view table.now)) }
 {
     match version_in(table) {
         Some(version) => reading::raw_in(alloc, version, table),
@@ -60,8 +60,8 @@ fn raw_from(alloc: Global, table: &Table) -> Result<Raw, NetErr>
 }
 
 /// The tables that a file's bytes say, or the first rule that they break, with its first place.
-pub fn raw_of(alloc: Global, bytes: &[u8]) -> Result<Raw, NetErr>
-    ensures answer { IsAnswerOf result (raw_of bytes.now) }
+pub fn network_table_of(alloc: Global, bytes: &[u8]) -> Result<NetworkTable, NetErr>
+    ensures answer { IsAnswerOf result (network_table_of bytes.now) }
     ensures even { IfOk result AreEven }
 {
     let table = document::document_in(alloc, bytes)?;

@@ -10,7 +10,7 @@ pub enum Version {
 
 /// A source: its name, the name of its file, and its fields, each `name:kind`.
 #[derive(Drop)]
-pub struct RawSource {
+pub struct SourceTable {
     pub name: Name,
     pub file: Name,
     pub fields: ListOf<Name>,
@@ -51,7 +51,7 @@ pub struct AnswerColumn {
 
 /// What a box does, by the texts of its expressions and the names of the fields that it takes.
 #[derive(Drop)]
-pub enum RawBody {
+pub enum BodyTable {
     Filter {
         preds: ListOf<Name>,
     },
@@ -82,9 +82,9 @@ pub enum RawBody {
 
 /// A box: its name, what it does, and the names of the streams that it takes.
 #[derive(Drop)]
-pub struct RawBox {
+pub struct BoxTable {
     pub name: Name,
-    pub body: RawBody,
+    pub body: BodyTable,
     pub ins: ListOf<Name>,
     pub cost: i64,
     pub selectivity: ListOf<i64>,
@@ -92,7 +92,7 @@ pub struct RawBox {
 
 /// An output: its name, the name of the stream that it shows, its weight, and the points of its quality graph.
 #[derive(Drop)]
-pub struct RawOutput {
+pub struct OutputTable {
     pub name: Name,
     pub from: Name,
     pub weight: i64,
@@ -101,10 +101,10 @@ pub struct RawOutput {
 
 /// A network file, in the order of its tables.
 #[derive(Drop)]
-pub struct Raw {
+pub struct NetworkTable {
     pub epoch: i64,
     pub batch: i64,
-    pub sources: ListOf<RawSource>,
-    pub boxes: ListOf<RawBox>,
-    pub outputs: ListOf<RawOutput>,
+    pub sources: ListOf<SourceTable>,
+    pub boxes: ListOf<BoxTable>,
+    pub outputs: ListOf<OutputTable>,
 }

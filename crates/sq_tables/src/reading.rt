@@ -5,12 +5,12 @@ ghost use Rattle.sq_net.specs.declared.Part.TheVariants as part;
 ghost use Rattle.toml.specs.View.{table_view};
 ghost use Rattle.sq_tables.specs.declared.document.Unread.TheVariants as unread;
 ghost use Rattle.sq_tables.specs.Places.{part_place};
-ghost use Rattle.sq_tables.specs.Rawly.{raw_in, shaped_from};
+ghost use Rattle.sq_tables.specs.Tables.{network_table_in, shaped_from};
 ghost use Rattle.sq_tables.specs.Refusals.{IsAnswerOf, is_memory};
 ghost use Rattle.sq_tables.specs.Shapes.{box_in, output_in, source_in};
 
 use crate::document::{Table, Unread};
-use crate::raw::{Raw, RawBox, RawOutput, RawSource, Version};
+use crate::raw::{NetworkTable, BoxTable, OutputTable, SourceTable, Version};
 use crate::shape::{box_in, output_in, source_in, top_in};
 use sq_net::{NetErr, Part, Place};
 use sq_value::ListOf;
@@ -51,7 +51,7 @@ fn unshaped(e: Unread, part: Part, number: usize) -> NetErr
     }
 }
 
-fn sources_in(alloc: Global, tables: &[&Table]) -> Result<Vec<RawSource>, NetErr>
+fn sources_in(alloc: Global, tables: &[&Table]) -> Result<Vec<SourceTable>, NetErr>
     ensures ok { IfOk result (λ v. shaped_from part.Source source_in 0 (map (λ t. table_view t.now) tables.now) ≡ Ok v.items) }
     ensures err { IfErr result (λ e. is_memory e ≡ false → shaped_from part.Source source_in 0 (map (λ t. table_view t.now) tables.now) ≡ Err e) }
 {
@@ -65,7 +65,7 @@ fn sources_in(alloc: Global, tables: &[&Table]) -> Result<Vec<RawSource>, NetErr
     Ok(found)
 }
 
-fn boxes_in(alloc: Global, version: Version, tables: &[&Table]) -> Result<Vec<RawBox>, NetErr>
+fn boxes_in(alloc: Global, version: Version, tables: &[&Table]) -> Result<Vec<BoxTable>, NetErr>
     ensures ok { IfOk result (λ v. shaped_from part.Box (box_in version) 0 (map (λ t. table_view t.now) tables.now) ≡ Ok v.items) }
     ensures err { IfErr result (λ e. is_memory e ≡ false → shaped_from part.Box (box_in version) 0 (map (λ t. table_view t.now) tables.now) ≡ Err e) }
 {
@@ -79,7 +79,7 @@ fn boxes_in(alloc: Global, version: Version, tables: &[&Table]) -> Result<Vec<Ra
     Ok(found)
 }
 
-fn outputs_in(alloc: Global, tables: &[&Table]) -> Result<Vec<RawOutput>, NetErr>
+fn outputs_in(alloc: Global, tables: &[&Table]) -> Result<Vec<OutputTable>, NetErr>
     ensures ok { IfOk result (λ v. shaped_from part.Output output_in 0 (map (λ t. table_view t.now) tables.now) ≡ Ok v.items) }
     ensures err { IfErr result (λ e. is_memory e ≡ false → shaped_from part.Output output_in 0 (map (λ t. table_view t.now) tables.now) ≡ Err e) }
 {
@@ -94,8 +94,8 @@ fn outputs_in(alloc: Global, tables: &[&Table]) -> Result<Vec<RawOutput>, NetErr
 }
 
 /// A document by its tables, or the first table that is out of shape.
-pub(crate) fn raw_in(alloc: Global, version: Version, table: &Table) -> Result<Raw, NetErr>
-    ensures { IsAnswerOf result (raw_in version (table_view table.now)) }
+pub(crate) fn raw_in(alloc: Global, version: Version, table: &Table) -> Result<NetworkTable, NetErr>
+    ensures { IsAnswerOf result (network_table_in version (table_view table.now)) }
 {
     let top = match top_in(alloc, table) {
         Ok(top) => top,
@@ -104,7 +104,7 @@ pub(crate) fn raw_in(alloc: Global, version: Version, table: &Table) -> Result<R
     let sources = sources_in(alloc, &top.sources)?;
     let boxes = boxes_in(alloc, version, &top.boxes)?;
     let outputs = outputs_in(alloc, &top.outputs)?;
-    Ok(Raw {
+    Ok(NetworkTable {
         epoch: top.epoch,
         batch: top.batch,
         sources: ListOf::new(sources),

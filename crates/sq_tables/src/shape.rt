@@ -12,7 +12,7 @@ use crate::document::{
     settings_at, tables_at, text_at, texts_at,
 };
 use crate::graphs::graph_at;
-use crate::raw::{RawBody, RawBox, RawOutput, RawSource, Version};
+use crate::raw::{BodyTable, BoxTable, OutputTable, SourceTable, Version};
 use sq_value::same_text;
 use std::alloc::Global;
 
@@ -50,7 +50,7 @@ pub(crate) fn top_in<'a>(alloc: Global, table: &'a Table) -> Result<TopTables<'a
     })
 }
 
-pub(crate) fn source_in(alloc: Global, table: &Table) -> Result<RawSource, Unread>
+pub(crate) fn source_in(alloc: Global, table: &Table) -> Result<SourceTable, Unread>
     ensures { Reads result (source_in (table_view table.now)) }
 {
     if !has_only(table, &["name", "file", "fields"]) {
@@ -59,10 +59,10 @@ pub(crate) fn source_in(alloc: Global, table: &Table) -> Result<RawSource, Unrea
     let name = text_at(alloc, table, "name")?;
     let file = text_at(alloc, table, "file")?;
     let fields = texts_at(alloc, table, "fields")?;
-    Ok(RawSource { name, file, fields })
+    Ok(SourceTable { name, file, fields })
 }
 
-pub(crate) fn output_in(alloc: Global, table: &Table) -> Result<RawOutput, Unread>
+pub(crate) fn output_in(alloc: Global, table: &Table) -> Result<OutputTable, Unread>
     ensures { Reads result (output_in (table_view table.now)) }
 {
     if !has_only(table, &["name", "from", "weight", "graph"]) {
@@ -72,7 +72,7 @@ pub(crate) fn output_in(alloc: Global, table: &Table) -> Result<RawOutput, Unrea
     let from = text_at(alloc, table, "from")?;
     let weight = number_or(table, "weight", 1)?;
     let graph = graph_at(alloc, table)?;
-    Ok(RawOutput {
+    Ok(OutputTable {
         name,
         from,
         weight,
@@ -80,7 +80,7 @@ pub(crate) fn output_in(alloc: Global, table: &Table) -> Result<RawOutput, Unrea
     })
 }
 
-fn filter_in(alloc: Global, table: &Table) -> Result<RawBody, Unread>
+fn filter_in(alloc: Global, table: &Table) -> Result<BodyTable, Unread>
     ensures { Reads result (filter_in (table_view table.now)) }
 {
     if !has_only(
@@ -90,29 +90,29 @@ fn filter_in(alloc: Global, table: &Table) -> Result<RawBody, Unread>
         return Err(Unread::Shape);
     }
     let preds = texts_at(alloc, table, "where")?;
-    Ok(RawBody::Filter { preds })
+    Ok(BodyTable::Filter { preds })
 }
 
-fn map_in(alloc: Global, table: &Table) -> Result<RawBody, Unread>
+fn map_in(alloc: Global, table: &Table) -> Result<BodyTable, Unread>
     ensures { Reads result (map_in (table_view table.now)) }
 {
     if !has_only(table, &["set", "name", "kind", "in", "cost", "selectivity"]) {
         return Err(Unread::Shape);
     }
     let set = settings_at(alloc, table, "set")?;
-    Ok(RawBody::Map { set })
+    Ok(BodyTable::Map { set })
 }
 
-fn union_in(table: &Table) -> Result<RawBody, Unread>
+fn union_in(table: &Table) -> Result<BodyTable, Unread>
     ensures { Reads result (union_in (table_view table.now)) }
 {
     if !has_only(table, &["name", "kind", "in", "cost", "selectivity"]) {
         return Err(Unread::Shape);
     }
-    Ok(RawBody::Union)
+    Ok(BodyTable::Union)
 }
 
-fn bsort_in(alloc: Global, table: &Table) -> Result<RawBody, Unread>
+fn bsort_in(alloc: Global, table: &Table) -> Result<BodyTable, Unread>
     ensures { Reads result (bsort_in (table_view table.now)) }
 {
     if !has_only(
@@ -123,7 +123,7 @@ fn bsort_in(alloc: Global, table: &Table) -> Result<RawBody, Unread>
     }
     let by = text_at(alloc, table, "by")?;
     let slack = number_at(table, "slack")?;
-    Ok(RawBody::BSort { by, slack })
+    Ok(BodyTable::BSort { by, slack })
 }
 
 fn has_window_keys(table: &Table) -> bool
@@ -174,7 +174,7 @@ fn has_aggregate_keys(version: Version, table: &Table) -> bool
     }
 }
 
-fn aggregate_in(alloc: Global, version: Version, table: &Table) -> Result<RawBody, Unread>
+fn aggregate_in(alloc: Global, version: Version, table: &Table) -> Result<BodyTable, Unread>
     ensures { Reads result (aggregate_in version (table_view table.now)) }
 {
     if !has_aggregate_keys(version, table) {
@@ -185,7 +185,7 @@ fn aggregate_in(alloc: Global, version: Version, table: &Table) -> Result<RawBod
     let phase = number_or(table, "phase", 0)?;
     let group = any_texts_at(alloc, table, "group")?;
     let give = answer_columns_at(alloc, table)?;
-    Ok(RawBody::Aggregate {
+    Ok(BodyTable::Aggregate {
         size,
         advance,
         phase,
@@ -194,7 +194,7 @@ fn aggregate_in(alloc: Global, version: Version, table: &Table) -> Result<RawBod
     })
 }
 
-fn join_in(alloc: Global, table: &Table) -> Result<RawBody, Unread>
+fn join_in(alloc: Global, table: &Table) -> Result<BodyTable, Unread>
     ensures { Reads result (join_in (table_view table.now)) }
 {
     if !has_only(
@@ -205,10 +205,10 @@ fn join_in(alloc: Global, table: &Table) -> Result<RawBody, Unread>
     }
     let size = number_at(table, "size")?;
     let on = text_at(alloc, table, "on")?;
-    Ok(RawBody::Join { size, on })
+    Ok(BodyTable::Join { size, on })
 }
 
-fn resample_in(alloc: Global, table: &Table) -> Result<RawBody, Unread>
+fn resample_in(alloc: Global, table: &Table) -> Result<BodyTable, Unread>
     ensures { Reads result (resample_in (table_view table.now)) }
 {
     if !has_only(
@@ -219,10 +219,10 @@ fn resample_in(alloc: Global, table: &Table) -> Result<RawBody, Unread>
     }
     let size = number_at(table, "size")?;
     let give = answer_columns_at(alloc, table)?;
-    Ok(RawBody::Resample { size, give })
+    Ok(BodyTable::Resample { size, give })
 }
 
-fn body_in(alloc: Global, version: Version, table: &Table, kind: &str) -> Result<RawBody, Unread>
+fn body_in(alloc: Global, version: Version, table: &Table, kind: &str) -> Result<BodyTable, Unread>
     ensures { Reads result (body_in version kind.now (table_view table.now)) }
 {
     if same_text(kind, "filter") {
@@ -250,21 +250,21 @@ fn body_in(alloc: Global, version: Version, table: &Table, kind: &str) -> Result
 }
 
 /// How many ports a box has.
-pub fn port_count(body: &RawBody) -> usize
+pub fn port_count(body: &BodyTable) -> usize
     ensures { result ≡ port_count body.now }
 {
     match body {
-        RawBody::Filter { preds } => preds.as_slice().len() + 1,
-        RawBody::Map { .. }
-        | RawBody::Union
-        | RawBody::BSort { .. }
-        | RawBody::Aggregate { .. }
-        | RawBody::Join { .. }
-        | RawBody::Resample { .. } => 1,
+        BodyTable::Filter { preds } => preds.as_slice().len() + 1,
+        BodyTable::Map { .. }
+        | BodyTable::Union
+        | BodyTable::BSort { .. }
+        | BodyTable::Aggregate { .. }
+        | BodyTable::Join { .. }
+        | BodyTable::Resample { .. } => 1,
     }
 }
 
-pub(crate) fn box_in(alloc: Global, version: Version, table: &Table) -> Result<RawBox, Unread>
+pub(crate) fn box_in(alloc: Global, version: Version, table: &Table) -> Result<BoxTable, Unread>
     ensures { Reads result (box_in version (table_view table.now)) }
 {
     let kind = text_at(alloc, table, "kind")?;
@@ -277,7 +277,7 @@ pub(crate) fn box_in(alloc: Global, version: Version, table: &Table) -> Result<R
     if selectivity.as_slice().len() != ports {
         return Err(Unread::Shape);
     }
-    Ok(RawBox {
+    Ok(BoxTable {
         name,
         body,
         ins,

@@ -10,7 +10,8 @@ use Rattle.std.proofs.lemmas.List.FromFn.{length-map-range_with_len}
 use Rattle.sq_words.specs.Lists.{same_bytes}
 use Rattle.sq_value.specs.Values.{Columns}
 use Rattle.sq_graph.specs.declared.BoxWires.{BoxWires}
-use Rattle.sq_graph.specs.Wires.{Producer, producers_of, producer_of}
+use Rattle.sq_graph.specs.Wires.{producers_of, producer_of}
+use Rattle.sq_graph.specs.declared.Producer.{Producer}
 use Rattle.sq_graph.specs.Order.{is_there}
 use Rattle.sq_place.proofs.Final.{streams_count}
 use Rattle.sq_net.specs.declared.Network.{Network}

@@ -21,7 +21,7 @@ use Rattle.sq_tagged.specs.Tagged.{Timed, mark_thing}
 use Rattle.sq_oper.proofs.PartLemmas.{at_port-append, item_law, body_prefix}
 use Rattle.sq_windrop.specs.declared.drop.Dropping.{Dropping}
 use Rattle.sq_windrop.specs.declared.drop.Batches.{Batches}
-use Rattle.sq_windrop.specs.Drops.{is_dropped, drop_mark, marks_for, decided, decision, greatest_bound, bound_of, newly, after_tuple, for_tuple, drop_next, drop_gives, drop_rest, drop_holds, decided_load, drop_decides, next_body, gives_body, decided_body}
+use Rattle.sq_windrop.specs.Drops.{is_dropped, drop_mark, marks_for, decided, decision, greatest_bound, bound_of, newly, after_tuple, for_tuple, drop_next, drop_gives, drop_rest, drop_holds, decided_content, drop_decides, next_body, gives_body, decided_body}
 use Rattle.sq_windrop.proofs.DropLemmas.{newly-early}
 use Rattle.sq_words.proofs.Ranges.{range_split}
 
@@ -79,14 +79,14 @@ module _ (d : Dropping) (table : ℕ → ℕ → ℕ) where
   pub tuple_prefix : (s : Batches) (time : ℕ) (fields : List Value) (q : ℕ) (before after : List Thing) → IsPrefixOf after (before ++ at_zero q (marks (newly d s.next time)))
       → IsPrefixOf after (before ++ at_zero q (for_tuple d table s time fields))
   tuple_prefix s time fields q before after h =
-      let body = if nat_lt time (after_tuple d table s time).bound then record { time = time; load = Body fields } ∷ [] else [] in
+      let body = if nat_lt time (after_tuple d table s time).bound then record { time = time; content = Body fields } ∷ [] else [] in
       subst (λ l. IsPrefixOf after (before ++ l)) (sym (at_zero-append q (marks (newly d s.next time)) body)) (IsPrefixOf-longer after before (at_zero q (marks (newly d s.next time))) (at_zero q body) h)
 
   pub tuple_given : (s : Batches) (time : ℕ) (fields : List Value) (bound q : ℕ) (before middle after : List Thing) → bound ≡ (after_tuple d table s time).bound → time < bound
-      → middle ≡ before ++ at_zero q (marks (newly d s.next time)) → after ≡ middle ++ at_zero q (record { time = time; load = Body fields } ∷ []) → after ≡ before ++ at_zero q (for_tuple d table s time fields)
+      → middle ≡ before ++ at_zero q (marks (newly d s.next time)) → after ≡ middle ++ at_zero q (record { time = time; content = Body fields } ∷ []) → after ≡ before ++ at_zero q (for_tuple d table s time fields)
   tuple_given s time fields bound q before middle after is lt first second =
       let front = marks (newly d s.next time) in
-      let one = record { time = time; load = Body fields } ∷ [] in
+      let one = record { time = time; content = Body fields } ∷ [] in
       let below : nat_lt time bound ≡ true = grind (arith, tests) in
       second
       ∙ ap (λ l. l ++ at_zero q one) first
@@ -132,8 +132,8 @@ module _ (d : Dropping) (table : ℕ → ℕ → ℕ) (port : ℕ) (item : Item)
   decides-append : (s : Batches) (xs ys : List Entry) → drop_decides d table s (xs ++ ys) ≡ drop_decides d table s xs ++ drop_decides d table (next_all (drop_next d table) s xs) ys
   decides-append s [] ys = refl
   decides-append s (e ∷ es) ys =
-      ap (λ l. decided_load d table s e.thing.time e.thing.load ++ l) (decides-append (drop_next d table s e) es ys)
-      ∙ sym (append_assoc (decided_load d table s e.thing.time e.thing.load) (drop_decides d table (drop_next d table s e) es) (drop_decides d table (next_all (drop_next d table) (drop_next d table s e) es) ys))
+      ap (λ l. decided_content d table s e.thing.time e.thing.content ++ l) (decides-append (drop_next d table s e) es ys)
+      ∙ sym (append_assoc (decided_content d table s e.thing.time e.thing.content) (drop_decides d table (drop_next d table s e) es) (drop_decides d table (next_all (drop_next d table) (drop_next d table s e) es) ys))
 
   mark-same : (s : Batches) (m : Option Mark) → next_all (drop_next d table) s (at_port port (mark_part item.time m)) ≡ s
   mark-same s None = refl
@@ -206,7 +206,7 @@ module _ (d : Dropping) (table : ℕ → ℕ → ℕ) (port : ℕ) (item : Item)
       marks-up [] h = tt
       marks-up (m ∷ ms) h = (h.0, marks-up ms h.1)
 
-      tuple-up : (b : Bool) (fields : List Value) → ThingsUpTo item.time (if b then record { time = item.time; load = Body fields } ∷ [] else [])
+      tuple-up : (b : Bool) (fields : List Value) → ThingsUpTo item.time (if b then record { time = item.time; content = Body fields } ∷ [] else [])
       tuple-up true fields = (omega arith, tt)
       tuple-up false fields = tt
 
@@ -214,7 +214,7 @@ module _ (d : Dropping) (table : ℕ → ℕ → ℕ) (port : ℕ) (item : Item)
       for-up fields =
           subst (ThingsUpTo item.time) (sym (append-nil (at_zero q (for_tuple d table s item.time fields))))
           (UpTo-at_zero item.time q (for_tuple d table s item.time fields)
-          (ThingsUpTo-append item.time (map mark_thing (marks_for d table (newly d s.next item.time))) (if nat_lt item.time (after_tuple d table s item.time).bound then record { time = item.time; load = Body fields } ∷ [] else [])
+          (ThingsUpTo-append item.time (map mark_thing (marks_for d table (newly d s.next item.time))) (if nat_lt item.time (after_tuple d table s item.time).bound then record { time = item.time; content = Body fields } ∷ [] else [])
           (marks-up (marks_for d table (newly d s.next item.time)) (newly-early d some table item.time s.next)) (tuple-up (nat_lt item.time (after_tuple d table s item.time).bound) fields)))
 
       by : (m : Option Mark) (b : Option (List Value)) → ThingsUpTo item.time (drop_rest d table s (at_port port (mark_part item.time m ++ body_part item.time b)) q)

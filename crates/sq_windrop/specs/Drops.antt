@@ -3,7 +3,7 @@ use Rattle.std.specs.Prelude.{ℕ, ◌+◌, ◌-◌, ◌*◌, ◌/◌, ◌^◌, 
 use Rattle.std.specs.List.{filter, range_with_len}
 use Rattle.sq_value.specs.declared.Value.{Value}
 use Rattle.sq_words.specs.Lists.{max_by}
-use Rattle.sq_item.specs.Things.{Load, Sign, Body, Thing}
+use Rattle.sq_item.specs.Things.{Content, Sign, Body, Thing}
 use Rattle.sq_road.specs.Draws.{draw_of}
 use Rattle.sq_oper.specs.declared.outs.Decision.{Decision}
 use Rattle.sq_oper.specs.Entries.{Entry}
@@ -68,15 +68,15 @@ after_tuple d table s time = record { next = max s.next (time / d.length + 1); b
 abbrev pub for_tuple : Dropping → (ℕ → ℕ → ℕ) → Batches → ℕ → List Value → List Thing
 for_tuple d table s time fields =
     map mark_thing (marks_for d table (newly d s.next time))
-    ++ (if nat_lt time (after_tuple d table s time).bound then record { time = time; load = Body fields } ∷ [] else [])
+    ++ (if nat_lt time (after_tuple d table s time).bound then record { time = time; content = Body fields } ∷ [] else [])
 
-abbrev pub drop_next_load : Dropping → (ℕ → ℕ → ℕ) → Batches → ℕ → Load → Batches
-drop_next_load d table s time (Sign m) = s
-drop_next_load d table s time (Body fields) = after_tuple d table s time
+abbrev pub drop_next_content : Dropping → (ℕ → ℕ → ℕ) → Batches → ℕ → Content → Batches
+drop_next_content d table s time (Sign m) = s
+drop_next_content d table s time (Body fields) = after_tuple d table s time
 
-abbrev pub drop_gives_load : Dropping → (ℕ → ℕ → ℕ) → Batches → ℕ → Load → List Thing
-drop_gives_load d table s time (Sign m) = []
-drop_gives_load d table s time (Body fields) = for_tuple d table s time fields
+abbrev pub drop_gives_content : Dropping → (ℕ → ℕ → ℕ) → Batches → ℕ → Content → List Thing
+drop_gives_content d table s time (Sign m) = []
+drop_gives_content d table s time (Body fields) = for_tuple d table s time fields
 
 -- of an item's tuple
 abbrev pub next_body : Dropping → (ℕ → ℕ → ℕ) → Batches → ℕ → Option (List Value) → Batches
@@ -92,10 +92,10 @@ decided_body d table s time None = []
 decided_body d table s time (Some fields) = decided d table (newly d s.next time)
 
 abbrev pub drop_next : Dropping → (ℕ → ℕ → ℕ) → Batches → Entry → Batches
-drop_next d table s e = drop_next_load d table s e.thing.time e.thing.load
+drop_next d table s e = drop_next_content d table s e.thing.time e.thing.content
 
 abbrev pub drop_gives : Dropping → (ℕ → ℕ → ℕ) → Batches → Entry → ℕ → List Thing
-drop_gives d table s e q = at_zero q (drop_gives_load d table s e.thing.time e.thing.load)
+drop_gives d table s e q = at_zero q (drop_gives_content d table s e.thing.time e.thing.content)
 
 abbrev pub drop_holds : Batches → ℕ → List Thing
 drop_holds s q = []
@@ -103,13 +103,13 @@ drop_holds s q = []
 abbrev pub drop_rest : Dropping → (ℕ → ℕ → ℕ) → Batches → List Entry → ℕ → List Thing
 drop_rest d table s future q = run_of (drop_next d table) (drop_gives d table) drop_holds s future q
 
-abbrev pub decided_load : Dropping → (ℕ → ℕ → ℕ) → Batches → ℕ → Load → List Decision
-decided_load d table s time (Sign m) = []
-decided_load d table s time (Body fields) = decided d table (newly d s.next time)
+abbrev pub decided_content : Dropping → (ℕ → ℕ → ℕ) → Batches → ℕ → Content → List Decision
+decided_content d table s time (Sign m) = []
+decided_content d table s time (Body fields) = decided d table (newly d s.next time)
 
 abbrev pub drop_decides : Dropping → (ℕ → ℕ → ℕ) → Batches → List Entry → List Decision
 drop_decides d table s [] = []
-drop_decides d table s (e ∷ es) = decided_load d table s e.thing.time e.thing.load ++ drop_decides d table (drop_next d table s e) es
+drop_decides d table s (e ∷ es) = decided_content d table s e.thing.time e.thing.content ++ drop_decides d table (drop_next d table s e) es
 
 -- no tuple is late
 abbrev pub none_lost : List Entry → ℕ

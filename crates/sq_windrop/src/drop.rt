@@ -6,7 +6,7 @@ ghost use Rattle.sq_words.specs.Lists.{IsPrefixOf};
 ghost use Rattle.sq_item.specs.Sound.{IsBody, IsMark, IsSoundItem};
 ghost use Rattle.sq_item.specs.Things.{Thing};
 ghost use Rattle.sq_road.specs.Levels.{AgreesWith};
-ghost use Rattle.sq_oper.specs.declared.tally.Place.{Place};
+ghost use Rattle.sq_oper.specs.declared.tally.Moment.{Moment};
 ghost use Rattle.sq_oper.specs.Entries.{Entry, entries};
 ghost use Rattle.sq_oper.specs.Given.{given, ItemsSound, ThingsUpTo};
 ghost use Rattle.sq_oper.specs.Order.{IsFuture, unmarked, after_all};
@@ -17,7 +17,7 @@ ghost use Rattle.sq_windrop.specs.Drops.{IsDropping, dropping, is_dropped, drop_
 
 use crate::give::give_item;
 use sq_item::{Body, Item, Mark, Sign};
-use sq_oper::{Decision, Operator, Outlet, Place, Tally};
+use sq_oper::{Decision, Operator, Outlet, Moment, Tally};
 use sq_outside::Steps;
 use sq_road::{Levels, draw};
 use sq_value::Value;
@@ -61,18 +61,18 @@ impl WinDropBox {
         requires keep { keep < 4096 * length }
         requires epoch { 1 ≤ epoch }
         ensures marked { (table : ℕ → ℕ → ℕ) (future : List Entry) (q : ℕ)
-            → IsFuture (⟦<WinDropBox as Operator>⟧.takes_marks result) (⟦<WinDropBox as Operator>⟧.fits result) Place.Start future
+            → IsFuture (⟦<WinDropBox as Operator>⟧.takes_marks result) (⟦<WinDropBox as Operator>⟧.fits result) Moment.Start future
             → ⟦<WinDropBox as Operator>⟧.rest result table future q
             ≡ at_zero q (spread_of (drop_tagged (is_dropped (dropping w length keep epoch seed) table) (until_at length keep) length (touched_batches length keep (tuples_of future)) (tuples_of future))) }
         ensures decides { (table : ℕ → ℕ → ℕ) (future : List Entry)
-            → IsFuture (⟦<WinDropBox as Operator>⟧.takes_marks result) (⟦<WinDropBox as Operator>⟧.fits result) Place.Start future
+            → IsFuture (⟦<WinDropBox as Operator>⟧.takes_marks result) (⟦<WinDropBox as Operator>⟧.fits result) Moment.Start future
             → ⟦<WinDropBox as Operator>⟧.decides result table future ≡ decided (dropping w length keep epoch seed) table (touched_batches length keep (tuples_of future)) }
         ensures fits { (port : ℕ) (fields : List Value) → ⟦<WinDropBox as Operator>⟧.fits result port fields ≡ (port == 0) }
         ensures takes_marks { (port : ℕ) → ⟦<WinDropBox as Operator>⟧.takes_marks result port ≡ false }
         ensures reads { (of : ℕ) → ⟦<WinDropBox as Operator>⟧.reads result of ≡ (of == epoch) }
         ensures holds { (time : ℕ) (things : List Thing) → ⟦<WinDropBox as Operator>⟧.may_hold result time things → things ≡ [] }
         ensures none_lost { (future : List Entry) → ⟦<WinDropBox as Operator>⟧.lost result future ≡ 0 }
-        ensures start { (⟦<WinDropBox as Operator>⟧.place result ≡ Place.Start) × (⟦<WinDropBox as Operator>⟧.taken result ≡ 0) }
+        ensures start { (⟦<WinDropBox as Operator>⟧.place result ≡ Moment.Start) × (⟦<WinDropBox as Operator>⟧.taken result ≡ 0) }
         ensures valid { ⟦<WinDropBox as Operator>⟧.valid result × IsTrue (⟦<WinDropBox as Operator>⟧.running result) }
     {
         WinDropBox {

@@ -1,6 +1,6 @@
 use Rattle.std.proofs.Common.{ℕ, Bool, IsTrue, List, [], refl, ap, ◌∙◌, rules}
 use Rattle.sq_value.specs.declared.Value.{Value}
-use Rattle.sq_oper.specs.declared.tally.Place.TheVariants.{Start}
+use Rattle.sq_oper.specs.declared.tally.Moment.TheVariants.{Start}
 use Rattle.sq_oper.proofs.FedLemmas.{may-be-fed, place-after-tuple}
 use Rattle.sq_windrop.specs.Drops.{drop_reads}
 use Rattle.sq_part_trials.proofs.windrop.feed_drop.Goals as goal

@@ -3,14 +3,14 @@ use Rattle.std.specs.Prelude.{Result}
 use Rattle.sq_net.specs.declared.Network.{Network}
 use Rattle.sq_net.specs.declared.NetErr.{NetErr}
 use Rattle.sq_net.specs.declared.NetErr.TheVariants as broken
-use Rattle.sq_tables.specs.declared.raw.Raw.{Raw}
+use Rattle.sq_tables.specs.declared.raw.NetworkTable.{NetworkTable}
 use Rattle.sq_reader.specs.Naming.{twice_place}
 use Rattle.sq_reader.specs.Networks.{single_network, streamed_network, unless_at}
 use Rattle.sq_tables.specs.Refusals.{IsAnswerOf}
 use Rattle.sq_reader.specs.Streaming.{Numbers, number_named, told_stream_named, told_stream_names}
 use Rattle.sq_reader.proofs.network.single_network.Goals as goal
 
-single_from : (r : Raw) (number_of : Numbers) (answer : Result Network NetErr) → twice_place r ≡ None → number_of ≡ told_stream_named (told_stream_names r)
+single_from : (r : NetworkTable) (number_of : Numbers) (answer : Result Network NetErr) → twice_place r ≡ None → number_of ≡ told_stream_named (told_stream_names r)
     → IsAnswerOf answer (streamed_network r number_of) → IsAnswerOf answer (single_network r)
 single_from r number_of answer none same h =
     subst (λ p. IsAnswerOf answer (unless_at broken.Twice p (streamed_network r (told_stream_named (told_stream_names r))))) (sym none)

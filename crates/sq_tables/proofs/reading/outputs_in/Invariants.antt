@@ -1,7 +1,7 @@
 use Rattle.std.proofs.Common.{◌≡◌, drop, map}
 use Rattle.toml.specs.View.{table_view}
 use Rattle.sq_net.specs.declared.Part.TheVariants as part
-use Rattle.sq_tables.specs.Rawly.{shaped_from}
+use Rattle.sq_tables.specs.Tables.{shaped_from}
 use Rattle.sq_tables.specs.Shapes.{output_in}
 use Rattle.sq_tables.proofs.ShapedLemmas.{joined}
 use Rattle.sq_tables.proofs.reading.outputs_in.Given as goal

@@ -1,6 +1,6 @@
 use Rattle.std.proofs.Common.{refl, sym, ◌∙◌, arith}
 use Rattle.std.proofs.lemmas.List.{length-map}
-use Rattle.sq_pool.specs.declared.slots.Place.TheVariants.{Absent}
+use Rattle.sq_pool.specs.declared.slots.Whereabouts.TheVariants.{Absent}
 use Rattle.sq_pool.specs.Slots.{digest_of}
 use Rattle.sq_pool.proofs.SlotLemmas.{AreSlots-placed, placed-view, place-frame}
 use Rattle.sq_pool.proofs.slots.Slots.forget.Goals as goal

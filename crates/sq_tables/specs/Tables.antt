@@ -7,7 +7,7 @@ use Rattle.sq_net.specs.declared.Part.{Part}
 use Rattle.sq_net.specs.declared.Part.TheVariants as part
 use Rattle.sq_net.specs.declared.NetErr.{NetErr}
 use Rattle.sq_net.specs.declared.NetErr.TheVariants as broken
-use Rattle.sq_tables.specs.declared.raw.Raw.{Raw}
+use Rattle.sq_tables.specs.declared.raw.NetworkTable.{NetworkTable}
 use Rattle.sq_tables.specs.declared.raw.Version.{Version}
 use Rattle.sq_tables.specs.declared.raw.Version.TheVariants.{One, Two}
 use Rattle.sq_tables.specs.Documents.{document_in}
@@ -27,8 +27,8 @@ shaped_from p f n (t ∷ ts) = do
   xs ← shaped_from p f (n + 1) ts
   Ok (x ∷ xs)
 
-abbrev pub raw_in : Version → Members → Result Raw NetErr
-raw_in version ms = do
+abbrev pub network_table_in : Version → Members → Result NetworkTable NetErr
+network_table_in version ms = do
   t ← or_broken (broken.Shape (part_place part.Top 0)) (top_in ms)
   sources ← shaped_from part.Source source_in 0 t.sources
   boxes ← shaped_from part.Box (box_in version) 0 t.boxes
@@ -42,9 +42,9 @@ version_numbered z = if int_eq z (pos 1) then Some One else (if int_eq z (pos 2)
 abbrev pub version_in : Members → Option Version
 version_in ms = option_and_then version_numbered (option_and_then as_integer (get_member (codes "version") ms))
 
-abbrev pub raw_from : Members → Result Raw NetErr
-raw_from ms = or_broken broken.Version (version_in ms) >>= λ version. raw_in version ms
+abbrev pub network_table_from : Members → Result NetworkTable NetErr
+network_table_from ms = or_broken broken.Version (version_in ms) >>= λ version. network_table_in version ms
 
 -- the tables of a file's bytes, or the first rule that they break
-abbrev pub raw_of : List ℕ → Result Raw NetErr
-raw_of bytes = or_broken broken.Toml (document_in bytes) >>= raw_from
+abbrev pub network_table_of : List ℕ → Result NetworkTable NetErr
+network_table_of bytes = or_broken broken.Toml (document_in bytes) >>= network_table_from
