@@ -4,7 +4,7 @@ use Rattle.sq_lists.specs.Sorters.{sort_flush}
 use Rattle.sq_actor.specs.declared.actor.Actor.{Actor}
 use Rattle.sq_actor.specs.declared.actor.Actor.TheVariants.{Filter, Map, Union, BSort, Aggregate, Join, Resample, Shed, Gate}
 use Rattle.sq_actor.specs.contracts.actor.ActorOperator.TheImpl.{ghosts}
-use Rattle.sq_actor.specs.Late.{late_by_actor}
+use Rattle.sq_actor.specs.Lateness.{late_by_actor}
 
 pub late-lost : (a : Actor) → ghosts.valid a → ghosts.running a ≡ false → late_by_actor a (ghosts.taken a) ≡ ghosts.lost a []
 late-lost (Filter b) v r = refl

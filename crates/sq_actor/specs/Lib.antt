@@ -1,1 +1,1 @@
-pub mod Late
+pub mod Lateness

@@ -9,7 +9,7 @@ use Rattle.sq_aggfn.proofs.StartLemmas.{starts_rise}
 use Rattle.sq_pane.specs.Panes.{Key, shift_of, pane_of, from_pane}
 use Rattle.sq_agg.specs.Positions.{open_at}
 use Rattle.sq_agg.specs.Slots.{Folding}
-use Rattle.sq_agg.specs.Held.{IsFirstEnd, KeepsNear, panes_after}
+use Rattle.sq_agg.specs.Holdings.{IsFirstEnd, KeepsNear, panes_after}
 use Rattle.sq_agg.proofs.FeedLemmas.{after-key}
 
 -- the panes before a number went, none of which begins at a tick or later

@@ -1,5 +1,5 @@
 -- What an Aggregate holds: states by pane and group, and the windows that end, by start and group: words of the proofs alone.
-use Rattle.sq_agg.specs.Held.{Bounds, bound_for, marks_at}
+use Rattle.sq_agg.specs.Holdings.{Bounds, bound_for, marks_at}
 use Rattle.sq_pane.specs.Panes.{Key, window_from}
 use Rattle.std.specs.Prelude.{List, map, nat_lt, ℕ, [], ◌≤◌, ◌==◌, if◌then◌else◌, ◌∷◌}
 use Rattle.sq_agg.specs.Slots.{Slot}

@@ -4,13 +4,13 @@ ghost use Rattle.std.specs.Prelude.{◌≡◌, ℕ, ◌+◌, ◌-◌, ◌*◌, �
 ghost use Rattle.std.specs.List.{AllByRecursion, flat_map, range_with_len};
 ghost use Rattle.sq_words.specs.Lists.{IsPrefixOf};
 ghost use Rattle.sq_aggfn.specs.Windows.{IsWindow, start_of};
-ghost use Rattle.sq_oper.specs.Given.{given, ItemsSound};
+ghost use Rattle.sq_oper.specs.Outflow.{given, ItemsSound};
 ghost use Rattle.sq_oper.specs.Streams.{at_zero};
 ghost use Rattle.sq_pane.specs.Panes.{shift_of, total, AllAreMade};
 ghost use Rattle.sq_pane.specs.Blocks.{IsJoin};
 ghost use Rattle.sq_pane.specs.States.{states_of, HaveBlocks};
 ghost use Rattle.sq_agg.specs.Positions.{open_at};
-ghost use Rattle.sq_agg.specs.Held.{FitsResult, IsFirstEnd, IsSoundMark, MarksWait, bounds_of, closed_at, due_before, ended, folding_of, told_open};
+ghost use Rattle.sq_agg.specs.Holdings.{FitsResult, IsFirstEnd, IsSoundMark, MarksWait, bounds_of, closed_at, due_before, ended, folding_of, told_open};
 
 use crate::held::{Held, give_before};
 use crate::waiting::Waiting;

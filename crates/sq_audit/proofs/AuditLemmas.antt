@@ -16,12 +16,12 @@ use Rattle.sq_place.specs.Places.{drop_places_of}
 use Rattle.sq_place.proofs.Final.{drops-few}
 use Rattle.sq_net.specs.declared.Network.{Network}
 use Rattle.sq_net.specs.declared.Output.{Output}
-use Rattle.sq_net.specs.Sound.{IsSound}
+use Rattle.sq_net.specs.SoundNetworks.{IsSound}
 use Rattle.sq_points.specs.Limits.{KeepsDropLimits}
 use Rattle.sq_points.specs.Points.{drops_in, points_of, windows_of}
 use Rattle.sq_points.proofs.Bounds.{few_outputs, few_places}
-use Rattle.sq_model.specs.Full.{full_arc, full_on, full_stream, full_streams}
-use Rattle.sq_model.specs.Given.{IsMeasured}
+use Rattle.sq_model.specs.FullStreams.{full_arc, full_on, full_stream, full_streams}
+use Rattle.sq_model.specs.GivenLevels.{IsMeasured}
 use Rattle.sq_model.specs.Shedding.{drop_above_output, first_drop}
 use Rattle.sq_model.proofs.ArcLemmas.{arcs_carry}
 use Rattle.sq_model.proofs.FullLemmas.{full_listed}

@@ -8,20 +8,20 @@ use Rattle.std.proofs.lemmas.Option.{slice_get_within}
 use Rattle.sq_value.specs.declared.Tuple.{Tuple}
 use Rattle.sq_words.specs.Lists.{are_distinct, max_by, numbers_to, contains_number}
 use Rattle.sq_value.specs.Values.{IsStream}
-use Rattle.sq_value.specs.LineTexts.{drop_line, output_line}
-use Rattle.sq_value.specs.Classes.{whole_lines}
+use Rattle.sq_lines.specs.LineTexts.{drop_line, output_line}
+use Rattle.sq_lines.specs.Classes.{whole_lines}
 use Rattle.sq_graph.specs.Wires.{Arc, arcs_of, output_arc_at}
 use Rattle.sq_place.specs.declared.DropAt.{DropAt}
 use Rattle.sq_place.specs.declared.DropAt.TheVariants as at
 use Rattle.sq_place.specs.declared.DropPoint.{DropPoint}
 use Rattle.sq_net.specs.declared.Output.{Output}
-use Rattle.sq_net.specs.Sound.{IsSound}
+use Rattle.sq_net.specs.SoundNetworks.{IsSound}
 use Rattle.sq_points.specs.Limits.{KeepsDropLimits}
 use Rattle.sq_points.specs.Points.{drops_in, points_of}
-use Rattle.sq_model.specs.Full.{full_arc, full_on, full_stream, full_streams}
-use Rattle.sq_model.specs.Given.{AreTicks}
+use Rattle.sq_model.specs.FullStreams.{full_arc, full_on, full_stream, full_streams}
+use Rattle.sq_model.specs.GivenLevels.{AreTicks}
 use Rattle.sq_model.specs.Shedding.{Replay, epoch_of, level_of, is_dropped, is_touched, full_at, last_of, record_of, drop_above_output, shown}
-use Rattle.sq_model.specs.Shown.{drop_lines}
+use Rattle.sq_model.specs.PlanLines.{drop_lines}
 use Rattle.sq_model.proofs.BatchLemmas.{last_low, batch_small}
 use Rattle.sq_model.proofs.FullLemmas.{full_listed}
 use Rattle.sq_model.proofs.PlacedLemmas.{placed_of}
@@ -30,7 +30,7 @@ use Rattle.sq_model.proofs.StreamLemmas.{full_are_streams, stream_at_number}
 use Rattle.sq_verdict.specs.declared.verdict.Verdict.TheVariants as verdict
 use Rattle.sq_verdict.specs.Faults.{batch_of, drop_told_in, recorded, batch_rises, is_level, verdict_on}
 use Rattle.sq_verdict.specs.Wanting.{is_left, shown_of, shown_one}
-use Rattle.sq_verdict.specs.Whole.{AreEnds, Expected, IsWhole}
+use Rattle.sq_verdict.specs.WholeTexts.{AreEnds, Expected, IsWhole}
 use Rattle.sq_verdict.proofs.Accepts.{recorded_of_class, whole_is_yes}
 use Rattle.sq_verdict.proofs.DropLines.{IsTick, drops_have_class, read_back}
 use Rattle.sq_audit.specs.Audits.{above_of, audit_of, wanted_of, wanted_one}

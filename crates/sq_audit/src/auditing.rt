@@ -2,7 +2,7 @@
 ghost use Rattle.std.specs.Prelude.{◌≡◌, ◌<◌, ◌^◌, length, map, IfOk};
 ghost use Rattle.std.specs.List.{All};
 ghost use Rattle.sq_value.specs.Values.{IsStream};
-ghost use Rattle.sq_net.specs.Sound.{IsSound};
+ghost use Rattle.sq_net.specs.SoundNetworks.{IsSound};
 ghost use Rattle.sq_points.specs.Limits.{KeepsDropLimits};
 ghost use Rattle.sq_points.specs.Points.{points_of};
 ghost use Rattle.sq_model.specs.Shedding.{first_drop};

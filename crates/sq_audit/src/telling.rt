@@ -3,7 +3,7 @@ ghost use Rattle.std.specs.Prelude.{◌≡◌, ◌++◌, OnErr, OnOk};
 ghost use Rattle.sq_audit.specs.VerdictLines.{verdict_line, audit_why_text};
 
 use itoa::Buffer;
-use sq_csv::append_line;
+use sq_lines::append_line;
 use sq_verdict::{AuditWhy, Verdict};
 use std::alloc::AllocError;
 

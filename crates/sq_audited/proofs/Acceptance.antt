@@ -17,7 +17,7 @@ use Rattle.sq_net.specs.declared.Network.{Network}
 use Rattle.sq_net.specs.declared.Part.TheVariants as part
 use Rattle.sq_net.specs.declared.Place.{Place}
 use Rattle.sq_net.specs.declared.Source.{Source}
-use Rattle.sq_net.specs.Sound.{IsSound, source_within}
+use Rattle.sq_net.specs.SoundNetworks.{IsSound, source_within}
 use Rattle.sq_points.specs.Limits.{KeepsDropLimits}
 use Rattle.sq_points.specs.Points.{points_of}
 use Rattle.sq_tables.specs.Places.{part_place}

@@ -8,22 +8,22 @@ use Rattle.std.proofs.lemmas.Bool.Decides.{nat_tests}
 use Rattle.std.proofs.lemmas.Fmt.{decimal_injective}
 use Rattle.std.proofs.lemmas.List.Folds.{list_all-append}
 use Rattle.sq_words.specs.Lists.{same_bytes, numbers_to}
-use Rattle.sq_value.specs.LineTexts.{box_line, drop_line, end_line, late_line}
-use Rattle.sq_value.specs.Classes.{Shown, Dropped, Planned, Ended, is_of_class, of_class, whole_lines}
-use Rattle.sq_value.proofs.RowLemmas.{first_field-line_of}
+use Rattle.sq_lines.specs.LineTexts.{box_line, drop_line, end_line, late_line}
+use Rattle.sq_lines.specs.Classes.{Shown, Dropped, Planned, Ended, is_of_class, of_class, whole_lines}
+use Rattle.sq_lines.proofs.RowLemmas.{first_field-line_of}
 use Rattle.sq_place.specs.declared.DropPoint.{DropPoint}
 use Rattle.sq_net.specs.declared.Network.{Network}
 use Rattle.sq_net.specs.declared.Node.{Node}
 use Rattle.sq_net.specs.declared.Output.{Output}
-use Rattle.sq_net.specs.Sound.{IsSound}
+use Rattle.sq_net.specs.SoundNetworks.{IsSound}
 use Rattle.sq_points.specs.Points.{drops_in, points_of}
 use Rattle.sq_oper.specs.declared.outs.Decision.{Decision}
 use Rattle.sq_start.specs.Nets.{decision_on, drop_decisions}
 use Rattle.sq_model.specs.Shedding as model
-use Rattle.sq_replay.specs.Shown.{boxes_from, end_lines, fed_line, is_sorter, late_lines}
+use Rattle.sq_lines.specs.RunLines.{boxes_from, end_lines, fed_line, is_sorter, late_lines}
 use Rattle.sq_verdict.specs.Faults.{has_first}
-use Rattle.sq_verdict.specs.Whole as whole
-use Rattle.sq_verdict.specs.Whole.{AreEnds, IsWhole}
+use Rattle.sq_verdict.specs.WholeTexts as whole
+use Rattle.sq_verdict.specs.WholeTexts.{AreEnds, IsWhole}
 use Rattle.sq_audit.specs.Laws.{answer_lines, due_for, record_lines}
 use Rattle.sq_audit.proofs.AuditLemmas.{points_few}
 use Rattle.sq_audit.proofs.Replays.{accepts_whole}

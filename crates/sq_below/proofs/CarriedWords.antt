@@ -2,10 +2,10 @@
 use Rattle.sq_net.specs.declared.Body.{Body}
 use Rattle.std.specs.Prelude.{List, None, Option, Some, slice_index_or, ℕ}
 use Rattle.sq_net.specs.declared.Node.{Node}
-use Rattle.sq_tagged.specs.Tagged.{Tagged}
+use Rattle.sq_tagged.specs.TaggedStreams.{Tagged}
 use Rattle.sq_tagged.specs.Boxes.{aggregate_tagged, filter_tagged, map_tagged}
 use Rattle.sq_aggfn.specs.Functions.{answers_of}
-use Rattle.sq_below.specs.Carried.{nothing_tagged}
+use Rattle.sq_below.specs.ArcStreams.{nothing_tagged}
 use Rattle.sq_expr.specs.Checking.{trees}
 use Rattle.sq_net.specs.declared.Body.TheVariants as body
 use Rattle.sq_tagged.proofs.UnionWords.{union_tagged}

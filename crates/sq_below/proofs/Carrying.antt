@@ -5,7 +5,7 @@ use Rattle.sq_graph.specs.Wires.{input_arcs_of}
 use Rattle.sq_place.specs.declared.DropPoint.{DropPoint}
 use Rattle.sq_place.specs.Places.{own_arcs}
 use Rattle.sq_model.specs.Shedding.{Replay}
-use Rattle.sq_below.specs.Carried.{nothing_tagged, given, lags_at, carried_by, carried_within, carried}
+use Rattle.sq_below.specs.ArcStreams.{nothing_tagged, given, lags_at, carried_by, carried_within, carried}
 use Rattle.sq_place.proofs.Lists.{map-agree}
 use Rattle.sq_place.proofs.Climbs.{producer_at, fixed}
 use Rattle.sq_place.proofs.Wires.{arcs-rise}

@@ -1,14 +1,14 @@
 // What a run wrote, beside what the slow definitions of `sq_model` give.
 ghost use Rattle.std.specs.Prelude.{◌<◌, length, map};
-ghost use Rattle.sq_net.specs.Sound.{IsSound};
+ghost use Rattle.sq_net.specs.SoundNetworks.{IsSound};
 ghost use Rattle.sq_points.specs.Limits.{KeepsDropLimits};
 ghost use Rattle.sq_points.specs.Points.{points_of};
-ghost use Rattle.sq_top.specs.Recorded.{AreRecorded};
+ghost use Rattle.sq_top.specs.SourceFiles.{AreRecorded};
 
 use crate::case::Case;
 use crate::given::{Given, given_by};
 use anyhow::Error;
-use sq_csv::append_output_line;
+use sq_lines::append_output_line;
 use sq_model::{answer, dropped};
 use sq_points::network_points;
 use sq_value::{Name, Tuple};

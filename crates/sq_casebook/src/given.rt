@@ -1,9 +1,9 @@
 // What a run is over, as the readers of its files say.
 ghost use Rattle.std.specs.Prelude.{true, ◌≡◌, ◌≤◌, IfSome, length, map};
-ghost use Rattle.sq_net.specs.Sound.{IsSound, source_within};
+ghost use Rattle.sq_net.specs.SoundNetworks.{IsSound, source_within};
 ghost use Rattle.sq_points.specs.Limits.{KeepsDropLimits};
 ghost use Rattle.sq_replay.specs.Laws.{ReadsStreams};
-ghost use Rattle.sq_top.specs.Recorded.{AreRecorded};
+ghost use Rattle.sq_top.specs.SourceFiles.{AreRecorded};
 
 use crate::case::Case;
 use sq_net::{Network, Source};

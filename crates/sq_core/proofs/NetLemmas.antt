@@ -15,19 +15,19 @@ use Rattle.sq_place.specs.declared.DropPoint.{DropPoint}
 use Rattle.sq_place.specs.Places.{stream_on}
 use Rattle.sq_place.proofs.Wires.{arcs-inputs, outputs-there}
 use Rattle.sq_net.specs.declared.Network.{Network}
-use Rattle.sq_net.specs.Sound.{IsSound, takes_within}
+use Rattle.sq_net.specs.SoundNetworks.{IsSound, takes_within}
 use Rattle.sq_net.specs.Streams.{columns_of_stream}
 use Rattle.sq_net.proofs.StreamLemmas.{stream_typed, boxes_count}
 use Rattle.sq_points.specs.Points.{points_of}
 use Rattle.sq_points.proofs.Bounds.{at_least, takes_all}
-use Rattle.sq_model.specs.Given.{IsAt}
+use Rattle.sq_model.specs.GivenLevels.{IsAt}
 use Rattle.sq_model.specs.Shedding.{drop_above_arc}
 use Rattle.sq_below.specs.Actors.{Actor, Sources, Box, Shedder, Shower, arc_from}
 use Rattle.sq_start.specs.Numbers.{IsThere, ops_of, number_of, actor_at, place_stream, reads_of, shedder_reads}
 use Rattle.sq_start.proofs.NumberLemmas.{which}
 use Rattle.sq_start.specs.Nets.{ComesFrom, AllCome, Joins}
-use Rattle.sq_start.specs.Comes.{arcs_to, point_streams, streams_to, TakesArcs, MarksAreTaken, TuplesAreTaken}
-use Rattle.sq_start.specs.Started.{actor_marks, actor_fits}
+use Rattle.sq_start.specs.Arrivals.{arcs_to, point_streams, streams_to, TakesArcs, MarksAreTaken, TuplesAreTaken}
+use Rattle.sq_start.specs.NewOperators.{actor_marks, actor_fits}
 use Rattle.sq_flow.specs.declared.wires.Arc.{Arc}
 use Rattle.sq_flow.specs.declared.wires.Wires.{Wires}
 use Rattle.sq_flow.specs.Wiring.{net_of, arcs_read, arc_wired, from_of, arc_port, marked_of, fits_on}

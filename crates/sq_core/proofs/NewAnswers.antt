@@ -8,17 +8,17 @@ use Rattle.sq_value.specs.Values.{IsStream}
 use Rattle.sq_item.specs.declared.Item.{Item}
 use Rattle.sq_oper.specs.Streams.{IsSoundTuple, tuples_in}
 use Rattle.sq_net.specs.declared.Network.{Network}
-use Rattle.sq_net.specs.Sound.{IsSound}
+use Rattle.sq_net.specs.SoundNetworks.{IsSound}
 use Rattle.sq_points.specs.Points.{points_of}
 use Rattle.sq_model.specs.Shedding.{Replay, level_of, answer_of}
 use Rattle.sq_left.proofs.MergeLemmas.{eqb-not}
-use Rattle.sq_left.specs.Left.{Net, Holding, coming, inputs, inputs_by, left, still_dropped, IsLaidOut}
+use Rattle.sq_left.specs.Remainder.{Net, Holding, coming, inputs, inputs_by, left, still_dropped, IsLaidOut}
 use Rattle.sq_below.specs.Actors as below
 use Rattle.sq_below.specs.Actors.{stream_of}
-use Rattle.sq_sched.specs.Ready.{OnlyOnce}
+use Rattle.sq_sched.specs.ReadyLists.{OnlyOnce}
 use Rattle.sq_queue.specs.Faces.{face}
 use Rattle.sq_actor.specs.declared.actor.Actor.{Actor}
-use Rattle.sq_replay.specs.Recorded.{Recorded}
+use Rattle.sq_replay.specs.RecordedTuples.{Recorded}
 use Rattle.sq_flow.specs.declared.flow.Flow.{Flow}
 use Rattle.sq_flow.specs.declared.engine.Engine.{Engine}
 use Rattle.sq_flow.specs.Seats.{Meaning, done_at}

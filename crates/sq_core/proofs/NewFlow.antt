@@ -13,22 +13,22 @@ use Rattle.sq_oper.specs.declared.tally.Moment.TheVariants.{Start}
 use Rattle.sq_oper.specs.Order.{IsFuture}
 use Rattle.sq_oper.specs.Streams.{things}
 use Rattle.sq_net.specs.declared.Network.{Network}
-use Rattle.sq_net.specs.Sound.{IsSound}
+use Rattle.sq_net.specs.SoundNetworks.{IsSound}
 use Rattle.sq_points.specs.Points.{points_of}
-use Rattle.sq_model.specs.Fed.{late_of}
-use Rattle.sq_model.specs.Given.{IsAt}
+use Rattle.sq_model.specs.FullCounts.{late_of}
+use Rattle.sq_model.specs.GivenLevels.{IsAt}
 use Rattle.sq_model.specs.Shedding.{Replay, level_of}
 use Rattle.sq_below.specs.Actors.{Box, Shedder, Shower, stream_of}
-use Rattle.sq_below.specs.Standing.{box_fed}
+use Rattle.sq_below.specs.ArcContents.{box_fed}
 use Rattle.sq_start.specs.Numbers.{IsThere, first_output, ops_of, actor_at}
 use Rattle.sq_start.specs.Nets.{fed_to, decided_by, Joins}
 use Rattle.sq_start.specs.Starts.{IsReadReplay}
-use Rattle.sq_start.specs.Started.{IsStarted, late_of_actor}
-use Rattle.sq_start.specs.Comes.{TakesArcs, FedMayCome, MarksAreTaken, TuplesAreTaken}
+use Rattle.sq_start.specs.NewOperators.{IsStarted, late_of_actor}
+use Rattle.sq_start.specs.Arrivals.{TakesArcs, FedMayCome, MarksAreTaken, TuplesAreTaken}
 use Rattle.sq_start.specs.Laws.{IsNew}
 use Rattle.sq_start.proofs.NumberLemmas.{box-at, drop-at, output-at, which}
 use Rattle.sq_actor.specs.declared.actor.Actor as operator
-use Rattle.sq_replay.specs.Recorded.{Recorded}
+use Rattle.sq_replay.specs.RecordedTuples.{Recorded}
 use Rattle.sq_flow.specs.declared.wires.Wires.{Wires}
 use Rattle.sq_flow.specs.declared.flow.Flow.{Flow}
 use Rattle.sq_flow.specs.declared.seats.Seat.{Seat}
@@ -38,7 +38,7 @@ use Rattle.sq_flow.specs.Flows.{tuples_to_come, world_of, items_in, taken_in_all
 use Rattle.sq_flow.specs.Wiring.{net_of, IsOwn}
 use Rattle.sq_core.specs.Meanings.{actors, IsValid}
 use Rattle.sq_core.specs.Table.{IsTabled}
-use Rattle.sq_core.specs.Seated.{IsSeated, AllSeated}
+use Rattle.sq_core.specs.NewSeats.{IsSeated, AllSeated}
 use Rattle.sq_core.proofs.NetLemmas.{takes-arcs, marks-come, tuples-come, joins-all}
 use Rattle.sq_core.proofs.SumLemmas.{sum-none}
 use Rattle.sq_words.specs.Lists.{nth}

@@ -19,10 +19,10 @@ use Rattle.sq_place.specs.declared.DropAt.TheVariants as at
 use Rattle.sq_place.specs.Places.{stream_on, own_arcs, arc_numbers, box_of}
 use Rattle.sq_place.proofs.Wires.{arcs-inputs}
 use Rattle.sq_net.specs.declared.Network.{Network}
-use Rattle.sq_net.specs.Sound.{IsSound}
+use Rattle.sq_net.specs.SoundNetworks.{IsSound}
 use Rattle.sq_net.proofs.StreamLemmas.{boxes_count}
 use Rattle.sq_points.specs.Points.{points_of, drops_in}
-use Rattle.sq_below.specs.Standing.{Drop, drop_on_arc}
+use Rattle.sq_below.specs.ArcContents.{Drop, drop_on_arc}
 use Rattle.sq_below.specs.Actors.{giver, from_drop}
 use Rattle.sq_start.specs.Numbers.{first_output, ops_of, number_of, actor_at, place_stream}
 use Rattle.sq_start.proofs.NumberLemmas.{box-at, drop-at, output-at, which}

@@ -4,9 +4,9 @@ use Rattle.std.specs.List.{All}
 use Rattle.std.proofs.lemmas.Option.{slice_get-get_or}
 use Rattle.sq_place.specs.declared.DropPoint.{DropPoint}
 use Rattle.sq_net.specs.declared.Network.{Network}
-use Rattle.sq_net.specs.Sound.{IsSound}
+use Rattle.sq_net.specs.SoundNetworks.{IsSound}
 use Rattle.sq_points.specs.Points.{points_of}
-use Rattle.sq_model.specs.Given.{IsAt}
+use Rattle.sq_model.specs.GivenLevels.{IsAt}
 use Rattle.sq_model.specs.Shedding.{Replay}
 use Rattle.sq_below.specs.Laws.{PointsMeasured}
 

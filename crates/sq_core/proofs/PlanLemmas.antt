@@ -9,11 +9,11 @@ use Rattle.sq_place.specs.declared.PlaceErr.{PlaceErr}
 use Rattle.sq_place.specs.declared.PlaceErr.TheVariants.{LongBatch, WideExtent}
 use Rattle.sq_place.specs.Refusals.{IsFine, Names, NamesRefusal}
 use Rattle.sq_plan.specs.Plans.{Setting}
-use Rattle.sq_plan.specs.Shown.{shown_after}
+use Rattle.sq_plan.specs.PlanRows.{shown_after}
 use Rattle.sq_points.specs.Points.{setting_of}
 use Rattle.sq_model.specs.Shedding.{Replay}
 use Rattle.sq_actor.specs.declared.actor.Actor.{Actor}
-use Rattle.sq_replay.specs.Recorded.{Recorded}
+use Rattle.sq_replay.specs.RecordedTuples.{Recorded}
 use Rattle.sq_flow.specs.declared.flow.Flow.{Flow}
 use Rattle.sq_flow.specs.Flows.{tuples_to_come, to_release}
 use Rattle.sq_flow.specs.Plans.{arrivals, last_arrival, streams_left, counts_of, plans_left, IsPlanned}

@@ -7,7 +7,7 @@ use Rattle.std.specs.List.{AllByRecursion}
 use Rattle.sq_value.specs.declared.Tuple.{Tuple}
 use Rattle.sq_words.specs.Lists.{IsPrefixOf}
 use Rattle.sq_plan.specs.declared.closing.Shown.{Shown}
-use Rattle.sq_plan.specs.Shown.{level_for}
+use Rattle.sq_plan.specs.PlanRows.{level_for}
 use Rattle.sq_outside.specs.Disks.{Pages}
 use Rattle.sq_road.specs.Levels.{AgreesWith}
 use Rattle.sq_oper.specs.declared.outs.Event.{Event}
@@ -16,7 +16,7 @@ use Rattle.sq_place.specs.declared.DropPoint.{DropPoint}
 use Rattle.sq_points.specs.Points.{points_of, drops_in}
 use Rattle.std.proofs.lemmas.Option.{slice_get_within}
 use Rattle.sq_net.specs.declared.Network.{Network}
-use Rattle.sq_net.specs.Sound.{IsSound}
+use Rattle.sq_net.specs.SoundNetworks.{IsSound}
 use Rattle.sq_model.specs.Shedding.{Replay, counts_in, level_of}
 use Rattle.sq_pool.specs.Trust.{Tells}
 use Rattle.sq_actor.specs.declared.actor.Actor.{Actor}

@@ -4,8 +4,8 @@ use Rattle.sq_net.specs.declared.Network.{Network}
 use Rattle.sq_actor.specs.declared.actor.Actor as operator
 use Rattle.sq_flow.specs.declared.seats.Seat.{Seat}
 use Rattle.sq_start.specs.Numbers.{actor_at}
-use Rattle.sq_start.specs.Started.{IsStarted, AreStarted}
-use Rattle.sq_core.specs.Seated.{none_fed, AllSeated}
+use Rattle.sq_start.specs.NewOperators.{IsStarted, AreStarted}
+use Rattle.sq_core.specs.NewSeats.{none_fed, AllSeated}
 
 unmapped : {A B : Type 0} (F : A → B) (xs : List A) (i : ℕ) (y : B) → slice_get (map F xs) i ≡ Some y → (x : A) × (slice_get xs i ≡ Some x) × (F x ≡ y)
 unmapped F [] i y is = cc is

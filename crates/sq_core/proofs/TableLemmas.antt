@@ -25,14 +25,14 @@ use Rattle.sq_place.proofs.Exact.{range-get}
 use Rattle.sq_place.proofs.Numbering.{numbered_more}
 use Rattle.sq_place.proofs.Wires.{arcs-there}
 use Rattle.sq_net.specs.declared.Network.{Network}
-use Rattle.sq_net.specs.Sound.{IsSound, is_between}
+use Rattle.sq_net.specs.SoundNetworks.{IsSound, is_between}
 use Rattle.sq_net.specs.Streams.{columns_of_stream}
 use Rattle.sq_points.specs.Points.{points_of}
 use Rattle.sq_model.specs.Shedding.{drop_above_arc}
 use Rattle.sq_points.proofs.Plannable.{few-points}
-use Rattle.sq_model.specs.Given.{IsAt}
+use Rattle.sq_model.specs.GivenLevels.{IsAt}
 use Rattle.sq_model.proofs.PlacedLemmas.{placed_of}
-use Rattle.sq_below.specs.Standing.{Drop, drop_on_arc}
+use Rattle.sq_below.specs.ArcContents.{Drop, drop_on_arc}
 use Rattle.sq_below.specs.Actors.{Actor, Sources, Box, Shedder, Shower, giver, from_drop, arc_from}
 use Rattle.sq_start.specs.Numbers.{IsThere, first_output, ops_of, number_of, actor_at, place_stream}
 use Rattle.sq_start.proofs.NumberLemmas.{box-at, drop-at, output-at, giver-there, from-there}

@@ -4,10 +4,10 @@ use Rattle.sq_item.specs.declared.Item.{Item}
 use Rattle.sq_oper.specs.declared.outs.Event.{Event}
 use Rattle.sq_place.specs.declared.DropPoint.{DropPoint}
 use Rattle.sq_points.specs.Points.{points_of, setting_of}
-use Rattle.sq_model.specs.Fed.{late_of}
+use Rattle.sq_model.specs.FullCounts.{late_of}
 use Rattle.sq_model.specs.Shedding.{Replay, counts_in, level_of, answer_of}
-use Rattle.sq_model.specs.Kept.{fed_of, work_of, turns_of}
-use Rattle.sq_model.specs.Shown.{plans_shown}
+use Rattle.sq_model.specs.KeptTuples.{fed_of, work_of, turns_of}
+use Rattle.sq_model.specs.PlanLines.{plans_shown}
 use Rattle.sq_actor.specs.declared.actor.Actor.{Actor}
 use Rattle.sq_flow.specs.declared.flow.Flow.{Flow}
 use Rattle.sq_flow.specs.Events.{lines_of, drops_of}

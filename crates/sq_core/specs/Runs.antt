@@ -3,15 +3,15 @@ use Rattle.std.specs.Prelude.{◌≡◌, ℕ, ◌+◌, ◌^◌, ◌≤◌, ◌<�
 use Rattle.sq_words.specs.Lists.{IsPrefixOf}
 use Rattle.sq_outside.specs.Disks.{Pages}
 use Rattle.sq_oper.specs.declared.outs.Event.{Event}
-use Rattle.sq_net.specs.Sound.{IsSound}
+use Rattle.sq_net.specs.SoundNetworks.{IsSound}
 use Rattle.sq_place.specs.declared.DropPoint.{DropPoint}
 use Rattle.sq_points.specs.Points.{points_of}
-use Rattle.sq_model.specs.Fed.{late_of}
+use Rattle.sq_model.specs.FullCounts.{late_of}
 use Rattle.sq_model.specs.Shedding.{Replay, answer_of}
-use Rattle.sq_model.specs.Kept.{fed_of, work_of, turns_of}
-use Rattle.sq_model.specs.Shown.{plans_shown}
+use Rattle.sq_model.specs.KeptTuples.{fed_of, work_of, turns_of}
+use Rattle.sq_model.specs.PlanLines.{plans_shown}
 use Rattle.sq_actor.specs.declared.actor.Actor.{Actor}
-use Rattle.sq_actor.specs.Late.{late_by_actor}
+use Rattle.sq_actor.specs.Lateness.{late_by_actor}
 use Rattle.sq_pool.specs.Trust.{Tells}
 use Rattle.sq_queue.specs.Faces.{Together}
 use Rattle.sq_flow.specs.declared.seats.Seat.{Seat}

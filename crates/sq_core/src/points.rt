@@ -5,10 +5,10 @@ ghost use Rattle.std.specs.List.{list_any};
 ghost use Rattle.std.specs.Option.{option_map};
 ghost use Rattle.sq_graph.specs.Wires.{arcs_of};
 ghost use Rattle.sq_place.specs.Places.{stream_on, own_arcs};
-ghost use Rattle.sq_net.specs.Sound.{IsSound};
+ghost use Rattle.sq_net.specs.SoundNetworks.{IsSound};
 ghost use Rattle.sq_points.specs.Points.{points_of};
 ghost use Rattle.sq_model.specs.Shedding.{first_drop};
-ghost use Rattle.sq_below.specs.Standing.{drop_on_arc};
+ghost use Rattle.sq_below.specs.ArcContents.{drop_on_arc};
 ghost use Rattle.sq_words.specs.Lists.{contains_number};
 
 use sq_net::Network;

@@ -1,11 +1,11 @@
 //! The actors of a network in their seats.
 
 ghost use Rattle.std.specs.Prelude.{◌≡◌, IfOk, length, map};
-ghost use Rattle.sq_net.specs.Sound.{IsSound};
+ghost use Rattle.sq_net.specs.SoundNetworks.{IsSound};
 ghost use Rattle.sq_points.specs.Points.{points_of};
 ghost use Rattle.sq_points.specs.Limits.{KeepsDropLimits};
 ghost use Rattle.sq_start.specs.Numbers.{ops_of};
-ghost use Rattle.sq_core.specs.Seated.{none_fed, AllSeated};
+ghost use Rattle.sq_core.specs.NewSeats.{none_fed, AllSeated};
 
 use sq_actor::Actor;
 use sq_flow::Seat;

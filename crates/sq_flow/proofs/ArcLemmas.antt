@@ -4,7 +4,7 @@ use Rattle.std.proofs.lemmas.Bool.{cases_lt}
 use Rattle.sq_item.specs.Things.{Thing}
 use Rattle.sq_oper.specs.declared.outs.Decision.{Decision}
 use Rattle.sq_oper.specs.Entries.{Entry}
-use Rattle.sq_left.specs.Left.{Net, Holding, coming, left, is_known_actor, Facts}
+use Rattle.sq_left.specs.Remainder.{Net, Holding, coming, left, is_known_actor, Facts}
 use Rattle.sq_left.proofs.Conserve.{Kept, ended-none}
 use Rattle.sq_left.proofs.ActorSteps.{Moves, left-moved}
 use Rattle.sq_flow.specs.declared.wires.Wires.{Wires}

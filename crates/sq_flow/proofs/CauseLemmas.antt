@@ -11,7 +11,7 @@ use Rattle.sq_paged.specs.declared.store.QueueErr.TheVariants as queue
 use Rattle.sq_pool.specs.Trust.{IsLater}
 use Rattle.sq_pool.proofs.TrustLemmas.{came-since}
 use Rattle.sq_queue.specs.Faces.{IsRefusal}
-use Rattle.sq_paged.specs.Kept.{IsTold, NoMisfit}
+use Rattle.sq_paged.specs.KeptPages.{IsTold, NoMisfit}
 use Rattle.sq_flow.specs.declared.wires.Arc.{Arc}
 use Rattle.sq_flow.specs.declared.seats.Seat.{Seat}
 use Rattle.sq_flow.specs.declared.flow.Flow.{Flow}

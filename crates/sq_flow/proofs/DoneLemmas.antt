@@ -4,7 +4,7 @@ use Rattle.std.specs.Prelude.{slice_get, is_some}
 use Rattle.std.proofs.lemmas.Option.{slice_get_past}
 use Rattle.sq_item.specs.declared.Item.{Item}
 use Rattle.sq_oper.specs.Streams.{tuples_of, tuples_in}
-use Rattle.sq_left.specs.Left.{Net, is_known_actor, Each, IsLaidOut}
+use Rattle.sq_left.specs.Remainder.{Net, is_known_actor, Each, IsLaidOut}
 use Rattle.sq_left.proofs.MergeLemmas.{eqb-no}
 use Rattle.sq_left.proofs.Conserve.{ended-none, ended-settled}
 use Rattle.sq_queue.specs.Faces.{face}

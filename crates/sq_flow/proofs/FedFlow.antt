@@ -14,10 +14,10 @@ use Rattle.sq_oper.specs.declared.outs.Decision.{Decision}
 use Rattle.sq_oper.specs.declared.outs.Event.{Event}
 use Rattle.sq_oper.specs.Entries.{Entry, at_port, entries}
 use Rattle.sq_oper.specs.Order.{IsFuture, after_all}
-use Rattle.sq_oper.specs.Given.{given, ThingsUpTo}
+use Rattle.sq_oper.specs.Outflow.{given, ThingsUpTo}
 use Rattle.sq_oper.specs.Streams.{tuples_of, tuples_in}
 use Rattle.sq_oper.proofs.GivenLemmas.{ThingsUpTo-split, ThingsUpTo-later}
-use Rattle.sq_left.specs.Left.{Net, Holding, coming, inputs, is_known_actor}
+use Rattle.sq_left.specs.Remainder.{Net, Holding, coming, inputs, is_known_actor}
 use Rattle.sq_left.specs.Heads.{AllFine}
 use Rattle.sq_left.proofs.MergeLemmas.{AllOfTime, eqb-not}
 use Rattle.sq_left.proofs.Conserve.{Kept}

@@ -10,8 +10,8 @@ use Rattle.sq_item.specs.Things.{Thing, spread_all}
 use Rattle.sq_road.specs.Levels.{AgreesWith, level_of}
 use Rattle.sq_oper.specs.declared.outs.Decision.{Decision}
 use Rattle.sq_oper.specs.declared.outs.Event.{Event}
-use Rattle.sq_oper.specs.Given.{given, ThingsUpTo}
-use Rattle.sq_left.specs.Left.{Net, Holding, left_by, inputs_by, Each, coming, inputs}
+use Rattle.sq_oper.specs.Outflow.{given, ThingsUpTo}
+use Rattle.sq_left.specs.Remainder.{Net, Holding, left_by, inputs_by, Each, coming, inputs}
 use Rattle.sq_left.specs.Heads.{AllFine}
 use Rattle.sq_left.proofs.MergeLemmas.{eqb-not}
 use Rattle.sq_left.proofs.Conserve.{Reads, Kept}

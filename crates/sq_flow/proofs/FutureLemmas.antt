@@ -6,14 +6,14 @@ use Rattle.sq_value.specs.declared.Value.{Value}
 use Rattle.sq_words.specs.Lists.{IsPrefixOf}
 use Rattle.sq_item.specs.declared.Item.{Item}
 use Rattle.sq_item.specs.declared.Mark.{Mark}
-use Rattle.sq_item.specs.Sound.{IsSoundItem}
+use Rattle.sq_item.specs.SoundItems.{IsSoundItem}
 use Rattle.sq_item.specs.Things.{Thing, Content, Sign, Body, spread, spread_all, mark_part, body_part}
 use Rattle.sq_oper.specs.declared.tally.Moment.{Moment}
 use Rattle.sq_oper.specs.Entries.{Entry, at_port}
 use Rattle.sq_oper.specs.Order.{content_fits, AllFit, IsFuture}
-use Rattle.sq_oper.specs.Given.{given, ItemsSound, ThingsUpTo}
+use Rattle.sq_oper.specs.Outflow.{given, ItemsSound, ThingsUpTo}
 use Rattle.sq_oper.proofs.GivenLemmas.{ThingsUpTo-split}
-use Rattle.sq_left.specs.Left.{Net, Holding, Each}
+use Rattle.sq_left.specs.Remainder.{Net, Holding, Each}
 use Rattle.sq_left.specs.Heads.{AllFine}
 use Rattle.sq_left.proofs.MergeLemmas.{eqb-no, eqb-not}
 use Rattle.sq_left.proofs.ActorSteps.{EachPort, PortFacts, taken_at}

@@ -3,7 +3,7 @@ use Rattle.std.proofs.Common.{◌≡◌, ℕ, zero, suc, ◌+◌, ◌<◌, ◌�
 use Rattle.std.specs.List.{filter, range_with_len, list_all}
 use Rattle.std.specs.Prelude.{slice_get, Some}
 use Rattle.std.proofs.lemmas.Bool.Decides.{nat_tests}
-use Rattle.sq_sched.specs.Ready.{AreActors, OnlyOnce}
+use Rattle.sq_sched.specs.ReadyLists.{AreActors, OnlyOnce}
 use Rattle.sq_left.proofs.MergeLemmas.{eqb-no, eqb-not}
 use Rattle.sq_flow.specs.Wiring.{Climbs}
 use Rattle.sq_words.specs.Lists.{contains_number}

@@ -6,7 +6,7 @@ use Rattle.sq_value.specs.declared.Value.{Value}
 use Rattle.sq_item.specs.declared.Item.{Item}
 use Rattle.sq_item.specs.declared.Mark.{Mark}
 use Rattle.sq_item.specs.Things.{spread, mark_part, body_part}
-use Rattle.sq_item.specs.Sound.{IsSoundItem}
+use Rattle.sq_item.specs.SoundItems.{IsSoundItem}
 use Rattle.sq_flow.specs.declared.seats.Seat.{Seat}
 use Rattle.sq_flow.specs.Flows.{open_seats}
 

@@ -11,10 +11,10 @@ use Rattle.sq_value.specs.declared.Tuple.{Tuple}
 use Rattle.sq_words.specs.Lists.{max_by}
 use Rattle.sq_left.proofs.MergeLemmas.{eqb-not}
 use Rattle.sq_plan.specs.Flows.{AreCounts}
-use Rattle.sq_plan.specs.Shown.{is_quiet}
+use Rattle.sq_plan.specs.PlanRows.{is_quiet}
 use Rattle.sq_oper.specs.declared.outs.Event.{Event}
 use Rattle.sq_oper.specs.declared.outs.Event.TheVariants.{Plan}
-use Rattle.sq_replay.specs.Recorded.{Recorded}
+use Rattle.sq_replay.specs.RecordedTuples.{Recorded}
 use Rattle.sq_flow.specs.Events.{lines_of}
 use Rattle.sq_flow.specs.Flows.{tuples_to_come, RiseFrom}
 use Rattle.sq_flow.specs.Plans.{arrivals, last_arrival, add_counts, plans_of}

@@ -2,7 +2,7 @@
 use Rattle.std.proofs.Common.{◌≡◌, ◌≢◌, ℕ, zero, suc, ◌-◌, ◌^◌, ◌<◌, ◌≤◌, cond, Bool, true, false, not, ◌||◌, ◌&&◌, List, ◌++◌, length, map, Some, refl, ap, sym, ◌∙◌, subst, arith}
 use Rattle.std.specs.Prelude.{slice_get, min, sum}
 use Rattle.std.specs.List.{filter, list_all}
-use Rattle.sq_sched.specs.Ready.{AreActors, OnlyOnce}
+use Rattle.sq_sched.specs.ReadyLists.{AreActors, OnlyOnce}
 use Rattle.sq_left.proofs.MergeLemmas.{eqb-not}
 use Rattle.sq_paged.specs.Fronts.{Face}
 use Rattle.sq_queue.specs.Faces.{face}

@@ -9,10 +9,10 @@ use Rattle.sq_left.proofs.MergeLemmas.{eqb-no, eqb-not}
 use Rattle.sq_road.specs.Levels.{LevelTable, level_of, AgreesWith}
 use Rattle.sq_plan.specs.declared.closing.Shown.{Shown}
 use Rattle.sq_plan.specs.Plans.{Setting}
-use Rattle.sq_plan.specs.Shown.{is_quiet, level_for, shown_from, shown_after, Ended}
+use Rattle.sq_plan.specs.PlanRows.{is_quiet, level_for, shown_from, shown_after, Ended}
 use Rattle.sq_oper.specs.declared.outs.Event.{Event}
 use Rattle.sq_queue.specs.declared.Queues.{Queues}
-use Rattle.sq_replay.specs.Recorded.{Recorded}
+use Rattle.sq_replay.specs.RecordedTuples.{Recorded}
 use Rattle.sq_flow.specs.declared.flow.Flow.{Flow}
 use Rattle.sq_flow.specs.Seats.{Meaning}
 use Rattle.sq_flow.specs.Events.{lines_of, drops_of, ShowsIn}

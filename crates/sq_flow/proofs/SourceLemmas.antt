@@ -5,7 +5,7 @@ use Rattle.std.proofs.lemmas.Option.{slice_get_past, same_Some}
 use Rattle.std.proofs.lemmas.Bool.Decides.{nat_tests}
 use borrow.Author.Count.{below_more}
 use Rattle.sq_value.specs.declared.Tuple.{Tuple}
-use Rattle.sq_replay.specs.Recorded.{Recorded, first_recorded}
+use Rattle.sq_replay.specs.RecordedTuples.{Recorded, first_recorded}
 use Rattle.sq_flow.specs.Flows.{tuples_to_come}
 use Rattle.sq_flow.specs.Sources.{BeginsNotBefore, BeginsAfter, BeginsLeast, IsNextSource}
 

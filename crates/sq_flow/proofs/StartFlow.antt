@@ -4,14 +4,14 @@ use Rattle.std.specs.Prelude.{slice_get, slice_index}
 use Rattle.std.specs.List.{flat_map, range_with_len}
 use Rattle.sq_words.specs.Lists.{numbers_to}
 use Rattle.sq_road.specs.Levels.{Rows, level_of}
-use Rattle.sq_plan.specs.Shown.{level_for, shown_from, shown_after}
+use Rattle.sq_plan.specs.PlanRows.{level_for, shown_from, shown_after}
 use Rattle.sq_value.specs.declared.Value.{Value}
 use Rattle.sq_item.specs.declared.Item.{Item}
 use Rattle.sq_oper.specs.declared.tally.Moment.TheVariants.{Start}
 use Rattle.sq_oper.specs.declared.outs.Decision.{Decision}
 use Rattle.sq_oper.specs.Order.{IsFuture}
-use Rattle.sq_oper.specs.Given.{ThingsUpTo}
-use Rattle.sq_left.specs.Left.{Facts}
+use Rattle.sq_oper.specs.Outflow.{ThingsUpTo}
+use Rattle.sq_left.specs.Remainder.{Facts}
 use Rattle.sq_queue.specs.Faces.{face, size}
 use Rattle.sq_flow.specs.declared.seats.Seat.{Seat}
 use Rattle.sq_flow.specs.declared.flow.Flow.{Flow}

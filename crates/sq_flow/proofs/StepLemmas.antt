@@ -16,7 +16,7 @@ use Rattle.sq_flow.specs.Seats.{Meaning}
 use Rattle.sq_flow.specs.Events.{drops_of, ShowsIn}
 use Rattle.sq_flow.specs.Plans.{PlansPrefix, plans_of}
 use Rattle.sq_plan.specs.Plans.{Setting}
-use Rattle.sq_plan.specs.Shown.{level_for}
+use Rattle.sq_plan.specs.PlanRows.{level_for}
 use Rattle.sq_words.specs.Lists.{IsPrefixOf}
 use Rattle.sq_flow.specs.Flows.{HoldsItems, Stepped, ShowsPrefix, NoneStrange, CostsFed, StepCosts, TooMuchOnly, items_in, decisions_left, left_on, fed_at_last, sum_below, work_at_last}
 use Rattle.sq_flow.proofs.CauseLemmas.{changed-since}

@@ -4,7 +4,7 @@ use Rattle.std.specs.Prelude.{nat_lt, nat_le, ◌==◌, is_some}
 use Rattle.sq_value.specs.declared.Value.{Value}
 use Rattle.sq_item.specs.declared.Item.{Item}
 use Rattle.sq_item.specs.declared.Mark.{Mark}
-use Rattle.sq_item.specs.Sound.{IsSoundItem}
+use Rattle.sq_item.specs.SoundItems.{IsSoundItem}
 use Rattle.sq_item.specs.Things.{Sign, Body, mark_part, body_part}
 use Rattle.sq_oper.specs.declared.tally.Moment.{Moment}
 use Rattle.sq_oper.specs.declared.tally.Moment.TheVariants.{Start, At}

@@ -4,7 +4,7 @@ use Rattle.std.specs.Prelude.{slice_get}
 use Rattle.std.specs.List.{sum_by}
 use Rattle.std.proofs.lemmas.List.Sums.{sum_by-cons}
 use Rattle.std.proofs.lemmas.Option.{same_Some, slice_get_past}
-use Rattle.sq_left.specs.Left.{Net, is_known_actor, Each, IsLaidOut}
+use Rattle.sq_left.specs.Remainder.{Net, is_known_actor, Each, IsLaidOut}
 use Rattle.sq_left.proofs.MergeLemmas.{eqb-not}
 use Rattle.sq_paged.specs.Fronts.{Face, IsPopped}
 use Rattle.sq_queue.specs.declared.Queues.{Queues}

@@ -1,7 +1,7 @@
 -- An engine: a flow whose ready actors are listed.
 use Rattle.std.specs.Prelude.{◌≡◌, ℕ, ◌+◌, ◌-◌, ◌≤◌, ◌==◌, ◌&&◌, Bool, true, false, not, List, [], ◌∷◌, ◌++◌, map, length, slice_get, slice_index, if◌then◌else◌}
 use Rattle.std.specs.List.{filter, range_with_len}
-use Rattle.sq_sched.specs.Ready.{without_actor, AreActors, OnlyOnce}
+use Rattle.sq_sched.specs.ReadyLists.{without_actor, AreActors, OnlyOnce}
 use Rattle.sq_flow.specs.declared.flow.Flow.{Flow}
 use Rattle.sq_flow.specs.declared.engine.Engine.{Engine}
 use Rattle.sq_flow.specs.Wiring.{followers_of}

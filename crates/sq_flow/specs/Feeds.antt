@@ -7,7 +7,7 @@ use Rattle.sq_road.specs.Levels.{LevelTable, AgreesWith}
 use Rattle.sq_oper.specs.declared.outs.Decision.{Decision}
 use Rattle.sq_oper.specs.declared.outs.Event.{Event}
 use Rattle.sq_oper.specs.Entries.{Entry, entries}
-use Rattle.sq_oper.specs.Given.{given}
+use Rattle.sq_oper.specs.Outflow.{given}
 use Rattle.sq_oper.specs.Order.{IsFuture}
 use Rattle.sq_queue.specs.declared.Queues.{Queues}
 use Rattle.sq_flow.specs.declared.wires.Wires.{Wires}

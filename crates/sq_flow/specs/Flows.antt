@@ -8,13 +8,13 @@ use Rattle.sq_road.specs.Levels.{LevelTable, AgreesWith}
 use Rattle.sq_words.specs.Lists.{IsPrefixOf}
 use Rattle.sq_oper.specs.declared.outs.Decision.{Decision}
 use Rattle.sq_oper.specs.declared.outs.Event.{Event}
-use Rattle.sq_oper.specs.Given.{ThingsUpTo}
+use Rattle.sq_oper.specs.Outflow.{ThingsUpTo}
 use Rattle.sq_oper.specs.Streams.{things, IsSoundTuple, tuples_in}
-use Rattle.sq_left.specs.Left.{Holding, Facts, coming, inputs, left, still_dropped, lost_in_all, fed_in_all}
+use Rattle.sq_left.specs.Remainder.{Holding, Facts, coming, inputs, left, still_dropped, lost_in_all, fed_in_all}
 use Rattle.sq_left.specs.Heads.{AllFine}
 use Rattle.sq_pool.specs.Trust.{IsLater, known, Tells}
 use Rattle.sq_queue.specs.Faces.{face, size, frames, items_on, Together}
-use Rattle.sq_replay.specs.Recorded.{Recorded}
+use Rattle.sq_replay.specs.RecordedTuples.{Recorded}
 use Rattle.sq_flow.specs.declared.seats.Seat.{Seat}
 use Rattle.sq_flow.specs.declared.flow.Flow.{Flow}
 use Rattle.sq_flow.specs.declared.errors.RunErr.{RunErr}

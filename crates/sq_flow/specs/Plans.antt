@@ -8,7 +8,7 @@ use Rattle.sq_value.specs.declared.Tuple.{Tuple}
 use Rattle.sq_words.specs.Lists.{max_by, IsPrefixOf}
 use Rattle.sq_road.specs.Levels.{LevelTable, AgreesWith}
 use Rattle.sq_plan.specs.declared.closing.Shown.{Shown}
-use Rattle.sq_plan.specs.Shown.{level_for, shown_after}
+use Rattle.sq_plan.specs.PlanRows.{level_for, shown_after}
 use Rattle.sq_oper.specs.declared.outs.Event.{Event}
 use Rattle.sq_oper.specs.declared.outs.Event.TheVariants.{Line, Dropped, Plan}
 use Rattle.sq_flow.specs.declared.flow.Flow.{Flow}

@@ -9,7 +9,7 @@ use Rattle.sq_oper.specs.declared.outs.Decision.{Decision}
 use Rattle.sq_oper.specs.Entries.{Entry, entries}
 use Rattle.sq_item.specs.declared.Item.{Item}
 use Rattle.sq_road.specs.Levels.{LevelTable, AgreesWith}
-use Rattle.sq_oper.specs.Given.{given, ItemsSound, ThingsUpTo}
+use Rattle.sq_oper.specs.Outflow.{given, ItemsSound, ThingsUpTo}
 use Rattle.sq_oper.specs.Order.{IsFuture, after_all}
 use Rattle.sq_flow.specs.declared.seats.Seat.{Seat}
 

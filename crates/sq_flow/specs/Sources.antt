@@ -1,7 +1,7 @@
 -- Which source releases next.
 use Rattle.std.specs.Prelude.{ℕ, ◌≤◌, ◌<◌, List, [], ◌∷◌, length, slice_get}
 use Rattle.sq_value.specs.declared.Tuple.{Tuple}
-use Rattle.sq_replay.specs.Recorded.{Recorded}
+use Rattle.sq_replay.specs.RecordedTuples.{Recorded}
 use Rattle.sq_flow.specs.Flows.{tuples_to_come}
 
 -- the list begins at this time or later, if it begins

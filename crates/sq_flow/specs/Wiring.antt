@@ -5,10 +5,10 @@ use Rattle.sq_value.specs.declared.Value.{Value}
 use Rattle.sq_value.specs.Values.{kinds_fit}
 use Rattle.sq_item.specs.declared.Item.{Item}
 use Rattle.sq_item.specs.Things.{Thing}
-use Rattle.sq_item.specs.Sound.{IsSoundItem}
-use Rattle.sq_oper.specs.Given.{given}
+use Rattle.sq_item.specs.SoundItems.{IsSoundItem}
+use Rattle.sq_oper.specs.Outflow.{given}
 use Rattle.sq_oper.specs.declared.outs.Decision.{Decision}
-use Rattle.sq_left.specs.Left.{Net, is_known_actor, IsLaidOut}
+use Rattle.sq_left.specs.Remainder.{Net, is_known_actor, IsLaidOut}
 use Rattle.sq_flow.specs.declared.wires.Arc.{Arc}
 use Rattle.sq_flow.specs.declared.wires.Wires.{Wires}
 use Rattle.sq_words.specs.Lists.{contains_number}

@@ -7,7 +7,7 @@ ghost use Rattle.sq_pool.specs.Trust.{IsLater, known};
 ghost use Rattle.sq_queue.specs.Faces.{Together};
 ghost use Rattle.std.specs.List.{flat_map, range_with_len};
 ghost use Rattle.sq_words.specs.Lists.{IsPrefixOf, numbers_to, contains_number};
-ghost use Rattle.sq_plan.specs.Shown.{shown_after};
+ghost use Rattle.sq_plan.specs.PlanRows.{shown_after};
 ghost use Rattle.sq_flow.specs.Engines.{seat_number};
 
 use crate::errors::RunErr;

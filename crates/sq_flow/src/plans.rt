@@ -5,7 +5,7 @@ ghost use Rattle.std.specs.Prelude.{◌≡◌, ◌==◌, ℕ, ◌+◌, ◌-◌, 
 ghost use Rattle.std.specs.List.{flat_map, range_with_len};
 ghost use Rattle.sq_road.specs.Levels.{level_of, AgreesWith};
 ghost use Rattle.sq_plan.specs.Flows.{AreCounts};
-ghost use Rattle.sq_plan.specs.Shown.{listed, level_for, shown_after, Ended};
+ghost use Rattle.sq_plan.specs.PlanRows.{listed, level_for, shown_after, Ended};
 ghost use Rattle.sq_flow.specs.Events.{lines_of, drops_of, ShowsIn};
 ghost use Rattle.sq_flow.specs.Plans.{plans_of};
 

@@ -1,7 +1,7 @@
 //! Operators in their seats.
 
 ghost use Rattle.std.specs.Prelude.{◌≡◌, ℕ, ◌+◌, ◌-◌, ◌^◌, ◌/◌, ◌<◌, ◌≤◌, true, false, [], Some, is_some, OnOk, OnErr, IfErr, length, slice_get, if◌then◌else◌};
-ghost use Rattle.sq_item.specs.Sound.{IsSoundItem};
+ghost use Rattle.sq_item.specs.SoundItems.{IsSoundItem};
 ghost use Rattle.sq_oper.specs.Entries.{entries};
 ghost use Rattle.sq_oper.specs.Order.{IsFuture};
 ghost use Rattle.sq_pool.specs.Trust.{IsLater, Tells, known};

@@ -2,9 +2,9 @@
 
 ghost use Rattle.std.specs.Prelude.{◌≡◌, ◌==◌, if◌then◌else◌, ℕ, ◌+◌, ◌-◌, ◌<◌, ◌≤◌, ◌++◌, ◌∷◌, [], true, false, Some, OnOk, OnErr, IfErr, length, slice_get};
 ghost use Rattle.sq_words.specs.Lists.{IsPrefixOf, contains_number};
-ghost use Rattle.sq_item.specs.Sound.{IsSoundItem};
+ghost use Rattle.sq_item.specs.SoundItems.{IsSoundItem};
 ghost use Rattle.sq_item.specs.Things.{spread};
-ghost use Rattle.sq_oper.specs.Given.{given};
+ghost use Rattle.sq_oper.specs.Outflow.{given};
 ghost use Rattle.sq_pool.specs.Trust.{IsLater, Tells, known};
 ghost use Rattle.sq_queue.specs.Faces.{face, size, Together};
 ghost use Rattle.sq_flow.specs.Causes.{of_queue, IsQueueCause};

@@ -1,3 +1,3 @@
 pub mod Things
-pub mod Sound
+pub mod SoundItems
 pub mod Words

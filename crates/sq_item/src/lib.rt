@@ -7,7 +7,7 @@
 #![tactic(auto)]
 
 ghost use Rattle.std.specs.Prelude.{◌≡◌, ◌≤◌, IfOk, None, Some, is_some, length};
-ghost use Rattle.sq_item.specs.Sound.{IsSoundItem, IsMark};
+ghost use Rattle.sq_item.specs.SoundItems.{IsSoundItem, IsMark};
 ghost use Rattle.sq_item.specs.Words.{values_of};
 
 use sq_value::{Fields, Value, copy_fields};

@@ -10,7 +10,7 @@ use Rattle.sq_expr.specs.Trees.{Expr, Field, Compare, Logic}
 use Rattle.sq_expr.specs.declared.CompareOp.TheVariants as compare
 use Rattle.sq_expr.specs.declared.LogicOp.TheVariants as logic
 use Rattle.sq_expr.specs.Expressions.{value_of}
-use Rattle.sq_join.specs.Equal.{Equates}
+use Rattle.sq_join.specs.EqualFields.{Equates}
 use Rattle.sq_words.proofs.Alls.{all_append, all_weaker}
 use Rattle.sq_expr.proofs.EqualLemmas.{compared-equal, both-true}
 

@@ -11,15 +11,15 @@ use Rattle.sq_expr.specs.Trees.{Expr}
 use Rattle.sq_expr.specs.Expressions.{holds_of, pair_of}
 use Rattle.sq_item.specs.declared.Mark.{Mark}
 use Rattle.sq_item.specs.declared.Item.{Item}
-use Rattle.sq_item.specs.Sound.{IsSoundItem}
+use Rattle.sq_item.specs.SoundItems.{IsSoundItem}
 use Rattle.sq_item.specs.Things.{Thing, mark_part, body_part}
 use Rattle.sq_lists.specs.Pairs.{pairs_from, join_list_of}
-use Rattle.sq_lists.specs.Sides.{held_of, recent, pair_at, pairs_with, against, left_with, right_with, AllNear}
+use Rattle.sq_lists.specs.Sides.{held_on_sides, recent, pair_at, pairs_with, against, left_with, right_with, AllNear}
 use Rattle.sq_lists.proofs.WindowLemmas.{lower}
 use Rattle.sq_oper.specs.declared.tally.Moment.{Moment}
 use Rattle.sq_oper.specs.declared.tally.Moment.TheVariants.{Start}
 use Rattle.sq_oper.specs.Entries.{Entry, at_port, entries}
-use Rattle.sq_oper.specs.Given.{ThingsUpTo}
+use Rattle.sq_oper.specs.Outflow.{ThingsUpTo}
 use Rattle.sq_oper.specs.Order.{time_of, unmarked, IsFuture}
 use Rattle.sq_oper.specs.Streams.{IsSoundTuple, things, at_zero}
 use Rattle.sq_oper.proofs.GivenLemmas.{IsPrefixOf-append}
@@ -202,8 +202,8 @@ module _ (size : ℕ) (on : Expr) (columns : Columns) (left right : List Tuple) 
         let sides = rw (elements-fed port item fields future is) at whole-sides in
         let now = gives-now size on fed left right port fed_side left-side.early left-near right-side.early right-near in
         let later = gives-later size on fed left right port fed_side (elements_of future) (turn-since item.time port (elements_of future) turn.1) sides.1 in
-        let rest = pairs_from size on (held_of (left_with port fed kept-left) (right_with port fed kept-right)) (elements_of future) in
-        ap (λ es. at_zero q (things (pairs_from size on (held_of left right) es))) (elements-fed port item fields future is)
+        let rest = pairs_from size on (held_on_sides (left_with port fed kept-left) (right_with port fed kept-right)) (elements_of future) in
+        ap (λ es. at_zero q (things (pairs_from size on (held_on_sides left right) es))) (elements-fed port item fields future is)
         ∙ ap₂ (λ a b. at_zero q (things (a ++ b))) now later
         ∙ ap (at_zero q) (things-append given-now rest)
         ∙ at_zero-append q (things given-now) (things rest)

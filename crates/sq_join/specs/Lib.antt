@@ -1,3 +1,3 @@
-pub mod Equal
+pub mod EqualFields
 pub mod Elements
 pub mod Sides

@@ -7,7 +7,7 @@ use Rattle.sq_value.specs.Values.{Columns}
 use Rattle.sq_expr.specs.Trees.{Expr}
 use Rattle.sq_item.specs.Things.{Thing}
 use Rattle.sq_lists.specs.Pairs.{pairs_from, left_fields}
-use Rattle.sq_lists.specs.Sides.{held_of}
+use Rattle.sq_lists.specs.Sides.{held_on_sides}
 use Rattle.sq_lists.specs.WindowParts.{TimesNotFalling}
 use Rattle.sq_oper.specs.Entries.{Entry}
 use Rattle.sq_oper.specs.Streams.{things, at_zero}
@@ -15,7 +15,7 @@ use Rattle.sq_join.specs.Elements.{elements_of}
 
 -- what a Join that holds these will still give: the pairs of those that come with those before them
 abbrev pub join_rest : ℕ → Expr → List Tuple → List Tuple → List Entry → ℕ → List Thing
-join_rest size on left right future q = at_zero q (things (pairs_from size on (held_of left right) (elements_of future)))
+join_rest size on left right future q = at_zero q (things (pairs_from size on (held_on_sides left right) (elements_of future)))
 
 -- how many values a tuple of a side may have: a left one as many as there are left fields, a right one what is left of 16
 abbrev pub most_at : Columns → ℕ → ℕ

@@ -6,7 +6,7 @@ ghost use Rattle.sq_value.specs.declared.Value.{Value as V};
 ghost use Rattle.sq_value.specs.Values.{field};
 ghost use Rattle.sq_expr.specs.Expressions.{holds_of, pair_of};
 ghost use Rattle.sq_lists.specs.Sides.{pairs_with};
-ghost use Rattle.sq_join.specs.Equal.{Equates};
+ghost use Rattle.sq_join.specs.EqualFields.{Equates};
 
 use sq_expr::{Typed, equated_fields};
 use sq_lists::passing_pair;
@@ -25,7 +25,7 @@ pub(crate) struct Condition {
 impl Model for Condition {
     ghost use Rattle.std.specs.Prelude.{IfSome};
     ghost use Rattle.sq_expr.specs.Trees.{Checked, checked_code};
-    ghost use Rattle.sq_join.specs.Equal.{Equates};
+    ghost use Rattle.sq_join.specs.EqualFields.{Equates};
 
     ghost Value = { Checked };
 

@@ -17,7 +17,7 @@ use crate::sides::take;
 use sq_expr::Typed;
 use sq_item::Item;
 use sq_lists::Sides;
-use sq_oper::{Decision, Operator, Outlet, Moment, Tally};
+use sq_oper::{Decision, Moment, Operator, Outlet, Tally};
 use sq_outside::Steps;
 use sq_road::Levels;
 use sq_value::{Tuple, Value};

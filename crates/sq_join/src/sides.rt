@@ -4,7 +4,7 @@ ghost use Rattle.std.specs.Prelude.{◌≡◌, ℕ, ◌++◌, ◌∷◌, [], OnO
 ghost use Rattle.std.specs.List.{AllByRecursion};
 ghost use Rattle.sq_words.specs.Lists.{IsPrefixOf};
 ghost use Rattle.sq_lists.specs.Sides.{against, left_with, pair_at, pairs_with, right_with};
-ghost use Rattle.sq_oper.specs.Given.{given, ItemsSound};
+ghost use Rattle.sq_oper.specs.Outflow.{given, ItemsSound};
 ghost use Rattle.sq_oper.specs.Streams.{IsSoundTuple, things, at_zero};
 
 use crate::condition::Condition;

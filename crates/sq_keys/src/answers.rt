@@ -1,7 +1,7 @@
 // What is answered to words, by the bytes of the network file.
 ghost use Rattle.std.specs.Prelude.{◌≡◌, ◌≢◌, ◌<◌, ◌^◌, Ok, IfErr, IfOk, length};
 ghost use Rattle.sq_net.specs.declared.NetErr.TheVariants as net;
-ghost use Rattle.sq_net.specs.Sound.{IsSound};
+ghost use Rattle.sq_net.specs.SoundNetworks.{IsSound};
 ghost use Rattle.sq_keys.specs.Answers.{IsRefused, Says, reply_of, by_network};
 
 use crate::keys::cuts_asked;

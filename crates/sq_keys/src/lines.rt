@@ -1,7 +1,7 @@
 // What is written of each output.
 ghost use Rattle.std.specs.Prelude.{◌≡◌, ◌<◌, ◌^◌, ◌++◌, IfOk, OnOk, Some, not, length, slice_index_or, []};
 ghost use Rattle.std.specs.List.{flat_map};
-ghost use Rattle.sq_net.specs.Sound.{IsSound};
+ghost use Rattle.sq_net.specs.SoundNetworks.{IsSound};
 ghost use Rattle.sq_shard.specs.Keys.{cut_at, is_known_cut};
 ghost use Rattle.sq_keys.specs.Lines.{box_text, column_text, cut_text, is_lost, keys_text, kind_text, loss_line, names_at, keys_line, output_lines, some_lost};
 

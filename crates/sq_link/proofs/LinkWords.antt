@@ -1,7 +1,7 @@
 -- What a table of nodes stands for: words of the proofs alone.
 use Rattle.std.specs.Prelude.{List, None, Option, Some, slice_set, ℕ}
 use Rattle.sq_link.specs.declared.table.Node.{Node}
-use Rattle.sq_link.specs.Linked.{loose_node, with_after, with_before}
+use Rattle.sq_link.specs.NodeTables.{loose_node, with_after, with_before}
 
 -- the nodes after n was put behind the last of a list
 abbrev pub node_pushed : List Node → Option ℕ → ℕ → ℕ → List Node

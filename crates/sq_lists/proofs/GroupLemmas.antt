@@ -5,7 +5,7 @@ use Rattle.std.specs.Cmp.{IsTotalOrder}
 use Rattle.std.specs.List.{AllByRecursion, filter}
 use Rattle.sq_words.specs.Lists.{add_to, ascending}
 use Rattle.sq_aggfn.specs.Folds.{joined_from}
-use Rattle.sq_aggfn.specs.Keyed.{added, keyed_from}
+use Rattle.sq_aggfn.specs.KeyedStates.{added, keyed_from}
 use Rattle.sq_words.proofs.Alls.{all_weaker}
 
 module _ {G : Type 0} (cmp : G → G → Ordering) (order : IsTotalOrder cmp) (same : (x y : G) → cmp x y ≡ Equal → x ≡ y) where

@@ -14,7 +14,7 @@ use Rattle.sq_expr.specs.Trees.{Expr}
 use Rattle.sq_expr.specs.Expressions.{holds_of}
 use Rattle.sq_lists.specs.Merge.{PortTuple, tuple_earlier, merge_tuples}
 use Rattle.sq_lists.specs.Pairs.{meets, paired, pairs_of, pairs_from}
-use Rattle.sq_lists.specs.Sides.{on_side, held_of, recent, pair_at, pairs_with, against, left_with, right_with, AllNear}
+use Rattle.sq_lists.specs.Sides.{on_side, held_on_sides, recent, pair_at, pairs_with, against, left_with, right_with, AllNear}
 use Rattle.sq_lists.specs.WindowParts.{TimesNotFalling}
 use Rattle.sq_lists.proofs.WindowLemmas.{lower}
 use Rattle.sq_words.proofs.Alls.{all_append, all_weaker, all_push}
@@ -85,10 +85,10 @@ module _ (size : ℕ) (on : Expr) where
       pairs-append xs (e ∷ []) now ∙ ap (λ l. l ++ pairs_of size on (e ∷ []) now) (alike now is later) ∙ sym (pairs-append ys (e ∷ []) now)))
 
   -- an entry against what is held: only the other side counts
-  held-left : (x : Tuple) (left right : List Tuple) → pairs_of size on (held_of left right) (0, x) ≡ pairs_of size on (on_side 1 right) (0, x)
+  held-left : (x : Tuple) (left right : List Tuple) → pairs_of size on (held_on_sides left right) (0, x) ≡ pairs_of size on (on_side 1 right) (0, x)
   held-left x left right = pairs-append (on_side 0 left) (on_side 1 right) (0, x) ∙ ap (λ l. l ++ pairs_of size on (on_side 1 right) (0, x)) (own-side 0 x left)
 
-  held-right : (x : Tuple) (left right : List Tuple) → pairs_of size on (held_of left right) (1, x) ≡ pairs_of size on (on_side 0 left) (1, x)
+  held-right : (x : Tuple) (left right : List Tuple) → pairs_of size on (held_on_sides left right) (1, x) ≡ pairs_of size on (on_side 0 left) (1, x)
   held-right x left right =
       pairs-append (on_side 0 left) (on_side 1 right) (1, x)
       ∙ ap (λ l. pairs_of size on (on_side 0 left) (1, x) ++ l) (own-side 1 x right)
@@ -100,23 +100,23 @@ module _ (size : ℕ) (on : Expr) where
   -- what is held once an entry came is as good as all before it and it
   module _ (x : Tuple) (left right : List Tuple) where
     abbrev then-held : ℕ → List PortTuple
-    then-held side = held_of (left_with side x (recent size x.time left)) (right_with side x (recent size x.time right))
+    then-held side = held_on_sides (left_with side x (recent size x.time left)) (right_with side x (recent size x.time right))
 
-    then-alike : (side : ℕ) → (side ≡ 0) ⊎ (side ≡ 1) → Alike x.time (held_of left right ++ (side, x) ∷ []) (then-held side)
+    then-alike : (side : ℕ) → (side ≡ 0) ⊎ (side ≡ 1) → Alike x.time (held_on_sides left right ++ (side, x) ∷ []) (then-held side)
     then-alike side is now (inl at) le = as-left side is now.0 now.1 at le
       where
         as-left : (side : ℕ) → (side ≡ 0) ⊎ (side ≡ 1) → (p : ℕ) (y : Tuple) → p ≡ 0 → x.time ≤ y.time
-            → pairs_of size on (held_of left right ++ (side, x) ∷ []) (p, y) ≡ pairs_of size on (then-held side) (p, y)
+            → pairs_of size on (held_on_sides left right ++ (side, x) ∷ []) (p, y) ≡ pairs_of size on (then-held side) (p, y)
         as-left side (inl is) p y at le =
             rw (is, at)
-            (pairs-append (held_of left right) ((0, x) ∷ []) (0, y)
-            ∙ append-nil (pairs_of size on (held_of left right) (0, y))
+            (pairs-append (held_on_sides left right) ((0, x) ∷ []) (0, y)
+            ∙ append-nil (pairs_of size on (held_on_sides left right) (0, y))
             ∙ held-left y left right
             ∙ sym (recent-pairs 1 (0, y) x.time right le)
             ∙ sym (held-left y (recent size x.time left ++ x ∷ []) (recent size x.time right)))
         as-left side (inr is) p y at le =
             rw (is, at)
-            (pairs-append (held_of left right) ((1, x) ∷ []) (0, y)
+            (pairs-append (held_on_sides left right) ((1, x) ∷ []) (0, y)
             ∙ ap (λ l. l ++ pairs_of size on ((1, x) ∷ []) (0, y)) (held-left y left right ∙ sym (recent-pairs 1 (0, y) x.time right le))
             ∙ sym (pairs-append (on_side 1 (recent size x.time right)) ((1, x) ∷ []) (0, y))
             ∙ ap (λ l. pairs_of size on l (0, y)) (sym (one-more 1 (recent size x.time right) x))
@@ -124,18 +124,18 @@ module _ (size : ℕ) (on : Expr) where
     then-alike side is now (inr at) le = as-right side is now.0 now.1 at le
       where
         as-right : (side : ℕ) → (side ≡ 0) ⊎ (side ≡ 1) → (p : ℕ) (y : Tuple) → p ≡ 1 → x.time ≤ y.time
-            → pairs_of size on (held_of left right ++ (side, x) ∷ []) (p, y) ≡ pairs_of size on (then-held side) (p, y)
+            → pairs_of size on (held_on_sides left right ++ (side, x) ∷ []) (p, y) ≡ pairs_of size on (then-held side) (p, y)
         as-right side (inl is) p y at le =
             rw (is, at)
-            (pairs-append (held_of left right) ((0, x) ∷ []) (1, y)
+            (pairs-append (held_on_sides left right) ((0, x) ∷ []) (1, y)
             ∙ ap (λ l. l ++ pairs_of size on ((0, x) ∷ []) (1, y)) (held-right y left right ∙ sym (recent-pairs 0 (1, y) x.time left le))
             ∙ sym (pairs-append (on_side 0 (recent size x.time left)) ((0, x) ∷ []) (1, y))
             ∙ ap (λ l. pairs_of size on l (1, y)) (sym (one-more 0 (recent size x.time left) x))
             ∙ sym (held-right y (recent size x.time left ++ x ∷ []) (recent size x.time right)))
         as-right side (inr is) p y at le =
             rw (is, at)
-            (pairs-append (held_of left right) ((1, x) ∷ []) (1, y)
-            ∙ append-nil (pairs_of size on (held_of left right) (1, y))
+            (pairs-append (held_on_sides left right) ((1, x) ∷ []) (1, y)
+            ∙ append-nil (pairs_of size on (held_on_sides left right) (1, y))
             ∙ held-right y left right
             ∙ sym (recent-pairs 0 (1, y) x.time left le)
             ∙ sym (held-right y (recent size x.time left) (recent size x.time right ++ x ∷ [])))
@@ -143,7 +143,7 @@ module _ (size : ℕ) (on : Expr) where
     -- what is given for an entry
     pub gives-now : (side : ℕ) → (side ≡ 0) ⊎ (side ≡ 1) → AllByRecursion (λ y. y.time ≤ x.time) (recent size x.time left) → AllNear size x.time (recent size x.time left)
         → AllByRecursion (λ y. y.time ≤ x.time) (recent size x.time right) → AllNear size x.time (recent size x.time right)
-        → pairs_of size on (held_of left right) (side, x) ≡ pairs_with on side x (against side (recent size x.time left) (recent size x.time right))
+        → pairs_of size on (held_on_sides left right) (side, x) ≡ pairs_with on side x (against side (recent size x.time left) (recent size x.time right))
     gives-now side (inl is) early-l near-l early-r near-r =
         rw is
         (held-left x left right
@@ -157,8 +157,8 @@ module _ (size : ℕ) (on : Expr) where
 
     -- what is given later
     pub gives-later : (side : ℕ) → (side ≡ 0) ⊎ (side ≡ 1) → (es : List PortTuple) → Since x.time es → TwoSides es
-        → pairs_from size on (held_of left right ++ (side, x) ∷ []) es ≡ pairs_from size on (then-held side) es
-    gives-later side is es late two = alike-from es x.time (held_of left right ++ (side, x) ∷ []) (then-held side) late two (then-alike side is)
+        → pairs_from size on (held_on_sides left right ++ (side, x) ∷ []) es ≡ pairs_from size on (then-held side) es
+    gives-later side is es late two = alike-from es x.time (held_on_sides left right ++ (side, x) ∷ []) (then-held side) late two (then-alike side is)
 
 -- ---- a side
 
@@ -227,9 +227,9 @@ module _ (size : ℕ) (on : Expr) (side : ℕ) (x : Tuple) (es : List PortTuple)
 
   -- what comes first, and then the others with what is held
   pub next_entry : (left right : List Tuple) → TwoSides es → Held left ((side, x) ∷ es) → Held right ((side, x) ∷ es)
-      → pairs_from size on (held_of left right) ((side, x) ∷ es)
+      → pairs_from size on (held_on_sides left right) ((side, x) ∷ es)
       ≡ pairs_with on side x (against side (recent size x.time left) (recent size x.time right))
-      ++ pairs_from size on (held_of (left_with side x (recent size x.time left)) (right_with side x (recent size x.time right))) es
+      ++ pairs_from size on (held_on_sides (left_with side x (recent size x.time left)) (right_with side x (recent size x.time right))) es
   next_entry left right two l r =
       ap₂ (λ a b. a ++ b)
       (gives-now size on x left right side is (at-now left l) (near-recent size x.time left l.rises) (at-now right r) (near-recent size x.time right r.rises))

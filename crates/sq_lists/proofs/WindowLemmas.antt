@@ -15,7 +15,7 @@ use Rattle.sq_aggfn.specs.Windows.{IsWindow, start_of, started}
 use Rattle.sq_aggfn.proofs.StartLemmas.{starts_before, starts_after, started_more}
 use Rattle.sq_aggfn.specs.Folds.{joined_from}
 use Rattle.sq_aggfn.specs.Groups.{group_of}
-use Rattle.sq_aggfn.specs.Keyed.{keyed_from}
+use Rattle.sq_aggfn.specs.KeyedStates.{keyed_from}
 use Rattle.sq_aggfn.specs.declared.WindowSpec.{WindowSpec}
 use Rattle.sq_lists.specs.Windows.{in_group, groups_of, in_window, window_results, aggregate_of}
 use Rattle.sq_lists.proofs.GroupLemmas.{keyed-list}

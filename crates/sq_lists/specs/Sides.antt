@@ -11,8 +11,8 @@ abbrev pub on_side : ℕ → List Tuple → List PortTuple
 on_side side xs = map (λ x. (side, x)) xs
 
 -- what is held, as entries that came earlier
-abbrev pub held_of : List Tuple → List Tuple → List PortTuple
-held_of left right = on_side 0 left ++ on_side 1 right
+abbrev pub held_on_sides : List Tuple → List Tuple → List PortTuple
+held_on_sides left right = on_side 0 left ++ on_side 1 right
 
 -- those behind the first ones that are more than the size before a time
 abbrev pub recent : ℕ → ℕ → List Tuple → List Tuple

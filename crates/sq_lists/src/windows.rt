@@ -3,7 +3,7 @@
 ghost use Rattle.std.specs.Prelude.{◌≡◌, ℕ, ◌+◌, ◌-◌, ◌^◌, ◌<◌, ◌≤◌, ◌++◌, [], length, IfOk, OnOk};
 ghost use Rattle.sq_value.specs.Values.{IsStream, fields_cmp};
 ghost use Rattle.sq_aggfn.specs.Groups.{group_of};
-ghost use Rattle.sq_aggfn.specs.Keyed.{keyed_from, AllMade};
+ghost use Rattle.sq_aggfn.specs.KeyedStates.{keyed_from, AllMade};
 ghost use Rattle.sq_aggfn.specs.Windows.{IsWindow, start_of};
 ghost use Rattle.sq_lists.specs.Windows.{aggregate_of, aggregate_list_of};
 ghost use Rattle.sq_lists.specs.WindowParts.{leading, told_results, numbered_results, TimesNotFalling};

@@ -2,7 +2,7 @@
 use Rattle.std.specs.List.{AllByRecursion}
 use Rattle.std.specs.Prelude.{List, ℕ, [], ◌+◌, ◌≤◌, ◌<◌, ◌∷◌}
 use Rattle.sq_place.specs.Ranks.{Somewhere}
-use Rattle.sq_tagged.specs.Tagged.{Tagged, Timed, below_bounds, lessened_by}
+use Rattle.sq_tagged.specs.TaggedStreams.{Tagged, Timed, below_bounds, lessened_by}
 use Rattle.sq_value.specs.declared.Tuple.{Tuple}
 
 -- at a distance from the drop: its marks with bounds that much less, and of a full list the tuples that are below them

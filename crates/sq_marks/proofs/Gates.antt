@@ -5,7 +5,7 @@ use Rattle.std.proofs.Math.Nat.{div-mul-le_self}
 use Rattle.std.specs.List.{filter, list_any, AllByRecursion}
 use Rattle.sq_value.specs.declared.Tuple.{Tuple}
 use Rattle.sq_item.specs.declared.Mark.TheVariants as mark
-use Rattle.sq_tagged.specs.Tagged.{bound_at, lessened, lessened_by}
+use Rattle.sq_tagged.specs.TaggedStreams.{bound_at, lessened, lessened_by}
 use Rattle.sq_tagged.specs.Boxes.{is_open, opens, gate_of}
 use Rattle.sq_place.specs.Ranks.{Somewhere}
 use Rattle.sq_marks.proofs.Lists.{filter-same}

@@ -6,7 +6,7 @@ use Rattle.std.specs.List.{filter, range_with_len}
 use Rattle.sq_value.specs.declared.Tuple.{Tuple}
 use Rattle.sq_words.specs.Lists.{max_by, numbers_to, contains_number}
 use Rattle.sq_item.specs.declared.Mark.TheVariants as mark
-use Rattle.sq_tagged.specs.Tagged.{Timed, bound_in, bound_at, lessened_by, below_bounds}
+use Rattle.sq_tagged.specs.TaggedStreams.{Timed, bound_in, bound_at, lessened_by, below_bounds}
 use Rattle.sq_tagged.specs.Boxes.{mark_of}
 use Rattle.sq_place.specs.Ranks.{Somewhere}
 use Rattle.sq_marks.proofs.Lists.{filter-same}

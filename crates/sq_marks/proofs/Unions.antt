@@ -5,7 +5,7 @@ use Rattle.std.specs.List.{filter, flat_map, AllByRecursion}
 use Rattle.sq_value.specs.declared.Tuple.{Tuple}
 use Rattle.sq_words.specs.Lists.{insert_by, sort_by, ports_from}
 use Rattle.sq_lists.specs.Merge.{union}
-use Rattle.sq_tagged.specs.Tagged.{Timed, Tagged, same_time, first_marks, lessened_by, bound_at, below_bounds}
+use Rattle.sq_tagged.specs.TaggedStreams.{Timed, Tagged, same_time, first_marks, lessened_by, bound_at, below_bounds}
 use Rattle.sq_place.specs.Ranks.{Somewhere}
 use Rattle.sq_marks.proofs.Lists.{filter-swap, filter-under, filter-flat_map, flat_map-map}
 use Rattle.sq_marks.proofs.Bounds.{bound-less, lessened-twice}

@@ -11,8 +11,8 @@ use Rattle.sq_graph.specs.declared.Wiring.{Wiring}
 use Rattle.sq_graph.specs.Wires.{Arc, Taker, Input, Output, arcs_of, producers_of, producer_of}
 use Rattle.sq_graph.specs.Order.{is_there}
 use Rattle.sq_net.specs.declared.Network.{Network}
-use Rattle.sq_model.specs.Full.{full_arc, full_on, full_stream, full_streams}
-use Rattle.sq_model.specs.Placed.{IsPlaced}
+use Rattle.sq_model.specs.FullStreams.{full_arc, full_on, full_stream, full_streams}
+use Rattle.sq_model.specs.PlacedNetworks.{IsPlaced}
 use Rattle.sq_model.proofs.FullLemmas.{full_count, full_listed}
 use Rattle.sq_words.specs.Lists.{nth}
 

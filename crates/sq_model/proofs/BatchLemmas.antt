@@ -12,7 +12,7 @@ use Rattle.sq_place.specs.Points.{until_of}
 use Rattle.sq_value.specs.declared.Tuple.{Tuple}
 use Rattle.sq_words.specs.Lists.{numbers_to, max_by}
 use Rattle.sq_model.specs.Shedding.{last_of, is_touched}
-use Rattle.sq_model.specs.Given.{AreTicks, drops_at, needed_by, needs_at}
+use Rattle.sq_model.specs.GivenLevels.{AreTicks, drops_at, needed_by, needs_at}
 use Rattle.sq_words.proofs.Ranges.{range_more}
 use Rattle.sq_words.proofs.Numbers.{times_up}
 

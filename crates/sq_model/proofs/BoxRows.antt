@@ -22,10 +22,10 @@ use Rattle.sq_net.specs.declared.Node.{Node}
 use Rattle.sq_net.specs.declared.Source.{Source}
 use Rattle.sq_net.specs.declared.Output.{Output}
 use Rattle.sq_net.specs.declared.Network.{Network}
-use Rattle.sq_net.specs.Sound.{HasWindow, kind_of_body}
-use Rattle.sq_model.specs.Full.{full_arc}
-use Rattle.sq_model.specs.Fed.{fed_of, late_of}
-use Rattle.sq_model.specs.Placed.{IsPlaced}
+use Rattle.sq_net.specs.SoundNetworks.{HasWindow, kind_of_body}
+use Rattle.sq_model.specs.FullStreams.{full_arc}
+use Rattle.sq_model.specs.FullCounts.{full_fed_of, late_of}
+use Rattle.sq_model.specs.PlacedNetworks.{IsPlaced}
 use Rattle.sq_model.proofs.FedWords.{work_of}
 
 abbrev at : ℕ → ℕ → Tuple
@@ -93,7 +93,7 @@ one_late : map (late_of (sort 1) (lines 8)) (numbers_to 1) ≡ 1 ∷ []
 one_late = refl
 
 -- each tuple is fed, late or not
-sort_fed : map (fed_of (sort 0) (lines 2)) (numbers_to 1) ≡ 3 ∷ []
+sort_fed : map (full_fed_of (sort 0) (lines 2)) (numbers_to 1) ≡ 3 ∷ []
 sort_fed = refl
 
 -- pairs at most 2 ticks apart; arc 2 is the output's
@@ -115,7 +115,7 @@ sides = (at 1 10 ∷ at 4 40 ∷ []) ∷ (at 3 30 ∷ at 6 60 ∷ []) ∷ []
 pairs_shown : full_arc join sides 2 ≡ pair_at 3 10 30 ∷ pair_at 4 40 30 ∷ pair_at 6 40 60 ∷ []
 pairs_shown = refl
 
-join_fed : map (fed_of join sides) (numbers_to 1) ≡ 4 ∷ []
+join_fed : map (full_fed_of join sides) (numbers_to 1) ≡ 4 ∷ []
 join_fed = refl
 
 join_work : work_of join sides ≡ 7
@@ -131,7 +131,7 @@ readings = (at 2 1 ∷ at 5 2 ∷ []) ∷ (at 1 10 ∷ at 3 20 ∷ at 4 30 ∷ [
 sums_near : full_arc resample readings 2 ≡ pair_at 2 1 30 ∷ pair_at 5 2 30 ∷ []
 sums_near = refl
 
-resample_fed : map (fed_of resample readings) (numbers_to 1) ≡ 5 ∷ []
+resample_fed : map (full_fed_of resample readings) (numbers_to 1) ≡ 5 ∷ []
 resample_fed = refl
 
 resample_work : work_of resample readings ≡ 7

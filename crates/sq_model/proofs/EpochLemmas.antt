@@ -5,8 +5,8 @@ use Rattle.std.proofs.lemmas.List.{drop_more}
 use Rattle.std.proofs.lemmas.List.Sums.{count_by-le-length, sum_by-cons}
 use Rattle.sq_value.specs.declared.Tuple.{Tuple}
 use Rattle.sq_plan.specs.Flows.{AreCounts}
-use Rattle.sq_plan.specs.Shown.{is_quiet}
-use Rattle.sq_model.specs.Given.{counted, AreFew}
+use Rattle.sq_plan.specs.PlanRows.{is_quiet}
+use Rattle.sq_model.specs.GivenLevels.{counted, AreFew}
 use Rattle.sq_model.specs.Epochs.{count_in}
 
 pub few_counts : (epoch e : ℕ) (sources : List (List Tuple)) → AreFew sources → AreCounts (counted epoch sources e)

@@ -2,8 +2,8 @@
 use Rattle.std.specs.Prelude.{List, length, ℕ, ◌+◌}
 use Rattle.sq_net.specs.declared.Network.{Network}
 use Rattle.sq_value.specs.declared.Tuple.{Tuple}
-use Rattle.sq_model.specs.Fed.{fed_from}
-use Rattle.sq_model.specs.Full.{full_streams}
+use Rattle.sq_model.specs.FullCounts.{fed_from}
+use Rattle.sq_model.specs.FullStreams.{full_streams}
 use Rattle.sq_words.specs.Lists.{nth, numbers_to}
 use Rattle.std.specs.List.{sum_by}
 

@@ -13,8 +13,8 @@ use Rattle.sq_graph.specs.Order.{can_be_next, is_given, order_of}
 use Rattle.sq_graph.proofs.Following.{order_follows}
 use Rattle.sq_graph.proofs.Reach.{port_is_box}
 use Rattle.sq_net.specs.declared.Network.{Network}
-use Rattle.sq_model.specs.Full.{produced, full_within, full_stream, full_streams}
-use Rattle.sq_model.specs.Placed.{IsPlaced}
+use Rattle.sq_model.specs.FullStreams.{produced, full_within, full_stream, full_streams}
+use Rattle.sq_model.specs.PlacedNetworks.{IsPlaced}
 use Rattle.sq_model.specs.Laws.{FollowsBoxes, AreFull}
 use Rattle.sq_model.proofs.OrderLemmas.{order_counts, parts_around}
 use Rattle.sq_words.specs.Lists.{contains_number, nth}

@@ -17,10 +17,10 @@ use Rattle.sq_net.specs.declared.Body.{Body}
 use Rattle.sq_net.specs.declared.Body.TheVariants.{Filter, Map, Union, BSort, Aggregate, Join, Resample}
 use Rattle.sq_net.specs.declared.Node.{Node}
 use Rattle.sq_net.specs.declared.Network.{Network}
-use Rattle.sq_net.specs.Sound.{IsSound, IsTypedBody, input_columns}
+use Rattle.sq_net.specs.SoundNetworks.{IsSound, IsTypedBody, input_columns}
 use Rattle.sq_net.proofs.StreamLemmas.{boxes_count}
-use Rattle.sq_model.specs.Full.{box_list, produced, full_stream, full_streams}
-use Rattle.sq_model.specs.Fed.{fed_of, late_at, late_by, late_of}
+use Rattle.sq_model.specs.FullStreams.{box_list, produced, full_stream, full_streams}
+use Rattle.sq_model.specs.FullCounts.{full_fed_of, late_at, late_by, late_of}
 use Rattle.sq_model.specs.Laws.{LateAreTheRest}
 use Rattle.sq_model.proofs.NumberLemmas.{producer_at}
 use Rattle.sq_model.proofs.FullLemmas.{full_follows, full_listed}
@@ -123,9 +123,9 @@ late_are_the_rest n sources sound at by slack b there is =
     let given = ap (λ (xs : List Tuple). length xs) gives in
     let few = bsort_few by slack first in
     let sum = first_few stream inputs in
-    let fed : fed_of n sources at ≡ sum_by (λ s. length (stream s)) inputs = same_sum (nth (full_streams n sources)) stream listed inputs in
+    let fed : full_fed_of n sources at ≡ sum_by (λ s. length (stream s)) inputs = same_sum (nth (full_streams n sources)) stream listed inputs in
     let shown = ap (λ (xs : List Tuple). length xs) (listed s) in
-    let late : late_of n sources at ≡ fed_of n sources at - length (nth (full_streams n sources) s) =
-    ap (λ o. late_at o (fed_of n sources at) (length (nth (full_streams n sources) s))) there
-    ∙ ap (λ body. late_by body (fed_of n sources at) (length (nth (full_streams n sources) s))) is in
+    let late : late_of n sources at ≡ full_fed_of n sources at - length (nth (full_streams n sources) s) =
+    ap (λ o. late_at o (full_fed_of n sources at) (length (nth (full_streams n sources) s))) there
+    ∙ ap (λ body. late_by body (full_fed_of n sources at) (length (nth (full_streams n sources) s))) is in
     omega (arith, given, few, sum, fed, shown, late)

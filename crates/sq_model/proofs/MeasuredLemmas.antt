@@ -17,11 +17,11 @@ use Rattle.sq_place.proofs.Multiples.{lcm-all-positive, positive}
 use Rattle.sq_place.proofs.SeenLaws.{advances-small}
 use Rattle.sq_place.proofs.Wires.{outputs-there, range-below}
 use Rattle.sq_net.specs.declared.Network.{Network}
-use Rattle.sq_net.specs.Sound.{IsSound}
+use Rattle.sq_net.specs.SoundNetworks.{IsSound}
 use Rattle.sq_points.specs.Points.{windows_of, points_of}
 use Rattle.sq_points.specs.Limits.{KeepsDropLimits}
 use Rattle.sq_points.proofs.Bounds.{batch_low, small_windows}
-use Rattle.sq_model.specs.Given.{IsMeasured, IsAt}
+use Rattle.sq_model.specs.GivenLevels.{IsMeasured, IsAt}
 use Rattle.sq_model.proofs.Alls.{All-append, All-kept}
 use Rattle.sq_place.proofs.NumberWords.{lcm_of_all}
 use Rattle.sq_words.proofs.Lists.{contains_filter}

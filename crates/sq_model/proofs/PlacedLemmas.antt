@@ -3,10 +3,10 @@ use Rattle.std.proofs.Common.{◌≤◌, length, arith}
 use Rattle.std.proofs.lemmas.List.Elements.{All-from_recursion}
 use Rattle.sq_graph.specs.declared.BoxWires.{BoxWires}
 use Rattle.sq_net.specs.declared.Network.{Network}
-use Rattle.sq_net.specs.Sound.{IsSound}
+use Rattle.sq_net.specs.SoundNetworks.{IsSound}
 use Rattle.sq_net.proofs.StreamLemmas.{boxes_count, boxes_few}
 use Rattle.sq_points.proofs.Bounds.{all_take_few, takes_all, few_streams}
-use Rattle.sq_model.specs.Placed.{IsPlaced}
+use Rattle.sq_model.specs.PlacedNetworks.{IsPlaced}
 
 pub placed_of : (n : Network) → IsSound n → IsPlaced n
 placed_of n sound = record {

@@ -16,8 +16,8 @@ use Rattle.sq_net.specs.declared.Node.{Node}
 use Rattle.sq_net.specs.declared.Source.{Source}
 use Rattle.sq_net.specs.declared.Output.{Output}
 use Rattle.sq_net.specs.declared.Network.{Network}
-use Rattle.sq_model.specs.Full.{full_arc, full_streams}
-use Rattle.sq_model.specs.Fed.{fed_of}
+use Rattle.sq_model.specs.FullStreams.{full_arc, full_streams}
+use Rattle.sq_model.specs.FullCounts.{full_fed_of}
 use Rattle.sq_model.proofs.FedWords.{work_of}
 
 abbrev at : ℕ → ℕ → Tuple
@@ -56,7 +56,7 @@ both = (at 1 10 ∷ at 3 11 ∷ at 3 12 ∷ []) ∷ (at 2 20 ∷ at 3 21 ∷ [])
 union_shown : full_arc network_d both 2 ≡ at 1 10 ∷ at 2 20 ∷ at 3 11 ∷ at 3 12 ∷ at 3 21 ∷ []
 union_shown = refl
 
-union_fed : map (fed_of network_d both) (numbers_to 1) ≡ 5 ∷ []
+union_fed : map (full_fed_of network_d both) (numbers_to 1) ≡ 5 ∷ []
 union_fed = refl
 
 union_work : work_of network_d both ≡ 10
@@ -96,7 +96,7 @@ else_shown : map (full_arc network_else readings) (3 ∷ 4 ∷ []) ≡
     (at 1 5 ∷ at 1 5 ∷ at 2 4 ∷ at 2 10 ∷ at 2 4 ∷ at 3 12 ∷ []) ∷ (at 2 10 ∷ at 3 12 ∷ []) ∷ []
 else_shown = refl
 
-else_fed : map (fed_of network_else readings) (numbers_to 2) ≡ 6 ∷ 4 ∷ []
+else_fed : map (full_fed_of network_else readings) (numbers_to 2) ≡ 6 ∷ 4 ∷ []
 else_fed = refl
 
 else_work : work_of network_else readings ≡ 18

@@ -10,7 +10,7 @@ use Rattle.sq_value.specs.Values.{IsStream}
 use Rattle.sq_graph.specs.Wires.{Arc, arcs_of, output_arc_at}
 use Rattle.sq_place.specs.declared.DropAt.{DropAt}
 use Rattle.sq_place.specs.declared.DropAt.TheVariants as place
-use Rattle.sq_model.specs.Full.{full_on, full_arc, full_streams}
+use Rattle.sq_model.specs.FullStreams.{full_on, full_arc, full_streams}
 use Rattle.sq_model.proofs.FullLemmas.{full_listed}
 use Rattle.sq_model.proofs.StreamLemmas.{stream_at_number}
 use Rattle.sq_road.specs.Levels.{LevelTable}
@@ -19,10 +19,10 @@ use Rattle.sq_place.specs.declared.DropPoint.{DropPoint}
 use Rattle.sq_model.specs.Shedding.{Replay, is_touched, last_of, first_drop, level_of, is_dropped, full_at, touched_batches, record_of, drop_above_arc, drop_above_output, shown, answer_of}
 use Rattle.sq_words.specs.Lists.{max_by}
 use Rattle.sq_place.specs.Points.{until_of}
-use Rattle.sq_model.specs.Kept.{needed_until, distance_of, needed, kept_of}
-use Rattle.sq_model.specs.Given.{needed_by, kept_by, drops_at, record_by, AreTicks, LevelsAre, shown_without}
+use Rattle.sq_model.specs.KeptTuples.{needed_until, distance_of, needed, kept_of}
+use Rattle.sq_model.specs.GivenLevels.{needed_by, kept_by, drops_at, record_by, AreTicks, LevelsAre, shown_without}
 use Rattle.sq_model.specs.declared.known.Known.{Known}
-use Rattle.sq_model.specs.Known.{streams_in, stream_or_none, arc_in, stream_at_place, IsSafe, IsKnown}
+use Rattle.sq_model.specs.KnownStreams.{streams_in, stream_or_none, arc_in, stream_at_place, IsSafe, IsKnown}
 use Rattle.sq_model.proofs.PlacedLemmas.{placed_of}
 use Rattle.sq_model.proofs.BatchLemmas.{last_low, batch_begins, epochs_up}
 use Rattle.sq_words.proofs.Alls.{all_weaker}

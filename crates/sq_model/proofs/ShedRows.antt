@@ -16,11 +16,11 @@ use Rattle.sq_net.specs.declared.Output.{Output}
 use Rattle.sq_net.specs.declared.Source.{Source}
 use Rattle.sq_net.specs.declared.Body.TheVariants as body
 use Rattle.sq_place.specs.Points.{until_of}
-use Rattle.sq_model.specs.Full.{full_arc}
+use Rattle.sq_model.specs.FullStreams.{full_arc}
 use Rattle.sq_points.specs.Points.{points_of}
 use Rattle.sq_model.specs.Shedding.{Replay, record_of, answer_of, level_of, touched_batches}
-use Rattle.sq_model.specs.Kept.{kept_of, fed_of, work_of, turns_of}
-use Rattle.sq_model.specs.Shown.{plans_shown}
+use Rattle.sq_model.specs.KeptTuples.{kept_of, fed_of, work_of, turns_of}
+use Rattle.sq_model.specs.PlanLines.{plans_shown}
 use Rattle.sq_plan.specs.declared.closing.Shown.{Shown}
 
 abbrev at : ℕ → ℕ → Tuple

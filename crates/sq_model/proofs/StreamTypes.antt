@@ -21,15 +21,15 @@ use Rattle.sq_net.specs.declared.Node.{Node}
 use Rattle.sq_net.specs.declared.Source as source
 use Rattle.sq_net.specs.declared.Network.{Network}
 use Rattle.sq_net.specs.Columns.{first_columns, second_columns}
-use Rattle.sq_net.specs.Sound.{IsSound, IsOver, IsTypedBody, input_columns}
+use Rattle.sq_net.specs.SoundNetworks.{IsSound, IsOver, IsTypedBody, input_columns}
 use Rattle.sq_net.specs.Streams.{columns_of_port, columns_given, columns_of_stream}
 use Rattle.sq_net.proofs.StreamLemmas.{stream_typed}
-use Rattle.sq_model.specs.Full.{box_list, produced, full_within}
+use Rattle.sq_model.specs.FullStreams.{box_list, produced, full_within}
 use Rattle.sq_model.proofs.NumberLemmas.{producer_has_number}
 use Rattle.sq_model.proofs.Alls.{time_of, union-sorted}
 use Rattle.sq_model.proofs.Alls.{by_key}
 use Rattle.sq_model.proofs.Alls.{All-kept, All-sorted, All-joined}
-use Rattle.sq_model.specs.Fit.{FitsOption, SourcesFit, StreamsFit}
+use Rattle.sq_model.specs.FittingStreams.{FitsOption, SourcesFit, StreamsFit}
 use Rattle.sq_model.proofs.BoxTypes.{FitsColumns, same-kinds, map-fits, bsort-keeps, aggregate-fits, join-fits, resample-fits, sided}
 use Rattle.sq_model.proofs.PortLow.{port-low}
 use Rattle.sq_model.proofs.FullWords.{box_list_at}

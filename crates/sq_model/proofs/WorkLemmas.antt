@@ -11,11 +11,11 @@ use Rattle.sq_graph.specs.Wires.{Arc, arcs_of, output_arc_at, inputs_at, inputs_
 use Rattle.sq_place.specs.declared.DropPoint.{DropPoint}
 use Rattle.sq_points.specs.Points.{points_of}
 use Rattle.sq_model.specs.Shedding.{Replay, full_at}
-use Rattle.sq_model.specs.Kept.{kept_of, work_of}
+use Rattle.sq_model.specs.KeptTuples.{kept_of, work_of}
 use Rattle.sq_model.proofs.ArcCounts.{arcs_count}
 use Rattle.sq_net.proofs.StreamLemmas.{boxes_count}
 use Rattle.sq_model.specs.declared.known.Known.{Known}
-use Rattle.sq_model.specs.Known.{stream_at_place, IsKnown}
+use Rattle.sq_model.specs.KnownStreams.{stream_at_place, IsKnown}
 use Rattle.sq_model.proofs.ShedLemmas.{place_is}
 use Rattle.sq_words.proofs.Ranges.{range_split}
 

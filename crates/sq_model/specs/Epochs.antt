@@ -2,8 +2,8 @@
 use Rattle.std.specs.Prelude.{◌≡◌, ℕ, ◌/◌, ◌<◌, ◌==◌, true, List}
 use Rattle.std.specs.List.{count_by}
 use Rattle.sq_value.specs.declared.Tuple.{Tuple}
-use Rattle.sq_plan.specs.Shown.{is_quiet}
-use Rattle.sq_model.specs.Given.{counted}
+use Rattle.sq_plan.specs.PlanRows.{is_quiet}
+use Rattle.sq_model.specs.GivenLevels.{counted}
 
 -- how many tuples of a source arrive in an epoch
 abbrev pub count_in : ℕ → ℕ → List Tuple → ℕ

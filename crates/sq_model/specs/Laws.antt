@@ -5,8 +5,8 @@ use Rattle.sq_graph.specs.Wires.{producer_of, stream_at}
 use Rattle.sq_net.specs.declared.Network.{Network}
 use Rattle.sq_net.specs.declared.Node.{Node}
 use Rattle.sq_net.specs.declared.Body.TheVariants.{BSort}
-use Rattle.sq_model.specs.Full.{produced, full_stream, full_streams}
-use Rattle.sq_model.specs.Fed.{fed_of, late_of}
+use Rattle.sq_model.specs.FullStreams.{produced, full_stream, full_streams}
+use Rattle.sq_model.specs.FullCounts.{full_fed_of, late_of}
 use Rattle.sq_words.specs.Lists.{nth}
 
 -- each stream is what its producer gives for the streams that it takes
@@ -23,4 +23,4 @@ pub record AreFull (n : Network) (sources : List (List Tuple)) : Type 0 where
 abbrev pub LateAreTheRest : Network → List (List Tuple) → Type 0
 LateAreTheRest n sources =
     (at by slack : ℕ) (b : Node) → slice_get n.boxes at ≡ Some b → b.body ≡ BSort by slack
-    → length (full_stream n sources (stream_at n.wires at 0)) + late_of n sources at ≡ fed_of n sources at
+    → length (full_stream n sources (stream_at n.wires at 0)) + late_of n sources at ≡ full_fed_of n sources at

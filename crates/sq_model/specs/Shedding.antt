@@ -14,10 +14,10 @@ use Rattle.sq_place.specs.declared.DropPoint.{DropPoint}
 use Rattle.sq_place.specs.Points.{until_of}
 use Rattle.sq_road.specs.Draws.{draw_of}
 use Rattle.sq_plan.specs.Plans.{Entries}
-use Rattle.sq_plan.specs.Shown.{level_for}
+use Rattle.sq_plan.specs.PlanRows.{level_for}
 use Rattle.sq_net.specs.declared.Network.{Network}
 use Rattle.sq_points.specs.Points.{points_of, setting_of}
-use Rattle.sq_model.specs.Full.{full_stream, full_arc}
+use Rattle.sq_model.specs.FullStreams.{full_stream, full_arc}
 
 -- what is replayed: a network, its recorded streams, the capacities and the seed
 pub record Replay : Type 0 where

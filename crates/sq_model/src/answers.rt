@@ -4,13 +4,13 @@ ghost use Rattle.std.specs.List.{All, list_any, sum_by};
 ghost use Rattle.sq_words.specs.Lists.{numbers_to, contains_number};
 ghost use Rattle.sq_value.specs.Values.{IsStream};
 ghost use Rattle.sq_graph.specs.Wires.{output_arc_at};
-ghost use Rattle.sq_net.specs.Sound.{IsSound};
+ghost use Rattle.sq_net.specs.SoundNetworks.{IsSound};
 ghost use Rattle.sq_points.specs.Limits.{KeepsDropLimits};
 ghost use Rattle.sq_points.specs.Points.{points_of};
 ghost use Rattle.sq_model.specs.Shedding.{Replay, first_drop, record_of, answer_of};
-ghost use Rattle.sq_model.specs.Kept.{distance_of, kept_of, work_of};
-ghost use Rattle.sq_model.specs.Given.{AreFew, found_at};
-ghost use Rattle.sq_model.specs.Known.{stream_at_place, IsSafe, IsKnown};
+ghost use Rattle.sq_model.specs.KeptTuples.{distance_of, kept_of, work_of};
+ghost use Rattle.sq_model.specs.GivenLevels.{AreFew, found_at};
+ghost use Rattle.sq_model.specs.KnownStreams.{stream_at_place, IsSafe, IsKnown};
 
 use crate::boxes::push_copies;
 use crate::drops::{dropped_batches, kept_number, shown_tuples};

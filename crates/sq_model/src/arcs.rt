@@ -3,8 +3,8 @@ ghost use Rattle.std.specs.Prelude.{◌≡◌, ◌<◌, map, length, IfOk};
 ghost use Rattle.std.specs.List.{All};
 ghost use Rattle.sq_value.specs.Values.{IsStream};
 ghost use Rattle.sq_graph.specs.Wires.{arcs_of};
-ghost use Rattle.sq_model.specs.Full.{full_arc};
-ghost use Rattle.sq_model.specs.Placed.{IsPlaced};
+ghost use Rattle.sq_model.specs.FullStreams.{full_arc};
+ghost use Rattle.sq_model.specs.PlacedNetworks.{IsPlaced};
 
 use crate::boxes::push_copies;
 use crate::streams::full_streams;

@@ -4,8 +4,8 @@ ghost use Rattle.std.specs.List.{All, flat_map};
 ghost use Rattle.sq_words.specs.Lists.{sort_by, nth};
 ghost use Rattle.sq_value.specs.Values.{IsStream};
 ghost use Rattle.sq_lists.specs.Merge.{union};
-ghost use Rattle.sq_net.specs.Sound.{HasWindow};
-ghost use Rattle.sq_model.specs.Full.{box_list};
+ghost use Rattle.sq_net.specs.SoundNetworks.{HasWindow};
+ghost use Rattle.sq_model.specs.FullStreams.{box_list};
 ghost use Rattle.sq_model.specs.Unions.{tuple_sooner};
 
 use sq_lists::{aggregate_list, bsort_list, filter_list, join_list, map_list, resample_list};

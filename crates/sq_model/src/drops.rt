@@ -2,7 +2,7 @@
 ghost use Rattle.std.specs.Prelude.{◌≡◌, ℕ, ◌&&◌, not, length, nat_lt, ◌+◌, ◌-◌, ◌*◌, ◌/◌, ◌<◌, ◌≤◌, ◌^◌, ◌++◌, ◌∷◌, [], if◌then◌else◌, false, IfOk, OnOk};
 ghost use Rattle.sq_value.specs.Values.{IsStream};
 ghost use Rattle.sq_model.specs.Shedding.{is_touched, last_of};
-ghost use Rattle.sq_model.specs.Given.{drops_at, record_by, needed_by, needs_at, kept_by, shown_without, IsMeasured, AreTicks};
+ghost use Rattle.sq_model.specs.GivenLevels.{drops_at, record_by, needed_by, needs_at, kept_by, shown_without, IsMeasured, AreTicks};
 ghost use Rattle.sq_words.specs.Lists.{contains_number};
 
 use sq_place::DropPoint;

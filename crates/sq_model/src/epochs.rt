@@ -1,8 +1,8 @@
 // The levels of all epochs of recorded streams.
 ghost use Rattle.std.specs.Prelude.{◌≡◌, ◌+◌, ◌/◌, ◌<◌, ◌≤◌, ◌^◌, map, IfOk};
-ghost use Rattle.sq_plan.specs.Shown.{level_for};
+ghost use Rattle.sq_plan.specs.PlanRows.{level_for};
 ghost use Rattle.sq_road.specs.Levels.{AgreesWith};
-ghost use Rattle.sq_model.specs.Given.{counted, AreFew};
+ghost use Rattle.sq_model.specs.GivenLevels.{counted, AreFew};
 ghost use Rattle.sq_model.specs.Epochs.{count_in, NoneBetween, QuietBetween};
 
 use sq_plan::{Planner, close_epochs};

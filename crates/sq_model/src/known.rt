@@ -2,11 +2,11 @@
 ghost use Rattle.std.specs.Prelude.{◌≡◌, ℕ, ◌/◌, ◌<◌, ◌^◌, map, length, IfOk};
 ghost use Rattle.std.specs.List.{All};
 ghost use Rattle.sq_value.specs.Values.{IsStream};
-ghost use Rattle.sq_net.specs.Sound.{IsSound};
+ghost use Rattle.sq_net.specs.SoundNetworks.{IsSound};
 ghost use Rattle.sq_points.specs.Limits.{KeepsDropLimits};
 ghost use Rattle.sq_points.specs.Points.{points_of};
-ghost use Rattle.sq_model.specs.Given.{AreFew, LevelsAre};
-ghost use Rattle.sq_model.specs.Known.{arc_in, stream_at_place, IsSafe, IsKnown};
+ghost use Rattle.sq_model.specs.GivenLevels.{AreFew, LevelsAre};
+ghost use Rattle.sq_model.specs.KnownStreams.{arc_in, stream_at_place, IsSafe, IsKnown};
 
 use crate::arcs::{copies, streams_on_arcs};
 use crate::boxes::stream_in;

@@ -2,10 +2,10 @@
 ghost use Rattle.std.specs.Prelude.{List};
 ghost use Rattle.std.specs.List.{All};
 ghost use Rattle.sq_value.specs.Values.{IsStream};
-ghost use Rattle.sq_net.specs.Sound.{IsSound};
-ghost use Rattle.sq_model.specs.Fit.{SourcesFit, StreamsFit};
-ghost use Rattle.sq_model.specs.Full.{full_streams};
-ghost use Rattle.sq_model.specs.Placed.{IsPlaced};
+ghost use Rattle.sq_net.specs.SoundNetworks.{IsSound};
+ghost use Rattle.sq_model.specs.FittingStreams.{SourcesFit, StreamsFit};
+ghost use Rattle.sq_model.specs.FullStreams.{full_streams};
+ghost use Rattle.sq_model.specs.PlacedNetworks.{IsPlaced};
 ghost use Rattle.sq_model.specs.Laws.{AreFull, LateAreTheRest};
 
 use sq_net::Network;

@@ -2,8 +2,8 @@
 ghost use Rattle.std.specs.Prelude.{◌≡◌, ◌<◌, ◌≤◌, ◌*◌, ◌^◌, map, length, IfOk};
 ghost use Rattle.std.specs.List.{sum_by};
 ghost use Rattle.sq_words.specs.Lists.{numbers_to, nth};
-ghost use Rattle.sq_model.specs.Fed.{fed_from, late_from};
-ghost use Rattle.sq_model.specs.Placed.{IsPlaced};
+ghost use Rattle.sq_model.specs.FullCounts.{fed_from, late_from};
+ghost use Rattle.sq_model.specs.PlacedNetworks.{IsPlaced};
 
 use crate::boxes::stream_in;
 use sq_graph::stream_of;

@@ -4,9 +4,9 @@ ghost use Rattle.std.specs.List.{All};
 ghost use Rattle.sq_value.specs.Values.{IsStream};
 ghost use Rattle.sq_graph.specs.Wires.{producers_of};
 ghost use Rattle.sq_graph.specs.Order.{can_be_next, order_of};
-ghost use Rattle.sq_model.specs.Full.{full_streams};
-ghost use Rattle.sq_model.specs.Placed.{IsPlaced};
-ghost use Rattle.sq_model.specs.Standing.{Stands};
+ghost use Rattle.sq_model.specs.FullStreams.{full_streams};
+ghost use Rattle.sq_model.specs.PlacedNetworks.{IsPlaced};
+ghost use Rattle.sq_model.specs.StreamsSoFar.{Stands};
 
 use crate::boxes::box_list;
 use sq_graph::{OrderErr, order, stream_of};

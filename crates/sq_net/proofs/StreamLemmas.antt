@@ -15,7 +15,7 @@ use Rattle.sq_graph.proofs.Producers.{IsProducer, producer_is}
 use Rattle.sq_net.specs.declared.Network.{Network}
 use Rattle.sq_net.specs.declared.Node.{Node}
 use Rattle.sq_net.specs.declared.Source as declared
-use Rattle.sq_net.specs.Sound.{IsSound, is_between, kind_of_body}
+use Rattle.sq_net.specs.SoundNetworks.{IsSound, is_between, kind_of_body}
 use Rattle.sq_net.specs.Streams.{IsTyped, columns_given, columns_of_port}
 use Rattle.sq_words.proofs.Bools.{and_true}
 use Rattle.sq_words.proofs.Lists.{has_item}

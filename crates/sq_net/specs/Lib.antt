@@ -1,4 +1,4 @@
 pub mod Columns
 pub mod Streams
 pub mod Names
-pub mod Sound
+pub mod SoundNetworks

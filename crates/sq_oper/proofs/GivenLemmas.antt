@@ -3,8 +3,8 @@ use Rattle.std.proofs.Common.{◌≡◌, ℕ, ◌≤◌, eqb, cond, List, [], �
 use Rattle.sq_words.specs.Lists.{IsPrefixOf}
 use Rattle.sq_item.specs.declared.Item.{Item}
 use Rattle.sq_item.specs.Things.{Thing, spread}
-use Rattle.sq_item.specs.Sound.{IsSoundItem}
-use Rattle.sq_oper.specs.Given.{given, ItemsSound, ThingsUpTo}
+use Rattle.sq_item.specs.SoundItems.{IsSoundItem}
+use Rattle.sq_oper.specs.Outflow.{given, ItemsSound, ThingsUpTo}
 use Rattle.sq_words.proofs.Prefixes.{prefix_itself}
 
 pub given-append : (q : ℕ) (xs ys : List (ℕ × Item)) → given q (xs ++ ys) ≡ given q xs ++ given q ys

@@ -10,7 +10,7 @@ use Rattle.sq_oper.specs.declared.tally.Moment.{Moment}
 use Rattle.sq_oper.specs.declared.tally.Moment.TheVariants.{Start, At}
 use Rattle.sq_oper.specs.Entries.{Entry, at_port}
 use Rattle.sq_oper.specs.Order.{may_come, time_of, after_all, InOrder}
-use Rattle.sq_oper.specs.Given.{ThingsUpTo}
+use Rattle.sq_oper.specs.Outflow.{ThingsUpTo}
 use Rattle.sq_oper.specs.Streams.{thing_of, things, at_zero, tuples_in, tuple_in}
 
 pub things-append : (xs ys : List Tuple) → things (xs ++ ys) ≡ things xs ++ things ys

@@ -1,5 +1,5 @@
 pub mod Entries
 pub mod Order
-pub mod Given
+pub mod Outflow
 pub mod Machine
 pub mod Streams

@@ -2,7 +2,7 @@
 use Rattle.std.specs.Prelude.{ℕ, ◌^◌, ◌<◌, ◌==◌, if◌then◌else◌, List, [], ◌∷◌, ◌++◌, map, Some, nat_lt, Bool}
 use Rattle.std.specs.List.{filter}
 use Rattle.sq_value.specs.declared.Tuple.{Tuple}
-use Rattle.sq_item.specs.Sound.{IsBody}
+use Rattle.sq_item.specs.SoundItems.{IsBody}
 use Rattle.sq_item.specs.Things.{Content, Sign, Body, Thing}
 use Rattle.sq_oper.specs.Entries.{Entry}
 use Rattle.sq_value.specs.declared.Value.{Value}

@@ -3,16 +3,16 @@
 ghost use Rattle.std.specs.Prelude.{◌≡◌, ℕ, ◌+◌, ◌-◌, ◌^◌, ◌/◌, ◌<◌, ◌++◌, Bool, true, false, List, [], is_some, OnOk, OnErr, IsTrue, if◌then◌else◌};
 ghost use Rattle.sq_value.specs.declared.Value.{Value};
 ghost use Rattle.sq_words.specs.Lists.{IsPrefixOf};
-ghost use Rattle.sq_item.specs.Sound.{IsSoundItem};
+ghost use Rattle.sq_item.specs.SoundItems.{IsSoundItem};
 ghost use Rattle.sq_item.specs.Things.{Thing};
 ghost use Rattle.sq_road.specs.Levels.{AgreesWith};
 ghost use Rattle.sq_oper.specs.declared.outs.Decision.{Decision};
 ghost use Rattle.sq_oper.specs.declared.tally.Moment.{Moment};
 ghost use Rattle.sq_oper.specs.Entries.{Entry, entries};
-ghost use Rattle.sq_oper.specs.Given.{given, ItemsSound, ThingsUpTo};
+ghost use Rattle.sq_oper.specs.Outflow.{given, ItemsSound, ThingsUpTo};
 ghost use Rattle.sq_oper.specs.Order.{IsFuture, after_all};
 
-use crate::{Decision, Outlet, Moment};
+use crate::{Decision, Moment, Outlet};
 use sq_item::Item;
 use sq_outside::Steps;
 use sq_road::Levels;

@@ -4,7 +4,7 @@ use Rattle.std.proofs.Math.ListN.{set}
 use Rattle.std.specs.List.{flat_map}
 use Rattle.std.proofs.lemmas.List.{append-nil}
 use Rattle.sq_item.specs.declared.Item.{Item}
-use Rattle.sq_link.specs.Chained.{StandsIn, Apart, head_or}
+use Rattle.sq_link.specs.ChainLists.{StandsIn, Apart, head_or}
 use Rattle.sq_paged.specs.Faces.{last_node, count_along, kept_at, no_page}
 use Rattle.sq_paged.specs.declared.store.Kept.{Kept}
 

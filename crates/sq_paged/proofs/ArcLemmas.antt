@@ -3,10 +3,10 @@ use Rattle.std.proofs.Common.{◌≡◌, ◌≢◌, ℕ, ◌+◌, ◌<◌, ◌�
 use Rattle.std.proofs.Math.ListN.{set, length-set}
 use Rattle.std.specs.Prelude.{drop}
 use Rattle.sq_item.specs.declared.Item.{Item}
-use Rattle.sq_link.specs.Chained.{Chained, list_at, StandsIn, Apart}
+use Rattle.sq_link.specs.ChainLists.{Chained, list_at, StandsIn, Apart}
 use Rattle.sq_outside.specs.Disks.{Pages}
 use Rattle.sq_pool.specs.Pools.{is_held}
-use Rattle.sq_paged.specs.Kept.{items_kept, Spares}
+use Rattle.sq_paged.specs.KeptPages.{items_kept, Spares}
 use Rattle.sq_paged.specs.Faces.{nodes_on, items_along, IsKeptPage, PagedTogether, kept_at, count_along, last_node}
 use Rattle.sq_paged.specs.Steps.{AppendsAt, TakesAt, StartsAt, DropsAt, AddsItem, Removes}
 use Rattle.sq_paged.specs.declared.store.Kept.{Kept}

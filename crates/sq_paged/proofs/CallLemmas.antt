@@ -2,9 +2,9 @@
 use Rattle.std.proofs.Common.{◌≡◌, ℕ, ◌<◌, true, false, List, [], ◌∷◌, Option, Some, None, length, refl, sym, ap, subst, ◌∙◌, inl, arith, get_or, get_or-set_same}
 use Rattle.std.specs.Prelude.{slice_get, IfSome, IfOk, Result, Ok, Err, is_some}
 use Rattle.sq_item.specs.declared.Item.{Item}
-use Rattle.sq_link.specs.Chained.{Chained, StandsIn, head_or, list_at}
+use Rattle.sq_link.specs.ChainLists.{Chained, StandsIn, head_or, list_at}
 use Rattle.sq_outside.specs.Disks.{DiskLog, Pages}
-use Rattle.sq_paged.specs.Kept.{IsCause, IsTold}
+use Rattle.sq_paged.specs.KeptPages.{IsCause, IsTold}
 use Rattle.sq_paged.specs.Faces.{paged_face_at, nodes_on, kept_at, count_along, is_first, last_at, last_node, PagedTogether, IsPagedRefusal, SameTables}
 use Rattle.sq_paged.specs.Steps.{TakesAt}
 use Rattle.sq_paged.specs.declared.Lane.{Lane}

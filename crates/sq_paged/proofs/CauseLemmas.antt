@@ -6,7 +6,7 @@ use Rattle.sq_pool.specs.Errors.{IsGarbling, ComesBack, IsWholePage}
 use Rattle.sq_pool.specs.Pools.{Pooled, bytes_in}
 use Rattle.sq_pool.specs.declared.pool.PoolErr.{PoolErr}
 use Rattle.sq_pool.specs.declared.pool.PoolErr.TheVariants as pool
-use Rattle.sq_paged.specs.Kept.{FitsKept, IsCause, IsMisfit, IsTold, NoMisfit, of_pool}
+use Rattle.sq_paged.specs.KeptPages.{FitsKept, IsCause, IsMisfit, IsTold, NoMisfit, of_pool}
 use Rattle.sq_paged.specs.declared.store.Kept.{Kept}
 use Rattle.sq_paged.specs.declared.store.QueueErr.{QueueErr}
 use Rattle.sq_paged.specs.declared.store.QueueErr.TheVariants as error

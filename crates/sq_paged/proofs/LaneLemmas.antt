@@ -6,12 +6,12 @@ use Rattle.std.proofs.lemmas.List.{length-append}
 use Rattle.std.proofs.lemmas.Option.{slice_get_read}
 use Rattle.sq_item.specs.declared.Item.{Item}
 use Rattle.sq_link.proofs.ListLemmas.{eqb-other}
-use Rattle.sq_link.specs.Chained.{StandsIn, head_or}
+use Rattle.sq_link.specs.ChainLists.{StandsIn, head_or}
 use Rattle.sq_outside.specs.Disks.{Pages}
 use Rattle.sq_pool.specs.Pools.{Pooled}
 use Rattle.sq_pool.specs.Trust.{Tells}
 use Rattle.sq_paged.specs.Fronts.{Face, IsFaceOf, IsPopped, first_time, first_time_or, pushed}
-use Rattle.sq_paged.specs.Kept.{items_kept}
+use Rattle.sq_paged.specs.KeptPages.{items_kept}
 use Rattle.sq_paged.specs.Faces.{paged_face, paged_face_at, nodes_on, paged_items_on, items_along, IsKeptPage, IsPagedLane, PagedTogether, kept_at, count_along, is_first, last_node, last_at, last_if}
 use Rattle.sq_paged.specs.Steps.{AddsItem, Removes}
 use Rattle.sq_paged.specs.declared.Lane.{Lane}

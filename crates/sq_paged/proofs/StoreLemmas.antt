@@ -5,7 +5,7 @@ use Rattle.std.proofs.lemmas.Bool.{cases_eq}
 use Rattle.std.specs.FinMap as finite
 use Rattle.sq_outside.specs.Disks.{Pages}
 use Rattle.sq_pool.specs.Slots.{without_page, digest_at}
-use Rattle.sq_pool.specs.Pools.{Pooled, bytes_in, is_held, if_none, if_kept, Agree, HasFrame, with_bytes, loaded, Keeps, Makes, Drops, Brings, Touched, CameBack, IsMade, zeros, LetsGo}
+use Rattle.sq_pool.specs.Pools.{Pooled, bytes_in, is_held, if_none, if_kept, Agree, HasFrameLeft, with_bytes, loaded, Keeps, Makes, Drops, Brings, Touched, CameBack, IsMade, zeros, LetsGo}
 use Rattle.sq_pool.specs.Trust.{Tells}
 use Rattle.sq_link.proofs.ListLemmas.{eqb-other}
 use Rattle.sq_pool.proofs.MapLemmas.{bytes-other, bytes-gone, bytes-last, bytes-before, room-out}
@@ -17,13 +17,13 @@ use Rattle.sq_page.proofs.FitLemmas.{items-are-read}
 use Rattle.sq_page.proofs.PageLemmas.{many-room}
 use Rattle.sq_page.proofs.Takes.{some_is}
 use Rattle.sq_page.proofs.WholeTakes.{item_at_end, empty_page}
-use Rattle.sq_paged.specs.Kept.{page_seen, FitsKept, IsFit, Brought, Spares, Appended, Taken, Started, items_kept, items_of_bytes}
+use Rattle.sq_paged.specs.KeptPages.{page_seen, FitsKept, IsFit, Brought, Spares, Appended, Taken, Started, items_kept, items_of_bytes}
 use Rattle.sq_paged.specs.declared.store.Kept.{Kept}
 use Rattle.sq_paged.proofs.KeptWords.{Written}
 use Rattle.sq_words.proofs.Numbers.{eqb_itself}
 
 -- a page that is in a frame after one was spilled was there before
-pub room-known : (c : Pooled) (told : Option Pages) (d : Pooled) (now : Option Pages) → HasFrame c told d now → (q : ℕ) (b : List ℕ) → bytes_in q d.resident ≡ Some b → bytes_in q c.resident ≡ Some b
+pub room-known : (c : Pooled) (told : Option Pages) (d : Pooled) (now : Option Pages) → HasFrameLeft c told d now → (q : ℕ) (b : List ℕ) → bytes_in q d.resident ≡ Some b → bytes_in q c.resident ≡ Some b
 room-known c told d now room q b e =
     elim room.how [
       | inl same ↦ sym (ap (λ (x : Pooled). bytes_in q x.resident) same.0) ∙ e

@@ -3,7 +3,7 @@ use Rattle.std.proofs.Common.{◌≡◌, ℕ, zero, suc, true, false, List, [], 
 use Rattle.std.specs.Prelude.{replicate, slice_get}
 use Rattle.std.proofs.lemmas.List.{length-replicate}
 use Rattle.sq_item.specs.declared.Item.{Item}
-use Rattle.sq_link.specs.Chained.{list_at, StandsIn}
+use Rattle.sq_link.specs.ChainLists.{list_at, StandsIn}
 use Rattle.sq_outside.specs.Disks.{Pages}
 use Rattle.sq_pool.specs.Pools.{is_held, Agree}
 use Rattle.sq_paged.specs.Fronts.{Face, IsFaceOf}

@@ -4,12 +4,12 @@ use Rattle.std.proofs.Math.ListN.{set, length-set}
 use Rattle.std.proofs.lemmas.Bool.{cases_eq}
 use Rattle.std.specs.Prelude.{slice_get}
 use Rattle.sq_item.specs.declared.Item.{Item}
-use Rattle.sq_link.specs.Chained.{Chained, list_at, StandsIn, Apart, IsChained}
+use Rattle.sq_link.specs.ChainLists.{Chained, list_at, StandsIn, Apart, IsChained}
 use Rattle.sq_outside.specs.Disks.{Pages}
 use Rattle.sq_pool.specs.Pools.{is_held}
 use Rattle.sq_pool.specs.Trust.{Tells}
 use Rattle.sq_paged.specs.Fronts.{Face, IsFaceOf}
-use Rattle.sq_paged.specs.Kept.{items_kept, Spares}
+use Rattle.sq_paged.specs.KeptPages.{items_kept, Spares}
 use Rattle.sq_paged.specs.Faces.{paged_face, paged_face_at, nodes_on, paged_items_on, items_along, IsKeptPage, IsPagedLane, IsOfNode, PagedTogether, kept_at}
 use Rattle.sq_paged.specs.Steps.{KeepsOthers}
 use Rattle.sq_paged.specs.declared.Lane.{Lane}

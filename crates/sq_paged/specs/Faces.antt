@@ -3,12 +3,12 @@
 use Rattle.std.specs.Prelude.{◌≡◌, ◌≢◌, ⊤, ℕ, ◌+◌, ◌==◌, ◌≤◌, Bool, true, false, List, [], ◌∷◌, length, Option, Some, None, is_some, slice_get, slice_index_or, if◌then◌else◌}
 use Rattle.std.specs.List.{flat_map}
 use Rattle.sq_item.specs.declared.Item.{Item}
-use Rattle.sq_link.specs.Chained.{list_at, StandsIn}
+use Rattle.sq_link.specs.ChainLists.{list_at, StandsIn}
 use Rattle.sq_outside.specs.Disks.{DiskLog, Pages}
 use Rattle.sq_pool.specs.Trust.{Tells}
 use Rattle.sq_pool.specs.Pools.{Pooled, is_held, Agree}
 use Rattle.sq_paged.specs.Fronts.{Face, first_time, IsFaceOf}
-use Rattle.sq_paged.specs.Kept.{page_seen, IsFit, items_kept, IsCause}
+use Rattle.sq_paged.specs.KeptPages.{page_seen, IsFit, items_kept, IsCause}
 use Rattle.sq_paged.specs.declared.store.Kept.{Kept}
 use Rattle.sq_paged.specs.declared.Lane.{Lane}
 use Rattle.sq_paged.specs.declared.Queues.{Queues}

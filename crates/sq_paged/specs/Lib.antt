@@ -1,4 +1,4 @@
 pub mod Fronts
-pub mod Kept
+pub mod KeptPages
 pub mod Faces
 pub mod Steps

@@ -1,11 +1,11 @@
 -- What the steps of a push and of a pop do to queues, before the lane of the arc is written.
 use Rattle.std.specs.Prelude.{◌≡◌, ◌≢◌, ℕ, ◌+◌, ◌<◌, true, false, List, [], ◌∷◌, length, Option, Some, slice_get, slice_set, drop, ◌++◌}
 use Rattle.sq_item.specs.declared.Item.{Item}
-use Rattle.sq_link.specs.Chained.{list_at, StandsIn}
+use Rattle.sq_link.specs.ChainLists.{list_at, StandsIn}
 use Rattle.sq_outside.specs.Disks.{Pages}
 use Rattle.sq_pool.specs.Pools.{is_held, Agree}
 use Rattle.sq_pool.specs.Trust.{Tells}
-use Rattle.sq_paged.specs.Kept.{Appended, Taken, Started, Spares}
+use Rattle.sq_paged.specs.KeptPages.{Appended, Taken, Started, Spares}
 use Rattle.sq_paged.specs.Faces.{nodes_on, kept_at, paged_items_on, count_along, last_node, IsPagedLane, IsKeptPage, IsOfNode}
 use Rattle.sq_paged.specs.declared.store.Kept.{Kept}
 use Rattle.sq_paged.specs.declared.Queues.{Queues}

@@ -9,17 +9,17 @@
 #![tactic(auto)]
 
 ghost use Rattle.std.specs.Prelude.{◌≡◌, ◌≢◌, ℕ, ◌+◌, ◌-◌, ◌<◌, ◌≤◌, ◌++◌, ◌∷◌, [], true, false, Option, Some, None, length, is_some, option_map, IfOk, OnOk, OnErr, IfErr, IfSome, replicate};
-ghost use Rattle.sq_item.specs.Sound.{IsSoundItem};
+ghost use Rattle.sq_item.specs.SoundItems.{IsSoundItem};
 ghost use Rattle.sq_outside.specs.Disks.{Honest, Pages};
 ghost use Rattle.sq_outside.specs.Faults.{Rose};
 ghost use Rattle.sq_paged.specs.Fronts.{head_by, pushed, IsPopped};
 ghost use Rattle.sq_pool.specs.Trust.{IsLater, Tells, known};
-ghost use Rattle.sq_paged.specs.Kept.{IsTold, IsCause, NoMisfit};
+ghost use Rattle.sq_paged.specs.KeptPages.{IsTold, IsCause, NoMisfit};
 ghost use Rattle.sq_paged.specs.Faces.{paged_face, paged_size, paged_frames, paged_frames as frames_of, paged_resident_of, paged_items_on, PagedTogether, no_items, last_if, IsKeptPage, kept_at, IsPagedRefusal, SameTables};
 ghost use Rattle.sq_paged.specs.Steps.{AppendsAt, TakesAt, StartsAt, DropsAt, AddsItem, Removes};
 ghost use Rattle.sq_page.specs.Pages.{item_bytes};
 ghost use Rattle.sq_pool.specs.Pools.{Agree, is_held};
-ghost use Rattle.sq_link.specs.Chained.{IsLoose, head_or, list_at};
+ghost use Rattle.sq_link.specs.ChainLists.{IsLoose, head_or, list_at};
 
 mod store;
 

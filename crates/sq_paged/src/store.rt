@@ -1,13 +1,13 @@
 // The pages of queues in their pool.
 ghost use Rattle.std.specs.Prelude.{◌≡◌, ℕ, ◌+◌, ◌<◌, ◌≤◌, ◌++◌, ◌∷◌, [], false, List, Some, length, IfOk, OnOk, IfErr, IsTrue, IsSome};
 ghost use Rattle.sq_item.specs.declared.Item.{Item};
-ghost use Rattle.sq_item.specs.Sound.{IsSoundItem};
+ghost use Rattle.sq_item.specs.SoundItems.{IsSoundItem};
 ghost use Rattle.sq_outside.specs.Disks.{Honest};
 ghost use Rattle.sq_outside.specs.Faults.{Rose};
 ghost use Rattle.sq_page.specs.Pages.{item_bytes, IsPageOf, EndsAt, ItemBeginsAt, end_of};
 ghost use Rattle.sq_pool.specs.Pools.{Agree, bytes_in, is_held, with_bytes};
 ghost use Rattle.sq_pool.specs.Trust.{IsLater, Tells, known};
-ghost use Rattle.sq_paged.specs.Kept.{page_seen, FitsKept, IsFit, Brought, Spares, of_pool, IsMisfit, IsCause, IsTold, NoMisfit, Appended, Taken, Started};
+ghost use Rattle.sq_paged.specs.KeptPages.{page_seen, FitsKept, IsFit, Brought, Spares, of_pool, IsMisfit, IsCause, IsTold, NoMisfit, Appended, Taken, Started};
 
 use sq_item::Item;
 use sq_outside::PageDisk;

@@ -6,7 +6,7 @@ use Rattle.std.specs.Prelude.{if◌then◌else◌, nat_lt, nat_le, ◌&&◌, unw
 use Rattle.std.specs.Ordering.{match_ordering}
 use Rattle.std.specs.List.{AllByRecursion, filter, remove}
 use Rattle.sq_aggfn.specs.declared.WindowSpec.{WindowSpec}
-use Rattle.sq_aggfn.specs.Keyed.{added}
+use Rattle.sq_aggfn.specs.KeyedStates.{added}
 use Rattle.sq_pane.specs.Panes.{NumbersRise, total, shift_of, within, joined_within, IsMadeIf}
 use Rattle.sq_pane.specs.Blocks.{joined_onto, AreBlocks, begins_before}
 use Rattle.sq_pane.proofs.LineLemmas.{all-at, greater}

@@ -3,7 +3,7 @@ use Rattle.std.proofs.Common.{◌≡◌, ℕ, zero, suc, ◌+◌, ◌-◌, ◌<�
 use Rattle.std.specs.Ordering.{match_ordering}
 use Rattle.std.specs.Cmp.{nat_cmp_total}
 use Rattle.std.specs.List.{AllByRecursion, filter, insert}
-use Rattle.sq_aggfn.specs.Keyed.{added}
+use Rattle.sq_aggfn.specs.KeyedStates.{added}
 use Rattle.sq_pane.specs.Panes.{NumbersRise, total, AllAreMade}
 use Rattle.sq_pane.proofs.WindowLemmas.{itself}
 

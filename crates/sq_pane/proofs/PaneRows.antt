@@ -10,7 +10,7 @@ use Rattle.sq_value.specs.Values.{fields_cmp}
 use Rattle.sq_aggfn.specs.declared.Func.{Func}
 use Rattle.sq_aggfn.specs.declared.WindowSpec.{WindowSpec}
 use Rattle.sq_aggfn.specs.declared.Func.TheVariants as func
-use Rattle.sq_aggfn.specs.Keyed.{added}
+use Rattle.sq_aggfn.specs.KeyedStates.{added}
 use Rattle.sq_aggfn.specs.Parts.{Kept, nothing_kept, kept_of_one, join_kept, answer_kept}
 use Rattle.sq_pane.specs.Panes.{Key, key_cmp, pane_of, from_pane, window_from}
 

@@ -10,7 +10,7 @@ use Rattle.sq_value.specs.declared.Value.{Value}
 use Rattle.sq_value.specs.Values.{fields_cmp}
 use Rattle.sq_value.proofs.ValueOrder.{fields_order, fields_same}
 use Rattle.sq_aggfn.specs.declared.WindowSpec.{WindowSpec}
-use Rattle.sq_aggfn.specs.Keyed.{added}
+use Rattle.sq_aggfn.specs.KeyedStates.{added}
 use Rattle.sq_aggfn.proofs.KeyedLemmas.{Ascends}
 use Rattle.sq_pane.specs.declared.line.Line.{Line}
 use Rattle.sq_pane.specs.Panes.{Key, key_cmp, from_pane, under_group, within, window_from, joined_within, group_entry, NumbersRise, IsMadeIf, total, AllAreMade}

@@ -1,7 +1,7 @@
 //! The states of panes, by group and pane.
 
 ghost use Rattle.std.specs.Prelude.{◌≡◌, ◌+◌, ◌^◌, ◌<◌, ◌≤◌, ◌++◌, true, [], OnOk, OnErr, IfOk};
-ghost use Rattle.sq_aggfn.specs.Keyed.{added};
+ghost use Rattle.sq_aggfn.specs.KeyedStates.{added};
 ghost use Rattle.sq_pane.specs.Panes.{key_cmp, from_pane, window_from, total, AllAreMade, group_entry};
 ghost use Rattle.sq_pane.specs.Blocks.{IsJoin};
 ghost use Rattle.sq_pane.specs.States.{states_of, HaveBlocks};

@@ -3,7 +3,7 @@
 ghost use Rattle.std.specs.Prelude.{◌≡◌, ℕ, ◌+◌, ◌-◌, ◌^◌, ◌<◌, ◌≤◌, nat_le, true, false, if◌then◌else◌, unwrap_or, [], length, take, drop, get_or, OnOk, OnErr, IfOk};
 ghost use Rattle.std.specs.Ordering.{nat_cmp};
 ghost use Rattle.std.specs.List.{AllByRecursion, filter};
-ghost use Rattle.sq_aggfn.specs.Keyed.{added};
+ghost use Rattle.sq_aggfn.specs.KeyedStates.{added};
 ghost use Rattle.sq_pane.specs.Blocks.{joined_onto, IsJoin, AreBlocks, begins_before};
 ghost use Rattle.sq_pane.specs.Panes.{NumbersRise, Rises-prop, shift_of, within, joined_within, total, AllAreMade, IsMadeIf};
 ghost use Rattle.sq_aggfn.specs.Folds.{number_if};

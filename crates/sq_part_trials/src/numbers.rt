@@ -1,6 +1,6 @@
 // Tuples of one number, expressions over pairs of them, and marks.
 ghost use Rattle.std.specs.Prelude.{◌≡◌, ◌<◌, ◌≤◌, ◌^◌, ◌∷◌, [], None, Some, length, IfOk};
-ghost use Rattle.sq_item.specs.Sound.{IsMark, IsSoundItem};
+ghost use Rattle.sq_item.specs.SoundItems.{IsMark, IsSoundItem};
 ghost use Rattle.sq_lists.specs.Pairs.{left_fields};
 
 use sq_expr::{Typed, check, parse};

@@ -1,5 +1,5 @@
 ghost use Rattle.std.specs.Prelude.{◌<◌, length};
-ghost use Rattle.sq_sched.specs.Ready.{AreActors};
+ghost use Rattle.sq_sched.specs.ReadyLists.{AreActors};
 
 use sq_sched::{Policy, Ready, Rule};
 use std::test::Fail;

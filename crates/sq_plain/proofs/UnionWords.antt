@@ -1,6 +1,6 @@
 -- Union: the first mark of each time, with the bound for the output, and the tuples below the bound so far: words of the proofs alone.
 use Rattle.std.specs.Prelude.{List, Option, Some, ℕ, [], if◌then◌else◌, ◌∷◌}
-use Rattle.sq_tagged.specs.Tagged.{Timed}
+use Rattle.sq_tagged.specs.TaggedStreams.{Timed}
 use Rattle.sq_plain.specs.Unions.{is_last_time}
 
 -- the marks that are the first of their times, after one of the last time

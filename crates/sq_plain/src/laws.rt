@@ -2,7 +2,7 @@
 ghost use Rattle.std.specs.Prelude.{◌≡◌, ℕ, ◌+◌, ◌++◌, false, List, [], length, is_some, if◌then◌else◌};
 ghost use Rattle.sq_item.specs.declared.Item.{Item};
 ghost use Rattle.sq_oper.specs.Entries.{Entry, entries};
-ghost use Rattle.sq_oper.specs.Given.{given};
+ghost use Rattle.sq_oper.specs.Outflow.{given};
 ghost use Rattle.sq_plain.specs.declared.bsort.BSortBox.{BSortBox};
 ghost use Rattle.sq_plain.specs.Sorts.{given_by};
 

@@ -1,7 +1,7 @@
 -- The plans of a run, epoch by epoch, from the counts of each epoch: words of the proofs alone.
 use Rattle.std.specs.Prelude.{List, ℕ, ◌+◌, if◌then◌else◌}
 use Rattle.sq_plan.specs.Plans.{Setting, capacity_at, taken_for}
-use Rattle.sq_plan.specs.Shown.{is_quiet}
+use Rattle.sq_plan.specs.PlanRows.{is_quiet}
 
 -- how many steps the plan of the epoch after one with these counts takes
 abbrev pub taken_after : Setting → ℕ → List ℕ → ℕ

@@ -7,7 +7,7 @@ ghost use Rattle.sq_plan.specs.Rates.{load_of_all};
 ghost use Rattle.sq_plan.specs.Settings.{row_for};
 ghost use Rattle.sq_plan.specs.Plans.{Setting, road_for, taken_for, capacity_at};
 ghost use Rattle.sq_plan.specs.Flows.{AreCounts};
-ghost use Rattle.sq_plan.specs.Shown.{is_quiet, shown_with, shown_from, listed, level_for, shown_after, Ended};
+ghost use Rattle.sq_plan.specs.PlanRows.{is_quiet, shown_with, shown_from, listed, level_for, shown_after, Ended};
 
 use crate::{Planned, Planner};
 use sq_road::Levels;

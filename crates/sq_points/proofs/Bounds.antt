@@ -17,7 +17,7 @@ use Rattle.sq_net.specs.declared.Body.TheVariants.{Filter, Map, Union, BSort, Ag
 use Rattle.sq_net.specs.declared.Node.{Node}
 use Rattle.sq_net.specs.declared.Network.{Network}
 use Rattle.sq_net.proofs.StreamLemmas.{boxes_count}
-use Rattle.sq_net.specs.Sound.{IsSound, IsTypedBody, HasWindow, body_within, input_columns, is_between, network_within, node_within, takes_within}
+use Rattle.sq_net.specs.SoundNetworks.{IsSound, IsTypedBody, HasWindow, body_within, input_columns, is_between, network_within, node_within, takes_within}
 use Rattle.sq_place.specs.Windows.{IsSmallWindow, AreWindows}
 use Rattle.sq_place.proofs.Final.{streams_count}
 use Rattle.sq_place.proofs.Multiples.{lt-or}

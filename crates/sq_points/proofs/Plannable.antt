@@ -26,7 +26,7 @@ use Rattle.sq_plan.specs.Settings.{IsPlannable}
 use Rattle.sq_net.specs.declared.Network.{Network}
 use Rattle.sq_net.specs.declared.Node.{Node}
 use Rattle.sq_net.specs.declared.Output.{Output}
-use Rattle.sq_net.specs.Sound.{IsSound, node_within, output_within}
+use Rattle.sq_net.specs.SoundNetworks.{IsSound, node_within, output_within}
 use Rattle.sq_net.proofs.StreamLemmas.{boxes_count}
 use Rattle.sq_points.specs.Points.{windows_of, points_of, tolls_of, losses_below, setting_of}
 use Rattle.sq_points.specs.Losses.{loss_table, losses_in, most_lost, AreFalls}

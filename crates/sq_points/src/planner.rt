@@ -1,7 +1,7 @@
 // The planner of a network.
 ghost use Rattle.std.specs.Prelude.{◌≡◌, ◌≤◌, ◌<◌, ◌*◌, length, map, IfOk};
 ghost use Rattle.std.specs.List.{All, sum_by};
-ghost use Rattle.sq_net.specs.Sound.{IsSound};
+ghost use Rattle.sq_net.specs.SoundNetworks.{IsSound};
 ghost use Rattle.sq_points.specs.Points.{tolls_of, points_of, losses_below, setting_of};
 ghost use Rattle.sq_points.specs.Losses.{loss_table, loss_in, losses_in, most_lost, AreFalls};
 

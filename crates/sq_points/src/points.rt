@@ -1,6 +1,6 @@
 // The drop points of a network.
 ghost use Rattle.std.specs.Prelude.{◌≡◌, IfOk, IfErr};
-ghost use Rattle.sq_net.specs.Sound.{IsSound};
+ghost use Rattle.sq_net.specs.SoundNetworks.{IsSound};
 ghost use Rattle.sq_place.specs.Refusals.{NamesRefusal};
 ghost use Rattle.sq_points.specs.Points.{window_in, windows_of, points_of};
 ghost use Rattle.sq_points.specs.Limits.{KeepsDropLimits};

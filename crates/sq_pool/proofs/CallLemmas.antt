@@ -3,7 +3,7 @@ use Rattle.std.proofs.Common.{◌≡◌, ℕ, ◌∷◌, ◌++◌, [], List, Opt
 use Rattle.std.proofs.Math.ListN.{set}
 use Rattle.sq_outside.specs.Disks.{Pages}
 use Rattle.sq_pool.specs.Slots.{Slotted, frame_in, without_page, digest_at}
-use Rattle.sq_pool.specs.Pools.{Pooled, frame_at, pooled, bytes_in, with_bytes, loaded, HasFrame, Fetches, Keeps, Makes, Drops, IsLast, zeros, IsNumbered, IsMade, Brings, Touched, LetsGo}
+use Rattle.sq_pool.specs.Pools.{Pooled, frame_at, pooled, bytes_in, with_bytes, loaded, HasFrameLeft, Fetches, Keeps, Makes, Drops, IsLast, zeros, IsNumbered, IsMade, Brings, Touched, LetsGo}
 use Rattle.sq_pool.proofs.PoolLemmas.{bytes-frame, touched, dropped, out-of-frames}
 use Rattle.sq_pool.proofs.MapLemmas.{keeps-touched, drops-resident, drops-spilled, makes, started, room-out, written, lets-resident-go, lets-spilled-go}
 use Rattle.sq_pool.proofs.TrustWords.{pages_without}
@@ -34,7 +34,7 @@ pub opened-bytes : (mid opened : Pooled) (p : ℕ) (old w : List ℕ) → opened
 opened-bytes mid opened p old w e out = ap (λ (x : Pooled). record x { resident = with_bytes p w x.resident }) e ∙ written mid p old w out
 
 pub made-by : (c : Pooled) (told : Option Pages) (start : Pooled) (p : ℕ) (mid : Pooled) (now : Option Pages) (opened : Pooled) (old w : List ℕ) → IsNumbered c start
-    → bytes_in p c.resident ≡ None → digest_at c.kept p ≡ None → HasFrame start told mid now → opened ≡ loaded mid p old → w ≡ zeros
+    → bytes_in p c.resident ≡ None → digest_at c.kept p ≡ None → HasFrameLeft start told mid now → opened ≡ loaded mid p old → w ≡ zeros
     → IsMade c told (record opened { resident = with_bytes p w opened.resident }) now p
 made-by c told start p mid now opened old w numbers none gone room is clear =
     let out = room-out start told mid now p room (started c told start p numbers none gone).out in

@@ -14,7 +14,7 @@ use Rattle.sq_link.proofs.ListLemmas.{eqb-other}
 use Rattle.sq_outside.specs.Disks.{Pages, DiskLog, Honest, put_at, after_get}
 use Rattle.sq_pool.specs.Trust.{known, Tells, pages_with, HasPage}
 use Rattle.sq_pool.specs.Slots.{without_page, digest_at}
-use Rattle.sq_pool.specs.Pools.{Pooled, bytes_in, is_held, page_of, if_none, if_kept, HasDigest, Agree, SameMap, Spills, HasFrame, with_bytes, loaded, Fetches, Keeps, Makes, Drops, zeros, page_added, IsNumbered, LetsGo}
+use Rattle.sq_pool.specs.Pools.{Pooled, bytes_in, is_held, page_of, if_none, if_kept, HasDigest, Agree, SameMap, Spills, HasFrameLeft, with_bytes, loaded, Fetches, Keeps, Makes, Drops, zeros, page_added, IsNumbered, LetsGo}
 use Rattle.sq_pool.proofs.PoolLemmas.{is-some}
 use Rattle.sq_pool.proofs.TrustLemmas.{if-tells, tells-with, tells-without, honest-tells, known-honest, known-pages, known-get, put-came}
 use Rattle.sq_pool.proofs.TrustWords.{pages_without}
@@ -85,7 +85,7 @@ loaded-bytes mid p b none = bytes-last p b mid.resident none
 
 -- ---- room
 
-pub room-out : (c : Pooled) (told : Option Pages) (d : Pooled) (now : Option Pages) (p : ℕ) → HasFrame c told d now → bytes_in p c.resident ≡ None → bytes_in p d.resident ≡ None
+pub room-out : (c : Pooled) (told : Option Pages) (d : Pooled) (now : Option Pages) (p : ℕ) → HasFrameLeft c told d now → bytes_in p c.resident ≡ None → bytes_in p d.resident ≡ None
 room-out c told d now p room none =
     elim room.how [
       | inl same ↦ ap (λ (x : Pooled). bytes_in p x.resident) same.0 ∙ none
@@ -101,7 +101,7 @@ not-spilled : (c : Pooled) (told : Option Pages) (d : Pooled) (now : Option Page
 not-spilled c told d now p s none e =
     let b : Some s.bytes ≡ None = sym (first-bytes c.resident s.page s.bytes s.oldest) ∙ ap (λ (q : ℕ). bytes_in q c.resident) (sym e) ∙ none in cc
 
-pub room-kept : (c : Pooled) (told : Option Pages) (d : Pooled) (now : Option Pages) (p : ℕ) → HasFrame c told d now → bytes_in p c.resident ≡ None → digest_at d.kept p ≡ digest_at c.kept p
+pub room-kept : (c : Pooled) (told : Option Pages) (d : Pooled) (now : Option Pages) (p : ℕ) → HasFrameLeft c told d now → bytes_in p c.resident ≡ None → digest_at d.kept p ≡ digest_at c.kept p
 room-kept c told d now p room none =
     elim room.how [
       | inl same ↦ ap (λ (x : Pooled). digest_at x.kept p) same.0
@@ -122,7 +122,7 @@ get-same : (t : Pages) (p : ℕ) (b : List ℕ) → finite.get (finite.insert t 
 get-same t p b = finite.get-insert nat_cmp_total t p b p ∙ ap (λ (x : Bool). cond x (Some b) (finite.get t p)) ((eq_by_cmp_equiv nat_cmp_total).refl p)
 
 -- where the pages are known once there is room, the disk holds the page with bytes of the kept digest
-pub room-told : (c : Pooled) (told : Option Pages) (d : Pooled) (now : Option Pages) (p : ℕ) (digest : List ℕ) → HasFrame c told d now → Agree c told → bytes_in p c.resident ≡ None → digest_at c.kept p ≡ Some digest
+pub room-told : (c : Pooled) (told : Option Pages) (d : Pooled) (now : Option Pages) (p : ℕ) (digest : List ℕ) → HasFrameLeft c told d now → Agree c told → bytes_in p c.resident ≡ None → digest_at c.kept p ≡ Some digest
     → IfSome now (λ n. HasDigest (finite.get n p) digest)
 room-told c told d now p digest room agree none kept =
     elim room.how [
@@ -173,7 +173,7 @@ stays_known log p bytes = if-tells (known (after_get log p bytes)) (λ pages. kn
     itself None = tt
     itself (Some t) = refl
 
-pub room-tells : (c : Pooled) (told : Option Pages) (d : Pooled) (now : Option Pages) → HasFrame c told d now → Tells now → Tells told
+pub room-tells : (c : Pooled) (told : Option Pages) (d : Pooled) (now : Option Pages) → HasFrameLeft c told d now → Tells now → Tells told
 room-tells c told d now room t =
     elim room.how [ inl same ↦ subst Tells same.1 t | inr s ↦ tells-with told s.page s.bytes (subst Tells s.disk t) ]
 
@@ -230,7 +230,7 @@ keeps-same : (c : Pooled) (told : Option Pages) → Keeps c told c told
 keeps-same c None = record { pages = tt; numbers = λ q. refl; agree = λ a. a }
 keeps-same c (Some t) = record { pages = λ q. refl; numbers = λ q. refl; agree = λ a. a }
 
-pub keeps-room : (c : Pooled) (told : Option Pages) (d : Pooled) (now : Option Pages) → HasFrame c told d now → Keeps c told d now
+pub keeps-room : (c : Pooled) (told : Option Pages) (d : Pooled) (now : Option Pages) → HasFrameLeft c told d now → Keeps c told d now
 keeps-room c told d now room =
     elim room.how [
       | inl same ↦ subst (λ (x : Pooled). Keeps c told x now) (sym same.0) (subst (λ (o : Option Pages). Keeps c told c o) (sym same.1) (keeps-same c told))
@@ -377,14 +377,14 @@ numbered-frames c start numbers some =
       | inr more ↦ subst (λ (x : Pooled). 0 < x.frames) (sym more) some
     ]
 
-pub makes : (c : Pooled) (told : Option Pages) (start mid : Pooled) (now : Option Pages) (p : ℕ) → IsStart c told start p → HasFrame start told mid now → Makes c told (loaded mid p zeros) now p
+pub makes : (c : Pooled) (told : Option Pages) (start mid : Pooled) (now : Option Pages) (p : ℕ) → IsStart c told start p → HasFrameLeft start told mid now → Makes c told (loaded mid p zeros) now p
 makes c told start mid now p s room =
     let out = room-out start told mid now p room s.out in
     let gone : digest_at mid.kept p ≡ None = room-kept start told mid now p room s.out ∙ s.gone in
     makes-after c told mid now (loaded mid p zeros) p
     (keeps-then c told start told mid now (room-tells start told mid now room) s.keeps (keeps-room start told mid now room)) (makes-loaded mid now p out gone)
 
-pub room-length : (c : Pooled) (told : Option Pages) (d : Pooled) (now : Option Pages) → HasFrame c told d now → length d.kept ≡ length c.kept
+pub room-length : (c : Pooled) (told : Option Pages) (d : Pooled) (now : Option Pages) → HasFrameLeft c told d now → length d.kept ≡ length c.kept
 room-length c told d now room =
     elim room.how [
       | inl same ↦ ap (λ (x : Pooled). length x.kept) same.0

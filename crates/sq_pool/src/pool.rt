@@ -4,7 +4,7 @@ ghost use Rattle.sha2.specs.Sha256.{sha256};
 ghost use Rattle.sq_pool.specs.Pools.{zeros};
 
 use crate::frames::Frames;
-use crate::slots::{Digest, Whereabouts, Slots};
+use crate::slots::{Digest, Slots, Whereabouts};
 use sha2::Sha256;
 use sq_outside::PageDisk;
 use std::alloc::{AllocError, Global};
@@ -69,7 +69,7 @@ fn clear(bytes: &mut [u8])
 
 impl Pool {
     ghost use Rattle.std.specs.Prelude.{◌≡◌, ℕ, ◌<◌, ◌≤◌, ◌+◌, if◌then◌else◌, IfOk, OnOk, IfErr, IfSome, IsSome, is_some, IsTrue, None, Some, Option, List, length, ◌⊎◌, []};
-    ghost use Rattle.sq_pool.specs.Pools.{Agree, Spills, HasFrame, is_held, bytes_in, loaded, Fetches, Keeps, Makes, Drops, IsLast, Brings, IsMade, IsNumbered, LetsGo};
+    ghost use Rattle.sq_pool.specs.Pools.{Agree, Spills, HasFrameLeft, is_held, bytes_in, loaded, Fetches, Keeps, Makes, Drops, IsLast, Brings, IsMade, IsNumbered, LetsGo};
     ghost use Rattle.sq_pool.specs.Errors.{ComesBack, IsGarbling};
     ghost use Rattle.sq_pool.specs.Slots.{digest_at};
     ghost use Rattle.sq_outside.specs.Faults.{Rose};
@@ -132,7 +132,8 @@ impl Pool {
         let digest = digest_of(bytes);
         match disk.put(page, bytes) {
             Ok(()) => {
-                self.slots.release(page, frame, Whereabouts::Spilled(digest));
+                self.slots
+                    .release(page, frame, Whereabouts::Spilled(digest));
                 self.resident -= 1;
                 Ok(())
             }
@@ -143,7 +144,7 @@ impl Pool {
     // Makes a frame free, where none is.
     fn make_room<D: PageDisk>(&mut self, disk: &mut D) -> Result<(), PoolErr>
         requires { 0 < self.old.frames }
-        ensures ok { OnOk result (HasFrame self.old (known (D.log disk.old)) self.new (known (D.log disk.new))) }
+        ensures ok { OnOk result (HasFrameLeft self.old (known (D.log disk.old)) self.new (known (D.log disk.new))) }
         ensures disk { IfErr result (λ e. (e ≡ PoolErr.Disk) × Rose (D.faults disk.old) (D.faults disk.new)) }
         ensures faults { D.faults disk.old ≤ D.faults disk.new }
         ensures later { IsLater (D.log disk.old) (D.log disk.new) }

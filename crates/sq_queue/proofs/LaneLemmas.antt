@@ -5,7 +5,7 @@ use Rattle.std.specs.Prelude.{Result, Ok, Err, OnOk, is_some, unwrap_or}
 use Rattle.std.specs.List.{AllByRecursion}
 use Rattle.std.proofs.lemmas.List.{length-append, append-nil}
 use Rattle.sq_item.specs.declared.Item.{Item}
-use Rattle.sq_item.specs.Sound.{IsSoundItem}
+use Rattle.sq_item.specs.SoundItems.{IsSoundItem}
 use Rattle.sq_paged.specs.Faces.{is_first}
 use Rattle.sq_paged.specs.Fronts.{Face, IsFaceOf, IsPopped, first_time, first_time_or, pushed}
 use Rattle.sq_queue.specs.Faces.{face_at, front_at, behind_at, first_time_of, IsLane}

@@ -5,7 +5,7 @@ use Rattle.std.proofs.lemmas.Bool.{cases_eq}
 use Rattle.std.specs.Prelude.{slice_get}
 use Rattle.std.specs.List.{AllByRecursion}
 use Rattle.sq_item.specs.declared.Item.{Item}
-use Rattle.sq_item.specs.Sound.{IsSoundItem}
+use Rattle.sq_item.specs.SoundItems.{IsSoundItem}
 use Rattle.sq_outside.specs.Disks.{Pages}
 use Rattle.sq_pool.specs.Trust.{Tells}
 use Rattle.sq_paged.specs.Fronts.{Face}

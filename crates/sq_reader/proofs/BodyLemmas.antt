@@ -21,13 +21,13 @@ use Rattle.sq_net.specs.declared.NetErr.{NetErr}
 use Rattle.sq_net.specs.declared.NetErr.TheVariants as broken
 use Rattle.sq_net.specs.declared.Part.TheVariants as part
 use Rattle.sq_net.specs.Names.{is_name}
-use Rattle.sq_net.specs.Sound.{AreNew, HasWindow, IsOver, IsPredicate, IsTypedBody, kind_of_body}
-use Rattle.sq_net.specs.Sound as sound
-use Rattle.sq_tables.specs.declared.raw.AnswerColumn.{AnswerColumn}
-use Rattle.sq_tables.specs.declared.raw.Setting.{Setting}
-use Rattle.sq_tables.specs.declared.raw.BodyTable.{BodyTable}
-use Rattle.sq_tables.specs.declared.raw.BodyTable.TheVariants.{Filter, Map, Union, BSort, Aggregate, Join, Resample}
-use Rattle.sq_tables.specs.declared.raw.BoxTable.{BoxTable}
+use Rattle.sq_net.specs.SoundNetworks.{AreNew, HasWindow, IsOver, IsPredicate, IsTypedBody, kind_of_body}
+use Rattle.sq_net.specs.SoundNetworks as sound
+use Rattle.sq_tables.specs.declared.tables.AnswerColumn.{AnswerColumn}
+use Rattle.sq_tables.specs.declared.tables.Setting.{Setting}
+use Rattle.sq_tables.specs.declared.tables.BodyTable.{BodyTable}
+use Rattle.sq_tables.specs.declared.tables.BodyTable.TheVariants.{Filter, Map, Union, BSort, Aggregate, Join, Resample}
+use Rattle.sq_tables.specs.declared.tables.BoxTable.{BoxTable}
 use Rattle.sq_tables.specs.Places.{place_at}
 use Rattle.sq_tables.specs.Tables.{or_broken}
 use Rattle.sq_tables.specs.Shapes.{port_count}

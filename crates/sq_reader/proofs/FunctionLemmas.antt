@@ -19,8 +19,8 @@ use Rattle.sq_net.specs.Names.{is_name}
 use Rattle.sq_net.specs.declared.NetErr.{NetErr}
 use Rattle.sq_net.specs.declared.NetErr.TheVariants as broken
 use Rattle.sq_net.specs.declared.Part.TheVariants as part
-use Rattle.sq_tables.specs.declared.raw.Answer.{Answer}
-use Rattle.sq_tables.specs.declared.raw.AnswerColumn.{AnswerColumn}
+use Rattle.sq_tables.specs.declared.tables.Answer.{Answer}
+use Rattle.sq_tables.specs.declared.tables.AnswerColumn.{AnswerColumn}
 use Rattle.sq_tables.specs.Places.{place_at}
 use Rattle.sq_tables.specs.Tables.{or_broken}
 use Rattle.sq_reader.specs.Columns.{bad_given, bad_name, give_names, too_many}

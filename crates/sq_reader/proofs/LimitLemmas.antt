@@ -6,22 +6,22 @@ use Rattle.std.proofs.lemmas.Bool.Decides.{nat_tests}
 use Rattle.std.proofs.lemmas.List.{length-map}
 use Rattle.sq_net.specs.declared.Part.TheVariants as part
 use Rattle.sq_net.specs.declared.Place.{Place}
-use Rattle.sq_tables.specs.declared.raw.SourceTable.{SourceTable}
-use Rattle.sq_tables.specs.declared.raw.AnswerColumn.{AnswerColumn}
-use Rattle.sq_tables.specs.declared.raw.Setting.{Setting}
-use Rattle.sq_tables.specs.declared.raw.BodyTable.{BodyTable}
-use Rattle.sq_tables.specs.declared.raw.BodyTable.TheVariants.{Filter, Map, Union, BSort, Aggregate, Join, Resample}
-use Rattle.sq_tables.specs.declared.raw.BoxTable.{BoxTable}
-use Rattle.sq_tables.specs.declared.raw.OutputTable.{OutputTable}
-use Rattle.sq_tables.specs.declared.raw.NetworkTable.{NetworkTable}
+use Rattle.sq_tables.specs.declared.tables.SourceTable.{SourceTable}
+use Rattle.sq_tables.specs.declared.tables.AnswerColumn.{AnswerColumn}
+use Rattle.sq_tables.specs.declared.tables.Setting.{Setting}
+use Rattle.sq_tables.specs.declared.tables.BodyTable.{BodyTable}
+use Rattle.sq_tables.specs.declared.tables.BodyTable.TheVariants.{Filter, Map, Union, BSort, Aggregate, Join, Resample}
+use Rattle.sq_tables.specs.declared.tables.BoxTable.{BoxTable}
+use Rattle.sq_tables.specs.declared.tables.OutputTable.{OutputTable}
+use Rattle.sq_tables.specs.declared.tables.NetworkTable.{NetworkTable}
 use Rattle.sq_tables.specs.Places.{or_else, part_place}
 use Rattle.sq_reader.specs.Limits as limits
 use Rattle.sq_reader.specs.Limits.{told_body_within, box_within, first_failing, has_between, inputs_within, is_int_between, is_expression_long, limit_place, told_output_within, told_source_within, top_within}
 use Rattle.sq_tables.specs.Shapes.{port_count}
 use Rattle.sq_graph.specs.declared.BoxKind.{BoxKind}
 use Rattle.sq_graph.specs.declared.BoxKind.TheVariants as boxes
-use Rattle.sq_net.specs.Sound as sound
-use Rattle.sq_net.specs.Sound.{takes_within}
+use Rattle.sq_net.specs.SoundNetworks as sound
+use Rattle.sq_net.specs.SoundNetworks.{takes_within}
 use Rattle.sq_reader.specs.Columns.{give_names, nat_of, set_names, set_texts}
 use Rattle.sq_reader.specs.Streaming.{kind_of_told_body}
 use Rattle.sq_reader.proofs.ListLemmas.{none_failing, nothing_mapped}

@@ -16,8 +16,8 @@ use Rattle.sq_net.specs.declared.Source as declared
 use Rattle.sq_net.specs.declared.Node.{Node}
 use Rattle.sq_net.specs.declared.NetErr.{NetErr}
 use Rattle.sq_net.specs.Streams.{columns_of_port}
-use Rattle.sq_tables.specs.declared.raw.BoxTable.{BoxTable}
-use Rattle.sq_tables.specs.declared.raw.NetworkTable.{NetworkTable}
+use Rattle.sq_tables.specs.declared.tables.BoxTable.{BoxTable}
+use Rattle.sq_tables.specs.declared.tables.NetworkTable.{NetworkTable}
 use Rattle.sq_tables.specs.Refusals.{IsAnswerOf}
 use Rattle.sq_reader.specs.Columns.{columns_known, columns_taken, typed_node, node_in, node_known, node_of_box, nodes_from}
 use Rattle.sq_reader.proofs.ListLemmas.{get_set_other}

@@ -16,10 +16,10 @@ use Rattle.sq_graph.specs.Order.{is_given, order_of}
 use Rattle.sq_graph.proofs.Producers.{IsProducer, producer_is}
 use Rattle.sq_net.specs.declared.Source as declared
 use Rattle.sq_net.specs.declared.Node.{Node}
-use Rattle.sq_net.specs.Sound.{takes_within}
+use Rattle.sq_net.specs.SoundNetworks.{takes_within}
 use Rattle.sq_net.specs.Streams.{columns_of_port}
-use Rattle.sq_tables.specs.declared.raw.BoxTable.{BoxTable}
-use Rattle.sq_tables.specs.declared.raw.NetworkTable.{NetworkTable}
+use Rattle.sq_tables.specs.declared.tables.BoxTable.{BoxTable}
+use Rattle.sq_tables.specs.declared.tables.NetworkTable.{NetworkTable}
 use Rattle.sq_reader.specs.Limits.{limit_place}
 use Rattle.sq_reader.specs.Streaming.{box_wires, kind_of_told_body, told_stream_named, told_stream_names, unknown_place, wiring_of}
 use Rattle.sq_reader.specs.Columns.{columns_known, columns_taken, no_nodes, typed_node, node_known, node_of_box}

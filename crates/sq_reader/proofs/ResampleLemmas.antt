@@ -10,12 +10,12 @@ use Rattle.sq_value.specs.Values.{Columns, kinds_of, names_of}
 use Rattle.sq_value.specs.declared.Kind.{Kind}
 use Rattle.sq_aggfn.specs.declared.Func.{Func}
 use Rattle.sq_net.specs.Columns.{first_columns, left_columns, prefixed, second_columns}
-use Rattle.sq_net.specs.Sound.{AreNew}
+use Rattle.sq_net.specs.SoundNetworks.{AreNew}
 use Rattle.sq_net.specs.declared.Body.TheVariants as body
 use Rattle.sq_net.specs.declared.NetErr.{NetErr}
 use Rattle.sq_net.specs.declared.NetErr.TheVariants as broken
 use Rattle.sq_net.specs.declared.Part.TheVariants as part
-use Rattle.sq_tables.specs.declared.raw.AnswerColumn.{AnswerColumn}
+use Rattle.sq_tables.specs.declared.tables.AnswerColumn.{AnswerColumn}
 use Rattle.sq_tables.specs.Places.{place_at}
 use Rattle.sq_reader.specs.Columns.{bad_given, give_names, typed_resample}
 use Rattle.sq_reader.specs.Functions.{funcs_from, kinds_answered}

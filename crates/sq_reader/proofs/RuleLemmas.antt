@@ -15,12 +15,12 @@ use Rattle.sq_net.specs.declared.NetErr.{NetErr}
 use Rattle.sq_net.specs.declared.NetErr.TheVariants as broken
 use Rattle.sq_net.specs.declared.Part.TheVariants as part
 use Rattle.sq_net.specs.Names.{is_name}
-use Rattle.sq_net.specs.Sound.{is_between, source_within, takes_within}
-use Rattle.sq_tables.specs.declared.raw.SourceTable.{SourceTable}
-use Rattle.sq_tables.specs.declared.raw.BodyTable.{BodyTable}
-use Rattle.sq_tables.specs.declared.raw.BodyTable.TheVariants.{Filter, Map, Union, BSort, Aggregate, Join, Resample}
-use Rattle.sq_tables.specs.declared.raw.BoxTable.{BoxTable}
-use Rattle.sq_tables.specs.declared.raw.NetworkTable.{NetworkTable}
+use Rattle.sq_net.specs.SoundNetworks.{is_between, source_within, takes_within}
+use Rattle.sq_tables.specs.declared.tables.SourceTable.{SourceTable}
+use Rattle.sq_tables.specs.declared.tables.BodyTable.{BodyTable}
+use Rattle.sq_tables.specs.declared.tables.BodyTable.TheVariants.{Filter, Map, Union, BSort, Aggregate, Join, Resample}
+use Rattle.sq_tables.specs.declared.tables.BoxTable.{BoxTable}
+use Rattle.sq_tables.specs.declared.tables.NetworkTable.{NetworkTable}
 use Rattle.sq_tables.specs.Places.{or_else, place_at, part_place}
 use Rattle.sq_tables.specs.Tables.{or_broken}
 use Rattle.sq_reader.specs.Limits as limits

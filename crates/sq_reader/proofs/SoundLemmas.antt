@@ -28,10 +28,10 @@ use Rattle.sq_net.specs.declared.Part.TheVariants as part
 use Rattle.sq_net.specs.declared.Place.{Place}
 use Rattle.sq_net.specs.Names.{is_name}
 use Rattle.sq_net.specs.Streams.{columns_given, columns_of_port, columns_of_stream}
-use Rattle.sq_net.specs.Sound.{IsConsistent, HasWindow, IsSound, body_within, input_columns, is_between, kind_of_body, network_within, node_within, output_within}
-use Rattle.sq_tables.specs.declared.raw.BoxTable.{BoxTable}
-use Rattle.sq_tables.specs.declared.raw.OutputTable.{OutputTable}
-use Rattle.sq_tables.specs.declared.raw.NetworkTable.{NetworkTable}
+use Rattle.sq_net.specs.SoundNetworks.{IsConsistent, HasWindow, IsSound, body_within, input_columns, is_between, kind_of_body, network_within, node_within, output_within}
+use Rattle.sq_tables.specs.declared.tables.BoxTable.{BoxTable}
+use Rattle.sq_tables.specs.declared.tables.OutputTable.{OutputTable}
+use Rattle.sq_tables.specs.declared.tables.NetworkTable.{NetworkTable}
 use Rattle.sq_tables.specs.Places.{part_place}
 use Rattle.sq_tables.specs.Refusals.{IsAnswerOf}
 use Rattle.sq_tables.specs.Documents.{document_in}

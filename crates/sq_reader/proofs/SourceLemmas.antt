@@ -6,7 +6,7 @@ use Rattle.std.proofs.lemmas.List.{drop_all}
 use Rattle.sq_value.specs.Values.{Columns}
 use Rattle.sq_value.specs.declared.Kind.{Kind}
 use Rattle.sq_net.specs.declared.Source.{Source}
-use Rattle.sq_tables.specs.declared.raw.SourceTable.{SourceTable}
+use Rattle.sq_tables.specs.declared.tables.SourceTable.{SourceTable}
 use Rattle.sq_reader.specs.Sources.{column_in, columns_from, told_source, sources_from}
 use Rattle.sq_tables.proofs.ShapedLemmas.{joined, joined-cons, zip-push, drop-at}
 

@@ -13,7 +13,7 @@ use Rattle.sq_expr.specs.declared.TypeErr.TheVariants as error
 use Rattle.sq_net.specs.declared.NetErr.{NetErr}
 use Rattle.sq_net.specs.declared.NetErr.TheVariants as broken
 use Rattle.sq_net.specs.declared.Part.TheVariants as part
-use Rattle.sq_net.specs.Sound.{IsOver, IsPredicate}
+use Rattle.sq_net.specs.SoundNetworks.{IsOver, IsPredicate}
 use Rattle.sq_tables.specs.Places.{place_at}
 use Rattle.sq_reader.specs.Expressions.{allowed, may_be_predicate, may_be_set, or_no_expression, parsed_from, predicate_of, typed_from, typed_in}
 use Rattle.sq_reader.specs.Columns.{kinds_set}

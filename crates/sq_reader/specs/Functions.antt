@@ -12,11 +12,11 @@ use Rattle.sq_net.specs.Columns.{kind_of_func}
 use Rattle.sq_net.specs.declared.NetErr.{NetErr}
 use Rattle.sq_net.specs.declared.NetErr.TheVariants as broken
 use Rattle.sq_net.specs.declared.Part.TheVariants as part
-use Rattle.sq_tables.specs.declared.raw.Over.{Over}
-use Rattle.sq_tables.specs.declared.raw.Over.TheVariants as over
-use Rattle.sq_tables.specs.declared.raw.Answer.{Answer}
-use Rattle.sq_tables.specs.declared.raw.Answer.TheVariants as answer
-use Rattle.sq_tables.specs.declared.raw.AnswerColumn.{AnswerColumn}
+use Rattle.sq_tables.specs.declared.tables.Over.{Over}
+use Rattle.sq_tables.specs.declared.tables.Over.TheVariants as over
+use Rattle.sq_tables.specs.declared.tables.Answer.{Answer}
+use Rattle.sq_tables.specs.declared.tables.Answer.TheVariants as answer
+use Rattle.sq_tables.specs.declared.tables.AnswerColumn.{AnswerColumn}
 use Rattle.sq_tables.specs.Places.{place_at}
 use Rattle.sq_tables.specs.Tables.{or_broken}
 use Rattle.sq_words.specs.Results.{◌>>=◌}

@@ -5,7 +5,7 @@ use Rattle.std.specs.Str.{bytes_eq}
 use Rattle.sq_net.specs.declared.Part.TheVariants as part
 use Rattle.sq_net.specs.declared.Place.{Place}
 use Rattle.sq_net.specs.Names.{is_name}
-use Rattle.sq_tables.specs.declared.raw.NetworkTable.{NetworkTable}
+use Rattle.sq_tables.specs.declared.tables.NetworkTable.{NetworkTable}
 use Rattle.sq_tables.specs.Places.{part_place, or_else}
 use Rattle.sq_reader.specs.Limits.{first_failing}
 

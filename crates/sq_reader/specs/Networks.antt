@@ -9,7 +9,7 @@ use Rattle.sq_net.specs.declared.Source.{Source}
 use Rattle.sq_net.specs.declared.Place.{Place}
 use Rattle.sq_net.specs.declared.NetErr.{NetErr}
 use Rattle.sq_net.specs.declared.NetErr.TheVariants as broken
-use Rattle.sq_tables.specs.declared.raw.NetworkTable.{NetworkTable}
+use Rattle.sq_tables.specs.declared.tables.NetworkTable.{NetworkTable}
 use Rattle.sq_tables.specs.Tables.{network_table_of}
 use Rattle.sq_reader.specs.Limits.{limit_place}
 use Rattle.sq_reader.specs.Naming.{name_place, twice_place}

@@ -10,7 +10,7 @@ use Rattle.sq_net.specs.declared.NetErr.TheVariants as broken
 use Rattle.sq_net.specs.declared.Part.TheVariants as part
 use Rattle.sq_net.specs.declared.Source.{Source}
 use Rattle.sq_net.specs.Names.{is_name}
-use Rattle.sq_tables.specs.declared.raw.SourceTable.{SourceTable}
+use Rattle.sq_tables.specs.declared.tables.SourceTable.{SourceTable}
 use Rattle.sq_tables.specs.Places.{place_at}
 use Rattle.sq_tables.specs.Tables.{or_broken}
 use Rattle.sq_words.specs.Results.{◌>>=◌}

@@ -2,9 +2,9 @@
 use Rattle.std.specs.Prelude.{◌*ℤ◌, ◌^◌, Bool, true, not, ◌&&◌, ℤ, pos, int_le, Option, option_map}
 use Rattle.sq_net.specs.declared.Part.TheVariants as part
 use Rattle.sq_net.specs.declared.Place.{Place}
-use Rattle.sq_tables.specs.declared.raw.BodyTable.{BodyTable}
-use Rattle.sq_tables.specs.declared.raw.BodyTable.TheVariants.{Aggregate}
-use Rattle.sq_tables.specs.declared.raw.NetworkTable.{NetworkTable}
+use Rattle.sq_tables.specs.declared.tables.BodyTable.{BodyTable}
+use Rattle.sq_tables.specs.declared.tables.BodyTable.TheVariants.{Aggregate}
+use Rattle.sq_tables.specs.declared.tables.NetworkTable.{NetworkTable}
 use Rattle.sq_tables.specs.Places.{part_place}
 use Rattle.sq_reader.specs.Limits.{first_failing}
 

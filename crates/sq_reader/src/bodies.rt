@@ -1,8 +1,8 @@
 // What each kind of box does on what it takes, and the schemas of its ports.
 ghost use Rattle.std.specs.Prelude.{◌≡◌, ◌<◌, ◌≤◌, ◌^◌, ◌+◌, ◌∷◌, [], true, false, Ok, Err, IfOk, IfErr, IfSome, length};
 ghost use Rattle.sq_net.specs.Columns.{first_columns, second_columns};
-ghost use Rattle.sq_net.specs.Sound.{takes_within};
-ghost use Rattle.sq_tables.specs.declared.raw.BodyTable.TheVariants as raw;
+ghost use Rattle.sq_net.specs.SoundNetworks.{takes_within};
+ghost use Rattle.sq_tables.specs.declared.tables.BodyTable.TheVariants as raw;
 ghost use Rattle.sq_tables.specs.Refusals.{is_memory};
 ghost use Rattle.sq_reader.specs.Columns.{typed_aggregate, bad_given, typed_body, bsort_of, filter_of, join_of, map_of, nat_of, typed_resample, too_many, union_of, window_read};
 ghost use Rattle.sq_reader.specs.Limits.{told_body_within};

@@ -1,6 +1,6 @@
 // The rule on drop points.
 ghost use Rattle.std.specs.Prelude.{IfOk};
-ghost use Rattle.sq_net.specs.Sound.{IsSound};
+ghost use Rattle.sq_net.specs.SoundNetworks.{IsSound};
 ghost use Rattle.sq_points.specs.Limits.{KeepsDropLimits};
 ghost use Rattle.sq_reader.specs.Networks.{limited_network};
 ghost use Rattle.sq_tables.specs.Refusals.{IsAnswerOf};

@@ -6,7 +6,7 @@
 #![tactic(auto)]
 
 ghost use Rattle.std.specs.Prelude.{◌≡◌, ◌++◌, ◌∷◌, [], IfOk, OnOk};
-ghost use Rattle.sq_net.specs.Sound.{IsSound};
+ghost use Rattle.sq_net.specs.SoundNetworks.{IsSound};
 ghost use Rattle.sq_points.specs.Limits.{KeepsDropLimits};
 ghost use Rattle.sq_reader.specs.Networks.{network_in};
 ghost use Rattle.sq_tables.specs.Refusals.{IsAnswerOf};

@@ -6,7 +6,7 @@ ghost use Rattle.sq_reader.specs.Limits.{told_body_within, box_within, first_fai
 ghost use Rattle.sq_tables.specs.Places.{place_at, part_place};
 
 use sq_net::{Part, Place};
-use sq_tables::{NetworkTable, BodyTable, BoxTable, OutputTable, SourceTable, Setting};
+use sq_tables::{BodyTable, BoxTable, NetworkTable, OutputTable, Setting, SourceTable};
 use sq_value::Name;
 
 /// An item of a list of a part.
@@ -85,7 +85,8 @@ fn told_body_within(body: &BodyTable) -> bool
         BodyTable::Filter { preds } => {
             has_between(preds.as_slice(), 1, 15) && are_long(preds.as_slice())
         }
-        BodyTable::Map { set } => has_between(set.as_slice(), 1, 16) && are_set_long(set.as_slice()),
+        BodyTable::Map { set } => has_between(set.as_slice(), 1, 16)
+            && are_set_long(set.as_slice()),
         BodyTable::Union => true,
         BodyTable::BSort { slack, .. } => is_int_between(*slack, 0, 10_000),
         BodyTable::Aggregate { group, give, .. } => {
@@ -137,7 +138,9 @@ fn told_output_within(output: &OutputTable) -> bool
 fn wide_source(sources: &[SourceTable]) -> Option<usize>
     ensures { result ≡ first_failing told_source_within sources.now }
 {
-    sources.iter().position(|source| !told_source_within(source))
+    sources
+        .iter()
+        .position(|source| !told_source_within(source))
 }
 
 fn wide_box(boxes: &[BoxTable]) -> Option<usize>
@@ -149,7 +152,9 @@ fn wide_box(boxes: &[BoxTable]) -> Option<usize>
 fn wide_output(outputs: &[OutputTable]) -> Option<usize>
     ensures { result ≡ first_failing told_output_within outputs.now }
 {
-    outputs.iter().position(|output| !told_output_within(output))
+    outputs
+        .iter()
+        .position(|output| !told_output_within(output))
 }
 
 /// The first place where a number or a length is out of its limits.

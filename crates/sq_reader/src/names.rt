@@ -11,7 +11,7 @@ ghost use Rattle.sq_expr.specs.Tokens.{in_word};
 use crate::limits::whole;
 use indexmap::IndexSet;
 use sq_net::{Part, Place};
-use sq_tables::{NetworkTable, BoxTable, OutputTable, SourceTable};
+use sq_tables::{BoxTable, NetworkTable, OutputTable, SourceTable};
 use sq_value::{Name, copy_name, same_text};
 use std::alloc::{AllocError, Global};
 

@@ -2,18 +2,18 @@
 ghost use Rattle.std.specs.Prelude.{◌≡◌, ◌<◌, ◌^◌, true, false, Ok, Err, IfOk, IfErr, Some, None, length, map, slice_get, slice_set};
 ghost use Rattle.sq_graph.specs.Order.{order_of};
 ghost use Rattle.sq_graph.specs.Wires.{inputs_of};
-ghost use Rattle.sq_net.specs.Sound.{takes_within};
+ghost use Rattle.sq_net.specs.SoundNetworks.{takes_within};
 ghost use Rattle.sq_reader.specs.Columns.{columns_taken, nat_of, no_nodes, typed_node, node_in, nodes_from};
 ghost use Rattle.sq_reader.specs.Limits.{box_within, limit_place};
 ghost use Rattle.sq_reader.specs.Streaming.{kind_of_told_body, unknown_place, wiring_of};
-ghost use Rattle.sq_tables.specs.declared.raw.BoxTable.{BoxTable};
+ghost use Rattle.sq_tables.specs.declared.tables.BoxTable.{BoxTable};
 ghost use Rattle.sq_tables.specs.Refusals.{IsAnswerOf, is_memory};
 
-use crate::bodies::{typed_body, natural};
+use crate::bodies::{natural, typed_body};
 use crate::boxes::schemas_taken;
 use sq_graph::Wiring;
 use sq_net::{NetErr, Node, Source};
-use sq_tables::{NetworkTable, BoxTable};
+use sq_tables::{BoxTable, NetworkTable};
 use sq_value::{ListOf, Schema, copy_name};
 use std::alloc::{AllocError, Global};
 

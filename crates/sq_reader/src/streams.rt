@@ -14,7 +14,7 @@ use crate::names::source_names;
 use indexmap::IndexMap;
 use sq_graph::{BoxKind, BoxWires, Wiring};
 use sq_net::{Part, Place};
-use sq_tables::{NetworkTable, BodyTable, BoxTable, OutputTable, port_count};
+use sq_tables::{BodyTable, BoxTable, NetworkTable, OutputTable, port_count};
 use sq_value::{ListOf, Name, copy_name};
 use std::alloc::{AllocError, Global};
 
@@ -59,7 +59,11 @@ fn push_ports(alloc: Global, names: &mut Vec<Name>, b: &BoxTable) -> Result<(), 
     }
 }
 
-fn push_all_ports(alloc: Global, names: &mut Vec<Name>, boxes: &[BoxTable]) -> Result<(), AllocError>
+fn push_all_ports(
+    alloc: Global,
+    names: &mut Vec<Name>,
+    boxes: &[BoxTable],
+) -> Result<(), AllocError>
     requires { list_all box_within boxes.now ≡ true }
     ensures { OnOk result (names.new.items ≡ names.old.items ++ flat_map (λ b. told_port_names b.name b.body) boxes.now) }
 {

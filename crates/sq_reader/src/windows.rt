@@ -6,7 +6,7 @@ ghost use Rattle.sq_reader.specs.Windows.{has_window, is_span, is_window, window
 
 use crate::limits::whole;
 use sq_net::{Part, Place};
-use sq_tables::{NetworkTable, BodyTable, BoxTable};
+use sq_tables::{BodyTable, BoxTable, NetworkTable};
 
 fn is_span(size: i64, advance: i64) -> bool
     ensures { result ≡ is_span size advance }

@@ -11,7 +11,7 @@ use Rattle.sq_replay.specs.declared.why.Why.{Why}
 use Rattle.sq_replay.specs.declared.why.Why.TheVariants as why
 use Rattle.sq_replay.specs.FileLines.{Line, lines_from, pieces_of}
 use Rattle.sq_replay.specs.Streams.{unless, tuple_on_line, tuple_of_line, tuples_from}
-use Rattle.sq_replay.specs.Recorded.{first_recorded, tuples_recorded, tuples_left}
+use Rattle.sq_replay.specs.RecordedTuples.{first_recorded, tuples_recorded, tuples_left}
 use Rattle.sq_replay.proofs.StreamLemmas.{empty_line, text_line}
 use Rattle.sq_words.specs.Results.{◌>>=◌}
 

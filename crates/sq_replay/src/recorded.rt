@@ -1,7 +1,7 @@
 // The tuples that a source recorded, one after another.
 ghost use Rattle.std.specs.Prelude.{◌≡◌, ◌+◌, ◌<◌, ◌∷◌, ◌^◌, [], IfErr, IfOk, MatchOption, OnErr, Ok, length};
 ghost use Rattle.sq_replay.specs.Answers.{IsBadStream};
-ghost use Rattle.sq_replay.specs.Recorded.{first_recorded};
+ghost use Rattle.sq_replay.specs.RecordedTuples.{first_recorded};
 ghost use Rattle.sq_replay.specs.Streams.{stream_in};
 
 use crate::StreamErr;
@@ -22,11 +22,11 @@ pub struct Stream {
 
 impl Model for Stream {
     ghost use Rattle.std.specs.Prelude.{◌++◌};
-    ghost use Rattle.sq_replay.specs.Recorded.{Recorded};
+    ghost use Rattle.sq_replay.specs.RecordedTuples.{Recorded};
 
     ghost Value = { Recorded };
 
-    ghost use Rattle.sq_replay.specs.Unread.{IsAhead, unread_tuples};
+    ghost use Rattle.sq_replay.specs.RestOfText.{IsAhead, unread_tuples};
 
     ghost view = { λ a. record { items = a.ready.items ++ unread_tuples a.unread } };
 

@@ -2,9 +2,9 @@
 ghost use Rattle.std.specs.Prelude.{◌≡◌, ◌+◌, ◌<◌, ◌≤◌, ◌⊎◌, ◌++◌, ◌∷◌, [], ℕ, List, IfOk, IfSome, MatchOption, OnErr, OnOk, drop, length};
 ghost use Rattle.sq_value.specs.declared.Kind.{Kind as K};
 ghost use Rattle.sq_replay.specs.FileLines.{pieces_of, without_mark};
-ghost use Rattle.sq_replay.specs.Recorded.{and_then, first_recorded, tuples_recorded, tuples_left};
+ghost use Rattle.sq_replay.specs.RecordedTuples.{and_then, first_recorded, tuples_recorded, tuples_left};
 ghost use Rattle.sq_replay.specs.Streams.{tuple_of_line};
-ghost use Rattle.sq_replay.specs.Unread.{IsAhead, unread_tuples};
+ghost use Rattle.sq_replay.specs.RestOfText.{IsAhead, unread_tuples};
 
 use crate::line::{TupleErr, read_tuple};
 use crate::stream::without_return;

@@ -7,7 +7,7 @@ use Rattle.sq_value.specs.declared.Tuple.{Tuple}
 use Rattle.sq_words.specs.Lists.{IsPrefixOf}
 use Rattle.sq_item.specs.declared.Mark.{Mark}
 use Rattle.sq_item.specs.declared.Item.{Item}
-use Rattle.sq_item.specs.Sound.{IsSoundItem}
+use Rattle.sq_item.specs.SoundItems.{IsSoundItem}
 use Rattle.sq_item.specs.Things.{Content, Sign, Body, Thing, mark_part, body_part}
 use Rattle.sq_lists.specs.Sides.{AllNear, recent, left_with, right_with}
 use Rattle.sq_lists.specs.WindowParts.{TimesNotFalling}
@@ -16,7 +16,7 @@ use Rattle.sq_lists.proofs.WindowLemmas.{lower, all-later}
 use Rattle.sq_lists.specs.Resamples.{resample_of}
 use Rattle.sq_oper.specs.declared.tally.Moment.{Moment}
 use Rattle.sq_oper.specs.Entries.{Entry, at_port, entries}
-use Rattle.sq_oper.specs.Given.{ThingsUpTo}
+use Rattle.sq_oper.specs.Outflow.{ThingsUpTo}
 use Rattle.sq_oper.specs.Order.{time_of, moment_after, InOrder, unmarked, IsFuture}
 use Rattle.sq_oper.specs.Streams.{tuple_in, tuples_at, tuples_of, things, at_zero}
 use Rattle.sq_oper.proofs.GivenLemmas.{IsPrefixOf-append, IsPrefixOf-longer, ThingsUpTo-append}

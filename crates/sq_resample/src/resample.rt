@@ -15,7 +15,7 @@ use crate::rounds::{give_all, give_ready};
 use crate::running::{Held, hold};
 use sq_aggfn::Fold;
 use sq_item::Item;
-use sq_oper::{Decision, Operator, Outlet, Moment, Tally};
+use sq_oper::{Decision, Moment, Operator, Outlet, Tally};
 use sq_outside::Steps;
 use sq_road::Levels;
 use sq_value::{Tuple, Value};

@@ -6,7 +6,7 @@ ghost use Rattle.sq_words.specs.Lists.{IsPrefixOf};
 ghost use Rattle.sq_lists.specs.Sides.{recent};
 ghost use Rattle.sq_lists.specs.WindowParts.{TimesNotFalling};
 ghost use Rattle.sq_lists.specs.Resamples.{resampled, resample_of};
-ghost use Rattle.sq_oper.specs.Given.{given, ItemsSound};
+ghost use Rattle.sq_oper.specs.Outflow.{given, ItemsSound};
 ghost use Rattle.sq_oper.specs.Streams.{things, at_zero};
 ghost use Rattle.sq_resample.specs.Rounds.{CanGive, HasFieldRoom, first_time_from, passed};
 ghost use Rattle.sq_resample.specs.Running.{IsRunning, IsSum};

@@ -5,8 +5,8 @@ use Rattle.std.specs.List.{range_with_len}
 use Rattle.std.proofs.Math.Seq.{drop-length}
 use Rattle.std.proofs.lemmas.List.{length-map}
 use Rattle.std.proofs.lemmas.List.FromFn.{length-range_with_len}
-use Rattle.sq_link.specs.Chained.{Chained, list_at, StandsIn, IsLoose, IsChained, without as all_but}
-use Rattle.sq_sched.specs.Ready.{without_actor, AreActors, OnlyOnce, ready_in, IsReadyList}
+use Rattle.sq_link.specs.ChainLists.{Chained, list_at, StandsIn, IsLoose, IsChained, without as all_but}
+use Rattle.sq_sched.specs.ReadyLists.{without_actor, AreActors, OnlyOnce, ready_in, IsReadyList}
 use Rattle.sq_sched.proofs.ReadyLemmas.{contained, not-contained, stands, once-apart, without-all, length-without, few, room}
 use Rattle.sq_words.specs.Lists.{contains_number}
 use Rattle.sq_link.proofs.ChainLemmas.{first-without}

@@ -12,11 +12,11 @@ use Rattle.sq_net.specs.declared.Network.{Network}
 use Rattle.sq_net.specs.declared.Node.{Node}
 use Rattle.sq_net.specs.declared.Body.{Body}
 use Rattle.sq_net.specs.declared.Body.TheVariants.{Filter, Map, Union, BSort, Aggregate, Join, Resample}
-use Rattle.sq_net.specs.Sound.{IsSound, HasWindow}
+use Rattle.sq_net.specs.SoundNetworks.{IsSound, HasWindow}
 use Rattle.sq_net.specs.Streams.{columns_of_stream}
-use Rattle.sq_model.specs.Fit.{FitsOption, SourcesFit}
-use Rattle.sq_model.specs.Fed.{fed_of}
-use Rattle.sq_model.specs.Full.{box_list, produced, full_stream, full_streams}
+use Rattle.sq_model.specs.FittingStreams.{FitsOption, SourcesFit}
+use Rattle.sq_model.specs.FullCounts.{full_fed_of}
+use Rattle.sq_model.specs.FullStreams.{box_list, produced, full_stream, full_streams}
 use Rattle.sq_model.specs.Laws.{FollowsBoxes}
 use Rattle.sq_model.proofs.FullLemmas.{full_follows, full_listed}
 use Rattle.sq_model.proofs.LateLemmas.{late_are_the_rest, bsort_few, first_few, same_sum}
@@ -61,7 +61,7 @@ gives-all n sound sources none at b there (BSort by slack) is =
     let given = ap (λ (xs : List Tuple). length xs) gives in
     let rest = late_are_the_rest n sources sound at by slack b there is in
     let late = none at in
-    let fed : fed_of n sources at ≡ sum_by (λ s. length (stream s)) inputs = same_sum (nth (full_streams n sources)) stream (full_listed n sources placed) inputs in
+    let fed : full_fed_of n sources at ≡ sum_by (λ s. length (stream s)) inputs = same_sum (nth (full_streams n sources)) stream (full_listed n sources placed) inputs in
     let few = first_few stream inputs in
     let most = bsort_few by slack first in
     omega (arith, given, rest, late, fed, few, most)

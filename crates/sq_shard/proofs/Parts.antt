@@ -19,10 +19,10 @@ use Rattle.sq_lists.specs.Sorting.{bsort_list_of, retimed}
 use Rattle.sq_lists.specs.Windows.{aggregate_list_of}
 use Rattle.sq_lists.specs.Pairs.{join_list_of}
 use Rattle.sq_lists.specs.Resamples.{resampled, resample_list_of}
-use Rattle.sq_net.specs.Sound.{HasWindow}
+use Rattle.sq_net.specs.SoundNetworks.{HasWindow}
 use Rattle.sq_net.specs.declared.Body.{Body}
 use Rattle.sq_net.specs.declared.Body.TheVariants.{Filter, Map, Union, BSort, Aggregate, Join, Resample}
-use Rattle.sq_model.specs.Full.{box_list}
+use Rattle.sq_model.specs.FullStreams.{box_list}
 use Rattle.sq_model.specs.Unions as model
 use Rattle.sq_model.proofs.Alls.{All-append, All-mapped}
 use Rattle.sq_shard.specs.declared.Cut.{Cut}

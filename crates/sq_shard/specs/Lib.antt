@@ -1,4 +1,4 @@
 pub mod Cuts
 pub mod Keys
 pub mod Laws
-pub mod Together
+pub mod Reunion

@@ -1,7 +1,7 @@
 // What a part has of what a box gives.
 ghost use Rattle.std.specs.Prelude.{◌≡◌, ◌+◌, ◌++◌, ◌<◌, ◌≤◌, ◌^◌, [], if◌then◌else◌, length, map, IfOk, true};
 ghost use Rattle.std.specs.List.{All};
-ghost use Rattle.sq_net.specs.Sound.{body_within};
+ghost use Rattle.sq_net.specs.SoundNetworks.{body_within};
 ghost use Rattle.sq_expr.specs.Keys.{bare_of};
 ghost use Rattle.sq_shard.specs.Keys.{both_cut, box_cut, cut_at, is_among, join_cut, left_keys, own, places, resample_cut, right_keys, through, union_cut};
 ghost use Rattle.sq_shard.specs.declared.Cut.TheVariants.{By, Whole};

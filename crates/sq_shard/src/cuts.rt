@@ -2,7 +2,7 @@
 ghost use Rattle.std.specs.Prelude.{◌≡◌, ◌<◌, ◌≤◌, ◌^◌, [], length, map, slice_get, IfOk};
 ghost use Rattle.sq_words.specs.Lists.{numbers_to};
 ghost use Rattle.sq_graph.specs.Wires.{inputs_of, producer_of, producers_of};
-ghost use Rattle.sq_net.specs.Sound.{IsSound};
+ghost use Rattle.sq_net.specs.SoundNetworks.{IsSound};
 ghost use Rattle.sq_net.specs.Streams.{columns_of_stream};
 ghost use Rattle.sq_shard.specs.Cuts.{column_at};
 ghost use Rattle.sq_shard.specs.Keys.{box_cut_at, cut_at, cut_given, cuts_of, input_widths, source_cut, width_at, width_of};

@@ -2,7 +2,7 @@
 ghost use Rattle.std.specs.Prelude.{◌≡◌, length, IfOk};
 ghost use Rattle.std.specs.List.{find, list_all};
 ghost use Rattle.sq_words.specs.Lists.{numbers_to};
-ghost use Rattle.sq_net.specs.Sound.{IsSound};
+ghost use Rattle.sq_net.specs.SoundNetworks.{IsSound};
 ghost use Rattle.sq_shard.specs.Keys.{cut_at, is_known_cut, loses_key};
 
 use crate::Cut;

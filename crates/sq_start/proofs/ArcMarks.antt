@@ -19,13 +19,13 @@ use Rattle.sq_net.specs.declared.Network.{Network}
 use Rattle.sq_net.specs.declared.Node.{Node}
 use Rattle.sq_net.specs.declared.Body.{Body}
 use Rattle.sq_net.specs.declared.Body.TheVariants.{Filter, Map, Union, BSort, Aggregate, Join, Resample}
-use Rattle.sq_net.specs.Sound.{IsSound}
+use Rattle.sq_net.specs.SoundNetworks.{IsSound}
 use Rattle.sq_net.specs.Streams.{columns_of_stream}
 use Rattle.sq_points.specs.Points.{points_of}
-use Rattle.sq_model.specs.Fit.{SourcesFit}
+use Rattle.sq_model.specs.FittingStreams.{SourcesFit}
 use Rattle.sq_model.specs.Shedding.{Replay, drop_above_arc, drop_above_output}
 use Rattle.sq_below.specs.Laws.{PointsMeasured}
-use Rattle.sq_below.specs.Standing.{Drop, drop_above_box, takes, fits_columns, fits_stream, fits_inputs, BoxesFit, DropsFit, OutputsFit, drop_fed}
+use Rattle.sq_below.specs.ArcContents.{Drop, drop_above_box, takes, fits_columns, fits_stream, fits_inputs, BoxesFit, DropsFit, OutputsFit, drop_fed}
 use Rattle.sq_below.specs.Actors.{Sources, Box, Shedder, Shower}
 use Rattle.sq_below.specs.Ports.{body_marks, may_be_below, AllReady, FuturesWiden}
 use Rattle.sq_below.proofs.FromSound.{fits-at, ranks-of}
@@ -33,8 +33,8 @@ use Rattle.sq_below.proofs.Feeding.{inputs-alike, output-alike}
 use Rattle.sq_start.specs.Numbers.{place_stream}
 use Rattle.sq_start.specs.Nets.{fed_to, drop_fed_at}
 use Rattle.sq_start.specs.Starts.{IsReadReplay}
-use Rattle.sq_start.specs.Started.{node_marks, actor_marks}
-use Rattle.sq_start.specs.Comes.{point_streams, streams_to, FedMayCome, MarksAreTaken}
+use Rattle.sq_start.specs.NewOperators.{node_marks, actor_marks}
+use Rattle.sq_start.specs.Arrivals.{point_streams, streams_to, FedMayCome, MarksAreTaken}
 use Rattle.sq_start.proofs.BoxFacts.{Ready}
 use Rattle.sq_start.proofs.PointLemmas.{own-arc, own-drop}
 use Rattle.sq_start.proofs.OwnArcs.{own-fed}

@@ -9,15 +9,15 @@ use Rattle.sq_item.specs.Things as item
 use Rattle.sq_oper.specs.declared.tally.Moment.TheVariants.{Start}
 use Rattle.sq_oper.specs.Entries.{Entry}
 use Rattle.sq_oper.specs.Order.{content_fits, AllFit, IsFuture}
-use Rattle.sq_tagged.specs.Tagged.{HasNoMarks}
+use Rattle.sq_tagged.specs.TaggedStreams.{HasNoMarks}
 use Rattle.sq_graph.specs.Wires.{inputs_of, input_arcs_of, arc_at}
 use Rattle.sq_words.specs.Lists.{numbers_to, max_by}
 use Rattle.sq_net.specs.declared.Body.{Body}
-use Rattle.sq_net.specs.Sound.{IsSound}
-use Rattle.sq_model.specs.Fit.{SourcesFit}
+use Rattle.sq_net.specs.SoundNetworks.{IsSound}
+use Rattle.sq_model.specs.FittingStreams.{SourcesFit}
 use Rattle.sq_model.specs.Shedding.{Replay}
-use Rattle.sq_model.specs.Kept.{distance_of}
-use Rattle.sq_below.specs.Standing.{Drop, drop_above_box, plain_gives, marked_gives, box_gives, box_fed}
+use Rattle.sq_model.specs.KeptTuples.{distance_of}
+use Rattle.sq_below.specs.ArcContents.{Drop, drop_above_box, plain_gives, marked_gives, box_gives, box_fed}
 use Rattle.sq_below.specs.Actors.{Box, box_stream, stream_of}
 use Rattle.sq_below.specs.Ports.{body_fits, body_marks, marks_where, may_be_below, AllReady, FuturesWiden}
 use Rattle.sq_start.specs.Starts.{IsDropAbove, AreLags, IsBox}

@@ -18,21 +18,21 @@ use Rattle.sq_oper.specs.declared.tally.Moment.TheVariants.{Start}
 use Rattle.sq_oper.specs.Entries.{Entry}
 use Rattle.sq_oper.specs.Order.{IsFuture, unmarked}
 use Rattle.sq_oper.specs.Streams.{tuple_in, tuples_at, tuples_of, things, at_zero, at_ports_below}
-use Rattle.sq_tagged.specs.Tagged.{HasNoMarks, spread_of, tagged_of, below_bounds}
+use Rattle.sq_tagged.specs.TaggedStreams.{HasNoMarks, spread_of, tagged_of, below_bounds}
 use Rattle.sq_tagged.specs.Boxes.{filter_tagged, map_tagged, united_tagged, aggregate_tagged}
 use Rattle.sq_plain.specs.Boxes.{makes_tuple}
-use Rattle.sq_agg.specs.Held.{makes_result}
+use Rattle.sq_agg.specs.Holdings.{makes_result}
 use Rattle.sq_join.specs.Elements.{elements_of, side_of}
 use Rattle.sq_join.specs.Sides.{join_fits}
 use Rattle.sq_join.proofs.JoinLemmas.{join_new}
 use Rattle.sq_resample.specs.Resampling.{resample_fits}
 use Rattle.sq_net.specs.declared.Body.{Body}
 use Rattle.sq_net.specs.declared.Body.TheVariants.{Filter, Map, Union, BSort, Aggregate, Join, Resample}
-use Rattle.sq_model.specs.Fed.{late_at, late_by, late_of, fed_of}
-use Rattle.sq_model.specs.Full.{full_streams}
+use Rattle.sq_model.specs.FullCounts.{late_at, late_by, late_of, full_fed_of}
+use Rattle.sq_model.specs.FullStreams.{full_streams}
 use Rattle.sq_graph.specs.Wires.{stream_at}
 use Rattle.sq_model.specs.Shedding.{Replay, level_of}
-use Rattle.sq_below.specs.Standing.{port_tuples, box_fed}
+use Rattle.sq_below.specs.ArcContents.{port_tuples, box_fed}
 use Rattle.sq_below.specs.Ports.{FuturesWiden}
 use Rattle.sq_start.specs.Starts.{IsBox, BoxStarts}
 use Rattle.sq_start.proofs.BoxFacts.{Ready, box-future, box-stream, not-marked}
@@ -44,7 +44,7 @@ use Rattle.sq_oper.proofs.StreamLemmas.{at_zero-nil}
 -- a box that loses nothing has no late tuples
 none-late : (r : Replay) (b : ℕ) (kind : Body) (lags : List ℕ) (marked : Bool) → IsBox r b kind lags marked → ((taken given : ℕ) → late_by kind taken given ≡ 0) → (n : ℕ) → n ≡ 0 → n ≡ late_of r.network r.sources b
 none-late r b kind lags marked h none n zero =
-    let taken = fed_of r.network r.sources b in
+    let taken = full_fed_of r.network r.sources b in
     let given = length (nth (full_streams r.network r.sources) (stream_at r.network.wires b 0)) in
     zero ∙ sym (ap (λ o. late_at o taken given) h.there ∙ ap (λ k. late_by k taken given) h.is ∙ none taken given)
 

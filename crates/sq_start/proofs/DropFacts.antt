@@ -10,17 +10,17 @@ use Rattle.sq_oper.specs.declared.outs.Decision.{Decision}
 use Rattle.sq_oper.specs.Entries.{Entry}
 use Rattle.sq_oper.specs.Order.{IsFuture, unmarked}
 use Rattle.sq_oper.specs.Streams.{tuples_of, things, at_zero, first_port, port_fits}
-use Rattle.sq_tagged.specs.Tagged.{spread_of}
+use Rattle.sq_tagged.specs.TaggedStreams.{spread_of}
 use Rattle.sq_tagged.specs.Boxes.{drop_tagged, until_at, touched_batches}
 use Rattle.sq_windrop.specs.declared.drop.Dropping.{Dropping}
 use Rattle.sq_windrop.specs.Drops.{dropping, is_dropped, decision, decided}
 use Rattle.sq_windrop.specs.Gates as gates
 use Rattle.sq_place.specs.declared.DropPoint.{DropPoint}
-use Rattle.sq_net.specs.Sound.{IsSound}
-use Rattle.sq_model.specs.Fit.{SourcesFit}
+use Rattle.sq_net.specs.SoundNetworks.{IsSound}
+use Rattle.sq_model.specs.FittingStreams.{SourcesFit}
 use Rattle.sq_model.specs.Shedding.{Replay, level_of, drop_above_output}
 use Rattle.sq_below.specs.Laws.{PointsMeasured}
-use Rattle.sq_below.specs.Standing.{Drop, drop_gives_all, drop_decides_all, gate_gives_all, drop_fed, output_fed, DropsFit}
+use Rattle.sq_below.specs.ArcContents.{Drop, drop_gives_all, drop_decides_all, gate_gives_all, drop_fed, output_fed, DropsFit}
 use Rattle.sq_below.specs.Actors.{drop_stream}
 use Rattle.sq_below.specs.Ports.{marks_where, FuturesWiden}
 use Rattle.sq_start.specs.Nets.{decision_on}

@@ -13,9 +13,9 @@ use Rattle.sq_place.specs.declared.DropPoint.{DropPoint}
 use Rattle.sq_place.specs.declared.DropAt.TheVariants as at
 use Rattle.sq_points.specs.Points.{points_of}
 use Rattle.sq_model.specs.Shedding.{Replay}
-use Rattle.sq_left.specs.Left.{Net, Holding}
+use Rattle.sq_left.specs.Remainder.{Net, Holding}
 use Rattle.sq_below.specs.Laws.{PointsMeasured}
-use Rattle.sq_below.specs.Standing.{drop_fed, DropsFit}
+use Rattle.sq_below.specs.ArcContents.{drop_fed, DropsFit}
 use Rattle.sq_below.specs.Actors.{Actor, Box, Shedder, Shower, giver, arc_from, stream_of, StreamsFollow}
 use Rattle.sq_start.specs.Numbers.{IsThere, ops_of, number_of, actor_at, place_stream, shedder_reads, reads_of}
 use Rattle.sq_start.specs.Nets.{AllCome, fed_to, drop_fed_at}

@@ -19,14 +19,14 @@ use Rattle.sq_place.proofs.Wires.{arcs-inputs}
 use Rattle.sq_net.specs.declared.Body.TheVariants.{BSort}
 use Rattle.sq_net.specs.declared.Node.{Node}
 use Rattle.sq_net.specs.declared.Network.{Network}
-use Rattle.sq_net.specs.Sound.{IsSound, kind_of_body, takes_within}
+use Rattle.sq_net.specs.SoundNetworks.{IsSound, kind_of_body, takes_within}
 use Rattle.sq_net.proofs.StreamLemmas.{boxes_count}
-use Rattle.sq_model.specs.Full.{box_list, produced, full_on, full_arc, full_stream, full_streams}
-use Rattle.sq_model.specs.Fed.{fed_of, late_at, late_by, late_of}
+use Rattle.sq_model.specs.FullStreams.{box_list, produced, full_on, full_arc, full_stream, full_streams}
+use Rattle.sq_model.specs.FullCounts.{full_fed_of, late_at, late_by, late_of}
 use Rattle.sq_model.specs.Shedding.{Replay}
 use Rattle.sq_model.proofs.FullLemmas.{full_follows, full_listed}
 use Rattle.sq_model.proofs.PlacedLemmas.{placed_of}
-use Rattle.sq_below.specs.Standing.{standing, on_arc, drop_above_box, box_fed}
+use Rattle.sq_below.specs.ArcContents.{standing, on_arc, drop_above_box, box_fed}
 use Rattle.sq_below.specs.Ports.{FuturesWiden}
 use Rattle.sq_start.specs.Starts.{IsBox}
 use Rattle.sq_start.proofs.BoxFacts.{Ready, none-above}
@@ -119,7 +119,7 @@ late-sorted readies widen r b by slack lags marked h =
     let one : length ss ≡ 1 = takes-at n.wires.boxes n.boxes b by slack h.node sound.agrees.kinds (and_true _ _ sound.within).1 h.there h.is in
     let many : length (map full ss) ≡ 1 = length_map full ss ∙ one in
     let all : tuples_of (box_fed r b) ≡ nth (map full ss) 0 = ap tuples_of (fed-alone r sound b (omega (arith, within, count)) none) ∙ one-stream (map full ss) many in
-    let taken : length (tuples_of (box_fed r b)) ≡ fed_of n r.sources b =
+    let taken : length (tuples_of (box_fed r b)) ≡ full_fed_of n r.sources b =
     ap (λ (xs : List Tuple). length xs) all ∙ sym (same_sum (nth (full_streams n r.sources)) full (λ s. full_listed n r.sources placed s) ss ∙ one-sum full ss one) in
     let s = stream_at n.wires b 0 in
     let stream : nth (full_streams n r.sources) s ≡ bsort_list_of by slack (nth (map full ss) 0) =
@@ -131,5 +131,5 @@ late-sorted readies widen r b by slack lags marked h =
     let given : length (bsort_list_of by slack (tuples_of (box_fed r b))) ≡ length (nth (full_streams n r.sources) s) =
     ap (λ xs. length (bsort_list_of by slack xs)) all ∙ ap (λ (xs : List Tuple). length xs) (sym stream) in
     ap (λ k. k - length (bsort_list_of by slack (tuples_of (box_fed r b)))) taken
-    ∙ ap (λ k. fed_of n r.sources b - k) given
-    ∙ sym (ap (λ o. late_at o (fed_of n r.sources b) (length (nth (full_streams n r.sources) s))) h.there ∙ ap (λ k. late_by k (fed_of n r.sources b) (length (nth (full_streams n r.sources) s))) h.is)
+    ∙ ap (λ k. full_fed_of n r.sources b - k) given
+    ∙ sym (ap (λ o. late_at o (full_fed_of n r.sources b) (length (nth (full_streams n r.sources) s))) h.there ∙ ap (λ k. late_by k (full_fed_of n r.sources b) (length (nth (full_streams n r.sources) s))) h.is)

@@ -10,12 +10,12 @@ use Rattle.sq_graph.specs.declared.Producer.{Producer}
 use Rattle.sq_graph.specs.declared.Producer.TheVariants.{Source, Port}
 use Rattle.sq_graph.proofs.Producers.{producer_is}
 use Rattle.sq_net.specs.declared.Network.{Network}
-use Rattle.sq_net.specs.Sound.{IsSound}
+use Rattle.sq_net.specs.SoundNetworks.{IsSound}
 use Rattle.sq_net.proofs.StreamLemmas.{boxes_count}
 use Rattle.sq_place.specs.declared.DropPoint.{DropPoint}
 use Rattle.sq_place.specs.Places.{stream_on}
 use Rattle.sq_points.specs.Points.{points_of, drops_in}
-use Rattle.sq_below.specs.Standing.{Drop, drop_on_arc}
+use Rattle.sq_below.specs.ArcContents.{Drop, drop_on_arc}
 use Rattle.sq_below.specs.Actors.{Actor, Sources, Box, Shedder, Shower, giver, from_drop, arc_from}
 use Rattle.sq_start.specs.Numbers.{IsThere, first_output, ops_of, number_of, actor_at, place_stream, shedder_reads, reads_of}
 use Rattle.sq_start.proofs.PointLemmas.{first-found}

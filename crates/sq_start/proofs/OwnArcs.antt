@@ -10,9 +10,9 @@ use Rattle.sq_place.specs.declared.DropAt.{DropAt}
 use Rattle.sq_place.specs.declared.DropAt.TheVariants as at
 use Rattle.sq_place.specs.Places.{stream_or, own_arcs}
 use Rattle.sq_place.proofs.Apart.{one-only}
-use Rattle.sq_model.specs.Full.{full_on, full_arc, full_stream}
+use Rattle.sq_model.specs.FullStreams.{full_on, full_arc, full_stream}
 use Rattle.sq_model.specs.Shedding.{Replay, full_at}
-use Rattle.sq_below.specs.Standing.{Drop, drop_on_arc, toward, drop_fed, DropsFit}
+use Rattle.sq_below.specs.ArcContents.{Drop, drop_on_arc, toward, drop_fed, DropsFit}
 use Rattle.sq_start.specs.Numbers.{place_stream}
 use Rattle.sq_start.proofs.PointLemmas.{OwnArc}
 use Rattle.sq_words.specs.Lists.{contains_number}

@@ -18,8 +18,8 @@ use Rattle.sq_place.proofs.Lists.{any-map, contains-range, range-contains}
 use Rattle.sq_net.specs.declared.Network.{Network}
 use Rattle.sq_points.specs.Points.{windows_of, points_of}
 use Rattle.sq_model.specs.Shedding.{first_drop, drop_above_arc}
-use Rattle.sq_model.specs.Given.{IsAt}
-use Rattle.sq_below.specs.Standing.{Drop, drop_on_arc, drop_above_box}
+use Rattle.sq_model.specs.GivenLevels.{IsAt}
+use Rattle.sq_below.specs.ArcContents.{Drop, drop_on_arc, drop_above_box}
 use Rattle.sq_start.specs.Numbers.{place_stream}
 use Rattle.sq_place.proofs.PlaceWords.{reach_added, greatest}
 use Rattle.sq_words.proofs.Bools.{and_second, and_first}

@@ -18,7 +18,7 @@ use Rattle.sq_net.specs.declared.Body.TheVariants as body
 use Rattle.sq_net.specs.declared.Node.{Node}
 use Rattle.sq_net.specs.declared.Network.{Network}
 use Rattle.sq_net.specs.Columns.{prefixed, pair_columns}
-use Rattle.sq_net.specs.Sound.{IsSound, IsTypedBody, body_within, node_within, is_between, kind_of_body, takes_within}
+use Rattle.sq_net.specs.SoundNetworks.{IsSound, IsTypedBody, body_within, node_within, is_between, kind_of_body, takes_within}
 use Rattle.sq_net.specs.Streams.{columns_of_stream}
 use Rattle.sq_place.specs.declared.DropPoint.{DropPoint}
 use Rattle.sq_points.specs.Points.{points_of}
@@ -26,8 +26,8 @@ use Rattle.sq_below.specs.Ports.{body_fits}
 use Rattle.sq_below.specs.Actors.{Sources, Box, Shedder, Shower}
 use Rattle.sq_below.proofs.PortTypes.{resample-takes, left-count, length-prefixed, side-fits}
 use Rattle.sq_start.specs.Numbers.{place_stream}
-use Rattle.sq_start.specs.Comes.{point_streams, TuplesAreTaken}
-use Rattle.sq_start.specs.Started.{node_fits}
+use Rattle.sq_start.specs.Arrivals.{point_streams, TuplesAreTaken}
+use Rattle.sq_start.specs.NewOperators.{node_fits}
 use Rattle.sq_lists.specs.Pairs.{left_fields}
 use Rattle.sq_words.proofs.Bools.{and_true, and_first}
 use Rattle.sq_words.proofs.Lists.{number_there, has_item}

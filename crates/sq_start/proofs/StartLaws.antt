@@ -9,11 +9,11 @@ use Rattle.sq_place.specs.declared.DropPoint.{DropPoint}
 use Rattle.sq_net.proofs.StreamLemmas.{boxes_count}
 use Rattle.sq_points.specs.Points.{points_of, drops_in}
 use Rattle.sq_model.specs.Shedding.{Replay}
-use Rattle.sq_model.specs.Kept.{kept_of, fed_of, work_of, turns_of}
-use Rattle.sq_left.specs.Left.{Net, Holding, coming, inputs, IsLaidOut, fed_in_all}
+use Rattle.sq_model.specs.KeptTuples.{kept_of, fed_of, work_of, turns_of}
+use Rattle.sq_left.specs.Remainder.{Net, Holding, coming, inputs, IsLaidOut, fed_in_all}
 use Rattle.sq_left.proofs.NewEngine.{new-left, new-inputs, new-facts}
 use Rattle.sq_below.specs.Laws.{PointsMeasured}
-use Rattle.sq_below.specs.Standing.{DropsFit, OutputsFit, FedCounted}
+use Rattle.sq_below.specs.ArcContents.{DropsFit, OutputsFit, FedCounted}
 use Rattle.sq_below.specs.Actors.{Actor, Sources, Box, Shedder, Shower, stream_of, StreamsFollow}
 use Rattle.sq_start.specs.Numbers.{first_output, ops_of, actor_at}
 use Rattle.sq_start.specs.Nets.{fed_to, drop_fed_at, tuples_at_drop, count_fed}

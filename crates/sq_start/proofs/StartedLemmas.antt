@@ -16,15 +16,15 @@ use Rattle.sq_net.specs.declared.Network.{Network}
 use Rattle.sq_net.specs.declared.Node.{Node}
 use Rattle.sq_points.specs.Points.{points_of}
 use Rattle.sq_model.specs.Shedding.{Replay, level_of, drop_above_output}
-use Rattle.sq_model.specs.Kept.{distance_of}
+use Rattle.sq_model.specs.KeptTuples.{distance_of}
 use Rattle.sq_actor.specs.declared.actor.Actor as operator
 use Rattle.sq_actor.specs.contracts.actor.ActorOperator.TheImpl.{ghosts}
-use Rattle.sq_below.specs.Standing.{Drop, drop_above_box}
+use Rattle.sq_below.specs.ArcContents.{Drop, drop_above_box}
 use Rattle.sq_below.specs.Actors.{Box, Shedder, Shower}
 use Rattle.sq_below.specs.Ports.{body_fits, body_marks}
 use Rattle.sq_start.specs.Nets.{fed_to, drop_fed_at, drop_decisions}
 use Rattle.sq_start.specs.Starts.{IsReadReplay, IsDropAbove, AreLags, IsBox, IsDrop, length_above, BoxStarts, DropStarts, OutputStarts}
-use Rattle.sq_start.specs.Started.{node_marks, node_fits, actor_marks, IsStarted}
+use Rattle.sq_start.specs.NewOperators.{node_marks, node_fits, actor_marks, IsStarted}
 use Rattle.sq_words.proofs.Bools.{and_second, and_first}
 use Rattle.sq_words.proofs.Alls.{all_weaker}
 use Rattle.sq_words.proofs.Lists.{length_map}

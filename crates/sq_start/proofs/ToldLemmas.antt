@@ -14,15 +14,15 @@ use Rattle.sq_place.specs.declared.DropPoint.{DropPoint}
 use Rattle.sq_place.specs.Refusals.{IsFine}
 use Rattle.sq_place.proofs.Wires.{input-there}
 use Rattle.sq_net.specs.declared.Network.{Network}
-use Rattle.sq_net.specs.Sound.{IsSound}
+use Rattle.sq_net.specs.SoundNetworks.{IsSound}
 use Rattle.sq_points.specs.Points.{points_of}
 use Rattle.sq_points.specs.Limits.{KeepsDropLimits}
 use Rattle.sq_points.proofs.Bounds.{few_arcs}
 use Rattle.sq_windrop.specs.Gates.{IsLength}
 use Rattle.sq_model.specs.Shedding.{Replay, first_drop, drop_above_output}
-use Rattle.sq_model.specs.Given.{found_at}
+use Rattle.sq_model.specs.GivenLevels.{found_at}
 use Rattle.sq_below.specs.Laws.{PointsMeasured}
-use Rattle.sq_below.specs.Standing.{Drop, drop_above_box}
+use Rattle.sq_below.specs.ArcContents.{Drop, drop_above_box}
 use Rattle.sq_start.specs.Starts.{IsDropAbove, AreLags, lags_below, length_above}
 use Rattle.sq_start.proofs.PointLemmas.{first-found}
 use Rattle.sq_words.proofs.Alls.{all_at}

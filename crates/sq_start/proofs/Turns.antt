@@ -10,19 +10,19 @@ use Rattle.sq_item.specs.Things.{Thing}
 use Rattle.sq_oper.specs.Entries.{Entry, at_port}
 use Rattle.sq_oper.specs.Order.{earlier, merge_under, merge_two, merge_from}
 use Rattle.sq_oper.specs.Streams.{thing_of, things}
-use Rattle.sq_tagged.specs.Tagged.{Timed, Tagged, mark_thing, thing_sooner, spread_of, lessened}
+use Rattle.sq_tagged.specs.TaggedStreams.{Timed, Tagged, mark_thing, thing_sooner, spread_of, lessened}
 use Rattle.sq_graph.specs.declared.BoxWires.{BoxWires}
 use Rattle.sq_graph.specs.declared.Wiring.{Wiring}
 use Rattle.sq_graph.specs.Wires.{inputs_at, inputs_of, arc_at, input_arcs_of, output_arc_at}
 use Rattle.sq_place.specs.declared.DropPoint.{DropPoint}
 use Rattle.sq_place.specs.Points.{until_of}
 use Rattle.sq_points.specs.Points.{points_of}
-use Rattle.sq_model.specs.Full.{full_arc}
+use Rattle.sq_model.specs.FullStreams.{full_arc}
 use Rattle.sq_model.specs.Shedding.{Replay, first_drop, drop_above_arc, touched_batches, full_at, is_dropped}
-use Rattle.sq_model.specs.Kept.{distance_of, needed, kept_of, fed_of}
+use Rattle.sq_model.specs.KeptTuples.{distance_of, needed, kept_of, fed_of}
 use Rattle.sq_tagged.specs.Boxes.{mark_of}
-use Rattle.sq_below.specs.Carried.{drop_marks, marked_arc}
-use Rattle.sq_below.specs.Standing.{Drop, standing, on_arc, box_fed, drop_fed, output_fed}
+use Rattle.sq_below.specs.ArcStreams.{drop_marks, marked_arc}
+use Rattle.sq_below.specs.ArcContents.{Drop, standing, on_arc, box_fed, drop_fed, output_fed}
 use Rattle.sq_start.proofs.Sums.{total, total-fewer, total-added, total-split, sum-total, total-once}
 use Rattle.sq_oper.proofs.PortLemmas.{entries_length}
 use Rattle.sq_words.proofs.Lists.{length_map}

@@ -5,12 +5,12 @@ use Rattle.sq_words.specs.Lists.{numbers_to, nth}
 use Rattle.sq_oper.specs.declared.tally.Moment.TheVariants.{Start}
 use Rattle.sq_oper.specs.Order.{IsFuture}
 use Rattle.sq_oper.specs.Streams.{things}
-use Rattle.sq_model.specs.Fed.{late_of}
+use Rattle.sq_model.specs.FullCounts.{late_of}
 use Rattle.sq_model.specs.Shedding.{Replay, answer_of}
-use Rattle.sq_model.specs.Kept.{work_of, turns_of}
-use Rattle.sq_left.specs.Left.{Net, Holding, coming, inputs, is_known_actor, IsLaidOut, Facts, fed_in_all, lost_in_all, still_dropped}
+use Rattle.sq_model.specs.KeptTuples.{work_of, turns_of}
+use Rattle.sq_left.specs.Remainder.{Net, Holding, coming, inputs, is_known_actor, IsLaidOut, Facts, fed_in_all, lost_in_all, still_dropped}
 use Rattle.sq_below.specs.Actors.{Shower, stream_of}
-use Rattle.sq_below.specs.Standing.{box_fed}
+use Rattle.sq_below.specs.ArcContents.{box_fed}
 use Rattle.sq_start.specs.Numbers.{ops_of, number_of, actor_at}
 use Rattle.sq_start.specs.Nets.{Joins, fed_to, decided_by, count_fed}
 use Rattle.sq_start.specs.Starts.{IsReadReplay}

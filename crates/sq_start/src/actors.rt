@@ -1,12 +1,12 @@
 //! All operators of a network, new.
 
 ghost use Rattle.std.specs.Prelude.{◌≡◌, ◌<◌, ℕ, IfOk, OnOk, length};
-ghost use Rattle.sq_net.specs.Sound.{IsSound};
+ghost use Rattle.sq_net.specs.SoundNetworks.{IsSound};
 ghost use Rattle.sq_points.specs.Points.{points_of};
 ghost use Rattle.sq_points.specs.Limits.{KeepsDropLimits};
 ghost use Rattle.sq_below.specs.Actors.{Box, Shedder, Shower};
 ghost use Rattle.sq_start.specs.Numbers.{ops_of, first_output};
-ghost use Rattle.sq_start.specs.Started.{IsStarted, AreStarted};
+ghost use Rattle.sq_start.specs.NewOperators.{IsStarted, AreStarted};
 
 use crate::boxes::box_actor;
 use crate::drops::{drop_actor, gate_actor};

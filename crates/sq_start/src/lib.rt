@@ -8,7 +8,7 @@
 #![tactic(auto)]
 
 ghost use Rattle.sq_start.specs.Laws.{StartsAsReplayed};
-ghost use Rattle.sq_start.specs.Comes.{FedMayCome, MarksAreTaken, TuplesAreTaken};
+ghost use Rattle.sq_start.specs.Arrivals.{FedMayCome, MarksAreTaken, TuplesAreTaken};
 
 mod actors;
 mod boxes;

@@ -8,10 +8,10 @@ use Rattle.toml.specs.Data.{Members, get_member, as_str, as_integer}
 use Rattle.sq_net.specs.declared.NetErr.{NetErr}
 use Rattle.sq_net.specs.declared.NetErr.TheVariants as broken
 use Rattle.sq_net.specs.declared.Part.TheVariants as part
-use Rattle.sq_tables.specs.declared.raw.BodyTable.{BodyTable}
-use Rattle.sq_tables.specs.declared.raw.BoxTable.{BoxTable}
-use Rattle.sq_tables.specs.declared.raw.NetworkTable.{NetworkTable}
-use Rattle.sq_tables.specs.declared.raw.Version.{Version}
+use Rattle.sq_tables.specs.declared.tables.BodyTable.{BodyTable}
+use Rattle.sq_tables.specs.declared.tables.BoxTable.{BoxTable}
+use Rattle.sq_tables.specs.declared.tables.NetworkTable.{NetworkTable}
+use Rattle.sq_tables.specs.declared.tables.Version.{Version}
 use Rattle.sq_words.specs.Options as option
 use Rattle.sq_tables.specs.Documents.{list_in, optional, required, when}
 use Rattle.sq_tables.specs.Places.{part_place}

@@ -2,11 +2,11 @@
 use Rattle.std.proofs.Common.{◌≡◌, ℕ, List, [], ◌∷◌, Option, Some, None, refl, ℤ, pos, negsuc}
 use Rattle.std.specs.Prelude.{codes}
 use Rattle.toml.specs.Data.{Data, string, integer, array, Items, no_items, item, Members, no_members, member}
-use Rattle.sq_tables.specs.declared.raw.Over.TheVariants.{Avg, First}
-use Rattle.sq_tables.specs.declared.raw.Answer.TheVariants.{Count, Field}
-use Rattle.sq_tables.specs.declared.raw.BodyTable.TheVariants.{Filter, Map, Union, BSort, Aggregate, Join, Resample}
-use Rattle.sq_tables.specs.declared.raw.OutputTable.{OutputTable}
-use Rattle.sq_tables.specs.declared.raw.Version.TheVariants.{One, Two}
+use Rattle.sq_tables.specs.declared.tables.Over.TheVariants.{Avg, First}
+use Rattle.sq_tables.specs.declared.tables.Answer.TheVariants.{Count, Field}
+use Rattle.sq_tables.specs.declared.tables.BodyTable.TheVariants.{Filter, Map, Union, BSort, Aggregate, Join, Resample}
+use Rattle.sq_tables.specs.declared.tables.OutputTable.{OutputTable}
+use Rattle.sq_tables.specs.declared.tables.Version.TheVariants.{One, Two}
 use Rattle.sq_tables.specs.Shapes.{body_in, box_in, answer_column_in, output_in}
 
 abbrev texts : List (List ℕ) → Data

@@ -3,5 +3,5 @@ pub mod Readings
 pub mod Refusals
 pub mod Places
 pub mod Shapes
-pub mod ShapesSeen
+pub mod ShapeViews
 pub mod Tables

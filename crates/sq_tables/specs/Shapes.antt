@@ -4,19 +4,19 @@ use Rattle.std.specs.Prelude.{◌≡◌, ℕ, ◌+◌, true, ◌==◌, if◌then
 use Rattle.sq_words.specs.Lists.{same_bytes}
 use Rattle.std.specs.List.{All}
 use Rattle.toml.specs.Data.{Data, array, no_items, item, Members, get_member, as_str, as_integer, as_table}
-use Rattle.sq_tables.specs.declared.raw.SourceTable.{SourceTable}
-use Rattle.sq_tables.specs.declared.raw.Setting.{Setting}
-use Rattle.sq_tables.specs.declared.raw.Over.{Over}
-use Rattle.sq_tables.specs.declared.raw.Over.TheVariants.{Sum, Avg, Min, Max, First, Last}
-use Rattle.sq_tables.specs.declared.raw.Answer.TheVariants.{Count, Field}
-use Rattle.sq_tables.specs.declared.raw.AnswerColumn.{AnswerColumn}
-use Rattle.sq_tables.specs.declared.raw.BodyTable.{BodyTable}
-use Rattle.sq_tables.specs.declared.raw.BodyTable.TheVariants.{Filter, Map, Union, BSort, Aggregate, Join, Resample}
-use Rattle.sq_tables.specs.declared.raw.BoxTable.{BoxTable}
-use Rattle.sq_tables.specs.declared.raw.Version.{Version}
-use Rattle.sq_tables.specs.declared.raw.Version.TheVariants.{One, Two}
-use Rattle.sq_tables.specs.declared.raw.OutputTable.{OutputTable}
-use Rattle.sq_tables.specs.declared.raw.NetworkTable.{NetworkTable}
+use Rattle.sq_tables.specs.declared.tables.SourceTable.{SourceTable}
+use Rattle.sq_tables.specs.declared.tables.Setting.{Setting}
+use Rattle.sq_tables.specs.declared.tables.Over.{Over}
+use Rattle.sq_tables.specs.declared.tables.Over.TheVariants.{Sum, Avg, Min, Max, First, Last}
+use Rattle.sq_tables.specs.declared.tables.Answer.TheVariants.{Count, Field}
+use Rattle.sq_tables.specs.declared.tables.AnswerColumn.{AnswerColumn}
+use Rattle.sq_tables.specs.declared.tables.BodyTable.{BodyTable}
+use Rattle.sq_tables.specs.declared.tables.BodyTable.TheVariants.{Filter, Map, Union, BSort, Aggregate, Join, Resample}
+use Rattle.sq_tables.specs.declared.tables.BoxTable.{BoxTable}
+use Rattle.sq_tables.specs.declared.tables.Version.{Version}
+use Rattle.sq_tables.specs.declared.tables.Version.TheVariants.{One, Two}
+use Rattle.sq_tables.specs.declared.tables.OutputTable.{OutputTable}
+use Rattle.sq_tables.specs.declared.tables.NetworkTable.{NetworkTable}
 use Rattle.sq_tables.specs.Documents.{when, list_in, has_only, required, optional}
 use Rattle.sq_words.specs.Options.{◌>>=◌}
 

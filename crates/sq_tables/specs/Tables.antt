@@ -7,9 +7,9 @@ use Rattle.sq_net.specs.declared.Part.{Part}
 use Rattle.sq_net.specs.declared.Part.TheVariants as part
 use Rattle.sq_net.specs.declared.NetErr.{NetErr}
 use Rattle.sq_net.specs.declared.NetErr.TheVariants as broken
-use Rattle.sq_tables.specs.declared.raw.NetworkTable.{NetworkTable}
-use Rattle.sq_tables.specs.declared.raw.Version.{Version}
-use Rattle.sq_tables.specs.declared.raw.Version.TheVariants.{One, Two}
+use Rattle.sq_tables.specs.declared.tables.NetworkTable.{NetworkTable}
+use Rattle.sq_tables.specs.declared.tables.Version.{Version}
+use Rattle.sq_tables.specs.declared.tables.Version.TheVariants.{One, Two}
 use Rattle.sq_tables.specs.Documents.{document_in}
 use Rattle.sq_tables.specs.Places.{part_place}
 use Rattle.sq_tables.specs.Shapes.{top_in, source_in, box_in, output_in}

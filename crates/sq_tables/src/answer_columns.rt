@@ -7,7 +7,7 @@ ghost use Rattle.sq_tables.specs.Readings.{Reads};
 ghost use Rattle.sq_tables.specs.Shapes.{counting_in, function_in, answer_column_in, over_named};
 
 use crate::document::{Array, Table, Unread, Value, text_in, value_at};
-use crate::raw::{Answer, AnswerColumn, Over};
+use crate::tables::{Answer, AnswerColumn, Over};
 use sq_value::{ListOf, same_text};
 use std::alloc::{AllocError, Global};
 

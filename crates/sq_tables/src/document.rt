@@ -11,7 +11,7 @@ ghost use Rattle.sq_tables.specs.Readings.{IsUnreadTable, Reads};
 ghost use Rattle.sq_tables.specs.Shapes.{default_selectivity, setting_in};
 ghost use Rattle.sq_tables.specs.Refusals.{is_memory};
 
-use crate::raw::Setting;
+use crate::tables::Setting;
 use sq_net::NetErr;
 use sq_value::{ListOf, Name, same_text};
 use std::alloc::{AllocError, Global};

@@ -14,17 +14,18 @@ ghost use Rattle.sq_tables.specs.Shapes.{AreEven};
 mod answer_columns;
 mod document;
 mod graphs;
-mod raw;
 mod reading;
 mod shape;
+mod tables;
 
 use document::{Table, value_at};
-pub use raw::{
-    Answer, AnswerColumn, Over, NetworkTable, BodyTable, BoxTable, OutputTable, SourceTable, Setting, Version,
-};
 pub use shape::port_count;
 use sq_net::NetErr;
 use std::alloc::Global;
+pub use tables::{
+    Answer, AnswerColumn, BodyTable, BoxTable, NetworkTable, OutputTable, Over, Setting,
+    SourceTable, Version,
+};
 
 fn version_numbered(number: i64) -> Option<Version>
     ensures { result ≡ version_numbered number }

@@ -10,8 +10,8 @@ ghost use Rattle.sq_tables.specs.Refusals.{IsAnswerOf, is_memory};
 ghost use Rattle.sq_tables.specs.Shapes.{box_in, output_in, source_in};
 
 use crate::document::{Table, Unread};
-use crate::raw::{NetworkTable, BoxTable, OutputTable, SourceTable, Version};
 use crate::shape::{box_in, output_in, source_in, top_in};
+use crate::tables::{BoxTable, NetworkTable, OutputTable, SourceTable, Version};
 use sq_net::{NetErr, Part, Place};
 use sq_value::ListOf;
 use std::alloc::{AllocError, Global};

@@ -4,7 +4,7 @@ ghost use Rattle.sq_tables.specs.Documents.{has_only};
 ghost use Rattle.toml.specs.View.{table_view};
 ghost use Rattle.sq_tables.specs.Readings.{IsUnreadTable, Reads};
 ghost use Rattle.sq_tables.specs.Shapes.{aggregate_in, aggregate_keys, body_in, box_in, bsort_in, filter_in, join_in, map_in, output_in, port_count, resample_in, source_in, top_in, union_in, window_keys};
-ghost use Rattle.sq_tables.specs.ShapesSeen.{tables_seen};
+ghost use Rattle.sq_tables.specs.ShapeViews.{tables_seen};
 
 use crate::answer_columns::answer_columns_at;
 use crate::document::{
@@ -12,7 +12,7 @@ use crate::document::{
     settings_at, tables_at, text_at, texts_at,
 };
 use crate::graphs::graph_at;
-use crate::raw::{BodyTable, BoxTable, OutputTable, SourceTable, Version};
+use crate::tables::{BodyTable, BoxTable, OutputTable, SourceTable, Version};
 use sq_value::same_text;
 use std::alloc::Global;
 

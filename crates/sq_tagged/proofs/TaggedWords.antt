@@ -1,7 +1,7 @@
 -- Streams with marks, as a pair of lists and as they stand on an arc: words of the proofs alone.
 use Rattle.sq_item.specs.Things.{Body, Content, Sign, Thing}
 use Rattle.std.specs.Prelude.{List, ℕ, [], ◌+◌, ◌≤◌, ◌∷◌, ◌++◌}
-use Rattle.sq_tagged.specs.Tagged.{Timed, mark_in}
+use Rattle.sq_tagged.specs.TaggedStreams.{Timed, mark_in}
 
 abbrev pub marks_in : List Thing → List Timed
 marks_in [] = []

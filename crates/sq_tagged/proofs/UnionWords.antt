@@ -1,6 +1,6 @@
 -- The boxes that take marks, as functions of whole streams with marks: words of the proofs alone.
 use Rattle.std.specs.Prelude.{Bool, List, map, nat_lt, ℕ, [], ◌∷◌}
-use Rattle.sq_tagged.specs.Tagged.{Tagged, Timed, below_bounds, first_marks, lessened_by}
+use Rattle.sq_tagged.specs.TaggedStreams.{Tagged, Timed, below_bounds, first_marks, lessened_by}
 use Rattle.sq_words.specs.Lists.{ports_of, sort_by}
 use Rattle.sq_lists.specs.Merge.{union}
 

@@ -19,7 +19,7 @@ use Rattle.sq_net.specs.declared.Source as declared
 use Rattle.sq_net.specs.declared.Node.{Node}
 use Rattle.sq_net.specs.declared.Body.{Body}
 use Rattle.sq_net.specs.declared.Body.TheVariants.{Filter, Map, Union, BSort, Aggregate, Join, Resample}
-use Rattle.sq_net.specs.Sound.{IsSound, IsTypedBody, input_columns, body_within, node_within}
+use Rattle.sq_net.specs.SoundNetworks.{IsSound, IsTypedBody, input_columns, body_within, node_within}
 use Rattle.sq_points.proofs.Bounds.{at_most, nodes_within, few_streams}
 use Rattle.sq_tap.specs.Names.{is_dotted, port_names, ports_named, stream_names, stream_named}
 use Rattle.sq_net.specs.Names.{port_name}

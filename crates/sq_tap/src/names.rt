@@ -5,7 +5,7 @@ ghost use Rattle.std.specs.List.{flat_map, position_from, All};
 ghost use Rattle.sq_words.specs.Lists.{same_bytes};
 ghost use Rattle.sq_graph.specs.Order.{is_there};
 ghost use Rattle.sq_graph.specs.Wires.{producer_of};
-ghost use Rattle.sq_net.specs.Sound.{IsSound};
+ghost use Rattle.sq_net.specs.SoundNetworks.{IsSound};
 ghost use Rattle.sq_tap.specs.Names.{is_dotted, port_names, ports_named, stream_named};
 ghost use Rattle.sq_net.specs.Names.{port_name};
 

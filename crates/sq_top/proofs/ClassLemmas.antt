@@ -4,8 +4,8 @@ use Rattle.std.specs.Prelude.{codes, IsTrue, ⊤}
 use Rattle.std.specs.Fmt.{decimal}
 use Rattle.std.specs.List.{AllByRecursion, filter, flat_map, list_any}
 use Rattle.sq_words.specs.Lists.{same_bytes}
-use Rattle.sq_value.specs.Classes.{Class, Shown, Dropped, Planned, Ended, first_field, second_field, is_of_class}
-use Rattle.sq_value.proofs.LineLemmas.{is_line}
+use Rattle.sq_lines.specs.Classes.{Class, Shown, Dropped, Planned, Ended, first_field, second_field, is_of_class}
+use Rattle.sq_lines.proofs.LineLemmas.{is_line}
 use Rattle.sq_top.specs.Due.{Due}
 use Rattle.sq_top.specs.Answers.{IsClassIn, is_classed, class_lines}
 use Rattle.sq_words.proofs.Bools.{and_true}

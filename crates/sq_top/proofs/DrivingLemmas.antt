@@ -7,10 +7,10 @@ use Rattle.sq_words.specs.Lists.{IsPrefixOf}
 use Rattle.sq_outside.specs.Disks.{Pages}
 use Rattle.sq_outside.specs.Sinks.{AppendsPrefix, appended}
 use Rattle.sq_net.specs.declared.Network.{Network}
-use Rattle.sq_net.specs.Sound.{IsSound}
+use Rattle.sq_net.specs.SoundNetworks.{IsSound}
 use Rattle.sq_oper.specs.declared.outs.Event.{Event}
 use Rattle.sq_oper.specs.declared.outs.Event.TheVariants.{Line, Dropped, Plan}
-use Rattle.sq_replay.specs.Shown.{IsEventOf, event_line}
+use Rattle.sq_lines.specs.RunLines.{IsEventOf, event_line}
 use Rattle.sq_points.specs.Points.{points_of}
 use Rattle.sq_model.specs.Shedding.{Replay}
 use Rattle.sq_start.specs.Nets.{drop_decisions}

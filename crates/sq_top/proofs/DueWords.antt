@@ -4,10 +4,10 @@ use Rattle.std.specs.Prelude.{List, map, ℕ, ◌++◌}
 use Rattle.sq_net.specs.declared.Network.{Network}
 use Rattle.sq_net.specs.declared.Output.{Output}
 use Rattle.sq_plan.specs.declared.closing.Shown.{Shown}
-use Rattle.sq_value.specs.LineTexts.{drop_line, output_line, plan_line}
+use Rattle.sq_lines.specs.LineTexts.{drop_line, output_line, plan_line}
 use Rattle.sq_points.specs.Points.{drops_in}
 use Rattle.std.specs.List.{flat_map}
-use Rattle.sq_replay.specs.Shown.{lines_text}
+use Rattle.sq_lines.specs.RunLines.{lines_text}
 use Rattle.sq_words.specs.Lists.{numbers_to}
 
 -- all lines, class by class, and their text

@@ -7,10 +7,10 @@ use Rattle.std.proofs.lemmas.Bool.Decides.{nat_tests}
 use Rattle.std.proofs.lemmas.List.Elements.{recursion_from_All}
 use Rattle.sq_value.specs.declared.Tuple.{Tuple}
 use Rattle.sq_words.specs.Lists.{contains_bytes, numbers_to, same_bytes}
-use Rattle.sq_value.specs.Classes.{Shown, Dropped, Planned, Ended, second_field}
-use Rattle.sq_value.specs.LineTexts.{drop_line, line_of, needs_quotes, output_line, plan_line, late_line, end_line}
+use Rattle.sq_lines.specs.Classes.{Shown, Dropped, Planned, Ended, second_field}
+use Rattle.sq_lines.specs.LineTexts.{drop_line, line_of, needs_quotes, output_line, plan_line, late_line, end_line}
 use Rattle.sq_value.specs.Texts.{text_of}
-use Rattle.sq_value.proofs.RowLemmas.{first_field-line_of, is_line-line_of}
+use Rattle.sq_lines.proofs.RowLemmas.{first_field-line_of, is_line-line_of}
 use Rattle.sq_outside.specs.Faults.{Rose}
 use Rattle.sq_outside.specs.Folders.{Files}
 use Rattle.sq_outside.specs.Sinks.{AppendsPrefix, appended, AppendsSuch}
@@ -18,7 +18,7 @@ use Rattle.sq_net.specs.declared.Network.{Network}
 use Rattle.sq_net.specs.declared.Node.{Node}
 use Rattle.sq_net.specs.declared.Output.{Output}
 use Rattle.sq_net.specs.Names.{has_name_form, is_name, reserved}
-use Rattle.sq_net.specs.Sound.{IsSound}
+use Rattle.sq_net.specs.SoundNetworks.{IsSound}
 use Rattle.sq_model.specs.Shedding as model
 use Rattle.sq_plan.specs.declared.closing.Shown.{Shown as ShownPlan}
 use Rattle.sq_oper.specs.declared.outs.Decision.{Decision}
@@ -27,8 +27,8 @@ use Rattle.sq_top.specs.declared.Command.TheVariants as command
 use Rattle.sq_top.specs.declared.Status.{Status}
 use Rattle.sq_top.specs.declared.Status.TheVariants as status
 use Rattle.sq_top.specs.Commands.{command_in, runs_engine}
-use Rattle.sq_replay.specs.Shown.{boxes_from, end_lines, fed_line, is_sorter, late_lines}
-use Rattle.sq_csv.proofs.NumberLemmas.{decimal_bare}
+use Rattle.sq_lines.specs.RunLines.{boxes_from, end_lines, fed_line, is_sorter, late_lines}
+use Rattle.sq_lines.proofs.NumberLemmas.{decimal_bare}
 use Rattle.std.proofs.lemmas.List.{length-map}
 use Rattle.sq_place.specs.Points.{point_at}
 use Rattle.sq_place.specs.Places.{drop_places_of}
@@ -39,7 +39,7 @@ use Rattle.std.proofs.lemmas.Fmt.{decimal_nonempty}
 use Rattle.sq_top.specs.Due.{Answer, Due, answer_in, due_in, due_of, ended_in, fed_in, late_in, replayed, turns_in, work_in}
 use Rattle.sq_top.specs.Answers.{IsPrefixText, IsWholeText}
 use Rattle.sq_gen.specs.Files.{made_of}
-use Rattle.sq_top.specs.Made.{HasBadMade, NamesMade}
+use Rattle.sq_top.specs.Generation.{HasBadMade, NamesMade}
 use Rattle.sq_top.specs.Messages.{name_at}
 use Rattle.sq_top.specs.Summaries.{summary_of}
 use Rattle.sq_top.specs.Driving.{IsCutShort}

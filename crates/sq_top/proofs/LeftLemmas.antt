@@ -7,9 +7,9 @@ use Rattle.sq_outside.specs.Sinks.{AppendsPrefix, appended}
 use Rattle.sq_road.specs.Levels.{AgreesWith}
 use Rattle.sq_oper.specs.declared.outs.Event.{Event}
 use Rattle.sq_plan.specs.Plans.{Setting}
-use Rattle.sq_plan.specs.Shown.{level_for}
+use Rattle.sq_plan.specs.PlanRows.{level_for}
 use Rattle.sq_points.specs.Points.{points_of, drops_in}
-use Rattle.sq_replay.specs.Shown.{event_line}
+use Rattle.sq_lines.specs.RunLines.{event_line}
 use Rattle.sq_pool.specs.Trust.{Tells}
 use Rattle.sq_queue.specs.Faces.{Together}
 use Rattle.sq_actor.specs.declared.actor.Actor.{Actor}

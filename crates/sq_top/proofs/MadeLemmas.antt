@@ -19,7 +19,7 @@ use Rattle.sq_tables.specs.Refusals.{is_memory}
 use Rattle.sq_top.specs.declared.Status.{Status}
 use Rattle.sq_top.specs.declared.Status.TheVariants as status
 use Rattle.sq_top.specs.Causes.{HasBadLine, IsRefusedBy}
-use Rattle.sq_top.specs.Made.{HasBadMade, HasBadStreams}
+use Rattle.sq_top.specs.Generation.{HasBadMade, HasBadStreams}
 use Rattle.sq_top.specs.Messages.{name_at, source_name_in, network_if_ok}
 use Rattle.sq_top.specs.Scripts.{Done, AcceptedReplay, Script, Stops, after_stream, made_limits, made_script, made_sources, made_streams, made_unread, with_sources}
 

@@ -5,7 +5,7 @@ use Rattle.std.specs.List.{AllByRecursion, filter, list_all}
 use Rattle.std.proofs.lemmas.List.Elements.{filter-append}
 use Rattle.std.proofs.lemmas.List.Folds.{list_all-append}
 use Rattle.sq_words.specs.Lists.{same_bytes}
-use Rattle.sq_value.specs.Classes.{Class, Shown, Dropped, Planned, Ended, is_of_class}
+use Rattle.sq_lines.specs.Classes.{Class, Shown, Dropped, Planned, Ended, is_of_class}
 use Rattle.sq_top.specs.Due.{Due}
 use Rattle.sq_top.specs.Answers.{is_classed}
 use Rattle.sq_top.proofs.ClassLemmas.{IsLineOf, TellsClasses, all_map}

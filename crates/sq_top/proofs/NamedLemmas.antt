@@ -6,7 +6,7 @@ use Rattle.std.specs.List.{filter, flat_map, list_any, range_with_len, zip}
 use Rattle.std.proofs.lemmas.Bool.{eqb-true, eqb-false, or_right, false_from_ne_true, or_left}
 use Rattle.std.proofs.lemmas.Fmt.{decimal_injective}
 use Rattle.sq_words.specs.Lists.{are_distinct, contains_bytes, numbers_to, same_bytes}
-use Rattle.sq_value.specs.LineTexts.{output_line}
+use Rattle.sq_lines.specs.LineTexts.{output_line}
 use Rattle.sq_net.specs.declared.Output.{Output}
 use Rattle.sq_top.specs.Due.{Answer}
 use Rattle.sq_top.proofs.DueWords.{shown_at_output, dropped_from}

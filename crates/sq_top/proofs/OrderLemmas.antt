@@ -6,11 +6,11 @@ use Rattle.std.proofs.lemmas.List.{length-append, take-append-drop}
 use Rattle.std.proofs.lemmas.List.Elements.{filter-append}
 use Rattle.std.proofs.lemmas.List.Folds.{list_all-append}
 use Rattle.sq_words.specs.Lists.{IsPrefixOf}
-use Rattle.sq_value.specs.Classes.{Class, Ended, is_of_class, of_class, whole_lines, unfinished}
-use Rattle.sq_value.proofs.LineLemmas.{AreLines, Cut, IsFront, cut_prefix, is_line, unfinished-cut, whole_lines-cut, whole_lines-lines, unfinished-lines}
+use Rattle.sq_lines.specs.Classes.{Class, Ended, is_of_class, of_class, whole_lines, unfinished}
+use Rattle.sq_lines.proofs.LineLemmas.{AreLines, Cut, IsFront, cut_prefix, is_line, unfinished-cut, whole_lines-cut, whole_lines-lines, unfinished-lines}
 use Rattle.sq_top.specs.Due.{Due}
 use Rattle.sq_top.specs.Answers.{AreOthersAll, AreOthersWhole, BeginsNext, IsClassIn, IsPrefixText, IsWholeText, is_classed, class_lines}
-use Rattle.sq_replay.specs.Shown.{lines_text}
+use Rattle.sq_lines.specs.RunLines.{lines_text}
 use Rattle.sq_top.proofs.ClassLemmas.{AreAlike, IsDueLine, TellsClasses, alike, all_middle, is_end, is_ended, lines_due, not_ended, plain_class}
 use Rattle.sq_top.proofs.OrderWords.{IsNextOf, EachIsNext, IsLineOrder, AreAll}
 use Rattle.sq_words.proofs.Alls.{all_append}

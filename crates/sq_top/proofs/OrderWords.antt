@@ -1,6 +1,6 @@
 -- Orders in which the lines of a run may be written: line by line, each the next of its class: words of the proofs alone.
 use Rattle.sq_top.specs.Answers.{AreOthersAll, IsClassIn, class_lines}
-use Rattle.sq_value.specs.Classes.{Class, Ended, is_of_class}
+use Rattle.sq_lines.specs.Classes.{Class, Ended, is_of_class}
 use Rattle.sq_top.specs.Due.{Due}
 use Rattle.sq_words.specs.Lists.{IsPrefixOf}
 use Rattle.std.specs.Prelude.{List, ℕ, ⊤, [], ◌≡◌, ◌∷◌, ◌++◌}

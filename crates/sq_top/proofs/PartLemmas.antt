@@ -6,22 +6,22 @@ use Rattle.std.proofs.lemmas.List.Elements.{All-from_recursion}
 use Rattle.sq_outside.specs.Folders.{Files}
 use Rattle.sq_value.specs.declared.Tuple.{Tuple}
 use Rattle.sq_words.specs.Lists.{numbers_to}
-use Rattle.sq_value.specs.LineTexts.{output_line}
+use Rattle.sq_lines.specs.LineTexts.{output_line}
 use Rattle.sq_value.specs.Values.{IsStream}
 use Rattle.sq_graph.specs.Wires.{output_arc_at}
 use Rattle.sq_road.specs.Draws.{draw_of}
 use Rattle.sq_place.specs.declared.DropPoint.{DropPoint}
 use Rattle.sq_plan.specs.Plans.{Setting}
-use Rattle.sq_plan.specs.Shown.{is_quiet, shown_after}
+use Rattle.sq_plan.specs.PlanRows.{is_quiet, shown_after}
 use Rattle.sq_points.specs.Points.{drops_in, points_of, setting_of}
-use Rattle.sq_model.specs.Full.{full_arc}
+use Rattle.sq_model.specs.FullStreams.{full_arc}
 use Rattle.sq_model.specs.Shedding as model
 use Rattle.sq_model.specs.Shedding.{answer_of, counts_in, drop_above_output, epoch_of, is_dropped, level_of, record_of, shown, touched_batches}
 use Rattle.sq_net.specs.declared.Network.{Network}
 use Rattle.sq_net.specs.declared.NetErr.{NetErr}
 use Rattle.sq_net.specs.declared.Output.{Output}
 use Rattle.sq_net.specs.declared.Source.{Source}
-use Rattle.sq_net.specs.Sound.{IsSound, source_within}
+use Rattle.sq_net.specs.SoundNetworks.{IsSound, source_within}
 use Rattle.sq_reader.specs.Networks.{network_in}
 use Rattle.sq_reader.proofs.SoundLemmas.{network_sound}
 use Rattle.sq_replay.specs.declared.why.Why.{Why}

@@ -6,7 +6,7 @@ use Rattle.sq_outside.specs.Folders.{Files}
 use Rattle.sq_net.specs.declared.NetErr.{NetErr}
 use Rattle.sq_net.specs.declared.Network.{Network}
 use Rattle.sq_net.specs.declared.Source.{Source}
-use Rattle.sq_net.specs.Sound.{IsSound}
+use Rattle.sq_net.specs.SoundNetworks.{IsSound}
 use Rattle.sq_plan.specs.Plans.{Entries}
 use Rattle.sq_reader.specs.Networks.{network_in}
 use Rattle.sq_reader.proofs.SoundLemmas.{network_sound}
@@ -29,7 +29,7 @@ use Rattle.sq_top.specs.Scripts.{AcceptedReplay, Script, Reads, Done, Stops, aft
 use Rattle.sq_top.specs.Reads.{GoesBy, IsFileRead, ScriptLeads, LeadsWith, network_read}
 use Rattle.sq_top.specs.Causes.{is_plain_end}
 use Rattle.sq_top.proofs.JoinLemmas.{tapped_sound}
-use Rattle.sq_top.specs.Told.{FilePart, NetworkFile, CapacityFile, PicksFile, StreamFile, TextFile, is_named_file, limit_of, may_be}
+use Rattle.sq_top.specs.ToldFolders.{FilePart, NetworkFile, CapacityFile, PicksFile, StreamFile, TextFile, is_named_file, limit_of, may_be}
 use Rattle.std.proofs.lemmas.Bool.{or_right, or_left}
 use Rattle.sq_words.proofs.Lists.{same_bytes_itself}
 

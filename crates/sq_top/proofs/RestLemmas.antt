@@ -8,14 +8,14 @@ use Rattle.std.proofs.lemmas.Grind.{flat_map-append}
 use Rattle.std.proofs.Math.Seq.{drop-append_seam}
 use Rattle.sq_value.specs.declared.Tuple.{Tuple}
 use Rattle.sq_words.specs.Lists.{IsPrefixOf}
-use Rattle.sq_value.specs.Classes.{Ended}
+use Rattle.sq_lines.specs.Classes.{Ended}
 use Rattle.sq_net.specs.declared.Network.{Network}
-use Rattle.sq_net.specs.Sound.{IsSound}
+use Rattle.sq_net.specs.SoundNetworks.{IsSound}
 use Rattle.sq_oper.specs.declared.outs.Event.{Event}
 use Rattle.sq_oper.specs.declared.outs.Decision.{Decision}
 use Rattle.sq_oper.specs.declared.outs.Event.TheVariants.{Line, Dropped as Decided, Plan}
 use Rattle.sq_plan.specs.declared.closing.Shown.{Shown as ShownPlan}
-use Rattle.sq_replay.specs.Shown.{event_line, lines_text}
+use Rattle.sq_lines.specs.RunLines.{event_line, lines_text}
 use Rattle.sq_flow.specs.Events.{drops_of, lines_of}
 use Rattle.sq_flow.specs.Plans.{plans_of}
 use Rattle.sq_points.specs.Points.{drops_in}

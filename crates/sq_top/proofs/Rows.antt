@@ -9,7 +9,7 @@ use Rattle.sq_value.specs.declared.Tuple.{Tuple}
 use Rattle.sq_value.specs.declared.Kind.TheVariants as kind
 use Rattle.sq_value.specs.declared.Value.TheVariants as value
 use Rattle.sq_words.specs.Lists.{numbers_to, same_bytes}
-use Rattle.sq_value.specs.Classes.{Ended, Shown, of_class}
+use Rattle.sq_lines.specs.Classes.{Ended, Shown, of_class}
 use Rattle.sq_expr.specs.declared.What.TheVariants as what
 use Rattle.sq_graph.specs.declared.BoxKind.TheVariants as boxes
 use Rattle.sq_aggfn.specs.declared.Func.{Func}

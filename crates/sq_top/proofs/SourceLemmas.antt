@@ -8,13 +8,13 @@ use Rattle.sq_value.specs.declared.Tuple.{Tuple}
 use Rattle.sq_value.specs.Values.{Columns, IsStream, IsTuple, fields_fit}
 use Rattle.sq_net.specs.declared.Network.{Network}
 use Rattle.sq_net.specs.declared.Source.{Source}
-use Rattle.sq_net.specs.Sound.{is_between, network_within, source_within}
+use Rattle.sq_net.specs.SoundNetworks.{is_between, network_within, source_within}
 use Rattle.sq_oper.specs.Streams.{IsSoundTuple}
-use Rattle.sq_model.specs.Fit.{FitsOption, SourcesFit}
+use Rattle.sq_model.specs.FittingStreams.{FitsOption, SourcesFit}
 use Rattle.sq_replay.specs.Laws.{ReadsStreams}
 use Rattle.sq_replay.specs.Streams.{stream_in}
 use Rattle.sq_replay.proofs.FitLemmas.{streams_fit}
-use Rattle.sq_top.specs.Recorded.{AreRecorded}
+use Rattle.sq_top.specs.SourceFiles.{AreRecorded}
 use Rattle.sq_words.specs.Lists.{nth}
 use Rattle.sq_words.proofs.Bools.{and_true}
 

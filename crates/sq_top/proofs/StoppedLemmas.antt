@@ -16,7 +16,7 @@ use Rattle.sq_net.specs.declared.NetErr.{NetErr}
 use Rattle.sq_net.specs.declared.NetErr.TheVariants as net
 use Rattle.sq_net.specs.declared.Network.{Network}
 use Rattle.sq_net.specs.declared.Source.{Source}
-use Rattle.sq_net.specs.Sound.{IsSound, is_between}
+use Rattle.sq_net.specs.SoundNetworks.{IsSound, is_between}
 use Rattle.sq_reader.specs.Networks.{network_in}
 use Rattle.sq_tables.specs.Refusals.{is_memory}
 use Rattle.sq_tap.specs.declared.TapErr.{TapErr}

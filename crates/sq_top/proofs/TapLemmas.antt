@@ -16,7 +16,7 @@ use Rattle.sq_top.specs.Messages.{network_if_ok}
 use Rattle.sq_top.specs.Scripts.{Done, AcceptedReplay, Reads, after_query, after_streams, after_tap, after_tapped, after_words, query_script, script_of, tap_script, tap_unread}
 use Rattle.sq_top.specs.Reads.{IsFileRead, ScriptLeads, LeadsWith, network_read}
 use Rattle.sq_top.specs.Causes.{IsBadTap, IsNetworkFile, IsQueryRefused, IsStopped, IsUnread}
-use Rattle.sq_top.specs.Views.{IsAskedBy}
+use Rattle.sq_top.specs.CommandViews.{IsAskedBy}
 use Rattle.sq_top.proofs.ReadsLemmas.{leads_read, leads_still, with_then, words_lead}
 use Rattle.sq_top.proofs.StoppedLemmas.{not_memory, stopped_memory, stopped_rule, stopped_unread}
 use Rattle.sq_reader.specs.Limits.{settings_limit}

@@ -3,7 +3,7 @@ use Rattle.std.proofs.Common.{◌≡◌, ℕ, ◌+◌, ◌<◌, ◌≤◌, List,
 use Rattle.std.specs.List.{flat_map, zip}
 use Rattle.std.proofs.lemmas.List.FromFn.{get_or-range_with_len, length-range_with_len}
 use Rattle.sq_words.specs.Lists.{numbers_to}
-use Rattle.sq_replay.proofs.PairLemmas.{pairs_all, pairs_text-more}
+use Rattle.sq_lines.proofs.PairLemmas.{pairs_all, pairs_text-more}
 
 module _ (ks : List ℕ) (i : ℕ) where
   even : length ks ≡ length (numbers_to (length ks))

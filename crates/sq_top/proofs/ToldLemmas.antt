@@ -7,7 +7,7 @@ use Rattle.sq_words.specs.Lists.{contains_bytes, same_bytes}
 use Rattle.sq_outside.specs.Faults.{Rose, RoseBy}
 use Rattle.sq_outside.specs.Folders.{Files, file}
 use Rattle.sq_reader.specs.Networks.{network_in}
-use Rattle.sq_net.specs.Sound.{IsSound}
+use Rattle.sq_net.specs.SoundNetworks.{IsSound}
 use Rattle.sq_replay.specs.declared.why.Why.{Why}
 use Rattle.sq_top.specs.declared.Command.{Command}
 use Rattle.sq_top.specs.declared.Command.TheVariants as command
@@ -20,7 +20,7 @@ use Rattle.sq_top.specs.Due.{due_of, replayed}
 use Rattle.sq_top.specs.Reads.{GoesBy, IfAccepted, network_read}
 use Rattle.sq_top.specs.Stopping.{is_garbled}
 use Rattle.sq_top.specs.Causes.{Ends, IsEngineOf, IsPrefixOfDue, IsRefusedAt, IsUnread, IsWholeOf, NamesSource, TellsFor, Outside, is_refusal, turns_for, work_for}
-use Rattle.sq_top.specs.Told.{EndsOver, FilePart, NetworkFile, CapacityFile, PicksFile, StreamFile, TextFile, FolderHasCause, HasFailedAt, MatchAccepted, NamesTold, limit_of, looked_at, may_be, network_named}
+use Rattle.sq_top.specs.ToldFolders.{EndsOver, FilePart, NetworkFile, CapacityFile, PicksFile, StreamFile, TextFile, FolderHasCause, HasFailedAt, MatchAccepted, NamesTold, limit_of, looked_at, may_be, network_named}
 use Rattle.sq_top.proofs.ClassLemmas.{TellsClasses}
 use Rattle.sq_top.proofs.EndLemmas.{begun_nothing, replay_tells_classes}
 use Rattle.sq_top.proofs.ReadsLemmas.{Holds, HoldsFor, IsPartOf, IsRuleOf, is_rule, left_holds, script_holds}

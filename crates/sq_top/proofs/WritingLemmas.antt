@@ -4,7 +4,7 @@ use Rattle.std.specs.Prelude.{Result, Ok, Err, OnOk, OnErr}
 use Rattle.std.specs.List.{flat_map}
 use Rattle.sq_outside.specs.Sinks.{AppendsPrefix, appended}
 use Rattle.sq_outside.proofs.SinkLemmas.{appended-append}
-use Rattle.sq_replay.proofs.PairLemmas.{text-more, text-rest}
+use Rattle.sq_lines.proofs.PairLemmas.{text-more, text-rest}
 use Rattle.sq_top.specs.Writing.{Moves}
 
 pub moves-then : (before mid now : Option (List ℕ)) (waited waits later more next : List ℕ) → Moves before waited mid waits more → Moves mid waits now later next

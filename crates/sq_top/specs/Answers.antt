@@ -3,7 +3,7 @@ use Rattle.std.specs.Prelude.{◌≡◌, ◌≢◌, ◌⊎◌, ℕ, Bool, true, 
 use Rattle.std.specs.List.{filter, flat_map, list_any, list_all}
 use Rattle.std.specs.Fmt.{decimal}
 use Rattle.sq_words.specs.Lists.{same_bytes, IsPrefixOf}
-use Rattle.sq_value.specs.Classes.{Class, Shown, Dropped, Planned, Ended, is_of_class, of_class, whole_lines, unfinished}
+use Rattle.sq_lines.specs.Classes.{Class, Shown, Dropped, Planned, Ended, is_of_class, of_class, whole_lines, unfinished}
 use Rattle.sq_top.specs.Due.{Due}
 
 -- the lines that belong to a class

@@ -7,11 +7,11 @@ use Rattle.sq_outside.specs.Faults.{Rose}
 use Rattle.sq_outside.specs.Sinks.{AppendsPrefix, appended}
 use Rattle.sq_net.specs.declared.Network.{Network}
 use Rattle.sq_oper.specs.declared.outs.Event.{Event}
-use Rattle.sq_replay.specs.Shown.{end_lines_from, event_line, lines_text}
+use Rattle.sq_lines.specs.RunLines.{end_lines_from, event_line, lines_text}
 use Rattle.sq_model.specs.Shedding.{Replay}
 use Rattle.sq_pool.specs.Trust.{Tells}
 use Rattle.sq_road.specs.Levels.{AgreesWith}
-use Rattle.sq_plan.specs.Shown.{level_for}
+use Rattle.sq_plan.specs.PlanRows.{level_for}
 use Rattle.sq_flow.specs.Events.{IsEventIn, drops_of, lines_of}
 use Rattle.sq_flow.specs.Flows.{HoldsItems, Stepped, decisions_left, items_in, lines_left}
 use Rattle.sq_flow.specs.Plans.{IsPlanned, plans_left, plans_of}

@@ -7,13 +7,13 @@ use Rattle.sq_net.specs.declared.Network.{Network}
 use Rattle.sq_net.specs.declared.Output.{Output}
 use Rattle.sq_oper.specs.declared.outs.Decision.{Decision}
 use Rattle.sq_plan.specs.declared.closing.Shown.{Shown}
-use Rattle.sq_replay.specs.Shown.{end_lines_from}
+use Rattle.sq_lines.specs.RunLines.{end_lines_from}
 use Rattle.sq_points.specs.Points.{points_of}
-use Rattle.sq_model.specs.Fed.{late_of}
-use Rattle.sq_model.specs.Kept.{fed_of, turns_of, work_of}
+use Rattle.sq_model.specs.FullCounts.{late_of}
+use Rattle.sq_model.specs.KeptTuples.{fed_of, turns_of, work_of}
 use Rattle.sq_model.specs.Shedding as model
 use Rattle.sq_model.specs.Shedding.{answer_of}
-use Rattle.sq_model.specs.Shown.{plans_shown}
+use Rattle.sq_model.specs.PlanLines.{plans_shown}
 use Rattle.sq_start.specs.Nets.{drop_decisions}
 use Rattle.sq_top.specs.Scripts.{AcceptedReplay}
 use Rattle.sq_top.proofs.DueWords.{due_from}

@@ -1,7 +1,7 @@
 pub mod Commands
 pub mod Taps
 pub mod Scripts
-pub mod Views
+pub mod CommandViews
 pub mod Due
 pub mod Parts
 pub mod Summaries
@@ -11,9 +11,9 @@ pub mod Stopping
 pub mod Failing
 pub mod Driving
 pub mod Counting
-pub mod Recorded
+pub mod SourceFiles
 pub mod Messages
 pub mod Reads
-pub mod Told
+pub mod ToldFolders
 pub mod Causes
-pub mod Made
+pub mod Generation

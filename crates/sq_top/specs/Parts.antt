@@ -3,7 +3,7 @@ use Rattle.std.specs.Prelude.{◌≡◌, ℕ, List, [], ◌∷◌, map, Option, 
 use Rattle.std.specs.List.{flat_map}
 use Rattle.sq_outside.specs.Folders.{Files}
 use Rattle.sq_value.specs.declared.Tuple.{Tuple}
-use Rattle.sq_value.specs.LineTexts.{output_line}
+use Rattle.sq_lines.specs.LineTexts.{output_line}
 use Rattle.sq_net.specs.declared.Network.{Network}
 use Rattle.sq_reader.specs.Networks.{network_in}
 use Rattle.sq_tap.specs.Names.{stream_named}

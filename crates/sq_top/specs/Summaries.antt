@@ -6,7 +6,7 @@ use Rattle.sq_words.specs.Lists.{numbers_to}
 use Rattle.sq_net.specs.declared.Network.{Network}
 use Rattle.sq_net.specs.declared.Node.{Node}
 use Rattle.sq_net.specs.declared.Output.{Output}
-use Rattle.sq_replay.specs.Shown.{is_sorter}
+use Rattle.sq_lines.specs.RunLines.{is_sorter}
 use Rattle.sq_model.specs.Shedding.{Replay}
 use Rattle.sq_points.specs.Points.{drops_in}
 use Rattle.sq_top.specs.Due.{answer_in, fed_in, late_in}

@@ -2,15 +2,15 @@
 ghost use Rattle.std.specs.Prelude.{◌≡◌, ◌≢◌, ℕ, ◌≤◌, Bool, true, IfErr, IfOk, List, OnErr, OnOk, Option, Some, map};
 ghost use Rattle.sq_outside.specs.Disks.{DiskLog, Pages};
 ghost use Rattle.sq_outside.specs.Sinks.{AppendsPrefix, appended};
-ghost use Rattle.sq_net.specs.Sound.{IsSound};
+ghost use Rattle.sq_net.specs.SoundNetworks.{IsSound};
 ghost use Rattle.sq_points.specs.Limits.{KeepsDropLimits};
 ghost use Rattle.sq_top.specs.declared.Command.TheVariants as Command;
 ghost use Rattle.sq_top.specs.Commands.{command_in};
 ghost use Rattle.sq_top.specs.Scripts.{Done, plain_args, script_of, with_text};
 ghost use Rattle.sq_top.specs.Reads.{ScriptLeads};
 ghost use Rattle.sq_top.specs.Causes.{Ends, IsStopped, is_plain_end, source_told, verdict_text};
-ghost use Rattle.sq_top.specs.Views.{replay_of};
-ghost use Rattle.sq_top.specs.Recorded.{AreRecorded};
+ghost use Rattle.sq_top.specs.CommandViews.{replay_of};
+ghost use Rattle.sq_top.specs.SourceFiles.{AreRecorded};
 ghost use Rattle.sq_top.specs.Writing.{IsLost};
 ghost use Rattle.sq_value.specs.CommandWords.{may_name};
 

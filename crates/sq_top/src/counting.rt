@@ -1,7 +1,7 @@
 // A run, driven to its end, of which the lines are counted and not written.
 ghost use Rattle.std.specs.Prelude.{◌≡◌, ℕ, ◌+◌, ◌≤◌, ◌<◌, [], ◌∷◌, None, IfErr, IfOk, OnOk, length, replicate, slice_index, slice_set};
 ghost use Rattle.std.specs.List.{AllByRecursion};
-ghost use Rattle.sq_net.specs.Sound.{IsSound};
+ghost use Rattle.sq_net.specs.SoundNetworks.{IsSound};
 ghost use Rattle.sq_model.specs.Shedding.{Replay};
 ghost use Rattle.sq_oper.specs.declared.outs.Event.{Event};
 ghost use Rattle.sq_pool.specs.Trust.{IsLater, Tells, known};

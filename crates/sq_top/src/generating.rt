@@ -1,7 +1,7 @@
 // What a number makes, read as the files of a run are.
 ghost use Rattle.std.specs.Prelude.{◌≡◌, ◌⊎◌, ℕ, ◌+◌, ◌^◌, ◌<◌, ◌≤◌, IfErr, IfOk, Ok, Err, [], false, length, map, true};
 ghost use Rattle.sq_gen.specs.Files.{made_of};
-ghost use Rattle.sq_net.specs.Sound.{IsSound, source_within};
+ghost use Rattle.sq_net.specs.SoundNetworks.{IsSound, source_within};
 ghost use Rattle.sq_net.specs.declared.NetErr.{NetErr};
 ghost use Rattle.sq_points.specs.Limits.{KeepsDropLimits};
 ghost use Rattle.sq_reader.specs.Networks.{network_in};
@@ -10,10 +10,10 @@ ghost use Rattle.sq_replay.specs.Laws.{ReadsStreams};
 ghost use Rattle.sq_replay.specs.Streams.{stream_in};
 ghost use Rattle.sq_tables.specs.Refusals.{is_memory};
 ghost use Rattle.sq_top.specs.Causes.{HasBadLine, IsRefusedBy, source_told};
-ghost use Rattle.sq_top.specs.Made.{HasBadMade, HasBadStreams};
-ghost use Rattle.sq_top.specs.Recorded.{AreRecorded};
+ghost use Rattle.sq_top.specs.Generation.{HasBadMade, HasBadStreams};
+ghost use Rattle.sq_top.specs.SourceFiles.{AreRecorded};
 ghost use Rattle.sq_top.specs.Scripts.{Done, AcceptedReplay, made_script, made_streams, with_sources};
-ghost use Rattle.sq_top.specs.Views.{replay_of};
+ghost use Rattle.sq_top.specs.CommandViews.{replay_of};
 
 use crate::Status;
 use crate::reading::{Accepted, Stopped, refused_by, stopped_by, tuples_of};

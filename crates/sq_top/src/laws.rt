@@ -5,7 +5,7 @@ ghost use Rattle.sq_top.specs.declared.Status.{Status};
 ghost use Rattle.sq_top.specs.Causes.{Ends, Outside};
 ghost use Rattle.sq_top.specs.Commands.{command_in};
 ghost use Rattle.sq_top.specs.Parts.{TapsShowParts};
-ghost use Rattle.sq_top.specs.Told.{EndsOver, FolderHasCause, looked_at};
+ghost use Rattle.sq_top.specs.ToldFolders.{EndsOver, FolderHasCause, looked_at};
 
 /// Over a folder that tells its files a run ends as they say: what it reads is what is told.
 pub fn told_files_decide()

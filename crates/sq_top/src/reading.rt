@@ -1,6 +1,6 @@
 // The files of a run, read in the order of work.
 ghost use Rattle.std.specs.Prelude.{true, ◌≡◌, ◌⊎◌, ℕ, ◌+◌, ◌++◌, ◌∷◌, ◌^◌, ◌<◌, ◌≤◌, IfOk, IfErr, List, None, Ok, OnErr, OnOk, Some, [], length, map};
-ghost use Rattle.sq_net.specs.Sound.{IsSound, source_within};
+ghost use Rattle.sq_net.specs.SoundNetworks.{IsSound, source_within};
 ghost use Rattle.sq_points.specs.Limits.{KeepsDropLimits};
 ghost use Rattle.sq_replay.specs.Laws.{ReadsStreams};
 ghost use Rattle.sq_replay.specs.Streams.{stream_in};
@@ -9,8 +9,8 @@ ghost use Rattle.sq_top.specs.Commands.{command_in};
 ghost use Rattle.sq_top.specs.Scripts.{Done, AcceptedReplay, after_streams, capacities_script, picks_script, script_of, with_sources};
 ghost use Rattle.sq_top.specs.Reads.{AreBytesOf, ScriptLeads, LeadsWith};
 ghost use Rattle.sq_top.specs.Causes.{AreCapacitiesOf, ArePicksOf, HasNoCapacities, HasNoPicks, HasBadLine, HasNoStream, HasNoStreams, EndsAtBadLine, IsNetworkFile, IsRefusedBy, IsStopped, IsStreamOf, IsUnread, source_told};
-ghost use Rattle.sq_top.specs.Views.{replay_of};
-ghost use Rattle.sq_top.specs.Recorded.{AreRecorded};
+ghost use Rattle.sq_top.specs.CommandViews.{replay_of};
+ghost use Rattle.sq_top.specs.SourceFiles.{AreRecorded};
 ghost use Rattle.sq_reader.specs.Limits.{settings_limit};
 
 use crate::{RunArgs, Status};

@@ -1,14 +1,14 @@
 // A tap: the network, the query, and the tuples of the network's sources.
 ghost use Rattle.std.specs.Prelude.{◌≡◌, ◌⊎◌, ℕ, ◌^◌, ◌<◌, ◌≤◌, [], Err, IfErr, IfOk, List, Ok, OnOk, length, map};
-ghost use Rattle.sq_net.specs.Sound.{IsSound};
+ghost use Rattle.sq_net.specs.SoundNetworks.{IsSound};
 ghost use Rattle.sq_points.specs.Limits.{KeepsDropLimits};
 ghost use Rattle.sq_tap.specs.Names.{stream_named};
 ghost use Rattle.sq_top.specs.Causes.{IsBadTap, IsQueryRefused, IsStopped, IsTapRefused, source_told};
 ghost use Rattle.sq_top.specs.Reads.{ScriptLeads, LeadsWith};
-ghost use Rattle.sq_top.specs.Recorded.{AreRecorded};
+ghost use Rattle.sq_top.specs.SourceFiles.{AreRecorded};
 ghost use Rattle.sq_top.specs.Scripts.{Done, after_query, query_script, script_of};
 ghost use Rattle.sq_top.specs.Taps.{first_tick, tapped};
-ghost use Rattle.sq_top.specs.Views.{IsAskedBy, replay_of};
+ghost use Rattle.sq_top.specs.CommandViews.{IsAskedBy, replay_of};
 
 use crate::Status;
 use crate::generating::{FRAMES, TRAIN};

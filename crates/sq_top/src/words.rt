@@ -5,7 +5,7 @@ ghost use Rattle.std.specs.Option.{option_map};
 ghost use Rattle.std.specs.String.{string_bytes};
 ghost use Rattle.sq_value.specs.Texts.{is_digit, read_number};
 ghost use Rattle.sq_top.specs.Commands.{args_of, audit_args, command_in, dashed_piece, gen_args, given_from, is_known_option, lone, named_piece, number_or, number_within, piece_of, rule_named, rule_of, run_args, same_option, tap_args, tick_in, option_values, whole_piece};
-ghost use Rattle.sq_top.specs.Views.{wanted_view, given_view, piece_view, text_view};
+ghost use Rattle.sq_top.specs.CommandViews.{wanted_view, given_view, piece_view, text_view};
 ghost use Rattle.sq_value.specs.CommandWords.{may_name};
 
 use crate::{Command, RunArgs, WordsErr};

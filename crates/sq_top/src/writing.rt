@@ -1,7 +1,7 @@
 // Text on its way to the output, in pieces, and the lines at the end of a run.
 ghost use Rattle.std.specs.Prelude.{◌≡◌, ◌≤◌, ◌++◌, [], IfErr, IfOk, OnErr, OnOk, length, map};
 ghost use Rattle.sq_words.specs.Lists.{numbers_to};
-ghost use Rattle.sq_net.specs.Sound.{IsSound};
+ghost use Rattle.sq_net.specs.SoundNetworks.{IsSound};
 ghost use Rattle.sq_outside.specs.Sinks.{AppendsPrefix, appended};
 ghost use Rattle.sq_core.specs.Runs.{IsSoundEngine, fed_at, late_at_seat};
 ghost use Rattle.sq_top.specs.Writing.{IsLost, Moves};
@@ -9,9 +9,9 @@ ghost use Rattle.sq_top.specs.Driving.{ends_text};
 
 use crate::Status;
 use sq_core::Engine;
+use sq_lines::end_lines_from;
 use sq_net::Network;
 use sq_outside::{Failed, Sink, write_all};
-use sq_replay::end_lines_from;
 use std::alloc::{AllocError, Global};
 
 /// How many bytes are gathered before they are written.

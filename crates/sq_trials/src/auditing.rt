@@ -1,9 +1,9 @@
 // A network of two Aggregates, one behind the other, over the ticks 0 to 15, and texts with the lines of their verdicts. Batches are
 // of four ticks; the full lines of the output are those of 0, 4, 8 and 12.
 ghost use Rattle.std.specs.Prelude.{map};
-ghost use Rattle.sq_net.specs.Sound.{IsSound};
+ghost use Rattle.sq_net.specs.SoundNetworks.{IsSound};
 ghost use Rattle.sq_points.specs.Limits.{KeepsDropLimits};
-ghost use Rattle.sq_top.specs.Recorded.{AreRecorded};
+ghost use Rattle.sq_top.specs.SourceFiles.{AreRecorded};
 
 use crate::given::{Given, read_given};
 use sq_audit::{append_verdict_line, audit_text};

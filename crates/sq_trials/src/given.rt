@@ -1,9 +1,9 @@
 // A network of one source and what that source recorded, as the readers say them.
 ghost use Rattle.std.specs.Prelude.{◌≡◌, true, IfOk, map};
-ghost use Rattle.sq_net.specs.Sound.{IsSound, source_within};
+ghost use Rattle.sq_net.specs.SoundNetworks.{IsSound, source_within};
 ghost use Rattle.sq_points.specs.Limits.{KeepsDropLimits};
 ghost use Rattle.sq_replay.specs.Laws.{ReadsStreams};
-ghost use Rattle.sq_top.specs.Recorded.{AreRecorded};
+ghost use Rattle.sq_top.specs.SourceFiles.{AreRecorded};
 
 use sq_net::{Network, Source};
 use sq_reader::read_network;

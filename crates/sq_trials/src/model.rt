@@ -1,9 +1,9 @@
 // A network of one BSort that has no room, and of an output that shows it; and a drop whose second and third batch fall in an
 // overload.
 ghost use Rattle.std.specs.Prelude.{map};
-ghost use Rattle.sq_net.specs.Sound.{IsSound};
+ghost use Rattle.sq_net.specs.SoundNetworks.{IsSound};
 ghost use Rattle.sq_points.specs.Limits.{KeepsDropLimits};
-ghost use Rattle.sq_top.specs.Recorded.{AreRecorded};
+ghost use Rattle.sq_top.specs.SourceFiles.{AreRecorded};
 
 use crate::given::{Given, read_given};
 use sq_graph::output_arc;

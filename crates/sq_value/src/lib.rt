@@ -1,7 +1,7 @@
-//! Values, tuples and schemas, and what every layer says of lists, of texts and of the lines that a run writes.
+//! Values, tuples and schemas.
 //!
-//! The lowest layer: it stands on std alone. Its contracts promise that values are totally ordered, that reading
-//! and writing are one rule of text, and that a copy is equal to what it was made of.
+//! Its contracts promise that values are totally ordered, that reading and writing are one rule of text, and that a copy is equal to what
+//! it was made of. Below stand the words on lists.
 #![tactic(auto)]
 
 ghost use Rattle.std.specs.Prelude.{◌≡◌, ◌↔◌, ◌<◌, ◌≤◌, [], Err, None, Some, IfOk, MatchResult, length, IsUtf8};

@@ -6,13 +6,13 @@ use Rattle.std.proofs.lemmas.Bool.{cases_Bool, and_parts, not-true, or_parts, fa
 use Rattle.std.proofs.lemmas.Bool.Decides.{nat_tests}
 use Rattle.std.proofs.lemmas.List.Folds.{list_all-append}
 use Rattle.sq_words.specs.Lists.{same_bytes, contains_bytes, are_distinct, numbers_to, max_by}
-use Rattle.sq_value.specs.LineTexts.{end_line}
+use Rattle.sq_lines.specs.LineTexts.{end_line}
 use Rattle.std.specs.Fmt.{decimal}
 use Rattle.std.proofs.lemmas.Option.{same_Some}
-use Rattle.sq_value.specs.Classes.{Class, Shown, Dropped, Planned, Ended, first_field, second_field, is_of_class, of_class, whole_lines, unfinished}
+use Rattle.sq_lines.specs.Classes.{Class, Shown, Dropped, Planned, Ended, first_field, second_field, is_of_class, of_class, whole_lines, unfinished}
 use Rattle.sq_verdict.specs.declared.verdict.Verdict.TheVariants as verdict
 use Rattle.sq_verdict.specs.Faults.{Lines, drop_told_in, batch_of, recorded, batch_rises, has_first, is_end, has_word, output_told_in, is_next, is_line_at, count_of, word_fault, class_fault, fault_of, ends_with_end, is_short, verdict_from, verdict_on}
-use Rattle.sq_verdict.specs.Whole.{Expected, IsWhole, is_expected}
+use Rattle.sq_verdict.specs.WholeTexts.{Expected, IsWhole, is_expected}
 use Rattle.sq_verdict.proofs.WholeWords.{IsSoundDue}
 use Rattle.sq_words.proofs.Bools.{or_cases}
 use Rattle.sq_words.proofs.Lists.{same_bytes_true, same_bytes_itself, same_bytes_turned, get_next, cons_parts}

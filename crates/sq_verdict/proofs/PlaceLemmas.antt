@@ -9,8 +9,8 @@ use Rattle.std.proofs.lemmas.List.Elements.{filter-append}
 use Rattle.std.proofs.lemmas.Option.{same_Some, slice_get-map}
 use Rattle.sq_value.specs.declared.Tuple.{Tuple}
 use Rattle.sq_words.specs.Lists.{same_bytes, are_distinct, contains_bytes, nth}
-use Rattle.sq_value.specs.LineTexts.{output_line}
-use Rattle.sq_value.specs.Classes.{Shown, first_field, is_of_class}
+use Rattle.sq_lines.specs.LineTexts.{output_line}
+use Rattle.sq_lines.specs.Classes.{Shown, first_field, is_of_class}
 use Rattle.sq_verdict.specs.declared.verdict.Wanted.{Wanted}
 use Rattle.sq_verdict.specs.Faults.{has_first, count_of, is_next, is_line_at}
 use Rattle.sq_verdict.specs.Wanting.{is_left, left_of, shown_of, shown_one}

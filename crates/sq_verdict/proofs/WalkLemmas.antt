@@ -10,7 +10,7 @@ use Rattle.std.proofs.lemmas.List.Folds.{list_any-append}
 use Rattle.std.proofs.lemmas.Option.{slice_get-map}
 use Rattle.sq_value.specs.declared.Tuple.{Tuple}
 use Rattle.sq_words.specs.Lists.{max_by, same_bytes}
-use Rattle.sq_value.specs.Classes.{whole_lines, unfinished}
+use Rattle.sq_lines.specs.Classes.{whole_lines, unfinished}
 use Rattle.sq_verdict.specs.declared.verdict.AuditWhy.{AuditWhy}
 use Rattle.sq_verdict.specs.declared.verdict.AuditWhy.TheVariants as why
 use Rattle.sq_verdict.specs.declared.verdict.Verdict.{Verdict}

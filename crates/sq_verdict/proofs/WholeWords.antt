@@ -1,5 +1,5 @@
 -- Texts in which nothing is wrong: each line of a class is there, in order, and nothing else is, whatever the order between classes: words of the proofs alone.
-use Rattle.sq_verdict.specs.Whole.{AreEnds, Expected}
+use Rattle.sq_verdict.specs.WholeTexts.{AreEnds, Expected}
 use Rattle.std.specs.Prelude.{List, Some, map, true, ℕ, ◌≡◌, ◌<◌, ◌∷◌, ◌++◌}
 use Rattle.sq_words.specs.Lists.{are_distinct}
 use Rattle.sq_verdict.specs.Faults.{batch_rises, drop_told_in}

@@ -5,7 +5,7 @@ use Rattle.std.specs.BTreeSet.{BTreeSet, Updates, contains}
 use Rattle.std.specs.Ordering.{nat_cmp}
 use Rattle.sq_value.specs.declared.Tuple.{Tuple}
 use Rattle.sq_words.specs.Lists.{max_by, same_bytes, contains_number, nth}
-use Rattle.sq_value.specs.LineTexts.{output_line}
+use Rattle.sq_lines.specs.LineTexts.{output_line}
 use Rattle.sq_verdict.specs.declared.verdict.Wanted.{Wanted}
 use Rattle.sq_verdict.specs.declared.verdict.AuditWhy.{AuditWhy}
 use Rattle.sq_verdict.specs.declared.verdict.AuditWhy.TheVariants as why

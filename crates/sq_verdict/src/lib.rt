@@ -5,7 +5,7 @@
 //! which, or that something is missing behind lines without one, or yes. No network, engine, capacities or seed stand in it, so it
 //! doesn't say that a batch had to be dropped. The text is gone over twice, a line at a time, since a later line may record the
 //! batch of an earlier tuple: once for what it records, and once beside the streams. No list of lines is built. Below stand
-//! `sq_value` (the lines and their classes), `sq_csv` (a line as bytes) and of `sq_graph` a word on lists of numbers.
+//! `sq_lines` (the lines, their classes and what they are) and `sq_value`.
 #![tactic(auto)]
 
 mod cutting;

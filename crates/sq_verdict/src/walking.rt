@@ -2,7 +2,7 @@
 ghost use Rattle.std.specs.Prelude.{◌≡◌, ◌≢◌, ◌<◌, ◌+◌, ◌^◌, ◌∷◌, ◌++◌, [], ℕ, List, None, true, false, map, max, is_some, length, IfOk, IfSome, if◌then◌else◌, slice_get, slice_index, nat_lt, not, ◌||◌, ◌==◌, replicate};
 ghost use Rattle.std.specs.List.{All, find, list_any};
 ghost use Rattle.sq_words.specs.Lists.{are_distinct, same_bytes, nth};
-ghost use Rattle.sq_value.specs.Classes.{first_field, whole_lines};
+ghost use Rattle.sq_lines.specs.Classes.{first_field, whole_lines};
 ghost use Rattle.sq_verdict.specs.Faults.{Lines, class_fault, count_of, drop_told_in, fault_of, has_first, has_word, is_end, is_next, output_told_in, recorded, batch_rises, word_fault};
 ghost use Rattle.sq_verdict.specs.Wanting.{IsBelow, shown_of, shown_one, verdict_of};
 ghost use Rattle.sq_verdict.specs.Walking.{AreAtPlaces, HoldRecord, IsAfter, IsAtPlace, IsMost, found_in, is_line_of, line_fault};
@@ -12,7 +12,7 @@ use crate::dropping::drop_told_in;
 use crate::recording::recorded_in;
 use crate::skipping::next_place;
 use crate::{AuditWhy, Verdict, Wanted};
-use sq_csv::append_output_line;
+use sq_lines::append_output_line;
 use sq_value::{Name, Tuple, same_bytes};
 use std::alloc::{AllocError, Global};
 use std::collections::BTreeSet;

@@ -12,12 +12,12 @@ use Rattle.sq_item.specs.Things.{Body, Thing, mark_part, body_part}
 use Rattle.sq_road.specs.Draws.{draw_of}
 use Rattle.sq_oper.specs.declared.outs.Decision.{Decision}
 use Rattle.sq_oper.specs.Entries.{Entry, at_port, entries}
-use Rattle.sq_oper.specs.Given.{ThingsUpTo}
+use Rattle.sq_oper.specs.Outflow.{ThingsUpTo}
 use Rattle.sq_oper.specs.Machine.{next_all, gives_all}
 use Rattle.sq_oper.specs.Streams.{at_zero}
 use Rattle.sq_oper.proofs.GivenLemmas.{IsPrefixOf-longer, ThingsUpTo-append}
 use Rattle.sq_oper.proofs.StreamLemmas.{at_zero-append, at_zero-nil, UpTo-at_zero}
-use Rattle.sq_tagged.specs.Tagged.{Timed, mark_thing}
+use Rattle.sq_tagged.specs.TaggedStreams.{Timed, mark_thing}
 use Rattle.sq_oper.proofs.PartLemmas.{at_port-append, item_law, body_prefix}
 use Rattle.sq_windrop.specs.declared.drop.Dropping.{Dropping}
 use Rattle.sq_windrop.specs.declared.drop.Batches.{Batches}

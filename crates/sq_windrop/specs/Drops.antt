@@ -9,7 +9,7 @@ use Rattle.sq_oper.specs.declared.outs.Decision.{Decision}
 use Rattle.sq_oper.specs.Entries.{Entry}
 use Rattle.sq_oper.specs.Machine.{run_of}
 use Rattle.sq_oper.specs.Streams.{at_zero}
-use Rattle.sq_tagged.specs.Tagged.{Timed, mark_thing, bound_in}
+use Rattle.sq_tagged.specs.TaggedStreams.{Timed, mark_thing, bound_in}
 use Rattle.sq_tagged.specs.Boxes.{mark_of, until_at}
 use Rattle.sq_windrop.specs.declared.drop.Dropping.{Dropping}
 use Rattle.sq_windrop.specs.declared.drop.Batches.{Batches}

@@ -3,21 +3,21 @@
 ghost use Rattle.std.specs.Prelude.{◌≡◌, ℕ, ◌+◌, ◌-◌, ◌*◌, ◌/◌, ◌^◌, ◌<◌, ◌≤◌, ◌==◌, ◌++◌, ◌∷◌, true, false, List, [], Some, map, length, is_some, IsTrue, IfOk, OnOk, OnErr, if◌then◌else◌};
 ghost use Rattle.sq_value.specs.declared.Value.{Value};
 ghost use Rattle.sq_words.specs.Lists.{IsPrefixOf};
-ghost use Rattle.sq_item.specs.Sound.{IsBody, IsMark, IsSoundItem};
+ghost use Rattle.sq_item.specs.SoundItems.{IsBody, IsMark, IsSoundItem};
 ghost use Rattle.sq_item.specs.Things.{Thing};
 ghost use Rattle.sq_road.specs.Levels.{AgreesWith};
 ghost use Rattle.sq_oper.specs.declared.tally.Moment.{Moment};
 ghost use Rattle.sq_oper.specs.Entries.{Entry, entries};
-ghost use Rattle.sq_oper.specs.Given.{given, ItemsSound, ThingsUpTo};
+ghost use Rattle.sq_oper.specs.Outflow.{given, ItemsSound, ThingsUpTo};
 ghost use Rattle.sq_oper.specs.Order.{IsFuture, unmarked, after_all};
 ghost use Rattle.sq_oper.specs.Streams.{at_zero, tuples_of, port_fits};
-ghost use Rattle.sq_tagged.specs.Tagged.{mark_thing, spread_of};
+ghost use Rattle.sq_tagged.specs.TaggedStreams.{mark_thing, spread_of};
 ghost use Rattle.sq_tagged.specs.Boxes.{drop_tagged, touched_batches, until_at};
 ghost use Rattle.sq_windrop.specs.Drops.{IsDropping, dropping, is_dropped, drop_mark, marks_for, decided, bound_of, newly, after_tuple, next_body, gives_body, decided_body, drop_rest, drop_decides, drop_reads, none_lost};
 
 use crate::give::give_item;
 use sq_item::{Body, Item, Mark, Sign};
-use sq_oper::{Decision, Operator, Outlet, Moment, Tally};
+use sq_oper::{Decision, Moment, Operator, Outlet, Tally};
 use sq_outside::Steps;
 use sq_road::{Levels, draw};
 use sq_value::Value;

@@ -3,11 +3,11 @@
 ghost use Rattle.std.specs.Prelude.{◌≡◌, ℕ, ◌^◌, ◌*◌, ◌/◌, ◌<◌, ◌==◌, ◌++◌, true, false, List, [], None, Some, length, IsTrue, OnOk, OnErr};
 ghost use Rattle.sq_value.specs.declared.Value.{Value};
 ghost use Rattle.sq_words.specs.Lists.{IsPrefixOf};
-ghost use Rattle.sq_item.specs.Sound.{IsBody};
+ghost use Rattle.sq_item.specs.SoundItems.{IsBody};
 ghost use Rattle.sq_item.specs.Things.{Thing, mark_part, body_part};
 ghost use Rattle.sq_oper.specs.declared.tally.Moment.{Moment};
 ghost use Rattle.sq_oper.specs.Entries.{Entry, at_port};
-ghost use Rattle.sq_oper.specs.Given.{given, ItemsSound};
+ghost use Rattle.sq_oper.specs.Outflow.{given, ItemsSound};
 ghost use Rattle.sq_oper.specs.Machine.{next_all, gives_all};
 ghost use Rattle.sq_oper.specs.Order.{IsFuture};
 ghost use Rattle.sq_oper.specs.Streams.{at_zero, things, first_port};
@@ -15,7 +15,7 @@ ghost use Rattle.sq_windrop.specs.Gates.{IsLength, shows_at, gate_shown, gate_ne
 
 use crate::give::give_item;
 use sq_item::{Body, Item, Mark, Sign};
-use sq_oper::{Decision, Operator, Outlet, Moment, Tally};
+use sq_oper::{Decision, Moment, Operator, Outlet, Tally};
 use sq_outside::Steps;
 use sq_road::Levels;
 use sq_value::Value;

@@ -1,10 +1,10 @@
 use Rattle.std.proofs.Common.{ℕ, ◌<◌, ◌++◌, [], subst, ap, sym, ◌∙◌, arith}
 use Rattle.std.proofs.lemmas.Result.{on_ok_weaker, on_err_weaker}
 use Rattle.sq_words.specs.Lists.{IsPrefixOf}
-use Rattle.sq_oper.specs.Given.{given}
+use Rattle.sq_oper.specs.Outflow.{given}
 use Rattle.sq_oper.specs.Streams.{at_zero}
 use Rattle.sq_pane.specs.States.{states_of}
-use Rattle.sq_agg.specs.Held.{bounds_of, due_before, folding_of}
+use Rattle.sq_agg.specs.Holdings.{bounds_of, due_before, folding_of}
 use Rattle.sq_agg.proofs.EndLemmas.{none_ends_before}
 use Rattle.sq_agg.proofs.EndedLemmas.{nothing_ends}
 use Rattle.sq_agg.proofs.FeedLemmas.{closing_panes, sound_marks}

@@ -2,11 +2,11 @@ use Rattle.std.proofs.Common.{ℕ, ◌-◌, ◌<◌, ◌++◌, [], subst, ap, sy
 use Rattle.std.proofs.lemmas.Result.{on_ok_weaker, on_err_weaker}
 use Rattle.std.specs.List.{flat_map, range_with_len}
 use Rattle.sq_words.specs.Lists.{IsPrefixOf}
-use Rattle.sq_oper.specs.Given.{given}
+use Rattle.sq_oper.specs.Outflow.{given}
 use Rattle.sq_oper.specs.Streams.{at_zero}
 use Rattle.sq_pane.specs.States.{states_of}
 use Rattle.sq_agg.specs.Positions.{open_at}
-use Rattle.sq_agg.specs.Held.{bounds_of, ended, folding_of}
+use Rattle.sq_agg.specs.Holdings.{bounds_of, ended, folding_of}
 use Rattle.sq_agg.proofs.EndedLemmas.{ended_groups, ended_rises}
 use Rattle.sq_agg.proofs.FeedLemmas.{closing_panes, rises_from, sound_marks}
 use Rattle.sq_agg.proofs.ending.give_open.Goals as goal

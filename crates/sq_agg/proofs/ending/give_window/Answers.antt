@@ -2,13 +2,13 @@ use Rattle.std.proofs.Common.{ℕ, ◌+◌, ◌-◌, ◌^◌, ◌++◌, subst, a
 use Rattle.std.proofs.lemmas.Result.{on_ok_weaker, on_err_weaker}
 use Rattle.std.specs.List.{AllByRecursion}
 use Rattle.sq_words.specs.Lists.{IsPrefixOf}
-use Rattle.sq_aggfn.specs.Keyed.{AllMade}
+use Rattle.sq_aggfn.specs.KeyedStates.{AllMade}
 use Rattle.sq_aggfn.specs.Windows.{start_of}
 use Rattle.sq_oper.proofs.GivenLemmas.{IsPrefixOf-append}
-use Rattle.sq_oper.specs.Given.{given}
+use Rattle.sq_oper.specs.Outflow.{given}
 use Rattle.sq_oper.specs.Streams.{at_zero}
 use Rattle.sq_pane.specs.States.{states_of}
-use Rattle.sq_agg.specs.Held.{IsSoundKey, back_of, bounds_of, closed_at, due_before, ended}
+use Rattle.sq_agg.specs.Holdings.{IsSoundKey, back_of, bounds_of, closed_at, due_before, ended}
 use Rattle.sq_agg.proofs.DueLemmas.{back_none}
 use Rattle.sq_agg.proofs.EndedLemmas.{ended_before, ended_sound}
 use Rattle.sq_agg.proofs.ending.give_window.Goals as goal

@@ -6,10 +6,10 @@ use Rattle.sq_aggfn.specs.Windows.{start_of}
 use Rattle.sq_aggfn.proofs.StartLemmas.{starts_rise}
 use Rattle.sq_oper.proofs.GivenLemmas.{IsPrefixOf-longer}
 use Rattle.sq_oper.proofs.StreamLemmas.{at_zero-append}
-use Rattle.sq_oper.specs.Given.{given}
+use Rattle.sq_oper.specs.Outflow.{given}
 use Rattle.sq_oper.specs.Streams.{at_zero}
 use Rattle.sq_pane.specs.States.{states_of}
-use Rattle.sq_agg.specs.Held.{Bounds, IsSoundMark, bound_for, bounds_of, closed_at, due_before, ended, marks_from}
+use Rattle.sq_agg.specs.Holdings.{Bounds, IsSoundMark, bound_for, bounds_of, closed_at, due_before, ended, marks_from}
 use Rattle.sq_agg.proofs.DueLemmas.{closed_twice, All_from}
 use Rattle.sq_agg.proofs.EndedLemmas.{ended_same, next_windows, no_windows, window_first}
 use Rattle.sq_agg.proofs.FeedLemmas.{closed_bound}

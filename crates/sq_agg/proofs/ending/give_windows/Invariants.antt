@@ -2,10 +2,10 @@ use Rattle.std.proofs.Common.{ℕ, ◌≡◌, ◌-◌, ◌≤◌, ◌++◌, []}
 use Rattle.std.specs.List.{AllByRecursion, flat_map, range_with_len}
 use Rattle.sq_words.specs.Lists.{IsPrefixOf}
 use Rattle.sq_aggfn.specs.Windows.{start_of}
-use Rattle.sq_oper.specs.Given.{given, ItemsSound}
+use Rattle.sq_oper.specs.Outflow.{given, ItemsSound}
 use Rattle.sq_oper.specs.Streams.{at_zero}
 use Rattle.sq_pane.specs.States.{states_of}
-use Rattle.sq_agg.specs.Held.{IsSoundMark, bound_for, bounds_of, closed_at, due_before, ended}
+use Rattle.sq_agg.specs.Holdings.{IsSoundMark, bound_for, bounds_of, closed_at, due_before, ended}
 use Rattle.sq_agg.proofs.ending.give_windows.Given as goal
 
 abbrev pub invariant-loop-k : goal.invariant-loop-k

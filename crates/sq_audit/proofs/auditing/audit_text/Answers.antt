@@ -1,7 +1,7 @@
 use Rattle.std.proofs.Common.{◌≡◌, ◌∙◌, ap, length, map}
 use Rattle.std.proofs.lemmas.Result.{IfOk-weaker}
 use Rattle.sq_points.specs.Points.{drops_in}
-use Rattle.sq_model.specs.Full.{full_streams}
+use Rattle.sq_model.specs.FullStreams.{full_streams}
 use Rattle.sq_verdict.specs.Wanting.{verdict_of}
 use Rattle.sq_audit.specs.Audits.{wanted_of}
 use Rattle.sq_audit.proofs.auditing.audit_text.Goals as goal

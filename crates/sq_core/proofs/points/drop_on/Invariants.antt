@@ -1,7 +1,7 @@
 use Rattle.std.proofs.Common.{◌≡◌, drop}
 use Rattle.sq_place.specs.Places.{own_arcs}
 use Rattle.sq_model.specs.Shedding.{first_drop}
-use Rattle.sq_below.specs.Standing.{drop_on_arc}
+use Rattle.sq_below.specs.ArcContents.{drop_on_arc}
 use Rattle.sq_core.proofs.points.drop_on.Given as goal
 use Rattle.sq_words.specs.Lists.{contains_number}
 

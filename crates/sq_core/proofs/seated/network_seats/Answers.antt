@@ -1,7 +1,7 @@
 use Rattle.std.proofs.Common.{◌∙◌, ap, length}
 use Rattle.std.proofs.lemmas.List.{length-map}
 use Rattle.std.proofs.lemmas.Result.{IfOk-weaker}
-use Rattle.sq_core.specs.Seated.{none_fed}
+use Rattle.sq_core.specs.NewSeats.{none_fed}
 use Rattle.sq_core.proofs.SeatLemmas.{all-seated}
 use Rattle.sq_core.proofs.seated.network_seats.Goals as goal
 

@@ -1,5 +1,5 @@
 use Rattle.std.proofs.Common.{◌≡◌, map}
-use Rattle.sq_core.specs.Seated.{none_fed}
+use Rattle.sq_core.specs.NewSeats.{none_fed}
 use Rattle.sq_core.proofs.seated.seats_of.Given as goal
 
 abbrev pub invariant-loop-op : goal.invariant-loop-op

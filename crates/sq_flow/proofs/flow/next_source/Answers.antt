@@ -1,6 +1,6 @@
 use Rattle.std.proofs.Common.{◌<◌, not, length, refl, ap, sym, ◌∙◌, arith}
 use Rattle.std.proofs.lemmas.Option.{slice_get_read}
-use Rattle.sq_replay.specs.Recorded.{first_recorded}
+use Rattle.sq_replay.specs.RecordedTuples.{first_recorded}
 use Rattle.sq_flow.specs.Flows.{tuples_to_come}
 use Rattle.sq_flow.proofs.SourceLemmas.{none-of, best-past, best-stays, best-first, best-new, best-none, best-some}
 use Rattle.sq_flow.proofs.flow.next_source.Goals as goal

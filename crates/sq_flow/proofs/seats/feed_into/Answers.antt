@@ -1,7 +1,7 @@
 use Rattle.std.proofs.Common.{rules, ◌≡◌, ◌++◌, refl, subst}
 use Rattle.sq_words.specs.Lists.{IsPrefixOf}
 use Rattle.sq_pool.specs.Trust.{Tells, known}
-use Rattle.sq_oper.specs.Given.{given}
+use Rattle.sq_oper.specs.Outflow.{given}
 use Rattle.sq_oper.specs.Entries.{entries}
 use Rattle.sq_flow.specs.Causes.{IsQueueCause}
 use Rattle.sq_flow.specs.Takes.{NotChanged}

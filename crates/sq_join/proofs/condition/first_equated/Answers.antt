@@ -1,7 +1,7 @@
 use Rattle.std.proofs.Common.{sym, ap, ◌∙◌}
 use Rattle.std.specs.Prelude.{slice_get}
 use Rattle.std.specs.Option.{option_copied}
-use Rattle.sq_join.specs.Equal.{Equates}
+use Rattle.sq_join.specs.EqualFields.{Equates}
 use Rattle.sq_join.proofs.EqualLemmas.{equates-all, first-of}
 use Rattle.sq_join.proofs.condition.first_equated.Goals as goal
 

@@ -1,5 +1,5 @@
 use Rattle.std.proofs.Common.{◌++◌, drop, sym, ap, ◌∙◌}
-use Rattle.sq_oper.specs.Given.{given}
+use Rattle.sq_oper.specs.Outflow.{given}
 use Rattle.sq_oper.specs.Streams.{things, at_zero}
 use Rattle.sq_lists.specs.Sides.{pairs_with}
 use Rattle.sq_join.proofs.sides.give_pairs.Goals as goal

@@ -1,7 +1,7 @@
 use Rattle.std.proofs.Common.{◌≡◌, ℕ, ◌++◌, drop}
 use Rattle.std.specs.List.{AllByRecursion}
 use Rattle.sq_words.specs.Lists.{IsPrefixOf}
-use Rattle.sq_oper.specs.Given.{given, ItemsSound}
+use Rattle.sq_oper.specs.Outflow.{given, ItemsSound}
 use Rattle.sq_oper.specs.Streams.{IsSoundTuple, things, at_zero}
 use Rattle.sq_lists.specs.Sides.{pair_at, pairs_with}
 use Rattle.sq_join.proofs.sides.give_pairs.Given as goal

@@ -1,7 +1,7 @@
 use Rattle.std.proofs.Common.{◌≡◌, ◌++◌, [], ◌∷◌, refl, sym, ap, ap₂, ◌∙◌, append_assoc}
 use Rattle.sq_lists.specs.Merge.{merge_tuples}
 use Rattle.sq_lists.specs.Pairs.{pairs_from}
-use Rattle.sq_lists.specs.Sides.{held_of, pairs_with, against, recent, left_with, right_with}
+use Rattle.sq_lists.specs.Sides.{held_on_sides, pairs_with, against, recent, left_with, right_with}
 use Rattle.sq_lists.proofs.SideLemmas.{merge_rises, merge_sides, next_entry, held_left, held_right}
 use Rattle.sq_lists.proofs.pairs.join_list.Goals as goal
 
@@ -38,14 +38,14 @@ loop-side-preserved c =
     let new_right : c.hold.new.self.right.items ≡ right_with side x kept_right = c.in_ok-hold.ensures.right ∙ ap (right_with side x) c.let_go.ensures.right in
     let others : c.against.result.now.items ≡ against side kept_left kept_right = c.against.ensures ∙ ap₂ (against side) c.let_go.ensures.left c.let_go.ensures.right in
     let given = pairs_with on side x (against side kept_left kept_right) in
-    let later = pairs_from size on (held_of (left_with side x kept_left) (right_with side x kept_right)) rest in
+    let later = pairs_from size on (held_on_sides (left_with side x kept_left) (right_with side x kept_right)) rest in
     let pushed : c.push_pairs.new.out.items ≡ out ++ given = c.in_ok-push_pairs.ensures ∙ ap (λ l. out ++ pairs_with on side x l) others in
     record {
       pairs =
           c.loop-side.invariant.pairs
-          ∙ ap (λ l. out ++ l) (ap (pairs_from size on (held_of left right)) same ∙ next_entry size on side x rest sides.0 rises left right sides.1 held_l held_r)
+          ∙ ap (λ l. out ++ l) (ap (pairs_from size on (held_on_sides left right)) same ∙ next_entry size on side x rest sides.0 rises left right sides.1 held_l held_r)
           ∙ sym (append_assoc out given later)
-          ∙ ap₂ (λ a b. a ++ b) (sym pushed) (ap₂ (λ l r. pairs_from size on (held_of l r) rest) (sym new_left) (sym new_right));
+          ∙ ap₂ (λ a b. a ++ b) (sym pushed) (ap₂ (λ l r. pairs_from size on (held_on_sides l r) rest) (sym new_left) (sym new_right));
       rises = rises.1;
       sides = sides.1;
       left = rw new_left (held_left size on side x rest sides.0 rises left held_l);

@@ -4,7 +4,7 @@ use Rattle.std.specs.Ordering.{is_eq}
 use Rattle.std.proofs.lemmas.List.{drop_more}
 use Rattle.sq_value.specs.Values.{fields_cmp}
 use Rattle.sq_aggfn.specs.Groups.{group_of}
-use Rattle.sq_aggfn.specs.Keyed.{added, keyed_from, room_for, one_more}
+use Rattle.sq_aggfn.specs.KeyedStates.{added, keyed_from, room_for, one_more}
 use Rattle.sq_aggfn.proofs.KeyedLemmas.{made_weaker}
 use Rattle.sq_lists.proofs.windows.groups_of.Goals as goal
 

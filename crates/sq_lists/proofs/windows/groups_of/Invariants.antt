@@ -1,7 +1,7 @@
 use Rattle.std.proofs.Common.{◌≡◌, [], drop}
 use Rattle.sq_value.specs.Values.{fields_cmp}
 use Rattle.sq_aggfn.specs.Groups.{group_of}
-use Rattle.sq_aggfn.specs.Keyed.{keyed_from, AllMade}
+use Rattle.sq_aggfn.specs.KeyedStates.{keyed_from, AllMade}
 use Rattle.sq_lists.proofs.windows.groups_of.Given as goal
 
 abbrev pub invariant-loop-x : goal.invariant-loop-x

@@ -1,5 +1,5 @@
 use Rattle.std.proofs.Common.{◌≡◌, ◌++◌, ◌-◌, ◌^◌, length}
-use Rattle.sq_aggfn.specs.Keyed.{AllMade}
+use Rattle.sq_aggfn.specs.KeyedStates.{AllMade}
 use Rattle.sq_lists.specs.WindowParts.{told_results}
 use Rattle.sq_lists.proofs.windows.push_results.Given as goal
 

@@ -3,8 +3,8 @@ use Rattle.std.proofs.lemmas.Result.{IfOk-weaker}
 use Rattle.std.specs.Option.{option_map}
 use Rattle.sq_place.specs.declared.DropPoint.{DropPoint}
 use Rattle.sq_model.specs.Shedding.{drop_above_output}
-use Rattle.sq_model.specs.Given.{shown_without}
-use Rattle.sq_model.specs.Known.{arc_in}
+use Rattle.sq_model.specs.GivenLevels.{shown_without}
+use Rattle.sq_model.specs.KnownStreams.{arc_in}
 use Rattle.sq_model.proofs.FirstLemmas.{there-in}
 use Rattle.sq_model.proofs.ShedLemmas.{found_output, answer_plain, answer_shown}
 use Rattle.sq_model.proofs.answers.answer_in.Goals as goal

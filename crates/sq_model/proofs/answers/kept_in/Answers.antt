@@ -4,8 +4,8 @@ use Rattle.sq_value.specs.declared.Tuple.{Tuple}
 use Rattle.sq_place.specs.declared.DropPoint.{DropPoint}
 use Rattle.sq_model.specs.Shedding.{drop_above_arc}
 use Rattle.sq_model.proofs.FirstLemmas.{there-in}
-use Rattle.sq_model.specs.Kept.{distance_of}
-use Rattle.sq_model.specs.Given.{AreTicks, kept_by}
+use Rattle.sq_model.specs.KeptTuples.{distance_of}
+use Rattle.sq_model.specs.GivenLevels.{AreTicks, kept_by}
 use Rattle.sq_model.proofs.ShedLemmas.{arc_ticks, found_arc, kept_plain, kept_known}
 use Rattle.sq_model.proofs.answers.kept_in.Goals as goal
 

@@ -1,6 +1,6 @@
 use Rattle.std.proofs.Common.{◌∙◌, ◌++◌, ◌∷◌, [], length, map, ap, sym, length-append, arith, ℕ, List}
 use Rattle.sq_words.specs.Lists.{numbers_to}
-use Rattle.sq_model.specs.Kept.{kept_of}
+use Rattle.sq_model.specs.KeptTuples.{kept_of}
 use Rattle.sq_model.proofs.answers.kept_numbers.Goals as goal
 use Rattle.sq_words.proofs.Ranges.{map_more}
 

@@ -1,8 +1,8 @@
 use Rattle.std.proofs.Common.{◌≡◌, map, length}
 use Rattle.sq_words.specs.Lists.{numbers_to}
 use Rattle.sq_model.specs.Shedding.{Replay}
-use Rattle.sq_model.specs.Kept.{kept_of}
-use Rattle.sq_model.specs.Known.{IsKnown}
+use Rattle.sq_model.specs.KeptTuples.{kept_of}
+use Rattle.sq_model.specs.KnownStreams.{IsKnown}
 use Rattle.sq_model.proofs.answers.kept_numbers.Given as goal
 
 abbrev pub invariant-loop-arc : goal.invariant-loop-arc

@@ -1,5 +1,5 @@
 use Rattle.std.proofs.Common.{◌≡◌, ◌++◌, length, map, drop}
-use Rattle.sq_model.specs.Known.{stream_at_place}
+use Rattle.sq_model.specs.KnownStreams.{stream_at_place}
 use Rattle.sq_model.proofs.answers.place_numbers.Given as goal
 
 abbrev pub invariant-loop-p : goal.invariant-loop-p

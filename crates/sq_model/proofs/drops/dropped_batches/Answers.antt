@@ -3,7 +3,7 @@ use Rattle.std.specs.List.{filter}
 use Rattle.sq_words.specs.Lists.{numbers_to}
 use Rattle.sq_model.specs.Shedding.{is_touched}
 use Rattle.sq_model.specs.Shedding.{last_of}
-use Rattle.sq_model.specs.Given.{drops_at}
+use Rattle.sq_model.specs.GivenLevels.{drops_at}
 use Rattle.sq_model.proofs.BatchLemmas.{last_low, batch_small, filter_more, filter_nothing}
 use Rattle.sq_model.proofs.drops.dropped_batches.Goals as goal
 use Rattle.sq_words.proofs.Lists.{filter_both}

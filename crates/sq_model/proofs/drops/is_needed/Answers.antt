@@ -1,5 +1,5 @@
 use Rattle.std.proofs.Common.{◌∙◌, ◌+◌, ◌/◌, ◌<◌, sym, subst, below_more, arith}
-use Rattle.sq_model.specs.Given.{needs_at}
+use Rattle.sq_model.specs.GivenLevels.{needs_at}
 use Rattle.sq_model.proofs.BatchLemmas.{batch_small, needed_any, too_early, any_none}
 use Rattle.sq_model.proofs.drops.is_needed.Goals as goal
 use Rattle.sq_words.proofs.Ranges.{any_in_range}

@@ -1,5 +1,5 @@
 use Rattle.std.proofs.Common.{◌≡◌, ℕ, ◌<◌, false}
-use Rattle.sq_model.specs.Given.{needs_at}
+use Rattle.sq_model.specs.GivenLevels.{needs_at}
 use Rattle.sq_model.proofs.drops.is_needed.Given as goal
 
 abbrev pub invariant-loop-b : goal.invariant-loop-b

@@ -1,5 +1,5 @@
 use Rattle.std.proofs.Common.{◌≡◌, ◌+◌, ◌≤◌, length, drop}
-use Rattle.sq_model.specs.Given.{kept_by}
+use Rattle.sq_model.specs.GivenLevels.{kept_by}
 use Rattle.sq_model.proofs.drops.kept_number.Given as goal
 
 abbrev pub invariant-loop-x : goal.invariant-loop-x

@@ -1,5 +1,5 @@
 use Rattle.std.proofs.Common.{◌≡◌, ◌++◌, drop}
-use Rattle.sq_model.specs.Given.{shown_without}
+use Rattle.sq_model.specs.GivenLevels.{shown_without}
 use Rattle.sq_model.proofs.drops.shown_tuples.Given as goal
 
 abbrev pub invariant-loop-x : goal.invariant-loop-x

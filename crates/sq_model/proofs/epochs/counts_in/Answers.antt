@@ -2,7 +2,7 @@ use Rattle.std.proofs.Common.{◌∙◌, ◌++◌, ◌∷◌, [], Vec, Global, a
 use Rattle.std.specs.Prelude.{map}
 use Rattle.std.proofs.Common.{drop, ◌+◌}
 use Rattle.sq_value.specs.declared.Tuple.{Tuple}
-use Rattle.sq_model.specs.Given.{counted}
+use Rattle.sq_model.specs.GivenLevels.{counted}
 use Rattle.sq_model.specs.Epochs.{count_in}
 use Rattle.sq_model.proofs.EpochLemmas.{counted_more}
 use Rattle.sq_model.proofs.epochs.counts_in.Goals as goal

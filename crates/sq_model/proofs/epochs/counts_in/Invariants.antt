@@ -1,5 +1,5 @@
 use Rattle.std.proofs.Common.{◌≡◌, ◌++◌, map, drop}
-use Rattle.sq_model.specs.Given.{counted}
+use Rattle.sq_model.specs.GivenLevels.{counted}
 use Rattle.sq_model.proofs.epochs.counts_in.Given as goal
 
 abbrev pub invariant-loop-source : goal.invariant-loop-source

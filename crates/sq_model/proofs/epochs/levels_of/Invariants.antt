@@ -1,7 +1,7 @@
 use Rattle.std.proofs.Common.{◌≡◌, ◌+◌, ◌-◌, ◌≤◌, ◌^◌, map}
-use Rattle.sq_plan.specs.Shown.{level_for}
+use Rattle.sq_plan.specs.PlanRows.{level_for}
 use Rattle.sq_road.specs.Levels.{AgreesWith}
-use Rattle.sq_model.specs.Given.{counted}
+use Rattle.sq_model.specs.GivenLevels.{counted}
 use Rattle.sq_model.proofs.epochs.levels_of.Given as goal
 
 abbrev pub invariant-loop-ended : goal.invariant-loop-ended

@@ -1,6 +1,6 @@
 use Rattle.std.proofs.Common.{◌≡◌, ℕ, ◌<◌, ◌≤◌, ◌^◌, map, drop}
-use Rattle.sq_plan.specs.Shown.{is_quiet}
-use Rattle.sq_model.specs.Given.{counted}
+use Rattle.sq_plan.specs.PlanRows.{is_quiet}
+use Rattle.sq_model.specs.GivenLevels.{counted}
 use Rattle.sq_model.proofs.epochs.next_of.Given as goal
 
 abbrev pub invariant-loop-source : goal.invariant-loop-source

@@ -10,8 +10,8 @@ use Rattle.sq_place.specs.Places.{drop_places_of}
 use Rattle.sq_place.proofs.Final.{drops-few}
 use Rattle.sq_points.specs.Points.{windows_of}
 use Rattle.sq_points.proofs.Bounds.{few_arcs, few_places}
-use Rattle.sq_model.specs.Full.{full_streams}
-use Rattle.sq_model.specs.Given.{IsMeasured}
+use Rattle.sq_model.specs.FullStreams.{full_streams}
+use Rattle.sq_model.specs.GivenLevels.{IsMeasured}
 use Rattle.sq_model.proofs.PlacedLemmas.{placed_of}
 use Rattle.sq_model.proofs.StreamLemmas.{full_are_streams}
 use Rattle.sq_model.proofs.MeasuredLemmas.{all-measured}

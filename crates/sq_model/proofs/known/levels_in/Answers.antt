@@ -1,8 +1,8 @@
 use Rattle.std.proofs.Common.{subst, map}
 use Rattle.sq_plan.specs.Plans.{Setting}
-use Rattle.sq_plan.specs.Shown.{level_for}
+use Rattle.sq_plan.specs.PlanRows.{level_for}
 use Rattle.sq_road.specs.Levels.{AgreesWith}
-use Rattle.sq_model.specs.Given.{counted}
+use Rattle.sq_model.specs.GivenLevels.{counted}
 use Rattle.sq_model.proofs.known.levels_in.Goals as goal
 
 pub returns-clause-levels : goal.returns-clause-levels

@@ -1,7 +1,7 @@
 use Rattle.std.proofs.Common.{◌≡◌, ◌∙◌, ap, length, map, sym}
 use Rattle.std.specs.List.{sum_by}
 use Rattle.sq_graph.specs.Wires.{inputs_at}
-use Rattle.sq_model.specs.Fed.{fed_from}
+use Rattle.sq_model.specs.FullCounts.{fed_from}
 use Rattle.sq_model.proofs.NumberLemmas.{numbered_more}
 use Rattle.sq_model.proofs.numbers.fed.Goals as goal
 use Rattle.sq_words.specs.Lists.{nth}

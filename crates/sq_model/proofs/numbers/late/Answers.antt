@@ -1,5 +1,5 @@
 use Rattle.std.proofs.Common.{map}
-use Rattle.sq_model.specs.Fed.{late_from}
+use Rattle.sq_model.specs.FullCounts.{late_from}
 use Rattle.sq_model.proofs.NumberLemmas.{numbered_more}
 use Rattle.sq_model.proofs.numbers.late.Goals as goal
 

@@ -1,6 +1,6 @@
 use Rattle.std.proofs.Common.{◌≡◌, map}
 use Rattle.sq_words.specs.Lists.{numbers_to}
-use Rattle.sq_model.specs.Fed.{late_from}
+use Rattle.sq_model.specs.FullCounts.{late_from}
 use Rattle.sq_model.proofs.numbers.late.Given as goal
 
 abbrev pub invariant-loop-at : goal.invariant-loop-at

@@ -2,7 +2,7 @@ use Rattle.std.proofs.Common.{◌≡◌, ◌∙◌, ◌-◌, ◌<◌, List, ap, 
 use Rattle.sq_graph.specs.Wires.{inputs_at, stream_at}
 use Rattle.std.specs.List.{sum_by}
 use Rattle.sq_value.specs.declared.Tuple.{Tuple}
-use Rattle.sq_model.specs.Fed.{fed_from, late_at, late_by}
+use Rattle.sq_model.specs.FullCounts.{fed_from, late_at, late_by}
 use Rattle.sq_model.proofs.LateLemmas.{late_other}
 use Rattle.sq_model.proofs.NumberLemmas.{stream_at_within}
 use Rattle.sq_model.proofs.numbers.late_at.Goals as goal

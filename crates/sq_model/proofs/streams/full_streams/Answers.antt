@@ -4,7 +4,7 @@ use Rattle.std.proofs.lemmas.List.Elements.{All-append, All-replicate}
 use Rattle.sq_value.specs.declared.Tuple.{Tuple}
 use Rattle.sq_value.specs.Values.{IsStream}
 use Rattle.sq_graph.specs.Order.{order_of}
-use Rattle.sq_model.specs.Standing.{Stands}
+use Rattle.sq_model.specs.StreamsSoFar.{Stands}
 use Rattle.sq_model.proofs.NumberLemmas.{stream_at_within}
 use Rattle.sq_model.proofs.OrderLemmas.{order_inside, order_next}
 use Rattle.sq_model.proofs.StandingLemmas.{all_stand, sources_stand}

@@ -3,7 +3,7 @@ use Rattle.std.specs.List.{All}
 use Rattle.sq_value.specs.Values.{IsStream}
 use Rattle.sq_graph.specs.Wires.{producers_of}
 use Rattle.sq_graph.specs.Order.{order_of}
-use Rattle.sq_model.specs.Standing.{Stands}
+use Rattle.sq_model.specs.StreamsSoFar.{Stands}
 use Rattle.sq_model.proofs.streams.full_streams.Given as goal
 
 abbrev pub invariant-loop-at : goal.invariant-loop-at

@@ -1,6 +1,6 @@
 use Rattle.std.proofs.Common.{◌∙◌, ap, List}
 use Rattle.std.specs.Prelude.{slice_get}
-use Rattle.sq_link.specs.Chained.{Chained}
+use Rattle.sq_link.specs.ChainLists.{Chained}
 use Rattle.sq_pool.specs.Pools.{Pooled, is_held}
 use Rattle.sq_paged.specs.Faces.{paged_face_at}
 use Rattle.sq_paged.specs.declared.Lane.{Lane}

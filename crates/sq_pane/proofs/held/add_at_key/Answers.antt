@@ -5,7 +5,7 @@ use Rattle.std.proofs.lemmas.Result.{on_ok_weaker, on_err_weaker}
 use Rattle.sq_value.specs.declared.Value.{Value}
 use Rattle.sq_value.specs.Values.{fields_cmp}
 use Rattle.sq_value.proofs.ValueOrder.{fields_order}
-use Rattle.sq_aggfn.specs.Keyed.{added}
+use Rattle.sq_aggfn.specs.KeyedStates.{added}
 use Rattle.sq_aggfn.proofs.KeyedLemmas.{ascends}
 use Rattle.sq_pane.specs.Panes.{key_cmp, total, AllAreMade}
 use Rattle.sq_pane.specs.Blocks.{IsJoin, AreBlocks}

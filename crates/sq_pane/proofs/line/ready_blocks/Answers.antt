@@ -1,6 +1,6 @@
 use Rattle.std.proofs.Common.{ℕ, ◌≤◌, List, drop, sym, subst, nat_cmp}
 use Rattle.std.specs.List.{AllByRecursion}
-use Rattle.sq_aggfn.specs.Keyed.{added}
+use Rattle.sq_aggfn.specs.KeyedStates.{added}
 use Rattle.sq_pane.specs.Blocks.{IsJoin, AreBlocks}
 use Rattle.sq_pane.proofs.BlockLemmas.{all_up_to, blocks_added}
 use Rattle.sq_pane.proofs.line.ready_blocks.Goals as goal

@@ -1,6 +1,6 @@
 use Rattle.std.proofs.Common.{◌≡◌, ℕ, List, length, ap₂, ◌∙◌, [], ◌∷◌, arith}
 use Rattle.sq_aggfn.specs.declared.Func.{Func}
-use Rattle.sq_agg.specs.Held.{makes_result}
+use Rattle.sq_agg.specs.Holdings.{makes_result}
 use Rattle.sq_part_trials.proofs.agg.sums_of.Goals as goal
 
 pub outs_of-requires-clause-fits : goal.outs_of-requires-clause-fits

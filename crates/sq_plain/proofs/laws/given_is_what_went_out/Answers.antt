@@ -1,4 +1,4 @@
-use Rattle.sq_oper.specs.Given.{given}
+use Rattle.sq_oper.specs.Outflow.{given}
 use Rattle.sq_plain.proofs.SortLemmas.{given-rises, given-at-last}
 use Rattle.sq_plain.proofs.laws.given_is_what_went_out.Goals as goal
 

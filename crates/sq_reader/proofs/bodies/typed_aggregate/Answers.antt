@@ -6,7 +6,7 @@ use Rattle.sq_expr.specs.Kinds.{kind_at}
 use Rattle.sq_aggfn.specs.declared.Func.{Func}
 use Rattle.sq_aggfn.specs.declared.WindowSpec.{WindowSpec}
 use Rattle.sq_net.specs.declared.Body.TheVariants as body
-use Rattle.sq_tables.specs.declared.raw.AnswerColumn.{AnswerColumn}
+use Rattle.sq_tables.specs.declared.tables.AnswerColumn.{AnswerColumn}
 use Rattle.sq_reader.specs.Functions.{funcs_from, group_from, kinds_answered}
 use Rattle.sq_reader.specs.Columns.{typed_aggregate, bad_given, give_names}
 use Rattle.sq_reader.proofs.FunctionLemmas.{shown_columns, shown_schema}

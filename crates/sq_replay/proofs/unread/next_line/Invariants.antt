@@ -1,6 +1,6 @@
 use Rattle.std.proofs.Common.{◌≡◌, ℕ, List, ◌-◌, ◌≤◌, length}
 use Rattle.sq_value.specs.declared.Kind.{Kind}
-use Rattle.sq_replay.specs.Recorded.{tuples_recorded}
+use Rattle.sq_replay.specs.RecordedTuples.{tuples_recorded}
 use Rattle.sq_replay.proofs.unread.next_line.Given as goal
 
 abbrev pub invariant-loop-next : goal.invariant-loop-next

@@ -1,5 +1,5 @@
 use Rattle.std.proofs.Common.{◌≡◌, ◌-◌, ◌++◌, length}
-use Rattle.sq_replay.specs.Recorded.{tuples_recorded}
+use Rattle.sq_replay.specs.RecordedTuples.{tuples_recorded}
 use Rattle.sq_replay.proofs.unread.read_rest.Given as goal
 
 abbrev pub invariant-loop-line : goal.invariant-loop-line

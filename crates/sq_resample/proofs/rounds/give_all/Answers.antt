@@ -1,7 +1,7 @@
 use Rattle.std.proofs.Common.{◌≡◌, ℕ, ◌++◌, ◌∷◌, List, ap, sym, subst, ◌∙◌, rules}
 use Rattle.sq_value.specs.declared.Tuple.{Tuple}
 use Rattle.sq_lists.specs.Resamples.{resample_of}
-use Rattle.sq_oper.specs.Given.{given}
+use Rattle.sq_oper.specs.Outflow.{given}
 use Rattle.sq_oper.specs.Streams.{things, at_zero}
 use Rattle.sq_resample.specs.Rounds.{CanGive}
 use Rattle.sq_resample.proofs.RoundLemmas.{can-step, all-step}

@@ -5,7 +5,7 @@ use Rattle.sq_value.specs.declared.Tuple.{Tuple}
 use Rattle.sq_lists.specs.Sides.{begins_past, recent}
 use Rattle.sq_lists.specs.Resamples.{resample_of}
 use Rattle.sq_lists.proofs.NearLemmas.{recent-again}
-use Rattle.sq_oper.specs.Given.{given}
+use Rattle.sq_oper.specs.Outflow.{given}
 use Rattle.sq_oper.specs.Streams.{things, at_zero}
 use Rattle.sq_resample.specs.Rounds.{CanGive, first_time_from, passed}
 use Rattle.sq_resample.proofs.RoundLemmas.{can-step, first-later, round-step}

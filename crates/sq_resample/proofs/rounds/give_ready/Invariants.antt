@@ -3,7 +3,7 @@ use Rattle.std.specs.List.{AllByRecursion}
 use Rattle.sq_words.specs.Lists.{IsPrefixOf}
 use Rattle.sq_lists.specs.Sides.{recent}
 use Rattle.sq_lists.specs.Resamples.{resample_of}
-use Rattle.sq_oper.specs.Given.{given, ItemsSound}
+use Rattle.sq_oper.specs.Outflow.{given, ItemsSound}
 use Rattle.sq_oper.specs.Streams.{things, at_zero}
 use Rattle.sq_resample.specs.Rounds.{CanGive, first_time_from, passed}
 use Rattle.sq_resample.specs.Running.{IsRunning, IsSum}

@@ -2,7 +2,7 @@ use Rattle.std.proofs.Common.{◌≡◌, ◌++◌, [], ◌∷◌, List, ap, sym,
 use Rattle.sq_value.specs.declared.Value.{Value}
 use Rattle.sq_value.specs.declared.Tuple.{Tuple}
 use Rattle.sq_lists.specs.Resamples.{near}
-use Rattle.sq_oper.specs.Given.{given}
+use Rattle.sq_oper.specs.Outflow.{given}
 use Rattle.sq_oper.specs.Streams.{things, at_zero}
 use Rattle.sq_resample.proofs.RoundLemmas.{round-near}
 use Rattle.sq_resample.proofs.rounds.give_round.Goals as goal

@@ -1,5 +1,5 @@
 use Rattle.std.proofs.Common.{◌≡◌, drop}
-use Rattle.sq_link.specs.Chained.{Chained}
+use Rattle.sq_link.specs.ChainLists.{Chained}
 use Rattle.sq_sched.proofs.ready.loosen.Given as goal
 
 abbrev pub invariant-loop : goal.invariant-loop

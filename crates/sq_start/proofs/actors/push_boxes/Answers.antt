@@ -1,6 +1,6 @@
 use Rattle.std.proofs.Common.{ap, sym, subst, ◌∙◌, length, arith}
 use Rattle.sq_start.specs.Numbers.{actor_at}
-use Rattle.sq_start.specs.Started.{IsStarted}
+use Rattle.sq_start.specs.NewOperators.{IsStarted}
 use Rattle.sq_start.proofs.NumberLemmas.{box-at}
 use Rattle.sq_start.proofs.StartedLemmas.{more-at}
 use Rattle.sq_start.proofs.actors.push_boxes.Goals as goal

@@ -1,7 +1,7 @@
 use Rattle.std.proofs.Common.{ap, sym, subst, ◌∙◌, length, arith}
 use Rattle.sq_points.proofs.Plannable.{few-points}
 use Rattle.sq_start.specs.Numbers.{actor_at}
-use Rattle.sq_start.specs.Started.{IsStarted}
+use Rattle.sq_start.specs.NewOperators.{IsStarted}
 use Rattle.sq_start.proofs.NumberLemmas.{drop-at}
 use Rattle.sq_start.proofs.StartedLemmas.{more-at}
 use Rattle.sq_start.proofs.actors.push_drops.Goals as goal

@@ -1,5 +1,5 @@
 use Rattle.std.proofs.Common.{◌≡◌, ◌+◌, length}
-use Rattle.sq_start.specs.Started.{AreStarted}
+use Rattle.sq_start.specs.NewOperators.{AreStarted}
 use Rattle.sq_start.proofs.actors.push_drops.Given as goal
 
 abbrev pub invariant-loop-w : goal.invariant-loop-w

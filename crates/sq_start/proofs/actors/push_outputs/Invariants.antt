@@ -1,6 +1,6 @@
 use Rattle.std.proofs.Common.{◌≡◌, ℕ, ◌+◌, length}
 use Rattle.sq_start.specs.Numbers.{first_output}
-use Rattle.sq_start.specs.Started.{AreStarted}
+use Rattle.sq_start.specs.NewOperators.{AreStarted}
 use Rattle.sq_start.proofs.actors.push_outputs.Given as goal
 
 abbrev pub invariant-loop-o : goal.invariant-loop-o

@@ -1,6 +1,6 @@
 use Rattle.std.proofs.Common.{◌≡◌, ◌==◌, drop, find, option_map}
 use Rattle.std.specs.Prelude.{unwrap_or}
-use Rattle.sq_model.specs.Kept.{distance_of}
+use Rattle.sq_model.specs.KeptTuples.{distance_of}
 use Rattle.sq_start.proofs.told.distance.Given as goal
 
 abbrev pub invariant-loop-r : goal.invariant-loop-r

@@ -1,5 +1,5 @@
 use Rattle.std.proofs.Common.{rules}
-use Rattle.sq_model.specs.Kept.{distance_of}
+use Rattle.sq_model.specs.KeptTuples.{distance_of}
 use Rattle.sq_start.proofs.ToldLemmas.{max-step}
 use Rattle.sq_start.proofs.told.farthest.Goals as goal
 

@@ -1,6 +1,6 @@
 use Rattle.std.proofs.Common.{◌≡◌, take}
 use Rattle.sq_words.specs.Lists.{max_by}
-use Rattle.sq_model.specs.Kept.{distance_of}
+use Rattle.sq_model.specs.KeptTuples.{distance_of}
 use Rattle.sq_start.proofs.told.farthest.Given as goal
 
 abbrev pub invariant-loop-arc : goal.invariant-loop-arc

@@ -1,4 +1,4 @@
-use Rattle.sq_model.specs.Kept.{distance_of}
+use Rattle.sq_model.specs.KeptTuples.{distance_of}
 use Rattle.std.proofs.Common.{arith}
 use Rattle.sq_start.proofs.ToldLemmas.{max-at}
 use Rattle.sq_start.proofs.told.lags_below.Goals as goal

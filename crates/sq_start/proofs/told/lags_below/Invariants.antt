@@ -1,5 +1,5 @@
 use Rattle.std.proofs.Common.{◌≡◌, ◌-◌, map, take}
-use Rattle.sq_model.specs.Kept.{distance_of}
+use Rattle.sq_model.specs.KeptTuples.{distance_of}
 use Rattle.sq_start.proofs.told.lags_below.Given as goal
 
 abbrev pub invariant-loop-arc : goal.invariant-loop-arc

@@ -1,6 +1,6 @@
 use Rattle.std.proofs.Common.{arith}
-use Rattle.sq_replay.specs.Shown.{event_line}
-use Rattle.sq_replay.proofs.PairLemmas.{text-more}
+use Rattle.sq_lines.specs.RunLines.{event_line}
+use Rattle.sq_lines.proofs.PairLemmas.{text-more}
 use Rattle.sq_top.proofs.WritingLemmas.{lost_at, moves-then}
 use Rattle.sq_top.proofs.driving.show_events.Goals as goal
 

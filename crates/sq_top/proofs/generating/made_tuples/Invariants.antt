@@ -1,5 +1,5 @@
 use Rattle.std.proofs.Common.{◌≡◌, [], length, map, drop, take}
-use Rattle.sq_top.specs.Recorded.{AreRecorded}
+use Rattle.sq_top.specs.SourceFiles.{AreRecorded}
 use Rattle.sq_top.specs.Scripts.{AcceptedReplay, made_streams, with_sources}
 use Rattle.sq_top.proofs.generating.made_tuples.Given as goal
 

@@ -2,7 +2,7 @@ use Rattle.std.proofs.Common.{◌≡◌, ◌≤◌, ◌^◌, [], arith, true, fa
 use Rattle.sq_net.specs.declared.Network.{Network}
 use Rattle.sq_pool.specs.Trust.{Tells, known}
 use Rattle.sq_pool.proofs.TrustLemmas.{IsLater-refl, honest-tells}
-use Rattle.sq_top.specs.Views.{replay_of}
+use Rattle.sq_top.specs.CommandViews.{replay_of}
 use Rattle.sq_top.specs.declared.Status.TheVariants as status
 use Rattle.sq_top.specs.Driving.{IsCutShort}
 use Rattle.sq_top.specs.Due.{replayed, turns_in}

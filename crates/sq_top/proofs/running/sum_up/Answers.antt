@@ -1,7 +1,7 @@
 use Rattle.std.proofs.Common.{◌≡◌, ◌≤◌, ◌^◌, arith, true, false, ◌∙◌}
 use Rattle.sq_pool.specs.Trust.{Tells, known}
 use Rattle.sq_pool.proofs.TrustLemmas.{IsLater-refl, honest-tells}
-use Rattle.sq_top.specs.Views.{replay_of}
+use Rattle.sq_top.specs.CommandViews.{replay_of}
 use Rattle.sq_top.specs.declared.Status.TheVariants as status
 use Rattle.sq_top.specs.Causes.{BeginsSummary}
 use Rattle.sq_top.specs.Driving.{IsCutShort}

@@ -2,7 +2,7 @@ use Rattle.std.proofs.Common.{◌≡◌, true, false, refl, ap, sym, ◌∙◌}
 use Rattle.sq_pool.proofs.TrustLemmas.{IsLater-refl}
 use Rattle.sq_top.specs.Commands.{runs_engine}
 use Rattle.sq_top.specs.Causes.{is_refusal}
-use Rattle.sq_top.specs.Views.{replay_of}
+use Rattle.sq_top.specs.CommandViews.{replay_of}
 use Rattle.sq_top.proofs.EndLemmas.{driven_cut, driven_ok, prefix_of_tap, stopped_ends, whole_of_tap}
 use Rattle.sq_top.proofs.TapLemmas.{is_tap}
 use Rattle.sq_top.proofs.running.tap_files.Goals as goal

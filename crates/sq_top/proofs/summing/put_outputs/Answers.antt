@@ -1,6 +1,6 @@
 use Rattle.std.proofs.Common.{◌++◌, append_assoc, ap, sym, ◌∙◌, take, get_or}
 use Rattle.std.specs.List.{flat_map, zip}
-use Rattle.sq_replay.proofs.PairLemmas.{pairs_all, pairs_text-more}
+use Rattle.sq_lines.proofs.PairLemmas.{pairs_all, pairs_text-more}
 use Rattle.sq_top.specs.Summaries.{output_count}
 use Rattle.sq_top.proofs.summing.put_outputs.Goals as goal
 

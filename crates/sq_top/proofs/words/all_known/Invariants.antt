@@ -1,7 +1,7 @@
 use Rattle.std.proofs.Common.{◌≡◌, drop, map}
 use Rattle.std.specs.List.{list_all}
 use Rattle.sq_top.specs.Commands.{is_known_option}
-use Rattle.sq_top.specs.Views.{given_view}
+use Rattle.sq_top.specs.CommandViews.{given_view}
 use Rattle.sq_top.proofs.words.all_known.Given as goal
 
 abbrev pub invariant-loop-one : goal.invariant-loop-one

@@ -1,7 +1,7 @@
 use Rattle.std.proofs.Common.{◌≡◌, None, drop, map}
 use Rattle.std.specs.String.{string_bytes}
 use Rattle.sq_top.specs.Commands.{given_from}
-use Rattle.sq_top.specs.Views.{given_view, text_view}
+use Rattle.sq_top.specs.CommandViews.{given_view, text_view}
 use Rattle.sq_top.proofs.WordLemmas.{with_given}
 use Rattle.sq_top.proofs.words.read_given.Given as goal
 

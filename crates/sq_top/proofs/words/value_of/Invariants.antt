@@ -1,6 +1,6 @@
 use Rattle.std.proofs.Common.{◌≡◌, drop, map}
 use Rattle.sq_top.specs.Commands.{option_values}
-use Rattle.sq_top.specs.Views.{given_view, text_view}
+use Rattle.sq_top.specs.CommandViews.{given_view, text_view}
 use Rattle.sq_top.proofs.WordLemmas.{with_found}
 use Rattle.sq_top.proofs.words.value_of.Given as goal
 

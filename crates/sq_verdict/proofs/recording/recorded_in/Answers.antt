@@ -1,5 +1,5 @@
 use Rattle.std.proofs.Common.{◌∙◌, ◌<◌, ◌^◌, IfSome, subst, sym}
-use Rattle.sq_value.specs.Classes.{whole_lines}
+use Rattle.sq_lines.specs.Classes.{whole_lines}
 use Rattle.sq_verdict.proofs.SetLemmas.{hold_all, hold_more, hold_same}
 use Rattle.sq_verdict.proofs.recording.recorded_in.Goals as goal
 

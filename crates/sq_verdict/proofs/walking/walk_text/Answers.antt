@@ -1,7 +1,7 @@
 use Rattle.std.proofs.Common.{◌∙◌, arith, ap, sym, subst, map, length}
 use Rattle.std.specs.Prelude.{slice_index}
 use Rattle.std.proofs.lemmas.List.{length-replicate}
-use Rattle.sq_value.specs.Classes.{whole_lines}
+use Rattle.sq_lines.specs.Classes.{whole_lines}
 use Rattle.sq_verdict.specs.Faults.{recorded}
 use Rattle.sq_verdict.proofs.WalkLemmas.{Walked, walked_all, walked_fault, walked_more, walked_none}
 use Rattle.sq_verdict.proofs.walking.walk_text.Goals as goal

@@ -5,7 +5,7 @@ use Rattle.std.proofs.lemmas.List.{length-map}
 use Rattle.sq_value.specs.Values.{IsStream}
 use Rattle.sq_oper.specs.Streams.{IsSoundTuple}
 use Rattle.sq_outside.specs.Disks.{Pages}
-use Rattle.sq_model.specs.Fit.{SourcesFit}
+use Rattle.sq_model.specs.FittingStreams.{SourcesFit}
 use Rattle.sq_core.specs.Runs.{IsRun}
 use Rattle.sq_core.proofs.engine.Engine.new.Goals as goal
 

@@ -1,5 +1,5 @@
 use Rattle.std.proofs.Common.{ap, ◌∙◌}
-use Rattle.sq_oper.specs.Given.{given}
+use Rattle.sq_oper.specs.Outflow.{given}
 use Rattle.sq_oper.proofs.GivenLemmas.{given-push, ItemsSound-push, IsPrefixOf-append}
 use Rattle.sq_flow.proofs.OnwardLemmas.{came-item, came-fault, open-still}
 use Rattle.sq_flow.proofs.onward.OnwardOutlet.give.Goals as goal

@@ -1,6 +1,6 @@
 use Rattle.std.proofs.Common.{◌≡◌, ◌++◌, List, ap, ap₂, sym, subst, ◌∙◌}
 use Rattle.sq_value.specs.declared.Tuple.{Tuple}
-use Rattle.sq_oper.specs.Given.{given}
+use Rattle.sq_oper.specs.Outflow.{given}
 use Rattle.sq_oper.specs.Order.{time_of}
 use Rattle.sq_oper.proofs.FedLemmas.{time-after-item}
 use Rattle.sq_lists.specs.Sides.{AllNear}

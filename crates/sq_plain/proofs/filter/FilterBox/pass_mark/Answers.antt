@@ -1,7 +1,7 @@
 use Rattle.std.proofs.Common.{◌≡◌, ℕ, ◌+◌, ◌++◌, ◌∷◌, [], length, OnErr, subst, rules}
 use Rattle.sq_words.specs.Lists.{IsPrefixOf}
-use Rattle.sq_oper.specs.Given.{given}
-use Rattle.sq_tagged.specs.Tagged.{mark_thing}
+use Rattle.sq_oper.specs.Outflow.{given}
+use Rattle.sq_tagged.specs.TaggedStreams.{mark_thing}
 use Rattle.sq_plain.proofs.filter.FilterBox.pass_mark.Goals as goal
 use Rattle.sq_oper.specs.Streams.{at_ports_below}
 

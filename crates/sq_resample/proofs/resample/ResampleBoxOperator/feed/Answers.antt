@@ -3,7 +3,7 @@ use Rattle.std.specs.Prelude.{if◌then◌else◌}
 use Rattle.sq_value.specs.declared.Value.{Value}
 use Rattle.sq_value.specs.declared.Tuple.{Tuple}
 use Rattle.sq_lists.specs.Sides.{recent}
-use Rattle.sq_oper.specs.Given.{given}
+use Rattle.sq_oper.specs.Outflow.{given}
 use Rattle.sq_oper.specs.Order.{time_of}
 use Rattle.sq_oper.proofs.FedLemmas.{tuple_at, time-after-item}
 use Rattle.sq_resample.specs.Rounds.{first_time_from}

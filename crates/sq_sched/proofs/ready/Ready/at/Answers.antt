@@ -1,5 +1,5 @@
 use Rattle.std.proofs.Common.{◌+◌, refl, arith}
-use Rattle.sq_sched.specs.Ready.{OnlyOnce}
+use Rattle.sq_sched.specs.ReadyLists.{OnlyOnce}
 use Rattle.sq_sched.proofs.ReadyLemmas.{next-at, next-is}
 use Rattle.sq_sched.proofs.ChainLemmas.{once-in}
 use Rattle.sq_sched.proofs.ready.Ready.at.Goals as goal

@@ -1,7 +1,7 @@
 use Rattle.std.proofs.Common.{◌≡◌, ◌∙◌, true, false, None, ap, sym, arith}
 use Rattle.std.specs.Prelude.{is_some}
-use Rattle.sq_link.specs.Chained.{StandsIn, next_in}
-use Rattle.sq_sched.specs.Ready.{ready_in}
+use Rattle.sq_link.specs.ChainLists.{StandsIn, next_in}
+use Rattle.sq_sched.specs.ReadyLists.{ready_in}
 use Rattle.sq_sched.proofs.ReadyLemmas.{stands-before, stands-behind}
 use Rattle.sq_sched.proofs.ChainLemmas.{below-in}
 use Rattle.sq_sched.proofs.ready.Ready.behind.Goals as goal

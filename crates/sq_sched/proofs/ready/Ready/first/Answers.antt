@@ -1,6 +1,6 @@
 use Rattle.std.proofs.Common.{arith}
 use Rattle.sq_link.proofs.ChainLemmas.{first-stands}
-use Rattle.sq_sched.specs.Ready.{ready_in}
+use Rattle.sq_sched.specs.ReadyLists.{ready_in}
 use Rattle.sq_sched.proofs.ChainLemmas.{below-in}
 use Rattle.sq_sched.proofs.ready.Ready.first.Goals as goal
 

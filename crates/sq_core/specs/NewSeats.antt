@@ -1,0 +1,21 @@
+-- The seats of a network: a new actor for each box, drop and output.
+use Rattle.std.specs.Prelude.{◌≡◌, ℕ, true, List, Some, slice_get}
+use Rattle.sq_oper.specs.declared.tally.Tally.{Tally}
+use Rattle.sq_oper.specs.declared.tally.Moment.TheVariants.{Start}
+use Rattle.sq_net.specs.declared.Network.{Network}
+use Rattle.sq_actor.specs.declared.actor.Actor as operator
+use Rattle.sq_flow.specs.declared.seats.Seat.{Seat}
+use Rattle.sq_start.specs.Numbers.{actor_at}
+use Rattle.sq_start.specs.NewOperators.{IsStarted}
+
+-- nothing was fed
+abbrev pub none_fed : Tally
+none_fed = record { place = Start; taken = 0; running = true }
+
+-- each actor is in its seat, as far as there are seats, and nothing was fed to it
+pub record IsSeated (n : Network) (number actor : ℕ) (seat : Seat operator.Actor) : Type 0 where
+  pub started : IsStarted n number (actor_at n actor) seat.op
+  pub none : seat.tally ≡ none_fed
+
+abbrev pub AllSeated : Network → ℕ → List (Seat operator.Actor) → Type 0
+AllSeated n number seats = (actor : ℕ) (seat : Seat operator.Actor) → slice_get seats actor ≡ Some seat → IsSeated n number actor seat

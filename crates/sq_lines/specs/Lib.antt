@@ -1,0 +1,4 @@
+pub mod LineTexts
+pub mod Classes
+pub mod Rows
+pub mod RunLines

@@ -1,0 +1,106 @@
+// Rows as lines.
+ghost use Rattle.std.specs.Prelude.{◌≡◌, ◌++◌, map, OnOk, OnErr};
+ghost use Rattle.std.specs.List.{list_any};
+ghost use Rattle.sq_words.specs.Lists.{IsPrefixOf};
+ghost use Rattle.sq_lines.specs.LineTexts.{doubled, field_text, line_of, more_fields, needs_quotes, row_of};
+ghost use Rattle.sq_lines.specs.Rows.{shows_nothing};
+
+use sq_csv::cut_first;
+use std::alloc::AllocError;
+
+/// Whether a field stands in quotes: where it has a comma, a quote, CR or LF.
+fn needs_quotes(field: &[u8]) -> bool
+    ensures { result ≡ list_any needs_quotes field.now }
+{
+    field
+        .iter()
+        .any(|b| *b == b',' || *b == b'"' || *b == b'\r' || *b == b'\n')
+}
+
+/// Puts a field at the end, each of its quotes twice.
+fn append_doubled(field: &[u8], out: &mut Vec<u8>) -> Result<(), AllocError>
+    ensures ok { OnOk result (out.new.items ≡ out.old.items ++ doubled field.now) }
+    ensures kept { IsPrefixOf out.old.items out.new.items }
+{
+    let mut rest = field;
+    while let Some((part, behind)) = cut_first(rest, b'"') {
+        out.extend_from_slice(part)?;
+        out.extend_from_slice(b"\"\"")?;
+        rest = behind;
+    }
+    out.extend_from_slice(rest)
+}
+
+/// Puts a field at the end, in quotes where it needs them.
+pub(crate) fn append_field(field: &[u8], out: &mut Vec<u8>) -> Result<(), AllocError>
+    ensures ok { OnOk result (out.new.items ≡ out.old.items ++ field_text field.now) }
+    ensures kept { IsPrefixOf out.old.items out.new.items }
+{
+    if !needs_quotes(field) {
+        return out.extend_from_slice(field);
+    }
+    out.push(b'"')?;
+    append_doubled(field, out)?;
+    out.push(b'"')?;
+    Ok(())
+}
+
+/// Whether the fields of a row have no byte, so that its line is a quoted empty field.
+fn shows_nothing(fields: &[&[u8]]) -> bool
+    ensures { result ≡ shows_nothing (map (λ f. f.now) fields.now) }
+{
+    match fields {
+        [] => true,
+        [field] => field.is_empty(),
+        _ => false,
+    }
+}
+
+fn append_more(fields: &[&[u8]], out: &mut Vec<u8>) -> Result<(), AllocError>
+    ensures ok { OnOk result (out.new.items ≡ out.old.items ++ more_fields (map (λ f. f.now) fields.now)) }
+    ensures kept { IsPrefixOf out.old.items out.new.items }
+{
+    for field in fields {
+        out.push(b',')?;
+        append_field(field, out)?;
+    }
+    Ok(())
+}
+
+fn append_row(fields: &[&[u8]], out: &mut Vec<u8>) -> Result<(), AllocError>
+    ensures ok { OnOk result (out.new.items ≡ out.old.items ++ row_of (map (λ f. f.now) fields.now)) }
+    ensures kept { IsPrefixOf out.old.items out.new.items }
+{
+    if shows_nothing(fields) {
+        return out.extend_from_slice(b"\"\"");
+    }
+    let [first, more @ ..] = fields else {
+        return Ok(());
+    };
+    append_field(first, out)?;
+    append_more(more, out)
+}
+
+fn append_whole(fields: &[&[u8]], out: &mut Vec<u8>) -> Result<(), AllocError>
+    ensures ok { OnOk result (out.new.items ≡ out.old.items ++ line_of (map (λ f. f.now) fields.now)) }
+    ensures kept { IsPrefixOf out.old.items out.new.items }
+{
+    append_row(fields, out)?;
+    out.push(b'\n')?;
+    Ok(())
+}
+
+/// Puts the line of a row at the end, with its line feed. A field with a comma, a quote, CR or LF stands in quotes, with
+/// each quote twice, and a row that would show nothing is a quoted empty field (RFC 4180, Y. Shafranovich, 2005).
+/// Where memory runs out nothing is written.
+pub fn append_line(fields: &[&[u8]], out: &mut Vec<u8>) -> Result<(), AllocError>
+    ensures ok { OnOk result (out.new.items ≡ out.old.items ++ line_of (map (λ f. f.now) fields.now)) }
+    ensures err { OnErr result (out.new.items ≡ out.old.items) }
+{
+    let start = out.len();
+    if let Err(e) = append_whole(fields, out) {
+        out.truncate(start);
+        return Err(e);
+    }
+    Ok(())
+}
