@@ -22,7 +22,6 @@ use Rattle.sq_points.specs.Points.{drops_in, points_of, windows_of}
 use Rattle.sq_points.proofs.Bounds.{few_outputs, few_places}
 use Rattle.sq_model.specs.FullStreams.{full_arc, full_on, full_stream, full_streams}
 use Rattle.sq_model.specs.GivenLevels.{IsMeasured}
-use Rattle.sq_model.specs.Shedding.{drop_above_output, first_drop}
 use Rattle.sq_model.proofs.ArcLemmas.{arcs_carry}
 use Rattle.sq_model.proofs.FullLemmas.{full_listed}
 use Rattle.sq_model.proofs.MeasuredLemmas.{all-measured}
@@ -32,6 +31,7 @@ use Rattle.sq_verdict.specs.Wanting.{IsBelow}
 use Rattle.sq_audit.specs.Audits.{above_of, wanted_of, wanted_one}
 use Rattle.sq_words.proofs.Alls.{all_at}
 use Rattle.sq_words.proofs.Lists.{length_map}
+use Rattle.sq_points.specs.Above.{first_drop, drop_above_output}
 
 pub points_few : (n : Network) → IsSound n → length (points_of n) < 2 ^ 32
 points_few n sound =

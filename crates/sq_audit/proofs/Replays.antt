@@ -20,7 +20,7 @@ use Rattle.sq_points.specs.Limits.{KeepsDropLimits}
 use Rattle.sq_points.specs.Points.{drops_in, points_of}
 use Rattle.sq_model.specs.FullStreams.{full_arc, full_on, full_stream, full_streams}
 use Rattle.sq_model.specs.GivenLevels.{AreTicks}
-use Rattle.sq_model.specs.Shedding.{Replay, epoch_of, level_of, is_dropped, is_touched, full_at, last_of, record_of, drop_above_output, shown}
+use Rattle.sq_model.specs.Shedding.{Replay, epoch_of, level_of, is_dropped, is_touched, full_at, last_of, record_of, shown}
 use Rattle.sq_model.specs.PlanLines.{drop_lines}
 use Rattle.sq_model.proofs.BatchLemmas.{last_low, batch_small}
 use Rattle.sq_model.proofs.FullLemmas.{full_listed}
@@ -40,6 +40,7 @@ use Rattle.sq_audit.proofs.LevelBounds.{levels-low, levels-whole}
 use Rattle.sq_verdict.proofs.WholeWords.{AreDrops, IsSoundDue}
 use Rattle.sq_words.proofs.Lists.{max_one, filter_both}
 use Rattle.sq_words.proofs.Bools.{and_second}
+use Rattle.sq_points.specs.Above.{drop_above_output}
 
 -- ---- numbers that rise
 

@@ -5,9 +5,9 @@ ghost use Rattle.sq_value.specs.Values.{IsStream};
 ghost use Rattle.sq_net.specs.SoundNetworks.{IsSound};
 ghost use Rattle.sq_points.specs.Limits.{KeepsDropLimits};
 ghost use Rattle.sq_points.specs.Points.{points_of};
-ghost use Rattle.sq_model.specs.Shedding.{first_drop};
 ghost use Rattle.sq_audit.specs.Audits.{above_of, audit_of, wanted_of, wanted_one};
 ghost use Rattle.sq_words.specs.Lists.{contains_number};
+ghost use Rattle.sq_points.specs.Above.{first_drop};
 
 use sq_model::{full_streams, sound_is_placed};
 use sq_net::{Network, Output};

@@ -14,7 +14,7 @@ use Rattle.sq_lists.specs.Resamples.{resample_list_of}
 use Rattle.sq_graph.specs.Wires.{producer_of, arcs_of, inputs_of, input_arcs_of, output_arc_at}
 use Rattle.sq_graph.specs.declared.Producer.TheVariants.{Source, Port}
 use Rattle.sq_place.specs.declared.DropPoint.{DropPoint}
-use Rattle.sq_place.specs.Places.{stream_on, own_arcs}
+use Rattle.sq_place.specs.Places.{stream_on}
 use Rattle.sq_place.specs.Points.{until_of}
 use Rattle.sq_net.specs.declared.Network.{Network}
 use Rattle.sq_net.specs.declared.Node.{Node}
@@ -28,12 +28,12 @@ use Rattle.sq_oper.specs.Streams.{tuple_in, tuples_at, tuples_of, things, at_zer
 use Rattle.sq_tagged.specs.TaggedStreams.{Tagged, spread_of, tagged_of}
 use Rattle.sq_tagged.specs.Boxes.{filter_tagged, map_tagged, united_tagged, aggregate_tagged, drop_tagged, touched_batches, gate_of}
 use Rattle.sq_model.specs.FullStreams.{full_arc}
-use Rattle.sq_points.specs.Points.{points_of}
-use Rattle.sq_model.specs.Shedding.{Replay, first_drop, drop_above_arc, drop_above_output, is_dropped, full_at, record_of, answer_of}
+use Rattle.sq_model.specs.Shedding.{Replay, is_dropped, full_at, record_of, answer_of}
 use Rattle.sq_model.specs.KeptTuples.{kept_of, fed_of}
 use Rattle.sq_below.specs.ArcStreams.{nothing_tagged, lags_at, marked_arc}
-use Rattle.sq_words.specs.Lists.{contains_number, nth}
+use Rattle.sq_words.specs.Lists.{nth}
 use Rattle.sq_expr.specs.Checking.{trees}
+use Rattle.sq_points.specs.Above.{drop_above_output, drop_above_arc, drop_on_arc, drop_above_box}
 
 -- a drop by its number
 abbrev pub Drop : Type 0
@@ -48,13 +48,6 @@ standing r (Some d) a = spread_of (marked_arc r d.0 d.1 a)
 
 abbrev pub on_arc : Replay → ℕ → List Thing
 on_arc r a = standing r (drop_above_arc r.network a) a
-
--- the drop that stands on an arc, and the drop that a box is below
-abbrev pub drop_on_arc : Network → ℕ → Option Drop
-drop_on_arc n a = first_drop (λ p. contains_number (own_arcs n.wires p.at) a) 0 (points_of n)
-
-abbrev pub drop_above_box : Network → ℕ → Option Drop
-drop_above_box n b = first_drop (λ p. contains_number p.boxes b) 0 (points_of n)
 
 -- what is given toward an arc: where a drop stands on it, the full stream, which the drop is fed
 abbrev pub toward : Replay → Option Drop → ℕ → List Thing

@@ -9,10 +9,11 @@ use Rattle.sq_place.specs.Places.{stream_on, own_arcs}
 use Rattle.sq_place.specs.Points.{until_of}
 use Rattle.sq_net.specs.declared.Body.TheVariants as body
 use Rattle.sq_model.specs.Shedding.{Replay, is_dropped, full_at, touched_batches}
-use Rattle.sq_model.specs.KeptTuples.{distance_of, kept_of}
+use Rattle.sq_model.specs.KeptTuples.{kept_of}
 use Rattle.sq_tagged.specs.TaggedStreams.{Timed, Tagged, lessened_by}
 use Rattle.sq_tagged.specs.Boxes.{mark_of, drop_tagged}
 use Rattle.sq_below.proofs.CarriedWords.{box_tagged_at}
+use Rattle.sq_points.specs.Above.{distance_of}
 
 abbrev pub nothing_tagged : Tagged
 nothing_tagged = record { marks = []; tuples = [] }

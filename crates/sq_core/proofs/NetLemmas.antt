@@ -21,7 +21,6 @@ use Rattle.sq_net.proofs.StreamLemmas.{stream_typed, boxes_count}
 use Rattle.sq_points.specs.Points.{points_of}
 use Rattle.sq_points.proofs.Bounds.{at_least, takes_all}
 use Rattle.sq_model.specs.GivenLevels.{IsAt}
-use Rattle.sq_model.specs.Shedding.{drop_above_arc}
 use Rattle.sq_below.specs.Actors.{Actor, Sources, Box, Shedder, Shower, arc_from}
 use Rattle.sq_start.specs.Numbers.{IsThere, ops_of, number_of, actor_at, place_stream, reads_of, shedder_reads}
 use Rattle.sq_start.proofs.NumberLemmas.{which}
@@ -38,6 +37,7 @@ use Rattle.sq_core.proofs.TableLemmas.{arc_stream_there, place_stream_there, inp
 use Rattle.sq_value.proofs.FitLemmas.{fields_count, kinds_fit_is}
 use Rattle.std.proofs.lemmas.Option.{slice_get_past}
 use Rattle.sq_words.proofs.Lists.{list_all_at}
+use Rattle.sq_points.specs.Above.{drop_above_arc}
 
 -- ---- lists
 

@@ -22,7 +22,7 @@ use Rattle.sq_net.specs.declared.Network.{Network}
 use Rattle.sq_net.specs.SoundNetworks.{IsSound}
 use Rattle.sq_net.proofs.StreamLemmas.{boxes_count}
 use Rattle.sq_points.specs.Points.{points_of, drops_in}
-use Rattle.sq_below.specs.ArcContents.{Drop, drop_on_arc}
+use Rattle.sq_below.specs.ArcContents.{Drop}
 use Rattle.sq_below.specs.Actors.{giver, from_drop}
 use Rattle.sq_start.specs.Numbers.{first_output, ops_of, number_of, actor_at, place_stream}
 use Rattle.sq_start.proofs.NumberLemmas.{box-at, drop-at, output-at, which}
@@ -37,6 +37,7 @@ use Rattle.std.proofs.lemmas.Map.Views.{exact_unsigned_eq}
 use Rattle.sq_words.proofs.Lists.{contains_filter}
 use Rattle.sq_words.proofs.Numbers.{eqb_true}
 use Rattle.sq_place.proofs.Ranks.{order-has}
+use Rattle.sq_points.specs.Above.{drop_on_arc}
 
 known-replay : (replay : ℕ) (order : List ℕ) → known_by replay order replay ≡ true
 known-replay replay [] = eqb_true replay replay refl

@@ -28,11 +28,10 @@ use Rattle.sq_net.specs.declared.Network.{Network}
 use Rattle.sq_net.specs.SoundNetworks.{IsSound, is_between}
 use Rattle.sq_net.specs.Streams.{columns_of_stream}
 use Rattle.sq_points.specs.Points.{points_of}
-use Rattle.sq_model.specs.Shedding.{drop_above_arc}
 use Rattle.sq_points.proofs.Plannable.{few-points}
 use Rattle.sq_model.specs.GivenLevels.{IsAt}
 use Rattle.sq_model.proofs.PlacedLemmas.{placed_of}
-use Rattle.sq_below.specs.ArcContents.{Drop, drop_on_arc}
+use Rattle.sq_below.specs.ArcContents.{Drop}
 use Rattle.sq_below.specs.Actors.{Actor, Sources, Box, Shedder, Shower, giver, from_drop, arc_from}
 use Rattle.sq_start.specs.Numbers.{IsThere, first_output, ops_of, number_of, actor_at, place_stream}
 use Rattle.sq_start.proofs.NumberLemmas.{box-at, drop-at, output-at, giver-there, from-there}
@@ -46,6 +45,7 @@ use Rattle.sq_core.proofs.ShapeLemmas.{no-feeds}
 use Rattle.sq_words.proofs.Bools.{and_true}
 use Rattle.sq_points.proofs.Bounds.{at_most}
 use Rattle.sq_words.proofs.Lists.{map_append}
+use Rattle.sq_points.specs.Above.{drop_above_arc, drop_on_arc}
 
 -- ---- how many
 

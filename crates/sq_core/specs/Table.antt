@@ -10,13 +10,13 @@ use Rattle.sq_place.specs.Places.{stream_on, arc_numbers, box_of}
 use Rattle.sq_net.specs.declared.Network.{Network}
 use Rattle.sq_net.specs.Streams.{columns_of_stream}
 use Rattle.sq_points.specs.Points.{points_of}
-use Rattle.sq_model.specs.Shedding.{drop_above_arc}
 use Rattle.sq_below.specs.Actors.{Actor, Sources, Box, Shedder, Shower, giver, arc_from}
 use Rattle.sq_start.specs.Numbers.{first_output, ops_of, number_of, actor_at, place_stream}
 use Rattle.sq_flow.specs.declared.wires.Wires.{Wires}
 use Rattle.sq_flow.specs.Wiring.{arcs_read, arc_wired}
 use Rattle.sq_core.specs.declared.join.Feed.{Feed}
 use Rattle.sq_core.specs.Joining.{IsOf}
+use Rattle.sq_points.specs.Above.{drop_above_arc}
 
 -- the kinds of the values of a stream's tuples, by its columns
 abbrev pub kinds_on : Option Columns → List Kind

@@ -3,7 +3,7 @@
 ghost use Rattle.std.specs.Prelude.{◌≡◌, ◌+◌, ◌<◌, ◌^◌, ◌++◌, ◌∷◌, [], true, length, map, IfOk, OnOk};
 ghost use Rattle.std.specs.List.{All, flat_map};
 ghost use Rattle.sq_graph.specs.Wires.{producer_of, arcs_of, input_arcs_of};
-ghost use Rattle.sq_graph.specs.Order.{is_there, order_of};
+ghost use Rattle.sq_graph.specs.Order.{is_there};
 ghost use Rattle.sq_place.specs.Places.{stream_on, box_of};
 ghost use Rattle.sq_net.specs.SoundNetworks.{IsSound};
 ghost use Rattle.sq_net.specs.Streams.{columns_of_stream};
@@ -17,7 +17,7 @@ ghost use Rattle.sq_core.specs.Table.{kinds_on, streams_on, arc_feed, place_feed
 use crate::join::{Feed, copy_kinds, wires_of};
 use crate::points::{drop_on, is_below};
 use sq_flow::Wires;
-use sq_graph::{OrderErr, Producer, arc_of, given_by, order, output_arc};
+use sq_graph::{Producer, arc_of, box_order, given_by, output_arc};
 use sq_net::Network;
 use sq_place::{DropAt, DropPoint};
 use sq_value::{Kind, ListOf};
@@ -254,17 +254,6 @@ fn feed_table(
     Ok(table)
 }
 
-fn box_order(alloc: Global, n: &Network) -> Result<Vec<u32>, AllocError>
-    requires { IsSound n.now }
-    ensures { IfOk result (λ v. v.items ≡ order_of n.now.wires) }
-{
-    match order(alloc, &n.wires) {
-        Ok(order) => Ok(order),
-        Err(OrderErr::Memory) => Err(AllocError),
-        Err(OrderErr::Cycle { .. }) => unreachable!(),
-    }
-}
-
 /// The box that gives a stream, if one does.
 #[tactic(auto, using(crate::proofs::TableLemmas::boxes_low))]
 fn box_giving(n: &Network, stream: u32) -> Option<u32>
@@ -338,7 +327,7 @@ fn actors_of(
     requires streams { streams.now ≡ streams_on n.now }
     ensures { IfOk result (λ v. v.items ≡ actors_of n.now) }
 {
-    let boxes = box_order(alloc, n)?;
+    let boxes = box_order(alloc, &n.wires)?;
     let mut all = Vec::new(alloc);
     add_drops(n, points, streams, None, &mut all)?;
     for index in 0..boxes.len() {

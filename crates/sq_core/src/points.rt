@@ -7,9 +7,8 @@ ghost use Rattle.sq_graph.specs.Wires.{arcs_of};
 ghost use Rattle.sq_place.specs.Places.{stream_on, own_arcs};
 ghost use Rattle.sq_net.specs.SoundNetworks.{IsSound};
 ghost use Rattle.sq_points.specs.Points.{points_of};
-ghost use Rattle.sq_model.specs.Shedding.{first_drop};
-ghost use Rattle.sq_below.specs.ArcContents.{drop_on_arc};
 ghost use Rattle.sq_words.specs.Lists.{contains_number};
+ghost use Rattle.sq_points.specs.Above.{first_drop, drop_on_arc};
 
 use sq_net::Network;
 use sq_place::{DropAt, DropPoint};

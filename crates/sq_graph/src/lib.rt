@@ -234,6 +234,20 @@ pub fn order(alloc: Global, w: &Wiring) -> Result<Vec<u32>, OrderErr>
     Ok(order)
 }
 
+/// The order of the boxes of a network without a cycle.
+pub fn box_order(alloc: Global, w: &Wiring) -> Result<Vec<u32>, AllocError>
+    requires few { length w.now.boxes < 2 ^ 32 }
+    requires wired { IsWired w.now }
+    requires acyclic { (b : ℕ) → LiesOnCycle w.now b → ⊥ }
+    ensures { IfOk result (λ v. v.items ≡ order_of w.now) }
+{
+    match order(alloc, w) {
+        Ok(order) => Ok(order),
+        Err(OrderErr::Memory) => Err(AllocError),
+        Err(OrderErr::Cycle { .. }) => unreachable!(),
+    }
+}
+
 /// The number of the stream of port `port`, from 0, of box `at`.
 pub fn stream_of(w: &Wiring, at: u32, port: u32) -> u32
     requires there { at ≤ length w.now.boxes }

@@ -7,7 +7,7 @@ use Rattle.std.specs.List.{All, AllByRecursion}
 use Rattle.std.proofs.lemmas.List.Elements.{recursion_from_All}
 use Rattle.sq_place.specs.declared.PlaceErr.TheVariants as error
 use Rattle.sq_place.specs.Refusals.{IsFine, Names, NamesRefusal}
-use Rattle.sq_model.specs.Shedding.{first_drop}
+use Rattle.sq_points.specs.Above.{first_drop}
 
 pub first_step : (t : DropPoint → Bool) (ps : List DropPoint) (w : ℕ) (p : DropPoint) → w < length ps → p ≡ get_or ps w p
     → first_drop t w (drop w ps) ≡ cond (t p) (Some (w, p)) (first_drop t (w + 1) (drop (w + 1) ps))

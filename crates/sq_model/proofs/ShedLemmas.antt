@@ -16,10 +16,10 @@ use Rattle.sq_model.proofs.StreamLemmas.{stream_at_number}
 use Rattle.sq_road.specs.Levels.{LevelTable}
 use Rattle.sq_road.specs.Draws.{draw_of}
 use Rattle.sq_place.specs.declared.DropPoint.{DropPoint}
-use Rattle.sq_model.specs.Shedding.{Replay, is_touched, last_of, first_drop, level_of, is_dropped, full_at, touched_batches, record_of, drop_above_arc, drop_above_output, shown, answer_of}
+use Rattle.sq_model.specs.Shedding.{Replay, is_touched, last_of, level_of, is_dropped, full_at, touched_batches, record_of, shown, answer_of}
 use Rattle.sq_words.specs.Lists.{max_by}
 use Rattle.sq_place.specs.Points.{until_of}
-use Rattle.sq_model.specs.KeptTuples.{needed_until, distance_of, needed, kept_of}
+use Rattle.sq_model.specs.KeptTuples.{needed_until, needed, kept_of}
 use Rattle.sq_model.specs.GivenLevels.{needed_by, kept_by, drops_at, record_by, AreTicks, LevelsAre, shown_without}
 use Rattle.sq_model.specs.declared.known.Known.{Known}
 use Rattle.sq_model.specs.KnownStreams.{streams_in, stream_or_none, arc_in, stream_at_place, IsSafe, IsKnown}
@@ -27,6 +27,7 @@ use Rattle.sq_model.proofs.PlacedLemmas.{placed_of}
 use Rattle.sq_model.proofs.BatchLemmas.{last_low, batch_begins, epochs_up}
 use Rattle.sq_words.proofs.Alls.{all_weaker}
 use Rattle.sq_words.proofs.Lists.{filter_agree}
+use Rattle.sq_points.specs.Above.{first_drop, drop_above_output, drop_above_arc, distance_of}
 
 -- a stream's times are ticks
 pub stream_ticks : (xs : List Tuple) → IsStream xs → AreTicks xs

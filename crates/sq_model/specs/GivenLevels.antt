@@ -1,8 +1,7 @@
 -- What is dropped, shown and kept, where the drop points and the levels are given.
 --     drops_at table seed w p b     batch b of drop w is dropped at the levels of a table
 --     record_by, needed_by          the record, and the bounds of what is needed, at these levels
-use Rattle.std.specs.Prelude.{◌≡◌, ℕ, ◌+◌, ◌-◌, ◌*◌, ◌/◌, ◌≤◌, ◌<◌, ◌^◌, ◌==◌, Bool, not, ◌&&◌, nat_lt, List, map, length, Option, Some, None, slice_get}
-use Rattle.std.specs.Option.{option_map}
+use Rattle.std.specs.Prelude.{◌≡◌, ℕ, ◌+◌, ◌-◌, ◌*◌, ◌/◌, ◌≤◌, ◌<◌, ◌^◌, ◌==◌, Bool, not, ◌&&◌, nat_lt, List, map, length}
 use Rattle.std.specs.List.{filter, count_by, AllByRecursion}
 use Rattle.sq_value.specs.declared.Tuple.{Tuple}
 use Rattle.sq_words.specs.Lists.{numbers_to, max_by, contains_number}
@@ -59,11 +58,6 @@ IsAt n (at.Arc a) = a < length (arcs_of n.wires)
 pub record LevelsAre (table : LevelTable) (r : Replay) : Type 0 where
   pub epoch : table.epoch ≡ r.network.epoch
   pub agrees : AgreesWith table (shed.level_of r)
-
--- the first drop that passes a test, by its number
-abbrev pub found_at : Option ℕ → List DropPoint → Option (ℕ × DropPoint)
-found_at None ps = None
-found_at (Some w) ps = option_map (λ p. (w, p)) (slice_get ps w)
 
 -- how many tuples of each source arrive in an epoch of this length
 abbrev pub counted : ℕ → List (List Tuple) → ℕ → List ℕ

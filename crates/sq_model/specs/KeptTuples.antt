@@ -1,7 +1,6 @@
 -- Which tuples each box is fed, and how much work that is.
-use Rattle.std.specs.Prelude.{ℕ, ◌+◌, ◌-◌, ◌*◌, ◌/◌, not, ◌==◌, nat_lt, List, length, Option, Some, None, unwrap_or}
-use Rattle.std.specs.List.{filter, find, sum_by}
-use Rattle.std.specs.Option.{option_map}
+use Rattle.std.specs.Prelude.{ℕ, ◌+◌, ◌-◌, ◌*◌, ◌/◌, not, ◌==◌, nat_lt, List, length, Option, Some, None}
+use Rattle.std.specs.List.{filter, sum_by}
 use Rattle.sq_value.specs.declared.Tuple.{Tuple}
 use Rattle.sq_words.specs.Lists.{numbers_to, max_by}
 use Rattle.sq_graph.specs.Wires.{input_arcs_of, output_arc_at}
@@ -9,16 +8,13 @@ use Rattle.sq_place.specs.declared.DropPoint.{DropPoint}
 use Rattle.sq_place.specs.Points.{until_of}
 use Rattle.sq_model.specs.FullStreams.{full_arc}
 use Rattle.sq_points.specs.Points.{points_of}
-use Rattle.sq_model.specs.Shedding.{Replay, is_dropped, full_at, touched_batches, drop_above_arc}
+use Rattle.sq_model.specs.Shedding.{Replay, is_dropped, full_at, touched_batches}
+use Rattle.sq_points.specs.Above.{drop_above_arc, distance_of}
 
 -- until which tick the batches that begin by a tick and are permitted need tuples
 abbrev pub needed_until : Replay → ℕ → DropPoint → ℕ → ℕ
 needed_until r w p t =
     max_by (until_of p) (filter (λ b. not (is_dropped r w p b)) (numbers_to (t / p.length + 1)))
-
--- the distance of an arc below a drop
-abbrev pub distance_of : DropPoint → ℕ → ℕ
-distance_of p a = unwrap_or (option_map (λ d. d.1) (find (λ d. d.0 == a) p.reach)) 0
 
 -- the tuples of an arc that some permitted batch may need
 abbrev pub needed : Replay → Option (ℕ × DropPoint) → ℕ → List Tuple → List Tuple

@@ -16,8 +16,9 @@ use Rattle.sq_road.specs.Draws.{draw_of}
 use Rattle.sq_plan.specs.Plans.{Entries}
 use Rattle.sq_plan.specs.PlanRows.{level_for}
 use Rattle.sq_net.specs.declared.Network.{Network}
-use Rattle.sq_points.specs.Points.{points_of, setting_of}
+use Rattle.sq_points.specs.Points.{setting_of}
 use Rattle.sq_model.specs.FullStreams.{full_stream, full_arc}
+use Rattle.sq_points.specs.Above.{drop_above_output}
 
 -- what is replayed: a network, its recorded streams, the capacities and the seed
 pub record Replay : Type 0 where
@@ -65,18 +66,6 @@ module _ (r : Replay) where
   -- the record: the touched batches that are dropped, ascending
   abbrev pub record_of : ℕ → DropPoint → List ℕ
   record_of w p = filter (is_dropped w p) (touched_batches p)
-
--- the first of some drops, by number, that passes a test
-abbrev pub first_drop : (DropPoint → Bool) → ℕ → List DropPoint → Option (ℕ × DropPoint)
-first_drop test w [] = None
-first_drop test w (p ∷ ps) = if test p then Some (w, p) else first_drop test (w + 1) ps
-
--- the drop above an output, and above an arc
-abbrev pub drop_above_output : Network → ℕ → Option (ℕ × DropPoint)
-drop_above_output n o = first_drop (λ p. contains_number p.outputs o) 0 (points_of n)
-
-abbrev pub drop_above_arc : Network → ℕ → Option (ℕ × DropPoint)
-drop_above_arc n a = first_drop (λ p. list_any (λ d. d.0 == a) p.reach) 0 (points_of n)
 
 -- the tuples of an output whose batch isn't in the record
 abbrev pub shown : Replay → Option (ℕ × DropPoint) → List Tuple → List Tuple

@@ -7,10 +7,11 @@ ghost use Rattle.sq_graph.specs.Wires.{output_arc_at};
 ghost use Rattle.sq_net.specs.SoundNetworks.{IsSound};
 ghost use Rattle.sq_points.specs.Limits.{KeepsDropLimits};
 ghost use Rattle.sq_points.specs.Points.{points_of};
-ghost use Rattle.sq_model.specs.Shedding.{Replay, first_drop, record_of, answer_of};
-ghost use Rattle.sq_model.specs.KeptTuples.{distance_of, kept_of, work_of};
-ghost use Rattle.sq_model.specs.GivenLevels.{AreFew, found_at};
+ghost use Rattle.sq_model.specs.Shedding.{Replay, record_of, answer_of};
+ghost use Rattle.sq_model.specs.KeptTuples.{kept_of, work_of};
+ghost use Rattle.sq_model.specs.GivenLevels.{AreFew};
 ghost use Rattle.sq_model.specs.KnownStreams.{stream_at_place, IsSafe, IsKnown};
+ghost use Rattle.sq_points.specs.Above.{first_drop, distance_of, found_at};
 
 use crate::boxes::push_copies;
 use crate::drops::{dropped_batches, kept_number, shown_tuples};

@@ -3,27 +3,16 @@ ghost use Rattle.std.specs.Prelude.{◌≡◌, ◌<◌, ◌-◌, ◌++◌, ℕ, 
 ghost use Rattle.std.specs.List.{All};
 ghost use Rattle.sq_value.specs.Values.{IsStream};
 ghost use Rattle.sq_graph.specs.Wires.{producers_of};
-ghost use Rattle.sq_graph.specs.Order.{can_be_next, order_of};
+ghost use Rattle.sq_graph.specs.Order.{can_be_next};
 ghost use Rattle.sq_model.specs.FullStreams.{full_streams};
 ghost use Rattle.sq_model.specs.PlacedNetworks.{IsPlaced};
 ghost use Rattle.sq_model.specs.StreamsSoFar.{Stands};
 
 use crate::boxes::box_list;
-use sq_graph::{OrderErr, order, stream_of};
+use sq_graph::{box_order, stream_of};
 use sq_net::Network;
 use sq_value::Tuple;
 use std::alloc::{AllocError, Global};
-
-fn box_order(alloc: Global, n: &Network) -> Result<Vec<u32>, AllocError>
-    requires { IsPlaced n.now }
-    ensures { IfOk result (λ v. v.items ≡ order_of n.now.wires) }
-{
-    match order(alloc, &n.wires) {
-        Ok(order) => Ok(order),
-        Err(OrderErr::Memory) => Err(AllocError),
-        Err(OrderErr::Cycle { .. }) => unreachable!(),
-    }
-}
 
 fn push_empty(alloc: Global, streams: &mut Vec<Vec<Tuple>>, many: u32) -> Result<(), AllocError>
     ensures { OnOk result (map (λ t. t.items) streams.new.items ≡ map (λ t. t.items) streams.old.items ++ replicate many []) }
@@ -72,7 +61,7 @@ pub fn full_streams(
     requires streams { All IsStream (map (λ t. t.items) sources.items) }
     ensures { IfOk result (λ v. map (λ t. t.items) v.items ≡ full_streams n.now (map (λ t. t.items) sources.items)) }
 {
-    let order = box_order(alloc, n)?;
+    let order = box_order(alloc, &n.wires)?;
     let ports = stream_of(&n.wires, n.wires.boxes.as_slice().len() as u32, 0) - n.wires.sources;
     let mut streams = sources;
     push_empty(alloc, &mut streams, ports)?;

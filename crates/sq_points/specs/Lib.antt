@@ -1,3 +1,4 @@
 pub mod Points
 pub mod Limits
 pub mod Losses
+pub mod Above

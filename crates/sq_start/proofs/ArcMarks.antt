@@ -23,9 +23,9 @@ use Rattle.sq_net.specs.SoundNetworks.{IsSound}
 use Rattle.sq_net.specs.Streams.{columns_of_stream}
 use Rattle.sq_points.specs.Points.{points_of}
 use Rattle.sq_model.specs.FittingStreams.{SourcesFit}
-use Rattle.sq_model.specs.Shedding.{Replay, drop_above_arc, drop_above_output}
+use Rattle.sq_model.specs.Shedding.{Replay}
 use Rattle.sq_below.specs.Laws.{PointsMeasured}
-use Rattle.sq_below.specs.ArcContents.{Drop, drop_above_box, takes, fits_columns, fits_stream, fits_inputs, BoxesFit, DropsFit, OutputsFit, drop_fed}
+use Rattle.sq_below.specs.ArcContents.{Drop, takes, fits_columns, fits_stream, fits_inputs, BoxesFit, DropsFit, OutputsFit, drop_fed}
 use Rattle.sq_below.specs.Actors.{Sources, Box, Shedder, Shower}
 use Rattle.sq_below.specs.Ports.{body_marks, may_be_below, AllReady, FuturesWiden}
 use Rattle.sq_below.proofs.FromSound.{fits-at, ranks-of}
@@ -41,6 +41,7 @@ use Rattle.sq_start.proofs.OwnArcs.{own-fed}
 use Rattle.sq_below.proofs.RankWords.{BodyFits, FitsAt}
 use Rattle.sq_words.proofs.Alls.{all_at}
 use Rattle.sq_words.proofs.Lists.{length_map}
+use Rattle.sq_points.specs.Above.{drop_above_output, drop_above_arc, drop_above_box}
 
 -- a replay of which nothing was recorded
 abbrev bare : Network → Replay

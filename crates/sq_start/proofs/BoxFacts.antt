@@ -16,12 +16,12 @@ use Rattle.sq_net.specs.declared.Body.{Body}
 use Rattle.sq_net.specs.SoundNetworks.{IsSound}
 use Rattle.sq_model.specs.FittingStreams.{SourcesFit}
 use Rattle.sq_model.specs.Shedding.{Replay}
-use Rattle.sq_model.specs.KeptTuples.{distance_of}
-use Rattle.sq_below.specs.ArcContents.{Drop, drop_above_box, plain_gives, marked_gives, box_gives, box_fed}
+use Rattle.sq_below.specs.ArcContents.{Drop, plain_gives, marked_gives, box_gives, box_fed}
 use Rattle.sq_below.specs.Actors.{Box, box_stream, stream_of}
 use Rattle.sq_below.specs.Ports.{body_fits, body_marks, marks_where, may_be_below, AllReady, FuturesWiden}
 use Rattle.sq_start.specs.Starts.{IsDropAbove, AreLags, IsBox}
 use Rattle.sq_words.proofs.Lists.{length_map}
+use Rattle.sq_points.specs.Above.{distance_of, drop_above_box}
 
 -- what is fed is ready, wherever a replay was read
 abbrev pub Ready : Type 0

@@ -18,7 +18,7 @@ use Rattle.sq_windrop.specs.Gates as gates
 use Rattle.sq_place.specs.declared.DropPoint.{DropPoint}
 use Rattle.sq_net.specs.SoundNetworks.{IsSound}
 use Rattle.sq_model.specs.FittingStreams.{SourcesFit}
-use Rattle.sq_model.specs.Shedding.{Replay, level_of, drop_above_output}
+use Rattle.sq_model.specs.Shedding.{Replay, level_of}
 use Rattle.sq_below.specs.Laws.{PointsMeasured}
 use Rattle.sq_below.specs.ArcContents.{Drop, drop_gives_all, drop_decides_all, gate_gives_all, drop_fed, output_fed, DropsFit}
 use Rattle.sq_below.specs.Actors.{drop_stream}
@@ -28,6 +28,7 @@ use Rattle.sq_start.specs.Starts.{IsDrop, length_above, IsOutput, DropStarts, Ou
 use Rattle.sq_start.proofs.BoxFacts.{Ready}
 use Rattle.sq_start.proofs.PointLemmas.{own-arc, own-drop}
 use Rattle.sq_start.proofs.OwnArcs.{own-fed}
+use Rattle.sq_points.specs.Above.{drop_above_output}
 
 -- all that a drop decides is its own
 pub own-decided : (d : Dropping) (table : ℕ → ℕ → ℕ) (bs : List ℕ) → AllByRecursion (λ (x : Decision). x.drop ≡ d.number) (decided d table bs)

@@ -26,7 +26,7 @@ use Rattle.sq_model.specs.FullCounts.{full_fed_of, late_at, late_by, late_of}
 use Rattle.sq_model.specs.Shedding.{Replay}
 use Rattle.sq_model.proofs.FullLemmas.{full_follows, full_listed}
 use Rattle.sq_model.proofs.PlacedLemmas.{placed_of}
-use Rattle.sq_below.specs.ArcContents.{standing, on_arc, drop_above_box, box_fed}
+use Rattle.sq_below.specs.ArcContents.{standing, on_arc, box_fed}
 use Rattle.sq_below.specs.Ports.{FuturesWiden}
 use Rattle.sq_start.specs.Starts.{IsBox}
 use Rattle.sq_start.proofs.BoxFacts.{Ready, none-above}
@@ -37,6 +37,7 @@ use Rattle.sq_words.proofs.Bools.{and_true}
 use Rattle.sq_model.proofs.LateLemmas.{same_sum, bsort_gives}
 use Rattle.sq_oper.proofs.PortLemmas.{of-port}
 use Rattle.sq_words.proofs.Lists.{map_map, length_map}
+use Rattle.sq_points.specs.Above.{drop_above_box}
 
 -- ---- one stream
 

@@ -15,11 +15,12 @@ use Rattle.sq_net.proofs.StreamLemmas.{boxes_count}
 use Rattle.sq_place.specs.declared.DropPoint.{DropPoint}
 use Rattle.sq_place.specs.Places.{stream_on}
 use Rattle.sq_points.specs.Points.{points_of, drops_in}
-use Rattle.sq_below.specs.ArcContents.{Drop, drop_on_arc}
+use Rattle.sq_below.specs.ArcContents.{Drop}
 use Rattle.sq_below.specs.Actors.{Actor, Sources, Box, Shedder, Shower, giver, from_drop, arc_from}
 use Rattle.sq_start.specs.Numbers.{IsThere, first_output, ops_of, number_of, actor_at, place_stream, shedder_reads, reads_of}
 use Rattle.sq_start.proofs.PointLemmas.{first-found}
 use Rattle.sq_words.proofs.Numbers.{nat_lt_true}
+use Rattle.sq_points.specs.Above.{drop_on_arc}
 
 not-less : (a b : ℕ) → b ≤ a → nat_lt a b ≡ false
 not-less a b h = grind (arith, nat_tests)

@@ -12,10 +12,11 @@ use Rattle.sq_place.specs.Places.{stream_or, own_arcs}
 use Rattle.sq_place.proofs.Apart.{one-only}
 use Rattle.sq_model.specs.FullStreams.{full_on, full_arc, full_stream}
 use Rattle.sq_model.specs.Shedding.{Replay, full_at}
-use Rattle.sq_below.specs.ArcContents.{Drop, drop_on_arc, toward, drop_fed, DropsFit}
+use Rattle.sq_below.specs.ArcContents.{Drop, toward, drop_fed, DropsFit}
 use Rattle.sq_start.specs.Numbers.{place_stream}
 use Rattle.sq_start.proofs.PointLemmas.{OwnArc}
 use Rattle.sq_words.specs.Lists.{contains_number}
+use Rattle.sq_points.specs.Above.{drop_on_arc}
 
 no_arc : Arc
 no_arc = record { stream = 0; taker = Output 0 }

@@ -17,13 +17,13 @@ use Rattle.sq_place.specs.Points.{point_at, dist_of}
 use Rattle.sq_place.proofs.Lists.{any-map, contains-range, range-contains}
 use Rattle.sq_net.specs.declared.Network.{Network}
 use Rattle.sq_points.specs.Points.{windows_of, points_of}
-use Rattle.sq_model.specs.Shedding.{first_drop, drop_above_arc}
 use Rattle.sq_model.specs.GivenLevels.{IsAt}
-use Rattle.sq_below.specs.ArcContents.{Drop, drop_on_arc, drop_above_box}
+use Rattle.sq_below.specs.ArcContents.{Drop}
 use Rattle.sq_start.specs.Numbers.{place_stream}
 use Rattle.sq_place.proofs.PlaceWords.{reach_added, greatest}
 use Rattle.sq_words.proofs.Bools.{and_second, and_first}
 use Rattle.sq_words.proofs.Lists.{contains_filter}
+use Rattle.sq_points.specs.Above.{first_drop, drop_above_arc, drop_on_arc, drop_above_box}
 
 -- ---- the first drop that passes a test
 

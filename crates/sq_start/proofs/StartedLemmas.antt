@@ -15,11 +15,10 @@ use Rattle.sq_place.specs.declared.DropPoint.{DropPoint}
 use Rattle.sq_net.specs.declared.Network.{Network}
 use Rattle.sq_net.specs.declared.Node.{Node}
 use Rattle.sq_points.specs.Points.{points_of}
-use Rattle.sq_model.specs.Shedding.{Replay, level_of, drop_above_output}
-use Rattle.sq_model.specs.KeptTuples.{distance_of}
+use Rattle.sq_model.specs.Shedding.{Replay, level_of}
 use Rattle.sq_actor.specs.declared.actor.Actor as operator
 use Rattle.sq_actor.specs.contracts.actor.ActorOperator.TheImpl.{ghosts}
-use Rattle.sq_below.specs.ArcContents.{Drop, drop_above_box}
+use Rattle.sq_below.specs.ArcContents.{Drop}
 use Rattle.sq_below.specs.Actors.{Box, Shedder, Shower}
 use Rattle.sq_below.specs.Ports.{body_fits, body_marks}
 use Rattle.sq_start.specs.Nets.{fed_to, drop_fed_at, drop_decisions}
@@ -28,6 +27,7 @@ use Rattle.sq_start.specs.NewOperators.{node_marks, node_fits, actor_marks, IsSt
 use Rattle.sq_words.proofs.Bools.{and_second, and_first}
 use Rattle.sq_words.proofs.Alls.{all_weaker}
 use Rattle.sq_words.proofs.Lists.{length_map}
+use Rattle.sq_points.specs.Above.{drop_above_output, distance_of, drop_above_box}
 
 pub lags-many : (n : Network) (b : ℕ) (lags : List ℕ) (o : Option Drop) → AreLags n b lags o → length lags ≡ length (inputs_of n.wires b)
 lags-many n b lags None e = e

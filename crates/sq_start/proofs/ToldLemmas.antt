@@ -19,14 +19,14 @@ use Rattle.sq_points.specs.Points.{points_of}
 use Rattle.sq_points.specs.Limits.{KeepsDropLimits}
 use Rattle.sq_points.proofs.Bounds.{few_arcs}
 use Rattle.sq_windrop.specs.Gates.{IsLength}
-use Rattle.sq_model.specs.Shedding.{Replay, first_drop, drop_above_output}
-use Rattle.sq_model.specs.GivenLevels.{found_at}
+use Rattle.sq_model.specs.Shedding.{Replay}
 use Rattle.sq_below.specs.Laws.{PointsMeasured}
-use Rattle.sq_below.specs.ArcContents.{Drop, drop_above_box}
+use Rattle.sq_below.specs.ArcContents.{Drop}
 use Rattle.sq_start.specs.Starts.{IsDropAbove, AreLags, lags_below, length_above}
 use Rattle.sq_start.proofs.PointLemmas.{first-found}
 use Rattle.sq_words.proofs.Alls.{all_at}
 use Rattle.sq_words.proofs.Lists.{length_map}
+use Rattle.sq_points.specs.Above.{first_drop, drop_above_output, found_at, drop_above_box}
 
 pub max-more : (f : ℕ → ℕ) (xs : List ℕ) (x : ℕ) → max_by f (xs ++ x ∷ []) ≡ max (max_by f xs) (f x)
 max-more f [] x = omega arith

@@ -18,8 +18,8 @@ use Rattle.sq_place.specs.declared.DropPoint.{DropPoint}
 use Rattle.sq_place.specs.Points.{until_of}
 use Rattle.sq_points.specs.Points.{points_of}
 use Rattle.sq_model.specs.FullStreams.{full_arc}
-use Rattle.sq_model.specs.Shedding.{Replay, first_drop, drop_above_arc, touched_batches, full_at, is_dropped}
-use Rattle.sq_model.specs.KeptTuples.{distance_of, needed, kept_of, fed_of}
+use Rattle.sq_model.specs.Shedding.{Replay, touched_batches, full_at, is_dropped}
+use Rattle.sq_model.specs.KeptTuples.{needed, kept_of, fed_of}
 use Rattle.sq_tagged.specs.Boxes.{mark_of}
 use Rattle.sq_below.specs.ArcStreams.{drop_marks, marked_arc}
 use Rattle.sq_below.specs.ArcContents.{Drop, standing, on_arc, box_fed, drop_fed, output_fed}
@@ -27,6 +27,7 @@ use Rattle.sq_start.proofs.Sums.{total, total-fewer, total-added, total-split, s
 use Rattle.sq_oper.proofs.PortLemmas.{entries_length}
 use Rattle.sq_words.proofs.Lists.{length_map}
 use Rattle.sq_words.proofs.Sorting.{length_sort}
+use Rattle.sq_points.specs.Above.{first_drop, drop_above_arc, distance_of}
 
 -- ---- the length of a merge
 

@@ -11,12 +11,13 @@ use Rattle.sq_net.specs.declared.Network.{Network}
 use Rattle.sq_net.specs.SoundNetworks.{IsSound}
 use Rattle.sq_net.specs.Streams.{columns_of_stream}
 use Rattle.sq_points.specs.Points.{points_of}
-use Rattle.sq_model.specs.Shedding.{Replay, drop_above_arc}
+use Rattle.sq_model.specs.Shedding.{Replay}
 use Rattle.sq_below.specs.Actors.{Actor, Sources, Box, Shedder, Shower}
 use Rattle.sq_start.specs.Numbers.{IsThere, place_stream}
 use Rattle.sq_start.specs.Nets.{fed_to}
 use Rattle.sq_start.specs.Starts.{IsReadReplay}
 use Rattle.sq_start.specs.NewOperators.{actor_marks, actor_fits}
+use Rattle.sq_points.specs.Above.{drop_above_arc}
 
 -- the arcs of a box and of an output, by port
 abbrev pub arcs_to : Network → Actor → List ℕ

@@ -12,12 +12,12 @@ use Rattle.sq_model.specs.FullCounts.{late_of}
 use Rattle.sq_model.specs.Shedding.{Replay, level_of}
 use Rattle.sq_actor.specs.declared.actor.Actor as operator
 use Rattle.sq_actor.specs.contracts.actor.ActorOperator.TheImpl.{ghosts}
-use Rattle.sq_below.specs.ArcContents.{drop_above_box}
 use Rattle.sq_below.specs.Actors.{Actor, Sources, Box, Shedder, Shower, stream_of}
 use Rattle.sq_below.specs.Ports.{body_fits, body_marks}
 use Rattle.sq_start.specs.Numbers.{actor_at}
 use Rattle.sq_start.specs.Nets.{fed_to, decided_by}
 use Rattle.sq_start.specs.Starts.{IsReadReplay}
+use Rattle.sq_points.specs.Above.{drop_above_box}
 
 -- how many tuples an actor loses
 abbrev pub late_of_actor : Replay → Actor → ℕ

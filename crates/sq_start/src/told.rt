@@ -5,11 +5,8 @@ ghost use Rattle.sq_graph.specs.Wires.{input_arcs_of};
 ghost use Rattle.sq_words.specs.Lists.{max_by, contains_number};
 ghost use Rattle.sq_net.specs.SoundNetworks.{IsSound};
 ghost use Rattle.sq_points.specs.Points.{points_of};
-ghost use Rattle.sq_model.specs.Shedding.{first_drop};
-ghost use Rattle.sq_model.specs.KeptTuples.{distance_of};
-ghost use Rattle.sq_model.specs.GivenLevels.{found_at};
-ghost use Rattle.sq_below.specs.ArcContents.{drop_above_box};
 ghost use Rattle.sq_start.specs.Starts.{IsDropAbove, AreLags, lags_below, length_above};
+ghost use Rattle.sq_points.specs.Above.{first_drop, distance_of, found_at, drop_above_box};
 
 use sq_graph::arc_of;
 use sq_net::Network;

@@ -16,7 +16,7 @@ use Rattle.sq_plan.specs.PlanRows.{is_quiet, shown_after}
 use Rattle.sq_points.specs.Points.{drops_in, points_of, setting_of}
 use Rattle.sq_model.specs.FullStreams.{full_arc}
 use Rattle.sq_model.specs.Shedding as model
-use Rattle.sq_model.specs.Shedding.{answer_of, counts_in, drop_above_output, epoch_of, is_dropped, level_of, record_of, shown, touched_batches}
+use Rattle.sq_model.specs.Shedding.{answer_of, counts_in, epoch_of, is_dropped, level_of, record_of, shown, touched_batches}
 use Rattle.sq_net.specs.declared.Network.{Network}
 use Rattle.sq_net.specs.declared.NetErr.{NetErr}
 use Rattle.sq_net.specs.declared.Output.{Output}
@@ -47,6 +47,7 @@ use Rattle.sq_top.proofs.SourceLemmas.{sources_within, streams_more, text_is_rec
 use Rattle.sq_plan.proofs.ShownWords.{taken_after}
 use Rattle.sq_top.proofs.DueWords.{shown_at_output, dropped_from}
 use Rattle.sq_words.proofs.Bools.{and_true}
+use Rattle.sq_points.specs.Above.{drop_above_output}
 
 none_passes : {X : Type 0} (p : X → Bool) (xs : List X) → ((x : X) → p x ≡ false) → filter p xs ≡ []
 none_passes p [] none = refl

@@ -6,10 +6,10 @@ use Rattle.sq_core.specs.declared.join.Feed.{Feed}
 use Rattle.sq_graph.specs.Wires.{producer_of}
 use Rattle.sq_below.specs.Actors.{giver}
 use Rattle.sq_net.specs.Streams.{columns_of_stream}
-use Rattle.sq_model.specs.Shedding.{first_drop}
 use Rattle.sq_core.specs.Table.{kinds_on}
 use Rattle.sq_core.proofs.TableLemmas.{arc-feed-is, from-drop, from-giver}
 use Rattle.sq_core.proofs.network.arc_feed.Goals as goal
+use Rattle.sq_points.specs.Above.{first_drop}
 
 pub returns-in_ok-kinds-in-Some : goal.returns-in_ok-kinds-in-Some
 returns-in_ok-kinds-in-Some c =

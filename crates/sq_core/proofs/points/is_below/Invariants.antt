@@ -1,8 +1,8 @@
 use Rattle.std.proofs.Common.{◌≡◌, ◌==◌, drop}
 use Rattle.std.specs.Prelude.{is_some}
 use Rattle.std.specs.List.{list_any}
-use Rattle.sq_model.specs.Shedding.{first_drop}
 use Rattle.sq_core.proofs.points.is_below.Given as goal
+use Rattle.sq_points.specs.Above.{first_drop}
 
 abbrev pub invariant-loop-point : goal.invariant-loop-point
 invariant-loop-point l =

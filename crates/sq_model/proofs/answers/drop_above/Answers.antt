@@ -1,10 +1,10 @@
 use Rattle.std.proofs.Common.{◌+◌, cond, drop, Some, ap, sym, ◌∙◌}
 use Rattle.std.specs.Option.{option_map}
 use Rattle.sq_place.specs.declared.DropPoint.{DropPoint}
-use Rattle.sq_model.specs.Shedding.{first_drop}
 use Rattle.sq_model.proofs.FirstLemmas.{first_step, there-in}
 use Rattle.sq_model.proofs.answers.drop_above.Goals as goal
 use Rattle.sq_words.specs.Lists.{contains_number}
+use Rattle.sq_points.specs.Above.{first_drop}
 
 pub returns-then-is_above-clause-first : goal.returns-then-is_above-clause-first
 returns-then-is_above-clause-first c =

@@ -2,9 +2,9 @@ use Rattle.std.proofs.Common.{◌==◌, ◌+◌, cond, drop, Some, ap, sym, ◌�
 use Rattle.std.specs.Option.{option_map}
 use Rattle.std.specs.List.{list_any}
 use Rattle.sq_place.specs.declared.DropPoint.{DropPoint}
-use Rattle.sq_model.specs.Shedding.{first_drop}
 use Rattle.sq_model.proofs.FirstLemmas.{first_step, there-in}
 use Rattle.sq_model.proofs.answers.drop_over.Goals as goal
+use Rattle.sq_points.specs.Above.{first_drop}
 
 pub returns-then-reaches-clause-first : goal.returns-then-reaches-clause-first
 returns-then-reaches-clause-first c =

@@ -2,12 +2,11 @@ use Rattle.std.proofs.Common.{◌≡◌, ◌∙◌, ◌≤◌, ◌<◌, List, sl
 use Rattle.std.specs.Option.{option_map}
 use Rattle.sq_value.specs.declared.Tuple.{Tuple}
 use Rattle.sq_place.specs.declared.DropPoint.{DropPoint}
-use Rattle.sq_model.specs.Shedding.{drop_above_arc}
 use Rattle.sq_model.proofs.FirstLemmas.{there-in}
-use Rattle.sq_model.specs.KeptTuples.{distance_of}
 use Rattle.sq_model.specs.GivenLevels.{AreTicks, kept_by}
 use Rattle.sq_model.proofs.ShedLemmas.{arc_ticks, found_arc, kept_plain, kept_known}
 use Rattle.sq_model.proofs.answers.kept_in.Goals as goal
+use Rattle.sq_points.specs.Above.{drop_above_arc, distance_of}
 
 pub kept_number-requires-clause-ticks : goal.kept_number-requires-clause-ticks
 kept_number-requires-clause-ticks c = subst AreTicks (sym c.at_arc-full.ensures) (arc_ticks c.args.known.now c.requires c.args.arc)

@@ -1,11 +1,11 @@
 use Rattle.std.proofs.Common.{ap, sym, subst, ◌∙◌}
 use Rattle.sq_windrop.specs.Gates.{IsLength}
-use Rattle.sq_model.specs.Shedding.{first_drop}
 use Rattle.sq_start.specs.Starts.{length_above}
 use Rattle.sq_start.proofs.ToldLemmas.{length-fine}
 use Rattle.sq_start.proofs.StartedLemmas.{output-started}
 use Rattle.sq_start.proofs.actors.new_output.Goals as goal
 use Rattle.sq_words.specs.Lists.{contains_number}
+use Rattle.sq_points.specs.Above.{first_drop}
 
 pub gate_actor-requires : goal.gate_actor-requires
 gate_actor-requires c =

@@ -1,7 +1,7 @@
-use Rattle.sq_model.specs.KeptTuples.{distance_of}
 use Rattle.std.proofs.Common.{arith}
 use Rattle.sq_start.proofs.ToldLemmas.{max-at}
 use Rattle.sq_start.proofs.told.lags_below.Goals as goal
+use Rattle.sq_points.specs.Above.{distance_of}
 
 pub overflow_sub-most : goal.overflow_sub-most
 overflow_sub-most c =
