@@ -12,8 +12,8 @@ use Rattle.sq_plan.specs.Rates.{loads_of}
 use Rattle.sq_place.specs.declared.DropPoint.{DropPoint}
 use Rattle.sq_net.specs.declared.Network.{Network}
 use Rattle.sq_points.specs.Points.{losses_below, loss_below, setting_of, points_of}
-use Rattle.sq_model.specs.Shedding.{Replay, counts_in, level_of}
-use Rattle.sq_plan.proofs.ShownWords.{taken_after}
+use Rattle.sq_model.specs.Shedding.{Replay, counts_in, batch_level}
+use Rattle.sq_plan.specs.PlanRows.{taken_after}
 
 module _ (w : ℕ) where
   abbrev bit : Bool → ℕ
@@ -144,7 +144,7 @@ twenty n [] = tt
 twenty n (p ∷ ps) = (length-map-range_with_len (loss_below n p.outputs) 1 20, twenty n ps)
 
 -- the levels of a replay are whole fifties, and 1000 at most
-pub levels-low : (r : Replay) (e w : ℕ) → level_of r e w ≤ 1000
+pub levels-low : (r : Replay) (e w : ℕ) → batch_level r e w ≤ 1000
 levels-low r zero w = omega arith
 levels-low r (suc e) w =
     let s = setting_of r.network r.entries in
@@ -153,6 +153,6 @@ levels-low r (suc e) w =
 times-fifty : (c : ℕ) → (50 * c) % 50 ≡ 0
 times-fifty c = omega arith
 
-pub levels-whole : (r : Replay) (e w : ℕ) → level_of r e w % 50 ≡ 0
+pub levels-whole : (r : Replay) (e w : ℕ) → batch_level r e w % 50 ≡ 0
 levels-whole r zero w = refl
 levels-whole r (suc e) w = times-fifty _

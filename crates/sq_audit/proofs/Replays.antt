@@ -20,7 +20,7 @@ use Rattle.sq_points.specs.Limits.{KeepsDropLimits}
 use Rattle.sq_points.specs.Points.{drops_in, points_of}
 use Rattle.sq_model.specs.FullStreams.{full_arc, full_on, full_stream, full_streams}
 use Rattle.sq_model.specs.GivenLevels.{AreTicks}
-use Rattle.sq_model.specs.Shedding.{Replay, epoch_of, level_of, is_dropped, is_touched, full_at, last_of, record_of, shown}
+use Rattle.sq_model.specs.Shedding.{Replay, epoch_of, batch_level, is_dropped, is_touched, full_at, last_of, record_of, shown}
 use Rattle.sq_model.specs.PlanLines.{drop_lines}
 use Rattle.sq_model.proofs.BatchLemmas.{last_low, batch_small}
 use Rattle.sq_model.proofs.FullLemmas.{full_listed}
@@ -171,7 +171,7 @@ module _ (r : Replay) (sound : IsSound r.network) (limits : KeepsDropLimits r.ne
 
   module _ (w : ℕ) (p : DropPoint) (there : slice_get points w ≡ Some p) where
     abbrev level_at : ℕ → ℕ
-    level_at b = level_of r (epoch_of r (b * p.length)) w
+    level_at b = batch_level r (epoch_of r (b * p.length)) w
 
     inside : w < drops
     inside = slice_get_within points w p there

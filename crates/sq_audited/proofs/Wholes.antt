@@ -27,10 +27,9 @@ use Rattle.sq_verdict.specs.WholeTexts.{AreEnds, IsWhole}
 use Rattle.sq_audit.specs.Laws.{answer_lines, due_for, record_lines}
 use Rattle.sq_audit.proofs.AuditLemmas.{points_few}
 use Rattle.sq_audit.proofs.Replays.{accepts_whole}
-use Rattle.sq_top.specs.Due.{Due, answer_in, due_in, ended_in, replayed}
+use Rattle.sq_top.specs.Due.{Due, answer_in, due_in, ended_in, replayed, shown_at_output}
 use Rattle.sq_top.specs.Answers.{IsWholeText, is_classed}
 use Rattle.sq_audited.specs.Laws.{AcceptsReplays}
-use Rattle.sq_top.proofs.DueWords.{shown_at_output}
 use Rattle.sq_words.proofs.Lists.{same_bytes_true, same_bytes_itself}
 
 module _ (r : model.Replay) where
@@ -40,9 +39,9 @@ module _ (r : model.Replay) where
 
   -- the lines of a drop's decisions are those of its record
   decided_lines : (w : ℕ) (p : DropPoint) (bs : List ℕ) → map (λ (d : Decision). drop_line w d.batch d.level) (map (decision_on r w p) bs)
-      ≡ map (λ b. drop_line w b (model.level_of r (model.epoch_of r (b * p.length)) w)) bs
+      ≡ map (λ b. drop_line w b (model.batch_level r (model.epoch_of r (b * p.length)) w)) bs
   decided_lines w p [] = refl
-  decided_lines w p (b ∷ bs) = ap (λ xs. drop_line w b (model.level_of r (model.epoch_of r (b * p.length)) w) ∷ xs) (decided_lines w p bs)
+  decided_lines w p (b ∷ bs) = ap (λ xs. drop_line w b (model.batch_level r (model.epoch_of r (b * p.length)) w) ∷ xs) (decided_lines w p bs)
 
   lines_at : (w : ℕ) (o : Option DropPoint) → map (λ (d : Decision). drop_line w d.batch d.level) (drop_decisions r w o) ≡ record_lines r w o
   lines_at w None = refl

@@ -26,7 +26,7 @@ use Rattle.sq_oper.specs.Entries.{Entry}
 use Rattle.sq_oper.specs.Order.{merge, unmarked, IsFuture}
 use Rattle.sq_oper.specs.Streams.{tuple_in, tuples_at, tuples_of, things, at_zero, at_ports_below}
 use Rattle.sq_tagged.specs.TaggedStreams.{Tagged, spread_of, tagged_of}
-use Rattle.sq_tagged.specs.Boxes.{filter_tagged, map_tagged, united_tagged, aggregate_tagged, drop_tagged, touched_batches, gate_of}
+use Rattle.sq_tagged.specs.Boxes.{filter_tagged, map_tagged, united_tagged, aggregate_tagged, drop_tagged, batches_touched, gate_of}
 use Rattle.sq_model.specs.FullStreams.{full_arc}
 use Rattle.sq_model.specs.Shedding.{Replay, is_dropped, full_at, record_of, answer_of}
 use Rattle.sq_model.specs.KeptTuples.{kept_of, fed_of}
@@ -118,10 +118,10 @@ box_gives r (Some d) b x es q = marked_gives x (lags_at r d.0 d.1 b) es q
 -- a window drop, and its dropped batches
 abbrev pub drop_gives_all : Replay → Drop → List Entry → List Thing
 drop_gives_all r d es =
-    spread_of (drop_tagged (is_dropped r d.0 d.1) (until_of d.1) (d.1).length (touched_batches (d.1).length (d.1).keep (tuples_of es)) (tuples_of es))
+    spread_of (drop_tagged (is_dropped r d.0 d.1) (until_of d.1) (d.1).length (batches_touched (d.1).length (d.1).keep (tuples_of es)) (tuples_of es))
 
 abbrev pub drop_decides_all : Replay → Drop → List Entry → List ℕ
-drop_decides_all r d es = filter (is_dropped r d.0 d.1) (touched_batches (d.1).length (d.1).keep (tuples_of es))
+drop_decides_all r d es = filter (is_dropped r d.0 d.1) (batches_touched (d.1).length (d.1).keep (tuples_of es))
 
 -- an output: a gate with the batch's length below a drop, else one without
 abbrev pub gate_gives_all : Option Drop → List Entry → List Tuple

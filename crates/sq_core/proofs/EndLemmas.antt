@@ -2,7 +2,7 @@
 use Rattle.std.proofs.Common.{◌≡◌, ℕ, ◌+◌, ◌<◌, true, None, refl, List, [], ◌∷◌, ◌++◌, length, Option, Some, slice_get, ap, sym, ◌∙◌, arith, append-nil}
 use Rattle.sq_outside.specs.Disks.{Pages}
 use Rattle.sq_oper.specs.declared.outs.Event.{Event}
-use Rattle.sq_model.specs.Shedding.{Replay, level_of}
+use Rattle.sq_model.specs.Shedding.{Replay, batch_level}
 use Rattle.sq_pool.specs.Trust.{Tells}
 use Rattle.sq_flow.specs.Events.{lines_of, drops_of}
 use Rattle.sq_flow.specs.Plans.{plans_of, plans_left}
@@ -59,19 +59,19 @@ shown-all e none done r pages history begun steps told run =
     let a = run.answers told in
     record {
       lines = λ output low.
-          sym (append-nil (lines_of output history)) ∙ ap (λ l. lines_of output history ++ l) (sym (none.lines pages (level_of r) a.holds output (shown-in e r.network run.network run.sound output low)))
+          sym (append-nil (lines_of output history)) ∙ ap (λ l. lines_of output history ++ l) (sym (none.lines pages (batch_level r) a.holds output (shown-in e r.network run.network run.sound output low)))
           ∙ a.lines output low;
       drops = λ w p there.
           let shed = shed-in e r.network run.network run.sound w p there in
           let first = run.sound.drops in
           let all = run.sound.operators in
           sym (append-nil (drops_of w history))
-          ∙ ap (λ l. drops_of w history ++ l) (sym (none.drops pages (level_of r) a.holds (e.engine.flow.wires.sheds + w) (omega (arith, shed, first, all))))
+          ∙ ap (λ l. drops_of w history ++ l) (sym (none.drops pages (batch_level r) a.holds (e.engine.flow.wires.sheds + w) (omega (arith, shed, first, all))))
           ∙ a.drops w p there;
       plans = sym (append-nil (plans_of history)) ∙ ap (λ l. plans_of history ++ l) (sym none.plans) ∙ run.plans.shown;
-      fed = λ at low. sym (none.fed pages (level_of r) a.holds at (box-in e r.network run.network run.sound at low)) ∙ a.fed at low;
+      fed = λ at low. sym (none.fed pages (batch_level r) a.holds at (box-in e r.network run.network run.sound at low)) ∙ a.fed at low;
       late = λ at low.
           late-seat e.engine.flow run.sound.engine.flow done at (box-in e r.network run.network run.sound at low)
-          ∙ sym (none.lost pages (level_of r) a.holds at (box-in e r.network run.network run.sound at low)) ∙ a.late at low;
-      work = (let all = none.work pages (level_of r) a.holds in let sum = a.work in let counted = run.counted in omega (arith, all, sum, counted));
+          ∙ sym (none.lost pages (batch_level r) a.holds at (box-in e r.network run.network run.sound at low)) ∙ a.late at low;
+      work = (let all = none.work pages (batch_level r) a.holds in let sum = a.work in let counted = run.counted in omega (arith, all, sum, counted));
     }

@@ -10,7 +10,7 @@ use Rattle.sq_oper.specs.Streams.{IsSoundTuple, tuples_in}
 use Rattle.sq_net.specs.declared.Network.{Network}
 use Rattle.sq_net.specs.SoundNetworks.{IsSound}
 use Rattle.sq_points.specs.Points.{points_of}
-use Rattle.sq_model.specs.Shedding.{Replay, level_of, answer_of}
+use Rattle.sq_model.specs.Shedding.{Replay, batch_level, answer_of}
 use Rattle.sq_left.proofs.MergeLemmas.{eqb-not}
 use Rattle.sq_left.specs.Remainder.{Net, Holding, coming, inputs, inputs_by, left, still_dropped, IsLaidOut}
 use Rattle.sq_below.specs.Actors as below
@@ -86,30 +86,30 @@ module _ (r : Replay) (net : Net) (w : Holding) (order : List ℕ) (read : IsRea
             ∙ ap (λ k. coming net w order k (net.port at.0)) at.2.0 ∙ ap (coming net w order (number_of r.network giver.0)) at.2.1 ∙ all-of giver there,
       )
 
-pub new-answers : (r : Replay) → IsReadReplay r → StartsAsReplayed → (flow : Flow Actor) (items : ℕ → List Item) → ((arc : ℕ) → items arc ≡ []) → IsNew r (net_of flow.wires) (world_of actors (level_of r) items flow)
+pub new-answers : (r : Replay) → IsReadReplay r → StartsAsReplayed → (flow : Flow Actor) (items : ℕ → List Item) → ((arc : ℕ) → items arc ≡ []) → IsNew r (net_of flow.wires) (world_of actors (batch_level r) items flow)
     → IsShaped flow.wires (ops_of r.network) → flow.wires.sheds ≡ length r.network.boxes → flow.wires.shown ≡ first_output r.network → length flow.seats.items ≡ ops_of r.network → flow.taken ≡ 0
     → KeepsAnswers r items flow []
 new-answers r read law flow items none new shaped sheds shown many untaken =
-    let starts = law r (net_of flow.wires) (world_of actors (level_of r) items flow) flow.wires.order.items read new shaped.wired shaped.ordered in
+    let starts = law r (net_of flow.wires) (world_of actors (batch_level r) items flow) flow.wires.order.items read new shaped.wired shaped.ordered in
     record {
       holds = record { facts = starts.facts; queued = λ arc. rw (none arc) _ };
       lines = λ output low.
-          ap (λ k. tuples_in (coming (net_of flow.wires) (world_of actors (level_of r) items flow) flow.wires.order.items (k + output) 0)) shown
+          ap (λ k. tuples_in (coming (net_of flow.wires) (world_of actors (batch_level r) items flow) flow.wires.order.items (k + output) 0)) shown
           ∙ ap tuples_in (starts.lines output low) ∙ tuples_back (answer_of r output);
       drops = λ w p there.
           let low = slice_get_within (points_of r.network) w p there in
-          ap (λ k. still_dropped (net_of flow.wires) (world_of actors (level_of r) items flow) flow.wires.order.items (k + w)) sheds
+          ap (λ k. still_dropped (net_of flow.wires) (world_of actors (batch_level r) items flow) flow.wires.order.items (k + w)) sheds
           ∙ starts.decided (length r.network.boxes + w) (omega (arith, low)) ∙ ap (decided_by r) (drop-at r.network w low) ∙ ap (drop_decisions r w) there;
       fed = λ at low. starts.fed at (omega (arith, low)) ∙ ap (count_fed r) (box-at r.network at low);
       late = starts.late;
-      work = ap (sum_below (fed_at_last actors (level_of r) items flow)) many ∙ sym (sum-numbers (fed_at_last actors (level_of r) items flow) (ops_of r.network)) ∙ starts.work;
+      work = ap (sum_below (fed_at_last actors (batch_level r) items flow)) many ∙ sym (sum-numbers (fed_at_last actors (batch_level r) items flow) (ops_of r.network)) ∙ starts.work;
       turns =
-          let sum = ap (sum_below (λ actor. length (inputs (net_of flow.wires) (world_of actors (level_of r) items flow) flow.wires.order.items actor))) many
-          ∙ sym (sum-numbers (λ actor. length (inputs (net_of flow.wires) (world_of actors (level_of r) items flow) flow.wires.order.items actor)) (ops_of r.network)) in
+          let sum = ap (sum_below (λ actor. length (inputs (net_of flow.wires) (world_of actors (batch_level r) items flow) flow.wires.order.items actor))) many
+          ∙ sym (sum-numbers (λ actor. length (inputs (net_of flow.wires) (world_of actors (batch_level r) items flow) flow.wires.order.items actor)) (ops_of r.network)) in
           let most = starts.turns in
           omega (arith, sum, most, untaken);
       arcs = λ actor port giver low is.
-          let whole = all-left r (net_of flow.wires) (world_of actors (level_of r) items flow) flow.wires.order.items read new shaped.wired starts actor port giver low is in
+          let whole = all-left r (net_of flow.wires) (world_of actors (batch_level r) items flow) flow.wires.order.items read new shaped.wired starts actor port giver low is in
           record { arc = whole.0; there = whole.1; is_end = ([], sym whole.2) };
     }
 

@@ -17,7 +17,7 @@ use Rattle.sq_net.specs.SoundNetworks.{IsSound}
 use Rattle.sq_points.specs.Points.{points_of}
 use Rattle.sq_model.specs.FullCounts.{late_of}
 use Rattle.sq_model.specs.GivenLevels.{IsAt}
-use Rattle.sq_model.specs.Shedding.{Replay, level_of}
+use Rattle.sq_model.specs.Shedding.{Replay, batch_level}
 use Rattle.sq_below.specs.Actors.{Box, Shedder, Shower, stream_of}
 use Rattle.sq_below.specs.ArcContents.{box_fed}
 use Rattle.sq_start.specs.Numbers.{IsThere, first_output, ops_of, actor_at}
@@ -134,11 +134,11 @@ module _ (n : Network) (sound : IsSound n) (places : (d : ℕ) (p : DropPoint) �
   seat-of actor low = (let s = has_item seats actor (omega (arith, low, count)) in (s.0, s.1, (seated actor s.0 s.1).started))
 
   module _ (comes : FedMayCome) (r : Replay) (read : IsReadReplay r) (network : r.network ≡ n) (seed : r.seed ≡ number) where
-    gives-at : (actor port : ℕ) → actor < ops_of n → rest_at actors (level_of r) (slice_get seats actor) (fed_to r (actor_at n actor)) port ≡ stream_of r (actor_at n actor, port)
-    gives-at actor port low = (let s = seat-of actor low in ap (λ o. rest_at actors (level_of r) o (fed_to r (actor_at n actor)) port) s.1 ∙ s.2.gives r read network seed port)
+    gives-at : (actor port : ℕ) → actor < ops_of n → rest_at actors (batch_level r) (slice_get seats actor) (fed_to r (actor_at n actor)) port ≡ stream_of r (actor_at n actor, port)
+    gives-at actor port low = (let s = seat-of actor low in ap (λ o. rest_at actors (batch_level r) o (fed_to r (actor_at n actor)) port) s.1 ∙ s.2.gives r read network seed port)
 
-    decides-at : (actor : ℕ) → actor < ops_of n → decides_at actors (level_of r) (slice_get seats actor) (fed_to r (actor_at n actor)) ≡ decided_by r (actor_at n actor)
-    decides-at actor low = (let s = seat-of actor low in ap (λ o. decides_at actors (level_of r) o (fed_to r (actor_at n actor))) s.1 ∙ s.2.decides r read network seed)
+    decides-at : (actor : ℕ) → actor < ops_of n → decides_at actors (batch_level r) (slice_get seats actor) (fed_to r (actor_at n actor)) ≡ decided_by r (actor_at n actor)
+    decides-at actor low = (let s = seat-of actor low in ap (λ o. decides_at actors (batch_level r) o (fed_to r (actor_at n actor))) s.1 ∙ s.2.decides r read network seed)
 
     loses-at : (b : ℕ) → b < length n.boxes → lost_at actors (slice_get seats b) (box_fed r b) ≡ late_of r.network r.sources b
     loses-at b low =
@@ -148,7 +148,7 @@ module _ (n : Network) (sound : IsSound n) (places : (d : ℕ) (p : DropPoint) �
 
     pub is-new : (seats-vec : Vec (Seat operator.Actor) Global) → seats-vec.items ≡ seats → (queues : Vec Recorded Global) → map (λ q. q.items) queues.items ≡ r.sources
         → (planner : Setting) (levels : LevelTable) (most : ℕ) (flow : Flow operator.Actor) → IsNewFlow w seats-vec queues planner levels most flow → w.replay ≡ ops_of n → (pages : Option Pages)
-        → IsNew r (net_of flow.wires) (world_of actors (level_of r) (items_in flow pages) flow)
+        → IsNew r (net_of flow.wires) (world_of actors (batch_level r) (items_in flow pages) flow)
     is-new seats-vec same queues streams planner levels most flow new replay pages =
         let here : flow.seats.items ≡ seats = ap (λ v. v.items) new.seats_are ∙ same in
         let wires = new.wires_are in
@@ -165,13 +165,13 @@ module _ (n : Network) (sound : IsSound n) (places : (d : ℕ) (p : DropPoint) �
               (comes r (actor_at r.network actor) ((net_of w).takes actor) ((net_of w).fits actor) read (there-of r.network actor low)
               (subst (λ z. TakesArcs z (actor_at z actor) ((net_of w).takes actor) ((net_of w).fits actor)) (sym network) (takes-arcs n sound places w measured actor (to actor low) (there-of n actor (to actor low)))));
           gives = λ actor low port.
-              ap (λ l. rest_at actors (level_of r) (slice_get l actor) (fed_to r (actor_at r.network actor)) port) here
-              ∙ subst (λ z. rest_at actors (level_of r) (slice_get seats actor) (fed_to r (actor_at z actor)) port ≡ stream_of r (actor_at z actor, port)) (sym network) (gives-at actor port (to actor low));
+              ap (λ l. rest_at actors (batch_level r) (slice_get l actor) (fed_to r (actor_at r.network actor)) port) here
+              ∙ subst (λ z. rest_at actors (batch_level r) (slice_get seats actor) (fed_to r (actor_at z actor)) port ≡ stream_of r (actor_at z actor, port)) (sym network) (gives-at actor port (to actor low));
           decides = λ actor low.
-              ap (λ l. decides_at actors (level_of r) (slice_get l actor) (fed_to r (actor_at r.network actor))) here
-              ∙ subst (λ z. decides_at actors (level_of r) (slice_get seats actor) (fed_to r (actor_at z actor)) ≡ decided_by r (actor_at z actor)) (sym network) (decides-at actor (to actor low));
+              ap (λ l. decides_at actors (batch_level r) (slice_get l actor) (fed_to r (actor_at r.network actor))) here
+              ∙ subst (λ z. decides_at actors (batch_level r) (slice_get seats actor) (fed_to r (actor_at z actor)) ≡ decided_by r (actor_at z actor)) (sym network) (decides-at actor (to actor low));
           loses = λ b low. ap (λ l. lost_at actors (slice_get l b) (box_fed r b)) here ∙ loses-at b (subst (λ z. b < length z.boxes) network low);
           no_more = λ actor far port.
-              ap (λ l. rest_at actors (level_of r) (slice_get l actor) [] port) here
-              ∙ ap (λ o. rest_at actors (level_of r) o [] port) (slice_get_past seats actor (let f = subst (λ z. ops_of z < actor) network far in omega (arith, f, count)));
+              ap (λ l. rest_at actors (batch_level r) (slice_get l actor) [] port) here
+              ∙ ap (λ o. rest_at actors (batch_level r) o [] port) (slice_get_past seats actor (let f = subst (λ z. ops_of z < actor) network far in omega (arith, f, count)));
         }

@@ -17,7 +17,7 @@ use Rattle.sq_points.specs.Points.{points_of, drops_in}
 use Rattle.std.proofs.lemmas.Option.{slice_get_within}
 use Rattle.sq_net.specs.declared.Network.{Network}
 use Rattle.sq_net.specs.SoundNetworks.{IsSound}
-use Rattle.sq_model.specs.Shedding.{Replay, counts_in, level_of}
+use Rattle.sq_model.specs.Shedding.{Replay, counts_in, batch_level}
 use Rattle.sq_pool.specs.Trust.{Tells}
 use Rattle.sq_actor.specs.declared.actor.Actor.{Actor}
 use Rattle.sq_flow.specs.declared.flow.Flow.{Flow}
@@ -78,7 +78,7 @@ plans-prefix-in-front history xs ys left h =
     (prefix-front (plans_of history) (plans_of ys) (plans_of xs ++ left) h))
 
 -- the levels of the closed epochs are those of the replay
-pub agrees-of : (r : Replay) (flow : Flow Actor) (history : List Event) → Plans r flow history → AgreesWith flow.levels (level_of r)
+pub agrees-of : (r : Replay) (flow : Flow Actor) (history : List Event) → Plans r flow history → AgreesWith flow.levels (batch_level r)
 agrees-of r flow history plans = subst (λ s. AgreesWith flow.levels (level_for s (counts_in r))) plans.setting plans.planned.agrees
 
 -- an output, a drop and a box is an operator
@@ -120,27 +120,27 @@ module _ (was is : Option Pages) (e e' : Engine) (events events' : List Event) (
           shown = sym (plans-in-front history events events' (plans_left e.engine.flow) (plans_left e'.engine.flow) stepped.plans) ∙ plans.shown;
         }
 
-    answers-after : (r : Replay) (history : List Event) → e.network ≡ r.network → IsSoundEngine e → Tells is → AgreesWith e'.engine.flow.levels (level_of r)
+    answers-after : (r : Replay) (history : List Event) → e.network ≡ r.network → IsSoundEngine e → Tells is → AgreesWith e'.engine.flow.levels (batch_level r)
         → KeepsAnswers r (items_in e.engine.flow was) e.engine.flow (history ++ events) → KeepsAnswers r (items_in e'.engine.flow is) e'.engine.flow (history ++ events')
     answers-after r history given sound told agrees a =
-        let goes = stepped.goes told (level_of r) agrees a.holds in
+        let goes = stepped.goes told (batch_level r) agrees a.holds in
         record {
-          holds = stepped.holds told (level_of r) agrees a.holds;
+          holds = stepped.holds told (batch_level r) agrees a.holds;
           lines = λ output low.
-              sym (in-front output history events events' (lines_left actors (level_of r) (items_in e.engine.flow was) e.engine.flow output) (lines_left actors (level_of r) (items_in e'.engine.flow is) e'.engine.flow output)
+              sym (in-front output history events events' (lines_left actors (batch_level r) (items_in e.engine.flow was) e.engine.flow output) (lines_left actors (batch_level r) (items_in e'.engine.flow is) e'.engine.flow output)
               (goes.lines output (shown-in e r.network given sound output low)))
               ∙ a.lines output low;
           drops = λ w p there.
               let k = ap (λ v. v.sheds) stepped.wires in
-              ap (λ z. drops_of w (history ++ events') ++ decisions_left actors (level_of r) (items_in e'.engine.flow is) e'.engine.flow (z + w)) k
-              ∙ sym (decided-in-front w history events events' (decisions_left actors (level_of r) (items_in e.engine.flow was) e.engine.flow (e.engine.flow.wires.sheds + w))
-              (decisions_left actors (level_of r) (items_in e'.engine.flow is) e'.engine.flow (e.engine.flow.wires.sheds + w)) (goes.drops w (shed-in e r.network given sound w p there)))
+              ap (λ z. drops_of w (history ++ events') ++ decisions_left actors (batch_level r) (items_in e'.engine.flow is) e'.engine.flow (z + w)) k
+              ∙ sym (decided-in-front w history events events' (decisions_left actors (batch_level r) (items_in e.engine.flow was) e.engine.flow (e.engine.flow.wires.sheds + w))
+              (decisions_left actors (batch_level r) (items_in e'.engine.flow is) e'.engine.flow (e.engine.flow.wires.sheds + w)) (goes.drops w (shed-in e r.network given sound w p there)))
               ∙ a.drops w p there;
           fed = λ at low. sym (goes.fed at (box-in e r.network given sound at low)) ∙ a.fed at low;
           late = λ at low. sym (goes.lost at (box-in e r.network given sound at low)) ∙ a.late at low;
           work =
-              ap (sum_below (fed_at_last actors (level_of r) (items_in e'.engine.flow is) e'.engine.flow)) stepped.seats
-              ∙ sym (sums-agree (fed_at_last actors (level_of r) (items_in e.engine.flow was) e.engine.flow) (fed_at_last actors (level_of r) (items_in e'.engine.flow is) e'.engine.flow) (length e.engine.flow.seats.items)
+              ap (sum_below (fed_at_last actors (batch_level r) (items_in e'.engine.flow is) e'.engine.flow)) stepped.seats
+              ∙ sym (sums-agree (fed_at_last actors (batch_level r) (items_in e.engine.flow was) e.engine.flow) (fed_at_last actors (batch_level r) (items_in e'.engine.flow is) e'.engine.flow) (length e.engine.flow.seats.items)
               goes.fed)
               ∙ a.work;
           turns = (let same = goes.turns in let most = a.turns in omega (arith, same, most));
@@ -150,7 +150,7 @@ module _ (was is : Option Pages) (e e' : Engine) (events events' : List Event) (
                 arc = left.arc;
                 there = ap (λ (w : Wires). slice_get (arcs_read w actor) port) stepped.wires ∙ left.there;
                 is_end =
-                    ends-chain (stream_of r giver) (left_on actors (level_of r) (items_in e.engine.flow was) e.engine.flow left.arc) (left_on actors (level_of r) (items_in e'.engine.flow is) e'.engine.flow left.arc)
+                    ends-chain (stream_of r giver) (left_on actors (batch_level r) (items_in e.engine.flow was) e.engine.flow left.arc) (left_on actors (batch_level r) (items_in e'.engine.flow is) e'.engine.flow left.arc)
                     left.is_end (goes.arcs left.arc (sound.engine.flow.shaped.arcs_in actor port left.arc left.there));
               };
         }
@@ -187,22 +187,22 @@ module _ (was is : Option Pages) (e e' : Engine) (events events' : List Event) (
       → Tells is → (r : Replay) (history : List Event) (begun : ℕ) → IsRun r was e (history ++ events) begun before → Stopped honest r (history ++ events') begun after err
   stopped-after honest tells before after err prefix planned cost strange much told r history begun run =
       let a = run.answers (tells told) in
-      let agrees : AgreesWith e'.engine.flow.levels (level_of r) = subst (λ s. AgreesWith e'.engine.flow.levels (level_for s (counts_in r))) run.plans.setting (planned.agrees (counts_in r) run.plans.planned) in
-      let begins = prefix told (level_of r) agrees a.holds in
+      let agrees : AgreesWith e'.engine.flow.levels (batch_level r) = subst (λ s. AgreesWith e'.engine.flow.levels (level_for s (counts_in r))) run.plans.setting (planned.agrees (counts_in r) run.plans.planned) in
+      let begins = prefix told (batch_level r) agrees a.holds in
       record {
         so_far = record {
           lines = λ output low.
               subst (IsPrefixOf (lines_of output (history ++ events'))) (a.lines output low)
-              (prefix-in-front output history events events' (lines_left actors (level_of r) (items_in e.engine.flow was) e.engine.flow output) (begins.lines output (shown-in e r.network run.network run.sound output low)));
+              (prefix-in-front output history events events' (lines_left actors (batch_level r) (items_in e.engine.flow was) e.engine.flow output) (begins.lines output (shown-in e r.network run.network run.sound output low)));
           drops = λ w p there.
               subst (IsPrefixOf (drops_of w (history ++ events'))) (a.drops w p there)
-              (decided-prefix-in-front w history events events' (decisions_left actors (level_of r) (items_in e.engine.flow was) e.engine.flow (e.engine.flow.wires.sheds + w))
+              (decided-prefix-in-front w history events events' (decisions_left actors (batch_level r) (items_in e.engine.flow was) e.engine.flow (e.engine.flow.wires.sheds + w))
               (begins.drops w (shed-in e r.network run.network run.sound w p there)));
           plans = subst (IsPrefixOf (plans_of (history ++ events'))) run.plans.shown (plans-prefix-in-front history events events' (plans_left e.engine.flow) planned.shown);
-          work = (let most = cost told (level_of r) agrees a.holds in let all = a.work in let counted = run.counted in omega (arith, most, all, counted));
+          work = (let most = cost told (batch_level r) agrees a.holds in let all = a.work in let counted = run.counted in omega (arith, most, all, counted));
         };
-        named = strange told (level_of r) agrees a.holds;
-        turns = λ is-much. (let most = much.turns is-much told (level_of r) agrees a.holds in let all = a.turns in omega (arith, most, all));
+        named = strange told (batch_level r) agrees a.holds;
+        turns = λ is-much. (let most = much.turns is-much told (batch_level r) agrees a.holds in let all = a.turns in omega (arith, most, all));
       }
 
 -- ---- the clauses of a step
@@ -248,11 +248,11 @@ pub shown-so-far : (e : Engine) (r : Replay) (pages : Option Pages) (history : L
 shown-so-far e r pages history begun steps told run =
     let a = run.answers told in
     record {
-      lines = λ output low. (lines_left actors (level_of r) (items_in e.engine.flow pages) e.engine.flow output, sym (a.lines output low));
-      drops = λ w p there. (decisions_left actors (level_of r) (items_in e.engine.flow pages) e.engine.flow (e.engine.flow.wires.sheds + w), sym (a.drops w p there));
+      lines = λ output low. (lines_left actors (batch_level r) (items_in e.engine.flow pages) e.engine.flow output, sym (a.lines output low));
+      drops = λ w p there. (decisions_left actors (batch_level r) (items_in e.engine.flow pages) e.engine.flow (e.engine.flow.wires.sheds + w), sym (a.drops w p there));
       plans = (plans_left e.engine.flow, sym run.plans.shown);
       work =
-          let less = sum-less (λ actor. taken_at actors (slice_get e.engine.flow.seats.items actor)) (fed_at_last actors (level_of r) (items_in e.engine.flow pages) e.engine.flow) (length e.engine.flow.seats.items) (λ i. omega arith) in
+          let less = sum-less (λ actor. taken_at actors (slice_get e.engine.flow.seats.items actor)) (fed_at_last actors (batch_level r) (items_in e.engine.flow pages) e.engine.flow) (length e.engine.flow.seats.items) (λ i. omega arith) in
           let all = a.work in
           let counted = run.counted in
           omega (arith, less, all, counted);

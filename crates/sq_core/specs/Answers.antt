@@ -5,7 +5,7 @@ use Rattle.sq_oper.specs.declared.outs.Event.{Event}
 use Rattle.sq_place.specs.declared.DropPoint.{DropPoint}
 use Rattle.sq_points.specs.Points.{points_of, setting_of}
 use Rattle.sq_model.specs.FullCounts.{late_of}
-use Rattle.sq_model.specs.Shedding.{Replay, counts_in, level_of, answer_of}
+use Rattle.sq_model.specs.Shedding.{Replay, counts_in, batch_level, answer_of}
 use Rattle.sq_model.specs.KeptTuples.{fed_of, work_of, turns_of}
 use Rattle.sq_model.specs.PlanLines.{plans_shown}
 use Rattle.sq_actor.specs.declared.actor.Actor.{Actor}
@@ -32,20 +32,20 @@ pub record Plans (r : Replay) (flow : Flow Actor) (history : List Event) : Type 
 pub record ArcLeft (r : Replay) (items : ℕ → List Item) (flow : Flow Actor) (actor port : ℕ) (giver : below.Actor × ℕ) : Type 0 where
   pub arc : ℕ
   pub there : slice_get (arcs_read flow.wires actor) port ≡ Some arc
-  pub is_end : IsEndOf (left_on actors (level_of r) items flow arc) (stream_of r giver)
+  pub is_end : IsEndOf (left_on actors (batch_level r) items flow arc) (stream_of r giver)
 
 -- the lines that were shown at an output, and then those that are left, are its answer; the decisions of a drop that were shown,
 -- and then those that are left, are its record with the levels; and what each box will have been fed and have lost at the end,
 -- and what all operators will have taken, is what the replay says; and of what it says is given to a port of an operator, the
 -- last part is still to be taken from the arc there, and the rest was taken
 pub record KeepsAnswers (r : Replay) (items : ℕ → List Item) (flow : Flow Actor) (history : List Event) : Type 0 where
-  pub holds : HoldsItems actors (level_of r) items flow
-  pub lines : (output : ℕ) → output < length r.network.wires.outputs → lines_of output history ++ lines_left actors (level_of r) items flow output ≡ answer_of r output
+  pub holds : HoldsItems actors (batch_level r) items flow
+  pub lines : (output : ℕ) → output < length r.network.wires.outputs → lines_of output history ++ lines_left actors (batch_level r) items flow output ≡ answer_of r output
   pub drops : (w : ℕ) (p : DropPoint) → slice_get (points_of r.network) w ≡ Some p
-      → drops_of w history ++ decisions_left actors (level_of r) items flow (flow.wires.sheds + w) ≡ decisions_of r w p
-  pub fed : (at : ℕ) → at < length r.network.boxes → fed_at_last actors (level_of r) items flow at ≡ fed_of r at
-  pub late : (at : ℕ) → at < length r.network.boxes → lost_at_last actors (level_of r) items flow at ≡ late_of r.network r.sources at
-  pub work : work_at_last actors (level_of r) items flow ≡ work_of r
-  pub turns : turns_at_last actors (level_of r) items flow ≤ turns_of r
+      → drops_of w history ++ decisions_left actors (batch_level r) items flow (flow.wires.sheds + w) ≡ decisions_of r w p
+  pub fed : (at : ℕ) → at < length r.network.boxes → fed_at_last actors (batch_level r) items flow at ≡ fed_of r at
+  pub late : (at : ℕ) → at < length r.network.boxes → lost_at_last actors (batch_level r) items flow at ≡ late_of r.network r.sources at
+  pub work : work_at_last actors (batch_level r) items flow ≡ work_of r
+  pub turns : turns_at_last actors (batch_level r) items flow ≤ turns_of r
   pub arcs : (actor port : ℕ) (giver : below.Actor × ℕ) → actor < ops_of r.network → slice_get (reads_of r.network (actor_at r.network actor)) port ≡ Some giver
       → ArcLeft r items flow actor port giver

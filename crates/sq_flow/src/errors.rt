@@ -6,7 +6,7 @@ use sq_queue::QueueErr;
 use std::alloc::AllocError;
 
 /// Why a step failed.
-#[derive(Debug, Drop)]
+#[derive(Drop)]
 pub enum RunErr {
     /// The disk had a fault.
     Disk,

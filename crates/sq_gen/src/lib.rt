@@ -18,7 +18,7 @@ use std::alloc::{AllocError, Global};
 const CAPACITIES: &str = "1,12000000000\n";
 
 /// The bytes of three files.
-#[derive(Debug, Drop)]
+#[derive(Drop)]
 pub struct Made {
     /// The network, which has the one source `trades.csv`.
     pub net: ListOf<u8>,

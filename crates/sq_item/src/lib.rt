@@ -24,7 +24,7 @@ pub enum Mark {
 }
 
 /// A mark, a tuple, or a mark that rides on a tuple of its time.
-#[derive(Debug, Drop)]
+#[derive(Drop)]
 pub struct Item {
     /// A tick: below 2^40.
     pub time: u64,
@@ -34,7 +34,7 @@ pub struct Item {
 }
 
 /// A mark or none, in one word. Contracts see the optional mark.
-#[derive(Debug, Drop)]
+#[derive(Drop)]
 pub struct Sign {
     word: u64,
 }
@@ -97,7 +97,7 @@ impl Sign {
 }
 
 /// The values of a tuple, or none, which no values say. Contracts see the optional list.
-#[derive(Debug, Drop)]
+#[derive(Drop)]
 pub struct Body {
     fields: Fields,
 }

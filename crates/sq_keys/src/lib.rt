@@ -35,14 +35,14 @@ use std::alloc::Global;
 pub use words::read_words;
 
 /// A source and the field by which it is cut, by name.
-#[derive(Debug, Drop)]
+#[derive(Drop)]
 pub struct Pair {
     pub source: Name,
     pub field: Name,
 }
 
 /// What words ask for.
-#[derive(Debug, Drop)]
+#[derive(Drop)]
 pub struct Asked {
     /// No BSort leaves out a tuple: the user's word for it.
     pub on_time: bool,
@@ -78,7 +78,7 @@ pub enum KeysErr {
 }
 
 /// How a call ended.
-#[derive(Debug, Drop)]
+#[derive(Drop)]
 pub enum Status {
     /// All outputs can be had from parts.
     Ok,

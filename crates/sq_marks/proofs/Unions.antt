@@ -11,8 +11,8 @@ use Rattle.sq_marks.proofs.Lists.{filter-swap, filter-under, filter-flat_map, fl
 use Rattle.sq_marks.proofs.Bounds.{bound-less, lessened-twice}
 use Rattle.sq_marks.proofs.Orders.{by_key, AtLeast, Ascends, insert-front, filter-insert, filter-sort, sort-ascends, AtLeast-weaker, AtLeast-filter}
 use Rattle.sq_marks.proofs.ArcWords.{marked, MarksRise}
-use Rattle.sq_tagged.proofs.UnionWords.{lagging, union_marks, union_tagged}
 use Rattle.sq_words.proofs.Sorting.{without_ports}
+use Rattle.sq_tagged.specs.Boxes.{union_tagged, lagging, union_marks}
 
 -- a map that keeps the key, and sorting
 map-insert : {X Y : Type 0} (key : X → ℕ) (other : Y → ℕ) (f : Y → X) → ((y : Y) → key (f y) ≡ other y) → (y : Y) (ys : List Y)

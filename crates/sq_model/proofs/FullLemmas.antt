@@ -13,12 +13,11 @@ use Rattle.sq_graph.specs.Order.{can_be_next, is_given, order_of}
 use Rattle.sq_graph.proofs.Following.{order_follows}
 use Rattle.sq_graph.proofs.Reach.{port_is_box}
 use Rattle.sq_net.specs.declared.Network.{Network}
-use Rattle.sq_model.specs.FullStreams.{produced, full_within, full_stream, full_streams}
+use Rattle.sq_model.specs.FullStreams.{produced, full_within, full_stream, full_streams, box_list_at}
 use Rattle.sq_model.specs.PlacedNetworks.{IsPlaced}
 use Rattle.sq_model.specs.Laws.{FollowsBoxes, AreFull}
 use Rattle.sq_model.proofs.OrderLemmas.{order_counts, parts_around}
 use Rattle.sq_words.specs.Lists.{contains_number, nth}
-use Rattle.sq_model.proofs.FullWords.{box_list_at}
 use Rattle.sq_words.proofs.Bools.{and_true}
 use Rattle.sq_place.proofs.Ranks.{order-has}
 

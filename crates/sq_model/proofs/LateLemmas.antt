@@ -19,13 +19,12 @@ use Rattle.sq_net.specs.declared.Node.{Node}
 use Rattle.sq_net.specs.declared.Network.{Network}
 use Rattle.sq_net.specs.SoundNetworks.{IsSound, IsTypedBody, input_columns}
 use Rattle.sq_net.proofs.StreamLemmas.{boxes_count}
-use Rattle.sq_model.specs.FullStreams.{box_list, produced, full_stream, full_streams}
+use Rattle.sq_model.specs.FullStreams.{box_list, produced, full_stream, full_streams, box_list_at}
 use Rattle.sq_model.specs.FullCounts.{full_fed_of, late_at, late_by, late_of}
 use Rattle.sq_model.specs.Laws.{LateAreTheRest}
 use Rattle.sq_model.proofs.NumberLemmas.{producer_at}
 use Rattle.sq_model.proofs.FullLemmas.{full_follows, full_listed}
 use Rattle.sq_model.proofs.PlacedLemmas.{placed_of}
-use Rattle.sq_model.proofs.FullWords.{box_list_at}
 use Rattle.sq_lists.proofs.LateLemmas.{retimed_few, on_time_few}
 
 -- ---- the list

@@ -22,4 +22,3 @@ pub mod ShedLemmas
 pub mod WorkLemmas
 pub mod MeasuredLemmas
 pub mod FedWords
-pub mod FullWords

@@ -23,10 +23,10 @@ use Rattle.sq_points.specs.Limits.{KeepsDropLimits}
 use Rattle.sq_points.proofs.Bounds.{batch_low, small_windows}
 use Rattle.sq_model.specs.GivenLevels.{IsMeasured, IsAt}
 use Rattle.sq_model.proofs.Alls.{All-append, All-kept}
-use Rattle.sq_place.proofs.NumberWords.{lcm_of_all}
 use Rattle.sq_words.proofs.Lists.{contains_filter}
 use Rattle.sq_words.proofs.Alls.{all_weaker}
 use Rattle.sq_words.proofs.Numbers.{ltb_not}
+use Rattle.sq_place.specs.Numbers.{lcm_of_all}
 
 flat-all : {X Y : Type 0} (P : Y → Type 0) (f : X → List Y) (xs : List X) → AllByRecursion (λ x. AllByRecursion P (f x)) xs → AllByRecursion P (flat_map f xs)
 flat-all P f [] all = tt

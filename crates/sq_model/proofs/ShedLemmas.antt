@@ -16,7 +16,7 @@ use Rattle.sq_model.proofs.StreamLemmas.{stream_at_number}
 use Rattle.sq_road.specs.Levels.{LevelTable}
 use Rattle.sq_road.specs.Draws.{draw_of}
 use Rattle.sq_place.specs.declared.DropPoint.{DropPoint}
-use Rattle.sq_model.specs.Shedding.{Replay, is_touched, last_of, level_of, is_dropped, full_at, touched_batches, record_of, shown, answer_of}
+use Rattle.sq_model.specs.Shedding.{Replay, is_touched, last_of, batch_level, is_dropped, full_at, touched_batches, record_of, shown, answer_of}
 use Rattle.sq_words.specs.Lists.{max_by}
 use Rattle.sq_place.specs.Points.{until_of}
 use Rattle.sq_model.specs.KeptTuples.{needed_until, needed, kept_of}
@@ -49,7 +49,7 @@ module _ (r : Replay) (table : LevelTable) (levels : LevelsAre table r) (known :
   drops_same b low =
       let up = epochs_up (b * p.length) (2 ^ 40) table.epoch lasts (omega (arith, low)) in
       ap (nat_lt (draw_of r.seed w b))
-      (sym (levels.agrees (b * p.length / table.epoch) w (omega (arith, up, known))) ∙ ap (λ e. level_of r (b * p.length / e) w) levels.epoch)
+      (sym (levels.agrees (b * p.length / table.epoch) w (omega (arith, up, known))) ∙ ap (λ e. batch_level r (b * p.length / e) w) levels.epoch)
 
   pub record_is : AreTicks (full_at r p.at) → record_by table r.seed w p (full_at r p.at) ≡ record_of r w p
   record_is ticks =

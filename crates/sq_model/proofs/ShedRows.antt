@@ -18,7 +18,7 @@ use Rattle.sq_net.specs.declared.Body.TheVariants as body
 use Rattle.sq_place.specs.Points.{until_of}
 use Rattle.sq_model.specs.FullStreams.{full_arc}
 use Rattle.sq_points.specs.Points.{points_of}
-use Rattle.sq_model.specs.Shedding.{Replay, record_of, answer_of, level_of, touched_batches}
+use Rattle.sq_model.specs.Shedding.{Replay, record_of, answer_of, batch_level, touched_batches}
 use Rattle.sq_model.specs.KeptTuples.{kept_of, fed_of, work_of, turns_of}
 use Rattle.sq_model.specs.PlanLines.{plans_shown}
 use Rattle.sq_plan.specs.declared.closing.Shown.{Shown}
@@ -68,7 +68,7 @@ row_5 = record { network = network_c; sources = ticks ∷ []; entries = (1, Some
 row_5_full : full_arc network_c (ticks ∷ []) 2 ≡ at 0 14 ∷ at 4 30 ∷ at 8 46 ∷ at 12 54 ∷ []
 row_5_full = refl
 
-row_5_levels : map (λ e. level_of row_5 e 0) (numbers_to 4) ≡ 0 ∷ 1000 ∷ 1000 ∷ 0 ∷ []
+row_5_levels : map (λ e. batch_level row_5 e 0) (numbers_to 4) ≡ 0 ∷ 1000 ∷ 1000 ∷ 0 ∷ []
 row_5_levels = refl
 
 row_5_records : map (record_of row_5 0) (points_of network_c) ≡ (1 ∷ 2 ∷ []) ∷ []

@@ -14,13 +14,12 @@ use Rattle.sq_graph.specs.Order.{can_be_next, is_given, order_of}
 use Rattle.sq_graph.proofs.Producers.{producer_is}
 use Rattle.sq_net.specs.declared.Network.{Network}
 use Rattle.sq_net.specs.declared.Node.{Node}
-use Rattle.sq_model.specs.FullStreams.{box_list, produced, full_stream, full_streams}
+use Rattle.sq_model.specs.FullStreams.{box_list, produced, full_stream, full_streams, box_list_at}
 use Rattle.sq_model.specs.PlacedNetworks.{IsPlaced}
 use Rattle.sq_model.specs.StreamsSoFar.{Stands}
 use Rattle.sq_model.proofs.NumberLemmas.{producer_at, producer_has_number}
 use Rattle.sq_model.proofs.FullLemmas.{full_count, full_follows, full_listed, is_given_in_order, ports_alike}
 use Rattle.sq_words.specs.Lists.{contains_number, nth}
-use Rattle.sq_model.proofs.FullWords.{box_list_at}
 use Rattle.sq_words.proofs.Bools.{or_cases}
 
 -- a stream that is put in its place leaves what stands

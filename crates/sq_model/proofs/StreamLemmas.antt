@@ -15,8 +15,7 @@ use Rattle.sq_net.specs.declared.Body.{Body}
 use Rattle.sq_net.specs.declared.Body.TheVariants.{Filter, Map, Union, BSort, Aggregate, Join, Resample}
 use Rattle.sq_net.specs.declared.Node.{Node}
 use Rattle.sq_net.specs.declared.Network.{Network}
-use Rattle.sq_model.specs.FullStreams.{box_list, produced, full_within, full_stream, full_streams}
-use Rattle.sq_model.proofs.FullWords.{box_list_at}
+use Rattle.sq_model.specs.FullStreams.{box_list, produced, full_within, full_stream, full_streams, box_list_at}
 
 -- a stream that isn't there is one of no tuples
 pub stream_at_number : (streams : List (List Tuple)) (s : ℕ) → All IsStream streams → IsStream (nth streams s)

@@ -24,7 +24,7 @@ use Rattle.sq_net.specs.Columns.{first_columns, second_columns}
 use Rattle.sq_net.specs.SoundNetworks.{IsSound, IsOver, IsTypedBody, input_columns}
 use Rattle.sq_net.specs.Streams.{columns_of_port, columns_given, columns_of_stream}
 use Rattle.sq_net.proofs.StreamLemmas.{stream_typed}
-use Rattle.sq_model.specs.FullStreams.{box_list, produced, full_within}
+use Rattle.sq_model.specs.FullStreams.{box_list, produced, full_within, box_list_at}
 use Rattle.sq_model.proofs.NumberLemmas.{producer_has_number}
 use Rattle.sq_model.proofs.Alls.{time_of, union-sorted}
 use Rattle.sq_model.proofs.Alls.{by_key}
@@ -32,7 +32,6 @@ use Rattle.sq_model.proofs.Alls.{All-kept, All-sorted, All-joined}
 use Rattle.sq_model.specs.FittingStreams.{FitsOption, SourcesFit, StreamsFit}
 use Rattle.sq_model.proofs.BoxTypes.{FitsColumns, same-kinds, map-fits, bsort-keeps, aggregate-fits, join-fits, resample-fits, sided}
 use Rattle.sq_model.proofs.PortLow.{port-low}
-use Rattle.sq_model.proofs.FullWords.{box_list_at}
 use Rattle.sq_words.proofs.Lists.{has_item}
 use Rattle.sq_words.proofs.Alls.{all_at, all_weaker}
 

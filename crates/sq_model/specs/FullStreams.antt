@@ -14,7 +14,7 @@ use Rattle.sq_lists.specs.Resamples.{resample_list_of}
 use Rattle.sq_net.specs.declared.Network.{Network}
 use Rattle.sq_net.specs.declared.Body.{Body}
 use Rattle.sq_net.specs.declared.Body.TheVariants.{Filter, Map, Union, BSort, Aggregate, Join, Resample}
-use Rattle.sq_model.proofs.FullWords.{box_list_at}
+use Rattle.sq_net.specs.declared.Node.{Node}
 
 -- what a box gives at a port, numbered from 0, for the streams of its inputs
 abbrev pub box_list : Body → ℕ → List (List Tuple) → List Tuple
@@ -25,6 +25,10 @@ box_list (BSort by slack) port ins = bsort_list_of by slack (nth ins 0)
 box_list (Aggregate funcs group window) port ins = aggregate_list_of funcs group window (nth ins 0)
 box_list (Join size on) port ins = join_list_of size on.tree (nth ins 0) (nth ins 1)
 box_list (Resample size funcs) port ins = resample_list_of funcs size (nth ins 0) (nth ins 1)
+
+abbrev pub box_list_at : Option Node → ℕ → List (List Tuple) → List Tuple
+box_list_at None port ins = []
+box_list_at (Some b) port ins = box_list b.body port ins
 
 module _ (n : Network) (sources : List (List Tuple)) where
   -- what a producer gives: a source its recorded tuples, a port what its box gives for the streams that the box takes

@@ -57,7 +57,7 @@ IsAt n (at.Arc a) = a < length (arcs_of n.wires)
 -- a table has the levels of a replay
 pub record LevelsAre (table : LevelTable) (r : Replay) : Type 0 where
   pub epoch : table.epoch ≡ r.network.epoch
-  pub agrees : AgreesWith table (shed.level_of r)
+  pub agrees : AgreesWith table (shed.batch_level r)
 
 -- how many tuples of each source arrive in an epoch of this length
 abbrev pub counted : ℕ → List (List Tuple) → ℕ → List ℕ

@@ -47,12 +47,12 @@ module _ (r : Replay) where
   counts_in e = map (count_by (λ x. epoch_of x.time == e)) r.sources
 
   -- the level of a drop in an epoch, in permille
-  abbrev pub level_of : ℕ → ℕ → ℕ
-  level_of e w = level_for (setting_of r.network r.entries) counts_in e w
+  abbrev pub batch_level : ℕ → ℕ → ℕ
+  batch_level e w = level_for (setting_of r.network r.entries) counts_in e w
 
   -- whether batch b of drop w is to be dropped
   abbrev pub is_dropped : ℕ → DropPoint → ℕ → Bool
-  is_dropped w p b = nat_lt (draw_of r.seed w b) (level_of (epoch_of (b * p.length)) w)
+  is_dropped w p b = nat_lt (draw_of r.seed w b) (batch_level (epoch_of (b * p.length)) w)
 
   -- the full stream at a place
   abbrev pub full_at : DropAt → List Tuple

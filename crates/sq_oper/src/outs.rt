@@ -17,7 +17,7 @@ pub struct Decision {
 }
 
 /// What a run shows, one event at a time.
-#[derive(Debug, Drop)]
+#[derive(Drop)]
 pub enum Event {
     /// A tuple at an output.
     Line {
@@ -37,7 +37,7 @@ pub enum Event {
 }
 
 /// What an operator gave: items with their ports, and the batches that it dropped.
-#[derive(Debug, Drop)]
+#[derive(Drop)]
 pub struct Outs {
     pub items: Vec<(u32, Item)>,
     pub drops: Vec<Decision>,

@@ -30,7 +30,7 @@ impl Moment {
 }
 
 /// The place of the last item, how many tuples were fed, and whether the operator isn't finished.
-#[derive(Debug, Drop)]
+#[derive(Drop)]
 pub struct Tally {
     pub place: Moment,
     pub taken: u64,

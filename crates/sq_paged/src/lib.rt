@@ -44,7 +44,7 @@ pub enum Head {
 }
 
 // What is kept of an arc: how many items stand there, the time of the first, the node of its last page.
-#[derive(Clone, Copy, Debug, Drop)]
+#[derive(Clone, Copy, Drop)]
 struct Lane {
     count: u64,
     first: Option<u64>,

@@ -49,7 +49,7 @@ impl From<AllocError> for QueueErr {
 
 /// What is kept of a page: where its first item that isn't taken begins, how many there are from there on, where they
 /// end, and the time of the first.
-#[derive(Clone, Copy, Debug, Drop)]
+#[derive(Clone, Copy, Drop)]
 pub struct Kept {
     pub page: u64,
     pub start: u32,

@@ -30,7 +30,7 @@ use std::alloc::AllocError;
 use std::sync::ledger::Ledger;
 
 /// The greatest bound of the marks that were handed on, and the time of the last of them.
-#[derive(Clone, Copy, Debug, Drop)]
+#[derive(Clone, Copy, Drop)]
 pub struct Bounds {
     pub bound: u64,
     pub last: Option<u64>,

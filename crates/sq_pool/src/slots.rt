@@ -10,7 +10,7 @@ use std::marker::Model;
 pub struct Digest(pub [u8; 32]);
 
 /// Where the bytes of a page are.
-#[derive(Clone, Copy, Debug, Drop)]
+#[derive(Clone, Copy, Drop)]
 pub enum Whereabouts {
     /// There is no page of this number.
     Absent,

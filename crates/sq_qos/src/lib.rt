@@ -121,7 +121,7 @@ impl Ord for Frac {
 /// A quality graph: what an output is worth where a part of its tuples is shown (after the quality-of-service
 /// graphs of Aurora: Carney and others, VLDB 2002). Its points have the part in permille and the worth; between
 /// two points it is a line, and no line is steeper than the one before. Contracts see the list of its points.
-#[derive(Debug, Drop)]
+#[derive(Drop)]
 pub struct Graph {
     points: Vec<(u32, u32)>,
 }

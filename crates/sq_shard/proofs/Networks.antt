@@ -16,7 +16,7 @@ use Rattle.sq_net.specs.SoundNetworks.{IsSound, HasWindow}
 use Rattle.sq_net.specs.Streams.{columns_of_stream}
 use Rattle.sq_model.specs.FittingStreams.{FitsOption, SourcesFit}
 use Rattle.sq_model.specs.FullCounts.{full_fed_of}
-use Rattle.sq_model.specs.FullStreams.{box_list, produced, full_stream, full_streams}
+use Rattle.sq_model.specs.FullStreams.{box_list, produced, full_stream, full_streams, box_list_at}
 use Rattle.sq_model.specs.Laws.{FollowsBoxes}
 use Rattle.sq_model.proofs.FullLemmas.{full_follows, full_listed}
 use Rattle.sq_model.proofs.LateLemmas.{late_are_the_rest, bsort_few, first_few, same_sum}
@@ -30,7 +30,6 @@ use Rattle.sq_shard.proofs.InOrder.{by-order}
 use Rattle.sq_model.proofs.LateLemmas.{bsort_gives}
 use Rattle.sq_shard.proofs.Parts.{Law, GivesAll, moved, box-part}
 use Rattle.sq_words.specs.Lists.{nth}
-use Rattle.sq_model.proofs.FullWords.{box_list_at}
 use Rattle.sq_value.proofs.FitLemmas.{fields_count}
 use Rattle.sq_words.proofs.Alls.{all_at, all_weaker}
 

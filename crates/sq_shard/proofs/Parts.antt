@@ -28,7 +28,7 @@ use Rattle.sq_model.proofs.Alls.{All-append, All-mapped}
 use Rattle.sq_shard.specs.declared.Cut.{Cut}
 use Rattle.sq_shard.specs.declared.Cut.TheVariants.{Whole, By}
 use Rattle.sq_shard.specs.Cuts.{KeyClass, is_in_class, IsShardOf}
-use Rattle.sq_shard.specs.Keys.{places, is_among, joins_on, through, own, cut_at, both_cut, union_cut, left_keys, right_keys, join_cut, resample_cut, box_cut}
+use Rattle.sq_shard.specs.Keys.{places, is_among, joins_on, cut_through, own, cut_at, both_cut, union_cut, left_keys, right_keys, join_cut, resample_cut, box_cut}
 use Rattle.sq_place.proofs.Deciding.{filter-mapped}
 use Rattle.sq_shard.proofs.Lists.{filter-swap, filter-same}
 use Rattle.sq_shard.specs.Laws.{SameBody}
@@ -111,7 +111,7 @@ module _ (in_class : KeyClass) where
 
   through-part : (f : List Tuple → List Tuple) (g : List ℕ → List ℕ) (c : Cut) (xs ys : List Tuple)
       → ((columns : List ℕ) → AllByRecursion (By' xs ys) columns → AllByRecursion (By' (f xs) (f ys)) (g columns))
-      → IsShardOf in_class c xs ys → IsShardOf in_class (through g c) (f xs) (f ys)
+      → IsShardOf in_class c xs ys → IsShardOf in_class (cut_through g c) (f xs) (f ys)
   through-part f g Whole xs ys h is = ap f is
   through-part f g (By columns) xs ys h is = h columns is
 
@@ -294,7 +294,7 @@ module _ (in_class : KeyClass) where
         (λ c h. ap union h ∙ sym (filter-union c inputs)) columns e
 
     sort-part : (by slack other : ℕ) (c : Cut) (xs ys : List Tuple) → length (bsort_list_of by other xs) ≡ length xs → length (bsort_list_of by slack ys) ≡ length ys
-        → IsShardOf in_class c xs ys → IsShardOf in_class (through (λ columns. columns) c) (bsort_list_of by other xs) (bsort_list_of by slack ys)
+        → IsShardOf in_class c xs ys → IsShardOf in_class (cut_through (λ columns. columns) c) (bsort_list_of by other xs) (bsort_list_of by slack ys)
     sort-part by slack other Whole xs ys whole mine is =
         all-sorted by slack ys mine ∙ ap (λ zs. sort_by model.tuple_sooner (retimed by zs)) is ∙ sym (all-sorted by other xs whole)
     sort-part by slack other (By columns) xs ys whole mine is =
@@ -351,7 +351,7 @@ module _ (in_class : KeyClass) where
             → IsShardOf in_class (box_cut on_time b widths (map cuts inputs)) (box_list c port (map full inputs)) (box_list b port (map part inputs))
         by_kind (BSort by slack) (BSort key other) true same window calm =
             let whole = calm refl in
-            subst (λ k. IsShardOf in_class (through (λ columns. columns) (cut_at (map cuts inputs) 0)) (bsort_list_of k other (nth (map full inputs) 0)) (bsort_list_of by slack (nth (map part inputs) 0))) same
+            subst (λ k. IsShardOf in_class (cut_through (λ columns. columns) (cut_at (map cuts inputs) 0)) (bsort_list_of k other (nth (map full inputs) 0)) (bsort_list_of by slack (nth (map part inputs) 0))) same
             (sort-part by slack other (cut_at (map cuts inputs) 0) (nth (map full inputs) 0) (nth (map part inputs) 0)
             (subst (λ k. length (bsort_list_of k other (nth (map full inputs) 0)) ≡ length (nth (map full inputs) 0)) (sym same) whole.0) whole.1 (first-part inputs all))
         by_kind b c on_time same window calm = alike on_time b c same window calm

@@ -37,13 +37,13 @@ abbrev pub joins_on : ℕ → ℕ → List (ℕ × ℕ) → Bool
 joins_on i j pairs = list_any (is_pair_of i j) pairs
 
 -- the same cut, by other columns
-abbrev pub through : (List ℕ → List ℕ) → Cut → Cut
-through f Whole = Whole
-through f (By columns) = By (f columns)
+abbrev pub cut_through : (List ℕ → List ℕ) → Cut → Cut
+cut_through f Whole = Whole
+cut_through f (By columns) = By (f columns)
 
 -- a key that isn't one of so many columns is none
 abbrev pub own : ℕ → Cut → Cut
-own width cut = through (λ columns. filter (λ c. nat_lt c width) columns) cut
+own width cut = cut_through (λ columns. filter (λ c. nat_lt c width) columns) cut
 
 abbrev pub cut_at : List Cut → ℕ → Cut
 cut_at cuts i = slice_index_or cuts i (By [])
@@ -84,10 +84,10 @@ resample_cut width left (By rs) = By []
 -- many columns the first and the second input have
 abbrev pub box_cut : Bool → Body → ℕ × ℕ → List Cut → Cut
 box_cut on_time (Filter preds) widths cuts = cut_at cuts 0
-box_cut on_time (Map exprs) widths cuts = through (λ columns. places (λ e. is_among columns (bare_of e.tree)) 0 exprs) (cut_at cuts 0)
+box_cut on_time (Map exprs) widths cuts = cut_through (λ columns. places (λ e. is_among columns (bare_of e.tree)) 0 exprs) (cut_at cuts 0)
 box_cut on_time Union widths cuts = union_cut cuts
-box_cut on_time (BSort by slack) widths cuts = through (λ columns. if on_time then columns else []) (cut_at cuts 0)
-box_cut on_time (Aggregate funcs group window) widths cuts = through (λ columns. places (contains_number columns) 0 group) (cut_at cuts 0)
+box_cut on_time (BSort by slack) widths cuts = cut_through (λ columns. if on_time then columns else []) (cut_at cuts 0)
+box_cut on_time (Aggregate funcs group window) widths cuts = cut_through (λ columns. places (contains_number columns) 0 group) (cut_at cuts 0)
 box_cut on_time (Join size on) widths cuts = join_cut widths.0 (equated on.tree) (cut_at cuts 0) (own widths.1 (cut_at cuts 1))
 box_cut on_time (Resample size funcs) widths cuts = resample_cut widths.0 (cut_at cuts 0) (cut_at cuts 1)
 

@@ -3,7 +3,7 @@ ghost use Rattle.std.specs.Prelude.{◌≡◌, ◌+◌, ◌++◌, ◌<◌, ◌�
 ghost use Rattle.std.specs.List.{All};
 ghost use Rattle.sq_net.specs.SoundNetworks.{body_within};
 ghost use Rattle.sq_expr.specs.Keys.{bare_of};
-ghost use Rattle.sq_shard.specs.Keys.{both_cut, box_cut, cut_at, is_among, join_cut, left_keys, own, places, resample_cut, right_keys, through, union_cut};
+ghost use Rattle.sq_shard.specs.Keys.{both_cut, box_cut, cut_at, is_among, join_cut, left_keys, own, places, resample_cut, right_keys, cut_through, union_cut};
 ghost use Rattle.sq_shard.specs.declared.Cut.TheVariants.{By, Whole};
 ghost use Rattle.sq_words.specs.Lists.{contains_number};
 
@@ -77,7 +77,7 @@ fn union_cut(alloc: Global, cuts: &[Cut]) -> Result<Cut, AllocError>
 
 fn map_cut(alloc: Global, exprs: &[Typed], first: &Cut) -> Result<Cut, AllocError>
     requires { length exprs.now < 2 ^ 32 }
-    ensures { IfOk result (λ c. c ≡ through (λ columns. places (λ e. is_among columns (bare_of e.tree)) 0 exprs.now) first.now) }
+    ensures { IfOk result (λ c. c ≡ cut_through (λ columns. places (λ e. is_among columns (bare_of e.tree)) 0 exprs.now) first.now) }
 {
     match first {
         Cut::Whole => Ok(Cut::Whole),
@@ -86,7 +86,7 @@ fn map_cut(alloc: Global, exprs: &[Typed], first: &Cut) -> Result<Cut, AllocErro
 }
 
 fn sorted_cut(alloc: Global, on_time: bool, first: Cut) -> Cut
-    ensures { result ≡ through (λ columns. if on_time then columns else []) first }
+    ensures { result ≡ cut_through (λ columns. if on_time then columns else []) first }
 {
     match first {
         Cut::Whole => Cut::Whole,
@@ -112,7 +112,7 @@ fn own_cut(alloc: Global, width: u32, cut: &Cut) -> Result<Cut, AllocError>
 
 fn grouped_cut(alloc: Global, group: &[u32], first: &Cut) -> Result<Cut, AllocError>
     requires { length group.now < 2 ^ 32 }
-    ensures { IfOk result (λ c. c ≡ through (λ columns. places (contains_number columns) 0 group.now) first.now) }
+    ensures { IfOk result (λ c. c ≡ cut_through (λ columns. places (contains_number columns) 0 group.now) first.now) }
 {
     match first {
         Cut::Whole => Ok(Cut::Whole),

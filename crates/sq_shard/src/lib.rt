@@ -19,7 +19,7 @@ pub use losses::first_loss;
 use sq_value::ListOf;
 
 /// What a part has of a stream.
-#[derive(Debug, Drop)]
+#[derive(Drop)]
 pub enum Cut {
     /// All of it.
     Whole,

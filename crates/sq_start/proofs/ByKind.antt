@@ -31,7 +31,7 @@ use Rattle.sq_net.specs.declared.Body.TheVariants.{Filter, Map, Union, BSort, Ag
 use Rattle.sq_model.specs.FullCounts.{late_at, late_by, late_of, full_fed_of}
 use Rattle.sq_model.specs.FullStreams.{full_streams}
 use Rattle.sq_graph.specs.Wires.{stream_at}
-use Rattle.sq_model.specs.Shedding.{Replay, level_of}
+use Rattle.sq_model.specs.Shedding.{Replay, batch_level}
 use Rattle.sq_below.specs.ArcContents.{port_tuples, box_fed}
 use Rattle.sq_below.specs.Ports.{FuturesWiden}
 use Rattle.sq_start.specs.Starts.{IsBox, BoxStarts}
@@ -62,7 +62,7 @@ module _ (readies : Ready) (widen : FuturesWiden) (lags : List ℕ) (marked : Bo
   filter-starts preds plain below m f none =
       record {
         future = may;
-        gives = λ r b h q. box-stream readies widen r b (Filter preds) lags marked h q (rest (level_of r) (box_fed r b) q) (λ no free. plain (level_of r) (box_fed r b) q free) (λ below_drop. below (level_of r) (box_fed r b) q (may r b h));
+        gives = λ r b h q. box-stream readies widen r b (Filter preds) lags marked h q (rest (batch_level r) (box_fed r b) q) (λ no free. plain (batch_level r) (box_fed r b) q free) (λ below_drop. below (batch_level r) (box_fed r b) q (may r b h));
         loses = λ r b h. none-late r b (Filter preds) lags marked h (λ t g. refl) (lost (box_fed r b)) (none (box_fed r b));
       }
     where
@@ -77,7 +77,7 @@ module _ (readies : Ready) (widen : FuturesWiden) (lags : List ℕ) (marked : Bo
   map-starts exprs plain below m f none =
       record {
         future = may;
-        gives = λ r b h q. box-stream readies widen r b (Map exprs) lags marked h q (rest (level_of r) (box_fed r b) q) (λ no free. plain (level_of r) (box_fed r b) q free) (λ below_drop. below (level_of r) (box_fed r b) q (may r b h));
+        gives = λ r b h q. box-stream readies widen r b (Map exprs) lags marked h q (rest (batch_level r) (box_fed r b) q) (λ no free. plain (batch_level r) (box_fed r b) q free) (λ below_drop. below (batch_level r) (box_fed r b) q (may r b h));
         loses = λ r b h. none-late r b (Map exprs) lags marked h (λ t g. refl) (lost (box_fed r b)) (none (box_fed r b));
       }
     where
@@ -92,7 +92,7 @@ module _ (readies : Ready) (widen : FuturesWiden) (lags : List ℕ) (marked : Bo
   union-starts plain below m f none =
       record {
         future = may;
-        gives = λ r b h q. box-stream readies widen r b Union lags marked h q (rest (level_of r) (box_fed r b) q) (λ no free. plain (level_of r) (box_fed r b) q no free) (λ below_drop. below (level_of r) (box_fed r b) q below_drop (may r b h));
+        gives = λ r b h q. box-stream readies widen r b Union lags marked h q (rest (batch_level r) (box_fed r b) q) (λ no free. plain (batch_level r) (box_fed r b) q no free) (λ below_drop. below (batch_level r) (box_fed r b) q below_drop (may r b h));
         loses = λ r b h. none-late r b Union lags marked h (λ t g. refl) (lost (box_fed r b)) (none (box_fed r b));
       }
     where
@@ -107,7 +107,7 @@ module _ (readies : Ready) (widen : FuturesWiden) (lags : List ℕ) (marked : Bo
   bsort-starts by slack plain f late =
       record {
         future = λ r b h. box-future readies widen r b (BSort by slack) lags marked h marks fits (λ port below_drop e. absurd (cc e)) (λ port fields e. f port fields);
-        gives = λ r b h q. box-stream readies widen r b (BSort by slack) lags marked h q (rest (level_of r) (box_fed r b) q) (λ no free. plain (level_of r) (box_fed r b) q)
+        gives = λ r b h q. box-stream readies widen r b (BSort by slack) lags marked h q (rest (batch_level r) (box_fed r b) q) (λ no free. plain (batch_level r) (box_fed r b) q)
             (λ below_drop. absurd (never r b h below_drop));
         loses = λ r b h. late (box_fed r b) ∙ late-sorted readies widen r b by slack lags marked h;
       }
@@ -123,7 +123,7 @@ module _ (readies : Ready) (widen : FuturesWiden) (lags : List ℕ) (marked : Bo
   aggregate-starts funcs group window plain below m f none =
       record {
         future = may;
-        gives = λ r b h q. box-stream readies widen r b (Aggregate funcs group window) lags marked h q (rest (level_of r) (box_fed r b) q) (λ no free. plain (level_of r) (box_fed r b) q no (may r b h)) (λ below_drop. below (level_of r) (box_fed r b) q below_drop (may r b h));
+        gives = λ r b h q. box-stream readies widen r b (Aggregate funcs group window) lags marked h q (rest (batch_level r) (box_fed r b) q) (λ no free. plain (batch_level r) (box_fed r b) q no (may r b h)) (λ below_drop. below (batch_level r) (box_fed r b) q below_drop (may r b h));
         loses = λ r b h. none-late r b (Aggregate funcs group window) lags marked h (λ t g. refl) (lost (box_fed r b)) (none (box_fed r b));
       }
     where
@@ -138,9 +138,9 @@ module _ (readies : Ready) (widen : FuturesWiden) (lags : List ℕ) (marked : Bo
   join-starts size on plain f none =
       record {
         future = may;
-        gives = λ r b h q. box-stream readies widen r b (Join size on) lags marked h q (rest (level_of r) (box_fed r b) q)
+        gives = λ r b h q. box-stream readies widen r b (Join size on) lags marked h q (rest (batch_level r) (box_fed r b) q)
             (λ no free.
-            plain (level_of r) (box_fed r b) q (may r b h)
+            plain (batch_level r) (box_fed r b) q (may r b h)
             ∙ sym (join_new size on.tree on.scope (box_fed r b) q (box-future readies widen r b (Join size on) lags marked h unmarked (join_fits on.scope) (λ port below_drop e. absurd (cc e)) (λ port fields e. e)))
             ∙ ap (λ es. at_zero q (things (pairs_from size on.tree [] es))) (same-pairs (box_fed r b)))
             (λ below_drop. absurd (never r b h below_drop));
@@ -160,7 +160,7 @@ module _ (readies : Ready) (widen : FuturesWiden) (lags : List ℕ) (marked : Bo
   resample-starts size funcs plain f none =
       record {
         future = λ r b h. box-future readies widen r b (Resample size funcs) lags marked h marks fits (λ port below_drop e. absurd (cc e)) (λ port fields e. f port fields ∙ e);
-        gives = λ r b h q. box-stream readies widen r b (Resample size funcs) lags marked h q (rest (level_of r) (box_fed r b) q) (λ no free. plain (level_of r) (box_fed r b) q)
+        gives = λ r b h q. box-stream readies widen r b (Resample size funcs) lags marked h q (rest (batch_level r) (box_fed r b) q) (λ no free. plain (batch_level r) (box_fed r b) q)
             (λ below_drop. absurd (never r b h below_drop));
         loses = λ r b h. none-late r b (Resample size funcs) lags marked h (λ t g. refl) (lost (box_fed r b)) (none (box_fed r b));
       }

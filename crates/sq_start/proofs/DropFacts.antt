@@ -11,14 +11,14 @@ use Rattle.sq_oper.specs.Entries.{Entry}
 use Rattle.sq_oper.specs.Order.{IsFuture, unmarked}
 use Rattle.sq_oper.specs.Streams.{tuples_of, things, at_zero, first_port, port_fits}
 use Rattle.sq_tagged.specs.TaggedStreams.{spread_of}
-use Rattle.sq_tagged.specs.Boxes.{drop_tagged, until_at, touched_batches}
+use Rattle.sq_tagged.specs.Boxes.{drop_tagged, until_at, batches_touched}
 use Rattle.sq_windrop.specs.declared.drop.Dropping.{Dropping}
-use Rattle.sq_windrop.specs.Drops.{dropping, is_dropped, decision, decided}
+use Rattle.sq_windrop.specs.Drops.{dropping, is_batch_dropped, decision, decided}
 use Rattle.sq_windrop.specs.Gates as gates
 use Rattle.sq_place.specs.declared.DropPoint.{DropPoint}
 use Rattle.sq_net.specs.SoundNetworks.{IsSound}
 use Rattle.sq_model.specs.FittingStreams.{SourcesFit}
-use Rattle.sq_model.specs.Shedding.{Replay, level_of}
+use Rattle.sq_model.specs.Shedding.{Replay, batch_level}
 use Rattle.sq_below.specs.Laws.{PointsMeasured}
 use Rattle.sq_below.specs.ArcContents.{Drop, drop_gives_all, drop_decides_all, gate_gives_all, drop_fed, output_fed, DropsFit}
 use Rattle.sq_below.specs.Actors.{drop_stream}
@@ -32,7 +32,7 @@ use Rattle.sq_points.specs.Above.{drop_above_output}
 
 -- all that a drop decides is its own
 pub own-decided : (d : Dropping) (table : ℕ → ℕ → ℕ) (bs : List ℕ) → AllByRecursion (λ (x : Decision). x.drop ≡ d.number) (decided d table bs)
-own-decided d table bs = by (filter (is_dropped d table) bs)
+own-decided d table bs = by (filter (is_batch_dropped d table) bs)
   where
     by : (xs : List ℕ) → AllByRecursion (λ (x : Decision). x.drop ≡ d.number) (map (decision d table) xs)
     by [] = tt
@@ -40,35 +40,35 @@ own-decided d table bs = by (filter (is_dropped d table) bs)
 
 -- a drop of the replay in the words of its box
 gives-as : (r : Replay) (w : ℕ) (p : DropPoint) (epoch seed : ℕ) → r.network.epoch ≡ epoch → r.seed ≡ seed
-    → spread_of (drop_tagged (is_dropped (dropping w p.length p.keep epoch seed) (level_of r)) (until_at p.length p.keep) p.length (touched_batches p.length p.keep (tuples_of (drop_fed r p))) (tuples_of (drop_fed r p)))
+    → spread_of (drop_tagged (is_batch_dropped (dropping w p.length p.keep epoch seed) (batch_level r)) (until_at p.length p.keep) p.length (batches_touched p.length p.keep (tuples_of (drop_fed r p))) (tuples_of (drop_fed r p)))
     ≡ drop_gives_all r (w, p) (drop_fed r p)
 gives-as r w p epoch seed e s =
-    ap (λ z. spread_of (drop_tagged (is_dropped (dropping w p.length p.keep z seed) (level_of r)) (until_at p.length p.keep) p.length (touched_batches p.length p.keep (tuples_of (drop_fed r p))) (tuples_of (drop_fed r p)))) (sym e)
-    ∙ ap (λ z. spread_of (drop_tagged (is_dropped (dropping w p.length p.keep r.network.epoch z) (level_of r)) (until_at p.length p.keep) p.length (touched_batches p.length p.keep (tuples_of (drop_fed r p))) (tuples_of (drop_fed r p)))) (sym s)
+    ap (λ z. spread_of (drop_tagged (is_batch_dropped (dropping w p.length p.keep z seed) (batch_level r)) (until_at p.length p.keep) p.length (batches_touched p.length p.keep (tuples_of (drop_fed r p))) (tuples_of (drop_fed r p)))) (sym e)
+    ∙ ap (λ z. spread_of (drop_tagged (is_batch_dropped (dropping w p.length p.keep r.network.epoch z) (batch_level r)) (until_at p.length p.keep) p.length (batches_touched p.length p.keep (tuples_of (drop_fed r p))) (tuples_of (drop_fed r p)))) (sym s)
 
 decides-as : (r : Replay) (w : ℕ) (p : DropPoint) (epoch seed : ℕ) → r.network.epoch ≡ epoch → r.seed ≡ seed
-    → decided (dropping w p.length p.keep epoch seed) (level_of r) (touched_batches p.length p.keep (tuples_of (drop_fed r p)))
+    → decided (dropping w p.length p.keep epoch seed) (batch_level r) (batches_touched p.length p.keep (tuples_of (drop_fed r p)))
     ≡ map (decision_on r w p) (drop_decides_all r (w, p) (drop_fed r p))
 decides-as r w p epoch seed e s =
-    ap (λ z. decided (dropping w p.length p.keep z seed) (level_of r) (touched_batches p.length p.keep (tuples_of (drop_fed r p)))) (sym e)
-    ∙ ap (λ z. decided (dropping w p.length p.keep r.network.epoch z) (level_of r) (touched_batches p.length p.keep (tuples_of (drop_fed r p)))) (sym s)
+    ap (λ z. decided (dropping w p.length p.keep z seed) (batch_level r) (batches_touched p.length p.keep (tuples_of (drop_fed r p)))) (sym e)
+    ∙ ap (λ z. decided (dropping w p.length p.keep r.network.epoch z) (batch_level r) (batches_touched p.length p.keep (tuples_of (drop_fed r p)))) (sym s)
 
 module _ (readies : Ready) (widen : FuturesWiden) (marks : ℕ → Bool) (fits : ℕ → List Value → Bool) (rest : (ℕ → ℕ → ℕ) → List Entry → ℕ → List Thing) where
   pub drop-starts : ((r : Replay) → IsSound r.network → PointsMeasured r) → ((r : Replay) → IsSound r.network → All IsStream r.sources → SourcesFit r.network r.sources → DropsFit r)
       → (decides : (ℕ → ℕ → ℕ) → List Entry → List Decision) (w : ℕ) (p : DropPoint) (epoch seed : ℕ)
       → ((table : ℕ → ℕ → ℕ) (future : List Entry) (q : ℕ) → IsFuture marks fits Start future
-      → rest table future q ≡ at_zero q (spread_of (drop_tagged (is_dropped (dropping w p.length p.keep epoch seed) table) (until_at p.length p.keep) p.length (touched_batches p.length p.keep (tuples_of future)) (tuples_of future))))
+      → rest table future q ≡ at_zero q (spread_of (drop_tagged (is_batch_dropped (dropping w p.length p.keep epoch seed) table) (until_at p.length p.keep) p.length (batches_touched p.length p.keep (tuples_of future)) (tuples_of future))))
       → ((table : ℕ → ℕ → ℕ) (future : List Entry) → IsFuture marks fits Start future
-      → decides table future ≡ decided (dropping w p.length p.keep epoch seed) table (touched_batches p.length p.keep (tuples_of future)))
+      → decides table future ≡ decided (dropping w p.length p.keep epoch seed) table (batches_touched p.length p.keep (tuples_of future)))
       → ((port : ℕ) (fields : List Value) → fits port fields ≡ (port == 0))
       → DropStarts w p epoch seed marks fits rest decides
   drop-starts measured drops decides w p epoch seed gives decision f =
       record {
         future = may;
         gives = λ r h q.
-            gives (level_of r) (drop_fed r p) q (may r h) ∙ ap (at_zero q) (gives-as r w p epoch seed h.epochs h.seed) ∙ ap (λ o. drop_stream r w o q) (sym h.there);
+            gives (batch_level r) (drop_fed r p) q (may r h) ∙ ap (at_zero q) (gives-as r w p epoch seed h.epochs h.seed) ∙ ap (λ o. drop_stream r w o q) (sym h.there);
         decided = λ r h.
-            decision (level_of r) (drop_fed r p) (may r h) ∙ decides-as r w p epoch seed h.epochs h.seed
+            decision (batch_level r) (drop_fed r p) (may r h) ∙ decides-as r w p epoch seed h.epochs h.seed
             ∙ ap (map (decision_on r w p)) ((drops r h.read.sound h.read.streams h.read.fit).decides w p);
       }
     where
@@ -88,7 +88,7 @@ module _ (readies : Ready) (widen : FuturesWiden) (marks : ℕ → Bool) (fits :
       record {
         future = may;
         gives = λ r o h q.
-            gives (level_of r) (output_fed r o) q (may r o h)
+            gives (batch_level r) (output_fed r o) q (may r o h)
             ∙ ap (λ z. at_zero q (things z)) (ap (λ l. gates.gate_shown l (output_fed r o)) (sym h.told) ∙ shown-is (drop_above_output r.network o) (output_fed r o));
       }
     where

@@ -21,7 +21,7 @@ use Rattle.sq_net.specs.declared.Node.{Node}
 use Rattle.sq_net.specs.declared.Network.{Network}
 use Rattle.sq_net.specs.SoundNetworks.{IsSound, kind_of_body, takes_within}
 use Rattle.sq_net.proofs.StreamLemmas.{boxes_count}
-use Rattle.sq_model.specs.FullStreams.{box_list, produced, full_on, full_arc, full_stream, full_streams}
+use Rattle.sq_model.specs.FullStreams.{box_list, produced, full_on, full_arc, full_stream, full_streams, box_list_at}
 use Rattle.sq_model.specs.FullCounts.{full_fed_of, late_at, late_by, late_of}
 use Rattle.sq_model.specs.Shedding.{Replay}
 use Rattle.sq_model.proofs.FullLemmas.{full_follows, full_listed}
@@ -32,7 +32,6 @@ use Rattle.sq_start.specs.Starts.{IsBox}
 use Rattle.sq_start.proofs.BoxFacts.{Ready, none-above}
 use Rattle.sq_start.proofs.PointLemmas.{arc-alone}
 use Rattle.sq_words.specs.Lists.{contains_number, nth}
-use Rattle.sq_model.proofs.FullWords.{box_list_at}
 use Rattle.sq_words.proofs.Bools.{and_true}
 use Rattle.sq_model.proofs.LateLemmas.{same_sum, bsort_gives}
 use Rattle.sq_oper.proofs.PortLemmas.{of-port}

@@ -12,7 +12,7 @@ use Rattle.sq_graph.specs.Wires.{arcs_of, input_arcs_of, output_arc_at}
 use Rattle.sq_place.specs.declared.DropAt.{DropAt}
 use Rattle.sq_place.specs.declared.DropAt.TheVariants as at
 use Rattle.sq_place.specs.declared.DropPoint.{DropPoint}
-use Rattle.sq_place.specs.Places.{Windows, window_at, stream_on, own_arcs, arc_numbers, box_before, through, dist_within, is_reached, reached_arcs, outputs_below, is_candidate, candidates_of, places_of, lies_below, drop_places_of}
+use Rattle.sq_place.specs.Places.{Windows, window_at, stream_on, own_arcs, arc_numbers, box_before, through, dist_within, is_reached, reached_arcs, outputs_below, is_candidate, candidates_of, places_of, lies_below, drop_places_of, greatest, reach_added}
 use Rattle.sq_place.specs.Points.{point_at, dist_of}
 use Rattle.sq_place.proofs.Lists.{any-map, contains-range, range-contains}
 use Rattle.sq_net.specs.declared.Network.{Network}
@@ -20,7 +20,6 @@ use Rattle.sq_points.specs.Points.{windows_of, points_of}
 use Rattle.sq_model.specs.GivenLevels.{IsAt}
 use Rattle.sq_below.specs.ArcContents.{Drop}
 use Rattle.sq_start.specs.Numbers.{place_stream}
-use Rattle.sq_place.proofs.PlaceWords.{reach_added, greatest}
 use Rattle.sq_words.proofs.Bools.{and_second, and_first}
 use Rattle.sq_words.proofs.Lists.{contains_filter}
 use Rattle.sq_points.specs.Above.{first_drop, drop_above_arc, drop_on_arc, drop_above_box}

@@ -15,7 +15,7 @@ use Rattle.sq_place.specs.declared.DropPoint.{DropPoint}
 use Rattle.sq_net.specs.declared.Network.{Network}
 use Rattle.sq_net.specs.declared.Node.{Node}
 use Rattle.sq_points.specs.Points.{points_of}
-use Rattle.sq_model.specs.Shedding.{Replay, level_of}
+use Rattle.sq_model.specs.Shedding.{Replay, batch_level}
 use Rattle.sq_actor.specs.declared.actor.Actor as operator
 use Rattle.sq_actor.specs.contracts.actor.ActorOperator.TheImpl.{ghosts}
 use Rattle.sq_below.specs.ArcContents.{Drop}
@@ -51,7 +51,7 @@ pub box-started : (n : Network) (b : ℕ) (x : Node) (lags : List ℕ) (marked :
 box-started n b x lags marked a there above are starts none fits takes reads fresh number =
     record {
       gives = λ r read is same q. starts.gives r b (box r read is) q;
-      decides = λ r read is same. none (level_of r) (fed_to r (Box b));
+      decides = λ r read is same. none (batch_level r) (fed_to r (Box b));
       loses = λ r read is same. starts.loses r b (box r read is);
       owns = λ table future may. subst (AllByRecursion (λ d. Box b ≡ Shedder d.drop)) (sym (none table future)) tt;
       marks = marks;
@@ -92,8 +92,8 @@ pub drop-started : (n : Network) (w : ℕ) (p : DropPoint) (number : ℕ) (a : o
     → ghosts.reads a n.epoch ≡ true → IsFresh a → IsStarted n number (Shedder w) a
 drop-started n w p number a there starts own none fits reads fresh =
     record {
-      gives = λ r read is same q. (let k = known r is in ap (λ es. ghosts.rest a (level_of r) es q) (ap (drop_fed_at r) k) ∙ starts.gives r (of r read is same) q);
-      decides = λ r read is same. (let k = known r is in ap (ghosts.decides a (level_of r)) (ap (drop_fed_at r) k) ∙ starts.decided r (of r read is same) ∙ sym (ap (drop_decisions r w) k));
+      gives = λ r read is same q. (let k = known r is in ap (λ es. ghosts.rest a (batch_level r) es q) (ap (drop_fed_at r) k) ∙ starts.gives r (of r read is same) q);
+      decides = λ r read is same. (let k = known r is in ap (ghosts.decides a (batch_level r)) (ap (drop_fed_at r) k) ∙ starts.decided r (of r read is same) ∙ sym (ap (drop_decisions r w) k));
       loses = λ r read is same. none (fed_to r (Shedder w));
       owns = λ table future may. all_weaker (λ (d : Decision). d.drop ≡ w) (λ (d : Decision). Shedder w ≡ Shedder d.drop) (λ d e. ap Shedder (sym e)) (ghosts.decides a table future) (own table future may);
       marks = λ port h. absurd (cc h);
@@ -120,7 +120,7 @@ pub output-started : (n : Network) (o : ℕ) (len : Option ℕ) (a : operator.Ac
 output-started n o len a told starts none lost fits takes reads fresh number =
     record {
       gives = λ r read is same q. starts.gives r o (record { read = read; told = ap (λ (m : Network). length_above (drop_above_output m o)) is ∙ told }) q;
-      decides = λ r read is same. none (level_of r) (fed_to r (Shower o));
+      decides = λ r read is same. none (batch_level r) (fed_to r (Shower o));
       loses = λ r read is same. lost (fed_to r (Shower o));
       owns = λ table future may. subst (AllByRecursion (λ d. Shower o ≡ Shedder d.drop)) (sym (none table future)) tt;
       marks = λ port h. takes port ∙ h;

@@ -9,7 +9,7 @@ use Rattle.sq_graph.specs.Wires.{inputs_of}
 use Rattle.sq_net.specs.declared.Network.{Network}
 use Rattle.sq_net.specs.declared.Node.{Node}
 use Rattle.sq_model.specs.FullCounts.{late_of}
-use Rattle.sq_model.specs.Shedding.{Replay, level_of}
+use Rattle.sq_model.specs.Shedding.{Replay, batch_level}
 use Rattle.sq_actor.specs.declared.actor.Actor as operator
 use Rattle.sq_actor.specs.contracts.actor.ActorOperator.TheImpl.{ghosts}
 use Rattle.sq_below.specs.Actors.{Actor, Sources, Box, Shedder, Shower, stream_of}
@@ -49,8 +49,8 @@ actor_fits n (Shower o) port fields = true
 
 -- a new operator of a network stands for this actor of it, where the draws have this seed
 pub record IsStarted (n : Network) (number : ℕ) (x : Actor) (a : operator.Actor) : Type 0 where
-  pub gives : (r : Replay) → IsReadReplay r → r.network ≡ n → r.seed ≡ number → (q : ℕ) → ghosts.rest a (level_of r) (fed_to r x) q ≡ stream_of r (x, q)
-  pub decides : (r : Replay) → IsReadReplay r → r.network ≡ n → r.seed ≡ number → ghosts.decides a (level_of r) (fed_to r x) ≡ decided_by r x
+  pub gives : (r : Replay) → IsReadReplay r → r.network ≡ n → r.seed ≡ number → (q : ℕ) → ghosts.rest a (batch_level r) (fed_to r x) q ≡ stream_of r (x, q)
+  pub decides : (r : Replay) → IsReadReplay r → r.network ≡ n → r.seed ≡ number → ghosts.decides a (batch_level r) (fed_to r x) ≡ decided_by r x
   pub loses : (r : Replay) → IsReadReplay r → r.network ≡ n → r.seed ≡ number → ghosts.lost a (fed_to r x) ≡ late_of_actor r x
   pub owns : (table : ℕ → ℕ → ℕ) (future : List Entry) → IsFuture (ghosts.takes_marks a) (ghosts.fits a) Start future
       → AllByRecursion (λ d. x ≡ Shedder d.drop) (ghosts.decides a table future)

@@ -36,7 +36,7 @@ use Rattle.sq_place.proofs.Final.{drops-few}
 use Rattle.sq_points.specs.Points.{points_of, windows_of, drops_in}
 use Rattle.sq_points.proofs.Bounds.{few_places}
 use Rattle.std.proofs.lemmas.Fmt.{decimal_nonempty}
-use Rattle.sq_top.specs.Due.{Answer, Due, answer_in, due_in, due_of, ended_in, fed_in, late_in, replayed, turns_in, work_in}
+use Rattle.sq_top.specs.Due.{Answer, Due, answer_in, due_in, due_of, ended_in, fed_in, late_counts, replayed, turns_in, work_in, dropped_from, plan_text, shown_at_output, due_from}
 use Rattle.sq_top.specs.Answers.{IsPrefixText, IsWholeText}
 use Rattle.sq_gen.specs.Files.{made_of}
 use Rattle.sq_top.specs.Generation.{HasBadMade, NamesMade}
@@ -55,7 +55,6 @@ use Rattle.sq_top.proofs.StopLemmas.{refused_garbled, refused_stop, refused_unch
 use Rattle.sq_top.proofs.ClassLemmas.{IsLineOf, IsPlainName, TellsClasses, is_end_field}
 use Rattle.sq_top.proofs.OrderLemmas.{prefix_text}
 use Rattle.sq_expr.specs.Tokens.{is_letter, in_word}
-use Rattle.sq_top.proofs.DueWords.{shown_at_output, dropped_from, plan_text, due_from}
 use Rattle.sq_words.proofs.Bools.{and_true}
 use Rattle.sq_words.proofs.Lists.{same_bytes_itself}
 
@@ -189,7 +188,7 @@ few_drops n is =
 pub replay_tells_classes : (r : model.Replay) (first : ℕ) → IsSound r.network → TellsClasses (due_in r first)
 replay_tells_classes r first is =
     due_tells_classes r.network (answer_in r) (ended_in r first)
-    (all_ended (boxes_from first r.network) (drop first (map (fed_in r) (numbers_to (length r.network.boxes)))) (drop first (map (late_in r) (numbers_to (length r.network.boxes)))))
+    (all_ended (boxes_from first r.network) (drop first (map (fed_in r) (numbers_to (length r.network.boxes)))) (drop first (map (late_counts r) (numbers_to (length r.network.boxes)))))
     (few_drops r.network is) is
 
 pub left_tells_classes : (told : Option Files) (words : List (List ℕ)) (read : List (List ℕ × List ℕ)) (r : AcceptedReplay) → GoesBy told read (script_of words) (Done r) → TellsClasses (due_of r)

@@ -23,7 +23,7 @@ use Rattle.sq_lines.specs.RunLines.{event_line, output_name_in, lines_text}
 use Rattle.sq_flow.specs.Events.{drops_of, lines_of}
 use Rattle.sq_flow.specs.Plans.{plans_of}
 use Rattle.sq_points.specs.Points.{drops_in}
-use Rattle.sq_top.specs.Due.{Answer, Due}
+use Rattle.sq_top.specs.Due.{Answer, Due, plan_text, due_from}
 use Rattle.sq_top.specs.Answers.{IsClassIn, IsPrefixText, IsWholeText, is_classed, class_lines as due_lines}
 use Rattle.sq_top.specs.Driving.{Completes, IsEventAt, history_text}
 use Rattle.sq_top.proofs.SortedLines.{filter_same}
@@ -32,7 +32,6 @@ use Rattle.sq_top.proofs.DueLemmas.{IsWholeList, dropped_test, filter_ended, pla
 use Rattle.sq_top.proofs.OrderLemmas.{prefix_text, whole_text}
 use Rattle.sq_top.proofs.EndLemmas.{due_tells_classes, line_dropped, line_planned, lines_shown, plain_name}
 use Rattle.sq_top.proofs.NamedLemmas.{HasOutput, due_at, find_drop, is_numbered, name_test, none_numbered, number_at, number_listed, one_numbered, output_of, picked_at, same_number}
-use Rattle.sq_top.proofs.DueWords.{plan_text, due_from}
 use Rattle.sq_words.proofs.Lists.{has_item, flat_map_of_map}
 use Rattle.sq_words.proofs.Alls.{all_at}
 

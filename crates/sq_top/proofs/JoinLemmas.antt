@@ -25,9 +25,8 @@ use Rattle.sq_tap.proofs.Steps.{kinds_differ}
 use Rattle.sq_top.specs.declared.Status.{Status}
 use Rattle.sq_top.specs.declared.Status.TheVariants as status
 use Rattle.sq_top.specs.Causes.{IsBadTap, IsTapRefused}
-use Rattle.sq_top.specs.Taps.{Tapped, tapped, tapped_at, tapped_kinds, tapped_source, tapped_within}
+use Rattle.sq_top.specs.Taps.{Tapped, tapped, tapped_at, tapped_kinds, tapped_source, tapped_within, is_within_limits}
 use Rattle.sq_expr.specs.Kinds.{same_kinds}
-use Rattle.sq_top.proofs.TapWords.{is_within_limits}
 use Rattle.sq_words.proofs.Bools.{and_true}
 use Rattle.sq_expr.proofs.KindLemmas.{same_kinds_is}
 

@@ -31,4 +31,3 @@ pub mod TapLemmas
 pub mod PartLemmas
 pub mod DueWords
 pub mod OrderWords
-pub mod TapWords

@@ -12,11 +12,11 @@ use Rattle.sq_graph.specs.Wires.{output_arc_at}
 use Rattle.sq_road.specs.Draws.{draw_of}
 use Rattle.sq_place.specs.declared.DropPoint.{DropPoint}
 use Rattle.sq_plan.specs.Plans.{Setting}
-use Rattle.sq_plan.specs.PlanRows.{is_quiet, shown_after}
+use Rattle.sq_plan.specs.PlanRows.{is_quiet, shown_after, taken_after}
 use Rattle.sq_points.specs.Points.{drops_in, points_of, setting_of}
 use Rattle.sq_model.specs.FullStreams.{full_arc}
 use Rattle.sq_model.specs.Shedding as model
-use Rattle.sq_model.specs.Shedding.{answer_of, counts_in, epoch_of, is_dropped, level_of, record_of, shown, touched_batches}
+use Rattle.sq_model.specs.Shedding.{answer_of, counts_in, epoch_of, is_dropped, batch_level, record_of, shown, touched_batches}
 use Rattle.sq_net.specs.declared.Network.{Network}
 use Rattle.sq_net.specs.declared.NetErr.{NetErr}
 use Rattle.sq_net.specs.declared.Output.{Output}
@@ -35,7 +35,7 @@ use Rattle.sq_tap.specs.Names.{stream_named}
 use Rattle.sq_tap.specs.Parts.{full_output, tuples_since}
 use Rattle.sq_tap.proofs.Grafts.{answers_joined}
 use Rattle.sq_tap.proofs.Naming.{named_there}
-use Rattle.sq_top.specs.Due.{answer_in, outputs_of}
+use Rattle.sq_top.specs.Due.{answer_in, outputs_of, dropped_from, shown_at_output}
 use Rattle.sq_top.specs.Parts.{ShowsPart, ShowsRead, TapsShowParts}
 use Rattle.sq_top.specs.Reads.{GoesBy}
 use Rattle.sq_top.specs.declared.Status.{Status}
@@ -44,8 +44,6 @@ use Rattle.sq_top.specs.Scripts.{Done, AcceptedReplay, Script, Stops, after_quer
 use Rattle.sq_top.specs.Taps.{Tapped, first_tick, tapped}
 use Rattle.sq_top.proofs.JoinLemmas.{kept_at, kept_few, kept_kinds_of, kept_one, tapped_sound}
 use Rattle.sq_top.proofs.SourceLemmas.{sources_within, streams_more, text_is_recorded}
-use Rattle.sq_plan.proofs.ShownWords.{taken_after}
-use Rattle.sq_top.proofs.DueWords.{shown_at_output, dropped_from}
 use Rattle.sq_words.proofs.Bools.{and_true}
 use Rattle.sq_points.specs.Above.{drop_above_output}
 
@@ -79,7 +77,7 @@ module _ (n : Network) (sources : List (List Tuple)) (seed : ℕ) where
       by true is = rw is refl
       by false is = rw is refl
 
-  no_level : (e w : ℕ) → level_of r e w ≡ 0
+  no_level : (e w : ℕ) → batch_level r e w ≡ 0
   no_level zero w = refl
   no_level (suc e) w = rw (none_taken e) refl
 

@@ -18,7 +18,7 @@ use Rattle.sq_start.specs.Nets.{decision_on, drop_decisions}
 use Rattle.sq_core.specs.declared.engine.Engine.{Engine}
 use Rattle.sq_core.specs.Runs.{fed_at, late_at_seat}
 use Rattle.sq_top.specs.declared.Status.{Status}
-use Rattle.sq_top.specs.Due.{Due, answer_in, due_in, ended_in, fed_in, late_in}
+use Rattle.sq_top.specs.Due.{Due, answer_in, due_in, ended_in, fed_in, late_counts}
 use Rattle.sq_top.specs.Answers.{IsPrefixText, IsWholeText}
 use Rattle.sq_top.specs.Driving.{BeginsAnswer, IsDriven, IsEventAt, IsHalted, ends_text, history_text}
 use Rattle.sq_top.proofs.ClassLemmas.{IsLineOf}
@@ -54,7 +54,7 @@ module _ (r : Replay) (first : ℕ) (sound : IsSound r.network) where
 
   ends : AllByRecursion (IsLineOf Ended) (ended_in r first)
   ends =
-      all_ended (boxes_from first r.network) (drop first (map (fed_in r) (numbers_to (length r.network.boxes)))) (drop first (map (late_in r) (numbers_to (length r.network.boxes))))
+      all_ended (boxes_from first r.network) (drop first (map (fed_in r) (numbers_to (length r.network.boxes)))) (drop first (map (late_counts r) (numbers_to (length r.network.boxes))))
 
   few : drops_in r.network < 2 ^ 64
   few = few_drops r.network sound
@@ -82,7 +82,7 @@ module _ (r : Replay) (first : ℕ) (sound : IsSound r.network) where
     ends_are =
         ap (λ (m : Network). lines_text (end_lines_from m first (map (fed_at engine) (numbers_to (length m.boxes))) (map (late_at_seat engine) (numbers_to (length m.boxes))))) same
         ∙ ap₂ (λ fed late. lines_text (end_lines_from r.network first fed late))
-        (same_numbers (fed_at engine) (fed_in r) (length r.network.boxes) driven.fed) (same_numbers (late_at_seat engine) (late_in r) (length r.network.boxes) driven.late)
+        (same_numbers (fed_at engine) (fed_in r) (length r.network.boxes) driven.fed) (same_numbers (late_at_seat engine) (late_counts r) (length r.network.boxes) driven.late)
 
     -- its lines are all written
     pub replay_ends : (now : Option (List ℕ)) → now ≡ appended mid (ends_text first engine) → AppendsSuch before now (IsWholeText due)

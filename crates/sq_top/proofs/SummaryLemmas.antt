@@ -12,7 +12,7 @@ use Rattle.sq_top.specs.declared.counting.Counts.{Counts}
 use Rattle.sq_top.specs.Causes.{BeginsSummary, BeginsText}
 use Rattle.sq_top.specs.Counting.{IsSummed, engine_summary}
 use Rattle.sq_points.specs.Points.{drops_in}
-use Rattle.sq_top.specs.Due.{answer_in, fed_in, late_in}
+use Rattle.sq_top.specs.Due.{answer_in, fed_in, late_counts}
 use Rattle.sq_top.specs.Summaries.{summary_of, summary_text}
 use Rattle.sq_top.proofs.EndLemmas.{appends_all, appends_begun, appends_none}
 use Rattle.sq_top.proofs.ReplayLemmas.{same_numbers}
@@ -34,7 +34,7 @@ module _ (number rows : ℕ) (r : Replay) where
         (same_numbers (fed_at engine) (fed_in r) (length r.network.boxes) summed.fed)
         ∙ ap (λ xs. summary_text number rows r.network (map (λ o. length ((answer_in r).tuples o)) (numbers_to (length r.network.outputs)))
         (map (λ w. length ((answer_in r).decisions w)) (numbers_to (drops_in r.network))) (map (fed_in r) (numbers_to (length r.network.boxes))) xs)
-        (same_numbers (late_at_seat engine) (late_in r) (length r.network.boxes) summed.late)
+        (same_numbers (late_at_seat engine) (late_counts r) (length r.network.boxes) summed.late)
 
     -- it is all written
     pub summary_ends : (before now : Option (List ℕ)) → now ≡ appended before (engine_summary number rows engine counts)

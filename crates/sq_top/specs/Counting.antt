@@ -13,7 +13,7 @@ use Rattle.sq_top.specs.declared.counting.Counts.{Counts}
 use Rattle.sq_top.specs.Driving.{IsEventAt}
 use Rattle.sq_top.specs.Summaries.{summary_text}
 use Rattle.sq_points.specs.Points.{drops_in}
-use Rattle.sq_top.specs.Due.{answer_in, fed_in, late_in, work_in}
+use Rattle.sq_top.specs.Due.{answer_in, fed_in, late_counts, work_in}
 
 -- there is a count for each output and for each drop
 pub record HasCounts (n : Network) (counts : Counts) : Type 0 where
@@ -50,5 +50,5 @@ pub record IsSummed (r : Replay) (engine : Engine) (counts : Counts) (begun step
   pub lines : counts.lines.items ≡ map (λ o. length ((answer_in r).tuples o)) (numbers_to (length r.network.outputs))
   pub drops : counts.drops.items ≡ map (λ w. length ((answer_in r).decisions w)) (numbers_to (drops_in r.network))
   pub fed : (at : ℕ) → at < length r.network.boxes → fed_at engine at ≡ fed_in r at
-  pub late : (at : ℕ) → at < length r.network.boxes → late_at_seat engine at ≡ late_in r at
+  pub late : (at : ℕ) → at < length r.network.boxes → late_at_seat engine at ≡ late_counts r at
   pub work : steps ≡ begun + work_in r

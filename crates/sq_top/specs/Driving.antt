@@ -21,7 +21,7 @@ use Rattle.sq_core.specs.Runs.{IsRun, fed_at, late_at_seat}
 use Rattle.sq_top.specs.declared.Status.{Status}
 use Rattle.sq_top.specs.declared.Status.TheVariants as status
 use Rattle.sq_points.specs.Points.{drops_in}
-use Rattle.sq_top.specs.Due.{Answer, answer_in, fed_in, late_in, turns_in, work_in}
+use Rattle.sq_top.specs.Due.{Answer, answer_in, fed_in, late_counts, turns_in, work_in}
 use Rattle.sq_top.specs.Writing.{Moves}
 use Rattle.sq_top.specs.Causes.{is_refusal}
 use Rattle.sq_top.specs.Stopping.{is_changed, is_garbled}
@@ -54,7 +54,7 @@ pub record IsDriven (r : Replay) (history : List Event) (engine : Engine) (befor
   pub all : Completes r.network (answer_in r) (history ++ events)
   pub written : now ≡ appended before (history_text r.network events)
   pub fed : (at : ℕ) → at < length r.network.boxes → fed_at engine at ≡ fed_in r at
-  pub late : (at : ℕ) → at < length r.network.boxes → late_at_seat engine at ≡ late_in r at
+  pub late : (at : ℕ) → at < length r.network.boxes → late_at_seat engine at ≡ late_counts r at
   pub work : steps ≡ begun + work_in r
 
 -- it stopped on its way, over a disk that is known now: what was written begins the text of events behind which the history still

@@ -9,7 +9,7 @@ use Rattle.sq_net.specs.declared.Output.{Output}
 use Rattle.sq_lines.specs.RunLines.{is_sorter}
 use Rattle.sq_model.specs.Shedding.{Replay}
 use Rattle.sq_points.specs.Points.{drops_in}
-use Rattle.sq_top.specs.Due.{answer_in, fed_in, late_in}
+use Rattle.sq_top.specs.Due.{answer_in, fed_in, late_counts}
 
 -- a word, what is counted, and how many there are
 abbrev pub count_line : List ℕ → List ℕ → ℕ → List ℕ
@@ -44,4 +44,4 @@ summary_of number rows r =
     (map (λ o. length ((answer_in r).tuples o)) (numbers_to (length r.network.outputs)))
     (map (λ w. length ((answer_in r).decisions w)) (numbers_to (drops_in r.network)))
     (map (fed_in r) (numbers_to (length r.network.boxes)))
-    (map (late_in r) (numbers_to (length r.network.boxes)))
+    (map (late_counts r) (numbers_to (length r.network.boxes)))

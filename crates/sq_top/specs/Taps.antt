@@ -1,17 +1,22 @@
 -- A query that is joined to a stream of a network: what comes of it, or the first rule that is broken.
-use Rattle.std.specs.Prelude.{ℕ, ◌-◌, Bool, ◌&&◌, ◌==◌, if◌then◌else◌, length, Option, Some, None, Result, Ok, Err}
+use Rattle.std.specs.Prelude.{ℕ, ◌-◌, Bool, ◌&&◌, ◌==◌, if◌then◌else◌, length, Option, Some, None, Result, Ok, Err, nat_le}
 use Rattle.sq_value.specs.Values.{kinds_of}
 use Rattle.sq_net.specs.declared.Network.{Network}
 use Rattle.sq_tap.specs.declared.TapErr.{TapErr}
 use Rattle.sq_tap.specs.declared.TapErr.TheVariants as error
 use Rattle.sq_tap.specs.Joining.{boxes_in_front, columns, joined}
 use Rattle.sq_expr.specs.Kinds.{same_kinds}
-use Rattle.sq_top.proofs.TapWords.{is_within_limits}
+use Rattle.sq_reader.specs.Drops.{is_drop_within}
+use Rattle.std.specs.List.{list_all}
+use Rattle.sq_points.specs.Points.{points_of}
 
 -- the joined network, and how many boxes stand in front of the query's
 pub record Tapped : Type 0 where
   pub network : Network
   pub first : ℕ
+
+abbrev pub is_within_limits : Network → Bool
+is_within_limits net = nat_le (length net.boxes) 128 && list_all is_drop_within (points_of net)
 
 module _ (n : Network) (stream from : ℕ) (q : Network) where
   abbrev pub tapped_within : Bool → Result Tapped TapErr

@@ -53,7 +53,7 @@ use std::sync::ledger::Ledger;
 pub use words::read_words;
 
 /// What the words of a run ask for.
-#[derive(Debug, Drop)]
+#[derive(Drop)]
 pub struct RunArgs {
     /// The network's file.
     pub net: Name,
@@ -72,7 +72,7 @@ pub struct RunArgs {
 }
 
 /// What words ask for.
-#[derive(Debug, Drop)]
+#[derive(Drop)]
 pub enum Command {
     /// A run of the files of a network.
     Run(RunArgs),
@@ -110,7 +110,7 @@ pub enum WordsErr {
 }
 
 /// How a call ended.
-#[derive(Debug, Drop)]
+#[derive(Drop)]
 pub enum Status {
     /// All input was replayed and all lines were written.
     Ok,

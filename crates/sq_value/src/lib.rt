@@ -27,7 +27,7 @@ use std::marker::Model;
 pub use written::{ValueErr, negative, positive, read_int, read_value, write_value};
 
 /// A list that a public struct holds. Contracts see it as the list of its items.
-#[derive(Debug, Drop)]
+#[derive(Drop)]
 pub struct ListOf<T> {
     items: Vec<T>,
 }
@@ -64,7 +64,7 @@ impl<T> ListOf<T> {
 }
 
 /// The name of a source, a box, an output, a field or a file. Contracts see its bytes.
-#[derive(Debug, Drop)]
+#[derive(Drop)]
 pub struct Name {
     text: String,
 }
@@ -96,7 +96,7 @@ impl Name {
 }
 
 /// Where the bytes of a text lie: short ones in the value itself.
-#[derive(Debug, Drop)]
+#[derive(Drop)]
 enum Bytes {
     Few(Few),
     Many(Box<String>),
@@ -140,7 +140,6 @@ impl Bytes {
 }
 
 /// A text value: 1 to 255 bytes of UTF-8. Contracts see its bytes.
-#[derive(Debug)]
 pub struct Txt {
     bytes: Bytes,
 }
@@ -231,7 +230,7 @@ pub enum Kind {
 }
 
 /// A value of a field. Null is of every kind.
-#[derive(Debug, Drop)]
+#[derive(Drop)]
 pub enum Value {
     Null,
     Int(i64),
@@ -243,14 +242,14 @@ pub enum Value {
 pub type Fields = ListOf<Value>;
 
 /// A tuple: its time, a tick, and its values.
-#[derive(Debug, Drop)]
+#[derive(Drop)]
 pub struct Tuple {
     pub time: u64,
     pub fields: Fields,
 }
 
 /// 1 to 16 columns: a name and a kind each, all names different. Contracts see the list of these pairs.
-#[derive(Debug, Drop)]
+#[derive(Drop)]
 pub struct Schema {
     names: Vec<Name>,
     kinds: Vec<Kind>,

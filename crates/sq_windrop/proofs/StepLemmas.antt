@@ -21,7 +21,7 @@ use Rattle.sq_tagged.specs.TaggedStreams.{Timed, mark_thing}
 use Rattle.sq_oper.proofs.PartLemmas.{at_port-append, item_law, body_prefix}
 use Rattle.sq_windrop.specs.declared.drop.Dropping.{Dropping}
 use Rattle.sq_windrop.specs.declared.drop.Batches.{Batches}
-use Rattle.sq_windrop.specs.Drops.{is_dropped, drop_mark, marks_for, decided, decision, greatest_bound, bound_of, newly, after_tuple, for_tuple, drop_next, drop_gives, drop_rest, drop_holds, decided_content, drop_decides, next_body, gives_body, decided_body}
+use Rattle.sq_windrop.specs.Drops.{is_batch_dropped, drop_mark, marks_for, decided, decision, greatest_bound, bound_of, newly, after_tuple, for_tuple, drop_next, drop_gives, drop_rest, drop_holds, decided_content, drop_decides, next_body, gives_body, decided_body}
 use Rattle.sq_windrop.proofs.DropLemmas.{newly-early}
 use Rattle.sq_words.proofs.Ranges.{range_split}
 
@@ -32,10 +32,10 @@ start-closed start time epoch closed some le h =
     (div-lt_iff_lt-mul some).1 (let e : start < closed * epoch = omega (arith, le, lt) in e)
 
 module _ (d : Dropping) (table : ℕ → ℕ → ℕ) where
-  pub dropped-is : (b level draw : ℕ) → draw ≡ draw_of d.seed d.number b → table (b * d.length / d.epoch) d.number ≡ level → draw < level → is_dropped d table b ≡ true
+  pub dropped-is : (b level draw : ℕ) → draw ≡ draw_of d.seed d.number b → table (b * d.length / d.epoch) d.number ≡ level → draw < level → is_batch_dropped d table b ≡ true
   dropped-is b level draw e f lt = ap₂ nat_lt (sym e) f ∙ (let t : nat_lt draw level ≡ true = grind (arith, tests) in t)
 
-  pub permitted-is : (b level draw : ℕ) → draw ≡ draw_of d.seed d.number b → table (b * d.length / d.epoch) d.number ≡ level → level ≤ draw → is_dropped d table b ≡ false
+  pub permitted-is : (b level draw : ℕ) → draw ≡ draw_of d.seed d.number b → table (b * d.length / d.epoch) d.number ≡ level → level ≤ draw → is_batch_dropped d table b ≡ false
   permitted-is b level draw e f le = ap₂ nat_lt (sym e) f ∙ (let t : nat_lt draw level ≡ false = grind (arith, tests) in t)
 
   abbrev marks : List ℕ → List Thing
@@ -51,7 +51,7 @@ module _ (d : Dropping) (table : ℕ → ℕ → ℕ) where
 
   decided-append : (xs ys : List ℕ) → decided d table (xs ++ ys) ≡ decided d table xs ++ decided d table ys
   decided-append xs ys =
-      ap (map (decision d table)) (filter-append (is_dropped d table) xs ys) ∙ map-append (decision d table) (filter (is_dropped d table) xs) (filter (is_dropped d table) ys)
+      ap (map (decision d table)) (filter-append (is_batch_dropped d table) xs ys) ∙ map-append (decision d table) (filter (is_batch_dropped d table) xs) (filter (is_batch_dropped d table) ys)
 
   pub decided-push : (before : List Decision) (bs : List ℕ) (b : ℕ) → (before ++ decided d table bs) ++ decided d table (b ∷ []) ≡ before ++ decided d table (bs ++ b ∷ [])
   decided-push before bs b = append_assoc before (decided d table bs) (decided d table (b ∷ [])) ∙ ap (λ l. before ++ l) (sym (decided-append bs (b ∷ [])))

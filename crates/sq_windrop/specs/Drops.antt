@@ -28,11 +28,11 @@ dropping number length keep epoch seed = record { number = number; length = leng
 abbrev pub level_at : Dropping → (ℕ → ℕ → ℕ) → ℕ → ℕ
 level_at d table b = table (b * d.length / d.epoch) d.number
 
-abbrev pub is_dropped : Dropping → (ℕ → ℕ → ℕ) → ℕ → Bool
-is_dropped d table b = nat_lt (draw_of d.seed d.number b) (level_at d table b)
+abbrev pub is_batch_dropped : Dropping → (ℕ → ℕ → ℕ) → ℕ → Bool
+is_batch_dropped d table b = nat_lt (draw_of d.seed d.number b) (level_at d table b)
 
 abbrev pub drop_mark : Dropping → (ℕ → ℕ → ℕ) → ℕ → Timed
-drop_mark d table b = mark_of (is_dropped d table) (until_at d.length d.keep) d.length b
+drop_mark d table b = mark_of (is_batch_dropped d table) (until_at d.length d.keep) d.length b
 
 abbrev pub marks_for : Dropping → (ℕ → ℕ → ℕ) → List ℕ → List Timed
 marks_for d table bs = map (drop_mark d table) bs
@@ -42,7 +42,7 @@ abbrev pub decision : Dropping → (ℕ → ℕ → ℕ) → ℕ → Decision
 decision d table b = record { drop = d.number; batch = b; level = level_at d table b }
 
 abbrev pub decided : Dropping → (ℕ → ℕ → ℕ) → List ℕ → List Decision
-decided d table bs = map (decision d table) (filter (is_dropped d table) bs)
+decided d table bs = map (decision d table) (filter (is_batch_dropped d table) bs)
 
 abbrev pub bound_of : Timed → ℕ
 bound_of m = bound_in m.1

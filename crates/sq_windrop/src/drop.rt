@@ -12,8 +12,8 @@ ghost use Rattle.sq_oper.specs.Outflow.{given, ItemsSound, ThingsUpTo};
 ghost use Rattle.sq_oper.specs.Order.{IsFuture, unmarked, after_all};
 ghost use Rattle.sq_oper.specs.Streams.{at_zero, tuples_of, port_fits};
 ghost use Rattle.sq_tagged.specs.TaggedStreams.{mark_thing, spread_of};
-ghost use Rattle.sq_tagged.specs.Boxes.{drop_tagged, touched_batches, until_at};
-ghost use Rattle.sq_windrop.specs.Drops.{IsDropping, dropping, is_dropped, drop_mark, marks_for, decided, bound_of, newly, after_tuple, next_body, gives_body, decided_body, drop_rest, drop_decides, drop_reads, none_lost};
+ghost use Rattle.sq_tagged.specs.Boxes.{drop_tagged, batches_touched, until_at};
+ghost use Rattle.sq_windrop.specs.Drops.{IsDropping, dropping, is_batch_dropped, drop_mark, marks_for, decided, bound_of, newly, after_tuple, next_body, gives_body, decided_body, drop_rest, drop_decides, drop_reads, none_lost};
 
 use crate::give::give_item;
 use sq_item::{Body, Item, Mark, Sign};
@@ -25,7 +25,7 @@ use std::alloc::AllocError;
 use std::sync::ledger::Ledger;
 
 /// What a window drop is made with.
-#[derive(Clone, Copy, Debug, Drop)]
+#[derive(Clone, Copy, Drop)]
 pub struct Dropping {
     /// The number of the drop.
     pub number: u32,
@@ -39,7 +39,7 @@ pub struct Dropping {
 }
 
 /// The first batch that wasn't touched, and the greatest bound of the marks that were given.
-#[derive(Clone, Copy, Debug, Drop)]
+#[derive(Clone, Copy, Drop)]
 pub struct Batches {
     pub next: u64,
     pub bound: u64,
@@ -63,10 +63,10 @@ impl WinDropBox {
         ensures marked { (table : ℕ → ℕ → ℕ) (future : List Entry) (q : ℕ)
             → IsFuture (⟦<WinDropBox as Operator>⟧.takes_marks result) (⟦<WinDropBox as Operator>⟧.fits result) Moment.Start future
             → ⟦<WinDropBox as Operator>⟧.rest result table future q
-            ≡ at_zero q (spread_of (drop_tagged (is_dropped (dropping w length keep epoch seed) table) (until_at length keep) length (touched_batches length keep (tuples_of future)) (tuples_of future))) }
+            ≡ at_zero q (spread_of (drop_tagged (is_batch_dropped (dropping w length keep epoch seed) table) (until_at length keep) length (batches_touched length keep (tuples_of future)) (tuples_of future))) }
         ensures decides { (table : ℕ → ℕ → ℕ) (future : List Entry)
             → IsFuture (⟦<WinDropBox as Operator>⟧.takes_marks result) (⟦<WinDropBox as Operator>⟧.fits result) Moment.Start future
-            → ⟦<WinDropBox as Operator>⟧.decides result table future ≡ decided (dropping w length keep epoch seed) table (touched_batches length keep (tuples_of future)) }
+            → ⟦<WinDropBox as Operator>⟧.decides result table future ≡ decided (dropping w length keep epoch seed) table (batches_touched length keep (tuples_of future)) }
         ensures fits { (port : ℕ) (fields : List Value) → ⟦<WinDropBox as Operator>⟧.fits result port fields ≡ (port == 0) }
         ensures takes_marks { (port : ℕ) → ⟦<WinDropBox as Operator>⟧.takes_marks result port ≡ false }
         ensures reads { (of : ℕ) → ⟦<WinDropBox as Operator>⟧.reads result of ≡ (of == epoch) }

@@ -1,6 +1,6 @@
 use Rattle.std.proofs.Common.{◌≡◌, sym, subst}
 use Rattle.std.specs.List.{AllByRecursion}
-use Rattle.sq_tagged.specs.Boxes.{touched_batches}
+use Rattle.sq_tagged.specs.Boxes.{batches_touched}
 use Rattle.sq_oper.specs.Streams.{tuples_of}
 use Rattle.sq_windrop.specs.Drops.{dropping}
 use Rattle.sq_start.proofs.DropFacts.{drop-starts, own-decided}
@@ -14,4 +14,4 @@ returns-clause-starts c =
 pub returns-clause-owns : goal.returns-clause-owns
 returns-clause-owns c = λ table future f.
     subst (AllByRecursion (λ d. d.drop ≡ c.args.w)) (sym (c.new.ensures.decides table future f))
-    (own-decided (dropping c.args.w c.args.p.now.length c.args.p.now.keep c.args.epoch c.args.seed) table (touched_batches c.args.p.now.length c.args.p.now.keep (tuples_of future)))
+    (own-decided (dropping c.args.w c.args.p.now.length c.args.p.now.keep c.args.epoch c.args.seed) table (batches_touched c.args.p.now.length c.args.p.now.keep (tuples_of future)))
