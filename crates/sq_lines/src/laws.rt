@@ -8,7 +8,7 @@ pub fn lines_are_csv()
 {}
 
 /// A row of two fields and more that is written is read back as these fields.
-#[tactic(auto, using(sq_lines::proofs::ReadBack::rows_read_back))]
+#[tactic(auto, using(crate::proofs::ReadBack::rows_read_back))]
 pub fn rows_are_read_back()
     ensures { RowsAreReadBack }
 {}
