@@ -32,21 +32,22 @@ use Rattle.sq_replay.specs.Entries.{capacities_in, picks_in}
 use Rattle.sq_replay.specs.Streams.{stream_in}
 use Rattle.sq_gen.specs.declared.Made.{Made}
 use Rattle.sq_gen.specs.Files.{made_of}
-use Rattle.sq_top.specs.declared.Command.{Command}
-use Rattle.sq_top.specs.declared.Command.TheVariants as command
-use Rattle.sq_top.specs.declared.RunArgs.{RunArgs}
-use Rattle.sq_top.specs.declared.Status.{Status}
+use Rattle.sq_command.specs.declared.Command.{Command}
+use Rattle.sq_command.specs.declared.Command.TheVariants as command
+use Rattle.sq_command.specs.declared.RunArgs.{RunArgs}
+use Rattle.sq_status.specs.declared.Status.{Status}
 use Rattle.sq_tap.specs.declared.TapErr.{TapErr}
 use Rattle.sq_tap.specs.Names.{stream_named}
-use Rattle.sq_top.specs.Commands.{command_in}
-use Rattle.sq_top.specs.Taps.{Tapped, first_tick, tapped}
-use Rattle.sq_top.specs.Scripts.{Lookup, AcceptedReplay, Script, Reads, Done, Stops, after_capacities, after_network, after_picks, after_query, after_stream, after_streams, after_tap, after_tapped, after_words, capacities_script, followed_by, go_on, made_limits, made_sources, made_streams, made_unread, outcome_of, picks_script, plain_args, readable, run_script, stream_limit, tap_script, tap_unread, text_limit, text_script, unread, with_sources, with_text}
-use Rattle.sq_top.proofs.JoinLemmas.{tapped_limits, tapped_sound}
-use Rattle.sq_top.proofs.SourceLemmas.{sources_within, streams_more, text_is_recorded}
+use Rattle.sq_command.specs.Commands.{command_in}
+use Rattle.sq_work.specs.Taps.{Tapped, first_tick, tapped}
+use Rattle.sq_work.specs.Scripts.{Lookup, AcceptedReplay, Script, Reads, Done, Stops, after_capacities, after_network, after_picks, after_query, after_stream, after_streams, after_tap, after_tapped, after_words, capacities_script, followed_by, go_on, made_limits, made_sources, made_streams, made_unread, outcome_of, picks_script, plain_args, readable, run_script, stream_limit, tap_script, tap_unread, text_limit, text_script, unread, with_sources, with_text}
+use Rattle.sq_work.proofs.JoinLemmas.{tapped_limits, tapped_sound}
+use Rattle.sq_top.proofs.SourceLemmas.{sources_within, streams_more}
 use Rattle.sq_audited.specs.Laws.{AcceptsRuns}
 use Rattle.sq_audited.proofs.Wholes.{accepts_replays}
 use Rattle.sq_reader.specs.Limits.{settings_limit}
 use Rattle.sq_words.specs.Results.{◌>>=◌}
+use Rattle.sq_work.proofs.SourceLemmas.{text_is_recorded}
 
 -- ---- the limits of drop points
 

@@ -3,7 +3,7 @@ ghost use Rattle.std.specs.Prelude.{◌<◌, length, map};
 ghost use Rattle.sq_net.specs.SoundNetworks.{IsSound};
 ghost use Rattle.sq_points.specs.Limits.{KeepsDropLimits};
 ghost use Rattle.sq_points.specs.Points.{points_of};
-ghost use Rattle.sq_top.specs.SourceFiles.{AreRecorded};
+ghost use Rattle.sq_work.specs.SourceFiles.{AreRecorded};
 
 use crate::case::Case;
 use crate::given::{Given, given_by};

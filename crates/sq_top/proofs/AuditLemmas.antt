@@ -3,22 +3,25 @@ use Rattle.std.proofs.Common.{◌≡◌, ◌≢◌, ◌⊎◌, inl, inr, ℕ, tr
 use Rattle.std.specs.Prelude.{codes, IsSome}
 use Rattle.sq_outside.specs.Folders.{Files}
 use Rattle.sq_outside.specs.Sinks.{AppendsPrefix, appended, AppendsSuch}
-use Rattle.sq_top.specs.declared.Command.TheVariants as command
-use Rattle.sq_top.specs.declared.Status.{Status}
-use Rattle.sq_top.specs.declared.Status.TheVariants as status
-use Rattle.sq_top.specs.Commands.{command_in, runs_engine}
-use Rattle.sq_top.specs.Scripts.{AcceptedReplay, Script, Reads, Done, Stops, after_words, followed_by, plain_args, script_of, text_limit, text_script, with_text}
-use Rattle.sq_top.specs.Messages.{name_at}
-use Rattle.sq_top.specs.Reads.{GoesBy, IsFileRead, ScriptLeads, network_read}
-use Rattle.sq_top.specs.Causes.{Ends, IsPrefixOfDue, IsRefusedAt, IsStopped, IsUnread, IsWholeOf, NamesSource, Outside, is_plain_end, is_refusal, verdict_text, work_for}
-use Rattle.sq_top.specs.Writing.{IsLost}
-use Rattle.sq_top.proofs.DrivingLemmas.{not_too_much}
+use Rattle.sq_command.specs.declared.Command.TheVariants as command
+use Rattle.sq_status.specs.declared.Status.{Status}
+use Rattle.sq_status.specs.declared.Status.TheVariants as status
+use Rattle.sq_command.specs.Commands.{command_in, runs_engine}
+use Rattle.sq_work.specs.Scripts.{AcceptedReplay, Script, Reads, Done, Stops, after_words, followed_by, plain_args, script_of, text_limit, text_script, with_text}
+use Rattle.sq_status.specs.Messages.{name_at}
+use Rattle.sq_work.specs.Reads.{GoesBy, IsFileRead, ScriptLeads, network_read}
+use Rattle.sq_top.specs.Causes.{Ends, IsPrefixOfDue, IsWholeOf, Outside, verdict_text, work_for}
+use Rattle.sq_drive.specs.Writing.{IsLost}
+use Rattle.sq_drive.proofs.DrivingLemmas.{not_too_much}
 use Rattle.sq_top.proofs.EndLemmas.{answered_cut, answered_ok, appends_all, appends_begun}
-use Rattle.sq_top.proofs.ReadsLemmas.{HoldsFor, leads_read, leads_still, leads_then, left_holds}
-use Rattle.sq_top.proofs.StoppedLemmas.{memory_at, some_none, stopped_unread}
-use Rattle.sq_top.proofs.StopLemmas.{lost_cut, lost_garbled, lost_stop, lost_unchanged}
+use Rattle.sq_top.proofs.ReadsLemmas.{HoldsFor, left_holds}
+use Rattle.sq_work.proofs.StoppedLemmas.{memory_at, some_none, stopped_unread}
 use Rattle.sq_value.specs.CommandWords.{may_name}
 use Rattle.sq_words.proofs.Bools.{not_true}
+use Rattle.sq_status.specs.StatusKinds.{is_refusal, is_plain_end}
+use Rattle.sq_work.specs.Refusals.{NamesSource, IsUnread, IsRefusedAt, IsStopped}
+use Rattle.sq_work.proofs.ReadsLemmas.{leads_still, leads_then, leads_read}
+use Rattle.sq_drive.proofs.StopLemmas.{lost_cut, lost_stop, lost_unchanged, lost_garbled}
 
 -- by what leads through the first script the two go on
 goes_behind : (told : Option Files) (next : AcceptedReplay → Script) (read : List (List ℕ × List ℕ)) (from to : Script) → GoesBy told read from to

@@ -22,11 +22,11 @@ use Rattle.sq_net.specs.SoundNetworks.{IsSound}
 use Rattle.sq_model.specs.Shedding as model
 use Rattle.sq_plan.specs.declared.closing.Shown.{Shown as ShownPlan}
 use Rattle.sq_oper.specs.declared.outs.Decision.{Decision}
-use Rattle.sq_top.specs.declared.Command.{Command}
-use Rattle.sq_top.specs.declared.Command.TheVariants as command
-use Rattle.sq_top.specs.declared.Status.{Status}
-use Rattle.sq_top.specs.declared.Status.TheVariants as status
-use Rattle.sq_top.specs.Commands.{command_in, runs_engine}
+use Rattle.sq_command.specs.declared.Command.{Command}
+use Rattle.sq_command.specs.declared.Command.TheVariants as command
+use Rattle.sq_status.specs.declared.Status.{Status}
+use Rattle.sq_status.specs.declared.Status.TheVariants as status
+use Rattle.sq_command.specs.Commands.{command_in, runs_engine}
 use Rattle.sq_lines.specs.RunLines.{boxes_from, end_lines, fed_line, is_sorter, late_lines}
 use Rattle.sq_lines.proofs.NumberLemmas.{decimal_bare}
 use Rattle.std.proofs.lemmas.List.{length-map}
@@ -36,27 +36,31 @@ use Rattle.sq_place.proofs.Final.{drops-few}
 use Rattle.sq_points.specs.Points.{points_of, windows_of, drops_in}
 use Rattle.sq_points.proofs.Bounds.{few_places}
 use Rattle.std.proofs.lemmas.Fmt.{decimal_nonempty}
-use Rattle.sq_top.specs.Due.{Answer, Due, answer_in, due_in, due_of, ended_in, fed_in, late_counts, replayed, turns_in, work_in, dropped_from, plan_text, shown_at_output, due_from}
-use Rattle.sq_top.specs.Answers.{IsPrefixText, IsWholeText}
+use Rattle.sq_drive.specs.Due.{Answer, Due, answer_in, due_in, due_of, ended_in, fed_in, late_counts, replayed, turns_in, work_in, dropped_from, plan_text, shown_at_output, due_from}
+use Rattle.sq_drive.specs.Answers.{IsPrefixText, IsWholeText}
 use Rattle.sq_gen.specs.Files.{made_of}
-use Rattle.sq_top.specs.Generation.{HasBadMade, NamesMade}
-use Rattle.sq_top.specs.Messages.{name_at}
-use Rattle.sq_top.specs.Summaries.{summary_of}
-use Rattle.sq_top.specs.Driving.{IsCutShort}
-use Rattle.sq_top.specs.declared.RunArgs.{RunArgs}
-use Rattle.sq_top.specs.Scripts.{AcceptedReplay, Script, Reads, Done, Stops, after_words, made_script, script_of}
-use Rattle.sq_top.specs.Reads.{GoesBy, IfAccepted, ScriptLeads, network_read}
+use Rattle.sq_work.specs.Generation.{HasBadMade, NamesMade}
+use Rattle.sq_status.specs.Messages.{name_at, TellsStatus}
+use Rattle.sq_drive.specs.Summaries.{summary_of}
+use Rattle.sq_drive.specs.Driving.{IsCutShort}
+use Rattle.sq_command.specs.declared.RunArgs.{RunArgs}
+use Rattle.sq_work.specs.Scripts.{AcceptedReplay, Script, Reads, Done, Stops, after_words, made_script, script_of}
+use Rattle.sq_work.specs.Reads.{GoesBy, IfAccepted, ScriptLeads, network_read}
 use Rattle.sq_pool.specs.Trust.{Tells}
-use Rattle.sq_top.specs.Stopping.{StopHasCause, is_changed, is_garbled}
-use Rattle.sq_top.specs.Causes.{BeginsSummary, BeginsText, Ends, IsEngineOf, IsPrefixOfDue, IsRefusedAt, IsStopped, IsWholeOf, NamesSource, TellsFor, TellsStatus, Outside, hides_memory, is_refusal, turns_for, verdict_text, work_for}
-use Rattle.sq_top.proofs.ReadsLemmas.{leads_self, left_holds, none_given}
-use Rattle.sq_top.proofs.StoppedLemmas.{memory_at, some_none, stopped_memory, stopped_rule}
-use Rattle.sq_top.proofs.StopLemmas.{refused_garbled, refused_stop, refused_unchanged, stop_map}
-use Rattle.sq_top.proofs.ClassLemmas.{IsLineOf, IsPlainName, TellsClasses, is_end_field}
+use Rattle.sq_drive.specs.Stopping.{StopHasCause}
+use Rattle.sq_top.specs.Causes.{BeginsSummary, BeginsText, Ends, IsEngineOf, IsPrefixOfDue, IsWholeOf, TellsFor, Outside, turns_for, verdict_text, work_for}
+use Rattle.sq_top.proofs.ReadsLemmas.{leads_self, left_holds}
+use Rattle.sq_work.proofs.StoppedLemmas.{memory_at, some_none, stopped_memory, stopped_rule}
+use Rattle.sq_top.proofs.StopLemmas.{refused_garbled, refused_stop, refused_unchanged}
+use Rattle.sq_drive.proofs.ClassLemmas.{IsLineOf, IsPlainName, TellsClasses, is_end_field}
 use Rattle.sq_top.proofs.OrderLemmas.{prefix_text}
 use Rattle.sq_expr.specs.Tokens.{is_letter, in_word}
 use Rattle.sq_words.proofs.Bools.{and_true}
 use Rattle.sq_words.proofs.Lists.{same_bytes_itself}
+use Rattle.sq_status.specs.StatusKinds.{is_refusal, hides_memory, is_changed, is_garbled}
+use Rattle.sq_work.specs.Refusals.{NamesSource, IsRefusedAt, IsStopped}
+use Rattle.sq_work.proofs.ReadsLemmas.{none_given}
+use Rattle.sq_drive.proofs.StopLemmas.{stop_map}
 
 -- a name begins with a lower-case letter, and lower-case letters, digits and `_` follow
 name_parts : (b : ℕ) (bs : List ℕ) → is_name (b ∷ bs) ≡ true → (is_letter b ≡ true) × (list_all in_word bs ≡ true)

@@ -1,10 +1,9 @@
 -- Histories: the lines of a run that has shown its whole answer, in whatever order, are an order of writing with the end lines behind.
 use Rattle.std.proofs.Common.{◌≡◌, ◌⊎◌, inl, inr, ℕ, ◌<◌, ◌^◌, arith, Bool, true, false, not, ◌&&◌, List, [], ◌∷◌, ◌++◌, length, refl, ap, ap₂, sym, ◌∙◌, subst, append-nil, Some}
 use Rattle.std.specs.Prelude.{◌==◌, map, if◌then◌else◌, slice_get}
-use Rattle.std.specs.List.{AllByRecursion, filter, list_all}
+use Rattle.std.specs.List.{AllByRecursion, filter}
 use Rattle.std.proofs.lemmas.Bool.{eqb-true, eqb-false, false_from_ne_true}
 use Rattle.std.proofs.lemmas.List.Elements.{filter-append, recursion_from_All}
-use Rattle.std.proofs.lemmas.List.Folds.{list_all-append}
 use Rattle.std.proofs.lemmas.List.FromFn.{length-range_with_len}
 use Rattle.std.proofs.lemmas.Grind.{flat_map-append}
 use Rattle.std.proofs.lemmas.Option.{slice_get_within}
@@ -23,20 +22,17 @@ use Rattle.sq_lines.specs.RunLines.{event_line, output_name_in, lines_text}
 use Rattle.sq_flow.specs.Events.{drops_of, lines_of}
 use Rattle.sq_flow.specs.Plans.{plans_of}
 use Rattle.sq_points.specs.Points.{drops_in}
-use Rattle.sq_top.specs.Due.{Answer, Due, plan_text, due_from}
-use Rattle.sq_top.specs.Answers.{IsClassIn, IsPrefixText, IsWholeText, is_classed, class_lines as due_lines}
-use Rattle.sq_top.specs.Driving.{Completes, IsEventAt, history_text}
-use Rattle.sq_top.proofs.SortedLines.{filter_same}
-use Rattle.sq_top.proofs.ClassLemmas.{IsLineOf, IsPlainClass, TellsClasses, all_map, classed_dropped, classed_ended, classed_planned, classed_shown, plain_class}
-use Rattle.sq_top.proofs.DueLemmas.{IsWholeList, dropped_test, filter_ended, planned_test, shown_test, tells, whole_order}
+use Rattle.sq_drive.specs.Due.{Answer, Due, plan_text, due_from}
+use Rattle.sq_drive.specs.Answers.{IsClassIn, IsPrefixText, IsWholeText, is_classed, class_lines as due_lines}
+use Rattle.sq_drive.specs.Driving.{Completes, IsEventAt, history_text}
+use Rattle.sq_drive.proofs.SortedLines.{filter_same}
+use Rattle.sq_drive.proofs.ClassLemmas.{IsLineOf, IsPlainClass, TellsClasses, all_map, classed_dropped, classed_ended, classed_planned, classed_shown, plain_class}
+use Rattle.sq_drive.proofs.DueLemmas.{IsWholeList, dropped_test, filter_ended, planned_test, shown_test, tells, whole_order, filter_kept, all_pass, both_pass}
 use Rattle.sq_top.proofs.OrderLemmas.{prefix_text, whole_text}
 use Rattle.sq_top.proofs.EndLemmas.{due_tells_classes, line_dropped, line_planned, lines_shown, plain_name}
 use Rattle.sq_top.proofs.NamedLemmas.{HasOutput, due_at, find_drop, is_numbered, name_test, none_numbered, number_at, number_listed, one_numbered, output_of, picked_at, same_number}
 use Rattle.sq_words.proofs.Lists.{has_item, flat_map_of_map}
 use Rattle.sq_words.proofs.Alls.{all_at}
-
-filter_kept : (p : List ℕ → Bool) (x : List ℕ) (xs : List (List ℕ)) → p x ≡ true → filter p (x ∷ xs) ≡ x ∷ filter p xs
-filter_kept p x xs h = rw h refl
 
 filter_left : (p : List ℕ → Bool) (x : List ℕ) (xs : List (List ℕ)) → p x ≡ false → filter p (x ∷ xs) ≡ filter p xs
 filter_left p x xs h = rw h refl
@@ -52,13 +48,6 @@ drop_kept w d es h = rw h refl
 
 pub drop_left : (w : ℕ) (d : Decision) (es : List Event) → (d.drop == w) ≡ false → drops_of w (Decided d ∷ es) ≡ drops_of w es
 drop_left w d es h = rw h refl
-
-all_listed : (p : List ℕ → Bool) (xs : List (List ℕ)) → AllByRecursion (λ x. p x ≡ true) xs → list_all p xs ≡ true
-all_listed p [] all = refl
-all_listed p (x ∷ xs) all = rw (all.0, all_listed p xs all.1) refl
-
-both_listed : (p : List ℕ → Bool) (xs ys : List (List ℕ)) → list_all p xs ≡ true → list_all p ys ≡ true → list_all p (xs ++ ys) ≡ true
-both_listed p xs ys a b = list_all-append p xs ys ∙ ap (λ t. t && list_all p ys) a ∙ b
 
 module _ (n : Network) (sound : IsSound n) (a : Answer) (ended : List (List ℕ)) (ends : AllByRecursion (IsLineOf Ended) ended) (few : drops_in n < 2 ^ 64) where
   abbrev due : Due
@@ -236,11 +225,11 @@ module _ (n : Network) (sound : IsSound n) (a : Answer) (ended : List (List ℕ)
     pub history_whole : IsWholeList due whole_list
     history_whole = record {
       all = class_all;
-      classed = both_listed (is_classed due) (lines history) due.ended (all_listed (is_classed due) (lines history) (classed history shown))
-          (all_listed (is_classed due) due.ended (all_map {P = IsLineOf Ended} (λ l h. classed_ended due told l h.1) due.ended told.ended));
+      classed = both_pass (is_classed due) (lines history) due.ended (all_pass (is_classed due) (lines history) (classed history shown))
+          (all_pass (is_classed due) due.ended (all_map {P = IsLineOf Ended} (λ l h. classed_ended due told l h.1) due.ended told.ended));
       front = lines history;
       lines_are = refl;
-      others = all_listed (λ l. not (is_of_class Ended l)) (lines history)
+      others = all_pass (λ l. not (is_of_class Ended l)) (lines history)
           (all_map {P = λ l. is_of_class Ended l ≡ false} (λ l h. ap not h) (lines history) (none_ended history shown));
     }
 

@@ -4,24 +4,22 @@ use Rattle.std.specs.Prelude.{if◌then◌else◌, slice_get, IsSomeAnd}
 use Rattle.std.specs.List.{AllByRecursion, filter, list_all}
 use Rattle.std.proofs.lemmas.List.{length-append, take-append-drop}
 use Rattle.std.proofs.lemmas.List.Elements.{filter-append}
-use Rattle.std.proofs.lemmas.List.Folds.{list_all-append}
 use Rattle.sq_words.specs.Lists.{IsPrefixOf}
 use Rattle.sq_lines.specs.Classes.{Class, Ended, is_of_class, of_class, whole_lines, unfinished}
 use Rattle.sq_lines.proofs.LineLemmas.{AreLines, Cut, IsFront, cut_prefix, is_line, unfinished-cut, whole_lines-cut, whole_lines-lines, unfinished-lines}
-use Rattle.sq_top.specs.Due.{Due}
-use Rattle.sq_top.specs.Answers.{AreOthersAll, AreOthersWhole, BeginsNext, IsClassIn, IsPrefixText, IsWholeText, is_classed, class_lines}
+use Rattle.sq_drive.specs.Due.{Due}
+use Rattle.sq_drive.specs.Answers.{AreOthersAll, AreOthersWhole, BeginsNext, IsClassIn, IsPrefixText, IsWholeText, is_classed, class_lines}
 use Rattle.sq_lines.specs.RunLines.{lines_text}
-use Rattle.sq_top.proofs.ClassLemmas.{AreAlike, IsDueLine, TellsClasses, alike, all_middle, is_end, is_ended, lines_due, not_ended, plain_class}
-use Rattle.sq_top.proofs.OrderWords.{IsNextOf, EachIsNext, IsLineOrder, AreAll}
+use Rattle.sq_drive.proofs.ClassLemmas.{AreAlike, IsDueLine, TellsClasses, alike, is_ended, lines_due, not_ended, plain_class}
+use Rattle.sq_drive.proofs.OrderWords.{IsNextOf, EachIsNext, IsLineOrder, AreAll}
 use Rattle.sq_words.proofs.Alls.{all_append}
 use Rattle.sq_words.proofs.Lists.{get_next}
+use Rattle.sq_top.proofs.ClassLemmas.{is_end, all_middle}
+use Rattle.sq_drive.proofs.DueLemmas.{both_pass}
 
 filter_one : (p : List ℕ → Bool) (t : Bool) (ls : List (List ℕ)) (l : List ℕ) → p l ≡ t → filter p (ls ++ l ∷ []) ≡ filter p ls ++ (if t then l ∷ [] else [])
 filter_one p true ls l e = filter-append p ls (l ∷ []) ∙ rw e refl
 filter_one p false ls l e = filter-append p ls (l ∷ []) ∙ rw e refl
-
-both_all : (p : List ℕ → Bool) (xs ys : List (List ℕ)) → list_all p xs ≡ true → list_all p ys ≡ true → list_all p (xs ++ ys) ≡ true
-both_all p xs ys a b = list_all-append p xs ys ∙ ap (λ t. t && list_all p ys) a ∙ b
 
 one_passes : (p : List ℕ → Bool) (l : List ℕ) → p l ≡ true → list_all p (l ∷ []) ≡ true
 one_passes p l h = rw h refl
@@ -131,14 +129,14 @@ module _ (d : Due) (s : TellsClasses d) (ls : List (List ℕ)) (has : HaveSoFar 
       record {
         front = ls ++ l ∷ [];
         lines_are = sym (append-nil (ls ++ l ∷ [])) ∙ ap (λ xs. (ls ++ l ∷ []) ++ xs) (sym (stays Ended apart ∙ none));
-        others = both_all (λ x. not (is_of_class Ended x)) ls (l ∷ []) (subst (λ xs. list_all (λ x. not (is_of_class Ended x)) xs ≡ true) (sym front_is) b.others)
+        others = both_pass (λ x. not (is_of_class Ended x)) ls (l ∷ []) (subst (λ xs. list_all (λ x. not (is_of_class Ended x)) xs ≡ true) (sym front_is) b.others)
             (one_passes (λ x. not (is_of_class Ended x)) l (ap not apart));
       }
 
   pub one_more : HaveSoFar d (ls ++ l ∷ [])
   one_more = record {
     each = λ k here. each_by (is_of_class k l) k here refl;
-    classed = both_all (is_classed d) ls (l ∷ []) has.classed (one_passes (is_classed d) l due.2);
+    classed = both_pass (is_classed d) ls (l ∷ []) has.classed (one_passes (is_classed d) l due.2);
     lines = all_append (λ x. is_line false x ≡ true) ls (l ∷ []) has.lines (due.0, tt);
     ends = ends_by (is_ended c) refl;
     behind = behind_by (is_ended c) refl;

@@ -35,17 +35,18 @@ use Rattle.sq_tap.specs.Names.{stream_named}
 use Rattle.sq_tap.specs.Parts.{full_output, tuples_since}
 use Rattle.sq_tap.proofs.Grafts.{answers_joined}
 use Rattle.sq_tap.proofs.Naming.{named_there}
-use Rattle.sq_top.specs.Due.{answer_in, outputs_of, dropped_from, shown_at_output}
+use Rattle.sq_drive.specs.Due.{answer_in, outputs_of, dropped_from, shown_at_output}
 use Rattle.sq_top.specs.Parts.{ShowsPart, ShowsRead, TapsShowParts}
-use Rattle.sq_top.specs.Reads.{GoesBy}
-use Rattle.sq_top.specs.declared.Status.{Status}
-use Rattle.sq_top.specs.declared.Status.TheVariants as status
-use Rattle.sq_top.specs.Scripts.{Done, AcceptedReplay, Script, Stops, after_query, after_stream, after_streams, after_tap, after_tapped, after_words, tap_script, tap_unread, with_sources}
-use Rattle.sq_top.specs.Taps.{Tapped, first_tick, tapped}
-use Rattle.sq_top.proofs.JoinLemmas.{kept_at, kept_few, kept_kinds_of, kept_one, tapped_sound}
-use Rattle.sq_top.proofs.SourceLemmas.{sources_within, streams_more, text_is_recorded}
+use Rattle.sq_work.specs.Reads.{GoesBy}
+use Rattle.sq_status.specs.declared.Status.{Status}
+use Rattle.sq_status.specs.declared.Status.TheVariants as status
+use Rattle.sq_work.specs.Scripts.{Done, AcceptedReplay, Script, Stops, after_query, after_stream, after_streams, after_tap, after_tapped, after_words, tap_script, tap_unread, with_sources}
+use Rattle.sq_work.specs.Taps.{Tapped, first_tick, tapped}
+use Rattle.sq_work.proofs.JoinLemmas.{kept_at, kept_few, kept_kinds_of, kept_one, tapped_sound}
+use Rattle.sq_top.proofs.SourceLemmas.{sources_within, streams_more}
 use Rattle.sq_words.proofs.Bools.{and_true}
 use Rattle.sq_points.specs.Above.{drop_above_output}
+use Rattle.sq_work.proofs.SourceLemmas.{text_is_recorded}
 
 none_passes : {X : Type 0} (p : X → Bool) (xs : List X) → ((x : X) → p x ≡ false) → filter p xs ≡ []
 none_passes p [] none = refl

@@ -1,7 +1,7 @@
 -- What a replay has written: the text of a history, and the end lines behind it.
-use Rattle.std.proofs.Common.{◌≡◌, ℕ, zero, suc, ◌+◌, ◌<◌, ◌^◌, Bool, List, [], ◌∷◌, ◌++◌, length, map, refl, ap, ap₂, sym, ◌∙◌, arith, append_assoc, Option, None, Some, drop}
+use Rattle.std.proofs.Common.{◌≡◌, ℕ, ◌+◌, ◌<◌, ◌^◌, Bool, List, [], ◌∷◌, ◌++◌, length, map, refl, ap, ap₂, sym, ◌∙◌, append_assoc, Option, None, Some, drop}
 use Rattle.std.specs.Prelude.{slice_get}
-use Rattle.std.specs.List.{AllByRecursion, range_with_len}
+use Rattle.std.specs.List.{AllByRecursion}
 use Rattle.sq_words.specs.Lists.{IsPrefixOf, numbers_to}
 use Rattle.sq_lines.specs.Classes.{Ended}
 use Rattle.sq_outside.specs.Sinks.{AppendsPrefix, appended, AppendsSuch}
@@ -17,24 +17,16 @@ use Rattle.sq_model.specs.Shedding.{Replay, record_of}
 use Rattle.sq_start.specs.Nets.{decision_on, drop_decisions}
 use Rattle.sq_core.specs.declared.engine.Engine.{Engine}
 use Rattle.sq_core.specs.Runs.{fed_at, late_at_seat}
-use Rattle.sq_top.specs.declared.Status.{Status}
-use Rattle.sq_top.specs.Due.{Due, answer_in, due_in, ended_in, fed_in, late_counts}
-use Rattle.sq_top.specs.Answers.{IsPrefixText, IsWholeText}
-use Rattle.sq_top.specs.Driving.{BeginsAnswer, IsDriven, IsEventAt, IsHalted, ends_text, history_text}
-use Rattle.sq_top.proofs.ClassLemmas.{IsLineOf}
+use Rattle.sq_status.specs.declared.Status.{Status}
+use Rattle.sq_drive.specs.Due.{Due, answer_in, due_in, ended_in, fed_in, late_counts}
+use Rattle.sq_drive.specs.Answers.{IsPrefixText, IsWholeText}
+use Rattle.sq_drive.specs.Driving.{BeginsAnswer, IsDriven, IsEventAt, IsHalted, ends_text, history_text}
+use Rattle.sq_drive.proofs.ClassLemmas.{IsLineOf}
 use Rattle.sq_top.proofs.EndLemmas.{all_ended, appends_all, few_drops}
 use Rattle.sq_top.proofs.HistoryLemmas.{beginning_of_history, whole_of_history}
 use Rattle.sq_top.proofs.RestLemmas.{prefix_of_history}
-use Rattle.sq_top.proofs.WritingLemmas.{appended-nil}
-
--- two functions that agree below a number
-same_below : (f g : ℕ → ℕ) (from many : ℕ) → ((at : ℕ) → at < from + many → f at ≡ g at) → map f (range_with_len from many) ≡ map g (range_with_len from many)
-same_below f g from zero same = refl
-same_below f g from (suc many) same =
-    ap₂ (λ x xs. x ∷ xs) (same from (omega arith)) (same_below f g (from + 1) many (λ at below. same at (omega (arith, below))))
-
-pub same_numbers : (f g : ℕ → ℕ) (many : ℕ) → ((at : ℕ) → at < many → f at ≡ g at) → map f (numbers_to many) ≡ map g (numbers_to many)
-same_numbers f g many same = same_below f g 0 many (λ at below. same at (omega (arith, below)))
+use Rattle.sq_drive.proofs.WritingLemmas.{appended-nil}
+use Rattle.sq_drive.proofs.SameNumbers.{same_numbers}
 
 module _ (r : Replay) (first : ℕ) (sound : IsSound r.network) where
   abbrev due : Due

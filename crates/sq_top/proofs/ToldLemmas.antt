@@ -9,26 +9,28 @@ use Rattle.sq_outside.specs.Folders.{Files, file}
 use Rattle.sq_reader.specs.Networks.{network_in}
 use Rattle.sq_net.specs.SoundNetworks.{IsSound}
 use Rattle.sq_replay.specs.declared.why.Why.{Why}
-use Rattle.sq_top.specs.declared.Command.{Command}
-use Rattle.sq_top.specs.declared.Command.TheVariants as command
-use Rattle.sq_top.specs.declared.Status.{Status}
-use Rattle.sq_top.specs.declared.Status.TheVariants as status
-use Rattle.sq_top.specs.Commands.{command_in}
-use Rattle.sq_top.specs.Messages.{name_at, network_if_ok}
-use Rattle.sq_top.specs.Scripts.{Lookup, AcceptedReplay, Script, Reads, Done, Stops, accepted, after_words, go_on, outcome_of, readable, file_reads, script_of}
-use Rattle.sq_top.specs.Due.{due_of, replayed}
-use Rattle.sq_top.specs.Reads.{GoesBy, IfAccepted, network_read}
-use Rattle.sq_top.specs.Stopping.{is_garbled}
-use Rattle.sq_top.specs.Causes.{Ends, IsEngineOf, IsPrefixOfDue, IsRefusedAt, IsUnread, IsWholeOf, NamesSource, TellsFor, Outside, is_refusal, turns_for, work_for}
-use Rattle.sq_top.specs.ToldFolders.{EndsOver, FilePart, NetworkFile, CapacityFile, PicksFile, StreamFile, TextFile, FolderHasCause, HasFailedAt, MatchAccepted, NamesTold, limit_of, looked_at, may_be, network_named}
-use Rattle.sq_top.proofs.ClassLemmas.{TellsClasses}
+use Rattle.sq_command.specs.declared.Command.{Command}
+use Rattle.sq_command.specs.declared.Command.TheVariants as command
+use Rattle.sq_status.specs.declared.Status.{Status}
+use Rattle.sq_status.specs.declared.Status.TheVariants as status
+use Rattle.sq_command.specs.Commands.{command_in}
+use Rattle.sq_status.specs.Messages.{name_at, network_if_ok}
+use Rattle.sq_work.specs.Scripts.{Lookup, AcceptedReplay, Script, Reads, Done, Stops, accepted, after_words, go_on, outcome_of, readable, file_reads, script_of}
+use Rattle.sq_drive.specs.Due.{due_of, replayed}
+use Rattle.sq_work.specs.Reads.{GoesBy, IfAccepted, network_read}
+use Rattle.sq_top.specs.Causes.{Ends, IsEngineOf, IsPrefixOfDue, IsWholeOf, TellsFor, Outside, turns_for, work_for}
+use Rattle.sq_top.specs.ToldFolders.{EndsOver, FolderHasCause, HasFailedAt, MatchAccepted, NamesTold, looked_at, network_named}
+use Rattle.sq_drive.proofs.ClassLemmas.{TellsClasses}
 use Rattle.sq_top.proofs.EndLemmas.{begun_nothing, replay_tells_classes}
 use Rattle.sq_top.proofs.ReadsLemmas.{Holds, HoldsFor, IsPartOf, IsRuleOf, is_rule, left_holds, script_holds}
-use Rattle.sq_top.proofs.StopLemmas.{stop_map}
 use Rattle.sq_reader.specs.Limits.{settings_limit}
 use Rattle.sq_outside.specs.Sinks.{AppendsSuch}
 use Rattle.std.proofs.lemmas.Bool.{or_right}
 use Rattle.sq_words.proofs.Lists.{same_bytes_itself}
+use Rattle.sq_status.specs.StatusKinds.{is_refusal, is_garbled}
+use Rattle.sq_work.specs.Refusals.{NamesSource, IsUnread, IsRefusedAt}
+use Rattle.sq_work.specs.FileParts.{FilePart, limit_of, may_be, NetworkFile, CapacityFile, PicksFile, StreamFile, TextFile}
+use Rattle.sq_drive.proofs.StopLemmas.{stop_map}
 
 readable-none : (name : List ℕ) (limit : ℕ) (o : Option (List ℕ)) → o ≡ None → readable name limit o ≡ Err (status.FolderFault name)
 readable-none name limit o e = rw e refl

@@ -6,10 +6,10 @@ use Rattle.std.specs.List.{list_all}
 use Rattle.std.proofs.lemmas.Bool.Decides.{nat_tests}
 use Rattle.sq_words.specs.Lists.{same_bytes}
 use Rattle.sq_value.specs.Texts.{are_digits, number_in}
-use Rattle.sq_top.specs.declared.RunArgs.{RunArgs}
-use Rattle.sq_top.specs.declared.Command.{Command}
-use Rattle.sq_top.specs.declared.Command.TheVariants as command
-use Rattle.sq_top.specs.Commands.{Given, args_of, audit_args, command_in, gen_args, given_from, is_known_option, known_args, lone, number_or, number_within, rule_of, run_args, tap_args, tick_in, option_values}
+use Rattle.sq_command.specs.declared.RunArgs.{RunArgs}
+use Rattle.sq_command.specs.declared.Command.{Command}
+use Rattle.sq_command.specs.declared.Command.TheVariants as command
+use Rattle.sq_command.specs.Commands.{Given, args_of, audit_args, command_in, gen_args, given_from, is_known_option, known_args, lone, number_or, number_within, rule_of, run_args, tap_args, tick_in, option_values}
 use Rattle.sq_value.specs.CommandWords.{Word, may_name}
 use Rattle.sq_words.proofs.Bools.{and_true}
 

@@ -8,12 +8,12 @@ use Rattle.sq_net.specs.declared.Network.{Network}
 use Rattle.sq_reader.specs.Networks.{network_in}
 use Rattle.sq_tap.specs.Names.{stream_named}
 use Rattle.sq_tap.specs.Parts.{full_output, tuples_since}
-use Rattle.sq_top.specs.declared.Command.TheVariants as command
-use Rattle.sq_top.specs.Commands.{command_in}
-use Rattle.sq_top.specs.Due.{due_of, outputs_of}
-use Rattle.sq_top.specs.Reads.{GoesBy}
-use Rattle.sq_top.specs.Scripts.{Done, AcceptedReplay, script_of}
-use Rattle.sq_top.specs.Taps.{first_tick}
+use Rattle.sq_command.specs.declared.Command.TheVariants as command
+use Rattle.sq_command.specs.Commands.{command_in}
+use Rattle.sq_drive.specs.Due.{due_of, outputs_of}
+use Rattle.sq_work.specs.Reads.{GoesBy}
+use Rattle.sq_work.specs.Scripts.{Done, AcceptedReplay, script_of}
+use Rattle.sq_work.specs.Taps.{first_tick}
 
 -- the outputs of a query, and the lines of their full answers where its source recorded this
 abbrev pub shown_over : Network → List Tuple → List (List ℕ × List (List ℕ))

@@ -4,23 +4,27 @@ ghost use Rattle.sq_outside.specs.Disks.{DiskLog, Pages};
 ghost use Rattle.sq_outside.specs.Sinks.{AppendsPrefix, appended};
 ghost use Rattle.sq_net.specs.SoundNetworks.{IsSound};
 ghost use Rattle.sq_points.specs.Limits.{KeepsDropLimits};
-ghost use Rattle.sq_top.specs.declared.Command.TheVariants as Command;
-ghost use Rattle.sq_top.specs.Commands.{command_in};
-ghost use Rattle.sq_top.specs.Scripts.{Done, plain_args, script_of, with_text};
-ghost use Rattle.sq_top.specs.Reads.{ScriptLeads};
-ghost use Rattle.sq_top.specs.Causes.{Ends, IsStopped, is_plain_end, source_told, verdict_text};
-ghost use Rattle.sq_top.specs.CommandViews.{replay_of};
-ghost use Rattle.sq_top.specs.SourceFiles.{AreRecorded};
-ghost use Rattle.sq_top.specs.Writing.{IsLost};
+ghost use Rattle.sq_command.specs.declared.Command.TheVariants as Command;
+ghost use Rattle.sq_command.specs.Commands.{command_in};
+ghost use Rattle.sq_work.specs.Scripts.{Done, plain_args, script_of, with_text};
+ghost use Rattle.sq_work.specs.Reads.{ScriptLeads};
+ghost use Rattle.sq_top.specs.Causes.{Ends, verdict_text};
+ghost use Rattle.sq_work.specs.AcceptedViews.{replay_of};
+ghost use Rattle.sq_work.specs.SourceFiles.{AreRecorded};
+ghost use Rattle.sq_drive.specs.Writing.{IsLost};
 ghost use Rattle.sq_value.specs.CommandWords.{may_name};
+ghost use Rattle.sq_status.specs.Messages.{source_told};
+ghost use Rattle.sq_status.specs.StatusKinds.{is_plain_end};
+ghost use Rattle.sq_work.specs.Refusals.{IsStopped};
 
-use crate::reading::{Accepted, Stopped, prepare, read_file, stopped_by};
-use crate::{RunArgs, Status};
 use sq_audit::{append_verdict_line, audit_text};
+use sq_command::RunArgs;
 use sq_outside::{Failed, Folder, Sink, write_all};
 use sq_replay::Stream;
 use sq_sched::Rule;
+use sq_status::Status;
 use sq_value::{Name, Tuple};
+use sq_work::{Accepted, Stopped, prepare, read_file, stopped_by};
 use std::alloc::{AllocError, Global};
 
 /// How many bytes a text may have that is audited.

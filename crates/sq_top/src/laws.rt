@@ -1,9 +1,9 @@
 // What the ends of runs come to over a folder that tells its files, and over every folder.
 ghost use Rattle.std.specs.Prelude.{◌≡◌, ℕ, List, Some};
 ghost use Rattle.sq_outside.specs.Folders.{Files};
-ghost use Rattle.sq_top.specs.declared.Status.{Status};
+ghost use Rattle.sq_status.specs.declared.Status.{Status};
 ghost use Rattle.sq_top.specs.Causes.{Ends, Outside};
-ghost use Rattle.sq_top.specs.Commands.{command_in};
+ghost use Rattle.sq_command.specs.Commands.{command_in};
 ghost use Rattle.sq_top.specs.Parts.{TapsShowParts};
 ghost use Rattle.sq_top.specs.ToldFolders.{EndsOver, FolderHasCause, looked_at};
 

@@ -9,31 +9,29 @@ ghost use Rattle.sq_points.specs.Limits.{KeepsDropLimits};
 ghost use Rattle.sq_outside.specs.Disks.{Pages};
 ghost use Rattle.sq_pool.specs.Trust.{IsLater, Tells, known};
 ghost use Rattle.sq_core.specs.Runs.{IsRun, IsSoundEngine};
-ghost use Rattle.sq_top.specs.Answers.{IsPrefixText, IsWholeText};
-ghost use Rattle.sq_top.specs.Commands.{command_in, reads_folder, runs_engine};
-ghost use Rattle.sq_top.specs.Causes.{BeginsSummary, Ends, TellsStatus, is_plain_end, is_refusal, source_told};
-ghost use Rattle.sq_top.specs.Summaries.{summary_of};
-ghost use Rattle.sq_top.specs.Stopping.{StopHasCause, is_changed, is_garbled};
-ghost use Rattle.sq_top.specs.Driving.{IsCutShort};
-ghost use Rattle.sq_top.specs.Due.{due_of, replayed, turns_in, work_in};
-ghost use Rattle.sq_top.specs.SourceFiles.{AreRecorded};
-ghost use Rattle.sq_top.specs.CommandViews.{IsAskedBy, replay_of};
+ghost use Rattle.sq_drive.specs.Answers.{IsPrefixText, IsWholeText};
+ghost use Rattle.sq_command.specs.Commands.{command_in, reads_folder, runs_engine};
+ghost use Rattle.sq_top.specs.Causes.{BeginsSummary, Ends};
+ghost use Rattle.sq_drive.specs.Summaries.{summary_of};
+ghost use Rattle.sq_drive.specs.Stopping.{StopHasCause};
+ghost use Rattle.sq_drive.specs.Driving.{IsCutShort};
+ghost use Rattle.sq_drive.specs.Due.{due_of, replayed, turns_in, work_in};
+ghost use Rattle.sq_work.specs.SourceFiles.{AreRecorded};
+ghost use Rattle.sq_work.specs.AcceptedViews.{IsAskedBy, replay_of};
 ghost use Rattle.sq_outside.specs.Sinks.{AppendsSuch};
+ghost use Rattle.sq_status.specs.Messages.{TellsStatus, source_told};
+ghost use Rattle.sq_status.specs.StatusKinds.{is_refusal, is_plain_end, is_changed, is_garbled};
 
 use crate::auditing::audit_files;
-use crate::counting::count;
-use crate::driving::drive;
-use crate::generating::prepare_made;
-use crate::messages::message;
-use crate::reading::{Accepted, Stopped, prepare, stopped_by};
-use crate::summing::write_summary;
-use crate::tapping::{Asked, first_tick, prepare_tap};
-use crate::words::read_words;
-use crate::writing::write_ends;
-use crate::{Command, RunArgs, Status, WordsErr};
+use sq_command::{Command, RunArgs, WordsErr, read_words};
 use sq_core::Engine;
+use sq_drive::{count, drive, write_ends, write_summary};
 use sq_outside::{Folder, PageDisk, Sink, Steps, write_all};
 use sq_sched::Policy;
+use sq_status::{Status, message};
+use sq_work::{
+    Accepted, Asked, Stopped, first_tick, prepare, prepare_made, prepare_tap, stopped_by,
+};
 use std::alloc::Global;
 use std::sync::ledger::Ledger;
 

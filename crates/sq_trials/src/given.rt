@@ -3,7 +3,7 @@ ghost use Rattle.std.specs.Prelude.{◌≡◌, true, IfOk, map};
 ghost use Rattle.sq_net.specs.SoundNetworks.{IsSound, source_within};
 ghost use Rattle.sq_points.specs.Limits.{KeepsDropLimits};
 ghost use Rattle.sq_replay.specs.Laws.{ReadsStreams};
-ghost use Rattle.sq_top.specs.SourceFiles.{AreRecorded};
+ghost use Rattle.sq_work.specs.SourceFiles.{AreRecorded};
 
 use sq_net::{Network, Source};
 use sq_reader::read_network;

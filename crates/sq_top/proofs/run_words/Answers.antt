@@ -1,7 +1,7 @@
-use Rattle.sq_top.specs.Causes.{source_told}
 use Rattle.sq_top.proofs.EndLemmas.{told_ends, told_nothing}
 use Rattle.sq_top.proofs.StopLemmas.{told_plain, told_refused}
 use Rattle.sq_top.proofs.run_words.Goals as goal
+use Rattle.sq_status.specs.Messages.{source_told}
 
 pub returns-in-Ok-clause-ends : goal.returns-in-Ok-clause-ends
 returns-in-Ok-clause-ends g c = (source_told c.run-stopped.result.source, rw c.in-Ok.is at c.run-stopped.ensures.ends, told_nothing (source_told c.run-stopped.result.source) (g.E.Sink.written c.args.err.now) _)

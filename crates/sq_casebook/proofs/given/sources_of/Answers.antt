@@ -1,7 +1,7 @@
 use Rattle.std.proofs.Common.{map, [], ◌∷◌, ◌∙◌, ap}
 use Rattle.std.proofs.lemmas.List.{map-append}
-use Rattle.sq_top.proofs.SourceLemmas.{recorded_more}
 use Rattle.sq_casebook.proofs.given.sources_of.Goals as goal
+use Rattle.sq_work.proofs.SourceLemmas.{recorded_more}
 
 pub sources-preserved : goal.sources-preserved
 sources-preserved c = record {

@@ -1,5 +1,5 @@
 use Rattle.std.proofs.Common.{map, take}
-use Rattle.sq_top.specs.SourceFiles.{AreRecorded}
+use Rattle.sq_work.specs.SourceFiles.{AreRecorded}
 use Rattle.sq_casebook.proofs.given.sources_of.Given as goal
 
 abbrev pub invariant-sources : goal.invariant-sources

@@ -1,5 +1,5 @@
-use Rattle.sq_top.proofs.SourceLemmas.{text_is_recorded}
 use Rattle.sq_casebook.proofs.given.tuples_in.Goals as goal
+use Rattle.sq_work.proofs.SourceLemmas.{text_is_recorded}
 
 pub returns-in-Ok : goal.returns-in-Ok
 returns-in-Ok c =

@@ -1,6 +1,6 @@
 use Rattle.std.proofs.Common.{refl}
-use Rattle.sq_top.specs.Scripts.{with_text}
-use Rattle.sq_top.specs.CommandViews.{replay_of}
+use Rattle.sq_work.specs.Scripts.{with_text}
+use Rattle.sq_work.specs.AcceptedViews.{replay_of}
 use Rattle.sq_top.proofs.AuditLemmas.{audited_cut, audited_ok, lost_plain, stopped_plain}
 use Rattle.sq_top.proofs.EndLemmas.{stopped_ends}
 use Rattle.sq_top.proofs.auditing.audit_files.Goals as goal

@@ -1,8 +1,8 @@
 use Rattle.std.proofs.Common.{Some, ap, sym, ◌∙◌}
-use Rattle.sq_top.specs.declared.Command.TheVariants as command
-use Rattle.sq_top.specs.CommandViews.{replay_of}
+use Rattle.sq_command.specs.declared.Command.TheVariants as command
+use Rattle.sq_work.specs.AcceptedViews.{replay_of}
 use Rattle.sq_top.proofs.AuditLemmas.{accepted_text, run_asked, run_words, stopped_run, stopped_text}
-use Rattle.sq_top.proofs.StoppedLemmas.{unread_later}
+use Rattle.sq_work.proofs.StoppedLemmas.{unread_later}
 use Rattle.sq_top.proofs.auditing.prepare_audit.Goals as goal
 
 pub returns-in-Err-clause-stopped : goal.returns-in-Err-clause-stopped

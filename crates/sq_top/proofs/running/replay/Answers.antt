@@ -2,16 +2,17 @@ use Rattle.std.proofs.Common.{◌≡◌, ◌≤◌, ◌^◌, [], arith, true, fa
 use Rattle.sq_net.specs.declared.Network.{Network}
 use Rattle.sq_pool.specs.Trust.{Tells, known}
 use Rattle.sq_pool.proofs.TrustLemmas.{IsLater-refl, honest-tells}
-use Rattle.sq_top.specs.CommandViews.{replay_of}
-use Rattle.sq_top.specs.declared.Status.TheVariants as status
-use Rattle.sq_top.specs.Driving.{IsCutShort}
-use Rattle.sq_top.specs.Due.{replayed, turns_in}
-use Rattle.sq_top.specs.Stopping.{StopHasCause, is_changed, is_garbled}
-use Rattle.sq_top.proofs.DrivingLemmas.{if_err, not_too_much}
+use Rattle.sq_work.specs.AcceptedViews.{replay_of}
+use Rattle.sq_status.specs.declared.Status.TheVariants as status
+use Rattle.sq_drive.specs.Driving.{IsCutShort}
+use Rattle.sq_drive.specs.Due.{replayed, turns_in}
+use Rattle.sq_drive.specs.Stopping.{StopHasCause}
+use Rattle.sq_drive.proofs.DrivingLemmas.{if_err, not_too_much}
 use Rattle.sq_top.proofs.ReplayLemmas.{replay_cut, replay_ends, replay_halts, replay_waits}
-use Rattle.sq_top.proofs.StopLemmas.{lost_cut, lost_garbled, lost_stop, lost_unchanged, stop_map}
-use Rattle.sq_top.proofs.WritingLemmas.{on_err, on_ok}
+use Rattle.sq_drive.proofs.WritingLemmas.{on_err, on_ok}
 use Rattle.sq_top.proofs.running.replay.Goals as goal
+use Rattle.sq_status.specs.StatusKinds.{is_changed, is_garbled}
+use Rattle.sq_drive.proofs.StopLemmas.{stop_map, lost_cut, lost_stop, lost_unchanged, lost_garbled}
 
 pub returns-in-Err-clause-later : goal.returns-in-Err-clause-later
 returns-in-Err-clause-later g c = IsLater-refl _

@@ -2,12 +2,12 @@ use Rattle.std.proofs.Common.{◌≡◌, None, ap, arith, map, refl, rules, ◌�
 use Rattle.std.specs.String.{string_bytes}
 use Rattle.sq_pool.specs.Trust.{known}
 use Rattle.sq_pool.proofs.TrustLemmas.{IsLater-refl}
-use Rattle.sq_top.specs.declared.Command.{Command}
-use Rattle.sq_top.specs.Commands.{command_in}
-use Rattle.sq_top.specs.Scripts.{script_of}
+use Rattle.sq_command.specs.declared.Command.{Command}
+use Rattle.sq_command.specs.Commands.{command_in}
+use Rattle.sq_work.specs.Scripts.{script_of}
 use Rattle.sq_top.proofs.EndLemmas.{stopped_ends}
 use Rattle.sq_top.proofs.ReadsLemmas.{leads_self}
-use Rattle.sq_top.proofs.StoppedLemmas.{stopped_memory, stopped_usage}
+use Rattle.sq_work.proofs.StoppedLemmas.{stopped_memory, stopped_usage}
 use Rattle.sq_top.proofs.TrainLemmas.{audit_named, command_least, gen_rows, tap_tick}
 use Rattle.sq_top.proofs.running.run.Goals as goal
 

@@ -1,9 +1,9 @@
 use Rattle.std.proofs.Common.{◌≡◌, true, false, refl, ap, sym, ◌∙◌}
 use Rattle.sq_pool.proofs.TrustLemmas.{IsLater-refl}
-use Rattle.sq_top.specs.Commands.{runs_engine}
-use Rattle.sq_top.specs.CommandViews.{replay_of}
+use Rattle.sq_command.specs.Commands.{runs_engine}
+use Rattle.sq_work.specs.AcceptedViews.{replay_of}
 use Rattle.sq_top.proofs.EndLemmas.{driven_cut, driven_ok, prefix_of_run, stopped_ends, whole_of_run}
-use Rattle.sq_top.proofs.StoppedLemmas.{is_command}
+use Rattle.sq_work.proofs.StoppedLemmas.{is_command}
 use Rattle.sq_top.proofs.running.run_files.Goals as goal
 
 pub returns-in-Err-clause-ends : goal.returns-in-Err-clause-ends

@@ -1,7 +1,7 @@
 use Rattle.std.proofs.Common.{◌≡◌, true, false, refl, ap, sym, ◌∙◌}
 use Rattle.sq_pool.proofs.TrustLemmas.{IsLater-refl}
-use Rattle.sq_top.specs.Commands.{runs_engine}
-use Rattle.sq_top.specs.CommandViews.{replay_of}
+use Rattle.sq_command.specs.Commands.{runs_engine}
+use Rattle.sq_work.specs.AcceptedViews.{replay_of}
 use Rattle.sq_top.proofs.EndLemmas.{accepted_made, driven_cut, driven_ok, is_made, prefix_of_made, stopped_ends, stopped_made, whole_of_made}
 use Rattle.sq_top.proofs.running.run_made.Goals as goal
 

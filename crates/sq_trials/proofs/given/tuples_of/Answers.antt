@@ -1,5 +1,5 @@
-use Rattle.sq_top.proofs.SourceLemmas.{text_is_recorded}
 use Rattle.sq_trials.proofs.given.tuples_of.Goals as goal
+use Rattle.sq_work.proofs.SourceLemmas.{text_is_recorded}
 
 pub returns : goal.returns
 returns c =

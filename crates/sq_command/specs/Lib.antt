@@ -1,0 +1,2 @@
+pub mod WordViews
+pub mod Commands

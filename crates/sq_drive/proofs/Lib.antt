@@ -1,0 +1,16 @@
+pub mod ClassLemmas
+pub mod CountLemmas
+pub mod CountingLemmas
+pub mod DrivingLemmas
+pub mod DueLemmas
+pub mod DueWords
+pub mod FailLemmas
+pub mod LeftLemmas
+pub mod MixedLemmas
+pub mod OrderWords
+pub mod Rows
+pub mod SortedLines
+pub mod StopLemmas
+pub mod TextLemmas
+pub mod WritingLemmas
+pub mod SameNumbers

@@ -1,0 +1,17 @@
+use Rattle.std.proofs.Common.{arith}
+use Rattle.sq_lines.specs.RunLines.{event_line}
+use Rattle.sq_lines.proofs.PairLemmas.{text-more}
+use Rattle.sq_drive.proofs.WritingLemmas.{lost_at, moves-then}
+use Rattle.sq_drive.proofs.driving.show_events.Goals as goal
+
+pub returns-in-Err-clause-err : goal.returns-in-Err-clause-err
+returns-in-Err-clause-err g c =
+    lost_at (event_line c.args.network.now) c.args.events.now c.events.event-index c.event-item.result _ _ _ _ c.events.text.items c.events-test.true c.event-item.is c.events.invariant.moves c.in-Err.ensures.err
+
+pub events-preserved : goal.events-preserved
+events-preserved g c =
+    let text = text-more (event_line c.args.network.now) c.args.events.now c.events.event-index c.event-item.result c.events-test.true c.event-item.is in
+    record {
+      moves = rw text (moves-then _ _ _ _ _ _ _ _ c.events.invariant.moves c.in-Ok.ensures.ok);
+      later = omega (arith, c.events.invariant.later, c.in-Ok.ensures.later);
+    }

@@ -1,0 +1,54 @@
+-- What a run that counts its lines knows on its way.
+use Rattle.std.specs.Prelude.{◌≡◌, ℕ, ◌+◌, ◌<◌, List, ◌++◌, length, map, Option}
+use Rattle.std.specs.List.{AllByRecursion}
+use Rattle.sq_words.specs.Lists.{numbers_to}
+use Rattle.sq_outside.specs.Disks.{Pages}
+use Rattle.sq_net.specs.declared.Network.{Network}
+use Rattle.sq_oper.specs.declared.outs.Event.{Event}
+use Rattle.sq_model.specs.Shedding.{Replay}
+use Rattle.sq_flow.specs.Events.{drops_of, lines_of}
+use Rattle.sq_core.specs.declared.engine.Engine.{Engine}
+use Rattle.sq_core.specs.Runs.{IsRun, fed_at, late_at_seat}
+use Rattle.sq_drive.specs.declared.counting.Counts.{Counts}
+use Rattle.sq_drive.specs.Driving.{IsEventAt}
+use Rattle.sq_drive.specs.Summaries.{summary_text}
+use Rattle.sq_points.specs.Points.{drops_in}
+use Rattle.sq_drive.specs.Due.{answer_in, fed_in, late_counts, work_in}
+
+-- there is a count for each output and for each drop
+pub record HasCounts (n : Network) (counts : Counts) : Type 0 where
+  pub lines : length counts.lines.items ≡ length n.outputs
+  pub drops : length counts.drops.items ≡ drops_in n
+
+-- the counts are those of a history
+pub record AreCountsOf (history : List Event) (counts : Counts) : Type 0 where
+  pub lines : counts.lines.items ≡ map (λ o. length (lines_of o history)) (numbers_to (length counts.lines.items))
+  pub drops : counts.drops.items ≡ map (λ w. length (drops_of w history)) (numbers_to (length counts.drops.items))
+
+-- events more were counted, as many counts as before
+pub record Counted (events : List Event) (before now : Counts) : Type 0 where
+  pub lines : length now.lines.items ≡ length before.lines.items
+  pub drops : length now.drops.items ≡ length before.drops.items
+  pub more : (history : List Event) → AreCountsOf history before → AreCountsOf (history ++ events) now
+
+-- an engine went on: it showed these events more, and they were counted
+pub record CountsOn (was is : Option Pages) (from to : Engine) (begun now : ℕ) (before after : Counts) : Type 0 where
+  pub events : List Event
+  pub shown : AllByRecursion (IsEventAt from.network) events
+  pub counted : Counted events before after
+  pub goes : (r : Replay) (history : List Event) (start : ℕ) → IsRun r was from history start begun → IsRun r is to (history ++ events) start now
+
+-- the summary by these counts, and by what the boxes of an engine were fed
+abbrev pub engine_summary : ℕ → ℕ → Engine → Counts → List ℕ
+engine_summary number rows e counts =
+    summary_text number rows e.network counts.lines.items counts.drops.items
+    (map (fed_at e) (numbers_to (length e.network.boxes)))
+    (map (late_at_seat e) (numbers_to (length e.network.boxes)))
+
+-- a run came to its end: the counts are those of its answer, each box was fed what it takes, and the steps are the work
+pub record IsSummed (r : Replay) (engine : Engine) (counts : Counts) (begun steps : ℕ) : Type 0 where
+  pub lines : counts.lines.items ≡ map (λ o. length ((answer_in r).tuples o)) (numbers_to (length r.network.outputs))
+  pub drops : counts.drops.items ≡ map (λ w. length ((answer_in r).decisions w)) (numbers_to (drops_in r.network))
+  pub fed : (at : ℕ) → at < length r.network.boxes → fed_at engine at ≡ fed_in r at
+  pub late : (at : ℕ) → at < length r.network.boxes → late_at_seat engine at ≡ late_counts r at
+  pub work : steps ≡ begun + work_in r

@@ -1,0 +1,16 @@
+//! A run that was accepted, driven to its end: the engine's steps, and the lines that are due, written or counted.
+//!
+//! `drive` promises that an engine which ends has written exactly the lines that are due of each output and drop and of the plans, and
+//! any other end a prefix of each, with the cause of its status; `count` counts the same lines in place of writing them, `write_summary`
+//! writes their numbers, and `write_ends` the lines at the end. Below stand the engine, its schedules and the lines.
+#![tactic(auto)]
+
+mod counting;
+mod driving;
+mod summing;
+mod writing;
+
+pub use counting::{Counts, count};
+pub use driving::drive;
+pub use summing::write_summary;
+pub use writing::write_ends;

@@ -1,0 +1,2 @@
+pub mod StatusKinds
+pub mod Messages
