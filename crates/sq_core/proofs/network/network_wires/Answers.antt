@@ -8,8 +8,8 @@ use Rattle.sq_core.proofs.TableLemmas.{are-feeds, count-is, measured-all}
 use Rattle.sq_core.proofs.OrderLemmas.{network-order}
 use Rattle.sq_core.proofs.network.network_wires.Goals as goal
 
-pub table_of-requires-clause-streams : goal.table_of-requires-clause-streams
-table_of-requires-clause-streams c = c.deref.ensures.value ∙ c.in_ok-streams.ensures ∙ streams_are c.args.n.now
+pub feed_table-requires-clause-streams : goal.feed_table-requires-clause-streams
+feed_table-requires-clause-streams c = c.deref.ensures.value ∙ c.in_ok-streams.ensures ∙ streams_are c.args.n.now
 
 pub actors_of-requires-clause-streams : goal.actors_of-requires-clause-streams
 actors_of-requires-clause-streams c = c.deref-2.ensures.value ∙ c.in_ok-streams.ensures ∙ streams_are c.args.n.now

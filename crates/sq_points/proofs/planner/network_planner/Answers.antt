@@ -5,8 +5,8 @@ use Rattle.sq_points.specs.Losses.{AreFalls}
 use Rattle.sq_points.proofs.Plannable.{weights, plannable, given-is}
 use Rattle.sq_points.proofs.planner.network_planner.Goals as goal
 
-pub table_of-requires : goal.table_of-requires
-table_of-requires c = weights c.args.n.now c.requires.sound
+pub loss_table-requires : goal.loss_table-requires
+loss_table-requires c = weights c.args.n.now c.requires.sound
 
 pub new-requires : goal.new-requires
 new-requires c =

@@ -16,8 +16,8 @@ loop-at-init c =
       ready = rw c.requires.ordered (ready_first c.args.w.now (length c.args.raw.now.boxes) (sym (ap (λ (w : Wiring). length w.boxes) c.requires.wires ∙ wired_length c.args.raw.now)));
     })
 
-pub node_at-requires-clause-takes : goal.node_at-requires-clause-takes
-node_at-requires-clause-takes c =
+pub typed_node-requires-clause-takes : goal.typed_node-requires-clause-takes
+typed_node-requires-clause-takes c =
     let at : ℕ = get_or c.args.order.now c.loop-at.at-index 0 in
     let rest : List ℕ = drop (c.loop-at.at-index + 1) c.args.order.now in
     let front : AreReady c.args.w.now c.loop-at.nodes.items (at ∷ rest) =

@@ -11,7 +11,7 @@ returns-in-Ok-clause-engine g c =
     let a = c.args.self.now in
     let did = c.in-Ok.ensures in
     engine-after _ _ a (record { flow = c.train.new.self; ready = c.remove.new.self; waits = a.waits; failed = a.failed })
-    c.look_at.new.self c.look_at_readers.new.self c.args.pick.actor c.place_in-place.result c.requires.engine c.requires.ready c.place_in-place.ensures.place
+    c.look_at.new.self c.look_at_readers.new.self c.args.pick.actor c.seat_number-place.result c.requires.engine c.requires.ready c.seat_number-place.ensures.place
     did.ok.flow_after did.ok.wires did.ok.seats did.touches c.remove.ensures.list refl c.requires.engine.running c.look_at.ensures c.look_at_readers.ensures
 
 pub returns-in-Ok-clause-order : goal.returns-in-Ok-clause-order
@@ -19,7 +19,7 @@ returns-in-Ok-clause-order g c =
     let a = c.args.self.now in
     let did = c.in-Ok.ensures in
     engine-order _ _ a (record { flow = c.train.new.self; ready = c.remove.new.self; waits = a.waits; failed = a.failed })
-    c.look_at.new.self c.look_at_readers.new.self c.args.pick.actor c.place_in-place.result c.requires.engine c.requires.ready c.place_in-place.ensures.place
+    c.look_at.new.self c.look_at_readers.new.self c.args.pick.actor c.seat_number-place.result c.requires.engine c.requires.ready c.seat_number-place.ensures.place
     did.ok.flow_after did.ok.wires did.ok.seats did.touches c.remove.ensures.list refl c.requires.engine.running c.look_at.ensures c.look_at_readers.ensures
 
 pub returns-in-Ok-clause-closes : goal.returns-in-Ok-clause-closes
@@ -31,15 +31,15 @@ returns-in-Ok-clause-works g c =
     let low : c.args.pick.actor < c.args.self.now.ready.actors = c.requires.engine.below c.args.pick.actor c.requires.ready in
     let many = c.requires.engine.room.actors in
     let listed = (c.requires.engine.exact c.args.pick.actor (omega (arith, low, many))).listed c.requires.ready in
-    let place_is : seat_number (length c.args.self.now.flow.seats.items) c.args.pick.actor ≡ c.place_in-place.result =
-    subst (λ n. seat_number n c.args.pick.actor ≡ c.place_in-place.result) c.requires.engine.flow.shaped.replay_is (sym c.place_in-place.ensures.place)
+    let place_is : seat_number (length c.args.self.now.flow.seats.items) c.args.pick.actor ≡ c.seat_number-place.result =
+    subst (λ n. seat_number n c.args.pick.actor ≡ c.seat_number-place.result) c.requires.engine.flow.shaped.replay_is (sym c.seat_number-place.ensures.place)
     in
     c.in-Ok.ensures.works (subst (IsReady c.args.self.now.flow) place_is listed)
 
 pub returns-in-Ok-clause-stops : goal.returns-in-Ok-clause-stops
 returns-in-Ok-clause-stops g c =
-    let place_is : seat_number (length c.args.self.now.flow.seats.items) c.args.pick.actor ≡ c.place_in-place.result =
-    subst (λ n. seat_number n c.args.pick.actor ≡ c.place_in-place.result) c.requires.engine.flow.shaped.replay_is (sym c.place_in-place.ensures.place)
+    let place_is : seat_number (length c.args.self.now.flow.seats.items) c.args.pick.actor ≡ c.seat_number-place.result =
+    subst (λ n. seat_number n c.args.pick.actor ≡ c.seat_number-place.result) c.requires.engine.flow.shaped.replay_is (sym c.seat_number-place.ensures.place)
     in
     let here = ap (λ n. seat_number n c.args.pick.actor) c.in-Ok.ensures.ok.seats ∙ place_is in
     subst (λ (f : Flow g.row.O.Denot). (c.in-Ok.progress.fed ≡ c.args.pick.train) ⊎ ((c.in-Ok.progress.finished ≡ true) ⊎ (IsReady f (seat_number (length f.seats.items) c.args.pick.actor) → ⊥)))
@@ -51,8 +51,8 @@ returns-in-Ok-clause-took g c =
     let low : c.args.pick.actor < c.args.self.now.ready.actors = c.requires.engine.below c.args.pick.actor c.requires.ready in
     let many = c.requires.engine.room.actors in
     let listed = (c.requires.engine.exact c.args.pick.actor (omega (arith, low, many))).listed c.requires.ready in
-    let place_is : seat_number (length c.args.self.now.flow.seats.items) c.args.pick.actor ≡ c.place_in-place.result =
-    subst (λ n. seat_number n c.args.pick.actor ≡ c.place_in-place.result) c.requires.engine.flow.shaped.replay_is (sym c.place_in-place.ensures.place)
+    let place_is : seat_number (length c.args.self.now.flow.seats.items) c.args.pick.actor ≡ c.seat_number-place.result =
+    subst (λ n. seat_number n c.args.pick.actor ≡ c.seat_number-place.result) c.requires.engine.flow.shaped.replay_is (sym c.seat_number-place.ensures.place)
     in
     let took = c.in-Ok.ensures.took (subst (IsReady c.args.self.now.flow) place_is listed).running in
     subst (λ (f : Flow g.row.O.Denot). Took (seat_number (length c.args.self.now.flow.seats.items) c.args.pick.actor) c.in-Ok.progress.fed c.in-Ok.progress.finished c.args.self.now.flow f)
