@@ -1,11 +1,14 @@
 """What the house's script finds in a small house."""
+import contextlib
 import importlib.machinery
 import importlib.util
+import io
 import os
 import pathlib
 import sys
 import tempfile
 import unittest
+import unittest.mock
 
 sys.dont_write_bytecode = True
 PATH = os.path.join(os.path.dirname(os.path.dirname(os.path.abspath(__file__))), "house")
@@ -48,6 +51,11 @@ class Found(unittest.TestCase):
 
     def test_what_no_clause_reaches(self):
         self.assertEqual(self.house.unreached(), ["wide (crates/low/specs/Words.antt)", "double (crates/high/specs/Words.antt)", "wide (crates/high/specs/Words.antt)"])
+
+    def test_a_house_that_is_not_in_order_fails_where_it_is_judged(self):
+        for words, status in ([], 0), (["--judge"], 1):
+            with contextlib.redirect_stdout(io.StringIO()), unittest.mock.patch.object(sys, "argv", ["house", *words, self.room.name]):
+                self.assertEqual(house.main(), status)
 
     def test_a_library_that_is_named_and_not_cited(self):
         self.assertEqual(list(self.house.uncited()), ["high: spare"])
