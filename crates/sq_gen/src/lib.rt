@@ -37,7 +37,7 @@ pub fn generate(alloc: Global, number: u64, rows: u32) -> Result<Made, AllocErro
 {
     Ok(Made {
         net: copied(alloc, NETWORK)?,
-        stream: ListOf::new(stream::stream_of(alloc, number, rows)?),
+        stream: ListOf::new(stream::stream_text(alloc, number, rows)?),
         capacities: copied(alloc, CAPACITIES)?,
     })
 }

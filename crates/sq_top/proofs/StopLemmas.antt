@@ -1,8 +1,6 @@
 -- Why engines stop, and what is cut short.
 use Rattle.std.proofs.Common.{◌≡◌, ◌≢◌, ◌⊎◌, inl, inr, ℕ, ◌+◌, ◌^◌, ◌≤◌, true, false, refl, ap, sym, ◌∙◌, subst, ◌<◌}
-use Rattle.sq_flow.specs.declared.errors.RunErr.TheVariants as run_err
 use Rattle.sq_outside.specs.Disks.{DiskLog}
-use Rattle.sq_paged.specs.declared.store.QueueErr.TheVariants as queue
 use Rattle.sq_core.specs.declared.engine.Engine.{Engine}
 use Rattle.sq_status.specs.declared.Status.{Status}
 use Rattle.sq_status.specs.declared.Status.TheVariants as status

@@ -8,8 +8,6 @@ use Rattle.sq_command.specs.declared.Command.{Command}
 use Rattle.sq_command.specs.declared.Command.TheVariants as command
 use Rattle.sq_status.specs.declared.Status.{Status}
 use Rattle.sq_status.specs.declared.Status.TheVariants as status
-use Rattle.sq_net.specs.declared.NetErr.TheVariants as net
-use Rattle.sq_tap.specs.declared.TapErr.TheVariants as tap
 use Rattle.sq_pool.specs.Trust.{Tells}
 use Rattle.sq_model.specs.Shedding as model
 use Rattle.sq_core.specs.declared.engine.Engine.{Engine}

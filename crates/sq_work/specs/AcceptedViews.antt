@@ -1,6 +1,5 @@
 -- What code reads, in the terms in which commands and what was accepted are told.
 use Rattle.std.specs.Prelude.{◌≡◌, ℕ, List, [], map, Some}
-use Rattle.sq_command.specs.declared.words.Piece.TheVariants as read
 use Rattle.sq_work.specs.declared.reading.Accepted.{Accepted}
 use Rattle.sq_work.specs.declared.tapping.Asked.{Asked}
 use Rattle.sq_command.specs.declared.Command.TheVariants as command
