@@ -6,6 +6,7 @@ use Rattle.std.proofs.lemmas.Option.{slice_get_within, slice_get_past}
 use Rattle.sq_value.specs.declared.Tuple.{Tuple}
 use Rattle.sq_value.specs.Values.{IsStream}
 use Rattle.sq_item.specs.declared.Item.{Item}
+use Rattle.sq_oper.specs.declared.operator.Operator.{Ghosts}
 use Rattle.sq_oper.specs.Streams.{IsSoundTuple, tuples_in}
 use Rattle.sq_net.specs.declared.Network.{Network}
 use Rattle.sq_net.specs.SoundNetworks.{IsSound}
@@ -21,7 +22,7 @@ use Rattle.sq_actor.specs.declared.actor.Actor.{Actor}
 use Rattle.sq_replay.specs.RecordedTuples.{Recorded}
 use Rattle.sq_flow.specs.declared.flow.Flow.{Flow}
 use Rattle.sq_flow.specs.declared.engine.Engine.{Engine}
-use Rattle.sq_flow.specs.Seats.{Meaning, done_at}
+use Rattle.sq_flow.specs.Seats.{done_at}
 use Rattle.sq_flow.specs.Wiring.{net_of, arcs_read, numbers_in, IsShaped}
 use Rattle.sq_flow.specs.Flows.{tuples_to_come, RiseFrom, world_of, fed_at_last, sum_below}
 use Rattle.sq_flow.specs.Readiness.{stands, IsReady}
@@ -158,7 +159,7 @@ first-of : (xs : List ℕ) → 1 ≤ length xs → (x : ℕ) × (slice_get xs 0 
 first-of [] h = absurd (omega (arith, h))
 first-of (x ∷ xs) h = (x, refl)
 
-module _ {O : Type 0} (m : Meaning O) (valid : O → Type 0) (n : Network) (sound : IsSound n) (e : Engine O) (is : IsEngine m valid e)
+module _ {O : Type 0} (m : Ghosts O) (valid : O → Type 0) (n : Network) (sound : IsSound n) (e : Engine O) (is : IsEngine m valid e)
     (measured : IsTabled n e.flow.wires) (many : length e.flow.seats.items ≡ ops_of n) (runs : e.flow.over ≡ false)
     (bare : (arc : ℕ) → face e.flow.queues arc ≡ record { count = 0; first = None; ended = false }) where
   replay-ready : IsReady e.flow (length e.flow.seats.items)

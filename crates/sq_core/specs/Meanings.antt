@@ -1,21 +1,10 @@
--- What the states of boxes and outputs mean.
+-- What the states of boxes, window drops and outputs mean, in the words of the law of operators.
+use Rattle.sq_oper.specs.declared.operator.Operator.{Ghosts}
 use Rattle.sq_actor.specs.declared.actor.Actor.{Actor}
 use Rattle.sq_actor.specs.contracts.actor.ActorOperator.TheImpl.{ghosts}
-use Rattle.sq_flow.specs.Seats.{Meaning}
 
-abbrev pub actors : Meaning Actor
-actors =
-    record {
-      rest = ghosts.rest;
-      decides = ghosts.decides;
-      lost = ghosts.lost;
-      place = ghosts.place;
-      taken = ghosts.taken;
-      running = ghosts.running;
-      takes_marks = ghosts.takes_marks;
-      fits = ghosts.fits;
-      reads = ghosts.reads;
-    }
+abbrev pub actors : Ghosts Actor
+actors = ghosts
 
 abbrev pub IsValid : Actor → Type 0
 IsValid = ghosts.valid

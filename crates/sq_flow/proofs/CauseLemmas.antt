@@ -12,6 +12,7 @@ use Rattle.sq_pool.specs.Trust.{IsLater}
 use Rattle.sq_pool.proofs.TrustLemmas.{came-since}
 use Rattle.sq_queue.specs.Faces.{IsRefusal}
 use Rattle.sq_paged.specs.KeptPages.{IsTold, NoMisfit}
+use Rattle.sq_oper.specs.declared.operator.Operator.{Ghosts}
 use Rattle.sq_flow.specs.declared.wires.Arc.{Arc}
 use Rattle.sq_flow.specs.declared.seats.Seat.{Seat}
 use Rattle.sq_flow.specs.declared.flow.Flow.{Flow}
@@ -19,7 +20,6 @@ use Rattle.sq_flow.specs.declared.errors.RunErr.{RunErr}
 use Rattle.sq_flow.specs.declared.errors.RunErr.TheVariants as error
 use Rattle.sq_flow.specs.Takes.{MayBeFed, NotChanged}
 use Rattle.sq_flow.specs.Wiring.{arcs_read}
-use Rattle.sq_flow.specs.Seats.{Meaning}
 use Rattle.sq_flow.specs.Flows.{TooMuchOnly}
 use Rattle.sq_flow.specs.Causes.{of_queue, IsQueueCause, IsCauseIn, IsFeedCause, IsPageRefused, HasTaken}
 use Rattle.std.proofs.lemmas.Bool.{false_from_ne_true}
@@ -133,5 +133,5 @@ too-much-in flow was is before now e same = subst (IsCauseIn flow was is before 
 pub counts-none : (queues : Queues) (was is : DiskLog) (before now : ℕ) (e : RunErr) → IsQueueCause queues was is before now e → e ≢ error.TooMuch
 counts-none queues was is before now e h = λ same. subst (IsQueueCause queues was is before now) same h
 
-pub none-too-much : {O : Type 0} (m : Meaning O) (was is : Option Pages) (flow flow' : Flow O) (e : RunErr) → e ≢ error.TooMuch → TooMuchOnly m was is flow flow' e
+pub none-too-much : {O : Type 0} (m : Ghosts O) (was is : Option Pages) (flow flow' : Flow O) (e : RunErr) → e ≢ error.TooMuch → TooMuchOnly m was is flow flow' e
 none-too-much m was is flow flow' e not = record { counted = λ same. absurd (not same); turns = λ same. absurd (not same) }

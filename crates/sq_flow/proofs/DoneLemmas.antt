@@ -3,6 +3,7 @@ use Rattle.std.proofs.Common.{◌≡◌, ◌≢◌, ℕ, zero, suc, ◌+◌, ◌
 use Rattle.std.specs.Prelude.{slice_get, is_some}
 use Rattle.std.proofs.lemmas.Option.{slice_get_past}
 use Rattle.sq_item.specs.declared.Item.{Item}
+use Rattle.sq_oper.specs.declared.operator.Operator.{Ghosts}
 use Rattle.sq_oper.specs.Streams.{tuples_of, tuples_in}
 use Rattle.sq_left.specs.Remainder.{Net, is_known_actor, Each, IsLaidOut}
 use Rattle.sq_left.proofs.MergeLemmas.{eqb-no}
@@ -10,7 +11,7 @@ use Rattle.sq_left.proofs.Conserve.{ended-none, ended-settled}
 use Rattle.sq_queue.specs.Faces.{face}
 use Rattle.sq_flow.specs.declared.flow.Flow.{Flow}
 use Rattle.sq_flow.specs.Wiring.{net_of, arcs_read, numbers_in}
-use Rattle.sq_flow.specs.Seats.{Meaning, done_at, taken_at, lost_at}
+use Rattle.sq_flow.specs.Seats.{done_at, taken_at, lost_at}
 use Rattle.sq_flow.specs.Flows.{world_of, IsFlow, HoldsItems, lines_left, decisions_left, fed_at_last, lost_at_last, sum_below, work_at_last, taken_in_all}
 use Rattle.sq_flow.specs.Readiness.{IsReady, stands}
 use Rattle.sq_flow.specs.declared.engine.Engine.{Engine}
@@ -30,7 +31,7 @@ sums-agree f g zero h = refl
 sums-agree f g (suc n) h =
     ap (λ k. k + f n) (sums-agree f g n (λ k low. h k (omega (arith, low)))) ∙ ap (λ k. sum_below g n + k) (h n (omega arith))
 
-module _ {O : Type 0} (m : Meaning O) (valid : O → Type 0) (e : Flow O) (flow : IsFlow m valid e) where
+module _ {O : Type 0} (m : Ghosts O) (valid : O → Type 0) (e : Flow O) (flow : IsFlow m valid e) where
   abbrev net : Net
   net = net_of e.wires
 
@@ -147,7 +148,7 @@ actor-at ops k low = by (eqb k ops) refl
     by false t = let ne : k ≢ ops = eqb-no k ops t in (suc k, (omega (arith, low, ne), place-next ops k))
 
 -- where no actor is listed all are finished
-pub none-listed : {O : Type 0} (m : Meaning O) (valid : O → Type 0) (engine : Engine O) → IsEngine m valid engine → engine.ready.list ≡ [] → AllDone engine.flow
+pub none-listed : {O : Type 0} (m : Ghosts O) (valid : O → Type 0) (engine : Engine O) → IsEngine m valid engine → engine.ready.list ≡ [] → AllDone engine.flow
 none-listed m valid engine is none actor low = by (done_at engine.flow.over (slice_get engine.flow.seats.items actor)) refl
   where
     by : (b : Bool) → done_at engine.flow.over (slice_get engine.flow.seats.items actor) ≡ b → done_at engine.flow.over (slice_get engine.flow.seats.items actor) ≡ true
@@ -159,7 +160,7 @@ none-listed m valid engine is none actor low = by (done_at engine.flow.over (sli
         absurd (cc (sym (ap (λ xs. contains_number xs a.0) none) ∙ listed))
 
 -- where all are finished no actor is listed
-pub none-ready : {O : Type 0} (m : Meaning O) (valid : O → Type 0) (engine : Engine O) → IsEngine m valid engine → AllDone engine.flow → engine.ready.list ≡ []
+pub none-ready : {O : Type 0} (m : Ghosts O) (valid : O → Type 0) (engine : Engine O) → IsEngine m valid engine → AllDone engine.flow → engine.ready.list ≡ []
 none-ready m valid engine is all = by engine.ready.list refl
   where
     by : (xs : List ℕ) → engine.ready.list ≡ xs → xs ≡ []

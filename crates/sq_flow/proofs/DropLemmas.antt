@@ -5,6 +5,7 @@ use Rattle.sq_value.specs.declared.Value.{Value}
 use Rattle.sq_words.specs.Lists.{IsPrefixOf}
 use Rattle.sq_left.proofs.MergeLemmas.{eqb-no, eqb-not}
 use Rattle.sq_road.specs.Levels.{LevelTable, AgreesWith}
+use Rattle.sq_oper.specs.declared.operator.Operator.{Ghosts}
 use Rattle.sq_oper.specs.declared.outs.Decision.{Decision}
 use Rattle.sq_oper.specs.declared.outs.Event.{Event}
 use Rattle.sq_oper.specs.declared.outs.Event.TheVariants.{Dropped, Plan}
@@ -14,7 +15,7 @@ use Rattle.sq_oper.specs.Order.{moment_after, after_all, InOrder, AllFit, IsFutu
 use Rattle.sq_flow.specs.declared.seats.Seat.{Seat}
 use Rattle.sq_flow.specs.declared.wires.Wires.{Wires}
 use Rattle.sq_flow.specs.Wiring.{IsOwn}
-use Rattle.sq_flow.specs.Seats.{Meaning, holds_at, Owns}
+use Rattle.sq_flow.specs.Seats.{holds_at, Owns}
 use Rattle.sq_flow.specs.Events.{lines_of, of_drop, drops_of, ShowsIn}
 use Rattle.sq_flow.specs.Plans.{plans_of}
 use Rattle.sq_flow.proofs.EventLemmas.{lines-append, plans-append, drops-append}
@@ -93,7 +94,7 @@ pub future-both : (marks : ℕ → Bool) (fits : ℕ → List Value → Bool) (p
 future-both marks fits place xs ys h k = record { in_order = order-both place xs ys h.in_order k.in_order; fitting = fit-both marks fits xs ys h.fitting k.fitting }
 
 -- with more levels an operator owns no less
-pub owns-later : {O : Type 0} (m : Meaning O) (own : Decision → Type 0) (levels levels' : LevelTable) → ((table : ℕ → ℕ → ℕ) → AgreesWith levels' table → AgreesWith levels table)
+pub owns-later : {O : Type 0} (m : Ghosts O) (own : Decision → Type 0) (levels levels' : LevelTable) → ((table : ℕ → ℕ → ℕ) → AgreesWith levels' table → AgreesWith levels table)
     → (o : Option (Seat O)) → holds_at (Owns m own levels) o → holds_at (Owns m own levels') o
 owns-later m own levels levels' before None h = tt
 owns-later m own levels levels' before (Some s) h = λ running table agrees. h running table (before table agrees)

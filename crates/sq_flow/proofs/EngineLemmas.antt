@@ -5,11 +5,11 @@ use Rattle.std.proofs.lemmas.Bool.Decides.{nat_tests}
 use Rattle.sq_sched.specs.ReadyLists.{without_actor, AreActors, OnlyOnce}
 use Rattle.sq_sched.proofs.ReadyLemmas.{once-without, without-gone, without-others, actors-without}
 use Rattle.sq_left.proofs.MergeLemmas.{eqb-no, eqb-not}
+use Rattle.sq_oper.specs.declared.operator.Operator.{Ghosts}
 use Rattle.sq_flow.specs.declared.flow.Flow.{Flow}
 use Rattle.sq_flow.specs.declared.wires.Wires.{Wires}
 use Rattle.sq_flow.specs.declared.engine.Engine.{Engine}
 use Rattle.sq_flow.specs.Wiring.{followers_of, Climbs, IsShaped}
-use Rattle.sq_flow.specs.Seats.{Meaning}
 use Rattle.sq_flow.specs.Flows.{IsFlow}
 use Rattle.sq_flow.specs.Readiness.{is_ready, waiting, TouchesOnly}
 use Rattle.sq_flow.specs.Engines.{seat_number, ExactFor, is_new, newly_ready, listed_after, readers_of, Looked, HasSeats, IsEngine}
@@ -196,7 +196,7 @@ module _ {O : Type 0} (e e' : Flow O) (shaped : IsShaped e.wires (length e.seats
       one x false e h = absurd (cc h)
 
 -- the engine after looks at the actor of a step and at its readers
-module _ {O : Type 0} (m : Meaning O) (valid : O → Type 0) (a b c d : Engine O) (actor place : ℕ) (engine : IsEngine m valid a) (listed : contains_number a.ready.list actor ≡ true)
+module _ {O : Type 0} (m : Ghosts O) (valid : O → Type 0) (a b c d : Engine O) (actor place : ℕ) (engine : IsEngine m valid a) (listed : contains_number a.ready.list actor ≡ true)
     (here : place ≡ seat_number a.flow.wires.replay actor) (flow : IsFlow m valid b.flow) (wires : b.flow.wires ≡ a.flow.wires)
     (seats : length b.flow.seats.items ≡ length a.flow.seats.items) (touched : TouchesOnly place a.flow b.flow)
     (removed : b.ready ≡ record a.ready { list = without_actor actor a.ready.list }) (waits : b.waits.items ≡ a.waits.items)
@@ -286,7 +286,7 @@ pub order-first : {O : Type 0} (a b : Engine O) → a.ready.list ≡ [] → Look
 order-first a b empty looked = list-first a b empty looked ∙ ap (λ f. newly_ready f []) (sym looked.flow)
 
 -- the engine after them
-module _ {O : Type 0} (m : Meaning O) (valid : O → Type 0) (a b : Engine O) (flow : IsFlow m valid a.flow) (room : HasSeats a) (empty : a.ready.list ≡ [])
+module _ {O : Type 0} (m : Ghosts O) (valid : O → Type 0) (a b : Engine O) (flow : IsFlow m valid a.flow) (room : HasSeats a) (empty : a.ready.list ≡ [])
     (running : a.failed ≡ false)
     (looked : Looked (range_with_len 0 (length a.flow.seats.items + 1)) a b) where
   in-range : (x : ℕ) → x ≤ length a.flow.seats.items → contains_number (range_with_len 0 (length a.flow.seats.items + 1)) x ≡ true

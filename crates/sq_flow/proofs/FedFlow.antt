@@ -10,6 +10,7 @@ use Rattle.sq_item.specs.declared.Item.{Item}
 use Rattle.sq_item.specs.declared.Mark.{Mark}
 use Rattle.sq_item.specs.Things.{Thing, spread, spread_all, mark_part, body_part}
 use Rattle.sq_road.specs.Levels.{LevelTable, AgreesWith, level_of}
+use Rattle.sq_oper.specs.declared.operator.Operator.{Ghosts}
 use Rattle.sq_oper.specs.declared.outs.Decision.{Decision}
 use Rattle.sq_oper.specs.declared.outs.Event.{Event}
 use Rattle.sq_oper.specs.Entries.{Entry, at_port, entries}
@@ -40,7 +41,7 @@ use Rattle.sq_flow.specs.declared.heads.Next.TheVariants.{Feed}
 use Rattle.sq_flow.specs.Wiring.{net_of, arcs_read, arc_wired, marked_of, fits_on, from_of, to_of, arc_place, pushed_by, AllOutsFine, IsOwn}
 use Rattle.sq_flow.specs.Heads.{NextUpTo}
 use Rattle.sq_flow.specs.Seats as seat
-use Rattle.sq_flow.specs.Seats.{Meaning, rest_at, decides_at, lost_at, moment_at, done_at, holds_at, IsSeat, Owns, FedSeat}
+use Rattle.sq_flow.specs.Seats.{rest_at, decides_at, lost_at, moment_at, done_at, holds_at, IsSeat, Owns, FedSeat}
 use Rattle.sq_flow.specs.Feeds.{FeedsPart}
 use Rattle.sq_flow.specs.Takes.{takes_of, fits_of, MayBeFed}
 use Rattle.sq_flow.specs.Events.{lines_of, of_drop, drops_of, ShowsIn}
@@ -67,15 +68,15 @@ one-body item port = by item.mark item.body
     by (Some k) (Some f) = refl
 
 -- no less is fed in all than was fed
-pub work-least : {O : Type 0} (m : Meaning O) (table : ℕ → ℕ → ℕ) (items : ℕ → List Item) (e : Flow O) → taken_in_all m e ≤ work_at_last m table items e
+pub work-least : {O : Type 0} (m : Ghosts O) (table : ℕ → ℕ → ℕ) (items : ℕ → List Item) (e : Flow O) → taken_in_all m e ≤ work_at_last m table items e
 work-least m table items e = sum-most (λ k. seat.taken_at m (slice_get e.seats.items k)) (fed_at_last m table items e) (length e.seats.items) (λ k low. omega arith)
 
 -- where nothing was fed
-pub costs-none : {O : Type 0} (m : Meaning O) (valid : O → Type 0) (e : Flow O) → IsFlow m valid e → (was is : Option Pages) (levels : LevelTable) (before after : ℕ) → after ≡ before
+pub costs-none : {O : Type 0} (m : Ghosts O) (valid : O → Type 0) (e : Flow O) → IsFlow m valid e → (was is : Option Pages) (levels : LevelTable) (before after : ℕ) → after ≡ before
     → StepCosts m was is e levels before after
 costs-none m valid e flow was is levels before after same = λ told table agrees holds. let least = work-least m table (items_on e.queues was) e in omega (arith, least, same)
 
-module _ {O : Type 0} (m : Meaning O) (valid : O → Type 0) (e : Flow O) (flow : IsFlow m valid e) (actor tick p at : ℕ) (a : Arc) (item : Item)
+module _ {O : Type 0} (m : Ghosts O) (valid : O → Type 0) (e : Flow O) (flow : IsFlow m valid e) (actor tick p at : ℕ) (a : Arc) (item : Item)
     (actor_in : actor < length e.seats.items)
     (head : NextUpTo (arcs_read e.wires actor) (λ k. (face e.queues k).first) (λ k. (face e.queues k).ended) (length (arcs_read e.wires actor)) (Feed tick p at))
     (s : Seat O) (is_seat : slice_get e.seats.items actor ≡ Some s) (is_arc : slice_get e.wires.arcs.items at ≡ Some a) where

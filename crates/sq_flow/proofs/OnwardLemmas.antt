@@ -5,6 +5,7 @@ use Rattle.std.specs.declared.alloc.Global.{Global}
 use Rattle.sq_item.specs.declared.Item.{Item}
 use Rattle.sq_words.specs.Lists.{IsPrefixOf, contains_number}
 use Rattle.sq_item.specs.Things.{Thing, spread}
+use Rattle.sq_oper.specs.declared.operator.Operator.{Ghosts}
 use Rattle.sq_oper.specs.declared.outs.Decision.{Decision}
 use Rattle.sq_outside.specs.Disks.{DiskLog}
 use Rattle.sq_oper.specs.declared.outs.Event.{Event}
@@ -26,7 +27,7 @@ use Rattle.sq_flow.specs.Sends.{many, sent_to, is_sent_by, Pushes}
 use Rattle.sq_flow.specs.Events.{lines_of, of_drop, drops_of, ShowsIn}
 use Rattle.sq_flow.specs.Plans.{plans_of}
 use Rattle.sq_flow.specs.Shows.{IsShown}
-use Rattle.sq_flow.specs.Seats.{Meaning, FedSeat, FinishedSeat}
+use Rattle.sq_flow.specs.Seats.{FedSeat, FinishedSeat}
 use Rattle.sq_flow.specs.Feeds.{FeedsInto, EndsInto}
 use Rattle.sq_flow.specs.Onwards.{IsOpen, HoldsSame, Came}
 use Rattle.sq_flow.proofs.CauseLemmas.{changed-since, queue-cause-since}
@@ -99,7 +100,7 @@ module _ {D : Type 0} (log : D → DiskLog) (faults : D → ℕ) where
       came s (came-first s (record { within = within; shown = shown; there = there; joined = joined; together = together; whole = whole }) none.0 none.1)
 
   -- a feed and an end, where the outlet was opened
-  module _ {O : Type 0} (m : Meaning O) (valid : O → Type 0) (seat seat' : Seat O) (start s : Onward D) (came : Came log faults start s)
+  module _ {O : Type 0} (m : Ghosts O) (valid : O → Type 0) (seat seat' : Seat O) (start s : Onward D) (came : Came log faults start s)
       (q : Queues) (d : D) (events : List Event) (same_queues : q ≡ s.queues.now) (same_disk : d ≡ s.disk.now) (same_events : events ≡ s.events.now.items) (whole : s.failed ≡ None) where
     pub feeds-into : (levels : LevelTable) (port : ℕ) (item : Item) → FedSeat m valid levels port item s.noted.items s.noted.drops seat seat'
         → FeedsInto m valid levels port item start.wires.now start.actor seat seat' start.queues.now q (known (log start.disk.now)) (known (log d)) start.events.now.items events

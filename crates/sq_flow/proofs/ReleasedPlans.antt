@@ -10,11 +10,11 @@ use Rattle.sq_road.specs.Levels.{LevelTable, level_of, AgreesWith}
 use Rattle.sq_plan.specs.declared.closing.Shown.{Shown}
 use Rattle.sq_plan.specs.Plans.{Setting}
 use Rattle.sq_plan.specs.PlanRows.{is_quiet, level_for, shown_from, shown_after, Ended}
+use Rattle.sq_oper.specs.declared.operator.Operator.{Ghosts}
 use Rattle.sq_oper.specs.declared.outs.Event.{Event}
 use Rattle.sq_queue.specs.declared.Queues.{Queues}
 use Rattle.sq_replay.specs.RecordedTuples.{Recorded}
 use Rattle.sq_flow.specs.declared.flow.Flow.{Flow}
-use Rattle.sq_flow.specs.Seats.{Meaning}
 use Rattle.sq_flow.specs.Events.{lines_of, drops_of, ShowsIn}
 use Rattle.sq_flow.specs.Flows.{IsFlow, RiseFrom, tuples_to_come, to_release}
 use Rattle.sq_flow.specs.Plans.{arrivals, last_arrival, add_counts, counts_of, IsPlanned, plans_left, plans_of, PlansPrefix}
@@ -43,7 +43,7 @@ pub agrees-before : (levels levels' : LevelTable) → ((x w : ℕ) → x < level
     → (table : ℕ → ℕ → ℕ) → AgreesWith levels' table → AgreesWith levels table
 agrees-before levels levels' keeps grows table h epoch drop low = h epoch drop (omega (arith, low, grows)) ∙ keeps epoch drop low
 
-module _ {O : Type 0} (m : Meaning O) (valid : O → Type 0) (e : Flow O) (flow : IsFlow m valid e) (pos : 0 < e.levels.epoch)
+module _ {O : Type 0} (m : Ghosts O) (valid : O → Type 0) (e : Flow O) (flow : IsFlow m valid e) (pos : 0 < e.levels.epoch)
     (port : ℕ) (v more : Recorded) (x : Tuple) (least : IsNextSource e.sources.items port)
     (at : slice_get e.sources.items port ≡ Some v) (front : v.items ≡ x ∷ more.items) where
   abbrev pub epoch_there : ℕ

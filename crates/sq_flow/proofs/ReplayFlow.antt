@@ -10,6 +10,7 @@ use Rattle.sq_item.specs.Things.{Thing, spread, spread_all}
 use Rattle.sq_item.specs.SoundItems.{IsSoundItem}
 use Rattle.sq_road.specs.Levels.{LevelTable, AgreesWith}
 use Rattle.sq_plan.specs.Plans.{Setting}
+use Rattle.sq_oper.specs.declared.operator.Operator.{Ghosts}
 use Rattle.sq_oper.specs.declared.outs.Event.{Event}
 use Rattle.sq_oper.specs.Entries.{Entry}
 use Rattle.sq_oper.specs.Streams.{things, IsSoundTuple, tuples_in}
@@ -35,7 +36,7 @@ use Rattle.sq_flow.proofs.WireLemmas.{one-sent, comes-from}
 use Rattle.sq_flow.specs.declared.seats.Seat.{Seat}
 use Rattle.sq_flow.specs.declared.flow.Flow.{Flow}
 use Rattle.sq_flow.specs.Wiring.{net_of, arcs_from, times_in, from_of, IsOwn}
-use Rattle.sq_flow.specs.Seats.{Meaning, done_at, holds_at, IsSeat}
+use Rattle.sq_flow.specs.Seats.{done_at, holds_at, IsSeat}
 use Rattle.sq_flow.specs.Events.{lines_of, drops_of}
 use Rattle.sq_flow.specs.Flows.{world_of, IsFlow, HoldsItems, Goes, Stepped, ShowsPrefix, RiseFrom, to_release, tuples_to_come, lines_left, decisions_left, turns_at_last, count_all}
 use Rattle.sq_flow.proofs.SendLemmas.{at_or_other, apart-arcs}
@@ -57,13 +58,13 @@ slice_get-not_none (x ∷ xs) zero h = λ e. cc e
 slice_get-not_none (x ∷ xs) (suc i) h = slice_get-not_none xs i (omega (arith, h))
 
 -- the replay stands behind the operators
-pub replay-open : {O : Type 0} (m : Meaning O) (valid : O → Type 0) (e : Flow O) → IsFlow m valid e → e.over ≡ false → done_at e.over (slice_get e.seats.items e.wires.replay) ≡ false
+pub replay-open : {O : Type 0} (m : Ghosts O) (valid : O → Type 0) (e : Flow O) → IsFlow m valid e → e.over ≡ false → done_at e.over (slice_get e.seats.items e.wires.replay) ≡ false
 replay-open m valid e flow open_now =
     let is = flow.shaped.replay_is in
     ap (done_at e.over) (slice_get_past e.seats.items e.wires.replay (omega (arith, is))) ∙ open_now
 
 -- a step of the replay that pushes what the source loses
-module _ {O : Type 0} (m : Meaning O) (valid : O → Type 0) (e : Flow O) (flow : IsFlow m valid e) (table : ℕ → ℕ → ℕ) (items items' : ℕ → List Item) (holds : HoldsItems m table items e)
+module _ {O : Type 0} (m : Ghosts O) (valid : O → Type 0) (e : Flow O) (flow : IsFlow m valid e) (table : ℕ → ℕ → ℕ) (items items' : ℕ → List Item) (holds : HoldsItems m table items e)
     (over' : Bool) (queues' : Queues) (sources' : Vec Recorded Global) (clock' : ℕ) (planner' : Setting) (levels' : LevelTable) (counts' : Vec ℕ Global) (pushed : ℕ → ℕ → List Thing)
     (source : (q : ℕ) → things (to_release e q) ≡ pushed e.wires.replay q ++ things (tuples_to_come (slice_get sources'.items q)))
     (quiet : (other : ℕ) → other ≢ e.wires.replay → (q : ℕ) → pushed other q ≡ [])
@@ -153,7 +154,7 @@ own-sent replay port xs q = ap (λ b. cond b (cond (eqb port q) xs []) []) (eqb_
 not-sent : (replay port : ℕ) (xs : List Thing) (other : ℕ) → other ≢ replay → (q : ℕ) → sent replay port xs other q ≡ []
 not-sent replay port xs other ne q = ap (λ b. cond b (cond (eqb port q) xs []) []) (eqb-not replay other (λ k. ne (sym k)))
 
-module _ {O : Type 0} (m : Meaning O) (valid : O → Type 0) (e : Flow O) (flow : IsFlow m valid e) where
+module _ {O : Type 0} (m : Ghosts O) (valid : O → Type 0) (e : Flow O) (flow : IsFlow m valid e) where
   not-replay : (other : ℕ) → other < length e.seats.items → other ≢ e.wires.replay
   not-replay other low = let r = flow.shaped.replay_is in omega (arith, r, low)
 
@@ -379,7 +380,7 @@ module _ {O : Type 0} (m : Meaning O) (valid : O → Type 0) (e : Flow O) (flow 
               some (slice_get e.seats.items actor) (slice_get-not_none e.seats.items actor (omega (arith, r, away, low)))
 
 -- where no tuple and no decision was shown
-pub lines-stay : {O : Type 0} (m : Meaning O) (was is : Option Pages) (e : Flow O) (levels : LevelTable) (events events' : List Event)
+pub lines-stay : {O : Type 0} (m : Ghosts O) (was is : Option Pages) (e : Flow O) (levels : LevelTable) (events events' : List Event)
     → ((o : ℕ) → lines_of o events' ≡ lines_of o events) → ((w : ℕ) → drops_of w events' ≡ drops_of w events) → ShowsPrefix m was is e levels events events'
 lines-stay m was _ e levels events events' same decides = λ told table agrees holds.
     record {

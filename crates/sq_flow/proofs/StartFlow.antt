@@ -7,6 +7,7 @@ use Rattle.sq_road.specs.Levels.{Rows, level_of}
 use Rattle.sq_plan.specs.PlanRows.{level_for, shown_from, shown_after}
 use Rattle.sq_value.specs.declared.Value.{Value}
 use Rattle.sq_item.specs.declared.Item.{Item}
+use Rattle.sq_oper.specs.declared.operator.Operator.{Ghosts}
 use Rattle.sq_oper.specs.declared.tally.Moment.TheVariants.{Start}
 use Rattle.sq_oper.specs.declared.outs.Decision.{Decision}
 use Rattle.sq_oper.specs.Order.{IsFuture}
@@ -16,14 +17,14 @@ use Rattle.sq_queue.specs.Faces.{face, size}
 use Rattle.sq_flow.specs.declared.seats.Seat.{Seat}
 use Rattle.sq_flow.specs.declared.flow.Flow.{Flow}
 use Rattle.sq_flow.specs.Wiring.{net_of, from_of, IsOwn, IsShaped}
-use Rattle.sq_flow.specs.Seats.{Meaning, rest_at, done_at, moment_at, holds_at, IsSeat, Owns}
+use Rattle.sq_flow.specs.Seats.{rest_at, done_at, moment_at, holds_at, IsSeat, Owns}
 use Rattle.sq_flow.specs.Flows.{world_of, IsFlow, HoldsItems, RiseFrom, to_release}
 use Rattle.sq_flow.specs.Starts.{IsNewSeat}
 use Rattle.sq_flow.specs.Plans.{arrivals, last_arrival, add_counts, streams_left, counts_of, IsPlanned, plans_left}
 use Rattle.sq_flow.proofs.PlanLemmas.{add-zeros, arrivals-len, flat-same}
 use Rattle.sq_words.proofs.Lists.{zeros_at}
 
-module _ {O : Type 0} (m : Meaning O) (valid : O → Type 0) (e : Flow O)
+module _ {O : Type 0} (m : Ghosts O) (valid : O → Type 0) (e : Flow O)
     (shaped : IsShaped e.wires (length e.seats.items)) (lanes : size e.queues ≡ length e.wires.arcs.items)
     (open_all : (arc : ℕ) → (face e.queues arc).ended ≡ false) (runs : e.over ≡ false)
     (seats : (actor : ℕ) → holds_at (IsNewSeat m valid ((net_of e.wires).takes actor) ((net_of e.wires).fits actor) (IsOwn e.wires actor) e.levels.epoch) (slice_get e.seats.items actor))

@@ -4,12 +4,13 @@ use Rattle.std.specs.Prelude.{slice_get}
 use Rattle.std.proofs.lemmas.Option.{same_Some}
 use Rattle.sq_item.specs.declared.Item.{Item}
 use Rattle.sq_item.specs.Things.{Thing, spread}
+use Rattle.sq_oper.specs.declared.operator.Operator.{Ghosts}
 use Rattle.sq_oper.specs.Outflow.{given}
 use Rattle.sq_queue.specs.Faces.{face, size}
 use Rattle.sq_flow.specs.declared.wires.Wires.{Wires}
 use Rattle.sq_flow.specs.declared.flow.Flow.{Flow}
 use Rattle.sq_flow.specs.Wiring.{arcs_from, times_in, from_of, arc_port, pushed_by, IsShaped}
-use Rattle.sq_flow.specs.Seats.{Meaning, done_at}
+use Rattle.sq_flow.specs.Seats.{done_at}
 use Rattle.sq_flow.specs.Sends.{many, sent_to, is_sent_by}
 use Rattle.sq_flow.specs.Flows.{IsFlow}
 use Rattle.sq_words.specs.Lists.{contains_number}
@@ -82,7 +83,7 @@ module _ (wires : Wires) (ops : ℕ) (shaped : IsShaped wires ops) where
       joins false = refl
 
 -- the arcs that come from an actor which isn't finished haven't ended
-pub arcs-open : {O : Type 0} (m : Meaning O) (valid : O → Type 0) (e : Flow O) (flow : IsFlow m valid e) (actor : ℕ) → done_at e.over (slice_get e.seats.items actor) ≡ false
+pub arcs-open : {O : Type 0} (m : Ghosts O) (valid : O → Type 0) (e : Flow O) (flow : IsFlow m valid e) (actor : ℕ) → done_at e.over (slice_get e.seats.items actor) ≡ false
     → (port place arc : ℕ) → slice_get (arcs_from e.wires actor port) place ≡ Some arc → (arc < size e.queues) × ((face e.queues arc).ended ≡ false)
 arcs-open m valid e flow actor open_now port place arc is =
     let r = reads-from e.wires (length e.seats.items) flow.shaped actor port place arc is in

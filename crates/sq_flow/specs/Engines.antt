@@ -2,10 +2,11 @@
 use Rattle.std.specs.Prelude.{◌≡◌, ℕ, ◌+◌, ◌-◌, ◌≤◌, ◌==◌, ◌&&◌, Bool, true, false, not, List, [], ◌∷◌, ◌++◌, map, length, slice_get, slice_index, if◌then◌else◌}
 use Rattle.std.specs.List.{filter, range_with_len}
 use Rattle.sq_sched.specs.ReadyLists.{without_actor, AreActors, OnlyOnce}
+use Rattle.sq_oper.specs.declared.operator.Operator.{Ghosts}
 use Rattle.sq_flow.specs.declared.flow.Flow.{Flow}
 use Rattle.sq_flow.specs.declared.engine.Engine.{Engine}
 use Rattle.sq_flow.specs.Wiring.{followers_of}
-use Rattle.sq_flow.specs.Seats.{Meaning, done_at}
+use Rattle.sq_flow.specs.Seats.{done_at}
 use Rattle.sq_flow.specs.Flows.{IsFlow}
 use Rattle.sq_flow.specs.Readiness.{IsReady, is_ready, waiting}
 use Rattle.sq_words.specs.Lists.{contains_number}
@@ -52,7 +53,7 @@ pub record HasSeats {O : Type 0} (engine : Engine O) : Type 0 where
   pub actors : engine.ready.actors ≡ length engine.flow.seats.items + 1
   pub waits : length engine.waits.items ≡ length engine.flow.seats.items + 1
 
-pub record IsEngine {O : Type 0} (m : Meaning O) (valid : O → Type 0) (engine : Engine O) : Type 0 where
+pub record IsEngine {O : Type 0} (m : Ghosts O) (valid : O → Type 0) (engine : Engine O) : Type 0 where
   pub flow : IsFlow m valid engine.flow
   pub room : HasSeats engine
   pub exact : (actor : ℕ) → actor ≤ length engine.flow.seats.items → ExactFor engine.flow engine.ready.list actor

@@ -4,6 +4,7 @@ use Rattle.sq_words.specs.Lists.{IsPrefixOf}
 use Rattle.sq_item.specs.declared.Item.{Item}
 use Rattle.sq_outside.specs.Disks.{Pages}
 use Rattle.sq_road.specs.Levels.{LevelTable, AgreesWith}
+use Rattle.sq_oper.specs.declared.operator.Operator.{Ghosts}
 use Rattle.sq_oper.specs.declared.outs.Decision.{Decision}
 use Rattle.sq_oper.specs.declared.outs.Event.{Event}
 use Rattle.sq_oper.specs.Entries.{Entry, entries}
@@ -14,11 +15,11 @@ use Rattle.sq_flow.specs.declared.wires.Wires.{Wires}
 use Rattle.sq_flow.specs.declared.seats.Seat.{Seat}
 use Rattle.sq_flow.specs.Wiring.{AllOutsFine}
 use Rattle.sq_flow.specs.Sends.{sent_to, is_sent_by, Pushes}
-use Rattle.sq_flow.specs.Seats.{Meaning, FedSeat, FinishedSeat}
+use Rattle.sq_flow.specs.Seats.{FedSeat, FinishedSeat}
 use Rattle.sq_flow.specs.Shows.{IsShown}
 
 -- a feed: what the operator gave went into the queues, or was shown
-pub record FeedsInto {O : Type 0} (m : Meaning O) (valid : O → Type 0) (levels : LevelTable) (port : ℕ) (item : Item) (wires : Wires) (actor : ℕ)
+pub record FeedsInto {O : Type 0} (m : Ghosts O) (valid : O → Type 0) (levels : LevelTable) (port : ℕ) (item : Item) (wires : Wires) (actor : ℕ)
     (seat seat' : Seat O) (queues queues' : Queues) (was is : Option Pages) (events events' : List Event) : Type 0 where
   pub items : List (ℕ × Item)
   pub drops : List Decision
@@ -27,7 +28,7 @@ pub record FeedsInto {O : Type 0} (m : Meaning O) (valid : O → Type 0) (levels
   pub shown : IsShown wires actor items drops events events'
 
 -- a feed that failed: what it gave before is the beginning of what the operator will give
-pub record FeedsPart {O : Type 0} (m : Meaning O) (levels : LevelTable) (port : ℕ) (item : Item) (wires : Wires) (actor : ℕ) (seat : Seat O) (events events' : List Event) : Type 0 where
+pub record FeedsPart {O : Type 0} (m : Ghosts O) (levels : LevelTable) (port : ℕ) (item : Item) (wires : Wires) (actor : ℕ) (seat : Seat O) (events events' : List Event) : Type 0 where
   pub items : List (ℕ × Item)
   pub drops : List Decision
   pub law : (table : ℕ → ℕ → ℕ) (future : List Entry) → AgreesWith levels table
@@ -39,7 +40,7 @@ pub record FeedsPart {O : Type 0} (m : Meaning O) (levels : LevelTable) (port : 
   pub shown : IsShown wires actor items drops events events'
 
 -- the end of an operator, likewise
-pub record EndsInto {O : Type 0} (m : Meaning O) (valid : O → Type 0) (wires : Wires) (actor : ℕ)
+pub record EndsInto {O : Type 0} (m : Ghosts O) (valid : O → Type 0) (wires : Wires) (actor : ℕ)
     (seat seat' : Seat O) (queues queues' : Queues) (was is : Option Pages) (events events' : List Event) : Type 0 where
   pub items : List (ℕ × Item)
   pub drops : List Decision
@@ -47,7 +48,7 @@ pub record EndsInto {O : Type 0} (m : Meaning O) (valid : O → Type 0) (wires :
   pub sent : Pushes queues queues' was is (sent_to wires actor items) (λ time. AllOutsFine time items) (is_sent_by wires actor)
   pub shown : IsShown wires actor items drops events events'
 
-pub record EndsPart {O : Type 0} (m : Meaning O) (wires : Wires) (actor : ℕ) (seat : Seat O) (events events' : List Event) : Type 0 where
+pub record EndsPart {O : Type 0} (m : Ghosts O) (wires : Wires) (actor : ℕ) (seat : Seat O) (events events' : List Event) : Type 0 where
   pub items : List (ℕ × Item)
   pub drops : List Decision
   pub law : (table : ℕ → ℕ → ℕ) (q : ℕ) → IsPrefixOf (given q items) (m.rest seat.op table [] q)

@@ -6,6 +6,7 @@ use Rattle.sq_item.specs.Things.{Thing, spread_all}
 use Rattle.sq_outside.specs.Disks.{DiskLog, Pages}
 use Rattle.sq_road.specs.Levels.{LevelTable, AgreesWith}
 use Rattle.sq_words.specs.Lists.{IsPrefixOf}
+use Rattle.sq_oper.specs.declared.operator.Operator.{Ghosts}
 use Rattle.sq_oper.specs.declared.outs.Decision.{Decision}
 use Rattle.sq_oper.specs.declared.outs.Event.{Event}
 use Rattle.sq_oper.specs.Outflow.{ThingsUpTo}
@@ -24,7 +25,7 @@ use Rattle.sq_flow.specs.declared.flow.Did.TheVariants.{Waits, Fed, Finished}
 use Rattle.sq_flow.specs.Takes.{NotChanged}
 use Rattle.sq_flow.specs.Causes.{IsFeedCause}
 use Rattle.sq_flow.specs.Wiring.{net_of, from_of, IsOwn, IsShaped}
-use Rattle.sq_flow.specs.Seats.{Meaning, rest_at, decides_at, lost_at, taken_at, moment_at, done_at, holds_at, IsSeat, Owns}
+use Rattle.sq_flow.specs.Seats.{rest_at, decides_at, lost_at, taken_at, moment_at, done_at, holds_at, IsSeat, Owns}
 use Rattle.sq_flow.specs.Events.{lines_of, drops_of, ShowsIn}
 use Rattle.sq_flow.specs.Plans.{IsPlanned, plans_left, plans_of}
 
@@ -37,7 +38,7 @@ abbrev pub to_release : {O : Type 0} → Flow O → ℕ → List Tuple
 to_release flow source = tuples_to_come (slice_get flow.sources.items source)
 
 -- what a run holds, in the words of the law of operators, where these items stand on the arcs
-abbrev pub world_of : {O : Type 0} → Meaning O → (ℕ → ℕ → ℕ) → (ℕ → List Item) → Flow O → Holding
+abbrev pub world_of : {O : Type 0} → Ghosts O → (ℕ → ℕ → ℕ) → (ℕ → List Item) → Flow O → Holding
 world_of m table items flow =
     record {
       rest = λ actor. rest_at m table (slice_get flow.seats.items actor);
@@ -59,7 +60,7 @@ RiseFrom time [] = Unit {0}
 RiseFrom time (x ∷ xs) = (time ≤ x.time) × IsSoundTuple x × RiseFrom x.time xs
 
 -- what each step keeps, over every disk
-pub record IsFlow {O : Type 0} (m : Meaning O) (valid : O → Type 0) (flow : Flow O) : Type 0 where
+pub record IsFlow {O : Type 0} (m : Ghosts O) (valid : O → Type 0) (flow : Flow O) : Type 0 where
   pub shaped : IsShaped flow.wires (length flow.seats.items)
   pub lanes : size flow.queues ≡ length flow.wires.arcs.items
   pub ended : (arc : ℕ) → arc < length flow.wires.arcs.items
@@ -76,20 +77,20 @@ pub record IsFlow {O : Type 0} (m : Meaning O) (valid : O → Type 0) (flow : Fl
   pub over : flow.over ≡ true → (source : ℕ) → to_release flow source ≡ []
 
 -- and at one table of levels, where these items stand on the arcs
-pub record HoldsItems {O : Type 0} (m : Meaning O) (table : ℕ → ℕ → ℕ) (items : ℕ → List Item) (flow : Flow O) : Type 0 where
+pub record HoldsItems {O : Type 0} (m : Ghosts O) (table : ℕ → ℕ → ℕ) (items : ℕ → List Item) (flow : Flow O) : Type 0 where
   pub facts : Facts (net_of flow.wires) (world_of m table items flow) flow.wires.order.items
   pub queued : (arc : ℕ) → AllFine flow.clock (items arc)
 
 -- the tuples that an output will still show
-abbrev pub lines_left : {O : Type 0} → Meaning O → (ℕ → ℕ → ℕ) → (ℕ → List Item) → Flow O → ℕ → List Tuple
+abbrev pub lines_left : {O : Type 0} → Ghosts O → (ℕ → ℕ → ℕ) → (ℕ → List Item) → Flow O → ℕ → List Tuple
 lines_left m table items flow output = tuples_in (coming (net_of flow.wires) (world_of m table items flow) flow.wires.order.items (flow.wires.shown + output) 0)
 
 -- the batches that an operator will still drop
-abbrev pub decisions_left : {O : Type 0} → Meaning O → (ℕ → ℕ → ℕ) → (ℕ → List Item) → Flow O → ℕ → List Decision
+abbrev pub decisions_left : {O : Type 0} → Ghosts O → (ℕ → ℕ → ℕ) → (ℕ → List Item) → Flow O → ℕ → List Decision
 decisions_left m table items flow actor = still_dropped (net_of flow.wires) (world_of m table items flow) flow.wires.order.items actor
 
 -- what is still to be taken from an arc: what stands on it, and then what will still come
-abbrev pub left_on : {O : Type 0} → Meaning O → (ℕ → ℕ → ℕ) → (ℕ → List Item) → Flow O → ℕ → List Thing
+abbrev pub left_on : {O : Type 0} → Ghosts O → (ℕ → ℕ → ℕ) → (ℕ → List Item) → Flow O → ℕ → List Thing
 left_on m table items flow arc = left (net_of flow.wires) (world_of m table items flow) flow.wires.order.items arc
 
 -- the one ends the other: what stands before it was taken
@@ -97,10 +98,10 @@ abbrev pub IsEndOf : {A : Type 0} → List A → List A → Type 0
 IsEndOf {A} xs ys = (taken : List A) × (ys ≡ taken ++ xs)
 
 -- how many tuples an operator will have been fed at the end, and how many of them it will have lost
-abbrev pub fed_at_last : {O : Type 0} → Meaning O → (ℕ → ℕ → ℕ) → (ℕ → List Item) → Flow O → ℕ → ℕ
+abbrev pub fed_at_last : {O : Type 0} → Ghosts O → (ℕ → ℕ → ℕ) → (ℕ → List Item) → Flow O → ℕ → ℕ
 fed_at_last m table items flow actor = fed_in_all (net_of flow.wires) (world_of m table items flow) flow.wires.order.items actor
 
-abbrev pub lost_at_last : {O : Type 0} → Meaning O → (ℕ → ℕ → ℕ) → (ℕ → List Item) → Flow O → ℕ → ℕ
+abbrev pub lost_at_last : {O : Type 0} → Ghosts O → (ℕ → ℕ → ℕ) → (ℕ → List Item) → Flow O → ℕ → ℕ
 lost_at_last m table items flow actor = lost_in_all (net_of flow.wires) (world_of m table items flow) flow.wires.order.items actor
 
 abbrev pub sum_below : (ℕ → ℕ) → ℕ → ℕ
@@ -108,20 +109,20 @@ sum_below f zero = 0
 sum_below f (suc n) = sum_below f n + f n
 
 -- how many tuples all operators were fed, and how many they will have been fed at the end
-abbrev pub taken_in_all : {O : Type 0} → Meaning O → Flow O → ℕ
+abbrev pub taken_in_all : {O : Type 0} → Ghosts O → Flow O → ℕ
 taken_in_all m flow = sum_below (λ actor. taken_at m (slice_get flow.seats.items actor)) (length flow.seats.items)
 
-abbrev pub work_at_last : {O : Type 0} → Meaning O → (ℕ → ℕ → ℕ) → (ℕ → List Item) → Flow O → ℕ
+abbrev pub work_at_last : {O : Type 0} → Ghosts O → (ℕ → ℕ → ℕ) → (ℕ → List Item) → Flow O → ℕ
 work_at_last m table items flow = sum_below (fed_at_last m table items flow) (length flow.seats.items)
 
 -- how many marks and tuples all operators will have taken at the end
-abbrev pub turns_at_last : {O : Type 0} → Meaning O → (ℕ → ℕ → ℕ) → (ℕ → List Item) → Flow O → ℕ
+abbrev pub turns_at_last : {O : Type 0} → Ghosts O → (ℕ → ℕ → ℕ) → (ℕ → List Item) → Flow O → ℕ
 turns_at_last m table items flow =
     flow.taken + sum_below (λ actor. length (inputs (net_of flow.wires) (world_of m table items flow) flow.wires.order.items actor)) (length flow.seats.items)
 
 -- what was shown, and then what is left, stays the same, and so do the numbers of what is fed, lost and taken in all; of each
 -- arc things are taken from the front alone
-pub record Goes {O : Type 0} (m : Meaning O) (table : ℕ → ℕ → ℕ) (items items' : ℕ → List Item) (flow flow' : Flow O) (events events' : List Event) : Type 0 where
+pub record Goes {O : Type 0} (m : Ghosts O) (table : ℕ → ℕ → ℕ) (items items' : ℕ → List Item) (flow flow' : Flow O) (events events' : List Event) : Type 0 where
   pub lines : (output : ℕ) → flow.wires.shown + output < length flow.seats.items
       → lines_of output events ++ lines_left m table items flow output ≡ lines_of output events' ++ lines_left m table items' flow' output
   pub drops : (w : ℕ) → flow.wires.sheds + w < flow.wires.shown
@@ -144,7 +145,7 @@ abbrev pub measure_of : {O : Type 0} → Flow O → ℕ
 measure_of flow = count_all flow.sources.items + (2 ^ 62 - 1 - flow.taken) + (open_seats flow.seats.items + (if flow.over then 0 else 1))
 
 -- what a call that ended Ok did
-pub record Stepped {O : Type 0} (m : Meaning O) (valid : O → Type 0) (was is : Option Pages) (flow flow' : Flow O) (events events' : List Event) : Type 0 where
+pub record Stepped {O : Type 0} (m : Ghosts O) (valid : O → Type 0) (was is : Option Pages) (flow flow' : Flow O) (events events' : List Event) : Type 0 where
   pub flow_after : IsFlow m valid flow'
   pub together : Together flow'.queues is
   pub tells : Tells is → Tells was
@@ -161,19 +162,19 @@ pub record Stepped {O : Type 0} (m : Meaning O) (valid : O → Type 0) (was is :
       → Goes m table (items_in flow was) (items_in flow' is) flow flow' events events'
 
 -- what was shown is a beginning of what was to be shown
-pub record BeginsLines {O : Type 0} (m : Meaning O) (table : ℕ → ℕ → ℕ) (items : ℕ → List Item) (flow : Flow O) (events events' : List Event) : Type 0 where
+pub record BeginsLines {O : Type 0} (m : Ghosts O) (table : ℕ → ℕ → ℕ) (items : ℕ → List Item) (flow : Flow O) (events events' : List Event) : Type 0 where
   pub lines : (output : ℕ) → flow.wires.shown + output < length flow.seats.items
       → IsPrefixOf (lines_of output events') (lines_of output events ++ lines_left m table items flow output)
   pub drops : (w : ℕ) → flow.wires.sheds + w < flow.wires.shown
       → IsPrefixOf (drops_of w events') (drops_of w events ++ decisions_left m table items flow (flow.wires.sheds + w))
 
 -- what a call that failed has shown
-abbrev pub ShowsPrefix : {O : Type 0} → Meaning O → Option Pages → Option Pages → Flow O → LevelTable → List Event → List Event → Type 0
+abbrev pub ShowsPrefix : {O : Type 0} → Ghosts O → Option Pages → Option Pages → Flow O → LevelTable → List Event → List Event → Type 0
 ShowsPrefix m was is flow levels events events' =
     Tells is → (table : ℕ → ℕ → ℕ) → AgreesWith levels table → HoldsItems m table (items_in flow was) flow → BeginsLines m table (items_in flow was) flow events events'
 
 -- and over a disk that is known behind it, it names no item and no page but a garbled one, and none over an honest disk
-abbrev pub NoneStrange : {O : Type 0} → Meaning O → Bool → Option Pages → Option Pages → Flow O → LevelTable → RunErr → Type 0
+abbrev pub NoneStrange : {O : Type 0} → Ghosts O → Bool → Option Pages → Option Pages → Flow O → LevelTable → RunErr → Type 0
 NoneStrange m honest was is flow levels e = Tells is → (table : ℕ → ℕ → ℕ) → AgreesWith levels table → HoldsItems m table (items_in flow was) flow → NotChanged honest e
 
 -- a step that does something lowers the measure
@@ -183,23 +184,23 @@ Lowers Fed before after = after + 1 ≤ before
 Lowers Finished before after = after + 1 ≤ before
 
 -- a step raises the steps by the tuples that it feeds
-abbrev pub CostsFed : {O : Type 0} → Meaning O → Flow O → Flow O → ℕ → ℕ → Type 0
+abbrev pub CostsFed : {O : Type 0} → Ghosts O → Flow O → Flow O → ℕ → ℕ → Type 0
 CostsFed m flow flow' before after = after + taken_in_all m flow ≡ before + taken_in_all m flow'
 
 -- a call that failed raises them by no more than is still to be fed
-abbrev pub StepCosts : {O : Type 0} → Meaning O → Option Pages → Option Pages → Flow O → LevelTable → ℕ → ℕ → Type 0
+abbrev pub StepCosts : {O : Type 0} → Ghosts O → Option Pages → Option Pages → Flow O → LevelTable → ℕ → ℕ → Type 0
 StepCosts m was is flow levels before after =
     Tells is → (table : ℕ → ℕ → ℕ) → AgreesWith levels table → HoldsItems m table (items_in flow was) flow
     → after + taken_in_all m flow ≤ before + work_at_last m table (items_in flow was) flow
 
 -- too much is taken only where as much is to be taken in all, and where the next item would bring the count past its end
-pub record TooMuchOnly {O : Type 0} (m : Meaning O) (was is : Option Pages) (flow flow' : Flow O) (e : RunErr) : Type 0 where
+pub record TooMuchOnly {O : Type 0} (m : Ghosts O) (was is : Option Pages) (flow flow' : Flow O) (e : RunErr) : Type 0 where
   pub counted : e ≡ TooMuch → 2 ^ 62 ≤ flow'.taken + 2
   pub turns : e ≡ TooMuch → Tells is → (table : ℕ → ℕ → ℕ) → AgreesWith flow'.levels table → HoldsItems m table (items_in flow was) flow
       → 2 ^ 62 ≤ turns_at_last m table (items_in flow was) flow
 
 -- the feed at which a run of steps failed, where one did: the flow right before it came of the first by steps
-pub record FailsAt {O : Type 0} (m : Meaning O) (valid : O → Type 0) (log now : DiskLog) (flow flow' : Flow O) (events : List Event) (e : RunErr) : Type 0 where
+pub record FailsAt {O : Type 0} (m : Ghosts O) (valid : O → Type 0) (log now : DiskLog) (flow flow' : Flow O) (events : List Event) (e : RunErr) : Type 0 where
   pub before : Flow O
   pub mid : DiskLog
   pub shown : List Event

@@ -3,6 +3,7 @@ use Rattle.std.specs.Prelude.{◌≡◌, ℕ, ◌+◌, ◌≤◌, Bool, true, fa
 use Rattle.std.specs.List.{AllByRecursion}
 use Rattle.sq_value.specs.declared.Value.{Value}
 use Rattle.sq_item.specs.Things.{Thing}
+use Rattle.sq_oper.specs.declared.operator.Operator.{Ghosts}
 use Rattle.sq_oper.specs.declared.tally.Moment.{Moment}
 use Rattle.sq_oper.specs.declared.tally.Moment.TheVariants.{Start}
 use Rattle.sq_oper.specs.declared.outs.Decision.{Decision}
@@ -13,36 +14,24 @@ use Rattle.sq_oper.specs.Outflow.{given, ItemsSound, ThingsUpTo}
 use Rattle.sq_oper.specs.Order.{IsFuture, after_all}
 use Rattle.sq_flow.specs.declared.seats.Seat.{Seat}
 
--- what the states of a kind of operator mean
-pub record Meaning (O : Type 0) : Type 0 where
-  pub rest : O → (ℕ → ℕ → ℕ) → List Entry → ℕ → List Thing
-  pub decides : O → (ℕ → ℕ → ℕ) → List Entry → List Decision
-  pub lost : O → List Entry → ℕ
-  pub place : O → Moment
-  pub taken : O → ℕ
-  pub running : O → Bool
-  pub takes_marks : O → ℕ → Bool
-  pub fits : O → ℕ → List Value → Bool
-  pub reads : O → ℕ → Bool
-
 -- what the operator in a seat says, and a default where there is none
-abbrev pub rest_at : {O : Type 0} → Meaning O → (ℕ → ℕ → ℕ) → Option (Seat O) → List Entry → ℕ → List Thing
+abbrev pub rest_at : {O : Type 0} → Ghosts O → (ℕ → ℕ → ℕ) → Option (Seat O) → List Entry → ℕ → List Thing
 rest_at m table None future q = []
 rest_at m table (Some seat) future q = m.rest seat.op table future q
 
-abbrev pub decides_at : {O : Type 0} → Meaning O → (ℕ → ℕ → ℕ) → Option (Seat O) → List Entry → List Decision
+abbrev pub decides_at : {O : Type 0} → Ghosts O → (ℕ → ℕ → ℕ) → Option (Seat O) → List Entry → List Decision
 decides_at m table None future = []
 decides_at m table (Some seat) future = m.decides seat.op table future
 
-abbrev pub lost_at : {O : Type 0} → Meaning O → Option (Seat O) → List Entry → ℕ
+abbrev pub lost_at : {O : Type 0} → Ghosts O → Option (Seat O) → List Entry → ℕ
 lost_at m None future = 0
 lost_at m (Some seat) future = m.lost seat.op future
 
-abbrev pub taken_at : {O : Type 0} → Meaning O → Option (Seat O) → ℕ
+abbrev pub taken_at : {O : Type 0} → Ghosts O → Option (Seat O) → ℕ
 taken_at m None = 0
 taken_at m (Some seat) = m.taken seat.op
 
-abbrev pub moment_at : {O : Type 0} → Meaning O → Option (Seat O) → Moment
+abbrev pub moment_at : {O : Type 0} → Ghosts O → Option (Seat O) → Moment
 moment_at m None = Start
 moment_at m (Some seat) = m.place seat.op
 
@@ -57,7 +46,7 @@ holds_at P (Some seat) = P seat
 
 -- the operator is in a valid state, the tally is its own, what comes on its arcs may come to it, and as long as it isn't finished
 -- levels of epochs of so many ticks may be read
-pub record IsSeat {O : Type 0} (m : Meaning O) (valid : O → Type 0) (takes : ℕ → Bool) (fits : ℕ → List Value → Bool) (epoch taken : ℕ) (seat : Seat O) : Type 0 where
+pub record IsSeat {O : Type 0} (m : Ghosts O) (valid : O → Type 0) (takes : ℕ → Bool) (fits : ℕ → List Value → Bool) (epoch taken : ℕ) (seat : Seat O) : Type 0 where
   pub is_valid : valid seat.op
   pub running : m.running seat.op ≡ seat.tally.running
   pub place : m.place seat.op ≡ seat.tally.place
@@ -68,13 +57,13 @@ pub record IsSeat {O : Type 0} (m : Meaning O) (valid : O → Type 0) (takes : �
   pub reads : seat.tally.running ≡ true → m.reads seat.op epoch ≡ true
 
 -- as long as the operator runs all that it may still decide is its own
-abbrev pub Owns : {O : Type 0} → Meaning O → (Decision → Type 0) → LevelTable → Seat O → Type 0
+abbrev pub Owns : {O : Type 0} → Ghosts O → (Decision → Type 0) → LevelTable → Seat O → Type 0
 Owns m own levels seat =
     m.running seat.op ≡ true → (table : ℕ → ℕ → ℕ) → AgreesWith levels table → (future : List Entry) → IsFuture (m.takes_marks seat.op) (m.fits seat.op) (m.place seat.op) future
     → AllByRecursion own (m.decides seat.op table future)
 
 -- what a feed does to a seat: it gives these items and drops these batches
-pub record FedSeat {O : Type 0} (m : Meaning O) (valid : O → Type 0) (levels : LevelTable) (port : ℕ) (item : Item) (outs : List (ℕ × Item)) (drops : List Decision)
+pub record FedSeat {O : Type 0} (m : Ghosts O) (valid : O → Type 0) (levels : LevelTable) (port : ℕ) (item : Item) (outs : List (ℕ × Item)) (drops : List Decision)
     (seat seat' : Seat O) : Type 0 where
   pub law : (table : ℕ → ℕ → ℕ) (future : List Entry) → AgreesWith levels table
       → IsFuture (m.takes_marks seat.op) (m.fits seat.op) (m.place seat.op) (entries port item ++ future)
@@ -97,7 +86,7 @@ pub record FedSeat {O : Type 0} (m : Meaning O) (valid : O → Type 0) (levels :
   pub open_still : seat'.tally.running ≡ seat.tally.running
 
 -- what an end does to a seat
-pub record FinishedSeat {O : Type 0} (m : Meaning O) (valid : O → Type 0) (outs : List (ℕ × Item)) (drops : List Decision) (seat seat' : Seat O) : Type 0 where
+pub record FinishedSeat {O : Type 0} (m : Ghosts O) (valid : O → Type 0) (outs : List (ℕ × Item)) (drops : List Decision) (seat seat' : Seat O) : Type 0 where
   pub law : (table : ℕ → ℕ → ℕ) (q : ℕ) → m.rest seat.op table [] q ≡ given q outs
   pub decided : (table : ℕ → ℕ → ℕ) → m.decides seat.op table [] ≡ drops
   pub loses : m.lost seat.op [] ≡ m.lost seat'.op []

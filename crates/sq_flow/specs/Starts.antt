@@ -2,6 +2,7 @@
 use Rattle.std.specs.Prelude.{◌≡◌, ℕ, Bool, true, false, List, [], Option, None, Vec}
 use Rattle.sq_value.specs.declared.Value.{Value}
 use Rattle.std.specs.List.{AllByRecursion}
+use Rattle.sq_oper.specs.declared.operator.Operator.{Ghosts}
 use Rattle.sq_oper.specs.declared.tally.Moment.TheVariants.{Start}
 use Rattle.sq_oper.specs.declared.outs.Decision.{Decision}
 use Rattle.sq_oper.specs.Entries.{Entry}
@@ -15,11 +16,10 @@ use Rattle.sq_replay.specs.RecordedTuples.{Recorded}
 use Rattle.sq_flow.specs.declared.wires.Wires.{Wires}
 use Rattle.sq_flow.specs.declared.flow.Flow.{Flow}
 use Rattle.sq_flow.specs.declared.seats.Seat.{Seat}
-use Rattle.sq_flow.specs.Seats.{Meaning}
 
 -- the operator is new, what comes on its arcs may come to it, all that it may decide is its own, and levels of epochs of so many
 -- ticks may be read
-pub record IsNewSeat {O : Type 0} (m : Meaning O) (valid : O → Type 0) (takes : ℕ → Bool) (fits : ℕ → List Value → Bool) (own : Decision → Type 0) (epoch : ℕ) (seat : Seat O) : Type 0 where
+pub record IsNewSeat {O : Type 0} (m : Ghosts O) (valid : O → Type 0) (takes : ℕ → Bool) (fits : ℕ → List Value → Bool) (own : Decision → Type 0) (epoch : ℕ) (seat : Seat O) : Type 0 where
   pub is_valid : valid seat.op
   pub running : m.running seat.op ≡ true
   pub place : m.place seat.op ≡ Start

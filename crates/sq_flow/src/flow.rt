@@ -139,23 +139,23 @@ impl<O: Operator + Drop> Flow<O> {
         events: &mut Vec<Event>,
         steps: &mut Steps<L>,
     ) -> Result<(), RunErr>
-        requires flow { IsFlow (record { rest = O.rest; decides = O.decides; lost = O.lost; place = O.place; taken = O.taken; running = O.running; takes_marks = O.takes_marks; fits = O.fits; reads = O.reads }) O.valid self.old }
+        requires flow { IsFlow O.Operator O.valid self.old }
         requires together { Together self.old.queues (known (D.log disk.old)) }
         requires actor_in { actor < length self.old.seats.items }
         requires head { (time : ℕ) × NextUpTo (arcs_read self.old.wires actor) (λ a. (face self.old.queues a).first) (λ a. (face self.old.queues a).ended) (length (arcs_read self.old.wires actor)) (Next.Feed time port arc) }
         requires running { done_at self.old.over (slice_get self.old.seats.items actor) ≡ false }
-        ensures ok { OnOk result (Stepped (record { rest = O.rest; decides = O.decides; lost = O.lost; place = O.place; taken = O.taken; running = O.running; takes_marks = O.takes_marks; fits = O.fits; reads = O.reads }) O.valid (known (D.log disk.old)) (known (D.log disk.new)) self.old self.new events.old.items events.new.items) }
-        ensures prefix { OnErr result (ShowsPrefix (record { rest = O.rest; decides = O.decides; lost = O.lost; place = O.place; taken = O.taken; running = O.running; takes_marks = O.takes_marks; fits = O.fits; reads = O.reads }) (known (D.log disk.old)) (known (D.log disk.new)) self.old self.new.levels events.old.items events.new.items) }
+        ensures ok { OnOk result (Stepped O.Operator O.valid (known (D.log disk.old)) (known (D.log disk.new)) self.old self.new events.old.items events.new.items) }
+        ensures prefix { OnErr result (ShowsPrefix O.Operator (known (D.log disk.old)) (known (D.log disk.new)) self.old self.new.levels events.old.items events.new.items) }
         ensures plans { OnErr result (PlansPrefix self.old self.new.levels events.old.items events.new.items) }
-        ensures strange { IfErr result (λ e. NoneStrange (record { rest = O.rest; decides = O.decides; lost = O.lost; place = O.place; taken = O.taken; running = O.running; takes_marks = O.takes_marks; fits = O.fits; reads = O.reads }) (D.log disk.old).honest (known (D.log disk.old)) (known (D.log disk.new)) self.old self.new.levels e) }
+        ensures strange { IfErr result (λ e. NoneStrange O.Operator (D.log disk.old).honest (known (D.log disk.old)) (known (D.log disk.new)) self.old self.new.levels e) }
         ensures cause { IfErr result (IsCauseIn self.new (D.log disk.old) (D.log disk.new) (D.faults disk.old) (D.faults disk.new)) }
         ensures feed { IfErr result (IsFeedCause self.old self.new (known (D.log disk.old)) (known (D.log disk.new))) }
         ensures faults { D.faults disk.old ≤ D.faults disk.new }
         ensures later { IsLater (D.log disk.old) (D.log disk.new) }
         ensures touches { OnOk result (TouchesOnly actor self.old self.new) }
-        ensures cost { OnOk result (CostsFed (record { rest = O.rest; decides = O.decides; lost = O.lost; place = O.place; taken = O.taken; running = O.running; takes_marks = O.takes_marks; fits = O.fits; reads = O.reads }) self.old self.new steps.old steps.new) }
-        ensures cost_err { OnErr result (StepCosts (record { rest = O.rest; decides = O.decides; lost = O.lost; place = O.place; taken = O.taken; running = O.running; takes_marks = O.takes_marks; fits = O.fits; reads = O.reads }) (known (D.log disk.old)) (known (D.log disk.new)) self.old self.new.levels steps.old steps.new) }
-        ensures too_much { IfErr result (λ e. TooMuchOnly (record { rest = O.rest; decides = O.decides; lost = O.lost; place = O.place; taken = O.taken; running = O.running; takes_marks = O.takes_marks; fits = O.fits; reads = O.reads }) (known (D.log disk.old)) (known (D.log disk.new)) self.old self.new e) }
+        ensures cost { OnOk result (CostsFed O.Operator self.old self.new steps.old steps.new) }
+        ensures cost_err { OnErr result (StepCosts O.Operator (known (D.log disk.old)) (known (D.log disk.new)) self.old self.new.levels steps.old steps.new) }
+        ensures too_much { IfErr result (λ e. TooMuchOnly O.Operator (known (D.log disk.old)) (known (D.log disk.new)) self.old self.new e) }
         ensures closes { (table : ℕ → ℕ → ℕ) → AgreesWith self.new.levels table → AgreesWith self.old.levels table }
         ensures measure { OnOk result (measure_of self.new + 1 ≤ measure_of self.old) }
         ensures stay { IsPrefixOf events.old.items events.new.items }
@@ -194,22 +194,22 @@ impl<O: Operator + Drop> Flow<O> {
         actor: u32,
         events: &mut Vec<Event>,
     ) -> Result<(), RunErr>
-        requires flow { IsFlow (record { rest = O.rest; decides = O.decides; lost = O.lost; place = O.place; taken = O.taken; running = O.running; takes_marks = O.takes_marks; fits = O.fits; reads = O.reads }) O.valid self.old }
+        requires flow { IsFlow O.Operator O.valid self.old }
         requires together { Together self.old.queues (known (D.log disk.old)) }
         requires actor_in { actor < length self.old.seats.items }
         requires head { NextUpTo (arcs_read self.old.wires actor) (λ a. (face self.old.queues a).first) (λ a. (face self.old.queues a).ended) (length (arcs_read self.old.wires actor)) Next.Ended }
         requires running { done_at self.old.over (slice_get self.old.seats.items actor) ≡ false }
-        ensures ok { OnOk result (Stepped (record { rest = O.rest; decides = O.decides; lost = O.lost; place = O.place; taken = O.taken; running = O.running; takes_marks = O.takes_marks; fits = O.fits; reads = O.reads }) O.valid (known (D.log disk.old)) (known (D.log disk.new)) self.old self.new events.old.items events.new.items) }
-        ensures prefix { OnErr result (ShowsPrefix (record { rest = O.rest; decides = O.decides; lost = O.lost; place = O.place; taken = O.taken; running = O.running; takes_marks = O.takes_marks; fits = O.fits; reads = O.reads }) (known (D.log disk.old)) (known (D.log disk.new)) self.old self.new.levels events.old.items events.new.items) }
+        ensures ok { OnOk result (Stepped O.Operator O.valid (known (D.log disk.old)) (known (D.log disk.new)) self.old self.new events.old.items events.new.items) }
+        ensures prefix { OnErr result (ShowsPrefix O.Operator (known (D.log disk.old)) (known (D.log disk.new)) self.old self.new.levels events.old.items events.new.items) }
         ensures plans { OnErr result (PlansPrefix self.old self.new.levels events.old.items events.new.items) }
-        ensures strange { IfErr result (λ e. NoneStrange (record { rest = O.rest; decides = O.decides; lost = O.lost; place = O.place; taken = O.taken; running = O.running; takes_marks = O.takes_marks; fits = O.fits; reads = O.reads }) (D.log disk.old).honest (known (D.log disk.old)) (known (D.log disk.new)) self.old self.new.levels e) }
+        ensures strange { IfErr result (λ e. NoneStrange O.Operator (D.log disk.old).honest (known (D.log disk.old)) (known (D.log disk.new)) self.old self.new.levels e) }
         ensures cause { IfErr result (IsCauseIn self.new (D.log disk.old) (D.log disk.new) (D.faults disk.old) (D.faults disk.new)) }
         ensures feed { IfErr result (IsFeedCause self.old self.new (known (D.log disk.old)) (known (D.log disk.new))) }
         ensures faults { D.faults disk.old ≤ D.faults disk.new }
         ensures later { IsLater (D.log disk.old) (D.log disk.new) }
         ensures memory { IfErr result (λ e. e ≢ RunErr.TooMuch) }
         ensures touches { OnOk result (TouchesOnly actor self.old self.new) }
-        ensures taken { OnOk result (taken_in_all (record { rest = O.rest; decides = O.decides; lost = O.lost; place = O.place; taken = O.taken; running = O.running; takes_marks = O.takes_marks; fits = O.fits; reads = O.reads }) self.new ≡ taken_in_all (record { rest = O.rest; decides = O.decides; lost = O.lost; place = O.place; taken = O.taken; running = O.running; takes_marks = O.takes_marks; fits = O.fits; reads = O.reads }) self.old) }
+        ensures taken { OnOk result (taken_in_all O.Operator self.new ≡ taken_in_all O.Operator self.old) }
         ensures closes { (table : ℕ → ℕ → ℕ) → AgreesWith self.new.levels table → AgreesWith self.old.levels table }
         ensures measure { OnOk result (measure_of self.new + 1 ≤ measure_of self.old) }
         ensures stay { IsPrefixOf events.old.items events.new.items }
@@ -234,20 +234,20 @@ impl<O: Operator + Drop> Flow<O> {
         source: u32,
         events: &mut Vec<Event>,
     ) -> Result<(), RunErr>
-        requires flow { IsFlow (record { rest = O.rest; decides = O.decides; lost = O.lost; place = O.place; taken = O.taken; running = O.running; takes_marks = O.takes_marks; fits = O.fits; reads = O.reads }) O.valid self.old }
+        requires flow { IsFlow O.Operator O.valid self.old }
         requires together { Together self.old.queues (known (D.log disk.old)) }
         requires next { IsNextSource self.old.sources.items source }
-        ensures ok { OnOk result (Stepped (record { rest = O.rest; decides = O.decides; lost = O.lost; place = O.place; taken = O.taken; running = O.running; takes_marks = O.takes_marks; fits = O.fits; reads = O.reads }) O.valid (known (D.log disk.old)) (known (D.log disk.new)) self.old self.new events.old.items events.new.items) }
-        ensures prefix { OnErr result (ShowsPrefix (record { rest = O.rest; decides = O.decides; lost = O.lost; place = O.place; taken = O.taken; running = O.running; takes_marks = O.takes_marks; fits = O.fits; reads = O.reads }) (known (D.log disk.old)) (known (D.log disk.new)) self.old self.new.levels events.old.items events.new.items) }
+        ensures ok { OnOk result (Stepped O.Operator O.valid (known (D.log disk.old)) (known (D.log disk.new)) self.old self.new events.old.items events.new.items) }
+        ensures prefix { OnErr result (ShowsPrefix O.Operator (known (D.log disk.old)) (known (D.log disk.new)) self.old self.new.levels events.old.items events.new.items) }
         ensures plans { OnErr result (PlansPrefix self.old self.new.levels events.old.items events.new.items) }
-        ensures strange { IfErr result (λ e. NoneStrange (record { rest = O.rest; decides = O.decides; lost = O.lost; place = O.place; taken = O.taken; running = O.running; takes_marks = O.takes_marks; fits = O.fits; reads = O.reads }) (D.log disk.old).honest (known (D.log disk.old)) (known (D.log disk.new)) self.old self.new.levels e) }
+        ensures strange { IfErr result (λ e. NoneStrange O.Operator (D.log disk.old).honest (known (D.log disk.old)) (known (D.log disk.new)) self.old self.new.levels e) }
         ensures cause { IfErr result (IsCauseIn self.new (D.log disk.old) (D.log disk.new) (D.faults disk.old) (D.faults disk.new)) }
         ensures feed { IfErr result (IsFeedCause self.old self.new (known (D.log disk.old)) (known (D.log disk.new))) }
         ensures faults { D.faults disk.old ≤ D.faults disk.new }
         ensures later { IsLater (D.log disk.old) (D.log disk.new) }
         ensures memory { IfErr result (λ e. e ≢ RunErr.TooMuch) }
         ensures touches { OnOk result (TouchesOnly (length self.old.seats.items) self.old self.new) }
-        ensures taken { OnOk result (taken_in_all (record { rest = O.rest; decides = O.decides; lost = O.lost; place = O.place; taken = O.taken; running = O.running; takes_marks = O.takes_marks; fits = O.fits; reads = O.reads }) self.new ≡ taken_in_all (record { rest = O.rest; decides = O.decides; lost = O.lost; place = O.place; taken = O.taken; running = O.running; takes_marks = O.takes_marks; fits = O.fits; reads = O.reads }) self.old) }
+        ensures taken { OnOk result (taken_in_all O.Operator self.new ≡ taken_in_all O.Operator self.old) }
         ensures closes { (table : ℕ → ℕ → ℕ) → AgreesWith self.new.levels table → AgreesWith self.old.levels table }
         ensures measure { OnOk result (measure_of self.new + 1 ≤ measure_of self.old) }
         ensures stay { IsPrefixOf events.old.items events.new.items }
@@ -276,12 +276,12 @@ impl<O: Operator + Drop> Flow<O> {
 
     /// Ends the replay.
     pub(crate) fn end_step(&mut self)
-        requires flow { IsFlow (record { rest = O.rest; decides = O.decides; lost = O.lost; place = O.place; taken = O.taken; running = O.running; takes_marks = O.takes_marks; fits = O.fits; reads = O.reads }) O.valid self.old }
+        requires flow { IsFlow O.Operator O.valid self.old }
         requires none { (source : ℕ) → to_release self.old source ≡ [] }
         requires running { self.old.over ≡ false }
-        ensures ok { (pages : Option Pages) (events : List Event) → Together self.old.queues pages → Stepped (record { rest = O.rest; decides = O.decides; lost = O.lost; place = O.place; taken = O.taken; running = O.running; takes_marks = O.takes_marks; fits = O.fits; reads = O.reads }) O.valid pages pages self.old self.new events events }
+        ensures ok { (pages : Option Pages) (events : List Event) → Together self.old.queues pages → Stepped O.Operator O.valid pages pages self.old self.new events events }
         ensures touches { TouchesOnly (length self.old.seats.items) self.old self.new }
-        ensures taken { taken_in_all (record { rest = O.rest; decides = O.decides; lost = O.lost; place = O.place; taken = O.taken; running = O.running; takes_marks = O.takes_marks; fits = O.fits; reads = O.reads }) self.new ≡ taken_in_all (record { rest = O.rest; decides = O.decides; lost = O.lost; place = O.place; taken = O.taken; running = O.running; takes_marks = O.takes_marks; fits = O.fits; reads = O.reads }) self.old }
+        ensures taken { taken_in_all O.Operator self.new ≡ taken_in_all O.Operator self.old }
         ensures closes { (table : ℕ → ℕ → ℕ) → AgreesWith self.new.levels table → AgreesWith self.old.levels table }
         ensures measure { measure_of self.new + 1 ≤ measure_of self.old }
         ensures took { Took (length self.old.seats.items) 0 true self.old self.new }

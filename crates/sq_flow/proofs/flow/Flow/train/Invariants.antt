@@ -11,10 +11,10 @@ abbrev pub invariant-steps : goal.invariant-steps
 invariant-steps g l =
     let op = g.O.Operator in
     record {
-      stepped : Stepped (record { rest = op.rest; decides = op.decides; lost = op.lost; place = op.place; taken = op.taken; running = op.running; takes_marks = op.takes_marks; fits = op.fits; reads = op.reads }) op.valid
+      stepped : Stepped op op.valid
           (known (g.D.PageDisk.log l.fn.disk)) (known (g.D.PageDisk.log l.disk)) l.fn.self l.self l.fn.events.items l.events.items;
       touches : TouchesOnly l.actor l.fn.self l.self;
-      cost : CostsFed (record { rest = op.rest; decides = op.decides; lost = op.lost; place = op.place; taken = op.taken; running = op.running; takes_marks = op.takes_marks; fits = op.fits; reads = op.reads }) l.fn.self l.self l.fn.steps l.steps;
+      cost : CostsFed op l.fn.self l.self l.fn.steps l.steps;
       falls : measure_of l.self + l.fed ≤ measure_of l.fn.self;
       begun : l.fed ≡ 0 → l.self ≡ l.fn.self;
       stay : IsPrefixOf l.fn.events.items l.events.items;
