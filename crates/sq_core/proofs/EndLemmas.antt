@@ -15,7 +15,7 @@ use Rattle.sq_flow.specs.Seats.{taken_at, lost_at, done_at, holds_at, IsSeat}
 use Rattle.sq_flow.specs.Engines.{AllDone}
 use Rattle.sq_flow.specs.Flows.{items_in, IsFlow, HoldsItems, lines_left, decisions_left, fed_at_last, lost_at_last, work_at_last, taken_in_all}
 use Rattle.sq_core.specs.declared.engine.Engine.{Engine}
-use Rattle.sq_core.specs.Meanings.{actors, IsValid}
+use Rattle.sq_core.specs.Meanings.{actors}
 use Rattle.sq_core.specs.Runs.{IsSoundEngine, IsRun, late_in, ShownAll}
 use Rattle.sq_core.proofs.PlanLemmas.{no-plans}
 use Rattle.sq_core.proofs.RunLemmas.{shown-in, shed-in, box-in}
@@ -36,10 +36,10 @@ pub record NothingLeft (e : Engine) : Type 0 where
   pub plans : plans_left e.engine.flow ≡ []
 
 -- a finished operator is late with all that it loses
-late-seat : (flow : Flow Actor) → IsFlow actors IsValid flow → AllDone flow → (actor : ℕ) → actor < length flow.seats.items → late_in (slice_get flow.seats.items actor) ≡ lost_at actors (slice_get flow.seats.items actor) []
+late-seat : (flow : Flow Actor) → IsFlow actors flow → AllDone flow → (actor : ℕ) → actor < length flow.seats.items → late_in (slice_get flow.seats.items actor) ≡ lost_at actors (slice_get flow.seats.items actor) []
 late-seat flow is done actor low = by (slice_get flow.seats.items actor) (is.seats actor) (done actor (omega (arith, low)))
   where
-    by : (o : Option (Seat Actor)) → holds_at (IsSeat actors IsValid ((net_of flow.wires).takes actor) ((net_of flow.wires).fits actor) flow.levels.epoch flow.taken) o → done_at flow.over o ≡ true → late_in o ≡ lost_at actors o []
+    by : (o : Option (Seat Actor)) → holds_at (IsSeat actors ((net_of flow.wires).takes actor) ((net_of flow.wires).fits actor) flow.levels.epoch flow.taken) o → done_at flow.over o ≡ true → late_in o ≡ lost_at actors o []
     by None h d = refl
     by (Some seat) h d = late-lost seat.op h.is_valid (h.running ∙ not_true seat.tally.running d)
 

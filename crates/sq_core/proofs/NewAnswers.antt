@@ -159,7 +159,7 @@ first-of : (xs : List ℕ) → 1 ≤ length xs → (x : ℕ) × (slice_get xs 0 
 first-of [] h = absurd (omega (arith, h))
 first-of (x ∷ xs) h = (x, refl)
 
-module _ {O : Type 0} (m : Ghosts O) (valid : O → Type 0) (n : Network) (sound : IsSound n) (e : Engine O) (is : IsEngine m valid e)
+module _ {O : Type 0} (m : Ghosts O) (n : Network) (sound : IsSound n) (e : Engine O) (is : IsEngine m e)
     (measured : IsTabled n e.flow.wires) (many : length e.flow.seats.items ≡ ops_of n) (runs : e.flow.over ≡ false)
     (bare : (arc : ℕ) → face e.flow.queues arc ≡ record { count = 0; first = None; ended = false }) where
   replay-ready : IsReady e.flow (length e.flow.seats.items)

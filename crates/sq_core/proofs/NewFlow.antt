@@ -36,7 +36,7 @@ use Rattle.sq_flow.specs.Seats.{rest_at, decides_at, lost_at, taken_at, moment_a
 use Rattle.sq_flow.specs.Starts.{IsNewSeat, IsNewFlow}
 use Rattle.sq_flow.specs.Flows.{tuples_to_come, world_of, items_in, taken_in_all}
 use Rattle.sq_flow.specs.Wiring.{net_of, IsOwn}
-use Rattle.sq_core.specs.Meanings.{actors, IsValid}
+use Rattle.sq_core.specs.Meanings.{actors}
 use Rattle.sq_core.specs.Table.{IsTabled}
 use Rattle.sq_core.specs.NewSeats.{IsSeated, AllSeated}
 use Rattle.sq_core.proofs.NetLemmas.{takes-arcs, marks-come, tuples-come, joins-all}
@@ -80,7 +80,7 @@ own-of n w sheds shown actor low d is =
 module _ (n : Network) (sound : IsSound n) (places : (d : ℕ) (p : DropPoint) → slice_get (points_of n) d ≡ Some p → IsAt n p.at) (w : Wires) (measured : IsTabled n w)
     (number : ℕ) (seats : List (Seat operator.Actor)) (seated : AllSeated n number seats) (count : length seats ≡ ops_of n) where
   module _ (marks : MarksAreTaken) (tuples : TuplesAreTaken) (sheds : w.sheds ≡ length n.boxes) (shown : w.shown ≡ first_output n) (epoch : ℕ) (lasts : n.epoch ≡ epoch) where
-    new-seat : (actor : ℕ) (seat : Seat operator.Actor) → actor < ops_of n → IsSeated n number actor seat → IsNewSeat actors IsValid ((net_of w).takes actor) ((net_of w).fits actor) (IsOwn w actor) epoch seat
+    new-seat : (actor : ℕ) (seat : Seat operator.Actor) → actor < ops_of n → IsSeated n number actor seat → IsNewSeat actors ((net_of w).takes actor) ((net_of w).fits actor) (IsOwn w actor) epoch seat
     new-seat actor seat low s =
         record {
           is_valid = s.started.is_valid;
@@ -97,10 +97,10 @@ module _ (n : Network) (sound : IsSound n) (places : (d : ℕ) (p : DropPoint) �
           reads = subst (λ k. actors.reads seat.op k ≡ true) lasts s.started.reads;
         }
 
-    pub new-seats : (actor : ℕ) → holds_at (IsNewSeat actors IsValid ((net_of w).takes actor) ((net_of w).fits actor) (IsOwn w actor) epoch) (slice_get seats actor)
+    pub new-seats : (actor : ℕ) → holds_at (IsNewSeat actors ((net_of w).takes actor) ((net_of w).fits actor) (IsOwn w actor) epoch) (slice_get seats actor)
     new-seats actor = by (slice_get seats actor) refl
       where
-        by : (o : Option (Seat operator.Actor)) → slice_get seats actor ≡ o → holds_at (IsNewSeat actors IsValid ((net_of w).takes actor) ((net_of w).fits actor) (IsOwn w actor) epoch) o
+        by : (o : Option (Seat operator.Actor)) → slice_get seats actor ≡ o → holds_at (IsNewSeat actors ((net_of w).takes actor) ((net_of w).fits actor) (IsOwn w actor) epoch) o
         by None is = _
         by (Some seat) is = (let low = slice_get_within seats actor seat is in new-seat actor seat (omega (arith, low, count)) (seated actor seat is))
 

@@ -32,7 +32,7 @@ use Rattle.sq_flow.specs.Plans.{plans_of, plans_left, PlansPrefix}
 use Rattle.sq_flow.specs.Seats.{taken_at}
 use Rattle.sq_flow.specs.Engines.{IsEngine}
 use Rattle.sq_core.specs.declared.engine.Engine.{Engine}
-use Rattle.sq_core.specs.Meanings.{actors, IsValid}
+use Rattle.sq_core.specs.Meanings.{actors}
 use Rattle.sq_start.specs.Numbers.{first_output, ops_of}
 use Rattle.sq_core.specs.Answers.{Plans, KeepsAnswers}
 use Rattle.sq_core.specs.Runs.{IsSoundEngine, IsRun, ShownSoFar, Stopped}
@@ -101,7 +101,7 @@ box-in e n given sound at low = (let all = sound.operators ∙ ap ops_of given i
 module _ (was is : Option Pages) (e e' : Engine) (events events' : List Event) (same : e'.network ≡ e.network) where
   -- ---- a step that ended Ok
 
-  module _ (stepped : Stepped actors IsValid was is e.engine.flow e'.engine.flow events events') (engine : IsEngine actors IsValid e'.engine) where
+  module _ (stepped : Stepped actors was is e.engine.flow e'.engine.flow events events') (engine : IsEngine actors e'.engine) where
     pub sound-after : IsSoundEngine e → IsSoundEngine e'
     sound-after sound =
         record {
@@ -208,20 +208,20 @@ module _ (was is : Option Pages) (e e' : Engine) (events events' : List Event) (
 -- ---- the clauses of a step
 
 module _ {T : Type 0} (was is : Option Pages) (e e' : Engine) (events events' : List Event) (before after : ℕ) (same : e'.network ≡ e.network) (answer : Result T RunErr) where
-  pub run-clause : OnOk answer (Stepped actors IsValid was is e.engine.flow e'.engine.flow events events') → OnOk answer (IsEngine actors IsValid e'.engine) → OnOk answer (CostsFed actors e.engine.flow e'.engine.flow before after)
+  pub run-clause : OnOk answer (Stepped actors was is e.engine.flow e'.engine.flow events events') → OnOk answer (IsEngine actors e'.engine) → OnOk answer (CostsFed actors e.engine.flow e'.engine.flow before after)
       → OnOk answer ((r : Replay) (history : List Event) (begun : ℕ) → IsRun r was e (history ++ events) begun before → IsRun r is e' (history ++ events') begun after)
   run-clause = by answer
     where
-      by : (o : Result T RunErr) → OnOk o (Stepped actors IsValid was is e.engine.flow e'.engine.flow events events') → OnOk o (IsEngine actors IsValid e'.engine) → OnOk o (CostsFed actors e.engine.flow e'.engine.flow before after)
+      by : (o : Result T RunErr) → OnOk o (Stepped actors was is e.engine.flow e'.engine.flow events events') → OnOk o (IsEngine actors e'.engine) → OnOk o (CostsFed actors e.engine.flow e'.engine.flow before after)
           → OnOk o ((r : Replay) (history : List Event) (begun : ℕ) → IsRun r was e (history ++ events) begun before → IsRun r is e' (history ++ events') begun after)
       by (Ok p) stepped engine cost = run-after was is e e' events events' same stepped engine before after cost
       by (Err err) stepped engine cost = _
 
-  pub shows-clause : OnOk answer (Stepped actors IsValid was is e.engine.flow e'.engine.flow events events') → OnOk answer (IsEngine actors IsValid e'.engine) → IsSoundEngine e
+  pub shows-clause : OnOk answer (Stepped actors was is e.engine.flow e'.engine.flow events events') → OnOk answer (IsEngine actors e'.engine) → IsSoundEngine e
       → OnOk answer (AllByRecursion (IsEventIn (length e.network.outputs) (drops_in e.network)) events → AllByRecursion (IsEventIn (length e.network.outputs) (drops_in e.network)) events')
   shows-clause stepped engine sound = by answer stepped engine
     where
-      by : (o : Result T RunErr) → OnOk o (Stepped actors IsValid was is e.engine.flow e'.engine.flow events events') → OnOk o (IsEngine actors IsValid e'.engine)
+      by : (o : Result T RunErr) → OnOk o (Stepped actors was is e.engine.flow e'.engine.flow events events') → OnOk o (IsEngine actors e'.engine)
           → OnOk o (AllByRecursion (IsEventIn (length e.network.outputs) (drops_in e.network)) events → AllByRecursion (IsEventIn (length e.network.outputs) (drops_in e.network)) events')
       by (Ok p) stepped engine = shows-after was is e e' events events' same stepped engine sound
       by (Err err) stepped engine = _

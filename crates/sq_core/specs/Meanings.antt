@@ -5,6 +5,3 @@ use Rattle.sq_actor.specs.contracts.actor.ActorOperator.TheImpl.{ghosts}
 
 abbrev pub actors : Ghosts Actor
 actors = ghosts
-
-abbrev pub IsValid : Actor → Type 0
-IsValid = ghosts.valid

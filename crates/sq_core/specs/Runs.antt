@@ -24,7 +24,7 @@ use Rattle.sq_flow.specs.Engines.{IsEngine}
 use Rattle.sq_flow.specs.Plans.{plans_of}
 use Rattle.sq_flow.specs.Takes.{NotChanged}
 use Rattle.sq_core.specs.declared.engine.Engine.{Engine}
-use Rattle.sq_core.specs.Meanings.{actors, IsValid}
+use Rattle.sq_core.specs.Meanings.{actors}
 use Rattle.sq_start.specs.Numbers.{first_output, ops_of}
 use Rattle.sq_start.specs.Nets.{decisions_of}
 use Rattle.sq_core.specs.Answers.{Plans, KeepsAnswers}
@@ -35,7 +35,7 @@ pub record IsSoundEngine (e : Engine) : Type 0 where
   pub boxes : e.engine.flow.wires.sheds ≡ length e.network.boxes
   pub drops : e.engine.flow.wires.shown ≡ first_output e.network
   pub operators : length e.engine.flow.seats.items ≡ ops_of e.network
-  pub engine : IsEngine actors IsValid e.engine
+  pub engine : IsEngine actors e.engine
 
 -- the engine is at work on a replay. History is what it has shown, begun is what the counter of steps said when nothing was fed,
 -- and steps is what it says now

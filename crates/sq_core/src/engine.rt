@@ -55,7 +55,7 @@ impl Engine {
     ghost use Rattle.sq_flow.specs.Plans.{plans_left};
     ghost use Rattle.sq_flow.specs.Readiness.{IsReady, FallsBy, Took};
     ghost use Rattle.sq_flow.specs.Engines.{seat_number, listed_after, AllDone};
-    ghost use Rattle.sq_core.specs.Meanings.{IsValid, actors};
+    ghost use Rattle.sq_core.specs.Meanings.{actors};
     ghost use Rattle.sq_core.specs.Runs.{IsSoundEngine, IsRun, ShownSoFar, Stopped, ShownAll, fed_at, late_at_seat};
 
     /// An engine that has released nothing yet of what the sources recorded, one list for each source. `seed` is that of the
@@ -135,11 +135,11 @@ impl Engine {
         ensures later { IsLater (D.log disk.old) (D.log disk.new) }
         ensures faults { D.faults disk.old ≤ D.faults disk.new }
         ensures cause { IfErr result (IsCauseIn self.new.engine.flow (D.log disk.old) (D.log disk.new) (D.faults disk.old) (D.faults disk.new)) }
-        ensures feed { IfErr result (FailsAt actors IsValid (D.log disk.old) (D.log disk.new) self.old.engine.flow self.new.engine.flow events.old.items) }
+        ensures feed { IfErr result (FailsAt actors (D.log disk.old) (D.log disk.new) self.old.engine.flow self.new.engine.flow events.old.items) }
         ensures run { OnOk result ((r : Replay) (history : List Event) (begun : ℕ)
             → IsRun r (known (D.log disk.old)) self.old (history ++ events.old.items) begun steps.old
             → IsRun r (known (D.log disk.new)) self.new (history ++ events.new.items) begun steps.new) }
-        ensures goes { OnOk result (Stepped actors IsValid (known (D.log disk.old)) (known (D.log disk.new)) self.old.engine.flow self.new.engine.flow events.old.items events.new.items) }
+        ensures goes { OnOk result (Stepped actors (known (D.log disk.old)) (known (D.log disk.new)) self.old.engine.flow self.new.engine.flow events.old.items events.new.items) }
         ensures stopped { IfErr result (λ e. Tells (known (D.log disk.new)) → (r : Replay) (history : List Event) (begun : ℕ)
             → IsRun r (known (D.log disk.old)) self.old (history ++ events.old.items) begun steps.old
             → Stopped (D.log disk.old).honest r (history ++ events.new.items) begun steps.new e) }

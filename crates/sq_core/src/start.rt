@@ -13,7 +13,7 @@ ghost use Rattle.sq_queue.specs.Faces as faces;
 ghost use Rattle.sq_queue.specs.Faces.{Together};
 ghost use Rattle.sq_flow.specs.Engines.{IsEngine};
 ghost use Rattle.sq_flow.specs.Flows.{items_in, taken_in_all};
-ghost use Rattle.sq_core.specs.Meanings.{actors, IsValid};
+ghost use Rattle.sq_core.specs.Meanings.{actors};
 ghost use Rattle.sq_start.specs.Numbers.{first_output, ops_of};
 ghost use Rattle.sq_core.specs.Answers.{Plans, KeepsAnswers};
 
@@ -75,7 +75,7 @@ pub(crate) fn network_engine(
     requires few_tuples { AllByRecursion (λ xs. length xs ≤ 1000000) (map (λ v. v.items) sources.items) }
     requires fit { SourcesFit n.now (map (λ v. v.items) sources.items) }
     requires frames { 2 ≤ frames }
-    ensures engine { IfOk result (λ e. IsEngine actors IsValid e) }
+    ensures engine { IfOk result (λ e. IsEngine actors e) }
     ensures boxes { IfOk result (λ e. e.flow.wires.sheds ≡ length n.now.boxes) }
     ensures drops { IfOk result (λ e. e.flow.wires.shown ≡ first_output n.now) }
     ensures operators { IfOk result (λ e. length e.flow.seats.items ≡ ops_of n.now) }

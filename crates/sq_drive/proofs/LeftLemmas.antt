@@ -21,7 +21,7 @@ use Rattle.sq_flow.specs.Plans.{IsPlanned, plans_left, plans_of}
 use Rattle.sq_flow.proofs.EventLemmas.{drops-append, lines-append, plans-append}
 use Rattle.sq_flow.proofs.StepLemmas.{stepped-both}
 use Rattle.sq_core.specs.declared.engine.Engine.{Engine}
-use Rattle.sq_core.specs.Meanings.{IsValid, actors}
+use Rattle.sq_core.specs.Meanings.{actors}
 use Rattle.sq_core.specs.Runs.{IsSoundEngine}
 use Rattle.sq_core.proofs.RunLemmas.{shed-in, shown-in}
 use Rattle.sq_drive.specs.Writing.{Moves}
@@ -32,7 +32,7 @@ use Rattle.sq_words.proofs.Alls.{all_append}
 
 -- nothing was done
 stepped_none : (pages : Option Pages) (e : Engine) → IsSoundEngine e → Together e.engine.flow.queues pages
-    → Stepped actors IsValid pages pages e.engine.flow e.engine.flow [] []
+    → Stepped actors pages pages e.engine.flow e.engine.flow [] []
 stepped_none pages e sound together = record {
   flow_after = sound.engine.flow;
   together = together;
@@ -50,8 +50,8 @@ stepped_none pages e sound together = record {
 }
 
 -- behind events that were shown
-pub stepped_behind : (was is : Option Pages) (from to : Flow Actor) (es xs : List Event) → Stepped actors IsValid was is from to [] xs
-    → Stepped actors IsValid was is from to es (es ++ xs)
+pub stepped_behind : (was is : Option Pages) (from to : Flow Actor) (es xs : List Event) → Stepped actors was is from to [] xs
+    → Stepped actors was is from to es (es ++ xs)
 stepped_behind was is from to es xs s = record {
   flow_after = s.flow_after;
   together = s.together;
@@ -107,12 +107,12 @@ step_fails was is e sound together tells before waited = record {
 -- one step, of an engine that showed nothing before it
 module _ (was is : Option Pages) (from to : Engine) (cleared shown : List Event) (none : cleared ≡ [])
     (lines : AllByRecursion (IsEventAt from.network) cleared → AllByRecursion (IsEventAt from.network) shown) (same : to.network ≡ from.network)
-    (stepped : Stepped actors IsValid was is from.engine.flow to.engine.flow cleared shown) where
+    (stepped : Stepped actors was is from.engine.flow to.engine.flow cleared shown) where
   lines_first : AllByRecursion (IsEventAt from.network) shown
   lines_first = lines (subst (AllByRecursion (IsEventAt from.network)) (sym none) tt)
 
-  stepped_first : Stepped actors IsValid was is from.engine.flow to.engine.flow [] shown
-  stepped_first = subst (λ xs. Stepped actors IsValid was is from.engine.flow to.engine.flow xs shown) none stepped
+  stepped_first : Stepped actors was is from.engine.flow to.engine.flow [] shown
+  stepped_first = subst (λ xs. Stepped actors was is from.engine.flow to.engine.flow xs shown) none stepped
 
   pub step_shows : (before after : Option (List ℕ)) (waited waits : List ℕ) → Moves before waited after waits (history_text to.network shown)
       → ShowsOn was is from to before waited after waits
@@ -157,10 +157,10 @@ module _ (was mid : Option Pages) (from via : Engine) (before between : Option (
     shown_both events shown =
         all_append (IsEventAt from.network) first.events events first.shown (subst (λ n. AllByRecursion (IsEventAt n) events) same shown)
 
-    left_both : (is : Option Pages) (to : Engine) (events : List Event) → Stepped actors IsValid mid is via.engine.flow to.engine.flow [] events
-        → Stepped actors IsValid was is from.engine.flow to.engine.flow [] (first.events ++ events)
+    left_both : (is : Option Pages) (to : Engine) (events : List Event) → Stepped actors mid is via.engine.flow to.engine.flow [] events
+        → Stepped actors was is from.engine.flow to.engine.flow [] (first.events ++ events)
     left_both is to events stepped =
-        stepped-both actors IsValid was mid from.engine.flow via.engine.flow [] first.events first.left is to.engine.flow (first.events ++ events)
+        stepped-both actors was mid from.engine.flow via.engine.flow [] first.events first.left is to.engine.flow (first.events ++ events)
         (stepped_behind mid is via.engine.flow to.engine.flow first.events events stepped)
 
     -- it goes on

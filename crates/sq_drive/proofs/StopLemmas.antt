@@ -11,7 +11,7 @@ use Rattle.sq_flow.specs.declared.flow.Flow.{Flow}
 use Rattle.sq_flow.specs.Causes.{IsCauseIn, IsPageRefused}
 use Rattle.sq_drive.specs.Driving.{IsCutShort}
 use Rattle.sq_drive.specs.Writing.{IsLost}
-use Rattle.sq_core.specs.Meanings.{IsValid, actors}
+use Rattle.sq_core.specs.Meanings.{actors}
 use Rattle.sq_flow.specs.Takes.{NotChanged}
 use Rattle.sq_paged.specs.declared.store.QueueErr.{QueueErr}
 use Rattle.sq_queue.specs.declared.Queues.{Queues}
@@ -39,7 +39,7 @@ stop_map P Q was is was' is' before now before' now' (status.Strange arc item) r
 stop_map P Q was is was' is' before now before' now' status.TooMuch rose back of h = failed_map P Q _ _ of (λ flow shows. shows) h
 stop_map P Q was is was' is' before now before' now' s rose back of h = tt
 
-pub last_feed : (log now : DiskLog) (flow flow' : Flow Actor) (events : List Event) (e : RunErr) → FailsAt actors IsValid log now flow flow' events e → IsLastFeed flow' e
+pub last_feed : (log now : DiskLog) (flow flow' : Flow Actor) (events : List Event) (e : RunErr) → FailsAt actors log now flow flow' events e → IsLastFeed flow' e
 last_feed log now flow flow' events e fails = record { before = fails.before; was = known fails.mid; is = known now; feed = fails.feed }
 
 -- why a step failed

@@ -16,7 +16,7 @@ use Rattle.sq_flow.specs.Events.{IsEventIn, drops_of, lines_of}
 use Rattle.sq_flow.specs.Flows.{HoldsItems, Stepped, decisions_left, items_in, lines_left}
 use Rattle.sq_flow.specs.Plans.{IsPlanned, plans_left, plans_of}
 use Rattle.sq_core.specs.declared.engine.Engine.{Engine}
-use Rattle.sq_core.specs.Meanings.{IsValid, actors}
+use Rattle.sq_core.specs.Meanings.{actors}
 use Rattle.sq_core.specs.Runs.{IsRun, fed_at, late_at_seat}
 use Rattle.sq_status.specs.declared.Status.{Status}
 use Rattle.sq_status.specs.declared.Status.TheVariants as status
@@ -109,7 +109,7 @@ pub record ShowsOn (was is : Option Pages) (from to : Engine) (before : Option (
   pub events : List Event
   pub shown : AllByRecursion (IsEventAt from.network) events
   pub moves : Moves before waited after waits (history_text from.network events)
-  pub left : Stepped actors IsValid was is from.engine.flow to.engine.flow [] events
+  pub left : Stepped actors was is from.engine.flow to.engine.flow [] events
 
 -- it stopped behind the steps that ended well: of the lines of what they showed a part was written
 pub record StopsOn (was is : Option Pages) (from : Engine) (before : Option (List ℕ)) (waited : List ℕ) (after : Option (List ℕ)) : Type 0 where
@@ -118,7 +118,7 @@ pub record StopsOn (was is : Option Pages) (from : Engine) (before : Option (Lis
   pub last : Engine
   pub events : List Event
   pub shown : AllByRecursion (IsEventAt from.network) events
-  pub left : Stepped actors IsValid was mid from.engine.flow last.engine.flow [] events
+  pub left : Stepped actors was mid from.engine.flow last.engine.flow [] events
   pub written : AppendsPrefix before after (waited ++ history_text from.network events)
 
 -- it came to its end: the text of events was written that show exactly what was left of it. Its plans over every disk; where the disk is

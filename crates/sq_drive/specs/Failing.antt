@@ -4,7 +4,7 @@ use Rattle.sq_outside.specs.Disks.{DiskLog}
 use Rattle.sq_flow.specs.declared.errors.RunErr.{RunErr}
 use Rattle.sq_flow.specs.Flows.{FailsAt}
 use Rattle.sq_core.specs.declared.engine.Engine.{Engine}
-use Rattle.sq_core.specs.Meanings.{IsValid, actors}
+use Rattle.sq_core.specs.Meanings.{actors}
 use Rattle.sq_status.specs.declared.Status.{Status}
 use Rattle.sq_drive.specs.Stopping.{status_of}
 
@@ -13,4 +13,4 @@ pub record CameTo (was is : DiskLog) (from : Engine) (s : Status) (to : Engine) 
   pub network : to.network ≡ from.network
   pub error : RunErr
   pub named : status_of error ≡ s
-  pub fails : FailsAt actors IsValid was is from.engine.flow to.engine.flow [] error
+  pub fails : FailsAt actors was is from.engine.flow to.engine.flow [] error

@@ -31,7 +31,7 @@ sums-agree f g zero h = refl
 sums-agree f g (suc n) h =
     ap (λ k. k + f n) (sums-agree f g n (λ k low. h k (omega (arith, low)))) ∙ ap (λ k. sum_below g n + k) (h n (omega arith))
 
-module _ {O : Type 0} (m : Ghosts O) (valid : O → Type 0) (e : Flow O) (flow : IsFlow m valid e) where
+module _ {O : Type 0} (m : Ghosts O) (e : Flow O) (flow : IsFlow m e) where
   abbrev net : Net
   net = net_of e.wires
 
@@ -148,20 +148,20 @@ actor-at ops k low = by (eqb k ops) refl
     by false t = let ne : k ≢ ops = eqb-no k ops t in (suc k, (omega (arith, low, ne), place-next ops k))
 
 -- where no actor is listed all are finished
-pub none-listed : {O : Type 0} (m : Ghosts O) (valid : O → Type 0) (engine : Engine O) → IsEngine m valid engine → engine.ready.list ≡ [] → AllDone engine.flow
-none-listed m valid engine is none actor low = by (done_at engine.flow.over (slice_get engine.flow.seats.items actor)) refl
+pub none-listed : {O : Type 0} (m : Ghosts O) (engine : Engine O) → IsEngine m engine → engine.ready.list ≡ [] → AllDone engine.flow
+none-listed m engine is none actor low = by (done_at engine.flow.over (slice_get engine.flow.seats.items actor)) refl
   where
     by : (b : Bool) → done_at engine.flow.over (slice_get engine.flow.seats.items actor) ≡ b → done_at engine.flow.over (slice_get engine.flow.seats.items actor) ≡ true
     by true d = d
     by false d =
-        let r = one-ready m valid engine.flow is.flow actor low d in
+        let r = one-ready m engine.flow is.flow actor low d in
         let a = actor-at (length engine.flow.seats.items) r.0 r.1.0 in
         let listed : contains_number engine.ready.list a.0 ≡ true = (is.exact a.0 a.1.0).ready (subst (IsReady engine.flow) (sym a.1.1) r.1.1) in
         absurd (cc (sym (ap (λ xs. contains_number xs a.0) none) ∙ listed))
 
 -- where all are finished no actor is listed
-pub none-ready : {O : Type 0} (m : Ghosts O) (valid : O → Type 0) (engine : Engine O) → IsEngine m valid engine → AllDone engine.flow → engine.ready.list ≡ []
-none-ready m valid engine is all = by engine.ready.list refl
+pub none-ready : {O : Type 0} (m : Ghosts O) (engine : Engine O) → IsEngine m engine → AllDone engine.flow → engine.ready.list ≡ []
+none-ready m engine is all = by engine.ready.list refl
   where
     by : (xs : List ℕ) → engine.ready.list ≡ xs → xs ≡ []
     by [] e = refl

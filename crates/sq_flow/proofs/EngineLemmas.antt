@@ -196,8 +196,8 @@ module _ {O : Type 0} (e e' : Flow O) (shaped : IsShaped e.wires (length e.seats
       one x false e h = absurd (cc h)
 
 -- the engine after looks at the actor of a step and at its readers
-module _ {O : Type 0} (m : Ghosts O) (valid : O → Type 0) (a b c d : Engine O) (actor place : ℕ) (engine : IsEngine m valid a) (listed : contains_number a.ready.list actor ≡ true)
-    (here : place ≡ seat_number a.flow.wires.replay actor) (flow : IsFlow m valid b.flow) (wires : b.flow.wires ≡ a.flow.wires)
+module _ {O : Type 0} (m : Ghosts O) (a b c d : Engine O) (actor place : ℕ) (engine : IsEngine m a) (listed : contains_number a.ready.list actor ≡ true)
+    (here : place ≡ seat_number a.flow.wires.replay actor) (flow : IsFlow m b.flow) (wires : b.flow.wires ≡ a.flow.wires)
     (seats : length b.flow.seats.items ≡ length a.flow.seats.items) (touched : TouchesOnly place a.flow b.flow)
     (removed : b.ready ≡ record a.ready { list = without_actor actor a.ready.list }) (waits : b.waits.items ≡ a.waits.items)
     (running : b.failed ≡ false)
@@ -252,10 +252,10 @@ module _ {O : Type 0} (m : Ghosts O) (valid : O → Type 0) (a b c d : Engine O)
       by true t = refl
       by false t = first.waits x ∙ at t (eqb actor x) refl
 
-  pub engine-after : IsEngine m valid d
+  pub engine-after : IsEngine m d
   engine-after =
       record {
-        flow = subst (IsFlow m valid) (sym flow-is) flow;
+        flow = subst (IsFlow m) (sym flow-is) flow;
         room = record { actors = actors-are; waits = second.waits_len ∙ first.waits_len ∙ ap (length {A = ℕ}) waits ∙ engine.room.waits ∙ ap (λ n. n + 1) (sym seats-are) };
         exact = λ x low.
             subst (λ f. ExactFor f d.ready.list x) (sym flow-is) (subst (λ xs. ExactFor b.flow xs x) (sym list-is)
@@ -286,7 +286,7 @@ pub order-first : {O : Type 0} (a b : Engine O) → a.ready.list ≡ [] → Look
 order-first a b empty looked = list-first a b empty looked ∙ ap (λ f. newly_ready f []) (sym looked.flow)
 
 -- the engine after them
-module _ {O : Type 0} (m : Ghosts O) (valid : O → Type 0) (a b : Engine O) (flow : IsFlow m valid a.flow) (room : HasSeats a) (empty : a.ready.list ≡ [])
+module _ {O : Type 0} (m : Ghosts O) (a b : Engine O) (flow : IsFlow m a.flow) (room : HasSeats a) (empty : a.ready.list ≡ [])
     (running : a.failed ≡ false)
     (looked : Looked (range_with_len 0 (length a.flow.seats.items + 1)) a b) where
   in-range : (x : ℕ) → x ≤ length a.flow.seats.items → contains_number (range_with_len 0 (length a.flow.seats.items + 1)) x ≡ true
@@ -301,10 +301,10 @@ module _ {O : Type 0} (m : Ghosts O) (valid : O → Type 0) (a b : Engine O) (fl
       and-true true = refl
       and-true false = refl
 
-  pub engine-first : IsEngine m valid b
+  pub engine-first : IsEngine m b
   engine-first =
       record {
-        flow = subst (IsFlow m valid) (sym looked.flow) flow;
+        flow = subst (IsFlow m) (sym looked.flow) flow;
         room = record { actors = actors-are; waits = looked.waits_len ∙ room.waits ∙ ap (λ n. n + 1) (sym seats-are) };
         exact = λ x low.
             subst (λ f. ExactFor f b.ready.list x) (sym looked.flow) (subst (λ xs. ExactFor a.flow xs x) (sym (list-first a b empty looked))

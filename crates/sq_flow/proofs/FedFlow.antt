@@ -72,19 +72,19 @@ pub work-least : {O : Type 0} (m : Ghosts O) (table : ℕ → ℕ → ℕ) (item
 work-least m table items e = sum-most (λ k. seat.taken_at m (slice_get e.seats.items k)) (fed_at_last m table items e) (length e.seats.items) (λ k low. omega arith)
 
 -- where nothing was fed
-pub costs-none : {O : Type 0} (m : Ghosts O) (valid : O → Type 0) (e : Flow O) → IsFlow m valid e → (was is : Option Pages) (levels : LevelTable) (before after : ℕ) → after ≡ before
+pub costs-none : {O : Type 0} (m : Ghosts O) (e : Flow O) → IsFlow m e → (was is : Option Pages) (levels : LevelTable) (before after : ℕ) → after ≡ before
     → StepCosts m was is e levels before after
-costs-none m valid e flow was is levels before after same = λ told table agrees holds. let least = work-least m table (items_on e.queues was) e in omega (arith, least, same)
+costs-none m e flow was is levels before after same = λ told table agrees holds. let least = work-least m table (items_on e.queues was) e in omega (arith, least, same)
 
-module _ {O : Type 0} (m : Ghosts O) (valid : O → Type 0) (e : Flow O) (flow : IsFlow m valid e) (actor tick p at : ℕ) (a : Arc) (item : Item)
+module _ {O : Type 0} (m : Ghosts O) (e : Flow O) (flow : IsFlow m e) (actor tick p at : ℕ) (a : Arc) (item : Item)
     (actor_in : actor < length e.seats.items)
     (head : NextUpTo (arcs_read e.wires actor) (λ k. (face e.queues k).first) (λ k. (face e.queues k).ended) (length (arcs_read e.wires actor)) (Feed tick p at))
     (s : Seat O) (is_seat : slice_get e.seats.items actor ≡ Some s) (is_arc : slice_get e.wires.arcs.items at ≡ Some a) where
   abbrev net : Net
   net = net_of e.wires
 
-  pub seat-fine : IsSeat m valid (net.takes actor) (net.fits actor) e.levels.epoch e.taken s
-  seat-fine = subst (holds_at (IsSeat m valid (net.takes actor) (net.fits actor) e.levels.epoch e.taken)) is_seat (flow.seats actor)
+  pub seat-fine : IsSeat m (net.takes actor) (net.fits actor) e.levels.epoch e.taken s
+  seat-fine = subst (holds_at (IsSeat m (net.takes actor) (net.fits actor) e.levels.epoch e.taken)) is_seat (flow.seats actor)
 
   takes-is : net.takes actor p ≡ a.marked
   takes-is = ap (λ o. marked_of (arc_wired e.wires o)) head.1 ∙ ap marked_of is_arc
@@ -111,7 +111,7 @@ module _ {O : Type 0} (m : Ghosts O) (valid : O → Type 0) (e : Flow O) (flow :
   seat-owns = subst (holds_at (Owns m (IsOwn e.wires actor) e.levels)) is_seat (flow.owned actor)
 
   -- what a feed gives and leaves, over every disk
-  module _ (s' : Seat O) (outs : List (ℕ × Item)) (drops : List Decision) (fed : FedSeat m valid e.levels p item outs drops s s') (may : MayBeFed a p s.tally.place e.clock item) where
+  module _ (s' : Seat O) (outs : List (ℕ × Item)) (drops : List Decision) (fed : FedSeat m e.levels p item outs drops s s') (may : MayBeFed a p s.tally.place e.clock item) where
     pub given-and-held : (table : ℕ → ℕ → ℕ) → AgreesWith e.levels table → (q : ℕ) → ThingsUpTo e.clock (given q outs) × ThingsUpTo e.clock (m.rest s'.op table [] q)
     given-and-held table agrees q =
         let alone : entries p item ++ [] ≡ entries p item = append-nil (entries p item) in
@@ -172,7 +172,7 @@ module _ {O : Type 0} (m : Ghosts O) (valid : O → Type 0) (e : Flow O) (flow :
           by (Some k) None = omega arith
           by (Some k) (Some f) = omega arith
 
-      seat-after : IsSeat m valid (net.takes actor) (net.fits actor) e.levels.epoch taken' s'
+      seat-after : IsSeat m (net.takes actor) (net.fits actor) e.levels.epoch taken' s'
       seat-after =
           record {
             is_valid = fed.is_valid;
@@ -189,15 +189,15 @@ module _ {O : Type 0} (m : Ghosts O) (valid : O → Type 0) (e : Flow O) (flow :
           open-now true h = refl
           open-now false h = cc
 
-      pub flow-after : IsFlow m valid (record e { seats = seats'; queues = queues'; taken = taken' })
+      pub flow-after : IsFlow m (record e { seats = seats'; queues = queues'; taken = taken' })
       flow-after =
           record {
             shaped = rw seats_len flow.shaped;
             lanes = lanes;
             ended = λ arc low. ended arc ∙ flow.ended arc low ∙ sym (done-same (from_of (slice_get e.wires.arcs.items arc)));
-            seats = at_or_other (λ k. holds_at (IsSeat m valid (net.takes k) (net.fits k) e.levels.epoch taken') (slice_get seats'.items k)) actor
-                (subst (holds_at (IsSeat m valid (net.takes actor) (net.fits actor) e.levels.epoch taken')) (sym is_after) seat-after)
-                (λ k ne. subst (holds_at (IsSeat m valid (net.takes k) (net.fits k) e.levels.epoch taken')) (sym (apart k ne))
+            seats = at_or_other (λ k. holds_at (IsSeat m (net.takes k) (net.fits k) e.levels.epoch taken') (slice_get seats'.items k)) actor
+                (subst (holds_at (IsSeat m (net.takes actor) (net.fits actor) e.levels.epoch taken')) (sym is_after) seat-after)
+                (λ k ne. subst (holds_at (IsSeat m (net.takes k) (net.fits k) e.levels.epoch taken')) (sym (apart k ne))
                 (seat-later (net.takes k) (net.fits k) (slice_get e.seats.items k) (flow.seats k)));
             few = few;
             held = λ table agrees. at_or_other (λ k. (port : ℕ) → ThingsUpTo e.clock (rest_at m table (slice_get seats'.items k) [] port)) actor
@@ -214,7 +214,7 @@ module _ {O : Type 0} (m : Ghosts O) (valid : O → Type 0) (e : Flow O) (flow :
             over = flow.over;
           }
         where
-          seat-later : (takes : ℕ → Bool) (fits : ℕ → List Value → Bool) (o : Option (Seat O)) → holds_at (IsSeat m valid takes fits e.levels.epoch e.taken) o → holds_at (IsSeat m valid takes fits e.levels.epoch taken') o
+          seat-later : (takes : ℕ → Bool) (fits : ℕ → List Value → Bool) (o : Option (Seat O)) → holds_at (IsSeat m takes fits e.levels.epoch e.taken) o → holds_at (IsSeat m takes fits e.levels.epoch taken') o
           seat-later takes fits None h = tt
           seat-later takes fits (Some k) h =
               record {
@@ -337,7 +337,7 @@ module _ {O : Type 0} (m : Ghosts O) (valid : O → Type 0) (e : Flow O) (flow :
 
     -- after the feed
     module _ (seats' : Vec (Seat O) Global) (queues' : Queues) (taken' : ℕ) (s' : Seat O) (outs : List (ℕ × Item)) (drops : List Decision) (items' : ℕ → List Item)
-        (fed : FedSeat m valid e.levels p item outs drops s s')
+        (fed : FedSeat m e.levels p item outs drops s s')
         (is_after : slice_get seats'.items actor ≡ Some s') (apart : (other : ℕ) → other ≢ actor → slice_get seats'.items other ≡ slice_get e.seats.items other)
         (unfinished : done_at e.over (slice_get e.seats.items actor) ≡ false)
         (given_on : (k : ℕ) → k < length e.wires.arcs.items → spread_all (items' k) ≡ spread_all (mid k) ++ pushed_by actor outs (net.from k) (net.port k))
@@ -548,14 +548,14 @@ module _ {O : Type 0} (m : Ghosts O) (valid : O → Type 0) (e : Flow O) (flow :
       → (Tells mid_pages → items_on e.queues was at ≡ item ∷ items_on mid mid_pages at)
       → (Tells mid_pages → (other : ℕ) → other ≢ at → items_on mid mid_pages other ≡ items_on e.queues was other)
       → (Tells mid_pages → Tells was) → taken' ≡ e.taken + length (spread item) → taken' < 2 ^ 62
-      → FedSeat m valid e.levels p item outs drops s s'
+      → FedSeat m e.levels p item outs drops s s'
       → slice_get seats'.items actor ≡ Some s' → ((other : ℕ) → other ≢ actor → slice_get seats'.items other ≡ slice_get e.seats.items other)
       → length seats'.items ≡ length e.seats.items → done_at e.over (slice_get e.seats.items actor) ≡ false
       → Pushes mid q' mid_pages is (sent_to e.wires actor outs) (λ time. AllOutsFine time outs) (is_sent_by e.wires actor)
       → ((o : ℕ) → lines_of o events' ≡ lines_of o events ++ tuples_in (pushed_by actor outs (e.wires.shown + o) 0))
       → ((w : ℕ) → drops_of w events' ≡ drops_of w events ++ of_drop w drops)
       → ShowsIn (length e.seats.items - e.wires.shown) (e.wires.shown - e.wires.sheds) events events' → plans_of events' ≡ plans_of events
-      → Stepped m valid was is e (record e { seats = seats'; queues = q'; taken = taken' }) events events'
+      → Stepped m was is e (record e { seats = seats'; queues = q'; taken = taken' }) events events'
   fed-stepped was is mid_pages mid q' seats' taken' s' outs drops events events' together may ended lanes framed front others tells more few fed is_after apart seats_len unfinished sent shown decides below plans =
       record {
         flow_after = flow-after s' outs drops fed may seats' q' taken' is_after apart seats_len (sent.lanes ∙ lanes ∙ flow.lanes) (λ k. sent.ended k ∙ ended k) more few unfinished;

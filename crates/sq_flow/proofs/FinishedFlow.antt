@@ -50,14 +50,14 @@ use Rattle.sq_flow.proofs.DoneLemmas.{sums-agree}
 use Rattle.sq_oper.proofs.StreamLemmas.{tuples_append}
 use Rattle.sq_words.proofs.Numbers.{eqb_true}
 
-module _ {O : Type 0} (m : Ghosts O) (valid : O → Type 0) (e : Flow O) (flow : IsFlow m valid e) (actor : ℕ) (actor_in : actor < length e.seats.items)
+module _ {O : Type 0} (m : Ghosts O) (e : Flow O) (flow : IsFlow m e) (actor : ℕ) (actor_in : actor < length e.seats.items)
     (head : NextUpTo (arcs_read e.wires actor) (λ k. (face e.queues k).first) (λ k. (face e.queues k).ended) (length (arcs_read e.wires actor)) Ended)
     (s : Seat O) (is_seat : slice_get e.seats.items actor ≡ Some s) where
   abbrev net : Net
   net = net_of e.wires
 
-  pub seat-fine : IsSeat m valid (net.takes actor) (net.fits actor) e.levels.epoch e.taken s
-  seat-fine = subst (holds_at (IsSeat m valid (net.takes actor) (net.fits actor) e.levels.epoch e.taken)) is_seat (flow.seats actor)
+  pub seat-fine : IsSeat m (net.takes actor) (net.fits actor) e.levels.epoch e.taken s
+  seat-fine = subst (holds_at (IsSeat m (net.takes actor) (net.fits actor) e.levels.epoch e.taken)) is_seat (flow.seats actor)
 
   -- the operator runs
   pub runs : done_at e.over (slice_get e.seats.items actor) ≡ false → m.running s.op ≡ true
@@ -68,14 +68,14 @@ module _ {O : Type 0} (m : Ghosts O) (valid : O → Type 0) (e : Flow O) (flow :
       by false h = cc
 
   -- what it decides at its end is its own
-  pub own-drops : (s' : Seat O) (outs : List (ℕ × Item)) (drops : List Decision) → FinishedSeat m valid outs drops s s' → done_at e.over (slice_get e.seats.items actor) ≡ false → AllByRecursion (IsOwn e.wires actor) drops
+  pub own-drops : (s' : Seat O) (outs : List (ℕ × Item)) (drops : List Decision) → FinishedSeat m outs drops s s' → done_at e.over (slice_get e.seats.items actor) ≡ false → AllByRecursion (IsOwn e.wires actor) drops
   own-drops s' outs drops fin unfinished =
       let owns : Owns m (IsOwn e.wires actor) e.levels s = subst (holds_at (Owns m (IsOwn e.wires actor) e.levels)) is_seat (flow.owned actor) in
       subst (AllByRecursion (IsOwn e.wires actor)) (fin.decided (level_of e.levels))
       (owns (runs unfinished) (level_of e.levels) (λ epoch drop h. refl) [] (record { in_order = tt; fitting = tt }))
 
   -- what an end gives, over every disk
-  module _ (s' : Seat O) (outs : List (ℕ × Item)) (drops : List Decision) (fin : FinishedSeat m valid outs drops s s') where
+  module _ (s' : Seat O) (outs : List (ℕ × Item)) (drops : List Decision) (fin : FinishedSeat m outs drops s s') where
     pub outs-in-time : AllOutsFine e.clock outs
     outs-in-time =
         outs-fine e.clock outs fin.sound (λ q.
@@ -101,7 +101,7 @@ module _ {O : Type 0} (m : Ghosts O) (valid : O → Type 0) (e : Flow O) (flow :
           or-false true = refl
           or-false false = refl
 
-      seat-after : IsSeat m valid (net.takes actor) (net.fits actor) e.levels.epoch e.taken s'
+      seat-after : IsSeat m (net.takes actor) (net.fits actor) e.levels.epoch e.taken s'
       seat-after =
           record {
             is_valid = fin.is_valid;
@@ -114,7 +114,7 @@ module _ {O : Type 0} (m : Ghosts O) (valid : O → Type 0) (e : Flow O) (flow :
             reads = λ opened. absurd (cc (fin.closed, opened));
           }
 
-      pub flow-after : IsFlow m valid (record e { seats = seats'; queues = queues' })
+      pub flow-after : IsFlow m (record e { seats = seats'; queues = queues' })
       flow-after =
           record {
             shaped = rw seats_len flow.shaped;
@@ -123,9 +123,9 @@ module _ {O : Type 0} (m : Ghosts O) (valid : O → Type 0) (e : Flow O) (flow :
                 ended arc low
                 ∙ ap (λ b. b || eqb (from_of (slice_get e.wires.arcs.items arc)) actor) (flow.ended arc low)
                 ∙ done-is (from_of (slice_get e.wires.arcs.items arc));
-            seats = at_or_other (λ k. holds_at (IsSeat m valid (net.takes k) (net.fits k) e.levels.epoch e.taken) (slice_get seats'.items k)) actor
-                (subst (holds_at (IsSeat m valid (net.takes actor) (net.fits actor) e.levels.epoch e.taken)) (sym is_after) seat-after)
-                (λ k ne. subst (holds_at (IsSeat m valid (net.takes k) (net.fits k) e.levels.epoch e.taken)) (sym (apart k ne)) (flow.seats k));
+            seats = at_or_other (λ k. holds_at (IsSeat m (net.takes k) (net.fits k) e.levels.epoch e.taken) (slice_get seats'.items k)) actor
+                (subst (holds_at (IsSeat m (net.takes actor) (net.fits actor) e.levels.epoch e.taken)) (sym is_after) seat-after)
+                (λ k ne. subst (holds_at (IsSeat m (net.takes k) (net.fits k) e.levels.epoch e.taken)) (sym (apart k ne)) (flow.seats k));
             few = flow.few;
             held = λ table agrees. at_or_other (λ k. (port : ℕ) → ThingsUpTo e.clock (rest_at m table (slice_get seats'.items k) [] port)) actor
                 (λ port. rw is_after (nothing e.clock (m.rest s'.op table [] port) (fin.empty table port)))
@@ -205,7 +205,7 @@ module _ {O : Type 0} (m : Ghosts O) (valid : O → Type 0) (e : Flow O) (flow :
         subst (λ k. IsPrefixOf drops (decisions_left m table items e k)) (sym same) (rw is law))
 
     module _ (seats' : Vec (Seat O) Global) (queues' : Queues) (s' : Seat O) (outs : List (ℕ × Item)) (drops : List Decision) (items' : ℕ → List Item)
-        (fin : FinishedSeat m valid outs drops s s')
+        (fin : FinishedSeat m outs drops s s')
         (is_after : slice_get seats'.items actor ≡ Some s') (apart : (other : ℕ) → other ≢ actor → slice_get seats'.items other ≡ slice_get e.seats.items other)
         (given_on : (k : ℕ) → k < length e.wires.arcs.items → spread_all (items' k) ≡ spread_all (items k) ++ pushed_by actor outs (net.from k) (net.port k))
         (fine : (time : ℕ) → AllOutsFine time outs → ((k : ℕ) → AllFine time (items k)) → (k : ℕ) → AllFine time (items' k)) where
@@ -350,7 +350,7 @@ module _ {O : Type 0} (m : Ghosts O) (valid : O → Type 0) (e : Flow O) (flow :
 
   -- the whole of an end, from what its parts say
   pub finished-stepped : (was is : Option Pages) (mid q' : Queues) (seats' : Vec (Seat O) Global) (s' : Seat O) (outs : List (ℕ × Item)) (drops : List Decision) (events events' : List Event)
-      → Together e.queues was → FinishedSeat m valid outs drops s s'
+      → Together e.queues was → FinishedSeat m outs drops s s'
       → slice_get seats'.items actor ≡ Some s' → ((other : ℕ) → other ≢ actor → slice_get seats'.items other ≡ slice_get e.seats.items other)
       → length seats'.items ≡ length e.seats.items
       → Pushes e.queues mid was is (sent_to e.wires actor outs) (λ time. AllOutsFine time outs) (is_sent_by e.wires actor)
@@ -361,7 +361,7 @@ module _ {O : Type 0} (m : Ghosts O) (valid : O → Type 0) (e : Flow O) (flow :
       → ((o : ℕ) → lines_of o events' ≡ lines_of o events ++ tuples_in (pushed_by actor outs (e.wires.shown + o) 0))
       → done_at e.over (slice_get e.seats.items actor) ≡ false → ((w : ℕ) → drops_of w events' ≡ drops_of w events ++ of_drop w drops)
       → ShowsIn (length e.seats.items - e.wires.shown) (e.wires.shown - e.wires.sheds) events events' → plans_of events' ≡ plans_of events
-      → Stepped m valid was is e (record e { seats = seats'; queues = q' }) events events'
+      → Stepped m was is e (record e { seats = seats'; queues = q' }) events events'
   finished-stepped was is mid q' seats' s' outs drops events events' together fin is_after apart seats_len sent lanes framed ended same stays shown unfinished decides below plans =
       record {
         flow_after = flow-after s' outs drops fin seats' q' is_after apart seats_len (lanes ∙ sent.lanes ∙ flow.lanes)

@@ -100,16 +100,16 @@ module _ {D : Type 0} (log : D → DiskLog) (faults : D → ℕ) where
       came s (came-first s (record { within = within; shown = shown; there = there; joined = joined; together = together; whole = whole }) none.0 none.1)
 
   -- a feed and an end, where the outlet was opened
-  module _ {O : Type 0} (m : Ghosts O) (valid : O → Type 0) (seat seat' : Seat O) (start s : Onward D) (came : Came log faults start s)
+  module _ {O : Type 0} (m : Ghosts O) (seat seat' : Seat O) (start s : Onward D) (came : Came log faults start s)
       (q : Queues) (d : D) (events : List Event) (same_queues : q ≡ s.queues.now) (same_disk : d ≡ s.disk.now) (same_events : events ≡ s.events.now.items) (whole : s.failed ≡ None) where
-    pub feeds-into : (levels : LevelTable) (port : ℕ) (item : Item) → FedSeat m valid levels port item s.noted.items s.noted.drops seat seat'
-        → FeedsInto m valid levels port item start.wires.now start.actor seat seat' start.queues.now q (known (log start.disk.now)) (known (log d)) start.events.now.items events
+    pub feeds-into : (levels : LevelTable) (port : ℕ) (item : Item) → FedSeat m levels port item s.noted.items s.noted.drops seat seat'
+        → FeedsInto m levels port item start.wires.now start.actor seat seat' start.queues.now q (known (log start.disk.now)) (known (log d)) start.events.now.items events
     feeds-into levels port item fed =
         rw (same_queues, same_disk)
         (record { items = s.noted.items; drops = s.noted.drops; fed = fed; sent = went-on start s came whole; shown = was-shown start s came events same_events })
 
-    pub ends-into : FinishedSeat m valid s.noted.items s.noted.drops seat seat'
-        → EndsInto m valid start.wires.now start.actor seat seat' start.queues.now q (known (log start.disk.now)) (known (log d)) start.events.now.items events
+    pub ends-into : FinishedSeat m s.noted.items s.noted.drops seat seat'
+        → EndsInto m start.wires.now start.actor seat seat' start.queues.now q (known (log start.disk.now)) (known (log d)) start.events.now.items events
     ends-into finished =
         rw (same_queues, same_disk)
         (record { items = s.noted.items; drops = s.noted.drops; finished = finished; sent = went-on start s came whole; shown = was-shown start s came events same_events })

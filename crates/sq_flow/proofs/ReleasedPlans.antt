@@ -43,7 +43,7 @@ pub agrees-before : (levels levels' : LevelTable) → ((x w : ℕ) → x < level
     → (table : ℕ → ℕ → ℕ) → AgreesWith levels' table → AgreesWith levels table
 agrees-before levels levels' keeps grows table h epoch drop low = h epoch drop (omega (arith, low, grows)) ∙ keeps epoch drop low
 
-module _ {O : Type 0} (m : Ghosts O) (valid : O → Type 0) (e : Flow O) (flow : IsFlow m valid e) (pos : 0 < e.levels.epoch)
+module _ {O : Type 0} (m : Ghosts O) (e : Flow O) (flow : IsFlow m e) (pos : 0 < e.levels.epoch)
     (port : ℕ) (v more : Recorded) (x : Tuple) (least : IsNextSource e.sources.items port)
     (at : slice_get e.sources.items port ≡ Some v) (front : v.items ≡ x ∷ more.items) where
   abbrev pub epoch_there : ℕ

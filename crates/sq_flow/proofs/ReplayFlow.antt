@@ -58,13 +58,13 @@ slice_get-not_none (x ∷ xs) zero h = λ e. cc e
 slice_get-not_none (x ∷ xs) (suc i) h = slice_get-not_none xs i (omega (arith, h))
 
 -- the replay stands behind the operators
-pub replay-open : {O : Type 0} (m : Ghosts O) (valid : O → Type 0) (e : Flow O) → IsFlow m valid e → e.over ≡ false → done_at e.over (slice_get e.seats.items e.wires.replay) ≡ false
-replay-open m valid e flow open_now =
+pub replay-open : {O : Type 0} (m : Ghosts O) (e : Flow O) → IsFlow m e → e.over ≡ false → done_at e.over (slice_get e.seats.items e.wires.replay) ≡ false
+replay-open m e flow open_now =
     let is = flow.shaped.replay_is in
     ap (done_at e.over) (slice_get_past e.seats.items e.wires.replay (omega (arith, is))) ∙ open_now
 
 -- a step of the replay that pushes what the source loses
-module _ {O : Type 0} (m : Ghosts O) (valid : O → Type 0) (e : Flow O) (flow : IsFlow m valid e) (table : ℕ → ℕ → ℕ) (items items' : ℕ → List Item) (holds : HoldsItems m table items e)
+module _ {O : Type 0} (m : Ghosts O) (e : Flow O) (flow : IsFlow m e) (table : ℕ → ℕ → ℕ) (items items' : ℕ → List Item) (holds : HoldsItems m table items e)
     (over' : Bool) (queues' : Queues) (sources' : Vec Recorded Global) (clock' : ℕ) (planner' : Setting) (levels' : LevelTable) (counts' : Vec ℕ Global) (pushed : ℕ → ℕ → List Thing)
     (source : (q : ℕ) → things (to_release e q) ≡ pushed e.wires.replay q ++ things (tuples_to_come (slice_get sources'.items q)))
     (quiet : (other : ℕ) → other ≢ e.wires.replay → (q : ℕ) → pushed other q ≡ [])
@@ -154,7 +154,7 @@ own-sent replay port xs q = ap (λ b. cond b (cond (eqb port q) xs []) []) (eqb_
 not-sent : (replay port : ℕ) (xs : List Thing) (other : ℕ) → other ≢ replay → (q : ℕ) → sent replay port xs other q ≡ []
 not-sent replay port xs other ne q = ap (λ b. cond b (cond (eqb port q) xs []) []) (eqb-not replay other (λ k. ne (sym k)))
 
-module _ {O : Type 0} (m : Ghosts O) (valid : O → Type 0) (e : Flow O) (flow : IsFlow m valid e) where
+module _ {O : Type 0} (m : Ghosts O) (e : Flow O) (flow : IsFlow m e) where
   not-replay : (other : ℕ) → other < length e.seats.items → other ≢ e.wires.replay
   not-replay other low = let r = flow.shaped.replay_is in omega (arith, r, low)
 
@@ -182,7 +182,7 @@ module _ {O : Type 0} (m : Ghosts O) (valid : O → Type 0) (e : Flow O) (flow :
         by true h = cc (sym front ∙ flow.over h port)
 
     module _ (planner' : Setting) (levels' : LevelTable) (mid : List ℕ) (events events' : List Event)
-        (did : ClosedBefore e.planner planner' e.levels levels' e.counts.items mid (epoch_there m valid e flow pos port v more x next at held) events events')
+        (did : ClosedBefore e.planner planner' e.levels levels' e.counts.items mid (epoch_there m e flow pos port v more x next at held) events events')
         (sources' : Vec Recorded Global) (counts' : Vec ℕ Global)
         (taken : sources'.items ≡ set e.sources.items port more) (counts_are : counts'.items ≡ set mid port (slice_index mid port + 1)) where
       is_after : slice_get sources'.items port ≡ Some more
@@ -202,36 +202,36 @@ module _ {O : Type 0} (m : Ghosts O) (valid : O → Type 0) (e : Flow O) (flow :
           least = subst (BeginsLeast e.sources.items port) front next.least
 
       grows : e.levels.closed ≤ levels'.closed
-      grows = let low = not-before m valid e flow pos port v more x next at held in let c = did.closed in omega (arith, low, c)
+      grows = let low = not-before m e flow pos port v more x next at held in let c = did.closed in omega (arith, low, c)
 
       before : (table : ℕ → ℕ → ℕ) → AgreesWith levels' table → AgreesWith e.levels table
       before = agrees-before e.levels levels' did.keeps grows
 
       counts-len : length counts'.items ≡ length sources'.items
       counts-len = ap (λ (l : List ℕ). length l) counts_are ∙ length-set mid port (slice_index mid port + 1)
-          ∙ mid-len m valid e flow pos port v more x next at held planner' levels' mid events events' did ∙ flow.counts ∙ sym sources_len
+          ∙ mid-len m e flow pos port v more x next at held planner' levels' mid events events' did ∙ flow.counts ∙ sym sources_len
 
       few-after : (source : ℕ) → slice_index counts'.items source + length (tuples_to_come (slice_get sources'.items source)) ≤ 1000000
       few-after = at_or_other (λ k. slice_index counts'.items k + length (tuples_to_come (slice_get sources'.items k)) ≤ 1000000) port
-          (let low = mid-low m valid e flow pos port v more x next at held planner' levels' mid events events' did port in
+          (let low = mid-low m e flow pos port v more x next at held planner' levels' mid events events' did port in
           let few = flow.few_tuples port in
           let more-is = ap (λ o. length (tuples_to_come o)) is_after in
           let was = ap (λ (l : List Tuple). length l) front in
           let counted = ap (λ l. slice_index l port) counts_are ∙ get_or-set_same mid port (slice_index mid port + 1) 0 within in
           omega (arith, low, few, more-is, was, counted))
           (λ k ne.
-          let low = mid-low m valid e flow pos port v more x next at held planner' levels' mid events events' did k in
+          let low = mid-low m e flow pos port v more x next at held planner' levels' mid events events' did k in
           let few = flow.few_tuples k in
           let same = ap (λ o. length (tuples_to_come o)) (apart k ne) in
           let counted = ap (λ l. slice_index l k) counts_are ∙ get_or-set_other mid port k (slice_index mid port + 1) 0 ne in
           omega (arith, low, few, same, counted))
         where
           within : port < length mid
-          within = let l = mid-len m valid e flow pos port v more x next at held planner' levels' mid events events' did in let n = next.there in let c = flow.counts in omega (arith, l, n, c)
+          within = let l = mid-len m e flow pos port v more x next at held planner' levels' mid events events' did in let n = next.there in let c = flow.counts in omega (arith, l, n, c)
 
       pub released-stepped : (was is : Option Pages) (q' : Queues) → Together e.queues was
           → Pushes e.queues q' was is (λ k. many (times_in k (arcs_from e.wires e.wires.replay port)) (spread item)) (λ time. x.time ≤ time) (contains_number (arcs_from e.wires e.wires.replay port))
-          → Stepped m valid was is e (record e { queues = q'; sources = sources'; clock = x.time; planner = planner'; levels = levels'; counts = counts' }) events events'
+          → Stepped m was is e (record e { queues = q'; sources = sources'; clock = x.time; planner = planner'; levels = levels'; counts = counts' }) events events'
       released-stepped was is q' together pushes =
           record {
             flow_after =
@@ -239,7 +239,7 @@ module _ {O : Type 0} (m : Ghosts O) (valid : O → Type 0) (e : Flow O) (flow :
                   shaped = flow.shaped;
                   lanes = pushes.lanes ∙ flow.lanes;
                   ended = λ arc low. pushes.ended arc ∙ flow.ended arc low;
-                  seats = λ actor. subst (λ n. holds_at (IsSeat m valid ((net_of e.wires).takes actor) ((net_of e.wires).fits actor) n e.taken) (slice_get e.seats.items actor)) (sym did.epoch) (flow.seats actor);
+                  seats = λ actor. subst (λ n. holds_at (IsSeat m ((net_of e.wires).takes actor) ((net_of e.wires).fits actor) n e.taken) (slice_get e.seats.items actor)) (sym did.epoch) (flow.seats actor);
                   few = flow.few;
                   held = λ table agrees actor q. ThingsUpTo-later e.clock x.time _ first.0 (flow.held table (before table agrees) actor q);
                   coming = coming-after;
@@ -258,13 +258,13 @@ module _ {O : Type 0} (m : Ghosts O) (valid : O → Type 0) (e : Flow O) (flow :
             closes = before;
             shows = did.within _ _;
             planner = did.same;
-            planned = planned-after m valid e flow pos port v more x next at held planner' levels' mid events events' did q' sources' counts' taken counts_are;
-            plans = plans-go m valid e flow pos port v more x next at held planner' levels' mid events events' did q' sources' counts' taken counts_are;
+            planned = planned-after m e flow pos port v more x next at held planner' levels' mid events events' did q' sources' counts' taken counts_are;
+            plans = plans-go m e flow pos port v more x next at held planner' levels' mid events events' did q' sources' counts' taken counts_are;
             holds = λ told table agrees holds.
-                holds-after m valid e flow table (items_on e.queues was) (items_on q' is) holds e.over q' sources' x.time planner' levels' counts' (sent-by) given-there quiet ends (on told)
+                holds-after m e flow table (items_on e.queues was) (items_on q' is) holds e.over q' sources' x.time planner' levels' counts' (sent-by) given-there quiet ends (on told)
                 (pushes.fine told x.time le-refl (λ k. fine-later e.clock x.time (items_on e.queues was k) first.0 (holds.queued k)));
             goes = λ told table agrees holds.
-                goes-after m valid e flow table (items_on e.queues was) (items_on q' is) holds e.over q' sources' x.time planner' levels' counts' (sent-by) given-there quiet ends (on told)
+                goes-after m e flow table (items_on e.queues was) (items_on q' is) holds e.over q' sources' x.time planner' levels' counts' (sent-by) given-there quiet ends (on told)
                 events events' did.lines did.drops (λ output low q. quiet output (not-replay output low) q);
           }
         where
@@ -312,7 +312,7 @@ module _ {O : Type 0} (m : Ghosts O) (valid : O → Type 0) (e : Flow O) (flow :
       → ((k : ℕ) → k < length e.wires.arcs.items → (face q' k).ended ≡ ((face e.queues k).ended || eqb (from_of (slice_get e.wires.arcs.items k)) e.wires.replay))
       → ((pages : Option Pages) (k : ℕ) → items_on q' pages k ≡ items_on e.queues pages k)
       → ((pages : Option Pages) → Together e.queues pages → Together q' pages)
-      → Stepped m valid pages pages e (record e { over = true; queues = q' }) events events
+      → Stepped m pages pages e (record e { over = true; queues = q' }) events events
   ended-stepped pages q' events together none lanes framed ended same stays =
       record {
         flow_after =
@@ -343,10 +343,10 @@ module _ {O : Type 0} (m : Ghosts O) (valid : O → Type 0) (e : Flow O) (flow :
         planned = λ all h. record { agrees = h.agrees; counts = h.counts };
         plans = refl;
         holds = λ told table agrees holds.
-            holds-after m valid e flow table (items_on e.queues pages) (items_on q' pages) holds true q' e.sources e.clock e.planner e.levels e.counts (λ _ _. []) (λ q. refl) (λ other ne q. refl) (λ o. none) (on)
+            holds-after m e flow table (items_on e.queues pages) (items_on q' pages) holds true q' e.sources e.clock e.planner e.levels e.counts (λ _ _. []) (λ q. refl) (λ other ne q. refl) (λ o. none) (on)
             (λ k. subst (AllFine e.clock) (sym (same pages k)) (holds.queued k));
         goes = λ told table agrees holds.
-            goes-after m valid e flow table (items_on e.queues pages) (items_on q' pages) holds true q' e.sources e.clock e.planner e.levels e.counts (λ _ _. []) (λ q. refl) (λ other ne q. refl) (λ o. none) (on)
+            goes-after m e flow table (items_on e.queues pages) (items_on q' pages) holds true q' e.sources e.clock e.planner e.levels e.counts (λ _ _. []) (λ q. refl) (λ other ne q. refl) (λ o. none) (on)
             events events (λ o. refl) (λ w. refl) (λ output low q. refl);
       }
     where

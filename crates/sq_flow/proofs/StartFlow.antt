@@ -24,27 +24,27 @@ use Rattle.sq_flow.specs.Plans.{arrivals, last_arrival, add_counts, streams_left
 use Rattle.sq_flow.proofs.PlanLemmas.{add-zeros, arrivals-len, flat-same}
 use Rattle.sq_words.proofs.Lists.{zeros_at}
 
-module _ {O : Type 0} (m : Ghosts O) (valid : O → Type 0) (e : Flow O)
+module _ {O : Type 0} (m : Ghosts O) (e : Flow O)
     (shaped : IsShaped e.wires (length e.seats.items)) (lanes : size e.queues ≡ length e.wires.arcs.items)
     (open_all : (arc : ℕ) → (face e.queues arc).ended ≡ false) (runs : e.over ≡ false)
-    (seats : (actor : ℕ) → holds_at (IsNewSeat m valid ((net_of e.wires).takes actor) ((net_of e.wires).fits actor) (IsOwn e.wires actor) e.levels.epoch) (slice_get e.seats.items actor))
+    (seats : (actor : ℕ) → holds_at (IsNewSeat m ((net_of e.wires).takes actor) ((net_of e.wires).fits actor) (IsOwn e.wires actor) e.levels.epoch) (slice_get e.seats.items actor))
     (rises : (source : ℕ) → RiseFrom 0 (to_release e source)) (few : length e.sources.items < 2 ^ 32) (clock : e.clock ≡ 0) (none_taken : e.taken ≡ 0) (closed : e.levels.closed ≡ 1)
     (counts : length e.counts.items ≡ length e.sources.items) (few_tuples : (source : ℕ) → slice_index e.counts.items source + length (to_release e source) ≤ 1000000) where
   done-none : (actor : ℕ) → done_at e.over (slice_get e.seats.items actor) ≡ false
   done-none actor = by (slice_get e.seats.items actor) (seats actor)
     where
-      by : (o : Option (Seat O)) → holds_at (IsNewSeat m valid ((net_of e.wires).takes actor) ((net_of e.wires).fits actor) (IsOwn e.wires actor) e.levels.epoch) o → done_at e.over o ≡ false
+      by : (o : Option (Seat O)) → holds_at (IsNewSeat m ((net_of e.wires).takes actor) ((net_of e.wires).fits actor) (IsOwn e.wires actor) e.levels.epoch) o → done_at e.over o ≡ false
       by None h = runs
       by (Some s) h = ap not h.open_now
 
   pub place-start : (actor : ℕ) → moment_at m (slice_get e.seats.items actor) ≡ Start
   place-start actor = by (slice_get e.seats.items actor) (seats actor)
     where
-      by : (o : Option (Seat O)) → holds_at (IsNewSeat m valid ((net_of e.wires).takes actor) ((net_of e.wires).fits actor) (IsOwn e.wires actor) e.levels.epoch) o → moment_at m o ≡ Start
+      by : (o : Option (Seat O)) → holds_at (IsNewSeat m ((net_of e.wires).takes actor) ((net_of e.wires).fits actor) (IsOwn e.wires actor) e.levels.epoch) o → moment_at m o ≡ Start
       by None h = refl
       by (Some s) h = h.place
 
-  pub start-flow : IsFlow m valid e
+  pub start-flow : IsFlow m e
   start-flow =
       record {
         shaped = shaped;
@@ -65,8 +65,8 @@ module _ {O : Type 0} (m : Ghosts O) (valid : O → Type 0) (e : Flow O)
       first : (epoch : ℕ) → 1 ≡ 0 / epoch + 1
       first epoch = grind arith
 
-      seat-of : (actor : ℕ) (o : Option (Seat O)) → holds_at (IsNewSeat m valid ((net_of e.wires).takes actor) ((net_of e.wires).fits actor) (IsOwn e.wires actor) e.levels.epoch) o
-          → holds_at (IsSeat m valid ((net_of e.wires).takes actor) ((net_of e.wires).fits actor) e.levels.epoch e.taken) o
+      seat-of : (actor : ℕ) (o : Option (Seat O)) → holds_at (IsNewSeat m ((net_of e.wires).takes actor) ((net_of e.wires).fits actor) (IsOwn e.wires actor) e.levels.epoch) o
+          → holds_at (IsSeat m ((net_of e.wires).takes actor) ((net_of e.wires).fits actor) e.levels.epoch e.taken) o
       seat-of actor None h = tt
       seat-of actor (Some s) h =
           record {
@@ -80,12 +80,12 @@ module _ {O : Type 0} (m : Ghosts O) (valid : O → Type 0) (e : Flow O)
             reads = λ _. h.reads;
           }
 
-      owns-of : (actor : ℕ) (o : Option (Seat O)) → holds_at (IsNewSeat m valid ((net_of e.wires).takes actor) ((net_of e.wires).fits actor) (IsOwn e.wires actor) e.levels.epoch) o
+      owns-of : (actor : ℕ) (o : Option (Seat O)) → holds_at (IsNewSeat m ((net_of e.wires).takes actor) ((net_of e.wires).fits actor) (IsOwn e.wires actor) e.levels.epoch) o
           → holds_at (Owns m (IsOwn e.wires actor) e.levels) o
       owns-of actor None h = tt
       owns-of actor (Some s) h = λ running table agrees future f. h.owns table future (subst (λ place. IsFuture (m.takes_marks s.op) (m.fits s.op) place future) h.place f)
 
-      held-none : (table : ℕ → ℕ → ℕ) (takes : ℕ → Bool) (fits : ℕ → List Value → Bool) (own : Decision → Type 0) (o : Option (Seat O)) (port : ℕ) → holds_at (IsNewSeat m valid takes fits own e.levels.epoch) o → ThingsUpTo e.clock (rest_at m table o [] port)
+      held-none : (table : ℕ → ℕ → ℕ) (takes : ℕ → Bool) (fits : ℕ → List Value → Bool) (own : Decision → Type 0) (o : Option (Seat O)) (port : ℕ) → holds_at (IsNewSeat m takes fits own e.levels.epoch) o → ThingsUpTo e.clock (rest_at m table o [] port)
       held-none table takes fits own None port h = tt
       held-none table takes fits own (Some s) port h = rw (h.holds_none table port) tt
 

@@ -24,8 +24,8 @@ use Rattle.sq_flow.proofs.ArcLemmas.{ends-chain}
 use Rattle.sq_flow.specs.Readiness.{IsReady}
 use Rattle.sq_flow.proofs.DoneLemmas.{sums-agree}
 
-module _ {O : Type 0} (m : Ghosts O) (valid : O → Type 0) where
-  module _ (p p1 : Option Pages) (f f1 : Flow O) (e e1 : List Event) (first : Stepped m valid p p1 f f1 e e1) where
+module _ {O : Type 0} (m : Ghosts O) where
+  module _ (p p1 : Option Pages) (f f1 : Flow O) (e e1 : List Event) (first : Stepped m p p1 f f1 e e1) where
     outputs-same : length f1.seats.items - f1.wires.shown ≡ length f.seats.items - f.wires.shown
     outputs-same = rw (first.seats, ap (λ (w : Wires). w.shown) first.wires) refl
 
@@ -38,7 +38,7 @@ module _ {O : Type 0} (m : Ghosts O) (valid : O → Type 0) where
     low-after : (output : ℕ) → f.wires.shown + output < length f.seats.items → f1.wires.shown + output < length f1.seats.items
     low-after output low = rw (first.seats, ap (λ (w : Wires). w.shown) first.wires) low
 
-    pub stepped-both : (p2 : Option Pages) (f2 : Flow O) (e2 : List Event) → Stepped m valid p1 p2 f1 f2 e1 e2 → Stepped m valid p p2 f f2 e e2
+    pub stepped-both : (p2 : Option Pages) (f2 : Flow O) (e2 : List Event) → Stepped m p1 p2 f1 f2 e1 e2 → Stepped m p p2 f f2 e e2
     stepped-both p2 f2 e2 second =
         record {
           flow_after = second.flow_after;

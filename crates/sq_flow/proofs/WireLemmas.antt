@@ -83,8 +83,8 @@ module _ (wires : Wires) (ops : ℕ) (shaped : IsShaped wires ops) where
       joins false = refl
 
 -- the arcs that come from an actor which isn't finished haven't ended
-pub arcs-open : {O : Type 0} (m : Ghosts O) (valid : O → Type 0) (e : Flow O) (flow : IsFlow m valid e) (actor : ℕ) → done_at e.over (slice_get e.seats.items actor) ≡ false
+pub arcs-open : {O : Type 0} (m : Ghosts O) (e : Flow O) (flow : IsFlow m e) (actor : ℕ) → done_at e.over (slice_get e.seats.items actor) ≡ false
     → (port place arc : ℕ) → slice_get (arcs_from e.wires actor port) place ≡ Some arc → (arc < size e.queues) × ((face e.queues arc).ended ≡ false)
-arcs-open m valid e flow actor open_now port place arc is =
+arcs-open m e flow actor open_now port place arc is =
     let r = reads-from e.wires (length e.seats.items) flow.shaped actor port place arc is in
     (rw flow.lanes r.0, flow.ended arc r.0 ∙ ap (λ k. done_at e.over (slice_get e.seats.items k)) (sym r.1) ∙ open_now)

@@ -53,8 +53,8 @@ pub record HasSeats {O : Type 0} (engine : Engine O) : Type 0 where
   pub actors : engine.ready.actors ≡ length engine.flow.seats.items + 1
   pub waits : length engine.waits.items ≡ length engine.flow.seats.items + 1
 
-pub record IsEngine {O : Type 0} (m : Ghosts O) (valid : O → Type 0) (engine : Engine O) : Type 0 where
-  pub flow : IsFlow m valid engine.flow
+pub record IsEngine {O : Type 0} (m : Ghosts O) (engine : Engine O) : Type 0 where
+  pub flow : IsFlow m engine.flow
   pub room : HasSeats engine
   pub exact : (actor : ℕ) → actor ≤ length engine.flow.seats.items → ExactFor engine.flow engine.ready.list actor
   pub below : AreActors engine.ready.actors engine.ready.list

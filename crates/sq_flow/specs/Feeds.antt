@@ -19,11 +19,11 @@ use Rattle.sq_flow.specs.Seats.{FedSeat, FinishedSeat}
 use Rattle.sq_flow.specs.Shows.{IsShown}
 
 -- a feed: what the operator gave went into the queues, or was shown
-pub record FeedsInto {O : Type 0} (m : Ghosts O) (valid : O → Type 0) (levels : LevelTable) (port : ℕ) (item : Item) (wires : Wires) (actor : ℕ)
+pub record FeedsInto {O : Type 0} (m : Ghosts O) (levels : LevelTable) (port : ℕ) (item : Item) (wires : Wires) (actor : ℕ)
     (seat seat' : Seat O) (queues queues' : Queues) (was is : Option Pages) (events events' : List Event) : Type 0 where
   pub items : List (ℕ × Item)
   pub drops : List Decision
-  pub fed : FedSeat m valid levels port item items drops seat seat'
+  pub fed : FedSeat m levels port item items drops seat seat'
   pub sent : Pushes queues queues' was is (sent_to wires actor items) (λ time. AllOutsFine time items) (is_sent_by wires actor)
   pub shown : IsShown wires actor items drops events events'
 
@@ -40,11 +40,11 @@ pub record FeedsPart {O : Type 0} (m : Ghosts O) (levels : LevelTable) (port : �
   pub shown : IsShown wires actor items drops events events'
 
 -- the end of an operator, likewise
-pub record EndsInto {O : Type 0} (m : Ghosts O) (valid : O → Type 0) (wires : Wires) (actor : ℕ)
+pub record EndsInto {O : Type 0} (m : Ghosts O) (wires : Wires) (actor : ℕ)
     (seat seat' : Seat O) (queues queues' : Queues) (was is : Option Pages) (events events' : List Event) : Type 0 where
   pub items : List (ℕ × Item)
   pub drops : List Decision
-  pub finished : FinishedSeat m valid items drops seat seat'
+  pub finished : FinishedSeat m items drops seat seat'
   pub sent : Pushes queues queues' was is (sent_to wires actor items) (λ time. AllOutsFine time items) (is_sent_by wires actor)
   pub shown : IsShown wires actor items drops events events'
 

@@ -60,12 +60,12 @@ RiseFrom time [] = Unit {0}
 RiseFrom time (x ∷ xs) = (time ≤ x.time) × IsSoundTuple x × RiseFrom x.time xs
 
 -- what each step keeps, over every disk
-pub record IsFlow {O : Type 0} (m : Ghosts O) (valid : O → Type 0) (flow : Flow O) : Type 0 where
+pub record IsFlow {O : Type 0} (m : Ghosts O) (flow : Flow O) : Type 0 where
   pub shaped : IsShaped flow.wires (length flow.seats.items)
   pub lanes : size flow.queues ≡ length flow.wires.arcs.items
   pub ended : (arc : ℕ) → arc < length flow.wires.arcs.items
       → (face flow.queues arc).ended ≡ done_at flow.over (slice_get flow.seats.items (from_of (slice_get flow.wires.arcs.items arc)))
-  pub seats : (actor : ℕ) → holds_at (IsSeat m valid ((net_of flow.wires).takes actor) ((net_of flow.wires).fits actor) flow.levels.epoch flow.taken) (slice_get flow.seats.items actor)
+  pub seats : (actor : ℕ) → holds_at (IsSeat m ((net_of flow.wires).takes actor) ((net_of flow.wires).fits actor) flow.levels.epoch flow.taken) (slice_get flow.seats.items actor)
   pub few : flow.taken < 2 ^ 62
   pub held : (table : ℕ → ℕ → ℕ) → AgreesWith flow.levels table → (actor port : ℕ) → ThingsUpTo flow.clock (rest_at m table (slice_get flow.seats.items actor) [] port)
   pub coming : (source : ℕ) → RiseFrom flow.clock (to_release flow source)
@@ -145,8 +145,8 @@ abbrev pub measure_of : {O : Type 0} → Flow O → ℕ
 measure_of flow = count_all flow.sources.items + (2 ^ 62 - 1 - flow.taken) + (open_seats flow.seats.items + (if flow.over then 0 else 1))
 
 -- what a call that ended Ok did
-pub record Stepped {O : Type 0} (m : Ghosts O) (valid : O → Type 0) (was is : Option Pages) (flow flow' : Flow O) (events events' : List Event) : Type 0 where
-  pub flow_after : IsFlow m valid flow'
+pub record Stepped {O : Type 0} (m : Ghosts O) (was is : Option Pages) (flow flow' : Flow O) (events events' : List Event) : Type 0 where
+  pub flow_after : IsFlow m flow'
   pub together : Together flow'.queues is
   pub tells : Tells is → Tells was
   pub wires : flow'.wires ≡ flow.wires
@@ -200,11 +200,11 @@ pub record TooMuchOnly {O : Type 0} (m : Ghosts O) (was is : Option Pages) (flow
       → 2 ^ 62 ≤ turns_at_last m table (items_in flow was) flow
 
 -- the feed at which a run of steps failed, where one did: the flow right before it came of the first by steps
-pub record FailsAt {O : Type 0} (m : Ghosts O) (valid : O → Type 0) (log now : DiskLog) (flow flow' : Flow O) (events : List Event) (e : RunErr) : Type 0 where
+pub record FailsAt {O : Type 0} (m : Ghosts O) (log now : DiskLog) (flow flow' : Flow O) (events : List Event) (e : RunErr) : Type 0 where
   pub before : Flow O
   pub mid : DiskLog
   pub shown : List Event
-  pub stepped : Stepped m valid (known log) (known mid) flow before events shown
+  pub stepped : Stepped m (known log) (known mid) flow before events shown
   pub later : IsLater log mid
   pub last : IsLater mid now
   pub feed : IsFeedCause before flow' (known mid) (known now) e

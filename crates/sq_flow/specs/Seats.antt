@@ -46,8 +46,8 @@ holds_at P (Some seat) = P seat
 
 -- the operator is in a valid state, the tally is its own, what comes on its arcs may come to it, and as long as it isn't finished
 -- levels of epochs of so many ticks may be read
-pub record IsSeat {O : Type 0} (m : Ghosts O) (valid : O → Type 0) (takes : ℕ → Bool) (fits : ℕ → List Value → Bool) (epoch taken : ℕ) (seat : Seat O) : Type 0 where
-  pub is_valid : valid seat.op
+pub record IsSeat {O : Type 0} (m : Ghosts O) (takes : ℕ → Bool) (fits : ℕ → List Value → Bool) (epoch taken : ℕ) (seat : Seat O) : Type 0 where
+  pub is_valid : m.valid seat.op
   pub running : m.running seat.op ≡ seat.tally.running
   pub place : m.place seat.op ≡ seat.tally.place
   pub counted : m.taken seat.op ≡ seat.tally.taken
@@ -63,7 +63,7 @@ Owns m own levels seat =
     → AllByRecursion own (m.decides seat.op table future)
 
 -- what a feed does to a seat: it gives these items and drops these batches
-pub record FedSeat {O : Type 0} (m : Ghosts O) (valid : O → Type 0) (levels : LevelTable) (port : ℕ) (item : Item) (outs : List (ℕ × Item)) (drops : List Decision)
+pub record FedSeat {O : Type 0} (m : Ghosts O) (levels : LevelTable) (port : ℕ) (item : Item) (outs : List (ℕ × Item)) (drops : List Decision)
     (seat seat' : Seat O) : Type 0 where
   pub law : (table : ℕ → ℕ → ℕ) (future : List Entry) → AgreesWith levels table
       → IsFuture (m.takes_marks seat.op) (m.fits seat.op) (m.place seat.op) (entries port item ++ future)
@@ -76,7 +76,7 @@ pub record FedSeat {O : Type 0} (m : Ghosts O) (valid : O → Type 0) (levels : 
   pub sound : ItemsSound outs
   pub moves : m.place seat'.op ≡ after_all (m.place seat.op) (entries port item)
   pub counted : m.taken seat'.op ≡ m.taken seat.op + (if is_some item.body then 1 else 0)
-  pub is_valid : valid seat'.op
+  pub is_valid : m.valid seat'.op
   pub running : m.running seat'.op ≡ true
   pub marks : m.takes_marks seat'.op ≡ m.takes_marks seat.op
   pub fits : m.fits seat'.op ≡ m.fits seat.op
@@ -86,14 +86,14 @@ pub record FedSeat {O : Type 0} (m : Ghosts O) (valid : O → Type 0) (levels : 
   pub open_still : seat'.tally.running ≡ seat.tally.running
 
 -- what an end does to a seat
-pub record FinishedSeat {O : Type 0} (m : Ghosts O) (valid : O → Type 0) (outs : List (ℕ × Item)) (drops : List Decision) (seat seat' : Seat O) : Type 0 where
+pub record FinishedSeat {O : Type 0} (m : Ghosts O) (outs : List (ℕ × Item)) (drops : List Decision) (seat seat' : Seat O) : Type 0 where
   pub law : (table : ℕ → ℕ → ℕ) (q : ℕ) → m.rest seat.op table [] q ≡ given q outs
   pub decided : (table : ℕ → ℕ → ℕ) → m.decides seat.op table [] ≡ drops
   pub loses : m.lost seat.op [] ≡ m.lost seat'.op []
   pub empty : (table : ℕ → ℕ → ℕ) (q : ℕ) → m.rest seat'.op table [] q ≡ []
   pub settled : (table : ℕ → ℕ → ℕ) → m.decides seat'.op table [] ≡ []
   pub sound : ItemsSound outs
-  pub is_valid : valid seat'.op
+  pub is_valid : m.valid seat'.op
   pub running : m.running seat'.op ≡ false
   pub place : m.place seat'.op ≡ m.place seat.op
   pub counted : m.taken seat'.op ≡ m.taken seat.op

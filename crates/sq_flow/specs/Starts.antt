@@ -19,8 +19,8 @@ use Rattle.sq_flow.specs.declared.seats.Seat.{Seat}
 
 -- the operator is new, what comes on its arcs may come to it, all that it may decide is its own, and levels of epochs of so many
 -- ticks may be read
-pub record IsNewSeat {O : Type 0} (m : Ghosts O) (valid : O → Type 0) (takes : ℕ → Bool) (fits : ℕ → List Value → Bool) (own : Decision → Type 0) (epoch : ℕ) (seat : Seat O) : Type 0 where
-  pub is_valid : valid seat.op
+pub record IsNewSeat {O : Type 0} (m : Ghosts O) (takes : ℕ → Bool) (fits : ℕ → List Value → Bool) (own : Decision → Type 0) (epoch : ℕ) (seat : Seat O) : Type 0 where
+  pub is_valid : m.valid seat.op
   pub running : m.running seat.op ≡ true
   pub place : m.place seat.op ≡ Start
   pub taken : m.taken seat.op ≡ 0

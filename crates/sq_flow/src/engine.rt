@@ -71,14 +71,14 @@ impl<O: Operator + Drop> Flow<O> {
         frames: u32,
     ) -> Result<Flow<O>, AllocError>
         requires shaped { IsShaped wires (length seats.items) }
-        requires seats { (actor : ℕ) → holds_at (IsNewSeat O.Operator O.valid ((net_of wires).takes actor) ((net_of wires).fits actor) (IsOwn wires actor) levels.epoch) (slice_get seats.items actor) }
+        requires seats { (actor : ℕ) → holds_at (IsNewSeat O.Operator ((net_of wires).takes actor) ((net_of wires).fits actor) (IsOwn wires actor) levels.epoch) (slice_get seats.items actor) }
         requires coming { (source : ℕ) → RiseFrom 0 (tuples_to_come (slice_get sources.items source)) }
         requires few { length sources.items < 2 ^ 32 }
         requires few_tuples { (source : ℕ) → length (tuples_to_come (slice_get sources.items source)) ≤ 1000000 }
         requires levels { levels.closed ≡ 1 }
         requires no_levels { levels.rows ≡ [] }
         requires frames { 2 ≤ frames }
-        ensures flow { IfOk result (λ e. IsFlow O.Operator O.valid e) }
+        ensures flow { IfOk result (λ e. IsFlow O.Operator e) }
         ensures parts { IfOk result (λ e. IsNewFlow wires seats sources planner levels frames e) }
         ensures planned { IfOk result (IsPlanned (arrivals levels.epoch (map (λ s. s.items) sources.items))) }
         ensures plans { IfOk result (λ e. plans_left e ≡ flat_map (shown_after planner (arrivals levels.epoch (map (λ s. s.items) sources.items))) (numbers_to (last_arrival levels.epoch (map (λ s. s.items) sources.items)))) }
@@ -123,14 +123,14 @@ impl<O: Operator + Drop> Engine<O> {
         frames: u32,
     ) -> Result<Engine<O>, AllocError>
         requires shaped { IsShaped wires (length seats.items) }
-        requires seats { (actor : ℕ) → holds_at (IsNewSeat O.Operator O.valid ((net_of wires).takes actor) ((net_of wires).fits actor) (IsOwn wires actor) levels.epoch) (slice_get seats.items actor) }
+        requires seats { (actor : ℕ) → holds_at (IsNewSeat O.Operator ((net_of wires).takes actor) ((net_of wires).fits actor) (IsOwn wires actor) levels.epoch) (slice_get seats.items actor) }
         requires coming { (source : ℕ) → RiseFrom 0 (tuples_to_come (slice_get sources.items source)) }
         requires few { length sources.items < 2 ^ 32 }
         requires few_tuples { (source : ℕ) → length (tuples_to_come (slice_get sources.items source)) ≤ 1000000 }
         requires levels { levels.closed ≡ 1 }
         requires no_levels { levels.rows ≡ [] }
         requires frames { 2 ≤ frames }
-        ensures engine { IfOk result (λ e. IsEngine O.Operator O.valid e) }
+        ensures engine { IfOk result (λ e. IsEngine O.Operator e) }
         ensures flow { IfOk result (λ e. IsNewFlow wires seats sources planner levels frames e.flow) }
         ensures planned { IfOk result (λ e. IsPlanned (arrivals levels.epoch (map (λ s. s.items) sources.items)) e.flow) }
         ensures plans { IfOk result (λ e. plans_left e.flow ≡ flat_map (shown_after planner (arrivals levels.epoch (map (λ s. s.items) sources.items))) (numbers_to (last_arrival levels.epoch (map (λ s. s.items) sources.items)))) }
@@ -151,7 +151,7 @@ impl<O: Operator + Drop> Engine<O> {
 
     /// Looks at an actor: counts what waits for it, and lists it last where it is ready and isn't listed.
     fn look_at(&mut self, actor: u32)
-        requires flow { IsFlow O.Operator O.valid self.old.flow }
+        requires flow { IsFlow O.Operator self.old.flow }
         requires room { HasSeats self.old }
         requires there { actor ≤ length self.old.flow.seats.items }
         ensures { Looked (actor ∷ []) self.old self.new }
@@ -165,7 +165,7 @@ impl<O: Operator + Drop> Engine<O> {
 
     /// Looks at each actor, in ascending number.
     fn look_at_all(&mut self)
-        requires flow { IsFlow O.Operator O.valid self.old.flow }
+        requires flow { IsFlow O.Operator self.old.flow }
         requires room { HasSeats self.old }
         ensures { Looked (range_with_len 0 (length self.old.flow.seats.items + 1)) self.old self.new }
     {
@@ -176,7 +176,7 @@ impl<O: Operator + Drop> Engine<O> {
 
     /// Looks at the operators that read from the actor at a place, in ascending number.
     fn look_at_readers(&mut self, place: u32)
-        requires flow { IsFlow O.Operator O.valid self.old.flow }
+        requires flow { IsFlow O.Operator self.old.flow }
         requires room { HasSeats self.old }
         requires there { place ≤ length self.old.flow.seats.items }
         ensures { Looked (readers_of self.old.flow place) self.old self.new }
@@ -197,18 +197,18 @@ impl<O: Operator + Drop> Engine<O> {
         events: &mut Vec<Event>,
         steps: &mut Steps<L>,
     ) -> Result<Progress, RunErr>
-        requires engine { IsEngine O.Operator O.valid self.old }
+        requires engine { IsEngine O.Operator self.old }
         requires together { Together self.old.flow.queues (known (D.log disk.old)) }
         requires ready { contains_number self.old.ready.list pick.actor ≡ true }
         requires some { 1 ≤ pick.train }
-        ensures ok { OnOk result (Stepped O.Operator O.valid (known (D.log disk.old)) (known (D.log disk.new)) self.old.flow self.new.flow events.old.items events.new.items) }
-        ensures engine { OnOk result (IsEngine O.Operator O.valid self.new) }
+        ensures ok { OnOk result (Stepped O.Operator (known (D.log disk.old)) (known (D.log disk.new)) self.old.flow self.new.flow events.old.items events.new.items) }
+        ensures engine { OnOk result (IsEngine O.Operator self.new) }
         ensures order { OnOk result (self.new.ready.list ≡ listed_after self.new.flow self.old.ready.list pick.actor) }
         ensures prefix { OnErr result (ShowsPrefix O.Operator (known (D.log disk.old)) (known (D.log disk.new)) self.old.flow self.new.flow.levels events.old.items events.new.items) }
         ensures plans { OnErr result (PlansPrefix self.old.flow self.new.flow.levels events.old.items events.new.items) }
         ensures strange { IfErr result (λ e. NoneStrange O.Operator (D.log disk.old).honest (known (D.log disk.old)) (known (D.log disk.new)) self.old.flow self.new.flow.levels e) }
         ensures cause { IfErr result (IsCauseIn self.new.flow (D.log disk.old) (D.log disk.new) (D.faults disk.old) (D.faults disk.new)) }
-        ensures feed { IfErr result (FailsAt O.Operator O.valid (D.log disk.old) (D.log disk.new) self.old.flow self.new.flow events.old.items) }
+        ensures feed { IfErr result (FailsAt O.Operator (D.log disk.old) (D.log disk.new) self.old.flow self.new.flow events.old.items) }
         ensures faults { D.faults disk.old ≤ D.faults disk.new }
         ensures later { IsLater (D.log disk.old) (D.log disk.new) }
         ensures failed { OnErr result (self.new.failed ≡ true) }
@@ -254,7 +254,7 @@ impl<O: Operator + Drop> Engine<O> {
 
     /// How many tuples an operator was fed.
     pub fn fed(&self, operator: u32) -> u64
-        requires engine { IsEngine O.Operator O.valid self.now }
+        requires engine { IsEngine O.Operator self.now }
         requires there { operator < length self.now.flow.seats.items }
         ensures { result ≡ taken_at O.Operator (slice_get self.now.flow.seats.items operator) }
     {
@@ -264,7 +264,7 @@ impl<O: Operator + Drop> Engine<O> {
     /// The engine runs as long as an actor isn't finished, and then the ready list isn't empty; it is done where all are. It has
     /// failed where a step failed.
     pub fn state(&self) -> State
-        requires engine { self.now.failed ≡ false → IsEngine O.Operator O.valid self.now }
+        requires engine { self.now.failed ≡ false → IsEngine O.Operator self.now }
         ensures done { result ≡ State.Done → AllDone self.now.flow × (self.now.failed ≡ false) }
         ensures when_done { self.now.failed ≡ false → AllDone self.now.flow → result ≡ State.Done }
         ensures runs { result ≡ State.Running → (0 < length self.now.ready.list) × (self.now.failed ≡ false) }
@@ -282,7 +282,7 @@ impl<O: Operator + Drop> Engine<O> {
 
     /// Where all actors are finished nothing is left of any output or drop, and each operator was fed all that it is fed in all.
     pub fn nothing_left(&self)
-        requires engine { IsFlow O.Operator O.valid self.now.flow }
+        requires engine { IsFlow O.Operator self.now.flow }
         requires done { AllDone self.now.flow }
         ensures lines { (pages : Option Pages) (table : ℕ → ℕ → ℕ) → HoldsItems O.Operator table (items_in self.now.flow pages) self.now.flow
             → (output : ℕ) → self.now.flow.wires.shown + output < length self.now.flow.seats.items → lines_left O.Operator table (items_in self.now.flow pages) self.now.flow output ≡ [] }

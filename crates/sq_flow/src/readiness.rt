@@ -51,7 +51,7 @@ impl<O: Operator + Drop> Flow<O> {
 
     /// An actor is ready.
     pub(crate) fn is_ready(&self, actor: u32) -> bool
-        requires flow { IsFlow O.Operator O.valid self.now }
+        requires flow { IsFlow O.Operator self.now }
         requires actor_in { actor ≤ length self.now.seats.items }
         ensures { result ≡ is_ready self.now actor }
     {
@@ -66,7 +66,7 @@ impl<O: Operator + Drop> Flow<O> {
 
     /// How many items wait for an actor.
     pub(crate) fn waiting(&self, actor: u32) -> u64
-        requires flow { IsFlow O.Operator O.valid self.now }
+        requires flow { IsFlow O.Operator self.now }
         requires actor_in { actor ≤ length self.now.seats.items }
         ensures { result ≡ waiting self.now actor }
     {
@@ -78,7 +78,7 @@ impl<O: Operator + Drop> Flow<O> {
 
     /// How many operators read from the actor at a place.
     pub(crate) fn count_readers(&self, place: u32) -> usize
-        requires flow { IsFlow O.Operator O.valid self.now }
+        requires flow { IsFlow O.Operator self.now }
         requires there { place ≤ length self.now.seats.items }
         ensures { result ≡ length (readers_of self.now place) }
     {
@@ -87,7 +87,7 @@ impl<O: Operator + Drop> Flow<O> {
 
     /// One of the operators that read from the actor at a place, as an actor.
     pub(crate) fn reader(&self, place: u32, index: usize) -> u32
-        requires flow { IsFlow O.Operator O.valid self.now }
+        requires flow { IsFlow O.Operator self.now }
         requires there { place ≤ length self.now.seats.items }
         requires within { index < length (readers_of self.now place) }
         ensures reader { result ≡ slice_index (readers_of self.now place) index }

@@ -30,7 +30,7 @@ impl<O: Operator + Drop> Flow<O> {
 
     /// An actor is finished.
     pub(crate) fn is_done(&self, actor: u32) -> bool
-        requires flow { IsFlow O.Operator O.valid self.now }
+        requires flow { IsFlow O.Operator self.now }
         requires actor_in { actor ≤ length self.now.seats.items }
         ensures { result ≡ done_at self.now.over (slice_get self.now.seats.items actor) }
     {
@@ -46,10 +46,10 @@ impl<O: Operator + Drop> Flow<O> {
         disk: &mut D,
         events: &mut Vec<Event>,
     ) -> Result<Did, RunErr>
-        requires flow { IsFlow O.Operator O.valid self.old }
+        requires flow { IsFlow O.Operator self.old }
         requires together { Together self.old.queues (known (D.log disk.old)) }
         requires running { self.old.over ≡ false }
-        ensures ok { OnOk result (Stepped O.Operator O.valid (known (D.log disk.old)) (known (D.log disk.new)) self.old self.new events.old.items events.new.items) }
+        ensures ok { OnOk result (Stepped O.Operator (known (D.log disk.old)) (known (D.log disk.new)) self.old self.new events.old.items events.new.items) }
         ensures prefix { OnErr result (ShowsPrefix O.Operator (known (D.log disk.old)) (known (D.log disk.new)) self.old self.new.levels events.old.items events.new.items) }
         ensures plans { OnErr result (PlansPrefix self.old self.new.levels events.old.items events.new.items) }
         ensures strange { IfErr result (λ e. NoneStrange O.Operator (D.log disk.old).honest (known (D.log disk.old)) (known (D.log disk.new)) self.old self.new.levels e) }
@@ -87,11 +87,11 @@ impl<O: Operator + Drop> Flow<O> {
         events: &mut Vec<Event>,
         steps: &mut Steps<L>,
     ) -> Result<Did, RunErr>
-        requires flow { IsFlow O.Operator O.valid self.old }
+        requires flow { IsFlow O.Operator self.old }
         requires together { Together self.old.queues (known (D.log disk.old)) }
         requires actor_in { actor < length self.old.seats.items }
         requires running { done_at self.old.over (slice_get self.old.seats.items actor) ≡ false }
-        ensures ok { OnOk result (Stepped O.Operator O.valid (known (D.log disk.old)) (known (D.log disk.new)) self.old self.new events.old.items events.new.items) }
+        ensures ok { OnOk result (Stepped O.Operator (known (D.log disk.old)) (known (D.log disk.new)) self.old self.new events.old.items events.new.items) }
         ensures prefix { OnErr result (ShowsPrefix O.Operator (known (D.log disk.old)) (known (D.log disk.new)) self.old self.new.levels events.old.items events.new.items) }
         ensures plans { OnErr result (PlansPrefix self.old self.new.levels events.old.items events.new.items) }
         ensures strange { IfErr result (λ e. NoneStrange O.Operator (D.log disk.old).honest (known (D.log disk.old)) (known (D.log disk.new)) self.old self.new.levels e) }
@@ -132,10 +132,10 @@ impl<O: Operator + Drop> Flow<O> {
         events: &mut Vec<Event>,
         steps: &mut Steps<L>,
     ) -> Result<Did, RunErr>
-        requires flow { IsFlow O.Operator O.valid self.old }
+        requires flow { IsFlow O.Operator self.old }
         requires together { Together self.old.queues (known (D.log disk.old)) }
         requires actor_in { actor ≤ length self.old.seats.items }
-        ensures ok { OnOk result (Stepped O.Operator O.valid (known (D.log disk.old)) (known (D.log disk.new)) self.old self.new events.old.items events.new.items) }
+        ensures ok { OnOk result (Stepped O.Operator (known (D.log disk.old)) (known (D.log disk.new)) self.old self.new events.old.items events.new.items) }
         ensures prefix { OnErr result (ShowsPrefix O.Operator (known (D.log disk.old)) (known (D.log disk.new)) self.old self.new.levels events.old.items events.new.items) }
         ensures plans { OnErr result (PlansPrefix self.old self.new.levels events.old.items events.new.items) }
         ensures strange { IfErr result (λ e. NoneStrange O.Operator (D.log disk.old).honest (known (D.log disk.old)) (known (D.log disk.new)) self.old self.new.levels e) }
@@ -173,16 +173,16 @@ impl<O: Operator + Drop> Flow<O> {
         events: &mut Vec<Event>,
         steps: &mut Steps<L>,
     ) -> Result<Progress, RunErr>
-        requires flow { IsFlow O.Operator O.valid self.old }
+        requires flow { IsFlow O.Operator self.old }
         requires together { Together self.old.queues (known (D.log disk.old)) }
         requires actor_in { actor ≤ length self.old.seats.items }
         requires some { 1 ≤ train }
-        ensures ok { OnOk result (Stepped O.Operator O.valid (known (D.log disk.old)) (known (D.log disk.new)) self.old self.new events.old.items events.new.items) }
+        ensures ok { OnOk result (Stepped O.Operator (known (D.log disk.old)) (known (D.log disk.new)) self.old self.new events.old.items events.new.items) }
         ensures prefix { OnErr result (ShowsPrefix O.Operator (known (D.log disk.old)) (known (D.log disk.new)) self.old self.new.levels events.old.items events.new.items) }
         ensures plans { OnErr result (PlansPrefix self.old self.new.levels events.old.items events.new.items) }
         ensures strange { IfErr result (λ e. NoneStrange O.Operator (D.log disk.old).honest (known (D.log disk.old)) (known (D.log disk.new)) self.old self.new.levels e) }
         ensures cause { IfErr result (IsCauseIn self.new (D.log disk.old) (D.log disk.new) (D.faults disk.old) (D.faults disk.new)) }
-        ensures feed { IfErr result (FailsAt O.Operator O.valid (D.log disk.old) (D.log disk.new) self.old self.new events.old.items) }
+        ensures feed { IfErr result (FailsAt O.Operator (D.log disk.old) (D.log disk.new) self.old self.new events.old.items) }
         ensures faults { D.faults disk.old ≤ D.faults disk.new }
         ensures later { IsLater (D.log disk.old) (D.log disk.new) }
         ensures touches { OnOk result (TouchesOnly actor self.old self.new) }

@@ -6,7 +6,7 @@ use Rattle.sq_flow.specs.Flows.{items_in}
 use Rattle.sq_flow.specs.Wiring.{IsShaped}
 use Rattle.sq_start.specs.Numbers.{ops_of}
 use Rattle.sq_start.specs.Starts.{IsReadReplay}
-use Rattle.sq_core.specs.Meanings.{actors, IsValid}
+use Rattle.sq_core.specs.Meanings.{actors}
 use Rattle.sq_core.specs.Table.{IsTabled}
 use Rattle.sq_core.proofs.TableLemmas.{if-three}
 use Rattle.sq_core.proofs.NewFlow.{new-seats, is-new, none-fed}
@@ -68,7 +68,7 @@ returns-clause-answers c =
 pub returns-clause-ready : goal.returns-clause-ready
 returns-clause-ready c =
     IfOk_both c.new.result _ _ _ (λ e is h.
-    starts-ready actors IsValid c.args.n.now c.requires.sound e is (subst (IsTabled c.args.n.now) (sym h.wires_are) c.in_ok-wires.ensures.measured)
+    starts-ready actors c.args.n.now c.requires.sound e is (subst (IsTabled c.args.n.now) (sym h.wires_are) c.in_ok-wires.ensures.measured)
     (ap (λ v. length v.items) h.seats_are ∙ c.in_ok-seats.ensures.count) h.runs h.bare) c.new.ensures.engine c.new.ensures.flow
 
 pub returns-clause-frames : goal.returns-clause-frames

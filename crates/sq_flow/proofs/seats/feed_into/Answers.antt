@@ -22,7 +22,7 @@ returns-in-Ok-clause-fed g c =
     let events = came.holds.events in
     let told = c.in-Ok.ensures in
     let none = c.new.ensures in
-    feeds-into g.D.PageDisk.log g.D.PageDisk.faults _ _ _ _ _ _ came _ _ _ (search rules) (search rules) (search rules) told.stays_ready.whole c.args.levels.now c.args.port c.args.item
+    feeds-into g.D.PageDisk.log g.D.PageDisk.faults _ _ _ _ _ came _ _ _ (search rules) (search rules) (search rules) told.stays_ready.whole c.args.levels.now c.args.port c.args.item
     (record {
       law = λ table future agrees may q.
           subst (λ items. given q items ++ g.O.Operator.rest c.args.seat.now.op table (entries c.args.port c.args.item ++ future) q ≡ given q c.feed-done.new.out.noted.items ++ g.O.Operator.rest c.feed-done.new.self table future q) none.0

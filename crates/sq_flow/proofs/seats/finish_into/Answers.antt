@@ -21,7 +21,7 @@ returns-in-Ok-clause-finished g c =
     let events = came.holds.events in
     let told = c.in-Ok.ensures in
     let none = c.new.ensures in
-    ends-into g.D.PageDisk.log g.D.PageDisk.faults _ _ _ _ _ _ came _ _ _ (search rules) (search rules) (search rules) told.stays_ready.whole
+    ends-into g.D.PageDisk.log g.D.PageDisk.faults _ _ _ _ _ came _ _ _ (search rules) (search rules) (search rules) told.stays_ready.whole
     (record {
       law = λ table q. subst (λ items. given q items ++ g.O.Operator.rest c.args.seat.now.op table [] q ≡ given q c.finish-done.new.out.noted.items) none.0 (told.law table q);
       decided = λ table. subst (λ drops. drops ++ g.O.Operator.decides c.args.seat.now.op table [] ≡ c.finish-done.new.out.noted.drops) none.1 (told.decided table);

@@ -16,7 +16,7 @@ returns-clause-engine g c =
     let replay = c.in_ok-flow.ensures.flow.shaped.replay_is in
     let actors : c.in_ok-ready.ready.actors ≡ length flow.seats.items + 1 = omega (arith, replay, ap (λ r. r.actors) c.in_ok-ready.ensures) in
     let waits : length c.in_ok-waits.waits.items ≡ length flow.seats.items + 1 = omega (arith, replay, c.in_ok-waits.ensures.len, c.in_ok-waits.waits.ok.0) in
-    engine-first _ _ (record { flow = flow; ready = c.in_ok-ready.ready; waits = c.in_ok-waits.waits; failed = false }) c.look_at_all.new.self
+    engine-first _ (record { flow = flow; ready = c.in_ok-ready.ready; waits = c.in_ok-waits.waits; failed = false }) c.look_at_all.new.self
     c.in_ok-flow.ensures.flow (record { actors = actors; waits = waits }) (ap (λ r. r.list) c.in_ok-ready.ensures) refl c.look_at_all.ensures
 
 pub returns-clause-order : goal.returns-clause-order

@@ -10,7 +10,7 @@ pub returns-in-Ok-clause-engine : goal.returns-in-Ok-clause-engine
 returns-in-Ok-clause-engine g c =
     let a = c.args.self.now in
     let did = c.in-Ok.ensures in
-    engine-after _ _ a (record { flow = c.train.new.self; ready = c.remove.new.self; waits = a.waits; failed = a.failed })
+    engine-after _ a (record { flow = c.train.new.self; ready = c.remove.new.self; waits = a.waits; failed = a.failed })
     c.look_at.new.self c.look_at_readers.new.self c.args.pick.actor c.seat_number-place.result c.requires.engine c.requires.ready c.seat_number-place.ensures.place
     did.ok.flow_after did.ok.wires did.ok.seats did.touches c.remove.ensures.list refl c.requires.engine.running c.look_at.ensures c.look_at_readers.ensures
 
@@ -18,7 +18,7 @@ pub returns-in-Ok-clause-order : goal.returns-in-Ok-clause-order
 returns-in-Ok-clause-order g c =
     let a = c.args.self.now in
     let did = c.in-Ok.ensures in
-    engine-order _ _ a (record { flow = c.train.new.self; ready = c.remove.new.self; waits = a.waits; failed = a.failed })
+    engine-order _ a (record { flow = c.train.new.self; ready = c.remove.new.self; waits = a.waits; failed = a.failed })
     c.look_at.new.self c.look_at_readers.new.self c.args.pick.actor c.seat_number-place.result c.requires.engine c.requires.ready c.seat_number-place.ensures.place
     did.ok.flow_after did.ok.wires did.ok.seats did.touches c.remove.ensures.list refl c.requires.engine.running c.look_at.ensures c.look_at_readers.ensures
 

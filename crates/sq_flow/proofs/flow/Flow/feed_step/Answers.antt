@@ -22,15 +22,15 @@ returns-in-Err-clause-strange g c =
     λ told table agrees holds.
     c.in-Err.ensures.strange told
     (λ item more front.
-    passes-front _ _ c.args.self.now c.requires.flow c.args.actor c.requires.head.0 c.args.port c.args.arc c.arc-at.result.now item c.requires.actor_in c.requires.head.1
+    passes-front _ c.args.self.now c.requires.flow c.args.actor c.requires.head.0 c.args.port c.args.arc c.arc-at.result.now item c.requires.actor_in c.requires.head.1
     c.index.result.now is c.arc-at.ensures table agrees (items_on c.args.self.now.queues (known (g.D.PageDisk.log c.args.disk.now))) holds (c.requires.together.faces (c.in-Err.ensures.later.known told)) more front)
 
 pub feed_into-requires-clause-is_valid : goal.feed_into-requires-clause-is_valid
 feed_into-requires-clause-is_valid g c =
     let is = slice_get_read c.args.self.now.seats.items _ c.args.actor c.index_mut.result.now refl c.requires.actor_in c.index_mut.ensures.value in
-    let fine = seat-fine _ _ c.args.self.now c.requires.flow c.args.actor c.requires.head.0 c.args.port c.args.arc c.arc-at.result.now c.in-Ok.item c.requires.actor_in c.requires.head.1 c.index_mut.result.now is c.arc-at.ensures in (
+    let fine = seat-fine _ c.args.self.now c.requires.flow c.args.actor c.requires.head.0 c.args.port c.args.arc c.arc-at.result.now c.in-Ok.item c.requires.actor_in c.requires.head.1 c.index_mut.result.now is c.arc-at.ensures in (
       fine.is_valid,
-      runs _ _ c.args.self.now c.requires.flow c.args.actor c.requires.head.0 c.args.port c.args.arc c.arc-at.result.now c.in-Ok.item c.requires.actor_in c.requires.head.1 c.index_mut.result.now is c.arc-at.ensures c.requires.running,
+      runs _ c.args.self.now c.requires.flow c.args.actor c.requires.head.0 c.args.port c.args.arc c.arc-at.result.now c.in-Ok.item c.requires.actor_in c.requires.head.1 c.index_mut.result.now is c.arc-at.ensures c.requires.running,
     )
 
 pub feed_into-requires-clause-may_come : goal.feed_into-requires-clause-may_come
@@ -38,13 +38,13 @@ feed_into-requires-clause-may_come g c =
     let was = slice_get_read c.args.self.now.seats.items _ c.args.actor c.index.result.now refl c.requires.actor_in c.index.ensures in
     let is = slice_get_read c.args.self.now.seats.items _ c.args.actor c.index_mut.result.now refl c.requires.actor_in c.index_mut.ensures.value in
     let same = same_Some c.index.result.now c.index_mut.result.now (sym was ∙ is) in
-    may-come _ _ c.args.self.now c.requires.flow c.args.actor c.requires.head.0 c.args.port c.args.arc c.arc-at.result.now c.in-Ok.item c.requires.actor_in c.requires.head.1 c.index_mut.result.now is c.arc-at.ensures
+    may-come _ c.args.self.now c.requires.flow c.args.actor c.requires.head.0 c.args.port c.args.arc c.arc-at.result.now c.in-Ok.item c.requires.actor_in c.requires.head.1 c.index_mut.result.now is c.arc-at.ensures
     (subst (λ z. MayBeFed c.arc-at.result.now c.args.port z.tally.place c.args.self.now.clock c.in-Ok.item) same c.in-Ok.ensures.may_be_fed)
 
 pub feed_into-requires-clause-has_room : goal.feed_into-requires-clause-has_room
 feed_into-requires-clause-has_room g c =
     let is = slice_get_read c.args.self.now.seats.items _ c.args.actor c.index_mut.result.now refl c.requires.actor_in c.index_mut.ensures.value in
-    let fine = seat-fine _ _ c.args.self.now c.requires.flow c.args.actor c.requires.head.0 c.args.port c.args.arc c.arc-at.result.now c.in-Ok.item c.requires.actor_in c.requires.head.1 c.index_mut.result.now is c.arc-at.ensures in
+    let fine = seat-fine _ c.args.self.now c.requires.flow c.args.actor c.requires.head.0 c.args.port c.args.arc c.arc-at.result.now c.in-Ok.item c.requires.actor_in c.requires.head.1 c.index_mut.result.now is c.arc-at.ensures in
     let counted = fine.counted in
     let few = fine.few in
     let weight = weighs c.in-Ok.item c.in-Ok.ensures.sound in
@@ -54,7 +54,7 @@ feed_into-requires-clause-has_room g c =
 
 pub feed_into-requires-clause-there : goal.feed_into-requires-clause-there
 feed_into-requires-clause-there g c = λ port place arc is.
-    let r = arcs-open _ _ c.args.self.now c.requires.flow c.args.actor c.requires.running port place arc is in
+    let r = arcs-open _ c.args.self.now c.requires.flow c.args.actor c.requires.running port place arc is in
     (rw c.in-Ok.ensures.size r.0, c.in-Ok.ensures.ended arc ∙ r.1)
 
 pub returns-clause-ok : goal.returns-clause-ok
@@ -63,7 +63,7 @@ returns-clause-ok g c =
     let is = slice_get_read c.args.self.now.seats.items _ c.args.actor c.index_mut.result.now refl c.requires.actor_in c.index_mut.ensures.value in
     let same = same_Some c.index.result.now c.index_mut.result.now (sym was ∙ is) in
     let may = subst (λ z. MayBeFed c.arc-at.result.now c.args.port z.tally.place c.args.self.now.clock c.in-Ok.item) same c.in-Ok.ensures.may_be_fed in
-    fed-stepped _ _ c.args.self.now c.requires.flow c.args.actor c.requires.head.0 c.args.port c.args.arc c.arc-at.result.now c.in-Ok.item c.requires.actor_in c.requires.head.1 c.index_mut.result.now is c.arc-at.ensures
+    fed-stepped _ c.args.self.now c.requires.flow c.args.actor c.requires.head.0 c.args.port c.args.arc c.arc-at.result.now c.in-Ok.item c.requires.actor_in c.requires.head.1 c.index_mut.result.now is c.arc-at.ensures
     (known (g.D.PageDisk.log c.args.disk.now)) (known (g.D.PageDisk.log c.feed_into.new.disk)) (known (g.D.PageDisk.log c.take_item.new.disk)) c.take_item.new.queues c.feed_into.new.queues _ c.in-Ok-count_item.taken
     c.feed_into.new.seat c.in_ok-feed_into.ensures.fed.items c.in_ok-feed_into.ensures.fed.drops c.args.events.now.items c.feed_into.new.events.items
     c.requires.together
@@ -74,9 +74,9 @@ returns-clause-ok g c =
     (λ other ne. get_set_other c.args.self.now.seats.items c.args.actor other c.feed_into.new.seat ne)
     (length-set c.args.self.now.seats.items c.args.actor c.feed_into.new.seat) c.requires.running c.in_ok-feed_into.ensures.fed.sent c.in_ok-feed_into.ensures.fed.shown.lines c.in_ok-feed_into.ensures.fed.shown.decided
     (c.in_ok-feed_into.ensures.fed.shown.below (length c.args.self.now.seats.items - c.args.self.now.wires.shown) (below-outputs c.args.actor (length c.args.self.now.seats.items) c.args.self.now.wires.shown c.requires.actor_in)
-    (own-drops _ _ c.args.self.now c.requires.flow c.args.actor c.requires.head.0 c.args.port c.args.arc c.arc-at.result.now c.in-Ok.item c.requires.actor_in c.requires.head.1 c.index_mut.result.now is c.arc-at.ensures
+    (own-drops _ c.args.self.now c.requires.flow c.args.actor c.requires.head.0 c.args.port c.args.arc c.arc-at.result.now c.in-Ok.item c.requires.actor_in c.requires.head.1 c.index_mut.result.now is c.arc-at.ensures
     c.feed_into.new.seat c.in_ok-feed_into.ensures.fed.items c.in_ok-feed_into.ensures.fed.drops c.in_ok-feed_into.ensures.fed.fed may
-    (runs _ _ c.args.self.now c.requires.flow c.args.actor c.requires.head.0 c.args.port c.args.arc c.arc-at.result.now c.in-Ok.item c.requires.actor_in c.requires.head.1 c.index_mut.result.now is c.arc-at.ensures c.requires.running)))
+    (runs _ c.args.self.now c.requires.flow c.args.actor c.requires.head.0 c.args.port c.args.arc c.arc-at.result.now c.in-Ok.item c.requires.actor_in c.requires.head.1 c.index_mut.result.now is c.arc-at.ensures c.requires.running)))
     c.in_ok-feed_into.ensures.fed.shown.plans
 
 pub returns-clause-measure : goal.returns-clause-measure
@@ -89,23 +89,23 @@ returns-clause-measure g c =
     omega (arith, same, weight, more, low)
 
 pub returns-in-Err-clause-cost_err : goal.returns-in-Err-clause-cost_err
-returns-in-Err-clause-cost_err g c = costs-none _ _ c.args.self.now c.requires.flow (known (g.D.PageDisk.log c.args.disk.now)) (known (g.D.PageDisk.log c.take_item.new.disk)) c.args.self.now.levels c.args.steps.now c.args.steps.now refl
+returns-in-Err-clause-cost_err g c = costs-none _ c.args.self.now c.requires.flow (known (g.D.PageDisk.log c.args.disk.now)) (known (g.D.PageDisk.log c.take_item.new.disk)) c.args.self.now.levels c.args.steps.now c.args.steps.now refl
 
 pub returns-in-Err-count_item-clause-cost_err : goal.returns-in-Err-count_item-clause-cost_err
-returns-in-Err-count_item-clause-cost_err g c = costs-none _ _ c.args.self.now c.requires.flow (known (g.D.PageDisk.log c.args.disk.now)) (known (g.D.PageDisk.log c.take_item.new.disk)) c.args.self.now.levels c.args.steps.now c.args.steps.now refl
+returns-in-Err-count_item-clause-cost_err g c = costs-none _ c.args.self.now c.requires.flow (known (g.D.PageDisk.log c.args.disk.now)) (known (g.D.PageDisk.log c.take_item.new.disk)) c.args.self.now.levels c.args.steps.now c.args.steps.now refl
 
 pub returns-in-Err-count_item-clause-too_much : goal.returns-in-Err-count_item-clause-too_much
 returns-in-Err-count_item-clause-too_much g c =
     let is = slice_get_read c.args.self.now.seats.items _ c.args.actor c.index.result.now refl c.requires.actor_in c.index.ensures in
-    too-much-front _ _ c.args.self.now c.requires.flow c.args.actor c.requires.head.0 c.args.port c.args.arc c.arc-at.result.now c.in-Ok.item c.requires.actor_in c.requires.head.1 c.index.result.now is c.arc-at.ensures
+    too-much-front _ c.args.self.now c.requires.flow c.args.actor c.requires.head.0 c.args.port c.args.arc c.arc-at.result.now c.in-Ok.item c.requires.actor_in c.requires.head.1 c.index.result.now is c.arc-at.ensures
     (known (g.D.PageDisk.log c.args.disk.now)) (known (g.D.PageDisk.log c.take_item.new.disk)) c.take_item.new.queues _ c.in-Err-count_item.e c.requires.together c.in-Ok.ensures.later.known c.in-Ok.ensures.items c.in-Ok.ensures.others
     c.in-Err-count_item.ensures.too_much c.in-Err-count_item.ensures.few refl refl
 
 pub feed_into-requires-clause-has_epoch : goal.feed_into-requires-clause-has_epoch
 feed_into-requires-clause-has_epoch g c =
     let is = slice_get_read c.args.self.now.seats.items _ c.args.actor c.index_mut.result.now refl c.requires.actor_in c.index_mut.ensures.value in
-    let fine = seat-fine _ _ c.args.self.now c.requires.flow c.args.actor c.requires.head.0 c.args.port c.args.arc c.arc-at.result.now c.in-Ok.item c.requires.actor_in c.requires.head.1 c.index_mut.result.now is c.arc-at.ensures in
-    fine.reads (sym fine.running ∙ runs _ _ c.args.self.now c.requires.flow c.args.actor c.requires.head.0 c.args.port c.args.arc c.arc-at.result.now c.in-Ok.item c.requires.actor_in c.requires.head.1 c.index_mut.result.now is c.arc-at.ensures c.requires.running)
+    let fine = seat-fine _ c.args.self.now c.requires.flow c.args.actor c.requires.head.0 c.args.port c.args.arc c.arc-at.result.now c.in-Ok.item c.requires.actor_in c.requires.head.1 c.index_mut.result.now is c.arc-at.ensures in
+    fine.reads (sym fine.running ∙ runs _ c.args.self.now c.requires.flow c.args.actor c.requires.head.0 c.args.port c.args.arc c.arc-at.result.now c.in-Ok.item c.requires.actor_in c.requires.head.1 c.index_mut.result.now is c.arc-at.ensures c.requires.running)
 
 pub feed_into-requires-clause-joined : goal.feed_into-requires-clause-joined
 feed_into-requires-clause-joined g c = comes-from c.args.self.now.wires (length c.args.self.now.seats.items) c.requires.flow.shaped c.args.actor
@@ -113,7 +113,7 @@ feed_into-requires-clause-joined g c = comes-from c.args.self.now.wires (length 
 pub returns-clause-touches : goal.returns-clause-touches
 returns-clause-touches g c =
     let is = slice_get_read c.args.self.now.seats.items _ c.args.actor c.index_mut.result.now refl c.requires.actor_in c.index_mut.ensures.value in
-    fed-touches _ _ c.args.self.now c.requires.flow c.args.actor c.requires.head.0 c.args.port c.args.arc c.arc-at.result.now c.in-Ok.item c.requires.actor_in c.requires.head.1 c.index_mut.result.now is c.arc-at.ensures
+    fed-touches _ c.args.self.now c.requires.flow c.args.actor c.requires.head.0 c.args.port c.args.arc c.arc-at.result.now c.in-Ok.item c.requires.actor_in c.requires.head.1 c.index_mut.result.now is c.arc-at.ensures
     (known (g.D.PageDisk.log c.feed_into.new.disk)) (known (g.D.PageDisk.log c.take_item.new.disk)) c.take_item.new.queues c.feed_into.new.queues _ c.in-Ok-count_item.taken c.feed_into.new.seat c.in_ok-feed_into.ensures.fed.items
     c.in-Ok.ensures.faces c.in_ok-feed_into.ensures.fed.fed.open_still
     (get_set_same c.args.self.now.seats.items c.args.actor c.feed_into.new.seat c.requires.actor_in)
@@ -122,7 +122,7 @@ returns-clause-touches g c =
 pub returns-clause-cost : goal.returns-clause-cost
 returns-clause-cost g c =
     let is = slice_get_read c.args.self.now.seats.items _ c.args.actor c.index_mut.result.now refl c.requires.actor_in c.index_mut.ensures.value in
-    costs-fed _ _ c.args.self.now c.requires.flow c.args.actor c.requires.head.0 c.args.port c.args.arc c.arc-at.result.now c.in-Ok.item c.requires.actor_in c.requires.head.1 c.index_mut.result.now is c.arc-at.ensures
+    costs-fed _ c.args.self.now c.requires.flow c.args.actor c.requires.head.0 c.args.port c.args.arc c.arc-at.result.now c.in-Ok.item c.requires.actor_in c.requires.head.1 c.index_mut.result.now is c.arc-at.ensures
     (with_item c.args.self.now.seats c.args.actor c.feed_into.new.seat) c.feed_into.new.queues c.in-Ok-count_item.taken c.feed_into.new.seat c.args.steps.now c.feed_into.new.steps
     (get_set_same c.args.self.now.seats.items c.args.actor c.feed_into.new.seat c.requires.actor_in)
     (λ other ne. get_set_other c.args.self.now.seats.items c.args.actor other c.feed_into.new.seat ne)
@@ -190,7 +190,7 @@ returns-in_err-feed_into-clause-prefix g c =
     let was = slice_get_read c.args.self.now.seats.items _ c.args.actor c.index.result.now refl c.requires.actor_in c.index.ensures in
     let same = same_Some c.index.result.now c.index_mut.result.now (sym was ∙ is) in
     rw p.1
-    (fed-part _ _ c.args.self.now c.requires.flow c.args.actor c.requires.head.0 c.args.port c.args.arc c.arc-at.result.now c.in-Ok.item c.requires.actor_in c.requires.head.1 c.index_mut.result.now is c.arc-at.ensures
+    (fed-part _ c.args.self.now c.requires.flow c.args.actor c.requires.head.0 c.args.port c.args.arc c.arc-at.result.now c.in-Ok.item c.requires.actor_in c.requires.head.1 c.index_mut.result.now is c.arc-at.ensures
     (known (g.D.PageDisk.log c.args.disk.now)) (known (g.D.PageDisk.log c.take_item.new.disk)) (known (g.D.PageDisk.log c.feed_into.new.disk)) c.take_item.new.queues c.args.events.now.items c.feed_into.new.events.items
     c.requires.together c.in-Ok.ensures.later.known c.in_err-feed_into.ensures.later.known c.in-Ok.ensures.items c.in-Ok.ensures.others c.in_err-feed_into.ensures.part
     (subst (λ z. MayBeFed c.arc-at.result.now c.args.port z.tally.place c.args.self.now.clock c.in-Ok.item) same c.in-Ok.ensures.may_be_fed) c.requires.running)
@@ -198,7 +198,7 @@ returns-in_err-feed_into-clause-prefix g c =
 pub returns-in_err-feed_into-clause-cost_err : goal.returns-in_err-feed_into-clause-cost_err
 returns-in_err-feed_into-clause-cost_err g c =
     let p = err_from_is_err_and c.from_residual.result c.from_residual.ensures.1 in
-    rw p.1 (costs-none _ _ c.args.self.now c.requires.flow (known (g.D.PageDisk.log c.args.disk.now)) (known (g.D.PageDisk.log c.feed_into.new.disk)) c.args.self.now.levels c.args.steps.now c.feed_into.new.steps c.in_err-feed_into.ensures.no_cost)
+    rw p.1 (costs-none _ c.args.self.now c.requires.flow (known (g.D.PageDisk.log c.args.disk.now)) (known (g.D.PageDisk.log c.feed_into.new.disk)) c.args.self.now.levels c.args.steps.now c.feed_into.new.steps c.in_err-feed_into.ensures.no_cost)
 
 pub returns-in_err-feed_into-clause-stay : goal.returns-in_err-feed_into-clause-stay
 returns-in_err-feed_into-clause-stay g c = c.in_err-feed_into.ensures.part.shown.stay

@@ -13,12 +13,12 @@ use Rattle.sq_flow.proofs.flow.Flow.finish_step.Goals as goal
 use Rattle.sq_words.proofs.Lists.{get_set_same, get_set_other}
 
 pub finish_into-requires-clause-there : goal.finish_into-requires-clause-there
-finish_into-requires-clause-there g c = arcs-open _ _ c.args.self.now c.requires.flow c.args.actor c.requires.running
+finish_into-requires-clause-there g c = arcs-open _ c.args.self.now c.requires.flow c.args.actor c.requires.running
 
 pub returns-clause-ok : goal.returns-clause-ok
 returns-clause-ok g c =
     let is = slice_get_read c.args.self.now.seats.items _ c.args.actor c.index_mut.result.now refl c.requires.actor_in c.index_mut.ensures.value in
-    finished-stepped _ _ c.args.self.now c.requires.flow c.args.actor c.requires.actor_in c.requires.head c.index_mut.result.now is
+    finished-stepped _ c.args.self.now c.requires.flow c.args.actor c.requires.actor_in c.requires.head c.index_mut.result.now is
     (known (g.D.PageDisk.log c.args.disk.now)) (known (g.D.PageDisk.log c.finish_into.new.disk)) c.finish_into.new.queues c.end_arcs.new.queues _
     c.finish_into.new.seat c.in_ok-finish_into.ensures.finished.items c.in_ok-finish_into.ensures.finished.drops c.args.events.now.items c.finish_into.new.events.items
     c.requires.together c.in_ok-finish_into.ensures.finished.finished
@@ -27,15 +27,15 @@ returns-clause-ok g c =
     (length-set c.args.self.now.seats.items c.args.actor c.finish_into.new.seat)
     c.in_ok-finish_into.ensures.finished.sent c.end_arcs.ensures.size c.end_arcs.ensures.frames c.end_arcs.ensures.ended c.end_arcs.ensures.items c.end_arcs.ensures.together c.in_ok-finish_into.ensures.finished.shown.lines c.requires.running c.in_ok-finish_into.ensures.finished.shown.decided
     (c.in_ok-finish_into.ensures.finished.shown.below (length c.args.self.now.seats.items - c.args.self.now.wires.shown) (below-outputs c.args.actor (length c.args.self.now.seats.items) c.args.self.now.wires.shown c.requires.actor_in)
-    (own-drops _ _ c.args.self.now c.requires.flow c.args.actor c.requires.actor_in c.requires.head c.index_mut.result.now is
+    (own-drops _ c.args.self.now c.requires.flow c.args.actor c.requires.actor_in c.requires.head c.index_mut.result.now is
     c.finish_into.new.seat c.in_ok-finish_into.ensures.finished.items c.in_ok-finish_into.ensures.finished.drops c.in_ok-finish_into.ensures.finished.finished c.requires.running))
     c.in_ok-finish_into.ensures.finished.shown.plans
 
 pub returns-clause-measure : goal.returns-clause-measure
 returns-clause-measure g c =
     let is = slice_get_read c.args.self.now.seats.items _ c.args.actor c.index_mut.result.now refl c.requires.actor_in c.index_mut.ensures.value in
-    let fine = seat-fine _ _ c.args.self.now c.requires.flow c.args.actor c.requires.actor_in c.requires.head c.index_mut.result.now is in
-    let ran = sym fine.running ∙ runs _ _ c.args.self.now c.requires.flow c.args.actor c.requires.actor_in c.requires.head c.index_mut.result.now is c.requires.running in
+    let fine = seat-fine _ c.args.self.now c.requires.flow c.args.actor c.requires.actor_in c.requires.head c.index_mut.result.now is in
+    let ran = sym fine.running ∙ runs _ c.args.self.now c.requires.flow c.args.actor c.requires.actor_in c.requires.head c.index_mut.result.now is c.requires.running in
     let less = open-less c.args.self.now.seats.items c.args.actor c.index_mut.result.now c.finish_into.new.seat is ran c.in_ok-finish_into.ensures.finished.finished.closed in
     omega (arith, less)
 
@@ -45,7 +45,7 @@ finish_into-requires-clause-joined g c = comes-from c.args.self.now.wires (lengt
 pub returns-clause-taken : goal.returns-clause-taken
 returns-clause-taken g c =
     let is = slice_get_read c.args.self.now.seats.items _ c.args.actor c.index_mut.result.now refl c.requires.actor_in c.index_mut.ensures.value in
-    finished-taken _ _ c.args.self.now c.requires.flow c.args.actor c.requires.actor_in c.requires.head c.index_mut.result.now is
+    finished-taken _ c.args.self.now c.requires.flow c.args.actor c.requires.actor_in c.requires.head c.index_mut.result.now is
     (with_item c.args.self.now.seats c.args.actor c.finish_into.new.seat) c.end_arcs.new.queues c.finish_into.new.seat c.in_ok-finish_into.ensures.finished.finished.counted
     (get_set_same c.args.self.now.seats.items c.args.actor c.finish_into.new.seat c.requires.actor_in)
     (λ other ne. get_set_other c.args.self.now.seats.items c.args.actor other c.finish_into.new.seat ne)
@@ -54,7 +54,7 @@ returns-clause-taken g c =
 pub returns-clause-touches : goal.returns-clause-touches
 returns-clause-touches g c =
     let is = slice_get_read c.args.self.now.seats.items _ c.args.actor c.index_mut.result.now refl c.requires.actor_in c.index_mut.ensures.value in
-    finished-touches _ _ c.args.self.now c.requires.flow c.args.actor c.requires.actor_in c.requires.head c.index_mut.result.now is
+    finished-touches _ c.args.self.now c.requires.flow c.args.actor c.requires.actor_in c.requires.head c.index_mut.result.now is
     (known (g.D.PageDisk.log c.args.disk.now)) (known (g.D.PageDisk.log c.finish_into.new.disk)) c.finish_into.new.queues c.end_arcs.new.queues _ c.in_ok-finish_into.ensures.finished.items
     (λ other ne. get_set_other c.args.self.now.seats.items c.args.actor other c.finish_into.new.seat ne)
     c.in_ok-finish_into.ensures.finished.sent c.end_arcs.ensures.ended c.end_arcs.ensures.first c.end_arcs.ensures.apart
@@ -92,7 +92,7 @@ returns-in_err-finish_into-clause-prefix g c =
     let p = err_from_is_err_and c.from_residual.result c.from_residual.ensures.1 in
     let is = slice_get_read c.args.self.now.seats.items _ c.args.actor c.index_mut.result.now refl c.requires.actor_in c.index_mut.ensures.value in
     rw p.1
-    (finished-part _ _ c.args.self.now c.requires.flow c.args.actor c.requires.actor_in c.requires.head c.index_mut.result.now is
+    (finished-part _ c.args.self.now c.requires.flow c.args.actor c.requires.actor_in c.requires.head c.index_mut.result.now is
     (known (g.D.PageDisk.log c.args.disk.now)) (known (g.D.PageDisk.log c.finish_into.new.disk)) c.args.events.now.items c.finish_into.new.events.items
     c.requires.together c.in_err-finish_into.ensures.later.known c.in_err-finish_into.ensures.part c.requires.running)
 

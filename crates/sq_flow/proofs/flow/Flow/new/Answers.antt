@@ -7,7 +7,7 @@ use Rattle.sq_flow.proofs.flow.Flow.new.Goals as goal
 pub returns-clause-flow : goal.returns-clause-flow
 returns-clause-flow g c =
     let arcs : size c.in_ok-queues.queues ≡ length c.args.wires.arcs.items = omega (arith, c.in_ok-queues.ensures.size, c.len-arcs.ensures, c.args.wires.arcs.ok.0) in
-    start-flow _ _ _ c.requires.shaped arcs (λ arc. ap (λ f. f.ended) (c.in_ok-queues.ensures.faces arc)) refl c.requires.seats c.requires.coming c.requires.few refl refl c.requires.levels
+    start-flow _ _ c.requires.shaped arcs (λ arc. ap (λ f. f.ended) (c.in_ok-queues.ensures.faces arc)) refl c.requires.seats c.requires.coming c.requires.few refl refl c.requires.levels
     (ap (λ l. length l) c.in_ok-counts.ensures ∙ length-replicate (length c.args.sources.items) 0)
     (λ source. few-first (length c.args.sources.items) c.in_ok-counts.counts.items source _ c.in_ok-counts.ensures (c.requires.few_tuples source))
 

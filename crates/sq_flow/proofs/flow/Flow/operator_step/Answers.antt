@@ -12,7 +12,7 @@ returns-in-Waits-clause-works g c = waits-not-ready c.args.self.now c.args.actor
 pub returns-in_err-finish_step-in-Ended-clause-cost_err : goal.returns-in_err-finish_step-in-Ended-clause-cost_err
 returns-in_err-finish_step-in-Ended-clause-cost_err g c =
     let p = err_from_is_err_and c.from_residual.result c.from_residual.ensures.1 in
-    rw p.1 (costs-none _ _ c.args.self.now c.requires.flow (known (g.D.PageDisk.log c.args.disk.now)) (known (g.D.PageDisk.log c.finish_step.new.disk)) c.finish_step.new.self.levels c.args.steps.now c.args.steps.now refl)
+    rw p.1 (costs-none _ c.args.self.now c.requires.flow (known (g.D.PageDisk.log c.args.disk.now)) (known (g.D.PageDisk.log c.finish_step.new.disk)) c.finish_step.new.self.levels c.args.steps.now c.args.steps.now refl)
 
 pub returns-in_err-finish_step-in-Ended-clause-strange : goal.returns-in_err-finish_step-in-Ended-clause-strange
 returns-in_err-finish_step-in-Ended-clause-strange g c =

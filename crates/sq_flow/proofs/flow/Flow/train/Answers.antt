@@ -12,17 +12,17 @@ use Rattle.sq_words.proofs.Prefixes.{prefix_along}
 
 pub returns-in-Err-clause-prefix : goal.returns-in-Err-clause-prefix
 returns-in-Err-clause-prefix g c =
-    prefix-after _ _ _ _ _ _ _ _ c.steps.invariant.stepped (known (g.D.PageDisk.log c.one_step.new.disk)) c.one_step.new.self.levels c.one_step.new.events.items c.in-Err.ensures.later.known c.in-Err.ensures.closes c.in-Err.ensures.prefix
+    prefix-after _ _ _ _ _ _ _ c.steps.invariant.stepped (known (g.D.PageDisk.log c.one_step.new.disk)) c.one_step.new.self.levels c.one_step.new.events.items c.in-Err.ensures.later.known c.in-Err.ensures.closes c.in-Err.ensures.prefix
 
 pub returns-in-Err-clause-plans : goal.returns-in-Err-clause-plans
-returns-in-Err-clause-plans g c = plans-after _ _ _ _ _ _ _ _ c.steps.invariant.stepped c.one_step.new.self.levels c.one_step.new.events.items c.in-Err.ensures.plans
+returns-in-Err-clause-plans g c = plans-after _ _ _ _ _ _ _ c.steps.invariant.stepped c.one_step.new.self.levels c.one_step.new.events.items c.in-Err.ensures.plans
 
 pub returns-in-Err-clause-closes : goal.returns-in-Err-clause-closes
 returns-in-Err-clause-closes g c = λ table agrees. c.steps.invariant.stepped.closes table (c.in-Err.ensures.closes table agrees)
 
 pub returns-in-Err-clause-strange : goal.returns-in-Err-clause-strange
 returns-in-Err-clause-strange g c =
-    none-strange-after _ _ _ _ _ _ _ _ c.steps.invariant.stepped (g.D.PageDisk.log c.args.disk.now).honest (g.D.PageDisk.log c.steps.disk).honest (known (g.D.PageDisk.log c.one_step.new.disk)) c.one_step.new.self.levels c.in-Err.e
+    none-strange-after _ _ _ _ _ _ _ c.steps.invariant.stepped (g.D.PageDisk.log c.args.disk.now).honest (g.D.PageDisk.log c.steps.disk).honest (known (g.D.PageDisk.log c.one_step.new.disk)) c.one_step.new.self.levels c.in-Err.e
     c.steps.invariant.later.honest c.in-Err.ensures.later.known c.in-Err.ensures.closes c.in-Err.ensures.strange
 
 pub returns-in-Err-clause-cause : goal.returns-in-Err-clause-cause
@@ -43,14 +43,14 @@ returns-in-Err-clause-feed g c =
 
 pub returns-in-Err-clause-cost_err : goal.returns-in-Err-clause-cost_err
 returns-in-Err-clause-cost_err g c =
-    costs-most-after _ _ _ _ _ _ _ _ c.steps.invariant.stepped (known (g.D.PageDisk.log c.one_step.new.disk)) c.one_step.new.self.levels c.args.steps.now c.steps.steps c.one_step.new.steps c.in-Err.ensures.later.known c.in-Err.ensures.closes c.steps.invariant.cost c.in-Err.ensures.cost_err
+    costs-most-after _ _ _ _ _ _ _ c.steps.invariant.stepped (known (g.D.PageDisk.log c.one_step.new.disk)) c.one_step.new.self.levels c.args.steps.now c.steps.steps c.one_step.new.steps c.in-Err.ensures.later.known c.in-Err.ensures.closes c.steps.invariant.cost c.in-Err.ensures.cost_err
 
 pub returns-in-Err-clause-too_much : goal.returns-in-Err-clause-too_much
 returns-in-Err-clause-too_much g c =
-    too-much-after _ _ _ _ _ _ _ _ c.steps.invariant.stepped (known (g.D.PageDisk.log c.one_step.new.disk)) c.one_step.new.self c.in-Err.e c.in-Err.ensures.later.known c.in-Err.ensures.closes c.in-Err.ensures.too_much
+    too-much-after _ _ _ _ _ _ _ c.steps.invariant.stepped (known (g.D.PageDisk.log c.one_step.new.disk)) c.one_step.new.self c.in-Err.e c.in-Err.ensures.later.known c.in-Err.ensures.closes c.in-Err.ensures.too_much
 
 pub returns-in-Waits-clause-ok : goal.returns-in-Waits-clause-ok
-returns-in-Waits-clause-ok g c = stepped-both _ _ _ _ _ _ _ _ c.steps.invariant.stepped _ _ _ c.in-Ok.ensures.ok
+returns-in-Waits-clause-ok g c = stepped-both _ _ _ _ _ _ _ c.steps.invariant.stepped _ _ _ c.in-Ok.ensures.ok
 
 pub returns-in-Waits-clause-closes : goal.returns-in-Waits-clause-closes
 returns-in-Waits-clause-closes g c = λ table agrees. c.steps.invariant.stepped.closes table (c.in-Ok.ensures.closes table agrees)
@@ -59,7 +59,7 @@ pub returns-in-Waits-clause-touches : goal.returns-in-Waits-clause-touches
 returns-in-Waits-clause-touches g c = touches-both c.args.actor c.args.self.now c.steps.self c.one_step.new.self c.steps.invariant.stepped.wires c.steps.invariant.stepped.seats c.steps.invariant.touches c.in-Ok.ensures.touches
 
 pub returns-in-Waits-clause-cost : goal.returns-in-Waits-clause-cost
-returns-in-Waits-clause-cost g c = costs-after _ _ _ _ _ _ _ _ c.steps.invariant.stepped c.one_step.new.self c.args.steps.now c.steps.steps c.one_step.new.steps c.steps.invariant.cost c.in-Ok.ensures.cost
+returns-in-Waits-clause-cost g c = costs-after _ _ _ _ _ _ _ c.steps.invariant.stepped c.one_step.new.self c.args.steps.now c.steps.steps c.one_step.new.steps c.steps.invariant.cost c.in-Ok.ensures.cost
 
 pub returns-in-Waits-clause-stops : goal.returns-in-Waits-clause-stops
 returns-in-Waits-clause-stops g c =
@@ -68,7 +68,7 @@ returns-in-Waits-clause-stops g c =
     inr (inr (λ ready. waits (subst (λ f. IsReady f c.args.actor) stays ready)))
 
 pub returns-in-Finished-clause-ok : goal.returns-in-Finished-clause-ok
-returns-in-Finished-clause-ok g c = stepped-both _ _ _ _ _ _ _ _ c.steps.invariant.stepped _ _ _ c.in-Ok.ensures.ok
+returns-in-Finished-clause-ok g c = stepped-both _ _ _ _ _ _ _ c.steps.invariant.stepped _ _ _ c.in-Ok.ensures.ok
 
 pub returns-in-Finished-clause-closes : goal.returns-in-Finished-clause-closes
 returns-in-Finished-clause-closes g c = λ table agrees. c.steps.invariant.stepped.closes table (c.in-Ok.ensures.closes table agrees)
@@ -77,16 +77,16 @@ pub returns-in-Finished-clause-touches : goal.returns-in-Finished-clause-touches
 returns-in-Finished-clause-touches g c = touches-both c.args.actor c.args.self.now c.steps.self c.one_step.new.self c.steps.invariant.stepped.wires c.steps.invariant.stepped.seats c.steps.invariant.touches c.in-Ok.ensures.touches
 
 pub returns-in-Finished-clause-cost : goal.returns-in-Finished-clause-cost
-returns-in-Finished-clause-cost g c = costs-after _ _ _ _ _ _ _ _ c.steps.invariant.stepped c.one_step.new.self c.args.steps.now c.steps.steps c.one_step.new.steps c.steps.invariant.cost c.in-Ok.ensures.cost
+returns-in-Finished-clause-cost g c = costs-after _ _ _ _ _ _ _ c.steps.invariant.stepped c.one_step.new.self c.args.steps.now c.steps.steps c.one_step.new.steps c.steps.invariant.cost c.in-Ok.ensures.cost
 
 pub steps-preserved : goal.steps-preserved
 steps-preserved g c =
     let falls = c.steps.invariant.falls in
     let less = subst (λ d. Lowers d (measure_of c.steps.self) (measure_of c.one_step.new.self)) c.in-Fed.is c.in-Ok.ensures.measure in
     record {
-      stepped = stepped-both _ _ _ _ _ _ _ _ c.steps.invariant.stepped _ _ _ c.in-Ok.ensures.ok;
+      stepped = stepped-both _ _ _ _ _ _ _ c.steps.invariant.stepped _ _ _ c.in-Ok.ensures.ok;
       touches = touches-both c.args.actor c.args.self.now c.steps.self c.one_step.new.self c.steps.invariant.stepped.wires c.steps.invariant.stepped.seats c.steps.invariant.touches c.in-Ok.ensures.touches;
-      cost = costs-after _ _ _ _ _ _ _ _ c.steps.invariant.stepped c.one_step.new.self c.args.steps.now c.steps.steps c.one_step.new.steps c.steps.invariant.cost c.in-Ok.ensures.cost;
+      cost = costs-after _ _ _ _ _ _ _ c.steps.invariant.stepped c.one_step.new.self c.args.steps.now c.steps.steps c.one_step.new.steps c.steps.invariant.cost c.in-Ok.ensures.cost;
       falls = omega (arith, falls, less);
       begun = λ none. absurd (omega (arith, none));
       stay = prefix_along _ _ _ c.steps.invariant.stay c.in-Ok.ensures.stay;

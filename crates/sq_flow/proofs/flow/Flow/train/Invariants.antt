@@ -11,8 +11,7 @@ abbrev pub invariant-steps : goal.invariant-steps
 invariant-steps g l =
     let op = g.O.Operator in
     record {
-      stepped : Stepped op op.valid
-          (known (g.D.PageDisk.log l.fn.disk)) (known (g.D.PageDisk.log l.disk)) l.fn.self l.self l.fn.events.items l.events.items;
+      stepped : Stepped op (known (g.D.PageDisk.log l.fn.disk)) (known (g.D.PageDisk.log l.disk)) l.fn.self l.self l.fn.events.items l.events.items;
       touches : TouchesOnly l.actor l.fn.self l.self;
       cost : CostsFed op l.fn.self l.self l.fn.steps l.steps;
       falls : measure_of l.self + l.fed ≤ measure_of l.fn.self;
