@@ -41,7 +41,7 @@ late-seat flow is done actor low = by (slice_get flow.seats.items actor) (is.sea
   where
     by : (o : Option (Seat Actor)) → holds_at (IsSeat actors ((net_of flow.wires).takes actor) ((net_of flow.wires).fits actor) flow.levels.epoch flow.taken) o → done_at flow.over o ≡ true → late_in o ≡ lost_at actors o []
     by None h d = refl
-    by (Some seat) h d = late-lost seat.op h.is_valid (h.running ∙ not_true seat.tally.running d)
+    by (Some seat) h d = late-lost seat.op h.arcs.is_valid (h.running ∙ not_true seat.tally.running d)
 
 -- where all is done nothing is to be released, so nothing is planned
 pub nothing-planned : (e : Engine) → IsSoundEngine e → AllDone e.engine.flow → plans_left e.engine.flow ≡ []

@@ -83,7 +83,12 @@ module _ (n : Network) (sound : IsSound n) (places : (d : ℕ) (p : DropPoint) �
     new-seat : (actor : ℕ) (seat : Seat operator.Actor) → actor < ops_of n → IsSeated n number actor seat → IsNewSeat actors ((net_of w).takes actor) ((net_of w).fits actor) (IsOwn w actor) epoch seat
     new-seat actor seat low s =
         record {
-          is_valid = s.started.is_valid;
+          arcs =
+              record {
+                is_valid = s.started.is_valid;
+                marks = λ port h. s.started.marks port (marks-come n sound places w measured actor low (there-of n actor low) marks port h);
+                tuples = λ port fields h. s.started.fits port fields (tuples-come n sound places w measured actor low (there-of n actor low) tuples port fields h);
+              };
           running = s.started.running;
           place = s.started.at_start;
           taken = s.started.none_fed;
@@ -92,8 +97,6 @@ module _ (n : Network) (sound : IsSound n) (places : (d : ℕ) (p : DropPoint) �
           none_counted = ap (λ t. t.taken) s.none;
           open_now = ap (λ t. t.running) s.none;
           owns = λ table future may. weaker (λ d. actor_at n actor ≡ Shedder d.drop) (IsOwn w actor) (own-of n w sheds shown actor low) (actors.decides seat.op table future) (s.started.owns table future may);
-          marks = λ port h. s.started.marks port (marks-come n sound places w measured actor low (there-of n actor low) marks port h);
-          tuples = λ port fields h. s.started.fits port fields (tuples-come n sound places w measured actor low (there-of n actor low) tuples port fields h);
           reads = subst (λ k. actors.reads seat.op k ≡ true) lasts s.started.reads;
         }
 

@@ -97,7 +97,7 @@ module _ {O : Type 0} (m : Ghosts O) (e : Flow O) (flow : IsFlow m e) (actor tic
   may-come may =
       rw seat-fine.place
       (future-port (takes_of a) (m.takes_marks s.op) (fits_of a) (m.fits s.op) s.tally.place p (spread item)
-      (λ h. seat-fine.marks p (takes-is ∙ h)) (λ fields h. seat-fine.tuples p fields (fits-is fields ∙ h)) may.future)
+      (λ h. seat-fine.arcs.marks p (takes-is ∙ h)) (λ fields h. seat-fine.arcs.tuples p fields (fits-is fields ∙ h)) may.future)
 
   -- the operator runs
   pub runs : done_at e.over (slice_get e.seats.items actor) ≡ false → m.running s.op ≡ true
@@ -129,7 +129,7 @@ module _ {O : Type 0} (m : Ghosts O) (e : Flow O) (flow : IsFlow m e) (actor tic
         → IsFuture (m.takes_marks s.op) (m.fits s.op) (m.place s.op) (entries p item ++ future)
     own-future future f =
         future-both (m.takes_marks s.op) (m.fits s.op) (m.place s.op) (entries p item) future (may-come may)
-        (rw (sym fed.marks, sym fed.fits, sym fed.moves) f)
+        (rw (sym fed.after.marks, sym fed.after.fits, sym fed.after.moves) f)
 
     pub own-drops : m.running s.op ≡ true → AllByRecursion (IsOwn e.wires actor) drops
     own-drops running =
@@ -175,13 +175,16 @@ module _ {O : Type 0} (m : Ghosts O) (e : Flow O) (flow : IsFlow m e) (actor tic
       seat-after : IsSeat m (net.takes actor) (net.fits actor) e.levels.epoch taken' s'
       seat-after =
           record {
-            is_valid = fed.is_valid;
-            running = fed.running ∙ sym (fed.open_still ∙ open-now (s.tally.running) (sym (ap (done_at e.over) is_seat) ∙ unfinished));
-            place = fed.moves ∙ ap (λ z. after_all z (entries p item)) seat-fine.place ∙ sym fed.place;
-            counted = fed.counted ∙ ap (λ n. n + cond (is_some item.body) 1 0) seat-fine.counted ∙ sym fed.taken;
-            few = (let t = fed.taken in let f = seat-fine.few in let w = weight in omega (arith, t, f, w, more));
-            marks = λ port h. ap (λ f. f port) fed.marks ∙ seat-fine.marks port h;
-            tuples = λ port fields h. ap (λ f. f port fields) fed.fits ∙ seat-fine.tuples port fields h;
+            arcs =
+                record {
+                  is_valid = fed.after.is_valid;
+                  marks = λ port h. ap (λ f. f port) fed.after.marks ∙ seat-fine.arcs.marks port h;
+                  tuples = λ port fields h. ap (λ f. f port fields) fed.after.fits ∙ seat-fine.arcs.tuples port fields h;
+                };
+            running = fed.after.running ∙ sym (fed.open_still ∙ open-now (s.tally.running) (sym (ap (done_at e.over) is_seat) ∙ unfinished));
+            place = fed.after.moves ∙ ap (λ z. after_all z (entries p item)) seat-fine.place ∙ sym fed.after.place;
+            counted = fed.after.counted ∙ ap (λ n. n + cond (is_some item.body) 1 0) seat-fine.counted ∙ sym fed.after.taken;
+            few = (let t = fed.after.taken in let f = seat-fine.few in let w = weight in omega (arith, t, f, w, more));
             reads = λ opened. ap (λ (f : ℕ → Bool). f e.levels.epoch) fed.reads ∙ seat-fine.reads (sym fed.open_still ∙ opened);
           }
         where
@@ -218,13 +221,11 @@ module _ {O : Type 0} (m : Ghosts O) (e : Flow O) (flow : IsFlow m e) (actor tic
           seat-later takes fits None h = tt
           seat-later takes fits (Some k) h =
               record {
-                is_valid = h.is_valid;
+                arcs = h.arcs;
                 running = h.running;
                 place = h.place;
                 counted = h.counted;
                 few = le-more k.tally.taken h.few;
-                marks = h.marks;
-                tuples = h.tuples;
                 reads = h.reads;
               }
 
@@ -284,7 +285,7 @@ module _ {O : Type 0} (m : Ghosts O) (e : Flow O) (flow : IsFlow m e) (actor tic
     op-future future f =
         let place : moment_at m (slice_get e.seats.items actor) ≡ m.place s.op = ap (moment_at m) is_seat in
         future-weaker (net.takes actor) (m.takes_marks s.op) (net.fits actor) (m.fits s.op) (m.place s.op) (entries p item ++ future)
-        seat-fine.marks seat-fine.tuples (subst (λ z. IsFuture (net.takes actor) (net.fits actor) z (entries p item ++ future)) place f)
+        seat-fine.arcs.marks seat-fine.arcs.tuples (subst (λ z. IsFuture (net.takes actor) (net.fits actor) z (entries p item ++ future)) place f)
 
     -- what is still to be fed to the actor begins with the item
     abbrev comes-first : (future : List Entry) × IsFuture (net.takes actor) (net.fits actor) (moment_at m (slice_get e.seats.items actor)) (entries p item ++ future)
@@ -379,8 +380,8 @@ module _ {O : Type 0} (m : Ghosts O) (e : Flow O) (flow : IsFlow m e) (actor tic
             lost = λ future.
                 ap (λ o. lost_at m o (entries p item ++ future)) is_seat ∙ fed.loses future ∙ ap (λ o. lost_at m o future) (sym is_after);
             counted =
-                ap (seat.taken_at m) is_after ∙ fed.counted ∙ ap (λ n. m.taken s.op + n) (sym (one-body item p)) ∙ ap (λ o. seat.taken_at m o + length (tuples_of (entries p item))) (sym is_seat);
-            place = ap (moment_at m) is_after ∙ fed.moves ∙ ap (λ o. after_all (moment_at m o) (entries p item)) (sym is_seat);
+                ap (seat.taken_at m) is_after ∙ fed.after.counted ∙ ap (λ n. m.taken s.op + n) (sym (one-body item p)) ∙ ap (λ o. seat.taken_at m o + length (tuples_of (entries p item))) (sym is_seat);
+            place = ap (moment_at m) is_after ∙ fed.after.moves ∙ ap (λ o. after_all (moment_at m o) (entries p item)) (sym is_seat);
             running = done-after;
           }
 

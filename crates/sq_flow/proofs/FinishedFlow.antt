@@ -104,13 +104,16 @@ module _ {O : Type 0} (m : Ghosts O) (e : Flow O) (flow : IsFlow m e) (actor : �
       seat-after : IsSeat m (net.takes actor) (net.fits actor) e.levels.epoch e.taken s'
       seat-after =
           record {
-            is_valid = fin.is_valid;
-            running = fin.running ∙ sym fin.closed;
-            place = fin.place ∙ seat-fine.place ∙ sym fin.same_place;
-            counted = fin.counted ∙ seat-fine.counted ∙ sym fin.same_taken;
-            few = (let t = fin.same_taken in let f = seat-fine.few in omega (arith, t, f));
-            marks = λ port h. ap (λ f. f port) fin.marks ∙ seat-fine.marks port h;
-            tuples = λ port fields h. ap (λ f. f port fields) fin.fits ∙ seat-fine.tuples port fields h;
+            arcs =
+                record {
+                  is_valid = fin.after.is_valid;
+                  marks = λ port h. ap (λ f. f port) fin.after.marks ∙ seat-fine.arcs.marks port h;
+                  tuples = λ port fields h. ap (λ f. f port fields) fin.after.fits ∙ seat-fine.arcs.tuples port fields h;
+                };
+            running = fin.after.running ∙ sym fin.closed;
+            place = fin.after.moves ∙ seat-fine.place ∙ sym fin.after.place;
+            counted = fin.after.counted ∙ ap (λ n. n + 0) seat-fine.counted ∙ sym fin.after.taken;
+            few = (let t = fin.after.taken in let f = seat-fine.few in omega (arith, t, f));
             reads = λ opened. absurd (cc (fin.closed, opened));
           }
 
@@ -134,7 +137,7 @@ module _ {O : Type 0} (m : Ghosts O) (e : Flow O) (flow : IsFlow m e) (actor : �
             few_sources = flow.few_sources;
             levels = flow.levels;
             owned = at_or_other (λ k. holds_at (Owns m (IsOwn e.wires k) e.levels) (slice_get seats'.items k)) actor
-                (subst (holds_at (Owns m (IsOwn e.wires actor) e.levels)) (sym is_after) (λ running. absurd (cc (fin.running, running))))
+                (subst (holds_at (Owns m (IsOwn e.wires actor) e.levels)) (sym is_after) (λ running. absurd (cc (fin.after.running, running))))
                 (λ k ne. subst (holds_at (Owns m (IsOwn e.wires k) e.levels)) (sym (apart k ne)) (flow.owned k));
             counts = flow.counts;
             few_tuples = flow.few_tuples;
@@ -241,7 +244,7 @@ module _ {O : Type 0} (m : Ghosts O) (e : Flow O) (flow : IsFlow m e) (actor : �
             decisions = ap (λ o. decides_at m table o []) is_seat ∙ fin.decided table ∙ ap (λ b. cond b drops []) (sym (eqb_true actor actor refl));
             settled = ap (λ o. decides_at m table o []) is_after ∙ fin.settled table;
             lost = ap (λ o. lost_at m o []) is_seat ∙ fin.loses ∙ ap (λ o. lost_at m o []) (sym is_after);
-            counted = ap (seat.taken_at m) is_after ∙ fin.counted ∙ ap (seat.taken_at m) (sym is_seat);
+            counted = (let taken = fin.after.counted in let same : m.taken s'.op ≡ m.taken s.op = omega (arith, taken) in ap (seat.taken_at m) is_after ∙ same ∙ ap (seat.taken_at m) (sym is_seat));
           })
           same-actor (λ other ne port. not-pushed actor other outs ne port)
           (λ other ne. ap (λ b. cond b drops []) (eqb-not other actor ne))

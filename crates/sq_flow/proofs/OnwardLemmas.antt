@@ -106,13 +106,13 @@ module _ {D : Type 0} (log : D → DiskLog) (faults : D → ℕ) where
         → FeedsInto m levels port item start.wires.now start.actor seat seat' start.queues.now q (known (log start.disk.now)) (known (log d)) start.events.now.items events
     feeds-into levels port item fed =
         rw (same_queues, same_disk)
-        (record { items = s.noted.items; drops = s.noted.drops; fed = fed; sent = went-on start s came whole; shown = was-shown start s came events same_events })
+        (record { items = s.noted.items; drops = s.noted.drops; fed = fed; onward = record { sent = went-on start s came whole; shown = was-shown start s came events same_events } })
 
     pub ends-into : FinishedSeat m s.noted.items s.noted.drops seat seat'
         → EndsInto m start.wires.now start.actor seat seat' start.queues.now q (known (log start.disk.now)) (known (log d)) start.events.now.items events
     ends-into finished =
         rw (same_queues, same_disk)
-        (record { items = s.noted.items; drops = s.noted.drops; finished = finished; sent = went-on start s came whole; shown = was-shown start s came events same_events })
+        (record { items = s.noted.items; drops = s.noted.drops; finished = finished; onward = record { sent = went-on start s came whole; shown = was-shown start s came events same_events } })
 
   module _ (start s : Onward D) (came : Came log faults start s) (opened : IsOpen log s) (q : Queues) (d : D) (events : Vec Event Global)
       (rises : faults s.disk.now ≤ faults d) (later : IsLater (log s.disk.now) (log d)) where

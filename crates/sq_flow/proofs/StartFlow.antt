@@ -70,13 +70,11 @@ module _ {O : Type 0} (m : Ghosts O) (e : Flow O)
       seat-of actor None h = tt
       seat-of actor (Some s) h =
           record {
-            is_valid = h.is_valid;
+            arcs = h.arcs;
             running = h.running ∙ sym h.open_now;
             place = h.place ∙ sym h.at_start;
             counted = h.taken ∙ sym h.none_counted;
             few = (let z = h.none_counted in omega (arith, z));
-            marks = h.marks;
-            tuples = h.tuples;
             reads = λ _. h.reads;
           }
 

@@ -9,33 +9,36 @@ use Rattle.sq_oper.specs.declared.outs.Decision.{Decision}
 use Rattle.sq_oper.specs.declared.outs.Event.{Event}
 use Rattle.sq_oper.specs.Entries.{Entry, entries}
 use Rattle.sq_oper.specs.Outflow.{given}
-use Rattle.sq_oper.specs.Order.{IsFuture}
 use Rattle.sq_queue.specs.declared.Queues.{Queues}
 use Rattle.sq_flow.specs.declared.wires.Wires.{Wires}
 use Rattle.sq_flow.specs.declared.seats.Seat.{Seat}
 use Rattle.sq_flow.specs.Wiring.{AllOutsFine}
 use Rattle.sq_flow.specs.Sends.{sent_to, is_sent_by, Pushes}
-use Rattle.sq_flow.specs.Seats.{FedSeat, FinishedSeat}
+use Rattle.sq_flow.specs.Seats.{IsFutureOf, FedSeat, FinishedSeat}
 use Rattle.sq_flow.specs.Shows.{IsShown}
 
--- a feed: what the operator gave went into the queues, or was shown
+-- what an actor gave, these items and these batches, went into the queues, or was shown
+pub record GoesOnward (wires : Wires) (actor : ℕ) (items : List (ℕ × Item)) (drops : List Decision) (queues queues' : Queues) (was is : Option Pages)
+    (events events' : List Event) : Type 0 where
+  pub sent : Pushes queues queues' was is (sent_to wires actor items) (λ time. AllOutsFine time items) (is_sent_by wires actor)
+  pub shown : IsShown wires actor items drops events events'
+
+-- a feed: what the operator gave went onward
 pub record FeedsInto {O : Type 0} (m : Ghosts O) (levels : LevelTable) (port : ℕ) (item : Item) (wires : Wires) (actor : ℕ)
     (seat seat' : Seat O) (queues queues' : Queues) (was is : Option Pages) (events events' : List Event) : Type 0 where
   pub items : List (ℕ × Item)
   pub drops : List Decision
   pub fed : FedSeat m levels port item items drops seat seat'
-  pub sent : Pushes queues queues' was is (sent_to wires actor items) (λ time. AllOutsFine time items) (is_sent_by wires actor)
-  pub shown : IsShown wires actor items drops events events'
+  pub onward : GoesOnward wires actor items drops queues queues' was is events events'
 
 -- a feed that failed: what it gave before is the beginning of what the operator will give
-pub record FeedsPart {O : Type 0} (m : Ghosts O) (levels : LevelTable) (port : ℕ) (item : Item) (wires : Wires) (actor : ℕ) (seat : Seat O) (events events' : List Event) : Type 0 where
+pub record FeedsPart {O : Type 0} (m : Ghosts O) (levels : LevelTable) (port : ℕ) (item : Item) (wires : Wires) (actor : ℕ) (seat : Seat O)
+    (events events' : List Event) : Type 0 where
   pub items : List (ℕ × Item)
   pub drops : List Decision
-  pub law : (table : ℕ → ℕ → ℕ) (future : List Entry) → AgreesWith levels table
-      → IsFuture (m.takes_marks seat.op) (m.fits seat.op) (m.place seat.op) (entries port item ++ future)
+  pub law : (table : ℕ → ℕ → ℕ) (future : List Entry) → AgreesWith levels table → IsFutureOf m seat.op (entries port item ++ future)
       → (q : ℕ) → IsPrefixOf (given q items) (m.rest seat.op table (entries port item ++ future) q)
-  pub decided : (table : ℕ → ℕ → ℕ) (future : List Entry) → AgreesWith levels table
-      → IsFuture (m.takes_marks seat.op) (m.fits seat.op) (m.place seat.op) (entries port item ++ future)
+  pub decided : (table : ℕ → ℕ → ℕ) (future : List Entry) → AgreesWith levels table → IsFutureOf m seat.op (entries port item ++ future)
       → IsPrefixOf drops (m.decides seat.op table (entries port item ++ future))
   pub shown : IsShown wires actor items drops events events'
 
@@ -45,8 +48,7 @@ pub record EndsInto {O : Type 0} (m : Ghosts O) (wires : Wires) (actor : ℕ)
   pub items : List (ℕ × Item)
   pub drops : List Decision
   pub finished : FinishedSeat m items drops seat seat'
-  pub sent : Pushes queues queues' was is (sent_to wires actor items) (λ time. AllOutsFine time items) (is_sent_by wires actor)
-  pub shown : IsShown wires actor items drops events events'
+  pub onward : GoesOnward wires actor items drops queues queues' was is events events'
 
 pub record EndsPart {O : Type 0} (m : Ghosts O) (wires : Wires) (actor : ℕ) (seat : Seat O) (events events' : List Event) : Type 0 where
   pub items : List (ℕ × Item)

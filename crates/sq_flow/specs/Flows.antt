@@ -132,6 +132,11 @@ pub record Goes {O : Type 0} (m : Ghosts O) (table : ℕ → ℕ → ℕ) (items
   pub turns : turns_at_last m table items flow ≡ turns_at_last m table items' flow'
   pub arcs : (arc : ℕ) → arc < length flow.wires.arcs.items → IsEndOf (left_on m table items' flow' arc) (left_on m table items flow arc)
 
+-- at each table that agrees with these levels, and at which the flow held the items that stood on its arcs, this holds, where the
+-- disk is known behind the call
+abbrev pub WhereKnown : {O : Type 0} → Ghosts O → Option Pages → Option Pages → Flow O → LevelTable → ((ℕ → ℕ → ℕ) → Type 0) → Type 0
+WhereKnown m was is flow levels P = Tells is → (table : ℕ → ℕ → ℕ) → AgreesWith levels table → HoldsItems m table (items_in flow was) flow → P table
+
 -- what falls with each step: what is to be released, what may still be taken, and the actors that aren't finished
 abbrev pub open_seats : {O : Type 0} → List (Seat O) → ℕ
 open_seats [] = 0
@@ -157,9 +162,8 @@ pub record Stepped {O : Type 0} (m : Ghosts O) (was is : Option Pages) (flow flo
   pub planner : flow'.planner ≡ flow.planner
   pub planned : (all : ℕ → List ℕ) → IsPlanned all flow → IsPlanned all flow'
   pub plans : plans_of events ++ plans_left flow ≡ plans_of events' ++ plans_left flow'
-  pub holds : Tells is → (table : ℕ → ℕ → ℕ) → AgreesWith flow'.levels table → HoldsItems m table (items_in flow was) flow → HoldsItems m table (items_in flow' is) flow'
-  pub goes : Tells is → (table : ℕ → ℕ → ℕ) → AgreesWith flow'.levels table → HoldsItems m table (items_in flow was) flow
-      → Goes m table (items_in flow was) (items_in flow' is) flow flow' events events'
+  pub holds : WhereKnown m was is flow flow'.levels (λ table. HoldsItems m table (items_in flow' is) flow')
+  pub goes : WhereKnown m was is flow flow'.levels (λ table. Goes m table (items_in flow was) (items_in flow' is) flow flow' events events')
 
 -- what was shown is a beginning of what was to be shown
 pub record BeginsLines {O : Type 0} (m : Ghosts O) (table : ℕ → ℕ → ℕ) (items : ℕ → List Item) (flow : Flow O) (events events' : List Event) : Type 0 where
@@ -170,12 +174,11 @@ pub record BeginsLines {O : Type 0} (m : Ghosts O) (table : ℕ → ℕ → ℕ)
 
 -- what a call that failed has shown
 abbrev pub ShowsPrefix : {O : Type 0} → Ghosts O → Option Pages → Option Pages → Flow O → LevelTable → List Event → List Event → Type 0
-ShowsPrefix m was is flow levels events events' =
-    Tells is → (table : ℕ → ℕ → ℕ) → AgreesWith levels table → HoldsItems m table (items_in flow was) flow → BeginsLines m table (items_in flow was) flow events events'
+ShowsPrefix m was is flow levels events events' = WhereKnown m was is flow levels (λ table. BeginsLines m table (items_in flow was) flow events events')
 
 -- and over a disk that is known behind it, it names no item and no page but a garbled one, and none over an honest disk
 abbrev pub NoneStrange : {O : Type 0} → Ghosts O → Bool → Option Pages → Option Pages → Flow O → LevelTable → RunErr → Type 0
-NoneStrange m honest was is flow levels e = Tells is → (table : ℕ → ℕ → ℕ) → AgreesWith levels table → HoldsItems m table (items_in flow was) flow → NotChanged honest e
+NoneStrange m honest was is flow levels e = WhereKnown m was is flow levels (λ table. NotChanged honest e)
 
 -- a step that does something lowers the measure
 abbrev pub Lowers : Did → ℕ → ℕ → Type 0
@@ -190,14 +193,12 @@ CostsFed m flow flow' before after = after + taken_in_all m flow ≡ before + ta
 -- a call that failed raises them by no more than is still to be fed
 abbrev pub StepCosts : {O : Type 0} → Ghosts O → Option Pages → Option Pages → Flow O → LevelTable → ℕ → ℕ → Type 0
 StepCosts m was is flow levels before after =
-    Tells is → (table : ℕ → ℕ → ℕ) → AgreesWith levels table → HoldsItems m table (items_in flow was) flow
-    → after + taken_in_all m flow ≤ before + work_at_last m table (items_in flow was) flow
+    WhereKnown m was is flow levels (λ table. after + taken_in_all m flow ≤ before + work_at_last m table (items_in flow was) flow)
 
 -- too much is taken only where as much is to be taken in all, and where the next item would bring the count past its end
 pub record TooMuchOnly {O : Type 0} (m : Ghosts O) (was is : Option Pages) (flow flow' : Flow O) (e : RunErr) : Type 0 where
   pub counted : e ≡ TooMuch → 2 ^ 62 ≤ flow'.taken + 2
-  pub turns : e ≡ TooMuch → Tells is → (table : ℕ → ℕ → ℕ) → AgreesWith flow'.levels table → HoldsItems m table (items_in flow was) flow
-      → 2 ^ 62 ≤ turns_at_last m table (items_in flow was) flow
+  pub turns : e ≡ TooMuch → WhereKnown m was is flow flow'.levels (λ table. 2 ^ 62 ≤ turns_at_last m table (items_in flow was) flow)
 
 -- the feed at which a run of steps failed, where one did: the flow right before it came of the first by steps
 pub record FailsAt {O : Type 0} (m : Ghosts O) (log now : DiskLog) (flow flow' : Flow O) (events : List Event) (e : RunErr) : Type 0 where

@@ -44,48 +44,58 @@ abbrev pub holds_at : {O : Type 0} → (Seat O → Type 0) → Option (Seat O) �
 holds_at P None = Unit {0}
 holds_at P (Some seat) = P seat
 
--- the operator is in a valid state, the tally is its own, what comes on its arcs may come to it, and as long as it isn't finished
--- levels of epochs of so many ticks may be read
+-- these marks and tuples may come to the operator
+abbrev pub IsFutureOf : {O : Type 0} → Ghosts O → O → List Entry → Type 0
+IsFutureOf m op future = IsFuture (m.takes_marks op) (m.fits op) (m.place op) future
+
+-- the operator is in a valid state, and what comes on its arcs may come to it
+pub record FitsArcs {O : Type 0} (m : Ghosts O) (takes : ℕ → Bool) (fits : ℕ → List Value → Bool) (op : O) : Type 0 where
+  pub is_valid : m.valid op
+  pub marks : (port : ℕ) → takes port ≡ true → m.takes_marks op port ≡ true
+  pub tuples : (port : ℕ) (fields : List Value) → fits port fields ≡ true → m.fits op port fields ≡ true
+
+-- the operator fits its arcs, the tally is its own, and as long as it isn't finished levels of epochs of so many ticks may be read
 pub record IsSeat {O : Type 0} (m : Ghosts O) (takes : ℕ → Bool) (fits : ℕ → List Value → Bool) (epoch taken : ℕ) (seat : Seat O) : Type 0 where
-  pub is_valid : m.valid seat.op
+  pub arcs : FitsArcs m takes fits seat.op
   pub running : m.running seat.op ≡ seat.tally.running
   pub place : m.place seat.op ≡ seat.tally.place
   pub counted : m.taken seat.op ≡ seat.tally.taken
   pub few : seat.tally.taken ≤ taken
-  pub marks : (port : ℕ) → takes port ≡ true → m.takes_marks seat.op port ≡ true
-  pub tuples : (port : ℕ) (fields : List Value) → fits port fields ≡ true → m.fits seat.op port fields ≡ true
   pub reads : seat.tally.running ≡ true → m.reads seat.op epoch ≡ true
 
 -- as long as the operator runs all that it may still decide is its own
 abbrev pub Owns : {O : Type 0} → Ghosts O → (Decision → Type 0) → LevelTable → Seat O → Type 0
 Owns m own levels seat =
-    m.running seat.op ≡ true → (table : ℕ → ℕ → ℕ) → AgreesWith levels table → (future : List Entry) → IsFuture (m.takes_marks seat.op) (m.fits seat.op) (m.place seat.op) future
+    m.running seat.op ≡ true → (table : ℕ → ℕ → ℕ) → AgreesWith levels table → (future : List Entry) → IsFutureOf m seat.op future
     → AllByRecursion own (m.decides seat.op table future)
+
+-- what a feed and an end do alike to a seat, where these marks and tuples came, so many of them tuples: the operator is in a valid state, and runs
+-- or doesn't as is said here; it stands behind what came and has counted the tuples, and so has the tally; and what may come to it stays the same
+pub record SeatAfter {O : Type 0} (m : Ghosts O) (came : List Entry) (tuples : ℕ) (runs : Bool) (seat seat' : Seat O) : Type 0 where
+  pub is_valid : m.valid seat'.op
+  pub running : m.running seat'.op ≡ runs
+  pub moves : m.place seat'.op ≡ after_all (m.place seat.op) came
+  pub counted : m.taken seat'.op ≡ m.taken seat.op + tuples
+  pub marks : m.takes_marks seat'.op ≡ m.takes_marks seat.op
+  pub fits : m.fits seat'.op ≡ m.fits seat.op
+  pub place : seat'.tally.place ≡ after_all seat.tally.place came
+  pub taken : seat'.tally.taken ≡ seat.tally.taken + tuples
 
 -- what a feed does to a seat: it gives these items and drops these batches
 pub record FedSeat {O : Type 0} (m : Ghosts O) (levels : LevelTable) (port : ℕ) (item : Item) (outs : List (ℕ × Item)) (drops : List Decision)
     (seat seat' : Seat O) : Type 0 where
-  pub law : (table : ℕ → ℕ → ℕ) (future : List Entry) → AgreesWith levels table
-      → IsFuture (m.takes_marks seat.op) (m.fits seat.op) (m.place seat.op) (entries port item ++ future)
+  pub law : (table : ℕ → ℕ → ℕ) (future : List Entry) → AgreesWith levels table → IsFutureOf m seat.op (entries port item ++ future)
       → (q : ℕ) → m.rest seat.op table (entries port item ++ future) q ≡ given q outs ++ m.rest seat'.op table future q
-  pub decided : (table : ℕ → ℕ → ℕ) (future : List Entry) → AgreesWith levels table
-      → IsFuture (m.takes_marks seat.op) (m.fits seat.op) (m.place seat.op) (entries port item ++ future)
+  pub decided : (table : ℕ → ℕ → ℕ) (future : List Entry) → AgreesWith levels table → IsFutureOf m seat.op (entries port item ++ future)
       → m.decides seat.op table (entries port item ++ future) ≡ drops ++ m.decides seat'.op table future
   pub loses : (future : List Entry) → m.lost seat.op (entries port item ++ future) ≡ m.lost seat'.op future
   pub times : (table : ℕ → ℕ → ℕ) → AgreesWith levels table → (q : ℕ) → ThingsUpTo item.time (m.rest seat.op table (entries port item) q)
   pub sound : ItemsSound outs
-  pub moves : m.place seat'.op ≡ after_all (m.place seat.op) (entries port item)
-  pub counted : m.taken seat'.op ≡ m.taken seat.op + (if is_some item.body then 1 else 0)
-  pub is_valid : m.valid seat'.op
-  pub running : m.running seat'.op ≡ true
-  pub marks : m.takes_marks seat'.op ≡ m.takes_marks seat.op
-  pub fits : m.fits seat'.op ≡ m.fits seat.op
+  pub after : SeatAfter m (entries port item) (if is_some item.body then 1 else 0) true seat seat'
   pub reads : m.reads seat'.op ≡ m.reads seat.op
-  pub place : seat'.tally.place ≡ after_all seat.tally.place (entries port item)
-  pub taken : seat'.tally.taken ≡ seat.tally.taken + (if is_some item.body then 1 else 0)
   pub open_still : seat'.tally.running ≡ seat.tally.running
 
--- what an end does to a seat
+-- what an end does to a seat: nothing more comes, and nothing is left
 pub record FinishedSeat {O : Type 0} (m : Ghosts O) (outs : List (ℕ × Item)) (drops : List Decision) (seat seat' : Seat O) : Type 0 where
   pub law : (table : ℕ → ℕ → ℕ) (q : ℕ) → m.rest seat.op table [] q ≡ given q outs
   pub decided : (table : ℕ → ℕ → ℕ) → m.decides seat.op table [] ≡ drops
@@ -93,12 +103,5 @@ pub record FinishedSeat {O : Type 0} (m : Ghosts O) (outs : List (ℕ × Item)) 
   pub empty : (table : ℕ → ℕ → ℕ) (q : ℕ) → m.rest seat'.op table [] q ≡ []
   pub settled : (table : ℕ → ℕ → ℕ) → m.decides seat'.op table [] ≡ []
   pub sound : ItemsSound outs
-  pub is_valid : m.valid seat'.op
-  pub running : m.running seat'.op ≡ false
-  pub place : m.place seat'.op ≡ m.place seat.op
-  pub counted : m.taken seat'.op ≡ m.taken seat.op
-  pub marks : m.takes_marks seat'.op ≡ m.takes_marks seat.op
-  pub fits : m.fits seat'.op ≡ m.fits seat.op
-  pub same_place : seat'.tally.place ≡ seat.tally.place
-  pub same_taken : seat'.tally.taken ≡ seat.tally.taken
+  pub after : SeatAfter m [] 0 false seat seat'
   pub closed : seat'.tally.running ≡ false

@@ -16,11 +16,12 @@ use Rattle.sq_replay.specs.RecordedTuples.{Recorded}
 use Rattle.sq_flow.specs.declared.wires.Wires.{Wires}
 use Rattle.sq_flow.specs.declared.flow.Flow.{Flow}
 use Rattle.sq_flow.specs.declared.seats.Seat.{Seat}
+use Rattle.sq_flow.specs.Seats.{FitsArcs}
 
--- the operator is new, what comes on its arcs may come to it, all that it may decide is its own, and levels of epochs of so many
--- ticks may be read
-pub record IsNewSeat {O : Type 0} (m : Ghosts O) (takes : ℕ → Bool) (fits : ℕ → List Value → Bool) (own : Decision → Type 0) (epoch : ℕ) (seat : Seat O) : Type 0 where
-  pub is_valid : m.valid seat.op
+-- the operator is new and fits its arcs, all that it may decide is its own, and levels of epochs of so many ticks may be read
+pub record IsNewSeat {O : Type 0} (m : Ghosts O) (takes : ℕ → Bool) (fits : ℕ → List Value → Bool) (own : Decision → Type 0) (epoch : ℕ)
+    (seat : Seat O) : Type 0 where
+  pub arcs : FitsArcs m takes fits seat.op
   pub running : m.running seat.op ≡ true
   pub place : m.place seat.op ≡ Start
   pub taken : m.taken seat.op ≡ 0
@@ -28,10 +29,9 @@ pub record IsNewSeat {O : Type 0} (m : Ghosts O) (takes : ℕ → Bool) (fits : 
   pub at_start : seat.tally.place ≡ Start
   pub none_counted : seat.tally.taken ≡ 0
   pub open_now : seat.tally.running ≡ true
-  pub marks : (port : ℕ) → takes port ≡ true → m.takes_marks seat.op port ≡ true
-  pub tuples : (port : ℕ) (fields : List Value) → fits port fields ≡ true → m.fits seat.op port fields ≡ true
   pub reads : m.reads seat.op epoch ≡ true
-  pub owns : (table : ℕ → ℕ → ℕ) (future : List Entry) → IsFuture (m.takes_marks seat.op) (m.fits seat.op) Start future → AllByRecursion own (m.decides seat.op table future)
+  pub owns : (table : ℕ → ℕ → ℕ) (future : List Entry) → IsFuture (m.takes_marks seat.op) (m.fits seat.op) Start future
+      → AllByRecursion own (m.decides seat.op table future)
 
 -- a flow of these parts that has released nothing, with so many pages in memory at most
 pub record IsNewFlow {O : Type 0} (wires : Wires) (seats : Vec (Seat O) Global) (sources : Vec Recorded Global) (planner : Setting) (levels : LevelTable) (most : ℕ) (flow : Flow O) : Type 0 where

@@ -33,15 +33,18 @@ returns-in-Ok-clause-fed g c =
       loses = told.loses;
       times = told.times;
       sound = told.sound (rw none.0 tt);
-      moves = told.moves;
-      counted = told.counted;
-      is_valid = told.stays_valid.0;
-      running = told.stays_valid.1;
-      marks = told.same.0;
-      fits = told.same.1;
+      after =
+          record {
+            is_valid = told.stays_valid.0;
+            running = told.stays_valid.1;
+            moves = told.moves;
+            counted = told.counted;
+            marks = told.same.0;
+            fits = told.same.1;
+            place = c.note.ensures.place;
+            taken = c.note.ensures.taken;
+          };
       reads = told.same_epoch;
-      place = c.note.ensures.place;
-      taken = c.note.ensures.taken;
       open_still = c.note.ensures.running;
     })
 

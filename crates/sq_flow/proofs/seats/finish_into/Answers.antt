@@ -1,4 +1,4 @@
-use Rattle.std.proofs.Common.{rules, ◌≡◌, ◌++◌, [], refl, subst}
+use Rattle.std.proofs.Common.{rules, ◌≡◌, ◌++◌, [], refl, subst, arith}
 use Rattle.sq_words.specs.Lists.{IsPrefixOf}
 use Rattle.sq_pool.specs.Trust.{Tells, known}
 use Rattle.sq_oper.specs.Outflow.{given}
@@ -29,14 +29,17 @@ returns-in-Ok-clause-finished g c =
       empty = told.empty;
       settled = told.settled;
       sound = told.sound (rw none.0 tt);
-      is_valid = told.stays_valid.0;
-      running = told.stays_valid.1;
-      place = told.same.0;
-      counted = told.same.3;
-      marks = told.same.1;
-      fits = told.same.2;
-      same_place = refl;
-      same_taken = refl;
+      after =
+          record {
+            is_valid = told.stays_valid.0;
+            running = told.stays_valid.1;
+            moves = told.same.0;
+            counted = (let same = told.same.3 in omega (arith, same));
+            marks = told.same.1;
+            fits = told.same.2;
+            place = refl;
+            taken = omega arith;
+          };
       closed = refl;
     })
 

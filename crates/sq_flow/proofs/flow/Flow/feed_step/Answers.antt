@@ -29,7 +29,7 @@ pub feed_into-requires-clause-is_valid : goal.feed_into-requires-clause-is_valid
 feed_into-requires-clause-is_valid g c =
     let is = slice_get_read c.args.self.now.seats.items _ c.args.actor c.index_mut.result.now refl c.requires.actor_in c.index_mut.ensures.value in
     let fine = seat-fine _ c.args.self.now c.requires.flow c.args.actor c.requires.head.0 c.args.port c.args.arc c.arc-at.result.now c.in-Ok.item c.requires.actor_in c.requires.head.1 c.index_mut.result.now is c.arc-at.ensures in (
-      fine.is_valid,
+      fine.arcs.is_valid,
       runs _ c.args.self.now c.requires.flow c.args.actor c.requires.head.0 c.args.port c.args.arc c.arc-at.result.now c.in-Ok.item c.requires.actor_in c.requires.head.1 c.index_mut.result.now is c.arc-at.ensures c.requires.running,
     )
 
@@ -72,12 +72,12 @@ returns-clause-ok g c =
     c.in_ok-feed_into.ensures.fed.fed
     (get_set_same c.args.self.now.seats.items c.args.actor c.feed_into.new.seat c.requires.actor_in)
     (λ other ne. get_set_other c.args.self.now.seats.items c.args.actor other c.feed_into.new.seat ne)
-    (length-set c.args.self.now.seats.items c.args.actor c.feed_into.new.seat) c.requires.running c.in_ok-feed_into.ensures.fed.sent c.in_ok-feed_into.ensures.fed.shown.lines c.in_ok-feed_into.ensures.fed.shown.decided
-    (c.in_ok-feed_into.ensures.fed.shown.below (length c.args.self.now.seats.items - c.args.self.now.wires.shown) (below-outputs c.args.actor (length c.args.self.now.seats.items) c.args.self.now.wires.shown c.requires.actor_in)
+    (length-set c.args.self.now.seats.items c.args.actor c.feed_into.new.seat) c.requires.running c.in_ok-feed_into.ensures.fed.onward.sent c.in_ok-feed_into.ensures.fed.onward.shown.lines c.in_ok-feed_into.ensures.fed.onward.shown.decided
+    (c.in_ok-feed_into.ensures.fed.onward.shown.below (length c.args.self.now.seats.items - c.args.self.now.wires.shown) (below-outputs c.args.actor (length c.args.self.now.seats.items) c.args.self.now.wires.shown c.requires.actor_in)
     (own-drops _ c.args.self.now c.requires.flow c.args.actor c.requires.head.0 c.args.port c.args.arc c.arc-at.result.now c.in-Ok.item c.requires.actor_in c.requires.head.1 c.index_mut.result.now is c.arc-at.ensures
     c.feed_into.new.seat c.in_ok-feed_into.ensures.fed.items c.in_ok-feed_into.ensures.fed.drops c.in_ok-feed_into.ensures.fed.fed may
     (runs _ c.args.self.now c.requires.flow c.args.actor c.requires.head.0 c.args.port c.args.arc c.arc-at.result.now c.in-Ok.item c.requires.actor_in c.requires.head.1 c.index_mut.result.now is c.arc-at.ensures c.requires.running)))
-    c.in_ok-feed_into.ensures.fed.shown.plans
+    c.in_ok-feed_into.ensures.fed.onward.shown.plans
 
 pub returns-clause-measure : goal.returns-clause-measure
 returns-clause-measure g c =
@@ -117,7 +117,7 @@ returns-clause-touches g c =
     (known (g.D.PageDisk.log c.feed_into.new.disk)) (known (g.D.PageDisk.log c.take_item.new.disk)) c.take_item.new.queues c.feed_into.new.queues _ c.in-Ok-count_item.taken c.feed_into.new.seat c.in_ok-feed_into.ensures.fed.items
     c.in-Ok.ensures.faces c.in_ok-feed_into.ensures.fed.fed.open_still
     (get_set_same c.args.self.now.seats.items c.args.actor c.feed_into.new.seat c.requires.actor_in)
-    (λ other ne. get_set_other c.args.self.now.seats.items c.args.actor other c.feed_into.new.seat ne) c.in_ok-feed_into.ensures.fed.sent
+    (λ other ne. get_set_other c.args.self.now.seats.items c.args.actor other c.feed_into.new.seat ne) c.in_ok-feed_into.ensures.fed.onward.sent
 
 pub returns-clause-cost : goal.returns-clause-cost
 returns-clause-cost g c =
@@ -126,7 +126,7 @@ returns-clause-cost g c =
     (with_item c.args.self.now.seats c.args.actor c.feed_into.new.seat) c.feed_into.new.queues c.in-Ok-count_item.taken c.feed_into.new.seat c.args.steps.now c.feed_into.new.steps
     (get_set_same c.args.self.now.seats.items c.args.actor c.feed_into.new.seat c.requires.actor_in)
     (λ other ne. get_set_other c.args.self.now.seats.items c.args.actor other c.feed_into.new.seat ne)
-    (length-set c.args.self.now.seats.items c.args.actor c.feed_into.new.seat) c.in_ok-feed_into.ensures.fed.fed.counted c.in_ok-feed_into.ensures.cost
+    (length-set c.args.self.now.seats.items c.args.actor c.feed_into.new.seat) c.in_ok-feed_into.ensures.fed.fed.after.counted c.in_ok-feed_into.ensures.cost
 
 pub returns-in-Err-clause-cause : goal.returns-in-Err-clause-cause
 returns-in-Err-clause-cause g c =
@@ -177,7 +177,7 @@ returns-clause-took g c =
     let after = get_set_same c.args.self.now.seats.items c.args.actor c.feed_into.new.seat c.requires.actor_in in
     operator-took c.args.self.now _ c.args.actor 1 false c.requires.actor_in (length-set c.args.self.now.seats.items c.args.actor c.feed_into.new.seat)
     (fed-sum c.args.self.now.wires (length c.args.self.now.seats.items) c.requires.flow.shaped c.args.actor c.requires.actor_in c.args.self.now.queues c.take_item.new.queues c.feed_into.new.queues c.args.port c.args.arc
-    c.requires.head.1.1 c.in-Ok.ensures.popped c.in-Ok.ensures.faces c.in_ok-feed_into.ensures.fed.sent.apart)
+    c.requires.head.1.1 c.in-Ok.ensures.popped c.in-Ok.ensures.faces c.in_ok-feed_into.ensures.fed.onward.sent.apart)
     (goes-on c.args.self.now.over _ _ c.index_mut.result.now c.feed_into.new.seat is after c.in_ok-feed_into.ensures.fed.fed.open_still c.requires.running)
 
 pub returns-clause-later : goal.returns-clause-later
@@ -204,4 +204,4 @@ pub returns-in_err-feed_into-clause-stay : goal.returns-in_err-feed_into-clause-
 returns-in_err-feed_into-clause-stay g c = c.in_err-feed_into.ensures.part.shown.stay
 
 pub returns-clause-stay : goal.returns-clause-stay
-returns-clause-stay g c = c.in_ok-feed_into.ensures.fed.shown.stay
+returns-clause-stay g c = c.in_ok-feed_into.ensures.fed.onward.shown.stay

@@ -25,11 +25,11 @@ returns-clause-ok g c =
     (get_set_same c.args.self.now.seats.items c.args.actor c.finish_into.new.seat c.requires.actor_in)
     (λ other ne. get_set_other c.args.self.now.seats.items c.args.actor other c.finish_into.new.seat ne)
     (length-set c.args.self.now.seats.items c.args.actor c.finish_into.new.seat)
-    c.in_ok-finish_into.ensures.finished.sent c.end_arcs.ensures.size c.end_arcs.ensures.frames c.end_arcs.ensures.ended c.end_arcs.ensures.items c.end_arcs.ensures.together c.in_ok-finish_into.ensures.finished.shown.lines c.requires.running c.in_ok-finish_into.ensures.finished.shown.decided
-    (c.in_ok-finish_into.ensures.finished.shown.below (length c.args.self.now.seats.items - c.args.self.now.wires.shown) (below-outputs c.args.actor (length c.args.self.now.seats.items) c.args.self.now.wires.shown c.requires.actor_in)
+    c.in_ok-finish_into.ensures.finished.onward.sent c.end_arcs.ensures.size c.end_arcs.ensures.frames c.end_arcs.ensures.ended c.end_arcs.ensures.items c.end_arcs.ensures.together c.in_ok-finish_into.ensures.finished.onward.shown.lines c.requires.running c.in_ok-finish_into.ensures.finished.onward.shown.decided
+    (c.in_ok-finish_into.ensures.finished.onward.shown.below (length c.args.self.now.seats.items - c.args.self.now.wires.shown) (below-outputs c.args.actor (length c.args.self.now.seats.items) c.args.self.now.wires.shown c.requires.actor_in)
     (own-drops _ c.args.self.now c.requires.flow c.args.actor c.requires.actor_in c.requires.head c.index_mut.result.now is
     c.finish_into.new.seat c.in_ok-finish_into.ensures.finished.items c.in_ok-finish_into.ensures.finished.drops c.in_ok-finish_into.ensures.finished.finished c.requires.running))
-    c.in_ok-finish_into.ensures.finished.shown.plans
+    c.in_ok-finish_into.ensures.finished.onward.shown.plans
 
 pub returns-clause-measure : goal.returns-clause-measure
 returns-clause-measure g c =
@@ -46,7 +46,7 @@ pub returns-clause-taken : goal.returns-clause-taken
 returns-clause-taken g c =
     let is = slice_get_read c.args.self.now.seats.items _ c.args.actor c.index_mut.result.now refl c.requires.actor_in c.index_mut.ensures.value in
     finished-taken _ c.args.self.now c.requires.flow c.args.actor c.requires.actor_in c.requires.head c.index_mut.result.now is
-    (with_item c.args.self.now.seats c.args.actor c.finish_into.new.seat) c.end_arcs.new.queues c.finish_into.new.seat c.in_ok-finish_into.ensures.finished.finished.counted
+    (with_item c.args.self.now.seats c.args.actor c.finish_into.new.seat) c.end_arcs.new.queues c.finish_into.new.seat (let counted = c.in_ok-finish_into.ensures.finished.finished.after.counted in omega (arith, counted))
     (get_set_same c.args.self.now.seats.items c.args.actor c.finish_into.new.seat c.requires.actor_in)
     (λ other ne. get_set_other c.args.self.now.seats.items c.args.actor other c.finish_into.new.seat ne)
     (length-set c.args.self.now.seats.items c.args.actor c.finish_into.new.seat)
@@ -57,7 +57,7 @@ returns-clause-touches g c =
     finished-touches _ c.args.self.now c.requires.flow c.args.actor c.requires.actor_in c.requires.head c.index_mut.result.now is
     (known (g.D.PageDisk.log c.args.disk.now)) (known (g.D.PageDisk.log c.finish_into.new.disk)) c.finish_into.new.queues c.end_arcs.new.queues _ c.in_ok-finish_into.ensures.finished.items
     (λ other ne. get_set_other c.args.self.now.seats.items c.args.actor other c.finish_into.new.seat ne)
-    c.in_ok-finish_into.ensures.finished.sent c.end_arcs.ensures.ended c.end_arcs.ensures.first c.end_arcs.ensures.apart
+    c.in_ok-finish_into.ensures.finished.onward.sent c.end_arcs.ensures.ended c.end_arcs.ensures.first c.end_arcs.ensures.apart
 
 pub returns-in_err-finish_into-clause-cause : goal.returns-in_err-finish_into-clause-cause
 returns-in_err-finish_into-clause-cause g c =
@@ -83,7 +83,7 @@ pub returns-clause-took : goal.returns-clause-took
 returns-clause-took g c =
     let after = get_set_same c.args.self.now.seats.items c.args.actor c.finish_into.new.seat c.requires.actor_in in
     let sums = ended-sum c.args.self.now.wires (length c.args.self.now.seats.items) c.requires.flow.shaped c.args.actor c.requires.actor_in c.args.self.now.queues c.end_arcs.new.queues
-    (λ arc away. c.end_arcs.ensures.apart arc away ∙ c.in_ok-finish_into.ensures.finished.sent.apart arc away) in
+    (λ arc away. c.end_arcs.ensures.apart arc away ∙ c.in_ok-finish_into.ensures.finished.onward.sent.apart arc away) in
     operator-took c.args.self.now _ c.args.actor 0 true c.requires.actor_in (length-set c.args.self.now.seats.items c.args.actor c.finish_into.new.seat) (omega (arith, sums))
     (is-closed c.args.self.now.over _ c.finish_into.new.seat after c.in_ok-finish_into.ensures.finished.finished.closed)
 
@@ -100,4 +100,4 @@ pub returns-in_err-finish_into-clause-stay : goal.returns-in_err-finish_into-cla
 returns-in_err-finish_into-clause-stay g c = c.in_err-finish_into.ensures.part.shown.stay
 
 pub returns-clause-stay : goal.returns-clause-stay
-returns-clause-stay g c = c.in_ok-finish_into.ensures.finished.shown.stay
+returns-clause-stay g c = c.in_ok-finish_into.ensures.finished.onward.shown.stay
