@@ -40,7 +40,8 @@ pub record ArcLeft (r : Replay) (items : ℕ → List Item) (flow : Flow Actor) 
 -- last part is still to be taken from the arc there, and the rest was taken
 pub record KeepsAnswers (r : Replay) (items : ℕ → List Item) (flow : Flow Actor) (history : List Event) : Type 0 where
   pub holds : HoldsItems actors (batch_level r) items flow
-  pub lines : (output : ℕ) → output < length r.network.wires.outputs → lines_of output history ++ lines_left actors (batch_level r) items flow output ≡ answer_of r output
+  pub lines : (output : ℕ) → output < length r.network.wires.outputs
+      → lines_of output history ++ lines_left actors (batch_level r) items flow output ≡ answer_of r output
   pub drops : (w : ℕ) (p : DropPoint) → slice_get (points_of r.network) w ≡ Some p
       → drops_of w history ++ decisions_left actors (batch_level r) items flow (flow.wires.sheds + w) ≡ decisions_of r w p
   pub fed : (at : ℕ) → at < length r.network.boxes → fed_at_last actors (batch_level r) items flow at ≡ fed_of r at

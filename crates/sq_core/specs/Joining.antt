@@ -1,5 +1,6 @@
 -- Wires that join operators as a table of feeds says.
-use Rattle.std.specs.Prelude.{◌≡◌, ◌≢◌, ◌⊎◌, ℕ, ◌+◌, ◌*◌, ◌==◌, ◌||◌, ◌≤◌, ◌<◌, ◌^◌, Bool, true, List, [], ◌∷◌, ◌++◌, length, Option, Some, None, Vec, slice_get, if◌then◌else◌}
+use Rattle.std.specs.Prelude.{◌≡◌, ◌≢◌, ◌⊎◌, ℕ, ◌+◌, ◌*◌, ◌==◌, ◌||◌, ◌≤◌, ◌<◌, ◌^◌, Bool, true, List, [], ◌∷◌, ◌++◌, length, Option, Some, None, Vec}
+use Rattle.std.specs.Prelude.{slice_get, if◌then◌else◌}
 use Rattle.std.specs.declared.alloc.Global.{Global}
 use Rattle.sq_flow.specs.declared.wires.Arc.{Arc}
 use Rattle.sq_flow.specs.declared.wires.Wires.{Wires}
@@ -55,13 +56,15 @@ IsOf (Some arc) (Some f) = (arc.from ≡ f.from) × (arc.port ≡ f.port) × (ar
 -- each operator reads as many arcs as the table says, and each is as it says
 pub record IsJoined (feeds : List (Vec Feed Global)) (wires : Wires) : Type 0 where
   pub many : (actor : ℕ) → length (arcs_read wires actor) ≡ length (feeds_of feeds actor)
-  pub fed : (actor port arc : ℕ) → slice_get (arcs_read wires actor) port ≡ Some arc → IsOf (slice_get wires.arcs.items arc) (slice_get (feeds_of feeds actor) port)
+  pub fed : (actor port arc : ℕ) → slice_get (arcs_read wires actor) port ≡ Some arc
+      → IsOf (slice_get wires.arcs.items arc) (slice_get (feeds_of feeds actor) port)
 
 -- a number is added at a port of an actor
 abbrev pub AddsIn : ℕ → ℕ → ℕ → List (Vec (Vec ℕ Global) Global) → List (Vec (Vec ℕ Global) Global) → Type 0
 AddsIn to place at was is = (actor port : ℕ)
     → numbers_in (slice_get (rows_in (slice_get is actor)) port)
-    ≡ (if actor == to then (if port == place then numbers_in (slice_get (rows_in (slice_get was actor)) port) ++ at ∷ [] else numbers_in (slice_get (rows_in (slice_get was actor)) port))
+    ≡ (if actor == to then (if port == place then numbers_in (slice_get (rows_in (slice_get was actor)) port) ++ at ∷ []
+    else numbers_in (slice_get (rows_in (slice_get was actor)) port))
     else numbers_in (slice_get (rows_in (slice_get was actor)) port))
 
 -- a number behind these, where it isn't among them
@@ -98,7 +101,8 @@ pub record IsJoining (shown : ℕ) (feeds : List (Vec Feed Global)) (at place : 
   pub from_in : (arc : ℕ) → arc < length wires.arcs.items → IsGiver shown (length feeds) (from_of (slice_get wires.arcs.items arc))
   pub joined : (actor port arc : ℕ) → slice_get (arcs_read wires actor) port ≡ Some arc
       → (to_of (slice_get wires.arcs.items arc) ≡ actor) × (arc_place (slice_get wires.arcs.items arc) ≡ port)
-  pub fed : (actor port arc : ℕ) → slice_get (arcs_read wires actor) port ≡ Some arc → IsOf (slice_get wires.arcs.items arc) (slice_get (feeds_of feeds actor) port)
+  pub fed : (actor port arc : ℕ) → slice_get (arcs_read wires actor) port ≡ Some arc
+      → IsOf (slice_get wires.arcs.items arc) (slice_get (feeds_of feeds actor) port)
   pub read : (actor port arc : ℕ) → arc < length wires.arcs.items
       → times_in arc (arcs_from wires actor port)
       ≡ (if actor == from_of (slice_get wires.arcs.items arc) then (if port == arc_port (slice_get wires.arcs.items arc) then 1 else 0) else 0)

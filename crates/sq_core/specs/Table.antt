@@ -1,5 +1,6 @@
 -- What the boxes, drops and outputs of a network read, and an order of them.
-use Rattle.std.specs.Prelude.{◌≡◌, ℕ, zero, suc, ◌+◌, ◌<◌, ◌≤◌, ◌==◌, if◌then◌else◌, Bool, true, false, List, [], ◌∷◌, map, length, Option, Some, None, is_some, slice_get}
+use Rattle.std.specs.Prelude.{◌≡◌, ℕ, zero, suc, ◌+◌, ◌<◌, ◌≤◌, ◌==◌, if◌then◌else◌, Bool, true, false, List, [], ◌∷◌, map, length, Option, Some}
+use Rattle.std.specs.Prelude.{None, is_some, slice_get}
 use Rattle.sq_value.specs.declared.Kind.{Kind}
 use Rattle.sq_value.specs.Values.{Columns, kinds_of}
 use Rattle.sq_words.specs.Lists.{numbers_to}
@@ -93,5 +94,6 @@ actors_of n = with_outputs (first_output n) (length n.wires.outputs) (with_boxes
 -- each operator reads an arc for each feed of its row, and it is as the feed says
 pub record IsTabled (n : Network) (w : Wires) : Type 0 where
   pub many : (actor : ℕ) → actor < ops_of n → length (arcs_read w actor) ≡ length (feeds_row n (actor_at n actor))
-  pub each : (actor port : ℕ) (f : Feed) → actor < ops_of n → slice_get (feeds_row n (actor_at n actor)) port ≡ Some f → IsOf (arc_wired w (slice_get (arcs_read w actor) port)) (Some f)
+  pub each : (actor port : ℕ) (f : Feed) → actor < ops_of n → slice_get (feeds_row n (actor_at n actor)) port ≡ Some f
+      → IsOf (arc_wired w (slice_get (arcs_read w actor) port)) (Some f)
   pub no_more : (actor : ℕ) → ops_of n ≤ actor → arcs_read w actor ≡ []

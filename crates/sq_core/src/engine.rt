@@ -139,20 +139,24 @@ impl Engine {
         ensures run { OnOk result ((r : Replay) (history : List Event) (begun : ℕ)
             → IsRun r (known (D.log disk.old)) self.old (history ++ events.old.items) begun steps.old
             → IsRun r (known (D.log disk.new)) self.new (history ++ events.new.items) begun steps.new) }
-        ensures goes { OnOk result (Stepped actors (known (D.log disk.old)) (known (D.log disk.new)) self.old.engine.flow self.new.engine.flow events.old.items events.new.items) }
+        ensures goes { OnOk result (Stepped actors (known (D.log disk.old)) (known (D.log disk.new))
+            self.old.engine.flow self.new.engine.flow events.old.items events.new.items) }
         ensures stopped { IfErr result (λ e. Tells (known (D.log disk.new)) → (r : Replay) (history : List Event) (begun : ℕ)
             → IsRun r (known (D.log disk.old)) self.old (history ++ events.old.items) begun steps.old
             → Stopped (D.log disk.old).honest r (history ++ events.new.items) begun steps.new e) }
         ensures counted { IfErr result (λ e. e ≡ RunErr.TooMuch → 2 ^ 62 ≤ self.new.engine.flow.taken + 2) }
         ensures failed { OnErr result (self.new.engine.failed ≡ true) }
-        ensures shows { OnOk result (AllByRecursion (IsEventIn (length self.old.network.outputs) (drops_in self.old.network)) events.old.items → AllByRecursion (IsEventIn (length self.old.network.outputs) (drops_in self.old.network)) events.new.items) }
+        ensures shows { OnOk result (AllByRecursion (IsEventIn (length self.old.network.outputs) (drops_in self.old.network)) events.old.items
+            → AllByRecursion (IsEventIn (length self.old.network.outputs) (drops_in self.old.network)) events.new.items) }
         ensures order { OnOk result (self.new.engine.ready.list ≡ listed_after self.new.engine.flow self.old.engine.ready.list pick.actor) }
         ensures measure { IfOk result (λ p. FallsBy p.fed p.finished (measure_of self.old.engine.flow) (measure_of self.new.engine.flow)) }
         ensures works { IfOk result (λ p. (p.fed ≡ 0) → p.finished ≡ true) }
         ensures most { IfOk result (λ p. p.fed ≤ pick.train) }
-        ensures stops { IfOk result (λ p. (p.fed ≡ pick.train) ⊎ ((p.finished ≡ true) ⊎ (IsReady self.new.engine.flow (seat_number (length self.new.engine.flow.seats.items) pick.actor) → ⊥))) }
+        ensures stops { IfOk result (λ p. (p.fed ≡ pick.train)
+            ⊎ ((p.finished ≡ true) ⊎ (IsReady self.new.engine.flow (seat_number (length self.new.engine.flow.seats.items) pick.actor) → ⊥))) }
         ensures stay { IsPrefixOf events.old.items events.new.items }
-        ensures took { IfOk result (λ p. Took (seat_number (length self.old.engine.flow.seats.items) pick.actor) p.fed p.finished self.old.engine.flow self.new.engine.flow) }
+        ensures took { IfOk result (λ p. Took (seat_number (length self.old.engine.flow.seats.items) pick.actor) p.fed p.finished
+            self.old.engine.flow self.new.engine.flow) }
         ensures frames { OnOk result (faces.frames self.new.engine.flow.queues ≡ faces.frames self.old.engine.flow.queues) }
     {
         self.engine.step(pick, disk, events, steps)

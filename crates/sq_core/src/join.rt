@@ -31,7 +31,8 @@ pub(crate) fn copy_kinds(alloc: Global, kinds: &[Kind]) -> Result<ListOf<Kind>, 
 fn add_at(rows: &mut Vec<Vec<u32>>, row: u32, at: u32) -> Result<(), AllocError>
     requires { row < length rows.old.items }
     ensures len { OnOk result (length rows.new.items ≡ length rows.old.items) }
-    ensures added { OnOk result ((r : ℕ) → numbers_in (slice_get rows.new.items r) ≡ (if r == row then numbers_in (slice_get rows.old.items r) ++ at ∷ [] else numbers_in (slice_get rows.old.items r))) }
+    ensures added { OnOk result ((r : ℕ) → numbers_in (slice_get rows.new.items r)
+        ≡ (if r == row then numbers_in (slice_get rows.old.items r) ++ at ∷ [] else numbers_in (slice_get rows.old.items r))) }
 {
     rows[row as usize].push(at)?;
     Ok(())
@@ -51,7 +52,8 @@ fn grow(alloc: Global, rows: &mut Vec<Vec<u32>>, row: u32) -> Result<(), AllocEr
 
 /// Adds a number to a row, which needn't be there yet.
 fn add_row(alloc: Global, rows: &mut Vec<Vec<u32>>, row: u32, at: u32) -> Result<(), AllocError>
-    ensures added { OnOk result ((r : ℕ) → numbers_in (slice_get rows.new.items r) ≡ (if r == row then numbers_in (slice_get rows.old.items r) ++ at ∷ [] else numbers_in (slice_get rows.old.items r))) }
+    ensures added { OnOk result ((r : ℕ) → numbers_in (slice_get rows.new.items r)
+        ≡ (if r == row then numbers_in (slice_get rows.old.items r) ++ at ∷ [] else numbers_in (slice_get rows.old.items r))) }
 {
     grow(alloc, rows, row)?;
     add_at(rows, row, at)
@@ -76,7 +78,8 @@ fn add_in(
 fn add_follower(followers: &mut Vec<Vec<u32>>, actor: u32, follower: u32) -> Result<(), AllocError>
     requires { actor < length followers.old.items }
     ensures len { OnOk result (length followers.new.items ≡ length followers.old.items) }
-    ensures added { OnOk result ((r : ℕ) → numbers_in (slice_get followers.new.items r) ≡ (if r == actor then once_more follower (numbers_in (slice_get followers.old.items r)) else numbers_in (slice_get followers.old.items r))) }
+    ensures added { OnOk result ((r : ℕ) → numbers_in (slice_get followers.new.items r)
+        ≡ (if r == actor then once_more follower (numbers_in (slice_get followers.old.items r)) else numbers_in (slice_get followers.old.items r))) }
 {
     if followers[actor as usize].contains(&follower) {
         return Ok(());

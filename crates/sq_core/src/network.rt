@@ -12,7 +12,8 @@ ghost use Rattle.sq_model.specs.GivenLevels.{IsAt};
 ghost use Rattle.sq_below.specs.Actors.{Box, giver};
 ghost use Rattle.sq_start.specs.Numbers.{first_output, ops_of, actor_at, place_stream};
 ghost use Rattle.sq_flow.specs.Wiring.{IsShaped};
-ghost use Rattle.sq_core.specs.Table.{kinds_on, streams_on, arc_feed, place_feed, feed_from, feeds_row, feed_table, same_box, drops_behind, turned, with_outputs, actors_of, IsTabled};
+ghost use Rattle.sq_core.specs.Table.{kinds_on, streams_on, arc_feed, place_feed, feed_from, feeds_row, feed_table, same_box, drops_behind, turned};
+ghost use Rattle.sq_core.specs.Table.{with_outputs, actors_of, IsTabled};
 
 use crate::join::{Feed, copy_kinds, wires_of};
 use crate::points::{drop_on, is_below};

@@ -81,9 +81,11 @@ pub(crate) fn network_engine(
     ensures operators { IfOk result (λ e. length e.flow.seats.items ≡ ops_of n.now) }
     ensures together { IfOk result (λ e. (pages : Option Pages) → Together e.flow.queues pages) }
     ensures none_fed { IfOk result (λ e. taken_in_all actors e.flow ≡ 0) }
-    ensures plans { IfOk result (λ e. Plans (record { network = n.now; sources = map (λ v. v.items) sources.items; entries = capacities.now; seed = seed }) e.flow []) }
+    ensures plans { IfOk result (λ e. Plans (record { network = n.now; sources = map (λ v. v.items) sources.items; entries = capacities.now; seed = seed })
+        e.flow []) }
     ensures answers { IfOk result (λ e. (pages : Option Pages)
-        → KeepsAnswers (record { network = n.now; sources = map (λ v. v.items) sources.items; entries = capacities.now; seed = seed }) (items_in e.flow pages) e.flow []) }
+        → KeepsAnswers (record { network = n.now; sources = map (λ v. v.items) sources.items; entries = capacities.now; seed = seed })
+        (items_in e.flow pages) e.flow []) }
     ensures ready { IfOk result (λ e. e.ready.list ≡ 0 ∷ []) }
     ensures frames { IfOk result (λ e. faces.frames e.flow.queues ≡ frames) }
 {

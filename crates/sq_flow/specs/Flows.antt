@@ -1,5 +1,6 @@
 -- What an engine holds, and what each step keeps.
-use Rattle.std.specs.Prelude.{◌≡◌, ℕ, zero, suc, ◌+◌, ◌-◌, ◌^◌, ◌/◌, ◌≤◌, ◌<◌, Bool, true, List, [], ◌∷◌, ◌++◌, length, Option, Some, None, slice_get, slice_index, if◌then◌else◌}
+use Rattle.std.specs.Prelude.{◌≡◌, ℕ, zero, suc, ◌+◌, ◌-◌, ◌^◌, ◌/◌, ◌≤◌, ◌<◌, Bool, true, List, [], ◌∷◌, ◌++◌, length, Option, Some, None, slice_get}
+use Rattle.std.specs.Prelude.{slice_index, if◌then◌else◌}
 use Rattle.sq_value.specs.declared.Tuple.{Tuple}
 use Rattle.sq_item.specs.declared.Item.{Item}
 use Rattle.sq_item.specs.Things.{Thing, spread_all}
@@ -65,9 +66,11 @@ pub record IsFlow {O : Type 0} (m : Ghosts O) (flow : Flow O) : Type 0 where
   pub lanes : size flow.queues ≡ length flow.wires.arcs.items
   pub ended : (arc : ℕ) → arc < length flow.wires.arcs.items
       → (face flow.queues arc).ended ≡ done_at flow.over (slice_get flow.seats.items (from_of (slice_get flow.wires.arcs.items arc)))
-  pub seats : (actor : ℕ) → holds_at (IsSeat m ((net_of flow.wires).takes actor) ((net_of flow.wires).fits actor) flow.levels.epoch flow.taken) (slice_get flow.seats.items actor)
+  pub seats : (actor : ℕ) → holds_at (IsSeat m ((net_of flow.wires).takes actor) ((net_of flow.wires).fits actor) flow.levels.epoch flow.taken)
+      (slice_get flow.seats.items actor)
   pub few : flow.taken < 2 ^ 62
-  pub held : (table : ℕ → ℕ → ℕ) → AgreesWith flow.levels table → (actor port : ℕ) → ThingsUpTo flow.clock (rest_at m table (slice_get flow.seats.items actor) [] port)
+  pub held : (table : ℕ → ℕ → ℕ) → AgreesWith flow.levels table
+      → (actor port : ℕ) → ThingsUpTo flow.clock (rest_at m table (slice_get flow.seats.items actor) [] port)
   pub coming : (source : ℕ) → RiseFrom flow.clock (to_release flow source)
   pub few_sources : length flow.sources.items < 2 ^ 32
   pub levels : (flow.levels.closed ≡ flow.clock / flow.levels.epoch + 1) × (flow.clock < 2 ^ 40)
@@ -122,11 +125,13 @@ turns_at_last m table items flow =
 
 -- what was shown, and then what is left, stays the same, and so do the numbers of what is fed, lost and taken in all; of each
 -- arc things are taken from the front alone
-pub record Goes {O : Type 0} (m : Ghosts O) (table : ℕ → ℕ → ℕ) (items items' : ℕ → List Item) (flow flow' : Flow O) (events events' : List Event) : Type 0 where
+pub record Goes {O : Type 0} (m : Ghosts O) (table : ℕ → ℕ → ℕ) (items items' : ℕ → List Item) (flow flow' : Flow O)
+    (events events' : List Event) : Type 0 where
   pub lines : (output : ℕ) → flow.wires.shown + output < length flow.seats.items
       → lines_of output events ++ lines_left m table items flow output ≡ lines_of output events' ++ lines_left m table items' flow' output
   pub drops : (w : ℕ) → flow.wires.sheds + w < flow.wires.shown
-      → drops_of w events ++ decisions_left m table items flow (flow.wires.sheds + w) ≡ drops_of w events' ++ decisions_left m table items' flow' (flow.wires.sheds + w)
+      → drops_of w events ++ decisions_left m table items flow (flow.wires.sheds + w)
+      ≡ drops_of w events' ++ decisions_left m table items' flow' (flow.wires.sheds + w)
   pub fed : (actor : ℕ) → actor < length flow.seats.items → fed_at_last m table items flow actor ≡ fed_at_last m table items' flow' actor
   pub lost : (actor : ℕ) → actor < length flow.seats.items → lost_at_last m table items flow actor ≡ lost_at_last m table items' flow' actor
   pub turns : turns_at_last m table items flow ≡ turns_at_last m table items' flow'

@@ -15,7 +15,8 @@ use Rattle.sq_words.specs.Lists.{contains_number}
 pub record IsOpen {D : Type 0} (log : D → DiskLog) (s : Onward D) : Type 0 where
   pub within : s.actor < length s.wires.now.readers.items
   pub shown : s.wires.now.shown ≤ s.actor → (port : ℕ) → arcs_from s.wires.now s.actor port ≡ []
-  pub there : (port place arc : ℕ) → slice_get (arcs_from s.wires.now s.actor port) place ≡ Some arc → (arc < size s.queues.now) × ((face s.queues.now arc).ended ≡ false)
+  pub there : (port place arc : ℕ) → slice_get (arcs_from s.wires.now s.actor port) place ≡ Some arc
+      → (arc < size s.queues.now) × ((face s.queues.now arc).ended ≡ false)
   pub joined : (port arc : ℕ) → contains_number (arcs_from s.wires.now s.actor port) arc ≡ true → is_sent_by s.wires.now s.actor arc ≡ true
   pub together : Together s.queues.now (known (log s.disk.now))
   pub whole : s.failed ≡ None
@@ -33,7 +34,8 @@ pub record Came {D : Type 0} (log : D → DiskLog) (faults : D → ℕ) (start s
   pub holds : HoldsSame start s
   pub shown : IsShown s.wires.now s.actor s.noted.items s.noted.drops start.events.now.items s.events.now.items
   pub sent : s.failed ≡ None
-      → Pushes start.queues.now s.queues.now (known (log start.disk.now)) (known (log s.disk.now)) (sent_to s.wires.now s.actor s.noted.items) (λ time. AllOutsFine time s.noted.items) (is_sent_by s.wires.now s.actor)
+      → Pushes start.queues.now s.queues.now (known (log start.disk.now)) (known (log s.disk.now))
+      (sent_to s.wires.now s.actor s.noted.items) (λ time. AllOutsFine time s.noted.items) (is_sent_by s.wires.now s.actor)
   pub cause : IfSome s.failed (IsQueueCause s.queues.now (log start.disk.now) (log s.disk.now) (faults start.disk.now) (faults s.disk.now))
   pub honest : IfSome s.failed (λ e. Tells (known (log s.disk.now)) → NotChanged (log start.disk.now).honest e)
   pub rises : faults start.disk.now ≤ faults s.disk.now

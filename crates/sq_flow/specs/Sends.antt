@@ -23,7 +23,8 @@ sent_to wires actor (out ∷ outs) arc = many (times_in arc (arcs_from wires act
 abbrev pub is_sent_by : Wires → ℕ → ℕ → Bool
 is_sent_by wires actor arc = from_of (slice_get wires.arcs.items arc) == actor
 
--- each arc gets more behind what stands there, as many pages are in memory at most, no arc ends, none loses its first item, and those that aren't near stay as they are
+-- each arc gets more behind what stands there, as many pages are in memory at most, no arc ends, none loses its first item, and those
+-- that aren't near stay as they are
 pub record Pushes (before after : Queues) (was is : Option Pages) (more : ℕ → List Thing) (upto : ℕ → Type 0) (near : ℕ → Bool) : Type 0 where
   pub lanes : size after ≡ size before
   pub framed : frames after ≡ frames before

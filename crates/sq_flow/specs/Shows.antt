@@ -16,5 +16,6 @@ pub record IsShown (wires : Wires) (actor : ℕ) (items : List (ℕ × Item)) (d
   pub lines : (o : ℕ) → lines_of o events' ≡ lines_of o events ++ tuples_in (pushed_by actor items (wires.shown + o) 0)
   pub decided : (w : ℕ) → drops_of w events' ≡ drops_of w events ++ of_drop w drops
   pub plans : plans_of events' ≡ plans_of events
-  pub below : (outputs : ℕ) → actor < wires.shown + outputs → AllByRecursion (IsOwn wires actor) drops → ShowsIn outputs (wires.shown - wires.sheds) events events'
+  pub below : (outputs : ℕ) → actor < wires.shown + outputs → AllByRecursion (IsOwn wires actor) drops
+      → ShowsIn outputs (wires.shown - wires.sheds) events events'
   pub stay : IsPrefixOf events events'

@@ -17,7 +17,8 @@ BeginsAfter time (x ∷ xs) = time < x.time
 abbrev pub BeginsLeast : List Recorded → ℕ → List Tuple → Type 0
 BeginsLeast sources source [] = ⊥
 BeginsLeast sources source (x ∷ xs) =
-    ((other : ℕ) → BeginsNotBefore x.time (tuples_to_come (slice_get sources other))) × ((other : ℕ) → other < source → BeginsAfter x.time (tuples_to_come (slice_get sources other)))
+    ((other : ℕ) → BeginsNotBefore x.time (tuples_to_come (slice_get sources other)))
+    × ((other : ℕ) → other < source → BeginsAfter x.time (tuples_to_come (slice_get sources other)))
 
 -- the source that has the tuple of the least time left, and of these the one of the least number
 pub record IsNextSource (sources : List Recorded) (source : ℕ) : Type 0 where

@@ -34,7 +34,8 @@ pub record IsNewSeat {O : Type 0} (m : Ghosts O) (takes : ℕ → Bool) (fits : 
       → AllByRecursion own (m.decides seat.op table future)
 
 -- a flow of these parts that has released nothing, with so many pages in memory at most
-pub record IsNewFlow {O : Type 0} (wires : Wires) (seats : Vec (Seat O) Global) (sources : Vec Recorded Global) (planner : Setting) (levels : LevelTable) (most : ℕ) (flow : Flow O) : Type 0 where
+pub record IsNewFlow {O : Type 0} (wires : Wires) (seats : Vec (Seat O) Global) (sources : Vec Recorded Global)
+    (planner : Setting) (levels : LevelTable) (most : ℕ) (flow : Flow O) : Type 0 where
   pub wires_are : flow.wires ≡ wires
   pub seats_are : flow.seats ≡ seats
   pub sources_are : flow.sources ≡ sources

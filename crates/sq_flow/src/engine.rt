@@ -71,7 +71,8 @@ impl<O: Operator + Drop> Flow<O> {
         frames: u32,
     ) -> Result<Flow<O>, AllocError>
         requires shaped { IsShaped wires (length seats.items) }
-        requires seats { (actor : ℕ) → holds_at (IsNewSeat O.Operator ((net_of wires).takes actor) ((net_of wires).fits actor) (IsOwn wires actor) levels.epoch) (slice_get seats.items actor) }
+        requires seats { (actor : ℕ) → holds_at (IsNewSeat O.Operator ((net_of wires).takes actor) ((net_of wires).fits actor) (IsOwn wires actor) levels.epoch)
+            (slice_get seats.items actor) }
         requires coming { (source : ℕ) → RiseFrom 0 (tuples_to_come (slice_get sources.items source)) }
         requires few { length sources.items < 2 ^ 32 }
         requires few_tuples { (source : ℕ) → length (tuples_to_come (slice_get sources.items source)) ≤ 1000000 }
@@ -81,7 +82,9 @@ impl<O: Operator + Drop> Flow<O> {
         ensures flow { IfOk result (λ e. IsFlow O.Operator e) }
         ensures parts { IfOk result (λ e. IsNewFlow wires seats sources planner levels frames e) }
         ensures planned { IfOk result (IsPlanned (arrivals levels.epoch (map (λ s. s.items) sources.items))) }
-        ensures plans { IfOk result (λ e. plans_left e ≡ flat_map (shown_after planner (arrivals levels.epoch (map (λ s. s.items) sources.items))) (numbers_to (last_arrival levels.epoch (map (λ s. s.items) sources.items)))) }
+        ensures plans { IfOk result (λ e. plans_left e
+            ≡ flat_map (shown_after planner (arrivals levels.epoch (map (λ s. s.items) sources.items)))
+            (numbers_to (last_arrival levels.epoch (map (λ s. s.items) sources.items)))) }
     {
         let arcs = wires.arcs.len() as u32;
         let queues = Queues::new(alloc, arcs, frames)?;
@@ -102,7 +105,9 @@ impl<O: Operator + Drop> Flow<O> {
 }
 
 impl<O: Operator + Drop> Engine<O> {
-    ghost use Rattle.sq_flow.specs.Flows.{IsFlow, Stepped, ShowsPrefix, NoneStrange, measure_of, HoldsItems, items_in, lines_left, decisions_left, fed_at_last, RiseFrom, tuples_to_come, CostsFed, StepCosts, TooMuchOnly, FailsAt, lost_at_last, work_at_last, taken_in_all};
+    ghost use Rattle.sq_flow.specs.Flows.{IsFlow, Stepped, ShowsPrefix, NoneStrange, measure_of, HoldsItems, items_in, lines_left, decisions_left};
+    ghost use Rattle.sq_flow.specs.Flows.{fed_at_last, RiseFrom, tuples_to_come, CostsFed, StepCosts, TooMuchOnly, FailsAt, lost_at_last};
+    ghost use Rattle.sq_flow.specs.Flows.{work_at_last, taken_in_all};
     ghost use Rattle.sq_flow.specs.Plans.{PlansPrefix, IsPlanned, arrivals, last_arrival, plans_left};
     ghost use Rattle.sq_flow.specs.Causes.{IsCauseIn};
     ghost use Rattle.sq_flow.specs.Readiness.{IsReady, FallsBy, Took};
@@ -123,7 +128,8 @@ impl<O: Operator + Drop> Engine<O> {
         frames: u32,
     ) -> Result<Engine<O>, AllocError>
         requires shaped { IsShaped wires (length seats.items) }
-        requires seats { (actor : ℕ) → holds_at (IsNewSeat O.Operator ((net_of wires).takes actor) ((net_of wires).fits actor) (IsOwn wires actor) levels.epoch) (slice_get seats.items actor) }
+        requires seats { (actor : ℕ) → holds_at (IsNewSeat O.Operator ((net_of wires).takes actor) ((net_of wires).fits actor) (IsOwn wires actor) levels.epoch)
+            (slice_get seats.items actor) }
         requires coming { (source : ℕ) → RiseFrom 0 (tuples_to_come (slice_get sources.items source)) }
         requires few { length sources.items < 2 ^ 32 }
         requires few_tuples { (source : ℕ) → length (tuples_to_come (slice_get sources.items source)) ≤ 1000000 }
@@ -133,7 +139,9 @@ impl<O: Operator + Drop> Engine<O> {
         ensures engine { IfOk result (λ e. IsEngine O.Operator e) }
         ensures flow { IfOk result (λ e. IsNewFlow wires seats sources planner levels frames e.flow) }
         ensures planned { IfOk result (λ e. IsPlanned (arrivals levels.epoch (map (λ s. s.items) sources.items)) e.flow) }
-        ensures plans { IfOk result (λ e. plans_left e.flow ≡ flat_map (shown_after planner (arrivals levels.epoch (map (λ s. s.items) sources.items))) (numbers_to (last_arrival levels.epoch (map (λ s. s.items) sources.items)))) }
+        ensures plans { IfOk result (λ e. plans_left e.flow
+            ≡ flat_map (shown_after planner (arrivals levels.epoch (map (λ s. s.items) sources.items)))
+            (numbers_to (last_arrival levels.epoch (map (λ s. s.items) sources.items)))) }
         ensures order { IfOk result (λ e. e.ready.list ≡ newly_ready e.flow []) }
     {
         let flow = Flow::new(alloc, wires, seats, sources, planner, levels, frames)?;
@@ -201,12 +209,15 @@ impl<O: Operator + Drop> Engine<O> {
         requires together { Together self.old.flow.queues (known (D.log disk.old)) }
         requires ready { contains_number self.old.ready.list pick.actor ≡ true }
         requires some { 1 ≤ pick.train }
-        ensures ok { OnOk result (Stepped O.Operator (known (D.log disk.old)) (known (D.log disk.new)) self.old.flow self.new.flow events.old.items events.new.items) }
+        ensures ok { OnOk result (Stepped O.Operator (known (D.log disk.old)) (known (D.log disk.new))
+            self.old.flow self.new.flow events.old.items events.new.items) }
         ensures engine { OnOk result (IsEngine O.Operator self.new) }
         ensures order { OnOk result (self.new.ready.list ≡ listed_after self.new.flow self.old.ready.list pick.actor) }
-        ensures prefix { OnErr result (ShowsPrefix O.Operator (known (D.log disk.old)) (known (D.log disk.new)) self.old.flow self.new.flow.levels events.old.items events.new.items) }
+        ensures prefix { OnErr result (ShowsPrefix O.Operator (known (D.log disk.old)) (known (D.log disk.new))
+            self.old.flow self.new.flow.levels events.old.items events.new.items) }
         ensures plans { OnErr result (PlansPrefix self.old.flow self.new.flow.levels events.old.items events.new.items) }
-        ensures strange { IfErr result (λ e. NoneStrange O.Operator (D.log disk.old).honest (known (D.log disk.old)) (known (D.log disk.new)) self.old.flow self.new.flow.levels e) }
+        ensures strange { IfErr result (λ e. NoneStrange O.Operator (D.log disk.old).honest (known (D.log disk.old)) (known (D.log disk.new))
+            self.old.flow self.new.flow.levels e) }
         ensures cause { IfErr result (IsCauseIn self.new.flow (D.log disk.old) (D.log disk.new) (D.faults disk.old) (D.faults disk.new)) }
         ensures feed { IfErr result (FailsAt O.Operator (D.log disk.old) (D.log disk.new) self.old.flow self.new.flow events.old.items) }
         ensures faults { D.faults disk.old ≤ D.faults disk.new }
@@ -214,12 +225,14 @@ impl<O: Operator + Drop> Engine<O> {
         ensures failed { OnErr result (self.new.failed ≡ true) }
         ensures closes { (table : ℕ → ℕ → ℕ) → AgreesWith self.new.flow.levels table → AgreesWith self.old.flow.levels table }
         ensures cost { OnOk result (CostsFed O.Operator self.old.flow self.new.flow steps.old steps.new) }
-        ensures cost_err { OnErr result (StepCosts O.Operator (known (D.log disk.old)) (known (D.log disk.new)) self.old.flow self.new.flow.levels steps.old steps.new) }
+        ensures cost_err { OnErr result (StepCosts O.Operator (known (D.log disk.old)) (known (D.log disk.new))
+            self.old.flow self.new.flow.levels steps.old steps.new) }
         ensures too_much { IfErr result (λ e. TooMuchOnly O.Operator (known (D.log disk.old)) (known (D.log disk.new)) self.old.flow self.new.flow e) }
         ensures measure { IfOk result (λ p. FallsBy p.fed p.finished (measure_of self.old.flow) (measure_of self.new.flow)) }
         ensures works { IfOk result (λ p. (p.fed ≡ 0) → p.finished ≡ true) }
         ensures most { IfOk result (λ p. p.fed ≤ pick.train) }
-        ensures stops { IfOk result (λ p. (p.fed ≡ pick.train) ⊎ ((p.finished ≡ true) ⊎ (IsReady self.new.flow (seat_number (length self.new.flow.seats.items) pick.actor) → ⊥))) }
+        ensures stops { IfOk result (λ p. (p.fed ≡ pick.train)
+            ⊎ ((p.finished ≡ true) ⊎ (IsReady self.new.flow (seat_number (length self.new.flow.seats.items) pick.actor) → ⊥))) }
         ensures stay { IsPrefixOf events.old.items events.new.items }
         ensures took { IfOk result (λ p. Took (seat_number (length self.old.flow.seats.items) pick.actor) p.fed p.finished self.old.flow self.new.flow) }
     {
@@ -285,13 +298,18 @@ impl<O: Operator + Drop> Engine<O> {
         requires engine { IsFlow O.Operator self.now.flow }
         requires done { AllDone self.now.flow }
         ensures lines { (pages : Option Pages) (table : ℕ → ℕ → ℕ) → HoldsItems O.Operator table (items_in self.now.flow pages) self.now.flow
-            → (output : ℕ) → self.now.flow.wires.shown + output < length self.now.flow.seats.items → lines_left O.Operator table (items_in self.now.flow pages) self.now.flow output ≡ [] }
+            → (output : ℕ) → self.now.flow.wires.shown + output < length self.now.flow.seats.items
+            → lines_left O.Operator table (items_in self.now.flow pages) self.now.flow output ≡ [] }
         ensures drops { (pages : Option Pages) (table : ℕ → ℕ → ℕ) → HoldsItems O.Operator table (items_in self.now.flow pages) self.now.flow
             → (actor : ℕ) → actor < length self.now.flow.seats.items → decisions_left O.Operator table (items_in self.now.flow pages) self.now.flow actor ≡ [] }
         ensures fed { (pages : Option Pages) (table : ℕ → ℕ → ℕ) → HoldsItems O.Operator table (items_in self.now.flow pages) self.now.flow
-            → (actor : ℕ) → actor < length self.now.flow.seats.items → fed_at_last O.Operator table (items_in self.now.flow pages) self.now.flow actor ≡ taken_at O.Operator (slice_get self.now.flow.seats.items actor) }
+            → (actor : ℕ) → actor < length self.now.flow.seats.items
+            → fed_at_last O.Operator table (items_in self.now.flow pages) self.now.flow actor
+            ≡ taken_at O.Operator (slice_get self.now.flow.seats.items actor) }
         ensures lost { (pages : Option Pages) (table : ℕ → ℕ → ℕ) → HoldsItems O.Operator table (items_in self.now.flow pages) self.now.flow
-            → (actor : ℕ) → actor < length self.now.flow.seats.items → lost_at_last O.Operator table (items_in self.now.flow pages) self.now.flow actor ≡ lost_at O.Operator (slice_get self.now.flow.seats.items actor) [] }
+            → (actor : ℕ) → actor < length self.now.flow.seats.items
+            → lost_at_last O.Operator table (items_in self.now.flow pages) self.now.flow actor
+            ≡ lost_at O.Operator (slice_get self.now.flow.seats.items actor) [] }
         ensures work { (pages : Option Pages) (table : ℕ → ℕ → ℕ) → HoldsItems O.Operator table (items_in self.now.flow pages) self.now.flow
             → work_at_last O.Operator table (items_in self.now.flow pages) self.now.flow ≡ taken_in_all O.Operator self.now.flow }
     {

@@ -1,7 +1,8 @@
 //! The run of operators, one atomic step at a time.
 
 ghost use Rattle.sq_words.specs.Lists.{IsPrefixOf};
-ghost use Rattle.std.specs.Prelude.{◌≡◌, ◌≢◌, ℕ, ◌+◌, ◌-◌, ◌^◌, ◌/◌, ◌<◌, ◌≤◌, ◌∷◌, ◌==◌, ◌||◌, true, false, List, [], Option, Some, None, OnOk, OnErr, IfOk, IfErr, IfSome, length, slice_get, if◌then◌else◌};
+ghost use Rattle.std.specs.Prelude.{◌≡◌, ◌≢◌, ℕ, ◌+◌, ◌-◌, ◌^◌, ◌/◌, ◌<◌, ◌≤◌, ◌∷◌, ◌==◌, ◌||◌, true, false, List, [], Option, Some, None, OnOk};
+ghost use Rattle.std.specs.Prelude.{OnErr, IfOk, IfErr, IfSome, length, slice_get, if◌then◌else◌};
 ghost use Rattle.sq_oper.specs.declared.outs.Event.{Event};
 ghost use Rattle.sq_outside.specs.Disks.{Pages};
 ghost use Rattle.sq_road.specs.Levels.{AgreesWith};
@@ -107,7 +108,8 @@ fn end_arcs(wires: &Wires, queues: &mut Queues, actor: u32)
     requires lanes { size queues.old ≡ length wires.now.arcs.items }
     requires few { length wires.now.arcs.items < 2 ^ 32 }
     ensures size { size queues.new ≡ size queues.old }
-    ensures ended { (arc : ℕ) → arc < length wires.now.arcs.items → (face queues.new arc).ended ≡ ((face queues.old arc).ended || (from_of (slice_get wires.now.arcs.items arc) == actor)) }
+    ensures ended { (arc : ℕ) → arc < length wires.now.arcs.items → (face queues.new arc).ended
+        ≡ ((face queues.old arc).ended || (from_of (slice_get wires.now.arcs.items arc) == actor)) }
     ensures apart { (arc : ℕ) → is_sent_by wires.now actor arc ≡ false → face queues.new arc ≡ face queues.old arc }
     ensures first { (arc : ℕ) → (face queues.new arc).first ≡ (face queues.old arc).first }
     ensures items { (pages : Option Pages) (arc : ℕ) → items_on queues.new pages arc ≡ items_on queues.old pages arc }
@@ -142,12 +144,15 @@ impl<O: Operator + Drop> Flow<O> {
         requires flow { IsFlow O.Operator self.old }
         requires together { Together self.old.queues (known (D.log disk.old)) }
         requires actor_in { actor < length self.old.seats.items }
-        requires head { (time : ℕ) × NextUpTo (arcs_read self.old.wires actor) (λ a. (face self.old.queues a).first) (λ a. (face self.old.queues a).ended) (length (arcs_read self.old.wires actor)) (Next.Feed time port arc) }
+        requires head { (time : ℕ) × NextUpTo (arcs_read self.old.wires actor)
+            (λ a. (face self.old.queues a).first) (λ a. (face self.old.queues a).ended) (length (arcs_read self.old.wires actor)) (Next.Feed time port arc) }
         requires running { done_at self.old.over (slice_get self.old.seats.items actor) ≡ false }
         ensures ok { OnOk result (Stepped O.Operator (known (D.log disk.old)) (known (D.log disk.new)) self.old self.new events.old.items events.new.items) }
-        ensures prefix { OnErr result (ShowsPrefix O.Operator (known (D.log disk.old)) (known (D.log disk.new)) self.old self.new.levels events.old.items events.new.items) }
+        ensures prefix { OnErr result (ShowsPrefix O.Operator (known (D.log disk.old)) (known (D.log disk.new))
+            self.old self.new.levels events.old.items events.new.items) }
         ensures plans { OnErr result (PlansPrefix self.old self.new.levels events.old.items events.new.items) }
-        ensures strange { IfErr result (λ e. NoneStrange O.Operator (D.log disk.old).honest (known (D.log disk.old)) (known (D.log disk.new)) self.old self.new.levels e) }
+        ensures strange { IfErr result (λ e. NoneStrange O.Operator (D.log disk.old).honest (known (D.log disk.old)) (known (D.log disk.new))
+            self.old self.new.levels e) }
         ensures cause { IfErr result (IsCauseIn self.new (D.log disk.old) (D.log disk.new) (D.faults disk.old) (D.faults disk.new)) }
         ensures feed { IfErr result (IsFeedCause self.old self.new (known (D.log disk.old)) (known (D.log disk.new))) }
         ensures faults { D.faults disk.old ≤ D.faults disk.new }
@@ -197,12 +202,15 @@ impl<O: Operator + Drop> Flow<O> {
         requires flow { IsFlow O.Operator self.old }
         requires together { Together self.old.queues (known (D.log disk.old)) }
         requires actor_in { actor < length self.old.seats.items }
-        requires head { NextUpTo (arcs_read self.old.wires actor) (λ a. (face self.old.queues a).first) (λ a. (face self.old.queues a).ended) (length (arcs_read self.old.wires actor)) Next.Ended }
+        requires head { NextUpTo (arcs_read self.old.wires actor)
+            (λ a. (face self.old.queues a).first) (λ a. (face self.old.queues a).ended) (length (arcs_read self.old.wires actor)) Next.Ended }
         requires running { done_at self.old.over (slice_get self.old.seats.items actor) ≡ false }
         ensures ok { OnOk result (Stepped O.Operator (known (D.log disk.old)) (known (D.log disk.new)) self.old self.new events.old.items events.new.items) }
-        ensures prefix { OnErr result (ShowsPrefix O.Operator (known (D.log disk.old)) (known (D.log disk.new)) self.old self.new.levels events.old.items events.new.items) }
+        ensures prefix { OnErr result (ShowsPrefix O.Operator (known (D.log disk.old)) (known (D.log disk.new))
+            self.old self.new.levels events.old.items events.new.items) }
         ensures plans { OnErr result (PlansPrefix self.old self.new.levels events.old.items events.new.items) }
-        ensures strange { IfErr result (λ e. NoneStrange O.Operator (D.log disk.old).honest (known (D.log disk.old)) (known (D.log disk.new)) self.old self.new.levels e) }
+        ensures strange { IfErr result (λ e. NoneStrange O.Operator (D.log disk.old).honest (known (D.log disk.old)) (known (D.log disk.new))
+            self.old self.new.levels e) }
         ensures cause { IfErr result (IsCauseIn self.new (D.log disk.old) (D.log disk.new) (D.faults disk.old) (D.faults disk.new)) }
         ensures feed { IfErr result (IsFeedCause self.old self.new (known (D.log disk.old)) (known (D.log disk.new))) }
         ensures faults { D.faults disk.old ≤ D.faults disk.new }
@@ -238,9 +246,11 @@ impl<O: Operator + Drop> Flow<O> {
         requires together { Together self.old.queues (known (D.log disk.old)) }
         requires next { IsNextSource self.old.sources.items source }
         ensures ok { OnOk result (Stepped O.Operator (known (D.log disk.old)) (known (D.log disk.new)) self.old self.new events.old.items events.new.items) }
-        ensures prefix { OnErr result (ShowsPrefix O.Operator (known (D.log disk.old)) (known (D.log disk.new)) self.old self.new.levels events.old.items events.new.items) }
+        ensures prefix { OnErr result (ShowsPrefix O.Operator (known (D.log disk.old)) (known (D.log disk.new))
+            self.old self.new.levels events.old.items events.new.items) }
         ensures plans { OnErr result (PlansPrefix self.old self.new.levels events.old.items events.new.items) }
-        ensures strange { IfErr result (λ e. NoneStrange O.Operator (D.log disk.old).honest (known (D.log disk.old)) (known (D.log disk.new)) self.old self.new.levels e) }
+        ensures strange { IfErr result (λ e. NoneStrange O.Operator (D.log disk.old).honest (known (D.log disk.old)) (known (D.log disk.new))
+            self.old self.new.levels e) }
         ensures cause { IfErr result (IsCauseIn self.new (D.log disk.old) (D.log disk.new) (D.faults disk.old) (D.faults disk.new)) }
         ensures feed { IfErr result (IsFeedCause self.old self.new (known (D.log disk.old)) (known (D.log disk.new))) }
         ensures faults { D.faults disk.old ≤ D.faults disk.new }
@@ -279,7 +289,8 @@ impl<O: Operator + Drop> Flow<O> {
         requires flow { IsFlow O.Operator self.old }
         requires none { (source : ℕ) → to_release self.old source ≡ [] }
         requires running { self.old.over ≡ false }
-        ensures ok { (pages : Option Pages) (events : List Event) → Together self.old.queues pages → Stepped O.Operator pages pages self.old self.new events events }
+        ensures ok { (pages : Option Pages) (events : List Event) → Together self.old.queues pages
+            → Stepped O.Operator pages pages self.old self.new events events }
         ensures touches { TouchesOnly (length self.old.seats.items) self.old self.new }
         ensures taken { taken_in_all O.Operator self.new ≡ taken_in_all O.Operator self.old }
         ensures closes { (table : ℕ → ℕ → ℕ) → AgreesWith self.new.levels table → AgreesWith self.old.levels table }

@@ -56,7 +56,8 @@ pub(crate) fn next_of(wires: &Wires, queues: &Queues, actor: u32) -> Next
     requires actor_in { actor < length wires.now.inputs.items }
     requires arcs_in { (port arc : ℕ) → slice_get (arcs_read wires.now actor) port ≡ Some arc → arc < size queues.now }
     requires ports { length (arcs_read wires.now actor) < 2 ^ 32 }
-    ensures { NextUpTo (arcs_read wires.now actor) (λ arc. (face queues.now arc).first) (λ arc. (face queues.now arc).ended) (length (arcs_read wires.now actor)) result }
+    ensures { NextUpTo (arcs_read wires.now actor)
+        (λ arc. (face queues.now arc).first) (λ arc. (face queues.now arc).ended) (length (arcs_read wires.now actor)) result }
 {
     let inputs = wires.arcs_of(actor);
     let mut best = Next::Ended;

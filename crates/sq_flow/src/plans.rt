@@ -63,7 +63,8 @@ pub(crate) fn close_before(
     ensures agrees { (all : ℕ → List ℕ) → (levels.old.closed < next + 1 → Ended all (levels.old.closed - 1) next counts.old.items)
         → AgreesWith levels.old (level_for planner.old all) → AgreesWith levels.new (level_for planner.old all) }
     ensures plans { OnOk result ((all : ℕ → List ℕ) → (levels.old.closed < next + 1 → Ended all (levels.old.closed - 1) next counts.old.items)
-        → plans_of events.new.items ≡ plans_of events.old.items ++ flat_map (shown_after planner.old all) (range_with_len (levels.old.closed - 1) (next - (levels.old.closed - 1)))) }
+        → plans_of events.new.items ≡ plans_of events.old.items
+        ++ flat_map (shown_after planner.old all) (range_with_len (levels.old.closed - 1) (next - (levels.old.closed - 1)))) }
     ensures err { OnErr result (plans_of events.new.items ≡ plans_of events.old.items) }
     ensures lines { (o : ℕ) → lines_of o events.new.items ≡ lines_of o events.old.items }
     ensures drops { (w : ℕ) → drops_of w events.new.items ≡ drops_of w events.old.items }

@@ -53,10 +53,12 @@ pub(crate) fn feed_into<O: Operator, D: PageDisk, L: Ledger>(
     requires has_room { (O.taken seat.old.op < 2 ^ 62 - 1) × (seat.old.tally.taken < 2 ^ 62 - 1) }
     requires within { actor < length wires.now.readers.items }
     requires shown { wires.now.shown ≤ actor → (port : ℕ) → arcs_from wires.now actor port ≡ [] }
-    requires there { (port place arc : ℕ) → slice_get (arcs_from wires.now actor port) place ≡ Some arc → (arc < size queues.old) × ((face queues.old arc).ended ≡ false) }
+    requires there { (port place arc : ℕ) → slice_get (arcs_from wires.now actor port) place ≡ Some arc
+        → (arc < size queues.old) × ((face queues.old arc).ended ≡ false) }
     requires joined { (port arc : ℕ) → contains_number (arcs_from wires.now actor port) arc ≡ true → is_sent_by wires.now actor arc ≡ true }
     requires together { Together queues.old (known (D.log disk.old)) }
-    ensures fed { OnOk result (FeedsInto O.Operator levels.now port item wires.now actor seat.old seat.new queues.old queues.new (known (D.log disk.old)) (known (D.log disk.new)) events.old.items events.new.items) }
+    ensures fed { OnOk result (FeedsInto O.Operator levels.now port item wires.now actor seat.old seat.new
+        queues.old queues.new (known (D.log disk.old)) (known (D.log disk.new)) events.old.items events.new.items) }
     ensures part { OnErr result (FeedsPart O.Operator levels.now port item wires.now actor seat.old events.old.items events.new.items) }
     ensures cause { IfErr result (IsQueueCause queues.new (D.log disk.old) (D.log disk.new) (D.faults disk.old) (D.faults disk.new)) }
     ensures honest { IfErr result (λ e. Tells (known (D.log disk.new)) → NotChanged (D.log disk.old).honest e) }
@@ -107,10 +109,12 @@ pub(crate) fn finish_into<O: Operator, D: PageDisk>(
     requires is_valid { O.valid seat.old.op × (O.running seat.old.op ≡ true) }
     requires within { actor < length wires.now.readers.items }
     requires shown { wires.now.shown ≤ actor → (port : ℕ) → arcs_from wires.now actor port ≡ [] }
-    requires there { (port place arc : ℕ) → slice_get (arcs_from wires.now actor port) place ≡ Some arc → (arc < size queues.old) × ((face queues.old arc).ended ≡ false) }
+    requires there { (port place arc : ℕ) → slice_get (arcs_from wires.now actor port) place ≡ Some arc
+        → (arc < size queues.old) × ((face queues.old arc).ended ≡ false) }
     requires joined { (port arc : ℕ) → contains_number (arcs_from wires.now actor port) arc ≡ true → is_sent_by wires.now actor arc ≡ true }
     requires together { Together queues.old (known (D.log disk.old)) }
-    ensures finished { OnOk result (EndsInto O.Operator wires.now actor seat.old seat.new queues.old queues.new (known (D.log disk.old)) (known (D.log disk.new)) events.old.items events.new.items) }
+    ensures finished { OnOk result (EndsInto O.Operator wires.now actor seat.old seat.new
+        queues.old queues.new (known (D.log disk.old)) (known (D.log disk.new)) events.old.items events.new.items) }
     ensures part { OnErr result (EndsPart O.Operator wires.now actor seat.old events.old.items events.new.items) }
     ensures cause { IfErr result (IsQueueCause queues.new (D.log disk.old) (D.log disk.new) (D.faults disk.old) (D.faults disk.new)) }
     ensures honest { IfErr result (λ e. Tells (known (D.log disk.new)) → NotChanged (D.log disk.old).honest e) }

@@ -36,7 +36,8 @@ fn send_item<D: PageDisk>(
     requires there { (place arc : ℕ) → slice_get arcs.now place ≡ Some arc → (arc < size queues.old) × ((face queues.old arc).ended ≡ false) }
     requires sound { IsSoundItem item }
     requires together { Together queues.old (known (D.log disk.old)) }
-    ensures sent { OnOk result (Pushes queues.old queues.new (known (D.log disk.old)) (known (D.log disk.new)) (λ arc. many (times_in arc arcs.now) (spread item)) (λ time. item.time ≤ time) (λ arc. contains_number arcs.now arc)) }
+    ensures sent { OnOk result (Pushes queues.old queues.new (known (D.log disk.old)) (known (D.log disk.new))
+        (λ arc. many (times_in arc arcs.now) (spread item)) (λ time. item.time ≤ time) (λ arc. contains_number arcs.now arc)) }
     ensures cause { IfErr result (λ e. IsQueueCause queues.new (D.log disk.old) (D.log disk.new) (D.faults disk.old) (D.faults disk.new) (of_queue e)) }
     ensures honest { IfErr result (λ e. Tells (known (D.log disk.new)) → NotChanged (D.log disk.old).honest (of_queue e)) }
     ensures faults { D.faults disk.old ≤ D.faults disk.new }
@@ -63,10 +64,13 @@ pub(crate) fn send_one<D: PageDisk>(
     item: Item,
 ) -> Result<(), QueueErr>
     requires within { actor < length wires.now.readers.items }
-    requires there { (place arc : ℕ) → slice_get (arcs_from wires.now actor port) place ≡ Some arc → (arc < size queues.old) × ((face queues.old arc).ended ≡ false) }
+    requires there { (place arc : ℕ) → slice_get (arcs_from wires.now actor port) place ≡ Some arc
+        → (arc < size queues.old) × ((face queues.old arc).ended ≡ false) }
     requires sound { IsSoundItem item }
     requires together { Together queues.old (known (D.log disk.old)) }
-    ensures sent { OnOk result (Pushes queues.old queues.new (known (D.log disk.old)) (known (D.log disk.new)) (λ arc. many (times_in arc (arcs_from wires.now actor port)) (spread item)) (λ time. item.time ≤ time) (λ arc. contains_number (arcs_from wires.now actor port) arc)) }
+    ensures sent { OnOk result (Pushes queues.old queues.new (known (D.log disk.old)) (known (D.log disk.new))
+        (λ arc. many (times_in arc (arcs_from wires.now actor port)) (spread item)) (λ time. item.time ≤ time)
+        (λ arc. contains_number (arcs_from wires.now actor port) arc)) }
     ensures cause { IfErr result (λ e. IsQueueCause queues.new (D.log disk.old) (D.log disk.new) (D.faults disk.old) (D.faults disk.new) (of_queue e)) }
     ensures honest { IfErr result (λ e. Tells (known (D.log disk.new)) → NotChanged (D.log disk.old).honest (of_queue e)) }
     ensures faults { D.faults disk.old ≤ D.faults disk.new }
@@ -102,7 +106,8 @@ fn show_item(output: u32, item: Item, events: &mut Vec<Event>) -> Result<(), All
 /// Shows what an output gives at its port 0.
 #[inline(always)]
 fn show_one(output: u32, port: u32, item: Item, events: &mut Vec<Event>) -> Result<(), AllocError>
-    ensures shown { OnOk result ((o : ℕ) → lines_of o events.new.items ≡ lines_of o events.old.items ++ (if output == o then tuples_in (given 0 (record { 0 = port; 1 = item } ∷ [])) else [])) }
+    ensures shown { OnOk result ((o : ℕ) → lines_of o events.new.items
+        ≡ lines_of o events.old.items ++ (if output == o then tuples_in (given 0 (record { 0 = port; 1 = item } ∷ [])) else [])) }
     ensures err { OnErr result (events.new.items ≡ events.old.items) }
     ensures below { (outputs drops : ℕ) → output < outputs → ShowsIn outputs drops events.old.items events.new.items }
     ensures drops { (w : ℕ) → drops_of w events.new.items ≡ drops_of w events.old.items }
@@ -141,10 +146,13 @@ pub(crate) fn pass_on<D: PageDisk>(
 ) -> Result<(), RunErr>
     requires within { actor < length wires.now.readers.items }
     requires shown { wires.now.shown ≤ actor → arcs_from wires.now actor port ≡ [] }
-    requires there { (place arc : ℕ) → slice_get (arcs_from wires.now actor port) place ≡ Some arc → (arc < size queues.old) × ((face queues.old arc).ended ≡ false) }
+    requires there { (place arc : ℕ) → slice_get (arcs_from wires.now actor port) place ≡ Some arc
+        → (arc < size queues.old) × ((face queues.old arc).ended ≡ false) }
     requires sound { IsSoundItem item }
     requires together { Together queues.old (known (D.log disk.old)) }
-    ensures sent { OnOk result (Pushes queues.old queues.new (known (D.log disk.old)) (known (D.log disk.new)) (λ arc. many (times_in arc (arcs_from wires.now actor port)) (spread item)) (λ time. item.time ≤ time) (λ arc. contains_number (arcs_from wires.now actor port) arc)) }
+    ensures sent { OnOk result (Pushes queues.old queues.new (known (D.log disk.old)) (known (D.log disk.new))
+        (λ arc. many (times_in arc (arcs_from wires.now actor port)) (spread item)) (λ time. item.time ≤ time)
+        (λ arc. contains_number (arcs_from wires.now actor port) arc)) }
     ensures shown { OnOk result (IsShown wires.now actor (record { 0 = port; 1 = item } ∷ []) [] events.old.items events.new.items) }
     ensures err { OnErr result (events.new.items ≡ events.old.items) }
     ensures cause { IfErr result (IsQueueCause queues.new (D.log disk.old) (D.log disk.new) (D.faults disk.old) (D.faults disk.new)) }

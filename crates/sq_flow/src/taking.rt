@@ -127,15 +127,19 @@ pub(crate) fn take_item<D: PageDisk>(
     ensures ended { OnOk result ((other : ℕ) → (face queues.new other).ended ≡ (face queues.old other).ended) }
     ensures faces { (other : ℕ) → other ≢ arc → face queues.new other ≡ face queues.old other }
     ensures size { size queues.new ≡ size queues.old }
-    ensures items { IfOk result (λ item. Tells (known (D.log disk.new)) → items_on queues.old (known (D.log disk.old)) arc ≡ item ∷ items_on queues.new (known (D.log disk.new)) arc) }
-    ensures others { OnOk result (Tells (known (D.log disk.new)) → (other : ℕ) → other ≢ arc → items_on queues.new (known (D.log disk.new)) other ≡ items_on queues.old (known (D.log disk.old)) other) }
+    ensures items { IfOk result (λ item. Tells (known (D.log disk.new))
+        → items_on queues.old (known (D.log disk.old)) arc ≡ item ∷ items_on queues.new (known (D.log disk.new)) arc) }
+    ensures others { OnOk result (Tells (known (D.log disk.new)) → (other : ℕ) → other ≢ arc → items_on queues.new (known (D.log disk.new)) other
+        ≡ items_on queues.old (known (D.log disk.old)) other) }
     ensures together { OnOk result (Together queues.new (known (D.log disk.new))) }
     ensures later { IsLater (D.log disk.old) (D.log disk.new) }
     ensures strange { IfErr result (λ e. Tells (known (D.log disk.new))
-        → ((item : Item) (more : List Item) → items_on queues.old (known (D.log disk.old)) arc ≡ item ∷ more → MayBeFed at.now port place clock item) → NotChanged (D.log disk.old).honest e) }
+        → ((item : Item) (more : List Item) → items_on queues.old (known (D.log disk.old)) arc ≡ item ∷ more → MayBeFed at.now port place clock item)
+        → NotChanged (D.log disk.old).honest e) }
     ensures memory { IfErr result (λ e. e ≢ RunErr.TooMuch) }
     ensures cause { IfErr result (λ e. IsQueueCause queues.new (D.log disk.old) (D.log disk.new) (D.faults disk.old) (D.faults disk.new) e
-        ⊎ ((item : Item) × (e ≡ RunErr.Strange arc item) × HasTaken (known (D.log disk.old)) (known (D.log disk.new)) queues.old queues.new arc item × ¬ (MayBeFed at.now port place clock item))) }
+        ⊎ ((item : Item) × (e ≡ RunErr.Strange arc item)
+        × HasTaken (known (D.log disk.old)) (known (D.log disk.new)) queues.old queues.new arc item × ¬ (MayBeFed at.now port place clock item))) }
     ensures faults { D.faults disk.old ≤ D.faults disk.new }
     ensures popped { OnOk result (IsPopped (face queues.old arc) (face queues.new arc)) }
     ensures frames { OnOk result (frames queues.new ≡ frames queues.old) }
