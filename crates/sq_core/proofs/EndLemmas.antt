@@ -47,7 +47,7 @@ late-seat flow is done actor low = by (slice_get flow.seats.items actor) (is.sea
 pub nothing-planned : (e : Engine) → IsSoundEngine e → AllDone e.engine.flow → plans_left e.engine.flow ≡ []
 nothing-planned e sound done =
     let flow = e.engine.flow in
-    no-plans flow (sound.engine.flow.over (sym (ap (done_at flow.over) (none-past flow.seats.items)) ∙ done (length flow.seats.items) (omega arith)))
+    no-plans flow (sound.engine.flow.replay.ends (sym (ap (done_at flow.over) (none-past flow.seats.items)) ∙ done (length flow.seats.items) (omega arith)))
   where
     none-past : (xs : List (Seat Actor)) → slice_get xs (length xs) ≡ None
     none-past [] = refl

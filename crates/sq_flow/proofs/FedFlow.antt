@@ -206,15 +206,11 @@ module _ {O : Type 0} (m : Ghosts O) (e : Flow O) (flow : IsFlow m e) (actor tic
             held = λ table agrees. at_or_other (λ k. (port : ℕ) → ThingsUpTo e.clock (rest_at m table (slice_get seats'.items k) [] port)) actor
                 (λ port. subst (λ o. ThingsUpTo e.clock (rest_at m table o [] port)) (sym is_after) (given-and-held table agrees port).1)
                 (λ k ne port. subst (λ o. ThingsUpTo e.clock (rest_at m table o [] port)) (sym (apart k ne)) (flow.held table agrees k port));
-            coming = flow.coming;
-            few_sources = flow.few_sources;
+            replay = flow.replay;
             levels = flow.levels;
             owned = at_or_other (λ k. holds_at (Owns m (IsOwn e.wires k) e.levels) (slice_get seats'.items k)) actor
                 (subst (holds_at (Owns m (IsOwn e.wires actor) e.levels)) (sym is_after) (owns-after ran))
                 (λ k ne. subst (holds_at (Owns m (IsOwn e.wires k) e.levels)) (sym (apart k ne)) (flow.owned k));
-            counts = flow.counts;
-            few_tuples = flow.few_tuples;
-            over = flow.over;
           }
         where
           seat-later : (takes : ℕ → Bool) (fits : ℕ → List Value → Bool) (o : Option (Seat O)) → holds_at (IsSeat m takes fits e.levels.epoch e.taken) o → holds_at (IsSeat m takes fits e.levels.epoch taken') o

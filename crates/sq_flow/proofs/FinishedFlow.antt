@@ -133,15 +133,11 @@ module _ {O : Type 0} (m : Ghosts O) (e : Flow O) (flow : IsFlow m e) (actor : �
             held = λ table agrees. at_or_other (λ k. (port : ℕ) → ThingsUpTo e.clock (rest_at m table (slice_get seats'.items k) [] port)) actor
                 (λ port. rw is_after (nothing e.clock (m.rest s'.op table [] port) (fin.empty table port)))
                 (λ k ne port. subst (λ o. ThingsUpTo e.clock (rest_at m table o [] port)) (sym (apart k ne)) (flow.held table agrees k port));
-            coming = flow.coming;
-            few_sources = flow.few_sources;
+            replay = flow.replay;
             levels = flow.levels;
             owned = at_or_other (λ k. holds_at (Owns m (IsOwn e.wires k) e.levels) (slice_get seats'.items k)) actor
                 (subst (holds_at (Owns m (IsOwn e.wires actor) e.levels)) (sym is_after) (λ running. absurd (cc (fin.after.running, running))))
                 (λ k ne. subst (holds_at (Owns m (IsOwn e.wires k) e.levels)) (sym (apart k ne)) (flow.owned k));
-            counts = flow.counts;
-            few_tuples = flow.few_tuples;
-            over = flow.over;
           }
         where
           nothing : (c : ℕ) (xs : List Thing) → xs ≡ [] → ThingsUpTo c xs

@@ -63,10 +63,10 @@ module _ {O : Type 0} (m : Ghosts O) (e : Flow O) (flow : IsFlow m e) (pos : 0 <
 
   -- the tuple comes no earlier than what was released, and no later than all that is still to be
   pub in-time : (e.clock ≤ x.time) × (x.time < 2 ^ 40)
-  in-time = let r = subst (RiseFrom e.clock) begins (flow.coming port) in (r.0, r.1.0)
+  in-time = let r = subst (RiseFrom e.clock) begins (flow.replay.coming port) in (r.0, r.1.0)
 
   rise : (source : ℕ) → RiseFrom x.time (to_release e source)
-  rise source = rise-later e.clock x.time (to_release e source) (flow.coming source) (none-before.0 source)
+  rise source = rise-later e.clock x.time (to_release e source) (flow.replay.coming source) (none-before.0 source)
     where
       none-before : BeginsLeast e.sources.items port (x ∷ more.items)
       none-before = subst (BeginsLeast e.sources.items port) begins least.least
@@ -85,7 +85,7 @@ module _ {O : Type 0} (m : Ghosts O) (e : Flow O) (flow : IsFlow m e) (pos : 0 <
   is-ended all counts later =
       record {
         last = counts open_epoch (omega arith) ∙ ap (λ b. add_counts (cond b e.counts.items []) (arrivals e.levels.epoch (streams e.sources.items) open_epoch)) (eqb_true (open_epoch + 1) e.levels.closed (omega (arith, some)))
-            ∙ ap (add_counts e.counts.items) (none-between open_epoch (omega (arith, some, later))) ∙ zeros-more e.counts.items (length e.sources.items) flow.counts;
+            ∙ ap (add_counts e.counts.items) (none-between open_epoch (omega (arith, some, later))) ∙ zeros-more e.counts.items (length e.sources.items) flow.replay.counted;
         between = λ y from upto.
             ap is_quiet (counts y (omega (arith, from)) ∙ ap (λ b. add_counts (cond b e.counts.items []) (arrivals e.levels.epoch (streams e.sources.items) y)) (eqb-not (y + 1) e.levels.closed (omega (arith, some, from)))
             ∙ none-between y upto) ∙ quiet-zeros (length e.sources.items);
@@ -117,7 +117,7 @@ module _ {O : Type 0} (m : Ghosts O) (e : Flow O) (flow : IsFlow m e) (pos : 0 <
       where
         by : (b : Bool) → mid ≡ cond b e.counts.items (replicate (length e.counts.items) 0) → add_counts (cond b e.counts.items []) arrive ≡ add_counts mid arrive
         by true h = ap (λ l. add_counts l arrive) (sym h)
-        by false h = sym (ap (λ l. add_counts l arrive) h ∙ add-zeros (length e.counts.items) arrive (arrivals-len e.levels.epoch epoch_there e.sources.items ∙ sym flow.counts))
+        by false h = sym (ap (λ l. add_counts l arrive) h ∙ add-zeros (length e.counts.items) arrive (arrivals-len e.levels.epoch epoch_there e.sources.items ∙ sym flow.replay.counted))
 
     module _ (queues' : Queues) (sources' : Vec Recorded Global) (counts' : Vec ℕ Global)
         (taken : sources'.items ≡ set e.sources.items port more) (counts_are : counts'.items ≡ set mid port (slice_index mid port + 1)) where
@@ -141,7 +141,7 @@ module _ {O : Type 0} (m : Ghosts O) (e : Flow O) (flow : IsFlow m e) (pos : 0 <
               (mid-there
               ∙ sym (ap (λ b. add_counts (cond b counts'.items []) (arrivals e.levels.epoch (streams (set e.sources.items port more)) epoch_there)) (eqb_true (epoch_there + 1) (epoch_there + 1) refl)
               ∙ ap (λ l. add_counts l (arrivals e.levels.epoch (streams (set e.sources.items port more)) epoch_there)) counts_are
-              ∙ counted-one e.levels.epoch v more x front epoch_there e.sources.items mid port at refl (mid-len ∙ flow.counts)))
+              ∙ counted-one e.levels.epoch v more x front epoch_there e.sources.items mid port at refl (mid-len ∙ flow.replay.counted)))
           by false h =
               let apart : y ≢ epoch_there = eqb-no y epoch_there h in
               let from_there = later false h in

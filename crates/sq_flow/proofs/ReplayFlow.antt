@@ -168,7 +168,7 @@ module _ {O : Type 0} (m : Ghosts O) (e : Flow O) (flow : IsFlow m e) where
     front = ap tuples_to_come at ∙ held
 
     first : (e.clock ≤ x.time) × IsSoundTuple x × RiseFrom x.time more.items
-    first = subst (RiseFrom e.clock) front (flow.coming port)
+    first = subst (RiseFrom e.clock) front (flow.replay.coming port)
 
     pub item-sound : IsSoundItem item
     item-sound = record { tick = first.1.0; some = refl; mark = tt; body = first.1.1 }
@@ -179,7 +179,7 @@ module _ {O : Type 0} (m : Ghosts O) (e : Flow O) (flow : IsFlow m e) where
       where
         by : (b : Bool) → e.over ≡ b → b ≡ false
         by false h = refl
-        by true h = cc (sym front ∙ flow.over h port)
+        by true h = cc (sym front ∙ flow.replay.ends h port)
 
     module _ (planner' : Setting) (levels' : LevelTable) (mid : List ℕ) (events events' : List Event)
         (did : ClosedBefore e.planner planner' e.levels levels' e.counts.items mid (epoch_there m e flow pos port v more x next at held) events events')
@@ -196,7 +196,7 @@ module _ {O : Type 0} (m : Ghosts O) (e : Flow O) (flow : IsFlow m e) where
 
       coming-after : (source : ℕ) → RiseFrom x.time (tuples_to_come (slice_get sources'.items source))
       coming-after = at_or_other (λ k. RiseFrom x.time (tuples_to_come (slice_get sources'.items k))) port (rw is_after first.2)
-          (λ k ne. subst (λ o. RiseFrom x.time (tuples_to_come o)) (sym (apart k ne)) (rise-later e.clock x.time (to_release e k) (flow.coming k) (least.0 k)))
+          (λ k ne. subst (λ o. RiseFrom x.time (tuples_to_come o)) (sym (apart k ne)) (rise-later e.clock x.time (to_release e k) (flow.replay.coming k) (least.0 k)))
         where
           least : BeginsLeast e.sources.items port (x ∷ more.items)
           least = subst (BeginsLeast e.sources.items port) front next.least
@@ -209,25 +209,25 @@ module _ {O : Type 0} (m : Ghosts O) (e : Flow O) (flow : IsFlow m e) where
 
       counts-len : length counts'.items ≡ length sources'.items
       counts-len = ap (λ (l : List ℕ). length l) counts_are ∙ length-set mid port (slice_index mid port + 1)
-          ∙ mid-len m e flow pos port v more x next at held planner' levels' mid events events' did ∙ flow.counts ∙ sym sources_len
+          ∙ mid-len m e flow pos port v more x next at held planner' levels' mid events events' did ∙ flow.replay.counted ∙ sym sources_len
 
       few-after : (source : ℕ) → slice_index counts'.items source + length (tuples_to_come (slice_get sources'.items source)) ≤ 1000000
       few-after = at_or_other (λ k. slice_index counts'.items k + length (tuples_to_come (slice_get sources'.items k)) ≤ 1000000) port
           (let low = mid-low m e flow pos port v more x next at held planner' levels' mid events events' did port in
-          let few = flow.few_tuples port in
+          let few = flow.replay.few_tuples port in
           let more-is = ap (λ o. length (tuples_to_come o)) is_after in
           let was = ap (λ (l : List Tuple). length l) front in
           let counted = ap (λ l. slice_index l port) counts_are ∙ get_or-set_same mid port (slice_index mid port + 1) 0 within in
           omega (arith, low, few, more-is, was, counted))
           (λ k ne.
           let low = mid-low m e flow pos port v more x next at held planner' levels' mid events events' did k in
-          let few = flow.few_tuples k in
+          let few = flow.replay.few_tuples k in
           let same = ap (λ o. length (tuples_to_come o)) (apart k ne) in
           let counted = ap (λ l. slice_index l k) counts_are ∙ get_or-set_other mid port k (slice_index mid port + 1) 0 ne in
           omega (arith, low, few, same, counted))
         where
           within : port < length mid
-          within = let l = mid-len m e flow pos port v more x next at held planner' levels' mid events events' did in let n = next.there in let c = flow.counts in omega (arith, l, n, c)
+          within = let l = mid-len m e flow pos port v more x next at held planner' levels' mid events events' did in let n = next.there in let c = flow.replay.counted in omega (arith, l, n, c)
 
       pub released-stepped : (was is : Option Pages) (q' : Queues) → Together e.queues was
           → Pushes e.queues q' was is (λ k. many (times_in k (arcs_from e.wires e.wires.replay port)) (spread item)) (λ time. x.time ≤ time) (contains_number (arcs_from e.wires e.wires.replay port))
@@ -242,13 +242,16 @@ module _ {O : Type 0} (m : Ghosts O) (e : Flow O) (flow : IsFlow m e) where
                   seats = λ actor. subst (λ n. holds_at (IsSeat m ((net_of e.wires).takes actor) ((net_of e.wires).fits actor) n e.taken) (slice_get e.seats.items actor)) (sym did.epoch) (flow.seats actor);
                   few = flow.few;
                   held = λ table agrees actor q. ThingsUpTo-later e.clock x.time _ first.0 (flow.held table (before table agrees) actor q);
-                  coming = coming-after;
-                  few_sources = rw sources_len flow.few_sources;
+                  replay =
+                      record {
+                        few_sources = rw sources_len flow.replay.few_sources;
+                        coming = coming-after;
+                        counted = counts-len;
+                        few_tuples = few-after;
+                        ends = λ o. absurd (cc (replay-runs, o));
+                      };
                   levels = (did.closed ∙ ap (λ n. x.time / n + 1) (sym did.epoch), first.1.0);
                   owned = λ actor. owns-later m (IsOwn e.wires actor) e.levels levels' before (slice_get e.seats.items actor) (flow.owned actor);
-                  counts = counts-len;
-                  few_tuples = few-after;
-                  over = λ o. absurd (cc (replay-runs, o));
                 };
             together = pushes.together;
             tells = pushes.tells;
@@ -324,13 +327,9 @@ module _ {O : Type 0} (m : Ghosts O) (e : Flow O) (flow : IsFlow m e) where
               seats = flow.seats;
               few = flow.few;
               held = flow.held;
-              coming = flow.coming;
-              few_sources = flow.few_sources;
+              replay = (let replay = flow.replay in record { few_sources = replay.few_sources; coming = replay.coming; counted = replay.counted; few_tuples = replay.few_tuples; ends = λ o. none });
               levels = flow.levels;
               owned = flow.owned;
-              counts = flow.counts;
-              few_tuples = flow.few_tuples;
-              over = λ o. none;
             };
         together = stays pages together;
         tells = λ told. told;

@@ -53,13 +53,16 @@ module _ {O : Type 0} (m : Ghosts O) (e : Flow O)
         seats = λ actor. seat-of actor (slice_get e.seats.items actor) (seats actor);
         few = rw none_taken (omega arith);
         held = λ table agrees actor port. held-none table ((net_of e.wires).takes actor) ((net_of e.wires).fits actor) (IsOwn e.wires actor) (slice_get e.seats.items actor) port (seats actor);
-        coming = λ source. rw clock (rises source);
-        few_sources = few;
+        replay =
+            record {
+              few_sources = few;
+              coming = λ source. rw clock (rises source);
+              counted = counts;
+              few_tuples = few_tuples;
+              ends = λ o. absurd (cc (sym runs ∙ o));
+            };
         levels = rw clock (closed ∙ first e.levels.epoch, omega arith);
         owned = λ actor. owns-of actor (slice_get e.seats.items actor) (seats actor);
-        counts = counts;
-        few_tuples = few_tuples;
-        over = λ o. absurd (cc (sym runs ∙ o));
       }
     where
       first : (epoch : ℕ) → 1 ≡ 0 / epoch + 1

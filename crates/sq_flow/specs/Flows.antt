@@ -60,6 +60,15 @@ abbrev pub RiseFrom : ℕ → List Tuple → Type 0
 RiseFrom time [] = Unit {0}
 RiseFrom time (x ∷ xs) = (time ≤ x.time) × IsSoundTuple x × RiseFrom x.time xs
 
+-- what a replay has still to release: few sources, the tuples of each from the clock on in the order of times, no more of each than a million with
+-- those that were counted, and nothing where it is over
+pub record IsReplaying (sources : List Recorded) (clock : ℕ) (counts : List ℕ) (over : Bool) : Type 0 where
+  pub few_sources : length sources < 2 ^ 32
+  pub coming : (source : ℕ) → RiseFrom clock (tuples_to_come (slice_get sources source))
+  pub counted : length counts ≡ length sources
+  pub few_tuples : (source : ℕ) → slice_index counts source + length (tuples_to_come (slice_get sources source)) ≤ 1000000
+  pub ends : over ≡ true → (source : ℕ) → tuples_to_come (slice_get sources source) ≡ []
+
 -- what each step keeps, over every disk
 pub record IsFlow {O : Type 0} (m : Ghosts O) (flow : Flow O) : Type 0 where
   pub shaped : IsShaped flow.wires (length flow.seats.items)
@@ -71,13 +80,9 @@ pub record IsFlow {O : Type 0} (m : Ghosts O) (flow : Flow O) : Type 0 where
   pub few : flow.taken < 2 ^ 62
   pub held : (table : ℕ → ℕ → ℕ) → AgreesWith flow.levels table
       → (actor port : ℕ) → ThingsUpTo flow.clock (rest_at m table (slice_get flow.seats.items actor) [] port)
-  pub coming : (source : ℕ) → RiseFrom flow.clock (to_release flow source)
-  pub few_sources : length flow.sources.items < 2 ^ 32
+  pub replay : IsReplaying flow.sources.items flow.clock flow.counts.items flow.over
   pub levels : (flow.levels.closed ≡ flow.clock / flow.levels.epoch + 1) × (flow.clock < 2 ^ 40)
   pub owned : (actor : ℕ) → holds_at (Owns m (IsOwn flow.wires actor) flow.levels) (slice_get flow.seats.items actor)
-  pub counts : length flow.counts.items ≡ length flow.sources.items
-  pub few_tuples : (source : ℕ) → slice_index flow.counts.items source + length (to_release flow source) ≤ 1000000
-  pub over : flow.over ≡ true → (source : ℕ) → to_release flow source ≡ []
 
 -- and at one table of levels, where these items stand on the arcs
 pub record HoldsItems {O : Type 0} (m : Ghosts O) (table : ℕ → ℕ → ℕ) (items : ℕ → List Item) (flow : Flow O) : Type 0 where

@@ -85,7 +85,7 @@ returns-in_err-send_one-clause-plans g c =
       within = done.within;
     }) in
     let len = mid-len _ c.args.self.now c.requires.flow pos c.args.source c.index_mut.result.now c.first_of.new.stream c.in_ok-tuple.tuple c.requires.next at c.in_ok-tuple.ensures.ok _ _ _ _ _ did in
-    let within : c.args.source < length c.close_before.new.counts.items = omega (arith, len, c.requires.flow.counts, c.requires.next.there) in
+    let within : c.args.source < length c.close_before.new.counts.items = omega (arith, len, c.requires.flow.replay.counted, c.requires.next.there) in
     let read = get_or_from_slice_get c.close_before.new.counts.items c.args.source c.index_mut-2.result.now 0
     (slice_get_read c.close_before.new.counts.items _ c.args.source c.index_mut-2.result.now refl within c.index_mut-2.ensures.value) in
     let counted = ap (λ n. set c.close_before.new.counts.items c.args.source (n + 1)) (sym read) in
@@ -115,7 +115,7 @@ returns-clause-ok g c =
       within = done.within;
     }) in
     let len = mid-len _ c.args.self.now c.requires.flow pos c.args.source c.index_mut.result.now c.first_of.new.stream c.in_ok-tuple.tuple c.requires.next at c.in_ok-tuple.ensures.ok _ _ _ _ _ did in
-    let within : c.args.source < length c.close_before.new.counts.items = omega (arith, len, c.requires.flow.counts, c.requires.next.there) in
+    let within : c.args.source < length c.close_before.new.counts.items = omega (arith, len, c.requires.flow.replay.counted, c.requires.next.there) in
     let read = get_or_from_slice_get c.close_before.new.counts.items c.args.source c.index_mut-2.result.now 0
     (slice_get_read c.close_before.new.counts.items _ c.args.source c.index_mut-2.result.now refl within c.index_mut-2.ensures.value) in
     let counted = ap (λ n. set c.close_before.new.counts.items c.args.source (n + 1)) (sym read) in
