@@ -1,5 +1,5 @@
 -- What a run is to write and the steps that it is to take.
-use Rattle.std.specs.Prelude.{ℕ, List, ◌++◌, map, length, slice_get}
+use Rattle.std.specs.Prelude.{ℕ, List, map, length, slice_get}
 use Rattle.std.specs.List.{zip}
 use Rattle.sq_value.specs.declared.Tuple.{Tuple}
 use Rattle.sq_words.specs.Lists.{numbers_to}
