@@ -2,24 +2,20 @@
 use Rattle.std.proofs.Common.{◌≡◌, ℕ, ◌+◌, ◌*◌, ◌/◌, ◌≤◌, ◌<◌, eqb, ltb, Bool, true, false, cond, not, ◌&&◌, ◌||◌, List, [], ◌∷◌, refl, ap, sym, ◌∙◌, arith}
 use Rattle.std.proofs.lemmas.Bool.Decides.{nat_tests}
 use Rattle.std.proofs.Math.Nat.{div-mul-le_self}
-use Rattle.std.specs.List.{filter, list_any, AllByRecursion}
+use Rattle.std.specs.List.{filter, list_any}
 use Rattle.sq_value.specs.declared.Tuple.{Tuple}
 use Rattle.sq_item.specs.declared.Mark.TheVariants as mark
 use Rattle.sq_tagged.specs.TaggedStreams.{bound_at, lessened, lessened_by}
 use Rattle.sq_tagged.specs.Boxes.{is_open, opens, gate_of}
 use Rattle.sq_place.specs.Ranks.{Somewhere}
-use Rattle.sq_marks.proofs.Lists.{filter-same}
-use Rattle.sq_marks.proofs.Bounds.{bound-less}
-use Rattle.sq_marks.proofs.Nearness.{Somewhere-weaker}
-use Rattle.sq_marks.proofs.Keeping.{marks_of, bound-reaches}
+use Rattle.sq_below.proofs.Lists.{All-both}
+use Rattle.sq_below.proofs.Bounds.{bound-less}
+use Rattle.sq_below.proofs.Nearness.{Somewhere-weaker}
+use Rattle.sq_below.proofs.Keeping.{marks_of, bound-reaches}
 use Rattle.sq_words.specs.Lists.{contains_number}
-use Rattle.sq_marks.proofs.ArcWords.{marked, AllTimes, IsNear}
-use Rattle.sq_words.proofs.Lists.{contains_filter, filter_both}
+use Rattle.sq_below.proofs.ArcWords.{marked, AllTimes, IsNear}
+use Rattle.sq_words.proofs.Lists.{contains_filter, filter_agree, filter_both}
 use Rattle.sq_words.proofs.Alls.{all_weaker}
-
-All-both : {X : Type 0} (P Q : X → Type 0) (xs : List X) → AllByRecursion P xs → AllByRecursion Q xs → AllByRecursion (λ x. P x × Q x) xs
-All-both P Q [] p q = tt
-All-both P Q (x ∷ xs) p q = ((p.0, q.0), All-both P Q xs p.1 q.1)
 
 module _ (dropped : ℕ → Bool) (until : ℕ → ℕ) (len : ℕ) (one : 1 ≤ len) where
   -- at the start of a batch stands an open mark exactly where it is touched and permitted
@@ -147,7 +143,7 @@ module _ (dropped : ℕ → Bool) (until : ℕ → ℕ) (len : ℕ) (one : 1 ≤
         → gate_of len (marked (marks_of dropped until len one touched) d full) ≡ filter (λ x. not (contains_number (filter dropped touched) (x.time / len))) full
     gate-shows full near starts =
         filter_both (λ x. ltb x.time (bound_at (lessened_by d (marks_of dropped until len one touched)) x.time)) (λ x. list_any (opens (x.time / len * len)) (lessened_by d (marks_of dropped until len one touched))) full
-        ∙ filter-same (λ x. ltb x.time (bound_at (lessened_by d (marks_of dropped until len one touched)) x.time) && list_any (opens (x.time / len * len)) (lessened_by d (marks_of dropped until len one touched)))
+        ∙ filter_agree (λ x. ltb x.time (bound_at (lessened_by d (marks_of dropped until len one touched)) x.time) && list_any (opens (x.time / len * len)) (lessened_by d (marks_of dropped until len one touched)))
         (λ x. not (contains_number (filter dropped touched) (x.time / len))) full
         (all_weaker (λ x. IsNear above d x.time × (x.time + least ≤ (x.time / len + 1) * len))
         (λ x. (ltb x.time (bound_at (lessened_by d (marks_of dropped until len one touched)) x.time) && list_any (opens (x.time / len * len)) (lessened_by d (marks_of dropped until len one touched)))

@@ -7,38 +7,13 @@ use Rattle.sq_words.specs.Lists.{insert_by, sort_by, ports_from}
 use Rattle.sq_lists.specs.Merge.{union}
 use Rattle.sq_tagged.specs.TaggedStreams.{Timed, Tagged, same_time, first_marks, lessened_by, bound_at, below_bounds}
 use Rattle.sq_place.specs.Ranks.{Somewhere}
-use Rattle.sq_marks.proofs.Lists.{filter-swap, filter-under, filter-flat_map, flat_map-map}
-use Rattle.sq_marks.proofs.Bounds.{bound-less, lessened-twice}
-use Rattle.sq_marks.proofs.Orders.{by_key, AtLeast, Ascends, insert-front, filter-insert, filter-sort, sort-ascends, AtLeast-weaker, AtLeast-filter}
-use Rattle.sq_marks.proofs.ArcWords.{marked, MarksRise}
+use Rattle.sq_below.proofs.Lists.{filter-swap, filter-under, filter-flat_map, flat_map-map}
+use Rattle.sq_below.proofs.Bounds.{bound-less, lessened-twice}
+use Rattle.sq_below.proofs.Orders.{AtLeast, Ascends, insert-front, filter-insert, filter-sort, sort-ascends, AtLeast-weaker, AtLeast-filter}
+use Rattle.sq_below.proofs.ArcWords.{marked, MarksRise}
 use Rattle.sq_words.proofs.Sorting.{without_ports}
 use Rattle.sq_tagged.specs.Boxes.{union_tagged, lagging, union_marks}
-
--- a map that keeps the key, and sorting
-map-insert : {X Y : Type 0} (key : X → ℕ) (other : Y → ℕ) (f : Y → X) → ((y : Y) → key (f y) ≡ other y) → (y : Y) (ys : List Y)
-    → map f (insert_by (by_key other) y ys) ≡ insert_by (by_key key) (f y) (map f ys)
-map-insert key other f same y [] = refl
-map-insert key other f same y (z ∷ zs) = by (map-insert key other f same y zs) (ltb (other z) (other y)) ∙ ap (λ b. cond b (f z ∷ insert_by (by_key key) (f y) (map f zs)) (f y ∷ f z ∷ map f zs)) test
-  where
-    by : map f (insert_by (by_key other) y zs) ≡ insert_by (by_key key) (f y) (map f zs) → (b : Bool)
-        → map f (cond b (z ∷ insert_by (by_key other) y zs) (y ∷ z ∷ zs)) ≡ cond b (f z ∷ insert_by (by_key key) (f y) (map f zs)) (f y ∷ f z ∷ map f zs)
-    by more true = ap (λ l. f z ∷ l) more
-    by more false = refl
-
-    test : ltb (other z) (other y) ≡ ltb (key (f z)) (key (f y))
-    test = rw (same z, same y) refl
-
-pub map-sort : {X Y : Type 0} (key : X → ℕ) (other : Y → ℕ) (f : Y → X) → ((y : Y) → key (f y) ≡ other y) → (ys : List Y)
-    → map f (sort_by (by_key other) ys) ≡ sort_by (by_key key) (map f ys)
-map-sort key other f same [] = refl
-map-sort key other f same (y ∷ ys) = map-insert key other f same y (sort_by (by_key other) ys) ∙ ap (insert_by (by_key key) (f y)) (map-sort key other f same ys)
-
-abbrev pub time_of : Tuple → ℕ
-time_of x = x.time
-
--- a union is the items of all lists, sorted by time
-pub union-sorted : (ins : List (List Tuple)) → union ins ≡ sort_by (by_key time_of) (flat_map (λ xs. xs) ins)
-union-sorted ins = map-sort time_of (λ e. (e.1).time) (λ e. e.1) (λ e. refl) (ports_from 0 ins) ∙ ap (sort_by (by_key time_of)) (without_ports 0 ins)
+use Rattle.sq_model.proofs.Alls.{by_key, map-sort, time_of, union-sorted}
 
 -- marks by their times
 abbrev pub mark_time : Timed → ℕ

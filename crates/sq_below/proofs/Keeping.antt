@@ -9,10 +9,10 @@ use Rattle.sq_item.specs.declared.Mark.TheVariants as mark
 use Rattle.sq_tagged.specs.TaggedStreams.{Timed, bound_in, bound_at, lessened_by, below_bounds}
 use Rattle.sq_tagged.specs.Boxes.{mark_of}
 use Rattle.sq_place.specs.Ranks.{Somewhere}
-use Rattle.sq_marks.proofs.Lists.{filter-same}
-use Rattle.sq_marks.proofs.Bounds.{bound-less}
-use Rattle.sq_marks.proofs.Nearness.{Somewhere-weaker}
-use Rattle.sq_marks.proofs.ArcWords.{AllTimes, IsNear}
+use Rattle.sq_words.proofs.Lists.{filter_agree}
+use Rattle.sq_below.proofs.Bounds.{bound-less}
+use Rattle.sq_below.proofs.Nearness.{Somewhere-weaker}
+use Rattle.sq_below.proofs.ArcWords.{AllTimes, IsNear}
 use Rattle.sq_words.proofs.Alls.{all_weaker}
 
 bound-cons : (m : Timed) (ms : List Timed) (t : ℕ) → bound_at ms t ≤ bound_at (m ∷ ms) t
@@ -151,7 +151,7 @@ module _ (dropped : ℕ → Bool) (until : ℕ → ℕ) (len : ℕ) (one : 1 ≤
     pub kept-marked : (d : ℕ) (full : List Tuple) → AllTimes (IsNear above d) full
         → filter (λ x. ltb x.time (needed_by x.time - d)) full ≡ below_bounds (lessened_by d (marks_of touched)) full
     kept-marked d full near =
-        filter-same (λ x. ltb x.time (needed_by x.time - d)) (λ x. ltb x.time (bound_at (lessened_by d (marks_of touched)) x.time)) full
+        filter_agree (λ x. ltb x.time (needed_by x.time - d)) (λ x. ltb x.time (bound_at (lessened_by d (marks_of touched)) x.time)) full
         (all_weaker (λ x. IsNear above d x.time) (λ x. ltb x.time (needed_by x.time - d) ≡ ltb x.time (bound_at (lessened_by d (marks_of touched)) x.time)) (λ x i. agrees x.time i) full near)
       where
         lem : (t a b : ℕ) → (t < a → t < b) → b ≤ a → ltb t a ≡ ltb t b

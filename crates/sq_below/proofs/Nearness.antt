@@ -1,10 +1,10 @@
 -- Where the tuples of a full list come from: each kind of box keeps what holds of the times, and an Aggregate goes back by its size less one.
 use Rattle.std.proofs.Common.{◌≡◌, ℕ, ◌+◌, ◌-◌, ◌≤◌, ◌<◌, leb, ltb, Bool, true, false, cond, ◌&&◌, List, [], ◌∷◌, ◌++◌, map, refl, ap, inl, inr, arith}
 use Rattle.std.proofs.lemmas.Bool.Decides.{nat_tests}
-use Rattle.std.specs.List.{filter, flat_map, AllByRecursion}
+use Rattle.std.specs.List.{flat_map, AllByRecursion}
 use Rattle.sq_value.specs.declared.Value.{Value}
 use Rattle.sq_value.specs.declared.Tuple.{Tuple}
-use Rattle.sq_words.specs.Lists.{insert_by, sort_by, max_by, numbers_to}
+use Rattle.sq_words.specs.Lists.{max_by, numbers_to}
 use Rattle.sq_expr.specs.Trees.{Expr}
 use Rattle.sq_aggfn.specs.declared.WindowSpec.{WindowSpec}
 use Rattle.sq_aggfn.specs.Windows.{start_of, started}
@@ -12,51 +12,9 @@ use Rattle.sq_lists.specs.Boxes.{mapped, map_list_of}
 use Rattle.sq_lists.specs.Merge.{union}
 use Rattle.sq_lists.specs.Windows.{in_window, in_group, groups_of, window_results, aggregate_of}
 use Rattle.sq_place.specs.Ranks.{Somewhere}
-use Rattle.sq_marks.proofs.Unions.{time_of, union-sorted}
-use Rattle.sq_marks.proofs.Orders.{by_key}
-use Rattle.sq_marks.proofs.ArcWords.{AllTimes, IsNear}
+use Rattle.sq_model.proofs.Alls.{time_of, union-sorted, by_key, All-append, All-mapped, All-every, All-sorted, All-joined}
+use Rattle.sq_below.proofs.ArcWords.{AllTimes, IsNear}
 use Rattle.sq_words.proofs.Alls.{all_weaker}
-
-module _ {X : Type 0} (P : X → Type 0) where
-  pub All-append : (xs ys : List X) → AllByRecursion P xs → AllByRecursion P ys → AllByRecursion P (xs ++ ys)
-  All-append [] ys h k = k
-  All-append (x ∷ xs) ys h k = (h.0, All-append xs ys h.1 k)
-
-  pub All-kept : (p : X → Bool) (xs : List X) → AllByRecursion P xs → AllByRecursion P (filter p xs)
-  All-kept p [] h = tt
-  All-kept p (x ∷ xs) h = by (All-kept p xs h.1) (p x)
-    where
-      by : AllByRecursion P (filter p xs) → (b : Bool) → AllByRecursion P (cond b (x ∷ filter p xs) (filter p xs))
-      by more true = (h.0, more)
-      by more false = more
-
-  pub All-mapped : {Y : Type 0} (f : Y → X) (ys : List Y) → AllByRecursion (λ y. P (f y)) ys → AllByRecursion P (map f ys)
-  All-mapped f [] h = tt
-  All-mapped f (y ∷ ys) h = (h.0, All-mapped f ys h.1)
-
-  pub All-every : ((x : X) → P x) → (xs : List X) → AllByRecursion P xs
-  All-every h [] = tt
-  All-every h (x ∷ xs) = (h x, All-every h xs)
-
-  All-inserted : (before : X → X → Bool) (x : X) (ys : List X) → P x → AllByRecursion P ys → AllByRecursion P (insert_by before x ys)
-  All-inserted before x [] p h = (p, tt)
-  All-inserted before x (y ∷ ys) p h = by (All-inserted before x ys p h.1) (before y x)
-    where
-      by : AllByRecursion P (insert_by before x ys) → (b : Bool) → AllByRecursion P (cond b (y ∷ insert_by before x ys) (x ∷ y ∷ ys))
-      by more true = (h.0, more)
-      by more false = (p, (h.0, h.1))
-
-  pub All-sorted : (before : X → X → Bool) (xs : List X) → AllByRecursion P xs → AllByRecursion P (sort_by before xs)
-  All-sorted before [] h = tt
-  All-sorted before (x ∷ xs) h = All-inserted before x (sort_by before xs) h.0 (All-sorted before xs h.1)
-
-  pub All-joined : (xss : List (List X)) → AllByRecursion (AllByRecursion P) xss → AllByRecursion P (flat_map (λ xs. xs) xss)
-  All-joined [] h = tt
-  All-joined (xs ∷ xss) h = All-append xs (flat_map (λ xs. xs) xss) h.0 (All-joined xss h.1)
-
-  pub All-flat_map : {Y : Type 0} (f : Y → List X) → ((y : Y) → AllByRecursion P (f y)) → (ys : List Y) → AllByRecursion P (flat_map f ys)
-  All-flat_map f h [] = tt
-  All-flat_map f h (y ∷ ys) = All-append (f y) (flat_map f ys) (h y) (All-flat_map f h ys)
 
 pub Somewhere-weaker : {X : Type 0} (P Q : X → Type 0) → ((x : X) → P x → Q x) → (xs : List X) → Somewhere P xs → Somewhere Q xs
 Somewhere-weaker P Q h [] i = absurd i
