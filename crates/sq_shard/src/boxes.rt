@@ -4,7 +4,7 @@ ghost use Rattle.std.specs.List.{All};
 ghost use Rattle.sq_net.specs.SoundNetworks.{body_within};
 ghost use Rattle.sq_expr.specs.Keys.{bare_of};
 ghost use Rattle.sq_shard.specs.Keys.{both_cut, box_cut, cut_at, is_among, join_cut, left_keys, own, places, resample_cut, right_keys, cut_through, union_cut};
-ghost use Rattle.sq_shard.specs.declared.Cut.TheVariants.{By, Whole};
+ghost use Rattle.sq_shard.specs.declared.Cut.TheVariants.{By};
 ghost use Rattle.sq_words.specs.Lists.{contains_number};
 
 use crate::Cut;

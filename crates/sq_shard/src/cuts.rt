@@ -1,7 +1,7 @@
 // The cuts of all streams, worked out in rounds: each round has what lies one box further.
 ghost use Rattle.std.specs.Prelude.{◌≡◌, ◌<◌, ◌≤◌, ◌^◌, [], length, map, slice_get, IfOk};
 ghost use Rattle.sq_words.specs.Lists.{numbers_to};
-ghost use Rattle.sq_graph.specs.Wires.{inputs_of, producer_of, producers_of};
+ghost use Rattle.sq_graph.specs.Wires.{inputs_of, producer_of};
 ghost use Rattle.sq_net.specs.SoundNetworks.{IsSound};
 ghost use Rattle.sq_net.specs.Streams.{columns_of_stream};
 ghost use Rattle.sq_shard.specs.Cuts.{column_at};

@@ -1,5 +1,5 @@
 -- A selectivity for each port: the shape of a box asks for it.
-use Rattle.std.proofs.Common.{◌≡◌, ap, subst, refl, ℕ, ◌+◌, Bool, true, false, ◌==◌, List, [], ◌∷◌, length, Option, Some, None, ℤ, pos, cond, arith}
+use Rattle.std.proofs.Common.{◌≡◌, ap, subst, refl, ℕ, ◌+◌, Bool, true, false, ◌==◌, List, [], ◌∷◌, length, Option, Some, None, ℤ, pos, arith}
 use Rattle.std.specs.Prelude.{Result, Ok, Err, IfOk, codes}
 use Rattle.std.specs.List.{AllByRecursion}
 use Rattle.std.proofs.lemmas.List.Elements.{All-from_recursion}

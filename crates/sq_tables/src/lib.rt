@@ -1,6 +1,6 @@
 //! A network file by its tables: a TOML document of sources, boxes and outputs, before its names and numbers are checked.
 //!
-//! The contract of `raw_of` promises the tables that the file says, with a selectivity for each port of each box, where the
+//! The contract of `network_table_of` promises the tables that the file says, with a selectivity for each port of each box, where the
 //! file is a document of version 1 or 2 whose tables have their shape, and else the first broken rule with its first place; want of
 //! memory aside. Below stand the refusals of the typed network, and `toml`.
 #![tactic(auto)]
@@ -51,11 +51,11 @@ fn version_in(table: &Table) -> Option<Version>
     }
 }
 
-fn raw_from(alloc: Global, table: &Table) -> Result<NetworkTable, NetErr>
+fn network_table_from(alloc: Global, table: &Table) -> Result<NetworkTable, NetErr>
     ensures { IsAnswerOf result (network_table_from (table_view table.now)) }
 {
     match version_in(table) {
-        Some(version) => reading::raw_in(alloc, version, table),
+        Some(version) => reading::network_table_in(alloc, version, table),
         None => Err(NetErr::Version),
     }
 }
@@ -66,5 +66,5 @@ pub fn network_table_of(alloc: Global, bytes: &[u8]) -> Result<NetworkTable, Net
     ensures even { IfOk result AreEven }
 {
     let table = document::document_in(alloc, bytes)?;
-    raw_from(alloc, &table)
+    network_table_from(alloc, &table)
 }

@@ -94,7 +94,11 @@ fn outputs_in(alloc: Global, tables: &[&Table]) -> Result<Vec<OutputTable>, NetE
 }
 
 /// A document by its tables, or the first table that is out of shape.
-pub(crate) fn raw_in(alloc: Global, version: Version, table: &Table) -> Result<NetworkTable, NetErr>
+pub(crate) fn network_table_in(
+    alloc: Global,
+    version: Version,
+    table: &Table,
+) -> Result<NetworkTable, NetErr>
     ensures { IsAnswerOf result (network_table_in version (table_view table.now)) }
 {
     let top = match top_in(alloc, table) {

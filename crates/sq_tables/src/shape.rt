@@ -1,5 +1,5 @@
 // The tables of a network file, by the keys that each kind of table has.
-ghost use Rattle.std.specs.Prelude.{◌≡◌, ◌∷◌, IfOk, IfErr, map, codes};
+ghost use Rattle.std.specs.Prelude.{◌≡◌, ◌∷◌, IfOk, IfErr, codes};
 ghost use Rattle.sq_tables.specs.Documents.{has_only};
 ghost use Rattle.toml.specs.View.{table_view};
 ghost use Rattle.sq_tables.specs.Readings.{IsUnreadTable, Reads};
