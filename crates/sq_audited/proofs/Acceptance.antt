@@ -23,7 +23,8 @@ use Rattle.sq_points.specs.Points.{points_of}
 use Rattle.sq_tables.specs.Places.{part_place}
 use Rattle.sq_reader.specs.Drops.{drop_place, is_drop_within}
 use Rattle.sq_tables.specs.Tables.{network_table_of}
-use Rattle.sq_reader.specs.Networks.{limited_network, network_in, typed_network, unless_at}
+use Rattle.sq_rules.specs.Rules.{unless_at}
+use Rattle.sq_reader.specs.Networks.{limited_network, network_in, typed_network}
 use Rattle.sq_reader.proofs.SoundLemmas.{network_sound}
 use Rattle.sq_reader.proofs.DropLemmas.{limited_same}
 use Rattle.sq_plan.specs.Plans.{Entries}

@@ -31,16 +31,17 @@ use Rattle.sq_tables.specs.declared.tables.BoxTable.{BoxTable}
 use Rattle.sq_tables.specs.Places.{place_at}
 use Rattle.sq_tables.specs.Tables.{or_broken}
 use Rattle.sq_tables.specs.Shapes.{port_count}
-use Rattle.sq_reader.specs.Limits.{told_body_within, first_failing, has_between, is_int_between, is_expression_long}
-use Rattle.sq_reader.specs.Windows.{has_window}
-use Rattle.sq_reader.specs.Streaming as wires
+use Rattle.sq_rules.specs.Limits.{told_body_within, first_failing, has_between, is_int_between, is_expression_long}
+use Rattle.sq_rules.specs.Windows.{has_window}
+use Rattle.sq_rules.specs.Streaming as wires
 use Rattle.sq_reader.specs.Expressions.{may_be_predicate, may_be_set, predicate_of, typed_in}
 use Rattle.sq_reader.specs.Functions.{funcs_from, group_from, kinds_answered}
 use Rattle.sq_reader.specs.Columns.{TypedBody, typed_aggregate, bad_given, bad_name, typed_body, bsort_of, filter_of, give_names, int_place, join_of, kinds_set, map_of, nat_of, node_in, node_of, place_if, typed_resample, same_columns, set_names, set_texts, too_many, union_of, unless_schema, window_read}
 use Rattle.sq_tables.proofs.ShapedLemmas.{first_step}
-use Rattle.sq_reader.proofs.ListLemmas.{each_passes, none_failing}
+use Rattle.sq_rules.proofs.ListLemmas.{each_passes, none_failing}
 use Rattle.sq_reader.proofs.LimitLemmas.{given_length, answer_columns_of, number_within, settings_of, slack_of}
-use Rattle.sq_reader.proofs.DistinctLemmas.{new_both, new_distinct, none_bad}
+use Rattle.sq_rules.proofs.DistinctLemmas.{new_distinct}
+use Rattle.sq_reader.proofs.DistinctLemmas.{new_both, none_bad}
 use Rattle.sq_reader.proofs.SchemaLemmas.{schema_none}
 use Rattle.sq_reader.proofs.ColumnLemmas.{alike_each, kinds_of_zip, names_of_zip}
 use Rattle.sq_reader.proofs.TypedLemmas.{IsAllowed, kinds_are_set, over_each, predicate_is, typed_all}

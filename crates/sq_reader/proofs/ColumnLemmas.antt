@@ -6,7 +6,6 @@ use Rattle.std.proofs.lemmas.Option.{slice_get-map}
 use Rattle.sq_words.specs.Lists.{same_bytes}
 use Rattle.sq_value.specs.Values.{Columns, kinds_of, names_of}
 use Rattle.sq_value.specs.declared.Kind.{Kind}
-use Rattle.sq_value.specs.declared.Kind.TheVariants as kind
 use Rattle.sq_expr.specs.Kinds.{kind_at, same_kinds}
 use Rattle.sq_net.specs.Columns.{columns_at}
 use Rattle.sq_reader.specs.Columns.{same_columns, same_names}

@@ -16,7 +16,8 @@ use Rattle.sq_points.specs.Points.{points_of}
 use Rattle.sq_points.specs.Limits.{KeepsDropLimits}
 use Rattle.sq_tables.specs.Places.{part_place}
 use Rattle.sq_reader.specs.Drops.{drop_place, is_drop_within}
-use Rattle.sq_reader.specs.Networks.{limited_network, unless_at}
+use Rattle.sq_rules.specs.Rules.{unless_at}
+use Rattle.sq_reader.specs.Networks.{limited_network}
 
 none_from : (d : ℕ) (ps : List DropPoint) → AllByRecursion IsFine ps → position_from (λ p. not (is_drop_within p)) d ps ≡ None
 none_from d [] all = refl

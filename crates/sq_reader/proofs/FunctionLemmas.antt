@@ -26,8 +26,9 @@ use Rattle.sq_tables.specs.Tables.{or_broken}
 use Rattle.sq_reader.specs.Columns.{bad_given, bad_name, give_names, too_many}
 use Rattle.sq_reader.specs.Functions.{func_in, func_for, funcs_from, group_from, group_place, if_kinded, kinds_answered}
 use Rattle.sq_tables.proofs.ShapedLemmas.{first_step}
-use Rattle.sq_reader.proofs.LimitLemmas.{neither}
-use Rattle.sq_reader.proofs.DistinctLemmas.{IsNew, new_both, new_distinct, none_bad}
+use Rattle.sq_rules.proofs.LimitLemmas.{neither}
+use Rattle.sq_rules.proofs.DistinctLemmas.{IsNew, new_distinct}
+use Rattle.sq_reader.proofs.DistinctLemmas.{new_both, none_bad}
 use Rattle.sq_reader.proofs.SchemaLemmas.{schema_none}
 use Rattle.sq_reader.proofs.ColumnLemmas.{columns_of_parts, kinds_at_places, zip_both}
 use Rattle.sq_words.specs.Results.{◌>>=◌}

@@ -1,14 +1,10 @@
-pub mod StepLemmas
 pub mod ListLemmas
 pub mod LimitLemmas
-pub mod NamingLemmas
 pub mod SourceLemmas
 pub mod ExpressionLemmas
-pub mod WiringLemmas
 pub mod DistinctLemmas
 pub mod DropLemmas
 pub mod SchemaLemmas
-pub mod NumberLemmas
 pub mod ColumnLemmas
 pub mod TypedLemmas
 pub mod FunctionLemmas

@@ -20,11 +20,10 @@ use Rattle.sq_tables.specs.declared.tables.BoxTable.{BoxTable}
 use Rattle.sq_tables.specs.declared.tables.NetworkTable.{NetworkTable}
 use Rattle.sq_tables.specs.Refusals.{IsAnswerOf}
 use Rattle.sq_reader.specs.Columns.{columns_known, columns_taken, typed_node, node_in, node_known, node_of_box, nodes_from}
-use Rattle.sq_reader.proofs.ListLemmas.{get_set_other}
 use Rattle.sq_tables.proofs.ShapedLemmas.{first_step}
 use Rattle.sq_words.proofs.Bools.{and_true, not_true, or_cases}
 use Rattle.std.proofs.lemmas.Bool.{or_right, or_left}
-use Rattle.sq_words.proofs.Lists.{get_set_same}
+use Rattle.sq_words.proofs.Lists.{get_set_other, get_set_same}
 use Rattle.sq_words.proofs.Numbers.{eq_itself, eq_from}
 
 -- a box by its number, on what it takes

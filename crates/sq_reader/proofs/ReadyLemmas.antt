@@ -20,18 +20,17 @@ use Rattle.sq_net.specs.SoundNetworks.{takes_within}
 use Rattle.sq_net.specs.Streams.{columns_of_port}
 use Rattle.sq_tables.specs.declared.tables.BoxTable.{BoxTable}
 use Rattle.sq_tables.specs.declared.tables.NetworkTable.{NetworkTable}
-use Rattle.sq_reader.specs.Limits.{limit_place}
-use Rattle.sq_reader.specs.Streaming.{box_wires, kind_of_told_body, told_stream_named, told_stream_names, unknown_place, wiring_of}
+use Rattle.sq_rules.specs.Limits.{limit_place}
+use Rattle.sq_rules.specs.Streaming.{box_wires, kind_of_told_body, told_stream_named, told_stream_names, unknown_place, wiring_of}
 use Rattle.sq_reader.specs.Columns.{columns_known, columns_taken, no_nodes, typed_node, node_known, node_of_box}
-use Rattle.sq_reader.proofs.ListLemmas.{get_set_other}
-use Rattle.sq_reader.proofs.LimitLemmas.{counts_of}
-use Rattle.sq_reader.proofs.WiringLemmas.{wired_at}
+use Rattle.sq_rules.proofs.LimitLemmas.{counts_of}
+use Rattle.sq_rules.proofs.WiringLemmas.{wired_at}
 use Rattle.sq_reader.proofs.BodyLemmas.{node_is}
 use Rattle.sq_reader.proofs.NodeLemmas.{Follow, follow_all}
-use Rattle.sq_reader.proofs.RuleLemmas.{takes_all}
+use Rattle.sq_rules.proofs.RuleLemmas.{takes_all}
 use Rattle.sq_words.specs.Lists.{contains_number}
 use Rattle.sq_words.proofs.Bools.{and_true}
-use Rattle.sq_words.proofs.Lists.{has_item, get_set_same, list_all_at}
+use Rattle.sq_words.proofs.Lists.{has_item, get_set_other, get_set_same, list_all_at}
 use Rattle.sq_words.proofs.Numbers.{eq_from}
 
 -- a box is typed, with columns for each of its ports

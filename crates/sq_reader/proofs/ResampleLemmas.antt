@@ -20,7 +20,8 @@ use Rattle.sq_tables.specs.Places.{place_at}
 use Rattle.sq_reader.specs.Columns.{bad_given, give_names, typed_resample}
 use Rattle.sq_reader.specs.Functions.{funcs_from, kinds_answered}
 use Rattle.sq_reader.proofs.ColumnLemmas.{zip_both}
-use Rattle.sq_reader.proofs.DistinctLemmas.{distinct_both, new_distinct, new_out}
+use Rattle.sq_rules.proofs.DistinctLemmas.{new_distinct, new_out}
+use Rattle.sq_reader.proofs.DistinctLemmas.{distinct_both}
 use Rattle.sq_reader.proofs.FunctionLemmas.{AreGiven, funcs_kinded, good_given, told_count}
 use Rattle.sq_reader.proofs.PairLemmas.{kinds_length, left_distinct, left_length, left_names, prefixed_names, prefixed_zip}
 use Rattle.sq_reader.proofs.SchemaLemmas.{schema_none}

@@ -1,37 +1,28 @@
--- What each rule that a file keeps says of it.
-use Rattle.std.proofs.Common.{◌≡◌, ◌∙◌, sym, ap, subst, refl, ℕ, suc, ◌+◌, ◌≤◌, Bool, true, false, not, ◌&&◌, ◌==◌, List, [], ◌∷◌, ◌++◌, map, length, Option, Some, None, ℤ, cond, arith}
+-- What the limits and the fields of sources say of a file that keeps them.
+use Rattle.std.proofs.Common.{◌≡◌, ◌∙◌, sym, ap, subst, refl, ℕ, suc, ◌+◌, ◌≤◌, Bool, true, false, not, ◌&&◌, List, [], ◌∷◌, ◌++◌, map, length, Option, Some, None, ℤ, cond, arith}
 use Rattle.std.specs.Prelude.{Ok}
-use Rattle.std.specs.List.{after_first, before_first, filter_map, list_all, list_any, zip}
-use Rattle.std.specs.Option.{option_map}
-use Rattle.std.proofs.lemmas.Bool.Decides.{nat_tests}
+use Rattle.std.specs.List.{after_first, before_first, list_all, list_any, zip}
 use Rattle.std.proofs.lemmas.List.{length-map}
 use Rattle.sq_words.specs.Lists.{are_distinct, contains_bytes}
 use Rattle.sq_value.specs.Schemas.{schema_error}
 use Rattle.sq_value.specs.Values.{Columns, names_of}
 use Rattle.sq_value.specs.declared.Kind.{Kind}
-use Rattle.sq_graph.specs.declared.BoxWires.{BoxWires}
 use Rattle.sq_net.specs.declared.Source.{Source}
 use Rattle.sq_net.specs.declared.NetErr.{NetErr}
 use Rattle.sq_net.specs.declared.NetErr.TheVariants as broken
 use Rattle.sq_net.specs.declared.Part.TheVariants as part
 use Rattle.sq_net.specs.Names.{is_name}
-use Rattle.sq_net.specs.SoundNetworks.{is_between, source_within, takes_within}
+use Rattle.sq_net.specs.SoundNetworks.{is_between, source_within}
 use Rattle.sq_tables.specs.declared.tables.SourceTable.{SourceTable}
-use Rattle.sq_tables.specs.declared.tables.BodyTable.{BodyTable}
-use Rattle.sq_tables.specs.declared.tables.BodyTable.TheVariants.{Filter, Map, Union, BSort, Aggregate, Join, Resample}
-use Rattle.sq_tables.specs.declared.tables.BoxTable.{BoxTable}
-use Rattle.sq_tables.specs.declared.tables.NetworkTable.{NetworkTable}
-use Rattle.sq_tables.specs.Places.{or_else, place_at, part_place}
+use Rattle.sq_tables.specs.Places.{place_at}
 use Rattle.sq_tables.specs.Tables.{or_broken}
-use Rattle.sq_reader.specs.Limits as limits
-use Rattle.sq_reader.specs.Limits.{told_body_within, box_within, first_failing, has_between, inputs_within}
-use Rattle.sq_reader.specs.Naming.{first_repeat, name_place, place_in_space, space_names, twice_place}
+use Rattle.sq_rules.specs.Limits as limits
+use Rattle.sq_rules.specs.Limits.{has_between}
 use Rattle.sq_reader.specs.Sources.{column_in, column_with, columns_from, is_colon, kind_named, told_source, sources_from}
-use Rattle.sq_reader.specs.Streaming.{Numbers, box_wires, is_stream, kind_of_told_body, unknown_among, unknown_in_boxes}
 use Rattle.sq_reader.specs.Columns.{nat_of}
-use Rattle.sq_reader.proofs.LimitLemmas.{neither, number_within}
-use Rattle.sq_reader.proofs.ListLemmas.{all_given, none_failing, nothing_mapped}
-use Rattle.sq_reader.proofs.DistinctLemmas.{IsNew, fresh_name, new_distinct, none_repeated}
+use Rattle.sq_reader.proofs.LimitLemmas.{number_within}
+use Rattle.sq_rules.proofs.DistinctLemmas.{IsNew, new_distinct}
+use Rattle.sq_reader.proofs.DistinctLemmas.{fresh_name}
 use Rattle.sq_reader.proofs.SchemaLemmas.{schema_none}
 use Rattle.sq_tables.proofs.ShapedLemmas.{first_step}
 use Rattle.sq_reader.proofs.ColumnLemmas.{names_of_zip}
@@ -107,62 +98,3 @@ sources_within n (raw ∷ raws) ss h w =
     let fields : is_between 1 16 (length one.0) ≡ true = ap (λ (k : ℕ). is_between 1 16 k) long ∙ here.1 in
     subst (λ (xs : List Source). (list_all source_within xs ≡ true) × (length xs ≡ suc (length raws))) same
     (and_from (source_within (told_source raw one.0)) (list_all source_within two.0) (and_from (is_between 1 255 (length raw.file)) (is_between 1 16 (length one.0)) here.0 fields) more.0, ap suc more.1)
-
--- ---- names
-
-pub outputs_named : (r : NetworkTable) → name_place r ≡ None → list_all (λ o. is_name o.name) r.outputs ≡ true
-outputs_named r h =
-    let one = neither (option_map (part_place part.Source) (first_failing (λ s. is_name s.name) r.sources)) (or_else (option_map (part_place part.Box) (first_failing (λ b. is_name b.name) r.boxes)) (option_map (part_place part.Output) (first_failing (λ o. is_name o.name) r.outputs))) h in
-    let two = neither (option_map (part_place part.Box) (first_failing (λ b. is_name b.name) r.boxes)) (option_map (part_place part.Output) (first_failing (λ o. is_name o.name) r.outputs)) one.1 in
-    none_failing (λ o. is_name o.name) r.outputs (nothing_mapped (part_place part.Output) (first_failing (λ o. is_name o.name) r.outputs) two.1)
-
-pub outputs_distinct : (r : NetworkTable) → twice_place r ≡ None → are_distinct (map (λ o. o.name) r.outputs) ≡ true
-outputs_distinct r h =
-    let parts = neither (option_map (place_in_space r) (first_repeat (space_names r))) (option_map (part_place part.Output) (first_repeat (map (λ o. o.name) r.outputs))) h in
-    let none = nothing_mapped (part_place part.Output) (first_repeat (map (λ o. o.name) r.outputs)) parts.1 in
-    new_distinct [] (map (λ o. o.name) r.outputs) (none_repeated [] 0 (map (λ o. o.name) r.outputs) none)
-
--- ---- streams
-
-pub outputs_known : (number_of : Numbers) (r : NetworkTable) → unknown_among number_of r ≡ None → length (filter_map (λ o. number_of o.from) r.outputs) ≡ length r.outputs
-outputs_known number_of r h =
-    let parts = neither (unknown_in_boxes number_of 0 r.boxes) (option_map (part_place part.Output) (first_failing (λ o. is_stream number_of o.from) r.outputs)) h in
-    all_given (λ o. number_of o.from) r.outputs (none_failing (λ o. is_stream number_of o.from) r.outputs (nothing_mapped (part_place part.Output) (first_failing (λ o. is_stream number_of o.from) r.outputs) parts.1))
-
-takes_as : (number_of : Numbers) (b : BoxTable) → length (filter_map (number_of) b.ins) ≡ length b.ins → inputs_within b.body b.ins ≡ true
-    → takes_within (box_wires number_of b).kind (length (box_wires number_of b).inputs) ≡ true
-takes_as number_of b long h = by_body b.body h
-  where
-    one_only : (k : ℕ) → is_between 1 1 k ≡ true → (k == 1) ≡ true
-    one_only k h = grind (arith, nat_tests)
-
-    two_only : (k : ℕ) → is_between 2 2 k ≡ true → (k == 2) ≡ true
-    two_only k h = grind (arith, nat_tests)
-
-    by_body : (raw : BodyTable) → inputs_within raw b.ins ≡ true → takes_within (kind_of_told_body raw) (length (filter_map (number_of) b.ins)) ≡ true
-    by_body (Filter preds) h = rw long (one_only (length b.ins) h)
-    by_body (Map set) h = rw long (one_only (length b.ins) h)
-    by_body Union h = rw long h
-    by_body (BSort by slack) h = rw long (one_only (length b.ins) h)
-    by_body (Aggregate size advance phase group give) h = rw long (one_only (length b.ins) h)
-    by_body (Join size on) h = rw long (two_only (length b.ins) h)
-    by_body (Resample size give) h = rw long (two_only (length b.ins) h)
-
-takes_from : (number_of : Numbers) (n : ℕ) (boxes : List BoxTable) → unknown_in_boxes number_of n boxes ≡ None → list_all box_within boxes ≡ true
-    → list_all (λ (w : BoxWires). takes_within w.kind (length w.inputs)) (map (box_wires number_of) boxes) ≡ true
-takes_from number_of n [] h w = refl
-takes_from number_of n (b ∷ bs) h w =
-    let known = neither (option_map (place_at part.Box n) (first_failing (is_stream number_of) b.ins)) (unknown_in_boxes number_of (n + 1) bs) h in
-    let long = all_given (number_of) b.ins (none_failing (is_stream number_of) b.ins (nothing_mapped (place_at part.Box n) (first_failing (is_stream number_of) b.ins) known.0)) in
-    let parts = and_true (box_within b) (list_all box_within bs) w in
-    let front = and_true (told_body_within b.body && inputs_within b.body b.ins && limits.is_int_between 0 1000 b.cost) (list_all (limits.is_int_between 0 1000000) b.selectivity) parts.0 in
-    let middle = and_true (told_body_within b.body && inputs_within b.body b.ins) (limits.is_int_between 0 1000 b.cost) front.0 in
-    let ins = and_true (told_body_within b.body) (inputs_within b.body b.ins) middle.0 in
-    and_from (takes_within (box_wires number_of b).kind (length (box_wires number_of b).inputs)) (list_all (λ (w : BoxWires). takes_within w.kind (length w.inputs)) (map (box_wires number_of) bs))
-    (takes_as number_of b long ins.1) (takes_from number_of (n + 1) bs known.1 parts.1)
-
-pub takes_all : (number_of : Numbers) (r : NetworkTable) → unknown_among number_of r ≡ None → list_all box_within r.boxes ≡ true
-    → list_all (λ (w : BoxWires). takes_within w.kind (length w.inputs)) (map (box_wires number_of) r.boxes) ≡ true
-takes_all number_of r h w =
-    let parts = neither (unknown_in_boxes number_of 0 r.boxes) (option_map (part_place part.Output) (first_failing (λ o. is_stream number_of o.from) r.outputs)) h in
-    takes_from number_of 0 r.boxes parts.0 w

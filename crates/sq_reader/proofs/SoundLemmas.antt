@@ -1,23 +1,20 @@
 -- A network that is read is sound.
-use Rattle.std.proofs.Common.{◌≡◌, ◌∙◌, sym, ap, subst, refl, ℕ, suc, ◌<◌, ◌^◌, true, false, ◌&&◌, List, [], ◌∷◌, map, length, Option, Some, None, slice_get, get_or, arith}
+use Rattle.std.proofs.Common.{◌≡◌, ◌∙◌, sym, ap, subst, refl, ℕ, suc, ◌<◌, ◌^◌, true, ◌&&◌, List, [], ◌∷◌, map, length, Option, Some, None, slice_get, get_or, arith}
 use Rattle.std.specs.Prelude.{nat_le, ℤ, Result, Ok, Err, IfOk}
-use Rattle.std.specs.List.{All, cons_option, filter_map, find, list_all, AllByRecursion}
+use Rattle.std.specs.List.{All, cons_option, filter_map, list_all, AllByRecursion}
 use Rattle.std.specs.Option.{option_map}
 use Rattle.std.proofs.lemmas.Bool.{and_from}
 use Rattle.std.proofs.lemmas.List.{length-map, length-replicate}
 use Rattle.std.proofs.lemmas.List.Elements.{All-map, All-from_recursion, recursion_from_All}
 use Rattle.std.proofs.lemmas.Option.{slice_get-get_or, slice_get-map, slice_get_within}
-use Rattle.sq_words.specs.Lists.{are_distinct, numbers_to}
+use Rattle.sq_words.specs.Lists.{are_distinct}
 use Rattle.sq_value.specs.Values.{Columns}
 use Rattle.sq_graph.specs.declared.BoxWires.{BoxWires}
 use Rattle.sq_graph.specs.declared.Wiring.{Wiring}
 use Rattle.sq_graph.specs.Wires.{producer_of, inputs_of}
 use Rattle.sq_graph.specs.declared.Producer.{Producer}
 use Rattle.sq_graph.specs.declared.Producer.TheVariants.{Source, Port}
-use Rattle.sq_graph.specs.Order.{is_on_cycle, order_of, LiesOnCycle}
-use Rattle.sq_graph.proofs.Bounded.{on_cycle}
-use Rattle.sq_graph.proofs.Finding.{unfound}
-use Rattle.sq_graph.proofs.FirstCycle.{cycle_is_of_box}
+use Rattle.sq_graph.specs.Order.{order_of}
 use Rattle.sq_net.specs.declared.Source as declared
 use Rattle.sq_net.specs.declared.Node.{Node}
 use Rattle.sq_net.specs.declared.Output.{Output}
@@ -25,7 +22,6 @@ use Rattle.sq_net.specs.declared.Network.{Network}
 use Rattle.sq_net.specs.declared.NetErr.{NetErr}
 use Rattle.sq_net.specs.declared.NetErr.TheVariants as broken
 use Rattle.sq_net.specs.declared.Part.TheVariants as part
-use Rattle.sq_net.specs.declared.Place.{Place}
 use Rattle.sq_net.specs.Names.{is_name}
 use Rattle.sq_net.specs.Streams.{columns_given, columns_of_port, columns_of_stream}
 use Rattle.sq_net.specs.SoundNetworks.{IsConsistent, HasWindow, IsSound, body_within, input_columns, is_between, kind_of_body, network_within, node_within, output_within}
@@ -38,25 +34,30 @@ use Rattle.sq_tables.specs.Documents.{document_in}
 use Rattle.sq_tables.specs.Tables.{or_broken, network_table_from, network_table_of}
 use Rattle.sq_tables.proofs.EvenLemmas.{answer_even}
 use Rattle.sq_tables.specs.Shapes.{AreEven, IsEven}
-use Rattle.sq_reader.specs.Limits as limits
-use Rattle.sq_reader.specs.Limits.{box_within, first_failing, has_between, limit_place}
-use Rattle.sq_reader.specs.Naming.{name_place, twice_place}
+use Rattle.sq_rules.specs.Limits as limits
+use Rattle.sq_rules.specs.Limits.{box_within, first_failing, has_between}
 use Rattle.sq_tables.specs.Shapes.{port_count}
-use Rattle.sq_reader.specs.Streaming as wires
-use Rattle.sq_reader.specs.Streaming.{box_wires, cycle_in, told_stream_named, told_stream_names, unknown_place, wiring_of}
+use Rattle.sq_rules.specs.Streaming as wires
+use Rattle.sq_rules.specs.Streaming.{box_wires, told_stream_named, told_stream_names, wiring_of}
 use Rattle.sq_reader.specs.Sources.{sources_from}
 use Rattle.sq_reader.specs.Columns.{columns_known, columns_taken, nat_of, no_nodes, node_known, node_of_box, nodes_from}
-use Rattle.sq_reader.specs.Windows.{has_window, window_place}
-use Rattle.sq_reader.specs.Networks.{graphed_network, limited_network, named_network, network_in, network_of, ordered_network, single_network, streamed_network, typed_network, unless_at, unless_fault, windowed_network, wired_network}
+use Rattle.sq_rules.specs.Windows.{has_window}
+use Rattle.sq_reader.specs.Networks.{graphed_network, limited_network, network_in, network_of, ordered_network, typed_network, unless_fault}
+use Rattle.sq_rules.specs.declared.rules.Wired.{Wired}
+use Rattle.sq_rules.specs.Rules.{KeepsTableRules, wired_tables}
+use Rattle.sq_rules.proofs.RuleLemmas.{none_on_cycle, rules_kept}
 use Rattle.sq_reader.specs.Outputs.{graph_fault, output_of, graph_points}
 use Rattle.sq_reader.proofs.DropLemmas.{limited_same}
-use Rattle.sq_reader.proofs.LimitLemmas.{is_within, number_within, output_of as output_limits}
-use Rattle.sq_reader.proofs.ListLemmas.{all_by_place, each_passes, maps_same, none_failing, nothing_mapped}
-use Rattle.sq_reader.proofs.WiringLemmas.{is_wired, outputs_shown}
+use Rattle.sq_rules.proofs.LimitLemmas.{is_within}
+use Rattle.sq_reader.proofs.LimitLemmas.{number_within, output_of as output_limits}
+use Rattle.sq_rules.proofs.ListLemmas.{each_passes, none_failing, nothing_mapped}
+use Rattle.sq_reader.proofs.ListLemmas.{all_by_place, maps_same}
+use Rattle.sq_rules.proofs.WiringLemmas.{is_wired, outputs_shown}
 use Rattle.sq_tables.proofs.ShapedLemmas.{first_step}
 use Rattle.sq_reader.proofs.BodyLemmas.{IsNodeOf, node_is}
 use Rattle.sq_reader.proofs.NodeLemmas.{AreSettled, IsSettled, all_known, follow_all, settled}
-use Rattle.sq_reader.proofs.RuleLemmas.{numbers_within, outputs_distinct, outputs_known, outputs_named, sources_within, takes_all}
+use Rattle.sq_rules.proofs.RuleLemmas.{outputs_distinct, outputs_known, outputs_named, takes_all}
+use Rattle.sq_reader.proofs.RuleLemmas.{numbers_within, sources_within}
 use Rattle.sq_words.specs.Results.{◌>>=◌}
 use Rattle.sq_words.proofs.Bools.{and_true}
 use Rattle.sq_words.proofs.Numbers.{nat_le_true}
@@ -68,19 +69,10 @@ use Rattle.sq_words.proofs.Lists.{map_map, list_all_at}
 -- a file's tables that keep every rule, and what they are as sources and boxes
 pub record IsRead (r : NetworkTable) (ss : List declared.Source) (nodes : List (Option Node)) : Type 0 where
   pub even : AreEven r
-  pub limit : limit_place r ≡ None
-  pub named : name_place r ≡ None
-  pub single : twice_place r ≡ None
-  pub known : unknown_place r ≡ None
-  pub acyclic : cycle_in (wiring_of r) ≡ None
-  pub windows : window_place r ≡ None
+  pub kept : KeepsTableRules r
   pub graphs : graph_fault r ≡ None
   pub given : sources_from 0 r.sources ≡ Ok ss
   pub typed : nodes_from r (wiring_of r) ss (no_nodes (length r.boxes)) (order_of (wiring_of r)) ≡ Ok nodes
-
-none_broken : {A : Type 0} (e : Place → NetErr) (o : Option Place) (more : Result A NetErr) (x : A) → unless_at e o more ≡ Ok x → (o ≡ None) × (more ≡ Ok x)
-none_broken e None more x h = (refl, h)
-none_broken e (Some p) more x h = cc
 
 none_at_fault : {A : Type 0} (o : Option NetErr) (more : Result A NetErr) (x : A) → unless_fault o more ≡ Ok x → (o ≡ None) × (more ≡ Ok x)
 none_at_fault None more x h = (refl, h)
@@ -96,13 +88,10 @@ pub record IsReadAs (n : Network) : Type 0 where
 
 pub read_as : (r : NetworkTable) (n : Network) → AreEven r → typed_network r ≡ Ok n → IsReadAs n
 read_as r n even h =
-    let limited = none_broken broken.Limit (limit_place r) (named_network r) n h in
-    let named = none_broken broken.NoName (name_place r) (single_network r) n limited.1 in
-    let single = none_broken broken.Twice (twice_place r) (streamed_network r (told_stream_named (told_stream_names r))) n named.1 in
-    let known = none_broken broken.Unknown (unknown_place r) (wired_network r (wiring_of r)) n single.1 in
-    let acyclic = none_broken broken.Cycle (cycle_in (wiring_of r)) (windowed_network r (wiring_of r)) n known.1 in
-    let windows = none_broken broken.Window (window_place r) (graphed_network r (wiring_of r)) n acyclic.1 in
-    let graphs = none_at_fault (graph_fault r) (ordered_network r (wiring_of r)) n windows.1 in
+    let wired = first_step (wired_tables r) (λ x. graphed_network r x.wires) n h in
+    let kept = rules_kept r wired.0 wired.1.0 in
+    let typed : graphed_network r (wiring_of r) ≡ Ok n = subst (λ (x : Wired). graphed_network r x.wires ≡ Ok n) kept.1 wired.1.1 in
+    let graphs = none_at_fault (graph_fault r) (ordered_network r (wiring_of r)) n typed in
     let sources = first_step (sources_from 0 r.sources) (λ ss.
     nodes_from r (wiring_of r) ss (no_nodes (length r.boxes)) (order_of (wiring_of r)) >>= λ nodes.
     Ok (network_of r (wiring_of r) ss nodes)) n graphs.1 in
@@ -114,12 +103,7 @@ read_as r n even h =
       nodes = nodes.0;
       read = record {
         even = even;
-        limit = limited.0;
-        named = named.0;
-        single = single.0;
-        known = known.0;
-        acyclic = acyclic.0;
-        windows = windows.0;
+        kept = kept.0;
         graphs = graphs.0;
         given = sources.1.0;
         typed = nodes.1.0;
@@ -128,13 +112,6 @@ read_as r n even h =
     }
 
 -- ---- no box lies on a cycle, so each is typed
-
-pub none_on_cycle : (w : Wiring) → cycle_in w ≡ None → (at : ℕ) → LiesOnCycle w at → ⊥
-none_on_cycle w h at on =
-    let none : find (is_on_cycle w) (numbers_to (length w.boxes)) ≡ None = nothing_mapped (part_place part.Box) (find (is_on_cycle w) (numbers_to (length w.boxes))) h in
-    let off : is_on_cycle w at ≡ false = unfound (is_on_cycle w) (length w.boxes) none at (cycle_is_of_box w at on) in
-    let lies : is_on_cycle w at ≡ true = on_cycle w at on in
-    cc
 
 -- the nodes are those of the network
 pub record AreBoxes (r : NetworkTable) (ss : List declared.Source) (nodes : List (Option Node)) (bs : List Node) : Type 0 where
@@ -149,7 +126,7 @@ are_boxes r ss nodes read =
     let start : length (no_nodes (length r.boxes)) ≡ length w.boxes = length-replicate (length r.boxes) (none_yet r) ∙ sym boxes in
     let all : AreSettled r w ss [] (no_nodes (length r.boxes)) (order_of w) nodes = settled r w ss [] (no_nodes (length r.boxes)) (order_of w) nodes (follow_all w) start read.typed in
     let long : length nodes ≡ length w.boxes = all.count ∙ start in
-    let each : (at : ℕ) → at < length nodes → IsSettled r w ss nodes at = (λ at low. all.each at (order-has w (is_wired (told_stream_names r) r refl) (none_on_cycle w read.acyclic) at (omega (arith, low, long)))) in
+    let each : (at : ℕ) → at < length nodes → IsSettled r w ss nodes at = (λ at low. all.each at (order-has w (is_wired (told_stream_names r) r refl) (none_on_cycle w read.kept.acyclic) at (omega (arith, low, long)))) in
     let known : nodes ≡ map Some (filter_map (λ o. o) nodes) = all_known nodes (λ at low. (let s = each at low in (s.node, s.there))) in
     let same : length nodes ≡ length (filter_map (λ o. o) nodes) = ap (λ (os : List (Option Node)). length os) known ∙ length-map (filter_map (λ (o : Option Node). o) nodes) (λ (b : Node). Some b) in
     record {
@@ -242,7 +219,7 @@ outputs_fit (o ∷ os) h =
 
 all_within : (r : NetworkTable) (ss : List declared.Source) (nodes : List (Option Node)) → IsRead r ss nodes → network_within (network_of r (wiring_of r) ss nodes) ≡ true
 all_within r ss nodes read =
-    let w = is_within r read.limit in
+    let w = is_within r read.kept.limit in
     let boxes = are_boxes r ss nodes read in
     let given = sources_within 0 r.sources ss read.given w.sources in
     let a = and_true (has_between 1 8 r.sources && has_between 0 128 r.boxes && has_between 1 32 r.outputs && limits.is_int_between 1 (2 ^ 34) r.epoch) (limits.is_int_between 1 1000000 r.batch) w.top in
@@ -257,7 +234,7 @@ all_within r ss nodes read =
     let fit : list_all node_within (filter_map (λ o. o) nodes) ≡ true = all_by_place node_within (filter_map (λ o. o) nodes) (λ at node e.
     (let box = box_at r ss nodes boxes at node e in
     node_fits box.raw (input_columns (network_of r (wiring_of r) ss nodes) at) node box.is (list_all_at box_within r.boxes at box.raw w.boxes box.there))) in
-    let takes = takes_all (told_stream_named (told_stream_names r)) r read.known w.boxes in
+    let takes = takes_all (told_stream_named (told_stream_names r)) r read.kept.known w.boxes in
     and_from _ _ (and_from _ _ (and_from _ _ (and_from _ _ (and_from _ _ (and_from _ _ (and_from _ _ (and_from _ _ sources count) outputs) epoch) batch) given.0) fit) (outputs_fit r.outputs w.outputs)) takes
 
 evens : (bs : List BoxTable) → AllByRecursion IsEven bs → map (λ b. length b.selectivity) bs ≡ map (λ b. port_count b.body) bs
@@ -272,7 +249,7 @@ all_agree r ss nodes read =
     let boxes = are_boxes r ss nodes read in
     let names : List (List ℕ) = told_stream_names r in
     let bs : List Node = filter_map (λ o. o) nodes in
-    let given = sources_within 0 r.sources ss read.given (is_within r read.limit).sources in
+    let given = sources_within 0 r.sources ss read.given (is_within r read.kept.limit).sources in
     let ports : map (λ (b : BoxTable). port_count b.body) r.boxes ≡ map (λ (b : Node). length b.schemas) bs =
     alike (λ b. port_count b.body) (λ b. length b.schemas) r ss nodes boxes (λ raw ins b is. is.body.ports) in
     let tolls : map (λ (b : BoxTable). length b.selectivity) r.boxes ≡ map (λ (b : Node). length b.selectivity) bs =
@@ -282,7 +259,7 @@ all_agree r ss nodes read =
       kinds = map_map (λ (b : BoxWires). b.kind) (box_wires (told_stream_named names)) r.boxes ∙ alike (λ b. wires.kind_of_told_body b.body) (λ b. kind_of_body b.body) r ss nodes boxes (λ raw ins b is. is.body.kind);
       ports = map_map (λ (b : BoxWires). b.ports) (box_wires (told_stream_named names)) r.boxes ∙ ports;
       tolls = sym tolls ∙ (evens r.boxes (recursion_from_All IsEven r.boxes read.even) ∙ ports);
-      outputs = outputs_known (told_stream_named names) r read.known ∙ sym (length-map r.outputs output_of);
+      outputs = outputs_known (told_stream_named names) r read.kept.known ∙ sym (length-map r.outputs output_of);
       wired = is_wired names r refl;
       shown = outputs_shown names r refl;
     }
@@ -290,7 +267,7 @@ all_agree r ss nodes read =
 -- each Aggregate has a window
 all_windows : (r : NetworkTable) (ss : List declared.Source) (nodes : List (Option Node)) → IsRead r ss nodes → All (λ (b : Node). HasWindow b.body) (network_of r (wiring_of r) ss nodes).boxes
 all_windows r ss nodes read =
-    let rule : list_all (λ (b : BoxTable). has_window b.body) r.boxes ≡ true = none_failing (λ (b : BoxTable). has_window b.body) r.boxes (nothing_mapped (part_place part.Box) (first_failing (λ (b : BoxTable). has_window b.body) r.boxes) read.windows) in
+    let rule : list_all (λ (b : BoxTable). has_window b.body) r.boxes ≡ true = none_failing (λ (b : BoxTable). has_window b.body) r.boxes (nothing_mapped (part_place part.Box) (first_failing (λ (b : BoxTable). has_window b.body) r.boxes) read.kept.windows) in
     let bs : List Node = filter_map (λ o. o) nodes in
     λ at d low. (let box = box_at r ss nodes (are_boxes r ss nodes read) at (get_or bs at d) (slice_get-get_or bs at d low) in box.is.body.window (list_all_at (λ (b : BoxTable). has_window b.body) r.boxes at box.raw rule box.there))
 
@@ -298,11 +275,11 @@ sound_of : (r : NetworkTable) (ss : List declared.Source) (nodes : List (Option 
 sound_of r ss nodes read = record {
   within = all_within r ss nodes read;
   agrees = all_agree r ss nodes read;
-  acyclic = none_on_cycle (wiring_of r) read.acyclic;
+  acyclic = none_on_cycle (wiring_of r) read.kept.acyclic;
   named = All-map (λ (o : Output). is_name o.name ≡ true) output_of r.outputs
-      (All-from_recursion (λ (o : OutputTable). is_name o.name ≡ true) r.outputs (each_passes (λ o. is_name o.name) r.outputs (outputs_named r read.named)));
+      (All-from_recursion (λ (o : OutputTable). is_name o.name ≡ true) r.outputs (each_passes (λ o. is_name o.name) r.outputs (outputs_named r read.kept.named)));
   windows = all_windows r ss nodes read;
-  distinct = ap are_distinct (map_map (λ (o : Output). o.name) output_of r.outputs) ∙ outputs_distinct r read.single;
+  distinct = ap are_distinct (map_map (λ (o : Output). o.name) output_of r.outputs) ∙ outputs_distinct r read.kept.single;
   typed = λ at b e. (box_at r ss nodes (are_boxes r ss nodes read) at b e).is.body.typed;
 }
 

@@ -4,7 +4,7 @@ use Rattle.std.specs.Prelude.{nat_le, int_le, ◌*ℤ◌}
 use Rattle.std.proofs.lemmas.Bool.Decides.{nat_tests}
 use Rattle.sq_aggfn.specs.Windows.{IsWindow}
 use Rattle.sq_reader.specs.Columns.{window_read}
-use Rattle.sq_reader.specs.Windows.{is_span, is_window}
+use Rattle.sq_rules.specs.Windows.{is_span, is_window}
 use Rattle.sq_words.proofs.Bools.{and_true}
 
 pub window_is : (size advance phase : ℤ) → is_window size advance phase ≡ true → IsWindow (window_read size advance phase)

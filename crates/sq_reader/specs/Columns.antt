@@ -30,7 +30,7 @@ use Rattle.sq_tables.specs.declared.tables.BodyTable.TheVariants.{Filter, Map, U
 use Rattle.sq_tables.specs.declared.tables.BoxTable.{BoxTable}
 use Rattle.sq_tables.specs.declared.tables.NetworkTable.{NetworkTable}
 use Rattle.sq_tables.specs.Places.{place_at, part_place, or_else}
-use Rattle.sq_reader.specs.Limits.{first_failing}
+use Rattle.sq_rules.specs.Limits.{first_failing}
 use Rattle.sq_tables.specs.Tables.{or_broken}
 use Rattle.sq_reader.specs.Expressions.{may_be_predicate, may_be_set, predicate_of, typed_in}
 use Rattle.sq_reader.specs.Functions.{funcs_from, group_from, kinds_answered}

@@ -7,7 +7,7 @@ use Rattle.sq_net.specs.declared.Part.TheVariants as part
 use Rattle.sq_net.specs.declared.Place.{Place}
 use Rattle.sq_points.specs.Points.{points_of}
 use Rattle.sq_tables.specs.Places.{part_place}
-use Rattle.sq_reader.specs.Limits.{first_failing}
+use Rattle.sq_rules.specs.Limits.{first_failing}
 
 -- neither a batch that is too long nor an extent that is too wide
 abbrev pub is_drop_within : DropPoint → Bool

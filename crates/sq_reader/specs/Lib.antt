@@ -1,7 +1,4 @@
 pub mod Limits
-pub mod Windows
-pub mod Naming
-pub mod Streaming
 pub mod Sources
 pub mod Expressions
 pub mod Functions

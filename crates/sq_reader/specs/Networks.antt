@@ -6,25 +6,16 @@ use Rattle.sq_graph.specs.Order.{order_of}
 use Rattle.sq_net.specs.declared.Network.{Network}
 use Rattle.sq_net.specs.declared.Node.{Node}
 use Rattle.sq_net.specs.declared.Source.{Source}
-use Rattle.sq_net.specs.declared.Place.{Place}
 use Rattle.sq_net.specs.declared.NetErr.{NetErr}
 use Rattle.sq_net.specs.declared.NetErr.TheVariants as broken
 use Rattle.sq_tables.specs.declared.tables.NetworkTable.{NetworkTable}
 use Rattle.sq_tables.specs.Tables.{network_table_of}
-use Rattle.sq_reader.specs.Limits.{limit_place}
-use Rattle.sq_reader.specs.Naming.{name_place, twice_place}
-use Rattle.sq_reader.specs.Streaming.{Numbers, cycle_in, told_stream_named, told_stream_names, unknown_among, wiring_by}
+use Rattle.sq_rules.specs.Rules.{unless_at, wired_tables}
 use Rattle.sq_reader.specs.Sources.{sources_from}
-use Rattle.sq_reader.specs.Windows.{window_place}
 use Rattle.sq_reader.specs.Outputs.{graph_fault, output_of}
 use Rattle.sq_reader.specs.Drops.{drop_place}
 use Rattle.sq_reader.specs.Columns.{nat_of, no_nodes, nodes_from}
 use Rattle.sq_words.specs.Results.{◌>>=◌}
-
--- go on where no place breaks a rule
-abbrev pub unless_at : {A : Type 0} → (Place → NetErr) → Option Place → Result A NetErr → Result A NetErr
-unless_at e None more = more
-unless_at e (Some p) more = Err (e p)
 
 -- go on where there is no fault
 abbrev pub unless_fault : {A : Type 0} → Option NetErr → Result A NetErr → Result A NetErr
@@ -51,23 +42,9 @@ ordered_network r w =
 abbrev pub graphed_network : NetworkTable → Wiring → Result Network NetErr
 graphed_network r w = unless_fault (graph_fault r) (ordered_network r w)
 
-abbrev pub windowed_network : NetworkTable → Wiring → Result Network NetErr
-windowed_network r w = unless_at broken.Window (window_place r) (graphed_network r w)
-
-abbrev pub wired_network : NetworkTable → Wiring → Result Network NetErr
-wired_network r w = unless_at broken.Cycle (cycle_in w) (windowed_network r w)
-
-abbrev pub streamed_network : NetworkTable → Numbers → Result Network NetErr
-streamed_network r number_of = unless_at broken.Unknown (unknown_among number_of r) (wired_network r (wiring_by number_of r))
-
-abbrev pub single_network : NetworkTable → Result Network NetErr
-single_network r = unless_at broken.Twice (twice_place r) (streamed_network r (told_stream_named (told_stream_names r)))
-
-abbrev pub named_network : NetworkTable → Result Network NetErr
-named_network r = unless_at broken.NoName (name_place r) (single_network r)
-
+-- the rules that need no columns, and then the network
 abbrev pub typed_network : NetworkTable → Result Network NetErr
-typed_network r = unless_at broken.Limit (limit_place r) (named_network r)
+typed_network r = wired_tables r >>= λ x. graphed_network r x.wires
 
 -- the last rule, on the drop points of the network
 abbrev pub limited_network : Network → Result Network NetErr

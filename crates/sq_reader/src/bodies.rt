@@ -5,8 +5,8 @@ ghost use Rattle.sq_net.specs.SoundNetworks.{takes_within};
 ghost use Rattle.sq_tables.specs.declared.tables.BodyTable.TheVariants as raw;
 ghost use Rattle.sq_tables.specs.Refusals.{is_memory};
 ghost use Rattle.sq_reader.specs.Columns.{typed_aggregate, bad_given, typed_body, bsort_of, filter_of, join_of, map_of, nat_of, typed_resample, too_many, union_of, window_read};
-ghost use Rattle.sq_reader.specs.Limits.{told_body_within};
-ghost use Rattle.sq_reader.specs.Streaming.{kind_of_told_body};
+ghost use Rattle.sq_rules.specs.Limits.{told_body_within};
+ghost use Rattle.sq_rules.specs.Streaming.{kind_of_told_body};
 
 use crate::boxes::{
     bad_name, copies_of, kinds_set, names_set, predicates_in, texts_set, unlike, values_in,
@@ -15,11 +15,11 @@ use crate::expressions::predicate_of;
 use crate::functions::{
     funcs_in, give_names, group_in, int_place, kinds_answered, kinds_shown, names_shown,
 };
-use crate::limits::place_at;
 use crate::pairs::{kinds_of_both, left_names, pair_schema};
 use crate::sources::schema_of;
 use sq_aggfn::WindowSpec;
 use sq_net::{Body, NetErr, Part};
+use sq_rules::place_at;
 use sq_tables::{AnswerColumn, BodyTable, Setting};
 use sq_value::{ListOf, Name, Schema, copy_schema};
 use std::alloc::{AllocError, Global};
@@ -59,7 +59,7 @@ fn second_of(ins: &[Schema]) -> &Schema
     }
 }
 
-#[tactic(auto, using(crate::proofs::LimitLemmas::predicates_of))]
+#[tactic(auto, using(sq_rules::proofs::LimitLemmas::predicates_of))]
 fn filter_of(
     alloc: Global,
     number: usize,

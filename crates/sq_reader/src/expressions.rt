@@ -6,14 +6,14 @@ ghost use Rattle.sq_expr.specs.Grammar.{parse_in};
 ghost use Rattle.sq_net.specs.declared.NetErr.TheVariants as broken;
 ghost use Rattle.sq_net.specs.declared.Part.TheVariants as part;
 ghost use Rattle.sq_reader.specs.Expressions.{allowed, may_be_predicate, may_be_set, or_no_expression, parsed_from, predicate_of};
-ghost use Rattle.sq_reader.specs.Limits.{is_expression_long};
+ghost use Rattle.sq_rules.specs.Limits.{is_expression_long};
 ghost use Rattle.sq_tables.specs.Places.{place_at};
 ghost use Rattle.sq_tables.specs.Refusals.{IsAnswerOf, is_memory};
 
-use crate::limits::place_at;
 use crate::push;
 use sq_expr::{Ast, TypeErr, Typed, What, check, parse};
 use sq_net::{NetErr, Part};
+use sq_rules::place_at;
 use sq_value::{Kind, Name, Schema};
 use std::alloc::Global;
 

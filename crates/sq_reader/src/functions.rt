@@ -9,11 +9,11 @@ ghost use Rattle.sq_reader.specs.Columns.{give_names, int_place};
 ghost use Rattle.sq_reader.specs.Functions.{func_in, func_over, func_for, funcs_from, group_from, group_place, kinds_answered};
 ghost use Rattle.sq_tables.specs.Refusals.{is_memory};
 
-use crate::limits::place_at;
 use crate::push;
 use crate::sources::is_among;
 use sq_aggfn::Func;
 use sq_net::{NetErr, Part};
+use sq_rules::place_at;
 use sq_tables::{Answer, AnswerColumn, Over};
 use sq_value::{Kind, Name, Schema, copy_name, same_text};
 use std::alloc::{AllocError, Global};

@@ -1,8 +1,10 @@
 //! The network file: a TOML document of sources, boxes and outputs, read as a typed network.
 //!
 //! The contract of `read_network` promises the network that the file says, a sound one, where the file keeps every rule,
-//! and else the first broken rule with its first place; want of memory aside. Below stand the file's tables, the typed
-//! network with its drop points, the wiring, the expressions, the quality graphs and the values.
+//! and else the first broken rule with its first place; want of memory aside. What stands here goes by columns: the schemas
+//! of sources, the boxes typed on what they take, outputs, and the drop points of what came of it. Below stand the file's
+//! tables and the rules on them that need no columns, the typed network with its drop points, the expressions, the quality
+//! graphs and the values.
 #![tactic(auto)]
 
 ghost use Rattle.std.specs.Prelude.{◌≡◌, ◌++◌, ◌∷◌, [], IfOk, OnOk};
@@ -16,15 +18,11 @@ mod boxes;
 mod drops;
 mod expressions;
 mod functions;
-mod limits;
-mod names;
 mod network;
 mod nodes;
 mod outputs;
 mod pairs;
 mod sources;
-mod streams;
-mod windows;
 
 use sq_net::{NetErr, Network};
 use sq_tables::network_table_of;

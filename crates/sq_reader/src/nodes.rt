@@ -4,8 +4,8 @@ ghost use Rattle.sq_graph.specs.Order.{order_of};
 ghost use Rattle.sq_graph.specs.Wires.{inputs_of};
 ghost use Rattle.sq_net.specs.SoundNetworks.{takes_within};
 ghost use Rattle.sq_reader.specs.Columns.{columns_taken, nat_of, no_nodes, typed_node, node_in, nodes_from};
-ghost use Rattle.sq_reader.specs.Limits.{box_within, limit_place};
-ghost use Rattle.sq_reader.specs.Streaming.{kind_of_told_body, unknown_place, wiring_of};
+ghost use Rattle.sq_rules.specs.Limits.{box_within, limit_place};
+ghost use Rattle.sq_rules.specs.Streaming.{kind_of_told_body, unknown_place, wiring_of};
 ghost use Rattle.sq_tables.specs.declared.tables.BoxTable.{BoxTable};
 ghost use Rattle.sq_tables.specs.Refusals.{IsAnswerOf, is_memory};
 
@@ -27,7 +27,7 @@ fn naturals(alloc: Global, numbers: &[i64]) -> Result<Vec<u64>, AllocError>
     Ok(found)
 }
 
-#[tactic(auto, using(crate::proofs::LimitLemmas::box_of))]
+#[tactic(auto, using(sq_rules::proofs::LimitLemmas::box_of))]
 fn node_in(alloc: Global, number: usize, b: &BoxTable, ins: &[Schema]) -> Result<Node, NetErr>
     requires number { number < 2 ^ 32 }
     requires within { box_within b.now ≡ true }

@@ -2,14 +2,14 @@
 ghost use Rattle.std.specs.Prelude.{◌≡◌, ◌≤◌, ◌<◌, ◌^◌, true, false, Some, None, IfOk, IfErr, length, map};
 ghost use Rattle.std.specs.List.{list_all};
 ghost use Rattle.sq_tables.specs.Refusals.{is_memory};
-ghost use Rattle.sq_reader.specs.Limits.{told_output_within};
+ghost use Rattle.sq_rules.specs.Limits.{told_output_within};
 ghost use Rattle.sq_reader.specs.Outputs.{graph_fault_at, graph_fault_from, output_of, point_number, graph_points};
 
 use crate::bodies::natural;
-use crate::limits::whole;
 use crate::push;
 use sq_net::{NetErr, Output, Part};
 use sq_qos::Graph;
+use sq_rules::part_place;
 use sq_tables::OutputTable;
 use sq_value::copy_name;
 use std::alloc::{AllocError, Global};
@@ -37,7 +37,7 @@ fn graph_in(alloc: Global, number: usize, points: &[(i64, i64)]) -> Result<Graph
 {
     match Graph::new(graph_points(alloc, points)?) {
         Ok(graph) => Ok(graph),
-        Err(why) => Err(NetErr::Graph(whole(Part::Output, number), why)),
+        Err(why) => Err(NetErr::Graph(part_place(Part::Output, number), why)),
     }
 }
 

@@ -3,14 +3,13 @@ ghost use Rattle.std.specs.Prelude.{◌≡◌, ◌<◌, ◌≤◌, ◌^◌, [], 
 ghost use Rattle.std.specs.List.{list_all, zip};
 ghost use Rattle.sq_words.specs.Lists.{contains_bytes};
 ghost use Rattle.sq_value.specs.Schemas.{schema_error};
-ghost use Rattle.sq_reader.specs.Limits.{told_source_within};
+ghost use Rattle.sq_rules.specs.Limits.{told_source_within};
 ghost use Rattle.sq_tables.specs.Refusals.{IsAnswerOf, is_memory};
 ghost use Rattle.sq_reader.specs.Sources.{column_in, columns_from, kind_named, sources_from};
 
-use crate::limits::place_at;
-use crate::names::is_name;
 use crate::push;
 use sq_net::{NetErr, Part, Source};
+use sq_rules::{is_name, place_at};
 use sq_tables::SourceTable;
 use sq_value::{Kind, Name, Schema, copy_name, same_text};
 use std::alloc::{AllocError, Global};

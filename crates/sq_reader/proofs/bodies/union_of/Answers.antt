@@ -6,7 +6,7 @@ use Rattle.sq_net.specs.declared.Body.TheVariants as body
 use Rattle.sq_net.specs.declared.NetErr.TheVariants as broken
 use Rattle.sq_net.specs.declared.Part.TheVariants as part
 use Rattle.sq_tables.specs.Places.{place_at}
-use Rattle.sq_reader.specs.Limits.{first_failing}
+use Rattle.sq_rules.specs.Limits.{first_failing}
 use Rattle.sq_reader.specs.Columns.{same_columns, union_of}
 use Rattle.sq_reader.proofs.bodies.union_of.Goals as goal
 

@@ -3,8 +3,8 @@ use Rattle.sq_reader.proofs.drops.limited_network.Goals as goal
 
 pub returns-in-Err-LongBatch-clause-answer : goal.returns-in-Err-LongBatch-clause-answer
 returns-in-Err-LongBatch-clause-answer c =
-    λ _. rw c.whole.ensures (long_refused c.args.network c.in-Err-LongBatch.drop (rw c.in-Err-LongBatch.field-0-is at c.in-Err-LongBatch.ensures.refused))
+    λ _. rw c.out_of_limits.ensures (long_refused c.args.network c.in-Err-LongBatch.drop (rw c.in-Err-LongBatch.field-0-is at c.in-Err-LongBatch.ensures.refused))
 
 pub returns-in-Err-WideExtent-clause-answer : goal.returns-in-Err-WideExtent-clause-answer
 returns-in-Err-WideExtent-clause-answer c =
-    λ _. rw c.whole-in-Err-WideExtent.ensures (wide_refused c.args.network c.in-Err-WideExtent.drop (rw c.in-Err-WideExtent.field-0-is at c.in-Err-WideExtent.ensures.refused))
+    λ _. rw c.out_of_limits-in-Err-WideExtent.ensures (wide_refused c.args.network c.in-Err-WideExtent.drop (rw c.in-Err-WideExtent.field-0-is at c.in-Err-WideExtent.ensures.refused))

@@ -1,6 +1,6 @@
 use Rattle.std.proofs.Common.{◌∙◌}
-use Rattle.sq_reader.specs.Limits.{is_expression_long}
-use Rattle.sq_reader.proofs.ListLemmas.{item_passes}
+use Rattle.sq_rules.specs.Limits.{is_expression_long}
+use Rattle.sq_rules.proofs.ListLemmas.{item_passes}
 use Rattle.sq_reader.proofs.LimitLemmas.{expression_few}
 use Rattle.sq_reader.proofs.ExpressionLemmas.{parsed_more}
 use Rattle.sq_reader.proofs.expressions.parsed.Goals as goal

@@ -1,4 +1,4 @@
-use Rattle.sq_reader.proofs.LimitLemmas.{counts_of}
+use Rattle.sq_rules.proofs.LimitLemmas.{counts_of}
 use Rattle.sq_reader.proofs.RuleLemmas.{sources_within}
 use Rattle.sq_reader.proofs.network.graphed_network.Goals as goal
 

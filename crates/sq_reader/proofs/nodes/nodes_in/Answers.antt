@@ -3,7 +3,7 @@ use Rattle.std.specs.Prelude.{Ok}
 use Rattle.std.proofs.lemmas.List.{drop_more}
 use Rattle.sq_graph.specs.declared.Wiring.{Wiring}
 use Rattle.sq_reader.specs.Columns.{typed_node}
-use Rattle.sq_reader.proofs.WiringLemmas.{wired_length}
+use Rattle.sq_rules.proofs.WiringLemmas.{wired_length}
 use Rattle.sq_reader.proofs.NodeLemmas.{nodes_more}
 use Rattle.sq_reader.proofs.ReadyLemmas.{AreReady, ready_first, ready_next, ready_takes}
 use Rattle.sq_reader.proofs.nodes.nodes_in.Goals as goal

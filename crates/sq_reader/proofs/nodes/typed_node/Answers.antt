@@ -1,9 +1,9 @@
 use Rattle.std.proofs.Common.{◌∙◌, ℕ, ap, List}
-use Rattle.sq_reader.specs.Limits.{box_within}
+use Rattle.sq_rules.specs.Limits.{box_within}
 use Rattle.sq_reader.specs.Columns.{columns_taken}
-use Rattle.sq_reader.proofs.LimitLemmas.{counts_of}
-use Rattle.sq_reader.proofs.ListLemmas.{item_passes, item_there}
-use Rattle.sq_reader.proofs.WiringLemmas.{wired_there}
+use Rattle.sq_rules.proofs.LimitLemmas.{counts_of}
+use Rattle.sq_rules.proofs.ListLemmas.{item_passes, item_there}
+use Rattle.sq_rules.proofs.WiringLemmas.{wired_there}
 use Rattle.sq_reader.proofs.NodeLemmas.{node_from}
 use Rattle.sq_reader.proofs.nodes.typed_node.Goals as goal
 

@@ -1,2 +1,0 @@
--- A step that succeeds.
-use Rattle.std.proofs.Common.{◌≡◌}

@@ -1,7 +1,0 @@
-use Rattle.sq_reader.specs.Limits.{box_within}
-use Rattle.sq_reader.proofs.LimitLemmas.{box_of}
-use Rattle.sq_reader.proofs.ListLemmas.{item_passes}
-use Rattle.sq_reader.proofs.streams.boxes_wired.Goals as goal
-
-pub box_wires-requires : goal.box_wires-requires
-box_wires-requires c = (box_of c.b-item.result (item_passes box_within c.args.boxes.now c.loop-b.b-index c.b-item.result c.requires c.loop-b-test.true c.b-item.is)).body

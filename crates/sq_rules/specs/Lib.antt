@@ -1,0 +1,5 @@
+pub mod Limits
+pub mod Naming
+pub mod Windows
+pub mod Streaming
+pub mod Rules
