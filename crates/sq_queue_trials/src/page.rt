@@ -25,7 +25,7 @@ fn a_page_of_two_items(rt: HostRuntime) -> Result<(), Fail> {
         body: Body::some(ListOf::new(vec![in alloc; Value::Int(1)]?)),
     };
     let second = mark_at(alloc, 7, Mark::Closed);
-    assert_eq!(rt; (item_room(&first), item_room(&second)), (27, 9));
+    assert!(rt; (item_room(&first), item_room(&second)) == (27, 9));
     let mut items = Vec::new(alloc);
     items.push(first)?;
     items.push(second)?;
@@ -35,10 +35,10 @@ fn a_page_of_two_items(rt: HostRuntime) -> Result<(), Fail> {
         0, 0, 0, 0, 0, 0, 0, 7,
     ];
     let (written, zeros) = page.split_at(38);
-    assert_eq!(rt; written, front.as_slice());
-    assert_eq!(rt; zeros, [0; 8154].as_slice());
+    assert!(rt; written == front.as_slice());
+    assert!(rt; zeros == [0; 8154].as_slice());
     let (item, end) = item_at(alloc, &page, 29)?;
-    assert_eq!(rt; (item.time, end), (7, 38));
+    assert!(rt; (item.time, end) == (7, 38));
     Ok(())
 }
 
@@ -79,8 +79,8 @@ fn pages_have_items_of_each_form_and_no_others(rt: HostRuntime) -> Result<(), Fa
     ];
     for (flags, more, is) in rows {
         let page = page_of_one(rt.alloc(), flags, more)?;
-        assert_eq!(rt; is_page(&page), is, "{flags} {more:?}");
-        assert_eq!(rt; comes_back(rt.alloc(), &page)?, is, "{flags} {more:?}");
+        assert!(rt; is_page(&page) == is, "{flags} {more:?}");
+        assert!(rt; comes_back(rt.alloc(), &page)? == is, "{flags} {more:?}");
     }
     Ok(())
 }
@@ -115,9 +115,9 @@ fn full_pages_come_back(rt: HostRuntime) -> Result<(), Fail> {
     let alloc = rt.alloc();
     let mut largest = Vec::from_slice(alloc, &[0, 2])?;
     push_texts(&mut largest, 255)?;
-    assert_eq!(rt; largest.len(), 2 + 4130);
+    assert!(rt; largest.len() == 2 + 4130);
     push_texts(&mut largest, 185)?;
-    assert_eq!(rt; largest.len(), 8192);
+    assert!(rt; largest.len() == 8192);
     assert!(rt; comes_back(alloc, &largest)?);
     let mut most = Vec::from_slice(alloc, &[1, 175])?;
     push_numbers(&mut most, 431)?;

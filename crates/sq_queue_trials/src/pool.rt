@@ -77,19 +77,32 @@ fn is_garbled<D: PageDisk>(pool: &mut Pool, disk: &mut D) -> Result<bool, PoolEr
     }
 }
 
+// Three pages, of which the first is brought back and the second replaced: their numbers, the first byte of the first and how many
+// are in frames then, and the first byte of the new one.
+fn lived<D: PageDisk>(
+    pool: &mut Pool,
+    disk: &mut D,
+) -> Result<([u64; 3], Option<u8>, u32, Option<u8>), PoolErr>
+    requires { Agree pool.old (known (D.log disk.old)) }
+{
+    let pages = three(pool, disk)?;
+    let [p, q, _] = pages;
+    brought(pool, disk, p)?;
+    let back = first_byte(pool, p);
+    let resident = pool.resident();
+    let new = replaced(pool, disk, q)?;
+    Ok((pages, back, resident, first_byte(pool, new)))
+}
+
 #[test]
 fn the_page_of_longest_disuse_is_spilled(rt: HostRuntime) -> Result<(), Fail> {
     let alloc = rt.alloc();
     let mut disk = MemDisk::new(alloc, Vec::new(alloc), Vec::new(alloc));
     let mut pool = Pool::new(alloc, 2)?;
-    let [p, q, r] = three(&mut pool, &mut disk)?;
+    let ([p, q, r], back, resident, new) = lived(&mut pool, &mut disk)?;
     assert!(rt; p != q && q != r && p != r);
-    brought(&mut pool, &mut disk, p)?;
-    assert_eq!(rt; first_byte(&pool, p), Some(1));
-    assert_eq!(rt; pool.resident(), 2);
-    assert_eq!(rt; disk.puts().first().copied(), Some(p));
-    let s = replaced(&mut pool, &mut disk, q)?;
-    assert_eq!(rt; first_byte(&pool, s), Some(0));
+    assert!(rt; back == Some(1) && resident == 2 && new == Some(0));
+    assert!(rt; disk.puts().first().copied() == Some(p));
     Ok(())
 }
 
@@ -112,7 +125,10 @@ fn each_call_of_the_disk_may_fail(rt: HostRuntime) -> Result<(), Fail> {
         let mut disk = MemDisk::new(alloc, Vec::from_slice(alloc, &[call])?, Vec::new(alloc));
         let mut pool = Pool::new(alloc, 2)?;
         let end = used(&mut pool, &mut disk);
-        assert_eq!(rt; matches!(end, Err(PoolErr::Disk)), call < 5, "at {call}");
+        assert!(rt;
+            matches!(end, Err(PoolErr::Disk)) == (call < 5),
+            "at {call}"
+        );
     }
     Ok(())
 }

@@ -1,34 +1,42 @@
 ghost use Rattle.std.specs.Prelude.{◌≡◌, false, OnOk};
 ghost use Rattle.sq_queue.specs.Faces.{Together, face, size};
+ghost use Rattle.sq_item.specs.SoundItems.{IsSoundItem};
 ghost use Rattle.sq_pool.specs.Trust.{known};
 
 use crate::marks::mark_at;
-use sq_item::Mark;
+use sq_item::{Item, Mark};
 use sq_outside::{MemDisk, PageDisk};
 use sq_queue::{Head, QueueErr, Queues};
 use std::alloc::Global;
 use std::test::Fail;
 
-// Pushes an item of time 5 on arc 1, sends one of time 7 there, and ends it.
-fn fill<D: PageDisk>(alloc: Global, queues: &mut Queues, disk: &mut D) -> Result<(), QueueErr>
+// Pushes an item on arc 1, sends another there, and ends it.
+fn fill<D: PageDisk>(
+    queues: &mut Queues,
+    disk: &mut D,
+    first: &Item,
+    second: Item,
+) -> Result<(), QueueErr>
+    requires first { IsSoundItem first.now }
+    requires second { IsSoundItem second }
     requires size { size queues.old ≡ 2 }
     requires open { (face queues.old 1).ended ≡ false }
     requires together { Together queues.old (known (D.log disk.old)) }
     ensures size { OnOk result (size queues.new ≡ 2) }
     ensures together { OnOk result (Together queues.new (known (D.log disk.new))) }
 {
-    queues.push(disk, 1, &mark_at(alloc, 5, Mark::Closed))?;
-    queues.send(disk, 1, mark_at(alloc, 7, Mark::Open { until: 9 }))?;
+    queues.push(disk, 1, first)?;
+    queues.send(disk, 1, second)?;
     queues.end(1);
     Ok(())
 }
 
-// Takes the first item of arc 1, where one stands: its time; then what stands first there, how many items stand there, and how
-// many pages are in memory.
-fn take<D: PageDisk>(
-    queues: &mut Queues,
-    disk: &mut D,
-) -> Result<Option<(u64, Head, u64, u32)>, QueueErr>
+// Of an item that was taken, its time; then what stands first on its arc, how many items stand there, and how many pages are in
+// memory.
+type Taken = Option<(u64, Head, u64, u32)>;
+
+// Takes the first item of arc 1, where one stands.
+fn take<D: PageDisk>(queues: &mut Queues, disk: &mut D) -> Result<Taken, QueueErr>
     requires size { size queues.old ≡ 2 }
     requires together { Together queues.old (known (D.log disk.old)) }
     ensures size { OnOk result (size queues.new ≡ 2) }
@@ -41,20 +49,33 @@ fn take<D: PageDisk>(
     Ok(Some((item.time, queues.head(1), queues.len(1), queues.resident())))
 }
 
+// What stands first on arcs 0 and 1 once arc 1 is filled, and how many pages are in memory; then what two takes tell.
+fn told<D: PageDisk>(
+    alloc: Global,
+    queues: &mut Queues,
+    disk: &mut D,
+) -> Result<((Head, Head, u32), [Taken; 2]), QueueErr>
+    requires size { size queues.old ≡ 2 }
+    requires open { (face queues.old 1).ended ≡ false }
+    requires together { Together queues.old (known (D.log disk.old)) }
+{
+    let first = mark_at(alloc, 5, Mark::Closed);
+    let second = mark_at(alloc, 7, Mark::Open { until: 9 });
+    fill(queues, disk, &first, second)?;
+    let full = (queues.head(0), queues.head(1), queues.resident());
+    let taken = take(queues, disk)?;
+    Ok((full, [taken, take(queues, disk)?]))
+}
+
 #[test]
 fn an_arc_gives_its_items_in_order_and_then_its_end(rt: HostRuntime) -> Result<(), Fail> {
     let alloc = rt.alloc();
     let mut disk = MemDisk::new(alloc, Vec::new(alloc), Vec::new(alloc));
     let mut queues = Queues::new(alloc, 2, 2)?;
-    fill(alloc, &mut queues, &mut disk)?;
-    assert_eq!(rt;
-        (queues.head(0), queues.head(1), queues.resident()),
-        (Head::Empty, Head::Time(5), 0)
-    );
-    let taken = take(&mut queues, &mut disk)?;
-    assert_eq!(rt; taken, Some((5, Head::Time(7), 1, 0)));
-    let taken = take(&mut queues, &mut disk)?;
-    assert_eq!(rt; taken, Some((7, Head::Ended, 0, 0)));
+    let found = told(alloc, &mut queues, &mut disk);
+    let full = (Head::Empty, Head::Time(5), 0);
+    let taken = [Some((5, Head::Time(7), 1, 0)), Some((7, Head::Ended, 0, 0))];
+    assert!(rt; found.ok() == Some((full, taken)));
     Ok(())
 }
 
@@ -89,14 +110,28 @@ fn take_all<D: PageDisk>(queues: &mut Queues, disk: &mut D) -> Result<u64, Fail>
     Ok(next)
 }
 
+// How many items stand on arc 0 when all are sent, and how many pages are in memory; how many are taken, and the same after that.
+fn passed<D: PageDisk>(
+    alloc: Global,
+    queues: &mut Queues,
+    disk: &mut D,
+) -> Result<((u64, u32), (u64, u64, u32)), Fail>
+    requires size { size queues.old ≡ 1 }
+    requires open { (face queues.old 0).ended ≡ false }
+    requires together { Together queues.old (known (D.log disk.old)) }
+{
+    send_all(alloc, queues, disk)?;
+    let sent = (queues.len(0), queues.resident());
+    let taken = take_all(queues, disk)?;
+    Ok((sent, (taken, queues.len(0), queues.resident())))
+}
+
 #[test]
 fn items_in_front_and_in_pages_come_in_order(rt: HostRuntime) -> Result<(), Fail> {
     let alloc = rt.alloc();
     let mut disk = MemDisk::new(alloc, Vec::new(alloc), Vec::new(alloc));
     let mut queues = Queues::new(alloc, 1, 2)?;
-    send_all(alloc, &mut queues, &mut disk)?;
-    assert_eq!(rt; (queues.len(0), queues.resident()), (300, 1));
-    let taken = take_all(&mut queues, &mut disk)?;
-    assert_eq!(rt; (taken, queues.len(0), queues.resident()), (300, 0, 0));
+    let found = passed(alloc, &mut queues, &mut disk)?;
+    assert!(rt; found == ((300, 1), (300, 0, 0)));
     Ok(())
 }

@@ -24,7 +24,7 @@ fn each_rule_chooses_by_its_own(rt: HostRuntime) -> Result<(), Fail> {
     ready.push(2);
     ready.push(0);
     ready.push(1);
-    assert_eq!(rt; ready.len(), 3);
+    assert!(rt; ready.len() == 3);
     let waits = Vec::from_slice(alloc, &[4, 7, 7])?;
     let rows = [
         (Rule::RoundRobin, [2, 2, 2]),
@@ -52,7 +52,7 @@ fn ready_actors_stand_in_the_order_in_which_they_became_so(rt: HostRuntime) -> R
     assert!(rt; !ready.has(0) && ready.has(2) && !ready.has(4));
     ready.push(0);
     let actors = [ready.at(0), ready.at(1), ready.at(2)];
-    assert_eq!(rt; actors, [3, 2, 0]);
-    assert_eq!(rt; ready.len(), 3);
+    assert!(rt; actors == [3, 2, 0]);
+    assert!(rt; ready.len() == 3);
     Ok(())
 }
