@@ -17,8 +17,8 @@ box = [
 #[test]
 fn a_file_of_every_kind_of_box_is_read(rt: HostRuntime) -> Result<(), Fail> {
     let n = read_network(rt.alloc(), FILE.as_bytes())?;
-    assert_eq!(rt; (n.epoch, n.batch), (1000, 1));
-    assert_eq!(rt; n.boxes.as_slice().len(), 6);
-    assert_eq!(rt; n.wires.outputs.as_slice(), [2].as_slice());
+    assert!(rt; (n.epoch, n.batch) == (1000, 1));
+    assert!(rt; n.boxes.as_slice().len() == 6);
+    assert!(rt; n.wires.outputs.as_slice() == [2].as_slice());
     Ok(())
 }

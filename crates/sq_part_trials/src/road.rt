@@ -37,7 +37,7 @@ fn rows_take_the_steps_that_lose_least_for_their_gain(rt: HostRuntime) -> Result
     for (i, drop, k) in starts {
         assert!(rt; i < road.steps());
         let step = road.step(i);
-        assert_eq!(rt; (step.drop, step.k), (drop, k), "step {i}");
+        assert!(rt; (step.drop, step.k) == (drop, k), "step {i}");
     }
     let rows = [
         (2000, 15, 1000),
@@ -50,13 +50,10 @@ fn rows_take_the_steps_that_lose_least_for_their_gain(rt: HostRuntime) -> Result
         assert_eq!(rt; (row.taken, row.saved, row.fits), (taken, saved, true));
     }
     let row = road.row_for(3000, 2000);
-    assert_eq!(rt; row.loss, 104_756_652_000_000);
+    assert!(rt; row.loss == 104_756_652_000_000);
     assert!(rt; row.ratio == Frac::new(11_639_628_000_000, 100));
     assert!(rt; row.taken <= road.steps());
-    assert_eq!(rt;
-        (road.level(row.taken, 0), road.level(row.taken, 1)),
-        (250, 500)
-    );
+    assert!(rt; (road.level(row.taken, 0), road.level(row.taken, 1)) == (250, 500));
     Ok(())
 }
 
@@ -74,10 +71,10 @@ fn levels_are_those_set_and_0_elsewhere(rt: HostRuntime) -> Result<(), Fail> {
     let mut levels = Levels::new(alloc, 10);
     levels.set(1, vec![in alloc; 250, 500]?)?;
     levels.skip_to(4);
-    assert_eq!(rt; (levels.epoch(), levels.closed()), (10, 4));
+    assert!(rt; (levels.epoch(), levels.closed()) == (10, 4));
     for (e, w, level) in [(0, 7, 0), (1, 1, 500), (1, 2, 0), (3, 0, 0)] {
         assert!(rt; e < levels.closed());
-        assert_eq!(rt; levels.level(e, w), level, "epoch {e}");
+        assert!(rt; levels.level(e, w) == level, "epoch {e}");
     }
     Ok(())
 }

@@ -18,10 +18,7 @@ box = [
 #[test]
 fn a_file_of_every_kind_of_box_is_read(rt: HostRuntime) -> Result<(), Fail> {
     let raw = network_table_of(rt.alloc(), FILE.as_bytes())?;
-    assert_eq!(rt; (raw.epoch, raw.batch), (4, 1));
-    assert_eq!(rt;
-        (raw.sources.as_slice().len(), raw.boxes.as_slice().len()),
-        (1, 6)
-    );
+    assert!(rt; (raw.epoch, raw.batch) == (4, 1));
+    assert!(rt; (raw.sources.as_slice().len(), raw.boxes.as_slice().len()) == (1, 6));
     Ok(())
 }
