@@ -45,10 +45,13 @@ use Rattle.sq_drive.specs.Summaries.{summary_of}
 use Rattle.sq_drive.specs.Driving.{IsCutShort}
 use Rattle.sq_command.specs.declared.RunArgs.{RunArgs}
 use Rattle.sq_work.specs.Scripts.{AcceptedReplay, Script, Reads, Done, Stops, after_words, made_script, script_of}
+use Rattle.sq_work.specs.FolderStates.{FolderState}
 use Rattle.sq_work.specs.Reads.{GoesBy, IfAccepted, ScriptLeads, network_read}
-use Rattle.sq_pool.specs.Trust.{Tells}
+use Rattle.sq_pool.specs.Trust.{Tells, known}
 use Rattle.sq_drive.specs.Stopping.{StopHasCause}
-use Rattle.sq_top.specs.Causes.{BeginsSummary, BeginsText, Ends, IsEngineOf, IsPrefixOfDue, IsWholeOf, TellsFor, Outside, turns_for, verdict_text, work_for}
+use Rattle.sq_top.specs.Ends.{DiskFails, DoesAll, DoesNothing, DoesPart, Ends, IsEngineOf, KnowsDisk, OutputFails}
+use Rattle.sq_top.specs.Outside.{Outside}
+use Rattle.sq_top.specs.Texts.{BeginsSummary, BeginsText, IsPrefixOfDue, IsWholeOf, turns_for, verdict_text, work_for}
 use Rattle.sq_top.proofs.ReadsLemmas.{leads_self, left_holds}
 use Rattle.sq_work.proofs.StoppedLemmas.{memory_at, some_none, stopped_memory, stopped_rule}
 use Rattle.sq_top.proofs.StopLemmas.{refused_garbled, refused_stop, refused_unchanged}
@@ -285,29 +288,30 @@ accepted_map (Stops s) P P' Q f m = m
 accepted_map (Reads name limit more) P P' Q f m = m
 
 -- a beginning of the answer, and nothing where there is none
-abbrev Begun : List (List ℕ) → Outside → Status → Script → Type 0
-Begun words w s left = IfAccepted left
-    (λ r. TellsFor (command_in words) w.pages → AppendsSuch w.out_before w.out_now (IsPrefixOfDue (command_in words) r s) × (w.steps_now ≤ w.steps_before + work_for (command_in words) r))
-    ((w.out_now ≡ w.out_before) × (w.steps_now ≡ w.steps_before))
+abbrev Begun : List (List ℕ) → Outside → Outside → Status → Script → Type 0
+Begun words before after s left = IfAccepted left
+    (λ r. KnowsDisk (command_in words) after → DoesPart (command_in words) r s before after)
+    (DoesNothing before after)
 
 nothing_appended : (before now : Option (List ℕ)) (P : List ℕ → Type 0) → now ≡ before → P [] → AppendsSuch before now P
 nothing_appended before now P e p = subst (λ o. AppendsSuch before o P) (sym e) (appends_none before P p)
 
-pub begun_nothing : (words : List (List ℕ)) (w : Outside) (s : Status) (r : AcceptedReplay) → w.out_now ≡ w.out_before → w.steps_now ≡ w.steps_before → TellsClasses (due_of r)
-    → TellsFor (command_in words) w.pages → AppendsSuch w.out_before w.out_now (IsPrefixOfDue (command_in words) r s) × (w.steps_now ≤ w.steps_before + work_for (command_in words) r)
-begun_nothing words w s r out steps tells pages =
-    (nothing_appended w.out_before w.out_now (IsPrefixOfDue (command_in words) r s) out (no_due (command_in words) r s tells), omega (arith, steps))
+pub begun_nothing : (words : List (List ℕ)) (before after : Outside) (s : Status) (r : AcceptedReplay) → DoesNothing before after → TellsClasses (due_of r)
+    → KnowsDisk (command_in words) after → DoesPart (command_in words) r s before after
+begun_nothing words before after s r still tells known =
+    let steps = still.1 in
+    (nothing_appended before.output.written after.output.written (IsPrefixOfDue (command_in words) r s) still.0 (no_due (command_in words) r s tells), omega (arith, steps))
 
-nothing_written : (words : List (List ℕ)) (w : Outside) (s : Status) (read : List (List ℕ × List ℕ)) (left : Script) → GoesBy w.told read (script_of words) left
-    → w.out_now ≡ w.out_before → w.steps_now ≡ w.steps_before → Begun words w s left
-nothing_written words w s read left goes out steps = if_accepted left _ _
-    (λ r e. begun_nothing words w s r out steps (left_tells_classes w.told words read r (subst (GoesBy w.told read (script_of words)) e goes)))
-    (out, steps)
+nothing_written : (words : List (List ℕ)) (before after : Outside) (s : Status) (read : List (List ℕ × List ℕ)) (left : Script) → GoesBy before.folder.told read (script_of words) left
+    → DoesNothing before after → Begun words before after s left
+nothing_written words before after s read left goes still = if_accepted left _ _
+    (λ r e. begun_nothing words before after s r still (left_tells_classes before.folder.told words read r (subst (GoesBy before.folder.told read (script_of words)) e goes)))
+    still
 
-prefix_memory : (words : List (List ℕ)) (w : Outside) (s : Status) (left : Script) → s ≢ status.SinkFault → Begun words w s left → Begun words w status.Memory left
-prefix_memory words w s left other = accepted_map left _ _ _
+prefix_memory : (words : List (List ℕ)) (before after : Outside) (s : Status) (left : Script) → s ≢ status.SinkFault → Begun words before after s left → Begun words before after status.Memory left
+prefix_memory words before after s left other = accepted_map left _ _ _
     (λ r prefix pages. (
-      appends_map w.out_before w.out_now (IsPrefixOfDue (command_in words) r s) (IsPrefixOfDue (command_in words) r status.Memory) (due_memory (command_in words) r s other) (prefix pages).0,
+      appends_map before.output.written after.output.written (IsPrefixOfDue (command_in words) r s) (IsPrefixOfDue (command_in words) r status.Memory) (due_memory (command_in words) r s other) (prefix pages).0,
       (prefix pages).1,
     ))
 
@@ -331,25 +335,25 @@ not_hidden (status.BadTap e) is = absurd (cc)
 not_hidden s is = refl
 
 -- where all was accepted no refusal comes
-not_refused : (told : Option Files) (fb fn tb tn : ℕ) (s : Status) (left : Script) (r : AcceptedReplay) → (is_refusal s ≡ true) ⊎ (s ≡ status.Memory) → IsRefusedAt told fb fn tb tn s left → left ≡ Done r
+not_refused : (before after : FolderState) (s : Status) (left : Script) (r : AcceptedReplay) → (is_refusal s ≡ true) ⊎ (s ≡ status.Memory) → IsRefusedAt before after s left → left ≡ Done r
     → (s ≡ status.Ok) ⊎ (s ≡ status.Memory) ⊎ (is_garbled s ≡ true)
-not_refused told fb fn tb tn s left r (inl refused) why e =
-    let not : is_refusal s ≡ false = subst (IsRefusedAt told fb fn tb tn s) e why in
+not_refused before after s left r (inl refused) why e =
+    let not : is_refusal s ≡ false = subst (IsRefusedAt before after s) e why in
     let both : true ≡ false = sym refused ∙ not in absurd (cc)
-not_refused told fb fn tb tn s left r (inr memory) why e = inr (inl memory)
+not_refused before after s left r (inr memory) why e = inr (inl memory)
 
 -- a run that stops before anything is replayed
-pub stopped_ends : (words : List (List ℕ)) (w : Outside) (s : Status) (source : List ℕ) → IsStopped words w.told w.folder_before w.folder_now w.taken_before w.taken_now w.read_before w.read_now s source
-    → w.out_now ≡ w.out_before → w.steps_now ≡ w.steps_before → Ends words w s source
-stopped_ends words w s source h out steps = record {
+pub stopped_ends : (words : List (List ℕ)) (before after : Outside) (s : Status) (source : List ℕ) → IsStopped words before.folder after.folder s source
+    → DoesNothing before after → Ends words before after s source
+stopped_ends words before after s source h still = record {
   read = h.read;
   given = h.given;
   left = h.left;
   goes = h.goes;
   ok = λ e. absurd (not_ok s h.ends e);
-  other = λ e. nothing_written words w s h.read h.left h.goes out steps;
-  refused_early = λ e. (out, steps);
-  faulted = λ rose. (out, steps);
+  other = λ e. nothing_written words before after s h.read h.left h.goes still;
+  refused_early = λ e. still;
+  faulted = λ rose. still;
   usage = h.usage;
   refusal = h.refusal;
   no_memory = h.no_memory;
@@ -359,22 +363,19 @@ stopped_ends words w s source h out steps = record {
   sink = λ e. absurd (not_sink s h.ends e);
   too_much = λ e. absurd (not_much s h.ends e);
   complete = λ sound dry. if_accepted h.left _ _
-      (λ r e pages few. not_refused w.told w.folder_before w.folder_now w.taken_before w.taken_now s h.left r h.ends h.refusal e) tt;
+      (λ r e pages few. not_refused before.folder after.folder s h.left r h.ends h.refusal e) tt;
   named = h.named;
 }
 
-module _ (words : List (List ℕ)) (w : Outside) (r : AcceptedReplay) (source : List ℕ) (some : IsSome (command_in words))
-    (came : ScriptLeads w.told w.read_before w.read_now (script_of words) (Done r)) (faultless : w.folder_now ≡ w.folder_before) where
+module _ (words : List (List ℕ)) (before after : Outside) (r : AcceptedReplay) (source : List ℕ) (some : IsSome (command_in words))
+    (came : ScriptLeads before.folder after.folder (script_of words) (Done r)) (faultless : after.folder.faults ≡ before.folder.faults) where
   abbrev work : ℕ
   work = work_for (command_in words) r
 
   abbrev turns : ℕ
   turns = turns_for (command_in words) r
 
-  abbrev Told : Type 0
-  Told = TellsFor (command_in words) w.pages
-
-  pub answered_ok : (Told → AppendsSuch w.out_before w.out_now (IsWholeOf (command_in words) r) × (w.steps_now ≡ w.steps_before + work)) → Ends words w status.Ok source
+  pub answered_ok : (KnowsDisk (command_in words) after → DoesAll (command_in words) r before after) → Ends words before after status.Ok source
   answered_ok whole = record {
     read = came.0;
     given = came.2;
@@ -405,8 +406,8 @@ module _ (words : List (List ℕ)) (w : Outside) (r : AcceptedReplay) (source : 
   names_none s is = tt
 
   -- without a fault it is want of memory, or too much, or a page that came back garbled
-  ends_ok : (s : Status) → IsCutShort w.sink_before w.sink_now s → StopHasCause (λ e. e.network ≡ r.network) w.log_before w.log_now w.disk_before w.disk_now s
-      → (is_changed s ≡ true → is_garbled s ≡ true) → (s ≡ status.TooMuch → 2 ^ 62 ≤ turns) → ¬ (Rose w.disk_before w.disk_now) → ¬ (Rose w.sink_before w.sink_now) → turns < 2 ^ 62
+  ends_ok : (s : Status) → IsCutShort before.output.faults after.output.faults s → StopHasCause (λ e. e.network ≡ r.network) before.disk.log after.disk.log before.disk.faults after.disk.faults s
+      → (is_changed s ≡ true → is_garbled s ≡ true) → (s ≡ status.TooMuch → 2 ^ 62 ≤ turns) → ¬ (DiskFails before after) → ¬ (OutputFails before after) → turns < 2 ^ 62
       → (s ≡ status.Ok) ⊎ (s ≡ status.Memory) ⊎ (is_garbled s ≡ true)
   ends_ok status.Ok cut stop garbled much sound dry few = inl refl
   ends_ok status.Memory cut stop garbled much sound dry few = inr (inl refl)
@@ -419,9 +420,10 @@ module _ (words : List (List ℕ)) (w : Outside) (r : AcceptedReplay) (source : 
   ends_ok s cut stop garbled much sound dry few = let no = cut.begun in absurd (cc)
 
   -- the answer is cut short
-  pub answered_cut : (s : Status) → IsCutShort w.sink_before w.sink_now s → StopHasCause (λ e. e.network ≡ r.network) w.log_before w.log_now w.disk_before w.disk_now s
-      → (w.honest ≡ true → is_changed s ≡ false) → (Told → is_changed s ≡ true → is_garbled s ≡ true) → (Told → s ≡ status.TooMuch → 2 ^ 62 ≤ turns)
-      → (Told → AppendsSuch w.out_before w.out_now (IsPrefixOfDue (command_in words) r s) × (w.steps_now ≤ w.steps_before + work)) → Ends words w s source
+  pub answered_cut : (s : Status) → IsCutShort before.output.faults after.output.faults s → StopHasCause (λ e. e.network ≡ r.network) before.disk.log after.disk.log before.disk.faults after.disk.faults s
+      → (before.disk.log.honest ≡ true → is_changed s ≡ false) → (KnowsDisk (command_in words) after → is_changed s ≡ true → is_garbled s ≡ true)
+      → (KnowsDisk (command_in words) after → s ≡ status.TooMuch → 2 ^ 62 ≤ turns)
+      → (KnowsDisk (command_in words) after → DoesPart (command_in words) r s before after) → Ends words before after s source
   answered_cut s cut stop same garbled much first = record {
     read = came.0;
     given = came.2;
@@ -451,33 +453,33 @@ module _ (words : List (List ℕ)) (w : Outside) (r : AcceptedReplay) (source : 
     turns_are : turns_in (replayed r) ≡ turns
     turns_are = sym (ap (λ (runs : Bool). if runs then turns_in (replayed r) else 0) engine)
 
-    pub driven_ok : (Tells w.pages → AppendsSuch w.out_before w.out_now (IsWholeOf (command_in words) r) × (w.steps_now ≡ w.steps_before + work_in (replayed r)))
-        → Ends words w status.Ok source
+    pub driven_ok : (Tells (known after.disk.log) → AppendsSuch before.output.written after.output.written (IsWholeOf (command_in words) r) × (after.steps ≡ before.steps + work_in (replayed r)))
+        → Ends words before after status.Ok source
     driven_ok whole = answered_ok
-        (λ told. let all = whole (told engine) in (all.0, subst (λ k. w.steps_now ≡ w.steps_before + k) work_is all.1))
+        (λ told. let all = whole (told engine) in (all.0, subst (λ k. after.steps ≡ before.steps + k) work_is all.1))
 
-    pub driven_cut : (s : Status) → IsCutShort w.sink_before w.sink_now s → StopHasCause (λ e. e.network ≡ r.network) w.log_before w.log_now w.disk_before w.disk_now s
-        → (w.honest ≡ true → is_changed s ≡ false) → (Tells w.pages → is_changed s ≡ true → is_garbled s ≡ true) → (Tells w.pages → s ≡ status.TooMuch → 2 ^ 62 ≤ turns_in (replayed r))
-        → (Tells w.pages → AppendsSuch w.out_before w.out_now (IsPrefixOfDue (command_in words) r s) × (w.steps_now ≤ w.steps_before + work_in (replayed r)))
-        → Ends words w s source
+    pub driven_cut : (s : Status) → IsCutShort before.output.faults after.output.faults s → StopHasCause (λ e. e.network ≡ r.network) before.disk.log after.disk.log before.disk.faults after.disk.faults s
+        → (before.disk.log.honest ≡ true → is_changed s ≡ false) → (Tells (known after.disk.log) → is_changed s ≡ true → is_garbled s ≡ true) → (Tells (known after.disk.log) → s ≡ status.TooMuch → 2 ^ 62 ≤ turns_in (replayed r))
+        → (Tells (known after.disk.log) → AppendsSuch before.output.written after.output.written (IsPrefixOfDue (command_in words) r s) × (after.steps ≤ before.steps + work_in (replayed r)))
+        → Ends words before after s source
     driven_cut s cut stop same garbled much first = answered_cut s cut stop same (λ told. garbled (told engine))
         (λ told is. subst (λ k. 2 ^ 62 ≤ k) turns_are (much (told engine) is))
-        (λ told. let part = first (told engine) in (part.0, subst (λ k. w.steps_now ≤ w.steps_before + k) work_is part.1))
+        (λ told. let part = first (told engine) in (part.0, subst (λ k. after.steps ≤ before.steps + k) work_is part.1))
 
 -- any end but Ok and that of the sink may be one for want of memory
-pub memory_ends : (words : List (List ℕ)) (w : Outside) (s : Status) (source other : List ℕ) → s ≢ status.Ok → s ≢ status.SinkFault → Ends words w s source
-    → Ends words w status.Memory other
-memory_ends words w s source other differs dry' h = record {
+pub memory_ends : (words : List (List ℕ)) (before after : Outside) (s : Status) (source other : List ℕ) → s ≢ status.Ok → s ≢ status.SinkFault → Ends words before after s source
+    → Ends words before after status.Memory other
+memory_ends words before after s source other differs dry' h = record {
   read = h.read;
   given = h.given;
   left = h.left;
   goes = h.goes;
   ok = λ e. absurd (cc);
-  other = λ e. prefix_memory words w s h.left dry' (h.other differs);
+  other = λ e. prefix_memory words before after s h.left dry' (h.other differs);
   refused_early = λ e. absurd (cc);
   faulted = h.faulted;
   usage = record { only = λ e. absurd (cc); when = λ e. inr refl };
-  refusal = memory_at w.told w.folder_before w.folder_now w.taken_before w.taken_now h.left;
+  refusal = memory_at before.folder after.folder h.left;
   no_memory = refl;
   stopped = tt;
   unchanged = λ is-honest. refl;
@@ -489,29 +491,28 @@ memory_ends words w s source other differs dry' h = record {
 }
 
 -- an end that is told stays, or is one for want of memory
-pub told_ends : (words : List (List ℕ)) (w : Outside) (s told : Status) (source : List ℕ) → s ≢ status.Ok → (told ≡ s) ⊎ ((told ≡ status.Memory) × (s ≢ status.SinkFault))
-    → Ends words w s source → Ends words w told source
-told_ends words w s told source differs (inl same) h = subst (λ x. Ends words w x source) (sym same) h
-told_ends words w s told source differs (inr memory) h = subst (λ x. Ends words w x source) (sym memory.0) (memory_ends words w s source source differs memory.1 h)
+pub told_ends : (words : List (List ℕ)) (before after : Outside) (s told : Status) (source : List ℕ) → s ≢ status.Ok → (told ≡ s) ⊎ ((told ≡ status.Memory) × (s ≢ status.SinkFault))
+    → Ends words before after s source → Ends words before after told source
+told_ends words before after s told source differs (inl same) h = subst (λ x. Ends words before after x source) (sym same) h
+told_ends words before after s told source differs (inr memory) h = subst (λ x. Ends words before after x source) (sym memory.0) (memory_ends words before after s source source differs memory.1 h)
 
 -- what is made comes to what it is said to, and reads no file
-module _ (words : List (List ℕ)) (number rows : ℕ) (asked : command_in words ≡ Some (command.Gen number rows)) (told : Option Files) where
+module _ (words : List (List ℕ)) (number rows : ℕ) (asked : command_in words ≡ Some (command.Gen number rows)) where
   script_made : (x : Script) → made_script number (made_of number rows) ≡ x → script_of words ≡ x
   script_made x e = ap after_words asked ∙ e
 
   pub is_made : IsSome (command_in words)
   is_made = rw asked refl
 
-  pub accepted_made : (reads : List (List ℕ × List ℕ)) (r : AcceptedReplay) → made_script number (made_of number rows) ≡ Done r → ScriptLeads told reads reads (script_of words) (Done r)
-  accepted_made reads r e = ([], script_made (Done r) e, none_given reads reads refl)
+  pub accepted_made : (folder : FolderState) (r : AcceptedReplay) → made_script number (made_of number rows) ≡ Done r → ScriptLeads folder folder (script_of words) (Done r)
+  accepted_made folder r e = ([], script_made (Done r) e, none_given folder.read folder.read refl)
 
-  pub stopped_made : (fb fn tb tn : ℕ) (reads : List (List ℕ × List ℕ)) (s : Status) (source : List ℕ) → HasBadMade number rows s source
-      → IsStopped words told fb fn tb tn reads reads s source
-  stopped_made fb fn tb tn reads s source (inl memory) =
-      subst (λ x. IsStopped words told fb fn tb tn reads reads x source) (sym memory)
-      (stopped_memory words told fb fn tb tn reads reads source (script_of words) (leads_self told reads (script_of words)))
-  stopped_made fb fn tb tn reads s source (inr (rule, comes, named)) =
-      stopped_rule words told fb fn tb tn reads reads source s rule is_made ([], script_made (Stops s) comes, none_given reads reads refl) (names s named)
+  pub stopped_made : (folder : FolderState) (s : Status) (source : List ℕ) → HasBadMade number rows s source → IsStopped words folder folder s source
+  stopped_made folder s source (inl memory) =
+      subst (λ x. IsStopped words folder folder x source) (sym memory)
+      (stopped_memory words folder folder source (script_of words) (leads_self folder (script_of words)))
+  stopped_made folder s source (inr (rule, comes, named)) =
+      stopped_rule words folder folder source s rule is_made ([], script_made (Stops s) comes, none_given folder.read folder.read refl) (names s named)
     where
       names : (s : Status) → NamesMade number rows s source → NamesSource words [] s source
       names (status.BadStream at line why) e = e ∙ sym (ap (λ c. name_at at (network_read c [])) asked)

@@ -26,6 +26,7 @@ use Rattle.sq_status.specs.declared.Status.TheVariants as status
 use Rattle.sq_command.specs.Commands.{command_in, reads_folder, runs_engine}
 use Rattle.sq_work.specs.Taps.{Tapped, first_tick, tapped}
 use Rattle.sq_work.specs.Scripts.{AcceptedReplay, Script, Reads, Done, Stops, after_capacities, after_network, after_picks, after_stream, after_query, after_streams, after_tap, after_tapped, after_words, audit_script, capacities_script, followed_by, made_limits, made_sources, made_streams, made_unread, picks_script, plain_args, run_script, script_of, tap_script, tap_unread, text_script, unread, with_sources}
+use Rattle.sq_work.specs.FolderStates.{FolderState}
 use Rattle.sq_work.specs.Reads.{GoesBy, ScriptLeads}
 use Rattle.sq_work.proofs.JoinLemmas.{tapped_sound}
 use Rattle.std.proofs.lemmas.Bool.{or_right, or_left}
@@ -34,8 +35,8 @@ use Rattle.sq_status.specs.StatusKinds.{is_plain_end}
 use Rattle.sq_work.specs.FileParts.{is_named_file, FilePart, limit_of, may_be, NetworkFile, CapacityFile, PicksFile, StreamFile, TextFile}
 use Rattle.sq_work.proofs.ReadsLemmas.{none_given}
 
-pub leads_self : (told : Option Files) (before : List (List ℕ × List ℕ)) (s : Script) → ScriptLeads told before before s s
-leads_self told before s = ([], refl, none_given before before refl)
+pub leads_self : (folder : FolderState) (s : Script) → ScriptLeads folder folder s s
+leads_self folder s = ([], refl, none_given folder.read folder.read refl)
 
 -- P of what is accepted in the end, Q of each rule and R of each file, whatever is read
 abbrev pub Holds : (AcceptedReplay → Type 0) → (Status → Type 0) → (List ℕ → ℕ → Type 0) → Script → Type 0

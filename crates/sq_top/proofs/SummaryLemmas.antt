@@ -9,7 +9,7 @@ use Rattle.sq_core.specs.Runs.{fed_at, late_at_seat}
 use Rattle.sq_status.specs.declared.Status.{Status}
 use Rattle.sq_status.specs.declared.Status.TheVariants as status
 use Rattle.sq_drive.specs.declared.counting.Counts.{Counts}
-use Rattle.sq_top.specs.Causes.{BeginsSummary, BeginsText}
+use Rattle.sq_top.specs.Texts.{BeginsSummary, BeginsText}
 use Rattle.sq_drive.specs.Counting.{IsSummed, engine_summary}
 use Rattle.sq_points.specs.Points.{drops_in}
 use Rattle.sq_drive.specs.Due.{answer_in, fed_in, late_counts}

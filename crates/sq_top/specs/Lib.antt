@@ -1,3 +1,5 @@
 pub mod Parts
 pub mod ToldFolders
-pub mod Causes
+pub mod Outside
+pub mod Texts
+pub mod Ends

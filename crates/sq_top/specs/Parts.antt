@@ -43,4 +43,5 @@ pub record ShowsRead (read : List (List ℕ × List ℕ)) (name : List ℕ) (fro
 abbrev pub TapsShowParts : Type 0
 TapsShowParts =
     (words : List (List ℕ)) (net name : List ℕ) (tick history : ℕ) (query : List ℕ) (told : Option Files) (read : List (List ℕ × List ℕ)) (r : AcceptedReplay)
-    → command_in words ≡ Some (command.Tap net name tick history query) → GoesBy told read (script_of words) (Done r) → ShowsRead read name (first_tick tick history) r
+    → command_in words ≡ Some (command.Tap net name tick history query) → GoesBy told read (script_of words) (Done r)
+    → ShowsRead read name (first_tick tick history) r

@@ -3,7 +3,7 @@ use Rattle.std.specs.Prelude.{◌≡◌, ◌≢◌, ◌⊎◌, ℕ, ◌+◌, ◌
 use Rattle.std.specs.Option.{option_and_then}
 use Rattle.std.specs.FinMap as map
 use Rattle.sq_words.specs.Lists.{contains_bytes}
-use Rattle.sq_outside.specs.Faults.{Rose, RoseBy}
+use Rattle.sq_outside.specs.Faults.{RoseBy}
 use Rattle.sq_outside.specs.Folders.{Files, file}
 use Rattle.sq_net.specs.declared.Network.{Network}
 use Rattle.sq_reader.specs.Networks.{network_in}
@@ -16,17 +16,18 @@ use Rattle.sq_command.specs.Commands.{command_in}
 use Rattle.sq_work.specs.Scripts.{Lookup, AcceptedReplay, accepted, file_reads, script_of}
 use Rattle.sq_status.specs.Messages.{name_at, network_if_ok}
 use Rattle.sq_drive.specs.Stopping.{StopHasCause}
-use Rattle.sq_top.specs.Causes.{IsPrefixOfDue, IsWholeOf, TellsFor, Outside, turns_for, work_for}
-use Rattle.sq_outside.specs.Sinks.{AppendsSuch}
+use Rattle.sq_top.specs.Ends.{DiskFails, DoesAll, DoesNothing, DoesPart, FolderFails, KnowsDisk, OutputFails}
+use Rattle.sq_top.specs.Outside.{Outside}
+use Rattle.sq_top.specs.Texts.{turns_for}
 use Rattle.sq_status.specs.StatusKinds.{is_refusal, is_garbled}
 use Rattle.sq_work.specs.FileParts.{FilePart, limit_of, may_be}
 
 -- over every folder: it is at fault only where its count rose, or where it tells its files; a file is too long only where more was
 -- taken than a file of its part may have
-pub record FolderHasCause (words : List (List ℕ)) (told : Option Files) (faults_before faults_now taken_before taken_now : ℕ) (result : Status) : Type 0 where
-  pub failed : (name : List ℕ) → result ≡ status.FolderFault name → Rose faults_before faults_now ⊎ IsSome told
+pub record FolderHasCause (words : List (List ℕ)) (before after : Outside) (result : Status) : Type 0 where
+  pub failed : (name : List ℕ) → result ≡ status.FolderFault name → FolderFails before after ⊎ IsSome before.folder.told
   pub too_long : (name : List ℕ) → result ≡ status.TooLong name →
-      (p : FilePart) × (may_be (command_in words) p name ≡ true) × RoseBy (limit_of p + 1) taken_before taken_now
+      (p : FilePart) × (may_be (command_in words) p name ≡ true) × RoseBy (limit_of p + 1) before.folder.taken after.folder.taken
 
 abbrev pub no_files : Files
 no_files = map.empty
@@ -45,16 +46,16 @@ MatchAccepted (Ok r) P Q = P r
 MatchAccepted (Err s) P Q = Q s
 
 -- the folder has failed at a file
-abbrev pub HasFailedAt : ℕ → ℕ → Status → Type 0
-HasFailedAt faults_before faults_now result = (name : List ℕ) × (result ≡ status.FolderFault name) × Rose faults_before faults_now
+abbrev pub HasFailedAt : Outside → Outside → Status → Type 0
+HasFailedAt before after result = (name : List ℕ) × (result ≡ status.FolderFault name) × FolderFails before after
 
 -- a refusal is that of the first broken rule, or the folder has failed at a file that was to be read; a broken rule is refused
-pub record RefusalHasCause (files : Files) (words : List (List ℕ)) (faults_before faults_now : ℕ) (result : Status) : Type 0 where
+pub record RefusalHasCause (files : Files) (words : List (List ℕ)) (before after : Outside) (result : Status) : Type 0 where
   pub only : is_refusal result ≡ true → MatchAccepted (accepted (file files) words)
-      (λ r. HasFailedAt faults_before faults_now result)
-      (λ s. (result ≡ s) ⊎ HasFailedAt faults_before faults_now result)
+      (λ r. HasFailedAt before after result)
+      (λ s. (result ≡ s) ⊎ HasFailedAt before after result)
   pub when : MatchAccepted (accepted (file files) words) (λ r. ⊤)
-      (λ s. (result ≡ s) ⊎ (result ≡ status.Memory) ⊎ Rose faults_before faults_now)
+      (λ s. (result ≡ s) ⊎ (result ≡ status.Memory) ⊎ FolderFails before after)
   pub reached : (name : List ℕ) → result ≡ status.FolderFault name → contains_bytes name (file_reads (file files) (script_of words)) ≡ true
 
 -- the network that the words and the files lead to, where there is one
@@ -70,17 +71,19 @@ abbrev pub NamesTold : Files → List (List ℕ) → Status → List ℕ → Typ
 NamesTold files words (status.BadStream number line why) source = source ≡ name_at number (network_named (file files) (command_in words))
 NamesTold files words result source = ⊤
 
--- how a run ends over these files, by what words and files come to
-pub record EndsOver (files : Files) (words : List (List ℕ)) (w : Outside) (result : Status) (source : List ℕ) : Type 0 where
-  pub ok : result ≡ status.Ok → MatchAccepted (accepted (file files) words)
-      (λ r. TellsFor (command_in words) w.pages → AppendsSuch w.out_before w.out_now (IsWholeOf (command_in words) r) × (w.steps_now ≡ w.steps_before + work_for (command_in words) r))
-      (λ s. ⊥)
+-- how a call ends over these files, by what words and files come to
+pub record EndsOver (files : Files) (words : List (List ℕ)) (before after : Outside) (result : Status) (source : List ℕ) : Type 0 where
+  pub ok : result ≡ status.Ok
+      → MatchAccepted (accepted (file files) words) (λ r. KnowsDisk (command_in words) after → DoesAll (command_in words) r before after) (λ s. ⊥)
   pub other : result ≢ status.Ok → MatchAccepted (accepted (file files) words)
-      (λ r. TellsFor (command_in words) w.pages → AppendsSuch w.out_before w.out_now (IsPrefixOfDue (command_in words) r result) × (w.steps_now ≤ w.steps_before + work_for (command_in words) r))
-      (λ s. (w.out_now ≡ w.out_before) × (w.steps_now ≡ w.steps_before))
-  pub refusal : RefusalHasCause files words w.folder_before w.folder_now result
-  pub stopped : StopHasCause (λ engine. MatchAccepted (accepted (file files) words) (λ r. engine.network ≡ r.network) (λ s. ⊥)) w.log_before w.log_now w.disk_before w.disk_now result
-  pub too_much : result ≡ status.TooMuch → MatchAccepted (accepted (file files) words) (λ r. TellsFor (command_in words) w.pages → 2 ^ 62 ≤ turns_for (command_in words) r) (λ s. ⊥)
-  pub complete : ¬ (Rose w.folder_before w.folder_now) → ¬ (Rose w.disk_before w.disk_now) → ¬ (Rose w.sink_before w.sink_now)
-      → MatchAccepted (accepted (file files) words) (λ r. TellsFor (command_in words) w.pages → turns_for (command_in words) r < 2 ^ 62 → (result ≡ status.Ok) ⊎ (result ≡ status.Memory) ⊎ (is_garbled result ≡ true)) (λ s. ⊤)
+      (λ r. KnowsDisk (command_in words) after → DoesPart (command_in words) r result before after) (λ s. DoesNothing before after)
+  pub refusal : RefusalHasCause files words before after result
+  pub stopped : StopHasCause (λ engine. MatchAccepted (accepted (file files) words) (λ r. engine.network ≡ r.network) (λ s. ⊥))
+      before.disk.log after.disk.log before.disk.faults after.disk.faults result
+  pub too_much : result ≡ status.TooMuch
+      → MatchAccepted (accepted (file files) words) (λ r. KnowsDisk (command_in words) after → 2 ^ 62 ≤ turns_for (command_in words) r) (λ s. ⊥)
+  pub complete : ¬ (FolderFails before after) → ¬ (DiskFails before after) → ¬ (OutputFails before after)
+      → MatchAccepted (accepted (file files) words)
+      (λ r. KnowsDisk (command_in words) after → turns_for (command_in words) r < 2 ^ 62
+      → (result ≡ status.Ok) ⊎ (result ≡ status.Memory) ⊎ (is_garbled result ≡ true)) (λ s. ⊤)
   pub named : NamesTold files words result source

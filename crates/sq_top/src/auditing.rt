@@ -1,6 +1,5 @@
 // An audit: what it reads, and the line that it writes.
-ghost use Rattle.std.specs.Prelude.{◌≡◌, ◌≢◌, ℕ, ◌≤◌, Bool, true, IfErr, IfOk, List, OnErr, OnOk, Option, Some, map};
-ghost use Rattle.sq_outside.specs.Disks.{DiskLog, Pages};
+ghost use Rattle.std.specs.Prelude.{◌≡◌, ◌≢◌, ℕ, ◌≤◌, true, IfErr, IfOk, List, OnErr, OnOk, Some, map};
 ghost use Rattle.sq_outside.specs.Sinks.{AppendsPrefix, appended};
 ghost use Rattle.sq_net.specs.SoundNetworks.{IsSound};
 ghost use Rattle.sq_points.specs.Limits.{KeepsDropLimits};
@@ -8,7 +7,10 @@ ghost use Rattle.sq_command.specs.declared.Command.TheVariants as Command;
 ghost use Rattle.sq_command.specs.Commands.{command_in};
 ghost use Rattle.sq_work.specs.Scripts.{Done, plain_args, script_of, with_text};
 ghost use Rattle.sq_work.specs.Reads.{ScriptLeads};
-ghost use Rattle.sq_top.specs.Causes.{Ends, verdict_text};
+ghost use Rattle.sq_top.specs.Ends.{Ends};
+ghost use Rattle.sq_work.specs.FolderStates.{folder_state};
+ghost use Rattle.sq_top.specs.Outside.{DiskState, SinkState, outside, sink_state};
+ghost use Rattle.sq_top.specs.Texts.{verdict_text};
 ghost use Rattle.sq_work.specs.AcceptedViews.{replay_of};
 ghost use Rattle.sq_work.specs.SourceFiles.{AreRecorded};
 ghost use Rattle.sq_drive.specs.Writing.{IsLost};
@@ -57,9 +59,9 @@ fn prepare_audit<F: Folder>(
     ensures limits { IfOk result (λ a. KeepsDropLimits a.0.network) }
     ensures recorded { IfOk result (λ a. AreRecorded a.0.network.sources (map (λ xs. xs.items) a.0.sources.items)) }
     ensures accepted { IfOk result (λ a. (words : List (List ℕ)) → command_in words ≡ Some (Command.Audit net text.now)
-        → ScriptLeads (F.files folder.old) (F.read folder.old) (F.read folder.new) (script_of words) (Done (with_text (replay_of a.0) a.1.items))) }
+        → ScriptLeads (folder_state F.Folder folder.old) (folder_state F.Folder folder.new) (script_of words) (Done (with_text (replay_of a.0) a.1.items))) }
     ensures stopped { IfErr result (λ s. (words : List (List ℕ)) → command_in words ≡ Some (Command.Audit net text.now)
-        → IsStopped words (F.files folder.old) (F.faults folder.old) (F.faults folder.new) (F.taken folder.old) (F.taken folder.new) (F.read folder.old) (F.read folder.new) s.status (source_told s.source)) }
+        → IsStopped words (folder_state F.Folder folder.old) (folder_state F.Folder folder.new) s.status (source_told s.source)) }
     ensures files { F.files folder.new ≡ F.files folder.old }
     ensures no_fault { OnOk result (F.faults folder.new ≡ F.faults folder.old) }
     ensures later { (F.faults folder.old ≤ F.faults folder.new) × (F.taken folder.old ≤ F.taken folder.new) }
@@ -139,27 +141,10 @@ pub(crate) fn audit_files<F: Folder, S: Sink>(
     out: &mut S,
 ) -> Stopped
     requires { may_name net ≡ true }
-    ensures ends { (words : List (List ℕ)) (pages : Option Pages) (honest : Bool) (log : DiskLog) (disk steps : ℕ) → command_in words ≡ Some (Command.Audit net text.now) → Ends words (record {
-      told = F.files folder.old;
-      folder_before = F.faults folder.old;
-      folder_now = F.faults folder.new;
-      taken_before = F.taken folder.old;
-      taken_now = F.taken folder.new;
-      read_before = F.read folder.old;
-      read_now = F.read folder.new;
-      pages = pages;
-      honest = honest;
-      log_before = log;
-      log_now = log;
-      disk_before = disk;
-      disk_now = disk;
-      out_before = S.written out.old;
-      out_now = S.written out.new;
-      sink_before = S.faults out.old;
-      sink_now = S.faults out.new;
-      steps_before = steps;
-      steps_now = steps;
-    })
+    ensures ends { (words : List (List ℕ)) (disk : DiskState) (messages messages' : SinkState) (steps : ℕ)
+        → command_in words ≡ Some (Command.Audit net text.now) → Ends words
+        (outside (folder_state F.Folder folder.old) disk (sink_state S.Sink out.old) messages steps)
+        (outside (folder_state F.Folder folder.new) disk (sink_state S.Sink out.new) messages' steps)
         result.status (source_told result.source) }
     ensures plain { (words : List (List ℕ)) → command_in words ≡ Some (Command.Audit net text.now) → is_plain_end result.status ≡ true }
     ensures files { F.files folder.new ≡ F.files folder.old }

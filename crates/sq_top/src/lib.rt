@@ -12,16 +12,11 @@
 //! `sq_drive` for a run on its way, `sq_audit` for verdicts, and `sq_outside` for the objects.
 #![tactic(auto)]
 
-ghost use Rattle.std.specs.Prelude.{◌≡◌, ◌≢◌, ◌≤◌, List, ℕ, false, map, true};
+ghost use Rattle.std.specs.Prelude.{map};
 ghost use Rattle.std.specs.String.{string_bytes};
-ghost use Rattle.sq_outside.specs.Faults.{Rose};
-ghost use Rattle.sq_pool.specs.Trust.{IsLater, known};
-ghost use Rattle.sq_top.specs.Causes.{Ends};
-ghost use Rattle.sq_command.specs.Commands.{command_in, reads_folder, runs_engine};
-ghost use Rattle.sq_status.specs.Messages.{TellsStatus};
-ghost use Rattle.sq_outside.specs.Sinks.{AppendsSuch};
-ghost use Rattle.sq_status.specs.StatusKinds.{is_refusal, is_plain_end, hides_memory, is_changed};
-ghost use Rattle.sq_work.specs.Refusals.{UsageHasCause};
+ghost use Rattle.sq_top.specs.Ends.{CallEnds};
+ghost use Rattle.sq_work.specs.FolderStates.{folder_state};
+ghost use Rattle.sq_top.specs.Outside.{disk_state, outside, sink_state};
 
 mod auditing;
 mod laws;
@@ -46,54 +41,13 @@ pub fn run_words<F: Folder, D: PageDisk, S: Sink, E: Sink, L: Ledger>(
     err: &mut E,
     steps: &mut Steps<L>,
 ) -> Status
-    // By the names and the bytes of the files that the folder's reads gave in this run, in order and no others, which are those of its
-    // files where it tells them, the run came to what is left of the script of its words: all was accepted, a rule is broken, or a file
-    // isn't read. By that it ends, and tells its status. What it wrote and its steps are as due where the disk is honest, or no page came
-    // back changed with the digest of what was put.
-    ensures ends { (source : List ℕ) × Ends (map string_bytes words.now.items) (record {
-      told = F.files folder.old;
-      folder_before = F.faults folder.old;
-      folder_now = F.faults folder.new;
-      taken_before = F.taken folder.old;
-      taken_now = F.taken folder.new;
-      read_before = F.read folder.old;
-      read_now = F.read folder.new;
-      pages = known (D.log disk.new);
-      honest = (D.log disk.old).honest;
-      log_before = D.log disk.old;
-      log_now = D.log disk.new;
-      disk_before = D.faults disk.old;
-      disk_now = D.faults disk.new;
-      out_before = S.written out.old;
-      out_now = S.written out.new;
-      sink_before = S.faults out.old;
-      sink_now = S.faults out.new;
-      steps_before = steps.old;
-      steps_now = steps.new;
-    })
-        result source
-        × AppendsSuch (E.written err.old) (E.written err.new) (TellsStatus source (E.faults err.old) (E.faults err.new) result) }
-
-    // Of that, what needs no file: a refusal writes nothing and takes no step; the words; the disk, which changes no page if it is
-    // honest; the output.
-    ensures refused_early { is_refusal result ≡ true → (S.written out.new ≡ S.written out.old) × (steps.new ≡ steps.old) }
-    ensures usage { UsageHasCause (map string_bytes words.now.items) result }
-    ensures no_memory { hides_memory result ≡ false }
-    ensures unchanged { (D.log disk.old).honest ≡ true → is_changed result ≡ false }
-    ensures sink { result ≡ Status.SinkFault → Rose (S.faults out.old) (S.faults out.new) }
-
-    // The files stay, and so does what the disk promises; it is known at the end only where it was before. A refusal doesn't call the
-    // disk, nor do words call the folder that don't ask for a network's files. Words that ask for no engine don't call the disk and
-    // take no step, and no status of an engine, of capacities, of picks or of a query comes. No count falls.
-    ensures same_files { F.files folder.new ≡ F.files folder.old }
-    ensures unread { reads_folder (command_in (map string_bytes words.now.items)) ≡ false → (F.faults folder.new ≡ F.faults folder.old)
-        × (F.taken folder.new ≡ F.taken folder.old) × (F.read folder.new ≡ F.read folder.old) }
-    ensures same_disk { is_refusal result ≡ true → (D.log disk.new ≡ D.log disk.old) × (D.faults disk.new ≡ D.faults disk.old) }
-    ensures no_engine { runs_engine (command_in (map string_bytes words.now.items)) ≡ false → (is_plain_end result ≡ true)
-        × (D.log disk.new ≡ D.log disk.old) × (D.faults disk.new ≡ D.faults disk.old) × (steps.new ≡ steps.old) }
-    ensures later { IsLater (D.log disk.old) (D.log disk.new) }
-    ensures counts { (F.faults folder.old ≤ F.faults folder.new) × (F.taken folder.old ≤ F.taken folder.new)
-        × (D.faults disk.old ≤ D.faults disk.new) × (S.faults out.old ≤ S.faults out.new) × (E.faults err.old ≤ E.faults err.new) }
+    // What stands outside before the call and after it: the folder, the disk, the output, the messages and the steps. By the names and the
+    // bytes that the folder's reads gave in this call the script of the words came to what is left of it, and by that the call ends, tells
+    // its status, and leaves the rest as it was.
+    ensures ends { CallEnds (map string_bytes words.now.items)
+        (outside (folder_state F.Folder folder.old) (disk_state D.PageDisk disk.old) (sink_state S.Sink out.old) (sink_state E.Sink err.old) steps.old)
+        (outside (folder_state F.Folder folder.new) (disk_state D.PageDisk disk.new) (sink_state S.Sink out.new) (sink_state E.Sink err.new) steps.new)
+        result }
 {
     let stopped = run(alloc, words, folder, disk, out, steps);
     if let Status::Ok = stopped.status {

@@ -2,7 +2,6 @@
 ghost use Rattle.std.specs.Prelude.{◌≡◌, ◌≢◌, ◌⊎◌, ℕ, ◌+◌, ◌^◌, ◌<◌, ◌≤◌, [], IfErr, IfOk, List, OnErr, OnOk, Option, Some, false, length, map, true};
 ghost use Rattle.std.specs.String.{string_bytes};
 ghost use Rattle.sq_outside.specs.Faults.{Rose};
-ghost use Rattle.sq_outside.specs.Folders.{Files};
 ghost use Rattle.sq_words.specs.Lists.{IsPrefixOf};
 ghost use Rattle.sq_net.specs.SoundNetworks.{IsSound};
 ghost use Rattle.sq_points.specs.Limits.{KeepsDropLimits};
@@ -11,7 +10,10 @@ ghost use Rattle.sq_pool.specs.Trust.{IsLater, Tells, known};
 ghost use Rattle.sq_core.specs.Runs.{IsRun, IsSoundEngine};
 ghost use Rattle.sq_drive.specs.Answers.{IsPrefixText, IsWholeText};
 ghost use Rattle.sq_command.specs.Commands.{command_in, reads_folder, runs_engine};
-ghost use Rattle.sq_top.specs.Causes.{BeginsSummary, Ends};
+ghost use Rattle.sq_top.specs.Ends.{Ends};
+ghost use Rattle.sq_work.specs.FolderStates.{FolderState, folder_state};
+ghost use Rattle.sq_top.specs.Outside.{SinkState, disk_state, outside, sink_state};
+ghost use Rattle.sq_top.specs.Texts.{BeginsSummary};
 ghost use Rattle.sq_drive.specs.Summaries.{summary_of};
 ghost use Rattle.sq_drive.specs.Stopping.{StopHasCause};
 ghost use Rattle.sq_drive.specs.Driving.{IsCutShort};
@@ -77,12 +79,15 @@ fn replay<D: PageDisk, S: Sink, L: Ledger>(
     requires train { 1 ≤ accepted.train }
     requires frames { 2 ≤ accepted.frames }
     requires first { accepted.first ≤ length accepted.network.boxes }
-    ensures ok { OnOk result (Tells (known (D.log disk.new)) → AppendsSuch (S.written out.old) (S.written out.new) (IsWholeText (due_of (replay_of accepted)))) }
-    ensures err { OnErr result (Tells (known (D.log disk.new)) → AppendsSuch (S.written out.old) (S.written out.new) (IsPrefixText (due_of (replay_of accepted)))) }
+    ensures ok { OnOk result (Tells (known (D.log disk.new))
+        → AppendsSuch (S.written out.old) (S.written out.new) (IsWholeText (due_of (replay_of accepted)))) }
+    ensures err { OnErr result (Tells (known (D.log disk.new))
+        → AppendsSuch (S.written out.old) (S.written out.new) (IsPrefixText (due_of (replay_of accepted)))) }
     ensures steps { OnOk result (Tells (known (D.log disk.new)) → steps.new ≡ steps.old + work_in (replayed (replay_of accepted))) }
     ensures fewer { OnErr result (Tells (known (D.log disk.new)) → steps.new ≤ steps.old + work_in (replayed (replay_of accepted))) }
     ensures cut { IfErr result (IsCutShort (S.faults out.old) (S.faults out.new)) }
-    ensures stopped { IfErr result (StopHasCause (λ e. e.network ≡ accepted.network) (D.log disk.old) (D.log disk.new) (D.faults disk.old) (D.faults disk.new)) }
+    ensures stopped { IfErr result (StopHasCause (λ e. e.network ≡ accepted.network)
+        (D.log disk.old) (D.log disk.new) (D.faults disk.old) (D.faults disk.new)) }
     ensures unchanged { IfErr result (λ s. (D.log disk.old).honest ≡ true → is_changed s ≡ false) }
     ensures garbled { IfErr result (λ s. Tells (known (D.log disk.new)) → is_changed s ≡ true → is_garbled s ≡ true) }
     ensures too_much { IfErr result (λ s. Tells (known (D.log disk.new)) → s ≡ Status.TooMuch → 2 ^ 62 ≤ turns_in (replayed (replay_of accepted))) }
@@ -115,12 +120,15 @@ fn sum_up<D: PageDisk, S: Sink, L: Ledger>(
     requires recorded { AreRecorded accepted.network.sources (map (λ xs. xs.items) accepted.sources.items) }
     requires train { 1 ≤ accepted.train }
     requires frames { 2 ≤ accepted.frames }
-    ensures ok { OnOk result (Tells (known (D.log disk.new)) → AppendsSuch (S.written out.old) (S.written out.new) (λ text. text ≡ summary_of number rows (replayed (replay_of accepted)))) }
-    ensures err { IfErr result (λ s. Tells (known (D.log disk.new)) → AppendsSuch (S.written out.old) (S.written out.new) (BeginsSummary number rows (replayed (replay_of accepted)) s)) }
+    ensures ok { OnOk result (Tells (known (D.log disk.new))
+        → AppendsSuch (S.written out.old) (S.written out.new) (λ text. text ≡ summary_of number rows (replayed (replay_of accepted)))) }
+    ensures err { IfErr result (λ s. Tells (known (D.log disk.new))
+        → AppendsSuch (S.written out.old) (S.written out.new) (BeginsSummary number rows (replayed (replay_of accepted)) s)) }
     ensures steps { OnOk result (Tells (known (D.log disk.new)) → steps.new ≡ steps.old + work_in (replayed (replay_of accepted))) }
     ensures fewer { OnErr result (Tells (known (D.log disk.new)) → steps.new ≤ steps.old + work_in (replayed (replay_of accepted))) }
     ensures cut { IfErr result (IsCutShort (S.faults out.old) (S.faults out.new)) }
-    ensures stopped { IfErr result (StopHasCause (λ e. e.network ≡ accepted.network) (D.log disk.old) (D.log disk.new) (D.faults disk.old) (D.faults disk.new)) }
+    ensures stopped { IfErr result (StopHasCause (λ e. e.network ≡ accepted.network)
+        (D.log disk.old) (D.log disk.new) (D.faults disk.old) (D.faults disk.new)) }
     ensures unchanged { IfErr result (λ s. (D.log disk.old).honest ≡ true → is_changed s ≡ false) }
     ensures garbled { IfErr result (λ s. Tells (known (D.log disk.new)) → is_changed s ≡ true → is_garbled s ≡ true) }
     ensures too_much { IfErr result (λ s. Tells (known (D.log disk.new)) → s ≡ Status.TooMuch → 2 ^ 62 ≤ turns_in (replayed (replay_of accepted))) }
@@ -148,27 +156,9 @@ fn run_files<F: Folder, D: PageDisk, S: Sink, L: Ledger>(
 ) -> Stopped
     requires train { 1 ≤ args.train }
     requires frames { 2 ≤ args.frames }
-    ensures ends { (words : List (List ℕ)) → command_in words ≡ Some (Command.Run args) → Ends words (record {
-      told = F.files folder.old;
-      folder_before = F.faults folder.old;
-      folder_now = F.faults folder.new;
-      taken_before = F.taken folder.old;
-      taken_now = F.taken folder.new;
-      read_before = F.read folder.old;
-      read_now = F.read folder.new;
-      pages = known (D.log disk.new);
-      honest = (D.log disk.old).honest;
-      log_before = D.log disk.old;
-      log_now = D.log disk.new;
-      disk_before = D.faults disk.old;
-      disk_now = D.faults disk.new;
-      out_before = S.written out.old;
-      out_now = S.written out.new;
-      sink_before = S.faults out.old;
-      sink_now = S.faults out.new;
-      steps_before = steps.old;
-      steps_now = steps.new;
-    })
+    ensures ends { (words : List (List ℕ)) (messages messages' : SinkState) → command_in words ≡ Some (Command.Run args) → Ends words
+        (outside (folder_state F.Folder folder.old) (disk_state D.PageDisk disk.old) (sink_state S.Sink out.old) messages steps.old)
+        (outside (folder_state F.Folder folder.new) (disk_state D.PageDisk disk.new) (sink_state S.Sink out.new) messages' steps.new)
         result.status (source_told result.source) }
     ensures files { F.files folder.new ≡ F.files folder.old }
     ensures disk { is_refusal result.status ≡ true → (D.log disk.new ≡ D.log disk.old) × (D.faults disk.new ≡ D.faults disk.old) }
@@ -203,27 +193,10 @@ fn run_made<D: PageDisk, S: Sink, L: Ledger>(
 ) -> Stopped
     requires some { 1 ≤ rows }
     requires bound { rows ≤ 1000000 }
-    ensures ends { (words : List (List ℕ)) (told : Option Files) (faults taken : ℕ) (reads : List (List ℕ × List ℕ)) → command_in words ≡ Some (Command.Gen number rows) → Ends words (record {
-      told = told;
-      folder_before = faults;
-      folder_now = faults;
-      taken_before = taken;
-      taken_now = taken;
-      read_before = reads;
-      read_now = reads;
-      pages = known (D.log disk.new);
-      honest = (D.log disk.old).honest;
-      log_before = D.log disk.old;
-      log_now = D.log disk.new;
-      disk_before = D.faults disk.old;
-      disk_now = D.faults disk.new;
-      out_before = S.written out.old;
-      out_now = S.written out.new;
-      sink_before = S.faults out.old;
-      sink_now = S.faults out.new;
-      steps_before = steps.old;
-      steps_now = steps.new;
-    })
+    ensures ends { (words : List (List ℕ)) (folder : FolderState) (messages messages' : SinkState)
+        → command_in words ≡ Some (Command.Gen number rows) → Ends words
+        (outside folder (disk_state D.PageDisk disk.old) (sink_state S.Sink out.old) messages steps.old)
+        (outside folder (disk_state D.PageDisk disk.new) (sink_state S.Sink out.new) messages' steps.new)
         result.status (source_told result.source) }
     ensures disk { is_refusal result.status ≡ true → (D.log disk.new ≡ D.log disk.old) × (D.faults disk.new ≡ D.faults disk.old) }
     ensures later { IsLater (D.log disk.old) (D.log disk.new) }
@@ -255,27 +228,9 @@ fn tap_files<F: Folder, D: PageDisk, S: Sink, L: Ledger>(
     steps: &mut Steps<L>,
 ) -> Stopped
     requires { asked.now.from < 2 ^ 40 }
-    ensures ends { (words : List (List ℕ)) → IsAskedBy asked.now words → Ends words (record {
-      told = F.files folder.old;
-      folder_before = F.faults folder.old;
-      folder_now = F.faults folder.new;
-      taken_before = F.taken folder.old;
-      taken_now = F.taken folder.new;
-      read_before = F.read folder.old;
-      read_now = F.read folder.new;
-      pages = known (D.log disk.new);
-      honest = (D.log disk.old).honest;
-      log_before = D.log disk.old;
-      log_now = D.log disk.new;
-      disk_before = D.faults disk.old;
-      disk_now = D.faults disk.new;
-      out_before = S.written out.old;
-      out_now = S.written out.new;
-      sink_before = S.faults out.old;
-      sink_now = S.faults out.new;
-      steps_before = steps.old;
-      steps_now = steps.new;
-    })
+    ensures ends { (words : List (List ℕ)) (messages messages' : SinkState) → IsAskedBy asked.now words → Ends words
+        (outside (folder_state F.Folder folder.old) (disk_state D.PageDisk disk.old) (sink_state S.Sink out.old) messages steps.old)
+        (outside (folder_state F.Folder folder.new) (disk_state D.PageDisk disk.new) (sink_state S.Sink out.new) messages' steps.new)
         result.status (source_told result.source) }
     ensures files { F.files folder.new ≡ F.files folder.old }
     ensures disk { is_refusal result.status ≡ true → (D.log disk.new ≡ D.log disk.old) × (D.faults disk.new ≡ D.faults disk.old) }
@@ -302,27 +257,9 @@ pub fn run<F: Folder, D: PageDisk, S: Sink, L: Ledger>(
     out: &mut S,
     steps: &mut Steps<L>,
 ) -> Stopped
-    ensures ends { Ends (map string_bytes words.now.items) (record {
-      told = F.files folder.old;
-      folder_before = F.faults folder.old;
-      folder_now = F.faults folder.new;
-      taken_before = F.taken folder.old;
-      taken_now = F.taken folder.new;
-      read_before = F.read folder.old;
-      read_now = F.read folder.new;
-      pages = known (D.log disk.new);
-      honest = (D.log disk.old).honest;
-      log_before = D.log disk.old;
-      log_now = D.log disk.new;
-      disk_before = D.faults disk.old;
-      disk_now = D.faults disk.new;
-      out_before = S.written out.old;
-      out_now = S.written out.new;
-      sink_before = S.faults out.old;
-      sink_now = S.faults out.new;
-      steps_before = steps.old;
-      steps_now = steps.new;
-    })
+    ensures ends { (messages messages' : SinkState) → Ends (map string_bytes words.now.items)
+        (outside (folder_state F.Folder folder.old) (disk_state D.PageDisk disk.old) (sink_state S.Sink out.old) messages steps.old)
+        (outside (folder_state F.Folder folder.new) (disk_state D.PageDisk disk.new) (sink_state S.Sink out.new) messages' steps.new)
         result.status (source_told result.source) }
     ensures files { F.files folder.new ≡ F.files folder.old }
     ensures unread { reads_folder (command_in (map string_bytes words.now.items)) ≡ false → (F.faults folder.new ≡ F.faults folder.old)
@@ -363,7 +300,8 @@ pub fn run<F: Folder, D: PageDisk, S: Sink, L: Ledger>(
 
 /// Writes a message as far as the sink takes it.
 fn say<E: Sink>(err: &mut E, text: &[u8])
-    ensures told { AppendsSuch (E.written err.old) (E.written err.new) (λ said. (said ≡ text.now) ⊎ (Rose (E.faults err.old) (E.faults err.new) × IsPrefixOf said text.now)) }
+    ensures told { AppendsSuch (E.written err.old) (E.written err.new)
+        (λ said. (said ≡ text.now) ⊎ (Rose (E.faults err.old) (E.faults err.new) × IsPrefixOf said text.now)) }
     ensures later { E.faults err.old ≤ E.faults err.new }
 {
     let _ = write_all(err, text);
@@ -373,7 +311,8 @@ fn say<E: Sink>(err: &mut E, text: &[u8])
 pub fn tell<E: Sink>(alloc: Global, stopped: Stopped, err: &mut E) -> Stopped
     ensures status { (result.status ≡ stopped.status) ⊎ ((result.status ≡ Status.Memory) × (stopped.status ≢ Status.SinkFault)) }
     ensures source { source_told result.source ≡ source_told stopped.source }
-    ensures told { AppendsSuch (E.written err.old) (E.written err.new) (TellsStatus (source_told result.source) (E.faults err.old) (E.faults err.new) result.status) }
+    ensures told { AppendsSuch (E.written err.old) (E.written err.new)
+        (TellsStatus (source_told result.source) (E.faults err.old) (E.faults err.new) result.status) }
     ensures later { E.faults err.old ≤ E.faults err.new }
 {
     if let Status::SinkFault = stopped.status {

@@ -2,8 +2,9 @@
 use Rattle.sq_command.specs.declared.Command.{Command}
 use Rattle.sq_work.specs.Scripts.{Done, Reads, Script, Stops, script_of}
 use Rattle.sq_outside.specs.Folders.{Files}
+use Rattle.sq_work.specs.FolderStates.{FolderState}
 use Rattle.sq_work.specs.Reads.{GoesBy, IsFileRead, LeadsWith, ScriptLeads, network_read}
-use Rattle.std.proofs.Common.{List, None, Option, Some, ap, append-nil, append_assoc, refl, subst, sym, ℕ, [], ◌≡◌, ◌∷◌, ◌++◌, ◌∙◌}
+use Rattle.std.proofs.Common.{List, None, Option, Some, ap, append-nil, arith, append_assoc, refl, subst, sym, ℕ, [], ◌≡◌, ◌≤◌, ◌∷◌, ◌++◌, ◌∙◌}
 use Rattle.sq_net.specs.declared.Network.{Network}
 use Rattle.sq_command.specs.Commands.{command_in}
 use Rattle.sq_command.specs.declared.Command.TheVariants as command
@@ -21,15 +22,29 @@ none_given before now same = same ∙ sym (append-nil before)
 pub given_then : (before mid now read more : List (List ℕ × List ℕ)) → mid ≡ before ++ read → now ≡ mid ++ more → now ≡ before ++ (read ++ more)
 given_then before mid now read more first next = next ∙ ap (λ (xs : List (List ℕ × List ℕ)). xs ++ more) first ∙ append_assoc before read more
 
-pub leads_still : (told : Option Files) (before mid now : List (List ℕ × List ℕ)) (a b : Script) → ScriptLeads told before mid a b → now ≡ mid → ScriptLeads told before now a b
-leads_still told before mid now a b ab same = (ab.0, ab.1, same ∙ ab.2)
+-- after calls of a folder its files stay, and no count falls
+abbrev pub IsLaterFolder : FolderState → FolderState → Type 0
+IsLaterFolder before after = (after.told ≡ before.told) × (before.faults ≤ after.faults) × (before.taken ≤ after.taken)
 
-pub leads_then : (told : Option Files) (before mid now : List (List ℕ × List ℕ)) (a b c : Script) → ScriptLeads told before mid a b → ScriptLeads told mid now b c → ScriptLeads told before now a c
-leads_then told before mid now a b c ab bc = (ab.0 ++ bc.0, goes_then told ab.0 bc.0 a b c ab.1 bc.1, given_then before mid now ab.0 bc.0 ab.2 bc.2)
+pub later_then : (before mid after : FolderState) → IsLaterFolder before mid → IsLaterFolder mid after → IsLaterFolder before after
+later_then before mid after first then =
+    let faults : before.faults ≤ after.faults = omega (arith, first.1, then.1) in
+    let taken : before.taken ≤ after.taken = omega (arith, first.2, then.2) in
+    (then.0 ∙ first.0, faults, taken)
 
-pub leads_read : (told : Option Files) (name : List ℕ) (limit : ℕ) (more : List ℕ → Script) (before now : List (List ℕ × List ℕ)) (bytes : List ℕ)
-    → IsFileRead told name limit before now bytes → ScriptLeads told before now (Reads name limit more) (more bytes)
-leads_read told name limit more before now bytes got = ((name, bytes) ∷ [], (refl, got.0, refl), got.1)
+pub leads_still : (before mid after : FolderState) (a b : Script) → ScriptLeads before mid a b → after.read ≡ mid.read → ScriptLeads before after a b
+leads_still before mid after a b ab same = (ab.0, ab.1, same ∙ ab.2)
+
+pub leads_then : (before mid after : FolderState) (a b c : Script) → mid.told ≡ before.told → ScriptLeads before mid a b → ScriptLeads mid after b c → ScriptLeads before after a c
+leads_then before mid after a b c same ab bc = (
+  ab.0 ++ bc.0,
+  goes_then before.told ab.0 bc.0 a b c ab.1 (subst (λ t. GoesBy t bc.0 b c) same bc.1),
+  given_then before.read mid.read after.read ab.0 bc.0 ab.2 bc.2,
+)
+
+pub leads_read : (before after : FolderState) (name : List ℕ) (limit : ℕ) (more : List ℕ → Script) (bytes : List ℕ)
+    → IsFileRead before after name limit bytes → ScriptLeads before after (Reads name limit more) (more bytes)
+leads_read before after name limit more bytes got = ((name, bytes) ∷ [], (refl, got.0, refl), got.1)
 
 -- the network was read first
 network_stays : (c : Option Command) (n : Network) (read more : List (List ℕ × List ℕ)) → network_read c read ≡ Some n → network_read c (read ++ more) ≡ Some n
@@ -42,16 +57,15 @@ network_stays (Some (command.Audit net text)) n (given ∷ read) more e = e
 network_stays (Some (command.Tap net stream tick history query)) n [] more e = absurd (cc)
 network_stays (Some (command.Tap net stream tick history query)) n (given ∷ read) more e = e
 
-pub with_then : (told : Option Files) (words : List (List ℕ)) (n : Network) (before mid now : List (List ℕ × List ℕ)) (a b : Script) → LeadsWith told before mid words n a → ScriptLeads told mid now a b
-    → LeadsWith told before now words n b
-with_then told words n before mid now a b wa ab = (
+pub with_then : (words : List (List ℕ)) (n : Network) (before mid after : FolderState) (a b : Script) → mid.told ≡ before.told → LeadsWith before mid words n a → ScriptLeads mid after a b
+    → LeadsWith before after words n b
+with_then words n before mid after a b same wa ab = (
   wa.0 ++ ab.0,
-  goes_then told wa.0 ab.0 (script_of words) a b wa.1 ab.1,
+  goes_then before.told wa.0 ab.0 (script_of words) a b wa.1 (subst (λ t. GoesBy t ab.0 a b) same ab.1),
   network_stays (command_in words) n wa.0 ab.0 wa.2,
-  given_then before mid now wa.0 ab.0 wa.3 ab.2,
+  given_then before.read mid.read after.read wa.0 ab.0 wa.3 ab.2,
 )
 
 -- the words lead there, whatever the network is
-pub words_lead : (told : Option Files) (words : List (List ℕ)) (n : Network) (before now : List (List ℕ × List ℕ)) (a : Script) → LeadsWith told before now words n a
-    → ScriptLeads told before now (script_of words) a
-words_lead told words n before now a wa = (wa.0, wa.1, wa.3)
+pub words_lead : (words : List (List ℕ)) (n : Network) (before after : FolderState) (a : Script) → LeadsWith before after words n a → ScriptLeads before after (script_of words) a
+words_lead words n before after a wa = (wa.0, wa.1, wa.3)

@@ -1,7 +1,6 @@
 -- A tap reads the network, then the query, and then the sources of what they are joined to.
-use Rattle.std.proofs.Common.{◌≡◌, inl, inr, ℕ, List, [], ◌∷◌, refl, ap, sym, ◌∙◌, subst, Option}
+use Rattle.std.proofs.Common.{◌≡◌, inl, inr, ℕ, List, [], ◌∷◌, refl, ap, sym, ◌∙◌, subst}
 use Rattle.std.specs.Prelude.{IsSome, Result, Ok, Err}
-use Rattle.sq_outside.specs.Folders.{Files}
 use Rattle.sq_net.specs.declared.NetErr.{NetErr}
 use Rattle.sq_net.specs.declared.Network.{Network}
 use Rattle.sq_plan.specs.Plans.{Entries}
@@ -14,12 +13,13 @@ use Rattle.sq_command.specs.Commands.{command_in}
 use Rattle.sq_work.specs.Taps.{Tapped, tapped}
 use Rattle.sq_status.specs.Messages.{network_if_ok}
 use Rattle.sq_work.specs.Scripts.{Done, AcceptedReplay, Reads, after_query, after_streams, after_tap, after_tapped, after_words, query_script, script_of, tap_script, tap_unread}
+use Rattle.sq_work.specs.FolderStates.{FolderState}
 use Rattle.sq_work.specs.Reads.{IsFileRead, ScriptLeads, LeadsWith, network_read}
 use Rattle.sq_work.specs.AcceptedViews.{IsAskedBy}
-use Rattle.sq_work.proofs.StoppedLemmas.{not_memory, stopped_memory, stopped_rule, stopped_unread}
+use Rattle.sq_work.proofs.StoppedLemmas.{not_memory, stopped_memory, stopped_rule, stopped_unread, unread_later}
 use Rattle.sq_reader.specs.Limits.{settings_limit}
 use Rattle.sq_work.specs.Refusals.{IsUnread, IsStopped, IsQueryRefused, IsBadTap, IsNetworkFile}
-use Rattle.sq_work.proofs.ReadsLemmas.{leads_still, leads_read, with_then, words_lead}
+use Rattle.sq_work.proofs.ReadsLemmas.{IsLaterFolder, leads_still, leads_read, with_then, words_lead}
 
 module _ (words : List (List ℕ)) (a : Asked) (asked : IsAskedBy a words) where
   pub is_tap : IsSome (command_in words)
@@ -31,54 +31,52 @@ module _ (words : List (List ℕ)) (a : Asked) (asked : IsAskedBy a words) where
   pub tap_named : (bytes : List ℕ) → network_read (command_in words) ((a.net, bytes) ∷ []) ≡ network_if_ok (network_in bytes)
   tap_named bytes = ap (λ c. network_read c ((a.net, bytes) ∷ [])) asked.2
 
--- the query's file: what reads gave before the tap, before this file and now
-module _ (words : List (List ℕ)) (told : Option Files) (stream : List ℕ) (from : ℕ) (query : List ℕ) (n : Network) (some : IsSome (command_in words))
-    (rb rm rn : List (List ℕ × List ℕ)) (leads : LeadsWith told rb rm words n (query_script stream from query n)) (source : List ℕ) where
-  pub query_unread : (fb fn tb tn : ℕ) (s : Status) → rn ≡ rm → IsUnread told query settings_limit fb fn tb tn s → IsStopped words told fb fn tb tn rb rn s source
-  query_unread fb fn tb tn s same unread =
-      stopped_unread words told fb fn tb tn rb rn source query settings_limit (λ bytes. after_query n stream from (network_in bytes)) some
-      (leads_still told rb rm rn _ _ (words_lead told words n rb rm _ leads) same) s unread
+-- the query's file: the folder before the tap, before this file and after it
+module _ (words : List (List ℕ)) (stream : List ℕ) (from : ℕ) (query : List ℕ) (n : Network) (some : IsSome (command_in words))
+    (before mid after : FolderState) (later : IsLaterFolder before mid) (leads : LeadsWith before mid words n (query_script stream from query n)) (source : List ℕ) where
+  pub query_unread : (s : Status) → after.read ≡ mid.read → IsUnread mid after query settings_limit s → IsStopped words before after s source
+  query_unread s same unread =
+      stopped_unread words before after source query settings_limit (λ bytes. after_query n stream from (network_in bytes)) some
+      (leads_still before mid after _ _ (words_lead words n before mid _ leads) same) s (unread_later before mid after query settings_limit s later unread)
 
   -- what the file's bytes say comes next
-  after_file : (bytes : List ℕ) (r : Result Network NetErr) → network_in bytes ≡ r → IsFileRead told query settings_limit rm rn bytes
-      → LeadsWith told rb rn words n (after_query n stream from r)
+  after_file : (bytes : List ℕ) (r : Result Network NetErr) → network_in bytes ≡ r → IsFileRead mid after query settings_limit bytes
+      → LeadsWith before after words n (after_query n stream from r)
   after_file bytes r said got =
-      with_then told words n rb rm rn _ _ leads
-      (subst (λ x. ScriptLeads told rm rn (query_script stream from query n) (after_query n stream from x)) said
-      (leads_read told query settings_limit (λ x. after_query n stream from (network_in x)) rm rn bytes got))
+      with_then words n before mid after _ _ later.0 leads
+      (subst (λ x. ScriptLeads mid after (query_script stream from query n) (after_query n stream from x)) said
+      (leads_read mid after query settings_limit (λ x. after_query n stream from (network_in x)) bytes got))
 
-  pub query_leads : (q : Network) → IsNetworkFile told query rm rn (Ok q) → LeadsWith told rb rn words n (after_query n stream from (Ok q))
+  pub query_leads : (q : Network) → IsNetworkFile mid after query (Ok q) → LeadsWith before after words n (after_query n stream from (Ok q))
   query_leads q (bytes, got, said) = after_file bytes (Ok q) said got
 
-  pub query_stopped : (fb fn tb tn : ℕ) (e : NetErr) (result : Status) → IsNetworkFile told query rm rn (Err e) → IsQueryRefused e result
-      → IsStopped words told fb fn tb tn rb rn result source
-  query_stopped fb fn tb tn e result (bytes, got, said) (inl memory) =
-      subst (λ x. IsStopped words told fb fn tb tn rb rn x source) (sym memory.1)
-      (stopped_memory words told fb fn tb tn rb rn source (after_query n stream from (network_in bytes)) (words_lead told words n rb rn _ (after_file bytes (network_in bytes) refl got)))
-  query_stopped fb fn tb tn e result (bytes, got, said) (inr rule) =
-      subst (λ x. IsStopped words told fb fn tb tn rb rn x source) (sym rule.1)
-      (stopped_rule words told fb fn tb tn rb rn source (status.BadQuery e) rule.0 some
-      (words_lead told words n rb rn _ (after_file bytes (Err e) (said (not_memory e rule.0)) got)) tt)
+  pub query_stopped : (e : NetErr) (result : Status) → IsNetworkFile mid after query (Err e) → IsQueryRefused e result → IsStopped words before after result source
+  query_stopped e result (bytes, got, said) (inl memory) =
+      subst (λ x. IsStopped words before after x source) (sym memory.1)
+      (stopped_memory words before after source (after_query n stream from (network_in bytes)) (words_lead words n before after _ (after_file bytes (network_in bytes) refl got)))
+  query_stopped e result (bytes, got, said) (inr rule) =
+      subst (λ x. IsStopped words before after x source) (sym rule.1)
+      (stopped_rule words before after source (status.BadQuery e) rule.0 some
+      (words_lead words n before after _ (after_file bytes (Err e) (said (not_memory e rule.0)) got)) tt)
 
 -- the rules of joining
-module _ (words : List (List ℕ)) (told : Option Files) (stream : List ℕ) (from : ℕ) (n q : Network) (some : IsSome (command_in words))
-    (rb rn : List (List ℕ × List ℕ)) (leads : LeadsWith told rb rn words n (after_query n stream from (Ok q))) where
-  pub join_leads : (t : Tapped) → tapped n (stream_named n stream) from q ≡ Ok t → LeadsWith told rb rn words n (after_streams (tap_unread t) t.network.sources)
-  join_leads t is = subst (λ x. LeadsWith told rb rn words n (after_tap x)) is leads
+module _ (words : List (List ℕ)) (stream : List ℕ) (from : ℕ) (n q : Network) (some : IsSome (command_in words))
+    (before after : FolderState) (leads : LeadsWith before after words n (after_query n stream from (Ok q))) where
+  pub join_leads : (t : Tapped) → tapped n (stream_named n stream) from q ≡ Ok t → LeadsWith before after words n (after_streams (tap_unread t) t.network.sources)
+  join_leads t is = subst (λ x. LeadsWith before after words n (after_tap x)) is leads
 
-  pub join_stopped : (fb fn tb tn : ℕ) (result : Status) (source : List ℕ) → IsBadTap (tapped n (stream_named n stream) from q) result
-      → IsStopped words told fb fn tb tn rb rn result source
-  join_stopped fb fn tb tn result source (inl memory) =
-      subst (λ x. IsStopped words told fb fn tb tn rb rn x source) (sym memory)
-      (stopped_memory words told fb fn tb tn rb rn source (after_query n stream from (Ok q)) (words_lead told words n rb rn _ leads))
-  join_stopped fb fn tb tn result source (inr (e, other, said, is)) =
-      subst (λ x. IsStopped words told fb fn tb tn rb rn x source) (sym is)
-      (stopped_rule words told fb fn tb tn rb rn source (status.BadTap e) other some
-      (words_lead told words n rb rn _ (subst (λ x. LeadsWith told rb rn words n (after_tap x)) said leads)) tt)
+  pub join_stopped : (result : Status) (source : List ℕ) → IsBadTap (tapped n (stream_named n stream) from q) result → IsStopped words before after result source
+  join_stopped result source (inl memory) =
+      subst (λ x. IsStopped words before after x source) (sym memory)
+      (stopped_memory words before after source (after_query n stream from (Ok q)) (words_lead words n before after _ leads))
+  join_stopped result source (inr (e, other, said, is)) =
+      subst (λ x. IsStopped words before after x source) (sym is)
+      (stopped_rule words before after source (status.BadTap e) other some
+      (words_lead words n before after _ (subst (λ x. LeadsWith before after words n (after_tap x)) said leads)) tt)
 
 -- what was accepted, by the lists that the body made of nothing
-pub tap_accepted : (words : List (List ℕ)) (told : Option Files) (rb rn : List (List ℕ × List ℕ)) (r : AcceptedReplay) (entries : Entries) (picks : List ℕ) → entries ≡ r.entries → picks ≡ r.picks
-    → ScriptLeads told rb rn (script_of words) (Done r) → ScriptLeads told rb rn (script_of words) (Done (record r { entries = entries; picks = picks }))
-tap_accepted words told rb rn r entries picks no-entries no-picks leads =
-    subst (λ (es : Entries). ScriptLeads told rb rn (script_of words) (Done (record r { entries = es; picks = picks }))) (sym no-entries)
-    (subst (λ (ps : List ℕ). ScriptLeads told rb rn (script_of words) (Done (record r { picks = ps }))) (sym no-picks) leads)
+pub tap_accepted : (words : List (List ℕ)) (before after : FolderState) (r : AcceptedReplay) (entries : Entries) (picks : List ℕ) → entries ≡ r.entries → picks ≡ r.picks
+    → ScriptLeads before after (script_of words) (Done r) → ScriptLeads before after (script_of words) (Done (record r { entries = entries; picks = picks }))
+tap_accepted words before after r entries picks no-entries no-picks leads =
+    subst (λ (es : Entries). ScriptLeads before after (script_of words) (Done (record r { entries = es; picks = picks }))) (sym no-entries)
+    (subst (λ (ps : List ℕ). ScriptLeads before after (script_of words) (Done (record r { picks = ps }))) (sym no-picks) leads)

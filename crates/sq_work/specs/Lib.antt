@@ -1,6 +1,7 @@
 pub mod Refusals
 pub mod FileParts
 pub mod Scripts
+pub mod FolderStates
 pub mod Reads
 pub mod Taps
 pub mod SourceFiles

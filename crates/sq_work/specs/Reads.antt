@@ -8,6 +8,7 @@ use Rattle.sq_command.specs.declared.Command.{Command}
 use Rattle.sq_command.specs.declared.Command.TheVariants as command
 use Rattle.sq_command.specs.Commands.{command_in}
 use Rattle.sq_status.specs.Messages.{name_at, network_if_ok}
+use Rattle.sq_work.specs.FolderStates.{FolderState}
 use Rattle.sq_work.specs.Scripts.{AcceptedReplay, Script, Reads, Done, Stops, readable, script_of}
 
 -- P of the content, where it is told
@@ -20,8 +21,8 @@ abbrev pub AreBytesOf : Option Files → List ℕ → ℕ → List ℕ → Type 
 AreBytesOf told name limit bytes = (length bytes ≤ limit) × WhereTold told (λ files. readable name limit (file files name) ≡ Ok bytes)
 
 -- a file was read, and these are its bytes: with its name they came behind what the folder's reads gave before
-abbrev pub IsFileRead : Option Files → List ℕ → ℕ → List (List ℕ × List ℕ) → List (List ℕ × List ℕ) → List ℕ → Type 0
-IsFileRead told name limit before now bytes = AreBytesOf told name limit bytes × (now ≡ before ++ (name, bytes) ∷ [])
+abbrev pub IsFileRead : FolderState → FolderState → List ℕ → ℕ → List ℕ → Type 0
+IsFileRead before after name limit bytes = AreBytesOf before.told name limit bytes × (after.read ≡ before.read ++ (name, bytes) ∷ [])
 
 -- by these names and bytes, of one file after another that it reads, a script comes to what is left of it
 abbrev pub GoesBy : Option Files → List (List ℕ × List ℕ) → Script → Script → Type 0
@@ -31,8 +32,8 @@ GoesBy told (given ∷ read) (Done r) to = ⊥
 GoesBy told (given ∷ read) (Stops s) to = ⊥
 
 -- by all that the folder's reads gave since it comes to that
-abbrev pub ScriptLeads : Option Files → List (List ℕ × List ℕ) → List (List ℕ × List ℕ) → Script → Script → Type 0
-ScriptLeads told before now from to = (read : List (List ℕ × List ℕ)) × GoesBy told read from to × (now ≡ before ++ read)
+abbrev pub ScriptLeads : FolderState → FolderState → Script → Script → Type 0
+ScriptLeads before after from to = (read : List (List ℕ × List ℕ)) × GoesBy before.told read from to × (after.read ≡ before.read ++ read)
 
 -- the network of a command: in the first file that was read, or made
 abbrev pub network_read : Option Command → List (List ℕ × List ℕ) → Option Network
@@ -50,9 +51,9 @@ abbrev pub source_read : List (List ℕ) → List (List ℕ × List ℕ) → ℕ
 source_read words read number = name_at number (network_read (command_in words) read)
 
 -- the words lead to this script, and the network that was read on the way is this
-abbrev pub LeadsWith : Option Files → List (List ℕ × List ℕ) → List (List ℕ × List ℕ) → List (List ℕ) → Network → Script → Type 0
-LeadsWith told before now words n to =
-    (read : List (List ℕ × List ℕ)) × GoesBy told read (script_of words) to × (network_read (command_in words) read ≡ Some n) × (now ≡ before ++ read)
+abbrev pub LeadsWith : FolderState → FolderState → List (List ℕ) → Network → Script → Type 0
+LeadsWith before after words n to =
+    (read : List (List ℕ × List ℕ)) × GoesBy before.told read (script_of words) to × (network_read (command_in words) read ≡ Some n) × (after.read ≡ before.read ++ read)
 
 -- P of what was accepted, and else Q: a rule is broken, or a file isn't read
 abbrev pub IfAccepted : Script → (AcceptedReplay → Type 0) → Type 0 → Type 0

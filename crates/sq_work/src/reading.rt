@@ -7,6 +7,7 @@ ghost use Rattle.sq_replay.specs.Streams.{stream_in};
 ghost use Rattle.sq_command.specs.declared.Command.TheVariants as Command;
 ghost use Rattle.sq_command.specs.Commands.{command_in};
 ghost use Rattle.sq_work.specs.Scripts.{Done, AcceptedReplay, after_streams, capacities_script, picks_script, script_of, with_sources};
+ghost use Rattle.sq_work.specs.FolderStates.{folder_state};
 ghost use Rattle.sq_work.specs.Reads.{AreBytesOf, ScriptLeads, LeadsWith};
 ghost use Rattle.sq_work.specs.AcceptedViews.{replay_of};
 ghost use Rattle.sq_work.specs.SourceFiles.{AreRecorded};
@@ -40,7 +41,7 @@ pub fn read_file<F: Folder>(
 ) -> Result<Vec<u8>, Status>
     ensures whole { IfOk result (λ bytes. AreBytesOf (F.files folder.old) name.now limit bytes.items) }
     ensures within { IfOk result (λ bytes. length bytes.items ≤ limit) }
-    ensures unread { IfErr result (λ s. IsUnread (F.files folder.old) name.now limit (F.faults folder.old) (F.faults folder.new) (F.taken folder.old) (F.taken folder.new) s) }
+    ensures unread { IfErr result (λ s. IsUnread (folder_state F.Folder folder.old) (folder_state F.Folder folder.new) name.now limit s) }
     ensures gives { IfOk result (λ bytes. F.read folder.new ≡ F.read folder.old ++ (name.now, bytes.items) ∷ []) }
     ensures refuses { OnErr result (F.read folder.new ≡ F.read folder.old) }
     ensures files { F.files folder.new ≡ F.files folder.old }
@@ -79,8 +80,8 @@ pub(crate) fn network_file<F: Folder>(
 ) -> Result<Result<Network, NetErr>, Status>
     ensures sound { IfOk result (λ r. IfOk r IsSound) }
     ensures limits { IfOk result (λ r. IfOk r KeepsDropLimits) }
-    ensures file { IfOk result (λ r. IsNetworkFile (F.files folder.old) name.now (F.read folder.old) (F.read folder.new) r) }
-    ensures unread { IfErr result (λ s. IsUnread (F.files folder.old) name.now settings_limit (F.faults folder.old) (F.faults folder.new) (F.taken folder.old) (F.taken folder.new) s) }
+    ensures file { IfOk result (λ r. IsNetworkFile (folder_state F.Folder folder.old) (folder_state F.Folder folder.new) name.now r) }
+    ensures unread { IfErr result (λ s. IsUnread (folder_state F.Folder folder.old) (folder_state F.Folder folder.new) name.now settings_limit s) }
     ensures refuses { OnErr result (F.read folder.new ≡ F.read folder.old) }
     ensures files { F.files folder.new ≡ F.files folder.old }
     ensures no_fault { OnOk result (F.faults folder.new ≡ F.faults folder.old) }
@@ -98,9 +99,9 @@ fn network_for<F: Folder>(alloc: Global, args: &RunArgs, folder: &mut F) -> Resu
     ensures sound { IfOk result IsSound }
     ensures limits { IfOk result KeepsDropLimits }
     ensures leads { IfOk result (λ n. (words : List (List ℕ)) → command_in words ≡ Some (Command.Run args.now)
-        → LeadsWith (F.files folder.old) (F.read folder.old) (F.read folder.new) words n (capacities_script args.now n args.now.capacities)) }
+        → LeadsWith (folder_state F.Folder folder.old) (folder_state F.Folder folder.new) words n (capacities_script args.now n args.now.capacities)) }
     ensures stopped { IfErr result (λ s. (words : List (List ℕ)) → command_in words ≡ Some (Command.Run args.now)
-        → IsStopped words (F.files folder.old) (F.faults folder.old) (F.faults folder.new) (F.taken folder.old) (F.taken folder.new) (F.read folder.old) (F.read folder.new) s []) }
+        → IsStopped words (folder_state F.Folder folder.old) (folder_state F.Folder folder.new) s []) }
     ensures files { F.files folder.new ≡ F.files folder.old }
     ensures no_fault { OnOk result (F.faults folder.new ≡ F.faults folder.old) }
     ensures later { (F.faults folder.old ≤ F.faults folder.new) × (F.taken folder.old ≤ F.taken folder.new) }
@@ -118,8 +119,8 @@ fn capacities_in<F: Folder>(
     name: &Name,
     folder: &mut F,
 ) -> Result<Capacities, Status>
-    ensures capacities { IfOk result (λ c. AreCapacitiesOf (F.files folder.old) (F.read folder.old) (F.read folder.new) (Some name.now) c) }
-    ensures missing { IfErr result (λ s. HasNoCapacities (F.files folder.old) (Some name.now) (F.faults folder.old) (F.faults folder.new) (F.taken folder.old) (F.taken folder.new) (F.read folder.old) (F.read folder.new) s) }
+    ensures capacities { IfOk result (λ c. AreCapacitiesOf (folder_state F.Folder folder.old) (folder_state F.Folder folder.new) (Some name.now) c) }
+    ensures missing { IfErr result (λ s. HasNoCapacities (folder_state F.Folder folder.old) (folder_state F.Folder folder.new) (Some name.now) s) }
     ensures files { F.files folder.new ≡ F.files folder.old }
     ensures no_fault { OnOk result (F.faults folder.new ≡ F.faults folder.old) }
     ensures later { (F.faults folder.old ≤ F.faults folder.new) × (F.taken folder.old ≤ F.taken folder.new) }
@@ -141,8 +142,8 @@ fn capacities_for<F: Folder>(
     name: &Option<Name>,
     folder: &mut F,
 ) -> Result<Capacities, Status>
-    ensures capacities { IfOk result (λ c. AreCapacitiesOf (F.files folder.old) (F.read folder.old) (F.read folder.new) name.now c) }
-    ensures missing { IfErr result (λ s. HasNoCapacities (F.files folder.old) name.now (F.faults folder.old) (F.faults folder.new) (F.taken folder.old) (F.taken folder.new) (F.read folder.old) (F.read folder.new) s) }
+    ensures capacities { IfOk result (λ c. AreCapacitiesOf (folder_state F.Folder folder.old) (folder_state F.Folder folder.new) name.now c) }
+    ensures missing { IfErr result (λ s. HasNoCapacities (folder_state F.Folder folder.old) (folder_state F.Folder folder.new) name.now s) }
     ensures files { F.files folder.new ≡ F.files folder.old }
     ensures no_fault { OnOk result (F.faults folder.new ≡ F.faults folder.old) }
     ensures later { (F.faults folder.old ≤ F.faults folder.new) × (F.taken folder.old ≤ F.taken folder.new) }
@@ -162,9 +163,9 @@ fn limits_for<F: Folder>(
     ensures sound { IfOk result (λ r. IsSound r.0) }
     ensures limits { IfOk result (λ r. KeepsDropLimits r.0) }
     ensures leads { IfOk result (λ r. (words : List (List ℕ)) → command_in words ≡ Some (Command.Run args.now)
-        → LeadsWith (F.files folder.old) (F.read folder.old) (F.read folder.new) words r.0 (picks_script args.now r.0 r.1 args.now.picks)) }
+        → LeadsWith (folder_state F.Folder folder.old) (folder_state F.Folder folder.new) words r.0 (picks_script args.now r.0 r.1 args.now.picks)) }
     ensures stopped { IfErr result (λ s. (words : List (List ℕ)) → command_in words ≡ Some (Command.Run args.now)
-        → IsStopped words (F.files folder.old) (F.faults folder.old) (F.faults folder.new) (F.taken folder.old) (F.taken folder.new) (F.read folder.old) (F.read folder.new) s []) }
+        → IsStopped words (folder_state F.Folder folder.old) (folder_state F.Folder folder.new) s []) }
     ensures files { F.files folder.new ≡ F.files folder.old }
     ensures no_fault { OnOk result (F.faults folder.new ≡ F.faults folder.old) }
     ensures later { (F.faults folder.old ≤ F.faults folder.new) × (F.taken folder.old ≤ F.taken folder.new) }
@@ -181,8 +182,8 @@ fn limits_for<F: Folder>(
 
 /// The picks of the file with this name, or the status of a run that doesn't get them.
 fn picks_in<F: Folder>(alloc: Global, name: &Name, folder: &mut F) -> Result<Vec<u32>, Status>
-    ensures picks { IfOk result (λ v. ArePicksOf (F.files folder.old) (F.read folder.old) (F.read folder.new) (Some name.now) v.items) }
-    ensures missing { IfErr result (λ s. HasNoPicks (F.files folder.old) (Some name.now) (F.faults folder.old) (F.faults folder.new) (F.taken folder.old) (F.taken folder.new) (F.read folder.old) (F.read folder.new) s) }
+    ensures picks { IfOk result (λ v. ArePicksOf (folder_state F.Folder folder.old) (folder_state F.Folder folder.new) (Some name.now) v.items) }
+    ensures missing { IfErr result (λ s. HasNoPicks (folder_state F.Folder folder.old) (folder_state F.Folder folder.new) (Some name.now) s) }
     ensures files { F.files folder.new ≡ F.files folder.old }
     ensures no_fault { OnOk result (F.faults folder.new ≡ F.faults folder.old) }
     ensures later { (F.faults folder.old ≤ F.faults folder.new) × (F.taken folder.old ≤ F.taken folder.new) }
@@ -204,8 +205,8 @@ fn picks_for<F: Folder>(
     name: &Option<Name>,
     folder: &mut F,
 ) -> Result<Vec<u32>, Status>
-    ensures picks { IfOk result (λ v. ArePicksOf (F.files folder.old) (F.read folder.old) (F.read folder.new) name.now v.items) }
-    ensures missing { IfErr result (λ s. HasNoPicks (F.files folder.old) name.now (F.faults folder.old) (F.faults folder.new) (F.taken folder.old) (F.taken folder.new) (F.read folder.old) (F.read folder.new) s) }
+    ensures picks { IfOk result (λ v. ArePicksOf (folder_state F.Folder folder.old) (folder_state F.Folder folder.new) name.now v.items) }
+    ensures missing { IfErr result (λ s. HasNoPicks (folder_state F.Folder folder.old) (folder_state F.Folder folder.new) name.now s) }
     ensures files { F.files folder.new ≡ F.files folder.old }
     ensures no_fault { OnOk result (F.faults folder.new ≡ F.faults folder.old) }
     ensures later { (F.faults folder.old ≤ F.faults folder.new) × (F.taken folder.old ≤ F.taken folder.new) }
@@ -278,9 +279,10 @@ fn stream_of<F: Folder>(
     folder: &mut F,
 ) -> Result<Stream, Stopped>
     requires within { source_within source.now ≡ true }
-    ensures stream { IfOk result (λ xs. IsStreamOf (F.files folder.old) (F.read folder.old) (F.read folder.new) source.now xs.items) }
+    ensures stream { IfOk result (λ xs. IsStreamOf (folder_state F.Folder folder.old) (folder_state F.Folder folder.new) source.now xs.items) }
     ensures recorded { IfOk result (λ xs. ReadsStreams source.now.schema xs.items) }
-    ensures stopped { IfErr result (λ s. HasNoStream (F.files folder.old) number source.now (F.faults folder.old) (F.faults folder.new) (F.taken folder.old) (F.taken folder.new) (F.read folder.old) (F.read folder.new) s.status (source_told s.source)) }
+    ensures stopped { IfErr result (λ s.
+        HasNoStream (folder_state F.Folder folder.old) (folder_state F.Folder folder.new) number source.now s.status (source_told s.source)) }
     ensures files { F.files folder.new ≡ F.files folder.old }
     ensures no_fault { OnOk result (F.faults folder.new ≡ F.faults folder.old) }
     ensures later { (F.faults folder.old ≤ F.faults folder.new) × (F.taken folder.old ≤ F.taken folder.new) }
@@ -299,9 +301,11 @@ pub(crate) fn streams_of<F: Folder>(
     folder: &mut F,
 ) -> Result<Vec<Stream>, Stopped>
     requires { IsSound network.now }
-    ensures leads { IfOk result (λ v. (r : AcceptedReplay) → ScriptLeads (F.files folder.old) (F.read folder.old) (F.read folder.new) (after_streams (with_sources r []) network.now.sources) (Done (with_sources r (map (λ xs. xs.items) v.items)))) }
+    ensures leads { IfOk result (λ v. (r : AcceptedReplay) → ScriptLeads (folder_state F.Folder folder.old) (folder_state F.Folder folder.new)
+        (after_streams (with_sources r []) network.now.sources) (Done (with_sources r (map (λ xs. xs.items) v.items)))) }
     ensures recorded { IfOk result (λ v. AreRecorded network.now.sources (map (λ xs. xs.items) v.items)) }
-    ensures stopped { IfErr result (λ s. (r : AcceptedReplay) → HasNoStreams (F.files folder.old) (with_sources r []) network.now.sources (F.faults folder.old) (F.faults folder.new) (F.taken folder.old) (F.taken folder.new) (F.read folder.old) (F.read folder.new) s.status (source_told s.source)) }
+    ensures stopped { IfErr result (λ s. (r : AcceptedReplay) → HasNoStreams (folder_state F.Folder folder.old) (folder_state F.Folder folder.new)
+        (with_sources r []) network.now.sources s.status (source_told s.source)) }
     ensures files { F.files folder.new ≡ F.files folder.old }
     ensures no_fault { OnOk result (F.faults folder.new ≡ F.faults folder.old) }
     ensures later { (F.faults folder.old ≤ F.faults folder.new) × (F.taken folder.old ≤ F.taken folder.new) }
@@ -347,9 +351,9 @@ pub fn prepare<F: Folder>(alloc: Global, args: RunArgs, folder: &mut F) -> Resul
     ensures frames { IfOk result (λ a. 2 ≤ a.frames) }
     ensures first { IfOk result (λ a. a.first ≡ 0) }
     ensures accepted { IfOk result (λ a. (words : List (List ℕ)) → command_in words ≡ Some (Command.Run args)
-        → ScriptLeads (F.files folder.old) (F.read folder.old) (F.read folder.new) (script_of words) (Done (replay_of a))) }
+        → ScriptLeads (folder_state F.Folder folder.old) (folder_state F.Folder folder.new) (script_of words) (Done (replay_of a))) }
     ensures stopped { IfErr result (λ s. (words : List (List ℕ)) → command_in words ≡ Some (Command.Run args)
-        → IsStopped words (F.files folder.old) (F.faults folder.old) (F.faults folder.new) (F.taken folder.old) (F.taken folder.new) (F.read folder.old) (F.read folder.new) s.status (source_told s.source)) }
+        → IsStopped words (folder_state F.Folder folder.old) (folder_state F.Folder folder.new) s.status (source_told s.source)) }
     ensures files { F.files folder.new ≡ F.files folder.old }
     ensures no_fault { OnOk result (F.faults folder.new ≡ F.faults folder.old) }
     ensures later { (F.faults folder.old ≤ F.faults folder.new) × (F.taken folder.old ≤ F.taken folder.new) }

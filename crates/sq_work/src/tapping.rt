@@ -3,6 +3,7 @@ ghost use Rattle.std.specs.Prelude.{◌≡◌, ◌⊎◌, ℕ, ◌^◌, ◌<◌,
 ghost use Rattle.sq_net.specs.SoundNetworks.{IsSound};
 ghost use Rattle.sq_points.specs.Limits.{KeepsDropLimits};
 ghost use Rattle.sq_tap.specs.Names.{stream_named};
+ghost use Rattle.sq_work.specs.FolderStates.{folder_state};
 ghost use Rattle.sq_work.specs.Reads.{ScriptLeads, LeadsWith};
 ghost use Rattle.sq_work.specs.SourceFiles.{AreRecorded};
 ghost use Rattle.sq_work.specs.Scripts.{Done, after_query, query_script, script_of};
@@ -70,9 +71,10 @@ fn tapped_network<F: Folder>(
 ) -> Result<Network, Status>
     ensures sound { IfOk result IsSound }
     ensures leads { IfOk result (λ n. (words : List (List ℕ)) → IsAskedBy asked.now words
-        → LeadsWith (F.files folder.old) (F.read folder.old) (F.read folder.new) words n (query_script asked.now.stream asked.now.from asked.now.query n)) }
+        → LeadsWith (folder_state F.Folder folder.old) (folder_state F.Folder folder.new) words n
+        (query_script asked.now.stream asked.now.from asked.now.query n)) }
     ensures stopped { IfErr result (λ s. (words : List (List ℕ)) → IsAskedBy asked.now words
-        → IsStopped words (F.files folder.old) (F.faults folder.old) (F.faults folder.new) (F.taken folder.old) (F.taken folder.new) (F.read folder.old) (F.read folder.new) s []) }
+        → IsStopped words (folder_state F.Folder folder.old) (folder_state F.Folder folder.new) s []) }
     ensures files { F.files folder.new ≡ F.files folder.old }
     ensures no_fault { OnOk result (F.faults folder.new ≡ F.faults folder.old) }
     ensures later { (F.faults folder.old ≤ F.faults folder.new) × (F.taken folder.old ≤ F.taken folder.new) }
@@ -93,9 +95,10 @@ fn both_networks<F: Folder>(
     ensures sound { IfOk result (λ p. IsSound p.0) }
     ensures query { IfOk result (λ p. IsSound p.1) }
     ensures leads { IfOk result (λ p. (words : List (List ℕ)) → IsAskedBy asked.now words
-        → LeadsWith (F.files folder.old) (F.read folder.old) (F.read folder.new) words p.0 (after_query p.0 asked.now.stream asked.now.from (Ok p.1))) }
+        → LeadsWith (folder_state F.Folder folder.old) (folder_state F.Folder folder.new) words p.0
+        (after_query p.0 asked.now.stream asked.now.from (Ok p.1))) }
     ensures stopped { IfErr result (λ s. (words : List (List ℕ)) → IsAskedBy asked.now words
-        → IsStopped words (F.files folder.old) (F.faults folder.old) (F.faults folder.new) (F.taken folder.old) (F.taken folder.new) (F.read folder.old) (F.read folder.new) s []) }
+        → IsStopped words (folder_state F.Folder folder.old) (folder_state F.Folder folder.new) s []) }
     ensures files { F.files folder.new ≡ F.files folder.old }
     ensures no_fault { OnOk result (F.faults folder.new ≡ F.faults folder.old) }
     ensures later { (F.faults folder.old ≤ F.faults folder.new) × (F.taken folder.old ≤ F.taken folder.new) }
@@ -152,9 +155,9 @@ pub fn prepare_tap<F: Folder>(
     ensures frames { IfOk result (λ a. 2 ≤ a.frames) }
     ensures first { IfOk result (λ a. a.first ≤ length a.network.boxes) }
     ensures accepted { IfOk result (λ a. (words : List (List ℕ)) → IsAskedBy asked.now words
-        → ScriptLeads (F.files folder.old) (F.read folder.old) (F.read folder.new) (script_of words) (Done (replay_of a))) }
+        → ScriptLeads (folder_state F.Folder folder.old) (folder_state F.Folder folder.new) (script_of words) (Done (replay_of a))) }
     ensures stopped { IfErr result (λ s. (words : List (List ℕ)) → IsAskedBy asked.now words
-        → IsStopped words (F.files folder.old) (F.faults folder.old) (F.faults folder.new) (F.taken folder.old) (F.taken folder.new) (F.read folder.old) (F.read folder.new) s.status (source_told s.source)) }
+        → IsStopped words (folder_state F.Folder folder.old) (folder_state F.Folder folder.new) s.status (source_told s.source)) }
     ensures files { F.files folder.new ≡ F.files folder.old }
     ensures no_fault { OnOk result (F.faults folder.new ≡ F.faults folder.old) }
     ensures later { (F.faults folder.old ≤ F.faults folder.new) × (F.taken folder.old ≤ F.taken folder.new) }

@@ -6,23 +6,23 @@ use Rattle.sq_top.proofs.EndLemmas.{stopped_ends}
 use Rattle.sq_top.proofs.auditing.audit_files.Goals as goal
 
 pub returns-in-Err-clause-ends : goal.returns-in-Err-clause-ends
-returns-in-Err-clause-ends g c words pages honest log disk steps asked =
-    stopped_ends _ _ c.in-Err.stopped.status _ (c.in-Err.ensures.stopped words asked) refl refl
+returns-in-Err-clause-ends g c words disk messages messages' steps asked =
+    stopped_ends _ _ _ c.in-Err.stopped.status _ (c.in-Err.ensures.stopped words asked) (refl, refl)
 
 pub returns-in-Err-clause-plain : goal.returns-in-Err-clause-plain
 returns-in-Err-clause-plain g c words asked =
-    stopped_plain words c.args.net c.args.text.now asked _ _ _ _ _ _ _ c.in-Err.stopped.status _ (c.in-Err.ensures.stopped words asked)
+    stopped_plain words c.args.net c.args.text.now asked _ _ c.in-Err.stopped.status _ (c.in-Err.ensures.stopped words asked)
 
 pub returns-in-Ok-write_verdict-clause-ends : goal.returns-in-Ok-write_verdict-clause-ends
-returns-in-Ok-write_verdict-clause-ends g c words pages honest log disk steps asked =
+returns-in-Ok-write_verdict-clause-ends g c words disk messages messages' steps asked =
     rw (c.stopped_by.ensures.0, c.stopped_by.ensures.1)
-    (audited_ok words c.args.net c.args.text.now asked _ (with_text (replay_of c.in-Ok.prepared.0) c.in-Ok.prepared.1.items) _
+    (audited_ok words c.args.net c.args.text.now asked _ _ (with_text (replay_of c.in-Ok.prepared.0) c.in-Ok.prepared.1.items) _
     (c.in-Ok.ensures.accepted words asked) c.in-Ok.ensures.no_fault refl (rw c.as_slice.ensures.value at c.in-Ok-write_verdict.ensures.ok))
 
 pub returns-clause-ends : goal.returns-clause-ends
-returns-clause-ends g c words pages honest log disk steps asked =
+returns-clause-ends g c words disk messages messages' steps asked =
     rw (c.stopped_by-in-Err-write_verdict.ensures.0, c.stopped_by-in-Err-write_verdict.ensures.1)
-    (audited_cut words c.args.net c.args.text.now asked _ (with_text (replay_of c.in-Ok.prepared.0) c.in-Ok.prepared.1.items) _
+    (audited_cut words c.args.net c.args.text.now asked _ _ (with_text (replay_of c.in-Ok.prepared.0) c.in-Ok.prepared.1.items) _
     (c.in-Ok.ensures.accepted words asked) c.in-Ok.ensures.no_fault refl c.in-Err-write_verdict.status
     c.in-Err-write_verdict.ensures.lost (rw c.as_slice.ensures.value at c.in-Err-write_verdict.ensures.err) c.in-Err-write_verdict.ensures.alone)
 

@@ -1,29 +1,28 @@
 use Rattle.std.proofs.Common.{Some, ap, sym, ◌∙◌}
 use Rattle.sq_command.specs.declared.Command.TheVariants as command
 use Rattle.sq_work.specs.AcceptedViews.{replay_of}
+use Rattle.sq_work.specs.FolderStates.{folder_state}
 use Rattle.sq_top.proofs.AuditLemmas.{accepted_text, run_asked, run_words, stopped_run, stopped_text}
-use Rattle.sq_work.proofs.StoppedLemmas.{unread_later}
 use Rattle.sq_top.proofs.auditing.prepare_audit.Goals as goal
 
 pub returns-in-Err-clause-stopped : goal.returns-in-Err-clause-stopped
 returns-in-Err-clause-stopped g c words asked =
-    stopped_run words c.args.net c.args.text.now asked _ c.requires _ _ _ _ _ _ c.in-Err.stopped.status _
+    stopped_run words c.args.net c.args.text.now asked c.requires _ _ c.in-Err.stopped.status _
     (c.in-Err.ensures.stopped (run_words c.args.net) (run_asked c.args.net c.requires ∙ ap (λ x. Some (command.Run x)) (sym c.plain_args.ensures)))
 
 pub returns-in-Ok-read_file-clause-accepted : goal.returns-in-Ok-read_file-clause-accepted
 returns-in-Ok-read_file-clause-accepted g c words asked =
-    let told = g.F.Folder.files c.args.folder.now in
-    accepted_text words c.args.net c.args.text.now asked told c.requires (g.F.Folder.read c.args.folder.now) (g.F.Folder.read c.prepare.new.folder) (g.F.Folder.read c.read_file.new.folder)
-    (replay_of c.in-Ok.accepted)
+    accepted_text words c.args.net c.args.text.now asked c.requires
+    (folder_state g.F.Folder c.args.folder.now) (folder_state g.F.Folder c.prepare.new.folder) (folder_state g.F.Folder c.read_file.new.folder)
+    (c.in-Ok.ensures.files, c.in-Ok.ensures.later.0, c.in-Ok.ensures.later.1) (replay_of c.in-Ok.accepted)
     (c.in-Ok.ensures.accepted (run_words c.args.net) (run_asked c.args.net c.requires ∙ ap (λ x. Some (command.Run x)) (sym c.plain_args.ensures))) c.in-Ok-read_file.bytes.items
-    (rw c.in-Ok.ensures.files at c.in-Ok-read_file.ensures.whole, c.in-Ok-read_file.ensures.gives)
+    (c.in-Ok-read_file.ensures.whole, c.in-Ok-read_file.ensures.gives)
 
 pub returns-in-Err-read_file-clause-stopped : goal.returns-in-Err-read_file-clause-stopped
 returns-in-Err-read_file-clause-stopped g c words asked =
-    let told = g.F.Folder.files c.args.folder.now in
     rw (c.stopped_by.ensures.0, c.stopped_by.ensures.1)
-    (stopped_text words c.args.net c.args.text.now asked told c.requires (g.F.Folder.read c.args.folder.now) (g.F.Folder.read c.prepare.new.folder) (g.F.Folder.read c.read_file.new.folder)
-    (replay_of c.in-Ok.accepted)
-    (c.in-Ok.ensures.accepted (run_words c.args.net) (run_asked c.args.net c.requires ∙ ap (λ x. Some (command.Run x)) (sym c.plain_args.ensures))) _ _ _ _ c.in-Err-read_file.status _
-    c.in-Err-read_file.ensures.refuses
-    (unread_later told c.args.text.now _ _ _ _ _ _ _ c.in-Err-read_file.status c.in-Ok.ensures.later.0 c.in-Ok.ensures.later.1 (rw c.in-Ok.ensures.files at c.in-Err-read_file.ensures.unread)))
+    (stopped_text words c.args.net c.args.text.now asked c.requires
+    (folder_state g.F.Folder c.args.folder.now) (folder_state g.F.Folder c.prepare.new.folder) (folder_state g.F.Folder c.read_file.new.folder)
+    (c.in-Ok.ensures.files, c.in-Ok.ensures.later.0, c.in-Ok.ensures.later.1) (replay_of c.in-Ok.accepted)
+    (c.in-Ok.ensures.accepted (run_words c.args.net) (run_asked c.args.net c.requires ∙ ap (λ x. Some (command.Run x)) (sym c.plain_args.ensures))) c.in-Err-read_file.status _
+    c.in-Err-read_file.ensures.refuses c.in-Err-read_file.ensures.unread)

@@ -1,10 +1,11 @@
 use Rattle.std.proofs.Common.{◌≡◌, None, ap, arith, map, refl, rules, ◌∙◌, Some}
 use Rattle.std.specs.String.{string_bytes}
-use Rattle.sq_pool.specs.Trust.{known}
 use Rattle.sq_pool.proofs.TrustLemmas.{IsLater-refl}
 use Rattle.sq_command.specs.declared.Command.{Command}
 use Rattle.sq_command.specs.Commands.{command_in}
 use Rattle.sq_work.specs.Scripts.{script_of}
+use Rattle.sq_work.specs.FolderStates.{folder_state}
+use Rattle.sq_top.specs.Outside.{disk_state}
 use Rattle.sq_top.proofs.EndLemmas.{stopped_ends}
 use Rattle.sq_top.proofs.ReadsLemmas.{leads_self}
 use Rattle.sq_work.proofs.StoppedLemmas.{stopped_memory, stopped_usage}
@@ -28,29 +29,28 @@ run_made-requires-clause-bound g c =
     (gen_rows (map string_bytes c.args.words.now.items) c.in-Ok-Gen.number c.in-Ok-Gen.rows (c.in-Ok-Gen.ensures.command ∙ ap (λ (x : Command). Some x) c.in-Ok-Gen.field-0-is)).1
 
 pub returns-in-Ok-Gen-clause-ends : goal.returns-in-Ok-Gen-clause-ends
-returns-in-Ok-Gen-clause-ends g c =
-    c.run_made.ensures.ends (map string_bytes c.args.words.now.items) (g.F.Folder.files c.args.folder.now) (g.F.Folder.faults c.args.folder.now) (g.F.Folder.taken c.args.folder.now)
-    (g.F.Folder.read c.args.folder.now) (c.in-Ok-Gen.ensures.command ∙ ap (λ (x : Command). Some x) c.in-Ok-Gen.field-0-is)
+returns-in-Ok-Gen-clause-ends g c messages messages' =
+    c.run_made.ensures.ends (map string_bytes c.args.words.now.items) (folder_state g.F.Folder c.args.folder.now) messages messages' (c.in-Ok-Gen.ensures.command ∙ ap (λ (x : Command). Some x) c.in-Ok-Gen.field-0-is)
 
 pub returns-in-Err-Usage-clause-ends : goal.returns-in-Err-Usage-clause-ends
-returns-in-Err-Usage-clause-ends g c =
+returns-in-Err-Usage-clause-ends g c messages messages' =
     let none : command_in (map string_bytes c.args.words.now.items) ≡ None = search rules in
     rw (c.stopped_by.ensures.0, c.stopped_by.ensures.1)
-    (stopped_ends _ _ _ _ (stopped_usage (map string_bytes c.args.words.now.items) _ _ _ _ _ (g.F.Folder.read c.args.folder.now) _ _ refl none) refl refl)
+    (stopped_ends _ _ _ _ _ (stopped_usage (map string_bytes c.args.words.now.items) _ _ _ refl none) (refl, refl))
 
 pub returns-in-Err-Memory-clause-ends : goal.returns-in-Err-Memory-clause-ends
-returns-in-Err-Memory-clause-ends g c =
+returns-in-Err-Memory-clause-ends g c messages messages' =
     rw (c.stopped_by-in-Err-Memory.ensures.0, c.stopped_by-in-Err-Memory.ensures.1)
-    (stopped_ends _ _ _ _ (stopped_memory (map string_bytes c.args.words.now.items) _ _ _ _ _ _ _ _ (script_of (map string_bytes c.args.words.now.items))
-    (leads_self (g.F.Folder.files c.args.folder.now) (g.F.Folder.read c.args.folder.now) (script_of (map string_bytes c.args.words.now.items)))) refl refl)
+    (stopped_ends _ _ _ _ _ (stopped_memory (map string_bytes c.args.words.now.items) _ _ _ (script_of (map string_bytes c.args.words.now.items))
+    (leads_self (folder_state g.F.Folder c.args.folder.now) (script_of (map string_bytes c.args.words.now.items)))) (refl, refl))
 
 pub audit_files-requires : goal.audit_files-requires
 audit_files-requires g c =
     audit_named (map string_bytes c.args.words.now.items) c.in-Ok-Audit.net c.in-Ok-Audit.text (c.in-Ok-Audit.ensures.command ∙ ap (λ (x : Command). Some x) c.in-Ok-Audit.field-0-is)
 
 pub returns-in-Ok-Audit-clause-ends : goal.returns-in-Ok-Audit-clause-ends
-returns-in-Ok-Audit-clause-ends g c =
-    c.audit_files.ensures.ends (map string_bytes c.args.words.now.items) (known (g.D.PageDisk.log c.args.disk.now)) (g.D.PageDisk.log c.args.disk.now).honest (g.D.PageDisk.log c.args.disk.now) (g.D.PageDisk.faults c.args.disk.now) c.args.steps.now
+returns-in-Ok-Audit-clause-ends g c messages messages' =
+    c.audit_files.ensures.ends (map string_bytes c.args.words.now.items) (disk_state g.D.PageDisk c.args.disk.now) messages messages' c.args.steps.now
     (c.in-Ok-Audit.ensures.command ∙ ap (λ (x : Command). Some x) c.in-Ok-Audit.field-0-is)
 
 pub returns-in-Ok-Audit-clause-no_engine : goal.returns-in-Ok-Audit-clause-no_engine
@@ -73,6 +73,6 @@ tap_files-requires g c =
     let is = c.first_tick-from.ensures in omega (arith, low, is)
 
 pub returns-in-Ok-Tap-clause-ends : goal.returns-in-Ok-Tap-clause-ends
-returns-in-Ok-Tap-clause-ends g c =
-    c.tap_files.ensures.ends (map string_bytes c.args.words.now.items)
+returns-in-Ok-Tap-clause-ends g c messages messages' =
+    c.tap_files.ensures.ends (map string_bytes c.args.words.now.items) messages messages'
     (c.in-Ok-Tap.tick, c.in-Ok-Tap.history, c.in-Ok-Tap.ensures.command ∙ ap (λ (x : Command). Some x) c.in-Ok-Tap.field-0-is, c.first_tick-from.ensures)

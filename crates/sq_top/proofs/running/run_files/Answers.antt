@@ -7,19 +7,17 @@ use Rattle.sq_work.proofs.StoppedLemmas.{is_command}
 use Rattle.sq_top.proofs.running.run_files.Goals as goal
 
 pub returns-in-Err-clause-ends : goal.returns-in-Err-clause-ends
-returns-in-Err-clause-ends g c words asked =
-    stopped_ends _ _ c.in-Err.stopped.status _ (c.in-Err.ensures.stopped words asked) refl refl
+returns-in-Err-clause-ends g c words messages messages' asked =
+    stopped_ends _ _ _ c.in-Err.stopped.status _ (c.in-Err.ensures.stopped words asked) (refl, refl)
 
 pub returns-in-Ok-replay-clause-ends : goal.returns-in-Ok-replay-clause-ends
-returns-in-Ok-replay-clause-ends g c words asked =
-    let told = g.F.Folder.files c.args.folder.now in
-    driven_ok _ _ (replay_of c.in-Ok.accepted) _ (is_command words c.args.args asked told) (c.in-Ok.ensures.accepted words asked) c.in-Ok.ensures.no_fault (ap runs_engine asked)
+returns-in-Ok-replay-clause-ends g c words messages messages' asked =
+    driven_ok _ _ _ (replay_of c.in-Ok.accepted) _ (is_command words c.args.args asked) (c.in-Ok.ensures.accepted words asked) c.in-Ok.ensures.no_fault (ap runs_engine asked)
     (λ tells. (whole_of_run _ c.args.args _ _ _ asked (c.in-Ok-replay.ensures.ok tells), c.in-Ok-replay.ensures.steps tells))
 
 pub returns-in-Err-replay-clause-ends : goal.returns-in-Err-replay-clause-ends
-returns-in-Err-replay-clause-ends g c words asked =
-    let told = g.F.Folder.files c.args.folder.now in
-    driven_cut _ _ (replay_of c.in-Ok.accepted) _ (is_command words c.args.args asked told) (c.in-Ok.ensures.accepted words asked) c.in-Ok.ensures.no_fault (ap runs_engine asked) c.in-Err-replay.status
+returns-in-Err-replay-clause-ends g c words messages messages' asked =
+    driven_cut _ _ _ (replay_of c.in-Ok.accepted) _ (is_command words c.args.args asked) (c.in-Ok.ensures.accepted words asked) c.in-Ok.ensures.no_fault (ap runs_engine asked) c.in-Err-replay.status
     c.in-Err-replay.ensures.cut c.in-Err-replay.ensures.stopped c.in-Err-replay.ensures.unchanged c.in-Err-replay.ensures.garbled c.in-Err-replay.ensures.too_much
     (λ tells. (prefix_of_run _ c.args.args _ c.in-Err-replay.status _ _ asked (c.in-Err-replay.ensures.err tells), c.in-Err-replay.ensures.fewer tells))
 

@@ -6,18 +6,18 @@ use Rattle.sq_top.proofs.EndLemmas.{accepted_made, driven_cut, driven_ok, is_mad
 use Rattle.sq_top.proofs.running.run_made.Goals as goal
 
 pub returns-in-Err-clause-ends : goal.returns-in-Err-clause-ends
-returns-in-Err-clause-ends g c words told faults taken reads asked =
-    stopped_ends _ _ c.in-Err.stopped.status _ (stopped_made words c.args.number c.args.rows asked _ _ _ _ _ reads _ _ c.in-Err.ensures.bad) refl refl
+returns-in-Err-clause-ends g c words folder messages messages' asked =
+    stopped_ends _ _ _ c.in-Err.stopped.status _ (stopped_made words c.args.number c.args.rows asked folder _ _ c.in-Err.ensures.bad) (refl, refl)
 
 pub returns-in-Ok-sum_up-clause-ends : goal.returns-in-Ok-sum_up-clause-ends
-returns-in-Ok-sum_up-clause-ends g c words told faults taken reads asked =
-    driven_ok _ _ (replay_of c.in-Ok.accepted) _ (is_made words c.args.number c.args.rows asked told) (accepted_made words c.args.number c.args.rows asked _ reads _ c.in-Ok.ensures.made) refl
+returns-in-Ok-sum_up-clause-ends g c words folder messages messages' asked =
+    driven_ok _ _ _ (replay_of c.in-Ok.accepted) _ (is_made words c.args.number c.args.rows asked) (accepted_made words c.args.number c.args.rows asked folder _ c.in-Ok.ensures.made) refl
     (ap runs_engine asked)
     (λ tells. (whole_of_made _ c.args.number c.args.rows _ _ _ asked (c.in-Ok-sum_up.ensures.ok tells), c.in-Ok-sum_up.ensures.steps tells))
 
 pub returns-in-Err-sum_up-clause-ends : goal.returns-in-Err-sum_up-clause-ends
-returns-in-Err-sum_up-clause-ends g c words told faults taken reads asked =
-    driven_cut _ _ (replay_of c.in-Ok.accepted) _ (is_made words c.args.number c.args.rows asked told) (accepted_made words c.args.number c.args.rows asked _ reads _ c.in-Ok.ensures.made) refl
+returns-in-Err-sum_up-clause-ends g c words folder messages messages' asked =
+    driven_cut _ _ _ (replay_of c.in-Ok.accepted) _ (is_made words c.args.number c.args.rows asked) (accepted_made words c.args.number c.args.rows asked folder _ c.in-Ok.ensures.made) refl
     (ap runs_engine asked) c.in-Err-sum_up.status
     c.in-Err-sum_up.ensures.cut c.in-Err-sum_up.ensures.stopped c.in-Err-sum_up.ensures.unchanged c.in-Err-sum_up.ensures.garbled c.in-Err-sum_up.ensures.too_much
     (λ tells. (prefix_of_made _ c.args.number c.args.rows _ c.in-Err-sum_up.status _ _ asked (c.in-Err-sum_up.ensures.err tells), c.in-Err-sum_up.ensures.fewer tells))

@@ -3,7 +3,7 @@ use Rattle.sq_pool.specs.Trust.{Tells, known}
 use Rattle.sq_pool.proofs.TrustLemmas.{IsLater-refl, honest-tells}
 use Rattle.sq_work.specs.AcceptedViews.{replay_of}
 use Rattle.sq_status.specs.declared.Status.TheVariants as status
-use Rattle.sq_top.specs.Causes.{BeginsSummary}
+use Rattle.sq_top.specs.Texts.{BeginsSummary}
 use Rattle.sq_drive.specs.Driving.{IsCutShort}
 use Rattle.sq_drive.specs.Due.{replayed, turns_in}
 use Rattle.sq_drive.specs.Stopping.{StopHasCause}
