@@ -20,8 +20,6 @@ mod keys;
 mod lines;
 mod messages;
 mod running;
-#[cfg(test)]
-mod trials;
 mod words;
 
 pub use keys::cuts_asked;

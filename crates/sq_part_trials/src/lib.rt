@@ -1,4 +1,4 @@
-//! Tests of values, of the readers and of what networks are made of, by their public calls: what no contract says, as printed text, outside
+//! Tests of values, of the readers, of what networks are made of and of keys, by their public calls: what no contract says, as printed text, outside
 //! vectors, and that each call can succeed. It offers nothing.
 //!
 //! They stand here and not in the crates that they test, since a crate with tests is proved a second time, as a program with
@@ -13,6 +13,8 @@ mod csv;
 mod generator;
 #[cfg(test)]
 mod graph;
+#[cfg(test)]
+mod keys;
 #[cfg(test)]
 mod place;
 #[cfg(test)]

@@ -35,12 +35,12 @@ fn run_with_a_name_and_options_is_a_command(rt: HostRuntime) -> Result<(), Fail>
     let Some(Command::Run(args)) = read_words(rt.alloc(), &words).ok() else {
         return Err(Fail::from("no run"));
     };
-    assert_eq!(rt; args.net.as_str(), "a.toml");
+    assert!(rt; args.net.as_str() == "a.toml");
     assert!(rt;
         args.seed == 7 && args.rule == Rule::Longest && args.train == 16 && args.frames == 256
     );
     let capacities = args.capacities.as_ref().ok_or("no capacities")?;
-    assert_eq!(rt; capacities.as_str(), "c");
+    assert!(rt; capacities.as_str() == "c");
     assert!(rt; args.picks.is_none());
     Ok(())
 }

@@ -5,17 +5,14 @@ use std::test::Fail;
 fn a_page_comes_back_from_a_file_without_a_name(rt: HostRuntime) -> Result<(), Fail> {
     let mut disk = SpillFile::new(&rt);
     let mut page = [0; PAGE];
-    assert_eq!(rt; disk.get(0, &mut page), Err(Failed));
-    assert_eq!(rt; disk.put(2, &[7; PAGE]), Ok(()));
-    assert_eq!(rt; disk.put(0, &[5; PAGE]), Ok(()));
-    assert_eq!(rt;
-        (disk.get(2, &mut page), page[0], page[PAGE - 1]),
-        (Ok(()), 7, 7)
-    );
-    assert_eq!(rt; disk.get(3, &mut page), Err(Failed));
-    assert_eq!(rt; disk.put(1 << 50, &page), Err(Failed));
-    assert_eq!(rt; disk.faults, 3);
-    assert_eq!(rt; fs::exists(&rt, "aurora.spill")?, false);
+    assert!(rt; disk.get(0, &mut page) == Err(Failed));
+    assert!(rt; disk.put(2, &[7; PAGE]) == Ok(()));
+    assert!(rt; disk.put(0, &[5; PAGE]) == Ok(()));
+    assert!(rt; (disk.get(2, &mut page), page[0], page[PAGE - 1]) == (Ok(()), 7, 7));
+    assert!(rt; disk.get(3, &mut page) == Err(Failed));
+    assert!(rt; disk.put(1 << 50, &page) == Err(Failed));
+    assert!(rt; disk.faults == 3);
+    assert!(rt; !fs::exists(&rt, "aurora.spill")?);
     Ok(())
 }
 
@@ -27,9 +24,9 @@ fn what_stands_at_a_name_is_not_touched_and_the_next_is_taken(rt: HostRuntime) -
     let put = disk.put(0, &[5; PAGE]);
     let kept = fs::read_to_string(&rt, "aurora.spill")?;
     fs::remove_file(&rt, "aurora.spill")?;
-    assert_eq!(rt; (put, disk.faults), (Ok(()), 0));
-    assert_eq!(rt; (disk.get(0, &mut page), page[0]), (Ok(()), 5));
-    assert_eq!(rt; kept.as_str(), "mine");
-    assert_eq!(rt; fs::exists(&rt, "aurora.spill.1")?, false);
+    assert!(rt; (put, disk.faults) == (Ok(()), 0));
+    assert!(rt; (disk.get(0, &mut page), page[0]) == (Ok(()), 5));
+    assert!(rt; kept.as_str() == "mine");
+    assert!(rt; !fs::exists(&rt, "aurora.spill.1")?);
     Ok(())
 }

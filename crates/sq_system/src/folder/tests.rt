@@ -11,9 +11,9 @@ fn a_file_is_read_up_to_the_limit(rt: HostRuntime) -> Result<(), Fail> {
     let over = folder.read_whole(rt.alloc(), name, 2);
     fs::remove_file(&rt, name)?;
     let gone = folder.read_whole(rt.alloc(), name, 5);
-    assert_eq!(rt; whole?.as_slice(), b"12345".as_slice());
-    assert_eq!(rt; over.err(), Some(FolderErr::TooLong));
-    assert_eq!(rt; gone.err(), Some(FolderErr::Failed));
-    assert_eq!(rt; (folder.taken, folder.faults), (8, 1));
+    assert!(rt; whole?.as_slice() == b"12345".as_slice());
+    assert!(rt; over.err() == Some(FolderErr::TooLong));
+    assert!(rt; gone.err() == Some(FolderErr::Failed));
+    assert!(rt; (folder.taken, folder.faults) == (8, 1));
     Ok(())
 }
