@@ -1,95 +1,48 @@
 // Whether what a run wrote is a beginning of what a whole run wrote.
+ghost use Rattle.std.specs.Prelude.{◌<◌, length, IfSome};
+
+use crate::beside::first_field;
 use std::alloc::{AllocError, Global};
 
 /// The class of the end lines.
-const END: (&str, &str) = ("@end", "");
+const END: &str = "@end";
 
-/// The class of a line: its first field, and where it is of a drop, the number of the drop. All end lines are one class.
-fn class_of(line: &str) -> (&str, &str) {
-    let (first, rest) = line.split_once(',').unwrap_or((line, ""));
-    match first {
-        "@box" | "@late" | "@end" => END,
-        "@drop" => match rest.split_once(',') {
-            Some((number, _)) => (first, number),
-            None => (first, rest),
-        },
-        _ => (first, ""),
+/// A line without its last field.
+fn without_last(line: &str) -> &str {
+    match line.rsplit_once(',') {
+        Some((others, _)) => others,
+        None => line,
     }
 }
 
-/// The classes of the lines of a text, each once.
-fn classes_of(alloc: Global, text: &str) -> Result<Vec<(&str, &str)>, AllocError> {
-    let mut classes = Vec::new(alloc);
-    for line in text.lines() {
-        let class = class_of(line);
-        if !classes.contains(&class) {
-            classes.push(class)?;
+/// The class of a line: its first field, and where it is of a drop, all but its batch and level. All end lines are one class.
+fn class_of(line: &str) -> &str {
+    let line = line.trim_end();
+    match first_field(line) {
+        "@box" | "@late" => END,
+        "@drop" => without_last(without_last(line)),
+        first => first,
+    }
+}
+
+/// Whether a line is the next of its class among those that are left. An end line is next only where no other line stands
+/// before it.
+fn is_next(left: &[&str], line: &str) -> bool {
+    let class = class_of(line);
+    for other in left {
+        if class == END || class_of(other) == class {
+            return *other == line;
         }
     }
-    Ok(classes)
+    false
 }
 
-/// The whole lines of a class.
-fn whole_lines(alloc: Global, text: &str, class: (&str, &str)) -> Result<String, AllocError> {
-    let mut lines = String::new(alloc);
-    for piece in text.split_inclusive('\n') {
-        match piece.strip_suffix('\n') {
-            Some(line) if class_of(line) == class => lines.push_str(piece)?,
-            _ => {}
-        }
-    }
-    Ok(lines)
-}
-
-/// What follows the last whole line.
-fn unfinished(text: &str) -> &str {
-    match text.rsplit_once('\n') {
-        Some((_, rest)) => rest,
-        None => text,
-    }
-}
-
-/// What a text lacks of the lines of a class, where its own begin them.
-fn lacking(
-    alloc: Global,
-    text: &str,
-    whole: &str,
-    class: (&str, &str),
-) -> Result<Option<String>, AllocError> {
-    let there = whole_lines(alloc, text, class)?;
-    let due = whole_lines(alloc, whole, class)?;
-    match due.strip_prefix(there.as_str()) {
-        Some(rest) => Ok(Some(String::from_str(alloc, rest)?)),
-        None => Ok(None),
-    }
-}
-
-/// How many bytes the whole lines of these classes have.
-fn length_of(alloc: Global, text: &str, classes: &[(&str, &str)]) -> Result<usize, AllocError> {
-    let mut length = 0usize;
-    for class in classes {
-        length = length.saturating_add(whole_lines(alloc, text, *class)?.len());
-    }
-    Ok(length)
-}
-
-/// What a text lacks of each class but that of the end lines; none where its lines of some class don't begin those.
-fn all_lacking(
-    alloc: Global,
-    text: &str,
-    whole: &str,
-    classes: &[(&str, &str)],
-) -> Result<Option<Vec<String>>, AllocError> {
-    let mut all = Vec::new(alloc);
-    for class in classes {
-        if *class != END {
-            match lacking(alloc, text, whole, *class)? {
-                Some(rest) => all.push(rest)?,
-                None => return Ok(None),
-            }
-        }
-    }
-    Ok(Some(all))
+/// Which of the lines that are left is the next of its class and begins so.
+fn next_with(left: &[&str], begun: &str) -> Option<usize>
+    ensures { IfSome result (λ at. at < length left.now) }
+{
+    left.iter()
+        .position(|line| line.starts_with(begun) && is_next(left, line))
 }
 
 /// Whether an end line stands in a text, or a part of one that tells its class.
@@ -97,25 +50,18 @@ pub fn has_ends(text: &str) -> bool {
     text.lines().any(|line| class_of(line) == END)
 }
 
-/// Whether the whole lines of each class of a text begin the lines of that class of a whole one, and there are no others;
-/// what follows the last of them begins the next line of a class; and nothing of an end line stands there unless all
-/// other lines do.
+/// Whether each line of a text is in its turn the next of its class in a whole one, and what follows the last end of a line
+/// begins such a line; an end line stands there only after all other lines.
 pub fn is_begun(alloc: Global, text: &str, whole: &str) -> Result<bool, AllocError> {
-    let classes = classes_of(alloc, whole)?;
-    let rest = unfinished(text);
-    let classed = length_of(alloc, text, classes.as_slice())?;
-    let Some(others) = all_lacking(alloc, text, whole, classes.as_slice())? else {
-        return Ok(false);
-    };
-    let Some(ends) = lacking(alloc, text, whole, END)? else {
-        return Ok(false);
-    };
-    if classed.saturating_add(rest.len()) != text.len() {
-        return Ok(false);
+    let mut left: Vec<&str> = whole.split_inclusive('\n').collect(alloc)?;
+    for line in text.split_inclusive('\n') {
+        match next_with(&left, line) {
+            Some(at) if line.ends_with('\n') => {
+                left.remove(at);
+            }
+            Some(_) => {}
+            None => return Ok(false),
+        }
     }
-    if others.iter().all(|lines| lines.is_empty()) {
-        return Ok(ends.starts_with(rest));
-    }
-    let is_next = rest.is_empty() || others.iter().any(|lines| lines.starts_with(rest));
-    Ok(is_next && whole_lines(alloc, text, END)?.is_empty())
+    Ok(true)
 }

@@ -1,5 +1,5 @@
 // What a run wrote, beside what the slow definitions of `sq_model` give.
-ghost use Rattle.std.specs.Prelude.{◌<◌, length, map};
+ghost use Rattle.std.specs.Prelude.{◌≡◌, ◌<◌, length, map, IfSome};
 ghost use Rattle.sq_net.specs.SoundNetworks.{IsSound};
 ghost use Rattle.sq_points.specs.Limits.{KeepsDropLimits};
 ghost use Rattle.sq_points.specs.Points.{points_of};
@@ -7,36 +7,37 @@ ghost use Rattle.sq_work.specs.SourceFiles.{AreRecorded};
 
 use crate::case::Case;
 use crate::given::{Given, given_by};
-use anyhow::Error;
+use crate::texts::push_line;
 use sq_lines::append_output_line;
 use sq_model::{answer, dropped};
+use sq_net::Network;
 use sq_points::network_points;
 use sq_value::{Name, Tuple};
 use std::alloc::{AllocError, Global};
 
-/// Whether a line has this first field.
-pub fn is_of_class(line: &str, class: &str) -> bool {
+/// The first field of a line.
+pub fn first_field(line: &str) -> &str {
     match line.split_once(',') {
-        Some((first, _)) => first == class,
-        None => line == class,
+        Some((first, _)) => first,
+        None => line,
     }
 }
 
 /// How many lines a class has.
 pub fn count_of(text: &str, class: &str) -> usize {
-    text.lines().filter(|line| is_of_class(line, class)).count()
+    text.lines()
+        .filter(|line| first_field(line) == class)
+        .count()
 }
 
-/// The lines of a class.
-fn lines_of(alloc: Global, text: &str, class: &str) -> Result<String, AllocError> {
-    let mut lines = String::new(alloc);
+/// Puts the lines of a class at the end of others.
+pub fn push_class(lines: &mut String, text: &str, class: &str) -> Result<(), AllocError> {
     for line in text.lines() {
-        if is_of_class(line, class) {
-            lines.push_str(line)?;
-            lines.push('\n')?;
+        if first_field(line) == class {
+            push_line(lines, line)?;
         }
     }
-    Ok(lines)
+    Ok(())
 }
 
 /// The lines that show these tuples at an output.
@@ -48,32 +49,51 @@ fn lines_for(alloc: Global, name: &Name, tuples: &[Tuple]) -> Result<Vec<u8>, Al
     Ok(lines)
 }
 
-/// The batch in a line of this drop.
-fn batch_in(line: &str, start: &str) -> Option<u64> {
-    let (batch, _) = line.strip_prefix(start)?.split_once(',')?;
+/// Whether the lines of an output show these tuples.
+fn has_tuples(
+    alloc: Global,
+    text: &str,
+    name: &Name,
+    tuples: &[Tuple],
+) -> Result<bool, AllocError> {
+    let wanted = lines_for(alloc, name, tuples)?;
+    let mut lines = String::new(alloc);
+    push_class(&mut lines, text, name.as_str())?;
+    Ok(lines.as_bytes() == wanted.as_slice())
+}
+
+/// The batch in a line of the class of a drop.
+fn batch_in(line: &str, class: &str) -> Option<u64> {
+    let rest = line.strip_prefix(class)?.strip_prefix(',')?;
+    let (batch, _) = rest.split_once(',')?;
     batch.parse::<u64>().ok()
 }
 
-/// The batches in the lines of a drop.
-fn batches_in(alloc: Global, text: &str, w: u32) -> Result<Vec<u64>, AllocError> {
-    let start = format!(in alloc; "@drop,{w},")?;
-    let mut batches = Vec::new(alloc);
+/// Whether the batches in the lines of the class of a drop are these.
+fn has_batches(text: &str, class: &str, batches: &[u64]) -> bool {
+    let mut left = batches.iter();
     for line in text.lines() {
-        if let Some(batch) = batch_in(line, start.as_str()) {
-            batches.push(batch)?;
+        if let Some(batch) = batch_in(line, class)
+            && left.next().copied() != Some(batch)
+        {
+            return false;
         }
     }
-    Ok(batches)
+    left.next().is_none()
 }
 
-/// Shows the name of an output whose lines aren't those of its answer.
-fn compare_output(rt: &HostRuntime, given: &Given, text: &str, output: u32) -> Result<(), Error>
+/// Shows what differs from the slow definitions.
+fn show_difference(shown: &mut String, what: &str) -> Result<(), AllocError> {
+    writeln!(shown, "differs from the model: {what}")
+}
+
+/// Whether the lines of an output are those of its answer.
+fn is_answered(alloc: Global, given: &Given, text: &str, output: u32) -> Result<bool, AllocError>
     requires sound { IsSound given.now.network }
     requires limits { KeepsDropLimits given.now.network }
     requires recorded { AreRecorded given.now.network.sources (map (λ xs. xs.items) given.now.sources.items) }
     requires there { output < length given.now.network.outputs }
 {
-    let alloc = rt.alloc();
     let tuples = answer(
         alloc,
         &given.network,
@@ -83,77 +103,117 @@ fn compare_output(rt: &HostRuntime, given: &Given, text: &str, output: u32) -> R
         output,
     )?;
     let name = &given.network.outputs.as_slice()[output as usize].name;
-    let wanted = lines_for(alloc, name, &tuples)?;
-    let lines = lines_of(alloc, text, name.as_str())?;
-    if lines.as_bytes() != wanted.as_slice() {
-        println!(rt; "differs from the model: {}", name.as_str())?;
+    has_tuples(alloc, text, name, &tuples)
+}
+
+/// Shows the name of each output whose lines aren't those of its answer.
+fn compare_outputs(
+    alloc: Global,
+    shown: &mut String,
+    given: &Given,
+    text: &str,
+) -> Result<(), AllocError>
+    requires sound { IsSound given.now.network }
+    requires limits { KeepsDropLimits given.now.network }
+    requires recorded { AreRecorded given.now.network.sources (map (λ xs. xs.items) given.now.sources.items) }
+{
+    let outputs = given.network.outputs.as_slice();
+    for output in 0..outputs.len() as u32 {
+        if !is_answered(alloc, given, text, output)? {
+            show_difference(shown, outputs[output as usize].name.as_str())?;
+        }
     }
     Ok(())
 }
 
-/// Shows the number of a drop whose lines don't have the batches of its record; gives how many batches it has.
-fn compare_drop(rt: &HostRuntime, given: &Given, text: &str, w: u32) -> Result<usize, Error>
+/// Shows a drop whose lines don't have the batches of its record; gives how many batches the record has.
+fn compare_drop(
+    alloc: Global,
+    shown: &mut String,
+    given: &Given,
+    text: &str,
+    w: u32,
+) -> Result<usize, AllocError>
     requires sound { IsSound given.now.network }
     requires limits { KeepsDropLimits given.now.network }
     requires recorded { AreRecorded given.now.network.sources (map (λ xs. xs.items) given.now.sources.items) }
     requires there { w < length (points_of given.now.network) }
 {
     let record = dropped(
-        rt.alloc(),
+        alloc,
         &given.network,
         &given.sources,
         &given.capacities,
         given.seed,
         w,
     )?;
-    if batches_in(rt.alloc(), text, w)? != record {
-        println!(rt; "differs from the model: @drop,{w}")?;
+    let class = format!(in alloc; "@drop,{w}")?;
+    if !has_batches(text, class.as_str(), &record) {
+        show_difference(shown, class.as_str())?;
     }
     Ok(record.len())
 }
 
-fn compare_outputs(rt: &HostRuntime, given: &Given, text: &str) -> Result<(), Error>
-    requires sound { IsSound given.now.network }
-    requires limits { KeepsDropLimits given.now.network }
-    requires recorded { AreRecorded given.now.network.sources (map (λ xs. xs.items) given.now.sources.items) }
+/// How many drops a network has.
+fn drops_of(alloc: Global, network: &Network) -> Option<u32>
+    requires { IsSound network.now }
+    ensures { IfSome result (λ count. count ≡ length (points_of network.now)) }
 {
-    for output in 0..given.network.outputs.as_slice().len() as u32 {
-        compare_output(rt, given, text, output)?;
-    }
-    Ok(())
+    let Ok(points) = network_points(alloc, network) else {
+        return None;
+    };
+    u32::try_from(points.len()).ok()
 }
 
 /// Compares each drop, and then how many lines of drops there are.
-fn compare_drops(rt: &HostRuntime, given: &Given, text: &str) -> Result<(), Error>
+fn compare_drops(
+    alloc: Global,
+    shown: &mut String,
+    given: &Given,
+    text: &str,
+) -> Result<(), AllocError>
     requires sound { IsSound given.now.network }
     requires limits { KeepsDropLimits given.now.network }
     requires recorded { AreRecorded given.now.network.sources (map (λ xs. xs.items) given.now.sources.items) }
 {
-    let Ok(points) = network_points(rt.alloc(), &given.network) else {
-        println!(rt; "differs from the model: its drop points")?;
-        return Ok(());
-    };
-    let Ok(count) = u32::try_from(points.len()) else {
-        println!(rt; "differs from the model: its drop points")?;
-        return Ok(());
+    let Some(count) = drops_of(alloc, &given.network) else {
+        return show_difference(shown, "its drop points");
     };
     let mut batches = 0usize;
     for w in 0..count {
-        batches = batches.saturating_add(compare_drop(rt, given, text, w)?);
+        batches = batches.saturating_add(compare_drop(alloc, shown, given, text, w)?);
     }
-    if count_of(text, "@drop") != batches {
-        println!(rt; "differs from the model: @drop")?;
+    if count_of(text, "@drop") == batches {
+        return Ok(());
     }
-    Ok(())
+    show_difference(shown, "@drop")
+}
+
+/// Compares what a run wrote with the answers and the records of what it was over.
+fn compare_given(
+    alloc: Global,
+    shown: &mut String,
+    given: &Given,
+    text: &str,
+) -> Result<(), AllocError>
+    requires sound { IsSound given.now.network }
+    requires limits { KeepsDropLimits given.now.network }
+    requires recorded { AreRecorded given.now.network.sources (map (λ xs. xs.items) given.now.sources.items) }
+{
+    compare_outputs(alloc, shown, given, text)?;
+    compare_drops(alloc, shown, given, text)
 }
 
 /// Compares what the run of a case wrote with the answers and the records of `sq_model`, and shows each class that
 /// differs.
-pub fn compare(rt: &HostRuntime, case: Case, text: &str) -> Result<(), Error> {
-    let Some(given) = given_by(rt.alloc(), case) else {
-        println!(rt; "differs from the model: its files")?;
-        return Ok(());
-    };
-    compare_outputs(rt, &given, text)?;
-    compare_drops(rt, &given, text)
+pub fn compare(
+    alloc: Global,
+    shown: &mut String,
+    case: &str,
+    text: &str,
+) -> Result<(), AllocError> {
+    match given_by(alloc, Case::read(alloc, case)?) {
+        Some(given) => compare_given(alloc, shown, &given, text),
+        None => show_difference(shown, "its files"),
+    }
 }

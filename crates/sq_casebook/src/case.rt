@@ -1,212 +1,165 @@
 // A case: what a run is over.
-use crate::texts::{items_of, numbers_of, written_out};
-use sq_gen::generate;
+use crate::texts::{push_items, push_line, setting, written_out};
+use sq_gen::{Made, generate};
 use sq_outside::{Flip, Swap};
 use std::alloc::{AllocError, Global};
 
-/// What goes wrong in turn, once in each run, until nothing does.
-#[derive(Clone, Copy, Debug, PartialEq, Eq)]
-pub enum Turns {
-    /// One run.
-    Once,
-    /// Each call of the folder fails.
-    Reads,
-    /// Each call of the output fails.
-    Writes,
-    /// Each call of the sink of messages fails.
-    Messages,
-    /// Each call of the disk fails.
-    Calls,
-    /// Each get of the disk answers a byte wrongly.
-    Flips,
+/// What goes wrong in a run: the calls that fail, and the gets of the disk that answer a byte wrongly, or another page.
+#[derive(Drop)]
+pub struct Faults {
+    pub folder: Vec<u64>,
+    pub out: Vec<u64>,
+    pub err: Vec<u64>,
+    pub disk: Vec<u64>,
+    pub flips: Vec<Flip>,
+    pub swaps: Vec<Swap>,
 }
 
-/// The words, the files and the calls that are to fail of a run.
+/// The words, the files and the faults of a run.
 #[derive(Drop)]
 pub struct Case {
     pub words: Vec<String>,
     pub files: Vec<(String, Vec<u8>)>,
-    pub folder_fails: Vec<u64>,
-    pub out_fails: Vec<u64>,
-    pub err_fails: Vec<u64>,
-    pub disk_fails: Vec<u64>,
-    pub flips: Vec<Flip>,
-    pub swaps: Vec<Swap>,
-    pub turns: Turns,
-    /// Whether what the run wrote is cut at each byte and audited.
-    pub cuts: bool,
-    /// How many pages are put at least, where this is shown.
-    pub least_puts: Option<usize>,
+    pub faults: Faults,
     /// How many bytes a call of a sink takes.
     pub takes: usize,
-    /// The first fields whose lines are shown by class, where the order of classes isn't fixed.
-    pub classes: Vec<String>,
-    /// The first fields of which only the number of lines is shown, after those.
-    pub counted: Vec<String>,
-    /// The number and the lines of a stream that is made, with its network and its capacities, where there is one.
-    pub made: Option<(u64, u32)>,
-    /// Whether the slow definitions are asked.
-    compared: bool,
 }
 
 /// Which byte of a page is answered wrongly.
 const CHANGED: u32 = 17;
 
-fn flips_of(alloc: Global, value: &str) -> Result<Vec<Flip>, AllocError> {
-    let mut flips = Vec::new(alloc);
-    for get in numbers_of(alloc, value)? {
-        flips.push(Flip { get, at: CHANGED })?;
+/// The words of a case, between commas.
+pub fn words_of(case: &str) -> &str {
+    setting(case, "words").unwrap_or("run,a.toml")
+}
+
+/// Puts the numbers of a setting at the end of a list.
+fn push_numbers(numbers: &mut Vec<u64>, case: &str, key: &str) -> Result<(), AllocError> {
+    for number in setting(case, key).unwrap_or("").split(',') {
+        if let Ok(number) = number.parse::<u64>() {
+            numbers.push(number)?;
+        }
     }
-    Ok(flips)
+    Ok(())
 }
 
-fn swaps_of(alloc: Global, value: &str) -> Result<Vec<Swap>, AllocError> {
-    let mut swaps = Vec::new(alloc);
-    for get in numbers_of(alloc, value)? {
-        swaps.push(Swap { get })?;
+fn push_flips(flips: &mut Vec<Flip>, case: &str) -> Result<(), AllocError> {
+    for get in setting(case, "flips").unwrap_or("").split(',') {
+        if let Ok(get) = get.parse::<u64>() {
+            flips.push(Flip { get, at: CHANGED })?;
+        }
     }
-    Ok(swaps)
+    Ok(())
 }
 
-/// A number and how many lines, which are 1 to 1,000,000.
-fn made_of(value: &str) -> Option<(u64, u32)> {
-    let (number, rows) = value.split_once(',')?;
-    let rows = rows.parse::<u32>().ok()?;
-    Some((number.parse::<u64>().ok()?, rows.clamp(1, 1_000_000)))
+fn push_swaps(swaps: &mut Vec<Swap>, case: &str) -> Result<(), AllocError> {
+    for get in setting(case, "swaps").unwrap_or("").split(',') {
+        if let Ok(get) = get.parse::<u64>() {
+            swaps.push(Swap { get })?;
+        }
+    }
+    Ok(())
 }
 
-fn turns_of(value: &str) -> Turns {
-    match value {
-        "reads" => Turns::Reads,
-        "writes" => Turns::Writes,
-        "messages" => Turns::Messages,
-        "calls" => Turns::Calls,
-        "flips" => Turns::Flips,
-        _ => Turns::Once,
+/// Puts a line of a file at the end of a text; one that ends in `\` has no end of line.
+fn push_file_line(text: &mut String, line: &str) -> Result<(), AllocError> {
+    match line.strip_suffix('\\') {
+        Some(line) => text.push_str(line),
+        None => push_line(text, line),
+    }
+}
+
+/// What a file holds that has these lines.
+fn text_of(alloc: Global, lines: &str) -> Result<String, AllocError> {
+    let mut text = String::new(alloc);
+    for line in lines.lines() {
+        push_file_line(&mut text, line)?;
+    }
+    written_out(alloc, text.as_str())
+}
+
+impl Faults {
+    fn none(alloc: Global) -> Faults {
+        Faults {
+            folder: Vec::new(alloc),
+            out: Vec::new(alloc),
+            err: Vec::new(alloc),
+            disk: Vec::new(alloc),
+            flips: Vec::new(alloc),
+            swaps: Vec::new(alloc),
+        }
+    }
+
+    /// Takes what a case says is to go wrong.
+    fn take(&mut self, case: &str) -> Result<(), AllocError> {
+        push_numbers(&mut self.folder, case, "folder fails")?;
+        push_numbers(&mut self.out, case, "out fails")?;
+        push_numbers(&mut self.err, case, "err fails")?;
+        push_numbers(&mut self.disk, case, "disk fails")?;
+        push_flips(&mut self.flips, case)?;
+        push_swaps(&mut self.swaps, case)
     }
 }
 
 impl Case {
-    /// The same case, in which this goes wrong once.
-    pub fn in_turn(mut self, alloc: Global, number: u64) -> Result<Case, AllocError> {
-        match self.turns {
-            Turns::Once => {}
-            Turns::Reads => self.folder_fails = vec![in alloc; number]?,
-            Turns::Writes => self.out_fails = vec![in alloc; number]?,
-            Turns::Messages => self.err_fails = vec![in alloc; number]?,
-            Turns::Calls => self.disk_fails = vec![in alloc; number]?,
-            Turns::Flips => self.flips = vec![in alloc;
-                Flip {
-                    get: number,
-                    at: CHANGED
-                },
-            ]?,
-        }
-        Ok(self)
-    }
-
-    /// `run a.toml` over an empty folder, where nothing fails.
-    fn new(alloc: Global) -> Result<Case, AllocError> {
-        Ok(Case {
-            words: items_of(alloc, "run,a.toml")?,
-            files: Vec::new(alloc),
-            folder_fails: Vec::new(alloc),
-            out_fails: Vec::new(alloc),
-            err_fails: Vec::new(alloc),
-            disk_fails: Vec::new(alloc),
-            flips: Vec::new(alloc),
-            swaps: Vec::new(alloc),
-            turns: Turns::Once,
-            cuts: false,
-            least_puts: None,
-            takes: 4096,
-            classes: Vec::new(alloc),
-            counted: Vec::new(alloc),
-            made: None,
-            compared: true,
-        })
-    }
-
-    /// Takes a setting, which stands before the files.
-    fn set(&mut self, alloc: Global, key: &str, value: &str) -> Result<(), AllocError> {
-        match key {
-            "words" => self.words = items_of(alloc, value)?,
-            "folder fails" => self.folder_fails = numbers_of(alloc, value)?,
-            "out fails" => self.out_fails = numbers_of(alloc, value)?,
-            "err fails" => self.err_fails = numbers_of(alloc, value)?,
-            "disk fails" => self.disk_fails = numbers_of(alloc, value)?,
-            "flips" => self.flips = flips_of(alloc, value)?,
-            "swaps" => self.swaps = swaps_of(alloc, value)?,
-            "turns" => self.turns = turns_of(value),
-            "cuts" => self.cuts = value == "yes",
-            "puts" => self.least_puts = value.parse::<usize>().ok(),
-            "classes" => self.classes = items_of(alloc, value)?,
-            "counted" => self.counted = items_of(alloc, value)?,
-            "made" => self.made = made_of(value),
-            "compared" => self.compared = value != "no",
-            "takes" => self.takes = value.parse::<usize>().unwrap_or(1).max(1),
-            _ => {}
-        }
-        Ok(())
-    }
-
-    /// Whether what it gives is compared with the slow definitions: a run over files that are written out, unless it says no.
-    pub fn is_compared(&self) -> bool {
-        match self.words.first() {
-            Some(word) => word.as_str() == "run" && self.made.is_none() && self.compared,
-            None => false,
-        }
-    }
-
-    /// Takes the files that are made: `net.toml`, `trades.csv` and `capacities.csv`.
-    fn take_made(&mut self, alloc: Global, number: u64, rows: u32) -> Result<(), AllocError> {
-        let made = generate(alloc, number, rows.clamp(1, 1_000_000))?;
-        for (name, bytes) in [
-            ("net.toml", made.net),
-            ("trades.csv", made.stream),
-            ("capacities.csv", made.capacities),
-        ] {
-            let bytes = Vec::from_slice(alloc, bytes.as_slice())?;
-            self.files.push((String::from_str(alloc, name)?, bytes))?;
-        }
+    /// Takes a file.
+    pub fn push_file(&mut self, alloc: Global, name: &str, bytes: &[u8]) -> Result<(), AllocError> {
+        let bytes = Vec::from_slice(alloc, bytes)?;
+        self.files.push((written_out(alloc, name)?, bytes))?;
         Ok(())
     }
 
     /// Takes a file: its name, and then its lines.
     fn take_file(&mut self, alloc: Global, file: &str) -> Result<(), AllocError> {
-        let mut lines = file.lines();
-        let name = written_out(alloc, lines.next().unwrap_or(""))?;
-        let mut text = String::new(alloc);
-        for line in lines {
-            match line.strip_suffix('\\') {
-                Some(line) => text.push_str(line)?,
-                None => {
-                    text.push_str(line)?;
-                    text.push('\n')?;
-                }
-            }
+        let (name, lines) = file.split_once('\n').unwrap_or((file, ""));
+        let text = text_of(alloc, lines)?;
+        self.push_file(alloc, name, text.as_bytes())
+    }
+
+    fn push_made(&mut self, alloc: Global, made: &Made) -> Result<(), AllocError> {
+        self.push_file(alloc, "net.toml", made.net.as_slice())?;
+        self.push_file(alloc, "trades.csv", made.stream.as_slice())?;
+        self.push_file(alloc, "capacities.csv", made.capacities.as_slice())
+    }
+
+    /// Takes the files that are made of a number, and so many lines of a stream, which are 1 to 1,000,000.
+    fn take_made(&mut self, alloc: Global, made: &str) -> Result<(), AllocError> {
+        let (number, rows) = made.split_once(',').unwrap_or((made, ""));
+        let number = number.parse::<u64>().unwrap_or(0);
+        let rows = rows.parse::<u32>().unwrap_or(1).clamp(1, 1_000_000);
+        let made = generate(alloc, number, rows)?;
+        self.push_made(alloc, &made)
+    }
+
+    /// Takes the files of a case.
+    fn take_files(&mut self, alloc: Global, case: &str) -> Result<(), AllocError> {
+        for file in case.split("\n- ").skip(1) {
+            self.take_file(alloc, file)?;
         }
-        let text = written_out(alloc, text.as_str())?;
-        let bytes = Vec::from_slice(alloc, text.as_bytes())?;
-        self.files.push((name, bytes))?;
         Ok(())
+    }
+
+    /// Takes what stands in the text of a case.
+    fn take(&mut self, alloc: Global, case: &str) -> Result<(), AllocError> {
+        push_items(&mut self.words, words_of(case))?;
+        self.faults.take(case)?;
+        self.take_files(alloc, case)?;
+        match setting(case, "made") {
+            Some(made) => self.take_made(alloc, made),
+            None => Ok(()),
+        }
     }
 
     /// The case of a text: settings, and then files.
     pub fn read(alloc: Global, text: &str) -> Result<Case, AllocError> {
-        let mut case = Case::new(alloc)?;
-        let mut parts = text.split("\n- ");
-        for setting in parts.next().unwrap_or("").lines() {
-            if let Some((key, value)) = setting.split_once(':') {
-                case.set(alloc, key, value.trim())?;
-            }
-        }
-        for file in parts {
-            case.take_file(alloc, file)?;
-        }
-        if let Some((number, rows)) = case.made {
-            case.take_made(alloc, number, rows)?;
-        }
+        let takes = setting(text, "takes").unwrap_or("4096");
+        let mut case = Case {
+            words: Vec::new(alloc),
+            files: Vec::new(alloc),
+            faults: Faults::none(alloc),
+            takes: takes.parse::<usize>().unwrap_or(1),
+        };
+        case.take(alloc, text)?;
         Ok(case)
     }
 }

@@ -11,7 +11,7 @@ use sq_outside::{Folder, MemFolder};
 use sq_plan::Capacities;
 use sq_reader::read_network;
 use sq_replay::{read_capacities, read_stream};
-use sq_top::{Command, read_words};
+use sq_top::{Command, RunArgs, read_words};
 use sq_value::{Name, Tuple};
 use std::alloc::Global;
 
@@ -19,12 +19,23 @@ use std::alloc::Global;
 const MOST: u64 = 67_108_864;
 
 /// A network, its recorded streams, the capacities and the seed.
-#[derive(Drop)]
 pub struct Given {
     pub network: Network,
     pub sources: Vec<Vec<Tuple>>,
     pub capacities: Capacities,
     pub seed: u64,
+}
+
+/// By hand, so that a proof above meets one call where this is let go.
+impl Drop for Given {
+    fn drop(self) {
+        let Given {
+            network: _network,
+            sources: _sources,
+            capacities: _capacities,
+            seed: _seed,
+        } = self;
+    }
 }
 
 fn bytes_of(alloc: Global, folder: &mut MemFolder, name: &Name) -> Option<Vec<u8>>
@@ -88,23 +99,41 @@ fn sources_of(alloc: Global, folder: &mut MemFolder, network: &Network) -> Optio
     Some(streams)
 }
 
-/// What the run of a case is over, where its words and files are accepted.
-pub fn given_by(alloc: Global, case: Case) -> Option<Given>
+/// What the words of a run ask for, where they are such.
+fn args_of(alloc: Global, words: &Vec<String>) -> Option<RunArgs> {
+    match read_words(alloc, words) {
+        Ok(Command::Run(args)) => Some(args),
+        _ => None,
+    }
+}
+
+/// What a run is over that is asked for, where its files are accepted.
+fn given_in(alloc: Global, folder: &mut MemFolder, args: &RunArgs) -> Option<Given>
     ensures sound { IfSome result (λ g. IsSound g.network) }
     ensures limits { IfSome result (λ g. KeepsDropLimits g.network) }
     ensures recorded { IfSome result (λ g. AreRecorded g.network.sources (map (λ xs. xs.items) g.sources.items)) }
 {
-    let Ok(Command::Run(args)) = read_words(alloc, &case.words) else {
-        return None;
-    };
-    let mut folder = MemFolder::new(case.files, Vec::new(alloc));
-    let network = network_of(alloc, &mut folder, &args.net)?;
-    let capacities = capacities_of(alloc, &mut folder, &args.capacities)?;
-    let sources = sources_of(alloc, &mut folder, &network)?;
+    let capacities = capacities_of(alloc, folder, &args.capacities)?;
+    let network = network_of(alloc, folder, &args.net)?;
+    let sources = sources_of(alloc, folder, &network)?;
     Some(Given {
         network,
         sources,
         capacities,
         seed: args.seed,
     })
+}
+
+/// What the run of a case is over, where its words and files are accepted.
+pub fn given_by(alloc: Global, case: Case) -> Option<Given>
+    ensures sound { IfSome result (λ g. IsSound g.network) }
+    ensures limits { IfSome result (λ g. KeepsDropLimits g.network) }
+    ensures recorded { IfSome result (λ g. AreRecorded g.network.sources (map (λ xs. xs.items) g.sources.items)) }
+{
+    let args = args_of(alloc, &case.words);
+    let mut folder = MemFolder::new(case.files, Vec::new(alloc));
+    match &args {
+        Some(args) => given_in(alloc, &mut folder, args),
+        None => None,
+    }
 }

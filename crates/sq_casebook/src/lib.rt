@@ -7,8 +7,8 @@
 //! run wrote, or one of files that are made, is audited beside its files, and a verdict that isn't yes is shown. Below stand the top call, the readers and
 //! the slow definitions.
 //!
-//! A case begins with a line `= TITLE`. Settings follow, if any; then files, each `- NAME` and its lines; then rows, each
-//! `| ROW`, and each a run with the row in place of `$`. A line that ends in `\` has no end of line, `\n` and `\r` are ends of
+//! A case begins with a line `= TITLE`. Settings follow, if any, of which each counts where it first stands; then files, each `- NAME` and
+//! its lines; then rows, each `| ROW`, and each a run with the row in place of `$`. A line that ends in `\` has no end of line, `\n` and `\r` are ends of
 //! lines, and `~COUNT TEXT~` is so many copies, with the number of each in place of `#`. The settings:
 //! - `words: run,a.toml`; `made: 7,20000` (the files that the generator makes of a number and so many lines);
 //! - `folder fails: 0,2`, `out fails: 9`, `err fails: 0`, `disk fails: 2` (calls that fail), `takes: 1` (how many bytes a call of
@@ -28,7 +28,8 @@ mod beside;
 mod case;
 mod given;
 mod running;
+mod showing;
 mod texts;
 mod turns;
 
-pub use running::show_cases;
+pub use showing::show_cases;

@@ -3,7 +3,7 @@ use Rattle.std.proofs.lemmas.List.{length-map}
 use Rattle.std.proofs.lemmas.List.Elements.{All-from_recursion}
 use Rattle.sq_value.specs.Values.{IsStream}
 use Rattle.sq_top.proofs.SourceLemmas.{recorded_even, recorded_few, recorded_streams}
-use Rattle.sq_casebook.proofs.beside.compare_output.Goals as goal
+use Rattle.sq_casebook.proofs.beside.is_answered.Goals as goal
 
 pub answer-requires-clause-lists : goal.answer-requires-clause-lists
 answer-requires-clause-lists c =
