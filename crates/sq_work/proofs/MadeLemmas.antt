@@ -1,8 +1,8 @@
 -- What a number makes leads to a replay, or to the rule that it breaks.
-use Rattle.std.proofs.Common.{◌≡◌, ◌≢◌, ◌⊎◌, inl, inr, ℕ, ◌+◌, ◌<◌, false, List, [], ◌∷◌, ◌++◌, length, drop, get_or, refl, ap, sym, ◌∙◌, subst, Some}
+use Rattle.std.proofs.Common.{◌≡◌, ◌≢◌, ◌⊎◌, inl, inr, ℕ, ◌+◌, ◌≤◌, false, List, [], ◌∷◌, ◌++◌, length, drop, refl, ap, sym, ◌∙◌, subst, Some}
 use Rattle.std.specs.Prelude.{slice_get, Result, Ok, Err}
-use Rattle.std.proofs.lemmas.List.{drop_more}
-use Rattle.std.proofs.lemmas.Option.{slice_get-get_or}
+use Rattle.std.proofs.lemmas.List.{drop_all, drop_more}
+use Rattle.std.proofs.lemmas.Option.{get_or_from_slice_get, slice_get_within}
 use Rattle.sq_value.specs.declared.Tuple.{Tuple}
 use Rattle.sq_net.specs.declared.NetErr.{NetErr}
 use Rattle.sq_net.specs.declared.NetErr.TheVariants as net
@@ -24,7 +24,7 @@ use Rattle.sq_work.specs.Scripts.{Done, AcceptedReplay, Script, Stops, after_str
 use Rattle.sq_work.specs.Refusals.{IsRefusedBy, HasBadLine}
 
 -- the source at a place, where those before it were read
-module _ (bytes : List ℕ) (all : List Source) (vs : List (List Tuple)) (i : ℕ) (s : Source) (inside : i < length all) (at : s ≡ get_or all i s) (counted : length vs ≡ i)
+module _ (bytes : List ℕ) (all : List Source) (vs : List (List Tuple)) (i : ℕ) (s : Source) (at : slice_get all i ≡ Some s) (counted : length vs ≡ i)
     (leads : (r : AcceptedReplay) → made_streams bytes (with_sources r []) all ≡ made_streams bytes (with_sources r vs) (drop i all)) where
   abbrev made_next : AcceptedReplay → List Tuple → Script
   made_next r xs = made_streams bytes (with_sources r (vs ++ xs ∷ [])) (drop (i + 1) all)
@@ -32,19 +32,21 @@ module _ (bytes : List ℕ) (all : List Source) (vs : List (List Tuple)) (i : �
   made_here : (r : AcceptedReplay) (e : Result (List Tuple) (ℕ × Why)) → stream_in s.schema bytes ≡ e
       → made_streams bytes (with_sources r []) all ≡ after_stream (length vs) (made_next r) e
   made_here r e said =
-      let left : drop i all ≡ s ∷ drop (i + 1) all = drop_more all i s inside ∙ ap (λ (x : Source). x ∷ drop (i + 1) all) (sym at) in
+      let left : drop i all ≡ s ∷ drop (i + 1) all = drop_more all i s (slice_get_within all i s at) ∙ ap (λ (x : Source). x ∷ drop (i + 1) all) (get_or_from_slice_get all i s s at) in
       leads r ∙ ap (made_streams bytes (with_sources r vs)) left ∙ ap (after_stream (length vs) (made_next r)) said
 
   pub made_on : (xs : List Tuple) → stream_in s.schema bytes ≡ Ok xs → (r : AcceptedReplay)
       → made_streams bytes (with_sources r []) all ≡ made_streams bytes (with_sources r (vs ++ xs ∷ [])) (drop (i + 1) all)
   made_on xs said r = made_here r (Ok xs) said
 
-  pub made_bad : (number : ℕ) (result : Status) (source : List ℕ) → number ≡ i → HasBadLine number s bytes result source → HasBadStreams bytes all result source
-  made_bad number result source same (inl memory) = inl memory
-  made_bad number result source same (inr (line, why, said, bad)) =
-      let here : number ≡ length vs = same ∙ sym counted in
-      let there : slice_get all number ≡ Some s = ap (slice_get all) same ∙ slice_get-get_or all i s inside ∙ ap (λ (x : Source). Some x) (sym at) in
-      inr (number, s, line, why, there, (λ r. made_here r (Err (line, why)) said ∙ ap (λ k. Stops (status.BadStream k line why)) (sym here)), bad)
+  pub made_all : (xs : List Tuple) → stream_in s.schema bytes ≡ Ok xs → length all ≤ i + 1 → (r : AcceptedReplay)
+      → made_streams bytes (with_sources r []) all ≡ Done (with_sources r (vs ++ xs ∷ []))
+  made_all xs said last r = made_on xs said r ∙ ap (made_streams bytes (with_sources r (vs ++ xs ∷ []))) (drop_all (i + 1) all last)
+
+  pub made_bad : (number : ℕ) (result : Status) (source : List ℕ) → number ≡ length vs → HasBadLine number s bytes result source → HasBadStreams bytes all result source
+  made_bad number result source here (inl memory) = inl memory
+  made_bad number result source here (inr (line, why, said, bad)) =
+      inr (number, s, line, why, ap (slice_get all) (here ∙ counted) ∙ at, (λ r. made_here r (Err (line, why)) said ∙ ap (λ k. Stops (status.BadStream k line why)) (sym here)), bad)
 
 module _ (number rows : ℕ) (made : Made) (is : made ≡ made_of number rows) where
   -- it breaks a rule

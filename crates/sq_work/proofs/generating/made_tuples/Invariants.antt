@@ -5,8 +5,8 @@ use Rattle.sq_work.proofs.generating.made_tuples.Given as goal
 
 abbrev pub invariant-sources : goal.invariant-sources
 invariant-sources l = record {
-  leads : (r : AcceptedReplay) → made_streams l.bytes (with_sources r []) l.network.sources
-      ≡ made_streams l.bytes (with_sources r (map (λ xs. xs.items) l.streams.items)) (drop l.source-index l.network.sources);
+  leads : (r : AcceptedReplay) → made_streams l.text.items (with_sources r []) l.network.sources
+      ≡ made_streams l.text.items (with_sources r (map (λ xs. xs.items) l.streams.items)) (drop l.source-index l.network.sources);
   recorded : AreRecorded (take l.source-index l.network.sources) (map (λ xs. xs.items) l.streams.items);
-  counted : length l.streams.items ≡ l.source-index;
+  counted : length (map (λ xs. xs.items) l.streams.items) ≡ l.source-index;
 }
