@@ -5,11 +5,12 @@ use sq_value::ListOf;
 use std::alloc::{AllocError, Global};
 use std::test::Fail;
 
-fn map_of(alloc: Global, input: u32) -> Result<BoxWires, AllocError>
-    ensures { IfOk result (λ b. b ≡ record { kind = BoxKind.Map; inputs = input ∷ []; ports = 1 }) }
+/// A box of this kind with one input and one port.
+pub fn box_of(alloc: Global, kind: BoxKind, input: u32) -> Result<BoxWires, AllocError>
+    ensures { IfOk result (λ b. b ≡ record { kind = kind; inputs = input ∷ []; ports = 1 }) }
 {
     Ok(BoxWires {
-        kind: BoxKind::Map,
+        kind,
         inputs: ListOf::new(Vec::from_slice(alloc, &[input])?),
         ports: 1,
     })
@@ -18,13 +19,15 @@ fn map_of(alloc: Global, input: u32) -> Result<BoxWires, AllocError>
 // The first of two maps takes what the second gives.
 #[test]
 fn puts_each_box_behind_its_input(rt: HostRuntime) -> Result<(), Fail> {
-    let boxes = vec![in rt.alloc(); map_of(rt.alloc(), 2)?, map_of(rt.alloc(), 0)?]?;
+    let alloc = rt.alloc();
+    let first = box_of(alloc, BoxKind::Map, 2)?;
+    let boxes = vec![in alloc; first, box_of(alloc, BoxKind::Map, 0)?]?;
     let w = Wiring {
         sources: 1,
         boxes: ListOf::new(boxes),
-        outputs: ListOf::new(Vec::new(rt.alloc())),
+        outputs: ListOf::new(Vec::new(alloc)),
     };
-    let found = order(rt.alloc(), &w)?;
+    let found = order(alloc, &w)?;
     assert!(rt; found.as_slice() == [1, 0].as_slice());
     Ok(())
 }

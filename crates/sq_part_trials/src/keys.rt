@@ -120,31 +120,31 @@ fn words_of(alloc: Global, row: &str) -> Result<Vec<String>, AllocError> {
     Ok(words)
 }
 
-fn put(
-    alloc: Global,
-    name: &str,
-    bytes: Vec<u8>,
-    files: &mut Vec<(String, Vec<u8>)>,
-) -> Result<(), AllocError> {
-    files.push((String::from_str(alloc, name)?, bytes))?;
+type Files = Vec<(String, Vec<u8>)>;
+
+fn put(alloc: Global, name: &str, bytes: &[u8], files: &mut Files) -> Result<(), AllocError> {
+    let name = String::from_str(alloc, name)?;
+    let bytes = Vec::from_slice(alloc, bytes)?;
+    files.push((name, bytes))?;
     Ok(())
+}
+
+fn put_long(alloc: Global, files: &mut Files) -> Result<(), AllocError> {
+    let name = String::from_str(alloc, "long")?;
+    let bytes = vec![in alloc; b'#'; 1_048_577]?;
+    files.push((name, bytes))?;
+    Ok(())
+}
+
+fn put_all(alloc: Global, files: &mut Files) -> Result<(), AllocError> {
+    put(alloc, "a.toml", NETWORK.as_bytes(), files)?;
+    put(alloc, "t.csv", b"1,a,7\n", files)?;
+    put_long(alloc, files)
 }
 
 fn folder(alloc: Global) -> Result<MemFolder, AllocError> {
     let mut files = Vec::new(alloc);
-    put(
-        alloc,
-        "a.toml",
-        Vec::from_slice(alloc, NETWORK.as_bytes())?,
-        &mut files,
-    )?;
-    put(
-        alloc,
-        "t.csv",
-        Vec::from_slice(alloc, b"1,a,7\n")?,
-        &mut files,
-    )?;
-    put(alloc, "long", vec![in alloc; b'#'; 1_048_577]?, &mut files)?;
+    put_all(alloc, &mut files)?;
     Ok(MemFolder::new(files, Vec::new(alloc)))
 }
 
@@ -161,52 +161,41 @@ fn ends(
     folder: &mut MemFolder,
     out: &mut MemSink,
     err: &mut MemSink,
-    text: &str,
-    message: &str,
+    told: (&str, &str),
 ) -> (u8, bool) {
+    let (text, message) = told;
     let status = run_keys(alloc, words, folder, out, err);
     let as_said = out.bytes() == text.as_bytes() && err.bytes() == message.as_bytes();
     (status.code(), as_said)
 }
 
+fn answered(
+    alloc: Global,
+    row: &str,
+    out: &mut MemSink,
+    told: (&str, &str),
+) -> Result<(u8, bool), AllocError> {
+    let words = words_of(alloc, row)?;
+    let mut folder = folder(alloc)?;
+    let mut err = sink(alloc, &[], 4096)?;
+    Ok(ends(alloc, &words, &mut folder, out, &mut err, told))
+}
+
 #[test]
 fn words_are_answered(rt: HostRuntime) -> Result<(), Fail> {
-    let alloc = rt.alloc();
-    for (row, text, message, code) in ROWS {
-        let words = words_of(alloc, row)?;
-        let mut folder = folder(alloc)?;
-        let mut out = sink(alloc, &[], 4096)?;
-        let mut err = sink(alloc, &[], 4096)?;
-        let end = ends(
-            alloc,
-            &words,
-            &mut folder,
-            &mut out,
-            &mut err,
-            text,
-            message,
-        );
-        assert!(rt; end == (code, true), "{row}");
+    for (row, text, message, code) in &ROWS {
+        let mut out = sink(rt.alloc(), &[], 4096)?;
+        let end = answered(rt.alloc(), row, &mut out, (*text, *message));
+        assert!(rt; end == Ok((*code, true)));
     }
     Ok(())
 }
 
 #[test]
 fn an_output_that_fails_has_a_part_of_the_text(rt: HostRuntime) -> Result<(), Fail> {
-    let alloc = rt.alloc();
-    let words = words_of(alloc, "a.toml trades=symbol")?;
-    let mut folder = folder(alloc)?;
-    let mut out = sink(alloc, &[1], 5)?;
-    let mut err = sink(alloc, &[], 4096)?;
-    let end = ends(
-        alloc,
-        &words,
-        &mut folder,
-        &mut out,
-        &mut err,
-        "o1,cu",
-        "aurora_keys: output failed\n",
-    );
-    assert!(rt; end == (10, true));
+    let mut out = sink(rt.alloc(), &[1], 5)?;
+    let told = ("o1,cu", "aurora_keys: output failed\n");
+    let end = answered(rt.alloc(), "a.toml trades=symbol", &mut out, told);
+    assert!(rt; end == Ok((10, true)));
     Ok(())
 }
