@@ -1,4 +1,4 @@
-// Tuples of one number, expressions over pairs of them, and marks.
+// Tuples of one number, expressions over two columns, and marks.
 ghost use Rattle.std.specs.Prelude.{◌≡◌, ◌<◌, ◌≤◌, ◌^◌, ◌∷◌, [], None, Some, length, IfOk};
 ghost use Rattle.sq_item.specs.SoundItems.{IsMark, IsSoundItem};
 ghost use Rattle.sq_lists.specs.Pairs.{left_fields};
@@ -28,15 +28,52 @@ pub fn item_at(alloc: Global, time: u64, v: i64) -> Result<Item, AllocError>
     })
 }
 
+/// Whether these values are these numbers.
+pub fn are_numbers(values: &[Value], numbers: &[i64]) -> bool {
+    let mut same = values.len() == numbers.len();
+    for (value, number) in values.iter().zip(numbers) {
+        same = same && matches!(value, Value::Int(n) if *n == *number);
+    }
+    same
+}
+
+// A column of numbers, and one of this kind.
+fn columns(alloc: Global, first: &str, second: &str, kind: Kind) -> Result<Schema, Fail>
+    ensures { IfOk result (λ s. s ≡ (first.now, Kind.Int) ∷ (second.now, kind) ∷ []) }
+{
+    let names = vec![in alloc; Name::new(alloc, first)?, Name::new(alloc, second)?]?;
+    Ok(Schema::new(names, vec![in alloc; Kind::Int, kind]?)?)
+}
+
+// An expression over these columns.
+fn typed_over(alloc: Global, scope: &Schema, text: &str) -> Result<Typed, Fail>
+    requires { length text.now ≤ 4096 }
+    ensures { IfOk result (λ e. e.scope ≡ scope.now) }
+{
+    let ast = parse(alloc, text)?;
+    Ok(check(alloc, &ast, scope)?)
+}
+
 /// An expression over a left and a right number, `l_v` and `r_v`.
 pub fn over_pairs(alloc: Global, text: &str) -> Result<Typed, Fail>
     requires { length text.now ≤ 4096 }
     ensures { IfOk result (λ on. left_fields on.scope ≡ 1) }
 {
-    let names = vec![in alloc; Name::new(alloc, "l_v")?, Name::new(alloc, "r_v")?]?;
-    let scope = Schema::new(names, vec![in alloc; Kind::Int, Kind::Int]?)?;
-    let ast = parse(alloc, text)?;
-    Ok(check(alloc, &ast, &scope)?)
+    let scope = columns(alloc, "l_v", "r_v", Kind::Int)?;
+    typed_over(alloc, &scope, text)
+}
+
+/// A number `v` and a text `w`.
+pub fn v_and_w(alloc: Global) -> Result<Schema, Fail> {
+    columns(alloc, "v", "w", Kind::Text)
+}
+
+/// An expression over a number `v` and a text `w`.
+pub fn over_v(alloc: Global, text: &str) -> Result<Typed, Fail>
+    requires { length text.now ≤ 4096 }
+{
+    let scope = v_and_w(alloc)?;
+    typed_over(alloc, &scope, text)
 }
 
 /// An item that is a mark alone.

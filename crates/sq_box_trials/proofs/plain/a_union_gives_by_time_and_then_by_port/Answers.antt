@@ -6,6 +6,6 @@ use Rattle.sq_box_trials.proofs.plain.a_union_gives_by_time_and_then_by_port.Goa
 two : (port : ℕ) → port < 2 → nat_lt port 2 ≡ true
 two port low = grind (arith, tests)
 
-pub outs_of-requires-clause-fits : goal.outs_of-requires-clause-fits
-outs_of-requires-clause-fits g c = λ port v low.
+pub gives-requires-clause-fits : goal.gives-requires-clause-fits
+gives-requires-clause-fits g c = λ port v low.
     c.new-union.ensures.fits port (v ∷ []) ∙ ap (λ (l : List ℕ). nat_lt port (length l)) c.in_ok-vec.ensures.items ∙ two port low

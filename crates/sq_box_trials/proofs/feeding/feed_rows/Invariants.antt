@@ -1,6 +1,6 @@
 use Rattle.std.proofs.Common.{◌≡◌, ℕ, ◌<◌, true, [], ◌∷◌}
 use Rattle.sq_value.specs.declared.Value.{Value}
-use Rattle.sq_box_trials.proofs.feeding.feed_all.Given as goal
+use Rattle.sq_box_trials.proofs.feeding.feed_rows.Given as goal
 
 abbrev pub invariant-loop-row : goal.invariant-loop-row
 invariant-loop-row g l =
@@ -11,5 +11,5 @@ invariant-loop-row g l =
       valid : op.valid l.op;
       running : op.running l.op ≡ true;
       fits : (port : ℕ) (v : Value) → port < l.ports → op.fits l.op port (v ∷ []) ≡ true;
-      reads : (epoch : ℕ) → op.reads l.op epoch ≡ true;
+      reads : op.reads l.op l.levels.epoch ≡ true;
     }
