@@ -17,11 +17,17 @@ pub fn box_of(alloc: Global, kind: BoxKind, input: u32) -> Result<BoxWires, Allo
 }
 
 // The first of two maps takes what the second gives.
+fn two_maps(alloc: Global) -> Result<Vec<BoxWires>, AllocError>
+    ensures { IfOk result (λ v. v.items ≡ record { kind = BoxKind.Map; inputs = 2 ∷ []; ports = 1 } ∷ record { kind = BoxKind.Map; inputs = 0 ∷ []; ports = 1 } ∷ []) }
+{
+    let first = box_of(alloc, BoxKind::Map, 2)?;
+    Ok(vec![in alloc; first, box_of(alloc, BoxKind::Map, 0)?]?)
+}
+
 #[test]
 fn puts_each_box_behind_its_input(rt: HostRuntime) -> Result<(), Fail> {
     let alloc = rt.alloc();
-    let first = box_of(alloc, BoxKind::Map, 2)?;
-    let boxes = vec![in alloc; first, box_of(alloc, BoxKind::Map, 0)?]?;
+    let boxes = two_maps(alloc)?;
     let w = Wiring {
         sources: 1,
         boxes: ListOf::new(boxes),

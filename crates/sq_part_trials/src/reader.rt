@@ -1,6 +1,6 @@
 // A file of every kind of box. Files that are refused are cases of the top call.
+use sq_net::Network;
 use sq_reader::read_network;
-use std::alloc::Global;
 use std::test::Fail;
 
 const FILE: &str = "version = 1
@@ -15,15 +15,16 @@ box = [
   {name='j', kind='join', in=['s', 'a'], size=3, on='l_w = r_w'},
 ]";
 
-// The epoch, the batch and how many boxes there are, and whether the one output shows stream 2.
-fn told(alloc: Global, file: &str) -> Result<(u64, u64, usize, bool), Fail> {
-    let n = read_network(alloc, file.as_bytes())?;
-    let shows = n.wires.outputs.as_slice() == [2].as_slice();
-    Ok((n.epoch, n.batch, n.boxes.as_slice().len(), shows))
+// Whether it has the defaults, six boxes, and an output that shows stream 2.
+fn is_read(n: &Network) -> bool {
+    (n.epoch, n.batch) == (1000, 1)
+        && n.boxes.as_slice().len() == 6
+        && n.wires.outputs.as_slice() == [2].as_slice()
 }
 
 #[test]
 fn a_file_of_every_kind_of_box_is_read(rt: HostRuntime) -> Result<(), Fail> {
-    assert!(rt; told(rt.alloc(), FILE)? == (1000, 1, 6, true));
+    let n = read_network(rt.alloc(), FILE.as_bytes())?;
+    assert!(rt; is_read(&n));
     Ok(())
 }

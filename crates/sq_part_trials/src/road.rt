@@ -22,8 +22,8 @@ fn losses_of(alloc: Global, middle: u32) -> Result<[u128; 20], GraphErr>
 fn road_of_three(alloc: Global) -> Result<Road, Fail> {
     let flat = losses_of(alloc, 500000)?;
     let bent = losses_of(alloc, 800000)?;
-    let losses = vec![in alloc; flat, bent, flat]?;
-    let gains = vec![in alloc; 100, 50, 0]?;
+    let gains = Vec::from_slice(alloc, &[100, 50, 0])?;
+    let losses = Vec::from_slice(alloc, &[flat, bent, flat])?;
     Ok(road(alloc, &gains, &losses)?)
 }
 
@@ -81,10 +81,14 @@ fn has_levels(road: &Road, capacity: u128) -> bool {
         && (road.level(row.taken, 0), road.level(row.taken, 1)) == (250, 500)
 }
 
+fn is_as_expected(road: &Road) -> bool {
+    has_steps(road) && has_rows(road) && has_levels(road, 2000)
+}
+
 #[test]
 fn rows_take_the_steps_that_lose_least_for_their_gain(rt: HostRuntime) -> Result<(), Fail> {
     let road = road_of_three(rt.alloc())?;
-    assert!(rt; has_steps(&road) && has_rows(&road) && has_levels(&road, 2000));
+    assert!(rt; is_as_expected(&road));
     Ok(())
 }
 
@@ -104,15 +108,22 @@ fn is_level(levels: &Levels, e: u64, w: u32, level: u32) -> bool {
     e < levels.closed() && levels.level(e, w) == level
 }
 
+fn are_levels(levels: &Levels) -> bool {
+    levels.epoch() == 10
+        && levels.closed() == 4
+        && is_level(levels, 0, 7, 0)
+        && is_level(levels, 1, 1, 500)
+        && is_level(levels, 1, 2, 0)
+        && is_level(levels, 3, 0, 0)
+}
+
 #[test]
 fn levels_are_those_set_and_0_elsewhere(rt: HostRuntime) -> Result<(), Fail> {
     let alloc = rt.alloc();
-    let set = vec![in alloc; 250, 500]?;
+    let set = Vec::from_slice(alloc, &[250, 500])?;
     let mut levels = Levels::new(alloc, 10);
     levels.set(1, set)?;
     levels.skip_to(4);
-    assert!(rt; (levels.epoch(), levels.closed()) == (10, 4));
-    assert!(rt; is_level(&levels, 0, 7, 0) && is_level(&levels, 1, 1, 500));
-    assert!(rt; is_level(&levels, 1, 2, 0) && is_level(&levels, 3, 0, 0));
+    assert!(rt; are_levels(&levels));
     Ok(())
 }

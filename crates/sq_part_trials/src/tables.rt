@@ -1,6 +1,5 @@
 // A file of every kind of box. Files that are refused are cases of the top call.
-use sq_tables::network_table_of;
-use std::alloc::Global;
+use sq_tables::{NetworkTable, network_table_of};
 use std::test::Fail;
 
 const FILE: &str = "version = 1
@@ -16,19 +15,15 @@ box = [
   {name='j', kind='join', in=['s', 's'], size=3, on='true'},
 ]";
 
-// The epoch, the batch, and how many sources and boxes there are.
-fn told(alloc: Global, file: &str) -> Result<(i64, i64, usize, usize), Fail> {
-    let raw = network_table_of(alloc, file.as_bytes())?;
-    Ok((
-        raw.epoch,
-        raw.batch,
-        raw.sources.as_slice().len(),
-        raw.boxes.as_slice().len(),
-    ))
+// Whether the epoch is 4 and the batch 1, and there are one source and six boxes.
+fn is_read(raw: &NetworkTable) -> bool {
+    (raw.epoch, raw.batch) == (4, 1)
+        && (raw.sources.as_slice().len(), raw.boxes.as_slice().len()) == (1, 6)
 }
 
 #[test]
 fn a_file_of_every_kind_of_box_is_read(rt: HostRuntime) -> Result<(), Fail> {
-    assert!(rt; told(rt.alloc(), FILE)? == (4, 1, 1, 6));
+    let raw = network_table_of(rt.alloc(), FILE.as_bytes())?;
+    assert!(rt; is_read(&raw));
     Ok(())
 }
