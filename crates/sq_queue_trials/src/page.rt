@@ -1,3 +1,7 @@
+ghost use Rattle.std.specs.Prelude.{◌≡◌, IfOk, IfSome, length};
+ghost use Rattle.sq_item.specs.SoundItems.{IsSoundItem};
+ghost use Rattle.sq_page.specs.Pages.{ItemBeginsAt};
+
 use crate::marks::mark_at;
 use sq_item::{Body, Item, Mark, Sign};
 use sq_page::{decode_page, encode_page, is_page, item_at, item_room};
@@ -16,42 +20,70 @@ fn comes_back(alloc: Global, page: &Vec<u8>) -> Result<bool, AllocError> {
     }
 }
 
+// A mark at 5 with a tuple of one number.
+fn marked_tuple(alloc: Global) -> Result<Item, AllocError>
+    ensures { IfOk result IsSoundItem }
+{
+    let values = vec![in alloc; Value::Int(1)]?;
+    Ok(Item {
+        time: 5,
+        mark: Sign::new(Some(Mark::Open { until: 9 })),
+        body: Body::some(ListOf::new(values)),
+    })
+}
+
+// The page of two items, where they take 27 and 9 bytes.
+fn page_of_two(alloc: Global, first: Item, second: Item) -> Result<Option<Vec<u8>>, AllocError>
+    requires first { IsSoundItem first }
+    requires second { IsSoundItem second }
+    ensures size { IfOk result (λ found. IfSome found (λ page. length page.items ≡ 8192)) }
+    ensures begins { IfOk result (λ found. IfSome found (λ page. ItemBeginsAt page.items 29)) }
+{
+    if (item_room(&first), item_room(&second)) == (27, 9) {
+        let items = vec![in alloc; first, second]?;
+        Ok(Some(encode_page(alloc, &items)?))
+    } else {
+        Ok(None)
+    }
+}
+
+// The time of the item that begins at a place of a page, and where it ends.
+fn time_and_end(alloc: Global, page: &[u8], at: u32) -> Result<(u64, u32), AllocError>
+    requires { ItemBeginsAt page.now at }
+{
+    let (item, end) = item_at(alloc, page, at)?;
+    Ok((item.time, end))
+}
+
 #[test]
 fn a_page_of_two_items(rt: HostRuntime) -> Result<(), Fail> {
     let alloc = rt.alloc();
-    let first = Item {
-        time: 5,
-        mark: Sign::new(Some(Mark::Open { until: 9 })),
-        body: Body::some(ListOf::new(vec![in alloc; Value::Int(1)]?)),
-    };
+    let first = marked_tuple(alloc)?;
     let second = mark_at(alloc, 7, Mark::Closed);
-    assert!(rt; (item_room(&first), item_room(&second)) == (27, 9));
-    let mut items = Vec::new(alloc);
-    items.push(first)?;
-    items.push(second)?;
-    let page = encode_page(alloc, &items)?;
+    let Some(page) = page_of_two(alloc, first, second)? else {
+        return Err(Fail::from("other rooms"));
+    };
     let front = [
         0, 2, 5, 0, 0, 0, 0, 0, 0, 0, 5, 0, 0, 0, 0, 0, 0, 0, 9, 1, 1, 0, 0, 0, 0, 0, 0, 0, 1, 2,
         0, 0, 0, 0, 0, 0, 0, 7,
     ];
     let (written, zeros) = page.split_at(38);
-    assert!(rt; written == front.as_slice());
-    assert!(rt; zeros == [0; 8154].as_slice());
-    let (item, end) = item_at(alloc, &page, 29)?;
-    assert!(rt; (item.time, end) == (7, 38));
+    assert!(rt; written == front.as_slice() && zeros == [0; 8154].as_slice());
+    assert!(rt; time_and_end(alloc, &page, 29) == Ok((7, 38)));
     Ok(())
 }
 
-// The page of one item of time 5: its flags, and what comes behind the time.
-fn page_of_one(alloc: Global, flags: u8, more: &[u8]) -> Result<Vec<u8>, AllocError> {
+// Of a page of one item of time 5, by its flags and what comes behind the time: whether it is a page, and whether it comes back.
+fn told_of_one(alloc: Global, flags: u8, more: &[u8]) -> Result<(bool, bool), AllocError> {
     let mut page = Vec::from_slice(alloc, &[0, 1, flags, 0, 0, 0, 0, 0, 0, 0, 5])?;
     page.extend_from_slice(more)?;
     page.resize(8192, 0)?;
-    Ok(page)
+    let back = comes_back(alloc, &page)?;
+    Ok((is_page(&page), back))
 }
 
 #[test]
-fn pages_have_items_of_each_form_and_no_others(rt: HostRuntime) -> Result<(), Fail> {
+fn pages_have_items_of_each_form_and_no_others(rt: HostRuntime) {
     let rows: [(u8, &[u8], bool); 19] = [
         (1, b"\x00\x00\x7f\xff\xff\xff\xff\xff", true),
         (2, b"", true),
@@ -77,20 +109,14 @@ fn pages_have_items_of_each_form_and_no_others(rt: HostRuntime) -> Result<(), Fa
         (4, b"\x01\x00\x01", false),
         (2, b"\x01", false),
     ];
-    for (flags, more, is) in rows {
-        let page = page_of_one(rt.alloc(), flags, more)?;
-        assert!(rt; is_page(&page) == is, "{flags} {more:?}");
-        assert!(rt; comes_back(rt.alloc(), &page)? == is, "{flags} {more:?}");
+    for (flags, more, is) in &rows {
+        assert!(rt; told_of_one(rt.alloc(), *flags, more) == Ok((*is, *is)));
     }
-    Ok(())
 }
 
 fn push_text(page: &mut Vec<u8>, bytes: u8) -> Result<(), AllocError> {
     page.extend_from_slice(&[3, bytes])?;
-    for _ in 0..bytes {
-        page.push(b'a')?;
-    }
-    Ok(())
+    page.extend_from_slice(&[b'a'; 255][..bytes as usize])
 }
 
 // An item with a mark and 16 texts, all but the last of 255 bytes.
@@ -110,18 +136,26 @@ fn push_numbers(page: &mut Vec<u8>, many: u64) -> Result<(), AllocError> {
     Ok(())
 }
 
+// How long the page of the largest items is when the first and when all are there, and whether it comes back.
+fn told_of_largest(alloc: Global) -> Result<(usize, usize, bool), AllocError> {
+    let mut page = Vec::from_slice(alloc, &[0, 2])?;
+    push_texts(&mut page, 255)?;
+    let one = page.len();
+    push_texts(&mut page, 185)?;
+    let back = comes_back(alloc, &page)?;
+    Ok((one, page.len(), back))
+}
+
+// Whether the page of most items comes back.
+fn most_come_back(alloc: Global) -> Result<bool, AllocError> {
+    let mut page = Vec::from_slice(alloc, &[1, 175])?;
+    push_numbers(&mut page, 431)?;
+    page.resize(8192, 0)?;
+    comes_back(alloc, &page)
+}
+
 #[test]
-fn full_pages_come_back(rt: HostRuntime) -> Result<(), Fail> {
-    let alloc = rt.alloc();
-    let mut largest = Vec::from_slice(alloc, &[0, 2])?;
-    push_texts(&mut largest, 255)?;
-    assert!(rt; largest.len() == 2 + 4130);
-    push_texts(&mut largest, 185)?;
-    assert!(rt; largest.len() == 8192);
-    assert!(rt; comes_back(alloc, &largest)?);
-    let mut most = Vec::from_slice(alloc, &[1, 175])?;
-    push_numbers(&mut most, 431)?;
-    most.resize(8192, 0)?;
-    assert!(rt; comes_back(alloc, &most)?);
-    Ok(())
+fn full_pages_come_back(rt: HostRuntime) {
+    assert!(rt; told_of_largest(rt.alloc()) == Ok((2 + 4130, 8192, true)));
+    assert!(rt; most_come_back(rt.alloc()) == Ok(true));
 }

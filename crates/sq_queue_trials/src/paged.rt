@@ -1,80 +1,69 @@
 ghost use Rattle.std.specs.Prelude.{◌≡◌, false, OnOk};
 ghost use Rattle.sq_paged.specs.Faces.{PagedTogether, paged_face, paged_size};
-ghost use Rattle.sq_item.specs.SoundItems.{IsSoundItem};
 ghost use Rattle.sq_pool.specs.Trust.{known};
 
 use crate::marks::mark_at;
-use sq_item::{Item, Mark};
+use sq_item::Mark;
 use sq_outside::{MemDisk, PageDisk};
 use sq_paged::{Head, QueueErr, Queues};
 use std::alloc::Global;
 use std::test::Fail;
 
-// Pushes an item on arc 1, sends another there, and ends it.
-fn fill<D: PageDisk>(
-    queues: &mut Queues,
-    disk: &mut D,
-    first: &Item,
-    second: Item,
-) -> Result<(), QueueErr>
-    requires first { IsSoundItem first.now }
-    requires second { IsSoundItem second }
+// Pushes an item of time 5 on arc 1, sends one of time 7 there, and ends it.
+fn fill<D: PageDisk>(alloc: Global, queues: &mut Queues, disk: &mut D) -> Result<(), QueueErr>
     requires size { paged_size queues.old ≡ 2 }
     requires open { (paged_face queues.old 1).ended ≡ false }
     requires together { PagedTogether queues.old (known (D.log disk.old)) }
     ensures size { OnOk result (paged_size queues.new ≡ 2) }
     ensures together { OnOk result (PagedTogether queues.new (known (D.log disk.new))) }
 {
-    queues.push(disk, 1, first)?;
-    queues.send(disk, 1, second)?;
+    queues.push(disk, 1, &mark_at(alloc, 5, Mark::Closed))?;
+    queues.send(disk, 1, mark_at(alloc, 7, Mark::Open { until: 9 }))?;
     queues.end(1);
     Ok(())
 }
 
-// Of an item that was taken, its time; then what stands first on its arc, how many items stand there, and how many pages are in
-// memory.
-type Taken = Option<(u64, Head, u64, u32)>;
-
-// Takes the first item of arc 1, where one stands.
-fn take<D: PageDisk>(queues: &mut Queues, disk: &mut D) -> Result<Taken, QueueErr>
+// Whether arc 1 has an item of this time first, and what then stands first there, how many items stand there and how many pages are
+// in memory once it is taken.
+fn takes<D: PageDisk>(
+    queues: &mut Queues,
+    disk: &mut D,
+    wanted: (u64, Head, u64, u32),
+) -> Result<bool, QueueErr>
     requires size { paged_size queues.old ≡ 2 }
     requires together { PagedTogether queues.old (known (D.log disk.old)) }
     ensures size { OnOk result (paged_size queues.new ≡ 2) }
     ensures together { OnOk result (PagedTogether queues.new (known (D.log disk.new))) }
 {
     let Head::Time(_) = queues.head(1) else {
-        return Ok(None);
+        return Ok(false);
     };
-    let item = queues.pop(disk, 1)?;
-    Ok(Some((item.time, queues.head(1), queues.len(1), queues.resident())))
+    let time = queues.pop(disk, 1)?.time;
+    Ok((time, queues.head(1), queues.len(1), queues.resident()) == wanted)
 }
 
-// What stands first on arcs 0 and 1 once arc 1 is filled, and how many pages are in memory; then what two takes tell.
-fn told<D: PageDisk>(
+// Whether arcs 0 and 1 are as they are to be once arc 1 is filled, and at each of its two items.
+fn is_in_order<D: PageDisk>(
     alloc: Global,
     queues: &mut Queues,
     disk: &mut D,
-) -> Result<((Head, Head, u32), [Taken; 2]), QueueErr>
+) -> Result<bool, QueueErr>
     requires size { paged_size queues.old ≡ 2 }
     requires open { (paged_face queues.old 1).ended ≡ false }
     requires together { PagedTogether queues.old (known (D.log disk.old)) }
 {
-    let first = mark_at(alloc, 5, Mark::Closed);
-    let second = mark_at(alloc, 7, Mark::Open { until: 9 });
-    fill(queues, disk, &first, second)?;
+    fill(alloc, queues, disk)?;
     let full = (queues.head(0), queues.head(1), queues.resident());
-    let taken = take(queues, disk)?;
-    Ok((full, [taken, take(queues, disk)?]))
+    let first = takes(queues, disk, (5, Head::Time(7), 1, 1))?;
+    let second = takes(queues, disk, (7, Head::Ended, 0, 0))?;
+    Ok(full == (Head::Empty, Head::Time(5), 1) && first && second)
 }
 
 #[test]
 fn an_arc_gives_its_items_in_order_and_then_its_end(rt: HostRuntime) -> Result<(), Fail> {
     let alloc = rt.alloc();
-    let mut disk = MemDisk::new(alloc, Vec::new(alloc), Vec::new(alloc));
     let mut queues = Queues::new(alloc, 2, 2)?;
-    let found = told(alloc, &mut queues, &mut disk);
-    let full = (Head::Empty, Head::Time(5), 1);
-    let taken = [Some((5, Head::Time(7), 1, 1)), Some((7, Head::Ended, 0, 0))];
-    assert!(rt; found.ok() == Some((full, taken)));
+    let mut disk = MemDisk::new(alloc, Vec::new(alloc), Vec::new(alloc));
+    assert!(rt; is_in_order(alloc, &mut queues, &mut disk).ok() == Some(true));
     Ok(())
 }

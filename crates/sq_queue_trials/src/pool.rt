@@ -4,6 +4,7 @@ ghost use Rattle.sq_pool.specs.Trust.{known};
 
 use sq_outside::{Flip, MemDisk, PageDisk};
 use sq_pool::{Pool, PoolErr};
+use std::alloc::Global;
 use std::test::Fail;
 
 // A page whose first byte is this.
@@ -57,63 +58,66 @@ fn replaced<D: PageDisk>(pool: &mut Pool, disk: &mut D, page: u64) -> Result<u64
     pool.make(disk)
 }
 
-fn used<D: PageDisk>(pool: &mut Pool, disk: &mut D) -> Result<(), PoolErr>
-    requires { Agree pool.old (known (D.log disk.old)) }
-{
-    let [p, q, _] = three(pool, disk)?;
-    brought(pool, disk, p)?;
-    replaced(pool, disk, q)?;
-    Ok(())
-}
+// Of three pages the first is brought back and the second replaced: the first byte of the first and how many pages are in frames
+// then, and the first byte of the new one.
+type Told = (Option<u8>, u32, Option<u8>);
 
-// Whether the first of three pages is told to have come back changed, and with another digest.
-fn is_garbled<D: PageDisk>(pool: &mut Pool, disk: &mut D) -> Result<bool, PoolErr>
+// Makes the three pages, whose numbers it notes, and does so.
+fn lived<D: PageDisk>(pool: &mut Pool, disk: &mut D, pages: &mut [u64; 3]) -> Result<Told, PoolErr>
     requires { Agree pool.old (known (D.log disk.old)) }
 {
-    let [p, _, _] = three(pool, disk)?;
-    match brought(pool, disk, p) {
-        Err(PoolErr::Garbled { page, kept, got }) => Ok(page == p && kept.0 != got.0),
-        _ => Ok(false),
-    }
-}
-
-// Three pages, of which the first is brought back and the second replaced: their numbers, the first byte of the first and how many
-// are in frames then, and the first byte of the new one.
-fn lived<D: PageDisk>(
-    pool: &mut Pool,
-    disk: &mut D,
-) -> Result<([u64; 3], Option<u8>, u32, Option<u8>), PoolErr>
-    requires { Agree pool.old (known (D.log disk.old)) }
-{
-    let pages = three(pool, disk)?;
-    let [p, q, _] = pages;
+    *pages = three(pool, disk)?;
+    let [p, q, _] = *pages;
     brought(pool, disk, p)?;
     let back = first_byte(pool, p);
     let resident = pool.resident();
     let new = replaced(pool, disk, q)?;
-    Ok((pages, back, resident, first_byte(pool, new)))
+    Ok((back, resident, first_byte(pool, new)))
+}
+
+// The same in a new pool of two frames, over a disk of which these calls fail and these gets answer a byte wrongly; then which page
+// was put first.
+fn life(
+    alloc: Global,
+    fails: Vec<u64>,
+    flips: Vec<Flip>,
+    pages: &mut [u64; 3],
+) -> Result<(Told, Option<u64>), PoolErr> {
+    let mut disk = MemDisk::new(alloc, fails, flips);
+    let Ok(mut pool) = Pool::new(alloc, 2) else {
+        return Err(PoolErr::Memory);
+    };
+    let told = lived(&mut pool, &mut disk, pages)?;
+    Ok((told, disk.puts().first().copied()))
 }
 
 #[test]
 fn the_page_of_longest_disuse_is_spilled(rt: HostRuntime) -> Result<(), Fail> {
     let alloc = rt.alloc();
-    let mut disk = MemDisk::new(alloc, Vec::new(alloc), Vec::new(alloc));
-    let mut pool = Pool::new(alloc, 2)?;
-    let ([p, q, r], back, resident, new) = lived(&mut pool, &mut disk)?;
+    let mut pages = [0; 3];
+    let (told, spilled) = life(alloc, Vec::new(alloc), Vec::new(alloc), &mut pages)?;
+    let [p, q, r] = pages;
     assert!(rt; p != q && q != r && p != r);
-    assert!(rt; back == Some(1) && resident == 2 && new == Some(0));
-    assert!(rt; disk.puts().first().copied() == Some(p));
+    assert!(rt; told == (Some(1), 2, Some(0)) && spilled == Some(p));
     Ok(())
+}
+
+// Whether it is told that this page came back changed, with another digest.
+fn is_garbling<T>(end: &Result<T, PoolErr>, first: u64) -> bool {
+    match end {
+        Err(PoolErr::Garbled { page, kept, got }) => *page == first && kept.0 != got.0,
+        _ => false,
+    }
 }
 
 #[test]
 fn each_byte_that_changes_is_found(rt: HostRuntime) -> Result<(), Fail> {
     let alloc = rt.alloc();
     for at in 0..8192 {
-        let flips = vec![in alloc; Flip { get: 0, at }]?;
-        let mut disk = MemDisk::new(alloc, Vec::new(alloc), flips);
-        let mut pool = Pool::new(alloc, 2)?;
-        assert!(rt; is_garbled(&mut pool, &mut disk)?, "at {at}");
+        let mut pages = [0; 3];
+        let flips = Vec::from_slice(alloc, &[Flip { get: 0, at }])?;
+        let end = life(alloc, Vec::new(alloc), flips, &mut pages);
+        assert!(rt; is_garbling(&end, pages[0]));
     }
     Ok(())
 }
@@ -122,13 +126,9 @@ fn each_byte_that_changes_is_found(rt: HostRuntime) -> Result<(), Fail> {
 fn each_call_of_the_disk_may_fail(rt: HostRuntime) -> Result<(), Fail> {
     let alloc = rt.alloc();
     for call in 0..6 {
-        let mut disk = MemDisk::new(alloc, Vec::from_slice(alloc, &[call])?, Vec::new(alloc));
-        let mut pool = Pool::new(alloc, 2)?;
-        let end = used(&mut pool, &mut disk);
-        assert!(rt;
-            matches!(end, Err(PoolErr::Disk)) == (call < 5),
-            "at {call}"
-        );
+        let fails = Vec::from_slice(alloc, &[call])?;
+        let end = life(alloc, fails, Vec::new(alloc), &mut [0; 3]);
+        assert!(rt; matches!(end, Err(PoolErr::Disk)) == (call < 5));
     }
     Ok(())
 }
