@@ -1,5 +1,5 @@
-//! Tests of the queues, their pages and disks, and of schedules, by their public calls: what no contract says, as printed text, outside
-//! vectors, and that each call can succeed. It offers nothing.
+//! Tests of the queues, their pages and disks, of what is outside, real or in memory, and of schedules, by their public calls: what
+//! no contract says, as printed text, outside vectors, what a real file gives, and that each call can succeed. It offers nothing.
 //!
 //! They stand here and not in the crates that they test, since a crate with tests is proved a second time, as a program with
 //! them: here a test costs just its own functions. No box and no network stands below.
@@ -21,3 +21,5 @@ mod pool;
 mod queue;
 #[cfg(test)]
 mod sched;
+#[cfg(test)]
+mod system;

@@ -22,7 +22,7 @@ pub struct SpillFile<'a> {
     rt: &'a HostRuntime,
     file: Option<File>,
     pub log: PageLog,
-    faults: u64,
+    pub faults: u64,
 }
 
 impl<'a> SpillFile<'a> {
@@ -151,6 +151,3 @@ impl<'a> PageDisk for SpillFile<'a> {
         Ok(())
     }
 }
-
-#[cfg(test)]
-mod tests;

@@ -10,8 +10,8 @@ use std::io::{ErrorKind, Read};
 pub struct OpenFolder<'a, R> {
     rt: &'a R,
     pub read: Pairs,
-    taken: u64,
-    faults: u64,
+    pub taken: u64,
+    pub faults: u64,
 }
 
 impl<'a, R: Files> OpenFolder<'a, R> {
@@ -68,6 +68,3 @@ impl<'a, R: Files> Folder for OpenFolder<'a, R> {
         }
     }
 }
-
-#[cfg(test)]
-mod tests;

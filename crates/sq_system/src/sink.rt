@@ -7,7 +7,7 @@ use std::io::Write;
 pub struct Out<W> {
     writer: W,
     pub taken: Pieces,
-    faults: u64,
+    pub faults: u64,
 }
 
 impl<W> Out<W> {
@@ -46,6 +46,3 @@ impl<W: Write + Drop> Sink for Out<W> {
         }
     }
 }
-
-#[cfg(test)]
-mod tests;
