@@ -1,24 +1,44 @@
 // Words that are a command, and the pages that a run puts. Further runs are cases of the top call, kept as data beside a program
 // that runs them.
-ghost use Rattle.std.specs.Prelude.{◌≡◌, ◌<◌, IfOk, OnOk, Option, length};
+ghost use Rattle.std.specs.Prelude.{◌≡◌, ◌<◌, IfOk, IsTrue, Option, length};
 ghost use Rattle.sq_outside.specs.Disks.{Pages};
 ghost use Rattle.sq_queue.specs.Faces.{Together};
 ghost use Rattle.sq_core.specs.Runs.{IsSoundEngine};
 ghost use Rattle.sq_flow.specs.Flows.{measure_of};
 ghost use Rattle.sq_pool.specs.Trust.{known};
 
-use crate::given::read_given;
+use crate::given::sources_of;
 use sq_core::Engine;
-use sq_flow::{RunErr, State};
+use sq_flow::State;
 use sq_oper::Event;
 use sq_outside::{MemDisk, MemFolder, MemSink, PageDisk, Steps};
 use sq_plan::Capacities;
+use sq_reader::read_network;
 use sq_sched::{Policy, Rule};
-use sq_top::{Command, Status, drive, read_words, run_words};
+use sq_top::{Command, RunArgs, Status, drive, read_words, run_words};
 use std::alloc::{AllocError, Global};
 use std::marker::Brand;
 use std::sync::ledger::{Blank, Ledger};
 use std::test::Fail;
+
+fn words_of(alloc: Global, texts: &[&str]) -> Result<Vec<String>, AllocError> {
+    let mut words = Vec::new(alloc);
+    for text in texts {
+        words.push(String::from_str(alloc, text)?)?;
+    }
+    Ok(words)
+}
+
+// Whether it is a run of `a.toml` with seed 7, by the rule Longest and with the capacities `c`, and all else as where nothing is said.
+fn is_wanted(args: &RunArgs) -> bool {
+    let Some(capacities) = &args.capacities else {
+        return false;
+    };
+    args.net.as_str() == "a.toml"
+        && (args.seed, args.rule, args.train, args.frames) == (7, Rule::Longest, 16, 256)
+        && capacities.as_str() == "c"
+        && args.picks.is_none()
+}
 
 #[test]
 fn run_with_a_name_and_options_is_a_command(rt: HostRuntime) -> Result<(), Fail> {
@@ -32,25 +52,13 @@ fn run_with_a_name_and_options_is_a_command(rt: HostRuntime) -> Result<(), Fail>
         "c",
     ];
     let words = words_of(rt.alloc(), &options)?;
-    let Some(Command::Run(args)) = read_words(rt.alloc(), &words).ok() else {
-        return Err(Fail::from("no run"));
+    let command = read_words(rt.alloc(), &words);
+    let is_run = match &command {
+        Ok(Command::Run(args)) => is_wanted(args),
+        _ => false,
     };
-    assert!(rt; args.net.as_str() == "a.toml");
-    assert!(rt;
-        args.seed == 7 && args.rule == Rule::Longest && args.train == 16 && args.frames == 256
-    );
-    let capacities = args.capacities.as_ref().ok_or("no capacities")?;
-    assert!(rt; capacities.as_str() == "c");
-    assert!(rt; args.picks.is_none());
+    assert!(rt; is_run);
     Ok(())
-}
-
-fn words_of(alloc: Global, texts: &[&str]) -> Result<Vec<String>, AllocError> {
-    let mut words = Vec::new(alloc);
-    for text in texts {
-        words.push(String::from_str(alloc, text)?)?;
-    }
-    Ok(words)
 }
 
 /// A union of a source with what a filter lets through, which is nothing: so all tuples wait until the filter has ended.
@@ -65,30 +73,33 @@ output = [{name='o', from='u'}]
 
 const TUPLES: u32 = 3000;
 
-fn stream(alloc: Global) -> Result<Vec<u8>, AllocError> {
+// A line for each tuple, which begins so.
+fn tuple_lines(alloc: Global, front: &str) -> Result<String, AllocError> {
     let mut text = String::new(alloc);
     for at in 0..TUPLES {
-        let line = format!(in alloc; "{at},{at}\n")?;
+        let line = format!(in alloc; "{front}{at},{at}\n")?;
         text.push_str(line.as_str())?;
     }
-    Ok(text.into_bytes())
+    Ok(text)
 }
 
+// What a run writes.
 fn lines(alloc: Global) -> Result<String, AllocError> {
-    let mut text = String::new(alloc);
-    for at in 0..TUPLES {
-        let line = format!(in alloc; "o,{at},{at}\n")?;
-        text.push_str(line.as_str())?;
-    }
+    let mut text = tuple_lines(alloc, "o,")?;
     text.push_str("@box,f,3000\n@box,u,3000\n@end\n")?;
     Ok(text)
 }
 
+fn file_of(alloc: Global, name: &str, bytes: &[u8]) -> Result<(String, Vec<u8>), AllocError> {
+    let name = String::from_str(alloc, name)?;
+    Ok((name, Vec::from_slice(alloc, bytes)?))
+}
+
 fn folder(alloc: Global) -> Result<MemFolder, AllocError> {
-    let network = Vec::from_slice(alloc, NETWORK.as_bytes())?;
-    let mut files = Vec::new(alloc);
-    files.push((String::from_str(alloc, "a.toml")?, network))?;
-    files.push((String::from_str(alloc, "s.csv")?, stream(alloc)?))?;
+    let stream = tuple_lines(alloc, "")?;
+    let stream = file_of(alloc, "s.csv", stream.as_str().as_bytes())?;
+    let network = file_of(alloc, "a.toml", NETWORK.as_bytes())?;
+    let files = vec![in alloc; network, stream]?;
     Ok(MemFolder::new(files, Vec::new(alloc)))
 }
 
@@ -98,19 +109,6 @@ fn disk(alloc: Global) -> MemDisk {
 
 fn sink(alloc: Global) -> MemSink {
     MemSink::new(alloc, Vec::new(alloc), 4096)
-}
-
-fn options_of<'a>(policy: &'a str, train: &'a str) -> [&'a str; 8] {
-    [
-        "run",
-        "a.toml",
-        "--frames=2",
-        "--seed=3",
-        "--policy",
-        policy,
-        "--train",
-        train,
-    ]
 }
 
 // What a run of these words writes over a disk.
@@ -144,46 +142,51 @@ fn written<D: PageDisk, L: Ledger>(
 }
 
 // An engine that has not begun.
-fn begun(alloc: Global) -> Result<Engine, Fail>
+fn begun(alloc: Global, stream: &str) -> Result<Engine, Fail>
     ensures sound { IfOk result (λ e. IsSoundEngine e) }
     ensures together { IfOk result (λ e. (pages : Option Pages) → Together e.engine.flow.queues pages) }
 {
-    let given = read_given(alloc, NETWORK, stream(alloc)?.as_slice())?;
+    let network = read_network(alloc, NETWORK.as_bytes())?;
+    let sources = sources_of(alloc, &network, stream.as_bytes())?;
     let capacities = Capacities::new(Vec::new(alloc));
-    let engine = Engine::new(alloc, given.network, given.sources, capacities, 3, 2)?;
+    let engine = Engine::new(alloc, network, sources, capacities, 3, 2)?;
     Ok(engine)
 }
 
-// Up to a train of steps of the actor that a policy picks.
-fn step_picked<D: PageDisk, L: Ledger>(
+fn policy_of(alloc: Global, (rule, train): (Rule, u32)) -> Policy {
+    Policy::new(rule, Vec::new(alloc), 3, train.max(1))
+}
+
+// Up to a train of steps of the actor that a policy picks; whether they succeed.
+fn is_stepped<D: PageDisk, L: Ledger>(
     engine: &mut Engine,
     policy: &mut Policy,
     disk: &mut D,
     events: &mut Vec<Event>,
     steps: &mut Steps<L>,
-) -> Result<(), RunErr>
+) -> bool
     requires sound { IsSoundEngine engine.old }
     requires together { Together engine.old.engine.flow.queues (known (D.log disk.old)) }
     requires runs { 0 < length engine.old.engine.ready.list }
-    ensures sound { OnOk result (IsSoundEngine engine.new) }
-    ensures together { OnOk result (Together engine.new.engine.flow.queues (known (D.log disk.new))) }
-    ensures falls { OnOk result (measure_of engine.new.engine.flow < measure_of engine.old.engine.flow) }
+    ensures sound { IsTrue result → IsSoundEngine engine.new }
+    ensures together { IsTrue result → Together engine.new.engine.flow.queues (known (D.log disk.new)) }
+    ensures falls { IsTrue result → measure_of engine.new.engine.flow < measure_of engine.old.engine.flow }
 {
     let pick = policy.next(engine.ready(), engine.waits());
     match engine.step(pick, disk, events, steps) {
-        Ok(_) => Ok(()),
-        Err(e) => Err(e),
+        Ok(_) => true,
+        Err(_) => false,
     }
 }
 
-// Steps an engine by the picks of a policy until it has ended.
-fn step_all<D: PageDisk, L: Ledger>(
+// Steps an engine by the picks of a policy until it has ended; whether it ends well.
+fn is_stepped_to_end<D: PageDisk, L: Ledger>(
     alloc: Global,
     mut engine: Engine,
     mut policy: Policy,
     disk: &mut D,
     blank: Blank,
-) -> Result<(), Fail>
+) -> bool
     requires name { blank.name ≡ L.name }
     requires parts { blank.parts ≡ L.parts }
     requires some { 0 < blank.parts }
@@ -192,23 +195,24 @@ fn step_all<D: PageDisk, L: Ledger>(
 {
     let mut steps = Steps::<L>::open(blank);
     let mut events = Vec::new(alloc);
+    let mut goes = true;
     'steps: while !engine.ended() {
-        match step_picked(&mut engine, &mut policy, disk, &mut events, &mut steps) {
-            Ok(()) => {}
-            Err(_) => return Err(Fail::from("stopped")),
+        if !is_stepped(&mut engine, &mut policy, disk, &mut events, &mut steps) {
+            goes = false;
+            break;
         }
     }
-    Ok(())
+    goes
 }
 
-// Drives an engine by a policy, and says what it is then.
-fn drive_all<D: PageDisk, L: Ledger>(
+// Drives an engine by a policy; whether it is done then.
+fn is_driven<D: PageDisk, L: Ledger>(
     alloc: Global,
     engine: Engine,
     policy: Policy,
     disk: &mut D,
     blank: Blank,
-) -> Result<State, Fail>
+) -> bool
     requires name { blank.name ≡ L.name }
     requires parts { blank.parts ≡ L.parts }
     requires some { 0 < blank.parts }
@@ -218,62 +222,84 @@ fn drive_all<D: PageDisk, L: Ledger>(
     let mut steps = Steps::<L>::open(blank);
     let mut out = sink(alloc);
     match drive(alloc, engine, policy, disk, &mut out, &mut steps) {
-        Ok(engine) => Ok(engine.state()),
-        Err(_) => Err(Fail::from("cut short")),
+        Ok(engine) => engine.state() == State::Done,
+        Err(_) => false,
     }
 }
 
-fn policy_of(alloc: Global, rule: Rule, train: u32) -> Result<Policy, Fail> {
-    if train == 0 {
-        return Err(Fail::from("no train"));
-    }
-    Ok(Policy::new(rule, Vec::new(alloc), 3, train))
+// Whether an engine that is stepped to its end ends well and puts these pages.
+fn is_put_by_steps(
+    alloc: Global,
+    stream: &str,
+    way: (Rule, u32),
+    pages: &Vec<u64>,
+) -> Result<bool, Fail> {
+    let engine = begun(alloc, stream)?;
+    let policy = policy_of(alloc, way);
+    let mut disk = disk(alloc);
+    let ends = is_stepped_to_end::<MemDisk, Brand>(alloc, engine, policy, &mut disk, Blank::new(1));
+    Ok(ends && disk.puts() == pages)
 }
 
-// The pages that a run puts, which writes all lines.
-fn puts_of_run(alloc: Global, policy: &str, train: &str) -> Result<Vec<u64>, Fail> {
-    let options = options_of(policy, train);
+// Whether an engine that is driven ends well and puts these pages.
+fn is_put_by_drive(
+    alloc: Global,
+    stream: &str,
+    way: (Rule, u32),
+    pages: &Vec<u64>,
+) -> Result<bool, Fail> {
+    let engine = begun(alloc, stream)?;
+    let policy = policy_of(alloc, way);
+    let mut disk = disk(alloc);
+    let done = is_driven::<MemDisk, Brand>(alloc, engine, policy, &mut disk, Blank::new(1));
+    Ok(done && disk.puts() == pages)
+}
+
+// Whether these are some pages, and an engine puts them that is stepped, and one that is driven.
+fn are_put(alloc: Global, stream: &str, way: (Rule, u32), pages: &Vec<u64>) -> Result<bool, Fail> {
+    let stepped = is_put_by_steps(alloc, stream, way, pages)?;
+    let driven = is_put_by_drive(alloc, stream, way, pages)?;
+    Ok(pages.len() >= 5 && stepped && driven)
+}
+
+// Whether a run by a policy and a train writes these lines, and puts the pages of its engine.
+fn is_run(
+    alloc: Global,
+    (policy, train): (&str, &str),
+    way: (Rule, u32),
+    stream: &str,
+    lines: &str,
+) -> Result<bool, Fail> {
+    let options = [
+        "run",
+        "a.toml",
+        "--frames=2",
+        "--seed=3",
+        "--policy",
+        policy,
+        "--train",
+        train,
+    ];
     let mut disk = disk(alloc);
     let out = written::<MemDisk, Brand>(alloc, &options, &mut disk, Blank::new(1))?;
-    if out.bytes() != lines(alloc)?.as_str().as_bytes() {
-        return Err(Fail::from("other lines"));
+    if out.bytes() == lines.as_bytes() {
+        are_put(alloc, stream, way, disk.puts())
+    } else {
+        Ok(false)
     }
-    Ok(Vec::from_slice(alloc, disk.puts())?)
-}
-
-// The pages that an engine puts which is stepped to its end.
-fn puts_of_steps(alloc: Global, rule: Rule, train: u32) -> Result<Vec<u64>, Fail> {
-    let policy = policy_of(alloc, rule, train)?;
-    let engine = begun(alloc)?;
-    let mut disk = disk(alloc);
-    step_all::<MemDisk, Brand>(alloc, engine, policy, &mut disk, Blank::new(1))?;
-    Ok(Vec::from_slice(alloc, disk.puts())?)
-}
-
-// The pages that an engine puts which is driven to its end.
-fn puts_of_drive(alloc: Global, rule: Rule, train: u32) -> Result<Vec<u64>, Fail> {
-    let policy = policy_of(alloc, rule, train)?;
-    let engine = begun(alloc)?;
-    let mut disk = disk(alloc);
-    let state = drive_all::<MemDisk, Brand>(alloc, engine, policy, &mut disk, Blank::new(1))?;
-    if state != State::Done {
-        return Err(Fail::from("not done"));
-    }
-    Ok(Vec::from_slice(alloc, disk.puts())?)
 }
 
 #[test]
 fn a_run_puts_the_pages_of_its_engine_stepped_or_driven(rt: HostRuntime) -> Result<(), Fail> {
-    let alloc = rt.alloc();
-    for (policy, rule, words, train) in [
-        ("seeded", Rule::Seeded, "5", 5),
-        ("rr", Rule::RoundRobin, "16", 16),
-        ("long", Rule::Longest, "64", 64),
+    let stream = tuple_lines(rt.alloc(), "")?;
+    let lines = lines(rt.alloc())?;
+    let (stream, lines) = (stream.as_str(), lines.as_str());
+    for (words, way) in &[
+        (("seeded", "5"), (Rule::Seeded, 5)),
+        (("rr", "16"), (Rule::RoundRobin, 16)),
+        (("long", "64"), (Rule::Longest, 64)),
     ] {
-        let pages = puts_of_run(alloc, policy, words)?;
-        assert!(rt; pages.len() >= 5);
-        assert_eq!(rt; puts_of_steps(alloc, rule, train)?, pages);
-        assert_eq!(rt; puts_of_drive(alloc, rule, train)?, pages);
+        assert!(rt; is_run(rt.alloc(), *words, *way, stream, lines)?);
     }
     Ok(())
 }

@@ -3,7 +3,7 @@ use Rattle.std.proofs.lemmas.List.{length-map}
 use Rattle.std.proofs.lemmas.List.Elements.{All-from_recursion}
 use Rattle.sq_value.specs.Values.{IsStream}
 use Rattle.sq_top.proofs.SourceLemmas.{recorded_even, recorded_few, recorded_streams}
-use Rattle.sq_trials.proofs.model.shed.Goals as goal
+use Rattle.sq_trials.proofs.model.is_shed.Goals as goal
 
 pub dropped-requires-clause-lists : goal.dropped-requires-clause-lists
 dropped-requires-clause-lists c = sym (length-map c.args.sources.now (λ xs. xs.items)) ∙ recorded_even c.args.n.now.sources _ c.requires.recorded
