@@ -6,9 +6,19 @@ use std::alloc::{AllocError, Global};
 /// The name of the text in the folder of an audit.
 const TEXT: &str = "the text";
 
+/// The network that words between commas name: the first of them that ends as such a file's name.
+fn net_of(words: &str) -> &str {
+    for word in words.split(',') {
+        if word.ends_with(".toml") {
+            return word;
+        }
+    }
+    ""
+}
+
 /// The audit of what was shown beside the files of a case, in which neither the folder nor the output fails.
 fn audit_of(alloc: Global, case: &str, shown: &[u8]) -> Result<Ran, AllocError> {
-    let net = words_of(case).split(',').nth(1).unwrap_or("");
+    let net = net_of(words_of(case));
     let case = format!(in alloc; "words: audit,{net},{TEXT}\nfolder fails:\nout fails:\n{case}")?;
     let mut audit = Case::read(alloc, case.as_str())?;
     audit.push_file(alloc, TEXT, shown)?;
