@@ -37,7 +37,7 @@ pub struct Engine<O> {
 }
 
 /// What an engine may still do.
-#[derive(Clone, Copy, Debug, PartialEq, Eq, Drop)]
+#[derive(Clone, Copy, PartialEq, Eq, Drop)]
 pub enum State {
     Running,
     Done,

@@ -48,7 +48,7 @@ pub struct Flow<O> {
 }
 
 /// What an atomic step did.
-#[derive(Clone, Copy, Debug, PartialEq, Eq, Drop)]
+#[derive(Clone, Copy, PartialEq, Eq, Drop)]
 pub enum Did {
     Waits,
     Fed,

@@ -15,7 +15,7 @@ use sq_outside::{PageDisk, Steps};
 use std::sync::ledger::Ledger;
 
 /// How many items an actor was fed, or the replay released, and whether it is finished.
-#[derive(Clone, Copy, Debug, PartialEq, Eq, Drop)]
+#[derive(Clone, Copy, PartialEq, Eq, Drop)]
 pub struct Progress {
     pub fed: u32,
     pub finished: bool,

@@ -17,7 +17,7 @@ use sq_value::ListOf;
 use std::alloc::{AllocError, Global};
 
 /// What a box does to the tuples that it takes (the operators of Aurora: Abadi and others, VLDB Journal 2003).
-#[derive(Clone, Copy, Debug, PartialEq, Eq, Drop)]
+#[derive(Clone, Copy, PartialEq, Eq, Drop)]
 pub enum BoxKind {
     Filter,
     Map,
@@ -258,7 +258,7 @@ pub fn stream_of(w: &Wiring, at: u32, port: u32) -> u32
 }
 
 /// What gives a stream: a source, or a port of a box.
-#[derive(Clone, Copy, Debug, PartialEq, Eq, Drop)]
+#[derive(Clone, Copy, PartialEq, Eq, Drop)]
 pub enum Producer {
     Source { source: u32 },
     Port { at: u32, port: u32 },

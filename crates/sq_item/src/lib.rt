@@ -15,7 +15,7 @@ use std::alloc::{AllocError, Global};
 use std::marker::Model;
 
 /// What a window drop says of a batch of windows, at the tick at which the batch begins.
-#[derive(Clone, Copy, Debug, PartialEq, Eq, Drop)]
+#[derive(Clone, Copy, PartialEq, Eq, Drop)]
 pub enum Mark {
     /// The batch is permitted: its tuples are needed at the ticks below `until`, which is below 2^47.
     Open { until: u64 },

@@ -7,7 +7,7 @@ use sq_value::Tuple;
 use std::alloc::Global;
 
 /// A batch of windows that a window drop threw away.
-#[derive(Clone, Copy, Debug, PartialEq, Eq, Drop)]
+#[derive(Clone, Copy, PartialEq, Eq, Drop)]
 pub struct Decision {
     /// The number of the window drop.
     pub drop: u32,

@@ -7,7 +7,7 @@ ghost use Rattle.sq_oper.specs.Order.{after_all, marked_at};
 use sq_item::Item;
 
 /// The place of the last item that was fed, and whether a mark of its time was.
-#[derive(Clone, Copy, Debug, PartialEq, Eq, Drop)]
+#[derive(Clone, Copy, PartialEq, Eq, Drop)]
 pub enum Moment {
     Start,
     At { time: u64, port: u32, marked: bool },

@@ -33,7 +33,7 @@ pub use store::QueueErr;
 use store::{Kept, append_to_page, let_page_go, start_page, take_from_page};
 
 /// What stands first on an arc.
-#[derive(Clone, Copy, Debug, PartialEq, Eq, Drop)]
+#[derive(Clone, Copy, PartialEq, Eq, Drop)]
 pub enum Head {
     /// An item of this time. More may follow.
     Time(u64),

@@ -20,7 +20,7 @@ use sq_value::ListOf;
 use std::alloc::AllocError;
 
 /// Where a drop stands.
-#[derive(Clone, Copy, Debug, PartialEq, Eq, Drop)]
+#[derive(Clone, Copy, PartialEq, Eq, Drop)]
 pub enum DropAt {
     /// On all arcs of this stream.
     Stream(u32),

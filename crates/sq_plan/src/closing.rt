@@ -14,7 +14,7 @@ use sq_road::Levels;
 use std::alloc::AllocError;
 
 /// A plan that a run shows.
-#[derive(Clone, Copy, Debug, PartialEq, Eq, Drop)]
+#[derive(Clone, Copy, PartialEq, Eq, Drop)]
 pub struct Shown {
     /// The epoch that it is for.
     pub epoch: u64,

@@ -20,7 +20,7 @@ use std::marker::Model;
 use thiserror::Error;
 
 /// A fraction of numbers below 2^64, the lower of them not 0. Equality and order are those of fractions, so 1/2 equals 2/4.
-#[derive(Clone, Copy, Debug, Drop)]
+#[derive(Clone, Copy, Drop)]
 pub struct Frac {
     num: u128,
     den: u128,

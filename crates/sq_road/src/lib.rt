@@ -26,7 +26,7 @@ use sq_qos::Frac;
 use std::alloc::{AllocError, Global};
 
 /// A step of a road: 50 permille more of a drop.
-#[derive(Clone, Copy, Debug, PartialEq, Eq, Drop)]
+#[derive(Clone, Copy, PartialEq, Eq, Drop)]
 pub struct Step {
     /// The drop, counted from 0.
     pub drop: u32,
@@ -39,7 +39,7 @@ pub struct Step {
 }
 
 /// A row of a road: its first steps, as a plan of drops.
-#[derive(Clone, Copy, Debug, PartialEq, Eq, Drop)]
+#[derive(Clone, Copy, PartialEq, Eq, Drop)]
 pub struct Row {
     /// How many steps there are.
     pub taken: u32,

@@ -19,7 +19,7 @@ pub(crate) use toml::value::Array;
 pub(crate) use toml::{Table, Value};
 
 /// Why a value can't be read as what is wanted.
-#[derive(Clone, Copy, Debug, PartialEq, Eq, Drop)]
+#[derive(Clone, Copy, PartialEq, Eq, Drop)]
 pub(crate) enum Unread {
     /// It isn't there, or is of another kind.
     Shape,

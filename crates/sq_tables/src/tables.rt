@@ -2,7 +2,7 @@
 use sq_value::{ListOf, Name};
 
 /// The versions of a network file. In the second an Aggregate may have a phase.
-#[derive(Clone, Copy, Debug, PartialEq, Eq, Drop)]
+#[derive(Clone, Copy, PartialEq, Eq, Drop)]
 pub enum Version {
     One,
     Two,
@@ -24,7 +24,7 @@ pub struct Setting {
 }
 
 /// A function over the values of a field.
-#[derive(Clone, Copy, Debug, PartialEq, Eq, Drop)]
+#[derive(Clone, Copy, PartialEq, Eq, Drop)]
 pub enum Over {
     Sum,
     Avg,

@@ -13,7 +13,7 @@ pub struct Wanted {
 }
 
 /// Why a text fails.
-#[derive(Clone, Copy, Debug, PartialEq, Eq, Drop)]
+#[derive(Clone, Copy, PartialEq, Eq, Drop)]
 pub enum AuditWhy {
     /// The line stands behind an end line.
     End,
@@ -28,7 +28,7 @@ pub enum AuditWhy {
 }
 
 /// The verdict on a text.
-#[derive(Clone, Copy, Debug, PartialEq, Eq, Drop)]
+#[derive(Clone, Copy, PartialEq, Eq, Drop)]
 pub enum Verdict {
     /// It shows what it is to show.
     Yes,
