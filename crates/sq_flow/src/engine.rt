@@ -27,13 +27,24 @@ use std::alloc::{AllocError, Global};
 use std::sync::ledger::Ledger;
 
 /// A flow, which actors are ready, and how many items wait for each. Actor 0 is the replay; operator k is actor k + 1.
-#[derive(Drop)]
 pub struct Engine<O> {
     pub flow: Flow<O>,
     pub ready: Ready,
     /// Of each actor how many items wait for it; 0 for the replay.
     pub waits: Vec<u64>,
     pub failed: bool,
+}
+
+/// By hand, so that a proof above meets one call where an engine is let go, and not each thing in it.
+impl<O: Drop> Drop for Engine<O> {
+    fn drop(self) {
+        let Engine {
+            flow: _flow,
+            ready: _ready,
+            waits: _waits,
+            failed: _failed,
+        } = self;
+    }
 }
 
 /// What an engine may still do.

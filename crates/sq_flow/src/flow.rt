@@ -33,7 +33,6 @@ use std::sync::ledger::Ledger;
 
 /// Operators joined by queues, and a replay of what each source has still to release. The levels of the closed epochs are known;
 /// of the epoch that is open, the last before `levels.closed`, it is counted how many tuples each source released.
-#[derive(Drop)]
 pub struct Flow<O> {
     pub wires: Wires,
     pub seats: Vec<Seat<O>>,
@@ -45,6 +44,24 @@ pub struct Flow<O> {
     pub levels: Levels,
     pub counts: Vec<u64>,
     pub taken: u64,
+}
+
+/// By hand, so that a proof above meets one call where a flow is let go, and not each thing in it.
+impl<O: Drop> Drop for Flow<O> {
+    fn drop(self) {
+        let Flow {
+            wires: _wires,
+            seats: _seats,
+            over: _over,
+            queues: _queues,
+            sources: _sources,
+            clock: _clock,
+            planner: _planner,
+            levels: _levels,
+            counts: _counts,
+            taken: _taken,
+        } = self;
+    }
 }
 
 /// What an atomic step did.

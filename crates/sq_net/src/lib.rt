@@ -81,7 +81,6 @@ pub struct Output {
 
 /// A network whose boxes are typed. Times are counted in ticks: `epoch` is how many an epoch has, and `batch` how many
 /// windows are dropped together.
-#[derive(Drop)]
 pub struct Network {
     pub epoch: u64,
     pub batch: u64,
@@ -91,7 +90,36 @@ pub struct Network {
     pub outputs: ListOf<Output>,
 }
 
+/// By hand, so that a proof above meets one call where a network is let go, and not each thing in it.
+impl Drop for Network {
+    fn drop(self) {
+        let Network {
+            epoch: _epoch,
+            batch: _batch,
+            wires: _wires,
+            sources: _sources,
+            boxes: _boxes,
+            outputs: _outputs,
+        } = self;
+    }
+}
+
 impl Network {
+    /// Its sources, boxes and outputs.
+    pub fn into_parts(self) -> (ListOf<Source>, ListOf<Node>, ListOf<Output>)
+        ensures { result ≡ (self.sources, self.boxes, self.outputs) }
+    {
+        let Network {
+            epoch: _epoch,
+            batch: _batch,
+            wires: _wires,
+            sources,
+            boxes,
+            outputs,
+        } = self;
+        (sources, boxes, outputs)
+    }
+
     fn schema_given(&self, stream: u32) -> &Schema
         requires few { length self.now.wires.boxes < 2 ^ 32 }
         requires there { IsTyped self.now stream }

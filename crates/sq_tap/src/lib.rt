@@ -89,14 +89,17 @@ fn join(
 {
     let tap = tap_box(alloc, n.stream_schema(stream), q.stream_schema(0), from)?;
     let wires = joined_wires(alloc, &n.wires, keep, stream, &q.wires)?;
-    let boxes = joined_boxes(alloc, n.boxes.into_vec(), keep, tap, q.boxes.into_vec())?;
+    let epoch = n.epoch;
+    let (sources, boxes, _outputs) = n.into_parts();
+    let (_sources, asked, outputs) = q.into_parts();
+    let boxes = joined_boxes(alloc, boxes.into_vec(), keep, tap, asked.into_vec())?;
     Ok(Network {
-        epoch: n.epoch,
+        epoch,
         batch: 1,
         wires,
-        sources: n.sources,
+        sources,
         boxes: ListOf::new(boxes),
-        outputs: q.outputs,
+        outputs,
     })
 }
 
