@@ -87,8 +87,8 @@ fn join(
     requires keep { keep.now ≡ needed_for n.wires stream }
     ensures { IfOk result (λ net. net ≡ joined n stream from q) }
 {
-    let tap = tap_box(alloc, n.stream_schema(stream), q.stream_schema(0), from)?;
     let wires = joined_wires(alloc, &n.wires, keep, stream, &q.wires)?;
+    let tap = tap_box(alloc, n.stream_schema(stream), q.stream_schema(0), from)?;
     let epoch = n.epoch;
     let (sources, boxes, _outputs) = n.into_parts();
     let (_sources, asked, outputs) = q.into_parts();
