@@ -1,9 +1,12 @@
 -- What the calls of queues need of what stands together.
-use Rattle.std.proofs.Common.{◌≡◌, ℕ, ◌<◌, true, false, List, [], ◌∷◌, Option, Some, None, length, refl, sym, ap, subst, ◌∙◌, inl, arith, get_or, get_or-set_same}
+use Rattle.std.proofs.Common.{◌≡◌, ℕ, ◌<◌, ◌≤◌, true, false, List, [], ◌∷◌, Option, Some, None, length, refl, sym, ap, subst, ◌∙◌, inl, inr, arith, get_or, get_or-set_same}
+use Rattle.std.proofs.Math.ListN.{length-set}
 use Rattle.std.specs.Prelude.{slice_get, IfSome, IfOk, Result, Ok, Err, is_some}
 use Rattle.sq_item.specs.declared.Item.{Item}
 use Rattle.sq_link.specs.ChainLists.{Chained, StandsIn, head_or, list_at}
 use Rattle.sq_outside.specs.Disks.{DiskLog, Pages}
+use Rattle.sq_outside.specs.Faults.{Rose}
+use Rattle.sq_pool.specs.Pools.{is_held}
 use Rattle.sq_paged.specs.KeptPages.{IsCause, IsTold}
 use Rattle.sq_paged.specs.Faces.{paged_face_at, nodes_on, kept_at, count_along, is_first, last_at, last_node, PagedTogether, IsPagedRefusal, SameTables}
 use Rattle.sq_paged.specs.Steps.{TakesAt}
@@ -12,7 +15,7 @@ use Rattle.sq_paged.specs.declared.store.Kept.{Kept}
 use Rattle.sq_paged.specs.declared.Queues.{Queues}
 use Rattle.sq_paged.specs.declared.store.QueueErr.{QueueErr}
 use Rattle.sq_paged.specs.declared.store.QueueErr.TheVariants as error
-use Rattle.sq_paged.proofs.AlongLemmas.{last-stands, head-is}
+use Rattle.sq_paged.proofs.AlongLemmas.{last-stands, head-is, kept-same}
 
 pub if-some : {A : Type 0} (P : A → Type 0) (o : Option A) → ((x : A) → o ≡ Some x → P x) → IfSome o P
 if-some P None h = tt
@@ -72,3 +75,22 @@ first-in q arc node e = let h = head-is node (nodes_on q arc) e in subst (λ (xs
 pub left-is : (q : Queues) (told : Option Pages) (m : Queues) (mid : Option Pages) (node : ℕ) (item : Item) (x : Kept) → (a : TakesAt q told m mid node item) → node < length q.kept.items → x ≡ get_or m.kept.items node x → x ≡ a.after
 left-is q told m mid node item x a below e =
     e ∙ ap (λ (ks : List Kept). get_or ks node x) a.kept ∙ get_or-set_same q.kept.items node a.after x below
+
+-- where the first item of a page was taken, its arc, its node and the page in the pool are there
+pub taken-inside : (q : Queues) (told : Option Pages) (m : Queues) (mid : Option Pages) (arc node : ℕ) (item : Item) → TakesAt q told m mid node item → arc < length q.chains.lists → arc < length m.chains.lists
+taken-inside q told m mid arc node item a h = subst (λ (x : Chained). arc < length x.lists) (sym a.state) h
+
+pub taken-below : (q : Queues) (told : Option Pages) (m : Queues) (mid : Option Pages) (node : ℕ) (item : Item) → TakesAt q told m mid node item → node < length q.kept.items → node < length m.kept.items
+taken-below q told m mid node item a h = omega (arith, ap length a.kept, length-set q.kept.items node a.after, h)
+
+pub taken-held : (q : Queues) (told : Option Pages) (m : Queues) (mid : Option Pages) (node : ℕ) (item : Item) → TakesAt q told m mid node item → node < length q.kept.items → is_held m.pool (kept_at m.kept.items node).page ≡ true
+taken-held q told m mid node item a below =
+    ap (λ (ks : List Kept). is_held m.pool (kept_at ks node).page) a.kept
+    ∙ ap (λ (k : Kept). is_held m.pool k.page) (kept-same q.kept.items node a.after below)
+    ∙ ap (λ (p : ℕ). is_held m.pool p) a.page.page
+    ∙ a.page.held
+
+-- a fault after others is one since before them
+pub rose-since : (before mid now : ℕ) → before ≤ mid → Rose mid now → Rose before now
+rose-since before mid now h (inl rose) = inl (omega arith)
+rose-since before mid now h (inr end) = inr end

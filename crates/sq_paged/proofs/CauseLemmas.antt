@@ -1,5 +1,5 @@
 -- Why a page is refused.
-use Rattle.std.proofs.Common.{◌≡◌, ℕ, true, false, List, Option, Some, None, refl, sym, ap, subst, ◌∙◌}
+use Rattle.std.proofs.Common.{◌≡◌, ℕ, false, List, Option, Some, None, refl, sym, subst, ◌∙◌}
 use Rattle.std.specs.Prelude.{is_some, Result, Ok, Err, IfErr}
 use Rattle.sq_outside.specs.Disks.{DiskLog}
 use Rattle.sq_pool.specs.Errors.{IsGarbling, ComesBack, IsWholePage}
