@@ -1,4 +1,5 @@
 pub mod DocumentLemmas
+pub mod AmongLemmas
 pub mod ShapedLemmas
 pub mod EvenLemmas
 pub mod Rows
