@@ -35,21 +35,21 @@ when_even b raw h = by_test (length b.selectivity == port_count b.body) refl h
         subst IsEven same even
     by_test false is e = cc
 
-abbrev boxed : List ℕ → BodyTable → List (List ℕ) → ℤ → List ℤ → BoxTable
+abbrev pub boxed : List ℕ → BodyTable → List (List ℕ) → ℤ → List ℤ → BoxTable
 boxed name body ins cost selectivity = record { name = name; body = body; ins = ins; cost = cost; selectivity = selectivity }
 
-abbrev weighed : Members → List ℕ → BodyTable → List (List ℕ) → ℤ → Option BoxTable
+abbrev pub weighed : Members → List ℕ → BodyTable → List (List ℕ) → ℤ → Option BoxTable
 weighed ms name body ins cost =
     option.◌>>=◌ (optional (default_selectivity (port_count body)) (list_in as_integer) (get_member (codes "selectivity") ms))
     (λ selectivity. when (length selectivity == port_count body) (boxed name body ins cost selectivity))
 
-abbrev priced : Members → List ℕ → BodyTable → List (List ℕ) → Option BoxTable
+abbrev pub priced : Members → List ℕ → BodyTable → List (List ℕ) → Option BoxTable
 priced ms name body ins = option.◌>>=◌ (optional (pos 1) as_integer (get_member (codes "cost") ms)) (weighed ms name body ins)
 
-abbrev fed : Members → BodyTable → List ℕ → Option BoxTable
+abbrev pub fed : Members → BodyTable → List ℕ → Option BoxTable
 fed ms body name = option.◌>>=◌ (required (list_in as_str) (get_member (codes "in") ms)) (priced ms name body)
 
-abbrev called : Members → BodyTable → Option BoxTable
+abbrev pub called : Members → BodyTable → Option BoxTable
 called ms body = option.◌>>=◌ (required as_str (get_member (codes "name") ms)) (fed ms body)
 
 box_even : (v : Version) (ms : Members) (raw : BoxTable) → box_in v ms ≡ Some raw → IsEven raw

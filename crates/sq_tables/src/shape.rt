@@ -1,9 +1,11 @@
 // The tables of a network file, by the keys that each kind of table has.
-ghost use Rattle.std.specs.Prelude.{◌≡◌, ◌∷◌, IfOk, IfErr, codes};
-ghost use Rattle.sq_tables.specs.Documents.{has_only};
+ghost use Rattle.std.specs.Prelude.{◌≡◌, ◌==◌, ◌∷◌, IfOk, IfErr, codes, length};
+ghost use Rattle.std.specs.Option.{option_and_then};
+ghost use Rattle.toml.specs.Data.{get_member, as_str, as_integer};
+ghost use Rattle.sq_tables.specs.Documents.{has_only, list_in, optional, required, when};
 ghost use Rattle.toml.specs.View.{table_view};
 ghost use Rattle.sq_tables.specs.Readings.{IsUnreadTable, Reads};
-ghost use Rattle.sq_tables.specs.Shapes.{aggregate_in, aggregate_keys, body_in, box_in, bsort_in, filter_in, join_in, map_in, output_in, port_count, resample_in, source_in, top_in, union_in, window_keys};
+ghost use Rattle.sq_tables.specs.Shapes.{aggregate_in, aggregate_keys, body_in, box_in, bsort_in, default_selectivity, filter_in, join_in, map_in, output_in, port_count, resample_in, source_in, top_in, union_in, window_keys};
 ghost use Rattle.sq_tables.specs.ShapeViews.{tables_seen};
 
 use crate::answer_columns::answer_columns_at;
@@ -13,7 +15,7 @@ use crate::document::{
 };
 use crate::graphs::graph_at;
 use crate::tables::{BodyTable, BoxTable, OutputTable, SourceTable, Version};
-use sq_value::same_text;
+use sq_value::{ListOf, same_text};
 use std::alloc::Global;
 
 /// The top of a file: its numbers, and its tables.
@@ -264,19 +266,33 @@ pub fn port_count(body: &BodyTable) -> usize
     }
 }
 
-pub(crate) fn box_in(alloc: Global, version: Version, table: &Table) -> Result<BoxTable, Unread>
-    ensures { Reads result (box_in version (table_view table.now)) }
+// What a box does, by the kind that its table names.
+fn body_at(alloc: Global, version: Version, table: &Table) -> Result<BodyTable, Unread>
+    ensures { Reads result (option_and_then (λ kind. body_in version kind (table_view table.now)) (required as_str (get_member (codes "kind") (table_view table.now)))) }
 {
     let kind = text_at(alloc, table, "kind")?;
-    let body = body_in(alloc, version, table, kind.as_str())?;
-    let name = text_at(alloc, table, "name")?;
-    let ins = texts_at(alloc, table, "in")?;
-    let cost = number_or(table, "cost", 1)?;
-    let ports = port_count(&body);
+    body_in(alloc, version, table, kind.as_str())
+}
+
+// The selectivity of each port, one for each.
+fn even_at(alloc: Global, table: &Table, ports: usize) -> Result<ListOf<i64>, Unread>
+    ensures { Reads result (option_and_then (λ selectivity. when (length selectivity == ports) selectivity) (optional (default_selectivity ports) (list_in as_integer) (get_member (codes "selectivity") (table_view table.now)))) }
+{
     let selectivity = selectivity_at(alloc, table, ports)?;
     if selectivity.as_slice().len() != ports {
         return Err(Unread::Shape);
     }
+    Ok(selectivity)
+}
+
+pub(crate) fn box_in(alloc: Global, version: Version, table: &Table) -> Result<BoxTable, Unread>
+    ensures { Reads result (box_in version (table_view table.now)) }
+{
+    let body = body_at(alloc, version, table)?;
+    let name = text_at(alloc, table, "name")?;
+    let ins = texts_at(alloc, table, "in")?;
+    let cost = number_or(table, "cost", 1)?;
+    let selectivity = even_at(alloc, table, port_count(&body))?;
     Ok(BoxTable {
         name,
         body,

@@ -50,7 +50,6 @@ pub struct AnswerColumn {
 }
 
 /// What a box does, by the texts of its expressions and the names of the fields that it takes.
-#[derive(Drop)]
 pub enum BodyTable {
     Filter {
         preds: ListOf<Name>,
@@ -78,6 +77,36 @@ pub enum BodyTable {
         size: i64,
         give: ListOf<AnswerColumn>,
     },
+}
+
+/// By hand, so that a proof above meets one call where a body is let go, and not each kind of it.
+impl Drop for BodyTable {
+    fn drop(self) {
+        match self {
+            BodyTable::Filter { preds: _preds } => {}
+            BodyTable::Map { set: _set } => {}
+            BodyTable::Union => {}
+            BodyTable::BSort {
+                by: _by,
+                slack: _slack,
+            } => {}
+            BodyTable::Aggregate {
+                size: _size,
+                advance: _advance,
+                phase: _phase,
+                group: _group,
+                give: _give,
+            } => {}
+            BodyTable::Join {
+                size: _size,
+                on: _on,
+            } => {}
+            BodyTable::Resample {
+                size: _size,
+                give: _give,
+            } => {}
+        }
+    }
 }
 
 /// A box: its name, what it does, and the names of the streams that it takes.
