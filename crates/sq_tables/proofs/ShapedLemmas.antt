@@ -1,8 +1,8 @@
 -- Tables read one after another: those so far, joined with the rest, are all.
-use Rattle.std.proofs.Common.{◌≡◌, ◌∙◌, ap, refl, ℕ, ◌+◌, ◌<◌, List, [], ◌∷◌, ◌++◌, map, drop, length, get_or, Option, Some, None, append_assoc, sym, arith}
+use Rattle.std.proofs.Common.{◌≡◌, ◌∙◌, ap, refl, ℕ, ◌+◌, ◌<◌, ◌≤◌, List, [], ◌∷◌, ◌++◌, map, drop, length, get_or, Option, Some, None, append_assoc, append-nil, sym, arith}
 use Rattle.std.specs.Prelude.{Result, Ok, Err}
 use Rattle.std.specs.List.{zip}
-use Rattle.std.proofs.lemmas.List.{drop_more}
+use Rattle.std.proofs.lemmas.List.{drop_all, drop_more}
 use Rattle.toml.specs.Data.{Members}
 use Rattle.sq_net.specs.declared.Part.{Part}
 use Rattle.sq_net.specs.declared.NetErr.{NetErr}
@@ -40,6 +40,10 @@ shaped_more p f n front t ts x e = rw e (sym (joined-cons front x (shaped_from p
 pub shaped_stop : {A : Type 0} (p : Part) (f : Members → Option A) (n : ℕ) (front : List A) (t : Members) (ts : List Members) → f t ≡ None
     → joined front (shaped_from p f n (t ∷ ts)) ≡ Err (broken.Shape (part_place p n))
 shaped_stop p f n front t ts e = rw e refl
+
+-- behind the last table nothing is left
+pub shaped_all : {A X : Type 0} (p : Part) (f : Members → Option A) (seen : X → Members) (xs : List X) (i : ℕ) (front : List A) → length xs ≤ i → joined front (shaped_from p f i (map seen (drop i xs))) ≡ Ok front
+shaped_all p f seen xs i front end = ap (λ ys. joined front (shaped_from p f i (map seen ys))) (drop_all i xs end) ∙ ap (λ ys. Ok ys) (append-nil front)
 
 -- one pair more
 pub zip-push : {A B : Type 0} (xs : List A) (ys : List B) (x : A) (y : B) → length xs ≡ length ys → zip (xs ++ x ∷ []) (ys ++ y ∷ []) ≡ zip xs ys ++ (x, y) ∷ []
