@@ -1,7 +1,8 @@
 -- What an arc keeps, by its front and the face of its pages.
-use Rattle.std.proofs.Common.{◌≡◌, ℕ, suc, ◌+◌, ◌-◌, ◌<◌, Bool, true, false, cond, List, [], ◌∷◌, ◌++◌, Option, Some, None, length, refl, sym, ap, ◌∙◌, subst, arith}
+use Rattle.std.proofs.Common.{◌≡◌, ◌≢◌, ℕ, suc, ◌+◌, ◌-◌, ◌<◌, ◌≤◌, Bool, true, false, cond, List, [], ◌∷◌, ◌++◌, Option, Some, None, length, refl, sym, ap, ◌∙◌, subst, arith}
 use Rattle.std.proofs.Math.Dec.{eqb-suc-zero}
-use Rattle.std.specs.Prelude.{Result, Ok, Err, OnOk, is_some, unwrap_or}
+use Rattle.std.proofs.Math.ListN.{set}
+use Rattle.std.specs.Prelude.{Result, Ok, Err, OnOk, is_some, slice_get, unwrap_or}
 use Rattle.std.specs.List.{AllByRecursion}
 use Rattle.std.proofs.lemmas.List.{length-append, append-nil}
 use Rattle.sq_item.specs.declared.Item.{Item}
@@ -11,6 +12,7 @@ use Rattle.sq_paged.specs.Fronts.{Face, IsFaceOf, IsPopped, first_time, first_ti
 use Rattle.sq_queue.specs.Faces.{face_at, front_at, behind_at, first_time_of, IsLane}
 use Rattle.sq_queue.specs.declared.Lane.{Lane}
 use Rattle.sq_paged.proofs.LaneLemmas.{first-given}
+use Rattle.sq_words.proofs.Lists.{get_set_same, get_set_other}
 
 pub on-ok-both : {T E P Q R : Type 0} (r : Result T E) → OnOk r P → OnOk r Q → (P → Q → R) → OnOk r R
 on-ok-both (Ok x) p q f = f p q
@@ -88,6 +90,9 @@ pub record Takes (lane new : Lane) (item : Item) : Type 0 where
   pub behind : new.behind ≡ lane.behind
   pub ended : new.ended ≡ lane.ended
 
+pub front-counted : (lane : Lane) (paged : Face) → IsLane (Some lane) paged → length lane.front.items ≤ lane.count
+front-counted lane paged l = omega (arith, l.count)
+
 pub taken-sound : (lane new : Lane) (item : Item) (paged : Face) → IsLane (Some lane) paged → Takes lane new item → IsSoundItem item
 taken-sound lane new item paged l t = (subst (λ (xs : List Item). AllByRecursion IsSoundItem xs) t.front l.sound).0
 
@@ -132,4 +137,54 @@ popped-lane lane behind paged after l p e =
       runs = p.ended ∙ l.runs;
       few = l.few;
       sound = l.sound;
+    }
+
+-- ---- the face of an arc whose lane was written, and those of the others
+
+face-by : (f g : Face) → f.count ≡ g.count → f.first ≡ g.first → f.ended ≡ g.ended → f ≡ g
+face-by f g count first ended =
+    ap (λ (n : ℕ). record f { count = n }) count ∙ ap (λ (o : Option ℕ). record f { count = g.count; first = o }) first ∙ ap (λ (b : Bool). record g { ended = b }) ended
+
+pub other-face : (lanes : List Lane) (arc other : ℕ) (new : Lane) → other ≢ arc → face_at (slice_get (set lanes arc new) other) ≡ face_at (slice_get lanes other)
+other-face lanes arc other new differ = ap face_at (get_set_other lanes arc other new differ)
+
+pub pushed-face : (lanes : List Lane) (arc : ℕ) (lane new : Lane) (time : ℕ) → arc < length lanes → slice_get lanes arc ≡ Some lane → face_at (Some new) ≡ pushed (face_at (Some lane)) time
+    → face_at (slice_get (set lanes arc new) arc) ≡ pushed (face_at (slice_get lanes arc)) time
+pushed-face lanes arc lane new time inside was own = ap face_at (get_set_same lanes arc new inside) ∙ own ∙ ap (λ (o : Option Lane). pushed (face_at o) time) (sym was)
+
+pub popped-face : (lanes : List Lane) (arc : ℕ) (lane new : Lane) → arc < length lanes → slice_get lanes arc ≡ Some lane → IsPopped (face_at (Some lane)) (face_at (Some new))
+    → IsPopped (face_at (slice_get lanes arc)) (face_at (slice_get (set lanes arc new) arc))
+popped-face lanes arc lane new inside was own =
+    subst (λ (o : Option Lane). IsPopped (face_at (slice_get lanes arc)) (face_at o)) (sym (get_set_same lanes arc new inside)) (subst (λ (o : Option Lane). IsPopped (face_at o) (face_at (Some new))) (sym was) own)
+
+first-behind : (front : List Item) (behind : Option ℕ) (time : ℕ) → first_time_of front (Some (unwrap_or behind time)) ≡ first_time_or (first_time_of front behind) time
+first-behind [] behind time = first-given behind time
+first-behind (x ∷ front) behind time = refl
+
+pub face-pushed-behind : (lane new : Lane) (time : ℕ) → new.front.items ≡ lane.front.items → new.count ≡ lane.count + 1 → new.behind ≡ Some (unwrap_or lane.behind time) → new.ended ≡ lane.ended
+    → face_at (Some new) ≡ pushed (face_at (Some lane)) time
+face-pushed-behind lane new time front count behind ended =
+    face-by _ _ count
+    (ap (λ (xs : List Item). first_time_of xs new.behind) front ∙ ap (λ (o : Option ℕ). first_time_of lane.front.items o) behind ∙ first-behind lane.front.items lane.behind time)
+    ended
+
+first-appended : (front : List Item) (item : Item) → first_time_of (front ++ item ∷ []) None ≡ first_time_or (first_time_of front None) item.time
+first-appended [] item = refl
+first-appended (x ∷ front) item = refl
+
+pub face-appended : (lane new : Lane) (item : Item) (time : ℕ) → Appends lane new item → lane.behind ≡ None → new.ended ≡ lane.ended → item.time ≡ time → face_at (Some new) ≡ pushed (face_at (Some lane)) time
+face-appended lane new item time a none ended same =
+    face-by _ _ a.count
+    (ap (λ (xs : List Item). first_time_of xs new.behind) a.front ∙ ap (λ (o : Option ℕ). first_time_of (lane.front.items ++ item ∷ []) o) (a.behind ∙ none) ∙ first-appended lane.front.items item
+    ∙ ap (λ (o : Option ℕ). first_time_or (first_time_of lane.front.items o) item.time) (sym none) ∙ ap (λ (t : ℕ). first_time_or (first_time_of lane.front.items lane.behind) t) same)
+    ended
+
+pub face-popped-behind : (lane : Lane) (behind : Option ℕ) (paged after : Face) → IsLane (Some lane) paged → lane.front.items ≡ [] → IsPopped paged after → behind ≡ after.first → IsPopped (face_at (Some lane)) (face_at (Some (popped_lane lane behind)))
+face-popped-behind lane behind paged after l empty p e =
+    let none : length lane.front.items ≡ 0 = ap length empty in
+    let left : lane.count - 1 ≡ after.count = omega (arith, l.count, none, p.count) in
+    record {
+      count = omega (arith, l.count, none, p.count);
+      first = ap (λ (xs : List Item). is_some (first_time_of xs behind)) empty ∙ ap is_some e ∙ p.first ∙ ap is_first (sym left);
+      ended = refl;
     }

@@ -1,7 +1,8 @@
 -- Queues after the lane of one arc was written.
 use Rattle.std.proofs.Common.{◌≡◌, ◌≢◌, ℕ, zero, suc, ◌<◌, List, [], ◌∷◌, ◌++◌, Option, Some, None, length, refl, sym, ap, subst, ◌∙◌, inl, inr, arith}
-use Rattle.std.proofs.Math.ListN.{set, length-set}
+use Rattle.std.proofs.Math.ListN.{set, get_or, length-set}
 use Rattle.std.proofs.lemmas.Bool.{cases_eq}
+use Rattle.std.proofs.lemmas.List.{set-get_or}
 use Rattle.std.specs.Prelude.{slice_get}
 use Rattle.std.specs.List.{AllByRecursion}
 use Rattle.sq_item.specs.declared.Item.{Item}
@@ -13,6 +14,7 @@ use Rattle.sq_paged.specs.Faces as pages
 use Rattle.sq_queue.specs.Faces.{front_at, size, items_on, no_face, IsEmpty, IsLane, Together}
 use Rattle.sq_queue.specs.declared.Lane.{Lane}
 use Rattle.sq_queue.specs.declared.Queues.{Queues}
+use Rattle.sq_paged.specs.declared.Queues.{Queues as Paged}
 use Rattle.sq_queue.proofs.LaneLemmas.{lane-face, none-behind}
 use Rattle.sq_words.proofs.Lists.{get_set_same, get_set_other}
 
@@ -57,6 +59,22 @@ pub other-items : (q : Queues) (told : Option Pages) (r : Queues) (now : Option 
 other-items q told r now arc other new lanes differ same =
     let there : slice_get r.lanes.items other ≡ slice_get q.lanes.items other = ap (λ (ls : List Lane). slice_get ls other) lanes ∙ get_set_other q.lanes.items arc other new differ in
     ap (λ (o : Option Lane). front_at o ++ pages.paged_items_on r.paged now other) there ∙ ap (λ (xs : List Item). front_at (slice_get q.lanes.items other) ++ xs) same
+
+-- the lane of one arc was read alone
+pub same-lanes : (lanes : List Lane) (arc : ℕ) (lane : Lane) → lane ≡ get_or lanes arc lane → set lanes arc lane ≡ lanes
+same-lanes lanes arc lane is = ap (λ (l : Lane). set lanes arc l) is ∙ set-get_or lanes arc lane
+
+pub read-together : (q : Queues) (told : Option Pages) (r : Queues) → Together q told → r.paged ≡ q.paged → r.lanes.items ≡ q.lanes.items → Together r told
+read-together q told r g paged lanes =
+    together-by r told (subst (λ (p : Paged). pages.PagedTogether p told) (sym paged) g.paged) (ap pages.paged_size paged ∙ g.arcs ∙ sym (ap length lanes))
+    (λ l. subst (λ (p : Paged). IsLane (slice_get r.lanes.items l) (pages.paged_face p l)) (sym paged) (subst (λ (ls : List Lane). IsLane (slice_get ls l) (pages.paged_face q.paged l)) (sym lanes) (g.lanes l)))
+
+-- the first item of the arc whose lane was written is gone
+pub taken-items : (q : Queues) (told : Option Pages) (r : Queues) (now : Option Pages) (arc : ℕ) (lane new : Lane) (item : Item) → arc < size q → slice_get q.lanes.items arc ≡ Some lane → r.lanes.items ≡ set q.lanes.items arc new
+    → lane.front.items ++ pages.paged_items_on q.paged told arc ≡ item ∷ (new.front.items ++ pages.paged_items_on r.paged now arc) → items_on q told arc ≡ item ∷ items_on r now arc
+taken-items q told r now arc lane new item inside was lanes own =
+    let here : slice_get r.lanes.items arc ≡ Some new = ap (λ (ls : List Lane). slice_get ls arc) lanes ∙ get_set_same q.lanes.items arc new inside in
+    ap (λ (o : Option Lane). front_at o ++ pages.paged_items_on q.paged told arc) was ∙ own ∙ ap (λ (o : Option Lane). item ∷ (front_at o ++ pages.paged_items_on r.paged now arc)) (sym here)
 
 -- where nothing of an arc is said to be in pages, nothing is
 pub none-paged : (q : Queues) (told : Option Pages) (arc : ℕ) (lane : Lane) → Together q told → Tells told → slice_get q.lanes.items arc ≡ Some lane → lane.behind ≡ None → pages.paged_items_on q.paged told arc ≡ []

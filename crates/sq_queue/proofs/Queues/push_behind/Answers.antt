@@ -1,14 +1,136 @@
-use Rattle.std.proofs.Common.{ℕ, List, [], ◌∷◌, ◌++◌, Some, refl, sym, ap, ◌∙◌, append_assoc}
+use Rattle.std.proofs.Common.{◌<◌, ℕ, List, [], ◌∷◌, ◌++◌, Some, refl, sym, ap, subst, ◌∙◌, append_assoc}
+use Rattle.std.proofs.Math.ListN.{length-set}
 use Rattle.std.specs.Vec.{with_item}
 use Rattle.std.proofs.lemmas.Option.{slice_get_read}
 use Rattle.sq_item.specs.declared.Item.{Item}
 use Rattle.sq_pool.specs.Trust.{known}
+use Rattle.sq_pool.proofs.TrustLemmas.{IsLater-refl}
 use Rattle.sq_paged.specs.Faces as pages
 use Rattle.sq_queue.specs.declared.Lane.{Lane}
 use Rattle.sq_queue.specs.declared.Queues.{Queues}
-use Rattle.sq_queue.proofs.LaneLemmas.{pushed-behind}
+use Rattle.sq_queue.proofs.LaneLemmas.{other-face, pushed-face, face-pushed-behind, pushed-behind}
 use Rattle.sq_queue.proofs.TogetherLemmas.{written-together, written-items, other-items}
 use Rattle.sq_queue.proofs.Queues.push_behind.Goals as goal
+
+pub returns-in_default-clause-face : goal.returns-in_default-clause-face
+returns-in_default-clause-face g c = tt
+
+pub returns-in_default-clause-frames : goal.returns-in_default-clause-frames
+returns-in_default-clause-frames g c = tt
+
+pub returns-in_default-clause-items : goal.returns-in_default-clause-items
+returns-in_default-clause-items g c = tt
+
+pub returns-in_default-clause-others : goal.returns-in_default-clause-others
+returns-in_default-clause-others g c = tt
+
+pub returns-in_default-clause-together : goal.returns-in_default-clause-together
+returns-in_default-clause-together g c = tt
+
+pub returns-in_default-clause-faces : goal.returns-in_default-clause-faces
+returns-in_default-clause-faces g c = λ other differ. other-face c.args.self.now.lanes.items c.args.arc other _ differ
+
+pub returns-in_default-clause-size : goal.returns-in_default-clause-size
+returns-in_default-clause-size g c = length-set c.args.self.now.lanes.items c.args.arc _
+
+pub returns-in_default-clause-later : goal.returns-in_default-clause-later
+returns-in_default-clause-later g c = IsLater-refl _
+
+pub returns-in_default-clause-cause : goal.returns-in_default-clause-cause
+returns-in_default-clause-cause g c = tt
+
+pub returns-in_default-clause-honest : goal.returns-in_default-clause-honest
+returns-in_default-clause-honest g c honest = tt
+
+pub returns-in_default-clause-misfit : goal.returns-in_default-clause-misfit
+returns-in_default-clause-misfit g c tells = tt
+
+pub push-requires-clause-there : goal.push-requires-clause-there
+push-requires-clause-there g c = subst (λ (n : ℕ). c.args.arc < n) (sym c.requires.together.arcs) c.requires.there
+
+pub push-requires-clause-open : goal.push-requires-clause-open
+push-requires-clause-open g c = (c.requires.together.lanes c.args.arc).runs
+
+pub push-requires-clause-sound : goal.push-requires-clause-sound
+push-requires-clause-sound g c = c.requires.sound
+
+pub push-requires-clause-together : goal.push-requires-clause-together
+push-requires-clause-together g c = c.requires.together.paged
+
+pub returns-in-Err-clause-face : goal.returns-in-Err-clause-face
+returns-in-Err-clause-face g c = tt
+
+pub returns-in-Err-clause-frames : goal.returns-in-Err-clause-frames
+returns-in-Err-clause-frames g c = tt
+
+pub returns-in-Err-clause-items : goal.returns-in-Err-clause-items
+returns-in-Err-clause-items g c = tt
+
+pub returns-in-Err-clause-others : goal.returns-in-Err-clause-others
+returns-in-Err-clause-others g c = tt
+
+pub returns-in-Err-clause-together : goal.returns-in-Err-clause-together
+returns-in-Err-clause-together g c = tt
+
+pub returns-in-Err-clause-faces : goal.returns-in-Err-clause-faces
+returns-in-Err-clause-faces g c = λ other differ. other-face c.args.self.now.lanes.items c.args.arc other _ differ
+
+pub returns-in-Err-clause-size : goal.returns-in-Err-clause-size
+returns-in-Err-clause-size g c = length-set c.args.self.now.lanes.items c.args.arc _
+
+pub returns-in-Err-clause-later : goal.returns-in-Err-clause-later
+returns-in-Err-clause-later g c = c.in-Err.ensures.later
+
+pub returns-in-Err-clause-disk : goal.returns-in-Err-clause-disk
+returns-in-Err-clause-disk g c = c.in-Err.ensures.disk
+
+pub returns-in-Err-clause-cause : goal.returns-in-Err-clause-cause
+returns-in-Err-clause-cause g c = c.in-Err.ensures.cause
+
+pub returns-in-Err-clause-honest : goal.returns-in-Err-clause-honest
+returns-in-Err-clause-honest g c = c.in-Err.ensures.honest
+
+pub returns-in-Err-clause-misfit : goal.returns-in-Err-clause-misfit
+returns-in-Err-clause-misfit g c = c.in-Err.ensures.misfit
+
+pub returns-in-Err-clause-faults : goal.returns-in-Err-clause-faults
+returns-in-Err-clause-faults g c = c.in-Err.ensures.faults
+
+pub returns-clause-face : goal.returns-clause-face
+returns-clause-face g c =
+    let q = c.args.self.now in
+    let arc = c.args.arc in
+    let lane = c.index_mut-lane.result.now in
+    let new : Lane = record lane { count = c.in-Some.count; behind = Some c.unwrap_or.result } in
+    pushed-face q.lanes.items arc lane new c.args.item.now.time c.requires.there (slice_get_read q.lanes.items _ arc lane refl c.requires.there c.index_mut-lane.ensures.value)
+    (face-pushed-behind lane new c.args.item.now.time refl c.in-Some.ensures.1 (ap (λ (n : ℕ). Some n) c.unwrap_or.ensures) refl)
+
+pub returns-clause-faces : goal.returns-clause-faces
+returns-clause-faces g c = λ other differ. other-face c.args.self.now.lanes.items c.args.arc other _ differ
+
+pub returns-clause-size : goal.returns-clause-size
+returns-clause-size g c = length-set c.args.self.now.lanes.items c.args.arc _
+
+pub returns-clause-frames : goal.returns-clause-frames
+returns-clause-frames g c = c.in-Ok.ensures.frames
+
+pub returns-clause-later : goal.returns-clause-later
+returns-clause-later g c = c.in-Ok.ensures.later
+
+pub returns-clause-faults : goal.returns-clause-faults
+returns-clause-faults g c = c.in-Ok.ensures.faults
+
+pub returns-clause-disk : goal.returns-clause-disk
+returns-clause-disk g c = tt
+
+pub returns-clause-cause : goal.returns-clause-cause
+returns-clause-cause g c = tt
+
+pub returns-clause-honest : goal.returns-clause-honest
+returns-clause-honest g c = tt
+
+pub returns-clause-misfit : goal.returns-clause-misfit
+returns-clause-misfit g c = tt
 
 pub returns-clause-items : goal.returns-clause-items
 returns-clause-items g c tells =
