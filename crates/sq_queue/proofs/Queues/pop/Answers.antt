@@ -1,6 +1,5 @@
-use Rattle.std.proofs.Common.{◌≡◌, ◌<◌, ◌++◌, ◌∷◌, ℕ, List, Option, Some, is_some, true, refl, sym, ap, subst, ◌∙◌}
+use Rattle.std.proofs.Common.{◌≡◌, ◌≢◌, ◌<◌, ◌++◌, ◌∷◌, ℕ, List, Option, Some, is_some, true, refl, sym, ap, subst, ◌∙◌}
 use Rattle.std.proofs.Math.ListN.{length-set}
-use Rattle.std.proofs.lemmas.Result.{on_ok_weaker}
 use Rattle.std.specs.Prelude.{IfOk, OnOk, slice_get}
 use Rattle.sq_item.specs.declared.Item.{Item}
 use Rattle.sq_pool.specs.Trust.{Tells, known}
@@ -88,11 +87,12 @@ returns-then-is_empty-clause-items g c =
 pub returns-then-is_empty-clause-others : goal.returns-then-is_empty-clause-others
 returns-then-is_empty-clause-others g c =
     let q = c.args.self.now in
-    let told = known (g.D.PageDisk.log c.args.disk.now) in
+    let arc = c.args.arc in
     let lane = c.index_mut-lane.result.now in
-    let r : Queues = record q { lanes = with_item q.lanes c.args.arc lane } in
-    on_ok_weaker c.pop_behind.result (λ kept tells other differ.
-    kept tells other differ ∙ other-items q told r told c.args.arc other lane refl differ refl) c.pop_behind.ensures.others
+    let told = known (g.D.PageDisk.log c.args.disk.now) in
+    let now = known (g.D.PageDisk.log c.pop_behind.new.disk) in
+    subst (λ (ls : List Lane). OnOk c.pop_behind.result (Tells now → (other : ℕ) → other ≢ arc → items_on c.pop_behind.new.self now other ≡ front_at (slice_get ls other) ++ pages.paged_items_on q.paged told other))
+    (same-lanes q.lanes.items arc lane c.index_mut-lane.ensures.value) c.pop_behind.ensures.others
 
 pub take_first-requires-clause-counted : goal.take_first-requires-clause-counted
 take_first-requires-clause-counted g c =

@@ -1,4 +1,4 @@
-use Rattle.std.proofs.Common.{◌≡◌, ◌<◌, ℕ, List, [], ◌∷◌, ◌++◌, refl, sym, subst, ◌∙◌}
+use Rattle.std.proofs.Common.{◌≡◌, ◌≢◌, ◌<◌, ℕ, List, [], ◌∷◌, ◌++◌, refl, sym, subst, ◌∙◌}
 use Rattle.std.proofs.Math.ListN.{length-set}
 use Rattle.std.specs.Prelude.{OnOk, slice_get}
 use Rattle.sq_pool.proofs.TrustLemmas.{IsLater-refl}
@@ -90,11 +90,12 @@ returns-then-has_room-clause-together g c =
 pub returns-clause-others : goal.returns-clause-others
 returns-clause-others g c =
     let q = c.args.self.now in
-    let told = known (g.D.PageDisk.log c.args.disk.now) in
+    let arc = c.args.arc in
     let lane = c.index_mut-lane.result.now in
-    let r : Queues = record q { lanes = with_item q.lanes c.args.arc lane } in
-    on_ok_weaker c.push_behind.result (λ kept tells other differ.
-    kept tells other differ ∙ other-items q told r told c.args.arc other lane refl differ refl) c.push_behind.ensures.others
+    let told = known (g.D.PageDisk.log c.args.disk.now) in
+    let now = known (g.D.PageDisk.log c.push_behind.new.disk) in
+    subst (λ (ls : List Lane). OnOk c.push_behind.result (Tells now → (other : ℕ) → other ≢ arc → items_on c.push_behind.new.self now other ≡ front_at (slice_get ls other) ++ pages.paged_items_on q.paged told other))
+    (same-lanes q.lanes.items arc lane c.index_mut-lane.ensures.value) c.push_behind.ensures.others
 
 pub push_behind-requires-clause-sound : goal.push_behind-requires-clause-sound
 push_behind-requires-clause-sound g c = c.requires.sound
