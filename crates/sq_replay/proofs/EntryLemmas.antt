@@ -1,17 +1,18 @@
 -- The lines of a file one by one, and the entries of a capacity file.
-use Rattle.std.proofs.Common.{◌≡◌, ℕ, ◌+◌, ◌*◌, ◌^◌, ◌<◌, ◌≤◌, eqb, ltb, Bool, true, false, cond, List, [], ◌∷◌, ◌++◌, length, Option, Some, None, Ok, Err, refl, ap, sym, subst, ◌∙◌, arith, lit<}
+use Rattle.std.proofs.Common.{◌≡◌, ℕ, ◌+◌, ◌*◌, ◌^◌, ◌<◌, ◌≤◌, eqb, ltb, Bool, true, false, cond, List, [], ◌∷◌, ◌++◌, length, map, get_or, drop, zero, suc, Option, Some, None, Ok, Err, refl, ap, sym, subst, ◌∙◌, arith, lit<}
 use Rattle.std.proofs.lemmas.Bool.Decides.{nat_tests}
 use Rattle.std.proofs.lemmas.Grind.{pow_more}
 use Rattle.std.proofs.Math.Nat.{pow-le-pow_right}
-use Rattle.std.specs.Prelude.{Result}
+use Rattle.std.specs.Prelude.{Result, nat_lt, ◌&&◌, if◌then◌else◌}
+use Rattle.std.specs.Borrow.{Bor}
 use Rattle.std.specs.List.{filter, slice_split, AllByRecursion}
 use Rattle.std.specs.Str.Lines.{strip_carriage_return}
-use Rattle.sq_value.specs.Texts.{read_number}
+use Rattle.sq_value.specs.Texts.{read_number, are_digits, number_in}
 use Rattle.sq_plan.specs.Plans.{Entries}
 use Rattle.sq_plan.specs.Settings.{AreAscending}
 use Rattle.sq_replay.specs.FileLines.{Line, has_text, lines_from}
-use Rattle.sq_replay.specs.Entries.{good_or, capacity_text, is_later, with_capacity, entry_of, entry_fields, entry_in, entries_from}
-use Rattle.sq_replay.proofs.StreamLemmas.{with_front, front_cons}
+use Rattle.sq_replay.specs.Entries.{good_or, capacity_text, is_later, with_capacity, entry_of, entry_fields, entry_in, entries_from, line_view, pick_in, picks_from}
+use Rattle.sq_replay.proofs.StreamLemmas.{with_front, front_cons, front_end}
 use Rattle.sq_words.specs.Results.{◌>>=◌}
 
 -- the lines of one piece more
@@ -32,6 +33,78 @@ entries_step front after n line ls x e = ap (λ o. with_front front (good_or n o
 
 pub entries_refused : (front : Entries) (after : Option ℕ) (n : ℕ) (line : List ℕ) (ls : List Line) → entry_in after line ≡ None → with_front front (entries_from after ((n, line) ∷ ls)) ≡ Err n
 entries_refused front after n line ls e = ap (λ o. with_front front (good_or n o >>= (λ x. entries_from (Some x.0) ls >>= (λ xs. Ok (x ∷ xs))))) e
+
+-- the entry of the line at a place
+entry_next : (front es : Entries) (after : Option ℕ) (lines : List (ℕ × Bor (List ℕ))) (i : ℕ) (d : ℕ × Bor (List ℕ)) (x : ℕ × Option ℕ) (whole : Result Entries ℕ) → i < length lines
+    → entry_in after (get_or lines i d).1.now ≡ Some x → es ≡ front ++ x ∷ [] → with_front front (entries_from after (map line_view (drop i lines))) ≡ whole
+    → with_front es (entries_from (Some x.0) (map line_view (drop (suc i) lines))) ≡ whole
+entry_next front es after [] i d x whole within e same so_far = absurd (omega arith)
+entry_next front es after (l ∷ ls) zero d x whole within e same so_far =
+    subst (λ (z : Entries). with_front z (entries_from (Some x.0) (map line_view ls)) ≡ whole) (sym same) (sym (entries_step front after l.0 l.1.now (map line_view ls) x e) ∙ so_far)
+entry_next front es after (l ∷ ls) (suc i) d x whole within e same so_far = entry_next front es after ls i d x whole (omega arith) e same so_far
+
+pub entry_on : (front es : Entries) (after : Option ℕ) (lines : List (ℕ × Bor (List ℕ))) (i : ℕ) (d : ℕ × Bor (List ℕ)) (x : ℕ × Option ℕ) (whole : Result Entries ℕ) → i < length lines
+    → entry_in after (get_or lines i d).1.now ≡ Some x → es ≡ front ++ x ∷ [] → with_front front (entries_from after (map line_view (drop i lines))) ≡ whole
+    → with_front es (entries_from (Some x.0) (map line_view (drop (i + 1) lines))) ≡ whole
+entry_on front es after lines i d x whole within e same so_far =
+    let next : suc i ≡ i + 1 = omega arith in
+    subst (λ (j : ℕ). with_front es (entries_from (Some x.0) (map line_view (drop j lines))) ≡ whole) next (entry_next front es after lines i d x whole within e same so_far)
+
+-- no entry on the line at a place
+pub entry_off : (front : Entries) (after : Option ℕ) (lines : List (ℕ × Bor (List ℕ))) (i : ℕ) (d : ℕ × Bor (List ℕ)) (whole : Result Entries ℕ) → i < length lines → entry_in after (get_or lines i d).1.now ≡ None
+    → with_front front (entries_from after (map line_view (drop i lines))) ≡ whole → whole ≡ Err (get_or lines i d).0
+entry_off front after [] i d whole within e so_far = absurd (omega arith)
+entry_off front after (l ∷ ls) zero d whole within e so_far = sym so_far ∙ entries_refused front after l.0 l.1.now (map line_view ls) e
+entry_off front after (l ∷ ls) (suc i) d whole within e so_far = entry_off front after ls i d whole (omega arith) e so_far
+
+-- no line is left
+pub entries_end : (front : Entries) (after : Option ℕ) (lines : List (ℕ × Bor (List ℕ))) (i : ℕ) (whole : Result Entries ℕ) → length lines ≤ i → with_front front (entries_from after (map line_view (drop i lines))) ≡ whole → whole ≡ Ok front
+entries_end front after [] zero whole past so_far = front_end front whole so_far
+entries_end front after [] (suc i) whole past so_far = front_end front whole so_far
+entries_end front after (l ∷ ls) zero whole past so_far = absurd (omega arith)
+entries_end front after (l ∷ ls) (suc i) whole past so_far = entries_end front after ls i whole (omega arith) so_far
+
+-- the pick of the line at a place
+pick_next : (front es : List ℕ) (lines : List (ℕ × Bor (List ℕ))) (i : ℕ) (d : ℕ × Bor (List ℕ)) (x : ℕ) (whole : Result (List ℕ) ℕ) → i < length lines → pick_in (get_or lines i d).1.now ≡ Some x → es ≡ front ++ x ∷ []
+    → with_front front (picks_from (map line_view (drop i lines))) ≡ whole → with_front es (picks_from (map line_view (drop (suc i) lines))) ≡ whole
+pick_next front es [] i d x whole within e same so_far = absurd (omega arith)
+pick_next front es (l ∷ ls) zero d x whole within e same so_far =
+    let step : with_front front (picks_from (map line_view (l ∷ ls))) ≡ with_front (front ++ x ∷ []) (picks_from (map line_view ls)) =
+    ap (λ o. with_front front (good_or l.0 o >>= (λ x. picks_from (map line_view ls) >>= (λ xs. Ok (x ∷ xs))))) e ∙ front_cons front x (picks_from (map line_view ls)) in
+    subst (λ (z : List ℕ). with_front z (picks_from (map line_view ls)) ≡ whole) (sym same) (sym step ∙ so_far)
+pick_next front es (l ∷ ls) (suc i) d x whole within e same so_far = pick_next front es ls i d x whole (omega arith) e same so_far
+
+pub pick_on : (front es : List ℕ) (lines : List (ℕ × Bor (List ℕ))) (i : ℕ) (d : ℕ × Bor (List ℕ)) (x : ℕ) (whole : Result (List ℕ) ℕ) → i < length lines → pick_in (get_or lines i d).1.now ≡ Some x → es ≡ front ++ x ∷ []
+    → with_front front (picks_from (map line_view (drop i lines))) ≡ whole → with_front es (picks_from (map line_view (drop (i + 1) lines))) ≡ whole
+pick_on front es lines i d x whole within e same so_far =
+    let next : suc i ≡ i + 1 = omega arith in
+    subst (λ (j : ℕ). with_front es (picks_from (map line_view (drop j lines))) ≡ whole) next (pick_next front es lines i d x whole within e same so_far)
+
+-- no pick on the line at a place
+pub pick_off : (front : List ℕ) (lines : List (ℕ × Bor (List ℕ))) (i : ℕ) (d : ℕ × Bor (List ℕ)) (whole : Result (List ℕ) ℕ) → i < length lines → pick_in (get_or lines i d).1.now ≡ None
+    → with_front front (picks_from (map line_view (drop i lines))) ≡ whole → whole ≡ Err (get_or lines i d).0
+pick_off front [] i d whole within e so_far = absurd (omega arith)
+pick_off front (l ∷ ls) zero d whole within e so_far = sym so_far ∙ ap (λ o. with_front front (good_or l.0 o >>= (λ x. picks_from (map line_view ls) >>= (λ xs. Ok (x ∷ xs))))) e
+pick_off front (l ∷ ls) (suc i) d whole within e so_far = pick_off front ls i d whole (omega arith) e so_far
+
+-- no line is left
+pub picks_end : (front : List ℕ) (lines : List (ℕ × Bor (List ℕ))) (i : ℕ) (whole : Result (List ℕ) ℕ) → length lines ≤ i → with_front front (picks_from (map line_view (drop i lines))) ≡ whole → whole ≡ Ok front
+picks_end front [] zero whole past so_far = front_end front whole so_far
+picks_end front [] (suc i) whole past so_far = front_end front whole so_far
+picks_end front (l ∷ ls) zero whole past so_far = absurd (omega arith)
+picks_end front (l ∷ ls) (suc i) whole past so_far = picks_end front ls i whole (omega arith) so_far
+
+less : (a b : ℕ) → ltb a b ≡ true → a < b
+less a b h = grind (arith, nat_tests)
+
+-- what is read is below its limit
+pub read_below : (most limit : ℕ) (bs : List ℕ) (n : ℕ) → read_number most limit bs ≡ Some n → n < limit
+read_below most limit bs n h = by (are_digits most bs) (nat_lt (number_in bs) limit) refl h
+  where
+    by : (a b : Bool) → nat_lt (number_in bs) limit ≡ b → (if a && b then Some (number_in bs) else None) ≡ Some n → n < limit
+    by false b t h = absurd (cc h)
+    by true false t h = absurd (cc h)
+    by true true t h = let same : number_in bs ≡ n = cc in subst (λ (k : ℕ). k < limit) same (less (number_in bs) limit t)
 
 -- more than two fields are no entry
 pub too_many : (after : Option ℕ) (e c : List ℕ) (rest : List (List ℕ)) → 1 ≤ length rest → None ≡ entry_fields after (e ∷ c ∷ rest)
