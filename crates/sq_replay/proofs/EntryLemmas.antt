@@ -1,17 +1,19 @@
 -- The lines of a file one by one, and the entries of a capacity file.
-use Rattle.std.proofs.Common.{◌≡◌, ℕ, ◌+◌, ◌*◌, ◌^◌, ◌<◌, ◌≤◌, eqb, ltb, Bool, true, false, cond, List, [], ◌∷◌, ◌++◌, length, map, get_or, drop, zero, suc, Option, Some, None, Ok, Err, refl, ap, sym, subst, ◌∙◌, arith, lit<}
+use Rattle.std.proofs.Common.{◌≡◌, ℕ, ◌+◌, ◌*◌, ◌^◌, ◌<◌, ◌≤◌, eqb, ltb, Bool, true, false, cond, List, [], ◌∷◌, ◌++◌, length, map, ◌-◌, get_or, drop, zero, suc, Option, Some, None, Ok, Err, refl, ap, sym, subst, ◌∙◌, arith, lit<}
 use Rattle.std.proofs.lemmas.Bool.Decides.{nat_tests}
 use Rattle.std.proofs.lemmas.Grind.{pow_more}
+use Rattle.std.proofs.lemmas.List.{drop_all, drop_more}
+use Rattle.std.specs.Int.Digits.{number_from_digits_after}
 use Rattle.std.proofs.Math.Nat.{pow-le-pow_right}
-use Rattle.std.specs.Prelude.{Result, nat_lt, ◌&&◌, if◌then◌else◌}
+use Rattle.std.specs.Prelude.{Result, nat_le, nat_lt, ◌&&◌, if◌then◌else◌}
 use Rattle.std.specs.Borrow.{Bor}
-use Rattle.std.specs.List.{filter, slice_split, AllByRecursion}
+use Rattle.std.specs.List.{filter, list_all, slice_split, AllByRecursion}
 use Rattle.std.specs.Str.Lines.{strip_carriage_return}
-use Rattle.sq_value.specs.Texts.{read_number, are_digits, number_in}
+use Rattle.sq_value.specs.Texts.{read_number, are_digits, digit_values, is_digit, number_in}
 use Rattle.sq_plan.specs.Plans.{Entries}
 use Rattle.sq_plan.specs.Settings.{AreAscending}
 use Rattle.sq_replay.specs.FileLines.{Line, has_text, lines_from}
-use Rattle.sq_replay.specs.Entries.{good_or, capacity_text, is_later, with_capacity, entry_of, entry_fields, entry_in, entries_from, line_view, pick_in, picks_from}
+use Rattle.sq_replay.specs.Entries.{good_or, capacity_text, is_later, with_capacity, entry_of, entry_fields, entry_in, entries_from, line_view, pick_in, picks_from, wide_number}
 use Rattle.sq_replay.proofs.StreamLemmas.{with_front, front_cons, front_end}
 use Rattle.sq_words.specs.Results.{◌>>=◌}
 
@@ -26,6 +28,48 @@ one_line n piece pieces = by (has_text (n, strip_carriage_return piece))
 -- the number of some digits and one more, 24 at most
 pub wide_below : (n d i : ℕ) → n < 10 ^ i → d ≤ 9 → i < 24 → (n * 10 + d < 10 ^ (i + 1)) × (10 ^ (i + 1) ≤ 10 ^ 24)
 wide_below n d i below digit inside = (omega (arith, pow_more 10 i), pow-le-pow_right {n = 10} (lit< tt) {i = i + 1} {j = 24} (omega arith))
+
+-- a number and one digit more
+pub wide_on : (text : List ℕ) (i n digit whole : ℕ) → i < length text → digit ≡ get_or text i 0 - 48 → number_from_digits_after 10 n (digit_values (drop i text)) ≡ whole
+    → number_from_digits_after 10 (n * 10 + digit) (digit_values (drop (i + 1) text)) ≡ whole
+wide_on text i n digit whole within is so_far =
+    subst (λ (d : ℕ). number_from_digits_after 10 (n * 10 + d) (digit_values (drop (i + 1) text)) ≡ whole) (sym is)
+    (subst (λ (ds : List ℕ). number_from_digits_after 10 n (digit_values ds) ≡ whole) (drop_more text i 0 within) so_far)
+
+digits-here : (text : List ℕ) (i : ℕ) (b : Bool) → i < length text → is_digit (get_or text i 0) ≡ b → list_all is_digit (drop i text) ≡ (b && list_all is_digit (drop (i + 1) text))
+digits-here text i b within here = rw (drop_more text i 0 within, here) refl
+
+pub digits_on : (text : List ℕ) (i : ℕ) (whole : Bool) → i < length text → 48 ≤ get_or text i 0 → get_or text i 0 ≤ 57 → list_all is_digit (drop i text) ≡ whole → list_all is_digit (drop (i + 1) text) ≡ whole
+digits_on text i whole within low high so_far =
+    let here : is_digit (get_or text i 0) ≡ true = grind (arith, nat_tests) in
+    sym (digits-here text i true within here) ∙ so_far
+
+pub digits_off : (text : List ℕ) (i : ℕ) → i < length text → is_digit (get_or text i 0) ≡ false → list_all is_digit (drop i text) ≡ list_all is_digit text → None ≡ wide_number text
+digits_off text i within here so_far =
+    let none : list_all is_digit text ≡ false = sym so_far ∙ digits-here text i false within here in
+    by (nat_lt 0 (length text)) (nat_le (length text) 24) (list_all is_digit text) none
+  where
+    by : (a b d : Bool) → d ≡ false → None ≡ (if a && b && d then Some (number_in text) else None)
+    by false b d none = refl
+    by true false d none = refl
+    by true true false none = refl
+    by true true true none = absurd (cc none)
+
+pub wide_end : (text : List ℕ) (i n : ℕ) → 0 < length text → length text ≤ 24 → length text ≤ i → list_all is_digit (drop i text) ≡ list_all is_digit text → number_from_digits_after 10 n (digit_values (drop i text)) ≡ number_in text
+    → Some n ≡ wide_number text
+wide_end text i n some few past digits is =
+    let none = drop_all i text past in
+    let all : true ≡ list_all is_digit text = rw none at digits in
+    let number : n ≡ number_in text = rw none at is in
+    let least : nat_lt 0 (length text) ≡ true = grind (arith, nat_tests) in
+    let most : nat_le (length text) 24 ≡ true = grind (arith, nat_tests) in
+    by (nat_lt 0 (length text)) (nat_le (length text) 24) (list_all is_digit text) least most (sym all) number
+  where
+    by : (a b d : Bool) → a ≡ true → b ≡ true → d ≡ true → n ≡ number_in text → Some n ≡ (if a && b && d then Some (number_in text) else None)
+    by false b d a-is b-is d-is is = absurd (cc a-is)
+    by true false d a-is b-is d-is is = absurd (cc b-is)
+    by true true false a-is b-is d-is is = absurd (cc d-is)
+    by true true true a-is b-is d-is is = ap Some is
 
 pub entries_step : (front : Entries) (after : Option ℕ) (n : ℕ) (line : List ℕ) (ls : List Line) (x : ℕ × Option ℕ) → entry_in after line ≡ Some x
     → with_front front (entries_from after ((n, line) ∷ ls)) ≡ with_front (front ++ x ∷ []) (entries_from (Some x.0) ls)
