@@ -1,11 +1,12 @@
-use Rattle.std.proofs.Common.{◌++◌, ◌∷◌, [], get_or, take, ap, sym, ◌∙◌, add-one, ◌≤◌, arith}
+use Rattle.std.proofs.Common.{◌++◌, ◌∷◌, [], get_or, take, ap, sym, ◌∙◌, add-one, le_refl, le_trans, refl, ◌≤◌, arith}
 use Rattle.std.proofs.Math.Seq.{take-suc}
 use Rattle.std.proofs.lemmas.List.{take_all}
-use Rattle.sq_pool.proofs.TrustLemmas.{IsLater-trans}
+use Rattle.sq_pool.specs.Trust.{known}
+use Rattle.sq_pool.proofs.TrustLemmas.{IsLater-refl, IsLater-trans}
 use Rattle.sq_item.specs.Things.{spread}
 use Rattle.sq_flow.specs.Wiring.{times_in}
 use Rattle.sq_flow.specs.Sends.{many}
-use Rattle.sq_flow.proofs.SendLemmas.{pushes-one, pushes-both, many-next, not-in, contains-get, at-front, at-last}
+use Rattle.sq_flow.proofs.SendLemmas.{pushes-none, pushes-one, pushes-both, many-next, not-in, contains-get, at-front, at-last}
 use Rattle.std.proofs.lemmas.Result.{err_from_is_err_and}
 use Rattle.sq_flow.proofs.CauseLemmas.{changed-since, cause-of, told-of, queue-cause-since}
 use Rattle.sq_flow.proofs.sending.send_item.Goals as goal
@@ -82,3 +83,29 @@ pub returns-in_err-send-clause-honest : goal.returns-in_err-send-clause-honest
 returns-in_err-send-clause-honest g c =
     let p = err_from_is_err_and c.from_residual-in_err-send.result c.from_residual-in_err-send.ensures.1 in
     rw (p.1, p.2) (λ told. changed-since _ _ _ c.loop-arc.invariant.later.honest (told-of _ _ c.in_err-send.ensures.honest (c.in_err-send.ensures.misfit told)))
+
+pub returns-in_err-push-clause-faults : goal.returns-in_err-push-clause-faults
+returns-in_err-push-clause-faults g c = le_trans c.loop-arc.invariant.faults c.in_err-push.ensures.faults
+
+pub returns-in_err-push-clause-later : goal.returns-in_err-push-clause-later
+returns-in_err-push-clause-later g c = IsLater-trans _ _ _ c.loop-arc.invariant.later c.in_err-push.ensures.later
+
+pub returns-in_err-send-clause-faults : goal.returns-in_err-send-clause-faults
+returns-in_err-send-clause-faults g c = le_trans c.loop-arc.invariant.faults c.in_err-send.ensures.faults
+
+pub returns-in_err-send-clause-later : goal.returns-in_err-send-clause-later
+returns-in_err-send-clause-later g c = IsLater-trans _ _ _ c.loop-arc.invariant.later c.in_err-send.ensures.later
+
+pub returns-clause-faults : goal.returns-clause-faults
+returns-clause-faults g c = le_trans c.loop-arc.invariant.faults c.in_ok-send.ensures.faults
+
+pub returns-clause-later : goal.returns-clause-later
+returns-clause-later g c = IsLater-trans _ _ _ c.loop-arc.invariant.later c.in_ok-send.ensures.later
+
+pub loop-arc-init : goal.loop-arc-init
+loop-arc-init g c =
+    record {
+      pushes = pushes-none c.args.queues.now (known (g.D.PageDisk.log c.args.disk.now)) _ _ _ c.requires.together (λ arc. refl);
+      later = IsLater-refl _;
+      faults = le_refl _;
+    }
