@@ -1,4 +1,4 @@
-use Rattle.std.proofs.Common.{◌-◌, length, length-set, refl, sym, ◌∙◌, arith, subst, false}
+use Rattle.std.proofs.Common.{◌-◌, length, length-set, le_trans, refl, sym, ◌∙◌, arith, subst, false}
 use Rattle.std.specs.Vec.{with_item}
 use Rattle.std.proofs.lemmas.Option.{slice_get_read, same_Some}
 use Rattle.std.proofs.lemmas.Result.{err_from_is_err_and}
@@ -11,6 +11,8 @@ use Rattle.sq_flow.proofs.CauseLemmas.{cause-in, changed-since, feeds-none, full
 use Rattle.sq_flow.proofs.Measures.{weighs, open-same}
 use Rattle.sq_flow.proofs.FedFlow.{seat-fine, may-come, runs, own-drops, passes-front, fed-part, fed-stepped, fed-touches, costs-none, costs-fed, too-much-front}
 use Rattle.sq_flow.proofs.EventLemmas.{below-outputs}
+use Rattle.sq_flow.proofs.ReleasedPlans.{plans-stay}
+use Rattle.sq_flow.proofs.ReplayFlow.{lines-stay}
 use Rattle.sq_flow.proofs.TookLemmas.{fed-sum, operator-took, goes-on}
 use Rattle.sq_flow.proofs.flow.Flow.feed_step.Goals as goal
 use Rattle.sq_words.proofs.Prefixes.{prefix_itself}
@@ -205,3 +207,61 @@ returns-in_err-feed_into-clause-stay g c = c.in_err-feed_into.ensures.part.shown
 
 pub returns-clause-stay : goal.returns-clause-stay
 returns-clause-stay g c = c.in_ok-feed_into.ensures.fed.onward.shown.stay
+
+pub returns-in_err-feed_into-clause-plans : goal.returns-in_err-feed_into-clause-plans
+returns-in_err-feed_into-clause-plans g c =
+    let p = err_from_is_err_and c.from_residual.result c.from_residual.ensures.1 in
+    rw p.1 (plans-stay c.args.self.now c.args.events.now.items c.feed_into.new.events.items c.in_err-feed_into.ensures.part.shown.plans)
+
+pub returns-in_err-feed_into-clause-faults : goal.returns-in_err-feed_into-clause-faults
+returns-in_err-feed_into-clause-faults g c = le_trans c.in-Ok.ensures.faults c.in_err-feed_into.ensures.faults
+
+pub returns-in_err-feed_into-clause-later : goal.returns-in_err-feed_into-clause-later
+returns-in_err-feed_into-clause-later g c = IsLater-trans _ _ _ c.in-Ok.ensures.later c.in_err-feed_into.ensures.later
+
+pub returns-in_err-feed_into-clause-closes : goal.returns-in_err-feed_into-clause-closes
+returns-in_err-feed_into-clause-closes g c = λ table agrees. agrees
+
+pub returns-clause-closes : goal.returns-clause-closes
+returns-clause-closes g c = λ table agrees. agrees
+
+pub returns-clause-faults : goal.returns-clause-faults
+returns-clause-faults g c = le_trans c.in-Ok.ensures.faults c.in_ok-feed_into.ensures.faults
+
+pub returns-in-Err-clause-prefix : goal.returns-in-Err-clause-prefix
+returns-in-Err-clause-prefix g c =
+    lines-stay _ (known (g.D.PageDisk.log c.args.disk.now)) (known (g.D.PageDisk.log c.take_item.new.disk)) c.args.self.now c.args.self.now.levels c.args.events.now.items c.args.events.now.items (λ o. refl) (λ w. refl)
+
+pub returns-in-Err-clause-plans : goal.returns-in-Err-clause-plans
+returns-in-Err-clause-plans g c = plans-stay c.args.self.now c.args.events.now.items c.args.events.now.items refl
+
+pub returns-in-Err-clause-faults : goal.returns-in-Err-clause-faults
+returns-in-Err-clause-faults g c = c.in-Err.ensures.faults
+
+pub returns-in-Err-clause-later : goal.returns-in-Err-clause-later
+returns-in-Err-clause-later g c = c.in-Err.ensures.later
+
+pub returns-in-Err-clause-too_much : goal.returns-in-Err-clause-too_much
+returns-in-Err-clause-too_much g c = none-too-much _ _ _ _ _ _ c.in-Err.ensures.memory
+
+pub returns-in-Err-clause-closes : goal.returns-in-Err-clause-closes
+returns-in-Err-clause-closes g c = λ table agrees. agrees
+
+pub returns-in-Err-count_item-clause-prefix : goal.returns-in-Err-count_item-clause-prefix
+returns-in-Err-count_item-clause-prefix g c =
+    lines-stay _ (known (g.D.PageDisk.log c.args.disk.now)) (known (g.D.PageDisk.log c.take_item.new.disk)) c.args.self.now c.args.self.now.levels c.args.events.now.items c.args.events.now.items (λ o. refl) (λ w. refl)
+
+pub returns-in-Err-count_item-clause-plans : goal.returns-in-Err-count_item-clause-plans
+returns-in-Err-count_item-clause-plans g c = plans-stay c.args.self.now c.args.events.now.items c.args.events.now.items refl
+
+pub returns-in-Err-count_item-clause-strange : goal.returns-in-Err-count_item-clause-strange
+returns-in-Err-count_item-clause-strange g c = λ told table agrees holds. rw c.in-Err-count_item.ensures.err tt
+
+pub returns-in-Err-count_item-clause-faults : goal.returns-in-Err-count_item-clause-faults
+returns-in-Err-count_item-clause-faults g c = c.in-Ok.ensures.faults
+
+pub returns-in-Err-count_item-clause-later : goal.returns-in-Err-count_item-clause-later
+returns-in-Err-count_item-clause-later g c = c.in-Ok.ensures.later
+
+pub returns-in-Err-count_item-clause-closes : goal.returns-in-Err-count_item-clause-closes
+returns-in-Err-count_item-clause-closes g c = λ table agrees. agrees

@@ -1,13 +1,14 @@
-use Rattle.std.proofs.Common.{ℕ, ◌+◌, ◌-◌, ◌/◌, ◌<◌, length, set, refl, ap, sym, subst, arith, false}
+use Rattle.std.proofs.Common.{ℕ, ◌+◌, ◌-◌, ◌/◌, ◌<◌, length, set, le_refl, refl, ap, sym, subst, arith, false}
 use Rattle.std.specs.Vec.{with_item}
 use Rattle.std.proofs.lemmas.Option.{slice_get_read, get_or_from_slice_get}
 use Rattle.std.proofs.lemmas.Result.{err_from_is_err_and}
 use Rattle.sq_road.specs.Levels.{AgreesWith}
 use Rattle.sq_plan.specs.PlanRows.{level_for, Ended}
 use Rattle.sq_pool.specs.Trust.{known}
+use Rattle.sq_pool.proofs.TrustLemmas.{IsLater-refl}
 use Rattle.sq_flow.proofs.WireLemmas.{arcs-open}
 use Rattle.sq_flow.proofs.CauseLemmas.{cause-in, counts-none, feeds-none}
-use Rattle.sq_flow.proofs.ReleasedPlans.{ClosedBefore, mid-len, plans-front, plans-none, plans-stay}
+use Rattle.sq_flow.proofs.ReleasedPlans.{ClosedBefore, agrees-before, mid-len, plans-front, plans-none, plans-stay}
 use Rattle.sq_flow.proofs.ReplayFlow.{replay-open, replay-runs, item-sound, released-stepped, released-touches, lines-stay, count-less}
 use Rattle.sq_flow.proofs.TookLemmas.{replay-took}
 use Rattle.sq_flow.proofs.flow.Flow.release_step.Goals as goal
@@ -166,3 +167,86 @@ returns-clause-took g c =
     let pos : 0 < c.args.self.now.levels.epoch = omega (arith, c.epoch.ensures.epoch, c.epoch.ensures.lasts) in
     replay-took c.args.self.now _ 1 false refl (count-less sources c.args.source c.index_mut.result.now c.first_of.new.stream c.in_ok-tuple.tuple at c.in_ok-tuple.ensures.ok)
     (sym (replay-runs _ c.args.self.now c.requires.flow pos c.args.source c.index_mut.result.now c.first_of.new.stream c.in_ok-tuple.tuple c.requires.next at c.in_ok-tuple.ensures.ok))
+
+pub returns-in_err-tuple-clause-strange : goal.returns-in_err-tuple-clause-strange
+returns-in_err-tuple-clause-strange g c =
+    let p = err_from_is_err_and c.from_residual.result c.from_residual.ensures.1 in rw (p.1, p.2) (λ told table agrees holds. tt)
+
+pub returns-in_err-tuple-clause-cause : goal.returns-in_err-tuple-clause-cause
+returns-in_err-tuple-clause-cause g c =
+    let p = err_from_is_err_and c.from_residual.result c.from_residual.ensures.1 in rw (p.1, p.2) tt
+
+pub returns-in_err-tuple-clause-feed : goal.returns-in_err-tuple-clause-feed
+returns-in_err-tuple-clause-feed g c =
+    let p = err_from_is_err_and c.from_residual.result c.from_residual.ensures.1 in rw (p.1, p.2) tt
+
+pub returns-in_err-tuple-clause-faults : goal.returns-in_err-tuple-clause-faults
+returns-in_err-tuple-clause-faults g c = le_refl _
+
+pub returns-in_err-tuple-clause-later : goal.returns-in_err-tuple-clause-later
+returns-in_err-tuple-clause-later g c = IsLater-refl _
+
+pub returns-in_err-tuple-clause-memory : goal.returns-in_err-tuple-clause-memory
+returns-in_err-tuple-clause-memory g c =
+    let p = err_from_is_err_and c.from_residual.result c.from_residual.ensures.1 in rw (p.1, p.2) (λ same. cc same)
+
+pub returns-in_err-tuple-clause-closes : goal.returns-in_err-tuple-clause-closes
+returns-in_err-tuple-clause-closes g c = λ table agrees. agrees
+
+pub returns-in_err-close_before-clause-strange : goal.returns-in_err-close_before-clause-strange
+returns-in_err-close_before-clause-strange g c =
+    let p = err_from_is_err_and c.from_residual-in_err-close_before.result c.from_residual-in_err-close_before.ensures.1 in rw (p.1, p.2) (λ told table agrees holds. tt)
+
+pub returns-in_err-close_before-clause-cause : goal.returns-in_err-close_before-clause-cause
+returns-in_err-close_before-clause-cause g c =
+    let p = err_from_is_err_and c.from_residual-in_err-close_before.result c.from_residual-in_err-close_before.ensures.1 in rw (p.1, p.2) tt
+
+pub returns-in_err-close_before-clause-feed : goal.returns-in_err-close_before-clause-feed
+returns-in_err-close_before-clause-feed g c =
+    let p = err_from_is_err_and c.from_residual-in_err-close_before.result c.from_residual-in_err-close_before.ensures.1 in rw (p.1, p.2) tt
+
+pub returns-in_err-close_before-clause-faults : goal.returns-in_err-close_before-clause-faults
+returns-in_err-close_before-clause-faults g c = le_refl _
+
+pub returns-in_err-close_before-clause-later : goal.returns-in_err-close_before-clause-later
+returns-in_err-close_before-clause-later g c = IsLater-refl _
+
+pub returns-in_err-close_before-clause-memory : goal.returns-in_err-close_before-clause-memory
+returns-in_err-close_before-clause-memory g c =
+    let p = err_from_is_err_and c.from_residual-in_err-close_before.result c.from_residual-in_err-close_before.ensures.1 in rw (p.1, p.2) (λ same. cc same)
+
+pub returns-in_err-close_before-clause-closes : goal.returns-in_err-close_before-clause-closes
+returns-in_err-close_before-clause-closes g c =
+    agrees-before c.args.self.now.levels c.close_before.new.levels c.in_err-close_before.ensures.keeps c.in_err-close_before.ensures.grows
+
+pub returns-in_err-close_before-clause-stay : goal.returns-in_err-close_before-clause-stay
+returns-in_err-close_before-clause-stay g c = c.in_err-close_before.ensures.stay
+
+pub returns-in_err-send_one-clause-faults : goal.returns-in_err-send_one-clause-faults
+returns-in_err-send_one-clause-faults g c = c.in_err-send_one.ensures.faults
+
+pub returns-in_err-send_one-clause-later : goal.returns-in_err-send_one-clause-later
+returns-in_err-send_one-clause-later g c = c.in_err-send_one.ensures.later
+
+pub returns-in_err-send_one-clause-closes : goal.returns-in_err-send_one-clause-closes
+returns-in_err-send_one-clause-closes g c =
+    agrees-before c.args.self.now.levels c.close_before.new.levels c.in_ok-close_before.ensures.keeps c.in_ok-close_before.ensures.grows
+
+pub returns-in_err-send_one-clause-stay : goal.returns-in_err-send_one-clause-stay
+returns-in_err-send_one-clause-stay g c = c.in_ok-close_before.ensures.stay
+
+pub returns-clause-faults : goal.returns-clause-faults
+returns-clause-faults g c = c.in_ok-send_one.ensures.faults
+
+pub returns-clause-later : goal.returns-clause-later
+returns-clause-later g c = c.in_ok-send_one.ensures.later
+
+pub returns-clause-closes : goal.returns-clause-closes
+returns-clause-closes g c =
+    agrees-before c.args.self.now.levels c.close_before.new.levels c.in_ok-close_before.ensures.keeps c.in_ok-close_before.ensures.grows
+
+pub returns-clause-taken : goal.returns-clause-taken
+returns-clause-taken g c = refl
+
+pub returns-clause-stay : goal.returns-clause-stay
+returns-clause-stay g c = c.in_ok-close_before.ensures.stay
