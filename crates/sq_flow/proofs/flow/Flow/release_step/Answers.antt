@@ -1,14 +1,20 @@
-use Rattle.std.proofs.Common.{ℕ, ◌+◌, ◌-◌, ◌/◌, ◌<◌, length, set, le_refl, refl, ap, sym, subst, arith, false}
+use Rattle.std.proofs.Common.{◌≡◌, ℕ, ◌+◌, ◌-◌, ◌/◌, ◌≤◌, ◌<◌, List, [], ◌∷◌, Some, length, set, le_refl, refl, ap, sym, subst, arith, false}
+use Rattle.std.specs.Prelude.{slice_get}
 use Rattle.std.specs.Vec.{with_item}
 use Rattle.std.proofs.lemmas.Option.{slice_get_read, get_or_from_slice_get}
 use Rattle.std.proofs.lemmas.Result.{err_from_is_err_and}
+use Rattle.sq_value.specs.declared.Tuple.{Tuple}
 use Rattle.sq_road.specs.Levels.{AgreesWith}
 use Rattle.sq_plan.specs.PlanRows.{level_for, Ended}
 use Rattle.sq_pool.specs.Trust.{known}
 use Rattle.sq_pool.proofs.TrustLemmas.{IsLater-refl}
+use Rattle.sq_replay.specs.RecordedTuples.{Recorded}
+use Rattle.sq_flow.specs.Flows.{tuples_to_come}
+use Rattle.sq_flow.specs.Sources.{BeginsLeast, IsNextSource}
 use Rattle.sq_flow.proofs.WireLemmas.{arcs-open}
+use Rattle.sq_flow.proofs.PlanLemmas.{few-each}
 use Rattle.sq_flow.proofs.CauseLemmas.{cause-in, counts-none, feeds-none}
-use Rattle.sq_flow.proofs.ReleasedPlans.{ClosedBefore, agrees-before, mid-len, plans-front, plans-none, plans-stay}
+use Rattle.sq_flow.proofs.ReleasedPlans.{ClosedBefore, agrees-before, not-before, mid-len, plans-front, plans-none, plans-stay}
 use Rattle.sq_flow.proofs.ReplayFlow.{replay-open, replay-runs, item-sound, released-stepped, released-touches, lines-stay, count-less}
 use Rattle.sq_flow.proofs.TookLemmas.{replay-took}
 use Rattle.sq_flow.proofs.flow.Flow.release_step.Goals as goal
@@ -250,3 +256,27 @@ returns-clause-taken g c = refl
 
 pub returns-clause-stay : goal.returns-clause-stay
 returns-clause-stay g c = c.in_ok-close_before.ensures.stay
+
+-- something is left of the source that releases next
+some-left : (sources : List Recorded) (source : ℕ) (v : Recorded) → IsNextSource sources source → slice_get sources source ≡ Some v → 0 < length v.items
+some-left sources source v next at = by v.items (subst (λ o. BeginsLeast sources source (tuples_to_come o)) at next.least)
+  where
+    by : (tuples : List Tuple) → BeginsLeast sources source tuples → 0 < length tuples
+    by [] none = absurd none
+    by (x ∷ xs) least = omega arith
+
+pub first_of-requires : goal.first_of-requires
+first_of-requires g c =
+    some-left c.args.self.now.sources.items c.args.source c.index_mut.result.now c.requires.next
+    (slice_get_read c.args.self.now.sources.items _ c.args.source c.index_mut.result.now refl c.requires.next.there c.index_mut.ensures.value)
+
+pub close_before-requires-clause-counts : goal.close_before-requires-clause-counts
+close_before-requires-clause-counts g c = few-each c.args.self.now.counts.items (λ k. let few = c.requires.flow.replay.few_tuples k in omega (arith, few))
+
+pub close_before-requires-clause-later : goal.close_before-requires-clause-later
+close_before-requires-clause-later g c =
+    let sources = c.args.self.now.sources.items in
+    let at = slice_get_read sources _ c.args.source c.index_mut.result.now refl c.requires.next.there c.index_mut.ensures.value in
+    let pos : 0 < c.args.self.now.levels.epoch = omega (arith, c.epoch.ensures.epoch, c.epoch.ensures.lasts) in
+    subst (λ (n : ℕ). c.args.self.now.levels.closed ≤ c.in_ok-tuple.tuple.time / n + 1) (sym c.epoch.ensures.epoch)
+    (not-before _ c.args.self.now c.requires.flow pos c.args.source c.index_mut.result.now c.first_of.new.stream c.in_ok-tuple.tuple c.requires.next at c.in_ok-tuple.ensures.ok)
