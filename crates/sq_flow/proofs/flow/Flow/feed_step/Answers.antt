@@ -1,4 +1,6 @@
-use Rattle.std.proofs.Common.{◌-◌, length, length-set, le_trans, refl, sym, ◌∙◌, arith, subst, false}
+use Rattle.std.proofs.Common.{ℕ, zero, suc, ◌-◌, ◌/◌, ◌≤◌, ◌<◌, length, length-set, le_trans, refl, ap, sym, ◌∙◌, arith, subst, false}
+use Rattle.std.proofs.Math.Nat.{div-zero}
+use Rattle.std.specs.Prelude.{is_some}
 use Rattle.std.specs.Vec.{with_item}
 use Rattle.std.proofs.lemmas.Option.{slice_get_read, same_Some}
 use Rattle.std.proofs.lemmas.Result.{err_from_is_err_and}
@@ -11,6 +13,7 @@ use Rattle.sq_flow.proofs.CauseLemmas.{cause-in, changed-since, feeds-none, full
 use Rattle.sq_flow.proofs.Measures.{weighs, open-same}
 use Rattle.sq_flow.proofs.FedFlow.{seat-fine, may-come, runs, own-drops, passes-front, fed-part, fed-stepped, fed-touches, costs-none, costs-fed, too-much-front}
 use Rattle.sq_flow.proofs.EventLemmas.{below-outputs}
+use Rattle.sq_flow.proofs.PlanLemmas.{div-low}
 use Rattle.sq_flow.proofs.ReleasedPlans.{plans-stay}
 use Rattle.sq_flow.proofs.ReplayFlow.{lines-stay}
 use Rattle.sq_flow.proofs.TookLemmas.{fed-sum, operator-took, goes-on}
@@ -265,3 +268,27 @@ returns-in-Err-count_item-clause-later g c = c.in-Ok.ensures.later
 
 pub returns-in-Err-count_item-clause-closes : goal.returns-in-Err-count_item-clause-closes
 returns-in-Err-count_item-clause-closes g c = λ table agrees. agrees
+
+-- an earlier time is of no later epoch
+epochs-climb : (time clock epoch : ℕ) → time ≤ clock → time / epoch ≤ clock / epoch
+epochs-climb time clock zero le = rw (div-zero time, div-zero clock) (omega arith)
+epochs-climb time clock (suc k) le = div-low time clock (suc k) (omega arith) le
+
+pub feed_into-requires-clause-has_level : goal.feed_into-requires-clause-has_level
+feed_into-requires-clause-has_level g c =
+    let low = epochs-climb c.in-Ok.item.time c.args.self.now.clock c.args.self.now.levels.epoch c.in-Ok.ensures.may_be_fed.in_time in
+    let closed = c.requires.flow.levels.0 in
+    omega (arith, low, closed)
+
+pub feed_into-requires-clause-within : goal.feed_into-requires-clause-within
+feed_into-requires-clause-within g c = omega (arith, c.requires.actor_in, c.requires.flow.shaped.readers_len)
+
+pub feed_into-requires-clause-shown : goal.feed_into-requires-clause-shown
+feed_into-requires-clause-shown g c = λ past port. c.requires.flow.shaped.outputs_end c.args.actor port past c.requires.actor_in
+
+pub take_item-requires-clause-there : goal.take_item-requires-clause-there
+take_item-requires-clause-there g c =
+    subst (λ (n : ℕ). c.args.arc < n) (sym c.requires.flow.lanes) (c.requires.flow.shaped.arcs_in c.args.actor c.args.port c.args.arc c.requires.head.1.1)
+
+pub take_item-requires-clause-some : goal.take_item-requires-clause-some
+take_item-requires-clause-some g c = ap is_some c.requires.head.1.2
