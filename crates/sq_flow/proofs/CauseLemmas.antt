@@ -1,5 +1,5 @@
 -- Why steps fail.
-use Rattle.std.proofs.Common.{◌≡◌, ◌≢◌, ℕ, ◌≤◌, ◌⊎◌, inl, inr, Bool, true, Option, Some, refl, sym, subst, arith}
+use Rattle.std.proofs.Common.{◌≡◌, ◌≢◌, ℕ, ◌≤◌, ◌⊎◌, inl, inr, Bool, true, Option, Some, refl, sym, subst}
 use Rattle.std.specs.Prelude.{◌+◌, ◌^◌, length, slice_get}
 use Rattle.sq_item.specs.Things.{spread}
 use Rattle.sq_item.specs.declared.Item.{Item}
@@ -12,6 +12,7 @@ use Rattle.sq_pool.specs.Trust.{IsLater}
 use Rattle.sq_pool.proofs.TrustLemmas.{came-since}
 use Rattle.sq_queue.specs.Faces.{IsRefusal}
 use Rattle.sq_paged.specs.KeptPages.{IsTold, NoMisfit}
+use Rattle.sq_paged.proofs.CallLemmas.{rose-since}
 use Rattle.sq_oper.specs.declared.operator.Operator.{Ghosts}
 use Rattle.sq_flow.specs.declared.wires.Arc.{Arc}
 use Rattle.sq_flow.specs.declared.seats.Seat.{Seat}
@@ -23,11 +24,6 @@ use Rattle.sq_flow.specs.Wiring.{arcs_read}
 use Rattle.sq_flow.specs.Flows.{TooMuchOnly}
 use Rattle.sq_flow.specs.Causes.{of_queue, IsQueueCause, IsCauseIn, IsFeedCause, IsPageRefused, HasTaken}
 use Rattle.std.proofs.lemmas.Bool.{false_from_ne_true}
-
--- what rose after a while rose since
-rose-since : (before mid now : ℕ) → before ≤ mid → Rose mid now → Rose before now
-rose-since before mid now le (inl more) = inl (omega (arith, le, more))
-rose-since before mid now le (inr end) = inr end
 
 -- a page that was refused in a call was so in a longer one
 refusal-since : (q r : Queues) (was mid is : DiskLog) (arc : ℕ) (e : QueueErr) → IsLater was mid → IsRefusal q r mid is arc e → IsRefusal q r was is arc e

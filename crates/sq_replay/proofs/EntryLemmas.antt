@@ -138,9 +138,6 @@ picks_end front [] (suc i) whole past so_far = front_end front whole so_far
 picks_end front (l ∷ ls) zero whole past so_far = absurd (omega arith)
 picks_end front (l ∷ ls) (suc i) whole past so_far = picks_end front ls i whole (omega arith) so_far
 
-less : (a b : ℕ) → ltb a b ≡ true → a < b
-less a b h = grind (arith, nat_tests)
-
 -- what is read is below its limit
 pub read_below : (most limit : ℕ) (bs : List ℕ) (n : ℕ) → read_number most limit bs ≡ Some n → n < limit
 read_below most limit bs n h = by (are_digits most bs) (nat_lt (number_in bs) limit) refl h
@@ -148,7 +145,7 @@ read_below most limit bs n h = by (are_digits most bs) (nat_lt (number_in bs) li
     by : (a b : Bool) → nat_lt (number_in bs) limit ≡ b → (if a && b then Some (number_in bs) else None) ≡ Some n → n < limit
     by false b t h = absurd (cc h)
     by true false t h = absurd (cc h)
-    by true true t h = let same : number_in bs ≡ n = cc in subst (λ (k : ℕ). k < limit) same (less (number_in bs) limit t)
+    by true true t h = let same : number_in bs ≡ n = cc in let less : number_in bs < limit = grind (arith, nat_tests) in subst (λ (k : ℕ). k < limit) same less
 
 -- more than two fields are no entry
 pub too_many : (after : Option ℕ) (e c : List ℕ) (rest : List (List ℕ)) → 1 ≤ length rest → None ≡ entry_fields after (e ∷ c ∷ rest)

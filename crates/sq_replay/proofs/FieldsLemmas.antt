@@ -6,6 +6,7 @@ use Rattle.std.specs.List.{list_all}
 use Rattle.std.specs.Str.{is_utf8}
 use Rattle.std.proofs.lemmas.Bool.Decides.{nat_tests}
 use Rattle.std.proofs.lemmas.List.{length-map, take_all}
+use Rattle.sq_words.proofs.Numbers.{nat_lt_true}
 use Rattle.sq_value.specs.declared.Kind.{Kind}
 use Rattle.sq_value.specs.declared.Value.{Value}
 use Rattle.sq_value.specs.Texts.{read_number}
@@ -39,37 +40,31 @@ others_text n fs few texts = ap (list_all is_utf8) (others-are n fs few) ∙ lat
     later [] texts = refl
     later (f ∷ fs) texts = and_second (is_utf8 f.now) (list_all is_utf8 (map (λ f. f.now) fs)) texts
 
-same-count : (a b : ℕ) → a ≡ b → (a == b) ≡ true
-same-count a b h = grind (arith, nat_tests)
+same-count : (ks : List Kind) (fs : List (Bor (List ℕ))) → length fs ≡ length ks + 1 → (length fs == length ks + 1) ≡ true
+same-count ks fs h = grind (arith, nat_tests)
 
 other-count : (a b : ℕ) → ¬ (a ≡ b) → (a == b) ≡ false
 other-count a b h = grind (arith, nat_tests)
-
-sooner : (a b : ℕ) → a < b → nat_lt a b ≡ true
-sooner a b h = grind (arith, nat_tests)
-
-no-sooner : (a b : ℕ) → b ≤ a → nat_lt a b ≡ false
-no-sooner a b h = grind (arith, nat_tests)
 
 pub other_count : (ks : List Kind) (latest : ℕ) (fs : List (Bor (List ℕ))) → ¬ (length fs ≡ length ks + 1) → tuple_of_fields ks latest (map (λ f. f.now) fs) ≡ Err why.Fields
 other_count ks latest fs h = let other = other-count (length fs) (length ks + 1) h in rw (length-map fs (λ f. f.now), other)
 
 pub no_text : (ks : List Kind) (latest : ℕ) (fs : List (Bor (List ℕ))) → length fs ≡ length ks + 1 → list_all is_utf8 (map (λ f. f.now) fs) ≡ false → tuple_of_fields ks latest (map (λ f. f.now) fs) ≡ Err why.Utf8
-no_text ks latest fs counted texts = let same = same-count (length fs) (length ks + 1) counted in rw (length-map fs (λ f. f.now), same, texts)
+no_text ks latest fs counted texts = let same = same-count ks fs counted in rw (length-map fs (λ f. f.now), same, texts)
 
 pub no_tick : (ks : List Kind) (latest : ℕ) (fs : List (Bor (List ℕ))) (d : Bor (List ℕ)) → length fs ≡ length ks + 1 → list_all is_utf8 (map (λ f. f.now) fs) ≡ true → read_number 13 (2 ^ 40) (get_or fs 0 d).now ≡ None
     → tuple_of_fields ks latest (map (λ f. f.now) fs) ≡ Err why.Tick
 no_tick ks latest fs d counted texts tick =
-    let same = same-count (length fs) (length ks + 1) counted in
+    let same = same-count ks fs counted in
     let first : read_number 13 (2 ^ 40) (first_piece (map (λ f. f.now) fs)) ≡ None = ap (read_number 13 (2 ^ 40)) (sym (first-is fs d (omega arith))) ∙ tick in
     rw (length-map fs (λ f. f.now), same, texts, first)
 
 pub too_soon : (ks : List Kind) (latest : ℕ) (fs : List (Bor (List ℕ))) (d : Bor (List ℕ)) (time : ℕ) → length fs ≡ length ks + 1 → list_all is_utf8 (map (λ f. f.now) fs) ≡ true
     → read_number 13 (2 ^ 40) (get_or fs 0 d).now ≡ Some time → time < latest → tuple_of_fields ks latest (map (λ f. f.now) fs) ≡ Err why.Falls
 too_soon ks latest fs d time counted texts tick soon =
-    let same = same-count (length fs) (length ks + 1) counted in
+    let same = same-count ks fs counted in
     let first : read_number 13 (2 ^ 40) (first_piece (map (λ f. f.now) fs)) ≡ Some time = ap (read_number 13 (2 ^ 40)) (sym (first-is fs d (omega arith))) ∙ tick in
-    let falls = sooner time latest soon in
+    let falls = nat_lt_true time latest soon in
     rw (length-map fs (λ f. f.now), same, texts, first, falls)
 
 -- the values decide
@@ -77,9 +72,9 @@ values-left : (ks : List Kind) (latest : ℕ) (fs : List (Bor (List ℕ))) (d : 
     → read_number 13 (2 ^ 40) (get_or fs 0 d).now ≡ Some time → latest ≤ time → length fs ≤ n + 1 → values_in ks (map (λ f. f.now) (take n (drop 1 fs))) ≡ r
     → tuple_of_fields ks latest (map (λ f. f.now) fs) ≡ (r >>= (λ vs. Ok (record { time = time; fields = vs })))
 values-left ks latest fs d time n r counted texts tick soon few values =
-    let same = same-count (length fs) (length ks + 1) counted in
+    let same = same-count ks fs counted in
     let first : read_number 13 (2 ^ 40) (first_piece (map (λ f. f.now) fs)) ≡ Some time = ap (read_number 13 (2 ^ 40)) (sym (first-is fs d (omega arith))) ∙ tick in
-    let later = no-sooner time latest soon in
+    let later : nat_lt time latest ≡ false = grind (arith, nat_tests) in
     let left : values_in ks (later_pieces (map (λ f. f.now) fs)) ≡ r = ap (values_in ks) (sym (others-are n fs few)) ∙ values in
     rw (length-map fs (λ f. f.now), same, texts, first, later, left)
 
