@@ -61,7 +61,7 @@ pub enum Command {
 }
 
 /// Why words are no command.
-#[derive(Clone, Copy, Debug, PartialEq, Eq, Drop)]
+#[derive(Clone, Copy, PartialEq, Eq, Drop)]
 pub enum WordsErr {
     Usage,
     Memory,

@@ -50,14 +50,14 @@ pub struct Asked {
 }
 
 /// Why words ask for nothing.
-#[derive(Clone, Copy, Debug, PartialEq, Eq, Drop)]
+#[derive(Clone, Copy, PartialEq, Eq, Drop)]
 pub enum WordsErr {
     Usage,
     Memory,
 }
 
 /// Why a pair names no key.
-#[derive(Clone, Copy, Debug, PartialEq, Eq, Drop)]
+#[derive(Clone, Copy, PartialEq, Eq, Drop)]
 pub enum KeyWhy {
     /// The network has no source of that name.
     NoSource,
@@ -68,7 +68,7 @@ pub enum KeyWhy {
 }
 
 /// The pairs that words name are no keys.
-#[derive(Clone, Copy, Debug, PartialEq, Eq, Drop)]
+#[derive(Clone, Copy, PartialEq, Eq, Drop)]
 pub enum KeysErr {
     /// The first pair, by its number from 1, that breaks a rule, and the first rule that it breaks.
     Bad { key: u32, why: KeyWhy },

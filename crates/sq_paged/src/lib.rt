@@ -77,7 +77,7 @@ pub struct Queues {
     lanes: Vec<Lane>,
 }
 
-/// By hand, so that a proof above meets one call where queues are let go, and not each thing in it.
+/// By hand, so that a proof above meets one call where queues are let go, and not each thing in them.
 impl Drop for Queues {
     fn drop(self) {
         let Queues {

@@ -16,7 +16,7 @@ use sq_pool::{Digest, Pool, PoolErr};
 use std::alloc::{AllocError, AllocFailed, Global};
 
 /// Why an item was neither pushed nor popped.
-#[derive(Debug, Drop)]
+#[derive(Drop)]
 pub enum QueueErr {
     /// The disk had a fault.
     Disk,

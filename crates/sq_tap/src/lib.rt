@@ -44,7 +44,7 @@ pub struct Grafted {
 }
 
 /// Why a query can't be joined to a stream: the first of the rules, in this order, that is broken.
-#[derive(Clone, Copy, Debug, PartialEq, Eq, Drop)]
+#[derive(Clone, Copy, PartialEq, Eq, Drop)]
 pub enum TapErr {
     /// The network has no stream of the name.
     NoStream,

@@ -163,7 +163,7 @@ impl Model for Txt {
 }
 
 /// Why a text is no text value.
-#[derive(Clone, Copy, Debug, PartialEq, Eq, Drop)]
+#[derive(Clone, Copy, PartialEq, Eq, Drop)]
 pub enum TxtErr {
     /// It has no byte.
     Empty,
