@@ -11,7 +11,7 @@ use Rattle.sq_replay.specs.declared.why.Why.{Why}
 use Rattle.sq_replay.specs.declared.why.Why.TheVariants as why
 use Rattle.sq_replay.specs.FileLines.{Line, lines_from, pieces_of}
 use Rattle.sq_replay.specs.Streams.{unless, tuple_on_line, tuple_of_line, tuples_from}
-use Rattle.sq_replay.specs.RecordedTuples.{first_recorded, tuples_recorded, tuples_left}
+use Rattle.sq_replay.specs.RecordedTuples.{tuples_recorded, tuples_left}
 use Rattle.sq_replay.proofs.StreamLemmas.{empty_line, text_line}
 use Rattle.sq_words.specs.Results.{◌>>=◌}
 
@@ -118,7 +118,3 @@ at_last ks latest text at parts =
 -- behind the text is nothing
 pub at_end : (ks : List Kind) (latest : ℕ) (text : List ℕ) (at : ℕ) → length text ≤ at → tuples_recorded ks latest text at ≡ []
 at_end ks latest text at over = rw (drop_all at text over)
-
-pub time_ready : (ready unread : List Tuple) → (ready ≡ [] → unread ≡ []) → first_recorded (ready ++ unread) ≡ first_recorded ready
-time_ready [] unread ahead = rw (ahead refl)
-time_ready (x ∷ xs) unread ahead = refl

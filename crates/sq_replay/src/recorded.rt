@@ -6,7 +6,7 @@ ghost use Rattle.sq_replay.specs.Streams.{stream_in};
 
 use crate::StreamErr;
 use crate::stream::test_lines;
-use crate::unread::{Unread, all_left, begun, first_recorded, take_next};
+use crate::unread::{Unread, all_left, begun, take_next};
 use sq_value::{Schema, Tuple};
 use std::alloc::{AllocError, Global};
 use std::collections::VecDeque;
@@ -16,21 +16,19 @@ use std::marker::Model;
 /// tuples are near, or of a list. Contracts see the list of those that are to come.
 #[derive(Drop)]
 pub struct Stream {
-    ready: VecDeque<Tuple>,
+    next: Option<Tuple>,
+    listed: VecDeque<Tuple>,
     unread: Unread,
 }
 
 impl Model for Stream {
-    ghost use Rattle.std.specs.Prelude.{◌++◌};
     ghost use Rattle.sq_replay.specs.RecordedTuples.{Recorded};
 
     ghost Value = { Recorded };
 
-    ghost use Rattle.sq_replay.specs.RestOfText.{IsAhead, unread_tuples};
+    ghost use Rattle.sq_replay.specs.RestOfText.{all_to_come};
 
-    ghost view = { λ a. record { items = a.ready.items ++ unread_tuples a.unread } };
-
-    ghost invariant = { λ a. IsAhead a.ready.items a.unread };
+    ghost view = { λ a. record { items = all_to_come a.next a.listed.items a.unread } };
 }
 
 impl Stream {
@@ -38,8 +36,11 @@ impl Stream {
     pub fn listed(alloc: Global, tuples: Vec<Tuple>) -> Stream
         ensures { result ≡ record { items = tuples.items } }
     {
+        let mut listed = VecDeque::from_vec(tuples);
+        let next = listed.pop_front();
         Stream {
-            ready: VecDeque::from_vec(tuples),
+            next,
+            listed,
             unread: Unread::none(alloc),
         }
     }
@@ -53,7 +54,11 @@ impl Stream {
     {
         test_lines(alloc, &bytes, schema)?;
         match begun(alloc, bytes, schema.kinds()) {
-            Ok((ready, unread)) => Ok(Stream { ready, unread }),
+            Ok((next, unread)) => Ok(Stream {
+                next,
+                listed: VecDeque::new(alloc),
+                unread,
+            }),
             Err(_) => Err(StreamErr::Memory),
         }
     }
@@ -62,7 +67,10 @@ impl Stream {
     pub fn time(&self) -> Option<u64>
         ensures { result ≡ first_recorded self.now.items }
     {
-        first_recorded(&self.ready)
+        match &self.next {
+            Some(tuple) => Some(tuple.time),
+            None => None,
+        }
     }
 
     /// Takes the next tuple, where there is one. Where memory runs out nothing is taken.
@@ -70,14 +78,18 @@ impl Stream {
         ensures taken { IfOk result (λ o. MatchOption o ((self.old.items ≡ []) × (self.new ≡ self.old)) (λ t. self.old.items ≡ t ∷ self.new.items)) }
         ensures err { OnErr result (self.new ≡ self.old) }
     {
-        take_next(&mut self.ready, &mut self.unread)
+        take_next(&mut self.next, &mut self.listed, &mut self.unread)
     }
 
     /// All tuples that are left, as a list.
     pub fn into_tuples(self, alloc: Global) -> Result<Vec<Tuple>, AllocError>
         ensures { IfOk result (λ v. v.items ≡ self.items) }
     {
-        let Stream { ready, unread } = self;
-        all_left(alloc, ready, unread)
+        let Stream {
+            next,
+            listed,
+            unread,
+        } = self;
+        all_left(alloc, next, listed, unread)
     }
 }

@@ -1,12 +1,13 @@
 // The time of a line that breaks no rule, told without making its values. Which rule a line breaks isn't asked here, and of
 // the lines that break none nothing is told of those with a number or a boolean in quotes.
 ghost use Rattle.std.specs.Prelude.{◌≡◌, ◌∷◌, IfOk, IfSome, List, Ok, false, true};
-ghost use Rattle.sq_csv.specs.Cuts.{begins_quoted};
+ghost use Rattle.std.specs.List.{list_all};
+ghost use Rattle.sq_csv.specs.Cuts.{begins_quoted, below_128};
 ghost use Rattle.sq_value.specs.declared.Value.{Value as V};
 ghost use Rattle.sq_replay.specs.Cuts.{AreLeft, BeginsWith, ReadsField};
 ghost use Rattle.sq_replay.specs.Streams.{tuple_of_line};
 
-use crate::plain::{cut_int, cut_tick, text_of};
+use crate::plain::{cut_int, cut_tick, is_ascii, text_of};
 use sq_csv::{cut_bare, unquote};
 use sq_value::{Kind, read_value};
 use std::alloc::{AllocError, Global};
@@ -20,10 +21,10 @@ fn behind_read(alloc: Global, kind: Kind, text: &[u8]) -> Option<Option<&[u8]>>
     requires { begins_quoted text.now ≡ false }
     ensures { IfSome result (λ more. BeginsWith kind text.now more) }
 {
-    let Some((field, more)) = cut_bare(text) else {
+    let Some((field, more, ascii)) = cut_bare(text) else {
         return None;
     };
-    let Some(read) = text_of(field) else {
+    let Some(read) = text_of(field, ascii) else {
         return None;
     };
     match read_value(alloc, kind, read) {
@@ -32,15 +33,16 @@ fn behind_read(alloc: Global, kind: Kind, text: &[u8]) -> Option<Option<&[u8]>>
     }
 }
 
-/// Whether a field is a text value, or empty.
+/// Whether a field is a text value, or empty. `ascii` tells whether all its bytes are of ASCII.
 #[inline(always)]
-fn is_text(field: &[u8]) -> bool
+fn is_text(field: &[u8], ascii: bool) -> bool
+    requires { ascii ≡ list_all below_128 field.now }
     ensures { result ≡ true → (v : V) × ReadsField Kind.Text field.now v }
 {
     if field.len() > TEXT_LENGTH {
         return false;
     }
-    match text_of(field) {
+    match text_of(field, ascii) {
         Some(_) => true,
         None => false,
     }
@@ -52,10 +54,10 @@ fn behind_text(text: &[u8]) -> Option<Option<&[u8]>>
     requires { begins_quoted text.now ≡ false }
     ensures { IfSome result (λ more. BeginsWith Kind.Text text.now more) }
 {
-    let Some((field, more)) = cut_bare(text) else {
+    let Some((field, more, ascii)) = cut_bare(text) else {
         return None;
     };
-    if is_text(field) {
+    if is_text(field, ascii) {
         return Some(more);
     }
     None
@@ -95,7 +97,8 @@ fn behind_quoted<'a>(
     let Some(more) = unquote(quoted, unquoted)? else {
         return Ok(None);
     };
-    if is_text(unquoted.as_slice()) {
+    let field = unquoted.as_slice();
+    if is_text(field, is_ascii(field)) {
         return Ok(Some(more));
     }
     Ok(None)

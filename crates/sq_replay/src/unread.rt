@@ -1,10 +1,10 @@
 // The tuples of a text, line by line.
-ghost use Rattle.std.specs.Prelude.{◌≡◌, ◌+◌, ◌<◌, ◌≤◌, ◌⊎◌, ◌++◌, ◌∷◌, [], ℕ, List, IfOk, IfSome, MatchOption, OnErr, OnOk, drop, length};
+ghost use Rattle.std.specs.Prelude.{◌≡◌, ◌<◌, ◌≤◌, ◌++◌, ◌∷◌, [], ℕ, List, IfOk, IfSome, MatchOption, OnErr, OnOk, drop, length};
 ghost use Rattle.sq_value.specs.declared.Kind.{Kind as K};
 ghost use Rattle.sq_replay.specs.FileLines.{pieces_of, without_mark};
-ghost use Rattle.sq_replay.specs.RecordedTuples.{and_then, first_recorded, tuples_recorded, tuples_left};
+ghost use Rattle.sq_replay.specs.RecordedTuples.{and_then, tuples_recorded, tuples_left};
 ghost use Rattle.sq_replay.specs.Streams.{tuple_of_line};
-ghost use Rattle.sq_replay.specs.RestOfText.{IsAhead, unread_tuples};
+ghost use Rattle.sq_replay.specs.RestOfText.{all_to_come, unread_tuples, with_next};
 
 use crate::line::{TupleErr, read_tuple};
 use crate::stream::without_return;
@@ -125,16 +125,15 @@ pub(crate) fn read_rest(
     Ok(())
 }
 
-/// Makes the next tuple ready, where there is one.
+/// Reads the next tuple of a text, where there is one.
 #[inline(always)]
-fn read_ahead(ready: &mut VecDeque<Tuple>, unread: &mut Unread) -> Result<(), AllocError>
-    ensures same { ready.new.items ++ unread_tuples unread.new ≡ ready.old.items ++ unread_tuples unread.old }
-    ensures more { OnOk result ((unread_tuples unread.new ≡ []) ⊎ (length ready.new.items ≡ length ready.old.items + 1)) }
-    ensures err { OnErr result ((ready.new.items ≡ ready.old.items) × (unread_tuples unread.new ≡ unread_tuples unread.old)) }
+fn read_next(unread: &mut Unread) -> Result<Option<Tuple>, AllocError>
+    ensures read { IfOk result (λ o. with_next o (unread_tuples unread.new) ≡ unread_tuples unread.old) }
+    ensures err { OnErr result (unread_tuples unread.new ≡ unread_tuples unread.old) }
 {
     let alloc = *unread.text.allocator();
     let Some((line, next)) = next_line(&unread.text, unread.at) else {
-        return Ok(());
+        return Ok(None);
     };
     match read_tuple(
         alloc,
@@ -145,13 +144,11 @@ fn read_ahead(ready: &mut VecDeque<Tuple>, unread: &mut Unread) -> Result<(), Al
         &mut unread.unquoted,
     ) {
         Ok(tuple) => {
-            let latest = tuple.time;
-            ready.push_back(tuple)?;
-            unread.latest = latest;
+            unread.latest = tuple.time;
             unread.at = next;
-            Ok(())
+            Ok(Some(tuple))
         }
-        Err(TupleErr::Bad(_)) => Ok(()),
+        Err(TupleErr::Bad(_)) => Ok(None),
         Err(TupleErr::Memory) => Err(AllocError),
     }
 }
@@ -161,53 +158,61 @@ pub(crate) fn begun(
     alloc: Global,
     text: Vec<u8>,
     kinds: &[Kind],
-) -> Result<(VecDeque<Tuple>, Unread), AllocError>
-    ensures all { IfOk result (λ p. p.0.items ++ unread_tuples p.1 ≡ tuples_left kinds.now 0 (pieces_of (without_mark text.items))) }
-    ensures ahead { IfOk result (λ p. IsAhead p.0.items p.1) }
+) -> Result<(Option<Tuple>, Unread), AllocError>
+    ensures { IfOk result (λ p. with_next p.0 (unread_tuples p.1) ≡ tuples_left kinds.now 0 (pieces_of (without_mark text.items))) }
 {
-    let mut ready = VecDeque::new(alloc);
     let mut unread = Unread::new(alloc, text, kinds)?;
-    read_ahead(&mut ready, &mut unread)?;
-    Ok((ready, unread))
+    let next = read_next(&mut unread)?;
+    Ok((next, unread))
 }
 
-/// Takes the next tuple, where there is one, and makes the one behind it ready.
-pub(crate) fn take_next(
-    ready: &mut VecDeque<Tuple>,
+/// Takes the tuple that stands first, of a list or else of a text, where there is one.
+#[inline(always)]
+fn take_first(
+    listed: &mut VecDeque<Tuple>,
     unread: &mut Unread,
 ) -> Result<Option<Tuple>, AllocError>
-    requires { IsAhead ready.old.items unread.old }
-    ensures taken { IfOk result (λ o. MatchOption o
-        ((ready.old.items ++ unread_tuples unread.old ≡ []) × (ready.new.items ++ unread_tuples unread.new ≡ []))
-        (λ t. ready.old.items ++ unread_tuples unread.old ≡ t ∷ (ready.new.items ++ unread_tuples unread.new))) }
-    ensures ahead { IsAhead ready.new.items unread.new }
-    ensures err { OnErr result (ready.new.items ++ unread_tuples unread.new ≡ ready.old.items ++ unread_tuples unread.old) }
+    ensures taken { IfOk result (λ o. all_to_come o listed.new.items unread.new ≡ listed.old.items ++ unread_tuples unread.old) }
+    ensures err { OnErr result (listed.new.items ++ unread_tuples unread.new ≡ listed.old.items ++ unread_tuples unread.old) }
 {
-    if ready.len() == 1 {
-        read_ahead(ready, unread)?;
+    if listed.is_empty() {
+        return read_next(unread);
     }
-    Ok(ready.pop_front())
+    Ok(listed.pop_front())
 }
 
-/// The time of the first tuple, where there is one.
-pub(crate) fn first_recorded(ready: &VecDeque<Tuple>) -> Option<u64>
-    ensures { result ≡ first_recorded ready.now.items }
+/// Takes the next tuple, where there is one, and gets the one behind it.
+pub(crate) fn take_next(
+    next: &mut Option<Tuple>,
+    listed: &mut VecDeque<Tuple>,
+    unread: &mut Unread,
+) -> Result<Option<Tuple>, AllocError>
+    ensures taken { IfOk result (λ o. MatchOption o
+        ((all_to_come next.old listed.old.items unread.old ≡ []) × (all_to_come next.new listed.new.items unread.new ≡ []))
+        (λ t. all_to_come next.old listed.old.items unread.old ≡ t ∷ all_to_come next.new listed.new.items unread.new)) }
+    ensures err { OnErr result (all_to_come next.new listed.new.items unread.new ≡ all_to_come next.old listed.old.items unread.old) }
 {
-    match ready.front() {
-        Some(tuple) => Some(tuple.time),
-        None => None,
+    if next.is_none() {
+        return Ok(None);
     }
+    let behind = take_first(listed, unread)?;
+    Ok(std::mem::replace(next, behind))
 }
 
 /// All tuples that are left, in order.
 pub(crate) fn all_left(
     alloc: Global,
-    ready: VecDeque<Tuple>,
+    next: Option<Tuple>,
+    mut listed: VecDeque<Tuple>,
     unread: Unread,
 ) -> Result<Vec<Tuple>, AllocError>
-    ensures { IfOk result (λ v. v.items ≡ ready.items ++ unread_tuples unread) }
+    ensures { IfOk result (λ v. v.items ≡ all_to_come next listed.items unread) }
 {
-    let mut tuples = Vec::from(ready);
+    let Some(first) = next else {
+        return Ok(Vec::new(alloc));
+    };
+    listed.push_front(first)?;
+    let mut tuples = Vec::from(listed);
     read_rest(
         alloc,
         &unread.kinds,
