@@ -53,7 +53,7 @@ fn plan_to_show(epoch: u64, planned: &Planned) -> Option<Shown>
     })
 }
 
-// Plans the epoch after one that ended, unless that one had no tuples.
+// Plans the epoch after one that ended, unless that one had no tuples. Where nothing can be dropped no plan is worked out.
 fn plan_after(
     planner: &mut Planner,
     levels: &mut Levels,
@@ -73,6 +73,10 @@ fn plan_after(
     ensures err { OnErr result (levels.new ≡ levels.old) }
 {
     if is_quiet(counts) {
+        return Ok(None);
+    }
+    if !planner.may_drop(ended + 1) {
+        levels.skip_to(ended + 2);
         return Ok(None);
     }
     let planned = planner.close_epoch(ended, counts, levels)?;
