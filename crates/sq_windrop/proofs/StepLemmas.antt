@@ -1,5 +1,5 @@
 -- What a tuple makes of the batches that it is the first to touch, one batch after another.
-use Rattle.std.proofs.Common.{◌≡◌, ℕ, ◌+◌, ◌-◌, ◌*◌, ◌/◌, ◌<◌, ◌≤◌, max, Bool, true, false, List, [], ◌∷◌, ◌++◌, map, Option, Some, None, refl, ap, ap₂, sym, subst, ◌∙◌, append_assoc, append-nil, div-lt_iff_lt-mul, arith, tests}
+use Rattle.std.proofs.Common.{◌≡◌, ℕ, ◌+◌, ◌-◌, ◌*◌, ◌/◌, ◌<◌, ◌≤◌, max, min, ◌^◌, Bool, true, false, List, [], ◌∷◌, ◌++◌, map, Option, Some, None, refl, ap, ap₂, sym, subst, ◌∙◌, append_assoc, append-nil, div-lt_iff_lt-mul, arith, tests}
 use Rattle.std.specs.Prelude.{nat_lt, if◌then◌else◌}
 use Rattle.std.proofs.lemmas.List.{map-append}
 use Rattle.std.proofs.lemmas.List.Elements.{filter-append}
@@ -21,7 +21,7 @@ use Rattle.sq_tagged.specs.TaggedStreams.{Timed, mark_thing}
 use Rattle.sq_oper.proofs.PartLemmas.{at_port-append, item_law, body_prefix}
 use Rattle.sq_windrop.specs.declared.drop.Dropping.{Dropping}
 use Rattle.sq_windrop.specs.declared.drop.Batches.{Batches}
-use Rattle.sq_windrop.specs.Drops.{is_batch_dropped, drop_mark, marks_for, decided, decision, greatest_bound, bound_of, newly, after_tuple, for_tuple, drop_next, drop_gives, drop_rest, drop_holds, decided_content, drop_decides, next_body, gives_body, decided_body}
+use Rattle.sq_windrop.specs.Drops.{is_batch_dropped, drop_mark, marks_for, decided, decision, greatest_bound, bound_of, first_new, newly, after_tuple, for_tuple, drop_next, drop_gives, drop_rest, drop_holds, decided_content, drop_decides, next_body, gives_body, decided_body}
 use Rattle.sq_windrop.proofs.DropLemmas.{newly-early}
 use Rattle.sq_words.proofs.Ranges.{range_split}
 
@@ -222,3 +222,13 @@ module _ (d : Dropping) (table : ℕ → ℕ → ℕ) (port : ℕ) (item : Item)
       by (Some m) None = subst (λ l. ThingsUpTo item.time (l ++ [])) (sym (at_zero-nil q)) tt
       by None (Some fields) = for-up fields
       by (Some m) (Some fields) = subst (λ l. ThingsUpTo item.time (l ++ (at_zero q (for_tuple d table s item.time fields) ++ []))) (sym (at_zero-nil q)) (for-up fields)
+
+-- a tuple before the end of the last batch that was touched touches no other
+module _ (d : Dropping) (next time end : ℕ) (some : 1 ≤ d.length) (is : end ≡ min (next * d.length) (2 ^ 64 - 1)) (early : time < end) where
+  pub within-touched : time / d.length < next
+  within-touched = (div-lt_iff_lt-mul some).1 (let less : time < next * d.length = omega (arith, is, early) in less)
+
+  pub none-new : newly d next time ≡ []
+  none-new =
+      let within = within-touched in
+      ap (range_with_len (first_new d next time)) (let none : time / d.length + 1 - first_new d next time ≡ 0 = omega (arith, within) in none)

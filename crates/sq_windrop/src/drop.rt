@@ -135,8 +135,8 @@ fn decide<T: Outlet>(
     Ok(until)
 }
 
-/// Decides on each batch that a tuple of this time is the first to touch.
-fn touch<T: Outlet>(
+/// Decides on each batch that a tuple of this time is the first to touch, one after another.
+fn touch_each<T: Outlet>(
     with: &Dropping,
     levels: &Levels,
     time: u64,
@@ -177,6 +177,41 @@ fn touch<T: Outlet>(
         bound,
     };
     Ok(())
+}
+
+/// Decides on each batch that a tuple of this time is the first to touch. Most tuples touch none, which a product tells.
+fn touch<T: Outlet>(
+    with: &Dropping,
+    levels: &Levels,
+    time: u64,
+    batches: &mut Batches,
+    out: &mut T,
+) -> Result<(), AllocError>
+    requires limits { IsDropping with.now }
+    requires tick { time < 2 ^ 40 }
+    requires epoch { with.now.epoch ≡ levels.now.epoch }
+    requires level { time / levels.now.epoch < levels.now.closed }
+    requires is_ready { T.ready out.old }
+    ensures given { OnOk result ((table : ℕ → ℕ → ℕ) → AgreesWith levels.now table → (q : ℕ)
+        → given q (T.items out.new) ≡ given q (T.items out.old) ++ at_zero q (map mark_thing (marks_for with.now table (newly with.now batches.old.next time)))) }
+    ensures batches { OnOk result ((table : ℕ → ℕ → ℕ) → AgreesWith levels.now table → batches.new ≡ after_tuple with.now table batches.old time) }
+    ensures drops { OnOk result ((table : ℕ → ℕ → ℕ) → AgreesWith levels.now table → (T.drops out.new) ≡ (T.drops out.old) ++ decided with.now table (newly with.now batches.old.next time)) }
+    ensures prefix { OnErr result ((table : ℕ → ℕ → ℕ) → AgreesWith levels.now table → (q : ℕ)
+        → IsPrefixOf (given q (T.items out.new)) (given q (T.items out.old) ++ at_zero q (map mark_thing (marks_for with.now table (newly with.now batches.old.next time))))) }
+    ensures drops_prefix { OnErr result ((table : ℕ → ℕ → ℕ) → AgreesWith levels.now table
+        → IsPrefixOf (T.drops out.new) ((T.drops out.old) ++ decided with.now table (newly with.now batches.old.next time))) }
+    ensures sound { ItemsSound (T.items out.old) → ItemsSound (T.items out.new) }
+    ensures extends { IsPrefixOf (T.items out.old) (T.items out.new) }
+    ensures keeps { IsPrefixOf (T.drops out.old) (T.drops out.new) }
+    ensures few { length (T.items out.new) ≤ length (T.items out.old) + 4097 }
+    ensures stays_ready { OnOk result (T.ready out.new) }
+    ensures came { (start : T) → T.came start out.old → T.came start out.new }
+{
+    let end = batches.next.saturating_mul(with.length);
+    if time < end {
+        return Ok(());
+    }
+    touch_each(with, levels, time, batches, out)
 }
 
 /// Takes an item's tuple: the marks of the batches that it is the first to touch, and then itself, if it is needed.
