@@ -4,13 +4,14 @@ use Rattle.std.proofs.Math.Nat.{div-mul-le_self, lt-div-mul-add, mul-le-mul_righ
 use Rattle.std.specs.Prelude.{nat_le, nat_lt, if◌then◌else◌, Option}
 use Rattle.sq_value.specs.declared.Value.{Value}
 use Rattle.sq_aggfn.specs.declared.WindowSpec.{WindowSpec}
-use Rattle.sq_aggfn.specs.Windows.{start_of}
+use Rattle.sq_aggfn.specs.Windows.{start_of, IsWindow}
 use Rattle.sq_aggfn.proofs.StartLemmas.{starts_rise}
 use Rattle.sq_pane.specs.Panes.{Key, shift_of, pane_of, from_pane}
 use Rattle.sq_agg.specs.Positions.{open_at}
 use Rattle.sq_agg.specs.Slots.{Folding}
-use Rattle.sq_agg.specs.Holdings.{IsFirstEnd, KeepsNear, panes_after}
-use Rattle.sq_agg.proofs.FeedLemmas.{after-key}
+use Rattle.sq_agg.specs.Holdings.{Bounds, IsFirstEnd, KeepsNear, MarksWait, due_before, panes_after, told_open}
+use Rattle.sq_agg.proofs.EndedLemmas.{nothing_ends}
+use Rattle.sq_agg.proofs.FeedLemmas.{after-key, closing_panes}
 
 -- the panes before a number went, none of which begins at a tick or later
 abbrev pub Forgets : {M : Type 0} → WindowSpec → ℕ → ℕ → List (Key × M) → List (Key × M) → Type 0
@@ -99,3 +100,12 @@ module _ (w : WindowSpec) (moves : 1 ≤ w.advance) (begins : w.phase < w.advanc
         let lt : time + shift_of w width < pane_of w width time * width + width = lt-div-mul-add wide in
         let low = first_end_below time next (time + 1) after (omega arith) (omega arith) in
         after-key made number f w width 0 (λ k. next + shift_of w width < k.0 * width + (width + w.advance + w.size)) time body es (λ fields e. omega (arith, low, lt)) all
+
+-- before the first end the marks alone are told
+pub only_marks : {M : Type 0} (f : Folding M) (w : WindowSpec) → IsWindow w → (width now ends time mid : ℕ) (b : Bounds) (es : List (Key × M)) → IsFirstEnd w now ends → now ≤ time → time < ends → mid ≡ open_at w.size time
+    → MarksWait w.size now b.waiting → told_open f w width now mid b es ≡ due_before f.told mid b.waiting []
+only_marks f w sound width now ends time mid b es first later early is waits =
+    let moves = sound.moves in
+    let covers = sound.covers in
+    closing_panes f w (omega (arith, moves, covers)) width now mid b es [] (omega (arith, later, is)) waits tt
+    (λ t lo hi. nothing_ends f.none f.join w moves width b es now ends time (none_ends_before w moves sound.begins now ends first) early t lo (subst (λ (m : ℕ). t < m) is hi))

@@ -104,10 +104,10 @@ fn count_step<L: Ledger>(fed: bool, steps: &mut Steps<L>)
 
 impl<F: Fold + Drop> Operator for AggregateBox<F> {
     ghost valid = { λ s. IsWindow s.panes.window × (time_of s.tally.place < 2 ^ 40) × (IsGcd s.panes.window.size s.panes.window.advance s.panes.width × (1 ≤ s.panes.width))
-        × HoldsPanes (F.made s.panes.fold) (F.number s.panes.fold) s.panes.window s.panes.width (F.width s.panes.fold) s.tally.taken s.tally.place (states_of s.panes.held.entries)
-        × (s.tally.taken < 2 ^ 62) × (s.tally.running ≡ false → (states_of s.panes.held.entries) ≡ []) × MarksWait s.panes.window.size (time_of s.tally.place) (bounds_of s.waiting).waiting
-        × (s.time ≡ time_of s.tally.place) × IsFirstEnd s.panes.window s.time s.ends × KeepsNear s.panes.window s.panes.width s.ends (states_of s.panes.held.entries)
-        × HaveBlocks (IsJoin (F.none s.panes.fold) (F.joined s.panes.fold) (F.made s.panes.fold) (F.number s.panes.fold)) s.panes.held.entries };
+        × HoldsPanes (F.made s.panes.fold) (F.number s.panes.fold) s.panes.window s.panes.width (F.width s.panes.fold) s.tally.taken s.tally.place (states_of s.panes.held)
+        × (s.tally.taken < 2 ^ 62) × (s.tally.running ≡ false → (states_of s.panes.held) ≡ []) × MarksWait s.panes.window.size (time_of s.tally.place) (bounds_of s.waiting).waiting
+        × (s.time ≡ time_of s.tally.place) × IsFirstEnd s.panes.window s.time s.ends × KeepsNear s.panes.window s.panes.width s.ends (states_of s.panes.held)
+        × HaveBlocks (IsJoin (F.none s.panes.fold) (F.joined s.panes.fold) (F.made s.panes.fold) (F.number s.panes.fold)) s.panes.held };
 
     ghost running = { λ s. s.tally.running };
 
@@ -121,7 +121,7 @@ impl<F: Fold + Drop> Operator for AggregateBox<F> {
 
     ghost reads = { λ s epoch. true };
 
-    ghost rest = { λ s table future q. aggregate_rest (folding_of s.group.items (F.none s.panes.fold) (F.joined s.panes.fold) (F.unit s.panes.fold) (F.told s.panes.fold)) s.panes.window s.panes.width (time_of s.tally.place) (bounds_of s.waiting) (states_of s.panes.held.entries) future q };
+    ghost rest = { λ s table future q. aggregate_rest (folding_of s.group.items (F.none s.panes.fold) (F.joined s.panes.fold) (F.unit s.panes.fold) (F.told s.panes.fold)) s.panes.window s.panes.width (time_of s.tally.place) (bounds_of s.waiting) (states_of s.panes.held) future q };
 
     ghost decides = { λ s table future. [] };
 
@@ -156,8 +156,7 @@ impl<F: Fold + Drop> Operator for AggregateBox<F> {
         self.time = time;
         self.waiting
             .push(self.panes.window.size - 1, time, &item.mark)?;
-        let alloc = *self.group.allocator();
-        add_body(alloc, &self.group, &mut self.panes, time, item.body)?;
+        add_body(&self.group, &mut self.panes, time, item.body)?;
         count_step(fed, steps);
         Ok(())
     }

@@ -33,11 +33,11 @@ fn give_window<F: Fold + Drop, T: Outlet>(
     requires wide { 1 ≤ panes.now.width }
     requires narrow { panes.now.width ≤ panes.now.window.size }
     requires tick { start_of panes.now.window k < 2 ^ 40 }
-    requires ticks { AllByRecursion (λ e. e.0.0 * panes.now.width < 2 ^ 64) (states_of panes.now.held.entries) }
-    requires blocks { HaveBlocks (IsJoin (F.none panes.now.fold) (F.joined panes.now.fold) (F.made panes.now.fold) (F.number panes.now.fold)) panes.now.held.entries }
-    requires made { AllAreMade (F.made panes.now.fold) (states_of panes.now.held.entries) }
-    requires few { total (F.number panes.now.fold) (states_of panes.now.held.entries) < 2 ^ 62 }
-    requires fit { AllByRecursion (λ e. FitsResult (F.width panes.now.fold) e.0.1) (states_of panes.now.held.entries) }
+    requires ticks { AllByRecursion (λ e. e.0.0 * panes.now.width < 2 ^ 64) (states_of panes.now.held) }
+    requires blocks { HaveBlocks (IsJoin (F.none panes.now.fold) (F.joined panes.now.fold) (F.made panes.now.fold) (F.number panes.now.fold)) panes.now.held }
+    requires made { AllAreMade (F.made panes.now.fold) (states_of panes.now.held) }
+    requires few { total (F.number panes.now.fold) (states_of panes.now.held) < 2 ^ 62 }
+    requires fit { AllByRecursion (λ e. FitsResult (F.width panes.now.fold) e.0.1) (states_of panes.now.held) }
     requires marks { AllByRecursion IsSoundMark (bounds_of waiting.old).waiting }
     requires none { due.old.items ≡ [] }
     requires is_ready { T.ready out.old }
@@ -45,10 +45,10 @@ fn give_window<F: Fold + Drop, T: Outlet>(
     ensures bounds { OnOk result (bounds_of waiting.new ≡ closed_at (start_of panes.now.window k + 1) (bounds_of waiting.old)) }
     ensures given { OnOk result ((q : ℕ) → given q (T.items out.new)
         ≡ given q (T.items out.old) ++ at_zero q (due_before (F.told panes.now.fold) (start_of panes.now.window k + 1) (bounds_of waiting.old).waiting
-        (ended (F.none panes.now.fold) (F.joined panes.now.fold) panes.now.window panes.now.width (bounds_of waiting.old) (states_of panes.now.held.entries) k))) }
+        (ended (F.none panes.now.fold) (F.joined panes.now.fold) panes.now.window panes.now.width (bounds_of waiting.old) (states_of panes.now.held) k))) }
     ensures prefix { OnErr result ((q : ℕ) → IsPrefixOf (given q (T.items out.new))
         (given q (T.items out.old) ++ at_zero q (due_before (F.told panes.now.fold) (start_of panes.now.window k + 1) (bounds_of waiting.old).waiting
-        (ended (F.none panes.now.fold) (F.joined panes.now.fold) panes.now.window panes.now.width (bounds_of waiting.old) (states_of panes.now.held.entries) k)))) }
+        (ended (F.none panes.now.fold) (F.joined panes.now.fold) panes.now.window panes.now.width (bounds_of waiting.old) (states_of panes.now.held) k)))) }
     ensures sound { ItemsSound (T.items out.old) → ItemsSound (T.items out.new) }
     ensures extends { IsPrefixOf (T.items out.old) (T.items out.new) }
     ensures drops { T.drops out.new ≡ T.drops out.old }
@@ -74,20 +74,20 @@ fn give_windows<F: Fold + Drop, T: Outlet>(
     requires narrow { panes.now.width ≤ panes.now.window.size }
     requires tick { (k : ℕ) → k < end → start_of panes.now.window k < 2 ^ 40 }
     requires before { (k : ℕ) → k < end → start_of panes.now.window k < mid }
-    requires ticks { AllByRecursion (λ e. e.0.0 * panes.now.width < 2 ^ 64) (states_of panes.now.held.entries) }
-    requires blocks { HaveBlocks (IsJoin (F.none panes.now.fold) (F.joined panes.now.fold) (F.made panes.now.fold) (F.number panes.now.fold)) panes.now.held.entries }
-    requires made { AllAreMade (F.made panes.now.fold) (states_of panes.now.held.entries) }
-    requires few { total (F.number panes.now.fold) (states_of panes.now.held.entries) < 2 ^ 62 }
-    requires fit { AllByRecursion (λ e. FitsResult (F.width panes.now.fold) e.0.1) (states_of panes.now.held.entries) }
+    requires ticks { AllByRecursion (λ e. e.0.0 * panes.now.width < 2 ^ 64) (states_of panes.now.held) }
+    requires blocks { HaveBlocks (IsJoin (F.none panes.now.fold) (F.joined panes.now.fold) (F.made panes.now.fold) (F.number panes.now.fold)) panes.now.held }
+    requires made { AllAreMade (F.made panes.now.fold) (states_of panes.now.held) }
+    requires few { total (F.number panes.now.fold) (states_of panes.now.held) < 2 ^ 62 }
+    requires fit { AllByRecursion (λ e. FitsResult (F.width panes.now.fold) e.0.1) (states_of panes.now.held) }
     requires marks { AllByRecursion IsSoundMark (bounds_of waiting.old).waiting }
     requires is_ready { T.ready out.old }
     ensures bounds { OnOk result (bounds_of waiting.new ≡ closed_at mid (bounds_of waiting.old)) }
     ensures given { OnOk result ((q : ℕ) → given q (T.items out.new)
         ≡ given q (T.items out.old) ++ at_zero q (due_before (F.told panes.now.fold) mid (bounds_of waiting.old).waiting
-        (flat_map (ended (F.none panes.now.fold) (F.joined panes.now.fold) panes.now.window panes.now.width (bounds_of waiting.old) (states_of panes.now.held.entries)) (range_with_len from (end - from))))) }
+        (flat_map (ended (F.none panes.now.fold) (F.joined panes.now.fold) panes.now.window panes.now.width (bounds_of waiting.old) (states_of panes.now.held)) (range_with_len from (end - from))))) }
     ensures prefix { OnErr result ((q : ℕ) → IsPrefixOf (given q (T.items out.new))
         (given q (T.items out.old) ++ at_zero q (due_before (F.told panes.now.fold) mid (bounds_of waiting.old).waiting
-        (flat_map (ended (F.none panes.now.fold) (F.joined panes.now.fold) panes.now.window panes.now.width (bounds_of waiting.old) (states_of panes.now.held.entries)) (range_with_len from (end - from)))))) }
+        (flat_map (ended (F.none panes.now.fold) (F.joined panes.now.fold) panes.now.window panes.now.width (bounds_of waiting.old) (states_of panes.now.held)) (range_with_len from (end - from)))))) }
     ensures sound { ItemsSound (T.items out.old) → ItemsSound (T.items out.new) }
     ensures extends { IsPrefixOf (T.items out.old) (T.items out.new) }
     ensures drops { T.drops out.new ≡ T.drops out.old }
@@ -114,21 +114,21 @@ pub fn give_open<F: Fold + Drop, T: Outlet>(
     requires tick { now < 2 ^ 40 }
     requires wide { 1 ≤ panes.now.width }
     requires narrow { panes.now.width ≤ panes.now.window.size }
-    requires begun { AllByRecursion (λ e. e.0.0 * panes.now.width ≤ now + shift_of panes.now.window panes.now.width) (states_of panes.now.held.entries) }
-    requires blocks { HaveBlocks (IsJoin (F.none panes.now.fold) (F.joined panes.now.fold) (F.made panes.now.fold) (F.number panes.now.fold)) panes.now.held.entries }
-    requires made { AllAreMade (F.made panes.now.fold) (states_of panes.now.held.entries) }
-    requires few { total (F.number panes.now.fold) (states_of panes.now.held.entries) < 2 ^ 62 }
-    requires fit { AllByRecursion (λ e. FitsResult (F.width panes.now.fold) e.0.1) (states_of panes.now.held.entries) }
+    requires begun { AllByRecursion (λ e. e.0.0 * panes.now.width ≤ now + shift_of panes.now.window panes.now.width) (states_of panes.now.held) }
+    requires blocks { HaveBlocks (IsJoin (F.none panes.now.fold) (F.joined panes.now.fold) (F.made panes.now.fold) (F.number panes.now.fold)) panes.now.held }
+    requires made { AllAreMade (F.made panes.now.fold) (states_of panes.now.held) }
+    requires few { total (F.number panes.now.fold) (states_of panes.now.held) < 2 ^ 62 }
+    requires fit { AllByRecursion (λ e. FitsResult (F.width panes.now.fold) e.0.1) (states_of panes.now.held) }
     requires waits { MarksWait panes.now.window.size now (bounds_of waiting.old).waiting }
     requires later { open_at panes.now.window.size now ≤ mid }
     requires is_ready { T.ready out.old }
     ensures bounds { OnOk result (bounds_of waiting.new ≡ closed_at mid (bounds_of waiting.old)) }
     ensures given { OnOk result ((q : ℕ) → given q (T.items out.new)
         ≡ given q (T.items out.old) ++ at_zero q (told_open (folding_of [] (F.none panes.now.fold) (F.joined panes.now.fold) (F.unit panes.now.fold) (F.told panes.now.fold))
-        panes.now.window panes.now.width now mid (bounds_of waiting.old) (states_of panes.now.held.entries))) }
+        panes.now.window panes.now.width now mid (bounds_of waiting.old) (states_of panes.now.held))) }
     ensures prefix { OnErr result ((q : ℕ) → IsPrefixOf (given q (T.items out.new))
         (given q (T.items out.old) ++ at_zero q (told_open (folding_of [] (F.none panes.now.fold) (F.joined panes.now.fold) (F.unit panes.now.fold) (F.told panes.now.fold))
-        panes.now.window panes.now.width now mid (bounds_of waiting.old) (states_of panes.now.held.entries)))) }
+        panes.now.window panes.now.width now mid (bounds_of waiting.old) (states_of panes.now.held)))) }
     ensures sound { ItemsSound (T.items out.old) → ItemsSound (T.items out.new) }
     ensures extends { IsPrefixOf (T.items out.old) (T.items out.new) }
     ensures drops { T.drops out.new ≡ T.drops out.old }
@@ -154,11 +154,11 @@ pub fn give_ended<F: Fold + Drop, T: Outlet>(
     requires tick { now < 2 ^ 40 }
     requires wide { 1 ≤ panes.now.width }
     requires narrow { panes.now.width ≤ panes.now.window.size }
-    requires begun { AllByRecursion (λ e. e.0.0 * panes.now.width ≤ now + shift_of panes.now.window panes.now.width) (states_of panes.now.held.entries) }
-    requires blocks { HaveBlocks (IsJoin (F.none panes.now.fold) (F.joined panes.now.fold) (F.made panes.now.fold) (F.number panes.now.fold)) panes.now.held.entries }
-    requires made { AllAreMade (F.made panes.now.fold) (states_of panes.now.held.entries) }
-    requires few { total (F.number panes.now.fold) (states_of panes.now.held.entries) < 2 ^ 62 }
-    requires fit { AllByRecursion (λ e. FitsResult (F.width panes.now.fold) e.0.1) (states_of panes.now.held.entries) }
+    requires begun { AllByRecursion (λ e. e.0.0 * panes.now.width ≤ now + shift_of panes.now.window panes.now.width) (states_of panes.now.held) }
+    requires blocks { HaveBlocks (IsJoin (F.none panes.now.fold) (F.joined panes.now.fold) (F.made panes.now.fold) (F.number panes.now.fold)) panes.now.held }
+    requires made { AllAreMade (F.made panes.now.fold) (states_of panes.now.held) }
+    requires few { total (F.number panes.now.fold) (states_of panes.now.held) < 2 ^ 62 }
+    requires fit { AllByRecursion (λ e. FitsResult (F.width panes.now.fold) e.0.1) (states_of panes.now.held) }
     requires waits { MarksWait panes.now.window.size now (bounds_of waiting.old).waiting }
     requires ends { IsFirstEnd panes.now.window now ends }
     requires later { now ≤ time }
@@ -167,10 +167,10 @@ pub fn give_ended<F: Fold + Drop, T: Outlet>(
     ensures bounds { OnOk result (bounds_of waiting.new ≡ closed_at mid (bounds_of waiting.old)) }
     ensures given { OnOk result ((q : ℕ) → given q (T.items out.new)
         ≡ given q (T.items out.old) ++ at_zero q (told_open (folding_of [] (F.none panes.now.fold) (F.joined panes.now.fold) (F.unit panes.now.fold) (F.told panes.now.fold))
-        panes.now.window panes.now.width now mid (bounds_of waiting.old) (states_of panes.now.held.entries))) }
+        panes.now.window panes.now.width now mid (bounds_of waiting.old) (states_of panes.now.held))) }
     ensures prefix { OnErr result ((q : ℕ) → IsPrefixOf (given q (T.items out.new))
         (given q (T.items out.old) ++ at_zero q (told_open (folding_of [] (F.none panes.now.fold) (F.joined panes.now.fold) (F.unit panes.now.fold) (F.told panes.now.fold))
-        panes.now.window panes.now.width now mid (bounds_of waiting.old) (states_of panes.now.held.entries)))) }
+        panes.now.window panes.now.width now mid (bounds_of waiting.old) (states_of panes.now.held)))) }
     ensures sound { ItemsSound (T.items out.old) → ItemsSound (T.items out.new) }
     ensures extends { IsPrefixOf (T.items out.old) (T.items out.new) }
     ensures drops { T.drops out.new ≡ T.drops out.old }
@@ -178,6 +178,9 @@ pub fn give_ended<F: Fold + Drop, T: Outlet>(
     ensures came { (start : T) → T.came start out.old → T.came start out.new }
 {
     if time < ends {
+        if waiting.is_empty() {
+            return Ok(());
+        }
         let mut due = VecDeque::new(panes.alloc);
         return give_before(&panes.fold, &mut due, waiting, mid, out);
     }

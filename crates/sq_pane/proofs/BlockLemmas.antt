@@ -1,5 +1,5 @@
 -- Blocks: what stays of them, and what a window takes of them.
-use Rattle.std.proofs.Common.{◌≡◌, ℕ, zero, suc, ◌+◌, ◌-◌, ◌*◌, ◌<◌, ◌≤◌, length, length-drop, get_or, take, drop, List, [], ◌∷◌, ◌++◌, true, false, cond, Option, Some, None, Result, Ok, Err, OnOk, OnErr, refl, ap, ap₂, sym, ◌∙◌, subst, Ordering, Less, Equal, Greater, nat_cmp, arith, tests}
+use Rattle.std.proofs.Common.{◌≡◌, ℕ, zero, suc, ◌+◌, ◌-◌, ◌*◌, ◌<◌, ◌≤◌, length, length-drop, get_or, take, drop, List, [], ◌∷◌, ◌++◌, Bool, true, false, cond, Option, Some, None, Result, Ok, Err, OnOk, OnErr, refl, ap, ap₂, sym, ◌∙◌, subst, Ordering, Less, Equal, Greater, nat_cmp, arith, tests}
 use Rattle.std.proofs.Math.Seq.{drop-nil}
 use Rattle.std.proofs.lemmas.List.{drop_more, get_or-drop}
 use Rattle.std.specs.Prelude.{if◌then◌else◌, nat_lt, nat_le, ◌&&◌, unwrap_or}
@@ -9,7 +9,7 @@ use Rattle.sq_aggfn.specs.declared.WindowSpec.{WindowSpec}
 use Rattle.sq_aggfn.specs.KeyedStates.{added}
 use Rattle.sq_pane.specs.Panes.{NumbersRise, total, shift_of, within, joined_within, IsMadeIf}
 use Rattle.sq_pane.specs.Blocks.{joined_onto, AreBlocks, begins_before}
-use Rattle.sq_pane.proofs.LineLemmas.{all-at, greater}
+use Rattle.sq_pane.proofs.LineLemmas.{all-at, drop_at, greater}
 
 -- parts of lists
 pub drop_add : {A : Type 0} (a b c : ℕ) (xs : List A) → c ≡ a + b → drop c xs ≡ drop b (drop a xs)
@@ -42,6 +42,13 @@ pub total_split : {M : Type 0} (number : M → ℕ) (n : ℕ) (es : List (ℕ ×
 total_split number zero es = omega arith
 total_split number (suc n) [] = refl
 total_split number (suc n) (e ∷ es) = (let s = total_split number n es in omega (arith, s))
+
+-- those from a later place on hold no more tuples
+pub total_later : {M : Type 0} (number : M → ℕ) (a c : ℕ) (es : List (ℕ × M)) → a ≤ c → total number (drop c es) ≤ total number (drop a es)
+total_later number a c es le =
+    let past = ap (total number) (drop_add a (c - a) c es (omega (arith, le))) in
+    let run = total_split number (c - a) (drop a es) in
+    omega (arith, past, run)
 
 -- none is after the last
 pub all_up_to : {M : Type 0} (n : ℕ) (es : List (ℕ × M)) → NumbersRise es → ((d : ℕ × M) → 0 < length es → (get_or es (length es - 1) d).0 ≤ n) → AllByRecursion (λ e. e.0 ≤ n) es
@@ -137,6 +144,13 @@ run_next xs i to x lt inside is =
     let next : to - i ≡ suc (to - (i + 1)) = omega (arith, lt) in
     ap₂ take next (drop_more xs i x inside) ∙ ap (λ z. z ∷ take (to - (i + 1)) (drop (i + 1) xs)) (sym is)
 
+-- the next of some states in a row is joined, or passed by
+pub next_joined : {M : Type 0} (none : M) (join : M → M → M) (w : WindowSpec) (width start : ℕ) (o : Option M) (es : List (ℕ × M)) (i : ℕ) (x : ℕ × M) (b : Bool) → i < length es → x ≡ get_or es i x → within w width start x.0 ≡ b
+    → joined_within none join w width start o (drop i es) ≡ joined_within none join w width start (if b then Some (join (unwrap_or o none) x.1) else o) (drop (i + 1) es)
+next_joined none join w width start o es i x b lt is test =
+    ap (joined_within none join w width start o) (drop_at es i x lt is)
+    ∙ ap (λ t. joined_within none join w width start (if t then Some (join (unwrap_or o none) x.1) else o) (drop (i + 1) es)) test
+
 -- the first block goes with its first state
 pub first_gone : {M : Type 0} (size : ℕ) (P : List (ℕ × M) → M → Type 0) (bs : List M) (es : List (ℕ × M)) → 1 ≤ size → AreBlocks size P bs es → AreBlocks size P (remove bs 0) (drop (size - 1) (drop 1 es))
 first_gone size P [] es some is = tt
@@ -152,7 +166,7 @@ no_blocks size P bs es none = subst (λ (l : List _). AreBlocks size P l es) (sy
 -- the block at a place
 pub next_block : {M : Type 0} (size : ℕ) (P : List (ℕ × M) → M → Type 0) (bs : List M) (k : ℕ) (b : M) (es : List (ℕ × M)) → k < length bs → b ≡ get_or bs k b → AreBlocks size P (drop k bs) es
     → (size < length es) × P (take size es) b × AreBlocks size P (drop (k + 1) bs) (drop size es)
-next_block size P bs k b es lt is at = subst (λ l. AreBlocks size P l es) (drop_more bs k b lt ∙ ap (λ z. z ∷ drop (k + 1) bs) (sym is)) at
+next_block size P bs k b es lt is at = subst (λ l. AreBlocks size P l es) (drop_at bs k b lt is) at
 
 -- one block more
 module _ {M : Type 0} (size : ℕ) (P : List (ℕ × M) → M → Type 0) where

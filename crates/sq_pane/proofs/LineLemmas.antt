@@ -1,5 +1,6 @@
 -- The states of one group.
 use Rattle.std.proofs.Common.{◌≡◌, ℕ, zero, suc, ◌+◌, ◌-◌, ◌<◌, ◌≤◌, length, get_or, set, take, drop, ◌⊎◌, inl, inr, List, [], ◌∷◌, Bool, true, false, cond, refl, ap, ap₂, sym, ◌∙◌, subst, Ordering, Less, Equal, Greater, nat_cmp, arith, tests}
+use Rattle.std.proofs.lemmas.List.{drop_more}
 use Rattle.std.specs.Ordering.{match_ordering}
 use Rattle.std.specs.Cmp.{nat_cmp_total}
 use Rattle.std.specs.List.{AllByRecursion, filter, insert}
@@ -39,6 +40,10 @@ pub same_at : {A : Type 0} (xs : List A) (i : ℕ) (x y : A) → i < length xs �
 same_at [] i x y lt ex ey = absurd (omega (arith, lt))
 same_at (z ∷ zs) zero x y lt ex ey = ex ∙ sym ey
 same_at (z ∷ zs) (suc i) x y lt ex ey = same_at zs i x y (omega (arith, lt)) ex ey
+
+-- from a place on stands what is there, and then the rest
+pub drop_at : {A : Type 0} (xs : List A) (i : ℕ) (x : A) → i < length xs → x ≡ get_or xs i x → drop i xs ≡ x ∷ drop (i + 1) xs
+drop_at xs i x lt is = drop_more xs i x lt ∙ ap (λ z. z ∷ drop (i + 1) xs) (sym is)
 
 -- an element that is written anew with itself
 pub set_same : {A : Type 0} (xs : List A) (i : ℕ) (x : A) → i < length xs → x ≡ get_or xs i x → set xs i x ≡ xs

@@ -3,7 +3,6 @@ use Rattle.std.proofs.Common.{◌≡◌, ℕ, ◌+◌, ◌<◌, ◌≤◌, Bool,
 use Rattle.std.specs.Prelude.{if◌then◌else◌, nat_le, unwrap_or}
 use Rattle.std.specs.Ordering.{match_ordering, is_eq, ordering_then, ordering_reverse}
 use Rattle.std.specs.Map.{lookup, set_value}
-use Rattle.std.specs.Map.Calls.{RetainsPairs}
 use Rattle.std.specs.BTreeMap.{insert_entry}
 use Rattle.std.specs.List.{AllByRecursion, filter}
 use Rattle.sq_value.specs.declared.Value.{Value}
@@ -12,6 +11,7 @@ use Rattle.sq_value.proofs.ValueOrder.{fields_order, fields_same}
 use Rattle.sq_aggfn.specs.declared.WindowSpec.{WindowSpec}
 use Rattle.sq_aggfn.specs.KeyedStates.{added}
 use Rattle.sq_aggfn.proofs.KeyedLemmas.{Ascends}
+use Rattle.sq_groups.proofs.OrderLemmas.{Keeps}
 use Rattle.sq_pane.specs.declared.line.Line.{Line}
 use Rattle.sq_pane.specs.Panes.{Key, key_cmp, from_pane, under_group, within, window_from, joined_within, group_entry, NumbersRise, IsMadeIf, total, AllAreMade}
 use Rattle.sq_pane.specs.States.{states_of}
@@ -212,20 +212,18 @@ module _ {M : Type 0} (m : ℕ) where
       by true ih = ap (λ l. ((q.0, g), q.1) ∷ l) ih
       by false ih = ih
 
-  pub states_kept : {F : Type 0} (T : F → List Value → Line M → Bool → Line M → F → Type 0) (I : F → Type 0)
-      → ((f : F) (k : List Value) (v : Line M) (b : Bool) (w : Line M) (f' : F) → I f → T f k v b w f' → (w.states.items ≡ filter (λ q. nat_le m q.0) v.states.items) × (b ≡ false → w.states.items ≡ []) × I f')
-      → (f : F) (ls kept : Lines M) → I f → RetainsPairs T f ls kept → states_of kept ≡ from_pane m (states_of ls)
-  states_kept T I says f [] kept i r = ap states_of r
-  states_kept T I says f (l ∷ ls) kept i r =
-      let b = r.0 in
-      let w = r.1 in
-      let rest = r.3 in
-      let said = says f l.0 l.1 b w r.2 i r.4 in
-      ap states_of r.6 ∙ by b said.1 ∙ ap₂ (λ q es. under_group l.0 q ++ es) said.0 (states_kept T I says r.2 ls rest said.2 r.5) ∙ sym (group-kept l.0 (states_of ls) l.1.states.items)
+  -- of a line the states from a pane on, and of a line that goes none
+  abbrev pub IsKept : List Value → Line M → Bool → Line M → Type 0
+  IsKept g line b kept = (kept.states.items ≡ filter (λ q. nat_le m q.0) line.states.items) × (b ≡ false → kept.states.items ≡ [])
+
+  pub states_kept : (ls kept : Lines M) → Keeps IsKept ls kept → states_of kept ≡ from_pane m (states_of ls)
+  states_kept [] kept r = ap states_of r
+  states_kept (l ∷ ls) kept r =
+      ap states_of r.5 ∙ by r.0 r.3.1 ∙ ap₂ (λ q es. under_group l.0 q ++ es) r.3.0 (states_kept ls r.2 r.4) ∙ sym (group-kept l.0 (states_of ls) l.1.states.items)
     where
-      by : (b : Bool) → (b ≡ false → r.1.states.items ≡ []) → states_of (cond b ((l.0, r.1) ∷ r.3) r.3) ≡ under_group l.0 r.1.states.items ++ states_of r.3
+      by : (b : Bool) → (b ≡ false → r.1.states.items ≡ []) → states_of (cond b ((l.0, r.1) ∷ r.2) r.2) ≡ under_group l.0 r.1.states.items ++ states_of r.2
       by true none = refl
-      by false none = ap (λ q. under_group l.0 q ++ states_of r.3) (sym (none refl))
+      by false none = ap (λ q. under_group l.0 q ++ states_of r.2) (sym (none refl))
 
 -- the groups of a window, one after another
 module _ {M : Type 0} (none : M) (join : M → M → M) (w : WindowSpec) (width start : ℕ) where
@@ -353,13 +351,10 @@ module _ {M : Type 0} (P : Line M → Type 0) where
       by Equal ih = (p, all.1)
       by Greater ih = (all.0, ih)
 
-  pub lines_kept : {F : Type 0} (T : F → List Value → Line M → Bool → Line M → F → Type 0) (I : F → Type 0) → ((f : F) (k : List Value) (v : Line M) (b : Bool) (w : Line M) (f' : F) → I f → T f k v b w f' → (P v → P w) × I f')
-      → (f : F) (ls kept : Lines M) → I f → RetainsPairs T f ls kept → AllLines ls → AllLines kept
-  lines_kept T I says f [] kept i r all = subst AllLines (sym r) tt
-  lines_kept T I says f (l ∷ ls) kept i r all =
-      let said = says f l.0 l.1 r.0 r.1 r.2 i r.4 in
-      subst AllLines (sym r.6) (by r.0 (said.0 all.0) (lines_kept T I says r.2 ls r.3 said.1 r.5 all.1))
+  pub lines_kept : (ls kept : Lines M) → Keeps (λ g v b w. P v → P w) ls kept → AllLines ls → AllLines kept
+  lines_kept [] kept r all = subst AllLines (sym r) tt
+  lines_kept (l ∷ ls) kept r all = subst AllLines (sym r.5) (by r.0 (r.3 all.0) (lines_kept ls r.2 r.4 all.1))
     where
-      by : (b : Bool) → P r.1 → AllLines r.3 → AllLines (cond b ((l.0, r.1) ∷ r.3) r.3)
+      by : (b : Bool) → P r.1 → AllLines r.2 → AllLines (cond b ((l.0, r.1) ∷ r.2) r.2)
       by true p ih = (p, ih)
       by false p ih = ih

@@ -1,21 +1,21 @@
 //! The states of panes, by group and pane.
 
 ghost use Rattle.std.specs.Prelude.{◌≡◌, ◌+◌, ◌^◌, ◌<◌, ◌≤◌, ◌++◌, true, [], OnOk, OnErr, IfOk};
+ghost use Rattle.sq_aggfn.specs.Groups.{group_of};
 ghost use Rattle.sq_aggfn.specs.KeyedStates.{added};
 ghost use Rattle.sq_pane.specs.Panes.{key_cmp, from_pane, window_from, total, AllAreMade, group_entry};
 ghost use Rattle.sq_pane.specs.Blocks.{IsJoin};
 ghost use Rattle.sq_pane.specs.States.{states_of, HaveBlocks};
 
-use crate::key::Key;
 use crate::line::{Line, add_to_line, joined_in, keep_from, line_of_one};
 use crate::width::pane_shift;
-use sq_aggfn::{Fold, Group, WindowSpec};
+use sq_aggfn::{Fold, Group, WindowSpec, group_of};
+use sq_groups::{GroupMap, Key, Picked};
 use sq_value::Tuple;
 use std::alloc::{AllocError, Global};
-use std::collections::BTreeMap;
 
 /// For each group that has tuples a state for each pane where it has them.
-pub type Held<S> = BTreeMap<Key, Line<S>>;
+pub type Held<S> = GroupMap<Line<S>>;
 
 /// The state of a pane and group becomes its join with that of a tuple, in place; after want of memory nothing changed.
 pub fn add_at_key<F: Fold>(
@@ -25,13 +25,13 @@ pub fn add_at_key<F: Fold>(
     key: (u64, Group),
     t: &Tuple,
 ) -> Result<(), AllocError>
-    requires made { AllAreMade (F.made fold.now) (states_of held.old.entries) }
-    requires few { total (F.number fold.now) (states_of held.old.entries) + 1 < 2 ^ 62 }
-    ensures added { OnOk result (states_of held.new.entries ≡ added key_cmp (F.none fold.now) (F.joined fold.now) key (F.unit fold.now t.now) (states_of held.old.entries)) }
-    ensures made { OnOk result (AllAreMade (F.made fold.now) (states_of held.new.entries)) }
-    ensures total { OnOk result (total (F.number fold.now) (states_of held.new.entries) ≡ total (F.number fold.now) (states_of held.old.entries) + 1) }
-    ensures err { OnErr result (states_of held.new.entries ≡ states_of held.old.entries) }
-    ensures blocks { HaveBlocks (IsJoin (F.none fold.now) (F.joined fold.now) (F.made fold.now) (F.number fold.now)) held.old.entries → HaveBlocks (IsJoin (F.none fold.now) (F.joined fold.now) (F.made fold.now) (F.number fold.now)) held.new.entries }
+    requires made { AllAreMade (F.made fold.now) (states_of held.old) }
+    requires few { total (F.number fold.now) (states_of held.old) + 1 < 2 ^ 62 }
+    ensures added { OnOk result (states_of held.new ≡ added key_cmp (F.none fold.now) (F.joined fold.now) key (F.unit fold.now t.now) (states_of held.old)) }
+    ensures made { OnOk result (AllAreMade (F.made fold.now) (states_of held.new)) }
+    ensures total { OnOk result (total (F.number fold.now) (states_of held.new) ≡ total (F.number fold.now) (states_of held.old) + 1) }
+    ensures err { OnErr result (states_of held.new ≡ states_of held.old) }
+    ensures blocks { HaveBlocks (IsJoin (F.none fold.now) (F.joined fold.now) (F.made fold.now) (F.number fold.now)) held.old → HaveBlocks (IsJoin (F.none fold.now) (F.joined fold.now) (F.made fold.now) (F.number fold.now)) held.new }
 {
     let (pane, group) = key;
     let key = Key::new(group);
@@ -44,10 +44,36 @@ pub fn add_at_key<F: Fold>(
     Ok(())
 }
 
+/// The same at a pane and the group of the tuple by some places. That group is made only where it has no state yet.
+pub fn add_at_places<F: Fold>(
+    alloc: Global,
+    fold: &F,
+    held: &mut Held<F::State>,
+    pane: u64,
+    by: &[u32],
+    t: &Tuple,
+) -> Result<(), AllocError>
+    requires made { AllAreMade (F.made fold.now) (states_of held.old) }
+    requires few { total (F.number fold.now) (states_of held.old) + 1 < 2 ^ 62 }
+    ensures added { OnOk result (states_of held.new ≡ added key_cmp (F.none fold.now) (F.joined fold.now) (pane, group_of by.now t.now) (F.unit fold.now t.now) (states_of held.old)) }
+    ensures made { OnOk result (AllAreMade (F.made fold.now) (states_of held.new)) }
+    ensures total { OnOk result (total (F.number fold.now) (states_of held.new) ≡ total (F.number fold.now) (states_of held.old) + 1) }
+    ensures err { OnErr result (states_of held.new ≡ states_of held.old) }
+    ensures blocks { HaveBlocks (IsJoin (F.none fold.now) (F.joined fold.now) (F.made fold.now) (F.number fold.now)) held.old → HaveBlocks (IsJoin (F.none fold.now) (F.joined fold.now) (F.made fold.now) (F.number fold.now)) held.new }
+{
+    let picked = Picked::new(by, t);
+    let _count = held.len();
+    if let Some(line) = held.get_mut_at(&picked) {
+        return add_to_line(fold, line, pane, t);
+    }
+    let group = group_of(alloc, by, t)?;
+    add_at_key(alloc, fold, held, (pane, group), t)
+}
+
 /// Takes the states of all panes before a number out.
 pub fn forget_before<F: Fold>(fold: &F, held: &mut Held<F::State>, pane: u128)
-    ensures states { states_of held.new.entries ≡ from_pane pane (states_of held.old.entries) }
-    ensures blocks { HaveBlocks (IsJoin (F.none fold.now) (F.joined fold.now) (F.made fold.now) (F.number fold.now)) held.old.entries → HaveBlocks (IsJoin (F.none fold.now) (F.joined fold.now) (F.made fold.now) (F.number fold.now)) held.new.entries }
+    ensures states { states_of held.new ≡ from_pane pane (states_of held.old) }
+    ensures blocks { HaveBlocks (IsJoin (F.none fold.now) (F.joined fold.now) (F.made fold.now) (F.number fold.now)) held.old → HaveBlocks (IsJoin (F.none fold.now) (F.joined fold.now) (F.made fold.now) (F.number fold.now)) held.new }
 {
     held.retain(|_, line| keep_from(fold, line, pane));
 }
@@ -76,18 +102,19 @@ pub fn groups_at<F: Fold>(
     width: u64,
     start: u64,
 ) -> Result<Vec<(Group, F::State)>, AllocError>
-    requires blocks { by_blocks ≡ true → HaveBlocks (IsJoin (F.none fold.now) (F.joined fold.now) (F.made fold.now) (F.number fold.now)) held.now.entries }
-    requires made { AllAreMade (F.made fold.now) (states_of held.now.entries) }
-    requires few { total (F.number fold.now) (states_of held.now.entries) < 2 ^ 62 }
-    ensures value { IfOk result (λ groups. groups.items ≡ window_from (F.none fold.now) (F.joined fold.now) window width start [] (states_of held.now.entries)) }
+    requires blocks { by_blocks ≡ true → HaveBlocks (IsJoin (F.none fold.now) (F.joined fold.now) (F.made fold.now) (F.number fold.now)) held.now }
+    requires made { AllAreMade (F.made fold.now) (states_of held.now) }
+    requires few { total (F.number fold.now) (states_of held.now) < 2 ^ 62 }
+    ensures value { IfOk result (λ groups. groups.items ≡ window_from (F.none fold.now) (F.joined fold.now) window width start [] (states_of held.now)) }
     ensures made { IfOk result (λ groups. AllAreMade (F.made fold.now) groups.items) }
-    ensures few { IfOk result (λ groups. total (F.number fold.now) groups.items ≤ total (F.number fold.now) (states_of held.now.entries)) }
+    ensures few { IfOk result (λ groups. total (F.number fold.now) groups.items ≤ total (F.number fold.now) (states_of held.now)) }
 {
-    let mut groups = Vec::new(alloc);
+    let entries = held.entries(alloc)?;
+    let mut groups = Vec::with_capacity(alloc, entries.len())?;
     let shift = pane_shift(window, width);
-    for (key, line) in held.iter() {
-        let joined = joined_in(fold, line, by_blocks, window, width, shift, start)?;
-        push_some(&mut groups, key.group(), joined)?;
+    for entry in &entries {
+        let joined = joined_in(fold, entry.1, by_blocks, window, width, shift, start)?;
+        push_some(&mut groups, entry.0.group(), joined)?;
     }
     Ok(groups)
 }

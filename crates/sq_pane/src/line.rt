@@ -1,6 +1,6 @@
 //! The states of one group.
 
-ghost use Rattle.std.specs.Prelude.{◌≡◌, ℕ, ◌+◌, ◌-◌, ◌^◌, ◌<◌, ◌≤◌, nat_le, true, false, if◌then◌else◌, unwrap_or, [], length, take, drop, get_or, OnOk, OnErr, IfOk};
+ghost use Rattle.std.specs.Prelude.{◌≡◌, ℕ, ◌+◌, ◌-◌, ◌^◌, ◌<◌, ◌≤◌, nat_le, true, false, unwrap_or, [], length, take, drop, get_or, OnOk, OnErr, IfOk};
 ghost use Rattle.std.specs.Ordering.{nat_cmp};
 ghost use Rattle.std.specs.List.{AllByRecursion, filter};
 ghost use Rattle.sq_aggfn.specs.KeyedStates.{added};
@@ -211,23 +211,19 @@ pub fn keep_from<F: Fold>(fold: &F, line: &mut Line<F::State>, pane: u128) -> bo
     !line.states.is_empty()
 }
 
-/// A state that may be there becomes its join with another, if a test holds.
-fn joined_if<F: Fold>(
+/// A state that may be there becomes its join with another.
+fn joined_to<F: Fold>(
     fold: &F,
     joined: Option<F::State>,
-    test: bool,
     state: &F::State,
 ) -> Result<Option<F::State>, AllocError>
     requires made { IsMadeIf (F.made fold.now) joined }
     requires made_state { F.made fold.now state.now }
     requires few { number_if (F.number fold.now) joined + F.number fold.now state.now < 2 ^ 62 }
-    ensures value { IfOk result (λ o. o ≡ (if test then Some (F.joined fold.now (unwrap_or joined (F.none fold.now)) state.now) else joined)) }
+    ensures value { IfOk result (λ o. o ≡ Some (F.joined fold.now (unwrap_or joined (F.none fold.now)) state.now)) }
     ensures made { IfOk result (λ o. IsMadeIf (F.made fold.now) o) }
     ensures few { IfOk result (λ o. number_if (F.number fold.now) o ≤ number_if (F.number fold.now) joined + F.number fold.now state.now) }
 {
-    if !test {
-        return Ok(joined);
-    }
     match joined {
         None => Ok(Some(fold.copy_state(state)?)),
         Some(mut own) => {
@@ -245,6 +241,99 @@ fn is_within(window: WindowSpec, width: u64, shift: u64, start: u64, pane: u64) 
     let first = u128::from(start) + u128::from(shift);
     let tick = u128::from(pane) * u128::from(width);
     first <= tick && tick < first + u128::from(window.size)
+}
+
+/// The place of the first of some states in a row that the window that starts at a tick covers; the row's end, where there
+/// is none.
+fn first_within<S>(
+    states: &VecDeque<(u64, S)>,
+    from: usize,
+    to: usize,
+    window: WindowSpec,
+    width: u64,
+    shift: u64,
+    start: u64,
+) -> usize
+    requires shift { shift ≡ shift_of window width }
+    requires order { from ≤ to }
+    requires room { to ≤ length states.now.items }
+    ensures order { (from ≤ result) × (result ≤ to) }
+    ensures covered { (d : ℕ × S) → result < to → within window width start (get_or states.now.items result d).0 ≡ true }
+    ensures before { (none : S) (join : S → S → S) → joined_within none join window width start None (drop result states.now.items)
+        ≡ joined_within none join window width start None (drop from states.now.items) }
+{
+    for at in from..to {
+        if is_within(window, width, shift, start, states[at].0) {
+            return at;
+        }
+    }
+    to
+}
+
+/// Of some states in a row those that the window that starts at a tick covers are joined to a state, in place.
+fn take_in_through<F: Fold>(
+    fold: &F,
+    own: &mut F::State,
+    states: &VecDeque<(u64, F::State)>,
+    from: usize,
+    to: usize,
+    window: WindowSpec,
+    width: u64,
+    shift: u64,
+    start: u64,
+) -> Result<(), AllocError>
+    requires shift { shift ≡ shift_of window width }
+    requires order { from ≤ to }
+    requires room { to ≤ length states.now.items }
+    requires made { F.made fold.now own.old × AllAreMade (F.made fold.now) states.now.items }
+    requires few { F.number fold.now own.old + total (F.number fold.now) (drop from states.now.items) < 2 ^ 62 }
+    ensures value { OnOk result (joined_within (F.none fold.now) (F.joined fold.now) window width start (Some own.new) (drop to states.now.items)
+        ≡ joined_within (F.none fold.now) (F.joined fold.now) window width start (Some own.old) (drop from states.now.items)) }
+    ensures made { OnOk result (F.made fold.now own.new) }
+    ensures few { OnOk result (F.number fold.now own.new + total (F.number fold.now) (drop to states.now.items)
+        ≤ F.number fold.now own.old + total (F.number fold.now) (drop from states.now.items)) }
+{
+    for i in from..to {
+        let entry = &states[i];
+        if is_within(window, width, shift, start, entry.0) {
+            fold.take_in(own, &entry.1)?;
+        }
+    }
+    Ok(())
+}
+
+/// The join of those of some states in a row that the window that starts at a tick covers, where there is one.
+fn joined_of<F: Fold>(
+    fold: &F,
+    states: &VecDeque<(u64, F::State)>,
+    from: usize,
+    to: usize,
+    window: WindowSpec,
+    width: u64,
+    shift: u64,
+    start: u64,
+) -> Result<Option<F::State>, AllocError>
+    requires shift { shift ≡ shift_of window width }
+    requires order { from ≤ to }
+    requires room { to ≤ length states.now.items }
+    requires made { AllAreMade (F.made fold.now) states.now.items }
+    requires few { total (F.number fold.now) (drop from states.now.items) < 2 ^ 62 }
+    ensures value { IfOk result (λ o. joined_within (F.none fold.now) (F.joined fold.now) window width start o (drop to states.now.items)
+        ≡ joined_within (F.none fold.now) (F.joined fold.now) window width start None (drop from states.now.items)) }
+    ensures made { IfOk result (λ o. IsMadeIf (F.made fold.now) o) }
+    ensures few { IfOk result (λ o. number_if (F.number fold.now) o + total (F.number fold.now) (drop to states.now.items)
+        ≤ total (F.number fold.now) (drop from states.now.items)) }
+{
+    let at = first_within(states, from, to, window, width, shift, start);
+    if at == to {
+        return Ok(None);
+    }
+    let next = at + 1;
+    let mut own = fold.copy_state(&states[at].1)?;
+    take_in_through(
+        fold, &mut own, states, next, to, window, width, shift, start,
+    )?;
+    Ok(Some(own))
 }
 
 /// Of some states in a row those that the window that starts at a tick covers, joined to one that may be there.
@@ -270,12 +359,15 @@ fn joined_through<F: Fold>(
     ensures few { IfOk result (λ o. number_if (F.number fold.now) o + total (F.number fold.now) (drop to states.now.items)
         ≤ number_if (F.number fold.now) joined + total (F.number fold.now) (drop from states.now.items)) }
 {
-    let mut joined = joined;
-    for i in from..to {
-        let covered = is_within(window, width, shift, start, states[i].0);
-        joined = joined_if(fold, joined, covered, &states[i].1)?;
+    match joined {
+        None => joined_of(fold, states, from, to, window, width, shift, start),
+        Some(mut own) => {
+            take_in_through(
+                fold, &mut own, states, from, to, window, width, shift, start,
+            )?;
+            Ok(Some(own))
+        }
     }
-    Ok(joined)
 }
 
 /// The same of the states of a block, from a place on.
@@ -305,7 +397,7 @@ fn with_block<F: Fold>(
     let first = is_within(window, width, shift, start, states[at].0);
     let last = is_within(window, width, shift, start, states[at + (BLOCK - 1)].0);
     if first && last {
-        return joined_if(fold, joined, true, block);
+        return joined_to(fold, joined, block);
     }
     let end = at + BLOCK;
     joined_through(fold, joined, states, at, end, window, width, shift, start)
@@ -332,7 +424,7 @@ fn joined_by_blocks<F: Fold>(
     let states = &line.states;
     let count = states.len();
     let mut at = line.ahead;
-    let mut joined = joined_through(fold, None, states, 0, at, window, width, shift, start)?;
+    let mut joined = joined_of(fold, states, 0, at, window, width, shift, start)?;
     for k in 0..line.blocks.len() {
         let block = &line.blocks[k];
         joined = with_block(fold, joined, block, states, at, window, width, shift, start)?;
@@ -364,5 +456,5 @@ pub fn joined_in<F: Fold>(
         return joined_by_blocks(fold, line, window, width, shift, start);
     }
     let states = &line.states;
-    joined_through(fold, None, states, 0, count, window, width, shift, start)
+    joined_of(fold, states, 0, count, window, width, shift, start)
 }

@@ -21,7 +21,7 @@ give_before-requires-clause-sound g c =
     let joined = g.F.Fold.joined p.fold in
     let results = g.F.Fold.width p.fold in
     let x = bounds_of c.args.waiting.now in
-    let es = states_of p.held.entries in
+    let es = states_of p.held in
     let one = ended none joined p.window p.width x es c.args.k in
     let items = c.in_ok-push_window.ensures.value ∙ ap (λ l. l ++ one) c.requires.none in
     subst (λ l. AllByRecursion (λ e. IsSoundKey results e.0) l) (sym items) (ended_sound none joined p.window c.requires.window.moves p.width x es results c.args.k c.requires.tick c.requires.fit)
@@ -35,7 +35,7 @@ pub returns-in_err-push_window-clause-prefix : goal.returns-in_err-push_window-c
 returns-in_err-push_window-clause-prefix g c =
     let p = c.args.panes.now in
     let x = bounds_of c.args.waiting.now in
-    let one = ended (g.F.Fold.none p.fold) (g.F.Fold.joined p.fold) p.window p.width x (states_of p.held.entries) c.args.k in
+    let one = ended (g.F.Fold.none p.fold) (g.F.Fold.joined p.fold) p.window p.width x (states_of p.held) c.args.k in
     OnErr_from c.from_residual.result (λ q. IsPrefixOf-append (given q (g.T.Outlet.items c.args.out.now)) (at_zero q (due_before (g.F.Fold.told p.fold) (start_of p.window c.args.k + 1) x.waiting one)))
 
 pub returns-clause-none : goal.returns-clause-none
@@ -44,7 +44,7 @@ returns-clause-none g c =
     let none = g.F.Fold.none p.fold in
     let joined = g.F.Fold.joined p.fold in
     let x = bounds_of c.args.waiting.now in
-    let es = states_of p.held.entries in
+    let es = states_of p.held in
     let one = ended none joined p.window p.width x es c.args.k in
     let items = c.in_ok-push_window.ensures.value ∙ ap (λ l. l ++ one) c.requires.none in
     let behind = ap (λ (n : ℕ). n + 1) c.start_of-start.ensures in
@@ -60,7 +60,7 @@ pub returns-clause-given : goal.returns-clause-given
 returns-clause-given g c =
     let p = c.args.panes.now in
     let x = bounds_of c.args.waiting.now in
-    let one = ended (g.F.Fold.none p.fold) (g.F.Fold.joined p.fold) p.window p.width x (states_of p.held.entries) c.args.k in
+    let one = ended (g.F.Fold.none p.fold) (g.F.Fold.joined p.fold) p.window p.width x (states_of p.held) c.args.k in
     let items = c.in_ok-push_window.ensures.value ∙ ap (λ l. l ++ one) c.requires.none in
     let behind = ap (λ (n : ℕ). n + 1) c.start_of-start.ensures in
     on_ok_weaker c.give_before.result
@@ -70,7 +70,7 @@ pub returns-clause-prefix : goal.returns-clause-prefix
 returns-clause-prefix g c =
     let p = c.args.panes.now in
     let x = bounds_of c.args.waiting.now in
-    let one = ended (g.F.Fold.none p.fold) (g.F.Fold.joined p.fold) p.window p.width x (states_of p.held.entries) c.args.k in
+    let one = ended (g.F.Fold.none p.fold) (g.F.Fold.joined p.fold) p.window p.width x (states_of p.held) c.args.k in
     let items = c.in_ok-push_window.ensures.value ∙ ap (λ l. l ++ one) c.requires.none in
     let behind = ap (λ (n : ℕ). n + 1) c.start_of-start.ensures in
     on_err_weaker c.give_before.result

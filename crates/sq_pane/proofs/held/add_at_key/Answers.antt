@@ -1,6 +1,7 @@
 use Rattle.std.proofs.Common.{◌≡◌, ◌+◌, List, drop, sym, ap, subst, ◌∙◌, arith}
 use Rattle.std.specs.Ordering.{is_eq}
 use Rattle.std.specs.BTreeMap.{insert_entry}
+use Rattle.std.specs.Map.{lookup}
 use Rattle.std.proofs.lemmas.Result.{on_ok_weaker, on_err_weaker}
 use Rattle.sq_value.specs.declared.Value.{Value}
 use Rattle.sq_value.specs.Values.{fields_cmp}
@@ -16,20 +17,23 @@ use Rattle.sq_pane.proofs.held.add_at_key.Goals as goal
 
 pub add_to_line-requires-clause-made : goal.add_to_line-requires-clause-made
 add_to_line-requires-clause-made g c =
-    made_found (g.F.Fold.made c.args.fold.now) (λ (q : List Value). is_eq (fields_cmp c.new-key.result q)) c.args.held.now.entries c.in-Some.line.now (sym c.in-Some.ensures.value) c.requires.made
+    made_found (g.F.Fold.made c.args.fold.now) (λ (q : List Value). is_eq (fields_cmp c.new-key.result q)) c.args.held.now c.in-Some.line.now (sym c.in-Some.ensures.value) c.requires.made
 
 pub add_to_line-requires-clause-few : goal.add_to_line-requires-clause-few
 add_to_line-requires-clause-few g c =
-    let le = total_found (g.F.Fold.number c.args.fold.now) (λ (q : List Value). is_eq (fields_cmp c.new-key.result q)) c.args.held.now.entries c.in-Some.line.now (sym c.in-Some.ensures.value) in
+    let le = total_found (g.F.Fold.number c.args.fold.now) (λ (q : List Value). is_eq (fields_cmp c.new-key.result q)) c.args.held.now c.in-Some.line.now (sym c.in-Some.ensures.value) in
     let few = c.requires.few in
     omega (arith, le, few)
+
+pub insert-requires : goal.insert-requires
+insert-requires g c = ap (lookup (λ (q : List Value). is_eq (fields_cmp c.new-key.result q))) c.get_mut.follows.holds-at-none ∙ sym c.in_default.ensures.value
 
 pub returns-in-Some-clause-added : goal.returns-in-Some-clause-added
 returns-in-Some-clause-added g c =
     let fold = c.args.fold.now in
-    let ls = c.args.held.now.entries in
+    let ls = c.args.held.now in
     on_ok_weaker c.add_to_line.result
-    (λ e. ap states_of (c.get_mut.follows.holds c.add_to_line.new.line).0
+    (λ e. ap states_of (c.get_mut.follows.holds c.add_to_line.new.line)
     ∙ states_set (g.F.Fold.none fold) (g.F.Fold.joined fold) c.args.key.0 c.new-key.result (g.F.Fold.unit fold c.args.t.now) ls c.in-Some.line.now c.add_to_line.new.line
     (ascends fields_cmp fields_order ls c.len-count.ensures.ordered) (sym c.in-Some.ensures.value) e
     ∙ ap (λ k. added key_cmp (g.F.Fold.none fold) (g.F.Fold.joined fold) (c.args.key.0, k) (g.F.Fold.unit fold c.args.t.now) (states_of ls)) c.new-key.ensures)
@@ -38,34 +42,34 @@ returns-in-Some-clause-added g c =
 pub returns-in-Some-clause-made : goal.returns-in-Some-clause-made
 returns-in-Some-clause-made g c =
     let made = g.F.Fold.made c.args.fold.now in
-    let ls = c.args.held.now.entries in
+    let ls = c.args.held.now in
     on_ok_weaker c.add_to_line.result
-    (λ e. subst (λ l. AllAreMade made (states_of l)) (sym (c.get_mut.follows.holds c.add_to_line.new.line).0)
+    (λ e. subst (λ l. AllAreMade made (states_of l)) (sym (c.get_mut.follows.holds c.add_to_line.new.line))
     (made_states_set made (λ (q : List Value). is_eq (fields_cmp c.new-key.result q)) ls c.add_to_line.new.line c.requires.made e))
     c.add_to_line.ensures.made
 
 pub returns-in-Some-clause-total : goal.returns-in-Some-clause-total
 returns-in-Some-clause-total g c =
     let number = g.F.Fold.number c.args.fold.now in
-    let ls = c.args.held.now.entries in
+    let ls = c.args.held.now in
     on_ok_weaker c.add_to_line.result
-    (λ e. ap (λ l. total number (states_of l)) (c.get_mut.follows.holds c.add_to_line.new.line).0
+    (λ e. ap (λ l. total number (states_of l)) (c.get_mut.follows.holds c.add_to_line.new.line)
     ∙ total_states_set number (λ (q : List Value). is_eq (fields_cmp c.new-key.result q)) ls c.in-Some.line.now c.add_to_line.new.line 1 (sym c.in-Some.ensures.value) e)
     c.add_to_line.ensures.total
 
 pub returns-in-Some-clause-err : goal.returns-in-Some-clause-err
 returns-in-Some-clause-err g c =
     on_err_weaker c.add_to_line.result
-    (λ e. ap states_of (c.get_mut.follows.holds c.add_to_line.new.line).0
-    ∙ states_same (λ (q : List Value). is_eq (fields_cmp c.new-key.result q)) c.args.held.now.entries c.in-Some.line.now c.add_to_line.new.line (sym c.in-Some.ensures.value) e)
+    (λ e. ap states_of (c.get_mut.follows.holds c.add_to_line.new.line)
+    ∙ states_same (λ (q : List Value). is_eq (fields_cmp c.new-key.result q)) c.args.held.now c.in-Some.line.now c.add_to_line.new.line (sym c.in-Some.ensures.value) e)
     c.add_to_line.ensures.err
 
 pub returns-clause-added : goal.returns-clause-added
 returns-clause-added g c =
     let fold = c.args.fold.now in
-    let ls = c.args.held.now.entries in
+    let ls = c.args.held.now in
     let line = c.in_ok-line.line in
-    ap states_of (c.in_ok-insert.ensures.entries ∙ ap (λ m. insert_entry fields_cmp m.entries c.new-key.result line) c.get_mut.follows.holds-at-none)
+    ap states_of (c.in_ok-insert.ensures.entries ∙ ap (λ es. insert_entry fields_cmp es c.new-key.result line) c.get_mut.follows.holds-at-none)
     ∙ states_insert (g.F.Fold.none fold) (g.F.Fold.joined fold) c.args.key.0 c.new-key.result (g.F.Fold.unit fold c.args.t.now) ls line
     (ascends fields_cmp fields_order ls c.len-count.ensures.ordered) (sym c.in_default.ensures.value) c.in_ok-line.ensures.value
     ∙ ap (λ k. added key_cmp (g.F.Fold.none fold) (g.F.Fold.joined fold) (c.args.key.0, k) (g.F.Fold.unit fold c.args.t.now) (states_of ls)) c.new-key.ensures
@@ -73,18 +77,18 @@ returns-clause-added g c =
 pub returns-clause-made : goal.returns-clause-made
 returns-clause-made g c =
     let made = g.F.Fold.made c.args.fold.now in
-    let ls = c.args.held.now.entries in
+    let ls = c.args.held.now in
     let line = c.in_ok-line.line in
-    subst (λ l. AllAreMade made (states_of l)) (sym (c.in_ok-insert.ensures.entries ∙ ap (λ m. insert_entry fields_cmp m.entries c.new-key.result line) c.get_mut.follows.holds-at-none))
+    subst (λ l. AllAreMade made (states_of l)) (sym (c.in_ok-insert.ensures.entries ∙ ap (λ es. insert_entry fields_cmp es c.new-key.result line) c.get_mut.follows.holds-at-none))
     (made_states_insert made c.new-key.result ls line c.requires.made c.in_ok-line.ensures.made)
 
 pub returns-clause-total : goal.returns-clause-total
 returns-clause-total g c =
     let number = g.F.Fold.number c.args.fold.now in
-    let ls = c.args.held.now.entries in
+    let ls = c.args.held.now in
     let line = c.in_ok-line.line in
     let one = c.in_ok-line.ensures.total in
-    ap (λ l. total number (states_of l)) (c.in_ok-insert.ensures.entries ∙ ap (λ m. insert_entry fields_cmp m.entries c.new-key.result line) c.get_mut.follows.holds-at-none)
+    ap (λ l. total number (states_of l)) (c.in_ok-insert.ensures.entries ∙ ap (λ es. insert_entry fields_cmp es c.new-key.result line) c.get_mut.follows.holds-at-none)
     ∙ total_states_insert number c.new-key.result ls line (sym c.in_default.ensures.value)
     ∙ (let e : total number (states_of ls) + total number line.states.items ≡ total number (states_of ls) + 1 = omega (arith, one) in e)
 
@@ -93,9 +97,9 @@ returns-in-Some-clause-blocks g c =
     let fold = c.args.fold.now in
     let join = IsJoin (g.F.Fold.none fold) (g.F.Fold.joined fold) (g.F.Fold.made fold) (g.F.Fold.number fold) in
     let test = λ (q : List Value). is_eq (fields_cmp c.new-key.result q) in
-    let ls = c.args.held.now.entries in
+    let ls = c.args.held.now in
     λ all.
-    subst (HaveBlocks join) (sym (c.get_mut.follows.holds c.add_to_line.new.line).0)
+    subst (HaveBlocks join) (sym (c.get_mut.follows.holds c.add_to_line.new.line))
     (lines_set (λ l. AreBlocks 64 join l.blocks.items (drop l.ahead l.states.items)) test ls c.add_to_line.new.line all
     (c.add_to_line.ensures.blocks (line_found (λ l. AreBlocks 64 join l.blocks.items (drop l.ahead l.states.items)) test ls c.in-Some.line.now (sym c.in-Some.ensures.value) all)))
 
@@ -103,8 +107,8 @@ pub returns-clause-blocks : goal.returns-clause-blocks
 returns-clause-blocks g c =
     let fold = c.args.fold.now in
     let join = IsJoin (g.F.Fold.none fold) (g.F.Fold.joined fold) (g.F.Fold.made fold) (g.F.Fold.number fold) in
-    let ls = c.args.held.now.entries in
+    let ls = c.args.held.now in
     let line = c.in_ok-line.line in
     λ all.
-    subst (HaveBlocks join) (sym (c.in_ok-insert.ensures.entries ∙ ap (λ m. insert_entry fields_cmp m.entries c.new-key.result line) c.get_mut.follows.holds-at-none))
+    subst (HaveBlocks join) (sym (c.in_ok-insert.ensures.entries ∙ ap (λ es. insert_entry fields_cmp es c.new-key.result line) c.get_mut.follows.holds-at-none))
     (lines_insert (λ l. AreBlocks 64 join l.blocks.items (drop l.ahead l.states.items)) c.new-key.result ls line all (no_blocks 64 join line.blocks.items (drop line.ahead line.states.items) c.in_ok-line.ensures.blocks))

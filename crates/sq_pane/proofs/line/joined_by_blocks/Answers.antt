@@ -48,6 +48,6 @@ returns-clause-value g c =
     let fold = c.args.fold.now in
     let es = c.args.line.now.states.items in
     let whole = joined_within (g.F.Fold.none fold) (g.F.Fold.joined fold) c.args.window c.args.width c.args.start in
-    IfOk-weaker c.joined_through-2.result _ _
+    IfOk-weaker c.joined_through.result _ _
     (λ o e. sym (ap (whole o) (drop_all c.len-count.result es (omega arith))) ∙ e ∙ c.loop-k.invariant.value)
-    c.joined_through-2.ensures.value
+    c.joined_through.ensures.value

@@ -1,6 +1,6 @@
 use Rattle.std.proofs.Common.{◌∙◌, Less, Equal, Greater, arith}
-use Rattle.sq_pane.proofs.KeyLemmas.{eight_then_rest}
-use Rattle.sq_pane.proofs.key.compare_texts.Goals as goal
+use Rattle.sq_groups.proofs.KeyLemmas.{eight_then_rest}
+use Rattle.sq_groups.proofs.key.compare_texts.Goals as goal
 
 pub returns-then-first-other : goal.returns-then-first-other
 returns-then-first-other c =

@@ -1,5 +1,5 @@
 -- Lists of bytes are ordered as numbers made of their first bytes, and where these are the same as what stands behind.
-use Rattle.std.proofs.Common.{◌≡◌, ◌∙◌, refl, sym, ap, ap₂, zero, suc, ℕ, ◌+◌, ◌*◌, ◌^◌, ◌<◌, ◌≤◌, List, [], ◌∷◌, length, get_or, take, drop, Ordering, Less, Equal, Greater, Fits, w8, arith}
+use Rattle.std.proofs.Common.{◌≡◌, ◌∙◌, refl, sym, ap, ap₂, zero, suc, ℕ, ◌+◌, ◌*◌, ◌^◌, ◌<◌, ◌≤◌, List, [], ◌∷◌, ◌++◌, fold, length, get_or, take, drop, Ordering, Less, Equal, Greater, Fits, w8, arith}
 use Rattle.std.specs.Int.{w64, from_be_bytes}
 use Rattle.std.specs.Ordering.{nat_cmp, ordering_then, MatchOrdering}
 use Rattle.std.specs.Cmp.{ranks, nat_cmp_is}
@@ -83,3 +83,8 @@ pub eight_then_rest : (xs ys front back front' back' : List ℕ) (m n : ℕ) (r 
 eight_then_rest xs ys front back front' back' m n r f b f' b' long long' small small' made made' is =
     ap₂ (λ q t. ordering_then q t) (nat_cmp_is m n r is ∙ ap₂ nat_cmp (made ∙ ap (from_be_bytes w64) f ∙ eight_bytes xs long) (made' ∙ ap (from_be_bytes w64) f' ∙ eight_bytes ys long')) (ap₂ (slice_cmp nat_cmp) b b')
     ∙ sym (first_then_rest 8 xs ys long long' small small')
+
+-- what is written first, and then the rest
+pub fold_append : {S A : Type 0} (f : S → A → S) (s : S) (xs ys : List A) → fold f s (xs ++ ys) ≡ fold f (fold f s xs) ys
+fold_append f s [] ys = refl
+fold_append f s (x ∷ xs) ys = fold_append f (f s x) xs ys

@@ -1,18 +1,20 @@
-//! The keys of the map of groups.
+//! The keys of a map of groups.
 
-ghost use Rattle.std.specs.Prelude.{◌≡◌};
+ghost use Rattle.std.specs.Prelude.{◌≡◌, fold};
 ghost use Rattle.std.specs.Ordering.{nat_cmp};
 ghost use Rattle.std.specs.Cmp.Lexicographic.{slice_cmp};
 ghost use Rattle.sq_value.specs.Values.{fields_cmp};
+ghost use Rattle.sq_groups.specs.KeyWrites.{key_writes, value_writes};
 
 use sq_aggfn::{Group, compare_fields};
 use sq_value::{Value, compare_bytes};
 use std::cmp::Ordering;
+use std::hash::{Hash, Hasher};
 use std::marker::Model;
 
 /// The order of texts by their bytes: the first eight as one number, since keys mostly differ there.
 #[inline(always)]
-fn compare_texts(a: &[u8], b: &[u8]) -> Ordering
+pub(crate) fn compare_texts(a: &[u8], b: &[u8]) -> Ordering
     ensures { result ≡ slice_cmp nat_cmp a.now b.now }
 {
     match (a.split_first_chunk::<8>(), b.split_first_chunk::<8>()) {
@@ -42,7 +44,33 @@ fn compare_keys(a: &[Value], b: &[Value]) -> Ordering
     }
 }
 
-/// A group in the map of groups. Contracts see its list of values.
+/// Feeds a hasher a value.
+pub(crate) fn hash_value<H: Hasher>(value: &Value, state: &mut H)
+    ensures { state.new ≡ fold H.write state.old (value_writes value.now) }
+{
+    match value {
+        Value::Null => state.write_u8(0),
+        Value::Int(number) => state.write_i64(*number),
+        Value::Bool(truth) => state.write_u8(*truth as u8),
+        Value::Text(text) => state.write(text.as_bytes()),
+    }
+}
+
+/// Feeds a hasher some values, one after another.
+#[tactic(auto, using(crate::proofs::KeyLemmas::fold_append))]
+fn hash_values<H: Hasher>(values: &[Value], state: &mut H)
+    ensures { state.new ≡ fold H.write state.old (key_writes values.now) }
+{
+    match values {
+        [] => {}
+        [first, rest @ ..] => {
+            hash_value(first, state);
+            hash_values(rest, state);
+        }
+    }
+}
+
+/// A group in a map of groups. Contracts see its list of values.
 #[derive(Drop)]
 pub struct Key {
     group: Group,
@@ -60,7 +88,7 @@ impl Model for Key {
 impl Key {
     /// The key of a group.
     #[inline]
-    pub(crate) fn new(group: Group) -> Key
+    pub fn new(group: Group) -> Key
         ensures { result ≡ group }
     {
         Key { group }
@@ -68,7 +96,7 @@ impl Key {
 
     /// The group that it is the key of.
     #[inline]
-    pub(crate) fn group(&self) -> &Group
+    pub fn group(&self) -> &Group
         ensures { result.now ≡ self.now }
     {
         &self.group
@@ -131,5 +159,25 @@ impl Ord for Key {
     #[inline(always)]
     fn cmp(&self, other: &Key) -> Ordering {
         compare_keys(self.group.as_slice(), other.group.as_slice())
+    }
+}
+
+/// A text alone is one write, found without a call.
+impl Hash for Key {
+    ghost use Rattle.std.proofs.Common.{ap};
+    ghost use Rattle.std.proofs.lemmas.Map.Views.{tells_apart};
+    ghost use Rattle.sq_value.proofs.ValueOrder.{fields_same};
+    ghost use Rattle.sq_groups.specs.KeyWrites.{key_writes};
+
+    ghost hash_input = { key_writes };
+
+    ghost respects_eq = { λ x y same. ap key_writes (tells_apart fields_same x y same) };
+
+    #[inline(always)]
+    fn hash<H: Hasher>(&self, state: &mut H) {
+        match self.group.as_slice() {
+            [Value::Text(text)] => state.write(text.as_bytes()),
+            values => hash_values(values, state),
+        }
     }
 }

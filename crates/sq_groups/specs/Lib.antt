@@ -1,0 +1,3 @@
+pub mod KeyWrites
+pub mod Ordered
+pub mod Lends
