@@ -1,9 +1,7 @@
 -- What a predicate asks to be equal.
-use Rattle.std.proofs.Common.{◌≡◌, ◌||◌, List, [], ◌∷◌, ◌++◌, subst}
-use Rattle.std.specs.Prelude.{if◌then◌else◌, Some, slice_get}
+use Rattle.std.proofs.Common.{◌≡◌, List, [], ◌∷◌, subst}
+use Rattle.std.specs.Prelude.{Some, slice_get}
 use Rattle.std.specs.List.{AllByRecursion}
-use Rattle.std.specs.declared.cmp.Ordering.TheVariants.{Equal}
-use Rattle.sq_value.specs.declared.Value.TheVariants as value
 use Rattle.sq_value.specs.Values.{field}
 use Rattle.sq_expr.specs.Keys.{equated}
 use Rattle.sq_expr.specs.Trees.{Expr, Field, Compare, Logic}

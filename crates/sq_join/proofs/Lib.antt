@@ -1,4 +1,5 @@
 pub mod EqualLemmas
+pub mod IndexLemmas
 pub mod TurnLemmas
 pub mod JoinLemmas
 pub mod ElementWords

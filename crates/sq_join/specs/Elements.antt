@@ -1,5 +1,5 @@
 -- The elements of a tagged list: its tuples, each with the side that it comes at.
-use Rattle.std.specs.Prelude.{◌≡◌, ℕ, ◌⊎◌, ◌==◌, ◌≤◌, List, [], ◌∷◌, ◌++◌, map}
+use Rattle.std.specs.Prelude.{ℕ, ◌==◌, List, [], ◌∷◌, ◌++◌, map}
 use Rattle.std.specs.List.{filter}
 use Rattle.sq_value.specs.declared.Tuple.{Tuple}
 use Rattle.sq_lists.specs.Merge as whole

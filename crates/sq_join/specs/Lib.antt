@@ -1,3 +1,4 @@
 pub mod EqualFields
 pub mod Elements
 pub mod Sides
+pub mod Indexes

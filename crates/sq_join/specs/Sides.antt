@@ -1,5 +1,5 @@
 -- Join: what it still gives, and the facts that it keeps.
-use Rattle.std.specs.Prelude.{ℕ, ◌-◌, ◌≤◌, ◌==◌, ◌&&◌, nat_le, Bool, if◌then◌else◌, List, [], ◌∷◌, length}
+use Rattle.std.specs.Prelude.{ℕ, ◌-◌, ◌≤◌, ◌==◌, ◌&&◌, nat_le, Bool, if◌then◌else◌, List, length}
 use Rattle.std.specs.List.{AllByRecursion}
 use Rattle.sq_value.specs.declared.Value.{Value}
 use Rattle.sq_value.specs.declared.Tuple.{Tuple}

@@ -1,16 +1,19 @@
 //! What a pair has to pass.
 
-ghost use Rattle.std.specs.Prelude.{◌≡◌, ◌++◌, ◌∷◌, [], IfOk, IfSome, false, true};
+ghost use Rattle.std.specs.Prelude.{◌≡◌, ◌++◌, ◌∷◌, [], IfOk, IfSome, false, length, take, true};
+ghost use Rattle.std.specs.List.{filter};
 ghost use Rattle.std.specs.Option.{option_to_list};
 ghost use Rattle.sq_value.specs.declared.Value.{Value as V};
 ghost use Rattle.sq_value.specs.Values.{field};
 ghost use Rattle.sq_expr.specs.Expressions.{holds_of, pair_of};
+ghost use Rattle.sq_words.specs.Lists.{same_bytes};
+ghost use Rattle.sq_lists.specs.Pairs.{left_fields};
 ghost use Rattle.sq_lists.specs.Sides.{pairs_with};
 ghost use Rattle.sq_join.specs.EqualFields.{Equates};
 
 use sq_expr::{Typed, equated_fields};
 use sq_lists::passing_pair;
-use sq_value::{Tuple, Value};
+use sq_value::{Name, Tuple, Value};
 use std::alloc::{AllocError, Global};
 use std::marker::Model;
 
@@ -47,6 +50,26 @@ fn first_equated(alloc: Global, on: &Typed) -> Option<(usize, usize)>
         Some(places) => Some(*places),
         None => None,
     }
+}
+
+/// Whether a name is that of a left field.
+fn is_left(name: &Name) -> bool
+    ensures { result ≡ same_bytes (take 2 name.now) (108 ∷ 95 ∷ []) }
+{
+    name.as_str().starts_with("l_")
+}
+
+/// How many of these names are those of left fields.
+fn left_names(names: &[Name]) -> usize
+    ensures { result ≡ length (filter (λ name. same_bytes (take 2 name) (108 ∷ 95 ∷ [])) names.now) }
+{
+    let mut count = 0;
+    for name in names {
+        if is_left(name) {
+            count += 1;
+        }
+    }
+    count
 }
 
 /// The number at a place of a pair, where one stands there. The left fields stand first.
@@ -87,6 +110,22 @@ impl Condition {
     {
         let equal = first_equated(alloc, &on);
         Condition { on, equal }
+    }
+
+    /// The two places of a pair.
+    pub(crate) fn equated(&self) -> Option<(usize, usize)>
+        ensures { IfSome result (Equates self.now.tree) }
+    {
+        self.equal
+    }
+
+    /// How many fields a left tuple has, and how many a pair, by the columns of the predicate.
+    pub(crate) fn widths(&self) -> (usize, usize)
+        ensures left { result.0 ≡ left_fields self.now.scope }
+        ensures all { result.1 ≡ length self.now.scope }
+    {
+        let names = self.on.scope().names();
+        (left_names(names), names.len())
     }
 
     /// Whether a pair may pass.

@@ -10,10 +10,12 @@ ghost use Rattle.sq_oper.specs.Entries.{Entry};
 ghost use Rattle.sq_oper.specs.Order.{IsFuture, time_of};
 ghost use Rattle.sq_oper.specs.Streams.{things, at_zero};
 ghost use Rattle.sq_join.specs.Elements.{side_of, elements_of};
+ghost use Rattle.sq_join.specs.Indexes.{MayIndex};
 ghost use Rattle.sq_join.specs.Sides.{join_rest, join_fits, most_at, IsSide};
 
 use crate::condition::Condition;
-use crate::sides::take;
+use crate::side_indexes::SideIndexes;
+use crate::sides::{let_go, take};
 use sq_expr::Typed;
 use sq_item::Item;
 use sq_lists::Sides;
@@ -32,6 +34,7 @@ pub struct JoinBox {
     size: u64,
     on: Condition,
     sides: Sides,
+    indexes: Option<SideIndexes>,
     tally: Tally,
 }
 
@@ -52,10 +55,13 @@ impl JoinBox {
         ensures start { (⟦<JoinBox as Operator>⟧.place result ≡ Moment.Start) × (⟦<JoinBox as Operator>⟧.taken result ≡ 0) }
         ensures valid { ⟦<JoinBox as Operator>⟧.valid result × IsTrue (⟦<JoinBox as Operator>⟧.running result) }
     {
+        let on = Condition::of(alloc, on);
+        let indexes = SideIndexes::of(alloc, &on);
         JoinBox {
             size,
-            on: Condition::of(alloc, on),
+            on,
             sides: Sides::new(alloc),
+            indexes,
             tally: Tally::new(),
         }
     }
@@ -64,7 +70,8 @@ impl JoinBox {
 impl Operator for JoinBox {
     ghost valid = { λ s. IsSide (most_at s.on.scope 0) (time_of s.tally.place) s.sides.left.items
         × IsSide (most_at s.on.scope 1) (time_of s.tally.place) s.sides.right.items
-        × AllNear s.size (time_of s.tally.place) s.sides.left.items × AllNear s.size (time_of s.tally.place) s.sides.right.items };
+        × AllNear s.size (time_of s.tally.place) s.sides.left.items × AllNear s.size (time_of s.tally.place) s.sides.right.items
+        × MayIndex s.on.tree s.sides.left.items s.sides.right.items s.indexes };
 
     ghost running = { λ s. s.tally.running };
 
@@ -98,9 +105,9 @@ impl Operator for JoinBox {
         self.tally.note(port, &item);
         let time = item.time;
         if let Some(fields) = item.body.get() {
-            self.sides.let_go(self.size, time);
+            let_go(&mut self.sides, &mut self.indexes, self.size, time);
             let x = Tuple { time, fields };
-            take(&mut self.sides, &self.on, port, x, out)?;
+            take(&mut self.sides, &mut self.indexes, &self.on, port, x, out)?;
             steps.tick();
         }
         Ok(())

@@ -6,7 +6,9 @@
 #![tactic(auto)]
 
 mod condition;
+mod index;
 mod join;
+mod side_indexes;
 mod sides;
 
 pub use join::JoinBox;

@@ -58,6 +58,7 @@ returns-in_ok-take-clause-stays_valid g c =
             (near_left b.size b.on.tree b.on.scope b.sides.left.items b.sides.right.items b.tally.place c.args.port c.args.item c.in-Some.fields (sym c.get.ensures ∙ c.in-Some.is) c.requires.is_sound c.requires.may_come v.0 v.1)),
         subst (λ (l : List Tuple). AllNear b.size (time_of c.note.new.self.place) l) (sym right) (rw place
             (near_right b.size b.on.tree b.on.scope b.sides.left.items b.sides.right.items b.tally.place c.args.port c.args.item c.in-Some.fields (sym c.get.ensures ∙ c.in-Some.is) c.requires.is_sound c.requires.may_come v.0 v.1)),
+        c.in_ok-take.ensures.indexes,
       ),
       c.note.ensures.running ∙ c.requires.is_running,
     )

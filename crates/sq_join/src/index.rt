@@ -1,0 +1,169 @@
+//! Where the tuples that are held of a side stand, by their numbers at a place.
+
+ghost use Rattle.std.specs.Prelude.{◌≡◌, ℕ, ◌+◌, ◌%◌, ◌^◌, ◌<◌, ◌==◌, ◌++◌, ◌∷◌, [], List, false, true, length, slice_get, IfOk, IfSome, MatchOption, Some, if◌then◌else◌};
+ghost use Rattle.std.specs.List.{AllByRecursion};
+ghost use Rattle.sq_value.specs.declared.Tuple.{Tuple as T};
+ghost use Rattle.sq_value.specs.Values.{field};
+ghost use Rattle.sq_join.specs.Indexes.{belongs_at, positions_in, size_of, positions_in_row, row_count, IsIndex, IsOfSamePlace};
+
+use sq_value::{Tuple, Value};
+use std::alloc::{AllocError, Global};
+use std::collections::VecDeque;
+
+/// The positions of the tuples that are held of a side and have a number at a place, in rows by the remainder of that
+/// number's size, each row ascending. Positions count on from that of the first tuple. There are no rows where few tuples
+/// are held, where one has an unusual number of fields, or where there was no memory.
+#[derive(Drop)]
+pub(crate) struct Index {
+    place: usize,
+    width: usize,
+    pub(crate) first: usize,
+    pub(crate) rows: Vec<VecDeque<usize>>,
+}
+
+/// The size of the number at a place of a tuple, where one stands there.
+#[inline(always)]
+fn size_at(x: &Tuple, place: usize) -> Option<u64>
+    ensures { result ≡ size_of (field x.now.fields place) }
+{
+    match x.fields.as_slice().get(place) {
+        Some(Value::Int(number)) => Some(number.unsigned_abs()),
+        _ => None,
+    }
+}
+
+/// Rows in which nothing stands.
+fn bare_rows(alloc: Global, count: usize) -> Result<Vec<VecDeque<usize>>, AllocError>
+    ensures len { IfOk result (λ rows. length rows.items ≡ count) }
+    ensures bare { IfOk result (λ rows. (row : ℕ) → positions_in (slice_get rows.items row) ≡ []) }
+{
+    let mut rows = Vec::with_capacity(alloc, count)?;
+    for _row in 0..count {
+        rows.push(VecDeque::new(alloc))?;
+    }
+    Ok(rows)
+}
+
+impl Index {
+    /// The index of a side of which nothing is held.
+    pub(crate) fn new(alloc: Global, place: usize, width: usize) -> Index
+        ensures place { (result.place ≡ place) × (result.width ≡ width) }
+        ensures index { IsIndex [] result }
+    {
+        Index {
+            place,
+            width,
+            first: 0,
+            rows: Vec::new(alloc),
+        }
+    }
+
+    /// The size of the number at the place, if a tuple of this side is as wide as usual.
+    #[inline(always)]
+    pub(crate) fn size_in(&self, x: &Tuple) -> Option<u64>
+        ensures even { IfSome result (λ _. length x.now.fields ≡ self.now.width) }
+        ensures size { IfSome result (λ size. size_of (field x.now.fields self.now.place) ≡ Some size) }
+    {
+        if x.fields.as_slice().len() != self.width {
+            return None;
+        }
+        size_at(x, self.place)
+    }
+
+    /// The row in which a number of this size belongs, where there are rows.
+    #[inline(always)]
+    pub(crate) fn row_of(&self, size: u64) -> Option<usize>
+        ensures { MatchOption result (row_count self.now ≡ 0) (λ row. (row < row_count self.now) × (row ≡ size % row_count self.now)) }
+    {
+        let rows = self.rows.len();
+        if rows == 0 {
+            return None;
+        }
+        Some((size % rows as u64) as usize)
+    }
+
+    /// The row in which a tuple belongs.
+    #[inline(always)]
+    fn row_with(&self, x: &Tuple) -> Option<usize>
+        ensures { MatchOption result ((row : ℕ) → row < row_count self.now → belongs_at self.now.place (row_count self.now) row x.now ≡ false)
+            (λ its. (its < row_count self.now) × ((row : ℕ) → belongs_at self.now.place (row_count self.now) row x.now ≡ (its == row))) }
+    {
+        match size_at(x, self.place) {
+            Some(size) => self.row_of(size),
+            None => None,
+        }
+    }
+
+    /// Puts a position behind the others in a tuple's row, if the tuple is as wide as the others and there is memory.
+    fn put(&mut self, at: usize, x: &Tuple) -> bool
+        ensures even { result ≡ true → length x.now.fields ≡ self.old.width }
+        ensures rows { result ≡ true → (row : ℕ) → row < row_count self.old → positions_in_row self.new row
+            ≡ positions_in_row self.old row ++ (if belongs_at self.old.place (row_count self.old) row x.now then at ∷ [] else []) }
+        ensures len { result ≡ true → row_count self.new ≡ row_count self.old }
+        ensures same { IsOfSamePlace self.old self.new }
+        ensures first { self.new.first ≡ self.old.first }
+    {
+        if x.fields.as_slice().len() != self.width {
+            return false;
+        }
+        match self.row_with(x) {
+            Some(row) => self.rows[row].push_back(at).is_ok(),
+            None => true,
+        }
+    }
+
+    /// Takes in a tuple that comes behind so many.
+    fn add(&mut self, count: usize, x: &Tuple)
+        requires { self.old.first + count + 1 < 2 ^ 64 }
+        ensures index { (held : List T) → length held ≡ count → IsIndex held self.old → IsIndex (held ++ x.now ∷ []) self.new }
+        ensures same { IsOfSamePlace self.old self.new }
+        ensures first { self.new.first ≡ self.old.first }
+    {
+        if !self.rows.is_empty() && !self.put(self.first + count, x) {
+            self.rows.clear();
+        }
+    }
+
+    /// Lets go of the first tuple.
+    pub(crate) fn drop_first(&mut self, x: &Tuple)
+        requires { self.old.first + 1 < 2 ^ 64 }
+        ensures index { (held : List T) → IsIndex (x.now ∷ held) self.old → IsIndex held self.new }
+        ensures same { IsOfSamePlace self.old self.new }
+    {
+        self.first += 1;
+        if let Some(row) = self.row_with(x) {
+            self.rows[row].pop_front();
+        }
+    }
+
+    /// Takes in all that is held, in rows for as many again.
+    fn build(&mut self, held: &VecDeque<Tuple>)
+        ensures index { IsIndex held.now.items self.new }
+        ensures same { IsOfSamePlace self.old self.new }
+        ensures first { self.new.first ≡ 0 }
+    {
+        let alloc = *held.allocator();
+        self.first = 0;
+        self.rows = match bare_rows(alloc, held.len() / 2 * 2 + 1) {
+            Ok(rows) => rows,
+            Err(_) => Vec::new(alloc),
+        };
+        for i in 0..held.len() {
+            self.add(i, &held[i]);
+        }
+    }
+
+    /// Takes in a tuple that comes behind what is held.
+    pub(crate) fn push_last(&mut self, held: &VecDeque<Tuple>, x: &Tuple)
+        requires { IsIndex held.now.items self.old }
+        ensures index { IsIndex (held.now.items ++ x.now ∷ []) self.new }
+        ensures same { IsOfSamePlace self.old self.new }
+    {
+        let is_full = held.len() > 8 && held.len() / 2 > self.rows.len();
+        let is_even = x.fields.as_slice().len() == self.width;
+        if (is_full && is_even) || self.first >= 1 << 63 {
+            self.build(held);
+        }
+        self.add(held.len(), x);
+    }
+}
