@@ -12,6 +12,7 @@ use Rattle.sq_plan.specs.Plans.{Setting}
 use Rattle.sq_plan.specs.PlanRows.{is_quiet, level_for, shown_from, shown_after, Ended}
 use Rattle.sq_oper.specs.declared.operator.Operator.{Ghosts}
 use Rattle.sq_oper.specs.declared.outs.Event.{Event}
+use Rattle.sq_oper.specs.Streams.{IsSoundTuple}
 use Rattle.sq_queue.specs.declared.Queues.{Queues}
 use Rattle.sq_replay.specs.RecordedTuples.{Recorded}
 use Rattle.sq_flow.specs.declared.flow.Flow.{Flow}
@@ -43,6 +44,15 @@ pub agrees-before : (levels levels' : LevelTable) → ((x w : ℕ) → x < level
     → (table : ℕ → ℕ → ℕ) → AgreesWith levels' table → AgreesWith levels table
 agrees-before levels levels' keeps grows table h epoch drop low = h epoch drop (omega (arith, low, grows)) ∙ keeps epoch drop low
 
+-- counts that stay or begin anew are as many as before, and none is more
+pub closed-len : (stays : Bool) (before after : List ℕ) → after ≡ cond stays before (replicate (length before) 0) → length after ≡ length before
+closed-len true before after h = ap (λ (l : List ℕ). length l) h
+closed-len false before after h = ap (λ (l : List ℕ). length l) h ∙ length-replicate (length before) 0
+
+pub closed-low : (stays : Bool) (before after : List ℕ) → after ≡ cond stays before (replicate (length before) 0) → (k : ℕ) → slice_index after k ≤ slice_index before k
+closed-low true before after h k = let same = ap (λ l. slice_index l k) h in omega (arith, same)
+closed-low false before after h k = let none = ap (λ l. slice_index l k) h ∙ zeros_at (length before) k in omega (arith, none)
+
 module _ {O : Type 0} (m : Ghosts O) (e : Flow O) (flow : IsFlow m e) (pos : 0 < e.levels.epoch)
     (port : ℕ) (v more : Recorded) (x : Tuple) (least : IsNextSource e.sources.items port)
     (at : slice_get e.sources.items port ≡ Some v) (front : v.items ≡ x ∷ more.items) where
@@ -60,6 +70,9 @@ module _ {O : Type 0} (m : Ghosts O) (e : Flow O) (flow : IsFlow m e) (pos : 0 <
 
   begins : to_release e port ≡ x ∷ more.items
   begins = ap tuples_to_come at ∙ front
+
+  pub sound : IsSoundTuple x
+  sound = (subst (RiseFrom e.clock) begins (flow.replay.coming port)).1
 
   -- the tuple comes no earlier than what was released, and no later than all that is still to be
   pub in-time : (e.clock ≤ x.time) × (x.time < 2 ^ 40)
@@ -97,18 +110,10 @@ module _ {O : Type 0} (m : Ghosts O) (e : Flow O) (flow : IsFlow m e) (pos : 0 <
   module _ (planner' : Setting) (levels' : LevelTable) (mid : List ℕ) (events events' : List Event)
       (did : ClosedBefore e.planner planner' e.levels levels' e.counts.items mid epoch_there events events') where
     pub mid-len : length mid ≡ length e.counts.items
-    mid-len = by (eqb (epoch_there + 1) e.levels.closed) did.counts
-      where
-        by : (b : Bool) → mid ≡ cond b e.counts.items (replicate (length e.counts.items) 0) → length mid ≡ length e.counts.items
-        by true h = ap (λ (l : List ℕ). length l) h
-        by false h = ap (λ (l : List ℕ). length l) h ∙ length-replicate (length e.counts.items) 0
+    mid-len = closed-len (eqb (epoch_there + 1) e.levels.closed) e.counts.items mid did.counts
 
     pub mid-low : (k : ℕ) → slice_index mid k ≤ slice_index e.counts.items k
-    mid-low k = by (eqb (epoch_there + 1) e.levels.closed) did.counts
-      where
-        by : (b : Bool) → mid ≡ cond b e.counts.items (replicate (length e.counts.items) 0) → slice_index mid k ≤ slice_index e.counts.items k
-        by true h = let same = ap (λ l. slice_index l k) h in omega (arith, same)
-        by false h = let none = ap (λ l. slice_index l k) h ∙ zeros_at (length e.counts.items) k in omega (arith, none)
+    mid-low = closed-low (eqb (epoch_there + 1) e.levels.closed) e.counts.items mid did.counts
 
     -- the counts of the tuple's epoch are those with which it goes on
     mid-there : add_counts (cond (eqb (epoch_there + 1) e.levels.closed) e.counts.items []) (arrivals e.levels.epoch (streams e.sources.items) epoch_there)

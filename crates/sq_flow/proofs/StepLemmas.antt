@@ -1,12 +1,12 @@
 -- Steps, one after another.
-use Rattle.std.proofs.Common.{◌≡◌, ℕ, ◌+◌, ◌-◌, ◌<◌, ◌++◌, Bool, true, false, ◌||◌, List, length, Option, Some, None, refl, ap, sym, ◌∙◌, subst, arith}
+use Rattle.std.proofs.Common.{◌≡◌, ℕ, ◌+◌, ◌-◌, ◌<◌, ◌++◌, Bool, true, false, ◌||◌, List, [], length, Option, Some, None, refl, ap, sym, ◌∙◌, subst, arith}
 use Rattle.std.specs.Prelude.{is_some}
 use Rattle.sq_outside.specs.Disks.{Pages}
 use Rattle.sq_road.specs.Levels.{LevelTable, AgreesWith}
 use Rattle.sq_oper.specs.declared.operator.Operator.{Ghosts}
 use Rattle.sq_oper.specs.declared.outs.Event.{Event}
 use Rattle.sq_pool.specs.Trust.{Tells}
-use Rattle.sq_queue.specs.Faces.{face}
+use Rattle.sq_queue.specs.Faces.{face, Together}
 use Rattle.sq_flow.specs.declared.wires.Wires.{Wires}
 use Rattle.sq_flow.specs.declared.flow.Flow.{Flow}
 use Rattle.sq_flow.specs.declared.errors.RunErr.{RunErr}
@@ -18,13 +18,40 @@ use Rattle.sq_flow.specs.Plans.{PlansPrefix, plans_of}
 use Rattle.sq_plan.specs.Plans.{Setting}
 use Rattle.sq_plan.specs.PlanRows.{level_for}
 use Rattle.sq_words.specs.Lists.{IsPrefixOf}
-use Rattle.sq_flow.specs.Flows.{HoldsItems, Stepped, ShowsPrefix, NoneStrange, CostsFed, StepCosts, TooMuchOnly, items_in, decisions_left, left_on, fed_at_last, sum_below, work_at_last}
+use Rattle.sq_flow.specs.Flows.{IsFlow, HoldsItems, Stepped, ShowsPrefix, NoneStrange, CostsFed, StepCosts, TooMuchOnly, items_in, decisions_left, left_on, fed_at_last, sum_below, work_at_last}
 use Rattle.sq_flow.proofs.CauseLemmas.{changed-since}
 use Rattle.sq_flow.proofs.ArcLemmas.{ends-chain}
 use Rattle.sq_flow.specs.Readiness.{IsReady}
 use Rattle.sq_flow.proofs.DoneLemmas.{sums-agree}
 
 module _ {O : Type 0} (m : Ghosts O) where
+  -- nothing was done
+  pub stepped-none : (p : Option Pages) (f : Flow O) (e : List Event) → IsFlow m f → Together f.queues p → Stepped m p p f f e e
+  stepped-none p f e flow together =
+      record {
+        flow_after = flow;
+        together = together;
+        tells = λ told. told;
+        wires = refl;
+        framed = refl;
+        seats = refl;
+        closes = λ table agrees. agrees;
+        shows = λ h. h;
+        planner = refl;
+        planned = λ all h. h;
+        plans = refl;
+        holds = λ told table agrees h. h;
+        goes = λ told table agrees h.
+            record {
+              lines = λ output low. refl;
+              drops = λ w low. refl;
+              fed = λ actor low. refl;
+              lost = λ actor low. refl;
+              turns = refl;
+              arcs = λ arc low. ([], refl);
+            };
+      }
+
   module _ (p p1 : Option Pages) (f f1 : Flow O) (e e1 : List Event) (first : Stepped m p p1 f f1 e e1) where
     outputs-same : length f1.seats.items - f1.wires.shown ≡ length f.seats.items - f.wires.shown
     outputs-same = rw (first.seats, ap (λ (w : Wires). w.shown) first.wires) refl

@@ -33,6 +33,10 @@ pub stands-pushed : (q q' : Queues) (p p' : Option Pages) (more : ℕ → List T
 stands-pushed q q' p p' more upto near sent arc h = stands-grows (face q arc) (face q' arc) (sent.grows arc) (λ e. sent.ended arc ∙ e) h
 
 module _ {O : Type 0} (actor : ℕ) where
+  -- nothing was done
+  pub touches-none : (f : Flow O) → TouchesOnly actor f f
+  touches-none f = record { apart = λ arc low to from. refl; grows = λ arc low to h. h; others = λ other low ne. refl }
+
   pub touches-both : (f f1 f2 : Flow O) → f1.wires ≡ f.wires → length f1.seats.items ≡ length f.seats.items → TouchesOnly actor f f1 → TouchesOnly actor f1 f2 → TouchesOnly actor f f2
   touches-both f f1 f2 wires seats a b =
       record {

@@ -60,6 +60,9 @@ pub(crate) fn next_of(wires: &Wires, queues: &Queues, actor: u32) -> Next
         (λ arc. (face queues.now arc).first) (λ arc. (face queues.now arc).ended) (length (arcs_read wires.now actor)) result }
 {
     let inputs = wires.arcs_of(actor);
+    if inputs.len() == 1 {
+        return look(queues.head(inputs[0]), Next::Ended, 0, inputs[0]);
+    }
     let mut best = Next::Ended;
     for port in 0..inputs.len() {
         let arc = inputs[port];

@@ -10,7 +10,7 @@ loop-port-preserved c =
     let at_is = slice_get_read c.arcs_of-inputs.result.now.items _ c.loop-port.port c.index-arc.result.now refl within c.index-arc.ensures in
     let is : slice_get (arcs_read c.args.wires.now c.args.actor) c.loop-port.port ≡ Some c.index-arc.result.now =
     ap (λ z. slice_get (numbers_in z) c.loop-port.port) c.arcs_of-inputs.ensures ∙ at_is in
-    c.look-best.ensures _ _ _ is c.head.ensures c.loop-port.invariant
+    c.look-best.ensures _ _ _ is c.head-in-loop-port.ensures c.loop-port.invariant
 
 pub returns : goal.returns
 returns c =

@@ -32,3 +32,75 @@ returns-then-not-may_be_fed-clause-cause g c =
       record { popped = c.in_ok-item.ensures.face; others = c.in_ok-item.ensures.faces; first = c.in_ok-item.ensures.items },
       λ may. no_way (sym (c.may_be_fed.ensures.no may) ∙ c.if-not-may_be_fed.true),
     )
+
+pub returns-clause-sound : goal.returns-clause-sound
+returns-clause-sound g c = c.in_ok-item.ensures.sound
+
+pub returns-clause-size : goal.returns-clause-size
+returns-clause-size g c = c.in_ok-item.ensures.size
+
+pub returns-clause-items : goal.returns-clause-items
+returns-clause-items g c = c.in_ok-item.ensures.items
+
+pub returns-clause-others : goal.returns-clause-others
+returns-clause-others g c = c.in_ok-item.ensures.others
+
+pub returns-clause-together : goal.returns-clause-together
+returns-clause-together g c = c.in_ok-item.ensures.together
+
+pub returns-clause-later : goal.returns-clause-later
+returns-clause-later g c = c.in_ok-item.ensures.later
+
+pub returns-clause-faults : goal.returns-clause-faults
+returns-clause-faults g c = c.in_ok-item.ensures.faults
+
+pub returns-clause-frames : goal.returns-clause-frames
+returns-clause-frames g c = c.in_ok-item.ensures.frames
+
+pub returns-clause-faces : goal.returns-clause-faces
+returns-clause-faces g c = c.in_ok-item.ensures.faces
+
+pub returns-clause-popped : goal.returns-clause-popped
+returns-clause-popped g c = c.in_ok-item.ensures.face
+
+pub returns-clause-may_be_fed : goal.returns-clause-may_be_fed
+returns-clause-may_be_fed g c = c.may_be_fed.ensures.yes c.if-not-may_be_fed.false
+
+pub returns-in_err-item-clause-faces : goal.returns-in_err-item-clause-faces
+returns-in_err-item-clause-faces g c = c.in_err-item.ensures.faces
+
+pub returns-in_err-item-clause-size : goal.returns-in_err-item-clause-size
+returns-in_err-item-clause-size g c = c.in_err-item.ensures.size
+
+pub returns-in_err-item-clause-later : goal.returns-in_err-item-clause-later
+returns-in_err-item-clause-later g c = c.in_err-item.ensures.later
+
+pub returns-in_err-item-clause-faults : goal.returns-in_err-item-clause-faults
+returns-in_err-item-clause-faults g c = c.in_err-item.ensures.faults
+
+pub returns-then-not-may_be_fed-clause-faces : goal.returns-then-not-may_be_fed-clause-faces
+returns-then-not-may_be_fed-clause-faces g c = c.in_ok-item.ensures.faces
+
+pub returns-then-not-may_be_fed-clause-size : goal.returns-then-not-may_be_fed-clause-size
+returns-then-not-may_be_fed-clause-size g c = c.in_ok-item.ensures.size
+
+pub returns-then-not-may_be_fed-clause-later : goal.returns-then-not-may_be_fed-clause-later
+returns-then-not-may_be_fed-clause-later g c = c.in_ok-item.ensures.later
+
+pub returns-then-not-may_be_fed-clause-faults : goal.returns-then-not-may_be_fed-clause-faults
+returns-then-not-may_be_fed-clause-faults g c = c.in_ok-item.ensures.faults
+
+pub returns-then-not-may_be_fed-clause-memory : goal.returns-then-not-may_be_fed-clause-memory
+returns-then-not-may_be_fed-clause-memory g c = λ same. cc same
+
+pub may_be_fed-requires : goal.may_be_fed-requires
+may_be_fed-requires g c = c.in_ok-item.ensures.sound
+
+pub pop-requires-clause-there : goal.pop-requires-clause-there
+pop-requires-clause-there g c = c.requires.there
+
+pub pop-requires-clause-some : goal.pop-requires-clause-some
+pop-requires-clause-some g c = c.requires.some
+
+pub pop-requires-clause-together : goal.pop-requires-clause-together
+pop-requires-clause-together g c = c.requires.together

@@ -23,3 +23,39 @@ pub returns-clause-order : goal.returns-clause-order
 returns-clause-order g c =
     order-first (record { flow = c.in_ok-flow.flow; ready = c.in_ok-ready.ready; waits = c.in_ok-waits.waits; failed = false }) c.look_at_all.new.self
     (ap (λ r. r.list) c.in_ok-ready.ensures) c.look_at_all.ensures
+
+pub new-requires-clause-shaped : goal.new-requires-clause-shaped
+new-requires-clause-shaped g c = c.requires.shaped
+
+pub new-requires-clause-seats : goal.new-requires-clause-seats
+new-requires-clause-seats g c = c.requires.seats
+
+pub new-requires-clause-coming : goal.new-requires-clause-coming
+new-requires-clause-coming g c = c.requires.coming
+
+pub new-requires-clause-few : goal.new-requires-clause-few
+new-requires-clause-few g c = c.requires.few
+
+pub new-requires-clause-few_tuples : goal.new-requires-clause-few_tuples
+new-requires-clause-few_tuples g c = c.requires.few_tuples
+
+pub new-requires-clause-levels : goal.new-requires-clause-levels
+new-requires-clause-levels g c = c.requires.levels
+
+pub new-requires-clause-no_levels : goal.new-requires-clause-no_levels
+new-requires-clause-no_levels g c = c.requires.no_levels
+
+pub new-requires-clause-frames : goal.new-requires-clause-frames
+new-requires-clause-frames g c = c.requires.frames
+
+pub look_at_all-requires-clause-flow : goal.look_at_all-requires-clause-flow
+look_at_all-requires-clause-flow g c = c.in_ok-flow.ensures.flow
+
+pub returns-clause-flow : goal.returns-clause-flow
+returns-clause-flow g c = rw c.look_at_all.ensures.flow c.in_ok-flow.ensures.parts
+
+pub returns-clause-planned : goal.returns-clause-planned
+returns-clause-planned g c = rw c.look_at_all.ensures.flow c.in_ok-flow.ensures.planned
+
+pub returns-clause-plans : goal.returns-clause-plans
+returns-clause-plans g c = rw c.look_at_all.ensures.flow c.in_ok-flow.ensures.plans

@@ -1,4 +1,4 @@
-use Rattle.std.proofs.Common.{◌≡◌, ◌<◌, length, refl, sym, ◌∙◌, subst, arith, ◌⊎◌, true, ap}
+use Rattle.std.proofs.Common.{◌≡◌, ℕ, ◌<◌, ◌≤◌, length, refl, sym, ◌∙◌, subst, arith, ◌⊎◌, true, ap}
 use Rattle.sq_flow.specs.Readiness.{IsReady, Took}
 use Rattle.sq_road.specs.Levels.{AgreesWith}
 use Rattle.sq_flow.specs.declared.flow.Flow.{Flow}
@@ -58,3 +58,75 @@ returns-in-Ok-clause-took g c =
     subst (λ (f : Flow g.row.O.Denot). Took (seat_number (length c.args.self.now.flow.seats.items) c.args.pick.actor) c.in-Ok.progress.fed c.in-Ok.progress.finished c.args.self.now.flow f)
     (sym (c.look_at_readers.ensures.flow ∙ c.look_at.ensures.flow))
     (subst (λ n. Took n c.in-Ok.progress.fed c.in-Ok.progress.finished c.args.self.now.flow c.train.new.self) (sym place_is) took)
+
+pub returns-in-Err-clause-prefix : goal.returns-in-Err-clause-prefix
+returns-in-Err-clause-prefix g c = c.in-Err.ensures.prefix
+
+pub returns-in-Err-clause-plans : goal.returns-in-Err-clause-plans
+returns-in-Err-clause-plans g c = c.in-Err.ensures.plans
+
+pub returns-in-Err-clause-strange : goal.returns-in-Err-clause-strange
+returns-in-Err-clause-strange g c = c.in-Err.ensures.strange
+
+pub returns-in-Err-clause-cause : goal.returns-in-Err-clause-cause
+returns-in-Err-clause-cause g c = c.in-Err.ensures.cause
+
+pub returns-in-Err-clause-feed : goal.returns-in-Err-clause-feed
+returns-in-Err-clause-feed g c = c.in-Err.ensures.feed
+
+pub returns-in-Err-clause-faults : goal.returns-in-Err-clause-faults
+returns-in-Err-clause-faults g c = c.in-Err.ensures.faults
+
+pub returns-in-Err-clause-later : goal.returns-in-Err-clause-later
+returns-in-Err-clause-later g c = c.in-Err.ensures.later
+
+pub returns-in-Err-clause-closes : goal.returns-in-Err-clause-closes
+returns-in-Err-clause-closes g c = c.in-Err.ensures.closes
+
+pub returns-in-Err-clause-cost_err : goal.returns-in-Err-clause-cost_err
+returns-in-Err-clause-cost_err g c = c.in-Err.ensures.cost_err
+
+pub returns-in-Err-clause-too_much : goal.returns-in-Err-clause-too_much
+returns-in-Err-clause-too_much g c = c.in-Err.ensures.too_much
+
+pub returns-in-Err-clause-stay : goal.returns-in-Err-clause-stay
+returns-in-Err-clause-stay g c = c.in-Err.ensures.stay
+
+pub returns-in-Ok-clause-faults : goal.returns-in-Ok-clause-faults
+returns-in-Ok-clause-faults g c = c.in-Ok.ensures.faults
+
+pub returns-in-Ok-clause-later : goal.returns-in-Ok-clause-later
+returns-in-Ok-clause-later g c = c.in-Ok.ensures.later
+
+pub returns-in-Ok-clause-most : goal.returns-in-Ok-clause-most
+returns-in-Ok-clause-most g c = c.in-Ok.ensures.most
+
+pub returns-in-Ok-clause-stay : goal.returns-in-Ok-clause-stay
+returns-in-Ok-clause-stay g c = c.in-Ok.ensures.stay
+
+pub returns-in-Ok-clause-ok : goal.returns-in-Ok-clause-ok
+returns-in-Ok-clause-ok g c = rw (c.look_at_readers.ensures.flow ∙ c.look_at.ensures.flow) c.in-Ok.ensures.ok
+
+pub returns-in-Ok-clause-cost : goal.returns-in-Ok-clause-cost
+returns-in-Ok-clause-cost g c = rw (c.look_at_readers.ensures.flow ∙ c.look_at.ensures.flow) c.in-Ok.ensures.cost
+
+pub returns-in-Ok-clause-measure : goal.returns-in-Ok-clause-measure
+returns-in-Ok-clause-measure g c = rw (c.look_at_readers.ensures.flow ∙ c.look_at.ensures.flow) c.in-Ok.ensures.measure
+
+pub train-requires-clause-flow : goal.train-requires-clause-flow
+train-requires-clause-flow g c = c.requires.engine.flow
+
+pub train-requires-clause-together : goal.train-requires-clause-together
+train-requires-clause-together g c = c.requires.together
+
+pub train-requires-clause-some : goal.train-requires-clause-some
+train-requires-clause-some g c = c.requires.some
+
+pub train-requires-clause-actor_in : goal.train-requires-clause-actor_in
+train-requires-clause-actor_in g c = subst (λ (n : ℕ). c.seat_number-place.result ≤ n) c.requires.engine.flow.shaped.replay_is c.seat_number-place.ensures.within
+
+pub look_at-requires-clause-flow : goal.look_at-requires-clause-flow
+look_at-requires-clause-flow g c = c.in-Ok.ensures.ok.flow_after
+
+pub look_at_readers-requires-clause-flow : goal.look_at_readers-requires-clause-flow
+look_at_readers-requires-clause-flow g c = rw c.look_at.ensures.flow c.in-Ok.ensures.ok.flow_after

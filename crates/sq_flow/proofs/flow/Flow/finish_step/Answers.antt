@@ -8,6 +8,7 @@ use Rattle.sq_flow.proofs.CauseLemmas.{cause-in, counts-none, feeds-none}
 use Rattle.sq_flow.proofs.Measures.{open-less}
 use Rattle.sq_flow.proofs.FinishedFlow.{seat-fine, runs, own-drops, finished-part, finished-stepped, finished-taken, finished-touches}
 use Rattle.sq_flow.proofs.EventLemmas.{below-outputs}
+use Rattle.sq_flow.proofs.ReleasedPlans.{plans-stay}
 use Rattle.sq_flow.proofs.TookLemmas.{ended-sum, operator-took, is-closed}
 use Rattle.sq_flow.proofs.flow.Flow.finish_step.Goals as goal
 use Rattle.sq_words.proofs.Lists.{get_set_same, get_set_other}
@@ -101,3 +102,47 @@ returns-in_err-finish_into-clause-stay g c = c.in_err-finish_into.ensures.part.s
 
 pub returns-clause-stay : goal.returns-clause-stay
 returns-clause-stay g c = c.in_ok-finish_into.ensures.finished.onward.shown.stay
+
+pub returns-clause-closes : goal.returns-clause-closes
+returns-clause-closes g c = λ table agrees. agrees
+
+pub returns-clause-faults : goal.returns-clause-faults
+returns-clause-faults g c = c.in_ok-finish_into.ensures.faults
+
+pub returns-clause-later : goal.returns-clause-later
+returns-clause-later g c = c.in_ok-finish_into.ensures.later
+
+pub returns-in_err-finish_into-clause-closes : goal.returns-in_err-finish_into-clause-closes
+returns-in_err-finish_into-clause-closes g c = λ table agrees. agrees
+
+pub returns-in_err-finish_into-clause-faults : goal.returns-in_err-finish_into-clause-faults
+returns-in_err-finish_into-clause-faults g c = c.in_err-finish_into.ensures.faults
+
+pub returns-in_err-finish_into-clause-later : goal.returns-in_err-finish_into-clause-later
+returns-in_err-finish_into-clause-later g c = c.in_err-finish_into.ensures.later
+
+pub returns-in_err-finish_into-clause-plans : goal.returns-in_err-finish_into-clause-plans
+returns-in_err-finish_into-clause-plans g c =
+    let p = err_from_is_err_and c.from_residual.result c.from_residual.ensures.1 in
+    rw p.1 (plans-stay c.args.self.now c.args.events.now.items c.finish_into.new.events.items c.in_err-finish_into.ensures.part.shown.plans)
+
+pub finish_into-requires-clause-within : goal.finish_into-requires-clause-within
+finish_into-requires-clause-within g c = omega (arith, c.requires.actor_in, c.requires.flow.shaped.readers_len)
+
+pub finish_into-requires-clause-shown : goal.finish_into-requires-clause-shown
+finish_into-requires-clause-shown g c = λ past port. c.requires.flow.shaped.outputs_end c.args.actor port past c.requires.actor_in
+
+pub finish_into-requires-clause-together : goal.finish_into-requires-clause-together
+finish_into-requires-clause-together g c = c.requires.together
+
+pub finish_into-requires-clause-is_valid : goal.finish_into-requires-clause-is_valid
+finish_into-requires-clause-is_valid g c =
+    let is = slice_get_read c.args.self.now.seats.items _ c.args.actor c.index_mut.result.now refl c.requires.actor_in c.index_mut.ensures.value in
+    let fine = seat-fine _ c.args.self.now c.requires.flow c.args.actor c.requires.actor_in c.requires.head c.index_mut.result.now is in
+    (fine.arcs.is_valid, runs _ c.args.self.now c.requires.flow c.args.actor c.requires.actor_in c.requires.head c.index_mut.result.now is c.requires.running)
+
+pub end_arcs-requires-clause-few : goal.end_arcs-requires-clause-few
+end_arcs-requires-clause-few g c = c.requires.flow.shaped.few_arcs
+
+pub end_arcs-requires-clause-lanes : goal.end_arcs-requires-clause-lanes
+end_arcs-requires-clause-lanes g c = c.in_ok-finish_into.ensures.finished.onward.sent.lanes ∙ c.requires.flow.lanes

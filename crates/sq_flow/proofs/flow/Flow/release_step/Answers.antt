@@ -1,6 +1,7 @@
 use Rattle.std.proofs.Common.{◌≡◌, ℕ, ◌+◌, ◌-◌, ◌/◌, ◌≤◌, ◌<◌, List, [], ◌∷◌, Some, length, set, le_refl, refl, ap, sym, subst, arith, false}
 use Rattle.std.specs.Prelude.{slice_get}
 use Rattle.std.specs.Vec.{with_item}
+use Rattle.std.proofs.Math.Nat.{div-le_self}
 use Rattle.std.proofs.lemmas.Option.{slice_get_read, get_or_from_slice_get}
 use Rattle.std.proofs.lemmas.Result.{err_from_is_err_and}
 use Rattle.sq_value.specs.declared.Tuple.{Tuple}
@@ -14,7 +15,7 @@ use Rattle.sq_flow.specs.Sources.{BeginsLeast, IsNextSource}
 use Rattle.sq_flow.proofs.WireLemmas.{arcs-open}
 use Rattle.sq_flow.proofs.PlanLemmas.{few-each}
 use Rattle.sq_flow.proofs.CauseLemmas.{cause-in, counts-none, feeds-none}
-use Rattle.sq_flow.proofs.ReleasedPlans.{ClosedBefore, agrees-before, not-before, mid-len, plans-front, plans-none, plans-stay}
+use Rattle.sq_flow.proofs.ReleasedPlans.{ClosedBefore, agrees-before, in-time, sound, not-before, closed-len, closed-low, mid-len, plans-front, plans-none, plans-stay}
 use Rattle.sq_flow.proofs.ReplayFlow.{replay-open, replay-runs, item-sound, released-stepped, released-touches, lines-stay, count-less}
 use Rattle.sq_flow.proofs.TookLemmas.{replay-took}
 use Rattle.sq_flow.proofs.flow.Flow.release_step.Goals as goal
@@ -280,3 +281,76 @@ close_before-requires-clause-later g c =
     let pos : 0 < c.args.self.now.levels.epoch = omega (arith, c.epoch.ensures.epoch, c.epoch.ensures.lasts) in
     subst (λ (n : ℕ). c.args.self.now.levels.closed ≤ c.in_ok-tuple.tuple.time / n + 1) (sym c.epoch.ensures.epoch)
     (not-before _ c.args.self.now c.requires.flow pos c.args.source c.index_mut.result.now c.first_of.new.stream c.in_ok-tuple.tuple c.requires.next at c.in_ok-tuple.ensures.ok)
+
+pub index_mut-requires : goal.index_mut-requires
+index_mut-requires g c = omega (arith, c.requires.next.there, c.args.self.now.sources.ok.0)
+
+pub index_mut-requires-2 : goal.index_mut-requires-2
+index_mut-requires-2 g c =
+    let len = closed-len _ c.args.self.now.counts.items c.close_before.new.counts.items c.in_ok-close_before.ensures.counts in
+    omega (arith, len, c.requires.flow.replay.counted, c.requires.next.there, c.close_before.new.counts.ok.0)
+
+pub send_one-requires-clause-together : goal.send_one-requires-clause-together
+send_one-requires-clause-together g c = c.requires.together
+
+pub send_one-requires-clause-within : goal.send_one-requires-clause-within
+send_one-requires-clause-within g c = let many = c.requires.flow.shaped.readers_len in let replay = c.requires.flow.shaped.replay_is in omega (arith, many, replay)
+
+pub overflow_add-index_mut : goal.overflow_add-index_mut
+overflow_add-index_mut g c =
+    let len = closed-len _ c.args.self.now.counts.items c.close_before.new.counts.items c.in_ok-close_before.ensures.counts in
+    let within : c.args.source < length c.close_before.new.counts.items = omega (arith, len, c.requires.flow.replay.counted, c.requires.next.there) in
+    let read = get_or_from_slice_get c.close_before.new.counts.items c.args.source c.index_mut-2.result.now 0
+    (slice_get_read c.close_before.new.counts.items _ c.args.source c.index_mut-2.result.now refl within c.index_mut-2.ensures.value) in
+    let low = closed-low _ c.args.self.now.counts.items c.close_before.new.counts.items c.in_ok-close_before.ensures.counts c.args.source in
+    let few = c.requires.flow.replay.few_tuples c.args.source in
+    record { fits = omega (arith, read, low, few) }
+
+pub close_before-requires-clause-fits : goal.close_before-requires-clause-fits
+close_before-requires-clause-fits g c =
+    let sources = c.args.self.now.sources.items in
+    let at = slice_get_read sources _ c.args.source c.index_mut.result.now refl c.requires.next.there c.index_mut.ensures.value in
+    let pos : 0 < c.args.self.now.levels.epoch = omega (arith, c.epoch.ensures.epoch, c.epoch.ensures.lasts) in
+    let low = (in-time _ c.args.self.now c.requires.flow pos c.args.source c.index_mut.result.now c.first_of.new.stream c.in_ok-tuple.tuple c.requires.next at c.in_ok-tuple.ensures.ok).1 in
+    omega (arith, low, div-le_self c.in_ok-tuple.tuple.time c.epoch.result)
+
+pub nonzero_div-next : goal.nonzero_div-next
+nonzero_div-next g c = c.epoch.ensures.lasts
+
+pub returns-in_err-tuple-clause-ok : goal.returns-in_err-tuple-clause-ok
+returns-in_err-tuple-clause-ok g c = let p = err_from_is_err_and c.from_residual.result c.from_residual.ensures.1 in rw p.1 tt
+
+pub returns-in_err-tuple-clause-touches : goal.returns-in_err-tuple-clause-touches
+returns-in_err-tuple-clause-touches g c = let p = err_from_is_err_and c.from_residual.result c.from_residual.ensures.1 in rw p.1 tt
+
+pub returns-in_err-tuple-clause-taken : goal.returns-in_err-tuple-clause-taken
+returns-in_err-tuple-clause-taken g c = let p = err_from_is_err_and c.from_residual.result c.from_residual.ensures.1 in rw p.1 tt
+
+pub returns-in_err-tuple-clause-measure : goal.returns-in_err-tuple-clause-measure
+returns-in_err-tuple-clause-measure g c = let p = err_from_is_err_and c.from_residual.result c.from_residual.ensures.1 in rw p.1 tt
+
+pub returns-in_err-tuple-clause-took : goal.returns-in_err-tuple-clause-took
+returns-in_err-tuple-clause-took g c = let p = err_from_is_err_and c.from_residual.result c.from_residual.ensures.1 in rw p.1 tt
+
+pub returns-in_err-close_before-clause-ok : goal.returns-in_err-close_before-clause-ok
+returns-in_err-close_before-clause-ok g c = let p = err_from_is_err_and c.from_residual-in_err-close_before.result c.from_residual-in_err-close_before.ensures.1 in rw p.1 tt
+
+pub returns-in_err-close_before-clause-touches : goal.returns-in_err-close_before-clause-touches
+returns-in_err-close_before-clause-touches g c = let p = err_from_is_err_and c.from_residual-in_err-close_before.result c.from_residual-in_err-close_before.ensures.1 in rw p.1 tt
+
+pub returns-in_err-close_before-clause-taken : goal.returns-in_err-close_before-clause-taken
+returns-in_err-close_before-clause-taken g c = let p = err_from_is_err_and c.from_residual-in_err-close_before.result c.from_residual-in_err-close_before.ensures.1 in rw p.1 tt
+
+pub returns-in_err-close_before-clause-measure : goal.returns-in_err-close_before-clause-measure
+returns-in_err-close_before-clause-measure g c = let p = err_from_is_err_and c.from_residual-in_err-close_before.result c.from_residual-in_err-close_before.ensures.1 in rw p.1 tt
+
+pub returns-in_err-close_before-clause-took : goal.returns-in_err-close_before-clause-took
+returns-in_err-close_before-clause-took g c = let p = err_from_is_err_and c.from_residual-in_err-close_before.result c.from_residual-in_err-close_before.ensures.1 in rw p.1 tt
+
+pub some-requires : goal.some-requires
+some-requires g c =
+    let sources = c.args.self.now.sources.items in
+    let at = slice_get_read sources _ c.args.source c.index_mut.result.now refl c.requires.next.there c.index_mut.ensures.value in
+    let pos : 0 < c.args.self.now.levels.epoch = omega (arith, c.epoch.ensures.epoch, c.epoch.ensures.lasts) in
+    let low = (sound _ c.args.self.now c.requires.flow pos c.args.source c.index_mut.result.now c.first_of.new.stream c.in_ok-tuple.tuple c.requires.next at c.in_ok-tuple.ensures.ok).1 in
+    omega (arith, low)

@@ -1,14 +1,14 @@
-use Rattle.std.proofs.Common.{◌≡◌, subst, arith, inr, sym, true, false}
+use Rattle.std.proofs.Common.{◌≡◌, le_refl, le_trans, refl, subst, arith, inl, inr, sym, true, false}
 use Rattle.sq_pool.specs.Trust.{known}
-use Rattle.sq_pool.proofs.TrustLemmas.{IsLater-trans}
+use Rattle.sq_pool.proofs.TrustLemmas.{IsLater-refl, IsLater-trans}
 use Rattle.sq_flow.specs.Flows.{Lowers, measure_of}
 use Rattle.sq_flow.specs.Readiness.{IsReady, WaitsOnly, Took, TookBy}
-use Rattle.sq_flow.proofs.StepLemmas.{stepped-both, prefix-after, plans-after, none-strange-after, costs-after, costs-most-after, too-much-after}
+use Rattle.sq_flow.proofs.StepLemmas.{stepped-none, stepped-both, prefix-after, plans-after, none-strange-after, costs-after, costs-most-after, too-much-after}
 use Rattle.sq_flow.proofs.CauseLemmas.{cause-since}
-use Rattle.sq_flow.proofs.TouchLemmas.{touches-both}
+use Rattle.sq_flow.proofs.TouchLemmas.{touches-none, touches-both}
 use Rattle.sq_flow.proofs.TookLemmas.{took-both, took-last}
 use Rattle.sq_flow.proofs.flow.Flow.train.Goals as goal
-use Rattle.sq_words.proofs.Prefixes.{prefix_along}
+use Rattle.sq_words.proofs.Prefixes.{prefix_along, prefix_itself}
 
 pub returns-in-Err-clause-prefix : goal.returns-in-Err-clause-prefix
 returns-in-Err-clause-prefix g c =
@@ -125,3 +125,90 @@ returns-in-Waits-clause-later g c = IsLater-trans _ _ _ c.steps.invariant.later 
 
 pub returns-in-Finished-clause-later : goal.returns-in-Finished-clause-later
 returns-in-Finished-clause-later g c = IsLater-trans _ _ _ c.steps.invariant.later c.in-Ok.ensures.later
+
+pub one_step-requires-clause-flow : goal.one_step-requires-clause-flow
+one_step-requires-clause-flow g c = c.steps.invariant.stepped.flow_after
+
+pub one_step-requires-clause-together : goal.one_step-requires-clause-together
+one_step-requires-clause-together g c = c.steps.invariant.stepped.together
+
+pub one_step-requires-clause-actor_in : goal.one_step-requires-clause-actor_in
+one_step-requires-clause-actor_in g c = omega (arith, c.requires.actor_in, c.steps.invariant.stepped.seats)
+
+pub returns-clause-ok : goal.returns-clause-ok
+returns-clause-ok g c = c.steps.invariant.stepped
+
+pub returns-clause-closes : goal.returns-clause-closes
+returns-clause-closes g c = c.steps.invariant.stepped.closes
+
+pub returns-clause-most : goal.returns-clause-most
+returns-clause-most g c = c.steps.invariant.few
+
+pub returns-clause-touches : goal.returns-clause-touches
+returns-clause-touches g c = c.steps.invariant.touches
+
+pub returns-clause-cost : goal.returns-clause-cost
+returns-clause-cost g c = c.steps.invariant.cost
+
+pub returns-clause-later : goal.returns-clause-later
+returns-clause-later g c = c.steps.invariant.later
+
+pub returns-clause-faults : goal.returns-clause-faults
+returns-clause-faults g c = c.steps.invariant.faults
+
+pub returns-clause-stay : goal.returns-clause-stay
+returns-clause-stay g c = c.steps.invariant.stay
+
+pub returns-clause-took : goal.returns-clause-took
+returns-clause-took g c = c.steps.invariant.took
+
+pub returns-clause-measure : goal.returns-clause-measure
+returns-clause-measure g c = let falls = c.steps.invariant.falls in omega (arith, falls)
+
+pub returns-in-Err-clause-faults : goal.returns-in-Err-clause-faults
+returns-in-Err-clause-faults g c = le_trans c.steps.invariant.faults c.in-Err.ensures.faults
+
+pub returns-in-Waits-clause-faults : goal.returns-in-Waits-clause-faults
+returns-in-Waits-clause-faults g c = le_trans c.steps.invariant.faults c.in-Ok.ensures.faults
+
+pub returns-in-Finished-clause-faults : goal.returns-in-Finished-clause-faults
+returns-in-Finished-clause-faults g c = le_trans c.steps.invariant.faults c.in-Ok.ensures.faults
+
+pub returns-in-Waits-clause-most : goal.returns-in-Waits-clause-most
+returns-in-Waits-clause-most g c = c.steps.invariant.few
+
+pub returns-in-Waits-clause-measure : goal.returns-in-Waits-clause-measure
+returns-in-Waits-clause-measure g c =
+    let falls = c.steps.invariant.falls in
+    let less = subst (λ d. Lowers d (measure_of c.steps.self) (measure_of c.one_step.new.self)) c.in-Waits.is c.in-Ok.ensures.measure in
+    omega (arith, falls, less)
+
+pub returns-in-Finished-clause-most : goal.returns-in-Finished-clause-most
+returns-in-Finished-clause-most g c = c.steps.invariant.few
+
+pub returns-in-Finished-clause-measure : goal.returns-in-Finished-clause-measure
+returns-in-Finished-clause-measure g c =
+    let falls = c.steps.invariant.falls in
+    let less = subst (λ d. Lowers d (measure_of c.steps.self) (measure_of c.one_step.new.self)) c.in-Finished.is c.in-Ok.ensures.measure in
+    omega (arith, falls, less)
+
+pub returns-in-Finished-clause-stops : goal.returns-in-Finished-clause-stops
+returns-in-Finished-clause-stops g c = inr (inl refl)
+
+pub returns-in-Finished-clause-works : goal.returns-in-Finished-clause-works
+returns-in-Finished-clause-works g c = λ ready none. refl
+
+pub steps-init : goal.steps-init
+steps-init g c =
+    record {
+      stepped = stepped-none _ (known (g.D.PageDisk.log c.args.disk.now)) c.args.self.now c.args.events.now.items c.requires.flow c.requires.together;
+      touches = touches-none c.args.actor c.args.self.now;
+      cost = refl;
+      falls = omega arith;
+      begun = λ none. refl;
+      stay = prefix_itself c.args.events.now.items;
+      took = λ running. record { falls = omega arith; done = sym running };
+      few = omega arith;
+      later = IsLater-refl _;
+      faults = le_refl _;
+    }
