@@ -1,5 +1,5 @@
 -- The entries of a map in the order of their groups: what stays of a look-up, and what becomes of them where the map changes.
-use Rattle.std.proofs.Common.{◌≡◌, ◌∙◌, refl, sym, ap, ap₂, subst, Bool, true, false, true≢false, cond, List, [], ◌∷◌, map, Some, None, Ordering, Less, Equal, Greater, Bor}
+use Rattle.std.proofs.Common.{◌≡◌, ◌∙◌, refl, sym, ap, ap₂, subst, Bool, true, false, true≢false, cond, List, [], ◌∷◌, length, map, Some, None, Ordering, Less, Equal, Greater, Bor}
 use Rattle.std.specs.Prelude.{if◌then◌else◌}
 use Rattle.std.specs.Ordering.{match_ordering, is_eq, is_lt, ordering_reverse, eq_by_cmp}
 use Rattle.std.specs.Map.{keys_of, lookup, set_value}
@@ -13,12 +13,12 @@ use Rattle.std.proofs.lemmas.List.Sorted.{ranks_by}
 use Rattle.indexmap.specs.IndexMap.{insert_entry as hashed_entry}
 use Rattle.sq_words.specs.Lists.{insert_by, sort_by}
 use Rattle.sq_words.proofs.Bools.{is_eq_true}
-use Rattle.sq_words.proofs.Sorting.{sorted_is, sort_map}
+use Rattle.sq_words.proofs.Sorting.{length_sort, sorted_is, sort_map}
 use Rattle.sq_value.specs.declared.Value.{Value}
 use Rattle.sq_value.specs.Values.{fields_cmp}
 use Rattle.sq_value.proofs.ValueOrder.{fields_order, fields_same}
 use Rattle.sq_aggfn.proofs.KeyedLemmas.{Ascends}
-use Rattle.sq_groups.specs.Ordered.{is_at, in_order, group_earlier}
+use Rattle.sq_groups.specs.Ordered.{is_at, in_order, group_earlier, StandsInOrder}
 
 abbrev Entries : Type 0 → Type 0
 Entries V = List (List Value × V)
@@ -111,6 +111,21 @@ module _ {V : Type 0} where
   pub in_order_sorted : (es : Entries V) → IsStrictlySortedBy fields_cmp (keys_of (in_order es))
   in_order_sorted es = keys-sorted (in_order es) (in_order_ascends es)
 
+  put-front : (k : List Value) (w : V) (es : Entries V) → Above k es → put es k w ≡ (k, w) ∷ es
+  put-front k w [] all = refl
+  put-front k w (e ∷ es) all = put-before k w e es all.0
+
+  -- what ascends stands in order
+  pub ascends_in_order : (es : Entries V) → Ascends fields_cmp fields_order es → in_order es ≡ es
+  ascends_in_order [] up = refl
+  ascends_in_order (e ∷ es) up = ap (λ l. put l e.0 e.1) (ascends_in_order es up.1) ∙ put-front e.0 e.1 es up.0
+
+  ascends-from : (es : Entries V) → in_order es ≡ es → Ascends fields_cmp fields_order es
+  ascends-from es same = subst (Ascends fields_cmp fields_order) same (in_order_ascends es)
+
+  pub in_order_again : (es : Entries V) → in_order (in_order es) ≡ in_order es
+  in_order_again es = ascends_in_order (in_order es) (in_order_ascends es)
+
 -- a look-up finds the same
 module _ {V : Type 0} (g : List Value) where
   lookup-put : (k : List Value) (v : V) (es : Entries V) → lookup (is_at g) (put es k v) ≡ cond (is_at g k) (Some v) (lookup (is_at g) es)
@@ -188,6 +203,9 @@ module _ {V : Type 0} (g : List Value) (w : V) where
       by true t ih = ap in_order (set-here e es t) ∙ sym (set-own e.0 e.1 t (in_order es))
       by false f ih = ap in_order (set-past e es f) ∙ ap (λ l. put l e.0 e.1) ih ∙ sym (set-other e.0 e.1 f (in_order es))
 
+  pub stands_set : (sorted : Bool) (es : Entries V) → StandsInOrder sorted es → StandsInOrder sorted (set_value (is_at g) es w)
+  stands_set sorted es stands so = set_in_order es ∙ ap (λ l. set_value (is_at g) l w) (stands so)
+
 -- two entries put one after the other
 module _ {V : Type 0} where
   swap-less : (a : List Value) (v : V) (b : List Value) (w : V) → fields_cmp a b ≡ Less → (es : Entries V) → put (put es a v) b w ≡ put (put es b w) a v
@@ -261,9 +279,13 @@ module _ {V : Type 0} (R : List Value → V → Bool → V → Type 0) where
       by true ih = (all.0, ih)
       by false ih = ih
 
-  put-front : (k : List Value) (w : V) (es : Entries V) → Above k es → put es k w ≡ (k, w) ∷ es
-  put-front k w [] all = refl
-  put-front k w (e ∷ es) all = put-before k w e es all.0
+  kept-ascends : (es kept : Entries V) → Ascends fields_cmp fields_order es → Keeps es kept → Ascends fields_cmp fields_order kept
+  kept-ascends [] kept up r = subst (Ascends fields_cmp fields_order) (sym r) tt
+  kept-ascends (e ∷ es) kept up r = subst (Ascends fields_cmp fields_order) (sym r.5) (by r.0 (kept-ascends es r.2 up.1 r.4))
+    where
+      by : (b : Bool) → Ascends fields_cmp fields_order r.2 → Ascends fields_cmp fields_order (cond b ((e.0, r.1) ∷ r.2) r.2)
+      by true ih = (kept-above e.0 es r.2 r.4 up.0, ih)
+      by false ih = ih
 
   kept-put : (k : List Value) (v : V) (b : Bool) (w : V) → R k v b w → (es kept : Entries V) → Ascends fields_cmp fields_order es → lookup (is_at k) es ≡ None → Keeps es kept
       → Keeps (put es k v) (cond b (put kept k w) kept)
@@ -293,6 +315,14 @@ module _ {V : Type 0} (R : List Value → V → Bool → V → Type 0) where
       split true = refl
       split false = refl
 
+-- what stays of entries in order stands in order
+module _ {V F : Type 0} (T : F → List Value → V → Bool → V → F → Type 0) where
+  pub kept_stands : (f : F) (es kept : Entries V) → in_order es ≡ es → RetainsPairs T f es kept → in_order kept ≡ kept
+  kept_stands f es kept same r =
+      let R : List Value → V → Bool → V → Type 0 = λ k v b w. Unit {0} in
+      let keeps = keeps_from R T (λ f. Unit {0}) (λ f k v b w f' i t. (tt, tt)) f es kept tt r in
+      ascends_in_order kept (kept-ascends R es kept (ascends-from es same) keeps)
+
 -- what a stable sort gives
 module _ {V : Type 0} where
   put-sorted : (k : List Value) (v : V) (es : Entries V) → lookup (is_at k) es ≡ None → put es k v ≡ insert_by group_earlier (k, v) es
@@ -311,6 +341,15 @@ module _ {V : Type 0} where
   sorted_in_order (e ∷ es) apart =
       ap (insert_by group_earlier e) (sorted_in_order es apart.1)
       ∙ sym (put-sorted e.0 e.1 (in_order es) (lookup_in_order e.0 es ∙ absent e.0 es apart.0))
+
+  pub length_in_order : (es : Entries V) → IsDistinct (eq_by_cmp fields_cmp) (keys_of es) → length (in_order es) ≡ length es
+  length_in_order es apart = ap length (sym (sorted_in_order es apart)) ∙ length_sort group_earlier es
+
+  pub groups_order : IsStrictWeakOrder (group_earlier {V = V})
+  groups_order = ranks_by fields_order (λ (x : List Value × V). x.0)
+
+  pub held_sorted : (xs ys : Entries V) → IsDistinct (eq_by_cmp fields_cmp) (keys_of xs) → IsSortedBy group_earlier ys → IsStableBy group_earlier xs ys → ys ≡ in_order xs
+  held_sorted xs ys apart up stable = sorted_is group_earlier groups_order xs ys up stable ∙ sorted_in_order xs apart
 
 -- a stable sort of entries by reference
 module _ {V : Type 0} where

@@ -1,6 +1,6 @@
 //! The map.
 
-ghost use Rattle.std.specs.Prelude.{◌≡◌, List, [], map, None, OnOk, OnErr, IfOk};
+ghost use Rattle.std.specs.Prelude.{◌≡◌, List, [], length, map, None, OnOk, OnErr, IfOk};
 ghost use Rattle.std.specs.BTreeMap.{insert_entry};
 ghost use Rattle.std.specs.List.{IsDistinct};
 ghost use Rattle.std.specs.List.Sorted.{IsStrictlySortedBy};
@@ -11,7 +11,7 @@ ghost use Rattle.std.specs.Ordering.{eq_by_cmp};
 ghost use Rattle.sq_words.specs.Lists.{sort_by};
 ghost use Rattle.sq_value.specs.declared.Value.{Value as Datum};
 ghost use Rattle.sq_value.specs.Values.{fields_cmp};
-ghost use Rattle.sq_groups.specs.Ordered.{group_earlier, in_order, is_at};
+ghost use Rattle.sq_groups.specs.Ordered.{group_earlier, in_order, is_at, StandsInOrder};
 
 use crate::key::Key;
 use crate::picked::Picked;
@@ -20,19 +20,25 @@ use std::alloc::{AllocError, Global};
 use std::marker::Model;
 
 /// A value for each group that is there. Contracts see the groups with their values, in the order of groups.
+///
+/// Groups mostly stay from window to window, so their order is found once and kept: while `sorted` holds, the entries stand
+/// in it, and nobody has to sort them.
 #[derive(Drop)]
 pub struct GroupMap<V> {
     held: IndexMap<Key, V>,
+    sorted: bool,
 }
 
 impl<V> Model for GroupMap<V> {
     ghost use Rattle.std.specs.Prelude.{List};
     ghost use Rattle.sq_value.specs.declared.Value.{Value as Datum};
-    ghost use Rattle.sq_groups.specs.Ordered.{in_order};
+    ghost use Rattle.sq_groups.specs.Ordered.{in_order, StandsInOrder};
 
     ghost Value = { List (List Datum × V) };
 
     ghost view = { λ m. in_order m.held.entries };
+
+    ghost invariant = { λ m. StandsInOrder m.sorted m.held.entries };
 }
 
 /// All entries, as they stand.
@@ -57,6 +63,23 @@ fn sort_entries<V>(entries: &mut Vec<(&Key, &V)>) -> Result<(), AllocError>
     entries.sort_by(|a, b| a.0.cmp(b.0))
 }
 
+/// Puts the entries of a map into the order of groups, unless they stand in it, and says whether they do now. For want of
+/// memory they stay as they stand.
+fn sort_held<V>(held: &mut IndexMap<Key, V>, sorted: bool) -> bool
+    ensures same { in_order held.new.entries ≡ in_order held.old.entries }
+    ensures order { StandsInOrder sorted held.old.entries → StandsInOrder result held.new.entries }
+{
+    if sorted {
+        return true;
+    }
+    // The length is what says that no group stands twice.
+    let _count = held.len();
+    match held.sort_by(|a, _, b, _| a.cmp(b)) {
+        Ok(()) => true,
+        Err(_) => false,
+    }
+}
+
 impl<V> GroupMap<V> {
     /// No group.
     pub fn new(alloc: Global) -> GroupMap<V>
@@ -64,11 +87,13 @@ impl<V> GroupMap<V> {
     {
         GroupMap {
             held: IndexMap::new(alloc),
+            sorted: true,
         }
     }
 
     /// How many groups.
     pub fn len(&self) -> usize
+        ensures count { result ≡ length self.now }
         ensures ordered { IsStrictlySortedBy fields_cmp (keys_of self.now) }
     {
         self.held.len()
@@ -80,6 +105,9 @@ impl<V> GroupMap<V> {
         ensures ordered { IfOk result (λ es. IsStrictlySortedBy fields_cmp (keys_of self.now)) }
     {
         let mut entries = entries_of(alloc, &self.held)?;
+        if self.sorted {
+            return Ok(entries);
+        }
         sort_entries(&mut entries)?;
         Ok(entries)
     }
@@ -120,15 +148,18 @@ impl<V: Drop> GroupMap<V> {
         ensures err { OnErr result (self.new ≡ self.old) }
     {
         self.held.insert(key, value)?;
+        self.sorted = false;
         Ok(())
     }
 
-    /// Keeps the groups for which `keep` returns `true`. It is asked of them in any order.
+    /// Keeps the groups for which `keep` returns `true`. It is asked of them in any order. Where their order isn't known, they
+    /// are put into it first, so that it is known until another group comes.
     pub fn retain<F: FnMut(&Key, &mut V) -> bool>(&mut self, keep: F)
         requires { (state : F) (k : List Datum) (v : V) → TakesPair F.FnMut state k v }
         ensures kept { (es : List (List Datum × V)) × (kept : List (List Datum × V)) × (self.old ≡ in_order es) × (self.new ≡ in_order kept)
             × IsDistinct (eq_by_cmp fields_cmp) (keys_of es) × RetainsPairs (CalledAtPair F.FnMut) keep es kept }
     {
+        self.sorted = sort_held(&mut self.held, self.sorted);
         // The length is what says that no group stands twice.
         let _count = self.held.len();
         self.held.retain(keep);
@@ -139,5 +170,6 @@ impl<V: Drop> GroupMap<V> {
         ensures empty { self.new ≡ [] }
     {
         self.held.clear();
+        self.sorted = true;
     }
 }

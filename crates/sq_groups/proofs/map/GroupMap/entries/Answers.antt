@@ -14,3 +14,6 @@ returns-clause-entries g c =
 
 pub returns-clause-ordered : goal.returns-clause-ordered
 returns-clause-ordered g c = subst (λ es. IsStrictlySortedBy fields_cmp (keys_of es)) c.self.view_is (in_order_sorted c.self.inside.held.entries)
+
+pub returns-then-self-clause-ordered : goal.returns-then-self-clause-ordered
+returns-then-self-clause-ordered g c = subst (λ es. IsStrictlySortedBy fields_cmp (keys_of es)) c.self.view_is (in_order_sorted c.self.inside.held.entries)
