@@ -1,7 +1,7 @@
 -- Blocks: what stays of them, and what a window takes of them.
 use Rattle.std.proofs.Common.{◌≡◌, ℕ, zero, suc, ◌+◌, ◌-◌, ◌*◌, ◌<◌, ◌≤◌, length, length-drop, get_or, take, drop, List, [], ◌∷◌, ◌++◌, Bool, true, false, cond, Option, Some, None, Result, Ok, Err, OnOk, OnErr, refl, ap, ap₂, sym, ◌∙◌, subst, Ordering, Less, Equal, Greater, nat_cmp, arith, tests}
 use Rattle.std.proofs.Math.Seq.{drop-nil}
-use Rattle.std.proofs.lemmas.List.{drop_more, get_or-drop}
+use Rattle.std.proofs.lemmas.List.{drop_more, get_or-drop, get_or_default}
 use Rattle.std.specs.Prelude.{if◌then◌else◌, nat_lt, nat_le, ◌&&◌, unwrap_or}
 use Rattle.std.specs.Ordering.{match_ordering}
 use Rattle.std.specs.List.{AllByRecursion, filter, remove}
@@ -226,6 +226,51 @@ module _ (w : WindowSpec) (width start : ℕ) where
       later : (h : ℕ × M) → e.0 < h.0 → low ≤ h.0 * width
       later h less = (let le = times-le e.0 h.0 width less in let from = own in omega (arith, le, from))
 
+  row-covered : {M : Type 0} (n : ℕ) (es : List (ℕ × M)) → NumbersRise es → n ≤ length es → ((d : ℕ × M) → 0 < n → within w width start (get_or es 0 d).0 ≡ true) → ((d : ℕ × M) → 0 < n → within w width start (get_or es (n - 1) d).0 ≡ true)
+      → AllByRecursion (λ e. within w width start e.0 ≡ true) (take n es)
+  row-covered zero es up le a b = tt
+  row-covered (suc n) [] up le a b = absurd (omega (arith, le))
+  row-covered {M} (suc n) (e ∷ es) up le a b =
+      let last = get_or (e ∷ es) n e in
+      let before : suc n - 1 ≡ n = omega arith in
+      let inside : n < length (e ∷ es) = omega (arith, le) in
+      between n (e ∷ es) e last up inside refl (get_or_default (e ∷ es) n e last inside) (a e (omega arith)) (subst (λ k. within w width start (get_or (e ∷ es) k e).0 ≡ true) before (b e (omega arith)))
+
+  -- between two places all are, where the first and the last are
+  pub covered_between : {M : Type 0} (at end : ℕ) (es : List (ℕ × M)) → NumbersRise es → at ≤ end → end ≤ length es → ((d : ℕ × M) → at < end → within w width start (get_or es at d).0 ≡ true)
+      → ((d : ℕ × M) → at < end → within w width start (get_or es (end - 1) d).0 ≡ true) → AllByRecursion (λ e. within w width start e.0 ≡ true) (take (end - at) (drop at es))
+  covered_between {M} at end es up order room a b =
+      let long = length-drop at es in
+      row-covered (end - at) (drop at es) (rises_drop at es up) (omega (arith, order, room, long)) first last
+    where
+      first : (d : ℕ × M) → 0 < end - at → within w width start (get_or (drop at es) 0 d).0 ≡ true
+      first d some =
+          let plain : at + 0 ≡ at = omega arith in
+          subst (λ (z : ℕ × M). within w width start z.0 ≡ true) (sym (get_or-drop at es 0 d ∙ ap (λ k. get_or es k d) plain)) (a d (omega (arith, some)))
+
+      last : (d : ℕ × M) → 0 < end - at → within w width start (get_or (drop at es) (end - at - 1) d).0 ≡ true
+      last d some =
+          let place : at + (end - at - 1) ≡ end - 1 = omega (arith, some) in
+          subst (λ (z : ℕ × M). within w width start z.0 ≡ true) (sym (get_or-drop at es (end - at - 1) d ∙ ap (λ k. get_or es k d) place)) (b d (omega (arith, some)))
+
+-- a window takes a row of states that it covers, one after another
+module _ {M : Type 0} (none : M) (join : M → M → M) (w : WindowSpec) (width start : ℕ) where
+  abbrev gives : Option M → List (ℕ × M) → Option M
+  gives o es = joined_within none join w width start o es
+
+  pass-run : (n : ℕ) (m : M) (es : List (ℕ × M)) → n ≤ length es → AllByRecursion (λ e. within w width start e.0 ≡ true) (take n es) → gives (Some m) es ≡ gives (Some (joined_onto join m (take n es))) (drop n es)
+  pass-run zero m es le all = refl
+  pass-run (suc n) m [] le all = absurd (omega (arith, le))
+  pass-run (suc n) m (e ∷ es) le all =
+      ap (λ b. gives (if b then Some (join m e.1) else Some m) es) all.0 ∙ pass-run n (join m e.1) es (omega (arith, le)) all.1
+
+  pub row_taken : (at end : ℕ) (m : M) (es : List (ℕ × M)) → at ≤ end → end ≤ length es → AllByRecursion (λ e. within w width start e.0 ≡ true) (take (end - at) (drop at es))
+      → gives (Some (joined_onto join m (take (end - at) (drop at es)))) (drop end es) ≡ gives (Some m) (drop at es)
+  row_taken at end m es order room all =
+      let long = length-drop at es in
+      ap (gives (Some (joined_onto join m (take (end - at) (drop at es))))) (drop_add at (end - at) end es (omega (arith, order)))
+      ∙ sym (pass-run (end - at) m (drop at es) (omega (arith, order, room, long)) all)
+
 -- a window takes a block whole
 module _ {M : Type 0} (shaped : M → Type 0) (none : M) (join : M → M → M) (shaped_join : (a b : M) → shaped a → shaped b → shaped (join a b))
     (assoc : (a b c : M) → shaped a → shaped b → shaped c → join (join a b) c ≡ join a (join b c)) (first : (a : M) → shaped a → join none a ≡ a) where
@@ -239,19 +284,13 @@ module _ {M : Type 0} (shaped : M → Type 0) (none : M) (join : M → M → M) 
     abbrev taken : Option M → List (ℕ × M) → Option M
     taken o es = joined_within none join w width start o es
 
-    pass-run : (n : ℕ) (m : M) (es : List (ℕ × M)) → n ≤ length es → AllByRecursion (λ e. within w width start e.0 ≡ true) (take n es) → taken (Some m) es ≡ taken (Some (joined_onto join m (take n es))) (drop n es)
-    pass-run zero m es le all = refl
-    pass-run (suc n) m [] le all = absurd (omega (arith, le))
-    pass-run (suc n) m (e ∷ es) le all =
-        ap (λ b. taken (if b then Some (join m e.1) else Some m) es) all.0 ∙ pass-run n (join m e.1) es (omega (arith, le)) all.1
-
     pub block_taken : (n : ℕ) (o : Option M) (es : List (ℕ × M)) → suc n ≤ length es → shaped (unwrap_or o none) → AllByRecursion (λ e. shaped e.1) es → AllByRecursion (λ e. within w width start e.0 ≡ true) (take (suc n) es)
         → taken o es ≡ taken (Some (join (unwrap_or o none) (joined_onto join none (take (suc n) es)))) (drop (suc n) es)
     block_taken n o [] le so all is = absurd (omega (arith, le))
     block_taken n o (e ∷ es) le so all is =
         let m = unwrap_or o none in
         ap (λ b. taken (if b then Some (join m e.1) else o) es) is.0
-        ∙ pass-run n (join m e.1) es (omega (arith, le)) is.1
+        ∙ pass-run none join w width start n (join m e.1) es (omega (arith, le)) is.1
         ∙ ap (λ x. taken (Some x) (drop n es))
         (sym (onto-join m e.1 (take n es) so all.0 (all_take (λ (e : ℕ × M). shaped e.1) n es all.1)) ∙ ap (λ x. join m (joined_onto join x (take n es))) (sym (first e.1 all.0)))
 

@@ -1,6 +1,6 @@
 //! The states of one group.
 
-ghost use Rattle.std.specs.Prelude.{◌≡◌, ℕ, ◌+◌, ◌-◌, ◌^◌, ◌<◌, ◌≤◌, nat_le, true, false, unwrap_or, [], length, take, drop, get_or, OnOk, OnErr, IfOk};
+ghost use Rattle.std.specs.Prelude.{◌≡◌, ℕ, ◌+◌, ◌-◌, ◌^◌, ◌<◌, ◌≤◌, nat_le, true, false, Option, unwrap_or, [], length, take, drop, get_or, OnOk, OnErr, IfOk};
 ghost use Rattle.std.specs.Ordering.{nat_cmp};
 ghost use Rattle.std.specs.List.{AllByRecursion, filter};
 ghost use Rattle.sq_aggfn.specs.KeyedStates.{added};
@@ -259,8 +259,8 @@ fn first_within<S>(
     requires room { to ≤ length states.now.items }
     ensures order { (from ≤ result) × (result ≤ to) }
     ensures covered { (d : ℕ × S) → result < to → within window width start (get_or states.now.items result d).0 ≡ true }
-    ensures before { (none : S) (join : S → S → S) → joined_within none join window width start None (drop result states.now.items)
-        ≡ joined_within none join window width start None (drop from states.now.items) }
+    ensures before { (none : S) (join : S → S → S) (o : Option S) → joined_within none join window width start o (drop result states.now.items)
+        ≡ joined_within none join window width start o (drop from states.now.items) }
 {
     for at in from..to {
         if is_within(window, width, shift, start, states[at].0) {
@@ -270,7 +270,60 @@ fn first_within<S>(
     to
 }
 
-/// Of some states in a row those that the window that starts at a tick covers are joined to a state, in place.
+/// The place behind the last of some states in a row that the window that starts at a tick covers; the row's start, where
+/// there is none.
+fn end_within<S>(
+    states: &VecDeque<(u64, S)>,
+    from: usize,
+    to: usize,
+    window: WindowSpec,
+    width: u64,
+    shift: u64,
+    start: u64,
+) -> usize
+    requires shift { shift ≡ shift_of window width }
+    requires order { from ≤ to }
+    requires room { to ≤ length states.now.items }
+    ensures order { (from ≤ result) × (result ≤ to) }
+    ensures covered { (d : ℕ × S) → from < result → within window width start (get_or states.now.items (result - 1) d).0 ≡ true }
+    ensures after { (none : S) (join : S → S → S) (o : Option S) → joined_within none join window width start o (drop to states.now.items)
+        ≡ joined_within none join window width start o (drop result states.now.items) }
+{
+    let mut end = to;
+    while end > from {
+        if is_within(window, width, shift, start, states[end - 1].0) {
+            return end;
+        }
+        end -= 1;
+    }
+    from
+}
+
+/// Some states in a row are joined to a state, in place.
+fn take_in_row<F: Fold>(
+    fold: &F,
+    own: &mut F::State,
+    states: &VecDeque<(u64, F::State)>,
+    from: usize,
+    to: usize,
+) -> Result<(), AllocError>
+    requires order { from ≤ to }
+    requires room { to ≤ length states.now.items }
+    requires made { F.made fold.now own.old × AllAreMade (F.made fold.now) states.now.items }
+    requires few { F.number fold.now own.old + total (F.number fold.now) (drop from states.now.items) < 2 ^ 62 }
+    ensures value { OnOk result (own.new ≡ joined_onto (F.joined fold.now) own.old (take (to - from) (drop from states.now.items))) }
+    ensures made { OnOk result (F.made fold.now own.new) }
+    ensures few { OnOk result (F.number fold.now own.new + total (F.number fold.now) (drop to states.now.items)
+        ≤ F.number fold.now own.old + total (F.number fold.now) (drop from states.now.items)) }
+{
+    for i in from..to {
+        fold.take_in(own, &states[i].1)?;
+    }
+    Ok(())
+}
+
+/// Of some states in a row those that the window that starts at a tick covers are joined to a state, in place. They stand
+/// side by side, as the numbers of panes rise, so that none between the first and the last of them has to be looked at.
 fn take_in_through<F: Fold>(
     fold: &F,
     own: &mut F::State,
@@ -283,6 +336,7 @@ fn take_in_through<F: Fold>(
     start: u64,
 ) -> Result<(), AllocError>
     requires shift { shift ≡ shift_of window width }
+    requires rises { NumbersRise states.now.items }
     requires order { from ≤ to }
     requires room { to ≤ length states.now.items }
     requires made { F.made fold.now own.old × AllAreMade (F.made fold.now) states.now.items }
@@ -293,13 +347,9 @@ fn take_in_through<F: Fold>(
     ensures few { OnOk result (F.number fold.now own.new + total (F.number fold.now) (drop to states.now.items)
         ≤ F.number fold.now own.old + total (F.number fold.now) (drop from states.now.items)) }
 {
-    for i in from..to {
-        let entry = &states[i];
-        if is_within(window, width, shift, start, entry.0) {
-            fold.take_in(own, &entry.1)?;
-        }
-    }
-    Ok(())
+    let first = first_within(states, from, to, window, width, shift, start);
+    let end = end_within(states, first, to, window, width, shift, start);
+    take_in_row(fold, own, states, first, end)
 }
 
 /// The join of those of some states in a row that the window that starts at a tick covers, where there is one.
@@ -314,6 +364,7 @@ fn joined_of<F: Fold>(
     start: u64,
 ) -> Result<Option<F::State>, AllocError>
     requires shift { shift ≡ shift_of window width }
+    requires rises { NumbersRise states.now.items }
     requires order { from ≤ to }
     requires room { to ≤ length states.now.items }
     requires made { AllAreMade (F.made fold.now) states.now.items }
@@ -349,6 +400,7 @@ fn joined_through<F: Fold>(
     start: u64,
 ) -> Result<Option<F::State>, AllocError>
     requires shift { shift ≡ shift_of window width }
+    requires rises { NumbersRise states.now.items }
     requires order { from ≤ to }
     requires room { to ≤ length states.now.items }
     requires made { IsMadeIf (F.made fold.now) joined × AllAreMade (F.made fold.now) states.now.items }

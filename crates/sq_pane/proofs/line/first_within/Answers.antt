@@ -1,4 +1,4 @@
-use Rattle.std.proofs.Common.{◌≡◌, ℕ, true, false, None, subst, sym, ◌∙◌, arith}
+use Rattle.std.proofs.Common.{◌≡◌, ℕ, true, false, subst, sym, ◌∙◌, arith}
 use Rattle.std.proofs.lemmas.List.{get_or_default}
 use Rattle.sq_pane.specs.Panes.{within}
 use Rattle.sq_pane.proofs.BlockLemmas.{next_joined}
@@ -10,9 +10,9 @@ loop-at-preserved g c =
     let i : ℕ = c.loop-at.at in
     let room = c.requires.room in
     let below = c.loop-at-test.true in
-    λ none join.
-    sym (next_joined none join c.args.window c.args.width c.args.start None es i c.index.result.now false (omega (arith, room, below)) c.index.ensures (sym c.is_within.ensures ∙ c.if-is_within.false))
-    ∙ c.loop-at.invariant none join
+    λ none join o.
+    sym (next_joined none join c.args.window c.args.width c.args.start o es i c.index.result.now false (omega (arith, room, below)) c.index.ensures (sym c.is_within.ensures ∙ c.if-is_within.false))
+    ∙ c.loop-at.invariant none join o
 
 pub returns-then-is_within-clause-covered : goal.returns-then-is_within-clause-covered
 returns-then-is_within-clause-covered g c =

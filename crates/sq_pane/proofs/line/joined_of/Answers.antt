@@ -31,7 +31,7 @@ pub returns-then-at-to-clause-value : goal.returns-then-at-to-clause-value
 returns-then-at-to-clause-value g c =
     let fold = c.args.fold.now in
     let whole = joined_within (g.F.Fold.none fold) (g.F.Fold.joined fold) c.args.window c.args.width c.args.start None in
-    ap (λ n. whole (drop n c.args.states.now.items)) (sym c.if-at-to.true) ∙ c.first_within-at.ensures.before (g.F.Fold.none fold) (g.F.Fold.joined fold)
+    ap (λ n. whole (drop n c.args.states.now.items)) (sym c.if-at-to.true) ∙ c.first_within-at.ensures.before (g.F.Fold.none fold) (g.F.Fold.joined fold) None
 
 pub returns-then-at-to-clause-few : goal.returns-then-at-to-clause-few
 returns-then-at-to-clause-few g c =
@@ -56,7 +56,7 @@ returns-clause-value g c =
     c.in_ok-take_in_through.ensures.value
     ∙ ap (λ m. joined_within none join c.args.window c.args.width c.args.start (Some m) (drop (at + 1) es)) (c.in_ok-own.ensures ∙ sym (g.met.F.Fold.none_first fold x.1 shaped))
     ∙ sym (next_joined none join c.args.window c.args.width c.args.start None es at x true inside c.index.ensures covered)
-    ∙ c.first_within-at.ensures.before none join
+    ∙ c.first_within-at.ensures.before none join None
 
 pub returns-clause-few : goal.returns-clause-few
 returns-clause-few g c =

@@ -1,56 +1,40 @@
-use Rattle.std.proofs.Common.{ℕ, ◌+◌, ◌<◌, Some, true, false, length, drop, ap, sym, ◌∙◌, arith}
-use Rattle.sq_pane.specs.Panes.{joined_within, total}
-use Rattle.sq_pane.proofs.LineLemmas.{drop_at, made_at}
-use Rattle.sq_pane.proofs.BlockLemmas.{next_joined}
+use Rattle.std.proofs.Common.{ℕ, Some, drop, ap, ◌∙◌, arith}
+use Rattle.std.proofs.lemmas.Result.{IfOk-weaker}
+use Rattle.sq_pane.specs.Panes.{joined_within}
+use Rattle.sq_pane.proofs.BlockLemmas.{covered_between, row_taken, total_later}
 use Rattle.sq_pane.proofs.line.take_in_through.Goals as goal
-use Rattle.sq_pane.proofs.line.take_in_through.Goals.{then-is_within+in_ok-take_in, else-is_within}
 
-pub take_in-requires-clause-made_other : goal.take_in-requires-clause-made_other
-take_in-requires-clause-made_other g c =
+pub take_in_row-requires-clause-few : goal.take_in_row-requires-clause-few
+take_in_row-requires-clause-few g c =
+    let later = total_later (g.F.Fold.number c.args.fold.now) c.args.from c.first_within-first.result c.args.states.now.items c.first_within-first.ensures.order.0 in
+    let few = c.requires.few in
+    omega (arith, later, few)
+
+pub returns-clause-value : goal.returns-clause-value
+returns-clause-value g c =
+    let fold = c.args.fold.now in
+    let none = g.F.Fold.none fold in
+    let join = g.F.Fold.joined fold in
+    let es = c.args.states.now.items in
+    let first : ℕ = c.first_within-first.result in
+    let end : ℕ = c.end_within-end.result in
+    let whole = joined_within none join c.args.window c.args.width c.args.start in
     let room = c.requires.room in
-    let below = c.loop-i-test.true in
-    made_at (g.F.Fold.made c.args.fold.now) c.args.states.now.items c.loop-i.i c.index-entry.result.now (omega (arith, room, below)) c.index-entry.ensures c.requires.made.1
+    let up = c.end_within-end.ensures.order in
+    let ends = up.1 in
+    let all = covered_between c.args.window c.args.width c.args.start first end es c.requires.rises up.0 (omega (arith, room, ends)) (λ d less. c.first_within-first.ensures.covered d (omega (arith, less, ends))) c.end_within-end.ensures.covered in
+    IfOk-weaker c.take_in_row.result _ _
+    (λ u value.
+    c.end_within-end.ensures.after none join (Some c.take_in_row.new.own)
+    ∙ ap (λ m. whole (Some m) (drop end es)) value
+    ∙ row_taken none join c.args.window c.args.width c.args.start first end c.args.own.now es up.0 (omega (arith, room, ends)) all
+    ∙ c.first_within-first.ensures.before none join (Some c.args.own.now))
+    c.take_in_row.ensures.value
 
-pub take_in-requires-clause-few : goal.take_in-requires-clause-few
-take_in-requires-clause-few g c =
+pub returns-clause-few : goal.returns-clause-few
+returns-clause-few g c =
     let number = g.F.Fold.number c.args.fold.now in
     let es = c.args.states.now.items in
-    let i : ℕ = c.loop-i.i in
-    let room = c.requires.room in
-    let below = c.loop-i-test.true in
-    let step = ap (total number) (drop_at es i c.index-entry.result.now (omega (arith, room, below)) c.index-entry.ensures) in
-    let le = c.loop-i.invariant.few in
-    let few = c.requires.few in
-    omega (arith, step, le, few)
-
-pub loop-i-preserved : goal.loop-i-preserved
-loop-i-preserved g c =
-    let fold = c.args.fold.now in
-    let number = g.F.Fold.number fold in
-    let es = c.args.states.now.items in
-    let i : ℕ = c.loop-i.i in
-    let x = c.index-entry.result.now in
-    let room = c.requires.room in
-    let below = c.loop-i-test.true in
-    let inside : i < length es = omega (arith, room, below) in
-    let whole = joined_within (g.F.Fold.none fold) (g.F.Fold.joined fold) c.args.window c.args.width c.args.start in
-    let next = next_joined (g.F.Fold.none fold) (g.F.Fold.joined fold) c.args.window c.args.width c.args.start (Some c.loop-i.own) es i x in
-    let step = ap (total number) (drop_at es i x inside c.index-entry.ensures) in
-    let le = c.loop-i.invariant.few in
-    elim c.if-is_within.branch [
-      | then-is_within+in_ok-take_in w ↦
-          let more = w.in_ok-take_in.ensures.made.1 in
-          rw w.own-is
-          record {
-            value = ap (λ m. whole (Some m) (drop (i + 1) es)) w.in_ok-take_in.ensures.value ∙ sym (next true inside c.index-entry.ensures (sym c.is_within.ensures ∙ w.if-is_within.true)) ∙ c.loop-i.invariant.value;
-            made = w.in_ok-take_in.ensures.made.0;
-            few = omega (arith, step, le, more);
-          }
-      | else-is_within w ↦
-          rw w.own-is
-          record {
-            value = sym (next false inside c.index-entry.ensures (sym c.is_within.ensures ∙ w.if-is_within.false)) ∙ c.loop-i.invariant.value;
-            made = c.loop-i.invariant.made;
-            few = omega (arith, step, le);
-          }
-    ]
+    let before = total_later number c.args.from c.first_within-first.result es c.first_within-first.ensures.order.0 in
+    let after = total_later number c.end_within-end.result c.args.to es c.end_within-end.ensures.order.1 in
+    IfOk-weaker c.take_in_row.result _ _ (λ u le. omega (arith, before, after, le)) c.take_in_row.ensures.few

@@ -1,0 +1,36 @@
+use Rattle.std.proofs.Common.{◌≡◌, ℕ, ◌+◌, ◌-◌, true, false, drop, ap, subst, sym, ◌∙◌, arith}
+use Rattle.std.proofs.lemmas.List.{get_or_default}
+use Rattle.sq_pane.specs.Panes.{within, joined_within}
+use Rattle.sq_pane.proofs.BlockLemmas.{next_joined}
+use Rattle.sq_pane.proofs.line.end_within.Goals as goal
+
+pub loop-end-preserved : goal.loop-end-preserved
+loop-end-preserved g c =
+    let es = c.args.states.now.items in
+    let i : ℕ = c.loop-end.end - 1 in
+    let room = c.requires.room in
+    let some = c.loop-end-test.true in
+    let low = c.loop-end.invariant.from in
+    let high = c.loop-end.invariant.to in
+    let next : i + 1 ≡ c.loop-end.end = omega (arith, some) in
+    record {
+      from = omega (arith, some);
+      to = omega (arith, high);
+      after = λ none join o.
+          let whole = joined_within none join c.args.window c.args.width c.args.start o in
+          c.loop-end.invariant.after none join o
+          ∙ sym (ap (λ n. whole (drop n es)) next)
+          ∙ sym (next_joined none join c.args.window c.args.width c.args.start o es i c.index.result.now false (omega (arith, room, some, high)) c.index.ensures (sym c.is_within.ensures ∙ c.if-is_within.false));
+    }
+
+pub returns-then-is_within-clause-covered : goal.returns-then-is_within-clause-covered
+returns-then-is_within-clause-covered g c =
+    let es = c.args.states.now.items in
+    let i : ℕ = c.loop-end.end - 1 in
+    let x = c.index.result.now in
+    let room = c.requires.room in
+    let high = c.loop-end.invariant.to in
+    λ d less.
+    subst (λ (z : ℕ × g.row.S.Denot). within c.args.window c.args.width c.args.start z.0 ≡ true)
+    (c.index.ensures ∙ get_or_default es i x d (omega (arith, room, less, high)))
+    (sym c.is_within.ensures ∙ c.if-is_within.true)
