@@ -253,6 +253,12 @@ module _ (w : WindowSpec) (width start : ℕ) where
           let place : at + (end - at - 1) ≡ end - 1 = omega (arith, some) in
           subst (λ (z : ℕ × M). within w width start z.0 ≡ true) (sym (get_or-drop at es (end - at - 1) d ∙ ap (λ k. get_or es k d) place)) (b d (omega (arith, some)))
 
+  -- and so are those behind the first
+  pub covered_behind : {M : Type 0} (at end : ℕ) (x : ℕ × M) (es : List (ℕ × M)) → at < end → end ≤ length es → x ≡ get_or es at x → AllByRecursion (λ e. within w width start e.0 ≡ true) (take (end - at) (drop at es))
+      → AllByRecursion (λ e. within w width start e.0 ≡ true) (take (end - (at + 1)) (drop (at + 1) es))
+  covered_behind {M} at end x es less room is all =
+      (subst (AllByRecursion (λ (e : ℕ × M). within w width start e.0 ≡ true)) (run_next es at end x less (omega (arith, less, room)) is) all).1
+
 -- a window takes a row of states that it covers, one after another
 module _ {M : Type 0} (none : M) (join : M → M → M) (w : WindowSpec) (width start : ℕ) where
   abbrev gives : Option M → List (ℕ × M) → Option M

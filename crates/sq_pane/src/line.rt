@@ -270,8 +270,8 @@ fn first_within<S>(
     to
 }
 
-/// The place behind the last of some states in a row that the window that starts at a tick covers; the row's start, where
-/// there is none.
+/// The place behind the last of some states in a row that the window that starts at a tick covers, where it covers the first
+/// of them; that one isn't looked at again.
 fn end_within<S>(
     states: &VecDeque<(u64, S)>,
     from: usize,
@@ -284,19 +284,21 @@ fn end_within<S>(
     requires shift { shift ≡ shift_of window width }
     requires order { from ≤ to }
     requires room { to ≤ length states.now.items }
+    requires first { (d : ℕ × S) → from < to → within window width start (get_or states.now.items from d).0 ≡ true }
     ensures order { (from ≤ result) × (result ≤ to) }
+    ensures some { from < to → from < result }
     ensures covered { (d : ℕ × S) → from < result → within window width start (get_or states.now.items (result - 1) d).0 ≡ true }
     ensures after { (none : S) (join : S → S → S) (o : Option S) → joined_within none join window width start o (drop to states.now.items)
         ≡ joined_within none join window width start o (drop result states.now.items) }
 {
     let mut end = to;
-    while end > from {
+    while end - from > 1 {
         if is_within(window, width, shift, start, states[end - 1].0) {
             return end;
         }
         end -= 1;
     }
-    from
+    end
 }
 
 /// Some states in a row are joined to a state, in place.
@@ -380,10 +382,9 @@ fn joined_of<F: Fold>(
         return Ok(None);
     }
     let next = at + 1;
+    let end = end_within(states, at, to, window, width, shift, start);
     let mut own = fold.copy_state(&states[at].1)?;
-    take_in_through(
-        fold, &mut own, states, next, to, window, width, shift, start,
-    )?;
+    take_in_row(fold, &mut own, states, next, end)?;
     Ok(Some(own))
 }
 
