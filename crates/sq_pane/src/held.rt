@@ -1,9 +1,9 @@
 //! The states of panes, by group and pane.
 
-ghost use Rattle.std.specs.Prelude.{◌≡◌, ◌+◌, ◌^◌, ◌<◌, ◌≤◌, ◌++◌, true, [], OnOk, OnErr, IfOk};
+ghost use Rattle.std.specs.Prelude.{◌≡◌, ◌+◌, ◌^◌, ◌<◌, ◌≤◌, ◌++◌, true, [], map, OnOk, OnErr, IfOk};
 ghost use Rattle.sq_aggfn.specs.Groups.{group_of};
 ghost use Rattle.sq_aggfn.specs.KeyedStates.{added};
-ghost use Rattle.sq_pane.specs.Panes.{key_cmp, from_pane, window_from, total, AllAreMade, group_entry};
+ghost use Rattle.sq_pane.specs.Panes.{key_cmp, from_pane, window_from, total, AllAreMade, group_entry, lent_group};
 ghost use Rattle.sq_pane.specs.Blocks.{IsJoin};
 ghost use Rattle.sq_pane.specs.States.{states_of, HaveBlocks};
 
@@ -79,35 +79,35 @@ pub fn forget_before<F: Fold>(fold: &F, held: &mut Held<F::State>, pane: u128)
 }
 
 /// Puts a group behind the others, where it has a state.
-fn push_some<S: Drop>(
-    groups: &mut Vec<(Group, S)>,
-    group: &Group,
+fn push_some<'a, S: Drop>(
+    groups: &mut Vec<(&'a Group, S)>,
+    group: &'a Group,
     state: Option<S>,
 ) -> Result<(), AllocError>
-    ensures { OnOk result (groups.new.items ≡ groups.old.items ++ group_entry group.now state) }
+    ensures { OnOk result (map lent_group groups.new.items ≡ map lent_group groups.old.items ++ group_entry group.now state) }
 {
     if let Some(state) = state {
-        groups.push((group.copied()?, state))?;
+        groups.push((group, state))?;
     }
     Ok(())
 }
 
 /// The states of the groups of the window that begins at a tick, in the order of groups; by the blocks, if so told.
-pub fn groups_at<F: Fold>(
+pub fn groups_at<'a, F: Fold>(
     alloc: Global,
     fold: &F,
-    held: &Held<F::State>,
+    held: &'a Held<F::State>,
     by_blocks: bool,
     window: WindowSpec,
     width: u64,
     start: u64,
-) -> Result<Vec<(Group, F::State)>, AllocError>
+) -> Result<Vec<(&'a Group, F::State)>, AllocError>
     requires blocks { by_blocks ≡ true → HaveBlocks (IsJoin (F.none fold.now) (F.joined fold.now) (F.made fold.now) (F.number fold.now)) held.now }
     requires made { AllAreMade (F.made fold.now) (states_of held.now) }
     requires few { total (F.number fold.now) (states_of held.now) < 2 ^ 62 }
-    ensures value { IfOk result (λ groups. groups.items ≡ window_from (F.none fold.now) (F.joined fold.now) window width start [] (states_of held.now)) }
-    ensures made { IfOk result (λ groups. AllAreMade (F.made fold.now) groups.items) }
-    ensures few { IfOk result (λ groups. total (F.number fold.now) groups.items ≤ total (F.number fold.now) (states_of held.now)) }
+    ensures value { IfOk result (λ groups. map lent_group groups.items ≡ window_from (F.none fold.now) (F.joined fold.now) window width start [] (states_of held.now)) }
+    ensures made { IfOk result (λ groups. AllAreMade (F.made fold.now) (map lent_group groups.items)) }
+    ensures few { IfOk result (λ groups. total (F.number fold.now) (map lent_group groups.items) ≤ total (F.number fold.now) (states_of held.now)) }
 {
     let entries = held.entries(alloc)?;
     let mut groups = Vec::with_capacity(alloc, entries.len())?;

@@ -3,7 +3,7 @@ use Rattle.std.proofs.lemmas.List.{drop_all}
 use Rattle.std.specs.Map.Iter.{deref_pair}
 use Rattle.sq_value.specs.declared.Value.{Value}
 use Rattle.sq_pane.specs.declared.line.Line.{Line}
-use Rattle.sq_pane.specs.Panes.{group_entry, joined_within, total, AllAreMade}
+use Rattle.sq_pane.specs.Panes.{group_entry, joined_within, lent_group, total, AllAreMade}
 use Rattle.sq_pane.specs.Blocks.{IsJoin}
 use Rattle.sq_pane.specs.States.{states_of, HaveBlocks}
 use Rattle.sq_value.specs.Values.{fields_cmp}
@@ -18,7 +18,7 @@ pub loop-entry-init : goal.loop-entry-init
 loop-entry-init g c =
     let fold = c.args.fold.now in
     let join = IsJoin (g.F.Fold.none fold) (g.F.Fold.joined fold) (g.F.Fold.made fold) (g.F.Fold.number fold) in
-    let none = c.in_ok-groups.ensures.items in
+    let none = ap (map lent_group) c.in_ok-groups.ensures.items in
     let all = ap (map deref_pair) c.deref-entry-items.ensures.value ∙ c.in_ok-entries.ensures.entries in
     record {
       value = ap₂ (λ gs ls. gs ++ groups_within (g.F.Fold.none fold) (g.F.Fold.joined fold) c.args.window c.args.width c.args.start ls) none all;
@@ -74,7 +74,7 @@ loop-entry-preserved g c =
     let line = x.1.now in
     let rest = map deref_pair (drop (i + 1) lines) in
     let o = c.in_ok-joined.joined in
-    let gs = c.loop-entry.groups.items in
+    let gs = map lent_group c.loop-entry.groups.items in
     let step = ap (map deref_pair) (drop_at lines i x c.loop-entry-test.true c.entry-item.is) in
     let within = λ (ls : List (List Value × Line g.row.F-State.Denot)). groups_within (g.F.Fold.none fold) (g.F.Fold.joined fold) c.args.window c.args.width c.args.start ls in
     let pushed = c.in_ok-push_some.ensures ∙ ap (λ k. gs ++ group_entry k o) c.group.ensures in
@@ -97,7 +97,7 @@ loop-entry-preserved g c =
 pub returns-clause-value : goal.returns-clause-value
 returns-clause-value g c =
     let fold = c.args.fold.now in
-    let gs = c.loop-entry.groups.items in
+    let gs = map lent_group c.loop-entry.groups.items in
     let lines = c.deref-entry-items.result.now in
     let within = λ (ls : List (List Value × Line g.row.F-State.Denot)). groups_within (g.F.Fold.none fold) (g.F.Fold.joined fold) c.args.window c.args.width c.args.start ls in
     sym (append-nil gs) ∙ ap (λ ls. gs ++ within (map deref_pair ls)) (sym (drop_all c.loop-entry.entry-index lines c.loop-entry-test.false)) ∙ c.loop-entry.invariant.value
