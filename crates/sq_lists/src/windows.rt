@@ -14,8 +14,8 @@ use std::alloc::{AllocError, Global};
 use std::collections::BTreeMap;
 
 /// The result of a group's answers in the window that begins at `start`.
-pub fn result_of(start: u64, group: Group, answers: Fields) -> Result<Tuple, AllocError>
-    ensures { IfOk result (λ x. x ≡ record { time = start; fields = group ++ answers }) }
+pub fn result_of(start: u64, group: &Group, answers: Fields) -> Result<Tuple, AllocError>
+    ensures { IfOk result (λ x. x ≡ record { time = start; fields = group.now ++ answers }) }
 {
     let fields = group.followed_by(answers)?;
     Ok(Tuple {
@@ -66,7 +66,7 @@ fn push_results<F: Fold>(
 {
     while let Some((group, state)) = held.pop_first() {
         let answers = fold.answer(&state)?;
-        out.push(result_of(start, group, answers)?)?;
+        out.push(result_of(start, &group, answers)?)?;
     }
     Ok(())
 }
