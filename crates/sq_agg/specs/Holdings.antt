@@ -1,5 +1,5 @@
 -- What an Aggregate holds: states by pane and group, and the windows that end, by start and group.
-use Rattle.std.specs.Prelude.{◌≡◌, ℕ, ◌+◌, ◌*◌, ◌^◌, ◌<◌, ◌≤◌, ◌==◌, nat_lt, nat_le, max, not, ◌&&◌, ◌||◌, if◌then◌else◌, Bool, false, List, [], ◌∷◌, ◌++◌, map, length, Option, Some, None, IsTrue}
+use Rattle.std.specs.Prelude.{◌≡◌, ℕ, ◌+◌, ◌*◌, ◌^◌, ◌<◌, ◌≤◌, ◌==◌, nat_lt, nat_le, max, ◌&&◌, if◌then◌else◌, Bool, false, List, [], ◌∷◌, ◌++◌, map, length, Option, Some, None, IsTrue}
 use Rattle.std.specs.List.{AllByRecursion}
 use Rattle.sq_value.specs.declared.Value.{Value}
 use Rattle.sq_value.specs.declared.Tuple.{Tuple}
@@ -51,6 +51,11 @@ marks_from mid (m ∷ ms) = if nat_lt m.0 mid then marks_from mid ms else m ∷ 
 abbrev pub greatest_mark : List Timed → ℕ
 greatest_mark ms = max_by (λ m. bound_in m.1) ms
 
+-- the first mark that waits is of a time before a tick
+abbrev pub mark_due : ℕ → List Timed → Bool
+mark_due mid [] = false
+mark_due mid (m ∷ ms) = nat_lt m.0 mid
+
 -- once the marks before a tick were handed on
 abbrev pub closed_at : ℕ → Bounds → Bounds
 closed_at mid b = record { marked = b.marked; base = max b.base (greatest_mark (marks_before mid b.waiting)); waiting = marks_from mid b.waiting }
@@ -60,24 +65,16 @@ abbrev pub with_waiting : ℕ → ℕ → Option Mark → Bounds → Bounds
 with_waiting lag time None b = b
 with_waiting lag time (Some m) b = record { marked = b.marked; base = b.base; waiting = b.waiting ++ (time, lessened lag m) ∷ [] }
 
--- the first entries, whose windows begin before a tick, and the others
+-- the first entries, whose windows begin before a tick
 abbrev pub slots_before : {M : Type 0} → ℕ → List (Key × M) → List (Key × M)
 slots_before mid [] = []
 slots_before mid (e ∷ es) = if nat_lt e.0.0 mid then e ∷ slots_before mid es else []
-
-abbrev pub back_of : {M : Type 0} → ℕ → List (Key × M) → List (Key × M)
-back_of mid [] = []
-back_of mid (e ∷ es) = if nat_lt e.0.0 mid then back_of mid es else e ∷ es
 
 -- the results of entries, in their order
 abbrev pub results_of : {M : Type 0} → (M → List Value) → List (Key × M) → List Tuple
 results_of told es = map (λ e. record { time = e.0.0; fields = e.0.1 ++ told e.1 }) es
 
--- the first window begins before a tick
-abbrev pub slot_begins_before : {M : Type 0} → ℕ → List (Key × M) → Bool
-slot_begins_before mid [] = false
-slot_begins_before mid (e ∷ es) = nat_lt e.0.0 mid
-
+-- the first of some, and the others
 abbrev pub first_slot : {A : Type 0} → List A → List A
 first_slot [] = []
 first_slot (e ∷ es) = e ∷ []
@@ -99,27 +96,9 @@ due told (m ∷ ms) es = due_under told m (due told ms) es
 abbrev pub due_before : {M : Type 0} → (M → List Value) → ℕ → List Timed → List (Key × M) → List Thing
 due_before told mid ms es = due told (marks_before mid ms) (slots_before mid es)
 
--- the first that is due before a tick is a mark; something is due
-abbrev pub mark_next : {M : Type 0} → ℕ → List Timed → List (Key × M) → Bool
-mark_next mid [] es = false
-mark_next mid (m ∷ ms) es = nat_lt m.0 mid && not (slot_begins_before m.0 es)
-
-abbrev pub some_due : {M : Type 0} → ℕ → List Timed → List (Key × M) → Bool
-some_due mid ms es = mark_next mid ms es || slot_begins_before mid es
-
 -- the first mark is handed on
 abbrev pub handed_on : Bounds → Bounds
 handed_on b = record { marked = b.marked; base = max b.base (greatest_mark (first_slot b.waiting)); waiting = later_slots b.waiting }
-
--- what is given first, and what is left then
-abbrev pub next_due : {M : Type 0} → (M → List Value) → ℕ → List Timed → List (Key × M) → List Thing
-next_due told mid ms es = if mark_next mid ms es then map mark_thing (first_slot ms) else things (results_of told (first_slot es))
-
-abbrev pub next_bounds : {M : Type 0} → ℕ → Bounds → List (Key × M) → Bounds
-next_bounds mid b es = if mark_next mid b.waiting es then handed_on b else b
-
-abbrev pub next_held : {M : Type 0} → ℕ → List Timed → List (Key × M) → List (Key × M)
-next_held mid ms es = if mark_next mid ms es then es else later_slots es
 
 -- times that don't fall
 abbrev pub TimesRise : ℕ → List Timed → Type 0

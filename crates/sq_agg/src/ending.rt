@@ -12,36 +12,29 @@ ghost use Rattle.sq_pane.specs.States.{states_of, HaveBlocks};
 ghost use Rattle.sq_agg.specs.Positions.{open_at};
 ghost use Rattle.sq_agg.specs.Holdings.{FitsResult, IsFirstEnd, IsSoundMark, MarksWait, bounds_of, closed_at, due_before, ended, folding_of, told_open};
 
-use crate::held::{Held, give_before};
-use crate::waiting::Waiting;
-use crate::windows::{filled_before, push_window};
+use crate::results::give_results;
+use crate::waiting::{Waiting, give_marks_before};
+use crate::windows::filled_before;
 use sq_aggfn::Fold;
 use sq_oper::Outlet;
 use sq_pane::Panes;
 use std::alloc::AllocError;
-use std::collections::VecDeque;
 
 /// Gives the results of a window, if the marks allow it, behind all marks up to its start.
 fn give_window<F: Fold + Drop, T: Outlet>(
     panes: &Panes<F>,
     waiting: &mut Waiting,
     k: u64,
-    due: &mut Held<F::State>,
     out: &mut T,
 ) -> Result<(), AllocError>
     requires window { IsWindow panes.now.window }
-    requires wide { 1 ≤ panes.now.width }
-    requires narrow { panes.now.width ≤ panes.now.window.size }
     requires tick { start_of panes.now.window k < 2 ^ 40 }
-    requires ticks { AllByRecursion (λ e. e.0.0 * panes.now.width < 2 ^ 64) (states_of panes.now.held) }
     requires blocks { HaveBlocks (IsJoin (F.none panes.now.fold) (F.joined panes.now.fold) (F.made panes.now.fold) (F.number panes.now.fold)) panes.now.held }
     requires made { AllAreMade (F.made panes.now.fold) (states_of panes.now.held) }
     requires few { total (F.number panes.now.fold) (states_of panes.now.held) < 2 ^ 62 }
     requires fit { AllByRecursion (λ e. FitsResult (F.width panes.now.fold) e.0.1) (states_of panes.now.held) }
     requires marks { AllByRecursion IsSoundMark (bounds_of waiting.old).waiting }
-    requires none { due.old.items ≡ [] }
     requires is_ready { T.ready out.old }
-    ensures none { OnOk result (due.new.items ≡ []) }
     ensures bounds { OnOk result (bounds_of waiting.new ≡ closed_at (start_of panes.now.window k + 1) (bounds_of waiting.old)) }
     ensures given { OnOk result ((q : ℕ) → given q (T.items out.new)
         ≡ given q (T.items out.old) ++ at_zero q (due_before (F.told panes.now.fold) (start_of panes.now.window k + 1) (bounds_of waiting.old).waiting
@@ -55,9 +48,13 @@ fn give_window<F: Fold + Drop, T: Outlet>(
     ensures stays_ready { OnOk result (T.ready out.new) }
     ensures came { (start : T) → T.came start out.old → T.came start out.new }
 {
-    push_window(panes, waiting, k, due)?;
     let start = panes.window.start_of(k);
-    give_before(&panes.fold, due, waiting, start + 1, out)
+    let allowed = waiting.allows(start);
+    give_marks_before(waiting, start + 1, out)?;
+    if allowed {
+        return give_results(panes, start, out);
+    }
+    Ok(())
 }
 
 /// Gives the results of some windows that begin before a tick, and all marks before it, by time, a mark first.
@@ -70,11 +67,8 @@ fn give_windows<F: Fold + Drop, T: Outlet>(
     out: &mut T,
 ) -> Result<(), AllocError>
     requires window { IsWindow panes.now.window }
-    requires wide { 1 ≤ panes.now.width }
-    requires narrow { panes.now.width ≤ panes.now.window.size }
     requires tick { (k : ℕ) → k < end → start_of panes.now.window k < 2 ^ 40 }
     requires before { (k : ℕ) → k < end → start_of panes.now.window k < mid }
-    requires ticks { AllByRecursion (λ e. e.0.0 * panes.now.width < 2 ^ 64) (states_of panes.now.held) }
     requires blocks { HaveBlocks (IsJoin (F.none panes.now.fold) (F.joined panes.now.fold) (F.made panes.now.fold) (F.number panes.now.fold)) panes.now.held }
     requires made { AllAreMade (F.made panes.now.fold) (states_of panes.now.held) }
     requires few { total (F.number panes.now.fold) (states_of panes.now.held) < 2 ^ 62 }
@@ -94,11 +88,10 @@ fn give_windows<F: Fold + Drop, T: Outlet>(
     ensures stays_ready { OnOk result (T.ready out.new) }
     ensures came { (start : T) → T.came start out.old → T.came start out.new }
 {
-    let mut due = VecDeque::new(panes.alloc);
     for k in from..end {
-        give_window(panes, waiting, k, &mut due, out)?;
+        give_window(panes, waiting, k, out)?;
     }
-    give_before(&panes.fold, &mut due, waiting, mid, out)
+    give_marks_before(waiting, mid, out)
 }
 
 /// Gives the results of all windows that begin before a tick and end after the time of the last item, and all marks
@@ -181,8 +174,7 @@ pub fn give_ended<F: Fold + Drop, T: Outlet>(
         if waiting.is_empty() {
             return Ok(());
         }
-        let mut due = VecDeque::new(panes.alloc);
-        return give_before(&panes.fold, &mut due, waiting, mid, out);
+        return give_marks_before(waiting, mid, out);
     }
     give_open(panes, waiting, now, mid, out)
 }

@@ -10,7 +10,7 @@ use Rattle.sq_oper.specs.Outflow.{given}
 use Rattle.sq_oper.specs.Streams.{at_zero}
 use Rattle.sq_pane.specs.States.{states_of}
 use Rattle.sq_agg.specs.Holdings.{Bounds, IsSoundMark, bound_for, bounds_of, closed_at, due_before, ended, marks_from}
-use Rattle.sq_agg.proofs.DueLemmas.{closed_twice, All_from}
+use Rattle.sq_agg.proofs.DueLemmas.{closed_twice, All_from, due_alone}
 use Rattle.sq_agg.proofs.EndedLemmas.{ended_same, next_windows, no_windows, window_first}
 use Rattle.sq_agg.proofs.FeedLemmas.{closed_bound}
 use Rattle.sq_agg.proofs.ending.give_windows.Goals as goal
@@ -50,7 +50,6 @@ loop-k-preserved g c =
           ∙ append_assoc (given q out) (at_zero q now) (at_zero q later)
           ∙ ap (λ l. given q out ++ l) (sym (at_zero-append q now later) ∙ ap (at_zero q) (sym all))
           ∙ inv.given q;
-      none = e.none;
       closed = ap (closed_at mid) e.bounds ∙ closed_twice mid at (omega (arith, before)) x ∙ inv.closed;
       allowed = λ j lo.
           let rise = starts_rise w moves k j (omega (arith, lo)) in
@@ -98,7 +97,7 @@ pub returns-in_err-give_window-clause-extends : goal.returns-in_err-give_window-
 returns-in_err-give_window-clause-extends g c = prefix_along _ _ _ c.loop-k.invariant.extends c.give_window.ensures.extends
 
 pub returns-clause-bounds : goal.returns-clause-bounds
-returns-clause-bounds g c = on_ok_weaker c.give_before.result (λ e. e ∙ c.loop-k.invariant.closed) c.give_before.ensures.bounds
+returns-clause-bounds g c = on_ok_weaker c.give_marks_before.result (λ e. e ∙ c.loop-k.invariant.closed) c.give_marks_before.ensures.bounds
 
 pub returns-clause-given : goal.returns-clause-given
 returns-clause-given g c =
@@ -107,10 +106,12 @@ returns-clause-given g c =
     let k : ℕ = c.loop-k.k in
     let end : ℕ = c.args.end in
     let far : end ≤ k = omega arith in
-    let over = c.loop-k.invariant.none ∙ sym (no_windows one k end far) in
-    on_ok_weaker c.give_before.result
-    (λ e q. e q ∙ ap (λ l. given q (g.T.Outlet.items c.loop-k.out) ++ at_zero q (due_before (g.F.Fold.told p.fold) c.args.mid (bounds_of c.loop-k.waiting).waiting l)) over ∙ c.loop-k.invariant.given q)
-    c.give_before.ensures.given
+    let told = g.F.Fold.told p.fold in
+    let ms = (bounds_of c.loop-k.waiting).waiting in
+    let over = sym (due_alone told c.args.mid ms) ∙ ap (due_before told c.args.mid ms) (sym (no_windows one k end far)) in
+    on_ok_weaker c.give_marks_before.result
+    (λ e q. e q ∙ ap (λ l. given q (g.T.Outlet.items c.loop-k.out) ++ at_zero q l) over ∙ c.loop-k.invariant.given q)
+    c.give_marks_before.ensures.given
 
 pub returns-clause-prefix : goal.returns-clause-prefix
 returns-clause-prefix g c =
@@ -119,11 +120,13 @@ returns-clause-prefix g c =
     let k : ℕ = c.loop-k.k in
     let end : ℕ = c.args.end in
     let far : end ≤ k = omega arith in
-    let over = c.loop-k.invariant.none ∙ sym (no_windows one k end far) in
-    on_err_weaker c.give_before.result
-    (λ e q. subst (IsPrefixOf (given q (g.T.Outlet.items c.give_before.new.out)))
-    (ap (λ l. given q (g.T.Outlet.items c.loop-k.out) ++ at_zero q (due_before (g.F.Fold.told p.fold) c.args.mid (bounds_of c.loop-k.waiting).waiting l)) over ∙ c.loop-k.invariant.given q) (e q))
-    c.give_before.ensures.prefix
+    let told = g.F.Fold.told p.fold in
+    let ms = (bounds_of c.loop-k.waiting).waiting in
+    let over = sym (due_alone told c.args.mid ms) ∙ ap (due_before told c.args.mid ms) (sym (no_windows one k end far)) in
+    on_err_weaker c.give_marks_before.result
+    (λ e q. subst (IsPrefixOf (given q (g.T.Outlet.items c.give_marks_before.new.out)))
+    (ap (λ l. given q (g.T.Outlet.items c.loop-k.out) ++ at_zero q l) over ∙ c.loop-k.invariant.given q) (e q))
+    c.give_marks_before.ensures.prefix
 
 pub returns-clause-extends : goal.returns-clause-extends
-returns-clause-extends g c = prefix_along _ _ _ c.loop-k.invariant.extends c.give_before.ensures.extends
+returns-clause-extends g c = prefix_along _ _ _ c.loop-k.invariant.extends c.give_marks_before.ensures.extends

@@ -1,4 +1,4 @@
-use Rattle.std.proofs.Common.{ℕ, ◌≡◌, ◌-◌, ◌≤◌, ◌++◌, []}
+use Rattle.std.proofs.Common.{ℕ, ◌≡◌, ◌-◌, ◌≤◌, ◌++◌}
 use Rattle.std.specs.List.{AllByRecursion, flat_map, range_with_len}
 use Rattle.sq_words.specs.Lists.{IsPrefixOf}
 use Rattle.sq_aggfn.specs.Windows.{start_of}
@@ -14,7 +14,6 @@ invariant-loop-k g l = record {
       ++ at_zero q (due_before (g.F.Fold.told l.panes.fold) l.mid (bounds_of l.waiting).waiting (flat_map (ended (g.F.Fold.none l.panes.fold) (g.F.Fold.joined l.panes.fold) l.panes.window l.panes.width (bounds_of l.initial.waiting) (states_of l.panes.held)) (range_with_len l.k (l.end - l.k))))
       ≡ given q (g.T.Outlet.items l.initial.out)
       ++ at_zero q (due_before (g.F.Fold.told l.panes.fold) l.mid (bounds_of l.initial.waiting).waiting (flat_map (ended (g.F.Fold.none l.panes.fold) (g.F.Fold.joined l.panes.fold) l.panes.window l.panes.width (bounds_of l.initial.waiting) (states_of l.panes.held)) (range_with_len l.from (l.end - l.from))));
-  none : l.due.items ≡ [];
   closed : closed_at l.mid (bounds_of l.waiting) ≡ closed_at l.mid (bounds_of l.initial.waiting);
   allowed : (j : ℕ) → l.k ≤ j → bound_for (bounds_of l.waiting) (start_of l.panes.window j) ≡ bound_for (bounds_of l.initial.waiting) (start_of l.panes.window j);
   marks : AllByRecursion IsSoundMark (bounds_of l.waiting).waiting;

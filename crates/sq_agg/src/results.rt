@@ -1,0 +1,78 @@
+//! Giving the results of a window.
+
+ghost use Rattle.std.specs.Prelude.{◌≡◌, ℕ, ◌^◌, ◌<◌, ◌++◌, [], ◌∷◌, OnOk, OnErr};
+ghost use Rattle.std.specs.List.{AllByRecursion};
+ghost use Rattle.sq_words.specs.Lists.{IsPrefixOf};
+ghost use Rattle.sq_oper.specs.Outflow.{given, ItemsSound};
+ghost use Rattle.sq_oper.specs.Streams.{things, at_zero};
+ghost use Rattle.sq_pane.specs.Panes.{window_from, total, AllAreMade};
+ghost use Rattle.sq_pane.specs.Blocks.{IsJoin};
+ghost use Rattle.sq_pane.specs.States.{states_of, HaveBlocks};
+ghost use Rattle.sq_agg.specs.Holdings.{FitsResult, IsSoundKey, results_of, tagged};
+
+use sq_aggfn::{Fold, Group};
+use sq_item::{Body, Item, Sign};
+use sq_lists::result_of;
+use sq_oper::Outlet;
+use sq_pane::Panes;
+use std::alloc::AllocError;
+
+/// Gives the result of a group in the window that begins at a tick.
+fn give_result<F: Fold, T: Outlet>(
+    fold: &F,
+    start: u64,
+    group: &Group,
+    state: &F::State,
+    out: &mut T,
+) -> Result<(), AllocError>
+    requires sound { IsSoundKey (F.width fold.now) (start, group.now) }
+    requires made { F.made fold.now state.now }
+    requires is_ready { T.ready out.old }
+    ensures given { OnOk result ((q : ℕ) → given q (T.items out.new) ≡ given q (T.items out.old) ++ at_zero q (things (results_of (F.told fold.now) (tagged start ((group.now, state.now) ∷ []))))) }
+    ensures err { OnErr result (T.items out.new ≡ T.items out.old) }
+    ensures sound { ItemsSound (T.items out.old) → ItemsSound (T.items out.new) }
+    ensures extends { IsPrefixOf (T.items out.old) (T.items out.new) }
+    ensures drops { T.drops out.new ≡ T.drops out.old }
+    ensures stays_ready { OnOk result (T.ready out.new) }
+    ensures came { (start : T) → T.came start out.old → T.came start out.new }
+{
+    let answers = fold.answer(state)?;
+    let tuple = result_of(start, group, answers)?;
+    out.give(
+        0,
+        Item {
+            time: tuple.time,
+            mark: Sign::none(),
+            body: Body::some(tuple.fields),
+        },
+    )
+}
+
+/// Gives the results of the window that begins at a tick, in the order of groups.
+pub fn give_results<F: Fold + Drop, T: Outlet>(
+    panes: &Panes<F>,
+    start: u64,
+    out: &mut T,
+) -> Result<(), AllocError>
+    requires tick { start < 2 ^ 40 }
+    requires blocks { HaveBlocks (IsJoin (F.none panes.now.fold) (F.joined panes.now.fold) (F.made panes.now.fold) (F.number panes.now.fold)) panes.now.held }
+    requires made { AllAreMade (F.made panes.now.fold) (states_of panes.now.held) }
+    requires few { total (F.number panes.now.fold) (states_of panes.now.held) < 2 ^ 62 }
+    requires fit { AllByRecursion (λ e. FitsResult (F.width panes.now.fold) e.0.1) (states_of panes.now.held) }
+    requires is_ready { T.ready out.old }
+    ensures given { OnOk result ((q : ℕ) → given q (T.items out.new) ≡ given q (T.items out.old) ++ at_zero q (things (results_of (F.told panes.now.fold)
+        (tagged start (window_from (F.none panes.now.fold) (F.joined panes.now.fold) panes.now.window panes.now.width start [] (states_of panes.now.held)))))) }
+    ensures prefix { OnErr result ((q : ℕ) → IsPrefixOf (given q (T.items out.new)) (given q (T.items out.old) ++ at_zero q (things (results_of (F.told panes.now.fold)
+        (tagged start (window_from (F.none panes.now.fold) (F.joined panes.now.fold) panes.now.window panes.now.width start [] (states_of panes.now.held))))))) }
+    ensures sound { ItemsSound (T.items out.old) → ItemsSound (T.items out.new) }
+    ensures extends { IsPrefixOf (T.items out.old) (T.items out.new) }
+    ensures drops { T.drops out.new ≡ T.drops out.old }
+    ensures stays_ready { OnOk result (T.ready out.new) }
+    ensures came { (start : T) → T.came start out.old → T.came start out.new }
+{
+    let groups = panes.groups_by_blocks(start)?;
+    for entry in &groups {
+        give_result(&panes.fold, start, entry.0, &entry.1, out)?;
+    }
+    Ok(())
+}
