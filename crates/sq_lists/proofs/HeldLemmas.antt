@@ -1,11 +1,12 @@
--- The sorter's map: an insertion into it, as the sorter says it.
-use Rattle.std.proofs.Common.{◌≡◌, ℕ, suc, ◌<◌, Bool, true, false, List, [], ◌∷◌, length, refl, ap, ◌∙◌, arith, tests, Ordering, Less, Greater, nat_cmp}
+-- An insertion into a sorter's map, as the sorter says it.
+use Rattle.std.proofs.Common.{◌≡◌, ℕ, ◌<◌, Bool, true, false, List, [], ◌∷◌, refl, ap, ◌∙◌, arith, tests, Ordering, Less, Greater, nat_cmp}
 use Rattle.std.specs.Prelude.{if◌then◌else◌, nat_lt, ◌==◌}
 use Rattle.std.specs.Ordering.{ordering_then, match_ordering}
 use Rattle.std.specs.BTreeMap.{insert_entry}
 use Rattle.std.specs.List.{AllByRecursion}
 use Rattle.sq_value.specs.declared.Value.{Value}
-use Rattle.sq_lists.specs.Sorters.{Held, numbered_tuple, held_of, put_in}
+use Rattle.sq_lists.specs.Buffers.{Held, numbered_tuple, held_of}
+use Rattle.sq_lists.specs.Sorters.{put_in}
 
 abbrev pub key_cmp : (ℕ × ℕ) → (ℕ × ℕ) → Ordering
 key_cmp x y = ordering_then (nat_cmp x.0 y.0) (nat_cmp x.1 y.1)
@@ -32,9 +33,3 @@ held-insert t n fields (e ∷ es) below =
       | true ↦ refl
       | false ↦ ap (λ l. numbered_tuple e ∷ l) (held-insert t n fields es below.1)
     ])
-
-pub held-length : (es : List Held) → length (held_of es) ≡ length es
-held-length [] = refl
-held-length (e ∷ es) = ap suc (held-length es)
-
-pub ruleset held_lemmas = (held-insert, held-length)

@@ -3,6 +3,7 @@ pub mod LeastLemmas
 pub mod SorterLemmas
 pub mod SorterFacts
 pub mod HeldLemmas
+pub mod BufferLemmas
 pub mod KeepLemmas
 mod ListRows
 pub mod GroupLemmas

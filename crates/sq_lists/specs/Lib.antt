@@ -3,6 +3,7 @@ pub mod Boxes
 pub mod Keeps
 pub mod Sorting
 pub mod Sorters
+pub mod Buffers
 pub mod Windows
 pub mod WindowParts
 pub mod Pairs

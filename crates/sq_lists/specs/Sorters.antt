@@ -1,7 +1,6 @@
 -- BSort one tuple at a time: what it holds stands in order of time, and then of number.
 use Rattle.std.specs.Prelude.{ℕ, ◌+◌, ◌<◌, ◌≤◌, max, nat_lt, if◌then◌else◌, List, [], ◌∷◌, ◌++◌, length, map, Option, Some, None}
 use Rattle.std.specs.List.{AllByRecursion}
-use Rattle.sq_value.specs.declared.Value.{Value}
 use Rattle.sq_value.specs.declared.Tuple.{Tuple}
 use Rattle.sq_value.specs.Values.{field}
 use Rattle.sq_lists.specs.Sorting.{Numbered, numbered_sooner, time_in, at_time, without_late}
@@ -93,13 +92,3 @@ pub record IsSorter (s : SorterState) : Type 0 where
   pub below : AllByRecursion (λ a. a.0 < s.number) s.held
   pub few : length s.held ≤ s.slack
   pub counted : s.given + length s.held ≤ s.number
-
--- the held tuples as entries of an ordered map: by time and number
-abbrev pub Held : Type 0
-Held = (ℕ × ℕ) × List Value
-
-abbrev pub numbered_tuple : Held → Numbered
-numbered_tuple e = (e.0.1, record { time = e.0.0; fields = e.1 })
-
-abbrev pub held_of : List Held → List Numbered
-held_of es = map numbered_tuple es

@@ -5,6 +5,7 @@
 //! are fed one item at a time promise the same lists. Below stand values, expressions and aggregate functions.
 #![tactic(auto)]
 
+mod buffer;
 mod laws;
 mod merges;
 mod pairs;

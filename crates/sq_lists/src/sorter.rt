@@ -3,11 +3,11 @@
 ghost use Rattle.std.specs.Prelude.{◌≡◌, ◌+◌, ◌-◌, ◌^◌, ◌<◌, length, OnErr, OnOk, IfOk};
 ghost use Rattle.std.specs.Option.{option_to_list};
 ghost use Rattle.sq_lists.specs.Sorting.{without_late};
-ghost use Rattle.sq_lists.specs.Sorters.{held_of, new_sorter, first_of_all, after_first, latest_of, sort_gives, sort_next, sort_first, sort_after};
+ghost use Rattle.sq_lists.specs.Sorters.{new_sorter, first_of_all, after_first, latest_of, sort_gives, sort_next, sort_first, sort_after};
 
+use crate::buffer::Buffer;
 use sq_value::{Fields, Tuple};
 use std::alloc::{AllocError, Global};
-use std::collections::BTreeMap;
 use std::marker::Model;
 
 /// Holds at most `slack` tuples, and gives the least in time of one more; the first of equal times goes first.
@@ -17,34 +17,34 @@ use std::marker::Model;
 pub struct Sorter {
     slack: u32,
     /// By time, and then by the order of entry.
-    held: BTreeMap<(u64, u64), Fields>,
+    held: Buffer,
     number: u64,
     latest: u64,
     given: u64,
 }
 
 impl Model for Sorter {
-    ghost use Rattle.sq_lists.specs.Sorters.{SorterState, IsSorter, held_of};
+    ghost use Rattle.sq_lists.specs.Sorters.{SorterState, IsSorter};
 
     ghost Value = { SorterState };
 
-    ghost view = { λ a. record { slack = a.slack; held = held_of a.held.entries; number = a.number; latest = a.latest; given = a.given } };
+    ghost view = { λ a. record { slack = a.slack; held = a.held; number = a.number; latest = a.latest; given = a.given } };
 
-    ghost invariant = { λ a. IsSorter (record { slack = a.slack; held = held_of a.held.entries; number = a.number; latest = a.latest; given = a.given }) };
+    ghost invariant = { λ a. IsSorter (record { slack = a.slack; held = a.held; number = a.number; latest = a.latest; given = a.given }) };
 }
 
 /// Takes out the first of the held tuples, and gives it unless it is late.
-fn take_on_time(held: &mut BTreeMap<(u64, u64), Fields>, latest: &mut u64) -> Option<Tuple>
-    ensures gives { option_to_list result ≡ without_late latest.old (first_of_all (held_of held.old.entries)) }
-    ensures held { held_of held.new.entries ≡ after_first (held_of held.old.entries) }
-    ensures latest { latest.new ≡ latest_of latest.old (first_of_all (held_of held.old.entries)) }
+fn take_on_time(held: &mut Buffer, latest: &mut u64) -> Option<Tuple>
+    ensures gives { option_to_list result ≡ without_late latest.old (first_of_all held.old) }
+    ensures held { held.new ≡ after_first held.old }
+    ensures latest { latest.new ≡ latest_of latest.old (first_of_all held.old) }
 {
-    let ((time, _), fields) = held.pop_first()?;
-    if time < *latest {
+    let first = held.take_first()?;
+    if first.time < *latest {
         return None;
     }
-    *latest = time;
-    Some(Tuple { time, fields })
+    *latest = first.time;
+    Some(first)
 }
 
 impl Sorter {
@@ -54,7 +54,7 @@ impl Sorter {
     {
         Sorter {
             slack,
-            held: BTreeMap::new(alloc),
+            held: Buffer::new(alloc),
             number: 0,
             latest: 0,
             given: 0,
@@ -83,7 +83,7 @@ impl Sorter {
         ensures gives { IfOk result (λ o. option_to_list o ≡ sort_gives self.old (record { time = time; fields = fields })) }
         ensures err { OnErr result (self.new ≡ self.old) }
     {
-        self.held.insert((time, self.number), fields)?;
+        self.held.put(time, self.number, fields)?;
         self.number += 1;
         if self.held.len() <= self.slack as usize {
             return Ok(None);
