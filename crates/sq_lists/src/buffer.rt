@@ -11,7 +11,7 @@ use std::alloc::{AllocError, Global};
 use std::collections::{BTreeMap, VecDeque};
 use std::marker::Model;
 
-/// Among so many of the last near entries a place is sought for a new one.
+/// A new one is put among so many of the last near entries, where its place is there.
 const REACH: usize = 16;
 
 /// Tuples with their numbers, in order of time, and then of number.
@@ -43,15 +43,14 @@ fn is_before(a: &(u64, u64), b: &(u64, u64)) -> bool
     a.0 < b.0 || a.0 == b.0 && a.1 < b.1
 }
 
-/// The place behind the last entry whose time is not later, where that is one of the last places.
+/// The place behind the last entry whose time is not later, which is sought from the end.
 fn place_near(near: &VecDeque<((u64, u64), Fields)>, time: u64) -> usize
     ensures within { result ≤ length near.now.items }
-    ensures last { (d : Held) → 0 < result → length near.now.items < result + 16 → (get_or near.now.items (result - 1) d).0.0 ≤ time }
+    ensures last { (d : Held) → 0 < result → (get_or near.now.items (result - 1) d).0.0 ≤ time }
     ensures after { AllByRecursion (λ e. time < e.0.0) (drop result near.now.items) }
 {
-    let len = near.len();
-    let mut place = len;
-    while place > 0 && len - place < REACH && near[place - 1].0.0 > time {
+    let mut place = near.len();
+    while place > 0 && near[place - 1].0.0 > time {
         place -= 1;
     }
     place
@@ -117,11 +116,12 @@ impl Buffer {
         ensures ok { OnOk result (self.new ≡ put_in (number, record { time = time; fields = fields }) self.old) }
         ensures err { OnErr result (self.new ≡ self.old) }
     {
-        let place = place_near(&self.near, time);
-        if place > 0 && self.near.len() - place >= REACH {
+        let len = self.near.len();
+        if len >= REACH && self.near[len - REACH].0.0 > time {
             self.far.insert((time, number), fields)?;
             return Ok(());
         }
+        let place = place_near(&self.near, time);
         put_near(&mut self.near, place, (time, number), fields)
     }
 

@@ -1,4 +1,4 @@
-use Rattle.std.proofs.Common.{◌≡◌, ℕ, ◌+◌, ◌<◌, List, length, Result, Ok, Err, OnErr, OnOk, ap, sym, subst, ◌∙◌, arith}
+use Rattle.std.proofs.Common.{◌≡◌, ℕ, ◌<◌, List, Result, Ok, Err, OnErr, OnOk, ap, sym, subst, ◌∙◌}
 use Rattle.std.specs.List.{AllByRecursion, insert}
 use Rattle.std.proofs.lemmas.Result.{on_ok_weaker}
 use Rattle.sq_value.specs.declared.Value.{Value}
@@ -8,7 +8,6 @@ use Rattle.sq_lists.specs.Buffers.{Held, numbered_tuple, held_of, both_of, AreIn
 use Rattle.sq_lists.proofs.HeldLemmas.{held-insert}
 use Rattle.sq_lists.proofs.BufferLemmas.{both-all, both-put-far, both-put-near, order-insert}
 use Rattle.sq_lists.proofs.buffer.Buffer.put.Goals as goal
-use Rattle.sq_lists.proofs.buffer.Buffer.put.Goals.{else-place-gt0-via-then-place-gt0+else-len-place-ge-REACH, else-place-gt0-via-else-place-gt0}
 
 abbrev entry_of : ℕ → ℕ → List Value → Held
 entry_of time number fields = ((time, number), fields)
@@ -17,8 +16,8 @@ either : {A B : Type 0} (r : Result A B) (old new changed : List Held) → OnOk 
 either (Ok a) old new changed ok err up more = subst AreInOrder (sym ok) more
 either (Err e) old new changed ok err up more = subst AreInOrder (sym err) up
 
-pub returns-then-len-place-ge-REACH-clause-ok : goal.returns-then-len-place-ge-REACH-clause-ok
-returns-then-len-place-ge-REACH-clause-ok c =
+pub returns-then-index-time-clause-ok : goal.returns-then-index-time-clause-ok
+returns-then-index-time-clause-ok c =
     let near = c.self.inside.near.items in
     let far = c.self.inside.far.entries in
     let x = numbered_tuple (entry_of c.args.time c.args.number c.args.fields) in
@@ -34,17 +33,8 @@ invariant_of-self-2 c =
     let x = entry_of c.args.time c.args.number c.args.fields in
     let each = both-all (λ a. a.0 < c.args.number) near far (subst (AllByRecursion (λ (a : Numbered). a.0 < c.args.number)) (sym c.self.view_is) c.requires.greater) in
     let e = c.place_near-place.ensures in
-    let within = e.within in
-    let reached : 0 < place → length near < place + 16 =
-    elim c.else-place-gt0.branch [
-      | else-place-gt0-via-then-place-gt0+else-len-place-ge-REACH w ↦
-          let few = w.if-len-place-ge-REACH.false in
-          let len = w.len.ensures in
-          (λ some. omega (arith, few, len, within))
-      | else-place-gt0-via-else-place-gt0 w ↦ (let no = w.if-place-gt0.false in (λ some. omega (arith, no, some)))
-    ] in
     either c.put_near.result near c.put_near.new.near.items (insert near place x) c.put_near.ensures.ok c.put_near.ensures.err c.self.invariant
-    (order-insert near place x c.self.invariant each.0 (λ d some. e.last d some (reached some)) e.after)
+    (order-insert near place x c.self.invariant each.0 e.last e.after)
 
 pub returns-clause-ok : goal.returns-clause-ok
 returns-clause-ok c =
