@@ -11,7 +11,7 @@ use std::alloc::{AllocError, Global};
 use std::collections::{BTreeMap, VecDeque};
 use std::marker::Model;
 
-/// A new one is put among so many of the last near entries, where its place is there.
+/// A tuple whose place is before so many near entries, or more, goes among the far ones.
 const REACH: usize = 16;
 
 /// Tuples with their numbers, in order of time, and then of number.
@@ -56,7 +56,7 @@ fn place_near(near: &VecDeque<((u64, u64), Fields)>, time: u64) -> usize
     place
 }
 
-/// Puts an entry at a place. An `Err` changes nothing.
+/// Puts an entry at a place of the queue. An `Err` changes nothing.
 fn put_near(
     near: &mut VecDeque<((u64, u64), Fields)>,
     place: usize,
@@ -93,7 +93,7 @@ fn is_near_first(near: &VecDeque<((u64, u64), Fields)>, far: &BTreeMap<(u64, u64
 }
 
 impl Buffer {
-    /// Nothing.
+    /// A buffer that holds nothing.
     pub fn new(alloc: Global) -> Buffer
         ensures { result ≡ [] }
     {
@@ -125,7 +125,7 @@ impl Buffer {
         put_near(&mut self.near, place, (time, number), fields)
     }
 
-    /// Takes out the first.
+    /// Takes out the first, if there is one.
     pub fn take_first(&mut self) -> Option<Tuple>
         ensures gives { option_to_list result ≡ first_of_all self.old }
         ensures rest { self.new ≡ after_first self.old }
