@@ -15,7 +15,7 @@ use Rattle.sq_lists.specs.Sides.{against, pair_at, pairs_with}
 use Rattle.sq_join.specs.declared.index.Index.{Index}
 use Rattle.sq_join.specs.declared.side_indexes.SideIndexes.{SideIndexes}
 use Rattle.sq_join.specs.EqualFields.{Equates}
-use Rattle.sq_join.specs.Indexes.{positions_in, size_of, belongs_at, positions, positions_in_row, row_count, index_against, index_of, IsIndex, IsOfSamePlace, AreIndexes, MayIndex, HasPassing}
+use Rattle.sq_join.specs.Indexes.{positions_in, magnitude_of, belongs_at, positions, positions_in_row, row_count, index_against, index_of, IsIndex, IsOfSamePlace, AreIndexes, MayIndex, HasPassing}
 use Rattle.sq_words.proofs.Alls.{all_filter, all_push, all_weaker}
 use Rattle.sq_item.specs.Things.{Thing}
 use Rattle.sq_oper.specs.Streams.{things, at_zero}
@@ -83,36 +83,36 @@ equal-fields on place width other l r equates low wide holds =
     let second : field (pair_of l r).fields (length l.fields + other) ≡ field r.fields other = get_or-append-add l.fields r.fields other value.Null in
     sym first ∙ equates (pair_of l r) holds ∙ (rw wide at second)
 
-belongs-found : (place rows row : ℕ) (y : Tuple) (size : ℕ) → size_of (field y.fields place) ≡ Some size → row ≡ size % rows → belongs_at place rows row y ≡ true
-belongs-found place rows row y size at is = rw (at, is) (grind (arith, tests))
+belongs-found : (place rows row : ℕ) (y : Tuple) (magnitude : ℕ) → magnitude_of (field y.fields place) ≡ Some magnitude → row ≡ magnitude % rows → belongs_at place rows row y ≡ true
+belongs-found place rows row y magnitude at is = rw (at, is) (grind (arith, tests))
 
-module _ (on : Expr) (left right : List Tuple) (indexes : SideIndexes) (are : AreIndexes on left right indexes) (x : Tuple) (size : ℕ) (row : ℕ) where
-  by-side : (b : Bool) → length x.fields ≡ (if b then indexes.left else indexes.right).width → size_of (field x.fields (if b then indexes.left else indexes.right).place) ≡ Some size
-      → row ≡ size % row_count (if b then indexes.right else indexes.left) → row < row_count (if b then indexes.right else indexes.left)
+module _ (on : Expr) (left right : List Tuple) (indexes : SideIndexes) (are : AreIndexes on left right indexes) (x : Tuple) (magnitude : ℕ) (row : ℕ) where
+  by-side : (b : Bool) → length x.fields ≡ (if b then indexes.left else indexes.right).width → magnitude_of (field x.fields (if b then indexes.left else indexes.right).place) ≡ Some magnitude
+      → row ≡ magnitude % row_count (if b then indexes.right else indexes.left) → row < row_count (if b then indexes.right else indexes.left)
       → AllByRecursion (λ y. holds_of on (if b then pair_of x y else pair_of y x) ≡ true
       → belongs_at (if b then indexes.right else indexes.left).place (row_count (if b then indexes.right else indexes.left)) row y ≡ true) (if b then right else left)
   by-side true wide at is low =
       all_weaker (λ y. length y.fields ≡ indexes.right.width) (λ y. holds_of on (pair_of x y) ≡ true → belongs_at indexes.right.place (row_count indexes.right) row y ≡ true)
       (λ y _ holds.
-      belongs-found indexes.right.place (row_count indexes.right) row y size
-      (ap size_of (sym (equal-fields on indexes.left.place indexes.left.width indexes.right.place x y are.equates are.within wide holds)) ∙ at) is)
+      belongs-found indexes.right.place (row_count indexes.right) row y magnitude
+      (ap magnitude_of (sym (equal-fields on indexes.left.place indexes.left.width indexes.right.place x y are.equates are.within wide holds)) ∙ at) is)
       right (are.both.1.even (omega (arith, low)))
   by-side false wide at is low =
       all_weaker (λ y. length y.fields ≡ indexes.left.width) (λ y. holds_of on (pair_of y x) ≡ true → belongs_at indexes.left.place (row_count indexes.left) row y ≡ true)
       (λ y even holds.
-      belongs-found indexes.left.place (row_count indexes.left) row y size
-      (ap size_of (equal-fields on indexes.left.place indexes.left.width indexes.right.place y x are.equates are.within even holds) ∙ at) is)
+      belongs-found indexes.left.place (row_count indexes.left) row y magnitude
+      (ap magnitude_of (equal-fields on indexes.left.place indexes.left.width indexes.right.place y x are.equates are.within even holds) ∙ at) is)
       left (are.both.0.even (omega (arith, low)))
 
 -- the row of the number of a tuple that comes
-pub row-found : (on : Expr) (left right : List Tuple) (indexes : SideIndexes) (side : ℕ) (x : Tuple) (size : ℕ) (r : Option ℕ) (own other : Index)
+pub row-found : (on : Expr) (left right : List Tuple) (indexes : SideIndexes) (side : ℕ) (x : Tuple) (magnitude : ℕ) (r : Option ℕ) (own other : Index)
     → own ≡ index_of side indexes → other ≡ index_against side indexes → AreIndexes on left right indexes
-    → length x.fields ≡ own.width → size_of (field x.fields own.place) ≡ Some size
-    → MatchOption r (row_count other ≡ 0) (λ row. (row < row_count other) × (row ≡ size % row_count other))
+    → length x.fields ≡ own.width → magnitude_of (field x.fields own.place) ≡ Some magnitude
+    → MatchOption r (row_count other ≡ 0) (λ row. (row < row_count other) × (row ≡ magnitude % row_count other))
     → IfSome r (HasPassing on side x (against side left right) (index_against side indexes))
-row-found on left right indexes side x size None own other is-own is-other are wide at h = tt
-row-found on left right indexes side x size (Some row) own other is-own is-other are wide at h =
-    (rw is-other at h.0, by-side on left right indexes are x size row (side == 0) (rw is-own at wide) (rw is-own at at) (rw is-other at h.1) (rw is-other at h.0))
+row-found on left right indexes side x magnitude None own other is-own is-other are wide at h = tt
+row-found on left right indexes side x magnitude (Some row) own other is-own is-other are wide at h =
+    (rw is-other at h.0, by-side on left right indexes are x magnitude row (side == 0) (rw is-own at wide) (rw is-own at at) (rw is-other at h.1) (rw is-other at h.0))
 
 -- ---- the tuples of a row
 

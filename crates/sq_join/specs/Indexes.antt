@@ -14,21 +14,21 @@ use Rattle.sq_join.specs.declared.index.Index.{Index}
 use Rattle.sq_join.specs.declared.side_indexes.SideIndexes.{SideIndexes}
 use Rattle.sq_join.specs.EqualFields.{Equates}
 
--- a number's size
-abbrev pub size_of : Value → Option ℕ
-size_of value.Null = None
-size_of (value.Int number) = Some (unsigned_abs number)
-size_of (value.Bool b) = None
-size_of (value.Text t) = None
+-- a number's magnitude
+abbrev pub magnitude_of : Value → Option ℕ
+magnitude_of value.Null = None
+magnitude_of (value.Int number) = Some (unsigned_abs number)
+magnitude_of (value.Bool b) = None
+magnitude_of (value.Text t) = None
 
--- whether a number of this size, where there is one, belongs in a row, of so many
+-- whether a number of this magnitude, where there is one, belongs in a row, of so many
 abbrev pub belongs : ℕ → ℕ → Option ℕ → Bool
 belongs rows row None = false
-belongs rows row (Some size) = size % rows == row
+belongs rows row (Some magnitude) = magnitude % rows == row
 
 -- whether the number at a place of a tuple belongs in a row, of so many
 abbrev pub belongs_at : ℕ → ℕ → ℕ → Tuple → Bool
-belongs_at place rows row x = belongs rows row (size_of (field x.fields place))
+belongs_at place rows row x = belongs rows row (magnitude_of (field x.fields place))
 
 -- the positions of the tuples for which a test is true; the first stands at this one
 abbrev pub positions : (Tuple → Bool) → ℕ → List Tuple → List ℕ

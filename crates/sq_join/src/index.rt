@@ -4,15 +4,15 @@ ghost use Rattle.std.specs.Prelude.{◌≡◌, ℕ, ◌+◌, ◌%◌, ◌^◌, �
 ghost use Rattle.std.specs.List.{AllByRecursion};
 ghost use Rattle.sq_value.specs.declared.Tuple.{Tuple as T};
 ghost use Rattle.sq_value.specs.Values.{field};
-ghost use Rattle.sq_join.specs.Indexes.{belongs_at, positions_in, size_of, positions_in_row, row_count, IsIndex, IsOfSamePlace};
+ghost use Rattle.sq_join.specs.Indexes.{belongs_at, positions_in, magnitude_of, positions_in_row, row_count, IsIndex, IsOfSamePlace};
 
 use sq_value::{Tuple, Value};
 use std::alloc::{AllocError, Global};
 use std::collections::VecDeque;
 
-/// The positions of the tuples that are held of a side and have a number at a place, in rows by the remainder of that
-/// number's size, each row ascending. Positions count on from that of the first tuple. There are no rows where few tuples
-/// are held, where one has an unusual number of fields, or where there was no memory.
+/// The positions of the tuples that are held of a side and have a number at a place: in rows by the remainder of that
+/// number's magnitude, each row ascending. They count on from that of the first tuple. There are no rows where few tuples
+/// are held, where one of them has an unusual number of fields, or where there was no memory.
 #[derive(Drop)]
 pub(crate) struct Index {
     place: usize,
@@ -21,10 +21,10 @@ pub(crate) struct Index {
     pub(crate) rows: Vec<VecDeque<usize>>,
 }
 
-/// The size of the number at a place of a tuple, where one stands there.
+/// The magnitude of the number at a place of a tuple, where one stands there.
 #[inline(always)]
-fn size_at(x: &Tuple, place: usize) -> Option<u64>
-    ensures { result ≡ size_of (field x.now.fields place) }
+fn magnitude_at(x: &Tuple, place: usize) -> Option<u64>
+    ensures { result ≡ magnitude_of (field x.now.fields place) }
 {
     match x.fields.as_slice().get(place) {
         Some(Value::Int(number)) => Some(number.unsigned_abs()),
@@ -58,28 +58,28 @@ impl Index {
         }
     }
 
-    /// The size of the number at the place, if a tuple of this side is as wide as usual.
+    /// The magnitude of the number at the place, if a tuple of this side is as wide as usual.
     #[inline(always)]
-    pub(crate) fn size_in(&self, x: &Tuple) -> Option<u64>
+    pub(crate) fn magnitude_in(&self, x: &Tuple) -> Option<u64>
         ensures even { IfSome result (λ _. length x.now.fields ≡ self.now.width) }
-        ensures size { IfSome result (λ size. size_of (field x.now.fields self.now.place) ≡ Some size) }
+        ensures magnitude { IfSome result (λ magnitude. magnitude_of (field x.now.fields self.now.place) ≡ Some magnitude) }
     {
         if x.fields.as_slice().len() != self.width {
             return None;
         }
-        size_at(x, self.place)
+        magnitude_at(x, self.place)
     }
 
-    /// The row in which a number of this size belongs, where there are rows.
+    /// The row in which a number of this magnitude belongs, where there are rows.
     #[inline(always)]
-    pub(crate) fn row_of(&self, size: u64) -> Option<usize>
-        ensures { MatchOption result (row_count self.now ≡ 0) (λ row. (row < row_count self.now) × (row ≡ size % row_count self.now)) }
+    pub(crate) fn row_of(&self, magnitude: u64) -> Option<usize>
+        ensures { MatchOption result (row_count self.now ≡ 0) (λ row. (row < row_count self.now) × (row ≡ magnitude % row_count self.now)) }
     {
         let rows = self.rows.len();
         if rows == 0 {
             return None;
         }
-        Some((size % rows as u64) as usize)
+        Some((magnitude % rows as u64) as usize)
     }
 
     /// The row in which a tuple belongs.
@@ -88,8 +88,8 @@ impl Index {
         ensures { MatchOption result ((row : ℕ) → row < row_count self.now → belongs_at self.now.place (row_count self.now) row x.now ≡ false)
             (λ its. (its < row_count self.now) × ((row : ℕ) → belongs_at self.now.place (row_count self.now) row x.now ≡ (its == row))) }
     {
-        match size_at(x, self.place) {
-            Some(size) => self.row_of(size),
+        match magnitude_at(x, self.place) {
+            Some(magnitude) => self.row_of(magnitude),
             None => None,
         }
     }
@@ -136,7 +136,7 @@ impl Index {
         }
     }
 
-    /// Takes in all that is held, in rows for as many again.
+    /// Takes in all that is held anew, in about as many rows.
     fn build(&mut self, held: &VecDeque<Tuple>)
         ensures index { IsIndex held.now.items self.new }
         ensures same { IsOfSamePlace self.old self.new }

@@ -14,10 +14,19 @@ use std::alloc::Global;
 use std::collections::VecDeque;
 
 /// An index of each side, by the two places that the predicate equates.
-#[derive(Drop)]
 pub(crate) struct SideIndexes {
     left: Index,
     right: Index,
+}
+
+/// By hand, so that a proof above meets one call where indexes are let go.
+impl Drop for SideIndexes {
+    fn drop(self) {
+        let SideIndexes {
+            left: _left,
+            right: _right,
+        } = self;
+    }
 }
 
 /// Lets go of the first tuples, as long as they are more than `size` ticks before a time.
@@ -74,8 +83,8 @@ impl SideIndexes {
         ensures { (on : Expr) (left right : List T) → AreIndexes on left right self.now
             → IfSome result (HasPassing on side x.now (against side left right) (index_against side self.now)) }
     {
-        let size = self.of_side(side).size_in(x)?;
-        self.against(side).row_of(size)
+        let magnitude = self.of_side(side).magnitude_in(x)?;
+        self.against(side).row_of(magnitude)
     }
 
     /// Lets go of the first tuples of each side, as long as they are more than `size` ticks before a time.

@@ -20,6 +20,7 @@ use std::alloc::{AllocError, Global};
 use std::collections::VecDeque;
 
 /// Gives the pair of a tuple with one of the other side, if it passes.
+#[inline(always)]
 fn give_pair<T: Outlet>(
     alloc: Global,
     on: &Condition,

@@ -98,9 +98,6 @@ returns-in-Ok-clause-faults g c = c.in-Ok.ensures.faults
 pub returns-in-Ok-clause-later : goal.returns-in-Ok-clause-later
 returns-in-Ok-clause-later g c = c.in-Ok.ensures.later
 
-pub returns-in-Ok-clause-most : goal.returns-in-Ok-clause-most
-returns-in-Ok-clause-most g c = c.in-Ok.ensures.most
-
 pub returns-in-Ok-clause-stay : goal.returns-in-Ok-clause-stay
 returns-in-Ok-clause-stay g c = c.in-Ok.ensures.stay
 
@@ -110,17 +107,11 @@ returns-in-Ok-clause-ok g c = rw (c.look_at_readers.ensures.flow ∙ c.look_at.e
 pub returns-in-Ok-clause-cost : goal.returns-in-Ok-clause-cost
 returns-in-Ok-clause-cost g c = rw (c.look_at_readers.ensures.flow ∙ c.look_at.ensures.flow) c.in-Ok.ensures.cost
 
-pub returns-in-Ok-clause-measure : goal.returns-in-Ok-clause-measure
-returns-in-Ok-clause-measure g c = rw (c.look_at_readers.ensures.flow ∙ c.look_at.ensures.flow) c.in-Ok.ensures.measure
-
 pub train-requires-clause-flow : goal.train-requires-clause-flow
 train-requires-clause-flow g c = c.requires.engine.flow
 
 pub train-requires-clause-together : goal.train-requires-clause-together
 train-requires-clause-together g c = c.requires.together
-
-pub train-requires-clause-some : goal.train-requires-clause-some
-train-requires-clause-some g c = c.requires.some
 
 pub train-requires-clause-actor_in : goal.train-requires-clause-actor_in
 train-requires-clause-actor_in g c = subst (λ (n : ℕ). c.seat_number-place.result ≤ n) c.requires.engine.flow.shaped.replay_is c.seat_number-place.ensures.within
