@@ -93,18 +93,18 @@ returns-clause-others g c =
     let arc = c.args.arc in
     let lane = c.index_mut-lane.result.now in
     let told = known (g.D.PageDisk.log c.args.disk.now) in
-    let now = known (g.D.PageDisk.log c.push_behind.new.disk) in
-    subst (λ (ls : List Lane). OnOk c.push_behind.result (Tells now → (other : ℕ) → other ≢ arc → items_on c.push_behind.new.self now other ≡ front_at (slice_get ls other) ++ pages.paged_items_on q.paged told other))
-    (same-lanes q.lanes.items arc lane c.index_mut-lane.ensures.value) c.push_behind.ensures.others
+    let now = known (g.D.PageDisk.log c.send_behind.new.disk) in
+    subst (λ (ls : List Lane). OnOk c.send_behind.result (Tells now → (other : ℕ) → other ≢ arc → items_on c.send_behind.new.self now other ≡ front_at (slice_get ls other) ++ pages.paged_items_on q.paged told other))
+    (same-lanes q.lanes.items arc lane c.index_mut-lane.ensures.value) c.send_behind.ensures.others
 
-pub push_behind-requires-clause-sound : goal.push_behind-requires-clause-sound
-push_behind-requires-clause-sound g c = c.requires.sound
+pub send_behind-requires-clause-sound : goal.send_behind-requires-clause-sound
+send_behind-requires-clause-sound g c = c.requires.sound
 
-pub push_behind-requires-clause-there : goal.push_behind-requires-clause-there
-push_behind-requires-clause-there g c = subst (λ (n : ℕ). c.args.arc < n) (sym (length-set c.args.self.now.lanes.items c.args.arc _)) c.requires.there
+pub send_behind-requires-clause-there : goal.send_behind-requires-clause-there
+send_behind-requires-clause-there g c = subst (λ (n : ℕ). c.args.arc < n) (sym (length-set c.args.self.now.lanes.items c.args.arc _)) c.requires.there
 
-pub push_behind-requires-clause-together : goal.push_behind-requires-clause-together
-push_behind-requires-clause-together g c =
+pub send_behind-requires-clause-together : goal.send_behind-requires-clause-together
+send_behind-requires-clause-together g c =
     let q = c.args.self.now in
     let arc = c.args.arc in
     let lane = c.index_mut-lane.result.now in
@@ -115,14 +115,14 @@ returns-clause-face g c =
     let q = c.args.self.now in
     let arc = c.args.arc in
     let lane = c.index_mut-lane.result.now in
-    subst (λ (ls : List Lane). OnOk c.push_behind.result (face c.push_behind.new.self arc ≡ pushed (face_at (slice_get ls arc)) c.args.item.time))
-    (same-lanes q.lanes.items arc lane c.index_mut-lane.ensures.value) c.push_behind.ensures.face
+    subst (λ (ls : List Lane). OnOk c.send_behind.result (face c.send_behind.new.self arc ≡ pushed (face_at (slice_get ls arc)) c.args.item.time))
+    (same-lanes q.lanes.items arc lane c.index_mut-lane.ensures.value) c.send_behind.ensures.face
 
 pub returns-clause-faces : goal.returns-clause-faces
-returns-clause-faces g c = λ other differ. c.push_behind.ensures.faces other differ ∙ other-face c.args.self.now.lanes.items c.args.arc other _ differ
+returns-clause-faces g c = λ other differ. c.send_behind.ensures.faces other differ ∙ other-face c.args.self.now.lanes.items c.args.arc other _ differ
 
 pub returns-clause-size : goal.returns-clause-size
-returns-clause-size g c = c.push_behind.ensures.size ∙ length-set c.args.self.now.lanes.items c.args.arc _
+returns-clause-size g c = c.send_behind.ensures.size ∙ length-set c.args.self.now.lanes.items c.args.arc _
 
 pub returns-clause-items : goal.returns-clause-items
 returns-clause-items g c =
@@ -130,30 +130,30 @@ returns-clause-items g c =
     let arc = c.args.arc in
     let lane = c.index_mut-lane.result.now in
     let told = known (g.D.PageDisk.log c.args.disk.now) in
-    let now = known (g.D.PageDisk.log c.push_behind.new.disk) in
-    subst (λ (ls : List Lane). OnOk c.push_behind.result (Tells now → items_on c.push_behind.new.self now arc ≡ (front_at (slice_get ls arc) ++ pages.paged_items_on q.paged told arc) ++ c.args.item ∷ []))
-    (same-lanes q.lanes.items arc lane c.index_mut-lane.ensures.value) c.push_behind.ensures.items
+    let now = known (g.D.PageDisk.log c.send_behind.new.disk) in
+    subst (λ (ls : List Lane). OnOk c.send_behind.result (Tells now → items_on c.send_behind.new.self now arc ≡ (front_at (slice_get ls arc) ++ pages.paged_items_on q.paged told arc) ++ c.args.item ∷ []))
+    (same-lanes q.lanes.items arc lane c.index_mut-lane.ensures.value) c.send_behind.ensures.items
 
 pub returns-clause-frames : goal.returns-clause-frames
-returns-clause-frames g c = c.push_behind.ensures.frames
+returns-clause-frames g c = c.send_behind.ensures.frames
 
 pub returns-clause-together : goal.returns-clause-together
-returns-clause-together g c = c.push_behind.ensures.together
+returns-clause-together g c = c.send_behind.ensures.together
 
 pub returns-clause-later : goal.returns-clause-later
-returns-clause-later g c = c.push_behind.ensures.later
+returns-clause-later g c = c.send_behind.ensures.later
 
 pub returns-clause-disk : goal.returns-clause-disk
-returns-clause-disk g c = c.push_behind.ensures.disk
+returns-clause-disk g c = c.send_behind.ensures.disk
 
 pub returns-clause-cause : goal.returns-clause-cause
-returns-clause-cause g c = c.push_behind.ensures.cause
+returns-clause-cause g c = c.send_behind.ensures.cause
 
 pub returns-clause-honest : goal.returns-clause-honest
-returns-clause-honest g c = c.push_behind.ensures.honest
+returns-clause-honest g c = c.send_behind.ensures.honest
 
 pub returns-clause-misfit : goal.returns-clause-misfit
-returns-clause-misfit g c = c.push_behind.ensures.misfit
+returns-clause-misfit g c = c.send_behind.ensures.misfit
 
 pub returns-clause-faults : goal.returns-clause-faults
-returns-clause-faults g c = c.push_behind.ensures.faults
+returns-clause-faults g c = c.send_behind.ensures.faults
