@@ -15,7 +15,7 @@ ghost use Rattle.sq_flow.specs.Sources.{IsNextSource};
 
 use crate::errors::RunErr;
 use crate::heads::{Next, next_of};
-use crate::plans::close_before;
+use crate::plans::{close_before, epoch_of};
 use crate::seats::{Seat, feed_into, finish_into};
 use crate::sending::send_one;
 use crate::taking::{count_item, take_item};
@@ -282,7 +282,7 @@ impl<O: Operator + Drop> Flow<O> {
     {
         let tuple = first_of(&mut self.sources[source as usize])?;
         self.clock = tuple.time;
-        let next = tuple.time / self.levels.epoch();
+        let next = epoch_of(tuple.time, self.levels.epoch(), self.levels.closed());
         close_before(
             &mut self.planner,
             &mut self.levels,

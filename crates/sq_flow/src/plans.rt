@@ -1,7 +1,7 @@
 //! What is closed before a tuple of a later epoch is released.
 
 ghost use Rattle.sq_words.specs.Lists.{IsPrefixOf};
-ghost use Rattle.std.specs.Prelude.{◌≡◌, ◌==◌, ℕ, ◌+◌, ◌-◌, ◌≤◌, ◌<◌, ◌++◌, ◌^◌, List, length, replicate, if◌then◌else◌, OnOk, OnErr, IfOk};
+ghost use Rattle.std.specs.Prelude.{◌≡◌, ◌==◌, ℕ, ◌+◌, ◌-◌, ◌≤◌, ◌<◌, ◌++◌, ◌^◌, ◌/◌, List, length, replicate, if◌then◌else◌, OnOk, OnErr, IfOk};
 ghost use Rattle.std.specs.List.{flat_map, range_with_len};
 ghost use Rattle.sq_road.specs.Levels.{level_of, AgreesWith};
 ghost use Rattle.sq_plan.specs.Flows.{AreCounts};
@@ -41,6 +41,19 @@ fn show_plan(plan: Option<Shown>, events: &mut Vec<Event>) -> Result<(), AllocEr
         })?;
     }
     Ok(())
+}
+
+/// The epoch of a time that isn't before the open one, the last before `closed`. Most times are of that one, which a product tells.
+#[inline(always)]
+pub(crate) fn epoch_of(time: u64, epoch: u64, closed: u64) -> u64
+    requires lasts { 1 ≤ epoch }
+    requires later { closed ≤ time / epoch + 1 }
+    ensures { result ≡ time / epoch }
+{
+    if u128::from(time) < u128::from(closed) * u128::from(epoch) {
+        return closed - 1;
+    }
+    time / epoch
 }
 
 /// Closes the epochs before one, where they are open, and shows the plan that follows. The counts begin anew with an epoch.

@@ -1,4 +1,4 @@
-use Rattle.std.proofs.Common.{◌≡◌, ℕ, ◌+◌, ◌-◌, ◌/◌, ◌≤◌, ◌<◌, List, [], ◌∷◌, Some, length, set, le_refl, refl, ap, sym, subst, arith, false}
+use Rattle.std.proofs.Common.{◌≡◌, ℕ, ◌+◌, ◌-◌, ◌/◌, ◌≤◌, ◌<◌, List, [], ◌∷◌, Some, length, set, le_refl, refl, ap, sym, ◌∙◌, subst, arith, false}
 use Rattle.std.specs.Prelude.{slice_get}
 use Rattle.std.specs.Vec.{with_item}
 use Rattle.std.proofs.Math.Nat.{div-le_self}
@@ -20,6 +20,10 @@ use Rattle.sq_flow.proofs.ReplayFlow.{replay-open, replay-runs, item-sound, rele
 use Rattle.sq_flow.proofs.TookLemmas.{replay-took}
 use Rattle.sq_flow.proofs.flow.Flow.release_step.Goals as goal
 use Rattle.sq_words.proofs.Prefixes.{prefix_itself}
+
+-- the epoch that was told is the tuple's by the length that the levels have
+next-is : (time len epoch next : ℕ) → next ≡ time / len → len ≡ epoch → next ≡ time / epoch
+next-is time len epoch next told same = told ∙ ap (λ n. time / n) same
 
 pub returns-in_err-tuple-clause-prefix : goal.returns-in_err-tuple-clause-prefix
 returns-in_err-tuple-clause-prefix g c =
@@ -44,11 +48,12 @@ returns-in_err-close_before-clause-plans g c =
     let sources = c.args.self.now.sources.items in
     let at = slice_get_read sources _ c.args.source c.index_mut.result.now refl c.requires.next.there c.index_mut.ensures.value in
     let pos : 0 < c.args.self.now.levels.epoch = omega (arith, c.epoch.ensures.epoch, c.epoch.ensures.lasts) in
+    let next_is = next-is _ _ _ _ c.epoch_of-next.ensures c.epoch.ensures.epoch in
     let p = err_from_is_err_and c.from_residual-in_err-close_before.result c.from_residual-in_err-close_before.ensures.1 in
     rw p.1
     (plans-none _ c.args.self.now c.requires.flow pos c.args.source c.index_mut.result.now c.first_of.new.stream c.in_ok-tuple.tuple c.requires.next at c.in_ok-tuple.ensures.ok c.close_before.new.levels c.args.events.now.items c.close_before.new.events.items
-    (λ all. subst (λ (n : ℕ). (c.args.self.now.levels.closed < c.in_ok-tuple.tuple.time / n + 1 → Ended all (c.args.self.now.levels.closed - 1) (c.in_ok-tuple.tuple.time / n) c.args.self.now.counts.items)
-    → AgreesWith c.args.self.now.levels (level_for c.args.self.now.planner all) → AgreesWith c.close_before.new.levels (level_for c.args.self.now.planner all)) c.epoch.ensures.epoch (c.in_err-close_before.ensures.agrees all))
+    (λ all. subst (λ (n : ℕ). (c.args.self.now.levels.closed < n + 1 → Ended all (c.args.self.now.levels.closed - 1) n c.args.self.now.counts.items)
+    → AgreesWith c.args.self.now.levels (level_for c.args.self.now.planner all) → AgreesWith c.close_before.new.levels (level_for c.args.self.now.planner all)) next_is (c.in_err-close_before.ensures.agrees all))
     c.in_err-close_before.ensures.err)
 
 pub send_one-requires-clause-there : goal.send_one-requires-clause-there
@@ -77,9 +82,10 @@ returns-in_err-send_one-clause-plans g c =
     let sources = c.args.self.now.sources.items in
     let at = slice_get_read sources _ c.args.source c.index_mut.result.now refl c.requires.next.there c.index_mut.ensures.value in
     let pos : 0 < c.args.self.now.levels.epoch = omega (arith, c.epoch.ensures.epoch, c.epoch.ensures.lasts) in
+    let next_is = next-is _ _ _ _ c.epoch_of-next.ensures c.epoch.ensures.epoch in
     let done = c.in_ok-close_before.ensures in
     let did = subst (λ (n : ℕ). ClosedBefore c.args.self.now.planner c.close_before.new.planner c.args.self.now.levels c.close_before.new.levels c.args.self.now.counts.items c.close_before.new.counts.items
-    (c.in_ok-tuple.tuple.time / n) c.args.events.now.items c.close_before.new.events.items) c.epoch.ensures.epoch
+    n c.args.events.now.items c.close_before.new.events.items) next_is
     (record {
       same = done.same;
       epoch = done.epoch;
@@ -107,9 +113,10 @@ returns-clause-ok g c =
     let sources = c.args.self.now.sources.items in
     let at = slice_get_read sources _ c.args.source c.index_mut.result.now refl c.requires.next.there c.index_mut.ensures.value in
     let pos : 0 < c.args.self.now.levels.epoch = omega (arith, c.epoch.ensures.epoch, c.epoch.ensures.lasts) in
+    let next_is = next-is _ _ _ _ c.epoch_of-next.ensures c.epoch.ensures.epoch in
     let done = c.in_ok-close_before.ensures in
     let did = subst (λ (n : ℕ). ClosedBefore c.args.self.now.planner c.close_before.new.planner c.args.self.now.levels c.close_before.new.levels c.args.self.now.counts.items c.close_before.new.counts.items
-    (c.in_ok-tuple.tuple.time / n) c.args.events.now.items c.close_before.new.events.items) c.epoch.ensures.epoch
+    n c.args.events.now.items c.close_before.new.events.items) next_is
     (record {
       same = done.same;
       epoch = done.epoch;
@@ -274,12 +281,21 @@ first_of-requires g c =
 pub close_before-requires-clause-counts : goal.close_before-requires-clause-counts
 close_before-requires-clause-counts g c = few-each c.args.self.now.counts.items (λ k. let few = c.requires.flow.replay.few_tuples k in omega (arith, few))
 
+pub epoch_of-next-requires-clause-later : goal.epoch_of-next-requires-clause-later
+epoch_of-next-requires-clause-later g c =
+    let sources = c.args.self.now.sources.items in
+    let at = slice_get_read sources _ c.args.source c.index_mut.result.now refl c.requires.next.there c.index_mut.ensures.value in
+    let pos : 0 < c.args.self.now.levels.epoch = omega (arith, c.epoch.ensures.epoch, c.epoch.ensures.lasts) in
+    rw c.closed.ensures.closed (subst (λ (n : ℕ). c.args.self.now.levels.closed ≤ c.in_ok-tuple.tuple.time / n + 1) (sym c.epoch.ensures.epoch)
+    (not-before _ c.args.self.now c.requires.flow pos c.args.source c.index_mut.result.now c.first_of.new.stream c.in_ok-tuple.tuple c.requires.next at c.in_ok-tuple.ensures.ok))
+
 pub close_before-requires-clause-later : goal.close_before-requires-clause-later
 close_before-requires-clause-later g c =
     let sources = c.args.self.now.sources.items in
     let at = slice_get_read sources _ c.args.source c.index_mut.result.now refl c.requires.next.there c.index_mut.ensures.value in
     let pos : 0 < c.args.self.now.levels.epoch = omega (arith, c.epoch.ensures.epoch, c.epoch.ensures.lasts) in
-    subst (λ (n : ℕ). c.args.self.now.levels.closed ≤ c.in_ok-tuple.tuple.time / n + 1) (sym c.epoch.ensures.epoch)
+    let next_is = next-is _ _ _ _ c.epoch_of-next.ensures c.epoch.ensures.epoch in
+    subst (λ (n : ℕ). c.args.self.now.levels.closed ≤ n + 1) (sym next_is)
     (not-before _ c.args.self.now c.requires.flow pos c.args.source c.index_mut.result.now c.first_of.new.stream c.in_ok-tuple.tuple c.requires.next at c.in_ok-tuple.ensures.ok)
 
 pub index_mut-requires : goal.index_mut-requires
@@ -312,10 +328,7 @@ close_before-requires-clause-fits g c =
     let at = slice_get_read sources _ c.args.source c.index_mut.result.now refl c.requires.next.there c.index_mut.ensures.value in
     let pos : 0 < c.args.self.now.levels.epoch = omega (arith, c.epoch.ensures.epoch, c.epoch.ensures.lasts) in
     let low = (in-time _ c.args.self.now c.requires.flow pos c.args.source c.index_mut.result.now c.first_of.new.stream c.in_ok-tuple.tuple c.requires.next at c.in_ok-tuple.ensures.ok).1 in
-    omega (arith, low, div-le_self c.in_ok-tuple.tuple.time c.epoch.result)
-
-pub nonzero_div-next : goal.nonzero_div-next
-nonzero_div-next g c = c.epoch.ensures.lasts
+    omega (arith, low, c.epoch_of-next.ensures, div-le_self c.in_ok-tuple.tuple.time c.epoch.result)
 
 pub returns-in_err-tuple-clause-ok : goal.returns-in_err-tuple-clause-ok
 returns-in_err-tuple-clause-ok g c = let p = err_from_is_err_and c.from_residual.result c.from_residual.ensures.1 in rw p.1 tt
