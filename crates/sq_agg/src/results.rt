@@ -12,7 +12,6 @@ ghost use Rattle.sq_agg.specs.Holdings.{FitsResult, IsSoundKey, results_of, tagg
 
 use sq_aggfn::{Fold, Group};
 use sq_item::{Body, Item, Sign};
-use sq_lists::result_of;
 use sq_oper::Outlet;
 use sq_pane::Panes;
 use std::alloc::AllocError;
@@ -36,14 +35,13 @@ fn give_result<F: Fold, T: Outlet>(
     ensures stays_ready { OnOk result (T.ready out.new) }
     ensures came { (start : T) → T.came start out.old → T.came start out.new }
 {
-    let answers = fold.answer(state)?;
-    let tuple = result_of(start, group, answers)?;
+    let fields = fold.answer_after(group.as_slice(), state)?;
     out.give(
         0,
         Item {
-            time: tuple.time,
+            time: start,
             mark: Sign::none(),
-            body: Body::some(tuple.fields),
+            body: Body::some(fields),
         },
     )
 }

@@ -24,4 +24,4 @@ pub use sides::{Sides, begins_past, passing_pair};
 pub use sorter::Sorter;
 pub use sorts::{bsort_list, time_in_field};
 pub use tuples::{filter_list, map_list, map_tuple, port_of_tuple};
-pub use windows::{aggregate_list, result_of};
+pub use windows::aggregate_list;

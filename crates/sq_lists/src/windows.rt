@@ -9,20 +9,9 @@ ghost use Rattle.sq_lists.specs.Windows.{aggregate_of, aggregate_list_of};
 ghost use Rattle.sq_lists.specs.WindowParts.{leading, told_results, numbered_results, TimesNotFalling};
 
 use sq_aggfn::{Bundle, Fold, Func, Group, WindowSpec, add_at, group_of};
-use sq_value::{Fields, Tuple};
+use sq_value::Tuple;
 use std::alloc::{AllocError, Global};
 use std::collections::BTreeMap;
-
-/// The result of a group's answers in the window that begins at `start`.
-pub fn result_of(start: u64, group: &Group, answers: Fields) -> Result<Tuple, AllocError>
-    ensures { IfOk result (λ x. x ≡ record { time = start; fields = group.now ++ answers }) }
-{
-    let fields = group.followed_by(answers)?;
-    Ok(Tuple {
-        time: start,
-        fields,
-    })
-}
 
 /// How many tuples stand before the first that has the time `end` or a later one.
 fn leading(tuples: &[Tuple], end: u64) -> usize
@@ -65,8 +54,11 @@ fn push_results<F: Fold>(
     ensures { OnOk result (out.new.items ≡ out.old.items ++ told_results (F.told fold.now) start held.entries) }
 {
     while let Some((group, state)) = held.pop_first() {
-        let answers = fold.answer(&state)?;
-        out.push(result_of(start, &group, answers)?)?;
+        let fields = fold.answer_after(group.as_slice(), &state)?;
+        out.push(Tuple {
+            time: start,
+            fields,
+        })?;
     }
     Ok(())
 }

@@ -1,4 +1,4 @@
-use Rattle.std.proofs.Common.{arith, ap, ◌∙◌, ◌≡◌, ◌<◌, ◌≤◌, length, get_or, rules, set, get_or-set_other}
+use Rattle.std.proofs.Common.{arith, ap, ◌∙◌, ◌≡◌, ◌<◌, ◌≤◌, length, get_or, get_or-set_other}
 use Rattle.std.proofs.lemmas.List.{get_or_default}
 use Rattle.sq_aggfn.specs.declared.Func.TheVariants as func
 use Rattle.sq_aggfn.specs.Parts.{join_part}
@@ -9,18 +9,18 @@ pub loop-i-preserved : goal.loop-i-preserved
 loop-i-preserved c =
     let i = c.loop-i.i in
     let fs = c.args.funcs.now in
-    let ps = c.args.parts.now.items in
+    let ps = c.args.parts.now in
     let qs = c.args.others.now in
-    let rs = c.loop-i.parts.items in
+    let rs = c.loop-i.parts in
     let f = get_or fs i func.Count in
-    let b = c.index-others-i.result in
+    let p = c.index-parts-i.result in
+    let q = c.index-others-i.result in
     let hi : i < length rs = omega arith in
     let hb : i < length qs = omega arith in
     record {
-      long = (let e : length (set rs i c.join_copy.new.a) ≡ length ps = search rules in e);
       done = done_more fs ps qs rs i c.join_copy.new.a hi
-          (λ d. c.join_copy.ensures ∙ ap (λ a. join_part f a b) (c.index_mut.ensures.value ∙ c.loop-i.invariant.left i c.index_mut.result.now (omega arith) ∙ get_or_default ps i c.index_mut.result.now d (omega arith))
-          ∙ ap (join_part f (get_or ps i d)) (c.index-others-i.is ∙ get_or_default qs i b d hb))
+          (λ d. c.join_copy.ensures ∙ ap (λ a. join_part f a q) (c.loop-i.invariant.left i p (omega arith) ∙ get_or_default ps i p d (omega arith))
+          ∙ ap (join_part f (get_or ps i d)) (c.index-others-i.is ∙ get_or_default qs i q d hb))
           c.loop-i.invariant.done;
       left = λ k d le. get_or-set_other rs i k c.join_copy.new.a d (λ e. absurd (omega (arith, le, e))) ∙ c.loop-i.invariant.left k d (omega (arith, le));
     }
@@ -28,7 +28,7 @@ loop-i-preserved c =
 pub returns : goal.returns
 returns c =
     let fs = c.args.funcs.now in
-    let long : length c.loop-i.parts.items ≡ length fs = omega arith in
+    let long : length c.loop-i.parts ≡ length fs = omega arith in
     let far : length fs ≤ c.loop-i.i = omega arith in
-    joined_from_places fs c.args.parts.now.items c.args.others.now c.loop-i.parts.items c.requires.lengths.0 c.requires.lengths.1 long
+    joined_from_places fs c.args.parts.now c.args.others.now c.loop-i.parts c.requires.lengths.0 c.requires.lengths.1 long
     (λ k d lt. c.loop-i.invariant.done k d (omega (arith, lt, far)))

@@ -1,4 +1,4 @@
-use Rattle.std.proofs.Common.{◌≡◌, ℕ, ◌<◌, ◌≤◌, length, get_or}
+use Rattle.std.proofs.Common.{◌≡◌, ℕ, ◌<◌, ◌≤◌, get_or}
 use Rattle.sq_aggfn.specs.declared.Func.TheVariants as func
 use Rattle.sq_aggfn.specs.declared.parts.Part.{Part}
 use Rattle.sq_aggfn.specs.Parts.{join_part}
@@ -6,7 +6,6 @@ use Rattle.sq_aggfn.proofs.bundle.take_in_plain.Given as goal
 
 abbrev pub invariant-loop-i : goal.invariant-loop-i
 invariant-loop-i l = record {
-  long : length l.parts.items ≡ length l.fn.parts.items;
-  done : (k : ℕ) (d : Part) → k < l.i → get_or l.parts.items k d ≡ join_part (get_or l.fn.funcs k func.Count) (get_or l.fn.parts.items k d) (get_or l.fn.others k d);
-  left : (k : ℕ) (d : Part) → l.i ≤ k → get_or l.parts.items k d ≡ get_or l.fn.parts.items k d;
+  done : (k : ℕ) (d : Part) → k < l.i → get_or l.parts k d ≡ join_part (get_or l.fn.funcs k func.Count) (get_or l.fn.parts k d) (get_or l.fn.others k d);
+  left : (k : ℕ) (d : Part) → l.i ≤ k → get_or l.parts k d ≡ get_or l.fn.parts k d;
 }
