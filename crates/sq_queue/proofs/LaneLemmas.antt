@@ -1,8 +1,8 @@
 -- What an arc keeps, by its front and the face of its pages.
-use Rattle.std.proofs.Common.{◌≡◌, ◌≢◌, ℕ, suc, ◌+◌, ◌-◌, ◌<◌, ◌≤◌, Bool, true, false, cond, List, [], ◌∷◌, ◌++◌, Option, Some, None, length, refl, sym, ap, ◌∙◌, subst, arith}
+use Rattle.std.proofs.Common.{◌≡◌, ◌≢◌, ℕ, zero, suc, ◌+◌, ◌-◌, ◌<◌, ◌≤◌, Bool, true, false, cond, List, [], ◌∷◌, ◌++◌, Option, Some, None, length, refl, sym, ap, ◌∙◌, subst, arith}
 use Rattle.std.proofs.Math.Dec.{eqb-suc-zero}
 use Rattle.std.proofs.Math.ListN.{set}
-use Rattle.std.specs.Prelude.{Result, Ok, Err, OnOk, is_some, slice_get, unwrap_or}
+use Rattle.std.specs.Prelude.{Result, Ok, Err, OnOk, OnErr, is_some, slice_get, unwrap_or}
 use Rattle.std.specs.List.{AllByRecursion}
 use Rattle.std.proofs.lemmas.List.{length-append, append-nil}
 use Rattle.sq_item.specs.declared.Item.{Item}
@@ -17,6 +17,15 @@ use Rattle.sq_words.proofs.Lists.{get_set_same, get_set_other}
 pub on-ok-both : {T E P Q R : Type 0} (r : Result T E) → OnOk r P → OnOk r Q → (P → Q → R) → OnOk r R
 on-ok-both (Ok x) p q f = f p q
 on-ok-both (Err e) p q f = tt
+
+pub on-err-both : {T E P Q R : Type 0} (r : Result T E) → OnErr r P → OnErr r Q → (P → Q → R) → OnErr r R
+on-err-both (Ok x) p q f = tt
+on-err-both (Err e) p q f = f p q
+
+-- what holds where a call went well and where it failed
+pub on-either : {T E P : Type 0} (r : Result T E) → OnOk r P → OnErr r P → P
+on-either (Ok x) ok err = ok
+on-either (Err e) ok err = err
 
 -- ---- the face of an arc is that of its items
 
@@ -34,10 +43,6 @@ lane-face lane paged items l f =
       count = omega (arith, l.count, f.count, length-append (front_at lane) items);
       first = face-first lane ∙ first-of-all (front_at lane) items (behind_at lane) (l.behind ∙ f.first);
     }
-
-pub none-behind : (paged : Face) (items : List Item) → IsFaceOf paged items → paged.first ≡ None → items ≡ []
-none-behind paged [] f e = refl
-none-behind paged (x ∷ items) f e = let no : Some x.time ≡ None = sym f.first ∙ e in absurd cc
 
 -- ---- an item behind the others in front
 
@@ -60,6 +65,18 @@ appended-lane lane new item paged l a sound room =
       runs = l.runs;
       few = omega (arith, more, room);
       sound = subst (λ (xs : List Item). AllByRecursion IsSoundItem xs) (sym a.front) (sound-append lane.front.items item sound l.sound);
+    }
+
+-- an item that wasn't put in front
+pub kept-lane : (lane new : Lane) (paged : Face) → IsLane (Some lane) paged → new.front.items ≡ lane.front.items → new.count ≡ lane.count → new.behind ≡ lane.behind → IsLane (Some new) paged
+kept-lane lane new paged l front count behind =
+    let same : length new.front.items ≡ length lane.front.items = ap length front in
+    record {
+      count = omega (arith, l.count, count, same);
+      behind = behind ∙ l.behind;
+      runs = l.runs;
+      few = omega (arith, l.few, same);
+      sound = subst (λ (xs : List Item). AllByRecursion IsSoundItem xs) (sym front) l.sound;
     }
 
 -- an item behind the front is behind all, where nothing else is there
@@ -110,6 +127,10 @@ taken-lane lane new item paged l t =
 is-first-suc : (n : ℕ) → is_first (suc n) ≡ true
 is-first-suc n = ap (λ (b : Bool). cond b false true) (eqb-suc-zero n)
 
+pub none-first : (n : ℕ) → is_first n ≡ false → n ≡ 0
+none-first zero e = refl
+none-first (suc n) e = let no : true ≡ false = sym (is-first-suc n) ∙ e in absurd cc
+
 -- a first stands exactly where items do, in front or in pages
 some-of : (front : List Item) (behind : Option ℕ) (count paged : ℕ) → is_some behind ≡ is_first paged → count ≡ length front + paged → is_some (first_time_of front behind) ≡ is_first count
 some-of [] behind count paged h c = let same : count ≡ paged = omega (arith, c) in h ∙ ap is_first (sym same)
@@ -156,6 +177,13 @@ pub popped-face : (lanes : List Lane) (arc : ℕ) (lane new : Lane) → arc < le
     → IsPopped (face_at (slice_get lanes arc)) (face_at (slice_get (set lanes arc new) arc))
 popped-face lanes arc lane new inside was own =
     subst (λ (o : Option Lane). IsPopped (face_at (slice_get lanes arc)) (face_at o)) (sym (get_set_same lanes arc new inside)) (subst (λ (o : Option Lane). IsPopped (face_at o) (face_at (Some new))) (sym was) own)
+
+pub kept-face : (lanes : List Lane) (arc : ℕ) (lane new : Lane) → arc < length lanes → slice_get lanes arc ≡ Some lane → new.front.items ≡ lane.front.items → new.count ≡ lane.count → new.behind ≡ lane.behind → new.ended ≡ lane.ended
+    → face_at (slice_get (set lanes arc new) arc) ≡ face_at (slice_get lanes arc)
+kept-face lanes arc lane new inside was front count behind ended =
+    ap face_at (get_set_same lanes arc new inside)
+    ∙ face-by _ _ count (ap (λ (xs : List Item). first_time_of xs new.behind) front ∙ ap (λ (o : Option ℕ). first_time_of lane.front.items o) behind) ended
+    ∙ sym (ap face_at was)
 
 first-behind : (front : List Item) (behind : Option ℕ) (time : ℕ) → first_time_of front (Some (unwrap_or behind time)) ≡ first_time_or (first_time_of front behind) time
 first-behind [] behind time = first-given behind time

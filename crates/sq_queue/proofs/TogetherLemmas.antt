@@ -3,19 +3,19 @@ use Rattle.std.proofs.Common.{◌≡◌, ◌≢◌, ℕ, zero, suc, ◌<◌, Lis
 use Rattle.std.proofs.Math.ListN.{set, get_or, length-set}
 use Rattle.std.proofs.lemmas.Bool.{cases_eq}
 use Rattle.std.proofs.lemmas.List.{set-get_or}
-use Rattle.std.specs.Prelude.{slice_get}
+use Rattle.std.specs.Prelude.{is_some, slice_get}
 use Rattle.std.specs.List.{AllByRecursion}
 use Rattle.sq_item.specs.declared.Item.{Item}
 use Rattle.sq_item.specs.SoundItems.{IsSoundItem}
 use Rattle.sq_outside.specs.Disks.{Pages}
-use Rattle.sq_pool.specs.Trust.{Tells}
 use Rattle.sq_paged.specs.Fronts.{Face}
 use Rattle.sq_paged.specs.Faces as pages
 use Rattle.sq_queue.specs.Faces.{front_at, size, items_on, no_face, IsEmpty, IsLane, Together}
 use Rattle.sq_queue.specs.declared.Lane.{Lane}
 use Rattle.sq_queue.specs.declared.Queues.{Queues}
 use Rattle.sq_paged.specs.declared.Queues.{Queues as Paged}
-use Rattle.sq_queue.proofs.LaneLemmas.{lane-face, none-behind}
+use Rattle.sq_paged.proofs.CallLemmas.{first-in}
+use Rattle.sq_queue.proofs.LaneLemmas.{lane-face, none-first}
 use Rattle.sq_words.proofs.Lists.{get_set_same, get_set_other}
 
 -- where pages and lanes are as they should be, all stands together
@@ -69,6 +69,14 @@ read-together q told r g paged lanes =
     together-by r told (subst (λ (p : Paged). pages.PagedTogether p told) (sym paged) g.paged) (ap pages.paged_size paged ∙ g.arcs ∙ sym (ap length lanes))
     (λ l. subst (λ (p : Paged). IsLane (slice_get r.lanes.items l) (pages.paged_face p l)) (sym paged) (subst (λ (ls : List Lane). IsLane (slice_get ls l) (pages.paged_face q.paged l)) (sym lanes) (g.lanes l)))
 
+-- the lane of the arc was written, and its items stayed
+pub kept-items : (q : Queues) (told : Option Pages) (r : Queues) (arc : ℕ) (lane new : Lane) → arc < size q → slice_get q.lanes.items arc ≡ Some lane → r.lanes.items ≡ set q.lanes.items arc new → r.paged ≡ q.paged
+    → new.front.items ≡ lane.front.items → items_on r told arc ≡ items_on q told arc
+kept-items q told r arc lane new inside was lanes paged front =
+    let here : slice_get r.lanes.items arc ≡ Some new = ap (λ (ls : List Lane). slice_get ls arc) lanes ∙ get_set_same q.lanes.items arc new inside in
+    ap (λ (o : Option Lane). front_at o ++ pages.paged_items_on r.paged told arc) here ∙ ap (λ (xs : List Item). xs ++ pages.paged_items_on r.paged told arc) front
+    ∙ ap (λ (p : Paged). lane.front.items ++ pages.paged_items_on p told arc) paged ∙ ap (λ (o : Option Lane). front_at o ++ pages.paged_items_on q.paged told arc) (sym was)
+
 -- the first item of the arc whose lane was written is gone
 pub taken-items : (q : Queues) (told : Option Pages) (r : Queues) (now : Option Pages) (arc : ℕ) (lane new : Lane) (item : Item) → arc < size q → slice_get q.lanes.items arc ≡ Some lane → r.lanes.items ≡ set q.lanes.items arc new
     → lane.front.items ++ pages.paged_items_on q.paged told arc ≡ item ∷ (new.front.items ++ pages.paged_items_on r.paged now arc) → items_on q told arc ≡ item ∷ items_on r now arc
@@ -77,10 +85,22 @@ taken-items q told r now arc lane new item inside was lanes own =
     ap (λ (o : Option Lane). front_at o ++ pages.paged_items_on q.paged told arc) was ∙ own ∙ ap (λ (o : Option Lane). item ∷ (front_at o ++ pages.paged_items_on r.paged now arc)) (sym here)
 
 -- where nothing of an arc is said to be in pages, nothing is
-pub none-paged : (q : Queues) (told : Option Pages) (arc : ℕ) (lane : Lane) → Together q told → Tells told → slice_get q.lanes.items arc ≡ Some lane → lane.behind ≡ None → pages.paged_items_on q.paged told arc ≡ []
-none-paged q told arc lane g tells was none =
+no-nodes : (q : Paged) (told : Option Pages) (arc : ℕ) → pages.PagedTogether q told → (pages.paged_face q arc).first ≡ None → pages.nodes_on q arc ≡ []
+no-nodes q told arc g none = by (pages.nodes_on q arc) refl
+  where
+    by : (nodes : List ℕ) → pages.nodes_on q arc ≡ nodes → nodes ≡ []
+    by [] e = refl
+    by (x ∷ nodes) e =
+        let own = g.lanes arc in
+        let some = (g.pages arc x (first-in q arc x (rw e refl))).some in
+        let all : (pages.paged_face q arc).count ≡ pages.count_along q.kept.items (x ∷ nodes) = own.count ∙ ap (pages.count_along q.kept.items) e in
+        let zero_is = none-first (pages.paged_face q arc).count (sym own.first ∙ ap is_some none) in
+        absurd (omega (arith, some, all, zero_is))
+
+pub none-paged : (q : Queues) (told : Option Pages) (arc : ℕ) (lane : Lane) → Together q told → slice_get q.lanes.items arc ≡ Some lane → lane.behind ≡ None → pages.paged_items_on q.paged told arc ≡ []
+none-paged q told arc lane g was none =
     let own = own-lane q told arc lane g was in
-    none-behind (pages.paged_face q.paged arc) (pages.paged_items_on q.paged told arc) (g.paged.faces tells arc) (sym own.behind ∙ none)
+    ap (pages.items_along q.paged.pool told q.paged.kept.items) (no-nodes q.paged told arc g.paged (sym own.behind ∙ none))
 
 -- ---- new queues
 
