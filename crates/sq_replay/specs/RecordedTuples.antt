@@ -1,10 +1,10 @@
 -- The tuples that a source recorded, of which some still stand in its text.
-use Rattle.std.specs.Prelude.{ℕ, ◌==◌, if◌then◌else◌, List, [], ◌∷◌, length, drop, Option, None, Some, Result, Ok, Err}
+use Rattle.std.specs.Prelude.{ℕ, ◌==◌, if◌then◌else◌, List, [], ◌∷◌, length, Option, None, Some, Result, Ok, Err}
 use Rattle.std.specs.Str.Lines.{strip_carriage_return}
 use Rattle.sq_value.specs.declared.Kind.{Kind}
 use Rattle.sq_value.specs.declared.Tuple.{Tuple}
 use Rattle.sq_replay.specs.declared.why.Why.{Why}
-use Rattle.sq_replay.specs.FileLines.{pieces_of}
+use Rattle.sq_replay.specs.FileLines.{pieces_at}
 use Rattle.sq_replay.specs.Streams.{tuple_of_line}
 
 -- the tuples that are to come, in order
@@ -30,4 +30,4 @@ tuples_left ks latest (piece ∷ pieces) =
 
 -- the tuples of a text from a place on
 abbrev pub tuples_recorded : List Kind → ℕ → List ℕ → ℕ → List Tuple
-tuples_recorded ks latest text at = tuples_left ks latest (pieces_of (drop at text))
+tuples_recorded ks latest text at = tuples_left ks latest (pieces_at text at)

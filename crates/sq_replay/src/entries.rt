@@ -4,7 +4,7 @@ ghost use Rattle.std.specs.List.{filter};
 ghost use Rattle.sq_replay.specs.FileLines.{file_lines, has_text};
 ghost use Rattle.sq_replay.specs.Entries.{IsBadLine, capacities_in, capacity_text, entries_from, entry_in, is_later, line_view, picks_from, picks_in, wide_number};
 
-use crate::stream::{next_piece, without_mark, without_return};
+use crate::stream::{piece_at, without_mark, without_return};
 use sq_csv::cut_first;
 use sq_plan::Capacities;
 use sq_value::read_short_number;
@@ -53,10 +53,11 @@ fn lines_of(alloc: Global, bytes: &[u8]) -> Result<Vec<(u32, &[u8])>, AllocError
 {
     let mut lines = Vec::new(alloc);
     let mut number = 0u32;
-    let mut rest = Some(without_mark(bytes));
-    while let Some(text) = rest {
-        let (piece, more) = next_piece(text);
-        rest = more;
+    let text = without_mark(bytes);
+    let mut at = 0;
+    while at <= text.len() {
+        let (piece, next) = piece_at(text, at);
+        at = next;
         number += 1;
         push_line(&mut lines, number, without_return(piece))?;
     }

@@ -1,34 +1,34 @@
 // The time of a line that breaks no rule, told without making its values. Which rule a line breaks isn't asked here, and of
 // the lines that break none nothing is told of those with a number or a boolean in quotes.
-ghost use Rattle.std.specs.Prelude.{◌≡◌, ◌∷◌, IfOk, IfSome, List, Ok, false, true};
+ghost use Rattle.std.specs.Prelude.{◌≡◌, ◌≤◌, IfOk, IfSome, List, drop, false, length, true};
 ghost use Rattle.std.specs.List.{list_all};
-ghost use Rattle.sq_csv.specs.Cuts.{begins_quoted, below_128};
+ghost use Rattle.sq_csv.specs.Cuts.{begins_quoted, below_128, ends_line};
 ghost use Rattle.sq_value.specs.declared.Value.{Value as V};
-ghost use Rattle.sq_replay.specs.Cuts.{AreLeft, BeginsWith, ReadsField};
-ghost use Rattle.sq_replay.specs.Streams.{tuple_of_line};
+ghost use Rattle.sq_replay.specs.Cuts.{AreRead, ReadsAt, ReadsField, ReadsLine};
 
 use crate::plain::{cut_int, cut_tick, is_ascii, text_of};
-use sq_csv::{cut_bare, unquote};
+use sq_csv::{cut_bare, cut_quote, line_ends_at, stands_at, unquote};
 use sq_value::{Kind, read_value};
 use std::alloc::{AllocError, Global};
 
 /// A text value has at most so many bytes.
 const TEXT_LENGTH: usize = 255;
 
-/// What stands behind a text's first field, where that is a value of a kind whose values are no texts.
+/// Where a field ends that is a value of a kind whose values are no texts.
 #[inline(always)]
-fn behind_read(alloc: Global, kind: Kind, text: &[u8]) -> Option<Option<&[u8]>>
-    requires { begins_quoted text.now ≡ false }
-    ensures { IfSome result (λ more. BeginsWith kind text.now more) }
+fn behind_read(alloc: Global, kind: Kind, text: &[u8], from: usize) -> Option<usize>
+    requires within { from ≤ length text.now }
+    requires bare { begins_quoted (drop from text.now) ≡ false }
+    ensures { IfSome result (λ at. (v : V) × ReadsAt kind text.now from v at) }
 {
-    let Some((field, more, ascii)) = cut_bare(text) else {
+    let Some((at, ascii)) = cut_bare(text, from) else {
         return None;
     };
-    let Some(read) = text_of(field, ascii) else {
+    let Some(read) = text_of(&text[from..at], ascii) else {
         return None;
     };
     match read_value(alloc, kind, read) {
-        Ok(_) => Some(more),
+        Ok(_) => Some(at),
         Err(_) => None,
     }
 }
@@ -48,118 +48,155 @@ fn is_text(field: &[u8], ascii: bool) -> bool
     }
 }
 
-/// What stands behind a text's first field, where that is a text value.
+/// Where a field ends that is a text value.
 #[inline(always)]
-fn behind_text(text: &[u8]) -> Option<Option<&[u8]>>
-    requires { begins_quoted text.now ≡ false }
-    ensures { IfSome result (λ more. BeginsWith Kind.Text text.now more) }
+fn behind_text(text: &[u8], from: usize) -> Option<usize>
+    requires within { from ≤ length text.now }
+    requires bare { begins_quoted (drop from text.now) ≡ false }
+    ensures { IfSome result (λ at. (v : V) × ReadsAt Kind.Text text.now from v at) }
 {
-    let Some((field, more, ascii)) = cut_bare(text) else {
+    let Some((at, ascii)) = cut_bare(text, from) else {
         return None;
     };
-    if is_text(field, ascii) {
-        return Some(more);
+    if is_text(&text[from..at], ascii) {
+        return Some(at);
     }
     None
 }
 
-/// What stands behind a text's first field, where that is a number or empty.
+/// Where a field ends that is a number or empty.
 #[inline(always)]
-fn behind_int(alloc: Global, text: &[u8]) -> Option<Option<&[u8]>>
-    requires { begins_quoted text.now ≡ false }
-    ensures { IfSome result (λ more. BeginsWith Kind.Int text.now more) }
+fn behind_int(alloc: Global, text: &[u8], from: usize) -> Option<usize>
+    requires within { from ≤ length text.now }
+    requires bare { begins_quoted (drop from text.now) ≡ false }
+    ensures { IfSome result (λ at. (v : V) × ReadsAt Kind.Int text.now from v at) }
 {
-    match cut_int(text) {
-        Some((_, more)) => Some(more),
-        None => behind_read(alloc, Kind::Int, text),
+    match cut_int(text, from) {
+        Some((_, at)) => Some(at),
+        None => behind_read(alloc, Kind::Int, text, from),
     }
 }
 
 #[inline(always)]
-fn behind_bare(alloc: Global, kind: Kind, text: &[u8]) -> Option<Option<&[u8]>>
-    requires { begins_quoted text.now ≡ false }
-    ensures { IfSome result (λ more. BeginsWith kind text.now more) }
+fn behind_bare(alloc: Global, kind: Kind, text: &[u8], from: usize) -> Option<usize>
+    requires within { from ≤ length text.now }
+    requires bare { begins_quoted (drop from text.now) ≡ false }
+    ensures { IfSome result (λ at. (v : V) × ReadsAt kind text.now from v at) }
 {
     match kind {
-        Kind::Int => behind_int(alloc, text),
-        Kind::Text => behind_text(text),
-        Kind::Bool => behind_read(alloc, Kind::Bool, text),
+        Kind::Int => behind_int(alloc, text, from),
+        Kind::Text => behind_text(text, from),
+        Kind::Bool => behind_read(alloc, Kind::Bool, text, from),
     }
 }
 
-/// What stands behind a text's first field, where that stands in quotes, the first of them behind, and is a text value.
-fn behind_quoted<'a>(
-    quoted: &'a [u8],
+/// Where a field with quotes within its quotes ends that is a text value.
+fn behind_doubled(
+    text: &[u8],
+    from: usize,
     unquoted: &mut Vec<u8>,
-) -> Result<Option<Option<&'a [u8]>>, AllocError>
-    ensures { IfOk result (λ o. IfSome o (λ more. BeginsWith Kind.Text (34 ∷ quoted.now) more)) }
+) -> Result<Option<usize>, AllocError>
+    requires { begins_quoted (drop from text.now) ≡ true }
+    ensures { IfOk result (λ o. IfSome o (λ at. (v : V) × ReadsAt Kind.Text text.now from v at)) }
 {
-    let Some(more) = unquote(quoted, unquoted)? else {
+    let Some(at) = unquote(text, from + 1, unquoted)? else {
         return Ok(None);
     };
     let field = unquoted.as_slice();
     if is_text(field, is_ascii(field)) {
-        return Ok(Some(more));
+        return Ok(Some(at));
     }
     Ok(None)
 }
 
-/// What stands behind a text's first field, where that is a value. None says nothing.
+/// Where a field that stands in quotes ends that is a text value.
 #[inline(always)]
-fn behind_first<'a>(
+fn behind_quoted(
+    text: &[u8],
+    from: usize,
+    unquoted: &mut Vec<u8>,
+) -> Result<Option<usize>, AllocError>
+    requires { begins_quoted (drop from text.now) ≡ true }
+    ensures { IfOk result (λ o. IfSome o (λ at. (v : V) × ReadsAt Kind.Text text.now from v at)) }
+{
+    let Some((quote, ascii)) = cut_quote(text, from + 1) else {
+        return Ok(None);
+    };
+    if stands_at(text, quote + 1, b'"') {
+        return behind_doubled(text, from, unquoted);
+    }
+    if is_text(&text[from + 1..quote], ascii) {
+        return Ok(Some(quote + 1));
+    }
+    Ok(None)
+}
+
+/// Where the field ends that begins at a place, where it is a value. None says nothing.
+#[inline(always)]
+fn behind_first(
     alloc: Global,
     kind: Kind,
-    text: &'a [u8],
+    text: &[u8],
+    from: usize,
     unquoted: &mut Vec<u8>,
-) -> Result<Option<Option<&'a [u8]>>, AllocError>
-    ensures { IfOk result (λ o. IfSome o (λ more. BeginsWith kind text.now more)) }
+) -> Result<Option<usize>, AllocError>
+    requires { from ≤ length text.now }
+    ensures { IfOk result (λ o. IfSome o (λ at. (v : V) × ReadsAt kind text.now from v at)) }
 {
-    match (kind, text) {
-        (Kind::Text, [b'"', quoted @ ..]) => behind_quoted(quoted, unquoted),
-        (_, [b'"', ..]) => Ok(None),
-        _ => Ok(behind_bare(alloc, kind, text)),
+    match (kind, stands_at(text, from, b'"')) {
+        (Kind::Text, true) => behind_quoted(text, from, unquoted),
+        (_, true) => Ok(None),
+        (_, false) => Ok(behind_bare(alloc, kind, text, from)),
     }
 }
 
-/// Whether the fields that are left are values of these kinds. False says nothing.
+/// Where a line ends whose fields that are left are values of these kinds. None says nothing.
 #[inline(always)]
-fn are_values(
+fn behind_values(
     alloc: Global,
     kinds: &[Kind],
-    left: Option<&[u8]>,
+    text: &[u8],
+    from: usize,
     unquoted: &mut Vec<u8>,
-) -> Result<bool, AllocError>
-    ensures { IfOk result (λ are. are ≡ true → (vs : List V) × AreLeft kinds.now left.entry vs) }
+) -> Result<Option<usize>, AllocError>
+    requires { from ≤ length text.now }
+    ensures { IfOk result (λ o. IfSome o (λ end. (vs : List V) × AreRead kinds.now text.now from vs end × (ends_line (drop end text.now) ≡ true))) }
 {
-    let mut rest = left;
+    let mut at = from;
     for kind in kinds {
-        let Some(text) = rest else {
-            return Ok(false);
+        if !stands_at(text, at, b',') {
+            return Ok(None);
+        }
+        let Some(next) = behind_first(alloc, *kind, text, at + 1, unquoted)? else {
+            return Ok(None);
         };
-        let Some(more) = behind_first(alloc, *kind, text, unquoted)? else {
-            return Ok(false);
-        };
-        rest = more;
+        at = next;
     }
-    Ok(rest.is_none())
+    if !line_ends_at(text, at) {
+        return Ok(None);
+    }
+    Ok(Some(at))
 }
 
-/// The time of a line's tuple, where no tuple before it is later than `latest`. None says nothing.
+/// The time of the tuple of the line that begins at a place, where no tuple before it is later than `latest`, and where the line
+/// ends. None says nothing.
 #[inline(always)]
 pub(crate) fn time_at_once(
     alloc: Global,
     kinds: &[Kind],
     latest: u64,
-    line: &[u8],
+    text: &[u8],
+    from: usize,
     unquoted: &mut Vec<u8>,
-) -> Result<Option<u64>, AllocError>
-    ensures { IfOk result (λ o. IfSome o (λ time. (vs : List V) × (tuple_of_line kinds.now latest line.now ≡ Ok (record { time = time; fields = vs })))) }
+) -> Result<Option<(u64, usize)>, AllocError>
+    requires { from ≤ length text.now }
+    ensures { IfOk result (λ o. IfSome o (λ p. (vs : List V) × ReadsLine kinds.now latest text.now from (record { time = p.0; fields = vs }) p.1)) }
 {
-    let Some((time, left)) = cut_tick(latest, line) else {
+    let Some((time, at)) = cut_tick(latest, text, from) else {
         return Ok(None);
     };
-    if are_values(alloc, kinds, left, unquoted)? {
-        return Ok(Some(time));
+    match behind_values(alloc, kinds, text, at, unquoted)? {
+        Some(end) => Ok(Some((time, end))),
+        None => Ok(None),
     }
-    Ok(None)
 }

@@ -1,5 +1,5 @@
 // The tuples of a text, line by line.
-ghost use Rattle.std.specs.Prelude.{◌≡◌, ◌<◌, ◌≤◌, ◌++◌, ◌∷◌, [], ℕ, List, IfOk, IfSome, MatchOption, OnErr, OnOk, drop, length};
+ghost use Rattle.std.specs.Prelude.{◌≡◌, ◌<◌, ◌≤◌, ◌++◌, ◌∷◌, [], ◌+◌, ℕ, List, IfOk, IfSome, MatchOption, OnErr, OnOk, drop, length};
 ghost use Rattle.sq_value.specs.declared.Kind.{Kind as K};
 ghost use Rattle.sq_replay.specs.FileLines.{pieces_of, without_mark};
 ghost use Rattle.sq_replay.specs.RecordedTuples.{and_then, tuples_recorded, tuples_left};
@@ -7,8 +7,8 @@ ghost use Rattle.sq_replay.specs.Streams.{tuple_of_line};
 ghost use Rattle.sq_replay.specs.RestOfText.{all_to_come, unread_tuples, with_next};
 
 use crate::line::{TupleErr, read_tuple};
-use crate::stream::without_return;
-use sq_csv::cut_first;
+use crate::plain::read_at_once;
+use crate::stream::{piece_at, without_return};
 use sq_value::{Kind, Tuple};
 use std::alloc::{AllocError, Global};
 use std::collections::VecDeque;
@@ -26,7 +26,8 @@ pub(crate) struct Unread {
 
 /// How many bytes a mark of byte order takes at the start.
 fn mark_length(bytes: &[u8]) -> usize
-    ensures { drop result bytes.now ≡ without_mark bytes.now }
+    ensures mark { drop result bytes.now ≡ without_mark bytes.now }
+    ensures within { result ≤ length bytes.now }
 {
     match bytes {
         [0xEF, 0xBB, 0xBF, ..] => 3,
@@ -64,30 +65,15 @@ impl Unread {
     }
 }
 
-/// The piece of a text that begins at a place, and where the next one begins.
-#[inline(always)]
-fn piece_at(text: &[u8], at: usize) -> (&[u8], usize)
-    requires { at < length text.now }
-    ensures piece { (ks : List K) (latest : ℕ) → tuples_recorded ks latest text.now at ≡ tuples_left ks latest (result.0.now ∷ pieces_of (drop result.1 text.now)) }
-    ensures further { at < result.1 }
-    ensures within { result.1 ≤ length text.now }
-{
-    let left = &text[at..];
-    match cut_first(left, b'\n') {
-        Some((piece, _)) => (piece, at + piece.len() + 1),
-        None => (left, text.len()),
-    }
-}
-
 /// The first line of a text from a place on that isn't empty, and where the next one begins.
 #[inline(always)]
 fn next_line(text: &[u8], at: usize) -> Option<(&[u8], usize)>
     ensures line { MatchOption result ((ks : List K) (latest : ℕ) → tuples_recorded ks latest text.now at ≡ [])
         (λ p. (ks : List K) (latest : ℕ) → tuples_recorded ks latest text.now at ≡ and_then (tuple_of_line ks latest p.0.now) (λ t. tuples_recorded ks t.time text.now p.1)) }
-    ensures further { IfSome result (λ p. (at < p.1) × (p.1 ≤ length text.now)) }
+    ensures further { IfSome result (λ p. (at < p.1) × (p.1 ≤ length text.now + 1)) }
 {
     let mut next = at;
-    while next < text.len() {
+    while next <= text.len() {
         let (piece, behind) = piece_at(text, next);
         next = behind;
         let line = without_return(piece);
@@ -109,10 +95,9 @@ pub(crate) fn read_rest(
 ) -> Result<(), AllocError>
     ensures { OnOk result (tuples.new.items ≡ tuples.old.items ++ tuples_recorded kinds.now after text.now from) }
 {
-    let mut unquoted = Vec::new(alloc);
     let (mut latest, mut at) = (after, from);
     while let Some((line, next)) = next_line(text, at) {
-        match read_tuple(alloc, kinds, 0, latest, line, &mut unquoted) {
+        match read_tuple(alloc, kinds, 0, latest, line) {
             Ok(tuple) => {
                 latest = tuple.time;
                 at = next;
@@ -125,9 +110,9 @@ pub(crate) fn read_rest(
     Ok(())
 }
 
-/// Reads the next tuple of a text, where there is one.
-#[inline(always)]
-fn read_next(unread: &mut Unread) -> Result<Option<Tuple>, AllocError>
+/// Reads the next tuple of a text, where its line isn't read at once.
+#[inline(never)]
+fn read_slowly(unread: &mut Unread) -> Result<Option<Tuple>, AllocError>
     ensures read { IfOk result (λ o. with_next o (unread_tuples unread.new) ≡ unread_tuples unread.old) }
     ensures err { OnErr result (unread_tuples unread.new ≡ unread_tuples unread.old) }
 {
@@ -135,14 +120,7 @@ fn read_next(unread: &mut Unread) -> Result<Option<Tuple>, AllocError>
     let Some((line, next)) = next_line(&unread.text, unread.at) else {
         return Ok(None);
     };
-    match read_tuple(
-        alloc,
-        &unread.kinds,
-        0,
-        unread.latest,
-        line,
-        &mut unread.unquoted,
-    ) {
+    match read_tuple(alloc, &unread.kinds, 0, unread.latest, line) {
         Ok(tuple) => {
             unread.latest = tuple.time;
             unread.at = next;
@@ -151,6 +129,33 @@ fn read_next(unread: &mut Unread) -> Result<Option<Tuple>, AllocError>
         Err(TupleErr::Bad(_)) => Ok(None),
         Err(TupleErr::Memory) => Err(AllocError),
     }
+}
+
+/// Reads the next tuple of a text, where there is one.
+#[inline(always)]
+fn read_next(unread: &mut Unread) -> Result<Option<Tuple>, AllocError>
+    ensures read { IfOk result (λ o. with_next o (unread_tuples unread.new) ≡ unread_tuples unread.old) }
+    ensures err { OnErr result (unread_tuples unread.new ≡ unread_tuples unread.old) }
+{
+    if unread.at > unread.text.len() {
+        return Ok(None);
+    }
+    let alloc = *unread.text.allocator();
+    let mut end = 0usize;
+    if let Some(tuple) = read_at_once(
+        alloc,
+        &unread.kinds,
+        unread.latest,
+        &unread.text,
+        unread.at,
+        &mut unread.unquoted,
+        &mut end,
+    )? {
+        unread.latest = tuple.time;
+        unread.at = end + 1;
+        return Ok(Some(tuple));
+    }
+    read_slowly(unread)
 }
 
 /// The first tuple of a stream file, where there is one, and what stands behind it.

@@ -1,34 +1,44 @@
-use Rattle.std.proofs.Common.{◌<◌, ◌∙◌, ◌+◌, sym, length, arith}
-use Rattle.std.specs.Str.Lines.{strip_carriage_return}
-use Rattle.std.proofs.lemmas.Bool.Decides.{nat_tests}
+use Rattle.std.proofs.Common.{◌≡◌, ◌∙◌, ◌+◌, [], sym, subst, ap, length, Some, Err, None, arith, ◌≤◌}
 use Rattle.sq_value.specs.Values.{kinds_of}
-use Rattle.sq_replay.specs.FileLines.{lines_from, pieces_left, pieces_of, without_mark}
-use Rattle.sq_replay.specs.Answers.{IsTimeOf}
-use Rattle.sq_replay.specs.Streams.{tuple_on_line}
-use Rattle.sq_replay.proofs.StreamLemmas.{text_line}
-use Rattle.sq_replay.proofs.RecordedLemmas.{error_step, good_stream}
+use Rattle.sq_replay.specs.Answers.{IsLineRefused, IsTested}
+use Rattle.sq_replay.specs.FileLines.{lines_from, pieces_at, pieces_of, without_mark}
+use Rattle.sq_replay.specs.Streams.{stream_in, tuples_from}
+use Rattle.sq_replay.proofs.RecordedLemmas.{error_is, error_step, first_error, good_stream, pieces_past, pieces_start, unmarked_shorter}
 use Rattle.sq_replay.proofs.stream.test_lines.Goals as goal
 
-pub loop-rest-preserved : goal.loop-rest-preserved
-loop-rest-preserved c =
-    let l = c.loop-rest in
-    let ks = kinds_of c.args.schema.now in
-    let piece = c.next_piece.result.0.now in
-    let pieces = pieces_left c.next_piece.result.1 in
-    let line = strip_carriage_return piece in
-    let some : 0 < length line = grind (arith, nat_tests, c.without_return-line.ensures, c.is_empty.ensures, c.if-is_empty.false) in
-    let told : IsTimeOf c.in-Ok.time (tuple_on_line ks l.count l.latest line) = rw (c.kinds-kinds.ensures, c.without_return-line.ensures) at c.in-Ok.ensures.tuple in
-    let one = error_step ks l.count l.latest (l.number + 1) line (lines_from (l.number + 1 + 1) pieces) told.0 told.1 in
-    let step = rw told.2 at one in
-    let so_far = rw (c.in-Some.is, c.next_piece.ensures.pieces, text_line (l.number + 1) piece pieces some) at l.invariant.so_far in
-    let counted = rw c.in-Some.is at l.invariant.counted in
+pub loop-at-init : goal.loop-at-init
+loop-at-init c =
+    let text = c.without_mark-text.result.now in
+    let start : pieces_at text 0 ≡ pieces_of (without_mark c.args.bytes.now) = pieces_start text ∙ ap pieces_of c.without_mark-text.ensures in
     record {
-      so_far = sym step ∙ so_far;
-      counted = omega (arith, c.next_piece.ensures.shorter, counted);
+      so_far = ap (λ ps. first_error (tuples_from (kinds_of c.args.schema.now) 0 0 (lines_from 1 ps))) start;
+      shorter = subst (λ t. length t ≤ length c.args.bytes.now) (sym c.without_mark-text.ensures) (unmarked_shorter c.args.bytes.now);
+      counted = omega arith;
+      fewer = omega arith;
+    }
+
+pub loop-at-preserved : goal.loop-at-preserved
+loop-at-preserved c =
+    let l = c.loop-at in
+    let ks = kinds_of c.args.schema.now in
+    let text = c.without_mark-text.result.now in
+    let next = c.in-Ok.next in
+    let told : IsTested ks l.count l.latest text l.at (Some c.in-Some.time) next = rw (c.kinds-kinds.ensures, c.in-Some.is) at c.in-Ok.ensures.told in
+    let one = error_step ks l.count l.latest (l.number + 1) told.0 (lines_from (l.number + 1 + 1) (pieces_at text next)) told.2.0 told.2.1 in
+    let step = rw told.2.2 at one in
+    record {
+      so_far = sym step ∙ sym (ap (λ ls. first_error (tuples_from ks l.count l.latest ls)) (told.1 (l.number + 1))) ∙ l.invariant.so_far;
+      shorter = l.invariant.shorter;
+      counted = omega (arith, c.in-Ok.ensures.further, l.invariant.counted);
       fewer = omega (arith, l.invariant.fewer);
     }
 
 pub returns-clause-tuples : goal.returns-clause-tuples
 returns-clause-tuples c =
-    let good = rw c.in_default.is at c.loop-rest.invariant.so_far in
-    good_stream (kinds_of c.args.schema.now) (pieces_of (without_mark c.args.bytes.now)) 1 0 0 (sym good)
+    let l = c.loop-at in
+    let ks = kinds_of c.args.schema.now in
+    let text = c.without_mark-text.result.now in
+    let none : pieces_at text l.at ≡ [] = pieces_past text l.at (omega (arith, c.loop-at-test.false)) in
+    let good : first_error (stream_in c.args.schema.now c.args.bytes.now) ≡ None =
+    sym l.invariant.so_far ∙ ap (λ ps. first_error (tuples_from ks l.count l.latest (lines_from (l.number + 1) ps))) none in
+    good_stream ks (pieces_of (without_mark c.args.bytes.now)) 1 0 0 good

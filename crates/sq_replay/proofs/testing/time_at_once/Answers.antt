@@ -1,8 +1,8 @@
 use Rattle.sq_replay.proofs.CutLemmas.{line_is_read}
 use Rattle.sq_replay.proofs.testing.time_at_once.Goals as goal
 
-pub returns-then-branch : goal.returns-then-branch
-returns-then-branch c =
-    let begins = c.in-Some.ensures in
-    let are = c.in_ok-are_values.ensures c.if-branch.true in
-    (are.0, line_is_read c.args.kinds.now c.args.latest c.args.line.now c.in-Some.left c.in-Some.time are.0 begins.digit begins.cut begins.later begins.small are.1)
+pub returns-in-Some-2 : goal.returns-in-Some-2
+returns-in-Some-2 c =
+    let tick = c.in-Some.ensures in
+    let are = rw c.in-Some-2.is at c.in_ok-behind_values.ensures in
+    (are.0, line_is_read c.args.kinds.now c.args.latest c.args.text.now c.args.from c.in-Some.at c.in-Some-2.end c.in-Some.time are.0 c.requires tick.0 tick.1 tick.2 are.1 are.2)

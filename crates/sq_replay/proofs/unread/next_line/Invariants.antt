@@ -1,4 +1,4 @@
-use Rattle.std.proofs.Common.{◌≡◌, ℕ, List, ◌-◌, ◌≤◌, length}
+use Rattle.std.proofs.Common.{◌≡◌, ℕ, List, ◌+◌, ◌-◌, ◌≤◌, length}
 use Rattle.sq_value.specs.declared.Kind.{Kind}
 use Rattle.sq_replay.specs.RecordedTuples.{tuples_recorded}
 use Rattle.sq_replay.proofs.unread.next_line.Given as goal
@@ -10,4 +10,4 @@ invariant-loop-next l = record {
 }
 
 abbrev pub decreases-loop-next : goal.decreases-loop-next
-decreases-loop-next l = length l.text - l.next
+decreases-loop-next l = length l.text + 1 - l.next

@@ -1,0 +1,38 @@
+use Rattle.std.proofs.Common.{◌≡◌, ◌+◌, ◌<◌, sym, refl, length, arith}
+use Rattle.std.proofs.lemmas.Bool.Decides.{nat_tests}
+use Rattle.sq_replay.specs.FileLines.{lines_from, pieces_at}
+use Rattle.sq_replay.proofs.RecordedLemmas.{line_next, line_none, line_refused, line_tested}
+use Rattle.sq_replay.proofs.stream.test_line.Goals as goal
+
+pub returns-in-Ok-Some-clause-told : goal.returns-in-Ok-Some-clause-told
+returns-in-Ok-Some-clause-told c =
+    let read = rw c.in-Ok-Some.field-0-is at c.in-Ok-Some.ensures in
+    line_tested c.args.kinds.now c.args.count c.args.latest c.args.text.now c.args.at (record { time = c.in-Ok-Some.time; fields = read.0 }) c.in-Ok-Some.end
+    c.if-count-lt-TUPLES.true read.1
+
+pub returns-in-Ok-Some-clause-further : goal.returns-in-Ok-Some-clause-further
+returns-in-Ok-Some-clause-further c = let read = rw c.in-Ok-Some.field-0-is at c.in-Ok-Some.ensures in omega (arith, read.1.ahead)
+
+pub returns-then-is_empty-clause-told : goal.returns-then-is_empty-clause-told
+returns-then-is_empty-clause-told c =
+    let line = c.without_return-line.result.now in
+    let none : length line ≡ 0 = grind (arith, nat_tests, c.is_empty.ensures, c.if-is_empty.true) in
+    line_none c.args.text.now c.piece_at.result.0.now line c.args.at c.piece_at.result.1 c.piece_at.ensures.pieces (sym c.without_return-line.ensures) none
+
+pub returns-in-Ok-clause-told : goal.returns-in-Ok-clause-told
+returns-in-Ok-clause-told c =
+    let line = c.without_return-line.result.now in
+    let some : 0 < length line = grind (arith, nat_tests, c.is_empty.ensures, c.if-is_empty.false) in (
+      line,
+      line_next c.args.text.now c.piece_at.result.0.now line c.args.at c.piece_at.result.1 c.piece_at.ensures.pieces (sym c.without_return-line.ensures) some,
+      (c.in-Ok.tuple, c.in-Ok.ensures.tuple, refl),
+    )
+
+pub returns-in-Err-clause-refused : goal.returns-in-Err-clause-refused
+returns-in-Err-clause-refused c =
+    let line = c.without_return-line.result.now in
+    let text = c.args.text.now in
+    let next = c.piece_at.result.1 in
+    let some : 0 < length line = grind (arith, nat_tests, c.is_empty.ensures, c.if-is_empty.false) in
+    line_refused c.args.kinds.now c.args.count c.args.latest text line c.args.at (λ n. lines_from (n + 1) (pieces_at text next)) c.in-Err.e
+    (line_next text c.piece_at.result.0.now line c.args.at next c.piece_at.ensures.pieces (sym c.without_return-line.ensures) some) c.in-Err.ensures.refused
