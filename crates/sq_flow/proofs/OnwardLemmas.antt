@@ -1,6 +1,6 @@
 -- What the outlet of an actor keeps.
-use Rattle.std.proofs.Common.{◌≡◌, ℕ, ◌≤◌, ◌<◌, Bool, true, false, List, [], ◌∷◌, ◌++◌, length, Option, Some, None, refl, ◌∙◌, subst₂, Bor, arith}
-use Rattle.std.specs.Prelude.{IfSome, Vec, slice_get}
+use Rattle.std.proofs.Common.{◌≡◌, ℕ, ◌≤◌, ◌<◌, Bool, true, false, List, [], ◌∷◌, ◌++◌, length, Option, Some, None, refl, sym, ◌∙◌, subst₂, Bor, append-nil, arith}
+use Rattle.std.specs.Prelude.{⊤, IfSome, Vec, slice_get}
 use Rattle.std.specs.declared.alloc.Global.{Global}
 use Rattle.sq_item.specs.declared.Item.{Item}
 use Rattle.sq_words.specs.Lists.{IsPrefixOf, contains_number}
@@ -43,6 +43,11 @@ pub of-fault : (failed : Option RunErr) (P : RunErr → Type 0) → IfSome faile
 of-fault None P told memory = memory
 of-fault (Some e) P told memory = told
 
+-- what holds of why a call failed holds of the fault that was met
+fault-told : (failed : Option RunErr) (P : RunErr → Type 0) → P (fault_or failed) → IfSome failed P
+fault-told None P told = tt
+fault-told (Some e) P told = told
+
 fine-first : (time : ℕ) (items : List (ℕ × Item)) (out : ℕ × Item) → AllOutsFine time (items ++ out ∷ []) → AllOutsFine time items × (out.1.time ≤ time)
 fine-first time [] out h = (tt, h.0)
 fine-first time (x ∷ xs) out h = let rest = fine-first time xs out h.2 in ((h.0, h.1, rest.0), rest.1)
@@ -52,31 +57,31 @@ module _ {D : Type 0} (log : D → DiskLog) (faults : D → ℕ) where
   pub came-first : (s : Onward D) → IsOpen log s → s.noted.items ≡ [] → s.noted.drops ≡ [] → Came log faults s s
   came-first s opened items drops =
       record {
-        holds = record { queues = refl; disk = refl; events = refl; wires = refl; actor = refl };
+        holds = record { queues = refl; disk = refl; events = refl; failed = refl; wires = refl; actor = refl };
         shown = rw (items, drops) (shown-first s.wires.now s.actor s.events.now.items);
         sent = λ whole. rw items (pushes-none s.queues.now (known (log s.disk.now)) _ _ _ opened.together (λ arc. refl));
-        cause = none-told s.failed _ opened.whole;
-        honest = none-told s.failed _ opened.whole;
+        cause = none-told s.failed.now _ opened.whole;
+        honest = none-told s.failed.now _ opened.whole;
         rises = omega arith;
         later = IsLater-refl (log s.disk.now);
       }
 
   -- it takes more
-  pub open-still : (s : Onward D) → IsOpen log s → (q : Queues) (d : D) (events : Vec Event Global) (noted : Noted) (more : ℕ → List Thing) (upto : ℕ → Type 0) (near : ℕ → Bool)
-      → Pushes s.queues.now q (known (log s.disk.now)) (known (log d)) more upto near
-      → IsOpen log (record s { queues = record s.queues { now = q }; disk = record s.disk { now = d }; events = record s.events { now = events }; noted = noted })
-  open-still s opened q d events noted more upto near sent =
+  pub open-still : (s : Onward D) → IsOpen log s → (q : Queues) (d : D) (events : Vec Event Global) (failed : Option RunErr) (noted : Noted) (more : ℕ → List Thing) (upto : ℕ → Type 0)
+      (near : ℕ → Bool) → failed ≡ None → Pushes s.queues.now q (known (log s.disk.now)) (known (log d)) more upto near
+      → IsOpen log (record s { queues = record s.queues { now = q }; disk = record s.disk { now = d }; events = record s.events { now = events }; failed = record s.failed { now = failed }; noted = noted })
+  open-still s opened q d events failed noted more upto near whole sent =
       record {
         within = opened.within;
         shown = opened.shown;
         there = λ port place arc is. let r = opened.there port place arc is in (rw sent.lanes r.0, sent.ended arc ∙ r.1);
         joined = opened.joined;
         together = sent.together;
-        whole = opened.whole;
+        whole = whole;
       }
 
   -- what went on, where the outlet was opened
-  pub went-on : (start s : Onward D) → Came log faults start s → s.failed ≡ None
+  pub went-on : (start s : Onward D) → Came log faults start s → s.failed.now ≡ None
       → Pushes start.queues.now s.queues.now (known (log start.disk.now)) (known (log s.disk.now)) (sent_to start.wires.now start.actor s.noted.items) (λ time. AllOutsFine time s.noted.items)
       (is_sent_by start.wires.now start.actor)
   went-on start s came whole =
@@ -94,14 +99,14 @@ module _ {D : Type 0} (log : D → DiskLog) (faults : D → ℕ) where
   pub came-open : (start s : Onward D) → s.actor < length s.wires.now.readers.items → (s.wires.now.shown ≤ s.actor → (port : ℕ) → arcs_from s.wires.now s.actor port ≡ [])
       → ((port place arc : ℕ) → slice_get (arcs_from s.wires.now s.actor port) place ≡ Some arc → (arc < size s.queues.now) × ((face s.queues.now arc).ended ≡ false))
       → ((port arc : ℕ) → contains_number (arcs_from s.wires.now s.actor port) arc ≡ true → is_sent_by s.wires.now s.actor arc ≡ true)
-      → Together s.queues.now (known (log s.disk.now)) → s.failed ≡ None → (s.noted.items ≡ []) × (s.noted.drops ≡ [])
+      → Together s.queues.now (known (log s.disk.now)) → s.failed.now ≡ None → (s.noted.items ≡ []) × (s.noted.drops ≡ [])
       → ((before : Onward D) → Came log faults before s → Came log faults before start) → Came log faults s start
   came-open start s within shown there joined together whole none came =
       came s (came-first s (record { within = within; shown = shown; there = there; joined = joined; together = together; whole = whole }) none.0 none.1)
 
   -- a feed and an end, where the outlet was opened
   module _ {O : Type 0} (m : Ghosts O) (seat seat' : Seat O) (start s : Onward D) (came : Came log faults start s)
-      (q : Queues) (d : D) (events : List Event) (same_queues : q ≡ s.queues.now) (same_disk : d ≡ s.disk.now) (same_events : events ≡ s.events.now.items) (whole : s.failed ≡ None) where
+      (q : Queues) (d : D) (events : List Event) (same_queues : q ≡ s.queues.now) (same_disk : d ≡ s.disk.now) (same_events : events ≡ s.events.now.items) (whole : s.failed.now ≡ None) where
     pub feeds-into : (levels : LevelTable) (port : ℕ) (item : Item) → FedSeat m levels port item s.noted.items s.noted.drops seat seat'
         → FeedsInto m levels port item start.wires.now start.actor seat seat' start.queues.now q (known (log start.disk.now)) (known (log d)) start.events.now.items events
     feeds-into levels port item fed =
@@ -119,48 +124,52 @@ module _ {D : Type 0} (log : D → DiskLog) (faults : D → ℕ) where
     -- the same outlet behind a call
     abbrev pub behind : Option RunErr → Noted → Onward D
     behind failed noted =
-        record s { queues = record s.queues { now = q }; disk = record s.disk { now = d }; events = record s.events { now = events }; failed = failed; noted = noted }
+        record s { queues = record s.queues { now = q }; disk = record s.disk { now = d }; events = record s.events { now = events }; failed = record s.failed { now = failed }; noted = noted }
 
     pub holds-same : (failed : Option RunErr) (noted : Noted) → HoldsSame start (behind failed noted)
     holds-same failed noted =
-        record { queues = came.holds.queues; disk = came.holds.disk; events = came.holds.events; wires = came.holds.wires; actor = came.holds.actor }
+        record { queues = came.holds.queues; disk = came.holds.disk; events = came.holds.events; failed = came.holds.failed; wires = came.holds.wires; actor = came.holds.actor }
 
     rises-both : faults start.disk.now ≤ faults d
     rises-both = let first = came.rises in omega (arith, first, rises)
 
     -- one item more went on
-    pub came-item : (noted : Noted) (port : ℕ) (item : Item) → noted.items ≡ s.noted.items ++ (port, item) ∷ [] → noted.drops ≡ s.noted.drops
+    pub came-item : (failed : Option RunErr) (noted : Noted) (port : ℕ) (item : Item) → failed ≡ None → noted.items ≡ s.noted.items ++ (port, item) ∷ [] → noted.drops ≡ s.noted.drops
         → Pushes s.queues.now q (known (log s.disk.now)) (known (log d)) (λ arc. many (times_in arc (arcs_from s.wires.now s.actor port)) (spread item)) (λ time. item.time ≤ time)
         (λ arc. contains_number (arcs_from s.wires.now s.actor port) arc)
         → IsShown s.wires.now s.actor ((port, item) ∷ []) [] s.events.now.items events.items
-        → Came log faults start (behind s.failed noted)
-    came-item noted port item items drops sent shown =
+        → Came log faults start (behind failed noted)
+    came-item failed noted port item none items drops sent shown =
         record {
-          holds = holds-same s.failed noted;
+          holds = holds-same failed noted;
           shown = rw (items, drops) (shown-item s.wires.now s.actor s.noted.items s.noted.drops (port, item) start.events.now.items s.events.now.items events.items came.shown shown);
           sent = λ whole.
               rw items
-              (pushes-both _ _ _ _ _ _ _ _ _ _ _ _ _ _ _ (came.sent whole) sent
+              (pushes-both _ _ _ _ _ _ _ _ _ _ _ _ _ _ _ (came.sent opened.whole) sent
               (λ time fine. fine-first time s.noted.items (port, item) fine)
               (λ arc. sent-append s.wires.now s.actor s.noted.items (port, item) arc)
               (λ arc away. (away, apart-arcs s.wires.now s.actor port arc (opened.joined port arc) away)));
-          cause = none-told s.failed _ opened.whole;
-          honest = none-told s.failed _ opened.whole;
+          cause = none-told failed _ none;
+          honest = none-told failed _ none;
           rises = rises-both;
           later = IsLater-trans _ _ _ came.later later;
         }
 
-    -- a fault was met, and nothing more was shown
-    pub came-fault : (e : RunErr) → events.items ≡ s.events.now.items
-        → IsQueueCause q (log s.disk.now) (log d) (faults s.disk.now) (faults d) e → (Tells (known (log d)) → NotChanged (log s.disk.now).honest e)
-        → Came log faults start (behind (Some e) s.noted)
-    came-fault e same cause honest =
+    -- the call failed: the fault that was met is kept, and where none is kept nothing went on; nothing more was shown
+    pub came-fault : (failed : Option RunErr) → events.items ≡ s.events.now.items
+        → IsQueueCause q (log s.disk.now) (log d) (faults s.disk.now) (faults d) (fault_or failed) → (Tells (known (log d)) → NotChanged (log s.disk.now).honest (fault_or failed))
+        → (failed ≡ None → Pushes s.queues.now q (known (log s.disk.now)) (known (log d)) (λ arc. []) (λ time. ⊤) (λ arc. false))
+        → Came log faults start (behind failed s.noted)
+    came-fault failed same cause honest unsent =
         record {
-          holds = holds-same (Some e) s.noted;
+          holds = holds-same failed s.noted;
           shown = rw same came.shown;
-          sent = λ whole. absurd (cc whole);
-          cause = queue-cause-since q (log start.disk.now) (log s.disk.now) (log d) (faults start.disk.now) (faults s.disk.now) (faults d) e came.later came.rises cause;
-          honest = λ told. changed-since (log start.disk.now).honest (log s.disk.now).honest e came.later.honest (honest told);
+          sent = λ whole.
+              pushes-both _ _ _ _ _ _ _ _ _ _ _ _ _ _ _ (came.sent opened.whole) (unsent whole) (λ time fine. (fine, tt))
+              (λ arc. sym (append-nil (sent_to s.wires.now s.actor s.noted.items arc))) (λ arc away. (away, refl));
+          cause = fault-told failed _
+              (queue-cause-since q (log start.disk.now) (log s.disk.now) (log d) (faults start.disk.now) (faults s.disk.now) (faults d) (fault_or failed) came.later came.rises cause);
+          honest = fault-told failed _ (λ told. changed-since (log start.disk.now).honest (log s.disk.now).honest (fault_or failed) came.later.honest (honest told));
           rises = rises-both;
           later = IsLater-trans _ _ _ came.later later;
         }
@@ -174,7 +183,7 @@ module _ {D : Type 0} (log : D → DiskLog) (faults : D → ℕ) where
       → Came log faults start (record s { events = record s.events { now = events }; noted = noted })
   came-drop start s came events noted d items drops decided lines plans below stay =
       record {
-        holds = record { queues = came.holds.queues; disk = came.holds.disk; events = came.holds.events; wires = came.holds.wires; actor = came.holds.actor };
+        holds = record { queues = came.holds.queues; disk = came.holds.disk; events = came.holds.events; failed = came.holds.failed; wires = came.holds.wires; actor = came.holds.actor };
         shown = rw (items, drops) (shown-drop s.wires.now s.actor s.noted.items s.noted.drops d start.events.now.items s.events.now.items events.items came.shown decided lines plans below stay);
         sent = λ whole. rw items (came.sent whole);
         cause = came.cause;
@@ -188,7 +197,7 @@ module _ {D : Type 0} (log : D → DiskLog) (faults : D → ℕ) where
       → Came log faults start (record s { events = record s.events { now = events } })
   came-same start s came events same =
       record {
-        holds = record { queues = came.holds.queues; disk = came.holds.disk; events = came.holds.events; wires = came.holds.wires; actor = came.holds.actor };
+        holds = record { queues = came.holds.queues; disk = came.holds.disk; events = came.holds.events; failed = came.holds.failed; wires = came.holds.wires; actor = came.holds.actor };
         shown = rw same came.shown;
         sent = came.sent;
         cause = came.cause;

@@ -36,19 +36,24 @@ at_or_other P i here others j = by (eqb j i) refl
     by true e = subst P (sym (exact_unsigned_eq j i e)) here
     by false e = others j (eqb-no j i e)
 
-pub pushes-none : (q : Queues) (was : Option Pages) (more : ℕ → List Thing) (upto : ℕ → Type 0) (near : ℕ → Bool) → Together q was → ((arc : ℕ) → more arc ≡ []) → Pushes q q was was more upto near
-pushes-none q was more upto near together none =
+-- nothing went to queues whose arcs all have the faces and the items that they had
+pub pushes-same : (q q' : Queues) (was : Option Pages) (more : ℕ → List Thing) (upto : ℕ → Type 0) (near : ℕ → Bool) → size q' ≡ size q → frames q' ≡ frames q → ((arc : ℕ) → face q' arc ≡ face q arc)
+    → ((arc : ℕ) → items_on q' was arc ≡ items_on q was arc) → Together q' was → ((arc : ℕ) → more arc ≡ []) → Pushes q q' was was more upto near
+pushes-same q q' was more upto near lanes framed faces items together none =
     record {
-      lanes = refl;
-      framed = refl;
+      lanes = lanes;
+      framed = framed;
       tells = λ told. told;
       together = together;
-      ended = λ arc. refl;
-      grows = λ arc h. h;
-      apart = λ arc h. refl;
-      items = λ told arc. sym (append-nil (spread_all (items_on q was arc))) ∙ ap (λ z. spread_all (items_on q was arc) ++ z) (sym (none arc));
-      fine = λ told time u f. f;
+      ended = λ arc. ap (λ f. f.ended) (faces arc);
+      grows = λ arc h. ap (λ f. is_some f.first) (faces arc) ∙ h;
+      apart = λ arc h. faces arc;
+      items = λ told arc. ap spread_all (items arc) ∙ sym (append-nil (spread_all (items_on q was arc))) ∙ ap (λ z. spread_all (items_on q was arc) ++ z) (sym (none arc));
+      fine = λ told time u f arc. subst (AllFine time) (sym (items arc)) (f arc);
     }
+
+pub pushes-none : (q : Queues) (was : Option Pages) (more : ℕ → List Thing) (upto : ℕ → Type 0) (near : ℕ → Bool) → Together q was → ((arc : ℕ) → more arc ≡ []) → Pushes q q was was more upto near
+pushes-none q was more upto near together none = pushes-same q q was more upto near refl refl (λ arc. refl) (λ arc. refl) together none
 
 pub pushes-both : (q q1 q2 : Queues) (p p1 p2 : Option Pages) (m m1 m2 : ℕ → List Thing) (u u1 u2 : ℕ → Type 0) (n n1 n2 : ℕ → Bool) → Pushes q q1 p p1 m1 u1 n1 → Pushes q1 q2 p1 p2 m2 u2 n2
     → ((time : ℕ) → u time → u1 time × u2 time) → ((arc : ℕ) → m arc ≡ m1 arc ++ m2 arc)
@@ -132,6 +137,16 @@ pub contains-get : (xs : List ℕ) (i x : ℕ) → slice_get xs i ≡ Some x →
 contains-get xs i x e =
     let low = slice_get_within xs i x e in
     list_any_at (λ y. eqb y x) xs i 0 low (ap (λ y. eqb y x) (get_or_from_slice_get xs i x 0 e) ∙ eqb_true x x refl)
+
+-- an item to the only arc of a list
+pub pushes-only : (q q' : Queues) (was is : Option Pages) (arcs : List ℕ) (at : ℕ) (item : Item) → arcs ≡ at ∷ [] → Together q was
+    → Pushes q q' was is (λ arc. cond (eqb at arc) (spread item) []) (λ time. item.time ≤ time) (λ arc. eqb at arc)
+    → Pushes q q' was is (λ arc. many (times_in arc arcs) (spread item)) (λ time. item.time ≤ time) (λ arc. contains_number arcs arc)
+pushes-only q q' was is arcs at item only together pushed =
+    pushes-both q q q' was was is _ _ _ _ _ _ _ _ _ (pushes-none q was (λ arc. []) (λ time. item.time ≤ time) (λ arc. false) together (λ arc. refl)) pushed
+    (λ time le. (le, le))
+    (λ arc. ap (λ l. many (times_in arc l) (spread item)) only ∙ many-next [] at (spread item) arc)
+    (λ arc away. (refl, not-in arcs at arc (contains-get arcs 0 at (ap (λ l. slice_get l 0) only)) away))
 
 -- the arcs but the last, and the last
 pub at-front : (arcs front : List ℕ) (last i : ℕ) → arcs ≡ front ++ last ∷ [] → i < length front → slice_get arcs i ≡ Some (get_or front i 0)

@@ -19,13 +19,14 @@ pub record IsOpen {D : Type 0} (log : D → DiskLog) (s : Onward D) : Type 0 whe
       → (arc < size s.queues.now) × ((face s.queues.now arc).ended ≡ false)
   pub joined : (port arc : ℕ) → contains_number (arcs_from s.wires.now s.actor port) arc ≡ true → is_sent_by s.wires.now s.actor arc ≡ true
   pub together : Together s.queues.now (known (log s.disk.now))
-  pub whole : s.failed ≡ None
+  pub whole : s.failed.now ≡ None
 
--- it holds the same queues, disk and events
+-- it holds the same queues, disk and events, and the same room for a fault
 pub record HoldsSame {D : Type 0} (start s : Onward D) : Type 0 where
   pub queues : start.queues.ghost_name ≡ s.queues.ghost_name
   pub disk : start.disk.ghost_name ≡ s.disk.ghost_name
   pub events : start.events.ghost_name ≡ s.events.ghost_name
+  pub failed : start.failed.ghost_name ≡ s.failed.ghost_name
   pub wires : s.wires ≡ start.wires
   pub actor : s.actor ≡ start.actor
 
@@ -33,10 +34,10 @@ pub record HoldsSame {D : Type 0} (start s : Onward D) : Type 0 where
 pub record Came {D : Type 0} (log : D → DiskLog) (faults : D → ℕ) (start s : Onward D) : Type 0 where
   pub holds : HoldsSame start s
   pub shown : IsShown s.wires.now s.actor s.noted.items s.noted.drops start.events.now.items s.events.now.items
-  pub sent : s.failed ≡ None
+  pub sent : s.failed.now ≡ None
       → Pushes start.queues.now s.queues.now (known (log start.disk.now)) (known (log s.disk.now))
       (sent_to s.wires.now s.actor s.noted.items) (λ time. AllOutsFine time s.noted.items) (is_sent_by s.wires.now s.actor)
-  pub cause : IfSome s.failed (IsQueueCause s.queues.now (log start.disk.now) (log s.disk.now) (faults start.disk.now) (faults s.disk.now))
-  pub honest : IfSome s.failed (λ e. Tells (known (log s.disk.now)) → NotChanged (log start.disk.now).honest e)
+  pub cause : IfSome s.failed.now (IsQueueCause s.queues.now (log start.disk.now) (log s.disk.now) (faults start.disk.now) (faults s.disk.now))
+  pub honest : IfSome s.failed.now (λ e. Tells (known (log s.disk.now)) → NotChanged (log start.disk.now).honest e)
   pub rises : faults start.disk.now ≤ faults s.disk.now
   pub later : IsLater (log start.disk.now) (log s.disk.now)

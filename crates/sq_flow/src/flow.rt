@@ -15,6 +15,7 @@ ghost use Rattle.sq_flow.specs.Sources.{IsNextSource};
 
 use crate::errors::RunErr;
 use crate::heads::{Next, next_of};
+use crate::onward::fault_of;
 use crate::plans::{close_before, epoch_of};
 use crate::seats::{Seat, feed_into, finish_into};
 use crate::sending::send_one;
@@ -157,14 +158,17 @@ impl<O: Operator + Drop> Flow<O> {
         arc: u32,
         events: &mut Vec<Event>,
         steps: &mut Steps<L>,
+        failed: &mut Option<RunErr>,
     ) -> Result<(), RunErr>
         requires flow { IsFlow O.Operator self.old }
         requires together { Together self.old.queues (known (D.log disk.old)) }
+        requires whole { failed.old ≡ None }
         requires actor_in { actor < length self.old.seats.items }
         requires head { (time : ℕ) × NextUpTo (arcs_read self.old.wires actor)
             (λ a. (face self.old.queues a).first) (λ a. (face self.old.queues a).ended) (length (arcs_read self.old.wires actor)) (Next.Feed time port arc) }
         requires running { done_at self.old.over (slice_get self.old.seats.items actor) ≡ false }
         ensures ok { OnOk result (Stepped O.Operator (known (D.log disk.old)) (known (D.log disk.new)) self.old self.new events.old.items events.new.items) }
+        ensures whole { OnOk result (failed.new ≡ None) }
         ensures prefix { OnErr result (ShowsPrefix O.Operator (known (D.log disk.old)) (known (D.log disk.new))
             self.old self.new.levels events.old.items events.new.items) }
         ensures plans { OnErr result (PlansPrefix self.old self.new.levels events.old.items events.new.items) }
@@ -205,6 +209,7 @@ impl<O: Operator + Drop> Flow<O> {
             actor,
             events,
             steps,
+            failed,
         )?;
         Ok(())
     }
@@ -215,14 +220,17 @@ impl<O: Operator + Drop> Flow<O> {
         disk: &mut D,
         actor: u32,
         events: &mut Vec<Event>,
+        failed: &mut Option<RunErr>,
     ) -> Result<(), RunErr>
         requires flow { IsFlow O.Operator self.old }
         requires together { Together self.old.queues (known (D.log disk.old)) }
+        requires whole { failed.old ≡ None }
         requires actor_in { actor < length self.old.seats.items }
         requires head { NextUpTo (arcs_read self.old.wires actor)
             (λ a. (face self.old.queues a).first) (λ a. (face self.old.queues a).ended) (length (arcs_read self.old.wires actor)) Next.Ended }
         requires running { done_at self.old.over (slice_get self.old.seats.items actor) ≡ false }
         ensures ok { OnOk result (Stepped O.Operator (known (D.log disk.old)) (known (D.log disk.new)) self.old self.new events.old.items events.new.items) }
+        ensures whole { OnOk result (failed.new ≡ None) }
         ensures prefix { OnErr result (ShowsPrefix O.Operator (known (D.log disk.old)) (known (D.log disk.new))
             self.old self.new.levels events.old.items events.new.items) }
         ensures plans { OnErr result (PlansPrefix self.old self.new.levels events.old.items events.new.items) }
@@ -247,6 +255,7 @@ impl<O: Operator + Drop> Flow<O> {
             disk,
             actor,
             events,
+            failed,
         )?;
         end_arcs(&self.wires, &mut self.queues, actor);
         Ok(())
@@ -258,11 +267,14 @@ impl<O: Operator + Drop> Flow<O> {
         disk: &mut D,
         source: u32,
         events: &mut Vec<Event>,
+        failed: &mut Option<RunErr>,
     ) -> Result<(), RunErr>
         requires flow { IsFlow O.Operator self.old }
         requires together { Together self.old.queues (known (D.log disk.old)) }
+        requires whole { failed.old ≡ None }
         requires next { IsNextSource self.old.sources.items source }
         ensures ok { OnOk result (Stepped O.Operator (known (D.log disk.old)) (known (D.log disk.new)) self.old self.new events.old.items events.new.items) }
+        ensures whole { OnOk result (failed.new ≡ None) }
         ensures prefix { OnErr result (ShowsPrefix O.Operator (known (D.log disk.old)) (known (D.log disk.new))
             self.old self.new.levels events.old.items events.new.items) }
         ensures plans { OnErr result (PlansPrefix self.old self.new.levels events.old.items events.new.items) }
@@ -297,8 +309,18 @@ impl<O: Operator + Drop> Flow<O> {
             body: Body::some(tuple.fields),
         };
         let replay = self.wires.replay;
-        send_one(&self.wires, &mut self.queues, disk, replay, source, item)?;
-        Ok(())
+        match send_one(
+            &self.wires,
+            &mut self.queues,
+            disk,
+            replay,
+            source,
+            item,
+            failed,
+        ) {
+            Ok(()) => Ok(()),
+            Err(e) => Err(fault_of(failed.take(), e)),
+        }
     }
 
     /// Ends the replay.

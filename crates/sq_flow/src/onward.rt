@@ -15,17 +15,17 @@ use std::alloc::{AllocError, Global};
 
 /// The outlet of an actor: its items go into the queues of the arcs that come from it, or are shown, and its decisions are shown.
 /// It keeps the fault that it met.
-pub(crate) struct Onward<'a, 'b, 'c, 'd, D: PageDisk> {
+pub(crate) struct Onward<'a, 'b, 'c, 'd, 'e, D: PageDisk> {
     pub wires: &'a Wires,
     pub queues: &'b mut Queues,
     pub disk: &'c mut D,
     pub events: &'d mut Vec<Event>,
     pub actor: u32,
-    pub failed: Option<RunErr>,
+    pub failed: &'e mut Option<RunErr>,
     pub noted: Noted,
 }
 
-impl<D: PageDisk> Outlet for Onward<'_, '_, '_, '_, D> {
+impl<D: PageDisk> Outlet for Onward<'_, '_, '_, '_, '_, D> {
     ghost use Rattle.sq_flow.specs.Onwards.{IsOpen, Came};
 
     ghost items = { λ s. s.noted.items };
@@ -43,7 +43,7 @@ impl<D: PageDisk> Outlet for Onward<'_, '_, '_, '_, D> {
     #[inline(always)]
     fn give(&mut self, port: u32, item: Item) -> Result<(), AllocError> {
         let noted = self.noted.with(port, &item);
-        match pass_on(
+        pass_on(
             self.wires,
             self.queues,
             self.disk,
@@ -51,16 +51,10 @@ impl<D: PageDisk> Outlet for Onward<'_, '_, '_, '_, D> {
             port,
             item,
             self.events,
-        ) {
-            Ok(()) => {
-                self.noted = noted;
-                Ok(())
-            }
-            Err(e) => {
-                self.failed = Some(e);
-                Err(AllocError)
-            }
-        }
+            self.failed,
+        )?;
+        self.noted = noted;
+        Ok(())
     }
 
     fn decide(&mut self, decision: Decision) -> Result<(), AllocError> {

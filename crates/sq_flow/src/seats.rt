@@ -1,6 +1,6 @@
 //! Operators in their seats.
 
-ghost use Rattle.std.specs.Prelude.{◌≡◌, ℕ, ◌+◌, ◌-◌, ◌^◌, ◌/◌, ◌<◌, ◌≤◌, true, false, [], Some, is_some, OnOk, OnErr, IfErr, length, slice_get, if◌then◌else◌};
+ghost use Rattle.std.specs.Prelude.{◌≡◌, ℕ, ◌+◌, ◌-◌, ◌^◌, ◌/◌, ◌<◌, ◌≤◌, true, false, [], Some, None, is_some, OnOk, OnErr, IfErr, length, slice_get, if◌then◌else◌};
 ghost use Rattle.sq_item.specs.SoundItems.{IsSoundItem};
 ghost use Rattle.sq_oper.specs.Entries.{entries};
 ghost use Rattle.sq_oper.specs.Order.{IsFuture};
@@ -44,6 +44,7 @@ pub(crate) fn feed_into<O: Operator, D: PageDisk, L: Ledger>(
     actor: u32,
     events: &mut Vec<Event>,
     steps: &mut Steps<L>,
+    failed: &mut Option<RunErr>,
 ) -> Result<(), RunErr>
     requires is_valid { O.valid seat.old.op × (O.running seat.old.op ≡ true) }
     requires may_come { IsFuture (O.takes_marks seat.old.op) (O.fits seat.old.op) (O.place seat.old.op) (entries port item) }
@@ -57,8 +58,10 @@ pub(crate) fn feed_into<O: Operator, D: PageDisk, L: Ledger>(
         → (arc < size queues.old) × ((face queues.old arc).ended ≡ false) }
     requires joined { (port arc : ℕ) → contains_number (arcs_from wires.now actor port) arc ≡ true → is_sent_by wires.now actor arc ≡ true }
     requires together { Together queues.old (known (D.log disk.old)) }
+    requires whole { failed.old ≡ None }
     ensures fed { OnOk result (FeedsInto O.Operator levels.now port item wires.now actor seat.old seat.new
         queues.old queues.new (known (D.log disk.old)) (known (D.log disk.new)) events.old.items events.new.items) }
+    ensures whole { OnOk result (failed.new ≡ None) }
     ensures part { OnErr result (FeedsPart O.Operator levels.now port item wires.now actor seat.old events.old.items events.new.items) }
     ensures cause { IfErr result (IsQueueCause queues.new (D.log disk.old) (D.log disk.new) (D.faults disk.old) (D.faults disk.new)) }
     ensures honest { IfErr result (λ e. Tells (known (D.log disk.new)) → NotChanged (D.log disk.old).honest e) }
@@ -74,7 +77,7 @@ pub(crate) fn feed_into<O: Operator, D: PageDisk, L: Ledger>(
         disk,
         events,
         actor,
-        failed: None,
+        failed,
         noted: Noted::new(),
     };
     let done = seat.op.feed(levels, port, item, &mut onward, steps);
@@ -91,9 +94,10 @@ pub(crate) fn feed_into<O: Operator, D: PageDisk, L: Ledger>(
     let _ = &*queues;
     let _ = &*disk;
     let _ = &*events;
+    let _ = &*failed;
     match done {
         Ok(()) => Ok(()),
-        Err(e) => Err(fault_of(failed, e)),
+        Err(e) => Err(fault_of(failed.take(), e)),
     }
 }
 
@@ -105,6 +109,7 @@ pub(crate) fn finish_into<O: Operator, D: PageDisk>(
     disk: &mut D,
     actor: u32,
     events: &mut Vec<Event>,
+    failed: &mut Option<RunErr>,
 ) -> Result<(), RunErr>
     requires is_valid { O.valid seat.old.op × (O.running seat.old.op ≡ true) }
     requires within { actor < length wires.now.readers.items }
@@ -113,8 +118,10 @@ pub(crate) fn finish_into<O: Operator, D: PageDisk>(
         → (arc < size queues.old) × ((face queues.old arc).ended ≡ false) }
     requires joined { (port arc : ℕ) → contains_number (arcs_from wires.now actor port) arc ≡ true → is_sent_by wires.now actor arc ≡ true }
     requires together { Together queues.old (known (D.log disk.old)) }
+    requires whole { failed.old ≡ None }
     ensures finished { OnOk result (EndsInto O.Operator wires.now actor seat.old seat.new
         queues.old queues.new (known (D.log disk.old)) (known (D.log disk.new)) events.old.items events.new.items) }
+    ensures whole { OnOk result (failed.new ≡ None) }
     ensures part { OnErr result (EndsPart O.Operator wires.now actor seat.old events.old.items events.new.items) }
     ensures cause { IfErr result (IsQueueCause queues.new (D.log disk.old) (D.log disk.new) (D.faults disk.old) (D.faults disk.new)) }
     ensures honest { IfErr result (λ e. Tells (known (D.log disk.new)) → NotChanged (D.log disk.old).honest e) }
@@ -127,7 +134,7 @@ pub(crate) fn finish_into<O: Operator, D: PageDisk>(
         disk,
         events,
         actor,
-        failed: None,
+        failed,
         noted: Noted::new(),
     };
     let done = seat.op.finish(&mut onward);
@@ -144,11 +151,12 @@ pub(crate) fn finish_into<O: Operator, D: PageDisk>(
     let _ = &*queues;
     let _ = &*disk;
     let _ = &*events;
+    let _ = &*failed;
     match done {
         Ok(()) => {
             seat.tally.running = false;
             Ok(())
         }
-        Err(e) => Err(fault_of(failed, e)),
+        Err(e) => Err(fault_of(failed.take(), e)),
     }
 }

@@ -1,13 +1,13 @@
 //! What an actor gives goes to the arcs that come from it, or is shown.
 
-ghost use Rattle.std.specs.Prelude.{◌≡◌, ◌==◌, if◌then◌else◌, ℕ, ◌+◌, ◌-◌, ◌<◌, ◌≤◌, ◌++◌, ◌∷◌, [], true, false, Some, OnOk, OnErr, IfErr, length, slice_get};
+ghost use Rattle.std.specs.Prelude.{◌≡◌, ◌==◌, if◌then◌else◌, ⊤, ℕ, ◌+◌, ◌-◌, ◌<◌, ◌≤◌, ◌++◌, ◌∷◌, [], true, false, Some, None, OnOk, OnErr, IfErr, is_some, length, slice_get};
 ghost use Rattle.sq_words.specs.Lists.{IsPrefixOf, contains_number};
 ghost use Rattle.sq_item.specs.SoundItems.{IsSoundItem};
 ghost use Rattle.sq_item.specs.Things.{spread};
 ghost use Rattle.sq_oper.specs.Outflow.{given};
 ghost use Rattle.sq_pool.specs.Trust.{IsLater, Tells, known};
 ghost use Rattle.sq_queue.specs.Faces.{face, size, Together};
-ghost use Rattle.sq_flow.specs.Causes.{of_queue, IsQueueCause};
+ghost use Rattle.sq_flow.specs.Causes.{of_queue, fault_or, IsQueueCause};
 ghost use Rattle.sq_flow.specs.Takes.{NotChanged};
 ghost use Rattle.sq_flow.specs.Wiring.{arcs_from, times_in};
 ghost use Rattle.sq_flow.specs.Sends.{many, Pushes};
@@ -53,7 +53,39 @@ fn send_item<D: PageDisk>(
     Ok(())
 }
 
-/// An item that an actor gives at a port goes to each arc that comes from there.
+/// The same, which keeps the fault that it meets. In a function of its own, no room for a fault is made where an item goes to one
+/// arc in front of its pages.
+#[inline(never)]
+fn send_any<D: PageDisk>(
+    arcs: &[u32],
+    queues: &mut Queues,
+    disk: &mut D,
+    item: Item,
+    failed: &mut Option<RunErr>,
+) -> Result<(), AllocError>
+    requires there { (place arc : ℕ) → slice_get arcs.now place ≡ Some arc → (arc < size queues.old) × ((face queues.old arc).ended ≡ false) }
+    requires sound { IsSoundItem item }
+    requires together { Together queues.old (known (D.log disk.old)) }
+    requires whole { failed.old ≡ None }
+    ensures sent { OnOk result (Pushes queues.old queues.new (known (D.log disk.old)) (known (D.log disk.new))
+        (λ arc. many (times_in arc arcs.now) (spread item)) (λ time. item.time ≤ time) (λ arc. contains_number arcs.now arc)) }
+    ensures whole { OnOk result (failed.new ≡ None) }
+    ensures kept { OnErr result (is_some failed.new ≡ true) }
+    ensures cause { OnErr result (IsQueueCause queues.new (D.log disk.old) (D.log disk.new) (D.faults disk.old) (D.faults disk.new) (fault_or failed.new)) }
+    ensures honest { OnErr result (Tells (known (D.log disk.new)) → NotChanged (D.log disk.old).honest (fault_or failed.new)) }
+    ensures faults { D.faults disk.old ≤ D.faults disk.new }
+    ensures later { IsLater (D.log disk.old) (D.log disk.new) }
+{
+    match send_item(arcs, queues, disk, item) {
+        Ok(()) => Ok(()),
+        Err(e) => {
+            *failed = Some(RunErr::from(e));
+            Err(AllocError)
+        }
+    }
+}
+
+/// An item that an actor gives at a port goes to each arc that comes from there. The fault that it meets is kept.
 #[inline(always)]
 pub(crate) fn send_one<D: PageDisk>(
     wires: &Wires,
@@ -62,25 +94,29 @@ pub(crate) fn send_one<D: PageDisk>(
     actor: u32,
     port: u32,
     item: Item,
-) -> Result<(), QueueErr>
+    failed: &mut Option<RunErr>,
+) -> Result<(), AllocError>
     requires within { actor < length wires.now.readers.items }
     requires there { (place arc : ℕ) → slice_get (arcs_from wires.now actor port) place ≡ Some arc
         → (arc < size queues.old) × ((face queues.old arc).ended ≡ false) }
     requires sound { IsSoundItem item }
     requires together { Together queues.old (known (D.log disk.old)) }
+    requires whole { failed.old ≡ None }
     ensures sent { OnOk result (Pushes queues.old queues.new (known (D.log disk.old)) (known (D.log disk.new))
         (λ arc. many (times_in arc (arcs_from wires.now actor port)) (spread item)) (λ time. item.time ≤ time)
         (λ arc. contains_number (arcs_from wires.now actor port) arc)) }
-    ensures cause { IfErr result (λ e. IsQueueCause queues.new (D.log disk.old) (D.log disk.new) (D.faults disk.old) (D.faults disk.new) (of_queue e)) }
-    ensures honest { IfErr result (λ e. Tells (known (D.log disk.new)) → NotChanged (D.log disk.old).honest (of_queue e)) }
+    ensures whole { OnOk result (failed.new ≡ None) }
+    ensures unsent { OnErr result (failed.new ≡ None → Pushes queues.old queues.new (known (D.log disk.old)) (known (D.log disk.new)) (λ arc. []) (λ time. ⊤) (λ arc. false)) }
+    ensures cause { OnErr result (IsQueueCause queues.new (D.log disk.old) (D.log disk.new) (D.faults disk.old) (D.faults disk.new) (fault_or failed.new)) }
+    ensures honest { OnErr result (Tells (known (D.log disk.new)) → NotChanged (D.log disk.old).honest (fault_or failed.new)) }
     ensures faults { D.faults disk.old ≤ D.faults disk.new }
     ensures later { IsLater (D.log disk.old) (D.log disk.new) }
 {
-    let rows = &wires.readers[actor as usize];
-    if (port as usize) < rows.len() {
-        send_item(&rows[port as usize], queues, disk, item)?;
+    match wires.arcs_at(actor, port) {
+        [] => Ok(()),
+        [arc] if queues.has_room(*arc) => queues.put(*arc, item),
+        arcs => send_any(arcs, queues, disk, item, failed),
     }
-    Ok(())
 }
 
 /// Shows the tuple of an item at an output.
@@ -133,7 +169,8 @@ pub(crate) fn show_drop(decision: Decision, events: &mut Vec<Event>) -> Result<(
     Ok(())
 }
 
-/// An item that an actor gives at a port goes to each arc that comes from there, or is shown where the actor is an output.
+/// An item that an actor gives at a port goes to each arc that comes from there, or is shown where the actor is an output. The
+/// fault that it meets is kept.
 #[inline(always)]
 pub(crate) fn pass_on<D: PageDisk>(
     wires: &Wires,
@@ -143,27 +180,29 @@ pub(crate) fn pass_on<D: PageDisk>(
     port: u32,
     item: Item,
     events: &mut Vec<Event>,
-) -> Result<(), RunErr>
+    failed: &mut Option<RunErr>,
+) -> Result<(), AllocError>
     requires within { actor < length wires.now.readers.items }
     requires shown { wires.now.shown ≤ actor → arcs_from wires.now actor port ≡ [] }
     requires there { (place arc : ℕ) → slice_get (arcs_from wires.now actor port) place ≡ Some arc
         → (arc < size queues.old) × ((face queues.old arc).ended ≡ false) }
     requires sound { IsSoundItem item }
     requires together { Together queues.old (known (D.log disk.old)) }
+    requires whole { failed.old ≡ None }
     ensures sent { OnOk result (Pushes queues.old queues.new (known (D.log disk.old)) (known (D.log disk.new))
         (λ arc. many (times_in arc (arcs_from wires.now actor port)) (spread item)) (λ time. item.time ≤ time)
         (λ arc. contains_number (arcs_from wires.now actor port) arc)) }
     ensures shown { OnOk result (IsShown wires.now actor (record { 0 = port; 1 = item } ∷ []) [] events.old.items events.new.items) }
+    ensures whole { OnOk result (failed.new ≡ None) }
+    ensures unsent { OnErr result (failed.new ≡ None → Pushes queues.old queues.new (known (D.log disk.old)) (known (D.log disk.new)) (λ arc. []) (λ time. ⊤) (λ arc. false)) }
     ensures err { OnErr result (events.new.items ≡ events.old.items) }
-    ensures cause { IfErr result (IsQueueCause queues.new (D.log disk.old) (D.log disk.new) (D.faults disk.old) (D.faults disk.new)) }
-    ensures honest { IfErr result (λ e. Tells (known (D.log disk.new)) → NotChanged (D.log disk.old).honest e) }
+    ensures cause { OnErr result (IsQueueCause queues.new (D.log disk.old) (D.log disk.new) (D.faults disk.old) (D.faults disk.new) (fault_or failed.new)) }
+    ensures honest { OnErr result (Tells (known (D.log disk.new)) → NotChanged (D.log disk.old).honest (fault_or failed.new)) }
     ensures faults { D.faults disk.old ≤ D.faults disk.new }
     ensures later { IsLater (D.log disk.old) (D.log disk.new) }
 {
     if wires.shown <= actor {
-        show_one(actor - wires.shown, port, item, events)?;
-    } else {
-        send_one(wires, queues, disk, actor, port, item)?;
+        return show_one(actor - wires.shown, port, item, events);
     }
-    Ok(())
+    send_one(wires, queues, disk, actor, port, item, failed)
 }

@@ -1,7 +1,7 @@
 //! Steps of any actor, and trains of them.
 
 ghost use Rattle.sq_words.specs.Lists.{IsPrefixOf};
-ghost use Rattle.std.specs.Prelude.{◌≡◌, ◌≢◌, ◌⊎◌, ℕ, ◌+◌, ◌≤◌, ◌<◌, true, false, [], OnOk, OnErr, IfOk, IfErr, length, slice_get};
+ghost use Rattle.std.specs.Prelude.{◌≡◌, ◌≢◌, ◌⊎◌, ℕ, ◌+◌, ◌≤◌, ◌<◌, true, false, [], None, OnOk, OnErr, IfOk, IfErr, length, slice_get};
 ghost use Rattle.sq_oper.specs.declared.outs.Event.{Event};
 ghost use Rattle.sq_road.specs.Levels.{AgreesWith};
 ghost use Rattle.sq_pool.specs.Trust.{IsLater, known};
@@ -46,11 +46,14 @@ impl<O: Operator + Drop> Flow<O> {
         &mut self,
         disk: &mut D,
         events: &mut Vec<Event>,
+        failed: &mut Option<RunErr>,
     ) -> Result<Did, RunErr>
         requires flow { IsFlow O.Operator self.old }
         requires together { Together self.old.queues (known (D.log disk.old)) }
+        requires whole { failed.old ≡ None }
         requires running { self.old.over ≡ false }
         ensures ok { OnOk result (Stepped O.Operator (known (D.log disk.old)) (known (D.log disk.new)) self.old self.new events.old.items events.new.items) }
+        ensures whole { OnOk result (failed.new ≡ None) }
         ensures prefix { OnErr result (ShowsPrefix O.Operator (known (D.log disk.old)) (known (D.log disk.new))
             self.old self.new.levels events.old.items events.new.items) }
         ensures plans { OnErr result (PlansPrefix self.old self.new.levels events.old.items events.new.items) }
@@ -75,7 +78,7 @@ impl<O: Operator + Drop> Flow<O> {
                 Ok(Did::Finished)
             }
             Some(source) => {
-                self.release_step(disk, source, events)?;
+                self.release_step(disk, source, events, failed)?;
                 Ok(Did::Fed)
             }
         }
@@ -89,12 +92,15 @@ impl<O: Operator + Drop> Flow<O> {
         actor: u32,
         events: &mut Vec<Event>,
         steps: &mut Steps<L>,
+        failed: &mut Option<RunErr>,
     ) -> Result<Did, RunErr>
         requires flow { IsFlow O.Operator self.old }
         requires together { Together self.old.queues (known (D.log disk.old)) }
+        requires whole { failed.old ≡ None }
         requires actor_in { actor < length self.old.seats.items }
         requires running { done_at self.old.over (slice_get self.old.seats.items actor) ≡ false }
         ensures ok { OnOk result (Stepped O.Operator (known (D.log disk.old)) (known (D.log disk.new)) self.old self.new events.old.items events.new.items) }
+        ensures whole { OnOk result (failed.new ≡ None) }
         ensures prefix { OnErr result (ShowsPrefix O.Operator (known (D.log disk.old)) (known (D.log disk.new))
             self.old self.new.levels events.old.items events.new.items) }
         ensures plans { OnErr result (PlansPrefix self.old self.new.levels events.old.items events.new.items) }
@@ -118,11 +124,11 @@ impl<O: Operator + Drop> Flow<O> {
         match next_of(&self.wires, &self.queues, actor) {
             Next::Waits => Ok(Did::Waits),
             Next::Ended => {
-                self.finish_step(disk, actor, events)?;
+                self.finish_step(disk, actor, events, failed)?;
                 Ok(Did::Finished)
             }
             Next::Feed { time: _, port, arc } => {
-                self.feed_step(disk, actor, port, arc, events, steps)?;
+                self.feed_step(disk, actor, port, arc, events, steps, failed)?;
                 Ok(Did::Fed)
             }
         }
@@ -136,11 +142,14 @@ impl<O: Operator + Drop> Flow<O> {
         actor: u32,
         events: &mut Vec<Event>,
         steps: &mut Steps<L>,
+        failed: &mut Option<RunErr>,
     ) -> Result<Did, RunErr>
         requires flow { IsFlow O.Operator self.old }
         requires together { Together self.old.queues (known (D.log disk.old)) }
+        requires whole { failed.old ≡ None }
         requires actor_in { actor ≤ length self.old.seats.items }
         ensures ok { OnOk result (Stepped O.Operator (known (D.log disk.old)) (known (D.log disk.new)) self.old self.new events.old.items events.new.items) }
+        ensures whole { OnOk result (failed.new ≡ None) }
         ensures prefix { OnErr result (ShowsPrefix O.Operator (known (D.log disk.old)) (known (D.log disk.new))
             self.old self.new.levels events.old.items events.new.items) }
         ensures plans { OnErr result (PlansPrefix self.old self.new.levels events.old.items events.new.items) }
@@ -165,9 +174,9 @@ impl<O: Operator + Drop> Flow<O> {
             return Ok(Did::Waits);
         }
         if actor == self.wires.replay {
-            self.replay_step(disk, events)
+            self.replay_step(disk, events, failed)
         } else {
-            self.operator_step(disk, actor, events, steps)
+            self.operator_step(disk, actor, events, steps, failed)
         }
     }
 
@@ -206,9 +215,11 @@ impl<O: Operator + Drop> Flow<O> {
         ensures stay { IsPrefixOf events.old.items events.new.items }
         ensures took { IfOk result (λ p. done_at self.old.over (slice_get self.old.seats.items actor) ≡ false → Took actor p.fed p.finished self.old self.new) }
     {
+        // One room for a fault serves the whole train.
+        let mut failed = None;
         let mut fed = 0;
         'steps: while fed < train {
-            let did = match self.one_step(disk, actor, events, steps) {
+            let did = match self.one_step(disk, actor, events, steps, &mut failed) {
                 Ok(did) => did,
                 Err(e) => return Err(e),
             };

@@ -1,5 +1,4 @@
-use Rattle.std.proofs.Common.{ap, arith}
-use Rattle.std.proofs.lemmas.Result.{err_from_is_err_and}
+use Rattle.std.proofs.Common.{ap, refl}
 use Rattle.sq_item.specs.Things.{spread}
 use Rattle.sq_pool.specs.Trust.{known}
 use Rattle.sq_flow.specs.Wiring.{times_in}
@@ -7,42 +6,35 @@ use Rattle.sq_flow.specs.Sends.{many}
 use Rattle.sq_flow.proofs.SendLemmas.{pushes-none}
 use Rattle.sq_flow.proofs.ShownLemmas.{shown-one, shown-none}
 use Rattle.sq_flow.proofs.sending.pass_on.Goals as goal
-use Rattle.sq_flow.proofs.sending.pass_on.Goals.{then-wires-actor+in_ok-show_one, else-wires-actor+in_ok-send_one}
+use Rattle.sq_words.proofs.Results.{OnErr_from, OnOk_weaker}
 
-pub returns-clause-sent : goal.returns-clause-sent
-returns-clause-sent g c =
-    elim c.if-wires-actor.branch [
-      | then-wires-actor+in_ok-show_one w ↦
-          rw (w.queues-is, w.disk-is)
-          (pushes-none c.args.queues.now (known (g.D.PageDisk.log c.args.disk.now)) _ _ _ c.requires.together
-          (λ arc. ap (λ l. many (times_in arc l) (spread c.args.item)) (c.requires.shown w.if-wires-actor.true)))
-      | else-wires-actor+in_ok-send_one w ↦ rw (w.queues-is, w.disk-is) w.in_ok-send_one.ensures.sent
-    ]
+pub returns-then-wires-actor-clause-sent : goal.returns-then-wires-actor-clause-sent
+returns-then-wires-actor-clause-sent g c =
+    OnOk_weaker c.show_one.result (λ shown.
+    pushes-none c.args.queues.now (known (g.D.PageDisk.log c.args.disk.now)) _ _ _ c.requires.together (λ arc. ap (λ l. many (times_in arc l) (spread c.args.item)) (c.requires.shown c.if-wires-actor.true))) c.show_one.ensures.shown
+
+pub returns-then-wires-actor-clause-shown : goal.returns-then-wires-actor-clause-shown
+returns-then-wires-actor-clause-shown g c =
+    let told = c.show_one.ensures in
+    OnOk_weaker c.show_one.result (λ shown.
+    shown-one c.args.wires.now c.args.actor (c.args.port, c.args.item) c.args.events.now.items _ c.if-wires-actor.true shown told.below told.drops told.plans told.stay) told.shown
+
+pub returns-then-wires-actor-clause-whole : goal.returns-then-wires-actor-clause-whole
+returns-then-wires-actor-clause-whole g c = OnOk_weaker c.show_one.result (λ shown. c.requires.whole) c.show_one.ensures.shown
+
+pub returns-then-wires-actor-clause-unsent : goal.returns-then-wires-actor-clause-unsent
+returns-then-wires-actor-clause-unsent g c =
+    OnErr_from c.show_one.result (λ whole. pushes-none c.args.queues.now (known (g.D.PageDisk.log c.args.disk.now)) _ _ _ c.requires.together (λ arc. refl))
+
+pub returns-then-wires-actor-clause-cause : goal.returns-then-wires-actor-clause-cause
+returns-then-wires-actor-clause-cause g c = OnErr_from c.show_one.result (rw c.requires.whole tt)
+
+pub returns-then-wires-actor-clause-honest : goal.returns-then-wires-actor-clause-honest
+returns-then-wires-actor-clause-honest g c = OnErr_from c.show_one.result (rw c.requires.whole (λ told. tt))
 
 pub returns-clause-shown : goal.returns-clause-shown
 returns-clause-shown g c =
-    elim c.if-wires-actor.branch [
-      | then-wires-actor+in_ok-show_one w ↦
-          let told = w.in_ok-show_one.ensures in
-          rw w.events-is (shown-one c.args.wires.now c.args.actor (c.args.port, c.args.item) c.args.events.now.items _ w.if-wires-actor.true told.shown told.below told.drops told.plans told.stay)
-      | else-wires-actor+in_ok-send_one w ↦ rw w.events-is (shown-none c.args.wires.now c.args.actor (c.args.port, c.args.item) c.args.events.now.items w.if-wires-actor.false)
-    ]
+    OnOk_weaker c.send_one.result (λ sent. shown-none c.args.wires.now c.args.actor (c.args.port, c.args.item) c.args.events.now.items c.if-wires-actor.false) c.send_one.ensures.sent
 
-pub returns-in_err-show_one-clause-cause : goal.returns-in_err-show_one-clause-cause
-returns-in_err-show_one-clause-cause g c = let p = err_from_is_err_and c.from_residual.result c.from_residual.ensures.1 in rw (p.1, p.2) tt
-
-pub returns-in_err-show_one-clause-honest : goal.returns-in_err-show_one-clause-honest
-returns-in_err-show_one-clause-honest g c = let p = err_from_is_err_and c.from_residual.result c.from_residual.ensures.1 in rw (p.1, p.2) (λ honest. tt)
-
-pub returns-in_err-send_one-clause-cause : goal.returns-in_err-send_one-clause-cause
-returns-in_err-send_one-clause-cause g c = let p = err_from_is_err_and c.from_residual-in_err-send_one.result c.from_residual-in_err-send_one.ensures.1 in rw (p.1, p.2) c.in_err-send_one.ensures.cause
-
-pub returns-in_err-send_one-clause-honest : goal.returns-in_err-send_one-clause-honest
-returns-in_err-send_one-clause-honest g c = let p = err_from_is_err_and c.from_residual-in_err-send_one.result c.from_residual-in_err-send_one.ensures.1 in rw (p.1, p.2) c.in_err-send_one.ensures.honest
-
-pub returns-clause-faults : goal.returns-clause-faults
-returns-clause-faults g c =
-    elim c.if-wires-actor.branch [
-      | then-wires-actor+in_ok-show_one w ↦ rw w.disk-is (omega arith)
-      | else-wires-actor+in_ok-send_one w ↦ rw w.disk-is w.in_ok-send_one.ensures.faults
-    ]
+pub returns-clause-err : goal.returns-clause-err
+returns-clause-err g c = OnErr_from c.send_one.result refl

@@ -292,3 +292,9 @@ take_item-requires-clause-there g c =
 
 pub take_item-requires-clause-some : goal.take_item-requires-clause-some
 take_item-requires-clause-some g c = ap is_some c.requires.head.1.2
+
+pub feed_into-requires-clause-whole : goal.feed_into-requires-clause-whole
+feed_into-requires-clause-whole g c = c.requires.whole
+
+pub returns-clause-whole : goal.returns-clause-whole
+returns-clause-whole g c = c.in_ok-feed_into.ensures.whole

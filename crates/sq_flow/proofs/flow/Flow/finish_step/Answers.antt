@@ -146,3 +146,9 @@ end_arcs-requires-clause-few g c = c.requires.flow.shaped.few_arcs
 
 pub end_arcs-requires-clause-lanes : goal.end_arcs-requires-clause-lanes
 end_arcs-requires-clause-lanes g c = c.in_ok-finish_into.ensures.finished.onward.sent.lanes ∙ c.requires.flow.lanes
+
+pub finish_into-requires-clause-whole : goal.finish_into-requires-clause-whole
+finish_into-requires-clause-whole g c = c.requires.whole
+
+pub returns-clause-whole : goal.returns-clause-whole
+returns-clause-whole g c = c.in_ok-finish_into.ensures.whole

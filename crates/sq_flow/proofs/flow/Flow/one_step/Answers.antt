@@ -135,3 +135,18 @@ returns-else-actor-self-clause-stay g c = c.operator_step.ensures.stay
 
 pub returns-else-actor-self-clause-took : goal.returns-else-actor-self-clause-took
 returns-else-actor-self-clause-took g c = c.operator_step.ensures.took
+
+pub replay_step-requires-clause-whole : goal.replay_step-requires-clause-whole
+replay_step-requires-clause-whole g c = c.requires.whole
+
+pub operator_step-requires-clause-whole : goal.operator_step-requires-clause-whole
+operator_step-requires-clause-whole g c = c.requires.whole
+
+pub returns-then-is_done-clause-whole : goal.returns-then-is_done-clause-whole
+returns-then-is_done-clause-whole g c = c.requires.whole
+
+pub returns-then-actor-self-clause-whole : goal.returns-then-actor-self-clause-whole
+returns-then-actor-self-clause-whole g c = c.replay_step.ensures.whole
+
+pub returns-else-actor-self-clause-whole : goal.returns-else-actor-self-clause-whole
+returns-else-actor-self-clause-whole g c = c.operator_step.ensures.whole

@@ -192,3 +192,18 @@ next_of-requires-clause-arcs_in g c = λ port arc is. subst (λ (n : ℕ). arc <
 
 pub next_of-requires-clause-ports : goal.next_of-requires-clause-ports
 next_of-requires-clause-ports g c = c.requires.flow.shaped.ports c.args.actor
+
+pub finish_step-requires-clause-whole : goal.finish_step-requires-clause-whole
+finish_step-requires-clause-whole g c = c.requires.whole
+
+pub feed_step-requires-clause-whole : goal.feed_step-requires-clause-whole
+feed_step-requires-clause-whole g c = c.requires.whole
+
+pub returns-in-Waits-clause-whole : goal.returns-in-Waits-clause-whole
+returns-in-Waits-clause-whole g c = c.requires.whole
+
+pub returns-in_ok-finish_step-in-Ended-clause-whole : goal.returns-in_ok-finish_step-in-Ended-clause-whole
+returns-in_ok-finish_step-in-Ended-clause-whole g c = c.in_ok-finish_step-in-Ended.ensures.whole
+
+pub returns-in_ok-feed_step-in-Feed-clause-whole : goal.returns-in_ok-feed_step-in-Feed-clause-whole
+returns-in_ok-feed_step-in-Feed-clause-whole g c = c.in_ok-feed_step-in-Feed.ensures.whole

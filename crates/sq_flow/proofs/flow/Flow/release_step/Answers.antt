@@ -72,13 +72,12 @@ send_one-requires-clause-sound g c =
     rw (c.none.ensures, c.some.ensures)
     (item-sound _ c.args.self.now c.requires.flow pos c.args.source c.index_mut.result.now c.first_of.new.stream c.in_ok-tuple.tuple c.requires.next at c.in_ok-tuple.ensures.ok)
 
-pub returns-in_err-send_one-clause-prefix : goal.returns-in_err-send_one-clause-prefix
-returns-in_err-send_one-clause-prefix g c =
-    let p = err_from_is_err_and c.from_residual-in_err-send_one.result c.from_residual-in_err-send_one.ensures.1 in
-    rw p.1 (lines-stay _ (known (g.D.PageDisk.log c.args.disk.now)) (known (g.D.PageDisk.log c.send_one.new.disk)) c.args.self.now c.close_before.new.levels c.args.events.now.items c.close_before.new.events.items c.in_ok-close_before.ensures.lines c.in_ok-close_before.ensures.drops)
+pub returns-in-Err-clause-prefix : goal.returns-in-Err-clause-prefix
+returns-in-Err-clause-prefix g c =
+    (lines-stay _ (known (g.D.PageDisk.log c.args.disk.now)) (known (g.D.PageDisk.log c.send_one.new.disk)) c.args.self.now c.close_before.new.levels c.args.events.now.items c.close_before.new.events.items c.in_ok-close_before.ensures.lines c.in_ok-close_before.ensures.drops)
 
-pub returns-in_err-send_one-clause-plans : goal.returns-in_err-send_one-clause-plans
-returns-in_err-send_one-clause-plans g c =
+pub returns-in-Err-clause-plans : goal.returns-in-Err-clause-plans
+returns-in-Err-clause-plans g c =
     let sources = c.args.self.now.sources.items in
     let at = slice_get_read sources _ c.args.source c.index_mut.result.now refl c.requires.next.there c.index_mut.ensures.value in
     let pos : 0 < c.args.self.now.levels.epoch = omega (arith, c.epoch.ensures.epoch, c.epoch.ensures.lasts) in
@@ -103,13 +102,12 @@ returns-in_err-send_one-clause-plans g c =
     let read = get_or_from_slice_get c.close_before.new.counts.items c.args.source c.index_mut-2.result.now 0
     (slice_get_read c.close_before.new.counts.items _ c.args.source c.index_mut-2.result.now refl within c.index_mut-2.ensures.value) in
     let counted = ap (λ n. set c.close_before.new.counts.items c.args.source (n + 1)) (sym read) in
-    let p = err_from_is_err_and c.from_residual-in_err-send_one.result c.from_residual-in_err-send_one.ensures.1 in
     rw p.1
     (plans-front _ c.args.self.now c.requires.flow pos c.args.source c.index_mut.result.now c.first_of.new.stream c.in_ok-tuple.tuple c.requires.next at c.in_ok-tuple.ensures.ok _ _ _ _ _ did
     c.send_one.new.queues (with_item c.args.self.now.sources c.args.source c.first_of.new.stream) (with_item c.close_before.new.counts c.args.source (c.index_mut-2.result.now + 1)) refl counted)
 
-pub returns-clause-ok : goal.returns-clause-ok
-returns-clause-ok g c =
+pub returns-in-Ok-clause-ok : goal.returns-in-Ok-clause-ok
+returns-in-Ok-clause-ok g c =
     let sources = c.args.self.now.sources.items in
     let at = slice_get_read sources _ c.args.source c.index_mut.result.now refl c.requires.next.there c.index_mut.ensures.value in
     let pos : 0 < c.args.self.now.levels.epoch = omega (arith, c.epoch.ensures.epoch, c.epoch.ensures.lasts) in
@@ -136,46 +134,42 @@ returns-clause-ok g c =
     let counted = ap (λ n. set c.close_before.new.counts.items c.args.source (n + 1)) (sym read) in
     released-stepped _ c.args.self.now c.requires.flow pos c.args.source c.index_mut.result.now c.first_of.new.stream c.in_ok-tuple.tuple c.requires.next at c.in_ok-tuple.ensures.ok _ _ _ _ _ did
     (with_item c.args.self.now.sources c.args.source c.first_of.new.stream) (with_item c.close_before.new.counts c.args.source (c.index_mut-2.result.now + 1)) refl counted
-    (known (g.D.PageDisk.log c.args.disk.now)) (known (g.D.PageDisk.log c.send_one.new.disk)) c.send_one.new.queues c.requires.together (rw (c.none.ensures, c.some.ensures) at c.in_ok-send_one.ensures.sent)
+    (known (g.D.PageDisk.log c.args.disk.now)) (known (g.D.PageDisk.log c.send_one.new.disk)) c.send_one.new.queues c.requires.together (rw (c.none.ensures, c.some.ensures) at c.in-Ok.ensures.sent)
 
-pub returns-clause-touches : goal.returns-clause-touches
-returns-clause-touches g c =
+pub returns-in-Ok-clause-touches : goal.returns-in-Ok-clause-touches
+returns-in-Ok-clause-touches g c =
     let sources = c.args.self.now.sources.items in
     let at = slice_get_read sources _ c.args.source c.index_mut.result.now refl c.requires.next.there c.index_mut.ensures.value in
     let pos : 0 < c.args.self.now.levels.epoch = omega (arith, c.epoch.ensures.epoch, c.epoch.ensures.lasts) in
     released-touches _ c.args.self.now c.requires.flow pos c.args.source c.index_mut.result.now c.first_of.new.stream c.in_ok-tuple.tuple c.requires.next at c.in_ok-tuple.ensures.ok
     (known (g.D.PageDisk.log c.args.disk.now)) (known (g.D.PageDisk.log c.send_one.new.disk)) c.send_one.new.queues (with_item c.args.self.now.sources c.args.source c.first_of.new.stream) c.close_before.new.planner c.close_before.new.levels
-    (with_item c.close_before.new.counts c.args.source (c.index_mut-2.result.now + 1)) (rw (c.none.ensures, c.some.ensures) at c.in_ok-send_one.ensures.sent)
+    (with_item c.close_before.new.counts c.args.source (c.index_mut-2.result.now + 1)) (rw (c.none.ensures, c.some.ensures) at c.in-Ok.ensures.sent)
 
-pub returns-clause-measure : goal.returns-clause-measure
-returns-clause-measure g c =
+pub returns-in-Ok-clause-measure : goal.returns-in-Ok-clause-measure
+returns-in-Ok-clause-measure g c =
     let sources = c.args.self.now.sources.items in
     let at = slice_get_read sources _ c.args.source c.index_mut.result.now refl c.requires.next.there c.index_mut.ensures.value in
     let less = count-less sources c.args.source c.index_mut.result.now c.first_of.new.stream c.in_ok-tuple.tuple at c.in_ok-tuple.ensures.ok in
     omega (arith, less)
 
-pub returns-in_err-send_one-clause-cause : goal.returns-in_err-send_one-clause-cause
-returns-in_err-send_one-clause-cause g c =
-    let p = err_from_is_err_and c.from_residual-in_err-send_one.result c.from_residual-in_err-send_one.ensures.1 in
-    rw (p.1, p.2) (cause-in _ _ _ _ _ _ c.in_err-send_one.ensures.cause)
+pub returns-in-Err-clause-cause : goal.returns-in-Err-clause-cause
+returns-in-Err-clause-cause g c =
+    rw (c.fault_of.ensures, c.take.ensures.value) (cause-in _ _ _ _ _ _ c.in-Err.ensures.cause)
 
-pub returns-in_err-send_one-clause-feed : goal.returns-in_err-send_one-clause-feed
-returns-in_err-send_one-clause-feed g c =
-    let p = err_from_is_err_and c.from_residual-in_err-send_one.result c.from_residual-in_err-send_one.ensures.1 in
-    rw (p.1, p.2) (feeds-none _ _ _ _ _ _ _ _ _ _ c.in_err-send_one.ensures.cause)
+pub returns-in-Err-clause-feed : goal.returns-in-Err-clause-feed
+returns-in-Err-clause-feed g c =
+    rw (c.fault_of.ensures, c.take.ensures.value) (feeds-none _ _ _ _ _ _ _ _ _ _ c.in-Err.ensures.cause)
 
-pub returns-in_err-send_one-clause-strange : goal.returns-in_err-send_one-clause-strange
-returns-in_err-send_one-clause-strange g c =
-    let p = err_from_is_err_and c.from_residual-in_err-send_one.result c.from_residual-in_err-send_one.ensures.1 in
-    rw (p.1, p.2) (λ told table agrees holds. c.in_err-send_one.ensures.honest told)
+pub returns-in-Err-clause-strange : goal.returns-in-Err-clause-strange
+returns-in-Err-clause-strange g c =
+    rw (c.fault_of.ensures, c.take.ensures.value) (λ told table agrees holds. c.in-Err.ensures.honest told)
 
-pub returns-in_err-send_one-clause-memory : goal.returns-in_err-send_one-clause-memory
-returns-in_err-send_one-clause-memory g c =
-    let p = err_from_is_err_and c.from_residual-in_err-send_one.result c.from_residual-in_err-send_one.ensures.1 in
-    rw (p.1, p.2) (counts-none _ _ _ _ _ _ c.in_err-send_one.ensures.cause)
+pub returns-in-Err-clause-memory : goal.returns-in-Err-clause-memory
+returns-in-Err-clause-memory g c =
+    rw (c.fault_of.ensures, c.take.ensures.value) (counts-none _ _ _ _ _ _ c.in-Err.ensures.cause)
 
-pub returns-clause-took : goal.returns-clause-took
-returns-clause-took g c =
+pub returns-in-Ok-clause-took : goal.returns-in-Ok-clause-took
+returns-in-Ok-clause-took g c =
     let sources = c.args.self.now.sources.items in
     let at = slice_get_read sources _ c.args.source c.index_mut.result.now refl c.requires.next.there c.index_mut.ensures.value in
     let pos : 0 < c.args.self.now.levels.epoch = omega (arith, c.epoch.ensures.epoch, c.epoch.ensures.lasts) in
@@ -236,34 +230,34 @@ returns-in_err-close_before-clause-closes g c =
 pub returns-in_err-close_before-clause-stay : goal.returns-in_err-close_before-clause-stay
 returns-in_err-close_before-clause-stay g c = c.in_err-close_before.ensures.stay
 
-pub returns-in_err-send_one-clause-faults : goal.returns-in_err-send_one-clause-faults
-returns-in_err-send_one-clause-faults g c = c.in_err-send_one.ensures.faults
+pub returns-in-Err-clause-faults : goal.returns-in-Err-clause-faults
+returns-in-Err-clause-faults g c = c.in-Err.ensures.faults
 
-pub returns-in_err-send_one-clause-later : goal.returns-in_err-send_one-clause-later
-returns-in_err-send_one-clause-later g c = c.in_err-send_one.ensures.later
+pub returns-in-Err-clause-later : goal.returns-in-Err-clause-later
+returns-in-Err-clause-later g c = c.in-Err.ensures.later
 
-pub returns-in_err-send_one-clause-closes : goal.returns-in_err-send_one-clause-closes
-returns-in_err-send_one-clause-closes g c =
+pub returns-in-Err-clause-closes : goal.returns-in-Err-clause-closes
+returns-in-Err-clause-closes g c =
     agrees-before c.args.self.now.levels c.close_before.new.levels c.in_ok-close_before.ensures.keeps c.in_ok-close_before.ensures.grows
 
-pub returns-in_err-send_one-clause-stay : goal.returns-in_err-send_one-clause-stay
-returns-in_err-send_one-clause-stay g c = c.in_ok-close_before.ensures.stay
+pub returns-in-Err-clause-stay : goal.returns-in-Err-clause-stay
+returns-in-Err-clause-stay g c = c.in_ok-close_before.ensures.stay
 
-pub returns-clause-faults : goal.returns-clause-faults
-returns-clause-faults g c = c.in_ok-send_one.ensures.faults
+pub returns-in-Ok-clause-faults : goal.returns-in-Ok-clause-faults
+returns-in-Ok-clause-faults g c = c.in-Ok.ensures.faults
 
-pub returns-clause-later : goal.returns-clause-later
-returns-clause-later g c = c.in_ok-send_one.ensures.later
+pub returns-in-Ok-clause-later : goal.returns-in-Ok-clause-later
+returns-in-Ok-clause-later g c = c.in-Ok.ensures.later
 
-pub returns-clause-closes : goal.returns-clause-closes
-returns-clause-closes g c =
+pub returns-in-Ok-clause-closes : goal.returns-in-Ok-clause-closes
+returns-in-Ok-clause-closes g c =
     agrees-before c.args.self.now.levels c.close_before.new.levels c.in_ok-close_before.ensures.keeps c.in_ok-close_before.ensures.grows
 
-pub returns-clause-taken : goal.returns-clause-taken
-returns-clause-taken g c = refl
+pub returns-in-Ok-clause-taken : goal.returns-in-Ok-clause-taken
+returns-in-Ok-clause-taken g c = refl
 
-pub returns-clause-stay : goal.returns-clause-stay
-returns-clause-stay g c = c.in_ok-close_before.ensures.stay
+pub returns-in-Ok-clause-stay : goal.returns-in-Ok-clause-stay
+returns-in-Ok-clause-stay g c = c.in_ok-close_before.ensures.stay
 
 -- something is left of the source that releases next
 some-left : (sources : List Recorded) (source : ℕ) (v : Recorded) → IsNextSource sources source → slice_get sources source ≡ Some v → 0 < length v.items
@@ -367,3 +361,9 @@ some-requires g c =
     let pos : 0 < c.args.self.now.levels.epoch = omega (arith, c.epoch.ensures.epoch, c.epoch.ensures.lasts) in
     let low = (sound _ c.args.self.now c.requires.flow pos c.args.source c.index_mut.result.now c.first_of.new.stream c.in_ok-tuple.tuple c.requires.next at c.in_ok-tuple.ensures.ok).1 in
     omega (arith, low)
+
+pub send_one-requires-clause-whole : goal.send_one-requires-clause-whole
+send_one-requires-clause-whole g c = c.requires.whole
+
+pub returns-in-Ok-clause-whole : goal.returns-in-Ok-clause-whole
+returns-in-Ok-clause-whole g c = c.in-Ok.ensures.whole

@@ -101,3 +101,12 @@ end_step-requires-clause-flow g c = c.requires.flow
 
 pub end_step-requires-clause-running : goal.end_step-requires-clause-running
 end_step-requires-clause-running g c = c.requires.running
+
+pub release_step-requires-clause-whole : goal.release_step-requires-clause-whole
+release_step-requires-clause-whole g c = c.requires.whole
+
+pub returns-in-None-clause-whole : goal.returns-in-None-clause-whole
+returns-in-None-clause-whole g c = c.requires.whole
+
+pub returns-in_ok-release_step-in-Some-clause-whole : goal.returns-in_ok-release_step-in-Some-clause-whole
+returns-in_ok-release_step-in-Some-clause-whole g c = c.in_ok-release_step-in-Some.ensures.whole

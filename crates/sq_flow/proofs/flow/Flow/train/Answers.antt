@@ -85,6 +85,7 @@ steps-preserved g c =
     let less = subst (λ d. Lowers d (measure_of c.steps.self) (measure_of c.one_step.new.self)) c.in-Fed.is c.in-Ok.ensures.measure in
     record {
       stepped = stepped-both _ _ _ _ _ _ _ c.steps.invariant.stepped _ _ _ c.in-Ok.ensures.ok;
+      whole = c.in-Ok.ensures.whole;
       touches = touches-both c.args.actor c.args.self.now c.steps.self c.one_step.new.self c.steps.invariant.stepped.wires c.steps.invariant.stepped.seats c.steps.invariant.touches c.in-Ok.ensures.touches;
       cost = costs-after _ _ _ _ _ _ _ c.steps.invariant.stepped c.one_step.new.self c.args.steps.now c.steps.steps c.one_step.new.steps c.steps.invariant.cost c.in-Ok.ensures.cost;
       falls = omega (arith, falls, less);
@@ -131,6 +132,9 @@ one_step-requires-clause-flow g c = c.steps.invariant.stepped.flow_after
 
 pub one_step-requires-clause-together : goal.one_step-requires-clause-together
 one_step-requires-clause-together g c = c.steps.invariant.stepped.together
+
+pub one_step-requires-clause-whole : goal.one_step-requires-clause-whole
+one_step-requires-clause-whole g c = c.steps.invariant.whole
 
 pub one_step-requires-clause-actor_in : goal.one_step-requires-clause-actor_in
 one_step-requires-clause-actor_in g c = omega (arith, c.requires.actor_in, c.steps.invariant.stepped.seats)
@@ -202,6 +206,7 @@ pub steps-init : goal.steps-init
 steps-init g c =
     record {
       stepped = stepped-none _ (known (g.D.PageDisk.log c.args.disk.now)) c.args.self.now c.args.events.now.items c.requires.flow c.requires.together;
+      whole = refl;
       touches = touches-none c.args.actor c.args.self.now;
       cost = refl;
       falls = omega arith;

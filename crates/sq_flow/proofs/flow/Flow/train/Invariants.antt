@@ -1,6 +1,6 @@
 use Rattle.std.proofs.Common.{◌≡◌, ◌≤◌, ◌+◌, ◌-◌, false}
 use Rattle.sq_pool.specs.Trust.{IsLater, known}
-use Rattle.std.specs.Prelude.{slice_get}
+use Rattle.std.specs.Prelude.{None, slice_get}
 use Rattle.sq_flow.specs.Seats.{done_at}
 use Rattle.sq_flow.specs.Flows.{Stepped, CostsFed, measure_of}
 use Rattle.sq_flow.specs.Readiness.{TouchesOnly, Took}
@@ -12,6 +12,7 @@ invariant-steps g l =
     let op = g.O.Operator in
     record {
       stepped : Stepped op (known (g.D.PageDisk.log l.fn.disk)) (known (g.D.PageDisk.log l.disk)) l.fn.self l.self l.fn.events.items l.events.items;
+      whole : l.failed ≡ None;
       touches : TouchesOnly l.actor l.fn.self l.self;
       cost : CostsFed op l.fn.self l.self l.fn.steps l.steps;
       falls : measure_of l.self + l.fed ≤ measure_of l.fn.self;
