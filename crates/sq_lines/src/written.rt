@@ -8,13 +8,11 @@ ghost use Rattle.sq_lines.specs.Rows.{shows_nothing};
 use sq_csv::cut_first;
 use std::alloc::AllocError;
 
-/// Whether a field stands in quotes: where it has a comma, a quote, CR or LF.
+/// Whether a field stands in quotes: where it has a comma, a quote, CR or LF. Most bytes lie above a comma, and one test tells so.
 fn needs_quotes(field: &[u8]) -> bool
     ensures { result ≡ list_any needs_quotes field.now }
 {
-    field
-        .iter()
-        .any(|b| *b == b',' || *b == b'"' || *b == b'\r' || *b == b'\n')
+    field.iter().any(|b| *b <= b',' && (*b == b',' || *b == b'"' || *b == b'\r' || *b == b'\n'))
 }
 
 /// Puts a field at the end, each of its quotes twice.
