@@ -17,22 +17,13 @@ pub returns-then-is_empty-clause-told : goal.returns-then-is_empty-clause-told
 returns-then-is_empty-clause-told c =
     let line = c.without_return-line.result.now in
     let none : length line ≡ 0 = grind (arith, nat_tests, c.is_empty.ensures, c.if-is_empty.true) in
-    line_none c.args.text.now c.piece_at.result.0.now line c.args.at c.piece_at.result.1 c.piece_at.ensures.pieces (sym c.without_return-line.ensures) none
+    line_none c.args.text.now c.piece_at-next.result.0.now line c.args.at c.piece_at-next.result.1 c.piece_at-next.ensures.pieces (sym c.without_return-line.ensures) none
 
 pub returns-in-Ok-clause-told : goal.returns-in-Ok-clause-told
 returns-in-Ok-clause-told c =
     let line = c.without_return-line.result.now in
     let some : 0 < length line = grind (arith, nat_tests, c.is_empty.ensures, c.if-is_empty.false) in (
       line,
-      line_next c.args.text.now c.piece_at.result.0.now line c.args.at c.piece_at.result.1 c.piece_at.ensures.pieces (sym c.without_return-line.ensures) some,
+      line_next c.args.text.now c.piece_at-next.result.0.now line c.args.at c.piece_at-next.result.1 c.piece_at-next.ensures.pieces (sym c.without_return-line.ensures) some,
       (c.in-Ok.tuple, c.in-Ok.ensures.tuple, refl),
     )
-
-pub returns-in-Err-clause-refused : goal.returns-in-Err-clause-refused
-returns-in-Err-clause-refused c =
-    let line = c.without_return-line.result.now in
-    let text = c.args.text.now in
-    let next = c.piece_at.result.1 in
-    let some : 0 < length line = grind (arith, nat_tests, c.is_empty.ensures, c.if-is_empty.false) in
-    line_refused c.args.kinds.now c.args.count c.args.latest text line c.args.at (λ n. lines_from (n + 1) (pieces_at text next)) c.in-Err.e
-    (line_next text c.piece_at.result.0.now line c.args.at next c.piece_at.ensures.pieces (sym c.without_return-line.ensures) some) c.in-Err.ensures.refused

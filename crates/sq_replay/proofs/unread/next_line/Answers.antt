@@ -11,9 +11,9 @@ loop-next-preserved c =
     let none : length line ≡ 0 = grind (arith, nat_tests, c.is_empty.ensures, c.if-not-is_empty.false) in
     record {
       same = λ ks latest.
-        sym (recorded_none text c.piece_at.result.0.now line l.next c.piece_at.result.1 c.piece_at.ensures.pieces (sym c.without_return-line.ensures) none ks latest)
+        sym (recorded_none text c.piece_at-behind.result.0.now line l.next c.piece_at-behind.result.1 c.piece_at-behind.ensures.pieces (sym c.without_return-line.ensures) none ks latest)
         ∙ l.invariant.same ks latest;
-      further = omega (arith, l.invariant.further, c.piece_at.ensures.further);
+      further = omega (arith, l.invariant.further, c.piece_at-behind.ensures.further);
     }
 
 pub returns-then-not-is_empty-clause-line : goal.returns-then-not-is_empty-clause-line
@@ -23,7 +23,7 @@ returns-then-not-is_empty-clause-line c ks latest =
     let line = c.without_return-line.result.now in
     let some : 0 < length line = grind (arith, nat_tests, c.is_empty.ensures, c.if-not-is_empty.true) in
     sym (l.invariant.same ks latest)
-    ∙ recorded_next text c.piece_at.result.0.now line l.next c.piece_at.result.1 c.piece_at.ensures.pieces (sym c.without_return-line.ensures) some ks latest
+    ∙ recorded_next text c.piece_at-behind.result.0.now line l.next c.piece_at-behind.result.1 c.piece_at-behind.ensures.pieces (sym c.without_return-line.ensures) some ks latest
 
 pub returns-clause-line : goal.returns-clause-line
 returns-clause-line c ks latest =
