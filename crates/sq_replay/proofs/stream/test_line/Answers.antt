@@ -1,7 +1,6 @@
-use Rattle.std.proofs.Common.{◌≡◌, ◌+◌, ◌<◌, sym, refl, length, arith}
+use Rattle.std.proofs.Common.{◌≡◌, ◌<◌, sym, refl, length, arith}
 use Rattle.std.proofs.lemmas.Bool.Decides.{nat_tests}
-use Rattle.sq_replay.specs.FileLines.{lines_from, pieces_at}
-use Rattle.sq_replay.proofs.RecordedLemmas.{line_next, line_none, line_refused, line_tested}
+use Rattle.sq_replay.proofs.RecordedLemmas.{line_next, line_none, line_tested}
 use Rattle.sq_replay.proofs.stream.test_line.Goals as goal
 
 pub returns-in-Ok-Some-clause-told : goal.returns-in-Ok-Some-clause-told

@@ -1,9 +1,9 @@
-use Rattle.std.proofs.Common.{◌≡◌, ◌∙◌, ◌+◌, [], sym, subst, ap, length, Some, Err, None, arith, ◌≤◌}
+use Rattle.std.proofs.Common.{◌≡◌, ◌∙◌, ◌+◌, [], sym, subst, ap, length, Some, None, arith, ◌≤◌}
 use Rattle.sq_value.specs.Values.{kinds_of}
-use Rattle.sq_replay.specs.Answers.{IsLineRefused, IsTested}
+use Rattle.sq_replay.specs.Answers.{IsTested}
 use Rattle.sq_replay.specs.FileLines.{lines_from, pieces_at, pieces_of, without_mark}
 use Rattle.sq_replay.specs.Streams.{stream_in, tuples_from}
-use Rattle.sq_replay.proofs.RecordedLemmas.{error_is, error_step, first_error, good_stream, pieces_past, pieces_start, unmarked_shorter}
+use Rattle.sq_replay.proofs.RecordedLemmas.{error_step, first_error, good_stream, pieces_past, pieces_start, unmarked_shorter}
 use Rattle.sq_replay.proofs.stream.test_lines.Goals as goal
 
 pub loop-at-init : goal.loop-at-init

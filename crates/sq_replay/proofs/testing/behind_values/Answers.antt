@@ -1,4 +1,4 @@
-use Rattle.std.proofs.Common.{◌≡◌, ◌∙◌, sym, drop, true, take, refl, arith}
+use Rattle.std.proofs.Common.{◌≡◌, ◌∙◌, sym, drop, true, take}
 use Rattle.std.proofs.lemmas.List.{take_all}
 use Rattle.sq_csv.specs.Cuts.{begins_with}
 use Rattle.sq_replay.proofs.CutLemmas.{tested_next}

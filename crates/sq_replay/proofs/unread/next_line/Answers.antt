@@ -11,8 +11,8 @@ loop-next-preserved c =
     let none : length line ≡ 0 = grind (arith, nat_tests, c.is_empty.ensures, c.if-not-is_empty.false) in
     record {
       same = λ ks latest.
-        sym (recorded_none text c.piece_at-behind.result.0.now line l.next c.piece_at-behind.result.1 c.piece_at-behind.ensures.pieces (sym c.without_return-line.ensures) none ks latest)
-        ∙ l.invariant.same ks latest;
+          sym (recorded_none text c.piece_at-behind.result.0.now line l.next c.piece_at-behind.result.1 c.piece_at-behind.ensures.pieces (sym c.without_return-line.ensures) none ks latest)
+          ∙ l.invariant.same ks latest;
       further = omega (arith, l.invariant.further, c.piece_at-behind.ensures.further);
     }
 

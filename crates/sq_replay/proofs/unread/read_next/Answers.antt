@@ -1,4 +1,4 @@
-use Rattle.std.proofs.Common.{◌+◌, sym}
+use Rattle.std.proofs.Common.{sym}
 use Rattle.sq_replay.proofs.RecordedLemmas.{line_recorded}
 use Rattle.sq_replay.proofs.unread.read_next.Goals as goal
 
