@@ -1,5 +1,5 @@
 -- Looks at actors, one after another.
-use Rattle.std.proofs.Common.{◌≡◌, ℕ, ◌+◌, ◌<◌, eqb, cond, Bool, true, false, not, ◌||◌, ◌&&◌, List, [], ◌∷◌, ◌++◌, length, get_or, take, refl, ap, sym, ◌∙◌, subst, append_assoc, append-nil, add-one, arith}
+use Rattle.std.proofs.Common.{◌≡◌, ℕ, ◌+◌, ◌<◌, eqb, cond, Bool, true, false, not, ◌||◌, ◌&&◌, List, [], ◌∷◌, ◌++◌, length, get_or, take, refl, ap, sym, ◌∙◌, subst, append_assoc, add-one, arith}
 use Rattle.std.specs.Prelude.{Vec}
 use Rattle.std.specs.declared.alloc.Global.{Global}
 use Rattle.std.proofs.lemmas.Option.{slice_get_read}
@@ -17,17 +17,6 @@ use Rattle.sq_flow.proofs.ReadyLemmas.{looked-at}
 use Rattle.sq_words.specs.Lists.{contains_number}
 use Rattle.sq_words.proofs.Lists.{contains_append}
 use Rattle.sq_words.proofs.Ranges.{range_more}
-
-pub looked-none : {O : Type 0} (engine : Engine O) → Looked [] engine engine
-looked-none engine =
-    record {
-      flow = refl;
-      failed = refl;
-      actors = refl;
-      list = sym (append-nil engine.ready.list);
-      waits = λ actor. refl;
-      waits_len = refl;
-    }
 
 pub looked-more : {O : Type 0} (seen : List ℕ) (x : ℕ) (a b c : Engine O) → contains_number seen x ≡ false → Looked seen a b → Looked (x ∷ []) b c
     → Looked (seen ++ x ∷ []) a c

@@ -51,9 +51,6 @@ exact-test e list actor exact =
     (λ h. exact.ready (ready-of e (seat_number (length e.seats.items) actor) h))
 
 -- places of actors
-pub place-0 : (ops : ℕ) → seat_number ops 0 ≡ ops
-place-0 ops = refl
-
 pub place-next : (ops k : ℕ) → seat_number ops (suc k) ≡ k
 place-next ops k = ap (λ b. cond b ops (suc k - 1)) (eqb-not (suc k) 0 (omega arith)) ∙ less
   where

@@ -6,19 +6,17 @@ use Rattle.sq_words.specs.Lists.{numbers_to}
 use Rattle.sq_road.specs.Levels.{Rows, level_of}
 use Rattle.sq_plan.specs.PlanRows.{level_for, shown_from, shown_after}
 use Rattle.sq_value.specs.declared.Value.{Value}
-use Rattle.sq_item.specs.declared.Item.{Item}
 use Rattle.sq_oper.specs.declared.operator.Operator.{Ghosts}
 use Rattle.sq_oper.specs.declared.tally.Moment.TheVariants.{Start}
 use Rattle.sq_oper.specs.declared.outs.Decision.{Decision}
 use Rattle.sq_oper.specs.Order.{IsFuture}
 use Rattle.sq_oper.specs.Outflow.{ThingsUpTo}
-use Rattle.sq_left.specs.Remainder.{Facts}
 use Rattle.sq_queue.specs.Faces.{face, size}
 use Rattle.sq_flow.specs.declared.seats.Seat.{Seat}
 use Rattle.sq_flow.specs.declared.flow.Flow.{Flow}
 use Rattle.sq_flow.specs.Wiring.{net_of, from_of, IsOwn, IsShaped}
 use Rattle.sq_flow.specs.Seats.{rest_at, done_at, moment_at, holds_at, IsSeat, Owns}
-use Rattle.sq_flow.specs.Flows.{world_of, IsFlow, HoldsItems, RiseFrom, to_release}
+use Rattle.sq_flow.specs.Flows.{IsFlow, RiseFrom, to_release}
 use Rattle.sq_flow.specs.Starts.{IsNewSeat}
 use Rattle.sq_flow.specs.Plans.{arrivals, last_arrival, add_counts, streams_left, counts_of, IsPlanned, plans_left}
 use Rattle.sq_flow.proofs.PlanLemmas.{add-zeros, arrivals-len, flat-same}
@@ -89,10 +87,6 @@ module _ {O : Type 0} (m : Ghosts O) (e : Flow O)
       held-none : (table : ℕ → ℕ → ℕ) (takes : ℕ → Bool) (fits : ℕ → List Value → Bool) (own : Decision → Type 0) (o : Option (Seat O)) (port : ℕ) → holds_at (IsNewSeat m takes fits own e.levels.epoch) o → ThingsUpTo e.clock (rest_at m table o [] port)
       held-none table takes fits own None port h = tt
       held-none table takes fits own (Some s) port h = rw (h.holds_none table port) tt
-
-  -- where the facts hold of a world in which nothing is queued
-  pub start-holds : (table : ℕ → ℕ → ℕ) (items : ℕ → List Item) → ((arc : ℕ) → items arc ≡ []) → Facts (net_of e.wires) (world_of m table items e) e.wires.order.items → HoldsItems m table items e
-  start-holds table items none facts = record { facts = facts; queued = λ arc. rw (none arc) tt }
 
 -- a flow that has counted nothing yet
 module _ {O : Type 0} (e : Flow O) (closed : e.levels.closed ≡ 1) (rows : e.levels.rows ≡ []) (counts : e.counts.items ≡ replicate (length e.sources.items) 0) where

@@ -59,9 +59,6 @@ module _ {O : Type 0} (m : Ghosts O) where
     drops-same : f1.wires.shown - f1.wires.sheds ≡ f.wires.shown - f.wires.sheds
     drops-same = ap (λ (w : Wires). w.shown - w.sheds) first.wires
 
-    sheds-same : f1.wires.sheds ≡ f.wires.sheds
-    sheds-same = ap (λ (w : Wires). w.sheds) first.wires
-
     low-after : (output : ℕ) → f.wires.shown + output < length f.seats.items → f1.wires.shown + output < length f1.seats.items
     low-after output low = rw (first.seats, ap (λ (w : Wires). w.shown) first.wires) low
 

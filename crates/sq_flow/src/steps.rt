@@ -136,7 +136,7 @@ impl<O: Operator + Drop> Flow<O> {
 
     /// One step of an actor; none where it isn't ready.
     #[inline(always)]
-    pub fn one_step<D: PageDisk, L: Ledger>(
+    fn one_step<D: PageDisk, L: Ledger>(
         &mut self,
         disk: &mut D,
         actor: u32,

@@ -10,6 +10,7 @@ use Rattle.sq_flow.proofs.SendLemmas.{at_or_other, pushes-same, pushes-one, push
 use Rattle.sq_flow.proofs.sending.send_one.Goals as goal
 use Rattle.sq_words.specs.Lists.{contains_number}
 
+-- a list of one is its first
 only-one : (xs : List ℕ) → 1 ≤ length xs → length xs < 2 → xs ≡ slice_index_or xs 0 0 ∷ []
 only-one [] some few = absurd (omega (arith, some))
 only-one (x ∷ []) some few = refl
