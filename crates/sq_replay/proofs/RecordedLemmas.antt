@@ -14,9 +14,7 @@ use Rattle.sq_replay.specs.declared.why.Why.TheVariants as why
 use Rattle.sq_csv.specs.Cuts.{behind_line, ends_line, first_line}
 use Rattle.sq_csv.specs.Records.{is_mark}
 use Rattle.sq_replay.specs.FileLines.{Line, lines_from, pieces_at, pieces_of, without_mark}
-use Rattle.sq_replay.specs.declared.line.TupleErr.{TupleErr}
-use Rattle.sq_replay.specs.declared.line.TupleErr.TheVariants as tuple_error
-use Rattle.sq_replay.specs.Answers.{IsLineRefused, IsTested, IsTupleRefused}
+use Rattle.sq_replay.specs.Answers.{IsTested}
 use Rattle.sq_replay.specs.Cuts.{ReadsLine}
 use Rattle.sq_replay.specs.Streams.{unless, tuple_on_line, tuple_of_line, tuples_from}
 use Rattle.sq_replay.specs.RecordedTuples.{and_then, tuples_left, tuples_recorded}
@@ -28,10 +26,6 @@ use Rattle.sq_words.proofs.Numbers.{nat_le_true}
 abbrev pub first_error : {A E : Type 0} → Result A E → Option E
 first_error (Ok x) = None
 first_error (Err e) = Some e
-
-pub error_is : {A E : Type 0} (r : Result A E) (e : E) → first_error r ≡ Some e → r ≡ Err e
-error_is (Ok x) e h = cc
-error_is (Err f) e h = cc
 
 error_behind : {A E : Type 0} (x : A) (r : Result (List A) E) → first_error (r >>= (λ xs. Ok (x ∷ xs))) ≡ first_error r
 error_behind x (Ok xs) = refl
@@ -171,12 +165,6 @@ pub line_none : (text piece line : List ℕ) (from next : ℕ) → pieces_at tex
     → (n : ℕ) → lines_from n (pieces_at text from) ≡ lines_from (n + 1) (pieces_at text next)
 line_none text piece line from next pieces same none n =
     ap (λ ps. lines_from n ps) pieces ∙ empty_line n piece (pieces_at text next) (ap length same ∙ none)
-
-pub line_refused : (ks : List Kind) (count latest : ℕ) (text line : List ℕ) (from : ℕ) (behind : ℕ → List Line) (e : TupleErr) → ((n : ℕ) → lines_from n (pieces_at text from) ≡ (n, line) ∷ behind n)
-    → IsTupleRefused e (tuple_on_line ks count latest line) → IsLineRefused ks count latest text from e
-line_refused ks count latest text line from behind (tuple_error.Bad w) lines refused =
-    λ n. ap (λ ls. tuples_from ks count latest ls) (lines n) ∙ bad_line ks count latest n line (behind n) w refused
-line_refused ks count latest text line from behind tuple_error.Memory lines refused = tt
 
 -- a line that is read at once
 pub line_tested : (ks : List Kind) (count latest : ℕ) (text : List ℕ) (from : ℕ) (x : Tuple) (end : ℕ) → count < 1000000 → ReadsLine ks latest text from x end
