@@ -180,6 +180,34 @@ line_recorded ks latest text from x end read =
     let tuple : tuple_of_line ks latest (strip_carriage_return read.line) ≡ Ok x = subst (λ l. tuple_of_line ks latest l ≡ Ok x) (sym read.whole) read.tuple in
     ap (λ ps. tuples_left ks latest ps) read.pieces ∙ left_good ks latest read.line (pieces_at text (end + 1)) x some tuple
 
+-- a text that is one piece
+no_more_pieces : (o : Option (List ℕ)) → pieces_behind o ≡ [] → o ≡ None
+no_more_pieces None h = refl
+no_more_pieces (Some text) h = let first = sym (pieces_first text) ∙ h in cc
+
+first_alone : (text : List ℕ) → behind_line text ≡ None → first_line text ≡ text
+first_alone [] h = refl
+first_alone (b ∷ bs) h = elim (cases_Bool (b == 10)) [
+  | inl feed ↦ let none = rw feed at h in cc
+  | inr other ↦ rw (other, first_alone bs (rw other at h)) refl
+]
+
+piece_alone : (text piece : List ℕ) → pieces_of text ≡ piece ∷ [] → piece ≡ text
+piece_alone text piece h =
+    let is : first_line text ∷ pieces_behind (behind_line text) ≡ piece ∷ [] = sym (pieces_first text) ∙ h in
+    let first : first_line text ≡ piece = cc in
+    let more : pieces_behind (behind_line text) ≡ [] = cc in
+    sym first ∙ first_alone text (no_more_pieces (behind_line text) more)
+
+-- a line that is read at once where it stands alone
+pub line_alone : (ks : List Kind) (count latest : ℕ) (line : List ℕ) (x : Tuple) (end : ℕ) → count < 1000000 → end ≡ length line → ReadsLine ks latest line 0 x end
+    → tuple_on_line ks count latest line ≡ Ok x
+line_alone ks count latest line x end few whole read =
+    let below : nat_le 1000000 count ≡ false = grind (arith, nat_tests) in
+    let none : pieces_at line (end + 1) ≡ [] = pieces_past line (end + 1) (omega (arith, whole)) in
+    let one : pieces_of line ≡ read.line ∷ [] = sym (pieces_here line 0 (omega arith)) ∙ read.pieces ∙ ap (λ ps. read.line ∷ ps) none in
+    rw below (subst (λ l. tuple_of_line ks latest l ≡ Ok x) (piece_alone line read.line one) read.tuple)
+
 -- the tuples from a piece on
 pub recorded_next : (text piece line : List ℕ) (from next : ℕ) → pieces_at text from ≡ piece ∷ pieces_at text next → strip_carriage_return piece ≡ line → 0 < length line
     → (ks : List Kind) (latest : ℕ) → tuples_recorded ks latest text from ≡ and_then (tuple_of_line ks latest line) (λ x. tuples_recorded ks x.time text next)

@@ -9,6 +9,7 @@ ghost use Rattle.sq_replay.specs.RestOfText.{all_to_come, unread_tuples, with_ne
 use crate::line::{TupleErr, read_tuple};
 use crate::plain::read_at_once;
 use crate::stream::{piece_at, without_return};
+use sq_csv::stands_at;
 use sq_value::{Kind, Tuple};
 use std::alloc::{AllocError, Global};
 use std::collections::VecDeque;
@@ -22,6 +23,8 @@ pub(crate) struct Unread {
     latest: u64,
     // Where a field that stands in quotes is put.
     unquoted: Vec<u8>,
+    // Whether the last line that was cut off ended in CR LF: the next one most likely does too.
+    returns: bool,
 }
 
 /// How many bytes a mark of byte order takes at the start.
@@ -48,6 +51,7 @@ impl Unread {
             kinds,
             latest: 0,
             unquoted: Vec::new(alloc),
+            returns: false,
         })
     }
 
@@ -61,6 +65,7 @@ impl Unread {
             kinds: Vec::new(alloc),
             latest: 0,
             unquoted: Vec::new(alloc),
+            returns: false,
         }
     }
 }
@@ -95,9 +100,10 @@ pub(crate) fn read_rest(
 ) -> Result<(), AllocError>
     ensures { OnOk result (tuples.new.items ≡ tuples.old.items ++ tuples_recorded kinds.now after text.now from) }
 {
+    let mut unquoted = Vec::new(alloc);
     let (mut latest, mut at) = (after, from);
     while let Some((line, next)) = next_line(text, at) {
-        match read_tuple(alloc, kinds, 0, latest, line) {
+        match read_tuple(alloc, kinds, 0, latest, line, &mut unquoted) {
             Ok(tuple) => {
                 latest = tuple.time;
                 at = next;
@@ -110,7 +116,7 @@ pub(crate) fn read_rest(
     Ok(())
 }
 
-/// Reads the next tuple of a text, where its line isn't read at once.
+/// Reads the next tuple of a text, where its line isn't read in place.
 #[inline(never)]
 fn read_slowly(unread: &mut Unread) -> Result<Option<Tuple>, AllocError>
     ensures read { IfOk result (λ o. with_next o (unread_tuples unread.new) ≡ unread_tuples unread.old) }
@@ -120,10 +126,18 @@ fn read_slowly(unread: &mut Unread) -> Result<Option<Tuple>, AllocError>
     let Some((line, next)) = next_line(&unread.text, unread.at) else {
         return Ok(None);
     };
-    match read_tuple(alloc, &unread.kinds, 0, unread.latest, line) {
+    match read_tuple(
+        alloc,
+        &unread.kinds,
+        0,
+        unread.latest,
+        line,
+        &mut unread.unquoted,
+    ) {
         Ok(tuple) => {
             unread.latest = tuple.time;
             unread.at = next;
+            unread.returns = next >= 2 && stands_at(&unread.text, next - 2, b'\r');
             Ok(Some(tuple))
         }
         Err(TupleErr::Bad(_)) => Ok(None),
@@ -139,6 +153,9 @@ fn read_next(unread: &mut Unread) -> Result<Option<Tuple>, AllocError>
 {
     if unread.at > unread.text.len() {
         return Ok(None);
+    }
+    if unread.returns {
+        return read_slowly(unread);
     }
     let alloc = *unread.text.allocator();
     let mut end = 0usize;

@@ -1,4 +1,4 @@
-use Rattle.std.proofs.Common.{◌≡◌, ◌<◌, sym, refl, length, arith}
+use Rattle.std.proofs.Common.{◌≡◌, ◌<◌, sym, length, arith}
 use Rattle.std.proofs.lemmas.Bool.Decides.{nat_tests}
 use Rattle.sq_replay.proofs.RecordedLemmas.{line_next, line_none, line_tested}
 use Rattle.sq_replay.proofs.stream.test_line.Goals as goal
@@ -24,5 +24,5 @@ returns-in-Ok-clause-told c =
     let some : 0 < length line = grind (arith, nat_tests, c.is_empty.ensures, c.if-is_empty.false) in (
       line,
       line_next c.args.text.now c.piece_at-next.result.0.now line c.args.at c.piece_at-next.result.1 c.piece_at-next.ensures.pieces (sym c.without_return-line.ensures) some,
-      (c.in-Ok.tuple, c.in-Ok.ensures.tuple, refl),
+      c.in-Ok.ensures.tuple,
     )
