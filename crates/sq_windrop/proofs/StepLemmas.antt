@@ -1,5 +1,5 @@
 -- What a tuple makes of the batches that it is the first to touch, one batch after another.
-use Rattle.std.proofs.Common.{◌≡◌, ℕ, ◌+◌, ◌-◌, ◌*◌, ◌/◌, ◌<◌, ◌≤◌, max, min, ◌^◌, Bool, true, false, List, [], ◌∷◌, ◌++◌, map, Option, Some, None, refl, ap, ap₂, sym, subst, ◌∙◌, append_assoc, append-nil, div-lt_iff_lt-mul, arith, tests}
+use Rattle.std.proofs.Common.{◌≡◌, ℕ, ◌+◌, ◌-◌, ◌*◌, ◌/◌, ◌<◌, ◌≤◌, max, min, ◌^◌, Bool, true, false, List, [], ◌∷◌, ◌++◌, map, Option, Some, None, refl, ap, ap₂, sym, subst, ◌∙◌, append_assoc, append-nil, div-lt_iff_lt-mul, arith}
 use Rattle.std.specs.Prelude.{nat_lt, if◌then◌else◌}
 use Rattle.std.proofs.lemmas.List.{map-append}
 use Rattle.std.proofs.lemmas.List.Elements.{filter-append}
@@ -9,7 +9,7 @@ use Rattle.sq_words.specs.Lists.{IsPrefixOf}
 use Rattle.sq_item.specs.declared.Mark.{Mark}
 use Rattle.sq_item.specs.declared.Item.{Item}
 use Rattle.sq_item.specs.Things.{Body, Thing, mark_part, body_part}
-use Rattle.sq_road.specs.Draws.{draw_of}
+use Rattle.sq_road.specs.Levels.{LevelTable, AgreesWith, level_of}
 use Rattle.sq_oper.specs.declared.outs.Decision.{Decision}
 use Rattle.sq_oper.specs.Entries.{Entry, at_port, entries}
 use Rattle.sq_oper.specs.Outflow.{ThingsUpTo}
@@ -17,27 +17,27 @@ use Rattle.sq_oper.specs.Machine.{next_all, gives_all}
 use Rattle.sq_oper.specs.Streams.{at_zero}
 use Rattle.sq_oper.proofs.GivenLemmas.{IsPrefixOf-longer, ThingsUpTo-append}
 use Rattle.sq_oper.proofs.StreamLemmas.{at_zero-append, at_zero-nil, UpTo-at_zero}
-use Rattle.sq_tagged.specs.TaggedStreams.{Timed, mark_thing}
+use Rattle.sq_tagged.specs.TaggedStreams.{Timed, mark_thing, bound_in}
 use Rattle.sq_oper.proofs.PartLemmas.{at_port-append, item_law, body_prefix}
 use Rattle.sq_windrop.specs.declared.drop.Dropping.{Dropping}
 use Rattle.sq_windrop.specs.declared.drop.Batches.{Batches}
-use Rattle.sq_windrop.specs.Drops.{is_batch_dropped, drop_mark, marks_for, decided, decision, greatest_bound, bound_of, first_new, newly, after_tuple, for_tuple, drop_next, drop_gives, drop_rest, drop_holds, decided_content, drop_decides, next_body, gives_body, decided_body}
+use Rattle.sq_windrop.specs.Drops.{IsBegunAlone, level_at, needed_of, is_batch_dropped, drop_mark, marks_for, decided, decision, greatest_bound, bound_of, first_new, newly, after_tuple, for_tuple, drop_next, drop_gives, drop_rest, drop_holds, decided_content, drop_decides, next_body, gives_body, decided_body}
 use Rattle.sq_windrop.proofs.DropLemmas.{newly-early}
 use Rattle.sq_words.proofs.Ranges.{range_split}
 
 -- the epoch of an earlier tick is closed too
-pub start-closed : (start time epoch closed : ℕ) → 1 ≤ epoch → start ≤ time → time / epoch < closed → start / epoch < closed
+start-closed : (start time epoch closed : ℕ) → 1 ≤ epoch → start ≤ time → time / epoch < closed → start / epoch < closed
 start-closed start time epoch closed some le h =
     let lt : time < closed * epoch = (div-lt_iff_lt-mul some).0 h in
     (div-lt_iff_lt-mul some).1 (let e : start < closed * epoch = omega (arith, le, lt) in e)
 
+-- the level of a batch that begins at a tick of a closed epoch, or before it, is known
+pub level-is : (d : Dropping) (levels : LevelTable) (table : ℕ → ℕ → ℕ) (batch time : ℕ) → 1 ≤ d.epoch → d.epoch ≡ levels.epoch → batch * d.length ≤ time → time / levels.epoch < levels.closed → AgreesWith levels table
+    → level_at d table batch ≡ level_of levels (batch * d.length / d.epoch) d.number
+level-is d levels table batch time some same begun closed agrees =
+    agrees (batch * d.length / d.epoch) d.number (start-closed (batch * d.length) time d.epoch levels.closed some begun (subst (λ (n : ℕ). time / n < levels.closed) (sym same) closed))
+
 module _ (d : Dropping) (table : ℕ → ℕ → ℕ) where
-  pub dropped-is : (b level draw : ℕ) → draw ≡ draw_of d.seed d.number b → table (b * d.length / d.epoch) d.number ≡ level → draw < level → is_batch_dropped d table b ≡ true
-  dropped-is b level draw e f lt = ap₂ nat_lt (sym e) f ∙ (let t : nat_lt draw level ≡ true = grind (arith, tests) in t)
-
-  pub permitted-is : (b level draw : ℕ) → draw ≡ draw_of d.seed d.number b → table (b * d.length / d.epoch) d.number ≡ level → level ≤ draw → is_batch_dropped d table b ≡ false
-  permitted-is b level draw e f le = ap₂ nat_lt (sym e) f ∙ (let t : nat_lt draw level ≡ false = grind (arith, tests) in t)
-
   abbrev marks : List ℕ → List Thing
   marks bs = map mark_thing (marks_for d table bs)
 
@@ -75,6 +75,14 @@ module _ (d : Dropping) (table : ℕ → ℕ → ℕ) where
   decided-more before after xs ys zs e h =
       (decided d table ys, ap (λ l. before ++ decided d table l) e ∙ ap (λ l. before ++ l) (decided-append xs ys) ∙ sym (append_assoc before (decided d table xs) (decided d table ys)) ∙ ap (λ l. l ++ decided d table ys) (sym h))
 
+  -- what is given for a tuple is the marks, and the tuple where it is below the bound
+  for-is : (s : Batches) (time : ℕ) (fields : List Value) → for_tuple d table s time fields ≡ marks (newly d s.next time) ++ body_part time (needed_of time (after_tuple d table s time).bound fields)
+  for-is s time fields = ap (λ l. marks (newly d s.next time) ++ l) (by (nat_lt time (after_tuple d table s time).bound))
+    where
+      by : (c : Bool) → (if c then record { time = time; content = Body fields } ∷ [] else []) ≡ body_part time (if c then Some fields else None)
+      by true = refl
+      by false = refl
+
   -- a tuple behind the marks of its batches
   pub tuple_prefix : (s : Batches) (time : ℕ) (fields : List Value) (q : ℕ) (before after : List Thing) → IsPrefixOf after (before ++ at_zero q (marks (newly d s.next time)))
       → IsPrefixOf after (before ++ at_zero q (for_tuple d table s time fields))
@@ -82,17 +90,46 @@ module _ (d : Dropping) (table : ℕ → ℕ → ℕ) where
       let body = if nat_lt time (after_tuple d table s time).bound then record { time = time; content = Body fields } ∷ [] else [] in
       subst (λ l. IsPrefixOf after (before ++ l)) (sym (at_zero-append q (marks (newly d s.next time)) body)) (IsPrefixOf-longer after before (at_zero q (marks (newly d s.next time))) (at_zero q body) h)
 
-  pub tuple_given : (s : Batches) (time : ℕ) (fields : List Value) (bound q : ℕ) (before middle after : List Thing) → bound ≡ (after_tuple d table s time).bound → time < bound
-      → middle ≡ before ++ at_zero q (marks (newly d s.next time)) → after ≡ middle ++ at_zero q (record { time = time; content = Body fields } ∷ []) → after ≡ before ++ at_zero q (for_tuple d table s time fields)
-  tuple_given s time fields bound q before middle after is lt first second =
+  pub tuple_given : (s : Batches) (time : ℕ) (fields : List Value) (bound q : ℕ) (before middle after : List Thing) → bound ≡ (after_tuple d table s time).bound
+      → middle ≡ before ++ at_zero q (marks (newly d s.next time)) → after ≡ middle ++ at_zero q (body_part time (needed_of time bound fields)) → after ≡ before ++ at_zero q (for_tuple d table s time fields)
+  tuple_given s time fields bound q before middle after is first second =
       let front = marks (newly d s.next time) in
-      let one = record { time = time; content = Body fields } ∷ [] in
-      let below : nat_lt time bound ≡ true = grind (arith, tests) in
+      let body = body_part time (needed_of time bound fields) in
       second
-      ∙ ap (λ l. l ++ at_zero q one) first
-      ∙ append_assoc before (at_zero q front) (at_zero q one)
-      ∙ ap (λ l. before ++ l) (sym (at_zero-append q front one))
-      ∙ ap (λ b. before ++ at_zero q (front ++ (if b then one else []))) (sym (ap (nat_lt time) (sym is) ∙ below))
+      ∙ ap (λ l. l ++ at_zero q body) first
+      ∙ append_assoc before (at_zero q front) (at_zero q body)
+      ∙ ap (λ l. before ++ l)
+      (sym (at_zero-append q front body)
+      ∙ ap (λ n. at_zero q (front ++ body_part time (needed_of time n fields))) is
+      ∙ ap (at_zero q) (sym (for-is s time fields)))
+
+  -- a tuple that begins a batch, and is the first to touch it and no other
+  module _ (s : Batches) (time batch : ℕ) (begun : IsBegunAlone d s.next time batch) where
+    pub one-new : newly d s.next time ≡ batch ∷ []
+    one-new =
+        ap₂ (λ (a n : ℕ). range_with_len a n) begun.first
+        (let one : time / d.length + 1 - first_new d s.next time ≡ 1 = (let f = begun.first in let l = begun.last in omega (arith, f, l)) in one)
+
+    pub begun-level : (levels : LevelTable) → 1 ≤ d.epoch → d.epoch ≡ levels.epoch → time / levels.epoch < levels.closed → AgreesWith levels table → level_at d table batch ≡ level_of levels (time / d.epoch) d.number
+    begun-level levels some same closed agrees =
+        let start = begun.starts in
+        level-is d levels table batch time some same (omega (arith, start)) closed agrees ∙ ap (λ (t : ℕ). level_of levels (t / d.epoch) d.number) start
+
+    pub after-one : (bound : ℕ) → bound ≡ max s.bound (bound_of (drop_mark d table batch)) → record { next = batch + 1; bound = bound } ≡ after_tuple d table s time
+    after-one bound is =
+        let first = begun.first in
+        let last = begun.last in
+        ap₂ (λ (n m : ℕ). let b : Batches = record { next = n; bound = m } in b) (let next : batch + 1 ≡ max s.next (time / d.length + 1) = omega (arith, first, last) in next)
+        (is ∙ (let alone : max s.bound (bound_of (drop_mark d table batch)) ≡ max s.bound (greatest_bound (marks_for d table (batch ∷ []))) = omega arith in alone)
+        ∙ ap (λ l. max s.bound (greatest_bound (marks_for d table l))) (sym one-new))
+
+    pub one-given : (fields : List Value) (mark : Mark) (body : Option (List Value)) (bound : ℕ) → mark ≡ (drop_mark d table batch).1 → bound ≡ max s.bound (bound_in mark) → body ≡ needed_of time bound fields
+        → mark_thing (time, mark) ∷ body_part time body ≡ for_tuple d table s time fields
+    one-given fields mark body bound marked is kept =
+        let same = after-one bound (is ∙ ap (λ m. max s.bound (bound_in m)) marked) in
+        ap₂ (λ l r. mark_thing l ∷ body_part time r) (ap₂ (λ (t : ℕ) (m : Mark). (t, m)) (sym begun.starts) marked) (kept ∙ ap (λ b. needed_of time b.bound fields) same)
+        ∙ ap (λ bs. marks bs ++ body_part time (needed_of time (after_tuple d table s time).bound fields)) (sym one-new)
+        ∙ sym (for-is s time fields)
 
 -- one batch more of a range
 pub range-push : (from b : ℕ) → from ≤ b → range_with_len from (b + 1 - from) ≡ range_with_len from (b - from) ++ b ∷ []
@@ -224,11 +261,21 @@ module _ (d : Dropping) (table : ℕ → ℕ → ℕ) (port : ℕ) (item : Item)
       by (Some m) (Some fields) = subst (λ l. ThingsUpTo item.time (l ++ (at_zero q (for_tuple d table s item.time fields) ++ []))) (sym (at_zero-nil q)) (for-up fields)
 
 -- a tuple before the end of the last batch that was touched touches no other
-module _ (d : Dropping) (next time end : ℕ) (some : 1 ≤ d.length) (is : end ≡ min (next * d.length) (2 ^ 64 - 1)) (early : time < end) where
-  pub within-touched : time / d.length < next
-  within-touched = (div-lt_iff_lt-mul some).1 (let less : time < next * d.length = omega (arith, is, early) in less)
+module _ (d : Dropping) (s : Batches) (time end : ℕ) (some : 1 ≤ d.length) (is : end ≡ min (s.next * d.length) (2 ^ 64 - 1)) (early : time < end) where
+  within-touched : time / d.length < s.next
+  within-touched = (div-lt_iff_lt-mul some).1 (let less : time < s.next * d.length = omega (arith, is, early) in less)
 
-  pub none-new : newly d next time ≡ []
+  pub none-new : newly d s.next time ≡ []
   none-new =
       let within = within-touched in
-      ap (range_with_len (first_new d next time)) (let none : time / d.length + 1 - first_new d next time ≡ 0 = omega (arith, within) in none)
+      ap (range_with_len (first_new d s.next time)) (let none : time / d.length + 1 - first_new d s.next time ≡ 0 = omega (arith, within) in none)
+
+  pub after-none : (table : ℕ → ℕ → ℕ) → s ≡ after_tuple d table s time
+  after-none table =
+      let within = within-touched in
+      ap₂ (λ (n m : ℕ). let b : Batches = record { next = n; bound = m } in b) (let same : s.next ≡ max s.next (time / d.length + 1) = omega (arith, within) in same)
+      ((let more : s.bound ≡ max s.bound (greatest_bound (marks_for d table [])) = omega arith in more) ∙ ap (λ l. max s.bound (greatest_bound (marks_for d table l))) (sym none-new))
+
+  pub none-given : (table : ℕ → ℕ → ℕ) (q : ℕ) (before : List Thing) → before ≡ before ++ at_zero q (map mark_thing (marks_for d table (newly d s.next time)))
+  none-given table q before =
+      sym (append-nil before) ∙ ap (λ l. before ++ l) (sym (at_zero-nil q)) ∙ ap (λ l. before ++ at_zero q (map mark_thing (marks_for d table l))) (sym none-new)

@@ -1,5 +1,5 @@
 -- A window drop: the batches that each tuple touches first, their marks, and the tuples below the bound so far.
-use Rattle.std.specs.Prelude.{ℕ, ◌+◌, ◌-◌, ◌*◌, ◌/◌, ◌^◌, ◌≤◌, ◌<◌, ◌==◌, nat_lt, max, Bool, if◌then◌else◌, List, [], ◌∷◌, ◌++◌, map, Option, Some, None}
+use Rattle.std.specs.Prelude.{◌≡◌, ℕ, ◌+◌, ◌-◌, ◌*◌, ◌/◌, ◌^◌, ◌≤◌, ◌<◌, ◌==◌, nat_lt, max, Bool, if◌then◌else◌, List, [], ◌∷◌, ◌++◌, map, Option, Some, None}
 use Rattle.std.specs.List.{filter, range_with_len}
 use Rattle.sq_value.specs.declared.Value.{Value}
 use Rattle.sq_words.specs.Lists.{max_by}
@@ -63,6 +63,16 @@ newly d next time = range_with_len (first_new d next time) (time / d.length + 1 
 
 abbrev pub after_tuple : Dropping → (ℕ → ℕ → ℕ) → Batches → ℕ → Batches
 after_tuple d table s time = record { next = max s.next (time / d.length + 1); bound = max s.bound (greatest_bound (marks_for d table (newly d s.next time))) }
+
+-- a tuple of a time begins a batch, and is the first to touch it and no other
+pub record IsBegunAlone (d : Dropping) (next time batch : ℕ) : Type 0 where
+  pub first : first_new d next time ≡ batch
+  pub last : time / d.length ≡ batch
+  pub starts : batch * d.length ≡ time
+
+-- a tuple below a bound
+abbrev pub needed_of : ℕ → ℕ → List Value → Option (List Value)
+needed_of time bound fields = if nat_lt time bound then Some fields else None
 
 -- what is given for a tuple
 abbrev pub for_tuple : Dropping → (ℕ → ℕ → ℕ) → Batches → ℕ → List Value → List Thing

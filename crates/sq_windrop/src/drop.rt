@@ -1,10 +1,10 @@
 //! The window drop.
 
-ghost use Rattle.std.specs.Prelude.{◌≡◌, ℕ, ◌+◌, ◌-◌, ◌*◌, ◌/◌, ◌^◌, ◌<◌, ◌≤◌, ◌==◌, ◌++◌, ◌∷◌, true, false, List, [], Some, map, length, is_some, IsTrue, IfOk, OnOk, OnErr, if◌then◌else◌};
+ghost use Rattle.std.specs.Prelude.{◌≡◌, ℕ, ◌+◌, ◌-◌, ◌*◌, ◌/◌, ◌^◌, ◌<◌, ◌≤◌, ◌==◌, ◌++◌, ◌∷◌, true, false, List, [], Some, map, length, is_some, option_to_list, IsTrue, IfSome, IfOk, OnOk, OnErr, if◌then◌else◌};
 ghost use Rattle.sq_value.specs.declared.Value.{Value};
 ghost use Rattle.sq_words.specs.Lists.{IsPrefixOf};
 ghost use Rattle.sq_item.specs.SoundItems.{IsBody, IsMark, IsSoundItem};
-ghost use Rattle.sq_item.specs.Things.{Thing};
+ghost use Rattle.sq_item.specs.Things.{Thing, body_part};
 ghost use Rattle.sq_road.specs.Levels.{AgreesWith};
 ghost use Rattle.sq_oper.specs.declared.tally.Moment.{Moment};
 ghost use Rattle.sq_oper.specs.Entries.{Entry, entries};
@@ -13,15 +13,16 @@ ghost use Rattle.sq_oper.specs.Order.{IsFuture, unmarked, after_all};
 ghost use Rattle.sq_oper.specs.Streams.{at_zero, tuples_of, port_fits};
 ghost use Rattle.sq_tagged.specs.TaggedStreams.{mark_thing, spread_of};
 ghost use Rattle.sq_tagged.specs.Boxes.{drop_tagged, batches_touched, until_at};
-ghost use Rattle.sq_windrop.specs.Drops.{IsDropping, dropping, is_batch_dropped, drop_mark, marks_for, decided, bound_of, newly, after_tuple, next_body, gives_body, decided_body, drop_rest, drop_decides, drop_reads, none_lost};
+ghost use Rattle.sq_windrop.specs.Drops.{IsDropping, IsBegunAlone, dropping, level_at, needed_of, for_tuple, is_batch_dropped, drop_mark, marks_for, decided, bound_of, first_new, newly, after_tuple, next_body, gives_body, decided_body, drop_rest, drop_decides, drop_reads, none_lost};
 
 use crate::give::give_item;
 use sq_item::{Body, Item, Mark, Sign};
 use sq_oper::{Decision, Moment, Operator, Outlet, Tally};
 use sq_outside::Steps;
 use sq_road::{Levels, draw};
-use sq_value::Value;
-use std::alloc::AllocError;
+use sq_tagged::bound_of;
+use sq_value::{Fields, Value};
+use std::alloc::{AllocError, Global};
 use std::sync::ledger::Ledger;
 
 /// What a window drop is made with.
@@ -47,6 +48,8 @@ pub struct Batches {
 
 /// Decides for each batch of windows, when a tuple first touches it, whether it is dropped, by the level of the epoch
 /// in which it begins and a draw of its own. It gives a mark for each, and the tuples that a permitted batch needs.
+/// Each goes out as an item; only a tuple that begins the one batch that it is the first to touch is one item with its
+/// mark.
 #[derive(Drop)]
 pub struct WinDropBox {
     with: Dropping,
@@ -89,6 +92,65 @@ impl WinDropBox {
     }
 }
 
+/// What a batch's draw makes of it at its level: its mark, and the decision where it is dropped.
+fn draw_batch(with: &Dropping, batch: u64, level: u32) -> (Mark, Option<Decision>)
+    requires limits { IsDropping with.now }
+    requires begun { batch * with.now.length < 2 ^ 40 }
+    ensures mark { (table : ℕ → ℕ → ℕ) → level_at with.now table batch ≡ level → result.0 ≡ (drop_mark with.now table batch).1 }
+    ensures decision { (table : ℕ → ℕ → ℕ) → level_at with.now table batch ≡ level → option_to_list result.1 ≡ decided with.now table (batch ∷ []) }
+    ensures sound { IsMark (Some result.0) }
+{
+    let drawn = draw(with.seed, with.number, batch);
+    if drawn < level {
+        let decision = Decision {
+            drop: with.number,
+            batch,
+            level,
+        };
+        return (Mark::Closed, Some(decision));
+    }
+    let until = (batch + 1) * with.length + with.keep;
+    (Mark::Open { until }, None)
+}
+
+/// A batch's mark goes out, alone or with a tuple of its time as one item, and behind it the decision where the batch
+/// is dropped.
+fn give_batch<T: Outlet>(
+    time: u64,
+    mark: Mark,
+    decision: Option<Decision>,
+    body: Body,
+    out: &mut T,
+) -> Result<(), AllocError>
+    requires tick { time < 2 ^ 40 }
+    requires mark { IsMark (Some mark) }
+    requires body { IsBody body }
+    requires is_ready { T.ready out.old }
+    ensures given { OnOk result ((q : ℕ) → given q (T.items out.new) ≡ given q (T.items out.old) ++ at_zero q (mark_thing (time, mark) ∷ body_part time body)) }
+    ensures drops { OnOk result ((T.drops out.new) ≡ (T.drops out.old) ++ option_to_list decision) }
+    ensures prefix { OnErr result ((q : ℕ) → IsPrefixOf (given q (T.items out.new)) (given q (T.items out.old) ++ at_zero q (mark_thing (time, mark) ∷ body_part time body))) }
+    ensures drops_err { OnErr result ((T.drops out.new) ≡ (T.drops out.old)) }
+    ensures sound { ItemsSound (T.items out.old) → ItemsSound (T.items out.new) }
+    ensures extends { IsPrefixOf (T.items out.old) (T.items out.new) }
+    ensures keeps { IsPrefixOf (T.drops out.old) (T.drops out.new) }
+    ensures one { length (T.items out.new) ≤ length (T.items out.old) + 1 }
+    ensures stays_ready { OnOk result (T.ready out.new) }
+    ensures came { (start : T) → T.came start out.old → T.came start out.new }
+{
+    give_item(
+        Item {
+            time,
+            mark: Sign::new(Some(mark)),
+            body,
+        },
+        out,
+    )?;
+    let Some(decision) = decision else {
+        return Ok(());
+    };
+    out.decide(decision)
+}
+
 /// Decides on a batch that a tuple of this time touches: its mark goes out, and a decision where it is dropped. Answers
 /// the mark's bound.
 fn decide<T: Outlet>(
@@ -120,19 +182,18 @@ fn decide<T: Outlet>(
 {
     let start = batch * with.length;
     let level = levels.level(start / with.epoch, with.number);
-    let drawn = draw(with.seed, with.number, batch);
-    if drawn < level {
-        give_mark(start, Mark::Closed, out)?;
-        out.decide(Decision {
-            drop: with.number,
-            batch,
-            level,
-        })?;
-        return Ok(0);
-    }
-    let until = (batch + 1) * with.length + with.keep;
-    give_mark(start, Mark::Open { until }, out)?;
-    Ok(until)
+    let (mark, decision) = draw_batch(with, batch, level);
+    let body = Body::none(out.alloc());
+    give_batch(start, mark, decision, body, out)?;
+    Ok(bound_of(mark))
+}
+
+/// The first batch that a tuple of this time can be the first to touch.
+fn first_new(with: &Dropping, next: u64, time: u64) -> u64
+    requires { IsDropping with.now }
+    ensures { result ≡ first_new with.now next time }
+{
+    next.max(time.saturating_sub(with.keep) / with.length)
 }
 
 /// Decides on each batch that a tuple of this time is the first to touch, one after another.
@@ -164,9 +225,7 @@ fn touch_each<T: Outlet>(
     ensures came { (start : T) → T.came start out.old → T.came start out.new }
 {
     let end = time / with.length + 1;
-    let from = batches
-        .next
-        .max(time.saturating_sub(with.keep) / with.length);
+    let from = first_new(with, batches.next, time);
     let mut bound = batches.bound;
     for batch in from..end {
         let until = decide(with, levels, time, batch, out)?;
@@ -179,42 +238,108 @@ fn touch_each<T: Outlet>(
     Ok(())
 }
 
-/// Decides on each batch that a tuple of this time is the first to touch. Most tuples touch none, which a product tells.
-fn touch<T: Outlet>(
+/// The batch that a tuple of this time begins, where that is the one batch that it is the first to touch.
+fn begun_alone(with: &Dropping, next: u64, time: u64) -> Option<u64>
+    requires { IsDropping with.now }
+    ensures { IfSome result (λ batch. IsBegunAlone with.now next time batch) }
+{
+    let batch = time / with.length;
+    if first_new(with, next, time) == batch && batch * with.length == time {
+        return Some(batch);
+    }
+    None
+}
+
+/// The tuple, if it is before the bound.
+fn needed(time: u64, bound: u64, fields: Fields, alloc: Global) -> Body
+    requires { IsBody (Some fields) }
+    ensures { result ≡ needed_of time bound fields }
+{
+    if time < bound {
+        return Body::some(fields);
+    }
+    Body::none(alloc)
+}
+
+/// Takes a tuple that begins the one batch that it is the first to touch: the mark and the tuple go out as one item, or
+/// the mark alone where the tuple isn't needed, and behind it the decision where the batch is dropped.
+fn begin_batch<T: Outlet>(
     with: &Dropping,
     levels: &Levels,
     time: u64,
+    batch: u64,
+    fields: Fields,
     batches: &mut Batches,
     out: &mut T,
 ) -> Result<(), AllocError>
     requires limits { IsDropping with.now }
     requires tick { time < 2 ^ 40 }
+    requires begun { IsBegunAlone with.now batches.old.next time batch }
+    requires body { IsBody (Some fields) }
     requires epoch { with.now.epoch ≡ levels.now.epoch }
     requires level { time / levels.now.epoch < levels.now.closed }
     requires is_ready { T.ready out.old }
     ensures given { OnOk result ((table : ℕ → ℕ → ℕ) → AgreesWith levels.now table → (q : ℕ)
-        → given q (T.items out.new) ≡ given q (T.items out.old) ++ at_zero q (map mark_thing (marks_for with.now table (newly with.now batches.old.next time)))) }
+        → given q (T.items out.new) ≡ given q (T.items out.old) ++ at_zero q (for_tuple with.now table batches.old time fields)) }
     ensures batches { OnOk result ((table : ℕ → ℕ → ℕ) → AgreesWith levels.now table → batches.new ≡ after_tuple with.now table batches.old time) }
     ensures drops { OnOk result ((table : ℕ → ℕ → ℕ) → AgreesWith levels.now table → (T.drops out.new) ≡ (T.drops out.old) ++ decided with.now table (newly with.now batches.old.next time)) }
     ensures prefix { OnErr result ((table : ℕ → ℕ → ℕ) → AgreesWith levels.now table → (q : ℕ)
-        → IsPrefixOf (given q (T.items out.new)) (given q (T.items out.old) ++ at_zero q (map mark_thing (marks_for with.now table (newly with.now batches.old.next time))))) }
-    ensures drops_prefix { OnErr result ((table : ℕ → ℕ → ℕ) → AgreesWith levels.now table
-        → IsPrefixOf (T.drops out.new) ((T.drops out.old) ++ decided with.now table (newly with.now batches.old.next time))) }
+        → IsPrefixOf (given q (T.items out.new)) (given q (T.items out.old) ++ at_zero q (for_tuple with.now table batches.old time fields))) }
+    ensures drops_err { OnErr result ((T.drops out.new) ≡ (T.drops out.old)) }
     ensures sound { ItemsSound (T.items out.old) → ItemsSound (T.items out.new) }
     ensures extends { IsPrefixOf (T.items out.old) (T.items out.new) }
     ensures keeps { IsPrefixOf (T.drops out.old) (T.drops out.new) }
-    ensures few { length (T.items out.new) ≤ length (T.items out.old) + 4097 }
+    ensures one { length (T.items out.new) ≤ length (T.items out.old) + 1 }
     ensures stays_ready { OnOk result (T.ready out.new) }
     ensures came { (start : T) → T.came start out.old → T.came start out.new }
 {
-    let end = batches.next.saturating_mul(with.length);
-    if time < end {
-        return Ok(());
-    }
-    touch_each(with, levels, time, batches, out)
+    let level = levels.level(time / with.epoch, with.number);
+    let (mark, decision) = draw_batch(with, batch, level);
+    let bound = batches.bound.max(bound_of(mark));
+    let body = needed(time, bound, fields, out.alloc());
+    give_batch(time, mark, decision, body, out)?;
+    *batches = Batches {
+        next: batch + 1,
+        bound,
+    };
+    Ok(())
 }
 
-/// Takes an item's tuple: the marks of the batches that it is the first to touch, and then itself, if it is needed.
+/// Gives a tuple, if it is before the bound.
+fn give_needed<T: Outlet>(
+    time: u64,
+    bound: u64,
+    fields: Fields,
+    out: &mut T,
+) -> Result<(), AllocError>
+    requires tick { time < 2 ^ 40 }
+    requires body { IsBody (Some fields) }
+    requires is_ready { T.ready out.old }
+    ensures given { OnOk result ((q : ℕ) → given q (T.items out.new) ≡ given q (T.items out.old) ++ at_zero q (body_part time (needed_of time bound fields))) }
+    ensures err { OnErr result ((T.items out.new) ≡ (T.items out.old)) }
+    ensures sound { ItemsSound (T.items out.old) → ItemsSound (T.items out.new) }
+    ensures extends { IsPrefixOf (T.items out.old) (T.items out.new) }
+    ensures drops { (T.drops out.new) ≡ (T.drops out.old) }
+    ensures one { length (T.items out.new) ≤ length (T.items out.old) + 1 }
+    ensures stays_ready { OnOk result (T.ready out.new) }
+    ensures came { (start : T) → T.came start out.old → T.came start out.new }
+{
+    if time < bound {
+        return give_item(
+            Item {
+                time,
+                mark: Sign::none(),
+                body: Body::some(fields),
+            },
+            out,
+        );
+    }
+    Ok(())
+}
+
+/// Takes an item's tuple: the marks of the batches that it is the first to touch, and then itself, if it is needed;
+/// where it begins the one such batch, both are one item. Most tuples are the first to touch none, which a product
+/// tells.
 fn take<T: Outlet>(
     with: &Dropping,
     levels: &Levels,
@@ -247,43 +372,15 @@ fn take<T: Outlet>(
     let Some(fields) = body.get() else {
         return Ok(());
     };
-    touch(with, levels, time, batches, out)?;
-    if time < batches.bound {
-        give_item(
-            Item {
-                time,
-                mark: Sign::none(),
-                body: Body::some(fields),
-            },
-            out,
-        )?;
+    let end = batches.next.saturating_mul(with.length);
+    if time < end {
+        return give_needed(time, batches.bound, fields, out);
     }
-    Ok(())
-}
-
-/// A mark goes out, with no tuple.
-fn give_mark<T: Outlet>(time: u64, mark: Mark, out: &mut T) -> Result<(), AllocError>
-    requires tick { time < 2 ^ 40 }
-    requires mark { IsMark (Some mark) }
-    requires is_ready { T.ready out.old }
-    ensures given { OnOk result ((q : ℕ) → given q (T.items out.new) ≡ given q (T.items out.old) ++ at_zero q (mark_thing (time, mark) ∷ [])) }
-    ensures err { OnErr result ((T.items out.new) ≡ (T.items out.old)) }
-    ensures sound { ItemsSound (T.items out.old) → ItemsSound (T.items out.new) }
-    ensures extends { IsPrefixOf (T.items out.old) (T.items out.new) }
-    ensures drops { (T.drops out.new) ≡ (T.drops out.old) }
-    ensures one { length (T.items out.new) ≤ length (T.items out.old) + 1 }
-    ensures stays_ready { OnOk result (T.ready out.new) }
-    ensures came { (start : T) → T.came start out.old → T.came start out.new }
-{
-    let body = Body::none(out.alloc());
-    give_item(
-        Item {
-            time,
-            mark: Sign::new(Some(mark)),
-            body,
-        },
-        out,
-    )
+    if let Some(batch) = begun_alone(with, batches.next, time) {
+        return begin_batch(with, levels, time, batch, fields, batches, out);
+    }
+    touch_each(with, levels, time, batches, out)?;
+    give_needed(time, batches.bound, fields, out)
 }
 
 impl Operator for WinDropBox {

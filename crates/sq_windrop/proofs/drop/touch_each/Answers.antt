@@ -18,10 +18,10 @@ pub returns-in_err-until-clause-prefix : goal.returns-in_err-until-clause-prefix
 returns-in_err-until-clause-prefix g c =
     let d = c.args.with.now in
     let next : ℕ = c.args.batches.now.next in
-    let from : ℕ = c.max-from.result in
+    let from : ℕ = c.first_new-from.result in
     let b : ℕ = c.loop-batch.batch in
     let end : ℕ = c.args.time / d.length + 1 in
-    let is : from ≡ first_new d next c.args.time = search rules in
+    let is : from ≡ first_new d next c.args.time = c.first_new-from.ensures in
     let le : from ≤ b = c.loop-batch.auto.batch in
     let less : b < end = c.loop-batch-test.true in
     OnErr_from c.from_residual.result (λ table agrees q.
@@ -40,10 +40,10 @@ pub returns-in_err-until-clause-drops_prefix : goal.returns-in_err-until-clause-
 returns-in_err-until-clause-drops_prefix g c =
     let d = c.args.with.now in
     let next : ℕ = c.args.batches.now.next in
-    let from : ℕ = c.max-from.result in
+    let from : ℕ = c.first_new-from.result in
     let b : ℕ = c.loop-batch.batch in
     let end : ℕ = c.args.time / d.length + 1 in
-    let is : from ≡ first_new d next c.args.time = search rules in
+    let is : from ≡ first_new d next c.args.time = c.first_new-from.ensures in
     let le : from ≤ b = c.loop-batch.auto.batch in
     let less : b < end = c.loop-batch-test.true in
     OnErr_from c.from_residual.result (λ table agrees.
@@ -55,8 +55,8 @@ pub returns-in_err-until-clause-few : goal.returns-in_err-until-clause-few
 returns-in_err-until-clause-few g c =
     let d = c.args.with.now in
     let next : ℕ = c.args.batches.now.next in
-    let from : ℕ = c.max-from.result in
-    let is : from ≡ first_new d next c.args.time = search rules in
+    let from : ℕ = c.first_new-from.result in
+    let is : from ≡ first_new d next c.args.time = c.first_new-from.ensures in
     let le = c.loop-batch.auto.batch in
     let less = c.loop-batch-test.true in
     let few = few-touched c.args.time d.keep d.length next c.requires.limits.least c.requires.limits.kept in
@@ -67,7 +67,7 @@ returns-in_err-until-clause-few g c =
 pub loop-batch-preserved : goal.loop-batch-preserved
 loop-batch-preserved g c =
     let d = c.args.with.now in
-    let from : ℕ = c.max-from.result in
+    let from : ℕ = c.first_new-from.result in
     let b : ℕ = c.loop-batch.batch in
     let le : from ≤ b = c.loop-batch.auto.batch in
     let less : b < c.args.time / d.length + 1 = c.loop-batch-test.true in
@@ -104,9 +104,9 @@ pub returns-clause-given : goal.returns-clause-given
 returns-clause-given g c =
     let d = c.args.with.now in
     let next : ℕ = c.args.batches.now.next in
-    let from : ℕ = c.max-from.result in
+    let from : ℕ = c.first_new-from.result in
     let b : ℕ = c.loop-batch.batch in
-    let is : from ≡ first_new d next c.args.time = search rules in
+    let is : from ≡ first_new d next c.args.time = c.first_new-from.ensures in
     let past = c.loop-batch-test.false in
     let low = c.loop-batch.invariant.low in
     let le = c.loop-batch.auto.batch in
@@ -119,9 +119,9 @@ pub returns-clause-drops : goal.returns-clause-drops
 returns-clause-drops g c =
     let d = c.args.with.now in
     let next : ℕ = c.args.batches.now.next in
-    let from : ℕ = c.max-from.result in
+    let from : ℕ = c.first_new-from.result in
     let b : ℕ = c.loop-batch.batch in
-    let is : from ≡ first_new d next c.args.time = search rules in
+    let is : from ≡ first_new d next c.args.time = c.first_new-from.ensures in
     let past = c.loop-batch-test.false in
     let low = c.loop-batch.invariant.low in
     let le = c.loop-batch.auto.batch in
@@ -133,9 +133,9 @@ pub returns-clause-batches : goal.returns-clause-batches
 returns-clause-batches g c =
     let d = c.args.with.now in
     let next : ℕ = c.args.batches.now.next in
-    let from : ℕ = c.max-from.result in
+    let from : ℕ = c.first_new-from.result in
     let b : ℕ = c.loop-batch.batch in
-    let is : from ≡ first_new d next c.args.time = search rules in
+    let is : from ≡ first_new d next c.args.time = c.first_new-from.ensures in
     let past = c.loop-batch-test.false in
     let low = c.loop-batch.invariant.low in
     let le = c.loop-batch.auto.batch in
@@ -149,9 +149,9 @@ pub returns-clause-few : goal.returns-clause-few
 returns-clause-few g c =
     let d = c.args.with.now in
     let next : ℕ = c.args.batches.now.next in
-    let from : ℕ = c.max-from.result in
+    let from : ℕ = c.first_new-from.result in
     let b : ℕ = c.loop-batch.batch in
-    let is : from ≡ first_new d next c.args.time = search rules in
+    let is : from ≡ first_new d next c.args.time = c.first_new-from.ensures in
     let past = c.loop-batch-test.false in
     let low = c.loop-batch.invariant.low in
     let le = c.loop-batch.auto.batch in
