@@ -11,7 +11,7 @@ use Rattle.std.proofs.lemmas.List.Sums.{prefix_len-le-length}
 use Rattle.std.proofs.lemmas.Simd.{chunk-drop, chunk-fits, first_set_mask_l, length-chunk, map-map, mask_l-mod}
 use lib.Lanes.{Each1, chunk, mask_l, top}
 use Rattle.sq_csv.specs.Cuts.{below_128}
-use Rattle.sq_csv.specs.Lanes.{Skips, first_set}
+use Rattle.sq_csv.specs.Lanes.{PassesOver, first_set}
 
 -- two tests that agree on all bytes pass as many of them
 same_prefix : (p q : ℕ → Bool) (bs : List ℕ) → Each1 (Fits w8) bs → agree_below p q 256 ≡ true → prefix_len p bs ≡ prefix_len q bs
@@ -57,13 +57,13 @@ pub run_short : (test : ℕ → Bool) (text : List ℕ) (at run : ℕ) → at + 
 run_short test text at run room is =
     let bytes = chunk at 16 text in omega (arith, is, prefix_len-le-length test bytes, length-chunk at 16 text room)
 
-pub skips_none : (test : ℕ → Bool) (text : List ℕ) (from : ℕ) → from ≤ length text → Skips test text from (from, true)
+pub skips_none : (test : ℕ → Bool) (text : List ℕ) (from : ℕ) → from ≤ length text → PassesOver test text from (from, true)
 skips_none test text from within =
     let none = between_none text from in record { ahead = omega arith; within = within; passed = rw none refl; ascii = rw none refl }
 
 -- one load more
-pub skips_more : (test : ℕ → Bool) (text : List ℕ) (from at run low : ℕ) (ascii : Bool) → Skips test text from (at, ascii) → at + 16 ≤ length text
-    → run ≡ prefix_len test (chunk at 16 text) → low ≡ prefix_len below_128 (chunk at 16 text) → Skips test text from (at + run, ascii && leb run low)
+pub skips_more : (test : ℕ → Bool) (text : List ℕ) (from at run low : ℕ) (ascii : Bool) → PassesOver test text from (at, ascii) → at + 16 ≤ length text
+    → run ≡ prefix_len test (chunk at 16 text) → low ≡ prefix_len below_128 (chunk at 16 text) → PassesOver test text from (at + run, ascii && leb run low)
 skips_more test text from at run low ascii so_far room is_run is_low =
     let short = run_short test text at run room is_run in record {
       ahead = omega (arith, so_far.ahead);

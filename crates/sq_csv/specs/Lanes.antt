@@ -9,7 +9,7 @@ abbrev pub first_set : ℕ → ℕ
 first_set mask = if mask == 0 then 16 else trailing_zeros w64 mask
 
 -- all bytes from a place to another pass a test, and it is told whether they are of ASCII
-pub record Skips (test : ℕ → Bool) (text : List ℕ) (from : ℕ) (skipped : ℕ × Bool) : Type 0 where
+pub record PassesOver (test : ℕ → Bool) (text : List ℕ) (from : ℕ) (skipped : ℕ × Bool) : Type 0 where
   pub ahead : from ≤ skipped.0
   pub within : skipped.0 ≤ length text
   pub passed : list_all test (slice_range text from skipped.0) ≡ true
